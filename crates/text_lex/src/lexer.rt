@@ -133,6 +133,7 @@ impl<'a> Model for Lexer<'a> {
 }
 
 impl<'a> Lexer<'a> {
+    /// A lexer at the start of a text.
     pub fn new(text: &'a [u8]) -> Lexer<'a>
         ensures { result ≡ items_of text.now }
     {
@@ -151,12 +152,13 @@ impl<'a> Lexer<'a> {
     }
 }
 
-/// The items of a text are right in it.
+/// The items of a text are right in it: each token is the slice at its start and the longest there, and a
+/// byte that is a fault starts none.
 pub fn items_are_right()
     ensures { (text : List ℕ) → AllByRecursion (IsRight text) (items_of text) }
 {}
 
-/// What is written is read again.
+/// What is written is read again, token by token.
 pub fn written_is_read()
     ensures { ReadsBack }
 {}
