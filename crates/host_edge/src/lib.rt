@@ -1,0 +1,21 @@
+//! The edge to the outside: a folder of named files and a sink for bytes, in memory and for real.
+#![tactic(auto)]
+
+mod answer;
+mod count;
+mod disk_folder;
+mod folder;
+mod mem_folder;
+mod mem_sink;
+mod sink;
+mod std_sink;
+mod stream;
+mod turns;
+
+pub use answer::{Failed, LoadNo, NoMemory};
+pub use disk_folder::DiskFolder;
+pub use folder::Folder;
+pub use mem_folder::MemFolder;
+pub use mem_sink::MemSink;
+pub use sink::Sink;
+pub use std_sink::StdSink;

@@ -1,0 +1,64 @@
+//! A sink over a writer, as standard output.
+
+ghost use Rattle.std.specs.Prelude.{◌≡◌, ◌≤◌, ◌++◌, OnOk, OnErr};
+ghost use Rattle.host_edge.specs.Disk.{std_view};
+ghost use Rattle.host_edge.specs.Views.{SinkView, Told, Rose, AppendsPart, raised};
+
+use crate::answer::Failed;
+use crate::count::raised;
+use crate::sink::Sink;
+use crate::stream::write_whole;
+use std::io::Write;
+
+/// Puts to a writer. It tells what the writer tells of its bytes, and standard output tells nothing.
+#[derive(Drop)]
+pub struct StdSink<W> {
+    out: W,
+    faults: u64,
+}
+
+impl<W: Write> StdSink<W> {
+    pub fn new(out: W) -> StdSink<W>
+        ensures { std_view W.contents result ≡ record { sent = W.contents out; faults = 0 } }
+    {
+        StdSink { out, faults: 0 }
+    }
+}
+
+impl<W: Write> Sink for StdSink<W> {
+    ghost view = { std_view W.contents };
+
+    fn put(&mut self, bytes: &[u8]) -> Result<(), Failed>
+        ensures counts { (std_view W.contents self.old).faults ≤ (std_view W.contents self.new).faults }
+        ensures sent { OnOk result (Told (λ old new. new ≡ old ++ bytes.now) (std_view W.contents self.old).sent (std_view W.contents self.new).sent) }
+        ensures part { OnErr result (Told (AppendsPart bytes.now) (std_view W.contents self.old).sent (std_view W.contents self.new).sent) }
+        ensures failed { OnErr result (Rose (std_view W.contents self.old).faults (std_view W.contents self.new).faults) }
+        ensures done { OnOk result ((std_view W.contents self.new).faults ≡ (std_view W.contents self.old).faults) }
+        ensures counted { OnErr result ((std_view W.contents self.new).faults ≡ raised 1 (std_view W.contents self.old).faults) }
+    {
+        if write_whole(&mut self.out, bytes) {
+            Ok(())
+        } else {
+            self.faults = raised(self.faults, 1);
+            Err(Failed)
+        }
+    }
+}
+
+#[cfg(test)]
+mod tests {
+    use super::*;
+
+    #[test]
+    fn bytes_come_in_order(rt: HostRuntime) {
+        let mut sink = StdSink::new(Vec::new(rt.alloc()));
+        assert_eq!(rt; sink.put(b"one "), Ok(()));
+        assert_eq!(rt; sink.put(b""), Ok(()));
+        assert_eq!(rt; sink.put(b"two"), Ok(()));
+        assert_eq!(rt; sink.out.as_slice(), b"one two".as_slice());
+        let mut full = [0; 2];
+        let mut sink = StdSink::new(full.as_mut_slice());
+        assert_eq!(rt; sink.put(b"xy"), Ok(()));
+        assert_eq!(rt; sink.put(b"z"), Err(Failed));
+    }
+}
