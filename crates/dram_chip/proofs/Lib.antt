@@ -1,0 +1,2 @@
+pub mod Wordlines
+pub mod Banks

@@ -1,0 +1,46 @@
+-- A chip as it is kept
+use Rattle.std.specs.Prelude.{◌≡◌, ◌*◌, true, List, [], ◌∷◌, map, length, All, zero, suc}
+use Rattle.std.specs.List.{range_with_len}
+use Rattle.dram_chip.specs.declared.bank.Bank.{Bank}
+use Rattle.dram_chip.specs.declared.chip.Chip.{Chip}
+use Rattle.dram_model.specs.declared.geometry.Geometry.{Geometry}
+use Rattle.dram_model.specs.declared.dram.Counters.{Counters}
+use Rattle.dram_model.specs.Column.{Column}
+use Rattle.dram_model.specs.Chip.{Banks}
+use Rattle.dram_chip.specs.Rows.{column_at, rows_of, columns_of}
+use Rattle.dram_chip.specs.BankRows.{IsReady}
+
+-- the columns of a bank, in order
+abbrev pub columns_in : Bank → List Column
+columns_in bank = map (column_at bank.cells) (range_with_len 0 (columns_of bank.cells))
+
+abbrev pub banks_in : List Bank → Banks
+banks_in [] b = []
+banks_in (bank ∷ banks) zero = columns_in bank
+banks_in (bank ∷ banks) (suc b) = banks_in banks b
+
+-- a bank of this geometry
+pub record Fits (g : Geometry) (bank : Bank) : Type 0 where
+  pub ready : IsReady bank
+  pub rows : rows_of bank.cells ≡ g.rows
+  pub columns : columns_of bank.cells ≡ 64 * g.words
+
+-- every bank of this geometry is there
+pub record HasBanks (g : Geometry) (banks : List Bank) : Type 0 where
+  pub count : length banks ≡ g.banks
+  pub each : All (Fits g) banks
+
+-- `begin` was Ok
+pub record HasBegun (chip : Chip) : Type 0 where
+  pub flag : chip.begun ≡ true
+  pub banks : HasBanks chip.geometry chip.banks.items
+
+-- what its callers see of it
+abbrev pub chip_geometry : Chip → Geometry
+chip_geometry chip = chip.geometry
+
+abbrev pub chip_banks : Chip → Banks
+chip_banks chip = banks_in chip.banks.items
+
+abbrev pub chip_counters : Chip → Counters
+chip_counters chip = chip.counters
