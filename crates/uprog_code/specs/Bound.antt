@@ -1,0 +1,42 @@
+-- From a trace to the commands on a bank.
+use Rattle.std.specs.Prelude.{ℕ, ◌+◌, ◌-◌, ◌*◌, List, map, slice_index}
+use Rattle.dram_model.specs.declared.address.Addr.{Addr}
+use Rattle.dram_model.specs.declared.address.Addr.TheVariants as addr
+use Rattle.dram_model.specs.declared.address.Command.{Command}
+use Rattle.dram_model.specs.declared.address.Command.TheVariants.{Aap, Ap}
+use Rattle.uprog_code.specs.declared.code.RowSpace.{RowSpace}
+use Rattle.uprog_code.specs.declared.code.RowSpace.TheVariants as space
+use Rattle.uprog_code.specs.declared.code.RowRef.{RowRef}
+use Rattle.uprog_code.specs.declared.binding.Binding.{Binding}
+use Rattle.uprog_code.specs.Shape.{Shape}
+use Rattle.uprog_code.specs.Machine.{Issue, Twice, Once}
+
+-- the first row of the result, of each source and of the scratch
+pub record Bound : Type 0 where
+  pub result : ℕ
+  pub sources : List ℕ
+  pub scratch : ℕ
+
+abbrev pub bound_of : Binding → Bound
+bound_of b = record { result = b.result; sources = b.sources.items; scratch = b.scratch }
+
+-- the address of a row at a position, in a bank of so many data rows: the spill group is the last 32
+abbrev pub address_in : ℕ → Shape → ℕ → Bound → RowSpace → ℕ → ℕ → Addr
+address_in rows shape n b space.B which i = addr.B which
+address_in rows shape n b space.C which i = addr.C which
+address_in rows shape n b space.Result which i = addr.D (b.result + i)
+address_in rows shape n b space.Source which i = addr.D (slice_index b.sources which + i)
+address_in rows shape n b space.ScratchBit which i = addr.D (b.scratch + which)
+address_in rows shape n b space.ScratchWord which i = addr.D (b.scratch + shape.bits + which * n + i)
+address_in rows shape n b space.Spill which i = addr.D (rows - 32 + which)
+
+abbrev pub address : ℕ → Shape → ℕ → Bound → RowRef → Addr
+address rows shape n b r = address_in rows shape n b r.space r.which r.index
+
+abbrev pub bound_command : ℕ → Shape → ℕ → Bound → Issue → Command
+bound_command rows shape n b (Twice x y) = Aap (address rows shape n b x) (address rows shape n b y)
+bound_command rows shape n b (Once x) = Ap (address rows shape n b x)
+
+-- a trace's commands, each row at its address
+abbrev pub bound : ℕ → Shape → ℕ → Bound → List Issue → List Command
+bound rows shape n b issues = map (bound_command rows shape n b) issues

@@ -1,0 +1,39 @@
+-- What an operation takes and gives, and its microprogram, as plain lists.
+use Rattle.std.specs.Prelude.{ℕ, ◌+◌, ◌*◌, List, map}
+use Rattle.uprog_code.specs.declared.code.Kind.{Kind}
+use Rattle.uprog_code.specs.declared.code.Kind.TheVariants.{Word, Bit}
+use Rattle.uprog_code.specs.declared.code.Uop.{Uop}
+use Rattle.uprog_code.specs.declared.code.Head.{Head}
+use Rattle.uprog_code.specs.declared.code.EntryCode.{EntryCode}
+use Rattle.uprog_code.specs.declared.code.Program.{Program}
+
+-- the kinds of its sources and of its result, and its bits and words of scratch
+pub record Shape : Type 0 where
+  pub sources : List Kind
+  pub result : Kind
+  pub bits : ℕ
+  pub words : ℕ
+
+abbrev pub shape_of : Head → Shape
+shape_of head = record { sources = head.sources.items; result = head.result; bits = head.bits; words = head.words }
+
+-- an operation's name, shape and code
+pub record Microprogram : Type 0 where
+  pub name : List ℕ
+  pub shape : Shape
+  pub code : List Uop
+
+abbrev pub microprogram_of : EntryCode → Microprogram
+microprogram_of e = record { name = e.head.name; shape = shape_of e.head; code = e.code.items }
+
+abbrev pub microprograms_of : Program → List Microprogram
+microprograms_of p = map microprogram_of p.entries.items
+
+-- how many rows a word or a bit takes
+abbrev pub width : Kind → ℕ → ℕ
+width Word n = n
+width Bit n = 1
+
+-- how many rows its scratch takes
+abbrev pub need : Shape → ℕ → ℕ
+need shape n = shape.bits + n * shape.words

@@ -1,0 +1,24 @@
+//! Microprograms: their instructions, what they issue, and the walk that counts it.
+#![tactic(auto)]
+
+mod binding;
+mod code;
+mod fetch;
+mod laws;
+mod registers;
+#[cfg(test)]
+mod tests;
+mod walker;
+
+pub use binding::Binding;
+pub use code::{EntryCode, Head, Kind, Program, RowRef, RowSpace, Uop};
+pub use fetch::Fetch;
+pub use laws::legal_code_is_safe;
+pub use registers::{Issued, Place, Turn, step};
+pub use walker::{BadWalk, Counts, Why3, walk};
+
+/// The greatest width at which a compiled operation is proved to do its work.
+pub const BUILT_WIDTH: u8 = 1;
+
+/// The greatest number of instructions of a walk, with its last.
+pub const WALK_MAX: u32 = 16_777_216;
