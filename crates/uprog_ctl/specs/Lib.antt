@@ -1,0 +1,2 @@
+-- What a controller does on a chip.
+pub mod Events

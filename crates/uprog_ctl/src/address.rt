@@ -1,0 +1,61 @@
+//! Where a row of a microprogram lies in a bank.
+
+ghost use Rattle.std.specs.Prelude.{◌≡◌, ◌+◌, ◌<◌, ◌^◌, length, slice_index, true};
+ghost use Rattle.uprog_code.specs.Shape.{shape_of};
+ghost use Rattle.uprog_code.specs.OneStep.{row_of, issue_of};
+ghost use Rattle.uprog_code.specs.Bound.{address, bound_command, bound_of};
+ghost use Rattle.uprog_code.specs.Fits.{Fits};
+ghost use Rattle.uprog_code.specs.Kept.{is_issued, is_good};
+
+use dram_model::{Addr, Command, Geometry};
+use uprog_code::{Binding, Head, Issued, Place, RowSpace};
+
+/// The row at a position of a source.
+fn source_row(sources: &[u16], which: u8, index: u16) -> u16
+    requires which { which < length sources.now }
+    requires room { slice_index sources.now which + index < 2 ^ 16 }
+    ensures { result ≡ slice_index sources.now which + index }
+{
+    sources[usize::from(which)] + index
+}
+
+/// The address of a row under a binding, in a bank of so many data rows.
+fn address_of(place: &Place, head: &Head, rows: u16, binding: &Binding) -> Addr
+    requires some { 0 < binding.now.n }
+    requires fits { Fits rows (shape_of head.now) binding.now.n (bound_of binding.now) }
+    requires good { is_issued (shape_of head.now) binding.now.n (row_of place.now) ≡ true }
+    ensures { result ≡ address rows (shape_of head.now) binding.now.n (bound_of binding.now) (row_of place.now) }
+{
+    match place.space {
+        RowSpace::B => Addr::B(place.which),
+        RowSpace::C => Addr::C(place.which),
+        RowSpace::Result => Addr::D(binding.result + place.index),
+        RowSpace::Source => Addr::D(source_row(
+            binding.sources.as_slice(),
+            place.which,
+            place.index,
+        )),
+        RowSpace::ScratchBit => Addr::D(binding.scratch + u16::from(place.which)),
+        RowSpace::ScratchWord => {
+            let word = u16::from(place.which) * u16::from(binding.n);
+            Addr::D(binding.scratch + u16::from(head.bits) + word + place.index)
+        }
+        RowSpace::Spill => Addr::D(rows - Geometry::SPILL_ROWS + u16::from(place.which)),
+    }
+}
+
+/// The command that is issued, bound.
+pub(crate) fn command_of(issued: &Issued, head: &Head, rows: u16, binding: &Binding) -> Command
+    requires some { 0 < binding.now.n }
+    requires fits { Fits rows (shape_of head.now) binding.now.n (bound_of binding.now) }
+    requires good { is_good (shape_of head.now) binding.now.n (issue_of issued.now) ≡ true }
+    ensures { result ≡ bound_command rows (shape_of head.now) binding.now.n (bound_of binding.now) (issue_of issued.now) }
+{
+    match issued {
+        Issued::Twice(x, y) => {
+            let first = address_of(x, head, rows, binding);
+            Command::Aap(first, address_of(y, head, rows, binding))
+        }
+        Issued::Once(x) => Command::Ap(address_of(x, head, rows, binding)),
+    }
+}

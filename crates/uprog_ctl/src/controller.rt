@@ -1,0 +1,130 @@
+//! Runs a microprogram on one bank.
+
+ghost use Rattle.std.specs.Prelude.{◌≡◌, ℕ, List, ◌+◌, ◌<◌, ◌≤◌, ◌^◌, true, OnOk, OnErr, ◌∷◌, []};
+ghost use Rattle.std.specs.List.{AllByRecursion};
+ghost use Rattle.dram_model.specs.Column.{is_legal};
+ghost use Rattle.dram_model.specs.Chip.{Event, happens, after, counted, all_counted, Rose, Grew, SameBut};
+ghost use Rattle.uprog_code.specs.Shape.{Shape, shape_of};
+ghost use Rattle.uprog_code.specs.Machine.{HasEnded, Issue, trace};
+ghost use Rattle.uprog_code.specs.Legal.{IsLegalCode};
+ghost use Rattle.uprog_code.specs.OneStep.{issues_by};
+ghost use Rattle.uprog_code.specs.Bound.{bound_of};
+ghost use Rattle.uprog_code.specs.Fits.{Fits};
+ghost use Rattle.uprog_code.specs.Kept.{AreGood};
+ghost use Rattle.dram_model.specs.declared.dram.Counters.{Counters};
+ghost use Rattle.uprog_code.specs.declared.binding.Binding.{Binding};
+ghost use Rattle.uprog_code.specs.Count.{counts_of};
+ghost use Rattle.uprog_ctl.specs.Events.{issue_events, trace_events, risen};
+
+use crate::address::command_of;
+use bit_rows::WIDTH_MAX;
+use dram_model::{ChipFault, Command, Dram};
+use uprog_code::{Binding, Fetch, Head, Turn, WALK_MAX, step};
+
+/// A trace's events raise the counters by its counts.
+pub fn counters_rise_by_counts()
+    ensures { (bank rows : ℕ) (shape : Shape) (b : Binding) (issues : List Issue) (c : Counters) → all_counted (issue_events bank rows shape b issues) c ≡ risen (counts_of issues) c }
+{}
+
+/// One command on one bank.
+fn do_command<D: Dram>(dram: &mut D, bank: u16, command: Command) -> Result<(), ChipFault>
+    requires begun { D.begun dram.old }
+    requires bank { bank < (D.geometry dram.old).banks }
+    requires legal { is_legal (D.geometry dram.old).rows command ≡ true }
+    requires aap_room { (D.counters dram.old).aap < 2 ^ 63 }
+    requires ap_room { (D.counters dram.old).ap < 2 ^ 63 }
+    ensures begun { D.begun dram.new }
+    ensures borrow { D.borrow dram.new ≡ D.borrow dram.old }
+    ensures geometry { D.geometry dram.new ≡ D.geometry dram.old }
+    ensures faults { D.faults dram.old ≤ D.faults dram.new }
+    ensures banks { OnOk result (D.banks dram.new ≡ happens (Event.Row bank command) (D.banks dram.old)) }
+    ensures counters { OnOk result (D.counters dram.new ≡ counted (Event.Row bank command) (D.counters dram.old)) }
+    ensures log { OnOk result (Grew (D.log dram.old) (D.log dram.new) (Event.Row bank command ∷ [])) }
+    ensures rose { OnErr result (Rose (D.faults dram.old) (D.faults dram.new)) }
+    ensures others { OnErr result (SameBut bank (D.banks dram.old) (D.banks dram.new)) }
+{
+    match command {
+        Command::Ap(x) => dram.ap(bank, x),
+        Command::Aap(x, y) => dram.aap(bank, x, y),
+    }
+}
+
+/// The commands of one step of a machine: one or none.
+fn do_turn<D: Dram>(
+    dram: &mut D,
+    bank: u16,
+    turn: Turn,
+    head: &Head,
+    binding: &Binding,
+) -> Result<(), ChipFault>
+    requires begun { D.begun dram.old }
+    requires bank { bank < (D.geometry dram.old).banks }
+    requires some { 0 < binding.now.n }
+    requires fits { Fits (D.geometry dram.old).rows (shape_of head.now) binding.now.n (bound_of binding.now) }
+    requires good { AreGood (shape_of head.now) binding.now.n (issues_by turn) }
+    requires aap_room { (D.counters dram.old).aap < 2 ^ 63 }
+    requires ap_room { (D.counters dram.old).ap < 2 ^ 63 }
+    ensures begun { D.begun dram.new }
+    ensures borrow { D.borrow dram.new ≡ D.borrow dram.old }
+    ensures geometry { D.geometry dram.new ≡ D.geometry dram.old }
+    ensures faults { D.faults dram.old ≤ D.faults dram.new }
+    ensures banks { OnOk result (D.banks dram.new ≡ after (issue_events bank (D.geometry dram.old).rows (shape_of head.now) binding.now (issues_by turn)) (D.banks dram.old)) }
+    ensures counters { OnOk result (D.counters dram.new ≡ all_counted (issue_events bank (D.geometry dram.old).rows (shape_of head.now) binding.now (issues_by turn)) (D.counters dram.old)) }
+    ensures log { OnOk result (Grew (D.log dram.old) (D.log dram.new) (issue_events bank (D.geometry dram.old).rows (shape_of head.now) binding.now (issues_by turn))) }
+    ensures rose { OnErr result (Rose (D.faults dram.old) (D.faults dram.new)) }
+    ensures others { SameBut bank (D.banks dram.old) (D.banks dram.new) }
+{
+    match turn {
+        Turn::Issues(issued) => {
+            let rows = dram.geometry().rows;
+            do_command(dram, bank, command_of(&issued, head, rows, binding))
+        }
+        _ => Ok(()),
+    }
+}
+
+/// Runs a microprogram on one bank to its end.
+pub fn run<D: Dram, F: Fetch>(
+    dram: &mut D,
+    bank: u16,
+    entry: &F,
+    binding: &Binding,
+) -> Result<(), ChipFault>
+    requires begun { D.begun dram.old }
+    requires bank { bank < (D.geometry dram.old).banks }
+    requires legal { IsLegalCode (F.shape entry.now) (F.code entry.now) }
+    requires some { 0 < binding.now.n }
+    requires narrow { binding.now.n ≤ WIDTH_MAX }
+    requires fits { Fits (D.geometry dram.old).rows (F.shape entry.now) binding.now.n (bound_of binding.now) }
+    requires ends { HasEnded (trace (F.shape entry.now) (F.code entry.now) binding.now.n) }
+    requires aap_room { (D.counters dram.old).aap < 2 ^ 62 }
+    requires ap_room { (D.counters dram.old).ap < 2 ^ 62 }
+    ensures begun { D.begun dram.new }
+    ensures borrow { D.borrow dram.new ≡ D.borrow dram.old }
+    ensures geometry { D.geometry dram.new ≡ D.geometry dram.old }
+    ensures faults { D.faults dram.old ≤ D.faults dram.new }
+    ensures banks { OnOk result (D.banks dram.new ≡ after (trace_events bank (D.geometry dram.old).rows (F.shape entry.now) (F.code entry.now) binding.now) (D.banks dram.old)) }
+    ensures counters { OnOk result (D.counters dram.new ≡ all_counted (trace_events bank (D.geometry dram.old).rows (F.shape entry.now) (F.code entry.now) binding.now) (D.counters dram.old)) }
+    ensures log { OnOk result (Grew (D.log dram.old) (D.log dram.new) (trace_events bank (D.geometry dram.old).rows (F.shape entry.now) (F.code entry.now) binding.now)) }
+    ensures rose { OnErr result (Rose (D.faults dram.old) (D.faults dram.new)) }
+    ensures others { SameBut bank (D.banks dram.old) (D.banks dram.new) }
+{
+    let head = entry.head();
+    let mut regs = [0u16; 8];
+    let mut pc: u16 = 0;
+    for k in 0..WALK_MAX {
+        let uop = entry.fetch(pc);
+        match step(&uop, &head, binding.n, &mut regs) {
+            Ok(turn) => {
+                if turn.is_over() {
+                    return Ok(());
+                }
+                do_turn(dram, bank, turn, &head, binding)?;
+                pc = turn.place_after(pc);
+            }
+            // the trace ends, so no step of it is stuck
+            Err(_) => return Ok(()),
+        }
+    }
+    Ok(())
+}
