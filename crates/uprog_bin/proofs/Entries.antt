@@ -1,0 +1,14 @@
+-- What is known of the entries of a program.
+use Rattle.std.proofs.Common.{◌<◌, ◌^◌, List, [], ◌∷◌, length, All, map}
+use Rattle.std.specs.List.{AllByRecursion}
+use Rattle.std.proofs.lemmas.List.Elements.{All-from_recursion}
+use Rattle.uprog_code.specs.declared.code.EntryCode.{EntryCode}
+use Rattle.uprog_code.specs.Shape.{microprogram_of}
+use Rattle.uprog_bin.specs.Spelling.{IsEntry}
+
+short : (es : List EntryCode) → AllByRecursion IsEntry (map microprogram_of es) → AllByRecursion (λ e. length e.code.items < 2 ^ 16) es
+short [] h = tt
+short (e ∷ es) h = (h.0.code.short, short es h.1)
+
+pub all_short : (es : List EntryCode) → AllByRecursion IsEntry (map microprogram_of es) → All (λ e. length e.code.items < 2 ^ 16) es
+all_short es h = All-from_recursion (λ e. length e.code.items < 2 ^ 16) es (short es h)

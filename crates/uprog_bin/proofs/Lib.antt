@@ -1,0 +1,15 @@
+pub mod Again
+pub mod Codes
+pub mod Entries
+pub mod Exact
+pub mod Files
+pub mod Found
+pub mod Held
+pub mod Instructions
+pub mod KindBits
+pub mod Listings
+pub mod Names
+pub mod Records
+pub mod Taken
+pub mod Uops
+pub mod Whole

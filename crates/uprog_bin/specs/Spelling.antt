@@ -1,0 +1,98 @@
+-- The one spelling of a program.
+use Rattle.std.specs.Prelude.{◌≡◌, ◌≢◌, ℕ, ◌+◌, ◌-◌, ◌*◌, ◌<◌, ◌≤◌, ◌^◌, true, List, [], ◌∷◌, ◌++◌, length, replicate, codes}
+use Rattle.std.specs.List.{AllByRecursion, AllPairs, flat_map}
+use Rattle.std.specs.Int.{to_le_bytes, w16, w32}
+use Rattle.text_lex.specs.Spelled.{fits_name}
+use Rattle.uprog_code.specs.declared.code.Kind.{Kind}
+use Rattle.uprog_code.specs.declared.code.Kind.TheVariants.{Word, Bit}
+use Rattle.uprog_code.specs.declared.code.RowSpace.{RowSpace}
+use Rattle.uprog_code.specs.declared.code.RowSpace.TheVariants as space
+use Rattle.uprog_code.specs.declared.code.RowRef.{RowRef}
+use Rattle.uprog_code.specs.declared.code.Uop.{Uop}
+use Rattle.uprog_code.specs.declared.code.Uop.TheVariants.{Done, SetI, SetN, SetT, Mov, Add, AddI, SubI, Bnez, Aap, Ap}
+use Rattle.uprog_code.specs.Shape.{Shape, Microprogram}
+use Rattle.uprog_code.specs.Legal.{IsLegalCode}
+
+-- a name's length, its bytes, and zeros up to 16
+abbrev pub name_bytes : List ℕ → List ℕ
+name_bytes name = length name ∷ (name ++ replicate (16 - length name) 0)
+
+abbrev pub space_number : RowSpace → ℕ
+space_number space.B = 0
+space_number space.C = 1
+space_number space.Result = 2
+space_number space.Source = 3
+space_number space.ScratchBit = 4
+space_number space.ScratchWord = 5
+space_number space.Spill = 6
+
+abbrev pub row_bytes : RowRef → List ℕ
+row_bytes r = space_number r.space ∷ r.which ∷ r.index ∷ []
+
+abbrev pub zeros : ℕ → List ℕ
+zeros n = replicate n 0
+
+-- an instruction: its number, its operands, and zeros up to eight bytes
+abbrev pub instruction_bytes : Uop → List ℕ
+instruction_bytes Done = 0 ∷ zeros 7
+instruction_bytes (SetI r k) = 1 ∷ r ∷ (to_le_bytes w16 k ++ zeros 4)
+instruction_bytes (SetN r) = 2 ∷ r ∷ zeros 6
+instruction_bytes (SetT r) = 3 ∷ r ∷ zeros 6
+instruction_bytes (Mov r s) = 4 ∷ r ∷ s ∷ zeros 5
+instruction_bytes (Add r s) = 5 ∷ r ∷ s ∷ zeros 5
+instruction_bytes (AddI r k) = 6 ∷ r ∷ (to_le_bytes w16 k ++ zeros 4)
+instruction_bytes (SubI r k) = 7 ∷ r ∷ (to_le_bytes w16 k ++ zeros 4)
+instruction_bytes (Bnez r t) = 8 ∷ r ∷ (to_le_bytes w16 t ++ zeros 4)
+instruction_bytes (Aap x y) = 9 ∷ (row_bytes x ++ (row_bytes y ++ zeros 1))
+instruction_bytes (Ap x) = 10 ∷ (row_bytes x ++ zeros 4)
+
+-- 2 ^ i for each source i that is a word
+abbrev pub kind_bits : List Kind → ℕ
+kind_bits [] = 0
+kind_bits (Word ∷ kinds) = 2 * kind_bits kinds + 1
+kind_bits (Bit ∷ kinds) = 2 * kind_bits kinds
+
+abbrev pub result_bit : Kind → ℕ
+result_bit Word = 16
+result_bit Bit = 0
+
+abbrev pub kinds_byte : Shape → ℕ
+kinds_byte shape = kind_bits shape.sources + result_bit shape.result
+
+-- the sources and their kinds, and the scratch
+abbrev pub shape_bytes : Shape → List ℕ
+shape_bytes shape = length shape.sources ∷ kinds_byte shape ∷ shape.bits ∷ shape.words ∷ []
+
+-- the record of an entry whose code begins at this instruction
+abbrev pub head_bytes : ℕ → Microprogram → List ℕ
+head_bytes start m = name_bytes m.name ++ (shape_bytes m.shape ++ (to_le_bytes w32 start ++ to_le_bytes w16 (length m.code)))
+
+-- a record for each entry
+abbrev pub directory_bytes : ℕ → List Microprogram → List ℕ
+directory_bytes start [] = []
+directory_bytes start (m ∷ ms) = head_bytes start m ++ directory_bytes (start + length m.code) ms
+
+abbrev pub code_bytes : Microprogram → List ℕ
+code_bytes m = flat_map instruction_bytes m.code
+
+abbrev pub opening_bytes : List ℕ
+opening_bytes = codes "SDMP" ++ to_le_bytes w16 1
+
+-- the file of a program
+unfoldable pub program_bytes : List Microprogram → List ℕ
+program_bytes ms = opening_bytes ++ (to_le_bytes w16 (length ms) ++ (directory_bytes 0 ms ++ flat_map code_bytes ms))
+
+-- a name, 1 to 4 sources, scratch that a byte counts, and legal code
+pub record IsEntry (m : Microprogram) : Type 0 where
+  pub name : fits_name m.name ≡ true
+  pub some : 0 < length m.shape.sources
+  pub few : length m.shape.sources ≤ 4
+  pub bits : m.shape.bits < 2 ^ 8
+  pub words : m.shape.words < 2 ^ 8
+  pub code : IsLegalCode m.shape m.code
+
+-- at most 32 entries, of differing names
+pub record IsProgram (ms : List Microprogram) : Type 0 where
+  pub few : length ms ≤ 32
+  pub entries : AllByRecursion IsEntry ms
+  pub names : AllPairs (λ m n. m.name ≢ n.name) ms

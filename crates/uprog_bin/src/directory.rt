@@ -1,0 +1,177 @@
+//! The directory of a program file.
+
+ghost use Rattle.std.specs.Prelude.{◌≡◌, ◌+◌, ◌*◌, ◌<◌, ◌≤◌, ◌^◌, ◌==◌, [], length, OnOk, IfOk};
+ghost use Rattle.std.specs.List.{list_all, list_any};
+ghost use Rattle.arrayvec.specs.ArrayVec.{array_vec_len};
+ghost use Rattle.uprog_code.specs.Shape.{shape_of};
+ghost use Rattle.uprog_bin.specs.Reading.{Gives, is_named, has_name, name_at, kind_of_bit, kinds_of, is_kinds, shape_at, listing_at, directory_at, listing_of, listings_of};
+
+use crate::fault::{ProgFault, ProgKind, fault, rule};
+use crate::fields::{bytes_at, u8_at, u16_at, u32_at};
+use arrayvec::ArrayVec;
+use text_lex::Name;
+use uprog_code::{Head, Kind};
+
+/// An entry's record: its head, the number of its first instruction, and how many it has.
+#[derive(Debug, Drop)]
+pub(crate) struct Listed {
+    pub head: Head,
+    pub start: u32,
+    pub count: u16,
+}
+
+impl Default for Listed {
+    fn default() -> Self {
+        Listed {
+            head: Head {
+                name: Name::default(),
+                sources: ArrayVec::new(),
+                result: Kind::Word,
+                bits: 0,
+                words: 0,
+            },
+            start: 0,
+            count: 0,
+        }
+    }
+}
+
+fn all_zero(bytes: &[u8]) -> bool
+    ensures { result ≡ list_all (λ b. b == 0) bytes.now }
+{
+    bytes.iter().all(|b| *b == 0)
+}
+
+fn any_named(earlier: &[Listed], name: &[u8]) -> bool
+    ensures { result ≡ list_any (is_named name.now) earlier.now }
+{
+    earlier.iter().any(|l| l.head.name.bytes() == name)
+}
+
+/// Whether an earlier entry has the name.
+fn has_name(earlier: &[Listed], name: &[u8]) -> bool
+    ensures { result ≡ has_name (listings_of earlier.now) name.now }
+{
+    any_named(earlier, name)
+}
+
+/// The name at a place, which none of the earlier entries has.
+#[tactic(auto, unfolding(crate::specs::Reading::name_at))]
+fn name_of(earlier: &[Listed], bytes: &[u8], at: usize) -> Result<Name, ProgFault>
+    requires small { length bytes.now < 2 ^ 32 }
+    requires place { at ≤ length bytes.now }
+    ensures gives { Gives (λ name. name) result (name_at (listings_of earlier.now) at bytes.now) }
+    ensures within { OnOk result (at + 17 ≤ length bytes.now) }
+{
+    let len = u8_at(bytes, at)?;
+    rule((1..=16).contains(&len), at, ProgKind::Directory)?;
+    let field = bytes_at(bytes, at + 1, 16)?;
+    let (front, behind) = field.split_at(usize::from(len));
+    let Some(name) = Name::new(front) else {
+        return Err(fault(at + 1, ProgKind::Directory));
+    };
+    rule(all_zero(behind), at + 1, ProgKind::Directory)?;
+    rule(!has_name(earlier, front), at + 1, ProgKind::Directory)?;
+    Ok(name)
+}
+
+fn kind_of_bit(bit: u8) -> Kind
+    ensures { result ≡ kind_of_bit bit }
+{
+    if bit == 1 { Kind::Word } else { Kind::Bit }
+}
+
+/// The kinds of so many sources, the lowest bit first.
+fn kinds_of(count: u8, bits: u8) -> ArrayVec<Kind, 4>
+    requires { count ≤ 4 }
+    ensures { result.items ≡ kinds_of count bits }
+{
+    let mut kinds = ArrayVec::new();
+    let mut rest = bits;
+    for _k in 0..count {
+        kinds.push(kind_of_bit(rest % 2));
+        rest /= 2;
+    }
+    kinds
+}
+
+/// Whether the byte has bits for so many sources and the result alone.
+fn is_kinds(sources: u8, bits: u8) -> bool
+    requires some { 1 ≤ sources }
+    requires few { sources ≤ 4 }
+    ensures { result ≡ is_kinds sources bits }
+{
+    let limit = match sources {
+        1 => 2,
+        2 => 4,
+        3 => 8,
+        _ => 16,
+    };
+    bits < 32 && bits % 16 < limit
+}
+
+/// The head at a place, behind its name.
+#[tactic(auto, unfolding(crate::specs::Reading::shape_at))]
+fn head_of(name: Name, bytes: &[u8], at: usize) -> Result<Head, ProgFault>
+    requires small { length bytes.now < 2 ^ 32 }
+    requires place { at ≤ length bytes.now }
+    ensures name { IfOk result (λ head. head.name ≡ name) }
+    ensures gives { Gives shape_of result (shape_at at bytes.now) }
+    ensures within { OnOk result (at + 4 ≤ length bytes.now) }
+{
+    let sources = u8_at(bytes, at)?;
+    rule((1..=4).contains(&sources), at, ProgKind::Directory)?;
+    let kinds = u8_at(bytes, at + 1)?;
+    rule(is_kinds(sources, kinds), at + 1, ProgKind::Directory)?;
+    let bits = u8_at(bytes, at + 2)?;
+    let words = u8_at(bytes, at + 3)?;
+    Ok(Head {
+        name,
+        sources: kinds_of(sources, kinds),
+        result: kind_of_bit(kinds / 16),
+        bits,
+        words,
+    })
+}
+
+/// The record at a place of an entry whose code begins at this instruction.
+#[tactic(auto, unfolding(crate::specs::Reading::listing_at))]
+fn listed_of(earlier: &[Listed], start: u32, bytes: &[u8], at: usize) -> Result<Listed, ProgFault>
+    requires small { length bytes.now < 2 ^ 32 }
+    requires place { at ≤ length bytes.now }
+    ensures gives { Gives listing_of result (listing_at (listings_of earlier.now) start at bytes.now) }
+    ensures count { IfOk result (λ l. l.count < 2 ^ 16) }
+    ensures within { OnOk result (at + 27 ≤ length bytes.now) }
+{
+    let name = name_of(earlier, bytes, at)?;
+    let head = head_of(name, bytes, at + 17)?;
+    let first = u32_at(bytes, at + 21)?;
+    rule(first == start, at + 21, ProgKind::Directory)?;
+    let count = u16_at(bytes, at + 25)?;
+    rule(count >= 1, at + 25, ProgKind::Directory)?;
+    Ok(Listed {
+        head,
+        start: first,
+        count,
+    })
+}
+
+/// The records of a file.
+pub(crate) fn directory_of(count: u16, bytes: &[u8]) -> Result<ArrayVec<Listed, 32>, ProgFault>
+    requires few { count ≤ 32 }
+    requires small { length bytes.now < 2 ^ 32 }
+    requires place { 8 ≤ length bytes.now }
+    ensures gives { Gives (λ ls. listings_of ls.items) result (directory_at count [] 0 8 bytes.now) }
+    ensures within { IfOk result (λ ls. 8 + 27 * length ls.items ≤ length bytes.now) }
+{
+    let mut listed = ArrayVec::new();
+    let mut start = 0u32;
+    let mut at = 8usize;
+    for _k in 0..count {
+        let next = listed_of(listed.as_slice(), start, bytes, at)?;
+        start += u32::from(next.count);
+        at += 27;
+        listed.push(next);
+    }
+    Ok(listed)
+}

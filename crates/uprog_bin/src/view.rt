@@ -1,0 +1,199 @@
+//! The program file, read in place.
+
+ghost use Rattle.std.specs.Prelude.{◌≡◌, ℕ, List, ◌+◌, ◌*◌, ◌/◌, ◌<◌, ◌≤◌, ◌^◌, length, take, drop, position, slice_get, slice_index_or, Some, Ok, Err, IfSome, IfOk, IfErr};
+ghost use Rattle.std.specs.Str.{bytes_eq};
+ghost use Rattle.uprog_code.specs.Shape.{Microprogram, shape_of};
+ghost use Rattle.uprog_code.specs.Legal.{IsLegalCode};
+ghost use Rattle.uprog_bin.specs.Reading.{Gives, is_named, program_in};
+ghost use Rattle.uprog_bin.specs.Spelling.{IsProgram, program_bytes};
+ghost use Rattle.uprog_bin.specs.Opened.{File, Held, IsOpened, accepted, code_of, program_of, code_place, uop_in};
+
+use crate::checks::{check_codes, opening_of};
+use crate::directory::{Listed, directory_of};
+use crate::fault::{ProgFault, ProgKind, rule};
+use crate::fields::u16_at;
+use crate::instruction::{Raw, uop_as};
+use crate::opcode::{OPCODES, Opcode};
+use arrayvec::ArrayVec;
+use std::marker::Model;
+use text_lex::Name;
+use uprog_code::{Fetch, Head, Uop};
+
+/// The records of a file, or its first fault.
+#[tactic(auto, unfolding(crate::specs::Reading::program_in))]
+fn records_of(bytes: &[u8]) -> Result<ArrayVec<Listed, 32>, ProgFault>
+    requires { length bytes.now < 2 ^ 32 }
+    ensures ok { IfOk result (λ listed. IsOpened bytes.now listed.items) }
+    ensures err { IfErr result (λ f. program_in bytes.now ≡ Err f) }
+{
+    opening_of(bytes)?;
+    let count = u16_at(bytes, 6)?;
+    rule(count <= 32, 6, ProgKind::Directory)?;
+    let listed = directory_of(count, bytes)?;
+    let start = 8 + 27 * listed.len();
+    let end = check_codes(listed.as_slice(), bytes, start)?;
+    rule(bytes.len() == end, end, ProgKind::Rest)?;
+    Ok(listed)
+}
+
+/// A program file that was accepted. It borrows the bytes.
+#[derive(Debug, Drop)]
+pub struct ProgView<'a> {
+    bytes: &'a [u8],
+    listed: ArrayVec<Listed, 32>,
+}
+
+impl<'a> Model for ProgView<'a> {
+    ghost use Rattle.uprog_bin.specs.Spelling.{IsProgram, program_bytes};
+    ghost use Rattle.uprog_bin.specs.Opened.{File, IsOpened, accepted};
+    ghost use Rattle.uprog_bin.specs.Reading.{program_in};
+
+    ghost Value = { File };
+
+    ghost view = { λ v. record { bytes = v.bytes.now; programs = accepted (program_in v.bytes.now) } };
+
+    ghost invariant = { λ v. IsOpened v.bytes.now v.listed.items };
+}
+
+/// An entry of a program file, which fetches from the file's own bytes.
+#[derive(Debug, Drop)]
+pub struct Entry<'a> {
+    head: Head,
+    code: &'a [u8],
+}
+
+impl<'a> Model for Entry<'a> {
+    ghost use Rattle.uprog_code.specs.Shape.{shape_of};
+    ghost use Rattle.uprog_bin.specs.Opened.{Held};
+
+    ghost Value = { Held };
+
+    ghost view = { λ e. record { name = e.head.name; shape = shape_of e.head; bytes = e.code.now } };
+}
+
+impl<'a> ProgView<'a> {
+    /// The program that the bytes spell, or the first field that is not whole or breaks its rule.
+    pub fn open(bytes: &'a [u8]) -> Result<ProgView<'a>, ProgFault>
+        requires { length bytes.now < 2 ^ 32 }
+        // What is accepted is the one spelling of a program.
+        ensures spelled { IfOk result (λ v. IsProgram v.programs × (v.bytes ≡ program_bytes v.programs)) }
+        // The spelling of a program is accepted, as that program.
+        ensures only { (ms : List Microprogram) → IsProgram ms → bytes.now ≡ program_bytes ms → Gives (λ v. v.programs) result (Ok ms) }
+        // Which program it is, and which fault.
+        ensures exact { Gives (λ v. v.programs) result (program_in bytes.now) }
+        ensures bytes { IfOk result (λ v. v.bytes ≡ bytes.now) }
+    {
+        let listed = records_of(bytes)?;
+        Ok(ProgView { bytes, listed })
+    }
+
+    /// The number of entries.
+    pub fn entries(&self) -> u16
+        ensures { result ≡ length self.now.programs }
+    {
+        self.listed.len() as u16
+    }
+
+    /// An entry. It fetches from the part of the file that holds its code.
+    pub fn entry(&self, k: u16) -> Entry<'a>
+        requires { k < length self.now.programs }
+        ensures program { slice_get self.now.programs k ≡ Some (program_of result) }
+        ensures bytes { result.bytes ≡ take (8 * length (code_of result)) (drop (code_place self.now.programs k) self.now.bytes) }
+        ensures legal { IsLegalCode result.shape (code_of result) }
+    {
+        let listed = self.listed.as_slice();
+        let l = &listed[usize::from(k)];
+        let start = 8 + 27 * listed.len() + 8 * (l.start as usize);
+        let code = part(self.bytes, start, 8 * usize::from(l.count));
+        Entry {
+            head: l.head.copied(),
+            code,
+        }
+    }
+
+    /// The entry of this name, if there is one.
+    pub fn find(&self, name: &Name) -> Option<u16>
+        ensures { result ≡ position (λ m. bytes_eq m.name name.now) self.now.programs }
+    {
+        match place_of(self.listed.as_slice(), name.bytes()) {
+            Some(k) => Some(k as u16),
+            None => None,
+        }
+    }
+}
+
+fn place_of(listed: &[Listed], name: &[u8]) -> Option<usize>
+    ensures value { result ≡ position (is_named name.now) listed.now }
+    ensures within { IfSome result (λ k. k < length listed.now) }
+{
+    listed.iter().position(|l| l.head.name.bytes() == name)
+}
+
+/// So many bytes from a place on.
+fn part(bytes: &[u8], at: usize, len: usize) -> &[u8]
+    requires { at + len ≤ length bytes.now }
+    ensures { result.now ≡ take len (drop at bytes.now) }
+{
+    let (_, rest) = bytes.split_at(at);
+    let (part, _) = rest.split_at(len);
+    part
+}
+
+fn opcode_or_done(number: u8) -> Opcode
+    ensures { result ≡ slice_index_or OPCODES number Opcode.Done }
+{
+    match OPCODES.get(usize::from(number)) {
+        Some(opcode) => *opcode,
+        None => Opcode::Done,
+    }
+}
+
+/// The instruction that eight bytes are.
+fn decoded(field: &[u8]) -> Uop
+    requires { length field.now ≡ 8 }
+    ensures { result ≡ uop_in field.now }
+{
+    let raw = Raw::new(field);
+    uop_as(opcode_or_done(raw.number), raw)
+}
+
+/// The instruction at a place of code.
+fn uop_at(code: &[u8], at: u16) -> Uop
+    requires { at < length code.now / 8 }
+    ensures { result ≡ uop_in (take 8 (drop (8 * at) code.now)) }
+{
+    let (_, rest) = code.split_at(8 * usize::from(at));
+    let (field, _) = rest.split_at(8);
+    decoded(field)
+}
+
+impl<'a> Fetch for Entry<'a> {
+    ghost use Rattle.uprog_bin.specs.Opened.{code_of};
+
+    ghost name = { λ e. e.name };
+
+    ghost shape = { λ e. e.shape };
+
+    ghost code = { λ e. code_of e };
+
+    fn head(&self) -> Head {
+        self.head.copied()
+    }
+
+    fn len(&self) -> u16 {
+        (self.code.len() / 8) as u16
+    }
+
+    fn fetch(&self, at: u16) -> Uop {
+        uop_at(self.code, at)
+    }
+}
+
+impl<'a> Entry<'a> {
+    /// The slice of the file that holds the code: eight bytes for each instruction.
+    pub fn bytes(&self) -> &'a [u8]
+        ensures { result.now ≡ self.now.bytes }
+    {
+        self.code
+    }
+}
