@@ -1,0 +1,144 @@
+-- Reading an image file field by field: what it holds, or the first field that is not whole or breaks its rule.
+use Rattle.std.specs.Prelude.{◌≡◌, ℕ, zero, suc, ◌+◌, ◌*◌, Bool, ◌&&◌, not, nat_le, nat_lt, ◌==◌, List, [], ◌∷◌, ◌++◌, length, take, drop, Result, Ok, Err, if◌then◌else◌, codes}
+use Rattle.std.specs.Int.{Width, w8, w16, w32, byte_len, from_le_bytes}
+use Rattle.std.specs.List.{list_all}
+use Rattle.std.specs.Str.{bytes_eq}
+use Rattle.bit_rows.specs.declared.TheConstants.{WIDTH_MAX}
+use Rattle.dram_model.specs.declared.geometry.Geometry.{Geometry}
+use Rattle.dram_model.specs.Geometry.{is_between, fits_size}
+use Rattle.dram_model.specs.Elements.{column_count}
+use Rattle.text_lex.specs.Spelled.{fits_name}
+use Rattle.object_alloc.specs.declared.fault.ImageKind.{ImageKind}
+use Rattle.object_alloc.specs.declared.fault.ImageKind.TheVariants as kinds
+use Rattle.object_alloc.specs.declared.fault.ImageFault.{ImageFault}
+use Rattle.object_alloc.specs.declared.fault.ImageNo.{ImageNo}
+use Rattle.object_alloc.specs.declared.fault.ImageNo.TheVariants as no
+use Rattle.object_alloc.specs.Free.{are_free}
+use Rattle.object_alloc.specs.Listed.{Named, objects_of, has_name, limit_of}
+
+infixl 10 ◌>>=◌
+abbrev pub ◌>>=◌ : {A B : Type 0} → Result A ImageFault → (A → Result B ImageFault) → Result B ImageFault
+(Ok x) >>= f = f x
+(Err e) >>= f = Err e
+
+abbrev pub fault_at : ℕ → ImageKind → ImageFault
+fault_at at kind = record { at = at; kind = kind }
+
+-- What a function returned, seen by view, is what reading gives.
+abbrev pub Gives : {X Y : Type 0} → (X → Y) → Result X ImageFault → Result Y ImageFault → Type 0
+Gives view (Ok x) read = read ≡ Ok (view x)
+Gives view (Err f) read = read ≡ Err f
+
+abbrev pub IsFault : {Y : Type 0} → ImageNo → Result Y ImageFault → Type 0
+IsFault (no.Fault f) read = read ≡ Err f
+IsFault no.NoMemory read = Unit {0}
+
+-- The same, unless memory ran out.
+abbrev pub Answers : {X Y : Type 0} → (X → Y) → Result X ImageNo → Result Y ImageFault → Type 0
+Answers view (Ok x) read = read ≡ Ok (view x)
+Answers view (Err e) read = IsFault e read
+
+-- a rule of the field at a place
+abbrev pub rule : Bool → ℕ → ImageKind → Result (Unit {0}) ImageFault
+rule holds at kind = if holds then Ok tt else Err (fault_at at kind)
+
+-- so many bytes from a place on. A file that ends before is Short at its length
+abbrev pub bytes_at : ℕ → ℕ → List ℕ → Result (List ℕ) ImageFault
+bytes_at len at bytes = if nat_lt (length bytes) (at + len) then Err (fault_at (length bytes) kinds.Short) else Ok (take len (drop at bytes))
+
+-- the number of that width at a place, the low byte first
+abbrev pub number_at : Width → ℕ → List ℕ → Result ℕ ImageFault
+number_at w at bytes = bytes_at (byte_len w) at bytes >>= λ field. Ok (from_le_bytes w field)
+
+-- a number that has to pass a test
+abbrev pub field_at : Width → (ℕ → Bool) → ImageKind → ℕ → List ℕ → Result ℕ ImageFault
+field_at w passes kind at bytes = do
+  n ← number_at w at bytes
+  fits ← rule (passes n) at kind
+  Ok n
+
+-- the first so many bytes of the field are a name, which none of these objects has, and the others are 0
+abbrev pub is_new_name : List Named → ℕ → List ℕ → Bool
+is_new_name earlier len field = fits_name (take len field) && (list_all (λ b. b == 0) (drop len field) && not (has_name earlier (take len field)))
+
+unfoldable pub name_at : List Named → ℕ → List ℕ → Result (List ℕ) ImageFault
+name_at earlier at bytes = do
+  len ← field_at w8 (is_between 1 16) kinds.Object at bytes
+  field ← bytes_at 16 (at + 1) bytes
+  new ← rule (is_new_name earlier len field) (at + 1) kinds.Object
+  Ok (take len field)
+
+-- the width and the base of an object
+unfoldable pub place_at : Geometry → List Named → ℕ → List ℕ → Result (ℕ × ℕ) ImageFault
+place_at g earlier at bytes = do
+  width ← field_at w8 (is_between 1 WIDTH_MAX) kinds.Object at bytes
+  base ← field_at w16 (λ base. nat_le (base + width) (limit_of g)) kinds.Object (at + 1) bytes
+  apart ← rule (are_free (limit_of g) (objects_of earlier) width base) (at + 1) kinds.Overlap
+  Ok (width, base)
+
+unfoldable pub count_at : Geometry → ℕ → List ℕ → Result ℕ ImageFault
+count_at g at bytes = field_at w32 (is_between 1 (column_count g * g.banks)) kinds.Object at bytes
+
+-- an object's record, where these objects stand before it
+unfoldable pub object_at : Geometry → List Named → ℕ → List ℕ → Result Named ImageFault
+object_at g earlier at bytes = do
+  name ← name_at earlier at bytes
+  place ← place_at g earlier (at + 17) bytes
+  count ← count_at g (at + 20) bytes
+  Ok (name, record { base = place.1; width = place.0; count = count })
+
+-- these objects, and so many after them
+unfoldable pub objects_at : ℕ → Geometry → List Named → ℕ → List ℕ → Result (List Named) ImageFault
+objects_at zero g earlier at bytes = Ok earlier
+objects_at (suc n) g earlier at bytes = do
+  named ← object_at g earlier at bytes
+  objects_at n g (earlier ++ named ∷ []) (at + 24) bytes
+
+-- the number of objects, and that many of them
+unfoldable pub table_at : Geometry → ℕ → List ℕ → Result (List Named) ImageFault
+table_at g at bytes = do
+  count ← field_at w16 (λ count. nat_le count 256) kinds.Object at bytes
+  objects_at count g [] (at + 2) bytes
+
+unfoldable pub geometry_at : ℕ → List ℕ → Result Geometry ImageFault
+geometry_at at bytes = do
+  banks ← field_at w16 (is_between 1 16) kinds.Geometry at bytes
+  rows ← field_at w16 (is_between 64 1006) kinds.Geometry (at + 2) bytes
+  words ← field_at w16 (λ words. is_between 1 1024 words && fits_size (record { banks = banks; rows = rows; words = words })) kinds.Geometry (at + 4) bytes
+  Ok (record { banks = banks; rows = rows; words = words })
+
+unfoldable pub opening_in : List ℕ → Result (Unit {0}) ImageFault
+opening_in bytes = do
+  magic ← bytes_at 4 0 bytes
+  same ← rule (bytes_eq magic (codes "SDMI")) 0 kinds.Magic
+  version ← field_at w16 (λ version. version == 1) kinds.Version 4 bytes
+  Ok tt
+
+-- how many bytes all the rows have, and where they begin
+abbrev pub rows_size : Geometry → ℕ
+rows_size g = 8 * (g.banks * g.rows * g.words)
+
+abbrev pub rows_start : List Named → ℕ
+rows_start table = 14 + 24 * length table
+
+-- what an image file holds; its rows as bytes
+pub record Found : Type 0 where
+  pub geometry : Geometry
+  pub table : List Named
+  pub rows : List ℕ
+
+-- the rows are all that is left
+unfoldable pub rows_at : Geometry → ℕ → List ℕ → Result (List ℕ) ImageFault
+rows_at g at bytes = do
+  rows ← bytes_at (rows_size g) at bytes
+  ended ← rule (length bytes == at + rows_size g) (at + rows_size g) kinds.Rest
+  Ok rows
+
+-- what a file holds, or its first fault
+unfoldable pub image_in : List ℕ → Result Found ImageFault
+image_in bytes = do
+  opening ← opening_in bytes
+  g ← geometry_at 6 bytes
+  table ← table_at g 12 bytes
+  rows ← rows_at g (rows_start table) bytes
+  Ok (record { geometry = g; table = table; rows = rows })

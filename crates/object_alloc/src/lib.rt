@@ -1,0 +1,21 @@
+//! Objects of a chip: the table that gives each its rows, and the image file that holds a table and the chip's rows.
+#![tactic(auto)]
+
+mod fault;
+mod fields;
+mod image;
+mod reading;
+mod spelling;
+mod table;
+mod words;
+
+pub use bit_rows::NoMemory;
+pub use fault::{ImageFault, ImageKind, ImageNo};
+pub use image::Image;
+pub use reading::{images_are_exact, read_image, read_table};
+pub use spelling::{empty_image, image_head, put_head, record_of};
+pub use table::{Object, Table, free_is_least};
+pub use words::{bytes_of_words, words_of_bytes};
+
+#[cfg(test)]
+mod tests;
