@@ -1,0 +1,13 @@
+mod Texts
+mod Worked
+pub mod Forward
+pub mod Back
+pub mod Complete
+pub mod Steps
+pub mod Link
+pub mod Operations
+pub mod Accepted
+pub mod Places
+pub mod Unique
+pub mod Bounds
+pub mod Once

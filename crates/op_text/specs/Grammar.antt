@@ -1,0 +1,91 @@
+-- The grammar, one token at a time.
+use Rattle.std.specs.Prelude.{Bool, false, List, [], ◌∷◌, ◌++◌, Option, Some, None, option_and_then, if◌then◌else◌}
+use Rattle.op_text.specs.Items.{is_opening}
+use Rattle.op_text.specs.declared.grammar.Wanted.{Wanted}
+use Rattle.op_text.specs.declared.grammar.Wanted.TheVariants.{Ops, NewOp, NewParam, ParamKind, Params, NewResult, ResultKind, FirstStmt, Stmts, WordOpName, Args, ArgName, MoreArgs, WordEnd, Direction, States, StateName, MoreStates, Start, Lets, LetName, LetEnd, AssignEnd, Assigns, Value, GateOpen, More, Open, Begin, Colon, Arrow, Equals}
+use Rattle.op_text.specs.declared.terminal.Terminal.{Terminal}
+use Rattle.op_text.specs.declared.terminal.Terminal.TheVariants as t
+use Rattle.op_text.specs.declared.terminal.Spelling.{Spelling}
+use Rattle.op_text.specs.declared.terminal.Spelling.TheVariants as sp
+
+-- a statement, behind its first token
+abbrev pub statement : Spelling → List Wanted
+statement sp.Serial = Direction ∷ Open ∷ States ∷ Begin ∷ Lets ∷ Stmts ∷ []
+statement n = Equals ∷ WordOpName ∷ Open ∷ Args ∷ WordEnd ∷ Stmts ∷ []
+
+-- a line of a block, behind its first token
+abbrev pub let_or_assign : Spelling → List Wanted
+let_or_assign sp.Let = LetName ∷ Equals ∷ Value ∷ LetEnd ∷ Lets ∷ []
+let_or_assign n = Equals ∷ Value ∷ AssignEnd ∷ Assigns ∷ []
+
+abbrev pub op_word : Spelling → Option (List Wanted)
+op_word sp.Op = Some (NewOp ∷ Open ∷ NewParam ∷ Colon ∷ ParamKind ∷ Params ∷ Arrow ∷ NewResult ∷ Colon ∷ ResultKind ∷ Begin ∷ FirstStmt ∷ Ops ∷ [])
+op_word n = None
+
+abbrev pub kind_word : Spelling → Option (List Wanted)
+kind_word sp.Word = Some []
+kind_word sp.Bit = Some []
+kind_word n = None
+
+abbrev pub direction_word : Spelling → Option (List Wanted)
+direction_word sp.Up = Some []
+direction_word sp.Down = Some []
+direction_word n = None
+
+-- What the grammar asks for behind a token, before all that it asked for later; or none, where it does
+-- not allow the token. The flag says whether an opening parenthesis follows.
+abbrev pub follow : Wanted → Terminal → Bool → Option (List Wanted)
+follow Ops (t.Name n) o = op_word n
+follow NewOp (t.Name n) o = Some []
+follow NewParam (t.Name n) o = Some []
+follow ParamKind (t.Name n) o = kind_word n
+follow Params t.Comma o = Some (NewParam ∷ Colon ∷ ParamKind ∷ Params ∷ [])
+follow Params t.Closes o = Some []
+follow NewResult (t.Name n) o = Some []
+follow ResultKind (t.Name n) o = kind_word n
+follow FirstStmt (t.Name n) o = Some (statement n)
+follow Stmts (t.Name n) o = Some (statement n)
+follow Stmts t.Finishes o = Some []
+follow WordOpName (t.Name n) o = Some []
+follow Args (t.Name n) o = Some (MoreArgs ∷ [])
+follow Args t.Closes o = Some []
+follow ArgName (t.Name n) o = Some []
+follow MoreArgs t.Comma o = Some (ArgName ∷ MoreArgs ∷ [])
+follow MoreArgs t.Closes o = Some []
+follow WordEnd t.Semi o = Some []
+follow Direction (t.Name n) o = direction_word n
+follow States (t.Name n) o = Some (Equals ∷ Start ∷ MoreStates ∷ [])
+follow States t.Closes o = Some []
+follow StateName (t.Name n) o = Some []
+follow MoreStates t.Comma o = Some (StateName ∷ Equals ∷ Start ∷ MoreStates ∷ [])
+follow MoreStates t.Closes o = Some []
+follow Start t.Zero o = Some []
+follow Start t.One o = Some []
+follow Lets (t.Name n) o = Some (let_or_assign n)
+follow LetName (t.Name n) o = Some []
+follow LetEnd t.Semi o = Some []
+follow AssignEnd t.Semi o = Some []
+follow Assigns (t.Name n) o = Some (Equals ∷ Value ∷ AssignEnd ∷ Assigns ∷ [])
+follow Assigns t.Finishes o = Some []
+follow Value t.Zero o = Some []
+follow Value t.One o = Some []
+follow Value (t.Name n) o = Some (if o then GateOpen ∷ Value ∷ More ∷ [] else [])
+follow GateOpen t.Opens o = Some []
+follow More t.Comma o = Some (Value ∷ More ∷ [])
+follow More t.Closes o = Some []
+follow Open t.Opens o = Some []
+follow Begin t.Begins o = Some []
+follow Colon t.Colon o = Some []
+follow Arrow t.Arrow o = Some []
+follow Equals t.Equals o = Some []
+follow w u o = None
+
+abbrev pub opens_terminal : List Terminal → Bool
+opens_terminal [] = false
+opens_terminal (u ∷ ts) = is_opening u
+
+-- What the grammar still asks for behind tokens; or none, where one is not allowed.
+unfoldable pub allowed : List Wanted → List Terminal → Option (List Wanted)
+allowed wanted [] = Some wanted
+allowed [] (u ∷ ts) = None
+allowed (w ∷ wanted) (u ∷ ts) = option_and_then (λ front. allowed (front ++ wanted) ts) (follow w u (opens_terminal ts))

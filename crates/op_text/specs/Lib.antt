@@ -1,0 +1,11 @@
+pub mod Items
+pub mod Grammar
+pub mod WordOps
+pub mod Rules
+pub mod Lines
+pub mod Language
+pub mod Values
+pub mod Meaning
+pub mod Scratch
+pub mod Trees
+pub mod Spelling

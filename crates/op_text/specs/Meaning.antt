@@ -1,0 +1,124 @@
+-- What an operation means.
+use Rattle.std.specs.Prelude.{ℕ, ◌<◌, ◌^◌, zero, suc, Bool, true, false, not, ◌&&◌, ◌||◌, List, [], ◌∷◌, ◌++◌, map, fold, replicate, bytes_eq, slice_index_or, slice_set, unwrap_or, if◌then◌else◌}
+use Rattle.op_text.specs.declared.tree.Kind.{Kind}
+use Rattle.op_text.specs.declared.tree.Kind.TheVariants.{Word, Bit}
+use Rattle.op_text.specs.declared.tree.Param.{Param}
+use Rattle.op_text.specs.declared.tree.State.{State}
+use Rattle.op_text.specs.declared.tree.WordOp.{WordOp}
+use Rattle.op_text.specs.Language.{Term, Nought, Unity, Named, Negation, Conjunction, Disjunction, Parity, Majority, Equation, Block, Statement, Compute, Visit, Operation}
+use Rattle.op_text.specs.Values.{value, bits, differ, majority, op_value}
+use Rattle.op_text.specs.WordOps.{forms, filled}
+
+-- the value of an expression, where its names have these values
+abbrev pub term_bit : (List ℕ → Bool) → Term → Bool
+term_bit r Nought = false
+term_bit r Unity = true
+term_bit r (Named name) = r name
+term_bit r (Negation a) = not (term_bit r a)
+term_bit r (Conjunction a b) = term_bit r a && term_bit r b
+term_bit r (Disjunction a b) = term_bit r a || term_bit r b
+term_bit r (Parity a b) = differ (term_bit r a) (term_bit r b)
+term_bit r (Majority a b c) = majority (term_bit r a) (term_bit r b) (term_bit r c)
+
+-- what a name holds: n bits for a word, the lowest first, and one for a bit
+pub record Held : Type 0 where
+  pub kind : Kind
+  pub bits : List Bool
+
+abbrev pub width : ℕ → Kind → ℕ
+width n Word = n
+width n Bit = 1
+
+abbrev pub holding : ℕ → Kind → ℕ → Held
+holding n k v = record { kind = k; bits = bits v (width n k) }
+
+abbrev pub number : Held → ℕ
+number h = value h.bits
+
+-- before anything is set each name holds the bit 0
+abbrev pub holds_nothing : List ℕ → Held
+holds_nothing name = record { kind = Bit; bits = false ∷ [] }
+
+-- the names, but this one now has another value
+abbrev pub changed : {V : Type 0} → (List ℕ → V) → List ℕ → V → List ℕ → V
+changed names name v = λ n. if bytes_eq n name then v else names n
+
+-- the bit that is read at a position
+abbrev pub bit_read : ℕ → Held → Bool
+bit_read i h = elim h.kind [ Word ↦ slice_index_or h.bits i false | Bit ↦ slice_index_or h.bits 0 false ]
+
+abbrev pub bit_written : ℕ → Held → Bool → Held
+bit_written i h b = record h { bits = elim h.kind [ Word ↦ slice_set h.bits i b | Bit ↦ b ∷ [] ] }
+
+-- each let names its expression's value, for those behind it
+abbrev pub with_lets : (List ℕ → Bool) → List Equation → List ℕ → Bool
+with_lets r [] = r
+with_lets r (e ∷ es) = with_lets (changed r e.name (term_bit r e.value)) es
+
+-- the assigned names, where all right sides are valued on r
+abbrev pub assigned : (List ℕ → Bool) → ℕ → (List ℕ → Held) → List Equation → List ℕ → Held
+assigned r i names [] = names
+assigned r i names (e ∷ es) = assigned r i (changed names e.name (bit_written i (names e.name) (term_bit r e.value))) es
+
+-- one position of a block
+abbrev pub visited : Block → (List ℕ → Held) → ℕ → List ℕ → Held
+visited block names i = assigned (with_lets (λ n. bit_read i (names n)) block.lets) i names block.assigns
+
+abbrev pub upwards : ℕ → List ℕ
+upwards zero = []
+upwards (suc n) = upwards n ++ n ∷ []
+
+abbrev pub downwards : ℕ → List ℕ
+downwards zero = []
+downwards (suc n) = n ∷ downwards n
+
+abbrev pub positions : Bool → ℕ → List ℕ
+positions down n = if down then downwards n else upwards n
+
+-- before the first position: the assigned words are blank, and the states have their starts
+abbrev pub with_blanks : ℕ → (List ℕ → Held) → List Equation → List ℕ → Held
+with_blanks n names [] = names
+with_blanks n names (e ∷ es) = with_blanks n (changed names e.name (record { kind = Word; bits = replicate n false })) es
+
+abbrev pub with_states : (List ℕ → Held) → List State → List ℕ → Held
+with_states names [] = names
+with_states names (s ∷ ss) = with_states (changed names s.name (record { kind = Bit; bits = s.start ∷ [] })) ss
+
+abbrev pub after_block : ℕ → Block → (List ℕ → Held) → List ℕ → Held
+after_block n block names =
+    fold (visited block) (with_states (with_blanks n names block.assigns) block.states) (positions block.down n)
+
+-- the width of an operation's arguments, which are all words or all bits but for the third
+abbrev pub args_width : ℕ → List Held → ℕ
+args_width n [] = n
+args_width n (h ∷ hs) = width n h.kind
+
+abbrev pub computed : ℕ → WordOp → List Held → Held
+computed n p args =
+    holding n (unwrap_or (filled (forms p) (map (λ h. h.kind) args)) Word) (op_value p (args_width n args) (map number args))
+
+abbrev pub after_statement : ℕ → (List ℕ → Held) → Statement → List ℕ → Held
+after_statement n names (Compute target p args) = changed names target (computed n p (map names args))
+after_statement n names (Visit block) = after_block n block names
+
+-- the sources
+abbrev pub with_sources : ℕ → (List ℕ → Held) → List Param → List ℕ → List ℕ → Held
+with_sources n names [] values = names
+with_sources n names (p ∷ ps) [] = names
+with_sources n names (p ∷ ps) (v ∷ values) = with_sources n (changed names p.name (holding n p.kind v)) ps values
+
+-- the names behind these statements
+abbrev pub after_body : ℕ → List Statement → (List ℕ → Held) → List ℕ → Held
+after_body n body names = fold (after_statement n) names body
+
+-- what the result holds, from the sources' numbers
+abbrev pub outcome : Operation → ℕ → List ℕ → Held
+outcome op n values = after_body n op.body (with_sources n holds_nothing op.params values) op.result.name
+
+-- the result's number
+abbrev pub meaning : Operation → ℕ → List ℕ → ℕ
+meaning op n values = number (outcome op n values)
+
+-- A meaning is below 2 ^ n where the result is a word, and below 2 where it is a bit.
+abbrev pub MeaningFits : Type 0
+MeaningFits = (op : Operation) (n : ℕ) (values : List ℕ) → meaning op n values < 2 ^ width n (outcome op n values).kind

@@ -1,0 +1,413 @@
+-- Which texts are accepted, and the first token that breaks a rule.
+use Rattle.std.specs.Prelude.{ℕ, zero, suc, ◌+◌, ◌-◌, Bool, true, false, ◌&&◌, ◌||◌, not, nat_lt, nat_le, List, [], ◌∷◌, ◌++◌, length, map, filter, Option, Some, None, Result, Ok, Err, bytes_eq, codes, if◌then◌else◌}
+use Rattle.std.specs.List.{list_any}
+use Rattle.text_lex.specs.Lexical.{Item, Lexeme, Whole, Bad}
+use Rattle.text_lex.specs.Spelled.{fits_name}
+use Rattle.op_text.specs.declared.fault.OpsKind.{OpsKind}
+use Rattle.op_text.specs.declared.fault.OpsKind.TheVariants.{Lex, Syntax, BadName, Twice, Unknown, NoResult, TooMany}
+use Rattle.op_text.specs.declared.fault.OpsKind.TheVariants as why
+use Rattle.op_text.specs.declared.fault.Breach.{Breach}
+use Rattle.op_text.specs.declared.terminal.Terminal.{Terminal}
+use Rattle.op_text.specs.declared.terminal.Terminal.TheVariants as t
+use Rattle.op_text.specs.declared.terminal.Spelling.{Spelling}
+use Rattle.op_text.specs.declared.terminal.Spelling.TheVariants as sp
+use Rattle.op_text.specs.declared.gate.Gate.{Gate}
+use Rattle.op_text.specs.declared.gate.Gate.TheVariants as gates
+use Rattle.op_text.specs.declared.tree.Kind.{Kind}
+use Rattle.op_text.specs.declared.tree.Kind.TheVariants.{Word, Bit}
+use Rattle.op_text.specs.declared.tree.Param.{Param}
+use Rattle.op_text.specs.declared.tree.WordOp.{WordOp}
+use Rattle.op_text.specs.declared.tree.WordOp.TheVariants as o
+use Rattle.op_text.specs.Items.{terminal_of, opens, at_token, at_end}
+use Rattle.op_text.specs.declared.grammar.Wanted.{Wanted}
+use Rattle.op_text.specs.declared.grammar.Wanted.TheVariants.{Ops, NewOp, NewParam, ParamKind, NewResult, ResultKind, FirstStmt, Stmts, WordOpName, Args, ArgName, MoreArgs, WordEnd, States, StateName, Lets, LetName, LetEnd, Assigns, Value, More}
+use Rattle.op_text.specs.Grammar.{follow}
+use Rattle.op_text.specs.WordOps.{forms, op_named, lacks, is_begun, is_part, is_whole, filled, same_kind}
+
+-- the limits
+abbrev pub MAX_OPS : ℕ
+MAX_OPS = 32
+
+abbrev pub MAX_SOURCES : ℕ
+MAX_SOURCES = 4
+
+abbrev pub MAX_STATEMENTS : ℕ
+MAX_STATEMENTS = 16
+
+abbrev pub MAX_STATES : ℕ
+MAX_STATES = 8
+
+abbrev pub MAX_ASSIGNS : ℕ
+MAX_ASSIGNS = 8
+
+abbrev pub MAX_LETS : ℕ
+MAX_LETS = 16
+
+abbrev pub MAX_WEIGHT : ℕ
+MAX_WEIGHT = 24
+
+abbrev pub MAX_DEPTH : ℕ
+MAX_DEPTH = 32
+
+-- What stands before a token, within the op: each new name, the names that can be read with their kinds
+-- (the sources alone while these are read), the result, whether it is assigned, and the number of statements.
+pub record InOp : Type 0 where
+  pub stands : List (List ℕ)
+  pub defined : List Param
+  pub result : Option Param
+  pub assigned : Bool
+  pub statements : ℕ
+
+-- within a word statement: its operation and the kinds of the arguments so far
+pub record InWord : Type 0 where
+  pub operation : WordOp
+  pub given : List Kind
+
+-- within a serial block: its states, the states and lets that can be read, the number of lets, the
+-- targets, the weight of the gates, and how many arguments each open gate still lacks, the innermost first
+pub record InBlock : Type 0 where
+  pub states : List (List ℕ)
+  pub readable : List (List ℕ)
+  pub lets : ℕ
+  pub targets : List (List ℕ)
+  pub weight : ℕ
+  pub missing : List ℕ
+
+-- What stands before a token: the ops, what stands within the op, statement and block, and the
+-- parameter, result, let or word statement's target that is being defined, if any.
+pub record Scope : Type 0 where
+  pub ops : List (List ℕ)
+  pub op : InOp
+  pub word : InWord
+  pub block : InBlock
+  pub naming : Option (List ℕ)
+
+abbrev pub new_op : InOp
+new_op = record { stands = []; defined = []; result = None; assigned = false; statements = 0 }
+
+abbrev pub new_word : InWord
+new_word = record { operation = o.Not; given = [] }
+
+abbrev pub new_block : InBlock
+new_block = record { states = []; readable = []; lets = 0; targets = []; weight = 0; missing = [] }
+
+abbrev pub nothing_yet : Scope
+nothing_yet = record { ops = []; op = new_op; word = new_word; block = new_block; naming = None }
+
+abbrev pub is_among : List (List ℕ) → List ℕ → Bool
+is_among names name = list_any (λ n. bytes_eq n name) names
+
+abbrev pub kind_among : List Param → List ℕ → Option Kind
+kind_among [] name = None
+kind_among (p ∷ ps) name = if bytes_eq p.name name then Some p.kind else kind_among ps name
+
+abbrev pub is_known : Option Kind → Bool
+is_known (Some k) = true
+is_known None = false
+
+-- a rule: where it is broken, that is the answer
+abbrev pub unless : Bool → OpsKind → Result Scope OpsKind → Result Scope OpsKind
+unless broken kind rest = if broken then Err kind else rest
+
+-- a name that is too long or reserved
+abbrev pub is_plain : Spelling → Bool
+is_plain sp.Plain = true
+is_plain n = false
+
+abbrev pub is_bad : Spelling → List ℕ → Bool
+is_bad n text = not (is_plain n && fits_name text)
+
+abbrev pub stands_already : Scope → List ℕ → Bool
+stands_already s text = is_among s.op.stands text
+
+abbrev pub is_called : Option Param → List ℕ → Bool
+is_called None text = false
+is_called (Some p) text = bytes_eq p.name text
+
+abbrev pub is_of_kind : Option Param → Kind → Bool
+is_of_kind None k = false
+is_of_kind (Some p) k = same_kind p.kind k
+
+abbrev pub is_result : Scope → List ℕ → Bool
+is_result s text = is_called s.op.result text
+
+abbrev pub is_bit_result : Scope → List ℕ → Bool
+is_bit_result s text = is_result s text && is_of_kind s.op.result Bit
+
+abbrev pub is_open_result : Scope → List ℕ → Bool
+is_open_result s text = is_result s text && not s.op.assigned
+
+-- the name of an op
+abbrev pub op_rules : Scope → Spelling → List ℕ → Result Scope OpsKind
+op_rules s n text =
+    unless (is_bad n text || bytes_eq text (codes "trsp_init")) BadName
+    (unless (is_among s.ops text) Twice
+    (Ok (record s { ops = s.ops ++ text ∷ []; op = new_op })))
+
+-- the name of a source
+abbrev pub source_rules : Scope → Spelling → List ℕ → Result Scope OpsKind
+source_rules s n text =
+    unless (is_bad n text) BadName
+    (unless (stands_already s text) Twice
+    (unless (nat_le MAX_SOURCES (length s.op.defined)) TooMany
+    (Ok (record s { naming = Some text }))))
+
+-- the named source has this kind
+abbrev pub source_of_kind : Scope → Option (List ℕ) → Kind → Scope
+source_of_kind s None k = s
+source_of_kind s (Some name) k =
+    record s { op = record s.op { stands = s.op.stands ++ name ∷ []; defined = s.op.defined ++ record { name = name; kind = k } ∷ [] }; naming = None }
+
+abbrev pub with_source : Scope → Kind → Scope
+with_source s k = source_of_kind s s.naming k
+
+-- the name of a result, or of a let
+abbrev pub naming_rules : Scope → Spelling → List ℕ → Result Scope OpsKind
+naming_rules s n text =
+    unless (is_bad n text) BadName
+    (unless (stands_already s text) Twice
+    (Ok (record s { op = record s.op { stands = s.op.stands ++ text ∷ [] }; naming = Some text })))
+
+-- the named result has this kind
+abbrev pub result_of_kind : Scope → Option (List ℕ) → Kind → Scope
+result_of_kind s None k = s
+result_of_kind s (Some name) k = record s { op = record s.op { result = Some (record { name = name; kind = k }) }; naming = None }
+
+abbrev pub with_result : Scope → Kind → Scope
+with_result s k = result_of_kind s s.naming k
+
+-- the word "serial"
+abbrev pub block_rules : Scope → Result Scope OpsKind
+block_rules s =
+    unless (nat_le MAX_STATEMENTS s.op.statements) TooMany
+    (Ok (record s { op = record s.op { statements = s.op.statements + 1 }; block = new_block }))
+
+-- the target of a word statement
+abbrev pub word_rules : Scope → Spelling → List ℕ → Result Scope OpsKind
+word_rules s n text =
+    unless (is_bad n text) BadName
+    (unless (stands_already s text && not (is_open_result s text)) Twice
+    (unless (nat_le MAX_STATEMENTS s.op.statements) TooMany
+    (Ok (record s { op = record s.op { statements = s.op.statements + 1 }; naming = Some text }))))
+
+abbrev pub statement_rules : Scope → Spelling → List ℕ → Result Scope OpsKind
+statement_rules s sp.Serial text = block_rules s
+statement_rules s n text = word_rules s n text
+
+abbrev pub known_op : Scope → Option WordOp → Result Scope OpsKind
+known_op s None = Err Unknown
+known_op s (Some p) = Ok (record s { word = record s.word { operation = p } })
+
+abbrev pub word_op_rules : Scope → Spelling → List ℕ → Result Scope OpsKind
+word_op_rules s n text = unless (is_bad n text) BadName (known_op s (op_named text))
+
+abbrev pub argument_of_kind : Scope → Option Kind → Result Scope OpsKind
+argument_of_kind s None = Err Unknown
+argument_of_kind s (Some k) =
+    unless (not (list_any (λ f. is_begun (lacks (s.word.given ++ k ∷ []) f.takes)) (forms s.word.operation))) why.Kind
+    (Ok (record s { word = record s.word { given = s.word.given ++ k ∷ [] } }))
+
+-- an argument
+abbrev pub argument_rules : Scope → Spelling → List ℕ → Result Scope OpsKind
+argument_rules s n text = unless (is_bad n text) BadName (argument_of_kind s (kind_among s.op.defined text))
+
+-- "," behind an argument, and ")"
+abbrev pub another_argument : Scope → Result Scope OpsKind
+another_argument s = unless (not (list_any (λ f. is_part (lacks s.word.given f.takes)) (forms s.word.operation))) why.Kind (Ok s)
+
+abbrev pub no_more_arguments : Scope → Result Scope OpsKind
+no_more_arguments s = unless (not (list_any (λ f. is_whole (lacks s.word.given f.takes)) (forms s.word.operation))) why.Kind (Ok s)
+
+-- the ";" of a word statement, whose target is now a name of the kind that its operation gives
+abbrev pub gives_kind : Scope → Option (List ℕ) → Option Kind → Result Scope OpsKind
+gives_kind s target None = Err why.Kind
+gives_kind s None (Some k) = Ok s
+gives_kind s (Some target) (Some k) =
+    unless (is_result s target && not (is_of_kind s.op.result k)) why.Kind
+    (Ok (record s {
+      op = record s.op {
+        stands = s.op.stands ++ target ∷ [];
+        defined = s.op.defined ++ record { name = target; kind = k } ∷ [];
+        assigned = s.op.assigned || is_result s target;
+      };
+      word = new_word;
+      naming = None;
+    }))
+
+abbrev pub word_end : Scope → Result Scope OpsKind
+word_end s = gives_kind s s.naming (filled (forms s.word.operation) s.word.given)
+
+-- a state that is the bit result is no new name
+abbrev pub is_taken_state : Scope → List ℕ → Bool
+is_taken_state s text =
+    if is_bit_result s text then s.op.assigned || is_among s.block.states text else stands_already s text
+
+abbrev pub state_rules : Scope → Spelling → List ℕ → Result Scope OpsKind
+state_rules s n text =
+    unless (is_bad n text) BadName
+    (unless (is_taken_state s text) Twice
+    (unless (nat_le MAX_STATES (length s.block.states)) TooMany
+    (Ok (record s {
+      op = record s.op { stands = s.op.stands ++ text ∷ [] };
+      block = record s.block { states = s.block.states ++ text ∷ []; readable = s.block.readable ++ text ∷ [] };
+    }))))
+
+-- the word "let"
+abbrev pub let_rules : Scope → Result Scope OpsKind
+let_rules s =
+    unless (nat_le MAX_LETS s.block.lets) TooMany
+    (Ok (record s { block = record s.block { lets = s.block.lets + 1 } }))
+
+-- the ";" of a let, which can be read from now on
+abbrev pub let_ends : Scope → Option (List ℕ) → Scope
+let_ends s None = s
+let_ends s (Some name) = record s { block = record s.block { readable = s.block.readable ++ name ∷ [] }; naming = None }
+
+abbrev pub let_end : Scope → Scope
+let_end s = let_ends s s.naming
+
+-- a serial target that is assigned already, or that stands as another name than a state of the block or the open result
+abbrev pub is_taken_target : Scope → List ℕ → Bool
+is_taken_target s text =
+    is_among s.block.targets text || (stands_already s text && not (is_among s.block.states text) && not (is_open_result s text))
+
+abbrev pub target_rules : Scope → Spelling → List ℕ → Result Scope OpsKind
+target_rules s n text =
+    unless (is_bad n text) BadName
+    (unless (is_taken_target s text) Twice
+    (unless (is_bit_result s text && not (is_among s.block.states text)) why.Kind
+    (unless (nat_le MAX_ASSIGNS (length s.block.targets)) TooMany
+    (Ok (record s { block = record s.block { targets = s.block.targets ++ text ∷ [] } })))))
+
+abbrev pub let_or_target : Scope → Spelling → List ℕ → Result Scope OpsKind
+let_or_target s sp.Let text = let_rules s
+let_or_target s n text = target_rules s n text
+
+abbrev pub is_result_among : Scope → List (List ℕ) → Bool
+is_result_among s names = list_any (λ n. is_result s n) names
+
+-- the "}" of a block: its states are bit names now, and its other targets are word names
+abbrev pub block_end : Scope → Scope
+block_end s =
+    let words = filter (λ n. not (is_among s.block.states n)) s.block.targets in
+    record s {
+      op = record s.op {
+        stands = s.op.stands ++ words;
+        defined = s.op.defined ++ map (λ n. record { name = n; kind = Bit }) s.block.states ++ map (λ n. record { name = n; kind = Word }) words;
+        assigned = s.op.assigned || is_result_among s s.block.states || is_result_among s words;
+      };
+      block = new_block;
+    }
+
+abbrev pub gate_named : List ℕ → Option Gate
+gate_named name =
+    if bytes_eq name (codes "not") then Some gates.Not
+    else (if bytes_eq name (codes "and") then Some gates.And
+    else (if bytes_eq name (codes "or") then Some gates.Or
+    else (if bytes_eq name (codes "xor") then Some gates.Xor
+    else (if bytes_eq name (codes "maj") then Some gates.Maj else None))))
+
+abbrev pub gate_arguments : Gate → ℕ
+gate_arguments gates.Not = 1
+gate_arguments gates.And = 2
+gate_arguments gates.Or = 2
+gate_arguments gates.Xor = 2
+gate_arguments gates.Maj = 3
+
+abbrev pub gate_weight : Gate → ℕ
+gate_weight gates.Not = 0
+gate_weight gates.And = 1
+gate_weight gates.Or = 1
+gate_weight gates.Xor = 3
+gate_weight gates.Maj = 1
+
+abbrev pub gate_rules : Scope → Option Gate → Result Scope OpsKind
+gate_rules s None = Err Unknown
+gate_rules s (Some g) =
+    unless (nat_lt MAX_WEIGHT (s.block.weight + gate_weight g) || nat_le MAX_DEPTH (length s.block.missing)) TooMany
+    (Ok (record s { block = record s.block { weight = s.block.weight + gate_weight g; missing = (gate_arguments g - 1) ∷ s.block.missing } }))
+
+abbrev pub is_readable : Scope → List ℕ → Bool
+is_readable s text = is_known (kind_among s.op.defined text) || is_among s.block.readable text
+
+-- a name in a value: a gate where an opening parenthesis follows, else a name that is read
+abbrev pub value_rules : Scope → Spelling → List ℕ → Bool → Result Scope OpsKind
+value_rules s n text opened =
+    unless (is_bad n text) BadName
+    (if opened then gate_rules s (gate_named text) else unless (not (is_readable s text)) Unknown (Ok s))
+
+abbrev pub comma_rules : Scope → List ℕ → Result Scope OpsKind
+comma_rules s [] = Err why.Kind
+comma_rules s (zero ∷ outer) = Err why.Kind
+comma_rules s (suc n ∷ outer) = Ok (record s { block = record s.block { missing = n ∷ outer } })
+
+abbrev pub close_rules : Scope → List ℕ → Result Scope OpsKind
+close_rules s [] = Err why.Kind
+close_rules s (zero ∷ outer) = Ok (record s { block = record s.block { missing = outer } })
+close_rules s (suc n ∷ outer) = Err why.Kind
+
+abbrev pub kind_of_word : Spelling → Kind
+kind_of_word sp.Word = Word
+kind_of_word n = Bit
+
+-- The rules other than the grammar's at a token that the grammar allows: the first that it breaks, in
+-- the order of their numbers, or the scope behind it.
+abbrev pub rules_at : Wanted → Scope → Terminal → List ℕ → Bool → Result Scope OpsKind
+rules_at Ops s (t.Name n) text o = unless (nat_le MAX_OPS (length s.ops)) TooMany (Ok s)
+rules_at NewOp s (t.Name n) text o = op_rules s n text
+rules_at NewParam s (t.Name n) text o = source_rules s n text
+rules_at ParamKind s (t.Name n) text o = Ok (with_source s (kind_of_word n))
+rules_at NewResult s (t.Name n) text o = naming_rules s n text
+rules_at ResultKind s (t.Name n) text o = Ok (with_result s (kind_of_word n))
+rules_at FirstStmt s (t.Name n) text o = statement_rules s n text
+rules_at Stmts s (t.Name n) text o = statement_rules s n text
+rules_at Stmts s t.Finishes text o = unless (not s.op.assigned) NoResult (Ok (record s { op = new_op }))
+rules_at WordOpName s (t.Name n) text o = word_op_rules s n text
+rules_at Args s (t.Name n) text o = argument_rules s n text
+rules_at Args s t.Closes text o = no_more_arguments s
+rules_at ArgName s (t.Name n) text o = argument_rules s n text
+rules_at MoreArgs s t.Comma text o = another_argument s
+rules_at MoreArgs s t.Closes text o = no_more_arguments s
+rules_at WordEnd s t.Semi text o = word_end s
+rules_at States s (t.Name n) text o = state_rules s n text
+rules_at StateName s (t.Name n) text o = state_rules s n text
+rules_at Lets s (t.Name n) text o = let_or_target s n text
+rules_at LetName s (t.Name n) text o = naming_rules s n text
+rules_at LetEnd s t.Semi text o = Ok (let_end s)
+rules_at Assigns s (t.Name n) text o = target_rules s n text
+rules_at Assigns s t.Finishes text o = Ok (block_end s)
+rules_at Value s (t.Name n) text o = value_rules s n text o
+rules_at More s t.Comma text o = comma_rules s s.block.missing
+rules_at More s t.Closes text o = close_rules s s.block.missing
+rules_at w s u text o = Ok s
+
+abbrev pub with_rules : Option (List Wanted) → Result Scope OpsKind → Result (List Wanted × Scope) OpsKind
+with_rules None rules = Err Syntax
+with_rules (Some wanted) (Err kind) = Err kind
+with_rules (Some wanted) (Ok s) = Ok (wanted, s)
+
+-- a token, where this is wanted
+abbrev pub step : Wanted → Scope → Terminal → List ℕ → Bool → Result (List Wanted × Scope) OpsKind
+step w s u text opened = with_rules (follow w u opened) (rules_at w s u text opened)
+
+-- the end of the text, where this is wanted
+abbrev pub ends : List Wanted → Option Breach
+ends [] = None
+ends (Ops ∷ wanted) = None
+ends (w ∷ wanted) = Some at_end
+
+abbrev pub after : Result (List Wanted × Scope) OpsKind → Lexeme → (List Wanted → Scope → Option Breach) → Option Breach
+after (Ok r) u go = go r.0 r.1
+after (Err kind) u go = Some (at_token u kind)
+
+-- The first token that breaks a rule, if any, where all this is wanted.
+unfoldable pub breach_of : List Wanted → Scope → List Item → Option Breach
+breach_of wanted s [] = ends wanted
+breach_of wanted s (Bad f ∷ items) = Some (record { at = Some f.at; kind = Lex })
+breach_of [] s (Whole u ∷ items) = Some (at_token u Syntax)
+breach_of (w ∷ wanted) s (Whole u ∷ items) =
+    after (step w s (terminal_of u.kind u.text) u.text (opens items)) u (λ front scope. breach_of (front ++ wanted) scope items)
+
+-- the first token of a text that breaks a rule, if any
+abbrev pub first_breach : List Item → Option Breach
+first_breach items = breach_of (Ops ∷ []) nothing_yet items

@@ -1,0 +1,157 @@
+-- The scratch that an operation needs, and how many commands it may take.
+use Rattle.std.specs.Prelude.{ℕ, ◌+◌, ◌*◌, ◌^◌, max, not, ◌&&◌, List, [], ◌∷◌, ◌++◌, length, map, filter, count_by, sum, bytes_eq, unwrap_or, Some, None}
+use Rattle.op_text.specs.declared.tree.Kind.{Kind}
+use Rattle.op_text.specs.declared.tree.Kind.TheVariants.{Word, Bit}
+use Rattle.op_text.specs.declared.tree.Param.{Param}
+use Rattle.op_text.specs.declared.tree.WordOp.{WordOp}
+use Rattle.op_text.specs.declared.tree.WordOp.TheVariants as o
+use Rattle.op_text.specs.Language.{Term, Nought, Unity, Named, Negation, Conjunction, Disjunction, Parity, Majority, Equation, Block, Statement, Compute, Visit, Operation}
+use Rattle.op_text.specs.Rules.{is_among, kind_among}
+use Rattle.op_text.specs.WordOps.{forms, given_first, same_kind}
+use Rattle.op_text.specs.Meaning.{width}
+
+-- the internal scratch of one statement of an operation
+abbrev pub bits_inside : WordOp → ℕ
+bits_inside o.Shl1 = 1
+bits_inside o.Shr1 = 1
+bits_inside o.Add = 1
+bits_inside o.Sub = 1
+bits_inside o.Mul = 1
+bits_inside o.Div = 2
+bits_inside o.Rem = 2
+bits_inside o.Abs = 1
+bits_inside o.Min = 1
+bits_inside o.Max = 1
+bits_inside o.Bitcount = 1
+bits_inside p = 0
+
+abbrev pub words_inside : WordOp → ℕ
+words_inside o.Div = 2
+words_inside o.Rem = 2
+words_inside p = 0
+
+-- the greatest number of commands of one statement at width n
+abbrev pub op_ceiling : WordOp → ℕ → ℕ
+op_ceiling o.Not n = 3 * n
+op_ceiling o.And n = 7 * n
+op_ceiling o.Or n = 7 * n
+op_ceiling o.Xor n = 15 * n
+op_ceiling o.Copy n = 3 * n
+op_ceiling o.Zero n = 3 * n
+op_ceiling o.Ones n = 3 * n
+op_ceiling o.Shl1 n = 6 * n + 1
+op_ceiling o.Shr1 n = 6 * n + 1
+op_ceiling o.Add n = 18 * n + 1
+op_ceiling o.Sub n = 18 * n + 1
+op_ceiling o.Mul n = 11 * n ^ 2 + 15 * n
+op_ceiling o.Div n = 29 * n ^ 2 + 18 * n
+op_ceiling o.Rem n = 29 * n ^ 2 + 18 * n
+op_ceiling o.Abs n = 34 * n + 1
+op_ceiling o.Relu n = 7 * n
+op_ceiling o.Min n = 22 * n + 1
+op_ceiling o.Max n = 22 * n + 1
+op_ceiling o.Eq n = 19 * n + 1
+op_ceiling o.Gt n = 7 * n + 1
+op_ceiling o.Ge n = 7 * n + 1
+op_ceiling o.IfElse n = 15 * n
+op_ceiling o.Bitcount n = 22 * n ^ 2 + 4 * n
+op_ceiling o.AndRed n = 7 * n + 1
+op_ceiling o.OrRed n = 7 * n + 1
+op_ceiling o.XorRed n = 15 * n + 1
+
+-- the same with bodies that use the designated rows well
+abbrev pub low_op_ceiling : WordOp → ℕ → ℕ
+low_op_ceiling o.Not n = 2 * n
+low_op_ceiling o.And n = 4 * n
+low_op_ceiling o.Or n = 4 * n
+low_op_ceiling o.Xor n = 7 * n
+low_op_ceiling o.Add n = 9 * n + 1
+low_op_ceiling p n = op_ceiling p n
+
+abbrev pub param : List ℕ → Kind → Param
+param name k = record { name = name; kind = k }
+
+-- the kinds of the names of arguments, where these names are known
+abbrev pub kind_of : List Param → List ℕ → Kind
+kind_of known name = unwrap_or (kind_among known name) Word
+
+-- the kind of a word statement's result, which its first argument settles
+abbrev pub result_kind : List Param → WordOp → List (List ℕ) → Kind
+result_kind known p [] = given_first (forms p) None
+result_kind known p (name ∷ names) = given_first (forms p) (Some (kind_of known name))
+
+abbrev pub state_names : Block → List (List ℕ)
+state_names block = map (λ s. s.name) block.states
+
+-- the assigned names of a block that are no states
+abbrev pub word_names : Block → List (List ℕ)
+word_names block = filter (λ n. not (is_among (state_names block) n)) (map (λ (e : Equation). e.name) block.assigns)
+
+-- the names that a statement defines, the result among them
+abbrev pub defines : List Param → Statement → List Param
+defines known (Compute target p args) = param target (result_kind known p args) ∷ []
+defines known (Visit block) = map (λ n. param n Bit) (state_names block) ++ map (λ n. param n Word) (word_names block)
+
+-- all names that a body defines
+abbrev pub body_defines : List Param → List Statement → List Param
+body_defines known [] = []
+body_defines known (s ∷ body) = defines known s ++ body_defines (known ++ defines known s) body
+
+abbrev pub need_inside : (WordOp → ℕ) → Statement → ℕ
+need_inside f (Compute target p args) = f p
+need_inside f (Visit block) = 0
+
+abbrev pub greatest : List ℕ → ℕ
+greatest [] = 0
+greatest (n ∷ ns) = max n (greatest ns)
+
+-- the scratch rows: the names of a kind other than the result, and the largest need of a statement
+abbrev pub scratch_names : Kind → Operation → ℕ
+scratch_names k op =
+    count_by (λ p. same_kind p.kind k && not (bytes_eq p.name op.result.name)) (body_defines op.params op.body)
+
+abbrev pub scratch_bits : Operation → ℕ
+scratch_bits op = scratch_names Bit op + greatest (map (need_inside bits_inside) op.body)
+
+abbrev pub scratch_words : Operation → ℕ
+scratch_words op = scratch_names Word op + greatest (map (need_inside words_inside) op.body)
+
+abbrev pub need : Operation → ℕ → ℕ
+need op n = scratch_bits op + n * scratch_words op
+
+-- the weight of an expression's gates
+abbrev pub term_weight : Term → ℕ
+term_weight Nought = 0
+term_weight Unity = 0
+term_weight (Named name) = 0
+term_weight (Negation a) = term_weight a
+term_weight (Conjunction a b) = 1 + term_weight a + term_weight b
+term_weight (Disjunction a b) = 1 + term_weight a + term_weight b
+term_weight (Parity a b) = 3 + term_weight a + term_weight b
+term_weight (Majority a b c) = 1 + term_weight a + term_weight b + term_weight c
+
+abbrev pub block_weight : Block → ℕ
+block_weight block =
+    sum (map (λ (e : Equation). term_weight e.value) block.lets) + sum (map (λ (e : Equation). term_weight e.value) block.assigns)
+
+abbrev pub block_ceiling : Block → ℕ → ℕ
+block_ceiling block n = n * (4 * block_weight block + 3 * length block.assigns) + length block.states
+
+-- the width of an operation's arguments
+abbrev pub names_width : List Param → ℕ → List (List ℕ) → ℕ
+names_width known n [] = n
+names_width known n (name ∷ names) = width n (kind_of known name)
+
+abbrev pub statement_ceiling : (WordOp → ℕ → ℕ) → List Param → ℕ → Statement → ℕ
+statement_ceiling f known n (Compute target p args) = f p (names_width known n args)
+statement_ceiling f known n (Visit block) = block_ceiling block n
+
+abbrev pub body_ceiling : (WordOp → ℕ → ℕ) → List Param → ℕ → List Statement → ℕ
+body_ceiling f known n [] = 0
+body_ceiling f known n (s ∷ body) = statement_ceiling f known n s + body_ceiling f (known ++ defines known s) n body
+
+abbrev pub ceiling : Operation → ℕ → ℕ
+ceiling op n = body_ceiling op_ceiling op.params n op.body
+
+abbrev pub low_ceiling : Operation → ℕ → ℕ
+low_ceiling op n = body_ceiling low_op_ceiling op.params n op.body

@@ -1,0 +1,46 @@
+//! Laws of the definitions.
+
+ghost use Rattle.op_text.specs.Trees.{IsTheGrammar, SyntaxIsTheGrammars};
+ghost use Rattle.op_text.specs.WordOps.{FirstSettles};
+ghost use Rattle.op_text.specs.Meaning.{MeaningFits};
+ghost use Rattle.op_text.specs.Spelling.{TermsAreAccepted, PlacesDoNotMatter, SpelledOnce, OpsSpelledOnce};
+
+/// What the grammar's steps accept is the grammar's texts, and they allow what these begin with.
+pub fn grammar_is_followed()
+    ensures { IsTheGrammar }
+{}
+
+/// A breach of the grammar stands where no text of the grammar goes on.
+pub fn syntax_is_the_grammars()
+    ensures { SyntaxIsTheGrammars }
+{}
+
+/// An expression that meets the rules breaks none where it is spelled.
+pub fn terms_are_accepted()
+    ensures { TermsAreAccepted }
+{}
+
+/// Whether tokens break a rule does not rest on their places.
+pub fn places_do_not_matter()
+    ensures { PlacesDoNotMatter }
+{}
+
+/// No two expressions are spelled alike.
+pub fn spelled_once()
+    ensures { SpelledOnce }
+{}
+
+/// A meaning is below `2 ^ n`, or below 2 where the result is a bit.
+pub fn meaning_fits()
+    ensures { MeaningFits }
+{}
+
+/// The kind of a word operation's first argument settles that of its result.
+pub fn first_settles()
+    ensures { FirstSettles }
+{}
+
+/// No two lists of ops are spelled alike.
+pub fn ops_spelled_once()
+    ensures { OpsSpelledOnce }
+{}

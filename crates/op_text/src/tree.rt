@@ -1,0 +1,97 @@
+//! Operations as trees.
+
+use text_lex::Name;
+
+#[derive(Clone, Copy, Debug, PartialEq, Eq)]
+pub enum Kind {
+    Word,
+    Bit,
+}
+
+#[derive(Debug, Drop, PartialEq, Eq)]
+pub struct Param {
+    pub name: Name,
+    pub kind: Kind,
+}
+
+#[derive(Clone, Copy, Debug, PartialEq, Eq)]
+pub enum WordOp {
+    Not,
+    And,
+    Or,
+    Xor,
+    Copy,
+    Zero,
+    Ones,
+    Shl1,
+    Shr1,
+    Add,
+    Sub,
+    Mul,
+    Div,
+    Rem,
+    Abs,
+    Relu,
+    Min,
+    Max,
+    Eq,
+    Gt,
+    Ge,
+    IfElse,
+    Bitcount,
+    AndRed,
+    OrRed,
+    XorRed,
+}
+
+#[derive(Debug, Drop)]
+pub enum Expr {
+    Zero,
+    One,
+    Read(Name),
+    Not(Box<Expr>),
+    And(Box<Expr>, Box<Expr>),
+    Or(Box<Expr>, Box<Expr>),
+    Xor(Box<Expr>, Box<Expr>),
+    Maj(Box<Expr>, Box<Expr>, Box<Expr>),
+}
+
+#[derive(Debug, Drop, PartialEq, Eq)]
+pub struct State {
+    pub name: Name,
+    pub start: bool,
+}
+
+#[derive(Debug, Drop)]
+pub struct Assign {
+    pub name: Name,
+    pub value: Expr,
+}
+
+#[derive(Debug, Drop)]
+pub enum Stmt {
+    Word {
+        dst: Name,
+        op: WordOp,
+        args: Vec<Name>,
+    },
+    Serial {
+        down: bool,
+        states: Vec<State>,
+        lets: Vec<Assign>,
+        assigns: Vec<Assign>,
+    },
+}
+
+#[derive(Debug, Drop)]
+pub struct Op {
+    pub name: Name,
+    pub params: Vec<Param>,
+    pub result: Param,
+    pub body: Vec<Stmt>,
+}
+
+#[derive(Debug, Drop)]
+pub struct Ops {
+    pub ops: Vec<Op>,
+}
