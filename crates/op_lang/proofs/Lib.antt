@@ -1,0 +1,7 @@
+pub mod Taking
+pub mod Single
+pub mod Loops
+pub mod Lengths
+pub mod Ending
+pub mod Counts
+pub mod Meeting

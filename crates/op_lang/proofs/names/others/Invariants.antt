@@ -1,0 +1,6 @@
+use Rattle.std.proofs.Common.{◌≡◌, filter, not, take}
+use Rattle.op_text.specs.Rules.{is_among}
+use Rattle.op_lang.proofs.names.others.Given as goal
+
+abbrev pub invariant-loop-name : goal.invariant-loop-name
+invariant-loop-name l = l.kept.items ≡ filter (λ n. not (is_among l.without n)) (take l.name-index l.names)

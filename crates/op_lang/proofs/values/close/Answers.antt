@@ -1,0 +1,11 @@
+use Rattle.std.proofs.Common.{[], ◌∷◌}
+use Rattle.op_text.specs.declared.grammar.Wanted.TheVariants as w
+use Rattle.op_lang.proofs.Taking.{exits}
+use Rattle.op_lang.proofs.Single.{close_took}
+use Rattle.op_lang.proofs.values.close.Goals as goal
+
+pub returns-in_err-take-clause-moves : goal.returns-in_err-take-clause-moves
+returns-in_err-take-clause-moves c = λ outer h. exits (w.More ∷ []) _ _ _ (λ x. []) _ c.from_residual.ensures.1 c.in_err-take.ensures
+
+pub returns-clause-moves : goal.returns-clause-moves
+returns-clause-moves c = λ outer h more. (close_took _ _ _ _ outer h c.in_ok-take.ensures).moves more

@@ -1,0 +1,15 @@
+-- Parts of a text that may be missing.
+use Rattle.std.specs.Prelude.{ℕ, List, [], ◌∷◌, Option, Some, None, codes}
+use Rattle.op_text.specs.declared.grammar.Wanted.{Wanted}
+use Rattle.op_text.specs.declared.grammar.Wanted.TheVariants as w
+use Rattle.op_text.specs.declared.tree.Stmt.{Stmt}
+use Rattle.op_text.specs.Language.{statement}
+use Rattle.op_text.specs.Spelling.{statement_text}
+
+abbrev pub behind_statement : Option Stmt → List Wanted
+behind_statement (Some s) = w.Stmts ∷ []
+behind_statement None = []
+
+abbrev pub statement_or_end : Option Stmt → List (List ℕ) → List (List ℕ)
+statement_or_end (Some s) rest = statement_text (statement s) rest
+statement_or_end None rest = codes "}" ∷ rest

@@ -1,0 +1,216 @@
+-- Single tokens: what each is spelled by and what comes behind it.
+use Rattle.std.specs.Prelude.{◌≡◌, ℕ, ◌-◌, Bool, true, false, List, [], ◌∷◌, Option, Some, None, codes}
+use Rattle.op_text.specs.declared.grammar.Wanted.{Wanted}
+use Rattle.op_text.specs.declared.grammar.Wanted.TheVariants as w
+use Rattle.op_text.specs.declared.terminal.Terminal.{Terminal}
+use Rattle.op_text.specs.declared.terminal.Terminal.TheVariants as t
+use Rattle.op_text.specs.declared.terminal.Spelling.TheVariants as sp
+use Rattle.op_text.specs.declared.gate.Gate.{Gate}
+use Rattle.op_text.specs.declared.gate.Gate.TheVariants as gates
+use Rattle.op_text.specs.declared.tree.Kind.{Kind}
+use Rattle.op_text.specs.declared.tree.Kind.TheVariants.{Word, Bit}
+use Rattle.op_text.specs.Language.{Term, Conjunction, Disjunction, Parity}
+use Rattle.op_text.specs.Rules.{gate_arguments}
+use Rattle.op_lang.specs.declared.pieces.Start.{Start}
+use Rattle.op_lang.specs.declared.pieces.Start.TheVariants as start
+use Rattle.op_lang.specs.declared.pieces.Leaf.{Leaf}
+use Rattle.op_lang.specs.declared.pieces.Leaf.TheVariants as leaf
+
+-- the symbols that one spelling fits
+abbrev pub is_mark : Wanted → Bool
+is_mark w.Open = true
+is_mark w.Begin = true
+is_mark w.Colon = true
+is_mark w.Arrow = true
+is_mark w.Equals = true
+is_mark w.WordEnd = true
+is_mark w.LetEnd = true
+is_mark w.AssignEnd = true
+is_mark w.GateOpen = true
+is_mark wanted = false
+
+abbrev pub mark_text : Wanted → List ℕ
+mark_text w.Open = codes "("
+mark_text w.Begin = codes "{"
+mark_text w.Colon = codes ":"
+mark_text w.Arrow = codes "->"
+mark_text w.Equals = codes "="
+mark_text w.WordEnd = codes ";"
+mark_text w.LetEnd = codes ";"
+mark_text w.AssignEnd = codes ";"
+mark_text w.GateOpen = codes "("
+mark_text wanted = []
+
+-- the symbols that a name fits and nothing else, with nothing behind it
+abbrev pub is_name : Wanted → Bool
+is_name w.NewOp = true
+is_name w.NewParam = true
+is_name w.NewResult = true
+is_name w.ArgName = true
+is_name w.StateName = true
+is_name w.LetName = true
+is_name wanted = false
+
+-- the symbols that a name or the end of a list fits
+abbrev pub is_name_or_end : Wanted → Bool
+is_name_or_end w.Args = true
+is_name_or_end w.States = true
+is_name_or_end w.Assigns = true
+is_name_or_end wanted = false
+
+abbrev pub behind_name : Wanted → List Wanted
+behind_name w.Args = w.MoreArgs ∷ []
+behind_name w.States = w.Equals ∷ w.Start ∷ w.MoreStates ∷ []
+behind_name wanted = w.Equals ∷ w.Value ∷ w.AssignEnd ∷ w.Assigns ∷ []
+
+abbrev pub behind_name_or_end : Wanted → Option (List ℕ) → List Wanted
+behind_name_or_end wanted (Some name) = behind_name wanted
+behind_name_or_end wanted None = []
+
+abbrev pub end_text : Wanted → List ℕ
+end_text w.Assigns = codes "}"
+end_text wanted = codes ")"
+
+abbrev pub name_or_end : Wanted → Option (List ℕ) → List ℕ
+name_or_end wanted (Some name) = name
+name_or_end wanted None = end_text wanted
+
+-- the symbols where a list goes on or ends
+abbrev pub is_more : Wanted → Bool
+is_more w.Params = true
+is_more w.MoreArgs = true
+is_more w.MoreStates = true
+is_more wanted = false
+
+abbrev pub behind_comma : Wanted → List Wanted
+behind_comma w.Params = w.NewParam ∷ w.Colon ∷ w.ParamKind ∷ w.Params ∷ []
+behind_comma w.MoreArgs = w.ArgName ∷ w.MoreArgs ∷ []
+behind_comma wanted = w.StateName ∷ w.Equals ∷ w.Start ∷ w.MoreStates ∷ []
+
+abbrev pub behind_comma_or_close : Wanted → Bool → List Wanted
+behind_comma_or_close wanted true = behind_comma wanted
+behind_comma_or_close wanted false = []
+
+abbrev pub comma_or_close : Bool → List ℕ
+comma_or_close true = codes ","
+comma_or_close false = codes ")"
+
+abbrev pub is_kind : Wanted → Bool
+is_kind w.ParamKind = true
+is_kind w.ResultKind = true
+is_kind wanted = false
+
+abbrev pub is_statement : Wanted → Bool
+is_statement w.FirstStmt = true
+is_statement w.Stmts = true
+is_statement wanted = false
+
+-- what a terminal tells, where one of its kind is wanted
+abbrev pub kind_at : Terminal → Kind
+kind_at (t.Name sp.Word) = Word
+kind_at u = Bit
+
+abbrev pub is_named : Terminal → Bool
+is_named (t.Name n) = true
+is_named u = false
+
+abbrev pub is_finish : Terminal → Bool
+is_finish t.Finishes = true
+is_finish u = false
+
+abbrev pub is_serial_word : Terminal → Bool
+is_serial_word (t.Name sp.Serial) = true
+is_serial_word u = false
+
+abbrev pub is_let_word : Terminal → Bool
+is_let_word (t.Name sp.Let) = true
+is_let_word u = false
+
+abbrev pub is_down : Terminal → Bool
+is_down (t.Name sp.Down) = true
+is_down u = false
+
+abbrev pub is_one : Terminal → Bool
+is_one t.One = true
+is_one u = false
+
+abbrev pub is_comma : Terminal → Bool
+is_comma t.Comma = true
+is_comma u = false
+
+-- behind the first token of a statement
+abbrev pub behind_start : Start → List Wanted
+behind_start (start.Word name) = w.Equals ∷ w.WordOpName ∷ w.Open ∷ w.Args ∷ w.WordEnd ∷ w.Stmts ∷ []
+behind_start start.Serial = w.Direction ∷ w.Open ∷ w.States ∷ w.Begin ∷ w.Lets ∷ w.Stmts ∷ []
+behind_start start.End = []
+
+abbrev pub start_spelled : Start → List ℕ
+start_spelled (start.Word name) = name
+start_spelled start.Serial = codes "serial"
+start_spelled start.End = codes "}"
+
+-- behind the first token of a line: the target of the first assignment, or the word "let"
+abbrev pub behind_line : Option (List ℕ) → List Wanted
+behind_line (Some target) = w.Equals ∷ w.Value ∷ w.AssignEnd ∷ w.Assigns ∷ []
+behind_line None = w.LetName ∷ w.Equals ∷ w.Value ∷ w.LetEnd ∷ w.Lets ∷ []
+
+abbrev pub line_spelled : Option (List ℕ) → List ℕ
+line_spelled (Some target) = target
+line_spelled None = codes "let"
+
+-- behind the first token of a value
+abbrev pub behind_leaf : Leaf → List Wanted
+behind_leaf (leaf.Gate g) = w.GateOpen ∷ w.Value ∷ w.More ∷ []
+behind_leaf l = []
+
+abbrev pub gate_text : Gate → List ℕ
+gate_text gates.Not = codes "not"
+gate_text gates.And = codes "and"
+gate_text gates.Or = codes "or"
+gate_text gates.Xor = codes "xor"
+gate_text gates.Maj = codes "maj"
+
+abbrev pub leaf_spelled : Leaf → List ℕ
+leaf_spelled leaf.Zero = codes "0"
+leaf_spelled leaf.One = codes "1"
+leaf_spelled (leaf.Read name) = name
+leaf_spelled (leaf.Gate g) = gate_text g
+
+-- the leaf of a constant
+abbrev pub bit_leaf : Terminal → Leaf
+bit_leaf t.One = leaf.One
+bit_leaf u = leaf.Zero
+
+-- a gate of two arguments
+abbrev pub with_two : Gate → Term → Term → Term
+with_two gates.And a b = Conjunction a b
+with_two gates.Or a b = Disjunction a b
+with_two g a b = Parity a b
+
+-- the arguments that open gates lack behind it
+abbrev pub lacking : Leaf → List ℕ → List ℕ
+lacking (leaf.Gate g) missing = (gate_arguments g - 1) ∷ missing
+lacking l missing = missing
+
+-- a terminal's spelling, if it has only one
+abbrev pub IsSpelled : Terminal → List ℕ → Type 0
+IsSpelled (t.Name sp.Plain) text = Unit {0}
+IsSpelled (t.Name sp.Op) text = text ≡ codes "op"
+IsSpelled (t.Name sp.Word) text = text ≡ codes "word"
+IsSpelled (t.Name sp.Bit) text = text ≡ codes "bit"
+IsSpelled (t.Name sp.Serial) text = text ≡ codes "serial"
+IsSpelled (t.Name sp.Up) text = text ≡ codes "up"
+IsSpelled (t.Name sp.Down) text = text ≡ codes "down"
+IsSpelled (t.Name sp.Let) text = text ≡ codes "let"
+IsSpelled t.Zero text = text ≡ codes "0"
+IsSpelled t.One text = text ≡ codes "1"
+IsSpelled t.Equals text = text ≡ codes "="
+IsSpelled t.Opens text = text ≡ codes "("
+IsSpelled t.Closes text = text ≡ codes ")"
+IsSpelled t.Begins text = text ≡ codes "{"
+IsSpelled t.Finishes text = text ≡ codes "}"
+IsSpelled t.Comma text = text ≡ codes ","
+IsSpelled t.Semi text = text ≡ codes ";"
+IsSpelled t.Colon text = text ≡ codes ":"
+IsSpelled t.Arrow text = text ≡ codes "->"
+IsSpelled t.Other text = Unit {0}

@@ -1,0 +1,113 @@
+//! The rules at the tokens of an op's head, and at its end.
+
+ghost use Rattle.std.specs.Prelude.{◌≡◌, ◌++◌, [], ◌∷◌, ◌||◌, not, length, nat_le, Ok};
+ghost use Rattle.op_text.specs.declared.fault.OpsKind.TheVariants.{TooMany, NoResult};
+ghost use Rattle.op_text.specs.Rules as rules;
+ghost use Rattle.op_lang.specs.Seen.{seen, Judges};
+
+use crate::fault::Refused;
+use crate::names::{define, good_name, is_among, keep};
+use crate::scope::{InOp, Scope};
+use op_text::{Kind, OpsKind, Param, Spelling};
+
+/// The word `op`.
+pub(crate) fn another_op(scope: &mut Scope) -> Result<(), Refused>
+    ensures { Judges (rules.unless (nat_le rules.MAX_OPS (length (seen scope.old).ops)) TooMany (Ok (seen scope.old))) result (seen scope.new) }
+{
+    if scope.ops.len() >= 32 {
+        return Err(Refused::Rule(OpsKind::TooMany));
+    }
+    Ok(())
+}
+
+pub(crate) fn op_name(scope: &mut Scope, spelling: Spelling, text: &[u8]) -> Result<(), Refused>
+    ensures { Judges (rules.op_rules (seen scope.old) spelling text.now) result (seen scope.new) }
+{
+    let Some(name) = good_name(spelling, text) else {
+        return Err(Refused::Rule(OpsKind::BadName));
+    };
+    if text == b"trsp_init".as_slice() {
+        return Err(Refused::Rule(OpsKind::BadName));
+    }
+    if is_among(&scope.ops, text) {
+        return Err(Refused::Rule(OpsKind::Twice));
+    }
+    if !keep(&mut scope.ops, name) {
+        return Err(Refused::Memory);
+    }
+    scope.op = InOp::new(scope.alloc);
+    Ok(())
+}
+
+pub(crate) fn source_name(scope: &mut Scope, spelling: Spelling, text: &[u8]) -> Result<(), Refused>
+    ensures { Judges (rules.source_rules (seen scope.old) spelling text.now) result (seen scope.new) }
+{
+    let Some(name) = good_name(spelling, text) else {
+        return Err(Refused::Rule(OpsKind::BadName));
+    };
+    if is_among(&scope.op.stands, text) {
+        return Err(Refused::Rule(OpsKind::Twice));
+    }
+    if scope.op.defined.len() >= 4 {
+        return Err(Refused::Rule(OpsKind::TooMany));
+    }
+    scope.naming = Some(name);
+    Ok(())
+}
+
+pub(crate) fn source_kind(scope: &mut Scope, kind: Kind) -> Result<(), Refused>
+    ensures { Judges (Ok (rules.with_source (seen scope.old) kind)) result (seen scope.new) }
+{
+    let Some(name) = &scope.naming else {
+        return Ok(());
+    };
+    if !keep(&mut scope.op.stands, name.copied())
+        || !define(&mut scope.op.defined, name.copied(), kind)
+    {
+        return Err(Refused::Memory);
+    }
+    scope.naming = None;
+    Ok(())
+}
+
+/// The name of a result, or of a let.
+pub(crate) fn new_name(scope: &mut Scope, spelling: Spelling, text: &[u8]) -> Result<(), Refused>
+    ensures { Judges (rules.naming_rules (seen scope.old) spelling text.now) result (seen scope.new) }
+{
+    let Some(name) = good_name(spelling, text) else {
+        return Err(Refused::Rule(OpsKind::BadName));
+    };
+    if is_among(&scope.op.stands, text) {
+        return Err(Refused::Rule(OpsKind::Twice));
+    }
+    if !keep(&mut scope.op.stands, name.copied()) {
+        return Err(Refused::Memory);
+    }
+    scope.naming = Some(name);
+    Ok(())
+}
+
+pub(crate) fn result_kind(scope: &mut Scope, kind: Kind) -> Result<(), Refused>
+    ensures { Judges (Ok (rules.with_result (seen scope.old) kind)) result (seen scope.new) }
+{
+    let Some(name) = &scope.naming else {
+        return Ok(());
+    };
+    scope.op.result = Some(Param {
+        name: name.copied(),
+        kind,
+    });
+    scope.naming = None;
+    Ok(())
+}
+
+/// The `}` of an op.
+pub(crate) fn op_end(scope: &mut Scope) -> Result<(), Refused>
+    ensures { Judges (rules.unless (not (seen scope.old).op.assigned) NoResult (Ok (record (seen scope.old) { op = rules.new_op }))) result (seen scope.new) }
+{
+    if !scope.op.assigned {
+        return Err(Refused::Rule(OpsKind::NoResult));
+    }
+    scope.op = InOp::new(scope.alloc);
+    Ok(())
+}

@@ -1,0 +1,154 @@
+//! Names in lists.
+
+ghost use Rattle.std.specs.Prelude.{◌≡◌, ◌++◌, [], ◌∷◌, map, filter, not, true, Some, None, IfSome, if◌then◌else◌};
+ghost use Rattle.std.specs.List.{list_any};
+ghost use Rattle.op_text.specs.Rules.{is_among, is_bad, is_called, is_of_kind, kind_among, kind_of_word};
+ghost use Rattle.op_text.specs.WordOps.{same_kind};
+
+use op_text::{Kind, Param, Spelling};
+use std::alloc::Global;
+use text_lex::Name;
+
+pub(crate) fn is_among(names: &[Name], name: &[u8]) -> bool
+    ensures { result ≡ is_among names.now name.now }
+{
+    names.iter().any(|n| n.bytes() == name)
+}
+
+/// A name that is not reserved and not too long.
+pub(crate) fn good_name(spelling: Spelling, text: &[u8]) -> Option<Name>
+    ensures { result ≡ (if is_bad spelling text.now then None else Some text.now) }
+{
+    match spelling {
+        Spelling::Plain => Name::new(text),
+        _ => None,
+    }
+}
+
+/// A name that is reserved or too long.
+pub(crate) fn is_bad(spelling: Spelling, text: &[u8]) -> bool
+    ensures { result ≡ is_bad spelling text.now }
+{
+    match good_name(spelling, text) {
+        Some(_) => false,
+        None => true,
+    }
+}
+
+pub(crate) fn is_called(param: &Option<Param>, text: &[u8]) -> bool
+    ensures { result ≡ is_called param.now text.now }
+{
+    match param {
+        None => false,
+        Some(param) => param.name.bytes() == text,
+    }
+}
+
+pub(crate) fn is_same_kind(a: Kind, b: Kind) -> bool
+    ensures { result ≡ same_kind a b }
+{
+    match (a, b) {
+        (Kind::Word, Kind::Word) => true,
+        (Kind::Bit, Kind::Bit) => true,
+        (Kind::Word, Kind::Bit) => false,
+        (Kind::Bit, Kind::Word) => false,
+    }
+}
+
+pub(crate) fn is_of_kind(param: &Option<Param>, kind: Kind) -> bool
+    ensures { result ≡ is_of_kind param.now kind }
+{
+    match param {
+        None => false,
+        Some(param) => is_same_kind(param.kind, kind),
+    }
+}
+
+pub(crate) fn is_called_by_one(param: &Option<Param>, names: &[Name]) -> bool
+    ensures { result ≡ list_any (λ n. is_called param.now n) names.now }
+{
+    names.iter().any(|n| is_called(param, n.bytes()))
+}
+
+/// The kind of a name that can be read.
+pub(crate) fn kind_of(defined: &[Param], name: &[u8]) -> Option<Kind>
+    ensures { result ≡ kind_among defined.now name.now }
+{
+    match defined {
+        [] => None,
+        [first, rest @ ..] => {
+            if first.name.bytes() == name {
+                Some(first.kind)
+            } else {
+                kind_of(rest, name)
+            }
+        }
+    }
+}
+
+/// The kind that the word `word` or `bit` names.
+pub(crate) fn kind_of_word(spelling: Spelling) -> Kind
+    ensures { result ≡ kind_of_word spelling }
+{
+    match spelling {
+        Spelling::Word => Kind::Word,
+        _ => Kind::Bit,
+    }
+}
+
+/// Adds a name, if there is memory.
+pub(crate) fn keep(names: &mut Vec<Name>, name: Name) -> bool
+    ensures { result ≡ true → names.new.items ≡ names.old.items ++ name ∷ [] }
+{
+    match names.push(name) {
+        Ok(()) => true,
+        Err(_) => false,
+    }
+}
+
+/// Adds a name that can be read, if there is memory.
+pub(crate) fn define(defined: &mut Vec<Param>, name: Name, kind: Kind) -> bool
+    ensures { result ≡ true → defined.new.items ≡ defined.old.items ++ record { name = name; kind = kind } ∷ [] }
+{
+    match defined.push(Param { name, kind }) {
+        Ok(()) => true,
+        Err(_) => false,
+    }
+}
+
+/// Adds names, if there is memory.
+pub(crate) fn keep_all(names: &mut Vec<Name>, more: &[Name]) -> bool
+    ensures { result ≡ true → names.new.items ≡ names.old.items ++ more.now }
+{
+    for name in more {
+        if !keep(names, name.copied()) {
+            return false;
+        }
+    }
+    true
+}
+
+/// Adds names that can be read, if there is memory.
+pub(crate) fn define_all(defined: &mut Vec<Param>, names: &[Name], kind: Kind) -> bool
+    ensures { result ≡ true → defined.new.items ≡ defined.old.items ++ map (λ n. record { name = n; kind = kind }) names.now }
+{
+    for name in names {
+        if !define(defined, name.copied(), kind) {
+            return false;
+        }
+    }
+    true
+}
+
+/// The names that are not among others, if there is memory.
+pub(crate) fn others(names: &[Name], without: &[Name], alloc: Global) -> Option<Vec<Name>>
+    ensures { IfSome result (λ v. v.items ≡ filter (λ n. not (is_among without.now n)) names.now) }
+{
+    let mut kept = Vec::new(alloc);
+    for name in names {
+        if !is_among(without, name.bytes()) && !keep(&mut kept, name.copied()) {
+            return None;
+        }
+    }
+    Some(kept)
+}

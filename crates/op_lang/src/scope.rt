@@ -1,0 +1,105 @@
+//! What stands before a token.
+
+ghost use Rattle.std.specs.Prelude.{◌≡◌};
+ghost use Rattle.op_text.specs.Rules as rules;
+ghost use Rattle.op_lang.specs.Seen.{seen, seen_op, seen_word, seen_block};
+
+use op_text::{Kind, Param, WordOp};
+use std::alloc::Global;
+use text_lex::Name;
+
+/// Within an op: each new name, the names that can be read, the result once it is named, whether it is
+/// assigned, and the number of statements.
+#[derive(Debug, Drop)]
+pub(crate) struct InOp {
+    pub stands: Vec<Name>,
+    pub defined: Vec<Param>,
+    pub result: Option<Param>,
+    pub assigned: bool,
+    pub statements: usize,
+}
+
+/// Within a word statement: its operation and the kinds of the arguments so far.
+#[derive(Debug, Drop)]
+pub(crate) struct InWord {
+    pub operation: WordOp,
+    pub given: Vec<Kind>,
+}
+
+/// Within a serial block: its states, the states and lets that can be read, the number of lets, the
+/// targets, the weight of the gates, and how many arguments each open gate still lacks, the innermost last.
+#[derive(Debug, Drop)]
+pub(crate) struct InBlock {
+    pub states: Vec<Name>,
+    pub readable: Vec<Name>,
+    pub lets: usize,
+    pub targets: Vec<Name>,
+    pub weight: usize,
+    pub missing: Vec<usize>,
+}
+
+/// What stands before a token, and the name that is being defined.
+#[derive(Debug, Drop)]
+pub(crate) struct Scope {
+    pub alloc: Global,
+    pub ops: Vec<Name>,
+    pub op: InOp,
+    pub word: InWord,
+    pub block: InBlock,
+    pub naming: Option<Name>,
+}
+
+impl InOp {
+    pub fn new(alloc: Global) -> InOp
+        ensures { seen_op result ≡ rules.new_op }
+    {
+        InOp {
+            stands: Vec::new(alloc),
+            defined: Vec::new(alloc),
+            result: None,
+            assigned: false,
+            statements: 0,
+        }
+    }
+}
+
+impl InWord {
+    pub fn new(alloc: Global) -> InWord
+        ensures { seen_word result ≡ rules.new_word }
+    {
+        InWord {
+            operation: WordOp::Not,
+            given: Vec::new(alloc),
+        }
+    }
+}
+
+impl InBlock {
+    pub fn new(alloc: Global) -> InBlock
+        ensures { seen_block result ≡ rules.new_block }
+    {
+        InBlock {
+            states: Vec::new(alloc),
+            readable: Vec::new(alloc),
+            lets: 0,
+            targets: Vec::new(alloc),
+            weight: 0,
+            missing: Vec::new(alloc),
+        }
+    }
+}
+
+impl Scope {
+    pub fn new(alloc: Global) -> Scope
+        ensures { seen result ≡ rules.nothing_yet }
+    {
+        Scope {
+            alloc,
+            ops: Vec::new(alloc),
+            op: InOp::new(alloc),
+            word: InWord::new(alloc),
+            block: InBlock::new(alloc),
+            naming: None,
+        }
+    }
+}

@@ -1,0 +1,243 @@
+//! The scratch rows that an op needs.
+
+ghost use Rattle.std.specs.Prelude.{◌≡◌, ℕ, ◌+◌, ◌*◌, ◌≤◌, ◌&&◌, [], ◌∷◌, min, map, not, count_by, bytes_eq, Option, Some, None, length};
+ghost use Rattle.op_text.specs.Language.{statement, operation};
+ghost use Rattle.std.specs.List.{list_any};
+ghost use Rattle.op_text.specs.Rules.{kind_among};
+ghost use Rattle.op_text.specs.Scratch as scratch;
+ghost use Rattle.op_lang.specs.Counting.{known_after, is_counted, need_of, rows_needed, MOST};
+
+use crate::names::{is_same_kind, kind_of};
+use op_text::{Assign, Kind, Op, Param, State, Stmt, WordOp, given_first};
+use text_lex::Name;
+
+/// The scratch rows that one statement or a whole op needs beside its words' rows: `bits` single rows, and
+/// `words` groups of as many rows as a word has bits. Numbers past 65,535 stay there.
+#[derive(Clone, Copy, Debug, PartialEq, Eq)]
+pub struct Scratch {
+    pub bits: u16,
+    pub words: u16,
+}
+
+fn is_state(states: &[State], name: &[u8]) -> bool
+    ensures { result ≡ list_any (λ s. bytes_eq s.name name.now) states.now }
+{
+    states.iter().any(|s| s.name.bytes() == name)
+}
+
+fn is_target(assigns: &[Assign], name: &[u8]) -> bool
+    ensures { result ≡ list_any (λ a. bytes_eq a.name name.now) assigns.now }
+{
+    assigns.iter().any(|a| a.name.bytes() == name)
+}
+
+/// The kind of a name that stands behind some statements.
+#[cycle(kinds)]
+fn kind_behind(params: &[Param], before: &[Stmt], name: &[u8]) -> Option<Kind>
+    ensures { result ≡ kind_among (known_after params.now (map statement before.now)) name.now }
+{
+    match before {
+        [] => kind_of(params, name),
+        [front @ .., last] => match kind_behind(params, front, name) {
+            Some(kind) => Some(kind),
+            None => kind_in(params, front, last, name),
+        },
+    }
+}
+
+/// The kind of a name that a statement defines.
+#[cycle(kinds)]
+fn kind_in(params: &[Param], before: &[Stmt], defining: &Stmt, name: &[u8]) -> Option<Kind>
+    ensures { result ≡ kind_among (scratch.defines (known_after params.now (map statement before.now)) (statement defining.now)) name.now }
+{
+    match defining {
+        Stmt::Word { dst, op, args } => {
+            if dst.bytes() == name {
+                Some(kind_given(params, before, *op, args))
+            } else {
+                None
+            }
+        }
+        Stmt::Serial {
+            states,
+            assigns,
+            ..
+        } => {
+            if is_state(states, name) {
+                Some(Kind::Bit)
+            } else if is_target(assigns, name) {
+                Some(Kind::Word)
+            } else {
+                None
+            }
+        }
+    }
+}
+
+/// The kind of a word statement's result.
+#[cycle(kinds)]
+fn kind_given(params: &[Param], before: &[Stmt], op: WordOp, args: &[Name]) -> Kind
+    ensures { result ≡ scratch.result_kind (known_after params.now (map statement before.now)) op args.now }
+{
+    match args {
+        [] => given_first(op, None),
+        [first, ..] => match kind_behind(params, before, first.bytes()) {
+            Some(kind) => given_first(op, Some(kind)),
+            None => given_first(op, Some(Kind::Word)),
+        },
+    }
+}
+
+fn count_states(states: &[State], outcome: &[u8]) -> usize
+    ensures { result ≡ count_by (λ s. not (bytes_eq s.name outcome.now)) states.now }
+{
+    states.iter().filter(|s| s.name.bytes() != outcome).count()
+}
+
+fn count_words(states: &[State], assigns: &[Assign], outcome: &[u8]) -> usize
+    ensures { result ≡ count_by (λ a. not (list_any (λ s. bytes_eq s.name a.name) states.now) && not (bytes_eq a.name outcome.now)) assigns.now }
+{
+    assigns
+        .iter()
+        .filter(|a| !is_state(states, a.name.bytes()) && a.name.bytes() != outcome)
+        .count()
+}
+
+/// How many names of a kind a statement defines, other than the result.
+fn count_in(params: &[Param], before: &[Stmt], defining: &Stmt, kind: Kind, outcome: &[u8]) -> usize
+    ensures { result ≡ count_by (is_counted kind outcome.now) (scratch.defines (known_after params.now (map statement before.now)) (statement defining.now)) }
+{
+    match defining {
+        Stmt::Word { dst, op, args } => {
+            let given = kind_given(params, before, *op, args);
+            if is_same_kind(given, kind) && dst.bytes() != outcome {
+                1
+            } else {
+                0
+            }
+        }
+        Stmt::Serial {
+            states,
+            assigns,
+            ..
+        } => match kind {
+            Kind::Bit => count_states(states, outcome),
+            Kind::Word => count_words(states, assigns, outcome),
+        },
+    }
+}
+
+fn capped(n: usize) -> u16
+    ensures { result ≡ min n MOST }
+{
+    if n > 65535 { 65535 } else { n as u16 }
+}
+
+fn capped_sum(a: u16, b: u16) -> u16
+    ensures { result ≡ min (a + b) MOST }
+{
+    if a > 65535 - b { 65535 } else { a + b }
+}
+
+fn capped_product(n: u8, a: u16) -> u16
+    ensures { result ≡ min (n * a) MOST }
+{
+    let product = u32::from(n) * u32::from(a);
+    if product > 65535 {
+        65535
+    } else {
+        product as u16
+    }
+}
+
+/// How many names of a kind the statements define, other than the result.
+fn count_names(params: &[Param], body: &[Stmt], kind: Kind, outcome: &[u8]) -> u16
+    ensures { result ≡ min (count_by (is_counted kind outcome.now) (scratch.body_defines params.now (map statement body.now))) MOST }
+{
+    match body {
+        [] => 0,
+        [front @ .., last] => capped_sum(
+            count_names(params, front, kind, outcome),
+            capped(count_in(params, front, last, kind, outcome)),
+        ),
+    }
+}
+
+fn bits_inside(op: WordOp) -> u16
+    ensures value { result ≡ scratch.bits_inside op }
+    ensures small { result ≤ 2 }
+{
+    match op {
+        WordOp::Div | WordOp::Rem => 2,
+        WordOp::Shl1
+        | WordOp::Shr1
+        | WordOp::Add
+        | WordOp::Sub
+        | WordOp::Mul
+        | WordOp::Abs
+        | WordOp::Min
+        | WordOp::Max
+        | WordOp::Bitcount => 1,
+        _ => 0,
+    }
+}
+
+fn words_inside(op: WordOp) -> u16
+    ensures value { result ≡ scratch.words_inside op }
+    ensures small { result ≤ 2 }
+{
+    match op {
+        WordOp::Div | WordOp::Rem => 2,
+        _ => 0,
+    }
+}
+
+fn inside(kind: Kind, defining: &Stmt) -> u16
+    ensures value { result ≡ need_of kind (statement defining.now) }
+{
+    match defining {
+        Stmt::Word { op, .. } => match kind {
+            Kind::Bit => bits_inside(*op),
+            Kind::Word => words_inside(*op),
+        },
+        Stmt::Serial { .. } => 0,
+    }
+}
+
+/// The greatest need of a statement beside the names.
+fn greatest_inside(kind: Kind, body: &[Stmt]) -> u16
+    ensures { result ≡ scratch.greatest (map (need_of kind) (map statement body.now)) }
+{
+    match body {
+        [] => 0,
+        [first, rest @ ..] => inside(kind, first).max(greatest_inside(kind, rest)),
+    }
+}
+
+fn rows_of(op: &Op, kind: Kind) -> u16
+    ensures { result ≡ min (rows_needed kind (operation op.now)) MOST }
+{
+    capped_sum(
+        count_names(&op.params, &op.body, kind, op.result.name.bytes()),
+        greatest_inside(kind, &op.body),
+    )
+}
+
+/// The scratch rows of an op.
+pub fn scratch_of(op: &Op) -> Scratch
+    ensures bits { result.bits ≡ min (scratch.scratch_bits (operation op.now)) MOST }
+    ensures words { result.words ≡ min (scratch.scratch_words (operation op.now)) MOST }
+{
+    Scratch {
+        bits: rows_of(op, Kind::Bit),
+        words: rows_of(op, Kind::Word),
+    }
+}
+
+/// The number of scratch rows of an op on words of `n` bits.
+pub fn need(op: &Op, n: u8) -> u16
+    ensures { result ≡ min (scratch.need (operation op.now) n) MOST }
+{
+    let scratch = scratch_of(op);
+    capped_sum(scratch.bits, capped_product(n, scratch.words))
+}
