@@ -1,0 +1,9 @@
+pub mod Parted
+pub mod Worded
+pub mod Gathered
+pub mod Checked
+pub mod Followed
+pub mod Spelling
+pub mod Numbered
+pub mod Formed
+pub mod Meant

@@ -1,0 +1,7 @@
+-- What a script says.
+pub mod Lines
+pub mod Words
+pub mod Forms
+pub mod Script
+pub mod Reading
+pub mod Laws

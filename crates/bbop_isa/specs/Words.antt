@@ -1,0 +1,43 @@
+-- The tokens of a line, as a script sees them.
+use Rattle.std.specs.Prelude.{ℕ, ◌^◌, nat_lt, List, [], ◌∷◌, map, Option, Some, None, if◌then◌else◌, bytes_eq, codes}
+use Rattle.std.specs.Option.{option_map}
+use Rattle.std.specs.Str.Parse.{digits_value}
+use denote.Ref.{Bor}
+use Rattle.text_lex.specs.declared.token.TokenKind.{TokenKind}
+use Rattle.text_lex.specs.declared.token.TokenKind.TheVariants as kind
+use Rattle.text_lex.specs.Lexical.{Item, Whole, Bad}
+use Rattle.bbop_isa.specs.declared.words.Word.{Word as Kept}
+use Rattle.bbop_isa.specs.declared.words.Word.TheVariants as kept
+
+-- a token: a name, a number with its value, where that is below 2^64, a comma, or another symbol
+pub data Word : Type 0 where
+  Name : List ℕ → Word
+  Number : Option ℕ → Word
+  Comma : Word
+  Other : Word
+
+-- the value that digits write, where it is below 2^64
+abbrev pub number_of : List ℕ → Option ℕ
+number_of digits = if nat_lt (digits_value 10 digits) (2 ^ 64) then Some (digits_value 10 digits) else None
+
+abbrev pub word_at : TokenKind → List ℕ → Word
+word_at kind.Name text = Name text
+word_at kind.Number text = Number (number_of text)
+word_at kind.Symbol text = if bytes_eq text (codes ",") then Comma else Other
+
+-- the words of the items of a line, where no byte is a fault
+abbrev pub words_in : List Item → Option (List Word)
+words_in [] = Some []
+words_in (Whole t ∷ items) = option_map (λ words. word_at t.kind t.text ∷ words) (words_in items)
+words_in (Bad fault ∷ items) = None
+
+-- a word without where it lies in memory
+abbrev pub word_view : Kept → Word
+word_view (kept.Name text) = Name text.now
+word_view (kept.Number value) = Number value
+word_view kept.Comma = Comma
+word_view kept.Other = Other
+
+-- texts without where they lie in memory
+abbrev pub texts : List (Bor (List ℕ)) → List (List ℕ)
+texts slices = map (λ slice. slice.now) slices

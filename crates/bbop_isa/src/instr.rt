@@ -1,0 +1,89 @@
+//! What a script says, and why it is refused.
+
+use arrayvec::ArrayVec;
+use bit_rows::Value;
+use text_lex::Name;
+
+/// In which order the banks take turns.
+#[derive(Clone, Copy, Debug, PartialEq, Eq)]
+pub enum Order {
+    /// Bank by bank, upwards: `order in`.
+    Forward,
+    /// One command of each bank in turn: `order turns`.
+    Turns,
+    /// Drawn by a generator from this seed: `order seed K`.
+    Seed(u64),
+}
+
+/// One instruction. `count` is a number of elements and `n` their width in bits.
+#[derive(Debug, Drop)]
+pub enum Instr {
+    /// `bbop_trsp_init NAME, COUNT, N`
+    Init {
+        name: Name,
+        count: u32,
+        n: u8,
+    },
+    /// `bbop_OP DST, SRC, .., COUNT, N` with one to four sources.
+    Bbop {
+        op: Name,
+        dst: Name,
+        srcs: ArrayVec<Name, 4>,
+        count: u32,
+        n: u8,
+    },
+    /// `load NAME, V, ..`
+    Load {
+        name: Name,
+        values: Vec<Value>,
+    },
+    /// `fill NAME, V`
+    Fill {
+        name: Name,
+        value: Value,
+    },
+    /// `print NAME`
+    Print {
+        name: Name,
+    },
+    /// `free NAME`
+    Free {
+        name: Name,
+    },
+    /// `order in`, `order turns` or `order seed K`
+    Order(Order),
+}
+
+/// What is wrong with a line: of all that is, what stands first here.
+#[derive(Clone, Copy, Debug, PartialEq, Eq)]
+pub enum ScriptKind {
+    /// A byte starts no token.
+    Lex,
+    /// The tokens are of no form.
+    Syntax,
+    /// A name has more than 16 bytes, or what follows `bbop_` is no name of 1 to 16 bytes.
+    BadName,
+    /// A number is out of its range.
+    BadNumber,
+}
+
+/// The first line that breaks a rule. Lines count from 1.
+#[derive(Clone, Copy, Debug, PartialEq, Eq)]
+pub struct ScriptFault {
+    pub line: u32,
+    pub kind: ScriptKind,
+}
+
+/// Why a script was not read.
+#[derive(Clone, Copy, Debug, PartialEq, Eq)]
+pub enum ScriptNo {
+    Fault(ScriptFault),
+    NoMemory,
+}
+
+/// Why a line was not read.
+#[derive(Clone, Copy, Debug, PartialEq, Eq)]
+pub enum LineNo {
+    Bad(ScriptKind),
+    NoMemory,
+}

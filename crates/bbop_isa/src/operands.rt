@@ -1,0 +1,73 @@
+//! Operands with commas between them.
+
+ghost use Rattle.std.specs.Prelude.{◌≡◌};
+ghost use Rattle.bbop_isa.specs.Reading.{OperandsOf, Pushes, Takes};
+
+use crate::instr::LineNo;
+use crate::words::Word;
+use std::alloc::Global;
+
+/// Names, and then numbers.
+#[derive(Drop)]
+pub(crate) struct Operands<'a> {
+    pub names: Vec<&'a [u8]>,
+    pub numbers: Vec<Option<u64>>,
+    /// Whether the next word is to be a comma.
+    at_comma: bool,
+}
+
+impl<'a> Operands<'a> {
+    /// Whether the word is a name, or a number; with no name behind a number.
+    fn push(&mut self, word: Word<'a>) -> Result<bool, LineNo>
+        ensures pushed { Pushes self.old word.entry result self.new }
+        ensures comma { self.new.at_comma ≡ self.old.at_comma }
+    {
+        let pushed = match word {
+            Word::Name(name) if self.numbers.is_empty() => self.names.push(name).is_ok(),
+            Word::Number(number) => self.numbers.push(number).is_ok(),
+            _ => return Ok(false),
+        };
+        if pushed {
+            Ok(true)
+        } else {
+            Err(LineNo::NoMemory)
+        }
+    }
+
+    /// Whether the word may come next.
+    fn take(&mut self, word: Word<'a>) -> Result<bool, LineNo>
+        ensures { Takes self.old word.entry result self.new }
+    {
+        if self.at_comma {
+            self.at_comma = false;
+            Ok(matches!(word, Word::Comma))
+        } else {
+            self.at_comma = true;
+            self.push(word)
+        }
+    }
+}
+
+/// The operands that the words are, if they are some.
+pub(crate) fn operands_of<'a>(
+    words: &[Word<'a>],
+    alloc: Global,
+) -> Result<Option<Operands<'a>>, LineNo>
+    ensures { OperandsOf words.now result }
+{
+    let mut operands = Operands {
+        names: Vec::new(alloc),
+        numbers: Vec::new(alloc),
+        at_comma: false,
+    };
+    for word in words {
+        if !operands.take(*word)? {
+            return Ok(None);
+        }
+    }
+    Ok(if operands.at_comma {
+        Some(operands)
+    } else {
+        None
+    })
+}

@@ -1,0 +1,58 @@
+//! The tokens of a line, as a script sees them.
+
+ghost use Rattle.std.specs.Prelude.{◌≡◌};
+ghost use Rattle.std.specs.Char.{is_ascii_digit};
+ghost use Rattle.std.specs.List.{AllPass};
+ghost use Rattle.text_lex.specs.declared.token.TokenKind.TheVariants as kind;
+ghost use Rattle.bbop_isa.specs.Words.{word_at, word_view};
+ghost use Rattle.bbop_isa.specs.Reading.{WordsOf};
+
+use crate::instr::{LineNo, ScriptKind};
+use std::alloc::Global;
+use text_lex::{Lexer, Token, TokenKind, items_are_right, number};
+
+/// A token. A number is `None` where its value is 2^64 or more.
+#[derive(Clone, Copy)]
+pub(crate) enum Word<'a> {
+    Name(&'a [u8]),
+    Number(Option<u64>),
+    Comma,
+    Other,
+}
+
+fn word_of(token: Token<'_>) -> Word<'_>
+    requires { token.kind ≡ kind.Number → AllPass is_ascii_digit token.text.now }
+    ensures { word_view result ≡ word_at token.entry.kind token.entry.text.now }
+{
+    match token.kind {
+        TokenKind::Name => Word::Name(token.text),
+        TokenKind::Number => Word::Number(number(token.text)),
+        TokenKind::Symbol => {
+            if token.text == b",".as_slice() {
+                Word::Comma
+            } else {
+                Word::Other
+            }
+        }
+    }
+}
+
+/// The words of a line, unless one of its bytes starts none.
+pub(crate) fn words_of<'a>(line: &'a [u8], alloc: Global) -> Result<Vec<Word<'a>>, LineNo>
+    ensures { WordsOf line.now result }
+{
+    items_are_right();
+    let mut words = Vec::new(alloc);
+    let mut lexer = Lexer::new(line);
+    loop {
+        match lexer.next() {
+            Ok(Some(token)) => {
+                if words.push(word_of(token)).is_err() {
+                    return Err(LineNo::NoMemory);
+                }
+            }
+            Ok(None) => return Ok(words),
+            Err(_) => return Err(LineNo::Bad(ScriptKind::Lex)),
+        }
+    }
+}
