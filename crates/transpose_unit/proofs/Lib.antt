@@ -1,0 +1,5 @@
+mod Sets
+mod Events
+mod Columns
+mod Segments
+mod Held
