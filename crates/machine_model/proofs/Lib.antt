@@ -1,0 +1,16 @@
+pub mod Facts
+pub mod Places
+pub mod Below
+pub mod Bbops
+pub mod Steps
+pub mod Fills
+pub mod Makes
+pub mod Texts
+pub mod Scripts
+pub mod Loads
+pub mod Loaded
+pub mod Whole
+pub mod Opened
+pub mod Kept
+pub mod KeptAll
+pub mod Events

@@ -1,0 +1,49 @@
+-- When the banks hold what the word machine holds, and that a step keeps it so.
+use Rattle.std.specs.Prelude.{◌≡◌, ℕ, ◌<◌, ◌≤◌, List, All, length, Option, Some, None}
+use Rattle.dram_model.specs.declared.geometry.Geometry.{Geometry}
+use Rattle.dram_model.specs.Chip.{Banks}
+use Rattle.uprog_code.specs.declared.TheConstants.{BUILT_WIDTH}
+use Rattle.machine_model.specs.Operations.{Does}
+use Rattle.uprog_code.specs.Machine.{issues_of, Trace}
+use Rattle.object_alloc.specs.Listed.{IsTable}
+use Rattle.bbop_isa.specs.Forms.{Instruction}
+use Rattle.bbop_isa.specs.Forms.{Init, Bbop, Load, Fill, Print, Free, Order}
+use Rattle.dram_model.specs.Elements.{column_count}
+use Rattle.machine_model.specs.Columns.{segments, columns}
+use Rattle.machine_model.specs.Operations.{Operation, Operations}
+use Rattle.object_alloc.specs.Listed.{limit_of}
+use Rattle.machine_model.specs.Steps.{Held, table_of, words_after, banks_after}
+
+-- each object has exactly these numbers in the banks' columns
+abbrev pub HoldsNumbers : Geometry → Banks → List Held → Type 0
+HoldsNumbers g banks state = All (λ h. columns g banks h.object ≡ h.numbers) state
+
+-- the banks of a geometry hold the objects of a state
+pub record Agrees (g : Geometry) (banks : Banks) (state : List Held) : Type 0 where
+  pub shaped : (bank : ℕ) → bank < g.banks → length (banks bank) ≡ column_count g
+  pub table : IsTable (limit_of g) (table_of state)
+  pub within : All (λ h. segments g h.object ≤ g.banks) state
+  pub numbers : HoldsNumbers g banks state
+
+-- what is issued for each operation does what it means
+abbrev pub DoesAll : Operations → (List ℕ → ℕ → List ℕ → ℕ) → Type 0
+DoesAll operations meaning = (name : List ℕ) (o : Operation) → operations name ≡ Some o → (n : ℕ) → 0 < n → n ≤ BUILT_WIDTH → Does o.shape n (issues_of (o.trace n)) (meaning name n)
+
+-- The step of the rows gives the word machine's step
+abbrev pub StepAgrees : Geometry → Operations → (List ℕ → ℕ → List ℕ → ℕ) → Instruction → Type 0
+StepAgrees g operations meaning instr =
+    (banks : Banks) (state : List Held) → Agrees g banks state
+    → Agrees g (banks_after g operations (table_of state) banks instr) (words_after g operations meaning state instr)
+
+-- what every script has: an object and a bbop have widths from 1 to 64
+abbrev pub IsWidth : ℕ → Type 0
+IsWidth n = (0 < n) × (n ≤ BUILT_WIDTH)
+
+abbrev pub IsPlain : Instruction → Type 0
+IsPlain (Init name count n) = IsWidth n
+IsPlain (Bbop op dst srcs count n) = IsWidth n
+IsPlain (Load name values) = Unit {0}
+IsPlain (Fill name value) = Unit {0}
+IsPlain (Print name) = Unit {0}
+IsPlain (Free name) = Unit {0}
+IsPlain (Order o) = Unit {0}

@@ -1,0 +1,10 @@
+-- The word machine: what an instruction comes to in numbers and in rows, and the report.
+pub mod Columns
+pub mod Operations
+pub mod Refusals
+pub mod Steps
+pub mod Agrees
+pub mod Script
+pub mod Report
+pub mod Laws
+pub mod Opened

@@ -1,0 +1,78 @@
+-- The operations that a bbop can name: those of a text, or those of a program.
+use Rattle.std.specs.Prelude.{◌≡◌, ℕ, ◌+◌, ◌<◌, ◌≤◌, List, [], ◌∷◌, map, Option, Some, None, length}
+use Rattle.std.specs.List.{find}
+use Rattle.std.specs.Option.{option_map}
+use Rattle.std.specs.Str.{bytes_eq}
+use Rattle.uprog_code.specs.declared.code.Kind.{Kind}
+use Rattle.uprog_code.specs.declared.code.Uop.{Uop}
+use Rattle.uprog_code.specs.Shape.{Shape, Microprogram}
+use Rattle.uprog_code.specs.Machine.{Issue, Trace, Stuck, trace}
+use Rattle.uprog_code.specs.Implements.{Gives, Keeps, Implements}
+use Rattle.uprog_code.specs.declared.walker.Why3.TheVariants.{Index}
+
+abbrev pub Program : Type 0
+Program = List Microprogram
+
+-- an op of a text, as far as a machine knows it: its name, its kinds and scratch, how many commands it may take, and
+-- the number that it makes of its sources' numbers
+pub record TextOp : Type 0 where
+  pub name : List ℕ
+  pub shape : Shape
+  pub ceiling : ℕ → ℕ
+  pub meaning : ℕ → List ℕ → ℕ
+
+-- what a bbop names: what the operation takes and gives, and what is issued for it at each width
+pub record Operation : Type 0 where
+  pub shape : Shape
+  pub trace : ℕ → Trace
+
+-- by its name
+abbrev pub Operations : Type 0
+Operations = List ℕ → Option Operation
+
+abbrev pub entry_named : Program → List ℕ → Option Microprogram
+entry_named p name = find (λ e. bytes_eq e.name name) p
+
+abbrev pub op_named : List TextOp → List ℕ → Option TextOp
+op_named t name = find (λ o. bytes_eq o.name name) t
+
+abbrev pub trace_of : Option Microprogram → ℕ → Trace
+trace_of None n = Stuck 0 Index
+trace_of (Some e) n = trace e.shape e.code n
+
+-- the entry's own kinds and scratch, and its code's traces
+abbrev pub operation_of : Microprogram → Operation
+operation_of e = record { shape = e.shape; trace = trace_of (Some e) }
+
+abbrev pub operations_in : Program → Operations
+operations_in p name = option_map operation_of (entry_named p name)
+
+-- the text's kinds and scratch, and the traces of the program's code
+abbrev pub operations_of : List TextOp → Program → Operations
+operations_of t p name = option_map (λ o. record { shape = o.shape; trace = trace_of (entry_named p name) }) (op_named t name)
+
+-- the number that the op of this name makes
+abbrev pub meaning_of : Option TextOp → ℕ → List ℕ → ℕ
+meaning_of None n values = 0
+meaning_of (Some o) n values = o.meaning n values
+
+abbrev pub meaning_in : List TextOp → List ℕ → ℕ → List ℕ → ℕ
+meaning_in t name = meaning_of (op_named t name)
+
+-- the commands do an operation of this meaning at width n
+pub record Does (shape : Shape) (n : ℕ) (issues : List Issue) (meaning : List ℕ → ℕ) : Type 0 where
+  pub gives : Gives shape n issues meaning
+  pub keeps : Keeps shape n issues
+
+-- the entry is the op's, and its code does the op
+pub record EntryDoes (e : Microprogram) (o : TextOp) : Type 0 where
+  pub name : e.name ≡ o.name
+  pub shape : e.shape ≡ o.shape
+  pub code : Implements o.shape e.code o.ceiling o.meaning
+
+-- the program has the ops of the text, in order, and does them
+abbrev pub ImplementsAll : Program → List TextOp → Type 0
+ImplementsAll [] [] = Unit {0}
+ImplementsAll [] (o ∷ t) = ⊥
+ImplementsAll (e ∷ p) [] = ⊥
+ImplementsAll (e ∷ p) (o ∷ t) = EntryDoes e o × ImplementsAll p t

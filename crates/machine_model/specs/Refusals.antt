@@ -1,0 +1,97 @@
+-- When an instruction is refused: the table of conditions, in order.
+use Rattle.std.specs.Prelude.{◌≡◌, ℕ, zero, ◌+◌, ◌-◌, ◌*◌, ◌^◌, ◌==◌, nat_lt, nat_le, Bool, true, false, not, is_none, if◌then◌else◌, List, [], ◌∷◌, ◌++◌, map, zip, length, Option, Some, None}
+use Rattle.std.specs.Option.{unwrap_or}
+use Rattle.std.specs.Str.{bytes_eq}
+use Rattle.dram_model.specs.declared.geometry.Geometry.{Geometry}
+use Rattle.uprog_code.specs.declared.code.Kind.{Kind}
+use Rattle.uprog_code.specs.Machine.{Trace, Ended, Stuck}
+use Rattle.uprog_code.specs.Shape.{Shape, width, need}
+use Rattle.object_alloc.specs.declared.table.Object.{Object}
+use Rattle.object_alloc.specs.Free.{free}
+use Rattle.object_alloc.specs.Listed.{limit_of, Named, objects_of, look_up, has_name}
+use Rattle.bbop_isa.specs.Forms.{Instruction}
+use Rattle.bbop_isa.specs.Forms.{Init, Bbop, Load, Fill, Print, Free, Order}
+use Rattle.machine_model.specs.declared.Why.{Why}
+use Rattle.machine_model.specs.declared.Why.TheVariants as why
+use Rattle.dram_model.specs.Elements.{column_count}
+use Rattle.machine_model.specs.Operations.{Operation, Operations}
+
+-- the first condition that holds
+abbrev pub first : List (Option Why) → Option Why
+first [] = None
+first (None ∷ rest) = first rest
+first (Some reason ∷ rest) = Some reason
+
+abbrev pub when : Bool → Why → Option Why
+when holds reason = if holds then Some reason else None
+
+-- the first place where it holds; the first of the list has this number
+abbrev pub at_place : (ℕ → Why) → ℕ → List Bool → Option Why
+at_place reason k [] = None
+at_place reason k (holds ∷ rest) = if holds then Some (reason k) else at_place reason (k + 1) rest
+
+-- what is read of a name that no object has
+abbrev pub nothing : Object
+nothing = record { base = 0; width = 0; count = 0 }
+
+abbrev pub object_named : List Named → List ℕ → Object
+object_named table name = unwrap_or (look_up table name) nothing
+
+abbrev pub is_absent : List Named → List ℕ → Bool
+is_absent table name = not (has_name table name)
+
+-- the object is not as wide as an operand of this kind
+abbrev pub is_misfit : ℕ → Kind × Object → Bool
+is_misfit n operand = not (operand.1.width == width operand.0 n)
+
+abbrev pub walks_badly : Trace → Option Why
+walks_badly (Ended issues) = None
+walks_badly (Stuck at reason) = Some (why.BadWalk (record { at = at; why = reason }))
+
+-- the conditions on the operands of an operation of this shape, each upwards from the destination
+abbrev pub operand_conditions : List Named → Shape → List ℕ → List (List ℕ) → ℕ → ℕ → List (Option Why)
+operand_conditions table shape dst srcs count n =
+    let operands = map (object_named table) (dst ∷ srcs) in
+    at_place why.NoObject 0 (map (is_absent table) (dst ∷ srcs))
+    ∷ at_place why.Width 0 (map (is_misfit n) (zip (shape.result ∷ shape.sources) operands))
+    ∷ at_place why.Size 0 (map (λ o. not (o.count == count)) operands)
+    ∷ at_place why.Overlap 1 (map (λ name. bytes_eq name dst) srcs)
+    ∷ []
+
+-- the conditions on its walk and its scratch, where objects lie below the limit
+abbrev pub grant_conditions : ℕ → List Named → Operation → ℕ → List (Option Why)
+grant_conditions limit table operation n =
+    walks_badly (operation.trace n)
+    ∷ when (is_none (free limit (objects_of table) (need operation.shape n))) why.NoRows
+    ∷ []
+
+-- the conditions on a bbop of an operation that there is
+abbrev pub bbop_conditions : ℕ → List Named → Operation → List ℕ → List (List ℕ) → ℕ → ℕ → List (Option Why)
+bbop_conditions limit table operation dst srcs count n =
+    when (not (length srcs == length operation.shape.sources)) why.Arity
+    ∷ operand_conditions table operation.shape dst srcs count n
+    ++ grant_conditions limit table operation n
+
+abbrev pub bbop_refusal : Geometry → List Named → Option Operation → List ℕ → List (List ℕ) → ℕ → ℕ → Option Why
+bbop_refusal g table None dst srcs count n = Some why.NoOp
+bbop_refusal g table (Some operation) dst srcs count n = first (bbop_conditions (limit_of g) table operation dst srcs count n)
+
+-- why the instruction is refused, if it is
+abbrev pub refusal : Geometry → Operations → List Named → Instruction → Option Why
+refusal g operations table (Init name count n) =
+    first (when (has_name table name) why.Exists
+    ∷ when (nat_le 256 (length table)) why.TableFull
+    ∷ when (nat_lt (column_count g * g.banks) count) why.TooLarge
+    ∷ when (is_none (free (limit_of g) (objects_of table) n)) why.NoRows ∷ [])
+refusal g operations table (Bbop op dst srcs count n) = bbop_refusal g table (operations op) dst srcs count n
+refusal g operations table (Load name values) =
+    let o = object_named table name in
+    first (when (is_absent table name) (why.NoObject 0)
+    ∷ when (not (length values == o.count)) why.Count
+    ∷ at_place why.Range 1 (map (λ v. nat_le (2 ^ o.width) v) values) ∷ [])
+refusal g operations table (Fill name value) =
+    first (when (is_absent table name) (why.NoObject 0)
+    ∷ when (nat_le (2 ^ (object_named table name).width) value) (why.Range 1) ∷ [])
+refusal g operations table (Print name) = when (is_absent table name) (why.NoObject 0)
+refusal g operations table (Free name) = when (is_absent table name) (why.NoObject 0)
+refusal g operations table (Order order) = None

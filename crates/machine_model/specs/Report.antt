@@ -1,0 +1,100 @@
+-- The report of a run, as bytes.
+use Rattle.std.specs.Prelude.{◌≡◌, ℕ, ◌+◌, Bool, List, [], ◌∷◌, ◌++◌, flat_map, take, codes, decimal, count_by}
+use Rattle.dram_model.specs.declared.geometry.Geometry.{Geometry}
+use Rattle.dram_model.specs.declared.dram.Counters.{Counters}
+use Rattle.uprog_code.specs.declared.walker.Counts.{Counts}
+use Rattle.uprog_code.specs.declared.walker.Why3.{Why3}
+use Rattle.uprog_code.specs.declared.walker.Why3.TheVariants.{Index, Register, Budget}
+use Rattle.object_alloc.specs.Listed.{Named}
+use Rattle.bbop_isa.specs.Forms.{Instruction}
+use Rattle.bbop_isa.specs.Forms.{Init, Bbop, Load, Fill, Print, Free, Order}
+use Rattle.machine_model.specs.declared.Reply.{Reply}
+use Rattle.machine_model.specs.declared.Reply.TheVariants.{Done, Refused}
+use Rattle.machine_model.specs.declared.Why.{Why}
+use Rattle.machine_model.specs.declared.Why.TheVariants as why
+use Rattle.machine_model.specs.Operations.{Operations}
+use Rattle.machine_model.specs.Refusals.{object_named}
+use Rattle.dram_model.specs.Chip.{Banks}
+use Rattle.machine_model.specs.Columns.{columns}
+use Rattle.machine_model.specs.Steps.{Held, table_of, numbers_named, words_after, reply_to, table_after, banks_after}
+use Rattle.machine_model.specs.Script.{is_refused}
+
+abbrev pub walk_word : Why3 → List ℕ
+walk_word Index = codes "index"
+walk_word Register = codes "register"
+walk_word Budget = codes "budget"
+
+abbrev pub at_number : List ℕ → ℕ → List ℕ
+at_number word place = word ++ codes " " ++ decimal place
+
+-- why it is refused, with the place where there is one
+abbrev pub why_text : Why → List ℕ
+why_text why.NoOp = codes "no_op"
+why_text why.Arity = codes "arity"
+why_text (why.NoObject place) = at_number (codes "no_object") place
+why_text (why.Width place) = at_number (codes "width") place
+why_text (why.Size place) = at_number (codes "size") place
+why_text (why.Overlap place) = at_number (codes "overlap") place
+why_text (why.BadWalk walk) = at_number (codes "bad_walk") walk.at ++ codes " " ++ walk_word walk.why
+why_text why.NoRows = codes "no_rows"
+why_text why.Exists = codes "exists"
+why_text why.TableFull = codes "table_full"
+why_text why.TooLarge = codes "too_large"
+why_text why.Count = codes "count"
+why_text (why.Range place) = at_number (codes "range") place
+
+-- what is said of an instruction: the values of an object that is printed, or the reply
+pub data Said : Type 0 where
+  Printed : (name values : List ℕ) → Said
+  Answered : Reply → Said
+
+abbrev pub said_of : Reply → Instruction → (List ℕ → List ℕ) → Said
+said_of (Done counts) (Print name) values = Printed name (values name)
+said_of (Done counts) (Init name count n) values = Answered (Done counts)
+said_of (Done counts) (Bbop op dst srcs count n) values = Answered (Done counts)
+said_of (Done counts) (Load name loaded) values = Answered (Done counts)
+said_of (Done counts) (Fill name value) values = Answered (Done counts)
+said_of (Done counts) (Free name) values = Answered (Done counts)
+said_of (Done counts) (Order o) values = Answered (Done counts)
+said_of (Refused reason) instr values = Answered (Refused reason)
+
+abbrev pub reply_text : Reply → List ℕ
+reply_text (Done counts) = codes "ok aap=" ++ decimal counts.aap ++ codes " ap=" ++ decimal counts.ap
+reply_text (Refused reason) = codes "refused " ++ why_text reason
+
+abbrev pub said_text : Said → List ℕ
+said_text (Printed name values) = name ++ codes ":" ++ flat_map (λ v. codes " " ++ decimal v) values
+said_text (Answered reply) = reply_text reply
+
+-- the line with this number
+abbrev pub line : ℕ → Said → List ℕ
+line number said = decimal number ++ codes " " ++ said_text said ++ codes "\n"
+
+-- a line for each, the first of which has this number
+abbrev pub lines : ℕ → List Said → List ℕ
+lines number [] = []
+lines number (said ∷ rest) = line number said ++ lines (number + 1) rest
+
+-- what the word machine says of a script
+abbrev pub said_in_words : Geometry → Operations → (List ℕ → ℕ → List ℕ → ℕ) → List Held → List Instruction → List Said
+said_in_words g operations meaning state [] = []
+said_in_words g operations meaning state (instr ∷ script) =
+    said_of (reply_to g operations (table_of state) instr) instr (λ name. take (object_named (table_of state) name).count (numbers_named state name))
+    ∷ said_in_words g operations meaning (words_after g operations meaning state instr) script
+
+-- the same, where the values are read from the banks' columns
+abbrev pub said_in_rows : Geometry → Operations → List Named → Banks → List Instruction → List Said
+said_in_rows g operations table banks [] = []
+said_in_rows g operations table banks (instr ∷ script) =
+    said_of (reply_to g operations table instr) instr (λ name. take (object_named table name).count (columns g banks (object_named table name)))
+    ∷ said_in_rows g operations (table_after g operations table instr) (banks_after g operations table banks instr) script
+
+-- the line of the totals
+abbrev pub total_line : Counters → ℕ → List ℕ
+total_line tally refused =
+    codes "total aap=" ++ decimal tally.aap ++ codes " ap=" ++ decimal tally.ap ++ codes " writes=" ++ decimal tally.writes
+    ++ codes " reads=" ++ decimal tally.reads ++ codes " refused=" ++ decimal refused ++ codes "\n"
+
+-- the report: a line for each instruction, and the line of the totals
+abbrev pub report : List Said → Counters → List Reply → List ℕ
+report said tally all = lines 1 said ++ total_line tally (count_by is_refused all)

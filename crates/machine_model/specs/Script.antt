@@ -1,0 +1,103 @@
+-- A whole script: its replies, its state at the end, and its events.
+use Rattle.std.specs.Prelude.{◌≡◌, ℕ, ◌+◌, ◌*◌, ◌==◌, Bool, true, false, not, ◌||◌, is_none, if◌then◌else◌, List, [], ◌∷◌, ◌++◌, map, filter, length, take, count_by}
+use Rattle.dram_model.specs.declared.geometry.Geometry.{Geometry}
+use Rattle.dram_model.specs.Chip.{Banks, Event}
+use Rattle.dram_model.specs.declared.dram.Counters.{Counters}
+use Rattle.uprog_code.specs.declared.walker.Counts.{Counts}
+use Rattle.object_alloc.specs.declared.table.Object.{Object}
+use Rattle.object_alloc.specs.Listed.{Named}
+use Rattle.bbop_isa.specs.Forms.{Instruction}
+use Rattle.bbop_isa.specs.Forms.{Init, Bbop, Load, Fill, Print, Free, Order}
+use Rattle.machine_model.specs.declared.Reply.{Reply}
+use Rattle.machine_model.specs.declared.Reply.TheVariants.{Done, Refused}
+use Rattle.machine_model.specs.Columns.{segments}
+use Rattle.machine_model.specs.Operations.{Operations}
+use Rattle.machine_model.specs.Refusals.{refusal, object_named}
+use Rattle.machine_model.specs.Steps.{Held, table_of, words_after, table_after, banks_after, reply_to, events_of, if_done, is_touched}
+
+abbrev pub is_bbop : Instruction → Bool
+is_bbop (Init name count n) = false
+is_bbop (Bbop op dst srcs count n) = true
+is_bbop (Load name values) = false
+is_bbop (Fill name value) = false
+is_bbop (Print name) = false
+is_bbop (Free name) = false
+is_bbop (Order o) = false
+
+-- the replies, in order: they depend on the table alone
+abbrev pub replies : Geometry → Operations → List Named → List Instruction → List Reply
+replies g operations table [] = []
+replies g operations table (instr ∷ script) = reply_to g operations table instr ∷ replies g operations (table_after g operations table instr) script
+
+abbrev pub table_at_end : Geometry → Operations → List Named → List Instruction → List Named
+table_at_end g operations table [] = table
+table_at_end g operations table (instr ∷ script) = table_at_end g operations (table_after g operations table instr) script
+
+-- the word machine's state
+abbrev pub words_at_end : Geometry → Operations → (List ℕ → ℕ → List ℕ → ℕ) → List Held → List Instruction → List Held
+words_at_end g operations meaning state [] = state
+words_at_end g operations meaning state (instr ∷ script) = words_at_end g operations meaning (words_after g operations meaning state instr) script
+
+-- the banks
+abbrev pub banks_at_end : Geometry → Operations → List Named → Banks → List Instruction → Banks
+banks_at_end g operations table banks [] = banks
+banks_at_end g operations table banks (instr ∷ script) =
+    banks_at_end g operations (table_after g operations table instr) (banks_after g operations table banks instr) script
+
+-- some instruction that is done may change the row
+abbrev pub is_touched_by : Geometry → Operations → List Named → List Instruction → ℕ → ℕ → Bool
+is_touched_by g operations table [] bank row = false
+is_touched_by g operations table (instr ∷ script) bank row =
+    is_touched g operations table instr bank row || is_touched_by g operations (table_after g operations table instr) script bank row
+
+-- the events of the instructions that are done, in order
+abbrev pub script_events : Geometry → Operations → List Named → List Instruction → List Event
+script_events g operations table [] = []
+script_events g operations table (instr ∷ script) =
+    if_done (refusal g operations table instr) (events_of g operations table instr) []
+    ++ script_events g operations (table_after g operations table instr) script
+
+-- the commands that the replies count
+abbrev pub plus : Counts → Counts → Counts
+plus a b = record { aap = a.aap + b.aap; ap = a.ap + b.ap }
+
+abbrev pub counted_in : Reply → Counts
+counted_in (Done counts) = counts
+counted_in (Refused reason) = record { aap = 0; ap = 0 }
+
+abbrev pub sum_of : List Reply → Counts
+sum_of [] = record { aap = 0; ap = 0 }
+sum_of (reply ∷ rest) = plus (counted_in reply) (sum_of rest)
+
+-- a chip's counters after so many row commands more
+abbrev pub with_counts : Counters → Counts → Counters
+with_counts k counts = record k { aap = k.aap + counts.aap; ap = k.ap + counts.ap }
+
+abbrev pub is_refused : Reply → Bool
+is_refused (Done counts) = false
+is_refused (Refused reason) = true
+
+-- the rows that done loads write and done prints read
+abbrev pub rows_loaded : Geometry → List Named → Instruction → ℕ
+rows_loaded g table (Load name values) = let o = object_named table name in o.width * segments g o
+rows_loaded g table (Init name count n) = 0
+rows_loaded g table (Bbop op dst srcs count n) = 0
+rows_loaded g table (Fill name value) = 0
+rows_loaded g table (Print name) = 0
+rows_loaded g table (Free name) = 0
+rows_loaded g table (Order o) = 0
+
+abbrev pub rows_printed : Geometry → List Named → Instruction → ℕ
+rows_printed g table (Print name) = let o = object_named table name in o.width * segments g o
+rows_printed g table (Load name values) = 0
+rows_printed g table (Init name count n) = 0
+rows_printed g table (Bbop op dst srcs count n) = 0
+rows_printed g table (Fill name value) = 0
+rows_printed g table (Free name) = 0
+rows_printed g table (Order o) = 0
+
+-- summed over the instructions that are done
+abbrev pub sum_done : (Geometry → List Named → Instruction → ℕ) → Geometry → Operations → List Named → List Instruction → ℕ
+sum_done rows g operations table [] = 0
+sum_done rows g operations table (instr ∷ script) =
+    (if is_none (refusal g operations table instr) then rows g table instr else 0) + sum_done rows g operations (table_after g operations table instr) script
