@@ -1,0 +1,4 @@
+pub mod Found
+pub mod Rows
+pub mod Counting
+pub mod Granting

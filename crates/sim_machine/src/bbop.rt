@@ -1,0 +1,204 @@
+//! A bbop on the banks of its destination.
+
+ghost use Rattle.std.specs.Prelude.{◌≡◌, ◌+◌, ◌*◌, ◌<◌, ◌≤◌, ◌^◌, length, map, Some, None, Ok, OnOk, OnErr, IfOk, IfSome, true};
+ghost use Rattle.std.specs.List.{find};
+ghost use Rattle.std.specs.Option.{option_map};
+ghost use Rattle.std.specs.Str.{bytes_eq};
+ghost use Rattle.dram_model.specs.Chip.{Rose};
+ghost use Rattle.uprog_code.specs.Shape.{shape_of, microprogram_of};
+ghost use Rattle.uprog_code.specs.Machine.{trace};
+ghost use Rattle.uprog_code.specs.Count.{walked};
+ghost use Rattle.uprog_code.specs.Bound.{bound_of};
+ghost use Rattle.uprog_code.specs.Fits.{Fits};
+ghost use Rattle.uprog_code.specs.Legal.{IsLegalCode};
+ghost use Rattle.object_alloc.specs.Spelling.{IsObject};
+ghost use Rattle.machine_model.specs.Columns.{segments};
+ghost use Rattle.machine_model.specs.Refusals.{bbop_conditions, first, object_named};
+ghost use Rattle.machine_model.specs.Script.{with_counts};
+ghost use Rattle.machine_model.specs.Steps.{reply_to, times};
+ghost use Rattle.sim_machine.specs.Did.{Did, shown};
+ghost use Rattle.machine_model.specs.declared.Reply.{Reply};
+ghost use Rattle.machine_model.specs.Operations.{operation_of, operations_in};
+ghost use Rattle.sim_machine.specs.Granted.{IsGranted, IsSetting, banks_events, granted_counts, granted_events, instr_events, said_bbop};
+
+use crate::refusal::{Bbop, Grant, allow, object_named};
+use arrayvec::ArrayVec;
+use bit_rows::WIDTH_MAX;
+use dram_model::{ChipFault, Dram, Geometry};
+use machine_model::{Reply, Why};
+use object_alloc::{Object, Table};
+use text_lex::Name;
+use uprog_code::{Binding, Counts, EntryCode, WALK_MAX};
+use uprog_ctl::run;
+
+/// The entry of this name.
+pub(crate) fn entry_named<'a>(entries: &'a [EntryCode], op: &Name) -> Option<&'a EntryCode>
+    ensures value { option_map (λ e. microprogram_of e.now) result ≡ find (λ m. bytes_eq m.name op.now) (map microprogram_of entries.now) }
+{
+    for entry in entries {
+        if entry.head.name == *op {
+            return Some(entry);
+        }
+    }
+    None
+}
+
+/// How many banks an object's elements take.
+pub(crate) fn segments(g: Geometry, o: Object) -> u16
+    requires words { 0 < g.words }
+    requires object { IsObject g o }
+    ensures value { result ≡ segments g o }
+    ensures fits { result ≤ g.banks }
+{
+    o.count.div_ceil(64 * u32::from(g.words)) as u16
+}
+
+/// The first rows of the sources.
+fn bases(table: &Table, srcs: &[Name]) -> ArrayVec<u16, 4>
+    requires { length srcs.now ≤ 4 }
+    ensures { result.items ≡ map (λ name. (object_named table.now.pairs name).base) srcs.now }
+{
+    let mut bases = ArrayVec::new();
+    for src in srcs {
+        bases.push(object_named(table, src).base);
+    }
+    bases
+}
+
+/// Where the operation's rows lie: those of its objects, and the scratch that it was granted.
+pub(crate) fn bind(table: &Table, bbop: &Bbop<'_>, scratch: u16) -> Binding
+    requires { length bbop.now.srcs.now ≤ 4 }
+    ensures width { result.n ≡ bbop.now.n }
+    ensures result { (bound_of result).result ≡ (object_named table.now.pairs bbop.now.dst.now).base }
+    ensures sources { (bound_of result).sources ≡ map (λ name. (object_named table.now.pairs name).base) bbop.now.srcs.now }
+    ensures scratch { (bound_of result).scratch ≡ scratch }
+{
+    Binding {
+        n: bbop.n,
+        result: object_named(table, bbop.dst).base,
+        sources: bases(table, bbop.srcs),
+        scratch,
+    }
+}
+
+/// Runs the entry in the first banks, one after another.
+pub(crate) fn run_banks<D: Dram>(
+    dram: &mut D,
+    entry: &EntryCode,
+    binding: &Binding,
+    counts: Counts,
+    banks: u16,
+) -> Result<(), ChipFault>
+    requires begun { D.begun dram.old }
+    requires banks { banks ≤ (D.geometry dram.old).banks }
+    requires few_banks { banks ≤ 16 }
+    requires legal { IsLegalCode (shape_of entry.now.head) entry.now.code.items }
+    requires some { 0 < binding.now.n }
+    requires narrow { binding.now.n ≤ WIDTH_MAX }
+    requires fits { Fits (D.geometry dram.old).rows (shape_of entry.now.head) binding.now.n (bound_of binding.now) }
+    requires walks { walked (trace (shape_of entry.now.head) entry.now.code.items binding.now.n) ≡ Ok counts }
+    requires few { counts.aap + counts.ap ≤ WALK_MAX }
+    requires aap_room { (D.counters dram.old).aap < 2 ^ 61 }
+    requires ap_room { (D.counters dram.old).ap < 2 ^ 61 }
+    ensures begun { D.begun dram.new }
+    ensures borrow { D.borrow dram.new ≡ D.borrow dram.old }
+    ensures geometry { D.geometry dram.new ≡ D.geometry dram.old }
+    ensures faults { D.faults dram.old ≤ D.faults dram.new }
+    ensures did { OnOk result (Did (banks_events (D.geometry dram.old).rows (microprogram_of entry.now) binding.now banks) (shown (D.banks dram.old) (D.counters dram.old) (D.log dram.old)) (shown (D.banks dram.new) (D.counters dram.new) (D.log dram.new))) }
+    ensures counters { OnOk result (D.counters dram.new ≡ with_counts (D.counters dram.old) (times banks counts)) }
+    ensures rose { OnErr result (Rose (D.faults dram.old) (D.faults dram.new)) }
+{
+    for bank in 0..banks {
+        run(dram, bank, entry, binding)?;
+    }
+    Ok(())
+}
+
+/// So many times the commands.
+fn times_counts(banks: u16, counts: Counts) -> Counts
+    requires banks { banks ≤ 16 }
+    requires few { counts.aap + counts.ap ≤ WALK_MAX }
+    ensures { result ≡ times banks counts }
+{
+    Counts {
+        aap: u64::from(banks) * counts.aap,
+        ap: u64::from(banks) * counts.ap,
+    }
+}
+
+/// The chip's shape, the table of its objects, and the program that its bbops run.
+#[derive(Clone, Copy)]
+pub(crate) struct Setting<'a> {
+    pub geometry: Geometry,
+    pub table: &'a Table,
+    pub entries: &'a [EntryCode],
+}
+
+/// Runs a bbop that is granted.
+fn run_granted<D: Dram>(
+    setting: &Setting<'_>,
+    entry: &EntryCode,
+    bbop: &Bbop<'_>,
+    grant: Grant,
+    dram: &mut D,
+) -> Result<Reply, ChipFault>
+    requires begun { D.begun dram.old }
+    requires geometry { D.geometry dram.old ≡ setting.now.geometry }
+    requires set { IsSetting setting.now.geometry setting.now.table.now (map microprogram_of setting.now.entries.now) }
+    requires few { length bbop.now.srcs.now ≤ 4 }
+    requires legal { IsLegalCode (shape_of entry.now.head) entry.now.code.items }
+    requires some { 0 < bbop.now.n }
+    requires narrow { bbop.now.n ≤ WIDTH_MAX }
+    requires allowed { first (bbop_conditions setting.now.table.now.limit setting.now.table.now.pairs (operation_of (microprogram_of entry.now)) bbop.now.dst.now bbop.now.srcs.now bbop.now.count bbop.now.n) ≡ None }
+    requires granted { IsGranted setting.now.table.now.limit setting.now.table.now.pairs (microprogram_of entry.now) bbop.now.n grant }
+    requires aap_room { (D.counters dram.old).aap < 2 ^ 61 }
+    requires ap_room { (D.counters dram.old).ap < 2 ^ 61 }
+    ensures begun { D.begun dram.new }
+    ensures borrow { D.borrow dram.new ≡ D.borrow dram.old }
+    ensures geometry { D.geometry dram.new ≡ D.geometry dram.old }
+    ensures faults { D.faults dram.old ≤ D.faults dram.new }
+    ensures reply { IfOk result (λ reply. reply ≡ Reply.Done (granted_counts setting.now.geometry setting.now.table.now.pairs (microprogram_of entry.now) bbop.now.dst.now bbop.now.n)) }
+    ensures did { OnOk result (Did (granted_events setting.now.geometry setting.now.table.now.pairs (microprogram_of entry.now) bbop.now.dst.now bbop.now.srcs.now bbop.now.n) (shown (D.banks dram.old) (D.counters dram.old) (D.log dram.old)) (shown (D.banks dram.new) (D.counters dram.new) (D.log dram.new))) }
+    ensures aap_grows { OnOk result ((D.counters dram.new).aap ≤ (D.counters dram.old).aap + 16 * WALK_MAX) }
+    ensures ap_grows { OnOk result ((D.counters dram.new).ap ≤ (D.counters dram.old).ap + 16 * WALK_MAX) }
+    ensures rose { OnErr result (Rose (D.faults dram.old) (D.faults dram.new)) }
+{
+    let binding = bind(setting.table, bbop, grant.scratch);
+    let banks = segments(setting.geometry, object_named(setting.table, bbop.dst));
+    run_banks(dram, entry, &binding, grant.counts, banks)?;
+    Ok(Reply::Done(times_counts(banks, grant.counts)))
+}
+
+/// Does a bbop on the chip, or says why it is refused.
+pub(crate) fn do_bbop<D: Dram>(
+    setting: &Setting<'_>,
+    op: &Name,
+    bbop: &Bbop<'_>,
+    dram: &mut D,
+) -> Result<Reply, ChipFault>
+    requires begun { D.begun dram.old }
+    requires geometry { D.geometry dram.old ≡ setting.now.geometry }
+    requires set { IsSetting setting.now.geometry setting.now.table.now (map microprogram_of setting.now.entries.now) }
+    requires few { length bbop.now.srcs.now ≤ 4 }
+    requires some { 0 < bbop.now.n }
+    requires narrow { bbop.now.n ≤ WIDTH_MAX }
+    requires aap_room { (D.counters dram.old).aap < 2 ^ 61 }
+    requires ap_room { (D.counters dram.old).ap < 2 ^ 61 }
+    ensures begun { D.begun dram.new }
+    ensures borrow { D.borrow dram.new ≡ D.borrow dram.old }
+    ensures geometry { D.geometry dram.new ≡ D.geometry dram.old }
+    ensures faults { D.faults dram.old ≤ D.faults dram.new }
+    ensures reply { IfOk result (λ reply. reply ≡ reply_to setting.now.geometry (operations_in (map microprogram_of setting.now.entries.now)) setting.now.table.now.pairs (said_bbop op.now bbop.now)) }
+    ensures did { OnOk result (Did (instr_events setting.now.geometry (operations_in (map microprogram_of setting.now.entries.now)) setting.now.table.now.pairs (said_bbop op.now bbop.now)) (shown (D.banks dram.old) (D.counters dram.old) (D.log dram.old)) (shown (D.banks dram.new) (D.counters dram.new) (D.log dram.new))) }
+    ensures aap_grows { OnOk result ((D.counters dram.new).aap ≤ (D.counters dram.old).aap + 16 * WALK_MAX) }
+    ensures ap_grows { OnOk result ((D.counters dram.new).ap ≤ (D.counters dram.old).ap + 16 * WALK_MAX) }
+    ensures rose { OnErr result (Rose (D.faults dram.old) (D.faults dram.new)) }
+{
+    match entry_named(setting.entries, op) {
+        None => Ok(Reply::Refused(Why::NoOp)),
+        Some(entry) => match allow(setting.table, entry, bbop) {
+            Err(why) => Ok(Reply::Refused(why)),
+            Ok(grant) => run_granted(setting, entry, bbop, grant, dram),
+        },
+    }
+}

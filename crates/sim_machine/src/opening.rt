@@ -1,0 +1,116 @@
+//! Giving a chip the rows of an image.
+
+ghost use Rattle.std.specs.Prelude.{◌≡◌, ◌+◌, ◌*◌, ◌<◌, ◌≤◌, ◌^◌, length, OnOk, OnErr, ◌∷◌, []};
+ghost use Rattle.dram_model.specs.Chip.{Event, Rose};
+ghost use Rattle.object_alloc.specs.Bytes.{bits_of_bytes};
+ghost use Rattle.object_alloc.specs.Reading.{rows_size};
+ghost use Rattle.object_alloc.specs.Spelling.{row_at};
+ghost use Rattle.sim_machine.specs.Did.{Did, shown};
+ghost use Rattle.sim_machine.specs.Opening.{bank_writes, all_writes};
+
+use dram_model::{ChipFault, Dram, Geometry};
+use object_alloc::words_of_bytes;
+
+/// Writes one row, given by its bytes.
+fn write_row<D: Dram>(
+    dram: &mut D,
+    bank: u16,
+    row: u16,
+    bytes: &[u8],
+    stage: &mut [u64],
+) -> Result<(), ChipFault>
+    requires begun { D.begun dram.old }
+    requires bank { bank < (D.geometry dram.old).banks }
+    requires row { row < (D.geometry dram.old).rows }
+    requires words { length stage.old ≡ (D.geometry dram.old).words }
+    requires bytes { length bytes.now ≡ 8 * (D.geometry dram.old).words }
+    requires room { (D.counters dram.old).writes < 2 ^ 63 }
+    ensures begun { D.begun dram.new }
+    ensures borrow { D.borrow dram.new ≡ D.borrow dram.old }
+    ensures geometry { D.geometry dram.new ≡ D.geometry dram.old }
+    ensures stage { length stage.new ≡ length stage.old }
+    ensures faults { D.faults dram.old ≤ D.faults dram.new }
+    ensures did { OnOk result (Did (Event.Write bank row (bits_of_bytes bytes.now) ∷ []) (shown (D.banks dram.old) (D.counters dram.old) (D.log dram.old)) (shown (D.banks dram.new) (D.counters dram.new) (D.log dram.new))) }
+    ensures rose { OnErr result (Rose (D.faults dram.old) (D.faults dram.new)) }
+{
+    words_of_bytes(bytes, stage);
+    dram.write_row(bank, row, stage)
+}
+
+/// Where the bytes of a row begin among those of all rows.
+fn row_start(g: Geometry, bank: u16, row: u16) -> usize
+    ensures { result ≡ 8 * g.words * (bank * g.rows + row) }
+{
+    8 * usize::from(g.words) * (usize::from(bank) * usize::from(g.rows) + usize::from(row))
+}
+
+/// The bytes of one row among those of all rows.
+fn row_bytes(g: Geometry, rows: &[u8], bank: u16, row: u16) -> &[u8]
+    requires bank { bank < g.banks }
+    requires row { row < g.rows }
+    requires bytes { length rows.now ≡ rows_size g }
+    ensures value { result.now ≡ row_at g rows.now bank row }
+    ensures length { length result.now ≡ 8 * g.words }
+{
+    let (_, rest) = rows.split_at(row_start(g, bank, row));
+    let (bytes, _) = rest.split_at(8 * usize::from(g.words));
+    bytes
+}
+
+/// Writes the rows of one bank, upwards.
+fn write_bank<D: Dram>(
+    dram: &mut D,
+    g: Geometry,
+    bank: u16,
+    rows: &[u8],
+    stage: &mut [u64],
+) -> Result<(), ChipFault>
+    requires begun { D.begun dram.old }
+    requires geometry { D.geometry dram.old ≡ g }
+    requires bank { bank < g.banks }
+    requires small { g.banks * g.rows * g.words ≤ 8388608 }
+    requires words { length stage.old ≡ g.words }
+    requires bytes { length rows.now ≡ rows_size g }
+    requires room { (D.counters dram.old).writes < 2 ^ 62 }
+    ensures begun { D.begun dram.new }
+    ensures borrow { D.borrow dram.new ≡ D.borrow dram.old }
+    ensures geometry { D.geometry dram.new ≡ D.geometry dram.old }
+    ensures stage { length stage.new ≡ length stage.old }
+    ensures faults { D.faults dram.old ≤ D.faults dram.new }
+    ensures did { OnOk result (Did (bank_writes g rows.now bank) (shown (D.banks dram.old) (D.counters dram.old) (D.log dram.old)) (shown (D.banks dram.new) (D.counters dram.new) (D.log dram.new))) }
+    ensures writes { OnOk result ((D.counters dram.new).writes ≡ (D.counters dram.old).writes + g.rows) }
+    ensures rose { OnErr result (Rose (D.faults dram.old) (D.faults dram.new)) }
+{
+    for row in 0..g.rows {
+        write_row(dram, bank, row, row_bytes(g, rows, bank, row), stage)?;
+    }
+    Ok(())
+}
+
+/// Writes every row of every bank, bank by bank and rows upwards.
+pub(crate) fn write_rows<D: Dram>(
+    dram: &mut D,
+    g: Geometry,
+    rows: &[u8],
+    stage: &mut [u64],
+) -> Result<(), ChipFault>
+    requires begun { D.begun dram.old }
+    requires geometry { D.geometry dram.old ≡ g }
+    requires banks { g.banks ≤ 16 }
+    requires small { g.banks * g.rows * g.words ≤ 8388608 }
+    requires words { length stage.old ≡ g.words }
+    requires bytes { length rows.now ≡ rows_size g }
+    requires fresh { (D.counters dram.old).writes ≡ 0 }
+    ensures begun { D.begun dram.new }
+    ensures borrow { D.borrow dram.new ≡ D.borrow dram.old }
+    ensures geometry { D.geometry dram.new ≡ D.geometry dram.old }
+    ensures stage { length stage.new ≡ length stage.old }
+    ensures faults { D.faults dram.old ≤ D.faults dram.new }
+    ensures did { OnOk result (Did (all_writes g rows.now) (shown (D.banks dram.old) (D.counters dram.old) (D.log dram.old)) (shown (D.banks dram.new) (D.counters dram.new) (D.log dram.new))) }
+    ensures rose { OnErr result (Rose (D.faults dram.old) (D.faults dram.new)) }
+{
+    for bank in 0..g.banks {
+        write_bank(dram, g, bank, rows, stage)?;
+    }
+    Ok(())
+}

@@ -1,0 +1,216 @@
+//! Why a bbop is refused.
+
+ghost use Rattle.std.specs.Prelude.{◌≡◌, ℕ, ◌+◌, ◌<◌, ◌≤◌, ◌==◌, not, is_none, map, zip, ◌∷◌, List, Bool, Option, Some, None, length, position, IfSome, IfOk, IfErr, OnOk};
+ghost use Rattle.std.specs.Option.{option_map};
+ghost use Rattle.std.specs.Str.{bytes_eq};
+ghost use Rattle.uprog_code.specs.Shape.{microprogram_of, need, shape_of, width};
+ghost use Rattle.uprog_code.specs.Legal.{IsLegalCode};
+ghost use Rattle.machine_model.specs.declared.Why.{Why};
+ghost use Rattle.sim_machine.specs.Granted.{IsGranted};
+ghost use Rattle.machine_model.specs.Operations.{operation_of};
+ghost use Rattle.machine_model.specs.Refusals.{object_named, is_absent, is_misfit, at_place, first, operand_conditions, grant_conditions, bbop_conditions};
+
+use bit_rows::WIDTH_MAX;
+use machine_model::Why;
+use object_alloc::{Object, Table};
+use text_lex::Name;
+use uprog_code::{Counts, EntryCode, Head, Kind, walk};
+
+/// What is read of a name that no object has.
+const NOTHING: Object = Object {
+    base: 0,
+    width: 0,
+    count: 0,
+};
+
+/// The object of this name.
+pub(crate) fn object_named(table: &Table, name: &Name) -> Object
+    ensures { result ≡ object_named table.now.pairs name.now }
+{
+    table.look_up(name).unwrap_or(NOTHING)
+}
+
+/// Whether no object has this name.
+#[tactic(auto, using(crate::proofs::Found::places))]
+fn is_absent(table: &Table, name: &Name) -> bool
+    ensures { result ≡ is_absent table.now.pairs name.now }
+{
+    table.look_up(name).is_none()
+}
+
+/// Whether the object is not as wide as an operand of this kind at width n.
+fn is_misfit(kind: Kind, object: Object, n: u8) -> bool
+    ensures { result ≡ not (object.width == width kind n) }
+{
+    match kind {
+        Kind::Word => object.width != n,
+        Kind::Bit => object.width != 1,
+    }
+}
+
+/// Where the first source is that no object has.
+fn absent_source(table: &Table, srcs: &[Name]) -> Option<usize>
+    ensures value { result ≡ position (is_absent table.now.pairs) srcs.now }
+    ensures bound { IfSome result (λ at. at < length srcs.now) }
+{
+    srcs.iter().position(|src| is_absent(table, src))
+}
+
+/// Where the first source is that has another number of elements.
+fn unlike_source(table: &Table, srcs: &[Name], count: u32) -> Option<usize>
+    ensures value { result ≡ position (λ src. not ((object_named table.now.pairs src).count == count)) srcs.now }
+    ensures bound { IfSome result (λ at. at < length srcs.now) }
+{
+    srcs.iter()
+        .position(|src| object_named(table, src).count != count)
+}
+
+/// Where the first source is that is named as the destination is.
+fn same_source(dst: &Name, srcs: &[Name]) -> Option<usize>
+    ensures value { result ≡ position (λ src. bytes_eq src dst.now) srcs.now }
+    ensures bound { IfSome result (λ at. at < length srcs.now) }
+{
+    srcs.iter().position(|src| src == dst)
+}
+
+/// The first operand that no object has.
+#[tactic(auto, using(crate::proofs::Found::places))]
+fn no_object(table: &Table, dst: &Name, srcs: &[Name]) -> Option<Why>
+    requires { length srcs.now ≤ 4 }
+    ensures { result ≡ at_place Why.NoObject 0 (map (is_absent table.now.pairs) (dst.now ∷ srcs.now)) }
+{
+    if is_absent(table, dst) {
+        return Some(Why::NoObject(0));
+    }
+    match absent_source(table, srcs) {
+        Some(at) => Some(Why::NoObject(at as u32 + 1)),
+        None => None,
+    }
+}
+
+/// The first operand that has another number of elements.
+#[tactic(auto, using(crate::proofs::Found::places))]
+fn bad_size(table: &Table, dst: &Name, srcs: &[Name], count: u32) -> Option<Why>
+    requires { length srcs.now ≤ 4 }
+    ensures { result ≡ at_place Why.Size 0 (map (λ o. not (o.count == count)) (map (object_named table.now.pairs) (dst.now ∷ srcs.now))) }
+{
+    if object_named(table, dst).count != count {
+        return Some(Why::Size(0));
+    }
+    match unlike_source(table, srcs, count) {
+        Some(at) => Some(Why::Size(at as u32 + 1)),
+        None => None,
+    }
+}
+
+/// The first source that is named as the destination is.
+#[tactic(auto, using(crate::proofs::Found::places))]
+fn overlap(dst: &Name, srcs: &[Name]) -> Option<Why>
+    requires { length srcs.now ≤ 4 }
+    ensures { result ≡ at_place Why.Overlap 1 (map (λ name. bytes_eq name dst.now) srcs.now) }
+{
+    match same_source(dst, srcs) {
+        Some(at) => Some(Why::Overlap(at as u32 + 1)),
+        None => None,
+    }
+}
+
+/// Where the first source is that is not as wide as its kind asks.
+fn misfit_source(table: &Table, kinds: &[Kind], srcs: &[Name], n: u8) -> Option<usize>
+    ensures value { result ≡ position (λ pair. is_misfit n (pair.0, object_named table.now.pairs pair.1)) (zip kinds.now srcs.now) }
+    ensures bound { IfSome result (λ at. at < length srcs.now) }
+{
+    kinds.iter().zip(srcs).position(|(kind, src)| is_misfit(*kind, object_named(table, src), n))
+}
+
+/// The first operand that is not as wide as its kind asks.
+#[tactic(auto, using(crate::proofs::Found::places))]
+fn bad_width(table: &Table, head: &Head, dst: &Name, srcs: &[Name], n: u8) -> Option<Why>
+    requires { length srcs.now ≤ 4 }
+    ensures { result ≡ at_place Why.Width 0 (map (is_misfit n) (zip (head.now.result ∷ head.now.sources.items) (map (object_named table.now.pairs) (dst.now ∷ srcs.now)))) }
+{
+    if is_misfit(head.result, object_named(table, dst), n) {
+        return Some(Why::Width(0));
+    }
+    match misfit_source(table, head.sources.as_slice(), srcs, n) {
+        Some(at) => Some(Why::Width(at as u32 + 1)),
+        None => None,
+    }
+}
+
+/// The rows that an operation's scratch takes at width n.
+pub(crate) fn scratch_rows(head: &Head, n: u8) -> u16
+    ensures { result ≡ need (shape_of head.now) n }
+{
+    u16::from(head.bits) + u16::from(n) * u16::from(head.words)
+}
+
+/// An operation's operands, the number of their elements and the width.
+#[derive(Clone, Copy)]
+pub(crate) struct Bbop<'a> {
+    pub dst: &'a Name,
+    pub srcs: &'a [Name],
+    pub count: u32,
+    pub n: u8,
+}
+
+/// Why the operands do not fit the operation.
+fn operands_refusal(table: &Table, head: &Head, bbop: &Bbop<'_>) -> Option<Why>
+    requires { length bbop.now.srcs.now ≤ 4 }
+    ensures { result ≡ first (operand_conditions table.now.pairs (shape_of head.now) bbop.now.dst.now bbop.now.srcs.now bbop.now.count bbop.now.n) }
+{
+    if let Some(why) = no_object(table, bbop.dst, bbop.srcs) {
+        return Some(why);
+    }
+    if let Some(why) = bad_width(table, head, bbop.dst, bbop.srcs, bbop.n) {
+        return Some(why);
+    }
+    if let Some(why) = bad_size(table, bbop.dst, bbop.srcs, bbop.count) {
+        return Some(why);
+    }
+    overlap(bbop.dst, bbop.srcs)
+}
+
+/// What a bbop that is not refused takes: its row commands in one bank, and the first row of its scratch.
+#[derive(Clone, Copy)]
+pub(crate) struct Grant {
+    pub counts: Counts,
+    pub scratch: u16,
+}
+
+/// The row commands and the scratch of an operation at width n.
+fn granted(table: &Table, entry: &EntryCode, n: u8) -> Result<Grant, Why>
+    requires legal { IsLegalCode (shape_of entry.now.head) entry.now.code.items }
+    requires some { 0 < n }
+    requires narrow { n ≤ WIDTH_MAX }
+    ensures refused { IfErr result (λ why. first (grant_conditions table.now.limit table.now.pairs (operation_of (microprogram_of entry.now)) n) ≡ Some why) }
+    ensures granted { IfOk result (IsGranted table.now.limit table.now.pairs (microprogram_of entry.now) n) }
+{
+    let counts = match walk(entry, n) {
+        Ok(counts) => counts,
+        Err(walk) => return Err(Why::BadWalk(walk)),
+    };
+    match table.find_rows(scratch_rows(&entry.head, n)) {
+        Some(scratch) => Ok(Grant { counts, scratch }),
+        None => Err(Why::NoRows),
+    }
+}
+
+/// What a bbop of this entry is granted, or the first condition that refuses it, in the order of the table.
+pub(crate) fn allow(table: &Table, entry: &EntryCode, bbop: &Bbop<'_>) -> Result<Grant, Why>
+    requires few { length bbop.now.srcs.now ≤ 4 }
+    requires legal { IsLegalCode (shape_of entry.now.head) entry.now.code.items }
+    requires some { 0 < bbop.now.n }
+    requires narrow { bbop.now.n ≤ WIDTH_MAX }
+    ensures refused { IfErr result (λ why. first (bbop_conditions table.now.limit table.now.pairs (operation_of (microprogram_of entry.now)) bbop.now.dst.now bbop.now.srcs.now bbop.now.count bbop.now.n) ≡ Some why) }
+    ensures allowed { OnOk result (first (bbop_conditions table.now.limit table.now.pairs (operation_of (microprogram_of entry.now)) bbop.now.dst.now bbop.now.srcs.now bbop.now.count bbop.now.n) ≡ None) }
+    ensures granted { IfOk result (IsGranted table.now.limit table.now.pairs (microprogram_of entry.now) bbop.now.n) }
+{
+    if bbop.srcs.len() != entry.head.sources.len() {
+        return Err(Why::Arity);
+    }
+    if let Some(why) = operands_refusal(table, &entry.head, bbop) {
+        return Err(why);
+    }
+    granted(table, entry, bbop.n)
+}
