@@ -1,0 +1,58 @@
+-- What stands after steps: the files, what was sent, and which counts of faults rose.
+use Rattle.std.specs.Prelude.{◌≡◌, ◌⊎◌, ℕ, ◌+◌, ◌≤◌, List, [], ◌∷◌, ◌++◌, Option, Some, None}
+use Rattle.host_edge.specs.Views.{Files, NoCountFalls, Told, Rose, RoseBy}
+use Rattle.cli_model.specs.World.{World, with_file}
+use Rattle.cli_model.specs.Steps.{Step, Load, Take, Store, Open, Use, Put, Refusal, Reason, CannotRead, TooLong, Refused, NoMemory, CannotWrite, PutFailed, ChipFailed, Fails, Goes, Done, Stopped}
+
+-- the files after the stores of these steps
+abbrev pub files_after : List Step → Files → Files
+files_after [] files = files
+files_after (Load name limit text refusal ∷ steps) files = files_after steps files
+files_after (Take ∷ steps) files = files_after steps files
+files_after (Store name bytes ∷ steps) files = files_after steps (with_file name bytes files)
+files_after (Open ∷ steps) files = files_after steps files
+files_after (Use ∷ steps) files = files_after steps files
+files_after (Put bytes ∷ steps) files = files_after steps files
+
+-- what these steps send
+abbrev pub sent_by : List Step → List ℕ
+sent_by [] = []
+sent_by (Load name limit text refusal ∷ steps) = sent_by steps
+sent_by (Take ∷ steps) = sent_by steps
+sent_by (Store name bytes ∷ steps) = sent_by steps
+sent_by (Open ∷ steps) = sent_by steps
+sent_by (Use ∷ steps) = sent_by steps
+sent_by (Put bytes ∷ steps) = bytes ++ sent_by steps
+
+-- no count of faults falls
+pub record CountsOn (old new : World) : Type 0 where
+  pub files : NoCountFalls old.files new.files
+  pub sink : old.sink.faults ≤ new.sink.faults
+  pub chip : old.chip ≤ new.chip
+
+-- all of these steps were done
+pub record Stands (steps : List Step) (old new : World) : Type 0 where
+  pub files : Told (λ before after. after ≡ files_after steps before) old.files.holds new.files.holds
+  pub sent : Told (λ before after. after ≡ before ++ sent_by steps) old.sink.sent new.sink.sent
+  pub counts : CountsOn old new
+
+-- the steps before one were done, and that one failed
+pub record StoppedAt (steps : List Step) (reason : Reason) (old new : World) : Type 0 where
+  pub front : List Step
+  pub at : Step
+  pub rest : List Step
+  pub parts : front ++ at ∷ rest ≡ steps
+  pub failing : World
+  pub stands : Stands front old failing
+  pub fails : Fails at reason failing new
+  pub counts : CountsOn old new
+
+-- the count that rose, by the reason
+abbrev pub Caused : Reason → World → World → Type 0
+Caused (CannotRead name) old new = Rose (old.files.load_faults name) (new.files.load_faults name)
+Caused (TooLong name) old new = (limit : ℕ) × RoseBy (limit + 1) old.files.taken new.files.taken
+Caused (Refused refusal) old new = Unit {0}
+Caused NoMemory old new = Unit {0}
+Caused (CannotWrite name) old new = Rose old.files.store_faults new.files.store_faults
+Caused PutFailed old new = Rose old.sink.faults new.sink.faults
+Caused ChipFailed old new = Rose old.chip new.chip

@@ -1,0 +1,157 @@
+-- The steps of a command, and how it goes through them.
+use Rattle.std.specs.Prelude.{◌≡◌, ◌⊎◌, ℕ, ◌+◌, ◌≤◌, List, [], ◌∷◌, ◌++◌, length, Option, Some, None}
+use Rattle.host_edge.specs.Views.{FolderView, SinkView, Told, Rose, RoseBy, NoCountFalls, HasBytes, IsLonger, KeepsOthers, AppendsPart}
+use Rattle.cli_model.specs.World.{World, with_file}
+
+-- why a text is not accepted: the status, and the line that tells it
+pub record Refusal : Type 0 where
+  pub status : ℕ
+  pub line : List ℕ
+
+-- one step
+pub data Step : Type 0 where
+  -- the file of this name, of at most so many bytes, is loaded and holds this text, which may be refused
+  Load : (name : List ℕ) (limit : ℕ) (text : List ℕ) → Option Refusal → Step
+  -- memory is taken
+  Take : Step
+  -- the file of this name is set to these bytes
+  Store : (name bytes : List ℕ) → Step
+  -- memory is taken, and the chip begins
+  Open : Step
+  -- the chip is used
+  Use : Step
+  -- these bytes are sent
+  Put : List ℕ → Step
+
+-- why a command stopped
+pub data Reason : Type 0 where
+  CannotRead : List ℕ → Reason
+  TooLong : List ℕ → Reason
+  Refused : Refusal → Reason
+  NoMemory : Reason
+  CannotWrite : List ℕ → Reason
+  PutFailed : Reason
+  ChipFailed : Reason
+
+-- how a command ended
+pub data End : Type 0 where
+  Done : End
+  Stopped : Reason → End
+
+-- no file changes, no count falls, and the sink and the chip are as they were
+pub record ReadsOnly (old new : World) : Type 0 where
+  pub files : new.files.holds ≡ old.files.holds
+  pub counts : NoCountFalls old.files new.files
+  pub sink : new.sink ≡ old.sink
+  pub chip : new.chip ≡ old.chip
+
+-- the file was loaded, and has this text
+pub record Loaded (name : List ℕ) (limit : ℕ) (text : List ℕ) (old new : World) : Type 0 where
+  pub reads : ReadsOnly old new
+  pub bytes : HasBytes old.files name text
+  pub within : length text ≤ limit
+
+-- the file was set to these bytes, and all else is as it was
+pub record Stored (name bytes : List ℕ) (old new : World) : Type 0 where
+  pub files : Told (λ before after. after ≡ with_file name bytes before) old.files.holds new.files.holds
+  pub counts : NoCountFalls old.files new.files
+  pub sink : new.sink ≡ old.sink
+  pub chip : new.chip ≡ old.chip
+
+-- the chip was used, and all else is as it was
+pub record Used (old new : World) : Type 0 where
+  pub files : new.files ≡ old.files
+  pub sink : new.sink ≡ old.sink
+  pub chip : old.chip ≤ new.chip
+
+-- bytes were sent, related so to what was sent before, and all else is as it was
+pub record Sent (R : List ℕ → List ℕ → Type 0) (old new : World) : Type 0 where
+  pub files : new.files ≡ old.files
+  pub sent : Told R old.sink.sent new.sink.sent
+  pub faults : old.sink.faults ≤ new.sink.faults
+  pub chip : new.chip ≡ old.chip
+
+-- the step was done
+abbrev pub Does : Step → World → World → Type 0
+Does (Load name limit text refusal) old new = (refusal ≡ None) × Loaded name limit text old new
+Does Take old new = ReadsOnly old new
+Does (Store name bytes) old new = Stored name bytes old new
+Does Open old new = Used old new
+Does Use old new = Used old new
+Does (Put bytes) old new = Sent (λ before after. after ≡ before ++ bytes) old new
+
+-- the load of a file failed for this reason
+abbrev pub LoadFails : List ℕ → ℕ → List ℕ → Option Refusal → Reason → World → World → Type 0
+LoadFails name limit text refusal (CannotRead told) old new = (told ≡ name) × ReadsOnly old new × Rose (old.files.load_faults name) (new.files.load_faults name)
+LoadFails name limit text refusal (TooLong told) old new = (told ≡ name) × ReadsOnly old new × RoseBy (limit + 1) old.files.taken new.files.taken × IsLonger limit old.files name
+LoadFails name limit text refusal (Refused reason) old new = (refusal ≡ Some reason) × Loaded name limit text old new
+LoadFails name limit text refusal NoMemory old new = ReadsOnly old new
+LoadFails name limit text refusal (CannotWrite told) old new = ⊥
+LoadFails name limit text refusal PutFailed old new = ⊥
+LoadFails name limit text refusal ChipFailed old new = ⊥
+
+-- the store of a file failed: that file is unsaid, and all else is as it was
+pub record Unstored (name : List ℕ) (old new : World) : Type 0 where
+  pub others : Told (KeepsOthers name) old.files.holds new.files.holds
+  pub counts : NoCountFalls old.files new.files
+  pub rose : Rose old.files.store_faults new.files.store_faults
+  pub sink : new.sink ≡ old.sink
+  pub chip : new.chip ≡ old.chip
+
+abbrev pub IsNoMemory : Reason → Type 0
+IsNoMemory NoMemory = Unit {0}
+IsNoMemory (CannotRead name) = ⊥
+IsNoMemory (TooLong name) = ⊥
+IsNoMemory (Refused reason) = ⊥
+IsNoMemory (CannotWrite name) = ⊥
+IsNoMemory PutFailed = ⊥
+IsNoMemory ChipFailed = ⊥
+
+abbrev pub IsCannotWrite : List ℕ → Reason → Type 0
+IsCannotWrite name (CannotWrite told) = told ≡ name
+IsCannotWrite name NoMemory = ⊥
+IsCannotWrite name (CannotRead told) = ⊥
+IsCannotWrite name (TooLong told) = ⊥
+IsCannotWrite name (Refused reason) = ⊥
+IsCannotWrite name PutFailed = ⊥
+IsCannotWrite name ChipFailed = ⊥
+
+abbrev pub IsPutFailed : Reason → Type 0
+IsPutFailed PutFailed = Unit {0}
+IsPutFailed NoMemory = ⊥
+IsPutFailed (CannotRead name) = ⊥
+IsPutFailed (TooLong name) = ⊥
+IsPutFailed (Refused reason) = ⊥
+IsPutFailed (CannotWrite name) = ⊥
+IsPutFailed ChipFailed = ⊥
+
+abbrev pub IsChipFailed : Reason → Type 0
+IsChipFailed ChipFailed = Unit {0}
+IsChipFailed NoMemory = ⊥
+IsChipFailed (CannotRead name) = ⊥
+IsChipFailed (TooLong name) = ⊥
+IsChipFailed (Refused reason) = ⊥
+IsChipFailed (CannotWrite name) = ⊥
+IsChipFailed PutFailed = ⊥
+
+-- the step failed for this reason
+abbrev pub Fails : Step → Reason → World → World → Type 0
+Fails (Load name limit text refusal) reason old new = LoadFails name limit text refusal reason old new
+Fails Take reason old new = IsNoMemory reason × ReadsOnly old new
+Fails (Store name bytes) reason old new = IsCannotWrite name reason × Unstored name old new
+Fails Open reason old new = (IsNoMemory reason × Used old new) ⊎ (IsChipFailed reason × Used old new × Rose old.chip new.chip)
+Fails Use reason old new = IsChipFailed reason × Used old new × Rose old.chip new.chip
+Fails (Put bytes) reason old new = IsPutFailed reason × Sent (AppendsPart bytes) old new × Rose old.sink.faults new.sink.faults
+
+abbrev pub FailsBy : Step → End → World → World → Type 0
+FailsBy step Done old new = ⊥
+FailsBy step (Stopped reason) old new = Fails step reason old new
+
+abbrev pub EndsHere : End → World → World → Type 0
+EndsHere Done old new = new ≡ old
+EndsHere (Stopped reason) old new = ⊥
+
+-- A command goes through its steps in order: each is done, until all are, or until one fails, which ends it
+abbrev pub Goes : List Step → End → World → World → Type 0
+Goes [] end old new = EndsHere end old new
+Goes (step ∷ steps) end old new = ((mid : World) × (Does step old mid × Goes steps end mid new)) ⊎ FailsBy step end old new
