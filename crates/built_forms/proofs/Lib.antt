@@ -1,0 +1,5 @@
+pub mod Compiled
+pub mod Taken
+pub mod Tokens
+pub mod Script
+pub mod Single
