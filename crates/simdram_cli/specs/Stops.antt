@@ -1,0 +1,33 @@
+-- What a stop of the program says.
+use Rattle.std.specs.Prelude.{ℕ, List, codes, Result, Ok, Err}
+use Rattle.host_edge.specs.Views.{FolderView, SinkView}
+use Rattle.cli_model.specs.World.{World, world}
+use Rattle.cli_model.specs.Steps.{Step, Refusal, Reason, CannotRead, TooLong, Refused, NoMemory, CannotWrite, PutFailed, ChipFailed, End, Done, Stopped, Goes}
+use Rattle.built_forms.specs.Texts.{not_yet}
+use Rattle.simdram_cli.specs.declared.stop.NotYet.{NotYet}
+use Rattle.simdram_cli.specs.declared.stop.NotYet.TheVariants as form
+use Rattle.simdram_cli.specs.declared.stop.Stop.{Stop}
+use Rattle.simdram_cli.specs.declared.stop.Stop.TheVariants as stop
+
+abbrev pub refusal_by : NotYet → Refusal
+refusal_by (form.Ops line) = not_yet 4 (codes "ops line ") line
+refusal_by (form.Script line) = not_yet 6 (codes "script line ") line
+refusal_by (form.Image at) = not_yet 7 (codes "image byte ") at
+
+abbrev pub reason_of : Stop → Reason
+reason_of (stop.CannotRead name) = CannotRead name.now
+reason_of (stop.TooLong name) = TooLong name.now
+reason_of (stop.Refused form) = Refused (refusal_by form)
+reason_of stop.NoMemory = NoMemory
+reason_of (stop.CannotWrite name) = CannotWrite name.now
+reason_of stop.PutFailed = PutFailed
+reason_of stop.ChipFailed = ChipFailed
+
+-- how the steps ended that a function does
+abbrev pub end_of : {X : Type 0} → Result X Stop → End
+end_of (Ok x) = Done
+end_of (Err s) = Stopped (reason_of s)
+
+-- these steps were gone through, and they leave every sink and every chip as they are
+abbrev pub OnFiles : List Step → End → FolderView → FolderView → Type 0
+OnFiles steps end old new = (sink : SinkView) (chip : ℕ) → Goes steps end (world old sink chip) (world new sink chip)

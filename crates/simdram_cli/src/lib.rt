@@ -1,0 +1,8 @@
+//! The top of the program: the words of a command, its exit statuses and last lines.
+#![tactic(auto)]
+
+mod stop;
+mod words;
+
+pub use stop::{NotYet, Stop, status_of, tell};
+pub use words::{Command, IMAGE_MAX, OPS_MAX, RunNames, SCRIPT_MAX, command_of};

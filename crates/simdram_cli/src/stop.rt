@@ -1,0 +1,82 @@
+//! Why a command stops, its exit status and its last line.
+
+ghost use Rattle.std.specs.Prelude.{◌≡◌, ◌≤◌, ◌++◌, codes, decimal};
+ghost use Rattle.host_edge.specs.Views.{Told, AppendsPart};
+ghost use Rattle.cli_model.specs.Status.{reason_status, reason_line};
+ghost use Rattle.simdram_cli.specs.Stops.{reason_of};
+
+use host_edge::{Failed, Sink};
+use itoa::Buffer;
+
+/// A form that is not built yet, by its line or byte.
+#[derive(Clone, Copy, Debug, PartialEq, Eq)]
+pub enum NotYet {
+    Ops(u32),
+    Script(u32),
+    Image(u32),
+}
+
+/// Why a command stopped.
+#[derive(Clone, Copy, Debug)]
+pub enum Stop<'a> {
+    CannotRead(&'a str),
+    TooLong(&'a str),
+    Refused(NotYet),
+    NoMemory,
+    CannotWrite(&'a str),
+    PutFailed,
+    ChipFailed,
+}
+
+/// The exit status.
+pub fn status_of(stop: Stop<'_>) -> u8
+    ensures { result ≡ reason_status (reason_of stop.entry) }
+{
+    match stop {
+        Stop::CannotRead(_) => 2,
+        Stop::CannotWrite(_) | Stop::PutFailed => 3,
+        Stop::Refused(NotYet::Ops(_)) => 4,
+        Stop::Refused(NotYet::Script(_)) => 6,
+        Stop::Refused(NotYet::Image(_)) => 7,
+        Stop::ChipFailed => 9,
+        Stop::NoMemory => 10,
+        Stop::TooLong(_) => 11,
+    }
+}
+
+/// Puts three pieces, up to the first that fails.
+fn put_three<S: Sink>(first: &[u8], second: &[u8], third: &[u8], out: &mut S) -> Result<(), Failed>
+    ensures counts { (S.view out.old).faults ≤ (S.view out.new).faults }
+    ensures part { Told (AppendsPart (first.now ++ second.now ++ third.now)) (S.view out.old).sent (S.view out.new).sent }
+{
+    out.put(first)?;
+    out.put(second)?;
+    out.put(third)
+}
+
+/// Puts the line of a form that is not built.
+fn tell_not_yet<S: Sink>(what: &[u8], at: u32, out: &mut S) -> Result<(), Failed>
+    ensures counts { (S.view out.old).faults ≤ (S.view out.new).faults }
+    ensures part { Told (AppendsPart (what.now ++ decimal at ++ codes " not_yet\n")) (S.view out.old).sent (S.view out.new).sent }
+{
+    let mut buffer = Buffer::new();
+    put_three(what, buffer.format(at).as_bytes(), b" not_yet\n", out)
+}
+
+/// Puts the last line. A sink that failed is told nothing.
+pub fn tell<S: Sink>(stop: Stop<'_>, out: &mut S) -> Result<(), Failed>
+    ensures counts { (S.view out.old).faults ≤ (S.view out.new).faults }
+    ensures part { Told (AppendsPart (reason_line (reason_of stop.entry))) (S.view out.old).sent (S.view out.new).sent }
+{
+    match stop {
+        Stop::CannotRead(name) => put_three(b"cannot read ", name.as_bytes(), b"\n", out),
+        Stop::TooLong(name) => put_three(b"too long ", name.as_bytes(), b"\n", out),
+        Stop::CannotWrite(name) => put_three(b"cannot write ", name.as_bytes(), b"\n", out),
+        Stop::Refused(NotYet::Ops(at)) => tell_not_yet(b"ops line ", at, out),
+        Stop::Refused(NotYet::Script(at)) => tell_not_yet(b"script line ", at, out),
+        Stop::Refused(NotYet::Image(at)) => tell_not_yet(b"image byte ", at, out),
+        Stop::NoMemory => put_three(b"no memory\n", b"", b"", out),
+        Stop::ChipFailed => put_three(b"chip fault\n", b"", b"", out),
+        Stop::PutFailed => put_three(b"", b"", b"", out),
+    }
+}

@@ -1,0 +1,63 @@
+//! The words of a command.
+
+ghost use Rattle.std.specs.Prelude.{◌≡◌, [], ◌∷◌};
+ghost use Rattle.simdram_cli.specs.Words.{all_differ, are_apart, command_of};
+
+/// The greatest length of each file, in bytes.
+pub const OPS_MAX: u64 = 65_536;
+
+pub const SCRIPT_MAX: u64 = 16_777_216;
+
+pub const IMAGE_MAX: u64 = 67_115_022;
+
+/// The files of `run`.
+#[derive(Clone, Copy)]
+pub struct RunNames<'a> {
+    pub ops: &'a str,
+    pub prog: &'a str,
+    pub script: &'a str,
+    pub image: &'a str,
+    pub out: &'a str,
+}
+
+/// A command, with its words.
+#[derive(Clone, Copy)]
+pub enum Command<'a> {
+    Run(RunNames<'a>),
+}
+
+/// Whether no two of four names are equal.
+fn all_differ(a: &str, b: &str, c: &str, d: &str) -> bool
+    ensures { result ≡ all_differ (a.now ∷ b.now ∷ c.now ∷ d.now ∷ []) }
+{
+    (a != b && a != c && a != d) && ((b != c && b != d) && c != d)
+}
+
+/// Whether the five files are apart, but for IMAGE and OUT.
+fn are_apart(ops: &str, prog: &str, script: &str, image: &str, out: &str) -> bool
+    ensures { result ≡ are_apart ops.now prog.now script.now image.now out.now }
+{
+    all_differ(ops, prog, script, image) && all_differ(ops, prog, script, out)
+}
+
+/// The command that the words are.
+pub fn command_of<'a>(words: &[&'a str]) -> Option<Command<'a>>
+    ensures { result ≡ command_of words.now }
+{
+    match words {
+        [verb, ops, prog, script, image, out] => {
+            if *verb == "run" && are_apart(ops, prog, script, image, out) {
+                Some(Command::Run(RunNames {
+                    ops: *ops,
+                    prog: *prog,
+                    script: *script,
+                    image: *image,
+                    out: *out,
+                }))
+            } else {
+                None
+            }
+        }
+        _ => None,
+    }
+}
