@@ -3,3 +3,4 @@ pub mod Taken
 pub mod Tokens
 pub mod Script
 pub mod Single
+pub mod Sized

@@ -4,6 +4,7 @@ ghost use Rattle.std.specs.Prelude.{◌≡◌, ◌==◌, ◌<◌, ◌^◌, lengt
 ghost use Rattle.std.specs.List.{list_all};
 ghost use Rattle.object_alloc.specs.Exact.{found_in};
 ghost use Rattle.object_alloc.specs.Listed.{limit_of};
+ghost use Rattle.object_alloc.specs.Reading.{rows_size};
 ghost use Rattle.object_alloc.specs.Spelling.{IsImage, image_bytes, rows_in};
 ghost use Rattle.built_forms.specs.Texts.{is_built_image, image_found, image_of};
 ghost use Rattle.built_forms.specs.Answers.{NoImage};
@@ -38,6 +39,7 @@ pub fn read_built_image(bytes: &[u8], alloc: Global) -> Result<Image<'_>, FormNo
     ensures accepted { IfOk result (λ i. image_of bytes.now ≡ Ok (image_found (found_in i))) }
     ensures spelled { IfOk result (λ i. let rows = rows_in i.geometry i.rows.now in IsImage i.geometry i.table.pairs rows × (bytes.now ≡ image_bytes i.geometry i.table.pairs rows)) }
     ensures limit { IfOk result (λ i. i.table.limit ≡ limit_of i.geometry) }
+    ensures rows { IfOk result (λ i. length i.rows.now ≡ rows_size i.geometry) }
     ensures built { IfOk result (λ i. is_built_image (found_in i) ≡ true) }
     ensures refused { IfErr result (NoImage bytes.now) }
 {

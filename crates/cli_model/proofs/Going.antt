@@ -1,8 +1,8 @@
 -- How commands go.
-use Rattle.std.proofs.Common.{◌≡◌, ◌⊎◌, ℕ, ◌+◌, ◌≤◌, List, [], ◌∷◌, ◌++◌, Option, Some, None, refl, sym, ◌∙◌, ap, subst, inl, inr, arith, append_assoc, append-nil, min}
-use Rattle.host_edge.specs.Views.{Files, FolderView, SinkView, NoCountFalls, Told, Rose, RoseBy, raised, AppendsPart}
-use Rattle.cli_model.specs.World.{World, with_file}
-use Rattle.cli_model.specs.Steps.{Step, Load, Take, Store, Open, Use, Put, Reason, CannotRead, TooLong, Refused, NoMemory, CannotWrite, PutFailed, ChipFailed, End, Done, Stopped, Goes, Does, Fails, FailsBy, ReadsOnly, Loaded, Stored, Used, Sent, Unstored, IsNoMemory, IsCannotWrite, IsPutFailed, IsChipFailed}
+use Rattle.std.proofs.Common.{◌≡◌, ℕ, ◌+◌, ◌≤◌, List, [], ◌∷◌, ◌++◌, Option, Some, None, refl, sym, ◌∙◌, ap, subst, inl, inr, arith, append_assoc, append-nil}
+use Rattle.host_edge.specs.Views.{Files, FolderView, NoCountFalls, Told, Rose, RoseBy}
+use Rattle.cli_model.specs.World.{World}
+use Rattle.cli_model.specs.Steps.{Step, Load, Take, Store, Open, Use, Put, Reason, CannotRead, TooLong, Refused, NoMemory, CannotWrite, PutFailed, ChipFailed, End, Done, Stopped, Goes, Does, Fails, ReadsOnly, Stored, Used, Sent, Unstored, IsNoMemory, IsCannotWrite, IsPutFailed, IsChipFailed}
 use Rattle.cli_model.specs.Stands.{files_after, sent_by, CountsOn, Stands, StoppedAt, Caused}
 
 -- steps, and then others
@@ -46,7 +46,7 @@ no_falls f = record { load_faults = λ name. omega arith; store_faults = omega a
 used_count : (a b : World) → Used a b → CountsOn a b
 used_count a b u = record { files = rw u.files (no_falls a.files); sink = rw u.sink (omega arith); chip = u.chip }
 
-sent_count : (R : List ℕ → List ℕ → Type 0) (a b : World) → Sent R a b → CountsOn a b
+pub sent_count : (R : List ℕ → List ℕ → Type 0) (a b : World) → Sent R a b → CountsOn a b
 sent_count R a b s = record { files = rw s.files (no_falls a.files); sink = s.faults; chip = rw s.chip (omega arith) }
 
 stored_count : (name bytes : List ℕ) (a b : World) → Stored name bytes a b → CountsOn a b

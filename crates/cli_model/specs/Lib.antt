@@ -3,4 +3,5 @@ pub mod World
 pub mod Steps
 pub mod Status
 pub mod Stands
+pub mod Causes
 pub mod Laws

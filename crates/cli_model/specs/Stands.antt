@@ -1,8 +1,8 @@
 -- What stands after steps: the files, what was sent, and which counts of faults rose.
-use Rattle.std.specs.Prelude.{◌≡◌, ◌⊎◌, ℕ, ◌+◌, ◌≤◌, List, [], ◌∷◌, ◌++◌, Option, Some, None}
+use Rattle.std.specs.Prelude.{◌≡◌, ℕ, ◌+◌, ◌≤◌, List, [], ◌∷◌, ◌++◌}
 use Rattle.host_edge.specs.Views.{Files, NoCountFalls, Told, Rose, RoseBy}
 use Rattle.cli_model.specs.World.{World, with_file}
-use Rattle.cli_model.specs.Steps.{Step, Load, Take, Store, Open, Use, Put, Refusal, Reason, CannotRead, TooLong, Refused, NoMemory, CannotWrite, PutFailed, ChipFailed, Fails, Goes, Done, Stopped}
+use Rattle.cli_model.specs.Steps.{Step, Load, Take, Store, Open, Use, Put, Reason, CannotRead, TooLong, Refused, NoMemory, CannotWrite, PutFailed, ChipFailed, Fails}
 
 -- the files after the stores of these steps
 abbrev pub files_after : List Step → Files → Files

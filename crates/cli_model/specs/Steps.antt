@@ -1,6 +1,6 @@
 -- The steps of a command, and how it goes through them.
-use Rattle.std.specs.Prelude.{◌≡◌, ◌⊎◌, ℕ, ◌+◌, ◌≤◌, List, [], ◌∷◌, ◌++◌, length, Option, Some, None}
-use Rattle.host_edge.specs.Views.{FolderView, SinkView, Told, Rose, RoseBy, NoCountFalls, HasBytes, IsLonger, KeepsOthers, AppendsPart}
+use Rattle.std.specs.Prelude.{◌≡◌, ◌⊎◌, ℕ, ◌+◌, ◌≤◌, List, [], ◌∷◌, ◌++◌, length, Option, Some, None, Result, Ok, Err}
+use Rattle.host_edge.specs.Views.{Told, Rose, RoseBy, NoCountFalls, HasBytes, IsLonger, KeepsOthers, AppendsPart}
 use Rattle.cli_model.specs.World.{World, with_file}
 
 -- why a text is not accepted: the status, and the line that tells it
@@ -22,6 +22,11 @@ pub data Step : Type 0 where
   Use : Step
   -- these bytes are sent
   Put : List ℕ → Step
+
+-- a file is loaded; what its text is read as goes on, and a text that is refused ends the command
+abbrev pub loading : {A : Type 0} → (name : List ℕ) (limit : ℕ) (text : List ℕ) → Result A Refusal → (A → List Step) → List Step
+loading name limit text (Ok value) rest = Load name limit text None ∷ rest value
+loading name limit text (Err refusal) rest = Load name limit text (Some refusal) ∷ []
 
 -- why a command stopped
 pub data Reason : Type 0 where

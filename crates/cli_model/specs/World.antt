@@ -1,5 +1,5 @@
 -- What a command may change.
-use Rattle.std.specs.Prelude.{ℕ, List, Option, Some, bytes_eq, if◌then◌else◌}
+use Rattle.std.specs.Prelude.{ℕ, List, Some, bytes_eq, if◌then◌else◌}
 use Rattle.host_edge.specs.Views.{Files, FolderView, SinkView}
 
 -- all that the outside shows of itself at a moment: a folder, a sink, and the faults of a chip

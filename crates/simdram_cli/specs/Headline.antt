@@ -24,15 +24,7 @@ use Rattle.simdram_cli.specs.declared.words.Command.TheVariants.{Run}
 use Rattle.simdram_cli.specs.Words.{command_of}
 use Rattle.built_forms.specs.Texts.{ops_of, script_in, image_of}
 use Rattle.simdram_cli.specs.Run.{done_status}
-
--- what a chip shows: its banks, its counters since `begin`, and its log where it tells one
-pub record ChipView : Type 0 where
-  pub banks : Banks
-  pub counters : Counters
-  pub log : Option (List Event)
-
-abbrev pub chip_view : Banks → Counters → Option (List Event) → ChipView
-chip_view banks counters log = record { banks = banks; counters = counters; log = log }
+use Rattle.simdram_cli.specs.Works.{ChipView}
 
 -- the operations of OPS, the instructions of SCRIPT and the image of IMAGE, and the program in PROG
 pub record Job : Type 0 where
@@ -105,6 +97,10 @@ pub record RepliesExact (names : RunNames) (job : Job) (status : ℕ) (before af
   pub answers : status ≡ done_status (count_by is_refused (replies_of job))
   pub walks : AllByRecursion IsNoBadWalk (replies_of job)
   pub others : (other : List ℕ) → other ≢ names.prog.now → other ≢ names.out.now → after other ≡ before other
+
+-- Where the words are those of a run
+abbrev pub OnRunWords : List (Bor (List ℕ)) → (RunNames → Type 0) → Type 0
+OnRunWords words P = (names : RunNames) → command_of words ≡ Some (Run names) → P names
 
 -- Where the words are those of a run, the status is 0 or 8 and the folder tells its files: a promise on its job
 abbrev pub OnRun : List (Bor (List ℕ)) → ℕ → Option Files → Option Files → (RunNames → Job → Files → Files → Type 0) → Type 0

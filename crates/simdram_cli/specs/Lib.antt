@@ -1,5 +1,9 @@
 -- The commands of the program, and what each of them promises.
 pub mod Words
 pub mod Stops
+pub mod Reads
 pub mod Run
+pub mod Works
+pub mod Ends
 pub mod Headline
+pub mod Statuses

@@ -2,6 +2,7 @@
 use Rattle.std.specs.Prelude.{◌≡◌, ℕ, ◌+◌, ◌*◌, List, [], ◌∷◌, ◌++◌, Option, Some, None, Result, Ok, Err, count_by, nat_lt, if◌then◌else◌}
 use Rattle.host_edge.specs.Views.{Files}
 use Rattle.dram_model.specs.declared.dram.Counters.{Counters}
+use Rattle.dram_model.specs.declared.geometry.Geometry.{Geometry}
 use Rattle.object_alloc.specs.Spelling.{image_bytes}
 use Rattle.uprog_bin.specs.Spelling.{program_bytes}
 use Rattle.bbop_isa.specs.Forms.{Instruction}
@@ -10,7 +11,7 @@ use Rattle.machine_model.specs.Operations.{Program, TextOp, operations_in}
 use Rattle.machine_model.specs.Opened.{Image, opened, rows_of}
 use Rattle.machine_model.specs.Script.{replies, table_at_end, banks_at_end, sum_of, sum_done, rows_loaded, rows_printed, is_refused}
 use Rattle.machine_model.specs.Report.{Said, said_in_rows, line, total_line}
-use Rattle.cli_model.specs.Steps.{Step, Load, Take, Store, Open, Use, Put, Refusal}
+use Rattle.cli_model.specs.Steps.{Step, Take, Store, Open, Use, Put, loading}
 use Rattle.simdram_cli.specs.declared.words.RunNames.{RunNames}
 use Rattle.simdram_cli.specs.declared.words.TheConstants.{OPS_MAX, SCRIPT_MAX, IMAGE_MAX}
 use Rattle.built_forms.specs.Texts.{ops_of, script_in, image_of}
@@ -21,16 +22,16 @@ pub record Texts : Type 0 where
   pub script : List ℕ
   pub image : List ℕ
 
-abbrev pub refusal_of : {A : Type 0} → Result A Refusal → Option Refusal
-refusal_of (Ok x) = None
-refusal_of (Err refusal) = Some refusal
-
 -- what is said of a script by a program, and the chip's counters behind it
 abbrev pub said_by : Program → List Instruction → Image → List Said
 said_by program script i = said_in_rows i.geometry (operations_in program) i.table (opened i) script
 
 abbrev pub replies_by : Program → List Instruction → Image → List Reply
 replies_by program script i = replies i.geometry (operations_in program) i.table script
+
+-- the counters of a chip that has begun and has taken the rows of an image
+abbrev pub opened_counters : Geometry → Counters
+opened_counters g = record { aap = 0; ap = 0; writes = g.banks * g.rows; reads = 0 }
 
 -- each row of every bank is written at the opening and read for the image
 abbrev pub tally_by : Program → List Instruction → Image → Counters
@@ -67,17 +68,11 @@ work_steps out program script i =
     Open ∷ line_steps 1 (said_by program script i)
     ++ (Use ∷ Store out (image_by program script i) ∷ Put (total_line (tally_by program script i) (refused_by program script i)) ∷ [])
 
-abbrev pub work_of : List ℕ → Program → Result (List Instruction) Refusal → Result Image Refusal → List Step
-work_of out program (Err refusal) image = []
-work_of out program (Ok script) (Err refusal) = []
-work_of out program (Ok script) (Ok i) = work_steps out program script i
-
 -- OPS is compiled and PROG stored, and then SCRIPT is done on IMAGE
 abbrev pub run_steps : RunNames → Program → Texts → List Step
 run_steps names program texts =
-    Load names.ops.now OPS_MAX texts.ops (refusal_of (ops_of texts.ops))
-    ∷ Take
-    ∷ Store names.prog.now (program_bytes program)
-    ∷ Load names.script.now SCRIPT_MAX texts.script (refusal_of (script_in texts.script))
-    ∷ Load names.image.now IMAGE_MAX texts.image (refusal_of (image_of texts.image))
-    ∷ work_of names.out.now program (script_in texts.script) (image_of texts.image)
+    loading names.ops.now OPS_MAX texts.ops (ops_of texts.ops) (λ t.
+    Take ∷ Store names.prog.now (program_bytes program)
+    ∷ loading names.script.now SCRIPT_MAX texts.script (script_in texts.script) (λ script.
+    loading names.image.now IMAGE_MAX texts.image (image_of texts.image) (λ i.
+    work_steps names.out.now program script i)))

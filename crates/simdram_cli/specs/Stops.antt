@@ -4,6 +4,8 @@ use Rattle.host_edge.specs.Views.{FolderView, SinkView}
 use Rattle.cli_model.specs.World.{World, world}
 use Rattle.cli_model.specs.Steps.{Step, Refusal, Reason, CannotRead, TooLong, Refused, NoMemory, CannotWrite, PutFailed, ChipFailed, End, Done, Stopped, Goes}
 use Rattle.built_forms.specs.Texts.{not_yet}
+use Rattle.built_forms.specs.declared.scripts.FormNo.{FormNo}
+use Rattle.built_forms.specs.declared.scripts.FormNo.TheVariants as no
 use Rattle.simdram_cli.specs.declared.stop.NotYet.{NotYet}
 use Rattle.simdram_cli.specs.declared.stop.NotYet.TheVariants as form
 use Rattle.simdram_cli.specs.declared.stop.Stop.{Stop}
@@ -31,3 +33,8 @@ end_of (Err s) = Stopped (reason_of s)
 -- these steps were gone through, and they leave every sink and every chip as they are
 abbrev pub OnFiles : List Step → End → FolderView → FolderView → Type 0
 OnFiles steps end old new = (sink : SinkView) (chip : ℕ) → Goes steps end (world old sink chip) (world new sink chip)
+
+-- why a run stops at an image that is not taken
+abbrev pub image_reason : FormNo → Reason
+image_reason (no.NotYet at) = Refused (refusal_by (form.Image at))
+image_reason no.NoMemory = NoMemory

@@ -1,8 +1,14 @@
 //! The top of the program: the words of a command, its exit statuses and last lines.
 #![tactic(auto)]
 
+mod load;
+mod perform;
+mod run;
 mod stop;
+mod top;
 mod words;
+mod work;
 
 pub use stop::{NotYet, Stop, status_of, tell};
+pub use top::simdram;
 pub use words::{Command, IMAGE_MAX, OPS_MAX, RunNames, SCRIPT_MAX, command_of};

@@ -1,0 +1,155 @@
+-- The steps of a run, joined.
+use Rattle.std.proofs.Common.{◌≡◌, ◌⊎◌, ℕ, ◌≤◌, Bool, true, false, cond, List, [], ◌∷◌, ◌++◌, Option, Some, None, refl, sym, ◌∙◌, ap, subst, inl, inr, length}
+use Rattle.std.specs.Prelude.{Result, Ok, Err, IfOk, IfSome, bytes_eq, ◌≢◌}
+use Rattle.std.specs.Option.{unwrap_or}
+use Rattle.host_edge.specs.Views.{Files, FolderView, SinkView, Told, HasBytes}
+use Rattle.uprog_bin.specs.Spelling.{program_bytes}
+use Rattle.bbop_isa.specs.Forms.{Instruction}
+use Rattle.machine_model.specs.Operations.{Program, TextOp, ImplementsAll}
+use Rattle.machine_model.specs.Opened.{Image}
+use Rattle.cli_model.specs.World.{World, world, with_file}
+use Rattle.cli_model.specs.Steps.{Step, Load, Take, Store, Refusal, Reason, End, Done, Stopped, Goes, Loaded, LoadFails, loading}
+use Rattle.cli_model.proofs.Going.{goes_on, stops, all_stand}
+use Rattle.built_forms.specs.Texts.{ops_of, script_in, image_of}
+use Rattle.simdram_cli.specs.declared.words.RunNames.{RunNames}
+use Rattle.simdram_cli.specs.declared.words.TheConstants.{OPS_MAX, SCRIPT_MAX, IMAGE_MAX}
+use Rattle.simdram_cli.specs.declared.stop.Stop.{Stop}
+use Rattle.simdram_cli.specs.Stops.{end_of, reason_of}
+use Rattle.simdram_cli.specs.Reads.{refusal_of, IsText, LoadedAs, ReadAs, NotRead}
+use Rattle.simdram_cli.specs.Run.{Texts, run_steps, work_steps}
+use Rattle.simdram_cli.specs.Works.{ChipView}
+use Rattle.simdram_cli.specs.Ends.{ProgramTaken, ProgramStopped, DoneOn, DoneBy, ImageWorked, IsRead, RunGoes}
+
+abbrev pub told_text : Option Files → List ℕ → List ℕ
+told_text None name = []
+told_text (Some files) name = unwrap_or (files name) []
+
+bytes_text : (o : Option (List ℕ)) → IfSome o (λ bytes. bytes ≡ unwrap_or o [])
+bytes_text None = tt
+bytes_text (Some bytes) = refl
+
+pub told_is_text : (holds : Option Files) (name : List ℕ) → IsText holds name (told_text holds name)
+told_is_text None name = tt
+told_is_text (Some files) name = bytes_text (files name)
+
+bytes_are : (o : Option (List ℕ)) (text : List ℕ) → o ≡ Some text → IfSome o (λ bytes. bytes ≡ text)
+bytes_are None text e = tt
+bytes_are (Some bytes) text e = cc
+
+has_text : (holds : Option Files) (name text : List ℕ) → IfSome holds (λ files. files name ≡ Some text) → IsText holds name text
+has_text None name text h = tt
+has_text (Some files) name text h = bytes_are (files name) text h
+
+pub loaded_text : (name : List ℕ) (limit : ℕ) (text : List ℕ) (a b : World) → Loaded name limit text a b → IsText a.files.holds name text
+loaded_text name limit text a b l = has_text a.files.holds name text l.bytes
+
+pub loading_goes : {A : Type 0} (name : List ℕ) (limit : ℕ) (text : List ℕ) (read : Result A Refusal) (rest : A → List Step) (value : A) (end : End) (a b c : World)
+    → read ≡ Ok value → Loaded name limit text a b → Goes (rest value) end b c → Goes (loading name limit text read rest) end a c
+loading_goes name limit text read rest value end a b c e l g = rw e (inl (b, ((refl, l), g)))
+
+pub loading_stops : {A : Type 0} (name : List ℕ) (limit : ℕ) (text : List ℕ) (read : Result A Refusal) (rest : A → List Step) (reason : Reason) (a b : World)
+    → LoadFails name limit text (refusal_of read) reason a b → Goes (loading name limit text read rest) (Stopped reason) a b
+loading_stops name limit text (Ok value) rest reason a b f = inr f
+loading_stops name limit text (Err refusal) rest reason a b f = inr f
+
+file_apart : (same : Bool) (bytes : List ℕ) (o : Option (List ℕ)) (text : List ℕ) → same ≡ false → IfSome (cond same (Some bytes) o) (λ b. b ≡ text) → IfSome o (λ b. b ≡ text)
+file_apart true bytes o text e h = absurd (cc)
+file_apart false bytes o text e h = h
+
+-- a file that was not stored has the text that it had
+pub text_before : (stored bytes : List ℕ) (a b : Option Files) (name text : List ℕ) → bytes_eq name stored ≡ false
+    → Told (λ before after. after ≡ with_file stored bytes before) a b → IsText b name text → IsText a name text
+text_before stored bytes None b name text apart t is = tt
+text_before stored bytes (Some before) None name text apart t is = absurd t
+text_before stored bytes (Some before) (Some after) name text apart t is =
+    let now : IfSome (with_file stored bytes before name) (λ b. b ≡ text) = subst (λ (f : Files). IfSome (f name) (λ b. b ≡ text)) t is in
+    file_apart (bytes_eq name stored) bytes (before name) text apart now
+
+-- what is told after PROG was stored
+pub stored_program : (names : RunNames) (ops : List TextOp) (program : Program) (old new : FolderView) (sink : SinkView) → ProgramTaken names ops program old new
+    → Told (λ before after. after ≡ with_file names.prog.now (program_bytes program) before) old.holds new.holds
+stored_program names ops program old new sink taken =
+    (all_stand (Load names.ops.now OPS_MAX taken.text None ∷ Take ∷ Store names.prog.now (program_bytes program) ∷ []) (world old sink 0) (world new sink 0) (taken.goes sink 0)).files
+
+-- the three files are not PROG
+pub record AreOthers (names : RunNames) : Type 0 where
+  pub script : bytes_eq names.script.now names.prog.now ≡ false
+  pub image : bytes_eq names.image.now names.prog.now ≡ false
+
+abbrev pub no_texts : RunNames → Option Files → List ℕ → Texts
+no_texts names holds ops = record { ops = ops; script = told_text holds names.script.now; image = told_text holds names.image.now }
+
+-- a run that stopped before PROG was stored
+pub run_stopped : (names : RunNames) (program : Program) (stop : Stop) (old new : FolderView) (sink : SinkView) (k : ℕ) (chip : ChipView)
+    → ((text : List ℕ) → IfOk (ops_of text) (ImplementsAll program)) → ProgramStopped names program (reason_of stop) old new
+    → RunGoes names (world old sink k) (world new sink k) chip (Err stop)
+run_stopped names program stop old new sink k chip does s = record {
+  program = program;
+  texts = no_texts names old.holds s.text;
+  implements = does s.text;
+  read = record { ops = s.is_text; script = told_is_text old.holds names.script.now; image = told_is_text old.holds names.image.now };
+  goes = s.goes _ sink k;
+  done = tt;
+}
+
+goes_ops : (names : RunNames) (ops : List TextOp) (program : Program) (old mid : FolderView) (sink : SinkView) (k : ℕ) (rest : List Step) (end : End) (w : World)
+    → (t : ProgramTaken names ops program old mid) → Goes rest end (world mid sink k) w
+    → Goes (loading names.ops.now OPS_MAX t.text (ops_of t.text) (λ _. Take ∷ Store names.prog.now (program_bytes program) ∷ rest)) end (world old sink k) w
+goes_ops names ops program old mid sink k rest end w t g =
+    rw t.value_is (goes_on (Load names.ops.now OPS_MAX t.text None ∷ Take ∷ Store names.prog.now (program_bytes program) ∷ []) rest end (world old sink k) (world mid sink k) w (t.goes sink k) g)
+
+taken_text : (names : RunNames) (ops : List TextOp) (program : Program) (old mid : FolderView) (sink : SinkView) → (t : ProgramTaken names ops program old mid) → IsText old.holds names.ops.now t.text
+taken_text names ops program old mid sink t = elim (t.goes sink 0) [
+  | inl (next, (does, rest)) ↦ loaded_text names.ops.now OPS_MAX t.text (world old sink 0) next does.1
+  | inr fails ↦ absurd fails
+]
+
+-- a run that stopped at SCRIPT
+pub run_unread : (names : RunNames) (ops : List TextOp) (program : Program) (stop : Stop) (old mid new : FolderView) (sink : SinkView) (k : ℕ) (chip : ChipView) → AreOthers names
+    → ((text : List ℕ) → IfOk (ops_of text) (ImplementsAll program)) → (t : ProgramTaken names ops program old mid)
+    → NotRead script_in names.script.now SCRIPT_MAX (reason_of stop) mid new
+    → RunGoes names (world old sink k) (world new sink k) chip (Err stop)
+run_unread names ops program stop old mid new sink k chip apart does t n = record {
+  program = program;
+  texts = record { ops = t.text; script = n.text; image = told_text old.holds names.image.now };
+  implements = does t.text;
+  read = record {
+    ops = taken_text names ops program old mid sink t;
+    script = text_before names.prog.now (program_bytes program) old.holds mid.holds names.script.now n.text apart.script (stored_program names ops program old mid sink t) n.is_text;
+    image = told_is_text old.holds names.image.now;
+  };
+  goes = goes_ops names ops program old mid sink k _ (Stopped (reason_of stop)) (world new sink k) t
+      (loading_stops names.script.now SCRIPT_MAX n.text (script_in n.text) _ (reason_of stop) (world mid sink k) (world new sink k) (n.fails sink k));
+  done = tt;
+}
+
+done_by : (program : Program) (script : List Instruction) (read : Result (List Instruction) Refusal) (image : Result Image Refusal) (chip : ChipView) (result : Result ℕ Stop)
+    → read ≡ Ok script → IfOk result (DoneOn program script image chip) → IfOk result (DoneBy program read image chip)
+done_by program script read image chip (Ok refused) e d = rw e d
+done_by program script read image chip (Err stop) e d = tt
+
+-- a run that came to IMAGE
+pub run_worked : (names : RunNames) (ops : List TextOp) (program : Program) (script : List Instruction) (result : Result ℕ Stop) (old mid last : FolderView) (sink : SinkView) (k : ℕ) (new : World) (chip : ChipView) → AreOthers names
+    → ((text : List ℕ) → IfOk (ops_of text) (ImplementsAll program)) → (t : ProgramTaken names ops program old mid)
+    → ReadAs script_in names.script.now SCRIPT_MAX script mid last
+    → ImageWorked names program script (world last sink k) new chip result
+    → RunGoes names (world old sink k) new chip result
+run_worked names ops program script result old mid last sink k new chip apart does t s w =
+    let loaded = s.loaded sink k in
+    let same : last.holds ≡ mid.holds = loaded.reads.files in
+    let told = stored_program names ops program old mid sink t in
+    record {
+      program = program;
+      texts = record { ops = t.text; script = s.text; image = w.text };
+      implements = does t.text;
+      read = record {
+        ops = taken_text names ops program old mid sink t;
+        script = text_before names.prog.now (program_bytes program) old.holds mid.holds names.script.now s.text apart.script told
+            (loaded_text names.script.now SCRIPT_MAX s.text (world mid sink k) (world last sink k) loaded);
+        image = text_before names.prog.now (program_bytes program) old.holds mid.holds names.image.now w.text apart.image told
+            (subst (λ (holds : Option Files). IsText holds names.image.now w.text) same w.is_text);
+      };
+      goes = goes_ops names ops program old mid sink k _ (end_of result) new t
+          (loading_goes names.script.now SCRIPT_MAX s.text (script_in s.text) _ script (end_of result) (world mid sink k) (world last sink k) new s.value_is loaded w.goes);
+      done = done_by program script (script_in s.text) (image_of w.text) chip result s.value_is w.done;
+    }

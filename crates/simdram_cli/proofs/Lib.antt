@@ -1,0 +1,17 @@
+pub mod Bbops
+pub mod Joins
+pub mod Reading
+pub mod Tallies
+pub mod Working
+pub mod Performing
+pub mod Running
+pub mod Promised
+pub mod Ended
+pub mod Fates
+pub mod Keeping
+pub mod Deciding
+pub mod Topping
+pub mod OpenedRows
+pub mod NoWalks
+pub mod Promises
+pub mod Stores

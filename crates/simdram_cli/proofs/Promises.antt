@@ -1,0 +1,132 @@
+-- What a run that is done promises.
+use Rattle.std.proofs.Common.{◌≡◌, ◌⊎◌, ℕ, ◌+◌, ◌*◌, ◌<◌, ◌≤◌, Bool, true, false, cond, List, [], ◌∷◌, ◌++◌, map, Option, Some, None, refl, sym, ◌∙◌, ap, subst, inl, inr, arith, append_assoc, append-nil}
+use Rattle.std.specs.Prelude.{Result, Ok, Err, IfOk, IfSome, bytes_eq, ◌≢◌, count_by}
+use Rattle.std.specs.List.{AllByRecursion}
+use Rattle.host_edge.specs.Views.{Files, FolderView, SinkView, Told, HasBytes}
+use Rattle.dram_model.specs.declared.geometry.Geometry.{Geometry}
+use Rattle.dram_model.specs.Geometry.{is_geometry}
+use Rattle.dram_model.specs.Chip.{Banks, row_in}
+use Rattle.object_alloc.specs.Listed.{Named, limit_of}
+use Rattle.object_alloc.specs.Spelling.{image_bytes, IsImage}
+use Rattle.uprog_bin.specs.Spelling.{program_bytes}
+use Rattle.bbop_isa.specs.Forms.{Instruction}
+use Rattle.machine_model.specs.Operations.{Program, TextOp, Operations, operations_of, operations_in, meaning_in, ImplementsAll}
+use Rattle.machine_model.specs.Opened.{Image, opened, words_of, rows_of, row_writes}
+use Rattle.machine_model.specs.Columns.{columns}
+use Rattle.machine_model.specs.Steps.{Held, table_of, words_after, table_after}
+use Rattle.machine_model.specs.Agrees.{Agrees, IsPlain, StepAgrees, DoesAll}
+use Rattle.machine_model.specs.Script.{replies, words_at_end, banks_at_end, table_at_end, is_touched_by, script_events, sum_of, sum_done, rows_loaded, rows_printed, is_refused}
+use Rattle.machine_model.specs.Report.{Said, line, lines, report, total_line, said_in_words, said_in_rows}
+use Rattle.machine_model.proofs.Texts.{same_operations, does_all}
+use Rattle.machine_model.proofs.Scripts.{table_step}
+use Rattle.machine_model.proofs.Whole.{every_step, rows_give_words}
+use Rattle.machine_model.proofs.Opened.{opened_agrees, report_same}
+use Rattle.machine_model.proofs.KeptAll.{script_kept}
+use Rattle.simdram_cli.specs.declared.words.RunNames.{RunNames}
+use Rattle.simdram_cli.specs.Run.{Texts, said_by, tally_by, refused_by, done_status}
+use Rattle.simdram_cli.specs.Works.{ChipView, WorkDone}
+use Rattle.simdram_cli.specs.Headline.{Job, operations, replies_of, state_after, ObjectsRight, RowsUntouched, CommandsCounted, report_of, IsNoBadWalk}
+use Rattle.simdram_cli.proofs.NoWalks.{AllEnd, all_end, no_walks}
+use Rattle.simdram_cli.proofs.OpenedRows.{opened_rows}
+
+abbrev pub job_of : List TextOp → List Instruction → Image → Program → Job
+job_of t script i program = record { text = t; script = script; image = i; program = program }
+
+tables : (g : Geometry) (banks : Banks) (table : List Named) → table_of (map (λ (p : Named). record { name = p.0; object = p.1; numbers = columns g banks p.1 }) table) ≡ table
+tables g banks [] = refl
+tables g banks (p ∷ table) = ap (λ rest. p ∷ rest) (tables g banks table)
+
+pub table_is : (i : Image) → table_of (words_of i) ≡ i.table
+table_is i = tables i.geometry (opened i) i.table
+
+tables_end : (g : Geometry) (o : Operations) (meaning : List ℕ → ℕ → List ℕ → ℕ) (state : List Held) (script : List Instruction) → table_of (words_at_end g o meaning state script) ≡ table_at_end g o (table_of state) script
+tables_end g o meaning state [] = refl
+tables_end g o meaning state (i ∷ script) =
+    tables_end g o meaning (words_after g o meaning state i) script ∙ ap (λ t. table_at_end g o t script) (table_step g o meaning state i)
+
+all_steps : (g : Geometry) (o : Operations) (meaning : List ℕ → ℕ → List ℕ → ℕ) (script : List Instruction) → 0 < g.words → DoesAll o meaning → AllByRecursion IsPlain script → AllByRecursion (StepAgrees g o meaning) script
+all_steps g o meaning [] words does plain = tt
+all_steps g o meaning (i ∷ script) words does plain = (every_step g o meaning i words does plain.0, all_steps g o meaning script words does plain.1)
+
+-- what is known of a job that was done
+pub record IsDone (t : List TextOp) (script : List Instruction) (i : Image) (program : Program) (chip : ChipView) (refused : ℕ) : Type 0 where
+  pub implements : ImplementsAll program t
+  pub image : IsImage i.geometry i.table i.rows
+  pub words : 0 < i.geometry.words
+  pub plain : AllByRecursion IsPlain script
+  pub work : WorkDone program script i chip refused
+
+section_does : (t : List TextOp) (program : Program) → ImplementsAll program t → DoesAll (operations_in program) (meaning_in t)
+section_does t program implements = subst (λ (o : Operations). DoesAll o (meaning_in t)) (same_operations program t implements) (does_all program t implements)
+
+agrees_at_end : (t : List TextOp) (script : List Instruction) (i : Image) (program : Program) (chip : ChipView) (refused : ℕ) → IsDone t script i program chip refused
+    → Agrees i.geometry chip.banks (words_at_end i.geometry (operations_in program) (meaning_in t) (words_of i) script)
+agrees_at_end t script i program chip refused d =
+    let whole = rows_give_words i.geometry (operations_in program) (meaning_in t) script d.words (section_does t program d.implements) d.plain (opened i) (words_of i) (opened_agrees i d.words d.image) in
+    let banks : banks_at_end i.geometry (operations_in program) (table_of (words_of i)) (opened i) script ≡ chip.banks =
+    ap (λ (table : List Named). banks_at_end i.geometry (operations_in program) table (opened i) script) (table_is i) ∙ sym d.work.banks in
+    subst (λ (b : Banks). Agrees i.geometry b (words_at_end i.geometry (operations_in program) (meaning_in t) (words_of i) script)) banks whole
+
+-- the table at the end
+pub end_table : (t : List TextOp) (script : List Instruction) (i : Image) (program : Program) → ImplementsAll program t
+    → table_of (state_after (job_of t script i program)) ≡ table_at_end i.geometry (operations_in program) i.table script
+end_table t script i program implements =
+    tables_end i.geometry (operations_of t program) (meaning_in t) (words_of i) script
+    ∙ ap (λ (table : List Named). table_at_end i.geometry (operations_of t program) table script) (table_is i)
+    ∙ ap (λ (o : Operations). table_at_end i.geometry o i.table script) (same_operations program t implements)
+
+pub objects_right : (names : RunNames) (t : List TextOp) (script : List Instruction) (i : Image) (program : Program) (chip : ChipView) (refused : ℕ) (after : Files) → IsDone t script i program chip refused
+    → after names.out.now ≡ Some (image_bytes i.geometry (table_at_end i.geometry (operations_in program) i.table script) (rows_of (banks_at_end i.geometry (operations_in program) i.table (opened i) script)))
+    → ObjectsRight names (job_of t script i program) after chip
+objects_right names t script i program chip refused after d out = record {
+  file = out ∙ ap (λ (table : List Named). Some (image_bytes i.geometry table (rows_of (banks_at_end i.geometry (operations_in program) i.table (opened i) script)))) (sym (end_table t script i program d.implements))
+      ∙ ap (λ (b : Banks). Some (image_bytes i.geometry (table_of (state_after (job_of t script i program))) (rows_of b))) (sym d.work.banks);
+  numbers = (subst (λ (o : Operations). Agrees i.geometry chip.banks (words_at_end i.geometry o (meaning_in t) (words_of i) script)) (sym (same_operations program t d.implements))
+      (agrees_at_end t script i program chip refused d)).numbers;
+}
+
+pub rows_untouched : (t : List TextOp) (script : List Instruction) (i : Image) (program : Program) (chip : ChipView) (refused : ℕ) → IsDone t script i program chip refused → RowsUntouched (job_of t script i program) chip
+rows_untouched t script i program chip refused d bank row b r out =
+    let same = same_operations program t d.implements in
+    let kept = script_kept i.geometry (operations_in program) (meaning_in t) script d.words (section_does t program d.implements) d.plain (opened i) (words_of i) (opened_agrees i d.words d.image) bank row
+    (ap (λ (table : List Named). is_touched_by i.geometry (operations_in program) table script bank row) (table_is i)
+    ∙ ap (λ (o : Operations). is_touched_by i.geometry o i.table script bank row) (sym same) ∙ out) in
+    ap (λ (x : Banks). row_in row (x bank)) d.work.banks
+    ∙ ap (λ (table : List Named). row_in row (banks_at_end i.geometry (operations_in program) table (opened i) script bank)) (sym (table_is i))
+    ∙ kept ∙ opened_rows i bank row d.image b r
+
+pub commands_counted : (t : List TextOp) (script : List Instruction) (i : Image) (program : Program) (chip : ChipView) (refused : ℕ) → IsDone t script i program chip refused → CommandsCounted (job_of t script i program) chip
+commands_counted t script i program chip refused d =
+    let same = sym (same_operations program t d.implements) in
+    let all = i.geometry.banks * i.geometry.rows in
+    record {
+      aap = ap (λ k. k.aap) d.work.counters ∙ ap (λ (o : Operations). (sum_of (replies i.geometry o i.table script)).aap) same;
+      ap = ap (λ k. k.ap) d.work.counters ∙ ap (λ (o : Operations). (sum_of (replies i.geometry o i.table script)).ap) same;
+      writes = ap (λ k. k.writes) d.work.counters ∙ ap (λ (o : Operations). all + sum_done rows_loaded i.geometry o i.table script) same;
+      reads = ap (λ k. k.reads) d.work.counters ∙ ap (λ (o : Operations). all + sum_done rows_printed i.geometry o i.table script) same;
+      banks = d.work.banks;
+      log = d.work.log;
+    }
+
+-- the report by the rows is the report by the words
+pub report_is : (t : List TextOp) (script : List Instruction) (i : Image) (program : Program) (chip : ChipView) (refused : ℕ) → IsDone t script i program chip refused
+    → lines 1 (said_by program script i) ++ total_line (tally_by program script i) (refused_by program script i) ≡ report_of (job_of t script i program) chip
+report_is t script i program chip refused d =
+    let same = same_operations program t d.implements in
+    let does = section_does t program d.implements in
+    let said : said_by program script i ≡ said_in_words i.geometry (operations_in program) (meaning_in t) (words_of i) script =
+    ap (λ (table : List Named). said_in_rows i.geometry (operations_in program) table (opened i) script) (sym (table_is i))
+    ∙ report_same i.geometry (operations_in program) (meaning_in t) script (all_steps i.geometry (operations_in program) (meaning_in t) script d.words does d.plain) (opened i) (words_of i) (opened_agrees i d.words d.image) in
+    ap (λ s. lines 1 s ++ total_line (tally_by program script i) (refused_by program script i)) said
+    ∙ ap (λ k. lines 1 (said_in_words i.geometry (operations_in program) (meaning_in t) (words_of i) script) ++ total_line k (refused_by program script i)) (sym d.work.counters)
+    ∙ ap (λ (o : Operations). lines 1 (said_in_words i.geometry o (meaning_in t) (words_of i) script) ++ total_line chip.counters (count_by is_refused (replies i.geometry o i.table script))) (sym same)
+
+pub refusals_are : (t : List TextOp) (script : List Instruction) (i : Image) (program : Program) → ImplementsAll program t
+    → refused_by program script i ≡ count_by is_refused (replies_of (job_of t script i program))
+refusals_are t script i program implements = ap (λ (o : Operations). count_by is_refused (replies i.geometry o i.table script)) (sym (same_operations program t implements))
+
+pub no_bad_walks : (t : List TextOp) (script : List Instruction) (i : Image) (program : Program) → ImplementsAll program t → AllByRecursion IsPlain script
+    → AllByRecursion IsNoBadWalk (replies_of (job_of t script i program))
+no_bad_walks t script i program implements plain =
+    subst (λ (o : Operations). AllByRecursion IsNoBadWalk (replies i.geometry o i.table script)) (sym (same_operations program t implements))
+    (no_walks i.geometry (operations_in program) i.table script (all_end program t implements) plain)

@@ -1,0 +1,55 @@
+-- What the top call promises, from how a run ends.
+use Rattle.std.proofs.Common.{◌≡◌, ◌⊎◌, ℕ, Bool, true, false, cond, List, [], ◌∷◌, Option, Some, None, refl, sym, ◌∙◌, ap, subst}
+use Rattle.std.specs.Prelude.{◌↔◌, ◌&&◌, bytes_eq, codes}
+use denote.Ref.{Bor}
+use Rattle.host_edge.specs.Views.{Files, Told, Told-map}
+use Rattle.cli_model.specs.World.{World}
+use Rattle.simdram_cli.specs.declared.words.RunNames.{RunNames}
+use Rattle.simdram_cli.specs.declared.words.Command.{Command}
+use Rattle.simdram_cli.specs.declared.words.Command.TheVariants.{Run}
+use Rattle.simdram_cli.specs.Words.{command_of, are_apart}
+use Rattle.simdram_cli.specs.Works.{ChipView}
+use Rattle.simdram_cli.specs.Ends.{RunEnds}
+use Rattle.simdram_cli.specs.Headline.{Job, IsJob, OnRun, OnRunWords, ProgramWritten}
+use Rattle.simdram_cli.proofs.Running.{apart}
+use Rattle.simdram_cli.proofs.Promised.{Promise, run_promised}
+use Rattle.simdram_cli.proofs.Deciding.{no_usage}
+
+picked : (b c : Bool) (r names : RunNames) → cond (b && c) (Some (Run r)) None ≡ Some (Run names) → (c ≡ true) × (r ≡ names)
+picked true true r names e = (refl, cc)
+picked true false r names e = absurd (cc)
+picked false c r names e = absurd (cc)
+
+abbrev AreApart : RunNames → Type 0
+AreApart names = are_apart names.ops.now names.prog.now names.script.now names.image.now names.out.now ≡ true
+
+-- the files of a run are apart
+pub command_apart : (words : List (Bor (List ℕ))) (names : RunNames) → command_of words ≡ Some (Run names) → AreApart names
+command_apart [] names e = absurd (cc)
+command_apart (a ∷ []) names e = absurd (cc)
+command_apart (a ∷ b ∷ []) names e = absurd (cc)
+command_apart (a ∷ b ∷ c ∷ []) names e = absurd (cc)
+command_apart (a ∷ b ∷ c ∷ d ∷ []) names e = absurd (cc)
+command_apart (a ∷ b ∷ c ∷ d ∷ f ∷ []) names e = absurd (cc)
+command_apart (verb ∷ ops ∷ prog ∷ script ∷ image ∷ out ∷ []) names e =
+    let r : RunNames = record { ops = ops; prog = prog; script = script; image = image; out = out } in
+    let p = picked (bytes_eq verb.now (codes "run")) (are_apart ops.now prog.now script.now image.now out.now) r names e in
+    subst AreApart p.1 p.0
+command_apart (a ∷ b ∷ c ∷ d ∷ f ∷ h ∷ i ∷ rest) names e = absurd (cc)
+
+no_command : (words : List (Bor (List ℕ))) (o : Option Command) (status : ℕ) → command_of words ≡ o → ((names : RunNames) → command_of words ≡ Some (Run names) → status ≡ 1 → ⊥) → status ≡ 1 → command_of words ≡ None
+no_command words None status e n is = e
+no_command words (Some (Run names)) status e n is = absurd (n names e is)
+
+pub usage : (words : List (Bor (List ℕ))) (old new : World) (chip : ChipView) (status : ℕ) → (command_of words ≡ None → status ≡ 1) → OnRunWords words (λ names. RunEnds names old new chip status)
+    → (status ≡ 1) ↔ (command_of words ≡ None)
+usage words old new chip status none ends = (no_command words (command_of words) status refl (λ names e. no_usage names old new chip status (ends names e)), none)
+
+-- a part of the promise
+pub on_run : (words : List (Bor (List ℕ))) (old new : World) (chip : ChipView) (status : ℕ) (P : RunNames → Job → Files → Files → Type 0)
+    → OnRunWords words (λ names. RunEnds names old new chip status)
+    → ((names : RunNames) (job : Job) (before after : Files) → Promise names job before after chip status old.sink.sent new.sink.sent → P names job before after)
+    → OnRun words status old.files.holds new.files.holds P
+on_run words old new chip status P ends part names e is =
+    Told-map {R = λ before after. (job : Job) × Promise names job before after chip status old.sink.sent new.sink.sent} {S = λ before after. (job : Job) × IsJob names before job × ProgramWritten names job after × P names job before after}
+    old.files.holds new.files.holds (λ before after h. (h.0, h.1.is_job, h.1.program, part names h.0 before after h.1)) (run_promised names old new chip status (apart names (command_apart words names e)) (ends names e) is)

@@ -1,0 +1,70 @@
+//! Files are loaded and read.
+
+ghost use Rattle.std.specs.Prelude.{◌≡◌, ◌<◌, ◌≤◌, ◌+◌, ◌^◌, length, map, true, IfOk, IfErr, OnOk, [], ◌∷◌};
+ghost use Rattle.std.specs.List.{AllByRecursion};
+ghost use Rattle.bbop_isa.specs.Forms.{view_of};
+ghost use Rattle.built_forms.specs.Texts.{and_op, is_built, ops_of, script_in};
+ghost use Rattle.simdram_cli.specs.Reads.{LoadedAs, NotLoaded, NotRead, ReadAs};
+ghost use Rattle.simdram_cli.specs.Stops.{reason_of};
+
+use crate::stop::{NotYet, Stop};
+use crate::words::{OPS_MAX, SCRIPT_MAX};
+use bbop_isa::Instr;
+use built_forms::{FormNo, is_and_text, read_script};
+use host_edge::{Folder, LoadNo};
+use std::alloc::Global;
+
+/// Loads a file of at most so many bytes.
+pub(crate) fn load<'a, F: Folder>(
+    name: &'a str,
+    limit: u64,
+    files: &mut F,
+    alloc: Global,
+) -> Result<Vec<u8>, Stop<'a>>
+    ensures loaded { IfOk result (λ bytes. LoadedAs name.now limit bytes.items (F.view files.old) (F.view files.new)) }
+    ensures within { IfOk result (λ bytes. length bytes.items ≤ limit) }
+    ensures failed { IfErr result (λ stop. NotLoaded name.now limit (reason_of stop) (F.view files.old) (F.view files.new)) }
+{
+    match files.load(name, limit, alloc) {
+        Ok(bytes) => Ok(bytes),
+        Err(LoadNo::Failed) => Err(Stop::CannotRead(name)),
+        Err(LoadNo::TooLong) => Err(Stop::TooLong(name)),
+        Err(LoadNo::NoMemory) => Err(Stop::NoMemory),
+    }
+}
+
+/// Loads OPS, which has the text of the one operation.
+pub(crate) fn load_ops<'a, F: Folder>(
+    name: &'a str,
+    files: &mut F,
+    alloc: Global,
+) -> Result<(), Stop<'a>>
+    ensures read { OnOk result (ReadAs ops_of name.now OPS_MAX (and_op ∷ []) (F.view files.old) (F.view files.new)) }
+    ensures not_read { IfErr result (λ stop. NotRead ops_of name.now OPS_MAX (reason_of stop) (F.view files.old) (F.view files.new)) }
+{
+    let text = load(name, OPS_MAX, files, alloc)?;
+    if is_and_text(&text) {
+        Ok(())
+    } else {
+        Err(Stop::Refused(NotYet::Ops(1)))
+    }
+}
+
+/// Loads SCRIPT, with its instructions.
+pub(crate) fn load_script<'a, F: Folder>(
+    name: &'a str,
+    files: &mut F,
+    alloc: Global,
+) -> Result<Vec<Instr>, Stop<'a>>
+    ensures read { IfOk result (λ script. ReadAs script_in name.now SCRIPT_MAX (map view_of script.items) (F.view files.old) (F.view files.new)) }
+    ensures built { IfOk result (λ script. AllByRecursion (λ i. is_built i ≡ true) (map view_of script.items)) }
+    ensures few { IfOk result (λ script. length script.items ≤ SCRIPT_MAX + 1) }
+    ensures not_read { IfErr result (λ stop. NotRead script_in name.now SCRIPT_MAX (reason_of stop) (F.view files.old) (F.view files.new)) }
+{
+    let text = load(name, SCRIPT_MAX, files, alloc)?;
+    match read_script(&text, alloc) {
+        Ok(script) => Ok(script),
+        Err(FormNo::NotYet(line)) => Err(Stop::Refused(NotYet::Script(line))),
+        Err(FormNo::NoMemory) => Err(Stop::NoMemory),
+    }
+}

@@ -1,0 +1,114 @@
+//! The command `run`.
+
+ghost use Rattle.std.specs.Prelude.{◌≡◌, ◌+◌, ◌*◌, ◌<◌, ◌≤◌, ◌^◌, ◌∷◌, [], length, map, true, IfOk, IfErr, OnOk};
+ghost use Rattle.std.specs.List.{AllByRecursion};
+ghost use Rattle.host_edge.specs.Views.{FolderView, SinkView, NoCountFalls};
+ghost use Rattle.uprog_code.specs.Shape.{microprograms_of};
+ghost use Rattle.uprog_bin.specs.Spelling.{program_bytes};
+ghost use Rattle.bbop_isa.specs.Forms.{view_of};
+ghost use Rattle.cli_model.specs.World.{world};
+ghost use Rattle.cli_model.specs.Steps.{Goes, Store, Take};
+ghost use Rattle.built_forms.specs.Compiled.{and_program};
+ghost use Rattle.built_forms.specs.Texts.{and_op, is_built};
+ghost use Rattle.simdram_cli.specs.Ends.{ImageWorked, ProgramStopped, ProgramTaken, RunGoes};
+ghost use Rattle.simdram_cli.specs.Stops.{end_of, image_reason, reason_of};
+ghost use Rattle.simdram_cli.specs.Words.{are_apart};
+ghost use Rattle.simdram_cli.specs.Works.{chip_view};
+
+use crate::load::{load, load_ops, load_script};
+use crate::perform::perform;
+use crate::stop::{NotYet, Stop};
+use crate::words::{IMAGE_MAX, RunNames, SCRIPT_MAX};
+use bbop_isa::Instr;
+use built_forms::{FormNo, compile_and, read_built_image};
+use dram_model::Dram;
+use host_edge::{Folder, Sink};
+use std::alloc::Global;
+use uprog_bin::encode;
+use uprog_code::Program;
+
+/// Compiles the operation, and stores PROG.
+fn write_program<'a, F: Folder>(
+    name: &'a str,
+    files: &mut F,
+    alloc: Global,
+) -> Result<Program, Stop<'a>>
+    ensures program { IfOk result (λ p. microprograms_of p ≡ and_program) }
+    ensures goes { (sink : SinkView) (chip : _) → Goes (Take ∷ Store name.now (program_bytes and_program) ∷ []) (end_of result) (world (F.view files.old) sink chip) (world (F.view files.new) sink chip) }
+{
+    let Ok(program) = compile_and(alloc) else {
+        return Err(Stop::NoMemory);
+    };
+    let Ok(file) = encode(&program, alloc) else {
+        return Err(Stop::NoMemory);
+    };
+    if files.store(name, &file).is_err() {
+        return Err(Stop::CannotWrite(name));
+    }
+    Ok(program)
+}
+
+/// Loads OPS, and stores PROG.
+fn take_program<'a, F: Folder>(
+    names: &RunNames<'a>,
+    files: &mut F,
+    alloc: Global,
+) -> Result<Program, Stop<'a>>
+    ensures program { IfOk result (λ p. microprograms_of p ≡ and_program) }
+    ensures taken { OnOk result (ProgramTaken names.now (and_op ∷ []) and_program (F.view files.old) (F.view files.new)) }
+    ensures stopped { IfErr result (λ stop. ProgramStopped names.now and_program (reason_of stop) (F.view files.old) (F.view files.new)) }
+{
+    load_ops(names.ops, files, alloc)?;
+    write_program(names.prog, files, alloc)
+}
+
+/// Why a run stops at an image that is not taken.
+fn image_stop<'a>(no: FormNo) -> Stop<'a>
+    ensures { reason_of result ≡ image_reason no }
+{
+    match no {
+        FormNo::NotYet(at) => Stop::Refused(NotYet::Image(at)),
+        FormNo::NoMemory => Stop::NoMemory,
+    }
+}
+
+/// Loads IMAGE, and does the script on it.
+fn work_on_image<'a, F: Folder, S: Sink, D: Dram>(
+    program: Program,
+    script: &[Instr],
+    names: &RunNames<'a>,
+    files: &mut F,
+    out: &mut S,
+    chip: &mut D,
+    alloc: Global,
+) -> Result<u64, Stop<'a>>
+    requires program { microprograms_of program ≡ and_program }
+    requires built { AllByRecursion (λ i. is_built i ≡ true) (map view_of script.now) }
+    requires few { length script.now ≤ SCRIPT_MAX + 1 }
+    ensures borrow { D.borrow chip.new ≡ D.borrow chip.old }
+    ensures worked { ImageWorked names.now and_program (map view_of script.now) (world (F.view files.old) (S.view out.old) (D.faults chip.old)) (world (F.view files.new) (S.view out.new) (D.faults chip.new)) (chip_view (D.banks chip.new) (D.counters chip.new) (D.log chip.new)) result }
+{
+    let bytes = load(names.image, IMAGE_MAX, files, alloc)?;
+    let image = match read_built_image(&bytes, alloc) {
+        Ok(image) => image,
+        Err(no) => return Err(image_stop(no)),
+    };
+    perform(program, script, image, names.out, files, out, chip, alloc)
+}
+
+/// Compiles OPS, stores PROG, and does SCRIPT on IMAGE; answers how many instructions were refused.
+pub(crate) fn run<'a, F: Folder, S: Sink, D: Dram>(
+    names: &RunNames<'a>,
+    files: &mut F,
+    out: &mut S,
+    chip: &mut D,
+    alloc: Global,
+) -> Result<u64, Stop<'a>>
+    requires apart { are_apart names.now.ops.now names.now.prog.now names.now.script.now names.now.image.now names.now.out.now ≡ true }
+    ensures borrow { D.borrow chip.new ≡ D.borrow chip.old }
+    ensures goes { RunGoes names.now (world (F.view files.old) (S.view out.old) (D.faults chip.old)) (world (F.view files.new) (S.view out.new) (D.faults chip.new)) (chip_view (D.banks chip.new) (D.counters chip.new) (D.log chip.new)) result }
+{
+    let program = take_program(names, files, alloc)?;
+    let script = load_script(names.script, files, alloc)?;
+    work_on_image(program, &script, names, files, out, chip, alloc)
+}

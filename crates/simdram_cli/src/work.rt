@@ -1,0 +1,95 @@
+//! A script is done, line by line.
+
+ghost use Rattle.std.specs.Prelude.{◌≡◌, ℕ, ◌+◌, ◌*◌, ◌<◌, ◌≤◌, ◌^◌, ◌∷◌, [], length, map, count_by, true, IfOk, OnOk};
+ghost use Rattle.std.specs.List.{AllByRecursion};
+ghost use Rattle.host_edge.specs.Views.{FolderView};
+ghost use Rattle.bbop_isa.specs.Forms.{view_of};
+ghost use Rattle.machine_model.specs.Agrees.{IsPlain};
+ghost use Rattle.machine_model.specs.Operations.{operations_in};
+ghost use Rattle.machine_model.specs.Report.{Said, line, said_in_rows};
+ghost use Rattle.machine_model.specs.Script.{is_bbop, is_refused, replies, script_events};
+ghost use Rattle.machine_model.specs.Steps.{reply_to};
+ghost use Rattle.cli_model.specs.World.{world};
+ghost use Rattle.cli_model.specs.Steps.{Goes, Put, Use};
+ghost use Rattle.sim_machine.specs.Did.{Did, shown};
+ghost use Rattle.sim_machine.specs.Granted.{instr_events};
+ghost use Rattle.sim_machine.specs.Machine.{IsReady, geometry_of, program_of, table_in};
+ghost use Rattle.simdram_cli.specs.Run.{line_steps};
+ghost use Rattle.simdram_cli.specs.Stops.{end_of};
+
+use crate::stop::Stop;
+use bbop_isa::Instr;
+use dram_model::Dram;
+use host_edge::Sink;
+use sim_machine::{Machine, Reply, StepFault};
+use uprog_code::WALK_MAX;
+
+/// Does one instruction, with its line; answers how many were refused.
+fn work_line<'a, D: Dram, S: Sink>(
+    machine: &mut Machine,
+    number: u32,
+    instr: &Instr,
+    chip: &mut D,
+    out: &mut S,
+) -> Result<u64, Stop<'a>>
+    requires ready { IsReady machine.old }
+    requires begun { D.begun chip.old }
+    requires geometry { D.geometry chip.old ≡ geometry_of machine.old }
+    requires bbop { is_bbop (view_of instr.now) ≡ true }
+    requires plain { IsPlain (view_of instr.now) }
+    requires aap_room { (D.counters chip.old).aap < 2 ^ 61 }
+    requires ap_room { (D.counters chip.old).ap < 2 ^ 61 }
+    ensures kept { machine.new ≡ machine.old }
+    ensures begun { D.begun chip.new }
+    ensures borrow { D.borrow chip.new ≡ D.borrow chip.old }
+    ensures geometry { D.geometry chip.new ≡ D.geometry chip.old }
+    ensures faults { D.faults chip.old ≤ D.faults chip.new }
+    ensures sink_faults { (S.view out.old).faults ≤ (S.view out.new).faults }
+    ensures did { OnOk result (Did (instr_events (geometry_of machine.old) (operations_in (program_of machine.old)) (table_in machine.old) (view_of instr.now)) (shown (D.banks chip.old) (D.counters chip.old) (D.log chip.old)) (shown (D.banks chip.new) (D.counters chip.new) (D.log chip.new))) }
+    ensures aap_grows { OnOk result ((D.counters chip.new).aap ≤ (D.counters chip.old).aap + 16 * WALK_MAX) }
+    ensures ap_grows { OnOk result ((D.counters chip.new).ap ≤ (D.counters chip.old).ap + 16 * WALK_MAX) }
+    ensures refused { IfOk result (λ refused. refused ≡ count_by is_refused (reply_to (geometry_of machine.old) (operations_in (program_of machine.old)) (table_in machine.old) (view_of instr.now) ∷ [])) }
+    ensures one { IfOk result (λ refused. refused ≤ 1) }
+    ensures goes { (files : FolderView) → Goes (Use ∷ Put (line number (Said.Answered (reply_to (geometry_of machine.old) (operations_in (program_of machine.old)) (table_in machine.old) (view_of instr.now)))) ∷ []) (end_of result) (world files (S.view out.old) (D.faults chip.old)) (world files (S.view out.new) (D.faults chip.new)) }
+{
+    match machine.step(number, instr, chip, out) {
+        Ok(Reply::Done(_)) => Ok(0),
+        Ok(Reply::Refused(_)) => Ok(1),
+        Err(StepFault::ChipFault) => Err(Stop::ChipFailed),
+        Err(StepFault::WriteFault) => Err(Stop::PutFailed),
+    }
+}
+
+/// Does the instructions in order, a line each; answers how many were refused.
+pub(crate) fn work<'a, D: Dram, S: Sink>(
+    machine: &mut Machine,
+    script: &[Instr],
+    chip: &mut D,
+    out: &mut S,
+) -> Result<u64, Stop<'a>>
+    requires ready { IsReady machine.old }
+    requires begun { D.begun chip.old }
+    requires geometry { D.geometry chip.old ≡ geometry_of machine.old }
+    requires bbops { AllByRecursion (λ i. is_bbop i ≡ true) (map view_of script.now) }
+    requires plain { AllByRecursion IsPlain (map view_of script.now) }
+    requires few { length script.now ≤ 2 ^ 25 }
+    requires aap_none { (D.counters chip.old).aap ≡ 0 }
+    requires ap_none { (D.counters chip.old).ap ≡ 0 }
+    ensures kept { machine.new ≡ machine.old }
+    ensures begun { D.begun chip.new }
+    ensures borrow { D.borrow chip.new ≡ D.borrow chip.old }
+    ensures geometry { D.geometry chip.new ≡ D.geometry chip.old }
+    ensures faults { D.faults chip.old ≤ D.faults chip.new }
+    ensures sink_faults { (S.view out.old).faults ≤ (S.view out.new).faults }
+    ensures did { OnOk result (Did (script_events (geometry_of machine.old) (operations_in (program_of machine.old)) (table_in machine.old) (map view_of script.now)) (shown (D.banks chip.old) (D.counters chip.old) (D.log chip.old)) (shown (D.banks chip.new) (D.counters chip.new) (D.log chip.new))) }
+    ensures refused { IfOk result (λ refused. refused ≡ count_by is_refused (replies (geometry_of machine.old) (operations_in (program_of machine.old)) (table_in machine.old) (map view_of script.now))) }
+    ensures goes { (files : FolderView) → Goes (line_steps 1 (said_in_rows (geometry_of machine.old) (operations_in (program_of machine.old)) (table_in machine.old) (D.banks chip.old) (map view_of script.now))) (end_of result) (world files (S.view out.old) (D.faults chip.old)) (world files (S.view out.new) (D.faults chip.new)) }
+{
+    let mut number: u32 = 0;
+    let mut refused: u64 = 0;
+    for instr in script {
+        number += 1;
+        refused += work_line(machine, number, instr, chip, out)?;
+    }
+    Ok(refused)
+}
