@@ -1,20 +1,15 @@
 -- What is true of graphs' values, for those who prove things of them
 use Rattle.std.specs.Prelude.{◌≡◌, ◌≢◌, ℕ, zero, suc, ◌+◌, ◌-◌, ◌^◌, ◌<◌, ◌≤◌, Bool, true, false, not, List, [], ◌∷◌, ◌++◌, length, refl}
-use Rattle.std.proofs.Common.{sym, ◌∙◌, ap, arith, eq-eqb, subst, inl, inr, length-append}
-use Rattle.std.proofs.lemmas.Bool.{ne_eqb}
+use Rattle.std.proofs.Common.{sym, ◌∙◌, ap, arith, subst, inl, inr, length-append}
 use Rattle.std.proofs.lemmas.Bool.{cases_lt}
 use Rattle.std.proofs.lemmas.List.{get_or_append_left, get_or-append-add}
 use Rattle.bit_rows.specs.Bits.{majority, flip_if}
+use Rattle.aoi_graph.specs.Gates.{with_value}
+use Rattle.aoi_graph.specs.GateLaws.{with-other, with-same}
 use Rattle.mig_graph.specs.declared.Lit.{Lit}
 use Rattle.mig_graph.specs.declared.Node.{Node}
 use Rattle.mig_graph.specs.Literals.{lit_value, node_value, IsLower, SameThree, IsAnyOrder, complement, node_of, NamesThree, inversions}
-use Rattle.mig_graph.specs.Graph.{Graph, values_from, with_value, start, values, value, node_at, size_of, IsGraph, GrewByOne, no_node}
-
-pub with-other : (k : ℕ) (b : Bool) (v : ℕ → Bool) (n : ℕ) → n ≢ k → with_value k b v n ≡ v n
-with-other k b v n h = rw (ne_eqb n k h) refl
-
-pub with-same : (k : ℕ) (b : Bool) (v : ℕ → Bool) → with_value k b v k ≡ b
-with-same k b v = rw (eq-eqb k k refl) refl
+use Rattle.mig_graph.specs.Graph.{Graph, values_from, start, values, value, node_at, size_of, IsGraph, GrewByOne, no_node}
 
 -- a node below the first keeps its value
 pub values-below : (k : ℕ) (ns : List Node) (v : ℕ → Bool) (n : ℕ) → n < k → values_from k ns v n ≡ v n
