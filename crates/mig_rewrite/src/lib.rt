@@ -9,6 +9,8 @@ mod merges;
 mod plan;
 mod rebuild;
 mod tally;
+#[cfg(test)]
+mod tests;
 
 use merges::any_merge;
 use mig_graph::{MigOuts, NoMemory};

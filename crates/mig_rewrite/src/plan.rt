@@ -68,7 +68,11 @@ fn reached(m: &MigOuts, alloc: Global) -> Result<Vec<bool>, NoMemory>
 }
 
 /// Marks what has to be made again.
-pub(crate) fn planned(m: &MigOuts, merge: Option<Merge>, alloc: Global) -> Result<Vec<bool>, NoMemory>
+pub(crate) fn planned(
+    m: &MigOuts,
+    merge: Option<Merge>,
+    alloc: Global,
+) -> Result<Vec<bool>, NoMemory>
     requires named { AreNamed m.now.mig m.now.outs.items }
     requires merge { MayMerge m.now.mig m.now.outs.items merge }
     ensures { IfOk result (λ v. IsPlan m.now.mig m.now.outs.items merge v.items) }
