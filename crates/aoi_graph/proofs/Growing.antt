@@ -12,7 +12,8 @@ use Rattle.aoi_graph.specs.GateLaws.{aoi-below}
 use Rattle.std.specs.Prelude.{Option, Some, None, bytes_eq}
 use Rattle.std.specs.Option.{option_map_or}
 use Rattle.indexmap.specs.IndexMap.{get}
-use Rattle.aoi_graph.specs.Blocks.{Grows, Numbers, IsEnv, AreBelow, IsHeld, AreHeld, input_value}
+use Rattle.aoi_graph.specs.Blocks.{Numbers, IsHeld, AreHeld, input_value}
+use Rattle.aoi_graph.specs.Making.{Grows, IsEnv, AreBelow}
 
 aoi-append : (bits : ℕ → Bool) (k : ℕ) (ns more : List AoiNode) (v : ℕ → Bool) → aoi_from bits k (ns ++ more) v ≡ aoi_from bits (k + length ns) more (aoi_from bits k ns v)
 unfolding aoi_from

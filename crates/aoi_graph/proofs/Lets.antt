@@ -12,7 +12,8 @@ use Rattle.op_text.specs.Language.{Equation, term, equation}
 use Rattle.op_text.specs.Meaning.{term_bit, changed}
 use Rattle.op_text.specs.Scratch.{term_weight}
 use Rattle.aoi_graph.specs.Gates.{aoi_values}
-use Rattle.aoi_graph.specs.Blocks.{Grows, Numbers, IsEnv, AreBelow, after_lets, parts, all_weights, all_parts}
+use Rattle.aoi_graph.specs.Blocks.{Numbers, after_lets, parts, all_weights, all_parts}
+use Rattle.aoi_graph.specs.Making.{Grows, IsEnv, AreBelow}
 use Rattle.aoi_graph.proofs.Growing.{env-stays}
 
 pub lets-and-one : (env : List ℕ → Bool) (xs : List Assign) (a : Assign) → after_lets env (xs ++ a ∷ []) ≡ changed (after_lets env xs) a.name (term_bit (after_lets env xs) (term a.value))

@@ -1,5 +1,5 @@
--- Blocks of lets and assignments, and the nodes that are made for them
-use Rattle.std.specs.Prelude.{◌≡◌, ℕ, ◌+◌, ◌<◌, ◌≤◌, Bool, true, false, List, [], ◌∷◌, ◌++◌, length, count_by, map, sum, sum_by, slice_get, slice_index, Some, is_some, bytes_eq, ◌||◌}
+-- Blocks of lets and assignments, and the values of the graphs that are made for them
+use Rattle.std.specs.Prelude.{◌≡◌, ℕ, ◌+◌, ◌<◌, Bool, true, false, List, [], ◌∷◌, length, map, sum, sum_by, slice_get, slice_index, Some, is_some, bytes_eq, ◌||◌}
 use Rattle.std.specs.List.{AllByRecursion}
 use Rattle.std.specs.declared.hash.FoldHasher.{FoldHasher}
 use Rattle.std.specs.declared.hash.BuildHasherDefault.{BuildHasherDefault}
@@ -11,7 +11,7 @@ use Rattle.op_text.specs.Meaning.{term_bit, with_lets}
 use Rattle.op_text.specs.Scratch.{term_weight}
 use Rattle.aoi_graph.specs.declared.AoiNode.{AoiNode}
 use Rattle.aoi_graph.specs.declared.AoiNode.TheVariants.{Zero, Input, Not, And, Or, Maj}
-use Rattle.aoi_graph.specs.Gates.{AreLower, aoi_values, aoi_at, is_gate}
+use Rattle.aoi_graph.specs.Gates.{aoi_values, aoi_at}
 
 -- names and their numbers
 abbrev pub Numbers : Type 0
@@ -35,13 +35,6 @@ all_parts xs = sum_by (λ (a : Assign). parts (term a.value)) xs
 abbrev pub all_weights : List Assign → ℕ
 all_weights xs = sum (map (λ (e : Equation). term_weight e.value) (map equation xs))
 
--- the new list goes on from the old one, with so many gates and nodes more at most
-pub record Grows (old new : List AoiNode) (gates most : ℕ) : Type 0 where
-  pub extends : (more : List AoiNode) × (new ≡ old ++ more)
-  pub lower : AreLower new
-  pub few : count_by is_gate new ≤ count_by is_gate old + gates
-  pub short : length new ≤ length old + most
-
 -- an input that the node reads has a number that the map holds
 abbrev pub IsHeld : Numbers → AoiNode → Type 0
 IsHeld inputs Zero = Unit {0}
@@ -54,27 +47,15 @@ IsHeld inputs (Maj a b c) = Unit {0}
 abbrev pub AreHeld : Numbers → List AoiNode → Type 0
 AreHeld inputs nodes = (k : ℕ) → k < length nodes → IsHeld inputs (aoi_at nodes k)
 
--- the names stand for nodes of the list
-abbrev pub AreBelow : Numbers → ℕ → Type 0
-AreBelow known size = (name : List ℕ) (k : ℕ) → get bytes_eq known name ≡ Some k → k < size
-
 -- the value of a name of the inputs; any other has the value 0
 abbrev pub input_value : Numbers → (ℕ → Bool) → List ℕ → Bool
 input_value inputs bits name = option_map_or (λ i. bits i) (get bytes_eq inputs name) false
-
--- the value of a name: of its node, or of the input of its number
-abbrev pub name_value : List AoiNode → Numbers → Numbers → (ℕ → Bool) → List ℕ → Bool
-name_value nodes known inputs bits name = option_map_or (λ k. aoi_values nodes bits k) (get bytes_eq known name) (input_value inputs bits name)
-
--- for these values of the inputs, the names have the values of env
-abbrev pub IsEnv : List AoiNode → Numbers → Numbers → (ℕ → Bool) → (List ℕ → Bool) → Type 0
-IsEnv nodes known inputs bits env = (name : List ℕ) → env name ≡ name_value nodes known inputs bits name
 
 -- the names of the inputs have the inputs' values
 abbrev pub NamesInputs : Numbers → (ℕ → Bool) → (List ℕ → Bool) → Type 0
 NamesInputs inputs bits env = (name : List ℕ) (i : ℕ) → get bytes_eq inputs name ≡ Some i → env name ≡ bits i
 
--- and no other name has a value but 0
+-- and every other name has the value 0
 abbrev pub IsStart : Numbers → (ℕ → Bool) → (List ℕ → Bool) → Type 0
 IsStart inputs bits env = (name : List ℕ) → env name ≡ input_value inputs bits name
 

@@ -6,7 +6,8 @@ ghost use Rattle.op_text.specs.Language.{term};
 ghost use Rattle.op_text.specs.Meaning.{term_bit};
 ghost use Rattle.op_text.specs.Scratch.{term_weight};
 ghost use Rattle.aoi_graph.specs.Gates.{AreLower, is_gate, aoi_values};
-ghost use Rattle.aoi_graph.specs.Blocks.{Grows, AreHeld, AreBelow, IsEnv, NamesInputs, IsStart, BlockReads, is_input, HaveValues, name_value, after_lets, parts, all_parts, all_weights};
+ghost use Rattle.aoi_graph.specs.Blocks.{AreHeld, NamesInputs, IsStart, BlockReads, is_input, HaveValues, after_lets, parts, all_parts, all_weights};
+ghost use Rattle.aoi_graph.specs.Making.{Grows, AreBelow, IsEnv, name_value};
 
 use crate::gates::{gate, one, xor};
 use crate::{AoiGraph, AoiNode, NoMemory};

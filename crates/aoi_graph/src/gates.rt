@@ -3,7 +3,8 @@
 ghost use Rattle.std.specs.Prelude.{◌≡◌, ◌<◌, ◌+◌, ◌^◌, ℕ, Bool, length, IfOk, OnOk, ◌++◌, ◌∷◌, [], not, ◌&&◌, if◌then◌else◌, true};
 ghost use Rattle.op_text.specs.Values.{differ};
 ghost use Rattle.aoi_graph.specs.Gates.{AreLower, ReadsBelow, is_gate, gate_value, aoi_values};
-ghost use Rattle.aoi_graph.specs.Blocks.{Numbers, Grows, IsHeld, AreHeld};
+ghost use Rattle.aoi_graph.specs.Blocks.{Numbers, IsHeld, AreHeld};
+ghost use Rattle.aoi_graph.specs.Making.{Grows};
 
 use crate::{AoiNode, NoMemory};
 

@@ -6,6 +6,9 @@ mod gates;
 
 pub use block::build;
 
+#[cfg(test)]
+mod tests;
+
 /// There was no memory.
 #[derive(Clone, Copy, Debug, PartialEq, Eq)]
 pub struct NoMemory;

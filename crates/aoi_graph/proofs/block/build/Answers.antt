@@ -1,4 +1,4 @@
-use Rattle.std.proofs.Common.{◌≡◌, arith, ap, length, refl, ◌∙◌, List, ℕ, Bool}
+use Rattle.std.proofs.Common.{arith, ap, length, refl, ◌∙◌}
 use Rattle.aoi_graph.specs.Blocks.{after_lets, input_value}
 use Rattle.aoi_graph.proofs.Known.{known-values}
 use Rattle.aoi_graph.proofs.block.build.Goals as goal

@@ -2,7 +2,8 @@ use Rattle.std.proofs.Common.{◌≡◌, ◌+◌, ◌*◌, [], ◌∷◌, ◌++�
 use Rattle.op_text.specs.Language.{term}
 use Rattle.op_text.specs.Meaning.{term_bit}
 use Rattle.op_text.specs.Scratch.{term_weight}
-use Rattle.aoi_graph.specs.Blocks.{IsEnv, after_lets, all_weights, all_parts, parts}
+use Rattle.aoi_graph.specs.Blocks.{after_lets, all_weights, all_parts, parts}
+use Rattle.aoi_graph.specs.Making.{IsEnv}
 use Rattle.aoi_graph.proofs.Growing.{grows-then, grows-length}
 use Rattle.aoi_graph.proofs.Lets.{lets-and-one, take-one-more, weights-more, parts-more, below-more, env-more}
 use Rattle.aoi_graph.proofs.block.let_nodes.Goals as goal

@@ -1,8 +1,6 @@
 use Rattle.std.proofs.Common.{◌*◌, ℕ, Bool, List, length, take}
-use Rattle.op_text.specs.Language.{term}
-use Rattle.op_text.specs.Meaning.{term_bit}
-use Rattle.op_text.specs.Scratch.{term_weight}
-use Rattle.aoi_graph.specs.Blocks.{Grows, AreBelow, IsEnv, after_lets, all_weights, all_parts, AreHeld}
+use Rattle.aoi_graph.specs.Blocks.{after_lets, all_weights, all_parts, AreHeld}
+use Rattle.aoi_graph.specs.Making.{Grows, AreBelow, IsEnv}
 use Rattle.aoi_graph.proofs.block.let_nodes.Given as goal
 
 -- the nodes and names of the lets so far

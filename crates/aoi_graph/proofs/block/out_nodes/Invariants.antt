@@ -3,8 +3,8 @@ use Rattle.op_text.specs.declared.tree.Assign.{Assign}
 use Rattle.aoi_graph.specs.Gates.{aoi_values}
 use Rattle.op_text.specs.Language.{term}
 use Rattle.op_text.specs.Meaning.{term_bit}
-use Rattle.op_text.specs.Scratch.{term_weight}
-use Rattle.aoi_graph.specs.Blocks.{Grows, IsEnv, all_weights, all_parts, AreHeld}
+use Rattle.aoi_graph.specs.Blocks.{all_weights, all_parts, AreHeld}
+use Rattle.aoi_graph.specs.Making.{Grows, IsEnv}
 use Rattle.aoi_graph.proofs.block.out_nodes.Given as goal
 
 -- the outputs so far
