@@ -1,0 +1,4 @@
+pub mod Growing
+pub mod Lets
+pub mod Outs
+pub mod Known

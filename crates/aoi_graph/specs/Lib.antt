@@ -1,0 +1,4 @@
+pub mod Gates
+pub mod GateLaws
+pub mod Blocks
+pub mod Making

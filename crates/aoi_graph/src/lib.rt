@@ -1,0 +1,32 @@
+//! Graphs of gates, made from the expressions of a block.
+#![tactic(auto)]
+
+mod block;
+mod gates;
+
+pub use block::build;
+
+#[cfg(test)]
+mod tests;
+
+/// There was no memory.
+#[derive(Clone, Copy, Debug, PartialEq, Eq)]
+pub struct NoMemory;
+
+/// A gate over lower nodes.
+#[derive(Clone, Copy, Debug, PartialEq, Eq)]
+pub enum AoiNode {
+    Zero,
+    Input(u8),
+    Not(u32),
+    And(u32, u32),
+    Or(u32, u32),
+    Maj(u32, u32, u32),
+}
+
+/// A graph of gates, and the nodes that are its outputs.
+#[derive(Debug, Drop)]
+pub struct AoiGraph {
+    pub nodes: Vec<AoiNode>,
+    pub outs: Vec<u32>,
+}

@@ -1,0 +1,7 @@
+pub mod Once
+pub mod Numbered
+pub mod Planning
+pub mod Steps
+pub mod Marks
+pub mod Counting
+pub mod Keeping

@@ -1,0 +1,15 @@
+use Rattle.std.proofs.Common.{◌≡◌, ◌<◌, ◌≤◌, ◌+◌, ℕ, Bool, true, length}
+use Rattle.mig_graph.specs.Graph.{value, values}
+use Rattle.mig_graph.specs.Outputs.{lit_at, AreNamed}
+use Rattle.mig_rewrite.specs.Plan.{is_marked, spared_below, merged_below}
+use Rattle.mig_rewrite.proofs.rebuild.remade.Given as goal
+
+-- the marked nodes so far have their values
+abbrev pub invariant-loop-k : goal.invariant-loop-k
+invariant-loop-k l = record {
+  inputs : l.mig.inputs ≡ l.m.mig.inputs;
+  long : length l.lits.items ≡ l.k;
+  named : AreNamed l.mig l.lits.items;
+  values : (bits : ℕ → Bool) (j : ℕ) → j < l.k → is_marked l.marks.items j ≡ true → value l.mig bits (lit_at l.lits.items j) ≡ values l.m.mig bits j;
+  count : l.inputs + 1 + length l.mig.nodes + spared_below l.merge l.k ≤ l.k + merged_below l.merge l.k;
+}

@@ -1,0 +1,55 @@
+//! Reduction of majority graphs.
+#![tactic(auto)]
+
+ghost use Rattle.std.specs.Prelude.{◌≡◌, ◌≤◌, IfOk, length};
+ghost use Rattle.mig_graph.specs.Outputs.{AreNamed, KeepsOutputs};
+ghost use Rattle.mig_graph.specs.Reduced.{IsReduced};
+
+mod merges;
+mod plan;
+mod rebuild;
+mod tally;
+#[cfg(test)]
+mod tests;
+
+use merges::any_merge;
+use mig_graph::{MigOuts, NoMemory};
+use rebuild::remade;
+use std::alloc::Global;
+
+/// The graph made again until no node more is saved: then each node is reached by an output.
+fn swept(m: &MigOuts, alloc: Global) -> Result<MigOuts, NoMemory>
+    requires { AreNamed m.now.mig m.now.outs.items }
+    ensures keeps { IfOk result (λ r. KeepsOutputs m.now.mig m.now.outs.items r.mig r.outs.items) }
+    ensures named { IfOk result (λ r. AreNamed r.mig r.outs.items) }
+    ensures count { IfOk result (λ r. length r.mig.nodes ≤ length m.now.mig.nodes) }
+{
+    let mut now = remade(m, None, alloc)?;
+    loop {
+        let next = remade(&now, None, alloc)?;
+        if next.mig.size() == now.mig.size() {
+            return Ok(next);
+        }
+        now = next;
+    }
+}
+
+/// The graph without the nodes that no output reaches, and with every merge made.
+pub fn reduce(m: MigOuts, alloc: Global) -> Result<MigOuts, NoMemory>
+    requires { AreNamed m.mig m.outs.items }
+    ensures keeps { IfOk result (λ r. KeepsOutputs m.mig m.outs.items r.mig r.outs.items) }
+    ensures named { IfOk result (λ r. AreNamed r.mig r.outs.items) }
+    ensures count { IfOk result (λ r. length r.mig.nodes ≤ length m.mig.nodes) }
+    ensures reduced { IfOk result (λ r. IsReduced r.mig r.outs.items) }
+{
+    let mut now = swept(&m, alloc)?;
+    loop {
+        match any_merge(&now, alloc)? {
+            None => return Ok(now),
+            Some(found) => {
+                let merged = remade(&now, Some(found), alloc)?;
+                now = swept(&merged, alloc)?;
+            }
+        }
+    }
+}
