@@ -11,3 +11,6 @@ mod plain;
 pub use body::{BodyCmd, BodyRef, OutRow};
 pub use mig_graph::NoMemory;
 pub use plain::plain_body;
+
+#[cfg(test)]
+mod tests;
