@@ -4,3 +4,6 @@ pub mod LegalPieces
 pub mod Steps
 pub mod Late
 pub mod Sequence
+pub mod Booleans
+pub mod OwnRows
+pub mod OnBanks

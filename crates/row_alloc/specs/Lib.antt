@@ -3,4 +3,5 @@ pub mod Rows
 pub mod Legal
 pub mod Body
 pub mod Length
+pub mod Numbering
 pub mod Phases

@@ -5,10 +5,12 @@
 #![tactic(auto)]
 
 mod body;
+mod laws;
 mod pieces;
 mod plain;
 
 pub use body::{BodyCmd, BodyRef, OutRow};
+pub use laws::{legal_bodies_are_legal_on_banks, rows_can_stand_apart};
 pub use mig_graph::NoMemory;
 pub use plain::plain_body;
 
