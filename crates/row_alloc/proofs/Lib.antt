@@ -7,3 +7,6 @@ pub mod Sequence
 pub mod Booleans
 pub mod OwnRows
 pub mod OnBanks
+pub mod Sound
+pub mod Renaming
+pub mod Checked

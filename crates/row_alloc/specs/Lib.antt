@@ -4,4 +4,6 @@ pub mod Legal
 pub mod Body
 pub mod Length
 pub mod Numbering
+pub mod Symbolic
+pub mod Table
 pub mod Phases

@@ -5,11 +5,16 @@
 #![tactic(auto)]
 
 mod body;
+mod check;
 mod laws;
+mod legal;
 mod pieces;
 mod plain;
+mod sensing;
+mod table;
 
 pub use body::{BodyCmd, BodyRef, OutRow};
+pub use check::check_body;
 pub use laws::{legal_bodies_are_legal_on_banks, rows_can_stand_apart};
 pub use mig_graph::NoMemory;
 pub use plain::plain_body;
