@@ -1,6 +1,6 @@
 //! A body followed with literals in place of bits.
 
-ghost use Rattle.std.specs.Prelude.{◌≡◌, ◌<◌, ◌≤◌, ◌+◌, ◌↔◌, ℕ, length, false, true, IsTrue, map, slice_index_or, nat_lt, if◌then◌else◌};
+ghost use Rattle.std.specs.Prelude.{◌≡◌, ◌<◌, ◌≤◌, ◌+◌, ◌↔◌, ℕ, length, true, IsTrue, map};
 ghost use Rattle.std.specs.List.{list_all};
 ghost use Rattle.dram_model.specs.declared.address.Cell.TheVariants.{D as CellD};
 ghost use Rattle.dram_model.specs.Column.{lines_of, is_address};
@@ -8,13 +8,13 @@ ghost use Rattle.row_alloc.specs.Rows.{place, bound, out_at};
 ghost use Rattle.row_alloc.specs.Legal.{is_ref, is_legal_cmd, are_legal};
 ghost use Rattle.row_alloc.specs.Body.{FitBody, DoesBody};
 ghost use Rattle.row_alloc.specs.Numbering.{own_rows, own_output};
-ghost use Rattle.row_alloc.specs.Symbolic.{sym_sense, sym_settle, sym_step, sym_run, IsChecked, at_start};
+ghost use Rattle.row_alloc.specs.Symbolic.{sym_sense, sym_settle, sym_step, sym_run, IsChecked};
 ghost use Rattle.row_alloc.specs.Table.{symbols_of, is_kept};
 
 use crate::body::{BodyCmd, BodyRef, OutRow};
 use crate::legal::all_legal;
 use crate::sensing::sense;
-use crate::table::{Table, settle};
+use crate::table::Table;
 use dram_model::{Addr, lines};
 use mig_graph::{Lit, Mig};
 
@@ -37,6 +37,7 @@ fn address(outs: &[OutRow], inputs: u8, x: BodyRef) -> Addr
     }
 }
 
+/// The row of an output where each row stands at its own number.
 fn own_row(outs: &[OutRow], j: u8) -> u16
     requires { j < length outs.now }
     ensures { result ≡ own_output (out_at outs.now j).same j }
@@ -44,34 +45,6 @@ fn own_row(outs: &[OutRow], j: u8) -> u16
     match outs[j as usize].same {
         Some(k) => u16::from(k),
         None => 80 + u16::from(j),
-    }
-}
-
-/// The inputs, each in its place.
-fn fill_inputs(d: &mut [Option<Lit>], inputs: u8)
-    requires long { inputs ≤ length d.old }
-    requires empty { (n : ℕ) → slice_index_or d.old n None ≡ None }
-    ensures { (n : ℕ) → slice_index_or d.new n None ≡ (if nat_lt n inputs then Some (record { node = n + 1; inverted = false }) else None) }
-{
-    for k in 0..inputs {
-        d[k as usize] = Some(Lit {
-            node: u32::from(k) + 1,
-            inverted: false,
-        });
-    }
-}
-
-/// Nothing but the inputs stands.
-fn first_table(inputs: u8) -> Table
-    requires { inputs ≤ 80 }
-    ensures { symbols_of result ≡ at_start inputs }
-{
-    let mut d = [None; 120];
-    fill_inputs(&mut d, inputs);
-    Table {
-        t: [None; 4],
-        dcc: [None; 2],
-        d,
     }
 }
 
@@ -83,9 +56,9 @@ fn activate(m: &Mig, table: &mut Table, x: Addr) -> Option<Lit>
     ensures table { symbols_of table.new ≡ sym_settle x (sym_sense m.now x (symbols_of table.old)) (symbols_of table.old) }
 {
     let raised = lines(x);
-    let v = sense(m, table, raised.as_slice());
-    settle(table, raised.as_slice(), v);
-    v
+    let sensed = sense(m, table, raised.as_slice());
+    table.settle(raised.as_slice(), sensed);
+    sensed
 }
 
 /// One command.
@@ -99,9 +72,9 @@ fn step(m: &Mig, outs: &[OutRow], table: &mut Table, cmd: BodyCmd)
             let _ = activate(m, table, address(outs, m.inputs(), x));
         }
         BodyCmd::Aap(x, y) => {
-            let v = activate(m, table, address(outs, m.inputs(), x));
+            let sensed = activate(m, table, address(outs, m.inputs(), x));
             let raised = lines(address(outs, m.inputs(), y));
-            settle(table, raised.as_slice(), v);
+            table.settle(raised.as_slice(), sensed);
         }
     }
 }
@@ -124,15 +97,18 @@ fn ends_right(outs: &[OutRow], inputs: u8, table: &Table) -> bool
     requires same { (j k : ℕ) → j < length outs.now → (out_at outs.now j).same ≡ Some k → k < inputs }
     ensures { IsTrue result ↔ ((j : ℕ) → j < length outs.now → symbols_of table.now (CellD ((own_rows outs.now).output j)) ≡ Some (out_at outs.now j).lit) }
 {
-    for j in 0..outs.len() {
-        if table.d[own_row(outs, j as u8) as usize] != Some(outs[j].lit) {
+    for (j, out) in outs.iter().enumerate() {
+        if table.d[own_row(outs, j as u8) as usize] != Some(out.lit) {
             return false;
         }
     }
     true
 }
 
-/// Whether the body is legal and its symbolic run ends right.
+/// Whether the body is legal and its symbolic run ends right. Then it does what a body must.
+///
+/// Not every right body is found right: where three lines sense a value that no node of the graph has, the run knows
+/// nothing of it.
 pub fn check_body(m: &Mig, outs: &[OutRow], cmds: &[BodyCmd]) -> bool
     requires fit { FitBody m.now outs.now }
     ensures exact { IsTrue result ↔ IsChecked m.now outs.now cmds.now }
@@ -142,7 +118,7 @@ pub fn check_body(m: &Mig, outs: &[OutRow], cmds: &[BodyCmd]) -> bool
     if !all_legal(cmds, inputs, outs.len() as u8) {
         return false;
     }
-    let mut table = first_table(inputs);
+    let mut table = Table::new(inputs);
     follow(m, outs, &mut table, cmds);
     ends_right(outs, inputs, &table)
 }

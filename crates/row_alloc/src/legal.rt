@@ -18,6 +18,7 @@ fn in_range(x: BodyRef, inputs: u8, outputs: u8) -> bool
     }
 }
 
+/// Whether the row may stand first: any but B8 to B11.
 fn may_be_first(x: BodyRef) -> bool
     ensures { result ≡ is_first_ref x }
 {
@@ -27,12 +28,14 @@ fn may_be_first(x: BodyRef) -> bool
     }
 }
 
+/// Whether the row may stand second: any but the constants and the inputs.
 fn may_be_second(x: BodyRef) -> bool
     ensures { result ≡ is_second_ref x }
 {
     !matches!(x, BodyRef::C(_) | BodyRef::In(_))
 }
 
+/// Whether each row of the command is in range, and legal in its place.
 fn is_legal(cmd: BodyCmd, inputs: u8, outputs: u8) -> bool
     ensures { result ≡ is_legal_cmd inputs outputs cmd }
 {
@@ -45,6 +48,7 @@ fn is_legal(cmd: BodyCmd, inputs: u8, outputs: u8) -> bool
     }
 }
 
+/// Whether each command is legal.
 pub fn all_legal(cmds: &[BodyCmd], inputs: u8, outputs: u8) -> bool
     ensures { result ≡ are_legal inputs outputs cmds.now }
 {

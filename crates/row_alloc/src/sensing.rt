@@ -5,16 +5,18 @@ ghost use Rattle.std.specs.List.{list_all};
 ghost use Rattle.row_alloc.specs.Symbolic.{lit_eq, are_twins, are_opposite, has_three, first_node, node_for, node_for_all, sense_three, sym_sense_lines, is_node as is_node_of};
 ghost use Rattle.row_alloc.specs.Table.{symbols_of, is_kept};
 
-use crate::table::{Table, read};
+use crate::table::Table;
 use dram_model::Line;
 use mig_graph::{Lit, Mig, Node, complement};
 
+/// Whether both are one literal.
 fn is_same(x: Lit, y: Lit) -> bool
     ensures { result ≡ lit_eq x y }
 {
     x.node == y.node && x.inverted == y.inverted
 }
 
+/// Whether both lines read one literal.
 fn twins(p: Option<Lit>, q: Option<Lit>) -> bool
     ensures { result ≡ are_twins p q }
 {
@@ -24,6 +26,7 @@ fn twins(p: Option<Lit>, q: Option<Lit>) -> bool
     }
 }
 
+/// Whether one line reads the complement of what the other reads.
 fn opposite(p: Option<Lit>, q: Option<Lit>) -> bool
     ensures { result ≡ are_opposite p q }
 {
@@ -33,6 +36,7 @@ fn opposite(p: Option<Lit>, q: Option<Lit>) -> bool
     }
 }
 
+/// Whether the node has these three literals, in this order.
 fn is_node(n: Node, x: Lit, y: Lit, z: Lit) -> bool
     ensures { result ≡ is_node_of n x y z }
 {
@@ -69,21 +73,16 @@ fn find_three(m: &Mig, x: Lit, y: Lit, z: Lit) -> Option<u32>
 fn node_of_three(m: &Mig, x: Lit, y: Lit, z: Lit) -> Option<Lit>
     ensures { result ≡ node_for m.now x y z }
 {
-    match find_three(m, x, y, z) {
-        Some(node) => Some(Lit {
-            node,
-            inverted: false,
-        }),
-        None => match find_three(m, complement(x), complement(y), complement(z)) {
-            Some(node) => Some(Lit {
-                node,
-                inverted: true,
-            }),
-            None => None,
-        },
+    if let Some(node) = find_three(m, x, y, z) {
+        let inverted = false;
+        return Some(Lit { node, inverted });
     }
+    let node = find_three(m, complement(x), complement(y), complement(z))?;
+    let inverted = true;
+    Some(Lit { node, inverted })
 }
 
+/// The node of three literals, where all three lines read one.
 fn node_of_all(m: &Mig, p: Option<Lit>, q: Option<Lit>, r: Option<Lit>) -> Option<Lit>
     ensures { result ≡ node_for_all m.now p q r }
 {
@@ -121,8 +120,8 @@ pub fn sense(m: &Mig, table: &Table, lines: &[Line]) -> Option<Lit>
     ensures { result ≡ sym_sense_lines m.now (symbols_of table.now) lines.now }
 {
     match lines {
-        [a] => read(table, *a),
-        [a, b, c, ..] => sense3(m, read(table, *a), read(table, *b), read(table, *c)),
+        [a] => table.read(*a),
+        [a, b, c, ..] => sense3(m, table.read(*a), table.read(*b), table.read(*c)),
         _ => None,
     }
 }

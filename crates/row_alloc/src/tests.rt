@@ -1,5 +1,6 @@
-ghost use Rattle.std.specs.Prelude.{◌≡◌, true};
+ghost use Rattle.std.specs.Prelude.{◌≡◌, true, IfOk};
 ghost use Rattle.dram_model.specs.Column.{is_address};
+ghost use Rattle.row_alloc.specs.Body.{FitBody};
 
 use super::*;
 use dram_model::{Addr, Cell, Line, lines};
@@ -111,14 +112,18 @@ fn out(lit: Lit, same: Option<u8>) -> OutRow
     OutRow { lit, same }
 }
 
-/// The full adder's graph, its sum and its carry.
-fn full_adder(alloc: Global) -> Result<(Mig, Lit, Lit), NoMemory> {
+/// The full adder's graph with its outputs: the sum, and the carry into the row of the third input.
+fn full_adder(rt: &impl Abort, alloc: Global) -> Result<(Mig, [OutRow; 2]), NoMemory>
+    ensures { IfOk result (λ adder. FitBody adder.0 adder.1) }
+{
     let (a, b, c) = (lit(1, false), lit(2, false), lit(3, false));
     let mut m = Mig::new(3, alloc)?;
     let carry = m.maj(a, b, c)?;
     let part = m.maj(a, b, lit(3, true))?;
     let sum = m.maj(lit(carry.node, !carry.inverted), c, part)?;
-    Ok((m, sum, carry))
+    assert!(rt; m.inputs() == 3 && m.size() == 7);
+    assert!(rt; carry.node < m.size() && sum.node < m.size());
+    Ok((m, [out(sum, None), out(carry, Some(2))]))
 }
 
 /// The sum of the three lowest bits comes into D4 and the carry into D2, and no other row changes.
@@ -139,15 +144,38 @@ fn check_addition(rt: &impl Abort, cmds: &[BodyCmd], outs: &[OutRow], garbage: b
 
 #[test]
 fn adds_three_bits(rt: HostRuntime) -> Result<(), Fail> {
-    let (m, sum, carry) = full_adder(rt.alloc())?;
-    assert!(rt; m.inputs() == 3 && m.size() < 30);
-    assert!(rt; carry.node < m.size() && sum.node < m.size());
-    let outs = [out(sum, None), out(carry, Some(2))];
+    let (m, outs) = full_adder(&rt, rt.alloc())?;
     let cmds = plain_body(&m, &outs, rt.alloc())?;
     assert!(rt; cmds.len() <= 18);
     for ones in 0..8 {
         check_addition(&rt, &cmds, &outs, false, ones);
         check_addition(&rt, &cmds, &outs, true, ones);
+    }
+    Ok(())
+}
+
+// One added bit in nine commands. Without the seventh, T2 has lost the carry that came in.
+#[test]
+fn checked_addition(rt: HostRuntime) -> Result<(), Fail> {
+    use BodyCmd::{Aap, Ap};
+    use BodyRef::{B, In, Out};
+    let (m, outs) = full_adder(&rt, rt.alloc())?;
+    let nine = [
+        Aap(In(0), B(10)),
+        Aap(In(1), B(1)),
+        Aap(In(2), B(8)),
+        Ap(B(14)),
+        Aap(In(1), B(6)),
+        Aap(B(15), B(5)),
+        Aap(In(2), B(2)),
+        Aap(B(14), Out(0)),
+        Aap(B(0), Out(1)),
+    ];
+    assert!(rt; check_body(&m, &outs, &nine));
+    let [a, b, c, d, e, f, _, h, i] = nine;
+    assert!(rt; !check_body(&m, &outs, &[a, b, c, d, e, f, h, i]));
+    for ones in 0..8 {
+        check_addition(&rt, &nine, &outs, true, ones);
     }
     Ok(())
 }

@@ -24,8 +24,8 @@ told g outs cmds r sy first i legal e f h tells =
     )
 
 pub returns-clause-exact : goal.returns-clause-exact
-returns-clause-exact c = told c.args.m.now c.args.outs.now c.args.cmds.now c.ends_right.result (symbols_of c.follow.new.table) (symbols_of c.first_table-table.result) c.inputs-inputs.result (sym c.all_legal.ensures ∙ c.if-not-all_legal.false) c.inputs-inputs.ensures.inputs c.follow.ensures c.first_table-table.ensures c.ends_right.ensures
+returns-clause-exact c = told c.args.m.now c.args.outs.now c.args.cmds.now c.ends_right.result (symbols_of c.follow.new.table) (symbols_of c.new-table.result) c.inputs-inputs.result (sym c.all_legal.ensures ∙ c.if-not-all_legal.false) c.inputs-inputs.ensures.inputs c.follow.ensures c.new-table.ensures c.ends_right.ensures
 
 pub returns-clause-does : goal.returns-clause-does
 returns-clause-does c = λ t. checked-does c.args.m.now c.args.outs.now c.args.cmds.now (c.inputs-inputs.ensures.graph) c.requires.fit
-    ((told c.args.m.now c.args.outs.now c.args.cmds.now c.ends_right.result (symbols_of c.follow.new.table) (symbols_of c.first_table-table.result) c.inputs-inputs.result (sym c.all_legal.ensures ∙ c.if-not-all_legal.false) c.inputs-inputs.ensures.inputs c.follow.ensures c.first_table-table.ensures c.ends_right.ensures).0 t)
+    ((told c.args.m.now c.args.outs.now c.args.cmds.now c.ends_right.result (symbols_of c.follow.new.table) (symbols_of c.new-table.result) c.inputs-inputs.result (sym c.all_legal.ensures ∙ c.if-not-all_legal.false) c.inputs-inputs.ensures.inputs c.follow.ensures c.new-table.ensures c.ends_right.ensures).0 t)
