@@ -11,8 +11,9 @@ use Rattle.row_alloc.specs.declared.body.OutRow.{OutRow}
 use Rattle.row_alloc.specs.Rows.{Rows, run_body, out_at, AreApart}
 use Rattle.row_alloc.specs.Legal.{are_legal}
 
--- What the graph and the outputs of a body must meet: at most 80 inputs, at most 8 outputs, and rows enough; each output
--- names a node of the graph, and an input whose row it takes; and no two outputs take one input's row
+-- What the graph and the outputs of a body must meet: at most 80 inputs, at most 8 outputs, and a spill row for each node
+-- and output; each literal names a node of the graph; an output that stands in an input's row names an input, and no other
+-- output names the same one
 pub record FitBody (g : Graph) (outs : List OutRow) : Type 0 where
   pub inputs : g.inputs ≤ 80
   pub outputs : length outs ≤ 8
