@@ -1,0 +1,12 @@
+pub mod Activations
+pub mod Holds
+pub mod LegalPieces
+pub mod Steps
+pub mod Late
+pub mod Sequence
+pub mod Booleans
+pub mod OwnRows
+pub mod OnBanks
+pub mod Sound
+pub mod Renaming
+pub mod Checked
