@@ -18,6 +18,7 @@ use Rattle.simdram_cli.specs.Ends.{IsRead, run_status, RunEnds}
 use Rattle.simdram_cli.specs.Statuses.{IsInput, Reads, IsTooLong, TakesOps, TakesScript, TakesImage, IsFaulty, OnlyWhere, AlwaysWhere}
 use Rattle.simdram_cli.proofs.Running.{Apart}
 use Rattle.simdram_cli.proofs.Promised.{run_causes, run_either}
+use Rattle.simdram_cli.proofs.Silent.{run_line}
 use Rattle.simdram_cli.proofs.Fates.{Fate, no_ops, long_ops, bad_ops, no_script, long_script, bad_script, no_image, long_image, bad_image, all_taken, run_fate, ops_status, script_status, image_status}
 
 not_loaded : (name : List ℕ) (number : ℕ) (said : List Said) (rest : List Step) → (IsLoaded name rest → ⊥) → IsLoaded name (line_steps number said ++ rest) → ⊥
@@ -114,7 +115,7 @@ pub only_where : (names : RunNames) (old new : World) (chip : ChipView) (status 
 only_where names old new chip status apart e =
     let causes = run_causes names old new chip status e in
     record {
-      read_fault = λ is. let c = causes.read_fault is in (c.0, run_inputs names e.program e.texts c.0 c.1, c.3);
+      read_fault = λ is. let c = causes.read_fault is in (c.0, run_inputs names e.program e.texts c.0 c.1, c.3, run_line names old new chip status (CannotRead c.0) e c.2 tt);
       write_fault = causes.write_fault;
       bad_ops = λ is. let c = causes.refused (omega arith) (omega arith) in
           told_case old.files.holds _ (λ files there. only_ops names files c.0 (sym c.2 ∙ is) (refused_known names files c.0 e.ran.end c.1 (run_known names old new chip status files apart e there)));
@@ -122,8 +123,10 @@ only_where names old new chip status apart e =
           told_case old.files.holds _ (λ files there. only_script names files c.0 (sym c.2 ∙ is) (refused_known names files c.0 e.ran.end c.1 (run_known names old new chip status files apart e there)));
       bad_image = λ is. let c = causes.refused (omega arith) (omega arith) in
           told_case old.files.holds _ (λ files there. only_image names files c.0 (sym c.2 ∙ is) (refused_known names files c.0 e.ran.end c.1 (run_known names old new chip status files apart e there)));
+      refused_line = λ l m. let c = causes.refused l m in (c.0, sym c.2, run_line names old new chip status (Refused c.0) e c.1 tt);
       chip_fault = causes.chip_fault;
-      too_long = λ is. let c = causes.too_long is in (c.0, run_inputs names e.program e.texts c.0 c.1, c.3);
+      no_memory = λ is. run_line names old new chip status NoMemory e (causes.no_memory is) tt;
+      too_long = λ is. let c = causes.too_long is in (c.0, run_inputs names e.program e.texts c.0 c.1, c.3, run_line names old new chip status (TooLong c.0) e c.2 tt);
     }
 
 -- a fault has its status and its cause

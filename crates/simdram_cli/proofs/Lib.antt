@@ -9,6 +9,7 @@ pub mod Promised
 pub mod Ended
 pub mod Fates
 pub mod Keeping
+pub mod Silent
 pub mod Deciding
 pub mod Topping
 pub mod OpenedRows

@@ -42,15 +42,21 @@ IsFaulty old new status =
     ⊎ (((status ≡ 3) × (Rose old.files.store_faults new.files.store_faults ⊎ Rose old.sink.faults new.sink.faults))
     ⊎ ((status ≡ 9) × Rose old.chip new.chip)))
 
--- Each status only where its cause is
+-- what was sent is this line, or a part of it
+abbrev pub LastLine : List ℕ → World → World → Type 0
+LastLine line old new = Told (AppendsPart line) old.sink.sent new.sink.sent
+
+-- Each status only where its cause is; before the report begins, its line alone is sent
 pub record OnlyWhere (names : RunNames) (old new : World) (status : ℕ) : Type 0 where
-  pub read_fault : status ≡ 2 → (name : List ℕ) × IsInput names name × Rose (old.files.load_faults name) (new.files.load_faults name)
+  pub read_fault : status ≡ 2 → (name : List ℕ) × IsInput names name × Rose (old.files.load_faults name) (new.files.load_faults name) × LastLine (codes "cannot read " ++ name ++ codes "\n") old new
   pub write_fault : status ≡ 3 → Rose old.files.store_faults new.files.store_faults ⊎ Rose old.sink.faults new.sink.faults
   pub bad_ops : status ≡ 4 → IfSome old.files.holds (λ files. (r : Refusal) × Reads ops_of OPS_MAX files names.ops.now (Err r))
   pub bad_script : status ≡ 6 → IfSome old.files.holds (λ files. TakesOps names files × ((r : Refusal) × Reads script_in SCRIPT_MAX files names.script.now (Err r)))
   pub bad_image : status ≡ 7 → IfSome old.files.holds (λ files. TakesOps names files × TakesScript names files × ((r : Refusal) × Reads image_of IMAGE_MAX files names.image.now (Err r)))
+  pub refused_line : 4 ≤ status → status ≤ 7 → (r : Refusal) × (r.status ≡ status) × LastLine r.line old new
   pub chip_fault : status ≡ 9 → Rose old.chip new.chip
-  pub too_long : status ≡ 11 → (name : List ℕ) × IsInput names name × ((limit : ℕ) × RoseBy (limit + 1) old.files.taken new.files.taken)
+  pub no_memory : status ≡ 10 → LastLine (codes "no memory\n") old new
+  pub too_long : status ≡ 11 → (name : List ℕ) × IsInput names name × ((limit : ℕ) × RoseBy (limit + 1) old.files.taken new.files.taken) × LastLine (codes "too long " ++ name ++ codes "\n") old new
 
 -- Where the folder tells its files, they foretell the status, unless memory was wanting or a count of faults rose
 pub record AlwaysWhere (names : RunNames) (files : Files) (old new : World) (status : ℕ) : Type 0 where
