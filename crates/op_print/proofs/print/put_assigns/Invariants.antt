@@ -1,0 +1,8 @@
+use Rattle.std.proofs.Common.{◌≡◌, ◌++◌, take, map, codes}
+use Rattle.std.specs.List.{flat_map}
+use Rattle.op_text.specs.Language.{equation}
+use Rattle.op_print.specs.Canonical.{line, equation_text}
+use Rattle.op_print.proofs.print.put_assigns.Given as goal
+
+abbrev pub invariant-loop-assign : goal.invariant-loop-assign
+invariant-loop-assign l = l.out.items ≡ l.fn.out.items ++ flat_map (λ e. line (codes "    ") (equation_text e)) (map equation (take l.assign-index l.assigns))
