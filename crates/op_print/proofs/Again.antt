@@ -11,6 +11,7 @@ use Rattle.text_lex.specs.Lexical.{Item, Whole, Bad, items_from, items_of, is_to
 use Rattle.text_lex.proofs.Back.{reads_token, reads_blank}
 use Rattle.op_text.specs.declared.tree.Kind.{Kind}
 use Rattle.op_text.specs.declared.tree.Kind.TheVariants.{Word, Bit}
+use Rattle.op_text.specs.declared.tree.Op.{Op}
 use Rattle.op_text.specs.declared.tree.Param.{Param}
 use Rattle.op_text.specs.declared.tree.State.{State}
 use Rattle.op_text.specs.declared.tree.WordOp.{WordOp}
@@ -19,13 +20,13 @@ use Rattle.op_text.specs.WordOps.{op_text}
 use Rattle.op_text.specs.Items.{texts}
 use Rattle.op_text.specs.Lines.{fault_of, fault_in}
 use Rattle.op_text.specs.Rules.{first_breach, nothing_yet}
-use Rattle.op_text.specs.Language.{Term, Nought, Unity, Named, Negation, Conjunction, Disjunction, Parity, Majority, Equation, Block, Statement, Compute, Visit, Operation}
+use Rattle.op_text.specs.Language.{Term, Nought, Unity, Named, Negation, Conjunction, Disjunction, Parity, Majority, Equation, Block, Statement, Compute, Visit, Operation, operation}
 use Rattle.op_text.specs.Spelling.{bare, unplaced, items_spelled, kind_of_text, kind_text, direction_text, start_text, behind_commas, between_commas, in_turn, operations_text, HasNames, HasParam, HasState, HasEquation, HasStatement, HasOperation, IsName, Each, MeetRules}
 use Rattle.op_text.specs.Spelling as tokens
 use Rattle.op_text.proofs.Places.{places_do_not_matter}
 use Rattle.op_text.proofs.Once.{ops_spelled_once}
 use Rattle.op_print.specs.Canonical.{behind_comma, listed, spelled, value_text, param_text, state_text, equation_text, let_text, word_text, block_head, op_head, line, statement_lines, op_lines, canonical_text}
-use Rattle.op_print.specs.Reading.{TokensSpellOps, IsTextOf, PrintingIsUndone}
+use Rattle.op_print.specs.Reading.{TokensSpellOps, IsReadAs, PrintingIsUndone}
 
 -- A text is read as these tokens, wherever it stands.
 record Reads (text : List ℕ) (spells : List (List ℕ)) : Type 0 where
@@ -291,3 +292,10 @@ printing_is_undone all h meets =
     let good : first_breach items ≡ None = (places_do_not_matter items _ nothing_yet).1 (ap first_breach same ∙ meets) in
     let spelled : texts items ≡ operations_text all = sym (texts_bare items) ∙ ap texts same ∙ texts_spelled (operations_text all) in
     ((ap (option_map (fault_of (canonical_text all))) good, spelled), λ others k t. ops_spelled_once others all k h (sym t.1 ∙ spelled))
+
+-- where a text is begun empty, and these ops are written to it
+pub read_back : (ops given : List Op) (text before : List ℕ) → given ≡ ops → Each HasOperation (map operation given) → MeetRules (map operation ops) → before ≡ [] → text ≡ before ++ canonical_text (map operation given)
+    → IsReadAs text (map operation ops)
+read_back ops given text before same named meets blank written =
+    let is : text ≡ canonical_text (map operation ops) = rw (written, blank, same) refl in
+    rw is (printing_is_undone (map operation ops) (rw same at named) meets)

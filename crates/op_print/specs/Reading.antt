@@ -15,7 +15,10 @@ TokensSpellOps = (all : List Operation) → Each HasOperation all → map bare (
 abbrev pub IsTextOf : List ℕ → List Operation → Type 0
 IsTextOf text all = (fault_in text ≡ None) × (texts (items_of text) ≡ operations_text all)
 
--- The canonical text of ops that meet the rules is a text of these ops, and of no others.
+-- A text is read as these ops: it is one of them, and of no others.
+abbrev pub IsReadAs : List ℕ → List Operation → Type 0
+IsReadAs text all = IsTextOf text all × ((others : List Operation) → Each HasOperation others → IsTextOf text others → others ≡ all)
+
+-- The canonical text of ops that meet the rules is read as these ops.
 abbrev pub PrintingIsUndone : Type 0
-PrintingIsUndone = (all : List Operation) → Each HasOperation all → MeetRules all
-    → IsTextOf (canonical_text all) all × ((others : List Operation) → Each HasOperation others → IsTextOf (canonical_text all) others → others ≡ all)
+PrintingIsUndone = (all : List Operation) → Each HasOperation all → MeetRules all → IsReadAs (canonical_text all) all

@@ -4,8 +4,9 @@ ghost use Rattle.std.specs.Prelude.{◌≡◌, ◌++◌, [], ◌∷◌, codes, m
 ghost use Rattle.std.specs.List.{flat_map};
 ghost use Rattle.op_text.specs.WordOps.{op_text};
 ghost use Rattle.op_text.specs.Language.{term, equation, statement, operation, operations};
-ghost use Rattle.op_text.specs.Spelling.{kind_text, direction_text, start_text, MeetRules};
+ghost use Rattle.op_text.specs.Spelling.{kind_text, direction_text, start_text, MeetRules, Each, IsName, HasNames, HasParam, HasState, HasEquation, HasStatement, HasOperation};
 ghost use Rattle.op_print.specs.Canonical.{listed, behind_comma, spelled, value_text, param_text, state_text, equation_text, let_text, word_text, block_head, op_head, line, statement_lines, op_lines, canonical_text};
+ghost use Rattle.op_print.specs.Reading.{IsReadAs};
 
 use bit_rows::NoMemory;
 use op_text::{Assign, Expr, Kind, Op, Ops, Param, State, Stmt, WordOp};
@@ -19,7 +20,8 @@ fn put(out: &mut Vec<u8>, bytes: &[u8]) -> Result<(), NoMemory>
 }
 
 fn put_value(out: &mut Vec<u8>, value: &Expr) -> Result<(), NoMemory>
-    ensures { OnOk result (out.new.items ≡ out.old.items ++ value_text (term value.now)) }
+    ensures text { OnOk result (out.new.items ≡ out.old.items ++ value_text (term value.now)) }
+    ensures names { OnOk result (HasNames (term value.now)) }
 {
     match value {
         Expr::Zero => put(out, b"0"),
@@ -106,7 +108,8 @@ fn kind_name(kind: Kind) -> &'static [u8]
 }
 
 fn put_param(out: &mut Vec<u8>, param: &Param) -> Result<(), NoMemory>
-    ensures { OnOk result (out.new.items ≡ out.old.items ++ param_text param.now) }
+    ensures text { OnOk result (out.new.items ≡ out.old.items ++ param_text param.now) }
+    ensures names { OnOk result (HasParam param.now) }
 {
     put(out, param.name.bytes())?;
     put(out, b": ")?;
@@ -114,7 +117,8 @@ fn put_param(out: &mut Vec<u8>, param: &Param) -> Result<(), NoMemory>
 }
 
 fn put_more_params(out: &mut Vec<u8>, params: &[Param]) -> Result<(), NoMemory>
-    ensures { OnOk result (out.new.items ≡ out.old.items ++ flat_map (behind_comma param_text) params.now) }
+    ensures text { OnOk result (out.new.items ≡ out.old.items ++ flat_map (behind_comma param_text) params.now) }
+    ensures names { OnOk result (Each HasParam params.now) }
 {
     for param in params {
         put(out, b", ")?;
@@ -124,7 +128,8 @@ fn put_more_params(out: &mut Vec<u8>, params: &[Param]) -> Result<(), NoMemory>
 }
 
 fn put_params(out: &mut Vec<u8>, params: &[Param]) -> Result<(), NoMemory>
-    ensures { OnOk result (out.new.items ≡ out.old.items ++ listed param_text params.now) }
+    ensures text { OnOk result (out.new.items ≡ out.old.items ++ listed param_text params.now) }
+    ensures names { OnOk result (Each HasParam params.now) }
 {
     match params {
         [] => Ok(()),
@@ -136,7 +141,8 @@ fn put_params(out: &mut Vec<u8>, params: &[Param]) -> Result<(), NoMemory>
 }
 
 fn put_more_arguments(out: &mut Vec<u8>, args: &[Name]) -> Result<(), NoMemory>
-    ensures { OnOk result (out.new.items ≡ out.old.items ++ flat_map (behind_comma spelled) args.now) }
+    ensures text { OnOk result (out.new.items ≡ out.old.items ++ flat_map (behind_comma spelled) args.now) }
+    ensures names { OnOk result (Each IsName args.now) }
 {
     for arg in args {
         put(out, b", ")?;
@@ -146,7 +152,8 @@ fn put_more_arguments(out: &mut Vec<u8>, args: &[Name]) -> Result<(), NoMemory>
 }
 
 fn put_arguments(out: &mut Vec<u8>, args: &[Name]) -> Result<(), NoMemory>
-    ensures { OnOk result (out.new.items ≡ out.old.items ++ listed spelled args.now) }
+    ensures text { OnOk result (out.new.items ≡ out.old.items ++ listed spelled args.now) }
+    ensures names { OnOk result (Each IsName args.now) }
 {
     match args {
         [] => Ok(()),
@@ -158,14 +165,16 @@ fn put_arguments(out: &mut Vec<u8>, args: &[Name]) -> Result<(), NoMemory>
 }
 
 fn put_state(out: &mut Vec<u8>, state: &State) -> Result<(), NoMemory>
-    ensures { OnOk result (out.new.items ≡ out.old.items ++ state_text state.now) }
+    ensures text { OnOk result (out.new.items ≡ out.old.items ++ state_text state.now) }
+    ensures names { OnOk result (HasState state.now) }
 {
     put(out, state.name.bytes())?;
     put(out, if state.start { b" = 1" } else { b" = 0" })
 }
 
 fn put_more_states(out: &mut Vec<u8>, states: &[State]) -> Result<(), NoMemory>
-    ensures { OnOk result (out.new.items ≡ out.old.items ++ flat_map (behind_comma state_text) states.now) }
+    ensures text { OnOk result (out.new.items ≡ out.old.items ++ flat_map (behind_comma state_text) states.now) }
+    ensures names { OnOk result (Each HasState states.now) }
 {
     for state in states {
         put(out, b", ")?;
@@ -175,7 +184,8 @@ fn put_more_states(out: &mut Vec<u8>, states: &[State]) -> Result<(), NoMemory>
 }
 
 fn put_states(out: &mut Vec<u8>, states: &[State]) -> Result<(), NoMemory>
-    ensures { OnOk result (out.new.items ≡ out.old.items ++ listed state_text states.now) }
+    ensures text { OnOk result (out.new.items ≡ out.old.items ++ listed state_text states.now) }
+    ensures names { OnOk result (Each HasState states.now) }
 {
     match states {
         [] => Ok(()),
@@ -188,7 +198,8 @@ fn put_states(out: &mut Vec<u8>, states: &[State]) -> Result<(), NoMemory>
 
 /// Writes a name, what it is set to, and the `;`.
 fn put_equation(out: &mut Vec<u8>, assign: &Assign) -> Result<(), NoMemory>
-    ensures { OnOk result (out.new.items ≡ out.old.items ++ equation_text (equation assign.now)) }
+    ensures text { OnOk result (out.new.items ≡ out.old.items ++ equation_text (equation assign.now)) }
+    ensures names { OnOk result (HasEquation (equation assign.now)) }
 {
     put(out, assign.name.bytes())?;
     put(out, b" = ")?;
@@ -197,7 +208,8 @@ fn put_equation(out: &mut Vec<u8>, assign: &Assign) -> Result<(), NoMemory>
 }
 
 fn put_lets(out: &mut Vec<u8>, lets: &[Assign]) -> Result<(), NoMemory>
-    ensures { OnOk result (out.new.items ≡ out.old.items ++ flat_map (λ e. line (codes "    ") (let_text e)) (map equation lets.now)) }
+    ensures text { OnOk result (out.new.items ≡ out.old.items ++ flat_map (λ e. line (codes "    ") (let_text e)) (map equation lets.now)) }
+    ensures names { OnOk result (Each HasEquation (map equation lets.now)) }
 {
     for assign in lets {
         put(out, b"    let ")?;
@@ -208,7 +220,8 @@ fn put_lets(out: &mut Vec<u8>, lets: &[Assign]) -> Result<(), NoMemory>
 }
 
 fn put_assigns(out: &mut Vec<u8>, assigns: &[Assign]) -> Result<(), NoMemory>
-    ensures { OnOk result (out.new.items ≡ out.old.items ++ flat_map (λ e. line (codes "    ") (equation_text e)) (map equation assigns.now)) }
+    ensures text { OnOk result (out.new.items ≡ out.old.items ++ flat_map (λ e. line (codes "    ") (equation_text e)) (map equation assigns.now)) }
+    ensures names { OnOk result (Each HasEquation (map equation assigns.now)) }
 {
     for assign in assigns {
         put(out, b"    ")?;
@@ -220,7 +233,8 @@ fn put_assigns(out: &mut Vec<u8>, assigns: &[Assign]) -> Result<(), NoMemory>
 
 /// Writes the line of a word statement.
 fn put_word(out: &mut Vec<u8>, dst: &Name, op: WordOp, args: &[Name]) -> Result<(), NoMemory>
-    ensures { OnOk result (out.new.items ≡ out.old.items ++ line (codes "  ") (word_text dst.now op args.now)) }
+    ensures text { OnOk result (out.new.items ≡ out.old.items ++ line (codes "  ") (word_text dst.now op args.now)) }
+    ensures names { OnOk result (IsName dst.now × Each IsName args.now) }
 {
     put(out, b"  ")?;
     put(out, dst.bytes())?;
@@ -233,7 +247,8 @@ fn put_word(out: &mut Vec<u8>, dst: &Name, op: WordOp, args: &[Name]) -> Result<
 
 /// Writes the first line of a block.
 fn put_block_head(out: &mut Vec<u8>, down: bool, states: &[State]) -> Result<(), NoMemory>
-    ensures { OnOk result (out.new.items ≡ out.old.items ++ line (codes "  ") (codes "serial " ++ direction_text down ++ codes " (" ++ listed state_text states.now ++ codes ") {")) }
+    ensures text { OnOk result (out.new.items ≡ out.old.items ++ line (codes "  ") (codes "serial " ++ direction_text down ++ codes " (" ++ listed state_text states.now ++ codes ") {")) }
+    ensures names { OnOk result (Each HasState states.now) }
 {
     put(out, b"  serial ")?;
     if down {
@@ -246,7 +261,8 @@ fn put_block_head(out: &mut Vec<u8>, down: bool, states: &[State]) -> Result<(),
 }
 
 fn put_statement(out: &mut Vec<u8>, stmt: &Stmt) -> Result<(), NoMemory>
-    ensures { OnOk result (out.new.items ≡ out.old.items ++ statement_lines (statement stmt.now)) }
+    ensures text { OnOk result (out.new.items ≡ out.old.items ++ statement_lines (statement stmt.now)) }
+    ensures names { OnOk result (HasStatement (statement stmt.now)) }
 {
     match stmt {
         Stmt::Word { dst, op, args } => put_word(out, dst, *op, args),
@@ -265,7 +281,8 @@ fn put_statement(out: &mut Vec<u8>, stmt: &Stmt) -> Result<(), NoMemory>
 }
 
 fn put_body(out: &mut Vec<u8>, body: &[Stmt]) -> Result<(), NoMemory>
-    ensures { OnOk result (out.new.items ≡ out.old.items ++ flat_map statement_lines (map statement body.now)) }
+    ensures text { OnOk result (out.new.items ≡ out.old.items ++ flat_map statement_lines (map statement body.now)) }
+    ensures names { OnOk result (Each HasStatement (map statement body.now)) }
 {
     for stmt in body {
         put_statement(out, stmt)?;
@@ -275,7 +292,8 @@ fn put_body(out: &mut Vec<u8>, body: &[Stmt]) -> Result<(), NoMemory>
 
 /// Writes the first line of an op.
 fn put_head(out: &mut Vec<u8>, op: &Op) -> Result<(), NoMemory>
-    ensures { OnOk result (out.new.items ≡ out.old.items ++ line [] (op_head (operation op.now))) }
+    ensures text { OnOk result (out.new.items ≡ out.old.items ++ line [] (op_head (operation op.now))) }
+    ensures names { OnOk result (IsName op.now.name × Each HasParam op.now.params.items × HasParam op.now.result) }
 {
     put(out, b"op ")?;
     put(out, op.name.bytes())?;
@@ -287,21 +305,31 @@ fn put_head(out: &mut Vec<u8>, op: &Op) -> Result<(), NoMemory>
 }
 
 fn put_op(out: &mut Vec<u8>, op: &Op) -> Result<(), NoMemory>
-    ensures { OnOk result (out.new.items ≡ out.old.items ++ op_lines (operation op.now)) }
+    ensures text { OnOk result (out.new.items ≡ out.old.items ++ op_lines (operation op.now)) }
+    ensures names { OnOk result (HasOperation (operation op.now)) }
 {
     put_head(out, op)?;
     put_body(out, &op.body)?;
     put(out, b"}\n")
 }
 
-/// The canonical text of ops, by which they are read again.
+fn put_ops(out: &mut Vec<u8>, ops: &[Op]) -> Result<(), NoMemory>
+    ensures text { OnOk result (out.new.items ≡ out.old.items ++ canonical_text (map operation ops.now)) }
+    ensures names { OnOk result (Each HasOperation (map operation ops.now)) }
+{
+    for op in ops {
+        put_op(out, op)?;
+    }
+    Ok(())
+}
+
+/// The canonical text of ops. It is read as these ops again.
 pub fn print_ops(ops: &Ops, alloc: Global) -> Result<Vec<u8>, NoMemory>
     requires { MeetRules (operations ops.now) }
-    ensures { IfOk result (λ text. text.items ≡ canonical_text (operations ops.now)) }
+    ensures text { IfOk result (λ text. text.items ≡ canonical_text (operations ops.now)) }
+    ensures read { IfOk result (λ text. IsReadAs text.items (operations ops.now)) }
 {
     let mut out = Vec::new(alloc);
-    for op in &ops.ops {
-        put_op(&mut out, op)?;
-    }
+    put_ops(&mut out, &ops.ops)?;
     Ok(out)
 }
