@@ -1,7 +1,7 @@
 use Rattle.op_text.specs.Language.{equation}
 use Rattle.op_text.specs.Spelling.{HasEquation}
 use Rattle.op_print.proofs.Named.{each_all, each_mapped}
-use Rattle.op_print.proofs.print.put_lets.Goals as goal
+use Rattle.op_print.proofs.statements.put_lets.Goals as goal
 
 pub returns-clause-names : goal.returns-clause-names
 returns-clause-names c =

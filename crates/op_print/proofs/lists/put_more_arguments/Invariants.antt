@@ -2,7 +2,7 @@ use Rattle.std.proofs.Common.{◌≡◌, ◌++◌, take}
 use Rattle.std.specs.List.{flat_map}
 use Rattle.op_print.specs.Canonical.{behind_comma, spelled}
 use Rattle.op_text.specs.Spelling.{Each, IsName}
-use Rattle.op_print.proofs.print.put_more_arguments.Given as goal
+use Rattle.op_print.proofs.lists.put_more_arguments.Given as goal
 
 abbrev pub invariant-loop-arg : goal.invariant-loop-arg
 invariant-loop-arg l = record {

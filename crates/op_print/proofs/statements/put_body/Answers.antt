@@ -1,7 +1,7 @@
 use Rattle.op_text.specs.Language.{statement}
 use Rattle.op_text.specs.Spelling.{HasStatement}
 use Rattle.op_print.proofs.Named.{each_all, each_mapped}
-use Rattle.op_print.proofs.print.put_body.Goals as goal
+use Rattle.op_print.proofs.statements.put_body.Goals as goal
 
 pub returns-clause-names : goal.returns-clause-names
 returns-clause-names c =

@@ -3,7 +3,7 @@ use Rattle.std.specs.List.{flat_map}
 use Rattle.op_text.specs.Language.{statement}
 use Rattle.op_print.specs.Canonical.{statement_lines}
 use Rattle.op_text.specs.Spelling.{Each, HasStatement}
-use Rattle.op_print.proofs.print.put_body.Given as goal
+use Rattle.op_print.proofs.statements.put_body.Given as goal
 
 abbrev pub invariant-loop-stmt : goal.invariant-loop-stmt
 invariant-loop-stmt l = record {

@@ -3,7 +3,7 @@ use Rattle.std.specs.List.{flat_map}
 use Rattle.op_text.specs.Language.{equation}
 use Rattle.op_print.specs.Canonical.{line, let_text}
 use Rattle.op_text.specs.Spelling.{Each, HasEquation}
-use Rattle.op_print.proofs.print.put_lets.Given as goal
+use Rattle.op_print.proofs.statements.put_lets.Given as goal
 
 abbrev pub invariant-loop-assign : goal.invariant-loop-assign
 invariant-loop-assign l = record {

@@ -2,7 +2,7 @@ use Rattle.std.proofs.Common.{◌≡◌, ◌++◌, take}
 use Rattle.std.specs.List.{flat_map}
 use Rattle.op_print.specs.Canonical.{behind_comma, state_text}
 use Rattle.op_text.specs.Spelling.{Each, HasState}
-use Rattle.op_print.proofs.print.put_more_states.Given as goal
+use Rattle.op_print.proofs.lists.put_more_states.Given as goal
 
 abbrev pub invariant-loop-state : goal.invariant-loop-state
 invariant-loop-state l = record {
