@@ -1,26 +1,24 @@
 -- The canonical text is read again.
-use Rattle.std.proofs.Common.{◌≡◌, ℕ, ◌+◌, Bool, true, false, not, ◌||◌, ◌&&◌, List, [], ◌∷◌, ◌++◌, length, map, Option, None, refl, sym, ap, ◌∙◌, subst, codes, append_assoc, nat_le}
+use Rattle.std.proofs.Common.{◌≡◌, ℕ, ◌+◌, Bool, true, false, not, ◌||◌, ◌&&◌, List, [], ◌∷◌, ◌++◌, length, map, None, refl, sym, ap, ◌∙◌, subst, codes, append_assoc, nat_le}
 use Rattle.std.specs.Option.{option_map}
 use Rattle.std.specs.Char.{is_ascii_digit}
 use Rattle.std.specs.List.{flat_map}
-use Rattle.text_lex.specs.Bytes.{is_name_start, is_name_byte, is_blank}
+use Rattle.text_lex.specs.Bytes.{is_name_start}
 use Rattle.text_lex.specs.Spelled.{fits_name}
 use Rattle.text_lex.specs.declared.token.TokenKind.{TokenKind}
 use Rattle.text_lex.specs.declared.token.TokenKind.TheVariants as kinds
-use Rattle.text_lex.specs.Lexical.{Item, Whole, Bad, items_from, items_of, is_token, stops, begins_pass}
+use Rattle.text_lex.specs.Lexical.{Item, Whole, Bad, items_from, items_of, is_token, stops}
 use Rattle.text_lex.proofs.Back.{reads_token, reads_blank}
 use Rattle.op_text.specs.declared.tree.Kind.{Kind}
 use Rattle.op_text.specs.declared.tree.Kind.TheVariants.{Word, Bit}
 use Rattle.op_text.specs.declared.tree.Op.{Op}
-use Rattle.op_text.specs.declared.tree.Param.{Param}
-use Rattle.op_text.specs.declared.tree.State.{State}
 use Rattle.op_text.specs.declared.tree.WordOp.{WordOp}
 use Rattle.op_text.specs.declared.tree.WordOp.TheVariants as o
 use Rattle.op_text.specs.WordOps.{op_text}
 use Rattle.op_text.specs.Items.{texts}
-use Rattle.op_text.specs.Lines.{fault_of, fault_in}
+use Rattle.op_text.specs.Lines.{fault_of}
 use Rattle.op_text.specs.Rules.{first_breach, nothing_yet}
-use Rattle.op_text.specs.Language.{Term, Nought, Unity, Named, Negation, Conjunction, Disjunction, Parity, Majority, Equation, Block, Statement, Compute, Visit, Operation, operation}
+use Rattle.op_text.specs.Language.{Term, Nought, Unity, Named, Negation, Conjunction, Disjunction, Parity, Majority, Equation, Block, Compute, Visit, Operation, operation}
 use Rattle.op_text.specs.Spelling.{bare, unplaced, items_spelled, kind_of_text, kind_text, direction_text, start_text, behind_commas, between_commas, in_turn, operations_text, HasNames, HasParam, HasState, HasEquation, HasStatement, HasOperation, IsName, Each, MeetRules}
 use Rattle.op_text.specs.Spelling as tokens
 use Rattle.op_text.proofs.Places.{places_do_not_matter}

@@ -1,2 +1,3 @@
 mod Again
 mod Named
+mod Worked

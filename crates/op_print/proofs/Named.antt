@@ -1,5 +1,5 @@
 -- Each part of a list, as far as a loop has come.
-use Rattle.std.proofs.Common.{◌≡◌, ℕ, zero, suc, ◌+◌, ◌<◌, ◌≤◌, List, [], ◌∷◌, length, take, get_or, map, refl, subst, sym, arith, add-one}
+use Rattle.std.proofs.Common.{ℕ, zero, suc, ◌≤◌, List, [], ◌∷◌, length, take, map, arith}
 use Rattle.op_text.specs.Spelling.{Each}
 
 pub each_all : {A : Type 0} (ok : A → Type 0) (xs : List A) (i : ℕ) → length xs ≤ i → Each ok (take i xs) → Each ok xs

@@ -5,7 +5,7 @@ ghost use Rattle.std.specs.List.{flat_map};
 ghost use Rattle.op_text.specs.Spelling.{Each, IsName, HasParam, HasState};
 ghost use Rattle.op_print.specs.Canonical.{listed, behind_comma, spelled, param_text, state_text};
 
-use crate::pieces::{kind_name, put};
+use crate::pieces::{kind_name, put, put_comma};
 use bit_rows::NoMemory;
 use op_text::{Param, State};
 use text_lex::Name;
@@ -25,7 +25,7 @@ fn put_more_params(out: &mut Vec<u8>, params: &[Param]) -> Result<(), NoMemory>
     ensures names { OnOk result (Each HasParam params.now) }
 {
     for param in params {
-        put(out, b", ")?;
+        put_comma(out)?;
         put_param(out, param)?;
     }
     Ok(())
@@ -50,7 +50,7 @@ fn put_more_arguments(out: &mut Vec<u8>, args: &[Name]) -> Result<(), NoMemory>
     ensures names { OnOk result (Each IsName args.now) }
 {
     for arg in args {
-        put(out, b", ")?;
+        put_comma(out)?;
         put(out, arg.bytes())?;
     }
     Ok(())
@@ -83,7 +83,7 @@ fn put_more_states(out: &mut Vec<u8>, states: &[State]) -> Result<(), NoMemory>
     ensures names { OnOk result (Each HasState states.now) }
 {
     for state in states {
-        put(out, b", ")?;
+        put_comma(out)?;
         put_state(out, state)?;
     }
     Ok(())

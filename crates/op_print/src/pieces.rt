@@ -1,6 +1,6 @@
 //! Bytes and fixed names, written.
 
-ghost use Rattle.std.specs.Prelude.{◌≡◌, ◌++◌, OnOk};
+ghost use Rattle.std.specs.Prelude.{◌≡◌, ◌++◌, codes, OnOk};
 ghost use Rattle.op_text.specs.WordOps.{op_text};
 ghost use Rattle.op_text.specs.Spelling.{kind_text};
 
@@ -12,6 +12,13 @@ pub(crate) fn put(out: &mut Vec<u8>, bytes: &[u8]) -> Result<(), NoMemory>
     ensures { OnOk result (out.new.items ≡ out.old.items ++ bytes.now) }
 {
     Ok(out.extend_from_slice(bytes)?)
+}
+
+/// Appends a comma and a blank.
+pub(crate) fn put_comma(out: &mut Vec<u8>) -> Result<(), NoMemory>
+    ensures { OnOk result (out.new.items ≡ out.old.items ++ codes ", ") }
+{
+    put(out, b", ")
 }
 
 /// A word operation's name.

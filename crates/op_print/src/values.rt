@@ -5,7 +5,7 @@ ghost use Rattle.op_text.specs.Language.{term, equation};
 ghost use Rattle.op_text.specs.Spelling.{HasNames, HasEquation};
 ghost use Rattle.op_print.specs.Canonical.{value_text, equation_text};
 
-use crate::pieces::put;
+use crate::pieces::{put, put_comma};
 use bit_rows::NoMemory;
 use op_text::{Assign, Expr};
 
@@ -25,30 +25,30 @@ fn put_value(out: &mut Vec<u8>, value: &Expr) -> Result<(), NoMemory>
         Expr::And(a, b) => {
             put(out, b"and(")?;
             put_value(out, a)?;
-            put(out, b", ")?;
+            put_comma(out)?;
             put_value(out, b)?;
             put(out, b")")
         }
         Expr::Or(a, b) => {
             put(out, b"or(")?;
             put_value(out, a)?;
-            put(out, b", ")?;
+            put_comma(out)?;
             put_value(out, b)?;
             put(out, b")")
         }
         Expr::Xor(a, b) => {
             put(out, b"xor(")?;
             put_value(out, a)?;
-            put(out, b", ")?;
+            put_comma(out)?;
             put_value(out, b)?;
             put(out, b")")
         }
         Expr::Maj(a, b, c) => {
             put(out, b"maj(")?;
             put_value(out, a)?;
-            put(out, b", ")?;
+            put_comma(out)?;
             put_value(out, b)?;
-            put(out, b", ")?;
+            put_comma(out)?;
             put_value(out, c)?;
             put(out, b")")
         }
