@@ -1,5 +1,9 @@
-//! Tests of operation texts: what is refused and where, and what is written for what is read.
+//! What is written and read again, and tests of what is refused.
 #![tactic(auto)]
+
+mod round;
+
+pub use round::reread;
 
 #[cfg(test)]
 mod faults;

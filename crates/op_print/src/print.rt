@@ -51,6 +51,7 @@ pub fn print_ops(ops: &Ops, alloc: Global) -> Result<Vec<u8>, NoMemory>
     requires { MeetRules (operations ops.now) }
     ensures text { IfOk result (λ text. text.items ≡ canonical_text (operations ops.now)) }
     ensures read { IfOk result (λ text. IsReadAs text.items (operations ops.now)) }
+    ensures names { IfOk result (λ text. Each HasOperation (operations ops.now)) }
 {
     let mut out = Vec::new(alloc);
     put_ops(&mut out, &ops.ops)?;
