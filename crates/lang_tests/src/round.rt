@@ -17,13 +17,12 @@ pub fn reread(ops: &Ops, alloc: Global) -> Result<Ops, NoMemory>
     ensures { IfOk result (λ all. operations all ≡ operations ops.now) }
 {
     let text = print_ops(ops, alloc)?;
-    match parse_ops(text.as_slice(), alloc) {
-        Ok(all) => {
-            // Both are written, so all names in both are names.
-            print_ops(&all, alloc)?;
-            Ok(all)
-        }
-        Err(OpsNo::NoMemory) => Err(NoMemory),
+    let again = match parse_ops(text.as_slice(), alloc) {
+        Ok(all) => all,
+        Err(OpsNo::NoMemory) => return Err(NoMemory),
         Err(OpsNo::Fault(_)) => unreachable!(),
-    }
+    };
+    // Whose ops are printed, its names are names.
+    print_ops(&again, alloc)?;
+    Ok(again)
 }
