@@ -1,5 +1,6 @@
 //! Texts that are read and written.
 
+use crate::reread;
 use op_lang::parse_ops;
 use op_print::print_ops;
 use std::process::Abort;
@@ -81,11 +82,16 @@ op tests(a: word, b: word, p: bit) -> y: bit {
 }
 ";
 
-/// What is written for a text's ops, or nothing where it has a fault.
+/// What is written for a text's ops, which can be read again, or nothing where it has a fault.
 fn written(rt: &(impl Abort + AllocGlobal), text: &[u8]) -> Result<Vec<u8>, Fail> {
     assert!(rt; text.len() < 10_000);
     let ops = parse_ops(text, rt.alloc())?;
-    Ok(print_ops(&ops, rt.alloc())?)
+    let text = print_ops(&ops, rt.alloc())?;
+    let bytes = text.as_slice();
+    assert!(rt; bytes.len() < 10_000);
+    let again = reread(&ops, rt.alloc())?;
+    assert!(rt; again.ops.len() == ops.ops.len());
+    Ok(text)
 }
 
 // A canonical text is written as itself, and any other spelling as the canonical one.
