@@ -1,0 +1,11 @@
+//! What is written and read again, and tests of what is refused.
+#![tactic(auto)]
+
+mod round;
+
+pub use round::reread;
+
+#[cfg(test)]
+mod faults;
+#[cfg(test)]
+mod texts;

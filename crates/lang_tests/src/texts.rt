@@ -1,0 +1,113 @@
+//! Texts that are read and written.
+
+use crate::reread;
+use op_lang::parse_ops;
+use op_print::print_ops;
+use std::process::Abort;
+use std::test::Fail;
+
+const MAC: &[u8] = b"op mac(a: word, b: word, c: word) -> y: word {
+  t = mul(a, b);
+  y = add(t, c);
+}
+op sum(a: word, b: word) -> y: word {
+  serial up (c = 0) {
+    let x = xor(a, b);
+    y = xor(x, c);
+    c = maj(a, b, c);
+  }
+}
+";
+
+const PRESSED: &[u8] =
+    b"op g(a:word,b:word)->y:word{serial up(){let x1=xor(a,b);let x2=xor(x1,b);let x3=xor(x2,b);\
+let x4=xor(x3,b);let x5=xor(x4,b);let x6=xor(x5,b);let x7=xor(x6,b);let x8=xor(x7,b);y=x8;}}";
+
+const HEAVY: &[u8] = b"op g(a: word, b: word) -> y: word {
+  serial up () {
+    let x1 = xor(a, b);
+    let x2 = xor(x1, b);
+    let x3 = xor(x2, b);
+    let x4 = xor(x3, b);
+    let x5 = xor(x4, b);
+    let x6 = xor(x5, b);
+    let x7 = xor(x6, b);
+    let x8 = xor(x7, b);
+    y = x8;
+  }
+}
+";
+
+const LOOSE: &[u8] =
+    b"# bits\nop odd ( a : bit ) -> y : bit {\r\n\tz = zero ( ) ; # none\n  serial up ( ) { v = not ( and ( a , 1 ) ) ; }
+serial down(y=1,c=0){y=or(0,v);}}";
+
+const ODD: &[u8] = b"op odd(a: bit) -> y: bit {
+  z = zero();
+  serial up () {
+    v = not(and(a, 1));
+  }
+  serial down (y = 1, c = 0) {
+    y = or(0, v);
+  }
+}
+";
+
+const WORDS: &[u8] = b"op words(a: word, b: word, p: bit) -> y: bit {
+  t1 = not(a);
+  t2 = and(a, b);
+  t3 = or(p, p);
+  t4 = xor(a, b);
+  t5 = copy(p);
+  t6 = ones();
+  t7 = shl1(a);
+  t8 = shr1(a);
+  t9 = sub(a, b);
+  u1 = div(a, b);
+  u2 = rem(a, b);
+  u3 = abs(a);
+  u4 = relu(a);
+  u5 = min(a, b);
+  u6 = max(a, b);
+  y = eq(a, b);
+}
+op tests(a: word, b: word, p: bit) -> y: bit {
+  t1 = gt(a, b);
+  t2 = ge(a, b);
+  t3 = if_else(a, b, p);
+  t4 = bitcount(a);
+  t5 = and_red(a);
+  t6 = or_red(a);
+  y = xor_red(a);
+}
+";
+
+/// What is written for a text's ops, which can be read again, or nothing where it has a fault.
+fn written(rt: &(impl Abort + AllocGlobal), text: &[u8]) -> Result<Vec<u8>, Fail> {
+    assert!(rt; text.len() < 10_000);
+    let ops = parse_ops(text, rt.alloc())?;
+    let text = print_ops(&ops, rt.alloc())?;
+    let bytes = text.as_slice();
+    assert!(rt; bytes.len() < 10_000);
+    let again = reread(&ops, rt.alloc())?;
+    assert!(rt; again.ops.len() == ops.ops.len());
+    Ok(text)
+}
+
+// A canonical text is written as itself, and any other spelling as the canonical one.
+#[test]
+fn texts_are_written(rt: HostRuntime) -> Result<(), Fail> {
+    for (text, want) in [
+        (b"".as_slice(), b"".as_slice()),
+        (MAC, MAC),
+        (PRESSED, HEAVY),
+        (HEAVY, HEAVY),
+        (LOOSE, ODD),
+        (ODD, ODD),
+        (WORDS, WORDS),
+    ] {
+        let text = written(&rt, text)?;
+        assert!(rt; text.as_slice() == want);
+    }
+    Ok(())
+}

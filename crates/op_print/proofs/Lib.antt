@@ -1,0 +1,3 @@
+mod Again
+mod Named
+mod Worked

@@ -1,0 +1,72 @@
+-- The one canonical text of ops.
+use Rattle.std.specs.Prelude.{ℕ, List, [], ◌∷◌, ◌++◌, codes}
+use Rattle.std.specs.List.{flat_map}
+use Rattle.op_text.specs.declared.tree.WordOp.{WordOp}
+use Rattle.op_text.specs.declared.tree.Param.{Param}
+use Rattle.op_text.specs.declared.tree.State.{State}
+use Rattle.op_text.specs.WordOps.{op_text}
+use Rattle.op_text.specs.Spelling.{kind_text, direction_text, start_text}
+use Rattle.op_text.specs.Language.{Term, Nought, Unity, Named, Negation, Conjunction, Disjunction, Parity, Majority, Equation, Block, Statement, Compute, Visit, Operation}
+
+-- a comma, a blank and a part
+abbrev pub behind_comma : {A : Type 0} → (A → List ℕ) → A → List ℕ
+behind_comma part a = codes ", " ++ part a
+
+-- parts with commas between them
+abbrev pub listed : {A : Type 0} → (A → List ℕ) → List A → List ℕ
+listed part [] = []
+listed part (a ∷ more) = part a ++ flat_map (behind_comma part) more
+
+abbrev pub value_text : Term → List ℕ
+value_text Nought = codes "0"
+value_text Unity = codes "1"
+value_text (Named name) = name
+value_text (Negation a) = codes "not(" ++ value_text a ++ codes ")"
+value_text (Conjunction a b) = codes "and(" ++ value_text a ++ codes ", " ++ value_text b ++ codes ")"
+value_text (Disjunction a b) = codes "or(" ++ value_text a ++ codes ", " ++ value_text b ++ codes ")"
+value_text (Parity a b) = codes "xor(" ++ value_text a ++ codes ", " ++ value_text b ++ codes ")"
+value_text (Majority a b c) = codes "maj(" ++ value_text a ++ codes ", " ++ value_text b ++ codes ", " ++ value_text c ++ codes ")"
+
+-- a name, as it is spelled
+abbrev pub spelled : List ℕ → List ℕ
+spelled name = name
+
+abbrev pub param_text : Param → List ℕ
+param_text p = p.name ++ codes ": " ++ kind_text p.kind
+
+abbrev pub state_text : State → List ℕ
+state_text s = s.name ++ codes " = " ++ start_text s.start
+
+abbrev pub equation_text : Equation → List ℕ
+equation_text e = e.name ++ codes " = " ++ value_text e.value ++ codes ";"
+
+abbrev pub let_text : Equation → List ℕ
+let_text e = codes "let " ++ equation_text e
+
+abbrev pub word_text : List ℕ → WordOp → List (List ℕ) → List ℕ
+word_text target p args = target ++ codes " = " ++ op_text p ++ codes "(" ++ listed spelled args ++ codes ");"
+
+abbrev pub block_head : Block → List ℕ
+block_head b = codes "serial " ++ direction_text b.down ++ codes " (" ++ listed state_text b.states ++ codes ") {"
+
+abbrev pub op_head : Operation → List ℕ
+op_head o = codes "op " ++ o.name ++ codes "(" ++ listed param_text o.params ++ codes ") -> " ++ param_text o.result ++ codes " {"
+
+-- a line: its indent, what stands on it, and a newline
+abbrev pub line : List ℕ → List ℕ → List ℕ
+line indent text = indent ++ text ++ 10 ∷ []
+
+-- a statement stands two blanks deep, and the lines of a block four
+abbrev pub statement_lines : Statement → List ℕ
+statement_lines (Compute target p args) = line (codes "  ") (word_text target p args)
+statement_lines (Visit b) =
+    line (codes "  ") (block_head b) ++ flat_map (λ e. line (codes "    ") (let_text e)) b.lets
+    ++ flat_map (λ e. line (codes "    ") (equation_text e)) b.assigns
+    ++ line (codes "  ") (codes "}")
+
+abbrev pub op_lines : Operation → List ℕ
+op_lines o = line [] (op_head o) ++ flat_map statement_lines o.body ++ line [] (codes "}")
+
+-- the lines of each op, without blank lines or comments
+abbrev pub canonical_text : List Operation → List ℕ
+canonical_text all = flat_map op_lines all
