@@ -1,5 +1,5 @@
 -- Scripts of bbops: the table stays, and each instruction is one more of everything.
-use Rattle.std.proofs.Common.{◌≡◌, ℕ, ◌+◌, ◌*◌, Bool, true, false, List, [], ◌∷◌, ◌++◌, Option, Some, None, refl, sym, ◌∙◌, ap, cond}
+use Rattle.std.proofs.Common.{◌≡◌, ℕ, ◌+◌, Bool, true, false, List, [], ◌∷◌, ◌++◌, Option, Some, None, refl, ap, cond}
 use Rattle.std.specs.List.{AllByRecursion}
 use Rattle.dram_model.specs.declared.geometry.Geometry.{Geometry}
 use Rattle.dram_model.specs.Chip.{Banks, after}
@@ -7,16 +7,14 @@ use Rattle.object_alloc.specs.Listed.{Named}
 use Rattle.bbop_isa.specs.Forms.{Instruction}
 use Rattle.bbop_isa.specs.Forms.{Init, Bbop, Load, Fill, Print, Free, Order}
 use Rattle.machine_model.specs.declared.Why.{Why}
-use Rattle.machine_model.specs.declared.Reply.{Reply}
-use Rattle.machine_model.specs.declared.Reply.TheVariants.{Done, Refused}
 use Rattle.machine_model.specs.Operations.{Operations}
 use Rattle.machine_model.specs.Refusals.{refusal}
-use Rattle.machine_model.specs.Steps.{if_done, reply_by, reply_to, table_after, banks_after, counts_for}
-use Rattle.machine_model.specs.Script.{is_bbop, replies, script_events, banks_at_end, table_at_end, sum_done, rows_loaded, rows_printed}
+use Rattle.machine_model.specs.Steps.{if_done, reply_by, reply_to, table_after, counts_for}
+use Rattle.machine_model.specs.Script.{is_bbop, replies, script_events, table_at_end, sum_done, rows_loaded, rows_printed}
 use Rattle.machine_model.specs.Report.{Said, said_of, said_in_rows, line}
 use Rattle.machine_model.proofs.Events.{instr_events as instr_events_are}
 use Rattle.sim_machine.specs.Granted.{instr_events}
-use Rattle.cli_model.specs.Steps.{Step, Use, Put}
+use Rattle.cli_model.specs.Steps.{Use, Put}
 use Rattle.simdram_cli.specs.Run.{line_steps}
 
 if_same : {S : Type 0} (r : Option Why) (x : S) → if_done r x x ≡ x

@@ -1,18 +1,18 @@
 -- Which status a run answers.
-use Rattle.std.proofs.Common.{◌≡◌, ◌⊎◌, ℕ, ◌+◌, ◌<◌, ◌≤◌, Bool, true, false, List, [], ◌∷◌, ◌++◌, Option, Some, None, refl, sym, ◌∙◌, ap, subst, inl, inr, arith, length}
-use Rattle.std.specs.Prelude.{Result, Ok, Err, IfSome, ◌≢◌}
-use Rattle.host_edge.specs.Views.{Files, Rose, RoseBy}
+use Rattle.std.proofs.Common.{◌≡◌, ◌⊎◌, ℕ, ◌+◌, List, [], ◌∷◌, ◌++◌, Option, Some, None, refl, sym, ◌∙◌, ap, subst, inl, inr, arith, length}
+use Rattle.std.specs.Prelude.{Result, Ok, Err, IfSome}
+use Rattle.host_edge.specs.Views.{Files}
 use Rattle.machine_model.specs.Operations.{Program}
 use Rattle.machine_model.specs.Report.{Said}
 use Rattle.cli_model.specs.World.{World}
-use Rattle.cli_model.specs.Steps.{Step, Load, Take, Store, Open, Use, Put, Refusal, Reason, CannotRead, TooLong, Refused, NoMemory, CannotWrite, PutFailed, ChipFailed, End, Done, Stopped, loading}
+use Rattle.cli_model.specs.Steps.{Step, Store, Use, Put, Refusal, Reason, CannotRead, TooLong, Refused, NoMemory, CannotWrite, PutFailed, ChipFailed, End, Stopped, loading}
 use Rattle.cli_model.specs.Status.{end_status}
-use Rattle.cli_model.specs.Causes.{IsLoaded, IsFault, Decided, Causes, foreseen}
+use Rattle.cli_model.specs.Causes.{IsLoaded, IsFault, Decided, foreseen}
 use Rattle.cli_model.proofs.Causing.{files_decide}
 use Rattle.built_forms.specs.Texts.{ops_of, script_in, image_of}
 use Rattle.simdram_cli.specs.declared.words.RunNames.{RunNames}
 use Rattle.simdram_cli.specs.declared.words.TheConstants.{OPS_MAX, SCRIPT_MAX, IMAGE_MAX}
-use Rattle.simdram_cli.specs.Run.{Texts, run_steps, line_steps, said_by, image_by, tally_by, refused_by}
+use Rattle.simdram_cli.specs.Run.{Texts, run_steps, line_steps, said_by, image_by}
 use Rattle.simdram_cli.specs.Works.{ChipView}
 use Rattle.simdram_cli.specs.Ends.{IsRead, run_status, RunEnds}
 use Rattle.simdram_cli.specs.Statuses.{IsInput, Reads, IsTooLong, TakesOps, TakesScript, TakesImage, IsFaulty, OnlyWhere, AlwaysWhere}

@@ -1,17 +1,17 @@
 -- What the files at entry foretell of a run.
-use Rattle.std.proofs.Common.{◌≡◌, ◌⊎◌, ℕ, ◌+◌, ◌<◌, ◌≤◌, Bool, true, false, cond, ltb, List, [], ◌∷◌, ◌++◌, Option, Some, None, refl, sym, ◌∙◌, ap, subst, inl, inr, arith, length}
-use Rattle.std.specs.Prelude.{Result, Ok, Err, IfOk, IfSome, bytes_eq, ◌≢◌, codes}
-use Rattle.std.proofs.lemmas.Bool.{lt-ltb, le-ltb, ltb-true, ltb-false}
+use Rattle.std.proofs.Common.{◌≡◌, ℕ, ◌+◌, ◌≤◌, Bool, true, false, cond, ltb, List, [], ◌∷◌, ◌++◌, Option, Some, None, refl, sym, ◌∙◌, ap, subst, length}
+use Rattle.std.specs.Prelude.{Result, Ok, Err, IfSome, bytes_eq, codes}
+use Rattle.std.proofs.lemmas.Bool.{le-ltb, ltb-true, ltb-false}
 use Rattle.host_edge.specs.Views.{Files}
 use Rattle.uprog_bin.specs.Spelling.{program_bytes}
 use Rattle.bbop_isa.specs.Forms.{Instruction}
 use Rattle.bbop_isa.specs.Lines.{lines_of}
-use Rattle.machine_model.specs.Operations.{Program, TextOp}
+use Rattle.machine_model.specs.Operations.{Program}
 use Rattle.machine_model.specs.Opened.{Image}
 use Rattle.machine_model.specs.Report.{Said, line, total_line}
 use Rattle.cli_model.specs.World.{with_file}
-use Rattle.cli_model.specs.Steps.{Step, Load, Take, Store, Open, Use, Put, Refusal, Reason, CannotRead, TooLong, Refused, End, Done, Stopped, loading}
-use Rattle.cli_model.specs.Causes.{foreseen, load_end, refused_or}
+use Rattle.cli_model.specs.Steps.{Step, Load, Take, Store, Use, Put, Refusal, CannotRead, TooLong, Refused, End, Done, Stopped, loading}
+use Rattle.cli_model.specs.Causes.{foreseen}
 use Rattle.object_alloc.specs.declared.fault.ImageFault.{ImageFault}
 use Rattle.object_alloc.specs.Reading.{Found, image_in}
 use Rattle.built_forms.specs.Texts.{ops_of, script_in, image_of, and_op, is_and_text, built_from, at_line, built_image, is_built_image, image_found, not_yet}

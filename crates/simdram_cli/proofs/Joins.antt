@@ -1,24 +1,24 @@
 -- The steps of a run, joined.
-use Rattle.std.proofs.Common.{◌≡◌, ◌⊎◌, ℕ, ◌≤◌, Bool, true, false, cond, List, [], ◌∷◌, ◌++◌, Option, Some, None, refl, sym, ◌∙◌, ap, subst, inl, inr, length}
-use Rattle.std.specs.Prelude.{Result, Ok, Err, IfOk, IfSome, bytes_eq, ◌≢◌}
+use Rattle.std.proofs.Common.{◌≡◌, ℕ, Bool, true, false, cond, List, [], ◌∷◌, Option, Some, None, refl, subst, inl, inr}
+use Rattle.std.specs.Prelude.{Result, Ok, Err, IfOk, IfSome, bytes_eq}
 use Rattle.std.specs.Option.{unwrap_or}
-use Rattle.host_edge.specs.Views.{Files, FolderView, SinkView, Told, HasBytes}
+use Rattle.host_edge.specs.Views.{Files, FolderView, SinkView, Told}
 use Rattle.uprog_bin.specs.Spelling.{program_bytes}
 use Rattle.bbop_isa.specs.Forms.{Instruction}
 use Rattle.machine_model.specs.Operations.{Program, TextOp, ImplementsAll}
 use Rattle.machine_model.specs.Opened.{Image}
 use Rattle.cli_model.specs.World.{World, world, with_file}
-use Rattle.cli_model.specs.Steps.{Step, Load, Take, Store, Refusal, Reason, End, Done, Stopped, Goes, Loaded, LoadFails, loading}
-use Rattle.cli_model.proofs.Going.{goes_on, stops, all_stand}
+use Rattle.cli_model.specs.Steps.{Step, Load, Take, Store, Refusal, Reason, End, Stopped, Goes, Loaded, LoadFails, loading}
+use Rattle.cli_model.proofs.Going.{goes_on, all_stand}
 use Rattle.built_forms.specs.Texts.{ops_of, script_in, image_of}
 use Rattle.simdram_cli.specs.declared.words.RunNames.{RunNames}
-use Rattle.simdram_cli.specs.declared.words.TheConstants.{OPS_MAX, SCRIPT_MAX, IMAGE_MAX}
+use Rattle.simdram_cli.specs.declared.words.TheConstants.{OPS_MAX, SCRIPT_MAX}
 use Rattle.simdram_cli.specs.declared.stop.Stop.{Stop}
 use Rattle.simdram_cli.specs.Stops.{end_of, reason_of}
-use Rattle.simdram_cli.specs.Reads.{refusal_of, IsText, LoadedAs, ReadAs, NotRead}
-use Rattle.simdram_cli.specs.Run.{Texts, run_steps, work_steps}
+use Rattle.simdram_cli.specs.Reads.{refusal_of, IsText, ReadAs, NotRead}
+use Rattle.simdram_cli.specs.Run.{Texts}
 use Rattle.simdram_cli.specs.Works.{ChipView}
-use Rattle.simdram_cli.specs.Ends.{ProgramTaken, ProgramStopped, DoneOn, DoneBy, ImageWorked, IsRead, RunGoes}
+use Rattle.simdram_cli.specs.Ends.{ProgramTaken, ProgramStopped, DoneOn, DoneBy, ImageWorked, RunGoes}
 
 abbrev pub told_text : Option Files → List ℕ → List ℕ
 told_text None name = []

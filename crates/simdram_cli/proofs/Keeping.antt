@@ -1,27 +1,23 @@
 -- Which files a run keeps.
-use Rattle.std.proofs.Common.{◌≡◌, ◌⊎◌, ℕ, ◌+◌, Bool, true, false, cond, List, [], ◌∷◌, ◌++◌, Option, Some, None, refl, sym, ◌∙◌, ap, subst, inl, inr, arith}
+use Rattle.std.proofs.Common.{◌≡◌, ◌⊎◌, ℕ, ◌+◌, false, List, [], ◌∷◌, ◌++◌, Option, Some, None, refl, sym, ◌∙◌, ap, subst, inl, inr}
 use Rattle.std.specs.Prelude.{Result, Ok, Err, bytes_eq, ◌≢◌}
 use Rattle.std.proofs.lemmas.Slice.Eq.{bytes_eq-Decides}
-use Rattle.host_edge.specs.Views.{Files, FolderView, Told, KeepsOthers, Told-trans, Told-map}
-use Rattle.uprog_bin.specs.Spelling.{program_bytes}
-use Rattle.bbop_isa.specs.Forms.{Instruction}
+use Rattle.host_edge.specs.Views.{Files, Told, KeepsOthers, Told-trans, Told-map}
 use Rattle.machine_model.specs.Operations.{Program}
-use Rattle.machine_model.specs.Opened.{Image}
-use Rattle.machine_model.specs.Report.{Said, line, total_line}
+use Rattle.machine_model.specs.Report.{Said, total_line}
 use Rattle.machine_model.proofs.Places.{bytes_differ}
 use Rattle.cli_model.specs.World.{World, with_file}
-use Rattle.cli_model.specs.Steps.{Step, Load, Take, Store, Open, Use, Put, Refusal, Reason, CannotRead, TooLong, Refused, NoMemory, CannotWrite, PutFailed, ChipFailed, End, Done, Stopped, Goes, Does, Fails, FailsBy, LoadFails, IsPutFailed, IsCannotWrite, loading}
-use Rattle.cli_model.specs.Status.{Ran, Tells, end_status}
-use Rattle.cli_model.specs.Causes.{Causes}
+use Rattle.cli_model.specs.Steps.{Step, Load, Take, Store, Open, Use, Put, Refusal, Reason, CannotRead, TooLong, Refused, NoMemory, CannotWrite, PutFailed, ChipFailed, End, Done, Stopped, Goes, Does, Fails, LoadFails, IsPutFailed, IsCannotWrite, loading}
+use Rattle.cli_model.specs.Status.{Tells, end_status}
 use Rattle.built_forms.specs.Texts.{ops_of, script_in, image_of}
 use Rattle.simdram_cli.specs.declared.words.RunNames.{RunNames}
 use Rattle.simdram_cli.specs.declared.words.TheConstants.{OPS_MAX, SCRIPT_MAX, IMAGE_MAX}
-use Rattle.simdram_cli.specs.Run.{Texts, run_steps, work_steps, line_steps, said_by, image_by, tally_by, refused_by}
+use Rattle.simdram_cli.specs.Run.{Texts, run_steps, line_steps, said_by, image_by, tally_by, refused_by}
 use Rattle.simdram_cli.specs.Works.{ChipView}
 use Rattle.simdram_cli.specs.Ends.{run_status, RunEnds}
 use Rattle.simdram_cli.specs.Statuses.{IsBeforeOut, FilesKept}
 use Rattle.simdram_cli.proofs.Running.{Apart}
-use Rattle.simdram_cli.proofs.Promised.{run_causes, run_either}
+use Rattle.simdram_cli.proofs.Promised.{run_either}
 
 -- the file of this name is as it was, where it is told
 abbrev Same : List ℕ → Option Files → Option Files → Type 0

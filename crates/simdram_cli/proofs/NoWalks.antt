@@ -1,5 +1,5 @@
 -- No bbop of a program that implements a text is refused for its walk.
-use Rattle.std.proofs.Common.{◌≡◌, ℕ, zero, suc, ◌+◌, ◌<◌, ◌≤◌, Bool, true, false, cond, List, [], ◌∷◌, ◌++◌, map, Option, Some, None, refl, sym, ◌∙◌, ap, subst, length}
+use Rattle.std.proofs.Common.{◌≡◌, ℕ, ◌+◌, ◌<◌, ◌≤◌, Bool, true, false, cond, List, [], ◌∷◌, map, Option, Some, None, refl, sym, subst, length}
 use Rattle.std.specs.Prelude.{◌*◌, ◌^◌, ◌==◌, nat_lt, nat_le, not, zip, is_none}
 use Rattle.std.specs.List.{AllByRecursion}
 use Rattle.std.specs.Str.{bytes_eq}
@@ -15,14 +15,12 @@ use Rattle.bbop_isa.specs.Forms.{Instruction}
 use Rattle.bbop_isa.specs.Forms.{Init, Bbop, Load, Fill, Print, Free, Order}
 use Rattle.machine_model.specs.declared.Why.{Why}
 use Rattle.machine_model.specs.declared.Why.TheVariants as why
-use Rattle.machine_model.specs.declared.Reply.{Reply}
-use Rattle.machine_model.specs.declared.Reply.TheVariants.{Done, Refused}
-use Rattle.machine_model.specs.Operations.{Program, TextOp, Operation, Operations, operations_in, operation_of, trace_of, entry_named, ImplementsAll, EntryDoes}
+use Rattle.machine_model.specs.Operations.{Program, TextOp, Operation, Operations, operations_in, operation_of, entry_named, ImplementsAll}
 use Rattle.machine_model.specs.Refusals.{first, when, at_place, walks_badly, object_named, is_absent, is_misfit, bbop_conditions, bbop_refusal, refusal}
-use Rattle.machine_model.specs.Steps.{reply_by, reply_to, table_after}
+use Rattle.machine_model.specs.Steps.{reply_by, table_after}
 use Rattle.machine_model.specs.Script.{replies}
 use Rattle.machine_model.specs.Agrees.{IsPlain}
-use Rattle.machine_model.proofs.Texts.{Matched, neither, both, matched}
+use Rattle.machine_model.proofs.Texts.{Matched, both, matched}
 use Rattle.simdram_cli.specs.Headline.{IsNoBadWalk}
 
 abbrev pub NotWalk : Option Why → Type 0

@@ -1,17 +1,16 @@
 -- The rows of a chip that was opened on an image are the image's.
-use Rattle.std.proofs.Common.{◌≡◌, ℕ, zero, suc, ◌+◌, ◌*◌, ◌<◌, ◌≤◌, Bool, true, false, cond, List, [], ◌∷◌, ◌++◌, length, map, refl, sym, ◌∙◌, ap, subst, arith, inl, inr}
-use Rattle.std.specs.Prelude.{flat_map, replicate}
+use Rattle.std.proofs.Common.{◌≡◌, ℕ, zero, suc, ◌+◌, ◌*◌, ◌<◌, ◌≤◌, Bool, List, [], ◌∷◌, length, map, refl, sym, ◌∙◌, ap, subst, arith, inl, inr}
 use Rattle.std.specs.List.{range_with_len}
 use Rattle.std.proofs.lemmas.Bool.{ne_eqb, eq-eqb, cases_lt, lt-ltb}
 use Rattle.std.proofs.lemmas.List.{length-replicate}
 use Rattle.dram_model.specs.declared.geometry.Geometry.{Geometry}
 use Rattle.dram_model.specs.declared.address.Cell.TheVariants.{D}
-use Rattle.dram_model.specs.Column.{Column, blank, drive, plain}
-use Rattle.dram_model.specs.Chip.{Banks, Event, after, row_in, with_row, blank_banks}
+use Rattle.dram_model.specs.Column.{Column, blank}
+use Rattle.dram_model.specs.Chip.{Event, row_in, with_row, blank_banks}
 use Rattle.dram_model.specs.Chip.Event.{Write}
 use Rattle.dram_model.specs.Events.{on_bank_all, events_of}
 use Rattle.object_alloc.specs.Spelling.{Rows, IsImage}
-use Rattle.machine_model.specs.Opened.{Image, opened, row_writes}
+use Rattle.machine_model.specs.Opened.{Image, opened}
 use Rattle.machine_model.proofs.Loads.{OnOwn, each_inside}
 
 -- the writes of a bank's rows

@@ -1,6 +1,6 @@
 -- A script that was done on an image, as the steps of a run.
-use Rattle.std.proofs.Common.{◌≡◌, ℕ, ◌+◌, ◌*◌, ◌<◌, ◌≤◌, ◌^◌, Bool, true, List, [], ◌∷◌, ◌++◌, map, length, Option, Some, None, refl, sym, ◌∙◌, ap, subst, arith}
-use Rattle.std.specs.Prelude.{count_by, bytes_eq, ◌&&◌, ◌==◌, codes}
+use Rattle.std.proofs.Common.{◌≡◌, ℕ, ◌*◌, true, List, [], ◌∷◌, ◌++◌, Option, Some, sym, ◌∙◌, ap, subst}
+use Rattle.std.specs.Prelude.{count_by}
 use Rattle.std.specs.List.{AllByRecursion}
 use Rattle.dram_model.specs.declared.geometry.Geometry.{Geometry}
 use Rattle.dram_model.specs.declared.dram.Counters.{Counters}
@@ -8,19 +8,16 @@ use Rattle.dram_model.specs.Chip.{Banks, Event, after, all_counted, Grew}
 use Rattle.object_alloc.specs.Listed.{Named}
 use Rattle.object_alloc.specs.Spelling.{image_bytes}
 use Rattle.bbop_isa.specs.Forms.{Instruction}
-use Rattle.bbop_isa.specs.Forms.{Init, Bbop, Load, Fill, Print, Free, Order}
-use Rattle.machine_model.specs.Agrees.{IsPlain, IsWidth}
 use Rattle.machine_model.specs.Operations.{Program, operations_in}
 use Rattle.machine_model.specs.Opened.{Image, opened, rows_of, row_writes}
-use Rattle.machine_model.specs.Script.{is_bbop, is_refused, replies, script_events, banks_at_end, table_at_end, sum_of}
+use Rattle.machine_model.specs.Script.{is_bbop, is_refused, replies, script_events, banks_at_end, table_at_end}
 use Rattle.machine_model.specs.Report.{said_in_rows, total_line}
 use Rattle.machine_model.proofs.Events.{events_are_steps}
 use Rattle.cli_model.specs.World.{World}
 use Rattle.cli_model.specs.Steps.{Step, Open, Use, Store, Put, End, Done, Stopped, Reason, Goes}
 use Rattle.cli_model.proofs.Going.{goes_on, stops}
-use Rattle.sim_machine.specs.Did.{Did, Shown, shown}
+use Rattle.sim_machine.specs.Did.{Did, Shown}
 use Rattle.sim_machine.specs.Image.{with_reads}
-use Rattle.built_forms.specs.Texts.{is_built}
 use Rattle.simdram_cli.specs.Run.{line_steps, said_by, work_steps, image_by, tally_by, refused_by, opened_counters}
 use Rattle.simdram_cli.specs.Works.{chip_view, WorkDone}
 use Rattle.simdram_cli.proofs.Bbops.{table_at_end_is}

@@ -1,25 +1,21 @@
 -- A run that ends with 0 or 8 keeps its promises.
-use Rattle.std.proofs.Common.{◌≡◌, ◌⊎◌, ℕ, ◌+◌, ◌*◌, ◌<◌, ◌≤◌, Bool, true, false, cond, List, [], ◌∷◌, ◌++◌, Option, Some, None, refl, sym, ◌∙◌, ap, subst, inl, inr, arith, append_assoc, append-nil, lit≤, ltb}
-use Rattle.std.specs.Prelude.{Result, Ok, Err, IfOk, IfSome, bytes_eq, ◌≢◌, count_by, nat_lt, nat_le, ◌&&◌, codes}
-use Rattle.std.specs.List.{AllByRecursion}
+use Rattle.std.proofs.Common.{◌≡◌, ◌⊎◌, ℕ, ◌+◌, ◌<◌, Bool, true, false, cond, List, [], ◌∷◌, ◌++◌, Option, Some, None, refl, sym, ◌∙◌, ap, subst, inl, inr, append_assoc, append-nil, lit≤, ltb}
+use Rattle.std.specs.Prelude.{Result, Ok, Err, IfOk, bytes_eq, ◌≢◌, nat_le, ◌&&◌, codes}
 use Rattle.std.specs.Result.{result_ok}
 use Rattle.std.proofs.lemmas.Slice.Eq.{bytes_eq-Decides}
 use Rattle.std.proofs.lemmas.Bool.{leb-true}
-use Rattle.host_edge.specs.Views.{Files, FolderView, SinkView, Told}
-use Rattle.dram_model.specs.declared.geometry.Geometry.{Geometry}
+use Rattle.host_edge.specs.Views.{Files, Told}
 use Rattle.dram_model.specs.Geometry.{is_geometry, is_between, fits_size}
-use Rattle.object_alloc.specs.Spelling.{IsImage}
 use Rattle.uprog_bin.specs.Spelling.{program_bytes}
 use Rattle.bbop_isa.specs.Forms.{Instruction}
 use Rattle.machine_model.specs.Operations.{Program, TextOp, ImplementsAll}
 use Rattle.machine_model.specs.Opened.{Image}
-use Rattle.machine_model.specs.Agrees.{IsPlain}
 use Rattle.machine_model.specs.Report.{Said, line, lines, total_line}
 use Rattle.machine_model.proofs.Places.{bytes_differ}
-use Rattle.cli_model.specs.World.{World, world, with_file}
-use Rattle.cli_model.specs.Steps.{Step, Load, Take, Store, Open, Use, Put, Refusal, Reason, CannotRead, TooLong, Refused, NoMemory, CannotWrite, PutFailed, ChipFailed, End, Done, Stopped, Goes, Does, Loaded, loading}
-use Rattle.cli_model.specs.Status.{Ran, Tells, end_status, reason_status}
-use Rattle.cli_model.specs.Stands.{Stands, files_after, sent_by}
+use Rattle.cli_model.specs.World.{World, with_file}
+use Rattle.cli_model.specs.Steps.{Step, Load, Take, Store, Use, Put, Refusal, End, Done, Stopped, Goes, Does, loading}
+use Rattle.cli_model.specs.Status.{Tells, end_status}
+use Rattle.cli_model.specs.Stands.{files_after, sent_by}
 use Rattle.cli_model.specs.Causes.{IsRefusal, AreRefusals, Causes}
 use Rattle.cli_model.proofs.Going.{all_stand}
 use Rattle.cli_model.proofs.Causing.{status_has_cause, told_new, bytes_at}
@@ -31,9 +27,9 @@ use Rattle.simdram_cli.specs.Reads.{refusal_of}
 use Rattle.simdram_cli.specs.declared.words.RunNames.{RunNames}
 use Rattle.simdram_cli.specs.declared.words.TheConstants.{OPS_MAX, SCRIPT_MAX, IMAGE_MAX}
 use Rattle.simdram_cli.specs.Run.{Texts, run_steps, work_steps, line_steps, said_by, image_by, tally_by, refused_by, done_status}
-use Rattle.simdram_cli.specs.Works.{ChipView, WorkDone}
-use Rattle.simdram_cli.specs.Ends.{DoneOn, DoneBy, IsDoneBy, status_on, run_status, RunEnds}
-use Rattle.simdram_cli.specs.Headline.{Job, IsJob, read_as, replies_of, ProgramWritten, ObjectsRight, RowsUntouched, CommandsCounted, report_of, ReportSent, RepliesExact}
+use Rattle.simdram_cli.specs.Works.{ChipView}
+use Rattle.simdram_cli.specs.Ends.{DoneBy, IsDoneBy, status_on, run_status, RunEnds}
+use Rattle.simdram_cli.specs.Headline.{Job, IsJob, read_as, ProgramWritten, ObjectsRight, RowsUntouched, CommandsCounted, ReportSent, RepliesExact}
 use Rattle.simdram_cli.proofs.Running.{Apart, both}
 use Rattle.simdram_cli.proofs.Promises.{job_of, IsDone, objects_right, rows_untouched, commands_counted, report_is, refusals_are, no_bad_walks}
 

@@ -1,32 +1,30 @@
 -- What a run that is done promises.
-use Rattle.std.proofs.Common.{◌≡◌, ◌⊎◌, ℕ, ◌+◌, ◌*◌, ◌<◌, ◌≤◌, Bool, true, false, cond, List, [], ◌∷◌, ◌++◌, map, Option, Some, None, refl, sym, ◌∙◌, ap, subst, inl, inr, arith, append_assoc, append-nil}
-use Rattle.std.specs.Prelude.{Result, Ok, Err, IfOk, IfSome, bytes_eq, ◌≢◌, count_by}
+use Rattle.std.proofs.Common.{◌≡◌, ℕ, ◌+◌, ◌*◌, ◌<◌, List, [], ◌∷◌, ◌++◌, map, Some, refl, sym, ◌∙◌, ap, subst}
+use Rattle.std.specs.Prelude.{count_by}
 use Rattle.std.specs.List.{AllByRecursion}
-use Rattle.host_edge.specs.Views.{Files, FolderView, SinkView, Told, HasBytes}
+use Rattle.host_edge.specs.Views.{Files}
 use Rattle.dram_model.specs.declared.geometry.Geometry.{Geometry}
-use Rattle.dram_model.specs.Geometry.{is_geometry}
 use Rattle.dram_model.specs.Chip.{Banks, row_in}
-use Rattle.object_alloc.specs.Listed.{Named, limit_of}
+use Rattle.object_alloc.specs.Listed.{Named}
 use Rattle.object_alloc.specs.Spelling.{image_bytes, IsImage}
-use Rattle.uprog_bin.specs.Spelling.{program_bytes}
 use Rattle.bbop_isa.specs.Forms.{Instruction}
 use Rattle.machine_model.specs.Operations.{Program, TextOp, Operations, operations_of, operations_in, meaning_in, ImplementsAll}
-use Rattle.machine_model.specs.Opened.{Image, opened, words_of, rows_of, row_writes}
+use Rattle.machine_model.specs.Opened.{Image, opened, words_of, rows_of}
 use Rattle.machine_model.specs.Columns.{columns}
-use Rattle.machine_model.specs.Steps.{Held, table_of, words_after, table_after}
+use Rattle.machine_model.specs.Steps.{Held, table_of, words_after}
 use Rattle.machine_model.specs.Agrees.{Agrees, IsPlain, StepAgrees, DoesAll}
-use Rattle.machine_model.specs.Script.{replies, words_at_end, banks_at_end, table_at_end, is_touched_by, script_events, sum_of, sum_done, rows_loaded, rows_printed, is_refused}
-use Rattle.machine_model.specs.Report.{Said, line, lines, report, total_line, said_in_words, said_in_rows}
+use Rattle.machine_model.specs.Script.{replies, words_at_end, banks_at_end, table_at_end, is_touched_by, sum_of, sum_done, rows_loaded, rows_printed, is_refused}
+use Rattle.machine_model.specs.Report.{lines, total_line, said_in_words, said_in_rows}
 use Rattle.machine_model.proofs.Texts.{same_operations, does_all}
 use Rattle.machine_model.proofs.Scripts.{table_step}
 use Rattle.machine_model.proofs.Whole.{every_step, rows_give_words}
 use Rattle.machine_model.proofs.Opened.{opened_agrees, report_same}
 use Rattle.machine_model.proofs.KeptAll.{script_kept}
 use Rattle.simdram_cli.specs.declared.words.RunNames.{RunNames}
-use Rattle.simdram_cli.specs.Run.{Texts, said_by, tally_by, refused_by, done_status}
+use Rattle.simdram_cli.specs.Run.{said_by, tally_by, refused_by}
 use Rattle.simdram_cli.specs.Works.{ChipView, WorkDone}
-use Rattle.simdram_cli.specs.Headline.{Job, operations, replies_of, state_after, ObjectsRight, RowsUntouched, CommandsCounted, report_of, IsNoBadWalk}
-use Rattle.simdram_cli.proofs.NoWalks.{AllEnd, all_end, no_walks}
+use Rattle.simdram_cli.specs.Headline.{Job, replies_of, state_after, ObjectsRight, RowsUntouched, CommandsCounted, report_of, IsNoBadWalk}
+use Rattle.simdram_cli.proofs.NoWalks.{all_end, no_walks}
 use Rattle.simdram_cli.proofs.OpenedRows.{opened_rows}
 
 abbrev pub job_of : List TextOp → List Instruction → Image → Program → Job

@@ -1,13 +1,13 @@
 -- Files that were loaded, and what they were read as.
-use Rattle.std.proofs.Common.{◌≡◌, ℕ, Bool, true, false, cond, List, [], ◌∷◌, Option, Some, None, refl, sym, ◌∙◌, ap}
+use Rattle.std.proofs.Common.{◌≡◌, ℕ, true, false, List, [], ◌∷◌, None, refl, ap}
 use Rattle.std.specs.Prelude.{Result, Ok, Err, codes}
-use Rattle.host_edge.specs.Views.{Files, FolderView, SinkView}
+use Rattle.host_edge.specs.Views.{FolderView, SinkView}
 use Rattle.bbop_isa.specs.Lines.{lines_of}
 use Rattle.bbop_isa.specs.Forms.{Instruction}
-use Rattle.cli_model.specs.World.{World, world}
-use Rattle.cli_model.specs.Steps.{Refusal, Reason, Refused, NoMemory, Loaded, LoadFails}
+use Rattle.cli_model.specs.World.{world}
+use Rattle.cli_model.specs.Steps.{Refusal, Reason, Refused, NoMemory}
 use Rattle.built_forms.specs.Texts.{is_and_text, ops_of, and_op, script_in, built_from, at_line, not_yet}
-use Rattle.simdram_cli.specs.Reads.{refusal_of, IsText, LoadedAs, NotLoaded, ReadAs, NotRead}
+use Rattle.simdram_cli.specs.Reads.{refusal_of, LoadedAs, NotLoaded, NotRead}
 use Rattle.simdram_cli.proofs.Joins.{told_text, told_is_text, loaded_text}
 
 pub no_sink : SinkView

@@ -1,12 +1,11 @@
 -- The parts of a run.
-use Rattle.std.proofs.Common.{◌≡◌, ℕ, ◌+◌, ◌<◌, ◌≤◌, Bool, true, false, cond, List, [], ◌∷◌, ◌++◌, Option, Some, None, refl, sym, ◌∙◌, ap, subst, inl, inr, arith}
-use Rattle.std.specs.Prelude.{Result, Ok, Err, OnOk, IfOk, IfErr, bytes_eq, not, ◌&&◌, ◌==◌, codes, length, ◌≢◌}
+use Rattle.std.proofs.Common.{◌≡◌, ℕ, ◌<◌, ◌≤◌, Bool, true, false, cond, List, [], ◌∷◌, refl, sym, ◌∙◌, ap, subst, inl, arith}
+use Rattle.std.specs.Prelude.{Result, Ok, Err, OnOk, IfOk, IfErr, bytes_eq, not, ◌&&◌, ◌==◌, codes, length}
 use Rattle.std.specs.List.{AllByRecursion, list_all}
 use Rattle.std.proofs.lemmas.Slice.Eq.{bytes_eq-Decides}
 use Rattle.std.proofs.lemmas.Bool.{eqb-true}
-use Rattle.host_edge.specs.Views.{Files, FolderView, SinkView}
+use Rattle.host_edge.specs.Views.{FolderView, SinkView}
 use Rattle.uprog_bin.specs.Spelling.{program_bytes}
-use Rattle.uprog_code.specs.declared.code.Program.{Program as ProgramCode}
 use Rattle.bbop_isa.specs.Forms.{Instruction}
 use Rattle.bbop_isa.specs.Forms.{Init, Bbop, Load as LoadValues, Fill, Print, Free, Order}
 use Rattle.object_alloc.specs.Spelling.{IsImage}
@@ -15,8 +14,8 @@ use Rattle.machine_model.specs.Opened.{Image}
 use Rattle.machine_model.specs.Agrees.{IsPlain}
 use Rattle.machine_model.specs.Script.{is_bbop}
 use Rattle.cli_model.specs.World.{World, world}
-use Rattle.cli_model.specs.Steps.{Step, Load, Take, Store, Refusal, Reason, Refused, NoMemory, End, Done, Stopped, Goes, Loaded, LoadFails, loading}
-use Rattle.cli_model.proofs.Going.{goes_on, stops}
+use Rattle.cli_model.specs.Steps.{Take, Store, Refusal, Reason, Refused, NoMemory, Stopped, Goes}
+use Rattle.cli_model.proofs.Going.{stops}
 use Rattle.built_forms.specs.Texts.{ops_of, and_op, is_and_text, is_built, image_of, not_yet}
 use Rattle.built_forms.specs.Compiled.{and_program}
 use Rattle.built_forms.proofs.Compiled.{program_implements}
@@ -27,7 +26,7 @@ use Rattle.built_forms.specs.declared.scripts.FormNo.{FormNo}
 use Rattle.built_forms.specs.declared.scripts.FormNo.TheVariants as forms
 use Rattle.built_forms.specs.Answers.{NoImage}
 use Rattle.simdram_cli.specs.Stops.{end_of, image_reason, reason_of}
-use Rattle.simdram_cli.specs.Reads.{refusal_of, IsText, LoadedAs, NotLoaded, ReadAs, NotRead}
+use Rattle.simdram_cli.specs.Reads.{refusal_of, LoadedAs, NotLoaded, ReadAs, NotRead}
 use Rattle.simdram_cli.specs.Run.{work_steps}
 use Rattle.simdram_cli.specs.Works.{ChipView, WorkDone}
 use Rattle.simdram_cli.specs.Words.{are_apart, all_differ}

@@ -1,11 +1,11 @@
 -- Before the report begins, nothing is sent but the last line.
-use Rattle.std.proofs.Common.{◌≡◌, ◌⊎◌, ℕ, ◌+◌, List, [], ◌∷◌, ◌++◌, Option, Some, None, refl, sym, ◌∙◌, ap, subst, inl, inr}
+use Rattle.std.proofs.Common.{◌≡◌, ℕ, ◌+◌, List, [], ◌∷◌, ◌++◌, Option, sym, ◌∙◌, subst, inl, inr}
 use Rattle.std.specs.Prelude.{Result, Ok, Err}
 use Rattle.host_edge.specs.Views.{SinkView, Told, AppendsPart}
 use Rattle.machine_model.specs.Operations.{Program}
 use Rattle.machine_model.specs.Report.{Said, total_line}
 use Rattle.cli_model.specs.World.{World}
-use Rattle.cli_model.specs.Steps.{Step, Load, Take, Store, Open, Use, Put, Refusal, Reason, CannotRead, TooLong, Refused, NoMemory, CannotWrite, PutFailed, ChipFailed, End, Done, Stopped, Goes, LoadFails, IsNoMemory, IsCannotWrite, IsPutFailed, IsChipFailed, loading}
+use Rattle.cli_model.specs.Steps.{Step, Load, Take, Store, Open, Use, Put, Refusal, Reason, CannotRead, TooLong, Refused, NoMemory, CannotWrite, PutFailed, ChipFailed, End, Done, Stopped, Goes, LoadFails, IsCannotWrite, IsPutFailed, IsChipFailed, loading}
 use Rattle.cli_model.specs.Status.{Tells, reason_line}
 use Rattle.built_forms.specs.Texts.{ops_of, script_in, image_of}
 use Rattle.simdram_cli.specs.declared.words.RunNames.{RunNames}

@@ -1,11 +1,11 @@
 -- Stores, and the steps at the end of a run.
-use Rattle.std.proofs.Common.{◌≡◌, ◌⊎◌, ℕ, ◌≤◌, Bool, true, false, cond, List, [], ◌∷◌, ◌++◌, Option, Some, None, refl, sym, ◌∙◌, ap, inl, inr, arith}
-use Rattle.std.specs.Prelude.{bytes_eq, ◌≢◌, IfSome, Result, Ok, Err, OnOk, OnErr, is_err}
+use Rattle.std.proofs.Common.{◌≡◌, ℕ, ◌≤◌, Bool, true, false, cond, List, [], ◌∷◌, ◌++◌, Option, Some, None, refl, ◌∙◌, ap, inl, inr, arith}
+use Rattle.std.specs.Prelude.{bytes_eq, IfSome, Result, Ok, Err, OnOk, OnErr, is_err}
 use mathlib.Core.Path.{fun_ext}
 use Rattle.std.proofs.lemmas.Slice.Eq.{bytes_eq-Decides}
 use Rattle.host_edge.specs.Views.{Files, FolderView, SinkView, Told, Rose, NoCountFalls, KeepsOthers, HasBytes, AppendsPart}
 use Rattle.cli_model.specs.World.{World, world, with_file}
-use Rattle.cli_model.specs.Steps.{Step, Take, Use, Store, Put, ReadsOnly, CannotWrite, PutFailed, End, Done, Stopped, Goes, Used, Stored, Sent, Unstored}
+use Rattle.cli_model.specs.Steps.{Take, Use, Store, Put, ReadsOnly, CannotWrite, PutFailed, Done, Stopped, Goes, Used, Stored, Sent, Unstored}
 
 different : (other name : List ℕ) → bytes_eq other name ≡ false → other ≡ name → ⊥
 different other name e is = let same = (bytes_eq-Decides other name).1 is in cc

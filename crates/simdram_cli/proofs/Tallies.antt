@@ -1,19 +1,18 @@
 -- What a chip's counters come to.
-use Rattle.std.proofs.Common.{◌≡◌, ℕ, zero, suc, ◌+◌, ◌*◌, List, [], ◌∷◌, ◌++◌, map, Option, Some, None, refl, sym, ◌∙◌, ap, arith, append-nil, add-zero, zero-add, true}
+use Rattle.std.proofs.Common.{◌≡◌, ℕ, zero, suc, ◌+◌, ◌*◌, List, [], ◌∷◌, ◌++◌, map, Option, Some, None, refl, ◌∙◌, ap, arith, append-nil, add-zero, zero-add, true}
 use Rattle.std.specs.Prelude.{IfSome, flat_map}
 use Rattle.std.specs.List.{range_with_len, AllByRecursion}
 use Rattle.std.proofs.Math.Nat.{suc-mul}
-use Rattle.dram_model.specs.declared.geometry.Geometry.{Geometry}
 use Rattle.dram_model.specs.declared.dram.Counters.{Counters}
 use Rattle.dram_model.specs.declared.address.Command.TheVariants.{Ap, Aap}
 use Rattle.dram_model.specs.Chip.{Banks, Event, after, counted, all_counted, Grew}
 use Rattle.dram_model.specs.Chip.Event.{Row, Write}
-use Rattle.dram_model.specs.Events.{all_counted-append, Grew-more}
+use Rattle.dram_model.specs.Events.{all_counted-append}
 use Rattle.object_alloc.specs.Spelling.{Rows}
 use Rattle.bbop_isa.specs.Forms.{Instruction}
 use Rattle.machine_model.specs.Operations.{Program, operations_in}
 use Rattle.machine_model.specs.Opened.{Image, row_writes, opened}
-use Rattle.machine_model.specs.Script.{is_bbop, script_events, banks_at_end, replies, sum_of, with_counts}
+use Rattle.machine_model.specs.Script.{is_bbop, script_events, replies, sum_of}
 use Rattle.machine_model.proofs.Events.{events_are_steps, counted_by_replies}
 use Rattle.sim_machine.specs.Did.{Did, shown}
 use Rattle.sim_machine.specs.Image.{with_reads}

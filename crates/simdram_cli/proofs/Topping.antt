@@ -1,8 +1,8 @@
 -- What the top call promises, from how a run ends.
-use Rattle.std.proofs.Common.{◌≡◌, ◌⊎◌, ℕ, Bool, true, false, cond, List, [], ◌∷◌, Option, Some, None, refl, sym, ◌∙◌, ap, subst}
+use Rattle.std.proofs.Common.{◌≡◌, ℕ, Bool, true, false, cond, List, [], ◌∷◌, Option, Some, None, refl, subst}
 use Rattle.std.specs.Prelude.{◌↔◌, ◌&&◌, bytes_eq, codes}
 use denote.Ref.{Bor}
-use Rattle.host_edge.specs.Views.{Files, Told, Told-map}
+use Rattle.host_edge.specs.Views.{Files, Told-map}
 use Rattle.cli_model.specs.World.{World}
 use Rattle.simdram_cli.specs.declared.words.RunNames.{RunNames}
 use Rattle.simdram_cli.specs.declared.words.Command.{Command}

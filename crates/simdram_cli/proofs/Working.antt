@@ -1,9 +1,7 @@
 -- The loop over a script, one instruction more.
-use Rattle.std.proofs.Common.{◌≡◌, ℕ, ◌+◌, ◌<◌, ◌≤◌, Bool, true, false, cond, List, [], ◌∷◌, ◌++◌, map, drop, get_or, length, refl, sym, ◌∙◌, ap, subst, arith, add-one, drop-cons}
+use Rattle.std.proofs.Common.{◌≡◌, ℕ, ◌+◌, ◌<◌, Bool, true, false, cond, List, [], ◌∷◌, map, drop, get_or, length, refl, sym, ap, subst, arith, add-one, drop-cons}
 use Rattle.std.specs.Prelude.{count_by}
-use Rattle.std.specs.List.{AllByRecursion}
 use Rattle.std.proofs.lemmas.List.Recursion.{is_count_by}
-use Rattle.host_edge.specs.Views.{FolderView, SinkView}
 use Rattle.dram_model.specs.declared.geometry.Geometry.{Geometry}
 use Rattle.dram_model.specs.Chip.{Banks, after}
 use Rattle.object_alloc.specs.Listed.{Named}
@@ -13,7 +11,7 @@ use Rattle.machine_model.specs.Operations.{Operations}
 use Rattle.machine_model.specs.Steps.{reply_to}
 use Rattle.machine_model.specs.Script.{is_bbop, is_refused, replies, script_events}
 use Rattle.machine_model.specs.Report.{Said, said_in_rows, line}
-use Rattle.cli_model.specs.World.{World, world}
+use Rattle.cli_model.specs.World.{World}
 use Rattle.cli_model.specs.Steps.{Step, Use, Put, End, Done, Stopped, Reason, Goes}
 use Rattle.cli_model.proofs.Going.{goes_on, stops}
 use Rattle.sim_machine.specs.Did.{Did, Shown, Did-more}

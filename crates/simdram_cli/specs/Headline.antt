@@ -1,11 +1,10 @@
 -- What a run promises when it ends with status 0 or 8.
-use Rattle.std.specs.Prelude.{◌≡◌, ◌≢◌, ◌⊎◌, ℕ, ◌+◌, ◌*◌, ◌<◌, Bool, false, List, [], ◌∷◌, ◌++◌, Option, Some, None, Result, Ok, Err, IfSome, count_by}
+use Rattle.std.specs.Prelude.{◌≡◌, ◌≢◌, ◌⊎◌, ℕ, ◌+◌, ◌*◌, ◌<◌, false, List, ◌++◌, Option, Some, None, Result, IfSome, count_by}
 use Rattle.std.specs.List.{AllByRecursion}
 use Rattle.std.specs.Result.{result_ok}
 use denote.Ref.{Bor}
 use Rattle.host_edge.specs.Views.{Files, Told}
-use Rattle.dram_model.specs.declared.dram.Counters.{Counters}
-use Rattle.dram_model.specs.Chip.{Banks, Event, row_in}
+use Rattle.dram_model.specs.Chip.{row_in}
 use Rattle.object_alloc.specs.Spelling.{image_bytes}
 use Rattle.uprog_bin.specs.Spelling.{program_bytes}
 use Rattle.bbop_isa.specs.Forms.{Instruction}
@@ -16,7 +15,7 @@ use Rattle.machine_model.specs.Operations.{Program, TextOp, Operations, operatio
 use Rattle.machine_model.specs.Steps.{Held, table_of}
 use Rattle.machine_model.specs.Agrees.{HoldsNumbers}
 use Rattle.machine_model.specs.Script.{replies, words_at_end, banks_at_end, is_touched_by, script_events, sum_of, sum_done, rows_loaded, rows_printed, is_refused}
-use Rattle.machine_model.specs.Report.{Said, report, said_in_words}
+use Rattle.machine_model.specs.Report.{report, said_in_words}
 use Rattle.machine_model.specs.Opened.{Image, row_writes, opened, rows_of, words_of}
 use Rattle.cli_model.specs.Steps.{Refusal}
 use Rattle.simdram_cli.specs.declared.words.RunNames.{RunNames}

@@ -1,8 +1,8 @@
 -- How a file is loaded and read, whatever the sink and the chip show meanwhile.
 use Rattle.std.specs.Prelude.{◌≡◌, ℕ, List, Option, Some, None, Result, Ok, Err, IfSome}
 use Rattle.host_edge.specs.Views.{Files, FolderView, SinkView}
-use Rattle.cli_model.specs.World.{World, world}
-use Rattle.cli_model.specs.Steps.{Step, Refusal, Reason, Loaded, LoadFails}
+use Rattle.cli_model.specs.World.{world}
+use Rattle.cli_model.specs.Steps.{Refusal, Reason, Loaded, LoadFails}
 
 abbrev pub refusal_of : {A : Type 0} → Result A Refusal → Option Refusal
 refusal_of (Ok x) = None

@@ -1,13 +1,12 @@
 -- The steps of `run`.
-use Rattle.std.specs.Prelude.{◌≡◌, ℕ, ◌+◌, ◌*◌, List, [], ◌∷◌, ◌++◌, Option, Some, None, Result, Ok, Err, count_by, nat_lt, if◌then◌else◌}
-use Rattle.host_edge.specs.Views.{Files}
+use Rattle.std.specs.Prelude.{ℕ, ◌+◌, ◌*◌, List, [], ◌∷◌, ◌++◌, count_by, nat_lt, if◌then◌else◌}
 use Rattle.dram_model.specs.declared.dram.Counters.{Counters}
 use Rattle.dram_model.specs.declared.geometry.Geometry.{Geometry}
 use Rattle.object_alloc.specs.Spelling.{image_bytes}
 use Rattle.uprog_bin.specs.Spelling.{program_bytes}
 use Rattle.bbop_isa.specs.Forms.{Instruction}
 use Rattle.machine_model.specs.declared.Reply.{Reply}
-use Rattle.machine_model.specs.Operations.{Program, TextOp, operations_in}
+use Rattle.machine_model.specs.Operations.{Program, operations_in}
 use Rattle.machine_model.specs.Opened.{Image, opened, rows_of}
 use Rattle.machine_model.specs.Script.{replies, table_at_end, banks_at_end, sum_of, sum_done, rows_loaded, rows_printed, is_refused}
 use Rattle.machine_model.specs.Report.{Said, said_in_rows, line, total_line}

@@ -1,6 +1,6 @@
 -- When a run answers each status, and what stands then.
-use Rattle.std.specs.Prelude.{◌≡◌, ◌≢◌, ◌⊎◌, ℕ, ◌+◌, ◌<◌, ◌≤◌, List, ◌++◌, Option, Some, None, Result, Ok, Err, IfOk, IfSome, length, codes}
-use Rattle.host_edge.specs.Views.{Files, Told, Rose, RoseBy, IsPrefix, AppendsPart}
+use Rattle.std.specs.Prelude.{◌≡◌, ◌≢◌, ◌⊎◌, ℕ, ◌+◌, ◌<◌, ◌≤◌, List, ◌++◌, Some, Result, Ok, Err, IfSome, length, codes}
+use Rattle.host_edge.specs.Views.{Files, Told, Rose, RoseBy, AppendsPart}
 use Rattle.cli_model.specs.World.{World}
 use Rattle.cli_model.specs.Steps.{Refusal}
 use Rattle.built_forms.specs.Texts.{ops_of, script_in, image_of}

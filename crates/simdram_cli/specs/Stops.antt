@@ -1,7 +1,7 @@
 -- What a stop of the program says.
 use Rattle.std.specs.Prelude.{ℕ, List, codes, Result, Ok, Err}
 use Rattle.host_edge.specs.Views.{FolderView, SinkView}
-use Rattle.cli_model.specs.World.{World, world}
+use Rattle.cli_model.specs.World.{world}
 use Rattle.cli_model.specs.Steps.{Step, Refusal, Reason, CannotRead, TooLong, Refused, NoMemory, CannotWrite, PutFailed, ChipFailed, End, Done, Stopped, Goes}
 use Rattle.built_forms.specs.Texts.{not_yet}
 use Rattle.built_forms.specs.declared.scripts.FormNo.{FormNo}

@@ -1,4 +1,3 @@
-use Rattle.std.proofs.Common.{sym, ◌∙◌}
 use Rattle.std.proofs.lemmas.Result.{err_from_is_err_and}
 use Rattle.built_forms.specs.Texts.{script_in}
 use Rattle.simdram_cli.specs.declared.words.TheConstants.{SCRIPT_MAX}

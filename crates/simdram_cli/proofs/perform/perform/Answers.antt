@@ -1,14 +1,14 @@
-use Rattle.std.proofs.Common.{◌≡◌, ◌<◌, ◌∙◌, ap, arith, map, refl, ℕ, sym}
+use Rattle.std.proofs.Common.{◌∙◌, ap, arith, map}
 use Rattle.std.proofs.lemmas.Result.{err_from_is_err_and}
 use Rattle.uprog_code.specs.Shape.{microprograms_of}
 use Rattle.object_alloc.specs.Exact.{found_in}
 use Rattle.bbop_isa.specs.Forms.{view_of}
 use Rattle.machine_model.specs.Operations.{operations_in}
 use Rattle.machine_model.specs.Script.{script_events}
-use Rattle.cli_model.specs.World.{World, world}
+use Rattle.cli_model.specs.World.{world}
 use Rattle.cli_model.specs.Steps.{Done, Stopped}
 use Rattle.simdram_cli.specs.Stops.{reason_of}
-use Rattle.sim_machine.specs.Did.{Shown, shown}
+use Rattle.sim_machine.specs.Did.{shown}
 use Rattle.sim_machine.specs.Machine.{geometry_of, program_of, table_in}
 use Rattle.built_forms.specs.Texts.{image_found}
 use Rattle.simdram_cli.proofs.Tallies.{reads_same}

@@ -1,4 +1,3 @@
-use Rattle.host_edge.specs.Views.{Files}
 use Rattle.cli_model.specs.World.{world}
 use Rattle.simdram_cli.specs.Headline.{ProgramWritten, ObjectsRight, RowsUntouched, CommandsCounted, ReportSent, RepliesExact}
 use Rattle.simdram_cli.specs.Works.{chip_view}

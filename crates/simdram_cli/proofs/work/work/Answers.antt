@@ -1,16 +1,12 @@
-use Rattle.std.proofs.Common.{◌≡◌, ◌+◌, ◌<◌, arith, length, add-one, sym, refl, ◌∙◌, List, ap, map, ◌∷◌, drop}
+use Rattle.std.proofs.Common.{◌+◌, ◌<◌, arith, length, ◌∙◌, map, drop}
 use Rattle.std.proofs.lemmas.Grind.{common_steps}
 use Rattle.std.proofs.lemmas.Result.{err_from_is_err_and}
 use Rattle.std.proofs.lemmas.List.{drop_all}
-use Rattle.std.specs.List.{AllByRecursion}
-use Rattle.bbop_isa.specs.Forms.{Instruction, view_of}
+use Rattle.bbop_isa.specs.Forms.{view_of}
 use Rattle.machine_model.specs.Operations.{operations_in}
-use Rattle.machine_model.specs.Agrees.{IsPlain}
-use Rattle.machine_model.specs.Script.{is_bbop}
 use Rattle.cli_model.specs.World.{world}
 use Rattle.sim_machine.specs.Did.{shown, Did-none}
 use Rattle.sim_machine.specs.Machine.{geometry_of, program_of, table_in}
-use Rattle.simdram_cli.specs.Stops.{reason_of}
 use Rattle.simdram_cli.proofs.Working.{rest_is, goes_line, stops_line, did_line, refused_line}
 use Rattle.simdram_cli.proofs.work.work.Goals as goal
 

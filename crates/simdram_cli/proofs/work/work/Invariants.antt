@@ -1,4 +1,4 @@
-use Rattle.std.proofs.Common.{◌≡◌, ℕ, ◌+◌, ◌*◌, ◌≤◌, drop, map, List}
+use Rattle.std.proofs.Common.{◌≡◌, ◌+◌, ◌*◌, ◌≤◌, drop, map}
 use Rattle.std.specs.Prelude.{count_by, true}
 use Rattle.std.specs.List.{AllByRecursion}
 use Rattle.host_edge.specs.Views.{FolderView}
