@@ -101,6 +101,40 @@ only_image names files r e (by_ops reads f) = absurd (omega arith)
 only_image names files r e (by_script ops reads f) = absurd (omega arith)
 only_image names files r e (by_image ops script reads f) = (ops, script, (r, reads))
 
+long_not : (name : List ℕ) (reason : Reason) → Stopped (TooLong name) ≡ Stopped reason → IsFault reason → ⊥
+long_not name (TooLong other) e f = f
+long_not name (Refused s) e f = absurd (cc)
+long_not name (CannotRead other) e f = absurd (cc)
+long_not name NoMemory e f = absurd (cc)
+long_not name (CannotWrite other) e f = absurd (cc)
+long_not name PutFailed e f = absurd (cc)
+long_not name ChipFailed e f = absurd (cc)
+
+-- which file is too long
+abbrev LongFile : RunNames → Files → Type 0
+LongFile names files =
+    IsTooLong OPS_MAX files names.ops.now
+    ⊎ ((TakesOps names files × IsTooLong SCRIPT_MAX files names.script.now)
+    ⊎ (TakesOps names files × TakesScript names files × IsTooLong IMAGE_MAX files names.image.now))
+
+long_fate : (names : RunNames) (files : Files) (name : List ℕ) (end : End) → end ≡ Stopped (TooLong name) → Fate names files end → LongFile names files
+long_fate names files name end e (no_ops none f) = absurd (cc)
+long_fate names files name end e (long_ops long f) = inl long
+long_fate names files name end e (bad_ops s reads f) = absurd (cc)
+long_fate names files name end e (no_script ops none f) = absurd (cc)
+long_fate names files name end e (long_script ops long f) = inr (inl (ops, long))
+long_fate names files name end e (bad_script ops s reads f) = absurd (cc)
+long_fate names files name end e (no_image ops script none f) = absurd (cc)
+long_fate names files name end e (long_image ops script long f) = inr (inr (ops, script, long))
+long_fate names files name end e (bad_image ops script s reads f) = absurd (cc)
+long_fate names files name end e (all_taken ops script i f) = absurd (cc)
+
+long_known : (names : RunNames) (files : Files) (name : List ℕ) (end : End) → end ≡ Stopped (TooLong name) → Known names files end → LongFile names files
+long_known names files name end e k = elim k.known [
+  | inl fate ↦ long_fate names files name end e fate
+  | inr (reason, f, fault) ↦ absurd (long_not name reason (sym e ∙ f) fault)
+]
+
 told_case : (o : Option Files) (P : Files → Type 0) → ((files : Files) → o ≡ Some files → P files) → IfSome o P
 told_case None P h = tt
 told_case (Some files) P h = h files refl
@@ -126,6 +160,8 @@ only_where names old new chip status apart e =
       refused_line = λ l m. let c = causes.refused l m in (c.0, sym c.2, run_line names old new chip status (Refused c.0) e c.1 tt);
       chip_fault = causes.chip_fault;
       no_memory = λ is. run_line names old new chip status NoMemory e (causes.no_memory is) tt;
+      long_file = λ is. let c = causes.too_long is in
+          told_case old.files.holds _ (λ files there. long_known names files c.0 e.ran.end c.2 (run_known names old new chip status files apart e there));
       too_long = λ is. let c = causes.too_long is in (c.0, run_inputs names e.program e.texts c.0 c.1, c.3, run_line names old new chip status (TooLong c.0) e c.2 tt);
     }
 

@@ -56,6 +56,10 @@ pub record OnlyWhere (names : RunNames) (old new : World) (status : ℕ) : Type 
   pub refused_line : 4 ≤ status → status ≤ 7 → (r : Refusal) × (r.status ≡ status) × LastLine r.line old new
   pub chip_fault : status ≡ 9 → Rose old.chip new.chip
   pub no_memory : status ≡ 10 → LastLine (codes "no memory\n") old new
+  pub long_file : status ≡ 11 → IfSome old.files.holds (λ files.
+      IsTooLong OPS_MAX files names.ops.now
+      ⊎ ((TakesOps names files × IsTooLong SCRIPT_MAX files names.script.now)
+      ⊎ (TakesOps names files × TakesScript names files × IsTooLong IMAGE_MAX files names.image.now)))
   pub too_long : status ≡ 11 → (name : List ℕ) × IsInput names name × ((limit : ℕ) × RoseBy (limit + 1) old.files.taken new.files.taken) × LastLine (codes "too long " ++ name ++ codes "\n") old new
 
 -- Where the folder tells its files, they foretell the status, unless memory was wanting or a count of faults rose
