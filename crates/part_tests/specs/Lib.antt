@@ -1,0 +1,2 @@
+-- The operation of the tests.
+pub mod Xor

@@ -1,0 +1,259 @@
+ghost use Rattle.std.specs.Prelude.{◌≡◌, ◌<◌, ◌^◌, ◌∷◌, [], All, IfOk, true};
+ghost use Rattle.uprog_code.specs.Shape.{shape_of, microprograms_of};
+ghost use Rattle.uprog_code.specs.Legal.{IsLegalCode};
+ghost use Rattle.uprog_code.specs.Machine.{HasEnded, trace};
+ghost use Rattle.uprog_code.specs.Fits.{Fits};
+ghost use Rattle.uprog_code.specs.Bound.{bound_of};
+ghost use Rattle.uprog_bin.specs.Spelling.{IsProgram};
+ghost use Rattle.part_tests.specs.Xor.{xor_shape, xor_code};
+
+use arrayvec::ArrayVec;
+use dram_chip::{Chip, Counters, Dram, Geometry};
+use std::alloc::Global;
+use std::test::Fail;
+use text_lex::Name;
+use transpose_unit::{read_column, read_segment, write_object};
+use uprog_bin::{ProgView, encode};
+use uprog_code::{Binding, EntryCode, Fetch, Head, Kind, Program, RowRef, RowSpace, Uop};
+use uprog_ctl::run;
+
+/// Banks of 64 columns.
+const SMALL: Geometry = Geometry {
+    banks: 2,
+    rows: 64,
+    words: 1,
+};
+
+/// More elements than the columns of one bank.
+const ELEMENTS: [u64; 70] = [
+    0, 1, 2, 3, 4, 5, 6, 7, 8, 9, 10, 11, 12, 13, 14, 15, 16, 17, 18, 19, 20, 21, 22, 23, 24, 25,
+    26, 27, 28, 29, 30, 31, 0, 1, 2, 3, 4, 5, 6, 7, 8, 9, 10, 11, 12, 13, 14, 15, 16, 17, 18, 19,
+    20, 21, 22, 23, 24, 25, 26, 27, 28, 29, 30, 31, 31, 1, 2, 16, 8, 21,
+];
+
+/// The rows that hold the elements, the lowest bit first.
+const ELEMENT_ROWS: [[u64; 5]; 2] = [
+    [
+        0xaaaa_aaaa_aaaa_aaaa,
+        0xcccc_cccc_cccc_cccc,
+        0xf0f0_f0f0_f0f0_f0f0,
+        0xff00_ff00_ff00_ff00,
+        0xffff_0000_ffff_0000,
+    ],
+    [0x23, 0x05, 0x21, 0x11, 0x29],
+];
+
+fn are_small(values: &[u64]) -> bool
+    ensures { result ≡ true → All (λ v. v < 2 ^ 5) values.now }
+{
+    values.iter().all(|v| *v < 32)
+}
+
+#[test]
+fn an_object_is_read_back(rt: HostRuntime) -> Result<(), Fail> {
+    assert!(rt; are_small(&ELEMENTS));
+    let mut chip = Chip::new(rt.alloc());
+    chip.begin(SMALL)?;
+    let mut stage = [u64::MAX; 64];
+    write_object(&mut chip, SMALL, 7, 5, &ELEMENTS, &mut stage)?;
+    let mut stages = [[0; 64]; 2];
+    read_segment(&mut chip, SMALL, 0, 7, 5, &mut stages[0])?;
+    read_segment(&mut chip, SMALL, 1, 7, 5, &mut stages[1])?;
+    for e in 0..128usize {
+        let number = read_column(&stages[e / 64], 5, (e % 64) as u32);
+        let want = ELEMENTS.get(e).copied().unwrap_or(0);
+        assert_eq!(rt; number, want, "element {e}");
+    }
+    let counters = Counters {
+        aap: 0,
+        ap: 0,
+        writes: 10,
+        reads: 10,
+    };
+    assert_eq!(rt; chip.tally(), counters);
+    Ok(())
+}
+
+/// The word of a row that was all ones before the object was written to rows 7 to 11.
+fn row_after_object(values: &[u64; 70], bank: u16, row: u16, alloc: Global) -> Result<u64, Fail>
+    requires small { All (λ v. v < 2 ^ 5) values.now }
+    requires bank { bank < 2 }
+    requires row { row < 64 }
+{
+    let mut chip = Chip::new(alloc);
+    chip.begin(SMALL)?;
+    chip.write_row(bank, row, &[u64::MAX])?;
+    let mut stage = [0; 64];
+    write_object(&mut chip, SMALL, 7, 5, values, &mut stage)?;
+    let mut word = [0; 1];
+    chip.read_row(bank, row, &mut word)?;
+    Ok(word[0])
+}
+
+#[test]
+fn an_object_takes_its_rows(rt: HostRuntime) -> Result<(), Fail> {
+    assert!(rt; are_small(&ELEMENTS));
+    for bank in 0..2u16 {
+        for row in 0..64u16 {
+            let word = row_after_object(&ELEMENTS, bank, row, rt.alloc())?;
+            let want = if 7 <= row && row < 12 {
+                ELEMENT_ROWS[bank as usize][row as usize - 7]
+            } else {
+                u64::MAX
+            };
+            assert_eq!(rt; word, want, "bank {bank} row {row}");
+        }
+    }
+    Ok(())
+}
+
+/// The program file of the operation `xor` on words, straight code for width 1.
+const XOR_BYTES: [u8; 99] = [
+    0x53, 0x44, 0x4D, 0x50, 0x01, 0x00, 0x01, 0x00, // magic, version 1, one entry
+    0x03, 0x78, 0x6F, 0x72, 0, 0, 0, 0, 0, 0, 0, 0, 0, 0, 0, 0, 0, // xor
+    0x02, 0x13, 0x00, 0x00, 0x00, 0x00, 0x00, 0x00, 0x08, 0x00, // two words, no scratch
+    0x09, 0x03, 0x00, 0x08, 0x00, 0x08, 0x00, 0x00, // AAP s0[0] B8
+    0x09, 0x03, 0x01, 0x08, 0x00, 0x09, 0x00, 0x00, // AAP s1[0] B9
+    0x09, 0x01, 0x00, 0x00, 0x00, 0x0A, 0x00, 0x00, // AAP C0 B10
+    0x0A, 0x00, 0x0E, 0x00, 0x00, 0x00, 0x00, 0x00, // AP B14
+    0x0A, 0x00, 0x0F, 0x00, 0x00, 0x00, 0x00, 0x00, // AP B15
+    0x09, 0x01, 0x01, 0x00, 0x00, 0x02, 0x00, 0x00, // AAP C1 B2
+    0x09, 0x00, 0x0C, 0x00, 0x02, 0x00, 0x08, 0x00, // AAP B12 y[0]
+    0x00, 0x00, 0x00, 0x00, 0x00, 0x00, 0x00, 0x00, // DONE
+];
+
+fn row(space: RowSpace, which: u8, index: u8) -> RowRef
+    ensures { result ≡ record { space = space; which = which; index = index } }
+{
+    RowRef {
+        space,
+        which,
+        index,
+    }
+}
+
+fn xor_code() -> [Uop; 8]
+    ensures { result ≡ xor_code }
+{
+    [
+        Uop::Aap(row(RowSpace::Source, 0, 8), row(RowSpace::B, 8, 0)),
+        Uop::Aap(row(RowSpace::Source, 1, 8), row(RowSpace::B, 9, 0)),
+        Uop::Aap(row(RowSpace::C, 0, 0), row(RowSpace::B, 10, 0)),
+        Uop::Ap(row(RowSpace::B, 14, 0)),
+        Uop::Ap(row(RowSpace::B, 15, 0)),
+        Uop::Aap(row(RowSpace::C, 1, 0), row(RowSpace::B, 2, 0)),
+        Uop::Aap(row(RowSpace::B, 12, 0), row(RowSpace::Result, 0, 8)),
+        Uop::Done,
+    ]
+}
+
+fn xor_entry(alloc: Global) -> Result<EntryCode, Fail>
+    ensures shape { IfOk result (λ e. shape_of e.head ≡ xor_shape) }
+    ensures code { IfOk result (λ e. e.code.items ≡ xor_code) }
+{
+    let mut sources = ArrayVec::new();
+    sources.push(Kind::Word);
+    sources.push(Kind::Word);
+    let head = Head {
+        name: Name::new(b"xor").ok_or("a name")?,
+        sources,
+        result: Kind::Word,
+        bits: 0,
+        words: 0,
+    };
+    Ok(EntryCode {
+        head,
+        code: xor_code().to_vec(alloc)?,
+    })
+}
+
+#[tactic(auto, using(crate::proofs::Xor::xor_is_legal))]
+fn xor_program(alloc: Global) -> Result<Program, Fail>
+    ensures { IfOk result (λ p. IsProgram (microprograms_of p)) }
+{
+    let entries = [xor_entry(alloc)?];
+    Ok(Program {
+        entries: Vec::from_array(alloc, entries)?,
+    })
+}
+
+#[test]
+fn a_program_is_its_file(rt: HostRuntime) -> Result<(), Fail> {
+    let program = xor_program(rt.alloc())?;
+    let file = encode(&program, rt.alloc()).ok().ok_or("there is memory")?;
+    assert_eq!(rt; file.as_slice(), XOR_BYTES.as_slice());
+    let view = ProgView::open(&XOR_BYTES).ok().ok_or("it is a program")?;
+    assert_eq!(rt; view.entries(), 1);
+    let entry = view.entry(0);
+    assert!(rt; entry.bytes().len() == 64);
+    let code = xor_code();
+    for k in 0..8u16 {
+        assert_eq!(rt; entry.fetch(k), code[k as usize], "instruction {k}");
+    }
+    Ok(())
+}
+
+const A: u64 = 0x0123_4567_89ab_cdef;
+
+const B: u64 = 0xfedc_ba98_0f0f_3355;
+
+/// Width 1, the sources in rows 0 and 1, and the result in row 2.
+fn xor_binding() -> Binding
+    ensures width { result.n ≡ 1 }
+    ensures fits { Fits 64 xor_shape 1 (bound_of result) }
+{
+    let mut sources = ArrayVec::new();
+    sources.push(0);
+    sources.push(1);
+    Binding {
+        n: 1,
+        result: 2,
+        sources,
+        scratch: 3,
+    }
+}
+
+/// The word of a row after the run on bank 1, and the counters. The row was all ones before, and rows 0 and 1 of bank 1
+/// were A and B.
+#[tactic(auto, using(crate::proofs::Xor::xor_is_legal, crate::proofs::Xor::xor_ends))]
+fn row_after_xor(bank: u16, row: u16, alloc: Global) -> Result<(u64, Counters), Fail>
+    requires bank { bank < 2 }
+    requires row { row < 64 }
+{
+    let entry = xor_entry(alloc)?;
+    let binding = xor_binding();
+    let mut chip = Chip::new(alloc);
+    chip.begin(SMALL)?;
+    chip.write_row(bank, row, &[u64::MAX])?;
+    chip.write_row(1, 0, &[A])?;
+    chip.write_row(1, 1, &[B])?;
+    run(&mut chip, 1, &entry, &binding)?;
+    let mut word = [0; 1];
+    chip.read_row(bank, row, &mut word)?;
+    Ok((word[0], chip.tally()))
+}
+
+/// The rows below the spill group.
+#[test]
+fn xor_is_run(rt: HostRuntime) -> Result<(), Fail> {
+    let counters = Counters {
+        aap: 5,
+        ap: 2,
+        writes: 3,
+        reads: 1,
+    };
+    for bank in 0..2u16 {
+        for row in 0..32u16 {
+            let want = match (bank, row) {
+                (1, 0) => A,
+                (1, 1) => B,
+                (1, 2) => 0xffff_ffff_86a4_feba,
+                _ => u64::MAX,
+            };
+            let (word, tally) = row_after_xor(bank, row, rt.alloc())?;
+            assert_eq!(rt; word, want, "bank {bank} row {row}");
+            assert_eq!(rt; tally, counters);
+        }
+    }
+    Ok(())
+}
