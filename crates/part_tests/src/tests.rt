@@ -1,7 +1,5 @@
-ghost use Rattle.std.specs.Prelude.{◌≡◌, ◌<◌, ◌^◌, ◌∷◌, [], All, IfOk, true};
+ghost use Rattle.std.specs.Prelude.{◌≡◌, ◌<◌, ◌^◌, All, IfOk, true};
 ghost use Rattle.uprog_code.specs.Shape.{shape_of, microprograms_of};
-ghost use Rattle.uprog_code.specs.Legal.{IsLegalCode};
-ghost use Rattle.uprog_code.specs.Machine.{HasEnded, trace};
 ghost use Rattle.uprog_code.specs.Fits.{Fits};
 ghost use Rattle.uprog_code.specs.Bound.{bound_of};
 ghost use Rattle.uprog_bin.specs.Spelling.{IsProgram};
@@ -43,6 +41,7 @@ const ELEMENT_ROWS: [[u64; 5]; 2] = [
     [0x23, 0x05, 0x21, 0x11, 0x29],
 ];
 
+/// Whether each value has at most 5 bits.
 fn are_small(values: &[u64]) -> bool
     ensures { result ≡ true → All (λ v. v < 2 ^ 5) values.now }
 {
