@@ -11,7 +11,7 @@ use std::alloc::Global;
 use std::test::Fail;
 use text_lex::Name;
 use transpose_unit::{read_column, read_segment, write_object};
-use uprog_bin::{ProgView, encode};
+use uprog_bin::{ProgFault, ProgKind, ProgView, encode};
 use uprog_code::{Binding, EntryCode, Fetch, Head, Kind, Program, RowRef, RowSpace, Uop};
 use uprog_ctl::run;
 
@@ -255,4 +255,39 @@ fn xor_is_run(rt: HostRuntime) -> Result<(), Fail> {
         }
     }
     Ok(())
+}
+
+/// Why the file of `xor` is refused with these three bytes changed.
+fn fault_with(changes: [(usize, u8); 3]) -> Option<(u32, ProgKind)> {
+    let mut bytes = XOR_BYTES;
+    for (place, byte) in changes {
+        if place < 99 {
+            bytes[place] = byte;
+        }
+    }
+    match ProgView::open(&bytes) {
+        Ok(_) => None,
+        Err(ProgFault { at, kind }) => Some((at, kind)),
+    }
+}
+
+// A place past the end changes nothing.
+#[test]
+fn changed_files_are_refused(rt: HostRuntime) {
+    let none = (99usize, 0u8);
+    let cases = [
+        ([(33, 7), none, none], 83, ProgKind::NoDone),
+        ([(33, 9), none, none], 99, ProgKind::Short),
+        ([(91, 8), none, none], 91, ProgKind::NoDone),
+        ([(91, 8), (93, 8), none], 91, ProgKind::Target),
+        // a source as second address
+        ([(39, 3), (40, 0), (41, 8)], 35, ProgKind::Row),
+        ([(4, 9), none, none], 4, ProgKind::Version),
+        ([(0, 0), none, none], 0, ProgKind::Magic),
+    ];
+    for (changes, at, kind) in cases {
+        assert_eq!(rt; fault_with(changes), Some((at, kind)), "byte {at}");
+    }
+    // scratch of any size is a program's own
+    assert_eq!(rt; fault_with([(27, 255), none, none]), None);
 }
