@@ -1,8 +1,6 @@
 -- What a stop of the program says.
-use Rattle.std.specs.Prelude.{ℕ, List, codes, Result, Ok, Err}
-use Rattle.host_edge.specs.Views.{FolderView, SinkView}
-use Rattle.cli_model.specs.World.{world}
-use Rattle.cli_model.specs.Steps.{Step, Refusal, Reason, CannotRead, TooLong, Refused, NoMemory, CannotWrite, PutFailed, ChipFailed, End, Done, Stopped, Goes}
+use Rattle.std.specs.Prelude.{codes, Result, Ok, Err}
+use Rattle.cli_model.specs.Steps.{Refusal, Reason, CannotRead, TooLong, Refused, NoMemory, CannotWrite, PutFailed, ChipFailed, End, Done, Stopped}
 use Rattle.built_forms.specs.Texts.{not_yet}
 use Rattle.built_forms.specs.declared.scripts.FormNo.{FormNo}
 use Rattle.built_forms.specs.declared.scripts.FormNo.TheVariants as no
@@ -29,10 +27,6 @@ reason_of stop.ChipFailed = ChipFailed
 abbrev pub end_of : {X : Type 0} → Result X Stop → End
 end_of (Ok x) = Done
 end_of (Err s) = Stopped (reason_of s)
-
--- these steps were gone through, and they leave every sink and every chip as they are
-abbrev pub OnFiles : List Step → End → FolderView → FolderView → Type 0
-OnFiles steps end old new = (sink : SinkView) (chip : ℕ) → Goes steps end (world old sink chip) (world new sink chip)
 
 -- why a run stops at an image that is not taken
 abbrev pub image_reason : FormNo → Reason
