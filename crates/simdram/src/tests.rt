@@ -142,8 +142,12 @@ fn first_job_writes_its_files(rt: HostRuntime) -> Result<(), Fail> {
     assert_eq!(rt; after.len(), 622);
     // 0x0C and 0x0A is 0x08, in row 2; the 32 rows of the spill group and all others are as they were
     for at in 0..622usize {
-        let wanted = if at == 126 { 0x08 } else { before[at] };
-        assert_eq!(rt; after[at], wanted);
+        let wanted = if at == 126 {
+            Some(0x08)
+        } else {
+            before.get(at).copied()
+        };
+        assert_eq!(rt; after.get(at).copied(), wanted);
     }
     Ok(())
 }
@@ -205,11 +209,13 @@ fn files_that_cannot_be_read_are_told(rt: HostRuntime) -> Result<(), Fail> {
     assert_eq!(rt; simdram(&WORDS, &mut files, &mut out, &mut chip, alloc), 11);
     assert_eq!(rt; out.bytes(), b"too long ops\n".as_slice());
     // one space less is read, and has no ops
-    files.put_file("ops", &spaces[1..]).ok().ok_or("memory")?;
+    let fewer = spaces.get(1..).ok_or("no spaces")?;
+    files.put_file("ops", fewer).ok().ok_or("memory")?;
     let mut out = MemSink::new(alloc);
     assert_eq!(rt; simdram(&WORDS, &mut files, &mut out, &mut chip, alloc), 4);
     // an image that is cut
-    let mut files = folder(AND, JOB, &image[1..], alloc)?;
+    let cut = image.get(1..).ok_or("no image")?;
+    let mut files = folder(AND, JOB, cut, alloc)?;
     let mut out = MemSink::new(alloc);
     assert_eq!(rt; simdram(&WORDS, &mut files, &mut out, &mut chip, alloc), 7);
     assert_eq!(rt; out.bytes(), b"image byte 0 not_yet\n".as_slice());
