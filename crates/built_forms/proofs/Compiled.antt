@@ -7,7 +7,7 @@ use Rattle.dram_model.specs.Elements.{number}
 use Rattle.dram_model.specs.Laws.{and_commands, run-and, run-and-others}
 use Rattle.bit_rows.specs.Bits.{bits, value}
 use Rattle.uprog_code.specs.declared.TheConstants.{BUILT_WIDTH}
-use Rattle.uprog_code.specs.declared.code.Kind.TheVariants.{Word}
+use Rattle.op_text.specs.declared.tree.Kind.TheVariants.{Word}
 use Rattle.uprog_code.specs.declared.code.RowSpace.TheVariants as space
 use Rattle.uprog_code.specs.Machine.{Issue, Twice, Trace, Ended, trace, issue, issues_of, HasEnded}
 use Rattle.uprog_code.specs.Bound.{Bound, bound}

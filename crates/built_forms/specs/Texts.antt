@@ -5,7 +5,7 @@ use Rattle.std.specs.Option.{option_map}
 use Rattle.text_lex.specs.Lexical.{Item, Whole, Bad, items_of}
 use Rattle.text_lex.specs.Spelled.{fits_name}
 use Rattle.bit_rows.specs.Bits.{bits, value}
-use Rattle.uprog_code.specs.declared.code.Kind.TheVariants.{Word}
+use Rattle.op_text.specs.declared.tree.Kind.TheVariants.{Word}
 use Rattle.uprog_code.specs.Shape.{Shape}
 use Rattle.object_alloc.specs.Spelling.{rows_in}
 use Rattle.object_alloc.specs.Reading.{Found, image_in}

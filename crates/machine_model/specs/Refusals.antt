@@ -3,7 +3,7 @@ use Rattle.std.specs.Prelude.{◌≡◌, ℕ, zero, ◌+◌, ◌-◌, ◌*◌, �
 use Rattle.std.specs.Option.{unwrap_or}
 use Rattle.std.specs.Str.{bytes_eq}
 use Rattle.dram_model.specs.declared.geometry.Geometry.{Geometry}
-use Rattle.uprog_code.specs.declared.code.Kind.{Kind}
+use Rattle.op_text.specs.declared.tree.Kind.{Kind}
 use Rattle.uprog_code.specs.Machine.{Trace, Ended, Stuck}
 use Rattle.uprog_code.specs.Shape.{Shape, width, need}
 use Rattle.object_alloc.specs.declared.table.Object.{Object}

@@ -1,11 +1,22 @@
 //! Operations as trees.
 
+ghost use Rattle.std.specs.Prelude.{◌≡◌};
+
 use text_lex::Name;
 
+/// What a name holds: a word of n bits, one bit in each row, or one bit.
 #[derive(Clone, Copy, Debug, PartialEq, Eq)]
 pub enum Kind {
     Word,
     Bit,
+}
+
+impl Default for Kind {
+    fn default() -> Self
+        ensures { result ≡ Kind.Word }
+    {
+        Kind::Word
+    }
 }
 
 #[derive(Debug, Drop, PartialEq, Eq)]

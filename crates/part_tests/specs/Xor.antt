@@ -1,6 +1,6 @@
 -- The microprogram of the operation `xor` on words, straight code for width 1.
 use Rattle.std.specs.Prelude.{ℕ, List, [], ◌∷◌}
-use Rattle.uprog_code.specs.declared.code.Kind.TheVariants.{Word}
+use Rattle.op_text.specs.declared.tree.Kind.TheVariants.{Word}
 use Rattle.uprog_code.specs.declared.code.RowSpace.{RowSpace}
 use Rattle.uprog_code.specs.declared.code.RowSpace.TheVariants as space
 use Rattle.uprog_code.specs.declared.code.RowRef.{RowRef}

@@ -9,7 +9,7 @@ use Rattle.object_alloc.specs.Listed.{Named, has_name, look_up}
 use Rattle.machine_model.specs.declared.Why.{Why}
 use Rattle.machine_model.specs.declared.Why.TheVariants as why
 use Rattle.machine_model.specs.Refusals.{at_place, is_misfit}
-use Rattle.uprog_code.specs.declared.code.Kind.{Kind}
+use Rattle.op_text.specs.declared.tree.Kind.{Kind}
 use Rattle.object_alloc.specs.declared.table.Object.{Object}
 
 lt-suc : (n len : ℕ) → nat_lt (1 + n) (1 + len) ≡ nat_lt n len

@@ -1,9 +1,9 @@
 //! Why a command stops, its exit status and its last line.
 
-ghost use Rattle.std.specs.Prelude.{◌≡◌, ◌≤◌, ◌++◌, codes, decimal};
-ghost use Rattle.host_edge.specs.Views.{Told, AppendsPart};
+ghost use Rattle.std.specs.Prelude.{OnOk, OnErr, ◌≡◌, ◌≤◌, ◌++◌, codes, decimal};
+ghost use Rattle.host_edge.specs.Views.{Told, AppendsPart, Rose};
 ghost use Rattle.cli_model.specs.Status.{reason_status, reason_line};
-ghost use Rattle.simdram_cli.specs.Stops.{reason_of};
+ghost use Rattle.simdram_cli.specs.Stops.{reason_of, refusal_by};
 
 use host_edge::{Failed, Sink};
 use itoa::Buffer;
@@ -47,7 +47,9 @@ pub fn status_of(stop: Stop<'_>) -> u8
 /// Puts three pieces, up to the first that fails.
 fn put_three<S: Sink>(first: &[u8], second: &[u8], third: &[u8], out: &mut S) -> Result<(), Failed>
     ensures counts { (S.view out.old).faults ≤ (S.view out.new).faults }
+    ensures sent { OnOk result (Told (λ before after. after ≡ before ++ (first.now ++ second.now ++ third.now)) (S.view out.old).sent (S.view out.new).sent) }
     ensures part { Told (AppendsPart (first.now ++ second.now ++ third.now)) (S.view out.old).sent (S.view out.new).sent }
+    ensures failed { OnErr result (Rose (S.view out.old).faults (S.view out.new).faults) }
 {
     out.put(first)?;
     out.put(second)?;
@@ -57,24 +59,40 @@ fn put_three<S: Sink>(first: &[u8], second: &[u8], third: &[u8], out: &mut S) ->
 /// Puts the line of a form that is not built.
 fn tell_not_yet<S: Sink>(what: &[u8], at: u32, out: &mut S) -> Result<(), Failed>
     ensures counts { (S.view out.old).faults ≤ (S.view out.new).faults }
+    ensures sent { OnOk result (Told (λ before after. after ≡ before ++ (what.now ++ decimal at ++ codes " not_yet\n")) (S.view out.old).sent (S.view out.new).sent) }
     ensures part { Told (AppendsPart (what.now ++ decimal at ++ codes " not_yet\n")) (S.view out.old).sent (S.view out.new).sent }
+    ensures failed { OnErr result (Rose (S.view out.old).faults (S.view out.new).faults) }
 {
     let mut buffer = Buffer::new();
     put_three(what, buffer.format(at).as_bytes(), b" not_yet\n", out)
 }
 
+/// Puts the line of a form that is not built, in its file's words.
+fn tell_form<S: Sink>(form: NotYet, out: &mut S) -> Result<(), Failed>
+    ensures counts { (S.view out.old).faults ≤ (S.view out.new).faults }
+    ensures sent { OnOk result (Told (λ before after. after ≡ before ++ ((refusal_by form).line)) (S.view out.old).sent (S.view out.new).sent) }
+    ensures part { Told (AppendsPart (refusal_by form).line) (S.view out.old).sent (S.view out.new).sent }
+    ensures failed { OnErr result (Rose (S.view out.old).faults (S.view out.new).faults) }
+{
+    match form {
+        NotYet::Ops(at) => tell_not_yet(b"ops line ", at, out),
+        NotYet::Script(at) => tell_not_yet(b"script line ", at, out),
+        NotYet::Image(at) => tell_not_yet(b"image byte ", at, out),
+    }
+}
+
 /// Puts the last line. A sink that failed is told nothing.
 pub fn tell<S: Sink>(stop: Stop<'_>, out: &mut S) -> Result<(), Failed>
     ensures counts { (S.view out.old).faults ≤ (S.view out.new).faults }
+    ensures sent { OnOk result (Told (λ before after. after ≡ before ++ (reason_line (reason_of stop.entry))) (S.view out.old).sent (S.view out.new).sent) }
     ensures part { Told (AppendsPart (reason_line (reason_of stop.entry))) (S.view out.old).sent (S.view out.new).sent }
+    ensures failed { OnErr result (Rose (S.view out.old).faults (S.view out.new).faults) }
 {
     match stop {
         Stop::CannotRead(name) => put_three(b"cannot read ", name.as_bytes(), b"\n", out),
         Stop::TooLong(name) => put_three(b"too long ", name.as_bytes(), b"\n", out),
         Stop::CannotWrite(name) => put_three(b"cannot write ", name.as_bytes(), b"\n", out),
-        Stop::Refused(NotYet::Ops(at)) => tell_not_yet(b"ops line ", at, out),
-        Stop::Refused(NotYet::Script(at)) => tell_not_yet(b"script line ", at, out),
-        Stop::Refused(NotYet::Image(at)) => tell_not_yet(b"image byte ", at, out),
+        Stop::Refused(form) => tell_form(form, out),
         Stop::NoMemory => put_three(b"no memory\n", b"", b"", out),
         Stop::ChipFailed => put_three(b"chip fault\n", b"", b"", out),
         Stop::PutFailed => put_three(b"", b"", b"", out),

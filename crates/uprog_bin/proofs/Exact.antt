@@ -8,7 +8,7 @@ use Rattle.std.proofs.lemmas.Bool.{eqb-true, leb-true}
 use Rattle.std.proofs.lemmas.Slice.Eq.{bytes_eq-Decides}
 use Rattle.std.proofs.lemmas.List.{drop_all}
 use Rattle.std.proofs.lemmas.List.Concat.{flat_map-cons}
-use Rattle.uprog_code.specs.declared.code.Kind.TheVariants.{Word}
+use Rattle.op_text.specs.declared.tree.Kind.TheVariants.{Word}
 use Rattle.uprog_code.specs.Shape.{Microprogram}
 use Rattle.uprog_bin.specs.declared.fault.ProgKind.TheVariants as kinds
 use Rattle.uprog_bin.specs.Spelling.{head_bytes, directory_bytes, code_bytes, opening_bytes, program_bytes, IsEntry, IsProgram}

@@ -3,7 +3,7 @@ use Rattle.std.proofs.Common.{◌≡◌, ℕ, suc, ◌+◌, ◌-◌, ◌/◌, �
 use Rattle.std.specs.List.{list_any}
 use Rattle.std.specs.Str.{bytes_eq}
 use Rattle.std.proofs.lemmas.List.{map-append}
-use Rattle.uprog_code.specs.declared.code.Kind.{Kind}
+use Rattle.op_text.specs.declared.tree.Kind.{Kind}
 use Rattle.uprog_bin.specs.declared.fault.ProgFault.{ProgFault}
 use Rattle.uprog_bin.specs.declared.directory.Listed.{Listed}
 use Rattle.uprog_bin.specs.Reading.{is_named, has_name, listing_of, listings_of, Listing, kinds_of, kind_of_bit, listing_at, directory_at}

@@ -4,8 +4,8 @@ use Rattle.std.specs.Int.{Width, w8, w16, w32, byte_len, from_le_bytes}
 use Rattle.std.specs.List.{list_all, list_any}
 use Rattle.std.specs.Str.{bytes_eq}
 use Rattle.text_lex.specs.Spelled.{fits_name}
-use Rattle.uprog_code.specs.declared.code.Kind.{Kind}
-use Rattle.uprog_code.specs.declared.code.Kind.TheVariants.{Word, Bit}
+use Rattle.op_text.specs.declared.tree.Kind.{Kind}
+use Rattle.op_text.specs.declared.tree.Kind.TheVariants.{Word, Bit}
 use Rattle.uprog_code.specs.declared.code.RowSpace.TheVariants.{Spill}
 use Rattle.uprog_code.specs.declared.code.RowRef.{RowRef}
 use Rattle.uprog_code.specs.declared.code.Uop.{Uop}

@@ -3,8 +3,8 @@ use Rattle.std.specs.Prelude.{◌≡◌, ◌≢◌, ℕ, ◌+◌, ◌-◌, ◌*�
 use Rattle.std.specs.List.{AllByRecursion, AllPairs, flat_map}
 use Rattle.std.specs.Int.{to_le_bytes, w16, w32}
 use Rattle.text_lex.specs.Spelled.{fits_name}
-use Rattle.uprog_code.specs.declared.code.Kind.{Kind}
-use Rattle.uprog_code.specs.declared.code.Kind.TheVariants.{Word, Bit}
+use Rattle.op_text.specs.declared.tree.Kind.{Kind}
+use Rattle.op_text.specs.declared.tree.Kind.TheVariants.{Word, Bit}
 use Rattle.uprog_code.specs.declared.code.RowSpace.{RowSpace}
 use Rattle.uprog_code.specs.declared.code.RowSpace.TheVariants as space
 use Rattle.uprog_code.specs.declared.code.RowRef.{RowRef}

@@ -1,6 +1,6 @@
 -- Which bindings fit in a bank, and which rows an operation may change.
 use Rattle.std.specs.Prelude.{◌⊎◌, ℕ, ◌+◌, ◌-◌, ◌<◌, ◌≤◌, List, [], ◌∷◌}
-use Rattle.uprog_code.specs.declared.code.Kind.{Kind}
+use Rattle.op_text.specs.declared.tree.Kind.{Kind}
 use Rattle.uprog_code.specs.Shape.{Shape, width, need}
 use Rattle.uprog_code.specs.Bound.{Bound}
 

@@ -4,7 +4,7 @@ use Rattle.dram_model.specs.declared.address.Cell.TheVariants.{D}
 use Rattle.dram_model.specs.Column.{Column, run}
 use Rattle.dram_model.specs.Elements.{number}
 use Rattle.uprog_code.specs.declared.TheConstants.{BUILT_WIDTH}
-use Rattle.uprog_code.specs.declared.code.Kind.{Kind}
+use Rattle.op_text.specs.declared.tree.Kind.{Kind}
 use Rattle.uprog_code.specs.declared.code.Uop.{Uop}
 use Rattle.uprog_code.specs.Shape.{Shape, width}
 use Rattle.uprog_code.specs.Machine.{Issue, trace, issues_of, HasEnded}

@@ -12,8 +12,8 @@ use Rattle.dram_model.specs.declared.address.Command.{Command}
 use Rattle.dram_model.specs.declared.address.Command.TheVariants as command
 use Rattle.dram_model.specs.Column.{Column, lines_of, b_lines, drive, sense, settle, settle_lines, sense_lines, run, step, is_first as is_first_address, is_second as is_second_address, is_written, is_in_range as is_address_in, is_legal as is_legal_command}
 use Rattle.dram_model.specs.Laws.{activate_lines, step-is-quick, drive-other}
-use Rattle.uprog_code.specs.declared.code.Kind.{Kind}
-use Rattle.uprog_code.specs.declared.code.Kind.TheVariants.{Word, Bit}
+use Rattle.op_text.specs.declared.tree.Kind.{Kind}
+use Rattle.op_text.specs.declared.tree.Kind.TheVariants.{Word, Bit}
 use Rattle.uprog_code.specs.declared.code.RowSpace.{RowSpace}
 use Rattle.uprog_code.specs.declared.code.RowSpace.TheVariants as space
 use Rattle.uprog_code.specs.declared.code.RowRef.{RowRef}

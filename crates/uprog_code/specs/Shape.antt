@@ -1,7 +1,7 @@
 -- What an operation takes and gives, and its microprogram, as plain lists.
 use Rattle.std.specs.Prelude.{ℕ, ◌+◌, ◌*◌, List, map}
-use Rattle.uprog_code.specs.declared.code.Kind.{Kind}
-use Rattle.uprog_code.specs.declared.code.Kind.TheVariants.{Word, Bit}
+use Rattle.op_text.specs.declared.tree.Kind.{Kind}
+use Rattle.op_text.specs.declared.tree.Kind.TheVariants.{Word, Bit}
 use Rattle.uprog_code.specs.declared.code.Uop.{Uop}
 use Rattle.uprog_code.specs.declared.code.Head.{Head}
 use Rattle.uprog_code.specs.declared.code.EntryCode.{EntryCode}

@@ -4,22 +4,8 @@ ghost use Rattle.std.specs.Prelude.{◌≡◌};
 ghost use Rattle.uprog_code.specs.Shape.{shape_of};
 
 use arrayvec::ArrayVec;
+use op_text::Kind;
 use text_lex::Name;
-
-/// What a value is: a word of n bits, one bit in each row, or one bit.
-#[derive(Clone, Copy, Debug, PartialEq, Eq)]
-pub enum Kind {
-    Word,
-    Bit,
-}
-
-impl Default for Kind {
-    fn default() -> Self
-        ensures { result ≡ Kind.Word }
-    {
-        Kind::Word
-    }
-}
 
 /// Where a row lies: in the chip's own groups B and C, or in the rows that a binding gives.
 #[derive(Clone, Copy, Debug, PartialEq, Eq)]

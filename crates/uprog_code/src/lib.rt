@@ -11,9 +11,10 @@ mod tests;
 mod walker;
 
 pub use binding::Binding;
-pub use code::{EntryCode, Head, Kind, Program, RowRef, RowSpace, Uop};
+pub use code::{EntryCode, Head, Program, RowRef, RowSpace, Uop};
 pub use fetch::Fetch;
 pub use laws::legal_code_is_safe;
+pub use op_text::Kind;
 pub use registers::{Issued, Place, Turn, step};
 pub use walker::{BadWalk, Counts, Why3, walk};
 

@@ -5,9 +5,10 @@ ghost use Rattle.uprog_code.specs.Shape.{shape_of};
 ghost use Rattle.uprog_code.specs.Machine.{Next, act, in_range, in_kind, row_at};
 ghost use Rattle.uprog_code.specs.OneStep.{AreRegisters, HasOperands, next_place, row_of, turn_trace};
 
-use crate::code::{Head, Kind, RowRef, RowSpace, Uop};
+use crate::code::{Head, RowRef, RowSpace, Uop};
 use crate::walker::Why3;
 use bit_rows::WIDTH_MAX;
+use op_text::Kind;
 
 /// A row with its position in the value that it belongs to.
 #[derive(Clone, Copy, Debug, PartialEq, Eq)]

@@ -1,6 +1,6 @@
 ghost use Rattle.std.specs.Prelude.{◌≡◌, ◌∷◌, [], IfOk, true};
 ghost use Rattle.uprog_code.specs.Shape.{shape_of};
-ghost use Rattle.uprog_code.specs.declared.code.Kind.TheVariants.{Word};
+ghost use Rattle.op_text.specs.declared.tree.Kind.TheVariants.{Word};
 
 use crate::{BadWalk, Counts, EntryCode, Fetch, Head, Kind, RowRef, RowSpace, Uop, Why3, walk};
 use arrayvec::ArrayVec;
