@@ -1,7 +1,6 @@
 -- Microprograms: what they are, what they issue, where their rows lie, and when they do an operation.
 pub mod Shape
 pub mod Machine
-pub mod Turns
 pub mod OneStep
 pub mod Count
 pub mod Bound
