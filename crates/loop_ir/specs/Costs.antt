@@ -1,0 +1,78 @@
+-- How many commands and instructions a loop program may take.
+use Rattle.std.specs.Prelude.{ℕ, ◌+◌, ◌*◌, ◌==◌, ◌&&◌, Bool, not, if◌then◌else◌, List, [], ◌∷◌, ◌++◌, length, filter, sum_by}
+use Rattle.std.specs.List.{list_any, list_all}
+use Rattle.mig_graph.specs.Literals.{is_turned}
+use Rattle.mig_graph.specs.Outputs.{lit_at}
+use Rattle.loop_ir.specs.declared.ir.Sub.{Sub}
+use Rattle.loop_ir.specs.declared.ir.Sub.TheVariants.{Zero, Top, Inner as At_inner, InnerDown, Outer, OuterDown, Sum, DownSum, DownPlusN, NPlusInner}
+use Rattle.loop_ir.specs.Plain.{Block, InnerOf, StepOf}
+use Rattle.loop_ir.specs.Plain.InnerOf.{Alone, Across}
+use Rattle.loop_ir.specs.Plain.StepOf.{Single, Along, Nest}
+use Rattle.loop_ir.specs.Loops.{RoundOf}
+
+-- four commands for a node and three for an output
+abbrev pub body_cost : Block → ℕ
+body_cost b = 4 * length b.graph.nodes + 3 * length b.outs
+
+-- the only output is a constant or an input that is not inverted
+abbrev pub is_copy : Block → Bool
+is_copy b = (length b.graph.nodes == 0) && ((length b.outs == 1) && not (is_turned (lit_at b.outs 0)))
+
+-- what one round may take: a copy is one command
+abbrev pub turn_cost : Block → ℕ
+turn_cost b = if is_copy b then 1 else body_cost b
+
+abbrev pub rounds_cost : List (RoundOf Block) → ℕ
+rounds_cost rs = sum_by (λ r. turn_cost r.part) rs
+
+abbrev pub sub_code : Sub → ℕ
+sub_code Zero = 0
+sub_code Top = 1
+sub_code At_inner = 2
+sub_code InnerDown = 3
+sub_code Outer = 4
+sub_code OuterDown = 5
+sub_code Sum = 6
+sub_code DownSum = 7
+sub_code DownPlusN = 8
+sub_code NPlusInner = 9
+
+abbrev pub same_sub : Sub → Sub → Bool
+same_sub s t = sub_code s == sub_code t
+
+-- some place of the body has the subscript
+abbrev pub is_used : Block → Sub → Bool
+is_used b s = list_any (λ p. same_sub p.sub s) (b.reads ++ b.writes)
+
+-- every place of the body is at 0
+abbrev pub is_fixed : Block → Bool
+is_fixed b = list_all (λ p. same_sub p.sub Zero) (b.reads ++ b.writes)
+
+-- the subscripts other than Zero that the body's places have
+abbrev pub used_subs : Block → List Sub
+used_subs b = filter (is_used b) (Top ∷ At_inner ∷ InnerDown ∷ Outer ∷ OuterDown ∷ Sum ∷ DownSum ∷ DownPlusN ∷ NPlusInner ∷ [])
+
+-- how many instructions a body may take: 15 for its loop or its subscripts
+abbrev pub single_cost : Block → ℕ
+single_cost b = body_cost b + (if is_fixed b then 0 else 15)
+
+abbrev pub inner_cost : InnerOf Block → ℕ
+inner_cost (Alone b) = body_cost b + 15
+inner_cost (Across count b) = body_cost b + 15
+
+abbrev pub step_cost : StepOf Block → ℕ
+step_cost (Single b) = single_cost b
+step_cost (Along b) = body_cost b + 15
+step_cost (Nest parts) = sum_by inner_cost parts
+
+abbrev pub code_cost : List (StepOf Block) → ℕ
+code_cost steps = sum_by step_cost steps
+
+-- the number of bodies
+abbrev pub step_bodies : StepOf Block → ℕ
+step_bodies (Single b) = 1
+step_bodies (Along b) = 1
+step_bodies (Nest parts) = length parts
+
+abbrev pub bodies : List (StepOf Block) → ℕ
+bodies steps = sum_by step_bodies steps

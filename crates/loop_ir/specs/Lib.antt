@@ -1,0 +1,10 @@
+-- Loop programs: what they are, what they do to rows, what they keep, and when they do a statement.
+pub mod Plain
+pub mod Loops
+pub mod Spots
+pub mod WellFormed
+pub mod Costs
+pub mod Limits
+pub mod Like
+pub mod Statements
+pub mod Lowered

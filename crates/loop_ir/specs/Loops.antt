@@ -1,0 +1,58 @@
+-- The rounds of a loop program.
+use Rattle.std.specs.Prelude.{ℕ, zero, suc, ◌+◌, ◌-◌, ◌*◌, List, [], ◌∷◌, ◌++◌}
+use Rattle.loop_ir.specs.declared.ir.Sub.{Sub}
+use Rattle.loop_ir.specs.declared.ir.Sub.TheVariants.{Zero, Top, Inner as At_inner, InnerDown, Outer, OuterDown, Sum, DownSum, DownPlusN, NPlusInner}
+use Rattle.loop_ir.specs.declared.ir.Count.{Count}
+use Rattle.loop_ir.specs.declared.ir.Count.TheVariants.{All, Rest}
+use Rattle.loop_ir.specs.Plain.{InnerOf, StepOf}
+use Rattle.loop_ir.specs.Plain.InnerOf.{Alone, Across}
+use Rattle.loop_ir.specs.Plain.StepOf.{Single, Along, Nest}
+
+-- the lists at i, i + 1 and so on, as many as the count
+abbrev pub rounds : {A : Type 0} → (ℕ → List A) → ℕ → ℕ → List A
+rounds f i zero = []
+rounds f i (suc count) = f i ++ rounds f (i + 1) count
+
+-- one body at one inner and one outer position
+pub record RoundOf (A : Type 0) : Type 0 where
+  pub part : A
+  pub i : ℕ
+  pub o : ℕ
+
+abbrev pub round_at : {A : Type 0} → A → ℕ → ℕ → RoundOf A
+round_at b i o = record { part = b; i = i; o = o }
+
+abbrev pub one_round : {A : Type 0} → A → ℕ → ℕ → List (RoundOf A)
+one_round b i o = round_at b i o ∷ []
+
+-- how many inner positions there are
+abbrev pub positions : ℕ → ℕ → Count → ℕ
+positions n o All = n
+positions n o Rest = n - o
+
+abbrev pub inner_rounds : {A : Type 0} → ℕ → ℕ → List (InnerOf A) → List (RoundOf A)
+inner_rounds n o [] = []
+inner_rounds n o (Alone b ∷ more) = one_round b 0 o ++ inner_rounds n o more
+inner_rounds n o (Across count b ∷ more) = rounds (λ i. one_round b i o) 0 (positions n o count) ++ inner_rounds n o more
+
+abbrev pub step_rounds : {A : Type 0} → ℕ → StepOf A → List (RoundOf A)
+step_rounds n (Single b) = one_round b 0 0
+step_rounds n (Along b) = rounds (λ i. one_round b i 0) 0 n
+step_rounds n (Nest parts) = rounds (λ o. inner_rounds n o parts) 0 n
+
+-- every body at every position, in the order in which they come at width n
+abbrev pub all_rounds : {A : Type 0} → ℕ → List (StepOf A) → List (RoundOf A)
+all_rounds n [] = []
+all_rounds n (s ∷ ss) = step_rounds n s ++ all_rounds n ss
+
+abbrev pub sub_value : ℕ → ℕ → ℕ → Sub → ℕ
+sub_value n i o Zero = 0
+sub_value n i o Top = n - 1
+sub_value n i o At_inner = i
+sub_value n i o InnerDown = n - 1 - i
+sub_value n i o Outer = o
+sub_value n i o OuterDown = n - 1 - o
+sub_value n i o Sum = o + i
+sub_value n i o DownSum = n - 1 - o + i
+sub_value n i o DownPlusN = 2 * n - 1 - o
+sub_value n i o NPlusInner = n + i

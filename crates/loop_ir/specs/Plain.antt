@@ -1,0 +1,70 @@
+-- Loop programs as plain data, over bodies or over what is made of them.
+use Rattle.std.specs.Prelude.{List, [], ◌∷◌, map}
+use Rattle.mig_graph.specs.declared.Lit.{Lit}
+use Rattle.mig_graph.specs.Graph.{Graph}
+use Rattle.loop_ir.specs.declared.ir.Place.{Place}
+use Rattle.loop_ir.specs.declared.ir.Count.{Count}
+use Rattle.loop_ir.specs.declared.ir.Body.{Body}
+use Rattle.loop_ir.specs.declared.ir.Inner.{Inner}
+use Rattle.loop_ir.specs.declared.ir.Inner.TheVariants as code_inner
+use Rattle.loop_ir.specs.declared.ir.Step.{Step}
+use Rattle.loop_ir.specs.declared.ir.Step.TheVariants as code_step
+use Rattle.loop_ir.specs.declared.ir.LoopProgram.{LoopProgram}
+
+-- a body: read k is input k of the graph, and write j takes output j
+pub record Block : Type 0 where
+  pub reads : List Place
+  pub graph : Graph
+  pub outs : List Lit
+  pub writes : List Place
+
+-- a part of a nest: a body once, or at each inner position
+pub data InnerOf (A : Type 0) : Type 0 where
+  Alone : A → InnerOf A
+  Across : Count → A → InnerOf A
+
+-- a body once, a body at each position, or parts at each outer position
+pub data StepOf (A : Type 0) : Type 0 where
+  Single : A → StepOf A
+  Along : A → StepOf A
+  Nest : List (InnerOf A) → StepOf A
+
+abbrev pub block_of : Body → Block
+block_of b = record { reads = b.reads.items; graph = b.graph.mig; outs = b.graph.outs.items; writes = b.writes.items }
+
+abbrev pub inner_of : Inner → InnerOf Block
+inner_of (code_inner.Once b) = Alone (block_of b)
+inner_of (code_inner.Each count b) = Across count (block_of b)
+
+abbrev pub step_of : Step → StepOf Block
+step_of (code_step.Once b) = Single (block_of b)
+step_of (code_step.Each b) = Along (block_of b)
+step_of (code_step.Nest parts) = Nest (map inner_of parts.items)
+
+abbrev pub steps_of : LoopProgram → List (StepOf Block)
+steps_of p = map step_of p.steps.items
+
+-- the same loops over other things
+abbrev pub inner_map : {A B : Type 0} → (A → B) → InnerOf A → InnerOf B
+inner_map f (Alone a) = Alone (f a)
+inner_map f (Across count a) = Across count (f a)
+
+abbrev pub step_map : {A B : Type 0} → (A → B) → StepOf A → StepOf B
+step_map f (Single a) = Single (f a)
+step_map f (Along a) = Along (f a)
+step_map f (Nest parts) = Nest (map (inner_map f) parts)
+
+-- what holds of every body
+abbrev pub AllInner : {A : Type 0} → (A → Type 0) → List (InnerOf A) → Type 0
+AllInner P [] = Unit {0}
+AllInner P (Alone a ∷ xs) = P a × AllInner P xs
+AllInner P (Across count a ∷ xs) = P a × AllInner P xs
+
+abbrev pub AllStep : {A : Type 0} → (A → Type 0) → StepOf A → Type 0
+AllStep P (Single a) = P a
+AllStep P (Along a) = P a
+AllStep P (Nest parts) = AllInner P parts
+
+abbrev pub AllParts : {A : Type 0} → (A → Type 0) → List (StepOf A) → Type 0
+AllParts P [] = Unit {0}
+AllParts P (s ∷ ss) = AllStep P s × AllParts P ss

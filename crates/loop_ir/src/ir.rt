@@ -1,0 +1,82 @@
+//! Loop programs.
+
+use mig_graph::MigOuts;
+
+/// The position of a row in what it belongs to, at width n, at inner index i and outer index o.
+#[derive(Clone, Copy, PartialEq, Eq, Debug)]
+pub enum Sub {
+    /// 0.
+    Zero,
+    /// n - 1.
+    Top,
+    /// i.
+    Inner,
+    /// n - 1 - i.
+    InnerDown,
+    /// o.
+    Outer,
+    /// n - 1 - o.
+    OuterDown,
+    /// o + i.
+    Sum,
+    /// n - 1 - o + i.
+    DownSum,
+    /// 2n - 1 - o.
+    DownPlusN,
+    /// n + i.
+    NPlusInner,
+}
+
+/// What a row belongs to: the result, a source, or a bit or word of scratch.
+#[derive(Clone, Copy, PartialEq, Eq, Debug)]
+pub enum Space {
+    Result,
+    Source,
+    ScratchBit,
+    ScratchWord,
+}
+
+/// A row by its name: which value of a space, and the position in it. A bit of scratch has one row.
+#[derive(Clone, Copy, PartialEq, Eq, Debug)]
+pub struct Place {
+    pub space: Space,
+    pub which: u8,
+    pub sub: Sub,
+}
+
+/// What is done in one round: read k is input k of the graph, and output j is written to place j. All writes come after
+/// all reads.
+#[derive(Debug, Drop)]
+pub struct Body {
+    pub reads: Vec<Place>,
+    pub graph: MigOuts,
+    pub writes: Vec<Place>,
+}
+
+/// How far an inner loop runs: from 0 to n - 1, or to n - 1 - o.
+#[derive(Clone, Copy, PartialEq, Eq, Debug)]
+pub enum Count {
+    All,
+    Rest,
+}
+
+/// A part of a nest: a body at each outer position, once or in a loop of its own.
+#[derive(Debug, Drop)]
+pub enum Inner {
+    Once(Body),
+    Each(Count, Body),
+}
+
+/// A body done once, at each position, or parts done one after another at each outer position.
+#[derive(Debug, Drop)]
+pub enum Step {
+    Once(Body),
+    Each(Body),
+    Nest(Vec<Inner>),
+}
+
+/// Steps that are done one after another, the same at every width.
+#[derive(Debug, Drop)]
+pub struct LoopProgram {
+    pub steps: Vec<Step>,
+}

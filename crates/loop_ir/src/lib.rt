@@ -1,0 +1,10 @@
+//! Loop programs: bodies that are done once, at each position, or in two nested loops.
+#![tactic(auto)]
+
+mod ir;
+mod names;
+mod wells;
+
+pub use ir::{Body, Count, Inner, LoopProgram, Place, Space, Step, Sub};
+pub use names::{NameMap, Slot};
+pub use wells::well_formed;
