@@ -6,7 +6,7 @@ use Rattle.dram_model.specs.Column.{Column, run}
 use Rattle.dram_model.specs.Elements.{number}
 use Rattle.dram_model.specs.Laws.{and_commands, run-and, run-and-others}
 use Rattle.bit_rows.specs.Bits.{bits, value}
-use Rattle.uprog_code.specs.declared.TheConstants.{BUILT_WIDTH}
+use Rattle.bit_rows.specs.declared.TheConstants.{WIDTH_MAX}
 use Rattle.op_text.specs.declared.tree.Kind.TheVariants.{Word}
 use Rattle.uprog_code.specs.declared.code.RowSpace.TheVariants as space
 use Rattle.uprog_code.specs.Machine.{Issue, Twice, Trace, Ended, trace, issue, issues_of, HasEnded}
@@ -15,7 +15,7 @@ use Rattle.uprog_code.specs.Fits.{IsAmong, SourcesFit}
 use Rattle.uprog_code.specs.Legal.{IsLegalCode}
 use Rattle.uprog_code.specs.Implements.{Gives, Keeps, Implements, numbers}
 use Rattle.uprog_bin.specs.Spelling.{IsProgram}
-use Rattle.machine_model.specs.Operations.{ImplementsAll}
+use Rattle.uprog_code.specs.Texts.{ImplementsAll}
 use Rattle.built_forms.specs.Texts.{and_shape, and_op, and_value}
 use Rattle.built_forms.specs.Compiled.{and_code, and_program, fixed_row}
 
@@ -29,7 +29,7 @@ and_trace : trace and_shape and_code 1 ≡ Ended and_issues
 unfolding trace issue
 and_trace = refl
 
-one_width : (n : ℕ) → 0 < n → n ≤ BUILT_WIDTH → n ≡ 1
+one_width : (n : ℕ) → 0 < n → n ≤ WIDTH_MAX → n ≡ 1
 one_width n l k = omega arith
 
 bit_value : (x y : Bool) → value ((x && y) ∷ []) ≡ and_value 1 (value (x ∷ []) ∷ value (y ∷ []) ∷ [])

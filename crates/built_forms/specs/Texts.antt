@@ -11,7 +11,7 @@ use Rattle.object_alloc.specs.Spelling.{rows_in}
 use Rattle.object_alloc.specs.Reading.{Found, image_in}
 use Rattle.bbop_isa.specs.Forms.{Instruction, Init, Bbop, Load, Fill, Print, Free, Order, line_of}
 use Rattle.bbop_isa.specs.Lines.{lines_of}
-use Rattle.machine_model.specs.Operations.{TextOp}
+use Rattle.uprog_code.specs.Texts.{TextOp}
 use Rattle.machine_model.specs.Opened.{Image}
 use Rattle.cli_model.specs.Steps.{Refusal}
 

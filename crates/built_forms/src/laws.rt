@@ -1,7 +1,7 @@
 //! What the definitions say, in the words of their subject.
 
 ghost use Rattle.std.specs.Prelude.{◌≡◌, ℕ, List, [], ◌∷◌, true, ◌↔◌};
-ghost use Rattle.machine_model.specs.Operations.{ImplementsAll};
+ghost use Rattle.uprog_code.specs.Texts.{ImplementsAll};
 ghost use Rattle.uprog_bin.specs.Spelling.{IsProgram};
 ghost use Rattle.built_forms.specs.Texts.{is_and_text, IsAndText, and_op};
 ghost use Rattle.built_forms.specs.Compiled.{and_program};
