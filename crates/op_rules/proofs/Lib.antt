@@ -1,2 +1,5 @@
 pub mod Names
 pub mod Tokens
+pub mod Terms
+pub mod Standing
+pub mod Words
