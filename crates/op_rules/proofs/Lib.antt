@@ -3,3 +3,4 @@ pub mod Tokens
 pub mod Terms
 pub mod Standing
 pub mod Words
+pub mod States

@@ -30,7 +30,7 @@ use Rattle.op_rules.proofs.Standing.{Standing, given-at, standing-more, more_con
 abbrev mark : List ℕ → Lexeme
 mark x = record { kind = kinds.Symbol; text = x; start = 0 }
 
-abbrev counted : Scope → Scope
+abbrev pub counted : Scope → Scope
 counted s = record s { op = record s.op { statements = s.op.statements + 1 } }
 
 -- the target of a word statement
@@ -159,7 +159,7 @@ result_is : (known : List Param) (p : WordOp) (args : List (List ℕ)) → given
 result_is known p [] = refl
 result_is known p (a ∷ args) = refl
 
-same_kinds : (a b : Kind) → same_kind a b ≡ true → b ≡ a
+pub same_kinds : (a b : Kind) → same_kind a b ≡ true → b ≡ a
 same_kinds Word Word h = refl
 same_kinds Bit Bit h = refl
 same_kinds Word Bit h = cc
