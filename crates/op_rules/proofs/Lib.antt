@@ -4,3 +4,4 @@ pub mod Terms
 pub mod Standing
 pub mod Words
 pub mod States
+pub mod Lines
