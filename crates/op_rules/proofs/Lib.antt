@@ -5,3 +5,4 @@ pub mod Standing
 pub mod Words
 pub mod States
 pub mod Lines
+pub mod Blocks

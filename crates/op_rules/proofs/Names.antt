@@ -71,7 +71,7 @@ fresh-differ names [] h = tt
 fresh-differ names (n ∷ ns) h =
     (others_new n ns (each_map (IsNew (names ++ n ∷ [])) (IsNew (n ∷ [])) (λ m k. new-right names (n ∷ []) m k) ns (fresh-new (names ++ n ∷ []) ns h.1)), fresh-differ (names ++ n ∷ []) ns h.1)
 
-each_both : {A : Type 0} (P Q R : A → Type 0) → ((a : A) → P a → Q a → R a) → (xs : List A) → Each P xs → Each Q xs → Each R xs
+pub each_both : {A : Type 0} (P Q R : A → Type 0) → ((a : A) → P a → Q a → R a) → (xs : List A) → Each P xs → Each Q xs → Each R xs
 each_both P Q R f [] g h = tt
 each_both P Q R f (x ∷ xs) g h = (f x g.0 h.0, each_both P Q R f xs g.1 h.1)
 

@@ -34,7 +34,7 @@ given_mixed k l d t g h = rw (g, h) (two k d)
     two false true = refl
     two false false = refl
 
-names-append : (ps qs : List Param) → names_of (ps ++ qs) ≡ names_of ps ++ names_of qs
+pub names-append : (ps qs : List Param) → names_of (ps ++ qs) ≡ names_of ps ++ names_of qs
 names-append ps qs = map-append (λ (p : Param). p.name) ps qs
 
 abbrev pub more_context : Context → List Param → List (List ℕ) → Context
