@@ -6,3 +6,4 @@ pub mod Words
 pub mod States
 pub mod Lines
 pub mod Blocks
+pub mod Heads
