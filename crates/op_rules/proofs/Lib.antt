@@ -7,3 +7,4 @@ pub mod States
 pub mod Lines
 pub mod Blocks
 pub mod Heads
+pub mod Ops

@@ -27,7 +27,7 @@ use Rattle.op_rules.proofs.Names.{is_same, turned, among-append}
 use Rattle.op_rules.proofs.Tokens.{Behind, goes, name_lexeme, named, one_rule, next_rule, three_rules, not_bad, le_no}
 use Rattle.op_rules.proofs.Standing.{Standing, given-at, standing-more, more_context, word_new}
 
-abbrev mark : List ℕ → Lexeme
+abbrev pub mark : List ℕ → Lexeme
 mark x = record { kind = kinds.Symbol; text = x; start = 0 }
 
 abbrev pub counted : Scope → Scope
