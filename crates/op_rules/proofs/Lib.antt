@@ -8,3 +8,5 @@ pub mod Lines
 pub mod Blocks
 pub mod Heads
 pub mod Ops
+pub mod Apart
+pub mod Few

@@ -54,11 +54,11 @@ each_map P Q f [] h = tt
 each_map P Q f (x ∷ xs) h = (f x h.0, each_map P Q f xs h.1)
 
 -- none of the later names is this one
-others_new : (n : List ℕ) (ns : List (List ℕ)) → Each (IsNew (n ∷ [])) ns → IsNew ns n
+pub others_new : (n : List ℕ) (ns : List (List ℕ)) → Each (IsNew (n ∷ [])) ns → IsNew ns n
 others_new n [] h = refl
 others_new n (m ∷ ns) h = or_both (bytes_eq m n) (is_among ns n) (turned m n ∙ or_first (bytes_eq n m) false h.0) (others_new n ns h.1)
 
-others_back : (n : List ℕ) (ns : List (List ℕ)) → IsNew ns n → Each (IsNew (n ∷ [])) ns
+pub others_back : (n : List ℕ) (ns : List (List ℕ)) → IsNew ns n → Each (IsNew (n ∷ [])) ns
 others_back n [] h = tt
 others_back n (m ∷ ns) h = (or_both (bytes_eq n m) false (turned n m ∙ or_first (bytes_eq m n) (is_among ns n) h) refl, others_back n ns (or_second (bytes_eq m n) (is_among ns n) h))
 

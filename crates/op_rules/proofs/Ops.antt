@@ -90,7 +90,7 @@ first_peels (st ∷ body) s wanted rest n h = (omega arith, sym (first_same st s
 abbrev pub FitsResult : Param → Param → Type 0
 FitsResult r p = p.name ≡ r.name → p.kind ≡ r.kind
 
-each_append : {A : Type 0} (P : A → Type 0) (xs ys : List A) → Each P xs → Each P ys → Each P (xs ++ ys)
+pub each_append : {A : Type 0} (P : A → Type 0) (xs ys : List A) → Each P xs → Each P ys → Each P (xs ++ ys)
 each_append P [] ys g h = h
 each_append P (x ∷ xs) ys g h = (g.0, each_append P xs ys g.1 h)
 
