@@ -9,4 +9,6 @@ pub mod Blocks
 pub mod Heads
 pub mod Ops
 pub mod Apart
+pub mod Passing
+pub mod MeetingHeads
 pub mod Few
