@@ -11,4 +11,5 @@ pub mod Ops
 pub mod Apart
 pub mod Passing
 pub mod MeetingHeads
+pub mod MeetingWords
 pub mod Few

@@ -16,14 +16,7 @@ use Rattle.op_rules.specs.Meets.{IsGood, names_of}
 use Rattle.op_rules.proofs.Names.{AllFresh}
 use Rattle.op_rules.proofs.Tokens.{goes, name_lexeme, named}
 use Rattle.op_rules.proofs.Passing.{two_pass, three_pass, good_passes, good_fits, le_passes}
-use Rattle.op_rules.proofs.Heads.{in_params, in_body}
-
-kind_back : (k : Kind) (ops stands : List (List ℕ)) (done : List Param) (n : List ℕ) (wanted : List Wanted) (rest : List (List ℕ))
-    → breach_of wanted (in_params ops (stands ++ n ∷ []) (done ++ param n k ∷ [])) (items_spelled rest) ≡ None
-    → breach_of (Colon ∷ ParamKind ∷ wanted) (record (in_params ops stands done) { naming = Some n }) (items_spelled (codes ":" ∷ kind_text k ∷ rest)) ≡ None
-unfolding breach_of
-kind_back Word ops stands done n wanted rest h = h
-kind_back Bit ops stands done n wanted rest h = h
+use Rattle.op_rules.proofs.Heads.{in_params, in_body, param_kind, result_kind_moves, params_move}
 
 param_back : (ops stands : List (List ℕ)) (done : List Param) (p : Param) (wanted : List Wanted) (rest : List (List ℕ)) → IsGood p.name → is_among stands p.name ≡ false → length done < 4
     → breach_of wanted (in_params ops (stands ++ p.name ∷ []) (done ++ p ∷ [])) (items_spelled rest) ≡ None
@@ -35,22 +28,19 @@ param_back ops stands done p wanted rest g f l h =
     named NewParam (Colon ∷ ParamKind ∷ wanted) s p.name more (good_fits p.name g)
     ∙ three_pass (is_bad (spelling_of p.name) p.name) (is_among stands p.name) (nat_le 4 (length done)) why.BadName why.Twice why.TooMany
       (record s { naming = Some p.name }) [] (name_lexeme p.name) (goes (Colon ∷ ParamKind ∷ wanted) more) (good_passes p.name g) f (le_passes 4 (length done) l)
-    ∙ kind_back p.kind ops stands done p.name wanted rest h
-
-params_moved : (ops a b : List (List ℕ)) (p q : List Param) → a ≡ b → p ≡ q → (wanted : List Wanted) (items : List Item) → breach_of wanted (in_params ops a p) items ≡ None → breach_of wanted (in_params ops b q) items ≡ None
-params_moved ops a b p q e f wanted items h = rw (← e, ← f) h
+    ∙ param_kind p.kind ops stands done p.name wanted rest ∙ h
 
 params_behind : (ps : List Param) (ops stands : List (List ℕ)) (done : List Param) (wanted : List Wanted) (rest : List (List ℕ)) → Each IsGood (names_of ps) → AllFresh stands (names_of ps)
     → length done + length ps ≤ 4 → breach_of wanted (in_params ops (stands ++ names_of ps) (done ++ ps)) (items_spelled rest) ≡ None
     → breach_of (Params ∷ wanted) (in_params ops stands done) (items_spelled (behind_commas param_text ps (codes ")" ∷ rest))) ≡ None
 unfolding breach_of
-params_behind [] ops stands done wanted rest g f l h = params_moved ops (stands ++ []) stands (done ++ []) done (append-nil stands) (append-nil done) wanted (items_spelled rest) h
+params_behind [] ops stands done wanted rest g f l h = params_move ops (stands ++ []) stands (done ++ []) done (append-nil stands) (append-nil done) wanted (items_spelled rest) h
 params_behind (p ∷ ps) ops stands done wanted rest g f l h =
     let more = behind_commas param_text ps (codes ")" ∷ rest) in
     let e = length-append done (p ∷ []) in
     param_back ops stands done p (Params ∷ wanted) more g.0 f.0 (omega arith)
     (params_behind ps ops (stands ++ p.name ∷ []) (done ++ p ∷ []) wanted rest g.1 f.1 (omega arith)
-    (params_moved ops (stands ++ names_of (p ∷ ps)) _ (done ++ p ∷ ps) _ (sym (append_assoc stands (p.name ∷ []) (names_of ps))) (sym (append_assoc done (p ∷ []) ps)) wanted (items_spelled rest) h))
+    (params_move ops (stands ++ names_of (p ∷ ps)) _ (done ++ p ∷ ps) _ (sym (append_assoc stands (p.name ∷ []) (names_of ps))) (sym (append_assoc done (p ∷ []) ps)) wanted (items_spelled rest) h))
 
 pub params_back : (ps : List Param) (ops : List (List ℕ)) (wanted : List Wanted) (rest : List (List ℕ)) → 1 ≤ length ps → length ps ≤ 4 → Each IsGood (names_of ps) → AllFresh [] (names_of ps)
     → breach_of wanted (in_params ops (names_of ps) ps) (items_spelled rest) ≡ None
@@ -59,13 +49,6 @@ params_back [] ops wanted rest k l g f h = absurd (omega arith)
 params_back (p ∷ ps) ops wanted rest k l g f h =
     let more = behind_commas param_text ps (codes ")" ∷ rest) in
     param_back ops [] [] p (Params ∷ wanted) more g.0 f.0 (omega arith) (params_behind ps ops (p.name ∷ []) (p ∷ []) wanted rest g.1 f.1 (omega arith) h)
-
-result_kind_back : (k : Kind) (ops stands : List (List ℕ)) (done : List Param) (n : List ℕ) (wanted : List Wanted) (rest : List (List ℕ))
-    → breach_of wanted (in_body ops (stands ++ n ∷ []) done (param n k)) (items_spelled rest) ≡ None
-    → breach_of (Colon ∷ ResultKind ∷ wanted) (record (in_params ops (stands ++ n ∷ []) done) { naming = Some n }) (items_spelled (codes ":" ∷ kind_text k ∷ rest)) ≡ None
-unfolding breach_of
-result_kind_back Word ops stands done n wanted rest h = h
-result_kind_back Bit ops stands done n wanted rest h = h
 
 pub result_back : (ops stands : List (List ℕ)) (done : List Param) (p : Param) (wanted : List Wanted) (rest : List (List ℕ)) → IsGood p.name → is_among stands p.name ≡ false
     → breach_of wanted (in_body ops (stands ++ p.name ∷ []) done p) (items_spelled rest) ≡ None
@@ -77,4 +60,4 @@ result_back ops stands done p wanted rest g f h =
     named NewResult (Colon ∷ ResultKind ∷ wanted) s p.name more (good_fits p.name g)
     ∙ two_pass (is_bad (spelling_of p.name) p.name) (is_among stands p.name) why.BadName why.Twice
       (record (in_params ops (stands ++ p.name ∷ []) done) { naming = Some p.name }) [] (name_lexeme p.name) (goes (Colon ∷ ResultKind ∷ wanted) more) (good_passes p.name g) f
-    ∙ result_kind_back p.kind ops stands done p.name wanted rest h
+    ∙ result_kind_moves p.kind ops stands done p.name wanted rest ∙ h

@@ -52,10 +52,10 @@ state_moves : (s : Scope) (stands done : List (List ℕ)) (n : List ℕ) (wanted
 state_moves s stands done n wanted items h =
     subst (λ (x : List (List ℕ)). breach_of wanted (record s { op = record s.op { stands = x }; block = (in_states s stands (done ++ n ∷ [])).block }) items ≡ None) (append_assoc stands done (n ∷ [])) h
 
-start_peels : (b : Bool) (s : Scope) (wanted : List Wanted) (rest : List (List ℕ)) → breach_of (Equals ∷ Start ∷ wanted) s (items_spelled (codes "=" ∷ start_text b ∷ rest)) ≡ None → breach_of wanted s (items_spelled rest) ≡ None
+pub start_moves : (b : Bool) (s : Scope) (wanted : List Wanted) (rest : List (List ℕ)) → breach_of (Equals ∷ Start ∷ wanted) s (items_spelled (codes "=" ∷ start_text b ∷ rest)) ≡ breach_of wanted s (items_spelled rest)
 unfolding breach_of
-start_peels false s wanted rest h = h
-start_peels true s wanted rest h = h
+start_moves false s wanted rest = refl
+start_moves true s wanted rest = refl
 
 state_facts : (ops stands : List (List ℕ)) (c : Context) (assigned : Bool) (count : ℕ) (done : List (List ℕ)) (n : List ℕ) → Standing stands c assigned
     → is_bad (spelling_of n) n ≡ false → is_taken_state (in_states (before_block ops stands c assigned count) stands done) n ≡ false
@@ -108,7 +108,7 @@ states_behind (s ∷ ss) ops stands c assigned count done wanted rest n st l h =
     let p = state_peels StateName [] (λ s n o. refl) ops stands c assigned count done s (Equals ∷ Start ∷ MoreStates ∷ wanted) more n.0 st h in
     let e = length-more done s.name in
     let q = states_behind ss ops stands c assigned count (done ++ s.name ∷ []) wanted rest n.1 st (let i = p.2 in omega arith)
-      (start_peels s.start (in_states here stands (done ++ s.name ∷ [])) (MoreStates ∷ wanted) more p.3) in
+      (sym (start_moves s.start (in_states here stands (done ++ s.name ∷ [])) (MoreStates ∷ wanted) more) ∙ p.3) in
     record {
       are = (p.0, q.are);
       fresh = (p.1, q.fresh);
@@ -125,5 +125,5 @@ states_peel (s ∷ ss) ops stands c assigned count wanted rest n st h =
     let more = behind_commas state_text ss (codes ")" ∷ rest) in
     let here = before_block ops stands c assigned count in
     let p = state_peels States (Equals ∷ Start ∷ MoreStates ∷ []) (λ s n o. refl) ops stands c assigned count [] s wanted more n.0 st h in
-    let q = states_behind ss ops stands c assigned count (s.name ∷ []) wanted rest n.1 st (omega arith) (start_peels s.start (in_states here stands (s.name ∷ [])) (MoreStates ∷ wanted) more p.3) in
+    let q = states_behind ss ops stands c assigned count (s.name ∷ []) wanted rest n.1 st (omega arith) (sym (start_moves s.start (in_states here stands (s.name ∷ [])) (MoreStates ∷ wanted) more) ∙ p.3) in
     record { are = (p.0, q.are); fresh = (p.1, q.fresh); few = let i = q.few in omega arith; then = q.then }
