@@ -12,4 +12,5 @@ pub mod Apart
 pub mod Passing
 pub mod MeetingHeads
 pub mod MeetingWords
+pub mod MeetingBlocks
 pub mod Few

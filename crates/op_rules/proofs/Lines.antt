@@ -75,7 +75,7 @@ pub record AllLets (s : Scope) (stands states readable : List (List ℕ)) (count
   pub light : weight + weights es ≤ 24
   pub then : breach_of (Lets ∷ wanted) (in_lines s (stands ++ names_in es) states (readable ++ names_in es) (count + length es) [] (weight + weights es)) (items_spelled rest) ≡ None
 
-lets_move : (s : Scope) (states a b p q : List (List ℕ)) (i j v w : ℕ) → a ≡ b → p ≡ q → i ≡ j → v ≡ w → (wanted : List Wanted) (items : List Item)
+pub lets_move : (s : Scope) (states a b p q : List (List ℕ)) (i j v w : ℕ) → a ≡ b → p ≡ q → i ≡ j → v ≡ w → (wanted : List Wanted) (items : List Item)
     → breach_of wanted (in_lines s a states p i [] v) items ≡ None → breach_of wanted (in_lines s b states q j [] w) items ≡ None
 lets_move s states a b p q i j v w e f g k wanted items h = rw (← e, ← f, ← g, ← k) h
 
@@ -159,7 +159,7 @@ pub record AllAssigns (s : Scope) (stands states readable : List (List ℕ)) (le
   pub light : weight + weights es ≤ 24
   pub then : breach_of (Assigns ∷ wanted) (in_lines s stands states readable lets (done ++ names_in es) (weight + weights es)) (items_spelled rest) ≡ None
 
-assigns_move : (s : Scope) (stands states readable : List (List ℕ)) (lets : ℕ) (a b : List (List ℕ)) (v w : ℕ) → a ≡ b → v ≡ w → (wanted : List Wanted) (items : List Item)
+pub assigns_move : (s : Scope) (stands states readable : List (List ℕ)) (lets : ℕ) (a b : List (List ℕ)) (v w : ℕ) → a ≡ b → v ≡ w → (wanted : List Wanted) (items : List Item)
     → breach_of wanted (in_lines s stands states readable lets a v) items ≡ None → breach_of wanted (in_lines s stands states readable lets b w) items ≡ None
 assigns_move s stands states readable lets a b v w e k wanted items h = rw (← e, ← k) h
 

@@ -124,7 +124,7 @@ fits_back : (r b : Bool) → (r ≡ true → b ≡ true) → (r && not b) ≡ fa
 fits_back true b f = ap not (f refl)
 fits_back false b f = refl
 
-kinds_same : (j k : Kind) → k ≡ j → same_kind j k ≡ true
+pub kinds_same : (j k : Kind) → k ≡ j → same_kind j k ≡ true
 kinds_same Word Word e = refl
 kinds_same Bit Bit e = refl
 kinds_same Word Bit e = cc

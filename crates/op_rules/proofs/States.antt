@@ -46,7 +46,7 @@ state_new st a r b d m e f h = cases a r b d m f (sym (ap (cond (r && b) (d || m
 abbrev pub before_block : List (List ℕ) → List (List ℕ) → Context → Bool → ℕ → Scope
 before_block ops stands c assigned count = at_statement ops stands c assigned (count + 1)
 
-state_moves : (s : Scope) (stands done : List (List ℕ)) (n : List ℕ) (wanted : List Wanted) (items : List Item)
+pub state_moves : (s : Scope) (stands done : List (List ℕ)) (n : List ℕ) (wanted : List Wanted) (items : List Item)
     → breach_of wanted (record (in_states s stands done) { op = record s.op { stands = (stands ++ done) ++ n ∷ [] }; block = (in_states s stands (done ++ n ∷ [])).block }) items ≡ None
     → breach_of wanted (in_states s stands (done ++ n ∷ [])) items ≡ None
 state_moves s stands done n wanted items h =
@@ -89,7 +89,7 @@ pub record AllStates (ops stands : List (List ℕ)) (c : Context) (assigned : Bo
   pub few : length done + length ss ≤ 8
   pub then : breach_of wanted (in_states (before_block ops stands c assigned count) stands (done ++ state_names_of ss)) (items_spelled rest) ≡ None
 
-done_moves : (s : Scope) (stands a b : List (List ℕ)) → a ≡ b → (wanted : List Wanted) (items : List Item) → breach_of wanted (in_states s stands a) items ≡ None → breach_of wanted (in_states s stands b) items ≡ None
+pub done_moves : (s : Scope) (stands a b : List (List ℕ)) → a ≡ b → (wanted : List Wanted) (items : List Item) → breach_of wanted (in_states s stands a) items ≡ None → breach_of wanted (in_states s stands b) items ≡ None
 done_moves s stands a b e wanted items h = subst (λ (x : List (List ℕ)). breach_of wanted (in_states s stands x) items ≡ None) e h
 
 length-more : (done : List (List ℕ)) (n : List ℕ) → length (done ++ n ∷ []) ≡ length done + 1
