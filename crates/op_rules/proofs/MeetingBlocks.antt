@@ -119,3 +119,169 @@ lets_back (e ∷ es) s stands states readable count weight wanted rest g f l m w
     (lets_move s states (stands ++ names_in (e ∷ es)) ((stands ++ e.name ∷ []) ++ names_in es) (readable ++ names_in (e ∷ es)) ((readable ++ e.name ∷ []) ++ names_in es) (count + length (e ∷ es)) (count + 1 + length es)
       (weight + weights (e ∷ es)) (weight + term_weight e.value + weights es) (sym (append_assoc stands (e.name ∷ []) (names_in es))) (sym (append_assoc readable (e.name ∷ []) (names_in es)))
       (omega arith) (omega (arith, k)) (Lets ∷ wanted) (items_spelled rest) h))
+
+-- a target that meets the rules
+record IsTarget (c : Context) (S T : List (List ℕ)) (n : List ℕ) : Type 0 where
+  good : IsGood n
+  word : IsNew S n → IsNewOf (used c ++ T) c.result Word n
+
+target_free : (st u r s t d g : Bool) → st ≡ (((u || r) || s) || t) → (r ≡ true → u ≡ d) → (s ≡ false → (u || t) ≡ false) → g ≡ false → (g || (st && not s && not (r && not d))) ≡ false
+target_free st u r true t d g e f w z = or_both g (st && not true && not (r && not d)) z (no_state st (not (r && not d)))
+  where
+    no_state : (a b : Bool) → (a && not true && b) ≡ false
+    no_state true b = refl
+    no_state false b = refl
+target_free st u r false t d g e f w z =
+    or_both g (st && not false && not (r && not d)) z
+    (ap (λ x. x && not false && not (r && not d)) (e ∙ ap (λ x. ((x || r) || false) || t) (or_first u t (w refl)) ∙ ap (λ x. ((false || r) || false) || x) (or_second u t (w refl)))
+    ∙ cases r d (λ q. sym (f q) ∙ or_first u t (w refl)))
+  where
+    cases : (r d : Bool) → (r ≡ true → d ≡ false) → ((((false || r) || false) || false) && not false && not (r && not d)) ≡ false
+    cases false d f = refl
+    cases true true f = let e = f refl in cc
+    cases true false f = refl
+
+no_bit : (k : Kind) → Word ≡ k → same_kind k Bit ≡ false
+no_bit Word e = refl
+no_bit Bit e = cc
+
+kind_free : (r b s : Bool) → (s ≡ false → r ≡ true → b ≡ false) → ((r && b) && not s) ≡ false
+kind_free true true true f = refl
+kind_free true true false f = let e = f refl refl in cc
+kind_free true false s f = refl
+kind_free false b s f = refl
+
+-- the scope among the assignments of a block with these states and lets
+abbrev in_assigns : List (List ℕ) → List (List ℕ) → Context → Bool → ℕ → List (List ℕ) → List (List ℕ) → ℕ → List (List ℕ) → ℕ → Scope
+in_assigns ops stands c assigned count S T lets done weight = in_lines (before_block ops stands c assigned count) ((stands ++ S) ++ T) S (S ++ T) lets done weight
+
+taken_free : {stands : List (List ℕ)} {c : Context} {assigned : Bool} → Standing stands c assigned → (ops : List (List ℕ)) (count : ℕ) (S T : List (List ℕ)) (lets : ℕ) (done : List (List ℕ)) (weight : ℕ) (n : List ℕ)
+    → IsTarget c S T n → IsNew done n → is_taken_target (in_assigns ops stands c assigned count S T lets done weight) n ≡ false
+taken_free {stands} {c} {assigned} st ops count S T lets done weight n is fresh =
+    target_free (is_among ((stands ++ S) ++ T) n) (is_among (used c) n) (bytes_eq c.result.name n) (is_among S n) (is_among T n) assigned (is_among done n)
+    (among-append (stands ++ S) T n ∙ ap (λ x. x || is_among T n) (among-append stands S n ∙ ap (λ x. x || is_among S n) (st.all n)))
+    (given-at st n) (λ e. sym (among-append (used c) T n) ∙ (is.word e).new) fresh
+
+assign_back : {stands : List (List ℕ)} {c : Context} {assigned : Bool} → Standing stands c assigned → (ops : List (List ℕ)) (count : ℕ) (S T : List (List ℕ)) (lets : ℕ) (done : List (List ℕ)) (weight : ℕ) (e : Equation)
+    (wanted : List Wanted) (rest : List (List ℕ)) → IsTarget c S T e.name → IsNew done e.name → length done < 8 → TermMeets (can_read c.known (S ++ T)) 0 e.value → weight + term_weight e.value ≤ 24
+    → breach_of (Assigns ∷ wanted) (in_assigns ops stands c assigned count S T lets (done ++ e.name ∷ []) (weight + term_weight e.value)) (items_spelled rest) ≡ None
+    → after (step Assigns (in_assigns ops stands c assigned count S T lets done weight) (t.Name (spelling_of e.name)) e.name false) (name_lexeme e.name) (goes wanted (codes "=" ∷ term_text e.value (codes ";" ∷ rest))) ≡ None
+unfolding breach_of
+assign_back {stands} {c} {assigned} st ops count S T lets done weight e wanted rest is fresh few m w h =
+    let s0 = in_assigns ops stands c assigned count S T lets done weight in
+    let s1 = in_assigns ops stands c assigned count S T lets (done ++ e.name ∷ []) weight in
+    let value = codes "=" ∷ term_text e.value (codes ";" ∷ rest) in
+    let r = bytes_eq c.result.name e.name in
+    let kind = kind_free r (same_kind c.result.kind Bit) (is_among S e.name) (λ a q. no_bit c.result.kind ((is.word a).fits (sym (same_name c.result.name e.name q)))) in
+    four_pass (is_bad (spelling_of e.name) e.name) (is_taken_target s0 e.name) (is_bit_result s0 e.name && not (is_among S e.name)) (nat_le 8 (length done)) why.BadName why.Twice why.Kind why.TooMany
+    s1 (Equals ∷ Value ∷ AssignEnd ∷ Assigns ∷ []) (name_lexeme e.name) (goes wanted value) (good_passes e.name is.good) (taken_free st ops count S T lets done weight e.name is fresh) kind (le_passes 8 (length done) few)
+    ∙ accepted e.value s1 0 (AssignEnd ∷ Assigns ∷ wanted) (codes ";" ∷ rest) refl refl m w
+    ∙ h
+
+assigns_behind : (es : List Equation) → {stands : List (List ℕ)} {c : Context} {assigned : Bool} → Standing stands c assigned → (ops : List (List ℕ)) (count : ℕ) (S T : List (List ℕ)) (lets : ℕ) (done : List (List ℕ)) (weight : ℕ)
+    (wanted : List Wanted) (rest : List (List ℕ)) → Each (IsTarget c S T) (names_in es) → AllFresh done (names_in es) → length done + length es ≤ 8
+    → Each (λ (e : Equation). TermMeets (can_read c.known (S ++ T)) 0 e.value) es → weight + weights es ≤ 24
+    → breach_of (Assigns ∷ wanted) (in_assigns ops stands c assigned count S T lets (done ++ names_in es) (weight + weights es)) (items_spelled rest) ≡ None
+    → breach_of (Assigns ∷ wanted) (in_assigns ops stands c assigned count S T lets done weight) (items_spelled (in_turn equation_text es rest)) ≡ None
+assigns_behind [] {stands} {c} {assigned} st ops count S T lets done weight wanted rest is fresh few m w h =
+    assigns_move (before_block ops stands c assigned count) ((stands ++ S) ++ T) S (S ++ T) lets (done ++ []) done (weight + 0) weight (append-nil done) (omega arith) (Assigns ∷ wanted) (items_spelled rest) h
+assigns_behind (e ∷ es) {stands} {c} {assigned} st ops count S T lets done weight wanted rest is fresh few m w h =
+    let k = weights-cons e es in
+    let l = length-append done (e.name ∷ []) in
+    let more = in_turn equation_text es rest in
+    named Assigns wanted (in_assigns ops stands c assigned count S T lets done weight) e.name (codes "=" ∷ term_text e.value (codes ";" ∷ more)) (good_fits e.name is.0.good)
+    ∙ assign_back st ops count S T lets done weight e wanted more is.0 fresh.0 (omega arith) m.0 (omega arith)
+      (assigns_behind es st ops count S T lets (done ++ e.name ∷ []) (weight + term_weight e.value) wanted rest is.1 fresh.1 (omega arith) m.1 (omega arith)
+      (assigns_move (before_block ops stands c assigned count) ((stands ++ S) ++ T) S (S ++ T) lets (done ++ names_in (e ∷ es)) ((done ++ e.name ∷ []) ++ names_in es) (weight + weights (e ∷ es)) (weight + term_weight e.value + weights es)
+        (sym (append_assoc done (e.name ∷ []) (names_in es))) (omega (arith, k)) (Assigns ∷ wanted) (items_spelled rest) h))
+
+assigns_back : (es : List Equation) → {stands : List (List ℕ)} {c : Context} {assigned : Bool} → Standing stands c assigned → (ops : List (List ℕ)) (count : ℕ) (S T : List (List ℕ)) (lets weight : ℕ)
+    (wanted : List Wanted) (rest : List (List ℕ)) → 1 ≤ length es → Each (IsTarget c S T) (names_in es) → AllFresh [] (names_in es) → length es ≤ 8
+    → Each (λ (e : Equation). TermMeets (can_read c.known (S ++ T)) 0 e.value) es → weight + weights es ≤ 24
+    → breach_of (Assigns ∷ wanted) (in_assigns ops stands c assigned count S T lets (names_in es) (weight + weights es)) (items_spelled rest) ≡ None
+    → breach_of (Lets ∷ wanted) (in_assigns ops stands c assigned count S T lets [] weight) (items_spelled (in_turn equation_text es rest)) ≡ None
+assigns_back [] st ops count S T lets weight wanted rest some is fresh few m w h = absurd (omega arith)
+assigns_back (e ∷ es) {stands} {c} {assigned} st ops count S T lets weight wanted rest some is fresh few m w h =
+    let k = weights-cons e es in
+    let more = in_turn equation_text es rest in
+    let value = codes "=" ∷ term_text e.value (codes ";" ∷ more) in
+    let s0 = in_assigns ops stands c assigned count S T lets [] weight in
+    let plain = good_plain e.name is.0.good in
+    named Lets wanted s0 e.name value (good_fits e.name is.0.good)
+    ∙ ap (λ n. after (step Lets s0 (t.Name n) e.name false) (name_lexeme e.name) (goes wanted value)) plain
+    ∙ ap (λ n. after (step Assigns s0 (t.Name n) e.name false) (name_lexeme e.name) (goes wanted value)) (sym plain)
+    ∙ assign_back st ops count S T lets [] weight e wanted more is.0 fresh.0 (omega arith) m.0 (omega arith)
+      (assigns_behind es st ops count S T lets (e.name ∷ []) (weight + term_weight e.value) wanted rest is.1 fresh.1 (omega arith) m.1 (omega arith)
+      (assigns_move (before_block ops stands c assigned count) ((stands ++ S) ++ T) S (S ++ T) lets (names_in (e ∷ es)) (names_in (e ∷ es)) (weight + weights (e ∷ es)) (weight + term_weight e.value + weights es)
+        refl (omega (arith, k)) (Assigns ∷ wanted) (items_spelled rest) h))
+
+each_unfilter : (q : List ℕ → Bool) (P : List ℕ → Type 0) (ns : List (List ℕ)) → Each P (filter (λ n. not (q n)) ns) → Each (λ n. q n ≡ false → P n) ns
+each_unfilter q P [] h = tt
+each_unfilter q P (n ∷ ns) h = (now (q n) h, each_unfilter q P ns (later (q n) h))
+  where
+    now : (b : Bool) → Each P (cond (not b) (n ∷ filter (λ n. not (q n)) ns) (filter (λ n. not (q n)) ns)) → b ≡ false → P n
+    now true h e = cc
+    now false h e = h.0
+    later : (b : Bool) → Each P (cond (not b) (n ∷ filter (λ n. not (q n)) ns) (filter (λ n. not (q n)) ns)) → Each P (filter (λ n. not (q n)) ns)
+    later true h = h
+    later false h = h.1
+
+-- a name among good names is good
+pub good_among : (names : List (List ℕ)) → Each IsGood names → (n : List ℕ) → is_among names n ≡ true → IsGood n
+good_among [] g n h = cc
+good_among (m ∷ names) g n h = cases (bytes_eq m n) refl h (λ k. good_among names g.1 n k)
+  where
+    cases : (b : Bool) → bytes_eq m n ≡ b → (b || is_among names n) ≡ true → (is_among names n ≡ true → IsGood n) → IsGood n
+    cases true e k f = subst (λ (x : List ℕ). IsGood x) (same_name m n e) g.0
+    cases false e k f = f k
+
+target_is : (c : Context) (S T : List (List ℕ)) → Each IsGood S → (n : List ℕ) → (IsNew S n → IsNewOf (used c ++ T) c.result Word n) → IsTarget c S T n
+target_is c S T g n f = record { good = cases (is_among S n) refl; word = f }
+  where
+    cases : (b : Bool) → is_among S n ≡ b → IsGood n
+    cases true e = good_among S g n e
+    cases false e = (f e).good
+
+-- a let is new beside all that stands
+let_new : {stands : List (List ℕ)} {c : Context} {assigned : Bool} → Standing stands c assigned → (S : List (List ℕ)) (n : List ℕ) → IsNewLet (used c ++ S) c.result n → IsNew (stands ++ S) n
+let_new {stands} {c} st S n h =
+    let k = sym (among-append (used c) S n) ∙ h.new in
+    among-append stands S n
+    ∙ or_both (is_among stands n) (is_among S n) (st.all n ∙ or_both (is_among (used c) n) (bytes_eq c.result.name n) (or_first (is_among (used c) n) (is_among S n) k) h.other) (or_second (is_among (used c) n) (is_among S n) k)
+
+none_new : (ns : List (List ℕ)) → Each (IsNew []) ns
+none_new [] = tt
+none_new (n ∷ ns) = (refl, none_new ns)
+
+pub block_back : (b : Block) (ops stands : List (List ℕ)) (c : Context) (assigned : Bool) (count : ℕ) (wanted : List Wanted) (rest : List (List ℕ))
+    → BlockMeets c b → Standing stands c assigned → count < 16 → Goes (Visit b) ops c count wanted rest
+    → breach_of (Stmts ∷ wanted) (at_statement ops stands c assigned count) (items_spelled (statement_text (Visit b) rest)) ≡ None
+unfolding breach_of
+block_back b ops stands c assigned count wanted rest m st l go =
+    let here = before_block ops stands c assigned count in
+    let S = state_names b in
+    let T = let_names b in
+    let W = word_names b in
+    let assigns = in_turn equation_text b.assigns (codes "}" ∷ rest) in
+    let lines = in_turn let_text b.lets assigns in
+    let states = between_commas state_text b.states (codes ")" ∷ codes "{" ∷ lines) in
+    let light = m.light in
+    let few = m.few_lets in
+    let good = each_map (IsNewOf (used c) c.result Bit) IsGood (λ n f. f.good) S m.states in
+    let lets = each_map (IsNewLet (used c ++ S) c.result) (IsNew (stands ++ S)) (λ n f. let_new st S n f) T m.lets in
+    let lets_good = each_map (IsNewLet (used c ++ S) c.result) IsGood (λ n f. f.good) T m.lets in
+    let targets =
+      each_map (λ n. IsNew S n → IsNewOf (used c ++ T) c.result Word n) (IsTarget c S T) (λ n f. target_is c S T good n f) (names_in b.assigns)
+      (each_unfilter (is_among S) (IsNewOf (used c ++ T) c.result Word) (names_in b.assigns) m.words) in
+    let done = (assigned || list_any (λ n. bytes_eq c.result.name n) S) || list_any (λ n. bytes_eq c.result.name n) W in
+    let last = go (((stands ++ S) ++ T) ++ W) done (block_standing st S T W lets) in
+    let end =
+      known_moves (at_statement ops (((stands ++ S) ++ T) ++ W) c done (count + 1)) _ _ (sym (append_assoc c.known (map (λ n. param n Bit) S) (map (λ n. param n Word) W))) (Stmts ∷ wanted) (items_spelled rest) last in
+    let a =
+      assigns_back b.assigns st ops count S T (0 + length b.lets) (0 + weights b.lets) (Stmts ∷ wanted) (codes "}" ∷ rest) m.has_assigns targets
+      (differ-fresh [] (names_in b.assigns) (none_new (names_in b.assigns)) m.targets_differ) m.few_assigns m.values_read (omega arith) end in
+    let i = lets_back b.lets here (stands ++ S) S S 0 0 (Stmts ∷ wanted) assigns lets_good (differ-fresh (stands ++ S) T lets m.lets_differ) (omega arith) m.lets_read (omega arith) a in
+    let q = states_back b.states ops stands c assigned count (Begin ∷ Lets ∷ Stmts ∷ wanted) (codes "{" ∷ lines) st m.states (differ-fresh [] S (none_new S) m.states_differ) m.few_states i in
+    one_pass (nat_le 16 count) why.TooMany here (Direction ∷ Open ∷ States ∷ Begin ∷ Lets ∷ Stmts ∷ []) (name_lexeme (codes "serial")) (goes wanted (direction_text b.down ∷ codes "(" ∷ states)) (le_passes 16 count l)
+    ∙ direction_moves b.down here (States ∷ Begin ∷ Lets ∷ Stmts ∷ wanted) states
+    ∙ stands_move here (stands ++ []) stands (append-nil stands) (States ∷ Begin ∷ Lets ∷ Stmts ∷ wanted) (items_spelled states) q
