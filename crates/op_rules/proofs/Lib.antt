@@ -13,4 +13,5 @@ pub mod Passing
 pub mod MeetingHeads
 pub mod MeetingWords
 pub mod MeetingBlocks
+pub mod MeetingOps
 pub mod Few

@@ -121,9 +121,9 @@ lets_back (e ∷ es) s stands states readable count weight wanted rest g f l m w
       (omega arith) (omega (arith, k)) (Lets ∷ wanted) (items_spelled rest) h))
 
 -- a target that meets the rules
-record IsTarget (c : Context) (S T : List (List ℕ)) (n : List ℕ) : Type 0 where
-  good : IsGood n
-  word : IsNew S n → IsNewOf (used c ++ T) c.result Word n
+pub record IsTarget (c : Context) (S T : List (List ℕ)) (n : List ℕ) : Type 0 where
+  pub good : IsGood n
+  pub word : IsNew S n → IsNewOf (used c ++ T) c.result Word n
 
 target_free : (st u r s t d g : Bool) → st ≡ (((u || r) || s) || t) → (r ≡ true → u ≡ d) → (s ≡ false → (u || t) ≡ false) → g ≡ false → (g || (st && not s && not (r && not d))) ≡ false
 target_free st u r true t d g e f w z = or_both g (st && not true && not (r && not d)) z (no_state st (not (r && not d)))
@@ -242,6 +242,14 @@ target_is c S T g n f = record { good = cases (is_among S n) refl; word = f }
     cases true e = good_among S g n e
     cases false e = (f e).good
 
+pub targets_are : (c : Context) (b : Block) → BlockMeets c b → Each (IsTarget c (state_names b) (let_names b)) (names_in b.assigns)
+targets_are c b m =
+    let S = state_names b in
+    let T = let_names b in
+    let good = each_map (IsNewOf (used c) c.result Bit) IsGood (λ n f. f.good) S m.states in
+    each_map (λ n. IsNew S n → IsNewOf (used c ++ T) c.result Word n) (IsTarget c S T) (λ n f. target_is c S T good n f) (names_in b.assigns)
+    (each_unfilter (is_among S) (IsNewOf (used c ++ T) c.result Word) (names_in b.assigns) m.words)
+
 -- a let is new beside all that stands
 let_new : {stands : List (List ℕ)} {c : Context} {assigned : Bool} → Standing stands c assigned → (S : List (List ℕ)) (n : List ℕ) → IsNewLet (used c ++ S) c.result n → IsNew (stands ++ S) n
 let_new {stands} {c} st S n h =
@@ -249,7 +257,7 @@ let_new {stands} {c} st S n h =
     among-append stands S n
     ∙ or_both (is_among stands n) (is_among S n) (st.all n ∙ or_both (is_among (used c) n) (bytes_eq c.result.name n) (or_first (is_among (used c) n) (is_among S n) k) h.other) (or_second (is_among (used c) n) (is_among S n) k)
 
-none_new : (ns : List (List ℕ)) → Each (IsNew []) ns
+pub none_new : (ns : List (List ℕ)) → Each (IsNew []) ns
 none_new [] = tt
 none_new (n ∷ ns) = (refl, none_new ns)
 
@@ -267,18 +275,14 @@ block_back b ops stands c assigned count wanted rest m st l go =
     let states = between_commas state_text b.states (codes ")" ∷ codes "{" ∷ lines) in
     let light = m.light in
     let few = m.few_lets in
-    let good = each_map (IsNewOf (used c) c.result Bit) IsGood (λ n f. f.good) S m.states in
     let lets = each_map (IsNewLet (used c ++ S) c.result) (IsNew (stands ++ S)) (λ n f. let_new st S n f) T m.lets in
     let lets_good = each_map (IsNewLet (used c ++ S) c.result) IsGood (λ n f. f.good) T m.lets in
-    let targets =
-      each_map (λ n. IsNew S n → IsNewOf (used c ++ T) c.result Word n) (IsTarget c S T) (λ n f. target_is c S T good n f) (names_in b.assigns)
-      (each_unfilter (is_among S) (IsNewOf (used c ++ T) c.result Word) (names_in b.assigns) m.words) in
     let done = (assigned || list_any (λ n. bytes_eq c.result.name n) S) || list_any (λ n. bytes_eq c.result.name n) W in
     let last = go (((stands ++ S) ++ T) ++ W) done (block_standing st S T W lets) in
     let end =
       known_moves (at_statement ops (((stands ++ S) ++ T) ++ W) c done (count + 1)) _ _ (sym (append_assoc c.known (map (λ n. param n Bit) S) (map (λ n. param n Word) W))) (Stmts ∷ wanted) (items_spelled rest) last in
     let a =
-      assigns_back b.assigns st ops count S T (0 + length b.lets) (0 + weights b.lets) (Stmts ∷ wanted) (codes "}" ∷ rest) m.has_assigns targets
+      assigns_back b.assigns st ops count S T (0 + length b.lets) (0 + weights b.lets) (Stmts ∷ wanted) (codes "}" ∷ rest) m.has_assigns (targets_are c b m)
       (differ-fresh [] (names_in b.assigns) (none_new (names_in b.assigns)) m.targets_differ) m.few_assigns m.values_read (omega arith) end in
     let i = lets_back b.lets here (stands ++ S) S S 0 0 (Stmts ∷ wanted) assigns lets_good (differ-fresh (stands ++ S) T lets m.lets_differ) (omega arith) m.lets_read (omega arith) a in
     let q = states_back b.states ops stands c assigned count (Begin ∷ Lets ∷ Stmts ∷ wanted) (codes "{" ∷ lines) st m.states (differ-fresh [] S (none_new S) m.states_differ) m.few_states i in
