@@ -1,26 +1,25 @@
 -- A block that breaks no rule meets the rules.
-use Rattle.std.proofs.Common.{◌≡◌, ℕ, ◌+◌, ◌<◌, ◌≤◌, Bool, true, false, not, ◌||◌, ◌&&◌, nat_le, List, [], ◌∷◌, ◌++◌, map, length, arith, Option, Some, None, refl, sym, ap, ◌∙◌, codes, subst, append_assoc, append-nil, bytes_eq, cond}
+use Rattle.std.proofs.Common.{◌≡◌, ℕ, ◌+◌, Bool, true, false, not, ◌||◌, ◌&&◌, nat_le, List, [], ◌∷◌, ◌++◌, map, length, arith, None, refl, sym, ap, ◌∙◌, codes, subst, append_assoc, append-nil, bytes_eq, cond}
 use Rattle.std.specs.List.{filter, list_any}
-use Rattle.std.proofs.lemmas.List.{map-append}
 use Rattle.text_lex.specs.Lexical.{Item}
 use Rattle.op_text.specs.declared.fault.OpsKind.TheVariants as why
 use Rattle.op_text.specs.declared.tree.Kind.{Kind}
 use Rattle.op_text.specs.declared.tree.Kind.TheVariants.{Word, Bit}
 use Rattle.op_text.specs.declared.tree.Param.{Param}
 use Rattle.op_text.specs.declared.grammar.Wanted.{Wanted}
-use Rattle.op_text.specs.declared.grammar.Wanted.TheVariants.{Stmts, Direction, Open, States, Begin, Lets, Assigns}
+use Rattle.op_text.specs.declared.grammar.Wanted.TheVariants.{Stmts, Direction, Open, States, Begin, Lets}
 use Rattle.op_text.specs.WordOps.{same_kind}
-use Rattle.op_text.specs.Rules.{Scope, breach_of, is_among, new_block}
-use Rattle.op_text.specs.Language.{Equation, Block, Visit}
+use Rattle.op_text.specs.Rules.{Scope, breach_of, is_among}
+use Rattle.op_text.specs.Language.{Block, Visit}
 use Rattle.op_text.specs.Scratch.{param, state_names, word_names}
 use Rattle.op_text.specs.Spelling.{items_spelled, direction_text, between_commas, in_turn, state_text, let_text, equation_text, statement_text, Each, HasStatement}
-use Rattle.op_rules.specs.Meets.{IsGood, IsNew, IsNewOf, IsNewLet, Context, used, names_of, let_names, BlockMeets, behind}
+use Rattle.op_rules.specs.Meets.{IsGood, IsNew, IsNewOf, IsNewLet, Context, used, names_of, let_names}
 use Rattle.op_rules.proofs.Names.{is_same, same_name, turned, among-append, or_first, or_second, or_both, each_both, fresh-new, fresh-differ}
 use Rattle.op_rules.proofs.Tokens.{goes, name_lexeme, one_rule, le_no}
 use Rattle.op_rules.proofs.Standing.{Standing, given-at, standing-more, names-append, more_context}
-use Rattle.op_rules.proofs.Words.{at_statement, BehindStatement, same_kinds}
-use Rattle.op_rules.proofs.States.{in_states, before_block, AllStates, states_peel}
-use Rattle.op_rules.proofs.Lines.{names_in, weights, in_lines, AllLets, lets_peel, AllAssigns, assigns_peel, TargetFacts}
+use Rattle.op_rules.proofs.Words.{at_statement, BehindStatement}
+use Rattle.op_rules.proofs.States.{before_block, states_peel}
+use Rattle.op_rules.proofs.Lines.{names_in, weights, in_lines, lets_peel, assigns_peel, TargetFacts}
 
 pub direction_moves : (down : Bool) (s : Scope) (wanted : List Wanted) (rest : List (List ℕ))
     → breach_of (Direction ∷ Open ∷ wanted) s (items_spelled (direction_text down ∷ codes "(" ∷ rest)) ≡ breach_of wanted s (items_spelled rest)
@@ -138,7 +137,7 @@ target_facts : {stands : List (List ℕ)} {c : Context} {assigned : Bool} → St
 target_facts {stands} {c} {assigned} st ops count S T h lets done weight n f z =
     let r = bytes_eq c.result.name n in
     let e =
-      among-append (stands ++ S) T n ∙ ap (λ x. x || is_among T n) (among-append stands S n ∙ ap (λ x. x || is_among S n) (st.all n)) in
+    among-append (stands ++ S) T n ∙ ap (λ x. x || is_among T n) (among-append stands S n ∙ ap (λ x. x || is_among S n) (st.all n)) in
     let other : r ≡ true → is_among T n ≡ false = λ q. ap (is_among T) (sym (same_name c.result.name n q)) ∙ lets_other st S T h in
     record {
       good = f.good;
@@ -175,8 +174,8 @@ block_peels b ops stands c assigned count wanted rest n st h =
     let new = fresh-new (stands ++ S) T l.fresh in
     let P : List ℕ → Type 0 = λ n. is_among S n ≡ false → IsNewOf (used c ++ T) c.result Word n in
     let e =
-      assigns_peel b.assigns here ((stands ++ S) ++ T) S (S ++ T) (0 + length b.lets) (0 + weights b.lets) (Stmts ∷ wanted) rest P
-      (λ done weight n f. target_facts st ops count S T new (0 + length b.lets) done weight n f) n.2 l.light l.then in
+    assigns_peel b.assigns here ((stands ++ S) ++ T) S (S ++ T) (0 + length b.lets) (0 + weights b.lets) (Stmts ∷ wanted) rest P
+    (λ done weight n f. target_facts st ops count S T new (0 + length b.lets) done weight n f) n.2 l.light l.then in
     let g = e.1 in
     record {
       meets = record {

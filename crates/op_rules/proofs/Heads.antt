@@ -1,5 +1,5 @@
 -- The head of an op: its name, its sources and its result.
-use Rattle.std.proofs.Common.{◌≡◌, ℕ, ◌+◌, ◌<◌, ◌≤◌, Bool, true, false, ◌||◌, nat_le, List, [], ◌∷◌, ◌++◌, map, length, arith, Some, None, refl, sym, ap, ◌∙◌, codes, subst, append_assoc, append-nil, bytes_eq}
+use Rattle.std.proofs.Common.{◌≡◌, ℕ, ◌+◌, ◌<◌, ◌≤◌, false, nat_le, List, [], ◌∷◌, ◌++◌, length, arith, Some, None, refl, sym, ◌∙◌, codes, append_assoc, append-nil}
 use Rattle.std.proofs.lemmas.List.{length-append}
 use Rattle.text_lex.specs.Lexical.{Item}
 use Rattle.op_text.specs.declared.fault.OpsKind.TheVariants as why
@@ -47,8 +47,8 @@ param_peels ops stands done p wanted rest n h =
     let s = in_params ops stands done in
     let g = sym (named NewParam (Colon ∷ ParamKind ∷ wanted) s p.name more n) ∙ h in
     let k =
-      three_rules (is_bad (spelling_of p.name) p.name) (is_among stands p.name) (nat_le 4 (length done)) why.BadName why.Twice why.TooMany
-      (record s { naming = Some p.name }) [] (name_lexeme p.name) (goes (Colon ∷ ParamKind ∷ wanted) more) g in
+    three_rules (is_bad (spelling_of p.name) p.name) (is_among stands p.name) (nat_le 4 (length done)) why.BadName why.Twice why.TooMany
+    (record s { naming = Some p.name }) [] (name_lexeme p.name) (goes (Colon ∷ ParamKind ∷ wanted) more) g in
     record { good = not_bad p.name k.0; fresh = k.1; few = le_no 4 (length done) k.2; then = sym (param_kind p.kind ops stands done p.name wanted rest) ∙ k.3 }
 
 pub record AllParams (ops stands : List (List ℕ)) (done ps : List Param) (wanted : List Wanted) (rest : List (List ℕ)) : Type 0 where
@@ -122,6 +122,6 @@ result_peels ops stands done p wanted rest n h =
     let s = in_params ops stands done in
     let g = sym (named NewResult (Colon ∷ ResultKind ∷ wanted) s p.name more n) ∙ h in
     let k =
-      two_rules (is_bad (spelling_of p.name) p.name) (is_among stands p.name) why.BadName why.Twice
-      (record (in_params ops (stands ++ p.name ∷ []) done) { naming = Some p.name }) [] (name_lexeme p.name) (goes (Colon ∷ ResultKind ∷ wanted) more) g in
+    two_rules (is_bad (spelling_of p.name) p.name) (is_among stands p.name) why.BadName why.Twice
+    (record (in_params ops (stands ++ p.name ∷ []) done) { naming = Some p.name }) [] (name_lexeme p.name) (goes (Colon ∷ ResultKind ∷ wanted) more) g in
     (not_bad p.name k.0, k.1, sym (result_kind_moves p.kind ops stands done p.name wanted rest) ∙ k.2)

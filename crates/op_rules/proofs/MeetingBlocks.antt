@@ -1,18 +1,15 @@
 -- A block that meets the rules breaks none.
-use Rattle.std.proofs.Common.{◌≡◌, ℕ, ◌+◌, ◌<◌, ◌≤◌, Bool, true, false, not, ◌||◌, ◌&&◌, nat_le, List, [], ◌∷◌, ◌++◌, map, length, arith, Option, Some, None, refl, sym, ap, ◌∙◌, codes, subst, append_assoc, append-nil, bytes_eq, cond}
+use Rattle.std.proofs.Common.{◌≡◌, ℕ, ◌+◌, ◌<◌, ◌≤◌, Bool, true, false, not, ◌||◌, ◌&&◌, nat_le, List, [], ◌∷◌, ◌++◌, map, length, arith, Some, None, refl, sym, ap, ◌∙◌, codes, subst, append_assoc, append-nil, bytes_eq, cond}
 use Rattle.std.specs.List.{filter, list_any}
 use Rattle.std.proofs.lemmas.List.{length-append}
-use Rattle.text_lex.specs.Lexical.{Item}
 use Rattle.op_text.specs.declared.fault.OpsKind.TheVariants as why
 use Rattle.op_text.specs.declared.terminal.Terminal.TheVariants as t
-use Rattle.op_text.specs.declared.terminal.Spelling.TheVariants as sp
 use Rattle.op_text.specs.declared.tree.Kind.{Kind}
 use Rattle.op_text.specs.declared.tree.Kind.TheVariants.{Word, Bit}
 use Rattle.op_text.specs.declared.tree.State.{State}
-use Rattle.op_text.specs.declared.tree.Param.{Param}
 use Rattle.op_text.specs.declared.grammar.Wanted.{Wanted}
 use Rattle.op_text.specs.declared.grammar.Wanted.TheVariants.{Stmts, Direction, Open, States, StateName, Start, MoreStates, Begin, Lets, LetName, LetEnd, AssignEnd, Assigns, Value, Equals}
-use Rattle.op_text.specs.Items.{spelling_of, opens}
+use Rattle.op_text.specs.Items.{spelling_of}
 use Rattle.op_text.specs.WordOps.{same_kind}
 use Rattle.op_text.specs.Rules.{Scope, breach_of, is_bad, is_among, is_taken_state, is_taken_target, is_bit_result, state_rules, step, after, with_rules}
 use Rattle.op_text.specs.Language.{Equation, Block, Visit}
@@ -20,15 +17,15 @@ use Rattle.op_text.specs.Scratch.{term_weight, param, state_names, word_names}
 use Rattle.op_text.specs.Spelling.{items_spelled, term_text, start_text, direction_text, between_commas, behind_commas, in_turn, state_text, let_text, equation_text, statement_text, Each, TermMeets}
 use Rattle.op_text.proofs.Accepted.{accepted}
 use Rattle.op_rules.specs.Meets.{IsGood, IsNew, IsNewOf, IsNewLet, Context, used, let_names, BlockMeets, LetsRead, can_read}
-use Rattle.op_rules.proofs.Names.{AllFresh, is_same, same_name, among-append, or_first, or_second, or_both, each_map, each_both, differ-fresh}
+use Rattle.op_rules.proofs.Names.{AllFresh, same_name, among-append, or_first, or_second, or_both, each_map, differ-fresh}
 use Rattle.op_rules.proofs.Tokens.{goes, name_lexeme, named}
 use Rattle.op_rules.proofs.Passing.{one_pass, two_pass, three_pass, four_pass, good_passes, good_fits, good_plain, le_passes}
 use Rattle.op_rules.proofs.Standing.{Standing, given-at}
 use Rattle.op_rules.proofs.Words.{at_statement}
 use Rattle.op_rules.proofs.MeetingWords.{Goes, kinds_same}
-use Rattle.op_rules.proofs.States.{in_states, before_block, state_names_of, done_moves, state_moves, start_moves}
+use Rattle.op_rules.proofs.States.{in_states, before_block, state_names_of, done_moves, start_moves}
 use Rattle.op_rules.proofs.Lines.{names_in, weights, weights-cons, in_lines, naming, lets_move, assigns_move}
-use Rattle.op_rules.proofs.Blocks.{direction_moves, block_standing, lets_other, stands_move, known_moves}
+use Rattle.op_rules.proofs.Blocks.{direction_moves, block_standing, stands_move, known_moves}
 
 not_both : (b : Bool) → b ≡ true → b ≡ false → ⊥
 not_both true g h = cc
@@ -54,13 +51,13 @@ state_back w front same ops stands c assigned count done s wanted rest st is fre
     let more = codes "=" ∷ start_text s.start ∷ rest in
     let r = bytes_eq c.result.name s.name in
     let free =
-      state_free (is_among (stands ++ done) s.name) (is_among (used c) s.name) r (same_kind c.result.kind Bit) assigned (is_among done s.name)
-      (among-append stands done s.name ∙ ap (λ x. x || is_among done s.name) (st.all s.name)) (given-at st s.name) is.new fresh
-      (λ q. kinds_same c.result.kind Bit (is.fits (sym (same_name c.result.name s.name q)))) in
+    state_free (is_among (stands ++ done) s.name) (is_among (used c) s.name) r (same_kind c.result.kind Bit) assigned (is_among done s.name)
+    (among-append stands done s.name ∙ ap (λ x. x || is_among done s.name) (st.all s.name)) (given-at st s.name) is.new fresh
+    (λ q. kinds_same c.result.kind Bit (is.fits (sym (same_name c.result.name s.name q)))) in
     named w wanted here s.name more (good_fits s.name is.good) ∙ ap (λ x. after x (name_lexeme s.name) (goes wanted more)) (same here s.name _)
     ∙ three_pass (is_bad (spelling_of s.name) s.name) (is_taken_state here s.name) (nat_le 8 (length done)) why.BadName why.Twice why.TooMany
-      (record here { op = record here.op { stands = (stands ++ done) ++ s.name ∷ [] }; block = (in_states here stands (done ++ s.name ∷ [])).block }) front (name_lexeme s.name) (goes wanted more)
-      (good_passes s.name is.good) free (le_passes 8 (length done) few)
+    (record here { op = record here.op { stands = (stands ++ done) ++ s.name ∷ [] }; block = (in_states here stands (done ++ s.name ∷ [])).block }) front (name_lexeme s.name) (goes wanted more)
+    (good_passes s.name is.good) free (le_passes 8 (length done) few)
     ∙ ap (λ (x : List (List ℕ)). breach_of (front ++ wanted) (record base { op = record base.op { stands = x }; block = (in_states base stands (done ++ s.name ∷ [])).block }) (items_spelled more)) (append_assoc stands done (s.name ∷ []))
     ∙ h
 
@@ -77,7 +74,7 @@ states_behind (s ∷ ss) ops stands c assigned count done wanted rest st is fres
     state_back StateName [] (λ s n o. refl) ops stands c assigned count done s (Equals ∷ Start ∷ MoreStates ∷ wanted) more st is.0 fresh.0 (omega arith)
     (start_moves s.start (in_states here stands (done ++ s.name ∷ [])) (MoreStates ∷ wanted) more
     ∙ states_behind ss ops stands c assigned count (done ++ s.name ∷ []) wanted rest st is.1 fresh.1 (omega arith)
-      (done_moves here stands (done ++ state_names_of (s ∷ ss)) ((done ++ s.name ∷ []) ++ state_names_of ss) (sym (append_assoc done (s.name ∷ []) (state_names_of ss))) wanted (items_spelled rest) h))
+    (done_moves here stands (done ++ state_names_of (s ∷ ss)) ((done ++ s.name ∷ []) ++ state_names_of ss) (sym (append_assoc done (s.name ∷ []) (state_names_of ss))) wanted (items_spelled rest) h))
 
 states_back : (ss : List State) (ops stands : List (List ℕ)) (c : Context) (assigned : Bool) (count : ℕ) (wanted : List Wanted) (rest : List (List ℕ)) → Standing stands c assigned
     → Each (IsNewOf (used c) c.result Bit) (state_names_of ss) → AllFresh [] (state_names_of ss) → length ss ≤ 8
@@ -117,8 +114,8 @@ lets_back (e ∷ es) s stands states readable count weight wanted rest g f l m w
     let_back s stands states readable count weight e wanted (in_turn let_text es rest) g.0 f.0 (omega arith) m.0 (omega arith)
     (lets_back es s (stands ++ e.name ∷ []) states (readable ++ e.name ∷ []) (count + 1) (weight + term_weight e.value) wanted rest g.1 f.1 (omega arith) m.1 (omega arith)
     (lets_move s states (stands ++ names_in (e ∷ es)) ((stands ++ e.name ∷ []) ++ names_in es) (readable ++ names_in (e ∷ es)) ((readable ++ e.name ∷ []) ++ names_in es) (count + length (e ∷ es)) (count + 1 + length es)
-      (weight + weights (e ∷ es)) (weight + term_weight e.value + weights es) (sym (append_assoc stands (e.name ∷ []) (names_in es))) (sym (append_assoc readable (e.name ∷ []) (names_in es)))
-      (omega arith) (omega (arith, k)) (Lets ∷ wanted) (items_spelled rest) h))
+    (weight + weights (e ∷ es)) (weight + term_weight e.value + weights es) (sym (append_assoc stands (e.name ∷ []) (names_in es))) (sym (append_assoc readable (e.name ∷ []) (names_in es)))
+    (omega arith) (omega (arith, k)) (Lets ∷ wanted) (items_spelled rest) h))
 
 -- a target that meets the rules
 pub record IsTarget (c : Context) (S T : List (List ℕ)) (n : List ℕ) : Type 0 where
@@ -191,9 +188,9 @@ assigns_behind (e ∷ es) {stands} {c} {assigned} st ops count S T lets done wei
     let more = in_turn equation_text es rest in
     named Assigns wanted (in_assigns ops stands c assigned count S T lets done weight) e.name (codes "=" ∷ term_text e.value (codes ";" ∷ more)) (good_fits e.name is.0.good)
     ∙ assign_back st ops count S T lets done weight e wanted more is.0 fresh.0 (omega arith) m.0 (omega arith)
-      (assigns_behind es st ops count S T lets (done ++ e.name ∷ []) (weight + term_weight e.value) wanted rest is.1 fresh.1 (omega arith) m.1 (omega arith)
-      (assigns_move (before_block ops stands c assigned count) ((stands ++ S) ++ T) S (S ++ T) lets (done ++ names_in (e ∷ es)) ((done ++ e.name ∷ []) ++ names_in es) (weight + weights (e ∷ es)) (weight + term_weight e.value + weights es)
-        (sym (append_assoc done (e.name ∷ []) (names_in es))) (omega (arith, k)) (Assigns ∷ wanted) (items_spelled rest) h))
+    (assigns_behind es st ops count S T lets (done ++ e.name ∷ []) (weight + term_weight e.value) wanted rest is.1 fresh.1 (omega arith) m.1 (omega arith)
+    (assigns_move (before_block ops stands c assigned count) ((stands ++ S) ++ T) S (S ++ T) lets (done ++ names_in (e ∷ es)) ((done ++ e.name ∷ []) ++ names_in es) (weight + weights (e ∷ es)) (weight + term_weight e.value + weights es)
+    (sym (append_assoc done (e.name ∷ []) (names_in es))) (omega (arith, k)) (Assigns ∷ wanted) (items_spelled rest) h))
 
 assigns_back : (es : List Equation) → {stands : List (List ℕ)} {c : Context} {assigned : Bool} → Standing stands c assigned → (ops : List (List ℕ)) (count : ℕ) (S T : List (List ℕ)) (lets weight : ℕ)
     (wanted : List Wanted) (rest : List (List ℕ)) → 1 ≤ length es → Each (IsTarget c S T) (names_in es) → AllFresh [] (names_in es) → length es ≤ 8
@@ -211,9 +208,9 @@ assigns_back (e ∷ es) {stands} {c} {assigned} st ops count S T lets weight wan
     ∙ ap (λ n. after (step Lets s0 (t.Name n) e.name false) (name_lexeme e.name) (goes wanted value)) plain
     ∙ ap (λ n. after (step Assigns s0 (t.Name n) e.name false) (name_lexeme e.name) (goes wanted value)) (sym plain)
     ∙ assign_back st ops count S T lets [] weight e wanted more is.0 fresh.0 (omega arith) m.0 (omega arith)
-      (assigns_behind es st ops count S T lets (e.name ∷ []) (weight + term_weight e.value) wanted rest is.1 fresh.1 (omega arith) m.1 (omega arith)
-      (assigns_move (before_block ops stands c assigned count) ((stands ++ S) ++ T) S (S ++ T) lets (names_in (e ∷ es)) (names_in (e ∷ es)) (weight + weights (e ∷ es)) (weight + term_weight e.value + weights es)
-        refl (omega (arith, k)) (Assigns ∷ wanted) (items_spelled rest) h))
+    (assigns_behind es st ops count S T lets (e.name ∷ []) (weight + term_weight e.value) wanted rest is.1 fresh.1 (omega arith) m.1 (omega arith)
+    (assigns_move (before_block ops stands c assigned count) ((stands ++ S) ++ T) S (S ++ T) lets (names_in (e ∷ es)) (names_in (e ∷ es)) (weight + weights (e ∷ es)) (weight + term_weight e.value + weights es)
+    refl (omega (arith, k)) (Assigns ∷ wanted) (items_spelled rest) h))
 
 each_unfilter : (q : List ℕ → Bool) (P : List ℕ → Type 0) (ns : List (List ℕ)) → Each P (filter (λ n. not (q n)) ns) → Each (λ n. q n ≡ false → P n) ns
 each_unfilter q P [] h = tt
@@ -222,6 +219,7 @@ each_unfilter q P (n ∷ ns) h = (now (q n) h, each_unfilter q P ns (later (q n)
     now : (b : Bool) → Each P (cond (not b) (n ∷ filter (λ n. not (q n)) ns) (filter (λ n. not (q n)) ns)) → b ≡ false → P n
     now true h e = cc
     now false h e = h.0
+
     later : (b : Bool) → Each P (cond (not b) (n ∷ filter (λ n. not (q n)) ns) (filter (λ n. not (q n)) ns)) → Each P (filter (λ n. not (q n)) ns)
     later true h = h
     later false h = h.1
@@ -280,10 +278,10 @@ block_back b ops stands c assigned count wanted rest m st l go =
     let done = (assigned || list_any (λ n. bytes_eq c.result.name n) S) || list_any (λ n. bytes_eq c.result.name n) W in
     let last = go (((stands ++ S) ++ T) ++ W) done (block_standing st S T W lets) in
     let end =
-      known_moves (at_statement ops (((stands ++ S) ++ T) ++ W) c done (count + 1)) _ _ (sym (append_assoc c.known (map (λ n. param n Bit) S) (map (λ n. param n Word) W))) (Stmts ∷ wanted) (items_spelled rest) last in
+    known_moves (at_statement ops (((stands ++ S) ++ T) ++ W) c done (count + 1)) _ _ (sym (append_assoc c.known (map (λ n. param n Bit) S) (map (λ n. param n Word) W))) (Stmts ∷ wanted) (items_spelled rest) last in
     let a =
-      assigns_back b.assigns st ops count S T (0 + length b.lets) (0 + weights b.lets) (Stmts ∷ wanted) (codes "}" ∷ rest) m.has_assigns (targets_are c b m)
-      (differ-fresh [] (names_in b.assigns) (none_new (names_in b.assigns)) m.targets_differ) m.few_assigns m.values_read (omega arith) end in
+    assigns_back b.assigns st ops count S T (0 + length b.lets) (0 + weights b.lets) (Stmts ∷ wanted) (codes "}" ∷ rest) m.has_assigns (targets_are c b m)
+    (differ-fresh [] (names_in b.assigns) (none_new (names_in b.assigns)) m.targets_differ) m.few_assigns m.values_read (omega arith) end in
     let i = lets_back b.lets here (stands ++ S) S S 0 0 (Stmts ∷ wanted) assigns lets_good (differ-fresh (stands ++ S) T lets m.lets_differ) (omega arith) m.lets_read (omega arith) a in
     let q = states_back b.states ops stands c assigned count (Begin ∷ Lets ∷ Stmts ∷ wanted) (codes "{" ∷ lines) st m.states (differ-fresh [] S (none_new S) m.states_differ) m.few_states i in
     one_pass (nat_le 16 count) why.TooMany here (Direction ∷ Open ∷ States ∷ Begin ∷ Lets ∷ Stmts ∷ []) (name_lexeme (codes "serial")) (goes wanted (direction_text b.down ∷ codes "(" ∷ states)) (le_passes 16 count l)

@@ -1,16 +1,12 @@
 -- The head of an op that meets the rules breaks none.
-use Rattle.std.proofs.Common.{◌≡◌, ℕ, ◌+◌, ◌<◌, ◌≤◌, Bool, true, false, ◌||◌, nat_le, List, [], ◌∷◌, ◌++◌, map, length, arith, Some, None, refl, sym, ap, ◌∙◌, codes, subst, append_assoc, append-nil, bytes_eq}
+use Rattle.std.proofs.Common.{◌≡◌, ℕ, ◌+◌, ◌<◌, ◌≤◌, false, nat_le, List, [], ◌∷◌, ◌++◌, length, arith, Some, None, sym, ◌∙◌, codes, append_assoc, append-nil}
 use Rattle.std.proofs.lemmas.List.{length-append}
-use Rattle.text_lex.specs.Lexical.{Item}
 use Rattle.op_text.specs.declared.fault.OpsKind.TheVariants as why
-use Rattle.op_text.specs.declared.tree.Kind.{Kind}
-use Rattle.op_text.specs.declared.tree.Kind.TheVariants.{Word, Bit}
 use Rattle.op_text.specs.declared.tree.Param.{Param}
 use Rattle.op_text.specs.declared.grammar.Wanted.{Wanted}
 use Rattle.op_text.specs.declared.grammar.Wanted.TheVariants.{NewParam, ParamKind, Params, NewResult, ResultKind, Colon}
 use Rattle.op_text.specs.Items.{spelling_of}
 use Rattle.op_text.specs.Rules.{breach_of, is_bad, is_among}
-use Rattle.op_text.specs.Scratch.{param}
 use Rattle.op_text.specs.Spelling.{items_spelled, kind_text, between_commas, behind_commas, param_text, Each}
 use Rattle.op_rules.specs.Meets.{IsGood, names_of}
 use Rattle.op_rules.proofs.Names.{AllFresh}
@@ -27,7 +23,7 @@ param_back ops stands done p wanted rest g f l h =
     let s = in_params ops stands done in
     named NewParam (Colon ∷ ParamKind ∷ wanted) s p.name more (good_fits p.name g)
     ∙ three_pass (is_bad (spelling_of p.name) p.name) (is_among stands p.name) (nat_le 4 (length done)) why.BadName why.Twice why.TooMany
-      (record s { naming = Some p.name }) [] (name_lexeme p.name) (goes (Colon ∷ ParamKind ∷ wanted) more) (good_passes p.name g) f (le_passes 4 (length done) l)
+    (record s { naming = Some p.name }) [] (name_lexeme p.name) (goes (Colon ∷ ParamKind ∷ wanted) more) (good_passes p.name g) f (le_passes 4 (length done) l)
     ∙ param_kind p.kind ops stands done p.name wanted rest ∙ h
 
 params_behind : (ps : List Param) (ops stands : List (List ℕ)) (done : List Param) (wanted : List Wanted) (rest : List (List ℕ)) → Each IsGood (names_of ps) → AllFresh stands (names_of ps)
@@ -59,5 +55,5 @@ result_back ops stands done p wanted rest g f h =
     let s = in_params ops stands done in
     named NewResult (Colon ∷ ResultKind ∷ wanted) s p.name more (good_fits p.name g)
     ∙ two_pass (is_bad (spelling_of p.name) p.name) (is_among stands p.name) why.BadName why.Twice
-      (record (in_params ops (stands ++ p.name ∷ []) done) { naming = Some p.name }) [] (name_lexeme p.name) (goes (Colon ∷ ResultKind ∷ wanted) more) (good_passes p.name g) f
+    (record (in_params ops (stands ++ p.name ∷ []) done) { naming = Some p.name }) [] (name_lexeme p.name) (goes (Colon ∷ ResultKind ∷ wanted) more) (good_passes p.name g) f
     ∙ result_kind_moves p.kind ops stands done p.name wanted rest ∙ h

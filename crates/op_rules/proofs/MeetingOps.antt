@@ -1,5 +1,5 @@
 -- Ops that meet the rules break none.
-use Rattle.std.proofs.Common.{◌≡◌, ℕ, ◌+◌, ◌<◌, ◌≤◌, Bool, true, false, not, ◌||◌, nat_le, List, [], ◌∷◌, ◌++◌, map, length, arith, Option, Some, None, refl, sym, ap, ◌∙◌, codes, append_assoc, append-nil, bytes_eq, cond}
+use Rattle.std.proofs.Common.{◌≡◌, ℕ, ◌+◌, ◌<◌, ◌≤◌, Bool, true, false, not, ◌||◌, nat_le, List, [], ◌∷◌, ◌++◌, map, length, arith, Some, None, refl, sym, ap, ◌∙◌, codes, append_assoc, append-nil, bytes_eq, cond}
 use Rattle.std.proofs.lemmas.List.{length-append}
 use Rattle.op_text.specs.declared.fault.OpsKind.TheVariants as why
 use Rattle.op_text.specs.declared.tree.Kind.{Kind}
@@ -13,8 +13,8 @@ use Rattle.op_text.specs.Rules.{Scope, breach_of, is_bad, is_among, kind_among}
 use Rattle.op_text.specs.Language.{Term, Nought, Unity, Named, Negation, Conjunction, Disjunction, Parity, Majority, Equation, Statement, Compute, Visit, Operation}
 use Rattle.op_text.specs.Scratch.{param, defines, body_defines, kind_of, state_names, word_names}
 use Rattle.op_text.specs.Spelling.{items_spelled, between_commas, in_turn, param_text, statement_text, operation_text, MeetRules, Each, IsName, HasNames, HasParam, HasState, HasEquation, HasStatement, HasOperation, TermMeets}
-use Rattle.op_rules.specs.Meets.{used, IsGood, IsNew, IsNewOf, IsNewLet, IsKnown, Context, names_of, let_names, targets, behind, StatementMeets, BodyMeets, BlockMeets, LetsRead, can_read, OperationMeets, OpsMeet, at_start}
-use Rattle.op_rules.proofs.Names.{AllFresh, same_name, among-append, or_both, each_map, differ-fresh}
+use Rattle.op_rules.specs.Meets.{used, IsGood, IsNew, IsNewOf, IsNewLet, IsKnown, Context, names_of, let_names, behind, StatementMeets, BodyMeets, LetsRead, can_read, OperationMeets, OpsMeet, at_start}
+use Rattle.op_rules.proofs.Names.{AllFresh, among-append, or_both, each_map, differ-fresh}
 use Rattle.op_rules.proofs.Tokens.{goes, name_lexeme, named}
 use Rattle.op_rules.proofs.Passing.{one_pass, two_pass, good_passes, good_fits, le_passes}
 use Rattle.op_rules.proofs.Standing.{Standing, names-append}
@@ -75,7 +75,7 @@ body_back (st ∷ body) ops stands c assigned count wanted rest m g s l e h =
     let e' = ap (λ l. is_among (names_of l) c.result.name) (append_assoc c.known (defines c.known st) (body_defines (c.known ++ defines c.known st) body)) ∙ e in
     let good = good_append c.known (defines c.known st) g (statement_good st c m.0) in
     let go : Goes st ops c count wanted (in_turn statement_text body (codes "}" ∷ rest)) =
-      λ stands' assigned' s'. body_back body ops stands' (behind c st) assigned' (count + 1) wanted rest m.1 good s' (omega arith) e' h in
+    λ stands' assigned' s'. body_back body ops stands' (behind c st) assigned' (count + 1) wanted rest m.1 good s' (omega arith) e' h in
     statement_back st ops stands c assigned count wanted (in_turn statement_text body (codes "}" ∷ rest)) m.0 g s (omega arith) go
 
 -- names that are good are names
@@ -109,10 +109,11 @@ statement_has : (st : Statement) (c : Context) → StatementMeets c st → Each 
 statement_has (Compute target p args) c m g = (good_fits target m.gives.good, each_map IsGood IsName (λ n k. good_fits n k) args (known_good c.known g args m.known))
 statement_has (Visit b) c m g =
     let S = state_names b in
-    let T = let_names b in
-    (states_have b.states (each_map (IsNewOf (used c) c.result Bit) IsGood (λ n f. f.good) S m.states),
+    let T = let_names b in (
+      states_have b.states (each_map (IsNewOf (used c) c.result Bit) IsGood (λ n f. f.good) S m.states),
       lets_have b.lets c.known S (each_map (IsNewLet (used c ++ S) c.result) IsGood (λ n f. f.good) T m.lets) m.lets_read,
-      assigns_have b.assigns (can_read c.known (S ++ T)) (each_map (IsTarget c S T) IsGood (λ n f. f.good) (names_in b.assigns) (targets_are c b m)) m.values_read)
+      assigns_have b.assigns (can_read c.known (S ++ T)) (each_map (IsTarget c S T) IsGood (λ n f. f.good) (names_in b.assigns) (targets_are c b m)) m.values_read,
+    )
 
 body_has : (body : List Statement) (c : Context) → BodyMeets c body → Each IsGood (names_of c.known) → Each HasStatement body
 body_has [] c m g = tt
@@ -147,8 +148,8 @@ op_back op ops rest m l f h =
     let stands = names_of op.params ++ r ∷ [] in
     let few = m.few_statements in
     let given =
-      ap (λ l. is_among l r) (names-append op.params ds) ∙ among-append (names_of op.params) (names_of ds) r
-      ∙ or_right (is_among (names_of op.params) r) (is_among (names_of ds) r) (is_named ds r op.result.kind m.result_given) in
+    ap (λ l. is_among l r) (names-append op.params ds) ∙ among-append (names_of op.params) (names_of ds) r
+    ∙ or_right (is_among (names_of op.params) r) (is_among (names_of ds) r) (is_named ds r op.result.kind m.result_given) in
     let w = body_back op.body more stands (at_start op) false 0 (Ops ∷ []) rest m.body m.params (start_standing op m.result_new) (omega arith) given h in
     let b = first_back op.body (at_statement more stands (at_start op) false 0) (Ops ∷ []) rest n.body m.has_body w in
     let q = result_back more (names_of op.params) op.params op.result (Begin ∷ FirstStmt ∷ Ops ∷ []) (codes "{" ∷ body) m.result_good m.result_new b in
@@ -156,7 +157,7 @@ op_back op ops rest m l f h =
     one_pass (nat_le 32 (length ops)) why.TooMany (in_params ops [] []) (NewOp ∷ behind) (name_lexeme (codes "op")) (goes [] (op.name ∷ codes "(" ∷ params)) (le_passes 32 (length ops) l)
     ∙ named NewOp behind (in_params ops [] []) op.name (codes "(" ∷ params) n.name
     ∙ two_pass (is_bad (spelling_of op.name) op.name || bytes_eq op.name (codes "trsp_init")) (is_among ops op.name) why.BadName why.Twice
-      (in_params more [] []) [] (name_lexeme op.name) (goes behind (codes "(" ∷ params)) (or_both (is_bad (spelling_of op.name) op.name) (bytes_eq op.name (codes "trsp_init")) (good_passes op.name m.name) m.not_reserved) f
+    (in_params more [] []) [] (name_lexeme op.name) (goes behind (codes "(" ∷ params)) (or_both (is_bad (spelling_of op.name) op.name) (bytes_eq op.name (codes "trsp_init")) (good_passes op.name m.name) m.not_reserved) f
     ∙ p
 
 ops_back : (all : List Operation) (ops : List (List ℕ)) → Each OperationMeets all → AllFresh ops (map (λ (op : Operation). op.name) all) → length ops + length all ≤ 32

@@ -1,5 +1,5 @@
 -- A word statement that meets the rules breaks none.
-use Rattle.std.proofs.Common.{◌≡◌, ℕ, ◌+◌, ◌<◌, Bool, true, false, not, ◌||◌, ◌&&◌, nat_le, List, [], ◌∷◌, ◌++◌, map, Option, Some, None, Ok, Err, refl, sym, ap, ◌∙◌, codes, append_assoc, append-nil, bytes_eq, cond}
+use Rattle.std.proofs.Common.{◌≡◌, ℕ, ◌+◌, ◌<◌, Bool, true, false, not, ◌||◌, ◌&&◌, nat_le, List, [], ◌∷◌, ◌++◌, map, Option, Some, None, refl, sym, ap, ◌∙◌, codes, append_assoc, append-nil, bytes_eq, cond}
 use Rattle.std.specs.List.{list_any}
 use Rattle.op_text.specs.declared.fault.OpsKind.TheVariants as why
 use Rattle.op_text.specs.declared.terminal.Terminal.TheVariants as t
@@ -15,7 +15,7 @@ use Rattle.op_text.specs.WordOps.{Form, op_text, forms, filled, lacks, is_part, 
 use Rattle.op_text.specs.Rules.{Scope, breach_of, step, after, with_rules, is_bad, is_among, kind_among, argument_of_kind, gives_kind, is_result, is_of_kind}
 use Rattle.text_lex.specs.Lexical.{Lexeme}
 use Rattle.op_text.specs.Language.{Statement, Compute}
-use Rattle.op_text.specs.Scratch.{kind_of, result_kind, param}
+use Rattle.op_text.specs.Scratch.{kind_of, result_kind}
 use Rattle.op_text.specs.Spelling.{items_spelled, between_commas, behind_commas, name_text, statement_text, Each}
 use Rattle.op_rules.specs.Meets.{Context, IsGood, IsKnown, WordMeets, used, behind}
 use Rattle.op_rules.proofs.Names.{same_name}
@@ -51,9 +51,11 @@ filled_any (f ∷ fs) given k Q h q = cases (is_whole (lacks given f.takes)) (λ
     or_second : (a b : Bool) → b ≡ true → (a || b) ≡ true
     or_second true b e = refl
     or_second false b e = e
+
     or_first : (a b : Bool) → a ≡ true → (a || b) ≡ true
     or_first true b e = refl
     or_first false b e = cc
+
     cases : (b : Bool) → (b ≡ true → Q f ≡ true) → cond b (Some f.gives) (filled fs given) ≡ Some k → (filled fs given ≡ Some k → list_any Q fs ≡ true) → (Q f || list_any Q fs) ≡ true
     cases true e g r = or_first (Q f) (list_any Q fs) (e refl)
     cases false e g r = or_second (Q f) (list_any Q fs) (r g)
@@ -84,7 +86,7 @@ args_behind (a ∷ args) s given k wanted rest n g e h =
     ∙ named ArgName (MoreArgs ∷ wanted) (with_given s given) a more (good_fits a g.0)
     ∙ next_pass (is_bad (spelling_of a) a) why.BadName (argument_of_kind (with_given s given) (kind_among s.op.defined a)) [] (name_lexeme a) (goes (MoreArgs ∷ wanted) more) (good_passes a g.0)
     ∙ argument_back (kind_among s.op.defined a) j s given [] (name_lexeme a) (goes (MoreArgs ∷ wanted) more) n.0
-      (filled_any (forms s.word.operation) ((given ++ j ∷ []) ++ kinds) k (λ f. is_begun (lacks (given ++ j ∷ []) f.takes)) e' (λ f i. whole_begun (given ++ j ∷ []) kinds f.takes i))
+    (filled_any (forms s.word.operation) ((given ++ j ∷ []) ++ kinds) k (λ f. is_begun (lacks (given ++ j ∷ []) f.takes)) e' (λ f i. whole_begun (given ++ j ∷ []) kinds f.takes i))
     ∙ args_behind args s (given ++ j ∷ []) k wanted rest n.1 g.1 e' (given_moves s (given ++ j ∷ kinds) _ (sym (append_assoc given (j ∷ []) kinds)) wanted (items_spelled rest) h)
 
 args_back : (args : List (List ℕ)) (s : Scope) (k : Kind) (wanted : List Wanted) (rest : List (List ℕ)) → Each (IsKnown s.op.defined) args → Each IsGood args
@@ -103,7 +105,7 @@ args_back (a ∷ args) s k wanted rest n g e h =
     named Args wanted (with_given s []) a more (good_fits a g.0)
     ∙ next_pass (is_bad (spelling_of a) a) why.BadName (argument_of_kind (with_given s []) (kind_among s.op.defined a)) (MoreArgs ∷ []) (name_lexeme a) (goes wanted more) (good_passes a g.0)
     ∙ argument_back (kind_among s.op.defined a) j s [] (MoreArgs ∷ []) (name_lexeme a) (goes wanted more) n.0
-      (filled_any (forms s.word.operation) (j ∷ kinds) k (λ f. is_begun (lacks (j ∷ []) f.takes)) e (λ f i. whole_begun (j ∷ []) kinds f.takes i))
+    (filled_any (forms s.word.operation) (j ∷ kinds) k (λ f. is_begun (lacks (j ∷ []) f.takes)) e (λ f i. whole_begun (j ∷ []) kinds f.takes i))
     ∙ args_behind args s (j ∷ []) k wanted rest n.1 g.1 e h
 
 end_back : (x : Option Kind) (k : Kind) (s : Scope) (target : List ℕ) (f : List Wanted) (u : Lexeme) (go : Behind) → x ≡ Some k → (is_result s target && not (is_of_kind s.op.result k)) ≡ false
@@ -156,6 +158,6 @@ word_back target p args ops stands c assigned count wanted rest m g standing l g
     named Stmts wanted s target (codes "=" ∷ more) (good_fits target m.gives.good)
     ∙ ap (λ n. after (step Stmts s (t.Name n) target (opens (items_spelled (codes "=" ∷ more)))) (name_lexeme target) (goes wanted (codes "=" ∷ more))) plain
     ∙ three_pass (is_bad sp.Plain target) (is_among stands target && not (bytes_eq c.result.name target && not assigned)) (nat_le 16 count) why.BadName why.Twice why.TooMany
-      s1 (statement sp.Plain) (name_lexeme target) (goes wanted (codes "=" ∷ more)) (ap (λ n. is_bad n target) (sym plain) ∙ good_passes target m.gives.good) free (le_passes 16 count l)
+    s1 (statement sp.Plain) (name_lexeme target) (goes wanted (codes "=" ∷ more)) (ap (λ n. is_bad n target) (sym plain) ∙ good_passes target m.gives.good) free (le_passes 16 count l)
     ∙ operation_moves p s1 (Args ∷ WordEnd ∷ Stmts ∷ wanted) list
     ∙ args_back args s2 k (WordEnd ∷ Stmts ∷ wanted) (codes ";" ∷ rest) m.known g m.takes end

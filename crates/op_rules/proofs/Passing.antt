@@ -1,5 +1,5 @@
 -- One token at a time: rules that are met are passed.
-use Rattle.std.proofs.Common.{◌≡◌, ℕ, ◌<◌, ◌≤◌, Bool, true, false, not, ◌||◌, ◌&&◌, nat_le, nat_lt, List, [], ◌∷◌, ◌++◌, Option, Some, None, Result, Ok, Err, refl, sym, ap, ◌∙◌, arith}
+use Rattle.std.proofs.Common.{◌≡◌, ℕ, ◌<◌, Bool, true, false, not, ◌&&◌, nat_le, List, Some, Result, Ok, refl, arith}
 use Rattle.text_lex.specs.Lexical.{Lexeme}
 use Rattle.text_lex.specs.Spelled.{fits_name}
 use Rattle.op_text.specs.declared.fault.OpsKind.{OpsKind}

@@ -1,5 +1,5 @@
 -- A word statement that breaks no rule meets the rules.
-use Rattle.std.proofs.Common.{◌≡◌, ℕ, ◌+◌, ◌<◌, Bool, true, false, not, ◌||◌, ◌&&◌, nat_le, List, [], ◌∷◌, ◌++◌, map, Option, Some, None, Ok, Err, refl, sym, ap, ◌∙◌, codes, subst, append_assoc, append-nil, bytes_eq}
+use Rattle.std.proofs.Common.{◌≡◌, ℕ, ◌+◌, ◌<◌, Bool, true, false, not, ◌||◌, ◌&&◌, nat_le, List, [], ◌∷◌, ◌++◌, map, Option, Some, None, refl, sym, ap, ◌∙◌, codes, subst, append_assoc, append-nil, bytes_eq}
 use Rattle.std.specs.Option.{unwrap_or}
 use Rattle.std.specs.List.{list_any}
 use Rattle.text_lex.specs.Lexical.{Item, Lexeme}
@@ -15,14 +15,14 @@ use Rattle.op_text.specs.declared.tree.WordOp.TheVariants as o
 use Rattle.op_text.specs.declared.grammar.Wanted.{Wanted}
 use Rattle.op_text.specs.declared.grammar.Wanted.TheVariants.{Stmts, WordOpName, Open, Args, ArgName, MoreArgs, WordEnd}
 use Rattle.op_text.specs.Grammar.{statement}
-use Rattle.op_text.specs.Items.{opens, spelling_of}
+use Rattle.op_text.specs.Items.{spelling_of}
 use Rattle.op_text.specs.WordOps.{op_text, forms, filled, lacks, is_part, is_whole, is_begun, given_first, first_of, same_kind}
-use Rattle.op_text.specs.Rules.{Scope, breach_of, after, with_rules, unless, is_bad, stands_already, is_open_result, is_result, is_of_kind, is_called, is_among, kind_among, statement_rules, argument_of_kind, gives_kind, new_word, new_block}
+use Rattle.op_text.specs.Rules.{Scope, breach_of, after, with_rules, is_bad, stands_already, is_open_result, is_result, is_of_kind, is_among, kind_among, statement_rules, argument_of_kind, gives_kind, new_word, new_block}
 use Rattle.op_text.specs.Language.{Statement, Compute}
 use Rattle.op_text.specs.Scratch.{kind_of, result_kind, param}
-use Rattle.op_text.specs.Spelling.{is_good, items_spelled, between_commas, behind_commas, name_text, statement_text, Each, IsName}
+use Rattle.op_text.specs.Spelling.{items_spelled, between_commas, behind_commas, name_text, statement_text, Each, IsName}
 use Rattle.op_text.proofs.Operations.{first_settles}
-use Rattle.op_rules.specs.Meets.{Context, IsKnown, IsNewOf, WordMeets, StatementMeets, behind, used}
+use Rattle.op_rules.specs.Meets.{Context, IsKnown, StatementMeets, behind, used}
 use Rattle.op_rules.proofs.Names.{is_same, turned, among-append}
 use Rattle.op_rules.proofs.Tokens.{Behind, goes, name_lexeme, named, one_rule, next_rule, three_rules, not_bad, le_no}
 use Rattle.op_rules.proofs.Standing.{Standing, given-at, standing-more, more_context, word_new}
@@ -45,8 +45,8 @@ target_peels : (n : Spelling) (s : Scope) (target : List ℕ) (wanted : List Wan
 unfolding breach_of
 target_peels sp.Plain s target wanted rest h =
     let k =
-      three_rules (is_bad sp.Plain target) (stands_already s target && not (is_open_result s target)) (nat_le 16 s.op.statements) why.BadName why.Twice why.TooMany
-      (record s { op = record s.op { statements = s.op.statements + 1 }; naming = Some target }) (statement sp.Plain) (name_lexeme target) (goes wanted (codes "=" ∷ rest)) h in
+    three_rules (is_bad sp.Plain target) (stands_already s target && not (is_open_result s target)) (nat_le 16 s.op.statements) why.BadName why.Twice why.TooMany
+    (record s { op = record s.op { statements = s.op.statements + 1 }; naming = Some target }) (statement sp.Plain) (name_lexeme target) (goes wanted (codes "=" ∷ rest)) h in
     record { good = k.0; new = k.1; few = k.2; then = k.3 }
 target_peels sp.Serial s target wanted rest h =
     let k = one_rule (nat_le 16 s.op.statements) why.TooMany (record s { op = record s.op { statements = s.op.statements + 1 }; block = new_block }) (statement sp.Serial) (name_lexeme target) (goes wanted (codes "=" ∷ rest)) h in
