@@ -14,4 +14,5 @@ pub mod MeetingHeads
 pub mod MeetingWords
 pub mod MeetingBlocks
 pub mod MeetingOps
+pub mod Holding
 pub mod Few
