@@ -16,3 +16,4 @@ pub mod MeetingBlocks
 pub mod MeetingOps
 pub mod Holding
 pub mod Few
+pub mod Loops

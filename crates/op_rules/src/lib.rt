@@ -2,5 +2,6 @@
 #![tactic(auto)]
 
 mod laws;
+mod trees;
 
 pub use laws::{kinds_are_held, names_stand_once, others_stay, rules_are_exact, scratch_is_small};
