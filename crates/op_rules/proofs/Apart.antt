@@ -39,7 +39,7 @@ filter_differ q (n ∷ ns) h = cases (q n) (filter_new q ns n h.0) (filter_diffe
     cases true e k = (e, k)
     cases false e k = k
 
-not_true : (b : Bool) → not b ≡ true → b ≡ false
+pub not_true : (b : Bool) → not b ≡ true → b ≡ false
 not_true true h = cc
 not_true false h = refl
 

@@ -22,7 +22,7 @@ use Rattle.op_rules.proofs.States.{state_names_of}
 use Rattle.op_rules.proofs.Lines.{names_in}
 use Rattle.op_rules.proofs.Blocks.{block_names, not_among}
 use Rattle.op_rules.proofs.Ops.{each_append}
-use Rattle.op_rules.proofs.Apart.{statement_apart, filter_each}
+use Rattle.op_rules.proofs.Apart.{statement_apart, filter_each, not_true}
 
 -- another name
 unchanged : {V : Type 0} (names : List ℕ → V) (name : List ℕ) (v : V) (m : List ℕ) → bytes_eq name m ≡ false → changed names name v m ≡ names m
@@ -192,10 +192,6 @@ each_kept q P (n ∷ ns) h = cases (q n) (each_kept q P ns h.1)
     cases : (b : Bool) → Each P (filter q ns) → Each P (cond b (n ∷ filter q ns) (filter q ns))
     cases true r = (h.0, r)
     cases false r = r
-
-not_true : (b : Bool) → not b ≡ true → b ≡ false
-not_true true h = cc
-not_true false h = refl
 
 block_hold : (n : ℕ) (names : List ℕ → Held) (b : Block) → Each (Holds n (after_block n b names)) (map (λ m. param m Bit) (state_names b) ++ map (λ m. param m Word) (word_names b))
 block_hold n names b =
