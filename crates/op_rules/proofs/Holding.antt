@@ -1,7 +1,7 @@
 -- Names hold bits of their kinds.
 use Rattle.std.proofs.Common.{◌≡◌, ℕ, zero, suc, ◌/◌, length, Bool, true, false, not, ◌||◌, cond, List, [], ◌∷◌, ◌++◌, map, fold, replicate, Some, refl, sym, ap, ◌∙◌, subst, append_assoc, append-nil, bytes_eq, length-set, arith}
 use Rattle.std.specs.Option.{unwrap_or}
-use Rattle.std.specs.List.{filter}
+use Rattle.std.specs.List.{filter, flat_map}
 use Rattle.std.proofs.lemmas.List.{length-replicate}
 use Rattle.op_text.specs.declared.tree.Kind.{Kind}
 use Rattle.op_text.specs.declared.tree.Kind.TheVariants.{Word, Bit}
@@ -10,13 +10,13 @@ use Rattle.op_text.specs.declared.tree.State.{State}
 use Rattle.op_text.specs.declared.tree.WordOp.{WordOp}
 use Rattle.op_text.specs.WordOps.{forms, filled}
 use Rattle.op_text.specs.Rules.{is_among, kind_among}
-use Rattle.op_text.specs.Language.{Equation, Block, Statement, Compute, Visit}
+use Rattle.op_text.specs.Language.{Equation, Block, Statement, Compute, Visit, Operation}
 use Rattle.op_text.specs.Values.{bits}
 use Rattle.op_text.specs.Meaning.{Held, width, holding, holds_nothing, changed, bit_written, term_bit, assigned, visited, positions, with_blanks, with_states, computed, after_statement, after_block, with_sources, after_body}
 use Rattle.op_text.specs.Scratch.{param, kind_of, result_kind, defines, body_defines, state_names, word_names}
 use Rattle.op_text.specs.Spelling.{Each}
-use Rattle.op_rules.specs.Meets.{IsNew, IsKnown, Differ, Context, names_of, targets, behind, at_start, StatementMeets, WordMeets, BodyMeets}
-use Rattle.op_rules.specs.Laws.{OthersStay, IsHeld, Holds, KindsAreKept, KindsAreHeld}
+use Rattle.op_rules.specs.Meets.{IsNew, IsKnown, Differ, Context, names_of, targets, behind, at_start, lets_of, StatementMeets, WordMeets, BodyMeets, OperationMeets}
+use Rattle.op_rules.specs.Laws.{OthersStay, IsHeld, Holds, KindsAreKept, KindsAreHeld, StatementsMeet, context_behind}
 use Rattle.op_rules.proofs.Names.{is_same, same_name, turned, among-append, or_first, or_second, each_map, each_both}
 use Rattle.op_rules.proofs.States.{state_names_of}
 use Rattle.op_rules.proofs.Lines.{names_in}
@@ -258,9 +258,31 @@ right_half : {A : Type 0} (P : A → Type 0) (xs ys : List A) → Each P (xs ++ 
 right_half P [] ys h = h
 right_half P (x ∷ xs) ys h = right_half P xs ys h.1
 
+-- the context behind some statements of a body
+abbrev context_after : Context → List Statement → Context
+context_after c front = record { known = c.known ++ body_defines c.known front; lets = c.lets ++ flat_map lets_of front; result = c.result }
+
+split : (front rest : List Statement) (c : Context) → BodyMeets c (front ++ rest) → BodyMeets c front × BodyMeets (context_after c front) rest
+split [] rest c m = (tt, subst (λ (x : Context). BodyMeets x rest) (rw (append-nil c.known, append-nil c.lets) refl) m)
+split (st ∷ front) rest c m =
+    let p = split front rest (behind c st) m.1 in
+    let e : context_after (behind c st) front ≡ context_after c (st ∷ front) =
+    rw (append_assoc c.known (defines c.known st) (body_defines (c.known ++ defines c.known st) front), append_assoc c.lets (lets_of st) (flat_map lets_of front)) refl in
+    ((m.0, p.0), subst (λ (x : Context). BodyMeets x rest) e p.1)
+
+parts_meet : (op : Operation) (front rest : List Statement) → OperationMeets op → op.body ≡ front ++ rest → BodyMeets (at_start op) front × BodyMeets (context_behind op front) rest
+parts_meet op front rest m e = split front rest (at_start op) (subst (λ (l : List Statement). BodyMeets (at_start op) l) e m.body)
+
+pub statements_meet : StatementsMeet
+statements_meet op front rest s m e = (parts_meet op front (s ∷ rest) m e).1.0
+
 pub kinds_are_held : KindsAreHeld
 kinds_are_held op n values m l =
     let names = with_sources n holds_nothing op.params values in
-    let h = body_hold op.body (at_start op) n names m.body (sources_hold n op.params values holds_nothing m.params_differ l) in
+    let start = sources_hold n op.params values holds_nothing m.params_differ l in
+    let h = body_hold op.body (at_start op) n names m.body start in
     let ds = body_defines op.params op.body in
-    record { names = h; result = held_known n (after_body n op.body names) ds (right_half (Holds n (after_body n op.body names)) op.params ds h) op.result.name op.result.kind m.result_given }
+    record {
+      behind = λ front rest e. body_hold front (at_start op) n names (parts_meet op front rest m e).0 start;
+      result = held_known n (after_body n op.body names) ds (right_half (Holds n (after_body n op.body names)) op.params ds h) op.result.name op.result.kind m.result_given;
+    }
