@@ -1,5 +1,5 @@
 -- Files that were loaded, and what they were read as.
-use Rattle.std.proofs.Common.{◌≡◌, ℕ, true, false, List, [], ◌∷◌, Option, Some, None, refl, ap}
+use Rattle.std.proofs.Common.{◌≡◌, ℕ, List, Some, None, ap}
 use Rattle.std.specs.Prelude.{Result, Ok, Err, codes}
 use Rattle.host_edge.specs.Views.{FolderView, SinkView}
 use Rattle.bbop_isa.specs.Lines.{lines_of}

@@ -1,13 +1,11 @@
 -- The parts of a run.
-use Rattle.std.proofs.Common.{◌≡◌, ℕ, ◌<◌, ◌≤◌, Bool, true, false, cond, List, [], ◌∷◌, map, refl, sym, ◌∙◌, ap, subst, inl, arith}
-use Rattle.std.specs.Prelude.{Result, Ok, Err, OnOk, IfOk, IfErr, bytes_eq, not, ◌&&◌, ◌==◌, codes, length}
+use Rattle.std.proofs.Common.{◌≡◌, ℕ, Bool, true, false, List, [], ◌∷◌, map, refl, sym, ◌∙◌, ap, inl}
+use Rattle.std.specs.Prelude.{Result, Ok, Err, IfOk, IfErr, bytes_eq, not, ◌&&◌, codes}
 use Rattle.std.specs.List.{AllByRecursion, list_all}
 use Rattle.std.proofs.lemmas.Slice.Eq.{bytes_eq-Decides}
-use Rattle.std.proofs.lemmas.Bool.{eqb-true}
 use Rattle.host_edge.specs.Views.{FolderView, SinkView}
 use Rattle.uprog_bin.specs.Spelling.{program_bytes}
 use Rattle.bbop_isa.specs.Forms.{Instruction}
-use Rattle.bbop_isa.specs.Forms.{Init, Bbop, Load as LoadValues, Fill, Print, Free, Order}
 use Rattle.object_alloc.specs.Spelling.{IsImage}
 use Rattle.machine_model.specs.Operations.{Program}
 use Rattle.op_text.specs.Language.{Operation}
@@ -52,6 +50,12 @@ program_taken names ops program old mid new r implements g = record {
   goes = λ sink k. inl (world mid sink k, ((refl, r.loaded sink k), g sink k));
 }
 
+-- the answers of a call that stores PROG
+pub taken_by : {X : Type 0} (names : RunNames) (ops : List Operation) (program : X → Program) (result : Result X Stop) (old mid new : FolderView) → OpsRead names.ops.now ops old mid
+    → IfOk result (λ p. ImplementsAll (program p) (map text_op ops)) → IfOk result (λ p. GoesToStore names.prog.now (program p) Done mid new) → IfOk result (λ p. ProgramTaken names (program p) old new)
+taken_by names ops program (Ok p) old mid new r implements g = program_taken names ops (program p) old mid new r implements g
+taken_by names ops program (Err stop) old mid new r implements g = tt
+
 -- OPS was read, and PROG not stored
 pub program_unstored : (names : RunNames) (ops : List Operation) (reason : Reason) (old mid new : FolderView) → OpsRead names.ops.now ops old mid → StopsAtStore names.prog.now reason mid new → ProgramStopped names reason old new
 program_unstored names ops reason old mid new r g = record {
@@ -61,6 +65,11 @@ program_unstored names ops reason old mid new r g = record {
   goes = λ rest sink k. loading_goes names.ops.now OPS_MAX r.text (ops_in r.text) (λ _. Take ∷ Store names.prog.now (program_bytes g.0) ∷ rest) tt (Stopped reason) (world old sink k) (world mid sink k) (world new sink k)
       (ops_accepted r.text r.is.0) (r.loaded sink k) (stops (Take ∷ Store names.prog.now (program_bytes g.0) ∷ []) rest reason (world mid sink k) (world new sink k) (g.1 sink k));
 }
+
+pub stopped_by : {X : Type 0} (names : RunNames) (ops : List Operation) (result : Result X Stop) (old mid new : FolderView) → OpsRead names.ops.now ops old mid
+    → IfErr result (λ stop. StopsAtStore names.prog.now (reason_of stop) mid new) → IfErr result (λ stop. ProgramStopped names (reason_of stop) old new)
+stopped_by names ops (Ok p) old mid new r g = tt
+stopped_by names ops (Err stop) old mid new r g = program_unstored names ops (reason_of stop) old mid new r g
 
 -- IMAGE was not loaded
 pub image_unread : (names : RunNames) (program : Program) (script : List Instruction) (stop : Stop) (old new : FolderView) (sink : SinkView) (k : ℕ) (chip : ChipView) → NotLoaded names.image.now IMAGE_MAX (reason_of stop) old new

@@ -8,7 +8,6 @@ use Rattle.bbop_isa.specs.Forms.{Instruction}
 use Rattle.machine_model.specs.Operations.{Program}
 use Rattle.op_text.specs.Language.{Operation}
 use Rattle.op_print.specs.Reading.{IsTextOf}
-use Rattle.uprog_code.specs.Legal.{IsLegalCode}
 use Rattle.uprog_code.specs.Texts.{ImplementsAll, text_op}
 use Rattle.machine_model.specs.Opened.{Image}
 use Rattle.machine_model.specs.Agrees.{IsPlain}
@@ -30,10 +29,6 @@ pub record IsCompiled (text : List ℕ) (program : Program) : Type 0 where
   pub ops : List Operation
   pub is : IsTextOf text ops
   pub implements : ImplementsAll program (map text_op ops)
-
--- its code is legal
-abbrev pub AreLegal : Program → Type 0
-AreLegal program = AllByRecursion (λ m. IsLegalCode m.shape m.code) program
 
 -- memory was taken and PROG stored, as far as nothing failed
 abbrev pub GoesToStore : List ℕ → Program → End → FolderView → FolderView → Type 0

@@ -7,12 +7,13 @@ ghost use Rattle.uprog_code.specs.Shape.{microprograms_of};
 ghost use Rattle.uprog_bin.specs.Spelling.{program_bytes};
 ghost use Rattle.bbop_isa.specs.Forms.{view_of};
 ghost use Rattle.cli_model.specs.World.{world};
-ghost use Rattle.cli_model.specs.Steps.{Goes, Store, Take};
+ghost use Rattle.cli_model.specs.Steps.{Done};
 ghost use Rattle.op_text.specs.Language.{operations};
 ghost use Rattle.op_text.specs.Spelling.{MeetRules};
+ghost use Rattle.uprog_code.specs.Programs.{IsProgram};
 ghost use Rattle.uprog_code.specs.Texts.{ImplementsAll, text_op};
 ghost use Rattle.built_forms.specs.Answers.{IsBuilt};
-ghost use Rattle.simdram_cli.specs.Ends.{AreLegal, GoesToStore, ImageWorked, ProgramStopped, ProgramTaken, RunGoes, StopsAtStore};
+ghost use Rattle.simdram_cli.specs.Ends.{GoesToStore, ImageWorked, ProgramStopped, ProgramTaken, RunGoes, StopsAtStore};
 ghost use Rattle.simdram_cli.specs.Stops.{end_of, image_reason, reason_of};
 ghost use Rattle.simdram_cli.specs.Words.{are_apart};
 ghost use Rattle.simdram_cli.specs.Works.{chip_view};
@@ -36,7 +37,7 @@ use uprog_gen::compile_ops;
 fn compile(ops: &Ops, alloc: Global) -> Result<(Program, Vec<u8>), NoMemory>
     requires meets { MeetRules (operations ops.now) }
     ensures implements { IfOk result (λ made. ImplementsAll (microprograms_of made.0) (map text_op (operations ops.now))) }
-    ensures legal { IfOk result (λ made. AreLegal (microprograms_of made.0)) }
+    ensures program { IfOk result (λ made. IsProgram (microprograms_of made.0)) }
     ensures file { IfOk result (λ made. made.1.items ≡ program_bytes (microprograms_of made.0)) }
 {
     let Ok(compiled) = compile_ops(ops, alloc) else {
@@ -56,7 +57,7 @@ fn write_program<'a, F: Folder>(
 ) -> Result<Program, Stop<'a>>
     requires meets { MeetRules (operations ops.now) }
     ensures implements { IfOk result (λ p. ImplementsAll (microprograms_of p) (map text_op (operations ops.now))) }
-    ensures legal { IfOk result (λ p. AreLegal (microprograms_of p)) }
+    ensures program { IfOk result (λ p. IsProgram (microprograms_of p)) }
     ensures goes { IfOk result (λ p. GoesToStore name.now (microprograms_of p) Done (F.view files.old) (F.view files.new)) }
     ensures stops { IfErr result (λ stop. StopsAtStore name.now (reason_of stop) (F.view files.old) (F.view files.new)) }
 {
@@ -75,7 +76,7 @@ fn take_program<'a, F: Folder>(
     files: &mut F,
     alloc: Global,
 ) -> Result<Program, Stop<'a>>
-    ensures legal { IfOk result (λ p. AreLegal (microprograms_of p)) }
+    ensures program { IfOk result (λ p. IsProgram (microprograms_of p)) }
     ensures taken { IfOk result (λ p. ProgramTaken names.now (microprograms_of p) (F.view files.old) (F.view files.new)) }
     ensures stopped { IfErr result (λ stop. ProgramStopped names.now (reason_of stop) (F.view files.old) (F.view files.new)) }
 {
@@ -103,7 +104,7 @@ fn work_on_image<'a, F: Folder, S: Sink, D: Dram>(
     chip: &mut D,
     alloc: Global,
 ) -> Result<u64, Stop<'a>>
-    requires legal { AreLegal (microprograms_of program) }
+    requires program { IsProgram (microprograms_of program) }
     requires built { AllByRecursion IsBuilt (map view_of script.now) }
     requires few { length script.now ≤ SCRIPT_MAX + 1 }
     ensures borrow { D.borrow chip.new ≡ D.borrow chip.old }
