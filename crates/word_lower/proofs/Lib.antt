@@ -6,3 +6,5 @@ pub mod Linear
 pub mod Words
 pub mod Carries
 pub mod States
+pub mod Pieces
+pub mod Operations
