@@ -8,3 +8,4 @@ pub mod Carries
 pub mod States
 pub mod Pieces
 pub mod Operations
+pub mod Filled
