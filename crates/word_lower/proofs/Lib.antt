@@ -9,3 +9,4 @@ pub mod States
 pub mod Pieces
 pub mod Operations
 pub mod Filled
+pub mod Statements
