@@ -11,3 +11,4 @@ pub mod Operations
 pub mod Filled
 pub mod Statements
 pub mod Built
+pub mod Templates

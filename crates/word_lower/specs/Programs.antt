@@ -113,6 +113,16 @@ abbrev pub spread : Kind → (Sub → Marked) → List (StepOf Marked)
 spread Word f = Along (f sub.Inner) ∷ []
 spread Bit f = Single (f sub.Zero) ∷ []
 
+-- the operations that take words or bits
+abbrev pub spreads : WordOp → Bool
+spreads o.Not = true
+spreads o.And = true
+spreads o.Or = true
+spreads o.Xor = true
+spreads o.Copy = true
+spreads o.IfElse = true
+spreads p = false
+
 -- The loop program of an operation. The kind is the target's
 abbrev pub program : WordOp → Kind → List (StepOf Marked)
 program o.Not k = spread k (λ u. inverted (first u) (target u))

@@ -2,3 +2,5 @@
 #![tactic(auto)]
 mod graphs;
 mod shapes;
+mod bodies;
+mod table;
