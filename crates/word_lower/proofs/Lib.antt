@@ -12,3 +12,4 @@ pub mod Filled
 pub mod Statements
 pub mod Built
 pub mod Templates
+pub mod Append

@@ -233,6 +233,15 @@ fn step(line: Line, owners: Owners, alloc: Global) -> Result<Step, NoMemory>
     }
 }
 
+fn push_step(steps: &mut Vec<Step>, s: Step) -> Result<(), NoMemory>
+    ensures { OnOk result (steps.new.items ≡ steps.old.items ++ s ∷ []) }
+{
+    match steps.push(s) {
+        Ok(()) => Ok(()),
+        Err(_) => Err(NoMemory),
+    }
+}
+
 /// One more step, where there is a line.
 fn add_step(
     steps: &mut Vec<Step>,
@@ -247,10 +256,8 @@ fn add_step(
         None => Ok(()),
         Some(l) => {
             let s = step(l, owners, alloc)?;
-            match steps.push(s) {
-                Ok(()) => Ok(()),
-                Err(_) => Err(NoMemory),
-            }
+            push_step(steps, s)?;
+            Ok(())
         }
     }
 }
