@@ -25,7 +25,7 @@ use Rattle.loop_laws.proofs.Placed.{AllBefore, ReadPlaces, loop_of}
 use Rattle.word_lower.specs.Places.{scratch_bit}
 use Rattle.word_lower.specs.Programs.{on, target, first, second, third, plain, turned, off, up, constant, moved, inverted, joined, without, unlike, chosen, shifted, added, lessened, turned_by, compared, agreed}
 use Rattle.word_lower.proofs.Setting.{bit, number, operation, Slots, rooms_for, at, row, number_at, SlotsApart, Moves, IsFree, AreSlots, IsElsewhere, Gives, DoesWords, DoesBits}
-use Rattle.word_lower.proofs.Linear.{bit_free, carry_does, upwards, downwards}
+use Rattle.word_lower.proofs.Passes.{bit_free, carry_does, upwards, downwards}
 use Rattle.word_lower.proofs.Sums.{add_gives, sub_gives, shl1_gives, shr1_gives, abs_gives, xor2}
 
 pub added_digit : (x y c : Bool) → bit (majority c (not (majority x y c)) (majority x y (not c))) + 2 * bit (majority x y c) ≡ bit x + bit y + bit c

@@ -2,7 +2,7 @@ pub mod Setting
 pub mod Sums
 pub mod Lists
 pub mod Bitwise
-pub mod Linear
+pub mod Passes
 pub mod Words
 pub mod Carries
 pub mod States
@@ -13,3 +13,4 @@ pub mod Statements
 pub mod Built
 pub mod Templates
 pub mod Append
+pub mod Owners

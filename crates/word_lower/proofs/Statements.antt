@@ -31,6 +31,7 @@ use Rattle.loop_laws.proofs.EveryRound.{marks_are_enough}
 use Rattle.loop_laws.proofs.Compile.{alike_compile}
 use Rattle.word_lower.specs.Places.{room_of, rooms_of, scratch_bit, scratch_from, AreAt}
 use Rattle.word_lower.specs.Programs.{program, is_linear}
+use Rattle.word_lower.specs.Shapes.{owners_of, program_on}
 use Rattle.word_lower.proofs.Pieces.{no_slot, slot_at, AreApart, Pieces, RoomView, is_target, is_arg, is_scratch, room_view, rooms_apart, extent_is}
 use Rattle.word_lower.proofs.Operations.{slots_width, steps_on, DoesOp, Lowers}
 use Rattle.word_lower.proofs.Filled.{op_lowers}
@@ -297,3 +298,20 @@ module _ (slots : Slots) (free_bit free_word : ℕ) (target : List ℕ) (p : Wor
           does = λ n some most. does n some;
           cheap = λ n some most. (let a = alike_cost_no_more steps (steps_on p t.kind t ss free_bit) like n in let b = lowers.cheap n in let w = ap (op_ceiling p) (named_width n slots args ss at) in omega (arith, a, b, w));
         }
+
+-- a program like the one on the owners' places does the statement
+pub lowered_on : (slots : Slots) (free_bit free_word : ℕ) (target : List ℕ) (p : WordOp) (args : List (List ℕ)) (linear : is_linear p ≡ true) (meets : ComputeMeets slots target p args) (placed : IsPlaced slots free_bit free_word (Compute target p args)) (t : Slot) (found : slots target ≡ Some t) (ss : List Slot) (at : AreAt slots args ss) (steps : List (StepOf Block))
+    → LikeSteps steps (program_on (owners_of t ss free_bit) (program p t.kind)) → AllParts IsMade steps → IsLowered slots free_bit free_word (Compute target p args) steps
+lowered_on slots free_bit free_word target p args linear meets placed t found ss at steps like made =
+    lowered slots free_bit free_word target p args linear meets placed t found ss at steps (subst (LikeSteps steps) (lowers slots free_bit free_word target p args linear meets placed t found ss at).same like) made
+
+-- the arguments have places
+pub record Places (slots : Slots) (names : List (List ℕ)) : Type 0 where
+  pub list : List Slot
+  pub at : AreAt slots names list
+
+pub places_of : (slots : Slots) (names : List (List ℕ)) (kinds : List Kind) → HaveKinds slots names kinds → Places slots names
+places_of slots [] [] have = record { list = []; at = tt }
+places_of slots [] (k ∷ ks) have = absurd have
+places_of slots (n ∷ ns) [] have = absurd have
+places_of slots (n ∷ ns) (k ∷ ks) have = let more = places_of slots ns ks have.1 in record { list = have.0.slot ∷ more.list; at = (have.0.found, more.at) }

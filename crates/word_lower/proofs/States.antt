@@ -25,7 +25,7 @@ use Rattle.loop_laws.proofs.Placed.{AllBefore, ReadPlaces, loop_of}
 use Rattle.word_lower.specs.Places.{scratch_bit}
 use Rattle.word_lower.specs.Programs.{on, target, first, second, third, plain, turned, off, up, constant, moved, inverted, joined, without, unlike, chosen, shifted, added, lessened, turned_by, compared, agreed}
 use Rattle.word_lower.proofs.Setting.{bit, number, operation, Slots, rooms_for, at, row, number_at, SlotsApart, Moves, IsFree, AreSlots, IsElsewhere, Gives, DoesWords, DoesBits}
-use Rattle.word_lower.proofs.Linear.{state_body, state_loop, set_operation}
+use Rattle.word_lower.proofs.Passes.{state_body, state_loop, set_operation}
 use Rattle.word_lower.proofs.Sums.{compare, same_gives, xor2}
 use Rattle.word_lower.proofs.Bitwise.{any_gives, all_gives, parity_gives, at_least}
 

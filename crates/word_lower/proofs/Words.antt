@@ -26,7 +26,7 @@ use Rattle.word_lower.specs.Places.{scratch_bit}
 use Rattle.word_lower.specs.Programs.{on, target, first, second, third, plain, turned, off, up, constant, moved, inverted, joined, without, unlike, chosen, shifted, added, lessened, turned_by, compared, agreed}
 use Rattle.word_lower.proofs.Setting.{bit, number, operation, Slots, rooms_for, at, row, number_at, SlotsApart, Moves, IsFree, AreSlots, IsElsewhere, Gives, DoesWords, DoesBits}
 use Rattle.op_text.specs.Values.{bits}
-use Rattle.word_lower.proofs.Linear.{bit_free, bit_else, state_body, state_loop, word_body, word_loop, upwards, set_number}
+use Rattle.word_lower.proofs.Passes.{bit_free, bit_else, state_body, state_loop, word_body, word_loop, upwards, set_number}
 use Rattle.word_lower.proofs.Sums.{value_same, value_false, value_pick, compare, xor2, pick}
 use Rattle.word_lower.proofs.Bitwise.{value_and, value_or, value_xor, value_inverted, value_true, relu_gives, least, greatest}
 

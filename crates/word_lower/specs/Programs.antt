@@ -7,6 +7,7 @@ use Rattle.op_text.specs.declared.tree.Kind.{Kind}
 use Rattle.op_text.specs.declared.tree.Kind.TheVariants.{Word, Bit}
 use Rattle.op_text.specs.declared.tree.WordOp.{WordOp}
 use Rattle.op_text.specs.declared.tree.WordOp.TheVariants as o
+use Rattle.op_text.specs.Language.{Statement, Compute, Visit}
 use Rattle.loop_ir.specs.declared.ir.Sub.{Sub}
 use Rattle.loop_ir.specs.declared.ir.Sub.TheVariants as sub
 use Rattle.loop_ir.specs.Plain.{StepOf}
@@ -162,3 +163,8 @@ is_linear o.Div = false
 is_linear o.Rem = false
 is_linear o.Bitcount = false
 is_linear p = true
+
+-- the statement is one of these
+abbrev pub is_linear_statement : Statement → Bool
+is_linear_statement (Compute target p args) = is_linear p
+is_linear_statement (Visit block) = false

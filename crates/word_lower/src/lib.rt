@@ -1,6 +1,10 @@
-//! x
+//! Loop programs of the word operations that take one pass over a word.
 #![tactic(auto)]
-mod graphs;
-mod shapes;
+
 mod bodies;
+mod graphs;
+mod linear;
+mod shapes;
 mod table;
+
+pub use linear::lower_linear;
