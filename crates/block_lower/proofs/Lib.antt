@@ -1,0 +1,6 @@
+mod Names
+mod Gathering
+mod Bounds
+mod Reading
+mod Finding
+mod Making
