@@ -4,3 +4,10 @@ mod Bounds
 mod Reading
 mod Finding
 mod Making
+mod Rows
+mod Facts
+mod Folds
+mod Round
+mod Visits
+mod Starts
+mod Ends
