@@ -11,3 +11,6 @@ mod Round
 mod Visits
 mod Starts
 mod Ends
+mod Costs
+mod Compile
+mod Whole

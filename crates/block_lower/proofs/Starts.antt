@@ -41,19 +41,19 @@ starts-do n slots down (s ∷ ss) more bits =
     ∙ starts-do n slots down ss more (set_spot bits (state_spot n slots down s) s.start)
 
 -- the states of the list are the block's
-abbrev AreStates : Block → List State → Type 0
+abbrev pub AreStates : Block → List State → Type 0
 AreStates b ss = (x : List ℕ) → is_among (names_of ss) x ≡ true → is_among (state_names b) x ≡ true
 
-head-state : (b : Block) (s : State) (ss : List State) → AreStates b (s ∷ ss) → is_among (state_names b) s.name ≡ true
+pub head-state : (b : Block) (s : State) (ss : List State) → AreStates b (s ∷ ss) → is_among (state_names b) s.name ≡ true
 head-state b s ss all = all s.name (or_left (bytes_eq s.name s.name) (is_among (names_of ss) s.name) (name-same s.name s.name refl))
 
-tail-states : (b : Block) (s : State) (ss : List State) → AreStates b (s ∷ ss) → AreStates b ss
+pub tail-states : (b : Block) (s : State) (ss : List State) → AreStates b (s ∷ ss) → AreStates b ss
 tail-states b s ss all x e = all x (or_right (bytes_eq s.name x) (is_among (names_of ss) x) e)
 
-state-spot : {slots : Slots} {fb fw : ℕ} {b : Block} → Given slots fb fw b → (n : ℕ) (down : Bool) (s : State) → is_among (state_names b) s.name ≡ true → state_spot n slots down s ≡ row n slots s.name 0
+pub state-spot : {slots : Slots} {fb fw : ℕ} {b : Block} → Given slots fb fw b → (n : ℕ) (down : Bool) (s : State) → is_among (state_names b) s.name ≡ true → state_spot n slots down s ≡ row n slots s.name 0
 state-spot {slots = slots} g n down s e = place-row n 0 down (slots s.name) ∙ ap (λ k. row n slots s.name (row_of (position down n 0) k)) (state-kind g s.name e)
 
-state-row-is : {slots : Slots} {fb fw : ℕ} {b : Block} → Given slots fb fw b → (n : ℕ) → 0 < n → (x : List ℕ) → is_among (state_names b) x ≡ true → IsRowOf n slots (written_names (Visit b)) (row n slots x 0)
+pub state-row-is : {slots : Slots} {fb fw : ℕ} {b : Block} → Given slots fb fw b → (n : ℕ) → 0 < n → (x : List ℕ) → is_among (state_names b) x ≡ true → IsRowOf n slots (written_names (Visit b)) (row n slots x 0)
 state-row-is {slots = slots} {b = b} g n lt x e = (x, slot_or (slots x), 0, state-written b x e, found g x (written-named b x (state-written b x e)), zero-below n (slot_or (slots x)).kind lt, refl)
 
 pub started-rest : {slots : Slots} {fb fw : ℕ} {b : Block} → Given slots fb fw b → (n : ℕ) → 0 < n → (down : Bool) (ss : List State) → AreStates b ss → (bits : Spots) (q : Spot) → (IsRowOf n slots (written_names (Visit b)) q → ⊥) → started n slots down ss bits q ≡ bits q

@@ -2,6 +2,7 @@
 use Rattle.std.specs.Prelude.{◌≡◌, ℕ, ◌+◌, ◌*◌, ◌<◌, ◌≤◌, Bool, false, if◌then◌else◌, List, [], ◌∷◌, ◌++◌, map, length, slice_get, Option, Some, None}
 use Rattle.mig_graph.specs.declared.Lit.{Lit}
 use Rattle.mig_graph.specs.Graph.{IsGraph}
+use Rattle.mig_graph.specs.Outputs.{AreNamed}
 use Rattle.mig_graph.specs.Reduced.{IsReduced}
 use Rattle.op_text.specs.declared.tree.Kind.{Kind}
 use Rattle.op_text.specs.declared.tree.Kind.TheVariants.{Word, Bit}
@@ -54,6 +55,7 @@ pub record IsBlockBody (slots : Slots) (b : Block) (body : Body) : Type 0 where
       → (j : ℕ) (e : Equation) → slice_get b.assigns j ≡ Some e → gives body v j ≡ term_bit (with_lets env b.lets) e.value
   pub nodes : length body.graph.nodes ≤ block_weight b
   pub graph : IsGraph body.graph.inputs body.graph.nodes
+  pub named : AreNamed body.graph body.outs
   pub reduced : IsReduced body.graph body.outs
 
 -- first the states' starts, in their order, and then the block's body at each position

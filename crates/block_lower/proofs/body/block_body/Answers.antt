@@ -40,5 +40,6 @@ returns c = λ s.
           c.in_ok-gates.ensures.value c.in_ok-from_aoi.ensures.value made.keeps c.in_ok-from_aoi.ensures.long c.in_ok-gates.ensures.long;
       nodes = let a = made.count in let b = c.in_ok-from_aoi.ensures.count in let d = c.in_ok-gates.ensures.gates in omega (arith, a, b, d);
       graph = c.inputs.ensures.graph;
+      named = made.named;
       reduced = made.reduced;
     }
