@@ -1,5 +1,5 @@
 -- Code can be made of a block's program.
-use Rattle.std.proofs.Common.{◌≡◌, ℕ, zero, suc, ◌+◌, ◌*◌, ◌<◌, ◌≤◌, Bool, true, false, not, ◌||◌, cond, List, [], ◌∷◌, ◌++◌, map, filter, length, Option, Some, None, sum_by, bytes_eq, refl, sym, ap, ◌∙◌, subst, arith, ◌⊎◌, inl, inr}
+use Rattle.std.proofs.Common.{◌≡◌, ℕ, zero, suc, ◌+◌, ◌*◌, ◌<◌, ◌≤◌, Bool, true, false, ◌||◌, List, [], ◌∷◌, ◌++◌, map, filter, length, Option, Some, None, refl, sym, ap, ◌∙◌, subst, arith, inl, inr}
 use Rattle.std.specs.List.{AllByRecursion, list_all, list_any}
 use Rattle.std.proofs.lemmas.Bool.{cases_Bool, or_cases, or_left, or_right, and_from}
 use Rattle.std.proofs.lemmas.List.{length-map, append-nil}
@@ -10,7 +10,7 @@ use Rattle.mig_graph.specs.Outputs.{lit_at}
 use Rattle.op_text.specs.declared.tree.Kind.{Kind}
 use Rattle.op_text.specs.declared.tree.Kind.TheVariants.{Word, Bit}
 use Rattle.op_text.specs.declared.tree.State.{State}
-use Rattle.op_text.specs.Language.{Block, Statement, Visit}
+use Rattle.op_text.specs.Language.{Block, Visit}
 use Rattle.op_text.specs.Rules.{is_among}
 use Rattle.op_text.specs.Scratch.{state_names}
 use Rattle.loop_ir.specs.declared.ir.Space.{Space}
@@ -19,24 +19,22 @@ use Rattle.loop_ir.specs.declared.ir.Sub.{Sub}
 use Rattle.loop_ir.specs.declared.ir.Sub.TheVariants.{Zero, Top, Inner as At_inner, InnerDown, Outer, OuterDown, Sum, DownSum, DownPlusN, NPlusInner}
 use Rattle.loop_ir.specs.declared.ir.Place.{Place}
 use Rattle.loop_ir.specs.declared.names.Slot.{Slot}
-use Rattle.loop_ir.specs.Plain.{Block as Body, StepOf, AllParts}
+use Rattle.loop_ir.specs.Plain.{Block as Body, AllParts}
 use Rattle.loop_ir.specs.Plain.StepOf.{Single, Along}
 use Rattle.loop_ir.specs.Loops.{RoundOf, round_at, one_round, rounds, all_rounds}
-use Rattle.loop_ir.specs.Spots.{Spot, IsOwn, spot_in, spot_at, nth_place, nth_spot}
+use Rattle.loop_ir.specs.Spots.{Spot, IsOwn, spot_in, nth_place, nth_spot}
 use Rattle.loop_ir.specs.WellFormed.{IsOneValue, IsWellFormed, AreWellFormed}
 use Rattle.loop_ir.specs.Costs.{body_cost, same_sub, is_used, used_subs, single_cost, step_cost, code_cost, step_bodies, bodies}
 use Rattle.loop_ir.specs.Limits.{IsSmall, may_stand, step_stands, IsRound, CanCompile}
-use Rattle.loop_ir.specs.Statements.{Slots, targets_of, written_names, statement_names}
+use Rattle.loop_ir.specs.Statements.{Slots, targets_of, statement_names}
 use Rattle.loop_ir.specs.Lowered.{IsRowOf, IsStatementRow}
 use Rattle.block_lower.specs.Inputs.{block_inputs, name_at}
 use Rattle.block_lower.specs.Form.{kind_sub, place_of, places_of, constant, start, IsBlockBody}
-use Rattle.block_lower.proofs.Names.{name-same, among-at}
-use Rattle.block_lower.proofs.Rows.{slot_or, row_of, position, position-below, named_row, nth-place}
+use Rattle.block_lower.proofs.Names.{among-at}
+use Rattle.block_lower.proofs.Rows.{slot_or, row_of, position, position-below, nth-place}
 use Rattle.block_lower.proofs.Facts.{Given, once-distinct, inputs-once, state-written, target-written, written-named, input-named, found, state-kind, same-place, own-row}
-use Rattle.block_lower.proofs.Folds.{names_of}
 use Rattle.block_lower.proofs.Round.{targets-long, target-among, target-named, named-row-is, named-once, write-row, read-row, writes-long, writes-once}
-use Rattle.block_lower.proofs.Visits.{row}
-use Rattle.block_lower.proofs.Starts.{AreStates, head-state, tail-states, state_spot, state-spot, state-row-is}
+use Rattle.block_lower.proofs.Starts.{AreStates, head-state, tail-states, state-spot, state-row-is}
 
 -- places of names
 place-space : (down : Bool) (o : Option Slot) → (place_of down o).space ≡ (slot_or o).space
@@ -274,9 +272,10 @@ start-row g n lt s e (suc j) l = absurd (omega arith)
 start-row {slots = slots} {fb = fb} {fw = fw} {b = b} g n lt s e zero l =
     let x = slot_or (slots s.name) in
     let q = state-spot g n b.down s e in
-    let r = state-row-is g n lt s.name e in
-    (inl (subst (IsRowOf n slots (statement_names (Visit b))) (sym q) (r.0, r.1, r.2, written-named b r.0 r.3, r.4, r.5, r.6)),
-    subst (λ (y : Spot). IsOwn y.space) (sym q) (own-spot n x.space x.which 0 (own-row g s.name (state-written b s.name e))))
+    let r = state-row-is g n lt s.name e in (
+      inl (subst (IsRowOf n slots (statement_names (Visit b))) (sym q) (r.0, r.1, r.2, written-named b r.0 r.3, r.4, r.5, r.6)),
+      subst (λ (y : Spot). IsOwn y.space) (sym q) (own-spot n x.space x.which 0 (own-row g s.name (state-written b s.name e))),
+    )
 
 start-round : {slots : Slots} {fb fw : ℕ} {b : Block} → Given slots fb fw b → (n : ℕ) → 0 < n → (s : State) → is_among (state_names b) s.name ≡ true → IsRound (IsStatementRow slots fb fw (Visit b) n) n (round_at (constant s.start (place_of b.down (slots s.name))) 0 0)
 start-round g n lt s e = record {

@@ -1,19 +1,19 @@
 -- What rows hold, by names and by bits.
-use Rattle.std.proofs.Common.{◌≡◌, ℕ, zero, suc, ◌+◌, ◌<◌, Bool, true, false, List, [], ◌∷◌, map, length, slice_index_or, get_or, refl, sym, ap, ◌∙◌, subst, arith, ◌⊎◌, inl, inr, Some}
+use Rattle.std.proofs.Common.{◌≡◌, ℕ, ◌+◌, ◌<◌, Bool, true, false, List, map, length, slice_index_or, get_or, refl, sym, ap, ◌∙◌, subst, arith, inl, inr}
 use Rattle.std.specs.List.{range_with_len}
 use Rattle.std.proofs.lemmas.List.{ext_get_or, get_or-map, length-map}
 use Rattle.std.proofs.lemmas.List.FromFn.{length-range_with_len, get_or-range_with_len}
 use Rattle.op_text.specs.declared.tree.Kind.{Kind}
 use Rattle.op_text.specs.declared.tree.Kind.TheVariants.{Word, Bit}
-use Rattle.op_text.specs.Language.{Block, Statement, Visit}
+use Rattle.op_text.specs.Language.{Block, Visit}
 use Rattle.op_text.specs.Meaning.{Held, bit_read, width}
 use Rattle.op_text.specs.Rules.{is_among}
 use Rattle.op_text.specs.Scratch.{state_names, word_names}
 use Rattle.loop_ir.specs.Spots.{Spots}
-use Rattle.loop_ir.specs.Statements.{Slots, read_names, written_names, statement_names}
-use Rattle.loop_ir.specs.Lowered.{slot_spot, slot_bits, HoldsAt, Holds}
+use Rattle.loop_ir.specs.Statements.{Slots, read_names, written_names}
+use Rattle.loop_ir.specs.Lowered.{slot_bits, HoldsAt, Holds}
 use Rattle.block_lower.proofs.Names.{among-either}
-use Rattle.block_lower.proofs.Rows.{slot_or, row_of, position, position-below, position-twice, row-below, named_row}
+use Rattle.block_lower.proofs.Rows.{slot_or, row_of, position, position-below, position-twice, row-below}
 use Rattle.block_lower.proofs.Facts.{Given, state-written, word-written, written-named, read-named, found, state-kind, word-kind}
 use Rattle.block_lower.proofs.Visits.{Stands, AreRead, row}
 
@@ -51,9 +51,9 @@ holds-word {slots = slots} {b = b} {n = n} {held = held} {bits = bits} g st x e 
     let long = st.long x e in
     let kind : (held x).kind ≡ s.kind = st.kinds x e ∙ sym (word-kind g x e) in
     let at = λ (v : ℕ) (l : v < length (held x).bits).
-        let lv : v < n = omega (arith, l, long) in
-        let p = position b.down n v in
-        sym (ap (λ w. get_or (held x).bits w false) (position-twice b.down n v lv)) ∙ st.words x e p (position-below b.down n v lv) ∙ ap f (position-twice b.down n v lv) ∙ sym (row-bit f n v lv) in
+    let lv : v < n = omega (arith, l, long) in
+    let p = position b.down n v in
+    sym (ap (λ w. get_or (held x).bits w false) (position-twice b.down n v lv)) ∙ st.words x e p (position-below b.down n v lv) ∙ ap f (position-twice b.down n v lv) ∙ sym (row-bit f n v lv) in
     let lists : (held x).bits ≡ map f (range_with_len 0 n) = ext_get_or false (held x).bits (map f (range_with_len 0 n)) (long ∙ sym (length-map (range_with_len 0 n) f ∙ length-range_with_len 0 n)) at in
     let same : (held x).bits ≡ slot_bits n bits s = lists ∙ sym (ap (λ k. map f (range_with_len 0 (width n k))) (word-kind g x e)) in
     subst (λ o. HoldsAt n o (held x) bits) (sym (found g x (written-named b x (word-written b x e)))) (kind, same)

@@ -1,20 +1,18 @@
 -- The names of a block and their places.
-use Rattle.std.proofs.Common.{◌≡◌, ℕ, zero, suc, ◌+◌, ◌<◌, ◌≤◌, Bool, true, false, not, List, [], ◌∷◌, ◌++◌, map, filter, length, Option, Some, None, refl, sym, ap, ◌∙◌, subst, arith, ◌⊎◌, inl, inr}
+use Rattle.std.proofs.Common.{◌≡◌, ℕ, zero, suc, ◌<◌, true, false, not, List, [], ◌∷◌, Option, Some, refl, sym, ap, ◌∙◌, subst, arith, ◌⊎◌, inl, inr}
 use Rattle.std.proofs.lemmas.Bool.{cases_Bool, not_from_false}
 use Rattle.op_text.specs.declared.tree.Kind.{Kind}
 use Rattle.op_text.specs.declared.tree.Kind.TheVariants.{Word, Bit}
-use Rattle.op_text.specs.Language.{Block, Statement, Visit}
+use Rattle.op_text.specs.Language.{Block, Visit}
 use Rattle.op_text.specs.Meaning.{width}
 use Rattle.op_text.specs.Rules.{is_among}
 use Rattle.op_text.specs.Scratch.{state_names, word_names}
 use Rattle.loop_ir.specs.declared.names.Slot.{Slot}
-use Rattle.loop_ir.specs.Plain.{Block as Body}
-use Rattle.loop_ir.specs.Spots.{Spot, IsOwn}
+use Rattle.loop_ir.specs.Spots.{IsOwn}
 use Rattle.loop_ir.specs.Statements.{Slots, HasKind, holds_kind, BlockMeets, IsPlaced, AreDistinct, block_reads, read_names, written_names, statement_names, targets_of}
 use Rattle.loop_ir.specs.Lowered.{slot_spot}
-use Rattle.block_lower.specs.Inputs.{block_inputs, name_at}
-use Rattle.block_lower.specs.Form.{IsBlockBody}
-use Rattle.block_lower.proofs.Names.{name-true, among-left, among-right, among-either, among-kept, among-filtered, among-is, AreOnce}
+use Rattle.block_lower.specs.Inputs.{block_inputs}
+use Rattle.block_lower.proofs.Names.{name-true, among-left, among-right, among-kept, among-filtered, among-is, AreOnce}
 use Rattle.block_lower.proofs.Gathering.{gathered-from, gathered-once}
 use Rattle.block_lower.proofs.Rows.{slot_or, slots-once}
 
@@ -81,11 +79,13 @@ input-named b x e = elim (input-is b x e) [ inl s ↦ written-named b x (state-w
 pub read-is : {slots : Slots} {fb fw : ℕ} {b : Block} → Given slots fb fw b → (x : List ℕ) → is_among (read_names (Visit b)) x ≡ true → (is_among (state_names b) x ≡ false) × (is_among (targets_of b.assigns) x ≡ false)
 read-is {b = b} g x e =
     let h = among-filtered (λ name. not (is_among (state_names b) name)) (block_reads b) x e in
-    let other : is_among (state_names b) x ≡ false = elim (cases_Bool (is_among (state_names b) x)) [ inl t ↦ (let k : not (is_among (state_names b) x) ≡ true = h.1 in let m : not true ≡ true = rw t at k in absurd (cc)) | inr f ↦ f ] in
-    (other, elim (cases_Bool (is_among (targets_of b.assigns) x)) [
-      | inl t ↦ elim (target-is b x t) [ inl s ↦ absurd (cc) | inr w ↦ (let f = g.meets.fresh x w in let r = h.0 in absurd (cc)) ]
-      | inr f ↦ f
-    ])
+    let other : is_among (state_names b) x ≡ false = elim (cases_Bool (is_among (state_names b) x)) [ inl t ↦ (let k : not (is_among (state_names b) x) ≡ true = h.1 in let m : not true ≡ true = rw t at k in absurd (cc)) | inr f ↦ f ] in (
+      other,
+      elim (cases_Bool (is_among (targets_of b.assigns) x)) [
+        | inl t ↦ elim (target-is b x t) [ inl s ↦ absurd (cc) | inr w ↦ (let f = g.meets.fresh x w in let r = h.0 in absurd (cc)) ]
+        | inr f ↦ f
+      ],
+    )
 
 -- a name's place
 pub found : {slots : Slots} {fb fw : ℕ} {b : Block} → Given slots fb fw b → (x : List ℕ) → is_among (statement_names (Visit b)) x ≡ true → slots x ≡ Some (slot_or (slots x))

@@ -1,5 +1,5 @@
 -- Steps of the loops over lets, assignments and names.
-use Rattle.std.proofs.Common.{◌≡◌, ℕ, zero, suc, ◌+◌, ◌<◌, ◌≤◌, Bool, true, false, not, cond, List, [], ◌∷◌, ◌++◌, map, filter, take, length, get_or, refl, sym, ap, ◌∙◌, subst, arith, bytes_eq, inl, inr}
+use Rattle.std.proofs.Common.{◌≡◌, ℕ, zero, suc, ◌+◌, ◌<◌, ◌≤◌, Bool, true, List, [], ◌∷◌, ◌++◌, map, filter, take, length, get_or, refl, sym, ap, ◌∙◌, subst, arith, bytes_eq, inl, inr}
 use Rattle.std.proofs.lemmas.Bool.{or_left, or_right, cases_Bool}
 use Rattle.std.proofs.lemmas.List.{take_more, map-append, append_assoc, append-nil}
 use Rattle.op_text.specs.declared.tree.Assign.{Assign}
@@ -40,11 +40,12 @@ filter-one p x = elim (cases_Bool (p x)) [ inl e ↦ rw e (omega arith) | inr e 
 -- the names of one more of a list are gathered
 pub gathers-more : (p : List ℕ → Bool) (start old new : List (List ℕ)) (xs : List (List ℕ)) (i : ℕ) (x : List ℕ) → i < length xs → x ≡ get_or xs i x → old ≡ gathered start (filter p (take i xs)) → length old ≤ length start + i → new ≡ gathered old (filter p (x ∷ []))
     → (new ≡ gathered start (filter p (take (i + 1) xs))) × (length new ≤ length start + (i + 1))
-gathers-more p start old new xs i x l e before few after =
-    (after
-    ∙ ap (λ ys. gathered ys (filter p (x ∷ []))) before
-    ∙ sym (gathered-append start (filter p (take i xs)) (filter p (x ∷ [])))
-    ∙ ap (gathered start) (sym (filter-append p (take i xs) (x ∷ [])))
-    ∙ ap (λ y. gathered start (filter p (take i xs ++ y ∷ []))) e
-    ∙ ap (λ ys. gathered start (filter p ys)) (sym (take_more xs i x l)),
-    let long = ap length after in let most = gathered-length old (filter p (x ∷ [])) in let one = filter-one p x in omega (arith, long, most, one, few))
+gathers-more p start old new xs i x l e before few after = (
+  after
+      ∙ ap (λ ys. gathered ys (filter p (x ∷ []))) before
+      ∙ sym (gathered-append start (filter p (take i xs)) (filter p (x ∷ [])))
+      ∙ ap (gathered start) (sym (filter-append p (take i xs) (x ∷ [])))
+      ∙ ap (λ y. gathered start (filter p (take i xs ++ y ∷ []))) e
+      ∙ ap (λ ys. gathered start (filter p ys)) (sym (take_more xs i x l)),
+  let long = ap length after in let most = gathered-length old (filter p (x ∷ [])) in let one = filter-one p x in omega (arith, long, most, one, few),
+)

@@ -1,6 +1,6 @@
 -- What a block's visits do to the names.
-use Rattle.std.proofs.Common.{◌≡◌, ℕ, zero, suc, ◌+◌, ◌-◌, ◌<◌, ◌≤◌, Bool, true, false, cond, List, [], ◌∷◌, ◌++◌, map, length, replicate, fold, bytes_eq, refl, sym, ap, ◌∙◌, subst, arith, ◌⊎◌, inl, inr}
-use Rattle.std.proofs.lemmas.Bool.{cases_Bool, or_cases, or_parts, or_from, cond-true, cond-false}
+use Rattle.std.proofs.Common.{◌≡◌, ℕ, zero, suc, ◌+◌, ◌-◌, ◌<◌, Bool, true, false, List, [], ◌∷◌, ◌++◌, map, length, replicate, bytes_eq, refl, sym, ap, ◌∙◌, arith, ◌⊎◌, inl, inr}
+use Rattle.std.proofs.lemmas.Bool.{or_cases, or_parts, cond-true, cond-false}
 use Rattle.op_text.specs.declared.tree.Kind.TheVariants.{Word, Bit}
 use Rattle.op_text.specs.declared.tree.State.{State}
 use Rattle.op_text.specs.Language.{Equation}
@@ -67,9 +67,9 @@ blanks-at n names [] x (inr e) = e
 blanks-at n names (e ∷ es) x h = blanks-at n (changed names e.name (blank n)) es x (elim (cases_name x e.name) [
   | inl s ↦ inr (changed-same names e.name (blank n) x s)
   | inr ne ↦ elim h [
-      | inl m ↦ elim (or_cases (bytes_eq e.name x) (is_among (targets_of es) x) m) [ inl s ↦ absurd (ne (sym (name-true e.name x s))) | inr t ↦ inl t ]
-      | inr b ↦ inr (changed-other names e.name (blank n) x ne ∙ b)
-    ]
+    | inl m ↦ elim (or_cases (bytes_eq e.name x) (is_among (targets_of es) x) m) [ inl s ↦ absurd (ne (sym (name-true e.name x s))) | inr t ↦ inl t ]
+    | inr b ↦ inr (changed-other names e.name (blank n) x ne ∙ b)
+  ]
 ])
 
 abbrev pub names_of : List State → List (List ℕ)

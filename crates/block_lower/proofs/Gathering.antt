@@ -1,12 +1,12 @@
 -- Names gathered once each, and their numbers.
-use Rattle.std.proofs.Common.{◌≡◌, ◌≢◌, ℕ, zero, suc, ◌+◌, ◌<◌, ◌≤◌, Bool, true, false, not, ◌||◌, cond, List, [], ◌∷◌, ◌++◌, map, filter, length, refl, sym, ap, ◌∙◌, subst, arith, ◌⊎◌, inl, inr, bytes_eq, Some, is_some}
+use Rattle.std.proofs.Common.{◌≡◌, ◌≢◌, ℕ, ◌+◌, ◌≤◌, true, false, cond, List, [], ◌∷◌, ◌++◌, length, refl, sym, ap, ◌∙◌, subst, arith, ◌⊎◌, inl, inr, bytes_eq, Some, is_some}
 use Rattle.std.proofs.lemmas.Bool.{or_cases, or_left, or_right, cases_Bool, cases_lt, cond-true, cond-false, cond_both, false_from_ne_true}
 use Rattle.std.proofs.lemmas.List.{get_or_append_left, get_or_push, length_push}
 use Rattle.indexmap.specs.IndexMap.{get}
 use Rattle.op_text.specs.Rules.{is_among}
 use Rattle.aoi_graph.specs.Blocks.{Numbers}
-use Rattle.block_lower.specs.Inputs.{gathered, name_at, AreNumbered}
-use Rattle.block_lower.proofs.Names.{name-true, name-same, cases_name, among-at, among-is, among-left, among-right, among-either, among-here, among-one, place-of, AreOnce}
+use Rattle.block_lower.specs.Inputs.{gathered, AreNumbered}
+use Rattle.block_lower.proofs.Names.{name-true, name-same, cases_name, among-is, among-left, among-right, among-either, among-here, among-one, AreOnce}
 
 pub gathered-append : (known xs ys : List (List ℕ)) → gathered known (xs ++ ys) ≡ gathered (gathered known xs) ys
 gathered-append known [] ys = refl
@@ -35,12 +35,12 @@ pub gathered-from : (known xs : List (List ℕ)) (x : List ℕ) → is_among (ga
 gathered-from known [] x e = inl e
 gathered-from known (y ∷ ys) x e = elim (gathered-from (cond (is_among known y) known (known ++ y ∷ [])) ys x e) [
   | inl h ↦ elim (cases_Bool (is_among known y)) [
-      | inl k ↦ inl (subst (λ zs. is_among zs x ≡ true) (cond-true (is_among known y) known (known ++ y ∷ []) k) h)
-      | inr k ↦ elim (among-either known (y ∷ []) x (subst (λ zs. is_among zs x ≡ true) (cond-false (is_among known y) known (known ++ y ∷ []) k) h)) [
-          | inl f ↦ inl f
-          | inr f ↦ inr (or_left (bytes_eq y x) (is_among ys x) (name-same y x (among-one y x f)))
-        ]
+    | inl k ↦ inl (subst (λ zs. is_among zs x ≡ true) (cond-true (is_among known y) known (known ++ y ∷ []) k) h)
+    | inr k ↦ elim (among-either known (y ∷ []) x (subst (λ zs. is_among zs x ≡ true) (cond-false (is_among known y) known (known ++ y ∷ []) k) h)) [
+      | inl f ↦ inl f
+      | inr f ↦ inr (or_left (bytes_eq y x) (is_among ys x) (name-same y x (among-one y x f)))
     ]
+  ]
   | inr h ↦ inr (or_right (bytes_eq y x) (is_among ys x) h)
 ]
 
@@ -49,14 +49,14 @@ once-more names x once new i j li lj e =
     let long = length_push names x in
     elim (cases_lt i (length names)) [
       | inl a ↦ elim (cases_lt j (length names)) [
-          | inl b ↦ once i j a b (sym (get_or_append_left names (x ∷ []) [] i a) ∙ e ∙ get_or_append_left names (x ∷ []) [] j b)
-          | inr b ↦ let same : length names ≡ j = omega (arith, long) in
-              let t = among-is names i x a (sym (get_or_append_left names (x ∷ []) [] i a) ∙ e ∙ get_or_push names x [] j same) in absurd (cc)
-        ]
+        | inl b ↦ once i j a b (sym (get_or_append_left names (x ∷ []) [] i a) ∙ e ∙ get_or_append_left names (x ∷ []) [] j b)
+        | inr b ↦ let same : length names ≡ j = omega (arith, long) in
+            let t = among-is names i x a (sym (get_or_append_left names (x ∷ []) [] i a) ∙ e ∙ get_or_push names x [] j same) in absurd (cc)
+      ]
       | inr a ↦ let here : length names ≡ i = omega (arith, long) in elim (cases_lt j (length names)) [
-          | inl b ↦ let t = among-is names j x b (sym (get_or_append_left names (x ∷ []) [] j b) ∙ sym e ∙ get_or_push names x [] i here) in absurd (cc)
-          | inr b ↦ omega (arith, long)
-        ]
+        | inl b ↦ let t = among-is names j x b (sym (get_or_append_left names (x ∷ []) [] j b) ∙ sym e ∙ get_or_push names x [] i here) in absurd (cc)
+        | inr b ↦ omega (arith, long)
+      ]
     ]
 
 pub gathered-once : (known xs : List (List ℕ)) → AreOnce known → AreOnce (gathered known xs)
@@ -69,9 +69,9 @@ numbered-more names x old new h same others = record {
   some = λ q. elim (cases_name q x) [
     | inl e ↦ subst (λ z. is_some (get bytes_eq new z) ≡ is_among (names ++ x ∷ []) z) (sym e) (rw same (sym (among-right names (x ∷ []) x (among-here x))))
     | inr ne ↦ ap is_some (others q ne) ∙ h.some q ∙ elim (cases_Bool (is_among names q)) [
-        | inl t ↦ t ∙ sym (among-left names (x ∷ []) q t)
-        | inr f ↦ f ∙ sym (false_from_ne_true (is_among (names ++ x ∷ []) q) (λ t. elim (among-either names (x ∷ []) q t) [ inl u ↦ (cc) | inr u ↦ ne (sym (among-one x q u)) ]))
-      ]
+      | inl t ↦ t ∙ sym (among-left names (x ∷ []) q t)
+      | inr f ↦ f ∙ sym (false_from_ne_true (is_among (names ++ x ∷ []) q) (λ t. elim (among-either names (x ∷ []) q t) [ inl u ↦ (cc) | inr u ↦ ne (sym (among-one x q u)) ]))
+    ]
   ];
   place = λ q k e. elim (cases_name q x) [
     | inl s ↦ let f : get bytes_eq new x ≡ Some k = subst (λ z. get bytes_eq new z ≡ Some k) s e in

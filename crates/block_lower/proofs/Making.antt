@@ -1,27 +1,23 @@
 -- The graph of a block is made for its inputs.
-use Rattle.std.proofs.Common.{◌≡◌, ℕ, zero, suc, ◌+◌, ◌*◌, ◌^◌, ◌<◌, ◌≤◌, Bool, true, false, not, List, [], ◌∷◌, ◌++◌, map, filter, count_by, length, refl, sym, ap, ◌∙◌, subst, arith, bytes_eq, Some, None, is_some, slice_get, slice_index, length-append, inl, inr}
-use Rattle.std.proofs.lemmas.Bool.{cases_Bool, true_from_ne_false, not_from_false}
+use Rattle.std.proofs.Common.{◌≡◌, ℕ, zero, suc, ◌+◌, ◌^◌, ◌<◌, ◌≤◌, Bool, true, false, not, List, [], ◌∷◌, ◌++◌, map, filter, length, refl, sym, ap, ◌∙◌, arith, Some, None, is_some, slice_get, slice_index, length-append, inl, inr}
+use Rattle.std.proofs.lemmas.Bool.{cases_Bool, not_from_false}
 use Rattle.std.proofs.lemmas.List.{length-map}
 use Rattle.std.proofs.lemmas.List.Sums.{length-filter, count_by-le-length}
-use Rattle.indexmap.specs.IndexMap.{get}
 use Rattle.op_text.specs.declared.tree.State.{State}
 use Rattle.op_text.specs.declared.tree.Assign.{Assign}
-use Rattle.op_text.specs.Language.{Equation, equation, term}
+use Rattle.op_text.specs.Language.{Equation, equation}
 use Rattle.op_text.specs.Meaning.{term_bit, with_lets}
 use Rattle.op_text.specs.Rules.{is_among}
 use Rattle.aoi_graph.specs.declared.AoiNode.{AoiNode}
-use Rattle.aoi_graph.specs.Gates.{aoi_at, aoi_values, is_gate}
+use Rattle.aoi_graph.specs.Gates.{aoi_at, aoi_values}
 use Rattle.aoi_graph.specs.Blocks.{Numbers, all_parts, all_weights, AreHeld, NamesInputs, BlockReads, HaveValues, after_lets, is_input}
 use Rattle.mig_graph.specs.declared.Lit.{Lit}
-use Rattle.mig_graph.specs.Graph.{Graph, IsGraph, value}
+use Rattle.mig_graph.specs.Graph.{Graph, value}
 use Rattle.mig_graph.specs.Outputs.{lit_at, KeepsOutputs}
 use Rattle.mig_graph.specs.Inputs.{HasInput, IsInputCount}
 use Rattle.mig_graph.specs.InputLaws.{held-inputs, count-most}
-use Rattle.mig_graph.specs.Reduced.{IsReduced}
-use Rattle.loop_ir.specs.Plain.{Block}
-use Rattle.loop_ir.specs.Statements.{Slots, BlockMeets, block_reads, equation_names, targets_of}
-use Rattle.block_lower.specs.Inputs.{block_from, block_inputs, gathered, name_at, AreNumbered}
-use Rattle.block_lower.specs.Form.{places_of, IsBlockBody}
+use Rattle.loop_ir.specs.Statements.{Slots, BlockMeets, equation_names, targets_of}
+use Rattle.block_lower.specs.Inputs.{block_from, block_inputs, name_at, AreNumbered}
 use Rattle.block_lower.proofs.Names.{among-left, among-right, among-kept}
 use Rattle.block_lower.proofs.Gathering.{gathered-all, gathered-length}
 use Rattle.block_lower.proofs.Bounds.{block-most, equations-most}

@@ -1,5 +1,5 @@
 -- Each name that a block reads is an input or an earlier let.
-use Rattle.std.proofs.Common.{◌≡◌, ℕ, ◌+◌, Bool, true, false, not, ◌||◌, List, [], ◌∷◌, ◌++◌, map, refl, sym, ap, ◌∙◌, ◌⊎◌, inl, inr, bytes_eq, Some, None, is_some}
+use Rattle.std.proofs.Common.{◌≡◌, ℕ, ◌+◌, Bool, true, ◌||◌, List, [], ◌∷◌, ◌++◌, map, inl, inr, bytes_eq}
 use Rattle.std.specs.List.{AllByRecursion}
 use Rattle.std.proofs.lemmas.Bool.{or_cases, or_left, or_right}
 use Rattle.op_text.specs.declared.tree.Assign.{Assign}
@@ -44,6 +44,7 @@ pub block-reads : (r k : List ℕ → Bool) (lets assigns : List Assign) → Let
 block-reads r k [] assigns m h g = assigns-read r k assigns m g
 block-reads r k (l ∷ lets) assigns m h g =
     let here = term_names (term l.value) in
-    let later = equation_names (map equation lets) in
-    (term-reads r k 0 (term l.value) m.0 (knows-left r k here later h),
-    block-reads (λ name. bytes_eq name l.name || r name) (λ name. bytes_eq name l.name || k name) lets assigns m.1 (knows-more r k l.name later (knows-right r k here later h)) (knows-more r k l.name (equation_names (map equation assigns)) g))
+    let later = equation_names (map equation lets) in (
+      term-reads r k 0 (term l.value) m.0 (knows-left r k here later h),
+      block-reads (λ name. bytes_eq name l.name || r name) (λ name. bytes_eq name l.name || k name) lets assigns m.1 (knows-more r k l.name later (knows-right r k here later h)) (knows-more r k l.name (equation_names (map equation assigns)) g),
+    )

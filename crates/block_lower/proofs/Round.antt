@@ -1,21 +1,20 @@
 -- What one round of a block's body does to the rows.
-use Rattle.std.proofs.Common.{◌≡◌, ℕ, zero, suc, ◌+◌, ◌<◌, ◌≤◌, Bool, true, false, List, [], ◌∷◌, map, length, Some, slice_get, refl, sym, ap, ◌∙◌, subst, arith, ◌⊎◌, inl, inr}
+use Rattle.std.proofs.Common.{◌≡◌, ℕ, zero, suc, ◌<◌, true, List, [], ◌∷◌, length, Some, slice_get, refl, sym, ap, ◌∙◌, subst, arith}
 use Rattle.std.proofs.lemmas.List.{length-map}
-use Rattle.op_text.specs.Language.{Equation, Block, Statement, Visit}
-use Rattle.op_text.specs.Meaning.{term_bit, with_lets, width}
+use Rattle.op_text.specs.Language.{Equation, Block, Visit}
 use Rattle.op_text.specs.Rules.{is_among}
 use Rattle.loop_ir.specs.Plain.{Block as Body}
 use Rattle.loop_ir.specs.Loops.{round_at}
 use Rattle.loop_ir.specs.Spots.{Spot, Spots, spot_at, nth_place, nth_spot, round_env, after_round}
 use Rattle.loop_ir.specs.Like.{gives}
 use Rattle.loop_ir.specs.Statements.{Slots, targets_of, written_names, statement_names}
-use Rattle.loop_ir.specs.Lowered.{slot_spot, IsRowOf}
+use Rattle.loop_ir.specs.Lowered.{IsRowOf}
 use Rattle.loop_laws.proofs.Same.{write_other, write_at}
 use Rattle.block_lower.specs.Inputs.{block_inputs, name_at}
-use Rattle.block_lower.specs.Form.{places_of, IsBlockBody}
+use Rattle.block_lower.specs.Form.{IsBlockBody}
 use Rattle.block_lower.proofs.Names.{among-at}
 use Rattle.block_lower.proofs.Rows.{slot_or, row_of, position, position-below, row-below, named_row, nth-row}
-use Rattle.block_lower.proofs.Facts.{Given, once-distinct, target-written, written-named, input-named, found, rows-once}
+use Rattle.block_lower.proofs.Facts.{Given, once-distinct, target-written, written-named, found, rows-once}
 use Rattle.block_lower.proofs.Folds.{equation_at}
 
 pub targets-long : (b : Block) → length (targets_of b.assigns) ≡ length b.assigns
@@ -74,5 +73,5 @@ round-other {b = b} {body = body} is n i bits q out =
 pub round-rest : {slots : Slots} {fb fw : ℕ} {b : Block} {body : Body} → Given slots fb fw b → IsBlockBody slots b body → (n i : ℕ) → i < n → (bits : Spots) (q : Spot) → (IsRowOf n slots (written_names (Visit b)) q → ⊥) → after_round n (round_at body i 0) bits q ≡ bits q
 round-rest {slots = slots} {b = b} g is n i lt bits q out =
     round-other is n i bits q (λ j l e.
-        let x = name_at (targets_of b.assigns) j in
-        out (subst (IsRowOf n slots (written_names (Visit b))) (sym e) (named-row-is g (written_names (Visit b)) n (position b.down n i) x (position-below b.down n i lt) (target-written b x (target-among b j l)) (target-named b j l))))
+    let x = name_at (targets_of b.assigns) j in
+    out (subst (IsRowOf n slots (written_names (Visit b))) (sym e) (named-row-is g (written_names (Visit b)) n (position b.down n i) x (position-below b.down n i lt) (target-written b x (target-among b j l)) (target-named b j l))))

@@ -1,10 +1,10 @@
 -- The rows after the states have their starts.
-use Rattle.std.proofs.Common.{◌≡◌, ℕ, zero, suc, ◌+◌, ◌<◌, Bool, true, false, List, [], ◌∷◌, ◌++◌, map, length, replicate, bytes_eq, refl, sym, ap, ◌∙◌, subst, arith, ◌⊎◌, inl, inr}
+use Rattle.std.proofs.Common.{◌≡◌, ℕ, ◌<◌, Bool, true, false, List, [], ◌∷◌, ◌++◌, map, length, bytes_eq, refl, sym, ap, ◌∙◌, subst, arith, ◌⊎◌, inl, inr}
 use Rattle.std.proofs.lemmas.Bool.{or_cases, or_left, or_right}
 use Rattle.std.proofs.lemmas.List.{length-replicate}
 use Rattle.mig_graph.specs.Graph.{values_from}
 use Rattle.op_text.specs.declared.tree.State.{State}
-use Rattle.op_text.specs.Language.{Block, Statement, Visit}
+use Rattle.op_text.specs.Language.{Block, Visit}
 use Rattle.op_text.specs.Meaning.{Held, changed, with_states, with_blanks}
 use Rattle.op_text.specs.Rules.{is_among}
 use Rattle.op_text.specs.Scratch.{state_names}
@@ -19,7 +19,7 @@ use Rattle.block_lower.specs.Form.{place_of, constant, start}
 use Rattle.block_lower.proofs.Names.{name-true, name-same, cases_name}
 use Rattle.block_lower.proofs.Rows.{slot_or, row_of, position, place-row}
 use Rattle.block_lower.proofs.Facts.{Given, state-written, written-named, word-target, read-is, found, state-kind, rows-once}
-use Rattle.block_lower.proofs.Folds.{changed-same, changed-other, names_of, states-other, blanks-other, blanks-at, blank}
+use Rattle.block_lower.proofs.Folds.{changed-same, changed-other, names_of, states-other, blanks-other, blanks-at}
 use Rattle.block_lower.proofs.Visits.{Stands, one_bit, row, zero-below}
 
 constant-does : (n : ℕ) (v : Bool) (p : Place) (bits : Spots) → after_round n (round_at (constant v p) 0 0) bits ≡ set_spot bits (spot_at n 0 0 p) v
@@ -74,10 +74,10 @@ states-match {slots = slots} {b = b} g n lt down (s ∷ ss) all names bits x e m
     states-match g n lt down ss (tail-states b s ss all) (changed names s.name (one_bit s.start)) (set_spot bits spot s.start) x e (elim (cases_name x s.name) [
       | inl same ↦ inr (changed-same names s.name (one_bit s.start) x same ∙ ap one_bit (sym (set_same bits spot s.start (row n slots x 0) (ap (λ y. row n slots y 0) same ∙ sym (state-spot g n down s h)))))
       | inr ne ↦ elim m [
-          | inl t ↦ elim (or_cases (bytes_eq s.name x) (is_among (names_of ss) x) t) [ inl u ↦ absurd (ne (sym (name-true s.name x u))) | inr u ↦ inl u ]
-          | inr t ↦ inr (changed-other names s.name (one_bit s.start) x ne ∙ t
-              ∙ ap one_bit (sym (set_other bits spot s.start (row n slots x 0) (λ q. ne (rows-once g n x s.name 0 0 (written-named b x (state-written b x e)) (written-named b s.name (state-written b s.name h)) (zero-below n (slot_or (slots x)).kind lt) (zero-below n (slot_or (slots s.name)).kind lt) (q ∙ state-spot g n down s h)).0))))
-        ]
+        | inl t ↦ elim (or_cases (bytes_eq s.name x) (is_among (names_of ss) x) t) [ inl u ↦ absurd (ne (sym (name-true s.name x u))) | inr u ↦ inl u ]
+        | inr t ↦ inr (changed-other names s.name (one_bit s.start) x ne ∙ t
+            ∙ ap one_bit (sym (set_other bits spot s.start (row n slots x 0) (λ q. ne (rows-once g n x s.name 0 0 (written-named b x (state-written b x e)) (written-named b s.name (state-written b s.name h)) (zero-below n (slot_or (slots x)).kind lt) (zero-below n (slot_or (slots s.name)).kind lt) (q ∙ state-spot g n down s h)).0))))
+      ]
     ])
 
 pub begins : {slots : Slots} {fb fw : ℕ} {b : Block} → Given slots fb fw b → (n : ℕ) → 0 < n → (old : List ℕ → Held) (before : Spots) → Stands slots b n old before 0 (with_states (with_blanks n old b.assigns) b.states) (started n slots b.down b.states before)

@@ -1,10 +1,10 @@
 -- The rows after some positions hold what the names hold.
-use Rattle.std.proofs.Common.{◌≡◌, ℕ, zero, suc, ◌+◌, ◌-◌, ◌<◌, ◌≤◌, Bool, true, false, List, [], ◌∷◌, ◌++◌, map, length, Some, fold, slice_get, slice_index_or, slice_set, refl, sym, ap, ◌∙◌, subst, arith, ◌⊎◌, inl, inr}
+use Rattle.std.proofs.Common.{◌≡◌, ℕ, zero, suc, ◌+◌, ◌<◌, Bool, true, false, List, [], ◌∷◌, length, Some, fold, slice_index_or, slice_set, refl, sym, ap, ◌∙◌, subst, arith, inl, inr}
 use Rattle.std.proofs.lemmas.Bool.{cases_Bool, cases_eq}
 use Rattle.std.proofs.lemmas.List.{length-set, get_or-set_same, get_or-set_other}
 use Rattle.op_text.specs.declared.tree.Kind.{Kind}
 use Rattle.op_text.specs.declared.tree.Kind.TheVariants.{Word, Bit}
-use Rattle.op_text.specs.Language.{Equation, Block, Statement, Visit, Nought}
+use Rattle.op_text.specs.Language.{Equation, Block, Visit, Nought}
 use Rattle.op_text.specs.Meaning.{Held, term_bit, with_lets, bit_read, bit_written, visited, width}
 use Rattle.op_text.specs.Rules.{is_among}
 use Rattle.op_text.specs.Scratch.{state_names, word_names}
@@ -15,11 +15,11 @@ use Rattle.loop_ir.specs.Statements.{Slots, targets_of, read_names, written_name
 use Rattle.loop_ir.specs.Lowered.{slot_spot, IsRowOf}
 use Rattle.block_lower.specs.Inputs.{block_inputs, name_at}
 use Rattle.block_lower.specs.Form.{IsBlockBody}
-use Rattle.block_lower.proofs.Names.{among-at, among-is, among-either, place-of}
+use Rattle.block_lower.proofs.Names.{among-at, among-either, place-of}
 use Rattle.block_lower.proofs.Rows.{slot_or, row_of, position, position-below, position-once, row-below, named_row}
 use Rattle.block_lower.proofs.Facts.{Given, state-written, word-written, written-named, read-named, word-target, input-is, read-is, found, state-kind, word-kind, rows-once}
 use Rattle.block_lower.proofs.Folds.{equation_at, assigned-other, assigned-at, positions_from}
-use Rattle.block_lower.proofs.Round.{targets-long, target-among, target-named, equation-got, named-once, read-row, round-at, round-other, round-rest}
+use Rattle.block_lower.proofs.Round.{targets-long, target-among, target-named, equation-got, read-row, round-at, round-other, round-rest}
 
 abbrev pub one_bit : Bool → Held
 one_bit v = record { kind = Bit; bits = v ∷ [] }
@@ -110,9 +110,9 @@ row-stays : {slots : Slots} {fb fw : ℕ} {b : Block} {body : Body} → Given sl
 row-stays {slots = slots} {b = b} g is n i lt bits x v e lv out =
     let p = position b.down n i in
     round-other is n i bits (row n slots x v) (λ j l q.
-        let t = name_at (targets_of b.assigns) j in
-        let h = rows-once g n x t v (row_of p (slot_or (slots t)).kind) e (target-named b j l) lv (row-below n p (slot_or (slots t)).kind (position-below b.down n i lt)) q in
-        out (subst (λ m. is_among (targets_of b.assigns) m ≡ true) (sym h.0) (target-among b j l)) (h.1 ∙ ap (λ m. row_of p (slot_or (slots m)).kind) (sym h.0)))
+    let t = name_at (targets_of b.assigns) j in
+    let h = rows-once g n x t v (row_of p (slot_or (slots t)).kind) e (target-named b j l) lv (row-below n p (slot_or (slots t)).kind (position-below b.down n i lt)) q in
+    out (subst (λ m. is_among (targets_of b.assigns) m ≡ true) (sym h.0) (target-among b j l)) (h.1 ∙ ap (λ m. row_of p (slot_or (slots m)).kind) (sym h.0)))
 
 pub zero-below : (n : ℕ) (k : Kind) → 0 < n → 0 < width n k
 zero-below n Word l = l

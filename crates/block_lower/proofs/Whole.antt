@@ -1,8 +1,8 @@
 -- A block's program does the block.
-use Rattle.std.proofs.Common.{◌≡◌, ℕ, zero, suc, ◌+◌, ◌*◌, ◌<◌, ◌≤◌, Bool, true, List, [], ◌∷◌, ◌++◌, map, fold, length, refl, sym, ap, ◌∙◌, subst, arith, ◌⊎◌, inl, inr}
+use Rattle.std.proofs.Common.{◌≡◌, ℕ, ◌+◌, ◌*◌, ◌<◌, ◌≤◌, true, List, [], ◌∷◌, ◌++◌, map, fold, length, sym, ap, ◌∙◌, subst, arith, inl}
 use Rattle.std.proofs.lemmas.List.{append-nil}
-use Rattle.op_text.specs.Language.{Block, Statement, Visit}
-use Rattle.op_text.specs.Meaning.{Held, visited, positions, with_blanks, with_states, after_statement}
+use Rattle.op_text.specs.Language.{Block, Visit}
+use Rattle.op_text.specs.Meaning.{Held, visited, with_blanks, with_states, after_statement}
 use Rattle.op_text.specs.Rules.{is_among}
 use Rattle.loop_ir.specs.Plain.{Block as Body, StepOf}
 use Rattle.loop_ir.specs.Plain.StepOf.{Along}
@@ -10,12 +10,12 @@ use Rattle.loop_ir.specs.Loops.{one_round, rounds, all_rounds}
 use Rattle.loop_ir.specs.Spots.{Spot, Spots, after_rounds}
 use Rattle.loop_ir.specs.Costs.{rounds_cost}
 use Rattle.loop_ir.specs.Statements.{Slots, read_names, written_names}
-use Rattle.loop_ir.specs.Lowered.{Holds, IsRowOf, Does, IsLowered}
+use Rattle.loop_ir.specs.Lowered.{Holds, IsRowOf, IsLowered}
 use Rattle.block_lower.specs.Inputs.{block_inputs}
 use Rattle.block_lower.specs.Form.{start, IsBlockBody, IsBlockProgram}
 use Rattle.block_lower.proofs.Facts.{Given}
-use Rattle.block_lower.proofs.Folds.{positions_from, positions-are}
-use Rattle.block_lower.proofs.Visits.{Stands, all-visits, rounds-rest}
+use Rattle.block_lower.proofs.Folds.{positions-are}
+use Rattle.block_lower.proofs.Visits.{all-visits, rounds-rest}
 use Rattle.block_lower.proofs.Starts.{started, starts-do, started-rest, begins}
 use Rattle.block_lower.proofs.Ends.{are-read, holds-all}
 use Rattle.block_lower.proofs.Costs.{within-ceiling, program-cost}

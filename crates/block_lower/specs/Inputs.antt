@@ -1,12 +1,12 @@
 -- The inputs of a block's graph.
-use Rattle.std.specs.Prelude.{◌≡◌, ℕ, ◌<◌, Bool, not, if◌then◌else◌, List, [], ◌∷◌, ◌++◌, map, filter, length, Some, is_some, slice_index_or, bytes_eq}
+use Rattle.std.specs.Prelude.{◌≡◌, ℕ, ◌<◌, Bool, if◌then◌else◌, List, [], ◌∷◌, ◌++◌, map, length, Some, is_some, slice_index_or, bytes_eq}
 use Rattle.indexmap.specs.IndexMap.{get}
 use Rattle.op_text.specs.declared.tree.State.{State}
 use Rattle.op_text.specs.declared.tree.Assign.{Assign}
-use Rattle.op_text.specs.Language.{Equation, Block, equation}
+use Rattle.op_text.specs.Language.{Block, equation}
 use Rattle.op_text.specs.Rules.{is_among}
 use Rattle.aoi_graph.specs.Blocks.{Numbers}
-use Rattle.loop_ir.specs.Statements.{equation_names, targets_of, block_reads}
+use Rattle.loop_ir.specs.Statements.{block_reads}
 
 -- a block by its parts
 abbrev pub block_from : Bool → List State → List Assign → List Assign → Block

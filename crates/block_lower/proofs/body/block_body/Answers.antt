@@ -1,9 +1,8 @@
-use Rattle.std.proofs.Common.{◌≡◌, List, ℕ, length, map, sym, subst, arith, ◌∙◌, ap}
+use Rattle.std.proofs.Common.{sym, subst, arith, ◌∙◌, ap}
 use Rattle.std.proofs.lemmas.List.{length-map}
-use Rattle.op_text.specs.declared.tree.State.{State}
 use Rattle.op_text.specs.Language.{equation}
-use Rattle.loop_ir.specs.Statements.{slots_of, BlockMeets}
-use Rattle.block_lower.specs.Inputs.{block_from, block_inputs, AreNumbered}
+use Rattle.loop_ir.specs.Statements.{slots_of}
+use Rattle.block_lower.specs.Inputs.{AreNumbered}
 use Rattle.block_lower.specs.Form.{places_of}
 use Rattle.block_lower.proofs.Making.{room, parts-few, inputs-below, inputs-most, output-values}
 use Rattle.block_lower.proofs.body.block_body.Goals as goal

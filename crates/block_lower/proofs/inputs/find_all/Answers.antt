@@ -1,4 +1,4 @@
-use Rattle.std.proofs.Common.{◌≡◌, ◌++◌, ap, ◌∙◌, sym, arith, map, take}
+use Rattle.std.proofs.Common.{◌++◌, ap, ◌∙◌, sym, arith, map, take}
 use Rattle.std.proofs.lemmas.List.{append_assoc}
 use Rattle.op_text.specs.Language.{term, equation}
 use Rattle.loop_ir.specs.Statements.{term_names, equation_names}

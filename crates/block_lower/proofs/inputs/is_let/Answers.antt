@@ -1,4 +1,4 @@
-use Rattle.std.proofs.Common.{◌≡◌, sym, arith}
+use Rattle.std.proofs.Common.{sym, arith}
 use Rattle.block_lower.proofs.Finding.{let-found}
 use Rattle.block_lower.proofs.inputs.is_let.Goals as goal
 

@@ -1,4 +1,4 @@
-use Rattle.std.proofs.Common.{◌≡◌, ◌≢◌, List, ℕ, ◌++◌, ◌∷◌, [], length, sym, subst, bytes_eq, Some, ◌∙◌, ap}
+use Rattle.std.proofs.Common.{◌≡◌, length, sym, subst, bytes_eq, Some, ◌∙◌, ap}
 use Rattle.indexmap.specs.IndexMap.{get}
 use Rattle.block_lower.specs.Inputs.{AreNumbered}
 use Rattle.block_lower.proofs.Gathering.{numbered-more}

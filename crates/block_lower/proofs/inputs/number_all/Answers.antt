@@ -1,4 +1,4 @@
-use Rattle.std.proofs.Common.{◌≡◌, List, ℕ, Bool, not, map, arith}
+use Rattle.std.proofs.Common.{List, ℕ, Bool, not, map, arith}
 use Rattle.op_text.specs.declared.tree.Assign.{Assign}
 use Rattle.op_text.specs.Language.{equation}
 use Rattle.op_text.specs.Rules.{is_among}

@@ -1,11 +1,9 @@
-use Rattle.std.proofs.Common.{◌≡◌, ◌++◌, ◌∷◌, [], List, map, sym, ap, ◌∙◌, arith, length, ◌≤◌}
+use Rattle.std.proofs.Common.{◌++◌, ◌∷◌, [], map, ap, ◌∙◌, arith}
 use Rattle.std.proofs.lemmas.List.{map-append}
 use Rattle.loop_ir.specs.declared.ir.Step.TheVariants.{Each}
 use Rattle.loop_ir.specs.Plain.{block_of, step_of}
 use Rattle.loop_ir.specs.Plain.StepOf.{Along}
 use Rattle.loop_ir.specs.Statements.{slots_of}
-use Rattle.block_lower.specs.Inputs.{block_from, block_inputs}
-use Rattle.block_lower.specs.Form.{IsBlockProgram}
 use Rattle.block_lower.proofs.Making.{inputs-few}
 use Rattle.block_lower.proofs.Whole.{lowered, is-program}
 use Rattle.block_lower.proofs.lower.lower_block.Goals as goal
