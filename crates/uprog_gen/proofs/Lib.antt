@@ -1,0 +1,20 @@
+-- That the code of loop programs does them.
+pub mod Goes
+pub mod Runs
+pub mod Each
+pub mod Nest
+pub mod Held
+pub mod Program
+pub mod Same
+pub mod Laid
+pub mod Values
+pub mod Agree
+pub mod Planned
+pub mod Ranges
+pub mod Top
+pub mod Outs
+pub mod Sizes
+pub mod Emitted
+pub mod Legal
+pub mod Joined
+pub mod Chain

@@ -1,0 +1,11 @@
+//! The compiler from loop programs to microprograms.
+#![tactic(auto)]
+
+mod emit;
+mod entry;
+mod part;
+mod plan;
+mod steps;
+
+pub use entry::compile_entry;
+pub use uprog_code::EntryCode;
