@@ -1,0 +1,12 @@
+pub mod Names
+pub mod Tokens
+pub mod Terms
+pub mod Standing
+pub mod Words
+pub mod States
+pub mod Lines
+pub mod Blocks
+pub mod Heads
+pub mod Ops
+pub mod Apart
+pub mod Few

@@ -1,0 +1,6 @@
+//! The rules of operations, on their trees.
+#![tactic(auto)]
+
+mod laws;
+
+pub use laws::{names_stand_once, rules_are_met, scratch_is_small};
