@@ -18,3 +18,7 @@ pub mod Emitted
 pub mod Legal
 pub mod Joined
 pub mod Chain
+pub mod Lays
+pub mod Lies
+pub mod Scene
+pub mod Among

@@ -6,3 +6,4 @@ pub mod Parts
 pub mod Does
 pub mod Made
 pub mod Emits
+pub mod Layout
