@@ -22,3 +22,5 @@ pub mod Lays
 pub mod Lies
 pub mod Scene
 pub mod Among
+pub mod Stage
+pub mod Ready
