@@ -24,3 +24,5 @@ pub mod Scene
 pub mod Among
 pub mod Stage
 pub mod Ready
+pub mod Numbers
+pub mod Walked

@@ -38,8 +38,8 @@ source_apart k (p ∷ ps) =
 abbrev pub IsDefinedLay : List ℕ → ℕ → ℕ → ℕ → ℕ → Lay → Type 0
 IsDefinedLay result b w bits words m =
     ((m.slot.space ≡ Result) × (m.slot.which ≡ 0) × (m.name ≡ result))
-    ⊎ (((m.slot.space ≡ ScratchBit) × (m.slot.kind ≡ Bit) × (b ≤ m.slot.which) × (m.slot.which < bits))
-    ⊎ ((m.slot.space ≡ ScratchWord) × (m.slot.kind ≡ Word) × (w ≤ m.slot.which) × (m.slot.which < words)))
+    ⊎ (((m.slot.space ≡ ScratchBit) × (m.slot.kind ≡ Bit) × (b ≤ m.slot.which) × (m.slot.which < bits) × (bytes_eq m.name result ≡ false))
+    ⊎ ((m.slot.space ≡ ScratchWord) × (m.slot.kind ≡ Word) × (w ≤ m.slot.which) × (m.slot.which < words) × (bytes_eq m.name result ≡ false)))
 
 abbrev head : Bool → ℕ → ℕ → List ℕ → Kind → Lay
 head c b w name k = lay name (cond c (slot Result 0 k) (scratch_slot b w k))
@@ -55,10 +55,10 @@ next_more : (t : Bool) (b : ℕ) → b ≤ cond t (b + 1) b
 next_more true b = omega arith
 next_more false b = omega arith
 
-head_is : (c : Bool) (k : Kind) (name result : List ℕ) (b w bits words x y : ℕ) → (c ≡ true → name ≡ result) → next Bit c b k + x ≤ bits → next Word c w k + y ≤ words → IsDefinedLay result b w bits words (head c b w name k)
-head_is true k name result b w bits words x y e f g = inl (refl, refl, e refl)
-head_is false Bit name result b w bits words x y e f g = inr (inl (refl, refl, omega arith, omega (arith, f)))
-head_is false Word name result b w bits words x y e f g = inr (inr (refl, refl, omega arith, omega (arith, g)))
+head_is : (c : Bool) (k : Kind) (name result : List ℕ) (b w bits words x y : ℕ) → bytes_eq name result ≡ c → next Bit c b k + x ≤ bits → next Word c w k + y ≤ words → IsDefinedLay result b w bits words (head c b w name k)
+head_is true k name result b w bits words x y e f g = inl (refl, refl, same_name name result e)
+head_is false Bit name result b w bits words x y e f g = inr (inl (refl, refl, omega arith, omega (arith, f), e))
+head_is false Word name result b w bits words x y e f g = inr (inr (refl, refl, omega arith, omega (arith, g), e))
 
 is_bit : Space → Bool
 is_bit Result = false
@@ -66,8 +66,8 @@ is_bit Source = false
 is_bit ScratchBit = true
 is_bit ScratchWord = false
 
-head_apart : (c : Bool) (k : Kind) (name result : List ℕ) (b w bits words : ℕ) (m : Lay) → (c ≡ true → name ≡ result) → IsDefinedLay result (next Bit c b k) (next Word c w k) bits words m → IsShared (head c b w name k) m → name ≡ m.name
-head_apart true k name result b w bits words m e (inl h) s = e refl ∙ sym h.2
+head_apart : (c : Bool) (k : Kind) (name result : List ℕ) (b w bits words : ℕ) (m : Lay) → bytes_eq name result ≡ c → IsDefinedLay result (next Bit c b k) (next Word c w k) bits words m → IsShared (head c b w name k) m → name ≡ m.name
+head_apart true k name result b w bits words m e (inl h) s = same_name name result e ∙ sym h.2
 head_apart true k name result b w bits words m e (inr (inl h)) s = absurd (cc (s.0, h.0))
 head_apart true k name result b w bits words m e (inr (inr h)) s = absurd (cc (s.0, h.0))
 head_apart false Bit name result b w bits words m e (inl h) s = absurd (cc (s.0, h.0))
@@ -80,11 +80,8 @@ head_apart false Word name result b w bits words m e (inr (inr h)) s = absurd (o
 -- further on
 wider : (result : List ℕ) (b w b' w' bits words : ℕ) (m : Lay) → b ≤ b' → w ≤ w' → IsDefinedLay result b' w' bits words m → IsDefinedLay result b w bits words m
 wider result b w b' w' bits words m f g (inl h) = inl h
-wider result b w b' w' bits words m f g (inr (inl h)) = inr (inl (h.0, h.1, omega (arith, f, h.2), h.3))
-wider result b w b' w' bits words m f g (inr (inr h)) = inr (inr (h.0, h.1, omega (arith, g, h.2), h.3))
-
-named : (result : List ℕ) (p : Param) → bytes_eq p.name result ≡ true → p.name ≡ result
-named result p e = same_name p.name result e
+wider result b w b' w' bits words m f g (inr (inl h)) = inr (inl (h.0, h.1, omega (arith, f, h.2), h.3, h.4))
+wider result b w b' w' bits words m f g (inr (inr h)) = inr (inr (h.0, h.1, omega (arith, g, h.2), h.3, h.4))
 
 module _ (result : List ℕ) (bits words : ℕ) where
   abbrev fits : Kind → List Param → ℕ → ℕ → Type 0
@@ -101,7 +98,7 @@ module _ (result : List ℕ) (bits words : ℕ) where
       let g' = fits_rest Word p ps w words g in
       let b' = next Bit c b p.kind in
       let w' = next Word c w p.kind in
-      (head_is c p.kind p.name result b w bits words (count_by (is_scratch result Bit) ps) (count_by (is_scratch result Word) ps) (named result p) f' g',
+      (head_is c p.kind p.name result b w bits words (count_by (is_scratch result Bit) ps) (count_by (is_scratch result Word) ps) refl f' g',
         each_map (IsDefinedLay result b' w' bits words) (IsDefinedLay result b w bits words)
         (λ m h. wider result b w b' w' bits words m (next_more (is_scratch result Bit p) b) (next_more (is_scratch result Word p) w) h)
         (defined_lays result b' w' ps) (defined_each b' w' ps f' g'))
@@ -114,7 +111,7 @@ module _ (result : List ℕ) (bits words : ℕ) where
       let g' = fits_rest Word p ps w words g in
       let b' = next Bit c b p.kind in
       let w' = next Word c w p.kind in
-      (each_map (IsDefinedLay result b' w' bits words) (λ m. IsShared (head c b w p.name p.kind) m → p.name ≡ m.name) (λ m h s. head_apart c p.kind p.name result b w bits words m (named result p) h s) (defined_lays result b' w' ps) (defined_each b' w' ps f' g'),
+      (each_map (IsDefinedLay result b' w' bits words) (λ m. IsShared (head c b w p.name p.kind) m → p.name ≡ m.name) (λ m h s. head_apart c p.kind p.name result b w bits words m refl h s) (defined_lays result b' w' ps) (defined_each b' w' ps f' g'),
         defined_apart b' w' ps f' g')
 
 apart-append : (ls ms : List Lay) → AreApartLays ls → AreApartLays ms → Each (λ l. Each (λ m. IsShared l m → l.name ≡ m.name) ms) ls → AreApartLays (ls ++ ms)

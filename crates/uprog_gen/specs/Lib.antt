@@ -7,3 +7,4 @@ pub mod Does
 pub mod Made
 pub mod Emits
 pub mod Layout
+pub mod Lowered
