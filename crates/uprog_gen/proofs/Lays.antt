@@ -21,7 +21,7 @@ pub by_bool : (P : Bool → Type 0) (b : Bool) → (b ≡ true → P true) → (
 by_bool P true f g = f refl
 by_bool P false f g = g refl
 
-some_is : {A : Type 0} (x y : A) → Some x ≡ Some y → x ≡ y
+pub some_is : {A : Type 0} (x y : A) → Some x ≡ Some y → x ≡ y
 some_is x y e = cc
 
 -- what holds of each name and its place holds where a name is found

@@ -26,3 +26,4 @@ pub mod Stage
 pub mod Ready
 pub mod Numbers
 pub mod Walked
+pub mod Meant
