@@ -1,15 +1,15 @@
 -- No name of an op stands twice.
-use Rattle.std.proofs.Common.{◌≡◌, ℕ, Bool, true, false, not, ◌||◌, List, [], ◌∷◌, ◌++◌, map, Option, Some, refl, sym, ap, ◌∙◌, append_assoc, append-nil, bytes_eq, cond, subst}
+use Rattle.std.proofs.Common.{◌≡◌, ℕ, Bool, true, false, not, List, [], ◌∷◌, ◌++◌, Option, Some, refl, sym, ◌∙◌, append_assoc, append-nil, bytes_eq, cond, subst}
 use Rattle.std.specs.List.{filter}
 use Rattle.op_text.specs.declared.tree.Kind.{Kind}
 use Rattle.op_text.specs.declared.tree.Kind.TheVariants.{Word, Bit}
 use Rattle.op_text.specs.declared.tree.Param.{Param}
 use Rattle.op_text.specs.Rules.{is_among, kind_among}
-use Rattle.op_text.specs.Language.{Statement, Compute, Visit, Operation}
+use Rattle.op_text.specs.Language.{Statement, Compute, Visit}
 use Rattle.op_text.specs.Scratch.{defines, body_defines, state_names, word_names}
 use Rattle.op_text.specs.Spelling.{Each}
 use Rattle.op_rules.specs.Meets.{IsNew, IsNewOf, Differ, Context, used, names_of, let_names, targets, behind, at_start, StatementMeets, BodyMeets}
-use Rattle.op_rules.specs.Laws.{NamesAreApart, NamesStandOnce}
+use Rattle.op_rules.specs.Laws.{NamesStandOnce}
 use Rattle.op_rules.proofs.Names.{is_same, turned, new-left, new-append, each_map, each_both, others_new, or_first, or_second, or_both}
 use Rattle.op_rules.proofs.Standing.{names-append}
 use Rattle.op_rules.proofs.Blocks.{block_names}
@@ -17,9 +17,10 @@ use Rattle.op_rules.proofs.Ops.{each_append}
 
 differ-append : (xs ys : List (List ℕ)) → Differ xs → Differ ys → Each (IsNew xs) ys → Differ (xs ++ ys)
 differ-append [] ys f g h = g
-differ-append (x ∷ xs) ys f g h =
-    (new-append xs ys x f.0 (others_new x ys (each_map (IsNew (x ∷ xs)) (IsNew (x ∷ [])) (λ y k. or_both (bytes_eq x y) false (or_first (bytes_eq x y) (is_among xs y) k) refl) ys h)),
-      differ-append xs ys f.1 g (each_map (IsNew (x ∷ xs)) (IsNew xs) (λ y k. or_second (bytes_eq x y) (is_among xs y) k) ys h))
+differ-append (x ∷ xs) ys f g h = (
+  new-append xs ys x f.0 (others_new x ys (each_map (IsNew (x ∷ xs)) (IsNew (x ∷ [])) (λ y k. or_both (bytes_eq x y) false (or_first (bytes_eq x y) (is_among xs y) k) refl) ys h)),
+  differ-append xs ys f.1 g (each_map (IsNew (x ∷ xs)) (IsNew xs) (λ y k. or_second (bytes_eq x y) (is_among xs y) k) ys h),
+)
 
 -- some of the names that differ
 filter_new : (q : List ℕ → Bool) (ns : List (List ℕ)) (n : List ℕ) → IsNew ns n → IsNew (filter q ns) n
@@ -65,7 +66,7 @@ statement_apart (Visit b) c h =
     let W = word_names b in
     let other : Each (IsNew S) W = each_map (λ n. not (is_among S n) ≡ true) (IsNew S) (λ n k. not_true (is_among S n) k) W (filter_each (λ n. not (is_among S n)) (targets b)) in
     let words =
-      each_map (IsNewOf (used c ++ let_names b) c.result Word) (IsNew (names_of c.known)) (λ n f. new-left (names_of c.known) c.lets n (new-left (used c) (let_names b) n f.new)) W h.words in
+    each_map (IsNewOf (used c ++ let_names b) c.result Word) (IsNew (names_of c.known)) (λ n f. new-left (names_of c.known) c.lets n (new-left (used c) (let_names b) n f.new)) W h.words in
     let a : Apart (names_of c.known) (S ++ W) = record {
       differ = differ-append S W h.states_differ (filter_differ (λ n. not (is_among S n)) (targets b) h.targets_differ) other;
       new = each_append (IsNew (names_of c.known)) S W (new_names (names_of c.known) c.lets c.result Bit S h.states) words;
@@ -93,10 +94,11 @@ takes false k x e = cc
 
 found_each : (ps : List Param) → Differ (names_of ps) → Each (λ (p : Param). kind_among ps p.name ≡ Some p.kind) ps
 found_each [] h = tt
-found_each (p ∷ ps) h =
-    (takes (bytes_eq p.name p.name) p.kind (kind_among ps p.name) (is_same p.name p.name refl),
-      each_both (λ (q : Param). bytes_eq p.name q.name ≡ false) (λ (q : Param). kind_among ps q.name ≡ Some q.kind) (λ (q : Param). kind_among (p ∷ ps) q.name ≡ Some q.kind)
-      (λ q e f. skips (bytes_eq p.name q.name) p.kind (kind_among ps q.name) (Some q.kind) e f) ps (others_apart p.name ps h.0) (found_each ps h.1))
+found_each (p ∷ ps) h = (
+  takes (bytes_eq p.name p.name) p.kind (kind_among ps p.name) (is_same p.name p.name refl),
+  each_both (λ (q : Param). bytes_eq p.name q.name ≡ false) (λ (q : Param). kind_among ps q.name ≡ Some q.kind) (λ (q : Param). kind_among (p ∷ ps) q.name ≡ Some q.kind)
+      (λ q e f. skips (bytes_eq p.name q.name) p.kind (kind_among ps q.name) (Some q.kind) e f) ps (others_apart p.name ps h.0) (found_each ps h.1),
+)
 
 pub names_stand_once : NamesStandOnce
 names_stand_once op h =

@@ -1,32 +1,31 @@
 -- A block that breaks no rule meets the rules.
-use Rattle.std.proofs.Common.{◌≡◌, ℕ, ◌+◌, ◌<◌, ◌≤◌, Bool, true, false, not, ◌||◌, ◌&&◌, nat_le, List, [], ◌∷◌, ◌++◌, map, length, arith, Option, Some, None, refl, sym, ap, ◌∙◌, codes, subst, append_assoc, append-nil, bytes_eq, cond}
+use Rattle.std.proofs.Common.{◌≡◌, ℕ, ◌+◌, Bool, true, false, not, ◌||◌, ◌&&◌, nat_le, List, [], ◌∷◌, ◌++◌, map, length, arith, None, refl, sym, ap, ◌∙◌, codes, subst, append_assoc, append-nil, bytes_eq, cond}
 use Rattle.std.specs.List.{filter, list_any}
-use Rattle.std.proofs.lemmas.List.{map-append}
 use Rattle.text_lex.specs.Lexical.{Item}
 use Rattle.op_text.specs.declared.fault.OpsKind.TheVariants as why
 use Rattle.op_text.specs.declared.tree.Kind.{Kind}
 use Rattle.op_text.specs.declared.tree.Kind.TheVariants.{Word, Bit}
 use Rattle.op_text.specs.declared.tree.Param.{Param}
 use Rattle.op_text.specs.declared.grammar.Wanted.{Wanted}
-use Rattle.op_text.specs.declared.grammar.Wanted.TheVariants.{Stmts, Direction, Open, States, Begin, Lets, Assigns}
+use Rattle.op_text.specs.declared.grammar.Wanted.TheVariants.{Stmts, Direction, Open, States, Begin, Lets}
 use Rattle.op_text.specs.WordOps.{same_kind}
-use Rattle.op_text.specs.Rules.{Scope, breach_of, is_among, new_block}
-use Rattle.op_text.specs.Language.{Equation, Block, Visit}
+use Rattle.op_text.specs.Rules.{Scope, breach_of, is_among}
+use Rattle.op_text.specs.Language.{Block, Visit}
 use Rattle.op_text.specs.Scratch.{param, state_names, word_names}
 use Rattle.op_text.specs.Spelling.{items_spelled, direction_text, between_commas, in_turn, state_text, let_text, equation_text, statement_text, Each, HasStatement}
-use Rattle.op_rules.specs.Meets.{IsGood, IsNew, IsNewOf, IsNewLet, Context, used, names_of, let_names, BlockMeets, behind}
+use Rattle.op_rules.specs.Meets.{IsGood, IsNew, IsNewOf, IsNewLet, Context, used, names_of, let_names}
 use Rattle.op_rules.proofs.Names.{is_same, same_name, turned, among-append, or_first, or_second, or_both, each_both, fresh-new, fresh-differ}
 use Rattle.op_rules.proofs.Tokens.{goes, name_lexeme, one_rule, le_no}
 use Rattle.op_rules.proofs.Standing.{Standing, given-at, standing-more, names-append, more_context}
-use Rattle.op_rules.proofs.Words.{at_statement, BehindStatement, same_kinds}
-use Rattle.op_rules.proofs.States.{in_states, before_block, AllStates, states_peel}
-use Rattle.op_rules.proofs.Lines.{names_in, weights, in_lines, AllLets, lets_peel, AllAssigns, assigns_peel, TargetFacts}
+use Rattle.op_rules.proofs.Words.{at_statement, BehindStatement}
+use Rattle.op_rules.proofs.States.{before_block, states_peel}
+use Rattle.op_rules.proofs.Lines.{names_in, weights, in_lines, lets_peel, assigns_peel, TargetFacts}
 
-direction_peels : (down : Bool) (s : Scope) (wanted : List Wanted) (rest : List (List ℕ)) → breach_of (Direction ∷ Open ∷ wanted) s (items_spelled (direction_text down ∷ codes "(" ∷ rest)) ≡ None
-    → breach_of wanted s (items_spelled rest) ≡ None
+pub direction_moves : (down : Bool) (s : Scope) (wanted : List Wanted) (rest : List (List ℕ))
+    → breach_of (Direction ∷ Open ∷ wanted) s (items_spelled (direction_text down ∷ codes "(" ∷ rest)) ≡ breach_of wanted s (items_spelled rest)
 unfolding breach_of
-direction_peels false s wanted rest h = h
-direction_peels true s wanted rest h = h
+direction_moves false s wanted rest = refl
+direction_moves true s wanted rest = refl
 
 -- a target that is no state of the block
 target_new : (st u r s t d g : Bool) → st ≡ (((u || r) || s) || t) → (r ≡ true → u ≡ d) → (r ≡ true → t ≡ false) → s ≡ false → (g || (st && not s && not (r && not d))) ≡ false → (u || t) ≡ false
@@ -105,12 +104,12 @@ or_grouped true b c = refl
 or_grouped false b c = refl
 
 -- no let is the result
-lets_other : {stands : List (List ℕ)} {c : Context} {assigned : Bool} → Standing stands c assigned → (S T : List (List ℕ)) → Each (IsNew (stands ++ S)) T → IsNew T c.result.name
+pub lets_other : {stands : List (List ℕ)} {c : Context} {assigned : Bool} → Standing stands c assigned → (S T : List (List ℕ)) → Each (IsNew (stands ++ S)) T → IsNew T c.result.name
 lets_other {stands} {c} st S T h =
     let r = c.result.name in
     not_among (stands ++ S) T h r (among-append stands S r ∙ or_left (is_among stands r) (is_among S r) (st.all r ∙ or_true (is_among (used c) r) (bytes_eq r r) (is_same r r refl)))
 
-block_standing : {stands : List (List ℕ)} {c : Context} {assigned : Bool} → Standing stands c assigned → (S T W : List (List ℕ)) → Each (IsNew (stands ++ S)) T
+pub block_standing : {stands : List (List ℕ)} {c : Context} {assigned : Bool} → Standing stands c assigned → (S T W : List (List ℕ)) → Each (IsNew (stands ++ S)) T
     → Standing (((stands ++ S) ++ T) ++ W) (more_context c (map (λ n. param n Bit) S ++ map (λ n. param n Word) W) T) ((assigned || list_any (λ n. bytes_eq c.result.name n) S) || list_any (λ n. bytes_eq c.result.name n) W)
 block_standing {stands} {c} {assigned} st S T W h =
     let r = c.result.name in
@@ -138,7 +137,7 @@ target_facts : {stands : List (List ℕ)} {c : Context} {assigned : Bool} → St
 target_facts {stands} {c} {assigned} st ops count S T h lets done weight n f z =
     let r = bytes_eq c.result.name n in
     let e =
-      among-append (stands ++ S) T n ∙ ap (λ x. x || is_among T n) (among-append stands S n ∙ ap (λ x. x || is_among S n) (st.all n)) in
+    among-append (stands ++ S) T n ∙ ap (λ x. x || is_among T n) (among-append stands S n ∙ ap (λ x. x || is_among S n) (st.all n)) in
     let other : r ≡ true → is_among T n ≡ false = λ q. ap (is_among T) (sym (same_name c.result.name n q)) ∙ lets_other st S T h in
     record {
       good = f.good;
@@ -146,11 +145,11 @@ target_facts {stands} {c} {assigned} st ops count S T h lets done weight n f z =
       fits = λ q. word_kind c.result.kind (is_word r (same_kind c.result.kind Bit) (is_among S n) z f.kind (is_same c.result.name n (sym q)));
     }
 
-stands_move : (s : Scope) (a b : List (List ℕ)) → a ≡ b → (wanted : List Wanted) (items : List Item)
+pub stands_move : (s : Scope) (a b : List (List ℕ)) → a ≡ b → (wanted : List Wanted) (items : List Item)
     → breach_of wanted (record s { op = record s.op { stands = a } }) items ≡ None → breach_of wanted (record s { op = record s.op { stands = b } }) items ≡ None
 stands_move s a b e wanted items h = subst (λ (x : List (List ℕ)). breach_of wanted (record s { op = record s.op { stands = x } }) items ≡ None) e h
 
-known_moves : (s : Scope) (a b : List Param) → a ≡ b → (wanted : List Wanted) (items : List Item)
+pub known_moves : (s : Scope) (a b : List Param) → a ≡ b → (wanted : List Wanted) (items : List Item)
     → breach_of wanted (record s { op = record s.op { defined = a } }) items ≡ None → breach_of wanted (record s { op = record s.op { defined = b } }) items ≡ None
 known_moves s a b e wanted items h = subst (λ (x : List Param). breach_of wanted (record s { op = record s.op { defined = x } }) items ≡ None) e h
 
@@ -168,15 +167,15 @@ block_peels b ops stands c assigned count wanted rest n st h =
     let lines = in_turn let_text b.lets assigns in
     let states = between_commas state_text b.states (codes ")" ∷ codes "{" ∷ lines) in
     let a = one_rule (nat_le 16 count) why.TooMany here (Direction ∷ Open ∷ States ∷ Begin ∷ Lets ∷ Stmts ∷ []) (name_lexeme (codes "serial")) (goes wanted (direction_text b.down ∷ codes "(" ∷ states)) h in
-    let d = direction_peels b.down here (States ∷ Begin ∷ Lets ∷ Stmts ∷ wanted) states a.1 in
+    let d = sym (direction_moves b.down here (States ∷ Begin ∷ Lets ∷ Stmts ∷ wanted) states) ∙ a.1 in
     let d' = stands_move here stands (stands ++ []) (sym (append-nil stands)) (States ∷ Begin ∷ Lets ∷ Stmts ∷ wanted) (items_spelled states) d in
     let q = states_peel b.states ops stands c assigned count (Begin ∷ Lets ∷ Stmts ∷ wanted) (codes "{" ∷ lines) n.0 st d' in
     let l = lets_peel b.lets here (stands ++ S) S S 0 0 (Stmts ∷ wanted) assigns n.1 (omega arith) (omega arith) q.then in
     let new = fresh-new (stands ++ S) T l.fresh in
     let P : List ℕ → Type 0 = λ n. is_among S n ≡ false → IsNewOf (used c ++ T) c.result Word n in
     let e =
-      assigns_peel b.assigns here ((stands ++ S) ++ T) S (S ++ T) (0 + length b.lets) (0 + weights b.lets) (Stmts ∷ wanted) rest P
-      (λ done weight n f. target_facts st ops count S T new (0 + length b.lets) done weight n f) n.2 l.light l.then in
+    assigns_peel b.assigns here ((stands ++ S) ++ T) S (S ++ T) (0 + length b.lets) (0 + weights b.lets) (Stmts ∷ wanted) rest P
+    (λ done weight n f. target_facts st ops count S T new (0 + length b.lets) done weight n f) n.2 l.light l.then in
     let g = e.1 in
     record {
       meets = record {

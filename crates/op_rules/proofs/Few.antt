@@ -1,6 +1,6 @@
 -- The names of an op are few.
-use Rattle.std.proofs.Common.{◌≡◌, ℕ, ◌+◌, ◌*◌, ◌≤◌, length, lit≤, Bool, true, false, not, ◌&&◌, map, count_by, List, [], ◌∷◌, ◌++◌, refl, sym, ap, ◌∙◌, bytes_eq, cond, zero-add, arith}
-use Rattle.std.specs.List.{filter, sum_by}
+use Rattle.std.proofs.Common.{◌≡◌, ℕ, ◌+◌, ◌*◌, ◌≤◌, length, lit≤, Bool, false, not, ◌&&◌, map, count_by, List, [], ◌∷◌, ◌++◌, refl, ap, ◌∙◌, bytes_eq, cond, zero-add, arith}
+use Rattle.std.specs.List.{filter}
 use Rattle.std.proofs.lemmas.Bool.Decides.{nat_tests}
 use Rattle.std.proofs.lemmas.List.{length-map}
 use Rattle.std.proofs.lemmas.List.Sums.{sum_by-cons, sum_by-append, length-filter, count_by-le-length}
@@ -11,7 +11,7 @@ use Rattle.op_text.specs.declared.tree.WordOp.{WordOp}
 use Rattle.op_text.specs.declared.tree.WordOp.TheVariants as o
 use Rattle.op_text.specs.WordOps.{same_kind}
 use Rattle.op_text.specs.Rules.{is_among}
-use Rattle.op_text.specs.Language.{Statement, Compute, Visit, Equation, Operation}
+use Rattle.op_text.specs.Language.{Statement, Compute, Visit, Equation}
 use Rattle.op_text.specs.Scratch.{param, defines, body_defines, state_names, word_names, bits_inside, words_inside, need_inside, greatest, scratch_names}
 use Rattle.op_rules.specs.Meets.{Context, behind, at_start, targets, StatementMeets, BodyMeets}
 use Rattle.op_rules.specs.Laws.{ScratchIsSmall}

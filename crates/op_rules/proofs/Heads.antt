@@ -1,5 +1,5 @@
 -- The head of an op: its name, its sources and its result.
-use Rattle.std.proofs.Common.{◌≡◌, ℕ, ◌+◌, ◌<◌, ◌≤◌, Bool, true, false, ◌||◌, nat_le, List, [], ◌∷◌, ◌++◌, map, length, arith, Some, None, refl, sym, ap, ◌∙◌, codes, subst, append_assoc, append-nil, bytes_eq}
+use Rattle.std.proofs.Common.{◌≡◌, ℕ, ◌+◌, ◌<◌, ◌≤◌, false, nat_le, List, [], ◌∷◌, ◌++◌, length, arith, Some, None, refl, sym, ◌∙◌, codes, append_assoc, append-nil}
 use Rattle.std.proofs.lemmas.List.{length-append}
 use Rattle.text_lex.specs.Lexical.{Item}
 use Rattle.op_text.specs.declared.fault.OpsKind.TheVariants as why
@@ -26,12 +26,12 @@ in_params ops stands done = record {
   naming = None;
 }
 
-param_kind : (k : Kind) (ops stands : List (List ℕ)) (done : List Param) (n : List ℕ) (wanted : List Wanted) (rest : List (List ℕ))
-    → breach_of (Colon ∷ ParamKind ∷ wanted) (record (in_params ops stands done) { naming = Some n }) (items_spelled (codes ":" ∷ kind_text k ∷ rest)) ≡ None
-    → breach_of wanted (in_params ops (stands ++ n ∷ []) (done ++ param n k ∷ [])) (items_spelled rest) ≡ None
+pub param_kind : (k : Kind) (ops stands : List (List ℕ)) (done : List Param) (n : List ℕ) (wanted : List Wanted) (rest : List (List ℕ))
+    → breach_of (Colon ∷ ParamKind ∷ wanted) (record (in_params ops stands done) { naming = Some n }) (items_spelled (codes ":" ∷ kind_text k ∷ rest))
+    ≡ breach_of wanted (in_params ops (stands ++ n ∷ []) (done ++ param n k ∷ [])) (items_spelled rest)
 unfolding breach_of
-param_kind Word ops stands done n wanted rest h = h
-param_kind Bit ops stands done n wanted rest h = h
+param_kind Word ops stands done n wanted rest = refl
+param_kind Bit ops stands done n wanted rest = refl
 
 record OneParam (ops stands : List (List ℕ)) (done : List Param) (p : Param) (wanted : List Wanted) (rest : List (List ℕ)) : Type 0 where
   good : IsGood p.name
@@ -47,9 +47,9 @@ param_peels ops stands done p wanted rest n h =
     let s = in_params ops stands done in
     let g = sym (named NewParam (Colon ∷ ParamKind ∷ wanted) s p.name more n) ∙ h in
     let k =
-      three_rules (is_bad (spelling_of p.name) p.name) (is_among stands p.name) (nat_le 4 (length done)) why.BadName why.Twice why.TooMany
-      (record s { naming = Some p.name }) [] (name_lexeme p.name) (goes (Colon ∷ ParamKind ∷ wanted) more) g in
-    record { good = not_bad p.name k.0; fresh = k.1; few = le_no 4 (length done) k.2; then = param_kind p.kind ops stands done p.name wanted rest k.3 }
+    three_rules (is_bad (spelling_of p.name) p.name) (is_among stands p.name) (nat_le 4 (length done)) why.BadName why.Twice why.TooMany
+    (record s { naming = Some p.name }) [] (name_lexeme p.name) (goes (Colon ∷ ParamKind ∷ wanted) more) g in
+    record { good = not_bad p.name k.0; fresh = k.1; few = le_no 4 (length done) k.2; then = sym (param_kind p.kind ops stands done p.name wanted rest) ∙ k.3 }
 
 pub record AllParams (ops stands : List (List ℕ)) (done ps : List Param) (wanted : List Wanted) (rest : List (List ℕ)) : Type 0 where
   pub good : Each IsGood (names_of ps)
@@ -57,7 +57,7 @@ pub record AllParams (ops stands : List (List ℕ)) (done ps : List Param) (want
   pub few : length done + length ps ≤ 4
   pub then : breach_of wanted (in_params ops (stands ++ names_of ps) (done ++ ps)) (items_spelled rest) ≡ None
 
-params_move : (ops a b : List (List ℕ)) (p q : List Param) → a ≡ b → p ≡ q → (wanted : List Wanted) (items : List Item) → breach_of wanted (in_params ops a p) items ≡ None → breach_of wanted (in_params ops b q) items ≡ None
+pub params_move : (ops a b : List (List ℕ)) (p q : List Param) → a ≡ b → p ≡ q → (wanted : List Wanted) (items : List Item) → breach_of wanted (in_params ops a p) items ≡ None → breach_of wanted (in_params ops b q) items ≡ None
 params_move ops a b p q e f wanted items h = rw (← e, ← f) h
 
 params_from : (ops stands : List (List ℕ)) (done : List Param) (p : Param) (ps : List Param) (front wanted : List Wanted) (text rest : List (List ℕ))
@@ -106,12 +106,12 @@ in_body ops stands known result = record {
   naming = None;
 }
 
-result_kind_peels : (k : Kind) (ops stands : List (List ℕ)) (done : List Param) (n : List ℕ) (wanted : List Wanted) (rest : List (List ℕ))
-    → breach_of (Colon ∷ ResultKind ∷ wanted) (record (in_params ops (stands ++ n ∷ []) done) { naming = Some n }) (items_spelled (codes ":" ∷ kind_text k ∷ rest)) ≡ None
-    → breach_of wanted (in_body ops (stands ++ n ∷ []) done (param n k)) (items_spelled rest) ≡ None
+pub result_kind_moves : (k : Kind) (ops stands : List (List ℕ)) (done : List Param) (n : List ℕ) (wanted : List Wanted) (rest : List (List ℕ))
+    → breach_of (Colon ∷ ResultKind ∷ wanted) (record (in_params ops (stands ++ n ∷ []) done) { naming = Some n }) (items_spelled (codes ":" ∷ kind_text k ∷ rest))
+    ≡ breach_of wanted (in_body ops (stands ++ n ∷ []) done (param n k)) (items_spelled rest)
 unfolding breach_of
-result_kind_peels Word ops stands done n wanted rest h = h
-result_kind_peels Bit ops stands done n wanted rest h = h
+result_kind_moves Word ops stands done n wanted rest = refl
+result_kind_moves Bit ops stands done n wanted rest = refl
 
 pub result_peels : (ops stands : List (List ℕ)) (done : List Param) (p : Param) (wanted : List Wanted) (rest : List (List ℕ)) → HasParam p
     → breach_of (NewResult ∷ Colon ∷ ResultKind ∷ wanted) (in_params ops stands done) (items_spelled (param_text p rest)) ≡ None
@@ -122,6 +122,6 @@ result_peels ops stands done p wanted rest n h =
     let s = in_params ops stands done in
     let g = sym (named NewResult (Colon ∷ ResultKind ∷ wanted) s p.name more n) ∙ h in
     let k =
-      two_rules (is_bad (spelling_of p.name) p.name) (is_among stands p.name) why.BadName why.Twice
-      (record (in_params ops (stands ++ p.name ∷ []) done) { naming = Some p.name }) [] (name_lexeme p.name) (goes (Colon ∷ ResultKind ∷ wanted) more) g in
-    (not_bad p.name k.0, k.1, result_kind_peels p.kind ops stands done p.name wanted rest k.2)
+    two_rules (is_bad (spelling_of p.name) p.name) (is_among stands p.name) why.BadName why.Twice
+    (record (in_params ops (stands ++ p.name ∷ []) done) { naming = Some p.name }) [] (name_lexeme p.name) (goes (Colon ∷ ResultKind ∷ wanted) more) g in
+    (not_bad p.name k.0, k.1, sym (result_kind_moves p.kind ops stands done p.name wanted rest) ∙ k.2)

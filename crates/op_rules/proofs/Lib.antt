@@ -9,4 +9,9 @@ pub mod Blocks
 pub mod Heads
 pub mod Ops
 pub mod Apart
+pub mod Passing
+pub mod MeetingHeads
+pub mod MeetingWords
+pub mod MeetingBlocks
+pub mod MeetingOps
 pub mod Few

@@ -1,28 +1,25 @@
 -- The lets and assignments of a block.
-use Rattle.std.proofs.Common.{◌≡◌, ℕ, ◌+◌, ◌<◌, ◌≤◌, Bool, true, false, not, ◌||◌, ◌&&◌, nat_le, List, [], ◌∷◌, ◌++◌, map, length, arith, Option, Some, None, refl, sym, ap, ◌∙◌, codes, subst, append_assoc, append-nil, bytes_eq}
+use Rattle.std.proofs.Common.{◌≡◌, ℕ, ◌+◌, ◌<◌, ◌≤◌, Bool, false, not, ◌&&◌, nat_le, List, [], ◌∷◌, ◌++◌, map, length, arith, Some, None, refl, sym, ◌∙◌, codes, append_assoc, append-nil}
 use Rattle.std.specs.List.{sum}
 use Rattle.std.proofs.lemmas.List.{length-append}
 use Rattle.std.proofs.lemmas.List.Sums.{sum_by-cons}
-use Rattle.text_lex.specs.Lexical.{Item, Lexeme}
-use Rattle.text_lex.specs.declared.token.TokenKind.TheVariants as kinds
+use Rattle.text_lex.specs.Lexical.{Item}
 use Rattle.op_text.specs.declared.fault.OpsKind.TheVariants as why
 use Rattle.op_text.specs.declared.terminal.Terminal.TheVariants as t
 use Rattle.op_text.specs.declared.terminal.Spelling.{Spelling}
 use Rattle.op_text.specs.declared.terminal.Spelling.TheVariants as sp
-use Rattle.op_text.specs.declared.tree.Kind.{Kind}
-use Rattle.op_text.specs.declared.tree.Kind.TheVariants.{Word, Bit}
 use Rattle.op_text.specs.declared.grammar.Wanted.{Wanted}
 use Rattle.op_text.specs.declared.grammar.Wanted.TheVariants.{Lets, LetName, LetEnd, AssignEnd, Assigns, Value, Equals}
-use Rattle.op_text.specs.Items.{spelling_of, opens}
+use Rattle.op_text.specs.Items.{spelling_of}
 use Rattle.op_text.specs.Grammar.{let_or_assign}
-use Rattle.op_text.specs.Rules.{Scope, breach_of, is_bad, is_taken_target, is_bit_result, is_among, stands_already, step, after, with_rules}
+use Rattle.op_text.specs.Rules.{Scope, breach_of, is_bad, is_taken_target, is_bit_result, is_among, step, after}
 use Rattle.op_text.specs.Language.{Equation}
 use Rattle.op_text.specs.Scratch.{term_weight}
 use Rattle.op_text.specs.Spelling.{items_spelled, term_text, in_turn, let_text, equation_text, Each, HasEquation, TermMeets}
 use Rattle.op_rules.specs.Meets.{IsGood, LetsRead, can_read}
 use Rattle.op_rules.proofs.Names.{AllFresh, or_first}
 use Rattle.op_rules.proofs.Tokens.{goes, name_lexeme, named, one_rule, two_rules, four_rules, not_bad, le_no}
-use Rattle.op_rules.proofs.Terms.{BehindTerm, term_peels, weighing}
+use Rattle.op_rules.proofs.Terms.{term_peels}
 
 abbrev pub names_in : List Equation → List (List ℕ)
 names_in es = map (λ (e : Equation). e.name) es
@@ -75,7 +72,7 @@ pub record AllLets (s : Scope) (stands states readable : List (List ℕ)) (count
   pub light : weight + weights es ≤ 24
   pub then : breach_of (Lets ∷ wanted) (in_lines s (stands ++ names_in es) states (readable ++ names_in es) (count + length es) [] (weight + weights es)) (items_spelled rest) ≡ None
 
-lets_move : (s : Scope) (states a b p q : List (List ℕ)) (i j v w : ℕ) → a ≡ b → p ≡ q → i ≡ j → v ≡ w → (wanted : List Wanted) (items : List Item)
+pub lets_move : (s : Scope) (states a b p q : List (List ℕ)) (i j v w : ℕ) → a ≡ b → p ≡ q → i ≡ j → v ≡ w → (wanted : List Wanted) (items : List Item)
     → breach_of wanted (in_lines s a states p i [] v) items ≡ None → breach_of wanted (in_lines s b states q j [] w) items ≡ None
 lets_move s states a b p q i j v w e f g k wanted items h = rw (← e, ← f, ← g, ← k) h
 
@@ -102,7 +99,7 @@ lets_peel (e ∷ es) s stands states readable count weight wanted rest n c l h =
       reads = (p.reads, q.reads);
       light = let i = q.light in omega arith;
       then = lets_move s states _ (stands ++ names_in (e ∷ es)) _ (readable ++ names_in (e ∷ es)) (count + 1 + length es) (count + length (e ∷ es)) (weight + term_weight e.value + weights es) (weight + weights (e ∷ es))
-        (append_assoc stands (e.name ∷ []) (names_in es)) (append_assoc readable (e.name ∷ []) (names_in es)) (omega arith) (omega (arith, w)) (Lets ∷ wanted) (items_spelled rest) q.then;
+          (append_assoc stands (e.name ∷ []) (names_in es)) (append_assoc readable (e.name ∷ []) (names_in es)) (omega arith) (omega (arith, w)) (Lets ∷ wanted) (items_spelled rest) q.then;
     }
 
 -- the first assignment stands where a let could
@@ -142,8 +139,8 @@ assign_peels s stands states readable lets done weight e wanted rest n l h =
     let s1 = in_lines s stands states readable lets (done ++ e.name ∷ []) weight in
     let value = codes "=" ∷ term_text e.value (codes ";" ∷ rest) in
     let b =
-      four_rules (is_bad (spelling_of e.name) e.name) (is_taken_target s0 e.name) (is_bit_result s0 e.name && not (is_among states e.name)) (nat_le 8 (length done)) why.BadName why.Twice why.Kind why.TooMany
-      s1 (Equals ∷ Value ∷ AssignEnd ∷ Assigns ∷ []) (name_lexeme e.name) (goes wanted value) h in
+    four_rules (is_bad (spelling_of e.name) e.name) (is_taken_target s0 e.name) (is_bit_result s0 e.name && not (is_among states e.name)) (nat_le 8 (length done)) why.BadName why.Twice why.Kind why.TooMany
+    s1 (Equals ∷ Value ∷ AssignEnd ∷ Assigns ∷ []) (name_lexeme e.name) (goes wanted value) h in
     let v = term_peels e.value s1 0 (AssignEnd ∷ Assigns ∷ wanted) (codes ";" ∷ rest) n.1 refl refl l b.4 in
     record { facts = record { good = not_bad e.name b.0; free = b.1; kind = b.2 }; few = le_no 8 (length done) b.3; reads = v.meets; light = v.light; then = v.then }
 
@@ -159,7 +156,7 @@ pub record AllAssigns (s : Scope) (stands states readable : List (List ℕ)) (le
   pub light : weight + weights es ≤ 24
   pub then : breach_of (Assigns ∷ wanted) (in_lines s stands states readable lets (done ++ names_in es) (weight + weights es)) (items_spelled rest) ≡ None
 
-assigns_move : (s : Scope) (stands states readable : List (List ℕ)) (lets : ℕ) (a b : List (List ℕ)) (v w : ℕ) → a ≡ b → v ≡ w → (wanted : List Wanted) (items : List Item)
+pub assigns_move : (s : Scope) (stands states readable : List (List ℕ)) (lets : ℕ) (a b : List (List ℕ)) (v w : ℕ) → a ≡ b → v ≡ w → (wanted : List Wanted) (items : List Item)
     → breach_of wanted (in_lines s stands states readable lets a v) items ≡ None → breach_of wanted (in_lines s stands states readable lets b w) items ≡ None
 assigns_move s stands states readable lets a b v w e k wanted items h = rw (← e, ← k) h
 
@@ -194,8 +191,8 @@ assigns_behind [] s stands states readable lets done weight wanted rest P f n c 
 assigns_behind (e ∷ es) s stands states readable lets done weight wanted rest P f n c l h =
     let more = in_turn equation_text es rest in
     let p =
-      assign_peels s stands states readable lets done weight e wanted more n.0 l
-      (sym (named Assigns wanted (in_lines s stands states readable lets done weight) e.name (codes "=" ∷ term_text e.value (codes ";" ∷ more)) n.0.0) ∙ h) in
+    assign_peels s stands states readable lets done weight e wanted more n.0 l
+    (sym (named Assigns wanted (in_lines s stands states readable lets done weight) e.name (codes "=" ∷ term_text e.value (codes ";" ∷ more)) n.0.0) ∙ h) in
     let k = length-append done (e.name ∷ []) in
     let i = p.few in
     assigns_from s stands states readable lets done weight e es wanted rest P f p
@@ -213,6 +210,8 @@ assigns_peel (e ∷ es) s stands states readable lets weight wanted rest P f n l
     let s0 = in_lines s stands states readable lets [] weight in
     let g = sym (named Lets wanted s0 e.name (codes "=" ∷ term_text e.value (codes ";" ∷ more)) n.0.0) ∙ h in
     let p = assign_peels s stands states readable lets [] weight e wanted more n.0 l (not_let (spelling_of e.name) s0 e.name false wanted (term_text e.value (codes ";" ∷ more)) g) in
-    let i = p.few in
-    (omega arith, assigns_from s stands states readable lets [] weight e es wanted (codes "}" ∷ rest) P f p
-    (assigns_behind es s stands states readable lets (e.name ∷ []) (weight + term_weight e.value) wanted (codes "}" ∷ rest) P f n.1 (omega arith) p.light p.then))
+    let i = p.few in (
+      omega arith,
+      assigns_from s stands states readable lets [] weight e es wanted (codes "}" ∷ rest) P f p
+          (assigns_behind es s stands states readable lets (e.name ∷ []) (weight + term_weight e.value) wanted (codes "}" ∷ rest) P f n.1 (omega arith) p.light p.then),
+    )

@@ -1,7 +1,6 @@
 -- Ops that break no rule meet the rules.
-use Rattle.std.proofs.Common.{◌≡◌, ℕ, ◌+◌, ◌<◌, ◌≤◌, Bool, true, false, not, ◌||◌, nat_le, List, [], ◌∷◌, ◌++◌, map, length, arith, Option, Some, None, refl, sym, ap, ◌∙◌, codes, subst, append_assoc, append-nil, bytes_eq, cond}
+use Rattle.std.proofs.Common.{◌≡◌, ℕ, ◌+◌, ◌<◌, ◌≤◌, Bool, true, false, not, ◌||◌, nat_le, List, [], ◌∷◌, ◌++◌, map, length, arith, Some, None, refl, sym, ap, ◌∙◌, codes, append_assoc, append-nil, bytes_eq, cond}
 use Rattle.std.proofs.lemmas.List.{length-append}
-use Rattle.text_lex.specs.Lexical.{Item}
 use Rattle.op_text.specs.declared.fault.OpsKind.TheVariants as why
 use Rattle.op_text.specs.declared.tree.Kind.{Kind}
 use Rattle.op_text.specs.declared.tree.Kind.TheVariants.{Word, Bit}
@@ -13,10 +12,9 @@ use Rattle.op_text.specs.Rules.{Scope, breach_of, is_bad, is_among, kind_among}
 use Rattle.op_text.specs.Language.{Statement, Compute, Visit, Operation}
 use Rattle.op_text.specs.Scratch.{param, defines, body_defines}
 use Rattle.op_text.specs.WordOps.{op_text}
-use Rattle.op_text.specs.Spelling.{items_spelled, between_commas, in_turn, name_text, param_text, statement_text, operation_text, operations_text, Each, HasStatement, HasOperation}
-use Rattle.op_rules.specs.Meets.{IsGood, IsNew, IsNewOf, Context, used, names_of, behind, StatementMeets, BodyMeets, OperationMeets, OpsMeet, at_start}
-use Rattle.op_rules.specs.Laws.{RulesAreMet}
-use Rattle.op_rules.proofs.Names.{AllFresh, is_same, same_name, among-append, or_first, or_second, or_both, fresh-differ}
+use Rattle.op_text.specs.Spelling.{items_spelled, between_commas, in_turn, name_text, param_text, statement_text, operation_text, MeetRules, Each, HasStatement, HasOperation}
+use Rattle.op_rules.specs.Meets.{IsNew, IsNewOf, Context, names_of, behind, StatementMeets, BodyMeets, OperationMeets, OpsMeet, at_start}
+use Rattle.op_rules.proofs.Names.{AllFresh, same_name, among-append, or_first, or_second, fresh-differ}
 use Rattle.op_rules.proofs.Tokens.{goes, name_lexeme, named, one_rule, two_rules, not_bad, le_no}
 use Rattle.op_rules.proofs.Standing.{Standing, names-append}
 use Rattle.op_rules.proofs.Words.{at_statement, BehindStatement, word_peels, mark}
@@ -71,7 +69,7 @@ body_peels (st ∷ body) ops stands c assigned count wanted rest n s l h =
     }
 
 -- the first statement stands as a later one does
-first_same : (st : Statement) (s : Scope) (wanted : List Wanted) (rest : List (List ℕ)) → HasStatement st
+pub first_same : (st : Statement) (s : Scope) (wanted : List Wanted) (rest : List (List ℕ)) → HasStatement st
     → breach_of (FirstStmt ∷ wanted) s (items_spelled (statement_text st rest)) ≡ breach_of (Stmts ∷ wanted) s (items_spelled (statement_text st rest))
 unfolding breach_of
 first_same (Compute target p args) s wanted rest n =
@@ -133,13 +131,13 @@ or_nothing true r = refl
 or_nothing false true = refl
 or_nothing false false = refl
 
-start_standing : (op : Operation) → IsNew (names_of op.params) op.result.name → Standing (names_of op.params ++ op.result.name ∷ []) (at_start op) false
+pub start_standing : (op : Operation) → IsNew (names_of op.params) op.result.name → Standing (names_of op.params ++ op.result.name ∷ []) (at_start op) false
 start_standing op h =
     let e = append-nil (names_of op.params) in
     record {
       all = λ n.
-        among-append (names_of op.params) (op.result.name ∷ []) n ∙ or_nothing (is_among (names_of op.params) n) (bytes_eq op.result.name n)
-        ∙ ap (λ l. is_among l n || bytes_eq op.result.name n) (sym e);
+          among-append (names_of op.params) (op.result.name ∷ []) n ∙ or_nothing (is_among (names_of op.params) n) (bytes_eq op.result.name n)
+          ∙ ap (λ l. is_among l n || bytes_eq op.result.name n) (sym e);
       given = ap (λ l. is_among l op.result.name) e ∙ h;
       free = refl;
     }
@@ -163,8 +161,8 @@ op_peels op ops rest n h =
     let g = sym (named NewOp behind (in_params ops [] []) op.name (codes "(" ∷ params) n.name) ∙ a.1 in
     let more = ops ++ op.name ∷ [] in
     let b =
-      two_rules (is_bad (spelling_of op.name) op.name || bytes_eq op.name (codes "trsp_init")) (is_among ops op.name) why.BadName why.Twice
-      (in_params more [] []) [] (name_lexeme op.name) (goes behind (codes "(" ∷ params)) g in
+    two_rules (is_bad (spelling_of op.name) op.name || bytes_eq op.name (codes "trsp_init")) (is_among ops op.name) why.BadName why.Twice
+    (in_params more [] []) [] (name_lexeme op.name) (goes behind (codes "(" ∷ params)) g in
     let p = params_peel op.params more (Arrow ∷ first) head n.params b.2 in
     let q = p.1 in
     let r = result_peels more (names_of op.params) op.params op.result (Begin ∷ FirstStmt ∷ Ops ∷ []) (codes "{" ∷ body) n.result q.then in
@@ -199,7 +197,7 @@ ops_peel (op ∷ all) ops n l h =
     let q = ops_peel all (ops ++ op.name ∷ []) n.1 (let i = p.few in omega arith) p.then in
     ((p.meets, q.0), (p.fresh, q.1), let i = q.2 in omega arith)
 
-pub rules_are_met : RulesAreMet
+pub rules_are_met : (all : List Operation) → Each HasOperation all → MeetRules all → OpsMeet all
 rules_are_met all n h =
     let p = ops_peel all [] n (omega arith) h in
     record { few_ops = let i = p.2 in omega arith; differ = fresh-differ [] (map (λ (op : Operation). op.name) all) p.1; each = p.0 }

@@ -1,5 +1,5 @@
 -- What the rule machine keeps of the names of an op.
-use Rattle.std.proofs.Common.{◌≡◌, ℕ, Bool, true, false, not, ◌||◌, ◌&&◌, List, [], ◌∷◌, ◌++◌, map, refl, sym, ap, ◌∙◌, bytes_eq}
+use Rattle.std.proofs.Common.{◌≡◌, ℕ, Bool, true, false, not, ◌||◌, ◌&&◌, List, ◌++◌, refl, sym, ap, ◌∙◌, bytes_eq}
 use Rattle.std.proofs.lemmas.List.{map-append}
 use Rattle.op_text.specs.declared.tree.Param.{Param}
 use Rattle.op_text.specs.Rules.{is_among}
@@ -54,10 +54,10 @@ standing-more {stands} {c} {assigned} s ds ts after done f g e =
     let r = c.result.name in
     record {
       all = λ n. let K = is_among (names_of c.known) n in let L = is_among c.lets n in let D = is_among (names_of ds) n in let T = is_among ts n in let R = bytes_eq r n in
-        f n ∙ ap (λ x. x || (D || T)) (s.all n ∙ ap (λ x. x || R) (among-append (names_of c.known) c.lets n))
-        ∙ mixed K L R D T ∙ ap (λ x. x || R) (sym (used-more c ds ts n));
+          f n ∙ ap (λ x. x || (D || T)) (s.all n ∙ ap (λ x. x || R) (among-append (names_of c.known) c.lets n))
+          ∙ mixed K L R D T ∙ ap (λ x. x || R) (sym (used-more c ds ts n));
       given = let K = is_among (names_of c.known) r in let L = is_among c.lets r in let D = is_among (names_of ds) r in let T = is_among ts r in
-        used-more c ds ts r ∙ given_mixed K L D T s.free g ∙ ap (λ x. x || D) (sym (among-append (names_of c.known) c.lets r) ∙ s.given) ∙ sym e;
+          used-more c ds ts r ∙ given_mixed K L D T s.free g ∙ ap (λ x. x || D) (sym (among-append (names_of c.known) c.lets r) ∙ s.given) ∙ sym e;
       free = among-append c.lets ts r ∙ or_both (is_among c.lets r) (is_among ts r) s.free g;
     }
 

@@ -1,8 +1,6 @@
 -- An expression that breaks no rule meets the rules.
-use Rattle.std.proofs.Common.{◌≡◌, ℕ, zero, suc, ◌+◌, ◌-◌, ◌<◌, ◌≤◌, length, arith, Bool, true, false, not, ◌||◌, nat_lt, nat_le, List, [], ◌∷◌, ◌++◌, Some, None, Ok, refl, sym, ap, ◌∙◌, codes, subst}
+use Rattle.std.proofs.Common.{◌≡◌, ℕ, zero, suc, ◌+◌, ◌-◌, ◌<◌, ◌≤◌, length, arith, Bool, true, false, not, ◌||◌, nat_lt, nat_le, List, [], ◌∷◌, Some, None, Ok, refl, sym, ◌∙◌, codes, subst}
 use Rattle.text_lex.specs.Lexical.{Item, Lexeme}
-use Rattle.text_lex.specs.Spelled.{fits_name}
-use Rattle.op_text.specs.declared.fault.OpsKind.{OpsKind}
 use Rattle.op_text.specs.declared.fault.OpsKind.TheVariants as why
 use Rattle.op_text.specs.declared.terminal.Terminal.TheVariants as t
 use Rattle.op_text.specs.declared.gate.Gate.{Gate}
@@ -10,7 +8,7 @@ use Rattle.op_text.specs.declared.gate.Gate.TheVariants as gates
 use Rattle.op_text.specs.declared.grammar.Wanted.{Wanted}
 use Rattle.op_text.specs.declared.grammar.Wanted.TheVariants.{Value, GateOpen, More}
 use Rattle.op_text.specs.Items.{opens, spelling_of}
-use Rattle.op_text.specs.Rules.{Scope, gate_named, gate_arguments, gate_weight, is_bad, is_readable, breach_of, after, with_rules, unless, step}
+use Rattle.op_text.specs.Rules.{Scope, gate_arguments, gate_weight, is_bad, is_readable, breach_of, after, with_rules, unless, step}
 use Rattle.op_text.specs.Language.{Term, Nought, Unity, Named, Negation, Conjunction, Disjunction, Parity, Majority}
 use Rattle.op_text.specs.Scratch.{term_weight}
 use Rattle.op_text.specs.Spelling.{is_good, term_text, items_spelled, heavier, opens_next, TermMeets, HasNames}
@@ -60,15 +58,15 @@ gate_lexeme g = name_lexeme (gate_text g)
 
 gate_rule : (s : Scope) (depth : ℕ) (g : Gate) (wanted : List Wanted) (rest : List (List ℕ)) → length s.block.missing ≡ depth
     → after
-      (with_rules (Some (GateOpen ∷ Value ∷ More ∷ []))
-      (unless (nat_lt 24 (s.block.weight + gate_weight g) || nat_le 32 (length s.block.missing)) why.TooMany (Ok (weighing s ((gate_arguments g - 1) ∷ s.block.missing) (s.block.weight + gate_weight g)))))
-      (gate_lexeme g) (goes wanted (codes "(" ∷ rest)) ≡ None
+    (with_rules (Some (GateOpen ∷ Value ∷ More ∷ []))
+    (unless (nat_lt 24 (s.block.weight + gate_weight g) || nat_le 32 (length s.block.missing)) why.TooMany (Ok (weighing s ((gate_arguments g - 1) ∷ s.block.missing) (s.block.weight + gate_weight g)))))
+    (gate_lexeme g) (goes wanted (codes "(" ∷ rest)) ≡ None
     → InGate s depth (gate_arguments g) (gate_weight g) wanted rest
 unfolding breach_of
 gate_rule s depth g wanted rest e h =
     let k =
-      one_rule (nat_lt 24 (s.block.weight + gate_weight g) || nat_le 32 (length s.block.missing)) why.TooMany (weighing s ((gate_arguments g - 1) ∷ s.block.missing) (s.block.weight + gate_weight g))
-      (GateOpen ∷ Value ∷ More ∷ []) (gate_lexeme g) (goes wanted (codes "(" ∷ rest)) h in
+    one_rule (nat_lt 24 (s.block.weight + gate_weight g) || nat_le 32 (length s.block.missing)) why.TooMany (weighing s ((gate_arguments g - 1) ∷ s.block.missing) (s.block.weight + gate_weight g))
+    (GateOpen ∷ Value ∷ More ∷ []) (gate_lexeme g) (goes wanted (codes "(" ∷ rest)) h in
     gate_behind s depth g wanted rest e k.0 k.1
 
 gate_peels : (s : Scope) (depth : ℕ) (g : Gate) (wanted : List Wanted) (rest : List (List ℕ)) → length s.block.missing ≡ depth

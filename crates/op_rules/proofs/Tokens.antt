@@ -1,15 +1,13 @@
 -- One token at a time, where no rule is broken.
-use Rattle.std.proofs.Common.{◌≡◌, ℕ, Bool, true, false, not, ◌||◌, ◌&&◌, List, [], ◌∷◌, ◌++◌, map, Option, Some, None, Result, Ok, Err, refl, sym, ap, ◌∙◌, subst, nat_le, length, nat_lt, ◌<◌, ◌≤◌, arith}
-use Rattle.text_lex.specs.Lexical.{Item, Lexeme, Whole, is_token}
+use Rattle.std.proofs.Common.{◌≡◌, ℕ, Bool, true, false, not, ◌&&◌, List, ◌∷◌, ◌++◌, Option, Some, None, Result, Ok, refl, ap, nat_le, length, nat_lt, ◌<◌, ◌≤◌, arith}
+use Rattle.text_lex.specs.Lexical.{Lexeme, Whole, is_token}
 use Rattle.text_lex.specs.Spelled.{fits_name}
 use Rattle.text_lex.specs.declared.token.TokenKind.TheVariants as kinds
 use Rattle.op_text.specs.declared.fault.OpsKind.{OpsKind}
 use Rattle.op_text.specs.declared.fault.Breach.{Breach}
 use Rattle.op_text.specs.declared.terminal.Terminal.TheVariants as t
-use Rattle.op_text.specs.declared.terminal.Spelling.{Spelling}
-use Rattle.op_text.specs.declared.terminal.Spelling.TheVariants as sp
 use Rattle.op_text.specs.declared.grammar.Wanted.{Wanted}
-use Rattle.op_text.specs.Items.{opens, terminal_of, spelling_of}
+use Rattle.op_text.specs.Items.{opens, spelling_of}
 use Rattle.op_text.specs.Rules.{Scope, step, after, breach_of, unless, with_rules, is_bad, is_plain}
 use Rattle.op_text.specs.Spelling.{is_good, kind_of_text, items_spelled}
 

@@ -1,5 +1,5 @@
 -- A word statement that breaks no rule meets the rules.
-use Rattle.std.proofs.Common.{◌≡◌, ℕ, ◌+◌, ◌<◌, Bool, true, false, not, ◌||◌, ◌&&◌, nat_le, List, [], ◌∷◌, ◌++◌, map, Option, Some, None, Ok, Err, refl, sym, ap, ◌∙◌, codes, subst, append_assoc, append-nil, bytes_eq}
+use Rattle.std.proofs.Common.{◌≡◌, ℕ, ◌+◌, ◌<◌, Bool, true, false, not, ◌||◌, ◌&&◌, nat_le, List, [], ◌∷◌, ◌++◌, map, Option, Some, None, refl, sym, ap, ◌∙◌, codes, subst, append_assoc, append-nil, bytes_eq}
 use Rattle.std.specs.Option.{unwrap_or}
 use Rattle.std.specs.List.{list_any}
 use Rattle.text_lex.specs.Lexical.{Item, Lexeme}
@@ -15,14 +15,14 @@ use Rattle.op_text.specs.declared.tree.WordOp.TheVariants as o
 use Rattle.op_text.specs.declared.grammar.Wanted.{Wanted}
 use Rattle.op_text.specs.declared.grammar.Wanted.TheVariants.{Stmts, WordOpName, Open, Args, ArgName, MoreArgs, WordEnd}
 use Rattle.op_text.specs.Grammar.{statement}
-use Rattle.op_text.specs.Items.{opens, spelling_of}
+use Rattle.op_text.specs.Items.{spelling_of}
 use Rattle.op_text.specs.WordOps.{op_text, forms, filled, lacks, is_part, is_whole, is_begun, given_first, first_of, same_kind}
-use Rattle.op_text.specs.Rules.{Scope, breach_of, after, with_rules, unless, is_bad, stands_already, is_open_result, is_result, is_of_kind, is_called, is_among, kind_among, statement_rules, argument_of_kind, gives_kind, new_word, new_block}
+use Rattle.op_text.specs.Rules.{Scope, breach_of, after, with_rules, is_bad, stands_already, is_open_result, is_result, is_of_kind, is_among, kind_among, statement_rules, argument_of_kind, gives_kind, new_word, new_block}
 use Rattle.op_text.specs.Language.{Statement, Compute}
 use Rattle.op_text.specs.Scratch.{kind_of, result_kind, param}
-use Rattle.op_text.specs.Spelling.{is_good, items_spelled, between_commas, behind_commas, name_text, statement_text, Each, IsName}
+use Rattle.op_text.specs.Spelling.{items_spelled, between_commas, behind_commas, name_text, statement_text, Each, IsName}
 use Rattle.op_text.proofs.Operations.{first_settles}
-use Rattle.op_rules.specs.Meets.{Context, IsKnown, IsNewOf, WordMeets, StatementMeets, behind, used}
+use Rattle.op_rules.specs.Meets.{Context, IsKnown, StatementMeets, behind, used}
 use Rattle.op_rules.proofs.Names.{is_same, turned, among-append}
 use Rattle.op_rules.proofs.Tokens.{Behind, goes, name_lexeme, named, one_rule, next_rule, three_rules, not_bad, le_no}
 use Rattle.op_rules.proofs.Standing.{Standing, given-at, standing-more, more_context, word_new}
@@ -45,8 +45,8 @@ target_peels : (n : Spelling) (s : Scope) (target : List ℕ) (wanted : List Wan
 unfolding breach_of
 target_peels sp.Plain s target wanted rest h =
     let k =
-      three_rules (is_bad sp.Plain target) (stands_already s target && not (is_open_result s target)) (nat_le 16 s.op.statements) why.BadName why.Twice why.TooMany
-      (record s { op = record s.op { statements = s.op.statements + 1 }; naming = Some target }) (statement sp.Plain) (name_lexeme target) (goes wanted (codes "=" ∷ rest)) h in
+    three_rules (is_bad sp.Plain target) (stands_already s target && not (is_open_result s target)) (nat_le 16 s.op.statements) why.BadName why.Twice why.TooMany
+    (record s { op = record s.op { statements = s.op.statements + 1 }; naming = Some target }) (statement sp.Plain) (name_lexeme target) (goes wanted (codes "=" ∷ rest)) h in
     record { good = k.0; new = k.1; few = k.2; then = k.3 }
 target_peels sp.Serial s target wanted rest h =
     let k = one_rule (nat_le 16 s.op.statements) why.TooMany (record s { op = record s.op { statements = s.op.statements + 1 }; block = new_block }) (statement sp.Serial) (name_lexeme target) (goes wanted (codes "=" ∷ rest)) h in
@@ -59,37 +59,37 @@ target_peels sp.Down s target wanted rest h = cc
 target_peels sp.Let s target wanted rest h = cc
 
 -- the name of a word operation
-operation_peels : (p : WordOp) (s : Scope) (wanted : List Wanted) (rest : List (List ℕ)) → breach_of (WordOpName ∷ Open ∷ wanted) s (items_spelled (op_text p ∷ codes "(" ∷ rest)) ≡ None
-    → breach_of wanted (record s { word = record s.word { operation = p } }) (items_spelled rest) ≡ None
+pub operation_moves : (p : WordOp) (s : Scope) (wanted : List Wanted) (rest : List (List ℕ))
+    → breach_of (WordOpName ∷ Open ∷ wanted) s (items_spelled (op_text p ∷ codes "(" ∷ rest)) ≡ breach_of wanted (record s { word = record s.word { operation = p } }) (items_spelled rest)
 unfolding breach_of
-operation_peels o.Not s wanted rest h = h
-operation_peels o.And s wanted rest h = h
-operation_peels o.Or s wanted rest h = h
-operation_peels o.Xor s wanted rest h = h
-operation_peels o.Copy s wanted rest h = h
-operation_peels o.Zero s wanted rest h = h
-operation_peels o.Ones s wanted rest h = h
-operation_peels o.Shl1 s wanted rest h = h
-operation_peels o.Shr1 s wanted rest h = h
-operation_peels o.Add s wanted rest h = h
-operation_peels o.Sub s wanted rest h = h
-operation_peels o.Mul s wanted rest h = h
-operation_peels o.Div s wanted rest h = h
-operation_peels o.Rem s wanted rest h = h
-operation_peels o.Abs s wanted rest h = h
-operation_peels o.Relu s wanted rest h = h
-operation_peels o.Min s wanted rest h = h
-operation_peels o.Max s wanted rest h = h
-operation_peels o.Eq s wanted rest h = h
-operation_peels o.Gt s wanted rest h = h
-operation_peels o.Ge s wanted rest h = h
-operation_peels o.IfElse s wanted rest h = h
-operation_peels o.Bitcount s wanted rest h = h
-operation_peels o.AndRed s wanted rest h = h
-operation_peels o.OrRed s wanted rest h = h
-operation_peels o.XorRed s wanted rest h = h
+operation_moves o.Not s wanted rest = refl
+operation_moves o.And s wanted rest = refl
+operation_moves o.Or s wanted rest = refl
+operation_moves o.Xor s wanted rest = refl
+operation_moves o.Copy s wanted rest = refl
+operation_moves o.Zero s wanted rest = refl
+operation_moves o.Ones s wanted rest = refl
+operation_moves o.Shl1 s wanted rest = refl
+operation_moves o.Shr1 s wanted rest = refl
+operation_moves o.Add s wanted rest = refl
+operation_moves o.Sub s wanted rest = refl
+operation_moves o.Mul s wanted rest = refl
+operation_moves o.Div s wanted rest = refl
+operation_moves o.Rem s wanted rest = refl
+operation_moves o.Abs s wanted rest = refl
+operation_moves o.Relu s wanted rest = refl
+operation_moves o.Min s wanted rest = refl
+operation_moves o.Max s wanted rest = refl
+operation_moves o.Eq s wanted rest = refl
+operation_moves o.Gt s wanted rest = refl
+operation_moves o.Ge s wanted rest = refl
+operation_moves o.IfElse s wanted rest = refl
+operation_moves o.Bitcount s wanted rest = refl
+operation_moves o.AndRed s wanted rest = refl
+operation_moves o.OrRed s wanted rest = refl
+operation_moves o.XorRed s wanted rest = refl
 
-abbrev with_given : Scope → List Kind → Scope
+abbrev pub with_given : Scope → List Kind → Scope
 with_given s given = record s { word = record s.word { given = given } }
 
 argument_peels : (x : Option Kind) (s : Scope) (given : List Kind) (f : List Wanted) (u : Lexeme) (go : Behind) → after (with_rules (Some f) (argument_of_kind (with_given s given) x)) u go ≡ None
@@ -102,7 +102,7 @@ record AllArgs (s : Scope) (given : List Kind) (args : List (List ℕ)) (wanted 
   known : Each (IsKnown s.op.defined) args
   then : breach_of wanted (with_given s (given ++ map (kind_of s.op.defined) args)) (items_spelled rest) ≡ None
 
-given_moves : (s : Scope) (a b : List Kind) → a ≡ b → (wanted : List Wanted) (items : List Item) → breach_of wanted (with_given s a) items ≡ None → breach_of wanted (with_given s b) items ≡ None
+pub given_moves : (s : Scope) (a b : List Kind) → a ≡ b → (wanted : List Wanted) (items : List Item) → breach_of wanted (with_given s a) items ≡ None → breach_of wanted (with_given s b) items ≡ None
 given_moves s a b e wanted items h = subst (λ (x : List Kind). breach_of wanted (with_given s x) items ≡ None) e h
 
 args_behind : (args : List (List ℕ)) (s : Scope) (given : List Kind) (wanted : List Wanted) (rest : List (List ℕ)) → Each IsName args
@@ -138,7 +138,7 @@ args_peel (a ∷ args) s wanted rest n h =
     record { known = (i.0, r.known); then = r.then }
 
 -- the ";"
-abbrev ended : Scope → List ℕ → Kind → Scope
+abbrev pub ended : Scope → List ℕ → Kind → Scope
 ended s target k = record s {
   op = record s.op {
     stands = s.op.stands ++ target ∷ [];
@@ -199,7 +199,7 @@ or_false : (b : Bool) → b ≡ (b || false)
 or_false true = refl
 or_false false = refl
 
-word_standing : {stands : List (List ℕ)} {c : Context} {assigned : Bool} → Standing stands c assigned → (target : List ℕ) (k : Kind)
+pub word_standing : {stands : List (List ℕ)} {c : Context} {assigned : Bool} → Standing stands c assigned → (target : List ℕ) (k : Kind)
     → Standing (stands ++ target ∷ []) (more_context c (param target k ∷ []) []) (assigned || bytes_eq c.result.name target)
 word_standing {stands} {c} {assigned} s target k =
     standing-more s (param target k ∷ []) [] (stands ++ target ∷ []) (assigned || bytes_eq c.result.name target)
@@ -224,7 +224,7 @@ word_peels target p args ops stands c assigned count wanted rest n m standing h 
     let t = target_peels (spelling_of target) s target wanted more (sym (named Stmts wanted s target (codes "=" ∷ more) n) ∙ h) in
     let s1 : Scope = record s { op = record s.op { statements = count + 1 }; naming = Some target } in
     let s2 : Scope = record s1 { word = record s1.word { operation = p } } in
-    let o = operation_peels p s1 (Args ∷ WordEnd ∷ Stmts ∷ wanted) (between_commas name_text args (codes ")" ∷ codes ";" ∷ rest)) t.then in
+    let o = sym (operation_moves p s1 (Args ∷ WordEnd ∷ Stmts ∷ wanted) (between_commas name_text args (codes ")" ∷ codes ";" ∷ rest))) ∙ t.then in
     let a = args_peel args s2 (WordEnd ∷ Stmts ∷ wanted) (codes ";" ∷ rest) m o in
     let given = map (kind_of c.known) args in
     let s3 = with_given s2 given in

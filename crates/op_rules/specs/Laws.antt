@@ -1,5 +1,5 @@
 -- The laws of the rules.
-use Rattle.std.specs.Prelude.{◌≡◌, ◌≤◌, ℕ, List, ◌++◌, Some}
+use Rattle.std.specs.Prelude.{◌≡◌, ◌≤◌, ℕ, List, ◌++◌, Some, ◌↔◌}
 use Rattle.op_text.specs.declared.tree.Kind.{Kind}
 use Rattle.op_text.specs.declared.tree.Param.{Param}
 use Rattle.op_text.specs.Language.{Operation}
@@ -8,9 +8,9 @@ use Rattle.op_text.specs.Scratch.{body_defines, scratch_names, scratch_bits, scr
 use Rattle.op_text.specs.Spelling.{Each, HasOperation, MeetRules}
 use Rattle.op_rules.specs.Meets.{Differ, names_of, OperationMeets, OpsMeet}
 
--- Ops whose names are names, and whose tokens break no rule, meet the rules as trees.
-abbrev pub RulesAreMet : Type 0
-RulesAreMet = (all : List Operation) → Each HasOperation all → MeetRules all → OpsMeet all
+-- Ops meet the rules as trees exactly where their names are names and the tokens of their text break none.
+abbrev pub RulesAreExact : Type 0
+RulesAreExact = (all : List Operation) → (Each HasOperation all × MeetRules all) ↔ OpsMeet all
 
 abbrev pub MAX_NAMES : ℕ
 MAX_NAMES = 128

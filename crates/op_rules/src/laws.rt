@@ -1,10 +1,10 @@
 //! Laws of the rules.
 
-ghost use Rattle.op_rules.specs.Laws.{NamesStandOnce, RulesAreMet, ScratchIsSmall};
+ghost use Rattle.op_rules.specs.Laws.{NamesStandOnce, RulesAreExact, ScratchIsSmall};
 
-/// Ops whose tokens break no rule meet the rules as trees.
-pub fn rules_are_met()
-    ensures { RulesAreMet }
+/// Ops meet the rules as trees exactly where the tokens of their text break none.
+pub fn rules_are_exact()
+    ensures { RulesAreExact }
 {}
 
 /// An op has at most 128 names of a kind beside its result, and needs at most 130 rows of scratch.

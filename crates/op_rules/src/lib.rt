@@ -3,4 +3,4 @@
 
 mod laws;
 
-pub use laws::{names_stand_once, rules_are_met, scratch_is_small};
+pub use laws::{names_stand_once, rules_are_exact, scratch_is_small};

@@ -5,7 +5,8 @@ use Rattle.std.specs.Option.{unwrap_or}
 use Rattle.host_edge.specs.Views.{Files, FolderView, SinkView, Told}
 use Rattle.uprog_bin.specs.Spelling.{program_bytes}
 use Rattle.bbop_isa.specs.Forms.{Instruction}
-use Rattle.machine_model.specs.Operations.{Program, TextOp, ImplementsAll}
+use Rattle.machine_model.specs.Operations.{Program}
+use Rattle.uprog_code.specs.Texts.{TextOp, ImplementsAll}
 use Rattle.machine_model.specs.Opened.{Image}
 use Rattle.cli_model.specs.World.{World, world, with_file}
 use Rattle.cli_model.specs.Steps.{Step, Load, Take, Store, Refusal, Reason, End, Stopped, Goes, Loaded, LoadFails, loading}

@@ -8,7 +8,8 @@ use Rattle.host_edge.specs.Views.{Files, Told}
 use Rattle.dram_model.specs.Geometry.{is_geometry, is_between, fits_size}
 use Rattle.uprog_bin.specs.Spelling.{program_bytes}
 use Rattle.bbop_isa.specs.Forms.{Instruction}
-use Rattle.machine_model.specs.Operations.{Program, TextOp, ImplementsAll}
+use Rattle.machine_model.specs.Operations.{Program}
+use Rattle.uprog_code.specs.Texts.{TextOp, ImplementsAll}
 use Rattle.machine_model.specs.Opened.{Image}
 use Rattle.machine_model.specs.Report.{Said, line, lines, total_line}
 use Rattle.machine_model.proofs.Places.{bytes_differ}

@@ -8,7 +8,8 @@ use Rattle.dram_model.specs.Chip.{Banks, row_in}
 use Rattle.object_alloc.specs.Listed.{Named}
 use Rattle.object_alloc.specs.Spelling.{image_bytes, IsImage}
 use Rattle.bbop_isa.specs.Forms.{Instruction}
-use Rattle.machine_model.specs.Operations.{Program, TextOp, Operations, operations_of, operations_in, meaning_in, ImplementsAll}
+use Rattle.machine_model.specs.Operations.{Program, Operations, operations_of, operations_in, meaning_in}
+use Rattle.uprog_code.specs.Texts.{TextOp, ImplementsAll}
 use Rattle.machine_model.specs.Opened.{Image, opened, words_of, rows_of}
 use Rattle.machine_model.specs.Columns.{columns}
 use Rattle.machine_model.specs.Steps.{Held, table_of, words_after}

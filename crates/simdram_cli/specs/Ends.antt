@@ -5,7 +5,8 @@ use Rattle.host_edge.specs.Views.{Files, FolderView, SinkView}
 use Rattle.object_alloc.specs.Spelling.{IsImage}
 use Rattle.uprog_bin.specs.Spelling.{program_bytes}
 use Rattle.bbop_isa.specs.Forms.{Instruction}
-use Rattle.machine_model.specs.Operations.{Program, TextOp, ImplementsAll}
+use Rattle.machine_model.specs.Operations.{Program}
+use Rattle.uprog_code.specs.Texts.{TextOp, ImplementsAll}
 use Rattle.machine_model.specs.Opened.{Image}
 use Rattle.machine_model.specs.Agrees.{IsPlain}
 use Rattle.cli_model.specs.World.{World, world}

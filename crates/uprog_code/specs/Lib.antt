@@ -7,4 +7,5 @@ pub mod Bound
 pub mod Fits
 pub mod Legal
 pub mod Implements
+pub mod Texts
 pub mod Kept
