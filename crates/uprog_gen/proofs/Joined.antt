@@ -34,7 +34,6 @@ use Rattle.uprog_gen.proofs.Emitted.{more_steps}
 use Rattle.uprog_gen.proofs.Top.{program_does, all_blocks}
 use Rattle.uprog_gen.proofs.Legal.{code_legal}
 use Rattle.bit_rows.specs.declared.TheConstants.{WIDTH_MAX}
-use Rattle.uprog_code.specs.declared.TheConstants.{BUILT_WIDTH}
 
 abbrev pub Statement : Type 0
 Statement = List (StepOf Block)
@@ -98,15 +97,12 @@ sources_same rows head n b s (k ∷ ks) (c ∷ bs) which fit at =
 -- rounds that mean an operation implement it
 pub does_implement : (head : Shape) (ps : List Statement) (code : List Uop) → ((n : ℕ) → 0 < n → n ≤ WIDTH_MAX → DoesRounds head n (joined ps) code) → (ceilings : List (ℕ → ℕ)) (meaning : ℕ → List ℕ → ℕ) → Means head ps ceilings meaning → Implements head code (total ceilings) meaning
 does_implement head ps code does ceilings meaning means = record {
-  ends = λ n some small. (does n some (wide n small)).ends;
-  cheap = λ n some small. omega (arith, (does n some (wide n small)).few, cheap_joined n ps ceilings (means.cheap n some (wide n small)));
-  gives = λ n some small. record { value = λ rows b s fits. gives n some (wide n small) rows b s fits };
-  keeps = λ n some small. record { row = λ rows b s fits q out. (does n some (wide n small)).keeps rows b s fits q out };
+  ends = λ n some small. (does n some small).ends;
+  cheap = λ n some small. omega (arith, (does n some small).few, cheap_joined n ps ceilings (means.cheap n some small));
+  gives = λ n some small. record { value = λ rows b s fits. gives n some small rows b s fits };
+  keeps = λ n some small. record { row = λ rows b s fits q out. (does n some small).keeps rows b s fits q out };
 }
   where
-    wide : (n : ℕ) → n ≤ BUILT_WIDTH → n ≤ WIDTH_MAX
-    wide n small = omega (arith, small)
-
     gives : (n : ℕ) → 0 < n → n ≤ WIDTH_MAX → (rows : ℕ) (b : Bound) (s : Column) → Fits rows head n b → number b.result (width head.result n) (run (bound rows head n b (issues_of (trace head code n))) s) ≡ meaning n (numbers n head.sources b.sources s)
     gives n some small rows b s fits =
         let t : Column = run (bound rows head n b (issues_of (trace head code n))) s in

@@ -11,6 +11,7 @@ use Rattle.op_rules.proofs.Names.{same_name, is_same, turned, or_first, or_secon
 use Rattle.loop_ir.specs.declared.ir.Space.{Space}
 use Rattle.loop_ir.specs.declared.ir.Space.TheVariants.{Result, Source, ScratchBit, ScratchWord}
 use Rattle.loop_ir.specs.declared.names.Slot.{Slot}
+use Rattle.uprog_gen.specs.Laying.{kind_in}
 use Rattle.uprog_gen.specs.Layout.{Lay, slot, source_lays, is_scratch, scratch_slot, own_slot, defined_lays, found}
 
 abbrev pub lay : List ℕ → Slot → Lay
@@ -65,10 +66,6 @@ found_apart (l ∷ ls) a b x y h e f s w =
 -- the names and kinds of the list
 abbrev pub params_of : List Lay → List Param
 params_of ls = map (λ (l : Lay). record { name = l.name; kind = l.slot.kind }) ls
-
-abbrev pub kind_in : Option Slot → Option Kind
-kind_in None = None
-kind_in (Some x) = Some x.kind
 
 pub found_kind : (ls : List Lay) (name : List ℕ) → kind_among (params_of ls) name ≡ kind_in (found ls name)
 found_kind [] name = refl

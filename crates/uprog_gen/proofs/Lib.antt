@@ -27,3 +27,5 @@ pub mod Ready
 pub mod Numbers
 pub mod Walked
 pub mod Meant
+pub mod Placed
+pub mod LaidOut

@@ -97,11 +97,12 @@ module _ (result : List ℕ) (bits words : ℕ) where
       let f' = fits_rest Bit p ps b bits f in
       let g' = fits_rest Word p ps w words g in
       let b' = next Bit c b p.kind in
-      let w' = next Word c w p.kind in
-      (head_is c p.kind p.name result b w bits words (count_by (is_scratch result Bit) ps) (count_by (is_scratch result Word) ps) refl f' g',
+      let w' = next Word c w p.kind in (
+        head_is c p.kind p.name result b w bits words (count_by (is_scratch result Bit) ps) (count_by (is_scratch result Word) ps) refl f' g',
         each_map (IsDefinedLay result b' w' bits words) (IsDefinedLay result b w bits words)
-        (λ m h. wider result b w b' w' bits words m (next_more (is_scratch result Bit p) b) (next_more (is_scratch result Word p) w) h)
-        (defined_lays result b' w' ps) (defined_each b' w' ps f' g'))
+            (λ m h. wider result b w b' w' bits words m (next_more (is_scratch result Bit p) b) (next_more (is_scratch result Word p) w) h)
+            (defined_lays result b' w' ps) (defined_each b' w' ps f' g'),
+      )
 
   pub defined_apart : (b w : ℕ) (ps : List Param) → fits Bit ps b bits → fits Word ps w words → AreApartLays (defined_lays result b w ps)
   defined_apart b w [] f g = tt
@@ -110,9 +111,10 @@ module _ (result : List ℕ) (bits words : ℕ) where
       let f' = fits_rest Bit p ps b bits f in
       let g' = fits_rest Word p ps w words g in
       let b' = next Bit c b p.kind in
-      let w' = next Word c w p.kind in
-      (each_map (IsDefinedLay result b' w' bits words) (λ m. IsShared (head c b w p.name p.kind) m → p.name ≡ m.name) (λ m h s. head_apart c p.kind p.name result b w bits words m refl h s) (defined_lays result b' w' ps) (defined_each b' w' ps f' g'),
-        defined_apart b' w' ps f' g')
+      let w' = next Word c w p.kind in (
+        each_map (IsDefinedLay result b' w' bits words) (λ m. IsShared (head c b w p.name p.kind) m → p.name ≡ m.name) (λ m h s. head_apart c p.kind p.name result b w bits words m refl h s) (defined_lays result b' w' ps) (defined_each b' w' ps f' g'),
+        defined_apart b' w' ps f' g',
+      )
 
 apart-append : (ls ms : List Lay) → AreApartLays ls → AreApartLays ms → Each (λ l. Each (λ m. IsShared l m → l.name ≡ m.name) ms) ls → AreApartLays (ls ++ ms)
 apart-append [] ms f g h = g

@@ -19,6 +19,7 @@ use Rattle.op_rules.specs.Meets.{names_of, Differ, IsKnown, Context, behind, at_
 use Rattle.op_rules.specs.Laws.{all_names}
 use Rattle.op_rules.proofs.Names.{same_name, is_same, turned, or_first, or_second}
 use Rattle.uprog_code.specs.Shape as shape
+use Rattle.uprog_code.specs.Texts.{op_shape}
 use Rattle.uprog_code.specs.declared.code.Uop.{Uop}
 use Rattle.uprog_code.specs.Implements.{Implements}
 use Rattle.loop_ir.specs.declared.ir.Space.{Space}
@@ -33,10 +34,11 @@ use Rattle.loop_ir.specs.Statements.{Slots}
 use Rattle.loop_ir.specs.Lowered.{slot_spot, slot_bits, HoldsAt, Holds, IsRowOf, IsInside, IsStatementRow, kind_at, args_width, ceiling_of}
 use Rattle.uprog_gen.specs.Where.{IsSpot}
 use Rattle.uprog_gen.specs.Does.{after_statements, spot_number, source_numbers, AreCheap, total, Means}
-use Rattle.uprog_gen.specs.Layout.{IsLayout, slot, source_lays, defined_lays, lays, found, shape_for}
+use Rattle.uprog_gen.specs.Layout.{IsLayout, slot, source_lays, defined_lays, lays, found}
 use Rattle.uprog_gen.specs.Lowered.{AreLowered, ceilings}
 use Rattle.uprog_gen.proofs.Joined.{same_bits}
-use Rattle.uprog_gen.proofs.Lays.{lay, by_bool, some_is, found-append, or_else, found_kind, kind_in, source_params}
+use Rattle.uprog_gen.specs.Laying.{kind_in}
+use Rattle.uprog_gen.proofs.Lays.{lay, by_bool, some_is, found-append, or_else, found_kind, source_params}
 use Rattle.uprog_gen.proofs.Lies.{LiesIn, kinds_of}
 use Rattle.uprog_gen.proofs.Among.{changed_other}
 use Rattle.uprog_gen.proofs.Scene.{width_same, kind_known, known_among, kind_first, slot_there, slot_lies, slot_own, slot_spots, kind_of_slot, result_known}
@@ -58,11 +60,12 @@ changed_same names name v = ap (λ b. cond b v (names name)) (is_same name name 
 source_held : (n k : ℕ) (j : Kind) (bits : Spots) → HoldsAt n (Some (slot Source k j)) (holding n j (spot_number Source k (shape.width j n) bits)) bits
 source_held n k j bits =
     let row : ℕ → Bool = λ i. bits (record { space = Source; which = k; index = i }) in
-    let all : ℕ → List Bool = λ w. map row (range_with_len 0 w) in
-    (refl,
+    let all : ℕ → List Bool = λ w. map row (range_with_len 0 w) in (
+      refl,
       ap (λ w. text.bits (value (all w)) (width n j)) (sym (width_same j n))
-      ∙ ap (text.bits (value (all (width n j)))) (sym (length-map-range_with_len row 0 (width n j)))
-      ∙ bits_of_value (all (width n j)))
+          ∙ ap (text.bits (value (all (width n j)))) (sym (length-map-range_with_len row 0 (width n j)))
+          ∙ bits_of_value (all (width n j)),
+    )
 
 sources_hold : (n k : ℕ) (ps : List Param) (names : List ℕ → Held) (bits : Spots) → Differ (names_of ps) → (name : List ℕ) (x : Slot) → found (source_lays k ps) name ≡ Some x → HoldsAt n (Some x) (with_sources n names ps (source_numbers n (kinds_of ps) k bits) name) bits
 sources_hold n k [] names bits d name x e = absurd (cc)
@@ -152,11 +155,11 @@ module _ (op : Operation) (meets : OperationMeets op) (slots : Slots) (free_bit 
       let all : ℕ → List Bool = λ w. map (λ i. bits (record { space = Result; which = 0; index = i })) (range_with_len 0 w) in
       ap (λ w. value (all w)) (sym (width_same op.result.kind n)) ∙ sym (value_same (all (width n op.result.kind))) ∙ ap text.value (sym h.1)
 
-  row_more : (s : Statement) (n : ℕ) (q : Spot) → need_inside bits_inside s + free_bit ≤ scratch_bits op → need_inside words_inside s + free_word ≤ scratch_words op → IsStatementRow slots free_bit free_word s n q → IsSpot (shape_for op) n q
-  row_more s n q few_bits few_words (inl r) = subst (IsSpot (shape_for op) n) (sym r.6) (slot_spots op meets slots free_bit free_word is r.0 r.1 r.4 n r.2 r.5)
-  row_more s n q few_bits few_words (inr (inl h)) = subst (IsSpot (shape_for op) n) (sym h.2) (omega (arith, h.1, few_bits), refl)
+  row_more : (s : Statement) (n : ℕ) (q : Spot) → need_inside bits_inside s + free_bit ≤ scratch_bits op → need_inside words_inside s + free_word ≤ scratch_words op → IsStatementRow slots free_bit free_word s n q → IsSpot (op_shape op) n q
+  row_more s n q few_bits few_words (inl r) = subst (IsSpot (op_shape op) n) (sym r.6) (slot_spots op meets slots free_bit free_word is r.0 r.1 r.4 n r.2 r.5)
+  row_more s n q few_bits few_words (inr (inl h)) = subst (IsSpot (op_shape op) n) (sym h.2) (omega (arith, h.1, few_bits), refl)
   row_more s n q few_bits few_words (inr (inr h)) =
-      subst (IsSpot (shape_for op) n) (sym h.2)
+      subst (IsSpot (op_shape op) n) (sym h.2)
       (refl, let m : n * (need_inside words_inside s + free_word) ≤ n * scratch_words op = mul-le-mul_left n few_words in omega (arith, h.1, m, mul-add n (need_inside words_inside s) free_word, mul_comm free_word n))
 
   module _ (c : Context) (s : Statement) (rest : List Statement) (st : Stage op c (s ∷ rest)) where
@@ -172,14 +175,14 @@ module _ (op : Operation) (meets : OperationMeets op) (slots : Slots) (free_bit 
     fits_words : need_inside words_inside s + free_word ≤ scratch_words op
     fits_words = omega (arith, is.words, words_need op c s rest st)
 
-    can_statement : (steps : List (StepOf Block)) → CanCompile (IsStatementRow slots free_bit free_word s) steps → CanCompile (IsSpot (shape_for op)) steps
-    can_statement steps can = can_more (IsStatementRow slots free_bit free_word s) (IsSpot (shape_for op)) (λ n q h. row_more s n q fits_bits fits_words h) steps can
+    can_statement : (steps : List (StepOf Block)) → CanCompile (IsStatementRow slots free_bit free_word s) steps → CanCompile (IsSpot (op_shape op)) steps
+    can_statement steps can = can_more (IsStatementRow slots free_bit free_word s) (IsSpot (op_shape op)) (λ n q h. row_more s n q fits_bits fits_words h) steps can
 
   ceiling_same : (c : Context) (s : Statement) (rest : List Statement) → Stage op c (s ∷ rest) → (n : ℕ) → ceiling_of slots s n ≡ statement_ceiling op_ceiling c.known n s
   ceiling_same c (Compute target p args) rest st n = ap (op_ceiling p) (args_same c (Compute target p args) rest st n args st.body.0.known)
   ceiling_same c (Visit b) rest st n = refl
 
-  all_can : (rest : List Statement) (c : Context) → Stage op c rest → (ps : List (List (StepOf Block))) → AreLowered slots free_bit free_word rest ps → AllByRecursion (CanCompile (IsSpot (shape_for op))) ps
+  all_can : (rest : List Statement) (c : Context) → Stage op c rest → (ps : List (List (StepOf Block))) → AreLowered slots free_bit free_word rest ps → AllByRecursion (CanCompile (IsSpot (op_shape op))) ps
   all_can [] c st [] low = tt
   all_can [] c st (p ∷ ps) low = absurd low
   all_can (s ∷ rest) c st [] low = absurd low
@@ -192,10 +195,10 @@ module _ (op : Operation) (meets : OperationMeets op) (slots : Slots) (free_bit 
   all_cheap n some small (s ∷ rest) c st (p ∷ ps) low =
       (omega (arith, low.0.cheap n some small, ceiling_same c s rest st n), all_cheap n some small rest (behind c s) (next_stage op c s rest st) ps low.1)
 
-  pub can_compile : (ps : List (List (StepOf Block))) → AreLowered slots free_bit free_word op.body ps → AllByRecursion (CanCompile (IsSpot (shape_for op))) ps
+  pub can_compile : (ps : List (List (StepOf Block))) → AreLowered slots free_bit free_word op.body ps → AllByRecursion (CanCompile (IsSpot (op_shape op))) ps
   can_compile ps low = all_can op.body (at_start op) (first_stage op meets) ps low
 
-  pub statements_mean : (ps : List (List (StepOf Block))) → AreLowered slots free_bit free_word op.body ps → Means (shape_for op) ps (ceilings op.params op.body) (meaning op)
+  pub statements_mean : (ps : List (List (StepOf Block))) → AreLowered slots free_bit free_word op.body ps → Means (op_shape op) ps (ceilings op.params op.body) (meaning op)
   statements_mean ps low = record {
     gives = λ n some small bits.
         let sources = source_numbers n (kinds_of op.params) 0 bits in

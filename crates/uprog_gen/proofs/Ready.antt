@@ -68,9 +68,9 @@ lets_meet : (known : List Param) (inside : List (List ℕ)) (readable : List ℕ
     → LetsRead known inside lets → Each (λ (e : Equation). TermMeets (can_read known (inside ++ map (λ (l : Equation). l.name) lets)) 0 e.value) assigns → LetsMeet readable lets assigns
 lets_meet known inside readable [] assigns f h g =
     values_meet (can_read known inside) readable f assigns (subst (λ (ns : List (List ℕ)). Each (λ (e : Equation). TermMeets (can_read known ns) 0 e.value) assigns) (append-nil inside) g)
-lets_meet known inside readable (l ∷ lets) assigns f h g =
-    (term_more (can_read known inside) readable f 0 l.value h.0,
-      lets_meet known (inside ++ l.name ∷ []) (λ name. bytes_eq name l.name || readable name) lets assigns
+lets_meet known inside readable (l ∷ lets) assigns f h g = (
+  term_more (can_read known inside) readable f 0 l.value h.0,
+  lets_meet known (inside ++ l.name ∷ []) (λ name. bytes_eq name l.name || readable name) lets assigns
       (λ name e.
       ⊎_elim (λ (k : is_known (kind_among known name) ≡ true). or_right (bytes_eq name l.name) (readable name) (f name (or_left (is_known (kind_among known name)) (is_among inside name) k)))
       (λ (k : is_among (inside ++ l.name ∷ []) name ≡ true).
@@ -78,7 +78,8 @@ lets_meet known inside readable (l ∷ lets) assigns f h g =
       (λ (i : is_among (l.name ∷ []) name ≡ true). ⊎_elim (λ (j : bytes_eq l.name name ≡ true). or_left (bytes_eq name l.name) (readable name) (turned name l.name ∙ j)) (λ (j : false ≡ true). absurd (cc)) (or_split (bytes_eq l.name name) false i))
       (among_split inside (l.name ∷ []) name k))
       (or_split (is_known (kind_among known name)) (is_among (inside ++ l.name ∷ []) name) e))
-      h.1 (subst (λ (ns : List (List ℕ)). Each (λ (e : Equation). TermMeets (can_read known ns) 0 e.value) assigns) (sym (append_assoc inside (l.name ∷ []) (map (λ (l : Equation). l.name) lets))) g))
+      h.1 (subst (λ (ns : List (List ℕ)). Each (λ (e : Equation). TermMeets (can_read known ns) 0 e.value) assigns) (sym (append_assoc inside (l.name ∷ []) (map (λ (l : Equation). l.name) lets))) g),
+)
 
 distinct : (ns : List (List ℕ)) → Differ ns → AreDistinct ns
 distinct [] h = tt
@@ -153,14 +154,14 @@ module _ (op : Operation) (meets : OperationMeets op) (slots : Slots) (free_bit 
         let old : is_among (names_of c.known) name ≡ false = new-left (names_of c.known) c.lets name (new-left (used c) (state_names b) name l.new) in
         let state : is_among (state_names b) name ≡ false = new-right (used c) (state_names b) name l.new in
         let word : is_among (word_names b) name ≡ false =
-          ⊎_elim (λ (w : is_among (word_names b) name ≡ true). absurd (cc (h, new-right (used c) (let_names b) name (each_among (IsNewOf (used c ++ let_names b) c.result Word) (word_names b) name m.words w).new)))
-          (λ (w : is_among (word_names b) name ≡ false). w) (tested (is_among (word_names b) name)) in
+        ⊎_elim (λ (w : is_among (word_names b) name ≡ true). absurd (cc (h, new-right (used c) (let_names b) name (each_among (IsNewOf (used c ++ let_names b) c.result Word) (word_names b) name m.words w).new)))
+        (λ (w : is_among (word_names b) name ≡ false). w) (tested (is_among (word_names b) name)) in
         let new : is_among (names_of (defines c.known (Visit b))) name ≡ false = written_defined c.known (Visit b) name ∙ new-append (state_names b) (word_names b) name state word in
         let later : is_among (names_of more) name ≡ false = lets_stay (behind c (Visit b)) rest name st.body.1 (among_right c.lets (let_names b) name h) in
         let whole : is_among (names_of (all_names op)) name ≡ false =
-          ap (λ ps. is_among (names_of ps) name) st.all
-          ∙ ap (λ l. is_among l name) (names-append c.known (defines c.known (Visit b) ++ more) ∙ ap (λ l. names_of c.known ++ l) (names-append (defines c.known (Visit b)) more))
-          ∙ new-append (names_of c.known) (names_of (defines c.known (Visit b)) ++ names_of more) name old (new-append (names_of (defines c.known (Visit b))) (names_of more) name new later) in
+        ap (λ ps. is_among (names_of ps) name) st.all
+        ∙ ap (λ l. is_among l name) (names-append c.known (defines c.known (Visit b) ++ more) ∙ ap (λ l. names_of c.known ++ l) (names-append (defines c.known (Visit b)) more))
+        ∙ new-append (names_of c.known) (names_of (defines c.known (Visit b)) ++ names_of more) name old (new-append (names_of (defines c.known (Visit b))) (names_of more) name new later) in
         slot_none op meets slots free_bit free_word is name whole
 
     -- what the block can read has a place

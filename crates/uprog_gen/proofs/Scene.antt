@@ -15,6 +15,7 @@ use Rattle.op_rules.specs.Meets.{names_of, OperationMeets}
 use Rattle.op_rules.specs.Laws.{all_names}
 use Rattle.op_rules.proofs.Names.{or_first, or_second}
 use Rattle.uprog_code.specs.Shape as shape
+use Rattle.uprog_code.specs.Texts.{op_shape}
 use Rattle.loop_ir.specs.declared.ir.Space.{Space}
 use Rattle.loop_ir.specs.declared.ir.Space.TheVariants.{Result, Source, ScratchBit, ScratchWord}
 use Rattle.loop_ir.specs.declared.names.Slot.{Slot}
@@ -22,8 +23,9 @@ use Rattle.loop_ir.specs.Spots.{Spot, IsOwn, spot_in}
 use Rattle.loop_ir.specs.Statements.{Slots, holds_kind}
 use Rattle.loop_ir.specs.Lowered.{slot_spot}
 use Rattle.uprog_gen.specs.Where.{IsSpot, IsBelow}
-use Rattle.uprog_gen.specs.Layout.{Lay, IsLayout, source_lays, defined_lays, lays, found, shape_for}
-use Rattle.uprog_gen.proofs.Lays.{lay, by_bool, kind_in, params_of, found_each, found_apart, found_kind, found_new, found-append, or_else, source_params, defined_params}
+use Rattle.uprog_gen.specs.Layout.{Lay, IsLayout, source_lays, defined_lays, lays, found}
+use Rattle.uprog_gen.specs.Laying.{kind_in}
+use Rattle.uprog_gen.proofs.Lays.{lay, by_bool, params_of, found_each, found_apart, found_kind, found_new, found-append, or_else, source_params, defined_params}
 use Rattle.uprog_gen.proofs.Lies.{IsDefinedLay, LiesIn, kinds_of, all_lie, all_apart, own_each}
 
 -- kinds of names in two lists
@@ -91,7 +93,7 @@ module _ (op : Operation) (meets : OperationMeets op) (slots : Slots) (free_bit 
       let own = defined_lays op.result.name 0 0 (body_defines op.params op.body) in
       let none : found (source_lays 0 op.params) name ≡ None = found_new (source_lays 0 op.params) name (ap (λ ps. is_among (names_of ps) name) (source_params 0 op.params) ∙ h) in
       let f : found own name ≡ Some x =
-        sym (ap (λ o. or_else o (found own name)) none) ∙ sym (found-append (source_lays 0 op.params) own name) ∙ sym (is.at name) ∙ e in
+      sym (ap (λ o. or_else o (found own name)) none) ∙ sym (found-append (source_lays 0 op.params) own name) ∙ sym (is.at name) ∙ e in
       defined_own op (lay name x) (found_each (IsDefinedLay op.result.name 0 0 (scratch_names Bit op) (scratch_names Word op)) own name x (own_each op) f)
 
   -- the result has its own kind
@@ -101,29 +103,29 @@ module _ (op : Operation) (meets : OperationMeets op) (slots : Slots) (free_bit 
   some_kind : (a b : Kind) → Some a ≡ Some b → a ≡ b
   some_kind a b e = cc
 
-  in_source : (n v : ℕ) (x : Slot) → slice_get (kinds_of op.params) x.which ≡ Some x.kind → v < width n x.kind → IsSpot (shape_for op) n (spot_in n Source x.which v)
+  in_source : (n v : ℕ) (x : Slot) → slice_get (kinds_of op.params) x.which ≡ Some x.kind → v < width n x.kind → IsSpot (op_shape op) n (spot_in n Source x.which v)
   in_source n v x e lt = subst (λ (o : Option Kind). IsBelow o n v) (sym e) (subst (λ (m : ℕ). v < m) (width_same x.kind n) lt)
 
-  pub slot_spots : (name : List ℕ) (x : Slot) → slots name ≡ Some x → (n v : ℕ) → v < width n x.kind → IsSpot (shape_for op) n (slot_spot n x v)
+  pub slot_spots : (name : List ℕ) (x : Slot) → slots name ≡ Some x → (n v : ℕ) → v < width n x.kind → IsSpot (op_shape op) n (slot_spot n x v)
   slot_spots name x e n v lt = by (slot_lies name x e)
     where
-      at_space : (s : Space) → x.space ≡ s → IsSpot (shape_for op) n (spot_in n s x.which v) → IsSpot (shape_for op) n (spot_in n x.space x.which v)
-      at_space s f h = subst (λ (t : Space). IsSpot (shape_for op) n (spot_in n t x.which v)) (sym f) h
+      at_space : (s : Space) → x.space ≡ s → IsSpot (op_shape op) n (spot_in n s x.which v) → IsSpot (op_shape op) n (spot_in n x.space x.which v)
+      at_space s f h = subst (λ (t : Space). IsSpot (op_shape op) n (spot_in n t x.which v)) (sym f) h
 
-      of_bit : x.kind ≡ Bit → x.which < scratch_names Bit op → IsSpot (shape_for op) n (spot_in n ScratchBit x.which v)
+      of_bit : x.kind ≡ Bit → x.which < scratch_names Bit op → IsSpot (op_shape op) n (spot_in n ScratchBit x.which v)
       of_bit k h = (omega (arith, h), refl)
 
-      of_word : x.kind ≡ Word → x.which < scratch_names Word op → IsSpot (shape_for op) n (spot_in n ScratchWord x.which v)
+      of_word : x.kind ≡ Word → x.which < scratch_names Word op → IsSpot (op_shape op) n (spot_in n ScratchWord x.which v)
       of_word k h =
           let l : v < n = subst (λ (j : Kind). v < width n j) k lt in
           (refl, mul-add-lt x.which n v (scratch_words op) (omega (arith, h)) l)
 
-      of_result : x.which ≡ 0 → name ≡ op.result.name → IsSpot (shape_for op) n (spot_in n Result x.which v)
+      of_result : x.which ≡ 0 → name ≡ op.result.name → IsSpot (op_shape op) n (spot_in n Result x.which v)
       of_result w m =
           let k : x.kind ≡ op.result.kind = some_kind x.kind op.result.kind (sym (kind_of_slot name x e) ∙ ap (kind_among (all_names op)) m ∙ result_known) in
           (w, subst (λ (l : ℕ). v < l) (width_same op.result.kind n) (subst (λ (j : Kind). v < width n j) k lt))
 
-      by : LiesIn op (lay name x) → IsSpot (shape_for op) n (slot_spot n x v)
+      by : LiesIn op (lay name x) → IsSpot (op_shape op) n (slot_spot n x v)
       by (inl h) = at_space Source h.0 (in_source n v x h.1 lt)
       by (inr (inl h)) = at_space Result h.0 (of_result h.1 h.2)
       by (inr (inr (inl h))) = at_space ScratchBit h.0 (of_bit h.1 h.3)

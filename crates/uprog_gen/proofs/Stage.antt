@@ -145,7 +145,7 @@ pub block_stand : (c : Context) (b : Block) (name : List ℕ) → StatementMeets
 block_stand c b name h e =
     let f = filter_among (λ n. not (is_among (targets_of b.lets) n)) (equation_names b.lets ++ equation_names b.assigns) name e in
     let g : CanStand c.known (state_names b ++ let_names b) name =
-      ⊎_elim (lets_stand c.known (state_names b) b.lets name h.lets_read) (values_stand c.known (state_names b ++ let_names b) b.assigns name h.values_read) (among_split (equation_names b.lets) (equation_names b.assigns) name f.0) in
+    ⊎_elim (lets_stand c.known (state_names b) b.lets name h.lets_read) (values_stand c.known (state_names b ++ let_names b) b.assigns name h.values_read) (among_split (equation_names b.lets) (equation_names b.assigns) name f.0) in
     ⊎_elim (λ (k : is_known (kind_among c.known name) ≡ true). inl k)
     (λ (k : is_among (state_names b ++ let_names b) name ≡ true).
     ⊎_elim (λ (l : is_among (state_names b) name ≡ true). inr l) (λ (l : is_among (let_names b) name ≡ true). absurd (cc (l, f.1))) (among_split (state_names b) (let_names b) name k))

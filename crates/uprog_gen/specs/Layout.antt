@@ -1,12 +1,11 @@
 -- Where the names of an operation lie.
-use Rattle.std.specs.Prelude.{◌≡◌, ℕ, ◌+◌, Bool, not, ◌&&◌, if◌then◌else◌, List, [], ◌∷◌, ◌++◌, map, Option, Some, None, bytes_eq}
+use Rattle.std.specs.Prelude.{◌≡◌, ℕ, ◌+◌, Bool, not, ◌&&◌, if◌then◌else◌, List, [], ◌∷◌, ◌++◌, Option, Some, None, bytes_eq}
 use Rattle.op_text.specs.declared.tree.Kind.{Kind}
 use Rattle.op_text.specs.declared.tree.Kind.TheVariants.{Word, Bit}
 use Rattle.op_text.specs.declared.tree.Param.{Param}
 use Rattle.op_text.specs.Language.{Operation}
 use Rattle.op_text.specs.WordOps.{same_kind}
-use Rattle.op_text.specs.Scratch.{body_defines, scratch_names, scratch_bits, scratch_words}
-use Rattle.uprog_code.specs.Shape.{Shape}
+use Rattle.op_text.specs.Scratch.{body_defines, scratch_names}
 use Rattle.loop_ir.specs.declared.ir.Space.{Space}
 use Rattle.loop_ir.specs.declared.ir.Space.TheVariants.{Result, Source, ScratchBit, ScratchWord}
 use Rattle.loop_ir.specs.declared.names.Slot.{Slot}
@@ -62,12 +61,3 @@ pub record IsLayout (op : Operation) (slots : Slots) (free_bit free_word : ℕ) 
 -- and so in a map of names
 abbrev pub IsLayoutMap : Operation → NameMap → Type 0
 IsLayoutMap op m = IsLayout op (slots_of m) m.free_bit m.free_word
-
--- the kinds and the scratch of an operation
-abbrev pub shape_for : Operation → Shape
-shape_for op = record {
-  sources = map (λ (p : Param). p.kind) op.params;
-  result = op.result.kind;
-  bits = scratch_bits op;
-  words = scratch_words op;
-}

@@ -8,3 +8,4 @@ pub mod Made
 pub mod Emits
 pub mod Layout
 pub mod Lowered
+pub mod Laying

@@ -3,6 +3,7 @@
 
 mod emit;
 mod entry;
+mod layout;
 mod part;
 mod plan;
 mod steps;
