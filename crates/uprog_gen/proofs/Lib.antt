@@ -29,3 +29,4 @@ pub mod Walked
 pub mod Meant
 pub mod Placed
 pub mod LaidOut
+pub mod Entries

@@ -35,7 +35,7 @@ use Rattle.loop_ir.specs.Lowered.{slot_spot, slot_bits, HoldsAt, Holds, IsRowOf,
 use Rattle.uprog_gen.specs.Where.{IsSpot}
 use Rattle.uprog_gen.specs.Does.{after_statements, spot_number, source_numbers, AreCheap, total, Means}
 use Rattle.uprog_gen.specs.Layout.{IsLayout, slot, source_lays, defined_lays, lays, found}
-use Rattle.uprog_gen.specs.Lowered.{AreLowered, ceilings}
+use Rattle.uprog_gen.specs.Programs.{AreLowered, ceilings}
 use Rattle.uprog_gen.proofs.Joined.{same_bits}
 use Rattle.uprog_gen.specs.Laying.{kind_in}
 use Rattle.uprog_gen.proofs.Lays.{lay, by_bool, some_is, found-append, or_else, found_kind, source_params}

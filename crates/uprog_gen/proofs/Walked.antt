@@ -30,7 +30,7 @@ use Rattle.loop_ir.specs.Statements.{Slots, holds_kind, read_names, written_name
 use Rattle.loop_ir.specs.Lowered.{slot_spot, slot_bits, HoldsAt, Holds, IsRowOf, IsInside, IsChanged, Does}
 use Rattle.uprog_gen.specs.Does.{after_statements, spot_number, source_numbers}
 use Rattle.uprog_gen.specs.Layout.{IsLayout, slot, source_lays, found}
-use Rattle.uprog_gen.specs.Lowered.{AreLowered}
+use Rattle.uprog_gen.specs.Programs.{AreLowered}
 use Rattle.uprog_gen.proofs.Joined.{same_bits}
 use Rattle.uprog_gen.proofs.Lays.{by_bool}
 use Rattle.uprog_gen.proofs.Lies.{kinds_of}

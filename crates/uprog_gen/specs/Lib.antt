@@ -7,5 +7,5 @@ pub mod Does
 pub mod Made
 pub mod Emits
 pub mod Layout
-pub mod Lowered
+pub mod Programs
 pub mod Laying
