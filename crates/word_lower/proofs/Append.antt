@@ -1,13 +1,12 @@
 -- Programs that grow step by step.
 use Rattle.std.proofs.Common.{◌≡◌, ℕ, zero, suc, ◌+◌, ◌<◌, List, [], ◌∷◌, ◌++◌, map, take, length, slice_index_or, Option, Some, None, refl, sym, ap, ◌∙◌, subst, arith}
 use Rattle.loop_ir.specs.declared.ir.Step.{Step}
-use Rattle.loop_ir.specs.Plain.{Block, StepOf, AllParts, AllStep, step_of, step_map}
+use Rattle.loop_ir.specs.Plain.{Block, StepOf, AllParts, AllStep, step_of}
 use Rattle.loop_ir.specs.Like.{LikeSteps, no_steps, single, along, nest}
-use Rattle.loop_laws.specs.Rooms.{Marked}
 use Rattle.loop_laws.specs.Forms.{IsMade}
 use Rattle.word_lower.specs.declared.shapes.Owners.{Owners}
 use Rattle.word_lower.specs.declared.shapes.Line.{Line}
-use Rattle.word_lower.specs.Shapes.{line_step, lines_steps, body_on, program_on}
+use Rattle.word_lower.specs.Shapes.{lines_steps, program_on}
 
 like_append : {ss ts us vs : List (StepOf Block)} → LikeSteps ss ts → LikeSteps us vs → LikeSteps (ss ++ us) (ts ++ vs)
 like_append no_steps h = h

@@ -1,11 +1,10 @@
 -- Each operation's loop program gives its value, keeps its ceiling, and passes the tests.
-use Rattle.std.proofs.Common.{◌≡◌, ◌⊎◌, inl, inr, ℕ, zero, suc, ◌+◌, ◌*◌, ◌<◌, ◌≤◌, Bool, true, false, List, [], ◌∷◌, map, Option, Some, None, refl, sym, ap, ◌∙◌, subst, ⊎_elim, arith}
+use Rattle.std.proofs.Common.{◌≡◌, ℕ, ◌+◌, ◌<◌, ◌≤◌, true, List, [], ◌∷◌, map, refl, sym, ap, ◌∙◌, arith}
 use Rattle.op_text.specs.declared.tree.Kind.{Kind}
 use Rattle.op_text.specs.declared.tree.Kind.TheVariants.{Word, Bit}
 use Rattle.op_text.specs.declared.tree.WordOp.{WordOp}
 use Rattle.op_text.specs.declared.tree.WordOp.TheVariants as op
 use Rattle.op_text.specs.Values.{bits, value, op_value}
-use Rattle.op_text.specs.WordOps.{Form, form, forms, filled, of_one, of_two, word_to, words_to}
 use Rattle.op_text.specs.Meaning.{width}
 use Rattle.op_text.specs.Scratch.{bits_inside, op_ceiling}
 use Rattle.loop_ir.specs.declared.ir.Space.{Space}
@@ -20,7 +19,7 @@ use Rattle.loop_laws.specs.Rooms.{steps_fit, placed_steps}
 use Rattle.loop_laws.specs.Forms.{is_short}
 use Rattle.loop_laws.proofs.Costing.{total_is}
 use Rattle.word_lower.specs.Places.{scratch_from, rooms_of}
-use Rattle.word_lower.specs.Programs.{program, is_linear}
+use Rattle.word_lower.specs.Programs.{program}
 use Rattle.word_lower.specs.Shapes.{owners_of, program_on}
 use Rattle.word_lower.proofs.Setting.{operation, Slots, row, number_at, IsElsewhere, Gives}
 use Rattle.word_lower.proofs.Lists.{bits_of_number, value_of_list}
@@ -273,4 +272,3 @@ pub on_xor_red : (x0 : Space) (y0 : ℕ) (x1 : Space) (y1 : ℕ) (free : ℕ) �
 on_xor_red x0 y0 x1 y1 free = lowers_1 op.XorRed Bit (slot x0 y0 Bit) (slot x1 y1 Word) free refl refl refl (λ n x y z. refl)
     (λ n some pieces before. s.xor_red_does n (names_1 (slot x0 y0 Bit) (slot x1 y1 Word) free) (slots_1 n (slot x0 y0 Bit) (slot x1 y1 Word) free some pieces) before)
     (λ n. let e = total_is n (steps_on op.XorRed Bit (slot x0 y0 Bit) (slot x1 y1 Word ∷ []) free) in omega (arith, e))
-

@@ -1,5 +1,5 @@
 -- The places of a word statement lie apart: its rooms do, and its loop program's names.
-use Rattle.std.proofs.Common.{◌≡◌, ◌⊎◌, inl, inr, ℕ, zero, suc, ◌+◌, ◌-◌, ◌*◌, ◌<◌, ◌≤◌, Bool, true, false, List, [], ◌∷◌, ◌++◌, map, length, refl, sym, ap, ◌∙◌, subst, ⊎_elim, arith}
+use Rattle.std.proofs.Common.{◌≡◌, ◌⊎◌, inl, inr, ℕ, zero, suc, ◌+◌, ◌*◌, ◌<◌, ◌≤◌, Bool, true, false, List, [], ◌∷◌, ◌++◌, map, length, refl, sym, ap, ◌∙◌, subst, ⊎_elim, arith}
 use Rattle.std.proofs.lemmas.List.{length-map, length-append}
 use Rattle.op_text.specs.declared.tree.Kind.{Kind}
 use Rattle.op_text.specs.declared.tree.Kind.TheVariants.{Word, Bit}
@@ -9,9 +9,9 @@ use Rattle.loop_ir.specs.declared.ir.Space.TheVariants.{Result, Source, ScratchB
 use Rattle.loop_ir.specs.declared.names.Slot.{Slot}
 use Rattle.loop_ir.specs.Spots.{Spot, spot_in, IsOwn}
 use Rattle.loop_ir.specs.Statements.{holds_kind}
-use Rattle.loop_laws.specs.Rooms.{Room, room_at, row_in, extent, RoomsApart, IsOwned}
+use Rattle.loop_laws.specs.Rooms.{Room, room_at, row_in, extent, RoomsApart}
 use Rattle.word_lower.specs.Places.{rows_of, room_of, rooms_of, scratch_bit}
-use Rattle.word_lower.proofs.Setting.{Slots, row, SlotsApart, Moves, IsFree, AreSlots}
+use Rattle.word_lower.proofs.Setting.{Slots, SlotsApart, AreSlots}
 
 abbrev pub no_slot : Slot
 no_slot = record { space = Source; which = 0; kind = Bit }

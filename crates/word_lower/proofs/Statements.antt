@@ -1,5 +1,5 @@
 -- A loop program like an operation's one does the statement.
-use Rattle.std.proofs.Common.{◌≡◌, ◌⊎◌, inl, inr, ℕ, zero, suc, ◌+◌, ◌*◌, ◌/◌, ◌<◌, ◌≤◌, Bool, true, false, cond, List, [], ◌∷◌, ◌++◌, map, length, Option, Some, None, refl, sym, ap, ◌∙◌, subst, ⊎_elim, arith}
+use Rattle.std.proofs.Common.{◌≡◌, inl, inr, ℕ, zero, suc, ◌+◌, ◌*◌, ◌/◌, ◌<◌, ◌≤◌, Bool, true, false, List, [], ◌∷◌, map, length, Option, Some, None, refl, sym, ap, ◌∙◌, subst, ⊎_elim, arith}
 use Rattle.std.specs.Prelude.{◌||◌, bytes_eq, unwrap_or, if◌then◌else◌}
 use Rattle.std.proofs.lemmas.Nat.{div-mul-add}
 use Rattle.std.proofs.lemmas.Slice.Eq.{bytes_eq-Decides}
@@ -8,9 +8,9 @@ use Rattle.op_text.specs.declared.tree.Kind.TheVariants.{Word, Bit}
 use Rattle.op_text.specs.declared.tree.WordOp.{WordOp}
 use Rattle.op_text.specs.Values.{bits, value, op_value}
 use Rattle.op_text.specs.WordOps.{forms, filled}
-use Rattle.op_text.specs.Language.{Statement, Compute}
+use Rattle.op_text.specs.Language.{Compute}
 use Rattle.op_text.specs.Rules.{is_among}
-use Rattle.op_text.specs.Meaning.{Held, width, number, holding, args_width, computed, after_statement}
+use Rattle.op_text.specs.Meaning.{Held, width, number, args_width, computed, after_statement}
 use Rattle.op_text.specs.Scratch.{bits_inside, op_ceiling}
 use Rattle.loop_ir.specs.declared.ir.Space.{Space}
 use Rattle.loop_ir.specs.declared.ir.Space.TheVariants.{Result, Source, ScratchBit, ScratchWord}
@@ -18,9 +18,8 @@ use Rattle.loop_ir.specs.declared.names.Slot.{Slot}
 use Rattle.loop_ir.specs.Plain.{Block, StepOf, AllParts}
 use Rattle.loop_ir.specs.Loops.{all_rounds}
 use Rattle.loop_ir.specs.Spots.{Spot, Spots, spot_in, after_rounds, IsOwn}
-use Rattle.loop_ir.specs.Costs.{rounds_cost}
 use Rattle.loop_ir.specs.Like.{LikeSteps}
-use Rattle.loop_ir.specs.Statements.{Slots, holds_kind, HasKind, statement_names, IsPlaced, HaveKinds, ComputeMeets}
+use Rattle.loop_ir.specs.Statements.{Slots, holds_kind, statement_names, IsPlaced, HaveKinds, ComputeMeets}
 use Rattle.loop_ir.specs.Lowered.{slot_spot, slot_bits, HoldsAt, Holds, IsRowOf, IsStatementRow, Does, ceiling_of, IsLowered}
 use Rattle.loop_ir.specs.Lowered as l
 use Rattle.loop_laws.specs.Rooms.{Room, room_at, IsOwned, extent}
@@ -29,7 +28,7 @@ use Rattle.loop_laws.proofs.Alike.{alike_do_the_same}
 use Rattle.loop_laws.proofs.Costing.{alike_cost_no_more}
 use Rattle.loop_laws.proofs.EveryRound.{marks_are_enough}
 use Rattle.loop_laws.proofs.Compile.{alike_compile}
-use Rattle.word_lower.specs.Places.{room_of, rooms_of, scratch_bit, scratch_from, AreAt}
+use Rattle.word_lower.specs.Places.{rooms_of, scratch_bit, scratch_from, AreAt}
 use Rattle.word_lower.specs.Programs.{program, is_linear}
 use Rattle.word_lower.specs.Shapes.{owners_of, program_on}
 use Rattle.word_lower.proofs.Pieces.{no_slot, slot_at, AreApart, Pieces, RoomView, is_target, is_arg, is_scratch, room_view, rooms_apart, extent_is}

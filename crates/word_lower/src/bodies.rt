@@ -19,70 +19,87 @@ const OFF: Lit = Lit {
     node: 0,
     inverted: false,
 };
+
 const ON: Lit = Lit {
     node: 0,
     inverted: true,
 };
+
 const P1: Lit = Lit {
     node: 1,
     inverted: false,
 };
+
 const P2: Lit = Lit {
     node: 2,
     inverted: false,
 };
+
 const P3: Lit = Lit {
     node: 3,
     inverted: false,
 };
+
 const P4: Lit = Lit {
     node: 4,
     inverted: false,
 };
+
 const P5: Lit = Lit {
     node: 5,
     inverted: false,
 };
+
 const P6: Lit = Lit {
     node: 6,
     inverted: false,
 };
+
 const P7: Lit = Lit {
     node: 7,
     inverted: false,
 };
+
 const P8: Lit = Lit {
     node: 8,
     inverted: false,
 };
+
 const P9: Lit = Lit {
     node: 9,
     inverted: false,
 };
+
 const N1: Lit = Lit {
     node: 1,
     inverted: true,
 };
+
 const N2: Lit = Lit {
     node: 2,
     inverted: true,
 };
+
 const N3: Lit = Lit {
     node: 3,
     inverted: true,
 };
+
 const N4: Lit = Lit {
     node: 4,
     inverted: true,
 };
+
 const N5: Lit = Lit {
     node: 5,
     inverted: true,
 };
+
 const N6: Lit = Lit {
     node: 6,
     inverted: true,
 };
+
 const N7: Lit = Lit {
     node: 7,
     inverted: true,
@@ -150,51 +167,156 @@ fn templated(
 }
 
 // the nodes of the templates
-const BOTH: [Node; 1] = [
-    Node { a: OFF, b: P1, c: P2 },
-];
-const EITHER: [Node; 1] = [
-    Node { a: ON, b: P1, c: P2 },
-];
-const WITHOUT: [Node; 1] = [
-    Node { a: OFF, b: P1, c: N2 },
-];
+const BOTH: [Node; 1] = [Node {
+    a: OFF,
+    b: P1,
+    c: P2,
+}];
+
+const EITHER: [Node; 1] = [Node {
+    a: ON,
+    b: P1,
+    c: P2,
+}];
+
+const WITHOUT: [Node; 1] = [Node {
+    a: OFF,
+    b: P1,
+    c: N2,
+}];
+
 const UNLIKE: [Node; 3] = [
-    Node { a: OFF, b: P1, c: P2 },
-    Node { a: ON, b: P1, c: P2 },
-    Node { a: OFF, b: N3, c: P4 },
+    Node {
+        a: OFF,
+        b: P1,
+        c: P2,
+    },
+    Node {
+        a: ON,
+        b: P1,
+        c: P2,
+    },
+    Node {
+        a: OFF,
+        b: N3,
+        c: P4,
+    },
 ];
+
 const CHOSEN: [Node; 3] = [
-    Node { a: OFF, b: P1, c: P3 },
-    Node { a: OFF, b: P2, c: N3 },
-    Node { a: ON, b: P4, c: P5 },
+    Node {
+        a: OFF,
+        b: P1,
+        c: P3,
+    },
+    Node {
+        a: OFF,
+        b: P2,
+        c: N3,
+    },
+    Node {
+        a: ON,
+        b: P4,
+        c: P5,
+    },
 ];
+
 const ADDED: [Node; 3] = [
-    Node { a: P1, b: P2, c: P3 },
-    Node { a: P1, b: P2, c: N3 },
-    Node { a: P3, b: N4, c: P5 },
+    Node {
+        a: P1,
+        b: P2,
+        c: P3,
+    },
+    Node {
+        a: P1,
+        b: P2,
+        c: N3,
+    },
+    Node {
+        a: P3,
+        b: N4,
+        c: P5,
+    },
 ];
+
 const LESSENED: [Node; 3] = [
-    Node { a: P1, b: N2, c: P3 },
-    Node { a: P1, b: P2, c: P3 },
-    Node { a: P2, b: P4, c: N5 },
+    Node {
+        a: P1,
+        b: N2,
+        c: P3,
+    },
+    Node {
+        a: P1,
+        b: P2,
+        c: P3,
+    },
+    Node {
+        a: P2,
+        b: P4,
+        c: N5,
+    },
 ];
+
 const TURNED_BY: [Node; 6] = [
-    Node { a: OFF, b: P1, c: P2 },
-    Node { a: ON, b: P1, c: P2 },
-    Node { a: OFF, b: N4, c: P5 },
-    Node { a: OFF, b: P6, c: P3 },
-    Node { a: ON, b: P6, c: P3 },
-    Node { a: OFF, b: N7, c: P8 },
+    Node {
+        a: OFF,
+        b: P1,
+        c: P2,
+    },
+    Node {
+        a: ON,
+        b: P1,
+        c: P2,
+    },
+    Node {
+        a: OFF,
+        b: N4,
+        c: P5,
+    },
+    Node {
+        a: OFF,
+        b: P6,
+        c: P3,
+    },
+    Node {
+        a: ON,
+        b: P6,
+        c: P3,
+    },
+    Node {
+        a: OFF,
+        b: N7,
+        c: P8,
+    },
 ];
-const COMPARED: [Node; 1] = [
-    Node { a: P1, b: N2, c: P3 },
-];
+
+const COMPARED: [Node; 1] = [Node {
+    a: P1,
+    b: N2,
+    c: P3,
+}];
+
 const AGREED: [Node; 4] = [
-    Node { a: OFF, b: P1, c: P2 },
-    Node { a: ON, b: P1, c: P2 },
-    Node { a: ON, b: P4, c: N5 },
-    Node { a: OFF, b: P3, c: P6 },
+    Node {
+        a: OFF,
+        b: P1,
+        c: P2,
+    },
+    Node {
+        a: ON,
+        b: P1,
+        c: P2,
+    },
+    Node {
+        a: ON,
+        b: P4,
+        c: N5,
+    },
+    Node {
+        a: OFF,
+        b: P3,
+        c: P6,
+    },
 ];
 
 /// The body of a shape.
@@ -263,7 +385,11 @@ fn add_step(
 }
 
 /// The program of lines.
-pub fn program(lines: &[Option<Line>], owners: Owners, alloc: Global) -> Result<LoopProgram, NoMemory>
+pub fn program(
+    lines: &[Option<Line>],
+    owners: Owners,
+    alloc: Global,
+) -> Result<LoopProgram, NoMemory>
     ensures like { IfOk result (λ p. LikeSteps (steps_of p) (program_on owners (lines_steps lines.now))) }
     ensures made { IfOk result (λ p. AllParts IsMade (steps_of p)) }
 {

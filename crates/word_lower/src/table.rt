@@ -16,10 +16,12 @@ const Z: Mark = Mark {
     owner: Owner::Target,
     sub: Sub::Inner,
 };
+
 const X: Mark = Mark {
     owner: Owner::First,
     sub: Sub::Inner,
 };
+
 const Y: Mark = Mark {
     owner: Owner::Second,
     sub: Sub::Inner,
@@ -29,10 +31,12 @@ const Z_DOWN: Mark = Mark {
     owner: Owner::Target,
     sub: Sub::InnerDown,
 };
+
 const X_DOWN: Mark = Mark {
     owner: Owner::First,
     sub: Sub::InnerDown,
 };
+
 const X_TOP: Mark = Mark {
     owner: Owner::First,
     sub: Sub::Top,
@@ -42,14 +46,17 @@ const Z_BIT: Mark = Mark {
     owner: Owner::Target,
     sub: Sub::Zero,
 };
+
 const X_BIT: Mark = Mark {
     owner: Owner::First,
     sub: Sub::Zero,
 };
+
 const Y_BIT: Mark = Mark {
     owner: Owner::Second,
     sub: Sub::Zero,
 };
+
 const S_BIT: Mark = Mark {
     owner: Owner::Third,
     sub: Sub::Zero,
@@ -72,7 +79,11 @@ fn two(first: Shape, second: Shape) -> Lines
 fn three(first: Shape, second: Shape, third: Shape) -> Lines
     ensures { result ≡ Some (Once first) ∷ Some (Each second) ∷ Some (Each third) ∷ [] }
 {
-    [Some(Line::Once(first)), Some(Line::Each(second)), Some(Line::Each(third))]
+    [
+        Some(Line::Once(first)),
+        Some(Line::Each(second)),
+        Some(Line::Each(third)),
+    ]
 }
 
 /// A body on every bit of a word, or on the one of a bit.
@@ -97,10 +108,21 @@ fn word_lines(op: WordOp) -> Lines
         WordOp::Shr1 => two(Shape::Off(Y_BIT), Shape::Shifted(X_DOWN, Y_BIT, Z_DOWN)),
         WordOp::Add => two(Shape::Off(S_BIT), Shape::Added(X, Y, S_BIT, Z)),
         WordOp::Sub => two(Shape::On(S_BIT), Shape::Lessened(X, Y, S_BIT, Z)),
-        WordOp::Abs => two(Shape::Moved(X_TOP, Y_BIT), Shape::TurnedBy(X, X_TOP, Y_BIT, Z)),
+        WordOp::Abs => two(
+            Shape::Moved(X_TOP, Y_BIT),
+            Shape::TurnedBy(X, X_TOP, Y_BIT, Z),
+        ),
         WordOp::Relu => one(Line::Each(Shape::Without(X, X_TOP, Z))),
-        WordOp::Min => three(Shape::Off(S_BIT), Shape::Compared(X, Y, S_BIT), Shape::Chosen(Y, X, S_BIT, Z)),
-        WordOp::Max => three(Shape::Off(S_BIT), Shape::Compared(X, Y, S_BIT), Shape::Chosen(X, Y, S_BIT, Z)),
+        WordOp::Min => three(
+            Shape::Off(S_BIT),
+            Shape::Compared(X, Y, S_BIT),
+            Shape::Chosen(Y, X, S_BIT, Z),
+        ),
+        WordOp::Max => three(
+            Shape::Off(S_BIT),
+            Shape::Compared(X, Y, S_BIT),
+            Shape::Chosen(X, Y, S_BIT, Z),
+        ),
         WordOp::Eq => two(Shape::On(Z_BIT), Shape::Agreed(X, Y, Z_BIT)),
         WordOp::Gt => two(Shape::Off(Z_BIT), Shape::Compared(X, Y, Z_BIT)),
         WordOp::Ge => two(Shape::On(Z_BIT), Shape::Compared(X, Y, Z_BIT)),
@@ -118,10 +140,22 @@ pub fn lines(op: WordOp, kind: Kind) -> Lines
     match op {
         WordOp::Not => spread(kind, Shape::Inverted(X, Z), Shape::Inverted(X_BIT, Z_BIT)),
         WordOp::And => spread(kind, Shape::Both(X, Y, Z), Shape::Both(X_BIT, Y_BIT, Z_BIT)),
-        WordOp::Or => spread(kind, Shape::Either(X, Y, Z), Shape::Either(X_BIT, Y_BIT, Z_BIT)),
-        WordOp::Xor => spread(kind, Shape::Unlike(X, Y, Z), Shape::Unlike(X_BIT, Y_BIT, Z_BIT)),
+        WordOp::Or => spread(
+            kind,
+            Shape::Either(X, Y, Z),
+            Shape::Either(X_BIT, Y_BIT, Z_BIT),
+        ),
+        WordOp::Xor => spread(
+            kind,
+            Shape::Unlike(X, Y, Z),
+            Shape::Unlike(X_BIT, Y_BIT, Z_BIT),
+        ),
         WordOp::Copy => spread(kind, Shape::Moved(X, Z), Shape::Moved(X_BIT, Z_BIT)),
-        WordOp::IfElse => spread(kind, Shape::Chosen(X, Y, S_BIT, Z), Shape::Chosen(X_BIT, Y_BIT, S_BIT, Z_BIT)),
+        WordOp::IfElse => spread(
+            kind,
+            Shape::Chosen(X, Y, S_BIT, Z),
+            Shape::Chosen(X_BIT, Y_BIT, S_BIT, Z_BIT),
+        ),
         _ => word_lines(op),
     }
 }

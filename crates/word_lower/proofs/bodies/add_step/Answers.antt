@@ -1,4 +1,3 @@
-use Rattle.std.proofs.Common.{[], ◌∷◌}
 use Rattle.word_lower.proofs.Append.{like_push, made_push}
 use Rattle.word_lower.proofs.bodies.add_step.Goals as goal
 

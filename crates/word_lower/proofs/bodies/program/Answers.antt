@@ -1,7 +1,6 @@
-use Rattle.std.proofs.Common.{◌≡◌, [], map, take, sym, subst, None}
+use Rattle.std.proofs.Common.{map, sym, subst, None}
 use Rattle.loop_ir.specs.Plain.{step_of}
 use Rattle.loop_ir.specs.Like.{LikeSteps, no_steps}
-use Rattle.word_lower.specs.Shapes.{lines_steps, program_on}
 use Rattle.word_lower.proofs.Append.{lines_more}
 use Rattle.word_lower.proofs.bodies.program.Goals as goal
 

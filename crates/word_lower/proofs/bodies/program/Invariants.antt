@@ -1,4 +1,4 @@
-use Rattle.std.proofs.Common.{◌≡◌, map, take}
+use Rattle.std.proofs.Common.{map, take}
 use Rattle.loop_ir.specs.Plain.{AllParts, step_of}
 use Rattle.loop_ir.specs.Like.{LikeSteps}
 use Rattle.loop_laws.specs.Forms.{IsMade}

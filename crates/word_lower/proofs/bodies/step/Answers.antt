@@ -1,7 +1,4 @@
-use Rattle.std.proofs.Common.{[], ◌∷◌, subst, sym}
-use Rattle.loop_ir.specs.Plain.{block_of, step_map, Single, Along}
-use Rattle.loop_ir.specs.Like.{LikeSteps, single, along, no_steps}
-use Rattle.word_lower.specs.Shapes.{line_step, body_on}
+use Rattle.loop_ir.specs.Like.{single, along, no_steps}
 use Rattle.word_lower.proofs.bodies.step.Goals as goal
 
 pub returns-in_ok-body-in-Once-clause-like : goal.returns-in_ok-body-in-Once-clause-like

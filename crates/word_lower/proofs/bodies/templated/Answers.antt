@@ -1,4 +1,3 @@
-use Rattle.std.proofs.Common.{◌≡◌, ℕ, length}
 use Rattle.word_lower.proofs.Templates.{all_lower, all_below, template_like}
 use Rattle.word_lower.proofs.bodies.templated.Goals as goal
 

@@ -1,5 +1,5 @@
 use Rattle.std.proofs.Common.{◌≡◌, sym, ap, subst, ◌∙◌, true}
-use Rattle.op_text.specs.Language.{Statement, statement, Compute}
+use Rattle.op_text.specs.Language.{statement, Compute}
 use Rattle.loop_ir.specs.Plain.{steps_of}
 use Rattle.loop_ir.specs.Like.{LikeSteps}
 use Rattle.loop_ir.specs.Statements.{slots_of, StatementMeets, ComputeMeets, IsPlaced}
@@ -7,7 +7,7 @@ use Rattle.loop_ir.specs.Lowered.{IsLowered}
 use Rattle.word_lower.specs.declared.shapes.Owners.{Owners}
 use Rattle.word_lower.specs.Places.{AreAt}
 use Rattle.word_lower.specs.Programs.{program, is_linear, is_linear_statement}
-use Rattle.word_lower.specs.Shapes.{owners_of, program_on}
+use Rattle.word_lower.specs.Shapes.{program_on}
 use Rattle.word_lower.proofs.Statements.{lowered_on, places_of}
 use Rattle.word_lower.proofs.linear.lower_linear.Goals as goal
 

@@ -1,4 +1,4 @@
-use Rattle.std.proofs.Common.{◌≡◌, ◌<◌, ◌∙◌, sym, length, arith}
+use Rattle.std.proofs.Common.{◌∙◌, sym, arith}
 use Rattle.loop_ir.specs.Statements.{slots_of}
 use Rattle.word_lower.specs.Shapes.{behind}
 use Rattle.word_lower.proofs.Owners.{owner_is, behind_past}
