@@ -30,3 +30,4 @@ pub mod Meant
 pub mod Placed
 pub mod LaidOut
 pub mod Entries
+pub mod StageAt

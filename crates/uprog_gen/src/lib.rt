@@ -4,6 +4,7 @@
 mod emit;
 mod entry;
 mod layout;
+mod lowering;
 mod ops;
 mod part;
 mod plan;
@@ -11,5 +12,6 @@ mod steps;
 
 pub use entry::compile_entry;
 pub use layout::lay_out;
-pub use ops::{Lowered, compile_lowered};
+pub use lowering::lower;
+pub use ops::{Compiled, Lowered, compile_lowered, compile_ops};
 pub use uprog_code::EntryCode;
