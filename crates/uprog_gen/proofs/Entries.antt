@@ -1,19 +1,29 @@
 -- From the code of an operation's statements to its entry.
-use Rattle.std.proofs.Common.{◌≡◌, ℕ, zero, suc, ◌+◌, ◌*◌, ◌<◌, ◌≤◌, List, [], ◌∷◌, ◌++◌, take, map, length, refl, sym, ap, ◌∙◌, subst, arith}
-use Rattle.std.specs.Prelude.{slice_index_or, min, Result, Ok, Err, IfOk}
-use Rattle.std.specs.List.{AllByRecursion}
-use Rattle.std.proofs.lemmas.List.{map-append, map_more}
+use Rattle.std.proofs.Common.{◌≡◌, Bool, true, false, ℕ, zero, suc, ◌+◌, ◌*◌, ◌<◌, ◌≤◌, List, [], ◌∷◌, ◌++◌, take, map, length, refl, sym, ap, ◌∙◌, subst, arith}
+use Rattle.std.specs.Prelude.{slice_index_or, min, Result, Ok, Err, IfOk, ◌≢◌, ◌||◌, ◌&&◌, bytes_eq}
+use Rattle.std.specs.List.{AllByRecursion, AllPairs}
+use Rattle.std.proofs.lemmas.Bool.{and_parts, or_parts}
+use Rattle.std.proofs.lemmas.Slice.Eq.{bytes_eq-Decides}
+use Rattle.std.proofs.lemmas.List.{map-append, map_more, length-map}
+use Rattle.std.proofs.lemmas.List.Elements.{All-from_recursion}
+use Rattle.std.proofs.lemmas.List.Kept.{AllPairs-cons}
+use Rattle.text_lex.specs.Spelled.{fits_name}
+use Rattle.op_text.specs.declared.tree.Param.{Param}
+use Rattle.op_text.specs.Items.{spelling_of}
+use Rattle.op_text.specs.Rules.{is_among, is_plain}
 use Rattle.op_text.specs.Language.{Statement, Operation, operation}
 use Rattle.op_text.specs.declared.tree.Op.{Op}
-use Rattle.op_text.specs.Spelling.{Each}
+use Rattle.op_text.specs.Spelling.{Each, is_good}
 use Rattle.op_text.specs.Meaning.{meaning}
 use Rattle.op_text.specs.Scratch.{ceiling}
-use Rattle.op_rules.specs.Meets.{OperationMeets}
+use Rattle.op_rules.specs.Meets.{Differ, OperationMeets, OpsMeet}
+use Rattle.op_rules.proofs.Few.{scratch_is_small}
 use Rattle.uprog_code.specs.declared.code.EntryCode.{EntryCode}
 use Rattle.uprog_code.specs.declared.code.Head.{Head}
 use Rattle.uprog_code.specs.declared.code.Uop.{Uop}
 use Rattle.uprog_code.specs.Shape.{Shape, Microprogram, shape_of, microprogram_of}
 use Rattle.uprog_code.specs.Legal.{IsLegalCode}
+use Rattle.uprog_code.specs.Programs.{IsEntry, IsProgram}
 use Rattle.uprog_code.specs.Implements.{Implements}
 use Rattle.uprog_code.specs.Texts.{op_shape, text_op, EntryDoes, ImplementsAll}
 use Rattle.loop_ir.specs.Plain.{StepOf, Block}
@@ -88,3 +98,59 @@ pub op_at : (P : Operation → Type 0) (items : List Op) (k : ℕ) (x : Op) → 
 op_at P [] k x h lt e = absurd (omega arith)
 op_at P (y ∷ items) zero x h lt e = subst (λ (z : Op). P (operation z)) (sym e) h.0
 op_at P (y ∷ items) (suc k) x h lt e = op_at P items k x h.1 (omega arith) e
+
+good_fits : (name : List ℕ) → is_good name ≡ true → fits_name name ≡ true
+good_fits name e = (and_parts (fits_name name) (is_plain (spelling_of name)) e).0
+
+entry_is : (e : Microprogram) (op : Operation) → OperationMeets op → IsCompiled e op → IsEntry e
+entry_is e op meets c =
+    let few = scratch_is_small op meets in
+    let shape = c.does.shape in
+    let sources = ap (λ (s : Shape). length s.sources) shape ∙ length-map op.params (λ (p : Param). p.kind) in
+    let bits = ap (λ (s : Shape). s.bits) shape in
+    let words = ap (λ (s : Shape). s.words) shape in
+    record {
+      name = ap fits_name c.does.name ∙ (good_fits op.name meets.name);
+      some = omega (arith, sources, meets.has_params);
+      few = omega (arith, sources, meets.few_params);
+      bits = omega (arith, bits, few.bits);
+      words = omega (arith, words, few.words);
+      code = c.legal;
+    }
+
+entries_are : (es : List Microprogram) (ops : List Operation) → AreCompiled es ops → Each OperationMeets ops → AllByRecursion IsEntry es
+entries_are [] [] c m = tt
+entries_are [] (op ∷ ops) c m = absurd c
+entries_are (e ∷ es) [] c m = absurd c
+entries_are (e ∷ es) (op ∷ ops) c m = (entry_is e op m.0 c.0, entries_are es ops c.1 m.1)
+
+compiled_length : (es : List Microprogram) (ops : List Operation) → AreCompiled es ops → length es ≡ length ops
+compiled_length [] [] c = refl
+compiled_length [] (op ∷ ops) c = absurd c
+compiled_length (e ∷ es) [] c = absurd c
+compiled_length (e ∷ es) (op ∷ ops) c = omega (arith, compiled_length es ops c.1)
+
+differ_names : (a b : List ℕ) → bytes_eq b a ≡ false → a ≢ b
+differ_names a b e is = let same = (bytes_eq-Decides b a).1 (sym is) in cc
+
+others_differ : (e : Microprogram) (name : List ℕ) → e.name ≡ name → (es : List Microprogram) (ops : List Operation) → AreCompiled es ops → is_among (map (λ (op : Operation). op.name) ops) name ≡ false
+    → AllByRecursion (λ (m : Microprogram). e.name ≢ m.name) es
+others_differ e name is [] [] c new = tt
+others_differ e name is [] (op ∷ ops) c new = absurd c
+others_differ e name is (m ∷ es) [] c new = absurd c
+others_differ e name is (m ∷ es) (op ∷ ops) c new =
+    let parts = or_parts (bytes_eq op.name name) (is_among (map (λ (op : Operation). op.name) ops) name) new in (
+      λ same. differ_names name op.name parts.0 (sym is ∙ same ∙ c.0.does.name),
+      others_differ e name is es ops c.1 parts.1,
+    )
+
+names_differ : (es : List Microprogram) (ops : List Operation) → AreCompiled es ops → Differ (map (λ (op : Operation). op.name) ops) → AllPairs (λ (m n : Microprogram). m.name ≢ n.name) es
+names_differ [] [] c d = λ i j x l m. absurd (omega arith)
+names_differ [] (op ∷ ops) c d = absurd c
+names_differ (e ∷ es) [] c d = absurd c
+names_differ (e ∷ es) (op ∷ ops) c d =
+    AllPairs-cons (λ (m n : Microprogram). m.name ≢ n.name) e es (All-from_recursion (λ (m : Microprogram). e.name ≢ m.name) es (others_differ e op.name c.0.does.name es ops c.1 d.0)) (names_differ es ops c.1 d.1)
+
+-- a file can hold the entries
+pub compiled_program : (es : List Microprogram) (ops : List Operation) → AreCompiled es ops → OpsMeet ops → IsProgram es
+compiled_program es ops c meets = record { few = omega (arith, compiled_length es ops c, meets.few_ops); entries = entries_are es ops c meets.each; names = names_differ es ops c meets.differ }

@@ -11,7 +11,8 @@ use Rattle.loop_ir.specs.Plain.{StepOf, Block, steps_of}
 use Rattle.loop_ir.specs.Statements.{Slots, StatementMeets, IsPlaced}
 use Rattle.loop_ir.specs.Lowered.{IsLowered}
 use Rattle.uprog_gen.specs.Layout.{IsLayout}
-use Rattle.uprog_gen.specs.Programs.{AreLowered}
+use Rattle.word_lower.specs.Forms.{HasForm}
+use Rattle.uprog_gen.specs.Programs.{AreLowered, HaveForms}
 use Rattle.uprog_gen.proofs.Stage.{Stage, first_stage, next_stage}
 use Rattle.uprog_gen.proofs.Ready.{statement_meets, is_placed}
 use Rattle.uprog_gen.proofs.LaidOut.{body_more}
@@ -35,11 +36,6 @@ module _ (op : Operation) (meets : OperationMeets op) (slots : Slots) (free_bit 
   pub statement_ready : (items : List Stmt) → op.body ≡ map statement items → (k : ℕ) (x : Stmt) → k < length items → x ≡ slice_index_or items k x → IsReady slots free_bit free_word (statement x)
   statement_ready items e k x lt f = ready_at (at_start op) items (subst (Stage op (at_start op)) e (first_stage op meets)) k x lt f
 
-pub each_at : (P : Statement → Type 0) (items : List Stmt) (k : ℕ) (x : Stmt) → Each P (map statement items) → k < length items → x ≡ slice_index_or items k x → P (statement x)
-each_at P [] k x h lt e = absurd (omega arith)
-each_at P (y ∷ items) zero x h lt e = subst (λ (z : Stmt). P (statement z)) (sym e) h.0
-each_at P (y ∷ items) (suc k) x h lt e = each_at P items k x h.1 (omega arith) e
-
 lowered-append : (slots : Slots) (free_bit free_word : ℕ) (body : List Statement) (ps : List (List (StepOf Block))) (s : Statement) (p : List (StepOf Block)) → AreLowered slots free_bit free_word body ps → IsLowered slots free_bit free_word s p → AreLowered slots free_bit free_word (body ++ s ∷ []) (ps ++ p ∷ [])
 lowered-append slots free_bit free_word [] [] s p h i = (i, tt)
 lowered-append slots free_bit free_word [] (q ∷ ps) s p h i = absurd h
@@ -53,3 +49,16 @@ lowered_more slots free_bit free_word items k x old new p lt e f h i =
     subst (λ l. AreLowered slots free_bit free_word l (map steps_of new)) (sym (body_more items k x lt e))
     (subst (AreLowered slots free_bit free_word (take k (map statement items) ++ statement x ∷ [])) (sym (ap (map steps_of) f ∙ map-append steps_of old (p ∷ [])))
     (lowered-append slots free_bit free_word (take k (map statement items)) (map steps_of old) (statement x) (steps_of p) h i))
+
+forms-append : (slots : Slots) (body : List Statement) (ps : List (List (StepOf Block))) (s : Statement) (p : List (StepOf Block)) → HaveForms slots body ps → HasForm slots s p → HaveForms slots (body ++ s ∷ []) (ps ++ p ∷ [])
+forms-append slots [] [] s p h i = (i, tt)
+forms-append slots [] (q ∷ ps) s p h i = absurd h
+forms-append slots (t ∷ body) [] s p h i = absurd h
+forms-append slots (t ∷ body) (q ∷ ps) s p h i = (h.0, forms-append slots body ps s p h.1 i)
+
+pub forms_more : (slots : Slots) (items : List Stmt) (k : ℕ) (x : Stmt) (old new : List LoopProgram) (p : LoopProgram) → k < length items → x ≡ slice_index_or items k x → new ≡ old ++ p ∷ []
+    → HaveForms slots (take k (map statement items)) (map steps_of old) → HasForm slots (statement x) (steps_of p) → HaveForms slots (take (k + 1) (map statement items)) (map steps_of new)
+forms_more slots items k x old new p lt e f h i =
+    subst (λ l. HaveForms slots l (map steps_of new)) (sym (body_more items k x lt e))
+    (subst (HaveForms slots (take k (map statement items) ++ statement x ∷ [])) (sym (ap (map steps_of) f ∙ map-append steps_of old (p ∷ [])))
+    (forms-append slots (take k (map statement items)) (map steps_of old) (statement x) (steps_of p) h i))

@@ -12,6 +12,7 @@ use Rattle.uprog_code.specs.Texts.{text_op, EntryDoes}
 use Rattle.loop_ir.specs.Plain.{StepOf, Block}
 use Rattle.loop_ir.specs.Statements.{Slots}
 use Rattle.loop_ir.specs.Lowered.{IsLowered}
+use Rattle.word_lower.specs.Forms.{HasForm}
 
 -- each statement has a loop program that does it, with all names at these places
 abbrev pub AreLowered : Slots → ℕ → ℕ → List Statement → List (List (StepOf Block)) → Type 0
@@ -20,27 +21,17 @@ AreLowered slots free_bit free_word [] (p ∷ ps) = ⊥
 AreLowered slots free_bit free_word (s ∷ body) [] = ⊥
 AreLowered slots free_bit free_word (s ∷ body) (p ∷ ps) = IsLowered slots free_bit free_word s p × AreLowered slots free_bit free_word body ps
 
+-- and that of a block is its states' starts and its graph at each position
+abbrev pub HaveForms : Slots → List Statement → List (List (StepOf Block)) → Type 0
+HaveForms slots [] [] = Unit {0}
+HaveForms slots [] (p ∷ ps) = ⊥
+HaveForms slots (s ∷ body) [] = ⊥
+HaveForms slots (s ∷ body) (p ∷ ps) = HasForm slots s p × HaveForms slots body ps
+
 -- the ceiling of each statement, where these names are known
 abbrev pub ceilings : List Param → List Statement → List (ℕ → ℕ)
 ceilings known [] = []
 ceilings known (s ∷ body) = (λ n. statement_ceiling op_ceiling known n s) ∷ ceilings (known ++ defines known s) body
-
--- a word operation that goes over its bits once
-abbrev pub is_linear : WordOp → Bool
-is_linear o.Mul = false
-is_linear o.Div = false
-is_linear o.Rem = false
-is_linear o.Bitcount = false
-is_linear p = true
-
--- the statement is a serial block, or a word operation that goes over its bits once
-abbrev pub IsOnePass : Statement → Type 0
-IsOnePass (Compute target p args) = is_linear p ≡ true
-IsOnePass (Visit b) = Unit {0}
-
--- and so in all operations
-abbrev pub AreOnePass : List Operation → Type 0
-AreOnePass ops = Each (λ (op : Operation). Each IsOnePass op.body) ops
 
 -- An operation's entry: it does the operation, its code is legal, and no statement has more than 256 instructions
 pub record IsCompiled (e : Microprogram) (op : Operation) : Type 0 where

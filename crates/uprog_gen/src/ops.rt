@@ -2,14 +2,15 @@
 
 ghost use Rattle.std.specs.Prelude.{◌≡◌, ◌++◌, ◌∷◌, [], map, OnOk, IfOk};
 ghost use Rattle.op_text.specs.Language.{operation, operations};
-ghost use Rattle.op_text.specs.Spelling.{Each};
-ghost use Rattle.op_rules.specs.Meets.{OperationMeets, OpsMeet};
+ghost use Rattle.op_text.specs.Spelling.{Each, MeetRules};
+ghost use Rattle.op_rules.specs.Meets.{OperationMeets};
 ghost use Rattle.uprog_code.specs.Shape.{shape_of, microprogram_of, microprograms_of};
+ghost use Rattle.uprog_code.specs.Programs.{IsProgram};
 ghost use Rattle.uprog_code.specs.Texts.{op_shape, text_op, ImplementsAll};
 ghost use Rattle.loop_ir.specs.Plain.{steps_of};
 ghost use Rattle.loop_ir.specs.Statements.{slots_of};
 ghost use Rattle.uprog_gen.specs.Layout.{IsLayoutMap};
-ghost use Rattle.uprog_gen.specs.Programs.{AreLowered, IsOnePass, AreOnePass, IsCompiled, AreCompiled};
+ghost use Rattle.uprog_gen.specs.Programs.{AreLowered, IsCompiled, AreCompiled};
 
 use crate::entry::compile_entry;
 use crate::lowering::lower;
@@ -17,6 +18,7 @@ use arrayvec::ArrayVec;
 use loop_ir::{LoopProgram, NameMap};
 use mig_graph::NoMemory;
 use op_lang::scratch_of;
+use op_rules::ops_meet;
 use op_text::{Op, Ops};
 use std::alloc::Global;
 use uprog_code::{EntryCode, Head, Program};
@@ -66,10 +68,9 @@ pub fn compile_lowered(op: &Op, lowered: &Lowered, alloc: Global) -> Result<Entr
     compile_entry(head_of(op), &lowered.programs, alloc)
 }
 
-/// The code of an operation that meets the rules and whose word operations take one pass.
+/// The code of an operation that meets the rules.
 fn compile_op(op: &Op, alloc: Global) -> Result<EntryCode, NoMemory>
     requires meets { OperationMeets (operation op.now) }
-    requires pass { Each IsOnePass (operation op.now).body }
     ensures { IfOk result (λ entry. IsCompiled (microprogram_of entry) (operation op.now)) }
 {
     let lowered = lower(op, alloc)?;
@@ -85,20 +86,32 @@ fn keep(entries: &mut Vec<EntryCode>, entry: EntryCode) -> Result<(), NoMemory>
     }
 }
 
-/// The program of operations that meet the rules and whose word operations take one pass: an entry for each, in order.
-///
-/// Only want of memory is an `Err`.
-pub fn compile_ops(ops: &Ops, alloc: Global) -> Result<Compiled, NoMemory>
-    requires meets { OpsMeet (operations ops.now) }
-    requires pass { AreOnePass (operations ops.now) }
-    ensures implements { IfOk result (λ c. ImplementsAll (microprograms_of c.program) (map text_op (operations ops.now))) }
-    ensures compiled { IfOk result (λ c. AreCompiled (microprograms_of c.program) (operations ops.now)) }
+/// The entries of operations that meet the rules, in order.
+fn compile_each(ops: &[Op], alloc: Global) -> Result<Vec<EntryCode>, NoMemory>
+    requires meets { Each OperationMeets (map operation ops.now) }
+    ensures { IfOk result (λ entries. AreCompiled (map microprogram_of entries.items) (map operation ops.now)) }
 {
     let mut entries = Vec::new(alloc);
-    for op in &ops.ops {
+    for op in ops {
         let entry = compile_op(op, alloc)?;
         keep(&mut entries, entry)?;
     }
+    Ok(entries)
+}
+
+/// The program of a text's operations: an entry for each, in order.
+///
+/// Only want of memory is an `Err`.
+pub fn compile_ops(ops: &Ops, alloc: Global) -> Result<Compiled, NoMemory>
+    requires meets { MeetRules (operations ops.now) }
+    ensures implements { IfOk result (λ c. ImplementsAll (microprograms_of c.program) (map text_op (operations ops.now))) }
+    // A file can hold it.
+    ensures program { IfOk result (λ c. IsProgram (microprograms_of c.program)) }
+    // No statement has more than 256 instructions.
+    ensures compiled { IfOk result (λ c. AreCompiled (microprograms_of c.program) (operations ops.now)) }
+{
+    ops_meet(ops);
+    let entries = compile_each(&ops.ops, alloc)?;
     Ok(Compiled {
         program: Program { entries },
     })
