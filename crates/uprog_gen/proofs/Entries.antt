@@ -1,7 +1,6 @@
 -- From the code of an operation's statements to its entry.
 use Rattle.std.proofs.Common.{◌≡◌, ℕ, zero, suc, ◌+◌, ◌*◌, ◌<◌, ◌≤◌, List, [], ◌∷◌, ◌++◌, take, map, length, refl, sym, ap, ◌∙◌, subst, arith}
 use Rattle.std.specs.Prelude.{slice_index_or, min, Result, Ok, Err, IfOk}
-use Rattle.std.specs.List.{AllByRecursion}
 use Rattle.std.proofs.lemmas.List.{map-append, map_more}
 use Rattle.op_text.specs.Language.{Statement, Operation, operation}
 use Rattle.op_text.specs.declared.tree.Op.{Op}
@@ -11,7 +10,6 @@ use Rattle.op_text.specs.Scratch.{ceiling}
 use Rattle.op_rules.specs.Meets.{OperationMeets}
 use Rattle.uprog_code.specs.declared.code.EntryCode.{EntryCode}
 use Rattle.uprog_code.specs.declared.code.Head.{Head}
-use Rattle.uprog_code.specs.declared.code.Uop.{Uop}
 use Rattle.uprog_code.specs.Shape.{Shape, Microprogram, shape_of, microprogram_of}
 use Rattle.uprog_code.specs.Legal.{IsLegalCode}
 use Rattle.uprog_code.specs.Implements.{Implements}

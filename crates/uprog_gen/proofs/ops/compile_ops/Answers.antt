@@ -1,4 +1,4 @@
-use Rattle.std.proofs.Common.{◌≡◌, ◌∙◌, ◌≤◌, ap, sym, map, length, take, subst, arith}
+use Rattle.std.proofs.Common.{◌≤◌, ap, map, length, subst, arith}
 use Rattle.std.proofs.lemmas.List.{take_all}
 use Rattle.op_text.specs.Language.{Operation, operation}
 use Rattle.op_text.specs.Spelling.{Each}
