@@ -1,0 +1,9 @@
+pub mod Same
+pub mod Loop
+pub mod Steps
+pub mod Placed
+pub mod Alike
+pub mod Costing
+pub mod Good
+pub mod EveryRound
+pub mod Compile

@@ -1,0 +1,62 @@
+-- What a written loop program has to keep, so that one like it with graphs of its own can be compiled.
+use Rattle.std.specs.Prelude.{◌≡◌, ℕ, ◌+◌, ◌<◌, ◌≤◌, Bool, true, ◌&&◌, nat_le, List, [], ◌∷◌, length}
+use Rattle.std.specs.List.{AllByRecursion, list_all}
+use Rattle.bit_rows.specs.declared.TheConstants.{WIDTH_MAX}
+use Rattle.mig_graph.specs.Graph.{IsGraph}
+use Rattle.mig_graph.specs.Outputs.{AreNamed}
+use Rattle.loop_ir.specs.Plain.{Block, InnerOf, StepOf, AllParts}
+use Rattle.loop_ir.specs.Plain.InnerOf.{Alone, Across}
+use Rattle.loop_ir.specs.Plain.StepOf.{Single, Along, Nest}
+use Rattle.loop_ir.specs.Loops.{all_rounds}
+use Rattle.loop_ir.specs.Spots.{Spot, nth_place}
+use Rattle.loop_ir.specs.WellFormed.{IsOneValue}
+use Rattle.loop_ir.specs.Costs.{used_subs, code_cost, bodies}
+use Rattle.loop_ir.specs.Limits.{IsRound, step_stands}
+
+-- a body's places and numbers, but for its nodes
+pub record IsSlim (b : Block) : Type 0 where
+  pub reads : b.graph.inputs ≤ length b.reads
+  pub writes : length b.outs ≤ length b.writes
+  pub apart : (i j : ℕ) → i < length b.writes → j < length b.writes → IsOneValue (nth_place b.writes i) (nth_place b.writes j) → i ≡ j
+  pub same : (j k : ℕ) → j < length b.writes → k < length b.reads → IsOneValue (nth_place b.writes j) (nth_place b.reads k) → (nth_place b.writes j).sub ≡ (nth_place b.reads k).sub
+  pub inputs : b.graph.inputs ≤ 80
+  pub outputs : length b.outs ≤ 8
+  pub rows : length b.graph.nodes + length b.outs ≤ 32
+  pub subs : length (used_subs b) ≤ 3
+
+-- a body's graph is one that `Mig` makes
+pub record IsMade (b : Block) : Type 0 where
+  pub graph : IsGraph b.graph.inputs b.graph.nodes
+  pub named : AreNamed b.graph b.outs
+
+-- code can be made of the loop program, if its graphs are such as `Mig` makes
+pub record HasForm (may_have : ℕ → Spot → Type 0) (steps : List (StepOf Block)) : Type 0 where
+  pub slim : AllParts IsSlim steps
+  pub stand : list_all step_stands steps ≡ true
+  pub rounds : (n : ℕ) → 0 < n → n ≤ WIDTH_MAX → AllByRecursion (IsRound (may_have n) n) (all_rounds n steps)
+  pub size : code_cost steps ≤ 256
+  pub few : bodies steps ≤ 12
+
+-- the numbers of these bounds, as a test
+abbrev pub has_room : Block → Bool
+has_room b =
+    nat_le b.graph.inputs (length b.reads)
+    && (nat_le (length b.outs) (length b.writes)
+    && (nat_le b.graph.inputs 80
+    && (nat_le (length b.outs) 8
+    && (nat_le (length b.graph.nodes + length b.outs) 32
+    && nat_le (length (used_subs b)) 3))))
+
+abbrev pub inners_have_room : List (InnerOf Block) → Bool
+inners_have_room [] = true
+inners_have_room (Alone b ∷ ps) = has_room b && inners_have_room ps
+inners_have_room (Across c b ∷ ps) = has_room b && inners_have_room ps
+
+abbrev pub steps_have_room : List (StepOf Block) → Bool
+steps_have_room [] = true
+steps_have_room (Single b ∷ ss) = has_room b && steps_have_room ss
+steps_have_room (Along b ∷ ss) = has_room b && steps_have_room ss
+steps_have_room (Nest ps ∷ ss) = inners_have_room ps && steps_have_room ss
+
+abbrev pub is_short : List (StepOf Block) → Bool
+is_short steps = steps_have_room steps && (list_all step_stands steps && (nat_le (code_cost steps) 256 && nat_le (bodies steps) 12))
