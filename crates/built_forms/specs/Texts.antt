@@ -25,7 +25,7 @@ kind_word kinds.TooMany = codes "too_many"
 
 -- a text of operations that breaks a rule is refused by its line and the rule
 abbrev pub ops_refusal : OpsFault → Refusal
-ops_refusal fault = record { status = 4; line = codes "ops line " ++ decimal fault.line ++ codes " " ++ kind_word fault.kind ++ codes "\n" }
+ops_refusal fault = record { status = 4; line = codes "ops line " ++ decimal fault.line ++ (codes " " ++ kind_word fault.kind ++ codes "\n") }
 
 abbrev pub unless_fault : Option OpsFault → Result (Unit {0}) Refusal
 unless_fault None = Ok tt

@@ -39,11 +39,11 @@ filter_differ q (n ∷ ns) h = cases (q n) (filter_new q ns n h.0) (filter_diffe
     cases true e k = (e, k)
     cases false e k = k
 
-not_true : (b : Bool) → not b ≡ true → b ≡ false
+pub not_true : (b : Bool) → not b ≡ true → b ≡ false
 not_true true h = cc
 not_true false h = refl
 
-filter_each : (q : List ℕ → Bool) (ns : List (List ℕ)) → Each (λ n. q n ≡ true) (filter q ns)
+pub filter_each : (q : List ℕ → Bool) (ns : List (List ℕ)) → Each (λ n. q n ≡ true) (filter q ns)
 filter_each q [] = tt
 filter_each q (n ∷ ns) = cases (q n) refl (filter_each q ns)
   where
@@ -52,14 +52,14 @@ filter_each q (n ∷ ns) = cases (q n) refl (filter_each q ns)
     cases false e k = k
 
 -- the names that a statement defines differ, and none is known
-record Apart (known : List (List ℕ)) (names : List (List ℕ)) : Type 0 where
-  differ : Differ names
-  new : Each (IsNew known) names
+pub record Apart (known : List (List ℕ)) (names : List (List ℕ)) : Type 0 where
+  pub differ : Differ names
+  pub new : Each (IsNew known) names
 
 new_names : (names used : List (List ℕ)) (r : Param) (k : Kind) (ns : List (List ℕ)) → Each (IsNewOf (names ++ used) r k) ns → Each (IsNew names) ns
 new_names names used r k ns h = each_map (IsNewOf (names ++ used) r k) (IsNew names) (λ n f. new-left names used n f.new) ns h
 
-statement_apart : (st : Statement) (c : Context) → StatementMeets c st → Apart (names_of c.known) (names_of (defines c.known st))
+pub statement_apart : (st : Statement) (c : Context) → StatementMeets c st → Apart (names_of c.known) (names_of (defines c.known st))
 statement_apart (Compute target p args) c h = record { differ = (refl, tt); new = (new-left (names_of c.known) c.lets target h.gives.new, tt) }
 statement_apart (Visit b) c h =
     let S = state_names b in

@@ -14,4 +14,6 @@ pub mod MeetingHeads
 pub mod MeetingWords
 pub mod MeetingBlocks
 pub mod MeetingOps
+pub mod Holding
 pub mod Few
+pub mod Loops

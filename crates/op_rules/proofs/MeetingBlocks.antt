@@ -27,10 +27,6 @@ use Rattle.op_rules.proofs.States.{in_states, before_block, state_names_of, done
 use Rattle.op_rules.proofs.Lines.{names_in, weights, weights-cons, in_lines, naming, lets_move, assigns_move}
 use Rattle.op_rules.proofs.Blocks.{direction_moves, block_standing, stands_move, known_moves}
 
-not_both : (b : Bool) → b ≡ true → b ≡ false → ⊥
-not_both true g h = cc
-not_both false g h = cc
-
 -- a state that is new, or the open result
 state_free : (st a r b d m : Bool) → st ≡ ((a || r) || m) → (r ≡ true → a ≡ d) → a ≡ false → m ≡ false → (r ≡ true → b ≡ true) → cond (r && b) (d || m) st ≡ false
 state_free st a r b d m e f z y g = ap (cond (r && b) (d || m)) (e ∙ ap (λ x. (x || r) || m) z ∙ ap (λ x. (false || r) || x) y) ∙ cases r b d m (λ q. sym (f q) ∙ z) y g

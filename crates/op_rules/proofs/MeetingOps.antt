@@ -20,6 +20,7 @@ use Rattle.op_rules.proofs.Passing.{one_pass, two_pass, good_passes, good_fits, 
 use Rattle.op_rules.proofs.Standing.{Standing, names-append}
 use Rattle.op_rules.proofs.Words.{at_statement, mark}
 use Rattle.op_rules.proofs.Lines.{names_in}
+use Rattle.op_rules.proofs.Blocks.{or_left}
 use Rattle.op_rules.proofs.Heads.{in_params}
 use Rattle.op_rules.specs.Laws.{RulesAreExact}
 use Rattle.op_rules.proofs.Ops.{first_same, start_standing, rules_are_met}
@@ -56,10 +57,6 @@ statement_back : (st : Statement) (ops stands : List (List ℕ)) (c : Context) (
     → Standing stands c assigned → count < 16 → Goes st ops c count wanted rest → breach_of (Stmts ∷ wanted) (at_statement ops stands c assigned count) (items_spelled (statement_text st rest)) ≡ None
 statement_back (Compute target p args) ops stands c assigned count wanted rest m g s l go = word_back target p args ops stands c assigned count wanted rest m (known_good c.known g args m.known) s l go
 statement_back (Visit b) ops stands c assigned count wanted rest m g s l go = block_back b ops stands c assigned count wanted rest m s l go
-
-or_left : (a b : Bool) → a ≡ true → (a || b) ≡ true
-or_left true b h = refl
-or_left false b h = cc
 
 body_back : (body : List Statement) (ops stands : List (List ℕ)) (c : Context) (assigned : Bool) (count : ℕ) (wanted : List Wanted) (rest : List (List ℕ)) → BodyMeets c body → Each IsGood (names_of c.known)
     → Standing stands c assigned → count + length body ≤ 16 → is_among (names_of (c.known ++ body_defines c.known body)) c.result.name ≡ true

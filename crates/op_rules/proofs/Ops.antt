@@ -15,7 +15,7 @@ use Rattle.op_text.specs.WordOps.{op_text}
 use Rattle.op_text.specs.Spelling.{items_spelled, between_commas, in_turn, name_text, param_text, statement_text, operation_text, MeetRules, Each, HasStatement, HasOperation}
 use Rattle.op_rules.specs.Meets.{IsNew, IsNewOf, Context, names_of, behind, StatementMeets, BodyMeets, OperationMeets, OpsMeet, at_start}
 use Rattle.op_rules.proofs.Names.{AllFresh, same_name, among-append, or_first, or_second, fresh-differ}
-use Rattle.op_rules.proofs.Tokens.{goes, name_lexeme, named, one_rule, two_rules, not_bad, le_no}
+use Rattle.op_rules.proofs.Tokens.{goes, name_lexeme, named, one_rule, two_rules, not_bad, le_no, not_not}
 use Rattle.op_rules.proofs.Standing.{Standing, names-append}
 use Rattle.op_rules.proofs.Words.{at_statement, BehindStatement, word_peels, mark}
 use Rattle.op_rules.proofs.Blocks.{block_peels}
@@ -32,10 +32,6 @@ record WholeBody (body : List Statement) (ops : List (List ℕ)) (c : Context) (
   few : count + length body ≤ 16
   given : is_among (names_of (c.known ++ body_defines c.known body)) c.result.name ≡ true
   then : breach_of wanted (in_params ops [] []) (items_spelled rest) ≡ None
-
-not_not : (b : Bool) → not b ≡ false → b ≡ true
-not_not true h = refl
-not_not false h = cc
 
 left_true : (a b : Bool) → (a || b) ≡ true → b ≡ false → a ≡ true
 left_true true b h g = refl

@@ -9,7 +9,7 @@ use Rattle.op_text.specs.declared.grammar.Wanted.{Wanted}
 use Rattle.op_text.specs.Items.{spelling_of}
 use Rattle.op_text.specs.Rules.{Scope, after, unless, with_rules, is_bad, is_plain}
 use Rattle.op_text.specs.Spelling.{is_good}
-use Rattle.op_rules.proofs.Tokens.{Behind}
+use Rattle.op_rules.proofs.Tokens.{Behind, and_first}
 
 pub one_pass : (a : Bool) (i : OpsKind) (r : Scope) (f : List Wanted) (u : Lexeme) (go : Behind) → a ≡ false → after (with_rules (Some f) (unless a i (Ok r))) u go ≡ go f r
 one_pass true i r f u go e = cc
@@ -40,10 +40,6 @@ bad_is false p h = cc
 
 pub good_passes : (n : List ℕ) → is_good n ≡ true → is_bad (spelling_of n) n ≡ false
 good_passes n h = bad_is (fits_name n) (is_plain (spelling_of n)) h
-
-and_first : (a b : Bool) → (a && b) ≡ true → a ≡ true
-and_first true b h = refl
-and_first false b h = cc
 
 and_second : (a b : Bool) → (a && b) ≡ true → b ≡ true
 and_second true b h = h

@@ -13,7 +13,7 @@ use Rattle.op_text.specs.Language.{Term, Nought, Unity, Named, Negation, Conjunc
 use Rattle.op_text.specs.Scratch.{term_weight}
 use Rattle.op_text.specs.Spelling.{is_good, term_text, items_spelled, heavier, opens_next, TermMeets, HasNames}
 use Rattle.op_rules.proofs.Names.{or_first, or_second}
-use Rattle.op_rules.proofs.Tokens.{goes, name_lexeme, named, one_rule, two_rules, not_bad, le_no, lt_no}
+use Rattle.op_rules.proofs.Tokens.{goes, name_lexeme, named, one_rule, two_rules, not_bad, le_no, lt_no, not_not}
 
 pub opens_same : (rest : List (List ℕ)) → opens (items_spelled rest) ≡ opens_next rest
 opens_same [] = refl
@@ -88,10 +88,6 @@ close_peels : (s : Scope) (outer : List ℕ) (w : ℕ) (wanted : List Wanted) (r
     → breach_of (More ∷ wanted) (weighing s (zero ∷ outer) w) (items_spelled (codes ")" ∷ rest)) ≡ None → breach_of wanted (weighing s outer w) (items_spelled rest) ≡ None
 unfolding breach_of
 close_peels s outer w wanted rest h = h
-
-not_not : (b : Bool) → not b ≡ false → b ≡ true
-not_not true h = refl
-not_not false h = cc
 
 name_peels : (s : Scope) (name : List ℕ) (wanted : List Wanted) (rest : List (List ℕ)) (o : Bool) → o ≡ false
     → after (step Value s (t.Name (spelling_of name)) name o) (name_lexeme name) (goes wanted rest) ≡ None

@@ -21,7 +21,7 @@ goes wanted rest = λ front s. breach_of (front ++ wanted) s (items_spelled rest
 abbrev pub name_lexeme : List ℕ → Lexeme
 name_lexeme n = record { kind = kinds.Name; text = n; start = 0 }
 
-and_first : (a b : Bool) → (a && b) ≡ true → a ≡ true
+pub and_first : (a b : Bool) → (a && b) ≡ true → a ≡ true
 and_first true b h = refl
 and_first false b h = cc
 
@@ -70,6 +70,10 @@ good_is : (p f : Bool) → not (p && f) ≡ false → (f && p) ≡ true
 good_is true true h = refl
 good_is true false h = cc
 good_is false f h = cc
+
+pub not_not : (b : Bool) → not b ≡ false → b ≡ true
+not_not true h = refl
+not_not false h = cc
 
 -- a name that is not bad is good
 pub not_bad : (n : List ℕ) → is_bad (spelling_of n) n ≡ false → is_good n ≡ true

@@ -30,9 +30,6 @@ use Rattle.op_rules.proofs.Standing.{Standing, given-at, standing-more, more_con
 abbrev pub mark : List ℕ → Lexeme
 mark x = record { kind = kinds.Symbol; text = x; start = 0 }
 
-abbrev pub counted : Scope → Scope
-counted s = record s { op = record s.op { statements = s.op.statements + 1 } }
-
 -- the target of a word statement
 record BehindTarget (n : Spelling) (s : Scope) (target : List ℕ) (wanted : List Wanted) (rest : List (List ℕ)) : Type 0 where
   good : is_bad n target ≡ false

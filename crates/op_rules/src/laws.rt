@@ -1,6 +1,6 @@
 //! Laws of the rules.
 
-ghost use Rattle.op_rules.specs.Laws.{NamesStandOnce, RulesAreExact, ScratchIsSmall};
+ghost use Rattle.op_rules.specs.Laws.{KindsAreHeld, KindsAreKept, NamesStandOnce, OthersStay, RulesAreExact, ScratchIsSmall, StatementsMeet};
 
 /// Ops meet the rules as trees exactly where the tokens of their text break none.
 pub fn rules_are_exact()
@@ -15,4 +15,20 @@ pub fn scratch_is_small()
 /// No name of an op stands twice, so each is found with its kind.
 pub fn names_stand_once()
     ensures { NamesStandOnce }
+{}
+
+/// Each statement of an op that meets the rules meets them where it stands.
+pub fn statements_meet()
+    ensures { StatementsMeet }
+{}
+
+/// A statement leaves each name as it was that it does not define.
+pub fn others_stay()
+    ensures { OthersStay }
+{}
+
+/// Behind each statement, and so behind an op, names hold bits of their kinds.
+pub fn kinds_are_held()
+    ensures statement { KindsAreKept }
+    ensures op { KindsAreHeld }
 {}

@@ -2,5 +2,10 @@
 #![tactic(auto)]
 
 mod laws;
+mod trees;
 
-pub use laws::{names_stand_once, rules_are_exact, scratch_is_small};
+pub use laws::{
+    kinds_are_held, names_stand_once, others_stay, rules_are_exact, scratch_is_small,
+    statements_meet,
+};
+pub use trees::ops_meet;
