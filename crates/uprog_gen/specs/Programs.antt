@@ -1,9 +1,7 @@
 -- The loop programs of an operation's statements, and its entry.
-use Rattle.std.specs.Prelude.{◌≡◌, ◌+◌, ◌*◌, ◌≤◌, length, Bool, true, false, ℕ, List, [], ◌∷◌, ◌++◌}
+use Rattle.std.specs.Prelude.{◌≡◌, ◌+◌, ◌*◌, ◌≤◌, length, true, ℕ, List, [], ◌∷◌, ◌++◌}
 use Rattle.op_text.specs.declared.tree.Param.{Param}
-use Rattle.op_text.specs.declared.tree.WordOp.{WordOp}
-use Rattle.op_text.specs.declared.tree.WordOp.TheVariants as o
-use Rattle.op_text.specs.Language.{Statement, Compute, Visit, Operation}
+use Rattle.op_text.specs.Language.{Statement, Operation}
 use Rattle.op_text.specs.Scratch.{defines, op_ceiling, statement_ceiling}
 use Rattle.op_text.specs.Spelling.{Each}
 use Rattle.uprog_code.specs.Shape.{Microprogram}
@@ -12,6 +10,7 @@ use Rattle.uprog_code.specs.Texts.{text_op, EntryDoes}
 use Rattle.loop_ir.specs.Plain.{StepOf, Block}
 use Rattle.loop_ir.specs.Statements.{Slots}
 use Rattle.loop_ir.specs.Lowered.{IsLowered}
+use Rattle.word_lower.specs.Programs.{is_linear_statement}
 
 -- each statement has a loop program that does it, with all names at these places
 abbrev pub AreLowered : Slots → ℕ → ℕ → List Statement → List (List (StepOf Block)) → Type 0
@@ -25,18 +24,9 @@ abbrev pub ceilings : List Param → List Statement → List (ℕ → ℕ)
 ceilings known [] = []
 ceilings known (s ∷ body) = (λ n. statement_ceiling op_ceiling known n s) ∷ ceilings (known ++ defines known s) body
 
--- a word operation that goes over its bits once
-abbrev pub is_linear : WordOp → Bool
-is_linear o.Mul = false
-is_linear o.Div = false
-is_linear o.Rem = false
-is_linear o.Bitcount = false
-is_linear p = true
-
--- the statement is a serial block, or a word operation that goes over its bits once
+-- the statement is a serial block, or a word operation that takes one pass over a word
 abbrev pub IsOnePass : Statement → Type 0
-IsOnePass (Compute target p args) = is_linear p ≡ true
-IsOnePass (Visit b) = Unit {0}
+IsOnePass s = is_linear_statement s ≡ true
 
 -- and so in all operations
 abbrev pub AreOnePass : List Operation → Type 0
