@@ -1,18 +1,16 @@
 -- Names among others, and what a statement leaves of the others.
-use Rattle.std.proofs.Common.{◌≡◌, ℕ, ◌+◌, Bool, true, false, not, ◌||◌, cond, List, [], ◌∷◌, ◌++◌, map, Option, Some, None, refl, sym, ap, ◌∙◌, subst, bytes_eq, ◌⊎◌, inl, inr, append_assoc}
+use Rattle.std.proofs.Common.{◌≡◌, ℕ, Bool, true, false, not, ◌||◌, cond, List, [], ◌∷◌, ◌++◌, map, Some, refl, sym, ap, ◌∙◌, subst, bytes_eq, ◌⊎◌, inl, inr}
 use Rattle.std.specs.Prelude.{fold}
 use Rattle.std.specs.List.{filter}
-use Rattle.std.proofs.lemmas.Bool.{not-true}
 use Rattle.op_text.specs.declared.tree.Kind.{Kind}
-use Rattle.op_text.specs.declared.tree.Param.{Param}
 use Rattle.op_text.specs.declared.tree.State.{State}
-use Rattle.op_text.specs.Language.{Term, Nought, Unity, Named, Negation, Conjunction, Disjunction, Parity, Majority, Equation, Block, Statement, Compute, Visit}
+use Rattle.op_text.specs.Language.{Equation, Block, Statement, Compute, Visit}
 use Rattle.op_text.specs.Rules.{is_among, kind_among}
-use Rattle.op_text.specs.Meaning.{Held, changed, bit_written, term_bit, bit_read, with_lets, assigned, visited, positions, with_blanks, with_states, after_block, after_statement}
+use Rattle.op_text.specs.Meaning.{Held, changed, bit_written, term_bit, bit_read, with_lets, assigned, visited, positions, with_blanks, with_states, after_statement}
 use Rattle.op_text.specs.Scratch.{param, state_names, word_names}
 use Rattle.op_text.specs.Spelling.{Each}
-use Rattle.op_rules.specs.Meets.{names_of, targets}
-use Rattle.op_rules.proofs.Names.{same_name, is_same, turned, among-append, or_first, or_second, or_both}
+use Rattle.op_rules.specs.Meets.{targets}
+use Rattle.op_rules.proofs.Names.{same_name, turned, among-append, or_first, or_second}
 use Rattle.loop_ir.specs.Statements.{written_names}
 use Rattle.uprog_gen.proofs.Lays.{by_bool}
 

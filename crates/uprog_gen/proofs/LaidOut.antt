@@ -1,25 +1,24 @@
 -- All names of an operation come to their places.
-use Rattle.std.proofs.Common.{◌≡◌, ℕ, zero, suc, ◌+◌, ◌<◌, ◌≤◌, Bool, true, false, cond, List, [], ◌∷◌, ◌++◌, map, length, take, drop, Option, Some, None, refl, sym, ap, ◌∙◌, subst, arith, bytes_eq, append_assoc, append-nil}
+use Rattle.std.proofs.Common.{◌≡◌, ℕ, zero, suc, ◌+◌, ◌<◌, ◌≤◌, cond, List, [], ◌∷◌, ◌++◌, map, length, take, drop, Option, Some, None, refl, sym, ap, ◌∙◌, subst, arith, append_assoc, append-nil}
 use Rattle.std.specs.Prelude.{count_by, slice_index_or}
-use Rattle.std.proofs.lemmas.List.{map-append, map_more, take-map, take-append-drop, take_all, length-map}
+use Rattle.std.proofs.lemmas.List.{map-append, map_more, take-map, take-append-drop, take_all}
 use Rattle.std.proofs.lemmas.List.Sums.{sum_by-append}
 use Rattle.op_text.specs.declared.tree.Kind.{Kind}
 use Rattle.op_text.specs.declared.tree.Kind.TheVariants.{Word, Bit}
 use Rattle.op_text.specs.declared.tree.Param.{Param}
 use Rattle.op_text.specs.declared.tree.Stmt.{Stmt}
 use Rattle.op_text.specs.Language.{Statement, Compute, Visit, Operation, statement}
-use Rattle.op_text.specs.Rules.{is_among, kind_among}
-use Rattle.op_text.specs.Scratch.{defines, body_defines, scratch_names}
+use Rattle.op_text.specs.Rules.{kind_among}
+use Rattle.op_text.specs.Scratch.{defines, body_defines}
 use Rattle.op_rules.specs.Meets.{names_of, Differ, Context, behind, at_start, StatementMeets, BodyMeets, OperationMeets}
-use Rattle.op_rules.specs.Laws.{all_names}
 use Rattle.op_rules.proofs.Names.{new-left}
 use Rattle.op_rules.proofs.Standing.{names-append}
 use Rattle.op_rules.proofs.Few.{scratch_is_small}
 use Rattle.op_rules.proofs.Apart.{names_stand_once}
 use Rattle.loop_ir.specs.declared.names.Slot.{Slot}
 use Rattle.loop_ir.specs.declared.names.NameMap.{NameMap}
-use Rattle.loop_ir.specs.Statements.{Slots, slots_of}
-use Rattle.uprog_gen.specs.Layout.{Lay, is_scratch, source_lays, defined_lays, lays, found, IsLayoutMap}
+use Rattle.loop_ir.specs.Statements.{slots_of}
+use Rattle.uprog_gen.specs.Layout.{Lay, is_scratch, source_lays, defined_lays, found, IsLayoutMap}
 use Rattle.uprog_gen.specs.Laying.{placed, Lays, LaysSources, kind_in, Knows, IsShort, IsLaidTo}
 use Rattle.uprog_gen.proofs.Lays.{params_of, or_else, found_kind, source_params, defined_params}
 use Rattle.uprog_gen.proofs.Placed.{placed_same, placed-append, placed_found, defined_lays-append}

@@ -1,15 +1,13 @@
 -- Names and their places.
-use Rattle.std.proofs.Common.{◌≡◌, ℕ, zero, suc, ◌+◌, ◌*◌, ◌<◌, ◌≤◌, Bool, true, false, not, ◌&&◌, ◌||◌, cond, List, [], ◌∷◌, ◌++◌, map, length, Option, Some, None, refl, sym, ap, ◌∙◌, subst, arith, bytes_eq, ◌⊎◌, inl, inr}
-use Rattle.std.specs.Prelude.{slice_get, count_by}
+use Rattle.std.proofs.Common.{◌≡◌, ℕ, ◌+◌, Bool, true, false, cond, List, [], ◌∷◌, ◌++◌, map, Option, Some, None, refl, sym, ap, ◌∙◌, subst, bytes_eq}
 use Rattle.op_text.specs.declared.tree.Kind.{Kind}
 use Rattle.op_text.specs.declared.tree.Kind.TheVariants.{Word, Bit}
 use Rattle.op_text.specs.declared.tree.Param.{Param}
-use Rattle.op_text.specs.Rules.{is_among, kind_among, is_known}
+use Rattle.op_text.specs.Rules.{is_among, kind_among}
 use Rattle.op_text.specs.Spelling.{Each}
 use Rattle.op_rules.specs.Meets.{names_of}
-use Rattle.op_rules.proofs.Names.{same_name, is_same, turned, or_first, or_second, or_both}
-use Rattle.loop_ir.specs.declared.ir.Space.{Space}
-use Rattle.loop_ir.specs.declared.ir.Space.TheVariants.{Result, Source, ScratchBit, ScratchWord}
+use Rattle.op_rules.proofs.Names.{same_name, or_first, or_second}
+use Rattle.loop_ir.specs.declared.ir.Space.TheVariants.{Result}
 use Rattle.loop_ir.specs.declared.names.Slot.{Slot}
 use Rattle.uprog_gen.specs.Laying.{kind_in}
 use Rattle.uprog_gen.specs.Layout.{Lay, slot, source_lays, is_scratch, scratch_slot, own_slot, defined_lays, found}

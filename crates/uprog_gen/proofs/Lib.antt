@@ -1,4 +1,4 @@
--- That the code of loop programs does them.
+-- That the code of loop programs does them, and that the loop programs of an operation mean it.
 pub mod Goes
 pub mod Runs
 pub mod Each
@@ -17,7 +17,6 @@ pub mod Sizes
 pub mod Emitted
 pub mod Legal
 pub mod Joined
-pub mod Chain
 pub mod Lays
 pub mod Lies
 pub mod Scene

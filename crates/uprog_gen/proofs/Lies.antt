@@ -1,5 +1,5 @@
 -- Where the names of an operation lie: in places of their own.
-use Rattle.std.proofs.Common.{◌≡◌, ℕ, zero, suc, ◌+◌, ◌*◌, ◌<◌, ◌≤◌, Bool, true, false, not, ◌&&◌, cond, List, [], ◌∷◌, ◌++◌, map, length, Option, Some, None, refl, sym, ap, ◌∙◌, subst, arith, bytes_eq, ◌⊎◌, inl, inr, ⊎_elim}
+use Rattle.std.proofs.Common.{◌≡◌, ℕ, suc, ◌+◌, ◌<◌, ◌≤◌, Bool, true, false, not, ◌&&◌, cond, List, [], ◌∷◌, ◌++◌, map, Some, refl, sym, ap, ◌∙◌, arith, bytes_eq, ◌⊎◌, inl, inr}
 use Rattle.std.proofs.lemmas.List.Sums.{sum_by-cons}
 use Rattle.std.specs.Prelude.{slice_get, count_by}
 use Rattle.op_text.specs.declared.tree.Kind.{Kind}
@@ -13,9 +13,8 @@ use Rattle.op_rules.proofs.Names.{same_name, each_map}
 use Rattle.op_rules.proofs.Ops.{each_append}
 use Rattle.loop_ir.specs.declared.ir.Space.{Space}
 use Rattle.loop_ir.specs.declared.ir.Space.TheVariants.{Result, Source, ScratchBit, ScratchWord}
-use Rattle.loop_ir.specs.declared.names.Slot.{Slot}
-use Rattle.uprog_gen.specs.Layout.{Lay, slot, source_lays, is_scratch, scratch_slot, own_slot, defined_lays, lays}
-use Rattle.uprog_gen.proofs.Lays.{lay, by_bool, IsShared, AreApartLays}
+use Rattle.uprog_gen.specs.Layout.{Lay, slot, source_lays, is_scratch, scratch_slot, defined_lays, lays}
+use Rattle.uprog_gen.proofs.Lays.{lay, IsShared, AreApartLays}
 
 abbrev pub kinds_of : List Param → List Kind
 kinds_of ps = map (λ (p : Param). p.kind) ps

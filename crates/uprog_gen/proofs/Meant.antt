@@ -1,5 +1,5 @@
 -- The loop programs of an operation's statements mean the operation, within its ceiling and its own rows.
-use Rattle.std.proofs.Common.{◌≡◌, ℕ, zero, suc, ◌+◌, ◌*◌, ◌<◌, ◌≤◌, Bool, true, false, ◌||◌, cond, List, [], ◌∷◌, ◌++◌, map, length, Option, Some, None, refl, sym, ap, ◌∙◌, subst, arith, bytes_eq, ◌⊎◌, inl, inr, ⊎_elim}
+use Rattle.std.proofs.Common.{◌≡◌, ℕ, ◌+◌, ◌*◌, ◌<◌, ◌≤◌, Bool, true, false, cond, List, [], ◌∷◌, ◌++◌, map, Option, Some, None, refl, sym, ap, ◌∙◌, subst, arith, bytes_eq, inl, inr}
 use Rattle.std.specs.List.{range_with_len, AllByRecursion}
 use Rattle.std.proofs.lemmas.List.FromFn.{length-map-range_with_len}
 use Rattle.std.proofs.lemmas.List.Sums.{sum_by-cons}
@@ -7,41 +7,37 @@ use Rattle.std.proofs.Math.Nat.{mul_comm, mul-add, mul-le-mul_left}
 use Rattle.bit_rows.specs.declared.TheConstants.{WIDTH_MAX}
 use Rattle.bit_rows.specs.Bits.{value}
 use Rattle.op_text.specs.declared.tree.Kind.{Kind}
-use Rattle.op_text.specs.declared.tree.Kind.TheVariants.{Word, Bit}
 use Rattle.op_text.specs.declared.tree.Param.{Param}
 use Rattle.op_text.specs.Language.{Statement, Compute, Visit, Operation}
 use Rattle.op_text.specs.Rules.{is_among, kind_among}
 use Rattle.op_text.specs.Values as text
-use Rattle.op_text.specs.Meaning.{Held, width, holding, changed, with_sources, holds_nothing, after_body, outcome, meaning}
-use Rattle.op_text.specs.Scratch.{defines, body_defines, kind_of, names_width, op_ceiling, statement_ceiling, body_ceiling, ceiling, need_inside, bits_inside, words_inside, scratch_names, scratch_bits, scratch_words}
+use Rattle.op_text.specs.Meaning.{Held, width, holding, changed, with_sources, holds_nothing, outcome, meaning}
+use Rattle.op_text.specs.Scratch.{defines, body_defines, kind_of, names_width, op_ceiling, statement_ceiling, body_ceiling, need_inside, bits_inside, words_inside, scratch_bits, scratch_words}
 use Rattle.op_text.specs.Spelling.{Each}
 use Rattle.op_rules.specs.Meets.{names_of, Differ, IsKnown, Context, behind, at_start, OperationMeets}
 use Rattle.op_rules.specs.Laws.{all_names}
-use Rattle.op_rules.proofs.Names.{same_name, is_same, turned, or_first, or_second}
+use Rattle.op_rules.proofs.Names.{same_name, is_same, or_first, or_second}
 use Rattle.uprog_code.specs.Shape as shape
 use Rattle.uprog_code.specs.Texts.{op_shape}
 use Rattle.uprog_code.specs.declared.code.Uop.{Uop}
 use Rattle.uprog_code.specs.Implements.{Implements}
-use Rattle.loop_ir.specs.declared.ir.Space.{Space}
-use Rattle.loop_ir.specs.declared.ir.Space.TheVariants.{Result, Source, ScratchBit, ScratchWord}
+use Rattle.loop_ir.specs.declared.ir.Space.TheVariants.{Result, Source}
 use Rattle.loop_ir.specs.declared.names.Slot.{Slot}
 use Rattle.loop_ir.specs.Plain.{StepOf, Block}
 use Rattle.loop_ir.specs.Loops.{RoundOf, all_rounds}
-use Rattle.loop_ir.specs.Spots.{Spot, Spots, spot_in, IsOwn}
-use Rattle.loop_ir.specs.Costs.{rounds_cost}
+use Rattle.loop_ir.specs.Spots.{Spot, Spots, IsOwn}
 use Rattle.loop_ir.specs.Limits.{IsRound, CanCompile}
 use Rattle.loop_ir.specs.Statements.{Slots}
-use Rattle.loop_ir.specs.Lowered.{slot_spot, slot_bits, HoldsAt, Holds, IsRowOf, IsInside, IsStatementRow, kind_at, args_width, ceiling_of}
+use Rattle.loop_ir.specs.Lowered.{HoldsAt, IsStatementRow, kind_at, args_width, ceiling_of}
 use Rattle.uprog_gen.specs.Where.{IsSpot}
 use Rattle.uprog_gen.specs.Does.{after_statements, spot_number, source_numbers, AreCheap, total, Means}
-use Rattle.uprog_gen.specs.Layout.{IsLayout, slot, source_lays, defined_lays, lays, found}
+use Rattle.uprog_gen.specs.Layout.{IsLayout, slot, source_lays, defined_lays, found}
 use Rattle.uprog_gen.specs.Programs.{AreLowered, ceilings}
-use Rattle.uprog_gen.proofs.Joined.{same_bits}
 use Rattle.uprog_gen.specs.Laying.{kind_in}
 use Rattle.uprog_gen.proofs.Lays.{lay, by_bool, some_is, found-append, or_else, found_kind, source_params}
 use Rattle.uprog_gen.proofs.Lies.{LiesIn, kinds_of}
 use Rattle.uprog_gen.proofs.Among.{changed_other}
-use Rattle.uprog_gen.proofs.Scene.{width_same, kind_known, known_among, kind_first, slot_there, slot_lies, slot_own, slot_spots, kind_of_slot, result_known}
+use Rattle.uprog_gen.proofs.Scene.{width_same, kind_known, known_among, kind_first, slot_there, slot_lies, slot_own, slot_spots, result_known}
 use Rattle.uprog_gen.proofs.Stage.{Stage, first_stage, next_stage, known_slot, bits_need, words_need}
 use Rattle.uprog_gen.proofs.Numbers.{value_same, bits_of_value}
 use Rattle.uprog_gen.proofs.Walked.{HoldsAll, body_holds}

@@ -1,5 +1,5 @@
 -- Numbers and their bits, as operations and rows have them.
-use Rattle.std.proofs.Common.{◌≡◌, ℕ, zero, suc, ◌+◌, ◌*◌, Bool, true, false, List, [], ◌∷◌, length, refl, sym, ap, ◌∙◌}
+use Rattle.std.proofs.Common.{◌≡◌, ℕ, zero, suc, ◌+◌, ◌*◌, Bool, true, false, List, [], ◌∷◌, length, refl, ap, ◌∙◌}
 use Rattle.std.specs.Prelude.{◌%◌, ◌/◌, ◌==◌}
 use Rattle.bit_rows.specs.Bits as row
 use Rattle.bit_rows.specs.Bits.{bits as row_bits}

@@ -1,6 +1,6 @@
 -- Names that come to their places one after another.
-use Rattle.std.proofs.Common.{◌≡◌, ℕ, zero, suc, ◌+◌, ◌<◌, ◌≤◌, Bool, true, false, not, ◌&&◌, ◌||◌, cond, List, [], ◌∷◌, ◌++◌, map, length, take, drop, Option, Some, None, refl, sym, ap, ◌∙◌, subst, arith, bytes_eq, ◌⊎◌, inl, inr, append_assoc, append-nil}
-use Rattle.std.specs.Prelude.{count_by, slice_index_or, unwrap_or}
+use Rattle.std.proofs.Common.{◌≡◌, ℕ, ◌+◌, ◌<◌, ◌≤◌, Bool, true, false, not, ◌||◌, cond, List, [], ◌∷◌, ◌++◌, map, length, take, Some, None, refl, sym, ap, ◌∙◌, subst, arith, bytes_eq}
+use Rattle.std.specs.Prelude.{count_by, slice_index_or}
 use Rattle.std.specs.List.{filter, list_any}
 use Rattle.std.proofs.lemmas.List.{map-append, take_more, length-map}
 use Rattle.std.proofs.lemmas.List.Sums.{sum_by-append, sum_by-cons, count_by-le-length}
@@ -9,19 +9,17 @@ use Rattle.op_text.specs.declared.tree.Kind.TheVariants.{Word, Bit}
 use Rattle.op_text.specs.declared.tree.Param.{Param}
 use Rattle.op_text.specs.declared.tree.State.{State}
 use Rattle.op_text.specs.declared.tree.Assign.{Assign}
-use Rattle.op_text.specs.Language.{Equation, Statement, Compute, Visit, Operation, equation}
+use Rattle.op_text.specs.Language.{Equation, Visit, equation}
 use Rattle.op_text.specs.Meaning.{changed}
-use Rattle.op_text.specs.Rules.{is_among, kind_among}
-use Rattle.op_text.specs.Scratch.{param, defines, body_defines}
+use Rattle.op_text.specs.Rules.{is_among}
+use Rattle.op_text.specs.Scratch.{param, defines}
 use Rattle.op_rules.specs.Meets.{names_of, Differ}
-use Rattle.op_rules.proofs.Names.{same_name, turned, new-left}
-use Rattle.op_rules.proofs.Standing.{names-append}
-use Rattle.loop_ir.specs.declared.names.Slot.{Slot}
+use Rattle.op_rules.proofs.Names.{same_name, turned}
 use Rattle.loop_ir.specs.declared.names.NameMap.{NameMap}
 use Rattle.loop_ir.specs.declared.ir.Space.TheVariants.{Source}
 use Rattle.loop_ir.specs.Statements.{Slots, slots_of}
 use Rattle.uprog_gen.specs.Layout.{Lay, slot, own_slot, is_scratch, source_lays, defined_lays, found}
-use Rattle.uprog_gen.specs.Laying.{placed, Lays, LaysSources, kind_in, Knows, states_defined, words_defined}
+use Rattle.uprog_gen.specs.Laying.{placed, Lays, states_defined, words_defined}
 use Rattle.uprog_gen.proofs.Lays.{by_bool, params_of, found_new, or_else}
 use Rattle.uprog_gen.proofs.Among.{changed_other}
 

@@ -1,5 +1,5 @@
 -- Each statement of an operation that meets the rules meets them at its names' places.
-use Rattle.std.proofs.Common.{◌≡◌, ℕ, ◌+◌, ◌<◌, ◌≤◌, Bool, true, false, not, ◌||◌, cond, List, [], ◌∷◌, ◌++◌, map, length, Option, Some, None, refl, sym, ap, ◌∙◌, subst, arith, bytes_eq, ◌⊎◌, inl, inr, ⊎_elim, append_assoc, append-nil}
+use Rattle.std.proofs.Common.{◌≡◌, ℕ, ◌+◌, ◌<◌, Bool, true, false, ◌||◌, cond, List, [], ◌∷◌, ◌++◌, map, Option, Some, None, refl, sym, ap, ◌∙◌, subst, arith, bytes_eq, ◌⊎◌, inl, inr, ⊎_elim, append_assoc, append-nil}
 use Rattle.std.specs.Prelude.{is_some}
 use Rattle.std.specs.List.{AllByRecursion}
 use Rattle.op_text.specs.declared.tree.Kind.{Kind}
@@ -8,24 +8,24 @@ use Rattle.op_text.specs.declared.tree.Param.{Param}
 use Rattle.op_text.specs.declared.tree.WordOp.{WordOp}
 use Rattle.op_text.specs.Language.{Term, Nought, Unity, Named, Negation, Conjunction, Disjunction, Parity, Majority, Equation, Block, Statement, Compute, Visit, Operation}
 use Rattle.op_text.specs.Rules.{is_among, kind_among, is_known}
-use Rattle.op_text.specs.Scratch.{param, state_names, word_names, defines, body_defines, kind_of, result_kind, need_inside, bits_inside, words_inside, scratch_names}
+use Rattle.op_text.specs.Scratch.{state_names, word_names, defines, body_defines, kind_of, result_kind, scratch_names}
 use Rattle.op_text.specs.Spelling.{Each, TermMeets}
-use Rattle.op_rules.specs.Meets.{IsNewLet, IsNewOf, IsKnown, Differ, names_of, let_names, used, can_read, LetsRead, Context, behind, StatementMeets, OperationMeets}
+use Rattle.op_rules.specs.Meets.{IsNewLet, IsNewOf, IsKnown, Differ, names_of, let_names, used, can_read, LetsRead, Context, behind, OperationMeets}
 use Rattle.op_rules.specs.Laws.{all_names}
-use Rattle.op_rules.proofs.Names.{same_name, is_same, turned, new-left, new-right, new-append}
+use Rattle.op_rules.proofs.Names.{is_same, turned, new-left, new-right, new-append}
 use Rattle.op_rules.proofs.Standing.{names-append}
 use Rattle.op_rules.proofs.Few.{scratch_is_small}
 use Rattle.loop_ir.specs.declared.ir.Space.{Space}
-use Rattle.loop_ir.specs.declared.ir.Space.TheVariants.{Result, Source, ScratchBit, ScratchWord}
+use Rattle.loop_ir.specs.declared.ir.Space.TheVariants.{ScratchBit, ScratchWord}
 use Rattle.loop_ir.specs.declared.names.Slot.{Slot}
 use Rattle.loop_ir.specs.Statements as there
 use Rattle.loop_ir.specs.Statements.{Slots, HasKind, HaveKinds, LetsMeet, AreDistinct, ComputeMeets, BlockMeets, IsPlaced, holds_kind, targets_of, block_reads, read_names, written_names, statement_names}
 use Rattle.uprog_gen.specs.Layout.{IsLayout}
-use Rattle.uprog_gen.proofs.Lays.{lay, by_bool}
+use Rattle.uprog_gen.proofs.Lays.{lay}
 use Rattle.uprog_gen.proofs.Lies.{LiesIn}
 use Rattle.uprog_gen.proofs.Among.{or_split, or_left, or_right, each_among, among_left, among_right, among_split}
-use Rattle.uprog_gen.proofs.Scene.{kind_known, known_among, slot_there, slot_none, slot_lies, slots_apart}
-use Rattle.uprog_gen.proofs.Stage.{Stage, word_other, written_unknown, written_defined, state_kind, word_kind, block_stand, read_known, lets_stay, bits_need, words_need, known_slot, defined_slot, written_slot, read_slot, written_own}
+use Rattle.uprog_gen.proofs.Scene.{known_among, slot_none, slot_lies, slots_apart}
+use Rattle.uprog_gen.proofs.Stage.{Stage, word_other, written_unknown, written_defined, state_kind, word_kind, block_stand, lets_stay, bits_need, words_need, known_slot, defined_slot, written_slot, read_slot, written_own}
 
 tested : (b : Bool) → (b ≡ true) ⊎ (b ≡ false)
 tested true = inl refl

@@ -1,5 +1,5 @@
 -- What is true of the names of an operation that meets the rules, where each has its place.
-use Rattle.std.proofs.Common.{◌≡◌, ℕ, zero, suc, ◌+◌, ◌*◌, ◌<◌, ◌≤◌, Bool, true, false, not, ◌||◌, cond, List, [], ◌∷◌, ◌++◌, map, length, Option, Some, None, refl, sym, ap, ◌∙◌, subst, arith, bytes_eq, ◌⊎◌, inl, inr}
+use Rattle.std.proofs.Common.{◌≡◌, ℕ, ◌<◌, true, false, ◌||◌, cond, List, [], ◌∷◌, ◌++◌, Option, Some, None, refl, sym, ap, ◌∙◌, subst, arith, bytes_eq, inl, inr}
 use Rattle.std.proofs.lemmas.List.{map-append}
 use Rattle.std.proofs.lemmas.Nat.{mul-add-lt}
 use Rattle.std.specs.Prelude.{slice_get}
@@ -9,8 +9,7 @@ use Rattle.op_text.specs.declared.tree.Param.{Param}
 use Rattle.op_text.specs.Language.{Operation}
 use Rattle.op_text.specs.Rules.{is_among, kind_among}
 use Rattle.op_text.specs.Meaning.{width}
-use Rattle.op_text.specs.Scratch.{body_defines, scratch_names, scratch_bits, scratch_words}
-use Rattle.op_text.specs.Spelling.{Each}
+use Rattle.op_text.specs.Scratch.{body_defines, scratch_names, scratch_words}
 use Rattle.op_rules.specs.Meets.{names_of, OperationMeets}
 use Rattle.op_rules.specs.Laws.{all_names}
 use Rattle.op_rules.proofs.Names.{or_first, or_second}
@@ -19,8 +18,8 @@ use Rattle.uprog_code.specs.Texts.{op_shape}
 use Rattle.loop_ir.specs.declared.ir.Space.{Space}
 use Rattle.loop_ir.specs.declared.ir.Space.TheVariants.{Result, Source, ScratchBit, ScratchWord}
 use Rattle.loop_ir.specs.declared.names.Slot.{Slot}
-use Rattle.loop_ir.specs.Spots.{Spot, IsOwn, spot_in}
-use Rattle.loop_ir.specs.Statements.{Slots, holds_kind}
+use Rattle.loop_ir.specs.Spots.{IsOwn, spot_in}
+use Rattle.loop_ir.specs.Statements.{Slots}
 use Rattle.loop_ir.specs.Lowered.{slot_spot}
 use Rattle.uprog_gen.specs.Where.{IsSpot, IsBelow}
 use Rattle.uprog_gen.specs.Layout.{Lay, IsLayout, source_lays, defined_lays, lays, found}

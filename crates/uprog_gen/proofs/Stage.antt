@@ -1,26 +1,25 @@
 -- What stands before a statement of an operation that meets the rules, and what the statement reads and sets.
-use Rattle.std.proofs.Common.{◌≡◌, ℕ, ◌+◌, ◌≤◌, Bool, true, false, not, ◌||◌, cond, List, [], ◌∷◌, ◌++◌, map, Option, Some, None, refl, sym, ap, ◌∙◌, subst, arith, bytes_eq, ◌⊎◌, inl, inr, ⊎_elim, append_assoc, append-nil}
+use Rattle.std.proofs.Common.{◌≡◌, ℕ, ◌+◌, ◌≤◌, Bool, true, false, not, List, [], ◌∷◌, ◌++◌, map, Option, Some, None, refl, sym, ap, ◌∙◌, subst, arith, bytes_eq, ◌⊎◌, inl, inr, ⊎_elim, append_assoc, append-nil}
 use Rattle.std.specs.Prelude.{max}
-use Rattle.std.proofs.lemmas.Bool.{not-true, cases_eq}
+use Rattle.std.proofs.lemmas.Bool.{not-true}
 use Rattle.op_text.specs.declared.tree.Kind.{Kind}
 use Rattle.op_text.specs.declared.tree.Kind.TheVariants.{Word, Bit}
 use Rattle.op_text.specs.declared.tree.Param.{Param}
 use Rattle.op_text.specs.Language.{Term, Nought, Unity, Named, Negation, Conjunction, Disjunction, Parity, Majority, Equation, Block, Statement, Compute, Visit, Operation}
 use Rattle.op_text.specs.Rules.{is_among, kind_among, is_known}
-use Rattle.op_text.specs.Scratch.{param, state_names, word_names, defines, body_defines, kind_of, result_kind, greatest, need_inside, bits_inside, words_inside}
+use Rattle.op_text.specs.Scratch.{param, state_names, word_names, defines, body_defines, kind_of, greatest, need_inside, bits_inside, words_inside}
 use Rattle.op_text.specs.Spelling.{Each, TermMeets}
 use Rattle.op_rules.specs.Meets.{IsNew, IsNewOf, IsKnown, names_of, let_names, targets, used, can_read, LetsRead, Context, behind, at_start, StatementMeets, BodyMeets, OperationMeets}
 use Rattle.op_rules.specs.Laws.{all_names}
-use Rattle.op_rules.proofs.Names.{same_name, is_same, among-append, or_first, or_second, or_both, new-left, new-right, new-append, each_map}
+use Rattle.op_rules.proofs.Names.{same_name, new-left, new-right, new-append}
 use Rattle.op_rules.proofs.Standing.{names-append}
 use Rattle.op_rules.proofs.Blocks.{block_names}
 use Rattle.loop_ir.specs.declared.names.Slot.{Slot}
 use Rattle.loop_ir.specs.Spots.{IsOwn}
 use Rattle.loop_ir.specs.Statements.{Slots, term_names, equation_names, targets_of, block_reads, read_names, written_names}
 use Rattle.uprog_gen.specs.Layout.{IsLayout}
-use Rattle.uprog_gen.proofs.Lays.{by_bool}
-use Rattle.uprog_gen.proofs.Among.{or_split, or_left, or_right, each_among, among_left, among_right, among_split, filter_among, one_kind}
-use Rattle.uprog_gen.proofs.Scene.{kind_skip, kind_first, kind_known, known_among, slot_there, slot_own}
+use Rattle.uprog_gen.proofs.Among.{or_split, each_among, among_left, among_split, filter_among, one_kind}
+use Rattle.uprog_gen.proofs.Scene.{kind_skip, kind_first, kind_known, slot_there, slot_own}
 
 -- this context stands before the rest of the body
 pub record Stage (op : Operation) (c : Context) (rest : List Statement) : Type 0 where

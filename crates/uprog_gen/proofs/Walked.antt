@@ -1,45 +1,34 @@
 -- The loop programs of all statements, one after another, leave in each name's rows what the operation means.
-use Rattle.std.proofs.Common.{◌≡◌, ℕ, zero, suc, ◌+◌, ◌*◌, ◌<◌, ◌≤◌, Bool, true, false, ◌||◌, cond, List, [], ◌∷◌, ◌++◌, map, length, Option, Some, None, refl, sym, ap, ◌∙◌, subst, arith, bytes_eq, ◌⊎◌, inl, inr, ⊎_elim, append_assoc, append-nil}
-use Rattle.std.specs.Prelude.{fold}
-use Rattle.std.specs.List.{range_with_len, AllByRecursion}
+use Rattle.std.proofs.Common.{◌≡◌, ℕ, ◌+◌, ◌*◌, ◌<◌, ◌≤◌, Bool, true, false, List, [], ◌∷◌, ◌++◌, Option, Some, None, refl, sym, ap, ◌∙◌, subst, arith, ◌⊎◌, inl, inr, ⊎_elim, append_assoc, append-nil}
 use Rattle.std.proofs.lemmas.Nat.{mul-add-lt}
 use Rattle.std.proofs.lemmas.Bool.{cases_order}
 use Rattle.std.proofs.Math.Nat.{mul_comm}
-use Rattle.std.proofs.lemmas.List.FromFn.{length-map-range_with_len}
 use Rattle.bit_rows.specs.declared.TheConstants.{WIDTH_MAX}
-use Rattle.bit_rows.specs.Bits.{value}
 use Rattle.op_text.specs.declared.tree.Kind.{Kind}
 use Rattle.op_text.specs.declared.tree.Kind.TheVariants.{Word, Bit}
 use Rattle.op_text.specs.declared.tree.Param.{Param}
 use Rattle.op_text.specs.Language.{Statement, Operation}
-use Rattle.op_text.specs.Rules.{is_among, kind_among}
-use Rattle.op_text.specs.Values as text
-use Rattle.op_text.specs.Meaning.{Held, width, holding, changed, with_sources, holds_nothing, after_statement, after_body}
-use Rattle.op_text.specs.Scratch.{defines, body_defines, need_inside, bits_inside, words_inside}
-use Rattle.op_rules.specs.Meets.{names_of, Differ, Context, behind, OperationMeets}
-use Rattle.op_rules.proofs.Names.{same_name, is_same, or_first, or_second}
+use Rattle.op_text.specs.Rules.{is_among}
+use Rattle.op_text.specs.Meaning.{Held, width, after_statement, after_body}
+use Rattle.op_text.specs.Scratch.{defines, body_defines}
+use Rattle.op_rules.specs.Meets.{names_of, Context, behind, OperationMeets}
 use Rattle.op_rules.proofs.Standing.{names-append}
-use Rattle.uprog_code.specs.Shape as shape
 use Rattle.loop_ir.specs.declared.ir.Space.{Space}
 use Rattle.loop_ir.specs.declared.ir.Space.TheVariants.{Result, Source, ScratchBit, ScratchWord}
 use Rattle.loop_ir.specs.declared.names.Slot.{Slot}
 use Rattle.loop_ir.specs.Plain.{StepOf, Block}
 use Rattle.loop_ir.specs.Loops.{all_rounds}
 use Rattle.loop_ir.specs.Spots.{Spot, Spots, spot_in, after_rounds}
-use Rattle.loop_ir.specs.Statements.{Slots, holds_kind, read_names, written_names}
+use Rattle.loop_ir.specs.Statements.{Slots, holds_kind, written_names}
 use Rattle.loop_ir.specs.Lowered.{slot_spot, slot_bits, HoldsAt, Holds, IsRowOf, IsInside, IsChanged, Does}
-use Rattle.uprog_gen.specs.Does.{after_statements, spot_number, source_numbers}
-use Rattle.uprog_gen.specs.Layout.{IsLayout, slot, source_lays, found}
+use Rattle.uprog_gen.specs.Does.{after_statements}
+use Rattle.uprog_gen.specs.Layout.{IsLayout}
 use Rattle.uprog_gen.specs.Programs.{AreLowered}
 use Rattle.uprog_gen.proofs.Joined.{same_bits}
-use Rattle.uprog_gen.proofs.Lays.{by_bool}
-use Rattle.uprog_gen.proofs.Lies.{kinds_of}
-use Rattle.uprog_gen.proofs.Among.{changed_other, among_split, statement_other}
-use Rattle.uprog_gen.proofs.Scene.{width_same, known_among, slots_apart}
-use Rattle.uprog_gen.proofs.Stage.{Stage, next_stage, read_known, written_defined, written_slot, read_slot, known_slot}
-use Rattle.uprog_gen.proofs.Scene.{kind_known}
+use Rattle.uprog_gen.proofs.Among.{among_split, statement_other}
+use Rattle.uprog_gen.proofs.Scene.{known_among, slots_apart}
+use Rattle.uprog_gen.proofs.Stage.{Stage, next_stage, read_known, written_defined}
 use Rattle.uprog_gen.proofs.Ready.{slot_holds, slot_bit, slot_word}
-use Rattle.uprog_gen.proofs.Numbers.{bits_of_value}
 
 -- a row's place can be read off
 spot_space : (n : ℕ) (s : Space) (w v : ℕ) → (spot_in n s w v).space ≡ s

@@ -1,4 +1,4 @@
--- From loop programs to microprograms: where named rows lie, the code of a loop program, and what it does.
+-- From operations to microprograms: the code of loop programs, what it does, and where the names of an operation lie.
 pub mod Where
 pub mod Code
 pub mod Rounds

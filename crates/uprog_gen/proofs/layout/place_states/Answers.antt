@@ -1,4 +1,4 @@
-use Rattle.std.proofs.Common.{◌≡◌, ◌+◌, ◌≤◌, [], ◌∷◌, ◌++◌, take, sym, subst, arith}
+use Rattle.std.proofs.Common.{[], ◌∷◌, take, sym, subst, arith}
 use Rattle.op_text.specs.declared.tree.Kind.TheVariants.{Bit}
 use Rattle.op_text.specs.declared.tree.Param.{Param}
 use Rattle.op_text.specs.Scratch.{param}

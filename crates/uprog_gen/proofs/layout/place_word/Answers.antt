@@ -1,4 +1,4 @@
-use Rattle.std.proofs.Common.{◌≡◌, ◌∙◌, [], ◌∷◌, sym, subst}
+use Rattle.std.proofs.Common.{◌∙◌, sym, subst}
 use Rattle.std.specs.Prelude.{OnOk}
 use Rattle.uprog_gen.specs.Laying.{Lays}
 use Rattle.uprog_gen.proofs.Placed.{lays_none, no_word, a_word}

@@ -1,4 +1,4 @@
-use Rattle.std.proofs.Common.{◌≡◌, ◌+◌, ◌≤◌, [], ◌∷◌, ◌++◌, take, sym, subst, arith}
+use Rattle.std.proofs.Common.{[], ◌∷◌, take, sym, subst, arith}
 use Rattle.op_text.specs.declared.tree.Kind.TheVariants.{Word}
 use Rattle.uprog_gen.specs.Laying.{Lays, words_defined}
 use Rattle.uprog_gen.proofs.Placed.{lays_then, words_more, one_word, words_no_bits}

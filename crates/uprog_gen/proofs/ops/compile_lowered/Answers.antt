@@ -1,4 +1,4 @@
-use Rattle.std.proofs.Common.{◌≡◌, ◌∙◌, ◌≤◌, ap, sym, map, length, refl, arith}
+use Rattle.std.proofs.Common.{ap, map, length, arith}
 use Rattle.std.proofs.lemmas.List.{length-map}
 use Rattle.op_text.specs.Language.{operation}
 use Rattle.loop_ir.specs.Plain.{steps_of}
