@@ -9,6 +9,10 @@ use std::process::ExitCode;
 use std::{env, io};
 
 #[cfg(test)]
+mod operations;
+#[cfg(test)]
+mod shown;
+#[cfg(test)]
 mod tests;
 
 /// The status where the words cannot be read.

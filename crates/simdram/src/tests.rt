@@ -54,26 +54,35 @@ struct Case {
     report: &'static str,
 }
 
-static CASES: [Case; 9] = [
+const BITS: &str =
+    "op and(a: word, b: word) -> y: word { y = and(a, b); }\nop or(a: word, b: word) -> y: word { y = or(a, b); }\nop not(a: word) -> y: word { y = not(a); }\n";
+
+static CASES: [Case; 11] = [
     Case {
         ops: AND,
         script: JOB,
         status: 0,
-        report: "1 ok aap=4 ap=0\ntotal aap=4 ap=0 writes=64 reads=64 refused=0\n",
+        report: "1 ok aap=6 ap=0\ntotal aap=6 ap=0 writes=64 reads=64 refused=0\n",
     },
     // other names, and a result that is read again
     Case {
         ops: "# bits\nop and(l: word, r: word) -> both: word { both = and(l, r); }",
         script: "\n# twice\nbbop_and y, a, b, 4, 1\n\nbbop_and a, y, b, 4, 1",
         status: 0,
-        report: "1 ok aap=4 ap=0\n2 ok aap=4 ap=0\ntotal aap=8 ap=0 writes=64 reads=64 refused=0\n",
+        report: "1 ok aap=6 ap=0\n2 ok aap=6 ap=0\ntotal aap=12 ap=0 writes=64 reads=64 refused=0\n",
     },
     // each reply
     Case {
-        ops: AND,
-        script: "bbop_and z, a, b, 4, 1\nbbop_and y, a, z, 4, 1\nbbop_and y, a, b, 3, 1\nbbop_and y, c, b, 4, 1\nbbop_and y, y, b, 4, 1\nbbop_and y, a, a, 4, 1\n",
+        ops: BITS,
+        script: "bbop_nor y, a, b, 4, 1\nbbop_not y, a, b, 4, 1\nbbop_and y, a, 4, 1\nbbop_and z, a, b, 4, 1\nbbop_and y, a, z, 4, 1\nbbop_and y, a, b, 4, 2\nbbop_and y, a, b, 3, 1\nbbop_and y, c, b, 4, 1\nbbop_and y, y, b, 4, 1\nbbop_and y, a, a, 4, 1\n",
         status: 8,
-        report: "1 refused no_object 0\n2 refused no_object 2\n3 refused size 0\n4 refused size 1\n5 refused overlap 1\n6 ok aap=4 ap=0\ntotal aap=4 ap=0 writes=64 reads=64 refused=5\n",
+        report: "1 refused no_op\n2 refused arity\n3 refused arity\n4 refused no_object 0\n5 refused no_object 2\n6 refused width 0\n7 refused size 0\n8 refused size 1\n9 refused overlap 1\n10 ok aap=6 ap=0\ntotal aap=6 ap=0 writes=64 reads=64 refused=9\n",
+    },
+    Case {
+        ops: BITS,
+        script: "bbop_or y, a, b, 4, 1\nbbop_not y, a, 4, 1\n",
+        status: 0,
+        report: "1 ok aap=6 ap=0\n2 ok aap=3 ap=0\ntotal aap=9 ap=0 writes=64 reads=64 refused=0\n",
     },
     Case {
         ops: AND,
@@ -81,17 +90,24 @@ static CASES: [Case; 9] = [
         status: 0,
         report: "total aap=0 ap=0 writes=64 reads=64 refused=0\n",
     },
-    Case {
-        ops: "op or(a: word, b: word) -> y: word { y = or(a, b); }",
-        script: JOB,
-        status: 4,
-        report: "ops line 1 not_yet\n",
-    },
+    // no op is no fault
     Case {
         ops: "",
         script: JOB,
+        status: 8,
+        report: "1 refused no_op\ntotal aap=0 ap=0 writes=64 reads=64 refused=1\n",
+    },
+    Case {
+        ops: "op f(a: word) -> y: word {\ny = foo(a);\n}",
+        script: JOB,
         status: 4,
-        report: "ops line 1 not_yet\n",
+        report: "ops line 2 unknown\n",
+    },
+    Case {
+        ops: "op f(a: word) -> a: word { a = copy(a); }",
+        script: JOB,
+        status: 4,
+        report: "ops line 1 twice\n",
     },
     Case {
         ops: AND,
@@ -101,7 +117,7 @@ static CASES: [Case; 9] = [
     },
     Case {
         ops: AND,
-        script: "bbop_and y, a, b, 4, 2",
+        script: "bbop_and y, a, b, 4, 65",
         status: 6,
         report: "script line 1 not_yet\n",
     },
@@ -170,9 +186,11 @@ fn nothing_to_do_leaves_the_image(rt: HostRuntime) -> Result<(), Fail> {
     Ok(())
 }
 
-static USAGES: [&[&str]; 6] = [
+static USAGES: [&[&str]; 8] = [
     &[],
     &["run"],
+    &["show"],
+    &["shows", "ops"],
     &["run", "ops", "prog", "script", "image"],
     &["Run", "ops", "prog", "script", "image", "out"],
     &["run", "ops", "prog", "ops", "image", "out"],
@@ -208,11 +226,11 @@ fn files_that_cannot_be_read_are_told(rt: HostRuntime) -> Result<(), Fail> {
     let mut out = MemSink::new(alloc);
     assert_eq!(rt; simdram(&WORDS, &mut files, &mut out, &mut chip, alloc), 11);
     assert_eq!(rt; out.bytes(), b"too long ops\n".as_slice());
-    // one space less is read, and has no ops
+    // one space less is read, and has no op
     let fewer = spaces.get(1..).ok_or("no spaces")?;
     files.put_file("ops", fewer).ok().ok_or("memory")?;
     let mut out = MemSink::new(alloc);
-    assert_eq!(rt; simdram(&WORDS, &mut files, &mut out, &mut chip, alloc), 4);
+    assert_eq!(rt; simdram(&WORDS, &mut files, &mut out, &mut chip, alloc), 8);
     // an image that is cut
     let cut = image.get(1..).ok_or("no image")?;
     let mut files = folder(AND, JOB, cut, alloc)?;
@@ -276,7 +294,7 @@ static FAILINGS: [Failing; 11] = [
         put: 0,
         chip_call: 0,
         status: 3,
-        report: "1 ok aap=4 ap=0\ncannot write out\n",
+        report: "1 ok aap=6 ap=0\ncannot write out\n",
         prog_stored: true,
         out_stored: false,
     },
@@ -294,7 +312,7 @@ static FAILINGS: [Failing; 11] = [
         put: 2,
         chip_call: 0,
         status: 3,
-        report: "1 ok aap=4 ap=0\n",
+        report: "1 ok aap=6 ap=0\n",
         prog_stored: true,
         out_stored: true,
     },
@@ -319,18 +337,18 @@ static FAILINGS: [Failing; 11] = [
     Failing {
         folder_call: 0,
         put: 0,
-        chip_call: 133,
+        chip_call: 135,
         status: 9,
-        report: "1 ok aap=4 ap=0\nchip fault\n",
+        report: "1 ok aap=6 ap=0\nchip fault\n",
         prog_stored: true,
         out_stored: false,
     },
     Failing {
         folder_call: 0,
         put: 0,
-        chip_call: 134,
+        chip_call: 136,
         status: 0,
-        report: "1 ok aap=4 ap=0\ntotal aap=4 ap=0 writes=64 reads=64 refused=0\n",
+        report: "1 ok aap=6 ap=0\ntotal aap=6 ap=0 writes=64 reads=64 refused=0\n",
         prog_stored: true,
         out_stored: true,
     },

@@ -1,0 +1,293 @@
+//! Every word operation at several widths, against plain arithmetic.
+
+use dram_chip::Chip;
+use host_edge::{MemFolder, MemSink};
+use op_text::WordOp;
+use simdram_cli::simdram;
+use std::alloc::{AllocError, Global};
+use std::test::*;
+
+/// A word operation, its name, whether its arguments are one, two or three (the third a bit), and whether it gives a bit.
+struct Operation {
+    op: WordOp,
+    name: &'static str,
+    takes: u8,
+    bit: bool,
+}
+
+const fn operation(op: WordOp, name: &'static str, takes: u8, bit: bool) -> Operation {
+    Operation {
+        op,
+        name,
+        takes,
+        bit,
+    }
+}
+
+static OPERATIONS: [Operation; 26] = [
+    operation(WordOp::Not, "not", 1, false),
+    operation(WordOp::And, "and", 2, false),
+    operation(WordOp::Or, "or", 2, false),
+    operation(WordOp::Xor, "xor", 2, false),
+    operation(WordOp::Copy, "copy", 1, false),
+    operation(WordOp::Zero, "zero", 0, false),
+    operation(WordOp::Ones, "ones", 0, false),
+    operation(WordOp::Shl1, "shl1", 1, false),
+    operation(WordOp::Shr1, "shr1", 1, false),
+    operation(WordOp::Add, "add", 2, false),
+    operation(WordOp::Sub, "sub", 2, false),
+    operation(WordOp::Mul, "mul", 2, false),
+    operation(WordOp::Div, "div", 2, false),
+    operation(WordOp::Rem, "rem", 2, false),
+    operation(WordOp::Abs, "abs", 1, false),
+    operation(WordOp::Relu, "relu", 1, false),
+    operation(WordOp::Min, "min", 2, false),
+    operation(WordOp::Max, "max", 2, false),
+    operation(WordOp::Eq, "eq", 2, true),
+    operation(WordOp::Gt, "gt", 2, true),
+    operation(WordOp::Ge, "ge", 2, true),
+    operation(WordOp::IfElse, "if_else", 3, false),
+    operation(WordOp::Bitcount, "bitcount", 1, false),
+    operation(WordOp::AndRed, "and_red", 1, true),
+    operation(WordOp::OrRed, "or_red", 1, true),
+    operation(WordOp::XorRed, "xor_red", 1, true),
+];
+
+static WIDTHS: [u8; 6] = [1, 2, 7, 8, 31, 64];
+
+/// The rows of the images here: objects of up to 193 rows, scratch of up to 130, and the spill group.
+const ROWS: usize = 384;
+
+/// All ones at width n, from 1 to 64.
+fn ones(n: u8) -> u64 {
+    u64::MAX
+        .checked_shr(64u32.saturating_sub(u32::from(n)))
+        .unwrap_or(0)
+}
+
+/// The lowest number with its top bit set.
+fn half(n: u8) -> u64 {
+    1u64.checked_shl(u32::from(n).saturating_sub(1))
+        .unwrap_or(0)
+}
+
+fn one_if(b: bool) -> u64 {
+    if b { 1 } else { 0 }
+}
+
+/// The value of an operation on numbers below 2^n.
+fn value(op: WordOp, n: u8, a: u64, b: u64, s: u64) -> u64 {
+    let all = ones(n);
+    match op {
+        WordOp::Not => !a & all,
+        WordOp::And => a & b,
+        WordOp::Or => a | b,
+        WordOp::Xor => a ^ b,
+        WordOp::Copy => a,
+        WordOp::Zero => 0,
+        WordOp::Ones => all,
+        WordOp::Shl1 => a.wrapping_add(a) & all,
+        WordOp::Shr1 => a / 2,
+        WordOp::Add => a.wrapping_add(b) & all,
+        WordOp::Sub => a.wrapping_sub(b) & all,
+        WordOp::Mul => a.wrapping_mul(b) & all,
+        WordOp::Div => a.checked_div(b).unwrap_or(all),
+        WordOp::Rem => a.checked_rem(b).unwrap_or(a),
+        WordOp::Abs => {
+            if a < half(n) {
+                a
+            } else {
+                a.wrapping_neg() & all
+            }
+        }
+        WordOp::Relu => { if a < half(n) { a } else { 0 } }
+        WordOp::Min => a.min(b),
+        WordOp::Max => a.max(b),
+        WordOp::Eq => one_if(a == b),
+        WordOp::Gt => one_if(a > b),
+        WordOp::Ge => one_if(a >= b),
+        WordOp::IfElse => { if s == 1 { a } else { b } }
+        WordOp::Bitcount => u64::from(a.count_ones()),
+        WordOp::AndRed => one_if(a == all),
+        WordOp::OrRed => one_if(a > 0),
+        WordOp::XorRed => u64::from(a.count_ones() % 2),
+    }
+}
+
+/// The text of one statement on words a and b and the bit s, into y.
+fn text_of(operation: &Operation, alloc: Global) -> Result<String, AllocError> {
+    let gives = if operation.bit { "bit" } else { "word" };
+    let args = match operation.takes {
+        0 => "",
+        1 => "a",
+        2 => "a, b",
+        _ => "a, b, s",
+    };
+    format!(in alloc;
+        "op f(a: word, b: word, s: bit) -> y: {} {{ y = {}({}); }}",
+        gives, operation.name, args
+    )
+}
+
+/// 64 numbers below 2^n: corners first, then words of a generator.
+fn numbers(n: u8, seed: u64, alloc: Global) -> Result<Vec<u64>, AllocError> {
+    let all = ones(n);
+    let corners = [0, 1, all, half(n), all / 2, all ^ 1, 7, 200];
+    let mut numbers = Vec::new(alloc);
+    let mut word = seed;
+    for k in 0..64u64 {
+        word = word
+            .wrapping_mul(6_364_136_223_846_793_005)
+            .wrapping_add(1_442_695_040_888_963_407);
+        let corner = corners.get((k.wrapping_mul(seed) % 8) as usize).copied();
+        let number = if k < 24 {
+            corner.unwrap_or(0)
+        } else {
+            word ^ (word >> 29)
+        };
+        numbers.push(number & all)?;
+    }
+    Ok(numbers)
+}
+
+/// A name, its number of rows and its 64 numbers.
+struct Object<'a> {
+    name: u8,
+    width: u8,
+    numbers: &'a [u64],
+}
+
+/// The image of these objects from row 0 on, each of 64 elements, in one bank of 64 columns.
+fn image_of(objects: &[Object<'_>], alloc: Global) -> Result<Vec<u8>, AllocError> {
+    let mut bytes = Vec::new(alloc);
+    bytes.extend_from_slice(b"SDMI\x01\x00\x01\x00\x80\x01\x01\x00")?;
+    bytes.extend_from_slice(&(objects.len() as u16).to_le_bytes())?;
+    let mut base: u16 = 0;
+    for object in objects {
+        bytes.extend_from_slice(&[1, object.name])?;
+        bytes.extend_from_slice(b"\0\0\0\0\0\0\0\0\0\0\0\0\0\0\0")?;
+        bytes.push(object.width)?;
+        bytes.extend_from_slice(&base.to_le_bytes())?;
+        bytes.extend_from_slice(&64u32.to_le_bytes())?;
+        base = base.wrapping_add(u16::from(object.width));
+    }
+    for object in objects {
+        for k in 0..object.width {
+            bytes.extend_from_slice(&row(object.numbers, k).to_le_bytes())?;
+        }
+    }
+    bytes.resize(14 + 24 * objects.len().min(16) + 8 * ROWS, 0)?;
+    Ok(bytes)
+}
+
+/// The row of bit k: column e has that bit of number e.
+fn row(numbers: &[u64], k: u8) -> u64 {
+    let mut word: u64 = 0;
+    for number in numbers.iter().rev() {
+        word = word.wrapping_add(word) | (number.checked_shr(u32::from(k)).unwrap_or(0) & 1);
+    }
+    word
+}
+
+/// The number in a column of so many rows from a row on.
+fn number_at(rows: &[u8], base: usize, width: u8, column: u32) -> u64 {
+    let mut number: u64 = 0;
+    for k in (0..usize::from(width)).rev() {
+        let mut word: u64 = 0;
+        for byte in (0..8usize).rev() {
+            let at = base
+                .saturating_add(k)
+                .saturating_mul(8)
+                .saturating_add(byte);
+            word = word.wrapping_mul(256) | u64::from(rows.get(at).copied().unwrap_or(0));
+        }
+        number = number.wrapping_add(number) | (word.checked_shr(column).unwrap_or(0) & 1);
+    }
+    number
+}
+
+/// The rows of the image that a run of one text and one script leaves.
+fn rows_after(
+    text: &str,
+    script: &str,
+    image: &[u8],
+    objects: usize,
+    alloc: Global,
+) -> Result<Vec<u8>, &'static str> {
+    let mut files = MemFolder::new(alloc);
+    files.put_file("ops", text.as_bytes()).ok().ok_or("memory")?;
+    files
+        .put_file("script", script.as_bytes())
+        .ok()
+        .ok_or("memory")?;
+    files.put_file("image", image).ok().ok_or("memory")?;
+    let mut out = MemSink::new(alloc);
+    let mut chip = Chip::new(alloc);
+    let words = ["run", "ops", "prog", "script", "image", "out"];
+    if simdram(&words, &mut files, &mut out, &mut chip, alloc) != 0 {
+        return Err("a refusal");
+    }
+    let after = files.file("out").ok_or("no image")?;
+    let rows = after.get(14 + 24 * objects.min(16)..).ok_or("no rows")?;
+    let mut copy = Vec::new(alloc);
+    copy.extend_from_slice(rows).ok().ok_or("memory")?;
+    Ok(copy)
+}
+
+/// One operation at one width on 64 pairs of numbers.
+fn check(operation: &Operation, n: u8, rt: &HostRuntime) -> Result<(), Fail> {
+    let alloc = rt.alloc();
+    let a = numbers(n, 3, alloc)?;
+    let b = numbers(n, 5, alloc)?;
+    let s = numbers(1, 7, alloc)?;
+    let width = if operation.bit { 1 } else { n };
+    let objects = [
+        Object {
+            name: b'a',
+            width: n,
+            numbers: &a,
+        },
+        Object {
+            name: b'b',
+            width: n,
+            numbers: &b,
+        },
+        Object {
+            name: b's',
+            width: 1,
+            numbers: &s,
+        },
+        Object {
+            name: b'y',
+            width,
+            numbers: &b,
+        },
+    ];
+    let image = image_of(&objects, alloc)?;
+    let text = text_of(operation, alloc)?;
+    let script = format!(in alloc; "bbop_f y, a, b, s, 64, {}", n)?;
+    let rows = rows_after(&text, &script, &image, 4, alloc)?;
+    let base = usize::from(n).saturating_mul(2).saturating_add(1);
+    for ((column, a), (b, s)) in (0..64u32).zip(a.iter()).zip(b.iter().zip(s.iter())) {
+        let wanted = value(operation.op, n, *a, *b, *s);
+        assert_eq!(rt;
+            (n, number_at(&rows, base, width, column)),
+            (n, wanted),
+            "{} {} {}",
+            operation.name,
+            a,
+            b
+        );
+    }
+    Ok(())
+}
+
+#[test]
+fn operations_have_their_values(rt: HostRuntime) -> Result<(), Fail> {
+    for operation in OPERATIONS.as_slice() {
+        for n in WIDTHS {
+            check(operation, n, &rt)?;
+        }
+    }
+    Ok(())
+}
