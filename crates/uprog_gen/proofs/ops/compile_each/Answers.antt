@@ -1,0 +1,25 @@
+use Rattle.std.proofs.Common.{◌≡◌, ◌∙◌, ◌≤◌, ap, sym, map, length, take, subst, arith}
+use Rattle.std.proofs.lemmas.List.{take_all}
+use Rattle.op_text.specs.Language.{Operation, operation}
+use Rattle.op_text.specs.Spelling.{Each}
+use Rattle.op_rules.specs.Meets.{OperationMeets}
+use Rattle.uprog_code.specs.Shape.{microprogram_of}
+use Rattle.uprog_gen.specs.Programs.{AreCompiled}
+use Rattle.uprog_gen.proofs.Entries.{op_at, compiled_more}
+use Rattle.uprog_gen.proofs.ops.compile_each.Goals as goal
+
+pub compile_op-requires : goal.compile_op-requires
+compile_op-requires c = record {
+  meets = op_at OperationMeets c.args.ops.now c.loop-op.op-index c.op-item.result c.requires.meets c.loop-op-test.true c.op-item.is;
+}
+
+pub loop-op-preserved : goal.loop-op-preserved
+loop-op-preserved c =
+    compiled_more c.args.ops.now c.loop-op.op-index c.op-item.result c.loop-op.entries.items c.keep.new.entries.items c.in_ok-entry.entry
+    c.loop-op-test.true c.op-item.is c.in_ok-keep.ensures c.loop-op.invariant c.in_ok-entry.ensures
+
+pub returns : goal.returns
+returns c =
+    let es = map microprogram_of c.loop-op.entries.items in
+    let le : length c.args.ops.now ≤ c.loop-op.op-index = omega (arith, c.loop-op-test.false) in
+    subst (λ l. AreCompiled es (map operation l)) (take_all c.loop-op.op-index c.args.ops.now le) c.loop-op.invariant

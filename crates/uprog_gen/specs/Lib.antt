@@ -1,0 +1,11 @@
+-- From operations to microprograms: the code of loop programs, what it does, and where the names of an operation lie.
+pub mod Where
+pub mod Code
+pub mod Rounds
+pub mod Parts
+pub mod Does
+pub mod Made
+pub mod Emits
+pub mod Layout
+pub mod Programs
+pub mod Laying

@@ -1,0 +1,47 @@
+-- The loop programs of an operation's statements, and its entry.
+use Rattle.std.specs.Prelude.{◌≡◌, ◌+◌, ◌*◌, ◌≤◌, length, Bool, true, false, ℕ, List, [], ◌∷◌, ◌++◌}
+use Rattle.op_text.specs.declared.tree.Param.{Param}
+use Rattle.op_text.specs.declared.tree.WordOp.{WordOp}
+use Rattle.op_text.specs.declared.tree.WordOp.TheVariants as o
+use Rattle.op_text.specs.Language.{Statement, Compute, Visit, Operation}
+use Rattle.op_text.specs.Scratch.{defines, op_ceiling, statement_ceiling}
+use Rattle.op_text.specs.Spelling.{Each}
+use Rattle.uprog_code.specs.Shape.{Microprogram}
+use Rattle.uprog_code.specs.Legal.{IsLegalCode}
+use Rattle.uprog_code.specs.Texts.{text_op, EntryDoes}
+use Rattle.loop_ir.specs.Plain.{StepOf, Block}
+use Rattle.loop_ir.specs.Statements.{Slots}
+use Rattle.loop_ir.specs.Lowered.{IsLowered}
+use Rattle.word_lower.specs.Forms.{HasForm}
+
+-- each statement has a loop program that does it, with all names at these places
+abbrev pub AreLowered : Slots → ℕ → ℕ → List Statement → List (List (StepOf Block)) → Type 0
+AreLowered slots free_bit free_word [] [] = Unit {0}
+AreLowered slots free_bit free_word [] (p ∷ ps) = ⊥
+AreLowered slots free_bit free_word (s ∷ body) [] = ⊥
+AreLowered slots free_bit free_word (s ∷ body) (p ∷ ps) = IsLowered slots free_bit free_word s p × AreLowered slots free_bit free_word body ps
+
+-- and that of a block is its states' starts and its graph at each position
+abbrev pub HaveForms : Slots → List Statement → List (List (StepOf Block)) → Type 0
+HaveForms slots [] [] = Unit {0}
+HaveForms slots [] (p ∷ ps) = ⊥
+HaveForms slots (s ∷ body) [] = ⊥
+HaveForms slots (s ∷ body) (p ∷ ps) = HasForm slots s p × HaveForms slots body ps
+
+-- the ceiling of each statement, where these names are known
+abbrev pub ceilings : List Param → List Statement → List (ℕ → ℕ)
+ceilings known [] = []
+ceilings known (s ∷ body) = (λ n. statement_ceiling op_ceiling known n s) ∷ ceilings (known ++ defines known s) body
+
+-- An operation's entry: it does the operation, its code is legal, and no statement has more than 256 instructions
+pub record IsCompiled (e : Microprogram) (op : Operation) : Type 0 where
+  pub does : EntryDoes e (text_op op)
+  pub legal : IsLegalCode e.shape e.code
+  pub short : length e.code ≤ 256 * length op.body + 1
+
+-- an entry for each operation, in order
+abbrev pub AreCompiled : List Microprogram → List Operation → Type 0
+AreCompiled [] [] = Unit {0}
+AreCompiled [] (op ∷ ops) = ⊥
+AreCompiled (e ∷ es) [] = ⊥
+AreCompiled (e ∷ es) (op ∷ ops) = IsCompiled e op × AreCompiled es ops

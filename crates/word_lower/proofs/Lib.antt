@@ -1,0 +1,16 @@
+pub mod Setting
+pub mod Sums
+pub mod Lists
+pub mod Bitwise
+pub mod Passes
+pub mod Words
+pub mod Carries
+pub mod States
+pub mod Pieces
+pub mod Operations
+pub mod Filled
+pub mod Statements
+pub mod Built
+pub mod Templates
+pub mod Append
+pub mod Owners

@@ -1,0 +1,123 @@
+-- When a loop program does a word operation: the places of its names, and what it leaves.
+use Rattle.std.specs.Prelude.{◌≡◌, ℕ, zero, suc, ◌+◌, ◌*◌, ◌^◌, ◌<◌, ◌==◌, Bool, List, [], ◌∷◌, if◌then◌else◌}
+use Rattle.op_text.specs.declared.tree.Kind.{Kind}
+use Rattle.op_text.specs.declared.tree.Kind.TheVariants.{Bit}
+use Rattle.op_text.specs.declared.tree.WordOp.{WordOp}
+use Rattle.op_text.specs.declared.tree.WordOp.TheVariants as o
+use Rattle.op_text.specs.Values.{bit_number, of_none, of_one, of_two}
+use Rattle.op_text.specs.Scratch.{bits_inside}
+use Rattle.loop_ir.specs.declared.ir.Sub.{Sub}
+use Rattle.loop_ir.specs.declared.ir.Place.{Place}
+use Rattle.loop_ir.specs.declared.names.Slot.{Slot}
+use Rattle.loop_ir.specs.Plain.{StepOf, Block}
+use Rattle.loop_ir.specs.Loops.{all_rounds}
+use Rattle.loop_ir.specs.Spots.{Spot, Spots, spot_in, after_rounds, IsOwn}
+use Rattle.loop_laws.specs.Rooms.{Room, placed_steps}
+use Rattle.word_lower.specs.Places.{scratch_bit, scratch_from, rooms_of}
+use Rattle.word_lower.specs.Programs.{program}
+
+abbrev pub bit : Bool → ℕ
+bit b = bit_number b
+
+-- the sum of bit k times 2 ^ k, for k below n
+abbrev pub number : (ℕ → Bool) → ℕ → ℕ
+number bits zero = 0
+number bits (suc n) = number bits n + bit (bits n) * 2 ^ n
+
+-- the operation's value from three numbers, of which it takes the first ones
+abbrev pub operation : WordOp → ℕ → ℕ → ℕ → ℕ → ℕ
+operation o.Zero n a b s = of_none o.Zero n
+operation o.Ones n a b s = of_none o.Ones n
+operation o.Not n a b s = of_one o.Not n a
+operation o.Copy n a b s = of_one o.Copy n a
+operation o.Shl1 n a b s = of_one o.Shl1 n a
+operation o.Shr1 n a b s = of_one o.Shr1 n a
+operation o.Abs n a b s = of_one o.Abs n a
+operation o.Relu n a b s = of_one o.Relu n a
+operation o.AndRed n a b s = of_one o.AndRed n a
+operation o.OrRed n a b s = of_one o.OrRed n a
+operation o.XorRed n a b s = of_one o.XorRed n a
+operation o.IfElse n a b s = if s == 1 then a else b
+operation p n a b s = of_two p n a b
+
+-- the names of a statement, and the internal scratch that is free
+pub record Slots : Type 0 where
+  pub target : Slot
+  pub a : Slot
+  pub b : Slot
+  pub s : Slot
+  pub free_bit : ℕ
+
+abbrev pub args_of : WordOp → Slots → List Slot
+args_of o.Zero m = []
+args_of o.Ones m = []
+args_of o.Not m = m.a ∷ []
+args_of o.Copy m = m.a ∷ []
+args_of o.Shl1 m = m.a ∷ []
+args_of o.Shr1 m = m.a ∷ []
+args_of o.Abs m = m.a ∷ []
+args_of o.Relu m = m.a ∷ []
+args_of o.AndRed m = m.a ∷ []
+args_of o.OrRed m = m.a ∷ []
+args_of o.XorRed m = m.a ∷ []
+args_of o.IfElse m = m.a ∷ m.b ∷ m.s ∷ []
+args_of p m = m.a ∷ m.b ∷ []
+
+abbrev pub rooms_for : WordOp → Slots → List Room
+rooms_for p m = rooms_of m.target (args_of p m) (scratch_from m.free_bit (bits_inside p))
+
+abbrev pub steps_for : WordOp → Kind → Slots → List (StepOf Block)
+steps_for p k m = placed_steps (rooms_for p m) (program p k)
+
+abbrev pub at : Slot → Sub → Place
+at s u = record { space = s.space; which = s.which; sub = u }
+
+-- a row of a name
+abbrev pub row : ℕ → Slot → ℕ → Spot
+row n s v = spot_in n s.space s.which v
+
+-- the number in so many rows of a name
+abbrev pub number_at : ℕ → Spots → Slot → ℕ → ℕ
+number_at n bits s k = number (λ v. bits (row n s v)) k
+
+-- no row of one is a row of the other
+pub record SlotsApart (n : ℕ) (s : Slot) (k : ℕ) (t : Slot) (l : ℕ) : Type 0 where
+  pub by : (u v : ℕ) → u < k → v < l → row n s u ≡ row n t v → ⊥
+
+-- each position has a row of its own
+pub record Moves (n : ℕ) (s : Slot) (k : ℕ) : Type 0 where
+  pub by : (u v : ℕ) → u < k → v < k → row n s u ≡ row n s v → u ≡ v
+
+-- apart from the target and from all arguments
+pub record IsFree (n k l : ℕ) (m : Slots) (t : Slot) (j : ℕ) : Type 0 where
+  pub target : SlotsApart n t j m.target k
+  pub a : SlotsApart n m.a l t j
+  pub b : SlotsApart n m.b l t j
+  pub s : SlotsApart n m.s 1 t j
+
+-- a target of k rows, arguments of l rows, and so many bits of internal scratch lie apart; arguments may be the same
+pub record AreSlots (n k l bits : ℕ) (m : Slots) : Type 0 where
+  pub own : IsOwn m.target.space
+  pub moves : Moves n m.target k
+  pub a : SlotsApart n m.a l m.target k
+  pub b : SlotsApart n m.b l m.target k
+  pub s : SlotsApart n m.s 1 m.target k
+  pub bit : 0 < bits → IsFree n k l m (scratch_bit m.free_bit) 1
+
+-- the row is none of the target or of the internal scratch
+pub record IsElsewhere (n k bits : ℕ) (m : Slots) (q : Spot) : Type 0 where
+  pub target : (v : ℕ) → v < k → q ≡ row n m.target v → ⊥
+  pub bit : 0 < bits → q ≡ row n (scratch_bit m.free_bit) 0 → ⊥
+
+-- the target has the operation's value, and no other row but the internal scratch has changed
+pub record Gives (p : WordOp) (n k l bits : ℕ) (m : Slots) (before after : Spots) : Type 0 where
+  pub gives : number_at n after m.target k ≡ operation p l (number_at n before m.a l) (number_at n before m.b l) (number_at n before m.s 1)
+  pub keeps : (q : Spot) → IsElsewhere n k bits m q → after q ≡ before q
+
+-- the operation's loop program on words does it, from every content
+abbrev pub DoesWords : WordOp → Kind → ℕ → ℕ → ℕ → Slots → Type 0
+DoesWords p kind n k bits m = (before : Spots) → Gives p n k n bits m before (after_rounds n (all_rounds n (steps_for p kind m)) before)
+
+-- and on bits
+abbrev pub DoesBits : WordOp → ℕ → Slots → Type 0
+DoesBits p n m = (before : Spots) → Gives p n 1 1 0 m before (after_rounds n (all_rounds n (steps_for p Bit m)) before)

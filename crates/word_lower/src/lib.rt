@@ -1,0 +1,10 @@
+//! Loop programs of the word operations that take one pass over a word.
+#![tactic(auto)]
+
+mod bodies;
+mod graphs;
+mod linear;
+mod shapes;
+mod table;
+
+pub use linear::lower_linear;
