@@ -14,3 +14,4 @@ mod Ends
 mod Costs
 mod Compile
 mod Whole
+mod Example
