@@ -8,6 +8,7 @@ use std::alloc::{AllocError, Global};
 use std::test::*;
 
 /// A word operation, its name, whether its arguments are one, two or three (the third a bit), and whether it gives a bit.
+#[derive(Clone, Copy)]
 struct Operation {
     op: WordOp,
     name: &'static str,
@@ -15,42 +16,163 @@ struct Operation {
     bit: bool,
 }
 
-const fn operation(op: WordOp, name: &'static str, takes: u8, bit: bool) -> Operation {
-    Operation {
-        op,
-        name,
-        takes,
-        bit,
-    }
-}
-
 static OPERATIONS: [Operation; 26] = [
-    operation(WordOp::Not, "not", 1, false),
-    operation(WordOp::And, "and", 2, false),
-    operation(WordOp::Or, "or", 2, false),
-    operation(WordOp::Xor, "xor", 2, false),
-    operation(WordOp::Copy, "copy", 1, false),
-    operation(WordOp::Zero, "zero", 0, false),
-    operation(WordOp::Ones, "ones", 0, false),
-    operation(WordOp::Shl1, "shl1", 1, false),
-    operation(WordOp::Shr1, "shr1", 1, false),
-    operation(WordOp::Add, "add", 2, false),
-    operation(WordOp::Sub, "sub", 2, false),
-    operation(WordOp::Mul, "mul", 2, false),
-    operation(WordOp::Div, "div", 2, false),
-    operation(WordOp::Rem, "rem", 2, false),
-    operation(WordOp::Abs, "abs", 1, false),
-    operation(WordOp::Relu, "relu", 1, false),
-    operation(WordOp::Min, "min", 2, false),
-    operation(WordOp::Max, "max", 2, false),
-    operation(WordOp::Eq, "eq", 2, true),
-    operation(WordOp::Gt, "gt", 2, true),
-    operation(WordOp::Ge, "ge", 2, true),
-    operation(WordOp::IfElse, "if_else", 3, false),
-    operation(WordOp::Bitcount, "bitcount", 1, false),
-    operation(WordOp::AndRed, "and_red", 1, true),
-    operation(WordOp::OrRed, "or_red", 1, true),
-    operation(WordOp::XorRed, "xor_red", 1, true),
+    Operation {
+        op: WordOp::Not,
+        name: "not",
+        takes: 1,
+        bit: false,
+    },
+    Operation {
+        op: WordOp::And,
+        name: "and",
+        takes: 2,
+        bit: false,
+    },
+    Operation {
+        op: WordOp::Or,
+        name: "or",
+        takes: 2,
+        bit: false,
+    },
+    Operation {
+        op: WordOp::Xor,
+        name: "xor",
+        takes: 2,
+        bit: false,
+    },
+    Operation {
+        op: WordOp::Copy,
+        name: "copy",
+        takes: 1,
+        bit: false,
+    },
+    Operation {
+        op: WordOp::Zero,
+        name: "zero",
+        takes: 0,
+        bit: false,
+    },
+    Operation {
+        op: WordOp::Ones,
+        name: "ones",
+        takes: 0,
+        bit: false,
+    },
+    Operation {
+        op: WordOp::Shl1,
+        name: "shl1",
+        takes: 1,
+        bit: false,
+    },
+    Operation {
+        op: WordOp::Shr1,
+        name: "shr1",
+        takes: 1,
+        bit: false,
+    },
+    Operation {
+        op: WordOp::Add,
+        name: "add",
+        takes: 2,
+        bit: false,
+    },
+    Operation {
+        op: WordOp::Sub,
+        name: "sub",
+        takes: 2,
+        bit: false,
+    },
+    Operation {
+        op: WordOp::Mul,
+        name: "mul",
+        takes: 2,
+        bit: false,
+    },
+    Operation {
+        op: WordOp::Div,
+        name: "div",
+        takes: 2,
+        bit: false,
+    },
+    Operation {
+        op: WordOp::Rem,
+        name: "rem",
+        takes: 2,
+        bit: false,
+    },
+    Operation {
+        op: WordOp::Abs,
+        name: "abs",
+        takes: 1,
+        bit: false,
+    },
+    Operation {
+        op: WordOp::Relu,
+        name: "relu",
+        takes: 1,
+        bit: false,
+    },
+    Operation {
+        op: WordOp::Min,
+        name: "min",
+        takes: 2,
+        bit: false,
+    },
+    Operation {
+        op: WordOp::Max,
+        name: "max",
+        takes: 2,
+        bit: false,
+    },
+    Operation {
+        op: WordOp::Eq,
+        name: "eq",
+        takes: 2,
+        bit: true,
+    },
+    Operation {
+        op: WordOp::Gt,
+        name: "gt",
+        takes: 2,
+        bit: true,
+    },
+    Operation {
+        op: WordOp::Ge,
+        name: "ge",
+        takes: 2,
+        bit: true,
+    },
+    Operation {
+        op: WordOp::IfElse,
+        name: "if_else",
+        takes: 3,
+        bit: false,
+    },
+    Operation {
+        op: WordOp::Bitcount,
+        name: "bitcount",
+        takes: 1,
+        bit: false,
+    },
+    Operation {
+        op: WordOp::AndRed,
+        name: "and_red",
+        takes: 1,
+        bit: true,
+    },
+    Operation {
+        op: WordOp::OrRed,
+        name: "or_red",
+        takes: 1,
+        bit: true,
+    },
+    Operation {
+        op: WordOp::XorRed,
+        name: "xor_red",
+        takes: 1,
+        bit: true,
+    },
 ];
 
 static WIDTHS: [u8; 6] = [1, 2, 7, 8, 31, 64];
@@ -151,6 +273,7 @@ fn numbers(n: u8, seed: u64, alloc: Global) -> Result<Vec<u64>, AllocError> {
 }
 
 /// A name, its number of rows and its 64 numbers.
+#[derive(Clone, Copy)]
 struct Object<'a> {
     name: u8,
     width: u8,
@@ -234,9 +357,8 @@ fn rows_after(
     Ok(copy)
 }
 
-/// One operation at one width on 64 pairs of numbers.
-fn check(operation: &Operation, n: u8, rt: &HostRuntime) -> Result<(), Fail> {
-    let alloc = rt.alloc();
+/// How many of 64 columns have the operation's value on the numbers there, at one width.
+fn right_columns(operation: &Operation, n: u8, alloc: Global) -> Result<u32, Fail> {
     let a = numbers(n, 3, alloc)?;
     let b = numbers(n, 5, alloc)?;
     let s = numbers(1, 7, alloc)?;
@@ -268,25 +390,21 @@ fn check(operation: &Operation, n: u8, rt: &HostRuntime) -> Result<(), Fail> {
     let script = format!(in alloc; "bbop_f y, a, b, s, 64, {}", n)?;
     let rows = rows_after(&text, &script, &image, 4, alloc)?;
     let base = usize::from(n).saturating_mul(2).saturating_add(1);
+    let mut right: u32 = 0;
     for ((column, a), (b, s)) in (0..64u32).zip(a.iter()).zip(b.iter().zip(s.iter())) {
-        let wanted = value(operation.op, n, *a, *b, *s);
-        assert_eq!(rt;
-            (n, number_at(&rows, base, width, column)),
-            (n, wanted),
-            "{} {} {}",
-            operation.name,
-            a,
-            b
-        );
+        if number_at(&rows, base, width, column) == value(operation.op, n, *a, *b, *s) {
+            right = right.saturating_add(1);
+        }
     }
-    Ok(())
+    Ok(right)
 }
 
 #[test]
 fn operations_have_their_values(rt: HostRuntime) -> Result<(), Fail> {
     for operation in OPERATIONS.as_slice() {
         for n in WIDTHS {
-            check(operation, n, &rt)?;
+            let right = right_columns(operation, n, rt.alloc())?;
+            assert_eq!(rt; (operation.name, n, right), (operation.name, n, 64));
         }
     }
     Ok(())

@@ -153,7 +153,7 @@ fn first_job_writes_its_files(rt: HostRuntime) -> Result<(), Fail> {
     let mut out = MemSink::new(alloc);
     let mut chip = Chip::new(alloc);
     assert_eq!(rt; simdram(&WORDS, &mut files, &mut out, &mut chip, alloc), 0);
-    assert_eq!(rt; files.file("prog").map(|bytes| bytes.len()), Some(75));
+    assert_eq!(rt; files.file("prog").map(|bytes| bytes.len()), Some(147));
     let after = files.file("out").ok_or("no image")?;
     assert_eq!(rt; after.len(), 622);
     // 0x0C and 0x0A is 0x08, in row 2; the 32 rows of the spill group and all others are as they were
