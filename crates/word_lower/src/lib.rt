@@ -6,5 +6,6 @@ mod graphs;
 mod linear;
 mod shapes;
 mod table;
+mod templates;
 
 pub use linear::lower_linear;

@@ -1,9 +1,8 @@
-use Rattle.std.proofs.Common.{◌≡◌, sym, ap, subst, ◌∙◌}
+use Rattle.std.proofs.Common.{ap, subst, ◌∙◌}
 use Rattle.loop_ir.specs.Plain.{steps_of}
 use Rattle.loop_ir.specs.Like.{LikeSteps}
 use Rattle.loop_ir.specs.Statements.{slots_of}
 use Rattle.word_lower.specs.declared.shapes.Owners.{Owners}
-use Rattle.word_lower.specs.Places.{AreAt}
 use Rattle.word_lower.specs.Programs.{program}
 use Rattle.word_lower.specs.Shapes.{program_on}
 use Rattle.word_lower.proofs.Statements.{lowered_on, places_of}
