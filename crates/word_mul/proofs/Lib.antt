@@ -1,0 +1,5 @@
+pub mod Setting
+pub mod Product
+pub mod Multiply
+pub mod Divide
+pub mod Quotient
