@@ -10,3 +10,4 @@ pub mod Pieces
 pub mod Operations
 pub mod Filled
 pub mod Statements
+pub mod Built

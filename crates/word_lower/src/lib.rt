@@ -1,4 +1,4 @@
-//! Loop programs of the word operations that take one pass over a word.
+//! x
 #![tactic(auto)]
-
-pub fn nothing() {}
+mod graphs;
+mod shapes;

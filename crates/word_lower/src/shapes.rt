@@ -1,0 +1,55 @@
+//! The bodies of loop programs, by what they compute.
+
+use loop_ir::{Slot, Sub};
+
+/// Whose rows a place has: the target's, an argument's, or behind the arguments those of the bit of scratch.
+#[derive(Clone, Copy, PartialEq, Eq, Debug)]
+pub enum Owner {
+    Target,
+    First,
+    Second,
+    Third,
+}
+
+/// A place by its owner.
+#[derive(Clone, Copy, PartialEq, Eq, Debug)]
+pub struct Mark {
+    pub owner: Owner,
+    pub sub: Sub,
+}
+
+/// The places of the owners.
+#[derive(Clone, Copy, PartialEq, Eq, Debug)]
+pub struct Owners {
+    pub target: Slot,
+    pub first: Slot,
+    pub second: Slot,
+    pub third: Slot,
+}
+
+/// What a body computes: from its reads, of which a state is the last, into its writes, of which it is the last too.
+#[derive(Clone, Copy, PartialEq, Eq, Debug)]
+pub enum Shape {
+    Off(Mark),
+    On(Mark),
+    Moved(Mark, Mark),
+    Inverted(Mark, Mark),
+    Both(Mark, Mark, Mark),
+    Either(Mark, Mark, Mark),
+    Without(Mark, Mark, Mark),
+    Unlike(Mark, Mark, Mark),
+    Chosen(Mark, Mark, Mark, Mark),
+    Shifted(Mark, Mark, Mark),
+    Added(Mark, Mark, Mark, Mark),
+    Lessened(Mark, Mark, Mark, Mark),
+    TurnedBy(Mark, Mark, Mark, Mark),
+    Compared(Mark, Mark, Mark),
+    Agreed(Mark, Mark, Mark),
+}
+
+/// A body done once, or at each position.
+#[derive(Clone, Copy, PartialEq, Eq, Debug)]
+pub enum Line {
+    Once(Shape),
+    Each(Shape),
+}
