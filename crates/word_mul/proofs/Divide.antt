@@ -24,7 +24,9 @@ use Rattle.word_lower.proofs.Linear.{state_loop}
 use Rattle.word_lower.proofs.Sums.{value_same, value_below, compare, less_two}
 use Rattle.word_lower.proofs.Carries.{lessened_digit}
 use Rattle.word_mul.specs.Programs.{fourth, fifth, divided, division}
-use Rattle.word_mul.proofs.Setting.{Names, rooms_for, scratch_word, IsFree, AreNames}
+use Rattle.word_mul.specs.declared.rows.Rows.{Rows}
+use Rattle.word_mul.specs.Places.{rooms_for, scratch_word}
+use Rattle.word_mul.proofs.Setting.{IsFree, AreRows}
 use Rattle.word_mul.proofs.Product.{value_gated}
 
 -- the comparison of the low rows, or the top row, compares all rows
@@ -33,7 +35,7 @@ unfolding majority
 whole_compare true x b p lt = sym (lt-ltb b (x + 1 * p + 1) (omega arith))
 whole_compare false x b p lt = let e : x + 1 ≡ x + 0 * p + 1 = omega arith in ap (nat_lt b) e
 
-module _ (n : ℕ) (m : Names) (are : AreNames n 2 2 m) where
+module _ (n : ℕ) (m : Rows) (are : AreRows n 2 2 m) where
   abbrev pub w : Slot
   w = scratch_word m.free_word
 

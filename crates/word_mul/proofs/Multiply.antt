@@ -27,18 +27,20 @@ use Rattle.word_lower.proofs.Sums.{value_same, value_below, value_false, sum_two
 use Rattle.word_lower.proofs.Carries.{added_digit}
 use Rattle.word_lower.proofs.Lists.{ones_of_none, ones_of_more}
 use Rattle.word_mul.specs.Programs.{multiplied, counted}
-use Rattle.word_mul.proofs.Setting.{Names, rooms_for, IsFree, AreNames, IsElsewhere, Gives, DoesNested, bit_free, bit_else}
+use Rattle.word_mul.specs.declared.rows.Rows.{Rows}
+use Rattle.word_mul.specs.Places.{rooms_for, scratch_word}
+use Rattle.word_mul.proofs.Setting.{IsFree, AreRows, IsElsewhere, Gives, DoesNested, bit_free, bit_else}
 use Rattle.word_mul.proofs.Product.{value_split, value_gated, product_step, below_pow, few_ones}
 
 -- an argument's rows are neither the target's nor the scratch bit's
-args_else : (n : ℕ) (m : Names) (s : Slot) → SlotsApart n s n m.target n → SlotsApart n s n (scratch_bit m.free_bit) 1 → (v : ℕ) → v < n → IsElsewhere n 1 0 m (row n s v)
+args_else : (n : ℕ) (m : Rows) (s : Slot) → SlotsApart n s n m.target n → SlotsApart n s n (scratch_bit m.free_bit) 1 → (v : ℕ) → v < n → IsElsewhere n 1 0 m (row n s v)
 args_else n m s t c v lt = record {
   target = λ u lu e. t.by v u lt lu e;
   bit = λ j lj e. let z : m.free_bit + j ≡ m.free_bit = omega arith in c.by v 0 lt (omega arith) (e ∙ ap (λ x. row n (scratch_bit x) 0) z);
   word = λ u lu e. absurd (omega arith);
 }
 
-module _ (n : ℕ) (m : Names) (are : AreNames n 1 0 m) (bits : Spots) where
+module _ (n : ℕ) (m : Rows) (are : AreRows n 1 0 m) (bits : Spots) where
   f : IsFree n m (scratch_bit m.free_bit) 1
   f = bit_free n 0 0 m are
 
@@ -142,7 +144,7 @@ module _ (n : ℕ) (m : Names) (are : AreNames n 1 0 m) (bits : Spots) where
   all_bits zero zeroed lo i = i
   all_bits (suc o) zeroed lo i = one_bit o (after_outer n parts o zeroed) (omega arith) (all_bits o zeroed (omega arith) i)
 
-pub mul_does : (n : ℕ) (m : Names) → AreNames n 1 0 m → DoesNested op.Mul n 1 0 m
+pub mul_does : (n : ℕ) (m : Rows) → AreRows n 1 0 m → DoesNested op.Mul n 1 0 m
 unfolding values_from
 mul_does n m are bits =
     let b0 = placed_body (rooms_for op.Mul m) (constant off (target sub.Inner)) in
@@ -170,7 +172,7 @@ no_carry : (c : Bool) (y p s : ℕ) → s < p → y + bit c * p ≡ s → y ≡ 
 no_carry true y p s lt e = absurd (omega (arith, e))
 no_carry false y p s lt e = omega (arith, e)
 
-module _ (n : ℕ) (m : Names) (are : AreNames n 1 0 m) (bits : Spots) where
+module _ (n : ℕ) (m : Rows) (are : AreRows n 1 0 m) (bits : Spots) where
   cf : IsFree n m (scratch_bit m.free_bit) 1
   cf = bit_free n 0 0 m are
 
@@ -232,7 +234,7 @@ module _ (n : ℕ) (m : Names) (are : AreNames n 1 0 m) (bits : Spots) where
   all_counts zero zeroed lo i = i
   all_counts (suc o) zeroed lo i = one_count o (after_outer n count_parts o zeroed) (omega arith) (all_counts o zeroed (omega arith) i)
 
-pub bitcount_does : (n : ℕ) (m : Names) → AreNames n 1 0 m → DoesNested op.Bitcount n 1 0 m
+pub bitcount_does : (n : ℕ) (m : Rows) → AreRows n 1 0 m → DoesNested op.Bitcount n 1 0 m
 unfolding values_from
 bitcount_does n m are bits =
     let b0 = placed_body (rooms_for op.Bitcount m) (constant off (target sub.Inner)) in

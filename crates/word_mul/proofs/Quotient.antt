@@ -24,7 +24,9 @@ use Rattle.word_lower.proofs.Setting.{bit, number, row, number_at}
 use Rattle.word_lower.proofs.Linear.{word_loop, upwards}
 use Rattle.word_lower.proofs.Sums.{value_same, value_below, value_false, value_low}
 use Rattle.word_mul.specs.Programs.{fifth}
-use Rattle.word_mul.proofs.Setting.{Names, rooms_for, scratch_word, AreNames, IsElsewhere, Gives, DoesNested}
+use Rattle.word_mul.specs.declared.rows.Rows.{Rows}
+use Rattle.word_mul.specs.Places.{rooms_for, scratch_word}
+use Rattle.word_mul.proofs.Setting.{AreRows, IsElsewhere, Gives, DoesNested}
 use Rattle.word_mul.proofs.Divide.{w, gp, gf, cf, core, IsOther, w_moves, Stepped, step}
 
 -- what is left of the rows without a borrow is the whole difference
@@ -78,7 +80,7 @@ bit_le : (b : Bool) → bit b ≤ 1
 bit_le true = omega arith
 bit_le false = omega arith
 
-module _ (n : ℕ) (m : Names) (are : AreNames n 2 2 m) (bits : Spots) where
+module _ (n : ℕ) (m : Rows) (are : AreRows n 2 2 m) (bits : Spots) where
   abbrev b : ℕ
   b = number_at n bits m.b n
 
@@ -284,7 +286,7 @@ remainder_is a b q r e small = by (cases_eq b 0)
     by (inl z) = let h : q * b ≡ q * 0 = ap (λ x. q * x) z in rw (eq-eqb b 0 z) (omega (arith, e, h))
     by (inr nz) = let h : r < b = small (omega (arith, nz)) in rw (ne_eqb b 0 nz) (sym (mod-mul-add q b r h) ∙ ap (λ x. x % b) (sym e))
 
-pub div_does : (n : ℕ) (m : Names) → AreNames n 2 2 m → DoesNested op.Div n 2 2 m
+pub div_does : (n : ℕ) (m : Rows) → AreRows n 2 2 m → DoesNested op.Div n 2 2 m
 unfolding values_from
 div_does n m are bits =
     let b1 = copy_body n m are bits in
@@ -304,7 +306,7 @@ div_does n m are bits =
       keeps = i.divides.rest;
     }
 
-pub rem_does : (n : ℕ) (m : Names) → AreNames n 2 2 m → DoesNested op.Rem n 2 2 m
+pub rem_does : (n : ℕ) (m : Rows) → AreRows n 2 2 m → DoesNested op.Rem n 2 2 m
 unfolding values_from
 rem_does n m are bits =
     let b1 = copy_body n m are bits in

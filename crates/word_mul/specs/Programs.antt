@@ -1,5 +1,6 @@
 -- The loop programs of the word operations that take a pass over a word for each position.
 use Rattle.std.specs.Prelude.{ℕ, ◌+◌, ◌*◌, ◌^◌, ◌≡◌, Bool, true, false, List, [], ◌∷◌, ◌++◌}
+use Rattle.mig_graph.specs.declared.Node.{Node}
 use Rattle.mig_graph.specs.Literals.{node_of}
 use Rattle.op_text.specs.declared.tree.WordOp.{WordOp}
 use Rattle.op_text.specs.declared.tree.WordOp.TheVariants as o
@@ -20,23 +21,26 @@ fourth s = on 4 s
 abbrev pub fifth : Sub → Mark
 fifth s = on 5 s
 
--- y and the bit of a product and a carry, into y
+-- y, the bit of a product and a carry, into y
+abbrev pub multiplied_nodes : List Node
+multiplied_nodes = node_of off (plain 2) (plain 3) ∷ node_of (plain 1) (plain 5) (plain 4) ∷ node_of (plain 1) (plain 5) (turned 4) ∷ node_of (plain 4) (turned 6) (plain 7) ∷ []
+
 abbrev pub multiplied : Mark → Mark → Mark → Mark → Marked
-multiplied y a b c = template (y ∷ a ∷ b ∷ c ∷ [])
-    (node_of off (plain 2) (plain 3) ∷ node_of (plain 1) (plain 5) (plain 4) ∷ node_of (plain 1) (plain 5) (turned 4) ∷ node_of (plain 4) (turned 6) (plain 7) ∷ [])
-    (plain 8 ∷ plain 6 ∷ []) (y ∷ c ∷ [])
+multiplied y a b c = template (y ∷ a ∷ b ∷ c ∷ []) multiplied_nodes (plain 8 ∷ plain 6 ∷ []) (y ∷ c ∷ [])
 
 -- y and a carry, into y
+abbrev pub counted_nodes : List Node
+counted_nodes = node_of off (plain 1) (plain 2) ∷ node_of up (plain 1) (plain 2) ∷ node_of off (turned 3) (plain 4) ∷ []
+
 abbrev pub counted : Mark → Mark → Marked
-counted y c = template (y ∷ c ∷ [])
-    (node_of off (plain 1) (plain 2) ∷ node_of up (plain 1) (plain 2) ∷ node_of off (turned 3) (plain 4) ∷ [])
-    (plain 5 ∷ plain 3 ∷ []) (y ∷ c ∷ [])
+counted y c = template (y ∷ c ∷ []) counted_nodes (plain 5 ∷ plain 3 ∷ []) (y ∷ c ∷ [])
 
 -- w, the complement of y where g is set, and a carry, into w
+abbrev pub divided_nodes : List Node
+divided_nodes = node_of off (plain 2) (plain 3) ∷ node_of (plain 1) (turned 5) (plain 4) ∷ node_of (plain 1) (plain 5) (plain 4) ∷ node_of (plain 5) (plain 6) (turned 7) ∷ []
+
 abbrev pub divided : Mark → Mark → Mark → Mark → Marked
-divided w y g c = template (w ∷ y ∷ g ∷ c ∷ [])
-    (node_of off (plain 2) (plain 3) ∷ node_of (plain 1) (turned 5) (plain 4) ∷ node_of (plain 1) (plain 5) (plain 4) ∷ node_of (plain 5) (plain 6) (turned 7) ∷ [])
-    (turned 8 ∷ plain 6 ∷ []) (w ∷ c ∷ [])
+divided w y g c = template (w ∷ y ∷ g ∷ c ∷ []) divided_nodes (turned 8 ∷ plain 6 ∷ []) (w ∷ c ∷ [])
 
 -- One step of a long division. The window is the n + 1 rows of the dividend from the outer position down: the divisor is
 -- compared with it, and taken from it where it is not greater

@@ -1,4 +1,4 @@
 //! Loop programs of the word operations that take a pass over a word for each position.
 #![tactic(auto)]
 
-pub fn nothing() {}
+mod rows;
