@@ -2,3 +2,4 @@
 #![tactic(auto)]
 mod graphs;
 mod shapes;
+pub use graphs::made;

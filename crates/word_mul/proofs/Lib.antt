@@ -3,3 +3,4 @@ pub mod Product
 pub mod Multiply
 pub mod Divide
 pub mod Quotient
+pub mod Templates

@@ -1,4 +1,5 @@
 //! Loop programs of the word operations that take a pass over a word for each position.
 #![tactic(auto)]
 
+mod bodies;
 mod rows;
