@@ -4,3 +4,4 @@ pub mod Multiply
 pub mod Divide
 pub mod Quotient
 pub mod Templates
+pub mod Parts

@@ -12,8 +12,8 @@ use mig_graph::{Lit, NoMemory, Node};
 use std::alloc::Global;
 use word_lower::made;
 
-const OFF: Lit = Lit { node: 0, inverted: false };
-const UP: Lit = Lit { node: 0, inverted: true };
+pub const OFF: Lit = Lit { node: 0, inverted: false };
+pub const UP: Lit = Lit { node: 0, inverted: true };
 const P1: Lit = Lit { node: 1, inverted: false };
 const P2: Lit = Lit { node: 2, inverted: false };
 const P3: Lit = Lit { node: 3, inverted: false };

@@ -2,4 +2,5 @@
 #![tactic(auto)]
 
 mod bodies;
+mod programs;
 mod rows;
