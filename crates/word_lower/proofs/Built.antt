@@ -1,10 +1,10 @@
 -- The nodes of a graph that is built by a template.
-use Rattle.std.proofs.Common.{◌≡◌, ◌⊎◌, inl, inr, ℕ, suc, ◌+◌, ◌<◌, ◌≤◌, Bool, List, [], ◌∷◌, ◌++◌, length, length-append, refl, sym, ap, ◌∙◌, arith}
-use Rattle.bit_rows.specs.Bits.{majority, flip_if}
+use Rattle.std.proofs.Common.{◌≡◌, inl, inr, ℕ, ◌+◌, ◌<◌, ◌≤◌, Bool, List, [], ◌∷◌, ◌++◌, length, length-append, refl, sym, ap, ◌∙◌, arith}
+use Rattle.bit_rows.specs.Bits.{majority}
 use Rattle.mig_graph.specs.declared.Lit.{Lit}
 use Rattle.mig_graph.specs.declared.Node.{Node}
 use Rattle.mig_graph.specs.Literals.{IsLower, lit_value, node_value, turn_if}
-use Rattle.mig_graph.specs.Graph.{Graph, start, values_from, values, value, node_at, size_of, GrewByOne}
+use Rattle.mig_graph.specs.Graph.{Graph, start, values, value, node_at, size_of, GrewByOne}
 use Rattle.mig_graph.specs.Laws.{values-below, values-at}
 use Rattle.mig_graph.specs.Outputs.{lit_at}
 use Rattle.mig_graph.specs.OutputLaws.{each-more, value-turned}

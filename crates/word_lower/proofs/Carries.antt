@@ -1,31 +1,22 @@
 -- add, sub, shl1, shr1 and abs.
-use Rattle.std.proofs.Common.{◌≡◌, ℕ, zero, suc, ◌+◌, ◌-◌, ◌*◌, ◌^◌, ◌%◌, ◌/◌, ◌<◌, Bool, true, false, not, cond, List, [], ◌∷◌, refl, sym, ap, ◌∙◌, subst, arith}
-use Rattle.std.specs.Prelude.{nat_lt, ◌&&◌, ◌==◌}
+use Rattle.std.proofs.Common.{◌≡◌, ℕ, suc, ◌+◌, ◌-◌, ◌*◌, ◌^◌, ◌%◌, ◌/◌, ◌<◌, Bool, true, false, not, cond, List, [], ◌∷◌, refl, sym, ap, ◌∙◌, subst, arith}
+use Rattle.std.specs.Prelude.{nat_lt}
 use Rattle.bit_rows.specs.Bits.{majority}
-use Rattle.mig_graph.specs.declared.Lit.{Lit}
-use Rattle.mig_graph.specs.declared.Node.{Node}
 use Rattle.mig_graph.specs.Graph.{values_from}
-use Rattle.op_text.specs.declared.tree.Kind.TheVariants.{Word, Bit}
-use Rattle.op_text.specs.declared.tree.WordOp.{WordOp}
+use Rattle.op_text.specs.declared.tree.Kind.TheVariants.{Word}
 use Rattle.op_text.specs.declared.tree.WordOp.TheVariants as op
-use Rattle.loop_ir.specs.declared.ir.Sub.{Sub}
 use Rattle.loop_ir.specs.declared.ir.Sub.TheVariants as sub
 use Rattle.loop_ir.specs.declared.ir.Place.{Place}
-use Rattle.loop_ir.specs.declared.names.Slot.{Slot}
-use Rattle.loop_ir.specs.Plain.{Block, StepOf}
-use Rattle.loop_ir.specs.Plain.StepOf.{Single, Along}
-use Rattle.loop_ir.specs.Loops.{sub_value}
-use Rattle.loop_ir.specs.Spots.{Spot, Spots, set_spot, spot_at, nth_place, IsOwn}
-use Rattle.loop_laws.specs.Turns.{Origin, Standing, Carried, turn, IsLoop, after_many}
-use Rattle.loop_laws.specs.Rooms.{Marked, placed_body}
+use Rattle.loop_ir.specs.Spots.{set_spot}
+use Rattle.loop_laws.specs.Turns.{Origin, Standing, Carried, turn}
+use Rattle.loop_laws.specs.Rooms.{placed_body}
 use Rattle.loop_laws.proofs.Same.{set_same, set_other}
-use Rattle.loop_laws.proofs.Loop.{loop_word, loop_state, loop_turns}
-use Rattle.loop_laws.proofs.Steps.{after_steps, steps_each}
-use Rattle.loop_laws.proofs.Placed.{AllBefore, ReadPlaces, loop_of}
+use Rattle.loop_laws.proofs.Steps.{steps_each}
+use Rattle.loop_laws.proofs.Placed.{AllBefore}
 use Rattle.word_lower.specs.Places.{scratch_bit}
-use Rattle.word_lower.specs.Programs.{on, target, first, second, third, plain, turned, off, up, constant, moved, inverted, joined, without, unlike, chosen, shifted, added, lessened, turned_by, compared, agreed}
-use Rattle.word_lower.proofs.Setting.{bit, number, operation, Slots, rooms_for, at, row, number_at, SlotsApart, Moves, IsFree, AreSlots, IsElsewhere, Gives, DoesWords, DoesBits}
-use Rattle.word_lower.proofs.Linear.{bit_free, carry_does, upwards, downwards}
+use Rattle.word_lower.specs.Programs.{target, first, second, third, plain, turned, shifted, added, lessened, turned_by}
+use Rattle.word_lower.proofs.Setting.{bit, number, Slots, rooms_for, at, row, IsFree, AreSlots, Gives, DoesWords}
+use Rattle.word_lower.proofs.Passes.{bit_free, carry_does, upwards, downwards}
 use Rattle.word_lower.proofs.Sums.{add_gives, sub_gives, shl1_gives, shr1_gives, abs_gives, xor2}
 
 pub added_digit : (x y c : Bool) → bit (majority c (not (majority x y c)) (majority x y (not c))) + 2 * bit (majority x y c) ≡ bit x + bit y + bit c

@@ -1,10 +1,10 @@
 -- The operation's program does it, by the form that its arguments fill.
-use Rattle.std.proofs.Common.{◌≡◌, ◌⊎◌, inl, inr, ℕ, Bool, true, false, List, [], ◌∷◌, map, Option, Some, None, refl, sym, ap, ◌∙◌, subst, ⊎_elim}
+use Rattle.std.proofs.Common.{◌≡◌, ◌⊎◌, inl, inr, ℕ, true, List, [], ◌∷◌, map, Option, Some, None, refl, sym, ap, ◌∙◌, subst}
 use Rattle.op_text.specs.declared.tree.Kind.{Kind}
 use Rattle.op_text.specs.declared.tree.Kind.TheVariants.{Word, Bit}
 use Rattle.op_text.specs.declared.tree.WordOp.{WordOp}
 use Rattle.op_text.specs.declared.tree.WordOp.TheVariants as op
-use Rattle.op_text.specs.WordOps.{Form, form, forms, filled, of_one, of_two, word_to, words_to}
+use Rattle.op_text.specs.WordOps.{form, forms, filled, of_one, of_two, word_to, words_to}
 use Rattle.loop_ir.specs.declared.ir.Space.{Space}
 use Rattle.loop_ir.specs.declared.names.Slot.{Slot}
 use Rattle.word_lower.specs.Programs.{is_linear}
@@ -23,14 +23,14 @@ filled_none : (ks : List Kind) (k : Kind) → filled (form [] Word ∷ []) ks �
 filled_none [] k e = (refl, same_kinds Word k e)
 filled_none (x ∷ ks) k e = cc
 
-filled_word : (g : Kind) (ks : List Kind) (k : Kind) → filled (word_to g) ks ≡ Some k → (ks ≡ Word ∷ []) × (k ≡ g)
+pub filled_word : (g : Kind) (ks : List Kind) (k : Kind) → filled (word_to g) ks ≡ Some k → (ks ≡ Word ∷ []) × (k ≡ g)
 filled_word g [] k e = cc
 filled_word g (Word ∷ []) k e = (refl, same_kinds g k e)
 filled_word g (Bit ∷ []) k e = cc
 filled_word g (Word ∷ (x ∷ ks)) k e = cc
 filled_word g (Bit ∷ (x ∷ ks)) k e = cc
 
-filled_words : (g : Kind) (ks : List Kind) (k : Kind) → filled (words_to g) ks ≡ Some k → (ks ≡ Word ∷ Word ∷ []) × (k ≡ g)
+pub filled_words : (g : Kind) (ks : List Kind) (k : Kind) → filled (words_to g) ks ≡ Some k → (ks ≡ Word ∷ Word ∷ []) × (k ≡ g)
 filled_words g [] k e = cc
 filled_words g (Word ∷ []) k e = cc
 filled_words g (Bit ∷ []) k e = cc

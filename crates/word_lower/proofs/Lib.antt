@@ -2,7 +2,7 @@ pub mod Setting
 pub mod Sums
 pub mod Lists
 pub mod Bitwise
-pub mod Linear
+pub mod Passes
 pub mod Words
 pub mod Carries
 pub mod States
@@ -11,3 +11,6 @@ pub mod Operations
 pub mod Filled
 pub mod Statements
 pub mod Built
+pub mod Templates
+pub mod Append
+pub mod Owners

@@ -1,10 +1,9 @@
 -- The number that bits spell, by their list and by their positions.
-use Rattle.std.proofs.Common.{◌≡◌, ℕ, zero, suc, ◌+◌, ◌*◌, ◌/◌, ◌%◌, ◌^◌, ◌<◌, Bool, true, false, List, [], ◌∷◌, map, refl, sym, ap, ◌∙◌, arith}
-use Rattle.std.specs.Prelude.{◌==◌, ◌&&◌, ◌||◌, count_by, sum_by, cond}
+use Rattle.std.proofs.Common.{◌≡◌, ℕ, zero, suc, ◌+◌, ◌*◌, ◌/◌, ◌%◌, Bool, true, false, List, [], ◌∷◌, map, refl, sym, ap, ◌∙◌, arith}
+use Rattle.std.specs.Prelude.{◌==◌, count_by, cond}
 use Rattle.std.specs.List.{range_with_len}
 use Rattle.std.proofs.lemmas.List.Sums.{sum_by-cons}
-use Rattle.std.proofs.Math.Nat.{pow-suc}
-use Rattle.op_text.specs.Values.{bit_number, value, bits, differ, both, bit_by_bit, ones_of}
+use Rattle.op_text.specs.Values.{value, bits, both, bit_by_bit, ones_of}
 use Rattle.word_lower.proofs.Setting.{bit, number}
 use Rattle.word_lower.proofs.Sums.{value_same, value_low}
 

@@ -1,5 +1,5 @@
 -- The places of a word statement lie apart: its rooms do, and its loop program's names.
-use Rattle.std.proofs.Common.{◌≡◌, ◌⊎◌, inl, inr, ℕ, zero, suc, ◌+◌, ◌-◌, ◌*◌, ◌<◌, ◌≤◌, Bool, true, false, List, [], ◌∷◌, ◌++◌, map, length, refl, sym, ap, ◌∙◌, subst, ⊎_elim, arith}
+use Rattle.std.proofs.Common.{◌≡◌, ◌⊎◌, inl, inr, ℕ, zero, suc, ◌+◌, ◌*◌, ◌<◌, ◌≤◌, Bool, true, false, List, [], ◌∷◌, ◌++◌, map, length, refl, sym, ap, ◌∙◌, subst, ⊎_elim, arith}
 use Rattle.std.proofs.lemmas.List.{length-map, length-append}
 use Rattle.op_text.specs.declared.tree.Kind.{Kind}
 use Rattle.op_text.specs.declared.tree.Kind.TheVariants.{Word, Bit}
@@ -9,9 +9,9 @@ use Rattle.loop_ir.specs.declared.ir.Space.TheVariants.{Result, Source, ScratchB
 use Rattle.loop_ir.specs.declared.names.Slot.{Slot}
 use Rattle.loop_ir.specs.Spots.{Spot, spot_in, IsOwn}
 use Rattle.loop_ir.specs.Statements.{holds_kind}
-use Rattle.loop_laws.specs.Rooms.{Room, room_at, row_in, extent, RoomsApart, IsOwned}
+use Rattle.loop_laws.specs.Rooms.{Room, room_at, row_in, extent, RoomsApart}
 use Rattle.word_lower.specs.Places.{rows_of, room_of, rooms_of, scratch_bit}
-use Rattle.word_lower.proofs.Setting.{Slots, row, SlotsApart, Moves, IsFree, AreSlots}
+use Rattle.word_lower.proofs.Setting.{Slots, SlotsApart, AreSlots}
 
 abbrev pub no_slot : Slot
 no_slot = record { space = Source; which = 0; kind = Bit }
@@ -99,7 +99,7 @@ module _ (n : ℕ) (t : Slot) (args scratch : List Slot) (are : Pieces n t args 
   }
 
 -- each row of a value is another
-moves_in : (n : ℕ) (s : Space) (which : ℕ) (k : Kind) → holds_kind s k ≡ true → (u v : ℕ) → u < width n k → v < width n k → spot_in n s which u ≡ spot_in n s which v → u ≡ v
+pub moves_in : (n : ℕ) (s : Space) (which : ℕ) (k : Kind) → holds_kind s k ≡ true → (u v : ℕ) → u < width n k → v < width n k → spot_in n s which u ≡ spot_in n s which v → u ≡ v
 moves_in n Result w k h u v lu lv e = ap (λ (q : Spot). q.index) e
 moves_in n Source w k h u v lu lv e = ap (λ (q : Spot). q.index) e
 moves_in n ScratchBit w Bit h u v lu lv e = omega arith

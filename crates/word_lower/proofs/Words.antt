@@ -1,32 +1,29 @@
 -- Operations that write each bit of a word without a carry, and the lesser and the greater.
-use Rattle.std.proofs.Common.{◌≡◌, ℕ, zero, suc, ◌+◌, ◌-◌, ◌*◌, ◌^◌, ◌%◌, ◌/◌, ◌<◌, Bool, true, false, not, cond, List, [], ◌∷◌, refl, sym, ap, ◌∙◌, subst, arith}
-use Rattle.std.specs.Prelude.{nat_lt, ◌&&◌, ◌==◌}
+use Rattle.std.proofs.Common.{◌≡◌, ℕ, suc, ◌+◌, ◌-◌, ◌*◌, ◌^◌, ◌<◌, Bool, true, false, not, cond, List, [], ◌∷◌, refl, sym, ap, ◌∙◌, subst, arith}
+use Rattle.std.specs.Prelude.{nat_lt, ◌==◌}
 use Rattle.bit_rows.specs.Bits.{majority}
 use Rattle.mig_graph.specs.declared.Lit.{Lit}
 use Rattle.mig_graph.specs.declared.Node.{Node}
 use Rattle.mig_graph.specs.Graph.{values_from}
-use Rattle.op_text.specs.declared.tree.Kind.TheVariants.{Word, Bit}
+use Rattle.op_text.specs.declared.tree.Kind.TheVariants.{Word}
 use Rattle.op_text.specs.declared.tree.WordOp.{WordOp}
 use Rattle.op_text.specs.declared.tree.WordOp.TheVariants as op
-use Rattle.loop_ir.specs.declared.ir.Sub.{Sub}
 use Rattle.loop_ir.specs.declared.ir.Sub.TheVariants as sub
 use Rattle.loop_ir.specs.declared.ir.Place.{Place}
 use Rattle.loop_ir.specs.declared.names.Slot.{Slot}
-use Rattle.loop_ir.specs.Plain.{Block, StepOf}
-use Rattle.loop_ir.specs.Plain.StepOf.{Single, Along}
-use Rattle.loop_ir.specs.Loops.{sub_value}
-use Rattle.loop_ir.specs.Spots.{Spot, Spots, set_spot, spot_at, nth_place, IsOwn}
-use Rattle.loop_laws.specs.Turns.{Origin, Standing, Carried, turn, IsLoop, after_many}
-use Rattle.loop_laws.specs.Rooms.{Marked, placed_body}
+use Rattle.loop_ir.specs.Plain.{Block}
+use Rattle.loop_ir.specs.Plain.StepOf.{Along}
+use Rattle.loop_ir.specs.Spots.{Spot, Spots, set_spot}
+use Rattle.loop_laws.specs.Turns.{Origin, Standing, Carried, turn, after_many}
+use Rattle.loop_laws.specs.Rooms.{placed_body}
 use Rattle.loop_laws.proofs.Same.{set_same, set_other}
-use Rattle.loop_laws.proofs.Loop.{loop_word, loop_state, loop_turns}
 use Rattle.loop_laws.proofs.Steps.{after_steps, steps_each}
-use Rattle.loop_laws.proofs.Placed.{AllBefore, ReadPlaces, loop_of}
+use Rattle.loop_laws.proofs.Placed.{AllBefore, ReadPlaces}
 use Rattle.word_lower.specs.Places.{scratch_bit}
-use Rattle.word_lower.specs.Programs.{on, target, first, second, third, plain, turned, off, up, constant, moved, inverted, joined, without, unlike, chosen, shifted, added, lessened, turned_by, compared, agreed}
-use Rattle.word_lower.proofs.Setting.{bit, number, operation, Slots, rooms_for, at, row, number_at, SlotsApart, Moves, IsFree, AreSlots, IsElsewhere, Gives, DoesWords, DoesBits}
+use Rattle.word_lower.specs.Programs.{target, first, second, third, plain, turned, off, up, constant, moved, inverted, joined, without, unlike, chosen, compared}
+use Rattle.word_lower.proofs.Setting.{bit, number, operation, Slots, rooms_for, at, row, number_at, SlotsApart, IsFree, AreSlots, Gives, DoesWords, DoesBits}
 use Rattle.op_text.specs.Values.{bits}
-use Rattle.word_lower.proofs.Linear.{bit_free, bit_else, state_body, state_loop, word_body, word_loop, upwards, set_number}
+use Rattle.word_lower.proofs.Passes.{bit_free, bit_else, state_body, state_loop, word_body, word_loop, upwards, set_number}
 use Rattle.word_lower.proofs.Sums.{value_same, value_false, value_pick, compare, xor2, pick}
 use Rattle.word_lower.proofs.Bitwise.{value_and, value_or, value_xor, value_inverted, value_true, relu_gives, least, greatest}
 

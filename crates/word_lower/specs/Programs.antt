@@ -1,5 +1,5 @@
 -- The loop programs of the word operations that take one pass over a word.
-use Rattle.std.specs.Prelude.{ℕ, ◌+◌, Bool, true, false, List, [], ◌∷◌, length}
+use Rattle.std.specs.Prelude.{ℕ, Bool, true, false, List, [], ◌∷◌, length}
 use Rattle.mig_graph.specs.declared.Lit.{Lit}
 use Rattle.mig_graph.specs.declared.Node.{Node}
 use Rattle.mig_graph.specs.Literals.{node_of}
@@ -7,6 +7,7 @@ use Rattle.op_text.specs.declared.tree.Kind.{Kind}
 use Rattle.op_text.specs.declared.tree.Kind.TheVariants.{Word, Bit}
 use Rattle.op_text.specs.declared.tree.WordOp.{WordOp}
 use Rattle.op_text.specs.declared.tree.WordOp.TheVariants as o
+use Rattle.op_text.specs.Language.{Statement, Compute, Visit}
 use Rattle.loop_ir.specs.declared.ir.Sub.{Sub}
 use Rattle.loop_ir.specs.declared.ir.Sub.TheVariants as sub
 use Rattle.loop_ir.specs.Plain.{StepOf}
@@ -113,6 +114,16 @@ abbrev pub spread : Kind → (Sub → Marked) → List (StepOf Marked)
 spread Word f = Along (f sub.Inner) ∷ []
 spread Bit f = Single (f sub.Zero) ∷ []
 
+-- the operations that take words or bits
+abbrev pub spreads : WordOp → Bool
+spreads o.Not = true
+spreads o.And = true
+spreads o.Or = true
+spreads o.Xor = true
+spreads o.Copy = true
+spreads o.IfElse = true
+spreads p = false
+
 -- The loop program of an operation. The kind is the target's
 abbrev pub program : WordOp → Kind → List (StepOf Marked)
 program o.Not k = spread k (λ u. inverted (first u) (target u))
@@ -152,3 +163,8 @@ is_linear o.Div = false
 is_linear o.Rem = false
 is_linear o.Bitcount = false
 is_linear p = true
+
+-- the statement is one of these
+abbrev pub is_linear_statement : Statement → Bool
+is_linear_statement (Compute target p args) = is_linear p
+is_linear_statement (Visit block) = false

@@ -1,5 +1,11 @@
-//! x
+//! Loop programs of the word operations that take one pass over a word.
 #![tactic(auto)]
+
+mod bodies;
 mod graphs;
+mod linear;
 mod shapes;
+mod table;
+
 pub use graphs::made;
+pub use linear::lower_linear;

@@ -10,52 +10,8 @@ use Rattle.mig_graph.specs.Outputs.{lit_at, AreNamed}
 use Rattle.loop_ir.specs.declared.ir.Place.{Place}
 use Rattle.loop_ir.specs.Plain.{Block}
 use Rattle.loop_ir.specs.Costs.{body_cost, is_copy, turn_cost}
-use Rattle.word_mul.specs.Bodies.{over, IsBuilt, are_lower, are_below}
-
-less_is : (a b : ℕ) → nat_lt a b ≡ true → a < b
-less_is a b e = grind arith
-
-pub all_lower : (k : ℕ) (nodes : List Node) → are_lower k nodes ≡ true → (j : ℕ) → j < length nodes → IsLower (k + j) (node_at nodes j)
-all_lower k [] e j lt = absurd (omega arith)
-all_lower k (n ∷ ns) e zero lt =
-    let a = and_parts (nat_lt n.a.node k && (nat_lt n.b.node k && nat_lt n.c.node k)) (are_lower (k + 1) ns) e in
-    let b = and_parts (nat_lt n.a.node k) (nat_lt n.b.node k && nat_lt n.c.node k) a.0 in
-    let c = and_parts (nat_lt n.b.node k) (nat_lt n.c.node k) b.1 in
-    let x = less_is n.a.node k b.0 in
-    let y = less_is n.b.node k c.0 in
-    let z = less_is n.c.node k c.1 in
-    (omega arith, omega arith, omega arith)
-all_lower k (n ∷ ns) e (suc j) lt =
-    let a = and_parts (nat_lt n.a.node k && (nat_lt n.b.node k && nat_lt n.c.node k)) (are_lower (k + 1) ns) e in
-    let f : k + 1 + j ≡ k + suc j = omega arith in
-    subst (λ x. IsLower x (node_at ns j)) f (all_lower (k + 1) ns a.1 j (omega arith))
-
-pub all_below : (k : ℕ) (ls : List Lit) → are_below k ls ≡ true → (j : ℕ) → j < length ls → (lit_at ls j).node < k
-all_below k [] e j lt = absurd (omega arith)
-all_below k (l ∷ ls) e zero lt = less_is l.node k (and_parts (nat_lt l.node k) (are_below k ls) e).0
-all_below k (l ∷ ls) e (suc j) lt = all_below k ls (and_parts (nat_lt l.node k) (are_below k ls) e).1 j (omega arith)
-
--- a body with no more nodes and the outputs of a copy costs no more
-pub turn_less : (b a : Block) → length b.graph.nodes ≤ length a.graph.nodes → length b.outs ≡ length a.outs → 0 < length a.outs → (length a.graph.nodes ≡ 0 → (j : ℕ) → j < length a.outs → lit_at b.outs j ≡ lit_at a.outs j) → turn_cost b ≤ turn_cost a
-turn_less b a few same some bare = ⊎_elim
-    (λ (h : is_copy a ≡ true).
-    let p = and_parts (length a.graph.nodes == 0) ((length a.outs == 1) && not (is_turned (lit_at a.outs 0))) h in
-    let q = and_parts (length a.outs == 1) (not (is_turned (lit_at a.outs 0))) p.1 in
-    let none : length a.graph.nodes ≡ 0 = eqb-true (length a.graph.nodes) 0 p.0 in
-    let one : length a.outs ≡ 1 = eqb-true (length a.outs) 1 q.0 in
-    let c : is_copy b ≡ true = and_from (length b.graph.nodes == 0) ((length b.outs == 1) && not (is_turned (lit_at b.outs 0))) (eq-eqb (length b.graph.nodes) 0 (omega arith)) (and_from (length b.outs == 1) (not (is_turned (lit_at b.outs 0))) (eq-eqb (length b.outs) 1 (omega arith)) (ap (λ l. not (is_turned l)) (bare none 0 some) ∙ q.1)) in
-    let x : turn_cost a ≡ 1 = ap (λ z. cond z 1 (body_cost a)) h in
-    let y : turn_cost b ≡ 1 = ap (λ z. cond z 1 (body_cost b)) c in
-    omega (arith, x, y))
-    (λ (h : is_copy a ≡ false).
-    let x : turn_cost a ≡ body_cost a = ap (λ z. cond z 1 (body_cost a)) h in
-    let y : turn_cost b ≤ body_cost b = at_most (is_copy b) (body_cost b) (omega arith) in
-    omega (arith, x, y))
-    (cases_Bool (is_copy a))
-  where
-    at_most : (z : Bool) (k : ℕ) → 1 ≤ k → cond z 1 k ≤ k
-    at_most true k h = h
-    at_most false k h = omega arith
+use Rattle.word_lower.proofs.Templates.{turn_less}
+use Rattle.word_mul.specs.Bodies.{over, IsBuilt}
 
 pub built : (reads writes rp wp : List Place) (nodes : List Node) (outs lits : List Lit) (g : Graph)
     → rp ≡ reads → wp ≡ writes → g.inputs ≡ length reads → length lits ≡ length outs

@@ -28,12 +28,3 @@ pub record PartsBuilt (ps qs : List (InnerOf Block)) : Type 0 where
 pub record StepsBuilt (ss ts : List (StepOf Block)) : Type 0 where
   pub like : LikeSteps ss ts
   pub made : AllParts IsMade ss
-
--- each node reads lower nodes, where the first has the number k
-abbrev pub are_lower : ℕ → List Node → Bool
-are_lower k [] = true
-are_lower k (n ∷ ns) = (nat_lt n.a.node k && (nat_lt n.b.node k && nat_lt n.c.node k)) && are_lower (k + 1) ns
-
-abbrev pub are_below : ℕ → List Lit → Bool
-are_below k [] = true
-are_below k (l ∷ ls) = nat_lt l.node k && are_below k ls

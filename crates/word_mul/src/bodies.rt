@@ -5,7 +5,8 @@ ghost use Rattle.mig_graph.specs.Literals.{node_of};
 ghost use Rattle.loop_ir.specs.Plain.{block_of};
 ghost use Rattle.word_lower.specs.Programs.{plain, turned, up};
 ghost use Rattle.word_mul.specs.Programs.{multiplied_nodes, counted_nodes, divided_nodes};
-ghost use Rattle.word_mul.specs.Bodies.{over, IsBuilt, are_lower, are_below};
+ghost use Rattle.word_lower.specs.Shapes.{are_lower, are_below};
+ghost use Rattle.word_mul.specs.Bodies.{over, IsBuilt};
 
 use loop_ir::{Body, Place};
 use mig_graph::{Lit, NoMemory, Node};

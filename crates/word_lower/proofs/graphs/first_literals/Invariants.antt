@@ -1,4 +1,4 @@
-use Rattle.std.proofs.Common.{◌≡◌, ◌<◌, ◌+◌, ℕ, length}
+use Rattle.std.proofs.Common.{◌≡◌, ◌<◌, ℕ, length}
 use Rattle.mig_graph.specs.Outputs.{lit_at}
 use Rattle.word_lower.specs.Programs.{plain}
 use Rattle.word_lower.proofs.graphs.first_literals.Given as goal

@@ -1,4 +1,4 @@
-use Rattle.std.proofs.Common.{◌≡◌, ◌<◌, ℕ, Bool, length, ◌∙◌, ap, arith}
+use Rattle.std.proofs.Common.{◌∙◌, ap, arith}
 use Rattle.bit_rows.specs.Bits.{flip_if}
 use Rattle.mig_graph.specs.Outputs.{lit_at}
 use Rattle.word_lower.proofs.Built.{turned_value}

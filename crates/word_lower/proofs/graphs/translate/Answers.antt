@@ -1,8 +1,7 @@
-use Rattle.std.proofs.Common.{◌≡◌, ◌<◌, ◌≤◌, ◌+◌, ◌++◌, ◌∷◌, [], ℕ, Bool, length, length-append, ◌∙◌, sym, ap, arith}
+use Rattle.std.proofs.Common.{◌∷◌, [], length, length-append, ◌∙◌, ap, arith}
 use Rattle.mig_graph.specs.declared.Lit.{Lit}
-use Rattle.mig_graph.specs.Graph.{Graph, size_of}
+use Rattle.mig_graph.specs.Graph.{Graph}
 use Rattle.mig_graph.specs.Outputs.{lit_at}
-use Rattle.word_lower.specs.Programs.{plain}
 use Rattle.word_lower.proofs.Built.{first_value, values_more, named_more}
 use Rattle.word_lower.proofs.graphs.translate.Goals as goal
 

@@ -1,5 +1,5 @@
 use Rattle.std.proofs.Common.{◌≡◌, ◌≤◌, ◌<◌, ◌+◌, ℕ, Bool, length}
-use Rattle.mig_graph.specs.Graph.{IsGraph, size_of, value, values}
+use Rattle.mig_graph.specs.Graph.{size_of, value, values}
 use Rattle.mig_graph.specs.Outputs.{lit_at}
 use Rattle.word_lower.specs.Programs.{plain}
 use Rattle.word_lower.proofs.graphs.translate.Given as goal

@@ -1,30 +1,21 @@
 -- Operations of one loop with a carry.
-use Rattle.std.proofs.Common.{◌≡◌, ℕ, zero, suc, ◌+◌, ◌-◌, ◌*◌, ◌^◌, ◌%◌, ◌/◌, ◌<◌, Bool, true, false, not, cond, List, [], ◌∷◌, refl, sym, ap, ◌∙◌, subst, arith}
-use Rattle.std.specs.Prelude.{nat_lt, ◌&&◌, ◌==◌}
-use Rattle.bit_rows.specs.Bits.{majority}
+use Rattle.std.proofs.Common.{◌≡◌, ℕ, zero, suc, ◌-◌, ◌<◌, Bool, List, [], ◌∷◌, refl, sym, ap, ◌∙◌, arith}
 use Rattle.mig_graph.specs.declared.Lit.{Lit}
 use Rattle.mig_graph.specs.declared.Node.{Node}
-use Rattle.mig_graph.specs.Graph.{values_from}
-use Rattle.op_text.specs.declared.tree.Kind.TheVariants.{Word, Bit}
 use Rattle.op_text.specs.declared.tree.WordOp.{WordOp}
-use Rattle.op_text.specs.declared.tree.WordOp.TheVariants as op
 use Rattle.loop_ir.specs.declared.ir.Sub.{Sub}
 use Rattle.loop_ir.specs.declared.ir.Sub.TheVariants as sub
 use Rattle.loop_ir.specs.declared.ir.Place.{Place}
 use Rattle.loop_ir.specs.declared.names.Slot.{Slot}
-use Rattle.loop_ir.specs.Plain.{Block, StepOf}
-use Rattle.loop_ir.specs.Plain.StepOf.{Single, Along}
+use Rattle.loop_ir.specs.Plain.{Block}
 use Rattle.loop_ir.specs.Loops.{sub_value}
 use Rattle.loop_ir.specs.Spots.{Spot, Spots, set_spot, spot_at, nth_place, IsOwn}
-use Rattle.loop_laws.specs.Turns.{Origin, Standing, Carried, turn, IsLoop, after_many}
-use Rattle.loop_laws.specs.Rooms.{Marked, placed_body}
-use Rattle.loop_laws.proofs.Same.{set_same, set_other}
+use Rattle.loop_laws.specs.Turns.{Origin, turn, IsLoop, after_many}
+use Rattle.loop_laws.proofs.Same.{set_other}
 use Rattle.loop_laws.proofs.Loop.{loop_word, loop_state, loop_turns}
-use Rattle.loop_laws.proofs.Steps.{after_steps, steps_each}
-use Rattle.loop_laws.proofs.Placed.{AllBefore, ReadPlaces, loop_of}
+use Rattle.loop_laws.proofs.Placed.{ReadPlaces, loop_of}
 use Rattle.word_lower.specs.Places.{scratch_bit}
-use Rattle.word_lower.specs.Programs.{on, target, first, second, third, plain, turned, off, up, constant, moved, inverted, joined, without, unlike, chosen, shifted, added, lessened, turned_by, compared, agreed}
-use Rattle.word_lower.proofs.Setting.{bit, number, operation, Slots, rooms_for, at, row, number_at, SlotsApart, Moves, IsFree, AreSlots, IsElsewhere, Gives, DoesWords, DoesBits}
+use Rattle.word_lower.proofs.Setting.{number, operation, Slots, at, row, number_at, SlotsApart, Moves, IsFree, AreSlots, IsElsewhere, Gives}
 use Rattle.word_lower.proofs.Sums.{value_same}
 
 pub bit_free : (n k l bits : ℕ) (m : Slots) → AreSlots n k l (suc bits) m → IsFree n k l m (scratch_bit m.free_bit) 1

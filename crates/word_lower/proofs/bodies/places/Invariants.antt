@@ -1,0 +1,9 @@
+use Rattle.std.proofs.Common.{◌≡◌, map, take}
+use Rattle.word_lower.specs.Shapes.{mark_of, place_on}
+use Rattle.word_lower.proofs.bodies.places.Given as goal
+
+-- the places so far
+abbrev pub invariant-loop-mark : goal.invariant-loop-mark
+invariant-loop-mark l = record {
+  made : l.all.items ≡ map (λ m. place_on l.owners (mark_of m)) (take l.mark-index l.marks);
+}

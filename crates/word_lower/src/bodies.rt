@@ -1,0 +1,401 @@
+//! Bodies and steps of loop programs.
+
+ghost use Rattle.std.specs.Prelude.{◌≡◌, ◌<◌, ◌≤◌, ◌+◌, ◌++◌, ◌∷◌, [], ℕ, List, length, map, IfOk, OnOk, Some, None, true};
+ghost use Rattle.loop_ir.specs.Plain.{block_of, step_of, steps_of};
+ghost use Rattle.loop_ir.specs.Like.{IsLike, LikeSteps};
+ghost use Rattle.loop_ir.specs.Plain.{Block, StepOf, AllParts, AllStep, step_map};
+ghost use Rattle.loop_laws.specs.Forms.{IsMade};
+ghost use Rattle.word_lower.specs.Programs.{template};
+ghost use Rattle.word_lower.specs.Shapes.{mark_of, marks, shape_body, line_step, lines_steps, place_on, body_on, program_on, are_lower, are_below};
+
+use crate::graphs::made;
+use crate::shapes::{Line, Mark, Owner, Owners, Shape};
+use loop_ir::{Body, LoopProgram, Place, Step};
+use mig_graph::{Lit, NoMemory, Node};
+use std::alloc::Global;
+
+// the constants, and the literals of nodes, plain and inverted
+const OFF: Lit = Lit {
+    node: 0,
+    inverted: false,
+};
+
+const ON: Lit = Lit {
+    node: 0,
+    inverted: true,
+};
+
+const P1: Lit = Lit {
+    node: 1,
+    inverted: false,
+};
+
+const P2: Lit = Lit {
+    node: 2,
+    inverted: false,
+};
+
+const P3: Lit = Lit {
+    node: 3,
+    inverted: false,
+};
+
+const P4: Lit = Lit {
+    node: 4,
+    inverted: false,
+};
+
+const P5: Lit = Lit {
+    node: 5,
+    inverted: false,
+};
+
+const P6: Lit = Lit {
+    node: 6,
+    inverted: false,
+};
+
+const P7: Lit = Lit {
+    node: 7,
+    inverted: false,
+};
+
+const P8: Lit = Lit {
+    node: 8,
+    inverted: false,
+};
+
+const P9: Lit = Lit {
+    node: 9,
+    inverted: false,
+};
+
+const N1: Lit = Lit {
+    node: 1,
+    inverted: true,
+};
+
+const N2: Lit = Lit {
+    node: 2,
+    inverted: true,
+};
+
+const N3: Lit = Lit {
+    node: 3,
+    inverted: true,
+};
+
+const N4: Lit = Lit {
+    node: 4,
+    inverted: true,
+};
+
+const N5: Lit = Lit {
+    node: 5,
+    inverted: true,
+};
+
+const N6: Lit = Lit {
+    node: 6,
+    inverted: true,
+};
+
+const N7: Lit = Lit {
+    node: 7,
+    inverted: true,
+};
+
+/// The place of a mark.
+fn place(mark: Mark, owners: Owners) -> Place
+    ensures { result ≡ place_on owners (mark_of mark) }
+{
+    let slot = match mark.owner {
+        Owner::Target => owners.target,
+        Owner::First => owners.first,
+        Owner::Second => owners.second,
+        Owner::Third => owners.third,
+    };
+    Place {
+        space: slot.space,
+        which: slot.which,
+        sub: mark.sub,
+    }
+}
+
+fn keep_place(places: &mut Vec<Place>, p: Place) -> Result<(), NoMemory>
+    ensures { OnOk result (places.new.items ≡ places.old.items ++ p ∷ []) }
+{
+    match places.push(p) {
+        Ok(()) => Ok(()),
+        Err(_) => Err(NoMemory),
+    }
+}
+
+/// The places of marks.
+fn places(marks: &[Mark], owners: Owners, alloc: Global) -> Result<Vec<Place>, NoMemory>
+    ensures { IfOk result (λ v. v.items ≡ map (λ m. place_on owners (mark_of m)) marks.now) }
+{
+    let mut all = Vec::new(alloc);
+    for mark in marks {
+        keep_place(&mut all, place(*mark, owners))?;
+    }
+    Ok(all)
+}
+
+/// A body like the one of a template: its nodes over the reads, and its outputs.
+fn templated(
+    reads: &[Mark],
+    nodes: &[Node],
+    outs: &[Lit],
+    writes: &[Mark],
+    owners: Owners,
+    alloc: Global,
+) -> Result<Body, NoMemory>
+    requires reads { length reads.now ≤ 3 }
+    requires nodes { length nodes.now ≤ 6 }
+    requires outs { 0 < length outs.now }
+    requires lower { are_lower (length reads.now + 1) nodes.now ≡ true }
+    requires named { are_below (length reads.now + 1 + length nodes.now) outs.now ≡ true }
+    ensures like { IfOk result (λ b. IsLike (block_of b) (body_on owners (template (marks reads.now) nodes.now outs.now (marks writes.now)))) }
+    ensures made { IfOk result (λ b. IsMade (block_of b)) }
+{
+    Ok(Body {
+        reads: places(reads, owners, alloc)?,
+        graph: made(reads.len() as u8, nodes, outs, alloc)?,
+        writes: places(writes, owners, alloc)?,
+    })
+}
+
+// the nodes of the templates
+const BOTH: [Node; 1] = [Node {
+    a: OFF,
+    b: P1,
+    c: P2,
+}];
+
+const EITHER: [Node; 1] = [Node {
+    a: ON,
+    b: P1,
+    c: P2,
+}];
+
+const WITHOUT: [Node; 1] = [Node {
+    a: OFF,
+    b: P1,
+    c: N2,
+}];
+
+const UNLIKE: [Node; 3] = [
+    Node {
+        a: OFF,
+        b: P1,
+        c: P2,
+    },
+    Node {
+        a: ON,
+        b: P1,
+        c: P2,
+    },
+    Node {
+        a: OFF,
+        b: N3,
+        c: P4,
+    },
+];
+
+const CHOSEN: [Node; 3] = [
+    Node {
+        a: OFF,
+        b: P1,
+        c: P3,
+    },
+    Node {
+        a: OFF,
+        b: P2,
+        c: N3,
+    },
+    Node {
+        a: ON,
+        b: P4,
+        c: P5,
+    },
+];
+
+const ADDED: [Node; 3] = [
+    Node {
+        a: P1,
+        b: P2,
+        c: P3,
+    },
+    Node {
+        a: P1,
+        b: P2,
+        c: N3,
+    },
+    Node {
+        a: P3,
+        b: N4,
+        c: P5,
+    },
+];
+
+const LESSENED: [Node; 3] = [
+    Node {
+        a: P1,
+        b: N2,
+        c: P3,
+    },
+    Node {
+        a: P1,
+        b: P2,
+        c: P3,
+    },
+    Node {
+        a: P2,
+        b: P4,
+        c: N5,
+    },
+];
+
+const TURNED_BY: [Node; 6] = [
+    Node {
+        a: OFF,
+        b: P1,
+        c: P2,
+    },
+    Node {
+        a: ON,
+        b: P1,
+        c: P2,
+    },
+    Node {
+        a: OFF,
+        b: N4,
+        c: P5,
+    },
+    Node {
+        a: OFF,
+        b: P6,
+        c: P3,
+    },
+    Node {
+        a: ON,
+        b: P6,
+        c: P3,
+    },
+    Node {
+        a: OFF,
+        b: N7,
+        c: P8,
+    },
+];
+
+const COMPARED: [Node; 1] = [Node {
+    a: P1,
+    b: N2,
+    c: P3,
+}];
+
+const AGREED: [Node; 4] = [
+    Node {
+        a: OFF,
+        b: P1,
+        c: P2,
+    },
+    Node {
+        a: ON,
+        b: P1,
+        c: P2,
+    },
+    Node {
+        a: ON,
+        b: P4,
+        c: N5,
+    },
+    Node {
+        a: OFF,
+        b: P3,
+        c: P6,
+    },
+];
+
+/// The body of a shape.
+fn body(shape: Shape, owners: Owners, alloc: Global) -> Result<Body, NoMemory>
+    ensures like { IfOk result (λ b. IsLike (block_of b) (body_on owners (shape_body shape))) }
+    ensures made { IfOk result (λ b. IsMade (block_of b)) }
+{
+    let (o, a) = (owners, alloc);
+    match shape {
+        Shape::Off(z) => templated(&[], &[], &[OFF], &[z], o, a),
+        Shape::On(z) => templated(&[], &[], &[ON], &[z], o, a),
+        Shape::Moved(x, z) => templated(&[x], &[], &[P1], &[z], o, a),
+        Shape::Inverted(x, z) => templated(&[x], &[], &[N1], &[z], o, a),
+        Shape::Both(x, y, z) => templated(&[x, y], &BOTH, &[P3], &[z], o, a),
+        Shape::Either(x, y, z) => templated(&[x, y], &EITHER, &[P3], &[z], o, a),
+        Shape::Without(x, y, z) => templated(&[x, y], &WITHOUT, &[P3], &[z], o, a),
+        Shape::Unlike(x, y, z) => templated(&[x, y], &UNLIKE, &[P5], &[z], o, a),
+        Shape::Chosen(x, y, s, z) => templated(&[x, y, s], &CHOSEN, &[P6], &[z], o, a),
+        Shape::Shifted(x, c, z) => templated(&[x, c], &[], &[P2, P1], &[z, c], o, a),
+        Shape::Added(x, y, c, z) => templated(&[x, y, c], &ADDED, &[P6, P4], &[z, c], o, a),
+        Shape::Lessened(x, y, c, z) => templated(&[x, y, c], &LESSENED, &[N6, P4], &[z, c], o, a),
+        Shape::TurnedBy(x, t, c, z) => templated(&[x, t, c], &TURNED_BY, &[P9, P7], &[z, c], o, a),
+        Shape::Compared(x, y, g) => templated(&[x, y, g], &COMPARED, &[P4], &[g], o, a),
+        Shape::Agreed(x, y, e) => templated(&[x, y, e], &AGREED, &[P7], &[e], o, a),
+    }
+}
+
+/// The step of a line.
+fn step(line: Line, owners: Owners, alloc: Global) -> Result<Step, NoMemory>
+    ensures like { IfOk result (λ s. LikeSteps (step_of s ∷ []) (program_on owners (line_step line ∷ []))) }
+    ensures made { IfOk result (λ s. AllStep IsMade (step_of s)) }
+{
+    match line {
+        Line::Once(shape) => Ok(Step::Once(body(shape, owners, alloc)?)),
+        Line::Each(shape) => Ok(Step::Each(body(shape, owners, alloc)?)),
+    }
+}
+
+fn push_step(steps: &mut Vec<Step>, s: Step) -> Result<(), NoMemory>
+    ensures { OnOk result (steps.new.items ≡ steps.old.items ++ s ∷ []) }
+{
+    match steps.push(s) {
+        Ok(()) => Ok(()),
+        Err(_) => Err(NoMemory),
+    }
+}
+
+/// One more step, where there is a line.
+fn add_step(
+    steps: &mut Vec<Step>,
+    line: Option<Line>,
+    owners: Owners,
+    alloc: Global,
+) -> Result<(), NoMemory>
+    ensures like { OnOk result ((ts : List (StepOf Block)) → LikeSteps (map step_of steps.old.items) ts → LikeSteps (map step_of steps.new.items) (ts ++ program_on owners (lines_steps (line ∷ [])))) }
+    ensures made { OnOk result (AllParts IsMade (map step_of steps.old.items) → AllParts IsMade (map step_of steps.new.items)) }
+{
+    match line {
+        None => Ok(()),
+        Some(l) => {
+            let s = step(l, owners, alloc)?;
+            push_step(steps, s)?;
+            Ok(())
+        }
+    }
+}
+
+/// The program of lines.
+pub fn program(
+    lines: &[Option<Line>],
+    owners: Owners,
+    alloc: Global,
+) -> Result<LoopProgram, NoMemory>
+    ensures like { IfOk result (λ p. LikeSteps (steps_of p) (program_on owners (lines_steps lines.now))) }
+    ensures made { IfOk result (λ p. AllParts IsMade (steps_of p)) }
+{
+    let mut steps = Vec::new(alloc);
+    for line in lines {
+        add_step(&mut steps, *line, owners, alloc)?;
+    }
+    Ok(LoopProgram { steps })
+}

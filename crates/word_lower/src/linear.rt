@@ -1,0 +1,82 @@
+//! The lowering of statements that take one pass.
+
+ghost use Rattle.std.specs.Prelude.{◌≡◌, ℕ, List, map, IfOk, Some, true};
+ghost use Rattle.op_text.specs.Language.{statement};
+ghost use Rattle.loop_ir.specs.declared.names.Slot.{Slot};
+ghost use Rattle.loop_ir.specs.Plain.{steps_of};
+ghost use Rattle.loop_ir.specs.Statements.{slots_of, StatementMeets, IsPlaced};
+ghost use Rattle.loop_ir.specs.Lowered.{IsLowered};
+ghost use Rattle.word_lower.specs.Places.{AreAt, scratch_bit};
+ghost use Rattle.word_lower.specs.Programs.{is_linear_statement};
+ghost use Rattle.word_lower.specs.Shapes.{behind, owners_of};
+
+use crate::bodies::program;
+use crate::shapes::Owners;
+use crate::table::lines;
+use loop_ir::{LoopProgram, NameMap, Slot, Space};
+use mig_graph::NoMemory;
+use op_text::{Kind, Stmt};
+use std::alloc::Global;
+use text_lex::Name;
+
+/// The place of a name, or the first free bit of scratch.
+fn slot_of(names: &NameMap, name: &Name) -> Slot
+    ensures { (s : Slot) → slots_of names.now name.now ≡ Some s → result ≡ s }
+{
+    match names.slots.get(name).copied() {
+        Some(slot) => slot,
+        None => free_bit(names),
+    }
+}
+
+fn free_bit(names: &NameMap) -> Slot
+    ensures { result ≡ scratch_bit names.now.free_bit }
+{
+    Slot {
+        space: Space::ScratchBit,
+        which: names.free_bit,
+        kind: Kind::Bit,
+    }
+}
+
+/// The place of an argument, or behind the arguments that of the first free bit of scratch.
+fn owner(names: &NameMap, args: &[Name], k: usize) -> Slot
+    ensures { (ss : List Slot) → AreAt (slots_of names.now) args.now ss → result ≡ behind ss names.now.free_bit k }
+{
+    if k < args.len() {
+        slot_of(names, &args[k])
+    } else {
+        free_bit(names)
+    }
+}
+
+/// The places of a statement's names.
+fn owners(names: &NameMap, target: &Name, args: &[Name]) -> Owners
+    ensures { (t : Slot) (ss : List Slot) → slots_of names.now target.now ≡ Some t → AreAt (slots_of names.now) args.now ss → result ≡ owners_of t ss names.now.free_bit }
+{
+    Owners {
+        target: slot_of(names, target),
+        first: owner(names, args, 0),
+        second: owner(names, args, 1),
+        third: owner(names, args, 2),
+    }
+}
+
+/// The loop program of a word operation that takes one pass over a word.
+pub fn lower_linear(s: &Stmt, names: &NameMap, alloc: Global) -> Result<LoopProgram, NoMemory>
+    requires meets { StatementMeets (slots_of names.now) (statement s.now) }
+    requires placed { IsPlaced (slots_of names.now) names.now.free_bit names.now.free_word (statement s.now) }
+    requires linear { is_linear_statement (statement s.now) ≡ true }
+    ensures { IfOk result (λ p. IsLowered (slots_of names.now) names.now.free_bit names.now.free_word (statement s.now) (steps_of p)) }
+{
+    match s {
+        Stmt::Word { dst, op, args } => {
+            let owners = owners(names, dst, args);
+            let p = program(&lines(*op, owners.target.kind), owners, alloc)?;
+            Ok(p)
+        }
+        Stmt::Serial { .. } => Ok(LoopProgram {
+            steps: Vec::new(alloc),
+        }),
+    }
+}
