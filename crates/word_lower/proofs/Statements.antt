@@ -40,7 +40,7 @@ record OnePlace (s t : Space) (w x : ℕ) : Type 0 where
   space : s ≡ t
   which : w ≡ x
 
-space_is : (n : ℕ) (s : Space) (w v : ℕ) → (spot_in n s w v).space ≡ s
+pub space_is : (n : ℕ) (s : Space) (w v : ℕ) → (spot_in n s w v).space ≡ s
 space_is n Result w v = refl
 space_is n Source w v = refl
 space_is n ScratchBit w v = refl

@@ -20,7 +20,7 @@ use Rattle.loop_laws.proofs.Placed.{loop_of, space_other}
 use Rattle.word_lower.specs.Places.{scratch_bit}
 use Rattle.word_lower.specs.Programs.{second, third, plain, compared}
 use Rattle.word_lower.proofs.Setting.{bit, number, row, number_at}
-use Rattle.word_lower.proofs.Linear.{state_loop}
+use Rattle.word_lower.proofs.Passes.{state_loop}
 use Rattle.word_lower.proofs.Sums.{value_same, value_below, compare, less_two}
 use Rattle.word_lower.proofs.Carries.{lessened_digit}
 use Rattle.word_mul.specs.Programs.{fourth, fifth, divided, division}

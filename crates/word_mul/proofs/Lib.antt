@@ -5,3 +5,6 @@ pub mod Divide
 pub mod Quotient
 pub mod Templates
 pub mod Parts
+pub mod Clear
+pub mod Nested
+pub mod Whole

@@ -22,7 +22,7 @@ use Rattle.loop_laws.proofs.Placed.{loop_of}
 use Rattle.word_lower.specs.Places.{scratch_bit}
 use Rattle.word_lower.specs.Programs.{target, first, second, third, off, constant, moved}
 use Rattle.word_lower.proofs.Setting.{bit, number, at, row, number_at, SlotsApart}
-use Rattle.word_lower.proofs.Linear.{word_loop, upwards}
+use Rattle.word_lower.proofs.Passes.{word_loop, upwards}
 use Rattle.word_lower.proofs.Sums.{value_same, value_below, value_false, sum_two, carry_sum, digits_one, last_sum}
 use Rattle.word_lower.proofs.Carries.{added_digit}
 use Rattle.word_lower.proofs.Lists.{ones_of_none, ones_of_more}

@@ -21,7 +21,7 @@ use Rattle.loop_laws.proofs.Steps.{steps_each, steps_nest, after_parts, after_ou
 use Rattle.word_lower.specs.Places.{scratch_bit}
 use Rattle.word_lower.specs.Programs.{target, first, third, plain, off, constant, moved}
 use Rattle.word_lower.proofs.Setting.{bit, number, row, number_at}
-use Rattle.word_lower.proofs.Linear.{word_loop, upwards}
+use Rattle.word_lower.proofs.Passes.{word_loop, upwards}
 use Rattle.word_lower.proofs.Sums.{value_same, value_below, value_false, value_low}
 use Rattle.word_mul.specs.Programs.{fifth}
 use Rattle.word_mul.specs.declared.rows.Rows.{Rows}

@@ -1,5 +1,5 @@
 -- The loop programs of the word operations that take a pass over a word for each position.
-use Rattle.std.specs.Prelude.{ℕ, ◌+◌, ◌*◌, ◌^◌, ◌≡◌, Bool, true, false, List, [], ◌∷◌, ◌++◌}
+use Rattle.std.specs.Prelude.{ℕ, ◌+◌, ◌*◌, ◌^◌, Bool, true, false, List, [], ◌∷◌, ◌++◌}
 use Rattle.mig_graph.specs.declared.Node.{Node}
 use Rattle.mig_graph.specs.Literals.{node_of}
 use Rattle.op_text.specs.declared.tree.WordOp.{WordOp}
@@ -76,9 +76,10 @@ is_nested o.Rem = true
 is_nested o.Bitcount = true
 is_nested p = false
 
-abbrev pub IsNested : Statement → Type 0
-IsNested (Compute target p args) = is_nested p ≡ true
-IsNested (Visit block) = ⊥
+-- the statement is one of these
+abbrev pub is_nested_statement : Statement → Bool
+is_nested_statement (Compute target p args) = is_nested p
+is_nested_statement (Visit block) = false
 
 -- the commands of its loop program at width n
 abbrev pub nested_total : WordOp → ℕ → ℕ
@@ -87,3 +88,7 @@ nested_total o.Div n = 29 * n ^ 2 + 12 * n
 nested_total o.Rem n = 29 * n ^ 2 + 12 * n
 nested_total o.Bitcount n = 18 * n ^ 2 + 2 * n
 nested_total p n = 0
+
+abbrev pub statement_total : Statement → ℕ → ℕ
+statement_total (Compute target p args) n = nested_total p n
+statement_total (Visit block) n = 0

@@ -2,5 +2,8 @@
 #![tactic(auto)]
 
 mod bodies;
+mod lower;
 mod programs;
 mod rows;
+
+pub use lower::lower_nested;
