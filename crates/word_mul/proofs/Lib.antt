@@ -8,3 +8,4 @@ pub mod Parts
 pub mod Clear
 pub mod Nested
 pub mod Whole
+pub mod Sides

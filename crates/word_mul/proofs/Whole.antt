@@ -18,7 +18,7 @@ use Rattle.loop_ir.specs.Plain.{Block, StepOf}
 use Rattle.loop_ir.specs.Loops.{all_rounds}
 use Rattle.loop_ir.specs.Spots.{Spot, Spots, spot_in, after_rounds}
 use Rattle.loop_ir.specs.Costs.{rounds_cost}
-use Rattle.loop_ir.specs.Statements.{Slots, statement_names, IsPlaced, ComputeMeets}
+use Rattle.loop_ir.specs.Statements.{Slots, statement_names, IsPlaced, ComputeMeets, StatementMeets}
 use Rattle.loop_ir.specs.Lowered.{slot_bits, HoldsAt, Holds, IsStatementRow, Does, IsLowered}
 use Rattle.loop_laws.specs.Rooms.{IsOwned}
 use Rattle.loop_laws.specs.Forms.{HasForm}
@@ -30,9 +30,10 @@ use Rattle.word_lower.specs.Places.{rooms_of, scratch_from, AreAt}
 use Rattle.word_lower.proofs.Pieces.{slot_at}
 use Rattle.word_lower.proofs.Operations.{slots_width, slot}
 use Rattle.word_lower.proofs.Filled.{filled_word, filled_words, slot_is, one_slot, no_slots}
-use Rattle.word_lower.proofs.Statements.{name_at, at_place, same_name, among_target, among_arg, written, holds, pieces, row_of, form_filled, held_args, held_kinds, held_numbers, held_width, named_width}
+use Rattle.word_lower.proofs.Statements.{name_at, at_place, same_name, among_target, among_arg, written, holds, pieces, row_of, form_filled, held_args, held_kinds, held_numbers, held_width, named_width, Places, places_of}
+use Rattle.word_mul.specs.declared.rows.Rows.{Rows}
 use Rattle.word_mul.specs.Places.{rooms_for, steps_for, rows_on}
-use Rattle.word_mul.specs.Programs.{nested, is_nested, nested_total}
+use Rattle.word_mul.specs.Programs.{nested, is_nested, is_nested_statement, nested_total, statement_total}
 use Rattle.word_mul.specs.Bodies.{StepsBuilt}
 use Rattle.word_mul.proofs.Clear.{WordsClear, word_clear}
 use Rattle.word_mul.proofs.Nested.{DoesOp, Lowers, on_mul, on_div, on_rem, on_bitcount}
@@ -169,3 +170,32 @@ module _ (slots : Slots) (free_bit free_word : ℕ) (target : List ℕ) (p : Wor
           does = λ n some most. does n some;
           cheap = λ n some most. (let a = few n in let b = lowers.cheap n in let w = ap (op_ceiling p) (named_width n slots args ss at) in omega (arith, a, b, w));
         }
+
+-- a program that is built on the statement's rows does it
+module _ (slots : Slots) (free_bit free_word : ℕ) (s : Statement) (target : List ℕ) (p : WordOp) (args : List (List ℕ)) (e : s ≡ Compute target p args) (nested_one : is_nested_statement s ≡ true) (meets : StatementMeets slots s) (placed : IsPlaced slots free_bit free_word s) where
+  word_meets : ComputeMeets slots target p args
+  word_meets = subst (StatementMeets slots) e meets
+
+  word_placed : IsPlaced slots free_bit free_word (Compute target p args)
+  word_placed = subst (IsPlaced slots free_bit free_word) e placed
+
+  word_nested : is_nested p ≡ true
+  word_nested = subst (λ x. is_nested_statement x ≡ true) e nested_one
+
+  found_args : Places slots args
+  found_args = places_of slots args word_meets.kinds word_meets.have
+
+  module _ (m : Rows) (on : (t : Slot) (ss : List Slot) → slots target ≡ Some t → AreAt slots args ss → m ≡ rows_on t ss free_bit free_word) where
+    m_is : m ≡ rows_on word_meets.gives.slot found_args.list free_bit free_word
+    m_is = on word_meets.gives.slot found_args.list word_meets.gives.found found_args.at
+
+    pub has_bits : m.free_bit + bits_inside p ≤ 256
+    has_bits = subst (λ (m : Rows). m.free_bit + bits_inside p ≤ 256) (sym m_is) word_placed.bits
+
+    pub statement_lowered : (steps : List (StepOf Block)) → StepsBuilt steps (steps_for p m) → IsLowered slots free_bit free_word s steps
+    statement_lowered steps built = subst (λ x. IsLowered slots free_bit free_word x steps) (sym e)
+        (lowered slots free_bit free_word target p args word_nested word_meets word_placed word_meets.gives.slot word_meets.gives.found found_args.list found_args.at steps (subst (λ m. StepsBuilt steps (steps_for p m)) m_is built))
+
+    pub statement_few : (steps : List (StepOf Block)) → StepsBuilt steps (steps_for p m) → (n : ℕ) → rounds_cost (all_rounds n steps) ≤ statement_total s n
+    statement_few steps built n = subst (λ x. rounds_cost (all_rounds n steps) ≤ statement_total x n) (sym e)
+        (few slots free_bit free_word target p args word_nested word_meets word_placed word_meets.gives.slot word_meets.gives.found found_args.list found_args.at steps (subst (λ m. StepsBuilt steps (steps_for p m)) m_is built) n)
