@@ -1,10 +1,8 @@
 -- The words of internal scratch lie apart from a statement's names, and from its other rooms.
-use Rattle.std.proofs.Common.{◌≡◌, ◌⊎◌, inl, inr, ℕ, zero, suc, ◌+◌, ◌*◌, ◌<◌, ◌≤◌, Bool, true, false, List, [], ◌∷◌, ◌++◌, length, refl, sym, ap, ◌∙◌, subst, ⊎_elim, arith}
-use Rattle.std.proofs.lemmas.Bool.{cases_eq}
+use Rattle.std.proofs.Common.{◌≡◌, ◌⊎◌, inl, inr, ℕ, zero, suc, ◌+◌, ◌*◌, ◌<◌, ◌≤◌, true, List, [], ◌∷◌, ◌++◌, length, refl, sym, ap, ◌∙◌, subst, ⊎_elim, arith}
 use Rattle.op_text.specs.declared.tree.Kind.{Kind}
 use Rattle.op_text.specs.declared.tree.Kind.TheVariants.{Word, Bit}
 use Rattle.op_text.specs.Meaning.{width}
-use Rattle.loop_ir.specs.declared.ir.Space.{Space}
 use Rattle.loop_ir.specs.declared.ir.Space.TheVariants.{ScratchBit, ScratchWord}
 use Rattle.loop_ir.specs.declared.names.Slot.{Slot}
 use Rattle.loop_ir.specs.Spots.{Spot, spot_in, IsOwn}
@@ -15,7 +13,7 @@ use Rattle.word_lower.specs.Places.{room_of, rooms_of, scratch_bit, scratch_from
 use Rattle.word_lower.proofs.Setting.{row, SlotsApart}
 use Rattle.word_lower.proofs.Pieces.{slot_at, RoomView, is_target, is_arg, is_scratch, room_view, extent_is}
 use Rattle.word_lower.proofs.Statements.{space_is, length_scratch, scratch_at}
-use Rattle.word_mul.specs.Places.{scratch_word, double_words}
+use Rattle.word_mul.specs.Places.{scratch_word}
 
 times : (a b n : ℕ) → a ≤ b → a * n ≤ b * n
 times a b n h = grind arith
@@ -66,14 +64,14 @@ module _ (n : ℕ) (rooms : List Room) (w : Room) (are : RoomsApart n rooms) (cl
   apart_more j k u v lj lk written ne lu lv e = elim (room_of_more rooms w j lj) [
     | inl x ↦ elim (room_of_more rooms w k lk) [
       | inl y ↦ are.apart j k u v x.0 y.0 (sym (ap (λ (r : Room). r.written) x.1) ∙ written) ne
-            (subst (λ (r : Room). u < extent n r.rows) x.1 lu) (subst (λ (r : Room). v < extent n r.rows) y.1 lv)
-            (sym (ap (λ r. row_in n r u) x.1) ∙ e ∙ ap (λ r. row_in n r v) y.1)
+          (subst (λ (r : Room). u < extent n r.rows) x.1 lu) (subst (λ (r : Room). v < extent n r.rows) y.1 lv)
+          (sym (ap (λ r. row_in n r u) x.1) ∙ e ∙ ap (λ r. row_in n r v) y.1)
       | inr y ↦ clear j u v x.0 (subst (λ (r : Room). u < extent n r.rows) x.1 lu) (subst (λ (r : Room). v < extent n r.rows) y.1 lv)
-            (sym (ap (λ r. row_in n r u) x.1) ∙ e ∙ ap (λ r. row_in n r v) y.1)
+          (sym (ap (λ r. row_in n r u) x.1) ∙ e ∙ ap (λ r. row_in n r v) y.1)
     ]
     | inr x ↦ elim (room_of_more rooms w k lk) [
       | inl y ↦ clear k v u y.0 (subst (λ (r : Room). v < extent n r.rows) y.1 lv) (subst (λ (r : Room). u < extent n r.rows) x.1 lu)
-            (sym (ap (λ r. row_in n r v) y.1) ∙ sym e ∙ ap (λ r. row_in n r u) x.1)
+          (sym (ap (λ r. row_in n r v) y.1) ∙ sym e ∙ ap (λ r. row_in n r u) x.1)
       | inr y ↦ ne (x.0 ∙ sym y.0)
     ]
   ]

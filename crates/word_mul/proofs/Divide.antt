@@ -7,7 +7,6 @@ use Rattle.mig_graph.specs.Graph.{values_from}
 use Rattle.op_text.specs.declared.tree.WordOp.TheVariants as op
 use Rattle.loop_ir.specs.declared.ir.Space.TheVariants.{ScratchBit, ScratchWord}
 use Rattle.loop_ir.specs.declared.ir.Sub.TheVariants as sub
-use Rattle.loop_ir.specs.declared.ir.Count.TheVariants.{All}
 use Rattle.loop_ir.specs.declared.names.Slot.{Slot}
 use Rattle.loop_ir.specs.Plain.{Block, InnerOf, inner_map}
 use Rattle.loop_ir.specs.Spots.{Spot, Spots, set_spot, spot_at, nth_place}

@@ -9,11 +9,11 @@ use Rattle.loop_ir.specs.declared.ir.Sub.TheVariants as sub
 use Rattle.loop_ir.specs.declared.ir.Place.{Place}
 use Rattle.loop_ir.specs.declared.ir.Count.TheVariants.{All, Rest}
 use Rattle.loop_ir.specs.declared.names.Slot.{Slot}
-use Rattle.loop_ir.specs.Plain.{Block, InnerOf, StepOf}
+use Rattle.loop_ir.specs.Plain.{Block, InnerOf}
 use Rattle.loop_ir.specs.Plain.InnerOf.{Alone, Across}
-use Rattle.loop_ir.specs.Plain.StepOf.{Along, Nest}
+use Rattle.loop_ir.specs.Plain.StepOf.{Nest}
 use Rattle.loop_ir.specs.Spots.{Spot, Spots, set_spot, spot_at, nth_place}
-use Rattle.loop_laws.specs.Rooms.{Marked, placed_body}
+use Rattle.loop_laws.specs.Rooms.{placed_body}
 use Rattle.loop_laws.specs.Turns.{Origin, Standing, Carried, IsLoop, turn, after_many}
 use Rattle.loop_laws.proofs.Same.{set_same, set_other}
 use Rattle.loop_laws.proofs.Loop.{loop_turns, loop_word}
@@ -28,7 +28,7 @@ use Rattle.word_lower.proofs.Carries.{added_digit}
 use Rattle.word_lower.proofs.Lists.{ones_of_none, ones_of_more}
 use Rattle.word_mul.specs.Programs.{multiplied, counted}
 use Rattle.word_mul.specs.declared.rows.Rows.{Rows}
-use Rattle.word_mul.specs.Places.{rooms_for, scratch_word}
+use Rattle.word_mul.specs.Places.{rooms_for}
 use Rattle.word_mul.proofs.Setting.{IsFree, AreRows, IsElsewhere, Gives, DoesNested, bit_free, bit_else}
 use Rattle.word_mul.proofs.Product.{value_split, value_gated, product_step, below_pow, few_ones}
 

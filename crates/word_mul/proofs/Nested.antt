@@ -1,7 +1,7 @@
 -- Each nested operation's loop program gives its value, takes so many commands, and passes the tests.
-use Rattle.std.proofs.Common.{◌≡◌, ◌⊎◌, inl, inr, ℕ, zero, suc, ◌+◌, ◌*◌, ◌^◌, ◌<◌, ◌≤◌, Bool, true, false, List, [], ◌∷◌, map, length, refl, sym, ap, ◌∙◌, subst, arith}
+use Rattle.std.proofs.Common.{◌≡◌, ◌⊎◌, inl, ℕ, ◌+◌, ◌*◌, ◌^◌, ◌<◌, ◌≤◌, true, List, [], ◌∷◌, map, length, refl, sym, ap, ◌∙◌, subst, arith}
 use Rattle.std.proofs.Math.Nat.{pow-suc, pow-zero}
-use Rattle.op_text.specs.declared.tree.Kind.TheVariants.{Word, Bit}
+use Rattle.op_text.specs.declared.tree.Kind.TheVariants.{Word}
 use Rattle.op_text.specs.declared.tree.WordOp.{WordOp}
 use Rattle.op_text.specs.declared.tree.WordOp.TheVariants as op
 use Rattle.op_text.specs.Values.{bits, value, op_value}
@@ -26,7 +26,7 @@ use Rattle.word_lower.proofs.Statements.{length_scratch, scratch_at}
 use Rattle.word_mul.specs.declared.rows.Rows.{Rows}
 use Rattle.word_mul.specs.Places.{scratch_word, rooms_for, steps_for, rows_on}
 use Rattle.word_mul.specs.Programs.{nested, nested_total}
-use Rattle.word_mul.proofs.Setting.{operation, IsFree, AreRows, IsElsewhere, Gives, DoesNested}
+use Rattle.word_mul.proofs.Setting.{operation, IsFree, AreRows, IsElsewhere, DoesNested}
 use Rattle.word_mul.proofs.Clear.{WordsClear, rooms_more, owned_more, clear_rooms}
 use Rattle.word_mul.proofs.Multiply.{mul_does, bitcount_does}
 use Rattle.word_mul.proofs.Quotient.{div_does, rem_does}

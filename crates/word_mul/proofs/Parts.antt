@@ -6,7 +6,7 @@ use Rattle.loop_ir.specs.declared.ir.Step.{Step}
 use Rattle.loop_ir.specs.Plain.{Block, InnerOf, StepOf, AllInner, inner_of, step_of}
 use Rattle.loop_ir.specs.Plain.InnerOf.{Alone, Across}
 use Rattle.loop_ir.specs.Plain.StepOf.{Along, Nest}
-use Rattle.loop_ir.specs.Like.{LikeParts, no_parts, alone, across, LikeSteps, no_steps, along, nest}
+use Rattle.loop_ir.specs.Like.{LikeParts, no_parts, alone, across, no_steps, along, nest}
 use Rattle.loop_laws.specs.Forms.{IsMade}
 use Rattle.word_mul.specs.Bodies.{IsBuilt, PartsBuilt, StepsBuilt}
 

@@ -1,15 +1,11 @@
 -- When a loop program does a nested operation: the places of its names, and what it leaves.
-use Rattle.std.proofs.Common.{◌≡◌, ℕ, ◌+◌, ◌*◌, ◌<◌, List, [], ◌∷◌, sym, ap, ◌∙◌, subst, arith}
+use Rattle.std.proofs.Common.{◌≡◌, ℕ, ◌+◌, ◌*◌, ◌<◌, sym, ap, ◌∙◌, subst, arith}
 use Rattle.op_text.specs.declared.tree.WordOp.{WordOp}
 use Rattle.op_text.specs.declared.tree.WordOp.TheVariants as o
-use Rattle.op_text.specs.declared.tree.Kind.TheVariants.{Word}
 use Rattle.op_text.specs.Values.{of_one, of_two}
-use Rattle.loop_ir.specs.declared.ir.Space.TheVariants.{ScratchWord}
 use Rattle.loop_ir.specs.declared.names.Slot.{Slot}
-use Rattle.loop_ir.specs.Plain.{StepOf, Block}
 use Rattle.loop_ir.specs.Loops.{all_rounds}
 use Rattle.loop_ir.specs.Spots.{Spot, Spots, after_rounds, IsOwn}
-use Rattle.loop_laws.specs.Rooms.{Room, placed_steps}
 use Rattle.word_lower.specs.Places.{scratch_bit}
 use Rattle.word_lower.proofs.Setting.{row, number_at, SlotsApart, Moves}
 use Rattle.word_mul.specs.declared.rows.Rows.{Rows}

@@ -1,15 +1,10 @@
 -- Bodies that are built by a template are like it.
-use Rattle.std.proofs.Common.{◌≡◌, ℕ, zero, suc, ◌+◌, ◌*◌, ◌<◌, ◌≤◌, Bool, true, false, not, cond, List, [], ◌∷◌, length, refl, sym, ap, ◌∙◌, subst, ⊎_elim, arith}
-use Rattle.std.specs.Prelude.{nat_lt, ◌&&◌, ◌==◌}
-use Rattle.std.proofs.lemmas.Bool.{and_parts, and_from, cases_Bool, eqb-true, eq-eqb}
+use Rattle.std.proofs.Common.{◌≡◌, ℕ, ◌<◌, ◌≤◌, Bool, List, length, arith}
 use Rattle.mig_graph.specs.declared.Lit.{Lit}
 use Rattle.mig_graph.specs.declared.Node.{Node}
-use Rattle.mig_graph.specs.Literals.{IsLower, is_turned}
-use Rattle.mig_graph.specs.Graph.{Graph, IsGraph, node_at, value}
+use Rattle.mig_graph.specs.Graph.{Graph, IsGraph, value}
 use Rattle.mig_graph.specs.Outputs.{lit_at, AreNamed}
 use Rattle.loop_ir.specs.declared.ir.Place.{Place}
-use Rattle.loop_ir.specs.Plain.{Block}
-use Rattle.loop_ir.specs.Costs.{body_cost, is_copy, turn_cost}
 use Rattle.word_lower.proofs.Templates.{turn_less}
 use Rattle.word_mul.specs.Bodies.{over, IsBuilt}
 

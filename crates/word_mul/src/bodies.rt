@@ -13,42 +13,153 @@ use mig_graph::{Lit, NoMemory, Node};
 use std::alloc::Global;
 use word_lower::made;
 
-pub const OFF: Lit = Lit { node: 0, inverted: false };
-pub const UP: Lit = Lit { node: 0, inverted: true };
-const P1: Lit = Lit { node: 1, inverted: false };
-const P2: Lit = Lit { node: 2, inverted: false };
-const P3: Lit = Lit { node: 3, inverted: false };
-const P4: Lit = Lit { node: 4, inverted: false };
-const P5: Lit = Lit { node: 5, inverted: false };
-const P6: Lit = Lit { node: 6, inverted: false };
-const P7: Lit = Lit { node: 7, inverted: false };
-const P8: Lit = Lit { node: 8, inverted: false };
-const N2: Lit = Lit { node: 2, inverted: true };
-const N3: Lit = Lit { node: 3, inverted: true };
-const N4: Lit = Lit { node: 4, inverted: true };
-const N5: Lit = Lit { node: 5, inverted: true };
-const N6: Lit = Lit { node: 6, inverted: true };
-const N7: Lit = Lit { node: 7, inverted: true };
-const N8: Lit = Lit { node: 8, inverted: true };
+pub const OFF: Lit = Lit {
+    node: 0,
+    inverted: false,
+};
+
+pub const UP: Lit = Lit {
+    node: 0,
+    inverted: true,
+};
+
+const P1: Lit = Lit {
+    node: 1,
+    inverted: false,
+};
+
+const P2: Lit = Lit {
+    node: 2,
+    inverted: false,
+};
+
+const P3: Lit = Lit {
+    node: 3,
+    inverted: false,
+};
+
+const P4: Lit = Lit {
+    node: 4,
+    inverted: false,
+};
+
+const P5: Lit = Lit {
+    node: 5,
+    inverted: false,
+};
+
+const P6: Lit = Lit {
+    node: 6,
+    inverted: false,
+};
+
+const P7: Lit = Lit {
+    node: 7,
+    inverted: false,
+};
+
+const P8: Lit = Lit {
+    node: 8,
+    inverted: false,
+};
+
+const N2: Lit = Lit {
+    node: 2,
+    inverted: true,
+};
+
+const N3: Lit = Lit {
+    node: 3,
+    inverted: true,
+};
+
+const N4: Lit = Lit {
+    node: 4,
+    inverted: true,
+};
+
+const N5: Lit = Lit {
+    node: 5,
+    inverted: true,
+};
+
+const N6: Lit = Lit {
+    node: 6,
+    inverted: true,
+};
+
+const N7: Lit = Lit {
+    node: 7,
+    inverted: true,
+};
+
+const N8: Lit = Lit {
+    node: 8,
+    inverted: true,
+};
 
 const MULTIPLIED: [Node; 4] = [
-    Node { a: OFF, b: P2, c: P3 },
-    Node { a: P1, b: P5, c: P4 },
-    Node { a: P1, b: P5, c: N4 },
-    Node { a: P4, b: N6, c: P7 },
+    Node {
+        a: OFF,
+        b: P2,
+        c: P3,
+    },
+    Node {
+        a: P1,
+        b: P5,
+        c: P4,
+    },
+    Node {
+        a: P1,
+        b: P5,
+        c: N4,
+    },
+    Node {
+        a: P4,
+        b: N6,
+        c: P7,
+    },
 ];
 
 const COUNTED: [Node; 3] = [
-    Node { a: OFF, b: P1, c: P2 },
-    Node { a: UP, b: P1, c: P2 },
-    Node { a: OFF, b: N3, c: P4 },
+    Node {
+        a: OFF,
+        b: P1,
+        c: P2,
+    },
+    Node {
+        a: UP,
+        b: P1,
+        c: P2,
+    },
+    Node {
+        a: OFF,
+        b: N3,
+        c: P4,
+    },
 ];
 
 const DIVIDED: [Node; 4] = [
-    Node { a: OFF, b: P2, c: P3 },
-    Node { a: P1, b: N5, c: P4 },
-    Node { a: P1, b: P5, c: P4 },
-    Node { a: P5, b: P6, c: N7 },
+    Node {
+        a: OFF,
+        b: P2,
+        c: P3,
+    },
+    Node {
+        a: P1,
+        b: N5,
+        c: P4,
+    },
+    Node {
+        a: P1,
+        b: P5,
+        c: P4,
+    },
+    Node {
+        a: P5,
+        b: P6,
+        c: N7,
+    },
 ];
 
 fn keep(places: &mut Vec<Place>, p: Place) -> Result<(), NoMemory>
@@ -111,14 +222,34 @@ pub fn moved(x: Place, z: Place, alloc: Global) -> Result<Body, NoMemory>
 pub fn raised(x: Place, g: Place, alloc: Global) -> Result<Body, NoMemory>
     ensures { IfOk result (λ b. IsBuilt (block_of b) (over (x ∷ g ∷ []) (node_of up (plain 1) (plain 2) ∷ []) (plain 3 ∷ []) (g ∷ []))) }
 {
-    templated(&[x, g], &[Node { a: UP, b: P1, c: P2 }], &[P3], &[g], alloc)
+    templated(
+        &[x, g],
+        &[Node {
+            a: UP,
+            b: P1,
+            c: P2,
+        }],
+        &[P3],
+        &[g],
+        alloc,
+    )
 }
 
 /// A state is whether what was read of x is over what was read of y.
 pub fn compared(x: Place, y: Place, g: Place, alloc: Global) -> Result<Body, NoMemory>
     ensures { IfOk result (λ b. IsBuilt (block_of b) (over (x ∷ y ∷ g ∷ []) (node_of (plain 1) (turned 2) (plain 3) ∷ []) (plain 4 ∷ []) (g ∷ []))) }
 {
-    templated(&[x, y, g], &[Node { a: P1, b: N2, c: P3 }], &[P4], &[g], alloc)
+    templated(
+        &[x, y, g],
+        &[Node {
+            a: P1,
+            b: N2,
+            c: P3,
+        }],
+        &[P4],
+        &[g],
+        alloc,
+    )
 }
 
 /// The bit of a product is added, with a carry.

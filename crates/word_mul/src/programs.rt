@@ -74,7 +74,10 @@ fn division(m: Rows, alloc: Global) -> Result<Vec<Inner>, NoMemory>
     let window = at(words(m.free_word), Sub::DownSum);
     let top = at(words(m.free_word), Sub::DownPlusN);
     let divisor = at(m.b, Sub::Inner);
-    let (fits, carry) = (at(bit(m.free_bit), Sub::Zero), at(bit(m.free_bit + 1), Sub::Zero));
+    let (fits, carry) = (
+        at(bit(m.free_bit), Sub::Zero),
+        at(bit(m.free_bit + 1), Sub::Zero),
+    );
     let yes = constant(UP, fits, alloc)?;
     let compare = compared(window, divisor, fits, alloc)?;
     let over = raised(top, fits, alloc)?;
@@ -97,12 +100,23 @@ pub fn quotient(m: Rows, alloc: Global) -> Result<LoopProgram, NoMemory>
     requires { m.free_bit < 255 }
     ensures { IfOk result (λ p. StepsBuilt (steps_of p) (steps_for o.Div m)) }
 {
-    let dividend = moved(at(m.a, Sub::Inner), at(words(m.free_word), Sub::Inner), alloc)?;
+    let dividend = moved(
+        at(m.a, Sub::Inner),
+        at(words(m.free_word), Sub::Inner),
+        alloc,
+    )?;
     let zeros = constant(OFF, at(words(m.free_word), Sub::NPlusInner), alloc)?;
-    let digit = moved(at(bit(m.free_bit), Sub::Zero), at(m.target, Sub::OuterDown), alloc)?;
+    let digit = moved(
+        at(bit(m.free_bit), Sub::Zero),
+        at(m.target, Sub::OuterDown),
+        alloc,
+    )?;
     let mut parts = division(m, alloc)?;
     keep(&mut parts, Inner::Once(digit))?;
-    whole([Step::Each(dividend), Step::Each(zeros), Step::Nest(parts)], alloc)
+    whole(
+        [Step::Each(dividend), Step::Each(zeros), Step::Nest(parts)],
+        alloc,
+    )
 }
 
 /// rem: what the steps leave in the window.
@@ -116,7 +130,12 @@ pub fn remainder(m: Rows, alloc: Global) -> Result<LoopProgram, NoMemory>
     let left = moved(window, at(m.target, Sub::Inner), alloc)?;
     let parts = division(m, alloc)?;
     whole(
-        [Step::Each(dividend), Step::Each(zeros), Step::Nest(parts), Step::Each(left)],
+        [
+            Step::Each(dividend),
+            Step::Each(zeros),
+            Step::Nest(parts),
+            Step::Each(left),
+        ],
         alloc,
     )
 }

@@ -1,4 +1,3 @@
-use Rattle.std.proofs.Common.{◌≡◌, ℕ, length}
 use Rattle.word_lower.proofs.Templates.{all_lower, all_below}
 use Rattle.word_mul.proofs.Templates.{built}
 use Rattle.word_mul.proofs.bodies.templated.Goals as goal

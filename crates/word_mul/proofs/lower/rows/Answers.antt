@@ -1,4 +1,4 @@
-use Rattle.std.proofs.Common.{◌≡◌, ◌∙◌, length, arith}
+use Rattle.std.proofs.Common.{◌≡◌, length, arith}
 use Rattle.std.specs.Prelude.{nat_lt, if◌then◌else◌}
 use Rattle.loop_ir.specs.Statements.{slots_of}
 use Rattle.word_mul.proofs.Sides.{as_many, second_one, second_none, rows_are}
