@@ -23,14 +23,14 @@ filled_none : (ks : List Kind) (k : Kind) → filled (form [] Word ∷ []) ks �
 filled_none [] k e = (refl, same_kinds Word k e)
 filled_none (x ∷ ks) k e = cc
 
-filled_word : (g : Kind) (ks : List Kind) (k : Kind) → filled (word_to g) ks ≡ Some k → (ks ≡ Word ∷ []) × (k ≡ g)
+pub filled_word : (g : Kind) (ks : List Kind) (k : Kind) → filled (word_to g) ks ≡ Some k → (ks ≡ Word ∷ []) × (k ≡ g)
 filled_word g [] k e = cc
 filled_word g (Word ∷ []) k e = (refl, same_kinds g k e)
 filled_word g (Bit ∷ []) k e = cc
 filled_word g (Word ∷ (x ∷ ks)) k e = cc
 filled_word g (Bit ∷ (x ∷ ks)) k e = cc
 
-filled_words : (g : Kind) (ks : List Kind) (k : Kind) → filled (words_to g) ks ≡ Some k → (ks ≡ Word ∷ Word ∷ []) × (k ≡ g)
+pub filled_words : (g : Kind) (ks : List Kind) (k : Kind) → filled (words_to g) ks ≡ Some k → (ks ≡ Word ∷ Word ∷ []) × (k ≡ g)
 filled_words g [] k e = cc
 filled_words g (Word ∷ []) k e = cc
 filled_words g (Bit ∷ []) k e = cc
@@ -83,7 +83,7 @@ filled_choice (Bit ∷ (Bit ∷ (Word ∷ (z ∷ ks)))) k e = cc
 filled_choice (Bit ∷ (Bit ∷ (Bit ∷ (z ∷ ks)))) k e = cc
 
 -- a place of a known kind
-slot_is : (t : Slot) (k : Kind) → t.kind ≡ k → t ≡ slot t.space t.which k
+pub slot_is : (t : Slot) (k : Kind) → t.kind ≡ k → t ≡ slot t.space t.which k
 slot_is t k e = ap (slot t.space t.which) e
 
 first_kind : List Kind → Kind
@@ -94,18 +94,18 @@ rest_kinds : List Kind → List Kind
 rest_kinds [] = []
 rest_kinds (k ∷ ks) = ks
 
-no_slots : (ss : List Slot) → map (λ (s : Slot). s.kind) ss ≡ [] → ss ≡ []
+pub no_slots : (ss : List Slot) → map (λ (s : Slot). s.kind) ss ≡ [] → ss ≡ []
 no_slots [] e = refl
 no_slots (s ∷ ss) e = cc
 
-record More (ss : List Slot) (k : Kind) (ks : List Kind) : Type 0 where
-  space : Space
-  which : ℕ
-  more : List Slot
-  is : ss ≡ slot space which k ∷ more
-  others : map (λ (s : Slot). s.kind) more ≡ ks
+pub record More (ss : List Slot) (k : Kind) (ks : List Kind) : Type 0 where
+  pub space : Space
+  pub which : ℕ
+  pub more : List Slot
+  pub is : ss ≡ slot space which k ∷ more
+  pub others : map (λ (s : Slot). s.kind) more ≡ ks
 
-one_slot : (ss : List Slot) (k : Kind) (ks : List Kind) → map (λ (s : Slot). s.kind) ss ≡ k ∷ ks → More ss k ks
+pub one_slot : (ss : List Slot) (k : Kind) (ks : List Kind) → map (λ (s : Slot). s.kind) ss ≡ k ∷ ks → More ss k ks
 unfolding first_kind rest_kinds
 one_slot [] k ks e = cc
 one_slot (s ∷ ss) k ks e = record { space = s.space; which = s.which; more = ss; is = ap (λ x. x ∷ ss) (slot_is s k (ap first_kind e)); others = ap rest_kinds e }

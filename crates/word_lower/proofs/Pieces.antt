@@ -99,7 +99,7 @@ module _ (n : ℕ) (t : Slot) (args scratch : List Slot) (are : Pieces n t args 
   }
 
 -- each row of a value is another
-moves_in : (n : ℕ) (s : Space) (which : ℕ) (k : Kind) → holds_kind s k ≡ true → (u v : ℕ) → u < width n k → v < width n k → spot_in n s which u ≡ spot_in n s which v → u ≡ v
+pub moves_in : (n : ℕ) (s : Space) (which : ℕ) (k : Kind) → holds_kind s k ≡ true → (u v : ℕ) → u < width n k → v < width n k → spot_in n s which u ≡ spot_in n s which v → u ≡ v
 moves_in n Result w k h u v lu lv e = ap (λ (q : Spot). q.index) e
 moves_in n Source w k h u v lu lv e = ap (λ (q : Spot). q.index) e
 moves_in n ScratchBit w Bit h u v lu lv e = omega arith

@@ -40,7 +40,7 @@ record OnePlace (s t : Space) (w x : ℕ) : Type 0 where
   space : s ≡ t
   which : w ≡ x
 
-space_is : (n : ℕ) (s : Space) (w v : ℕ) → (spot_in n s w v).space ≡ s
+pub space_is : (n : ℕ) (s : Space) (w v : ℕ) → (spot_in n s w v).space ≡ s
 space_is n Result w v = refl
 space_is n Source w v = refl
 space_is n ScratchBit w v = refl
@@ -69,32 +69,32 @@ scratch_at free zero j lt = absurd (omega arith)
 scratch_at free (suc count) zero lt = let e : free ≡ free + 0 = omega arith in ap scratch_bit e
 scratch_at free (suc count) (suc j) lt = let e : free + 1 + j ≡ free + suc j = omega arith in scratch_at (free + 1) count j (omega arith) ∙ ap scratch_bit e
 
-or_left : (a b : Bool) → a ≡ true → (a || b) ≡ true
+pub or_left : (a b : Bool) → a ≡ true → (a || b) ≡ true
 or_left true b e = refl
 or_left false b e = cc
 
-or_right : (a b : Bool) → b ≡ true → (a || b) ≡ true
+pub or_right : (a b : Bool) → b ≡ true → (a || b) ≡ true
 or_right true b e = refl
 or_right false b e = e
 
-same_name : (a b : List ℕ) → a ≡ b → bytes_eq a b ≡ true
+pub same_name : (a b : List ℕ) → a ≡ b → bytes_eq a b ≡ true
 same_name a b e = (bytes_eq-Decides a b).1 e
 
-name_at : List (List ℕ) → ℕ → List ℕ
+pub name_at : List (List ℕ) → ℕ → List ℕ
 name_at [] k = []
 name_at (n ∷ ns) zero = n
 name_at (n ∷ ns) (suc k) = name_at ns k
 
-among_like : (names : List (List ℕ)) (i : ℕ) (name : List ℕ) → i < length names → bytes_eq (name_at names i) name ≡ true → is_among names name ≡ true
+pub among_like : (names : List (List ℕ)) (i : ℕ) (name : List ℕ) → i < length names → bytes_eq (name_at names i) name ≡ true → is_among names name ≡ true
 unfolding name_at
 among_like [] i name lt e = absurd (omega arith)
 among_like (n ∷ ns) zero name lt e = or_left (bytes_eq n name) (is_among ns name) e
 among_like (n ∷ ns) (suc i) name lt e = or_right (bytes_eq n name) (is_among ns name) (among_like ns i name (omega arith) e)
 
-among_at : (names : List (List ℕ)) (i : ℕ) → i < length names → is_among names (name_at names i) ≡ true
+pub among_at : (names : List (List ℕ)) (i : ℕ) → i < length names → is_among names (name_at names i) ≡ true
 among_at names i lt = among_like names i (name_at names i) lt (same_name (name_at names i) (name_at names i) refl)
 
-at_place : (slots : Slots) (names : List (List ℕ)) (ss : List Slot) (i : ℕ) → AreAt slots names ss → i < length ss → (i < length names) × (slots (name_at names i) ≡ Some (slot_at ss i))
+pub at_place : (slots : Slots) (names : List (List ℕ)) (ss : List Slot) (i : ℕ) → AreAt slots names ss → i < length ss → (i < length names) × (slots (name_at names i) ≡ Some (slot_at ss i))
 unfolding name_at
 at_place slots [] [] i at lt = absurd (omega arith)
 at_place slots [] (s ∷ ss) i at lt = absurd at
@@ -106,11 +106,11 @@ slot_in : Option Slot → Slot
 slot_in None = no_slot
 slot_in (Some x) = x
 
-same_slot : (x y : Slot) → Some x ≡ Some y → x ≡ y
+pub same_slot : (x y : Slot) → Some x ≡ Some y → x ≡ y
 unfolding slot_in
 same_slot x y e = ap slot_in e
 
-kinds_at : (slots : Slots) (names : List (List ℕ)) (ss : List Slot) (kinds : List Kind) → AreAt slots names ss → HaveKinds slots names kinds → map (λ (s : Slot). s.kind) ss ≡ kinds
+pub kinds_at : (slots : Slots) (names : List (List ℕ)) (ss : List Slot) (kinds : List Kind) → AreAt slots names ss → HaveKinds slots names kinds → map (λ (s : Slot). s.kind) ss ≡ kinds
 kinds_at slots [] [] [] at have = refl
 kinds_at slots [] [] (k ∷ ks) at have = absurd have
 kinds_at slots [] (s ∷ ss) ks at have = absurd at
@@ -121,16 +121,16 @@ kinds_at slots (n ∷ ns) (s ∷ ss) (k ∷ ks) at have =
     ap (λ x. x ∷ map (λ (s : Slot). s.kind) ss) (ap (λ (s : Slot). s.kind) e ∙ have.0.kind) ∙ ap (λ xs. k ∷ xs) (kinds_at slots ns ss ks at.1 have.1)
 
 module _ (slots : Slots) (free_bit free_word : ℕ) (target : List ℕ) (p : WordOp) (args : List (List ℕ)) (meets : ComputeMeets slots target p args) (placed : IsPlaced slots free_bit free_word (Compute target p args)) (t : Slot) (found : slots target ≡ Some t) (ss : List Slot) (at : AreAt slots args ss) where
-  among_target : is_among (statement_names (Compute target p args)) target ≡ true
+  pub among_target : is_among (statement_names (Compute target p args)) target ≡ true
   among_target = or_left (bytes_eq target target) (is_among args target) (same_name target target refl)
 
-  among_arg : (i : ℕ) → i < length args → is_among (statement_names (Compute target p args)) (name_at args i) ≡ true
+  pub among_arg : (i : ℕ) → i < length args → is_among (statement_names (Compute target p args)) (name_at args i) ≡ true
   among_arg i lt = or_right (bytes_eq target (name_at args i)) (is_among args (name_at args i)) (among_at args i lt)
 
-  written : is_among (target ∷ []) target ≡ true
+  pub written : is_among (target ∷ []) target ≡ true
   written = or_left (bytes_eq target target) false (same_name target target refl)
 
-  holds : (name : List ℕ) (x : Slot) → is_among (statement_names (Compute target p args)) name ≡ true → slots name ≡ Some x → holds_kind x.space x.kind ≡ true
+  pub holds : (name : List ℕ) (x : Slot) → is_among (statement_names (Compute target p args)) name ≡ true → slots name ≡ Some x → holds_kind x.space x.kind ≡ true
   holds name x a f = let h = placed.there name a in let e : h.0 ≡ x = same_slot h.0 x (sym h.1 ∙ f) in subst (λ (x : Slot). holds_kind x.space x.kind ≡ true) e h.2
 
   arg_apart : (n i : ℕ) → i < length ss → AreApart n (slot_at ss i) t
@@ -145,7 +145,7 @@ module _ (slots : Slots) (free_bit free_word : ℕ) (target : List ℕ) (p : Wor
             cc);
       }
 
-  scratch_apart : (n j : ℕ) (name : List ℕ) (x : Slot) → j < bits_inside p → is_among (statement_names (Compute target p args)) name ≡ true → slots name ≡ Some x → AreApart n x (scratch_bit (free_bit + j))
+  pub scratch_apart : (n j : ℕ) (name : List ℕ) (x : Slot) → j < bits_inside p → is_among (statement_names (Compute target p args)) name ≡ true → slots name ≡ Some x → AreApart n x (scratch_bit (free_bit + j))
   scratch_apart n j name x lj a f = record {
     by = λ u v lu lv e.
         (let one = one_place n x (scratch_bit (free_bit + j)) u v lu lv (holds name x a f) refl e in
@@ -188,30 +188,30 @@ module _ (slots : Slots) (free_bit free_word : ℕ) (target : List ℕ) (p : Wor
       let is : s ≡ scratch_bit (free_bit + j) = scratch_at free_bit (bits_inside p) j (omega arith) in
       inr (inl (j, (omega arith), g ∙ ap (λ (z : Room). spot_in n z.space z.which v) f ∙ ap (λ (z : Slot). spot_in n z.space z.which v) is))
 
-  row_of : (n : ℕ) (q : Spot) → IsOwned n (rooms_of t ss (scratch_from free_bit (bits_inside p))) q → IsStatementRow slots free_bit free_word (Compute target p args) n q
+  pub row_of : (n : ℕ) (q : Spot) → IsOwned n (rooms_of t ss (scratch_from free_bit (bits_inside p))) q → IsStatementRow slots free_bit free_word (Compute target p args) n q
   row_of n q o = view_row n o.0 o.1 q (room_at (rooms_of t ss (scratch_from free_bit (bits_inside p))) o.0) (room_view t ss (scratch_from free_bit (bits_inside p)) o.0 o.2) o.3 o.4
 
   pub form : (k : Kind) → is_linear p ≡ true → Lowers p k t ss free_bit → HasForm (IsStatementRow slots free_bit free_word (Compute target p args)) (steps_on p k t ss free_bit)
   form k linear lowers = marks_are_enough (IsStatementRow slots free_bit free_word (Compute target p args)) (rooms_of t ss (scratch_from free_bit (bits_inside p))) (program p k)
       (λ n some most. rooms_apart n t ss (scratch_from free_bit (bits_inside p)) (pieces n)) (λ n some most. row_of n) lowers.fit lowers.short
 
-  arg_kinds : map (λ (s : Slot). s.kind) ss ≡ meets.kinds
+  pub arg_kinds : map (λ (s : Slot). s.kind) ss ≡ meets.kinds
   arg_kinds = kinds_at slots args ss meets.kinds at meets.have
 
-  target_kind : meets.kind ≡ t.kind
+  pub target_kind : meets.kind ≡ t.kind
   target_kind = let e : meets.gives.slot ≡ t = same_slot meets.gives.slot t (sym meets.gives.found ∙ found) in sym meets.gives.kind ∙ ap (λ (s : Slot). s.kind) e
 
-  form_filled : filled (forms p) (map (λ (s : Slot). s.kind) ss) ≡ Some t.kind
+  pub form_filled : filled (forms p) (map (λ (s : Slot). s.kind) ss) ≡ Some t.kind
   form_filled = ap (filled (forms p)) arg_kinds ∙ meets.form ∙ ap (λ k. Some k) target_kind
 
 -- the names hold what the rows at their places hold
-HeldAt : ℕ → (List ℕ → Held) → Spots → List (List ℕ) → List Slot → Type 0
+pub HeldAt : ℕ → (List ℕ → Held) → Spots → List (List ℕ) → List Slot → Type 0
 HeldAt n held rows [] [] = Unit {0}
 HeldAt n held rows [] (s ∷ ss) = ⊥
 HeldAt n held rows (name ∷ names) [] = ⊥
 HeldAt n held rows (name ∷ names) (s ∷ ss) = ((held name).kind ≡ s.kind) × ((held name).bits ≡ slot_bits n rows s) × HeldAt n held rows names ss
 
-held_args : (n : ℕ) (slots : Slots) (held : List ℕ → Held) (rows : Spots) (names : List (List ℕ)) (ss : List Slot) → AreAt slots names ss → ((name : List ℕ) → is_among names name ≡ true → Holds n slots held rows name) → HeldAt n held rows names ss
+pub held_args : (n : ℕ) (slots : Slots) (held : List ℕ → Held) (rows : Spots) (names : List (List ℕ)) (ss : List Slot) → AreAt slots names ss → ((name : List ℕ) → is_among names name ≡ true → Holds n slots held rows name) → HeldAt n held rows names ss
 unfolding HeldAt
 held_args n slots held rows [] [] at h = tt
 held_args n slots held rows [] (s ∷ ss) at h = absurd at
@@ -220,28 +220,28 @@ held_args n slots held rows (name ∷ names) (s ∷ ss) at h =
     let a : HoldsAt n (Some s) (held name) rows = subst (λ (x : Option Slot). HoldsAt n x (held name) rows) at.0 (h name (or_left (bytes_eq name name) (is_among names name) (same_name name name refl))) in
     (a.0, a.1, held_args n slots held rows names ss at.1 (λ x e. h x (or_right (bytes_eq name x) (is_among names x) e)))
 
-held_kinds : (n : ℕ) (held : List ℕ → Held) (rows : Spots) (names : List (List ℕ)) (ss : List Slot) → HeldAt n held rows names ss → map (λ (h : Held). h.kind) (map held names) ≡ map (λ (s : Slot). s.kind) ss
+pub held_kinds : (n : ℕ) (held : List ℕ → Held) (rows : Spots) (names : List (List ℕ)) (ss : List Slot) → HeldAt n held rows names ss → map (λ (h : Held). h.kind) (map held names) ≡ map (λ (s : Slot). s.kind) ss
 unfolding HeldAt
 held_kinds n held rows [] [] at = refl
 held_kinds n held rows [] (s ∷ ss) at = absurd at
 held_kinds n held rows (name ∷ names) [] at = absurd at
 held_kinds n held rows (name ∷ names) (s ∷ ss) at = ap (λ k. k ∷ map (λ (h : Held). h.kind) (map held names)) at.0 ∙ ap (λ ks. s.kind ∷ ks) (held_kinds n held rows names ss at.2)
 
-held_numbers : (n : ℕ) (held : List ℕ → Held) (rows : Spots) (names : List (List ℕ)) (ss : List Slot) → HeldAt n held rows names ss → map number (map held names) ≡ map (λ s. value (slot_bits n rows s)) ss
+pub held_numbers : (n : ℕ) (held : List ℕ → Held) (rows : Spots) (names : List (List ℕ)) (ss : List Slot) → HeldAt n held rows names ss → map number (map held names) ≡ map (λ s. value (slot_bits n rows s)) ss
 unfolding HeldAt
 held_numbers n held rows [] [] at = refl
 held_numbers n held rows [] (s ∷ ss) at = absurd at
 held_numbers n held rows (name ∷ names) [] at = absurd at
 held_numbers n held rows (name ∷ names) (s ∷ ss) at = ap (λ bs. value bs ∷ map number (map held names)) at.1 ∙ ap (λ vs. value (slot_bits n rows s) ∷ vs) (held_numbers n held rows names ss at.2)
 
-held_width : (n : ℕ) (held : List ℕ → Held) (rows : Spots) (names : List (List ℕ)) (ss : List Slot) → HeldAt n held rows names ss → args_width n (map held names) ≡ slots_width n ss
+pub held_width : (n : ℕ) (held : List ℕ → Held) (rows : Spots) (names : List (List ℕ)) (ss : List Slot) → HeldAt n held rows names ss → args_width n (map held names) ≡ slots_width n ss
 unfolding HeldAt
 held_width n held rows [] [] at = refl
 held_width n held rows [] (s ∷ ss) at = absurd at
 held_width n held rows (name ∷ names) [] at = absurd at
 held_width n held rows (name ∷ names) (s ∷ ss) at = ap (width n) at.0
 
-named_width : (n : ℕ) (slots : Slots) (names : List (List ℕ)) (ss : List Slot) → AreAt slots names ss → l.args_width slots n names ≡ slots_width n ss
+pub named_width : (n : ℕ) (slots : Slots) (names : List (List ℕ)) (ss : List Slot) → AreAt slots names ss → l.args_width slots n names ≡ slots_width n ss
 named_width n slots [] [] at = refl
 named_width n slots [] (s ∷ ss) at = absurd at
 named_width n slots (name ∷ names) [] at = absurd at

@@ -8,4 +8,5 @@ mod shapes;
 mod table;
 mod templates;
 
+pub use graphs::made;
 pub use linear::lower_linear;

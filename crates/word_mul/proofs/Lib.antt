@@ -1,0 +1,11 @@
+pub mod Setting
+pub mod Product
+pub mod Multiply
+pub mod Divide
+pub mod Quotient
+pub mod Templates
+pub mod Parts
+pub mod Clear
+pub mod Nested
+pub mod Whole
+pub mod Sides

@@ -1,0 +1,3 @@
+pub mod Programs
+pub mod Places
+pub mod Bodies

@@ -1,0 +1,42 @@
+-- The rooms of such a statement: as any word statement's, and two words of internal scratch as one room.
+use Rattle.std.specs.Prelude.{ℕ, zero, suc, true, List, [], ◌∷◌, ◌++◌, length, nat_lt, if◌then◌else◌}
+use Rattle.op_text.specs.declared.tree.Kind.TheVariants.{Word}
+use Rattle.op_text.specs.declared.tree.WordOp.{WordOp}
+use Rattle.op_text.specs.declared.tree.WordOp.TheVariants as o
+use Rattle.op_text.specs.Scratch.{bits_inside, words_inside}
+use Rattle.loop_ir.specs.declared.ir.Space.TheVariants.{ScratchWord}
+use Rattle.loop_ir.specs.declared.names.Slot.{Slot}
+use Rattle.loop_ir.specs.Plain.{StepOf, Block}
+use Rattle.loop_laws.specs.Rooms.{Twice, Room, placed_steps}
+use Rattle.word_lower.specs.Places.{scratch_from, rooms_of}
+use Rattle.word_lower.specs.Shapes.{behind}
+use Rattle.word_mul.specs.declared.rows.Rows.{Rows}
+use Rattle.word_mul.specs.Programs.{nested}
+
+abbrev pub scratch_word : ℕ → Slot
+scratch_word k = record { space = ScratchWord; which = k; kind = Word }
+
+abbrev pub double_words : ℕ → ℕ → List Room
+double_words free zero = []
+double_words free (suc words) = record { space = ScratchWord; which = free; rows = Twice; written = true } ∷ []
+
+-- bitcount has one argument
+abbrev pub args_of : WordOp → Rows → List Slot
+args_of o.Bitcount m = m.a ∷ []
+args_of p m = m.a ∷ m.b ∷ []
+
+abbrev pub rooms_for : WordOp → Rows → List Room
+rooms_for p m = rooms_of m.target (args_of p m) (scratch_from m.free_bit (bits_inside p)) ++ double_words m.free_word (words_inside p)
+
+abbrev pub steps_for : WordOp → Rows → List (StepOf Block)
+steps_for p m = placed_steps (rooms_for p m) (nested p)
+
+-- the places of a target and of arguments, of which a lone one stands for both
+abbrev pub rows_on : Slot → List Slot → ℕ → ℕ → Rows
+rows_on t ss free_bit free_word = record {
+  target = t;
+  a = behind ss free_bit 0;
+  b = behind ss free_bit (if nat_lt 1 (length ss) then 1 else 0);
+  free_bit = free_bit;
+  free_word = free_word;
+}

@@ -1,0 +1,274 @@
+//! The bodies of the loop programs.
+
+ghost use Rattle.std.specs.Prelude.{◌≡◌, ◌<◌, ◌≤◌, ◌+◌, ◌++◌, ◌∷◌, [], length, IfOk, OnOk, true};
+ghost use Rattle.mig_graph.specs.Literals.{node_of};
+ghost use Rattle.loop_ir.specs.Plain.{block_of};
+ghost use Rattle.word_lower.specs.Programs.{plain, turned, up};
+ghost use Rattle.word_mul.specs.Programs.{multiplied_nodes, counted_nodes, divided_nodes};
+ghost use Rattle.word_lower.specs.Shapes.{are_lower, are_below};
+ghost use Rattle.word_mul.specs.Bodies.{over, IsBuilt};
+
+use loop_ir::{Body, Place};
+use mig_graph::{Lit, NoMemory, Node};
+use std::alloc::Global;
+use word_lower::made;
+
+pub const OFF: Lit = Lit {
+    node: 0,
+    inverted: false,
+};
+
+pub const UP: Lit = Lit {
+    node: 0,
+    inverted: true,
+};
+
+const P1: Lit = Lit {
+    node: 1,
+    inverted: false,
+};
+
+const P2: Lit = Lit {
+    node: 2,
+    inverted: false,
+};
+
+const P3: Lit = Lit {
+    node: 3,
+    inverted: false,
+};
+
+const P4: Lit = Lit {
+    node: 4,
+    inverted: false,
+};
+
+const P5: Lit = Lit {
+    node: 5,
+    inverted: false,
+};
+
+const P6: Lit = Lit {
+    node: 6,
+    inverted: false,
+};
+
+const P7: Lit = Lit {
+    node: 7,
+    inverted: false,
+};
+
+const P8: Lit = Lit {
+    node: 8,
+    inverted: false,
+};
+
+const N2: Lit = Lit {
+    node: 2,
+    inverted: true,
+};
+
+const N3: Lit = Lit {
+    node: 3,
+    inverted: true,
+};
+
+const N4: Lit = Lit {
+    node: 4,
+    inverted: true,
+};
+
+const N5: Lit = Lit {
+    node: 5,
+    inverted: true,
+};
+
+const N6: Lit = Lit {
+    node: 6,
+    inverted: true,
+};
+
+const N7: Lit = Lit {
+    node: 7,
+    inverted: true,
+};
+
+const N8: Lit = Lit {
+    node: 8,
+    inverted: true,
+};
+
+const MULTIPLIED: [Node; 4] = [
+    Node {
+        a: OFF,
+        b: P2,
+        c: P3,
+    },
+    Node {
+        a: P1,
+        b: P5,
+        c: P4,
+    },
+    Node {
+        a: P1,
+        b: P5,
+        c: N4,
+    },
+    Node {
+        a: P4,
+        b: N6,
+        c: P7,
+    },
+];
+
+const COUNTED: [Node; 3] = [
+    Node {
+        a: OFF,
+        b: P1,
+        c: P2,
+    },
+    Node {
+        a: UP,
+        b: P1,
+        c: P2,
+    },
+    Node {
+        a: OFF,
+        b: N3,
+        c: P4,
+    },
+];
+
+const DIVIDED: [Node; 4] = [
+    Node {
+        a: OFF,
+        b: P2,
+        c: P3,
+    },
+    Node {
+        a: P1,
+        b: N5,
+        c: P4,
+    },
+    Node {
+        a: P1,
+        b: P5,
+        c: P4,
+    },
+    Node {
+        a: P5,
+        b: P6,
+        c: N7,
+    },
+];
+
+fn keep(places: &mut Vec<Place>, p: Place) -> Result<(), NoMemory>
+    ensures { OnOk result (places.new.items ≡ places.old.items ++ p ∷ []) }
+{
+    match places.push(p) {
+        Ok(()) => Ok(()),
+        Err(_) => Err(NoMemory),
+    }
+}
+
+fn listed(places: &[Place], alloc: Global) -> Result<Vec<Place>, NoMemory>
+    ensures { IfOk result (λ v. v.items ≡ places.now) }
+{
+    let mut all = Vec::new(alloc);
+    for p in places {
+        keep(&mut all, *p)?;
+    }
+    Ok(all)
+}
+
+/// A body with such nodes over its reads, and such outputs.
+fn templated(
+    reads: &[Place],
+    nodes: &[Node],
+    outs: &[Lit],
+    writes: &[Place],
+    alloc: Global,
+) -> Result<Body, NoMemory>
+    requires reads { length reads.now ≤ 4 }
+    requires nodes { length nodes.now ≤ 4 }
+    requires outs { 0 < length outs.now }
+    requires lower { are_lower (length reads.now + 1) nodes.now ≡ true }
+    requires named { are_below (length reads.now + 1 + length nodes.now) outs.now ≡ true }
+    ensures { IfOk result (λ b. IsBuilt (block_of b) (over reads.now nodes.now outs.now writes.now)) }
+{
+    Ok(Body {
+        reads: listed(reads, alloc)?,
+        graph: made(reads.len() as u8, nodes, outs, alloc)?,
+        writes: listed(writes, alloc)?,
+    })
+}
+
+/// A row gets a constant.
+pub fn constant(l: Lit, z: Place, alloc: Global) -> Result<Body, NoMemory>
+    requires { l.node ≡ 0 }
+    ensures { IfOk result (λ b. IsBuilt (block_of b) (over [] [] (l ∷ []) (z ∷ []))) }
+{
+    templated(&[], &[], &[l], &[z], alloc)
+}
+
+/// A row gets what another has.
+pub fn moved(x: Place, z: Place, alloc: Global) -> Result<Body, NoMemory>
+    ensures { IfOk result (λ b. IsBuilt (block_of b) (over (x ∷ []) [] (plain 1 ∷ []) (z ∷ []))) }
+{
+    templated(&[x], &[], &[P1], &[z], alloc)
+}
+
+/// A state is set where a row is.
+pub fn raised(x: Place, g: Place, alloc: Global) -> Result<Body, NoMemory>
+    ensures { IfOk result (λ b. IsBuilt (block_of b) (over (x ∷ g ∷ []) (node_of up (plain 1) (plain 2) ∷ []) (plain 3 ∷ []) (g ∷ []))) }
+{
+    templated(
+        &[x, g],
+        &[Node {
+            a: UP,
+            b: P1,
+            c: P2,
+        }],
+        &[P3],
+        &[g],
+        alloc,
+    )
+}
+
+/// A state is whether what was read of x is over what was read of y.
+pub fn compared(x: Place, y: Place, g: Place, alloc: Global) -> Result<Body, NoMemory>
+    ensures { IfOk result (λ b. IsBuilt (block_of b) (over (x ∷ y ∷ g ∷ []) (node_of (plain 1) (turned 2) (plain 3) ∷ []) (plain 4 ∷ []) (g ∷ []))) }
+{
+    templated(
+        &[x, y, g],
+        &[Node {
+            a: P1,
+            b: N2,
+            c: P3,
+        }],
+        &[P4],
+        &[g],
+        alloc,
+    )
+}
+
+/// The bit of a product is added, with a carry.
+pub fn multiplied(y: Place, a: Place, b: Place, c: Place, alloc: Global) -> Result<Body, NoMemory>
+    ensures { IfOk result (λ r. IsBuilt (block_of r) (over (y ∷ a ∷ b ∷ c ∷ []) multiplied_nodes (plain 8 ∷ plain 6 ∷ []) (y ∷ c ∷ []))) }
+{
+    templated(&[y, a, b, c], &MULTIPLIED, &[P8, P6], &[y, c], alloc)
+}
+
+/// A carry is added.
+pub fn counted(y: Place, c: Place, alloc: Global) -> Result<Body, NoMemory>
+    ensures { IfOk result (λ b. IsBuilt (block_of b) (over (y ∷ c ∷ []) counted_nodes (plain 5 ∷ plain 3 ∷ []) (y ∷ c ∷ []))) }
+{
+    templated(&[y, c], &COUNTED, &[P5, P3], &[y, c], alloc)
+}
+
+/// What y has is taken away where g is set, with a carry.
+pub fn divided(w: Place, y: Place, g: Place, c: Place, alloc: Global) -> Result<Body, NoMemory>
+    ensures { IfOk result (λ b. IsBuilt (block_of b) (over (w ∷ y ∷ g ∷ c ∷ []) divided_nodes (turned 8 ∷ plain 6 ∷ []) (w ∷ c ∷ []))) }
+{
+    templated(&[w, y, g, c], &DIVIDED, &[N8, P6], &[w, c], alloc)
+}

@@ -1,0 +1,9 @@
+//! Loop programs of the word operations that take a pass over a word for each position.
+#![tactic(auto)]
+
+mod bodies;
+mod lower;
+mod programs;
+mod rows;
+
+pub use lower::lower_nested;
