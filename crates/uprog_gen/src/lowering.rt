@@ -1,6 +1,6 @@
 //! The loop programs of operations.
 
-ghost use Rattle.std.specs.Prelude.{◌≡◌, ◌++◌, ◌∷◌, [], map, not, OnOk, IfOk};
+ghost use Rattle.std.specs.Prelude.{◌≡◌, ◌++◌, ◌∷◌, [], map, OnOk, IfOk};
 ghost use Rattle.op_text.specs.Language.{statement, operation};
 ghost use Rattle.op_rules.specs.Meets.{OperationMeets};
 ghost use Rattle.loop_ir.specs.Plain.{steps_of};
@@ -8,7 +8,7 @@ ghost use Rattle.loop_ir.specs.Statements.{slots_of, StatementMeets, IsPlaced};
 ghost use Rattle.loop_ir.specs.Lowered.{IsLowered};
 ghost use Rattle.uprog_gen.specs.Layout.{IsLayoutMap};
 ghost use Rattle.word_lower.specs.Forms.{HasForm};
-ghost use Rattle.word_lower.specs.Programs.{is_linear_statement};
+ghost use Rattle.word_mul.specs.Programs.{is_nested_statement};
 ghost use Rattle.uprog_gen.specs.Programs.{AreLowered, HaveForms};
 
 use crate::layout::lay_out;
@@ -22,7 +22,7 @@ use word_mul::lower_nested;
 
 /// Whether it is a word operation that takes nested loops.
 fn is_nested(s: &Stmt) -> bool
-    ensures { result ≡ not (is_linear_statement (statement s.now)) }
+    ensures { result ≡ is_nested_statement (statement s.now) }
 {
     match s {
         Stmt::Word { op, .. } => {
