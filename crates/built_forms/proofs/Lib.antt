@@ -1,6 +1,3 @@
-pub mod Compiled
-pub mod Taken
-pub mod Tokens
+pub mod Plain
 pub mod Script
-pub mod Single
 pub mod Sized

@@ -4,8 +4,8 @@ use Rattle.text_lex.specs.Lexical.{items_from}
 use Rattle.bbop_isa.specs.declared.instr.Instr.{Instr}
 use Rattle.bbop_isa.specs.Lines.{lines_of}
 use Rattle.bbop_isa.specs.Forms.{Instruction, view_of, line_of}
-use Rattle.built_forms.specs.Texts.{is_built, built_line, built_from, next_line, onto_script}
-use Rattle.built_forms.specs.Answers.{following, AreBuilt, Added}
+use Rattle.built_forms.specs.Texts.{built_line, built_from, next_line, onto_script}
+use Rattle.built_forms.specs.Answers.{following, IsBuilt, AreBuilt, Added}
 
 -- the script so far, and what is left of the text, whose first line has this number
 pub record SoFar (text : List ℕ) (script : List Instr) (rest : List ℕ) (number : ℕ) : Type 0 where
@@ -40,7 +40,7 @@ view_more : (old : List Instr) (i : Instr) → map view_of (old ++ i ∷ []) ≡
 view_more [] i = refl
 view_more (o ∷ old) i = ap (λ t. view_of o ∷ t) (view_more old i)
 
-built_more : (old : List Instr) (i : Instr) → is_built (view_of i) ≡ true → AreBuilt old → AreBuilt (old ++ i ∷ [])
+built_more : (old : List Instr) (i : Instr) → IsBuilt (view_of i) → AreBuilt old → AreBuilt (old ++ i ∷ [])
 built_more [] i is are = (is, tt)
 built_more (o ∷ old) i is are = (are.0, built_more old i is are.1)
 
@@ -49,7 +49,7 @@ length_more [] i = omega arith
 length_more (o ∷ old) i = let h = length_more old i in omega (arith, h)
 
 -- the instruction of a line is added
-pub adds_one : (line : List ℕ) (old new : List Instr) (i : Instr) → built_line (line_of line) ≡ Some (Some (view_of i)) → is_built (view_of i) ≡ true → new ≡ old ++ i ∷ [] → Added line old new
+pub adds_one : (line : List ℕ) (old new : List Instr) (i : Instr) → built_line (line_of line) ≡ Some (Some (view_of i)) → IsBuilt (view_of i) → new ≡ old ++ i ∷ [] → Added line old new
 adds_one line old new i says is e = rw e (record {
   said = λ number rest. ap (λ l. following (map view_of old) (next_line number l rest)) says ∙ one_more (map view_of old) (view_of i) rest ∙ ap (λ before. following before rest) (sym (view_more old i));
   built = built_more old i is;

@@ -8,12 +8,18 @@ use Rattle.built_forms.specs.declared.scripts.BuiltNo.{BuiltNo}
 use Rattle.built_forms.specs.declared.scripts.BuiltNo.TheVariants as built
 use Rattle.built_forms.specs.declared.scripts.FormNo.{FormNo}
 use Rattle.built_forms.specs.declared.scripts.FormNo.TheVariants as form
-use Rattle.built_forms.specs.Texts.{is_built, built_line, built_from, next_line, image_of, not_yet}
+use Rattle.machine_model.specs.Agrees.{IsPlain}
+use Rattle.machine_model.specs.Script.{is_bbop}
+use Rattle.built_forms.specs.Texts.{built_line, built_from, next_line, image_of, not_yet}
+
+-- an instruction that is built: a bbop, of a width that there is
+abbrev pub IsBuilt : Instruction → Type 0
+IsBuilt i = (is_bbop i ≡ true) × IsPlain i
 
 -- The instruction of the line, if it has one, where the line is built.
 abbrev pub BuiltLine : List ℕ → Result (Option Instr) BuiltNo → Type 0
 BuiltLine line (Ok None) = built_line (line_of line) ≡ Some None
-BuiltLine line (Ok (Some i)) = (built_line (line_of line) ≡ Some (Some (view_of i))) × (is_built (view_of i) ≡ true)
+BuiltLine line (Ok (Some i)) = (built_line (line_of line) ≡ Some (Some (view_of i))) × IsBuilt (view_of i)
 BuiltLine line (Err built.NotBuilt) = built_line (line_of line) ≡ None
 BuiltLine line (Err built.NoMemory) = Unit {0}
 
@@ -23,7 +29,7 @@ following before (Ok script) = Ok (before ++ script)
 following before (Err line) = Err line
 
 abbrev pub AreBuilt : List Instr → Type 0
-AreBuilt script = AllByRecursion (λ i. is_built i ≡ true) (map view_of script)
+AreBuilt script = AllByRecursion IsBuilt (map view_of script)
 
 -- A line was taken: this line and others come to the same, and at most one instruction came, which is built.
 pub record Added (line : List ℕ) (old new : List Instr) : Type 0 where

@@ -1,4 +1,3 @@
--- What the program takes today: its texts and images, and the program that it compiles.
+-- What the program takes today: its texts and images.
 pub mod Texts
-pub mod Compiled
 pub mod Answers

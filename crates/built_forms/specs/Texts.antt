@@ -1,108 +1,49 @@
 -- Which texts and images the program takes today, and as what.
-use Rattle.std.specs.Prelude.{◌≡◌, ℕ, ◌+◌, ◌*◌, ◌==◌, Bool, true, false, not, ◌&&◌, List, [], ◌∷◌, ◌++◌, map, zip, length, Option, Some, None, Result, Ok, Err, bytes_eq, codes, decimal, slice_index_or, if◌then◌else◌}
-use Rattle.std.specs.List.{list_all, list_any}
-use Rattle.std.specs.Option.{option_map}
-use Rattle.text_lex.specs.Lexical.{Item, Whole, Bad, items_of}
-use Rattle.text_lex.specs.Spelled.{fits_name}
-use Rattle.bit_rows.specs.Bits.{bits, value}
-use Rattle.op_text.specs.declared.tree.Kind.TheVariants.{Word}
-use Rattle.uprog_code.specs.Shape.{Shape}
+use Rattle.std.specs.Prelude.{◌≡◌, ℕ, ◌+◌, ◌==◌, Bool, true, false, ◌&&◌, List, [], ◌∷◌, ◌++◌, Option, Some, None, Result, Ok, Err, codes, decimal, if◌then◌else◌}
+use Rattle.op_text.specs.declared.fault.OpsKind.{OpsKind}
+use Rattle.op_text.specs.declared.fault.OpsKind.TheVariants as kinds
+use Rattle.op_text.specs.declared.fault.OpsFault.{OpsFault}
+use Rattle.op_text.specs.Lines.{fault_in}
 use Rattle.object_alloc.specs.Spelling.{rows_in}
 use Rattle.object_alloc.specs.Reading.{Found, image_in}
-use Rattle.bbop_isa.specs.Forms.{Instruction, Init, Bbop, Load, Fill, Print, Free, Order, line_of}
+use Rattle.bbop_isa.specs.Forms.{Instruction, line_of}
 use Rattle.bbop_isa.specs.Lines.{lines_of}
-use Rattle.machine_model.specs.Operations.{TextOp}
 use Rattle.machine_model.specs.Opened.{Image}
+use Rattle.machine_model.specs.Script.{is_bbop}
 use Rattle.cli_model.specs.Steps.{Refusal}
 
--- the spellings of a text's tokens, unless a byte starts none
-abbrev pub spellings : List Item → Option (List (List ℕ))
-spellings [] = Some []
-spellings (Whole token ∷ items) = option_map (λ rest. token.text ∷ rest) (spellings items)
-spellings (Bad fault ∷ items) = None
+-- the word for a rule of operation texts
+abbrev pub kind_word : OpsKind → List ℕ
+kind_word kinds.Lex = codes "lex"
+kind_word kinds.Syntax = codes "syntax"
+kind_word kinds.BadName = codes "bad_name"
+kind_word kinds.Twice = codes "twice"
+kind_word kinds.Unknown = codes "unknown"
+kind_word kinds.Kind = codes "kind"
+kind_word kinds.NoResult = codes "no_result"
+kind_word kinds.TooMany = codes "too_many"
 
--- the tokens of `op and(A: word, B: word) -> Y: word { Y = and(A, B); }`
-abbrev pub and_tokens : List ℕ → List ℕ → List ℕ → List (List ℕ)
-and_tokens a b y =
-    codes "op" ∷ codes "and" ∷ codes "(" ∷ a ∷ codes ":" ∷ codes "word" ∷ codes "," ∷ b ∷ codes ":" ∷ codes "word" ∷ codes ")"
-    ∷ codes "->" ∷ y ∷ codes ":" ∷ codes "word" ∷ codes "{" ∷ y ∷ codes "=" ∷ codes "and" ∷ codes "(" ∷ a ∷ codes "," ∷ b ∷ codes ")" ∷ codes ";" ∷ codes "}" ∷ []
+-- a text of operations that breaks a rule is refused by its line and the rule
+abbrev pub ops_refusal : OpsFault → Refusal
+ops_refusal fault = record { status = 4; line = codes "ops line " ++ decimal fault.line ++ (codes " " ++ kind_word fault.kind ++ codes "\n") }
 
--- the words that stand for themselves
-abbrev pub reserved : List (List ℕ)
-reserved = codes "op" ∷ codes "word" ∷ codes "bit" ∷ codes "serial" ∷ codes "up" ∷ codes "down" ∷ codes "let" ∷ []
+abbrev pub unless_fault : Option OpsFault → Result (Unit {0}) Refusal
+unless_fault None = Ok tt
+unless_fault (Some fault) = Err (ops_refusal fault)
 
--- a name that a parameter or a result may have
-abbrev pub is_free_name : List ℕ → Bool
-is_free_name name = fits_name name && not (list_any (bytes_eq name) reserved)
-
-abbrev pub are_three_names : List ℕ → List ℕ → List ℕ → Bool
-are_three_names a b y =
-    (is_free_name a && is_free_name b && is_free_name y) && (not (bytes_eq a b) && not (bytes_eq a y) && not (bytes_eq b y))
-
--- The text is the one that is built: its tokens are these, with three different names
-abbrev pub IsAndText : List ℕ → Type 0
-IsAndText text = (a : List ℕ) × (b : List ℕ) × (y : List ℕ) × (spellings (items_of text) ≡ Some (and_tokens a b y)) × (are_three_names a b y ≡ true)
-
--- whether two lists of texts are the same
-abbrev pub same_texts : List (List ℕ) → List (List ℕ) → Bool
-same_texts [] [] = true
-same_texts (x ∷ xs) (y ∷ ys) = bytes_eq x y && same_texts xs ys
-same_texts [] (y ∷ ys) = false
-same_texts (x ∷ xs) [] = false
-
-abbrev pub token_at : List (List ℕ) → ℕ → List ℕ
-token_at tokens k = slice_index_or tokens k []
-
-abbrev pub are_and_tokens : List (List ℕ) → Bool
-are_and_tokens tokens =
-    let a = token_at tokens 3 in let b = token_at tokens 7 in let y = token_at tokens 12 in
-    same_texts tokens (and_tokens a b y) && are_three_names a b y
-
-abbrev pub passes : Option (List (List ℕ)) → Bool
-passes None = false
-passes (Some tokens) = are_and_tokens tokens
-
-abbrev pub is_and_text : List ℕ → Bool
-is_and_text text = passes (spellings (items_of text))
-
--- The operation `and` on words: bit by bit
-abbrev pub both_bits : List Bool → List Bool → List Bool
-both_bits xs ys = map (λ p. p.0 && p.1) (zip xs ys)
-
-abbrev pub and_value : ℕ → List ℕ → ℕ
-and_value n (a ∷ b ∷ []) = value (both_bits (bits a n) (bits b n))
-and_value n values = 0
-
-abbrev pub and_shape : Shape
-and_shape = record { sources = Word ∷ Word ∷ []; result = Word; bits = 0; words = 0 }
-
--- it may take 7 commands a bit
-abbrev pub and_op : TextOp
-and_op = record { name = codes "and"; shape = and_shape; ceiling = λ n. 7 * n; meaning = and_value }
+-- a text of operations is accepted, or refused
+abbrev pub ops_in : List ℕ → Result (Unit {0}) Refusal
+ops_in text = unless_fault (fault_in text)
 
 -- what is not built yet is refused by its line or byte
 abbrev pub not_yet : ℕ → List ℕ → ℕ → Refusal
 not_yet status what at = record { status = status; line = what ++ decimal at ++ codes " not_yet\n" }
 
--- the operations of a text
-abbrev pub ops_of : List ℕ → Result (List TextOp) Refusal
-ops_of text = if is_and_text text then Ok (and_op ∷ []) else Err (not_yet 4 (codes "ops line ") 1)
-
--- the instruction that is built: the operation `and` on two objects of width 1
-abbrev pub is_built : Instruction → Bool
-is_built (Bbop op dst srcs count n) = bytes_eq op (codes "and") && length srcs == 2 && n == 1
-is_built (Init name count n) = false
-is_built (Load name values) = false
-is_built (Fill name value) = false
-is_built (Print name) = false
-is_built (Free name) = false
-is_built (Order order) = false
-
--- the instruction of a line, if it has one, unless the line is not built
+-- the instruction of a line, if it has one, unless the line is not built: a bbop is
 abbrev pub built_line : {E : Type 0} → Result (Option Instruction) E → Option (Option Instruction)
 built_line (Err kind) = None
 built_line (Ok None) = Some None
-built_line (Ok (Some i)) = if is_built i then Some (Some i) else None
+built_line (Ok (Some i)) = if is_bbop i then Some (Some i) else None
 
 abbrev pub onto_script : Option Instruction → Result (List Instruction) ℕ → Result (List Instruction) ℕ
 onto_script i (Err line) = Err line
@@ -126,9 +67,9 @@ at_line (Err line) = Err (not_yet 6 (codes "script line ") line)
 abbrev pub script_in : List ℕ → Result (List Instruction) Refusal
 script_in text = at_line (built_from 1 (lines_of text))
 
--- one bank of one word, and objects of width 1
+-- one bank of one word
 abbrev pub is_built_image : Found → Bool
-is_built_image found = found.geometry.banks == 1 && found.geometry.words == 1 && list_all (λ named. named.1.width == 1) found.table
+is_built_image found = found.geometry.banks == 1 && found.geometry.words == 1
 
 abbrev pub image_found : Found → Image
 image_found found = record { geometry = found.geometry; table = found.table; rows = rows_in found.geometry found.rows }

@@ -1,7 +1,6 @@
-//! Images of objects of width 1.
+//! Images of one bank of one word.
 
-ghost use Rattle.std.specs.Prelude.{◌≡◌, ◌==◌, ◌<◌, ◌^◌, length, true, Ok, IfOk, IfErr};
-ghost use Rattle.std.specs.List.{list_all};
+ghost use Rattle.std.specs.Prelude.{◌≡◌, ◌<◌, ◌^◌, length, true, Ok, IfOk, IfErr};
 ghost use Rattle.object_alloc.specs.Exact.{found_in};
 ghost use Rattle.object_alloc.specs.Listed.{limit_of};
 ghost use Rattle.object_alloc.specs.Reading.{rows_size};
@@ -10,27 +9,14 @@ ghost use Rattle.built_forms.specs.Texts.{is_built_image, image_found, image_of}
 ghost use Rattle.built_forms.specs.Answers.{NoImage};
 
 use crate::scripts::FormNo;
-use object_alloc::{Image, ImageNo, Table, read_image};
+use object_alloc::{Image, ImageNo, read_image};
 use std::alloc::Global;
 
-/// Whether each object has width 1.
-fn are_single(table: &Table) -> bool
-    ensures { result ≡ list_all (λ named. named.1.width == 1) table.now.pairs }
-{
-    for k in 0..table.len() {
-        let (_, object) = table.at(k);
-        if object.width != 1 {
-            return false;
-        }
-    }
-    true
-}
-
-/// Whether it has one bank of one word, and objects of width 1.
+/// Whether it has one bank of one word.
 pub fn is_built_image(image: &Image<'_>) -> bool
     ensures { result ≡ is_built_image (found_in image.now) }
 {
-    image.geometry.banks == 1 && image.geometry.words == 1 && are_single(&image.table)
+    image.geometry.banks == 1 && image.geometry.words == 1
 }
 
 /// The image that the bytes spell, if it is built. Else the byte that is told is 0.

@@ -1,11 +1,12 @@
-//! Scripts of the operation.
+//! Scripts of bbops.
 
-ghost use Rattle.std.specs.Prelude.{◌≡◌, ◌<◌, ◌≤◌, ◌^◌, ◌+◌, length, map, true, Ok, Err, IfOk, IfErr};
+ghost use Rattle.std.specs.Prelude.{◌≡◌, ◌<◌, ◌≤◌, ◌^◌, ◌+◌, length, map, Ok, Err, IfOk, IfErr};
 ghost use Rattle.std.specs.List.{AllByRecursion};
 ghost use Rattle.bbop_isa.specs.Forms.{view_of};
 ghost use Rattle.bbop_isa.specs.Lines.{lines_of};
-ghost use Rattle.built_forms.specs.Texts.{is_built, built_from};
-ghost use Rattle.built_forms.specs.Answers.{BuiltLine, AddsBuilt, RefusedAt};
+ghost use Rattle.machine_model.specs.Script.{is_bbop};
+ghost use Rattle.built_forms.specs.Texts.{built_from};
+ghost use Rattle.built_forms.specs.Answers.{BuiltLine, AddsBuilt, IsBuilt, RefusedAt};
 
 use bbop_isa::{Instr, LineNo, line_of, split_line};
 use std::alloc::Global;
@@ -24,16 +25,11 @@ enum BuiltNo {
     NoMemory,
 }
 
-/// Whether it is the operation `and` on two objects, of width 1.
-fn is_built(instr: &Instr) -> bool
-    ensures { result ≡ is_built (view_of instr.now) }
+/// Whether it is a bbop.
+fn is_bbop(instr: &Instr) -> bool
+    ensures { result ≡ is_bbop (view_of instr.now) }
 {
-    match instr {
-        Instr::Bbop { op, srcs, n, .. } => {
-            op.bytes() == b"and".as_slice() && srcs.len() == 2 && *n == 1
-        }
-        _ => false,
-    }
+    matches!(instr, Instr::Bbop { .. })
 }
 
 /// The instruction of a line, if it has one, where the line is built.
@@ -43,7 +39,7 @@ fn built_line(line: &[u8], alloc: Global) -> Result<Option<Instr>, BuiltNo>
     match line_of(line, alloc) {
         Ok(None) => Ok(None),
         Ok(Some(instr)) => {
-            if is_built(&instr) {
+            if is_bbop(&instr) {
                 Ok(Some(instr))
             } else {
                 Err(BuiltNo::NotBuilt)
@@ -70,7 +66,7 @@ fn add_line(script: &mut Vec<Instr>, line: &[u8], alloc: Global) -> Result<(), B
 pub fn read_script(text: &[u8], alloc: Global) -> Result<Vec<Instr>, FormNo>
     requires { length text.now < 2 ^ 32 }
     ensures accepted { IfOk result (λ script. built_from 1 (lines_of text.now) ≡ Ok (map view_of script.items)) }
-    ensures built { IfOk result (λ script. AllByRecursion (λ i. is_built i ≡ true) (map view_of script.items)) }
+    ensures built { IfOk result (λ script. AllByRecursion IsBuilt (map view_of script.items)) }
     ensures few { IfOk result (λ script. length script.items ≤ length text.now + 1) }
     // No line but this is the first that is not built.
     ensures refused { IfErr result (RefusedAt text.now) }

@@ -1,148 +1,10 @@
 ghost use Rattle.std.specs.Prelude.{◌≤◌, length};
 
-use crate::{FormNo, compile_and, is_and_text, is_built_image, read_built_image, read_script};
+use crate::{FormNo, is_built_image, read_built_image, read_script};
 use bbop_isa::Instr;
 use object_alloc::read_image;
 use std::alloc::{AllocError, Global};
 use std::test::*;
-use uprog_code::{Kind, RowRef, RowSpace, Uop};
-
-static TEXTS: [(&str, bool); 24] = [
-    (
-        "op and(A: word, B: word) -> Y: word { Y = and(A, B); }",
-        true,
-    ),
-    (
-        "# bits of both\nop\tand (left:word,right:word)->both:word{both=and(left,right);}# end\r\n",
-        true,
-    ),
-    (
-        "op and(a234567890123456: word, and: word) -> _: word { _ = and(a234567890123456, and); }",
-        true,
-    ),
-    ("", false),
-    ("# op and", false),
-    // 17 bytes
-    (
-        "op and(a2345678901234567: word, B: word) -> Y: word { Y = and(a2345678901234567, B); }",
-        false,
-    ),
-    // a fourth name
-    (
-        "op and(A: word, B: word) -> Y: word { Y = and(A, C); }",
-        false,
-    ),
-    (
-        "op and(A: word, B: word) -> Y: word { Z = and(A, B); }",
-        false,
-    ),
-    // the other order
-    (
-        "op and(A: word, B: word) -> Y: word { Y = and(B, A); }",
-        false,
-    ),
-    // equal names
-    (
-        "op and(A: word, A: word) -> Y: word { Y = and(A, A); }",
-        false,
-    ),
-    (
-        "op and(A: word, B: word) -> A: word { A = and(A, B); }",
-        false,
-    ),
-    (
-        "op and(A: word, B: word) -> B: word { B = and(A, B); }",
-        false,
-    ),
-    // reserved names
-    (
-        "op and(op: word, B: word) -> Y: word { Y = and(op, B); }",
-        false,
-    ),
-    (
-        "op and(A: word, let: word) -> Y: word { Y = and(A, let); }",
-        false,
-    ),
-    (
-        "op and(A: word, B: word) -> word: word { word = and(A, B); }",
-        false,
-    ),
-    // a number in place of a name
-    (
-        "op and(1: word, B: word) -> Y: word { Y = and(1, B); }",
-        false,
-    ),
-    // one token more, and one less
-    (
-        "op and(A: word, B: word) -> Y: word { Y = and(A, B); } }",
-        false,
-    ),
-    (
-        "op and(A: word, B: word) -> Y: word { Y = and(A, B); ",
-        false,
-    ),
-    (
-        "op and(A: word, B: word) -> Y: word { Y = and(A, B) }",
-        false,
-    ),
-    // bytes that start no token
-    (
-        "op and(A: word, B: word) -> Y: word { Y = and(A, B); } $",
-        false,
-    ),
-    (
-        "op and(A: word, B: word) - > Y: word { Y = and(A, B); }",
-        false,
-    ),
-    // other words
-    (
-        "op or(A: word, B: word) -> Y: word { Y = or(A, B); }",
-        false,
-    ),
-    ("op and(A: bit, B: bit) -> Y: bit { Y = and(A, B); }", false),
-    (
-        "op and(A: word, B: word) -> Y: word { Y = and(A, B); } op and(A: word, B: word) -> Y: word { Y = and(A, B); }",
-        false,
-    ),
-];
-
-#[test]
-fn one_text_is_taken(rt: HostRuntime) {
-    for (text, taken) in TEXTS {
-        assert_eq!(rt; is_and_text(text.as_bytes()), taken);
-    }
-}
-
-#[test]
-fn compiles(rt: HostRuntime) -> Result<(), Fail> {
-    let row = |space: RowSpace, which: u8, index: u8| RowRef {
-        space,
-        which,
-        index,
-    };
-    let program = compile_and(rt.alloc()).ok().ok_or("memory")?;
-    assert_eq!(rt; program.entries.len(), 1);
-    for entry in program.entries.as_slice() {
-        assert_eq!(rt; entry.head.name.bytes(), b"and".as_slice());
-        assert_eq!(rt;
-            entry.head.sources.as_slice(),
-            [Kind::Word, Kind::Word].as_slice()
-        );
-        assert_eq!(rt; entry.head.result, Kind::Word);
-        assert_eq!(rt;
-            entry.code.as_slice(),
-            [
-                Uop::Aap(row(RowSpace::Source, 0, 8), row(RowSpace::B, 0, 0)),
-                Uop::Aap(row(RowSpace::Source, 1, 8), row(RowSpace::B, 1, 0)),
-                Uop::Aap(row(RowSpace::C, 0, 0), row(RowSpace::B, 2, 0)),
-                Uop::Aap(row(RowSpace::B, 12, 0), row(RowSpace::Result, 0, 8)),
-                Uop::Done,
-            ]
-            .as_slice()
-        );
-    }
-    Ok(())
-}
 
 fn front(bytes: &[u8], len: usize) -> &[u8]
     ensures { length result.now ≤ len }
@@ -163,18 +25,23 @@ fn lines_read(text: &str, alloc: Global) -> Result<usize, u32> {
     }
 }
 
-static SCRIPTS: [(&str, Result<usize, u32>); 16] = [
+static SCRIPTS: [(&str, Result<usize, u32>); 19] = [
     ("", Ok(0)),
     ("\n\n# nothing\n", Ok(0)),
     ("bbop_and y, a, b, 4, 1", Ok(1)),
     (
-        "# two\nbbop_and y, a, b, 4, 1\n\n bbop_and z ,y ,y, 4294967295, 01 # again\r\n",
+        "# two\nbbop_and y, a, b, 4, 1\n\n bbop_f_2 z ,y ,y, 4294967295, 064 # again\r\n",
         Ok(2),
     ),
-    ("bbop_and y, a, b, 4, 2", Err(1)),
-    ("\nbbop_and y, a, 4, 1", Err(2)),
-    ("bbop_and y, a, b, 4, 1\nbbop_and y, a, b, c, 4, 1", Err(2)),
-    ("\n\nbbop_or y, a, b, 4, 1\nprint y", Err(3)),
+    (
+        "bbop_not y, a, 4, 64\nbbop_choose y, a, b, c, d, 1, 1",
+        Ok(2),
+    ),
+    ("bbop_and y, a, b, 4, 65", Err(1)),
+    ("bbop_and y, a, b, 4, 0", Err(1)),
+    ("bbop_and y, a, b, c, d, e, 4, 1", Err(1)),
+    ("\nbbop_and y, 4, 1", Err(2)),
+    ("\n\nbbop_or y, a, b, 4, 1\nprint y", Err(4)),
     ("bbop_trsp_init a, 4, 1", Err(1)),
     ("bbop_and y, a, b, 4, 1\nload a, 1", Err(2)),
     ("fill a, 1", Err(1)),
@@ -182,11 +49,12 @@ static SCRIPTS: [(&str, Result<usize, u32>); 16] = [
     ("free a", Err(1)),
     ("order in", Err(1)),
     ("bbop_and y, a, b, 0, 1", Err(1)),
+    ("bbop_ y, a, b, 4, 1", Err(1)),
     ("bbop_and y, a, b, 4, 1\n$", Err(2)),
 ];
 
 #[test]
-fn scripts_of_and_are_taken(rt: HostRuntime) {
+fn scripts_of_bbops_are_taken(rt: HostRuntime) {
     for (text, wanted) in SCRIPTS {
         assert_eq!(rt; lines_read(text, rt.alloc()), wanted);
     }
@@ -234,13 +102,13 @@ fn image_a(banks: u8, words: u8, width: u8, alloc: Global) -> Result<Vec<u8>, Al
 
 static IMAGES: [(u8, u8, u8, bool); 4] = [
     (1, 1, 1, true),
-    (1, 1, 2, false),
+    (1, 1, 30, true),
     (2, 1, 1, false),
     (1, 2, 1, false),
 ];
 
 #[test]
-fn images_of_width_1_are_taken(rt: HostRuntime) -> Result<(), Fail> {
+fn images_of_one_word_are_taken(rt: HostRuntime) -> Result<(), Fail> {
     for (banks, words, width, taken) in IMAGES {
         let bytes = image_a(banks, words, width, rt.alloc())?;
         let image = read_image(front(&bytes, 10_000), rt.alloc())

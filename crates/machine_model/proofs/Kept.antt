@@ -6,7 +6,7 @@ use Rattle.dram_model.specs.declared.geometry.Geometry.{Geometry}
 use Rattle.dram_model.specs.declared.address.Cell.TheVariants.{D}
 use Rattle.dram_model.specs.Column.{Column, run}
 use Rattle.dram_model.specs.Chip.{Banks, row_in}
-use Rattle.uprog_code.specs.declared.TheConstants.{BUILT_WIDTH}
+use Rattle.bit_rows.specs.declared.TheConstants.{WIDTH_MAX}
 use Rattle.uprog_code.specs.Bound.{bound}
 use Rattle.uprog_code.specs.Shape.{need, width}
 use Rattle.machine_model.specs.Operations.{Does}
@@ -62,7 +62,7 @@ not_touched g state o dst srcs n row wide h (inr (inr spill)) =
     let beside = or_false (is_among base (need o.shape n) row) (is_among (limit_of g) 32 row) parts.1 in
     let among = among_from (limit_of g) 32 row spill.0 spill.1 in cc
 
-bbop_kept : (g : Geometry) (operations : Operations) (meaning : List ℕ → ℕ → List ℕ → ℕ) (op dst : List ℕ) (srcs : List (List ℕ)) (count n : ℕ) (found : Option Operation) → operations op ≡ found → 0 < n → n ≤ BUILT_WIDTH → DoesAll operations meaning
+bbop_kept : (g : Geometry) (operations : Operations) (meaning : List ℕ → ℕ → List ℕ → ℕ) (op dst : List ℕ) (srcs : List (List ℕ)) (count n : ℕ) (found : Option Operation) → operations op ≡ found → 0 < n → n ≤ WIDTH_MAX → DoesAll operations meaning
     → (banks : Banks) (state : List Held) (bank row : ℕ) → IsTable (limit_of g) (table_of state) → bbop_refusal g (table_of state) found dst srcs count n ≡ None
     → (ltb bank (segments g (object_named (table_of state) dst)) && (has_row (object_named (table_of state) dst) row || is_beside g (table_of state) found n row)) ≡ false
     → row_in row (through (job_of g operations (table_of state) (Bbop op dst srcs count n)) banks bank) ≡ row_in row (banks bank)
@@ -79,7 +79,7 @@ done_kept None new old touched bank row kept out = kept refl out
 done_kept (Some reason) new old touched bank row kept out = refl
 
 -- A row that a bbop does not touch is as it was
-pub bbop_rows_kept : (g : Geometry) (operations : Operations) (meaning : List ℕ → ℕ → List ℕ → ℕ) (op dst : List ℕ) (srcs : List (List ℕ)) (count n : ℕ) → 0 < n → n ≤ BUILT_WIDTH → DoesAll operations meaning → (banks : Banks) (state : List Held) (bank row : ℕ) → IsTable (limit_of g) (table_of state)
+pub bbop_rows_kept : (g : Geometry) (operations : Operations) (meaning : List ℕ → ℕ → List ℕ → ℕ) (op dst : List ℕ) (srcs : List (List ℕ)) (count n : ℕ) → 0 < n → n ≤ WIDTH_MAX → DoesAll operations meaning → (banks : Banks) (state : List Held) (bank row : ℕ) → IsTable (limit_of g) (table_of state)
     → is_touched g operations (table_of state) (Bbop op dst srcs count n) bank row ≡ false
     → row_in row (banks_after g operations (table_of state) banks (Bbop op dst srcs count n) bank) ≡ row_in row (banks bank)
 bbop_rows_kept g operations meaning op dst srcs count n some few does banks state bank row t out =

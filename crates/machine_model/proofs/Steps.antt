@@ -10,7 +10,7 @@ use Rattle.std.proofs.lemmas.List.Elements.{All-map, All-filter}
 use Rattle.dram_model.specs.declared.geometry.Geometry.{Geometry}
 use Rattle.dram_model.specs.Column.{Column, run}
 use Rattle.dram_model.specs.Chip.{Banks}
-use Rattle.uprog_code.specs.declared.TheConstants.{BUILT_WIDTH}
+use Rattle.bit_rows.specs.declared.TheConstants.{WIDTH_MAX}
 use Rattle.machine_model.specs.Operations.{Does}
 use Rattle.uprog_code.specs.Machine.{issues_of}
 use Rattle.uprog_code.specs.Bound.{bound}
@@ -94,7 +94,7 @@ pub job_is : (g : Geometry) (operations : Operations) (op dst : List ℕ) (srcs 
 job_is g operations op dst srcs count n o e table = rw e refl
 
 -- A bbop that is done
-bbop_done : (g : Geometry) (operations : Operations) (meaning : List ℕ → ℕ → List ℕ → ℕ) (op dst : List ℕ) (srcs : List (List ℕ)) (count n : ℕ) (found : Option Operation) → operations op ≡ found → 0 < n → n ≤ BUILT_WIDTH → DoesAll operations meaning
+bbop_done : (g : Geometry) (operations : Operations) (meaning : List ℕ → ℕ → List ℕ → ℕ) (op dst : List ℕ) (srcs : List (List ℕ)) (count n : ℕ) (found : Option Operation) → operations op ≡ found → 0 < n → n ≤ WIDTH_MAX → DoesAll operations meaning
     → (banks : Banks) (state : List Held) → Agrees g banks state → bbop_refusal g (table_of state) found dst srcs count n ≡ None
     → Agrees g (rowed g operations (table_of state) banks (Bbop op dst srcs count n)) (worded g meaning state (Bbop op dst srcs count n))
 bbop_done g operations meaning op dst srcs count n None e some few does banks state a h = cc
@@ -113,7 +113,7 @@ done_or_not g None new old s t done kept = done refl
 done_or_not g (Some reason) new old s t done kept = kept
 
 -- The step of the rows is the word machine's at a bbop
-pub bbop_agrees : (g : Geometry) (operations : Operations) (meaning : List ℕ → ℕ → List ℕ → ℕ) (op dst : List ℕ) (srcs : List (List ℕ)) (count n : ℕ) → 0 < n → n ≤ BUILT_WIDTH → DoesAll operations meaning → StepAgrees g operations meaning (Bbop op dst srcs count n)
+pub bbop_agrees : (g : Geometry) (operations : Operations) (meaning : List ℕ → ℕ → List ℕ → ℕ) (op dst : List ℕ) (srcs : List (List ℕ)) (count n : ℕ) → 0 < n → n ≤ WIDTH_MAX → DoesAll operations meaning → StepAgrees g operations meaning (Bbop op dst srcs count n)
 bbop_agrees g operations meaning op dst srcs count n some few does banks state a =
     done_or_not g (bbop_refusal g (table_of state) (operations op) dst srcs count n) _ banks _ state
     (bbop_done g operations meaning op dst srcs count n (operations op) refl some few does banks state a) a

@@ -4,12 +4,13 @@ use Rattle.std.specs.List.{find}
 use Rattle.std.specs.Option.{option_map}
 use Rattle.std.specs.Str.{bytes_eq}
 use mathlib.Core.Path.{fun_ext}
-use Rattle.uprog_code.specs.declared.TheConstants.{BUILT_WIDTH}
+use Rattle.bit_rows.specs.declared.TheConstants.{WIDTH_MAX}
 use Rattle.uprog_code.specs.Shape.{Shape, Microprogram}
 use Rattle.uprog_code.specs.declared.code.Uop.{Uop}
 use Rattle.uprog_code.specs.Machine.{Trace, trace, issues_of}
 use Rattle.uprog_code.specs.Implements.{Implements}
-use Rattle.machine_model.specs.Operations.{Program, TextOp, Operation, Operations, entry_named, op_named, operations_in, operations_of, trace_of, meaning_of, meaning_in, Does, EntryDoes, ImplementsAll}
+use Rattle.machine_model.specs.Operations.{Program, Operation, Operations, entry_named, op_named, operations_in, operations_of, trace_of, meaning_of, meaning_in, Does}
+use Rattle.uprog_code.specs.Texts.{TextOp, EntryDoes, ImplementsAll}
 use Rattle.machine_model.specs.Agrees.{DoesAll}
 
 -- a name is in neither, or in both, at an entry that does the op
@@ -39,10 +40,10 @@ same_operation (Some e) (Some o) (both _ _ d) = ap (λ shape. Some (record { sha
 pub same_operations : (p : Program) (t : List TextOp) → ImplementsAll p t → operations_of t p ≡ operations_in p
 same_operations p t i = fun_ext (λ name. same_operation (entry_named p name) (op_named t name) (matched p t name i))
 
-both_parts : {shape : Shape} {code : List Uop} {ceiling : ℕ → ℕ} {meaning : ℕ → List ℕ → ℕ} → Implements shape code ceiling meaning → (n : ℕ) → 0 < n → n ≤ BUILT_WIDTH → Does shape n (issues_of (trace shape code n)) (meaning n)
+both_parts : {shape : Shape} {code : List Uop} {ceiling : ℕ → ℕ} {meaning : ℕ → List ℕ → ℕ} → Implements shape code ceiling meaning → (n : ℕ) → 0 < n → n ≤ WIDTH_MAX → Does shape n (issues_of (trace shape code n)) (meaning n)
 both_parts i n l k = record { gives = i.gives n l k; keeps = i.keeps n l k }
 
-does_case : (x : Option Microprogram) (y : Option TextOp) (r : Operation) (n : ℕ) → Matched x y → option_map {U = Operation} (λ (o : TextOp). record { shape = o.shape; trace = trace_of x }) y ≡ Some r → 0 < n → n ≤ BUILT_WIDTH → Does r.shape n (issues_of (r.trace n)) (meaning_of y n)
+does_case : (x : Option Microprogram) (y : Option TextOp) (r : Operation) (n : ℕ) → Matched x y → option_map {U = Operation} (λ (o : TextOp). record { shape = o.shape; trace = trace_of x }) y ≡ Some r → 0 < n → n ≤ WIDTH_MAX → Does r.shape n (issues_of (r.trace n)) (meaning_of y n)
 does_case x None r n m h l k = cc
 does_case None (Some o) r n m h l k = elim m [ ]
 does_case (Some e) (Some o) r n (both _ _ d) h l k =

@@ -2,7 +2,7 @@
 use Rattle.std.specs.Prelude.{◌≡◌, ℕ, ◌<◌, ◌≤◌, List, All, length, Option, Some, None}
 use Rattle.dram_model.specs.declared.geometry.Geometry.{Geometry}
 use Rattle.dram_model.specs.Chip.{Banks}
-use Rattle.uprog_code.specs.declared.TheConstants.{BUILT_WIDTH}
+use Rattle.bit_rows.specs.declared.TheConstants.{WIDTH_MAX}
 use Rattle.machine_model.specs.Operations.{Does}
 use Rattle.uprog_code.specs.Machine.{issues_of, Trace}
 use Rattle.object_alloc.specs.Listed.{IsTable}
@@ -27,7 +27,7 @@ pub record Agrees (g : Geometry) (banks : Banks) (state : List Held) : Type 0 wh
 
 -- what is issued for each operation does what it means
 abbrev pub DoesAll : Operations → (List ℕ → ℕ → List ℕ → ℕ) → Type 0
-DoesAll operations meaning = (name : List ℕ) (o : Operation) → operations name ≡ Some o → (n : ℕ) → 0 < n → n ≤ BUILT_WIDTH → Does o.shape n (issues_of (o.trace n)) (meaning name n)
+DoesAll operations meaning = (name : List ℕ) (o : Operation) → operations name ≡ Some o → (n : ℕ) → 0 < n → n ≤ WIDTH_MAX → Does o.shape n (issues_of (o.trace n)) (meaning name n)
 
 -- The step of the rows gives the word machine's step
 abbrev pub StepAgrees : Geometry → Operations → (List ℕ → ℕ → List ℕ → ℕ) → Instruction → Type 0
@@ -37,7 +37,7 @@ StepAgrees g operations meaning instr =
 
 -- what every script has: an object and a bbop have widths from 1 to 64
 abbrev pub IsWidth : ℕ → Type 0
-IsWidth n = (0 < n) × (n ≤ BUILT_WIDTH)
+IsWidth n = (0 < n) × (n ≤ WIDTH_MAX)
 
 abbrev pub IsPlain : Instruction → Type 0
 IsPlain (Init name count n) = IsWidth n

@@ -7,7 +7,8 @@ use Rattle.dram_model.specs.Chip.{Banks, after, all_counted}
 use Rattle.dram_model.specs.declared.dram.Counters.{Counters}
 use Rattle.object_alloc.specs.Listed.{Named}
 use Rattle.bbop_isa.specs.Forms.{Instruction}
-use Rattle.machine_model.specs.Operations.{Program, TextOp, Operations, operations_of, operations_in, meaning_in, ImplementsAll}
+use Rattle.machine_model.specs.Operations.{Program, Operations, operations_of, operations_in, meaning_in}
+use Rattle.uprog_code.specs.Texts.{TextOp, ImplementsAll}
 use Rattle.machine_model.specs.Steps.{Held, table_of}
 use Rattle.machine_model.specs.Agrees.{Agrees, DoesAll, IsPlain}
 use Rattle.machine_model.specs.Script.{banks_at_end, words_at_end, script_events, replies, sum_of, is_bbop, with_counts}

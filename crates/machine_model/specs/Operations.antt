@@ -7,19 +7,12 @@ use Rattle.op_text.specs.declared.tree.Kind.{Kind}
 use Rattle.uprog_code.specs.declared.code.Uop.{Uop}
 use Rattle.uprog_code.specs.Shape.{Shape, Microprogram}
 use Rattle.uprog_code.specs.Machine.{Issue, Trace, Stuck, trace}
-use Rattle.uprog_code.specs.Implements.{Gives, Keeps, Implements}
+use Rattle.uprog_code.specs.Implements.{Gives, Keeps}
+use Rattle.uprog_code.specs.Texts.{TextOp}
 use Rattle.uprog_code.specs.declared.walker.Why3.TheVariants.{Index}
 
 abbrev pub Program : Type 0
 Program = List Microprogram
-
--- an op of a text, as far as a machine knows it: its name, its kinds and scratch, how many commands it may take, and
--- the number that it makes of its sources' numbers
-pub record TextOp : Type 0 where
-  pub name : List ℕ
-  pub shape : Shape
-  pub ceiling : ℕ → ℕ
-  pub meaning : ℕ → List ℕ → ℕ
 
 -- what a bbop names: what the operation takes and gives, and what is issued for it at each width
 pub record Operation : Type 0 where
@@ -63,16 +56,3 @@ meaning_in t name = meaning_of (op_named t name)
 pub record Does (shape : Shape) (n : ℕ) (issues : List Issue) (meaning : List ℕ → ℕ) : Type 0 where
   pub gives : Gives shape n issues meaning
   pub keeps : Keeps shape n issues
-
--- the entry is the op's, and its code does the op
-pub record EntryDoes (e : Microprogram) (o : TextOp) : Type 0 where
-  pub name : e.name ≡ o.name
-  pub shape : e.shape ≡ o.shape
-  pub code : Implements o.shape e.code o.ceiling o.meaning
-
--- the program has the ops of the text, in order, and does them
-abbrev pub ImplementsAll : Program → List TextOp → Type 0
-ImplementsAll [] [] = Unit {0}
-ImplementsAll [] (o ∷ t) = ⊥
-ImplementsAll (e ∷ p) [] = ⊥
-ImplementsAll (e ∷ p) (o ∷ t) = EntryDoes e o × ImplementsAll p t

@@ -2,7 +2,7 @@ ghost use Rattle.std.specs.Prelude.{◌≡◌, ◌<◌, ◌^◌, All, IfOk, true
 ghost use Rattle.uprog_code.specs.Shape.{shape_of, microprograms_of};
 ghost use Rattle.uprog_code.specs.Fits.{Fits};
 ghost use Rattle.uprog_code.specs.Bound.{bound_of};
-ghost use Rattle.uprog_bin.specs.Spelling.{IsProgram};
+ghost use Rattle.uprog_code.specs.Programs.{IsProgram};
 ghost use Rattle.part_tests.specs.Xor.{xor_shape, xor_code};
 
 use arrayvec::ArrayVec;

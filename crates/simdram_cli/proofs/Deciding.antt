@@ -9,7 +9,7 @@ use Rattle.cli_model.specs.Steps.{Step, Store, Use, Put, Refusal, Reason, Cannot
 use Rattle.cli_model.specs.Status.{end_status}
 use Rattle.cli_model.specs.Causes.{IsLoaded, IsFault, Decided, foreseen}
 use Rattle.cli_model.proofs.Causing.{files_decide}
-use Rattle.built_forms.specs.Texts.{ops_of, script_in, image_of}
+use Rattle.built_forms.specs.Texts.{ops_in, script_in, image_of}
 use Rattle.simdram_cli.specs.declared.words.RunNames.{RunNames}
 use Rattle.simdram_cli.specs.declared.words.TheConstants.{OPS_MAX, SCRIPT_MAX, IMAGE_MAX}
 use Rattle.simdram_cli.specs.Run.{Texts, run_steps, line_steps, said_by, image_by}
@@ -34,7 +34,7 @@ loaded_by name other limit text (Err r) rest P here there (inr l) = absurd l
 -- what a run loads
 run_inputs : (names : RunNames) (program : Program) (texts : Texts) (name : List ℕ) → IsLoaded name (run_steps names program texts) → IsInput names name
 run_inputs names program texts name l =
-    loaded_by name names.ops.now OPS_MAX texts.ops (ops_of texts.ops) _ (IsInput names name) (λ e. inl e) (λ t m.
+    loaded_by name names.ops.now OPS_MAX texts.ops (ops_in texts.ops) _ (IsInput names name) (λ e. inl e) (λ t m.
     loaded_by name names.script.now SCRIPT_MAX texts.script (script_in texts.script) _ (IsInput names name) (λ e. inr (inl e)) (λ script n.
     loaded_by name names.image.now IMAGE_MAX texts.image (image_of texts.image) _ (IsInput names name) (λ e. inr (inr e)) (λ i o.
     absurd (not_loaded name 1 (said_by program script i) (Use ∷ Store names.out.now (image_by program script i) ∷ Put _ ∷ []) (λ none. none) o)) n) m) l
@@ -61,7 +61,7 @@ refused_not r ChipFailed e f = absurd (cc)
 
 -- a refusal is one of the three, by its status
 pub data RefusedBy (names : RunNames) (files : Files) (r : Refusal) : Type 0 where
-  by_ops : Reads ops_of OPS_MAX files names.ops.now (Err r) → r.status ≡ 4 → RefusedBy names files r
+  by_ops : Reads ops_in OPS_MAX files names.ops.now (Err r) → r.status ≡ 4 → RefusedBy names files r
   by_script : TakesOps names files → Reads script_in SCRIPT_MAX files names.script.now (Err r) → r.status ≡ 6 → RefusedBy names files r
   by_image : TakesOps names files → TakesScript names files → Reads image_of IMAGE_MAX files names.image.now (Err r) → r.status ≡ 7 → RefusedBy names files r
 
@@ -86,7 +86,7 @@ refused_known names files r end e k = elim k.known [
   | inr (reason, f, fault) ↦ absurd (refused_not r reason (sym e ∙ f) fault)
 ]
 
-only_ops : (names : RunNames) (files : Files) (r : Refusal) → r.status ≡ 4 → RefusedBy names files r → (s : Refusal) × Reads ops_of OPS_MAX files names.ops.now (Err s)
+only_ops : (names : RunNames) (files : Files) (r : Refusal) → r.status ≡ 4 → RefusedBy names files r → (s : Refusal) × Reads ops_in OPS_MAX files names.ops.now (Err s)
 only_ops names files r e (by_ops reads f) = (r, reads)
 only_ops names files r e (by_script ops reads f) = absurd (omega arith)
 only_ops names files r e (by_image ops script reads f) = absurd (omega arith)
@@ -215,33 +215,33 @@ ops_long : (names : RunNames) (files : Files) (old new : World) (status : ℕ) (
     → (status ≡ 11) ⊎ IsFaulty old new status
 ops_long names files old new status end done either s l (no_ops none f) = absurd (none_long OPS_MAX files names.ops.now none l)
 ops_long names files old new status end done either s l (long_ops long f) = inl (s ∙ ap (end_status done) f)
-ops_long names files old new status end done either s l (bad_ops r2 reads2 f) = absurd (long_reads ops_of OPS_MAX files names.ops.now _ l reads2)
-ops_long names files old new status end done either s l (no_script ops2 none f) = absurd (long_reads ops_of OPS_MAX files names.ops.now _ l ops2.1)
-ops_long names files old new status end done either s l (long_script ops2 long f) = absurd (long_reads ops_of OPS_MAX files names.ops.now _ l ops2.1)
-ops_long names files old new status end done either s l (bad_script ops2 r2 reads2 f) = absurd (long_reads ops_of OPS_MAX files names.ops.now _ l ops2.1)
-ops_long names files old new status end done either s l (no_image ops2 script2 none f) = absurd (long_reads ops_of OPS_MAX files names.ops.now _ l ops2.1)
-ops_long names files old new status end done either s l (long_image ops2 script2 long f) = absurd (long_reads ops_of OPS_MAX files names.ops.now _ l ops2.1)
-ops_long names files old new status end done either s l (bad_image ops2 script2 r2 reads2 f) = absurd (long_reads ops_of OPS_MAX files names.ops.now _ l ops2.1)
-ops_long names files old new status end done either s l (all_taken ops2 script2 image2 f) = absurd (long_reads ops_of OPS_MAX files names.ops.now _ l ops2.1)
+ops_long names files old new status end done either s l (bad_ops r2 reads2 f) = absurd (long_reads ops_in OPS_MAX files names.ops.now _ l reads2)
+ops_long names files old new status end done either s l (no_script ops2 none f) = absurd (long_reads ops_in OPS_MAX files names.ops.now _ l ops2.1)
+ops_long names files old new status end done either s l (long_script ops2 long f) = absurd (long_reads ops_in OPS_MAX files names.ops.now _ l ops2.1)
+ops_long names files old new status end done either s l (bad_script ops2 r2 reads2 f) = absurd (long_reads ops_in OPS_MAX files names.ops.now _ l ops2.1)
+ops_long names files old new status end done either s l (no_image ops2 script2 none f) = absurd (long_reads ops_in OPS_MAX files names.ops.now _ l ops2.1)
+ops_long names files old new status end done either s l (long_image ops2 script2 long f) = absurd (long_reads ops_in OPS_MAX files names.ops.now _ l ops2.1)
+ops_long names files old new status end done either s l (bad_image ops2 script2 r2 reads2 f) = absurd (long_reads ops_in OPS_MAX files names.ops.now _ l ops2.1)
+ops_long names files old new status end done either s l (all_taken ops2 script2 image2 f) = absurd (long_reads ops_in OPS_MAX files names.ops.now _ l ops2.1)
 
-ops_bad : (names : RunNames) (files : Files) (old new : World) (status : ℕ) (end : End) (done : ℕ) → (done ≡ 0) ⊎ (done ≡ 8) → status ≡ end_status done end → (r : Refusal) → Reads ops_of OPS_MAX files names.ops.now (Err r) → Fate names files end
+ops_bad : (names : RunNames) (files : Files) (old new : World) (status : ℕ) (end : End) (done : ℕ) → (done ≡ 0) ⊎ (done ≡ 8) → status ≡ end_status done end → (r : Refusal) → Reads ops_in OPS_MAX files names.ops.now (Err r) → Fate names files end
     → (status ≡ 4) ⊎ IsFaulty old new status
-ops_bad names files old new status end done either s r reads (no_ops none f) = absurd (none_reads ops_of OPS_MAX files names.ops.now _ none reads)
-ops_bad names files old new status end done either s r reads (long_ops long f) = absurd (long_reads ops_of OPS_MAX files names.ops.now _ long reads)
+ops_bad names files old new status end done either s r reads (no_ops none f) = absurd (none_reads ops_in OPS_MAX files names.ops.now _ none reads)
+ops_bad names files old new status end done either s r reads (long_ops long f) = absurd (long_reads ops_in OPS_MAX files names.ops.now _ long reads)
 ops_bad names files old new status end done either s r reads (bad_ops r2 reads2 f) = inl (s ∙ ap (end_status done) f ∙ ops_status reads2.text r2 reads2.reads)
-ops_bad names files old new status end done either s r reads (no_script ops2 none f) = absurd (err_ok ops_of OPS_MAX files names.ops.now r ops2.0 reads ops2.1)
-ops_bad names files old new status end done either s r reads (long_script ops2 long f) = absurd (err_ok ops_of OPS_MAX files names.ops.now r ops2.0 reads ops2.1)
-ops_bad names files old new status end done either s r reads (bad_script ops2 r2 reads2 f) = absurd (err_ok ops_of OPS_MAX files names.ops.now r ops2.0 reads ops2.1)
-ops_bad names files old new status end done either s r reads (no_image ops2 script2 none f) = absurd (err_ok ops_of OPS_MAX files names.ops.now r ops2.0 reads ops2.1)
-ops_bad names files old new status end done either s r reads (long_image ops2 script2 long f) = absurd (err_ok ops_of OPS_MAX files names.ops.now r ops2.0 reads ops2.1)
-ops_bad names files old new status end done either s r reads (bad_image ops2 script2 r2 reads2 f) = absurd (err_ok ops_of OPS_MAX files names.ops.now r ops2.0 reads ops2.1)
-ops_bad names files old new status end done either s r reads (all_taken ops2 script2 image2 f) = absurd (err_ok ops_of OPS_MAX files names.ops.now r ops2.0 reads ops2.1)
+ops_bad names files old new status end done either s r reads (no_script ops2 none f) = absurd (err_ok ops_in OPS_MAX files names.ops.now r ops2.0 reads ops2.1)
+ops_bad names files old new status end done either s r reads (long_script ops2 long f) = absurd (err_ok ops_in OPS_MAX files names.ops.now r ops2.0 reads ops2.1)
+ops_bad names files old new status end done either s r reads (bad_script ops2 r2 reads2 f) = absurd (err_ok ops_in OPS_MAX files names.ops.now r ops2.0 reads ops2.1)
+ops_bad names files old new status end done either s r reads (no_image ops2 script2 none f) = absurd (err_ok ops_in OPS_MAX files names.ops.now r ops2.0 reads ops2.1)
+ops_bad names files old new status end done either s r reads (long_image ops2 script2 long f) = absurd (err_ok ops_in OPS_MAX files names.ops.now r ops2.0 reads ops2.1)
+ops_bad names files old new status end done either s r reads (bad_image ops2 script2 r2 reads2 f) = absurd (err_ok ops_in OPS_MAX files names.ops.now r ops2.0 reads ops2.1)
+ops_bad names files old new status end done either s r reads (all_taken ops2 script2 image2 f) = absurd (err_ok ops_in OPS_MAX files names.ops.now r ops2.0 reads ops2.1)
 
 script_long : (names : RunNames) (files : Files) (old new : World) (status : ℕ) (end : End) (done : ℕ) → (done ≡ 0) ⊎ (done ≡ 8) → status ≡ end_status done end → TakesOps names files → IsTooLong SCRIPT_MAX files names.script.now → Fate names files end
     → (status ≡ 11) ⊎ IsFaulty old new status
-script_long names files old new status end done either s ops l (no_ops none f) = absurd (none_reads ops_of OPS_MAX files names.ops.now _ none ops.1)
-script_long names files old new status end done either s ops l (long_ops long f) = absurd (long_reads ops_of OPS_MAX files names.ops.now _ long ops.1)
-script_long names files old new status end done either s ops l (bad_ops r2 reads2 f) = absurd (err_ok ops_of OPS_MAX files names.ops.now r2 ops.0 reads2 ops.1)
+script_long names files old new status end done either s ops l (no_ops none f) = absurd (none_reads ops_in OPS_MAX files names.ops.now _ none ops.1)
+script_long names files old new status end done either s ops l (long_ops long f) = absurd (long_reads ops_in OPS_MAX files names.ops.now _ long ops.1)
+script_long names files old new status end done either s ops l (bad_ops r2 reads2 f) = absurd (err_ok ops_in OPS_MAX files names.ops.now r2 ops.0 reads2 ops.1)
 script_long names files old new status end done either s ops l (no_script ops2 none f) = absurd (none_long SCRIPT_MAX files names.script.now none l)
 script_long names files old new status end done either s ops l (long_script ops2 long f) = inl (s ∙ ap (end_status done) f)
 script_long names files old new status end done either s ops l (bad_script ops2 r2 reads2 f) = absurd (long_reads script_in SCRIPT_MAX files names.script.now _ l reads2)
@@ -252,9 +252,9 @@ script_long names files old new status end done either s ops l (all_taken ops2 s
 
 script_bad : (names : RunNames) (files : Files) (old new : World) (status : ℕ) (end : End) (done : ℕ) → (done ≡ 0) ⊎ (done ≡ 8) → status ≡ end_status done end → TakesOps names files → (r : Refusal) → Reads script_in SCRIPT_MAX files names.script.now (Err r) → Fate names files end
     → (status ≡ 6) ⊎ IsFaulty old new status
-script_bad names files old new status end done either s ops r reads (no_ops none f) = absurd (none_reads ops_of OPS_MAX files names.ops.now _ none ops.1)
-script_bad names files old new status end done either s ops r reads (long_ops long f) = absurd (long_reads ops_of OPS_MAX files names.ops.now _ long ops.1)
-script_bad names files old new status end done either s ops r reads (bad_ops r2 reads2 f) = absurd (err_ok ops_of OPS_MAX files names.ops.now r2 ops.0 reads2 ops.1)
+script_bad names files old new status end done either s ops r reads (no_ops none f) = absurd (none_reads ops_in OPS_MAX files names.ops.now _ none ops.1)
+script_bad names files old new status end done either s ops r reads (long_ops long f) = absurd (long_reads ops_in OPS_MAX files names.ops.now _ long ops.1)
+script_bad names files old new status end done either s ops r reads (bad_ops r2 reads2 f) = absurd (err_ok ops_in OPS_MAX files names.ops.now r2 ops.0 reads2 ops.1)
 script_bad names files old new status end done either s ops r reads (no_script ops2 none f) = absurd (none_reads script_in SCRIPT_MAX files names.script.now _ none reads)
 script_bad names files old new status end done either s ops r reads (long_script ops2 long f) = absurd (long_reads script_in SCRIPT_MAX files names.script.now _ long reads)
 script_bad names files old new status end done either s ops r reads (bad_script ops2 r2 reads2 f) = inl (s ∙ ap (end_status done) f ∙ script_status reads2.text r2 reads2.reads)
@@ -265,9 +265,9 @@ script_bad names files old new status end done either s ops r reads (all_taken o
 
 image_long : (names : RunNames) (files : Files) (old new : World) (status : ℕ) (end : End) (done : ℕ) → (done ≡ 0) ⊎ (done ≡ 8) → status ≡ end_status done end → TakesOps names files → TakesScript names files → IsTooLong IMAGE_MAX files names.image.now → Fate names files end
     → (status ≡ 11) ⊎ IsFaulty old new status
-image_long names files old new status end done either s ops script l (no_ops none f) = absurd (none_reads ops_of OPS_MAX files names.ops.now _ none ops.1)
-image_long names files old new status end done either s ops script l (long_ops long f) = absurd (long_reads ops_of OPS_MAX files names.ops.now _ long ops.1)
-image_long names files old new status end done either s ops script l (bad_ops r2 reads2 f) = absurd (err_ok ops_of OPS_MAX files names.ops.now r2 ops.0 reads2 ops.1)
+image_long names files old new status end done either s ops script l (no_ops none f) = absurd (none_reads ops_in OPS_MAX files names.ops.now _ none ops.1)
+image_long names files old new status end done either s ops script l (long_ops long f) = absurd (long_reads ops_in OPS_MAX files names.ops.now _ long ops.1)
+image_long names files old new status end done either s ops script l (bad_ops r2 reads2 f) = absurd (err_ok ops_in OPS_MAX files names.ops.now r2 ops.0 reads2 ops.1)
 image_long names files old new status end done either s ops script l (no_script ops2 none f) = absurd (none_reads script_in SCRIPT_MAX files names.script.now _ none script.1)
 image_long names files old new status end done either s ops script l (long_script ops2 long f) = absurd (long_reads script_in SCRIPT_MAX files names.script.now _ long script.1)
 image_long names files old new status end done either s ops script l (bad_script ops2 r2 reads2 f) = absurd (err_ok script_in SCRIPT_MAX files names.script.now r2 script.0 reads2 script.1)
@@ -278,9 +278,9 @@ image_long names files old new status end done either s ops script l (all_taken 
 
 image_bad : (names : RunNames) (files : Files) (old new : World) (status : ℕ) (end : End) (done : ℕ) → (done ≡ 0) ⊎ (done ≡ 8) → status ≡ end_status done end → TakesOps names files → TakesScript names files → (r : Refusal) → Reads image_of IMAGE_MAX files names.image.now (Err r) → Fate names files end
     → (status ≡ 7) ⊎ IsFaulty old new status
-image_bad names files old new status end done either s ops script r reads (no_ops none f) = absurd (none_reads ops_of OPS_MAX files names.ops.now _ none ops.1)
-image_bad names files old new status end done either s ops script r reads (long_ops long f) = absurd (long_reads ops_of OPS_MAX files names.ops.now _ long ops.1)
-image_bad names files old new status end done either s ops script r reads (bad_ops r2 reads2 f) = absurd (err_ok ops_of OPS_MAX files names.ops.now r2 ops.0 reads2 ops.1)
+image_bad names files old new status end done either s ops script r reads (no_ops none f) = absurd (none_reads ops_in OPS_MAX files names.ops.now _ none ops.1)
+image_bad names files old new status end done either s ops script r reads (long_ops long f) = absurd (long_reads ops_in OPS_MAX files names.ops.now _ long ops.1)
+image_bad names files old new status end done either s ops script r reads (bad_ops r2 reads2 f) = absurd (err_ok ops_in OPS_MAX files names.ops.now r2 ops.0 reads2 ops.1)
 image_bad names files old new status end done either s ops script r reads (no_script ops2 none f) = absurd (none_reads script_in SCRIPT_MAX files names.script.now _ none script.1)
 image_bad names files old new status end done either s ops script r reads (long_script ops2 long f) = absurd (long_reads script_in SCRIPT_MAX files names.script.now _ long script.1)
 image_bad names files old new status end done either s ops script r reads (bad_script ops2 r2 reads2 f) = absurd (err_ok script_in SCRIPT_MAX files names.script.now r2 script.0 reads2 script.1)
@@ -291,9 +291,9 @@ image_bad names files old new status end done either s ops script r reads (all_t
 
 all_done : (names : RunNames) (files : Files) (old new : World) (status : ℕ) (end : End) (done : ℕ) → (done ≡ 0) ⊎ (done ≡ 8) → status ≡ end_status done end → TakesOps names files → TakesScript names files → TakesImage names files → Fate names files end
     → (status ≡ 0) ⊎ ((status ≡ 8) ⊎ IsFaulty old new status)
-all_done names files old new status end done either s ops script image (no_ops none f) = absurd (none_reads ops_of OPS_MAX files names.ops.now _ none ops.1)
-all_done names files old new status end done either s ops script image (long_ops long f) = absurd (long_reads ops_of OPS_MAX files names.ops.now _ long ops.1)
-all_done names files old new status end done either s ops script image (bad_ops r2 reads2 f) = absurd (err_ok ops_of OPS_MAX files names.ops.now r2 ops.0 reads2 ops.1)
+all_done names files old new status end done either s ops script image (no_ops none f) = absurd (none_reads ops_in OPS_MAX files names.ops.now _ none ops.1)
+all_done names files old new status end done either s ops script image (long_ops long f) = absurd (long_reads ops_in OPS_MAX files names.ops.now _ long ops.1)
+all_done names files old new status end done either s ops script image (bad_ops r2 reads2 f) = absurd (err_ok ops_in OPS_MAX files names.ops.now r2 ops.0 reads2 ops.1)
 all_done names files old new status end done either s ops script image (no_script ops2 none f) = absurd (none_reads script_in SCRIPT_MAX files names.script.now _ none script.1)
 all_done names files old new status end done either s ops script image (long_script ops2 long f) = absurd (long_reads script_in SCRIPT_MAX files names.script.now _ long script.1)
 all_done names files old new status end done either s ops script image (bad_script ops2 r2 reads2 f) = absurd (err_ok script_in SCRIPT_MAX files names.script.now r2 script.0 reads2 script.1)

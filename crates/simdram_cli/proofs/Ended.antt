@@ -26,7 +26,7 @@ pub run_ends : (names : RunNames) (old mid new : World) (chip : ChipView) (resul
 run_ends names old mid new chip (Ok refused) status g tells answers = record {
   program = g.program;
   texts = g.texts;
-  implements = g.implements;
+  compiled = g.compiled;
   read = g.read;
   ran = record {
     end = Done;
@@ -41,7 +41,7 @@ run_ends names old mid new chip (Ok refused) status g tells answers = record {
 run_ends names old mid new chip (Err stop) status g tells answers = record {
   program = g.program;
   texts = g.texts;
-  implements = g.implements;
+  compiled = g.compiled;
   read = g.read;
   ran = record { end = Stopped (reason_of stop); stopped = mid; goes = g.goes; tells = tells; answers = answers };
   stands = stopped_at (run_steps names g.program g.texts) (reason_of stop) old mid g.goes;

@@ -14,7 +14,9 @@ use Rattle.cli_model.specs.Steps.{Step, Load, Take, Store, Use, Put, Refusal, Ca
 use Rattle.cli_model.specs.Causes.{foreseen}
 use Rattle.object_alloc.specs.declared.fault.ImageFault.{ImageFault}
 use Rattle.object_alloc.specs.Reading.{Found, image_in}
-use Rattle.built_forms.specs.Texts.{ops_of, script_in, image_of, and_op, is_and_text, built_from, at_line, built_image, is_built_image, image_found, not_yet}
+use Rattle.op_text.specs.declared.fault.OpsFault.{OpsFault}
+use Rattle.op_text.specs.Lines.{fault_in}
+use Rattle.built_forms.specs.Texts.{ops_in, ops_refusal, unless_fault, script_in, image_of, built_from, at_line, built_image, is_built_image, image_found, not_yet}
 use Rattle.simdram_cli.specs.declared.words.RunNames.{RunNames}
 use Rattle.simdram_cli.specs.declared.words.TheConstants.{OPS_MAX, SCRIPT_MAX, IMAGE_MAX}
 use Rattle.simdram_cli.specs.Reads.{IsText}
@@ -89,7 +91,7 @@ text_behind names bytes files name text e is = subst (λ (o : Option (List ℕ))
 pub data Fate (names : RunNames) (files : Files) (end : End) : Type 0 where
   no_ops : files names.ops.now ≡ None → end ≡ Stopped (CannotRead names.ops.now) → Fate names files end
   long_ops : IsTooLong OPS_MAX files names.ops.now → end ≡ Stopped (TooLong names.ops.now) → Fate names files end
-  bad_ops : (r : Refusal) → Reads ops_of OPS_MAX files names.ops.now (Err r) → end ≡ Stopped (Refused r) → Fate names files end
+  bad_ops : (r : Refusal) → Reads ops_in OPS_MAX files names.ops.now (Err r) → end ≡ Stopped (Refused r) → Fate names files end
   no_script : TakesOps names files → files names.script.now ≡ None → end ≡ Stopped (CannotRead names.script.now) → Fate names files end
   long_script : TakesOps names files → IsTooLong SCRIPT_MAX files names.script.now → end ≡ Stopped (TooLong names.script.now) → Fate names files end
   bad_script : TakesOps names files → (r : Refusal) → Reads script_in SCRIPT_MAX files names.script.now (Err r) → end ≡ Stopped (Refused r) → Fate names files end
@@ -117,7 +119,7 @@ script_fate names program texts bytes files end apart is ops (taken script reads
     (load_fate image_of IMAGE_MAX (with_file names.prog.now bytes files) names.image.now texts.image (λ i. work_steps names.out.now program script i) (text_behind names bytes files names.image.now texts.image apart.others.image is)))
 
 ops_fate : (names : RunNames) (program : Program) (texts : Texts) (files : Files) (end : End) → Apart names → IsRead names texts (Some files)
-    → LoadFate ops_of OPS_MAX files names.ops.now (λ t. Take ∷ Store names.prog.now (program_bytes program) ∷ loading names.script.now SCRIPT_MAX texts.script (script_in texts.script) (λ script. loading names.image.now IMAGE_MAX texts.image (image_of texts.image) (λ i. work_steps names.out.now program script i))) end
+    → LoadFate ops_in OPS_MAX files names.ops.now (λ t. Take ∷ Store names.prog.now (program_bytes program) ∷ loading names.script.now SCRIPT_MAX texts.script (script_in texts.script) (λ script. loading names.image.now IMAGE_MAX texts.image (image_of texts.image) (λ i. work_steps names.out.now program script i))) end
     → Fate names files end
 ops_fate names program texts files end apart is (absent none e) = no_ops none e
 ops_fate names program texts files end apart is (long l e) = long_ops l e
@@ -131,14 +133,18 @@ ops_fate names program texts files end apart is (taken t reads e) =
 -- how a run is foretold
 pub run_fate : (names : RunNames) (program : Program) (texts : Texts) (files : Files) → Apart names → IsRead names texts (Some files) → Fate names files (foreseen (run_steps names program texts) files)
 run_fate names program texts files apart is = ops_fate names program texts files (foreseen (run_steps names program texts) files) apart is
-    (load_fate ops_of OPS_MAX files names.ops.now texts.ops (λ t. Take ∷ Store names.prog.now (program_bytes program) ∷ loading names.script.now SCRIPT_MAX texts.script (script_in texts.script) (λ script. loading names.image.now IMAGE_MAX texts.image (image_of texts.image) (λ i. work_steps names.out.now program script i))) is.ops)
+    (load_fate ops_in OPS_MAX files names.ops.now texts.ops (λ t. Take ∷ Store names.prog.now (program_bytes program) ∷ loading names.script.now SCRIPT_MAX texts.script (script_in texts.script) (λ script. loading names.image.now IMAGE_MAX texts.image (image_of texts.image) (λ i. work_steps names.out.now program script i))) is.ops)
 
 status_case : {A : Type 0} (b : Bool) (x : A) (refusal r : Refusal) → cond b (Ok x) (Err refusal) ≡ Err r → r.status ≡ refusal.status
 status_case true x refusal r e = absurd (cc)
 status_case false x refusal r e = let same : refusal ≡ r = cc in ap (λ (y : Refusal). y.status) (sym same)
 
-pub ops_status : (text : List ℕ) (r : Refusal) → ops_of text ≡ Err r → r.status ≡ 4
-ops_status text r e = status_case (is_and_text text) (and_op ∷ []) (not_yet 4 (codes "ops line ") 1) r e
+fault_status : (fault : Option OpsFault) (r : Refusal) → unless_fault fault ≡ Err r → r.status ≡ 4
+fault_status None r e = absurd (cc)
+fault_status (Some fault) r e = let same : ops_refusal fault ≡ r = cc in ap (λ (y : Refusal). y.status) (sym same)
+
+pub ops_status : (text : List ℕ) (r : Refusal) → ops_in text ≡ Err r → r.status ≡ 4
+ops_status text r e = fault_status (fault_in text) r e
 
 line_status : (script : Result (List Instruction) ℕ) (r : Refusal) → at_line script ≡ Err r → r.status ≡ 6
 line_status (Ok script) r e = absurd (cc)

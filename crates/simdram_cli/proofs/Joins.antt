@@ -5,12 +5,12 @@ use Rattle.std.specs.Option.{unwrap_or}
 use Rattle.host_edge.specs.Views.{Files, FolderView, SinkView, Told}
 use Rattle.uprog_bin.specs.Spelling.{program_bytes}
 use Rattle.bbop_isa.specs.Forms.{Instruction}
-use Rattle.machine_model.specs.Operations.{Program, TextOp, ImplementsAll}
+use Rattle.machine_model.specs.Operations.{Program}
 use Rattle.machine_model.specs.Opened.{Image}
 use Rattle.cli_model.specs.World.{World, world, with_file}
 use Rattle.cli_model.specs.Steps.{Step, Load, Take, Store, Refusal, Reason, End, Stopped, Goes, Loaded, LoadFails, loading}
 use Rattle.cli_model.proofs.Going.{goes_on, all_stand}
-use Rattle.built_forms.specs.Texts.{ops_of, script_in, image_of}
+use Rattle.built_forms.specs.Texts.{ops_in, script_in, image_of}
 use Rattle.simdram_cli.specs.declared.words.RunNames.{RunNames}
 use Rattle.simdram_cli.specs.declared.words.TheConstants.{OPS_MAX, SCRIPT_MAX}
 use Rattle.simdram_cli.specs.declared.stop.Stop.{Stop}
@@ -66,9 +66,9 @@ text_before stored bytes (Some before) (Some after) name text apart t is =
     file_apart (bytes_eq name stored) bytes (before name) text apart now
 
 -- what is told after PROG was stored
-pub stored_program : (names : RunNames) (ops : List TextOp) (program : Program) (old new : FolderView) (sink : SinkView) → ProgramTaken names ops program old new
+pub stored_program : (names : RunNames) (program : Program) (old new : FolderView) (sink : SinkView) → ProgramTaken names program old new
     → Told (λ before after. after ≡ with_file names.prog.now (program_bytes program) before) old.holds new.holds
-stored_program names ops program old new sink taken =
+stored_program names program old new sink taken =
     (all_stand (Load names.ops.now OPS_MAX taken.text None ∷ Take ∷ Store names.prog.now (program_bytes program) ∷ []) (world old sink 0) (world new sink 0) (taken.goes sink 0)).files
 
 -- the three files are not PROG
@@ -80,45 +80,44 @@ abbrev pub no_texts : RunNames → Option Files → List ℕ → Texts
 no_texts names holds ops = record { ops = ops; script = told_text holds names.script.now; image = told_text holds names.image.now }
 
 -- a run that stopped before PROG was stored
-pub run_stopped : (names : RunNames) (program : Program) (stop : Stop) (old new : FolderView) (sink : SinkView) (k : ℕ) (chip : ChipView)
-    → ((text : List ℕ) → IfOk (ops_of text) (ImplementsAll program)) → ProgramStopped names program (reason_of stop) old new
+pub run_stopped : (names : RunNames) (stop : Stop) (old new : FolderView) (sink : SinkView) (k : ℕ) (chip : ChipView) → ProgramStopped names (reason_of stop) old new
     → RunGoes names (world old sink k) (world new sink k) chip (Err stop)
-run_stopped names program stop old new sink k chip does s = record {
-  program = program;
+run_stopped names stop old new sink k chip s = record {
+  program = s.program;
   texts = no_texts names old.holds s.text;
-  implements = does s.text;
+  compiled = inl (s.goes [] sink k);
   read = record { ops = s.is_text; script = told_is_text old.holds names.script.now; image = told_is_text old.holds names.image.now };
   goes = s.goes _ sink k;
   done = tt;
 }
 
-goes_ops : (names : RunNames) (ops : List TextOp) (program : Program) (old mid : FolderView) (sink : SinkView) (k : ℕ) (rest : List Step) (end : End) (w : World)
-    → (t : ProgramTaken names ops program old mid) → Goes rest end (world mid sink k) w
-    → Goes (loading names.ops.now OPS_MAX t.text (ops_of t.text) (λ _. Take ∷ Store names.prog.now (program_bytes program) ∷ rest)) end (world old sink k) w
-goes_ops names ops program old mid sink k rest end w t g =
-    rw t.value_is (goes_on (Load names.ops.now OPS_MAX t.text None ∷ Take ∷ Store names.prog.now (program_bytes program) ∷ []) rest end (world old sink k) (world mid sink k) w (t.goes sink k) g)
+goes_ops : (names : RunNames) (program : Program) (old mid : FolderView) (sink : SinkView) (k : ℕ) (rest : List Step) (end : End) (w : World)
+    → (t : ProgramTaken names program old mid) → Goes rest end (world mid sink k) w
+    → Goes (loading names.ops.now OPS_MAX t.text (ops_in t.text) (λ _. Take ∷ Store names.prog.now (program_bytes program) ∷ rest)) end (world old sink k) w
+goes_ops names program old mid sink k rest end w t g =
+    rw t.accepted (goes_on (Load names.ops.now OPS_MAX t.text None ∷ Take ∷ Store names.prog.now (program_bytes program) ∷ []) rest end (world old sink k) (world mid sink k) w (t.goes sink k) g)
 
-taken_text : (names : RunNames) (ops : List TextOp) (program : Program) (old mid : FolderView) (sink : SinkView) → (t : ProgramTaken names ops program old mid) → IsText old.holds names.ops.now t.text
-taken_text names ops program old mid sink t = elim (t.goes sink 0) [
+taken_text : (names : RunNames) (program : Program) (old mid : FolderView) (sink : SinkView) → (t : ProgramTaken names program old mid) → IsText old.holds names.ops.now t.text
+taken_text names program old mid sink t = elim (t.goes sink 0) [
   | inl (next, (does, rest)) ↦ loaded_text names.ops.now OPS_MAX t.text (world old sink 0) next does.1
   | inr fails ↦ absurd fails
 ]
 
 -- a run that stopped at SCRIPT
-pub run_unread : (names : RunNames) (ops : List TextOp) (program : Program) (stop : Stop) (old mid new : FolderView) (sink : SinkView) (k : ℕ) (chip : ChipView) → AreOthers names
-    → ((text : List ℕ) → IfOk (ops_of text) (ImplementsAll program)) → (t : ProgramTaken names ops program old mid)
+pub run_unread : (names : RunNames) (program : Program) (stop : Stop) (old mid new : FolderView) (sink : SinkView) (k : ℕ) (chip : ChipView) → AreOthers names
+    → (t : ProgramTaken names program old mid)
     → NotRead script_in names.script.now SCRIPT_MAX (reason_of stop) mid new
     → RunGoes names (world old sink k) (world new sink k) chip (Err stop)
-run_unread names ops program stop old mid new sink k chip apart does t n = record {
+run_unread names program stop old mid new sink k chip apart t n = record {
   program = program;
   texts = record { ops = t.text; script = n.text; image = told_text old.holds names.image.now };
-  implements = does t.text;
+  compiled = inr t.compiled;
   read = record {
-    ops = taken_text names ops program old mid sink t;
-    script = text_before names.prog.now (program_bytes program) old.holds mid.holds names.script.now n.text apart.script (stored_program names ops program old mid sink t) n.is_text;
+    ops = taken_text names program old mid sink t;
+    script = text_before names.prog.now (program_bytes program) old.holds mid.holds names.script.now n.text apart.script (stored_program names program old mid sink t) n.is_text;
     image = told_is_text old.holds names.image.now;
   };
-  goes = goes_ops names ops program old mid sink k _ (Stopped (reason_of stop)) (world new sink k) t
+  goes = goes_ops names program old mid sink k _ (Stopped (reason_of stop)) (world new sink k) t
       (loading_stops names.script.now SCRIPT_MAX n.text (script_in n.text) _ (reason_of stop) (world mid sink k) (world new sink k) (n.fails sink k));
   done = tt;
 }
@@ -129,27 +128,27 @@ done_by program script read image chip (Ok refused) e d = rw e d
 done_by program script read image chip (Err stop) e d = tt
 
 -- a run that came to IMAGE
-pub run_worked : (names : RunNames) (ops : List TextOp) (program : Program) (script : List Instruction) (result : Result ℕ Stop) (old mid last : FolderView) (sink : SinkView) (k : ℕ) (new : World) (chip : ChipView) → AreOthers names
-    → ((text : List ℕ) → IfOk (ops_of text) (ImplementsAll program)) → (t : ProgramTaken names ops program old mid)
+pub run_worked : (names : RunNames) (program : Program) (script : List Instruction) (result : Result ℕ Stop) (old mid last : FolderView) (sink : SinkView) (k : ℕ) (new : World) (chip : ChipView) → AreOthers names
+    → (t : ProgramTaken names program old mid)
     → ReadAs script_in names.script.now SCRIPT_MAX script mid last
     → ImageWorked names program script (world last sink k) new chip result
     → RunGoes names (world old sink k) new chip result
-run_worked names ops program script result old mid last sink k new chip apart does t s w =
+run_worked names program script result old mid last sink k new chip apart t s w =
     let loaded = s.loaded sink k in
     let same : last.holds ≡ mid.holds = loaded.reads.files in
-    let told = stored_program names ops program old mid sink t in
+    let told = stored_program names program old mid sink t in
     record {
       program = program;
       texts = record { ops = t.text; script = s.text; image = w.text };
-      implements = does t.text;
+      compiled = inr t.compiled;
       read = record {
-        ops = taken_text names ops program old mid sink t;
+        ops = taken_text names program old mid sink t;
         script = text_before names.prog.now (program_bytes program) old.holds mid.holds names.script.now s.text apart.script told
             (loaded_text names.script.now SCRIPT_MAX s.text (world mid sink k) (world last sink k) loaded);
         image = text_before names.prog.now (program_bytes program) old.holds mid.holds names.image.now w.text apart.image told
             (subst (λ (holds : Option Files). IsText holds names.image.now w.text) same w.is_text);
       };
-      goes = goes_ops names ops program old mid sink k _ (end_of result) new t
+      goes = goes_ops names program old mid sink k _ (end_of result) new t
           (loading_goes names.script.now SCRIPT_MAX s.text (script_in s.text) _ script (end_of result) (world mid sink k) (world last sink k) new s.value_is loaded w.goes);
       done = done_by program script (script_in s.text) (image_of w.text) chip result s.value_is w.done;
     }

@@ -9,7 +9,7 @@ use Rattle.machine_model.proofs.Places.{bytes_differ}
 use Rattle.cli_model.specs.World.{World, with_file}
 use Rattle.cli_model.specs.Steps.{Step, Load, Take, Store, Open, Use, Put, Refusal, Reason, CannotRead, TooLong, Refused, NoMemory, CannotWrite, PutFailed, ChipFailed, End, Done, Stopped, Goes, Does, Fails, LoadFails, IsPutFailed, IsCannotWrite, loading}
 use Rattle.cli_model.specs.Status.{Tells, end_status}
-use Rattle.built_forms.specs.Texts.{ops_of, script_in, image_of}
+use Rattle.built_forms.specs.Texts.{ops_in, script_in, image_of}
 use Rattle.simdram_cli.specs.declared.words.RunNames.{RunNames}
 use Rattle.simdram_cli.specs.declared.words.TheConstants.{OPS_MAX, SCRIPT_MAX, IMAGE_MAX}
 use Rattle.simdram_cli.specs.Run.{Texts, run_steps, line_steps, said_by, image_by, tally_by, refused_by}
@@ -103,7 +103,7 @@ no_store_loading name other limit text (Err r) rest n = tt
 
 run_no_store : (names : RunNames) (program : Program) (texts : Texts) (name : List ℕ) → name ≢ names.prog.now → name ≢ names.out.now → NoStore name (run_steps names program texts)
 run_no_store names program texts name p o =
-    no_store_loading name names.ops.now OPS_MAX texts.ops (ops_of texts.ops) _ (λ t. (
+    no_store_loading name names.ops.now OPS_MAX texts.ops (ops_in texts.ops) _ (λ t. (
       p,
       no_store_loading name names.script.now SCRIPT_MAX texts.script (script_in texts.script) _ (λ script.
           no_store_loading name names.image.now IMAGE_MAX texts.image (image_of texts.image) _ (λ i.
@@ -197,7 +197,7 @@ last_loading name other limit text (Err r) rest n = tt
 run_stored_last : (names : RunNames) (program : Program) (texts : Texts) → names.out.now ≢ names.prog.now → StoredLast names.out.now (run_steps names program texts)
 run_stored_last names program texts p =
     let out = names.out.now in
-    last_loading out names.ops.now OPS_MAX texts.ops (ops_of texts.ops) _ (λ t.
+    last_loading out names.ops.now OPS_MAX texts.ops (ops_in texts.ops) _ (λ t.
     inl (
       p,
       last_loading out names.script.now SCRIPT_MAX texts.script (script_in texts.script) _ (λ script.

@@ -16,3 +16,4 @@ pub mod OpenedRows
 pub mod NoWalks
 pub mod Promises
 pub mod Stores
+mod Showing

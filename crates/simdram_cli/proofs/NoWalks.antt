@@ -5,7 +5,7 @@ use Rattle.std.specs.List.{AllByRecursion}
 use Rattle.std.specs.Str.{bytes_eq}
 use Rattle.std.specs.Option.{option_map}
 use Rattle.dram_model.specs.declared.geometry.Geometry.{Geometry}
-use Rattle.uprog_code.specs.declared.TheConstants.{BUILT_WIDTH}
+use Rattle.bit_rows.specs.declared.TheConstants.{WIDTH_MAX}
 use Rattle.uprog_code.specs.Shape.{Microprogram, need}
 use Rattle.uprog_code.specs.Machine.{Trace, Ended, Stuck, trace, HasEnded}
 use Rattle.dram_model.specs.Elements.{column_count}
@@ -15,7 +15,8 @@ use Rattle.bbop_isa.specs.Forms.{Instruction}
 use Rattle.bbop_isa.specs.Forms.{Init, Bbop, Load, Fill, Print, Free, Order}
 use Rattle.machine_model.specs.declared.Why.{Why}
 use Rattle.machine_model.specs.declared.Why.TheVariants as why
-use Rattle.machine_model.specs.Operations.{Program, TextOp, Operation, Operations, operations_in, operation_of, entry_named, ImplementsAll}
+use Rattle.machine_model.specs.Operations.{Program, Operation, Operations, operations_in, operation_of, entry_named}
+use Rattle.uprog_code.specs.Texts.{TextOp, ImplementsAll}
 use Rattle.machine_model.specs.Refusals.{first, when, at_place, walks_badly, object_named, is_absent, is_misfit, bbop_conditions, bbop_refusal, refusal}
 use Rattle.machine_model.specs.Steps.{reply_by, table_after}
 use Rattle.machine_model.specs.Script.{replies}
@@ -76,7 +77,7 @@ bbop_not g table o dst srcs count n ended =
     )
 
 abbrev pub AllEnd : Operations → Type 0
-AllEnd operations = (name : List ℕ) (o : Operation) → operations name ≡ Some o → (n : ℕ) → 0 < n → n ≤ BUILT_WIDTH → HasEnded (o.trace n)
+AllEnd operations = (name : List ℕ) (o : Operation) → operations name ≡ Some o → (n : ℕ) → 0 < n → n ≤ WIDTH_MAX → HasEnded (o.trace n)
 
 named_not : (g : Geometry) (table : List Named) (r : Option Operation) (dst : List ℕ) (srcs : List (List ℕ)) (count n : ℕ) → ((o : Operation) → r ≡ Some o → HasEnded (o.trace n)) → NotWalk (bbop_refusal g table r dst srcs count n)
 named_not g table None dst srcs count n ends walk e = cc
@@ -139,7 +140,7 @@ no_walks g operations table [] ends plain = tt
 no_walks g operations table (i ∷ script) ends plain =
     (reply_not (refusal g operations table i) _ (refusal_not g operations table i ends plain.0), no_walks g operations (table_after g operations table i) script ends plain.1)
 
-ends_case : (x : Option Microprogram) (y : Option TextOp) (o : Operation) (n : ℕ) → Matched x y → option_map operation_of x ≡ Some o → 0 < n → n ≤ BUILT_WIDTH → HasEnded (o.trace n)
+ends_case : (x : Option Microprogram) (y : Option TextOp) (o : Operation) (n : ℕ) → Matched x y → option_map operation_of x ≡ Some o → 0 < n → n ≤ WIDTH_MAX → HasEnded (o.trace n)
 ends_case None y o n m e l k = cc
 ends_case (Some entry) None o n m e l k = elim m [ ]
 ends_case (Some entry) (Some op) o n (both _ _ does) e l k =

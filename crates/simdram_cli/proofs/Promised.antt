@@ -1,6 +1,6 @@
 -- A run that ends with 0 or 8 keeps its promises.
 use Rattle.std.proofs.Common.{◌≡◌, ◌⊎◌, ℕ, ◌+◌, ◌<◌, Bool, true, false, cond, List, [], ◌∷◌, ◌++◌, Option, Some, None, refl, sym, ◌∙◌, ap, subst, inl, inr, append_assoc, append-nil, lit≤, ltb}
-use Rattle.std.specs.Prelude.{Result, Ok, Err, IfOk, bytes_eq, ◌≢◌, nat_le, ◌&&◌, codes}
+use Rattle.std.specs.Prelude.{Result, Ok, Err, bytes_eq, ◌≢◌, nat_le, ◌&&◌, codes}
 use Rattle.std.specs.Result.{result_ok}
 use Rattle.std.proofs.lemmas.Slice.Eq.{bytes_eq-Decides}
 use Rattle.std.proofs.lemmas.Bool.{leb-true}
@@ -8,7 +8,11 @@ use Rattle.host_edge.specs.Views.{Files, Told}
 use Rattle.dram_model.specs.Geometry.{is_geometry, is_between, fits_size}
 use Rattle.uprog_bin.specs.Spelling.{program_bytes}
 use Rattle.bbop_isa.specs.Forms.{Instruction}
-use Rattle.machine_model.specs.Operations.{Program, TextOp, ImplementsAll}
+use Rattle.machine_model.specs.Operations.{Program}
+use Rattle.op_text.specs.declared.fault.OpsFault.{OpsFault}
+use Rattle.op_text.specs.Language.{Operation}
+use Rattle.op_text.specs.Lines.{fault_in}
+use Rattle.op_print.specs.Reading.{IsTextOf}
 use Rattle.machine_model.specs.Opened.{Image}
 use Rattle.machine_model.specs.Report.{Said, line, lines, total_line}
 use Rattle.machine_model.proofs.Places.{bytes_differ}
@@ -22,14 +26,14 @@ use Rattle.cli_model.proofs.Causing.{status_has_cause, told_new, bytes_at}
 use Rattle.object_alloc.specs.declared.fault.ImageFault.{ImageFault}
 use Rattle.object_alloc.specs.Reading.{Found, image_in}
 use Rattle.bbop_isa.specs.Lines.{lines_of}
-use Rattle.built_forms.specs.Texts.{ops_of, script_in, image_of, image_found, and_op, is_and_text, built_from, at_line, built_image, is_built_image, not_yet}
+use Rattle.built_forms.specs.Texts.{ops_in, unless_fault, script_in, image_of, image_found, built_from, at_line, built_image, is_built_image, not_yet}
 use Rattle.simdram_cli.specs.Reads.{refusal_of}
 use Rattle.simdram_cli.specs.declared.words.RunNames.{RunNames}
 use Rattle.simdram_cli.specs.declared.words.TheConstants.{OPS_MAX, SCRIPT_MAX, IMAGE_MAX}
 use Rattle.simdram_cli.specs.Run.{Texts, run_steps, work_steps, line_steps, said_by, image_by, tally_by, refused_by, done_status}
 use Rattle.simdram_cli.specs.Works.{ChipView}
-use Rattle.simdram_cli.specs.Ends.{DoneBy, IsDoneBy, status_on, run_status, RunEnds}
-use Rattle.simdram_cli.specs.Headline.{Job, IsJob, read_as, ProgramWritten, ObjectsRight, RowsUntouched, CommandsCounted, ReportSent, RepliesExact}
+use Rattle.simdram_cli.specs.Ends.{IsCompiled, StoppedEarly, DoneBy, IsDoneBy, status_on, run_status, RunEnds}
+use Rattle.simdram_cli.specs.Headline.{Job, IsJob, Spells, read_as, ProgramWritten, ObjectsRight, RowsUntouched, CommandsCounted, ReportSent, RepliesExact}
 use Rattle.simdram_cli.proofs.Running.{Apart, both}
 use Rattle.simdram_cli.proofs.Promises.{job_of, IsDone, objects_right, rows_untouched, commands_counted, report_is, refusals_are, no_bad_walks}
 
@@ -109,10 +113,10 @@ pub record Promise (names : RunNames) (job : Job) (before after : Files) (chip :
 abbrev pub Promised : RunNames → ChipView → ℕ → World → World → Type 0
 Promised names chip status old new = Told (λ before after. (job : Job) × Promise names job before after chip status old.sink.sent new.sink.sent) old.files.holds new.files.holds
 
-job_is : (names : RunNames) (texts : Texts) (t : List TextOp) (script : List Instruction) (i : Image) (program : Program) (before : Files) → HasRead names texts before → ops_of texts.ops ≡ Ok t → script_in texts.script ≡ Ok script → image_of texts.image ≡ Ok i
+job_is : (names : RunNames) (texts : Texts) (t : List Operation) (script : List Instruction) (i : Image) (program : Program) (before : Files) → HasRead names texts before → IsTextOf texts.ops t → script_in texts.script ≡ Ok script → image_of texts.image ≡ Ok i
     → IsJob names before (job_of t script i program)
 job_is names texts t script i program before h e f k = record {
-  text = ap (read_as ops_of) h.ops ∙ ap result_ok e;
+  ops = subst (λ (o : Option (List ℕ)). Spells o t) (sym h.ops) e;
   script = ap (read_as script_in) h.script ∙ ap result_ok f;
   image = ap (read_as image_of) h.image ∙ ap result_ok k;
 }
@@ -123,8 +127,8 @@ kept_other names program bytes before after e other p o =
     ap (λ (f : Files). f other) e ∙ at_other other names.out.now bytes (with_file names.prog.now (program_bytes program) before) (bytes_differ other names.out.now o)
     ∙ at_other other names.prog.now (program_bytes program) before (bytes_differ other names.prog.now p)
 
-promise_of : (names : RunNames) (texts : Texts) (t : List TextOp) (script : List Instruction) (i : Image) (program : Program) (chip : ChipView) (refused status : ℕ) (a b : World) (before after : Files)
-    → Apart names → ops_of texts.ops ≡ Ok t → script_in texts.script ≡ Ok script → image_of texts.image ≡ Ok i → IsDone t script i program chip refused → status ≡ done_status (refused_by program script i)
+promise_of : (names : RunNames) (texts : Texts) (t : List Operation) (script : List Instruction) (i : Image) (program : Program) (chip : ChipView) (refused status : ℕ) (a b : World) (before after : Files)
+    → Apart names → IsTextOf texts.ops t → script_in texts.script ≡ Ok script → image_of texts.image ≡ Ok i → IsDone t script i program chip refused → status ≡ done_status (refused_by program script i)
     → Goes (steps_read names program texts (work_steps names.out.now program script i)) Done a b → a.files.holds ≡ Some before
     → after ≡ with_file names.out.now (image_by program script i) (with_file names.prog.now (program_bytes program) before)
     → Told (λ x y. y ≡ x ++ (lines 1 (said_by program script i) ++ total_line (tally_by program script i) (refused_by program script i))) a.sink.sent b.sink.sent
@@ -166,22 +170,23 @@ first_refused : (name : List ℕ) (limit : ℕ) (text : List ℕ) (r : Refusal) 
 first_refused name limit text r a b (inl (mid, ((none, loaded), g))) = absurd (cc)
 first_refused name limit text r a b (inr f) = elim f [ ]
 
-done_promised : (names : RunNames) (program : Program) (texts : Texts) (chip : ChipView) (refused status : ℕ) (a b : World) (ro : Result (List TextOp) Refusal) (rs : Result (List Instruction) Refusal) (ri : Result Image Refusal)
-    → Apart names → ops_of texts.ops ≡ ro → script_in texts.script ≡ rs → image_of texts.image ≡ ri → IfOk ro (ImplementsAll program) → DoneBy program rs ri chip refused → status ≡ run_status program rs ri
+done_promised : (names : RunNames) (program : Program) (texts : Texts) (chip : ChipView) (refused status : ℕ) (a b : World) (ro : Result (Unit {0}) Refusal) (rs : Result (List Instruction) Refusal) (ri : Result Image Refusal)
+    → Apart names → IsCompiled texts.ops program → script_in texts.script ≡ rs → image_of texts.image ≡ ri → DoneBy program rs ri chip refused → status ≡ run_status program rs ri
     → Goes (loading names.ops.now OPS_MAX texts.ops ro (λ t. Take ∷ Store names.prog.now (program_bytes program) ∷ loading names.script.now SCRIPT_MAX texts.script rs (λ script. loading names.image.now IMAGE_MAX texts.image ri (λ i. work_steps names.out.now program script i)))) Done a b
     → Promised names chip status a b
-done_promised names program texts chip refused status a b (Err r) rs ri apart e f k implements d s g = absurd (first_refused names.ops.now OPS_MAX texts.ops r a b g)
-done_promised names program texts chip refused status a b (Ok t) (Err r) ri apart e f k implements d s g = elim d [ ]
-done_promised names program texts chip refused status a b (Ok t) (Ok script) (Err r) apart e f k implements d s g = elim d [ ]
-done_promised names program texts chip refused status a b (Ok t) (Ok script) (Ok i) apart e f k implements d s g =
+done_promised names program texts chip refused status a b (Err r) rs ri apart compiled f k d s g = absurd (first_refused names.ops.now OPS_MAX texts.ops r a b g)
+done_promised names program texts chip refused status a b (Ok u) (Err r) ri apart compiled f k d s g = elim d [ ]
+done_promised names program texts chip refused status a b (Ok u) (Ok script) (Err r) apart compiled f k d s g = elim d [ ]
+done_promised names program texts chip refused status a b (Ok u) (Ok script) (Ok i) apart compiled f k d s g =
+    let t = compiled.ops in
     let stands = all_stand (steps_read names program texts (work_steps names.out.now program script i)) a b g in
     let sent = subst (λ (bytes : List ℕ). Told (λ x y. y ≡ x ++ bytes) a.sink.sent b.sink.sent) (work_sent names.out.now program script i) stands.sent in
-    let all : IsDone t script i program chip refused = record { implements = implements; image = d.0; words = some_words i d.0.geometry; plain = d.1; work = d.2 } in
+    let all : IsDone t script i program chip refused = record { implements = compiled.implements; image = d.0; words = some_words i d.0.geometry; plain = d.1; work = d.2 } in
     tell_both a.files.holds b.files.holds (λ before after. after ≡ files_after (steps_read names program texts (work_steps names.out.now program script i)) before)
     (λ before after. (job : Job) × Promise names job before after chip status a.sink.sent b.sink.sent) stands.files
     (λ before after there is. (
       job_of t script i program,
-      promise_of names texts t script i program chip refused status a b before after apart e f k all s g there
+      promise_of names texts t script i program chip refused status a b before after apart compiled.is f k all s g there
           (is ∙ work_files names.out.now program script i (with_file names.prog.now (program_bytes program) before)) sent,
     ))
 
@@ -197,9 +202,9 @@ script_refusals : (script : Result (List Instruction) ℕ) → IsRefusal (refusa
 script_refusals (Ok script) = tt
 script_refusals (Err line) = (lit≤ tt, lit≤ tt)
 
-ops_refusals : (b : Bool) (t : List TextOp) → IsRefusal (refusal_of (cond b (Ok t) (Err (not_yet 4 (codes "ops line ") 1))))
-ops_refusals true t = tt
-ops_refusals false t = (lit≤ tt, lit≤ tt)
+ops_refusals : (fault : Option OpsFault) → IsRefusal (refusal_of (unless_fault fault))
+ops_refusals None = tt
+ops_refusals (Some fault) = (lit≤ tt, lit≤ tt)
 
 loading_refusals : {A : Type 0} (name : List ℕ) (limit : ℕ) (text : List ℕ) (read : Result A Refusal) (rest : A → List Step) → IsRefusal (refusal_of read) → ((x : A) → AreRefusals (rest x)) → AreRefusals (loading name limit text read rest)
 loading_refusals name limit text (Ok x) rest one more = (tt, more x)
@@ -212,7 +217,7 @@ lines_refusals number (s ∷ said) rest r = lines_refusals (number + 1) said res
 -- the texts of a run are refused with 4, 6 and 7
 pub run_refusals : (names : RunNames) (program : Program) (texts : Texts) → AreRefusals (run_steps names program texts)
 run_refusals names program texts =
-    loading_refusals names.ops.now OPS_MAX texts.ops (ops_of texts.ops) _ (ops_refusals (is_and_text texts.ops) (and_op ∷ [])) (λ t.
+    loading_refusals names.ops.now OPS_MAX texts.ops (ops_in texts.ops) _ (ops_refusals (fault_in texts.ops)) (λ t.
     loading_refusals names.script.now SCRIPT_MAX texts.script (script_in texts.script) _ (script_refusals (built_from 1 (lines_of texts.script))) (λ script.
     loading_refusals names.image.now IMAGE_MAX texts.image (image_of texts.image) _ (image_refusals (image_in texts.image)) (λ i.
     lines_refusals 1 (said_by program script i) (Use ∷ Store names.out.now (image_by program script i) ∷ Put (total_line (tally_by program script i) (refused_by program script i)) ∷ []) tt)))
@@ -239,14 +244,19 @@ run_causes names old new chip status e =
     status_has_cause (run_steps names e.program e.texts) (run_status e.program (script_in e.texts.script) (image_of e.texts.image)) old new status (run_refusals names e.program e.texts)
     (run_either e.program (script_in e.texts.script) (image_of e.texts.image)) e.ran
 
-ended_promised : (names : RunNames) (program : Program) (texts : Texts) (end : End) (chip : ChipView) (status : ℕ) (old stopped new : World) → Apart names → end ≡ Done → IfOk (ops_of texts.ops) (ImplementsAll program) → IsDoneBy end program texts chip
+not_early : (names : RunNames) (program : Program) (texts : Texts) (old new : World) → StoppedEarly names program texts Done old new ⊎ IsCompiled texts.ops program → IsCompiled texts.ops program
+not_early names program texts old new (inl early) = absurd early
+not_early names program texts old new (inr compiled) = compiled
+
+ended_promised : (names : RunNames) (program : Program) (texts : Texts) (end : End) (chip : ChipView) (status : ℕ) (old stopped new : World) → Apart names → end ≡ Done
+    → StoppedEarly names program texts end old stopped ⊎ IsCompiled texts.ops program → IsDoneBy end program texts chip
     → Goes (run_steps names program texts) end old stopped → Tells end stopped new → status ≡ end_status (run_status program (script_in texts.script) (image_of texts.image)) end → Promised names chip status old new
-ended_promised names program texts Done chip status old stopped new apart is implements done goes tells answers =
+ended_promised names program texts Done chip status old stopped new apart is compiled done goes tells answers =
     subst (λ (w : World). Promised names chip status old w) (sym tells)
-    (done_promised names program texts chip done.0 status old stopped (ops_of texts.ops) (script_in texts.script) (image_of texts.image) apart refl refl refl implements done.1 answers goes)
-ended_promised names program texts (Stopped reason) chip status old stopped new apart is implements done goes tells answers = absurd (cc)
+    (done_promised names program texts chip done.0 status old stopped (ops_in texts.ops) (script_in texts.script) (image_of texts.image) apart (not_early names program texts old stopped compiled) refl refl done.1 answers goes)
+ended_promised names program texts (Stopped reason) chip status old stopped new apart is compiled done goes tells answers = absurd (cc)
 
 -- A run that ends with 0 or 8 keeps its promises
 pub run_promised : (names : RunNames) (old new : World) (chip : ChipView) (status : ℕ) → Apart names → RunEnds names old new chip status → (status ≡ 0) ⊎ (status ≡ 8) → Promised names chip status old new
 run_promised names old new chip status apart e is =
-    ended_promised names e.program e.texts e.ran.end chip status old e.ran.stopped new apart ((run_causes names old new chip status e).done is) e.implements e.done e.ran.goes e.ran.tells e.ran.answers
+    ended_promised names e.program e.texts e.ran.end chip status old e.ran.stopped new apart ((run_causes names old new chip status e).done is) e.compiled e.done e.ran.goes e.ran.tells e.ran.answers

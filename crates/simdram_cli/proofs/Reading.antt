@@ -1,13 +1,18 @@
 -- Files that were loaded, and what they were read as.
-use Rattle.std.proofs.Common.{◌≡◌, ℕ, true, false, List, [], ◌∷◌, None, refl, ap}
+use Rattle.std.proofs.Common.{◌≡◌, ℕ, List, Some, None, ap}
 use Rattle.std.specs.Prelude.{Result, Ok, Err, codes}
 use Rattle.host_edge.specs.Views.{FolderView, SinkView}
 use Rattle.bbop_isa.specs.Lines.{lines_of}
 use Rattle.bbop_isa.specs.Forms.{Instruction}
 use Rattle.cli_model.specs.World.{world}
 use Rattle.cli_model.specs.Steps.{Refusal, Reason, Refused, NoMemory}
-use Rattle.built_forms.specs.Texts.{is_and_text, ops_of, and_op, script_in, built_from, at_line, not_yet}
-use Rattle.simdram_cli.specs.Reads.{refusal_of, LoadedAs, NotLoaded, NotRead}
+use Rattle.op_text.specs.declared.fault.OpsFault.{OpsFault}
+use Rattle.op_text.specs.Language.{Operation}
+use Rattle.op_text.specs.Lines.{fault_in}
+use Rattle.op_print.specs.Reading.{IsTextOf}
+use Rattle.simdram_cli.specs.declared.words.TheConstants.{OPS_MAX}
+use Rattle.built_forms.specs.Texts.{ops_in, ops_refusal, unless_fault, script_in, built_from, at_line, not_yet}
+use Rattle.simdram_cli.specs.Reads.{refusal_of, LoadedAs, NotLoaded, NotRead, OpsRead}
 use Rattle.simdram_cli.proofs.Joins.{told_text, told_is_text, loaded_text}
 
 pub no_sink : SinkView
@@ -37,11 +42,15 @@ text_unread read name limit text old new loaded = record {
   fails = λ sink chip. (loaded sink chip).reads;
 }
 
-pub ops_refused : (text : List ℕ) → is_and_text text ≡ false → ops_of text ≡ Err (not_yet 4 (codes "ops line ") 1)
-ops_refused text e = rw e refl
+pub ops_refused : (text : List ℕ) (fault : OpsFault) → fault_in text ≡ Some fault → ops_in text ≡ Err (ops_refusal fault)
+ops_refused text fault e = ap unless_fault e
 
-pub ops_accepted : (text : List ℕ) → is_and_text text ≡ true → ops_of text ≡ Ok (and_op ∷ [])
-ops_accepted text e = rw e refl
+pub ops_accepted : (text : List ℕ) → fault_in text ≡ None → ops_in text ≡ Ok tt
+ops_accepted text e = ap unless_fault e
 
 pub script_refused : (text : List ℕ) (line : ℕ) → built_from 1 (lines_of text) ≡ Err line → script_in text ≡ Err (not_yet 6 (codes "script line ") line)
 script_refused text line e = ap {B = Result (List Instruction) Refusal} at_line e
+
+-- the ops of a text that is loaded
+pub ops_parsed : (name text : List ℕ) (ops : List Operation) (old new : FolderView) → LoadedAs name OPS_MAX text old new → IsTextOf text ops → OpsRead name ops old new
+ops_parsed name text ops old new loaded is = record { text = text; is = is; loaded = loaded }

@@ -1,76 +1,75 @@
 -- The parts of a run.
-use Rattle.std.proofs.Common.{◌≡◌, ℕ, ◌<◌, ◌≤◌, Bool, true, false, cond, List, [], ◌∷◌, refl, sym, ◌∙◌, ap, subst, inl, arith}
-use Rattle.std.specs.Prelude.{Result, Ok, Err, OnOk, IfOk, IfErr, bytes_eq, not, ◌&&◌, ◌==◌, codes, length}
+use Rattle.std.proofs.Common.{◌≡◌, ℕ, Bool, true, false, List, [], ◌∷◌, map, refl, sym, ◌∙◌, ap, inl}
+use Rattle.std.specs.Prelude.{Result, Ok, Err, IfOk, IfErr, bytes_eq, not, ◌&&◌, codes}
 use Rattle.std.specs.List.{AllByRecursion, list_all}
 use Rattle.std.proofs.lemmas.Slice.Eq.{bytes_eq-Decides}
-use Rattle.std.proofs.lemmas.Bool.{eqb-true}
 use Rattle.host_edge.specs.Views.{FolderView, SinkView}
 use Rattle.uprog_bin.specs.Spelling.{program_bytes}
 use Rattle.bbop_isa.specs.Forms.{Instruction}
-use Rattle.bbop_isa.specs.Forms.{Init, Bbop, Load as LoadValues, Fill, Print, Free, Order}
 use Rattle.object_alloc.specs.Spelling.{IsImage}
-use Rattle.machine_model.specs.Operations.{Program, TextOp, ImplementsAll}
+use Rattle.machine_model.specs.Operations.{Program}
+use Rattle.op_text.specs.Language.{Operation}
+use Rattle.uprog_code.specs.Texts.{ImplementsAll, text_op}
 use Rattle.machine_model.specs.Opened.{Image}
 use Rattle.machine_model.specs.Agrees.{IsPlain}
 use Rattle.machine_model.specs.Script.{is_bbop}
 use Rattle.cli_model.specs.World.{World, world}
-use Rattle.cli_model.specs.Steps.{Take, Store, Refusal, Reason, Refused, NoMemory, Stopped, Goes}
+use Rattle.cli_model.specs.Steps.{Take, Store, Refusal, Reason, Refused, NoMemory, Done, Stopped, Goes}
 use Rattle.cli_model.proofs.Going.{stops}
-use Rattle.built_forms.specs.Texts.{ops_of, and_op, is_and_text, is_built, image_of, not_yet}
-use Rattle.built_forms.specs.Compiled.{and_program}
-use Rattle.built_forms.proofs.Compiled.{program_implements}
+use Rattle.built_forms.specs.Texts.{ops_in, image_of, not_yet}
 use Rattle.simdram_cli.specs.declared.words.RunNames.{RunNames}
 use Rattle.simdram_cli.specs.declared.words.TheConstants.{OPS_MAX, IMAGE_MAX}
 use Rattle.simdram_cli.specs.declared.stop.Stop.{Stop}
 use Rattle.built_forms.specs.declared.scripts.FormNo.{FormNo}
 use Rattle.built_forms.specs.declared.scripts.FormNo.TheVariants as forms
-use Rattle.built_forms.specs.Answers.{NoImage}
+use Rattle.built_forms.specs.Answers.{IsBuilt, NoImage}
 use Rattle.simdram_cli.specs.Stops.{end_of, image_reason, reason_of}
-use Rattle.simdram_cli.specs.Reads.{refusal_of, LoadedAs, NotLoaded, ReadAs, NotRead}
+use Rattle.simdram_cli.specs.Reads.{refusal_of, LoadedAs, NotLoaded, NotRead, OpsRead}
 use Rattle.simdram_cli.specs.Run.{work_steps}
 use Rattle.simdram_cli.specs.Works.{ChipView, WorkDone}
 use Rattle.simdram_cli.specs.Words.{are_apart, all_differ}
-use Rattle.simdram_cli.specs.Ends.{ProgramTaken, ProgramStopped, DoneOn, ImageWorked}
+use Rattle.simdram_cli.specs.Ends.{GoesToStore, StopsAtStore, ProgramTaken, ProgramStopped, DoneOn, ImageWorked}
 use Rattle.simdram_cli.proofs.Joins.{told_text, told_is_text, loaded_text, loading_goes, loading_stops, AreOthers}
-use Rattle.simdram_cli.proofs.Reading.{no_sink}
+use Rattle.simdram_cli.proofs.Reading.{no_sink, ops_accepted}
 
-accepted_case : (b : Bool) (r : Refusal) → IfOk (cond b (Ok (and_op ∷ [])) (Err r)) (ImplementsAll and_program)
-accepted_case true r = program_implements
-accepted_case false r = tt
-
--- whatever text is accepted, the program implements it
-pub and_implements_text : (text : List ℕ) → IfOk (ops_of text) (ImplementsAll and_program)
-and_implements_text text = accepted_case (is_and_text text) _
-
-pub program_unread : (names : RunNames) (program : Program) (reason : Reason) (old new : FolderView) → NotRead ops_of names.ops.now OPS_MAX reason old new → ProgramStopped names program reason old new
-program_unread names program reason old new n = record {
+pub program_unread : (names : RunNames) (reason : Reason) (old new : FolderView) → NotRead ops_in names.ops.now OPS_MAX reason old new → ProgramStopped names reason old new
+program_unread names reason old new n = record {
+  program = [];
   text = n.text;
   is_text = n.is_text;
-  goes = λ rest sink k. loading_stops names.ops.now OPS_MAX n.text (ops_of n.text) (λ _. Take ∷ Store names.prog.now (program_bytes program) ∷ rest) reason (world old sink k) (world new sink k) (n.fails sink k);
+  goes = λ rest sink k. loading_stops names.ops.now OPS_MAX n.text (ops_in n.text) (λ _. Take ∷ Store names.prog.now (program_bytes []) ∷ rest) reason (world old sink k) (world new sink k) (n.fails sink k);
 }
 
 -- OPS was read, and PROG stored
-pub program_taken : {X : Type 0} (names : RunNames) (ops : List TextOp) (program : Program) (result : Result X Stop) (old mid new : FolderView) → ReadAs ops_of names.ops.now OPS_MAX ops old mid
-    → ((sink : SinkView) (k : ℕ) → Goes (Take ∷ Store names.prog.now (program_bytes program) ∷ []) (end_of result) (world mid sink k) (world new sink k))
-    → OnOk result (ProgramTaken names ops program old new)
-program_taken names ops program (Ok x) old mid new r g = record {
+pub program_taken : (names : RunNames) (ops : List Operation) (program : Program) (old mid new : FolderView) → OpsRead names.ops.now ops old mid → ImplementsAll program (map text_op ops)
+    → GoesToStore names.prog.now program Done mid new → ProgramTaken names program old new
+program_taken names ops program old mid new r implements g = record {
   text = r.text;
-  value_is = r.value_is;
+  accepted = ops_accepted r.text r.is.0;
+  compiled = record { ops = ops; is = r.is; implements = implements };
   goes = λ sink k. inl (world mid sink k, ((refl, r.loaded sink k), g sink k));
 }
-program_taken names ops program (Err stop) old mid new r g = tt
+
+-- the answers of a call that stores PROG
+pub taken_by : {X : Type 0} (names : RunNames) (ops : List Operation) (program : X → Program) (result : Result X Stop) (old mid new : FolderView) → OpsRead names.ops.now ops old mid
+    → IfOk result (λ p. ImplementsAll (program p) (map text_op ops)) → IfOk result (λ p. GoesToStore names.prog.now (program p) Done mid new) → IfOk result (λ p. ProgramTaken names (program p) old new)
+taken_by names ops program (Ok p) old mid new r implements g = program_taken names ops (program p) old mid new r implements g
+taken_by names ops program (Err stop) old mid new r implements g = tt
 
 -- OPS was read, and PROG not stored
-pub program_unstored : {X : Type 0} (names : RunNames) (ops : List TextOp) (program : Program) (result : Result X Stop) (old mid new : FolderView) → ReadAs ops_of names.ops.now OPS_MAX ops old mid
-    → ((sink : SinkView) (k : ℕ) → Goes (Take ∷ Store names.prog.now (program_bytes program) ∷ []) (end_of result) (world mid sink k) (world new sink k))
-    → IfErr result (λ stop. ProgramStopped names program (reason_of stop) old new)
-program_unstored names ops program (Ok x) old mid new r g = tt
-program_unstored names ops program (Err stop) old mid new r g = record {
+pub program_unstored : (names : RunNames) (ops : List Operation) (reason : Reason) (old mid new : FolderView) → OpsRead names.ops.now ops old mid → StopsAtStore names.prog.now reason mid new → ProgramStopped names reason old new
+program_unstored names ops reason old mid new r g = record {
+  program = g.0;
   text = r.text;
   is_text = loaded_text names.ops.now OPS_MAX r.text (world old no_sink 0) (world mid no_sink 0) (r.loaded no_sink 0);
-  goes = λ rest sink k. loading_goes names.ops.now OPS_MAX r.text (ops_of r.text) (λ _. Take ∷ Store names.prog.now (program_bytes program) ∷ rest) ops (Stopped (reason_of stop)) (world old sink k) (world mid sink k) (world new sink k)
-      r.value_is (r.loaded sink k) (stops (Take ∷ Store names.prog.now (program_bytes program) ∷ []) rest (reason_of stop) (world mid sink k) (world new sink k) (g sink k));
+  goes = λ rest sink k. loading_goes names.ops.now OPS_MAX r.text (ops_in r.text) (λ _. Take ∷ Store names.prog.now (program_bytes g.0) ∷ rest) tt (Stopped reason) (world old sink k) (world mid sink k) (world new sink k)
+      (ops_accepted r.text r.is.0) (r.loaded sink k) (stops (Take ∷ Store names.prog.now (program_bytes g.0) ∷ []) rest reason (world mid sink k) (world new sink k) (g.1 sink k));
 }
+
+pub stopped_by : {X : Type 0} (names : RunNames) (ops : List Operation) (result : Result X Stop) (old mid new : FolderView) → OpsRead names.ops.now ops old mid
+    → IfErr result (λ stop. StopsAtStore names.prog.now (reason_of stop) mid new) → IfErr result (λ stop. ProgramStopped names (reason_of stop) old new)
+stopped_by names ops (Ok p) old mid new r g = tt
+stopped_by names ops (Err stop) old mid new r g = program_unstored names ops (reason_of stop) old mid new r g
 
 -- IMAGE was not loaded
 pub image_unread : (names : RunNames) (program : Program) (script : List Instruction) (stop : Stop) (old new : FolderView) (sink : SinkView) (k : ℕ) (chip : ChipView) → NotLoaded names.image.now IMAGE_MAX (reason_of stop) old new
@@ -116,41 +115,29 @@ done_on program script i read chip (Ok refused) e is plain w = rw e (is, plain, 
 done_on program script i read chip (Err stop) e is plain w = tt
 
 -- IMAGE was read, and the script done on it
-pub image_worked : (names : RunNames) (p program : Program) (script : List Instruction) (i : Image) (result : Result ℕ Stop) (text : List ℕ) (old mid : FolderView) (sink : SinkView) (k : ℕ) (new : World) (chip : ChipView) → LoadedAs names.image.now IMAGE_MAX text old mid
+pub image_worked : (names : RunNames) (program : Program) (script : List Instruction) (i : Image) (result : Result ℕ Stop) (text : List ℕ) (old mid : FolderView) (sink : SinkView) (k : ℕ) (new : World) (chip : ChipView) → LoadedAs names.image.now IMAGE_MAX text old mid
     → image_of text ≡ Ok i → IsImage i.geometry i.table i.rows → AllByRecursion IsPlain script
-    → p ≡ program → Goes (work_steps names.out.now p script i) (end_of result) (world mid sink k) new → IfOk result (WorkDone p script i chip)
+    → Goes (work_steps names.out.now program script i) (end_of result) (world mid sink k) new → IfOk result (WorkDone program script i chip)
     → ImageWorked names program script (world old sink k) new chip result
-image_worked names p program script i result text old mid sink k new chip loaded e is plain same g w = subst (λ (x : Program). ImageWorked names x script (world old sink k) new chip result) same (record {
+image_worked names program script i result text old mid sink k new chip loaded e is plain g w = record {
   text = text;
   is_text = loaded_text names.image.now IMAGE_MAX text (world old sink k) (world mid sink k) (loaded sink k);
-  goes = loading_goes names.image.now IMAGE_MAX text (image_of text) (λ x. work_steps names.out.now p script x) i (end_of result) (world old sink k) (world mid sink k) new e (loaded sink k) g;
-  done = done_on p script i (image_of text) chip result e is plain w;
-})
+  goes = loading_goes names.image.now IMAGE_MAX text (image_of text) (λ x. work_steps names.out.now program script x) i (end_of result) (world old sink k) (world mid sink k) new e (loaded sink k) g;
+  done = done_on program script i (image_of text) chip result e is plain w;
+}
 
 pub both : (x y : Bool) → (x && y) ≡ true → (x ≡ true) × (y ≡ true)
 both true true e = (refl, refl)
 both true false e = absurd (cc)
 both false y e = absurd (cc)
 
-width_one : (n : ℕ) → (n == 1) ≡ true → (0 < n) × (n ≤ 1)
-width_one n e = let one : n ≡ 1 = eqb-true n 1 e in (omega arith, omega arith)
-
-built_one : (i : Instruction) → is_built i ≡ true → (is_bbop i ≡ true) × IsPlain i
-built_one (Bbop op dst srcs count n) e = (refl, width_one n (both (bytes_eq op (codes "and") && length srcs == 2) (n == 1) e).1)
-built_one (Init name count n) e = absurd (cc)
-built_one (LoadValues name values) e = absurd (cc)
-built_one (Fill name value) e = absurd (cc)
-built_one (Print name) e = absurd (cc)
-built_one (Free name) e = absurd (cc)
-built_one (Order order) e = absurd (cc)
-
-pub all_bbops : (script : List Instruction) → AllByRecursion (λ i. is_built i ≡ true) script → AllByRecursion (λ i. is_bbop i ≡ true) script
+pub all_bbops : (script : List Instruction) → AllByRecursion IsBuilt script → AllByRecursion (λ i. is_bbop i ≡ true) script
 all_bbops [] all = tt
-all_bbops (i ∷ script) all = ((built_one i all.0).0, all_bbops script all.1)
+all_bbops (i ∷ script) all = (all.0.0, all_bbops script all.1)
 
-pub all_plain : (script : List Instruction) → AllByRecursion (λ i. is_built i ≡ true) script → AllByRecursion IsPlain script
+pub all_plain : (script : List Instruction) → AllByRecursion IsBuilt script → AllByRecursion IsPlain script
 all_plain [] all = tt
-all_plain (i ∷ script) all = ((built_one i all.0).1, all_plain script all.1)
+all_plain (i ∷ script) all = (all.0.1, all_plain script all.1)
 
 not_true : (b : Bool) → not b ≡ true → b ≡ false
 not_true true e = absurd (cc)

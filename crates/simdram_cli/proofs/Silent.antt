@@ -7,7 +7,7 @@ use Rattle.machine_model.specs.Report.{Said, total_line}
 use Rattle.cli_model.specs.World.{World}
 use Rattle.cli_model.specs.Steps.{Step, Load, Take, Store, Open, Use, Put, Refusal, Reason, CannotRead, TooLong, Refused, NoMemory, CannotWrite, PutFailed, ChipFailed, End, Done, Stopped, Goes, LoadFails, IsCannotWrite, IsPutFailed, IsChipFailed, loading}
 use Rattle.cli_model.specs.Status.{Tells, reason_line}
-use Rattle.built_forms.specs.Texts.{ops_of, script_in, image_of}
+use Rattle.built_forms.specs.Texts.{ops_in, script_in, image_of}
 use Rattle.simdram_cli.specs.declared.words.RunNames.{RunNames}
 use Rattle.simdram_cli.specs.declared.words.TheConstants.{OPS_MAX, SCRIPT_MAX, IMAGE_MAX}
 use Rattle.simdram_cli.specs.Run.{Texts, run_steps, line_steps, said_by, image_by, tally_by, refused_by}
@@ -119,7 +119,7 @@ first_loading name limit text (Err r) rest o = tt
 
 run_opens_first : (names : RunNames) (program : Program) (texts : Texts) → OpensFirst (run_steps names program texts)
 run_opens_first names program texts =
-    first_loading names.ops.now OPS_MAX texts.ops (ops_of texts.ops) _ (λ t.
+    first_loading names.ops.now OPS_MAX texts.ops (ops_in texts.ops) _ (λ t.
     first_loading names.script.now SCRIPT_MAX texts.script (script_in texts.script) _ (λ script.
     first_loading names.image.now IMAGE_MAX texts.image (image_of texts.image) _ (λ i.
     late_lines 1 (said_by program script i) (Use ∷ Store names.out.now (image_by program script i) ∷ Put (total_line (tally_by program script i) (refused_by program script i)) ∷ []) tt)))

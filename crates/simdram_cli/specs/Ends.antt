@@ -1,18 +1,21 @@
 -- How a run ends.
-use Rattle.std.specs.Prelude.{◌≡◌, ℕ, List, [], ◌∷◌, Option, None, Result, Ok, Err, IfOk}
+use Rattle.std.specs.Prelude.{◌≡◌, ◌⊎◌, map, ℕ, List, [], ◌∷◌, Option, None, Result, Ok, Err, IfOk}
 use Rattle.std.specs.List.{AllByRecursion}
 use Rattle.host_edge.specs.Views.{Files, FolderView, SinkView}
 use Rattle.object_alloc.specs.Spelling.{IsImage}
 use Rattle.uprog_bin.specs.Spelling.{program_bytes}
 use Rattle.bbop_isa.specs.Forms.{Instruction}
-use Rattle.machine_model.specs.Operations.{Program, TextOp, ImplementsAll}
+use Rattle.machine_model.specs.Operations.{Program}
+use Rattle.op_text.specs.Language.{Operation}
+use Rattle.op_print.specs.Reading.{IsTextOf}
+use Rattle.uprog_code.specs.Texts.{ImplementsAll, text_op}
 use Rattle.machine_model.specs.Opened.{Image}
 use Rattle.machine_model.specs.Agrees.{IsPlain}
 use Rattle.cli_model.specs.World.{World, world}
 use Rattle.cli_model.specs.Steps.{Step, Load, Take, Store, Refusal, Reason, End, Done, Stopped, Goes, loading}
 use Rattle.cli_model.specs.Status.{Ran, reason_status}
 use Rattle.cli_model.specs.Stands.{Stands, StoppedAt}
-use Rattle.built_forms.specs.Texts.{ops_of, script_in, image_of}
+use Rattle.built_forms.specs.Texts.{ops_in, script_in, image_of}
 use Rattle.simdram_cli.specs.declared.words.RunNames.{RunNames}
 use Rattle.simdram_cli.specs.declared.words.TheConstants.{OPS_MAX, IMAGE_MAX}
 use Rattle.simdram_cli.specs.declared.stop.Stop.{Stop}
@@ -21,18 +24,33 @@ use Rattle.simdram_cli.specs.Reads.{IsText}
 use Rattle.simdram_cli.specs.Run.{Texts, run_steps, work_steps, refused_by, done_status}
 use Rattle.simdram_cli.specs.Works.{ChipView, WorkDone}
 
--- OPS was read as these operations, and PROG has the spelling of the program
-pub record ProgramTaken (names : RunNames) (ops : List TextOp) (program : Program) (old new : FolderView) : Type 0 where
+-- the program does the ops that the text has
+pub record IsCompiled (text : List ℕ) (program : Program) : Type 0 where
+  pub ops : List Operation
+  pub is : IsTextOf text ops
+  pub implements : ImplementsAll program (map text_op ops)
+
+-- memory was taken and PROG stored, as far as nothing failed
+abbrev pub GoesToStore : List ℕ → Program → End → FolderView → FolderView → Type 0
+GoesToStore name program end old new = (sink : SinkView) (chip : ℕ) → Goes (Take ∷ Store name (program_bytes program) ∷ []) end (world old sink chip) (world new sink chip)
+
+abbrev pub StopsAtStore : List ℕ → Reason → FolderView → FolderView → Type 0
+StopsAtStore name reason old new = (program : Program) × GoesToStore name program (Stopped reason) old new
+
+-- OPS was read and compiled, and PROG has the spelling of the program
+pub record ProgramTaken (names : RunNames) (program : Program) (old new : FolderView) : Type 0 where
   pub text : List ℕ
-  pub value_is : ops_of text ≡ Ok ops
+  pub accepted : ops_in text ≡ Ok tt
+  pub compiled : IsCompiled text program
   pub goes : (sink : SinkView) (chip : ℕ) → Goes (Load names.ops.now OPS_MAX text None ∷ Take ∷ Store names.prog.now (program_bytes program) ∷ []) Done (world old sink chip) (world new sink chip)
 
 -- a run stopped before PROG was stored
-pub record ProgramStopped (names : RunNames) (program : Program) (reason : Reason) (old new : FolderView) : Type 0 where
+pub record ProgramStopped (names : RunNames) (reason : Reason) (old new : FolderView) : Type 0 where
+  pub program : Program
   pub text : List ℕ
   pub is_text : IsText old.holds names.ops.now text
   pub goes : (rest : List Step) (sink : SinkView) (chip : ℕ)
-      → Goes (loading names.ops.now OPS_MAX text (ops_of text) (λ t. Take ∷ Store names.prog.now (program_bytes program) ∷ rest)) (Stopped reason) (world old sink chip) (world new sink chip)
+      → Goes (loading names.ops.now OPS_MAX text (ops_in text) (λ t. Take ∷ Store names.prog.now (program_bytes program) ∷ rest)) (Stopped reason) (world old sink chip) (world new sink chip)
 
 -- the script was done on the image that was read
 abbrev pub DoneOn : Program → List Instruction → Result Image Refusal → ChipView → ℕ → Type 0
@@ -57,11 +75,17 @@ abbrev pub DoneBy : Program → Result (List Instruction) Refusal → Result Ima
 DoneBy program (Ok script) image chip refused = DoneOn program script image chip refused
 DoneBy program (Err refusal) image chip refused = ⊥
 
+-- it stopped before PROG was stored
+abbrev pub StoppedEarly : RunNames → Program → Texts → End → World → World → Type 0
+StoppedEarly names program texts Done old new = ⊥
+StoppedEarly names program texts (Stopped reason) old new =
+    Goes (loading names.ops.now OPS_MAX texts.ops (ops_in texts.ops) (λ t. Take ∷ Store names.prog.now (program_bytes program) ∷ [])) (Stopped reason) old new
+
 -- a run goes through its steps
 pub record RunGoes (names : RunNames) (old new : World) (chip : ChipView) (result : Result ℕ Stop) : Type 0 where
   pub program : Program
   pub texts : Texts
-  pub implements : IfOk (ops_of texts.ops) (ImplementsAll program)
+  pub compiled : StoppedEarly names program texts (end_of result) old new ⊎ IsCompiled texts.ops program
   pub read : IsRead names texts old.files.holds
   pub goes : Goes (run_steps names program texts) (end_of result) old new
   pub done : IfOk result (DoneBy program (script_in texts.script) (image_of texts.image) chip)
@@ -85,14 +109,14 @@ abbrev pub EndStands : List Step → End → World → World → Type 0
 EndStands steps Done old new = Stands steps old new
 EndStands steps (Stopped reason) old new = StoppedAt steps reason old new
 
--- A run went through its steps on the texts of its files, with a program that implements the operations, told why it
--- stopped if it did, and answers the status
+-- A run went through its steps on the texts of its files, with a program that implements the ops of OPS if it came to
+-- that, told why it stopped if it did, and answers the status
 pub record RunEnds (names : RunNames) (old new : World) (chip : ChipView) (status : ℕ) : Type 0 where
   pub program : Program
   pub texts : Texts
-  pub implements : IfOk (ops_of texts.ops) (ImplementsAll program)
   pub read : IsRead names texts old.files.holds
   pub ran : Ran (run_steps names program texts) (run_status program (script_in texts.script) (image_of texts.image)) old new status
+  pub compiled : StoppedEarly names program texts ran.end old ran.stopped ⊎ IsCompiled texts.ops program
   pub stands : EndStands (run_steps names program texts) ran.end old ran.stopped
   pub done : IsDoneBy ran.end program texts chip
 

@@ -1,5 +1,5 @@
 -- What a run promises when it ends with status 0 or 8.
-use Rattle.std.specs.Prelude.{◌≡◌, ◌≢◌, ◌⊎◌, ℕ, ◌+◌, ◌*◌, ◌<◌, false, List, ◌++◌, Option, Some, None, Result, IfSome, count_by}
+use Rattle.std.specs.Prelude.{map, ◌≡◌, ◌≢◌, ◌⊎◌, ℕ, ◌+◌, ◌*◌, ◌<◌, false, List, ◌++◌, Option, Some, None, Result, IfSome, count_by}
 use Rattle.std.specs.List.{AllByRecursion}
 use Rattle.std.specs.Result.{result_ok}
 use denote.Ref.{Bor}
@@ -11,7 +11,10 @@ use Rattle.bbop_isa.specs.Forms.{Instruction}
 use Rattle.machine_model.specs.declared.Reply.{Reply}
 use Rattle.machine_model.specs.declared.Reply.TheVariants.{Refused}
 use Rattle.machine_model.specs.declared.Why.TheVariants as why
-use Rattle.machine_model.specs.Operations.{Program, TextOp, Operations, operations_of, operations_in, meaning_in, ImplementsAll}
+use Rattle.machine_model.specs.Operations.{Program, Operations, operations_of, operations_in, meaning_in}
+use Rattle.op_text.specs.Language.{Operation}
+use Rattle.op_print.specs.Reading.{IsTextOf}
+use Rattle.uprog_code.specs.Texts.{TextOp, ImplementsAll, text_op}
 use Rattle.machine_model.specs.Steps.{Held, table_of}
 use Rattle.machine_model.specs.Agrees.{HoldsNumbers}
 use Rattle.machine_model.specs.Script.{replies, words_at_end, banks_at_end, is_touched_by, script_events, sum_of, sum_done, rows_loaded, rows_printed, is_refused}
@@ -21,13 +24,13 @@ use Rattle.cli_model.specs.Steps.{Refusal}
 use Rattle.simdram_cli.specs.declared.words.RunNames.{RunNames}
 use Rattle.simdram_cli.specs.declared.words.Command.TheVariants.{Run}
 use Rattle.simdram_cli.specs.Words.{command_of}
-use Rattle.built_forms.specs.Texts.{ops_of, script_in, image_of}
+use Rattle.built_forms.specs.Texts.{script_in, image_of}
 use Rattle.simdram_cli.specs.Run.{done_status}
 use Rattle.simdram_cli.specs.Works.{ChipView}
 
--- the operations of OPS, the instructions of SCRIPT and the image of IMAGE, and the program in PROG
+-- the ops of OPS, the instructions of SCRIPT and the image of IMAGE, and the program in PROG
 pub record Job : Type 0 where
-  pub text : List TextOp
+  pub ops : List Operation
   pub script : List Instruction
   pub image : Image
   pub program : Program
@@ -37,26 +40,35 @@ abbrev pub read_as : {A : Type 0} → (List ℕ → Result A Refusal) → Option
 read_as read None = None
 read_as read (Some bytes) = result_ok (read bytes)
 
+-- the file is there, its tokens spell these ops, and none breaks a rule
+abbrev pub Spells : Option (List ℕ) → List Operation → Type 0
+Spells None ops = ⊥
+Spells (Some bytes) ops = IsTextOf bytes ops
+
 -- the job is that of the files at entry
 pub record IsJob (names : RunNames) (before : Files) (job : Job) : Type 0 where
-  pub text : read_as ops_of (before names.ops.now) ≡ Some job.text
+  pub ops : Spells (before names.ops.now) job.ops
   pub script : read_as script_in (before names.script.now) ≡ Some job.script
   pub image : read_as image_of (before names.image.now) ≡ Some job.image
 
+-- the ops, as far as a machine knows them
+abbrev pub text_of : Job → List TextOp
+text_of job = map text_op job.ops
+
 abbrev pub operations : Job → Operations
-operations job = operations_of job.text job.program
+operations job = operations_of (text_of job) job.program
 
 abbrev pub replies_of : Job → List Reply
 replies_of job = replies job.image.geometry (operations job) job.image.table job.script
 
 -- the word machine's state after the script: the objects with their numbers
 abbrev pub state_after : Job → List Held
-state_after job = words_at_end job.image.geometry (operations job) (meaning_in job.text) (words_of job.image) job.script
+state_after job = words_at_end job.image.geometry (operations job) (meaning_in (text_of job)) (words_of job.image) job.script
 
 -- PROG is the spelling of a program that implements the operations
 pub record ProgramWritten (names : RunNames) (job : Job) (after : Files) : Type 0 where
   pub file : after names.prog.now ≡ Some (program_bytes job.program)
-  pub implements : ImplementsAll job.program job.text
+  pub implements : ImplementsAll job.program (text_of job)
 
 -- OUT is the spelling of the word machine's table with the chip's rows, in which each object has exactly its numbers
 pub record ObjectsRight (names : RunNames) (job : Job) (after : Files) (chip : ChipView) : Type 0 where
@@ -82,7 +94,7 @@ pub record CommandsCounted (job : Job) (chip : ChipView) : Type 0 where
 -- what the word machine says of the script, and the line of the totals
 abbrev pub report_of : Job → ChipView → List ℕ
 report_of job chip =
-    report (said_in_words job.image.geometry (operations job) (meaning_in job.text) (words_of job.image) job.script) chip.counters (replies_of job)
+    report (said_in_words job.image.geometry (operations job) (meaning_in (text_of job)) (words_of job.image) job.script) chip.counters (replies_of job)
 
 -- The report was sent, behind what was sent before
 abbrev pub ReportSent : Job → ChipView → Option (List ℕ) → Option (List ℕ) → Type 0

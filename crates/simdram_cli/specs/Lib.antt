@@ -7,3 +7,4 @@ pub mod Works
 pub mod Ends
 pub mod Headline
 pub mod Statuses
+pub mod Show

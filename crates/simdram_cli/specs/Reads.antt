@@ -1,8 +1,11 @@
 -- How a file is loaded and read, whatever the sink and the chip show meanwhile.
 use Rattle.std.specs.Prelude.{◌≡◌, ℕ, List, Option, Some, None, Result, Ok, Err, IfSome}
 use Rattle.host_edge.specs.Views.{Files, FolderView, SinkView}
+use Rattle.op_text.specs.Language.{Operation}
+use Rattle.op_print.specs.Reading.{IsTextOf}
 use Rattle.cli_model.specs.World.{world}
 use Rattle.cli_model.specs.Steps.{Refusal, Reason, Loaded, LoadFails}
+use Rattle.simdram_cli.specs.declared.words.TheConstants.{OPS_MAX}
 
 abbrev pub refusal_of : {A : Type 0} → Result A Refusal → Option Refusal
 refusal_of (Ok x) = None
@@ -32,3 +35,9 @@ pub record NotRead {A : Type 0} (read : List ℕ → Result A Refusal) (name : L
   pub text : List ℕ
   pub is_text : IsText old.holds name text
   pub fails : (sink : SinkView) (chip : ℕ) → LoadFails name limit text (refusal_of (read text)) reason (world old sink chip) (world new sink chip)
+
+-- OPS was loaded, and its text is one of these ops
+pub record OpsRead (name : List ℕ) (ops : List Operation) (old new : FolderView) : Type 0 where
+  pub text : List ℕ
+  pub is : IsTextOf text ops
+  pub loaded : LoadedAs name OPS_MAX text old new

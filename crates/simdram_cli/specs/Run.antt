@@ -13,7 +13,7 @@ use Rattle.machine_model.specs.Report.{Said, said_in_rows, line, total_line}
 use Rattle.cli_model.specs.Steps.{Step, Take, Store, Open, Use, Put, loading}
 use Rattle.simdram_cli.specs.declared.words.RunNames.{RunNames}
 use Rattle.simdram_cli.specs.declared.words.TheConstants.{OPS_MAX, SCRIPT_MAX, IMAGE_MAX}
-use Rattle.built_forms.specs.Texts.{ops_of, script_in, image_of}
+use Rattle.built_forms.specs.Texts.{ops_in, script_in, image_of}
 
 -- the texts that a run reads
 pub record Texts : Type 0 where
@@ -70,7 +70,7 @@ work_steps out program script i =
 -- OPS is compiled and PROG stored, and then SCRIPT is done on IMAGE
 abbrev pub run_steps : RunNames → Program → Texts → List Step
 run_steps names program texts =
-    loading names.ops.now OPS_MAX texts.ops (ops_of texts.ops) (λ t.
+    loading names.ops.now OPS_MAX texts.ops (ops_in texts.ops) (λ t.
     Take ∷ Store names.prog.now (program_bytes program)
     ∷ loading names.script.now SCRIPT_MAX texts.script (script_in texts.script) (λ script.
     loading names.image.now IMAGE_MAX texts.image (image_of texts.image) (λ i.

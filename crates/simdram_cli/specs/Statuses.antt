@@ -3,7 +3,7 @@ use Rattle.std.specs.Prelude.{◌≡◌, ◌≢◌, ◌⊎◌, ℕ, ◌+◌, ◌
 use Rattle.host_edge.specs.Views.{Files, Told, Rose, RoseBy, AppendsPart}
 use Rattle.cli_model.specs.World.{World}
 use Rattle.cli_model.specs.Steps.{Refusal}
-use Rattle.built_forms.specs.Texts.{ops_of, script_in, image_of}
+use Rattle.built_forms.specs.Texts.{ops_in, script_in, image_of}
 use Rattle.simdram_cli.specs.declared.words.RunNames.{RunNames}
 use Rattle.simdram_cli.specs.declared.words.TheConstants.{OPS_MAX, SCRIPT_MAX, IMAGE_MAX}
 
@@ -26,7 +26,7 @@ pub record IsTooLong (limit : ℕ) (files : Files) (name : List ℕ) : Type 0 wh
 
 -- OPS is accepted; so is SCRIPT; so is IMAGE
 abbrev pub TakesOps : RunNames → Files → Type 0
-TakesOps names files = (t : _) × Reads ops_of OPS_MAX files names.ops.now (Ok t)
+TakesOps names files = (t : _) × Reads ops_in OPS_MAX files names.ops.now (Ok t)
 
 abbrev pub TakesScript : RunNames → Files → Type 0
 TakesScript names files = (script : _) × Reads script_in SCRIPT_MAX files names.script.now (Ok script)
@@ -50,7 +50,7 @@ LastLine line old new = Told (AppendsPart line) old.sink.sent new.sink.sent
 pub record OnlyWhere (names : RunNames) (old new : World) (status : ℕ) : Type 0 where
   pub read_fault : status ≡ 2 → (name : List ℕ) × IsInput names name × Rose (old.files.load_faults name) (new.files.load_faults name) × LastLine (codes "cannot read " ++ name ++ codes "\n") old new
   pub write_fault : status ≡ 3 → Rose old.files.store_faults new.files.store_faults ⊎ Rose old.sink.faults new.sink.faults
-  pub bad_ops : status ≡ 4 → IfSome old.files.holds (λ files. (r : Refusal) × Reads ops_of OPS_MAX files names.ops.now (Err r))
+  pub bad_ops : status ≡ 4 → IfSome old.files.holds (λ files. (r : Refusal) × Reads ops_in OPS_MAX files names.ops.now (Err r))
   pub bad_script : status ≡ 6 → IfSome old.files.holds (λ files. TakesOps names files × ((r : Refusal) × Reads script_in SCRIPT_MAX files names.script.now (Err r)))
   pub bad_image : status ≡ 7 → IfSome old.files.holds (λ files. TakesOps names files × TakesScript names files × ((r : Refusal) × Reads image_of IMAGE_MAX files names.image.now (Err r)))
   pub refused_line : 4 ≤ status → status ≤ 7 → (r : Refusal) × (r.status ≡ status) × LastLine r.line old new
@@ -65,7 +65,7 @@ pub record OnlyWhere (names : RunNames) (old new : World) (status : ℕ) : Type 
 -- Where the folder tells its files, they foretell the status, unless memory was wanting or a count of faults rose
 pub record AlwaysWhere (names : RunNames) (files : Files) (old new : World) (status : ℕ) : Type 0 where
   pub ops_too_long : IsTooLong OPS_MAX files names.ops.now → (status ≡ 11) ⊎ IsFaulty old new status
-  pub bad_ops : (r : Refusal) → Reads ops_of OPS_MAX files names.ops.now (Err r) → (status ≡ 4) ⊎ IsFaulty old new status
+  pub bad_ops : (r : Refusal) → Reads ops_in OPS_MAX files names.ops.now (Err r) → (status ≡ 4) ⊎ IsFaulty old new status
   pub script_too_long : TakesOps names files → IsTooLong SCRIPT_MAX files names.script.now → (status ≡ 11) ⊎ IsFaulty old new status
   pub bad_script : TakesOps names files → (r : Refusal) → Reads script_in SCRIPT_MAX files names.script.now (Err r) → (status ≡ 6) ⊎ IsFaulty old new status
   pub image_too_long : TakesOps names files → TakesScript names files → IsTooLong IMAGE_MAX files names.image.now → (status ≡ 11) ⊎ IsFaulty old new status

@@ -1,7 +1,7 @@
 -- What a stop of the program says.
 use Rattle.std.specs.Prelude.{codes, Result, Ok, Err}
 use Rattle.cli_model.specs.Steps.{Refusal, Reason, CannotRead, TooLong, Refused, NoMemory, CannotWrite, PutFailed, ChipFailed, End, Done, Stopped}
-use Rattle.built_forms.specs.Texts.{not_yet}
+use Rattle.built_forms.specs.Texts.{not_yet, ops_refusal}
 use Rattle.built_forms.specs.declared.scripts.FormNo.{FormNo}
 use Rattle.built_forms.specs.declared.scripts.FormNo.TheVariants as no
 use Rattle.simdram_cli.specs.declared.stop.NotYet.{NotYet}
@@ -10,13 +10,13 @@ use Rattle.simdram_cli.specs.declared.stop.Stop.{Stop}
 use Rattle.simdram_cli.specs.declared.stop.Stop.TheVariants as stop
 
 abbrev pub refusal_by : NotYet → Refusal
-refusal_by (form.Ops line) = not_yet 4 (codes "ops line ") line
 refusal_by (form.Script line) = not_yet 6 (codes "script line ") line
 refusal_by (form.Image at) = not_yet 7 (codes "image byte ") at
 
 abbrev pub reason_of : Stop → Reason
 reason_of (stop.CannotRead name) = CannotRead name.now
 reason_of (stop.TooLong name) = TooLong name.now
+reason_of (stop.BadOps fault) = Refused (ops_refusal fault)
 reason_of (stop.Refused form) = Refused (refusal_by form)
 reason_of stop.NoMemory = NoMemory
 reason_of (stop.CannotWrite name) = CannotWrite name.now

@@ -3,7 +3,7 @@ use Rattle.std.specs.Prelude.{ℕ, Bool, true, not, ◌&&◌, List, [], ◌∷�
 use Rattle.std.specs.List.{list_all}
 use denote.Ref.{Bor}
 use Rattle.simdram_cli.specs.declared.words.Command.{Command}
-use Rattle.simdram_cli.specs.declared.words.Command.TheVariants.{Run}
+use Rattle.simdram_cli.specs.declared.words.Command.TheVariants.{Run, Show}
 
 -- no two are equal
 abbrev pub all_differ : List (List ℕ) → Bool
@@ -14,10 +14,11 @@ all_differ (name ∷ names) = list_all (λ other. not (bytes_eq name other)) nam
 abbrev pub are_apart : List ℕ → List ℕ → List ℕ → List ℕ → List ℕ → Bool
 are_apart ops prog script image out = all_differ (ops ∷ prog ∷ script ∷ image ∷ []) && all_differ (ops ∷ prog ∷ script ∷ out ∷ [])
 
--- the command that the words are: `run OPS PROG SCRIPT IMAGE OUT`
+-- the command that the words are: `run OPS PROG SCRIPT IMAGE OUT` or `show OPS`
 abbrev pub command_of : List (Bor (List ℕ)) → Option Command
 command_of (verb ∷ ops ∷ prog ∷ script ∷ image ∷ out ∷ []) =
     if bytes_eq verb.now (codes "run") && are_apart ops.now prog.now script.now image.now out.now
     then Some (Run (record { ops = ops; prog = prog; script = script; image = image; out = out }))
     else None
+command_of (verb ∷ ops ∷ []) = if bytes_eq verb.now (codes "show") then Some (Show ops) else None
 command_of _ = None

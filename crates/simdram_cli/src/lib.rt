@@ -4,6 +4,7 @@
 mod load;
 mod perform;
 mod run;
+mod show;
 mod stop;
 mod top;
 mod words;

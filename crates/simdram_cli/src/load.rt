@@ -1,17 +1,22 @@
 //! Files are loaded and read.
 
-ghost use Rattle.std.specs.Prelude.{◌≡◌, ◌<◌, ◌≤◌, ◌+◌, ◌^◌, length, map, true, IfOk, IfErr, OnOk, [], ◌∷◌};
+ghost use Rattle.std.specs.Prelude.{◌≡◌, ◌<◌, ◌≤◌, ◌+◌, ◌^◌, length, map, IfOk, IfErr};
 ghost use Rattle.std.specs.List.{AllByRecursion};
 ghost use Rattle.bbop_isa.specs.Forms.{view_of};
-ghost use Rattle.built_forms.specs.Texts.{and_op, is_built, ops_of, script_in};
-ghost use Rattle.simdram_cli.specs.Reads.{LoadedAs, NotLoaded, NotRead, ReadAs};
+ghost use Rattle.op_text.specs.Language.{operations};
+ghost use Rattle.op_text.specs.Spelling.{MeetRules};
+ghost use Rattle.built_forms.specs.Answers.{IsBuilt};
+ghost use Rattle.built_forms.specs.Texts.{ops_in, script_in};
+ghost use Rattle.simdram_cli.specs.Reads.{LoadedAs, NotLoaded, NotRead, OpsRead, ReadAs};
 ghost use Rattle.simdram_cli.specs.Stops.{reason_of};
 
 use crate::stop::{NotYet, Stop};
 use crate::words::{OPS_MAX, SCRIPT_MAX};
 use bbop_isa::Instr;
-use built_forms::{FormNo, is_and_text, read_script};
+use built_forms::{FormNo, read_script};
 use host_edge::{Folder, LoadNo};
+use op_lang::parse_ops;
+use op_text::{Ops, OpsNo};
 use std::alloc::Global;
 
 /// Loads a file of at most so many bytes.
@@ -33,20 +38,21 @@ pub(crate) fn load<'a, F: Folder>(
     }
 }
 
-/// Loads OPS, which has the text of the one operation.
+/// Loads OPS, with its ops.
 pub(crate) fn load_ops<'a, F: Folder>(
     name: &'a str,
     files: &mut F,
     alloc: Global,
-) -> Result<(), Stop<'a>>
-    ensures read { OnOk result (ReadAs ops_of name.now OPS_MAX (and_op ∷ []) (F.view files.old) (F.view files.new)) }
-    ensures not_read { IfErr result (λ stop. NotRead ops_of name.now OPS_MAX (reason_of stop) (F.view files.old) (F.view files.new)) }
+) -> Result<Ops, Stop<'a>>
+    ensures read { IfOk result (λ ops. OpsRead name.now (operations ops) (F.view files.old) (F.view files.new)) }
+    ensures meets { IfOk result (λ ops. MeetRules (operations ops)) }
+    ensures not_read { IfErr result (λ stop. NotRead ops_in name.now OPS_MAX (reason_of stop) (F.view files.old) (F.view files.new)) }
 {
     let text = load(name, OPS_MAX, files, alloc)?;
-    if is_and_text(&text) {
-        Ok(())
-    } else {
-        Err(Stop::Refused(NotYet::Ops(1)))
+    match parse_ops(&text, alloc) {
+        Ok(ops) => Ok(ops),
+        Err(OpsNo::Fault(fault)) => Err(Stop::BadOps(fault)),
+        Err(OpsNo::NoMemory) => Err(Stop::NoMemory),
     }
 }
 
@@ -57,7 +63,7 @@ pub(crate) fn load_script<'a, F: Folder>(
     alloc: Global,
 ) -> Result<Vec<Instr>, Stop<'a>>
     ensures read { IfOk result (λ script. ReadAs script_in name.now SCRIPT_MAX (map view_of script.items) (F.view files.old) (F.view files.new)) }
-    ensures built { IfOk result (λ script. AllByRecursion (λ i. is_built i ≡ true) (map view_of script.items)) }
+    ensures built { IfOk result (λ script. AllByRecursion IsBuilt (map view_of script.items)) }
     ensures few { IfOk result (λ script. length script.items ≤ SCRIPT_MAX + 1) }
     ensures not_read { IfErr result (λ stop. NotRead script_in name.now SCRIPT_MAX (reason_of stop) (F.view files.old) (F.view files.new)) }
 {

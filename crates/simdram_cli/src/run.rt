@@ -7,10 +7,13 @@ ghost use Rattle.uprog_code.specs.Shape.{microprograms_of};
 ghost use Rattle.uprog_bin.specs.Spelling.{program_bytes};
 ghost use Rattle.bbop_isa.specs.Forms.{view_of};
 ghost use Rattle.cli_model.specs.World.{world};
-ghost use Rattle.cli_model.specs.Steps.{Goes, Store, Take};
-ghost use Rattle.built_forms.specs.Compiled.{and_program};
-ghost use Rattle.built_forms.specs.Texts.{and_op, is_built};
-ghost use Rattle.simdram_cli.specs.Ends.{ImageWorked, ProgramStopped, ProgramTaken, RunGoes};
+ghost use Rattle.cli_model.specs.Steps.{Done};
+ghost use Rattle.op_text.specs.Language.{operations};
+ghost use Rattle.op_text.specs.Spelling.{MeetRules};
+ghost use Rattle.uprog_code.specs.Programs.{IsProgram};
+ghost use Rattle.uprog_code.specs.Texts.{ImplementsAll, text_op};
+ghost use Rattle.built_forms.specs.Answers.{IsBuilt};
+ghost use Rattle.simdram_cli.specs.Ends.{GoesToStore, ImageWorked, ProgramStopped, ProgramTaken, RunGoes, StopsAtStore};
 ghost use Rattle.simdram_cli.specs.Stops.{end_of, image_reason, reason_of};
 ghost use Rattle.simdram_cli.specs.Words.{are_apart};
 ghost use Rattle.simdram_cli.specs.Works.{chip_view};
@@ -20,26 +23,45 @@ use crate::perform::perform;
 use crate::stop::{NotYet, Stop};
 use crate::words::{IMAGE_MAX, RunNames, SCRIPT_MAX};
 use bbop_isa::Instr;
-use built_forms::{FormNo, compile_and, read_built_image};
+use bit_rows::NoMemory;
+use built_forms::{FormNo, read_built_image};
 use dram_model::Dram;
 use host_edge::{Folder, Sink};
+use op_text::Ops;
 use std::alloc::Global;
 use uprog_bin::encode;
 use uprog_code::Program;
+use uprog_gen::compile_ops;
 
-/// Compiles the operation, and stores PROG.
+/// The program of ops and its file, where there is memory.
+fn compile(ops: &Ops, alloc: Global) -> Result<(Program, Vec<u8>), NoMemory>
+    requires meets { MeetRules (operations ops.now) }
+    ensures implements { IfOk result (λ made. ImplementsAll (microprograms_of made.0) (map text_op (operations ops.now))) }
+    ensures program { IfOk result (λ made. IsProgram (microprograms_of made.0)) }
+    ensures file { IfOk result (λ made. made.1.items ≡ program_bytes (microprograms_of made.0)) }
+{
+    let Ok(compiled) = compile_ops(ops, alloc) else {
+        return Err(NoMemory);
+    };
+    let program = compiled.program;
+    let file = encode(&program, alloc)?;
+    Ok((program, file))
+}
+
+/// Compiles ops, and stores PROG.
 fn write_program<'a, F: Folder>(
+    ops: &Ops,
     name: &'a str,
     files: &mut F,
     alloc: Global,
 ) -> Result<Program, Stop<'a>>
-    ensures program { IfOk result (λ p. microprograms_of p ≡ and_program) }
-    ensures goes { (sink : SinkView) (chip : _) → Goes (Take ∷ Store name.now (program_bytes and_program) ∷ []) (end_of result) (world (F.view files.old) sink chip) (world (F.view files.new) sink chip) }
+    requires meets { MeetRules (operations ops.now) }
+    ensures implements { IfOk result (λ p. ImplementsAll (microprograms_of p) (map text_op (operations ops.now))) }
+    ensures program { IfOk result (λ p. IsProgram (microprograms_of p)) }
+    ensures goes { IfOk result (λ p. GoesToStore name.now (microprograms_of p) Done (F.view files.old) (F.view files.new)) }
+    ensures stops { IfErr result (λ stop. StopsAtStore name.now (reason_of stop) (F.view files.old) (F.view files.new)) }
 {
-    let Ok(program) = compile_and(alloc) else {
-        return Err(Stop::NoMemory);
-    };
-    let Ok(file) = encode(&program, alloc) else {
+    let Ok((program, file)) = compile(ops, alloc) else {
         return Err(Stop::NoMemory);
     };
     if files.store(name, &file).is_err() {
@@ -54,12 +76,12 @@ fn take_program<'a, F: Folder>(
     files: &mut F,
     alloc: Global,
 ) -> Result<Program, Stop<'a>>
-    ensures program { IfOk result (λ p. microprograms_of p ≡ and_program) }
-    ensures taken { OnOk result (ProgramTaken names.now (and_op ∷ []) and_program (F.view files.old) (F.view files.new)) }
-    ensures stopped { IfErr result (λ stop. ProgramStopped names.now and_program (reason_of stop) (F.view files.old) (F.view files.new)) }
+    ensures program { IfOk result (λ p. IsProgram (microprograms_of p)) }
+    ensures taken { IfOk result (λ p. ProgramTaken names.now (microprograms_of p) (F.view files.old) (F.view files.new)) }
+    ensures stopped { IfErr result (λ stop. ProgramStopped names.now (reason_of stop) (F.view files.old) (F.view files.new)) }
 {
-    load_ops(names.ops, files, alloc)?;
-    write_program(names.prog, files, alloc)
+    let ops = load_ops(names.ops, files, alloc)?;
+    write_program(&ops, names.prog, files, alloc)
 }
 
 /// Why a run stops at an image that is not taken.
@@ -82,11 +104,11 @@ fn work_on_image<'a, F: Folder, S: Sink, D: Dram>(
     chip: &mut D,
     alloc: Global,
 ) -> Result<u64, Stop<'a>>
-    requires program { microprograms_of program ≡ and_program }
-    requires built { AllByRecursion (λ i. is_built i ≡ true) (map view_of script.now) }
+    requires program { IsProgram (microprograms_of program) }
+    requires built { AllByRecursion IsBuilt (map view_of script.now) }
     requires few { length script.now ≤ SCRIPT_MAX + 1 }
     ensures borrow { D.borrow chip.new ≡ D.borrow chip.old }
-    ensures worked { ImageWorked names.now and_program (map view_of script.now) (world (F.view files.old) (S.view out.old) (D.faults chip.old)) (world (F.view files.new) (S.view out.new) (D.faults chip.new)) (chip_view (D.banks chip.new) (D.counters chip.new) (D.log chip.new)) result }
+    ensures worked { ImageWorked names.now (microprograms_of program) (map view_of script.now) (world (F.view files.old) (S.view out.old) (D.faults chip.old)) (world (F.view files.new) (S.view out.new) (D.faults chip.new)) (chip_view (D.banks chip.new) (D.counters chip.new) (D.log chip.new)) result }
 {
     let bytes = load(names.image, IMAGE_MAX, files, alloc)?;
     let image = match read_built_image(&bytes, alloc) {

@@ -3,15 +3,16 @@
 ghost use Rattle.std.specs.Prelude.{OnOk, OnErr, ◌≡◌, ◌≤◌, ◌++◌, codes, decimal};
 ghost use Rattle.host_edge.specs.Views.{Told, AppendsPart, Rose};
 ghost use Rattle.cli_model.specs.Status.{reason_status, reason_line};
+ghost use Rattle.built_forms.specs.Texts.{kind_word, ops_refusal};
 ghost use Rattle.simdram_cli.specs.Stops.{reason_of, refusal_by};
 
 use host_edge::{Failed, Sink};
 use itoa::Buffer;
+use op_text::{OpsFault, OpsKind};
 
 /// A form that is not built yet, by its line or byte.
 #[derive(Clone, Copy, Debug, PartialEq, Eq)]
 pub enum NotYet {
-    Ops(u32),
     Script(u32),
     Image(u32),
 }
@@ -21,6 +22,7 @@ pub enum NotYet {
 pub enum Stop<'a> {
     CannotRead(&'a str),
     TooLong(&'a str),
+    BadOps(OpsFault),
     Refused(NotYet),
     NoMemory,
     CannotWrite(&'a str),
@@ -35,7 +37,7 @@ pub fn status_of(stop: Stop<'_>) -> u8
     match stop {
         Stop::CannotRead(_) => 2,
         Stop::CannotWrite(_) | Stop::PutFailed => 3,
-        Stop::Refused(NotYet::Ops(_)) => 4,
+        Stop::BadOps(_) => 4,
         Stop::Refused(NotYet::Script(_)) => 6,
         Stop::Refused(NotYet::Image(_)) => 7,
         Stop::ChipFailed => 9,
@@ -75,10 +77,41 @@ fn tell_form<S: Sink>(form: NotYet, out: &mut S) -> Result<(), Failed>
     ensures failed { OnErr result (Rose (S.view out.old).faults (S.view out.new).faults) }
 {
     match form {
-        NotYet::Ops(at) => tell_not_yet(b"ops line ", at, out),
         NotYet::Script(at) => tell_not_yet(b"script line ", at, out),
         NotYet::Image(at) => tell_not_yet(b"image byte ", at, out),
     }
+}
+
+/// The end of the line of a text of operations that breaks this rule.
+fn kind_end(kind: OpsKind) -> &'static [u8]
+    ensures { result.now ≡ codes " " ++ kind_word kind ++ codes "\n" }
+{
+    match kind {
+        OpsKind::Lex => b" lex\n",
+        OpsKind::Syntax => b" syntax\n",
+        OpsKind::BadName => b" bad_name\n",
+        OpsKind::Twice => b" twice\n",
+        OpsKind::Unknown => b" unknown\n",
+        OpsKind::Kind => b" kind\n",
+        OpsKind::NoResult => b" no_result\n",
+        OpsKind::TooMany => b" too_many\n",
+    }
+}
+
+/// Puts the line of a text of operations that breaks a rule.
+fn tell_ops<S: Sink>(fault: OpsFault, out: &mut S) -> Result<(), Failed>
+    ensures counts { (S.view out.old).faults ≤ (S.view out.new).faults }
+    ensures sent { OnOk result (Told (λ before after. after ≡ before ++ ((ops_refusal fault).line)) (S.view out.old).sent (S.view out.new).sent) }
+    ensures part { Told (AppendsPart (ops_refusal fault).line) (S.view out.old).sent (S.view out.new).sent }
+    ensures failed { OnErr result (Rose (S.view out.old).faults (S.view out.new).faults) }
+{
+    let mut buffer = Buffer::new();
+    put_three(
+        b"ops line ",
+        buffer.format(fault.line).as_bytes(),
+        kind_end(fault.kind),
+        out,
+    )
 }
 
 /// Puts the last line. A sink that failed is told nothing.
@@ -92,6 +125,7 @@ pub fn tell<S: Sink>(stop: Stop<'_>, out: &mut S) -> Result<(), Failed>
         Stop::CannotRead(name) => put_three(b"cannot read ", name.as_bytes(), b"\n", out),
         Stop::TooLong(name) => put_three(b"too long ", name.as_bytes(), b"\n", out),
         Stop::CannotWrite(name) => put_three(b"cannot write ", name.as_bytes(), b"\n", out),
+        Stop::BadOps(fault) => tell_ops(fault, out),
         Stop::Refused(form) => tell_form(form, out),
         Stop::NoMemory => put_three(b"no memory\n", b"", b"", out),
         Stop::ChipFailed => put_three(b"chip fault\n", b"", b"", out),

@@ -7,12 +7,14 @@ ghost use Rattle.cli_model.specs.Steps.{Sent};
 ghost use Rattle.cli_model.specs.Status.{Tells};
 ghost use Rattle.simdram_cli.specs.Ends.{RunEnds, answer_to};
 ghost use Rattle.simdram_cli.specs.Headline.{CommandsCounted, ObjectsRight, OnRun, OnRunWords, ProgramWritten, RepliesExact, ReportSent, RowsUntouched};
+ghost use Rattle.simdram_cli.specs.Show.{OnShowWords, ShowAlwaysWhere, ShowEnds, ShowOnlyWhere, Shown};
 ghost use Rattle.simdram_cli.specs.Statuses.{AlwaysWhere, FilesKept, OnlyWhere};
 ghost use Rattle.simdram_cli.specs.Stops.{end_of};
 ghost use Rattle.simdram_cli.specs.Words.{are_apart, command_of};
 ghost use Rattle.simdram_cli.specs.Works.{chip_view};
 
 use crate::run::run;
+use crate::show::show;
 use crate::stop::{Stop, status_of, tell};
 use crate::words::{Command, RunNames, command_of};
 use dram_model::Dram;
@@ -50,6 +52,14 @@ fn run_and_answer<F: Folder, S: Sink, D: Dram>(
     answer(ended, out)
 }
 
+/// Shows, and tells why it stopped if it did.
+fn show_and_answer<F: Folder, S: Sink>(name: &str, files: &mut F, out: &mut S, alloc: Global) -> u8
+    ensures ends { (chip : _) → ShowEnds name.now (world (F.view files.old) (S.view out.old) chip) (world (F.view files.new) (S.view out.new) chip) result }
+{
+    let ended = show(name, files, out, alloc);
+    answer(ended, out)
+}
+
 /// Does the command that the words are.
 fn dispatch<F: Folder, S: Sink, D: Dram>(
     words: &[&str],
@@ -62,9 +72,11 @@ fn dispatch<F: Folder, S: Sink, D: Dram>(
     ensures usage { command_of words.now ≡ None → result ≡ 1 }
     ensures usage_line { command_of words.now ≡ None → Sent (AppendsPart (codes "usage\n")) (world (F.view files.old) (S.view out.old) (D.faults chip.old)) (world (F.view files.new) (S.view out.new) (D.faults chip.new)) }
     ensures ends { OnRunWords words.now (λ names. RunEnds names (world (F.view files.old) (S.view out.old) (D.faults chip.old)) (world (F.view files.new) (S.view out.new) (D.faults chip.new)) (chip_view (D.banks chip.new) (D.counters chip.new) (D.log chip.new)) result) }
+    ensures show_ends { OnShowWords words.now (λ name. ShowEnds name (world (F.view files.old) (S.view out.old) (D.faults chip.old)) (world (F.view files.new) (S.view out.new) (D.faults chip.new)) result) }
 {
     match command_of(words) {
         Some(Command::Run(names)) => run_and_answer(&names, files, out, chip, alloc),
+        Some(Command::Show(name)) => show_and_answer(name, files, out, alloc),
         None => {
             let _ = out.put(b"usage\n");
             1
@@ -74,7 +86,7 @@ fn dispatch<F: Folder, S: Sink, D: Dram>(
 
 /// Does the command that the words are, without the program's name: `run OPS PROG SCRIPT IMAGE OUT` compiles the
 /// operations of OPS, stores PROG, does SCRIPT on IMAGE with the program that PROG spells, puts the report and stores
-/// OUT. The answer is the exit status.
+/// OUT; `show OPS` puts the canonical text of the operations of OPS. The answer is the exit status.
 pub fn simdram<F: Folder, S: Sink, D: Dram>(
     words: &[&str],
     files: &mut F,
@@ -98,6 +110,12 @@ pub fn simdram<F: Folder, S: Sink, D: Dram>(
     // Which status it is, and what stands after each.
     ensures only_where { OnRunWords words.now (λ names. OnlyWhere names (world (F.view files.old) (S.view out.old) (D.faults chip.old)) (world (F.view files.new) (S.view out.new) (D.faults chip.new)) result) }
     ensures always_where { OnRunWords words.now (λ names. IfSome (F.view files.old).holds (λ held. AlwaysWhere names held (world (F.view files.old) (S.view out.old) (D.faults chip.old)) (world (F.view files.new) (S.view out.new) (D.faults chip.new)) result)) }
+    // A show goes through its steps too.
+    ensures show_ends { OnShowWords words.now (λ name. ShowEnds name (world (F.view files.old) (S.view out.old) (D.faults chip.old)) (world (F.view files.new) (S.view out.new) (D.faults chip.new)) result) }
+    ensures shown { OnShowWords words.now (λ name. result ≡ 0 → IfSome (F.view files.old).holds (λ before. Shown name before (S.view out.old).sent (S.view out.new).sent)) }
+    ensures show_only_where { OnShowWords words.now (λ name. ShowOnlyWhere name (world (F.view files.old) (S.view out.old) (D.faults chip.old)) (world (F.view files.new) (S.view out.new) (D.faults chip.new)) result) }
+    ensures show_always_where { OnShowWords words.now (λ name. IfSome (F.view files.old).holds (λ held. ShowAlwaysWhere name held (world (F.view files.old) (S.view out.old) (D.faults chip.old)) (world (F.view files.new) (S.view out.new) (D.faults chip.new)) result)) }
+    ensures show_keeps { OnShowWords words.now (λ name. Told (λ before after. after ≡ before) (F.view files.old).holds (F.view files.new).holds) }
     ensures files_kept { OnRunWords words.now (λ names. Told (FilesKept names result) (F.view files.old).holds (F.view files.new).holds) }
 {
     dispatch(words, files, out, chip, alloc)

@@ -24,6 +24,7 @@ pub struct RunNames<'a> {
 #[derive(Clone, Copy)]
 pub enum Command<'a> {
     Run(RunNames<'a>),
+    Show(&'a str),
 }
 
 /// Whether no two of four names are equal.
@@ -54,6 +55,13 @@ pub fn command_of<'a>(words: &[&'a str]) -> Option<Command<'a>>
                     image: *image,
                     out: *out,
                 }))
+            } else {
+                None
+            }
+        }
+        [verb, ops] => {
+            if *verb == "show" {
+                Some(Command::Show(*ops))
             } else {
                 None
             }

@@ -4,7 +4,7 @@ use Rattle.std.specs.List.{AllByRecursion}
 use Rattle.std.proofs.lemmas.List.Elements.{All-from_recursion}
 use Rattle.uprog_code.specs.declared.code.EntryCode.{EntryCode}
 use Rattle.uprog_code.specs.Shape.{microprogram_of}
-use Rattle.uprog_bin.specs.Spelling.{IsEntry}
+use Rattle.uprog_code.specs.Programs.{IsEntry}
 
 short : (es : List EntryCode) → AllByRecursion IsEntry (map microprogram_of es) → AllByRecursion (λ e. length e.code.items < 2 ^ 16) es
 short [] h = tt

@@ -11,7 +11,8 @@ use Rattle.std.proofs.lemmas.List.Concat.{flat_map-cons}
 use Rattle.op_text.specs.declared.tree.Kind.TheVariants.{Word}
 use Rattle.uprog_code.specs.Shape.{Microprogram}
 use Rattle.uprog_bin.specs.declared.fault.ProgKind.TheVariants as kinds
-use Rattle.uprog_bin.specs.Spelling.{head_bytes, directory_bytes, code_bytes, opening_bytes, program_bytes, IsEntry, IsProgram}
+use Rattle.uprog_bin.specs.Spelling.{head_bytes, directory_bytes, code_bytes, opening_bytes, program_bytes}
+use Rattle.uprog_code.specs.Programs.{IsEntry, IsProgram}
 use Rattle.uprog_bin.specs.Reading.{IsBytes, ◌>>=◌, rule, bytes_at, field_at, uops_at, codes_at, codes_start, total_count, Listing, directory_at, opening_in, program_in}
 use Rattle.uprog_bin.specs.Opened.{AreStarts}
 use Rattle.uprog_bin.proofs.Held.{Holds, Holds-then, bind_ok, ok_is, rule_ok, bytes_takes, wide16, field_takes}

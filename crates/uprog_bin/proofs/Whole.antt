@@ -15,7 +15,8 @@ use Rattle.op_text.specs.declared.tree.Kind.TheVariants.{Word, Bit}
 use Rattle.uprog_code.specs.declared.code.Uop.TheVariants.{Done}
 use Rattle.uprog_code.specs.Shape.{Shape, Microprogram}
 use Rattle.uprog_bin.specs.declared.fault.ProgKind.TheVariants as kinds
-use Rattle.uprog_bin.specs.Spelling.{name_bytes, kind_bits, result_bit, kinds_byte, shape_bytes, head_bytes, directory_bytes, code_bytes, opening_bytes, program_bytes, IsEntry, IsProgram}
+use Rattle.uprog_bin.specs.Spelling.{name_bytes, kind_bits, result_bit, kinds_byte, shape_bytes, head_bytes, directory_bytes, code_bytes, opening_bytes, program_bytes}
+use Rattle.uprog_code.specs.Programs.{IsEntry, IsProgram}
 use Rattle.uprog_bin.specs.Reading.{is_between, kind_of_bit, kinds_of, is_kinds, shape_at, Listing, has_name, listing_at, directory_at, codes_at, codes_start, total_count, opening_in, program_in}
 use Rattle.uprog_bin.proofs.Held.{Holds, Holds-front, Holds-back, bytes_again, wide8, wide16, wide32, number_again, field_again}
 use Rattle.uprog_bin.proofs.Names.{is-between, name_again, name_short}

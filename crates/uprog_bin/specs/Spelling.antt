@@ -1,8 +1,7 @@
 -- The one spelling of a program.
-use Rattle.std.specs.Prelude.{◌≡◌, ◌≢◌, ℕ, ◌+◌, ◌-◌, ◌*◌, ◌<◌, ◌≤◌, ◌^◌, true, List, [], ◌∷◌, ◌++◌, length, replicate, codes}
-use Rattle.std.specs.List.{AllByRecursion, AllPairs, flat_map}
+use Rattle.std.specs.Prelude.{ℕ, ◌+◌, ◌-◌, ◌*◌, List, [], ◌∷◌, ◌++◌, length, replicate, codes}
+use Rattle.std.specs.List.{flat_map}
 use Rattle.std.specs.Int.{to_le_bytes, w16, w32}
-use Rattle.text_lex.specs.Spelled.{fits_name}
 use Rattle.op_text.specs.declared.tree.Kind.{Kind}
 use Rattle.op_text.specs.declared.tree.Kind.TheVariants.{Word, Bit}
 use Rattle.uprog_code.specs.declared.code.RowSpace.{RowSpace}
@@ -11,7 +10,6 @@ use Rattle.uprog_code.specs.declared.code.RowRef.{RowRef}
 use Rattle.uprog_code.specs.declared.code.Uop.{Uop}
 use Rattle.uprog_code.specs.declared.code.Uop.TheVariants.{Done, SetI, SetN, SetT, Mov, Add, AddI, SubI, Bnez, Aap, Ap}
 use Rattle.uprog_code.specs.Shape.{Shape, Microprogram}
-use Rattle.uprog_code.specs.Legal.{IsLegalCode}
 
 -- a name's length, its bytes, and zeros up to 16
 abbrev pub name_bytes : List ℕ → List ℕ
@@ -81,18 +79,3 @@ opening_bytes = codes "SDMP" ++ to_le_bytes w16 1
 -- the file of a program
 unfoldable pub program_bytes : List Microprogram → List ℕ
 program_bytes ms = opening_bytes ++ (to_le_bytes w16 (length ms) ++ (directory_bytes 0 ms ++ flat_map code_bytes ms))
-
--- a name, 1 to 4 sources, scratch that a byte counts, and legal code
-pub record IsEntry (m : Microprogram) : Type 0 where
-  pub name : fits_name m.name ≡ true
-  pub some : 0 < length m.shape.sources
-  pub few : length m.shape.sources ≤ 4
-  pub bits : m.shape.bits < 2 ^ 8
-  pub words : m.shape.words < 2 ^ 8
-  pub code : IsLegalCode m.shape m.code
-
--- at most 32 entries, of differing names
-pub record IsProgram (ms : List Microprogram) : Type 0 where
-  pub few : length ms ≤ 32
-  pub entries : AllByRecursion IsEntry ms
-  pub names : AllPairs (λ m n. m.name ≢ n.name) ms

@@ -5,7 +5,8 @@ ghost use Rattle.std.specs.List.{flat_map};
 ghost use Rattle.std.specs.Int.{w16, to_le_bytes};
 ghost use Rattle.arrayvec.specs.ArrayVec.{array_vec_len};
 ghost use Rattle.uprog_code.specs.Shape.{microprogram_of, microprograms_of};
-ghost use Rattle.uprog_bin.specs.Spelling.{name_bytes, row_bytes, instruction_bytes, kind_bits, kinds_byte, head_bytes, directory_bytes, code_bytes, program_bytes, zeros, IsProgram};
+ghost use Rattle.uprog_bin.specs.Spelling.{name_bytes, row_bytes, instruction_bytes, kind_bits, kinds_byte, head_bytes, directory_bytes, code_bytes, program_bytes, zeros};
+ghost use Rattle.uprog_code.specs.Programs.{IsProgram};
 
 use crate::opcode::number_of;
 use bit_rows::NoMemory;

@@ -1,6 +1,6 @@
 ghost use Rattle.std.specs.Prelude.{◌≡◌, IfOk};
 ghost use Rattle.uprog_code.specs.Shape.{microprograms_of};
-ghost use Rattle.uprog_bin.specs.Spelling.{IsProgram};
+ghost use Rattle.uprog_code.specs.Programs.{IsProgram};
 
 use crate::{ProgFault, ProgKind, ProgView, encode};
 use arrayvec::ArrayVec;

@@ -5,7 +5,8 @@ ghost use Rattle.std.specs.Str.{bytes_eq};
 ghost use Rattle.uprog_code.specs.Shape.{Microprogram, shape_of};
 ghost use Rattle.uprog_code.specs.Legal.{IsLegalCode};
 ghost use Rattle.uprog_bin.specs.Reading.{Gives, is_named, program_in};
-ghost use Rattle.uprog_bin.specs.Spelling.{IsProgram, program_bytes};
+ghost use Rattle.uprog_bin.specs.Spelling.{program_bytes};
+ghost use Rattle.uprog_code.specs.Programs.{IsProgram};
 ghost use Rattle.uprog_bin.specs.Opened.{File, Held, IsOpened, accepted, code_of, program_of, code_place, uop_in};
 
 use crate::checks::{check_codes, opening_of};
@@ -44,7 +45,8 @@ pub struct ProgView<'a> {
 }
 
 impl<'a> Model for ProgView<'a> {
-    ghost use Rattle.uprog_bin.specs.Spelling.{IsProgram, program_bytes};
+    ghost use Rattle.uprog_bin.specs.Spelling.{program_bytes};
+    ghost use Rattle.uprog_code.specs.Programs.{IsProgram};
     ghost use Rattle.uprog_bin.specs.Opened.{File, IsOpened, accepted};
     ghost use Rattle.uprog_bin.specs.Reading.{program_in};
 

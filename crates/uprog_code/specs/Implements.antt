@@ -3,7 +3,7 @@ use Rattle.std.specs.Prelude.{◌≡◌, ℕ, ◌<◌, ◌≤◌, List, [], ◌�
 use Rattle.dram_model.specs.declared.address.Cell.TheVariants.{D}
 use Rattle.dram_model.specs.Column.{Column, run}
 use Rattle.dram_model.specs.Elements.{number}
-use Rattle.uprog_code.specs.declared.TheConstants.{BUILT_WIDTH}
+use Rattle.bit_rows.specs.declared.TheConstants.{WIDTH_MAX}
 use Rattle.op_text.specs.declared.tree.Kind.{Kind}
 use Rattle.uprog_code.specs.declared.code.Uop.{Uop}
 use Rattle.uprog_code.specs.Shape.{Shape, width}
@@ -27,7 +27,7 @@ pub record Keeps (shape : Shape) (n : ℕ) (issues : List Issue) : Type 0 where
 
 -- at every width the code ends within the ceiling, and does the operation
 pub record Implements (shape : Shape) (code : List Uop) (ceiling : ℕ → ℕ) (meaning : ℕ → List ℕ → ℕ) : Type 0 where
-  pub ends : (n : ℕ) → 0 < n → n ≤ BUILT_WIDTH → HasEnded (trace shape code n)
-  pub cheap : (n : ℕ) → 0 < n → n ≤ BUILT_WIDTH → length (issues_of (trace shape code n)) ≤ ceiling n
-  pub gives : (n : ℕ) → 0 < n → n ≤ BUILT_WIDTH → Gives shape n (issues_of (trace shape code n)) (meaning n)
-  pub keeps : (n : ℕ) → 0 < n → n ≤ BUILT_WIDTH → Keeps shape n (issues_of (trace shape code n))
+  pub ends : (n : ℕ) → 0 < n → n ≤ WIDTH_MAX → HasEnded (trace shape code n)
+  pub cheap : (n : ℕ) → 0 < n → n ≤ WIDTH_MAX → length (issues_of (trace shape code n)) ≤ ceiling n
+  pub gives : (n : ℕ) → 0 < n → n ≤ WIDTH_MAX → Gives shape n (issues_of (trace shape code n)) (meaning n)
+  pub keeps : (n : ℕ) → 0 < n → n ≤ WIDTH_MAX → Keeps shape n (issues_of (trace shape code n))

@@ -6,5 +6,7 @@ pub mod Count
 pub mod Bound
 pub mod Fits
 pub mod Legal
+pub mod Programs
 pub mod Implements
+pub mod Texts
 pub mod Kept

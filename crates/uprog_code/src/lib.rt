@@ -18,8 +18,5 @@ pub use op_text::Kind;
 pub use registers::{Issued, Place, Turn, step};
 pub use walker::{BadWalk, Counts, Why3, walk};
 
-/// The greatest width at which a compiled operation is proved to do its work.
-pub const BUILT_WIDTH: u8 = 1;
-
 /// The greatest number of instructions of a walk, with its last.
 pub const WALK_MAX: u32 = 16_777_216;

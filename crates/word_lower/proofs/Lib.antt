@@ -11,6 +11,6 @@ pub mod Operations
 pub mod Filled
 pub mod Statements
 pub mod Built
-pub mod Templates
+pub mod LikeTemplates
 pub mod Append
 pub mod Owners

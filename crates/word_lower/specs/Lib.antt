@@ -1,3 +1,4 @@
 pub mod Programs
 pub mod Places
 pub mod Shapes
+pub mod Forms

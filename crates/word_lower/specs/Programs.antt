@@ -164,7 +164,7 @@ is_linear o.Rem = false
 is_linear o.Bitcount = false
 is_linear p = true
 
--- the statement is one of these
+-- the statement is a serial block, or one of these
 abbrev pub is_linear_statement : Statement → Bool
 is_linear_statement (Compute target p args) = is_linear p
-is_linear_statement (Visit block) = false
+is_linear_statement (Visit block) = true

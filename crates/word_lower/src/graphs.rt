@@ -39,6 +39,7 @@ fn next(mig: &mut Mig, lits: &[Lit], node: Node) -> Result<Lit, NoMemory>
     ensures inputs { mig.new.inputs ≡ mig.old.inputs }
     ensures least { length mig.old.nodes ≤ length mig.new.nodes }
     ensures count { length mig.new.nodes ≤ length mig.old.nodes + 1 }
+    ensures graph { IsGraph mig.new.inputs mig.new.nodes }
 {
     let a = stand_in(lits, node.a);
     let b = stand_in(lits, node.b);
@@ -80,7 +81,6 @@ fn translate(inputs: u8, nodes: &[Node], alloc: Global) -> Result<MigOuts, NoMem
         let l = next(&mut mig, &lits, *node)?;
         keep(&mut lits, l)?;
     }
-    let _ = mig.inputs();
     Ok(MigOuts { mig, outs: lits })
 }
 

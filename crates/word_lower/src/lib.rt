@@ -6,6 +6,7 @@ mod graphs;
 mod linear;
 mod shapes;
 mod table;
+mod templates;
 
 pub use graphs::made;
 pub use linear::lower_linear;

@@ -1,21 +1,23 @@
 //! The lowering of statements that take one pass.
 
 ghost use Rattle.std.specs.Prelude.{◌≡◌, ℕ, List, map, IfOk, Some, true};
-ghost use Rattle.op_text.specs.Language.{statement};
+ghost use Rattle.op_text.specs.Language.{statement, Compute};
 ghost use Rattle.loop_ir.specs.declared.names.Slot.{Slot};
 ghost use Rattle.loop_ir.specs.Plain.{steps_of};
-ghost use Rattle.loop_ir.specs.Statements.{slots_of, StatementMeets, IsPlaced};
+ghost use Rattle.loop_ir.specs.Statements.{slots_of, ComputeMeets, StatementMeets, IsPlaced};
 ghost use Rattle.loop_ir.specs.Lowered.{IsLowered};
 ghost use Rattle.word_lower.specs.Places.{AreAt, scratch_bit};
-ghost use Rattle.word_lower.specs.Programs.{is_linear_statement};
+ghost use Rattle.word_lower.specs.Programs.{is_linear, is_linear_statement};
+ghost use Rattle.word_lower.specs.Forms.{HasForm};
 ghost use Rattle.word_lower.specs.Shapes.{behind, owners_of};
 
 use crate::bodies::program;
 use crate::shapes::Owners;
 use crate::table::lines;
+use block_lower::lower_block;
 use loop_ir::{LoopProgram, NameMap, Slot, Space};
 use mig_graph::NoMemory;
-use op_text::{Kind, Stmt};
+use op_text::{Kind, Stmt, WordOp};
 use std::alloc::Global;
 use text_lex::Name;
 
@@ -63,20 +65,41 @@ fn owners(names: &NameMap, target: &Name, args: &[Name]) -> Owners
 }
 
 /// The loop program of a word operation that takes one pass over a word.
+fn lower_word(
+    target: &Name,
+    op: WordOp,
+    args: &[Name],
+    names: &NameMap,
+    alloc: Global,
+) -> Result<LoopProgram, NoMemory>
+    requires meets { ComputeMeets (slots_of names.now) target.now op args.now }
+    requires placed { IsPlaced (slots_of names.now) names.now.free_bit names.now.free_word (Compute target.now op args.now) }
+    requires linear { is_linear op ≡ true }
+    ensures { IfOk result (λ p. IsLowered (slots_of names.now) names.now.free_bit names.now.free_word (Compute target.now op args.now) (steps_of p)) }
+{
+    let owners = owners(names, target, args);
+    let p = program(&lines(op, owners.target.kind), owners, alloc)?;
+    Ok(p)
+}
+
+/// The loop program of a serial block, or of a word operation that takes one pass over a word.
+///
+/// Only want of memory is an `Err`.
 pub fn lower_linear(s: &Stmt, names: &NameMap, alloc: Global) -> Result<LoopProgram, NoMemory>
     requires meets { StatementMeets (slots_of names.now) (statement s.now) }
     requires placed { IsPlaced (slots_of names.now) names.now.free_bit names.now.free_word (statement s.now) }
     requires linear { is_linear_statement (statement s.now) ≡ true }
-    ensures { IfOk result (λ p. IsLowered (slots_of names.now) names.now.free_bit names.now.free_word (statement s.now) (steps_of p)) }
+    ensures lowered { IfOk result (λ p. IsLowered (slots_of names.now) names.now.free_bit names.now.free_word (statement s.now) (steps_of p)) }
+    // A block's steps are its states' starts and then its graph at each position.
+    ensures form { IfOk result (λ p. HasForm (slots_of names.now) (statement s.now) (steps_of p)) }
 {
     match s {
-        Stmt::Word { dst, op, args } => {
-            let owners = owners(names, dst, args);
-            let p = program(&lines(*op, owners.target.kind), owners, alloc)?;
-            Ok(p)
-        }
-        Stmt::Serial { .. } => Ok(LoopProgram {
-            steps: Vec::new(alloc),
-        }),
+        Stmt::Word { dst, op, args } => lower_word(dst, *op, args, names, alloc),
+        Stmt::Serial {
+            down,
+            states,
+            lets,
+            assigns,
+        } => lower_block(*down, states, lets, assigns, names, alloc),
     }
 }

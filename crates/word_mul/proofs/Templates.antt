@@ -5,7 +5,7 @@ use Rattle.mig_graph.specs.declared.Node.{Node}
 use Rattle.mig_graph.specs.Graph.{Graph, IsGraph, value}
 use Rattle.mig_graph.specs.Outputs.{lit_at, AreNamed}
 use Rattle.loop_ir.specs.declared.ir.Place.{Place}
-use Rattle.word_lower.proofs.Templates.{turn_less}
+use Rattle.word_lower.proofs.LikeTemplates.{turn_less}
 use Rattle.word_mul.specs.Bodies.{over, IsBuilt}
 
 pub built : (reads writes rp wp : List Place) (nodes : List Node) (outs lits : List Lit) (g : Graph)

@@ -1,4 +1,4 @@
-use Rattle.word_lower.proofs.Templates.{all_lower, all_below, template_like}
+use Rattle.word_lower.proofs.LikeTemplates.{all_lower, all_below, template_like}
 use Rattle.word_lower.proofs.bodies.templated.Goals as goal
 
 pub made-requires-clause-lower : goal.made-requires-clause-lower

@@ -16,6 +16,7 @@ loop-node-init c =
       values = λ bits k lt. first_value c.args.inputs c.args.nodes.now c.in_ok-mig.mig (lit_at c.in_ok-lits.lits.items k) bits k (omega arith) m (c.in_ok-lits.ensures.each k (omega arith));
       count = (let e = ap (λ (g : Graph). length g.nodes) m in omega (arith, e));
       bare = λ z k lt. c.in_ok-lits.ensures.each k lt;
+      graph = rw (← c.mig.view_is) c.mig.invariant.0;
     }
 
 pub loop-node-preserved : goal.loop-node-preserved
@@ -35,4 +36,5 @@ loop-node-preserved c =
       values = λ bits. values_more c.args.inputs c.args.nodes.now g h c.loop-node.lits.items _ c.in_ok-l.l i bits so.long e c.requires.lower c.loop-node-test.true so.named (so.values bits) (c.in_ok-l.ensures.kept bits) (rw c.deref.ensures.value at (c.in_ok-l.ensures.value bits));
       count = omega (arith, count, more);
       bare = λ z. absurd (omega (arith, z));
+      graph = c.next.ensures.graph;
     }

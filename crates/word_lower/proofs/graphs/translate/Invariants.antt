@@ -1,5 +1,5 @@
 use Rattle.std.proofs.Common.{◌≡◌, ◌≤◌, ◌<◌, ◌+◌, ℕ, Bool, length}
-use Rattle.mig_graph.specs.Graph.{size_of, value, values}
+use Rattle.mig_graph.specs.Graph.{IsGraph, size_of, value, values}
 use Rattle.mig_graph.specs.Outputs.{lit_at}
 use Rattle.word_lower.specs.Programs.{plain}
 use Rattle.word_lower.proofs.graphs.translate.Given as goal
@@ -13,4 +13,5 @@ invariant-loop-node l = record {
   values : (bits : ℕ → Bool) (k : ℕ) → k < l.inputs + 1 + l.node-index → value l.mig bits (lit_at l.lits.items k) ≡ values (record { inputs = l.inputs; nodes = l.nodes }) bits k;
   count : length l.mig.nodes ≤ l.node-index;
   bare : l.node-index ≡ 0 → (k : ℕ) → k < l.inputs + 1 → lit_at l.lits.items k ≡ plain k;
+  graph : IsGraph l.mig.inputs l.mig.nodes;
 }

@@ -1,4 +1,4 @@
-use Rattle.word_lower.proofs.Templates.{all_lower, all_below}
+use Rattle.word_lower.proofs.LikeTemplates.{all_lower, all_below}
 use Rattle.word_mul.proofs.Templates.{built}
 use Rattle.word_mul.proofs.bodies.templated.Goals as goal
 

@@ -1,0 +1,16 @@
+mod Names
+mod Gathering
+mod Bounds
+mod Reading
+mod Finding
+mod Making
+mod Rows
+mod Facts
+mod Folds
+mod Round
+mod Visits
+mod Starts
+mod Ends
+mod Costs
+mod Compile
+mod Whole

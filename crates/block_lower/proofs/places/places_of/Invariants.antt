@@ -1,0 +1,7 @@
+use Rattle.std.proofs.Common.{◌≡◌, take}
+use Rattle.loop_ir.specs.Statements.{slots_of}
+use Rattle.block_lower.specs.Form.{places_of}
+use Rattle.block_lower.proofs.places.places_of.Given as goal
+
+abbrev pub invariant-loop-name : goal.invariant-loop-name
+invariant-loop-name l = l.places.items ≡ places_of (slots_of l.names) l.down (take l.name-index l.listed)

@@ -1,0 +1,3 @@
+-- The loop program of a serial block.
+pub mod Inputs
+pub mod Form

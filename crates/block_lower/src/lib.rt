@@ -1,0 +1,10 @@
+//! Serial blocks as loop programs.
+#![tactic(auto)]
+
+mod body;
+mod inputs;
+mod lower;
+mod places;
+
+pub use lower::lower_block;
+pub use mig_graph::NoMemory;

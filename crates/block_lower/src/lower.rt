@@ -1,0 +1,63 @@
+//! The loop program of a serial block.
+
+ghost use Rattle.std.specs.Prelude.{◌≡◌, ◌++◌, ◌∷◌, [], map, IfOk, OnOk};
+ghost use Rattle.op_text.specs.Language.{Visit};
+ghost use Rattle.loop_ir.specs.Plain.{step_of, steps_of};
+ghost use Rattle.loop_ir.specs.Statements.{slots_of, BlockMeets, IsPlaced};
+ghost use Rattle.loop_ir.specs.Lowered.{IsLowered};
+ghost use Rattle.block_lower.specs.Inputs.{block_from};
+ghost use Rattle.block_lower.specs.Form.{start, IsBlockProgram};
+
+use crate::body::{block_body, constant};
+use crate::places::place_of;
+use loop_ir::{LoopProgram, NameMap, Step};
+use mig_graph::NoMemory;
+use op_text::{Assign, State};
+use std::alloc::Global;
+
+/// One step more.
+fn keep(steps: &mut Vec<Step>, step: Step) -> Result<(), NoMemory>
+    ensures { OnOk result (steps.new.items ≡ steps.old.items ++ step ∷ []) }
+{
+    match steps.push(step) {
+        Ok(()) => Ok(()),
+        Err(_) => Err(NoMemory),
+    }
+}
+
+/// The steps that give the states their starts.
+fn starts(
+    down: bool,
+    states: &[State],
+    names: &NameMap,
+    alloc: Global,
+) -> Result<Vec<Step>, NoMemory>
+    ensures { IfOk result (λ r. map step_of r.items ≡ map (start (slots_of names.now) down) states.now) }
+{
+    let mut steps = Vec::new(alloc);
+    for state in states {
+        let place = place_of(names, down, &state.name);
+        keep(&mut steps, Step::Once(constant(state.start, place, alloc)?))?;
+    }
+    Ok(steps)
+}
+
+/// The loop program of a serial block, whose names lie where the map says.
+pub fn lower_block(
+    down: bool,
+    states: &[State],
+    lets: &[Assign],
+    assigns: &[Assign],
+    names: &NameMap,
+    alloc: Global,
+) -> Result<LoopProgram, NoMemory>
+    requires meets { BlockMeets (slots_of names.now) (block_from down states.now lets.now assigns.now) }
+    requires placed { IsPlaced (slots_of names.now) names.now.free_bit names.now.free_word (Visit (block_from down states.now lets.now assigns.now)) }
+    ensures form { IfOk result (λ p. IsBlockProgram (slots_of names.now) (block_from down states.now lets.now assigns.now) (steps_of p)) }
+    ensures lowered { IfOk result (λ p. IsLowered (slots_of names.now) names.now.free_bit names.now.free_word (Visit (block_from down states.now lets.now assigns.now)) (steps_of p)) }
+{
+    let mut steps = starts(down, states, names, alloc)?;
+    let body = block_body(down, lets, assigns, names, alloc)?;
+    keep(&mut steps, Step::Each(body))?;
+    Ok(LoopProgram { steps })
+}

@@ -1,0 +1,34 @@
+//! Laws of the rules.
+
+ghost use Rattle.op_rules.specs.Laws.{KindsAreHeld, KindsAreKept, NamesStandOnce, OthersStay, RulesAreExact, ScratchIsSmall, StatementsMeet};
+
+/// Ops meet the rules as trees exactly where the tokens of their text break none.
+pub fn rules_are_exact()
+    ensures { RulesAreExact }
+{}
+
+/// An op has at most 128 names of a kind beside its result, and needs at most 130 rows of scratch.
+pub fn scratch_is_small()
+    ensures { ScratchIsSmall }
+{}
+
+/// No name of an op stands twice, so each is found with its kind.
+pub fn names_stand_once()
+    ensures { NamesStandOnce }
+{}
+
+/// Each statement of an op that meets the rules meets them where it stands.
+pub fn statements_meet()
+    ensures { StatementsMeet }
+{}
+
+/// A statement leaves each name as it was that it does not define.
+pub fn others_stay()
+    ensures { OthersStay }
+{}
+
+/// Behind each statement, and so behind an op, names hold bits of their kinds.
+pub fn kinds_are_held()
+    ensures statement { KindsAreKept }
+    ensures op { KindsAreHeld }
+{}

@@ -1,0 +1,11 @@
+//! The rules of operations, on their trees.
+#![tactic(auto)]
+
+mod laws;
+mod trees;
+
+pub use laws::{
+    kinds_are_held, names_stand_once, others_stay, rules_are_exact, scratch_is_small,
+    statements_meet,
+};
+pub use trees::ops_meet;

@@ -1,0 +1,109 @@
+-- Names and their places.
+use Rattle.std.proofs.Common.{◌≡◌, ℕ, zero, suc, ◌+◌, ◌*◌, ◌<◌, ◌≤◌, Bool, true, false, not, ◌&&◌, ◌||◌, cond, List, [], ◌∷◌, ◌++◌, map, length, Option, Some, None, refl, sym, ap, ◌∙◌, subst, arith, bytes_eq, ◌⊎◌, inl, inr}
+use Rattle.std.specs.Prelude.{slice_get, count_by}
+use Rattle.op_text.specs.declared.tree.Kind.{Kind}
+use Rattle.op_text.specs.declared.tree.Kind.TheVariants.{Word, Bit}
+use Rattle.op_text.specs.declared.tree.Param.{Param}
+use Rattle.op_text.specs.Rules.{is_among, kind_among, is_known}
+use Rattle.op_text.specs.Spelling.{Each}
+use Rattle.op_rules.specs.Meets.{names_of}
+use Rattle.op_rules.proofs.Names.{same_name, is_same, turned, or_first, or_second, or_both}
+use Rattle.loop_ir.specs.declared.ir.Space.{Space}
+use Rattle.loop_ir.specs.declared.ir.Space.TheVariants.{Result, Source, ScratchBit, ScratchWord}
+use Rattle.loop_ir.specs.declared.names.Slot.{Slot}
+use Rattle.uprog_gen.specs.Laying.{kind_in}
+use Rattle.uprog_gen.specs.Layout.{Lay, slot, source_lays, is_scratch, scratch_slot, own_slot, defined_lays, found}
+
+abbrev pub lay : List ℕ → Slot → Lay
+lay name x = record { name = name; slot = x }
+
+-- by cases on a test
+pub by_bool : (P : Bool → Type 0) (b : Bool) → (b ≡ true → P true) → (b ≡ false → P false) → P b
+by_bool P true f g = f refl
+by_bool P false f g = g refl
+
+pub some_is : {A : Type 0} (x y : A) → Some x ≡ Some y → x ≡ y
+some_is x y e = cc
+
+-- what holds of each name and its place holds where a name is found
+pub found_each : (P : Lay → Type 0) (ls : List Lay) (name : List ℕ) (x : Slot) → Each P ls → found ls name ≡ Some x → P (lay name x)
+found_each P [] name x h e = absurd (cc)
+found_each P (l ∷ ls) name x h e =
+    by_bool (λ b. cond b (Some l.slot) (found ls name) ≡ Some x → P (lay name x)) (bytes_eq l.name name)
+    (λ s f. subst (λ (z : Slot). P (lay name z)) (some_is l.slot x f) (subst (λ (m : List ℕ). P (lay m l.slot)) (same_name l.name name s) h.0))
+    (λ s f. found_each P ls name x h.1 f)
+    e
+
+-- two names at one place
+abbrev pub IsShared : Lay → Lay → Type 0
+IsShared l m = (l.slot.space ≡ m.slot.space) × (l.slot.which ≡ m.slot.which)
+
+-- no two names of the list have one place, if they aren't one name
+abbrev pub AreApartLays : List Lay → Type 0
+AreApartLays [] = Unit {0}
+AreApartLays (l ∷ ls) = Each (λ m. IsShared l m → l.name ≡ m.name) ls × AreApartLays ls
+
+pub found_apart : (ls : List Lay) (a b : List ℕ) (x y : Slot) → AreApartLays ls → found ls a ≡ Some x → found ls b ≡ Some y → x.space ≡ y.space → x.which ≡ y.which → a ≡ b
+found_apart [] a b x y h e f s w = absurd (cc)
+found_apart (l ∷ ls) a b x y h e f s w =
+    let Shares : Lay → Type 0 = λ m. IsShared l m → l.name ≡ m.name in
+    by_bool (λ c. cond c (Some l.slot) (found ls a) ≡ Some x → a ≡ b) (bytes_eq l.name a)
+    (λ p e'.
+    let z : l.slot ≡ x = some_is l.slot x e' in
+    by_bool (λ d. cond d (Some l.slot) (found ls b) ≡ Some y → a ≡ b) (bytes_eq l.name b)
+    (λ q f'. sym (same_name l.name a p) ∙ same_name l.name b q)
+    (λ q f'. sym (same_name l.name a p) ∙ found_each Shares ls b y h.0 f' (ap (λ (v : Slot). v.space) z ∙ s, ap (λ (v : Slot). v.which) z ∙ w))
+    f)
+    (λ p e'.
+    by_bool (λ d. cond d (Some l.slot) (found ls b) ≡ Some y → a ≡ b) (bytes_eq l.name b)
+    (λ q f'.
+    let z : l.slot ≡ y = some_is l.slot y f' in
+    sym (found_each Shares ls a x h.0 e' (ap (λ (v : Slot). v.space) z ∙ sym s, ap (λ (v : Slot). v.which) z ∙ sym w)) ∙ same_name l.name b q)
+    (λ q f'. found_apart ls a b x y h.1 e' f' s w)
+    f)
+    e
+
+-- the names and kinds of the list
+abbrev pub params_of : List Lay → List Param
+params_of ls = map (λ (l : Lay). record { name = l.name; kind = l.slot.kind }) ls
+
+pub found_kind : (ls : List Lay) (name : List ℕ) → kind_among (params_of ls) name ≡ kind_in (found ls name)
+found_kind [] name = refl
+found_kind (l ∷ ls) name =
+    by_bool (λ b. cond b (Some l.slot.kind) (kind_among (params_of ls) name) ≡ kind_in (cond b (Some l.slot) (found ls name))) (bytes_eq l.name name) (λ e. refl) (λ e. found_kind ls name)
+
+pub found_new : (ls : List Lay) (name : List ℕ) → is_among (names_of (params_of ls)) name ≡ false → found ls name ≡ None
+found_new [] name h = refl
+found_new (l ∷ ls) name h =
+    let f = or_first (bytes_eq l.name name) (is_among (names_of (params_of ls)) name) h in
+    by_bool (λ b. b ≡ false → cond b (Some l.slot) (found ls name) ≡ None) (bytes_eq l.name name) (λ e g. absurd (cc)) (λ e g. found_new ls name (or_second (bytes_eq l.name name) (is_among (names_of (params_of ls)) name) h)) f
+
+abbrev pub or_else : Option Slot → Option Slot → Option Slot
+or_else (Some x) y = Some x
+or_else None y = y
+
+pub found-append : (ls ms : List Lay) (name : List ℕ) → found (ls ++ ms) name ≡ or_else (found ls name) (found ms name)
+found-append [] ms name = refl
+found-append (l ∷ ls) ms name =
+    by_bool (λ b. cond b (Some l.slot) (found (ls ++ ms) name) ≡ or_else (cond b (Some l.slot) (found ls name)) (found ms name)) (bytes_eq l.name name) (λ e. refl) (λ e. found-append ls ms name)
+
+-- the kinds
+own_kind : (result : List ℕ) (b w : ℕ) (p : Param) → (own_slot result b w p).kind ≡ p.kind
+own_kind result b w p = cases (bytes_eq p.name result) p.kind
+  where
+    cases : (c : Bool) (k : Kind) → (cond c (slot Result 0 k) (scratch_slot b w k)).kind ≡ k
+    cases true k = refl
+    cases false Word = refl
+    cases false Bit = refl
+
+pub source_params : (k : ℕ) (ps : List Param) → params_of (source_lays k ps) ≡ ps
+source_params k [] = refl
+source_params k (p ∷ ps) = ap (λ l. p ∷ l) (source_params (k + 1) ps)
+
+pub defined_params : (result : List ℕ) (b w : ℕ) (ps : List Param) → params_of (defined_lays result b w ps) ≡ ps
+defined_params result b w [] = refl
+defined_params result b w (p ∷ ps) =
+    let b' = cond (is_scratch result Bit p) (b + 1) b in
+    let w' = cond (is_scratch result Word p) (w + 1) w in
+    ap (λ (k : Kind). record { name = p.name; kind = k } ∷ params_of (defined_lays result b' w' ps)) (own_kind result b w p)
+    ∙ ap (λ l. p ∷ l) (defined_params result b' w' ps)

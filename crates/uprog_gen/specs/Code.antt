@@ -1,0 +1,219 @@
+-- The code of a loop program, each of whose bodies has its commands.
+use Rattle.std.specs.Prelude.{◌≡◌, ℕ, ◌+◌, ◌||◌, Bool, true, if◌then◌else◌, List, [], ◌∷◌, ◌++◌, map, length, filter, slice_index_or}
+use Rattle.uprog_code.specs.declared.code.RowSpace.{RowSpace}
+use Rattle.uprog_code.specs.declared.code.RowSpace.TheVariants as row
+use Rattle.uprog_code.specs.declared.code.RowRef.{RowRef}
+use Rattle.uprog_code.specs.declared.code.Uop.{Uop}
+use Rattle.uprog_code.specs.declared.code.Uop.TheVariants.{SetI, SetN, SetT, Mov, Add, SubI, AddI, Bnez, Aap, Ap}
+use Rattle.uprog_code.specs.Machine.{Issue, Twice, Once, position}
+use Rattle.row_alloc.specs.declared.body.BodyRef.{BodyRef}
+use Rattle.row_alloc.specs.declared.body.BodyRef.TheVariants as ref
+use Rattle.row_alloc.specs.declared.body.BodyCmd.{BodyCmd}
+use Rattle.row_alloc.specs.declared.body.BodyCmd.TheVariants as cmd
+use Rattle.row_alloc.specs.declared.body.OutRow.{OutRow}
+use Rattle.loop_ir.specs.declared.ir.Sub.{Sub}
+use Rattle.loop_ir.specs.declared.ir.Sub.TheVariants.{Zero, Top, Inner as At_inner, InnerDown, Outer, OuterDown, Sum, DownSum, DownPlusN, NPlusInner}
+use Rattle.loop_ir.specs.declared.ir.Space.{Space}
+use Rattle.loop_ir.specs.declared.ir.Space.TheVariants.{Result, Source, ScratchBit, ScratchWord}
+use Rattle.loop_ir.specs.declared.ir.Place.{Place}
+use Rattle.loop_ir.specs.declared.ir.Count.{Count}
+use Rattle.loop_ir.specs.declared.ir.Count.TheVariants.{All, Rest}
+use Rattle.uprog_gen.specs.declared.plan.Plan.{Plan}
+use Rattle.loop_ir.specs.Plain.{Block, InnerOf, StepOf, step_map}
+use Rattle.loop_ir.specs.Plain.InnerOf.{Alone, Across}
+use Rattle.loop_ir.specs.Plain.StepOf.{Single, Along, Nest}
+use Rattle.loop_ir.specs.Loops.{RoundOf, sub_value}
+use Rattle.loop_ir.specs.Spots.{nth_place}
+use Rattle.loop_ir.specs.Costs.{same_sub, is_used, is_fixed}
+
+-- a body, which subscripts its registers hold, its outputs with the inputs whose rows they share, and its commands
+pub record Part : Type 0 where
+  pub block : Block
+  pub plan : Plan
+  pub outs : List OutRow
+  pub cmds : List BodyCmd
+
+abbrev pub row_space : Space → RowSpace
+row_space Result = row.Result
+row_space Source = row.Source
+row_space ScratchBit = row.ScratchBit
+row_space ScratchWord = row.ScratchWord
+
+-- a place's row, in a command of the trace
+abbrev pub place_row : ℕ → ℕ → ℕ → Place → RowRef
+place_row n i o p = record { space = row_space p.space; which = p.which; index = position (row_space p.space) (sub_value n i o p.sub) }
+
+-- a body's row in a round, in a command of the trace
+abbrev pub round_ref : ℕ → RoundOf Part → BodyRef → RowRef
+round_ref n r (ref.B k) = record { space = row.B; which = k; index = 0 }
+round_ref n r (ref.C k) = record { space = row.C; which = k; index = 0 }
+round_ref n r (ref.In k) = place_row n r.i r.o (nth_place r.part.block.reads k)
+round_ref n r (ref.Out k) = place_row n r.i r.o (nth_place r.part.block.writes k)
+round_ref n r (ref.Spill k) = record { space = row.Spill; which = k; index = 0 }
+
+abbrev pub round_command : ℕ → RoundOf Part → BodyCmd → Issue
+round_command n r (cmd.Aap x y) = Twice (round_ref n r x) (round_ref n r y)
+round_command n r (cmd.Ap x) = Once (round_ref n r x)
+
+-- all commands of the rounds
+abbrev pub rounds_commands : ℕ → List (RoundOf Part) → List Issue
+rounds_commands n [] = []
+rounds_commands n (r ∷ rs) = map (round_command n r) r.part.cmds ++ rounds_commands n rs
+
+-- Registers 0 and 1 hold o and n - 1 - o, and 2 counts an inner loop down. The other subscripts that a body uses have registers 3 to 5
+abbrev pub loop_subs : List Sub
+loop_subs = Top ∷ At_inner ∷ InnerDown ∷ Sum ∷ DownSum ∷ DownPlusN ∷ NPlusInner ∷ []
+
+abbrev pub own_subs : Block → List Sub
+own_subs b = filter (is_used b) loop_subs
+
+-- subscript k of these, or Zero, which needs no register
+abbrev pub sub_in : List Sub → ℕ → Sub
+sub_in subs k = slice_index_or subs k Zero
+
+abbrev pub plan_of : Block → Plan
+plan_of b = record { first = sub_in (own_subs b) 0; second = sub_in (own_subs b) 1; third = sub_in (own_subs b) 2 }
+
+-- the register of a subscript; 8 stands for the number 0
+abbrev pub register : Plan → Sub → ℕ
+register plan s =
+    if same_sub s Zero then 8
+    else if same_sub s Outer then 0
+    else if same_sub s OuterDown then 1
+    else if same_sub s plan.first then 3
+    else if same_sub s plan.second then 4
+    else if same_sub s plan.third then 5
+    else 8
+
+-- the plan has the subscript, or it needs no register of the body's own
+abbrev pub is_planned : Plan → Sub → Bool
+is_planned plan s = same_sub s Zero || (same_sub s Outer || (same_sub s OuterDown || (same_sub s plan.first || (same_sub s plan.second || same_sub s plan.third))))
+
+-- each place of the body is at 0 or has a register
+pub record IsPlanned (plan : Plan) (b : Block) : Type 0 where
+  pub reads : (k : ℕ) → is_planned plan (nth_place b.reads k).sub ≡ true
+  pub writes : (k : ℕ) → is_planned plan (nth_place b.writes k).sub ≡ true
+
+-- a scratch bit has no index
+abbrev pub index_in : Space → ℕ → ℕ
+index_in Result r = r
+index_in Source r = r
+index_in ScratchBit r = 0
+index_in ScratchWord r = r
+
+abbrev pub place_ref : Plan → Place → RowRef
+place_ref plan p = record { space = row_space p.space; which = p.which; index = index_in p.space (register plan p.sub) }
+
+-- a body's row in the code
+abbrev pub code_ref : Plan → Block → BodyRef → RowRef
+code_ref plan b (ref.B k) = record { space = row.B; which = k; index = 0 }
+code_ref plan b (ref.C k) = record { space = row.C; which = k; index = 0 }
+code_ref plan b (ref.In k) = place_ref plan (nth_place b.reads k)
+code_ref plan b (ref.Out k) = place_ref plan (nth_place b.writes k)
+code_ref plan b (ref.Spill k) = record { space = row.Spill; which = k; index = 0 }
+
+abbrev pub code_uop : Plan → Block → BodyCmd → Uop
+code_uop plan b (cmd.Aap x y) = Aap (code_ref plan b x) (code_ref plan b y)
+code_uop plan b (cmd.Ap x) = Ap (code_ref plan b x)
+
+-- before a loop
+abbrev pub init : Sub → ℕ → List Uop
+init Zero r = []
+init Top r = SetT r ∷ []
+init At_inner r = SetI r 0 ∷ []
+init InnerDown r = SetN r ∷ []
+init Outer r = []
+init OuterDown r = []
+init Sum r = Mov r 0 ∷ []
+init DownSum r = Mov r 1 ∷ []
+init DownPlusN r = SetN r ∷ Add r 1 ∷ []
+init NPlusInner r = SetN r ∷ []
+
+-- before a turn
+abbrev pub before : Sub → ℕ → List Uop
+before InnerDown r = SubI r 1 ∷ []
+before Zero r = []
+before Top r = []
+before At_inner r = []
+before Outer r = []
+before OuterDown r = []
+before Sum r = []
+before DownSum r = []
+before DownPlusN r = []
+before NPlusInner r = []
+
+-- after a turn
+abbrev pub after : Sub → ℕ → List Uop
+after At_inner r = AddI r 1 ∷ []
+after Sum r = AddI r 1 ∷ []
+after DownSum r = AddI r 1 ∷ []
+after NPlusInner r = AddI r 1 ∷ []
+after Zero r = []
+after Top r = []
+after InnerDown r = []
+after Outer r = []
+after OuterDown r = []
+after DownPlusN r = []
+
+abbrev pub counter : Count → List Uop
+counter All = SetN 2 ∷ []
+counter Rest = Mov 2 1 ∷ AddI 2 1 ∷ []
+
+abbrev pub inits : Plan → List Uop
+inits plan = init plan.first 3 ++ (init plan.second 4 ++ init plan.third 5)
+
+abbrev pub befores : Plan → List Uop
+befores plan = before plan.first 3 ++ (before plan.second 4 ++ before plan.third 5)
+
+abbrev pub afters : Plan → List Uop
+afters plan = after plan.first 3 ++ (after plan.second 4 ++ after plan.third 5)
+
+abbrev pub body_uops : Part → List Uop
+body_uops p = map (code_uop p.plan p.block) p.cmds
+
+abbrev pub once_code : Part → List Uop
+once_code p = inits p.plan ++ (befores p.plan ++ body_uops p)
+
+abbrev pub turn_code : Plan → List Uop → List Uop
+turn_code plan body = befores plan ++ (body ++ (afters plan ++ (SubI 2 1 ∷ [])))
+
+abbrev pub enter_code : Plan → Count → List Uop
+enter_code plan count = counter count ++ inits plan
+
+-- an inner loop, whose first instruction has this place
+abbrev pub loop_code : Count → Part → ℕ → List Uop
+loop_code count p pc = enter_code p.plan count ++ (turn_code p.plan (body_uops p) ++ (Bnez 2 (pc + length (enter_code p.plan count)) ∷ []))
+
+abbrev pub inner_code : InnerOf Part → ℕ → List Uop
+inner_code (Alone p) pc = once_code p
+inner_code (Across count p) pc = loop_code count p pc
+
+abbrev pub inner_list : List (InnerOf Part) → ℕ → List Uop
+inner_list [] pc = []
+inner_list (x ∷ xs) pc = inner_code x pc ++ inner_list xs (pc + length (inner_code x pc))
+
+-- an outer loop
+abbrev pub nest_code : (ℕ → List Uop) → ℕ → List Uop
+nest_code inner pc = SetI 0 0 ∷ SetN 1 ∷ SubI 1 1 ∷ (inner (pc + 1 + 1 + 1) ++ (AddI 0 1 ∷ Bnez 1 (pc + 1 + 1) ∷ []))
+
+-- a body that stands in no nest: o is 0
+abbrev pub outside : List Uop
+outside = SetI 0 0 ∷ SetT 1 ∷ []
+
+abbrev pub step_code : StepOf Part → ℕ → List Uop
+step_code (Single p) pc = if is_fixed p.block then body_uops p else outside ++ once_code p
+step_code (Along p) pc = outside ++ loop_code All p (pc + 1 + 1)
+step_code (Nest []) pc = []
+step_code (Nest (x ∷ xs)) pc = nest_code (inner_list (x ∷ xs)) pc
+
+-- the code of the steps, whose first instruction has this place
+abbrev pub program_code : List (StepOf Part) → ℕ → List Uop
+program_code [] pc = []
+program_code (s ∷ ss) pc = step_code s pc ++ program_code ss (pc + length (step_code s pc))
+
+-- the same loops over the bodies alone
+abbrev pub block_of_part : Part → Block
+block_of_part p = p.block
+
+abbrev pub blocks : List (StepOf Part) → List (StepOf Block)
+blocks ss = map (step_map block_of_part) ss

@@ -1,0 +1,20 @@
+-- What the emitters add to the code.
+use Rattle.std.specs.Prelude.{◌≡◌, List, ◌++◌, length, map}
+use Rattle.uprog_code.specs.declared.code.Uop.{Uop}
+use Rattle.loop_ir.specs.Plain.{Block, InnerOf, StepOf, inner_map, AllInner, AllParts}
+use Rattle.uprog_gen.specs.Code.{Part, block_of_part, blocks, inner_list, program_code}
+use Rattle.uprog_gen.specs.Parts.{IsPart}
+
+-- the code of these inner steps came to the old code, with right commands for each body
+pub record EmitsInner (xs : List (InnerOf Block)) (old new : List Uop) : Type 0 where
+  pub coded : List (InnerOf Part)
+  pub same : map (inner_map block_of_part) coded ≡ xs
+  pub parts : AllInner IsPart coded
+  pub code : new ≡ old ++ inner_list coded (length old)
+
+-- the code of these steps came to the old code, with right commands for each body
+pub record EmitsSteps (steps : List (StepOf Block)) (old new : List Uop) : Type 0 where
+  pub coded : List (StepOf Part)
+  pub same : blocks coded ≡ steps
+  pub parts : AllParts IsPart coded
+  pub code : new ≡ old ++ program_code coded (length old)

@@ -1,0 +1,28 @@
+-- When a part has the right commands for its body.
+use Rattle.std.specs.Prelude.{◌≡◌, ◌≢◌, ℕ, ◌<◌, ◌≤◌, List, length, Some, None}
+use Rattle.mig_graph.specs.Graph.{IsGraph}
+use Rattle.mig_graph.specs.Outputs.{lit_at}
+use Rattle.row_alloc.specs.declared.body.OutRow.{OutRow}
+use Rattle.row_alloc.specs.Rows.{out_at}
+use Rattle.row_alloc.specs.Body.{DoesBody}
+use Rattle.loop_ir.specs.Plain.{Block}
+use Rattle.loop_ir.specs.Spots.{nth_place}
+use Rattle.loop_ir.specs.WellFormed.{IsWellFormed}
+use Rattle.loop_ir.specs.Costs.{turn_cost}
+use Rattle.uprog_gen.specs.Code.{Part, IsPlanned}
+
+-- the first m outputs: each has its literal, and names an input that is read at the place of its write, if there is one
+pub record IsOuts (b : Block) (m : ℕ) (outs : List OutRow) : Type 0 where
+  pub size : length outs ≡ m
+  pub lits : (j : ℕ) → j < length outs → (out_at outs j).lit ≡ lit_at b.outs j
+  pub found : (j k : ℕ) → j < length outs → (out_at outs j).same ≡ Some k → (k < b.graph.inputs) × (nth_place b.reads k ≡ nth_place b.writes j)
+  pub none : (j : ℕ) → j < length outs → (out_at outs j).same ≡ None → (k : ℕ) → k < b.graph.inputs → nth_place b.reads k ≢ nth_place b.writes j
+
+-- a part whose commands do its body
+pub record IsPart (p : Part) : Type 0 where
+  pub well : IsWellFormed p.block
+  pub graph : IsGraph p.block.graph.inputs p.block.graph.nodes
+  pub planned : IsPlanned p.plan p.block
+  pub outs : IsOuts p.block (length p.block.outs) p.outs
+  pub does : DoesBody p.block.graph p.outs p.cmds
+  pub few : length p.cmds ≤ turn_cost p.block

@@ -1,0 +1,27 @@
+-- The rows of a round in a bank.
+use Rattle.std.specs.Prelude.{◌≡◌, ℕ, ◌+◌, ◌-◌, ◌<◌}
+use Rattle.uprog_code.specs.Shape.{Shape}
+use Rattle.uprog_code.specs.Bound.{Bound}
+use Rattle.row_alloc.specs.Rows.{Rows}
+use Rattle.loop_ir.specs.Plain.{Block}
+use Rattle.loop_ir.specs.Loops.{RoundOf}
+use Rattle.loop_ir.specs.Spots.{Spot, nth_spot, IsOwn}
+use Rattle.uprog_gen.specs.Where.{spot_row, IsSpot}
+use Rattle.uprog_gen.specs.Code.{Part}
+
+-- how the operation's rows lie in a bank: none that it may write shares its row with another, and all lie below the spill group
+pub record IsLaid (rows : ℕ) (head : Shape) (n : ℕ) (b : Bound) : Type 0 where
+  pub own : (p q : Spot) → IsSpot head n p → IsSpot head n q → IsOwn p.space → spot_row head n b p ≡ spot_row head n b q → p ≡ q
+  pub low : (p : Spot) → IsSpot head n p → spot_row head n b p < rows - 32
+
+-- the data rows of a round's body, in a bank of so many data rows
+abbrev pub round_rows : ℕ → Shape → ℕ → Bound → RoundOf Part → Rows
+round_rows rows head n b r = record {
+  input = λ k. spot_row head n b (nth_spot n r.i r.o r.part.block.reads k);
+  output = λ j. spot_row head n b (nth_spot n r.i r.o r.part.block.writes j);
+  spill = λ i. rows - 32 + i;
+}
+
+-- the round of the body alone
+abbrev pub block_round : RoundOf Part → RoundOf Block
+block_round r = record { part = r.part.block; i = r.i; o = r.o }

@@ -1,0 +1,202 @@
+//! Where the names of an operation lie.
+
+ghost use Rattle.std.specs.Prelude.{◌≡◌, ℕ, ◌+◌, ◌<◌, ◌≤◌, List, [], ◌∷◌, length, Some, bytes_eq, unwrap_or, OnOk, IfOk};
+ghost use Rattle.std.specs.List.{list_any};
+ghost use Rattle.op_text.specs.declared.tree.Param.{Param as Parameter};
+ghost use Rattle.op_text.specs.Language.{statement, operation};
+ghost use Rattle.op_text.specs.Meaning.{changed};
+ghost use Rattle.op_text.specs.Scratch.{param, defines, result_kind};
+ghost use Rattle.op_text.specs.WordOps.{forms};
+ghost use Rattle.op_rules.specs.Meets.{OperationMeets};
+ghost use Rattle.loop_ir.specs.Statements.{slots_of};
+ghost use Rattle.uprog_gen.specs.Layout.{IsLayoutMap};
+ghost use Rattle.uprog_gen.specs.Laying.{Lays, LaysSources, Knows, IsShort, kind_in, states_defined, words_defined};
+
+use indexmap::IndexMap;
+use loop_ir::{NameMap, Slot, Space};
+use mig_graph::NoMemory;
+use op_text::{Assign, Kind, Op, Param, State, Stmt, WordOp, given_first};
+use std::alloc::Global;
+use text_lex::Name;
+
+/// Gives a name its place.
+fn put(names: &mut NameMap, name: &Name, slot: Slot) -> Result<(), NoMemory>
+    ensures slots { OnOk result ((n : List ℕ) → slots_of names.new n ≡ changed (slots_of names.old) name.now (Some slot) n) }
+    ensures bits { names.new.free_bit ≡ names.old.free_bit }
+    ensures words { names.new.free_word ≡ names.old.free_word }
+{
+    match names.slots.insert(name.copied(), slot) {
+        Ok(_) => Ok(()),
+        Err(_) => Err(NoMemory),
+    }
+}
+
+/// Gives the sources their places.
+fn place_sources(names: &mut NameMap, params: &[Param]) -> Result<(), NoMemory>
+    requires { length params.now ≤ 4 }
+    ensures { OnOk result (LaysSources 0 params.now names.old names.new) }
+{
+    for k in 0..params.len() {
+        let param = &params[k];
+        let slot = Slot {
+            space: Space::Source,
+            which: k as u8,
+            kind: param.kind,
+        };
+        put(names, &param.name, slot)?;
+    }
+    Ok(())
+}
+
+/// Gives a name that the body defines the next place of its kind; `outcome` is the result's name.
+fn place(names: &mut NameMap, outcome: &Name, name: &Name, kind: Kind) -> Result<(), NoMemory>
+    requires bits { names.old.free_bit < 255 }
+    requires words { names.old.free_word < 255 }
+    ensures { OnOk result (Lays outcome.now (param name.now kind ∷ []) names.old names.new) }
+{
+    if name.bytes() == outcome.bytes() {
+        let slot = Slot {
+            space: Space::Result,
+            which: 0,
+            kind,
+        };
+        return put(names, name, slot);
+    }
+    match kind {
+        Kind::Bit => {
+            let slot = Slot {
+                space: Space::ScratchBit,
+                which: names.free_bit,
+                kind,
+            };
+            put(names, name, slot)?;
+            names.free_bit += 1;
+            Ok(())
+        }
+        Kind::Word => {
+            let slot = Slot {
+                space: Space::ScratchWord,
+                which: names.free_word,
+                kind,
+            };
+            put(names, name, slot)?;
+            names.free_word += 1;
+            Ok(())
+        }
+    }
+}
+
+fn is_state(states: &[State], name: &Name) -> bool
+    ensures { result ≡ list_any (λ s. bytes_eq s.name name.now) states.now }
+{
+    states.iter().any(|s| s.name.bytes() == name.bytes())
+}
+
+/// Gives the states of a block their places.
+fn place_states(names: &mut NameMap, outcome: &Name, states: &[State]) -> Result<(), NoMemory>
+    requires bits { names.old.free_bit + length states.now ≤ 255 }
+    requires words { names.old.free_word < 255 }
+    ensures { OnOk result (Lays outcome.now (states_defined states.now) names.old names.new) }
+{
+    for state in states {
+        place(names, outcome, &state.name, Kind::Bit)?;
+    }
+    Ok(())
+}
+
+/// Gives an assigned name of a block its place, if it is no state.
+fn place_word(
+    names: &mut NameMap,
+    outcome: &Name,
+    states: &[State],
+    assign: &Assign,
+) -> Result<(), NoMemory>
+    requires bits { names.old.free_bit < 255 }
+    requires words { names.old.free_word < 255 }
+    ensures { OnOk result (Lays outcome.now (words_defined states.now (assign.now ∷ [])) names.old names.new) }
+{
+    if is_state(states, &assign.name) {
+        return Ok(());
+    }
+    place(names, outcome, &assign.name, Kind::Word)
+}
+
+/// Gives the assigned names of a block that are no states their places.
+fn place_words(
+    names: &mut NameMap,
+    outcome: &Name,
+    states: &[State],
+    assigns: &[Assign],
+) -> Result<(), NoMemory>
+    requires bits { names.old.free_bit < 255 }
+    requires words { names.old.free_word + length assigns.now ≤ 255 }
+    ensures { OnOk result (Lays outcome.now (words_defined states.now assigns.now) names.old names.new) }
+{
+    for assign in assigns {
+        place_word(names, outcome, states, assign)?;
+    }
+    Ok(())
+}
+
+/// The kind of a name; of one without a place, a word.
+fn kind_of(names: &NameMap, name: &Name) -> Kind
+    ensures { result ≡ unwrap_or (kind_in (slots_of names.now name.now)) Kind.Word }
+{
+    match names.slots.get(name) {
+        Some(slot) => slot.kind,
+        None => Kind::Word,
+    }
+}
+
+/// The kind of a word statement's target.
+fn kind_given(names: &NameMap, op: WordOp, args: &[Name]) -> Kind
+    ensures { (known : List Parameter) → Knows known names.now → result ≡ result_kind known op args.now }
+{
+    match args {
+        [] => given_first(op, None),
+        [first, ..] => given_first(op, Some(kind_of(names, first))),
+    }
+}
+
+/// Gives the names that a statement defines their places.
+fn place_statement(names: &mut NameMap, outcome: &Name, stmt: &Stmt) -> Result<(), NoMemory>
+    requires bits { names.old.free_bit ≤ 128 }
+    requires words { names.old.free_word ≤ 128 }
+    requires short { IsShort (statement stmt.now) }
+    ensures { OnOk result ((known : List Parameter) → Knows known names.old → Lays outcome.now (defines known (statement stmt.now)) names.old names.new) }
+{
+    match stmt {
+        Stmt::Word { dst, op, args } => {
+            let kind = kind_given(names, *op, args);
+            place(names, outcome, dst, kind)
+        }
+        Stmt::Serial {
+            states,
+            assigns,
+            ..
+        } => {
+            place_states(names, outcome, states)?;
+            place_words(names, outcome, states, assigns)
+        }
+    }
+}
+
+/// The places of the names of an operation: the parameters are the sources, the result stands in its own rows, and every
+/// other name that the body defines takes the next bit or word of scratch.
+///
+/// Only want of memory is an `Err`.
+pub fn lay_out(op: &Op, alloc: Global) -> Result<NameMap, NoMemory>
+    requires { OperationMeets (operation op.now) }
+    ensures { IfOk result (IsLayoutMap (operation op.now)) }
+{
+    let mut names = NameMap {
+        slots: IndexMap::new(alloc),
+        free_bit: 0,
+        free_word: 0,
+    };
+    place_sources(&mut names, &op.params)?;
+    for stmt in &op.body {
+        place_statement(&mut names, &op.result.name, stmt)?;
+    }
+    Ok(names)
+}

@@ -1,0 +1,17 @@
+//! The compiler from loop programs to microprograms.
+#![tactic(auto)]
+
+mod emit;
+mod entry;
+mod layout;
+mod lowering;
+mod ops;
+mod part;
+mod plan;
+mod steps;
+
+pub use entry::compile_entry;
+pub use layout::lay_out;
+pub use lowering::lower;
+pub use ops::{Compiled, Lowered, compile_lowered, compile_ops};
+pub use uprog_code::EntryCode;

@@ -1,0 +1,82 @@
+//! The commands of a body.
+
+ghost use Rattle.std.specs.Prelude.{◌≡◌, ◌≢◌, ℕ, ◌<◌, ◌≤◌, ◌++◌, ◌∷◌, [], length, OnOk, IfOk, IfSome, IfNone};
+ghost use Rattle.mig_graph.specs.Graph.{IsGraph};
+ghost use Rattle.loop_ir.specs.Plain.{block_of};
+ghost use Rattle.loop_ir.specs.Spots.{nth_place};
+ghost use Rattle.uprog_gen.specs.Parts.{IsOuts, IsPart};
+ghost use Rattle.loop_ir.specs.Limits.{IsSmall};
+ghost use Rattle.uprog_gen.specs.Made.{part_of};
+
+use crate::plan::{Plan, plan_of};
+use loop_ir::{Body, Place};
+use mig_graph::NoMemory;
+use row_alloc::{BodyCmd, OutRow, plain_body};
+use std::alloc::Global;
+
+/// What is made of a body: its plan, its outputs' rows and its commands.
+#[derive(Debug, Drop)]
+pub struct Made {
+    pub plan: Plan,
+    pub outs: Vec<OutRow>,
+    pub cmds: Vec<BodyCmd>,
+}
+
+/// A place of the list.
+pub fn place_at(places: &[Place], k: u8) -> Place
+    requires { k < length places.now }
+    ensures { result ≡ nth_place places.now k }
+{
+    places[k as usize]
+}
+
+/// The input that is read at a place.
+fn find_place(reads: &[Place], inputs: u8, place: Place) -> Option<u8>
+    requires { inputs ≤ length reads.now }
+    ensures found { IfSome result (λ k. (k < inputs) × (nth_place reads.now k ≡ place)) }
+    ensures none { IfNone result ((k : ℕ) → k < inputs → nth_place reads.now k ≢ place) }
+{
+    for k in 0..inputs {
+        if place_at(reads, k) == place {
+            return Some(k);
+        }
+    }
+    None
+}
+
+fn push_out(outs: &mut Vec<OutRow>, out: OutRow) -> Result<(), NoMemory>
+    ensures { OnOk result (outs.new.items ≡ outs.old.items ++ out ∷ []) }
+{
+    match outs.push(out) {
+        Ok(()) => Ok(()),
+        Err(_) => Err(NoMemory),
+    }
+}
+
+/// The rows of the body's outputs.
+fn out_rows(body: &Body, alloc: Global) -> Result<Vec<OutRow>, NoMemory>
+    requires { IsSmall (block_of body.now) }
+    ensures outs { IfOk result (λ outs. IsOuts (block_of body.now) (length body.now.graph.outs.items) outs.items) }
+    ensures graph { IfOk result (λ _. IsGraph body.now.graph.mig.inputs body.now.graph.mig.nodes) }
+{
+    let mut outs = Vec::new(alloc);
+    let inputs = body.graph.mig.inputs();
+    for j in 0..body.graph.outs.len() {
+        let place = place_at(&body.writes, j as u8);
+        let same = find_place(&body.reads, inputs, place);
+        let lit = body.graph.outs[j];
+        push_out(&mut outs, OutRow { lit, same })?;
+    }
+    Ok(outs)
+}
+
+/// The commands of a body.
+pub fn make_part(body: &Body, alloc: Global) -> Result<Made, NoMemory>
+    requires { IsSmall (block_of body.now) }
+    ensures { IfOk result (λ made. IsPart (part_of (block_of body.now) made)) }
+{
+    let plan = plan_of(body, alloc)?;
+    let outs = out_rows(body, alloc)?;
+    let cmds = plain_body(&body.graph.mig, &outs, alloc)?;
+    Ok(Made { plan, outs, cmds })
+}
