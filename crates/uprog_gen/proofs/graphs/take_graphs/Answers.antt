@@ -29,5 +29,5 @@ returns c =
     let first = YieldsList-at c.zip-s-items.ensures.first (YieldsList-from_slice body (c.iter.ensures.rest ∙ c.deref.ensures.value)) in
     let second = YieldsList-from_vec programs.items c.zip-s-items.ensures.second.0 (c.zip-s-items.ensures.second.1 ∙ programs.ok.0) in
     let road = YieldsList-at c.into_iter-s-iterator.ensures.into_iter_gives (YieldsList-from_zip first second) in
-    let t = YieldsList-end road c.loop-s.yielded _ c.loop-s.yielded_by _ _ c.in-None.is c.next.ensures.steps in
+    let t = YieldsList-end road c.loop-s.yielded c.loop-s.s-iterator c.loop-s.yielded_by c.next.result c.next.new.self c.in-None.is c.next.ensures.steps in
     c.loop-s.invariant ∙ ap (λ l. map graphed_of c.args.graphs.now.items ++ l) (ap pair_graphs t.0 ∙ pairs_are body programs.items)
