@@ -7,6 +7,7 @@ use Rattle.std.proofs.lemmas.Slice.Eq.{bytes_eq-Decides}
 use Rattle.std.proofs.lemmas.List.{map-append, map_more, length-map}
 use Rattle.std.proofs.lemmas.List.Elements.{All-from_recursion}
 use Rattle.std.proofs.lemmas.List.Kept.{AllPairs-cons}
+use Rattle.bit_rows.specs.declared.TheConstants.{WIDTH_MAX}
 use Rattle.text_lex.specs.Spelled.{fits_name}
 use Rattle.op_text.specs.declared.tree.Param.{Param}
 use Rattle.op_text.specs.Items.{spelling_of}
@@ -22,13 +23,16 @@ use Rattle.uprog_code.specs.declared.code.EntryCode.{EntryCode}
 use Rattle.uprog_code.specs.declared.code.Head.{Head}
 use Rattle.uprog_code.specs.declared.code.Uop.{Uop}
 use Rattle.uprog_code.specs.Shape.{Shape, Microprogram, shape_of, microprogram_of}
+use Rattle.uprog_code.specs.Machine.{trace, issues_of}
 use Rattle.uprog_code.specs.Legal.{IsLegalCode}
 use Rattle.uprog_code.specs.Programs.{IsEntry, IsProgram}
 use Rattle.uprog_code.specs.Implements.{Implements}
 use Rattle.uprog_code.specs.Texts.{op_shape, text_op, EntryDoes, ImplementsAll}
 use Rattle.loop_ir.specs.Plain.{StepOf, Block}
+use Rattle.loop_ir.specs.Loops.{all_rounds}
+use Rattle.loop_ir.specs.Costs.{rounds_cost}
 use Rattle.loop_ir.specs.Statements.{Slots}
-use Rattle.uprog_gen.specs.Does.{Means, total}
+use Rattle.uprog_gen.specs.Does.{DoesRounds, Means, joined, total}
 use Rattle.uprog_gen.specs.Layout.{IsLayout}
 use Rattle.uprog_gen.specs.Programs.{AreLowered, ceilings, IsCompiled, AreCompiled}
 use Rattle.uprog_gen.proofs.Meant.{lower_ceiling, total_ceilings, statements_mean}
@@ -69,6 +73,12 @@ entry_compiled op meets slots free_bit free_word is ps low head entry name shape
   legal = subst (λ (s : Shape). IsLegalCode s entry.code.items) (sym (ap shape_of same)) legal;
   short = omega (arith, short, lowered_length slots free_bit free_word op.body ps low);
 }
+
+-- no more commands than the rounds may take
+pub entry_few : (head : Head) (ps : List (List (StepOf Block))) (entry : EntryCode) → entry.head ≡ head → ((n : ℕ) → 0 < n → n ≤ WIDTH_MAX → DoesRounds (shape_of head) n (joined ps) entry.code.items)
+    → (n : ℕ) → 0 < n → n ≤ WIDTH_MAX → length (issues_of (trace (microprogram_of entry).shape entry.code.items n)) ≤ rounds_cost (all_rounds n (joined ps))
+entry_few head ps entry same does n some small =
+    subst (λ (h : Head). length (issues_of (trace (shape_of h) entry.code.items n)) ≤ rounds_cost (all_rounds n (joined ps))) (sym same) (does n some small).few
 
 pub if_ok_three : {T E : Type 0} (r : Result T E) (P Q R : T → Type 0) → IfOk r P → IfOk r Q → IfOk r R → IfOk r (λ v. P v × Q v × R v)
 if_ok_three (Ok v) P Q R p q s = (p, q, s)

@@ -56,12 +56,15 @@ after_joined n [] bits = refl
 after_joined n (p ∷ ps) bits =
     ap (λ l. after_rounds n l bits) (all_rounds-append n p (joined ps)) ∙ after_rounds-append n (all_rounds n p) (all_rounds n (joined ps)) bits ∙ after_joined n ps (after_rounds n (all_rounds n p) bits)
 
+pub joined_cost : (n : ℕ) (p : Statement) (ps : List Statement) → rounds_cost (all_rounds n (p ++ joined ps)) ≡ rounds_cost (all_rounds n p) + rounds_cost (all_rounds n (joined ps))
+joined_cost n p ps = ap rounds_cost (all_rounds-append n p (joined ps)) ∙ sum_by-append (λ (r : RoundOf Block). turn_cost r.part) (all_rounds n p) (all_rounds n (joined ps))
+
 cheap_joined : (n : ℕ) (ps : List Statement) (cs : List (ℕ → ℕ)) → AreCheap n ps cs → rounds_cost (all_rounds n (joined ps)) ≤ total cs n
 cheap_joined n [] [] h = omega arith
 cheap_joined n [] (c ∷ cs) h = absurd h
 cheap_joined n (p ∷ ps) [] h = absurd h
 cheap_joined n (p ∷ ps) (c ∷ cs) h =
-    omega (arith, ap rounds_cost (all_rounds-append n p (joined ps)), sum_by-append (λ (r : RoundOf Block). turn_cost r.part) (all_rounds n p) (all_rounds n (joined ps)), h.0, cheap_joined n ps cs h.1, sum_by-cons (λ (f : ℕ → ℕ). f n) c cs)
+    omega (arith, joined_cost n p ps, h.0, cheap_joined n ps cs h.1, sum_by-cons (λ (f : ℕ → ℕ). f n) c cs)
 
 pub both : {X : Type 0} (P : X → Type 0) (xs ys : List X) → AllByRecursion P xs → AllByRecursion P ys → AllByRecursion P (xs ++ ys)
 both P [] ys h k = k

@@ -29,4 +29,5 @@ pub mod Meant
 pub mod Placed
 pub mod LaidOut
 pub mod Entries
+pub mod Taken
 pub mod StageAt

@@ -174,7 +174,7 @@ module _ (op : Operation) (meets : OperationMeets op) (slots : Slots) (free_bit 
     can_statement : (steps : List (StepOf Block)) → CanCompile (IsStatementRow slots free_bit free_word s) steps → CanCompile (IsSpot (op_shape op)) steps
     can_statement steps can = can_more (IsStatementRow slots free_bit free_word s) (IsSpot (op_shape op)) (λ n q h. row_more s n q fits_bits fits_words h) steps can
 
-  ceiling_same : (c : Context) (s : Statement) (rest : List Statement) → Stage op c (s ∷ rest) → (n : ℕ) → ceiling_of slots s n ≡ statement_ceiling op_ceiling c.known n s
+  pub ceiling_same : (c : Context) (s : Statement) (rest : List Statement) → Stage op c (s ∷ rest) → (n : ℕ) → ceiling_of slots s n ≡ statement_ceiling op_ceiling c.known n s
   ceiling_same c (Compute target p args) rest st n = ap (op_ceiling p) (args_same c (Compute target p args) rest st n args st.body.0.known)
   ceiling_same c (Visit b) rest st n = refl
 

@@ -9,3 +9,4 @@ pub mod Emits
 pub mod Layout
 pub mod Programs
 pub mod Laying
+pub mod Graphs

@@ -3,6 +3,7 @@
 
 mod emit;
 mod entry;
+mod graphs;
 mod layout;
 mod lowering;
 mod ops;

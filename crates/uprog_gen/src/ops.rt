@@ -1,22 +1,29 @@
 //! The code of whole operations.
 
-ghost use Rattle.std.specs.Prelude.{◌≡◌, ◌++◌, ◌∷◌, [], map, OnOk, IfOk};
+ghost use Rattle.std.specs.Prelude.{◌≡◌, ℕ, ◌<◌, ◌≤◌, ◌++◌, ◌∷◌, [], map, length, OnOk, IfOk};
+ghost use Rattle.bit_rows.specs.declared.TheConstants.{WIDTH_MAX};
 ghost use Rattle.op_text.specs.Language.{operation, operations};
 ghost use Rattle.op_text.specs.Spelling.{Each, MeetRules};
 ghost use Rattle.op_rules.specs.Meets.{OperationMeets};
 ghost use Rattle.uprog_code.specs.Shape.{shape_of, microprogram_of, microprograms_of};
 ghost use Rattle.uprog_code.specs.Programs.{IsProgram};
+ghost use Rattle.uprog_code.specs.Machine.{trace, issues_of};
 ghost use Rattle.uprog_code.specs.Texts.{op_shape, text_op, ImplementsAll};
 ghost use Rattle.loop_ir.specs.Plain.{steps_of};
+ghost use Rattle.loop_ir.specs.Loops.{all_rounds};
+ghost use Rattle.loop_ir.specs.Costs.{rounds_cost};
 ghost use Rattle.loop_ir.specs.Statements.{slots_of};
+ghost use Rattle.uprog_gen.specs.Does.{joined};
+ghost use Rattle.uprog_gen.specs.Graphs.{graphed_of, AddsGraphs, AreGraphed};
 ghost use Rattle.uprog_gen.specs.Layout.{IsLayoutMap};
 ghost use Rattle.uprog_gen.specs.Programs.{AreLowered, IsCompiled, AreCompiled};
 
 use crate::entry::compile_entry;
+use crate::graphs::take_graphs;
 use crate::lowering::lower;
 use arrayvec::ArrayVec;
 use loop_ir::{LoopProgram, NameMap};
-use mig_graph::NoMemory;
+use mig_graph::{MigOuts, NoMemory};
 use op_lang::scratch_of;
 use op_rules::ops_meet;
 use op_text::{Op, Ops};
@@ -30,10 +37,11 @@ pub struct Lowered {
     pub programs: Vec<LoopProgram>,
 }
 
-/// The program of a text's operations.
+/// The program of a text's operations, and the graphs of their serial blocks in the order of the text.
 #[derive(Debug, Drop)]
 pub struct Compiled {
     pub program: Program,
+    pub graphs: Vec<MigOuts>,
 }
 
 /// What an operation is called, takes and gives, and its scratch.
@@ -63,18 +71,26 @@ pub fn compile_lowered(op: &Op, lowered: &Lowered, alloc: Global) -> Result<Entr
     requires meets { OperationMeets (operation op.now) }
     requires names { IsLayoutMap (operation op.now) lowered.now.names }
     requires lowered { AreLowered (slots_of lowered.now.names) lowered.now.names.free_bit lowered.now.names.free_word (operation op.now).body (map steps_of lowered.now.programs.items) }
-    ensures { IfOk result (λ entry. IsCompiled (microprogram_of entry) (operation op.now)) }
+    ensures compiled { IfOk result (λ entry. IsCompiled (microprogram_of entry) (operation op.now)) }
+    ensures few { IfOk result (λ entry. (n : ℕ) → 0 < n → n ≤ WIDTH_MAX → length (issues_of (trace (microprogram_of entry).shape entry.code.items n)) ≤ rounds_cost (all_rounds n (joined (map steps_of lowered.now.programs.items)))) }
 {
     compile_entry(head_of(op), &lowered.programs, alloc)
 }
 
-/// The code of an operation that meets the rules.
-fn compile_op(op: &Op, alloc: Global) -> Result<EntryCode, NoMemory>
+/// The code of an operation that meets the rules, and behind other graphs those of its serial blocks.
+fn compile_op(
+    op: &Op,
+    graphs: &mut Vec<MigOuts>,
+    alloc: Global,
+) -> Result<EntryCode, NoMemory>
     requires meets { OperationMeets (operation op.now) }
-    ensures { IfOk result (λ entry. IsCompiled (microprogram_of entry) (operation op.now)) }
+    ensures compiled { IfOk result (λ entry. IsCompiled (microprogram_of entry) (operation op.now)) }
+    ensures graphs { IfOk result (λ entry. AddsGraphs (microprogram_of entry) (operation op.now) (map graphed_of graphs.old.items) (map graphed_of graphs.new.items)) }
 {
     let lowered = lower(op, alloc)?;
-    compile_lowered(op, &lowered, alloc)
+    let entry = compile_lowered(op, &lowered, alloc)?;
+    take_graphs(op, lowered, graphs)?;
+    Ok(entry)
 }
 
 fn keep(entries: &mut Vec<EntryCode>, entry: EntryCode) -> Result<(), NoMemory>
@@ -86,17 +102,22 @@ fn keep(entries: &mut Vec<EntryCode>, entry: EntryCode) -> Result<(), NoMemory>
     }
 }
 
-/// The entries of operations that meet the rules, in order.
-fn compile_each(ops: &[Op], alloc: Global) -> Result<Vec<EntryCode>, NoMemory>
+/// The entries of operations that meet the rules, in order, and the graphs of their serial blocks.
+fn compile_each(ops: &[Op], alloc: Global) -> Result<Compiled, NoMemory>
     requires meets { Each OperationMeets (map operation ops.now) }
-    ensures { IfOk result (λ entries. AreCompiled (map microprogram_of entries.items) (map operation ops.now)) }
+    ensures compiled { IfOk result (λ c. AreCompiled (microprograms_of c.program) (map operation ops.now)) }
+    ensures graphs { IfOk result (λ c. AreGraphed (microprograms_of c.program) (map operation ops.now) (map graphed_of c.graphs.items)) }
 {
     let mut entries = Vec::new(alloc);
+    let mut graphs = Vec::new(alloc);
     for op in ops {
-        let entry = compile_op(op, alloc)?;
+        let entry = compile_op(op, &mut graphs, alloc)?;
         keep(&mut entries, entry)?;
     }
-    Ok(entries)
+    Ok(Compiled {
+        program: Program { entries },
+        graphs,
+    })
 }
 
 /// The program of a text's operations: an entry for each, in order.
@@ -109,10 +130,9 @@ pub fn compile_ops(ops: &Ops, alloc: Global) -> Result<Compiled, NoMemory>
     ensures program { IfOk result (λ c. IsProgram (microprograms_of c.program)) }
     // No statement has more than 256 instructions.
     ensures compiled { IfOk result (λ c. AreCompiled (microprograms_of c.program) (operations ops.now)) }
+    // The graph of each serial block, and no more commands than the graphs say.
+    ensures graphs { IfOk result (λ c. AreGraphed (microprograms_of c.program) (operations ops.now) (map graphed_of c.graphs.items)) }
 {
     ops_meet(ops);
-    let entries = compile_each(&ops.ops, alloc)?;
-    Ok(Compiled {
-        program: Program { entries },
-    })
+    compile_each(&ops.ops, alloc)
 }

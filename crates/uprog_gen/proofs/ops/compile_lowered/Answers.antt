@@ -4,7 +4,7 @@ use Rattle.op_text.specs.Language.{operation}
 use Rattle.loop_ir.specs.Plain.{steps_of}
 use Rattle.loop_ir.specs.Statements.{slots_of}
 use Rattle.uprog_gen.proofs.Meant.{can_compile}
-use Rattle.uprog_gen.proofs.Entries.{lowered_length, entry_compiled, if_ok_both, if_ok_three}
+use Rattle.uprog_gen.proofs.Entries.{lowered_length, entry_compiled, entry_few, if_ok_both, if_ok_three}
 use Rattle.uprog_gen.proofs.ops.compile_lowered.Goals as goal
 
 pub compile_entry-requires-clause-can : goal.compile_entry-requires-clause-can
@@ -26,8 +26,14 @@ compile_entry-requires-clause-few c =
       c.requires.meets.few_statements,
     )
 
-pub returns : goal.returns
-returns c =
+pub returns-clause-few : goal.returns-clause-few
+returns-clause-few c =
+    let ps = map steps_of c.args.lowered.now.programs.items in
+    let e = c.compile_entry.ensures in
+    if_ok_both c.compile_entry.result _ _ _ (λ entry h does. entry_few c.head_of.result ps entry h does) e.head (rw c.deref.ensures.value at e.does)
+
+pub returns-clause-compiled : goal.returns-clause-compiled
+returns-clause-compiled c =
     let op = operation c.args.op.now in
     let m = c.args.lowered.now.names in
     let ps = map steps_of c.args.lowered.now.programs.items in

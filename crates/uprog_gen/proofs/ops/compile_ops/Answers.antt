@@ -1,12 +1,12 @@
 use Rattle.std.proofs.Common.{map}
 use Rattle.std.proofs.lemmas.Result.{IfOk-weaker}
 use Rattle.op_text.specs.Language.{operation}
-use Rattle.uprog_code.specs.Shape.{microprogram_of}
+use Rattle.uprog_code.specs.Shape.{microprograms_of}
 use Rattle.uprog_gen.proofs.Entries.{compiled_implement, compiled_program}
 use Rattle.uprog_gen.proofs.ops.compile_ops.Goals as goal
 
 pub returns-clause-implements : goal.returns-clause-implements
-returns-clause-implements c = compiled_implement (map microprogram_of c.in_ok-entries.entries.items) (map operation c.args.ops.now.ops.items) (rw c.deref.ensures.value at c.in_ok-entries.ensures)
+returns-clause-implements c = IfOk-weaker c.compile_each.result _ _ (λ x h. compiled_implement (microprograms_of x.program) (map operation c.args.ops.now.ops.items) h) (rw c.deref.ensures.value at c.compile_each.ensures.compiled)
 
 pub returns-clause-program : goal.returns-clause-program
-returns-clause-program c = compiled_program (map microprogram_of c.in_ok-entries.entries.items) (map operation c.args.ops.now.ops.items) (rw c.deref.ensures.value at c.in_ok-entries.ensures) c.ops_meet.ensures.meets
+returns-clause-program c = IfOk-weaker c.compile_each.result _ _ (λ x h. compiled_program (microprograms_of x.program) (map operation c.args.ops.now.ops.items) h c.ops_meet.ensures.meets) (rw c.deref.ensures.value at c.compile_each.ensures.compiled)

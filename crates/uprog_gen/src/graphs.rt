@@ -1,0 +1,71 @@
+//! The graphs of serial blocks.
+
+ghost use Rattle.std.specs.Prelude.{◌≡◌, ◌++◌, ◌∷◌, [], map, option_to_list, OnOk};
+ghost use Rattle.op_text.specs.Language.{statement, operation};
+ghost use Rattle.loop_ir.specs.Plain.{step_of, steps_of};
+ghost use Rattle.uprog_gen.specs.Graphs.{graphed_of, step_graph, last_graph, statement_graph, graphs_in};
+
+use crate::ops::Lowered;
+use loop_ir::{LoopProgram, Step};
+use mig_graph::{MigOuts, NoMemory};
+use op_text::{Op, Stmt};
+
+fn step_graph(step: Step) -> Option<MigOuts>
+    ensures { map graphed_of (option_to_list result) ≡ step_graph (step_of step) }
+{
+    match step {
+        Step::Each(body) => Some(body.graph),
+        Step::Once(_) | Step::Nest(_) => None,
+    }
+}
+
+/// The graph that a loop program does last at each position, if it does one.
+fn last_graph(program: LoopProgram) -> Option<MigOuts>
+    ensures { map graphed_of (option_to_list result) ≡ last_graph (steps_of program) }
+{
+    let LoopProgram { mut steps } = program;
+    match steps.pop() {
+        Some(step) => step_graph(step),
+        None => None,
+    }
+}
+
+fn keep(graphs: &mut Vec<MigOuts>, graph: MigOuts) -> Result<(), NoMemory>
+    ensures { OnOk result (graphs.new.items ≡ graphs.old.items ++ graph ∷ []) }
+{
+    match graphs.push(graph) {
+        Ok(()) => Ok(()),
+        Err(_) => Err(NoMemory),
+    }
+}
+
+/// The graph of a statement that is a serial block.
+fn take_statement(
+    s: &Stmt,
+    program: LoopProgram,
+    graphs: &mut Vec<MigOuts>,
+) -> Result<(), NoMemory>
+    ensures { OnOk result (map graphed_of graphs.new.items ≡ map graphed_of graphs.old.items ++ statement_graph (statement s.now) (steps_of program)) }
+{
+    match s {
+        Stmt::Word { .. } => Ok(()),
+        Stmt::Serial { .. } => match last_graph(program) {
+            None => Ok(()),
+            Some(graph) => keep(graphs, graph),
+        },
+    }
+}
+
+/// The graphs of an operation's serial blocks, in the order of the text, out of the loop programs of its statements.
+pub fn take_graphs(
+    op: &Op,
+    lowered: Lowered,
+    graphs: &mut Vec<MigOuts>,
+) -> Result<(), NoMemory>
+    ensures { OnOk result (map graphed_of graphs.new.items ≡ map graphed_of graphs.old.items ++ graphs_in (operation op.now).body (map steps_of lowered.programs.items)) }
+{
+    for (s, program) in op.body.iter().zip(lowered.programs) {
+        take_statement(s, program, graphs)?;
+    }
+    Ok(())
+}
