@@ -9,7 +9,11 @@ use std::process::ExitCode;
 use std::{env, io};
 
 #[cfg(test)]
+mod jobs;
+#[cfg(test)]
 mod operations;
+#[cfg(test)]
+mod runs;
 #[cfg(test)]
 mod shown;
 #[cfg(test)]

@@ -1,9 +1,7 @@
 //! Every word operation at several widths, against plain arithmetic.
 
-use dram_chip::Chip;
-use host_edge::{MemFolder, MemSink};
+use crate::runs::{Object, image_of, number_at, run};
 use op_text::WordOp;
-use simdram_cli::simdram;
 use std::alloc::{AllocError, Global};
 use std::test::*;
 
@@ -178,7 +176,7 @@ static OPERATIONS: [Operation; 26] = [
 static WIDTHS: [u8; 6] = [1, 2, 7, 8, 31, 64];
 
 /// The rows of the images here: objects of up to 193 rows, scratch of up to 130, and the spill group.
-const ROWS: usize = 384;
+const ROWS: u16 = 384;
 
 /// All ones at width n, from 1 to 64.
 fn ones(n: u8) -> u64 {
@@ -272,91 +270,6 @@ fn numbers(n: u8, seed: u64, alloc: Global) -> Result<Vec<u64>, AllocError> {
     Ok(numbers)
 }
 
-/// A name, its number of rows and its 64 numbers.
-#[derive(Clone, Copy)]
-struct Object<'a> {
-    name: u8,
-    width: u8,
-    numbers: &'a [u64],
-}
-
-/// The image of these objects from row 0 on, each of 64 elements, in one bank of 64 columns.
-fn image_of(objects: &[Object<'_>], alloc: Global) -> Result<Vec<u8>, AllocError> {
-    let mut bytes = Vec::new(alloc);
-    bytes.extend_from_slice(b"SDMI\x01\x00\x01\x00\x80\x01\x01\x00")?;
-    bytes.extend_from_slice(&(objects.len() as u16).to_le_bytes())?;
-    let mut base: u16 = 0;
-    for object in objects {
-        bytes.extend_from_slice(&[1, object.name])?;
-        bytes.extend_from_slice(b"\0\0\0\0\0\0\0\0\0\0\0\0\0\0\0")?;
-        bytes.push(object.width)?;
-        bytes.extend_from_slice(&base.to_le_bytes())?;
-        bytes.extend_from_slice(&64u32.to_le_bytes())?;
-        base = base.wrapping_add(u16::from(object.width));
-    }
-    for object in objects {
-        for k in 0..object.width {
-            bytes.extend_from_slice(&row(object.numbers, k).to_le_bytes())?;
-        }
-    }
-    bytes.resize(14 + 24 * objects.len().min(16) + 8 * ROWS, 0)?;
-    Ok(bytes)
-}
-
-/// The row of bit k: column e has that bit of number e.
-fn row(numbers: &[u64], k: u8) -> u64 {
-    let mut word: u64 = 0;
-    for number in numbers.iter().rev() {
-        word = word.wrapping_add(word) | (number.checked_shr(u32::from(k)).unwrap_or(0) & 1);
-    }
-    word
-}
-
-/// The number in a column of so many rows from a row on.
-fn number_at(rows: &[u8], base: usize, width: u8, column: u32) -> u64 {
-    let mut number: u64 = 0;
-    for k in (0..usize::from(width)).rev() {
-        let mut word: u64 = 0;
-        for byte in (0..8usize).rev() {
-            let at = base
-                .saturating_add(k)
-                .saturating_mul(8)
-                .saturating_add(byte);
-            word = word.wrapping_mul(256) | u64::from(rows.get(at).copied().unwrap_or(0));
-        }
-        number = number.wrapping_add(number) | (word.checked_shr(column).unwrap_or(0) & 1);
-    }
-    number
-}
-
-/// The rows of the image that a run of one text and one script leaves.
-fn rows_after(
-    text: &str,
-    script: &str,
-    image: &[u8],
-    objects: usize,
-    alloc: Global,
-) -> Result<Vec<u8>, &'static str> {
-    let mut files = MemFolder::new(alloc);
-    files.put_file("ops", text.as_bytes()).ok().ok_or("memory")?;
-    files
-        .put_file("script", script.as_bytes())
-        .ok()
-        .ok_or("memory")?;
-    files.put_file("image", image).ok().ok_or("memory")?;
-    let mut out = MemSink::new(alloc);
-    let mut chip = Chip::new(alloc);
-    let words = ["run", "ops", "prog", "script", "image", "out"];
-    if simdram(&words, &mut files, &mut out, &mut chip, alloc) != 0 {
-        return Err("a refusal");
-    }
-    let after = files.file("out").ok_or("no image")?;
-    let rows = after.get(14 + 24 * objects.min(16)..).ok_or("no rows")?;
-    let mut copy = Vec::new(alloc);
-    copy.extend_from_slice(rows).ok().ok_or("memory")?;
-    Ok(copy)
-}
-
 /// How many of 64 columns have the operation's value on the numbers there, at one width.
 fn right_columns(operation: &Operation, n: u8, alloc: Global) -> Result<u32, Fail> {
     let a = numbers(n, 3, alloc)?;
@@ -385,14 +298,18 @@ fn right_columns(operation: &Operation, n: u8, alloc: Global) -> Result<u32, Fai
             numbers: &b,
         },
     ];
-    let image = image_of(&objects, alloc)?;
+    let image = image_of(&objects, ROWS, alloc)?;
     let text = text_of(operation, alloc)?;
     let script = format!(in alloc; "bbop_f y, a, b, s, 64, {}", n)?;
-    let rows = rows_after(&text, &script, &image, 4, alloc)?;
+    let ended = run(&text, &script, &image, alloc)?;
+    if ended.status != 0 {
+        return Err("a refusal")?;
+    }
+    let rows = ended.rows(4).ok_or("no rows")?;
     let base = usize::from(n).saturating_mul(2).saturating_add(1);
     let mut right: u32 = 0;
     for ((column, a), (b, s)) in (0..64u32).zip(a.iter()).zip(b.iter().zip(s.iter())) {
-        if number_at(&rows, base, width, column) == value(operation.op, n, *a, *b, *s) {
+        if number_at(rows, base, width, column) == value(operation.op, n, *a, *b, *s) {
             right = right.saturating_add(1);
         }
     }

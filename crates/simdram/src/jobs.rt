@@ -1,0 +1,278 @@
+//! Jobs with values that were worked out by hand.
+
+use crate::runs::{Object, image_of, number_at, run};
+use op_lang::parse_ops;
+use std::test::*;
+use uprog_gen::compile_ops;
+
+/// A text, a script, sources a and b, and what y holds afterwards, behind them.
+struct Job {
+    ops: &'static str,
+    script: &'static str,
+    n: u8,
+    a: &'static [u64],
+    b: &'static [u64],
+    y_width: u8,
+    y: &'static [u64],
+}
+
+static JOBS: [Job; 16] = [
+    Job {
+        ops: "op carry(a: word, b: word) -> c: bit { serial up (c = 0) { c = maj(a, b, c); } }",
+        script: "bbop_carry y, a, b, 64, 8",
+        n: 8,
+        a: &[200, 100],
+        b: &[100, 100],
+        y_width: 1,
+        y: &[1, 0],
+    },
+    // a block of weight 24, which gives a
+    Job {
+        ops: "op g(a: word, b: word) -> y: word { serial up () { let x1 = xor(a, b); let x2 = xor(x1, b); let x3 = xor(x2, b); let x4 = xor(x3, b); let x5 = xor(x4, b); let x6 = xor(x5, b); let x7 = xor(x6, b); let x8 = xor(x7, b); y = x8; } }",
+        script: "bbop_g y, a, b, 64, 8",
+        n: 8,
+        a: &[200],
+        b: &[100],
+        y_width: 8,
+        y: &[200],
+    },
+    Job {
+        ops: "op add(a: word, b: word) -> y: word { y = add(a, b); }",
+        script: "bbop_add y, a, b, 64, 8",
+        n: 8,
+        a: &[200, 255],
+        b: &[100, 255],
+        y_width: 8,
+        y: &[44, 254],
+    },
+    // the first leaves its carry row set in both columns
+    Job {
+        ops: "op add(a: word, b: word) -> y: word { y = add(a, b); }",
+        script: "bbop_add y, a, b, 64, 8\nbbop_add y, b, b, 64, 8",
+        n: 8,
+        a: &[200, 255],
+        b: &[100, 255],
+        y_width: 8,
+        y: &[200, 254],
+    },
+    Job {
+        ops: "op add(a: word, b: word) -> y: word { y = add(a, b); }",
+        script: "bbop_add y, a, b, 64, 1",
+        n: 1,
+        a: &[1],
+        b: &[1],
+        y_width: 1,
+        y: &[0],
+    },
+    Job {
+        ops: "op sub(a: word, b: word) -> y: word { y = sub(a, b); }",
+        script: "bbop_sub y, a, b, 64, 8",
+        n: 8,
+        a: &[3],
+        b: &[5],
+        y_width: 8,
+        y: &[254],
+    },
+    Job {
+        ops: "op mul(a: word, b: word) -> y: word { y = mul(a, b); }",
+        script: "bbop_mul y, a, b, 64, 64",
+        n: 64,
+        a: &[18_446_744_073_709_551_615],
+        b: &[18_446_744_073_709_551_615],
+        y_width: 64,
+        y: &[1],
+    },
+    Job {
+        ops: "op div(a: word, b: word) -> y: word { y = div(a, b); }",
+        script: "bbop_div y, a, b, 64, 4",
+        n: 4,
+        a: &[7],
+        b: &[0],
+        y_width: 4,
+        y: &[15],
+    },
+    Job {
+        ops: "op rem(a: word, b: word) -> y: word { y = rem(a, b); }",
+        script: "bbop_rem y, a, b, 64, 4",
+        n: 4,
+        a: &[7],
+        b: &[0],
+        y_width: 4,
+        y: &[7],
+    },
+    Job {
+        ops: "op div(a: word, b: word) -> y: word { y = div(a, b); }",
+        script: "bbop_div y, a, b, 64, 8",
+        n: 8,
+        a: &[7, 255],
+        b: &[0, 1],
+        y_width: 8,
+        y: &[255, 255],
+    },
+    Job {
+        ops: "op rem(a: word, b: word) -> y: word { y = rem(a, b); }",
+        script: "bbop_rem y, a, b, 64, 8",
+        n: 8,
+        a: &[7, 255],
+        b: &[0, 1],
+        y_width: 8,
+        y: &[7, 0],
+    },
+    Job {
+        ops: "op abs(a: word, b: word) -> y: word { y = abs(a); }",
+        script: "bbop_abs y, a, b, 64, 8",
+        n: 8,
+        a: &[128, 255],
+        b: &[],
+        y_width: 8,
+        y: &[128, 1],
+    },
+    Job {
+        ops: "op relu(a: word, b: word) -> y: word { y = relu(a); }",
+        script: "bbop_relu y, a, b, 64, 8",
+        n: 8,
+        a: &[200, 127],
+        b: &[],
+        y_width: 8,
+        y: &[0, 127],
+    },
+    Job {
+        ops: "op bitcount(a: word, b: word) -> y: word { y = bitcount(a); }",
+        script: "bbop_bitcount y, a, b, 64, 64",
+        n: 64,
+        a: &[18_446_744_073_709_551_615, 5],
+        b: &[],
+        y_width: 64,
+        y: &[64, 2],
+    },
+    // internal scratch is used again by each statement: quotient times divisor plus remainder is a
+    Job {
+        ops: "op back(a: word, b: word) -> y: word { q = div(a, b); r = rem(a, b); t = mul(q, b); y = add(t, r); }",
+        script: "bbop_back y, a, b, 64, 8",
+        n: 8,
+        a: &[200, 7, 255, 0],
+        b: &[7, 0, 16, 9],
+        y_width: 8,
+        y: &[200, 7, 255, 0],
+    },
+    // a block between word statements: the lowest one of a + b, by a state that goes up
+    Job {
+        ops: "op low(a: word, b: word) -> y: word { t = add(a, b); serial up (found = 0) { s = and(t, not(found)); found = or(found, t); } z = copy(s); y = if_else(z, b, found); }",
+        script: "bbop_low y, a, b, 64, 8",
+        n: 8,
+        a: &[8, 100, 0, 1],
+        b: &[4, 200, 0, 255],
+        y_width: 8,
+        y: &[4, 4, 0, 255],
+    },
+];
+
+#[test]
+fn jobs_leave_their_numbers(rt: HostRuntime) -> Result<(), Fail> {
+    let alloc = rt.alloc();
+    for job in JOBS.as_slice() {
+        let objects = [
+            Object {
+                name: b'a',
+                width: job.n,
+                numbers: job.a,
+            },
+            Object {
+                name: b'b',
+                width: job.n,
+                numbers: job.b,
+            },
+            Object {
+                name: b'y',
+                width: job.y_width,
+                numbers: job.a,
+            },
+        ];
+        let image = image_of(&objects, 384, alloc)?;
+        let ended = run(job.ops, job.script, &image, alloc)?;
+        assert_eq!(rt; (job.script, ended.status), (job.script, 0));
+        let rows = ended.rows(3).ok_or("no rows")?;
+        let base = usize::from(job.n).saturating_mul(2);
+        for (column, wanted) in (0..64u32).zip(job.y.iter()) {
+            let number = number_at(rows, base, job.y_width, column);
+            assert_eq!(rt; (job.script, column, number), (job.script, column, *wanted));
+        }
+    }
+    Ok(())
+}
+
+const ADD: &str = "op add(a: word, b: word) -> y: word { y = add(a, b); }";
+
+/// The widths of a fourth object beside a, b and y of width 8 in 32 rows, and what an `add`, which needs a row, replies.
+static ROOMS: [(u8, u8, &str); 2] = [
+    (
+        8,
+        8,
+        "1 refused no_rows\ntotal aap=0 ap=0 writes=64 reads=64 refused=1\n",
+    ),
+    (
+        7,
+        0,
+        "1 ok aap=129 ap=0\ntotal aap=129 ap=0 writes=64 reads=64 refused=0\n",
+    ),
+];
+
+#[test]
+fn scratch_needs_a_row(rt: HostRuntime) -> Result<(), Fail> {
+    let alloc = rt.alloc();
+    for (width, status, report) in ROOMS {
+        let eight = |name: u8| Object {
+            name,
+            width: 8,
+            numbers: &[],
+        };
+        let objects = [
+            eight(b'a'),
+            eight(b'b'),
+            eight(b'y'),
+            Object {
+                name: b'x',
+                width,
+                numbers: &[],
+            },
+        ];
+        let image = image_of(&objects, 64, alloc)?;
+        let ended = run(ADD, "bbop_add y, a, b, 64, 8", &image, alloc)?;
+        assert_eq!(rt; ended.out.bytes(), report.as_bytes());
+        assert_eq!(rt; ended.status, status);
+    }
+    Ok(())
+}
+
+/// Three gates of which two majorities are left.
+const REDUCED: &str =
+    "op f(a: word, b: word, c: word) -> y: word { serial up () { y = or(and(a, b), and(a, c)); } }";
+
+#[test]
+fn counts_follow_the_reduced_graph(rt: HostRuntime) -> Result<(), Fail> {
+    let alloc = rt.alloc();
+    let ops = parse_ops(REDUCED.as_bytes(), alloc).ok().ok_or("a text")?;
+    let compiled = compile_ops(&ops, alloc).ok().ok_or("memory")?;
+    assert_eq!(rt; compiled.graphs.len(), 1);
+    for graph in compiled.graphs.as_slice() {
+        let own = graph
+            .mig
+            .size()
+            .saturating_sub(u32::from(graph.mig.inputs()));
+        // the constant and two majorities
+        assert_eq!(rt; own, 3);
+    }
+    let word = |name: u8| Object {
+        name,
+        width: 8,
+        numbers: &[],
+    };
+    let objects = [word(b'a'), word(b'b'), word(b'c'), word(b'y')];
+    let image = image_of(&objects, 128, alloc)?;
+    let ended = run(REDUCED, "bbop_f y, a, b, c, 64, 8", &image, alloc)?;
+    assert_eq!(rt;
+        ended.out.bytes(),
+        b"1 ok aap=80 ap=0\ntotal aap=80 ap=0 writes=128 reads=128 refused=0\n".as_slice()
+    );
+    Ok(())
+}
