@@ -1,6 +1,6 @@
 -- From the code of an operation's statements to its entry.
-use Rattle.std.proofs.Common.{◌≡◌, Bool, true, false, ℕ, zero, suc, ◌+◌, ◌*◌, ◌<◌, ◌≤◌, List, [], ◌∷◌, ◌++◌, take, map, length, refl, sym, ap, ◌∙◌, subst, arith}
-use Rattle.std.specs.Prelude.{slice_index_or, min, Result, Ok, Err, IfOk, ◌≢◌, ◌||◌, ◌&&◌, bytes_eq}
+use Rattle.std.proofs.Common.{◌≡◌, true, false, ℕ, zero, suc, ◌+◌, ◌*◌, ◌<◌, ◌≤◌, List, [], ◌∷◌, ◌++◌, take, map, length, refl, sym, ap, ◌∙◌, subst, arith}
+use Rattle.std.specs.Prelude.{slice_index_or, min, Result, Ok, Err, IfOk, ◌≢◌, bytes_eq}
 use Rattle.std.specs.List.{AllByRecursion, AllPairs}
 use Rattle.std.proofs.lemmas.Bool.{and_parts, or_parts}
 use Rattle.std.proofs.lemmas.Slice.Eq.{bytes_eq-Decides}
@@ -21,7 +21,6 @@ use Rattle.op_rules.specs.Meets.{Differ, OperationMeets, OpsMeet}
 use Rattle.op_rules.proofs.Few.{scratch_is_small}
 use Rattle.uprog_code.specs.declared.code.EntryCode.{EntryCode}
 use Rattle.uprog_code.specs.declared.code.Head.{Head}
-use Rattle.uprog_code.specs.declared.code.Uop.{Uop}
 use Rattle.uprog_code.specs.Shape.{Shape, Microprogram, shape_of, microprogram_of}
 use Rattle.uprog_code.specs.Machine.{trace, issues_of}
 use Rattle.uprog_code.specs.Legal.{IsLegalCode}

@@ -4,7 +4,6 @@ use Rattle.std.specs.Prelude.{slice_index_or}
 use Rattle.std.proofs.lemmas.List.{map-append}
 use Rattle.op_text.specs.declared.tree.Stmt.{Stmt}
 use Rattle.op_text.specs.Language.{Statement, Operation, statement}
-use Rattle.op_text.specs.Spelling.{Each}
 use Rattle.op_rules.specs.Meets.{Context, behind, at_start, OperationMeets}
 use Rattle.loop_ir.specs.declared.ir.LoopProgram.{LoopProgram}
 use Rattle.loop_ir.specs.Plain.{StepOf, Block, steps_of}

@@ -1,11 +1,8 @@
 -- The loop programs of an operation's statements, and its entry.
-use Rattle.std.specs.Prelude.{◌≡◌, ◌+◌, ◌*◌, ◌≤◌, length, Bool, true, false, ℕ, List, [], ◌∷◌, ◌++◌}
+use Rattle.std.specs.Prelude.{◌+◌, ◌*◌, ◌≤◌, length, ℕ, List, [], ◌∷◌, ◌++◌}
 use Rattle.op_text.specs.declared.tree.Param.{Param}
-use Rattle.op_text.specs.declared.tree.WordOp.{WordOp}
-use Rattle.op_text.specs.declared.tree.WordOp.TheVariants as o
-use Rattle.op_text.specs.Language.{Statement, Compute, Visit, Operation}
+use Rattle.op_text.specs.Language.{Statement, Operation}
 use Rattle.op_text.specs.Scratch.{defines, op_ceiling, statement_ceiling}
-use Rattle.op_text.specs.Spelling.{Each}
 use Rattle.uprog_code.specs.Shape.{Microprogram}
 use Rattle.uprog_code.specs.Legal.{IsLegalCode}
 use Rattle.uprog_code.specs.Texts.{text_op, EntryDoes}

@@ -40,11 +40,7 @@ fn keep(graphs: &mut Vec<MigOuts>, graph: MigOuts) -> Result<(), NoMemory>
 }
 
 /// The graph of a statement that is a serial block.
-fn take_statement(
-    s: &Stmt,
-    program: LoopProgram,
-    graphs: &mut Vec<MigOuts>,
-) -> Result<(), NoMemory>
+fn take_statement(s: &Stmt, program: LoopProgram, graphs: &mut Vec<MigOuts>) -> Result<(), NoMemory>
     ensures { OnOk result (map graphed_of graphs.new.items ≡ map graphed_of graphs.old.items ++ statement_graph (statement s.now) (steps_of program)) }
 {
     match s {
@@ -57,11 +53,7 @@ fn take_statement(
 }
 
 /// The graphs of an operation's serial blocks, in the order of the text, out of the loop programs of its statements.
-pub fn take_graphs(
-    op: &Op,
-    lowered: Lowered,
-    graphs: &mut Vec<MigOuts>,
-) -> Result<(), NoMemory>
+pub fn take_graphs(op: &Op, lowered: Lowered, graphs: &mut Vec<MigOuts>) -> Result<(), NoMemory>
     ensures { OnOk result (map graphed_of graphs.new.items ≡ map graphed_of graphs.old.items ++ graphs_in (operation op.now).body (map steps_of lowered.programs.items)) }
 {
     for (s, program) in op.body.iter().zip(lowered.programs) {

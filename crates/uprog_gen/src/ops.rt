@@ -78,11 +78,7 @@ pub fn compile_lowered(op: &Op, lowered: &Lowered, alloc: Global) -> Result<Entr
 }
 
 /// The code of an operation that meets the rules, and behind other graphs those of its serial blocks.
-fn compile_op(
-    op: &Op,
-    graphs: &mut Vec<MigOuts>,
-    alloc: Global,
-) -> Result<EntryCode, NoMemory>
+fn compile_op(op: &Op, graphs: &mut Vec<MigOuts>, alloc: Global) -> Result<EntryCode, NoMemory>
     requires meets { OperationMeets (operation op.now) }
     ensures compiled { IfOk result (λ entry. IsCompiled (microprogram_of entry) (operation op.now)) }
     ensures graphs { IfOk result (λ entry. AddsGraphs (microprogram_of entry) (operation op.now) (map graphed_of graphs.old.items) (map graphed_of graphs.new.items)) }
@@ -120,7 +116,7 @@ fn compile_each(ops: &[Op], alloc: Global) -> Result<Compiled, NoMemory>
     })
 }
 
-/// The program of a text's operations: an entry for each, in order.
+/// The program of a text's operations, an entry for each, in order, and the graphs of their serial blocks.
 ///
 /// Only want of memory is an `Err`.
 pub fn compile_ops(ops: &Ops, alloc: Global) -> Result<Compiled, NoMemory>
@@ -130,7 +126,7 @@ pub fn compile_ops(ops: &Ops, alloc: Global) -> Result<Compiled, NoMemory>
     ensures program { IfOk result (λ c. IsProgram (microprograms_of c.program)) }
     // No statement has more than 256 instructions.
     ensures compiled { IfOk result (λ c. AreCompiled (microprograms_of c.program) (operations ops.now)) }
-    // The graph of each serial block, and no more commands than the graphs say.
+    // The graphs are those of the blocks, and no entry takes more commands than they say.
     ensures graphs { IfOk result (λ c. AreGraphed (microprograms_of c.program) (operations ops.now) (map graphed_of c.graphs.items)) }
 {
     ops_meet(ops);

@@ -1,4 +1,4 @@
-use Rattle.std.proofs.Common.{◌≡◌, ◌∙◌, ◌++◌, sym, ap, option_to_list}
+use Rattle.std.proofs.Common.{◌∙◌, ◌++◌, sym, ap, option_to_list}
 use Rattle.uprog_gen.proofs.Taken.{last_popped}
 use Rattle.uprog_gen.proofs.graphs.last_graph.Goals as goal
 

@@ -3,9 +3,7 @@ use Rattle.std.proofs.lemmas.List.{map-append}
 use Rattle.std.proofs.lemmas.Iterator.{YieldsList-from_slice, YieldsList-from_zip}
 use Rattle.std.proofs.lemmas.Iterator.Adapters.{YieldsList-from_vec}
 use Rattle.std.proofs.lemmas.Iterator.Consumers.{YieldsList-at, YieldsList-end}
-use Rattle.op_text.specs.declared.tree.Stmt.{Stmt}
 use Rattle.op_text.specs.Language.{statement}
-use Rattle.loop_ir.specs.declared.ir.LoopProgram.{LoopProgram}
 use Rattle.loop_ir.specs.Plain.{steps_of}
 use Rattle.uprog_gen.specs.Graphs.{graphed_of, statement_graph}
 use Rattle.uprog_gen.proofs.Taken.{pair_graphs, pairs-append, pairs_are}

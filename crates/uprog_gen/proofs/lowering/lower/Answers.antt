@@ -1,5 +1,5 @@
 use Rattle.std.proofs.Common.{refl}
-use Rattle.op_text.specs.Language.{operation, statement}
+use Rattle.op_text.specs.Language.{operation}
 use Rattle.loop_ir.specs.Statements.{slots_of}
 use Rattle.uprog_gen.proofs.StageAt.{statement_ready, lowered_more, forms_more}
 use Rattle.uprog_gen.proofs.lowering.lower.Goals as goal

@@ -1,7 +1,6 @@
-use Rattle.std.proofs.Common.{◌≡◌, ◌∙◌, ◌≤◌, ap, sym, map, length, take, subst, arith}
+use Rattle.std.proofs.Common.{◌≤◌, map, length, subst, arith}
 use Rattle.std.proofs.lemmas.List.{take_all}
-use Rattle.op_text.specs.Language.{Operation, operation}
-use Rattle.op_text.specs.Spelling.{Each}
+use Rattle.op_text.specs.Language.{operation}
 use Rattle.op_rules.specs.Meets.{OperationMeets}
 use Rattle.uprog_code.specs.Shape.{microprogram_of}
 use Rattle.uprog_gen.specs.Programs.{AreCompiled}
