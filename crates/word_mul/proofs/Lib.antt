@@ -3,7 +3,7 @@ pub mod Product
 pub mod Multiply
 pub mod Divide
 pub mod Quotient
-pub mod Templates
+pub mod Built
 pub mod Parts
 pub mod Clear
 pub mod Nested

@@ -8,159 +8,11 @@ ghost use Rattle.word_mul.specs.Programs.{multiplied_nodes, counted_nodes, divid
 ghost use Rattle.word_lower.specs.Shapes.{are_lower, are_below};
 ghost use Rattle.word_mul.specs.Bodies.{over, IsBuilt};
 
+use crate::templates::{COUNTED, DIVIDED, MULTIPLIED, N2, N8, ON, P1, P2, P3, P4, P5, P6, P8};
 use loop_ir::{Body, Place};
 use mig_graph::{Lit, NoMemory, Node};
 use std::alloc::Global;
 use word_lower::made;
-
-pub const OFF: Lit = Lit {
-    node: 0,
-    inverted: false,
-};
-
-pub const UP: Lit = Lit {
-    node: 0,
-    inverted: true,
-};
-
-const P1: Lit = Lit {
-    node: 1,
-    inverted: false,
-};
-
-const P2: Lit = Lit {
-    node: 2,
-    inverted: false,
-};
-
-const P3: Lit = Lit {
-    node: 3,
-    inverted: false,
-};
-
-const P4: Lit = Lit {
-    node: 4,
-    inverted: false,
-};
-
-const P5: Lit = Lit {
-    node: 5,
-    inverted: false,
-};
-
-const P6: Lit = Lit {
-    node: 6,
-    inverted: false,
-};
-
-const P7: Lit = Lit {
-    node: 7,
-    inverted: false,
-};
-
-const P8: Lit = Lit {
-    node: 8,
-    inverted: false,
-};
-
-const N2: Lit = Lit {
-    node: 2,
-    inverted: true,
-};
-
-const N3: Lit = Lit {
-    node: 3,
-    inverted: true,
-};
-
-const N4: Lit = Lit {
-    node: 4,
-    inverted: true,
-};
-
-const N5: Lit = Lit {
-    node: 5,
-    inverted: true,
-};
-
-const N6: Lit = Lit {
-    node: 6,
-    inverted: true,
-};
-
-const N7: Lit = Lit {
-    node: 7,
-    inverted: true,
-};
-
-const N8: Lit = Lit {
-    node: 8,
-    inverted: true,
-};
-
-const MULTIPLIED: [Node; 4] = [
-    Node {
-        a: OFF,
-        b: P2,
-        c: P3,
-    },
-    Node {
-        a: P1,
-        b: P5,
-        c: P4,
-    },
-    Node {
-        a: P1,
-        b: P5,
-        c: N4,
-    },
-    Node {
-        a: P4,
-        b: N6,
-        c: P7,
-    },
-];
-
-const COUNTED: [Node; 3] = [
-    Node {
-        a: OFF,
-        b: P1,
-        c: P2,
-    },
-    Node {
-        a: UP,
-        b: P1,
-        c: P2,
-    },
-    Node {
-        a: OFF,
-        b: N3,
-        c: P4,
-    },
-];
-
-const DIVIDED: [Node; 4] = [
-    Node {
-        a: OFF,
-        b: P2,
-        c: P3,
-    },
-    Node {
-        a: P1,
-        b: N5,
-        c: P4,
-    },
-    Node {
-        a: P1,
-        b: P5,
-        c: P4,
-    },
-    Node {
-        a: P5,
-        b: P6,
-        c: N7,
-    },
-];
 
 fn keep(places: &mut Vec<Place>, p: Place) -> Result<(), NoMemory>
     ensures { OnOk result (places.new.items ≡ places.old.items ++ p ∷ []) }
@@ -225,7 +77,7 @@ pub fn raised(x: Place, g: Place, alloc: Global) -> Result<Body, NoMemory>
     templated(
         &[x, g],
         &[Node {
-            a: UP,
+            a: ON,
             b: P1,
             c: P2,
         }],

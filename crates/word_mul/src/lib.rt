@@ -5,5 +5,8 @@ mod bodies;
 mod lower;
 mod programs;
 mod rows;
+mod templates;
+#[cfg(test)]
+mod tests;
 
 pub use lower::lower_nested;

@@ -57,7 +57,7 @@ fn rows(names: &NameMap, target: &Name, args: &[Name]) -> Rows
 }
 
 /// The loop program of an operation.
-fn program(op: WordOp, m: Rows, alloc: Global) -> Result<LoopProgram, NoMemory>
+pub fn program(op: WordOp, m: Rows, alloc: Global) -> Result<LoopProgram, NoMemory>
     requires nested { is_nested op ≡ true }
     requires bits { m.free_bit + bits_inside op ≤ 256 }
     ensures { IfOk result (λ p. StepsBuilt (steps_of p) (steps_for op m)) }
@@ -71,7 +71,9 @@ fn program(op: WordOp, m: Rows, alloc: Global) -> Result<LoopProgram, NoMemory>
     }
 }
 
-/// The loop program of `mul`, `div`, `rem` and `bitcount`.
+/// The loop program of `mul`, `div`, `rem` or `bitcount`.
+///
+/// Only want of memory is an `Err`.
 pub fn lower_nested(s: &Stmt, names: &NameMap, alloc: Global) -> Result<LoopProgram, NoMemory>
     requires meets { StatementMeets (slots_of names.now) (statement s.now) }
     requires placed { IsPlaced (slots_of names.now) names.now.free_bit names.now.free_word (statement s.now) }

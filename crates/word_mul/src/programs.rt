@@ -8,8 +8,9 @@ ghost use Rattle.word_mul.specs.Programs.{division};
 ghost use Rattle.word_mul.specs.Places.{rooms_for, steps_for};
 ghost use Rattle.word_mul.specs.Bodies.{PartsBuilt, StepsBuilt};
 
-use crate::bodies::{OFF, UP, compared, constant, counted, divided, moved, multiplied, raised};
+use crate::bodies::{compared, constant, counted, divided, moved, multiplied, raised};
 use crate::rows::{Rows, at, bit, words};
+use crate::templates::{OFF, ON};
 use loop_ir::{Count, Inner, LoopProgram, Step, Sub};
 use mig_graph::NoMemory;
 use std::alloc::Global;
@@ -78,10 +79,10 @@ fn division(m: Rows, alloc: Global) -> Result<Vec<Inner>, NoMemory>
         at(bit(m.free_bit), Sub::Zero),
         at(bit(m.free_bit + 1), Sub::Zero),
     );
-    let yes = constant(UP, fits, alloc)?;
+    let yes = constant(ON, fits, alloc)?;
     let compare = compared(window, divisor, fits, alloc)?;
     let over = raised(top, fits, alloc)?;
-    let start = constant(UP, carry, alloc)?;
+    let start = constant(ON, carry, alloc)?;
     let take = divided(window, divisor, fits, carry, alloc)?;
     nest(
         [

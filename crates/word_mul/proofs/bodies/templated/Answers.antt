@@ -1,5 +1,5 @@
 use Rattle.word_lower.proofs.LikeTemplates.{all_lower, all_below}
-use Rattle.word_mul.proofs.Templates.{built}
+use Rattle.word_mul.proofs.Built.{built}
 use Rattle.word_mul.proofs.bodies.templated.Goals as goal
 
 pub made-requires-clause-lower : goal.made-requires-clause-lower
