@@ -30,7 +30,7 @@ abbrev pub ceilings : List Param → List Statement → List (ℕ → ℕ)
 ceilings known [] = []
 ceilings known (s ∷ body) = (λ n. statement_ceiling op_ceiling known n s) ∷ ceilings (known ++ defines known s) body
 
--- An operation's entry: it does the operation, its code is legal, and no statement has more than 256 instructions
+-- An operation's entry: it does the operation, its code is legal, and it has at most 256 instructions for each statement, and DONE
 pub record IsCompiled (e : Microprogram) (op : Operation) : Type 0 where
   pub does : EntryDoes e (text_op op)
   pub legal : IsLegalCode e.shape e.code

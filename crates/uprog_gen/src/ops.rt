@@ -124,7 +124,7 @@ pub fn compile_ops(ops: &Ops, alloc: Global) -> Result<Compiled, NoMemory>
     ensures implements { IfOk result (λ c. ImplementsAll (microprograms_of c.program) (map text_op (operations ops.now))) }
     // A file can hold it.
     ensures program { IfOk result (λ c. IsProgram (microprograms_of c.program)) }
-    // No statement has more than 256 instructions.
+    // Each has at most 256 instructions for each statement, and DONE.
     ensures compiled { IfOk result (λ c. AreCompiled (microprograms_of c.program) (operations ops.now)) }
     // The graphs are those of the blocks, and no entry takes more commands than they say.
     ensures graphs { IfOk result (λ c. AreGraphed (microprograms_of c.program) (operations ops.now) (map graphed_of c.graphs.items)) }
