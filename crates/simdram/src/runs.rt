@@ -28,7 +28,8 @@ pub fn image_of(objects: &[Object<'_>], rows: u16, alloc: Global) -> Result<Vec<
     bytes.extend_from_slice(b"SDMI\x01\x00\x01\x00")?;
     bytes.extend_from_slice(&rows.to_le_bytes())?;
     bytes.extend_from_slice(b"\x01\x00")?;
-    bytes.extend_from_slice(&(objects.len() as u16).to_le_bytes())?;
+    let count = objects.len().min(16);
+    bytes.extend_from_slice(&(count as u16).to_le_bytes())?;
     let mut base: u16 = 0;
     for object in objects {
         bytes.extend_from_slice(&[1, object.name])?;
@@ -43,7 +44,7 @@ pub fn image_of(objects: &[Object<'_>], rows: u16, alloc: Global) -> Result<Vec<
             bytes.extend_from_slice(&row(object.numbers, k).to_le_bytes())?;
         }
     }
-    bytes.resize(14 + 24 * objects.len().min(16) + 8 * usize::from(rows), 0)?;
+    bytes.resize(14 + 24 * count + 8 * usize::from(rows), 0)?;
     Ok(bytes)
 }
 
