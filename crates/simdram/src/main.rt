@@ -1,6 +1,9 @@
 //! The program: the words of the command line, real files and standard output, and the modelled chip.
 #![tactic(auto)]
 
+ghost use Rattle.std.specs.Prelude.{◌≡◌, ◌⊎◌, map, IfOk, IfErr};
+ghost use Rattle.std.specs.String.{string_bytes};
+
 use dram_chip::Chip;
 use host_edge::{DiskFolder, StdSink};
 use simdram_cli::simdram;
@@ -26,7 +29,9 @@ const UNREAD: u8 = 1;
 const NO_MEMORY: u8 = 10;
 
 /// The words behind the program's name.
-fn words_of(rt: &HostRuntime, alloc: Global) -> Result<Vec<String>, u8> {
+fn words_of(rt: &HostRuntime, alloc: Global) -> Result<Vec<String>, u8>
+    ensures status { IfErr result (λ status. (status ≡ 1) ⊎ (status ≡ 10)) }
+{
     let mut words = Vec::new(alloc);
     match env::args(rt) {
         Ok(args) => {
@@ -42,7 +47,11 @@ fn words_of(rt: &HostRuntime, alloc: Global) -> Result<Vec<String>, u8> {
     }
 }
 
-fn borrowed<'a>(words: &'a [String], alloc: Global) -> Result<Vec<&'a str>, u8> {
+/// The same words, as the top call takes them.
+fn borrowed<'a>(words: &'a [String], alloc: Global) -> Result<Vec<&'a str>, u8>
+    ensures all { IfOk result (λ all. map (λ w. w.now) all.items ≡ map string_bytes words.now) }
+    ensures status { IfErr result (λ status. status ≡ 10) }
+{
     let mut all = Vec::new(alloc);
     for word in words {
         if all.push(word.as_str()).is_err() {
