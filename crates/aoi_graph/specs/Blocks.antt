@@ -1,12 +1,14 @@
 -- Blocks of lets and assignments, and the values of the graphs that are made for them
-use Rattle.std.specs.Prelude.{◌≡◌, ℕ, ◌+◌, ◌<◌, Bool, true, false, List, [], ◌∷◌, length, map, sum, sum_by, slice_get, slice_index, Some, is_some, bytes_eq, ◌||◌}
+use Rattle.std.specs.Prelude.{◌≡◌, ℕ, ◌+◌, ◌<◌, Bool, true, false, List, [], ◌∷◌, length, map, sum}
+use Rattle.std.specs.Prelude.{sum_by, slice_get, slice_index, Some, is_some, bytes_eq, ◌||◌}
 use Rattle.std.specs.List.{AllByRecursion}
 use Rattle.std.specs.declared.hash.FoldHasher.{FoldHasher}
 use Rattle.std.specs.declared.hash.BuildHasherDefault.{BuildHasherDefault}
 use Rattle.indexmap.specs.IndexMap.{IndexMap, get}
 use Rattle.std.specs.Option.{option_map_or}
 use Rattle.op_text.specs.declared.tree.Assign.{Assign}
-use Rattle.op_text.specs.Language.{Term, Nought, Unity, Named, Negation, Conjunction, Disjunction, Parity, Majority, Equation, term, equation}
+use Rattle.op_text.specs.Language.{Term, Nought, Unity, Named, Negation, Conjunction, Disjunction}
+use Rattle.op_text.specs.Language.{Parity, Majority, Equation, term, equation}
 use Rattle.op_text.specs.Meaning.{term_bit, with_lets}
 use Rattle.op_text.specs.Scratch.{term_weight}
 use Rattle.aoi_graph.specs.declared.AoiNode.{AoiNode}
@@ -53,7 +55,8 @@ input_value inputs bits name = option_map_or (λ i. bits i) (get bytes_eq inputs
 
 -- the names of the inputs have the inputs' values
 abbrev pub NamesInputs : Numbers → (ℕ → Bool) → (List ℕ → Bool) → Type 0
-NamesInputs inputs bits env = (name : List ℕ) (i : ℕ) → get bytes_eq inputs name ≡ Some i → env name ≡ bits i
+NamesInputs inputs bits env = (name : List ℕ) (i : ℕ) → get bytes_eq inputs name ≡ Some i
+    → env name ≡ bits i
 
 -- and every other name has the value 0
 abbrev pub IsStart : Numbers → (ℕ → Bool) → (List ℕ → Bool) → Type 0
@@ -76,12 +79,15 @@ ReadsKnown known (Majority a b c) = ReadsKnown known a × ReadsKnown known b × 
 
 -- each name that a block reads is known, or that of an earlier let
 abbrev pub BlockReads : (List ℕ → Bool) → List Assign → List Assign → Type 0
-BlockReads known [] assigns = AllByRecursion (λ (a : Assign). ReadsKnown known (term a.value)) assigns
-BlockReads known (l ∷ lets) assigns = ReadsKnown known (term l.value) × BlockReads (λ name. bytes_eq name l.name || known name) lets assigns
+BlockReads known [] assigns = AllByRecursion (λ (a : Assign). ReadsKnown known (term a.value))
+    assigns
+BlockReads known (l ∷ lets) assigns = ReadsKnown known (term l.value)
+    × BlockReads (λ name. bytes_eq name l.name || known name) lets assigns
 
 abbrev pub is_input : Numbers → List ℕ → Bool
 is_input inputs name = is_some (get bytes_eq inputs name)
 
 -- output j has the value of the expression of assignment j
 abbrev pub HaveValues : List AoiNode → List ℕ → (ℕ → Bool) → (List ℕ → Bool) → List Assign → Type 0
-HaveValues nodes outs bits env assigns = (j : ℕ) (a : Assign) → slice_get assigns j ≡ Some a → aoi_values nodes bits (slice_index outs j) ≡ term_bit env (term a.value)
+HaveValues nodes outs bits env assigns = (j : ℕ) (a : Assign) → slice_get assigns j ≡ Some a
+    → aoi_values nodes bits (slice_index outs j) ≡ term_bit env (term a.value)

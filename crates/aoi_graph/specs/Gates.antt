@@ -1,5 +1,6 @@
 -- Graphs of gates, and the values of their nodes
-use Rattle.std.specs.Prelude.{ℕ, ◌+◌, ◌<◌, ◌==◌, Bool, true, false, not, ◌&&◌, ◌||◌, List, [], ◌∷◌, length, slice_index_or, if◌then◌else◌}
+use Rattle.std.specs.Prelude.{ℕ, ◌+◌, ◌<◌, ◌==◌, Bool, true, false, not, ◌&&◌, ◌||◌, List, [], ◌∷◌}
+use Rattle.std.specs.Prelude.{length, slice_index_or, if◌then◌else◌}
 use Rattle.op_text.specs.Values.{majority}
 use Rattle.aoi_graph.specs.declared.AoiNode.{AoiNode}
 use Rattle.aoi_graph.specs.declared.AoiNode.TheVariants.{Zero, Input, Not, And, Or, Maj}

@@ -1,5 +1,6 @@
 -- How the nodes of a block are made, one after the other
-use Rattle.std.specs.Prelude.{◌≡◌, ℕ, ◌+◌, ◌<◌, ◌≤◌, Bool, List, ◌++◌, length, count_by, Some, bytes_eq}
+use Rattle.std.specs.Prelude.{◌≡◌, ℕ, ◌+◌, ◌<◌, ◌≤◌, Bool, List, ◌++◌, length, count_by, Some}
+use Rattle.std.specs.Prelude.{bytes_eq}
 use Rattle.indexmap.specs.IndexMap.{get}
 use Rattle.std.specs.Option.{option_map_or}
 use Rattle.aoi_graph.specs.declared.AoiNode.{AoiNode}
@@ -19,8 +20,10 @@ AreBelow known size = (name : List ℕ) (k : ℕ) → get bytes_eq known name �
 
 -- the value of a name: of its node, or of the input of its number
 abbrev pub name_value : List AoiNode → Numbers → Numbers → (ℕ → Bool) → List ℕ → Bool
-name_value nodes known inputs bits name = option_map_or (λ k. aoi_values nodes bits k) (get bytes_eq known name) (input_value inputs bits name)
+name_value nodes known inputs bits name = option_map_or (λ k. aoi_values nodes bits k)
+    (get bytes_eq known name) (input_value inputs bits name)
 
 -- for these values of the inputs, the names have the values of env
 abbrev pub IsEnv : List AoiNode → Numbers → Numbers → (ℕ → Bool) → (List ℕ → Bool) → Type 0
-IsEnv nodes known inputs bits env = (name : List ℕ) → env name ≡ name_value nodes known inputs bits name
+IsEnv nodes known inputs bits env = (name : List ℕ)
+    → env name ≡ name_value nodes known inputs bits name

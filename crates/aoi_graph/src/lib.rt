@@ -5,13 +5,10 @@ mod block;
 mod gates;
 
 pub use block::build;
+pub use no_memory::NoMemory;
 
 #[cfg(test)]
 mod tests;
-
-/// There was no memory.
-#[derive(Clone, Copy, Debug, PartialEq, Eq)]
-pub struct NoMemory;
 
 /// A gate over lower nodes.
 #[derive(Clone, Copy, Debug, PartialEq, Eq)]

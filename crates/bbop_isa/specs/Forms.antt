@@ -1,5 +1,7 @@
 -- The forms of a line.
-use Rattle.std.specs.Prelude.{ℕ, ◌^◌, nat_le, nat_lt, Bool, false, not, ◌&&◌, List, [], ◌∷◌, map, length, drop, Option, Some, None, Result, Ok, Err, unwrap_or, if◌then◌else◌, bytes_eq, codes, nat_eq}
+use Rattle.std.specs.Prelude.{ℕ, ◌^◌, nat_le, nat_lt, Bool, false, not, ◌&&◌, List, [], ◌∷◌, map}
+use Rattle.std.specs.Prelude.{length, drop, Option, Some, None, Result, Ok, Err, unwrap_or}
+use Rattle.std.specs.Prelude.{if◌then◌else◌, bytes_eq, codes, nat_eq}
 use Rattle.std.specs.Option.{is_some}
 use Rattle.std.specs.List.{list_all, starts_with}
 use Rattle.text_lex.specs.Lexical.{items_of}
@@ -71,6 +73,11 @@ abbrev pub is_width : Option ℕ → Bool
 is_width None = false
 is_width (Some n) = nat_le 1 n && nat_le n WIDTH_MAX
 
+-- a seed: a number below 2^64
+abbrev pub is_seed : Option ℕ → Bool
+is_seed None = false
+is_seed (Some seed) = nat_lt seed (2 ^ 64)
+
 abbrev pub value : Option ℕ → ℕ
 value number = unwrap_or number 0
 
@@ -80,25 +87,30 @@ result_map f (Err kind) = Err kind
 
 -- the instruction, if its names and then its numbers are right
 abbrev pub checked : Bool → Bool → Instruction → Result Instruction ScriptKind
-checked names numbers i = if not names then Err BadName else (if not numbers then Err BadNumber else Ok i)
+checked names numbers i = if not names then Err BadName
+    else (if not numbers then Err BadNumber else Ok i)
 
 abbrev pub init_of : List (List ℕ) → List (Option ℕ) → Result Instruction ScriptKind
-init_of (name ∷ []) (count ∷ n ∷ []) = checked (fits_name name) (is_count count && is_width n) (Init name (value count) (value n))
+init_of (name ∷ []) (count ∷ n ∷ []) = checked (fits_name name) (is_count count
+    && is_width n) (Init name (value count) (value n))
 init_of names numbers = Err Syntax
 
--- one to four sources
+-- one to five names behind the first
 abbrev pub bbop_of : List ℕ → List (List ℕ) → List (Option ℕ) → Result Instruction ScriptKind
 bbop_of op (dst ∷ src ∷ srcs) (count ∷ n ∷ []) =
-    if nat_lt 3 (length srcs) then Err Syntax
-    else checked (list_all fits_name (op ∷ dst ∷ src ∷ srcs)) (is_count count && is_width n) (Bbop op dst (src ∷ srcs) (value count) (value n))
+    if nat_lt 4 (length srcs) then Err Syntax
+    else checked (list_all fits_name (op ∷ dst ∷ src ∷ srcs)) (is_count count
+    && is_width n) (Bbop op dst (src ∷ srcs) (value count) (value n))
 bbop_of op names numbers = Err Syntax
 
 abbrev pub load_of : List (List ℕ) → List (Option ℕ) → Result Instruction ScriptKind
-load_of (name ∷ []) (number ∷ numbers) = checked (fits_name name) (list_all is_some (number ∷ numbers)) (Load name (map value (number ∷ numbers)))
+load_of (name ∷ []) (number ∷ numbers) = checked (fits_name name)
+    (list_all is_some (number ∷ numbers)) (Load name (map value (number ∷ numbers)))
 load_of names numbers = Err Syntax
 
 abbrev pub fill_of : List (List ℕ) → List (Option ℕ) → Result Instruction ScriptKind
-fill_of (name ∷ []) (number ∷ []) = checked (fits_name name) (is_some number) (Fill name (value number))
+fill_of (name ∷ []) (number ∷ []) = checked (fits_name name) (is_some number)
+    (Fill name (value number))
 fill_of names numbers = Err Syntax
 
 -- one name and nothing else
@@ -107,13 +119,14 @@ lone_name (name ∷ []) [] = if fits_name name then Ok name else Err BadName
 lone_name names numbers = Err Syntax
 
 abbrev pub seed_of : Option ℕ → Result Instruction ScriptKind
-seed_of None = Err BadNumber
-seed_of (Some seed) = Ok (Order (Seed seed))
+seed_of seed = if is_seed seed then Ok (Order (Seed (value seed))) else Err BadNumber
 
 abbrev pub order_of : List Word → Result Instruction ScriptKind
 order_of (Name word ∷ []) =
-    if bytes_eq word (codes "in") then Ok (Order Forward) else (if bytes_eq word (codes "turns") then Ok (Order Turns) else Err Syntax)
-order_of (Name word ∷ Number seed ∷ []) = if bytes_eq word (codes "seed") then seed_of seed else Err Syntax
+    if bytes_eq word (codes "in") then Ok (Order Forward)
+    else (if bytes_eq word (codes "turns") then Ok (Order Turns) else Err Syntax)
+order_of (Name word ∷ Number seed ∷ []) = if bytes_eq word (codes "seed") then seed_of seed
+    else Err Syntax
 order_of words = Err Syntax
 
 -- what a line's first name says that it is
@@ -143,7 +156,8 @@ of_verb head None o = Err Syntax
 
 -- what a line says whose first token is this name
 abbrev pub instruction_of : List ℕ → List Word → Result Instruction ScriptKind
-instruction_of head words = if bytes_eq head (codes "order") then order_of words else of_verb head (verb_of head) (operands_of words)
+instruction_of head words = if bytes_eq head (codes "order") then order_of words
+    else of_verb head (verb_of head) (operands_of words)
 
 abbrev pub of_words : Option (List Word) → Result (Option Instruction) ScriptKind
 of_words None = Err Lex

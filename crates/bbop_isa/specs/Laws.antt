@@ -1,12 +1,14 @@
 -- What the definitions of a script come to, in the words of its subject.
-use Rattle.std.specs.Prelude.{◌≡◌, ◌≢◌, ◌↔◌, ℕ, ◌+◌, ◌<◌, ◌≤◌, ◌^◌, true, codes, List, [], ◌∷◌, ◌++◌, length, map, Option, Some, Ok, Err}
+use Rattle.std.specs.Prelude.{◌≡◌, ◌≢◌, ◌↔◌, ℕ, ◌+◌, ◌<◌, ◌≤◌, ◌^◌, true, codes, List, [], ◌∷◌}
+use Rattle.std.specs.Prelude.{◌++◌, length, map, Option, Some, Ok, Err}
 use Rattle.std.specs.List.{flat_map, list_all, AllByRecursion}
 use Rattle.std.specs.Option.{option_to_list}
 use Rattle.std.specs.Result.{IsOk}
 use Rattle.bbop_isa.specs.declared.instr.ScriptFault.{ScriptFault}
 use Rattle.bbop_isa.specs.Lines.{lines_of, AreLines}
 use Rattle.bbop_isa.specs.Words.{Word, Name, Number, Comma, words_in}
-use Rattle.bbop_isa.specs.Forms.{Instruction, Init, Bbop, Load, Fill, Print, Free, Order, Operands, operands_of, line_of}
+use Rattle.bbop_isa.specs.Forms.{Instruction, Init, Bbop, Load, Fill, Print, Free, Order, Operands}
+use Rattle.bbop_isa.specs.Forms.{operands_of, line_of}
 use Rattle.bbop_isa.specs.declared.instr.Order.TheVariants.{Forward, Turns, Seed}
 use Rattle.text_lex.specs.Lexical.{items_of}
 use Rattle.text_lex.specs.Spelled.{fits_name}
@@ -30,7 +32,8 @@ pub record AreOperands (words : List Word) (o : Operands) : Type 0 where
 
 -- The operands that words are read as are those that they spell.
 abbrev pub OperandsAreSpelled : Type 0
-OperandsAreSpelled = (words : List Word) (o : Operands) → (operands_of words ≡ Some o) ↔ AreOperands words o
+OperandsAreSpelled = (words : List Word) (o : Operands) → (operands_of words ≡ Some o)
+    ↔ AreOperands words o
 
 -- the first name of an instruction's line
 abbrev pub first_name : Instruction → List ℕ
@@ -44,8 +47,10 @@ first_name (Order order) = codes "order"
 
 -- the words behind it
 abbrev pub other_words : Instruction → List Word
-other_words (Init name count n) = with_commas (Name name ∷ Number (Some count) ∷ Number (Some n) ∷ [])
-other_words (Bbop op dst srcs count n) = with_commas (map Name (dst ∷ srcs) ++ Number (Some count) ∷ Number (Some n) ∷ [])
+other_words (Init name count n) = with_commas (Name name ∷ Number (Some count) ∷ Number (Some n)
+    ∷ [])
+other_words (Bbop op dst srcs count n) = with_commas (map Name (dst ∷ srcs) ++ Number (Some count)
+    ∷ Number (Some n) ∷ [])
 other_words (Load name values) = with_commas (Name name ∷ map (λ v. Number (Some v)) values)
 other_words (Fill name v) = with_commas (Name name ∷ Number (Some v) ∷ [])
 other_words (Print name) = Name name ∷ []
@@ -61,12 +66,15 @@ AreSizes count n = (1 ≤ count) × (count < 2 ^ 32) × (1 ≤ n) × (n ≤ WIDT
 -- Its names and its numbers are right.
 abbrev pub IsRight : Instruction → Type 0
 IsRight (Init name count n) = (fits_name name ≡ true) × AreSizes count n
-IsRight (Bbop op dst srcs count n) = (list_all fits_name (op ∷ dst ∷ srcs) ≡ true) × (op ≢ codes "trsp_init") × (1 ≤ length srcs) × (length srcs ≤ 4) × AreSizes count n
+IsRight (Bbop op dst srcs count n) = (list_all fits_name (op ∷ dst ∷ srcs) ≡ true)
+    × (op ≢ codes "trsp_init") × (1 ≤ length srcs) × (length srcs ≤ 5) × AreSizes count n
 IsRight (Load name values) = (fits_name name ≡ true) × (1 ≤ length values)
 IsRight (Fill name v) = fits_name name ≡ true
 IsRight (Print name) = fits_name name ≡ true
 IsRight (Free name) = fits_name name ≡ true
-IsRight (Order order) = Unit {0}
+IsRight (Order Forward) = Unit {0}
+IsRight (Order Turns) = Unit {0}
+IsRight (Order (Seed seed)) = seed < 2 ^ 64
 
 pub record IsLine (words : Option (List Word)) (i : Instruction) : Type 0 where
   pub spelled : words ≡ Some (Name (first_name i) ∷ other_words i)
@@ -74,7 +82,8 @@ pub record IsLine (words : Option (List Word)) (i : Instruction) : Type 0 where
 
 -- A line says an instruction where its words are those of the instruction, and they are right.
 abbrev pub LinesAreForms : Type 0
-LinesAreForms = (line : List ℕ) (i : Instruction) → (line_of line ≡ Ok (Some i)) ↔ IsLine (words_in (items_of line)) i
+LinesAreForms = (line : List ℕ) (i : Instruction) → (line_of line ≡ Ok (Some i))
+    ↔ IsLine (words_in (items_of line)) i
 
 -- Every line is right, and these are their instructions in order.
 pub record Says (text : List ℕ) (script : List Instruction) : Type 0 where
@@ -82,7 +91,8 @@ pub record Says (text : List ℕ) (script : List Instruction) : Type 0 where
   pub lines : map line_of (lines_of text) ≡ map Ok said
   pub instructions : script ≡ flat_map option_to_list said
 
--- This is the first line at fault, counted from 1, and what is wrong with it. The lines before it are right.
+-- This is the first line at fault, counted from 1, and what is wrong with it. The lines before it
+-- are right.
 pub record FirstFault (text : List ℕ) (fault : ScriptFault) : Type 0 where
   pub before : List (List ℕ)
   pub line : List ℕ
@@ -94,5 +104,7 @@ pub record FirstFault (text : List ℕ) (fault : ScriptFault) : Type 0 where
 
 -- A script is accepted where each line is right, and else refused at its first line at fault.
 pub record ScriptsGoByLines : Type 0 where
-  pub accepted : (text : List ℕ) (script : List Instruction) → (script_of text ≡ Ok script) ↔ Says text script
-  pub refused : (text : List ℕ) (fault : ScriptFault) → (script_of text ≡ Err fault) ↔ FirstFault text fault
+  pub accepted : (text : List ℕ) (script : List Instruction) → (script_of text ≡ Ok script)
+      ↔ Says text script
+  pub refused : (text : List ℕ) (fault : ScriptFault) → (script_of text ≡ Err fault)
+      ↔ FirstFault text fault

@@ -13,7 +13,8 @@ abbrev pub lines_of : List ℕ → List (List ℕ)
 lines_of [] = [] ∷ []
 lines_of (b ∷ bs) = if b == 10 then [] ∷ lines_of bs else begun b (lines_of bs)
 
--- These are the lines of the text: no line holds a newline, and with newlines between them they are the text.
+-- These are the lines of the text: no line holds a newline, and with newlines between them they are
+-- the text.
 pub record AreLines (text : List ℕ) (lines : List (List ℕ)) : Type 0 where
   pub whole : join_with_byte 10 lines ≡ text
   pub parted : AllByRecursion (λ line. list_all is_no_newline line ≡ true) lines

@@ -1,5 +1,7 @@
--- What the parts of a reader answer, in words of what a line says. Want of memory may come in place of each.
-use Rattle.std.specs.Prelude.{◌≡◌, ℕ, Bool, true, false, List, [], ◌∷◌, ◌++◌, Option, Some, None, Result, Ok, Err, Vec, map, length, ◌<◌}
+-- What the parts of a reader answer, in words of what a line says. Want of memory may come in place
+-- of each.
+use Rattle.std.specs.Prelude.{◌≡◌, ℕ, Bool, true, false, List, [], ◌∷◌, ◌++◌, Option, Some, None}
+use Rattle.std.specs.Prelude.{Result, Ok, Err, Vec, map, length, ◌<◌}
 use Rattle.std.specs.Global.{Global}
 use Rattle.std.specs.Option.{option_map, is_some}
 use Rattle.std.specs.List.{list_all}
@@ -32,7 +34,8 @@ abbrev pub operands_view : KeptOperands → Operands
 operands_view o = record { names = texts o.names.items; numbers = o.numbers.items }
 
 -- operands behind these: no name behind a number
-abbrev pub joined : List (List ℕ) → List (Option ℕ) → List (List ℕ) → List (Option ℕ) → Option Operands
+abbrev pub joined : List (List ℕ) → List (Option ℕ) → List (List ℕ) → List (Option ℕ)
+    → Option Operands
 joined names [] more numbers = Some (record { names = names ++ more; numbers = numbers })
 joined names (n ∷ ns) [] numbers = Some (record { names = names; numbers = (n ∷ ns) ++ numbers })
 joined names (n ∷ ns) (m ∷ more) numbers = None
@@ -41,7 +44,8 @@ abbrev pub behind : List (List ℕ) → List (Option ℕ) → Option Operands �
 behind names numbers None = None
 behind names numbers (Some o) = joined names numbers o.names o.numbers
 
--- what the operands so far and the words that are left come to, where the next is to be a comma or not
+-- what the operands so far and the words that are left come to, where the next is to be a comma or
+-- not
 abbrev pub left : Bool → List (List ℕ) → List (Option ℕ) → List Word → Option Operands
 left false names numbers words = behind names numbers (operands_of words)
 left true names numbers [] = Some (record { names = names; numbers = numbers })
@@ -55,7 +59,8 @@ left_in o words = left o.at_comma (texts o.names.items) o.numbers.items words
 
 -- One word was taken: what the words come to is as before. Or it was not: they come to nothing.
 abbrev pub Takes : KeptOperands → Kept → Result Bool LineNo → KeptOperands → Type 0
-Takes old word (Ok true) new = (words : List Word) → left_in old (word_view word ∷ words) ≡ left_in new words
+Takes old word (Ok true) new = (words : List Word)
+    → left_in old (word_view word ∷ words) ≡ left_in new words
 Takes old word (Ok false) new = (words : List Word) → left_in old (word_view word ∷ words) ≡ None
 Takes old word (Err (line_no.Bad kind)) new = ⊥
 Takes old word (Err line_no.NoMemory) new = Unit {0}
@@ -64,13 +69,19 @@ Takes old word (Err line_no.NoMemory) new = Unit {0}
 abbrev pub takes : List (List ℕ) → List (Option ℕ) → Word → Option Operands
 takes names [] (Name name) = Some (record { names = names ++ name ∷ []; numbers = [] })
 takes names (n ∷ ns) (Name name) = None
-takes names numbers (Number number) = Some (record { names = names; numbers = numbers ++ number ∷ [] })
+takes names numbers (Number number) = Some (record {
+  names = names;
+  numbers = numbers ++ number
+      ∷ [];
+})
 takes names numbers Comma = None
 takes names numbers Other = None
 
 abbrev pub Pushes : KeptOperands → Kept → Result Bool LineNo → KeptOperands → Type 0
-Pushes old word (Ok true) new = takes (texts old.names.items) old.numbers.items (word_view word) ≡ Some (operands_view new)
-Pushes old word (Ok false) new = takes (texts old.names.items) old.numbers.items (word_view word) ≡ None
+Pushes old word (Ok true) new = takes (texts old.names.items) old.numbers.items (word_view word)
+    ≡ Some (operands_view new)
+Pushes old word (Ok false) new = takes (texts old.names.items) old.numbers.items (word_view word)
+    ≡ None
 Pushes old word (Err (line_no.Bad kind)) new = ⊥
 Pushes old word (Err line_no.NoMemory) new = Unit {0}
 
@@ -80,26 +91,31 @@ OperandsOf words (Ok o) = operands_of (map word_view words) ≡ option_map opera
 OperandsOf words (Err (line_no.Bad kind)) = ⊥
 OperandsOf words (Err line_no.NoMemory) = Unit {0}
 
--- the values, where all are below 2^64
+-- the values, where all are below 2^128
 abbrev pub ValuesOf : List (Option ℕ) → Result (Vec ℕ Global) LineNo → Type 0
-ValuesOf numbers (Ok values) = (list_all is_some numbers ≡ true) × (map value numbers ≡ values.items)
+ValuesOf numbers (Ok values) = (list_all is_some numbers ≡ true)
+    × (map value numbers ≡ values.items)
 ValuesOf numbers (Err (line_no.Bad kind)) = (list_all is_some numbers ≡ false) × (kind ≡ BadNumber)
 ValuesOf numbers (Err line_no.NoMemory) = Unit {0}
 
--- these are not two to five
+-- these are not two to six
 abbrev pub IsNoTarget : {A : Type 0} → List A → Type 0
 IsNoTarget [] = Unit {0}
 IsNoTarget (dst ∷ []) = Unit {0}
-IsNoTarget (dst ∷ src ∷ srcs) = 3 < length srcs
+IsNoTarget (dst ∷ src ∷ srcs) = 4 < length srcs
 
 -- the script, behind these instructions
-abbrev pub following : List Instruction → Result (List Instruction) ScriptFault → Result (List Instruction) ScriptFault
+abbrev pub following : List Instruction → Result (List Instruction) ScriptFault
+    → Result (List Instruction) ScriptFault
 following before (Ok script) = Ok (before ++ script)
 following before (Err fault) = Err fault
 
--- The instruction of the line was added, if it has one, so that the script of this line and others comes to the
+-- The instruction of the line was added, if it has one, so that the script of this line and others
+-- comes to the
 -- same. Or the line is refused.
 abbrev pub AddsLine : List ℕ → List Instr → Result (Unit {0}) LineNo → List Instr → Type 0
-AddsLine line old (Ok u) new = (number : ℕ) (rest : Result (List Instruction) ScriptFault) → following (map view_of old) (go_on number (line_of line) rest) ≡ following (map view_of new) rest
+AddsLine line old (Ok u) new = (number : ℕ) (rest : Result (List Instruction) ScriptFault)
+    → following (map view_of old) (go_on number (line_of line) rest)
+    ≡ following (map view_of new) rest
 AddsLine line old (Err (line_no.Bad kind)) new = line_of line ≡ Err kind
 AddsLine line old (Err line_no.NoMemory) new = Unit {0}

@@ -8,12 +8,14 @@ use Rattle.bbop_isa.specs.Lines.{lines_of}
 use Rattle.bbop_isa.specs.Forms.{Instruction, line_of}
 
 -- the script, with what stands before it
-abbrev pub after : Option Instruction → Result (List Instruction) ScriptFault → Result (List Instruction) ScriptFault
+abbrev pub after : Option Instruction → Result (List Instruction) ScriptFault
+    → Result (List Instruction) ScriptFault
 after i (Err fault) = Err fault
 after None (Ok script) = Ok script
 after (Some i) (Ok script) = Ok (i ∷ script)
 
-abbrev pub go_on : ℕ → Result (Option Instruction) ScriptKind → Result (List Instruction) ScriptFault → Result (List Instruction) ScriptFault
+abbrev pub go_on : ℕ → Result (Option Instruction) ScriptKind
+    → Result (List Instruction) ScriptFault → Result (List Instruction) ScriptFault
 go_on number (Err kind) rest = Err (record { line = number; kind = kind })
 go_on number (Ok i) rest = after i rest
 

@@ -1,11 +1,14 @@
 //! The forms of a line.
 
-ghost use Rattle.std.specs.Prelude.{◌≡◌, ◌≢◌, ◌&&◌, ◌+◌, ◌≤◌, ◌<◌, List, [], ◌∷◌, length, map, drop, Some, None, Ok, Err, true, false, IfSome, MatchOption};
+ghost use Rattle.std.specs.Prelude.{◌≡◌, ◌≢◌, ◌&&◌, ◌+◌, ◌≤◌, ◌<◌, List, [], ◌∷◌, length, map};
+ghost use Rattle.std.specs.Prelude.{drop, Some, None, Ok, Err, true, false, IfSome, MatchOption};
 ghost use Rattle.std.specs.List.{list_all};
 ghost use Rattle.std.specs.Option.{option_map};
 ghost use Rattle.text_lex.specs.Spelled.{fits_name};
 ghost use Rattle.bbop_isa.specs.Words.{word_view, texts as texts_in};
-ghost use Rattle.bbop_isa.specs.Forms.{view_of, is_count, is_width, value, init_of, bbop_of, load_of, fill_of, lone_name, order_of, verb_of, of_operands, instruction_of, line_of};
+ghost use Rattle.bbop_isa.specs.Forms.{view_of, is_count, is_width, is_seed, value, init_of};
+ghost use Rattle.bbop_isa.specs.Forms.{bbop_of, load_of, fill_of, lone_name, order_of, verb_of};
+ghost use Rattle.bbop_isa.specs.Forms.{of_operands, instruction_of, line_of};
 ghost use Rattle.bbop_isa.specs.Reading.{Gives, ValuesOf, IsNoTarget, operands_view};
 
 use crate::instr::LineNo::{self, Bad};
@@ -71,33 +74,37 @@ fn pair<T: Copy>(items: &[T]) -> Option<(T, T)>
 }
 
 /// A number of elements.
-fn count_of(number: Option<u64>) -> Option<u32>
-    ensures { MatchOption result (is_count number ≡ false) (λ count. (is_count number ≡ true) × (count ≡ value number)) }
+fn count_of(number: Option<Value>) -> Option<u32>
+    ensures { MatchOption result (is_count number ≡ false) (λ count. (is_count number ≡ true)
+        × (count ≡ value number)) }
 {
     match number {
-        Some(count) if 1 <= count && count <= u64::from(u32::MAX) => Some(count as u32),
+        Some(count) if 1 <= count && count <= Value::from(u32::MAX) => Some(count as u32),
         _ => None,
     }
 }
 
 /// A width in bits.
-fn width_of(number: Option<u64>) -> Option<u8>
-    ensures { MatchOption result (is_width number ≡ false) (λ n. (is_width number ≡ true) × (n ≡ value number)) }
+fn width_of(number: Option<Value>) -> Option<u8>
+    ensures { MatchOption result (is_width number ≡ false) (λ n. (is_width number ≡ true)
+        × (n ≡ value number)) }
 {
     match number {
-        Some(n) if 1 <= n && n <= u64::from(WIDTH_MAX) => Some(n as u8),
+        Some(n) if 1 <= n && n <= Value::from(WIDTH_MAX) => Some(n as u8),
         _ => None,
     }
 }
 
 /// A number of elements, and a width in bits.
-fn sizes_of(count: Option<u64>, n: Option<u64>) -> Option<(u32, u8)>
-    ensures { MatchOption result ((is_count count && is_width n) ≡ false) (λ p. ((is_count count && is_width n) ≡ true) × (p.0 ≡ value count) × (p.1 ≡ value n)) }
+fn sizes_of(count: Option<Value>, n: Option<Value>) -> Option<(u32, u8)>
+    ensures { MatchOption result ((is_count count && is_width n)
+        ≡ false) (λ p. ((is_count count && is_width n) ≡ true) × (p.0 ≡ value count)
+        × (p.1 ≡ value n)) }
 {
     Some((count_of(count)?, width_of(n)?))
 }
 
-fn init_of(names: &[&[u8]], numbers: &[Option<u64>]) -> Result<Instr, LineNo>
+fn init_of(names: &[&[u8]], numbers: &[Option<Value>]) -> Result<Instr, LineNo>
     ensures { Gives view_of (init_of (texts_in names.now) numbers.now) result }
 {
     let Some(name) = only(names) else {
@@ -115,10 +122,12 @@ fn init_of(names: &[&[u8]], numbers: &[Option<u64>]) -> Result<Instr, LineNo>
     }
 }
 
-/// The names of one to four sources, where all are right.
-fn sources_of(texts: &[&[u8]]) -> Option<ArrayVec<Name, 4>>
-    requires { length texts.now ≤ 4 }
-    ensures { MatchOption result (list_all fits_name (texts_in texts.now) ≡ false) (λ names. (list_all fits_name (texts_in texts.now) ≡ true) × (names.items ≡ texts_in texts.now)) }
+/// The names of one to five further names, where all are right.
+fn sources_of(texts: &[&[u8]]) -> Option<ArrayVec<Name, 5>>
+    requires { length texts.now ≤ 5 }
+    ensures { MatchOption result (list_all fits_name (texts_in texts.now)
+        ≡ false) (λ names. (list_all fits_name (texts_in texts.now) ≡ true)
+        × (names.items ≡ texts_in texts.now)) }
 {
     let mut names = ArrayVec::new();
     for text in texts {
@@ -128,24 +137,27 @@ fn sources_of(texts: &[&[u8]]) -> Option<ArrayVec<Name, 4>>
 }
 
 /// The names of an operation, its destination and its sources, where all are right.
-fn names_of(op: &[u8], dst: &[u8], srcs: &[&[u8]]) -> Option<(Name, Name, ArrayVec<Name, 4>)>
-    requires { length srcs.now ≤ 4 }
-    ensures { MatchOption result (list_all fits_name (op.now ∷ dst.now ∷ texts_in srcs.now) ≡ false) (λ p. (list_all fits_name (op.now ∷ dst.now ∷ texts_in srcs.now) ≡ true) × (p.0 ≡ op.now) × (p.1 ≡ dst.now) × (p.2.items ≡ texts_in srcs.now)) }
+fn names_of(op: &[u8], dst: &[u8], srcs: &[&[u8]]) -> Option<(Name, Name, ArrayVec<Name, 5>)>
+    requires { length srcs.now ≤ 5 }
+    ensures { MatchOption result (list_all fits_name (op.now ∷ dst.now ∷ texts_in srcs.now)
+        ≡ false) (λ p. (list_all fits_name (op.now ∷ dst.now ∷ texts_in srcs.now) ≡ true)
+        × (p.0 ≡ op.now) × (p.1 ≡ dst.now) × (p.2.items ≡ texts_in srcs.now)) }
 {
     Some((Name::new(op)?, Name::new(dst)?, sources_of(srcs)?))
 }
 
-/// The first of two or more names, and one to four others.
+/// The first of two or more names, and one to five others.
 fn targets<'a, 'b>(names: &'b [&'a [u8]]) -> Option<(&'a [u8], &'b [&'a [u8]])>
-    ensures { MatchOption result (IsNoTarget names.now) (λ p. (names.now ≡ p.0 ∷ p.1.now) × (1 ≤ length p.1.now) × (length p.1.now ≤ 4)) }
+    ensures { MatchOption result (IsNoTarget names.now) (λ p. (names.now ≡ p.0 ∷ p.1.now)
+        × (1 ≤ length p.1.now) × (length p.1.now ≤ 5)) }
 {
     match names.split_first() {
-        Some((dst, srcs)) if 1 <= srcs.len() && srcs.len() <= 4 => Some((*dst, srcs)),
+        Some((dst, srcs)) if 1 <= srcs.len() && srcs.len() <= 5 => Some((*dst, srcs)),
         _ => None,
     }
 }
 
-fn bbop_of(op: &[u8], names: &[&[u8]], numbers: &[Option<u64>]) -> Result<Instr, LineNo>
+fn bbop_of(op: &[u8], names: &[&[u8]], numbers: &[Option<Value>]) -> Result<Instr, LineNo>
     ensures { Gives view_of (bbop_of op.now (texts_in names.now) numbers.now) result }
 {
     let Some((dst, srcs)) = targets(names) else {
@@ -170,7 +182,7 @@ fn bbop_of(op: &[u8], names: &[&[u8]], numbers: &[Option<u64>]) -> Result<Instr,
 }
 
 /// The values, where all are right.
-fn values_of(numbers: &[Option<u64>], alloc: Global) -> Result<Vec<Value>, LineNo>
+fn values_of(numbers: &[Option<Value>], alloc: Global) -> Result<Vec<Value>, LineNo>
     ensures { ValuesOf numbers.now result }
 {
     let mut values = Vec::new(alloc);
@@ -185,7 +197,7 @@ fn values_of(numbers: &[Option<u64>], alloc: Global) -> Result<Vec<Value>, LineN
     Ok(values)
 }
 
-fn load_of(names: &[&[u8]], numbers: &[Option<u64>], alloc: Global) -> Result<Instr, LineNo>
+fn load_of(names: &[&[u8]], numbers: &[Option<Value>], alloc: Global) -> Result<Instr, LineNo>
     ensures { Gives view_of (load_of (texts_in names.now) numbers.now) result }
 {
     let Some(name) = only(names) else {
@@ -201,7 +213,7 @@ fn load_of(names: &[&[u8]], numbers: &[Option<u64>], alloc: Global) -> Result<In
     Ok(Instr::Load { name, values })
 }
 
-fn fill_of(names: &[&[u8]], numbers: &[Option<u64>]) -> Result<Instr, LineNo>
+fn fill_of(names: &[&[u8]], numbers: &[Option<Value>]) -> Result<Instr, LineNo>
     ensures { Gives view_of (fill_of (texts_in names.now) numbers.now) result }
 {
     let Some(name) = only(names) else {
@@ -220,7 +232,7 @@ fn fill_of(names: &[&[u8]], numbers: &[Option<u64>]) -> Result<Instr, LineNo>
 }
 
 /// The one name that stands alone.
-fn lone_name(names: &[&[u8]], numbers: &[Option<u64>]) -> Result<Name, LineNo>
+fn lone_name(names: &[&[u8]], numbers: &[Option<Value>]) -> Result<Name, LineNo>
     ensures { Gives (λ name. name) (lone_name (texts_in names.now) numbers.now) result }
 {
     let Some(name) = only(names) else {
@@ -235,14 +247,27 @@ fn lone_name(names: &[&[u8]], numbers: &[Option<u64>]) -> Result<Name, LineNo>
     }
 }
 
+/// A seed.
+fn seed_of(number: Option<Value>) -> Option<u64>
+    ensures { MatchOption result (is_seed number ≡ false) (λ seed. (is_seed number ≡ true)
+        × (seed ≡ value number)) }
+{
+    match number {
+        Some(seed) if seed <= Value::from(u64::MAX) => Some(seed as u64),
+        _ => None,
+    }
+}
+
 fn order_of(words: &[Word<'_>]) -> Result<Instr, LineNo>
     ensures { Gives view_of (order_of (map word_view words.now)) result }
 {
     match words {
         [Word::Name(word)] if *word == b"in".as_slice() => Ok(Instr::Order(Order::Forward)),
         [Word::Name(word)] if *word == b"turns".as_slice() => Ok(Instr::Order(Order::Turns)),
-        [Word::Name(word), Word::Number(seed)] if *word == b"seed".as_slice() => match seed {
-            Some(seed) => Ok(Instr::Order(Order::Seed(*seed))),
+        [Word::Name(word), Word::Number(seed)] if *word == b"seed".as_slice() => match seed_of(
+            *seed,
+        ) {
+            Some(seed) => Ok(Instr::Order(Order::Seed(seed))),
             None => Err(Bad(BadNumber)),
         },
         _ => Err(Bad(Syntax)),

@@ -24,11 +24,11 @@ pub enum Instr {
         count: u32,
         n: u8,
     },
-    /// `bbop_OP DST, SRC, .., COUNT, N` with one to four sources.
+    /// `bbop_OP DST, SRC, .., COUNT, N` with one to five further names.
     Bbop {
         op: Name,
         dst: Name,
-        srcs: ArrayVec<Name, 4>,
+        srcs: ArrayVec<Name, 5>,
         count: u32,
         n: u8,
     },

@@ -1,6 +1,7 @@
 //! What is proved of the definitions alone.
 
-ghost use Rattle.bbop_isa.specs.Laws.{LinesAreRight, OperandsAreSpelled, LinesAreForms, ScriptsGoByLines};
+ghost use Rattle.bbop_isa.specs.Laws.{LinesAreRight, OperandsAreSpelled, LinesAreForms};
+ghost use Rattle.bbop_isa.specs.Laws.{ScriptsGoByLines};
 
 /// The lines of a text are what stands between its newlines.
 pub fn lines_are_right()
@@ -12,7 +13,8 @@ pub fn operands_are_spelled()
     ensures { OperandsAreSpelled }
 {}
 
-/// A line says an instruction exactly where it is of the instruction's form, with names and numbers that are right.
+/// A line says an instruction exactly where it is of the instruction's form, with names and numbers
+/// that are right.
 pub fn lines_are_forms()
     ensures { LinesAreForms }
 {}

@@ -14,9 +14,11 @@ fn line_len(text: &[u8]) -> usize
 
 /// The first line, and the text behind its newline, if it has one.
 pub fn split_line(text: &[u8]) -> (&[u8], Option<&[u8]>)
-    ensures lines { MatchOption result.1 (lines_of text.now ≡ result.0.now ∷ []) (λ rest. lines_of text.now ≡ result.0.now ∷ lines_of rest.now) }
+    ensures lines { MatchOption result.1 (lines_of text.now
+        ≡ result.0.now ∷ []) (λ rest. lines_of text.now ≡ result.0.now ∷ lines_of rest.now) }
     ensures within { length result.0.now ≤ length text.now }
-    ensures shorter { MatchOption result.1 (length result.0.now ≡ length text.now) (λ rest. length result.0.now + 1 + length rest.now ≡ length text.now) }
+    ensures shorter { MatchOption result.1 (length result.0.now
+        ≡ length text.now) (λ rest. length result.0.now + 1 + length rest.now ≡ length text.now) }
 {
     let (line, rest) = text.split_at(line_len(text));
     match rest.split_first() {

@@ -5,13 +5,14 @@ ghost use Rattle.bbop_isa.specs.Reading.{OperandsOf, Pushes, Takes};
 
 use crate::instr::LineNo;
 use crate::words::Word;
+use bit_rows::Value;
 use std::alloc::Global;
 
 /// Names, and then numbers.
 #[derive(Drop)]
 pub(crate) struct Operands<'a> {
     pub names: Vec<&'a [u8]>,
-    pub numbers: Vec<Option<u64>>,
+    pub numbers: Vec<Option<Value>>,
     /// Whether the next word is to be a comma.
     at_comma: bool,
 }

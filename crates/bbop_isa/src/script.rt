@@ -22,7 +22,8 @@ fn add_line(script: &mut Vec<Instr>, line: &[u8], alloc: Global) -> Result<(), L
     Ok(())
 }
 
-/// The instructions of a script's lines, or the first line that breaks a rule. Time and memory are in proportion
+/// The instructions of a script's lines, or the first line that breaks a rule. Time and memory are
+/// in proportion
 /// to the text.
 pub fn parse_script(text: &[u8], alloc: Global) -> Result<Vec<Instr>, ScriptNo>
     requires { length text.now < 2 ^ 32 }

@@ -43,13 +43,13 @@ fn spell(line: &mut String, instr: &Instr) -> Result<(), AllocError> {
 
 /// All nine forms, with their greatest and least numbers and names, blanks and comments.
 const SCRIPT: &str = "# a script
-bbop_trsp_init a, 004294967295, 64
+bbop_trsp_init a, 004294967295, 128
 bbop_trsp_init\t_b9 ,1 , 1# an object
 
 bbop_not d, s, 1, 64
 bbop_abcdefghijklmnop d,s1,s2,s3,s4,12,8\r
 bbop_trsp_inits d, s, 3, 2
-load a, 18446744073709551615, 0, 00
+load a, 340282366920938463463374607431768211455, 0, 00
 fill a, 7
 print abcdefghijklmnop
 free a
@@ -58,12 +58,12 @@ order turns
 order seed 18446744073709551615
 order seed 0";
 
-const SAID: &str = "init a 4294967295 64
+const SAID: &str = "init a 4294967295 128
 init _b9 1 1
 bbop not d s 1 64
 bbop abcdefghijklmnop d s1 s2 s3 s4 12 8
 bbop trsp_inits d s 3 2
-load a 18446744073709551615 0 0
+load a 340282366920938463463374607431768211455 0 0
 fill a 7
 print abcdefghijklmnop
 free a
@@ -100,7 +100,7 @@ fn the_first_fault_is_answered(rt: HostRuntime) {
         ("print a\nprint $", 2, ScriptKind::Lex),
         ("load a 5 , , -", 1, ScriptKind::Lex),
         ("bbop_and a, 4, 8", 1, ScriptKind::Syntax),
-        ("bbop_and a, b, c, d, e, f, 4, 8", 1, ScriptKind::Syntax),
+        ("bbop_and a, b, c, d, e, f, g, 4, 8", 1, ScriptKind::Syntax),
         ("bbop_and a, b, 4, 8, c", 1, ScriptKind::Syntax),
         ("bbop_trsp_init a, b, 4, 8", 1, ScriptKind::Syntax),
         ("load a", 1, ScriptKind::Syntax),
@@ -125,13 +125,17 @@ fn the_first_fault_is_answered(rt: HostRuntime) {
         ("bbop_trsp_init a, 0, 8", 1, ScriptKind::BadNumber),
         ("bbop_trsp_init a, 4294967296, 8", 1, ScriptKind::BadNumber),
         ("bbop_and a, b, 4, 0", 1, ScriptKind::BadNumber),
-        ("bbop_and a, b, 4, 65", 1, ScriptKind::BadNumber),
+        ("bbop_and a, b, 4, 129", 1, ScriptKind::BadNumber),
         (
-            "fill a, 1\nload a, 1, 18446744073709551616",
+            "fill a, 1\nload a, 1, 340282366920938463463374607431768211456",
             2,
             ScriptKind::BadNumber,
         ),
-        ("fill a, 18446744073709551616", 1, ScriptKind::BadNumber),
+        (
+            "fill a, 340282366920938463463374607431768211456",
+            1,
+            ScriptKind::BadNumber,
+        ),
         ("order seed 18446744073709551616", 1, ScriptKind::BadNumber),
     ];
     for (text, line, kind) in faults {

@@ -8,14 +8,15 @@ ghost use Rattle.bbop_isa.specs.Words.{word_at, word_view};
 ghost use Rattle.bbop_isa.specs.Reading.{WordsOf};
 
 use crate::instr::{LineNo, ScriptKind};
+use bit_rows::Value;
 use std::alloc::Global;
 use text_lex::{Lexer, Token, TokenKind, items_are_right, number};
 
-/// A token. A number is `None` where its value is 2^64 or more.
+/// A token. A number is `None` where its value is 2^128 or more.
 #[derive(Clone, Copy)]
 pub(crate) enum Word<'a> {
     Name(&'a [u8]),
-    Number(Option<u64>),
+    Number(Option<Value>),
     Comma,
     Other,
 }

@@ -1,7 +1,8 @@
 //! Bits, one `bool` each, and the words that hold 64 of them.
 
 ghost use Rattle.std.specs.Prelude.{◌≡◌, ℕ, ◌<◌, ◌≤◌, ◌+◌, ◌*◌, ◌↔◌, IsTrue, length, not};
-ghost use Rattle.bit_rows.specs.Bits.{bit_number, majority as majority_of, bit_in, bit_at, bits, bits_of_words, value as value_of};
+ghost use Rattle.bit_rows.specs.Bits.{bit_number, majority as majority_of, bit_in, bit_at, bits};
+ghost use Rattle.bit_rows.specs.Bits.{bits_of_words, value as value_of};
 
 use crate::{Value, WIDTH_MAX};
 
@@ -28,7 +29,8 @@ pub fn sense3(a: &[bool], b: &[bool], c: &[bool], out: &mut [bool])
     requires b_fits { length b.now ≡ length out.old }
     requires c_fits { length c.now ≡ length out.old }
     ensures length { length out.new ≡ length out.old }
-    ensures bits { (k : ℕ) → k < length out.old → bit_in out.new k ≡ majority_of (bit_in a.now k) (bit_in b.now k) (bit_in c.now k) }
+    ensures bits { (k : ℕ) → k < length out.old
+        → bit_in out.new k ≡ majority_of (bit_in a.now k) (bit_in b.now k) (bit_in c.now k) }
 {
     for i in 0..out.len() {
         out[i] = majority(a[i], b[i], c[i]);
@@ -52,7 +54,7 @@ pub fn unpack(words: &[u64], dst: &mut [bool])
     ensures { dst.new ≡ bits_of_words words.now }
 {
     for c in 0..dst.len() {
-        dst[c] = bit_of(words[c / 64], (c % 64) as u8);
+        dst[c] = bit_of(Value::from(words[c / 64]), (c % 64) as u8);
     }
 }
 

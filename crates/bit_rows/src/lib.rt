@@ -5,24 +5,14 @@ pub mod bits;
 pub mod row;
 
 pub use bits::{bit_of, majority};
+pub use no_memory::NoMemory;
 pub use row::Row;
-use std::alloc::AllocError;
 
 /// The greatest width of an element, in bits.
-pub const WIDTH_MAX: u8 = 64;
+pub const WIDTH_MAX: u8 = 128;
 
 /// An element of an object: a number of at most `WIDTH_MAX` bits.
-pub type Value = u64;
-
-/// There was no memory.
-#[derive(Clone, Copy, Debug, PartialEq, Eq)]
-pub struct NoMemory;
-
-impl From<AllocError> for NoMemory {
-    fn from(_error: AllocError) -> Self {
-        NoMemory
-    }
-}
+pub type Value = u128;
 
 #[cfg(test)]
 mod tests {
@@ -43,8 +33,14 @@ mod tests {
         ] {
             assert_eq!(rt; majority(a, b, c), want, "of {a}, {b} and {c}");
         }
-        let top: u64 = 0x8000_0000_0000_0001;
-        for (k, want) in [(0, true), (1, false), (62, false), (63, true)] {
+        let top: u128 = (1 << 127) + 1;
+        for (k, want) in [
+            (0, true),
+            (1, false),
+            (63, false),
+            (126, false),
+            (127, true),
+        ] {
             assert_eq!(rt; bit_of(top, k), want, "bit {k}");
         }
     }

@@ -1,6 +1,7 @@
 //! A row of a bank.
 
-ghost use Rattle.std.specs.Prelude.{◌≡◌, ℕ, ◌<◌, ◌*◌, length, replicate, slice_set, IfOk, List, Bool, false, not};
+ghost use Rattle.std.specs.Prelude.{◌≡◌, ℕ, ◌<◌, ◌*◌, length, replicate, slice_set, IfOk, List};
+ghost use Rattle.std.specs.Prelude.{Bool, false, not};
 ghost use Rattle.bit_rows.specs.Bits.{majority as majority_of, bit_in, bits_of_words};
 
 use crate::NoMemory;
@@ -76,7 +77,8 @@ impl Row {
         requires b_fits { length b.now ≡ length self.old }
         requires c_fits { length c.now ≡ length self.old }
         ensures length { length self.new ≡ length self.old }
-        ensures bits { (k : ℕ) → k < length self.old → bit_in self.new k ≡ majority_of (bit_in a.now k) (bit_in b.now k) (bit_in c.now k) }
+        ensures bits { (k : ℕ) → k < length self.old
+            → bit_in self.new k ≡ majority_of (bit_in a.now k) (bit_in b.now k) (bit_in c.now k) }
     {
         sense3(&a.bits, &b.bits, &c.bits, &mut self.bits);
     }

@@ -1,20 +1,24 @@
 -- How many parts and names the expressions of a block have.
-use Rattle.std.proofs.Common.{◌≡◌, ℕ, zero, suc, ◌+◌, ◌*◌, ◌≤◌, Bool, ◌||◌, List, [], ◌∷◌, ◌++◌, map, length, sum, refl, arith, length-append, bytes_eq}
+use Rattle.std.proofs.Common.{◌≡◌, ℕ, zero, suc, ◌+◌, ◌*◌, ◌≤◌, Bool, ◌||◌, List, [], ◌∷◌, ◌++◌}
+use Rattle.std.proofs.Common.{map, length, sum, refl, arith, length-append, bytes_eq}
 use Rattle.std.specs.List.{AllByRecursion}
 use Rattle.std.proofs.lemmas.List.Sums.{sum_by-cons}
 use Rattle.op_text.specs.declared.tree.Assign.{Assign}
-use Rattle.op_text.specs.Language.{Term, Nought, Unity, Named, Negation, Conjunction, Disjunction, Parity, Majority, Equation, term, equation}
+use Rattle.op_text.specs.Language.{Term, Nought, Unity, Named, Negation, Conjunction, Disjunction}
+use Rattle.op_text.specs.Language.{Parity, Majority, Equation, term, equation}
 use Rattle.op_text.specs.Scratch.{term_weight}
 use Rattle.op_text.specs.Spelling.{TermMeets}
 use Rattle.aoi_graph.specs.Blocks.{parts, all_parts, all_weights}
 use Rattle.loop_ir.specs.Statements.{term_names, equation_names, LetsMeet}
 
-pub parts-most : (readable : List ℕ → Bool) (depth left : ℕ) (t : Term) → depth + left ≡ 32 → TermMeets readable depth t → parts t ≤ (1 + 2 * term_weight t) * (left + 1)
+pub parts-most : (readable : List ℕ → Bool) (depth left : ℕ) (t : Term) → depth + left ≡ 32
+    → TermMeets readable depth t → parts t ≤ (1 + 2 * term_weight t) * (left + 1)
 parts-most readable depth left Nought e m = omega arith
 parts-most readable depth left Unity e m = omega arith
 parts-most readable depth left (Named name) e m = omega arith
 parts-most readable depth zero (Negation a) e m = let l = m.0 in absurd (omega arith)
-parts-most readable depth (suc left) (Negation a) e m = let h = parts-most readable (depth + 1) left a (omega arith) m.1 in omega (arith, h)
+parts-most readable depth (suc left) (Negation a) e m = let h =
+    parts-most readable (depth + 1) left a (omega arith) m.1 in omega (arith, h)
 parts-most readable depth zero (Conjunction a b) e m = let l = m.0 in absurd (omega arith)
 parts-most readable depth (suc left) (Conjunction a b) e m =
     let h = parts-most readable (depth + 1) left a (omega arith) m.1 in
@@ -33,38 +37,65 @@ parts-most readable depth (suc left) (Majority a b c) e m =
     let k = parts-most readable (depth + 1) left b (omega arith) m.2 in
     let j = parts-most readable (depth + 1) left c (omega arith) m.3 in omega (arith, h, k, j)
 
-weights-more : (a : Assign) (xs : List Assign) → all_weights (a ∷ xs) ≡ term_weight (term a.value) + all_weights xs
-weights-more a xs = sum_by-cons (λ (x : ℕ). x) (term_weight (term a.value)) (map (λ (e : Equation). term_weight e.value) (map equation xs))
+weights-more : (a : Assign) (xs : List Assign)
+    → all_weights (a ∷ xs) ≡ term_weight (term a.value) + all_weights xs
+weights-more a xs = sum_by-cons (λ (x : ℕ). x) (term_weight (term a.value))
+    (map (λ (e : Equation). term_weight e.value) (map equation xs))
 
-parts-more : (a : Assign) (xs : List Assign) → all_parts (a ∷ xs) ≡ parts (term a.value) + all_parts xs
+parts-more : (a : Assign) (xs : List Assign) → all_parts (a ∷ xs)
+    ≡ parts (term a.value) + all_parts xs
 parts-more a xs = sum_by-cons (λ (a : Assign). parts (term a.value)) a xs
 
-assigns-most : (readable : List ℕ → Bool) (xs : List Assign) → AllByRecursion (λ (e : Equation). TermMeets readable 0 e.value) (map equation xs) → all_parts xs ≤ 33 * (length xs + 2 * all_weights xs)
+assigns-most : (readable : List ℕ → Bool) (xs : List Assign)
+    → AllByRecursion (λ (e : Equation). TermMeets readable 0 e.value) (map equation xs)
+    → all_parts xs ≤ 33 * (length xs + 2 * all_weights xs)
 assigns-most readable [] m = omega arith
 assigns-most readable (a ∷ xs) m =
     let h = parts-most readable 0 32 (term a.value) refl m.0 in
     let k = assigns-most readable xs m.1 in omega (arith, h, k, weights-more a xs, parts-more a xs)
 
-pub block-most : (readable : List ℕ → Bool) (lets assigns : List Assign) → LetsMeet readable (map equation lets) (map equation assigns) → all_parts lets + all_parts assigns ≤ 33 * (length lets + length assigns + 2 * (all_weights lets + all_weights assigns))
+pub block-most : (readable : List ℕ → Bool) (lets assigns : List Assign)
+    → LetsMeet readable (map equation lets) (map equation assigns)
+    → all_parts lets + all_parts assigns ≤ 33
+    * (length lets + length assigns + 2 * (all_weights lets + all_weights assigns))
 block-most readable [] assigns m = let h = assigns-most readable assigns m in omega (arith, h)
 block-most readable (a ∷ lets) assigns m =
     let h = parts-most readable 0 32 (term a.value) refl m.0 in
-    let k = block-most (λ name. bytes_eq name a.name || readable name) lets assigns m.1 in omega (arith, h, k, weights-more a lets, parts-more a lets)
+    let k = block-most (λ name. bytes_eq name a.name || readable name) lets assigns m.1 in
+    omega (arith, h, k, weights-more a lets, parts-more a lets)
 
 names-most : (t : Term) → length (term_names t) ≤ 1 + 2 * term_weight t
 names-most Nought = omega arith
 names-most Unity = omega arith
 names-most (Named name) = omega arith
 names-most (Negation a) = names-most a
-names-most (Conjunction a b) = let h = names-most a in let k = names-most b in omega (arith, h, k, length-append (term_names a) (term_names b))
-names-most (Disjunction a b) = let h = names-most a in let k = names-most b in omega (arith, h, k, length-append (term_names a) (term_names b))
-names-most (Parity a b) = let h = names-most a in let k = names-most b in omega (arith, h, k, length-append (term_names a) (term_names b))
+names-most (Conjunction a b) = let h = names-most a in let k = names-most b in
+    omega (arith, h, k, length-append (term_names a) (term_names b))
+names-most (Disjunction a b) = let h = names-most a in let k = names-most b in
+    omega (arith, h, k, length-append (term_names a) (term_names b))
+names-most (Parity a b) = let h = names-most a in let k = names-most b in
+    omega (arith, h, k, length-append (term_names a) (term_names b))
 names-most (Majority a b c) =
     let h = names-most a in let k = names-most b in let j = names-most c in
-    omega (arith, h, k, j, length-append (term_names a ++ term_names b) (term_names c), length-append (term_names a) (term_names b))
+    omega (
+      arith,
+      h,
+      k,
+      j,
+      length-append (term_names a ++ term_names b) (term_names c),
+      length-append (term_names a) (term_names b),
+    )
 
-pub equations-most : (xs : List Equation) → length (equation_names xs) ≤ length xs + 2 * sum (map (λ (e : Equation). term_weight e.value) xs)
+pub equations-most : (xs : List Equation) → length (equation_names xs)
+    ≤ length xs + 2 * sum (map (λ (e : Equation). term_weight e.value) xs)
 equations-most [] = omega arith
 equations-most (e ∷ xs) =
     let h = names-most e.value in let k = equations-most xs in
-    omega (arith, h, k, length-append (term_names e.value) (equation_names xs), sum_by-cons (λ (x : ℕ). x) (term_weight e.value) (map (λ (e : Equation). term_weight e.value) xs))
+    omega (
+      arith,
+      h,
+      k,
+      length-append (term_names e.value) (equation_names xs),
+      sum_by-cons (λ (x : ℕ). x) (term_weight e.value)
+          (map (λ (e : Equation). term_weight e.value) xs),
+    )

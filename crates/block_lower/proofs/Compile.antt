@@ -1,5 +1,7 @@
 -- Code can be made of a block's program.
-use Rattle.std.proofs.Common.{◌≡◌, ℕ, zero, suc, ◌+◌, ◌*◌, ◌<◌, ◌≤◌, Bool, true, false, ◌||◌, List, [], ◌∷◌, ◌++◌, map, filter, length, Option, Some, None, refl, sym, ap, ◌∙◌, subst, arith, inl, inr}
+use Rattle.std.proofs.Common.{◌≡◌, ℕ, zero, suc, ◌+◌, ◌*◌, ◌<◌, ◌≤◌, Bool, true, false, ◌||◌, List}
+use Rattle.std.proofs.Common.{[], ◌∷◌, ◌++◌, map, filter, length, Option, Some, None, refl, sym, ap}
+use Rattle.std.proofs.Common.{◌∙◌, subst, arith, inl, inr}
 use Rattle.std.specs.List.{AllByRecursion, list_all, list_any}
 use Rattle.std.proofs.lemmas.Bool.{cases_Bool, or_cases, or_left, or_right, and_from}
 use Rattle.std.proofs.lemmas.List.{length-map, append-nil}
@@ -16,7 +18,9 @@ use Rattle.op_text.specs.Scratch.{state_names}
 use Rattle.loop_ir.specs.declared.ir.Space.{Space}
 use Rattle.loop_ir.specs.declared.ir.Space.TheVariants.{Result, Source, ScratchBit, ScratchWord}
 use Rattle.loop_ir.specs.declared.ir.Sub.{Sub}
-use Rattle.loop_ir.specs.declared.ir.Sub.TheVariants.{Zero, Top, Inner as At_inner, InnerDown, Outer, OuterDown, Sum, DownSum, DownPlusN, NPlusInner}
+use Rattle.loop_ir.specs.declared.ir.Sub.TheVariants.{Zero, Top, Inner as At_inner, InnerDown}
+use Rattle.loop_ir.specs.declared.ir.Sub.TheVariants.{Outer, OuterDown, Sum, DownSum, DownPlusN}
+use Rattle.loop_ir.specs.declared.ir.Sub.TheVariants.{NPlusInner}
 use Rattle.loop_ir.specs.declared.ir.Place.{Place}
 use Rattle.loop_ir.specs.declared.names.Slot.{Slot}
 use Rattle.loop_ir.specs.Plain.{Block as Body, AllParts}
@@ -24,7 +28,8 @@ use Rattle.loop_ir.specs.Plain.StepOf.{Single, Along}
 use Rattle.loop_ir.specs.Loops.{RoundOf, round_at, one_round, rounds, all_rounds}
 use Rattle.loop_ir.specs.Spots.{Spot, IsOwn, spot_in, nth_place, nth_spot}
 use Rattle.loop_ir.specs.WellFormed.{IsOneValue, IsWellFormed, AreWellFormed}
-use Rattle.loop_ir.specs.Costs.{body_cost, same_sub, is_used, used_subs, single_cost, step_cost, code_cost, step_bodies, bodies}
+use Rattle.loop_ir.specs.Costs.{body_cost, same_sub, is_used, used_subs, single_cost, step_cost}
+use Rattle.loop_ir.specs.Costs.{code_cost, step_bodies, bodies}
 use Rattle.loop_ir.specs.Limits.{IsSmall, may_stand, step_stands, IsRound, CanCompile}
 use Rattle.loop_ir.specs.Statements.{Slots, targets_of, statement_names}
 use Rattle.loop_ir.specs.Lowered.{IsRowOf, IsStatementRow}
@@ -32,8 +37,11 @@ use Rattle.block_lower.specs.Inputs.{block_inputs, name_at}
 use Rattle.block_lower.specs.Form.{kind_sub, place_of, places_of, constant, start, IsBlockBody}
 use Rattle.block_lower.proofs.Names.{among-at}
 use Rattle.block_lower.proofs.Rows.{slot_or, row_of, position, position-below, nth-place}
-use Rattle.block_lower.proofs.Facts.{Given, once-distinct, inputs-once, state-written, target-written, written-named, input-named, found, state-kind, same-place, own-row}
-use Rattle.block_lower.proofs.Round.{targets-long, target-among, target-named, named-row-is, named-once, write-row, read-row, writes-long, writes-once}
+use Rattle.block_lower.proofs.Facts.{Given, once-distinct, inputs-once, state-written}
+use Rattle.block_lower.proofs.Facts.{target-written, written-named, input-named, found, state-kind}
+use Rattle.block_lower.proofs.Facts.{same-place, own-row}
+use Rattle.block_lower.proofs.Round.{targets-long, target-among, target-named, named-row-is}
+use Rattle.block_lower.proofs.Round.{named-once, write-row, read-row, writes-long, writes-once}
 use Rattle.block_lower.proofs.Starts.{AreStates, head-state, tail-states, state-spot, state-row-is}
 
 -- places of names
@@ -45,27 +53,44 @@ place-which : (down : Bool) (o : Option Slot) → (place_of down o).which ≡ (s
 place-which down None = refl
 place-which down (Some x) = refl
 
-state-sub : {slots : Slots} {fb fw : ℕ} {b : Block} → Given slots fb fw b → (down : Bool) (x : List ℕ) → is_among (state_names b) x ≡ true → (place_of down (slots x)).sub ≡ Zero
-state-sub {b = b} g down x e = ap (λ o. (place_of down o).sub) (found g x (written-named b x (state-written b x e))) ∙ ap (kind_sub down) (state-kind g x e)
+state-sub : {slots : Slots} {fb fw : ℕ} {b : Block} → Given slots fb fw b
+    → (down : Bool) (x : List ℕ) → is_among (state_names b) x ≡ true
+    → (place_of down (slots x)).sub ≡ Zero
+state-sub {b = b} g down x e = ap (λ o. (place_of down o).sub)
+    (found g x (written-named b x (state-written b x e))) ∙ ap (kind_sub down) (state-kind g x e)
 
-one-value : {slots : Slots} {fb fw : ℕ} {b : Block} → Given slots fb fw b → (down : Bool) (x y : List ℕ) → is_among (statement_names (Visit b)) x ≡ true → is_among (statement_names (Visit b)) y ≡ true → IsOneValue (place_of down (slots x)) (place_of down (slots y)) → x ≡ y
+one-value : {slots : Slots} {fb fw : ℕ} {b : Block} → Given slots fb fw b
+    → (down : Bool) (x y : List ℕ) → is_among (statement_names (Visit b)) x ≡ true
+    → is_among (statement_names (Visit b)) y ≡ true
+    → IsOneValue (place_of down (slots x)) (place_of down (slots y)) → x ≡ y
 one-value {slots = slots} g down x y ex ey e =
-    same-place g x y ex ey (sym (place-space down (slots x)) ∙ e.0 ∙ place-space down (slots y)) (sym (place-which down (slots x)) ∙ e.1 ∙ place-which down (slots y))
+    same-place g x y ex ey (sym (place-space down (slots x)) ∙ e.0
+    ∙ place-space down (slots y)) (sym (place-which down (slots x)) ∙ e.1
+    ∙ place-which down (slots y))
 
-reads-long : {slots : Slots} {b : Block} {body : Body} → IsBlockBody slots b body → length body.reads ≡ length (block_inputs b)
+reads-long : {slots : Slots} {b : Block} {body : Body} → IsBlockBody slots b body
+    → length body.reads ≡ length (block_inputs b)
 reads-long {b = b} is = ap length is.reads ∙ length-map (block_inputs b) _
 
-read-place : {slots : Slots} {b : Block} {body : Body} → IsBlockBody slots b body → (k : ℕ) → k < length (block_inputs b) → nth_place body.reads k ≡ place_of b.down (slots (name_at (block_inputs b) k))
-read-place {slots = slots} {b = b} is k l = ap (λ ps. nth_place ps k) is.reads ∙ nth-place slots b.down (block_inputs b) k l
+read-place : {slots : Slots} {b : Block} {body : Body} → IsBlockBody slots b body → (k : ℕ)
+    → k < length (block_inputs b) → nth_place body.reads k
+    ≡ place_of b.down (slots (name_at (block_inputs b) k))
+read-place {slots = slots} {b = b} is k l = ap (λ ps. nth_place ps k) is.reads
+    ∙ nth-place slots b.down (block_inputs b) k l
 
-write-place : {slots : Slots} {b : Block} {body : Body} → IsBlockBody slots b body → (j : ℕ) → j < length b.assigns → nth_place body.writes j ≡ place_of b.down (slots (name_at (targets_of b.assigns) j))
-write-place {slots = slots} {b = b} is j l = ap (λ ps. nth_place ps j) is.writes ∙ nth-place slots b.down (targets_of b.assigns) j (omega (arith, targets-long b))
+write-place : {slots : Slots} {b : Block} {body : Body} → IsBlockBody slots b body → (j : ℕ)
+    → j < length b.assigns → nth_place body.writes j
+    ≡ place_of b.down (slots (name_at (targets_of b.assigns) j))
+write-place {slots = slots} {b = b} is j l = ap (λ ps. nth_place ps j) is.writes
+    ∙ nth-place slots b.down (targets_of b.assigns) j (omega (arith, targets-long b))
 
-input-at : (b : Block) (k : ℕ) → k < length (block_inputs b) → is_among (statement_names (Visit b)) (name_at (block_inputs b) k) ≡ true
+input-at : (b : Block) (k : ℕ) → k < length (block_inputs b)
+    → is_among (statement_names (Visit b)) (name_at (block_inputs b) k) ≡ true
 input-at b k l = input-named b (name_at (block_inputs b) k) (among-at (block_inputs b) k l)
 
 -- the body is well formed
-pub body-well : {slots : Slots} {fb fw : ℕ} {b : Block} {body : Body} → Given slots fb fw b → IsBlockBody slots b body → IsWellFormed body
+pub body-well : {slots : Slots} {fb fw : ℕ} {b : Block} {body : Body} → Given slots fb fw b
+    → IsBlockBody slots b body → IsWellFormed body
 body-well {slots = slots} {b = b} {body = body} g is =
     let ts = targets_of b.assigns in
     let long = writes-long is in
@@ -77,22 +102,37 @@ body-well {slots = slots} {b = b} {body = body} g is =
       apart = λ i j li lj e.
           let ki : i < length b.assigns = omega (arith, li, long) in
           let kj : j < length b.assigns = omega (arith, lj, long) in
-          let v = subst (λ p. IsOneValue p (place_of b.down (slots (name_at ts j)))) (write-place is i ki) (subst (λ p. IsOneValue (nth_place body.writes i) p) (write-place is j kj) e) in
-          let h = one-value g b.down (name_at ts i) (name_at ts j) (target-named b i ki) (target-named b j kj) v in
-          once-distinct ts g.meets.targets_differ i j (omega (arith, ki, targets-long b)) (omega (arith, kj, targets-long b)) h;
+          let v = subst (λ p. IsOneValue p (place_of b.down (slots (name_at ts j))))
+          (write-place is i ki) (subst (λ p. IsOneValue (nth_place body.writes i) p)
+          (write-place is j kj) e) in
+          let h = one-value g b.down (name_at ts i) (name_at ts j) (target-named b i ki)
+          (target-named b j kj) v in
+          once-distinct ts g.meets.targets_differ i j (omega (arith, ki, targets-long b))
+          (omega (arith, kj, targets-long b)) h;
       same = λ j k lj lk e.
           let kj : j < length b.assigns = omega (arith, lj, long) in
           let kk : k < length (block_inputs b) = omega (arith, lk, longer) in
-          let v = subst (λ p. IsOneValue p (place_of b.down (slots (name_at (block_inputs b) k)))) (write-place is j kj) (subst (λ p. IsOneValue (nth_place body.writes j) p) (read-place is k kk) e) in
-          let h = one-value g b.down (name_at ts j) (name_at (block_inputs b) k) (target-named b j kj) (input-at b k kk) v in
-          ap (λ (p : Place). p.sub) (write-place is j kj ∙ ap (λ x. place_of b.down (slots x)) h ∙ sym (read-place is k kk));
+          let v = subst (λ p. IsOneValue p (place_of b.down (slots (name_at (block_inputs b) k))))
+          (write-place is j kj) (subst (λ p. IsOneValue (nth_place body.writes j) p)
+          (read-place is k kk) e) in
+          let h = one-value g b.down (name_at ts j) (name_at (block_inputs b) k)
+          (target-named b j kj) (input-at b k kk) v in
+          ap (λ (p : Place). p.sub) (write-place is j kj ∙ ap (λ x. place_of b.down (slots x)) h
+          ∙ sym (read-place is k kk));
     }
 
 one-only : (i j : ℕ) → i < 1 → j < 1 → i ≡ j
 one-only i j li lj = omega arith
 
 empty-graph : IsGraph 0 []
-empty-graph = record { small = omega arith; lower = λ k l. absurd (omega arith); three = λ k l. absurd (omega arith); form = λ k l. absurd (omega arith); shared = λ j k lj lk e. absurd (omega arith) }
+empty-graph = record {
+  small = omega arith;
+  lower = λ k l. absurd (omega arith);
+  three = λ k l. absurd (omega arith);
+  form = λ k l. absurd (omega arith);
+  shared =
+      λ j k lj lk e. absurd (omega arith);
+}
 
 lit-there : (v : Bool) (p : Place) (j : ℕ) → j < 1 → (lit_at (constant v p).outs j).node < 1
 lit-there v p zero l = omega arith
@@ -111,42 +151,63 @@ constant-well v p = record {
 abbrev uses : Bool → Sub → Bool
 uses down s = same_sub (kind_sub down Word) s || same_sub Zero s
 
-kind-used : (down : Bool) (k : Kind) (s : Sub) → same_sub (kind_sub down k) s ≡ true → uses down s ≡ true
+kind-used : (down : Bool) (k : Kind) (s : Sub) → same_sub (kind_sub down k) s ≡ true
+    → uses down s ≡ true
 kind-used down Word s e = or_left (same_sub (kind_sub down Word) s) (same_sub Zero s) e
 kind-used down Bit s e = or_right (same_sub (kind_sub down Word) s) (same_sub Zero s) e
 
-place-used : (down : Bool) (o : Option Slot) (s : Sub) → same_sub (place_of down o).sub s ≡ true → uses down s ≡ true
+place-used : (down : Bool) (o : Option Slot) (s : Sub) → same_sub (place_of down o).sub s ≡ true
+    → uses down s ≡ true
 place-used down None s e = or_right (same_sub (kind_sub down Word) s) (same_sub Zero s) e
 place-used down (Some x) s e = kind-used down x.kind s e
 
-places-used : (slots : Slots) (down : Bool) (names : List (List ℕ)) (s : Sub) → list_any (λ (p : Place). same_sub p.sub s) (places_of slots down names) ≡ true → uses down s ≡ true
+places-used : (slots : Slots) (down : Bool) (names : List (List ℕ)) (s : Sub)
+    → list_any (λ (p : Place). same_sub p.sub s) (places_of slots down names) ≡ true
+    → uses down s ≡ true
 places-used slots down [] s e = absurd (cc)
-places-used slots down (x ∷ xs) s e = elim (or_cases (same_sub (place_of down (slots x)).sub s) (list_any (λ (p : Place). same_sub p.sub s) (places_of slots down xs)) e) [ inl h ↦ place-used down (slots x) s h | inr h ↦ places-used slots down xs s h ]
-
-body-uses : {slots : Slots} {b : Block} {body : Body} → IsBlockBody slots b body → (s : Sub) → is_used body s ≡ true → uses b.down s ≡ true
-body-uses {slots = slots} {b = b} {body = body} is s e =
-    elim (or_cases (list_any (λ (p : Place). same_sub p.sub s) body.reads) (list_any (λ (p : Place). same_sub p.sub s) body.writes) (sym (list_any-append (λ (p : Place). same_sub p.sub s) body.reads body.writes) ∙ e)) [
-      | inl h ↦ places-used slots b.down (block_inputs b) s (subst (λ ps. list_any (λ (p : Place). same_sub p.sub s) ps ≡ true) is.reads h)
-      | inr h ↦ places-used slots b.down (targets_of b.assigns) s (subst (λ ps. list_any (λ (p : Place). same_sub p.sub s) ps ≡ true) is.writes h)
+places-used slots down (x ∷ xs) s e =
+    elim (or_cases (same_sub (place_of down (slots x)).sub s)
+    (list_any (λ (p : Place). same_sub p.sub s) (places_of slots down xs)) e) [
+      | inl h ↦
+          place-used down (slots x) s h
+      | inr h ↦ places-used slots down xs s h
     ]
 
-filter-less : (p q : Sub → Bool) (xs : List Sub) → ((s : Sub) → p s ≡ true → q s ≡ true) → length (filter p xs) ≤ length (filter q xs)
+body-uses : {slots : Slots} {b : Block} {body : Body} → IsBlockBody slots b body → (s : Sub)
+    → is_used body s ≡ true → uses b.down s ≡ true
+body-uses {slots = slots} {b = b} {body = body} is s e =
+    elim (or_cases (list_any (λ (p : Place). same_sub p.sub s) body.reads)
+    (list_any (λ (p : Place). same_sub p.sub s) body.writes)
+    (sym (list_any-append (λ (p : Place). same_sub p.sub s) body.reads body.writes) ∙ e)) [
+      | inl h ↦ places-used slots b.down (block_inputs b) s
+          (subst (λ ps. list_any (λ (p : Place). same_sub p.sub s) ps ≡ true) is.reads h)
+      | inr h ↦ places-used slots b.down (targets_of b.assigns) s
+          (subst (λ ps. list_any (λ (p : Place). same_sub p.sub s) ps ≡ true) is.writes h)
+    ]
+
+filter-less : (p q : Sub → Bool) (xs : List Sub) → ((s : Sub) → p s ≡ true → q s ≡ true)
+    → length (filter p xs) ≤ length (filter q xs)
 filter-less p q [] h = omega arith
 filter-less p q (s ∷ xs) h =
     let m = filter-less p q xs h in
     elim (cases_Bool (p s)) [
       | inl e ↦ rw (e, h s e) (omega (arith, m))
-      | inr e ↦ elim (cases_Bool (q s)) [ inl f ↦ rw (e, f) (omega (arith, m)) | inr f ↦ rw (e, f) m ]
+      | inr e ↦ elim (cases_Bool (q s)) [
+        | inl f ↦ rw (e, f) (omega (arith, m))
+        | inr f ↦ rw (e, f) m
+      ]
     ]
 
 abbrev others : List Sub
-others = Top ∷ At_inner ∷ InnerDown ∷ Outer ∷ OuterDown ∷ Sum ∷ DownSum ∷ DownPlusN ∷ NPlusInner ∷ []
+others = Top ∷ At_inner ∷ InnerDown ∷ Outer ∷ OuterDown ∷ Sum ∷ DownSum ∷ DownPlusN ∷ NPlusInner
+    ∷ []
 
 few-uses : (down : Bool) → length (filter (uses down) others) ≤ 3
 few-uses true = omega arith
 few-uses false = omega arith
 
-pub body-small : {slots : Slots} {fb fw : ℕ} {b : Block} {body : Body} → Given slots fb fw b → IsBlockBody slots b body → length (block_inputs b) ≤ 80 → IsSmall body
+pub body-small : {slots : Slots} {fb fw : ℕ} {b : Block} {body : Body} → Given slots fb fw b
+    → IsBlockBody slots b body → length (block_inputs b) ≤ 80 → IsSmall body
 body-small {b = b} {body = body} g is most =
     let m = is.as_many in
     let a = g.meets.assigns in
@@ -158,20 +219,33 @@ body-small {b = b} {body = body} g is most =
       inputs = let i = is.inputs in omega (arith, i, most);
       outputs = omega (arith, m, a);
       rows = omega (arith, m, a, w, k);
-      subs = let f = filter-less (is_used body) (uses b.down) others (body-uses is) in let u = few-uses b.down in omega (arith, f, u);
+      subs = let f = filter-less (is_used body) (uses b.down) others (body-uses is) in
+          let u = few-uses b.down in omega (arith, f, u);
     }
 
 constant-subs : (v : Bool) (p : Place) → p.sub ≡ Zero → length (used_subs (constant v p)) ≤ 3
 constant-subs v p e = rw e (omega arith)
 
 constant-small : (v : Bool) (p : Place) → p.sub ≡ Zero → IsSmall (constant v p)
-constant-small v p e = record { well = constant-well v p; graph = empty-graph; inputs = omega arith; outputs = omega arith; rows = omega arith; subs = constant-subs v p e }
+constant-small v p e = record {
+  well = constant-well v p;
+  graph = empty-graph;
+  inputs = omega arith;
+  outputs = omega arith;
+  rows = omega arith;
+  subs = constant-subs v p e;
+}
 
 -- what holds of all bodies
-parts-all : (P : Body → Type 0) (slots : Slots) (b : Block) (body : Body) (ss : List State) → AreStates b ss → ((s : State) → is_among (state_names b) s.name ≡ true → P (constant s.start (place_of b.down (slots s.name)))) → P body
+parts-all : (P : Body → Type 0) (slots : Slots) (b : Block) (body : Body) (ss : List State)
+    → AreStates b ss → ((s : State) → is_among (state_names b) s.name ≡ true
+    → P (constant s.start (place_of b.down (slots s.name)))) → P body
     → AllParts P (map (start slots b.down) ss ++ Along body ∷ [])
 parts-all P slots b body [] all h k = (k, tt)
-parts-all P slots b body (s ∷ ss) all h k = (h s (head-state b s ss all), parts-all P slots b body ss (tail-states b s ss all) h k)
+parts-all P slots b body (s ∷ ss) all h k = (
+  h s (head-state b s ss all),
+  parts-all P slots b body ss (tail-states b s ss all) h k,
+)
 
 -- the subscripts may stand
 kind-stands : (down : Bool) (k : Kind) → may_stand true false (kind_sub down k) ≡ true
@@ -184,43 +258,61 @@ place-stands : (down : Bool) (o : Option Slot) → may_stand true false (place_o
 place-stands down None = refl
 place-stands down (Some x) = kind-stands down x.kind
 
-places-stand : (slots : Slots) (down : Bool) (names : List (List ℕ)) → list_all (λ (p : Place). may_stand true false p.sub) (places_of slots down names) ≡ true
+places-stand : (slots : Slots) (down : Bool) (names : List (List ℕ))
+    → list_all (λ (p : Place). may_stand true false p.sub) (places_of slots down names) ≡ true
 places-stand slots down [] = refl
-places-stand slots down (x ∷ xs) = and_from (may_stand true false (place_of down (slots x)).sub) (list_all (λ (p : Place). may_stand true false p.sub) (places_of slots down xs)) (place-stands down (slots x)) (places-stand slots down xs)
+places-stand slots down (x ∷ xs) = and_from (may_stand true false (place_of down (slots x)).sub)
+    (list_all (λ (p : Place). may_stand true false p.sub) (places_of slots down xs))
+    (place-stands down (slots x)) (places-stand slots down xs)
 
-body-stands : {slots : Slots} {b : Block} {body : Body} → IsBlockBody slots b body → step_stands (Along body) ≡ true
+body-stands : {slots : Slots} {b : Block} {body : Body} → IsBlockBody slots b body
+    → step_stands (Along body) ≡ true
 body-stands {slots = slots} {b = b} {body = body} is =
     let test = λ (p : Place). may_stand true false p.sub in
     list_all-append test body.reads body.writes
-    ∙ and_from (list_all test body.reads) (list_all test body.writes) (ap (list_all test) is.reads ∙ places-stand slots b.down (block_inputs b)) (ap (list_all test) is.writes ∙ places-stand slots b.down (targets_of b.assigns))
+    ∙ and_from (list_all test body.reads) (list_all test body.writes) (ap (list_all test) is.reads
+    ∙ places-stand slots b.down (block_inputs b)) (ap (list_all test) is.writes
+    ∙ places-stand slots b.down (targets_of b.assigns))
 
 constant-stands : (v : Bool) (p : Place) → p.sub ≡ Zero → step_stands (Single (constant v p)) ≡ true
 constant-stands v p e = rw e refl
 
-steps-stand : {slots : Slots} {fb fw : ℕ} {b : Block} {body : Body} → Given slots fb fw b → IsBlockBody slots b body → (ss : List State) → AreStates b ss → list_all step_stands (map (start slots b.down) ss ++ Along body ∷ []) ≡ true
-steps-stand {body = body} g is [] all = and_from (step_stands (Along body)) true (body-stands is) refl
+steps-stand : {slots : Slots} {fb fw : ℕ} {b : Block} {body : Body} → Given slots fb fw b
+    → IsBlockBody slots b body → (ss : List State) → AreStates b ss
+    → list_all step_stands (map (start slots b.down) ss ++ Along body ∷ []) ≡ true
+steps-stand {body = body} g is [] all = and_from (step_stands (Along body)) true (body-stands is)
+    refl
 steps-stand {slots = slots} {b = b} {body = body} g is (s ∷ ss) all =
-    and_from (step_stands (start slots b.down s)) (list_all step_stands (map (start slots b.down) ss ++ Along body ∷ []))
-    (constant-stands s.start (place_of b.down (slots s.name)) (state-sub g b.down s.name (head-state b s ss all)))
+    and_from (step_stands (start slots b.down s))
+    (list_all step_stands (map (start slots b.down) ss ++ Along body ∷ []))
+    (constant-stands s.start (place_of b.down (slots s.name))
+    (state-sub g b.down s.name (head-state b s ss all)))
     (steps-stand g is ss (tail-states b s ss all))
 
 -- the size of the code
 constant-code : (v : Bool) (p : Place) → p.sub ≡ Zero → single_cost (constant v p) ≡ 3
 constant-code v p e = rw e refl
 
-steps-code : {slots : Slots} {fb fw : ℕ} {b : Block} → Given slots fb fw b → (body : Body) (ss : List State) → AreStates b ss → code_cost (map (start slots b.down) ss ++ Along body ∷ []) ≡ 3 * length ss + (body_cost body + 15)
+steps-code : {slots : Slots} {fb fw : ℕ} {b : Block} → Given slots fb fw b
+    → (body : Body) (ss : List State) → AreStates b ss
+    → code_cost (map (start slots b.down) ss ++ Along body ∷ [])
+    ≡ 3 * length ss + (body_cost body + 15)
 steps-code g body [] all = sum_by-cons step_cost (Along body) [] ∙ omega arith
 steps-code {slots = slots} {b = b} g body (s ∷ ss) all =
     let h = steps-code g body ss (tail-states b s ss all) in
-    let c = constant-code s.start (place_of b.down (slots s.name)) (state-sub g b.down s.name (head-state b s ss all)) in
-    let m = sum_by-cons step_cost (start slots b.down s) (map (start slots b.down) ss ++ Along body ∷ []) in
+    let c = constant-code s.start (place_of b.down (slots s.name))
+    (state-sub g b.down s.name (head-state b s ss all)) in
+    let m = sum_by-cons step_cost (start slots b.down s) (map (start slots b.down) ss ++ Along body
+    ∷ []) in
     omega (arith, h, c, m)
 
-steps-bodies : (slots : Slots) (down : Bool) (body : Body) (ss : List State) → bodies (map (start slots down) ss ++ Along body ∷ []) ≡ length ss + 1
+steps-bodies : (slots : Slots) (down : Bool) (body : Body) (ss : List State)
+    → bodies (map (start slots down) ss ++ Along body ∷ []) ≡ length ss + 1
 steps-bodies slots down body [] = sum_by-cons step_bodies (Along body) []
 steps-bodies slots down body (s ∷ ss) =
     let h = steps-bodies slots down body ss in
-    let m = sum_by-cons step_bodies (start slots down s) (map (start slots down) ss ++ Along body ∷ []) in
+    let m = sum_by-cons step_bodies (start slots down s) (map (start slots down) ss ++ Along body
+    ∷ []) in
     omega (arith, h, m)
 
 -- the rounds
@@ -233,7 +325,9 @@ spot-space n ScratchWord w v = refl
 own-spot : (n : ℕ) (s : Space) (w v : ℕ) → IsOwn s → IsOwn (spot_in n s w v).space
 own-spot n s w v own = subst IsOwn (sym (spot-space n s w v)) own
 
-body-round : {slots : Slots} {fb fw : ℕ} {b : Block} {body : Body} → Given slots fb fw b → IsBlockBody slots b body → (n i : ℕ) → i < n → IsRound (IsStatementRow slots fb fw (Visit b) n) n (round_at body i 0)
+body-round : {slots : Slots} {fb fw : ℕ} {b : Block} {body : Body} → Given slots fb fw b
+    → IsBlockBody slots b body → (n i : ℕ) → i < n
+    → IsRound (IsStatementRow slots fb fw (Visit b) n) n (round_at body i 0)
 body-round {slots = slots} {fb = fb} {fw = fw} {b = b} {body = body} g is n i lt =
     let ts = targets_of b.assigns in
     let p = position b.down n i in
@@ -244,40 +338,68 @@ body-round {slots = slots} {fb = fb} {fw = fw} {b = b} {body = body} g is n i lt
     record {
       reads = λ k l.
           let kk : k < length (block_inputs b) = omega (arith, l, longer) in
-          inl (subst (IsRowOf n slots all) (sym (read-row is n i k kk)) (named-row-is g all n p (name_at (block_inputs b) k) lp (input-at b k kk) (input-at b k kk)));
+          inl (subst (IsRowOf n slots all) (sym (read-row is n i k kk))
+          (named-row-is g all n p (name_at (block_inputs b) k) lp (input-at b k kk)
+          (input-at b k kk)));
       writes = λ j l.
           let kj : j < length b.assigns = omega (arith, l, long) in
-          inl (subst (IsRowOf n slots all) (sym (write-row is n i j kj)) (named-row-is g all n p (name_at ts j) lp (target-named b j kj) (target-named b j kj)));
+          inl (subst (IsRowOf n slots all) (sym (write-row is n i j kj))
+          (named-row-is g all n p (name_at ts j) lp (target-named b j kj)
+          (target-named b j kj)));
       own = λ j l.
           let kj : j < length b.assigns = omega (arith, l, long) in
           let s = slot_or (slots (name_at ts j)) in
-          subst (λ (q : Spot). IsOwn q.space) (sym (write-row is n i j kj)) (own-spot n s.space s.which (row_of p s.kind) (own-row g (name_at ts j) (target-written b (name_at ts j) (target-among b j kj))));
-      apart = λ x y lx ly e. writes-once g is n i lt x y (omega (arith, lx, long)) (omega (arith, ly, long)) e;
+          subst (λ (q : Spot). IsOwn q.space) (sym (write-row is n i j kj))
+          (own-spot n s.space s.which (row_of p s.kind)
+          (own-row g (name_at ts j) (target-written b (name_at ts j) (target-among b j kj))));
+      apart = λ x y lx ly e. writes-once g is n i lt x y (omega (arith, lx, long))
+          (omega (arith, ly, long)) e;
       same = λ j k lj lk e.
           let kj : j < length b.assigns = omega (arith, lj, long) in
           let kk : k < length (block_inputs b) = omega (arith, lk, longer) in
-          let h = named-once g n p p (name_at ts j) (name_at (block_inputs b) k) lp lp (target-named b j kj) (input-at b k kk) (sym (write-row is n i j kj) ∙ e ∙ read-row is n i k kk) in
+          let h = named-once g n p p (name_at ts j) (name_at (block_inputs b) k) lp lp
+          (target-named b j kj) (input-at b k kk) (sym (write-row is n i j kj) ∙ e
+          ∙ read-row is n i k kk) in
           write-place is j kj ∙ ap (λ x. place_of b.down (slots x)) h.0 ∙ sym (read-place is k kk);
       once = λ j k l lj lk ll e f.
           let kj : j < length b.assigns = omega (arith, lj, long) in
           let kk : k < length (block_inputs b) = omega (arith, lk, longer) in
           let kl : l < length (block_inputs b) = omega (arith, ll, longer) in
-          let h = named-once g n p p (name_at ts j) (name_at (block_inputs b) k) lp lp (target-named b j kj) (input-at b k kk) (sym (write-row is n i j kj) ∙ e ∙ read-row is n i k kk) in
-          let m = named-once g n p p (name_at ts j) (name_at (block_inputs b) l) lp lp (target-named b j kj) (input-at b l kl) (sym (write-row is n i j kj) ∙ f ∙ read-row is n i l kl) in
+          let h = named-once g n p p (name_at ts j) (name_at (block_inputs b) k) lp lp
+          (target-named b j kj) (input-at b k kk) (sym (write-row is n i j kj) ∙ e
+          ∙ read-row is n i k kk) in
+          let m = named-once g n p p (name_at ts j) (name_at (block_inputs b) l) lp lp
+          (target-named b j kj) (input-at b l kl) (sym (write-row is n i j kj) ∙ f
+          ∙ read-row is n i l kl) in
           inputs-once b k l kk kl (sym h.0 ∙ m.0);
     }
 
-start-row : {slots : Slots} {fb fw : ℕ} {b : Block} → Given slots fb fw b → (n : ℕ) → 0 < n → (s : State) → is_among (state_names b) s.name ≡ true → (j : ℕ) → j < 1 → IsStatementRow slots fb fw (Visit b) n (nth_spot n 0 0 (place_of b.down (slots s.name) ∷ []) j) × IsOwn (nth_spot n 0 0 (place_of b.down (slots s.name) ∷ []) j).space
+start-row : {slots : Slots} {fb fw : ℕ} {b : Block} → Given slots fb fw b → (n : ℕ) → 0 < n
+    → (s : State) → is_among (state_names b) s.name ≡ true → (j : ℕ) → j < 1
+    → IsStatementRow slots fb fw (Visit b) n (nth_spot n 0 0 (place_of b.down (slots s.name)
+    ∷ []) j) × IsOwn (nth_spot n 0 0 (place_of b.down (slots s.name) ∷ []) j).space
 start-row g n lt s e (suc j) l = absurd (omega arith)
 start-row {slots = slots} {fb = fb} {fw = fw} {b = b} g n lt s e zero l =
     let x = slot_or (slots s.name) in
     let q = state-spot g n b.down s e in
     let r = state-row-is g n lt s.name e in (
-      inl (subst (IsRowOf n slots (statement_names (Visit b))) (sym q) (r.0, r.1, r.2, written-named b r.0 r.3, r.4, r.5, r.6)),
-      subst (λ (y : Spot). IsOwn y.space) (sym q) (own-spot n x.space x.which 0 (own-row g s.name (state-written b s.name e))),
+      inl (subst (IsRowOf n slots (statement_names (Visit b))) (sym q) (
+        r.0,
+        r.1,
+        r.2,
+        written-named b r.0 r.3,
+        r.4,
+        r.5,
+        r.6,
+      )),
+      subst (λ (y : Spot). IsOwn y.space) (sym q)
+          (own-spot n x.space x.which 0 (own-row g s.name (state-written b s.name e))),
     )
 
-start-round : {slots : Slots} {fb fw : ℕ} {b : Block} → Given slots fb fw b → (n : ℕ) → 0 < n → (s : State) → is_among (state_names b) s.name ≡ true → IsRound (IsStatementRow slots fb fw (Visit b) n) n (round_at (constant s.start (place_of b.down (slots s.name))) 0 0)
+start-round : {slots : Slots} {fb fw : ℕ} {b : Block} → Given slots fb fw b → (n : ℕ) → 0 < n
+    → (s : State) → is_among (state_names b) s.name ≡ true
+    → IsRound (IsStatementRow slots fb fw (Visit b) n) n
+    (round_at (constant s.start (place_of b.down (slots s.name))) 0 0)
 start-round g n lt s e = record {
   reads = λ k l. absurd (omega arith);
   writes = λ j l. (start-row g n lt s e j l).0;
@@ -287,23 +409,47 @@ start-round g n lt s e = record {
   once = λ j k l lj lk ll h m. absurd (omega arith);
 }
 
-rounds-all : (P : RoundOf Body → Type 0) (body : Body) (n count i : ℕ) → i + count ≡ n → ((j : ℕ) → j < n → P (round_at body j 0)) → AllByRecursion P (rounds (λ j. one_round body j 0) i count)
+rounds-all : (P : RoundOf Body → Type 0) (body : Body) (n count i : ℕ) → i + count ≡ n
+    → ((j : ℕ) → j < n → P (round_at body j 0))
+    → AllByRecursion P (rounds (λ j. one_round body j 0) i count)
 rounds-all P body n zero i e h = tt
-rounds-all P body n (suc count) i e h = (h i (omega (arith, e)), rounds-all P body n count (i + 1) (omega (arith, e)) h)
+rounds-all P body n (suc count) i e h = (
+  h i (omega (arith, e)),
+  rounds-all P body n count (i + 1) (omega (arith, e)) h,
+)
 
-steps-all : (P : RoundOf Body → Type 0) (slots : Slots) (b : Block) (body : Body) (n : ℕ) (ss : List State) → AreStates b ss → ((s : State) → is_among (state_names b) s.name ≡ true → P (round_at (constant s.start (place_of b.down (slots s.name))) 0 0)) → ((j : ℕ) → j < n → P (round_at body j 0))
+steps-all : (P : RoundOf Body → Type 0) (slots : Slots) (b : Block) (body : Body) (n : ℕ)
+    (ss : List State) → AreStates b ss → ((s : State) → is_among (state_names b) s.name ≡ true
+    → P (round_at (constant s.start (place_of b.down (slots s.name))) 0 0))
+    → ((j : ℕ) → j < n → P (round_at body j 0))
     → AllByRecursion P (all_rounds n (map (start slots b.down) ss ++ Along body ∷ []))
-steps-all P slots b body n [] all h k = subst (AllByRecursion P) (sym (append-nil (rounds (λ j. one_round body j 0) 0 n))) (rounds-all P body n n 0 (omega arith) k)
-steps-all P slots b body n (s ∷ ss) all h k = (h s (head-state b s ss all), steps-all P slots b body n ss (tail-states b s ss all) h k)
+steps-all P slots b body n [] all h k = subst (AllByRecursion P)
+    (sym (append-nil (rounds (λ j. one_round body j 0) 0 n)))
+    (rounds-all P body n n 0 (omega arith) k)
+steps-all P slots b body n (s ∷ ss) all h k =
+    (h s (head-state b s ss all), steps-all P slots b body n ss (tail-states b s ss all) h k)
 
-pub can-compile : {slots : Slots} {fb fw : ℕ} {b : Block} {body : Body} → Given slots fb fw b → IsBlockBody slots b body → length (block_inputs b) ≤ 80 → CanCompile (IsStatementRow slots fb fw (Visit b)) (map (start slots b.down) b.states ++ Along body ∷ [])
+pub can-compile : {slots : Slots} {fb fw : ℕ} {b : Block} {body : Body} → Given slots fb fw b
+    → IsBlockBody slots b body → length (block_inputs b) ≤ 80
+    → CanCompile (IsStatementRow slots fb fw (Visit b)) (map (start slots b.down) b.states
+    ++ Along body ∷ [])
 can-compile {slots = slots} {fb = fb} {fw = fw} {b = b} {body = body} g is most = record {
-  small = parts-all IsSmall slots b body b.states (λ x e. e) (λ s e. constant-small s.start (place_of b.down (slots s.name)) (state-sub g b.down s.name e)) (body-small g is most);
+  small = parts-all IsSmall slots b body b.states (λ x e. e) (λ s e.
+      constant-small s.start (place_of b.down (slots s.name)) (state-sub g b.down s.name e))
+      (body-small g is most);
   stand = steps-stand g is b.states (λ x e. e);
-  rounds = λ n lt most. steps-all (IsRound (IsStatementRow slots fb fw (Visit b) n) n) slots b body n b.states (λ x e. e) (start-round g n lt) (λ j l. body-round g is n j l);
-  size = let c = steps-code g body b.states (λ x e. e) in let s = g.meets.states in let m = is.as_many in let a = g.meets.assigns in let w = g.meets.weight in let k = is.nodes in omega (arith, c, s, m, a, w, k);
-  few = let c = steps-bodies slots b.down body b.states in let s = g.meets.states in omega (arith, c, s);
+  rounds = λ n lt most. steps-all (IsRound (IsStatementRow slots fb fw (Visit b) n) n) slots b body
+      n b.states (λ x e. e) (start-round g n lt) (λ j l. body-round g is n j l);
+  size = let c = steps-code g body b.states (λ x e. e) in let s = g.meets.states in
+      let m = is.as_many in let a = g.meets.assigns in let w = g.meets.weight in let k = is.nodes in
+      omega (arith, c, s, m, a, w, k);
+  few = let c = steps-bodies slots b.down body b.states in let s = g.meets.states in
+      omega (arith, c, s);
 }
 
-pub are-well : {slots : Slots} {fb fw : ℕ} {b : Block} {body : Body} → Given slots fb fw b → IsBlockBody slots b body → AreWellFormed (map (start slots b.down) b.states ++ Along body ∷ [])
-are-well {slots = slots} {b = b} {body = body} g is = parts-all IsWellFormed slots b body b.states (λ x e. e) (λ s e. constant-well s.start (place_of b.down (slots s.name))) (body-well g is)
+pub are-well : {slots : Slots} {fb fw : ℕ} {b : Block} {body : Body} → Given slots fb fw b
+    → IsBlockBody slots b body → AreWellFormed (map (start slots b.down) b.states ++ Along body
+    ∷ [])
+are-well {slots = slots} {b = b} {body = body} g is =
+    parts-all IsWellFormed slots b body b.states (λ x e. e) (λ s e.
+    constant-well s.start (place_of b.down (slots s.name))) (body-well g is)

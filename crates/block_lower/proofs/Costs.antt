@@ -1,5 +1,6 @@
 -- How many commands a block's program takes.
-use Rattle.std.proofs.Common.{◌≡◌, ℕ, ◌+◌, ◌*◌, ◌<◌, ◌≤◌, Bool, true, false, List, [], ◌∷◌, ◌++◌, map, length, refl, arith}
+use Rattle.std.proofs.Common.{◌≡◌, ℕ, ◌+◌, ◌*◌, ◌<◌, ◌≤◌, Bool, true, false, List, [], ◌∷◌, ◌++◌}
+use Rattle.std.proofs.Common.{map, length, refl, arith}
 use Rattle.std.proofs.Math.Nat.{mul-le-mul_left}
 use Rattle.std.proofs.lemmas.Bool.{cond_both}
 use Rattle.op_text.specs.declared.tree.State.{State}
@@ -18,26 +19,35 @@ constant-cost : (v : Bool) (p : Place) → turn_cost (constant v p) ≡ 1
 constant-cost true p = refl
 constant-cost false p = refl
 
-starts-total : (n : ℕ) (slots : Slots) (down : Bool) (ss : List State) (more : List (StepOf Body)) → total n (map (start slots down) ss ++ more) ≡ 2 * length ss + total n more
+starts-total : (n : ℕ) (slots : Slots) (down : Bool) (ss : List State) (more : List (StepOf Body))
+    → total n (map (start slots down) ss ++ more) ≡ 2 * length ss + total n more
 starts-total n slots down [] more = omega arith
-starts-total n slots down (s ∷ ss) more = let h = starts-total n slots down ss more in let c = constant-cost s.start (place_of down (slots s.name)) in omega (arith, h, c)
+starts-total n slots down (s ∷ ss) more = let h = starts-total n slots down ss more in
+    let c = constant-cost s.start (place_of down (slots s.name)) in omega (arith, h, c)
 
 turn-most : (b : Body) → 0 < length b.outs → turn_cost b ≤ body_cost b
-turn-most b l = cond_both (is_copy b) 1 (body_cost b) (λ c. c ≤ body_cost b) (λ e. omega arith) (λ e. omega arith)
+turn-most b l = cond_both (is_copy b) 1 (body_cost b) (λ c. c ≤ body_cost b) (λ e.
+    omega arith) (λ e. omega arith)
 
-pub program-cost : {slots : Slots} {b : Block} {body : Body} → IsBlockBody slots b body → 0 < length b.assigns → (n : ℕ)
-    → rounds_cost (all_rounds n (map (start slots b.down) b.states ++ Along body ∷ [])) ≤ n * (4 * length body.graph.nodes + 3 * length b.assigns) + length b.states
+pub program-cost : {slots : Slots} {b : Block} {body : Body} → IsBlockBody slots b body
+    → 0 < length b.assigns → (n : ℕ)
+    → rounds_cost (all_rounds n (map (start slots b.down) b.states ++ Along body ∷ []))
+    ≤ n * (4 * length body.graph.nodes + 3 * length b.assigns) + length b.states
 program-cost {slots = slots} {b = b} {body = body} is some n =
     let m = is.as_many in
     let t = total_is n (map (start slots b.down) b.states ++ Along body ∷ []) in
     let s = starts-total n slots b.down b.states (Along body ∷ []) in
-    let c : turn_cost body ≤ 4 * length body.graph.nodes + 3 * length b.assigns = let k = turn-most body (omega (arith, m, some)) in omega (arith, k, m) in
+    let c : turn_cost body ≤ 4 * length body.graph.nodes + 3 * length b.assigns = let k =
+    turn-most body (omega (arith, m, some)) in omega (arith, k, m) in
     let e = mul-le-mul_left n c in
     omega (arith, t, s, e)
 
-pub within-ceiling : {slots : Slots} {b : Block} {body : Body} → IsBlockBody slots b body → (n c : ℕ) → c ≤ n * (4 * length body.graph.nodes + 3 * length b.assigns) + length b.states → c ≤ block_ceiling b n
+pub within-ceiling : {slots : Slots} {b : Block} {body : Body} → IsBlockBody slots b body
+    → (n c : ℕ) → c ≤ n * (4 * length body.graph.nodes + 3 * length b.assigns) + length b.states
+    → c ≤ block_ceiling b n
 within-ceiling {slots = slots} {b = b} {body = body} is n c l =
     let w = is.nodes in
-    let k : 4 * length body.graph.nodes + 3 * length b.assigns ≤ 4 * block_weight b + 3 * length b.assigns = omega (arith, w) in
+    let k : 4 * length body.graph.nodes + 3 * length b.assigns
+    ≤ 4 * block_weight b + 3 * length b.assigns = omega (arith, w) in
     let e = mul-le-mul_left n k in
     omega (arith, l, e)

@@ -1,5 +1,7 @@
 -- The graph of a block is made for its inputs.
-use Rattle.std.proofs.Common.{◌≡◌, ℕ, zero, suc, ◌+◌, ◌^◌, ◌<◌, ◌≤◌, Bool, true, false, not, List, [], ◌∷◌, ◌++◌, map, filter, length, refl, sym, ap, ◌∙◌, arith, Some, None, is_some, slice_get, slice_index, length-append, inl, inr}
+use Rattle.std.proofs.Common.{◌≡◌, ℕ, zero, suc, ◌+◌, ◌^◌, ◌<◌, ◌≤◌, Bool, true, false, not, List}
+use Rattle.std.proofs.Common.{[], ◌∷◌, ◌++◌, map, filter, length, refl, sym, ap, ◌∙◌, arith, Some}
+use Rattle.std.proofs.Common.{None, is_some, slice_get, slice_index, length-append, inl, inr}
 use Rattle.std.proofs.lemmas.Bool.{cases_Bool, not_from_false}
 use Rattle.std.proofs.lemmas.List.{length-map}
 use Rattle.std.proofs.lemmas.List.Sums.{length-filter, count_by-le-length}
@@ -10,7 +12,8 @@ use Rattle.op_text.specs.Meaning.{term_bit, with_lets}
 use Rattle.op_text.specs.Rules.{is_among}
 use Rattle.aoi_graph.specs.declared.AoiNode.{AoiNode}
 use Rattle.aoi_graph.specs.Gates.{aoi_at, aoi_values}
-use Rattle.aoi_graph.specs.Blocks.{Numbers, all_parts, all_weights, AreHeld, NamesInputs, BlockReads, HaveValues, after_lets, is_input}
+use Rattle.aoi_graph.specs.Blocks.{Numbers, all_parts, all_weights, AreHeld, NamesInputs}
+use Rattle.aoi_graph.specs.Blocks.{BlockReads, HaveValues, after_lets, is_input}
 use Rattle.mig_graph.specs.declared.Lit.{Lit}
 use Rattle.mig_graph.specs.Graph.{Graph, value}
 use Rattle.mig_graph.specs.Outputs.{lit_at, KeepsOutputs}
@@ -26,7 +29,8 @@ use Rattle.block_lower.proofs.Reading.{Knows, block-reads}
 pub some-is : (slots : Slots) (name : List ℕ) → slots name ≡ None → is_some (slots name) ≡ true → ⊥
 some-is slots name e h = let k : is_some (slots name) ≡ false = rw e refl in cc
 
-equation-at : (xs : List Assign) (j : ℕ) (e : Equation) → slice_get (map equation xs) j ≡ Some e → (a : Assign) × (slice_get xs j ≡ Some a) × (equation a ≡ e)
+equation-at : (xs : List Assign) (j : ℕ) (e : Equation) → slice_get (map equation xs) j ≡ Some e
+    → (a : Assign) × (slice_get xs j ≡ Some a) × (equation a ≡ e)
 equation-at [] j e h = absurd (cc)
 equation-at (x ∷ xs) zero e h = (x, refl, (cc))
 equation-at (x ∷ xs) (suc j) e h = equation-at xs j e h
@@ -36,15 +40,27 @@ slice-below [] j a h = absurd (cc)
 slice-below (x ∷ xs) zero a h = omega arith
 slice-below (x ∷ xs) (suc j) a h = let l = slice-below xs j a h in omega (arith, l)
 
-module _ (slots : Slots) (down : Bool) (states : List State) (lets assigns : List Assign) (meets : BlockMeets slots (block_from down states lets assigns)) where
-  names-few : length (equation_names (map equation lets) ++ equation_names (map equation assigns)) ≤ 72
+module _ (slots : Slots) (down : Bool) (states : List State) (lets assigns : List Assign)
+    (meets : BlockMeets slots (block_from down states lets assigns)) where
+  names-few : length (equation_names (map equation lets) ++ equation_names (map equation assigns))
+      ≤ 72
   names-few =
       let l = equations-most (map equation lets) in
       let a = equations-most (map equation assigns) in
       let w = meets.weight in let m = meets.lets in let k = meets.assigns in
-      omega (arith, l, a, w, m, k, length-append (equation_names (map equation lets)) (equation_names (map equation assigns)))
+      omega (
+        arith,
+        l,
+        a,
+        w,
+        m,
+        k,
+        length-append (equation_names (map equation lets))
+            (equation_names (map equation assigns)),
+      )
 
-  pub room : length (equation_names (map equation lets) ++ equation_names (map equation assigns)) < 256
+  pub room : length (equation_names (map equation lets) ++ equation_names (map equation assigns))
+      < 256
   room = let h = names-few in omega (arith, h)
 
   pub parts-few : all_parts lets + all_parts assigns < 2 ^ 28
@@ -63,39 +79,69 @@ module _ (slots : Slots) (down : Bool) (states : List State) (lets assigns : Lis
       let f = length-filter p all in let k = count_by-le-length p all in let n = names-few in
       omega (arith, g, f, k, n)
 
-  knows : (names : List (List ℕ)) (numbers : Numbers) → AreNumbered (block_inputs (block_from down states lets assigns)) numbers → ((name : List ℕ) → is_among names name ≡ true → is_among (equation_names (map equation lets) ++ equation_names (map equation assigns)) name ≡ true) → Knows (λ name. is_some (slots name)) (is_input numbers) names
+  knows : (names : List (List ℕ)) (numbers : Numbers)
+      → AreNumbered (block_inputs (block_from down states lets assigns)) numbers
+      → ((name : List ℕ) → is_among names name ≡ true
+      → is_among (equation_names (map equation lets) ++ equation_names (map equation assigns)) name
+      ≡ true) → Knows (λ name. is_some (slots name)) (is_input numbers) names
   knows names numbers num inside name e r =
       let all = equation_names (map equation lets) ++ equation_names (map equation assigns) in
       let p = λ (name : List ℕ). not (is_among (targets_of (map equation lets)) name) in
-      let other : is_among (targets_of (map equation lets)) name ≡ false = elim (cases_Bool (is_among (targets_of (map equation lets)) name)) [ inl t ↦ absurd (some-is slots name (meets.unplaced name t) r) | inr f ↦ f ] in
-      num.some name ∙ gathered-all [] (filter p all) name (among-kept p all name (inside name e) (not_from_false (is_among (targets_of (map equation lets)) name) other))
+      let other : is_among (targets_of (map equation lets)) name ≡ false =
+      elim (cases_Bool (is_among (targets_of (map equation lets)) name)) [
+        | inl t ↦
+            absurd (some-is slots name (meets.unplaced name t) r)
+        | inr f ↦ f
+      ] in
+      num.some name ∙ gathered-all [] (filter p all) name
+      (among-kept p all name (inside name e)
+      (not_from_false (is_among (targets_of (map equation lets)) name) other))
 
-  pub reads-inputs : (numbers : Numbers) → AreNumbered (block_inputs (block_from down states lets assigns)) numbers → BlockReads (is_input numbers) lets assigns
+  pub reads-inputs : (numbers : Numbers)
+      → AreNumbered (block_inputs (block_from down states lets assigns)) numbers
+      → BlockReads (is_input numbers) lets assigns
   reads-inputs numbers num =
       let l = equation_names (map equation lets) in let a = equation_names (map equation assigns) in
-      block-reads (λ name. is_some (slots name)) (is_input numbers) lets assigns meets.meet (knows l numbers num (λ name e. among-left l a name e)) (knows a numbers num (λ name e. among-right l a name e))
+      block-reads (λ name. is_some (slots name)) (is_input numbers) lets assigns meets.meet
+      (knows l numbers num (λ name e. among-left l a name e))
+      (knows a numbers num (λ name e. among-right l a name e))
 
-  module _ (numbers : Numbers) (num : AreNumbered (block_inputs (block_from down states lets assigns)) numbers) (nodes : List AoiNode) (held : AreHeld numbers nodes) where
-    has-inputs : (limit : ℕ) → length (block_inputs (block_from down states lets assigns)) ≤ limit → (k : ℕ) → k < length nodes → HasInput limit (aoi_at nodes k)
-    has-inputs limit most = held-inputs numbers limit nodes (λ name i e. let l = (num.place name i e).0 in omega (arith, l, most)) held
+  module _ (numbers : Numbers) (num : AreNumbered
+      (block_inputs (block_from down states lets assigns)) numbers) (nodes : List AoiNode)
+      (held : AreHeld numbers nodes) where
+    has-inputs : (limit : ℕ) → length (block_inputs (block_from down states lets assigns)) ≤ limit
+        → (k : ℕ) → k < length nodes → HasInput limit (aoi_at nodes k)
+    has-inputs limit most = held-inputs numbers limit nodes (λ name i e.
+        let l = (num.place name i e).0 in omega (arith, l, most)) held
 
     pub inputs-below : (k : ℕ) → k < length nodes → HasInput 255 (aoi_at nodes k)
     inputs-below = has-inputs 255 (let h = inputs-few in omega (arith, h))
 
-    pub inputs-most : (count : ℕ) → IsInputCount nodes count → count ≤ length (block_inputs (block_from down states lets assigns))
-    inputs-most count c = count-most nodes count (length (block_inputs (block_from down states lets assigns))) c (has-inputs (length (block_inputs (block_from down states lets assigns))) (omega arith))
+    pub inputs-most : (count : ℕ) → IsInputCount nodes count
+        → count ≤ length (block_inputs (block_from down states lets assigns))
+    inputs-most count c = count-most nodes count
+        (length (block_inputs (block_from down states lets assigns))) c
+        (has-inputs (length (block_inputs (block_from down states lets assigns))) (omega arith))
 
     -- the values of the outputs through all graphs
     pub output-values : (gates : List ℕ) (first last : Graph) (outs made : List Lit)
-        → ((bits : ℕ → Bool) (env : List ℕ → Bool) → BlockReads (is_input numbers) lets assigns → NamesInputs numbers bits env → HaveValues nodes gates bits (after_lets env lets) assigns)
-        → ((bits : ℕ → Bool) (j : ℕ) → j < length gates → value first bits (lit_at outs j) ≡ aoi_values nodes bits (slice_index gates j))
-        → KeepsOutputs first outs last made → length outs ≡ length gates → length gates ≡ length assigns
-        → (env : List ℕ → Bool) (v : ℕ → Bool) → ((k : ℕ) → k < length (block_inputs (block_from down states lets assigns)) → v k ≡ env (name_at (block_inputs (block_from down states lets assigns)) k))
-        → (j : ℕ) (e : Equation) → slice_get (map equation assigns) j ≡ Some e → value last v (lit_at made j) ≡ term_bit (with_lets env (map equation lets)) e.value
+        → ((bits : ℕ → Bool) (env : List ℕ → Bool) → BlockReads (is_input numbers) lets assigns
+        → NamesInputs numbers bits env → HaveValues nodes gates bits (after_lets env lets)
+        assigns)
+        → ((bits : ℕ → Bool) (j : ℕ) → j < length gates
+        → value first bits (lit_at outs j) ≡ aoi_values nodes bits (slice_index gates j))
+        → KeepsOutputs first outs last made → length outs ≡ length gates
+        → length gates ≡ length assigns
+        → (env : List ℕ → Bool) (v : ℕ → Bool)
+        → ((k : ℕ) → k < length (block_inputs (block_from down states lets assigns))
+        → v k ≡ env (name_at (block_inputs (block_from down states lets assigns)) k))
+        → (j : ℕ) (e : Equation) → slice_get (map equation assigns) j ≡ Some e
+        → value last v (lit_at made j) ≡ term_bit (with_lets env (map equation lets)) e.value
     output-values gates first last outs made built through keeps long all env v same j e at =
         let a = equation-at assigns j e at in
         let below : j < length assigns = slice-below assigns j a.0 a.1 in
         keeps.values v j (omega (arith, below))
         ∙ through v j (omega (arith, below))
-        ∙ built v env (reads-inputs numbers num) (λ name i h. let p = num.place name i h in sym (same i p.0 ∙ ap env p.1)) j a.0 a.1
+        ∙ built v env (reads-inputs numbers num) (λ name i h. let p = num.place name i h in
+        sym (same i p.0 ∙ ap env p.1)) j a.0 a.1
         ∙ ap (λ (e : Equation). term_bit (with_lets env (map equation lets)) e.value) a.2

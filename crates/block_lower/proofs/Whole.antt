@@ -1,5 +1,6 @@
 -- A block's program does the block.
-use Rattle.std.proofs.Common.{◌≡◌, ℕ, ◌+◌, ◌*◌, ◌<◌, ◌≤◌, true, List, [], ◌∷◌, ◌++◌, map, fold, length, sym, ap, ◌∙◌, subst, arith, inl}
+use Rattle.std.proofs.Common.{◌≡◌, ℕ, ◌+◌, ◌*◌, ◌<◌, ◌≤◌, true, List, [], ◌∷◌, ◌++◌, map, fold}
+use Rattle.std.proofs.Common.{length, sym, ap, ◌∙◌, subst, arith, inl}
 use Rattle.std.proofs.lemmas.List.{append-nil}
 use Rattle.op_text.specs.Language.{Block, Visit}
 use Rattle.op_text.specs.Meaning.{Held, visited, with_blanks, with_states, after_statement}
@@ -21,41 +22,69 @@ use Rattle.block_lower.proofs.Ends.{are-read, holds-all}
 use Rattle.block_lower.proofs.Costs.{within-ceiling, program-cost}
 use Rattle.block_lower.proofs.Compile.{can-compile, are-well}
 
-after-all : (slots : Slots) (b : Block) (body : Body) (n : ℕ) (bits : Spots) → after_rounds n (all_rounds n (map (start slots b.down) b.states ++ Along body ∷ [])) bits ≡ after_rounds n (rounds (λ j. one_round body j 0) 0 n) (started n slots b.down b.states bits)
+after-all : (slots : Slots) (b : Block) (body : Body) (n : ℕ) (bits : Spots)
+    → after_rounds n (all_rounds n (map (start slots b.down) b.states ++ Along body ∷ [])) bits
+    ≡ after_rounds n (rounds (λ j. one_round body j 0) 0 n) (started n slots b.down b.states bits)
 after-all slots b body n bits =
     starts-do n slots b.down b.states (Along body ∷ []) bits
-    ∙ ap (λ rs. after_rounds n rs (started n slots b.down b.states bits)) (append-nil (rounds (λ j. one_round body j 0) 0 n))
+    ∙ ap (λ rs. after_rounds n rs (started n slots b.down b.states bits))
+    (append-nil (rounds (λ j. one_round body j 0) 0 n))
 
-block-gives : {slots : Slots} {fb fw : ℕ} {b : Block} {body : Body} → Given slots fb fw b → IsBlockBody slots b body → (n : ℕ) → 0 < n → (held : List ℕ → Held) (bits : Spots) → ((x : List ℕ) → is_among (read_names (Visit b)) x ≡ true → Holds n slots held bits x)
-    → (x : List ℕ) → is_among (written_names (Visit b)) x ≡ true → Holds n slots (after_statement n held (Visit b)) (after_rounds n (all_rounds n (map (start slots b.down) b.states ++ Along body ∷ [])) bits) x
+block-gives : {slots : Slots} {fb fw : ℕ} {b : Block} {body : Body} → Given slots fb fw b
+    → IsBlockBody slots b body → (n : ℕ) → 0 < n → (held : List ℕ → Held) (bits : Spots)
+    → ((x : List ℕ) → is_among (read_names (Visit b)) x ≡ true → Holds n slots held bits x)
+    → (x : List ℕ) → is_among (written_names (Visit b)) x ≡ true
+    → Holds n slots (after_statement n held (Visit b))
+    (after_rounds n (all_rounds n (map (start slots b.down) b.states ++ Along body ∷ [])) bits)
+    x
 block-gives {slots = slots} {b = b} {body = body} g is n lt held bits all x e =
     let first = with_states (with_blanks n held b.assigns) b.states in
-    let st = all-visits g is (are-read g n held bits all) n 0 (omega arith) first (started n slots b.down b.states bits) (begins g n lt held bits) in
+    let st = all-visits g is (are-read g n held bits all) n 0 (omega arith) first
+    (started n slots b.down b.states bits) (begins g n lt held bits) in
     let h = holds-all g st x e in
-    subst (λ new. Holds n slots (after_statement n held (Visit b)) new x) (sym (after-all slots b body n bits))
-    (subst (λ ps. Holds n slots (fold (visited b) first ps) (after_rounds n (rounds (λ j. one_round body j 0) 0 n) (started n slots b.down b.states bits)) x) (sym (positions-are b.down n)) h)
+    subst (λ new. Holds n slots (after_statement n held (Visit b)) new x)
+    (sym (after-all slots b body n bits))
+    (subst (λ ps. Holds n slots (fold (visited b) first ps)
+    (after_rounds n (rounds (λ j. one_round body j 0) 0 n)
+    (started n slots b.down b.states bits)) x) (sym (positions-are b.down n)) h)
 
-block-keeps : {slots : Slots} {fb fw : ℕ} {b : Block} {body : Body} → Given slots fb fw b → IsBlockBody slots b body → (n : ℕ) → 0 < n → (bits : Spots) (q : Spot) → (IsRowOf n slots (written_names (Visit b)) q → ⊥)
-    → after_rounds n (all_rounds n (map (start slots b.down) b.states ++ Along body ∷ [])) bits q ≡ bits q
+block-keeps : {slots : Slots} {fb fw : ℕ} {b : Block} {body : Body} → Given slots fb fw b
+    → IsBlockBody slots b body → (n : ℕ) → 0 < n → (bits : Spots) (q : Spot)
+    → (IsRowOf n slots (written_names (Visit b)) q → ⊥)
+    → after_rounds n (all_rounds n (map (start slots b.down) b.states ++ Along body ∷ [])) bits q
+    ≡ bits q
 block-keeps {slots = slots} {b = b} {body = body} g is n lt bits q out =
     ap (λ (new : Spots). new q) (after-all slots b body n bits)
     ∙ rounds-rest g is n n 0 (omega arith) (started n slots b.down b.states bits) q out
     ∙ started-rest g n lt b.down b.states (λ x e. e) bits q out
 
-pub lowered : {slots : Slots} {fb fw : ℕ} {b : Block} {steps : List (StepOf Body)} → Given slots fb fw b → length (block_inputs b) ≤ 80 → IsBlockProgram slots b steps → IsLowered slots fb fw (Visit b) steps
+pub lowered : {slots : Slots} {fb fw : ℕ} {b : Block} {steps : List (StepOf Body)}
+    → Given slots fb fw b → length (block_inputs b) ≤ 80 → IsBlockProgram slots b steps
+    → IsLowered slots fb fw (Visit b) steps
 lowered {slots = slots} {fb = fb} {fw = fw} {b = b} {steps = steps} g most form =
     let is = form.is in
     subst (IsLowered slots fb fw (Visit b)) (sym form.form) (record {
       well = are-well g is;
       can = can-compile g is most;
-      does = λ n lt wide. record { gives = block-gives g is n lt; keeps = λ bits q out. block-keeps g is n lt bits q (λ r. out (inl r)) };
-      cheap = λ n lt wide. within-ceiling is n (rounds_cost (all_rounds n (map (start slots b.down) b.states ++ Along form.body ∷ []))) (subst (λ ss. rounds_cost (all_rounds n ss) ≤ n * (4 * length form.body.graph.nodes + 3 * length b.assigns) + length b.states) form.form (form.cost n));
+      does = λ n lt wide. record {
+        gives = block-gives g is n lt;
+        keeps = λ bits q out. block-keeps g is n lt bits q (λ r. out (inl r));
+      };
+      cheap = λ n lt wide. within-ceiling is n
+          (rounds_cost (all_rounds n (map (start slots b.down) b.states ++ Along form.body ∷ [])))
+          (subst (λ ss. rounds_cost (all_rounds n ss)
+          ≤ n * (4 * length form.body.graph.nodes + 3 * length b.assigns) + length b.states)
+          form.form (form.cost n));
     })
 
-pub is-program : {slots : Slots} {b : Block} (body : Body) (steps : List (StepOf Body)) → IsBlockBody slots b body → 0 < length b.assigns → steps ≡ map (start slots b.down) b.states ++ Along body ∷ [] → IsBlockProgram slots b steps
+pub is-program : {slots : Slots} {b : Block} (body : Body) (steps : List (StepOf Body))
+    → IsBlockBody slots b body → 0 < length b.assigns
+    → steps ≡ map (start slots b.down) b.states ++ Along body ∷ [] → IsBlockProgram slots b steps
 is-program {slots = slots} {b = b} body steps is some e = record {
   body = body;
   is = is;
   form = e;
-  cost = λ n. subst (λ ss. rounds_cost (all_rounds n ss) ≤ n * (4 * length body.graph.nodes + 3 * length b.assigns) + length b.states) (sym e) (program-cost is some n);
+  cost = λ n. subst (λ ss. rounds_cost (all_rounds n ss)
+      ≤ n * (4 * length body.graph.nodes + 3 * length b.assigns) + length b.states) (sym e)
+      (program-cost is some n);
 }

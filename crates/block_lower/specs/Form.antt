@@ -1,5 +1,7 @@
--- The loop program of a serial block: the states get their starts, then the block's graph is done at each position.
-use Rattle.std.specs.Prelude.{◌≡◌, ℕ, ◌+◌, ◌*◌, ◌<◌, ◌≤◌, Bool, if◌then◌else◌, List, [], ◌∷◌, ◌++◌, map, length, slice_get, Option, Some, None}
+-- The loop program of a serial block: the states get their starts, then the block's graph is done
+-- at each position.
+use Rattle.std.specs.Prelude.{◌≡◌, ℕ, ◌+◌, ◌*◌, ◌<◌, ◌≤◌, Bool, if◌then◌else◌, List, [], ◌∷◌, ◌++◌}
+use Rattle.std.specs.Prelude.{map, length, slice_get, Option, Some, None}
 use Rattle.mig_graph.specs.declared.Lit.{Lit}
 use Rattle.mig_graph.specs.Graph.{IsGraph}
 use Rattle.mig_graph.specs.Outputs.{AreNamed}
@@ -23,7 +25,8 @@ use Rattle.loop_ir.specs.Like.{gives}
 use Rattle.loop_ir.specs.Statements.{Slots, targets_of}
 use Rattle.block_lower.specs.Inputs.{block_inputs, name_at}
 
--- a word is read and written at the position, from above where the block goes down; a bit has one row
+-- a word is read and written at the position, from above where the block goes down; a bit has one
+-- row
 abbrev pub kind_sub : Bool → Kind → Sub
 kind_sub down Word = if down then InnerDown else At_inner
 kind_sub down Bit = Zero
@@ -37,22 +40,27 @@ places_of slots down names = map (λ name. place_of down (slots name)) names
 
 -- the constant, without reads and nodes
 abbrev pub constant : Bool → Place → Body
-constant value p = let l : Lit = record { node = 0; inverted = value } in record { reads = []; graph = record { inputs = 0; nodes = [] }; outs = l ∷ []; writes = p ∷ [] }
+constant value p = let l : Lit = record { node = 0; inverted = value } in
+    record { reads = []; graph = record { inputs = 0; nodes = [] }; outs = l ∷ []; writes = p ∷ [] }
 
 -- a state's start
 abbrev pub start : Slots → Bool → State → StepOf Body
 start slots down s = Single (constant s.start (place_of down (slots s.name)))
 
--- The body reads the block's inputs at their places and writes the assigned names at theirs. For all values of the names,
--- where each input has its name's value, output j is the value of assignment j. It has no more nodes than the block has
+-- The body reads the block's inputs at their places and writes the assigned names at theirs. For
+-- all values of the names,
+-- where each input has its name's value, output j is the value of assignment j. It has no more
+-- nodes than the block has
 -- weight, and no rule makes the graph smaller
 pub record IsBlockBody (slots : Slots) (b : Block) (body : Body) : Type 0 where
   pub reads : body.reads ≡ places_of slots b.down (block_inputs b)
   pub writes : body.writes ≡ places_of slots b.down (targets_of b.assigns)
   pub as_many : length body.outs ≡ length b.assigns
   pub inputs : body.graph.inputs ≤ length (block_inputs b)
-  pub values : (env : List ℕ → Bool) (v : ℕ → Bool) → ((k : ℕ) → k < length (block_inputs b) → v k ≡ env (name_at (block_inputs b) k))
-      → (j : ℕ) (e : Equation) → slice_get b.assigns j ≡ Some e → gives body v j ≡ term_bit (with_lets env b.lets) e.value
+  pub values : (env : List ℕ → Bool) (v : ℕ → Bool)
+      → ((k : ℕ) → k < length (block_inputs b) → v k ≡ env (name_at (block_inputs b) k))
+      → (j : ℕ) (e : Equation) → slice_get b.assigns j ≡ Some e
+      → gives body v j ≡ term_bit (with_lets env b.lets) e.value
   pub nodes : length body.graph.nodes ≤ block_weight b
   pub graph : IsGraph body.graph.inputs body.graph.nodes
   pub named : AreNamed body.graph body.outs
@@ -63,4 +71,5 @@ pub record IsBlockProgram (slots : Slots) (b : Block) (steps : List (StepOf Body
   pub body : Body
   pub is : IsBlockBody slots b body
   pub form : steps ≡ map (start slots b.down) b.states ++ Along body ∷ []
-  pub cost : (n : ℕ) → rounds_cost (all_rounds n steps) ≤ n * (4 * length body.graph.nodes + 3 * length b.assigns) + length b.states
+  pub cost : (n : ℕ) → rounds_cost (all_rounds n steps)
+      ≤ n * (4 * length body.graph.nodes + 3 * length b.assigns) + length b.states

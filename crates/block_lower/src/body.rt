@@ -47,8 +47,11 @@ pub(crate) fn block_body(
     names: &NameMap,
     alloc: Global,
 ) -> Result<Body, NoMemory>
-    requires meets { (states : List State) × BlockMeets (slots_of names.now) (block_from down states lets.now assigns.now) }
-    ensures { IfOk result (λ r. (states : List State) → IsBlockBody (slots_of names.now) (block_from down states lets.now assigns.now) (block_of r)) }
+    requires meets { (states : List State) × BlockMeets (slots_of names.now)
+        (block_from down states lets.now assigns.now) }
+    ensures { IfOk result (λ r. (states : List State)
+        → IsBlockBody (slots_of names.now) (block_from down states lets.now assigns.now)
+        (block_of r)) }
 {
     let inputs = inputs_of(lets, assigns, alloc)?;
     let gates = build(lets, assigns, &inputs.numbers, alloc)?;

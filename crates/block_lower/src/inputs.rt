@@ -1,7 +1,10 @@
-//! The inputs of a block's graph: the names other than lets that it reads, in the order of the text.
+//! The inputs of a block's graph: the names other than lets that it reads, in the order of the
+//! text.
 
 ghost use Rattle.indexmap.specs.IndexMap.{get};
-ghost use Rattle.std.specs.Prelude.{◌≡◌, ◌≢◌, Some, bytes_eq, ◌+◌, ◌<◌, ◌≤◌, ◌^◌, ◌++◌, ◌∷◌, [], not, Bool, List, ℕ, map, filter, length, IfOk, OnOk, if◌then◌else◌};
+ghost use Rattle.std.specs.Prelude.{◌≡◌, ◌≢◌, Some, bytes_eq, ◌+◌, ◌<◌, ◌≤◌, ◌^◌, ◌++◌, ◌∷◌, []};
+ghost use Rattle.std.specs.Prelude.{not, Bool, List, ℕ, map, filter, length, IfOk, OnOk};
+ghost use Rattle.std.specs.Prelude.{if◌then◌else◌};
 ghost use Rattle.op_text.specs.Language.{term, equation};
 ghost use Rattle.op_text.specs.Rules.{is_among};
 ghost use Rattle.loop_ir.specs.Statements.{term_names, equation_names, targets_of};
@@ -61,7 +64,8 @@ fn find(found: &mut Vec<Name>, e: &Expr) -> Result<(), NoMemory>
 
 /// The names that these expressions read.
 fn find_all(found: &mut Vec<Name>, assigns: &[Assign]) -> Result<(), NoMemory>
-    ensures { OnOk result (found.new.items ≡ found.old.items ++ equation_names (map equation assigns.now)) }
+    ensures { OnOk result (found.new.items ≡ found.old.items
+        ++ equation_names (map equation assigns.now)) }
 {
     for a in assigns {
         find(found, &a.value)?;
@@ -84,7 +88,8 @@ fn is_let(lets: &[Assign], name: &Name) -> bool
 /// Notes the number of a name.
 fn note(numbers: &mut IndexMap<Name, u8>, name: Name, k: u8) -> Result<(), NoMemory>
     ensures same { OnOk result (get bytes_eq numbers.new name ≡ Some k) }
-    ensures others { OnOk result ((other : List ℕ) → other ≢ name → get bytes_eq numbers.new other ≡ get bytes_eq numbers.old other) }
+    ensures others { OnOk result ((other : List ℕ) → other ≢ name
+        → get bytes_eq numbers.new other ≡ get bytes_eq numbers.old other) }
 {
     match numbers.insert(name, k) {
         Ok(_) => Ok(()),
@@ -97,7 +102,8 @@ fn number(inputs: &mut Inputs, name: &Name) -> Result<(), NoMemory>
     requires numbered { AreNumbered inputs.old.order.items inputs.old.numbers }
     requires room { length inputs.old.order.items < 255 }
     ensures numbered { OnOk result (AreNumbered inputs.new.order.items inputs.new.numbers) }
-    ensures order { OnOk result (inputs.new.order.items ≡ gathered inputs.old.order.items (name.now ∷ [])) }
+    ensures order { OnOk result (inputs.new.order.items
+        ≡ gathered inputs.old.order.items (name.now ∷ [])) }
 {
     if inputs.numbers.contains_key(name) {
         return Ok(());
@@ -113,7 +119,9 @@ fn number_other(inputs: &mut Inputs, lets: &[Assign], name: &Name) -> Result<(),
     requires numbered { AreNumbered inputs.old.order.items inputs.old.numbers }
     requires room { length inputs.old.order.items < 255 }
     ensures numbered { OnOk result (AreNumbered inputs.new.order.items inputs.new.numbers) }
-    ensures order { OnOk result (inputs.new.order.items ≡ gathered inputs.old.order.items (filter (λ name. not (is_among (targets_of (map equation lets.now)) name)) (name.now ∷ []))) }
+    ensures order { OnOk result (inputs.new.order.items
+        ≡ gathered inputs.old.order.items (filter
+        (λ name. not (is_among (targets_of (map equation lets.now)) name)) (name.now ∷ []))) }
 {
     if is_let(lets, name) {
         return Ok(());
@@ -126,7 +134,9 @@ fn number_all(inputs: &mut Inputs, found: &[Name], lets: &[Assign]) -> Result<()
     requires numbered { AreNumbered inputs.old.order.items inputs.old.numbers }
     requires room { length inputs.old.order.items + length found.now < 256 }
     ensures numbered { OnOk result (AreNumbered inputs.new.order.items inputs.new.numbers) }
-    ensures order { OnOk result (inputs.new.order.items ≡ gathered inputs.old.order.items (filter (λ name. not (is_among (targets_of (map equation lets.now)) name)) found.now)) }
+    ensures order { OnOk result (inputs.new.order.items
+        ≡ gathered inputs.old.order.items (filter
+        (λ name. not (is_among (targets_of (map equation lets.now)) name)) found.now)) }
 {
     for name in found {
         number_other(inputs, lets, name)?;
@@ -140,9 +150,12 @@ pub(crate) fn inputs_of(
     assigns: &[Assign],
     alloc: Global,
 ) -> Result<Inputs, NoMemory>
-    requires room { length (equation_names (map equation lets.now) ++ equation_names (map equation assigns.now)) < 256 }
+    requires room { length (equation_names (map equation lets.now)
+        ++ equation_names (map equation assigns.now)) < 256 }
     ensures numbered { IfOk result (λ r. AreNumbered r.order.items r.numbers) }
-    ensures order { IfOk result (λ r. r.order.items ≡ gathered [] (filter (λ name. not (is_among (targets_of (map equation lets.now)) name)) (equation_names (map equation lets.now) ++ equation_names (map equation assigns.now)))) }
+    ensures order { IfOk result (λ r. r.order.items
+        ≡ gathered [] (filter (λ name. not (is_among (targets_of (map equation lets.now)) name))
+        (equation_names (map equation lets.now) ++ equation_names (map equation assigns.now)))) }
 {
     let mut found = Vec::new(alloc);
     find_all(&mut found, lets)?;

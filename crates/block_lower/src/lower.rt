@@ -32,7 +32,8 @@ fn starts(
     names: &NameMap,
     alloc: Global,
 ) -> Result<Vec<Step>, NoMemory>
-    ensures { IfOk result (λ r. map step_of r.items ≡ map (start (slots_of names.now) down) states.now) }
+    ensures { IfOk result (λ r. map step_of r.items
+        ≡ map (start (slots_of names.now) down) states.now) }
 {
     let mut steps = Vec::new(alloc);
     for state in states {
@@ -51,10 +52,14 @@ pub fn lower_block(
     names: &NameMap,
     alloc: Global,
 ) -> Result<LoopProgram, NoMemory>
-    requires meets { BlockMeets (slots_of names.now) (block_from down states.now lets.now assigns.now) }
-    requires placed { IsPlaced (slots_of names.now) names.now.free_bit names.now.free_word (Visit (block_from down states.now lets.now assigns.now)) }
-    ensures form { IfOk result (λ p. IsBlockProgram (slots_of names.now) (block_from down states.now lets.now assigns.now) (steps_of p)) }
-    ensures lowered { IfOk result (λ p. IsLowered (slots_of names.now) names.now.free_bit names.now.free_word (Visit (block_from down states.now lets.now assigns.now)) (steps_of p)) }
+    requires meets { BlockMeets (slots_of names.now)
+        (block_from down states.now lets.now assigns.now) }
+    requires placed { IsPlaced (slots_of names.now) names.now.free_bit names.now.free_word
+        (Visit (block_from down states.now lets.now assigns.now)) }
+    ensures form { IfOk result (λ p. IsBlockProgram (slots_of names.now)
+        (block_from down states.now lets.now assigns.now) (steps_of p)) }
+    ensures lowered { IfOk result (λ p. IsLowered (slots_of names.now) names.now.free_bit
+        names.now.free_word (Visit (block_from down states.now lets.now assigns.now)) (steps_of p)) }
 {
     let mut steps = starts(down, states, names, alloc)?;
     let body = block_body(down, lets, assigns, names, alloc)?;

@@ -65,7 +65,8 @@ pub(crate) fn target_places(
     assigns: &[Assign],
     alloc: Global,
 ) -> Result<Vec<Place>, NoMemory>
-    ensures { IfOk result (λ r. r.items ≡ places_of (slots_of names.now) down (targets_of (map equation assigns.now))) }
+    ensures { IfOk result (λ r. r.items ≡ places_of (slots_of names.now) down
+        (targets_of (map equation assigns.now))) }
 {
     let mut places = Vec::new(alloc);
     for a in assigns {

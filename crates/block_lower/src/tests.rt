@@ -1,8 +1,11 @@
-ghost use Rattle.std.specs.Prelude.{◌≡◌, ◌≢◌, ℕ, List, [], ◌∷◌, map, Some, None, codes, bytes_eq, true};
+ghost use Rattle.std.specs.Prelude.{◌≡◌, ◌≢◌, ℕ, List, [], ◌∷◌, map, Some, None, codes, bytes_eq};
+ghost use Rattle.std.specs.Prelude.{true};
 ghost use Rattle.indexmap.specs.IndexMap.{get};
 ghost use Rattle.op_text.specs.Language.{Negation, Conjunction, Parity, Named, term, equation};
 ghost use Rattle.op_text.specs.declared.tree.Kind.TheVariants.{Word as A_word, Bit as A_bit};
-ghost use Rattle.loop_ir.specs.declared.ir.Space.TheVariants.{Result as In_result, Source as In_source, ScratchBit as In_bit};
+ghost use Rattle.loop_ir.specs.declared.ir.Space.TheVariants.{Result as In_result};
+ghost use Rattle.loop_ir.specs.declared.ir.Space.TheVariants.{Source as In_source};
+ghost use Rattle.loop_ir.specs.declared.ir.Space.TheVariants.{ScratchBit as In_bit};
 ghost use Rattle.loop_ir.specs.Statements.{slots_of};
 
 use crate::lower_block;
@@ -47,8 +50,10 @@ fn xor(rt: &(impl Abort + AllocGlobal), a: Expr, b: Expr) -> Expr
 }
 
 fn place(rt: &impl Abort, slots: &mut IndexMap<Name, Slot>, name: Name, space: Space, kind: Kind)
-    ensures same { get bytes_eq slots.new name ≡ Some (record { space = space; which = 0; kind = kind }) }
-    ensures others { (other : List ℕ) → other ≢ name → get bytes_eq slots.new other ≡ get bytes_eq slots.old other }
+    ensures same { get bytes_eq slots.new name
+        ≡ Some (record { space = space; which = 0; kind = kind }) }
+    ensures others { (other : List ℕ) → other ≢ name
+        → get bytes_eq slots.new other ≡ get bytes_eq slots.old other }
 {
     let slot = Slot {
         space,
@@ -60,9 +65,21 @@ fn place(rt: &impl Abort, slots: &mut IndexMap<Name, Slot>, name: Name, space: S
 
 /// The word a is a source, the word r the result and the bit c scratch.
 fn example_names(rt: &(impl Abort + AllocGlobal)) -> NameMap
-    ensures a { slots_of result (codes "a") ≡ Some (record { space = In_source; which = 0; kind = A_word }) }
-    ensures r { slots_of result (codes "r") ≡ Some (record { space = In_result; which = 0; kind = A_word }) }
-    ensures c { slots_of result (codes "c") ≡ Some (record { space = In_bit; which = 0; kind = A_bit }) }
+    ensures a { slots_of result (codes "a") ≡ Some (record {
+      space = In_source;
+      which = 0;
+      kind = A_word;
+    }) }
+    ensures r { slots_of result (codes "r") ≡ Some (record {
+      space = In_result;
+      which = 0;
+      kind = A_word;
+    }) }
+    ensures c { slots_of result (codes "c") ≡ Some (record {
+      space = In_bit;
+      which = 0;
+      kind = A_bit;
+    }) }
     ensures x { slots_of result (codes "x") ≡ None }
     ensures free_bit { result.free_bit ≡ 1 }
     ensures free_word { result.free_word ≡ 0 }
@@ -97,7 +114,10 @@ fn states(rt: &(impl Abort + AllocGlobal)) -> Vec<State>
 }
 
 fn lets(rt: &(impl Abort + AllocGlobal)) -> Vec<Assign>
-    ensures { map equation result.items ≡ (record { name = codes "x"; value = Negation (Named (codes "a")) }) ∷ [] }
+    ensures { map equation result.items ≡ (record {
+      name = codes "x";
+      value = Negation (Named (codes "a"));
+    }) ∷ [] }
 {
     let mut lets = Vec::new(rt.alloc());
     let x = Assign {
@@ -109,7 +129,12 @@ fn lets(rt: &(impl Abort + AllocGlobal)) -> Vec<Assign>
 }
 
 fn assigns(rt: &(impl Abort + AllocGlobal)) -> Vec<Assign>
-    ensures { map equation result.items ≡ (record { name = codes "r"; value = Parity (Named (codes "x")) (Named (codes "c")) }) ∷ (record { name = codes "c"; value = Conjunction (Named (codes "x")) (Named (codes "c")) }) ∷ [] }
+    ensures { map equation result.items ≡ (record {
+      name = codes "r";
+      value = Parity (Named (codes "x")) (Named (codes "c"));
+    })
+        ∷ (record { name = codes "c"; value = Conjunction (Named (codes "x")) (Named (codes "c")) })
+        ∷ [] }
 {
     let mut assigns = Vec::new(rt.alloc());
     let r = Assign {
@@ -125,7 +150,8 @@ fn assigns(rt: &(impl Abort + AllocGlobal)) -> Vec<Assign>
     assigns
 }
 
-/// The negative of a, with a carry that starts at 1: one step for the state, and a body of at most four nodes.
+/// The negative of a, with a carry that starts at 1: one step for the state, and a body of at most
+/// four nodes.
 #[test]
 fn negative_is_lowered(rt: HostRuntime) {
     let (states, lets, assigns) = (states(&rt), lets(&rt), assigns(&rt));

@@ -1,5 +1,6 @@
 -- A line that says an instruction says one of a width that there is.
-use Rattle.std.proofs.Common.{◌≡◌, ℕ, ◌<◌, ◌≤◌, Bool, true, false, cond, List, Option, Some, None, refl, arith}
+use Rattle.std.proofs.Common.{◌≡◌, ℕ, ◌<◌, ◌≤◌, Bool, true, false, cond, List, Option, Some, None}
+use Rattle.std.proofs.Common.{refl, arith}
 use Rattle.std.specs.Prelude.{Result, Ok, Err}
 use Rattle.text_lex.specs.Lexical.{items_of}
 use Rattle.bbop_isa.specs.declared.instr.ScriptKind.{ScriptKind}
@@ -25,5 +26,6 @@ line_plain : (line : List ℕ) (i : Instruction) → line_of line ≡ Ok (Some i
 line_plain line i e = right_plain i ((lines_are line i).0 e).right
 
 -- a bbop of a line is built
-pub line_built : (line : List ℕ) (i : Instruction) → line_of line ≡ Ok (Some i) → is_bbop i ≡ true → (built_line (line_of line) ≡ Some (Some i)) × IsBuilt i
+pub line_built : (line : List ℕ) (i : Instruction) → line_of line ≡ Ok (Some i) → is_bbop i ≡ true
+    → (built_line (line_of line) ≡ Some (Some i)) × IsBuilt i
 line_built line i e b = (rw (e, b) refl, (b, line_plain line i e))

@@ -1,5 +1,6 @@
 -- What the readers answer. Want of memory may come in place of each.
-use Rattle.std.specs.Prelude.{◌≡◌, ℕ, ◌+◌, ◌≤◌, true, List, ◌++◌, map, length, Option, Some, None, Result, Ok, Err, codes}
+use Rattle.std.specs.Prelude.{◌≡◌, ℕ, ◌+◌, ◌≤◌, true, List, ◌++◌, map, length, Option, Some, None}
+use Rattle.std.specs.Prelude.{Result, Ok, Err, codes}
 use Rattle.std.specs.List.{AllByRecursion}
 use Rattle.bbop_isa.specs.declared.instr.Instr.{Instr}
 use Rattle.bbop_isa.specs.Forms.{Instruction, view_of, line_of}
@@ -19,7 +20,8 @@ IsBuilt i = (is_bbop i ≡ true) × IsPlain i
 -- The instruction of the line, if it has one, where the line is built.
 abbrev pub BuiltLine : List ℕ → Result (Option Instr) BuiltNo → Type 0
 BuiltLine line (Ok None) = built_line (line_of line) ≡ Some None
-BuiltLine line (Ok (Some i)) = (built_line (line_of line) ≡ Some (Some (view_of i))) × IsBuilt (view_of i)
+BuiltLine line (Ok (Some i)) = (built_line (line_of line) ≡ Some (Some (view_of i)))
+    × IsBuilt (view_of i)
 BuiltLine line (Err built.NotBuilt) = built_line (line_of line) ≡ None
 BuiltLine line (Err built.NoMemory) = Unit {0}
 
@@ -31,9 +33,12 @@ following before (Err line) = Err line
 abbrev pub AreBuilt : List Instr → Type 0
 AreBuilt script = AllByRecursion IsBuilt (map view_of script)
 
--- A line was taken: this line and others come to the same, and at most one instruction came, which is built.
+-- A line was taken: this line and others come to the same, and at most one instruction came, which
+-- is built.
 pub record Added (line : List ℕ) (old new : List Instr) : Type 0 where
-  pub said : (number : ℕ) (rest : Result (List Instruction) ℕ) → following (map view_of old) (next_line number (built_line (line_of line)) rest) ≡ following (map view_of new) rest
+  pub said : (number : ℕ) (rest : Result (List Instruction) ℕ)
+      → following (map view_of old) (next_line number (built_line (line_of line)) rest)
+      ≡ following (map view_of new) rest
   pub built : AreBuilt old → AreBuilt new
   pub few : length new ≤ length old + 1
 
@@ -50,5 +55,6 @@ RefusedAt text form.NoMemory = Unit {0}
 
 -- The bytes spell no image that is built, or there was no memory.
 abbrev pub NoImage : List ℕ → FormNo → Type 0
-NoImage bytes (form.NotYet at) = (image_of bytes ≡ Err (not_yet 7 (codes "image byte ") 0)) × (at ≡ 0)
+NoImage bytes (form.NotYet at) = (image_of bytes ≡ Err (not_yet 7 (codes "image byte ") 0))
+    × (at ≡ 0)
 NoImage bytes form.NoMemory = Unit {0}

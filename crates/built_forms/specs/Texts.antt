@@ -1,5 +1,6 @@
 -- Which texts and images the program takes today, and as what.
-use Rattle.std.specs.Prelude.{◌≡◌, ℕ, ◌+◌, ◌==◌, Bool, true, false, ◌&&◌, List, [], ◌∷◌, ◌++◌, Option, Some, None, Result, Ok, Err, codes, decimal, if◌then◌else◌}
+use Rattle.std.specs.Prelude.{◌≡◌, ℕ, ◌+◌, ◌==◌, Bool, true, false, ◌&&◌, List, [], ◌∷◌, ◌++◌}
+use Rattle.std.specs.Prelude.{Option, Some, None, Result, Ok, Err, codes, decimal, if◌then◌else◌}
 use Rattle.op_text.specs.declared.fault.OpsKind.{OpsKind}
 use Rattle.op_text.specs.declared.fault.OpsKind.TheVariants as kinds
 use Rattle.op_text.specs.declared.fault.OpsFault.{OpsFault}
@@ -25,7 +26,11 @@ kind_word kinds.TooMany = codes "too_many"
 
 -- a text of operations that breaks a rule is refused by its line and the rule
 abbrev pub ops_refusal : OpsFault → Refusal
-ops_refusal fault = record { status = 4; line = codes "ops line " ++ decimal fault.line ++ (codes " " ++ kind_word fault.kind ++ codes "\n") }
+ops_refusal fault = record {
+  status = 4;
+  line = codes "ops line " ++ decimal fault.line
+      ++ (codes " " ++ kind_word fault.kind ++ codes "\n");
+}
 
 abbrev pub unless_fault : Option OpsFault → Result (Unit {0}) Refusal
 unless_fault None = Ok tt
@@ -45,19 +50,23 @@ built_line (Err kind) = None
 built_line (Ok None) = Some None
 built_line (Ok (Some i)) = if is_bbop i then Some (Some i) else None
 
-abbrev pub onto_script : Option Instruction → Result (List Instruction) ℕ → Result (List Instruction) ℕ
+abbrev pub onto_script : Option Instruction → Result (List Instruction) ℕ
+    → Result (List Instruction) ℕ
 onto_script i (Err line) = Err line
 onto_script None (Ok script) = Ok script
 onto_script (Some i) (Ok script) = Ok (i ∷ script)
 
-abbrev pub next_line : ℕ → Option (Option Instruction) → Result (List Instruction) ℕ → Result (List Instruction) ℕ
+abbrev pub next_line : ℕ → Option (Option Instruction) → Result (List Instruction) ℕ
+    → Result (List Instruction) ℕ
 next_line number None rest = Err number
 next_line number (Some i) rest = onto_script i rest
 
--- the instructions of these lines, the first of which has this number, or the first line that is not built
+-- the instructions of these lines, the first of which has this number, or the first line that is
+-- not built
 abbrev pub built_from : ℕ → List (List ℕ) → Result (List Instruction) ℕ
 built_from number [] = Ok []
-built_from number (line ∷ lines) = next_line number (built_line (line_of line)) (built_from (number + 1) lines)
+built_from number (line ∷ lines) = next_line number (built_line (line_of line))
+    (built_from (number + 1) lines)
 
 abbrev pub at_line : {A : Type 0} → Result A ℕ → Result A Refusal
 at_line (Ok script) = Ok script
@@ -72,11 +81,16 @@ abbrev pub is_built_image : Found → Bool
 is_built_image found = found.geometry.banks == 1 && found.geometry.words == 1
 
 abbrev pub image_found : Found → Image
-image_found found = record { geometry = found.geometry; table = found.table; rows = rows_in found.geometry found.rows }
+image_found found = record {
+  geometry = found.geometry;
+  table = found.table;
+  rows = rows_in found.geometry found.rows;
+}
 
 abbrev pub built_image : {E : Type 0} → Result Found E → Result Image Refusal
 built_image (Err fault) = Err (not_yet 7 (codes "image byte ") 0)
-built_image (Ok found) = if is_built_image found then Ok (image_found found) else Err (not_yet 7 (codes "image byte ") 0)
+built_image (Ok found) = if is_built_image found then Ok (image_found found)
+    else Err (not_yet 7 (codes "image byte ") 0)
 
 -- the image of a file
 abbrev pub image_of : List ℕ → Result Image Refusal

@@ -23,7 +23,9 @@ pub fn is_built_image(image: &Image<'_>) -> bool
 pub fn read_built_image(bytes: &[u8], alloc: Global) -> Result<Image<'_>, FormNo>
     requires { length bytes.now < 2 ^ 32 }
     ensures accepted { IfOk result (λ i. image_of bytes.now ≡ Ok (image_found (found_in i))) }
-    ensures spelled { IfOk result (λ i. let rows = rows_in i.geometry i.rows.now in IsImage i.geometry i.table.pairs rows × (bytes.now ≡ image_bytes i.geometry i.table.pairs rows)) }
+    ensures spelled { IfOk result (λ i. let rows = rows_in i.geometry i.rows.now in
+        IsImage i.geometry i.table.pairs rows
+        × (bytes.now ≡ image_bytes i.geometry i.table.pairs rows)) }
     ensures limit { IfOk result (λ i. i.table.limit ≡ limit_of i.geometry) }
     ensures rows { IfOk result (λ i. length i.rows.now ≡ rows_size i.geometry) }
     ensures built { IfOk result (λ i. is_built_image (found_in i) ≡ true) }

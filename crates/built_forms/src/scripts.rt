@@ -65,7 +65,8 @@ fn add_line(script: &mut Vec<Instr>, line: &[u8], alloc: Global) -> Result<(), B
 /// The instructions of a script's lines, or the first line that is not built. Lines count from 1.
 pub fn read_script(text: &[u8], alloc: Global) -> Result<Vec<Instr>, FormNo>
     requires { length text.now < 2 ^ 32 }
-    ensures accepted { IfOk result (λ script. built_from 1 (lines_of text.now) ≡ Ok (map view_of script.items)) }
+    ensures accepted { IfOk result (λ script. built_from 1 (lines_of text.now)
+        ≡ Ok (map view_of script.items)) }
     ensures built { IfOk result (λ script. AllByRecursion IsBuilt (map view_of script.items)) }
     ensures few { IfOk result (λ script. length script.items ≤ length text.now + 1) }
     // No line but this is the first that is not built.

@@ -34,10 +34,10 @@ static SCRIPTS: [(&str, Result<usize, u32>); 19] = [
         Ok(2),
     ),
     (
-        "bbop_not y, a, 4, 64\nbbop_choose y, a, b, c, d, 1, 1",
+        "bbop_not y, a, 4, 128\nbbop_choose y, a, b, c, d, 1, 1",
         Ok(2),
     ),
-    ("bbop_and y, a, b, 4, 65", Err(1)),
+    ("bbop_and y, a, b, 4, 129", Err(1)),
     ("bbop_and y, a, b, 4, 0", Err(1)),
     ("bbop_and y, a, b, c, d, e, 4, 1", Err(1)),
     ("\nbbop_and y, 4, 1", Err(2)),
@@ -85,8 +85,10 @@ fn reads_an_instruction(rt: HostRuntime) -> Result<(), Fail> {
     Ok(())
 }
 
-/// An image of so many banks of 64 rows of so many words of 64 columns, with its objects a, b and y in rows 0, 1 and
-/// from 2 on. Each holds 4 elements, a and b of width 1. Row 0 is 0x0C, row 1 is 0x0A, and the others are 0.
+/// An image of so many banks of 64 rows of so many words of 64 columns, with its objects a, b and y
+/// in rows 0, 1 and
+/// from 2 on. Each holds 4 elements, a and b of width 1. Row 0 is 0x0C, row 1 is 0x0A, and the
+/// others are 0.
 fn image_a(banks: u8, words: u8, width: u8, alloc: Global) -> Result<Vec<u8>, AllocError> {
     let mut bytes = Vec::new(alloc);
     bytes.extend_from_slice(b"SDMI\x01\x00")?;

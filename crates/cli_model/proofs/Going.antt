@@ -1,18 +1,25 @@
 -- How commands go.
-use Rattle.std.proofs.Common.{◌≡◌, ℕ, ◌+◌, ◌≤◌, List, [], ◌∷◌, ◌++◌, Option, Some, None, refl, sym, ◌∙◌, ap, subst, inl, inr, arith, append_assoc, append-nil}
+use Rattle.std.proofs.Common.{◌≡◌, ℕ, ◌+◌, ◌≤◌, List, [], ◌∷◌, ◌++◌, Option, Some, None, refl, sym}
+use Rattle.std.proofs.Common.{◌∙◌, ap, subst, inl, inr, arith, append_assoc, append-nil}
 use Rattle.host_edge.specs.Views.{Files, FolderView, NoCountFalls, Told, Rose, RoseBy}
 use Rattle.cli_model.specs.World.{World}
-use Rattle.cli_model.specs.Steps.{Step, Load, Take, Store, Open, Use, Put, Reason, CannotRead, TooLong, Refused, NoMemory, CannotWrite, PutFailed, ChipFailed, End, Done, Stopped, Goes, Does, Fails, ReadsOnly, Stored, Used, Sent, Unstored, IsNoMemory, IsCannotWrite, IsPutFailed, IsChipFailed}
+use Rattle.cli_model.specs.Steps.{Step, Load, Take, Store, Open, Use, Put, Reason, CannotRead}
+use Rattle.cli_model.specs.Steps.{TooLong, Refused, NoMemory, CannotWrite, PutFailed, ChipFailed}
+use Rattle.cli_model.specs.Steps.{End, Done, Stopped, Goes, Does, Fails, ReadsOnly, Stored, Used}
+use Rattle.cli_model.specs.Steps.{Sent, Unstored, IsNoMemory, IsCannotWrite, IsPutFailed}
+use Rattle.cli_model.specs.Steps.{IsChipFailed}
 use Rattle.cli_model.specs.Stands.{files_after, sent_by, CountsOn, Stands, StoppedAt, Caused}
 
 -- steps, and then others
-pub goes_on : (xs ys : List Step) (end : End) (a b c : World) → Goes xs Done a b → Goes ys end b c → Goes (xs ++ ys) end a c
+pub goes_on : (xs ys : List Step) (end : End) (a b c : World) → Goes xs Done a b → Goes ys end b c
+    → Goes (xs ++ ys) end a c
 goes_on [] ys end a b c e h = subst (λ w. Goes ys end w c) e h
 goes_on (x ∷ xs) ys end a b c (inl (mid, (d, g))) h = inl (mid, (d, goes_on xs ys end mid b c g h))
 goes_on (x ∷ xs) ys end a b c (inr f) h = elim f [ ]
 
 -- an end is not undone by steps that would come after it
-pub stops : (xs ys : List Step) (reason : Reason) (a b : World) → Goes xs (Stopped reason) a b → Goes (xs ++ ys) (Stopped reason) a b
+pub stops : (xs ys : List Step) (reason : Reason) (a b : World) → Goes xs (Stopped reason) a b
+    → Goes (xs ++ ys) (Stopped reason) a b
 stops [] ys reason a b g = elim g [ ]
 stops (x ∷ xs) ys reason a b (inl (mid, (d, g))) = inl (mid, (d, stops xs ys reason mid b g))
 stops (x ∷ xs) ys reason a b (inr f) = inr f
@@ -24,12 +31,21 @@ rises : (a b c : ℕ) (n : ℕ) → RoseBy n a b → b ≤ c → RoseBy n a c
 rises a b c n r l = omega (arith, r)
 
 same_counts : (a : World) → CountsOn a a
-same_counts a = record { files = record { load_faults = λ name. omega arith; store_faults = omega arith; taken = omega arith }; sink = omega arith; chip = omega arith }
+same_counts a = record {
+  files = record {
+    load_faults = λ name. omega arith;
+    store_faults = omega arith;
+    taken = omega arith;
+  };
+  sink = omega arith;
+  chip = omega arith;
+}
 
 more_counts : (a b c : World) → CountsOn a b → CountsOn b c → CountsOn a c
 more_counts a b c p q = record {
   files = record {
-    load_faults = λ name. let x = p.files.load_faults name in let y = q.files.load_faults name in omega arith;
+    load_faults = λ name. let x = p.files.load_faults name in let y = q.files.load_faults name in
+        omega arith;
     store_faults = omega arith;
     taken = omega arith;
   };
@@ -38,22 +54,46 @@ more_counts a b c p q = record {
 }
 
 reads_count : (a b : World) → ReadsOnly a b → CountsOn a b
-reads_count a b r = record { files = r.counts; sink = rw r.sink (omega arith); chip = rw r.chip (omega arith) }
+reads_count a b r = record {
+  files = r.counts;
+  sink = rw r.sink (omega arith);
+  chip = rw r.chip (omega arith);
+}
 
 no_falls : (f : FolderView) → NoCountFalls f f
-no_falls f = record { load_faults = λ name. omega arith; store_faults = omega arith; taken = omega arith }
+no_falls f = record {
+  load_faults = λ name. omega arith;
+  store_faults = omega arith;
+  taken = omega arith;
+}
 
 used_count : (a b : World) → Used a b → CountsOn a b
-used_count a b u = record { files = rw u.files (no_falls a.files); sink = rw u.sink (omega arith); chip = u.chip }
+used_count a b u = record {
+  files = rw u.files (no_falls a.files);
+  sink = rw u.sink (omega arith);
+  chip = u.chip;
+}
 
 pub sent_count : (R : List ℕ → List ℕ → Type 0) (a b : World) → Sent R a b → CountsOn a b
-sent_count R a b s = record { files = rw s.files (no_falls a.files); sink = s.faults; chip = rw s.chip (omega arith) }
+sent_count R a b s = record {
+  files = rw s.files (no_falls a.files);
+  sink = s.faults;
+  chip = rw s.chip (omega arith);
+}
 
 stored_count : (name bytes : List ℕ) (a b : World) → Stored name bytes a b → CountsOn a b
-stored_count name bytes a b s = record { files = s.counts; sink = rw s.sink (omega arith); chip = rw s.chip (omega arith) }
+stored_count name bytes a b s = record {
+  files = s.counts;
+  sink = rw s.sink (omega arith);
+  chip = rw s.chip (omega arith);
+}
 
 unstored_count : (name : List ℕ) (a b : World) → Unstored name a b → CountsOn a b
-unstored_count name a b s = record { files = s.counts; sink = rw s.sink (omega arith); chip = rw s.chip (omega arith) }
+unstored_count name a b s = record {
+  files = s.counts;
+  sink = rw s.sink (omega arith);
+  chip = rw s.chip (omega arith);
+}
 
 pub does_count : (step : Step) (a b : World) → Does step a b → CountsOn a b
 does_count (Load name limit text refusal) a b d = reads_count a b d.1.reads
@@ -63,7 +103,8 @@ does_count Open a b d = used_count a b d
 does_count Use a b d = used_count a b d
 does_count (Put bytes) a b d = sent_count _ a b d
 
-load_fails_count : (name : List ℕ) (limit : ℕ) (text : List ℕ) (refusal : _) (reason : Reason) (a b : World) → Fails (Load name limit text refusal) reason a b → CountsOn a b
+load_fails_count : (name : List ℕ) (limit : ℕ) (text : List ℕ) (refusal : _) (reason : Reason)
+    (a b : World) → Fails (Load name limit text refusal) reason a b → CountsOn a b
 load_fails_count name limit text refusal (CannotRead told) a b f = reads_count a b f.1
 load_fails_count name limit text refusal (TooLong told) a b f = reads_count a b f.1
 load_fails_count name limit text refusal (Refused r) a b f = reads_count a b f.1.reads
@@ -72,8 +113,10 @@ load_fails_count name limit text refusal (CannotWrite told) a b f = elim f [ ]
 load_fails_count name limit text refusal PutFailed a b f = elim f [ ]
 load_fails_count name limit text refusal ChipFailed a b f = elim f [ ]
 
-pub fails_count : (step : Step) (reason : Reason) (a b : World) → Fails step reason a b → CountsOn a b
-fails_count (Load name limit text refusal) reason a b f = load_fails_count name limit text refusal reason a b f
+pub fails_count : (step : Step) (reason : Reason) (a b : World) → Fails step reason a b
+    → CountsOn a b
+fails_count (Load name limit text refusal) reason a b f =
+    load_fails_count name limit text refusal reason a b f
 fails_count Take reason a b f = reads_count a b f.1
 fails_count (Store name bytes) reason a b f = unstored_count name a b f.1
 fails_count Open reason a b (inl f) = used_count a b f.1
@@ -85,32 +128,63 @@ told_same : {A : Type 0} (a b : Option A) → b ≡ a → Told (λ x y. y ≡ x)
 told_same None b e = tt
 told_same (Some x) b e = subst (λ o. Told (λ x y. y ≡ x) (Some x) o) (sym e) refl
 
-told_then : {A : Type 0} (f g : A → A) (a b c : Option A) → Told (λ x y. y ≡ f x) a b → Told (λ x y. y ≡ g x) b c → Told (λ x y. y ≡ g (f x)) a c
+told_then : {A : Type 0} (f g : A → A) (a b c : Option A) → Told (λ x y. y ≡ f x) a b
+    → Told (λ x y. y ≡ g x) b c → Told (λ x y. y ≡ g (f x)) a c
 told_then f g None b c p q = tt
 told_then f g (Some x) None c p q = absurd p
 told_then f g (Some x) (Some y) None p q = absurd q
 told_then f g (Some x) (Some y) (Some z) p q = q ∙ ap g p
 
-told_sent : (first rest : List ℕ) (a b c : Option (List ℕ)) → Told (λ x y. y ≡ x ++ first) a b → Told (λ x y. y ≡ x ++ rest) b c → Told (λ x y. y ≡ x ++ (first ++ rest)) a c
+told_sent : (first rest : List ℕ) (a b c : Option (List ℕ)) → Told (λ x y. y ≡ x ++ first) a b
+    → Told (λ x y. y ≡ x ++ rest) b c → Told (λ x y. y ≡ x ++ (first ++ rest)) a c
 told_sent first rest None b c p q = tt
 told_sent first rest (Some x) None c p q = absurd p
 told_sent first rest (Some x) (Some y) None p q = absurd q
-told_sent first rest (Some x) (Some y) (Some z) p q = q ∙ ap (λ w. w ++ rest) p ∙ append_assoc x first rest
+told_sent first rest (Some x) (Some y) (Some z) p q = q ∙ ap (λ w. w ++ rest) p
+    ∙ append_assoc x first rest
 
 told_unsent : (a b : Option (List ℕ)) → b ≡ a → Told (λ x y. y ≡ x ++ []) a b
 told_unsent None b e = tt
-told_unsent (Some x) b e = subst (λ o. Told (λ x y. y ≡ x ++ []) (Some x) o) (sym e) (sym (append-nil x))
+told_unsent (Some x) b e = subst (λ o. Told (λ x y. y ≡ x ++ []) (Some x) o) (sym e)
+    (sym (append-nil x))
 
 -- what stands after one step
 pub one_stands : (step : Step) (a b : World) → Does step a b → Stands (step ∷ []) a b
-one_stands (Load name limit text refusal) a b d = record { files = told_same _ _ d.1.reads.files; sent = told_unsent _ _ (ap (λ s. s.sent) d.1.reads.sink); counts = does_count (Load name limit text refusal) a b d }
-one_stands Take a b d = record { files = told_same _ _ d.files; sent = told_unsent _ _ (ap (λ s. s.sent) d.sink); counts = does_count Take a b d }
-one_stands (Store name bytes) a b d = record { files = d.files; sent = told_unsent _ _ (ap (λ s. s.sent) d.sink); counts = does_count (Store name bytes) a b d }
-one_stands Open a b d = record { files = told_same _ _ (ap (λ f. f.holds) d.files); sent = told_unsent _ _ (ap (λ s. s.sent) d.sink); counts = does_count Open a b d }
-one_stands Use a b d = record { files = told_same _ _ (ap (λ f. f.holds) d.files); sent = told_unsent _ _ (ap (λ s. s.sent) d.sink); counts = does_count Use a b d }
-one_stands (Put bytes) a b d = record { files = told_same _ _ (ap (λ f. f.holds) d.files); sent = rw append-nil d.sent; counts = does_count (Put bytes) a b d }
+one_stands (Load name limit text refusal) a b d =
+    record {
+      files = told_same _ _ d.1.reads.files;
+      sent = told_unsent _ _ (ap (λ s. s.sent) d.1.reads.sink);
+      counts =
+          does_count (Load name limit text refusal) a b d;
+    }
+one_stands Take a b d = record {
+  files = told_same _ _ d.files;
+  sent = told_unsent _ _ (ap (λ s. s.sent) d.sink);
+  counts = does_count Take a b d;
+}
+one_stands (Store name bytes) a b d = record {
+  files = d.files;
+  sent = told_unsent _ _ (ap (λ s. s.sent) d.sink);
+  counts = does_count (Store name bytes) a b d;
+}
+one_stands Open a b d = record {
+  files = told_same _ _ (ap (λ f. f.holds) d.files);
+  sent = told_unsent _ _ (ap (λ s. s.sent) d.sink);
+  counts = does_count Open a b d;
+}
+one_stands Use a b d = record {
+  files = told_same _ _ (ap (λ f. f.holds) d.files);
+  sent = told_unsent _ _ (ap (λ s. s.sent) d.sink);
+  counts = does_count Use a b d;
+}
+one_stands (Put bytes) a b d = record {
+  files = told_same _ _ (ap (λ f. f.holds) d.files);
+  sent = rw append-nil d.sent;
+  counts = does_count (Put bytes) a b d;
+}
 
-files_after-cons : (step : Step) (steps : List Step) (f : Files) → files_after (step ∷ steps) f ≡ files_after steps (files_after (step ∷ []) f)
+files_after-cons : (step : Step) (steps : List Step) (f : Files)
+    → files_after (step ∷ steps) f ≡ files_after steps (files_after (step ∷ []) f)
 files_after-cons (Load name limit text refusal) steps f = refl
 files_after-cons Take steps f = refl
 files_after-cons (Store name bytes) steps f = refl
@@ -118,7 +192,8 @@ files_after-cons Open steps f = refl
 files_after-cons Use steps f = refl
 files_after-cons (Put bytes) steps f = refl
 
-sent_by-cons : (step : Step) (steps : List Step) → sent_by (step ∷ steps) ≡ sent_by (step ∷ []) ++ sent_by steps
+sent_by-cons : (step : Step) (steps : List Step)
+    → sent_by (step ∷ steps) ≡ sent_by (step ∷ []) ++ sent_by steps
 sent_by-cons (Load name limit text refusal) steps = refl
 sent_by-cons Take steps = refl
 sent_by-cons (Store name bytes) steps = refl
@@ -126,30 +201,41 @@ sent_by-cons Open steps = refl
 sent_by-cons Use steps = refl
 sent_by-cons (Put bytes) steps = rw append-nil refl
 
-told_files : (step : Step) (steps : List Step) (a b c : Option Files) → Told (λ x y. y ≡ files_after (step ∷ []) x) a b → Told (λ x y. y ≡ files_after steps x) b c → Told (λ x y. y ≡ files_after (step ∷ steps) x) a c
+told_files : (step : Step) (steps : List Step) (a b c : Option Files)
+    → Told (λ x y. y ≡ files_after (step ∷ []) x) a b → Told (λ x y. y ≡ files_after steps x) b c
+    → Told (λ x y. y ≡ files_after (step ∷ steps) x) a c
 told_files step steps None b c p q = tt
 told_files step steps (Some x) None c p q = absurd p
 told_files step steps (Some x) (Some y) None p q = absurd q
-told_files step steps (Some x) (Some y) (Some z) p q = q ∙ ap (files_after steps) p ∙ sym (files_after-cons step steps x)
+told_files step steps (Some x) (Some y) (Some z) p q = q ∙ ap (files_after steps) p
+    ∙ sym (files_after-cons step steps x)
 
-pub more_stand : (step : Step) (steps : List Step) (a b c : World) → Does step a b → Stands steps b c → Stands (step ∷ steps) a c
+pub more_stand : (step : Step) (steps : List Step) (a b c : World) → Does step a b
+    → Stands steps b c → Stands (step ∷ steps) a c
 more_stand step steps a b c d s =
     let one = one_stands step a b d in
     record {
       files = told_files step steps _ _ _ one.files s.files;
-      sent = rw (sent_by-cons step steps) (told_sent (sent_by (step ∷ [])) (sent_by steps) _ _ _ one.sent s.sent);
+      sent = rw (sent_by-cons step steps) (told_sent (sent_by (step ∷ [])) (sent_by steps) _ _ _
+          one.sent s.sent);
       counts = more_counts a b c one.counts s.counts;
     }
 
 none_stand : (a b : World) → b ≡ a → Stands [] a b
-none_stand a b e = record { files = told_same _ _ (ap (λ w. w.files.holds) e); sent = told_unsent _ _ (ap (λ w. w.sink.sent) e); counts = rw e (same_counts a) }
+none_stand a b e = record {
+  files = told_same _ _ (ap (λ w. w.files.holds) e);
+  sent = told_unsent _ _ (ap (λ w. w.sink.sent) e);
+  counts = rw e (same_counts a);
+}
 
 pub all_stand : (steps : List Step) (a b : World) → Goes steps Done a b → Stands steps a b
 all_stand [] a b e = none_stand a b e
-all_stand (step ∷ steps) a b (inl (mid, (d, g))) = more_stand step steps a mid b d (all_stand steps mid b g)
+all_stand (step ∷ steps) a b (inl (mid, (d, g))) =
+    more_stand step steps a mid b d (all_stand steps mid b g)
 all_stand (step ∷ steps) a b (inr f) = elim f [ ]
 
-pub stopped_at : (steps : List Step) (reason : Reason) (a b : World) → Goes steps (Stopped reason) a b → StoppedAt steps reason a b
+pub stopped_at : (steps : List Step) (reason : Reason) (a b : World)
+    → Goes steps (Stopped reason) a b → StoppedAt steps reason a b
 stopped_at [] reason a b g = elim g [ ]
 stopped_at (step ∷ steps) reason a b (inl (mid, (d, g))) =
     let s = stopped_at steps reason mid b g in
@@ -174,7 +260,8 @@ stopped_at (step ∷ steps) reason a b (inr f) = record {
   counts = fails_count step reason a b f;
 }
 
-load_caused : (name : List ℕ) (limit : ℕ) (text : List ℕ) (refusal : _) (reason : Reason) (a b : World) → Fails (Load name limit text refusal) reason a b → Caused reason a b
+load_caused : (name : List ℕ) (limit : ℕ) (text : List ℕ) (refusal : _) (reason : Reason)
+    (a b : World) → Fails (Load name limit text refusal) reason a b → Caused reason a b
 load_caused name limit text refusal (CannotRead told) a b f = rw f.0 f.2
 load_caused name limit text refusal (TooLong told) a b f = (limit, f.2)
 load_caused name limit text refusal (Refused r) a b f = tt
@@ -192,7 +279,8 @@ memory_caused (CannotWrite told) a b f = elim f [ ]
 memory_caused PutFailed a b f = elim f [ ]
 memory_caused ChipFailed a b f = elim f [ ]
 
-store_caused : (name : List ℕ) (reason : Reason) (a b : World) → IsCannotWrite name reason → Rose a.files.store_faults b.files.store_faults → Caused reason a b
+store_caused : (name : List ℕ) (reason : Reason) (a b : World) → IsCannotWrite name reason
+    → Rose a.files.store_faults b.files.store_faults → Caused reason a b
 store_caused name (CannotWrite told) a b f r = r
 store_caused name NoMemory a b f r = elim f [ ]
 store_caused name (CannotRead told) a b f r = elim f [ ]
@@ -201,7 +289,8 @@ store_caused name (Refused x) a b f r = elim f [ ]
 store_caused name PutFailed a b f r = elim f [ ]
 store_caused name ChipFailed a b f r = elim f [ ]
 
-put_caused : (reason : Reason) (a b : World) → IsPutFailed reason → Rose a.sink.faults b.sink.faults → Caused reason a b
+put_caused : (reason : Reason) (a b : World) → IsPutFailed reason → Rose a.sink.faults b.sink.faults
+    → Caused reason a b
 put_caused PutFailed a b f r = r
 put_caused NoMemory a b f r = elim f [ ]
 put_caused (CannotRead told) a b f r = elim f [ ]
@@ -210,7 +299,8 @@ put_caused (Refused x) a b f r = elim f [ ]
 put_caused (CannotWrite told) a b f r = elim f [ ]
 put_caused ChipFailed a b f r = elim f [ ]
 
-chip_caused : (reason : Reason) (a b : World) → IsChipFailed reason → Rose a.chip b.chip → Caused reason a b
+chip_caused : (reason : Reason) (a b : World) → IsChipFailed reason → Rose a.chip b.chip
+    → Caused reason a b
 chip_caused ChipFailed a b f r = r
 chip_caused NoMemory a b f r = elim f [ ]
 chip_caused (CannotRead told) a b f r = elim f [ ]
@@ -219,8 +309,10 @@ chip_caused (Refused x) a b f r = elim f [ ]
 chip_caused (CannotWrite told) a b f r = elim f [ ]
 chip_caused PutFailed a b f r = elim f [ ]
 
-pub fails_caused : (step : Step) (reason : Reason) (a b : World) → Fails step reason a b → Caused reason a b
-fails_caused (Load name limit text refusal) reason a b f = load_caused name limit text refusal reason a b f
+pub fails_caused : (step : Step) (reason : Reason) (a b : World) → Fails step reason a b
+    → Caused reason a b
+fails_caused (Load name limit text refusal) reason a b f =
+    load_caused name limit text refusal reason a b f
 fails_caused Take reason a b f = memory_caused reason a b f.0
 fails_caused (Store name bytes) reason a b f = store_caused name reason a b f.0 f.1.rose
 fails_caused Open reason a b (inl f) = memory_caused reason a b f.0
@@ -229,7 +321,8 @@ fails_caused Use reason a b f = chip_caused reason a b f.0 f.2
 fails_caused (Put bytes) reason a b f = put_caused reason a b f.0 f.2
 
 -- a count that rose later rose from an earlier moment on too
-pub caused_before : (reason : Reason) (a b c : World) → CountsOn a b → Caused reason b c → Caused reason a c
+pub caused_before : (reason : Reason) (a b c : World) → CountsOn a b → Caused reason b c
+    → Caused reason a c
 caused_before (CannotRead name) a b c p q = within _ _ _ 1 (p.files.load_faults name) q
 caused_before (TooLong name) a b c p (limit, q) = (limit, within _ _ _ (limit + 1) p.files.taken q)
 caused_before (Refused r) a b c p q = tt
@@ -238,7 +331,9 @@ caused_before (CannotWrite name) a b c p q = within _ _ _ 1 p.files.store_faults
 caused_before PutFailed a b c p q = within _ _ _ 1 p.sink q
 caused_before ChipFailed a b c p q = within _ _ _ 1 p.chip q
 
-pub caused : (steps : List Step) (reason : Reason) (a b : World) → Goes steps (Stopped reason) a b → Caused reason a b
+pub caused : (steps : List Step) (reason : Reason) (a b : World) → Goes steps (Stopped reason) a b
+    → Caused reason a b
 caused [] reason a b g = elim g [ ]
-caused (step ∷ steps) reason a b (inl (mid, (d, g))) = caused_before reason a mid b (does_count step a mid d) (caused steps reason mid b g)
+caused (step ∷ steps) reason a b (inl (mid, (d, g))) =
+    caused_before reason a mid b (does_count step a mid d) (caused steps reason mid b g)
 caused (step ∷ steps) reason a b (inr f) = fails_caused step reason a b f

@@ -2,7 +2,9 @@
 use Rattle.std.specs.Prelude.{◌≡◌, ℕ, ◌+◌, ◌≤◌, List, [], ◌∷◌, ◌++◌}
 use Rattle.host_edge.specs.Views.{Files, NoCountFalls, Told, Rose, RoseBy}
 use Rattle.cli_model.specs.World.{World, with_file}
-use Rattle.cli_model.specs.Steps.{Step, Load, Take, Store, Open, Use, Put, Reason, CannotRead, TooLong, Refused, NoMemory, CannotWrite, PutFailed, ChipFailed, Fails}
+use Rattle.cli_model.specs.Steps.{Step, Load, Take, Store, Open, Use, Put, Reason, CannotRead}
+use Rattle.cli_model.specs.Steps.{TooLong, Refused, NoMemory, CannotWrite, PutFailed, ChipFailed}
+use Rattle.cli_model.specs.Steps.{Fails}
 
 -- the files after the stores of these steps
 abbrev pub files_after : List Step → Files → Files
@@ -32,7 +34,8 @@ pub record CountsOn (old new : World) : Type 0 where
 
 -- all of these steps were done
 pub record Stands (steps : List Step) (old new : World) : Type 0 where
-  pub files : Told (λ before after. after ≡ files_after steps before) old.files.holds new.files.holds
+  pub files : Told (λ before after. after ≡ files_after steps before) old.files.holds
+      new.files.holds
   pub sent : Told (λ before after. after ≡ before ++ sent_by steps) old.sink.sent new.sink.sent
   pub counts : CountsOn old new
 

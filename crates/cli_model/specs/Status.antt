@@ -2,7 +2,8 @@
 use Rattle.std.specs.Prelude.{◌≡◌, ℕ, List, [], ◌++◌, codes}
 use Rattle.host_edge.specs.Views.{AppendsPart}
 use Rattle.cli_model.specs.World.{World}
-use Rattle.cli_model.specs.Steps.{Step, Reason, CannotRead, TooLong, Refused, NoMemory, CannotWrite, PutFailed, ChipFailed, End, Done, Stopped, Sent, Goes}
+use Rattle.cli_model.specs.Steps.{Step, Reason, CannotRead, TooLong, Refused, NoMemory, CannotWrite}
+use Rattle.cli_model.specs.Steps.{PutFailed, ChipFailed, End, Done, Stopped, Sent, Goes}
 
 abbrev pub reason_status : Reason → ℕ
 reason_status (CannotRead name) = 2

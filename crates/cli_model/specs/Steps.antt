@@ -1,6 +1,8 @@
 -- The steps of a command, and how it goes through them.
-use Rattle.std.specs.Prelude.{◌≡◌, ◌⊎◌, ℕ, ◌+◌, ◌≤◌, List, [], ◌∷◌, ◌++◌, length, Option, Some, None, Result, Ok, Err}
-use Rattle.host_edge.specs.Views.{Told, Rose, RoseBy, NoCountFalls, HasBytes, IsLonger, KeepsOthers, AppendsPart}
+use Rattle.std.specs.Prelude.{◌≡◌, ◌⊎◌, ℕ, ◌+◌, ◌≤◌, List, [], ◌∷◌, ◌++◌, length, Option, Some}
+use Rattle.std.specs.Prelude.{None, Result, Ok, Err}
+use Rattle.host_edge.specs.Views.{Told, Rose, RoseBy, NoCountFalls, HasBytes, IsLonger, KeepsOthers}
+use Rattle.host_edge.specs.Views.{AppendsPart}
 use Rattle.cli_model.specs.World.{World, with_file}
 
 -- why a text is not accepted: the status, and the line that tells it
@@ -10,7 +12,8 @@ pub record Refusal : Type 0 where
 
 -- one step
 pub data Step : Type 0 where
-  -- the file of this name, of at most so many bytes, is loaded and holds this text, which may be refused
+  -- the file of this name, of at most so many bytes, is loaded and holds this text, which may be
+  -- refused
   Load : (name : List ℕ) (limit : ℕ) (text : List ℕ) → Option Refusal → Step
   -- memory is taken
   Take : Step
@@ -24,7 +27,8 @@ pub data Step : Type 0 where
   Put : List ℕ → Step
 
 -- a file is loaded; what its text is read as goes on, and a text that is refused ends the command
-abbrev pub loading : {A : Type 0} → (name : List ℕ) (limit : ℕ) (text : List ℕ) → Result A Refusal → (A → List Step) → List Step
+abbrev pub loading : {A : Type 0} → (name : List ℕ) (limit : ℕ) (text : List ℕ) → Result A Refusal
+    → (A → List Step) → List Step
 loading name limit text (Ok value) rest = Load name limit text None ∷ rest value
 loading name limit text (Err refusal) rest = Load name limit text (Some refusal) ∷ []
 
@@ -58,7 +62,8 @@ pub record Loaded (name : List ℕ) (limit : ℕ) (text : List ℕ) (old new : W
 
 -- the file was set to these bytes, and all else is as it was
 pub record Stored (name bytes : List ℕ) (old new : World) : Type 0 where
-  pub files : Told (λ before after. after ≡ with_file name bytes before) old.files.holds new.files.holds
+  pub files : Told (λ before after. after ≡ with_file name bytes before) old.files.holds
+      new.files.holds
   pub counts : NoCountFalls old.files new.files
   pub sink : new.sink ≡ old.sink
   pub chip : new.chip ≡ old.chip
@@ -87,9 +92,12 @@ Does (Put bytes) old new = Sent (λ before after. after ≡ before ++ bytes) old
 
 -- the load of a file failed for this reason
 abbrev pub LoadFails : List ℕ → ℕ → List ℕ → Option Refusal → Reason → World → World → Type 0
-LoadFails name limit text refusal (CannotRead told) old new = (told ≡ name) × ReadsOnly old new × Rose (old.files.load_faults name) (new.files.load_faults name)
-LoadFails name limit text refusal (TooLong told) old new = (told ≡ name) × ReadsOnly old new × RoseBy (limit + 1) old.files.taken new.files.taken × IsLonger limit old.files name
-LoadFails name limit text refusal (Refused reason) old new = (refusal ≡ Some reason) × Loaded name limit text old new
+LoadFails name limit text refusal (CannotRead told) old new = (told ≡ name) × ReadsOnly old new
+    × Rose (old.files.load_faults name) (new.files.load_faults name)
+LoadFails name limit text refusal (TooLong told) old new = (told ≡ name) × ReadsOnly old new
+    × RoseBy (limit + 1) old.files.taken new.files.taken × IsLonger limit old.files name
+LoadFails name limit text refusal (Refused reason) old new = (refusal ≡ Some reason)
+    × Loaded name limit text old new
 LoadFails name limit text refusal NoMemory old new = ReadsOnly old new
 LoadFails name limit text refusal (CannotWrite told) old new = ⊥
 LoadFails name limit text refusal PutFailed old new = ⊥
@@ -141,12 +149,15 @@ IsChipFailed PutFailed = ⊥
 
 -- the step failed for this reason
 abbrev pub Fails : Step → Reason → World → World → Type 0
-Fails (Load name limit text refusal) reason old new = LoadFails name limit text refusal reason old new
+Fails (Load name limit text refusal) reason old new =
+    LoadFails name limit text refusal reason old new
 Fails Take reason old new = IsNoMemory reason × ReadsOnly old new
 Fails (Store name bytes) reason old new = IsCannotWrite name reason × Unstored name old new
-Fails Open reason old new = (IsNoMemory reason × Used old new) ⊎ (IsChipFailed reason × Used old new × Rose old.chip new.chip)
+Fails Open reason old new = (IsNoMemory reason × Used old new)
+    ⊎ (IsChipFailed reason × Used old new × Rose old.chip new.chip)
 Fails Use reason old new = IsChipFailed reason × Used old new × Rose old.chip new.chip
-Fails (Put bytes) reason old new = IsPutFailed reason × Sent (AppendsPart bytes) old new × Rose old.sink.faults new.sink.faults
+Fails (Put bytes) reason old new = IsPutFailed reason × Sent (AppendsPart bytes) old new
+    × Rose old.sink.faults new.sink.faults
 
 abbrev pub FailsBy : Step → End → World → World → Type 0
 FailsBy step Done old new = ⊥
@@ -156,7 +167,9 @@ abbrev pub EndsHere : End → World → World → Type 0
 EndsHere Done old new = new ≡ old
 EndsHere (Stopped reason) old new = ⊥
 
--- A command goes through its steps in order: each is done, until all are, or until one fails, which ends it
+-- A command goes through its steps in order: each is done, until all are, or until one fails, which
+-- ends it
 abbrev pub Goes : List Step → End → World → World → Type 0
 Goes [] end old new = EndsHere end old new
-Goes (step ∷ steps) end old new = ((mid : World) × (Does step old mid × Goes steps end mid new)) ⊎ FailsBy step end old new
+Goes (step ∷ steps) end old new = ((mid : World) × (Does step old mid × Goes steps end mid new))
+    ⊎ FailsBy step end old new

@@ -1,5 +1,6 @@
 -- A bank as it is kept: a row for each cell
-use Rattle.std.specs.Prelude.{◌≡◌, ℕ, ◌<◌, ◌==◌, Bool, true, false, not, List, [], slice_index_or, length}
+use Rattle.std.specs.Prelude.{◌≡◌, ℕ, ◌<◌, ◌==◌, Bool, true, false, not, List, [], slice_index_or}
+use Rattle.std.specs.Prelude.{length}
 use Rattle.dram_chip.specs.declared.cells.Cells.{Cells}
 use Rattle.dram_model.specs.declared.address.Cell.{Cell}
 use Rattle.dram_model.specs.declared.address.Cell.TheVariants.{T, Dcc, C, D}
@@ -32,5 +33,7 @@ pub record IsShaped (cells : Cells) : Type 0 where
   pub t : length cells.t.items ≡ 4
   pub dcc : length cells.dcc.items ≡ 2
   pub c : length cells.c.items ≡ 2
-  pub even : (cell : Cell) → is_cell (rows_of cells) cell ≡ true → length (row_of cells cell) ≡ columns_of cells
-  pub constant : (k c : ℕ) → k < 2 → c < columns_of cells → bit_in (row_of cells (C k)) c ≡ not (k == 0)
+  pub even : (cell : Cell) → is_cell (rows_of cells) cell ≡ true
+      → length (row_of cells cell) ≡ columns_of cells
+  pub constant : (k c : ℕ) → k < 2 → c < columns_of cells
+      → bit_in (row_of cells (C k)) c ≡ not (k == 0)

@@ -1,8 +1,10 @@
 //! One bank, and what a row command does to it.
 
-ghost use Rattle.std.specs.Prelude.{◌≡◌, ℕ, ◌<◌, ◌*◌, length, true, false, IfOk, OnOk, replicate, ◌∷◌, ◌++◌, []};
+ghost use Rattle.std.specs.Prelude.{◌≡◌, ℕ, ◌<◌, ◌*◌, length, true, false, IfOk, OnOk, replicate};
+ghost use Rattle.std.specs.Prelude.{◌∷◌, ◌++◌, []};
 ghost use Rattle.bit_rows.specs.Bits.{bit_in, bits_of_words};
-ghost use Rattle.dram_model.specs.Column.{is_first, is_in_range, sense as sense_of, settle as settle_of, step, blank, drive, plain};
+ghost use Rattle.dram_model.specs.Column.{is_first, is_in_range, sense as sense_of};
+ghost use Rattle.dram_model.specs.Column.{settle as settle_of, step, blank, drive, plain};
 ghost use Rattle.dram_model.specs.declared.address.Cell.{Cell};
 ghost use Rattle.dram_model.specs.declared.address.Command.{Command};
 ghost use Rattle.dram_chip.specs.Rows.{row_of, column_at, IsShaped, rows_of, columns_of};
@@ -20,14 +22,16 @@ pub struct Bank {
     pub sensed: Row,
 }
 
-/// Sets `sensed` to what an activation of `x` senses in each column: the row of its one line, or the majority of three.
+/// Sets `sensed` to what an activation of `x` senses in each column: the row of its one line, or
+/// the majority of three.
 fn sense(cells: &Cells, x: Addr, sensed: &mut Row)
     requires shaped { IsShaped cells.now }
     requires fits { length sensed.old ≡ columns_of cells.now }
     requires range { is_in_range (rows_of cells.now) x ≡ true }
     requires first { is_first x ≡ true }
     ensures length { length sensed.new ≡ length sensed.old }
-    ensures bits { (c : ℕ) → c < columns_of cells.now → bit_in sensed.new c ≡ sense_of x (column_at cells.now c) }
+    ensures bits { (c : ℕ) → c < columns_of cells.now
+        → bit_in sensed.new c ≡ sense_of x (column_at cells.now c) }
 {
     let raised = lines(x);
     match raised.as_slice() {
@@ -45,7 +49,8 @@ fn settle(cells: &mut Cells, x: Addr, sensed: &Row)
     ensures shaped { IsShaped cells.new }
     ensures rows { rows_of cells.new ≡ rows_of cells.old }
     ensures columns { columns_of cells.new ≡ columns_of cells.old }
-    ensures settled { (c : ℕ) → c < columns_of cells.old → column_at cells.new c ≡ settle_of x (bit_in sensed.now c) (column_at cells.old c) }
+    ensures settled { (c : ℕ) → c < columns_of cells.old
+        → column_at cells.new c ≡ settle_of x (bit_in sensed.now c) (column_at cells.old c) }
 {
     let raised = lines(x);
     for line in raised.as_slice() {
@@ -76,7 +81,8 @@ fn zero_rows(n: u16, columns: u32, alloc: Global) -> Result<Vec<Row>, NoMemory>
 
 /// C0 and C1: a row of zeros and a row of ones.
 fn constant_rows(columns: u32, alloc: Global) -> Result<Vec<Row>, NoMemory>
-    ensures { IfOk result (λ rows. rows.items ≡ replicate columns false ∷ replicate columns true ∷ []) }
+    ensures { IfOk result (λ rows. rows.items ≡ replicate columns false ∷ replicate columns true
+        ∷ []) }
 {
     let zeros = Row::zeros(columns, alloc)?;
     let mut ones = Row::zeros(columns, alloc)?;
@@ -114,8 +120,10 @@ impl Bank {
         ensures ready { IsReady self.new }
         ensures rows { rows_of self.new.cells ≡ rows_of self.old.cells }
         ensures columns { columns_of self.new.cells ≡ columns_of self.old.cells }
-        ensures stepped { (c : ℕ) → c < columns_of self.old.cells → column_at self.new.cells c ≡ step (Command.Ap x) (column_at self.old.cells c) }
-        ensures sensed { (c : ℕ) → c < columns_of self.old.cells → bit_in self.new.sensed c ≡ sense_of x (column_at self.old.cells c) }
+        ensures stepped { (c : ℕ) → c < columns_of self.old.cells
+            → column_at self.new.cells c ≡ step (Command.Ap x) (column_at self.old.cells c) }
+        ensures sensed { (c : ℕ) → c < columns_of self.old.cells
+            → bit_in self.new.sensed c ≡ sense_of x (column_at self.old.cells c) }
     {
         sense(&self.cells, x, &mut self.sensed);
         settle(&mut self.cells, x, &self.sensed);
@@ -130,7 +138,8 @@ impl Bank {
         ensures ready { IsReady self.new }
         ensures rows { rows_of self.new.cells ≡ rows_of self.old.cells }
         ensures columns { columns_of self.new.cells ≡ columns_of self.old.cells }
-        ensures stepped { (c : ℕ) → c < columns_of self.old.cells → column_at self.new.cells c ≡ step (Command.Aap x y) (column_at self.old.cells c) }
+        ensures stepped { (c : ℕ) → c < columns_of self.old.cells
+            → column_at self.new.cells c ≡ step (Command.Aap x y) (column_at self.old.cells c) }
     {
         self.ap(x);
         settle(&mut self.cells, y, &self.sensed);
@@ -144,7 +153,9 @@ impl Bank {
         ensures ready { IsReady self.new }
         ensures rows { rows_of self.new.cells ≡ rows_of self.old.cells }
         ensures columns { columns_of self.new.cells ≡ columns_of self.old.cells }
-        ensures written { (c : ℕ) → c < columns_of self.old.cells → column_at self.new.cells c ≡ drive (plain (Cell.D row)) (bit_in (bits_of_words words.now) c) (column_at self.old.cells c) }
+        ensures written { (c : ℕ) → c < columns_of self.old.cells
+            → column_at self.new.cells c ≡ drive (plain (Cell.D row))
+            (bit_in (bits_of_words words.now) c) (column_at self.old.cells c) }
     {
         self.sensed.set_words(words);
         self.cells.store(

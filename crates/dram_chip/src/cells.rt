@@ -21,7 +21,8 @@ pub struct Cells {
 pub fn put(row: &mut Row, inverted: bool, src: &Row)
     requires { length src.now ≡ length row.old }
     ensures length { length row.new ≡ length row.old }
-    ensures bits { (k : ℕ) → k < length row.old → bit_in row.new k ≡ flip_if inverted (bit_in src.now k) }
+    ensures bits { (k : ℕ) → k < length row.old
+        → bit_in row.new k ≡ flip_if inverted (bit_in src.now k) }
 {
     if inverted {
         row.copy_not_from(src);
@@ -53,7 +54,8 @@ impl Cells {
         ensures shaped { IsShaped self.new }
         ensures rows { rows_of self.new ≡ rows_of self.old }
         ensures columns { columns_of self.new ≡ columns_of self.old }
-        ensures driven { (c : ℕ) → c < columns_of self.old → column_at self.new c ≡ drive line (bit_in src.now c) (column_at self.old c) }
+        ensures driven { (c : ℕ) → c < columns_of self.old
+            → column_at self.new c ≡ drive line (bit_in src.now c) (column_at self.old c) }
     {
         match line.cell {
             Cell::T(k) => put(&mut self.t[k as usize], line.inverted, src),

@@ -10,7 +10,8 @@ use bit_rows::NoMemory;
 use dram_model::{Addr, BeginNo, ChipFault, Counters, Dram, Geometry};
 use std::alloc::Global;
 
-/// A chip that never fails: its count of faults is 0. It keeps every shape that passes `Geometry::check`, and tells no
+/// A chip that never fails: its count of faults is 0. It keeps every shape that passes
+/// `Geometry::check`, and tells no
 /// log. `begin` takes the memory of its rows, and no other call takes any.
 #[derive(Drop)]
 pub struct Chip {

@@ -1,5 +1,7 @@
--- What a folder of the file system and a sink over a writer show, and which count a name's faults go to.
-use Rattle.std.specs.Prelude.{ℕ, Bool, ◌==◌, List, Option, None, unwrap_or, slice_index, take, position}
+-- What a folder of the file system and a sink over a writer show, and which count a name's faults
+-- go to.
+use Rattle.std.specs.Prelude.{ℕ, Bool, ◌==◌, List, Option, None, unwrap_or, slice_index, take}
+use Rattle.std.specs.Prelude.{position}
 use Rattle.std.specs.Str.{bytes_eq}
 use denote.Ref.{Bor}
 use Rattle.host_edge.specs.Views.{FolderView, SinkView}
@@ -10,7 +12,8 @@ use Rattle.host_edge.specs.declared.std_sink.StdSink.{StdSink}
 abbrev pub place_of : List (Bor (List ℕ)) → List ℕ → ℕ
 place_of words name = unwrap_or (position (λ word. bytes_eq word.now name) (take 8 words)) 8
 
--- whether a load fault of the first name counts for the second: equal words share the count of the first one, and
+-- whether a load fault of the first name counts for the second: equal words share the count of the
+-- first one, and
 -- all names that are none of the eight share one
 abbrev pub counts_together : List (Bor (List ℕ)) → List ℕ → List ℕ → Bool
 counts_together words name q = place_of words q == place_of words name

@@ -15,9 +15,11 @@ files_of files name = option_map (λ kept. kept.bytes.items) (get_by_text files 
 
 -- the load faults of this name, or those of all names without a file
 abbrev pub faults_of : {Y : Type 0} → BTreeMap (String Y) Kept → ℕ → List ℕ → ℕ
-faults_of files others name = option_map_or (λ kept. kept.load_faults) (get_by_text files name) others
+faults_of files others name = option_map_or (λ kept. kept.load_faults) (get_by_text files name)
+    others
 
--- whether a load fault of the first name counts for the second: a name with a file has a count of its own, and
+-- whether a load fault of the first name counts for the second: a name with a file has a count of
+-- its own, and
 -- all names without a file share one
 abbrev pub counts_for : Files → List ℕ → List ℕ → Bool
 counts_for files name q = option_map_or (λ _. bytes_eq q name) (files name) (is_none (files q))

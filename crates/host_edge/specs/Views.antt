@@ -1,11 +1,13 @@
 -- What a folder and a sink show at a moment, and how two such moments are related.
-use Rattle.std.specs.Prelude.{◌≡◌, ◌≢◌, ℕ, ◌+◌, ◌-◌, ◌^◌, ◌<◌, ◌≤◌, Bool, if◌then◌else◌, min, List, ◌++◌, length, Option, Some, None, IfSome}
+use Rattle.std.specs.Prelude.{◌≡◌, ◌≢◌, ℕ, ◌+◌, ◌-◌, ◌^◌, ◌<◌, ◌≤◌, Bool, if◌then◌else◌, min, List}
+use Rattle.std.specs.Prelude.{◌++◌, length, Option, Some, None, IfSome}
 
 -- the files that there are, by the bytes of their names
 abbrev pub Files : Type 0
 Files = List ℕ → Option (List ℕ)
 
--- what a folder shows: its files, where it tells them; the faults of loads of each name; the faults of stores; the
+-- what a folder shows: its files, where it tells them; the faults of loads of each name; the faults
+-- of stores; the
 -- bytes that its loads took
 pub record FolderView : Type 0 where
   pub holds : Option Files
@@ -48,7 +50,8 @@ SameLoadFaults old new = (name : List ℕ) → new.load_faults name ≡ old.load
 
 -- one load fault was counted, for these names and for no others
 abbrev pub CountsFault : (List ℕ → Bool) → (List ℕ → ℕ) → (List ℕ → ℕ) → Type 0
-CountsFault counts_for old new = (name : List ℕ) → new name ≡ (if counts_for name then raised 1 (old name) else old name)
+CountsFault counts_for old new = (name : List ℕ)
+    → new name ≡ (if counts_for name then raised 1 (old name) else old name)
 
 -- a folder that counted nothing yet
 pub record HasNoFaults (folder : FolderView) : Type 0 where
@@ -62,7 +65,8 @@ HasBytes folder name bytes = IfSome folder.holds (λ files. files name ≡ Some 
 
 -- the file of this name, where the folder tells it, has more bytes than the limit
 abbrev pub IsLonger : ℕ → FolderView → List ℕ → Type 0
-IsLonger limit folder name = IfSome folder.holds (λ files. (bytes : List ℕ) × (files name ≡ Some bytes) × (limit < length bytes))
+IsLonger limit folder name = IfSome folder.holds (λ files. (bytes : List ℕ)
+    × (files name ≡ Some bytes) × (limit < length bytes))
 
 -- every other file is as it was
 abbrev pub KeepsOthers : List ℕ → Files → Files → Type 0
@@ -81,14 +85,16 @@ abbrev pub AppendsPart : List ℕ → List ℕ → List ℕ → Type 0
 AppendsPart bytes old new = (part : List ℕ) × (IsPrefix part bytes × (new ≡ old ++ part))
 
 -- two steps make one
-pub Told-trans : {A : Type 0} {R S U : A → A → Type 0} (a b c : Option A) → ((x y z : A) → R x y → S y z → U x z) → Told R a b → Told S b c → Told U a c
+pub Told-trans : {A : Type 0} {R S U : A → A → Type 0} (a b c : Option A)
+    → ((x y z : A) → R x y → S y z → U x z) → Told R a b → Told S b c → Told U a c
 Told-trans None b c join r s = tt
 Told-trans (Some x) None c join r s = absurd r
 Told-trans (Some x) (Some y) None join r s = absurd s
 Told-trans (Some x) (Some y) (Some z) join r s = join x y z r s
 
 -- what follows for the values follows where they are told
-pub Told-map : {A : Type 0} {R S : A → A → Type 0} (a b : Option A) → ((x y : A) → R x y → S x y) → Told R a b → Told S a b
+pub Told-map : {A : Type 0} {R S : A → A → Type 0} (a b : Option A) → ((x y : A) → R x y → S x y)
+    → Told R a b → Told S a b
 Told-map None b to r = tt
 Told-map (Some x) None to r = absurd r
 Told-map (Some x) (Some y) to r = to x y r

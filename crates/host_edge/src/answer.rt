@@ -16,7 +16,3 @@ pub enum LoadNo {
 #[derive(Clone, Copy, Debug, PartialEq, Eq, Error)]
 #[error("a call to the outside failed")]
 pub struct Failed;
-
-/// There was no memory.
-#[derive(Clone, Copy, Debug, PartialEq, Eq)]
-pub struct NoMemory;

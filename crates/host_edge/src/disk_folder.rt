@@ -1,9 +1,12 @@
 //! The files of the file system, which tells no content.
 
-ghost use Rattle.std.specs.Prelude.{◌≡◌, ◌≢◌, ℕ, ◌+◌, ◌<◌, ◌≤◌, length, Some, None, IfOk, OnOk, OnErr, IsErrOf, slice_index, take, position, IfSome};
+ghost use Rattle.std.specs.Prelude.{◌≡◌, ◌≢◌, ℕ, ◌+◌, ◌<◌, ◌≤◌, length, Some, None, IfOk, OnOk};
+ghost use Rattle.std.specs.Prelude.{OnErr, IsErrOf, slice_index, take, position, IfSome};
 ghost use Rattle.std.specs.Str.{bytes_eq};
 ghost use Rattle.host_edge.specs.Disk.{place_of, counts_together, words_of, disk_view};
-ghost use Rattle.host_edge.specs.Views.{FolderView, Told, Rose, RoseBy, NoCountFalls, SameLoadFaults, CountsFault, HasBytes, IsLonger, KeepsOthers, HasNoFaults, raised};
+ghost use Rattle.host_edge.specs.Views.{FolderView, Told, Rose, RoseBy, NoCountFalls};
+ghost use Rattle.host_edge.specs.Views.{SameLoadFaults, CountsFault, HasBytes, IsLonger};
+ghost use Rattle.host_edge.specs.Views.{KeepsOthers, HasNoFaults, raised};
 
 use crate::answer::{Failed, LoadNo};
 use crate::count::raised;
@@ -12,7 +15,8 @@ use crate::stream::{read_whole, write_whole};
 use std::alloc::Global;
 use std::fs;
 
-/// Files of the file system. Each of the first eight words of the command line has a count of load faults of
+/// Files of the file system. Each of the first eight words of the command line has a count of load
+/// faults of
 /// its own, which equal words share, and all other names have one.
 #[derive(Drop)]
 pub struct DiskFolder<'a> {
@@ -65,8 +69,10 @@ fn place(words: &[&str], name: &str) -> usize
 
 /// Counts a fault of a load of this name.
 fn count_fault(counts: &mut [u64; 9], words: &[&str], name: &str)
-    ensures raised { slice_index counts.new (place_of words.now name.now) ≡ raised 1 (slice_index counts.old (place_of words.now name.now)) }
-    ensures others { (at : ℕ) → at ≢ place_of words.now name.now → slice_index counts.new at ≡ slice_index counts.old at }
+    ensures raised { slice_index counts.new (place_of words.now name.now)
+        ≡ raised 1 (slice_index counts.old (place_of words.now name.now)) }
+    ensures others { (at : ℕ) → at ≢ place_of words.now name.now
+        → slice_index counts.new at ≡ slice_index counts.old at }
     ensures none_falls { (at : ℕ) → slice_index counts.old at ≤ slice_index counts.new at }
 {
     let at = place(words, name);
@@ -81,14 +87,23 @@ impl Folder for DiskFolder<'_> {
         ensures counts { NoCountFalls (disk_view self.old) (disk_view self.new) }
         ensures bytes { IfOk result (λ bytes. HasBytes (disk_view self.old) name.now bytes.items) }
         ensures within { IfOk result (λ bytes. length bytes.items ≤ limit) }
-        ensures failed { IsErrOf result LoadNo.Failed → Rose ((disk_view self.old).load_faults name.now) ((disk_view self.new).load_faults name.now) }
-        ensures too_long { IsErrOf result LoadNo.TooLong → RoseBy (limit + 1) (disk_view self.old).taken (disk_view self.new).taken }
-        ensures longer { IsErrOf result LoadNo.TooLong → IsLonger limit (disk_view self.old) name.now }
-        ensures taken { IfOk result (λ bytes. (disk_view self.new).taken ≡ raised (length bytes.items) (disk_view self.old).taken) }
-        ensures no_fault { ¬ IsErrOf result LoadNo.Failed → SameLoadFaults (disk_view self.old) (disk_view self.new) }
-        ensures fault { IsErrOf result LoadNo.Failed → CountsFault (counts_together (words_of self.old) name.now) (disk_view self.old).load_faults (disk_view self.new).load_faults }
+        ensures failed { IsErrOf result LoadNo.Failed
+            → Rose ((disk_view self.old).load_faults name.now)
+            ((disk_view self.new).load_faults name.now) }
+        ensures too_long { IsErrOf result LoadNo.TooLong
+            → RoseBy (limit + 1) (disk_view self.old).taken (disk_view self.new).taken }
+        ensures longer { IsErrOf result LoadNo.TooLong
+            → IsLonger limit (disk_view self.old) name.now }
+        ensures taken { IfOk result (λ bytes. (disk_view self.new).taken
+            ≡ raised (length bytes.items) (disk_view self.old).taken) }
+        ensures no_fault { ¬ IsErrOf result LoadNo.Failed
+            → SameLoadFaults (disk_view self.old) (disk_view self.new) }
+        ensures fault { IsErrOf result LoadNo.Failed
+            → CountsFault (counts_together (words_of self.old) name.now)
+            (disk_view self.old).load_faults (disk_view self.new).load_faults }
         ensures words { words_of self.new ≡ words_of self.old }
-        ensures no_store_fault { (disk_view self.new).store_faults ≡ (disk_view self.old).store_faults }
+        ensures no_store_fault { (disk_view self.new).store_faults
+            ≡ (disk_view self.old).store_faults }
     {
         let (taken, answer) = match fs::open(&self.rt, name) {
             Ok(mut file) => read_whole(&mut file, limit, alloc),
@@ -102,11 +117,14 @@ impl Folder for DiskFolder<'_> {
     }
 
     fn store(&mut self, name: &str, bytes: &[u8]) -> Result<(), Failed>
-        ensures others { Told (KeepsOthers name.now) (disk_view self.old).holds (disk_view self.new).holds }
+        ensures others { Told (KeepsOthers name.now) (disk_view self.old).holds
+            (disk_view self.new).holds }
         ensures counts { NoCountFalls (disk_view self.old) (disk_view self.new) }
         ensures stored { OnOk result (HasBytes (disk_view self.new) name.now bytes.now) }
-        ensures failed { OnErr result (Rose (disk_view self.old).store_faults (disk_view self.new).store_faults) }
-        ensures no_fault { OnOk result ((disk_view self.new).store_faults ≡ (disk_view self.old).store_faults) }
+        ensures failed { OnErr result (Rose (disk_view self.old).store_faults
+            (disk_view self.new).store_faults) }
+        ensures no_fault { OnOk result ((disk_view self.new).store_faults
+            ≡ (disk_view self.old).store_faults) }
         ensures no_load_fault { SameLoadFaults (disk_view self.old) (disk_view self.new) }
         ensures taken { (disk_view self.new).taken ≡ (disk_view self.old).taken }
         ensures words { words_of self.new ≡ words_of self.old }

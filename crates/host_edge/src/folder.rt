@@ -1,7 +1,8 @@
 //! Files by name, as a program relies on them.
 
 ghost use Rattle.std.specs.Prelude.{◌≡◌, ◌+◌, ◌≤◌, length, IfOk, OnOk, OnErr, IsErrOf};
-ghost use Rattle.host_edge.specs.Views.{FolderView, Told, Rose, RoseBy, NoCountFalls, HasBytes, IsLonger, KeepsOthers};
+ghost use Rattle.host_edge.specs.Views.{FolderView, Told, Rose, RoseBy, NoCountFalls, HasBytes};
+ghost use Rattle.host_edge.specs.Views.{IsLonger, KeepsOthers};
 
 use crate::answer::{Failed, LoadNo};
 use std::alloc::Global;
@@ -16,8 +17,10 @@ pub trait Folder {
         ensures counts { NoCountFalls (view self.old) (view self.new) }
         ensures bytes { IfOk result (λ bytes. HasBytes (view self.old) name.now bytes.items) }
         ensures within { IfOk result (λ bytes. length bytes.items ≤ limit) }
-        ensures failed { IsErrOf result LoadNo.Failed → Rose ((view self.old).load_faults name.now) ((view self.new).load_faults name.now) }
-        ensures too_long { IsErrOf result LoadNo.TooLong → RoseBy (limit + 1) (view self.old).taken (view self.new).taken }
+        ensures failed { IsErrOf result LoadNo.Failed
+            → Rose ((view self.old).load_faults name.now) ((view self.new).load_faults name.now) }
+        ensures too_long { IsErrOf result LoadNo.TooLong
+            → RoseBy (limit + 1) (view self.old).taken (view self.new).taken }
         ensures longer { IsErrOf result LoadNo.TooLong → IsLonger limit (view self.old) name.now };
 
     /// Sets the file to the bytes. After a failure that file is unsaid.
@@ -25,5 +28,6 @@ pub trait Folder {
         ensures others { Told (KeepsOthers name.now) (view self.old).holds (view self.new).holds }
         ensures counts { NoCountFalls (view self.old) (view self.new) }
         ensures stored { OnOk result (HasBytes (view self.new) name.now bytes.now) }
-        ensures failed { OnErr result (Rose (view self.old).store_faults (view self.new).store_faults) };
+        ensures failed { OnErr result (Rose (view self.old).store_faults
+            (view self.new).store_faults) };
 }

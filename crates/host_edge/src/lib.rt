@@ -12,7 +12,8 @@ mod std_sink;
 mod stream;
 mod turns;
 
-pub use answer::{Failed, LoadNo, NoMemory};
+pub use answer::{Failed, LoadNo};
+pub use no_memory::NoMemory;
 pub use disk_folder::DiskFolder;
 pub use folder::Folder;
 pub use mem_folder::MemFolder;

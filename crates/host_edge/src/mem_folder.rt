@@ -1,12 +1,18 @@
 //! A folder in memory, whose calls fail where they are told to.
 
-ghost use Rattle.std.specs.Prelude.{◌≡◌, ℕ, List, ◌+◌, ◌≤◌, length, Some, None, IfOk, OnOk, OnErr, IsErrOf, IfSome, IsSomeAnd, IsTrue, ◌↔◌, ◌||◌, ◌++◌, ◌∷◌, [], IsErr};
+ghost use Rattle.std.specs.Prelude.{◌≡◌, ℕ, List, ◌+◌, ◌≤◌, length, Some, None, IfOk, OnOk, OnErr};
+ghost use Rattle.std.specs.Prelude.{IsErrOf, IfSome, IsSomeAnd, IsTrue, ◌↔◌, ◌||◌, ◌++◌, ◌∷◌, []};
+ghost use Rattle.std.specs.Prelude.{IsErr};
 ghost use Rattle.std.specs.Option.{option_copied};
-ghost use Rattle.host_edge.specs.Mem.{files_of, faults_of, counts_for, is_absent, folder_view, folder_plan};
+ghost use Rattle.host_edge.specs.Mem.{files_of, faults_of, counts_for, is_absent, folder_view};
+ghost use Rattle.host_edge.specs.Mem.{folder_plan};
 ghost use Rattle.host_edge.specs.Turns.{is_due, next_call};
-ghost use Rattle.host_edge.specs.Views.{FolderView, Told, Rose, RoseBy, NoCountFalls, SameLoadFaults, HasNoFaults, HasBytes, IsLonger, KeepsOthers, SameFiles, CountsFault, raised};
+ghost use Rattle.host_edge.specs.Views.{FolderView, Told, Rose, RoseBy, NoCountFalls};
+ghost use Rattle.host_edge.specs.Views.{SameLoadFaults, HasNoFaults, HasBytes, IsLonger};
+ghost use Rattle.host_edge.specs.Views.{KeepsOthers, SameFiles, CountsFault, raised};
 
-use crate::answer::{Failed, LoadNo, NoMemory};
+use crate::NoMemory;
+use crate::answer::{Failed, LoadNo};
 use crate::count::raised;
 use crate::folder::Folder;
 use crate::turns::Turns;
@@ -20,8 +26,10 @@ struct Kept {
     load_faults: u64,
 }
 
-/// Keeps files by name. A call that is told to fail, a load of a name without a file and a store that finds no
-/// memory are faults. A name with a file has a count of load faults of its own, which starts with the count
+/// Keeps files by name. A call that is told to fail, a load of a name without a file and a store
+/// that finds no
+/// memory are faults. A name with a file has a count of load faults of its own, which starts with
+/// the count
 /// that all names without a file share.
 #[derive(Drop)]
 pub struct MemFolder {
@@ -46,8 +54,10 @@ fn fault_count(files: &BTreeMap<String, Kept>, others: u64, name: &str) -> u64
 /// Counts a fault of a load of this name.
 fn count_load_fault(files: &mut BTreeMap<String, Kept>, others: &mut u64, name: &str)
     ensures files { SameFiles (files_of files.old) (files_of files.new) }
-    ensures counts { CountsFault (counts_for (files_of files.old) name.now) (faults_of files.old others.old) (faults_of files.new others.new) }
-    ensures none_falls { (q : List ℕ) → faults_of files.old others.old q ≤ faults_of files.new others.new q }
+    ensures counts { CountsFault (counts_for (files_of files.old) name.now)
+        (faults_of files.old others.old) (faults_of files.new others.new) }
+    ensures none_falls { (q : List ℕ) → faults_of files.old others.old q
+        ≤ faults_of files.new others.new q }
 {
     if let Some(kept) = files.get_mut(name) {
         kept.load_faults = raised(kept.load_faults, 1);
@@ -80,7 +90,8 @@ fn set_file(
 
 impl MemFolder {
     pub fn new(alloc: Global) -> MemFolder
-        ensures files { IsSomeAnd (folder_view result).holds (λ files. (q : List ℕ) → files q ≡ None) }
+        ensures files { IsSomeAnd (folder_view result).holds (λ files. (q : List ℕ)
+            → files q ≡ None) }
         ensures faults { HasNoFaults (folder_view result) }
         ensures plan { folder_plan result ≡ record { calls = 0; failing = [] } }
     {
@@ -94,13 +105,17 @@ impl MemFolder {
         }
     }
 
-    /// Sets the file to the bytes. It is no call of the folder: it cannot be told to fail, and counts nothing.
+    /// Sets the file to the bytes. It is no call of the folder: it cannot be told to fail, and
+    /// counts nothing.
     pub fn put_file(&mut self, name: &str, bytes: &[u8]) -> Result<(), NoMemory>
-        ensures others { Told (KeepsOthers name.now) (folder_view self.old).holds (folder_view self.new).holds }
+        ensures others { Told (KeepsOthers name.now) (folder_view self.old).holds
+            (folder_view self.new).holds }
         ensures stored { OnOk result (HasBytes (folder_view self.new) name.now bytes.now) }
-        ensures unchanged { OnErr result (Told SameFiles (folder_view self.old).holds (folder_view self.new).holds) }
+        ensures unchanged { OnErr result (Told SameFiles (folder_view self.old).holds
+            (folder_view self.new).holds) }
         ensures load_faults { SameLoadFaults (folder_view self.old) (folder_view self.new) }
-        ensures store_faults { (folder_view self.new).store_faults ≡ (folder_view self.old).store_faults }
+        ensures store_faults { (folder_view self.new).store_faults
+            ≡ (folder_view self.old).store_faults }
         ensures taken { (folder_view self.new).taken ≡ (folder_view self.old).taken }
         ensures plan { folder_plan self.new ≡ folder_plan self.old }
     {
@@ -116,14 +131,19 @@ impl MemFolder {
     /// Lets the call of this number fail. Loads and stores are counted together, from 1.
     pub fn fail_at(&mut self, call: u64) -> Result<(), NoMemory>
         ensures view { folder_view self.new ≡ folder_view self.old }
-        ensures listed { OnOk result (folder_plan self.new ≡ record (folder_plan self.old) { failing = (folder_plan self.old).failing ++ call ∷ [] }) }
+        ensures listed { OnOk result (folder_plan self.new
+            ≡ record (folder_plan self.old) {
+              failing = (folder_plan self.old).failing ++ call
+                  ∷ [];
+            }) }
         ensures unlisted { OnErr result (folder_plan self.new ≡ folder_plan self.old) }
     {
         self.turns.fail_at(call)
     }
 
     pub fn file(&self, name: &str) -> Option<&[u8]>
-        ensures { IsSomeAnd (folder_view self.now).holds (λ files. option_copied result ≡ files name.now) }
+        ensures { IsSomeAnd (folder_view self.now).holds (λ files. option_copied result
+            ≡ files name.now) }
     {
         match self.files.get(name) {
             Some(kept) => Some(kept.bytes.as_slice()),
@@ -138,17 +158,29 @@ impl Folder for MemFolder {
     fn load(&mut self, name: &str, limit: u64, alloc: Global) -> Result<Vec<u8>, LoadNo>
         ensures files { (folder_view self.new).holds ≡ (folder_view self.old).holds }
         ensures counts { NoCountFalls (folder_view self.old) (folder_view self.new) }
-        ensures bytes { IfOk result (λ bytes. HasBytes (folder_view self.old) name.now bytes.items) }
+        ensures bytes { IfOk result (λ bytes. HasBytes (folder_view self.old) name.now bytes.items)
+            }
         ensures within { IfOk result (λ bytes. length bytes.items ≤ limit) }
-        ensures failed { IsErrOf result LoadNo.Failed → Rose ((folder_view self.old).load_faults name.now) ((folder_view self.new).load_faults name.now) }
-        ensures too_long { IsErrOf result LoadNo.TooLong → RoseBy (limit + 1) (folder_view self.old).taken (folder_view self.new).taken }
-        ensures longer { IsErrOf result LoadNo.TooLong → IsLonger limit (folder_view self.old) name.now }
-        ensures failed_where { IsErrOf result LoadNo.Failed ↔ IsTrue (is_due (folder_plan self.old) || is_absent (folder_view self.old) name.now) }
+        ensures failed { IsErrOf result LoadNo.Failed
+            → Rose ((folder_view self.old).load_faults name.now)
+            ((folder_view self.new).load_faults name.now) }
+        ensures too_long { IsErrOf result LoadNo.TooLong
+            → RoseBy (limit + 1) (folder_view self.old).taken (folder_view self.new).taken }
+        ensures longer { IsErrOf result LoadNo.TooLong
+            → IsLonger limit (folder_view self.old) name.now }
+        ensures failed_where { IsErrOf result LoadNo.Failed
+            ↔ IsTrue (is_due (folder_plan self.old) || is_absent (folder_view self.old) name.now) }
         ensures plan { folder_plan self.new ≡ next_call (folder_plan self.old) }
-        ensures taken { IfOk result (λ bytes. (folder_view self.new).taken ≡ raised (length bytes.items) (folder_view self.old).taken) }
-        ensures no_fault { ¬ IsErrOf result LoadNo.Failed → SameLoadFaults (folder_view self.old) (folder_view self.new) }
-        ensures fault { IsErrOf result LoadNo.Failed → IsSomeAnd (folder_view self.old).holds (λ files. CountsFault (counts_for files name.now) (folder_view self.old).load_faults (folder_view self.new).load_faults) }
-        ensures no_store_fault { (folder_view self.new).store_faults ≡ (folder_view self.old).store_faults }
+        ensures taken { IfOk result (λ bytes. (folder_view self.new).taken
+            ≡ raised (length bytes.items) (folder_view self.old).taken) }
+        ensures no_fault { ¬ IsErrOf result LoadNo.Failed
+            → SameLoadFaults (folder_view self.old) (folder_view self.new) }
+        ensures fault { IsErrOf result LoadNo.Failed
+            → IsSomeAnd (folder_view self.old).holds
+            (λ files. CountsFault (counts_for files name.now) (folder_view self.old).load_faults
+            (folder_view self.new).load_faults) }
+        ensures no_store_fault { (folder_view self.new).store_faults
+            ≡ (folder_view self.old).store_faults }
     {
         let fails = self.turns.next();
         let bytes = match self.files.get(name) {
@@ -169,14 +201,18 @@ impl Folder for MemFolder {
     }
 
     fn store(&mut self, name: &str, bytes: &[u8]) -> Result<(), Failed>
-        ensures others { Told (KeepsOthers name.now) (folder_view self.old).holds (folder_view self.new).holds }
+        ensures others { Told (KeepsOthers name.now) (folder_view self.old).holds
+            (folder_view self.new).holds }
         ensures counts { NoCountFalls (folder_view self.old) (folder_view self.new) }
         ensures stored { OnOk result (HasBytes (folder_view self.new) name.now bytes.now) }
-        ensures failed { OnErr result (Rose (folder_view self.old).store_faults (folder_view self.new).store_faults) }
-        ensures unchanged { OnErr result (Told SameFiles (folder_view self.old).holds (folder_view self.new).holds) }
+        ensures failed { OnErr result (Rose (folder_view self.old).store_faults
+            (folder_view self.new).store_faults) }
+        ensures unchanged { OnErr result (Told SameFiles (folder_view self.old).holds
+            (folder_view self.new).holds) }
         ensures due { IsTrue (is_due (folder_plan self.old)) → IsErr result }
         ensures plan { folder_plan self.new ≡ next_call (folder_plan self.old) }
-        ensures no_fault { OnOk result ((folder_view self.new).store_faults ≡ (folder_view self.old).store_faults) }
+        ensures no_fault { OnOk result ((folder_view self.new).store_faults
+            ≡ (folder_view self.old).store_faults) }
         ensures no_load_fault { SameLoadFaults (folder_view self.old) (folder_view self.new) }
         ensures taken { (folder_view self.new).taken ≡ (folder_view self.old).taken }
     {

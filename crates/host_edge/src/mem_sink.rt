@@ -5,13 +5,15 @@ ghost use Rattle.host_edge.specs.Mem.{sink_view, sink_plan};
 ghost use Rattle.host_edge.specs.Turns.{is_due, next_call};
 ghost use Rattle.host_edge.specs.Views.{SinkView, Told, Rose, AppendsPart, raised};
 
-use crate::answer::{Failed, NoMemory};
+use crate::NoMemory;
+use crate::answer::Failed;
 use crate::count::raised;
 use crate::sink::Sink;
 use crate::turns::Turns;
 use std::alloc::Global;
 
-/// Keeps the bytes that it is sent. A put that is told to fail, or that finds no memory, keeps none.
+/// Keeps the bytes that it is sent. A put that is told to fail, or that finds no memory, keeps
+/// none.
 #[derive(Drop)]
 pub struct MemSink {
     bytes: Vec<u8>,
@@ -34,7 +36,8 @@ impl MemSink {
     /// Lets the put of this number fail, counted from 1.
     pub fn fail_at(&mut self, call: u64) -> Result<(), NoMemory>
         ensures view { sink_view self.new ≡ sink_view self.old }
-        ensures listed { OnOk result (sink_plan self.new ≡ record (sink_plan self.old) { failing = (sink_plan self.old).failing ++ call ∷ [] }) }
+        ensures listed { OnOk result (sink_plan self.new
+            ≡ record (sink_plan self.old) { failing = (sink_plan self.old).failing ++ call ∷ [] }) }
         ensures unlisted { OnErr result (sink_plan self.new ≡ sink_plan self.old) }
     {
         self.turns.fail_at(call)
@@ -52,11 +55,15 @@ impl Sink for MemSink {
 
     fn put(&mut self, bytes: &[u8]) -> Result<(), Failed>
         ensures counts { (sink_view self.old).faults ≤ (sink_view self.new).faults }
-        ensures sent { OnOk result (Told (λ old new. new ≡ old ++ bytes.now) (sink_view self.old).sent (sink_view self.new).sent) }
-        ensures part { OnErr result (Told (AppendsPart bytes.now) (sink_view self.old).sent (sink_view self.new).sent) }
-        ensures failed { OnErr result (Rose (sink_view self.old).faults (sink_view self.new).faults) }
+        ensures sent { OnOk result (Told (λ old new. new
+            ≡ old ++ bytes.now) (sink_view self.old).sent (sink_view self.new).sent) }
+        ensures part { OnErr result (Told (AppendsPart bytes.now) (sink_view self.old).sent
+            (sink_view self.new).sent) }
+        ensures failed { OnErr result (Rose (sink_view self.old).faults (sink_view self.new).faults)
+            }
         ensures done { OnOk result ((sink_view self.new).faults ≡ (sink_view self.old).faults) }
-        ensures none_kept { OnErr result (sink_view self.new ≡ record (sink_view self.old) { faults = raised 1 (sink_view self.old).faults }) }
+        ensures none_kept { OnErr result (sink_view self.new
+            ≡ record (sink_view self.old) { faults = raised 1 (sink_view self.old).faults }) }
         ensures due { IsTrue (is_due (sink_plan self.old)) → IsErr result }
         ensures plan { sink_plan self.new ≡ next_call (sink_plan self.old) }
     {

@@ -12,7 +12,9 @@ pub trait Sink {
     /// Appends the bytes, and after a failure a prefix of them.
     fn put(&mut self, bytes: &[u8]) -> Result<(), Failed>
         ensures counts { (view self.old).faults ≤ (view self.new).faults }
-        ensures sent { OnOk result (Told (λ old new. new ≡ old ++ bytes.now) (view self.old).sent (view self.new).sent) }
-        ensures part { OnErr result (Told (AppendsPart bytes.now) (view self.old).sent (view self.new).sent) }
+        ensures sent { OnOk result (Told (λ old new. new ≡ old ++ bytes.now) (view self.old).sent
+            (view self.new).sent) }
+        ensures part { OnErr result (Told (AppendsPart bytes.now) (view self.old).sent
+            (view self.new).sent) }
         ensures failed { OnErr result (Rose (view self.old).faults (view self.new).faults) };
 }

@@ -10,7 +10,8 @@ use crate::sink::Sink;
 use crate::stream::write_whole;
 use std::io::Write;
 
-/// Puts to a writer. It tells what the writer tells of its bytes, and standard output tells nothing.
+/// Puts to a writer. It tells what the writer tells of its bytes, and standard output tells
+/// nothing.
 #[derive(Drop)]
 pub struct StdSink<W> {
     out: W,
@@ -29,12 +30,19 @@ impl<W: Write> Sink for StdSink<W> {
     ghost view = { std_view W.contents };
 
     fn put(&mut self, bytes: &[u8]) -> Result<(), Failed>
-        ensures counts { (std_view W.contents self.old).faults ≤ (std_view W.contents self.new).faults }
-        ensures sent { OnOk result (Told (λ old new. new ≡ old ++ bytes.now) (std_view W.contents self.old).sent (std_view W.contents self.new).sent) }
-        ensures part { OnErr result (Told (AppendsPart bytes.now) (std_view W.contents self.old).sent (std_view W.contents self.new).sent) }
-        ensures failed { OnErr result (Rose (std_view W.contents self.old).faults (std_view W.contents self.new).faults) }
-        ensures done { OnOk result ((std_view W.contents self.new).faults ≡ (std_view W.contents self.old).faults) }
-        ensures counted { OnErr result ((std_view W.contents self.new).faults ≡ raised 1 (std_view W.contents self.old).faults) }
+        ensures counts { (std_view W.contents self.old).faults
+            ≤ (std_view W.contents self.new).faults }
+        ensures sent { OnOk result (Told (λ old new. new
+            ≡ old ++ bytes.now) (std_view W.contents self.old).sent
+            (std_view W.contents self.new).sent) }
+        ensures part { OnErr result (Told (AppendsPart bytes.now)
+            (std_view W.contents self.old).sent (std_view W.contents self.new).sent) }
+        ensures failed { OnErr result (Rose (std_view W.contents self.old).faults
+            (std_view W.contents self.new).faults) }
+        ensures done { OnOk result ((std_view W.contents self.new).faults
+            ≡ (std_view W.contents self.old).faults) }
+        ensures counted { OnErr result ((std_view W.contents self.new).faults
+            ≡ raised 1 (std_view W.contents self.old).faults) }
     {
         if write_whole(&mut self.out, bytes) {
             Ok(())

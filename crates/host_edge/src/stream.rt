@@ -12,8 +12,10 @@ use std::io::{ErrorKind, Read, Write};
 
 /// Whether all the bytes were written. If not, a prefix of them was.
 pub(crate) fn write_whole<W: Write>(out: &mut W, bytes: &[u8]) -> bool
-    ensures all { OnTrue result (Told (λ old new. new ≡ old ++ bytes.now) (W.contents out.old) (W.contents out.new)) }
-    ensures part { OnFalse result (Told (AppendsPart bytes.now) (W.contents out.old) (W.contents out.new)) }
+    ensures all { OnTrue result (Told (λ old new. new ≡ old ++ bytes.now) (W.contents out.old)
+        (W.contents out.new)) }
+    ensures part { OnFalse result (Told (AppendsPart bytes.now) (W.contents out.old)
+        (W.contents out.new)) }
 {
     let mut rest = bytes;
     for _ in 0..u64::MAX {
@@ -33,14 +35,16 @@ pub(crate) fn write_whole<W: Write>(out: &mut W, bytes: &[u8]) -> bool
     false
 }
 
-/// How many bytes the reader gave, and all that it gives up to its end, if they are at most `limit`.
+/// How many bytes the reader gave, and all that it gives up to its end, if they are at most
+/// `limit`.
 pub(crate) fn read_whole<R: Read>(
     reader: &mut R,
     limit: u64,
     alloc: Global,
 ) -> (u64, Result<Vec<u8>, LoadNo>)
     ensures within { IfOk result.1 (λ bytes. length bytes.items ≤ limit) }
-    ensures bytes { IfOk result.1 (λ bytes. Consumes (R.remaining reader.old) (R.remaining reader.new) bytes.items × IsAtEnd (R.remaining reader.new)) }
+    ensures bytes { IfOk result.1 (λ bytes. Consumes (R.remaining reader.old)
+        (R.remaining reader.new) bytes.items × IsAtEnd (R.remaining reader.new)) }
     ensures taken { IfOk result.1 (λ bytes. result.0 ≡ length bytes.items) }
     ensures too_long { IsErrOf result.1 LoadNo.TooLong → limit < result.0 }
 {

@@ -3,7 +3,7 @@
 ghost use Rattle.std.specs.Prelude.{◌≡◌, [], ◌∷◌, ◌++◌, OnOk, OnErr};
 ghost use Rattle.host_edge.specs.Turns.{plan_of, is_due, next_call};
 
-use crate::answer::NoMemory;
+use crate::NoMemory;
 use crate::count::raised;
 use std::alloc::Global;
 
@@ -25,7 +25,8 @@ impl Turns {
     }
 
     pub fn fail_at(&mut self, call: u64) -> Result<(), NoMemory>
-        ensures listed { OnOk result (plan_of self.new ≡ record (plan_of self.old) { failing = (plan_of self.old).failing ++ call ∷ [] }) }
+        ensures listed { OnOk result (plan_of self.new
+            ≡ record (plan_of self.old) { failing = (plan_of self.old).failing ++ call ∷ [] }) }
         ensures unchanged { OnErr result (plan_of self.new ≡ plan_of self.old) }
     {
         match self.failing.push(call) {

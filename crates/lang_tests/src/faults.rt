@@ -295,7 +295,8 @@ const TEXTS: [(&[u8], Fault); 71] = [
     (HEAVY, Some((11, OpsKind::TooMany))),
 ];
 
-/// A text that says one thing so many times, between a head and a tail. Each `@` stands for its number.
+/// A text that says one thing so many times, between a head and a tail. Each `@` stands for its
+/// number.
 #[derive(Drop)]
 struct Long {
     head: &'static [u8],

@@ -10,7 +10,8 @@ use op_lang::{Ops, OpsNo, parse_ops};
 use op_print::print_ops;
 use std::alloc::Global;
 
-/// Ops, written and read again: they are the same, and want of memory is the one thing that may hinder it.
+/// Ops, written and read again: they are the same, and want of memory is the one thing that may
+/// hinder it.
 pub fn reread(ops: &Ops, alloc: Global) -> Result<Ops, NoMemory>
     requires rules { MeetRules (operations ops.now) }
     requires short { length (canonical_text (operations ops.now)) < 2 ^ 32 }

@@ -1,10 +1,13 @@
 -- How many commands and instructions a loop program may take.
-use Rattle.std.specs.Prelude.{ℕ, ◌+◌, ◌*◌, ◌==◌, ◌&&◌, Bool, not, if◌then◌else◌, List, [], ◌∷◌, ◌++◌, length, filter, sum_by}
+use Rattle.std.specs.Prelude.{ℕ, ◌+◌, ◌*◌, ◌==◌, ◌&&◌, Bool, not, if◌then◌else◌, List, [], ◌∷◌}
+use Rattle.std.specs.Prelude.{◌++◌, length, filter, sum_by}
 use Rattle.std.specs.List.{list_any, list_all}
 use Rattle.mig_graph.specs.Literals.{is_turned}
 use Rattle.mig_graph.specs.Outputs.{lit_at}
 use Rattle.loop_ir.specs.declared.ir.Sub.{Sub}
-use Rattle.loop_ir.specs.declared.ir.Sub.TheVariants.{Zero, Top, Inner as At_inner, InnerDown, Outer, OuterDown, Sum, DownSum, DownPlusN, NPlusInner}
+use Rattle.loop_ir.specs.declared.ir.Sub.TheVariants.{Zero, Top, Inner as At_inner, InnerDown}
+use Rattle.loop_ir.specs.declared.ir.Sub.TheVariants.{Outer, OuterDown, Sum, DownSum, DownPlusN}
+use Rattle.loop_ir.specs.declared.ir.Sub.TheVariants.{NPlusInner}
 use Rattle.loop_ir.specs.Plain.{Block, InnerOf, StepOf}
 use Rattle.loop_ir.specs.Plain.InnerOf.{Alone, Across}
 use Rattle.loop_ir.specs.Plain.StepOf.{Single, Along, Nest}
@@ -16,7 +19,8 @@ body_cost b = 4 * length b.graph.nodes + 3 * length b.outs
 
 -- the only output is a constant or an input that is not inverted
 abbrev pub is_copy : Block → Bool
-is_copy b = (length b.graph.nodes == 0) && ((length b.outs == 1) && not (is_turned (lit_at b.outs 0)))
+is_copy b = (length b.graph.nodes == 0) && ((length b.outs == 1)
+    && not (is_turned (lit_at b.outs 0)))
 
 -- what one round may take: a copy is one command
 abbrev pub turn_cost : Block → ℕ
@@ -50,7 +54,8 @@ is_fixed b = list_all (λ p. same_sub p.sub Zero) (b.reads ++ b.writes)
 
 -- the subscripts other than Zero that the body's places have
 abbrev pub used_subs : Block → List Sub
-used_subs b = filter (is_used b) (Top ∷ At_inner ∷ InnerDown ∷ Outer ∷ OuterDown ∷ Sum ∷ DownSum ∷ DownPlusN ∷ NPlusInner ∷ [])
+used_subs b = filter (is_used b) (Top ∷ At_inner ∷ InnerDown ∷ Outer ∷ OuterDown ∷ Sum ∷ DownSum
+    ∷ DownPlusN ∷ NPlusInner ∷ [])
 
 -- how many instructions a body may take: 15 for its loop or its subscripts
 abbrev pub single_cost : Block → ℕ

@@ -24,12 +24,17 @@ pub record IsLike (b a : Block) : Type 0 where
 
 pub data LikeParts : List (InnerOf Block) → List (InnerOf Block) → Type 0 where
   no_parts : LikeParts [] []
-  alone : {b a : Block} {ps qs : List (InnerOf Block)} → IsLike b a → LikeParts ps qs → LikeParts (Alone b ∷ ps) (Alone a ∷ qs)
-  across : {c : Count} {b a : Block} {ps qs : List (InnerOf Block)} → IsLike b a → LikeParts ps qs → LikeParts (Across c b ∷ ps) (Across c a ∷ qs)
+  alone : {b a : Block} {ps qs : List (InnerOf Block)} → IsLike b a → LikeParts ps qs
+      → LikeParts (Alone b ∷ ps) (Alone a ∷ qs)
+  across : {c : Count} {b a : Block} {ps qs : List (InnerOf Block)} → IsLike b a → LikeParts ps qs
+      → LikeParts (Across c b ∷ ps) (Across c a ∷ qs)
 
 -- the same loops over bodies that are alike
 pub data LikeSteps : List (StepOf Block) → List (StepOf Block) → Type 0 where
   no_steps : LikeSteps [] []
-  single : {b a : Block} {ss ts : List (StepOf Block)} → IsLike b a → LikeSteps ss ts → LikeSteps (Single b ∷ ss) (Single a ∷ ts)
-  along : {b a : Block} {ss ts : List (StepOf Block)} → IsLike b a → LikeSteps ss ts → LikeSteps (Along b ∷ ss) (Along a ∷ ts)
-  nest : {ps qs : List (InnerOf Block)} {ss ts : List (StepOf Block)} → LikeParts ps qs → LikeSteps ss ts → LikeSteps (Nest ps ∷ ss) (Nest qs ∷ ts)
+  single : {b a : Block} {ss ts : List (StepOf Block)} → IsLike b a → LikeSteps ss ts
+      → LikeSteps (Single b ∷ ss) (Single a ∷ ts)
+  along : {b a : Block} {ss ts : List (StepOf Block)} → IsLike b a → LikeSteps ss ts
+      → LikeSteps (Along b ∷ ss) (Along a ∷ ts)
+  nest : {ps qs : List (InnerOf Block)} {ss ts : List (StepOf Block)} → LikeParts ps qs
+      → LikeSteps ss ts → LikeSteps (Nest ps ∷ ss) (Nest qs ∷ ts)

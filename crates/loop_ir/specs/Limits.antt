@@ -4,7 +4,9 @@ use Rattle.std.specs.List.{AllByRecursion, list_all}
 use Rattle.bit_rows.specs.declared.TheConstants.{WIDTH_MAX}
 use Rattle.mig_graph.specs.Graph.{IsGraph}
 use Rattle.loop_ir.specs.declared.ir.Sub.{Sub}
-use Rattle.loop_ir.specs.declared.ir.Sub.TheVariants.{Zero, Top, Inner as At_inner, InnerDown, Outer, OuterDown, Sum, DownSum, DownPlusN, NPlusInner}
+use Rattle.loop_ir.specs.declared.ir.Sub.TheVariants.{Zero, Top, Inner as At_inner, InnerDown}
+use Rattle.loop_ir.specs.declared.ir.Sub.TheVariants.{Outer, OuterDown, Sum, DownSum, DownPlusN}
+use Rattle.loop_ir.specs.declared.ir.Sub.TheVariants.{NPlusInner}
 use Rattle.loop_ir.specs.Plain.{Block, InnerOf, StepOf, AllParts}
 use Rattle.loop_ir.specs.Plain.InnerOf.{Alone, Across}
 use Rattle.loop_ir.specs.Plain.StepOf.{Single, Along, Nest}
@@ -47,20 +49,29 @@ step_stands (Single b) = all_stand false false b
 step_stands (Along b) = all_stand true false b
 step_stands (Nest parts) = list_all inner_stands parts
 
--- In a round the body's places are rows that it may have, and none of its writes is a source's. The row of a write is that
+-- In a round the body's places are rows that it may have, and none of its writes is a source's. The
+-- row of a write is that
 -- of no other write, and that of at most one read, which is a read of the same place
 pub record IsRound (may_have : Spot → Type 0) (n : ℕ) (r : RoundOf Block) : Type 0 where
   pub reads : (k : ℕ) → k < length r.part.reads → may_have (nth_spot n r.i r.o r.part.reads k)
   pub writes : (j : ℕ) → j < length r.part.writes → may_have (nth_spot n r.i r.o r.part.writes j)
   pub own : (j : ℕ) → j < length r.part.writes → IsOwn (nth_spot n r.i r.o r.part.writes j).space
-  pub apart : (i j : ℕ) → i < length r.part.writes → j < length r.part.writes → nth_spot n r.i r.o r.part.writes i ≡ nth_spot n r.i r.o r.part.writes j → i ≡ j
-  pub same : (j k : ℕ) → j < length r.part.writes → k < length r.part.reads → nth_spot n r.i r.o r.part.writes j ≡ nth_spot n r.i r.o r.part.reads k → nth_place r.part.writes j ≡ nth_place r.part.reads k
-  pub once : (j k l : ℕ) → j < length r.part.writes → k < length r.part.reads → l < length r.part.reads → nth_spot n r.i r.o r.part.writes j ≡ nth_spot n r.i r.o r.part.reads k → nth_spot n r.i r.o r.part.writes j ≡ nth_spot n r.i r.o r.part.reads l → k ≡ l
+  pub apart : (i j : ℕ) → i < length r.part.writes → j < length r.part.writes
+      → nth_spot n r.i r.o r.part.writes i ≡ nth_spot n r.i r.o r.part.writes j → i ≡ j
+  pub same : (j k : ℕ) → j < length r.part.writes → k < length r.part.reads
+      → nth_spot n r.i r.o r.part.writes j ≡ nth_spot n r.i r.o r.part.reads k
+      → nth_place r.part.writes j ≡ nth_place r.part.reads k
+  pub once : (j k l : ℕ) → j < length r.part.writes → k < length r.part.reads
+      → l < length r.part.reads → nth_spot n r.i r.o r.part.writes j
+      ≡ nth_spot n r.i r.o r.part.reads k → nth_spot n r.i r.o r.part.writes j
+      ≡ nth_spot n r.i r.o r.part.reads l → k ≡ l
 
--- At every width code can be made of the loop program: at most 12 bodies, each small, and at most 256 instructions
+-- At every width code can be made of the loop program: at most 12 bodies, each small, and at most
+-- 256 instructions
 pub record CanCompile (may_have : ℕ → Spot → Type 0) (steps : List (StepOf Block)) : Type 0 where
   pub small : AllParts IsSmall steps
   pub stand : list_all step_stands steps ≡ true
-  pub rounds : (n : ℕ) → 0 < n → n ≤ WIDTH_MAX → AllByRecursion (IsRound (may_have n) n) (all_rounds n steps)
+  pub rounds : (n : ℕ) → 0 < n → n ≤ WIDTH_MAX
+      → AllByRecursion (IsRound (may_have n) n) (all_rounds n steps)
   pub size : code_cost steps ≤ 256
   pub few : bodies steps ≤ 12

@@ -1,7 +1,9 @@
 -- The rounds of a loop program.
 use Rattle.std.specs.Prelude.{ℕ, zero, suc, ◌+◌, ◌-◌, ◌*◌, List, [], ◌∷◌, ◌++◌}
 use Rattle.loop_ir.specs.declared.ir.Sub.{Sub}
-use Rattle.loop_ir.specs.declared.ir.Sub.TheVariants.{Zero, Top, Inner as At_inner, InnerDown, Outer, OuterDown, Sum, DownSum, DownPlusN, NPlusInner}
+use Rattle.loop_ir.specs.declared.ir.Sub.TheVariants.{Zero, Top, Inner as At_inner, InnerDown}
+use Rattle.loop_ir.specs.declared.ir.Sub.TheVariants.{Outer, OuterDown, Sum, DownSum, DownPlusN}
+use Rattle.loop_ir.specs.declared.ir.Sub.TheVariants.{NPlusInner}
 use Rattle.loop_ir.specs.declared.ir.Count.{Count}
 use Rattle.loop_ir.specs.declared.ir.Count.TheVariants.{All, Rest}
 use Rattle.loop_ir.specs.Plain.{InnerOf, StepOf}
@@ -33,7 +35,8 @@ positions n o Rest = n - o
 abbrev pub inner_rounds : {A : Type 0} → ℕ → ℕ → List (InnerOf A) → List (RoundOf A)
 inner_rounds n o [] = []
 inner_rounds n o (Alone b ∷ more) = one_round b 0 o ++ inner_rounds n o more
-inner_rounds n o (Across count b ∷ more) = rounds (λ i. one_round b i o) 0 (positions n o count) ++ inner_rounds n o more
+inner_rounds n o (Across count b ∷ more) = rounds (λ i. one_round b i o) 0 (positions n o count)
+    ++ inner_rounds n o more
 
 abbrev pub step_rounds : {A : Type 0} → ℕ → StepOf A → List (RoundOf A)
 step_rounds n (Single b) = one_round b 0 0

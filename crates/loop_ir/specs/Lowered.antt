@@ -1,5 +1,6 @@
 -- When a loop program does a statement.
-use Rattle.std.specs.Prelude.{◌≡◌, ◌⊎◌, ℕ, ◌+◌, ◌*◌, ◌<◌, ◌≤◌, Bool, true, List, [], ◌∷◌, map, Option, Some, None}
+use Rattle.std.specs.Prelude.{◌≡◌, ◌⊎◌, ℕ, ◌+◌, ◌*◌, ◌<◌, ◌≤◌, Bool, true, List, [], ◌∷◌, map}
+use Rattle.std.specs.Prelude.{Option, Some, None}
 use Rattle.std.specs.List.{range_with_len}
 use Rattle.bit_rows.specs.declared.TheConstants.{WIDTH_MAX}
 use Rattle.op_text.specs.declared.tree.Kind.{Kind}
@@ -36,7 +37,8 @@ Holds n slots held bits name = HoldsAt n (slots name) (held name) bits
 
 -- the row is one of a name's
 abbrev pub IsRowOf : ℕ → Slots → List (List ℕ) → Spot → Type 0
-IsRowOf n slots names q = (name : List ℕ) × (x : Slot) × (v : ℕ) × (is_among names name ≡ true) × (slots name ≡ Some x) × (v < width n x.kind) × (q ≡ slot_spot n x v)
+IsRowOf n slots names q = (name : List ℕ) × (x : Slot) × (v : ℕ) × (is_among names name ≡ true)
+    × (slots name ≡ Some x) × (v < width n x.kind) × (q ≡ slot_spot n x v)
 
 -- the row is one of the internal scratch of the statement
 abbrev pub IsInside : ℕ → ℕ → ℕ → Statement → Spot → Type 0
@@ -46,18 +48,25 @@ IsInside n free_bit free_word s q =
 
 -- the statement may change the row: one that it sets, or one of its internal scratch
 abbrev pub IsChanged : ℕ → Slots → ℕ → ℕ → Statement → Spot → Type 0
-IsChanged n slots free_bit free_word s q = IsRowOf n slots (written_names s) q ⊎ IsInside n free_bit free_word s q
+IsChanged n slots free_bit free_word s q = IsRowOf n slots (written_names s) q
+    ⊎ IsInside n free_bit free_word s q
 
 -- the row is one of the statement's
 abbrev pub IsStatementRow : Slots → ℕ → ℕ → Statement → ℕ → Spot → Type 0
-IsStatementRow slots free_bit free_word s n q = IsRowOf n slots (statement_names s) q ⊎ IsInside n free_bit free_word s q
+IsStatementRow slots free_bit free_word s n q = IsRowOf n slots (statement_names s) q
+    ⊎ IsInside n free_bit free_word s q
 
--- At width n, whatever the rows hold: where the rows of the names that it reads hold their values, the rows of the names
+-- At width n, whatever the rows hold: where the rows of the names that it reads hold their values,
+-- the rows of the names
 -- that it sets hold theirs after it; and no other row changes but the internal scratch
-pub record Does (slots : Slots) (free_bit free_word : ℕ) (s : Statement) (n : ℕ) (steps : List (StepOf Block)) : Type 0 where
-  pub gives : (held : List ℕ → Held) (bits : Spots) → ((name : List ℕ) → is_among (read_names s) name ≡ true → Holds n slots held bits name)
-      → (name : List ℕ) → is_among (written_names s) name ≡ true → Holds n slots (after_statement n held s) (after_rounds n (all_rounds n steps) bits) name
-  pub keeps : (bits : Spots) (q : Spot) → (IsChanged n slots free_bit free_word s q → ⊥) → after_rounds n (all_rounds n steps) bits q ≡ bits q
+pub record Does (slots : Slots) (free_bit free_word : ℕ) (s : Statement) (n : ℕ)
+    (steps : List (StepOf Block)) : Type 0 where
+  pub gives : (held : List ℕ → Held) (bits : Spots)
+      → ((name : List ℕ) → is_among (read_names s) name ≡ true → Holds n slots held bits name)
+      → (name : List ℕ) → is_among (written_names s) name ≡ true
+      → Holds n slots (after_statement n held s) (after_rounds n (all_rounds n steps) bits) name
+  pub keeps : (bits : Spots) (q : Spot) → (IsChanged n slots free_bit free_word s q → ⊥)
+      → after_rounds n (all_rounds n steps) bits q ≡ bits q
 
 -- the kind at a place, which is a word where there is none
 abbrev pub kind_at : Option Slot → Kind
@@ -74,10 +83,13 @@ abbrev pub ceiling_of : Slots → Statement → ℕ → ℕ
 ceiling_of slots (Compute target p args) n = op_ceiling p (args_width slots n args)
 ceiling_of slots (Visit block) n = block_ceiling block n
 
--- A statement's loop program: well formed, such that code can be made of it over the statement's rows alone, and at every
+-- A statement's loop program: well formed, such that code can be made of it over the statement's
+-- rows alone, and at every
 -- width it does the statement within the ceiling
-pub record IsLowered (slots : Slots) (free_bit free_word : ℕ) (s : Statement) (steps : List (StepOf Block)) : Type 0 where
+pub record IsLowered (slots : Slots) (free_bit free_word : ℕ) (s : Statement)
+    (steps : List (StepOf Block)) : Type 0 where
   pub well : AreWellFormed steps
   pub can : CanCompile (IsStatementRow slots free_bit free_word s) steps
   pub does : (n : ℕ) → 0 < n → n ≤ WIDTH_MAX → Does slots free_bit free_word s n steps
-  pub cheap : (n : ℕ) → 0 < n → n ≤ WIDTH_MAX → rounds_cost (all_rounds n steps) ≤ ceiling_of slots s n
+  pub cheap : (n : ℕ) → 0 < n → n ≤ WIDTH_MAX
+      → rounds_cost (all_rounds n steps) ≤ ceiling_of slots s n

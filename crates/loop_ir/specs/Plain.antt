@@ -30,7 +30,12 @@ pub data StepOf (A : Type 0) : Type 0 where
   Nest : List (InnerOf A) → StepOf A
 
 abbrev pub block_of : Body → Block
-block_of b = record { reads = b.reads.items; graph = b.graph.mig; outs = b.graph.outs.items; writes = b.writes.items }
+block_of b = record {
+  reads = b.reads.items;
+  graph = b.graph.mig;
+  outs = b.graph.outs.items;
+  writes = b.writes.items;
+}
 
 abbrev pub inner_of : Inner → InnerOf Block
 inner_of (code_inner.Once b) = Alone (block_of b)

@@ -1,5 +1,6 @@
 -- Rows by their names, and what rounds do to their bits.
-use Rattle.std.specs.Prelude.{ℕ, zero, suc, ◌+◌, ◌*◌, ◌==◌, ◌&&◌, Bool, true, false, if◌then◌else◌, List, [], ◌∷◌}
+use Rattle.std.specs.Prelude.{ℕ, zero, suc, ◌+◌, ◌*◌, ◌==◌, ◌&&◌, Bool, true, false, if◌then◌else◌}
+use Rattle.std.specs.Prelude.{List, [], ◌∷◌}
 use Rattle.mig_graph.specs.declared.Lit.{Lit}
 use Rattle.mig_graph.specs.Literals.{lit_value}
 use Rattle.mig_graph.specs.Graph.{values}
@@ -33,7 +34,8 @@ Spots = Spot → Bool
 abbrev pub set_spot : Spots → Spot → Bool → Spots
 set_spot bits p v q = if same_spot q p then v else bits q
 
--- the row of a place at an index: scratch words lie one after another, so that an index past one is in the next
+-- the row of a place at an index: scratch words lie one after another, so that an index past one is
+-- in the next
 abbrev pub spot_in : ℕ → Space → ℕ → ℕ → Spot
 spot_in n Result w v = record { space = Result; which = w; index = v }
 spot_in n Source w v = record { space = Source; which = w; index = v }
@@ -56,7 +58,8 @@ nth_spot n i o ps k = spot_at n i o (nth_place ps k)
 abbrev pub write_all : ℕ → ℕ → ℕ → (ℕ → Bool) → List Place → List Lit → Spots → Spots
 write_all n i o env [] ls bits = bits
 write_all n i o env (p ∷ ps) [] bits = bits
-write_all n i o env (p ∷ ps) (l ∷ ls) bits = write_all n i o env ps ls (set_spot bits (spot_at n i o p) (lit_value env l))
+write_all n i o env (p ∷ ps) (l ∷ ls) bits = write_all n i o env ps ls
+    (set_spot bits (spot_at n i o p) (lit_value env l))
 
 -- the graph's nodes on the bits that a round reads
 abbrev pub round_env : ℕ → RoundOf Block → Spots → ℕ → Bool

@@ -1,15 +1,18 @@
 -- Where the names of a statement lie.
-use Rattle.std.specs.Prelude.{◌≡◌, ◌⊎◌, ℕ, ◌+◌, ◌<◌, ◌≤◌, Bool, true, false, not, ◌||◌, List, [], ◌∷◌, ◌++◌, map, filter, length, Option, Some, None, is_some, bytes_eq}
+use Rattle.std.specs.Prelude.{◌≡◌, ◌⊎◌, ℕ, ◌+◌, ◌<◌, ◌≤◌, Bool, true, false, not, ◌||◌, List, []}
+use Rattle.std.specs.Prelude.{◌∷◌, ◌++◌, map, filter, length, Option, Some, None, is_some, bytes_eq}
 use Rattle.std.specs.List.{AllByRecursion}
 use Rattle.indexmap.specs.IndexMap.{get}
 use Rattle.op_text.specs.declared.tree.Kind.{Kind}
 use Rattle.op_text.specs.declared.tree.Kind.TheVariants.{Word, Bit}
 use Rattle.op_text.specs.declared.tree.WordOp.{WordOp}
-use Rattle.op_text.specs.Language.{Term, Nought, Unity, Named, Negation, Conjunction, Disjunction, Parity, Majority, Equation, Block, Statement, Compute, Visit}
+use Rattle.op_text.specs.Language.{Term, Nought, Unity, Named, Negation, Conjunction, Disjunction}
+use Rattle.op_text.specs.Language.{Parity, Majority, Equation, Block, Statement, Compute, Visit}
 use Rattle.op_text.specs.Rules.{is_among, MAX_STATES, MAX_LETS, MAX_ASSIGNS, MAX_WEIGHT}
 use Rattle.op_text.specs.Spelling.{TermMeets}
 use Rattle.op_text.specs.WordOps.{forms, filled}
-use Rattle.op_text.specs.Scratch.{bits_inside, words_inside, need_inside, block_weight, state_names, word_names}
+use Rattle.op_text.specs.Scratch.{bits_inside, words_inside, need_inside, block_weight, state_names}
+use Rattle.op_text.specs.Scratch.{word_names}
 use Rattle.loop_ir.specs.declared.ir.Space.{Space}
 use Rattle.loop_ir.specs.declared.ir.Space.TheVariants.{Result, Source, ScratchBit, ScratchWord}
 use Rattle.loop_ir.specs.declared.names.Slot.{Slot}
@@ -59,7 +62,8 @@ targets_of es = map (λ (e : Equation). e.name) es
 
 -- the names other than lets that a block's expressions read
 abbrev pub block_reads : Block → List (List ℕ)
-block_reads b = filter (λ name. not (is_among (targets_of b.lets) name)) (equation_names b.lets ++ equation_names b.assigns)
+block_reads b = filter (λ name. not (is_among (targets_of b.lets) name)) (equation_names b.lets
+    ++ equation_names b.assigns)
 
 -- the names that a statement reads as they stand before it: a block sets its states first
 abbrev pub read_names : Statement → List (List ℕ)
@@ -75,14 +79,23 @@ written_names (Visit b) = state_names b ++ word_names b
 abbrev pub statement_names : Statement → List (List ℕ)
 statement_names s = written_names s ++ read_names s
 
--- Its names have places, which differ, and are no internal scratch: the bits and words from the first free ones on. What
+-- Its names have places, which differ, and are no internal scratch: the bits and words from the
+-- first free ones on. What
 -- it sets is no source
 pub record IsPlaced (slots : Slots) (free_bit free_word : ℕ) (s : Statement) : Type 0 where
-  pub there : (name : List ℕ) → is_among (statement_names s) name ≡ true → (x : Slot) × (slots name ≡ Some x) × (holds_kind x.space x.kind ≡ true)
-  pub differ : (a b : List ℕ) (x y : Slot) → is_among (statement_names s) a ≡ true → is_among (statement_names s) b ≡ true → slots a ≡ Some x → slots b ≡ Some y → x.space ≡ y.space → x.which ≡ y.which → bytes_eq a b ≡ true
-  pub own : (name : List ℕ) (x : Slot) → is_among (written_names s) name ≡ true → slots name ≡ Some x → IsOwn x.space
-  pub bit : (name : List ℕ) (x : Slot) → is_among (statement_names s) name ≡ true → slots name ≡ Some x → x.space ≡ ScratchBit → (x.which < free_bit) ⊎ (free_bit + need_inside bits_inside s ≤ x.which)
-  pub word : (name : List ℕ) (x : Slot) → is_among (statement_names s) name ≡ true → slots name ≡ Some x → x.space ≡ ScratchWord → (x.which < free_word) ⊎ (free_word + need_inside words_inside s ≤ x.which)
+  pub there : (name : List ℕ) → is_among (statement_names s) name ≡ true
+      → (x : Slot) × (slots name ≡ Some x) × (holds_kind x.space x.kind ≡ true)
+  pub differ : (a b : List ℕ) (x y : Slot) → is_among (statement_names s) a ≡ true
+      → is_among (statement_names s) b ≡ true → slots a ≡ Some x → slots b ≡ Some y
+      → x.space ≡ y.space → x.which ≡ y.which → bytes_eq a b ≡ true
+  pub own : (name : List ℕ) (x : Slot) → is_among (written_names s) name ≡ true
+      → slots name ≡ Some x → IsOwn x.space
+  pub bit : (name : List ℕ) (x : Slot) → is_among (statement_names s) name ≡ true
+      → slots name ≡ Some x → x.space ≡ ScratchBit → (x.which < free_bit)
+      ⊎ (free_bit + need_inside bits_inside s ≤ x.which)
+  pub word : (name : List ℕ) (x : Slot) → is_among (statement_names s) name ≡ true
+      → slots name ≡ Some x → x.space ≡ ScratchWord → (x.which < free_word)
+      ⊎ (free_word + need_inside words_inside s ≤ x.which)
   pub bits : free_bit + need_inside bits_inside s ≤ 256
   pub words : free_word + need_inside words_inside s ≤ 256
 
@@ -93,9 +106,11 @@ HaveKinds slots [] (k ∷ ks) = ⊥
 HaveKinds slots (name ∷ names) [] = ⊥
 HaveKinds slots (name ∷ names) (k ∷ ks) = HasKind slots name k × HaveKinds slots names ks
 
--- A word statement meets the rules: its arguments have the kinds of a form of its operation, the target has the kind that
+-- A word statement meets the rules: its arguments have the kinds of a form of its operation, the
+-- target has the kind that
 -- the form gives, and is no argument
-pub record ComputeMeets (slots : Slots) (target : List ℕ) (p : WordOp) (args : List (List ℕ)) : Type 0 where
+pub record ComputeMeets (slots : Slots) (target : List ℕ) (p : WordOp) (args : List (List ℕ)) : Type
+    0 where
   pub kinds : List Kind
   pub kind : Kind
   pub have : HaveKinds slots args kinds
@@ -105,15 +120,18 @@ pub record ComputeMeets (slots : Slots) (target : List ℕ) (p : WordOp) (args :
 
 -- each let reads names that can be read, and earlier lets; the assignments read all of these
 abbrev pub LetsMeet : (List ℕ → Bool) → List Equation → List Equation → Type 0
-LetsMeet readable [] assigns = AllByRecursion (λ (e : Equation). TermMeets readable 0 e.value) assigns
-LetsMeet readable (l ∷ lets) assigns = TermMeets readable 0 l.value × LetsMeet (λ name. bytes_eq name l.name || readable name) lets assigns
+LetsMeet readable [] assigns = AllByRecursion (λ (e : Equation). TermMeets readable 0 e.value)
+    assigns
+LetsMeet readable (l ∷ lets) assigns = TermMeets readable 0 l.value
+    × LetsMeet (λ name. bytes_eq name l.name || readable name) lets assigns
 
 -- no two names of a list are the same
 abbrev pub AreDistinct : List (List ℕ) → Type 0
 AreDistinct [] = Unit {0}
 AreDistinct (name ∷ names) = (is_among names name ≡ false) × AreDistinct names
 
--- A block meets the rules: its limits, its lets without places, its states with bits and its other targets with words that
+-- A block meets the rules: its limits, its lets without places, its states with bits and its other
+-- targets with words that
 -- it does not read
 pub record BlockMeets (slots : Slots) (b : Block) : Type 0 where
   pub states : length b.states ≤ MAX_STATES
@@ -128,7 +146,8 @@ pub record BlockMeets (slots : Slots) (b : Block) : Type 0 where
   pub targets_differ : AreDistinct (targets_of b.assigns)
   pub bits : (name : List ℕ) → is_among (state_names b) name ≡ true → HasKind slots name Bit
   pub words : (name : List ℕ) → is_among (word_names b) name ≡ true → HasKind slots name Word
-  pub fresh : (name : List ℕ) → is_among (word_names b) name ≡ true → is_among (block_reads b) name ≡ false
+  pub fresh : (name : List ℕ) → is_among (word_names b) name ≡ true
+      → is_among (block_reads b) name ≡ false
 
 -- the statement is one of an operation that meets the rules
 abbrev pub StatementMeets : Slots → Statement → Type 0

@@ -44,7 +44,8 @@ pub struct Place {
     pub sub: Sub,
 }
 
-/// What is done in one round: read k is input k of the graph, and output j is written to place j. All writes come after
+/// What is done in one round: read k is input k of the graph, and output j is written to place j.
+/// All writes come after
 /// all reads.
 #[derive(Debug, Drop)]
 pub struct Body {

@@ -44,7 +44,8 @@ fn are_named(g: &MigOuts) -> bool
 
 /// Whether the place is a row of none of these values.
 fn is_apart(p: Place, others: &[Place]) -> bool
-    ensures { (result ≡ true) ↔ ((k : ℕ) → k < length others.now → IsOneValue p (nth_place others.now k) → ⊥) }
+    ensures { (result ≡ true) ↔ ((k : ℕ) → k < length others.now
+        → IsOneValue p (nth_place others.now k) → ⊥) }
 {
     for other in others {
         if !are_two_values(p, *other) {
@@ -56,7 +57,8 @@ fn is_apart(p: Place, others: &[Place]) -> bool
 
 /// Whether no two of the places are rows of one value.
 fn are_apart(places: &[Place]) -> bool
-    ensures { (result ≡ true) ↔ ((i j : ℕ) → i < length places.now → j < length places.now → IsOneValue (nth_place places.now i) (nth_place places.now j) → i ≡ j) }
+    ensures { (result ≡ true) ↔ ((i j : ℕ) → i < length places.now → j < length places.now
+        → IsOneValue (nth_place places.now i) (nth_place places.now j) → i ≡ j) }
 {
     match places {
         [] => true,
@@ -66,7 +68,8 @@ fn are_apart(places: &[Place]) -> bool
 
 /// Whether the reads of the written value have the write's subscript.
 fn agrees(write: Place, reads: &[Place]) -> bool
-    ensures { (result ≡ true) ↔ ((k : ℕ) → k < length reads.now → IsOneValue write (nth_place reads.now k) → write.sub ≡ (nth_place reads.now k).sub) }
+    ensures { (result ≡ true) ↔ ((k : ℕ) → k < length reads.now
+        → IsOneValue write (nth_place reads.now k) → write.sub ≡ (nth_place reads.now k).sub) }
 {
     for read in reads {
         if !agree(write, *read) {
@@ -78,7 +81,9 @@ fn agrees(write: Place, reads: &[Place]) -> bool
 
 /// Whether this is so for each write.
 fn all_agree(writes: &[Place], reads: &[Place]) -> bool
-    ensures { (result ≡ true) ↔ ((j k : ℕ) → j < length writes.now → k < length reads.now → IsOneValue (nth_place writes.now j) (nth_place reads.now k) → (nth_place writes.now j).sub ≡ (nth_place reads.now k).sub) }
+    ensures { (result ≡ true) ↔ ((j k : ℕ) → j < length writes.now → k < length reads.now
+        → IsOneValue (nth_place writes.now j) (nth_place reads.now k)
+        → (nth_place writes.now j).sub ≡ (nth_place reads.now k).sub) }
 {
     for write in writes {
         if !agrees(*write, reads) {

@@ -1,5 +1,6 @@
 -- Every round of a loop program by owners keeps the rules.
-use Rattle.std.proofs.Common.{◌≡◌, ℕ, zero, suc, ◌+◌, ◌-◌, ◌*◌, ◌<◌, ◌≤◌, Bool, true, false, List, [], ◌∷◌, ◌++◌, map, length, refl, sym, ap, ◌∙◌, subst, ⊎_elim, arith}
+use Rattle.std.proofs.Common.{◌≡◌, ℕ, zero, suc, ◌+◌, ◌-◌, ◌*◌, ◌<◌, ◌≤◌, Bool, true, false, List}
+use Rattle.std.proofs.Common.{[], ◌∷◌, ◌++◌, map, length, refl, sym, ap, ◌∙◌, subst, ⊎_elim, arith}
 use Rattle.std.specs.Prelude.{◌&&◌, nat_le}
 use Rattle.std.specs.List.{AllByRecursion, list_all}
 use Rattle.std.proofs.lemmas.Bool.{cases_eq, and_parts}
@@ -14,12 +15,17 @@ use Rattle.loop_ir.specs.declared.ir.Place.{Place}
 use Rattle.loop_ir.specs.Plain.{Block, InnerOf, StepOf, AllInner, AllParts, inner_map}
 use Rattle.loop_ir.specs.Plain.InnerOf.{Alone, Across}
 use Rattle.loop_ir.specs.Plain.StepOf.{Single, Along, Nest}
-use Rattle.loop_ir.specs.Loops.{RoundOf, round_at, one_round, rounds, positions, sub_value, inner_rounds, all_rounds}
+use Rattle.loop_ir.specs.Loops.{RoundOf, round_at, one_round, rounds, positions, sub_value}
+use Rattle.loop_ir.specs.Loops.{inner_rounds, all_rounds}
 use Rattle.loop_ir.specs.Spots.{Spot, spot_at, spot_in, nth_place, nth_spot, IsOwn}
 use Rattle.loop_ir.specs.WellFormed.{IsOneValue}
 use Rattle.loop_ir.specs.Costs.{used_subs, code_cost, bodies}
 use Rattle.loop_ir.specs.Limits.{IsRound, step_stands}
-use Rattle.loop_laws.specs.Rooms.{Extent, One, Full, Twice, extent, Room, room_at, Mark, mark_at, Marked, placed, placed_body, placed_steps, row_in, IsOwned, RoomsApart, Reach, Nowhere, Whole, Left, InnerOk, OuterOk, is_long, is_twice, has_inner, is_left, fits, BodyFits, reach_of, InnersFit, StepsFit}
+use Rattle.loop_laws.specs.Rooms.{Extent, One, Full, Twice, extent, Room, room_at, Mark, mark_at}
+use Rattle.loop_laws.specs.Rooms.{Marked, placed, placed_body, placed_steps, row_in, IsOwned}
+use Rattle.loop_laws.specs.Rooms.{RoomsApart, Reach, Nowhere, Whole, Left, InnerOk, OuterOk}
+use Rattle.loop_laws.specs.Rooms.{is_long, is_twice, has_inner, is_left, fits, BodyFits, reach_of}
+use Rattle.loop_laws.specs.Rooms.{InnersFit, StepsFit}
 use Rattle.loop_laws.specs.Forms.{IsSlim, has_room, inners_have_room, steps_have_room}
 use Rattle.loop_laws.specs.Laws.{MarksAreEnough}
 use Rattle.loop_laws.proofs.Good.{steps_are_fit}
@@ -57,25 +63,39 @@ outer_below n o true ok e = ok
 outer_below n o false ok e = cc
 
 -- a subscript that fits stays below the number of rows
-pub within : (n i o : ℕ) (r : Reach) (outer : Bool) (w : Extent) (u : Sub) → 0 < n → InnerOk n i o r → OuterOk n o outer → fits r outer w u ≡ true → sub_value n i o u < extent n w
+pub within : (n i o : ℕ) (r : Reach) (outer : Bool) (w : Extent) (u : Sub) → 0 < n → InnerOk n i o r
+    → OuterOk n o outer → fits r outer w u ≡ true → sub_value n i o u < extent n w
 within n i o r outer w sub.Zero h ik ok e = first n w h
 within n i o r outer w sub.Top h ik ok e = let a = long n w e in omega arith
-within n i o r outer w sub.Inner h ik ok e = let p = and_parts (is_long w) (has_inner r) e in let a = long n w p.0 in let b = inner_below n i o r ik p.1 in omega arith
-within n i o r outer w sub.InnerDown h ik ok e = let p = and_parts (is_long w) (has_inner r) e in let a = long n w p.0 in omega arith
-within n i o r outer w sub.Outer h ik ok e = let p = and_parts (is_long w) outer e in let a = long n w p.0 in let b = outer_below n o outer ok p.1 in omega arith
-within n i o r outer w sub.OuterDown h ik ok e = let p = and_parts (is_long w) outer e in let a = long n w p.0 in omega arith
-within n i o r outer w sub.Sum h ik ok e = let p = and_parts (is_long w) (outer && is_left r) e in let q = and_parts outer (is_left r) p.1 in let a = long n w p.0 in let b = left_below n i o r ik q.1 in omega arith
-within n i o r outer w sub.DownSum h ik ok e = let p = and_parts (is_twice w) (outer && has_inner r) e in let q = and_parts outer (has_inner r) p.1 in let a = twice n w p.0 in let b = inner_below n i o r ik q.1 in omega arith
-within n i o r outer w sub.DownPlusN h ik ok e = let p = and_parts (is_twice w) outer e in let a = twice n w p.0 in omega arith
-within n i o r outer w sub.NPlusInner h ik ok e = let p = and_parts (is_twice w) (has_inner r) e in let a = twice n w p.0 in let b = inner_below n i o r ik p.1 in omega arith
+within n i o r outer w sub.Inner h ik ok e = let p = and_parts (is_long w) (has_inner r) e in
+    let a = long n w p.0 in let b = inner_below n i o r ik p.1 in omega arith
+within n i o r outer w sub.InnerDown h ik ok e = let p = and_parts (is_long w) (has_inner r) e in
+    let a = long n w p.0 in omega arith
+within n i o r outer w sub.Outer h ik ok e = let p = and_parts (is_long w) outer e in
+    let a = long n w p.0 in let b = outer_below n o outer ok p.1 in omega arith
+within n i o r outer w sub.OuterDown h ik ok e = let p = and_parts (is_long w) outer e in
+    let a = long n w p.0 in omega arith
+within n i o r outer w sub.Sum h ik ok e = let p = and_parts (is_long w) (outer && is_left r) e in
+    let q = and_parts outer (is_left r) p.1 in let a = long n w p.0 in
+    let b = left_below n i o r ik q.1 in omega arith
+within n i o r outer w sub.DownSum h ik ok e = let p =
+    and_parts (is_twice w) (outer && has_inner r) e in let q = and_parts outer (has_inner r) p.1 in
+    let a = twice n w p.0 in let b = inner_below n i o r ik q.1 in omega arith
+within n i o r outer w sub.DownPlusN h ik ok e = let p = and_parts (is_twice w) outer e in
+    let a = twice n w p.0 in omega arith
+within n i o r outer w sub.NPlusInner h ik ok e = let p = and_parts (is_twice w) (has_inner r) e in
+    let a = twice n w p.0 in let b = inner_below n i o r ik p.1 in omega arith
 
-nth_placed : (rooms : List Room) (ms : List Mark) (k : ℕ) → k < length ms → nth_place (map (placed rooms) ms) k ≡ placed rooms (mark_at ms k)
+nth_placed : (rooms : List Room) (ms : List Mark) (k : ℕ) → k < length ms
+    → nth_place (map (placed rooms) ms) k ≡ placed rooms (mark_at ms k)
 nth_placed rooms [] k lt = absurd (omega arith)
 nth_placed rooms (m ∷ ms) zero lt = refl
 nth_placed rooms (m ∷ ms) (suc k) lt = nth_placed rooms ms k (omega arith)
 
-placed_same : (rooms : List Room) (p m : Mark) → p.owner ≡ m.owner → p.sub ≡ m.sub → placed rooms p ≡ placed rooms m
-placed_same rooms p m e f = ap (λ x. placed rooms (record { owner = x; sub = p.sub })) e ∙ ap (λ x. placed rooms (record { owner = m.owner; sub = x })) f
+placed_same : (rooms : List Room) (p m : Mark) → p.owner ≡ m.owner → p.sub ≡ m.sub
+    → placed rooms p ≡ placed rooms m
+placed_same rooms p m e f = ap (λ x. placed rooms (record { owner = x; sub = p.sub })) e
+    ∙ ap (λ x. placed rooms (record { owner = m.owner; sub = x })) f
 
 below_map : {A B : Type 0} (f : A → B) (xs : List A) (k : ℕ) → k < length (map f xs) → k < length xs
 below_map f xs k lt = let e = length-map xs f in omega arith
@@ -86,59 +106,110 @@ own_spot n Source w v own = own
 own_spot n ScratchBit w v own = own
 own_spot n ScratchWord w v own = own
 
-module _ (n : ℕ) (rooms : List Room) (some : 0 < n) (are : RoomsApart n rooms) (r : Reach) (outer : Bool) (b : Marked) (fit : BodyFits r outer rooms b.reads b.writes) where
+module _ (n : ℕ) (rooms : List Room) (some : 0 < n) (are : RoomsApart n rooms) (r : Reach)
+    (outer : Bool) (b : Marked) (fit : BodyFits r outer rooms b.reads b.writes) where
   module _ (i o : ℕ) (ik : InnerOk n i o r) (ok : OuterOk n o outer) where
-    read_at : (k : ℕ) → k < length b.reads → nth_spot n i o (map (placed rooms) b.reads) k ≡ row_in n (room_at rooms (mark_at b.reads k).owner) (sub_value n i o (mark_at b.reads k).sub)
+    read_at : (k : ℕ) → k < length b.reads → nth_spot n i o (map (placed rooms) b.reads) k
+        ≡ row_in n (room_at rooms (mark_at b.reads k).owner)
+        (sub_value n i o (mark_at b.reads k).sub)
     read_at k lk = ap (spot_at n i o) (nth_placed rooms b.reads k lk)
 
-    write_at : (j : ℕ) → j < length b.writes → nth_spot n i o (map (placed rooms) b.writes) j ≡ row_in n (room_at rooms (mark_at b.writes j).owner) (sub_value n i o (mark_at b.writes j).sub)
+    write_at : (j : ℕ) → j < length b.writes → nth_spot n i o (map (placed rooms) b.writes) j
+        ≡ row_in n (room_at rooms (mark_at b.writes j).owner)
+        (sub_value n i o (mark_at b.writes j).sub)
     write_at j lj = ap (spot_at n i o) (nth_placed rooms b.writes j lj)
 
-    read_below : (k : ℕ) → k < length b.reads → sub_value n i o (mark_at b.reads k).sub < extent n (room_at rooms (mark_at b.reads k).owner).rows
-    read_below k lk = within n i o r outer (room_at rooms (mark_at b.reads k).owner).rows (mark_at b.reads k).sub some ik ok (fit.read_fits k lk)
+    read_below : (k : ℕ) → k < length b.reads
+        → sub_value n i o (mark_at b.reads k).sub
+        < extent n (room_at rooms (mark_at b.reads k).owner).rows
+    read_below k lk = within n i o r outer (room_at rooms (mark_at b.reads k).owner).rows
+        (mark_at b.reads k).sub some ik ok (fit.read_fits k lk)
 
-    write_below : (j : ℕ) → j < length b.writes → sub_value n i o (mark_at b.writes j).sub < extent n (room_at rooms (mark_at b.writes j).owner).rows
-    write_below j lj = within n i o r outer (room_at rooms (mark_at b.writes j).owner).rows (mark_at b.writes j).sub some ik ok (fit.write_fits j lj)
+    write_below : (j : ℕ) → j < length b.writes
+        → sub_value n i o (mark_at b.writes j).sub
+        < extent n (room_at rooms (mark_at b.writes j).owner).rows
+    write_below j lj = within n i o r outer (room_at rooms (mark_at b.writes j).owner).rows
+        (mark_at b.writes j).sub some ik ok (fit.write_fits j lj)
 
     -- rows that are one have one owner
-    writes_meet : (i' j : ℕ) → i' < length b.writes → j < length b.writes → nth_spot n i o (map (placed rooms) b.writes) i' ≡ nth_spot n i o (map (placed rooms) b.writes) j → (mark_at b.writes i').owner ≡ (mark_at b.writes j).owner
+    writes_meet : (i' j : ℕ) → i' < length b.writes → j < length b.writes
+        → nth_spot n i o (map (placed rooms) b.writes) i'
+        ≡ nth_spot n i o (map (placed rooms) b.writes) j
+        → (mark_at b.writes i').owner ≡ (mark_at b.writes j).owner
     writes_meet i' j li lj e = ⊎_elim
         (λ (c : (mark_at b.writes i').owner ≡ (mark_at b.writes j).owner). c)
-        (λ (c : (mark_at b.writes i').owner ≡ (mark_at b.writes j).owner → ⊥). absurd (are.apart (mark_at b.writes i').owner (mark_at b.writes j).owner (sub_value n i o (mark_at b.writes i').sub) (sub_value n i o (mark_at b.writes j).sub) (fit.write_owner i' li) (fit.write_owner j lj) (fit.written i' li) c (write_below i' li) (write_below j lj) (sym (write_at i' li) ∙ e ∙ write_at j lj)))
+        (λ (c : (mark_at b.writes i').owner ≡ (mark_at b.writes j).owner
+        → ⊥). absurd (are.apart (mark_at b.writes i').owner (mark_at b.writes j).owner
+        (sub_value n i o (mark_at b.writes i').sub) (sub_value n i o (mark_at b.writes j).sub)
+        (fit.write_owner i' li) (fit.write_owner j lj) (fit.written i' li) c (write_below i' li)
+        (write_below j lj) (sym (write_at i' li) ∙ e ∙ write_at j lj)))
         (cases_eq (mark_at b.writes i').owner (mark_at b.writes j).owner)
 
-    reads_meet : (j k : ℕ) → j < length b.writes → k < length b.reads → nth_spot n i o (map (placed rooms) b.writes) j ≡ nth_spot n i o (map (placed rooms) b.reads) k → (mark_at b.writes j).owner ≡ (mark_at b.reads k).owner
+    reads_meet : (j k : ℕ) → j < length b.writes → k < length b.reads
+        → nth_spot n i o (map (placed rooms) b.writes) j
+        ≡ nth_spot n i o (map (placed rooms) b.reads) k
+        → (mark_at b.writes j).owner ≡ (mark_at b.reads k).owner
     reads_meet j k lj lk e = ⊎_elim
         (λ (c : (mark_at b.writes j).owner ≡ (mark_at b.reads k).owner). c)
-        (λ (c : (mark_at b.writes j).owner ≡ (mark_at b.reads k).owner → ⊥). absurd (are.apart (mark_at b.writes j).owner (mark_at b.reads k).owner (sub_value n i o (mark_at b.writes j).sub) (sub_value n i o (mark_at b.reads k).sub) (fit.write_owner j lj) (fit.read_owner k lk) (fit.written j lj) c (write_below j lj) (read_below k lk) (sym (write_at j lj) ∙ e ∙ read_at k lk)))
+        (λ (c : (mark_at b.writes j).owner ≡ (mark_at b.reads k).owner
+        → ⊥). absurd (are.apart (mark_at b.writes j).owner (mark_at b.reads k).owner
+        (sub_value n i o (mark_at b.writes j).sub) (sub_value n i o (mark_at b.reads k).sub)
+        (fit.write_owner j lj) (fit.read_owner k lk) (fit.written j lj) c (write_below j lj)
+        (read_below k lk) (sym (write_at j lj) ∙ e ∙ read_at k lk)))
         (cases_eq (mark_at b.writes j).owner (mark_at b.reads k).owner)
 
-    space_of : (j : ℕ) → j < length b.writes → IsOwn (nth_spot n i o (map (placed rooms) b.writes) j).space
-    space_of j lj = let w = (room_at rooms (mark_at b.writes j).owner) in subst (λ (q : Spot). IsOwn q.space) (sym (write_at j lj)) (own_spot n w.space w.which (sub_value n i o (mark_at b.writes j).sub) (are.own (mark_at b.writes j).owner (fit.write_owner j lj) (fit.written j lj)))
+    space_of : (j : ℕ) → j < length b.writes
+        → IsOwn (nth_spot n i o (map (placed rooms) b.writes) j).space
+    space_of j lj = let w = (room_at rooms (mark_at b.writes j).owner) in
+        subst (λ (q : Spot). IsOwn q.space) (sym (write_at j lj))
+        (own_spot n w.space w.which (sub_value n i o (mark_at b.writes j).sub)
+        (are.own (mark_at b.writes j).owner (fit.write_owner j lj) (fit.written j lj)))
 
     round_is : IsRound (IsOwned n rooms) n (round_at (placed_body rooms b) i o)
     round_is =
         let rd = below_map (placed rooms) b.reads in
         let wr = below_map (placed rooms) b.writes in
         record {
-          reads = λ k lk. ((mark_at b.reads k).owner, sub_value n i o (mark_at b.reads k).sub, fit.read_owner k (rd k lk), read_below k (rd k lk), read_at k (rd k lk));
-          writes = λ j lj. ((mark_at b.writes j).owner, sub_value n i o (mark_at b.writes j).sub, fit.write_owner j (wr j lj), write_below j (wr j lj), write_at j (wr j lj));
+          reads = λ k lk. (
+            (mark_at b.reads k).owner,
+            sub_value n i o (mark_at b.reads k).sub,
+            fit.read_owner k (rd k lk),
+            read_below k (rd k lk),
+            read_at k (rd k lk),
+          );
+          writes = λ j lj. (
+            (mark_at b.writes j).owner,
+            sub_value n i o (mark_at b.writes j).sub,
+            fit.write_owner j (wr j lj),
+            write_below j (wr j lj),
+            write_at j (wr j lj),
+          );
           own = λ j lj. space_of j (wr j lj);
-          apart = λ i' j li lj e. fit.differ i' j (wr i' li) (wr j lj) (writes_meet i' j (wr i' li) (wr j lj) e);
-          same = λ j k lj lk e. (let c = reads_meet j k (wr j lj) (rd k lk) e in nth_placed rooms b.writes j (wr j lj) ∙ placed_same rooms (mark_at b.writes j) (mark_at b.reads k) c (fit.same j k (wr j lj) (rd k lk) c) ∙ sym (nth_placed rooms b.reads k (rd k lk)));
-          once = λ j k l lj lk ll e f. fit.once j k l (wr j lj) (rd k lk) (rd l ll) (reads_meet j k (wr j lj) (rd k lk) e) (reads_meet j l (wr j lj) (rd l ll) f);
+          apart = λ i' j li lj e. fit.differ i' j (wr i' li) (wr j lj)
+              (writes_meet i' j (wr i' li) (wr j lj) e);
+          same = λ j k lj lk e. (let c = reads_meet j k (wr j lj) (rd k lk) e in
+              nth_placed rooms b.writes j (wr j lj)
+              ∙ placed_same rooms (mark_at b.writes j) (mark_at b.reads k) c
+              (fit.same j k (wr j lj) (rd k lk) c) ∙ sym (nth_placed rooms b.reads k (rd k lk)));
+          once = λ j k l lj lk ll e f. fit.once j k l (wr j lj) (rd k lk) (rd l ll)
+              (reads_meet j k (wr j lj) (rd k lk) e) (reads_meet j l (wr j lj) (rd l ll) f);
         }
 
   -- places of one value have one owner
-  one_owner : (p q : Place) (x y : Mark) → p ≡ placed rooms x → q ≡ placed rooms y → x.owner < length rooms → y.owner < length rooms → (room_at rooms x.owner).written ≡ true → IsOneValue p q → x.owner ≡ y.owner
+  one_owner : (p q : Place) (x y : Mark) → p ≡ placed rooms x → q ≡ placed rooms y
+      → x.owner < length rooms → y.owner < length rooms → (room_at rooms x.owner).written ≡ true
+      → IsOneValue p q → x.owner ≡ y.owner
   one_owner p q x y ep eq lx ly w e = ⊎_elim
       (λ (c : x.owner ≡ y.owner). c)
       (λ (c : x.owner ≡ y.owner → ⊥).
       let a = room_at rooms x.owner in
       let b = room_at rooms y.owner in
-      let s : a.space ≡ b.space = sym (ap (λ (p : Place). p.space) ep) ∙ e.0 ∙ ap (λ (p : Place). p.space) eq in
-      let t : a.which ≡ b.which = sym (ap (λ (p : Place). p.which) ep) ∙ e.1 ∙ ap (λ (p : Place). p.which) eq in
-      absurd (are.apart x.owner y.owner 0 0 lx ly w c (first n a.rows some) (first n b.rows some) (ap (λ z. spot_in n z a.which 0) s ∙ ap (λ z. spot_in n b.space z 0) t)))
+      let s : a.space ≡ b.space = sym (ap (λ (p : Place). p.space) ep) ∙ e.0
+      ∙ ap (λ (p : Place). p.space) eq in
+      let t : a.which ≡ b.which = sym (ap (λ (p : Place). p.which) ep) ∙ e.1
+      ∙ ap (λ (p : Place). p.which) eq in
+      absurd (are.apart x.owner y.owner 0 0 lx ly w c (first n a.rows some) (first n b.rows some)
+      (ap (λ z. spot_in n z a.which 0) s ∙ ap (λ z. spot_in n b.space z 0) t)))
       (cases_eq x.owner y.owner)
 
   pub slim_is : has_room (placed_body rooms b) ≡ true → IsSlim (placed_body rooms b)
@@ -154,10 +225,18 @@ module _ (n : ℕ) (rooms : List Room) (some : 0 < n) (are : RoomsApart n rooms)
       record {
         reads = most_is c.graph.inputs (length c.reads) a1.0;
         writes = most_is (length c.outs) (length c.writes) a2.0;
-        apart = λ i j li lj h. fit.differ i j (wr i li) (wr j lj) (one_owner (nth_place c.writes i) (nth_place c.writes j) (mark_at b.writes i) (mark_at b.writes j) (nth_placed rooms b.writes i (wr i li)) (nth_placed rooms b.writes j (wr j lj)) (fit.write_owner i (wr i li)) (fit.write_owner j (wr j lj)) (fit.written i (wr i li)) h);
+        apart = λ i j li lj h. fit.differ i j (wr i li) (wr j lj)
+            (one_owner (nth_place c.writes i) (nth_place c.writes j) (mark_at b.writes i)
+            (mark_at b.writes j) (nth_placed rooms b.writes i (wr i li))
+            (nth_placed rooms b.writes j (wr j lj)) (fit.write_owner i (wr i li))
+            (fit.write_owner j (wr j lj)) (fit.written i (wr i li)) h);
         same = λ j k lj lk h.
             ap (λ (p : Place). p.sub) (nth_placed rooms b.writes j (wr j lj))
-            ∙ fit.same j k (wr j lj) (rd k lk) (one_owner (nth_place c.writes j) (nth_place c.reads k) (mark_at b.writes j) (mark_at b.reads k) (nth_placed rooms b.writes j (wr j lj)) (nth_placed rooms b.reads k (rd k lk)) (fit.write_owner j (wr j lj)) (fit.read_owner k (rd k lk)) (fit.written j (wr j lj)) h)
+            ∙ fit.same j k (wr j lj) (rd k lk)
+            (one_owner (nth_place c.writes j) (nth_place c.reads k) (mark_at b.writes j)
+            (mark_at b.reads k) (nth_placed rooms b.writes j (wr j lj))
+            (nth_placed rooms b.reads k (rd k lk)) (fit.write_owner j (wr j lj))
+            (fit.read_owner k (rd k lk)) (fit.written j (wr j lj)) h)
             ∙ sym (ap (λ (p : Place). p.sub) (nth_placed rooms b.reads k (rd k lk)));
         inputs = most_is c.graph.inputs 80 a3.0;
         outputs = most_is (length c.outs) 8 a4.0;
@@ -165,49 +244,92 @@ module _ (n : ℕ) (rooms : List Room) (some : 0 < n) (are : RoomsApart n rooms)
         subs = most_is (length (used_subs c)) 3 a5.1;
       }
 
-pub all_append : {A : Type 0} (P : A → Type 0) (xs ys : List A) → AllByRecursion P xs → AllByRecursion P ys → AllByRecursion P (xs ++ ys)
+pub all_append : {A : Type 0} (P : A → Type 0) (xs ys : List A) → AllByRecursion P xs
+    → AllByRecursion P ys → AllByRecursion P (xs ++ ys)
 all_append P [] ys a b = b
 all_append P (x ∷ xs) ys a b = (a.0, all_append P xs ys a.1 b)
 
-pub all_rounds_of : {A : Type 0} (P : A → Type 0) (f : ℕ → List A) (i count limit : ℕ) → i + count ≡ limit → ((j : ℕ) → j < limit → AllByRecursion P (f j)) → AllByRecursion P (rounds f i count)
+pub all_rounds_of : {A : Type 0} (P : A → Type 0) (f : ℕ → List A) (i count limit : ℕ)
+    → i + count ≡ limit → ((j : ℕ) → j < limit → AllByRecursion P (f j))
+    → AllByRecursion P (rounds f i count)
 all_rounds_of P f i zero limit e h = tt
-all_rounds_of P f i (suc count) limit e h = all_append P (f i) (rounds f (i + 1) count) (h i (omega arith)) (all_rounds_of P f (i + 1) count limit (omega arith) h)
+all_rounds_of P f i (suc count) limit e h = all_append P (f i) (rounds f (i + 1) count)
+    (h i (omega arith)) (all_rounds_of P f (i + 1) count limit (omega arith) h)
 
 reach_ok : (n : ℕ) (c : Count) (i o : ℕ) → i < positions n o c → InnerOk n i o (reach_of c)
 reach_ok n All i o lt = lt
 reach_ok n Rest i o lt = lt
 
 module _ (n : ℕ) (rooms : List Room) (some : 0 < n) (are : RoomsApart n rooms) where
-  inners_are : (ps : List (InnerOf Marked)) (o : ℕ) → o < n → InnersFit rooms ps → AllByRecursion (IsRound (IsOwned n rooms) n) (inner_rounds n o (map (inner_map (placed_body rooms)) ps))
+  inners_are : (ps : List (InnerOf Marked)) (o : ℕ) → o < n → InnersFit rooms ps
+      → AllByRecursion (IsRound (IsOwned n rooms) n)
+      (inner_rounds n o (map (inner_map (placed_body rooms)) ps))
   inners_are [] o lo fit = tt
-  inners_are (Alone b ∷ ps) o lo fit = (round_is n rooms some are Nowhere true b fit.0 0 o tt lo, inners_are ps o lo fit.1)
-  inners_are (Across c b ∷ ps) o lo fit = all_append (IsRound (IsOwned n rooms) n) (rounds (λ i. one_round (placed_body rooms b) i o) 0 (positions n o c)) (inner_rounds n o (map (inner_map (placed_body rooms)) ps))
-      (all_rounds_of (IsRound (IsOwned n rooms) n) (λ i. one_round (placed_body rooms b) i o) 0 (positions n o c) (positions n o c) (omega arith) (λ i lt. (round_is n rooms some are (reach_of c) true b fit.0 i o (reach_ok n c i o lt) lo, tt)))
+  inners_are (Alone b ∷ ps) o lo fit = (
+    round_is n rooms some are Nowhere true b fit.0 0 o tt lo,
+    inners_are ps o lo fit.1,
+  )
+  inners_are (Across c b ∷ ps) o lo fit = all_append (IsRound (IsOwned n rooms) n)
+      (rounds (λ i. one_round (placed_body rooms b) i o) 0 (positions n o c))
+      (inner_rounds n o (map (inner_map (placed_body rooms)) ps))
+      (all_rounds_of (IsRound (IsOwned n rooms) n) (λ i. one_round (placed_body rooms b) i o) 0
+      (positions n o c) (positions n o c) (omega arith)
+      (λ i lt. (
+        round_is n rooms some are (reach_of c) true b fit.0 i o (reach_ok n c i o lt)
+            lo,
+        tt,
+      )))
       (inners_are ps o lo fit.1)
 
-  pub rounds_are : (ss : List (StepOf Marked)) → StepsFit rooms ss → AllByRecursion (IsRound (IsOwned n rooms) n) (all_rounds n (placed_steps rooms ss))
+  pub rounds_are : (ss : List (StepOf Marked)) → StepsFit rooms ss
+      → AllByRecursion (IsRound (IsOwned n rooms) n) (all_rounds n (placed_steps rooms ss))
   rounds_are [] fit = tt
-  rounds_are (Single b ∷ ss) fit = (round_is n rooms some are Nowhere false b fit.0 0 0 tt tt, rounds_are ss fit.1)
-  rounds_are (Along b ∷ ss) fit = all_append (IsRound (IsOwned n rooms) n) (rounds (λ i. one_round (placed_body rooms b) i 0) 0 n) (all_rounds n (placed_steps rooms ss))
-      (all_rounds_of (IsRound (IsOwned n rooms) n) (λ i. one_round (placed_body rooms b) i 0) 0 n n (omega arith) (λ i lt. (round_is n rooms some are Whole false b fit.0 i 0 lt tt, tt)))
+  rounds_are (Single b ∷ ss) fit = (
+    round_is n rooms some are Nowhere false b fit.0 0 0 tt tt,
+    rounds_are ss fit.1,
+  )
+  rounds_are (Along b ∷ ss) fit = all_append (IsRound (IsOwned n rooms) n)
+      (rounds (λ i. one_round (placed_body rooms b) i 0) 0 n) (all_rounds n (placed_steps rooms ss))
+      (all_rounds_of (IsRound (IsOwned n rooms) n) (λ i. one_round (placed_body rooms b) i 0) 0 n n
+      (omega arith) (λ i lt. (round_is n rooms some are Whole false b fit.0 i 0 lt tt, tt)))
       (rounds_are ss fit.1)
-  rounds_are (Nest ps ∷ ss) fit = all_append (IsRound (IsOwned n rooms) n) (rounds (λ o. inner_rounds n o (map (inner_map (placed_body rooms)) ps)) 0 n) (all_rounds n (placed_steps rooms ss))
-      (all_rounds_of (IsRound (IsOwned n rooms) n) (λ o. inner_rounds n o (map (inner_map (placed_body rooms)) ps)) 0 n n (omega arith) (λ o lt. inners_are ps o lt fit.0))
+  rounds_are (Nest ps ∷ ss) fit = all_append (IsRound (IsOwned n rooms) n)
+      (rounds (λ o. inner_rounds n o (map (inner_map (placed_body rooms)) ps)) 0 n)
+      (all_rounds n (placed_steps rooms ss))
+      (all_rounds_of (IsRound (IsOwned n rooms) n) (λ o.
+      inner_rounds n o (map (inner_map (placed_body rooms)) ps)) 0 n n (omega arith)
+      (λ o lt. inners_are ps o lt fit.0))
       (rounds_are ss fit.1)
 
-  inners_slim : (ps : List (InnerOf Marked)) → InnersFit rooms ps → inners_have_room (map (inner_map (placed_body rooms)) ps) ≡ true → AllInner IsSlim (map (inner_map (placed_body rooms)) ps)
+  inners_slim : (ps : List (InnerOf Marked)) → InnersFit rooms ps
+      → inners_have_room (map (inner_map (placed_body rooms)) ps) ≡ true
+      → AllInner IsSlim (map (inner_map (placed_body rooms)) ps)
   inners_slim [] fit e = tt
-  inners_slim (Alone b ∷ ps) fit e = let a = and_parts (has_room (placed_body rooms b)) (inners_have_room (map (inner_map (placed_body rooms)) ps)) e in (slim_is n rooms some are Nowhere true b fit.0 a.0, inners_slim ps fit.1 a.1)
-  inners_slim (Across c b ∷ ps) fit e = let a = and_parts (has_room (placed_body rooms b)) (inners_have_room (map (inner_map (placed_body rooms)) ps)) e in (slim_is n rooms some are (reach_of c) true b fit.0 a.0, inners_slim ps fit.1 a.1)
+  inners_slim (Alone b ∷ ps) fit e = let a = and_parts (has_room (placed_body rooms b))
+      (inners_have_room (map (inner_map (placed_body rooms)) ps)) e in
+      (slim_is n rooms some are Nowhere true b fit.0 a.0, inners_slim ps fit.1 a.1)
+  inners_slim (Across c b ∷ ps) fit e = let a =
+      and_parts (has_room (placed_body rooms b))
+      (inners_have_room (map (inner_map (placed_body rooms)) ps)) e in
+      (slim_is n rooms some are (reach_of c) true b fit.0 a.0, inners_slim ps fit.1 a.1)
 
-  pub steps_slim : (ss : List (StepOf Marked)) → StepsFit rooms ss → steps_have_room (placed_steps rooms ss) ≡ true → AllParts IsSlim (placed_steps rooms ss)
+  pub steps_slim : (ss : List (StepOf Marked)) → StepsFit rooms ss
+      → steps_have_room (placed_steps rooms ss) ≡ true → AllParts IsSlim (placed_steps rooms ss)
   steps_slim [] fit e = tt
-  steps_slim (Single b ∷ ss) fit e = let a = and_parts (has_room (placed_body rooms b)) (steps_have_room (placed_steps rooms ss)) e in (slim_is n rooms some are Nowhere false b fit.0 a.0, steps_slim ss fit.1 a.1)
-  steps_slim (Along b ∷ ss) fit e = let a = and_parts (has_room (placed_body rooms b)) (steps_have_room (placed_steps rooms ss)) e in (slim_is n rooms some are Whole false b fit.0 a.0, steps_slim ss fit.1 a.1)
-  steps_slim (Nest ps ∷ ss) fit e = let a = and_parts (inners_have_room (map (inner_map (placed_body rooms)) ps)) (steps_have_room (placed_steps rooms ss)) e in (inners_slim ps fit.0 a.0, steps_slim ss fit.1 a.1)
+  steps_slim (Single b ∷ ss) fit e = let a = and_parts (has_room (placed_body rooms b))
+      (steps_have_room (placed_steps rooms ss)) e in
+      (slim_is n rooms some are Nowhere false b fit.0 a.0, steps_slim ss fit.1 a.1)
+  steps_slim (Along b ∷ ss) fit e = let a = and_parts (has_room (placed_body rooms b))
+      (steps_have_room (placed_steps rooms ss)) e in
+      (slim_is n rooms some are Whole false b fit.0 a.0, steps_slim ss fit.1 a.1)
+  steps_slim (Nest ps ∷ ss) fit e = let a = and_parts
+      (inners_have_room (map (inner_map (placed_body rooms)) ps))
+      (steps_have_room (placed_steps rooms ss)) e in
+      (inners_slim ps fit.0 a.0, steps_slim ss fit.1 a.1)
 
 -- the rows that it may have are among others
-pub round_among : (P Q : Spot → Type 0) → ((q : Spot) → P q → Q q) → (n : ℕ) (r : RoundOf Block) → IsRound P n r → IsRound Q n r
+pub round_among : (P Q : Spot → Type 0) → ((q : Spot) → P q → Q q) → (n : ℕ) (r : RoundOf Block)
+    → IsRound P n r → IsRound Q n r
 round_among P Q h n r is = record {
   reads = λ k lk. h _ (is.reads k lk);
   writes = λ j lj. h _ (is.writes j lj);
@@ -217,7 +339,9 @@ round_among P Q h n r is = record {
   once = is.once;
 }
 
-pub rounds_among : (P Q : Spot → Type 0) → ((q : Spot) → P q → Q q) → (n : ℕ) (rs : List (RoundOf Block)) → AllByRecursion (IsRound P n) rs → AllByRecursion (IsRound Q n) rs
+pub rounds_among : (P Q : Spot → Type 0) → ((q : Spot) → P q → Q q)
+    → (n : ℕ) (rs : List (RoundOf Block)) → AllByRecursion (IsRound P n) rs
+    → AllByRecursion (IsRound Q n) rs
 rounds_among P Q h n [] all = tt
 rounds_among P Q h n (r ∷ rs) all = (round_among P Q h n r all.0, rounds_among P Q h n rs all.1)
 
@@ -225,13 +349,16 @@ pub marks_are_enough : (may_have : ℕ → Spot → Type 0) → MarksAreEnough m
 marks_are_enough may_have rooms steps are among tested short =
     let ss = placed_steps rooms steps in
     let fit = steps_are_fit rooms steps tested in
-    let a = and_parts (steps_have_room ss) (list_all step_stands ss && (nat_le (code_cost ss) 256 && nat_le (bodies ss) 12)) short in
-    let b = and_parts (list_all step_stands ss) (nat_le (code_cost ss) 256 && nat_le (bodies ss) 12) a.1 in
+    let a = and_parts (steps_have_room ss) (list_all step_stands ss
+    && (nat_le (code_cost ss) 256 && nat_le (bodies ss) 12)) short in
+    let b = and_parts (list_all step_stands ss) (nat_le (code_cost ss) 256 && nat_le (bodies ss) 12)
+    a.1 in
     let c = and_parts (nat_le (code_cost ss) 256) (nat_le (bodies ss) 12) b.1 in
     record {
       slim = steps_slim 1 rooms (omega arith) (are 1 (omega arith) (omega arith)) steps fit a.0;
       stand = b.0;
-      rounds = λ n some most. rounds_among (IsOwned n rooms) (may_have n) (among n some most) n (all_rounds n ss) (rounds_are n rooms some (are n some most) steps fit);
+      rounds = λ n some most. rounds_among (IsOwned n rooms) (may_have n) (among n some most) n
+          (all_rounds n ss) (rounds_are n rooms some (are n some most) steps fit);
       size = most_is (code_cost ss) 256 c.0;
       few = most_is (bodies ss) 12 c.1;
     }

@@ -1,5 +1,6 @@
 -- The test on owners and subscripts is enough for a body.
-use Rattle.std.proofs.Common.{◌≡◌, ℕ, zero, suc, ◌<◌, Bool, true, false, not, cond, List, [], ◌∷◌, length, refl, sym, ap, ◌∙◌, ⊎_elim, arith, ◌⊎◌, inl, inr}
+use Rattle.std.proofs.Common.{◌≡◌, ℕ, zero, suc, ◌<◌, Bool, true, false, not, cond, List, [], ◌∷◌}
+use Rattle.std.proofs.Common.{length, refl, sym, ap, ◌∙◌, ⊎_elim, arith, ◌⊎◌, inl, inr}
 use Rattle.std.specs.Prelude.{◌==◌, ◌&&◌, nat_lt}
 use Rattle.std.proofs.lemmas.Bool.{cases_Bool, and_parts, eqb-true, eq-eqb}
 use Rattle.loop_ir.specs.declared.ir.Sub.{Sub}
@@ -8,7 +9,9 @@ use Rattle.loop_ir.specs.Plain.{InnerOf, StepOf}
 use Rattle.loop_ir.specs.Plain.InnerOf.{Alone, Across}
 use Rattle.loop_ir.specs.Plain.StepOf.{Single, Along, Nest}
 use Rattle.loop_ir.specs.Costs.{sub_code}
-use Rattle.loop_laws.specs.Rooms.{Room, room_at, Mark, mark_at, Marked, Reach, Nowhere, Whole, fits, BodyFits, reach_of, InnersFit, StepsFit, all_fit, none_like, alone_in, writes_fit, body_fits, inners_fit, steps_fit}
+use Rattle.loop_laws.specs.Rooms.{Room, room_at, Mark, mark_at, Marked, Reach, Nowhere, Whole, fits}
+use Rattle.loop_laws.specs.Rooms.{BodyFits, reach_of, InnersFit, StepsFit, all_fit, none_like}
+use Rattle.loop_laws.specs.Rooms.{alone_in, writes_fit, body_fits, inners_fit, steps_fit}
 
 less_is : (a b : ℕ) → nat_lt a b ≡ true → a < b
 less_is a b e = grind arith
@@ -46,46 +49,65 @@ not_true : (b : Bool) → not b ≡ true → b ≡ true → ⊥
 not_true true e f = cc
 not_true false e f = cc
 
-none_at : (owner : ℕ) (ms : List Mark) (k : ℕ) → none_like owner ms ≡ true → k < length ms → owner ≡ (mark_at ms k).owner → ⊥
+none_at : (owner : ℕ) (ms : List Mark) (k : ℕ) → none_like owner ms ≡ true → k < length ms
+    → owner ≡ (mark_at ms k).owner → ⊥
 none_at owner [] k e lt h = absurd (omega arith)
-none_at owner (m ∷ ms) zero e lt h = not_true (owner == m.owner) (and_parts (not (owner == m.owner)) (none_like owner ms) e).0 (eq-eqb owner m.owner h)
-none_at owner (m ∷ ms) (suc k) e lt h = none_at owner ms k (and_parts (not (owner == m.owner)) (none_like owner ms) e).1 (omega arith) h
+none_at owner (m ∷ ms) zero e lt h = not_true (owner
+    == m.owner) (and_parts (not (owner == m.owner)) (none_like owner ms) e).0
+    (eq-eqb owner m.owner h)
+none_at owner (m ∷ ms) (suc k) e lt h = none_at owner ms k
+    (and_parts (not (owner == m.owner)) (none_like owner ms) e).1 (omega arith) h
 
 -- of a list of reads, the first has the owner and no other, or it has not
-alone_cases : (p m : Mark) (ms : List Mark) → alone_in p (m ∷ ms) ≡ true → ((p.sub ≡ m.sub) × (none_like p.owner ms ≡ true)) ⊎ ((p.owner ≡ m.owner → ⊥) × (alone_in p ms ≡ true))
+alone_cases : (p m : Mark) (ms : List Mark) → alone_in p (m ∷ ms) ≡ true
+    → ((p.sub ≡ m.sub) × (none_like p.owner ms ≡ true))
+    ⊎ ((p.owner ≡ m.owner → ⊥) × (alone_in p ms ≡ true))
 alone_cases p m ms e = ⊎_elim
     (λ (h : (p.owner == m.owner) ≡ true).
-    let f : ((sub_code p.sub == sub_code m.sub) && none_like p.owner ms) ≡ true = sym (ap (λ b. cond b ((sub_code p.sub == sub_code m.sub) && none_like p.owner ms) (alone_in p ms)) h) ∙ e in
+    let f : ((sub_code p.sub == sub_code m.sub) && none_like p.owner ms) ≡ true =
+    sym (ap (λ b. cond b ((sub_code p.sub == sub_code m.sub) && none_like p.owner ms)
+    (alone_in p ms)) h) ∙ e in
     let g = and_parts (sub_code p.sub == sub_code m.sub) (none_like p.owner ms) f in
     inl (subs_same p.sub m.sub (eqb-true (sub_code p.sub) (sub_code m.sub) g.0), g.1))
-    (λ (h : (p.owner == m.owner) ≡ false). inr ((λ g. let f : true ≡ false = sym (eq-eqb p.owner m.owner g) ∙ h in cc), sym (ap (λ b. cond b ((sub_code p.sub == sub_code m.sub) && none_like p.owner ms) (alone_in p ms)) h) ∙ e))
+    (λ (h : (p.owner == m.owner) ≡ false). inr (
+      (λ g. let f : true ≡ false = sym (eq-eqb p.owner m.owner g) ∙ h in cc),
+      sym (ap (λ b. cond b ((sub_code p.sub == sub_code m.sub) && none_like p.owner ms)
+          (alone_in p ms)) h) ∙ e,
+    ))
     (cases_Bool (p.owner == m.owner))
 
-alone_sub : (p : Mark) (ms : List Mark) (k : ℕ) → alone_in p ms ≡ true → k < length ms → p.owner ≡ (mark_at ms k).owner → p.sub ≡ (mark_at ms k).sub
+alone_sub : (p : Mark) (ms : List Mark) (k : ℕ) → alone_in p ms ≡ true → k < length ms
+    → p.owner ≡ (mark_at ms k).owner → p.sub ≡ (mark_at ms k).sub
 alone_sub p [] k e lt h = absurd (omega arith)
 alone_sub p (m ∷ ms) zero e lt h = ⊎_elim
     (λ (c : (p.sub ≡ m.sub) × (none_like p.owner ms ≡ true)). c.0)
     (λ (c : (p.owner ≡ m.owner → ⊥) × (alone_in p ms ≡ true)). absurd (c.0 h))
     (alone_cases p m ms e)
 alone_sub p (m ∷ ms) (suc k) e lt h = ⊎_elim
-    (λ (c : (p.sub ≡ m.sub) × (none_like p.owner ms ≡ true)). absurd (none_at p.owner ms k c.1 (omega arith) h))
+    (λ (c : (p.sub ≡ m.sub) × (none_like p.owner ms ≡ true)). absurd
+    (none_at p.owner ms k c.1 (omega arith) h))
     (λ (c : (p.owner ≡ m.owner → ⊥) × (alone_in p ms ≡ true)). alone_sub p ms k c.1 (omega arith) h)
     (alone_cases p m ms e)
 
-alone_once : (p : Mark) (ms : List Mark) (k l : ℕ) → alone_in p ms ≡ true → k < length ms → l < length ms → p.owner ≡ (mark_at ms k).owner → p.owner ≡ (mark_at ms l).owner → k ≡ l
+alone_once : (p : Mark) (ms : List Mark) (k l : ℕ) → alone_in p ms ≡ true → k < length ms
+    → l < length ms → p.owner ≡ (mark_at ms k).owner → p.owner ≡ (mark_at ms l).owner → k ≡ l
 alone_once p [] k l e lk ll h g = absurd (omega arith)
 alone_once p (m ∷ ms) zero zero e lk ll h g = refl
 alone_once p (m ∷ ms) zero (suc l) e lk ll h g = ⊎_elim
-    (λ (c : (p.sub ≡ m.sub) × (none_like p.owner ms ≡ true)). absurd (none_at p.owner ms l c.1 (omega arith) g))
+    (λ (c : (p.sub ≡ m.sub) × (none_like p.owner ms ≡ true)). absurd
+    (none_at p.owner ms l c.1 (omega arith) g))
     (λ (c : (p.owner ≡ m.owner → ⊥) × (alone_in p ms ≡ true)). absurd (c.0 h))
     (alone_cases p m ms e)
 alone_once p (m ∷ ms) (suc k) zero e lk ll h g = ⊎_elim
-    (λ (c : (p.sub ≡ m.sub) × (none_like p.owner ms ≡ true)). absurd (none_at p.owner ms k c.1 (omega arith) h))
+    (λ (c : (p.sub ≡ m.sub) × (none_like p.owner ms ≡ true)). absurd
+    (none_at p.owner ms k c.1 (omega arith) h))
     (λ (c : (p.owner ≡ m.owner → ⊥) × (alone_in p ms ≡ true)). absurd (c.0 g))
     (alone_cases p m ms e)
 alone_once p (m ∷ ms) (suc k) (suc l) e lk ll h g = ⊎_elim
-    (λ (c : (p.sub ≡ m.sub) × (none_like p.owner ms ≡ true)). absurd (none_at p.owner ms k c.1 (omega arith) h))
-    (λ (c : (p.owner ≡ m.owner → ⊥) × (alone_in p ms ≡ true)). ap suc (alone_once p ms k l c.1 (omega arith) (omega arith) h g))
+    (λ (c : (p.sub ≡ m.sub) × (none_like p.owner ms ≡ true)). absurd
+    (none_at p.owner ms k c.1 (omega arith) h))
+    (λ (c : (p.owner ≡ m.owner → ⊥) × (alone_in p ms ≡ true)). ap suc
+    (alone_once p ms k l c.1 (omega arith) (omega arith) h g))
     (alone_cases p m ms e)
 
 record WriteAt (rooms : List Room) (reads : List Mark) (p : Mark) : Type 0 where
@@ -97,40 +119,58 @@ record FirstAt (rooms : List Room) (reads : List Mark) (p : Mark) (ms : List Mar
   none : none_like p.owner ms ≡ true
   more : writes_fit rooms reads ms ≡ true
 
-first_at : (rooms : List Room) (reads : List Mark) (p : Mark) (ms : List Mark) → writes_fit rooms reads (p ∷ ms) ≡ true → FirstAt rooms reads p ms
+first_at : (rooms : List Room) (reads : List Mark) (p : Mark) (ms : List Mark)
+    → writes_fit rooms reads (p ∷ ms) ≡ true → FirstAt rooms reads p ms
 first_at rooms reads p ms e =
-    let a = and_parts ((room_at rooms p.owner).written && (none_like p.owner ms && alone_in p reads)) (writes_fit rooms reads ms) e in
-    let b = and_parts (room_at rooms p.owner).written (none_like p.owner ms && alone_in p reads) a.0 in
+    let a = and_parts ((room_at rooms p.owner).written
+    && (none_like p.owner ms && alone_in p reads)) (writes_fit rooms reads ms) e in
+    let b = and_parts (room_at rooms p.owner).written (none_like p.owner ms && alone_in p reads) a.0
+    in
     let c = and_parts (none_like p.owner ms) (alone_in p reads) b.1 in
     record { first = record { written = b.0; alone = c.1 }; none = c.0; more = a.1 }
 
-write_at : (rooms : List Room) (reads ms : List Mark) (j : ℕ) → writes_fit rooms reads ms ≡ true → j < length ms → WriteAt rooms reads (mark_at ms j)
+write_at : (rooms : List Room) (reads ms : List Mark) (j : ℕ) → writes_fit rooms reads ms ≡ true
+    → j < length ms → WriteAt rooms reads (mark_at ms j)
 write_at rooms reads [] j e lt = absurd (omega arith)
 write_at rooms reads (p ∷ ms) zero e lt = (first_at rooms reads p ms e).first
-write_at rooms reads (p ∷ ms) (suc j) e lt = write_at rooms reads ms j (first_at rooms reads p ms e).more (omega arith)
+write_at rooms reads (p ∷ ms) (suc j) e lt = write_at rooms reads ms j
+    (first_at rooms reads p ms e).more (omega arith)
 
-writes_once : (rooms : List Room) (reads ms : List Mark) (i j : ℕ) → writes_fit rooms reads ms ≡ true → i < length ms → j < length ms → (mark_at ms i).owner ≡ (mark_at ms j).owner → i ≡ j
+writes_once : (rooms : List Room) (reads ms : List Mark) (i j : ℕ)
+    → writes_fit rooms reads ms ≡ true → i < length ms → j < length ms
+    → (mark_at ms i).owner ≡ (mark_at ms j).owner → i ≡ j
 writes_once rooms reads [] i j e li lj h = absurd (omega arith)
 writes_once rooms reads (p ∷ ms) zero zero e li lj h = refl
-writes_once rooms reads (p ∷ ms) zero (suc j) e li lj h = absurd (none_at p.owner ms j (first_at rooms reads p ms e).none (omega arith) h)
-writes_once rooms reads (p ∷ ms) (suc i) zero e li lj h = absurd (none_at p.owner ms i (first_at rooms reads p ms e).none (omega arith) (sym h))
-writes_once rooms reads (p ∷ ms) (suc i) (suc j) e li lj h = ap suc (writes_once rooms reads ms i j (first_at rooms reads p ms e).more (omega arith) (omega arith) h)
+writes_once rooms reads (p ∷ ms) zero (suc j) e li lj h =
+    absurd (none_at p.owner ms j (first_at rooms reads p ms e).none (omega arith) h)
+writes_once rooms reads (p ∷ ms) (suc i) zero e li lj h =
+    absurd (none_at p.owner ms i (first_at rooms reads p ms e).none (omega arith) (sym h))
+writes_once rooms reads (p ∷ ms) (suc i) (suc j) e li lj h =
+    ap suc (writes_once rooms reads ms i j (first_at rooms reads p ms e).more (omega arith)
+    (omega arith) h)
 
 record FitAt (r : Reach) (outer : Bool) (rooms : List Room) (p : Mark) : Type 0 where
   there : p.owner < length rooms
   fit : fits r outer (room_at rooms p.owner).rows p.sub ≡ true
 
-fit_at : (r : Reach) (outer : Bool) (rooms : List Room) (ms : List Mark) (k : ℕ) → all_fit r outer rooms ms ≡ true → k < length ms → FitAt r outer rooms (mark_at ms k)
+fit_at : (r : Reach) (outer : Bool) (rooms : List Room) (ms : List Mark) (k : ℕ)
+    → all_fit r outer rooms ms ≡ true → k < length ms → FitAt r outer rooms (mark_at ms k)
 fit_at r outer rooms [] k e lt = absurd (omega arith)
 fit_at r outer rooms (p ∷ ms) zero e lt =
-    let a = and_parts (nat_lt p.owner (length rooms) && fits r outer (room_at rooms p.owner).rows p.sub) (all_fit r outer rooms ms) e in
-    let b = and_parts (nat_lt p.owner (length rooms)) (fits r outer (room_at rooms p.owner).rows p.sub) a.0 in
+    let a = and_parts (nat_lt p.owner (length rooms)
+    && fits r outer (room_at rooms p.owner).rows p.sub) (all_fit r outer rooms ms) e in
+    let b = and_parts (nat_lt p.owner (length rooms))
+    (fits r outer (room_at rooms p.owner).rows p.sub) a.0 in
     record { there = less_is p.owner (length rooms) b.0; fit = b.1 }
-fit_at r outer rooms (p ∷ ms) (suc k) e lt = fit_at r outer rooms ms k (and_parts (nat_lt p.owner (length rooms) && fits r outer (room_at rooms p.owner).rows p.sub) (all_fit r outer rooms ms) e).1 (omega arith)
+fit_at r outer rooms (p ∷ ms) (suc k) e lt = fit_at r outer rooms ms k
+    (and_parts (nat_lt p.owner (length rooms) && fits r outer (room_at rooms p.owner).rows p.sub)
+    (all_fit r outer rooms ms) e).1 (omega arith)
 
-pub body_is_fit : (r : Reach) (outer : Bool) (rooms : List Room) (b : Marked) → body_fits r outer rooms b ≡ true → BodyFits r outer rooms b.reads b.writes
+pub body_is_fit : (r : Reach) (outer : Bool) (rooms : List Room) (b : Marked)
+    → body_fits r outer rooms b ≡ true → BodyFits r outer rooms b.reads b.writes
 body_is_fit r outer rooms b e =
-    let a = and_parts (all_fit r outer rooms b.reads) (all_fit r outer rooms b.writes && writes_fit rooms b.reads b.writes) e in
+    let a = and_parts (all_fit r outer rooms b.reads) (all_fit r outer rooms b.writes
+    && writes_fit rooms b.reads b.writes) e in
     let c = and_parts (all_fit r outer rooms b.writes) (writes_fit rooms b.reads b.writes) a.1 in
     record {
       read_owner = λ k lk. (fit_at r outer rooms b.reads k a.0 lk).there;
@@ -139,17 +179,31 @@ body_is_fit r outer rooms b e =
       write_fits = λ j lj. (fit_at r outer rooms b.writes j c.0 lj).fit;
       written = λ j lj. (write_at rooms b.reads b.writes j c.1 lj).written;
       differ = λ i j li lj h. writes_once rooms b.reads b.writes i j c.1 li lj h;
-      same = λ j k lj lk h. alone_sub (mark_at b.writes j) b.reads k (write_at rooms b.reads b.writes j c.1 lj).alone lk h;
-      once = λ j k l lj lk ll h g. alone_once (mark_at b.writes j) b.reads k l (write_at rooms b.reads b.writes j c.1 lj).alone lk ll h g;
+      same = λ j k lj lk h. alone_sub (mark_at b.writes j) b.reads k
+          (write_at rooms b.reads b.writes j c.1 lj).alone lk h;
+      once = λ j k l lj lk ll h g. alone_once (mark_at b.writes j) b.reads k l
+          (write_at rooms b.reads b.writes j c.1 lj).alone lk ll h g;
     }
 
-inners_are_fit : (rooms : List Room) (ps : List (InnerOf Marked)) → inners_fit rooms ps ≡ true → InnersFit rooms ps
+inners_are_fit : (rooms : List Room) (ps : List (InnerOf Marked)) → inners_fit rooms ps ≡ true
+    → InnersFit rooms ps
 inners_are_fit rooms [] e = tt
-inners_are_fit rooms (Alone b ∷ ps) e = let a = and_parts (body_fits Nowhere true rooms b) (inners_fit rooms ps) e in (body_is_fit Nowhere true rooms b a.0, inners_are_fit rooms ps a.1)
-inners_are_fit rooms (Across c b ∷ ps) e = let a = and_parts (body_fits (reach_of c) true rooms b) (inners_fit rooms ps) e in (body_is_fit (reach_of c) true rooms b a.0, inners_are_fit rooms ps a.1)
+inners_are_fit rooms (Alone b ∷ ps) e = let a =
+    and_parts (body_fits Nowhere true rooms b) (inners_fit rooms ps) e in
+    (body_is_fit Nowhere true rooms b a.0, inners_are_fit rooms ps a.1)
+inners_are_fit rooms (Across c b ∷ ps) e = let a =
+    and_parts (body_fits (reach_of c) true rooms b) (inners_fit rooms ps) e in
+    (body_is_fit (reach_of c) true rooms b a.0, inners_are_fit rooms ps a.1)
 
-pub steps_are_fit : (rooms : List Room) (ss : List (StepOf Marked)) → steps_fit rooms ss ≡ true → StepsFit rooms ss
+pub steps_are_fit : (rooms : List Room) (ss : List (StepOf Marked)) → steps_fit rooms ss ≡ true
+    → StepsFit rooms ss
 steps_are_fit rooms [] e = tt
-steps_are_fit rooms (Single b ∷ ss) e = let a = and_parts (body_fits Nowhere false rooms b) (steps_fit rooms ss) e in (body_is_fit Nowhere false rooms b a.0, steps_are_fit rooms ss a.1)
-steps_are_fit rooms (Along b ∷ ss) e = let a = and_parts (body_fits Whole false rooms b) (steps_fit rooms ss) e in (body_is_fit Whole false rooms b a.0, steps_are_fit rooms ss a.1)
-steps_are_fit rooms (Nest ps ∷ ss) e = let a = and_parts (inners_fit rooms ps) (steps_fit rooms ss) e in (inners_are_fit rooms ps a.0, steps_are_fit rooms ss a.1)
+steps_are_fit rooms (Single b ∷ ss) e = let a =
+    and_parts (body_fits Nowhere false rooms b) (steps_fit rooms ss) e in
+    (body_is_fit Nowhere false rooms b a.0, steps_are_fit rooms ss a.1)
+steps_are_fit rooms (Along b ∷ ss) e = let a =
+    and_parts (body_fits Whole false rooms b) (steps_fit rooms ss) e in
+    (body_is_fit Whole false rooms b a.0, steps_are_fit rooms ss a.1)
+steps_are_fit rooms (Nest ps ∷ ss) e = let a =
+    and_parts (inners_fit rooms ps) (steps_fit rooms ss) e in
+    (inners_are_fit rooms ps a.0, steps_are_fit rooms ss a.1)

@@ -1,5 +1,6 @@
 -- Named rows that are the same, and writes to them.
-use Rattle.std.proofs.Common.{◌≡◌, ℕ, zero, suc, ◌<◌, ◌≤◌, Bool, true, false, cond, List, [], ◌∷◌, length, refl, sym, ap, ◌∙◌, ⊎_elim, arith}
+use Rattle.std.proofs.Common.{◌≡◌, ℕ, zero, suc, ◌<◌, ◌≤◌, Bool, true, false, cond, List, [], ◌∷◌}
+use Rattle.std.proofs.Common.{length, refl, sym, ap, ◌∙◌, ⊎_elim, arith}
 use Rattle.std.specs.Prelude.{◌==◌, ◌&&◌}
 use Rattle.std.proofs.lemmas.Bool.{cases_Bool, and_parts, and_from, eqb-true, eq-eqb}
 use Rattle.mig_graph.specs.declared.Lit.{Lit}
@@ -8,7 +9,8 @@ use Rattle.mig_graph.specs.Outputs.{lit_at}
 use Rattle.loop_ir.specs.declared.ir.Space.{Space}
 use Rattle.loop_ir.specs.declared.ir.Space.TheVariants.{Result, Source, ScratchBit, ScratchWord}
 use Rattle.loop_ir.specs.declared.ir.Place.{Place}
-use Rattle.loop_ir.specs.Spots.{Spot, Spots, same_space, same_spot, set_spot, spot_at, nth_place, write_all}
+use Rattle.loop_ir.specs.Spots.{Spot, Spots, same_space, same_spot, set_spot, spot_at, nth_place}
+use Rattle.loop_ir.specs.Spots.{write_all}
 
 space_true : (a b : Space) → same_space a b ≡ true → a ≡ b
 space_true Result Result e = refl
@@ -41,15 +43,21 @@ spot_true p q e =
     let a = space_true p.space q.space h.0 in
     let b = eqb-true p.which q.which k.0 in
     let c = eqb-true p.index q.index k.1 in
-    ap (λ x. record { space = x; which = p.which; index = p.index }) a ∙ ap (λ x. record { space = q.space; which = x; index = p.index }) b ∙ ap (λ x. record { space = q.space; which = q.which; index = x }) c
+    ap (λ x. record { space = x; which = p.which; index = p.index }) a
+    ∙ ap (λ x. record { space = q.space; which = x; index = p.index }) b
+    ∙ ap (λ x. record { space = q.space; which = q.which; index = x }) c
 
 pub spot_same : (p q : Spot) → p ≡ q → same_spot p q ≡ true
-spot_same p q e = ap (λ x. same_spot p x) (sym e) ∙ and_from (same_space p.space p.space) (p.which == p.which && p.index == p.index) (space_same p.space) (and_from (p.which == p.which) (p.index == p.index) (eq-eqb p.which p.which refl) (eq-eqb p.index p.index refl))
+spot_same p q e = ap (λ x. same_spot p x) (sym e)
+    ∙ and_from (same_space p.space p.space) (p.which == p.which && p.index
+    == p.index) (space_same p.space) (and_from (p.which == p.which) (p.index
+    == p.index) (eq-eqb p.which p.which refl) (eq-eqb p.index p.index refl))
 
 pub set_same : (bits : Spots) (p : Spot) (v : Bool) (q : Spot) → q ≡ p → set_spot bits p v q ≡ v
 set_same bits p v q e = ap (λ b. cond b v (bits q)) (spot_same q p e)
 
-pub set_other : (bits : Spots) (p : Spot) (v : Bool) (q : Spot) → (q ≡ p → ⊥) → set_spot bits p v q ≡ bits q
+pub set_other : (bits : Spots) (p : Spot) (v : Bool) (q : Spot) → (q ≡ p → ⊥)
+    → set_spot bits p v q ≡ bits q
 set_other bits p v q ne =
     ⊎_elim
     (λ (e : same_spot q p ≡ true). absurd (ne (spot_true q p e)))
@@ -57,18 +65,29 @@ set_other bits p v q ne =
     (cases_Bool (same_spot q p))
 
 module _ (n i o : ℕ) (env : ℕ → Bool) where
-  pub write_other : (ps : List Place) (ls : List Lit) (bits : Spots) (q : Spot) → ((j : ℕ) → j < length ls → q ≡ spot_at n i o (nth_place ps j) → ⊥) → write_all n i o env ps ls bits q ≡ bits q
+  pub write_other : (ps : List Place) (ls : List Lit) (bits : Spots) (q : Spot)
+      → ((j : ℕ) → j < length ls → q ≡ spot_at n i o (nth_place ps j) → ⊥)
+      → write_all n i o env ps ls bits q ≡ bits q
   write_other [] ls bits q out = refl
   write_other (p ∷ ps) [] bits q out = refl
   write_other (p ∷ ps) (l ∷ ls) bits q out =
-      write_other ps ls (set_spot bits (spot_at n i o p) (lit_value env l)) q (λ j lt. out (suc j) (omega arith))
+      write_other ps ls (set_spot bits (spot_at n i o p) (lit_value env l)) q
+      (λ j lt. out (suc j) (omega arith))
       ∙ set_other bits (spot_at n i o p) (lit_value env l) q (out 0 (omega arith))
 
-  pub write_at : (ps : List Place) (ls : List Lit) (bits : Spots) → length ls ≤ length ps → ((a b : ℕ) → a < length ls → b < length ls → spot_at n i o (nth_place ps a) ≡ spot_at n i o (nth_place ps b) → a ≡ b) → (j : ℕ) → j < length ls → write_all n i o env ps ls bits (spot_at n i o (nth_place ps j)) ≡ lit_value env (lit_at ls j)
+  pub write_at : (ps : List Place) (ls : List Lit) (bits : Spots) → length ls ≤ length ps
+      → ((a b : ℕ) → a < length ls → b < length ls
+      → spot_at n i o (nth_place ps a) ≡ spot_at n i o (nth_place ps b) → a ≡ b) → (j : ℕ)
+      → j < length ls → write_all n i o env ps ls bits (spot_at n i o (nth_place ps j))
+      ≡ lit_value env (lit_at ls j)
   write_at ps [] bits enough apart j lt = absurd (omega arith)
   write_at [] (k ∷ ls) bits enough apart j lt = absurd (omega arith)
   write_at (p ∷ ps) (k ∷ ls) bits enough apart zero lt =
-      write_other ps ls (set_spot bits (spot_at n i o p) (lit_value env k)) (spot_at n i o p) (λ j lt h. let z : 0 ≡ suc j = apart 0 (suc j) (omega arith) (omega arith) h in absurd (omega arith))
+      write_other ps ls (set_spot bits (spot_at n i o p) (lit_value env k)) (spot_at n i o p)
+      (λ j lt h. let z : 0 ≡ suc j = apart 0 (suc j) (omega arith) (omega arith) h in
+      absurd (omega arith))
       ∙ set_same bits (spot_at n i o p) (lit_value env k) (spot_at n i o p) refl
   write_at (p ∷ ps) (k ∷ ls) bits enough apart (suc j) lt =
-      write_at ps ls (set_spot bits (spot_at n i o p) (lit_value env k)) (omega arith) (λ a b la lb h. let z : suc a ≡ suc b = apart (suc a) (suc b) (omega arith) (omega arith) h in omega arith) j (omega arith)
+      write_at ps ls (set_spot bits (spot_at n i o p) (lit_value env k)) (omega arith)
+      (λ a b la lb h. let z : suc a ≡ suc b =
+      apart (suc a) (suc b) (omega arith) (omega arith) h in omega arith) j (omega arith)

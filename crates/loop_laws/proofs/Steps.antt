@@ -1,14 +1,17 @@
 -- Steps one after another.
-use Rattle.std.proofs.Common.{◌≡◌, ℕ, zero, suc, ◌+◌, List, [], ◌∷◌, ◌++◌, refl, sym, ap, ◌∙◌, arith}
+use Rattle.std.proofs.Common.{◌≡◌, ℕ, zero, suc, ◌+◌, List, [], ◌∷◌, ◌++◌, refl, sym, ap, ◌∙◌}
+use Rattle.std.proofs.Common.{arith}
 use Rattle.loop_ir.specs.Plain.{Block, InnerOf, StepOf}
 use Rattle.loop_ir.specs.Plain.InnerOf.{Alone, Across}
 use Rattle.loop_ir.specs.Plain.StepOf.{Single, Along, Nest}
-use Rattle.loop_ir.specs.Loops.{RoundOf, round_at, one_round, rounds, positions, inner_rounds, all_rounds}
+use Rattle.loop_ir.specs.Loops.{RoundOf, round_at, one_round, rounds, positions, inner_rounds}
+use Rattle.loop_ir.specs.Loops.{all_rounds}
 use Rattle.loop_ir.specs.Spots.{Spots, after_round, after_rounds}
 use Rattle.loop_laws.specs.Turns.{after_many}
 use Rattle.loop_laws.proofs.Loop.{many_is}
 
-pub rounds_append : (n : ℕ) (rs ss : List (RoundOf Block)) (bits : Spots) → after_rounds n (rs ++ ss) bits ≡ after_rounds n ss (after_rounds n rs bits)
+pub rounds_append : (n : ℕ) (rs ss : List (RoundOf Block)) (bits : Spots)
+    → after_rounds n (rs ++ ss) bits ≡ after_rounds n ss (after_rounds n rs bits)
 rounds_append n [] ss bits = refl
 rounds_append n (r ∷ rs) ss bits = rounds_append n rs ss (after_round n r bits)
 
@@ -16,10 +19,12 @@ rounds_append n (r ∷ rs) ss bits = rounds_append n rs ss (after_round n r bits
 abbrev pub after_steps : ℕ → List (StepOf Block) → Spots → Spots
 after_steps n ss bits = after_rounds n (all_rounds n ss) bits
 
-pub steps_once : (n : ℕ) (b : Block) (ss : List (StepOf Block)) (bits : Spots) → after_steps n (Single b ∷ ss) bits ≡ after_steps n ss (after_round n (round_at b 0 0) bits)
+pub steps_once : (n : ℕ) (b : Block) (ss : List (StepOf Block)) (bits : Spots)
+    → after_steps n (Single b ∷ ss) bits ≡ after_steps n ss (after_round n (round_at b 0 0) bits)
 steps_once n b ss bits = refl
 
-pub steps_each : (n : ℕ) (b : Block) (ss : List (StepOf Block)) (bits : Spots) → after_steps n (Along b ∷ ss) bits ≡ after_steps n ss (after_many n 0 b n bits)
+pub steps_each : (n : ℕ) (b : Block) (ss : List (StepOf Block)) (bits : Spots)
+    → after_steps n (Along b ∷ ss) bits ≡ after_steps n ss (after_many n 0 b n bits)
 steps_each n b ss bits =
     rounds_append n (rounds (λ i. one_round b i 0) 0 n) (all_rounds n ss) bits
     ∙ ap (after_rounds n (all_rounds n ss)) (many_is n 0 b n bits)
@@ -28,9 +33,11 @@ steps_each n b ss bits =
 abbrev pub after_parts : ℕ → ℕ → List (InnerOf Block) → Spots → Spots
 after_parts n o [] bits = bits
 after_parts n o (Alone b ∷ ps) bits = after_parts n o ps (after_round n (round_at b 0 o) bits)
-after_parts n o (Across k b ∷ ps) bits = after_parts n o ps (after_many n o b (positions n o k) bits)
+after_parts n o (Across k b ∷ ps) bits = after_parts n o ps
+    (after_many n o b (positions n o k) bits)
 
-pub parts_is : (n o : ℕ) (ps : List (InnerOf Block)) (bits : Spots) → after_rounds n (inner_rounds n o ps) bits ≡ after_parts n o ps bits
+pub parts_is : (n o : ℕ) (ps : List (InnerOf Block)) (bits : Spots)
+    → after_rounds n (inner_rounds n o ps) bits ≡ after_parts n o ps bits
 parts_is n o [] bits = refl
 parts_is n o (Alone b ∷ ps) bits = parts_is n o ps (after_round n (round_at b 0 o) bits)
 parts_is n o (Across k b ∷ ps) bits =
@@ -43,19 +50,27 @@ abbrev pub after_outer : ℕ → List (InnerOf Block) → ℕ → Spots → Spot
 after_outer n ps zero bits = bits
 after_outer n ps (suc o) bits = after_parts n o ps (after_outer n ps o bits)
 
-outer_more : (n : ℕ) (ps : List (InnerOf Block)) (o count : ℕ) (bits : Spots) → after_rounds n (rounds (λ j. inner_rounds n j ps) o count) (after_outer n ps o bits) ≡ after_outer n ps (o + count) bits
-outer_more n ps o zero bits = let e : o + 0 ≡ o = omega arith in ap (λ x. after_outer n ps x bits) (sym e)
+outer_more : (n : ℕ) (ps : List (InnerOf Block)) (o count : ℕ) (bits : Spots)
+    → after_rounds n (rounds (λ j. inner_rounds n j ps) o count) (after_outer n ps o bits)
+    ≡ after_outer n ps (o + count) bits
+outer_more n ps o zero bits = let e : o + 0 ≡ o = omega arith in
+    ap (λ x. after_outer n ps x bits) (sym e)
 outer_more n ps o (suc count) bits =
     let e : o + 1 ≡ suc o = omega arith in
     let f : suc o + count ≡ o + suc count = omega arith in
-    rounds_append n (inner_rounds n o ps) (rounds (λ j. inner_rounds n j ps) (o + 1) count) (after_outer n ps o bits)
-    ∙ ap (after_rounds n (rounds (λ j. inner_rounds n j ps) (o + 1) count)) (parts_is n o ps (after_outer n ps o bits))
-    ∙ ap (λ x. after_rounds n (rounds (λ j. inner_rounds n j ps) x count) (after_outer n ps (suc o) bits)) e
+    rounds_append n (inner_rounds n o ps) (rounds (λ j. inner_rounds n j ps) (o + 1) count)
+    (after_outer n ps o bits)
+    ∙ ap (after_rounds n (rounds (λ j. inner_rounds n j ps) (o + 1) count))
+    (parts_is n o ps (after_outer n ps o bits))
+    ∙ ap (λ x. after_rounds n (rounds (λ j. inner_rounds n j ps) x count)
+    (after_outer n ps (suc o) bits)) e
     ∙ outer_more n ps (suc o) count bits
     ∙ ap (λ x. after_outer n ps x bits) f
 
-pub steps_nest : (n : ℕ) (ps : List (InnerOf Block)) (ss : List (StepOf Block)) (bits : Spots) → after_steps n (Nest ps ∷ ss) bits ≡ after_steps n ss (after_outer n ps n bits)
+pub steps_nest : (n : ℕ) (ps : List (InnerOf Block)) (ss : List (StepOf Block)) (bits : Spots)
+    → after_steps n (Nest ps ∷ ss) bits ≡ after_steps n ss (after_outer n ps n bits)
 steps_nest n ps ss bits =
     let e : 0 + n ≡ n = omega arith in
     rounds_append n (rounds (λ o. inner_rounds n o ps) 0 n) (all_rounds n ss) bits
-    ∙ ap (after_rounds n (all_rounds n ss)) (outer_more n ps 0 n bits ∙ ap (λ x. after_outer n ps x bits) e)
+    ∙ ap (after_rounds n (all_rounds n ss)) (outer_more n ps 0 n bits
+    ∙ ap (λ x. after_outer n ps x bits) e)

@@ -1,5 +1,7 @@
--- What a written loop program has to keep, so that one like it with graphs of its own can be compiled.
-use Rattle.std.specs.Prelude.{◌≡◌, ℕ, ◌+◌, ◌<◌, ◌≤◌, Bool, true, ◌&&◌, nat_le, List, [], ◌∷◌, length}
+-- What a written loop program has to keep, so that one like it with graphs of its own can be
+-- compiled.
+use Rattle.std.specs.Prelude.{◌≡◌, ℕ, ◌+◌, ◌<◌, ◌≤◌, Bool, true, ◌&&◌, nat_le, List, [], ◌∷◌}
+use Rattle.std.specs.Prelude.{length}
 use Rattle.std.specs.List.{AllByRecursion, list_all}
 use Rattle.bit_rows.specs.declared.TheConstants.{WIDTH_MAX}
 use Rattle.mig_graph.specs.Graph.{IsGraph}
@@ -17,8 +19,11 @@ use Rattle.loop_ir.specs.Limits.{IsRound, step_stands}
 pub record IsSlim (b : Block) : Type 0 where
   pub reads : b.graph.inputs ≤ length b.reads
   pub writes : length b.outs ≤ length b.writes
-  pub apart : (i j : ℕ) → i < length b.writes → j < length b.writes → IsOneValue (nth_place b.writes i) (nth_place b.writes j) → i ≡ j
-  pub same : (j k : ℕ) → j < length b.writes → k < length b.reads → IsOneValue (nth_place b.writes j) (nth_place b.reads k) → (nth_place b.writes j).sub ≡ (nth_place b.reads k).sub
+  pub apart : (i j : ℕ) → i < length b.writes → j < length b.writes
+      → IsOneValue (nth_place b.writes i) (nth_place b.writes j) → i ≡ j
+  pub same : (j k : ℕ) → j < length b.writes → k < length b.reads
+      → IsOneValue (nth_place b.writes j) (nth_place b.reads k)
+      → (nth_place b.writes j).sub ≡ (nth_place b.reads k).sub
   pub inputs : b.graph.inputs ≤ 80
   pub outputs : length b.outs ≤ 8
   pub rows : length b.graph.nodes + length b.outs ≤ 32
@@ -33,7 +38,8 @@ pub record IsMade (b : Block) : Type 0 where
 pub record HasForm (may_have : ℕ → Spot → Type 0) (steps : List (StepOf Block)) : Type 0 where
   pub slim : AllParts IsSlim steps
   pub stand : list_all step_stands steps ≡ true
-  pub rounds : (n : ℕ) → 0 < n → n ≤ WIDTH_MAX → AllByRecursion (IsRound (may_have n) n) (all_rounds n steps)
+  pub rounds : (n : ℕ) → 0 < n → n ≤ WIDTH_MAX
+      → AllByRecursion (IsRound (may_have n) n) (all_rounds n steps)
   pub size : code_cost steps ≤ 256
   pub few : bodies steps ≤ 12
 
@@ -59,4 +65,5 @@ steps_have_room (Along b ∷ ss) = has_room b && steps_have_room ss
 steps_have_room (Nest ps ∷ ss) = inners_have_room ps && steps_have_room ss
 
 abbrev pub is_short : List (StepOf Block) → Bool
-is_short steps = steps_have_room steps && (list_all step_stands steps && (nat_le (code_cost steps) 256 && nat_le (bodies steps) 12))
+is_short steps = steps_have_room steps && (list_all step_stands steps
+    && (nat_le (code_cost steps) 256 && nat_le (bodies steps) 12))

@@ -14,21 +14,26 @@ use Rattle.loop_laws.specs.Forms.{HasForm, IsMade, is_short}
 
 -- A loop gives what its body gives by positions.
 abbrev pub LoopsTurn : Type 0
-LoopsTurn = (n o count : ℕ) (b : Block) (origins : List Origin) → IsLoop n o count b origins → (bits : Spots) → Turns n o b origins bits (after_many n o b count bits) count
+LoopsTurn = (n o count : ℕ) (b : Block) (origins : List Origin) → IsLoop n o count b origins
+    → (bits : Spots) → Turns n o b origins bits (after_many n o b count bits) count
 
 -- Programs that are alike do the same.
 abbrev pub AlikeDoTheSame : Type 0
-AlikeDoTheSame = (ss ts : List (StepOf Block)) → LikeSteps ss ts → (n : ℕ) (bits : Spots) → after_rounds n (all_rounds n ss) bits ≡ after_rounds n (all_rounds n ts) bits
+AlikeDoTheSame = (ss ts : List (StepOf Block)) → LikeSteps ss ts → (n : ℕ) (bits : Spots)
+    → after_rounds n (all_rounds n ss) bits ≡ after_rounds n (all_rounds n ts) bits
 
 -- A program like another costs no more.
 abbrev pub AlikeCostNoMore : Type 0
-AlikeCostNoMore = (ss ts : List (StepOf Block)) → LikeSteps ss ts → (n : ℕ) → rounds_cost (all_rounds n ss) ≤ rounds_cost (all_rounds n ts)
+AlikeCostNoMore = (ss ts : List (StepOf Block)) → LikeSteps ss ts → (n : ℕ)
+    → rounds_cost (all_rounds n ss) ≤ rounds_cost (all_rounds n ts)
 
 -- Code can be made, over rows that it may have, of a program like one of that form.
 abbrev pub AlikeCompile : (ℕ → Spot → Type 0) → Type 0
-AlikeCompile may_have = (ss ts : List (StepOf Block)) → LikeSteps ss ts → AllParts IsMade ss → HasForm may_have ts → AreWellFormed ss × CanCompile may_have ss
+AlikeCompile may_have = (ss ts : List (StepOf Block)) → LikeSteps ss ts → AllParts IsMade ss
+    → HasForm may_have ts → AreWellFormed ss × CanCompile may_have ss
 
--- The tests on owners, subscripts and numbers are enough, where the rooms are apart at every width and have such rows alone.
+-- The tests on owners, subscripts and numbers are enough, where the rooms are apart at every width
+-- and have such rows alone.
 abbrev pub MarksAreEnough : (ℕ → Spot → Type 0) → Type 0
 MarksAreEnough may_have = (rooms : List Room) (steps : List (StepOf Marked))
     → ((n : ℕ) → 0 < n → n ≤ WIDTH_MAX → RoomsApart n rooms)

@@ -1,5 +1,6 @@
 -- Places by the numbers of their owners, and a test after which every round keeps the rules.
-use Rattle.std.specs.Prelude.{◌≡◌, ℕ, zero, suc, ◌-◌, ◌*◌, ◌<◌, ◌==◌, Bool, true, false, not, ◌&&◌, nat_lt, if◌then◌else◌, List, [], ◌∷◌, map, length}
+use Rattle.std.specs.Prelude.{◌≡◌, ℕ, zero, suc, ◌-◌, ◌*◌, ◌<◌, ◌==◌, Bool, true, false, not, ◌&&◌}
+use Rattle.std.specs.Prelude.{nat_lt, if◌then◌else◌, List, [], ◌∷◌, map, length}
 use Rattle.mig_graph.specs.declared.Lit.{Lit}
 use Rattle.mig_graph.specs.Graph.{Graph}
 use Rattle.loop_ir.specs.declared.ir.Space.{Space}
@@ -56,10 +57,16 @@ pub record Marked : Type 0 where
   pub writes : List Mark
 
 abbrev pub placed : List Room → Mark → Place
-placed rooms m = let r = room_at rooms m.owner in record { space = r.space; which = r.which; sub = m.sub }
+placed rooms m = let r = room_at rooms m.owner in
+    record { space = r.space; which = r.which; sub = m.sub }
 
 abbrev pub placed_body : List Room → Marked → Block
-placed_body rooms b = record { reads = map (placed rooms) b.reads; graph = b.graph; outs = b.outs; writes = map (placed rooms) b.writes }
+placed_body rooms b = record {
+  reads = map (placed rooms) b.reads;
+  graph = b.graph;
+  outs = b.outs;
+  writes = map (placed rooms) b.writes;
+}
 
 abbrev pub placed_steps : List Room → List (StepOf Marked) → List (StepOf Block)
 placed_steps rooms steps = map (step_map (placed_body rooms)) steps
@@ -70,12 +77,17 @@ row_in n r v = spot_in n r.space r.which v
 
 -- The row is one of an owner's
 abbrev pub IsOwned : ℕ → List Room → Spot → Type 0
-IsOwned n rooms q = (k : ℕ) × (v : ℕ) × (k < length rooms) × (v < extent n (room_at rooms k).rows) × (q ≡ row_in n (room_at rooms k) v)
+IsOwned n rooms q = (k : ℕ) × (v : ℕ) × (k < length rooms) × (v < extent n (room_at rooms k).rows)
+    × (q ≡ row_in n (room_at rooms k) v)
 
--- Rows of two owners are not the same, if a body may write one of them; and such an owner is no source
+-- Rows of two owners are not the same, if a body may write one of them; and such an owner is no
+-- source
 pub record RoomsApart (n : ℕ) (rooms : List Room) : Type 0 where
-  pub apart : (j k u v : ℕ) → j < length rooms → k < length rooms → (room_at rooms j).written ≡ true → (j ≡ k → ⊥) → u < extent n (room_at rooms j).rows → v < extent n (room_at rooms k).rows → row_in n (room_at rooms j) u ≡ row_in n (room_at rooms k) v → ⊥
-  pub own : (k : ℕ) → k < length rooms → (room_at rooms k).written ≡ true → IsOwn (room_at rooms k).space
+  pub apart : (j k u v : ℕ) → j < length rooms → k < length rooms → (room_at rooms j).written ≡ true
+      → (j ≡ k → ⊥) → u < extent n (room_at rooms j).rows → v < extent n (room_at rooms k).rows
+      → row_in n (room_at rooms j) u ≡ row_in n (room_at rooms k) v → ⊥
+  pub own : (k : ℕ) → k < length rooms → (room_at rooms k).written ≡ true
+      → IsOwn (room_at rooms k).space
 
 -- how far the inner index goes: there is none, up to n, or up to what is left of the outer index
 pub data Reach : Type 0 where
@@ -125,17 +137,27 @@ fits r outer w sub.DownSum = is_twice w && (outer && has_inner r)
 fits r outer w sub.DownPlusN = is_twice w && outer
 fits r outer w sub.NPlusInner = is_twice w && has_inner r
 
--- In a body: each place has an owner and stays in its rows; what is written may be, and has owners that differ; and of the
+-- In a body: each place has an owner and stays in its rows; what is written may be, and has owners
+-- that differ; and of the
 -- reads at most one has a write's owner, with the write's subscript
-pub record BodyFits (r : Reach) (outer : Bool) (rooms : List Room) (reads writes : List Mark) : Type 0 where
+pub record BodyFits (r : Reach) (outer : Bool) (rooms : List Room) (reads writes : List Mark) : Type
+    0 where
   pub read_owner : (k : ℕ) → k < length reads → (mark_at reads k).owner < length rooms
-  pub read_fits : (k : ℕ) → k < length reads → fits r outer (room_at rooms (mark_at reads k).owner).rows (mark_at reads k).sub ≡ true
+  pub read_fits : (k : ℕ) → k < length reads
+      → fits r outer (room_at rooms (mark_at reads k).owner).rows (mark_at reads k).sub ≡ true
   pub write_owner : (j : ℕ) → j < length writes → (mark_at writes j).owner < length rooms
-  pub write_fits : (j : ℕ) → j < length writes → fits r outer (room_at rooms (mark_at writes j).owner).rows (mark_at writes j).sub ≡ true
-  pub written : (j : ℕ) → j < length writes → (room_at rooms (mark_at writes j).owner).written ≡ true
-  pub differ : (i j : ℕ) → i < length writes → j < length writes → (mark_at writes i).owner ≡ (mark_at writes j).owner → i ≡ j
-  pub same : (j k : ℕ) → j < length writes → k < length reads → (mark_at writes j).owner ≡ (mark_at reads k).owner → (mark_at writes j).sub ≡ (mark_at reads k).sub
-  pub once : (j k l : ℕ) → j < length writes → k < length reads → l < length reads → (mark_at writes j).owner ≡ (mark_at reads k).owner → (mark_at writes j).owner ≡ (mark_at reads l).owner → k ≡ l
+  pub write_fits : (j : ℕ) → j < length writes
+      → fits r outer (room_at rooms (mark_at writes j).owner).rows (mark_at writes j).sub ≡ true
+  pub written : (j : ℕ) → j < length writes → (room_at rooms (mark_at writes j).owner).written
+      ≡ true
+  pub differ : (i j : ℕ) → i < length writes → j < length writes
+      → (mark_at writes i).owner ≡ (mark_at writes j).owner → i ≡ j
+  pub same : (j k : ℕ) → j < length writes → k < length reads
+      → (mark_at writes j).owner ≡ (mark_at reads k).owner
+      → (mark_at writes j).sub ≡ (mark_at reads k).sub
+  pub once : (j k l : ℕ) → j < length writes → k < length reads → l < length reads
+      → (mark_at writes j).owner ≡ (mark_at reads k).owner
+      → (mark_at writes j).owner ≡ (mark_at reads l).owner → k ≡ l
 
 abbrev pub reach_of : Count → Reach
 reach_of All = Whole
@@ -144,7 +166,8 @@ reach_of Rest = Left
 abbrev pub InnersFit : List Room → List (InnerOf Marked) → Type 0
 InnersFit rooms [] = Unit {0}
 InnersFit rooms (Alone b ∷ ps) = BodyFits Nowhere true rooms b.reads b.writes × InnersFit rooms ps
-InnersFit rooms (Across c b ∷ ps) = BodyFits (reach_of c) true rooms b.reads b.writes × InnersFit rooms ps
+InnersFit rooms (Across c b ∷ ps) = BodyFits (reach_of c) true rooms b.reads b.writes
+    × InnersFit rooms ps
 
 abbrev pub StepsFit : List Room → List (StepOf Marked) → Type 0
 StepsFit rooms [] = Unit {0}
@@ -155,7 +178,8 @@ StepsFit rooms (Nest ps ∷ ss) = InnersFit rooms ps × StepsFit rooms ss
 -- the same as a test
 abbrev pub all_fit : Reach → Bool → List Room → List Mark → Bool
 all_fit r outer rooms [] = true
-all_fit r outer rooms (m ∷ ms) = (nat_lt m.owner (length rooms) && fits r outer (room_at rooms m.owner).rows m.sub) && all_fit r outer rooms ms
+all_fit r outer rooms (m ∷ ms) = (nat_lt m.owner (length rooms)
+    && fits r outer (room_at rooms m.owner).rows m.sub) && all_fit r outer rooms ms
 
 abbrev pub none_like : ℕ → List Mark → Bool
 none_like owner [] = true
@@ -163,14 +187,17 @@ none_like owner (m ∷ ms) = not (owner == m.owner) && none_like owner ms
 
 abbrev pub alone_in : Mark → List Mark → Bool
 alone_in p [] = true
-alone_in p (m ∷ ms) = if p.owner == m.owner then (sub_code p.sub == sub_code m.sub) && none_like p.owner ms else alone_in p ms
+alone_in p (m ∷ ms) = if p.owner == m.owner then (sub_code p.sub == sub_code m.sub)
+    && none_like p.owner ms else alone_in p ms
 
 abbrev pub writes_fit : List Room → List Mark → List Mark → Bool
 writes_fit rooms reads [] = true
-writes_fit rooms reads (m ∷ ms) = ((room_at rooms m.owner).written && (none_like m.owner ms && alone_in m reads)) && writes_fit rooms reads ms
+writes_fit rooms reads (m ∷ ms) = ((room_at rooms m.owner).written
+    && (none_like m.owner ms && alone_in m reads)) && writes_fit rooms reads ms
 
 abbrev pub body_fits : Reach → Bool → List Room → Marked → Bool
-body_fits r outer rooms b = all_fit r outer rooms b.reads && (all_fit r outer rooms b.writes && writes_fit rooms b.reads b.writes)
+body_fits r outer rooms b = all_fit r outer rooms b.reads
+    && (all_fit r outer rooms b.writes && writes_fit rooms b.reads b.writes)
 
 abbrev pub inners_fit : List Room → List (InnerOf Marked) → Bool
 inners_fit rooms [] = true

@@ -2,7 +2,8 @@
 
 ghost use Rattle.std.specs.Prelude.{◌≡◌, ℕ, Bool, true};
 ghost use Rattle.loop_ir.specs.Spots.{Spot};
-ghost use Rattle.loop_laws.specs.Laws.{LoopsTurn, AlikeDoTheSame, AlikeCostNoMore, AlikeCompile, MarksAreEnough};
+ghost use Rattle.loop_laws.specs.Laws.{LoopsTurn, AlikeDoTheSame, AlikeCostNoMore, AlikeCompile};
+ghost use Rattle.loop_laws.specs.Laws.{MarksAreEnough};
 
 /// A loop gives what its body gives by positions.
 pub fn loops_turn()

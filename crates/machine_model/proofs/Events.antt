@@ -1,75 +1,95 @@
 -- The events of a script.
-use Rattle.std.proofs.Common.{◌≡◌, ℕ, zero, suc, ◌+◌, ◌*◌, List, [], ◌∷◌, ◌++◌, map, Option, Some, None, Bool, true, false, refl, sym, ◌∙◌, ap, subst, arith, append-nil, cond}
+use Rattle.std.proofs.Common.{◌≡◌, ℕ, zero, suc, ◌+◌, ◌*◌, List, [], ◌∷◌, Option, Some, None, Bool}
+use Rattle.std.proofs.Common.{true, false, refl, sym, ◌∙◌, ap, arith, append-nil, cond}
 use Rattle.std.specs.Prelude.{flat_map, count_by}
 use Rattle.std.proofs.Math.Nat.{suc-mul}
 use Rattle.std.proofs.lemmas.List.Sums.{sum_by-cons}
-use Rattle.std.specs.List.{range_with_len, AllByRecursion}
+use Rattle.std.specs.List.{range_with_len}
 use mathlib.Core.Path.{fun_ext}
 use Rattle.dram_model.specs.declared.geometry.Geometry.{Geometry}
 use Rattle.dram_model.specs.declared.dram.Counters.{Counters}
-use Rattle.dram_model.specs.Chip.{Banks, Event, after, all_counted, counted}
-use Rattle.dram_model.specs.Chip.Event.{Row}
+use Rattle.dram_model.specs.Chip.{Banks, Event, after, all_counted}
 use Rattle.dram_model.specs.Events.{row_events, after-append, all_counted-append}
 use Rattle.uprog_code.specs.declared.walker.Counts.{Counts}
 use Rattle.uprog_code.specs.Shape.{Shape}
 use Rattle.uprog_code.specs.Machine.{Issue, Twice, Once, issues_of}
-use Rattle.uprog_code.specs.Bound.{Bound, bound, bound_command}
+use Rattle.uprog_code.specs.Bound.{Bound, bound}
 use Rattle.uprog_code.specs.Count.{counts_of, is_twice, is_once}
 use Rattle.object_alloc.specs.Listed.{Named}
 use Rattle.bbop_isa.specs.Forms.{Instruction, Init, Bbop, Load, Fill, Print, Free, Order}
 use Rattle.machine_model.specs.declared.Why.{Why}
 use Rattle.machine_model.specs.Operations.{Operation, Operations}
 use Rattle.machine_model.specs.Refusals.{refusal}
-use Rattle.machine_model.specs.Steps.{Job, job_of, job_events, own_events, events_of, through, rowed, banks_after, table_after, if_done, times, counts_for, reply_to, reply_by, binding, issues_at, bound_at}
-use Rattle.machine_model.specs.Script.{script_events, banks_at_end, replies, sum_of, plus, counted_in, is_bbop, with_counts}
+use Rattle.machine_model.specs.Steps.{Job, job_of, job_events, own_events, events_of, through}
+use Rattle.machine_model.specs.Steps.{rowed, banks_after, table_after, if_done, times, counts_for}
+use Rattle.machine_model.specs.Steps.{reply_to, reply_by, binding, issues_at, bound_at}
+use Rattle.machine_model.specs.Script.{script_events, banks_at_end, replies, sum_of, counted_in}
+use Rattle.machine_model.specs.Script.{is_bbop, with_counts}
 use Rattle.machine_model.specs.Laws.{EventsAreSteps, CountedByReplies}
 use Rattle.machine_model.proofs.Fills.{through_bank}
 
 job_is_through : (job : Job) (banks : Banks) → after (job_events job) banks ≡ through job banks
 job_is_through job banks = fun_ext (through_bank job.commands job.banks banks)
 
-pub events_are_rows : (g : Geometry) (operations : Operations) (table : List Named) (banks : Banks) (instr : Instruction) → after (events_of g operations table instr) banks ≡ rowed g operations table banks instr
+pub events_are_rows : (g : Geometry) (operations : Operations) (table : List Named) (banks : Banks)
+    (instr : Instruction) → after (events_of g operations table instr) banks
+    ≡ rowed g operations table banks instr
 events_are_rows g operations table banks instr =
     after-append (job_events (job_of g operations table instr)) (own_events g table instr) banks
     ∙ ap (after (own_events g table instr)) (job_is_through (job_of g operations table instr) banks)
 
-done_events : (r : Option Why) (es : List Event) (new banks : Banks) → after es banks ≡ new → after (if_done r es []) banks ≡ if_done r new banks
+done_events : (r : Option Why) (es : List Event) (new banks : Banks) → after es banks ≡ new
+    → after (if_done r es []) banks ≡ if_done r new banks
 done_events None es new banks e = e
 done_events (Some reason) es new banks e = refl
 
-pub instr_events : (g : Geometry) (operations : Operations) (table : List Named) (banks : Banks) (instr : Instruction) → after (if_done (refusal g operations table instr) (events_of g operations table instr) []) banks ≡ banks_after g operations table banks instr
-instr_events g operations table banks instr = done_events (refusal g operations table instr) (events_of g operations table instr) (rowed g operations table banks instr) banks (events_are_rows g operations table banks instr)
+pub instr_events : (g : Geometry) (operations : Operations) (table : List Named) (banks : Banks)
+    (instr : Instruction)
+    → after (if_done (refusal g operations table instr) (events_of g operations table instr) [])
+    banks ≡ banks_after g operations table banks instr
+instr_events g operations table banks instr =
+    done_events (refusal g operations table instr) (events_of g operations table instr)
+    (rowed g operations table banks instr) banks (events_are_rows g operations table banks instr)
 
 pub events_are_steps : EventsAreSteps
 events_are_steps g operations table [] banks = refl
 events_are_steps g operations table (instr ∷ script) banks =
-    after-append (if_done (refusal g operations table instr) (events_of g operations table instr) []) (script_events g operations (table_after g operations table instr) script) banks
+    after-append (if_done (refusal g operations table instr) (events_of g operations table instr)
+    []) (script_events g operations (table_after g operations table instr) script) banks
     ∙ events_are_steps g operations (table_after g operations table instr) script _
-    ∙ ap (λ b. banks_at_end g operations (table_after g operations table instr) b script) (instr_events g operations table banks instr)
+    ∙ ap (λ b. banks_at_end g operations (table_after g operations table instr) b script)
+    (instr_events g operations table banks instr)
 
 plain_counts : (k : Counters) (a p : ℕ) → a ≡ k.aap → p ≡ k.ap → record k { aap = a; ap = p } ≡ k
 plain_counts k a p e f = rw (e, f) refl
 
-both_counts : (k : Counters) (a b p q : ℕ) → a ≡ b → p ≡ q → record k { aap = a; ap = p } ≡ record k { aap = b; ap = q }
+both_counts : (k : Counters) (a b p q : ℕ) → a ≡ b → p ≡ q
+    → record k { aap = a; ap = p } ≡ record k { aap = b; ap = q }
 both_counts k a b p q e f = rw (e, f) refl
 
-one_counted : {X : Type 0} (x : ℕ) (p : X → Bool) (y : X) (ys : List X) → p y ≡ true → x + 1 + count_by p ys ≡ x + count_by p (y ∷ ys)
+one_counted : {X : Type 0} (x : ℕ) (p : X → Bool) (y : X) (ys : List X) → p y ≡ true
+    → x + 1 + count_by p ys ≡ x + count_by p (y ∷ ys)
 one_counted x p y ys h = rw (sum_by-cons (λ z. cond (p z) 1 0) y ys, h) (omega arith)
 
-none_counted : {X : Type 0} (x : ℕ) (p : X → Bool) (y : X) (ys : List X) → p y ≡ false → x + count_by p ys ≡ x + count_by p (y ∷ ys)
+none_counted : {X : Type 0} (x : ℕ) (p : X → Bool) (y : X) (ys : List X) → p y ≡ false
+    → x + count_by p ys ≡ x + count_by p (y ∷ ys)
 none_counted x p y ys h = rw (sum_by-cons (λ z. cond (p z) 1 0) y ys, h) (omega arith)
 
 add_none : (x : ℕ) → x + 0 ≡ x
 add_none x = omega arith
 
-pub row_counted : (bank rows : ℕ) (shape : Shape) (n : ℕ) (b : Bound) (issues : List Issue) (k : Counters) → all_counted (row_events bank (bound rows shape n b issues)) k ≡ with_counts k (counts_of issues)
+pub row_counted : (bank rows : ℕ) (shape : Shape) (n : ℕ) (b : Bound) (issues : List Issue)
+    (k : Counters) → all_counted (row_events bank (bound rows shape n b issues)) k
+    ≡ with_counts k (counts_of issues)
 row_counted bank rows shape n b [] k = sym (plain_counts k _ _ (add_none k.aap) (add_none k.ap))
 row_counted bank rows shape n b (Twice x y ∷ issues) k =
     row_counted bank rows shape n b issues (record k { aap = k.aap + 1 })
-    ∙ both_counts k _ _ _ _ (one_counted k.aap is_twice (Twice x y) issues refl) (none_counted k.ap is_once (Twice x y) issues refl)
+    ∙ both_counts k _ _ _ _ (one_counted k.aap is_twice (Twice x y) issues refl)
+    (none_counted k.ap is_once (Twice x y) issues refl)
 row_counted bank rows shape n b (Once x ∷ issues) k =
     row_counted bank rows shape n b issues (record k { ap = k.ap + 1 })
-    ∙ both_counts k _ _ _ _ (none_counted k.aap is_twice (Once x) issues refl) (one_counted k.ap is_once (Once x) issues refl)
+    ∙ both_counts k _ _ _ _ (none_counted k.aap is_twice (Once x) issues refl)
+    (one_counted k.ap is_once (Once x) issues refl)
 
 add_zero_times : (x c : ℕ) → x + 0 * c ≡ x
 add_zero_times x c = omega arith
@@ -77,35 +97,53 @@ add_zero_times x c = omega arith
 one_more : (x size c : ℕ) → x + c + size * c ≡ x + suc size * c
 one_more x size c = rw (suc-mul size c) (omega arith)
 
-banks_counted : (a size rows : ℕ) (shape : Shape) (n : ℕ) (b : Bound) (issues : List Issue) (k : Counters) →
-    all_counted (flat_map (λ bank. row_events bank (bound rows shape n b issues)) (range_with_len a size)) k ≡ with_counts k (times size (counts_of issues))
-banks_counted a zero rows shape n b issues k = sym (plain_counts k _ _ (add_zero_times k.aap (count_by is_twice issues)) (add_zero_times k.ap (count_by is_once issues)))
+banks_counted : (a size rows : ℕ) (shape : Shape) (n : ℕ) (b : Bound) (issues : List Issue)
+    (k : Counters) →
+    all_counted (flat_map (λ bank. row_events bank (bound rows shape n b issues))
+    (range_with_len a size)) k ≡ with_counts k (times size (counts_of issues))
+banks_counted a zero rows shape n b issues k =
+    sym (plain_counts k _ _ (add_zero_times k.aap (count_by is_twice issues))
+    (add_zero_times k.ap (count_by is_once issues)))
 banks_counted a (suc size) rows shape n b issues k =
     all_counted-append (row_events a (bound rows shape n b issues)) _ k
-    ∙ banks_counted (a + 1) size rows shape n b issues (all_counted (row_events a (bound rows shape n b issues)) k)
-    ∙ ap (λ c. with_counts c (times size (counts_of issues))) (row_counted a rows shape n b issues k)
-    ∙ both_counts k _ _ _ _ (one_more k.aap size (count_by is_twice issues)) (one_more k.ap size (count_by is_once issues))
+    ∙ banks_counted (a + 1) size rows shape n b issues
+    (all_counted (row_events a (bound rows shape n b issues)) k)
+    ∙ ap (λ c. with_counts c (times size (counts_of issues)))
+    (row_counted a rows shape n b issues k)
+    ∙ both_counts k _ _ _ _ (one_more k.aap size (count_by is_twice issues))
+    (one_more k.ap size (count_by is_once issues))
 
-no_events : (k : Counters) (banks : ℕ) → all_counted (flat_map (λ bank. row_events bank []) (range_with_len banks 0)) k ≡ k
+no_events : (k : Counters) (banks : ℕ)
+    → all_counted (flat_map (λ bank. row_events bank []) (range_with_len banks 0)) k ≡ k
 no_events k banks = refl
 
-idle_counted : (a size : ℕ) (k : Counters) → all_counted (flat_map (λ bank. row_events bank []) (range_with_len a size)) k ≡ k
+idle_counted : (a size : ℕ) (k : Counters)
+    → all_counted (flat_map (λ bank. row_events bank []) (range_with_len a size)) k ≡ k
 idle_counted a zero k = refl
 idle_counted a (suc size) k = idle_counted (a + 1) size k
 
 zero_times : (x c : ℕ) → x + c * 0 ≡ x
 zero_times x c = omega arith
 
-bbop_counted : (g : Geometry) (table : List Named) (o : Option Operation) (dst : List ℕ) (srcs : List (List ℕ)) (n size : ℕ) (k : Counters) →
-    all_counted (job_events (record { commands = bound_at g table o dst srcs n; banks = size })) k ≡ with_counts k (times size (counts_of (issues_at o n)))
-bbop_counted g table None dst srcs n size k = idle_counted 0 size k ∙ sym (plain_counts k _ _ (zero_times k.aap size) (zero_times k.ap size))
-bbop_counted g table (Some o) dst srcs n size k = banks_counted 0 size g.rows o.shape n (binding g table o.shape dst srcs n) (issues_of (o.trace n)) k
+bbop_counted : (g : Geometry) (table : List Named) (o : Option Operation) (names : List (List ℕ))
+    (n size : ℕ) (k : Counters) →
+    all_counted (job_events (record { commands = bound_at g table o names n; banks = size })) k
+    ≡ with_counts k (times size (counts_of (issues_at o n)))
+bbop_counted g table None names n size k = idle_counted 0 size k
+    ∙ sym (plain_counts k _ _ (zero_times k.aap size) (zero_times k.ap size))
+bbop_counted g table (Some o) names n size k =
+    banks_counted 0 size g.rows o.shape n (binding g table o.shape names n) (issues_of (o.trace n))
+    k
 
 -- the events of a bbop are counted by its counts
-pub done_counted : (g : Geometry) (operations : Operations) (table : List Named) (instr : Instruction) (k : Counters) → is_bbop instr ≡ true → all_counted (events_of g operations table instr) k ≡ with_counts k (counts_for g operations table instr)
+pub done_counted : (g : Geometry) (operations : Operations) (table : List Named)
+    (instr : Instruction) (k : Counters) → is_bbop instr ≡ true
+    → all_counted (events_of g operations table instr) k
+    ≡ with_counts k (counts_for g operations table instr)
 done_counted g operations table (Bbop op dst srcs count n) k h =
-    ap (λ es. all_counted es k) (append-nil (job_events (job_of g operations table (Bbop op dst srcs count n))))
-    ∙ bbop_counted g table (operations op) dst srcs n _ k
+    ap (λ es. all_counted es k) (append-nil (job_events
+    (job_of g operations table (Bbop op dst srcs count n))))
+    ∙ bbop_counted g table (operations op) (dst ∷ srcs) n _ k
 done_counted g operations table (Init name count n) k h = cc
 done_counted g operations table (Load name values) k h = cc
 done_counted g operations table (Fill name value) k h = cc
@@ -113,22 +151,32 @@ done_counted g operations table (Print name) k h = cc
 done_counted g operations table (Free name) k h = cc
 done_counted g operations table (Order o) k h = cc
 
-reply_case : (r : Option Why) (es : List Event) (c : Counts) (k : Counters) → all_counted es k ≡ with_counts k c → all_counted (if_done r es []) k ≡ with_counts k (counted_in (reply_by r c))
+reply_case : (r : Option Why) (es : List Event) (c : Counts) (k : Counters)
+    → all_counted es k ≡ with_counts k c → all_counted (if_done r es []) k
+    ≡ with_counts k (counted_in (reply_by r c))
 reply_case None es c k e = e
 reply_case (Some reason) es c k e = sym (plain_counts k _ _ (add_none k.aap) (add_none k.ap))
 
-pub instr_counted : (g : Geometry) (operations : Operations) (table : List Named) (instr : Instruction) (k : Counters) → is_bbop instr ≡ true → all_counted (if_done (refusal g operations table instr) (events_of g operations table instr) []) k ≡ with_counts k (counted_in (reply_to g operations table instr))
-instr_counted g operations table instr k h = reply_case (refusal g operations table instr) (events_of g operations table instr) (counts_for g operations table instr) k (done_counted g operations table instr k h)
+pub instr_counted : (g : Geometry) (operations : Operations) (table : List Named)
+    (instr : Instruction) (k : Counters) → is_bbop instr ≡ true
+    → all_counted (if_done (refusal g operations table instr) (events_of g operations table instr)
+    []) k ≡ with_counts k (counted_in (reply_to g operations table instr))
+instr_counted g operations table instr k h = reply_case (refusal g operations table instr)
+    (events_of g operations table instr) (counts_for g operations table instr) k
+    (done_counted g operations table instr k h)
 
 regroup : (x a b : ℕ) → x + a + b ≡ x + (a + b)
 regroup x a b = omega arith
 
 pub counted_by_replies : CountedByReplies
-counted_by_replies g operations table [] k h = sym (plain_counts k _ _ (add_none k.aap) (add_none k.ap))
+counted_by_replies g operations table [] k h =
+    sym (plain_counts k _ _ (add_none k.aap) (add_none k.ap))
 counted_by_replies g operations table (instr ∷ script) k h =
     let first = counted_in (reply_to g operations table instr) in
     let rest = sum_of (replies g operations (table_after g operations table instr) script) in
-    all_counted-append (if_done (refusal g operations table instr) (events_of g operations table instr) []) (script_events g operations (table_after g operations table instr) script) k
+    all_counted-append (if_done (refusal g operations table instr)
+    (events_of g operations table instr) [])
+    (script_events g operations (table_after g operations table instr) script) k
     ∙ counted_by_replies g operations (table_after g operations table instr) script _ h.1
     ∙ ap (λ c. with_counts c rest) (instr_counted g operations table instr k h.0)
     ∙ both_counts k _ _ _ _ (regroup k.aap first.aap rest.aap) (regroup k.ap first.ap rest.ap)

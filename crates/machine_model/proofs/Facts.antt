@@ -1,23 +1,26 @@
 -- What is known of an instruction that is not refused.
-use Rattle.std.proofs.Common.{◌≡◌, ℕ, zero, suc, ◌+◌, ◌-◌, ◌<◌, ◌≤◌, Bool, true, false, not, cond, eqb, ltb, List, [], ◌∷◌, length, map, Option, Some, None, refl, sym, ◌∙◌, ap, subst, arith}
-use Rattle.std.specs.Prelude.{is_none}
-use Rattle.std.specs.List.{zip}
+use Rattle.std.proofs.Common.{◌≡◌, ℕ, zero, suc, ◌+◌, Bool, true, false, not, eqb, List, [], ◌∷◌}
+use Rattle.std.proofs.Common.{◌++◌, length, map, Option, Some, None, refl, sym, ◌∙◌, ap, subst}
+use Rattle.std.proofs.Common.{arith, length-append}
+use Rattle.std.specs.Prelude.{is_none, take, drop}
+use Rattle.std.specs.List.{zip, AllByRecursion}
 use Rattle.std.proofs.lemmas.Bool.Decides.{nat_tests}
 use Rattle.op_text.specs.declared.tree.Kind.{Kind}
-use Rattle.uprog_code.specs.Machine.{Trace, Ended, Stuck}
-use Rattle.uprog_code.specs.Shape.{width, need}
+use Rattle.uprog_code.specs.Shape.{width, need, results}
 use Rattle.dram_model.specs.declared.geometry.Geometry.{Geometry}
 use Rattle.object_alloc.specs.declared.table.Object.{Object}
 use Rattle.object_alloc.specs.Free.{free}
 use Rattle.object_alloc.specs.Listed.{Named, objects_of, has_name}
-use Rattle.std.specs.Str.{bytes_eq}
 use Rattle.machine_model.specs.declared.Why.{Why}
 use Rattle.machine_model.specs.declared.Why.TheVariants as why
 use Rattle.machine_model.specs.Operations.{Operation}
 use Rattle.object_alloc.specs.Listed.{limit_of}
-use Rattle.machine_model.specs.Refusals.{first, when, at_place, object_named, is_absent, is_misfit, walks_badly, bbop_conditions, bbop_refusal}
+use Rattle.machine_model.specs.Refusals.{first, when, at_place, object_named, is_absent, is_misfit}
+use Rattle.machine_model.specs.Refusals.{walks_badly, bbop_conditions, dsts_in, srcs_in, is_one_of}
+use Rattle.machine_model.specs.Refusals.{repeats}
 
-pub first_none : (c : Option Why) (rest : List (Option Why)) → first (c ∷ rest) ≡ None → (c ≡ None) × (first rest ≡ None)
+pub first_none : (c : Option Why) (rest : List (Option Why)) → first (c ∷ rest) ≡ None
+    → (c ≡ None) × (first rest ≡ None)
 first_none None rest h = (refl, h)
 first_none (Some w) rest h = cc
 
@@ -25,7 +28,8 @@ pub when_none : (b : Bool) (w : Why) → when b w ≡ None → b ≡ false
 when_none true w h = cc
 when_none false w h = refl
 
-pub place_none : (w : ℕ → Why) (k : ℕ) (b : Bool) (bs : List Bool) → at_place w k (b ∷ bs) ≡ None → (b ≡ false) × (at_place w (k + 1) bs ≡ None)
+pub place_none : (w : ℕ → Why) (k : ℕ) (b : Bool) (bs : List Bool) → at_place w k (b ∷ bs) ≡ None
+    → (b ≡ false) × (at_place w (k + 1) bs ≡ None)
 place_none w k true bs h = cc
 place_none w k false bs h = (refl, h)
 
@@ -33,81 +37,140 @@ pub not_false : (b : Bool) → not b ≡ false → b ≡ true
 not_false true h = refl
 not_false false h = cc
 
--- the source has an object, as wide as its kind, of the count, and is not the destination
-pub record IsOperand (table : List Named) (dst : List ℕ) (count n : ℕ) (kind : Kind) (name : List ℕ) : Type 0 where
+-- the operand has an object, as wide as its kind, of the count
+pub record IsOperand (table : List Named) (count n : ℕ) (kind : Kind) (name : List ℕ) : Type 0 where
   pub present : has_name table name ≡ true
   pub wide : (object_named table name).width ≡ width kind n
   pub counted : (object_named table name).count ≡ count
-  pub other : bytes_eq name dst ≡ false
 
-pub data AreOperands (table : List Named) (dst : List ℕ) (count n : ℕ) : List Kind → List (List ℕ) → Type 0 where
-  none : AreOperands table dst count n [] []
-  more : (kind : Kind) (kinds : List Kind) (name : List ℕ) (names : List (List ℕ)) → IsOperand table dst count n kind name → AreOperands table dst count n kinds names → AreOperands table dst count n (kind ∷ kinds) (name ∷ names)
+pub data AreOperands (table : List Named) (count n : ℕ) : List Kind → List (List ℕ) → Type 0 where
+  none : AreOperands table count n [] []
+  more : (kind : Kind) (kinds : List Kind) (name : List ℕ) (names : List (List ℕ))
+      → IsOperand table count n kind name → AreOperands table count n kinds names
+      → AreOperands table count n (kind ∷ kinds) (name ∷ names)
+
+-- no destination is named as one before it
+abbrev pub Differ : List (List ℕ) → List (List ℕ) → Type 0
+Differ before [] = Unit {0}
+Differ before (name ∷ names) = (is_one_of before name ≡ false) × Differ (name ∷ before) names
+
+abbrev pub AreOthers : List (List ℕ) → List (List ℕ) → Type 0
+AreOthers dsts srcs = AllByRecursion (λ name. is_one_of dsts name ≡ false) srcs
 
 equal_tested : (a b : ℕ) → eqb a b ≡ true → a ≡ b
 equal_tested a b h = grind (arith, nat_tests)
 
-operands : (table : List Named) (dst : List ℕ) (count n k l m i : ℕ) (w x y z : ℕ → Why) (kinds : List Kind) (names : List (List ℕ)) → length names ≡ length kinds
+operands : (table : List Named) (count n k l m : ℕ) (w x y : ℕ
+    → Why) (kinds : List Kind) (names : List (List ℕ)) → length names ≡ length kinds
     → at_place w k (map (is_absent table) names) ≡ None
     → at_place x l (map (is_misfit n) (zip kinds (map (object_named table) names))) ≡ None
     → at_place y m (map (λ o. not (eqb o.count count)) (map (object_named table) names)) ≡ None
-    → at_place z i (map (λ name. bytes_eq name dst) names) ≡ None
-    → AreOperands table dst count n kinds names
-operands table dst count n k l m i w x y z [] [] e a b c d = none
-operands table dst count n k l m i w x y z [] (name ∷ names) e a b c d = absurd (omega arith)
-operands table dst count n k l m i w x y z (kind ∷ kinds) [] e a b c d = absurd (omega arith)
-operands table dst count n k l m i w x y z (kind ∷ kinds) (name ∷ names) e a b c d =
+    → AreOperands table count n kinds names
+operands table count n k l m w x y [] [] e a b c = none
+operands table count n k l m w x y [] (name ∷ names) e a b c = absurd (omega arith)
+operands table count n k l m w x y (kind ∷ kinds) [] e a b c = absurd (omega arith)
+operands table count n k l m w x y (kind ∷ kinds) (name ∷ names) e a b c =
     let a' = place_none w k (is_absent table name) (map (is_absent table) names) a in
-    let b' = place_none x l (is_misfit n (kind, object_named table name)) (map (is_misfit n) (zip kinds (map (object_named table) names))) b in
-    let c' = place_none y m (not (eqb (object_named table name).count count)) (map (λ o. not (eqb o.count count)) (map (object_named table) names)) c in
-    let d' = place_none z i (bytes_eq name dst) (map (λ name. bytes_eq name dst) names) d in
+    let b' = place_none x l (is_misfit n (kind, object_named table name))
+    (map (is_misfit n) (zip kinds (map (object_named table) names))) b in
+    let c' = place_none y m (not (eqb (object_named table name).count count))
+    (map (λ o. not (eqb o.count count)) (map (object_named table) names)) c in
     more kind kinds name names
     (record {
       present = not_false _ a'.0;
       wide = equal_tested _ _ (not_false _ b'.0);
       counted = equal_tested _ _ (not_false _ c'.0);
-      other = d'.0;
     })
-    (operands table dst count n (k + 1) (l + 1) (m + 1) (i + 1) w x y z kinds names (omega arith) a'.1 b'.1 c'.1 d'.1)
+    (operands table count n (k + 1) (l + 1) (m + 1) w x y kinds names (omega arith) a'.1 b'.1 c'.1)
+
+-- the operands of the first kinds, and the others
+pub parted : (table : List Named) (count n : ℕ) (ks js : List Kind) (xs ys : List (List ℕ))
+    → length xs ≡ length ks → AreOperands table count n (ks ++ js) (xs ++ ys)
+    → AreOperands table count n ks xs × AreOperands table count n js ys
+parted table count n [] js [] ys e all = (none, all)
+parted table count n [] js (x ∷ xs) ys e all = absurd (omega arith)
+parted table count n (k ∷ ks) js [] ys e all = absurd (omega arith)
+parted table count n (k ∷ ks) js (x ∷ xs) ys e (more _ _ _ _ op rest) =
+    let p = parted table count n ks js xs ys (omega arith) rest in (more k ks x xs op p.0, p.1)
+
+others : (w : ℕ → Why) (k : ℕ) (dsts srcs : List (List ℕ))
+    → at_place w k (map (is_one_of dsts) srcs) ≡ None → AreOthers dsts srcs
+others w k dsts [] h = tt
+others w k dsts (s ∷ srcs) h = let p = place_none w k (is_one_of dsts s) (map (is_one_of dsts) srcs)
+    h in (p.0, others w (k + 1) dsts srcs p.1)
+
+apart : (w : ℕ → Why) (k : ℕ) (before dsts : List (List ℕ)) (rest : List Bool)
+    → at_place w k (repeats before dsts ++ rest) ≡ None → Differ before dsts
+    × (at_place w (k + length dsts) rest ≡ None)
+apart w k before [] rest h = let e : k ≡ k + 0 = omega arith in
+    (tt, ap (λ i. at_place w i rest) (sym e) ∙ h)
+apart w k before (d ∷ dsts) rest h =
+    let p = place_none w k (is_one_of before d) (repeats (d ∷ before) dsts ++ rest) h in
+    let q = apart w (k + 1) (d ∷ before) dsts rest p.1 in
+    let e : k + suc (length dsts) ≡ k + 1 + length dsts = omega arith in
+    ((p.0, q.0), ap (λ i. at_place w i rest) e ∙ q.1)
+
+-- so many names and the others are all
+lengths : (m : ℕ) (names : List (List ℕ)) (k : ℕ) → length names ≡ m + k
+    → (length (take m names) ≡ m) × (length (drop m names) ≡ k)
+    × (take m names ++ drop m names ≡ names)
+lengths zero names k e = (refl, omega (arith, e), refl)
+lengths (suc m) [] k e = absurd (omega arith)
+lengths (suc m) (x ∷ names) k e = let r = lengths m names k (omega arith) in
+    (omega (arith, r.0), r.1, ap (λ l. x ∷ l) r.2)
 
 -- what is known of a bbop that is not refused
-pub record IsGood (g : Geometry) (table : List Named) (o : Operation) (dst : List ℕ) (srcs : List (List ℕ)) (count n : ℕ) : Type 0 where
-  pub present : has_name table dst ≡ true
-  pub wide : (object_named table dst).width ≡ width o.shape.result n
-  pub counted : (object_named table dst).count ≡ count
-  pub sources : AreOperands table dst count n o.shape.sources srcs
+pub record IsGood (g : Geometry) (table : List Named) (o : Operation) (names : List (List ℕ))
+    (count n : ℕ) : Type 0 where
+  pub destinations : AreOperands table count n (results o.shape) (dsts_in o.shape names)
+  pub sources : AreOperands table count n o.shape.sources (srcs_in o.shape names)
+  pub differ : Differ [] (dsts_in o.shape names)
+  pub others : AreOthers (dsts_in o.shape names) (srcs_in o.shape names)
   pub walks : walks_badly (o.trace n) ≡ None
   pub room : is_none (free (limit_of g) (objects_of table) (need o.shape n)) ≡ false
 
-pub good : (g : Geometry) (table : List Named) (o : Operation) (dst : List ℕ) (srcs : List (List ℕ)) (count n : ℕ) → first (bbop_conditions (limit_of g) table o dst srcs count n) ≡ None → IsGood g table o dst srcs count n
-good g table o dst srcs count n h =
-    let names = dst ∷ srcs in
+pub good : (g : Geometry) (table : List Named) (o : Operation) (names : List (List ℕ)) (count n : ℕ)
+    → first (bbop_conditions (limit_of g) table o names count n) ≡ None
+    → IsGood g table o names count n
+good g table o names count n h =
+    let ks = results o.shape in
+    let dsts = dsts_in o.shape names in
+    let srcs = srcs_in o.shape names in
     let objects = map (object_named table) names in
     let absent = map (is_absent table) names in
-    let misfit = map (is_misfit n) (zip (o.shape.result ∷ o.shape.sources) objects) in
+    let misfit = map (is_misfit n) (zip (ks ++ o.shape.sources) objects) in
     let count_off = map (λ (p : Object). not (eqb p.count count)) objects in
-    let same = map (λ (name : List ℕ). bytes_eq name dst) srcs in
-    let c6 = when (is_none (free (limit_of g) (objects_of table) (need o.shape n))) why.NoRows ∷ [] in
+    let same = repeats [] dsts ++ map (is_one_of dsts) srcs in
+    let c6 = when (is_none (free (limit_of g) (objects_of table) (need o.shape n))) why.NoRows
+    ∷ [] in
     let c5 = walks_badly (o.trace n) ∷ c6 in
-    let c4 = at_place why.Overlap 1 same ∷ c5 in
+    let c4 = at_place why.Overlap 0 same ∷ c5 in
     let c3 = at_place why.Size 0 count_off ∷ c4 in
     let c2 = at_place why.Width 0 misfit ∷ c3 in
     let c1 = at_place why.NoObject 0 absent ∷ c2 in
-    let arity = first_none (when (not (eqb (length srcs) (length o.shape.sources))) why.Arity) c1 h in
+    let arity = first_none (when (not (eqb (length names) (length (ks ++ o.shape.sources))))
+    why.Arity) c1 h in
     let present = first_none (at_place why.NoObject 0 absent) c2 arity.1 in
     let wide = first_none (at_place why.Width 0 misfit) c3 present.1 in
     let counted = first_none (at_place why.Size 0 count_off) c4 wide.1 in
-    let other = first_none (at_place why.Overlap 1 same) c5 counted.1 in
+    let other = first_none (at_place why.Overlap 0 same) c5 counted.1 in
     let walks = first_none (walks_badly (o.trace n)) c6 other.1 in
-    let room = first_none (when (is_none (free (limit_of g) (objects_of table) (need o.shape n))) why.NoRows) [] walks.1 in
-    let present' = place_none why.NoObject 0 (is_absent table dst) (map (is_absent table) srcs) present.0 in
-    let wide' = place_none why.Width 0 (is_misfit n (o.shape.result, object_named table dst)) (map (is_misfit n) (zip o.shape.sources (map (object_named table) srcs))) wide.0 in
-    let counted' = place_none why.Size 0 (not (eqb (object_named table dst).count count)) (map (λ (p : Object). not (eqb p.count count)) (map (object_named table) srcs)) counted.0 in
+    let room = first_none (when (is_none (free (limit_of g) (objects_of table) (need o.shape n)))
+    why.NoRows) [] walks.1 in
+    let all : length names ≡ length (ks ++ o.shape.sources) =
+    equal_tested _ _ (not_false _ (when_none _ _ arity.0)) in
+    let long = lengths (length ks) names (length o.shape.sources) (all
+    ∙ length-append ks o.shape.sources) in
+    let every = operands table count n 0 0 0 why.NoObject why.Width why.Size (ks ++ o.shape.sources)
+    names all present.0 wide.0 counted.0 in
+    let both = parted table count n ks o.shape.sources dsts srcs long.0
+    (subst (AreOperands table count n (ks ++ o.shape.sources)) (sym long.2) every) in
+    let apart' = apart why.Overlap 0 [] dsts (map (is_one_of dsts) srcs) other.0 in
     record {
-      present = not_false _ present'.0;
-      wide = equal_tested _ _ (not_false _ wide'.0);
-      counted = equal_tested _ _ (not_false _ counted'.0);
-      sources = operands table dst count n _ _ _ _ _ _ _ _ o.shape.sources srcs (equal_tested _ _ (not_false _ (when_none _ _ arity.0))) present'.1 wide'.1 counted'.1 other.0;
+      destinations = both.0;
+      sources = both.1;
+      differ = apart'.0;
+      others = others why.Overlap (0 + length dsts) dsts srcs apart'.1;
       walks = walks.0;
       room = when_none _ _ room.0;
     }

@@ -1,6 +1,6 @@
 -- A row that a done instruction does not touch stays.
-use Rattle.std.proofs.Common.{◌≡◌, ℕ, zero, suc, ◌+◌, ◌-◌, ◌*◌, ◌<◌, ◌≤◌, Bool, true, false, not, ◌&&◌, ◌||◌, cond, ltb, leb, List, [], ◌∷◌, length, map, Option, Some, None, refl, sym, ◌∙◌, ap, subst, arith, inl, inr}
-use Rattle.std.proofs.lemmas.Bool.{cases_lt}
+use Rattle.std.proofs.Common.{◌≡◌, ℕ, ◌+◌, ◌<◌, ◌≤◌, Bool, true, false, ◌&&◌, ◌||◌, cond, ltb, List}
+use Rattle.std.proofs.Common.{[], ◌∷◌, map, Option, Some, None, refl, ◌∙◌, ap, arith, inl, inr}
 use Rattle.std.proofs.lemmas.Bool.Decides.{nat_tests}
 use Rattle.dram_model.specs.declared.geometry.Geometry.{Geometry}
 use Rattle.dram_model.specs.declared.address.Cell.TheVariants.{D}
@@ -8,80 +8,130 @@ use Rattle.dram_model.specs.Column.{Column, run}
 use Rattle.dram_model.specs.Chip.{Banks, row_in}
 use Rattle.bit_rows.specs.declared.TheConstants.{WIDTH_MAX}
 use Rattle.uprog_code.specs.Bound.{bound}
-use Rattle.uprog_code.specs.Shape.{need, width}
-use Rattle.machine_model.specs.Operations.{Does}
-use Rattle.uprog_code.specs.Fits.{IsAmong, IsTouched}
+use Rattle.uprog_code.specs.Shape.{need, results}
+use Rattle.std.specs.List.{list_any}
+use Rattle.op_text.specs.declared.tree.Kind.{Kind}
+use Rattle.uprog_code.specs.Fits.{ranges, IsInSome, IsTouched}
 use Rattle.uprog_code.specs.Machine.{issues_of}
-use Rattle.object_alloc.specs.declared.table.Object.{Object}
 use Rattle.object_alloc.specs.Free.{has_row}
-use Rattle.object_alloc.specs.Listed.{Named, IsTable}
-use Rattle.bbop_isa.specs.Forms.{Init, Bbop, Load, Fill, Print, Free, Order}
+use Rattle.object_alloc.specs.Listed.{IsTable}
+use Rattle.bbop_isa.specs.Forms.{Bbop}
 use Rattle.machine_model.specs.declared.Why.{Why}
 use Rattle.machine_model.specs.Columns.{segments}
 use Rattle.machine_model.specs.Operations.{Operation, Operations}
 use Rattle.object_alloc.specs.Listed.{limit_of}
-use Rattle.machine_model.specs.Refusals.{object_named, bbop_refusal}
-use Rattle.machine_model.specs.Steps.{Held, table_of, base_for, binding, through, job_of, if_done, is_touched, banks_after, is_among, is_beside}
+use Rattle.machine_model.specs.Refusals.{object_named, bbop_refusal, dsts_in}
+use Rattle.machine_model.specs.Steps.{Held, table_of, base_for, binding, through, job_of, if_done}
+use Rattle.machine_model.specs.Steps.{is_touched, banks_after, is_among, is_beside, dsts_of}
 use Rattle.machine_model.specs.Agrees.{DoesAll}
-use Rattle.machine_model.proofs.Facts.{IsGood, good}
-use Rattle.machine_model.proofs.Bbops.{binding_fits, has_from, map_map}
+use Rattle.machine_model.proofs.Facts.{AreOperands, none, more, IsGood, good}
+use Rattle.machine_model.proofs.Bbops.{or_false, base_in, binding_fits, has_from}
 use Rattle.machine_model.proofs.Steps.{job_is}
 
 and_false : (b : Bool) → (true && b) ≡ false → b ≡ false
 and_false b h = h
 
-pub or_false : (a b : Bool) → (a || b) ≡ false → (a ≡ false) × (b ≡ false)
-or_false true b h = cc
-or_false false b h = (refl, h)
-
 among_from : (base size row : ℕ) → base ≤ row → row < base + size → is_among base size row ≡ true
 among_from base size row a b = grind (arith, nat_tests)
 
-rows_stay : (row : ℕ) (h : Column → Column) (columns : List Column) → ((s : Column) → h s (D row) ≡ s (D row)) → row_in row (map h columns) ≡ row_in row columns
+rows_stay : (row : ℕ) (h : Column → Column) (columns : List Column)
+    → ((s : Column) → h s (D row) ≡ s (D row)) → row_in row (map h columns) ≡ row_in row columns
 rows_stay row h [] e = refl
-rows_stay row h (s ∷ columns) e = rw (e s) (ap (λ rest. s (D row) ∷ rest) (rows_stay row h columns e))
+rows_stay row h (s ∷ columns) e =
+    rw (e s) (ap (λ rest. s (D row) ∷ rest) (rows_stay row h columns e))
 
-pub stay_case : (row : ℕ) (h : Column → Column) (t b : Bool) (columns : List Column) → (t && b) ≡ false → (b ≡ false → (s : Column) → h s (D row) ≡ s (D row)) → row_in row (cond t (map h columns) columns) ≡ row_in row columns
+pub stay_case : (row : ℕ) (h : Column → Column) (t b : Bool) (columns : List Column)
+    → (t && b) ≡ false → (b ≡ false → (s : Column) → h s (D row) ≡ s (D row))
+    → row_in row (cond t (map h columns) columns) ≡ row_in row columns
 stay_case row h true b columns e keeps = rows_stay row h columns (keeps e)
 stay_case row h false b columns e keeps = refl
 
 -- what is not touched by the tests is in none of the ranges
-not_touched : (g : Geometry) (state : List Held) (o : Operation) (dst : List ℕ) (srcs : List (List ℕ)) (n row : ℕ) → (object_named (table_of state) dst).width ≡ width o.shape.result n
-    → (has_row (object_named (table_of state) dst) row || is_beside g (table_of state) (Some o) n row) ≡ false → IsTouched g.rows o.shape n (binding g (table_of state) o.shape dst srcs n) row → ⊥
-not_touched g state o dst srcs n row wide h (inl result) =
-    let parts = or_false (has_row (object_named (table_of state) dst) row) (is_beside g (table_of state) (Some o) n row) h in
-    let has = has_from (object_named (table_of state) dst) row result.0 (omega (arith, result.1, wide)) in cc
-not_touched g state o dst srcs n row wide h (inr (inl scratch)) =
-    let parts = or_false (has_row (object_named (table_of state) dst) row) (is_beside g (table_of state) (Some o) n row) h in
+no_result_row : (state : List Held) (count n row : ℕ) (kinds : List Kind) (names : List (List ℕ))
+    → AreOperands (table_of state) count n kinds names
+    → list_any (λ name. has_row (object_named (table_of state) name) row) names ≡ false
+    → IsInSome (ranges n kinds (map (base_in state) names)) row → ⊥
+no_result_row state count n row [] [] none h is = is
+no_result_row state count n row [] (name ∷ names) x h is = elim x [ ]
+no_result_row state count n row (kind ∷ kinds) [] x h is = elim x [ ]
+no_result_row state count n row (kind ∷ kinds) (name ∷ names) (more _ _ _ _ op rest) h (inl r) =
+    let p = or_false (has_row (object_named (table_of state) name) row)
+    (list_any (λ name. has_row (object_named (table_of state) name) row) names) h in
+    let has = has_from (object_named (table_of state) name) row r.0 (omega (arith, r.1, op.wide)) in
+    cc
+no_result_row state count n row (kind ∷ kinds) (name ∷ names) (more _ _ _ _ op rest) h (inr r) =
+    no_result_row state count n row kinds names rest
+    (or_false (has_row (object_named (table_of state) name) row)
+    (list_any (λ name. has_row (object_named (table_of state) name) row) names) h).1 r
+
+not_touched : (g : Geometry) (state : List Held) (o : Operation) (names : List (List ℕ))
+    (count n row : ℕ) → IsGood g (table_of state) o names count n
+    → (list_any (λ name. has_row (object_named (table_of state) name) row) (dsts_in o.shape names)
+    || is_beside g (table_of state) (Some o) n row) ≡ false
+    → IsTouched g.rows o.shape n (binding g (table_of state) o.shape names n) row → ⊥
+not_touched g state o names count n row good h (inl result) =
+    let parts = or_false (list_any (λ name. has_row (object_named (table_of state) name) row)
+    (dsts_in o.shape names)) (is_beside g (table_of state) (Some o) n row) h in
+    no_result_row state count n row (results o.shape) (dsts_in o.shape names) good.destinations
+    parts.0 result
+not_touched g state o names count n row good h (inr (inl scratch)) =
+    let parts = or_false (list_any (λ name. has_row (object_named (table_of state) name) row)
+    (dsts_in o.shape names)) (is_beside g (table_of state) (Some o) n row) h in
     let base = base_for g (table_of state) (need o.shape n) in
-    let beside = or_false (is_among base (need o.shape n) row) (is_among (limit_of g) 32 row) parts.1 in
+    let beside = or_false (is_among base (need o.shape n) row) (is_among (limit_of g) 32 row)
+    parts.1 in
     let among = among_from base (need o.shape n) row scratch.0 scratch.1 in cc
-not_touched g state o dst srcs n row wide h (inr (inr spill)) =
-    let parts = or_false (has_row (object_named (table_of state) dst) row) (is_beside g (table_of state) (Some o) n row) h in
+not_touched g state o names count n row good h (inr (inr spill)) =
+    let parts = or_false (list_any (λ name. has_row (object_named (table_of state) name) row)
+    (dsts_in o.shape names)) (is_beside g (table_of state) (Some o) n row) h in
     let base = base_for g (table_of state) (need o.shape n) in
-    let beside = or_false (is_among base (need o.shape n) row) (is_among (limit_of g) 32 row) parts.1 in
+    let beside = or_false (is_among base (need o.shape n) row) (is_among (limit_of g) 32 row)
+    parts.1 in
     let among = among_from (limit_of g) 32 row spill.0 spill.1 in cc
 
-bbop_kept : (g : Geometry) (operations : Operations) (meaning : List ℕ → ℕ → List ℕ → ℕ) (op dst : List ℕ) (srcs : List (List ℕ)) (count n : ℕ) (found : Option Operation) → operations op ≡ found → 0 < n → n ≤ WIDTH_MAX → DoesAll operations meaning
-    → (banks : Banks) (state : List Held) (bank row : ℕ) → IsTable (limit_of g) (table_of state) → bbop_refusal g (table_of state) found dst srcs count n ≡ None
-    → (ltb bank (segments g (object_named (table_of state) dst)) && (has_row (object_named (table_of state) dst) row || is_beside g (table_of state) found n row)) ≡ false
-    → row_in row (through (job_of g operations (table_of state) (Bbop op dst srcs count n)) banks bank) ≡ row_in row (banks bank)
-bbop_kept g operations meaning op dst srcs count n None e some few does banks state bank row t h out = cc
-bbop_kept g operations meaning op dst srcs count n (Some o) e some few does banks state bank row t h out =
-    let facts = good g (table_of state) o dst srcs count n h in
-    let cs = bound g.rows o.shape n (binding g (table_of state) o.shape dst srcs n) (issues_of (o.trace n)) in
-    ap (λ j. row_in row (through j banks bank)) (job_is g operations op dst srcs count n o e (table_of state))
-    ∙ stay_case row (run cs) (ltb bank (segments g (object_named (table_of state) dst))) (has_row (object_named (table_of state) dst) row || is_beside g (table_of state) (Some o) n row) (banks bank) out
-    (λ b s. (does op o e n some few).keeps.row g.rows (binding g (table_of state) o.shape dst srcs n) s (binding_fits g state o dst srcs count n t facts) row (not_touched g state o dst srcs n row facts.wide b))
+bbop_kept : (g : Geometry) (operations : Operations) (meaning : List ℕ → ℕ → List ℕ
+    → List ℕ) (op dst : List ℕ) (srcs : List (List ℕ)) (count n : ℕ) (found : Option Operation)
+    → operations op ≡ found → 0 < n → n ≤ WIDTH_MAX → DoesAll operations meaning
+    → (banks : Banks) (state : List Held) (bank row : ℕ) → IsTable (limit_of g) (table_of state)
+    → bbop_refusal g (table_of state) found (dst ∷ srcs) count n ≡ None
+    → (ltb bank (segments g (object_named (table_of state) dst))
+    && (list_any (λ name. has_row (object_named (table_of state) name) row)
+    (dsts_of found (dst ∷ srcs)) || is_beside g (table_of state) found n row)) ≡ false
+    → row_in row (through (job_of g operations (table_of state) (Bbop op dst srcs count n)) banks
+    bank) ≡ row_in row (banks bank)
+bbop_kept g operations meaning op dst srcs count n None e some few does banks state bank row t h
+    out = cc
+bbop_kept g operations meaning op dst srcs count n (Some o) e some few does banks state bank row t h
+    out =
+    let names = dst ∷ srcs in
+    let facts = good g (table_of state) o names count n h in
+    let cs = bound g.rows o.shape n (binding g (table_of state) o.shape names n)
+    (issues_of (o.trace n)) in
+    ap (λ j. row_in row (through j banks bank)) (job_is g operations op dst srcs count n o e state)
+    ∙ stay_case row (run cs) (ltb bank (segments g (object_named (table_of state) dst)))
+    (list_any (λ name. has_row (object_named (table_of state) name) row) (dsts_in o.shape names)
+    || is_beside g (table_of state) (Some o) n row) (banks bank) out
+    (λ b s. (does op o e n some few).keeps.row g.rows (binding g (table_of state) o.shape names n) s
+    (binding_fits g state o names count n t facts) row
+    (not_touched g state o names count n row facts b))
 
-pub done_kept : (r : Option Why) (new old : Banks) (touched : Bool) (bank row : ℕ) → (r ≡ None → touched ≡ false → row_in row (new bank) ≡ row_in row (old bank)) → if_done r touched false ≡ false → row_in row (if_done r new old bank) ≡ row_in row (old bank)
+pub done_kept : (r : Option Why) (new old : Banks) (touched : Bool) (bank row : ℕ)
+    → (r ≡ None → touched ≡ false → row_in row (new bank) ≡ row_in row (old bank))
+    → if_done r touched false ≡ false → row_in row (if_done r new old bank) ≡ row_in row (old bank)
 done_kept None new old touched bank row kept out = kept refl out
 done_kept (Some reason) new old touched bank row kept out = refl
 
 -- A row that a bbop does not touch is as it was
-pub bbop_rows_kept : (g : Geometry) (operations : Operations) (meaning : List ℕ → ℕ → List ℕ → ℕ) (op dst : List ℕ) (srcs : List (List ℕ)) (count n : ℕ) → 0 < n → n ≤ WIDTH_MAX → DoesAll operations meaning → (banks : Banks) (state : List Held) (bank row : ℕ) → IsTable (limit_of g) (table_of state)
+pub bbop_rows_kept : (g : Geometry) (operations : Operations) (meaning : List ℕ → ℕ → List ℕ
+    → List ℕ) (op dst : List ℕ) (srcs : List (List ℕ)) (count n : ℕ) → 0 < n → n ≤ WIDTH_MAX
+    → DoesAll operations meaning → (banks : Banks) (state : List Held) (bank row : ℕ)
+    → IsTable (limit_of g) (table_of state)
     → is_touched g operations (table_of state) (Bbop op dst srcs count n) bank row ≡ false
-    → row_in row (banks_after g operations (table_of state) banks (Bbop op dst srcs count n) bank) ≡ row_in row (banks bank)
+    → row_in row (banks_after g operations (table_of state) banks (Bbop op dst srcs count n) bank)
+    ≡ row_in row (banks bank)
 bbop_rows_kept g operations meaning op dst srcs count n some few does banks state bank row t out =
-    done_kept (bbop_refusal g (table_of state) (operations op) dst srcs count n) (through (job_of g operations (table_of state) (Bbop op dst srcs count n)) banks) banks _ bank row
-    (λ h touched. bbop_kept g operations meaning op dst srcs count n (operations op) refl some few does banks state bank row t h touched) out
+    done_kept (bbop_refusal g (table_of state) (operations op) (dst ∷ srcs) count n)
+    (through (job_of g operations (table_of state) (Bbop op dst srcs count n)) banks) banks _
+    bank row
+    (λ h touched. bbop_kept g operations meaning op dst srcs count n (operations op) refl some few
+    does banks state bank row t h touched) out

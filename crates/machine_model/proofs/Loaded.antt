@@ -1,11 +1,13 @@
 -- The step of a load.
-use Rattle.std.proofs.Common.{◌≡◌, ◌≢◌, ℕ, zero, suc, ◌+◌, ◌-◌, ◌*◌, ◌/◌, ◌%◌, ◌^◌, ◌<◌, ◌≤◌, min, Bool, true, false, not, cond, eqb, ltb, leb, List, [], ◌∷◌, ◌++◌, length, get_or, map, take, drop, Option, Some, None, refl, sym, ◌∙◌, ap, subst, arith, inl, inr, length-append, length-take, length-drop}
+use Rattle.std.proofs.Common.{◌≡◌, ℕ, zero, suc, ◌+◌, ◌-◌, ◌*◌, ◌^◌, ◌<◌, ◌≤◌, true, false, not}
+use Rattle.std.proofs.Common.{eqb, leb, List, [], ◌∷◌, ◌++◌, length, get_or, map, take, drop, None}
+use Rattle.std.proofs.Common.{refl, sym, ◌∙◌, ap, subst, arith, inl, inr, length-append}
+use Rattle.std.proofs.Common.{length-take, length-drop}
 use Rattle.std.specs.List.{range_with_len, flat_map, AllByRecursion}
 use Rattle.std.specs.Prelude.{replicate}
-use Rattle.std.specs.declared.vec.Vec.{Vec}
 use Rattle.std.proofs.lemmas.Bool.{cases_lt}
 use Rattle.std.proofs.lemmas.Bool.Decides.{nat_tests}
-use Rattle.std.proofs.lemmas.List.{length-map, map-append, length-replicate}
+use Rattle.std.proofs.lemmas.List.{map-append, length-replicate}
 use Rattle.std.proofs.lemmas.Grind.{div_ceil_times}
 use Rattle.std.proofs.lemmas.Nat.{pow_pos}
 use Rattle.std.proofs.Math.Nat.{mul-le-mul}
@@ -16,32 +18,36 @@ use Rattle.dram_model.specs.Events.{on_bank_all}
 use Rattle.dram_model.specs.Elements.{number}
 use Rattle.object_alloc.specs.declared.table.Object.{Object}
 use Rattle.object_alloc.specs.Free.{has_row, AreApart}
-use Rattle.bbop_isa.specs.Forms.{Init, Bbop, Load, Fill, Print, Free, Order}
+use Rattle.bbop_isa.specs.Forms.{Load}
 use Rattle.machine_model.specs.declared.Why.{Why}
 use Rattle.machine_model.specs.declared.Why.TheVariants as why
-use Rattle.dram_model.specs.Elements.{column_count, below}
-use Rattle.machine_model.specs.Columns.{segments, size_of, columns, padded_to}
+use Rattle.dram_model.specs.Elements.{column_count}
+use Rattle.machine_model.specs.Columns.{segments, size_of, padded_to}
 use Rattle.machine_model.specs.Operations.{Operations}
 use Rattle.object_alloc.specs.Listed.{limit_of}
-use Rattle.machine_model.specs.Refusals.{object_named, is_absent, refusal, first, when, at_place}
-use Rattle.machine_model.specs.Steps.{Held, table_of, load_events, through, with_numbers}
+use Rattle.machine_model.specs.Refusals.{object_named, is_absent, refusal, when, at_place}
+use Rattle.machine_model.specs.Steps.{table_of, load_events, with_numbers}
 use Rattle.machine_model.specs.Agrees.{Agrees, StepAgrees}
 use Rattle.machine_model.proofs.Facts.{first_none, when_none, place_none, not_false}
-use Rattle.machine_model.proofs.Places.{IsFound, no_one, found}
+use Rattle.machine_model.proofs.Places.{no_one, found}
 use Rattle.machine_model.proofs.Bbops.{apart_places, has_from}
-use Rattle.machine_model.proofs.Loads.{writes, writes_numbers, writes_others, writes_length, each_inside, each_behind, part, whole, all_writes, all_own}
+use Rattle.machine_model.proofs.Loads.{writes_numbers, writes_others, writes_length, each_inside}
+use Rattle.machine_model.proofs.Loads.{each_behind, part, whole, all_writes, all_own}
 use Rattle.machine_model.proofs.Steps.{with_numbers_agrees, done_or_not, idle}
 
-all_append : (P : ℕ → Type 0) (xs ys : List ℕ) → AllByRecursion P xs → AllByRecursion P ys → AllByRecursion P (xs ++ ys)
+all_append : (P : ℕ → Type 0) (xs ys : List ℕ) → AllByRecursion P xs → AllByRecursion P ys
+    → AllByRecursion P (xs ++ ys)
 all_append P [] ys a b = b
 all_append P (x ∷ xs) ys a b = (a.0, all_append P xs ys a.1 b)
 
-all_take : (P : ℕ → Type 0) (n : ℕ) (xs : List ℕ) → AllByRecursion P xs → AllByRecursion P (take n xs)
+all_take : (P : ℕ → Type 0) (n : ℕ) (xs : List ℕ) → AllByRecursion P xs
+    → AllByRecursion P (take n xs)
 all_take P zero xs a = tt
 all_take P (suc n) [] a = tt
 all_take P (suc n) (x ∷ xs) a = (a.0, all_take P n xs a.1)
 
-all_drop : (P : ℕ → Type 0) (n : ℕ) (xs : List ℕ) → AllByRecursion P xs → AllByRecursion P (drop n xs)
+all_drop : (P : ℕ → Type 0) (n : ℕ) (xs : List ℕ) → AllByRecursion P xs
+    → AllByRecursion P (drop n xs)
 all_drop P zero xs a = a
 all_drop P (suc n) [] a = tt
 all_drop P (suc n) (x ∷ xs) a = all_drop P n xs a.1
@@ -51,27 +57,45 @@ all_zero P zero p = tt
 all_zero P (suc n) p = (p, all_zero P n p)
 
 -- no value is past the width
-all_small : (limit k : ℕ) (w : ℕ → Why) (vs : List ℕ) → at_place w k (map (λ v. leb limit v) vs) ≡ None → AllByRecursion (λ v. v < limit) vs
+all_small : (limit k : ℕ) (w : ℕ → Why) (vs : List ℕ)
+    → at_place w k (map (λ v. leb limit v) vs) ≡ None → AllByRecursion (λ v. v < limit) vs
 all_small limit k w [] h = tt
 all_small limit k w (v ∷ vs) h =
     let here = place_none w k (leb limit v) (map (λ v. leb limit v) vs) h in
     let big : leb limit v ≡ false = here.0 in
     (grind (arith, nat_tests), all_small limit (k + 1) w vs here.1)
 
-part_length : (w k : ℕ) (nums : List ℕ) (bank : ℕ) → length nums ≡ w * k → bank < k → length (part w nums bank) ≡ w
+part_length : (w k : ℕ) (nums : List ℕ) (bank : ℕ) → length nums ≡ w * k → bank < k
+    → length (part w nums bank) ≡ w
 part_length w k nums bank e h =
-    let fits : (bank + 1) * w ≤ k * w = mul-le-mul {n₁ = bank + 1} {m₁ = w} {n₂ = k} {m₂ = w} (omega arith) (omega arith) in
+    let fits : (bank + 1) * w ≤ k * w = mul-le-mul {n₁ = bank + 1} {m₁ = w} {n₂ = k} {m₂ = w}
+    (omega arith) (omega arith) in
     simp (length-take, length-drop) (omega (arith, e, fits))
 
-map_parts : (f : Column → ℕ) (new : Banks) (w : ℕ) (nums : List ℕ) (a n : ℕ) → ((b : ℕ) → a ≤ b → b < a + n → map f (new b) ≡ part w nums b) → map f (flat_map new (range_with_len a n)) ≡ flat_map (part w nums) (range_with_len a n)
+map_parts : (f : Column → ℕ) (new : Banks) (w : ℕ) (nums : List ℕ) (a n : ℕ)
+    → ((b : ℕ) → a ≤ b → b < a + n → map f (new b) ≡ part w nums b)
+    → map f (flat_map new (range_with_len a n)) ≡ flat_map (part w nums) (range_with_len a n)
 map_parts f new w nums a zero e = refl
 map_parts f new w nums a (suc n) e =
-    rw (map-append f (new a) (flat_map new (range_with_len (a + 1) n)), e a (omega arith) (omega arith), map_parts f new w nums (a + 1) n (λ b l m. e b (omega arith) (omega arith))) refl
+    rw (
+      map-append f (new a) (flat_map new (range_with_len (a + 1) n)),
+      e a (omega arith) (omega arith),
+      map_parts f new w nums (a + 1) n (λ b l m.
+          e b (omega arith) (omega arith)),
+    ) refl
 
-same_parts : (f : Column → ℕ) (new old : Banks) (a n : ℕ) → ((b : ℕ) → a ≤ b → b < a + n → map f (new b) ≡ map f (old b)) → map f (flat_map new (range_with_len a n)) ≡ map f (flat_map old (range_with_len a n))
+same_parts : (f : Column → ℕ) (new old : Banks) (a n : ℕ)
+    → ((b : ℕ) → a ≤ b → b < a + n → map f (new b) ≡ map f (old b))
+    → map f (flat_map new (range_with_len a n)) ≡ map f (flat_map old (range_with_len a n))
 same_parts f new old a zero e = refl
 same_parts f new old a (suc n) e =
-    rw (map-append f (new a) (flat_map new (range_with_len (a + 1) n)), map-append f (old a) (flat_map old (range_with_len (a + 1) n)), e a (omega arith) (omega arith), same_parts f new old (a + 1) n (λ b l m. e b (omega arith) (omega arith))) refl
+    rw (
+      map-append f (new a) (flat_map new (range_with_len (a + 1) n)),
+      map-append f (old a) (flat_map old (range_with_len (a + 1) n)),
+      e a (omega arith) (omega arith),
+      same_parts f new old (a + 1) n (λ b l m.
+          e b (omega arith) (omega arith)),
+    ) refl
 
 take_all : (xs : List ℕ) (n : ℕ) → length xs ≡ n → take n xs ≡ xs
 take_all [] zero h = refl
@@ -80,9 +104,12 @@ take_all (x ∷ xs) zero h = absurd (omega arith)
 take_all (x ∷ xs) (suc n) h = ap (λ ys. x ∷ ys) (take_all xs n (omega arith))
 
 padded_length : (size : ℕ) (vs : List ℕ) → length vs ≤ size → length (padded_to size vs) ≡ size
-padded_length size vs h = length-append vs (replicate (size - length vs) 0) ∙ omega (arith, h, length-replicate {A = ℕ} (size - length vs) 0)
+padded_length size vs h = length-append vs (replicate (size - length vs) 0)
+    ∙ omega (arith, h, length-replicate {A = ℕ} (size - length vs) 0)
 
-pub load_agrees : (g : Geometry) (operations : Operations) (meaning : List ℕ → ℕ → List ℕ → ℕ) (name : List ℕ) (vs : _) → 0 < g.words → StepAgrees g operations meaning (Load name vs)
+pub load_agrees : (g : Geometry) (operations : Operations) (meaning : List ℕ → ℕ → List ℕ
+    → List ℕ) (name : List ℕ) (vs : _) → 0 < g.words
+    → StepAgrees g operations meaning (Load name vs)
 load_agrees g operations meaning name vs words banks state a =
     let table = table_of state in
     let o = object_named table name in
@@ -98,38 +125,59 @@ load_agrees g operations meaning name vs words banks state a =
     let f = found (limit_of g) state name a.table (not_false _ (when_none _ _ present.0)) in
     let tested : eqb (length vs) o.count ≡ true = not_false _ (when_none _ _ count.0) in
     let counted : length vs ≡ o.count = grind (arith, nat_tests) in
-    let inside : segments g o ≤ g.banks = subst (λ (p : Object). segments g p ≤ g.banks) (sym f.object) (a.within f.place no_one f.within) in
+    let inside : segments g o ≤ g.banks = subst (λ (p : Object). segments g p
+    ≤ g.banks) (sym f.object) (a.within f.place no_one f.within) in
     let room : o.count ≤ size_of g o = omega (arith, (div_ceil_times o.count w (omega arith)).0) in
-    let long : length nums ≡ w * segments g o = padded_length (size_of g o) vs (omega (arith, counted, room)) in
+    let long : length nums ≡ w * segments g o =
+    padded_length (size_of g o) vs (omega (arith, counted, room)) in
     let small : AllByRecursion (λ v. v < 2 ^ o.width) nums =
-    all_append (λ v. v < 2 ^ o.width) vs (replicate (size_of g o - length vs) 0) (all_small (2 ^ o.width) 1 why.Range vs range.0) (all_zero (λ v. v < 2 ^ o.width) (size_of g o - length vs) (pow_pos o.width)) in
-    let in_bank : (bank : ℕ) → bank < segments g o → new bank ≡ on_bank_all (all_writes w o.base o.width nums bank) (banks bank) =
-    λ bank l. each_inside (all_writes w o.base o.width nums) 0 (segments g o) banks bank (all_own w o.base o.width nums) (omega arith) (omega arith) in
+    all_append (λ v. v < 2 ^ o.width) vs (replicate (size_of g o - length vs) 0)
+    (all_small (2 ^ o.width) 1 why.Range vs range.0)
+    (all_zero (λ v. v < 2 ^ o.width) (size_of g o - length vs) (pow_pos o.width)) in
+    let in_bank : (bank : ℕ) → bank < segments g o
+    → new bank ≡ on_bank_all (all_writes w o.base o.width nums bank) (banks bank) =
+    λ bank l. each_inside (all_writes w o.base o.width nums) 0 (segments g o) banks bank
+    (all_own w o.base o.width nums) (omega arith) (omega arith) in
     let past : (bank : ℕ) → segments g o ≤ bank → new bank ≡ banks bank =
-    λ bank l. each_behind (all_writes w o.base o.width nums) 0 (segments g o) banks bank (all_own w o.base o.width nums) (omega arith) in
+    λ bank l. each_behind (all_writes w o.base o.width nums) 0 (segments g o) banks bank
+    (all_own w o.base o.width nums) (omega arith) in
     let fits : (bank : ℕ) → bank < segments g o → length (banks bank) ≡ length (part w nums bank) =
-    λ bank l. a.shaped bank (omega (arith, l, inside)) ∙ sym (part_length w (segments g o) nums bank long l) in
-    subst (λ (b : Banks). Agrees g (after (load_events g o vs) b) (with_numbers state name nums)) (sym (idle [] banks))
+    λ bank l. a.shaped bank (omega (arith, l, inside))
+    ∙ sym (part_length w (segments g o) nums bank long l) in
+    subst (λ (b : Banks). Agrees g (after (load_events g o vs) b) (with_numbers state name nums))
+    (sym (idle [] banks))
     (with_numbers_agrees g banks new state name nums a
     (λ bank l. elim (cases_lt bank (segments g o)) [
-      | inl lt ↦ ap length (in_bank bank lt) ∙ writes_length bank o.base o.width (part w nums bank) (banks bank) (fits bank lt) ∙ a.shaped bank l
+      | inl lt ↦ ap length (in_bank bank lt) ∙ writes_length bank o.base o.width (part w nums bank)
+          (banks bank) (fits bank lt) ∙ a.shaped bank l
       | inr ge ↦ ap length (past bank ge) ∙ a.shaped bank l
     ])
     (map_parts (number o.base o.width) new w nums 0 (segments g o) (λ b l m.
     let lt : b < segments g o = omega (arith, m) in
-    ap (map (number o.base o.width)) (in_bank b lt) ∙ writes_numbers b o.base o.width (part w nums b) (banks b) (fits b lt) (all_take (λ v. v < 2 ^ o.width) w (drop (b * w) nums) (all_drop (λ v. v < 2 ^ o.width) (b * w) nums small)))
+    ap (map (number o.base o.width)) (in_bank b lt)
+    ∙ writes_numbers b o.base o.width (part w nums b) (banks b) (fits b lt)
+    (all_take (λ v. v < 2 ^ o.width) w (drop (b * w) nums)
+    (all_drop (λ v. v < 2 ^ o.width) (b * w) nums small)))
     ∙ whole w (segments g o) nums
     ∙ take_all nums (segments g o * w) (omega (arith, long)))
     (λ k l ne.
     let p = (get_or state k no_one).object in
-    let apart : AreApart p o = subst (λ (q : Object). AreApart p q) (sym f.object) (apart_places (limit_of g) state k f.place a.table l f.within (λ e. ne (ap (λ i. (get_or state i no_one).name) e ∙ f.named))) in
-    same_parts (number p.base p.width) new banks 0 (segments g p) (λ b x y. elim (cases_lt b (segments g o)) [
-      | inl lt ↦ ap (map (number p.base p.width)) (in_bank b lt) ∙ writes_others b o.base o.width p (part w nums b) (banks b) (fits b lt)
+    let apart : AreApart p o = subst (λ (q : Object). AreApart p q) (sym f.object)
+    (apart_places (limit_of g) state k f.place a.table l f.within (λ e.
+    ne (ap (λ i. (get_or state i no_one).name) e ∙ f.named))) in
+    same_parts (number p.base p.width) new banks 0 (segments g p) (λ b x y.
+    elim (cases_lt b (segments g o)) [
+      | inl lt ↦ ap (map (number p.base p.width)) (in_bank b lt)
+          ∙ writes_others b o.base o.width p (part w nums b) (banks b) (fits b lt)
           (λ row m n out. let free = apart row (has_from p row m n) in row_past o row free out)
       | inr ge ↦ ap (map (number p.base p.width)) (past b ge)
     ])))) a where
-      row_past : (o : Object) (row : ℕ) → has_row o row ≡ false → (row < o.base → ⊥) → o.base + o.width ≤ row
+      row_past : (o : Object) (row : ℕ) → has_row o row ≡ false → (row < o.base → ⊥)
+          → o.base + o.width ≤ row
       row_past o row h out = elim (cases_lt row (o.base + o.width)) [
-        | inl lt ↦ elim (cases_lt row o.base) [ inl b ↦ absurd (out b) | inr ge ↦ let has = has_from o row ge lt in cc ]
+        | inl lt ↦ elim (cases_lt row o.base) [
+          | inl b ↦ absurd (out b)
+          | inr ge ↦ let has = has_from o row ge lt in cc
+        ]
         | inr ge ↦ ge
       ]

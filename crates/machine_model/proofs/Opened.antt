@@ -1,17 +1,15 @@
 -- An image that is opened, and what is said of its objects.
-use Rattle.std.proofs.Common.{◌≡◌, ℕ, zero, suc, ◌+◌, ◌*◌, ◌<◌, ◌≤◌, Bool, true, false, cond, ltb, List, [], ◌∷◌, ◌++◌, length, get_or, map, take, Option, Some, None, refl, sym, ◌∙◌, ap, subst, arith, inl, inr}
-use Rattle.std.specs.Prelude.{All, replicate}
+use Rattle.std.proofs.Common.{◌≡◌, ℕ, ◌*◌, ◌<◌, ◌≤◌, Bool, true, false, cond, List, [], ◌∷◌, length}
+use Rattle.std.proofs.Common.{get_or, map, take, Option, Some, None, refl, sym, ◌∙◌, ap, subst}
+use Rattle.std.proofs.Common.{arith}
 use Rattle.std.proofs.lemmas.Bool.{lt-ltb}
-use Rattle.std.proofs.lemmas.Bool.Decides.{eqb_tells}
 use Rattle.std.proofs.lemmas.List.{length-map, length-replicate}
 use Rattle.std.proofs.lemmas.List.Elements.{All-map}
-use Rattle.std.proofs.Math.ListN.{get_or-map}
 use Rattle.dram_model.specs.declared.geometry.Geometry.{Geometry}
 use Rattle.dram_model.specs.Column.{Column, blank}
-use Rattle.dram_model.specs.Chip.{Banks, Event, on_bank, happens, after, with_row, blank_banks, bank_of}
+use Rattle.dram_model.specs.Chip.{Banks, Event, on_bank, happens, after, with_row, blank_banks}
 use Rattle.dram_model.specs.Chip.Event.{Row, Write}
 use Rattle.uprog_code.specs.declared.walker.Counts.{Counts}
-use Rattle.object_alloc.specs.declared.table.Object.{Object}
 use Rattle.object_alloc.specs.Listed.{Named, IsTable, has_name}
 use Rattle.bbop_isa.specs.Forms.{Instruction}
 use Rattle.bbop_isa.specs.Forms.{Init, Bbop, Load, Fill, Print, Free, Order}
@@ -22,84 +20,137 @@ use Rattle.machine_model.specs.Columns.{segments, columns}
 use Rattle.machine_model.specs.Operations.{Operations}
 use Rattle.object_alloc.specs.Listed.{limit_of}
 use Rattle.machine_model.specs.Refusals.{refusal, object_named, is_absent, when}
-use Rattle.machine_model.specs.Steps.{Held, table_of, numbers_named, reply_by, reply_to, counts_for, words_after, banks_after, table_after}
+use Rattle.machine_model.specs.Steps.{Held, table_of, numbers_named, reply_by, reply_to}
+use Rattle.machine_model.specs.Steps.{words_after, banks_after}
 use Rattle.machine_model.specs.Agrees.{Agrees, StepAgrees}
 use Rattle.std.specs.List.{AllByRecursion}
 use Rattle.machine_model.specs.Report.{Said, said_of, said_in_words, said_in_rows}
-use Rattle.object_alloc.specs.Spelling.{IsImage, IsObject}
+use Rattle.object_alloc.specs.Spelling.{IsImage}
 use Rattle.machine_model.specs.Opened.{Image, opened, words_of, row_writes}
-use Rattle.machine_model.proofs.Facts.{when_none, not_false}
-use Rattle.machine_model.proofs.Places.{IsFound, no_one, entry_of, found}
+use Rattle.machine_model.proofs.Facts.{not_false}
+use Rattle.machine_model.proofs.Places.{no_one, found}
 use Rattle.machine_model.proofs.Makes.{few_banks}
 use Rattle.machine_model.proofs.Scripts.{table_step}
 
-with_row_length : (row : ℕ) (bits : List Bool) (columns : List Column) → length (with_row row bits columns) ≡ length columns
+with_row_length : (row : ℕ) (bits : List Bool) (columns : List Column)
+    → length (with_row row bits columns) ≡ length columns
 with_row_length row [] columns = refl
 with_row_length row (b ∷ bits) [] = refl
-with_row_length row (b ∷ bits) (s ∷ columns) = let r = with_row_length row bits columns in omega (arith, r)
+with_row_length row (b ∷ bits) (s ∷ columns) = let r = with_row_length row bits columns in
+    omega (arith, r)
 
-on_bank_length : (event : Event) (columns : List Column) → length (on_bank event columns) ≡ length columns
+on_bank_length : (event : Event) (columns : List Column)
+    → length (on_bank event columns) ≡ length columns
 on_bank_length (Row bank command) columns = simp length-map
 on_bank_length (Write bank row bits) columns = with_row_length row bits columns
 
-happens_case : (event : Event) (t : Bool) (columns : List Column) → length (cond t (on_bank event columns) columns) ≡ length columns
+happens_case : (event : Event) (t : Bool) (columns : List Column)
+    → length (cond t (on_bank event columns) columns) ≡ length columns
 happens_case event true columns = on_bank_length event columns
 happens_case event false columns = refl
 
 -- no event changes how many columns a bank has
-pub after_length : (events : List Event) (banks : Banks) (bank : ℕ) → length (after events banks bank) ≡ length (banks bank)
+pub after_length : (events : List Event) (banks : Banks) (bank : ℕ)
+    → length (after events banks bank) ≡ length (banks bank)
 after_length [] banks bank = refl
-after_length (event ∷ events) banks bank = after_length events (happens event banks) bank ∙ happens_case event _ (banks bank)
+after_length (event ∷ events) banks bank = after_length events (happens event banks) bank
+    ∙ happens_case event _ (banks bank)
 
 held_of : Image → Named → Held
 held_of i p = record { name = p.0; object = p.1; numbers = columns i.geometry (opened i) p.1 }
 
-tables : (g : Geometry) (banks : Banks) (table : List Named) → table_of (map (λ (p : Named). record { name = p.0; object = p.1; numbers = columns g banks p.1 }) table) ≡ table
+tables : (g : Geometry) (banks : Banks) (table : List Named)
+    → table_of (map (λ (p : Named). record {
+      name = p.0;
+      object = p.1;
+      numbers = columns g banks p.1;
+    }) table) ≡ table
 tables g banks [] = refl
 tables g banks (p ∷ table) = ap (λ rest. p ∷ rest) (tables g banks table)
 
 -- An image that is opened holds its objects' numbers
-pub opened_agrees : (i : Image) → 0 < i.geometry.words → IsImage i.geometry i.table i.rows → Agrees i.geometry (opened i) (words_of i)
+pub opened_agrees : (i : Image) → 0 < i.geometry.words → IsImage i.geometry i.table i.rows
+    → Agrees i.geometry (opened i) (words_of i)
 opened_agrees i words good = record {
-  shaped = λ bank l. after_length (row_writes i) (blank_banks i.geometry) bank ∙ rw (lt-ltb bank i.geometry.banks l) (length-replicate {A = Column} (64 * i.geometry.words) blank);
-  table = subst (λ (t : List Named). IsTable (limit_of i.geometry) t) (sym (tables i.geometry (opened i) i.table)) good.listed;
-  within = All-map (λ (h : Held). segments i.geometry h.object ≤ i.geometry.banks) (λ (p : Named). record { name = p.0; object = p.1; numbers = columns i.geometry (opened i) p.1 }) i.table
-      (λ k d l. few_banks (get_or i.table k d).1.count (column_count i.geometry) i.geometry.banks (omega arith) (good.objects k d l).fits);
-  numbers = All-map (λ (h : Held). columns i.geometry (opened i) h.object ≡ h.numbers) (λ (p : Named). record { name = p.0; object = p.1; numbers = columns i.geometry (opened i) p.1 }) i.table (λ k d l. refl);
+  shaped = λ bank l. after_length (row_writes i) (blank_banks i.geometry) bank
+      ∙ rw (lt-ltb bank i.geometry.banks l) (length-replicate {A = Column} (64 * i.geometry.words)
+      blank);
+  table = subst (λ (t : List Named). IsTable (limit_of i.geometry) t)
+      (sym (tables i.geometry (opened i) i.table)) good.listed;
+  within = All-map (λ (h : Held). segments i.geometry h.object
+      ≤ i.geometry.banks) (λ (p : Named). record {
+        name = p.0;
+        object = p.1;
+        numbers = columns i.geometry (opened i) p.1;
+      }) i.table
+      (λ k d l. few_banks (get_or i.table k d).1.count (column_count i.geometry) i.geometry.banks
+      (omega arith) (good.objects k d l).fits);
+  numbers = All-map (λ (h : Held). columns i.geometry (opened i) h.object
+      ≡ h.numbers) (λ (p : Named). record {
+        name = p.0;
+        object = p.1;
+        numbers = columns i.geometry (opened i) p.1;
+      }) i.table (λ k d l. refl);
 }
 
-values_same : (g : Geometry) (banks : Banks) (state : List Held) (name : List ℕ) → Agrees g banks state → has_name (table_of state) name ≡ true → columns g banks (object_named (table_of state) name) ≡ numbers_named state name
+values_same : (g : Geometry) (banks : Banks) (state : List Held) (name : List ℕ)
+    → Agrees g banks state → has_name (table_of state) name ≡ true
+    → columns g banks (object_named (table_of state) name) ≡ numbers_named state name
 values_same g banks state name a h =
     let f = found (limit_of g) state name a.table h in
     ap (columns g banks) f.object ∙ a.numbers f.place no_one f.within ∙ sym f.numbers
 
-print_case : (g : Geometry) (banks : Banks) (state : List Held) (name : List ℕ) (b : Bool) (counts : Counts) (xs ys : List ℕ → List ℕ) → (b ≡ false → xs name ≡ ys name) → said_of (reply_by (when b (why.NoObject 0)) counts) (Print name) xs ≡ said_of (reply_by (when b (why.NoObject 0)) counts) (Print name) ys
+print_case : (g : Geometry) (banks : Banks) (state : List Held) (name : List ℕ) (b : Bool)
+    (counts : Counts) (xs ys : List ℕ → List ℕ) → (b ≡ false → xs name ≡ ys name)
+    → said_of (reply_by (when b (why.NoObject 0)) counts) (Print name) xs
+    ≡ said_of (reply_by (when b (why.NoObject 0)) counts) (Print name) ys
 print_case g banks state name true counts xs ys e = refl
 print_case g banks state name false counts xs ys e = ap (λ v. Said.Printed name v) (e refl)
 
-other_case : (r : Option Why) (counts : Counts) (instr : Instruction) (xs ys : List ℕ → List ℕ) → ((c : Counts) → said_of (reply_by None c) instr xs ≡ said_of (reply_by None c) instr ys) → said_of (reply_by r counts) instr xs ≡ said_of (reply_by r counts) instr ys
+other_case : (r : Option Why) (counts : Counts) (instr : Instruction) (xs ys : List ℕ → List ℕ)
+    → ((c : Counts) → said_of (reply_by None c) instr xs ≡ said_of (reply_by None c) instr ys)
+    → said_of (reply_by r counts) instr xs ≡ said_of (reply_by r counts) instr ys
 other_case None counts instr xs ys e = e counts
 other_case (Some reason) counts instr xs ys e = refl
 
 -- what is said of an instruction is the same by the numbers and by the columns
-said_same : (g : Geometry) (operations : Operations) (banks : Banks) (state : List Held) (instr : Instruction) → Agrees g banks state
-    → said_of (reply_to g operations (table_of state) instr) instr (λ name. take (object_named (table_of state) name).count (columns g banks (object_named (table_of state) name)))
-    ≡ said_of (reply_to g operations (table_of state) instr) instr (λ name. take (object_named (table_of state) name).count (numbers_named state name))
+said_same : (g : Geometry) (operations : Operations) (banks : Banks) (state : List Held)
+    (instr : Instruction) → Agrees g banks state
+    → said_of (reply_to g operations (table_of state) instr) instr
+    (λ name. take (object_named (table_of state) name).count
+    (columns g banks (object_named (table_of state) name)))
+    ≡ said_of (reply_to g operations (table_of state) instr) instr
+    (λ name. take (object_named (table_of state) name).count (numbers_named state name))
 said_same g operations banks state (Print name) a =
-    print_case g banks state name (is_absent (table_of state) name) _ _ _ (λ b. ap (take (object_named (table_of state) name).count) (values_same g banks state name a (not_false _ b)))
-said_same g operations banks state (Init name count n) a = other_case (refusal g operations (table_of state) (Init name count n)) _ _ _ _ (λ c. refl)
-said_same g operations banks state (Bbop op dst srcs count n) a = other_case (refusal g operations (table_of state) (Bbop op dst srcs count n)) _ _ _ _ (λ c. refl)
-said_same g operations banks state (Load name values) a = other_case (refusal g operations (table_of state) (Load name values)) _ _ _ _ (λ c. refl)
-said_same g operations banks state (Fill name value) a = other_case (refusal g operations (table_of state) (Fill name value)) _ _ _ _ (λ c. refl)
-said_same g operations banks state (Free name) a = other_case (refusal g operations (table_of state) (Free name)) _ _ _ _ (λ c. refl)
+    print_case g banks state name (is_absent (table_of state) name) _ _ _ (λ b.
+    ap (take (object_named (table_of state) name).count)
+    (values_same g banks state name a (not_false _ b)))
+said_same g operations banks state (Init name count n) a =
+    other_case (refusal g operations (table_of state) (Init name count n)) _ _ _ _ (λ c. refl)
+said_same g operations banks state (Bbop op dst srcs count n) a =
+    other_case (refusal g operations (table_of state) (Bbop op dst srcs count n)) _ _ _ _ (λ c.
+    refl)
+said_same g operations banks state (Load name values) a =
+    other_case (refusal g operations (table_of state) (Load name values)) _ _ _ _ (λ c. refl)
+said_same g operations banks state (Fill name value) a =
+    other_case (refusal g operations (table_of state) (Fill name value)) _ _ _ _ (λ c. refl)
+said_same g operations banks state (Free name) a =
+    other_case (refusal g operations (table_of state) (Free name)) _ _ _ _ (λ c. refl)
 said_same g operations banks state (Order o) a = refl
 
 -- The report by the rows is the report by the words
-pub report_same : (g : Geometry) (operations : Operations) (meaning : List ℕ → ℕ → List ℕ → ℕ) (script : List Instruction) → AllByRecursion (StepAgrees g operations meaning) script → (banks : Banks) (state : List Held) → Agrees g banks state
-    → said_in_rows g operations (table_of state) banks script ≡ said_in_words g operations meaning state script
+pub report_same : (g : Geometry) (operations : Operations) (meaning : List ℕ → ℕ → List ℕ
+    → List ℕ) (script : List Instruction) → AllByRecursion (StepAgrees g operations meaning) script
+    → (banks : Banks) (state : List Held) → Agrees g banks state
+    → said_in_rows g operations (table_of state) banks script
+    ≡ said_in_words g operations meaning state script
 report_same g operations meaning [] steps banks state a = refl
 report_same g operations meaning (instr ∷ script) steps banks state a =
     rw (said_same g operations banks state instr a)
-    (ap (λ rest. said_of (reply_to g operations (table_of state) instr) instr (λ name. take (object_named (table_of state) name).count (numbers_named state name)) ∷ rest)
-    (ap (λ t. said_in_rows g operations t (banks_after g operations (table_of state) banks instr) script) (sym (table_step g operations meaning state instr))
-    ∙ report_same g operations meaning script steps.1 (banks_after g operations (table_of state) banks instr) (words_after g operations meaning state instr) (steps.0 banks state a)))
+    (ap (λ rest. said_of (reply_to g operations (table_of state) instr) instr
+    (λ name. take (object_named (table_of state) name).count (numbers_named state name)) ∷ rest)
+    (ap (λ t. said_in_rows g operations t (banks_after g operations (table_of state) banks instr)
+    script) (sym (table_step g operations meaning state instr))
+    ∙ report_same g operations meaning script steps.1
+    (banks_after g operations (table_of state) banks instr)
+    (words_after g operations meaning state instr) (steps.0 banks state a)))

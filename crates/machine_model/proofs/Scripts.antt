@@ -1,45 +1,67 @@
--- A whole script: the banks hold what the word machine holds, and a wave is its bbops one after another.
-use Rattle.std.proofs.Common.{◌≡◌, ℕ, zero, suc, ◌+◌, ◌<◌, ◌≤◌, Bool, true, false, not, cond, List, [], ◌∷◌, ◌++◌, length, get_or, map, Option, Some, None, refl, sym, ◌∙◌, ap, subst, arith, inl, inr}
-use Rattle.std.specs.Prelude.{filter, is_none}
+-- A whole script: the banks hold what the word machine holds, and a wave is its bbops one after
+-- another.
+use Rattle.std.proofs.Common.{◌≡◌, ℕ, List, [], ◌∷◌, map, Option, Some, None, refl, subst}
+use Rattle.std.specs.Prelude.{slice_index}
 use Rattle.std.specs.List.{AllByRecursion}
-use Rattle.std.specs.Str.{bytes_eq}
 use Rattle.std.proofs.lemmas.List.{map-append}
 use Rattle.dram_model.specs.declared.geometry.Geometry.{Geometry}
-use Rattle.dram_model.specs.Chip.{Banks, after}
-use Rattle.object_alloc.specs.Listed.{Named, without}
+use Rattle.dram_model.specs.Chip.{Banks}
+use Rattle.object_alloc.specs.Listed.{Named}
 use Rattle.bbop_isa.specs.Forms.{Instruction}
 use Rattle.bbop_isa.specs.Forms.{Init, Bbop, Load, Fill, Print, Free, Order}
 use Rattle.machine_model.specs.declared.Why.{Why}
 use Rattle.machine_model.specs.Operations.{Operations}
-use Rattle.machine_model.specs.Refusals.{refusal}
-use Rattle.machine_model.specs.Steps.{Held, table_of, words_after, banks_after, table_after, tabled, worded, with_numbers, if_done, job_of, through}
+use Rattle.machine_model.specs.Refusals.{refusal, object_named}
+use Rattle.machine_model.specs.Columns.{size_of}
+use Rattle.machine_model.specs.Steps.{Held, table_of, new_numbers, computed, numbers_named, srcs_of}
+use Rattle.machine_model.specs.Steps.{dsts_of, words_after, banks_after, table_after, tabled}
+use Rattle.machine_model.specs.Steps.{worded, if_done}
 use Rattle.machine_model.specs.Agrees.{Agrees, StepAgrees}
 use Rattle.machine_model.specs.Script.{words_at_end, banks_at_end}
 use Rattle.machine_model.proofs.Places.{entry_of}
-use Rattle.machine_model.proofs.Steps.{table_kept, table_without}
+use Rattle.machine_model.proofs.Steps.{table_kept, table_with, table_without}
 
-tabled_is : (g : Geometry) (meaning : List ℕ → ℕ → List ℕ → ℕ) (state : List Held) (instr : Instruction) → table_of (worded g meaning state instr) ≡ tabled g (table_of state) instr
-tabled_is g meaning state (Init name count n) = map-append entry_of state _
-tabled_is g meaning state (Bbop op dst srcs count n) = table_kept state dst _
-tabled_is g meaning state (Load name values) = table_kept state name _
-tabled_is g meaning state (Fill name value) = table_kept state name _
-tabled_is g meaning state (Print name) = refl
-tabled_is g meaning state (Free name) = table_without state name
-tabled_is g meaning state (Order o) = refl
+tabled_is : (g : Geometry) (operations : Operations) (meaning : List ℕ → ℕ → List ℕ
+    → List ℕ) (state : List Held) (instr : Instruction)
+    → table_of (worded g operations meaning state instr) ≡ tabled g (table_of state) instr
+tabled_is g operations meaning state (Init name count n) = map-append entry_of state _
+tabled_is g operations meaning state (Bbop op dst srcs count n) =
+    table_with state (new_numbers (λ k. computed (λ vs. slice_index (meaning op n vs) k)
+    (map (numbers_named state) (srcs_of (operations op) (dst ∷ srcs)))
+    (size_of g (object_named (table_of state) dst))) 0 (dsts_of (operations op) (dst ∷ srcs)))
+tabled_is g operations meaning state (Load name values) = table_kept state name _
+tabled_is g operations meaning state (Fill name value) = table_kept state name _
+tabled_is g operations meaning state (Print name) = refl
+tabled_is g operations meaning state (Free name) = table_without state name
+tabled_is g operations meaning state (Order o) = refl
 
-done_table : (r : Option Why) (new old : List Held) (t : List Named) → table_of new ≡ t → table_of (if_done r new old) ≡ if_done r t (table_of old)
+done_table : (r : Option Why) (new old : List Held) (t : List Named) → table_of new ≡ t
+    → table_of (if_done r new old) ≡ if_done r t (table_of old)
 done_table None new old t e = e
 done_table (Some reason) new old t e = refl
 
 -- the word machine's table goes its own way
-pub table_step : (g : Geometry) (operations : Operations) (meaning : List ℕ → ℕ → List ℕ → ℕ) (state : List Held) (instr : Instruction) → table_of (words_after g operations meaning state instr) ≡ table_after g operations (table_of state) instr
-table_step g operations meaning state instr = done_table (refusal g operations (table_of state) instr) (worded g meaning state instr) state (tabled g (table_of state) instr) (tabled_is g meaning state instr)
+pub table_step : (g : Geometry) (operations : Operations) (meaning : List ℕ → ℕ → List ℕ
+    → List ℕ) (state : List Held) (instr : Instruction)
+    → table_of (words_after g operations meaning state instr)
+    ≡ table_after g operations (table_of state) instr
+table_step g operations meaning state instr =
+    done_table (refusal g operations (table_of state) instr)
+    (worded g operations meaning state instr) state (tabled g (table_of state) instr)
+    (tabled_is g operations meaning state instr)
 
 -- The banks after a script hold what the word machine holds
-pub script_agrees : (g : Geometry) (operations : Operations) (meaning : List ℕ → ℕ → List ℕ → ℕ) (script : List Instruction) → AllByRecursion (StepAgrees g operations meaning) script → (banks : Banks) (state : List Held) → Agrees g banks state
-    → Agrees g (banks_at_end g operations (table_of state) banks script) (words_at_end g operations meaning state script)
+pub script_agrees : (g : Geometry) (operations : Operations) (meaning : List ℕ → ℕ → List ℕ
+    → List ℕ) (script : List Instruction) → AllByRecursion (StepAgrees g operations meaning) script
+    → (banks : Banks) (state : List Held) → Agrees g banks state
+    → Agrees g (banks_at_end g operations (table_of state) banks script)
+    (words_at_end g operations meaning state script)
 script_agrees g operations meaning [] steps banks state a = a
 script_agrees g operations meaning (instr ∷ script) steps banks state a =
-    subst (λ (t : List Named). Agrees g (banks_at_end g operations t (banks_after g operations (table_of state) banks instr) script) (words_at_end g operations meaning (words_after g operations meaning state instr) script))
+    subst (λ (t : List Named). Agrees g (banks_at_end g operations t
+    (banks_after g operations (table_of state) banks instr) script)
+    (words_at_end g operations meaning (words_after g operations meaning state instr) script))
     (table_step g operations meaning state instr)
-    (script_agrees g operations meaning script steps.1 (banks_after g operations (table_of state) banks instr) (words_after g operations meaning state instr) (steps.0 banks state a))
+    (script_agrees g operations meaning script steps.1
+    (banks_after g operations (table_of state) banks instr)
+    (words_after g operations meaning state instr) (steps.0 banks state a))

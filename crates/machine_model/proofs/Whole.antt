@@ -1,5 +1,5 @@
 -- Every step, and so every script.
-use Rattle.std.proofs.Common.{◌≡◌, ℕ, ◌<◌, ◌≤◌, List, [], ◌∷◌, refl, sym, ◌∙◌, ap, subst}
+use Rattle.std.proofs.Common.{ℕ, ◌<◌, List, [], ◌∷◌}
 use Rattle.std.specs.List.{AllByRecursion}
 use Rattle.dram_model.specs.declared.geometry.Geometry.{Geometry}
 use Rattle.bbop_isa.specs.Forms.{Instruction}
@@ -11,23 +11,38 @@ use Rattle.machine_model.proofs.Steps.{bbop_agrees, print_agrees, free_agrees, o
 use Rattle.machine_model.proofs.Makes.{init_agrees, fill_agrees}
 use Rattle.machine_model.proofs.Loaded.{load_agrees}
 use Rattle.machine_model.proofs.Scripts.{script_agrees}
-use Rattle.machine_model.proofs.Texts.{same_operations, does_all}
+use Rattle.machine_model.proofs.Texts.{does_all}
 
-pub every_step : (g : Geometry) (operations : Operations) (meaning : List ℕ → ℕ → List ℕ → ℕ) (instr : Instruction) → 0 < g.words → DoesAll operations meaning → IsPlain instr → StepAgrees g operations meaning instr
-every_step g operations meaning (Init name count n) words does plain = init_agrees g operations meaning name count n plain.0 words
-every_step g operations meaning (Bbop op dst srcs count n) words does plain = bbop_agrees g operations meaning op dst srcs count n plain.0 plain.1 does
-every_step g operations meaning (Load name values) words does plain = load_agrees g operations meaning name values words
-every_step g operations meaning (Fill name value) words does plain = fill_agrees g operations meaning name value
-every_step g operations meaning (Print name) words does plain = print_agrees g operations meaning name
+pub every_step : (g : Geometry) (operations : Operations) (meaning : List ℕ → ℕ → List ℕ
+    → List ℕ) (instr : Instruction) → 0 < g.words → DoesAll operations meaning → IsPlain instr
+    → StepAgrees g operations meaning instr
+every_step g operations meaning (Init name count n) words does plain =
+    init_agrees g operations meaning name count n plain.0 words
+every_step g operations meaning (Bbop op dst srcs count n) words does plain =
+    bbop_agrees g operations meaning op dst srcs count n plain.0 plain.1 does
+every_step g operations meaning (Load name values) words does plain =
+    load_agrees g operations meaning name values words
+every_step g operations meaning (Fill name value) words does plain =
+    fill_agrees g operations meaning name value
+every_step g operations meaning (Print name) words does plain =
+    print_agrees g operations meaning name
 every_step g operations meaning (Free name) words does plain = free_agrees g operations meaning name
 every_step g operations meaning (Order o) words does plain = order_agrees g operations meaning o
 
-every_steps : (g : Geometry) (operations : Operations) (meaning : List ℕ → ℕ → List ℕ → ℕ) (script : List Instruction) → 0 < g.words → DoesAll operations meaning → AllByRecursion IsPlain script → AllByRecursion (StepAgrees g operations meaning) script
+every_steps : (g : Geometry) (operations : Operations) (meaning : List ℕ → ℕ → List ℕ
+    → List ℕ) (script : List Instruction) → 0 < g.words → DoesAll operations meaning
+    → AllByRecursion IsPlain script → AllByRecursion (StepAgrees g operations meaning) script
 every_steps g operations meaning [] words does plain = tt
-every_steps g operations meaning (instr ∷ script) words does plain = (every_step g operations meaning instr words does plain.0, every_steps g operations meaning script words does plain.1)
+every_steps g operations meaning (instr ∷ script) words does plain = (
+  every_step g operations meaning instr words does plain.0,
+  every_steps g operations meaning script words does plain.1,
+)
 
 pub rows_give_words : RowsGiveWords
-rows_give_words g operations meaning script words does plain = script_agrees g operations meaning script (every_steps g operations meaning script words does plain)
+rows_give_words g operations meaning script words does plain =
+    script_agrees g operations meaning script
+    (every_steps g operations meaning script words does plain)
 
 pub text_gives_words : TextGivesWords
-text_gives_words g p t script words i plain = rows_give_words g (operations_of t p) (meaning_in t) script words (does_all p t i) plain
+text_gives_words g p t script words i plain =
+    rows_give_words g (operations_of t p) (meaning_in t) script words (does_all p t i) plain

@@ -1,10 +1,10 @@
 -- When the banks hold what the word machine holds, and that a step keeps it so.
-use Rattle.std.specs.Prelude.{◌≡◌, ℕ, ◌<◌, ◌≤◌, List, All, length, Option, Some, None}
+use Rattle.std.specs.Prelude.{◌≡◌, ℕ, ◌<◌, ◌≤◌, List, All, length, Some}
 use Rattle.dram_model.specs.declared.geometry.Geometry.{Geometry}
 use Rattle.dram_model.specs.Chip.{Banks}
 use Rattle.bit_rows.specs.declared.TheConstants.{WIDTH_MAX}
 use Rattle.machine_model.specs.Operations.{Does}
-use Rattle.uprog_code.specs.Machine.{issues_of, Trace}
+use Rattle.uprog_code.specs.Machine.{issues_of}
 use Rattle.object_alloc.specs.Listed.{IsTable}
 use Rattle.bbop_isa.specs.Forms.{Instruction}
 use Rattle.bbop_isa.specs.Forms.{Init, Bbop, Load, Fill, Print, Free, Order}
@@ -26,14 +26,17 @@ pub record Agrees (g : Geometry) (banks : Banks) (state : List Held) : Type 0 wh
   pub numbers : HoldsNumbers g banks state
 
 -- what is issued for each operation does what it means
-abbrev pub DoesAll : Operations → (List ℕ → ℕ → List ℕ → ℕ) → Type 0
-DoesAll operations meaning = (name : List ℕ) (o : Operation) → operations name ≡ Some o → (n : ℕ) → 0 < n → n ≤ WIDTH_MAX → Does o.shape n (issues_of (o.trace n)) (meaning name n)
+abbrev pub DoesAll : Operations → (List ℕ → ℕ → List ℕ → List ℕ) → Type 0
+DoesAll operations meaning = (name : List ℕ) (o : Operation) → operations name ≡ Some o → (n : ℕ)
+    → 0 < n → n ≤ WIDTH_MAX → Does o.shape n (issues_of (o.trace n)) (meaning name n)
 
 -- The step of the rows gives the word machine's step
-abbrev pub StepAgrees : Geometry → Operations → (List ℕ → ℕ → List ℕ → ℕ) → Instruction → Type 0
+abbrev pub StepAgrees : Geometry → Operations → (List ℕ → ℕ → List ℕ → List ℕ) → Instruction
+    → Type 0
 StepAgrees g operations meaning instr =
     (banks : Banks) (state : List Held) → Agrees g banks state
-    → Agrees g (banks_after g operations (table_of state) banks instr) (words_after g operations meaning state instr)
+    → Agrees g (banks_after g operations (table_of state) banks instr)
+    (words_after g operations meaning state instr)
 
 -- what every script has: an object and a bbop have widths from 1 to 64
 abbrev pub IsWidth : ℕ → Type 0

@@ -1,10 +1,8 @@
 -- An object's elements in the banks' columns.
-use Rattle.std.specs.Prelude.{◌≡◌, ℕ, ◌+◌, ◌-◌, ◌*◌, ◌/◌, ◌<◌, ◌≤◌, List, map, flat_map, replicate, ◌++◌, length, take, drop, ◌==◌, ◌%◌, Bool}
+use Rattle.std.specs.Prelude.{ℕ, ◌-◌, ◌*◌, List, map, replicate, ◌++◌, length, take, drop, Bool}
 use Rattle.std.specs.Int.{div_ceil}
-use Rattle.std.specs.List.{range_with_len}
 use Rattle.dram_model.specs.declared.geometry.Geometry.{Geometry}
 use Rattle.bit_rows.specs.Bits.{bit_at}
-use Rattle.dram_model.specs.Column.{Column}
 use Rattle.dram_model.specs.Chip.{Banks}
 use Rattle.dram_model.specs.Elements.{number, column_count, below}
 use Rattle.object_alloc.specs.declared.table.Object.{Object}
@@ -27,4 +25,5 @@ padded_to size values = values ++ replicate (size - length values) 0
 
 -- bit k of the numbers that stand in one bank
 abbrev pub row_bits : Geometry → List ℕ → ℕ → ℕ → List Bool
-row_bits g numbers bank k = map (λ v. bit_at v k) (take (column_count g) (drop (bank * column_count g) numbers))
+row_bits g numbers bank k = map (λ v. bit_at v k)
+    (take (column_count g) (drop (bank * column_count g) numbers))

@@ -1,5 +1,5 @@
 -- A chip that was opened on an image.
-use Rattle.std.specs.Prelude.{ℕ, List, map, flat_map}
+use Rattle.std.specs.Prelude.{List, map, flat_map}
 use Rattle.std.specs.List.{range_with_len}
 use Rattle.dram_model.specs.declared.geometry.Geometry.{Geometry}
 use Rattle.dram_model.specs.Chip.{Banks, Event, after, row_in, blank_banks}
@@ -17,7 +17,9 @@ pub record Image : Type 0 where
 
 -- the writes of an image's rows, bank by bank and rows upwards
 abbrev pub row_writes : Image → List Event
-row_writes i = flat_map (λ bank. map (λ row. Write bank row (i.rows bank row)) (range_with_len 0 i.geometry.rows)) (range_with_len 0 i.geometry.banks)
+row_writes i =
+    flat_map (λ bank. map (λ row. Write bank row (i.rows bank row))
+    (range_with_len 0 i.geometry.rows)) (range_with_len 0 i.geometry.banks)
 
 -- the banks after a chip has begun and has taken an image's rows
 abbrev pub opened : Image → Banks
@@ -29,4 +31,8 @@ rows_of banks bank row = row_in row (banks bank)
 
 -- an image's objects with the numbers in their columns
 abbrev pub words_of : Image → List Held
-words_of i = map (λ p. record { name = p.0; object = p.1; numbers = columns i.geometry (opened i) p.1 }) i.table
+words_of i = map (λ p. record {
+  name = p.0;
+  object = p.1;
+  numbers = columns i.geometry (opened i) p.1;
+}) i.table

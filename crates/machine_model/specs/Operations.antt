@@ -1,10 +1,8 @@
 -- The operations that a bbop can name: those of a text, or those of a program.
-use Rattle.std.specs.Prelude.{◌≡◌, ℕ, ◌+◌, ◌<◌, ◌≤◌, List, [], ◌∷◌, map, Option, Some, None, length}
+use Rattle.std.specs.Prelude.{ℕ, List, [], Option, Some, None}
 use Rattle.std.specs.List.{find}
 use Rattle.std.specs.Option.{option_map}
 use Rattle.std.specs.Str.{bytes_eq}
-use Rattle.op_text.specs.declared.tree.Kind.{Kind}
-use Rattle.uprog_code.specs.declared.code.Uop.{Uop}
 use Rattle.uprog_code.specs.Shape.{Shape, Microprogram}
 use Rattle.uprog_code.specs.Machine.{Issue, Trace, Stuck, trace}
 use Rattle.uprog_code.specs.Implements.{Gives, Keeps}
@@ -42,17 +40,21 @@ operations_in p name = option_map operation_of (entry_named p name)
 
 -- the text's kinds and scratch, and the traces of the program's code
 abbrev pub operations_of : List TextOp → Program → Operations
-operations_of t p name = option_map (λ o. record { shape = o.shape; trace = trace_of (entry_named p name) }) (op_named t name)
+operations_of t p name = option_map (λ o. record {
+  shape = o.shape;
+  trace = trace_of (entry_named p name);
+}) (op_named t name)
 
--- the number that the op of this name makes
-abbrev pub meaning_of : Option TextOp → ℕ → List ℕ → ℕ
-meaning_of None n values = 0
+-- the numbers that the op of this name makes
+abbrev pub meaning_of : Option TextOp → ℕ → List ℕ → List ℕ
+meaning_of None n values = []
 meaning_of (Some o) n values = o.meaning n values
 
-abbrev pub meaning_in : List TextOp → List ℕ → ℕ → List ℕ → ℕ
+abbrev pub meaning_in : List TextOp → List ℕ → ℕ → List ℕ → List ℕ
 meaning_in t name = meaning_of (op_named t name)
 
 -- the commands do an operation of this meaning at width n
-pub record Does (shape : Shape) (n : ℕ) (issues : List Issue) (meaning : List ℕ → ℕ) : Type 0 where
+pub record Does (shape : Shape) (n : ℕ) (issues : List Issue) (meaning : List ℕ
+    → List ℕ) : Type 0 where
   pub gives : Gives shape n issues meaning
   pub keeps : Keeps shape n issues

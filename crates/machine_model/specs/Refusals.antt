@@ -1,11 +1,14 @@
 -- When an instruction is refused: the table of conditions, in order.
-use Rattle.std.specs.Prelude.{◌≡◌, ℕ, zero, ◌+◌, ◌-◌, ◌*◌, ◌^◌, ◌==◌, nat_lt, nat_le, Bool, true, false, not, is_none, if◌then◌else◌, List, [], ◌∷◌, ◌++◌, map, zip, length, Option, Some, None}
+use Rattle.std.specs.Prelude.{ℕ, ◌+◌, ◌*◌, ◌^◌, ◌==◌, nat_lt, nat_le, Bool, not, is_none}
+use Rattle.std.specs.Prelude.{if◌then◌else◌, List, [], ◌∷◌, ◌++◌, map, zip, length, take, drop}
+use Rattle.std.specs.Prelude.{Option, Some, None}
 use Rattle.std.specs.Option.{unwrap_or}
+use Rattle.std.specs.List.{list_any}
 use Rattle.std.specs.Str.{bytes_eq}
 use Rattle.dram_model.specs.declared.geometry.Geometry.{Geometry}
 use Rattle.op_text.specs.declared.tree.Kind.{Kind}
 use Rattle.uprog_code.specs.Machine.{Trace, Ended, Stuck}
-use Rattle.uprog_code.specs.Shape.{Shape, width, need}
+use Rattle.uprog_code.specs.Shape.{Shape, width, need, results}
 use Rattle.object_alloc.specs.declared.table.Object.{Object}
 use Rattle.object_alloc.specs.Free.{free}
 use Rattle.object_alloc.specs.Listed.{limit_of, Named, objects_of, look_up, has_name}
@@ -48,14 +51,31 @@ abbrev pub walks_badly : Trace → Option Why
 walks_badly (Ended issues) = None
 walks_badly (Stuck at reason) = Some (why.BadWalk (record { at = at; why = reason }))
 
--- the conditions on the operands of an operation of this shape, each upwards from the destination
-abbrev pub operand_conditions : List Named → Shape → List ℕ → List (List ℕ) → ℕ → ℕ → List (Option Why)
-operand_conditions table shape dst srcs count n =
-    let operands = map (object_named table) (dst ∷ srcs) in
-    at_place why.NoObject 0 (map (is_absent table) (dst ∷ srcs))
-    ∷ at_place why.Width 0 (map (is_misfit n) (zip (shape.result ∷ shape.sources) operands))
+-- the names of a bbop: as many destinations as results, and then the sources
+abbrev pub dsts_in : Shape → List (List ℕ) → List (List ℕ)
+dsts_in shape names = take (length (results shape)) names
+
+abbrev pub srcs_in : Shape → List (List ℕ) → List (List ℕ)
+srcs_in shape names = drop (length (results shape)) names
+
+abbrev pub is_one_of : List (List ℕ) → List ℕ → Bool
+is_one_of names name = list_any (λ other. bytes_eq name other) names
+
+-- of each destination, whether one before it has its name
+abbrev pub repeats : List (List ℕ) → List (List ℕ) → List Bool
+repeats before [] = []
+repeats before (name ∷ names) = is_one_of before name ∷ repeats (name ∷ before) names
+
+-- the conditions on the operands of an operation of this shape, each upwards from the first
+-- destination
+abbrev pub operand_conditions : List Named → Shape → List (List ℕ) → ℕ → ℕ → List (Option Why)
+operand_conditions table shape names count n =
+    let operands = map (object_named table) names in
+    at_place why.NoObject 0 (map (is_absent table) names)
+    ∷ at_place why.Width 0 (map (is_misfit n) (zip (results shape ++ shape.sources) operands))
     ∷ at_place why.Size 0 (map (λ o. not (o.count == count)) operands)
-    ∷ at_place why.Overlap 1 (map (λ name. bytes_eq name dst) srcs)
+    ∷ at_place why.Overlap 0 (repeats [] (dsts_in shape names)
+    ++ map (is_one_of (dsts_in shape names)) (srcs_in shape names))
     ∷ []
 
 -- the conditions on its walk and its scratch, where objects lie below the limit
@@ -66,15 +86,18 @@ grant_conditions limit table operation n =
     ∷ []
 
 -- the conditions on a bbop of an operation that there is
-abbrev pub bbop_conditions : ℕ → List Named → Operation → List ℕ → List (List ℕ) → ℕ → ℕ → List (Option Why)
-bbop_conditions limit table operation dst srcs count n =
-    when (not (length srcs == length operation.shape.sources)) why.Arity
-    ∷ operand_conditions table operation.shape dst srcs count n
+abbrev pub bbop_conditions : ℕ → List Named → Operation → List (List ℕ) → ℕ → ℕ → List (Option Why)
+bbop_conditions limit table operation names count n =
+    when (not (length names == length (results operation.shape ++ operation.shape.sources)))
+    why.Arity
+    ∷ operand_conditions table operation.shape names count n
     ++ grant_conditions limit table operation n
 
-abbrev pub bbop_refusal : Geometry → List Named → Option Operation → List ℕ → List (List ℕ) → ℕ → ℕ → Option Why
-bbop_refusal g table None dst srcs count n = Some why.NoOp
-bbop_refusal g table (Some operation) dst srcs count n = first (bbop_conditions (limit_of g) table operation dst srcs count n)
+abbrev pub bbop_refusal : Geometry → List Named → Option Operation → List (List ℕ) → ℕ → ℕ
+    → Option Why
+bbop_refusal g table None names count n = Some why.NoOp
+bbop_refusal g table (Some operation) names count n =
+    first (bbop_conditions (limit_of g) table operation names count n)
 
 -- why the instruction is refused, if it is
 abbrev pub refusal : Geometry → Operations → List Named → Instruction → Option Why
@@ -83,7 +106,8 @@ refusal g operations table (Init name count n) =
     ∷ when (nat_le 256 (length table)) why.TableFull
     ∷ when (nat_lt (column_count g * g.banks) count) why.TooLarge
     ∷ when (is_none (free (limit_of g) (objects_of table) n)) why.NoRows ∷ [])
-refusal g operations table (Bbop op dst srcs count n) = bbop_refusal g table (operations op) dst srcs count n
+refusal g operations table (Bbop op dst srcs count n) =
+    bbop_refusal g table (operations op) (dst ∷ srcs) count n
 refusal g operations table (Load name values) =
     let o = object_named table name in
     first (when (is_absent table name) (why.NoObject 0)

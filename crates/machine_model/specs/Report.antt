@@ -1,8 +1,7 @@
 -- The report of a run, as bytes.
-use Rattle.std.specs.Prelude.{◌≡◌, ℕ, ◌+◌, Bool, List, [], ◌∷◌, ◌++◌, flat_map, take, codes, decimal, count_by}
+use Rattle.std.specs.Prelude.{ℕ, ◌+◌, List, [], ◌∷◌, ◌++◌, flat_map, take, codes, decimal, count_by}
 use Rattle.dram_model.specs.declared.geometry.Geometry.{Geometry}
 use Rattle.dram_model.specs.declared.dram.Counters.{Counters}
-use Rattle.uprog_code.specs.declared.walker.Counts.{Counts}
 use Rattle.uprog_code.specs.declared.walker.Why3.{Why3}
 use Rattle.uprog_code.specs.declared.walker.Why3.TheVariants.{Index, Register, Budget}
 use Rattle.object_alloc.specs.Listed.{Named}
@@ -16,7 +15,8 @@ use Rattle.machine_model.specs.Operations.{Operations}
 use Rattle.machine_model.specs.Refusals.{object_named}
 use Rattle.dram_model.specs.Chip.{Banks}
 use Rattle.machine_model.specs.Columns.{columns}
-use Rattle.machine_model.specs.Steps.{Held, table_of, numbers_named, words_after, reply_to, table_after, banks_after}
+use Rattle.machine_model.specs.Steps.{Held, table_of, numbers_named, words_after, reply_to}
+use Rattle.machine_model.specs.Steps.{table_after, banks_after}
 use Rattle.machine_model.specs.Script.{is_refused}
 
 abbrev pub walk_word : Why3 → List ℕ
@@ -35,7 +35,8 @@ why_text (why.NoObject place) = at_number (codes "no_object") place
 why_text (why.Width place) = at_number (codes "width") place
 why_text (why.Size place) = at_number (codes "size") place
 why_text (why.Overlap place) = at_number (codes "overlap") place
-why_text (why.BadWalk walk) = at_number (codes "bad_walk") walk.at ++ codes " " ++ walk_word walk.why
+why_text (why.BadWalk walk) = at_number (codes "bad_walk") walk.at ++ codes " "
+    ++ walk_word walk.why
 why_text why.NoRows = codes "no_rows"
 why_text why.Exists = codes "exists"
 why_text why.TableFull = codes "table_full"
@@ -59,7 +60,8 @@ said_of (Done counts) (Order o) values = Answered (Done counts)
 said_of (Refused reason) instr values = Answered (Refused reason)
 
 abbrev pub reply_text : Reply → List ℕ
-reply_text (Done counts) = codes "ok aap=" ++ decimal counts.aap ++ codes " ap=" ++ decimal counts.ap
+reply_text (Done counts) = codes "ok aap=" ++ decimal counts.aap ++ codes " ap="
+    ++ decimal counts.ap
 reply_text (Refused reason) = codes "refused " ++ why_text reason
 
 abbrev pub said_text : Said → List ℕ
@@ -76,23 +78,28 @@ lines number [] = []
 lines number (said ∷ rest) = line number said ++ lines (number + 1) rest
 
 -- what the word machine says of a script
-abbrev pub said_in_words : Geometry → Operations → (List ℕ → ℕ → List ℕ → ℕ) → List Held → List Instruction → List Said
+abbrev pub said_in_words : Geometry → Operations → (List ℕ → ℕ → List ℕ → List ℕ) → List Held
+    → List Instruction → List Said
 said_in_words g operations meaning state [] = []
 said_in_words g operations meaning state (instr ∷ script) =
-    said_of (reply_to g operations (table_of state) instr) instr (λ name. take (object_named (table_of state) name).count (numbers_named state name))
+    said_of (reply_to g operations (table_of state) instr) instr
+    (λ name. take (object_named (table_of state) name).count (numbers_named state name))
     ∷ said_in_words g operations meaning (words_after g operations meaning state instr) script
 
 -- the same, where the values are read from the banks' columns
 abbrev pub said_in_rows : Geometry → Operations → List Named → Banks → List Instruction → List Said
 said_in_rows g operations table banks [] = []
 said_in_rows g operations table banks (instr ∷ script) =
-    said_of (reply_to g operations table instr) instr (λ name. take (object_named table name).count (columns g banks (object_named table name)))
-    ∷ said_in_rows g operations (table_after g operations table instr) (banks_after g operations table banks instr) script
+    said_of (reply_to g operations table instr) instr
+    (λ name. take (object_named table name).count (columns g banks (object_named table name)))
+    ∷ said_in_rows g operations (table_after g operations table instr)
+    (banks_after g operations table banks instr) script
 
 -- the line of the totals
 abbrev pub total_line : Counters → ℕ → List ℕ
 total_line tally refused =
-    codes "total aap=" ++ decimal tally.aap ++ codes " ap=" ++ decimal tally.ap ++ codes " writes=" ++ decimal tally.writes
+    codes "total aap=" ++ decimal tally.aap ++ codes " ap=" ++ decimal tally.ap ++ codes " writes="
+    ++ decimal tally.writes
     ++ codes " reads=" ++ decimal tally.reads ++ codes " refused=" ++ decimal refused ++ codes "\n"
 
 -- the report: a line for each instruction, and the line of the totals

@@ -1,10 +1,10 @@
 -- A whole script: its replies, its state at the end, and its events.
-use Rattle.std.specs.Prelude.{◌≡◌, ℕ, ◌+◌, ◌*◌, ◌==◌, Bool, true, false, not, ◌||◌, is_none, if◌then◌else◌, List, [], ◌∷◌, ◌++◌, map, filter, length, take, count_by}
+use Rattle.std.specs.Prelude.{ℕ, ◌+◌, ◌*◌, Bool, true, false, ◌||◌, is_none, if◌then◌else◌, List}
+use Rattle.std.specs.Prelude.{[], ◌∷◌, ◌++◌}
 use Rattle.dram_model.specs.declared.geometry.Geometry.{Geometry}
 use Rattle.dram_model.specs.Chip.{Banks, Event}
 use Rattle.dram_model.specs.declared.dram.Counters.{Counters}
 use Rattle.uprog_code.specs.declared.walker.Counts.{Counts}
-use Rattle.object_alloc.specs.declared.table.Object.{Object}
 use Rattle.object_alloc.specs.Listed.{Named}
 use Rattle.bbop_isa.specs.Forms.{Instruction}
 use Rattle.bbop_isa.specs.Forms.{Init, Bbop, Load, Fill, Print, Free, Order}
@@ -13,7 +13,8 @@ use Rattle.machine_model.specs.declared.Reply.TheVariants.{Done, Refused}
 use Rattle.machine_model.specs.Columns.{segments}
 use Rattle.machine_model.specs.Operations.{Operations}
 use Rattle.machine_model.specs.Refusals.{refusal, object_named}
-use Rattle.machine_model.specs.Steps.{Held, table_of, words_after, table_after, banks_after, reply_to, events_of, if_done, is_touched}
+use Rattle.machine_model.specs.Steps.{Held, words_after, table_after, banks_after, reply_to}
+use Rattle.machine_model.specs.Steps.{events_of, if_done, is_touched}
 
 abbrev pub is_bbop : Instruction → Bool
 is_bbop (Init name count n) = false
@@ -27,28 +28,35 @@ is_bbop (Order o) = false
 -- the replies, in order: they depend on the table alone
 abbrev pub replies : Geometry → Operations → List Named → List Instruction → List Reply
 replies g operations table [] = []
-replies g operations table (instr ∷ script) = reply_to g operations table instr ∷ replies g operations (table_after g operations table instr) script
+replies g operations table (instr ∷ script) =
+    reply_to g operations table instr ∷ replies g operations (table_after g operations table instr)
+    script
 
 abbrev pub table_at_end : Geometry → Operations → List Named → List Instruction → List Named
 table_at_end g operations table [] = table
-table_at_end g operations table (instr ∷ script) = table_at_end g operations (table_after g operations table instr) script
+table_at_end g operations table (instr ∷ script) =
+    table_at_end g operations (table_after g operations table instr) script
 
 -- the word machine's state
-abbrev pub words_at_end : Geometry → Operations → (List ℕ → ℕ → List ℕ → ℕ) → List Held → List Instruction → List Held
+abbrev pub words_at_end : Geometry → Operations → (List ℕ → ℕ → List ℕ → List ℕ) → List Held
+    → List Instruction → List Held
 words_at_end g operations meaning state [] = state
-words_at_end g operations meaning state (instr ∷ script) = words_at_end g operations meaning (words_after g operations meaning state instr) script
+words_at_end g operations meaning state (instr ∷ script) =
+    words_at_end g operations meaning (words_after g operations meaning state instr) script
 
 -- the banks
 abbrev pub banks_at_end : Geometry → Operations → List Named → Banks → List Instruction → Banks
 banks_at_end g operations table banks [] = banks
 banks_at_end g operations table banks (instr ∷ script) =
-    banks_at_end g operations (table_after g operations table instr) (banks_after g operations table banks instr) script
+    banks_at_end g operations (table_after g operations table instr)
+    (banks_after g operations table banks instr) script
 
 -- some instruction that is done may change the row
 abbrev pub is_touched_by : Geometry → Operations → List Named → List Instruction → ℕ → ℕ → Bool
 is_touched_by g operations table [] bank row = false
 is_touched_by g operations table (instr ∷ script) bank row =
-    is_touched g operations table instr bank row || is_touched_by g operations (table_after g operations table instr) script bank row
+    is_touched g operations table instr bank row
+    || is_touched_by g operations (table_after g operations table instr) script bank row
 
 -- the events of the instructions that are done, in order
 abbrev pub script_events : Geometry → Operations → List Named → List Instruction → List Event
@@ -97,7 +105,9 @@ rows_printed g table (Free name) = 0
 rows_printed g table (Order o) = 0
 
 -- summed over the instructions that are done
-abbrev pub sum_done : (Geometry → List Named → Instruction → ℕ) → Geometry → Operations → List Named → List Instruction → ℕ
+abbrev pub sum_done : (Geometry → List Named → Instruction → ℕ) → Geometry → Operations → List Named
+    → List Instruction → ℕ
 sum_done rows g operations table [] = 0
 sum_done rows g operations table (instr ∷ script) =
-    (if is_none (refusal g operations table instr) then rows g table instr else 0) + sum_done rows g operations (table_after g operations table instr) script
+    (if is_none (refusal g operations table instr) then rows g table instr else 0)
+    + sum_done rows g operations (table_after g operations table instr) script

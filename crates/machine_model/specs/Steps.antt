@@ -1,6 +1,8 @@
 -- The word machine, and the machine of rows beside it.
-use Rattle.std.specs.Prelude.{◌≡◌, ℕ, zero, suc, ◌+◌, ◌-◌, ◌*◌, ◌/◌, ◌%◌, ◌==◌, nat_lt, nat_le, Bool, true, false, not, ◌&&◌, ◌||◌, if◌then◌else◌, List, [], ◌∷◌, ◌++◌, map, flat_map, filter, filter_map, length, replicate, slice_index, Option, Some, None}
-use Rattle.std.specs.List.{range_with_len, find}
+use Rattle.std.specs.Prelude.{ℕ, ◌+◌, ◌*◌, nat_lt, nat_le, Bool, false, not, ◌&&◌, ◌||◌}
+use Rattle.std.specs.Prelude.{if◌then◌else◌, List, [], ◌∷◌, ◌++◌, map, flat_map, filter, replicate}
+use Rattle.std.specs.Prelude.{slice_index, Option, Some, None}
+use Rattle.std.specs.List.{range_with_len, find, list_any}
 use Rattle.std.specs.Option.{unwrap_or, option_map}
 use Rattle.std.specs.Str.{bytes_eq}
 use Rattle.dram_model.specs.declared.geometry.Geometry.{Geometry}
@@ -8,7 +10,7 @@ use Rattle.dram_model.specs.declared.address.Command.{Command}
 use Rattle.dram_model.specs.declared.address.Command.TheVariants.{Aap}
 use Rattle.dram_model.specs.declared.address.Addr.TheVariants as addr
 use Rattle.bit_rows.specs.Bits.{bit_at, bit_number}
-use Rattle.dram_model.specs.Column.{Column, run}
+use Rattle.dram_model.specs.Column.{run}
 use Rattle.dram_model.specs.Chip.{Banks, Event, after}
 use Rattle.dram_model.specs.Chip.Event.{Row, Write}
 use Rattle.dram_model.specs.Events.{row_events}
@@ -25,11 +27,10 @@ use Rattle.bbop_isa.specs.Forms.{Init, Bbop, Load, Fill, Print, Free, Order}
 use Rattle.machine_model.specs.declared.Reply.{Reply}
 use Rattle.machine_model.specs.declared.Reply.TheVariants.{Done, Refused}
 use Rattle.machine_model.specs.declared.Why.{Why}
-use Rattle.dram_model.specs.Elements.{column_count}
 use Rattle.machine_model.specs.Columns.{segments, size_of, padded_to, row_bits}
 use Rattle.machine_model.specs.Operations.{Operation, Operations}
 use Rattle.object_alloc.specs.Listed.{limit_of}
-use Rattle.machine_model.specs.Refusals.{refusal, object_named}
+use Rattle.machine_model.specs.Refusals.{refusal, object_named, dsts_in, srcs_in}
 
 -- an object with the numbers of its columns
 pub record Held : Type 0 where
@@ -41,11 +42,13 @@ abbrev pub table_of : List Held → List Named
 table_of state = map (λ h. (h.name, h.object)) state
 
 abbrev pub numbers_named : List Held → List ℕ → List ℕ
-numbers_named state name = unwrap_or (option_map (λ h. h.numbers) (find (λ h. bytes_eq h.name name) state)) []
+numbers_named state name =
+    unwrap_or (option_map (λ h. h.numbers) (find (λ h. bytes_eq h.name name) state)) []
 
 -- the object of this name has these numbers, and all else is as it was
 abbrev pub with_numbers : List Held → List ℕ → List ℕ → List Held
-with_numbers state name numbers = map (λ (h : Held). if bytes_eq h.name name then record { name = h.name; object = h.object; numbers = numbers } else h) state
+with_numbers state name numbers = map (λ (h : Held). if bytes_eq h.name name
+    then record { name = h.name; object = h.object; numbers = numbers } else h) state
 
 -- where so many rows begin that are free
 abbrev pub base_for : Geometry → List Named → ℕ → ℕ
@@ -57,27 +60,62 @@ new_object g table count n = record { base = base_for g table n; width = n; coun
 
 -- each number is the meaning of the sources' numbers at its place
 abbrev pub computed : (List ℕ → ℕ) → List (List ℕ) → ℕ → List ℕ
-computed meaning sources size = map (λ e. meaning (map (λ numbers. slice_index numbers e) sources)) (range_with_len 0 size)
+computed meaning sources size = map (λ e. meaning (map (λ numbers. slice_index numbers e) sources))
+    (range_with_len 0 size)
+
+-- the names of the destinations and of the sources, where there is the operation
+abbrev pub dsts_of : Option Operation → List (List ℕ) → List (List ℕ)
+dsts_of None names = []
+dsts_of (Some operation) names = dsts_in operation.shape names
+
+abbrev pub srcs_of : Option Operation → List (List ℕ) → List (List ℕ)
+srcs_of None names = []
+srcs_of (Some operation) names = srcs_in operation.shape names
+
+-- the new numbers of an object, where it is a destination: those of the result at its place
+abbrev pub new_numbers : (ℕ → List ℕ) → ℕ → List (List ℕ) → List ℕ → Option (List ℕ)
+new_numbers result k [] name = None
+new_numbers result k (dst ∷ dsts) name = if bytes_eq name dst then Some (result k)
+    else new_numbers result (k + 1) dsts name
+
+-- the objects with the new numbers that there are
+abbrev pub with_results : List Held → (List ℕ → Option (List ℕ)) → List Held
+with_results state new = map (λ (h : Held). record {
+  name = h.name;
+  object = h.object;
+  numbers = unwrap_or (new h.name) h.numbers;
+}) state
 
 -- what an instruction that is done makes of the numbers
-abbrev pub worded : Geometry → (List ℕ → ℕ → List ℕ → ℕ) → List Held → Instruction → List Held
-worded g meaning state (Init name count n) =
-    let o = new_object g (table_of state) count n in state ++ record { name = name; object = o; numbers = replicate (size_of g o) 0 } ∷ []
-worded g meaning state (Bbop op dst srcs count n) =
-    with_numbers state dst (computed (meaning op n) (map (numbers_named state) srcs) (size_of g (object_named (table_of state) dst)))
-worded g meaning state (Load name values) = with_numbers state name (padded_to (size_of g (object_named (table_of state) name)) values)
-worded g meaning state (Fill name value) = with_numbers state name (replicate (size_of g (object_named (table_of state) name)) value)
-worded g meaning state (Print name) = state
-worded g meaning state (Free name) = filter (λ h. not (bytes_eq h.name name)) state
-worded g meaning state (Order order) = state
+abbrev pub worded : Geometry → Operations → (List ℕ → ℕ → List ℕ → List ℕ) → List Held → Instruction
+    → List Held
+worded g operations meaning state (Init name count n) =
+    let o = new_object g (table_of state) count n in
+    state ++ record { name = name; object = o; numbers = replicate (size_of g o) 0 } ∷ []
+worded g operations meaning state (Bbop op dst srcs count n) =
+    let names = dst ∷ srcs in
+    let values = map (numbers_named state) (srcs_of (operations op) names) in
+    let size = size_of g (object_named (table_of state) dst) in
+    with_results state (new_numbers (λ k. computed (λ vs. slice_index (meaning op n vs) k) values
+    size) 0 (dsts_of (operations op) names))
+worded g operations meaning state (Load name values) =
+    with_numbers state name (padded_to (size_of g (object_named (table_of state) name)) values)
+worded g operations meaning state (Fill name value) =
+    with_numbers state name (replicate (size_of g (object_named (table_of state) name)) value)
+worded g operations meaning state (Print name) = state
+worded g operations meaning state (Free name) = filter (λ h. not (bytes_eq h.name name)) state
+worded g operations meaning state (Order order) = state
 
 -- the word machine's step: a refusal leaves the state
 abbrev pub if_done : {S : Type 0} → Option Why → S → S → S
 if_done None done refused = done
 if_done (Some reason) done refused = refused
 
-abbrev pub words_after : Geometry → Operations → (List ℕ → ℕ → List ℕ → ℕ) → List Held → Instruction → List Held
-words_after g operations meaning state instr = if_done (refusal g operations (table_of state) instr) (worded g meaning state instr) state
+abbrev pub words_after : Geometry → Operations → (List ℕ → ℕ → List ℕ → List ℕ) → List Held
+    → Instruction → List Held
+words_after g operations meaning state instr =
+    if_done (refusal g operations (table_of state) instr) (worded g operations meaning state instr)
+    state
 
 -- the table alone goes the same way
 abbrev pub tabled : Geometry → List Named → Instruction → List Named
@@ -90,13 +128,14 @@ tabled g table (Print name) = table
 tabled g table (Order order) = table
 
 abbrev pub table_after : Geometry → Operations → List Named → Instruction → List Named
-table_after g operations table instr = if_done (refusal g operations table instr) (tabled g table instr) table
+table_after g operations table instr = if_done (refusal g operations table instr)
+    (tabled g table instr) table
 
 -- the binding of a bbop: the rows of its objects, and scratch at the least base
-abbrev pub binding : Geometry → List Named → Shape → List ℕ → List (List ℕ) → ℕ → Bound
-binding g table shape dst srcs n = record {
-  result = (object_named table dst).base;
-  sources = map (λ name. (object_named table name).base) srcs;
+abbrev pub binding : Geometry → List Named → Shape → List (List ℕ) → ℕ → Bound
+binding g table shape names n = record {
+  results = map (λ name. (object_named table name).base) (dsts_in shape names);
+  sources = map (λ name. (object_named table name).base) (srcs_in shape names);
   scratch = base_for g table (need shape n);
 }
 
@@ -104,9 +143,10 @@ abbrev pub issues_at : Option Operation → ℕ → List Issue
 issues_at None n = []
 issues_at (Some operation) n = issues_of (operation.trace n)
 
-abbrev pub bound_at : Geometry → List Named → Option Operation → List ℕ → List (List ℕ) → ℕ → List Command
-bound_at g table None dst srcs n = []
-bound_at g table (Some operation) dst srcs n = bound g.rows operation.shape n (binding g table operation.shape dst srcs n) (issues_of (operation.trace n))
+abbrev pub bound_at : Geometry → List Named → Option Operation → List (List ℕ) → ℕ → List Command
+bound_at g table None names n = []
+bound_at g table (Some operation) names n = bound g.rows operation.shape n
+    (binding g table operation.shape names n) (issues_of (operation.trace n))
 
 -- commands, and how many banks do them
 pub record Job : Type 0 where
@@ -116,7 +156,7 @@ pub record Job : Type 0 where
 -- the commands of a bbop in one bank, and how many banks do them
 abbrev pub job_of : Geometry → Operations → List Named → Instruction → Job
 job_of g operations table (Bbop op dst srcs count n) = record {
-  commands = bound_at g table (operations op) dst srcs n;
+  commands = bound_at g table (operations op) (dst ∷ srcs) n;
   banks = segments g (object_named table dst);
 }
 job_of g operations table (Init name count n) = record { commands = []; banks = 0 }
@@ -128,14 +168,17 @@ job_of g operations table (Order order) = record { commands = []; banks = 0 }
 
 -- one event for each row of the object, segment by segment and rows upwards in each
 abbrev pub row_by_row : Geometry → Object → (ℕ → ℕ → Event) → List Event
-row_by_row g o event = flat_map (λ bank. map (λ k. event bank k) (range_with_len 0 o.width)) (range_with_len 0 (segments g o))
+row_by_row g o event = flat_map (λ bank. map (λ k. event bank k) (range_with_len 0 o.width))
+    (range_with_len 0 (segments g o))
 
 -- a row of zeros or ones
 abbrev pub fill_events : Geometry → Object → ℕ → List Event
-fill_events g o value = row_by_row g o (λ bank k. Row bank (Aap (addr.C (bit_number (bit_at value k))) (addr.D (o.base + k))))
+fill_events g o value = row_by_row g o (λ bank k.
+    Row bank (Aap (addr.C (bit_number (bit_at value k))) (addr.D (o.base + k))))
 
 abbrev pub load_events : Geometry → Object → List ℕ → List Event
-load_events g o values = row_by_row g o (λ bank k. Write bank (o.base + k) (row_bits g (padded_to (size_of g o) values) bank k))
+load_events g o values = row_by_row g o (λ bank k.
+    Write bank (o.base + k) (row_bits g (padded_to (size_of g o) values) bank k))
 
 -- the events of an instruction that is done by itself
 abbrev pub own_events : Geometry → List Named → Instruction → List Event
@@ -153,27 +196,34 @@ job_events job = flat_map (λ bank. row_events bank job.commands) (range_with_le
 
 -- the events of an instruction that is done
 abbrev pub events_of : Geometry → Operations → List Named → Instruction → List Event
-events_of g operations table instr = job_events (job_of g operations table instr) ++ own_events g table instr
+events_of g operations table instr = job_events (job_of g operations table instr)
+    ++ own_events g table instr
 
 -- each column of the first banks goes through the commands, and the other banks stay
 abbrev pub through : Job → Banks → Banks
-through job banks = λ bank. if nat_lt bank job.banks then map (run job.commands) (banks bank) else banks bank
+through job banks = λ bank. if nat_lt bank job.banks then map (run job.commands) (banks bank)
+    else banks bank
 
 -- the banks after an instruction that is done
 abbrev pub rowed : Geometry → Operations → List Named → Banks → Instruction → Banks
-rowed g operations table banks instr = after (own_events g table instr) (through (job_of g operations table instr) banks)
+rowed g operations table banks instr = after (own_events g table instr)
+    (through (job_of g operations table instr) banks)
 
 abbrev pub banks_after : Geometry → Operations → List Named → Banks → Instruction → Banks
-banks_after g operations table banks instr = if_done (refusal g operations table instr) (rowed g operations table banks instr) banks
+banks_after g operations table banks instr = if_done (refusal g operations table instr)
+    (rowed g operations table banks instr) banks
 
 -- how many row commands are done
 abbrev pub times : ℕ → Counts → Counts
 times k c = record { aap = k * c.aap; ap = k * c.ap }
 
 abbrev pub counts_for : Geometry → Operations → List Named → Instruction → Counts
-counts_for g operations table (Init name count n) = record { aap = n * segments g (new_object g table count n); ap = 0 }
-counts_for g operations table (Bbop op dst srcs count n) = times (segments g (object_named table dst)) (counts_of (issues_at (operations op) n))
-counts_for g operations table (Fill name value) = let o = object_named table name in record { aap = o.width * segments g o; ap = 0 }
+counts_for g operations table (Init name count n) =
+    record { aap = n * segments g (new_object g table count n); ap = 0 }
+counts_for g operations table (Bbop op dst srcs count n) =
+    times (segments g (object_named table dst)) (counts_of (issues_at (operations op) n))
+counts_for g operations table (Fill name value) = let o = object_named table name in
+    record { aap = o.width * segments g o; ap = 0 }
 counts_for g operations table (Load name values) = record { aap = 0; ap = 0 }
 counts_for g operations table (Print name) = record { aap = 0; ap = 0 }
 counts_for g operations table (Free name) = record { aap = 0; ap = 0 }
@@ -185,7 +235,8 @@ reply_by (Some reason) counts = Refused reason
 
 -- the reply: the first condition that holds, or the counts
 abbrev pub reply_to : Geometry → Operations → List Named → Instruction → Reply
-reply_to g operations table instr = reply_by (refusal g operations table instr) (counts_for g operations table instr)
+reply_to g operations table instr = reply_by (refusal g operations table instr)
+    (counts_for g operations table instr)
 
 -- the row is one of the object's, in one of its banks
 abbrev pub has_row_in : Geometry → Object → ℕ → ℕ → Bool
@@ -196,18 +247,26 @@ is_among base size row = nat_le base row && nat_lt row (base + size)
 
 abbrev pub is_beside : Geometry → List Named → Option Operation → ℕ → ℕ → Bool
 is_beside g table None n row = false
-is_beside g table (Some operation) n row = is_among (base_for g table (need operation.shape n)) (need operation.shape n) row || is_among (limit_of g) 32 row
+is_beside g table (Some operation) n row = is_among (base_for g table (need operation.shape n))
+    (need operation.shape n) row || is_among (limit_of g) 32 row
 
--- the rows that an instruction that is done may change: its destination's, and of a bbop scratch and the spill group
+-- the rows that an instruction that is done may change: its destination's, and of a bbop scratch
+-- and the spill group
 abbrev pub touches : Geometry → Operations → List Named → Instruction → ℕ → ℕ → Bool
-touches g operations table (Init name count n) bank row = has_row_in g (new_object g table count n) bank row
+touches g operations table (Init name count n) bank row =
+    has_row_in g (new_object g table count n) bank row
 touches g operations table (Bbop op dst srcs count n) bank row =
-    let o = object_named table dst in nat_lt bank (segments g o) && (has_row o row || is_beside g table (operations op) n row)
-touches g operations table (Load name values) bank row = has_row_in g (object_named table name) bank row
-touches g operations table (Fill name value) bank row = has_row_in g (object_named table name) bank row
+    nat_lt bank (segments g (object_named table dst))
+    && (list_any (λ name. has_row (object_named table name) row)
+    (dsts_of (operations op) (dst ∷ srcs)) || is_beside g table (operations op) n row)
+touches g operations table (Load name values) bank row =
+    has_row_in g (object_named table name) bank row
+touches g operations table (Fill name value) bank row =
+    has_row_in g (object_named table name) bank row
 touches g operations table (Print name) bank row = false
 touches g operations table (Free name) bank row = false
 touches g operations table (Order order) bank row = false
 
 abbrev pub is_touched : Geometry → Operations → List Named → Instruction → ℕ → ℕ → Bool
-is_touched g operations table instr bank row = if_done (refusal g operations table instr) (touches g operations table instr bank row) false
+is_touched g operations table instr bank row =
+    if_done (refusal g operations table instr) (touches g operations table instr bank row) false

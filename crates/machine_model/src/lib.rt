@@ -1,11 +1,14 @@
-//! The word machine: what each instruction of a script comes to, in numbers and in rows, and the report on it.
+//! The word machine: what each instruction of a script comes to, in numbers and in rows, and the
+//! report on it.
 #![tactic(auto)]
 
-ghost use Rattle.machine_model.specs.Laws.{CountedByReplies, EventsAreSteps, RowsGiveWords, SameOperations, TextGivesWords};
+ghost use Rattle.machine_model.specs.Laws.{CountedByReplies, EventsAreSteps, RowsGiveWords};
+ghost use Rattle.machine_model.specs.Laws.{SameOperations, TextGivesWords};
 
 use uprog_code::{BadWalk, Counts};
 
-/// The first condition under which an instruction is refused. A place counts from 0 for the destination and from 1
+/// The first condition under which an instruction is refused. A place counts from 0 for the
+/// destination and from 1
 /// for the first source, and in `load` and `fill` from 1 for the first value.
 #[derive(Clone, Copy, PartialEq, Eq, Debug)]
 pub enum Why {

@@ -16,4 +16,5 @@ HasInput i (Maj a b c) = Unit {0}
 -- one more than the greatest input that a node reads, or 0 where none reads one
 pub record IsInputCount (nodes : List AoiNode) (count : ℕ) : Type 0 where
   pub each : (k : ℕ) → k < length nodes → HasInput count (aoi_at nodes k)
-  pub least : (count ≡ 0) ⊎ ((k : ℕ) × (k < length nodes) × (0 < count) × (aoi_at nodes k ≡ Input (count - 1)))
+  pub least : (count ≡ 0) ⊎ ((k : ℕ) × (k < length nodes) × (0 < count)
+      × (aoi_at nodes k ≡ Input (count - 1)))

@@ -1,5 +1,6 @@
 -- Graphs that no rule makes smaller
-use Rattle.std.specs.Prelude.{◌≡◌, ◌≢◌, ℕ, ◌-◌, ◌<◌, ◌≤◌, ◌==◌, Bool, false, ◌&&◌, ◌||◌, List, [], ◌∷◌, ◌++◌, length, count_by, flat_map}
+use Rattle.std.specs.Prelude.{◌≡◌, ◌≢◌, ℕ, ◌-◌, ◌<◌, ◌≤◌, ◌==◌, Bool, false, ◌&&◌, ◌||◌, List, []}
+use Rattle.std.specs.Prelude.{◌∷◌, ◌++◌, length, count_by, flat_map}
 use mathlib.Core.Bool.{beq}
 use Rattle.mig_graph.specs.declared.Lit.{Lit}
 use Rattle.mig_graph.specs.declared.Node.{Node}
@@ -14,7 +15,9 @@ abbrev pub reads : Graph → List Lit → ℕ → ℕ
 reads g outs k = count_by (λ l. l.node == k) (flat_map literals g.nodes ++ outs)
 
 abbrev pub has_literal : Node → Lit → Bool
-has_literal n l = (((n.a.node == l.node) && beq n.a.inverted l.inverted) || ((n.b.node == l.node) && beq n.b.inverted l.inverted)) || ((n.c.node == l.node) && beq n.c.inverted l.inverted)
+has_literal n l = (((n.a.node == l.node) && beq n.a.inverted l.inverted)
+    || ((n.b.node == l.node) && beq n.b.inverted l.inverted))
+    || ((n.c.node == l.node) && beq n.c.inverted l.inverted)
 
 -- how many literals of the first are literals of the second
 abbrev pub in_common : Node → Node → ℕ
@@ -38,7 +41,11 @@ pub record CanMerge (g : Graph) (outs : List Lit) (p q : Lit) : Type 0 where
 pub record IsReduced (g : Graph) (outs : List Lit) : Type 0 where
   pub three : (k : ℕ) → k < length g.nodes → NamesThree (node_at g.nodes k)
   pub form : (k : ℕ) → k < length g.nodes → inversions (node_at g.nodes k) ≤ 1
-  pub shared : (j k : ℕ) → j < length g.nodes → k < length g.nodes → SameThree (node_at g.nodes j) (node_at g.nodes k) → j ≡ k
-  pub ab : (k : ℕ) → k < length g.nodes → CanMerge g outs (node_at g.nodes k).a (node_at g.nodes k).b → ⊥
-  pub ac : (k : ℕ) → k < length g.nodes → CanMerge g outs (node_at g.nodes k).a (node_at g.nodes k).c → ⊥
-  pub bc : (k : ℕ) → k < length g.nodes → CanMerge g outs (node_at g.nodes k).b (node_at g.nodes k).c → ⊥
+  pub shared : (j k : ℕ) → j < length g.nodes → k < length g.nodes
+      → SameThree (node_at g.nodes j) (node_at g.nodes k) → j ≡ k
+  pub ab : (k : ℕ) → k < length g.nodes → CanMerge g outs (node_at g.nodes k).a
+      (node_at g.nodes k).b → ⊥
+  pub ac : (k : ℕ) → k < length g.nodes → CanMerge g outs (node_at g.nodes k).a
+      (node_at g.nodes k).c → ⊥
+  pub bc : (k : ℕ) → k < length g.nodes → CanMerge g outs (node_at g.nodes k).b
+      (node_at g.nodes k).c → ⊥

@@ -1,7 +1,9 @@
 //! Majority graphs of graphs of gates.
 
-ghost use Rattle.std.specs.Prelude.{◌≡◌, ◌<◌, ◌≤◌, ◌+◌, ◌-◌, ◌^◌, ◌⊎◌, ◌++◌, ◌∷◌, [], ℕ, Bool, length, IfOk, OnOk, if◌then◌else◌, count_by, slice_index};
-ghost use Rattle.aoi_graph.specs.Gates.{gate_value, ReadsBelow, is_gate, aoi_at, aoi_values, AreLower};
+ghost use Rattle.std.specs.Prelude.{◌≡◌, ◌<◌, ◌≤◌, ◌+◌, ◌-◌, ◌^◌, ◌⊎◌, ◌++◌, ◌∷◌, [], ℕ, Bool};
+ghost use Rattle.std.specs.Prelude.{length, IfOk, OnOk, if◌then◌else◌, count_by, slice_index};
+ghost use Rattle.aoi_graph.specs.Gates.{gate_value, ReadsBelow, is_gate, aoi_at, aoi_values};
+ghost use Rattle.aoi_graph.specs.Gates.{AreLower};
 ghost use Rattle.aoi_graph.specs.declared.AoiNode.TheVariants.{Input as InputNode};
 ghost use Rattle.mig_graph.specs.declared.Lit.{Lit};
 ghost use Rattle.mig_graph.specs.Graph.{size_of, value};
@@ -28,12 +30,16 @@ fn gate(mig: &mut Mig, lits: &[Lit], node: AoiNode) -> Result<Lit, NoMemory>
     requires below { ReadsBelow (length lits.now) node }
     requires input { HasInput mig.old.inputs node }
     requires room { size_of mig.old < 2 ^ 32 - 1 }
-    ensures value { IfOk result (λ l. (bits : ℕ → Bool) → value mig.new bits l ≡ gate_value bits (λ n. value mig.old bits (lit_at lits.now n)) node) }
-    ensures kept { IfOk result (λ _. (bits : ℕ → Bool) (l : Lit) → l.node < size_of mig.old → value mig.new bits l ≡ value mig.old bits l) }
+    ensures value { IfOk result (λ l. (bits : ℕ → Bool)
+        → value mig.new bits l ≡ gate_value bits (λ n. value mig.old bits (lit_at lits.now n)) node)
+            }
+    ensures kept { IfOk result (λ _. (bits : ℕ → Bool) (l : Lit) → l.node < size_of mig.old
+        → value mig.new bits l ≡ value mig.old bits l) }
     ensures named { IfOk result (λ l. l.node < size_of mig.new) }
     ensures inputs { mig.new.inputs ≡ mig.old.inputs }
     ensures least { length mig.old.nodes ≤ length mig.new.nodes }
-    ensures count { OnOk result (length mig.new.nodes ≤ length mig.old.nodes + (if is_gate node then 1 else 0)) }
+    ensures count { OnOk result (length mig.new.nodes
+        ≤ length mig.old.nodes + (if is_gate node then 1 else 0)) }
 {
     match node {
         AoiNode::Zero => Ok(ZERO),
@@ -55,8 +61,10 @@ fn translate(nodes: &[AoiNode], inputs: u8, alloc: Global) -> Result<MigOuts, No
     requires room { length nodes.now < 2 ^ 31 }
     ensures inputs { IfOk result (λ r. r.mig.inputs ≡ inputs) }
     ensures long { IfOk result (λ r. length r.outs.items ≡ length nodes.now) }
-    ensures named { IfOk result (λ r. (k : ℕ) → k < length nodes.now → (lit_at r.outs.items k).node < size_of r.mig) }
-    ensures value { IfOk result (λ r. (bits : ℕ → Bool) (k : ℕ) → k < length nodes.now → value r.mig bits (lit_at r.outs.items k) ≡ aoi_values nodes.now bits k) }
+    ensures named { IfOk result (λ r. (k : ℕ) → k < length nodes.now
+        → (lit_at r.outs.items k).node < size_of r.mig) }
+    ensures value { IfOk result (λ r. (bits : ℕ → Bool) (k : ℕ) → k < length nodes.now
+        → value r.mig bits (lit_at r.outs.items k) ≡ aoi_values nodes.now bits k) }
     ensures count { IfOk result (λ r. length r.mig.nodes ≤ count_by is_gate nodes.now) }
 {
     let mut mig = Mig::new(inputs, alloc)?;
@@ -105,13 +113,17 @@ fn input_count(nodes: &[AoiNode]) -> u8
 /// The majority graph of a graph of gates.
 pub fn from_aoi(g: &AoiGraph, alloc: Global) -> Result<MigOuts, NoMemory>
     requires lower { AreLower g.now.nodes.items }
-    requires outs { (j : ℕ) → j < length g.now.outs.items → slice_index g.now.outs.items j < length g.now.nodes.items }
-    requires input { (k : ℕ) → k < length g.now.nodes.items → HasInput 255 (aoi_at g.now.nodes.items k) }
+    requires outs { (j : ℕ) → j < length g.now.outs.items
+        → slice_index g.now.outs.items j < length g.now.nodes.items }
+    requires input { (k : ℕ) → k < length g.now.nodes.items
+        → HasInput 255 (aoi_at g.now.nodes.items k) }
     requires room { length g.now.nodes.items < 2 ^ 31 }
     ensures inputs { IfOk result (λ r. IsInputCount g.now.nodes.items r.mig.inputs) }
     ensures long { IfOk result (λ r. length r.outs.items ≡ length g.now.outs.items) }
     ensures named { IfOk result (λ r. AreNamed r.mig r.outs.items) }
-    ensures value { IfOk result (λ r. (bits : ℕ → Bool) (j : ℕ) → j < length g.now.outs.items → value r.mig bits (lit_at r.outs.items j) ≡ aoi_values g.now.nodes.items bits (slice_index g.now.outs.items j)) }
+    ensures value { IfOk result (λ r. (bits : ℕ → Bool) (j : ℕ) → j < length g.now.outs.items
+        → value r.mig bits (lit_at r.outs.items j)
+        ≡ aoi_values g.now.nodes.items bits (slice_index g.now.outs.items j)) }
     ensures count { IfOk result (λ r. length r.mig.nodes ≤ count_by is_gate g.now.nodes.items) }
 {
     let whole = translate(&g.nodes, input_count(&g.nodes), alloc)?;

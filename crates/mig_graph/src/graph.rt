@@ -1,9 +1,11 @@
 //! Majority graphs that grow.
 
-ghost use Rattle.std.specs.Prelude.{◌≡◌, ◌<◌, ◌≤◌, ℕ, Bool, IfOk, OnErr, Ok, true, false, length, ◌+◌, ◌-◌, ◌^◌, [], ◌∷◌};
+ghost use Rattle.std.specs.Prelude.{◌≡◌, ◌<◌, ◌≤◌, ℕ, Bool, IfOk, OnErr, Ok, true, false, length};
+ghost use Rattle.std.specs.Prelude.{◌+◌, ◌-◌, ◌^◌, [], ◌∷◌};
 ghost use Rattle.bit_rows.specs.Bits.{majority};
 ghost use Rattle.mig_graph.specs.declared.Lit.{Lit};
-ghost use Rattle.mig_graph.specs.Literals.{complement, node_of, SameThree, IsAnyOrder, inversions, NamesThree, node_value, IsLower};
+ghost use Rattle.mig_graph.specs.Literals.{complement, node_of, SameThree, IsAnyOrder, inversions};
+ghost use Rattle.mig_graph.specs.Literals.{NamesThree, node_value, IsLower};
 ghost use Rattle.mig_graph.specs.Graph.{node_at, size_of, value, values, IsGraph, GrewByOne};
 
 use crate::nodes::{simple, sorted, store, turned};
@@ -59,7 +61,8 @@ impl Mig {
     pub fn node(&self, k: u32) -> [Lit; 3]
         requires above { self.now.inputs < k }
         requires below { k < size_of self.now }
-        ensures { let n = node_at self.now.nodes (k - self.now.inputs - 1) in result ≡ n.a ∷ n.b ∷ n.c ∷ [] }
+        ensures { let n = node_at self.now.nodes (k - self.now.inputs - 1) in
+            result ≡ n.a ∷ n.b ∷ n.c ∷ [] }
     {
         let n = self.nodes.as_slice()[k as usize - self.inputs as usize - 1];
         [n.a, n.b, n.c]
@@ -71,9 +74,12 @@ impl Mig {
         requires three { NamesThree n }
         requires form { inversions n ≤ 1 }
         requires room { size_of self.old < 2 ^ 32 - 1 }
-        ensures value { IfOk result (λ k. (bits : ℕ → Bool) → values self.new bits k ≡ node_value (values self.old bits) n) }
+        ensures value { IfOk result (λ k. (bits : ℕ → Bool)
+            → values self.new bits k ≡ node_value (values self.old bits) n) }
         ensures named { IfOk result (λ k. k < size_of self.new) }
-        ensures standing { (k : ℕ) → k < length self.old.nodes → SameThree (node_at self.old.nodes k) n → (result ≡ Ok (self.old.inputs + 1 + k)) × (self.new ≡ self.old) }
+        ensures standing { (k : ℕ) → k < length self.old.nodes
+            → SameThree (node_at self.old.nodes k) n → (result ≡ Ok (self.old.inputs + 1 + k))
+            × (self.new ≡ self.old) }
         ensures inputs { self.new.inputs ≡ self.old.inputs }
         ensures grew { GrewByOne self.old self.new }
         ensures graph { IsGraph self.new.inputs self.new.nodes }
@@ -90,15 +96,27 @@ impl Mig {
         requires b { b.node < size_of self.old }
         requires c { c.node < size_of self.old }
         requires room { size_of self.old < 2 ^ 32 - 1 }
-        ensures value { IfOk result (λ l. (bits : ℕ → Bool) → value self.new bits l ≡ majority (value self.old bits a) (value self.old bits b) (value self.old bits c)) }
+        ensures value { IfOk result (λ l. (bits : ℕ → Bool)
+            → value self.new bits l ≡ majority (value self.old bits a) (value self.old bits b)
+            (value self.old bits c)) }
         ensures named { IfOk result (λ l. l.node < size_of self.new) }
-        ensures twice { (x z : Lit) → IsAnyOrder (node_of a b c) x x z → (result ≡ Ok x) × (self.new ≡ self.old) }
-        ensures opposite { (x z : Lit) → IsAnyOrder (node_of a b c) x (complement x) z → (result ≡ Ok z) × (self.new ≡ self.old) }
-        ensures standing { (k : ℕ) → k < length self.old.nodes → SameThree (node_at self.old.nodes k) (node_of a b c) → (result ≡ Ok (record { node = self.old.inputs + 1 + k; inverted = false })) × (self.new ≡ self.old) }
-        ensures standing_turned { (k : ℕ) → k < length self.old.nodes → 1 < inversions (node_of a b c) → SameThree (node_at self.old.nodes k) (node_of (complement a) (complement b) (complement c)) → (result ≡ Ok (record { node = self.old.inputs + 1 + k; inverted = true })) × (self.new ≡ self.old) }
+        ensures twice { (x z : Lit) → IsAnyOrder (node_of a b c) x x z → (result ≡ Ok x)
+            × (self.new ≡ self.old) }
+        ensures opposite { (x z : Lit) → IsAnyOrder (node_of a b c) x (complement x) z
+            → (result ≡ Ok z) × (self.new ≡ self.old) }
+        ensures standing { (k : ℕ) → k < length self.old.nodes
+            → SameThree (node_at self.old.nodes k) (node_of a b c)
+            → (result ≡ Ok (record { node = self.old.inputs + 1 + k; inverted = false }))
+            × (self.new ≡ self.old) }
+        ensures standing_turned { (k : ℕ) → k < length self.old.nodes
+            → 1 < inversions (node_of a b c) → SameThree (node_at self.old.nodes k)
+            (node_of (complement a) (complement b) (complement c))
+            → (result ≡ Ok (record { node = self.old.inputs + 1 + k; inverted = true }))
+            × (self.new ≡ self.old) }
         ensures inputs { self.new.inputs ≡ self.old.inputs }
         ensures grew { GrewByOne self.old self.new }
-        ensures kept { (bits : ℕ → Bool) (l : Lit) → l.node < size_of self.old → value self.new bits l ≡ value self.old bits l }
+        ensures kept { (bits : ℕ → Bool) (l : Lit) → l.node < size_of self.old
+            → value self.new bits l ≡ value self.old bits l }
         ensures graph { IsGraph self.new.inputs self.new.nodes }
         ensures err { OnErr result (self.new ≡ self.old) }
     {

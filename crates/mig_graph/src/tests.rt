@@ -11,11 +11,13 @@ use std::process::Abort;
 fn add(rt: &impl Abort, nodes: &mut Vec<AoiNode>, node: AoiNode) -> u32
     requires lower { AreLower nodes.old.items }
     requires below { ReadsBelow (length nodes.old.items) node }
-    requires inputs { (k : ℕ) → k < length nodes.old.items → HasInput 255 (aoi_at nodes.old.items k) }
+    requires inputs { (k : ℕ) → k < length nodes.old.items
+        → HasInput 255 (aoi_at nodes.old.items k) }
     requires input { HasInput 255 node }
     requires few { length nodes.old.items < 100 }
     ensures lower { AreLower nodes.new.items }
-    ensures inputs { (k : ℕ) → k < length nodes.new.items → HasInput 255 (aoi_at nodes.new.items k) }
+    ensures inputs { (k : ℕ) → k < length nodes.new.items
+        → HasInput 255 (aoi_at nodes.new.items k) }
     ensures long { length nodes.new.items ≡ length nodes.old.items + 1 }
     ensures place { result ≡ length nodes.old.items }
 {

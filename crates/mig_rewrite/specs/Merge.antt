@@ -26,4 +26,5 @@ pub record IsMerge (g : Graph) (outs : List Lit) (m : Merge) : Type 0 where
 
 -- no two of the node's literals can be merged
 abbrev pub NoMerge : Graph → List Lit → Node → Type 0
-NoMerge g outs n = (CanMerge g outs n.a n.b → ⊥) × (CanMerge g outs n.a n.c → ⊥) × (CanMerge g outs n.b n.c → ⊥)
+NoMerge g outs n = (CanMerge g outs n.a n.b → ⊥) × (CanMerge g outs n.a n.c → ⊥)
+    × (CanMerge g outs n.b n.c → ⊥)

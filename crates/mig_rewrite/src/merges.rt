@@ -1,6 +1,7 @@
 //! The search for two nodes that one can take the place of.
 
-ghost use Rattle.std.specs.Prelude.{◌≡◌, ◌<◌, ◌≤◌, ◌↔◌, IsTrue, IfSome, IfNone, IfOk, Ok, None, false};
+ghost use Rattle.std.specs.Prelude.{◌≡◌, ◌<◌, ◌≤◌, ◌↔◌, IsTrue, IfSome, IfNone, IfOk, Ok, None};
+ghost use Rattle.std.specs.Prelude.{false};
 ghost use Rattle.mig_graph.specs.declared.Lit.{Lit};
 ghost use Rattle.mig_graph.specs.Literals.{IsAnyOrder, NamesThree};
 ghost use Rattle.mig_graph.specs.Graph.{size_of};
@@ -103,7 +104,8 @@ fn common(p: Node, q: Node) -> Option<Shared>
 fn is_inner(m: &MigOuts, counts: &[u8], l: Lit) -> bool
     requires named { l.node < size_of m.now.mig }
     requires counts { AreReads m.now.mig m.now.outs.items counts.now }
-    ensures { IsTrue result ↔ ((l.inverted ≡ false) × (m.now.mig.inputs < l.node) × (reads m.now.mig m.now.outs.items l.node ≡ 1)) }
+    ensures { IsTrue result ↔ ((l.inverted ≡ false) × (m.now.mig.inputs < l.node)
+        × (reads m.now.mig m.now.outs.items l.node ≡ 1)) }
 {
     !l.inverted && l.node > m.mig.inputs() as u32 && counts[l.node as usize] == 1
 }

@@ -1,6 +1,7 @@
 //! The graph made again.
 
-ghost use Rattle.std.specs.Prelude.{◌≡◌, ◌<◌, ◌≤◌, ◌+◌, ◌^◌, ◌++◌, ◌∷◌, [], ℕ, Bool, IfOk, OnOk, length};
+ghost use Rattle.std.specs.Prelude.{◌≡◌, ◌<◌, ◌≤◌, ◌+◌, ◌^◌, ◌++◌, ◌∷◌, [], ℕ, Bool, IfOk, OnOk};
+ghost use Rattle.std.specs.Prelude.{length};
 ghost use Rattle.mig_graph.specs.declared.Lit.{Lit};
 ghost use Rattle.mig_graph.specs.Literals.{turn_if};
 ghost use Rattle.mig_graph.specs.Graph.{size_of, value};
@@ -40,8 +41,10 @@ fn make(mig: &mut Mig, lits: &[Lit], part: Part) -> Result<Lit, NoMemory>
     requires known { AreNamed mig.old lits.now }
     requires within { EachLit (λ l. l.node < length lits.now) part }
     requires room { size_of mig.old + cost part < 2 ^ 32 }
-    ensures value { IfOk result (λ l. (bits : ℕ → Bool) → value mig.new bits l ≡ part_value (λ n. value mig.old bits (lit_at lits.now n)) part) }
-    ensures kept { IfOk result (λ _. (bits : ℕ → Bool) (l : Lit) → l.node < size_of mig.old → value mig.new bits l ≡ value mig.old bits l) }
+    ensures value { IfOk result (λ l. (bits : ℕ → Bool)
+        → value mig.new bits l ≡ part_value (λ n. value mig.old bits (lit_at lits.now n)) part) }
+    ensures kept { IfOk result (λ _. (bits : ℕ → Bool) (l : Lit) → l.node < size_of mig.old
+        → value mig.new bits l ≡ value mig.old bits l) }
     ensures named { IfOk result (λ l. l.node < size_of mig.new) }
     ensures inputs { mig.new.inputs ≡ mig.old.inputs }
     ensures least { length mig.old.nodes ≤ length mig.new.nodes }
@@ -118,7 +121,9 @@ fn first_literals(inputs: u8, alloc: Global) -> Result<Vec<Lit>, NoMemory>
 fn translated_all(lits: &[Lit], old: &[Lit], alloc: Global) -> Result<Vec<Lit>, NoMemory>
     requires { (k : ℕ) → k < length old.now → (lit_at old.now k).node < length lits.now }
     ensures long { IfOk result (λ v. length v.items ≡ length old.now) }
-    ensures each { IfOk result (λ v. (k : ℕ) → k < length old.now → lit_at v.items k ≡ turn_if (lit_at old.now k).inverted (lit_at lits.now (lit_at old.now k).node)) }
+    ensures each { IfOk result (λ v. (k : ℕ) → k < length old.now
+        → lit_at v.items k ≡ turn_if (lit_at old.now k).inverted
+        (lit_at lits.now (lit_at old.now k).node)) }
 {
     let mut made = Vec::new(alloc);
     for l in old {

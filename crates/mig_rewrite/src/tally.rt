@@ -1,6 +1,7 @@
 //! How often nodes are read.
 
-ghost use Rattle.std.specs.Prelude.{◌≡◌, ◌<◌, ◌≤◌, ◌+◌, ◌++◌, ◌∷◌, [], List, IfOk, length, min, flat_map};
+ghost use Rattle.std.specs.Prelude.{◌≡◌, ◌<◌, ◌≤◌, ◌+◌, ◌++◌, ◌∷◌, [], List, IfOk, length, min};
+ghost use Rattle.std.specs.Prelude.{flat_map};
 ghost use Rattle.mig_graph.specs.declared.Lit.{Lit};
 ghost use Rattle.mig_graph.specs.Graph.{size_of};
 ghost use Rattle.mig_graph.specs.Outputs.{AreNamed};
@@ -20,7 +21,8 @@ fn one_more(count: u8) -> u8
 /// Counts one literal.
 fn count(counts: &mut [u8], l: Lit)
     requires { l.node < length counts.old }
-    ensures { (lits : List Lit) → AreCounts counts.old lits → AreCounts counts.new (lits ++ l ∷ []) }
+    ensures { (lits : List Lit) → AreCounts counts.old lits
+        → AreCounts counts.new (lits ++ l ∷ []) }
 {
     counts[l.node as usize] = one_more(counts[l.node as usize]);
 }
@@ -30,7 +32,8 @@ fn count_three(counts: &mut [u8], n: Node)
     requires a { n.a.node < length counts.old }
     requires b { n.b.node < length counts.old }
     requires c { n.c.node < length counts.old }
-    ensures { (lits : List Lit) → AreCounts counts.old lits → AreCounts counts.new (lits ++ literals n) }
+    ensures { (lits : List Lit) → AreCounts counts.old lits
+        → AreCounts counts.new (lits ++ literals n) }
 {
     count(counts, n.a);
     count(counts, n.b);

@@ -1,5 +1,7 @@
 -- The bits of words and of their bytes.
-use Rattle.std.proofs.Common.{◌≡◌, ℕ, zero, suc, ◌+◌, ◌-◌, ◌*◌, ◌/◌, ◌%◌, ◌^◌, ◌<◌, ◌==◌, Bool, List, [], ◌∷◌, ◌++◌, length, get_or, set, take, drop, All, refl, sym, ap, ◌∙◌, arith}
+use Rattle.std.proofs.Common.{◌≡◌, ℕ, zero, suc, ◌+◌, ◌-◌, ◌*◌, ◌/◌, ◌%◌, ◌^◌, ◌<◌, ◌==◌, Bool}
+use Rattle.std.proofs.Common.{List, [], ◌∷◌, ◌++◌, length, get_or, set, take, drop, All, refl, sym}
+use Rattle.std.proofs.Common.{ap, ◌∙◌, arith}
 use Rattle.std.specs.List.{flat_map}
 use Rattle.std.specs.Int.{w64, from_le_bytes, to_le_bytes}
 use Rattle.std.proofs.Math.Nat.{pow-succ', mul_assoc}
@@ -19,16 +21,19 @@ bits-join zero n b v l =
     let count : 0 + n ≡ n = omega arith in
     ap (λ (x : ℕ). bits x (0 + n)) none ∙ ap (bits v) count
 bits-join (suc m) n b v l =
-    let double : 2 ^ suc m * v ≡ 2 * (2 ^ m * v) = ap (λ (p : ℕ). p * v) (pow-succ' 2 m) ∙ mul_assoc 2 (2 ^ m) v in
+    let double : 2 ^ suc m * v ≡ 2 * (2 ^ m * v) = ap (λ (p : ℕ). p * v) (pow-succ' 2 m)
+    ∙ mul_assoc 2 (2 ^ m) v in
     let whole : b + 2 ^ suc m * v ≡ b + 2 * (2 ^ m * v) = ap (λ (p : ℕ). b + p) double in
     let low : (b + 2 * (2 ^ m * v)) % 2 ≡ b % 2 = omega arith in
     let half : (b + 2 * (2 ^ m * v)) / 2 ≡ b / 2 + 2 ^ m * v = omega arith in
     let small : b / 2 < 2 ^ m = omega (arith, pow-succ' 2 m) in
     let count : suc m + n ≡ suc (m + n) = omega arith in
     let step : (x : ℕ) → bits x (suc (m + n)) ≡ (x % 2 == 1) ∷ bits (x / 2) (m + n) = λ x. refl in
-    ap (λ (x : ℕ). bits x (suc m + n)) whole ∙ ap (bits (b + 2 * (2 ^ m * v))) count ∙ step (b + 2 * (2 ^ m * v))
+    ap (λ (x : ℕ). bits x (suc m + n)) whole ∙ ap (bits (b + 2 * (2 ^ m * v))) count
+    ∙ step (b + 2 * (2 ^ m * v))
     ∙ ap (λ (r : ℕ). (r == 1) ∷ bits ((b + 2 * (2 ^ m * v)) / 2) (m + n)) low
-    ∙ ap (λ (x : ℕ). (b % 2 == 1) ∷ bits x (m + n)) half ∙ ap (λ (xs : List Bool). (b % 2 == 1) ∷ xs) (bits-join m n (b / 2) v small)
+    ∙ ap (λ (x : ℕ). (b % 2 == 1) ∷ bits x (m + n)) half
+    ∙ ap (λ (xs : List Bool). (b % 2 == 1) ∷ xs) (bits-join m n (b / 2) v small)
 
 byte_and : (b v n : ℕ) → b < 256 → bits (b + 256 * v) (8 + n) ≡ bits b 8 ++ bits v n
 byte_and b v n l = bits-join 8 n b v l
@@ -39,7 +44,8 @@ no_bits = refl
 
 -- the bits of a word are those of its bytes
 eight_bytes : (a b c d e f g h : ℕ) → IsBytes (a ∷ b ∷ c ∷ d ∷ e ∷ f ∷ g ∷ h ∷ [])
-    → bits (from_le_bytes w64 (a ∷ b ∷ c ∷ d ∷ e ∷ f ∷ g ∷ h ∷ [])) 64 ≡ bits_of_bytes (a ∷ b ∷ c ∷ d ∷ e ∷ f ∷ g ∷ h ∷ [])
+    → bits (from_le_bytes w64 (a ∷ b ∷ c ∷ d ∷ e ∷ f ∷ g ∷ h ∷ [])) 64
+    ≡ bits_of_bytes (a ∷ b ∷ c ∷ d ∷ e ∷ f ∷ g ∷ h ∷ [])
 eight_bytes a b c d e f g h fits =
     let v7 : ℕ = h + 256 * 0 in
     let v6 : ℕ = g + 256 * (h + 256 * 0) in
@@ -47,8 +53,12 @@ eight_bytes a b c d e f g h fits =
     let v4 : ℕ = e + 256 * (f + 256 * (g + 256 * (h + 256 * 0))) in
     let v3 : ℕ = d + 256 * (e + 256 * (f + 256 * (g + 256 * (h + 256 * 0)))) in
     let v2 : ℕ = c + 256 * (d + 256 * (e + 256 * (f + 256 * (g + 256 * (h + 256 * 0))))) in
-    let v1 : ℕ = b + 256 * (c + 256 * (d + 256 * (e + 256 * (f + 256 * (g + 256 * (h + 256 * 0)))))) in
-    let horner : from_le_bytes w64 (a ∷ b ∷ c ∷ d ∷ e ∷ f ∷ g ∷ h ∷ []) ≡ a + 256 * (b + 256 * (c + 256 * (d + 256 * (e + 256 * (f + 256 * (g + 256 * (h + 256 * 0))))))) = omega arith in
+    let v1 : ℕ = b + 256 * (c + 256 * (d + 256 * (e + 256 * (f + 256 * (g + 256 * (h + 256 * 0))))))
+    in
+    let horner : from_le_bytes w64 (a ∷ b ∷ c ∷ d ∷ e ∷ f ∷ g ∷ h ∷ [])
+    ≡ a + 256
+    * (b + 256 * (c + 256 * (d + 256 * (e + 256 * (f + 256 * (g + 256 * (h + 256 * 0))))))) =
+    omega arith in
     let nothing : bits 0 0 ≡ [] = no_bits in
     ap (λ (x : ℕ). bits x 64) horner
     ∙ byte_and a v1 56 (fits 0) ∙ ap (λ (xs : List Bool). bits a 8 ++ xs) (byte_and b v2 48 (fits 1)
@@ -60,7 +70,8 @@ eight_bytes a b c d e f g h fits =
     ∙ ap (λ (xs : List Bool). bits g 8 ++ xs) (byte_and h 0 0 (fits 7)
     ∙ ap (λ (xs : List Bool). bits h 8 ++ xs) nothing)))))))
 
-pub word-bytes : (bytes : List ℕ) → length bytes ≡ 8 → IsBytes bytes → bits (from_le_bytes w64 bytes) 64 ≡ bits_of_bytes bytes
+pub word-bytes : (bytes : List ℕ) → length bytes ≡ 8 → IsBytes bytes
+    → bits (from_le_bytes w64 bytes) 64 ≡ bits_of_bytes bytes
 word-bytes [] e fits = absurd (omega arith)
 word-bytes (a ∷ []) e fits = absurd (omega arith)
 word-bytes (a ∷ b ∷ []) e fits = absurd (omega arith)
@@ -87,19 +98,26 @@ bytes_are w (suc (suc (suc (suc (suc (suc zero)))))) = omega arith
 bytes_are w (suc (suc (suc (suc (suc (suc (suc zero))))))) = omega arith
 bytes_are w (suc (suc (suc (suc (suc (suc (suc (suc i)))))))) = omega arith
 
-words-bytes : (words : List ℕ) → All (λ w. w < 2 ^ 64) words → bits_of_words words ≡ bits_of_bytes (word_list_bytes words)
+words-bytes : (words : List ℕ) → All (λ w. w < 2 ^ 64) words
+    → bits_of_words words ≡ bits_of_bytes (word_list_bytes words)
 words-bytes [] h = refl
 words-bytes (w ∷ words) h =
     let small : w < 2 ^ 64 = h 0 w (omega arith) in
     let again : from_le_bytes w64 (to_le_bytes w64 w) ≡ w = from_le_bytes-to_le_bytes_8 w small in
-    let one : bits w 64 ≡ bits_of_bytes (to_le_bytes w64 w) = ap (λ (x : ℕ). bits x 64) (sym again) ∙ word-bytes (to_le_bytes w64 w) refl (bytes_are w) in
+    let one : bits w 64 ≡ bits_of_bytes (to_le_bytes w64 w) = ap (λ (x : ℕ). bits x 64) (sym again)
+    ∙ word-bytes (to_le_bytes w64 w) refl (bytes_are w) in
     ap (λ (xs : List Bool). xs ++ bits_of_words words) one
-    ∙ ap (λ (xs : List Bool). bits_of_bytes (to_le_bytes w64 w) ++ xs) (words-bytes words (λ k d l. h (suc k) d (omega arith)))
+    ∙ ap (λ (xs : List Bool). bits_of_bytes (to_le_bytes w64 w)
+    ++ xs) (words-bytes words (λ k d l. h (suc k) d (omega arith)))
     ∙ sym (flat_map-append (λ byte. bits byte 8) (to_le_bytes w64 w) (word_list_bytes words))
 
 length-word_list_bytes : (words : List ℕ) → length (word_list_bytes words) ≡ 8 * length words
 length-word_list_bytes [] = refl
-length-word_list_bytes (w ∷ words) = omega (arith, length-append (to_le_bytes w64 w) (word_list_bytes words), length-word_list_bytes words)
+length-word_list_bytes (w ∷ words) = omega (
+  arith,
+  length-append (to_le_bytes w64 w) (word_list_bytes words),
+  length-word_list_bytes words,
+)
 
 IsBytes-append : (xs ys : List ℕ) → IsBytes xs → IsBytes ys → IsBytes (xs ++ ys)
 IsBytes-append [] ys h g i = g i
@@ -108,20 +126,27 @@ IsBytes-append (x ∷ xs) ys h g (suc i) = IsBytes-append xs ys (λ k. h (suc k)
 
 words_are_bytes : (words : List ℕ) → IsBytes (word_list_bytes words)
 words_are_bytes [] i = omega arith
-words_are_bytes (w ∷ words) i = IsBytes-append (to_le_bytes w64 w) (word_list_bytes words) (bytes_are w) (words_are_bytes words) i
+words_are_bytes (w ∷ words) i = IsBytes-append (to_le_bytes w64 w) (word_list_bytes words)
+    (bytes_are w) (words_are_bytes words) i
 
 -- the bytes of words, as those of their bits
-pub bytes-words : (words : List ℕ) → All (λ w. w < 2 ^ 64) words → bytes_of_bits (8 * length words) (bits_of_words words) ≡ word_list_bytes words
+pub bytes-words : (words : List ℕ) → All (λ w. w < 2 ^ 64) words
+    → bytes_of_bits (8 * length words) (bits_of_words words) ≡ word_list_bytes words
 bytes-words words h =
-    ap (bytes_of_bits (8 * length words)) (words-bytes words h) ∙ bytes-bits (8 * length words) (word_list_bytes words) (words_are_bytes words) (length-word_list_bytes words)
+    ap (bytes_of_bits (8 * length words)) (words-bytes words h)
+    ∙ bytes-bits (8 * length words) (word_list_bytes words) (words_are_bytes words)
+    (length-word_list_bytes words)
 
 -- a word more
-pub words_more : (bytes words : List ℕ) (i word : ℕ) → i < length words → bits word 64 ≡ bits_of_bytes (take (8 * i + 8 - 8 * i) (drop (8 * i) bytes)) → bits_of_words (take i words) ≡ bits_of_bytes (take (8 * i) bytes)
+pub words_more : (bytes words : List ℕ) (i word : ℕ) → i < length words
+    → bits word 64 ≡ bits_of_bytes (take (8 * i + 8 - 8 * i) (drop (8 * i) bytes))
+    → bits_of_words (take i words) ≡ bits_of_bytes (take (8 * i) bytes)
     → bits_of_words (take (i + 1) (set words i word)) ≡ bits_of_bytes (take (8 * (i + 1)) bytes)
 words_more bytes words i word l e so_far =
     let size : 8 * i + 8 - 8 * i ≡ 8 = omega arith in
     let next : 8 * (i + 1) ≡ 8 * i + 8 = omega arith in
-    let one : bits word 64 ≡ bits_of_bytes (take 8 (drop (8 * i) bytes)) = e ∙ ap (λ (n : ℕ). bits_of_bytes (take n (drop (8 * i) bytes))) size in
+    let one : bits word 64 ≡ bits_of_bytes (take 8 (drop (8 * i) bytes)) =
+    e ∙ ap (λ (n : ℕ). bits_of_bytes (take n (drop (8 * i) bytes))) size in
     ap bits_of_words (take_more_set words i word l)
     ∙ flat_map-append (λ w. bits w 64) (take i words) (word ∷ [])
     ∙ ap (λ (xs : List Bool). bits_of_words (take i words) ++ xs) (append-nil (bits word 64) ∙ one)
@@ -130,7 +155,11 @@ words_more bytes words i word l e so_far =
     ∙ ap bits_of_bytes (sym (take-add (8 * i) 8 bytes) ∙ ap (λ (n : ℕ). take n bytes) (sym next))
 
 -- the bytes of a word more
-pub bytes_more : (words : List ℕ) (i : ℕ) (d : ℕ) → i < length words → word_list_bytes (take (i + 1) words) ≡ word_list_bytes (take i words) ++ to_le_bytes w64 (get_or words i d)
+pub bytes_more : (words : List ℕ) (i : ℕ) (d : ℕ) → i < length words
+    → word_list_bytes (take (i + 1) words) ≡ word_list_bytes (take i words)
+    ++ to_le_bytes w64 (get_or words i d)
 bytes_more words i d l =
-    ap word_list_bytes (take_more words i d l) ∙ flat_map-append (to_le_bytes w64) (take i words) (get_or words i d ∷ [])
-    ∙ ap (λ (xs : List ℕ). word_list_bytes (take i words) ++ xs) (append-nil (to_le_bytes w64 (get_or words i d)))
+    ap word_list_bytes (take_more words i d l)
+    ∙ flat_map-append (to_le_bytes w64) (take i words) (get_or words i d ∷ [])
+    ∙ ap (λ (xs : List ℕ). word_list_bytes (take i words)
+    ++ xs) (append-nil (to_le_bytes w64 (get_or words i d)))

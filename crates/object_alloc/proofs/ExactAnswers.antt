@@ -9,7 +9,9 @@ use Rattle.object_alloc.specs.Reading.{Answers, image_in}
 use Rattle.object_alloc.specs.Exact.{found_in}
 use Rattle.object_alloc.proofs.Exact.{image_spelled}
 
-pub is_spelled : (bytes : List ℕ) (r : Result Image ImageNo) → IsBytes bytes → Answers found_in r (image_in bytes)
-    → IfOk r (λ i. let rows = rows_in i.geometry i.rows.now in IsImage i.geometry i.table.pairs rows × (bytes ≡ image_bytes i.geometry i.table.pairs rows))
+pub is_spelled : (bytes : List ℕ) (r : Result Image ImageNo) → IsBytes bytes
+    → Answers found_in r (image_in bytes)
+    → IfOk r (λ i. let rows = rows_in i.geometry i.rows.now in IsImage i.geometry i.table.pairs rows
+    × (bytes ≡ image_bytes i.geometry i.table.pairs rows))
 is_spelled bytes (Ok i) fits given = image_spelled bytes (found_in i) fits given
 is_spelled bytes (Err e) fits given = tt

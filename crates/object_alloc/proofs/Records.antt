@@ -1,10 +1,13 @@
 -- The record of an object is its spelling, and its spelling is read.
-use Rattle.std.proofs.Common.{◌≡◌, ℕ, zero, suc, ◌+◌, ◌-◌, ◌*◌, ◌^◌, ◌<◌, ◌≤◌, Bool, true, false, not, ◌&&◌, eqb, leb, List, [], ◌∷◌, ◌++◌, length, take, drop, replicate, Ok, refl, sym, ap, subst, ◌∙◌, arith}
+use Rattle.std.proofs.Common.{◌≡◌, ℕ, zero, suc, ◌+◌, ◌-◌, ◌*◌, ◌^◌, ◌<◌, ◌≤◌, Bool, true, false}
+use Rattle.std.proofs.Common.{not, ◌&&◌, eqb, leb, List, [], ◌∷◌, ◌++◌, length, take, drop}
+use Rattle.std.proofs.Common.{replicate, Ok, refl, sym, ap, subst, ◌∙◌, arith}
 use Rattle.std.specs.Int.{w8, w16, w32, to_le_bytes}
 use Rattle.std.specs.List.{list_all}
 use Rattle.std.proofs.lemmas.Bool.{eqb-true}
 use Rattle.std.proofs.lemmas.Bool.Decides.{nat_tests}
-use Rattle.std.proofs.lemmas.List.{take_at, drop_at, take-append-drop, length-append, length-take, length-drop, length-replicate}
+use Rattle.std.proofs.lemmas.List.{take_at, drop_at, take-append-drop, length-append, length-take}
+use Rattle.std.proofs.lemmas.List.{length-drop, length-replicate}
 use Rattle.bit_rows.specs.declared.TheConstants.{WIDTH_MAX}
 use Rattle.dram_model.specs.declared.geometry.Geometry.{Geometry}
 use Rattle.dram_model.specs.Geometry.{is_between}
@@ -15,8 +18,11 @@ use Rattle.object_alloc.specs.Free.{are_free, end_of}
 use Rattle.object_alloc.specs.Listed.{Named, objects_of, has_name, limit_of}
 use Rattle.object_alloc.specs.Bytes.{IsBytes}
 use Rattle.object_alloc.specs.Spelling.{name_bytes, object_bytes, IsObject}
-use Rattle.object_alloc.specs.Reading.{◌>>=◌, rule, bytes_at, field_at, is_new_name, name_at, place_at, count_at, object_at}
-use Rattle.object_alloc.proofs.Held.{Holds, Holds-then, Holds-front, Holds-back, bind_ok, ok_is, rule_ok, bytes_takes, bytes_again, wide8, wide16, wide32, field_takes, field_again}
+use Rattle.object_alloc.specs.Reading.{◌>>=◌, rule, bytes_at, field_at, is_new_name, name_at}
+use Rattle.object_alloc.specs.Reading.{place_at, count_at, object_at}
+use Rattle.object_alloc.proofs.Held.{Holds, Holds-then, Holds-front, Holds-back, bind_ok, ok_is}
+use Rattle.object_alloc.proofs.Held.{rule_ok, bytes_takes, bytes_again, wide8, wide16, wide32}
+use Rattle.object_alloc.proofs.Held.{field_takes, field_again}
 
 pub both : (a b : Bool) → (a && b) ≡ true → (a ≡ true) × (b ≡ true)
 both true b h = (refl, h)
@@ -28,7 +34,8 @@ between_is low high n h = (grind (arith, nat_tests), grind (arith, nat_tests))
 pub is-between : (low high n : ℕ) → low ≤ n → n ≤ high → is_between low high n ≡ true
 is-between low high n l h = grind (arith, nat_tests)
 
-zeros_are : (bytes : List ℕ) → list_all (λ b. eqb b 0) bytes ≡ true → bytes ≡ replicate (length bytes) 0
+zeros_are : (bytes : List ℕ) → list_all (λ b. eqb b 0) bytes ≡ true
+    → bytes ≡ replicate (length bytes) 0
 zeros_are [] h = refl
 zeros_are (b ∷ bytes) h =
     let t = both (eqb b 0) (list_all (λ c. eqb c 0) bytes) h in
@@ -46,49 +53,80 @@ is_not false h = refl
 -- ---- the name
 
 -- a field of 16 bytes with a name in front and zeros behind
-padded_is : (len : ℕ) (field : List ℕ) → length field ≡ 16 → len ≤ 16 → list_all (λ b. eqb b 0) (drop len field) ≡ true → (len ∷ field) ≡ name_bytes (take len field)
+padded_is : (len : ℕ) (field : List ℕ) → length field ≡ 16 → len ≤ 16
+    → list_all (λ b. eqb b 0) (drop len field) ≡ true → (len ∷ field) ≡ name_bytes (take len field)
 padded_is len field e l z =
     let size : length (take len field) ≡ len = omega (arith, length-take len field) in
     let count : length (drop len field) ≡ 16 - len = omega (arith, length-drop len field) in
-    let zeros : drop len field ≡ replicate (16 - len) 0 = zeros_are (drop len field) z ∙ ap (λ (n : ℕ). replicate n 0) count in
-    let whole : field ≡ take len field ++ replicate (16 - len) 0 = sym (take-append-drop len field) ∙ ap (λ (r : List ℕ). take len field ++ r) zeros in
+    let zeros : drop len field ≡ replicate (16 - len) 0 = zeros_are (drop len field) z
+    ∙ ap (λ (n : ℕ). replicate n 0) count in
+    let whole : field ≡ take len field ++ replicate (16 - len) 0 = sym (take-append-drop len field)
+    ∙ ap (λ (r : List ℕ). take len field ++ r) zeros in
     let text : ℕ → List ℕ = λ n. n ∷ (take len field ++ replicate (16 - n) 0) in
     ap (λ (f : List ℕ). len ∷ f) whole ∙ ap text (sym size)
 
-pub name_takes : (earlier : List Named) (at : ℕ) (bytes name : List ℕ) → IsBytes bytes → name_at earlier at bytes ≡ Ok name
-    → Holds bytes at (name_bytes name) (at + 17) × (fits_name name ≡ true) × (has_name earlier name ≡ false)
+pub name_takes : (earlier : List Named) (at : ℕ) (bytes name : List ℕ) → IsBytes bytes
+    → name_at earlier at bytes ≡ Ok name
+    → Holds bytes at (name_bytes name) (at + 17) × (fits_name name ≡ true)
+    × (has_name earlier name ≡ false)
 unfolding name_at
 name_takes earlier at bytes name fits e =
-    let a = bind_ok (field_at w8 (is_between 1 16) kinds.Object at bytes) (λ len. bytes_at 16 (at + 1) bytes >>= λ field. rule (is_new_name earlier len field) (at + 1) kinds.Object >>= λ _. Ok (take len field)) name e in
-    let b = bind_ok (bytes_at 16 (at + 1) bytes) (λ field. rule (is_new_name earlier a.0 field) (at + 1) kinds.Object >>= λ _. Ok (take a.0 field)) name a.2 in
-    let c = bind_ok (rule (is_new_name earlier a.0 b.0) (at + 1) kinds.Object) (λ _. Ok (take a.0 b.0)) name b.2 in
-    let len = field_takes w8 256 (λ n. n ∷ []) wide8 (is_between 1 16) kinds.Object at (at + 1) bytes a.0 fits a.1 refl in
+    let a = bind_ok (field_at w8 (is_between 1 16) kinds.Object at bytes)
+    (λ len. bytes_at 16 (at + 1) bytes >>= λ field. rule (is_new_name earlier len field) (at
+    + 1) kinds.Object >>= λ _. Ok (take len field)) name e in
+    let b = bind_ok (bytes_at 16 (at + 1) bytes)
+    (λ field. rule (is_new_name earlier a.0 field) (at + 1) kinds.Object >>= λ _.
+    Ok (take a.0 field)) name a.2 in
+    let c = bind_ok (rule (is_new_name earlier a.0 b.0) (at + 1) kinds.Object) (λ _.
+    Ok (take a.0 b.0)) name b.2 in
+    let len = field_takes w8 256 (λ n. n ∷ []) wide8 (is_between 1 16) kinds.Object at (at + 1)
+    bytes a.0 fits a.1 refl in
     let field = bytes_takes 16 (at + 1) (at + 17) bytes b.0 b.1 (omega arith) in
-    let new = both (fits_name (take a.0 b.0)) (list_all (λ z. eqb z 0) (drop a.0 b.0) && not (has_name earlier (take a.0 b.0))) (rule_ok (is_new_name earlier a.0 b.0) (at + 1) kinds.Object c.0 c.1) in
-    let others = both (list_all (λ z. eqb z 0) (drop a.0 b.0)) (not (has_name earlier (take a.0 b.0))) new.1 in
+    let new = both (fits_name (take a.0 b.0)) (list_all (λ z. eqb z 0) (drop a.0 b.0)
+    && not (has_name earlier (take a.0 b.0)))
+    (rule_ok (is_new_name earlier a.0 b.0) (at + 1) kinds.Object c.0 c.1) in
+    let others = both (list_all (λ z. eqb z 0) (drop a.0 b.0))
+    (not (has_name earlier (take a.0 b.0))) new.1 in
     let short = between_is 1 16 a.0 len.2 in
-    let spelled : (a.0 ∷ b.0) ≡ name_bytes (take a.0 b.0) = padded_is a.0 b.0 field.1 short.1 others.0 in
-    let held : Holds bytes at (a.0 ∷ b.0) (at + 17) = Holds-then bytes at (a.0 ∷ []) (at + 1) b.0 (at + 17) len.0 field.0 in
-    let named : Holds bytes at (name_bytes (take a.0 b.0)) (at + 17) = subst (λ (t : List ℕ). Holds bytes at t (at + 17)) spelled held in
-    subst (λ (n : List ℕ). Holds bytes at (name_bytes n) (at + 17) × (fits_name n ≡ true) × (has_name earlier n ≡ false)) (ok_is (take a.0 b.0) name c.2) (named, new.0, is_not (has_name earlier (take a.0 b.0)) others.1)
+    let spelled : (a.0 ∷ b.0) ≡ name_bytes (take a.0 b.0) =
+    padded_is a.0 b.0 field.1 short.1 others.0 in
+    let held : Holds bytes at (a.0 ∷ b.0) (at + 17) =
+    Holds-then bytes at (a.0 ∷ []) (at + 1) b.0 (at + 17) len.0 field.0 in
+    let named : Holds bytes at (name_bytes (take a.0 b.0)) (at + 17) =
+    subst (λ (t : List ℕ). Holds bytes at t (at + 17)) spelled held in
+    subst (λ (n : List ℕ). Holds bytes at (name_bytes n) (at + 17) × (fits_name n ≡ true)
+    × (has_name earlier n ≡ false)) (ok_is (take a.0 b.0) name c.2) (
+      named,
+      new.0,
+      is_not (has_name earlier (take a.0 b.0)) others.1,
+    )
 
 pub name_short : (name : List ℕ) → fits_name name ≡ true → (1 ≤ length name) × (length name ≤ 16)
 name_short [] h = absurd cc
-name_short (b ∷ bs) h = let t = both _ (leb (length (b ∷ bs)) 16) h in (omega arith, grind (arith, nat_tests))
+name_short (b ∷ bs) h = let t = both _ (leb (length (b ∷ bs)) 16) h in
+    (omega arith, grind (arith, nat_tests))
 
-pub name_again : (earlier : List Named) (at : ℕ) (bytes name : List ℕ) → Holds bytes at (name_bytes name) (at + 17) → fits_name name ≡ true → has_name earlier name ≡ false → name_at earlier at bytes ≡ Ok name
+pub name_again : (earlier : List Named) (at : ℕ) (bytes name : List ℕ)
+    → Holds bytes at (name_bytes name) (at + 17) → fits_name name ≡ true
+    → has_name earlier name ≡ false → name_at earlier at bytes ≡ Ok name
 unfolding name_at
 name_again earlier at bytes name h ok new =
     let short = name_short name ok in
     let padding : List ℕ = replicate (16 - length name) 0 in
-    let front = Holds-front bytes at (length name ∷ []) (at + 1) (name ++ padding) (at + 17) h refl in
+    let front = Holds-front bytes at (length name ∷ []) (at + 1) (name ++ padding) (at + 17) h refl
+    in
     let back = Holds-back bytes at (length name ∷ []) (at + 1) (name ++ padding) (at + 17) h refl in
-    let size : length (name ++ padding) ≡ 16 = omega (arith, length-append name padding, length-replicate {A = ℕ} (16 - length name) 0) in
-    let len = field_again w8 256 (λ n. n ∷ []) wide8 (is_between 1 16) kinds.Object at (at + 1) bytes (length name) front (omega arith) (is-between 1 16 (length name) short.0 short.1) in
+    let size : length (name ++ padding) ≡ 16 =
+    omega (arith, length-append name padding, length-replicate {A = ℕ} (16 - length name) 0) in
+    let len = field_again w8 256 (λ n. n ∷ []) wide8 (is_between 1 16) kinds.Object at (at + 1)
+    bytes (length name) front (omega arith) (is-between 1 16 (length name) short.0 short.1) in
     let field = bytes_again 16 (at + 1) (at + 17) bytes (name ++ padding) back size in
-    let taken : take (length name) (name ++ padding) ≡ name = take_at name padding (length name) refl in
-    let rest : drop (length name) (name ++ padding) ≡ padding = drop_at name padding (length name) refl in
-    let passes : is_new_name earlier (length name) (name ++ padding) ≡ true = rw (taken, rest, ok, new) (rw (are-zeros (16 - length name)) refl) in
+    let taken : take (length name) (name ++ padding) ≡ name =
+    take_at name padding (length name) refl in
+    let rest : drop (length name) (name ++ padding) ≡ padding =
+    drop_at name padding (length name) refl in
+    let passes : is_new_name earlier (length name) (name ++ padding) ≡ true =
+    rw (taken, rest, ok, new) (rw (are-zeros (16 - length name)) refl) in
     rw (len, field, passes, taken) refl
 
 -- ---- the place
@@ -105,32 +143,51 @@ le_is a b h = grind (arith, nat_tests)
 pub is-le : (a b : ℕ) → a ≤ b → leb a b ≡ true
 is-le a b h = grind (arith, nat_tests)
 
-pub place_takes : (g : Geometry) (earlier : List Named) (at : ℕ) (bytes : List ℕ) (x : ℕ × ℕ) → IsBytes bytes → place_at g earlier at bytes ≡ Ok x
+pub place_takes : (g : Geometry) (earlier : List Named) (at : ℕ) (bytes : List ℕ) (x : ℕ × ℕ)
+    → IsBytes bytes → place_at g earlier at bytes ≡ Ok x
     → Holds bytes at (x.0 ∷ to_le_bytes w16 x.1) (at + 3) × IsPlace g earlier x.0 x.1
 unfolding place_at
 place_takes g earlier at bytes x fits e =
-    let a = bind_ok (field_at w8 (is_between 1 WIDTH_MAX) kinds.Object at bytes) (λ width. field_at w16 (λ base. leb (base + width) (limit_of g)) kinds.Object (at + 1) bytes >>= λ base. rule (are_free (limit_of g) (objects_of earlier) width base) (at + 1) kinds.Overlap >>= λ _. Ok (width, base)) x e in
-    let b = bind_ok (field_at w16 (λ base. leb (base + a.0) (limit_of g)) kinds.Object (at + 1) bytes) (λ base. rule (are_free (limit_of g) (objects_of earlier) a.0 base) (at + 1) kinds.Overlap >>= λ _. Ok (a.0, base)) x a.2 in
-    let c = bind_ok (rule (are_free (limit_of g) (objects_of earlier) a.0 b.0) (at + 1) kinds.Overlap) (λ _. Ok (a.0, b.0)) x b.2 in
-    let width = field_takes w8 256 (λ n. n ∷ []) wide8 (is_between 1 WIDTH_MAX) kinds.Object at (at + 1) bytes a.0 fits a.1 refl in
-    let base = field_takes w16 (2 ^ 16) (to_le_bytes w16) wide16 (λ base. leb (base + a.0) (limit_of g)) kinds.Object (at + 1) (at + 3) bytes b.0 fits b.1 (omega arith) in
+    let a = bind_ok (field_at w8 (is_between 1 WIDTH_MAX) kinds.Object at bytes)
+    (λ width. field_at w16 (λ base. leb (base + width) (limit_of g)) kinds.Object (at + 1) bytes
+    >>= λ base. rule (are_free (limit_of g) (objects_of earlier) width base) (at + 1)
+    kinds.Overlap >>= λ _. Ok (width, base)) x e in
+    let b = bind_ok (field_at w16 (λ base. leb (base + a.0) (limit_of g)) kinds.Object (at + 1)
+    bytes) (λ base. rule (are_free (limit_of g) (objects_of earlier) a.0 base) (at + 1)
+    kinds.Overlap >>= λ _. Ok (a.0, base)) x a.2 in
+    let c = bind_ok (rule (are_free (limit_of g) (objects_of earlier) a.0 b.0) (at + 1)
+    kinds.Overlap) (λ _. Ok (a.0, b.0)) x b.2 in
+    let width = field_takes w8 256 (λ n. n ∷ []) wide8 (is_between 1 WIDTH_MAX) kinds.Object at (at
+    + 1) bytes a.0 fits a.1 refl in
+    let base = field_takes w16 (2 ^ 16) (to_le_bytes w16) wide16
+    (λ base. leb (base + a.0) (limit_of g)) kinds.Object (at + 1) (at + 3) bytes b.0 fits b.1
+    (omega arith) in
     let wide = between_is 1 WIDTH_MAX a.0 width.2 in
-    let held : Holds bytes at (a.0 ∷ to_le_bytes w16 b.0) (at + 3) = Holds-then bytes at (a.0 ∷ []) (at + 1) (to_le_bytes w16 b.0) (at + 3) width.0 base.0 in
+    let held : Holds bytes at (a.0 ∷ to_le_bytes w16 b.0) (at + 3) =
+    Holds-then bytes at (a.0 ∷ []) (at + 1) (to_le_bytes w16 b.0) (at + 3) width.0 base.0 in
     let is : IsPlace g earlier a.0 b.0 = record {
       some = wide.0;
       narrow = wide.1;
       within = le_is (b.0 + a.0) (limit_of g) base.2;
-      free = rule_ok (are_free (limit_of g) (objects_of earlier) a.0 b.0) (at + 1) kinds.Overlap c.0 c.1;
+      free = rule_ok (are_free (limit_of g) (objects_of earlier) a.0 b.0) (at + 1) kinds.Overlap c.0
+          c.1;
     } in
-    subst (λ (y : ℕ × ℕ). Holds bytes at (y.0 ∷ to_le_bytes w16 y.1) (at + 3) × IsPlace g earlier y.0 y.1) (ok_is (a.0, b.0) x c.2) (held, is)
+    subst (λ (y : ℕ × ℕ). Holds bytes at (y.0 ∷ to_le_bytes w16 y.1) (at + 3)
+    × IsPlace g earlier y.0 y.1) (ok_is (a.0, b.0) x c.2) (held, is)
 
-pub place_again : (g : Geometry) (earlier : List Named) (at : ℕ) (bytes : List ℕ) (width base : ℕ) → limit_of g < 2 ^ 16 → Holds bytes at (width ∷ to_le_bytes w16 base) (at + 3) → IsPlace g earlier width base → place_at g earlier at bytes ≡ Ok (width, base)
+pub place_again : (g : Geometry) (earlier : List Named) (at : ℕ) (bytes : List ℕ) (width base : ℕ)
+    → limit_of g < 2 ^ 16 → Holds bytes at (width ∷ to_le_bytes w16 base) (at + 3)
+    → IsPlace g earlier width base → place_at g earlier at bytes ≡ Ok (width, base)
 unfolding place_at
 place_again g earlier at bytes width base small h p =
     let front = Holds-front bytes at (width ∷ []) (at + 1) (to_le_bytes w16 base) (at + 3) h refl in
     let back = Holds-back bytes at (width ∷ []) (at + 1) (to_le_bytes w16 base) (at + 3) h refl in
-    let first = field_again w8 256 (λ n. n ∷ []) wide8 (is_between 1 WIDTH_MAX) kinds.Object at (at + 1) bytes width front (omega (arith, p.narrow)) (is-between 1 WIDTH_MAX width p.some p.narrow) in
-    let second = field_again w16 (2 ^ 16) (to_le_bytes w16) wide16 (λ b. leb (b + width) (limit_of g)) kinds.Object (at + 1) (at + 3) bytes base back (omega (arith, p.within)) (is-le (base + width) (limit_of g) p.within) in
+    let first = field_again w8 256 (λ n. n ∷ []) wide8 (is_between 1 WIDTH_MAX) kinds.Object at (at
+    + 1) bytes width front (omega (arith, p.narrow))
+    (is-between 1 WIDTH_MAX width p.some p.narrow) in
+    let second = field_again w16 (2 ^ 16) (to_le_bytes w16) wide16 (λ b.
+    leb (b + width) (limit_of g)) kinds.Object (at + 1) (at + 3) bytes base back
+    (omega (arith, p.within)) (is-le (base + width) (limit_of g) p.within) in
     rw (first, second, p.free) refl
 
 -- ---- the whole record
@@ -144,43 +201,87 @@ pub record Follows (g : Geometry) (earlier : List Named) (named : Named) : Type 
   pub free : are_free (limit_of g) (objects_of earlier) named.1.width named.1.base ≡ true
 
 pub name_size : (name : List ℕ) → length name ≤ 16 → length (name_bytes name) ≡ 17
-name_size name short = omega (arith, length-append name (replicate (16 - length name) 0), length-replicate {A = ℕ} (16 - length name) 0)
+name_size name short = omega (
+  arith,
+  length-append name (replicate (16 - length name) 0),
+  length-replicate {A = ℕ} (16 - length name) 0,
+)
 
-pub object_takes : (g : Geometry) (earlier : List Named) (at : ℕ) (bytes : List ℕ) (named : Named) → IsBytes bytes → object_at g earlier at bytes ≡ Ok named → Holds bytes at (object_bytes named) (at + 24) × Follows g earlier named
+pub object_takes : (g : Geometry) (earlier : List Named) (at : ℕ) (bytes : List ℕ) (named : Named)
+    → IsBytes bytes → object_at g earlier at bytes ≡ Ok named
+    → Holds bytes at (object_bytes named) (at + 24) × Follows g earlier named
 unfolding object_at count_at
 object_takes g earlier at bytes named fits e =
-    let a = bind_ok (name_at earlier at bytes) (λ name. place_at g earlier (at + 17) bytes >>= λ place. count_at g (at + 20) bytes >>= λ count. Ok (name, record { base = place.1; width = place.0; count = count })) named e in
-    let b = bind_ok (place_at g earlier (at + 17) bytes) (λ place. count_at g (at + 20) bytes >>= λ count. Ok (a.0, record { base = place.1; width = place.0; count = count })) named a.2 in
-    let c = bind_ok (count_at g (at + 20) bytes) (λ count. Ok (a.0, record { base = b.0.1; width = b.0.0; count = count })) named b.2 in
+    let a = bind_ok (name_at earlier at bytes)
+    (λ name. place_at g earlier (at + 17) bytes >>= λ place. count_at g (at + 20) bytes >>=
+    λ count. Ok (name, record { base = place.1; width = place.0; count = count })) named e in
+    let b = bind_ok (place_at g earlier (at + 17) bytes)
+    (λ place. count_at g (at + 20) bytes >>= λ count. Ok (
+      a.0,
+      record { base = place.1; width = place.0; count = count },
+    )) named a.2 in
+    let c = bind_ok (count_at g (at + 20) bytes)
+    (λ count. Ok (a.0, record { base = b.0.1; width = b.0.0; count = count })) named b.2 in
     let name = name_takes earlier at bytes a.0 fits a.1 in
     let place = place_takes g earlier (at + 17) bytes b.0 fits b.1 in
-    let count = field_takes w32 (2 ^ 32) (to_le_bytes w32) wide32 (is_between 1 (column_count g * g.banks)) kinds.Object (at + 20) (at + 24) bytes c.0 fits c.1 (omega arith) in
+    let count = field_takes w32 (2 ^ 32) (to_le_bytes w32) wide32
+    (is_between 1 (column_count g * g.banks)) kinds.Object (at + 20) (at + 24) bytes c.0 fits
+    c.1 (omega arith) in
     let some = between_is 1 (column_count g * g.banks) c.0 count.2 in
     let to : at + 17 + 3 ≡ at + 20 = omega arith in
-    let second : Holds bytes (at + 17) (b.0.0 ∷ to_le_bytes w16 b.0.1) (at + 20) = subst (λ (k : ℕ). Holds bytes (at + 17) (b.0.0 ∷ to_le_bytes w16 b.0.1) k) to place.0 in
-    let rest : Holds bytes (at + 17) (b.0.0 ∷ to_le_bytes w16 b.0.1 ++ to_le_bytes w32 c.0) (at + 24) = Holds-then bytes (at + 17) (b.0.0 ∷ to_le_bytes w16 b.0.1) (at + 20) (to_le_bytes w32 c.0) (at + 24) second count.0 in
+    let second : Holds bytes (at + 17) (b.0.0 ∷ to_le_bytes w16 b.0.1) (at + 20) =
+    subst (λ (k : ℕ). Holds bytes (at + 17) (b.0.0 ∷ to_le_bytes w16 b.0.1) k) to place.0 in
+    let rest : Holds bytes (at + 17) (b.0.0 ∷ to_le_bytes w16 b.0.1 ++ to_le_bytes w32 c.0) (at
+    + 24) = Holds-then bytes (at + 17) (b.0.0 ∷ to_le_bytes w16 b.0.1) (at + 20)
+    (to_le_bytes w32 c.0) (at + 24) second count.0 in
     let made : Named = (a.0, record { base = b.0.1; width = b.0.0; count = c.0 }) in
-    let held : Holds bytes at (object_bytes made) (at + 24) = Holds-then bytes at (name_bytes a.0) (at + 17) (b.0.0 ∷ to_le_bytes w16 b.0.1 ++ to_le_bytes w32 c.0) (at + 24) name.0 rest in
+    let held : Holds bytes at (object_bytes made) (at + 24) =
+    Holds-then bytes at (name_bytes a.0) (at + 17) (b.0.0 ∷ to_le_bytes w16 b.0.1
+    ++ to_le_bytes w32 c.0) (at + 24) name.0 rest in
     let is : Follows g earlier made = record {
       name = name.1;
       new = name.2;
-      object = record { wide = place.1.some; narrow = place.1.narrow; some = some.0; fits = some.1 };
+      object = record {
+        wide = place.1.some;
+        narrow = place.1.narrow;
+        some = some.0;
+        fits = some.1;
+      };
       within = place.1.within;
       free = place.1.free;
     } in
-    subst (λ (y : Named). Holds bytes at (object_bytes y) (at + 24) × Follows g earlier y) (ok_is made named c.2) (held, is)
+    subst (λ (y : Named). Holds bytes at (object_bytes y) (at + 24)
+    × Follows g earlier y) (ok_is made named c.2) (held, is)
 
-pub object_again : (g : Geometry) (earlier : List Named) (at : ℕ) (bytes : List ℕ) (named : Named) → limit_of g < 2 ^ 16 → column_count g * g.banks < 2 ^ 32 → Holds bytes at (object_bytes named) (at + 24) → Follows g earlier named → object_at g earlier at bytes ≡ Ok named
+pub object_again : (g : Geometry) (earlier : List Named) (at : ℕ) (bytes : List ℕ) (named : Named)
+    → limit_of g < 2 ^ 16 → column_count g * g.banks < 2 ^ 32
+    → Holds bytes at (object_bytes named) (at + 24) → Follows g earlier named
+    → object_at g earlier at bytes ≡ Ok named
 unfolding object_at count_at
 object_again g earlier at bytes named small few h f =
     let o = named.1 in
-    let name_len : length (name_bytes named.0) ≡ 17 = name_size named.0 (name_short named.0 f.name).1 in
-    let front = Holds-front bytes at (name_bytes named.0) (at + 17) (o.width ∷ to_le_bytes w16 o.base ++ to_le_bytes w32 o.count) (at + 24) h (omega (arith, name_len)) in
-    let back = Holds-back bytes at (name_bytes named.0) (at + 17) (o.width ∷ to_le_bytes w16 o.base ++ to_le_bytes w32 o.count) (at + 24) h (omega (arith, name_len)) in
-    let place = Holds-front bytes (at + 17) (o.width ∷ to_le_bytes w16 o.base) (at + 17 + 3) (to_le_bytes w32 o.count) (at + 24) back refl in
-    let count = Holds-back bytes (at + 17) (o.width ∷ to_le_bytes w16 o.base) (at + 20) (to_le_bytes w32 o.count) (at + 24) back (omega arith) in
-    let is : IsPlace g earlier o.width o.base = record { some = f.object.wide; narrow = f.object.narrow; within = f.within; free = f.free } in
+    let name_len : length (name_bytes named.0) ≡ 17 =
+    name_size named.0 (name_short named.0 f.name).1 in
+    let front = Holds-front bytes at (name_bytes named.0) (at + 17) (o.width
+    ∷ to_le_bytes w16 o.base ++ to_le_bytes w32 o.count) (at + 24) h (omega (arith, name_len))
+    in
+    let back = Holds-back bytes at (name_bytes named.0) (at + 17) (o.width ∷ to_le_bytes w16 o.base
+    ++ to_le_bytes w32 o.count) (at + 24) h (omega (arith, name_len)) in
+    let place = Holds-front bytes (at + 17) (o.width ∷ to_le_bytes w16 o.base) (at + 17 + 3)
+    (to_le_bytes w32 o.count) (at + 24) back refl in
+    let count = Holds-back bytes (at + 17) (o.width ∷ to_le_bytes w16 o.base) (at + 20)
+    (to_le_bytes w32 o.count) (at + 24) back (omega arith) in
+    let is : IsPlace g earlier o.width o.base =
+    record {
+      some = f.object.wide;
+      narrow = f.object.narrow;
+      within = f.within;
+      free = f.free;
+    } in
     let first = name_again earlier at bytes named.0 front f.name f.new in
     let second = place_again g earlier (at + 17) bytes o.width o.base small place is in
-    let third = field_again w32 (2 ^ 32) (to_le_bytes w32) wide32 (is_between 1 (column_count g * g.banks)) kinds.Object (at + 20) (at + 24) bytes o.count count (omega (arith, f.object.fits)) (is-between 1 (column_count g * g.banks) o.count f.object.some f.object.fits) in
+    let third = field_again w32 (2 ^ 32) (to_le_bytes w32) wide32
+    (is_between 1 (column_count g * g.banks)) kinds.Object (at + 20) (at + 24) bytes o.count
+    count (omega (arith, f.object.fits)) (is-between 1 (column_count g * g.banks) o.count
+    f.object.some f.object.fits) in
     rw (first, second, third) refl

@@ -1,5 +1,7 @@
 -- A table stays one.
-use Rattle.std.proofs.Common.{◌≡◌, ◌≢◌, ℕ, zero, suc, ◌+◌, ◌-◌, ◌<◌, ◌≤◌, Bool, true, false, not, List, [], ◌∷◌, ◌++◌, length, get_or, take, drop, refl, sym, ap, subst, arith}
+use Rattle.std.proofs.Common.{◌≡◌, ◌≢◌, ℕ, zero, suc, ◌+◌, ◌-◌, ◌<◌, ◌≤◌, Bool, true, false, not}
+use Rattle.std.proofs.Common.{List, [], ◌∷◌, ◌++◌, length, get_or, take, drop, refl, sym, ap, subst}
+use Rattle.std.proofs.Common.{arith}
 use Rattle.std.specs.List.{list_all, range_with_len, filter, remove}
 use Rattle.std.specs.Str.{bytes_eq}
 use Rattle.std.proofs.lemmas.Bool.Decides.{nat_tests}
@@ -26,60 +28,94 @@ if_not_true true h = absurd (h refl)
 if_not_true false h = refl
 
 -- what holds along a range holds in it
-pub in_range : (p : ℕ → Bool) (a n c : ℕ) → list_all p (range_with_len a n) ≡ true → a ≤ c → c < a + n → p c ≡ true
+pub in_range : (p : ℕ → Bool) (a n c : ℕ) → list_all p (range_with_len a n) ≡ true → a ≤ c
+    → c < a + n → p c ≡ true
 in_range p a n c h l m = if_not_false (p c) (λ f. let g = not_all_range p a n c l m f in cc)
 
 -- the rows that a new object takes are in no other
-apart_from : (limit : ℕ) (pairs : List Named) (o : Object) → are_free limit (objects_of pairs) o.width o.base ≡ true → (k : ℕ) (d : Named) → k < length pairs → AreApart (get_or pairs k d).1 o
+apart_from : (limit : ℕ) (pairs : List Named) (o : Object)
+    → are_free limit (objects_of pairs) o.width o.base ≡ true → (k : ℕ) (d : Named)
+    → k < length pairs → AreApart (get_or pairs k d).1 o
 apart_from limit pairs o h k d l row r = if_not_true (has_row o row) (λ t.
     let rows : (o.base ≤ row) × (row < o.base + o.width) = grind (arith, nat_tests) in
-    let free : is_free limit (objects_of pairs) row ≡ true = in_range (is_free limit (objects_of pairs)) o.base o.width row h rows.0 rows.1 in
-    let clear : list_all (λ p. not (has_row p row)) (objects_of pairs) ≡ true = grind (arith, nat_tests) in
+    let free : is_free limit (objects_of pairs) row ≡ true =
+    in_range (is_free limit (objects_of pairs)) o.base o.width row h rows.0 rows.1 in
+    let clear : list_all (λ p. not (has_row p row)) (objects_of pairs) ≡ true =
+    grind (arith, nat_tests) in
     let within : k < length (objects_of pairs) = simp length-map l in
-    let at : get_or (objects_of pairs) k d.1 ≡ (get_or pairs k d).1 = get_or-map (λ (p : Named). p.1) pairs k d d.1 l in
-    let taken : list_all (λ p. not (has_row p row)) (objects_of pairs) ≡ false = list_all_at (λ p. not (has_row p row)) (objects_of pairs) k d.1 within (rw at (rw r refl)) in
+    let at : get_or (objects_of pairs) k d.1 ≡ (get_or pairs k d).1 =
+    get_or-map (λ (p : Named). p.1) pairs k d d.1 l in
+    let taken : list_all (λ p. not (has_row p row)) (objects_of pairs) ≡ false =
+    list_all_at (λ p. not (has_row p row)) (objects_of pairs) k d.1 within (rw at (rw r refl))
+    in
     cc)
 
 same_name : (name : List ℕ) → bytes_eq name name ≡ true
 same_name name = if_not_false _ (λ f. not_from_Decides _ (bytes_eq-Decides name name) f refl)
 
-name_from : (pairs : List Named) (name : List ℕ) → has_name pairs name ≡ false → (k : ℕ) (d : Named) → k < length pairs → (get_or pairs k d).0 ≢ name
+name_from : (pairs : List Named) (name : List ℕ) → has_name pairs name ≡ false → (k : ℕ) (d : Named)
+    → k < length pairs → (get_or pairs k d).0 ≢ name
 name_from pairs name h k d l e =
-    let has : has_name pairs name ≡ true = list_any_at (λ p. bytes_eq p.0 name) pairs k d l (rw e (same_name name)) in cc
+    let has : has_name pairs name ≡ true = list_any_at (λ p. bytes_eq p.0 name) pairs k d l
+    (rw e (same_name name)) in cc
 
 -- one more object
-pub IsTable-add : (limit : ℕ) (pairs : List Named) (name : List ℕ) (o : Object) → IsTable limit pairs → length pairs < 256 → has_name pairs name ≡ false → 0 < o.width → are_free limit (objects_of pairs) o.width o.base ≡ true → IsTable limit (pairs ++ (name, o) ∷ [])
+pub IsTable-add : (limit : ℕ) (pairs : List Named) (name : List ℕ) (o : Object)
+    → IsTable limit pairs → length pairs < 256 → has_name pairs name ≡ false → 0 < o.width
+    → are_free limit (objects_of pairs) o.width o.base ≡ true
+    → IsTable limit (pairs ++ (name, o) ∷ [])
 IsTable-add limit pairs name o t few new some rows = record {
   few = rw length-append (omega arith);
   within = All-push (λ p. end_of p.1 ≤ limit) pairs (name, o) t.within
-      (let last : is_free limit (objects_of pairs) (o.base + o.width - 1) ≡ true = in_range (is_free limit (objects_of pairs)) o.base o.width (o.base + o.width - 1) rows (omega arith) (omega arith) in grind (arith, nat_tests));
+      (let last : is_free limit (objects_of pairs) (o.base + o.width - 1)
+      ≡ true = in_range (is_free limit (objects_of pairs)) o.base o.width (o.base + o.width - 1)
+      rows (omega arith) (omega arith) in grind (arith, nat_tests));
   names = all_pairs_push (λ p q. p.0 ≢ q.0) pairs (name, o) t.names (name_from pairs name new);
-  rows = all_pairs_push (λ p q. AreApart p.1 q.1) pairs (name, o) t.rows (apart_from limit pairs o rows);
+  rows = all_pairs_push (λ p q. AreApart p.1 q.1) pairs (
+    name,
+    o,
+  ) t.rows (apart_from limit pairs o rows);
 }
 
 -- fewer objects
-pub IsTable-without : (limit : ℕ) (pairs : List Named) (name : List ℕ) → IsTable limit pairs → IsTable limit (without pairs name)
+pub IsTable-without : (limit : ℕ) (pairs : List Named) (name : List ℕ) → IsTable limit pairs
+    → IsTable limit (without pairs name)
 IsTable-without limit pairs name t = record {
-  few = omega (arith, t.few, length-filter_both (λ (p : Named). not (bytes_eq p.0 name)) (λ (p : Named). not (not (bytes_eq p.0 name))) (λ _. refl) pairs);
+  few = omega (
+    arith,
+    t.few,
+    length-filter_both (λ (p : Named). not (bytes_eq p.0 name))
+        (λ (p : Named). not (not (bytes_eq p.0 name))) (λ _. refl) pairs,
+  );
   within = All-filter _ (λ p. end_of p.1 ≤ limit) pairs t.within;
   names = AllPairs-filter (λ p q. p.0 ≢ q.0) _ pairs t.names;
   rows = AllPairs-filter (λ p q. AreApart p.1 q.1) _ pairs t.rows;
 }
 
 -- an element that passes stays before those that are left
-pub kept_more : {X : Type 0} (t : X → Bool) (xs : List X) (i : ℕ) (d : X) → i < length xs → t (get_or xs i d) ≡ true → take (suc i) xs ++ filter t (drop (suc i) xs) ≡ take i xs ++ filter t (drop i xs)
+pub kept_more : {X : Type 0} (t : X → Bool) (xs : List X) (i : ℕ) (d : X) → i < length xs
+    → t (get_or xs i d) ≡ true → take (suc i) xs ++ filter t (drop (suc i) xs)
+    ≡ take i xs ++ filter t (drop i xs)
 kept_more t [] i d h e = absurd (omega arith)
 kept_more t (x ∷ xs) zero d h e = rw e refl
 kept_more t (x ∷ xs) (suc i) d h e = ap (λ ys. x ∷ ys) (kept_more t xs i d (omega arith) e)
 
 -- one that does not pass is taken out
-pub gone_more : {X : Type 0} (t : X → Bool) (xs : List X) (i : ℕ) (d : X) → i < length xs → t (get_or xs i d) ≡ false → take i (remove xs i) ++ filter t (drop i (remove xs i)) ≡ take i xs ++ filter t (drop i xs)
+pub gone_more : {X : Type 0} (t : X → Bool) (xs : List X) (i : ℕ) (d : X) → i < length xs
+    → t (get_or xs i d) ≡ false → take i (remove xs i) ++ filter t (drop i (remove xs i))
+    ≡ take i xs ++ filter t (drop i xs)
 gone_more t [] i d h e = absurd (omega arith)
 gone_more t (x ∷ xs) zero d h e = rw e refl
 gone_more t (x ∷ xs) (suc i) d h e = ap (λ ys. x ∷ ys) (gone_more t xs i d (omega arith) e)
 
 -- the same of a table as it is seen
-pub IsTable-added : (limit : ℕ) (pairs : List Named) (seen : Listing) → record { limit = limit; pairs = pairs } ≡ seen → (name : List ℕ) (o : Object) → IsTable limit pairs → length seen.pairs < 256 → has_name seen.pairs name ≡ false → 0 < o.width → are_free seen.limit (objects_of seen.pairs) o.width o.base ≡ true → IsTable limit (pairs ++ (name, o) ∷ [])
+pub IsTable-added : (limit : ℕ) (pairs : List Named) (seen : Listing)
+    → record { limit = limit; pairs = pairs } ≡ seen → (name : List ℕ) (o : Object)
+    → IsTable limit pairs → length seen.pairs < 256 → has_name seen.pairs name ≡ false → 0 < o.width
+    → are_free seen.limit (objects_of seen.pairs) o.width o.base ≡ true
+    → IsTable limit (pairs ++ (name, o) ∷ [])
 IsTable-added limit pairs seen e name o t few new some rows =
-    IsTable-add limit pairs name o t (subst (λ (v : Listing). length v.pairs < 256) (sym e) few) (subst (λ (v : Listing). has_name v.pairs name ≡ false) (sym e) new) some
-    (subst (λ (v : Listing). are_free v.limit (objects_of v.pairs) o.width o.base ≡ true) (sym e) rows)
+    IsTable-add limit pairs name o t (subst (λ (v : Listing). length v.pairs < 256) (sym e) few)
+    (subst (λ (v : Listing). has_name v.pairs name ≡ false) (sym e) new) some
+    (subst (λ (v : Listing). are_free v.limit (objects_of v.pairs) o.width o.base
+    ≡ true) (sym e) rows)

@@ -1,5 +1,6 @@
 -- Which rows are free, and where so many begin.
-use Rattle.std.specs.Prelude.{◌≡◌, ℕ, ◌+◌, ◌<◌, ◌≤◌, ◌&&◌, nat_lt, nat_le, Bool, true, false, not, List, All, Option, MatchOption}
+use Rattle.std.specs.Prelude.{◌≡◌, ℕ, ◌+◌, ◌<◌, ◌≤◌, ◌&&◌, nat_lt, nat_le, Bool, true, false, not}
+use Rattle.std.specs.Prelude.{List, All, Option, MatchOption}
 use Rattle.std.specs.List.{list_all, find, range_with_len}
 use Rattle.object_alloc.specs.declared.table.Object.{Object}
 
@@ -21,14 +22,16 @@ free limit objects k = find (are_free limit objects k) (range_with_len 0 (limit 
 
 -- the k rows from the base on are object rows, and in no object
 abbrev pub AreFree : ℕ → List Object → ℕ → ℕ → Type 0
-AreFree limit objects k base = (row : ℕ) → base ≤ row → row < base + k → (row < limit) × All (λ o. has_row o row ≡ false) objects
+AreFree limit objects k base = (row : ℕ) → base ≤ row → row < base + k
+    → (row < limit) × All (λ o. has_row o row ≡ false) objects
 
 -- the base is that of k free rows, and none is less; or there is none at all
 abbrev pub IsLeastFree : ℕ → List Object → ℕ → Option ℕ → Type 0
 IsLeastFree limit objects k found =
     MatchOption found
     ((base : ℕ) → AreFree limit objects k base → ⊥)
-    (λ base. AreFree limit objects k base × ((other : ℕ) → AreFree limit objects k other → base ≤ other))
+    (λ base. AreFree limit objects k base × ((other : ℕ) → AreFree limit objects k other
+    → base ≤ other))
 
 -- no row is in both objects
 abbrev pub AreApart : Object → Object → Type 0
@@ -40,4 +43,5 @@ end_of o = o.base + o.width
 
 -- the object has one of the k rows from the base on
 abbrev pub meets : ℕ → ℕ → Object → Bool
-meets base k o = (nat_lt o.base (base + k) && nat_lt base (o.base + o.width)) && (nat_lt base (base + k) && nat_lt o.base (o.base + o.width))
+meets base k o = (nat_lt o.base (base + k) && nat_lt base (o.base + o.width))
+    && (nat_lt base (base + k) && nat_lt o.base (o.base + o.width))

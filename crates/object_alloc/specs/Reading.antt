@@ -1,5 +1,8 @@
--- Reading an image file field by field: what it holds, or the first field that is not whole or breaks its rule.
-use Rattle.std.specs.Prelude.{◌≡◌, ℕ, zero, suc, ◌+◌, ◌*◌, Bool, ◌&&◌, not, nat_le, nat_lt, ◌==◌, List, [], ◌∷◌, ◌++◌, length, take, drop, Result, Ok, Err, if◌then◌else◌, codes}
+-- Reading an image file field by field: what it holds, or the first field that is not whole or
+-- breaks its rule.
+use Rattle.std.specs.Prelude.{◌≡◌, ℕ, zero, suc, ◌+◌, ◌*◌, Bool, ◌&&◌, not, nat_le, nat_lt, ◌==◌}
+use Rattle.std.specs.Prelude.{List, [], ◌∷◌, ◌++◌, length, take, drop, Result, Ok, Err}
+use Rattle.std.specs.Prelude.{if◌then◌else◌, codes}
 use Rattle.std.specs.Int.{Width, w8, w16, w32, byte_len, from_le_bytes}
 use Rattle.std.specs.List.{list_all}
 use Rattle.std.specs.Str.{bytes_eq}
@@ -17,7 +20,8 @@ use Rattle.object_alloc.specs.Free.{are_free}
 use Rattle.object_alloc.specs.Listed.{Named, objects_of, has_name, limit_of}
 
 infixl 10 ◌>>=◌
-abbrev pub ◌>>=◌ : {A B : Type 0} → Result A ImageFault → (A → Result B ImageFault) → Result B ImageFault
+abbrev pub ◌>>=◌ : {A B : Type 0} → Result A ImageFault → (A → Result B ImageFault)
+    → Result B ImageFault
 (Ok x) >>= f = f x
 (Err e) >>= f = Err e
 
@@ -44,7 +48,8 @@ rule holds at kind = if holds then Ok tt else Err (fault_at at kind)
 
 -- so many bytes from a place on. A file that ends before is Short at its length
 abbrev pub bytes_at : ℕ → ℕ → List ℕ → Result (List ℕ) ImageFault
-bytes_at len at bytes = if nat_lt (length bytes) (at + len) then Err (fault_at (length bytes) kinds.Short) else Ok (take len (drop at bytes))
+bytes_at len at bytes = if nat_lt (length bytes) (at + len)
+    then Err (fault_at (length bytes) kinds.Short) else Ok (take len (drop at bytes))
 
 -- the number of that width at a place, the low byte first
 abbrev pub number_at : Width → ℕ → List ℕ → Result ℕ ImageFault
@@ -57,9 +62,11 @@ field_at w passes kind at bytes = do
   fits ← rule (passes n) at kind
   Ok n
 
--- the first so many bytes of the field are a name, which none of these objects has, and the others are 0
+-- the first so many bytes of the field are a name, which none of these objects has, and the others
+-- are 0
 abbrev pub is_new_name : List Named → ℕ → List ℕ → Bool
-is_new_name earlier len field = fits_name (take len field) && (list_all (λ b. b == 0) (drop len field) && not (has_name earlier (take len field)))
+is_new_name earlier len field = fits_name (take len field)
+    && (list_all (λ b. b == 0) (drop len field) && not (has_name earlier (take len field)))
 
 unfoldable pub name_at : List Named → ℕ → List ℕ → Result (List ℕ) ImageFault
 name_at earlier at bytes = do
@@ -104,7 +111,9 @@ unfoldable pub geometry_at : ℕ → List ℕ → Result Geometry ImageFault
 geometry_at at bytes = do
   banks ← field_at w16 (is_between 1 16) kinds.Geometry at bytes
   rows ← field_at w16 (is_between 64 1006) kinds.Geometry (at + 2) bytes
-  words ← field_at w16 (λ words. is_between 1 1024 words && fits_size (record { banks = banks; rows = rows; words = words })) kinds.Geometry (at + 4) bytes
+  words ← field_at w16 (λ words. is_between 1 1024 words
+      && fits_size (record { banks = banks; rows = rows; words = words })) kinds.Geometry (at + 4)
+      bytes
   Ok (record { banks = banks; rows = rows; words = words })
 
 unfoldable pub opening_in : List ℕ → Result (Unit {0}) ImageFault

@@ -1,5 +1,6 @@
 -- The one spelling of an image file, and what an image may be.
-use Rattle.std.specs.Prelude.{◌≡◌, ℕ, ◌+◌, ◌-◌, ◌*◌, ◌<◌, ◌≤◌, true, false, List, ◌∷◌, ◌++◌, Bool, flat_map, length, take, drop, replicate, codes, All}
+use Rattle.std.specs.Prelude.{◌≡◌, ℕ, ◌+◌, ◌-◌, ◌*◌, ◌<◌, ◌≤◌, true, false, List, ◌∷◌, ◌++◌, Bool}
+use Rattle.std.specs.Prelude.{flat_map, length, take, drop, replicate, codes, All}
 use Rattle.std.specs.List.{range_with_len}
 use Rattle.std.specs.Int.{to_le_bytes, w16, w32}
 use Rattle.bit_rows.specs.declared.TheConstants.{WIDTH_MAX}
@@ -17,7 +18,8 @@ name_bytes name = length name ∷ name ++ replicate (16 - length name) 0
 
 -- the 24 bytes of an object
 abbrev pub object_bytes : Named → List ℕ
-object_bytes named = name_bytes named.0 ++ (named.1.width ∷ to_le_bytes w16 named.1.base ++ to_le_bytes w32 named.1.count)
+object_bytes named = name_bytes named.0 ++ (named.1.width ∷ to_le_bytes w16 named.1.base
+    ++ to_le_bytes w32 named.1.count)
 
 -- how many objects there are, and each of them
 abbrev pub table_bytes : List Named → List ℕ
@@ -40,7 +42,8 @@ Rows = (bank row : ℕ) → List Bool
 
 -- bank by bank and row by row, 8 bytes for each word
 abbrev pub rows_bytes : Geometry → Rows → List ℕ
-rows_bytes g rows = flat_map (λ bank. flat_map (λ row. bytes_of_bits (8 * g.words) (rows bank row)) (range_with_len 0 g.rows)) (range_with_len 0 g.banks)
+rows_bytes g rows = flat_map (λ bank. flat_map (λ row. bytes_of_bits (8 * g.words) (rows bank row))
+    (range_with_len 0 g.rows)) (range_with_len 0 g.banks)
 
 -- the file of an image
 unfoldable pub image_bytes : Geometry → List Named → Rows → List ℕ
@@ -71,4 +74,5 @@ pub record IsImage (g : Geometry) (table : List Named) (rows : Rows) : Type 0 wh
   pub listed : IsTable (limit_of g) table
   pub names : All (λ named. fits_name named.0 ≡ true) table
   pub objects : All (λ named. IsObject g named.1) table
-  pub shaped : (bank row : ℕ) → bank < g.banks → row < g.rows → length (rows bank row) ≡ column_count g
+  pub shaped : (bank row : ℕ) → bank < g.banks → row < g.rows
+      → length (rows bank row) ≡ column_count g

@@ -17,7 +17,8 @@ pub enum ImageKind {
     Rest,
 }
 
-/// The first field that breaks a rule, by the place of its first byte. `Short` and `Rest` are at the end: that of the
+/// The first field that breaks a rule, by the place of its first byte. `Short` and `Rest` are at
+/// the end: that of the
 /// file, and that of the image.
 #[derive(Clone, Copy, Debug, PartialEq, Eq)]
 pub struct ImageFault {

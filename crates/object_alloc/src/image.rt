@@ -8,7 +8,8 @@ use dram_model::Geometry;
 pub struct Image<'a> {
     pub geometry: Geometry,
     pub table: Table,
-    /// 8 bytes for each word of each row, bank by bank and row by row, the low byte first. They are a slice of the
+    /// 8 bytes for each word of each row, bank by bank and row by row, the low byte first. They are
+    /// a slice of the
     /// file.
     pub rows: &'a [u8],
 }

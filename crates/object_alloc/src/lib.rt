@@ -1,4 +1,5 @@
-//! Objects of a chip: the table that gives each its rows, and the image file that holds a table and the chip's rows.
+//! Objects of a chip: the table that gives each its rows, and the image file that holds a table and
+//! the chip's rows.
 #![tactic(auto)]
 
 mod fault;

@@ -1,13 +1,16 @@
 //! The image file, read in place.
 
-ghost use Rattle.std.specs.Prelude.{◌≡◌, ℕ, List, Ok, ◌+◌, ◌*◌, ◌<◌, ◌≤◌, ◌^◌, ◌==◌, [], length, true, OnOk, IfOk};
+ghost use Rattle.std.specs.Prelude.{◌≡◌, ℕ, List, Ok, ◌+◌, ◌*◌, ◌<◌, ◌≤◌, ◌^◌, ◌==◌, [], length};
+ghost use Rattle.std.specs.Prelude.{true, OnOk, IfOk};
 ghost use Rattle.std.specs.List.{list_all};
 ghost use Rattle.dram_model.specs.Geometry.{is_geometry};
 ghost use Rattle.dram_model.specs.declared.geometry.Geometry.{Geometry};
 ghost use Rattle.object_alloc.specs.Exact.{ReadsExactly, found_in};
 ghost use Rattle.object_alloc.specs.Listed.{Named, has_name, limit_of};
 ghost use Rattle.object_alloc.specs.Spelling.{Rows, IsImage, image_bytes, rows_bytes, rows_in};
-ghost use Rattle.object_alloc.specs.Reading.{Gives, Answers, name_at, place_at, count_at, object_at, objects_at, table_at, geometry_at, opening_in, rows_at, rows_size, rows_start, image_in};
+ghost use Rattle.object_alloc.specs.Reading.{Gives, Answers, name_at, place_at, count_at};
+ghost use Rattle.object_alloc.specs.Reading.{object_at, objects_at, table_at, geometry_at};
+ghost use Rattle.object_alloc.specs.Reading.{opening_in, rows_at, rows_size, rows_start, image_in};
 
 use crate::fault::{ImageFault, ImageKind, ImageNo, fault, rule};
 use crate::fields::{bytes_at, u8_at, u16_at, u32_at};
@@ -211,7 +214,8 @@ fn whole(bytes: &[u8], alloc: Global) -> Result<Image<'_>, ImageNo>
     })
 }
 
-/// The table that begins at byte `at`: the number of objects and their records. Its fault is the first of these fields.
+/// The table that begins at byte `at`: the number of objects and their records. Its fault is the
+/// first of these fields.
 pub fn read_table(bytes: &[u8], at: u32, g: Geometry, alloc: Global) -> Result<Table, ImageNo>
     requires geometry { is_geometry g ≡ true }
     requires small { length bytes.now < 2 ^ 32 }
@@ -226,17 +230,26 @@ pub fn read_table(bytes: &[u8], at: u32, g: Geometry, alloc: Global) -> Result<T
 pub fn read_image(bytes: &[u8], alloc: Global) -> Result<Image<'_>, ImageNo>
     requires { length bytes.now < 2 ^ 32 }
     // What is read is an image, and the bytes are its spelling.
-    ensures spelled { IfOk result (λ i. let rows = rows_in i.geometry i.rows.now in IsImage i.geometry i.table.pairs rows × (bytes.now ≡ image_bytes i.geometry i.table.pairs rows)) }
+    ensures spelled { IfOk result (λ i. let rows = rows_in i.geometry i.rows.now in
+        IsImage i.geometry i.table.pairs rows
+        × (bytes.now ≡ image_bytes i.geometry i.table.pairs rows)) }
     ensures limit { IfOk result (λ i. i.table.limit ≡ limit_of i.geometry) }
     // An image's spelling is read, unless memory runs out.
-    ensures only { (g : Geometry) (table : List Named) (rows : Rows) → IsImage g table rows → bytes.now ≡ image_bytes g table rows → Answers found_in result (Ok (record { geometry = g; table = table; rows = rows_bytes g rows })) }
+    ensures only { (g : Geometry) (table : List Named) (rows : Rows) → IsImage g table rows
+        → bytes.now ≡ image_bytes g table rows
+        → Answers found_in result (Ok (record {
+          geometry = g;
+          table = table;
+          rows = rows_bytes g rows;
+        })) }
     // Which fault it is.
     ensures exact { Answers found_in result (image_in bytes.now) }
 {
     whole(bytes, alloc)
 }
 
-/// Shows that bytes are accepted exactly where they are the spelling of an image, which they are of one alone.
+/// Shows that bytes are accepted exactly where they are the spelling of an image, which they are of
+/// one alone.
 pub fn images_are_exact()
     ensures { ReadsExactly }
 {}

@@ -1,11 +1,13 @@
 //! The image file, written.
 
-ghost use Rattle.std.specs.Prelude.{◌≡◌, ℕ, ◌+◌, ◌*◌, ◌≤◌, [], ◌++◌, true, false, length, replicate, IfOk, vec_len, vec_capacity};
+ghost use Rattle.std.specs.Prelude.{◌≡◌, ℕ, ◌+◌, ◌*◌, ◌≤◌, [], ◌++◌, true, false, length};
+ghost use Rattle.std.specs.Prelude.{replicate, IfOk, vec_len, vec_capacity};
 ghost use Rattle.std.specs.List.{flat_map};
 ghost use Rattle.arrayvec.specs.ArrayVec.{array_vec_len};
 ghost use Rattle.dram_model.specs.Elements.{column_count};
 ghost use Rattle.dram_model.specs.Geometry.{is_geometry};
-ghost use Rattle.object_alloc.specs.Spelling.{name_bytes, object_bytes, opening_bytes, geometry_bytes, head_bytes, image_bytes, blank_rows};
+ghost use Rattle.object_alloc.specs.Spelling.{name_bytes, object_bytes, opening_bytes};
+ghost use Rattle.object_alloc.specs.Spelling.{geometry_bytes, head_bytes, image_bytes, blank_rows};
 
 use crate::table::{Object, Table};
 use arrayvec::ArrayVec;
@@ -95,7 +97,8 @@ fn put_objects(out: &mut Vec<u8>, table: &Table)
     }
 }
 
-/// Appends all that stands before the rows in an image file. There has to be room for 14 bytes and 24 for each object,
+/// Appends all that stands before the rows in an image file. There has to be room for 14 bytes and
+/// 24 for each object,
 /// so that it takes no memory.
 pub fn put_head(out: &mut Vec<u8>, g: Geometry, table: &Table)
     requires { vec_len out.old + (14 + 24 * length table.now.pairs) ≤ vec_capacity out.old }

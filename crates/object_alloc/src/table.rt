@@ -1,6 +1,7 @@
 //! The table of objects.
 
-ghost use Rattle.std.specs.Prelude.{List, ◌≡◌, ◌+◌, ◌-◌, ◌^◌, ◌<◌, ◌≤◌, [], ◌∷◌, ◌++◌, length, ℕ, true, false, IfOk, Some, slice_get, All, vec_capacity};
+ghost use Rattle.std.specs.Prelude.{List, ◌≡◌, ◌+◌, ◌-◌, ◌^◌, ◌<◌, ◌≤◌, [], ◌∷◌, ◌++◌, length, ℕ};
+ghost use Rattle.std.specs.Prelude.{true, false, IfOk, Some, slice_get, All, vec_capacity};
 ghost use Rattle.std.specs.Option.{option_map};
 ghost use Rattle.std.specs.List.{find};
 ghost use Rattle.std.specs.Str.{bytes_eq};
@@ -15,7 +16,8 @@ use std::alloc::Global;
 use std::marker::Model;
 use text_lex::Name;
 
-/// The same `width` rows of every bank from `base` on, and how many elements they hold, one in each column.
+/// The same `width` rows of every bank from `base` on, and how many elements they hold, one in each
+/// column.
 #[derive(Clone, Copy, Debug, PartialEq, Eq)]
 pub struct Object {
     pub base: u16,
@@ -90,7 +92,8 @@ fn take_away(pairs: &mut Vec<(Name, Object)>, name: &Name)
     }
 }
 
-/// Objects under their names, in order of insertion, and in how many rows of each bank they may lie. No two have one
+/// Objects under their names, in order of insertion, and in how many rows of each bank they may
+/// lie. No two have one
 /// name or a row in common.
 #[derive(Debug, Drop)]
 pub struct Table {
@@ -106,7 +109,8 @@ impl Model for Table {
 
     ghost view = { λ t. record { limit = t.limit; pairs = t.pairs.items } };
 
-    ghost invariant = { λ t. (t.limit ≤ 974) × IsTable t.limit t.pairs.items × (256 ≤ vec_capacity t.pairs) };
+    ghost invariant = { λ t. (t.limit ≤ 974) × IsTable t.limit t.pairs.items
+        × (256 ≤ vec_capacity t.pairs) };
 }
 
 impl Table {
@@ -176,7 +180,11 @@ impl Table {
         requires new { has_name self.old.pairs name ≡ false }
         requires some { 0 < o.width }
         requires rows { are_free self.old.limit (objects_of self.old.pairs) o.width o.base ≡ true }
-        ensures { self.new ≡ record { limit = self.old.limit; pairs = self.old.pairs ++ (name, o) ∷ [] } }
+        ensures { self.new ≡ record {
+          limit = self.old.limit;
+          pairs = self.old.pairs ++ (name, o)
+              ∷ [];
+        } }
     {
         match self.pairs.push((name, o)) {
             Ok(()) => {}
@@ -187,7 +195,10 @@ impl Table {
     /// Takes the object of this name away, and closes the list up.
     pub fn remove(&mut self, name: &Name) -> Option<Object>
         ensures found { result ≡ look_up self.old.pairs name.now }
-        ensures rest { self.new ≡ record { limit = self.old.limit; pairs = without self.old.pairs name.now } }
+        ensures rest { self.new ≡ record {
+          limit = self.old.limit;
+          pairs = without self.old.pairs name.now;
+        } }
     {
         let found = object_in(&self.pairs, name);
         take_away(&mut self.pairs, name);
@@ -195,7 +206,9 @@ impl Table {
     }
 }
 
-/// Shows that the base that `find_rows` answers is the least, and that there is none where it answers none.
+/// Shows that the base that `find_rows` answers is the least, and that there is none where it
+/// answers none.
 pub fn free_is_least()
-    ensures { (limit : ℕ) (objects : List Object) (k : ℕ) → IsLeastFree limit objects k (free limit objects k) }
+    ensures { (limit : ℕ) (objects : List Object) (k : ℕ)
+        → IsLeastFree limit objects k (free limit objects k) }
 {}

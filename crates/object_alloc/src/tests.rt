@@ -1,12 +1,14 @@
 ghost use Rattle.std.specs.Prelude.{◌≡◌, ◌+◌, ◌<◌, ◌≤◌, length};
 
 use super::*;
+use bit_rows::WIDTH_MAX;
 use dram_model::Geometry;
 use std::alloc::{AllocError, Global};
 use std::test::*;
 use text_lex::Name;
 
-/// An image of one bank of 64 rows of one word, with its objects a, b and y in rows 0, 1 and 2, each of width 1 and
+/// An image of one bank of 64 rows of one word, with its objects a, b and y in rows 0, 1 and 2,
+/// each of width 1 and
 /// count 4. Row 0 is 0x0C, row 1 is 0x0A, and the others are 0.
 fn image_a(alloc: Global) -> Result<Vec<u8>, AllocError> {
     let mut bytes = Vec::new(alloc);
@@ -114,7 +116,7 @@ static FAULTS: [(usize, u8, u32, ImageKind); 20] = [
     (30, 1, 15, ImageKind::Object),
     (39, 0x61, 39, ImageKind::Object),
     (31, 0, 31, ImageKind::Object),
-    (31, 65, 31, ImageKind::Object),
+    (31, WIDTH_MAX + 1, 31, ImageKind::Object),
     (32, 32, 32, ImageKind::Object),
     (56, 0, 56, ImageKind::Overlap),
     (31, 2, 56, ImageKind::Overlap),

@@ -26,11 +26,13 @@ pub fn words_of_bytes(bytes: &[u8], words: &mut [u64])
     }
 }
 
-/// Appends the bytes of a row's words, the low byte of each first. There has to be room for them, so that it takes no
+/// Appends the bytes of a row's words, the low byte of each first. There has to be room for them,
+/// so that it takes no
 /// memory.
 pub fn bytes_of_words(words: &[u64], out: &mut Vec<u8>)
     requires { vec_len out.old + 8 * length words.now ≤ vec_capacity out.old }
-    ensures items { out.new.items ≡ out.old.items ++ bytes_of_bits (8 * length words.now) (bits_of_words words.now) }
+    ensures items { out.new.items ≡ out.old.items
+        ++ bytes_of_bits (8 * length words.now) (bits_of_words words.now) }
     ensures len { vec_len out.new ≡ vec_len out.old + 8 * length words.now }
     ensures room { vec_capacity out.old ≤ vec_capacity out.new }
 {

@@ -15,12 +15,14 @@ use Rattle.op_lang.specs.Reading.{Reading, breach, Fails, left}
 use Rattle.op_lang.specs.Parsing.{ReadsOps}
 use Rattle.op_lang.proofs.Loops.{HasTurns}
 
-pub ops_exit : {V : Type 0} (list : V → List Op) (old : Reading) (e : ReadNo) (r : Result V ReadNo) → IsErrAnd r (λ x. x ≡ e) → Fails (breach (w.Ops ∷ []) old) e → ReadsOps list old r
+pub ops_exit : {V : Type 0} (list : V → List Op) (old : Reading) (e : ReadNo) (r : Result V ReadNo)
+    → IsErrAnd r (λ x. x ≡ e) → Fails (breach (w.Ops ∷ []) old) e → ReadsOps list old r
 ops_exit list old e r is h =
     let p = err_from_is_err_and r is in
     rw (p.1, p.2) h
 
-no_breach : (s : Scope) (items : List Item) → is_nil items ≡ true → breach_of (w.Ops ∷ []) s items ≡ None
+no_breach : (s : Scope) (items : List Item) → is_nil items ≡ true
+    → breach_of (w.Ops ∷ []) s items ≡ None
 unfolding breach_of
 no_breach s [] h = refl
 no_breach s (i ∷ items) h = cc
@@ -29,6 +31,11 @@ no_texts : (items : List Item) → is_nil items ≡ true → texts items ≡ []
 no_texts [] h = refl
 no_texts (i ∷ items) h = cc
 
-pub ops_end : {V : Type 0} (list : V → List Op) (v : V) (old : Reading) (new : Reading) → HasTurns (w.Ops ∷ []) w.Ops operation_text operation (left old) old (list v) new → is_nil new.items ≡ true → ReadsOps list old (Ok v)
-ops_end list v old new h e =
-    (h.same [] ∙ no_breach new.scope new.items e, h.spells ∙ ap (in_turn operation_text (map operation (list v))) (no_texts new.items e))
+pub ops_end : {V : Type 0} (list : V → List Op) (v : V) (old : Reading) (new : Reading)
+    → HasTurns (w.Ops ∷ []) w.Ops operation_text operation (left old) old (list v) new
+    → is_nil new.items ≡ true → ReadsOps list old (Ok v)
+ops_end list v old new h e = (
+  h.same [] ∙ no_breach new.scope new.items e,
+  h.spells
+      ∙ ap (in_turn operation_text (map operation (list v))) (no_texts new.items e),
+)

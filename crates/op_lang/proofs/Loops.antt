@@ -1,55 +1,90 @@
 -- Lists that are read part by part.
-use Rattle.std.proofs.Common.{◌≡◌, ℕ, ◌≤◌, List, [], ◌∷◌, ◌++◌, map, length, refl, sym, ap, ◌∙◌, codes, arith, length-append}
+use Rattle.std.proofs.Common.{◌≡◌, ℕ, ◌≤◌, List, [], ◌∷◌, ◌++◌, map, length, refl, sym, ap, ◌∙◌}
+use Rattle.std.proofs.Common.{codes, arith, length-append}
 use Rattle.op_text.specs.declared.grammar.Wanted.{Wanted}
 use Rattle.op_text.specs.Spelling.{behind_commas, between_commas, in_turn}
 use Rattle.op_lang.specs.Reading.{Reading, breach, left}
 
-behind-more : {A : Type 0} (spell : A → List (List ℕ) → List (List ℕ)) (xs : List A) (x : A) (rest : List (List ℕ)) → behind_commas spell (xs ++ x ∷ []) rest ≡ behind_commas spell xs (codes "," ∷ spell x rest)
+behind-more : {A : Type 0} (spell : A → List (List ℕ)
+    → List (List ℕ)) (xs : List A) (x : A) (rest : List (List ℕ))
+    → behind_commas spell (xs ++ x ∷ []) rest ≡ behind_commas spell xs (codes "," ∷ spell x rest)
 behind-more spell [] x rest = refl
 behind-more spell (y ∷ xs) x rest = ap (λ l. codes "," ∷ spell y l) (behind-more spell xs x rest)
 
-between-more : {A : Type 0} (spell : A → List (List ℕ) → List (List ℕ)) (xs : List A) (x : A) (rest : List (List ℕ)) → 1 ≤ length xs → between_commas spell (xs ++ x ∷ []) rest ≡ between_commas spell xs (codes "," ∷ spell x rest)
+between-more : {A : Type 0} (spell : A → List (List ℕ)
+    → List (List ℕ)) (xs : List A) (x : A) (rest : List (List ℕ)) → 1 ≤ length xs
+    → between_commas spell (xs ++ x ∷ []) rest ≡ between_commas spell xs (codes "," ∷ spell x rest)
 between-more spell [] x rest h = absurd (omega arith)
 between-more spell (y ∷ xs) x rest h = ap (spell y) (behind-more spell xs x rest)
 
 -- Some parts are read, with commas between them.
-pub record HasParts {A : Type 0} (more : Wanted) (spell : A → List (List ℕ) → List (List ℕ)) (start : List (List ℕ)) (old : Reading) (xs : List A) (new : Reading) : Type 0 where
-  pub same : (wanted : List Wanted) → breach (more ∷ wanted) old ≡ breach (more ∷ wanted) new
-  pub spells : start ≡ between_commas spell xs (left new)
-  pub some : 1 ≤ length xs
+pub record HasParts {A : Type 0} (more : Wanted) (spell : A → List (List ℕ)
+    → List (List ℕ)) (start : List (List ℕ)) (old : Reading) (xs : List A) (new : Reading) : Type 0
+  where
+    pub same : (wanted : List Wanted) → breach (more ∷ wanted) old ≡ breach (more ∷ wanted) new
+    pub spells : start ≡ between_commas spell xs (left new)
+    pub some : 1 ≤ length xs
 
-pub first_part : {A : Type 0} (more : Wanted) (spell : A → List (List ℕ) → List (List ℕ)) (old : Reading) (xs : List A) (x : A) → xs ≡ x ∷ [] → HasParts more spell (spell x (left old)) old xs old
-first_part more spell old xs x e = rw e (record { same = λ wanted. refl; spells = refl; some = omega arith })
+pub first_part : {A : Type 0} (more : Wanted) (spell : A → List (List ℕ)
+    → List (List ℕ)) (old : Reading) (xs : List A) (x : A) → xs ≡ x ∷ []
+    → HasParts more spell (spell x (left old)) old xs old
+first_part more spell old xs x e = rw e (record {
+  same = λ wanted. refl;
+  spells = refl;
+  some = omega arith;
+})
 
-pub next_part : {A : Type 0} (more : Wanted) (spell : A → List (List ℕ) → List (List ℕ)) (start : List (List ℕ)) (old : Reading) (xs : List A) (mid : Reading) (ys : List A) (x : A) (new : Reading)
-    → HasParts more spell start old xs mid → ((wanted : List Wanted) → breach (more ∷ wanted) mid ≡ breach (more ∷ wanted) new) → left mid ≡ codes "," ∷ spell x (left new) → ys ≡ xs ++ x ∷ []
+pub next_part : {A : Type 0} (more : Wanted) (spell : A → List (List ℕ)
+    → List (List ℕ)) (start : List (List ℕ)) (old : Reading) (xs : List A) (mid : Reading)
+    (ys : List A) (x : A) (new : Reading)
+    → HasParts more spell start old xs mid → ((wanted : List Wanted)
+    → breach (more ∷ wanted) mid ≡ breach (more ∷ wanted) new)
+    → left mid ≡ codes "," ∷ spell x (left new) → ys ≡ xs ++ x ∷ []
     → HasParts more spell start old ys new
 next_part more spell start old xs mid ys x new h moves spells e = record {
   same = λ wanted. h.same wanted ∙ moves wanted;
-  spells = h.spells ∙ ap (between_commas spell xs) spells ∙ sym (between-more spell xs x (left new) h.some) ∙ ap (λ l. between_commas spell l (left new)) (sym e);
+  spells = h.spells ∙ ap (between_commas spell xs) spells
+      ∙ sym (between-more spell xs x (left new) h.some)
+      ∙ ap (λ l. between_commas spell l (left new)) (sym e);
   some = rw e (omega (arith, h.some, length-append xs (x ∷ [])));
 }
 
-turn-more : {A B : Type 0} (spell : A → List (List ℕ) → List (List ℕ)) (f : B → A) (xs : List B) (x : B) (rest : List (List ℕ)) → in_turn spell (map f (xs ++ x ∷ [])) rest ≡ in_turn spell (map f xs) (spell (f x) rest)
+turn-more : {A B : Type 0} (spell : A → List (List ℕ) → List (List ℕ)) (f : B
+    → A) (xs : List B) (x : B) (rest : List (List ℕ))
+    → in_turn spell (map f (xs ++ x ∷ [])) rest ≡ in_turn spell (map f xs) (spell (f x) rest)
 turn-more spell f [] x rest = refl
 turn-more spell f (y ∷ xs) x rest = ap (spell (f y)) (turn-more spell f xs x rest)
 
 -- Some parts are read, one after the other.
-pub record HasTurns {A B : Type 0} (front : List Wanted) (wanted : Wanted) (spell : A → List (List ℕ) → List (List ℕ)) (f : B → A) (start : List (List ℕ)) (old : Reading) (xs : List B) (new : Reading) : Type 0 where
+pub record HasTurns {A B : Type 0} (front : List Wanted) (wanted : Wanted) (spell : A
+    → List (List ℕ) → List (List ℕ)) (f : B → A) (start : List (List ℕ)) (old : Reading)
+    (xs : List B) (new : Reading) : Type 0 where
   pub same : (more : List Wanted) → breach (front ++ more) old ≡ breach (wanted ∷ more) new
   pub spells : start ≡ in_turn spell (map f xs) (left new)
 
-pub no_turn : {A B : Type 0} (wanted : Wanted) (spell : A → List (List ℕ) → List (List ℕ)) (f : B → A) (old : Reading) (xs : List B) → xs ≡ [] → HasTurns (wanted ∷ []) wanted spell f (left old) old xs old
+pub no_turn : {A B : Type 0} (wanted : Wanted) (spell : A → List (List ℕ) → List (List ℕ)) (f : B
+    → A) (old : Reading) (xs : List B) → xs ≡ []
+    → HasTurns (wanted ∷ []) wanted spell f (left old) old xs old
 no_turn wanted spell f old xs e = rw e (record { same = λ more. refl; spells = refl })
 
-pub first_turn : {A B : Type 0} (front : List Wanted) (wanted : Wanted) (spell : A → List (List ℕ) → List (List ℕ)) (f : B → A) (start : List (List ℕ)) (old : Reading) (xs : List B) (x : B) (new : Reading)
-    → ((more : List Wanted) → breach (front ++ more) old ≡ breach (wanted ∷ more) new) → start ≡ spell (f x) (left new) → xs ≡ x ∷ [] → HasTurns front wanted spell f start old xs new
-first_turn front wanted spell f start old xs x new moves spells e = rw e (record { same = moves; spells = spells })
+pub first_turn : {A B : Type 0} (front : List Wanted) (wanted : Wanted) (spell : A → List (List ℕ)
+    → List (List ℕ)) (f : B → A) (start : List (List ℕ)) (old : Reading) (xs : List B) (x : B)
+    (new : Reading)
+    → ((more : List Wanted) → breach (front ++ more) old ≡ breach (wanted ∷ more) new)
+    → start ≡ spell (f x) (left new) → xs ≡ x ∷ []
+    → HasTurns front wanted spell f start old xs new
+first_turn front wanted spell f start old xs x new moves spells e =
+    rw e (record { same = moves; spells = spells })
 
-pub next_turn : {A B : Type 0} (front : List Wanted) (wanted next : Wanted) (spell : A → List (List ℕ) → List (List ℕ)) (f : B → A) (start : List (List ℕ)) (old : Reading) (xs : List B) (mid : Reading) (ys : List B) (x : B) (new : Reading)
-    → HasTurns front wanted spell f start old xs mid → ((more : List Wanted) → breach (wanted ∷ more) mid ≡ breach (next ∷ more) new) → left mid ≡ spell (f x) (left new) → ys ≡ xs ++ x ∷ []
+pub next_turn : {A B : Type 0} (front : List Wanted) (wanted next : Wanted) (spell : A
+    → List (List ℕ) → List (List ℕ)) (f : B → A) (start : List (List ℕ)) (old : Reading)
+    (xs : List B) (mid : Reading) (ys : List B) (x : B) (new : Reading)
+    → HasTurns front wanted spell f start old xs mid
+    → ((more : List Wanted) → breach (wanted ∷ more) mid ≡ breach (next ∷ more) new)
+    → left mid ≡ spell (f x) (left new) → ys ≡ xs ++ x ∷ []
     → HasTurns front next spell f start old ys new
 next_turn front wanted next spell f start old xs mid ys x new h moves spells e = record {
   same = λ more. h.same more ∙ moves more;
-  spells = h.spells ∙ ap (in_turn spell (map f xs)) spells ∙ sym (turn-more spell f xs x (left new)) ∙ ap (λ l. in_turn spell (map f l) (left new)) (sym e);
+  spells = h.spells ∙ ap (in_turn spell (map f xs)) spells ∙ sym (turn-more spell f xs x (left new))
+      ∙ ap (λ l. in_turn spell (map f l) (left new)) (sym e);
 }

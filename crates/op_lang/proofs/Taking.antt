@@ -1,5 +1,6 @@
 -- A token is taken.
-use Rattle.std.proofs.Common.{◌≡◌, ℕ, Bool, true, false, List, [], ◌∷◌, ◌++◌, Option, Some, Result, Ok, Err, refl, sym, ap, ◌∙◌, subst}
+use Rattle.std.proofs.Common.{◌≡◌, ℕ, Bool, true, false, List, [], ◌∷◌, ◌++◌, Option, Some, Result}
+use Rattle.std.proofs.Common.{Ok, Err, refl, sym, ap, ◌∙◌, subst}
 use Rattle.std.specs.Result.{IsErrAnd, IfErr, IfOk}
 use Rattle.std.proofs.lemmas.Result.{err_from_is_err_and}
 use Rattle.text_lex.specs.Lexical.{Item, Whole, Bad, lexeme_of}
@@ -23,7 +24,9 @@ use Rattle.op_lang.specs.Reading.{Reading, breach, Fails, Moves, MovesTo, Took, 
 use Rattle.op_lang.specs.Judging.{IsFine, IsWrong, JudgesToken}
 
 -- where there is no token
-pub due_end : (want : Wanted) (s : Scope) (items : List Item) (b : Breach) → is_due want (record { scope = s; items = items }) ≡ true → no_token items ≡ Some b → (more : List Wanted) → breach_of (want ∷ more) s items ≡ Some b
+pub due_end : (want : Wanted) (s : Scope) (items : List Item) (b : Breach)
+    → is_due want (record { scope = s; items = items }) ≡ true → no_token items ≡ Some b
+    → (more : List Wanted) → breach_of (want ∷ more) s items ≡ Some b
 unfolding breach_of
 due_end w.Ops s [] b h e more = cc
 due_end _ s [] b h e more = e
@@ -33,18 +36,25 @@ due_end want s (Whole u ∷ items) b h e more = cc
 same_breach : (b : Breach) (n : ℕ) → b.at ≡ Some n → record { at = Some n; kind = b.kind } ≡ b
 same_breach b n e = rw (← e) refl
 
-pub wrong_fails : (want : Wanted) (s : Scope) (old : List Item) (token : Token) (new : List Item) (o : Bool) (b : Breach) → old ≡ Whole (lexeme_of token) ∷ new → o ≡ opens new
+pub wrong_fails : (want : Wanted) (s : Scope) (old : List Item) (token : Token) (new : List Item)
+    (o : Bool) (b : Breach) → old ≡ Whole (lexeme_of token) ∷ new → o ≡ opens new
     → IsWrong want s token o b → (more : List Wanted) → breach_of (want ∷ more) s old ≡ Some b
 wrong_fails want s old token new o b e f h more =
-    refused want s old (lexeme_of token) new b.kind e (rw (← f) h.breaks) more ∙ ap Some (same_breach b token.start h.place)
+    refused want s old (lexeme_of token) new b.kind e (rw (← f) h.breaks) more
+    ∙ ap Some (same_breach b token.start h.place)
 
-pub refused_fails : (want : Wanted) (s : Scope) (old : List Item) (token : Token) (new : List Item) (o : Bool) (e : ReadNo) (s' : Scope) → old ≡ Whole (lexeme_of token) ∷ new → o ≡ opens new
-    → JudgesToken want s token o (Err e) s' → (more : List Wanted) → Fails (breach_of (want ∷ more) s old) e
+pub refused_fails : (want : Wanted) (s : Scope) (old : List Item) (token : Token) (new : List Item)
+    (o : Bool) (e : ReadNo) (s' : Scope) → old ≡ Whole (lexeme_of token) ∷ new → o ≡ opens new
+    → JudgesToken want s token o (Err e) s' → (more : List Wanted)
+    → Fails (breach_of (want ∷ more) s old) e
 refused_fails want s old token new o no.Memory s' e f h more = tt
-refused_fails want s old token new o (no.Breach b) s' e f h more = wrong_fails want s old token new o b e f h more
+refused_fails want s old token new o (no.Breach b) s' e f h more =
+    wrong_fails want s old token new o b e f h more
 
-pub fine_took : (want : Wanted) (s : Scope) (old : List Item) (token : Token) (new : List Item) (o : Bool) (u : Terminal) (s' : Scope) → old ≡ Whole (lexeme_of token) ∷ new → o ≡ opens new
-    → IsFine want s token o u s' → Took want (record { scope = s; items = old }) token.text.now u (record { scope = s'; items = new })
+pub fine_took : (want : Wanted) (s : Scope) (old : List Item) (token : Token) (new : List Item)
+    (o : Bool) (u : Terminal) (s' : Scope) → old ≡ Whole (lexeme_of token) ∷ new → o ≡ opens new
+    → IsFine want s token o u s' → Took want (record { scope = s; items = old }) token.text.now u
+    (record { scope = s'; items = new })
 fine_took want s old token new o u s' e f h = record {
   kind = token.kind;
   start = token.start;
@@ -63,7 +73,8 @@ is_judged t.Semi = true
 is_judged t.Finishes = true
 is_judged u = false
 
-pub no_rules : (want : Wanted) (s : Scope) (u : Terminal) (text : List ℕ) (o : Bool) → is_judged u ≡ false → rules_at want s u text o ≡ Ok s
+pub no_rules : (want : Wanted) (s : Scope) (u : Terminal) (text : List ℕ) (o : Bool)
+    → is_judged u ≡ false → rules_at want s u text o ≡ Ok s
 no_rules w.Ops s t.Zero text o h = refl
 no_rules w.NewOp s t.Zero text o h = refl
 no_rules w.NewParam s t.Zero text o h = refl
@@ -104,33 +115,44 @@ no_rules _ s t.Finishes text o h = cc
 no_rules _ s _ text o h = refl
 
 -- what comes behind a token that was taken
-pub took_moves : (want : Wanted) (old : Reading) (text : List ℕ) (u : Terminal) (new : Reading) → Took want old text u new → (front : List Wanted) → follow want u (opens new.items) ≡ Some front
+pub took_moves : (want : Wanted) (old : Reading) (text : List ℕ) (u : Terminal) (new : Reading)
+    → Took want old text u new → (front : List Wanted)
+    → follow want u (opens new.items) ≡ Some front
     → (more : List Wanted) → breach (want ∷ more) old ≡ breach (front ++ more) new
 took_moves want old text u new h front e more =
-    moved want old.scope old.items (record { kind = h.kind; text = text; start = h.start }) new.items front new.scope h.items (rw (h.is, e, h.rules) refl) more
+    moved want old.scope old.items (record { kind = h.kind; text = text; start = h.start })
+    new.items front new.scope h.items (rw (h.is, e, h.rules) refl) more
 
-pub took_left : (want : Wanted) (old : Reading) (text : List ℕ) (u : Terminal) (new : Reading) → Took want old text u new → left old ≡ text ∷ left new
+pub took_left : (want : Wanted) (old : Reading) (text : List ℕ) (u : Terminal) (new : Reading)
+    → Took want old text u new → left old ≡ text ∷ left new
 took_left want old text u new h = ap texts h.items
 
 pub fails_along : {a b : Option Breach} (e : ReadNo) → a ≡ b → Fails b e → Fails a e
 fails_along e h f = let P : Option Breach → Type 0 = λ x. Fails x e in subst P (sym h) f
 
 -- The exit of a `?`.
-pub exits : {A : Type 0} (front : List Wanted) (old : Reading) (e : ReadNo) (r : Result A ReadNo) (behind : A → List Wanted) (new : Reading)
-    → IsErrAnd r (λ x. x ≡ e) → ((more : List Wanted) → Fails (breach (front ++ more) old) e) → MovesTo front old r behind new
+pub exits : {A : Type 0} (front : List Wanted) (old : Reading) (e : ReadNo) (r : Result A ReadNo)
+    (behind : A → List Wanted) (new : Reading)
+    → IsErrAnd r (λ x. x ≡ e) → ((more : List Wanted) → Fails (breach (front ++ more) old) e)
+    → MovesTo front old r behind new
 exits front old e r behind new is h =
     let p = err_from_is_err_and r is in
     rw (p.1, p.2) h
 
-pub take_exits : (want : Wanted) (old : Reading) (e : ReadNo) (r : Result Taken ReadNo) (new : Reading)
-    → IsErrAnd r (λ x. x ≡ e) → ((more : List Wanted) → Fails (breach (want ∷ more) old) e) → Takes want old r new
+pub take_exits : (want : Wanted) (old : Reading) (e : ReadNo) (r : Result Taken ReadNo)
+    (new : Reading)
+    → IsErrAnd r (λ x. x ≡ e) → ((more : List Wanted) → Fails (breach (want ∷ more) old) e)
+    → Takes want old r new
 take_exits want old e r new is h =
     let p = err_from_is_err_and r is in
     rw (p.1, p.2) h
 
 -- where only memory can be lacking
-pub then_memory : {A : Type 0} (front : List Wanted) (old : Reading) (r : Result A ReadNo) (behind : A → List Wanted) (new : Reading)
-    → IfErr r (λ e. e ≡ no.Memory) → ((x : A) (more : List Wanted) → breach (front ++ more) old ≡ breach (behind x ++ more) new) → MovesTo front old r behind new
+pub then_memory : {A : Type 0} (front : List Wanted) (old : Reading) (r : Result A ReadNo)
+    (behind : A → List Wanted) (new : Reading)
+    → IfErr r (λ e. e ≡ no.Memory) → ((x : A) (more : List Wanted)
+    → breach (front ++ more) old ≡ breach (behind x ++ more) new)
+    → MovesTo front old r behind new
 then_memory front old (Ok x) behind new h k = k x
 then_memory front old (Err e) behind new h k = λ more. rw h tt
 
@@ -138,11 +160,15 @@ pub fails_memory : (found : Option Breach) (e : ReadNo) → e ≡ no.Memory → 
 fails_memory found e h = rw h tt
 
 -- The rest is read behind what is read already.
-pub continues : {A : Type 0} (front mid back : List Wanted) (old there : Reading) (r : Result A ReadNo) (new : Reading)
-    → ((more : List Wanted) → breach (front ++ more) old ≡ breach (mid ++ (back ++ more)) there) → Moves mid there r new → MovesTo front old r (λ x. back) new
+pub continues : {A : Type 0} (front mid back : List Wanted) (old there : Reading)
+    (r : Result A ReadNo) (new : Reading)
+    → ((more : List Wanted) → breach (front ++ more) old ≡ breach (mid ++ (back ++ more)) there)
+    → Moves mid there r new → MovesTo front old r (λ x. back) new
 continues front mid back old there (Ok x) new h k = λ more. h more ∙ k (back ++ more)
-continues front mid back old there (Err e) new h k = λ more. fails_along e (h more) (k (back ++ more))
+continues front mid back old there (Err e) new h k =
+    λ more. fails_along e (h more) (k (back ++ more))
 
-pub spells_by : (r : Result Expr ReadNo) (t : Term) (x rest : List (List ℕ)) → IfOk r (λ e. term e ≡ t) → x ≡ term_text t rest → IfOk r (λ e. x ≡ term_text (term e) rest)
+pub spells_by : (r : Result Expr ReadNo) (t : Term) (x rest : List (List ℕ))
+    → IfOk r (λ e. term e ≡ t) → x ≡ term_text t rest → IfOk r (λ e. x ≡ term_text (term e) rest)
 spells_by (Ok e) t x rest h k = rw h k
 spells_by (Err e) t x rest h k = tt

@@ -5,7 +5,8 @@ use Rattle.op_text.specs.declared.tree.Kind.TheVariants.{Word, Bit}
 use Rattle.op_text.specs.declared.tree.Param.{Param}
 use Rattle.op_text.specs.Language.{Statement, Operation}
 use Rattle.op_text.specs.WordOps.{same_kind}
-use Rattle.op_text.specs.Scratch.{body_defines, need_inside, bits_inside, words_inside, scratch_bits, scratch_words}
+use Rattle.op_text.specs.Scratch.{body_defines, need_inside, bits_inside, words_inside}
+use Rattle.op_text.specs.Scratch.{scratch_bits, scratch_words}
 
 -- the names that can be read behind these statements
 abbrev pub known_after : List Param → List Statement → List Param

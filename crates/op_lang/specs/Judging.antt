@@ -12,15 +12,18 @@ use Rattle.op_lang.specs.declared.fault.ReadNo.TheVariants as no
 use Rattle.op_lang.specs.Reading.{is_allowed}
 
 -- a token that breaks no rule, whose terminal is the answer
-pub record IsFine (wanted : Wanted) (old : Scope) (token : Token) (opened : Bool) (terminal : Terminal) (new : Scope) : Type 0 where
+pub record IsFine (wanted : Wanted) (old : Scope) (token : Token) (opened : Bool)
+    (terminal : Terminal) (new : Scope) : Type 0 where
   pub is : terminal_of token.kind token.text.now ≡ terminal
   pub allowed : is_allowed (follow wanted terminal opened) ≡ true
   pub rules : rules_at wanted old terminal token.text.now opened ≡ Ok new
 
 -- a token that breaks a rule
-pub record IsWrong (wanted : Wanted) (old : Scope) (token : Token) (opened : Bool) (b : Breach) : Type 0 where
+pub record IsWrong (wanted : Wanted) (old : Scope) (token : Token) (opened : Bool)
+    (b : Breach) : Type 0 where
   pub place : b.at ≡ Some token.start
-  pub breaks : step wanted old (terminal_of token.kind token.text.now) token.text.now opened ≡ Err b.kind
+  pub breaks : step wanted old (terminal_of token.kind token.text.now) token.text.now opened
+      ≡ Err b.kind
 
 abbrev pub JudgesToken : Wanted → Scope → Token → Bool → Result Terminal ReadNo → Scope → Type 0
 JudgesToken wanted old token opened (Ok u) new = IsFine wanted old token opened u new

@@ -15,12 +15,15 @@ use Rattle.op_lang.specs.Reading.{Reading, breach, Fails, left}
 
 -- all ops of a text
 abbrev pub ReadsOps : {V : Type 0} → (V → List Op) → Reading → Result V ReadNo → Type 0
-ReadsOps list old (Ok all) = (breach (w.Ops ∷ []) old ≡ None) × (left old ≡ operations_text (map operation (list all)))
+ReadsOps list old (Ok all) = (breach (w.Ops ∷ []) old ≡ None)
+    × (left old ≡ operations_text (map operation (list all)))
 ReadsOps list old (Err e) = Fails (breach (w.Ops ∷ []) old) e
 
--- What a text is parsed as: the ops that its tokens spell, where none breaks a rule; or the line and the
+-- What a text is parsed as: the ops that its tokens spell, where none breaks a rule; or the line
+-- and the
 -- kind of the first that does; or want of memory.
 abbrev pub Parses : List ℕ → Result Ops OpsNo → Type 0
-Parses text (Ok all) = (fault_in text ≡ None) × (texts (items_of text) ≡ operations_text (operations all))
+Parses text (Ok all) = (fault_in text ≡ None)
+    × (texts (items_of text) ≡ operations_text (operations all))
 Parses text (Err (no.Fault f)) = fault_in text ≡ Some f
 Parses text (Err no.NoMemory) = Unit {0}

@@ -1,5 +1,6 @@
 -- Single tokens: what each is spelled by and what comes behind it.
-use Rattle.std.specs.Prelude.{◌≡◌, ℕ, ◌-◌, Bool, true, false, List, [], ◌∷◌, Option, Some, None, codes}
+use Rattle.std.specs.Prelude.{◌≡◌, ℕ, ◌-◌, Bool, true, false, List, [], ◌∷◌, Option, Some, None}
+use Rattle.std.specs.Prelude.{codes}
 use Rattle.op_text.specs.declared.grammar.Wanted.{Wanted}
 use Rattle.op_text.specs.declared.grammar.Wanted.TheVariants as w
 use Rattle.op_text.specs.declared.terminal.Terminal.{Terminal}
@@ -140,7 +141,8 @@ is_comma u = false
 
 -- behind the first token of a statement
 abbrev pub behind_start : Start → List Wanted
-behind_start (start.Word name) = w.Equals ∷ w.WordOpName ∷ w.Open ∷ w.Args ∷ w.WordEnd ∷ w.Stmts ∷ []
+behind_start (start.Word name) = w.Equals ∷ w.WordOpName ∷ w.Open ∷ w.Args ∷ w.WordEnd ∷ w.Stmts
+    ∷ []
 behind_start start.Serial = w.Direction ∷ w.Open ∷ w.States ∷ w.Begin ∷ w.Lets ∷ w.Stmts ∷ []
 behind_start start.End = []
 

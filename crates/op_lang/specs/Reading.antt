@@ -1,5 +1,6 @@
 -- What a function that reads tokens answers.
-use Rattle.std.specs.Prelude.{◌≡◌, ℕ, Bool, true, false, ◌&&◌, not, List, [], ◌∷◌, ◌++◌, Option, Some, None, Result, Ok, Err}
+use Rattle.std.specs.Prelude.{◌≡◌, ℕ, Bool, true, false, ◌&&◌, not, List, [], ◌∷◌, ◌++◌, Option}
+use Rattle.std.specs.Prelude.{Some, None, Result, Ok, Err}
 use Rattle.text_lex.specs.declared.token.TokenKind.{TokenKind}
 use Rattle.text_lex.specs.Lexical.{Item, Whole}
 use Rattle.op_text.specs.declared.fault.Breach.{Breach}
@@ -27,11 +28,15 @@ abbrev pub Fails : Option Breach → ReadNo → Type 0
 Fails found no.Memory = Unit {0}
 Fails found (no.Breach b) = found ≡ Some b
 
--- Where front is wanted first, and whatever is wanted behind it, what was left is as good as what is
+-- Where front is wanted first, and whatever is wanted behind it, what was left is as good as what
+-- is
 -- left where behind x is wanted first; or one of the tokens breaks a rule, which is the answer.
-abbrev pub MovesTo : {A : Type 0} → List Wanted → Reading → Result A ReadNo → (A → List Wanted) → Reading → Type 0
-MovesTo front old (Ok x) behind new = (wanted : List Wanted) → breach (front ++ wanted) old ≡ breach (behind x ++ wanted) new
-MovesTo front old (Err e) behind new = (wanted : List Wanted) → Fails (breach (front ++ wanted) old) e
+abbrev pub MovesTo : {A : Type 0} → List Wanted → Reading → Result A ReadNo → (A → List Wanted)
+    → Reading → Type 0
+MovesTo front old (Ok x) behind new = (wanted : List Wanted)
+    → breach (front ++ wanted) old ≡ breach (behind x ++ wanted) new
+MovesTo front old (Err e) behind new = (wanted : List Wanted)
+    → Fails (breach (front ++ wanted) old) e
 
 -- the same where all of front is read
 abbrev pub Moves : {A : Type 0} → List Wanted → Reading → Result A ReadNo → Reading → Type 0
@@ -42,7 +47,8 @@ is_allowed (Some front) = true
 is_allowed None = false
 
 -- A token was taken where this is wanted, and breaks no rule.
-pub record Took (wanted : Wanted) (old : Reading) (text : List ℕ) (terminal : Terminal) (new : Reading) : Type 0 where
+pub record Took (wanted : Wanted) (old : Reading) (text : List ℕ) (terminal : Terminal)
+    (new : Reading) : Type 0 where
   pub kind : TokenKind
   pub start : ℕ
   pub items : old.items ≡ Whole (record { kind = kind; text = text; start = start }) ∷ new.items

@@ -10,19 +10,39 @@ use Rattle.op_lang.specs.declared.fault.Refused.{Refused}
 use Rattle.op_lang.specs.declared.fault.Refused.TheVariants as refused
 
 abbrev pub seen_op : code_op.InOp → InOp
-seen_op k = record { stands = k.stands.items; defined = k.defined.items; result = k.result; assigned = k.assigned; statements = k.statements }
+seen_op k = record {
+  stands = k.stands.items;
+  defined = k.defined.items;
+  result = k.result;
+  assigned = k.assigned;
+  statements = k.statements;
+}
 
 abbrev pub seen_word : code_word.InWord → InWord
 seen_word k = record { operation = k.operation; given = k.given.items }
 
 abbrev pub seen_block : code_block.InBlock → InBlock
 seen_block k =
-    record { states = k.states.items; readable = k.readable.items; lets = k.lets; targets = k.targets.items; weight = k.weight; missing = reverse k.missing.items }
+    record {
+      states = k.states.items;
+      readable = k.readable.items;
+      lets = k.lets;
+      targets = k.targets.items;
+      weight = k.weight;
+      missing = reverse k.missing.items;
+    }
 
 abbrev pub seen : code.Scope → Scope
-seen k = record { ops = k.ops.items; op = seen_op k.op; word = seen_word k.word; block = seen_block k.block; naming = k.naming }
+seen k = record {
+  ops = k.ops.items;
+  op = seen_op k.op;
+  word = seen_word k.word;
+  block = seen_block k.block;
+  naming = k.naming;
+}
 
--- A function that judges a token by these rules: it goes on to the new scope, or tells the rule that breaks.
+-- A function that judges a token by these rules: it goes on to the new scope, or tells the rule
+-- that breaks.
 abbrev pub Judges : {A : Type 0} → Result Scope OpsKind → Result A Refused → Scope → Type 0
 Judges rules (Ok x) new = rules ≡ Ok new
 Judges rules (Err (refused.Rule kind)) new = rules ≡ Err kind

@@ -12,7 +12,8 @@ use op_text::{Kind, OpsKind, Param, Spelling};
 
 /// The word `op`.
 pub(crate) fn another_op(scope: &mut Scope) -> Result<(), Refused>
-    ensures { Judges (rules.unless (nat_le rules.MAX_OPS (length (seen scope.old).ops)) TooMany (Ok (seen scope.old))) result (seen scope.new) }
+    ensures { Judges (rules.unless (nat_le rules.MAX_OPS (length (seen scope.old).ops)) TooMany
+        (Ok (seen scope.old))) result (seen scope.new) }
 {
     if scope.ops.len() >= 32 {
         return Err(Refused::Rule(OpsKind::TooMany));
@@ -40,7 +41,8 @@ pub(crate) fn op_name(scope: &mut Scope, spelling: Spelling, text: &[u8]) -> Res
 }
 
 pub(crate) fn source_name(scope: &mut Scope, spelling: Spelling, text: &[u8]) -> Result<(), Refused>
-    ensures { Judges (rules.source_rules (seen scope.old) spelling text.now) result (seen scope.new) }
+    ensures { Judges (rules.source_rules (seen scope.old) spelling text.now) result (seen scope.new)
+        }
 {
     let Some(name) = good_name(spelling, text) else {
         return Err(Refused::Rule(OpsKind::BadName));
@@ -72,7 +74,8 @@ pub(crate) fn source_kind(scope: &mut Scope, kind: Kind) -> Result<(), Refused>
 
 /// The name of a result, or of a let.
 pub(crate) fn new_name(scope: &mut Scope, spelling: Spelling, text: &[u8]) -> Result<(), Refused>
-    ensures { Judges (rules.naming_rules (seen scope.old) spelling text.now) result (seen scope.new) }
+    ensures { Judges (rules.naming_rules (seen scope.old) spelling text.now) result (seen scope.new)
+        }
 {
     let Some(name) = good_name(spelling, text) else {
         return Err(Refused::Rule(OpsKind::BadName));
@@ -103,7 +106,8 @@ pub(crate) fn result_kind(scope: &mut Scope, kind: Kind) -> Result<(), Refused>
 
 /// The `}` of an op.
 pub(crate) fn op_end(scope: &mut Scope) -> Result<(), Refused>
-    ensures { Judges (rules.unless (not (seen scope.old).op.assigned) NoResult (Ok (record (seen scope.old) { op = rules.new_op }))) result (seen scope.new) }
+    ensures { Judges (rules.unless (not (seen scope.old).op.assigned) NoResult
+        (Ok (record (seen scope.old) { op = rules.new_op }))) result (seen scope.new) }
 {
     if !scope.op.assigned {
         return Err(Refused::Rule(OpsKind::NoResult));

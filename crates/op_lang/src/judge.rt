@@ -98,7 +98,8 @@ fn judge_name(
     text: &[u8],
     opened: bool,
 ) -> Result<(), Refused>
-    ensures { Judges (rules_at wanted (seen scope.old) (t.Name spelling) text.now opened) result (seen scope.new) }
+    ensures { Judges (rules_at wanted (seen scope.old) (t.Name spelling) text.now opened) result
+        (seen scope.new) }
 {
     match wanted {
         Wanted::Ops => another_op(scope),
@@ -123,7 +124,8 @@ fn judge_name(
 }
 
 fn judge_close(scope: &mut Scope, wanted: Wanted) -> Result<(), Refused>
-    ensures { (text : List ℕ) (o : Bool) → Judges (rules_at wanted (seen scope.old) t.Closes text o) result (seen scope.new) }
+    ensures { (text : List ℕ) (o : Bool) → Judges (rules_at wanted (seen scope.old) t.Closes text o)
+        result (seen scope.new) }
 {
     match wanted {
         Wanted::Args => no_more_arguments(scope),
@@ -134,7 +136,8 @@ fn judge_close(scope: &mut Scope, wanted: Wanted) -> Result<(), Refused>
 }
 
 fn judge_comma(scope: &mut Scope, wanted: Wanted) -> Result<(), Refused>
-    ensures { (text : List ℕ) (o : Bool) → Judges (rules_at wanted (seen scope.old) t.Comma text o) result (seen scope.new) }
+    ensures { (text : List ℕ) (o : Bool) → Judges (rules_at wanted (seen scope.old) t.Comma text o)
+        result (seen scope.new) }
 {
     match wanted {
         Wanted::MoreArgs => another_argument(scope),
@@ -144,7 +147,8 @@ fn judge_comma(scope: &mut Scope, wanted: Wanted) -> Result<(), Refused>
 }
 
 fn judge_semi(scope: &mut Scope, wanted: Wanted) -> Result<(), Refused>
-    ensures { (text : List ℕ) (o : Bool) → Judges (rules_at wanted (seen scope.old) t.Semi text o) result (seen scope.new) }
+    ensures { (text : List ℕ) (o : Bool) → Judges (rules_at wanted (seen scope.old) t.Semi text o)
+        result (seen scope.new) }
 {
     match wanted {
         Wanted::WordEnd => word_end(scope),
@@ -154,7 +158,8 @@ fn judge_semi(scope: &mut Scope, wanted: Wanted) -> Result<(), Refused>
 }
 
 fn judge_finish(scope: &mut Scope, wanted: Wanted) -> Result<(), Refused>
-    ensures { (text : List ℕ) (o : Bool) → Judges (rules_at wanted (seen scope.old) t.Finishes text o) result (seen scope.new) }
+    ensures { (text : List ℕ) (o : Bool)
+        → Judges (rules_at wanted (seen scope.old) t.Finishes text o) result (seen scope.new) }
 {
     match wanted {
         Wanted::Stmts => op_end(scope),
@@ -171,7 +176,8 @@ pub(crate) fn judge(
     text: &[u8],
     opened: bool,
 ) -> Result<(), Refused>
-    ensures { Judges (rules_at wanted (seen scope.old) terminal text.now opened) result (seen scope.new) }
+    ensures { Judges (rules_at wanted (seen scope.old) terminal text.now opened) result
+        (seen scope.new) }
 {
     match terminal {
         Terminal::Name(spelling) => judge_name(scope, wanted, spelling, text, opened),

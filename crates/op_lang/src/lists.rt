@@ -37,7 +37,8 @@ fn sources_behind(
     alloc: Global,
 ) -> Result<Vec<Param>, ReadNo>
     ensures moves { Moves (w.Params ∷ []) parser.old result parser.new }
-    ensures spells { IfOk result (λ v. param_text first (left parser.old) ≡ between_commas param_text v.items (codes ")" ∷ left parser.new)) }
+    ensures spells { IfOk result (λ v. param_text first (left parser.old)
+        ≡ between_commas param_text v.items (codes ")" ∷ left parser.new)) }
 {
     let mut params = Vec::new(alloc);
     params.push(first)?;
@@ -50,8 +51,10 @@ fn sources_behind(
 
 /// The sources of an op, with the parenthesis behind them.
 pub(crate) fn sources(parser: &mut Parser<'_>, alloc: Global) -> Result<Vec<Param>, ReadNo>
-    ensures moves { Moves (w.NewParam ∷ w.Colon ∷ w.ParamKind ∷ w.Params ∷ []) parser.old result parser.new }
-    ensures spells { IfOk result (λ v. left parser.old ≡ between_commas param_text v.items (codes ")" ∷ left parser.new)) }
+    ensures moves { Moves (w.NewParam ∷ w.Colon ∷ w.ParamKind ∷ w.Params ∷ []) parser.old result
+        parser.new }
+    ensures spells { IfOk result (λ v. left parser.old
+        ≡ between_commas param_text v.items (codes ")" ∷ left parser.new)) }
 {
     let first = param(parser, Wanted::NewParam, Wanted::ParamKind)?;
     sources_behind(parser, first, alloc)
@@ -64,7 +67,8 @@ fn arguments_behind(
     alloc: Global,
 ) -> Result<Vec<Name>, ReadNo>
     ensures moves { Moves (w.MoreArgs ∷ []) parser.old result parser.new }
-    ensures spells { IfOk result (λ v. name_text first (left parser.old) ≡ between_commas name_text v.items (codes ")" ∷ left parser.new)) }
+    ensures spells { IfOk result (λ v. name_text first (left parser.old)
+        ≡ between_commas name_text v.items (codes ")" ∷ left parser.new)) }
 {
     let mut names = Vec::new(alloc);
     names.push(first)?;
@@ -78,7 +82,8 @@ fn arguments_behind(
 /// The arguments of a word statement, with the parenthesis behind them.
 pub(crate) fn arguments(parser: &mut Parser<'_>, alloc: Global) -> Result<Vec<Name>, ReadNo>
     ensures moves { Moves (w.Args ∷ []) parser.old result parser.new }
-    ensures spells { IfOk result (λ v. left parser.old ≡ between_commas name_text v.items (codes ")" ∷ left parser.new)) }
+    ensures spells { IfOk result (λ v. left parser.old
+        ≡ between_commas name_text v.items (codes ")" ∷ left parser.new)) }
 {
     match name_or_end(parser, Wanted::Args)? {
         None => Ok(Vec::new(alloc)),
@@ -99,7 +104,8 @@ fn state(parser: &mut Parser<'_>, name: Name) -> Result<State, ReadNo>
 /// The states behind the first, with the parenthesis behind them.
 fn states_behind(parser: &mut Parser<'_>, first: State, alloc: Global) -> Result<Vec<State>, ReadNo>
     ensures moves { Moves (w.MoreStates ∷ []) parser.old result parser.new }
-    ensures spells { IfOk result (λ v. state_text first (left parser.old) ≡ between_commas state_text v.items (codes ")" ∷ left parser.new)) }
+    ensures spells { IfOk result (λ v. state_text first (left parser.old)
+        ≡ between_commas state_text v.items (codes ")" ∷ left parser.new)) }
 {
     let mut states = Vec::new(alloc);
     states.push(first)?;
@@ -114,7 +120,8 @@ fn states_behind(parser: &mut Parser<'_>, first: State, alloc: Global) -> Result
 /// The states of a block, with the parenthesis behind them.
 pub(crate) fn states(parser: &mut Parser<'_>, alloc: Global) -> Result<Vec<State>, ReadNo>
     ensures moves { Moves (w.States ∷ []) parser.old result parser.new }
-    ensures spells { IfOk result (λ v. left parser.old ≡ between_commas state_text v.items (codes ")" ∷ left parser.new)) }
+    ensures spells { IfOk result (λ v. left parser.old
+        ≡ between_commas state_text v.items (codes ")" ∷ left parser.new)) }
 {
     match name_or_end(parser, Wanted::States)? {
         None => Ok(Vec::new(alloc)),

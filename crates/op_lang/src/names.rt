@@ -1,8 +1,10 @@
 //! Names in lists.
 
-ghost use Rattle.std.specs.Prelude.{◌≡◌, ◌++◌, [], ◌∷◌, map, filter, not, true, Some, None, IfSome, if◌then◌else◌};
+ghost use Rattle.std.specs.Prelude.{◌≡◌, ◌++◌, [], ◌∷◌, map, filter, not, true, Some, None, IfSome};
+ghost use Rattle.std.specs.Prelude.{if◌then◌else◌};
 ghost use Rattle.std.specs.List.{list_any};
-ghost use Rattle.op_text.specs.Rules.{is_among, is_bad, is_called, is_of_kind, kind_among, kind_of_word};
+ghost use Rattle.op_text.specs.Rules.{is_among, is_bad, is_called, is_of_kind, kind_among};
+ghost use Rattle.op_text.specs.Rules.{kind_of_word};
 ghost use Rattle.op_text.specs.WordOps.{same_kind};
 
 use op_text::{Kind, Param, Spelling};
@@ -108,7 +110,8 @@ pub(crate) fn keep(names: &mut Vec<Name>, name: Name) -> bool
 
 /// Adds a name that can be read, if there is memory.
 pub(crate) fn define(defined: &mut Vec<Param>, name: Name, kind: Kind) -> bool
-    ensures { result ≡ true → defined.new.items ≡ defined.old.items ++ record { name = name; kind = kind } ∷ [] }
+    ensures { result ≡ true → defined.new.items ≡ defined.old.items
+        ++ record { name = name; kind = kind } ∷ [] }
 {
     match defined.push(Param { name, kind }) {
         Ok(()) => true,
@@ -130,7 +133,8 @@ pub(crate) fn keep_all(names: &mut Vec<Name>, more: &[Name]) -> bool
 
 /// Adds names that can be read, if there is memory.
 pub(crate) fn define_all(defined: &mut Vec<Param>, names: &[Name], kind: Kind) -> bool
-    ensures { result ≡ true → defined.new.items ≡ defined.old.items ++ map (λ n. record { name = n; kind = kind }) names.now }
+    ensures { result ≡ true → defined.new.items ≡ defined.old.items
+        ++ map (λ n. record { name = n; kind = kind }) names.now }
 {
     for name in names {
         if !define(defined, name.copied(), kind) {

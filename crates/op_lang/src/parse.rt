@@ -1,6 +1,7 @@
 //! Texts of ops.
 
-ghost use Rattle.std.specs.Prelude.{◌≡◌, ◌<◌, ◌≤◌, ◌^◌, ◌==◌, List, [], ◌∷◌, IfOk, codes, true, false, map, length, count_by};
+ghost use Rattle.std.specs.Prelude.{◌≡◌, ◌<◌, ◌≤◌, ◌^◌, ◌==◌, List, [], ◌∷◌, IfOk, codes, true};
+ghost use Rattle.std.specs.Prelude.{false, map, length, count_by};
 ghost use Rattle.op_text.specs.declared.grammar.Wanted.TheVariants as w;
 ghost use Rattle.op_text.specs.Language.{operation, operations};
 ghost use Rattle.op_text.specs.Spelling.{operation_text, between_commas, param_text, MeetRules};
@@ -19,8 +20,10 @@ use std::alloc::Global;
 
 /// The sources of an op, with their parentheses.
 fn inputs(parser: &mut Parser<'_>, alloc: Global) -> Result<Vec<Param>, ReadNo>
-    ensures moves { Moves (w.Open ∷ w.NewParam ∷ w.Colon ∷ w.ParamKind ∷ w.Params ∷ []) parser.old result parser.new }
-    ensures spells { IfOk result (λ v. left parser.old ≡ codes "(" ∷ between_commas param_text v.items (codes ")" ∷ left parser.new)) }
+    ensures moves { Moves (w.Open ∷ w.NewParam ∷ w.Colon ∷ w.ParamKind ∷ w.Params
+        ∷ []) parser.old result parser.new }
+    ensures spells { IfOk result (λ v. left parser.old
+        ≡ codes "(" ∷ between_commas param_text v.items (codes ")" ∷ left parser.new)) }
 {
     mark(parser, Wanted::Open)?;
     sources(parser, alloc)
@@ -28,8 +31,10 @@ fn inputs(parser: &mut Parser<'_>, alloc: Global) -> Result<Vec<Param>, ReadNo>
 
 /// The result of an op, between its marks.
 fn outcome(parser: &mut Parser<'_>) -> Result<Param, ReadNo>
-    ensures moves { Moves (w.Arrow ∷ w.NewResult ∷ w.Colon ∷ w.ResultKind ∷ w.Begin ∷ []) parser.old result parser.new }
-    ensures spells { IfOk result (λ p. left parser.old ≡ codes "->" ∷ param_text p (codes "{" ∷ left parser.new)) }
+    ensures moves { Moves (w.Arrow ∷ w.NewResult ∷ w.Colon ∷ w.ResultKind ∷ w.Begin
+        ∷ []) parser.old result parser.new }
+    ensures spells { IfOk result (λ p. left parser.old
+        ≡ codes "->" ∷ param_text p (codes "{" ∷ left parser.new)) }
 {
     mark(parser, Wanted::Arrow)?;
     let result = param(parser, Wanted::NewResult, Wanted::ResultKind)?;
@@ -39,8 +44,11 @@ fn outcome(parser: &mut Parser<'_>) -> Result<Param, ReadNo>
 
 /// An op behind its word.
 fn op_behind(parser: &mut Parser<'_>, alloc: Global) -> Result<Op, ReadNo>
-    ensures moves { Moves (w.NewOp ∷ w.Open ∷ w.NewParam ∷ w.Colon ∷ w.ParamKind ∷ w.Params ∷ w.Arrow ∷ w.NewResult ∷ w.Colon ∷ w.ResultKind ∷ w.Begin ∷ w.FirstStmt ∷ []) parser.old result parser.new }
-    ensures spells { IfOk result (λ o. codes "op" ∷ left parser.old ≡ operation_text (operation o) (left parser.new)) }
+    ensures moves { Moves (w.NewOp ∷ w.Open ∷ w.NewParam ∷ w.Colon ∷ w.ParamKind ∷ w.Params
+        ∷ w.Arrow ∷ w.NewResult ∷ w.Colon ∷ w.ResultKind ∷ w.Begin ∷ w.FirstStmt
+        ∷ []) parser.old result parser.new }
+    ensures spells { IfOk result (λ o. codes "op" ∷ left parser.old
+        ≡ operation_text (operation o) (left parser.new)) }
 {
     let name = name(parser, Wanted::NewOp)?;
     let params = inputs(parser, alloc)?;
@@ -57,7 +65,8 @@ fn op_behind(parser: &mut Parser<'_>, alloc: Global) -> Result<Op, ReadNo>
 fn one_op(parser: &mut Parser<'_>, alloc: Global) -> Result<Op, ReadNo>
     requires { is_nil parser.old.items ≡ false }
     ensures moves { MovesTo (w.Ops ∷ []) parser.old result (λ o. w.Ops ∷ []) parser.new }
-    ensures spells { IfOk result (λ o. left parser.old ≡ operation_text (operation o) (left parser.new)) }
+    ensures spells { IfOk result (λ o. left parser.old
+        ≡ operation_text (operation o) (left parser.new)) }
 {
     op_word(parser)?;
     op_behind(parser, alloc)

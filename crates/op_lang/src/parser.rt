@@ -78,7 +78,8 @@ fn take_from<'a>(
     wanted: Wanted,
 ) -> Result<Taken<'a>, ReadNo>
     requires { is_due wanted (record { scope = seen scope.old; items = tokens.old }) ≡ true }
-    ensures { Takes wanted (record { scope = seen scope.old; items = tokens.old }) result (record { scope = seen scope.new; items = tokens.new }) }
+    ensures { Takes wanted (record { scope = seen scope.old; items = tokens.old }) result
+        (record { scope = seen scope.new; items = tokens.new }) }
 {
     let token = match tokens.take() {
         Ok(token) => token,

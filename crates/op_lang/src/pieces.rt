@@ -6,7 +6,12 @@ ghost use Rattle.op_text.specs.WordOps.{op_text};
 ghost use Rattle.op_text.specs.Spelling.{kind_text, direction_text, start_text};
 ghost use Rattle.op_lang.specs.Tokens.{is_nil};
 ghost use Rattle.op_lang.specs.Reading.{Moves, MovesTo, left};
-ghost use Rattle.op_lang.specs.Pieces.{is_mark, mark_text, is_name, is_name_or_end, behind_name_or_end, name_or_end, is_more, behind_comma_or_close, comma_or_close, is_kind, kind_at, is_statement, is_named, is_finish, is_serial_word, is_let_word, is_down, is_one, is_comma, behind_start, start_spelled, behind_line, line_spelled};
+ghost use Rattle.op_lang.specs.Pieces.{is_mark, mark_text, is_name, is_name_or_end};
+ghost use Rattle.op_lang.specs.Pieces.{behind_name_or_end, name_or_end, is_more};
+ghost use Rattle.op_lang.specs.Pieces.{behind_comma_or_close, comma_or_close, is_kind, kind_at};
+ghost use Rattle.op_lang.specs.Pieces.{is_statement, is_named, is_finish, is_serial_word};
+ghost use Rattle.op_lang.specs.Pieces.{is_let_word, is_down, is_one, is_comma, behind_start};
+ghost use Rattle.op_lang.specs.Pieces.{start_spelled, behind_line, line_spelled};
 
 use crate::fault::ReadNo;
 use crate::parser::Parser;
@@ -33,7 +38,9 @@ pub(crate) enum Leaf {
 /// The word `op`.
 pub(crate) fn op_word(parser: &mut Parser<'_>) -> Result<(), ReadNo>
     requires { is_nil parser.old.items ≡ false }
-    ensures moves { MovesTo (w.Ops ∷ []) parser.old result (λ x. w.NewOp ∷ w.Open ∷ w.NewParam ∷ w.Colon ∷ w.ParamKind ∷ w.Params ∷ w.Arrow ∷ w.NewResult ∷ w.Colon ∷ w.ResultKind ∷ w.Begin ∷ w.FirstStmt ∷ w.Ops ∷ []) parser.new }
+    ensures moves { MovesTo (w.Ops ∷ []) parser.old result (λ x. w.NewOp ∷ w.Open ∷ w.NewParam
+        ∷ w.Colon ∷ w.ParamKind ∷ w.Params ∷ w.Arrow ∷ w.NewResult ∷ w.Colon ∷ w.ResultKind
+        ∷ w.Begin ∷ w.FirstStmt ∷ w.Ops ∷ []) parser.new }
     ensures spells { OnOk result (left parser.old ≡ codes "op" ∷ left parser.new) }
 {
     parser.take(Wanted::Ops)?;
@@ -82,7 +89,8 @@ pub(crate) fn name_or_end(parser: &mut Parser<'_>, wanted: Wanted) -> Result<Opt
 /// Whether a list goes on.
 pub(crate) fn more(parser: &mut Parser<'_>, wanted: Wanted) -> Result<bool, ReadNo>
     requires { is_more wanted ≡ true }
-    ensures moves { MovesTo (wanted ∷ []) parser.old result (behind_comma_or_close wanted) parser.new }
+    ensures moves { MovesTo (wanted ∷ []) parser.old result (behind_comma_or_close wanted)
+        parser.new }
     ensures spells { IfOk result (λ b. left parser.old ≡ comma_or_close b ∷ left parser.new) }
 {
     let token = parser.take(wanted)?;

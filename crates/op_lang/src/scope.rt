@@ -8,7 +8,8 @@ use op_text::{Kind, Param, WordOp};
 use std::alloc::Global;
 use text_lex::Name;
 
-/// Within an op: each new name, the names that can be read, the result once it is named, whether it is
+/// Within an op: each new name, the names that can be read, the result once it is named, whether it
+/// is
 /// assigned, and the number of statements.
 #[derive(Debug, Drop)]
 pub(crate) struct InOp {
@@ -27,7 +28,8 @@ pub(crate) struct InWord {
 }
 
 /// Within a serial block: its states, the states and lets that can be read, the number of lets, the
-/// targets, the weight of the gates, and how many arguments each open gate still lacks, the innermost last.
+/// targets, the weight of the gates, and how many arguments each open gate still lacks, the
+/// innermost last.
 #[derive(Debug, Drop)]
 pub(crate) struct InBlock {
     pub states: Vec<Name>,

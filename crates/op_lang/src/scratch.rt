@@ -1,6 +1,7 @@
 //! The scratch rows that an op needs.
 
-ghost use Rattle.std.specs.Prelude.{◌≡◌, ℕ, ◌+◌, ◌*◌, ◌≤◌, ◌&&◌, [], ◌∷◌, min, map, not, count_by, bytes_eq, Option, Some, None, length};
+ghost use Rattle.std.specs.Prelude.{◌≡◌, ℕ, ◌+◌, ◌*◌, ◌≤◌, ◌&&◌, [], ◌∷◌, min, map, not, count_by};
+ghost use Rattle.std.specs.Prelude.{bytes_eq, Option, Some, None, length};
 ghost use Rattle.op_text.specs.Language.{statement, operation};
 ghost use Rattle.std.specs.List.{list_any};
 ghost use Rattle.op_text.specs.Rules.{kind_among};
@@ -11,7 +12,8 @@ use crate::names::{is_same_kind, kind_of};
 use op_text::{Assign, Kind, Op, Param, State, Stmt, WordOp, given_first};
 use text_lex::Name;
 
-/// The scratch rows that one statement or a whole op needs beside its words' rows: `bits` single rows, and
+/// The scratch rows that one statement or a whole op needs beside its words' rows: `bits` single
+/// rows, and
 /// `words` groups of as many rows as a word has bits. Numbers past 65,535 stay there.
 #[derive(Clone, Copy, Debug, PartialEq, Eq)]
 pub struct Scratch {
@@ -48,7 +50,9 @@ fn kind_behind(params: &[Param], before: &[Stmt], name: &[u8]) -> Option<Kind>
 /// The kind of a name that a statement defines.
 #[cycle(kinds)]
 fn kind_in(params: &[Param], before: &[Stmt], defining: &Stmt, name: &[u8]) -> Option<Kind>
-    ensures { result ≡ kind_among (scratch.defines (known_after params.now (map statement before.now)) (statement defining.now)) name.now }
+    ensures { result
+        ≡ kind_among (scratch.defines (known_after params.now (map statement before.now))
+        (statement defining.now)) name.now }
 {
     match defining {
         Stmt::Word { dst, op, args } => {
@@ -77,7 +81,8 @@ fn kind_in(params: &[Param], before: &[Stmt], defining: &Stmt, name: &[u8]) -> O
 /// The kind of a word statement's result.
 #[cycle(kinds)]
 fn kind_given(params: &[Param], before: &[Stmt], op: WordOp, args: &[Name]) -> Kind
-    ensures { result ≡ scratch.result_kind (known_after params.now (map statement before.now)) op args.now }
+    ensures { result ≡ scratch.result_kind (known_after params.now (map statement before.now)) op
+        args.now }
 {
     match args {
         [] => given_first(op, None),
@@ -95,7 +100,8 @@ fn count_states(states: &[State], outcome: &[u8]) -> usize
 }
 
 fn count_words(states: &[State], assigns: &[Assign], outcome: &[u8]) -> usize
-    ensures { result ≡ count_by (λ a. not (list_any (λ s. bytes_eq s.name a.name) states.now) && not (bytes_eq a.name outcome.now)) assigns.now }
+    ensures { result ≡ count_by (λ a. not (list_any (λ s. bytes_eq s.name a.name) states.now)
+        && not (bytes_eq a.name outcome.now)) assigns.now }
 {
     assigns
         .iter()
@@ -105,7 +111,9 @@ fn count_words(states: &[State], assigns: &[Assign], outcome: &[u8]) -> usize
 
 /// How many names of a kind a statement defines, other than the result.
 fn count_in(params: &[Param], before: &[Stmt], defining: &Stmt, kind: Kind, outcome: &[u8]) -> usize
-    ensures { result ≡ count_by (is_counted kind outcome.now) (scratch.defines (known_after params.now (map statement before.now)) (statement defining.now)) }
+    ensures { result ≡ count_by (is_counted kind outcome.now)
+        (scratch.defines (known_after params.now (map statement before.now))
+        (statement defining.now)) }
 {
     match defining {
         Stmt::Word { dst, op, args } => {
@@ -152,7 +160,8 @@ fn capped_product(n: u8, a: u16) -> u16
 
 /// How many names of a kind the statements define, other than the result.
 fn count_names(params: &[Param], body: &[Stmt], kind: Kind, outcome: &[u8]) -> u16
-    ensures { result ≡ min (count_by (is_counted kind outcome.now) (scratch.body_defines params.now (map statement body.now))) MOST }
+    ensures { result ≡ min (count_by (is_counted kind outcome.now)
+        (scratch.body_defines params.now (map statement body.now))) MOST }
 {
     match body {
         [] => 0,

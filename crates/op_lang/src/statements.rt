@@ -1,10 +1,12 @@
 //! Statements.
 
-ghost use Rattle.std.specs.Prelude.{◌≡◌, List, [], ◌∷◌, ◌++◌, IfOk, codes, true, map, Option, Some, None};
+ghost use Rattle.std.specs.Prelude.{◌≡◌, List, [], ◌∷◌, ◌++◌, IfOk, codes, true, map, Option, Some};
+ghost use Rattle.std.specs.Prelude.{None};
 ghost use Rattle.op_text.specs.declared.grammar.Wanted.TheVariants as w;
 ghost use Rattle.op_text.specs.WordOps.{op_text};
 ghost use Rattle.op_text.specs.Language.{equation, statement};
-ghost use Rattle.op_text.specs.Spelling.{in_turn, between_commas, equation_text, let_text, state_text, direction_text, statement_text};
+ghost use Rattle.op_text.specs.Spelling.{in_turn, between_commas, equation_text, let_text};
+ghost use Rattle.op_text.specs.Spelling.{state_text, direction_text, statement_text};
 ghost use Rattle.op_lang.specs.Reading.{Moves, MovesTo, left};
 ghost use Rattle.op_lang.specs.Pieces.{is_statement, is_mark, mark_text};
 ghost use Rattle.op_lang.specs.Parts.{behind_statement, statement_or_end};
@@ -30,7 +32,8 @@ fn assignment(
     requires marked { is_mark end ≡ true }
     requires semi { mark_text end ≡ codes ";" }
     ensures moves { Moves (w.Equals ∷ w.Value ∷ end ∷ []) parser.old result parser.new }
-    ensures spells { IfOk result (λ a. name ∷ left parser.old ≡ equation_text (equation a) (left parser.new)) }
+    ensures spells { IfOk result (λ a. name ∷ left parser.old
+        ≡ equation_text (equation a) (left parser.new)) }
 {
     mark(parser, Wanted::Equals)?;
     let value = value(parser, alloc)?;
@@ -40,8 +43,10 @@ fn assignment(
 
 /// A let behind its word.
 fn let_line(parser: &mut Parser<'_>, alloc: Global) -> Result<Assign, ReadNo>
-    ensures moves { Moves (w.LetName ∷ w.Equals ∷ w.Value ∷ w.LetEnd ∷ []) parser.old result parser.new }
-    ensures spells { IfOk result (λ a. left parser.old ≡ equation_text (equation a) (left parser.new)) }
+    ensures moves { Moves (w.LetName ∷ w.Equals ∷ w.Value ∷ w.LetEnd ∷ []) parser.old result
+        parser.new }
+    ensures spells { IfOk result (λ a. left parser.old
+        ≡ equation_text (equation a) (left parser.new)) }
 {
     let name = name(parser, Wanted::LetName)?;
     assignment(parser, name, Wanted::LetEnd, alloc)
@@ -50,8 +55,10 @@ fn let_line(parser: &mut Parser<'_>, alloc: Global) -> Result<Assign, ReadNo>
 /// The lets of a block, with the target behind them.
 fn lets(parser: &mut Parser<'_>, all: &mut Vec<Assign>, alloc: Global) -> Result<Name, ReadNo>
     requires { all.old.items ≡ [] }
-    ensures moves { MovesTo (w.Lets ∷ []) parser.old result (λ n. w.Equals ∷ w.Value ∷ w.AssignEnd ∷ w.Assigns ∷ []) parser.new }
-    ensures spells { IfOk result (λ n. left parser.old ≡ in_turn let_text (map equation all.new.items) (n ∷ left parser.new)) }
+    ensures moves { MovesTo (w.Lets ∷ []) parser.old result (λ n. w.Equals ∷ w.Value ∷ w.AssignEnd
+        ∷ w.Assigns ∷ []) parser.new }
+    ensures spells { IfOk result (λ n. left parser.old
+        ≡ in_turn let_text (map equation all.new.items) (n ∷ left parser.new)) }
 {
     loop {
         match line_start(parser)? {
@@ -66,8 +73,10 @@ fn lets(parser: &mut Parser<'_>, all: &mut Vec<Assign>, alloc: Global) -> Result
 
 /// The assignments of a block behind the first target, with the brace behind them.
 fn assignments(parser: &mut Parser<'_>, target: Name, alloc: Global) -> Result<Vec<Assign>, ReadNo>
-    ensures moves { Moves (w.Equals ∷ w.Value ∷ w.AssignEnd ∷ w.Assigns ∷ []) parser.old result parser.new }
-    ensures spells { IfOk result (λ v. target ∷ left parser.old ≡ in_turn equation_text (map equation v.items) (codes "}" ∷ left parser.new)) }
+    ensures moves { Moves (w.Equals ∷ w.Value ∷ w.AssignEnd ∷ w.Assigns ∷ []) parser.old result
+        parser.new }
+    ensures spells { IfOk result (λ v. target ∷ left parser.old
+        ≡ in_turn equation_text (map equation v.items) (codes "}" ∷ left parser.new)) }
 {
     let mut all = Vec::new(alloc);
     let first = assignment(parser, target, Wanted::AssignEnd, alloc)?;
@@ -81,8 +90,10 @@ fn assignments(parser: &mut Parser<'_>, target: Name, alloc: Global) -> Result<V
 
 /// The head of a block behind its word: whether it goes down, and its states.
 fn block_head(parser: &mut Parser<'_>, alloc: Global) -> Result<(bool, Vec<State>), ReadNo>
-    ensures moves { Moves (w.Direction ∷ w.Open ∷ w.States ∷ w.Begin ∷ []) parser.old result parser.new }
-    ensures spells { IfOk result (λ h. left parser.old ≡ direction_text h.0 ∷ codes "(" ∷ between_commas state_text h.1.items (codes ")" ∷ codes "{" ∷ left parser.new)) }
+    ensures moves { Moves (w.Direction ∷ w.Open ∷ w.States ∷ w.Begin ∷ []) parser.old result
+        parser.new }
+    ensures spells { IfOk result (λ h. left parser.old ≡ direction_text h.0 ∷ codes "("
+        ∷ between_commas state_text h.1.items (codes ")" ∷ codes "{" ∷ left parser.new)) }
 {
     let down = direction(parser)?;
     mark(parser, Wanted::Open)?;
@@ -93,8 +104,10 @@ fn block_head(parser: &mut Parser<'_>, alloc: Global) -> Result<(bool, Vec<State
 
 /// A serial block behind its word.
 fn serial_block(parser: &mut Parser<'_>, alloc: Global) -> Result<Stmt, ReadNo>
-    ensures moves { Moves (w.Direction ∷ w.Open ∷ w.States ∷ w.Begin ∷ w.Lets ∷ []) parser.old result parser.new }
-    ensures spells { IfOk result (λ s. codes "serial" ∷ left parser.old ≡ statement_text (statement s) (left parser.new)) }
+    ensures moves { Moves (w.Direction ∷ w.Open ∷ w.States ∷ w.Begin ∷ w.Lets
+        ∷ []) parser.old result parser.new }
+    ensures spells { IfOk result (λ s. codes "serial" ∷ left parser.old
+        ≡ statement_text (statement s) (left parser.new)) }
 {
     let (down, states) = block_head(parser, alloc)?;
     let mut all = Vec::new(alloc);
@@ -111,7 +124,8 @@ fn serial_block(parser: &mut Parser<'_>, alloc: Global) -> Result<Stmt, ReadNo>
 /// The operation of a word statement, between its marks.
 fn operation(parser: &mut Parser<'_>) -> Result<WordOp, ReadNo>
     ensures moves { Moves (w.Equals ∷ w.WordOpName ∷ w.Open ∷ []) parser.old result parser.new }
-    ensures spells { IfOk result (λ op. left parser.old ≡ codes "=" ∷ op_text op ∷ codes "(" ∷ left parser.new) }
+    ensures spells { IfOk result (λ op. left parser.old ≡ codes "=" ∷ op_text op ∷ codes "("
+        ∷ left parser.new) }
 {
     mark(parser, Wanted::Equals)?;
     let op = word_op(parser)?;
@@ -121,8 +135,10 @@ fn operation(parser: &mut Parser<'_>) -> Result<WordOp, ReadNo>
 
 /// A word statement behind its target.
 fn word_statement(parser: &mut Parser<'_>, dst: Name, alloc: Global) -> Result<Stmt, ReadNo>
-    ensures moves { Moves (w.Equals ∷ w.WordOpName ∷ w.Open ∷ w.Args ∷ w.WordEnd ∷ []) parser.old result parser.new }
-    ensures spells { IfOk result (λ s. dst ∷ left parser.old ≡ statement_text (statement s) (left parser.new)) }
+    ensures moves { Moves (w.Equals ∷ w.WordOpName ∷ w.Open ∷ w.Args ∷ w.WordEnd
+        ∷ []) parser.old result parser.new }
+    ensures spells { IfOk result (λ s. dst ∷ left parser.old
+        ≡ statement_text (statement s) (left parser.new)) }
 {
     let op = operation(parser)?;
     let args = arguments(parser, alloc)?;
@@ -156,7 +172,8 @@ fn one_statement(
 /// The statements of an op, with the brace behind them.
 pub(crate) fn body(parser: &mut Parser<'_>, alloc: Global) -> Result<Vec<Stmt>, ReadNo>
     ensures moves { Moves (w.FirstStmt ∷ []) parser.old result parser.new }
-    ensures spells { IfOk result (λ v. left parser.old ≡ in_turn statement_text (map statement v.items) (codes "}" ∷ left parser.new)) }
+    ensures spells { IfOk result (λ v. left parser.old
+        ≡ in_turn statement_text (map statement v.items) (codes "}" ∷ left parser.new)) }
 {
     let mut all = Vec::new(alloc);
     let mut wanted = Wanted::FirstStmt;

@@ -57,7 +57,8 @@ pub(crate) fn name(
     text: &[u8],
     opened: bool,
 ) -> Result<(), Refused>
-    ensures { Judges (rules.value_rules (seen scope.old) spelling text.now opened) result (seen scope.new) }
+    ensures { Judges (rules.value_rules (seen scope.old) spelling text.now opened) result
+        (seen scope.new) }
 {
     if is_bad(spelling, text) {
         return Err(Refused::Rule(OpsKind::BadName));
@@ -76,7 +77,8 @@ pub(crate) fn name(
 
 /// The `,` behind a gate's argument.
 pub(crate) fn comma(scope: &mut Scope) -> Result<(), Refused>
-    ensures { Judges (rules.comma_rules (seen scope.old) (seen scope.old).block.missing) result (seen scope.new) }
+    ensures { Judges (rules.comma_rules (seen scope.old) (seen scope.old).block.missing) result
+        (seen scope.new) }
 {
     let Some(lacking) = scope.block.missing.pop() else {
         return Err(Refused::Rule(OpsKind::Kind));
@@ -92,7 +94,8 @@ pub(crate) fn comma(scope: &mut Scope) -> Result<(), Refused>
 
 /// The `)` behind a gate's argument.
 pub(crate) fn close(scope: &mut Scope) -> Result<(), Refused>
-    ensures { Judges (rules.close_rules (seen scope.old) (seen scope.old).block.missing) result (seen scope.new) }
+    ensures { Judges (rules.close_rules (seen scope.old) (seen scope.old).block.missing) result
+        (seen scope.new) }
 {
     match scope.block.missing.pop() {
         Some(0) => Ok(()),

@@ -1,13 +1,15 @@
 //! Expressions.
 
-ghost use Rattle.std.specs.Prelude.{◌≡◌, ◌<◌, ◌-◌, ℕ, suc, zero, length, List, [], ◌∷◌, OnOk, IfOk, IfErr, codes};
+ghost use Rattle.std.specs.Prelude.{◌≡◌, ◌<◌, ◌-◌, ℕ, suc, zero, length, List, [], ◌∷◌, OnOk, IfOk};
+ghost use Rattle.std.specs.Prelude.{IfErr, codes};
 ghost use Rattle.op_lang.specs.declared.fault.ReadNo.TheVariants.{Memory};
 ghost use Rattle.op_text.specs.declared.grammar.Wanted.TheVariants as w;
 ghost use Rattle.op_text.specs.Rules.{gate_arguments};
 ghost use Rattle.op_text.specs.Language.{term, Negation, Majority};
 ghost use Rattle.op_text.specs.Spelling.{term_text};
 ghost use Rattle.op_lang.specs.Reading.{Moves, MovesTo, left};
-ghost use Rattle.op_lang.specs.Pieces.{behind_leaf, leaf_spelled, lacking, bit_leaf, gate_text, with_two};
+ghost use Rattle.op_lang.specs.Pieces.{behind_leaf, leaf_spelled, lacking, bit_leaf, gate_text};
+ghost use Rattle.op_lang.specs.Pieces.{with_two};
 
 use crate::fault::ReadNo;
 use crate::parser::Parser;
@@ -30,7 +32,8 @@ fn bit_leaf(terminal: Terminal) -> Leaf
 fn leaf(parser: &mut Parser<'_>) -> Result<Leaf, ReadNo>
     ensures moves { MovesTo (w.Value ∷ []) parser.old result behind_leaf parser.new }
     ensures spells { IfOk result (λ l. left parser.old ≡ leaf_spelled l ∷ left parser.new) }
-    ensures missing { IfOk result (λ l. parser.new.scope.block.missing ≡ lacking l parser.old.scope.block.missing) }
+    ensures missing { IfOk result (λ l. parser.new.scope.block.missing
+        ≡ lacking l parser.old.scope.block.missing) }
 {
     let token = parser.take(Wanted::Value)?;
     if !is_named(token.terminal) {
@@ -53,7 +56,8 @@ fn leaf(parser: &mut Parser<'_>) -> Result<Leaf, ReadNo>
 fn gate_open(parser: &mut Parser<'_>) -> Result<(), ReadNo>
     ensures moves { Moves (w.GateOpen ∷ []) parser.old result parser.new }
     ensures spells { OnOk result (left parser.old ≡ codes "(" ∷ left parser.new) }
-    ensures missing { OnOk result (parser.new.scope.block.missing ≡ parser.old.scope.block.missing) }
+    ensures missing { OnOk result (parser.new.scope.block.missing
+        ≡ parser.old.scope.block.missing) }
 {
     parser.take(Wanted::GateOpen)?;
     Ok(())
@@ -61,9 +65,12 @@ fn gate_open(parser: &mut Parser<'_>) -> Result<(), ReadNo>
 
 /// The comma behind an argument, where another is lacking.
 fn comma(parser: &mut Parser<'_>) -> Result<(), ReadNo>
-    ensures moves { (n : ℕ) (outer : List ℕ) → parser.old.scope.block.missing ≡ suc n ∷ outer → MovesTo (w.More ∷ []) parser.old result (λ x. w.Value ∷ w.More ∷ []) parser.new }
-    ensures spells { (n : ℕ) (outer : List ℕ) → parser.old.scope.block.missing ≡ suc n ∷ outer → OnOk result (left parser.old ≡ codes "," ∷ left parser.new) }
-    ensures missing { (n : ℕ) (outer : List ℕ) → parser.old.scope.block.missing ≡ suc n ∷ outer → OnOk result (parser.new.scope.block.missing ≡ n ∷ outer) }
+    ensures moves { (n : ℕ) (outer : List ℕ) → parser.old.scope.block.missing ≡ suc n ∷ outer
+        → MovesTo (w.More ∷ []) parser.old result (λ x. w.Value ∷ w.More ∷ []) parser.new }
+    ensures spells { (n : ℕ) (outer : List ℕ) → parser.old.scope.block.missing ≡ suc n ∷ outer
+        → OnOk result (left parser.old ≡ codes "," ∷ left parser.new) }
+    ensures missing { (n : ℕ) (outer : List ℕ) → parser.old.scope.block.missing ≡ suc n ∷ outer
+        → OnOk result (parser.new.scope.block.missing ≡ n ∷ outer) }
     ensures shorter { OnOk result (length (left parser.new) < length (left parser.old)) }
 {
     parser.take(Wanted::More)?;
@@ -72,9 +79,12 @@ fn comma(parser: &mut Parser<'_>) -> Result<(), ReadNo>
 
 /// The parenthesis behind the last argument.
 fn close(parser: &mut Parser<'_>) -> Result<(), ReadNo>
-    ensures moves { (outer : List ℕ) → parser.old.scope.block.missing ≡ zero ∷ outer → Moves (w.More ∷ []) parser.old result parser.new }
-    ensures spells { (outer : List ℕ) → parser.old.scope.block.missing ≡ zero ∷ outer → OnOk result (left parser.old ≡ codes ")" ∷ left parser.new) }
-    ensures missing { (outer : List ℕ) → parser.old.scope.block.missing ≡ zero ∷ outer → OnOk result (parser.new.scope.block.missing ≡ outer) }
+    ensures moves { (outer : List ℕ) → parser.old.scope.block.missing ≡ zero ∷ outer
+        → Moves (w.More ∷ []) parser.old result parser.new }
+    ensures spells { (outer : List ℕ) → parser.old.scope.block.missing ≡ zero ∷ outer
+        → OnOk result (left parser.old ≡ codes ")" ∷ left parser.new) }
+    ensures missing { (outer : List ℕ) → parser.old.scope.block.missing ≡ zero ∷ outer
+        → OnOk result (parser.new.scope.block.missing ≡ outer) }
     ensures shorter { OnOk result (length (left parser.new) < length (left parser.old)) }
 {
     parser.take(Wanted::More)?;
@@ -116,7 +126,8 @@ fn maj_of(a: Expr, b: Expr, c: Expr, alloc: Global) -> Result<Expr, ReadNo>
 pub(crate) fn value(parser: &mut Parser<'_>, alloc: Global) -> Result<Expr, ReadNo>
     ensures moves { Moves (w.Value ∷ []) parser.old result parser.new }
     ensures spells { IfOk result (λ e. left parser.old ≡ term_text (term e) (left parser.new)) }
-    ensures missing { OnOk result (parser.new.scope.block.missing ≡ parser.old.scope.block.missing) }
+    ensures missing { OnOk result (parser.new.scope.block.missing
+        ≡ parser.old.scope.block.missing) }
     ensures shorter { OnOk result (length (left parser.new) < length (left parser.old)) }
 {
     match leaf(parser)? {
@@ -130,9 +141,13 @@ pub(crate) fn value(parser: &mut Parser<'_>, alloc: Global) -> Result<Expr, Read
 /// A gate's arguments, with their parentheses.
 #[cycle(values)]
 fn arguments(parser: &mut Parser<'_>, gate: Gate, alloc: Global) -> Result<Expr, ReadNo>
-    ensures moves { (outer : List ℕ) → parser.old.scope.block.missing ≡ (gate_arguments gate - 1) ∷ outer → Moves (w.GateOpen ∷ w.Value ∷ w.More ∷ []) parser.old result parser.new }
-    ensures spells { (outer : List ℕ) → parser.old.scope.block.missing ≡ (gate_arguments gate - 1) ∷ outer → IfOk result (λ e. gate_text gate ∷ left parser.old ≡ term_text (term e) (left parser.new)) }
-    ensures missing { (outer : List ℕ) → parser.old.scope.block.missing ≡ (gate_arguments gate - 1) ∷ outer → OnOk result (parser.new.scope.block.missing ≡ outer) }
+    ensures moves { (outer : List ℕ) → parser.old.scope.block.missing ≡ (gate_arguments gate - 1)
+        ∷ outer → Moves (w.GateOpen ∷ w.Value ∷ w.More ∷ []) parser.old result parser.new }
+    ensures spells { (outer : List ℕ) → parser.old.scope.block.missing ≡ (gate_arguments gate - 1)
+        ∷ outer → IfOk result (λ e. gate_text gate ∷ left parser.old
+        ≡ term_text (term e) (left parser.new)) }
+    ensures missing { (outer : List ℕ) → parser.old.scope.block.missing ≡ (gate_arguments gate - 1)
+        ∷ outer → OnOk result (parser.new.scope.block.missing ≡ outer) }
     ensures shorter { OnOk result (length (left parser.new) < length (left parser.old)) }
 {
     gate_open(parser)?;
@@ -147,9 +162,13 @@ fn arguments(parser: &mut Parser<'_>, gate: Gate, alloc: Global) -> Result<Expr,
 
 #[cycle(values)]
 fn one_argument(parser: &mut Parser<'_>, alloc: Global) -> Result<Expr, ReadNo>
-    ensures moves { (outer : List ℕ) → parser.old.scope.block.missing ≡ 0 ∷ outer → Moves (w.Value ∷ w.More ∷ []) parser.old result parser.new }
-    ensures spells { (outer : List ℕ) → parser.old.scope.block.missing ≡ 0 ∷ outer → IfOk result (λ e. codes "not" ∷ codes "(" ∷ left parser.old ≡ term_text (term e) (left parser.new)) }
-    ensures missing { (outer : List ℕ) → parser.old.scope.block.missing ≡ 0 ∷ outer → OnOk result (parser.new.scope.block.missing ≡ outer) }
+    ensures moves { (outer : List ℕ) → parser.old.scope.block.missing ≡ 0 ∷ outer
+        → Moves (w.Value ∷ w.More ∷ []) parser.old result parser.new }
+    ensures spells { (outer : List ℕ) → parser.old.scope.block.missing ≡ 0 ∷ outer
+        → IfOk result (λ e. codes "not" ∷ codes "(" ∷ left parser.old
+        ≡ term_text (term e) (left parser.new)) }
+    ensures missing { (outer : List ℕ) → parser.old.scope.block.missing ≡ 0 ∷ outer
+        → OnOk result (parser.new.scope.block.missing ≡ outer) }
     ensures shorter { OnOk result (length (left parser.new) < length (left parser.old)) }
 {
     let a = value(parser, alloc)?;
@@ -160,9 +179,13 @@ fn one_argument(parser: &mut Parser<'_>, alloc: Global) -> Result<Expr, ReadNo>
 /// The last two arguments of a gate.
 #[cycle(values)]
 fn pair(parser: &mut Parser<'_>, alloc: Global) -> Result<(Expr, Expr), ReadNo>
-    ensures moves { (outer : List ℕ) → parser.old.scope.block.missing ≡ 1 ∷ outer → Moves (w.Value ∷ w.More ∷ []) parser.old result parser.new }
-    ensures spells { (outer : List ℕ) → parser.old.scope.block.missing ≡ 1 ∷ outer → IfOk result (λ p. left parser.old ≡ term_text (term p.0) (codes "," ∷ term_text (term p.1) (codes ")" ∷ left parser.new))) }
-    ensures missing { (outer : List ℕ) → parser.old.scope.block.missing ≡ 1 ∷ outer → OnOk result (parser.new.scope.block.missing ≡ outer) }
+    ensures moves { (outer : List ℕ) → parser.old.scope.block.missing ≡ 1 ∷ outer
+        → Moves (w.Value ∷ w.More ∷ []) parser.old result parser.new }
+    ensures spells { (outer : List ℕ) → parser.old.scope.block.missing ≡ 1 ∷ outer
+        → IfOk result (λ p. left parser.old ≡ term_text (term p.0) (codes ","
+        ∷ term_text (term p.1) (codes ")" ∷ left parser.new))) }
+    ensures missing { (outer : List ℕ) → parser.old.scope.block.missing ≡ 1 ∷ outer
+        → OnOk result (parser.new.scope.block.missing ≡ outer) }
     ensures shorter { OnOk result (length (left parser.new) < length (left parser.old)) }
 {
     let a = value(parser, alloc)?;
@@ -175,9 +198,13 @@ fn pair(parser: &mut Parser<'_>, alloc: Global) -> Result<(Expr, Expr), ReadNo>
 #[cycle(values)]
 fn two_arguments(parser: &mut Parser<'_>, gate: Gate, alloc: Global) -> Result<Expr, ReadNo>
     requires { gate_arguments gate ≡ 2 }
-    ensures moves { (outer : List ℕ) → parser.old.scope.block.missing ≡ 1 ∷ outer → Moves (w.Value ∷ w.More ∷ []) parser.old result parser.new }
-    ensures spells { (outer : List ℕ) → parser.old.scope.block.missing ≡ 1 ∷ outer → IfOk result (λ e. gate_text gate ∷ codes "(" ∷ left parser.old ≡ term_text (term e) (left parser.new)) }
-    ensures missing { (outer : List ℕ) → parser.old.scope.block.missing ≡ 1 ∷ outer → OnOk result (parser.new.scope.block.missing ≡ outer) }
+    ensures moves { (outer : List ℕ) → parser.old.scope.block.missing ≡ 1 ∷ outer
+        → Moves (w.Value ∷ w.More ∷ []) parser.old result parser.new }
+    ensures spells { (outer : List ℕ) → parser.old.scope.block.missing ≡ 1 ∷ outer
+        → IfOk result (λ e. gate_text gate ∷ codes "(" ∷ left parser.old
+        ≡ term_text (term e) (left parser.new)) }
+    ensures missing { (outer : List ℕ) → parser.old.scope.block.missing ≡ 1 ∷ outer
+        → OnOk result (parser.new.scope.block.missing ≡ outer) }
     ensures shorter { OnOk result (length (left parser.new) < length (left parser.old)) }
 {
     let (a, b) = pair(parser, alloc)?;
@@ -186,9 +213,13 @@ fn two_arguments(parser: &mut Parser<'_>, gate: Gate, alloc: Global) -> Result<E
 
 #[cycle(values)]
 fn three_arguments(parser: &mut Parser<'_>, alloc: Global) -> Result<Expr, ReadNo>
-    ensures moves { (outer : List ℕ) → parser.old.scope.block.missing ≡ 2 ∷ outer → Moves (w.Value ∷ w.More ∷ []) parser.old result parser.new }
-    ensures spells { (outer : List ℕ) → parser.old.scope.block.missing ≡ 2 ∷ outer → IfOk result (λ e. codes "maj" ∷ codes "(" ∷ left parser.old ≡ term_text (term e) (left parser.new)) }
-    ensures missing { (outer : List ℕ) → parser.old.scope.block.missing ≡ 2 ∷ outer → OnOk result (parser.new.scope.block.missing ≡ outer) }
+    ensures moves { (outer : List ℕ) → parser.old.scope.block.missing ≡ 2 ∷ outer
+        → Moves (w.Value ∷ w.More ∷ []) parser.old result parser.new }
+    ensures spells { (outer : List ℕ) → parser.old.scope.block.missing ≡ 2 ∷ outer
+        → IfOk result (λ e. codes "maj" ∷ codes "(" ∷ left parser.old
+        ≡ term_text (term e) (left parser.new)) }
+    ensures missing { (outer : List ℕ) → parser.old.scope.block.missing ≡ 2 ∷ outer
+        → OnOk result (parser.new.scope.block.missing ≡ outer) }
     ensures shorter { OnOk result (length (left parser.new) < length (left parser.old)) }
 {
     let a = value(parser, alloc)?;

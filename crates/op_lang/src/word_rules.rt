@@ -43,7 +43,8 @@ pub(crate) fn block_start(scope: &mut Scope) -> Result<(), Refused>
 
 /// The first token of a statement.
 pub(crate) fn statement(scope: &mut Scope, spelling: Spelling, text: &[u8]) -> Result<(), Refused>
-    ensures { Judges (rules.statement_rules (seen scope.old) spelling text.now) result (seen scope.new) }
+    ensures { Judges (rules.statement_rules (seen scope.old) spelling text.now) result
+        (seen scope.new) }
 {
     match spelling {
         Spelling::Serial => block_start(scope),
@@ -52,7 +53,8 @@ pub(crate) fn statement(scope: &mut Scope, spelling: Spelling, text: &[u8]) -> R
 }
 
 pub(crate) fn word_op(scope: &mut Scope, spelling: Spelling, text: &[u8]) -> Result<(), Refused>
-    ensures { Judges (rules.word_op_rules (seen scope.old) spelling text.now) result (seen scope.new) }
+    ensures { Judges (rules.word_op_rules (seen scope.old) spelling text.now) result
+        (seen scope.new) }
 {
     if is_bad(spelling, text) {
         return Err(Refused::Rule(OpsKind::BadName));
@@ -77,7 +79,8 @@ fn argument_of_kind(scope: &mut Scope, kind: Kind) -> Result<(), Refused>
 }
 
 pub(crate) fn argument(scope: &mut Scope, spelling: Spelling, text: &[u8]) -> Result<(), Refused>
-    ensures { Judges (rules.argument_rules (seen scope.old) spelling text.now) result (seen scope.new) }
+    ensures { Judges (rules.argument_rules (seen scope.old) spelling text.now) result
+        (seen scope.new) }
 {
     if is_bad(spelling, text) {
         return Err(Refused::Rule(OpsKind::BadName));
@@ -109,7 +112,8 @@ pub(crate) fn no_more_arguments(scope: &mut Scope) -> Result<(), Refused>
 }
 
 fn gives_kind(scope: &mut Scope, kind: Kind) -> Result<(), Refused>
-    ensures { Judges (rules.gives_kind (seen scope.old) (seen scope.old).naming (Some kind)) result (seen scope.new) }
+    ensures { Judges (rules.gives_kind (seen scope.old) (seen scope.old).naming (Some kind)) result
+        (seen scope.new) }
 {
     let Some(target) = &scope.naming else {
         return Ok(());

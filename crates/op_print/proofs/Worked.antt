@@ -4,7 +4,8 @@ use Rattle.op_text.specs.declared.tree.Kind.{Kind}
 use Rattle.op_text.specs.declared.tree.Kind.TheVariants.{Word, Bit}
 use Rattle.op_text.specs.declared.tree.Param.{Param}
 use Rattle.op_text.specs.declared.tree.WordOp.TheVariants as o
-use Rattle.op_text.specs.Language.{Term, Nought, Unity, Named, Negation, Conjunction, Disjunction, Parity, Majority, Equation, Compute, Visit, Operation}
+use Rattle.op_text.specs.Language.{Term, Nought, Unity, Named, Negation, Conjunction, Disjunction}
+use Rattle.op_text.specs.Language.{Parity, Majority, Equation, Compute, Visit, Operation}
 use Rattle.op_print.specs.Canonical.{canonical_text}
 
 abbrev a : List ℕ
@@ -42,11 +43,13 @@ sum = record {
     down = false;
     states = record { name = c; start = false } ∷ [];
     lets = equals (codes "x") (Parity (Named a) (Named b)) ∷ [];
-    assigns = equals y (Parity (Named (codes "x")) (Named c)) ∷ equals c (Majority (Named a) (Named b) (Named c)) ∷ [];
+    assigns = equals y (Parity (Named (codes "x")) (Named c))
+        ∷ equals c (Majority (Named a) (Named b) (Named c)) ∷ [];
   }) ∷ [];
 }
 
-two_ops : canonical_text (mac ∷ sum ∷ []) ≡ codes "op mac(a: word, b: word, c: word) -> y: word {\n  t = mul(a, b);\n  y = add(t, c);\n}\nop sum(a: word, b: word) -> y: word {\n  serial up (c = 0) {\n    let x = xor(a, b);\n    y = xor(x, c);\n    c = maj(a, b, c);\n  }\n}\n"
+two_ops : canonical_text (mac ∷ sum ∷ []) ≡ codes
+    "op mac(a: word, b: word, c: word) -> y: word {\n  t = mul(a, b);\n  y = add(t, c);\n}\nop sum(a: word, b: word) -> y: word {\n  serial up (c = 0) {\n    let x = xor(a, b);\n    y = xor(x, c);\n    c = maj(a, b, c);\n  }\n}\n"
 two_ops = refl
 
 -- an operation without arguments, a block without states, and one downwards with two
@@ -56,7 +59,12 @@ odd = record {
   params = param a Bit ∷ [];
   result = param y Bit;
   body = Compute (codes "z") o.Zero []
-      ∷ Visit (record { down = false; states = []; lets = []; assigns = equals (codes "v") (Negation (Conjunction (Named a) Unity)) ∷ [] })
+      ∷ Visit (record {
+        down = false;
+        states = [];
+        lets = [];
+        assigns = equals (codes "v") (Negation (Conjunction (Named a) Unity)) ∷ [];
+      })
       ∷ Visit (record {
         down = true;
         states = record { name = y; start = true } ∷ record { name = c; start = false } ∷ [];
@@ -65,7 +73,8 @@ odd = record {
       }) ∷ [];
 }
 
-odd_op : canonical_text (odd ∷ []) ≡ codes "op odd(a: bit) -> y: bit {\n  z = zero();\n  serial up () {\n    v = not(and(a, 1));\n  }\n  serial down (y = 1, c = 0) {\n    y = or(0, v);\n  }\n}\n"
+odd_op : canonical_text (odd ∷ [])
+    ≡ codes "op odd(a: bit) -> y: bit {\n  z = zero();\n  serial up () {\n    v = not(and(a, 1));\n  }\n  serial down (y = 1, c = 0) {\n    y = or(0, v);\n  }\n}\n"
 odd_op = refl
 
 no_ops : canonical_text [] ≡ []

@@ -6,7 +6,9 @@ use Rattle.op_text.specs.declared.tree.Param.{Param}
 use Rattle.op_text.specs.declared.tree.State.{State}
 use Rattle.op_text.specs.WordOps.{op_text}
 use Rattle.op_text.specs.Spelling.{kind_text, direction_text, start_text}
-use Rattle.op_text.specs.Language.{Term, Nought, Unity, Named, Negation, Conjunction, Disjunction, Parity, Majority, Equation, Block, Statement, Compute, Visit, Operation}
+use Rattle.op_text.specs.Language.{Term, Nought, Unity, Named, Negation, Conjunction, Disjunction}
+use Rattle.op_text.specs.Language.{Parity, Majority, Equation, Block, Statement, Compute, Visit}
+use Rattle.op_text.specs.Language.{Operation}
 
 -- a comma, a blank and a part
 abbrev pub behind_comma : {A : Type 0} → (A → List ℕ) → A → List ℕ
@@ -22,10 +24,13 @@ value_text Nought = codes "0"
 value_text Unity = codes "1"
 value_text (Named name) = name
 value_text (Negation a) = codes "not(" ++ value_text a ++ codes ")"
-value_text (Conjunction a b) = codes "and(" ++ value_text a ++ codes ", " ++ value_text b ++ codes ")"
-value_text (Disjunction a b) = codes "or(" ++ value_text a ++ codes ", " ++ value_text b ++ codes ")"
+value_text (Conjunction a b) = codes "and(" ++ value_text a ++ codes ", " ++ value_text b
+    ++ codes ")"
+value_text (Disjunction a b) = codes "or(" ++ value_text a ++ codes ", " ++ value_text b
+    ++ codes ")"
 value_text (Parity a b) = codes "xor(" ++ value_text a ++ codes ", " ++ value_text b ++ codes ")"
-value_text (Majority a b c) = codes "maj(" ++ value_text a ++ codes ", " ++ value_text b ++ codes ", " ++ value_text c ++ codes ")"
+value_text (Majority a b c) = codes "maj(" ++ value_text a ++ codes ", " ++ value_text b
+    ++ codes ", " ++ value_text c ++ codes ")"
 
 -- a name, as it is spelled
 abbrev pub spelled : List ℕ → List ℕ
@@ -44,13 +49,16 @@ abbrev pub let_text : Equation → List ℕ
 let_text e = codes "let " ++ equation_text e
 
 abbrev pub word_text : List ℕ → WordOp → List (List ℕ) → List ℕ
-word_text target p args = target ++ codes " = " ++ op_text p ++ codes "(" ++ listed spelled args ++ codes ");"
+word_text target p args = target ++ codes " = " ++ op_text p ++ codes "(" ++ listed spelled args
+    ++ codes ");"
 
 abbrev pub block_head : Block → List ℕ
-block_head b = codes "serial " ++ direction_text b.down ++ codes " (" ++ listed state_text b.states ++ codes ") {"
+block_head b = codes "serial " ++ direction_text b.down ++ codes " (" ++ listed state_text b.states
+    ++ codes ") {"
 
 abbrev pub op_head : Operation → List ℕ
-op_head o = codes "op " ++ o.name ++ codes "(" ++ listed param_text o.params ++ codes ") -> " ++ param_text o.result ++ codes " {"
+op_head o = codes "op " ++ o.name ++ codes "(" ++ listed param_text o.params ++ codes ") -> "
+    ++ param_text o.result ++ codes " {"
 
 -- a line: its indent, what stands on it, and a newline
 abbrev pub line : List ℕ → List ℕ → List ℕ

@@ -21,7 +21,8 @@ pub(crate) fn put_param(out: &mut Vec<u8>, param: &Param) -> Result<(), NoMemory
 }
 
 fn put_more_params(out: &mut Vec<u8>, params: &[Param]) -> Result<(), NoMemory>
-    ensures text { OnOk result (out.new.items ≡ out.old.items ++ flat_map (behind_comma param_text) params.now) }
+    ensures text { OnOk result (out.new.items
+        ≡ out.old.items ++ flat_map (behind_comma param_text) params.now) }
     ensures names { OnOk result (Each HasParam params.now) }
 {
     for param in params {
@@ -46,7 +47,8 @@ pub(crate) fn put_params(out: &mut Vec<u8>, params: &[Param]) -> Result<(), NoMe
 }
 
 fn put_more_arguments(out: &mut Vec<u8>, args: &[Name]) -> Result<(), NoMemory>
-    ensures text { OnOk result (out.new.items ≡ out.old.items ++ flat_map (behind_comma spelled) args.now) }
+    ensures text { OnOk result (out.new.items
+        ≡ out.old.items ++ flat_map (behind_comma spelled) args.now) }
     ensures names { OnOk result (Each IsName args.now) }
 {
     for arg in args {
@@ -79,7 +81,8 @@ fn put_state(out: &mut Vec<u8>, state: &State) -> Result<(), NoMemory>
 }
 
 fn put_more_states(out: &mut Vec<u8>, states: &[State]) -> Result<(), NoMemory>
-    ensures text { OnOk result (out.new.items ≡ out.old.items ++ flat_map (behind_comma state_text) states.now) }
+    ensures text { OnOk result (out.new.items
+        ≡ out.old.items ++ flat_map (behind_comma state_text) states.now) }
     ensures names { OnOk result (Each HasState states.now) }
 {
     for state in states {

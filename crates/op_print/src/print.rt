@@ -15,8 +15,10 @@ use std::alloc::Global;
 
 /// Writes the first line of an op.
 fn put_head(out: &mut Vec<u8>, op: &Op) -> Result<(), NoMemory>
-    ensures text { OnOk result (out.new.items ≡ out.old.items ++ line [] (op_head (operation op.now))) }
-    ensures names { OnOk result (IsName op.now.name × Each HasParam op.now.params.items × HasParam op.now.result) }
+    ensures text { OnOk result (out.new.items
+        ≡ out.old.items ++ line [] (op_head (operation op.now))) }
+    ensures names { OnOk result (IsName op.now.name × Each HasParam op.now.params.items
+        × HasParam op.now.result) }
 {
     put(out, b"op ")?;
     put(out, op.name.bytes())?;
@@ -37,7 +39,8 @@ fn put_op(out: &mut Vec<u8>, op: &Op) -> Result<(), NoMemory>
 }
 
 fn put_ops(out: &mut Vec<u8>, ops: &[Op]) -> Result<(), NoMemory>
-    ensures text { OnOk result (out.new.items ≡ out.old.items ++ canonical_text (map operation ops.now)) }
+    ensures text { OnOk result (out.new.items
+        ≡ out.old.items ++ canonical_text (map operation ops.now)) }
     ensures names { OnOk result (Each HasOperation (map operation ops.now)) }
 {
     for op in ops {

@@ -57,7 +57,8 @@ fn put_value(out: &mut Vec<u8>, value: &Expr) -> Result<(), NoMemory>
 
 /// Writes a name, what it is set to, and the `;`.
 pub(crate) fn put_equation(out: &mut Vec<u8>, assign: &Assign) -> Result<(), NoMemory>
-    ensures text { OnOk result (out.new.items ≡ out.old.items ++ equation_text (equation assign.now)) }
+    ensures text { OnOk result (out.new.items
+        ≡ out.old.items ++ equation_text (equation assign.now)) }
     ensures names { OnOk result (HasEquation (equation assign.now)) }
 {
     put(out, assign.name.bytes())?;

@@ -1,5 +1,6 @@
 -- No name of an op stands twice.
-use Rattle.std.proofs.Common.{◌≡◌, ℕ, Bool, true, false, not, List, [], ◌∷◌, ◌++◌, Option, Some, refl, sym, ◌∙◌, append_assoc, append-nil, bytes_eq, cond, subst}
+use Rattle.std.proofs.Common.{◌≡◌, ℕ, Bool, true, false, not, List, [], ◌∷◌, ◌++◌, Option, Some}
+use Rattle.std.proofs.Common.{refl, sym, ◌∙◌, append_assoc, append-nil, bytes_eq, cond, subst}
 use Rattle.std.specs.List.{filter}
 use Rattle.op_text.specs.declared.tree.Kind.{Kind}
 use Rattle.op_text.specs.declared.tree.Kind.TheVariants.{Word, Bit}
@@ -8,26 +9,34 @@ use Rattle.op_text.specs.Rules.{is_among, kind_among}
 use Rattle.op_text.specs.Language.{Statement, Compute, Visit}
 use Rattle.op_text.specs.Scratch.{defines, body_defines, state_names, word_names}
 use Rattle.op_text.specs.Spelling.{Each}
-use Rattle.op_rules.specs.Meets.{IsNew, IsNewOf, Differ, Context, used, names_of, let_names, targets, behind, at_start, StatementMeets, BodyMeets}
+use Rattle.op_rules.specs.Meets.{IsNew, IsNewOf, Differ, Context, used, names_of, let_names}
+use Rattle.op_rules.specs.Meets.{targets, behind, at_start, StatementMeets, BodyMeets}
 use Rattle.op_rules.specs.Laws.{NamesStandOnce}
-use Rattle.op_rules.proofs.Names.{is_same, turned, new-left, new-append, each_map, each_both, others_new, or_first, or_second, or_both}
+use Rattle.op_rules.proofs.Names.{is_same, turned, new-left, new-append, each_map, each_both}
+use Rattle.op_rules.proofs.Names.{others_new, or_first, or_second, or_both}
 use Rattle.op_rules.proofs.Standing.{names-append}
 use Rattle.op_rules.proofs.Blocks.{block_names}
 use Rattle.op_rules.proofs.Ops.{each_append}
 
-differ-append : (xs ys : List (List ℕ)) → Differ xs → Differ ys → Each (IsNew xs) ys → Differ (xs ++ ys)
+differ-append : (xs ys : List (List ℕ)) → Differ xs → Differ ys → Each (IsNew xs) ys
+    → Differ (xs ++ ys)
 differ-append [] ys f g h = g
 differ-append (x ∷ xs) ys f g h = (
-  new-append xs ys x f.0 (others_new x ys (each_map (IsNew (x ∷ xs)) (IsNew (x ∷ [])) (λ y k. or_both (bytes_eq x y) false (or_first (bytes_eq x y) (is_among xs y) k) refl) ys h)),
-  differ-append xs ys f.1 g (each_map (IsNew (x ∷ xs)) (IsNew xs) (λ y k. or_second (bytes_eq x y) (is_among xs y) k) ys h),
+  new-append xs ys x f.0 (others_new x ys (each_map (IsNew (x ∷ xs)) (IsNew (x ∷ [])) (λ y k.
+      or_both (bytes_eq x y) false (or_first (bytes_eq x y) (is_among xs y) k) refl) ys h)),
+  differ-append xs ys f.1 g (each_map (IsNew (x ∷ xs)) (IsNew xs) (λ y k.
+      or_second (bytes_eq x y) (is_among xs y) k) ys h),
 )
 
 -- some of the names that differ
-filter_new : (q : List ℕ → Bool) (ns : List (List ℕ)) (n : List ℕ) → IsNew ns n → IsNew (filter q ns) n
+filter_new : (q : List ℕ → Bool) (ns : List (List ℕ)) (n : List ℕ) → IsNew ns n
+    → IsNew (filter q ns) n
 filter_new q [] n h = refl
-filter_new q (m ∷ ns) n h = cases (q m) (or_first (bytes_eq m n) (is_among ns n) h) (filter_new q ns n (or_second (bytes_eq m n) (is_among ns n) h))
+filter_new q (m ∷ ns) n h = cases (q m) (or_first (bytes_eq m n) (is_among ns n) h)
+    (filter_new q ns n (or_second (bytes_eq m n) (is_among ns n) h))
   where
-    cases : (b : Bool) → bytes_eq m n ≡ false → IsNew (filter q ns) n → IsNew (cond b (m ∷ filter q ns) (filter q ns)) n
+    cases : (b : Bool) → bytes_eq m n ≡ false → IsNew (filter q ns) n
+        → IsNew (cond b (m ∷ filter q ns) (filter q ns)) n
     cases true e k = or_both (bytes_eq m n) (is_among (filter q ns) n) e k
     cases false e k = k
 
@@ -35,7 +44,8 @@ filter_differ : (q : List ℕ → Bool) (ns : List (List ℕ)) → Differ ns →
 filter_differ q [] h = tt
 filter_differ q (n ∷ ns) h = cases (q n) (filter_new q ns n h.0) (filter_differ q ns h.1)
   where
-    cases : (b : Bool) → IsNew (filter q ns) n → Differ (filter q ns) → Differ (cond b (n ∷ filter q ns) (filter q ns))
+    cases : (b : Bool) → IsNew (filter q ns) n → Differ (filter q ns)
+        → Differ (cond b (n ∷ filter q ns) (filter q ns))
     cases true e k = (e, k)
     cases false e k = k
 
@@ -47,7 +57,8 @@ pub filter_each : (q : List ℕ → Bool) (ns : List (List ℕ)) → Each (λ n.
 filter_each q [] = tt
 filter_each q (n ∷ ns) = cases (q n) refl (filter_each q ns)
   where
-    cases : (b : Bool) → q n ≡ b → Each (λ n. q n ≡ true) (filter q ns) → Each (λ n. q n ≡ true) (cond b (n ∷ filter q ns) (filter q ns))
+    cases : (b : Bool) → q n ≡ b → Each (λ n. q n ≡ true) (filter q ns)
+        → Each (λ n. q n ≡ true) (cond b (n ∷ filter q ns) (filter q ns))
     cases true e k = (e, k)
     cases false e k = k
 
@@ -56,33 +67,57 @@ pub record Apart (known : List (List ℕ)) (names : List (List ℕ)) : Type 0 wh
   pub differ : Differ names
   pub new : Each (IsNew known) names
 
-new_names : (names used : List (List ℕ)) (r : Param) (k : Kind) (ns : List (List ℕ)) → Each (IsNewOf (names ++ used) r k) ns → Each (IsNew names) ns
-new_names names used r k ns h = each_map (IsNewOf (names ++ used) r k) (IsNew names) (λ n f. new-left names used n f.new) ns h
+new_names : (names used : List (List ℕ)) (r : Param) (k : Kind) (ns : List (List ℕ))
+    → Each (IsNewOf (names ++ used) r k) ns → Each (IsNew names) ns
+new_names names used r k ns h = each_map (IsNewOf (names ++ used) r k) (IsNew names) (λ n f.
+    new-left names used n f.new) ns h
 
-pub statement_apart : (st : Statement) (c : Context) → StatementMeets c st → Apart (names_of c.known) (names_of (defines c.known st))
-statement_apart (Compute target p args) c h = record { differ = (refl, tt); new = (new-left (names_of c.known) c.lets target h.gives.new, tt) }
+pub statement_apart : (st : Statement) (c : Context) → StatementMeets c st
+    → Apart (names_of c.known) (names_of (defines c.known st))
+statement_apart (Compute target p args) c h =
+    record {
+      differ = (refl, tt);
+      new = (
+        new-left (names_of c.known) c.lets target h.gives.new,
+        tt,
+      );
+    }
 statement_apart (Visit b) c h =
     let S = state_names b in
     let W = word_names b in
-    let other : Each (IsNew S) W = each_map (λ n. not (is_among S n) ≡ true) (IsNew S) (λ n k. not_true (is_among S n) k) W (filter_each (λ n. not (is_among S n)) (targets b)) in
+    let other : Each (IsNew S) W = each_map (λ n. not (is_among S n) ≡ true) (IsNew S) (λ n k.
+    not_true (is_among S n) k) W (filter_each (λ n. not (is_among S n)) (targets b)) in
     let words =
-    each_map (IsNewOf (used c ++ let_names b) c.result Word) (IsNew (names_of c.known)) (λ n f. new-left (names_of c.known) c.lets n (new-left (used c) (let_names b) n f.new)) W h.words in
+    each_map (IsNewOf (used c ++ let_names b) c.result Word) (IsNew (names_of c.known)) (λ n f.
+    new-left (names_of c.known) c.lets n (new-left (used c) (let_names b) n f.new)) W h.words in
     let a : Apart (names_of c.known) (S ++ W) = record {
-      differ = differ-append S W h.states_differ (filter_differ (λ n. not (is_among S n)) (targets b) h.targets_differ) other;
-      new = each_append (IsNew (names_of c.known)) S W (new_names (names_of c.known) c.lets c.result Bit S h.states) words;
+      differ = differ-append S W h.states_differ
+          (filter_differ (λ n. not (is_among S n)) (targets b) h.targets_differ) other;
+      new = each_append (IsNew (names_of c.known)) S W
+          (new_names (names_of c.known) c.lets c.result Bit S h.states) words;
     } in
     subst (λ (l : List (List ℕ)). Apart (names_of c.known) l) (sym (block_names S W)) a
 
-body_apart : (body : List Statement) (c : Context) → Differ (names_of c.known) → BodyMeets c body → Differ (names_of (c.known ++ body_defines c.known body))
+body_apart : (body : List Statement) (c : Context) → Differ (names_of c.known) → BodyMeets c body
+    → Differ (names_of (c.known ++ body_defines c.known body))
 body_apart [] c d h = subst (λ (l : List Param). Differ (names_of l)) (sym (append-nil c.known)) d
 body_apart (st ∷ body) c d h =
     let a = statement_apart st c h.0 in
-    let more = subst (λ (l : List (List ℕ)). Differ l) (sym (names-append c.known (defines c.known st))) (differ-append (names_of c.known) (names_of (defines c.known st)) d a.differ a.new) in
-    subst (λ (l : List Param). Differ (names_of l)) (append_assoc c.known (defines c.known st) (body_defines (c.known ++ defines c.known st) body)) (body_apart body (behind c st) more h.1)
+    let more = subst (λ (l : List (List ℕ)). Differ l)
+    (sym (names-append c.known (defines c.known st)))
+    (differ-append (names_of c.known) (names_of (defines c.known st)) d a.differ a.new) in
+    subst (λ (l : List Param). Differ (names_of l))
+    (append_assoc c.known (defines c.known st)
+    (body_defines (c.known ++ defines c.known st) body))
+    (body_apart body (behind c st) more h.1)
 
-others_apart : (n : List ℕ) (ps : List Param) → IsNew (names_of ps) n → Each (λ (p : Param). bytes_eq n p.name ≡ false) ps
+others_apart : (n : List ℕ) (ps : List Param) → IsNew (names_of ps) n
+    → Each (λ (p : Param). bytes_eq n p.name ≡ false) ps
 others_apart n [] h = tt
-others_apart n (p ∷ ps) h = (turned n p.name ∙ or_first (bytes_eq p.name n) (is_among (names_of ps) n) h, others_apart n ps (or_second (bytes_eq p.name n) (is_among (names_of ps) n) h))
+others_apart n (p ∷ ps) h = (
+  turned n p.name ∙ or_first (bytes_eq p.name n) (is_among (names_of ps) n) h,
+  others_apart n ps (or_second (bytes_eq p.name n) (is_among (names_of ps) n) h),
+)
 
 skips : (b : Bool) (k : Kind) (x y : Option Kind) → b ≡ false → x ≡ y → cond b (Some k) x ≡ y
 skips true k x y e h = cc
@@ -92,12 +127,15 @@ takes : (b : Bool) (k : Kind) (x : Option Kind) → b ≡ true → cond b (Some 
 takes true k x e = refl
 takes false k x e = cc
 
-found_each : (ps : List Param) → Differ (names_of ps) → Each (λ (p : Param). kind_among ps p.name ≡ Some p.kind) ps
+found_each : (ps : List Param) → Differ (names_of ps)
+    → Each (λ (p : Param). kind_among ps p.name ≡ Some p.kind) ps
 found_each [] h = tt
 found_each (p ∷ ps) h = (
   takes (bytes_eq p.name p.name) p.kind (kind_among ps p.name) (is_same p.name p.name refl),
-  each_both (λ (q : Param). bytes_eq p.name q.name ≡ false) (λ (q : Param). kind_among ps q.name ≡ Some q.kind) (λ (q : Param). kind_among (p ∷ ps) q.name ≡ Some q.kind)
-      (λ q e f. skips (bytes_eq p.name q.name) p.kind (kind_among ps q.name) (Some q.kind) e f) ps (others_apart p.name ps h.0) (found_each ps h.1),
+  each_both (λ (q : Param). bytes_eq p.name q.name ≡ false) (λ (q : Param). kind_among ps q.name
+      ≡ Some q.kind) (λ (q : Param). kind_among (p ∷ ps) q.name ≡ Some q.kind)
+      (λ q e f. skips (bytes_eq p.name q.name) p.kind (kind_among ps q.name) (Some q.kind) e f) ps
+      (others_apart p.name ps h.0) (found_each ps h.1),
 )
 
 pub names_stand_once : NamesStandOnce

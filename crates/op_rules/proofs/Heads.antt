@@ -1,5 +1,6 @@
 -- The head of an op: its name, its sources and its result.
-use Rattle.std.proofs.Common.{◌≡◌, ℕ, ◌+◌, ◌<◌, ◌≤◌, false, nat_le, List, [], ◌∷◌, ◌++◌, length, arith, Some, None, refl, sym, ◌∙◌, codes, append_assoc, append-nil}
+use Rattle.std.proofs.Common.{◌≡◌, ℕ, ◌+◌, ◌<◌, ◌≤◌, false, nat_le, List, [], ◌∷◌, ◌++◌, length}
+use Rattle.std.proofs.Common.{arith, Some, None, refl, sym, ◌∙◌, codes, append_assoc, append-nil}
 use Rattle.std.proofs.lemmas.List.{length-append}
 use Rattle.text_lex.specs.Lexical.{Item}
 use Rattle.op_text.specs.declared.fault.OpsKind.TheVariants as why
@@ -7,11 +8,13 @@ use Rattle.op_text.specs.declared.tree.Kind.{Kind}
 use Rattle.op_text.specs.declared.tree.Kind.TheVariants.{Word, Bit}
 use Rattle.op_text.specs.declared.tree.Param.{Param}
 use Rattle.op_text.specs.declared.grammar.Wanted.{Wanted}
-use Rattle.op_text.specs.declared.grammar.Wanted.TheVariants.{NewParam, ParamKind, Params, NewResult, ResultKind, Colon}
+use Rattle.op_text.specs.declared.grammar.Wanted.TheVariants.{NewParam, ParamKind, Params}
+use Rattle.op_text.specs.declared.grammar.Wanted.TheVariants.{NewResult, ResultKind, Colon}
 use Rattle.op_text.specs.Items.{spelling_of}
 use Rattle.op_text.specs.Rules.{Scope, breach_of, is_bad, is_among, new_word, new_block}
 use Rattle.op_text.specs.Scratch.{param}
-use Rattle.op_text.specs.Spelling.{items_spelled, kind_text, between_commas, behind_commas, param_text, Each, HasParam}
+use Rattle.op_text.specs.Spelling.{items_spelled, kind_text, between_commas, behind_commas}
+use Rattle.op_text.specs.Spelling.{param_text, Each, HasParam}
 use Rattle.op_rules.specs.Meets.{IsGood, names_of}
 use Rattle.op_rules.proofs.Names.{AllFresh}
 use Rattle.op_rules.proofs.Tokens.{goes, name_lexeme, named, two_rules, three_rules, not_bad, le_no}
@@ -26,96 +29,142 @@ in_params ops stands done = record {
   naming = None;
 }
 
-pub param_kind : (k : Kind) (ops stands : List (List ℕ)) (done : List Param) (n : List ℕ) (wanted : List Wanted) (rest : List (List ℕ))
-    → breach_of (Colon ∷ ParamKind ∷ wanted) (record (in_params ops stands done) { naming = Some n }) (items_spelled (codes ":" ∷ kind_text k ∷ rest))
-    ≡ breach_of wanted (in_params ops (stands ++ n ∷ []) (done ++ param n k ∷ [])) (items_spelled rest)
+pub param_kind : (k : Kind) (ops stands : List (List ℕ)) (done : List Param) (n : List ℕ)
+    (wanted : List Wanted) (rest : List (List ℕ))
+    → breach_of (Colon ∷ ParamKind ∷ wanted) (record (in_params ops stands done)
+    { naming = Some n }) (items_spelled (codes ":" ∷ kind_text k ∷ rest))
+    ≡ breach_of wanted (in_params ops (stands ++ n ∷ []) (done ++ param n k ∷ []))
+    (items_spelled rest)
 unfolding breach_of
 param_kind Word ops stands done n wanted rest = refl
 param_kind Bit ops stands done n wanted rest = refl
 
-record OneParam (ops stands : List (List ℕ)) (done : List Param) (p : Param) (wanted : List Wanted) (rest : List (List ℕ)) : Type 0 where
+record OneParam (ops stands : List (List ℕ)) (done : List Param) (p : Param) (wanted : List Wanted)
+    (rest : List (List ℕ)) : Type 0 where
   good : IsGood p.name
   fresh : is_among stands p.name ≡ false
   few : length done < 4
-  then : breach_of wanted (in_params ops (stands ++ p.name ∷ []) (done ++ p ∷ [])) (items_spelled rest) ≡ None
+  then : breach_of wanted (in_params ops (stands ++ p.name ∷ []) (done ++ p ∷ []))
+      (items_spelled rest) ≡ None
 
-param_peels : (ops stands : List (List ℕ)) (done : List Param) (p : Param) (wanted : List Wanted) (rest : List (List ℕ)) → HasParam p
-    → breach_of (NewParam ∷ Colon ∷ ParamKind ∷ wanted) (in_params ops stands done) (items_spelled (param_text p rest)) ≡ None → OneParam ops stands done p wanted rest
+param_peels : (ops stands : List (List ℕ)) (done : List Param) (p : Param) (wanted : List Wanted)
+    (rest : List (List ℕ)) → HasParam p
+    → breach_of (NewParam ∷ Colon ∷ ParamKind ∷ wanted) (in_params ops stands done)
+    (items_spelled (param_text p rest)) ≡ None → OneParam ops stands done p wanted rest
 unfolding breach_of
 param_peels ops stands done p wanted rest n h =
     let more = codes ":" ∷ kind_text p.kind ∷ rest in
     let s = in_params ops stands done in
     let g = sym (named NewParam (Colon ∷ ParamKind ∷ wanted) s p.name more n) ∙ h in
     let k =
-    three_rules (is_bad (spelling_of p.name) p.name) (is_among stands p.name) (nat_le 4 (length done)) why.BadName why.Twice why.TooMany
-    (record s { naming = Some p.name }) [] (name_lexeme p.name) (goes (Colon ∷ ParamKind ∷ wanted) more) g in
-    record { good = not_bad p.name k.0; fresh = k.1; few = le_no 4 (length done) k.2; then = sym (param_kind p.kind ops stands done p.name wanted rest) ∙ k.3 }
+    three_rules (is_bad (spelling_of p.name) p.name) (is_among stands p.name)
+    (nat_le 4 (length done)) why.BadName why.Twice why.TooMany
+    (record s { naming = Some p.name }) [] (name_lexeme p.name)
+    (goes (Colon ∷ ParamKind ∷ wanted) more) g in
+    record {
+      good = not_bad p.name k.0;
+      fresh = k.1;
+      few = le_no 4 (length done) k.2;
+      then = sym (param_kind p.kind ops stands done p.name wanted rest) ∙ k.3;
+    }
 
-pub record AllParams (ops stands : List (List ℕ)) (done ps : List Param) (wanted : List Wanted) (rest : List (List ℕ)) : Type 0 where
+pub record AllParams (ops stands : List (List ℕ)) (done ps : List Param) (wanted : List Wanted)
+    (rest : List (List ℕ)) : Type 0 where
   pub good : Each IsGood (names_of ps)
   pub fresh : AllFresh stands (names_of ps)
   pub few : length done + length ps ≤ 4
-  pub then : breach_of wanted (in_params ops (stands ++ names_of ps) (done ++ ps)) (items_spelled rest) ≡ None
+  pub then : breach_of wanted (in_params ops (stands ++ names_of ps) (done ++ ps))
+      (items_spelled rest) ≡ None
 
-pub params_move : (ops a b : List (List ℕ)) (p q : List Param) → a ≡ b → p ≡ q → (wanted : List Wanted) (items : List Item) → breach_of wanted (in_params ops a p) items ≡ None → breach_of wanted (in_params ops b q) items ≡ None
+pub params_move : (ops a b : List (List ℕ)) (p q : List Param) → a ≡ b → p ≡ q
+    → (wanted : List Wanted) (items : List Item) → breach_of wanted (in_params ops a p) items ≡ None
+    → breach_of wanted (in_params ops b q) items ≡ None
 params_move ops a b p q e f wanted items h = rw (← e, ← f) h
 
-params_from : (ops stands : List (List ℕ)) (done : List Param) (p : Param) (ps : List Param) (front wanted : List Wanted) (text rest : List (List ℕ))
-    → OneParam ops stands done p front text → AllParams ops (stands ++ p.name ∷ []) (done ++ p ∷ []) ps wanted rest → AllParams ops stands done (p ∷ ps) wanted rest
+params_from : (ops stands : List (List ℕ)) (done : List Param) (p : Param) (ps : List Param)
+    (front wanted : List Wanted) (text rest : List (List ℕ))
+    → OneParam ops stands done p front text → AllParams ops (stands ++ p.name ∷ []) (done ++ p
+    ∷ []) ps wanted rest → AllParams ops stands done (p ∷ ps) wanted rest
 params_from ops stands done p ps front wanted text rest a b =
     let l = length-append done (p ∷ []) in
     record {
       good = (a.good, b.good);
       fresh = (a.fresh, b.fresh);
       few = let i = b.few in omega arith;
-      then = params_move ops _ (stands ++ names_of (p ∷ ps)) _ (done ++ p ∷ ps) (append_assoc stands (p.name ∷ []) (names_of ps)) (append_assoc done (p ∷ []) ps) wanted (items_spelled rest) b.then;
+      then = params_move ops _ (stands ++ names_of (p ∷ ps)) _ (done ++ p
+          ∷ ps) (append_assoc stands (p.name ∷ []) (names_of ps)) (append_assoc done (p ∷ []) ps)
+          wanted (items_spelled rest) b.then;
     }
 
-params_behind : (ps : List Param) (ops stands : List (List ℕ)) (done : List Param) (wanted : List Wanted) (rest : List (List ℕ)) → Each HasParam ps → length done ≤ 4
-    → breach_of (Params ∷ wanted) (in_params ops stands done) (items_spelled (behind_commas param_text ps (codes ")" ∷ rest))) ≡ None → AllParams ops stands done ps wanted rest
+params_behind : (ps : List Param) (ops stands : List (List ℕ)) (done : List Param)
+    (wanted : List Wanted) (rest : List (List ℕ)) → Each HasParam ps → length done ≤ 4
+    → breach_of (Params ∷ wanted) (in_params ops stands done)
+    (items_spelled (behind_commas param_text ps (codes ")" ∷ rest))) ≡ None
+    → AllParams ops stands done ps wanted rest
 unfolding breach_of
 params_behind [] ops stands done wanted rest n l h = record {
   good = tt;
   fresh = tt;
   few = omega arith;
-  then = params_move ops stands (stands ++ []) done (done ++ []) (sym (append-nil stands)) (sym (append-nil done)) wanted (items_spelled rest) h;
+  then = params_move ops stands (stands ++ []) done (done ++ []) (sym (append-nil stands))
+      (sym (append-nil done)) wanted (items_spelled rest) h;
 }
 params_behind (p ∷ ps) ops stands done wanted rest n l h =
     let more = behind_commas param_text ps (codes ")" ∷ rest) in
     let a = param_peels ops stands done p (Params ∷ wanted) more n.0 h in
     let e = length-append done (p ∷ []) in
-    params_from ops stands done p ps (Params ∷ wanted) wanted more rest a (params_behind ps ops (stands ++ p.name ∷ []) (done ++ p ∷ []) wanted rest n.1 (let i = a.few in omega arith) a.then)
+    params_from ops stands done p ps (Params ∷ wanted) wanted more rest a
+    (params_behind ps ops (stands ++ p.name ∷ []) (done ++ p ∷ []) wanted rest n.1
+    (let i = a.few in omega arith) a.then)
 
-pub params_peel : (ps : List Param) (ops : List (List ℕ)) (wanted : List Wanted) (rest : List (List ℕ)) → Each HasParam ps
-    → breach_of (NewParam ∷ Colon ∷ ParamKind ∷ Params ∷ wanted) (in_params ops [] []) (items_spelled (between_commas param_text ps (codes ")" ∷ rest))) ≡ None
+pub params_peel : (ps : List Param) (ops : List (List ℕ)) (wanted : List Wanted)
+    (rest : List (List ℕ)) → Each HasParam ps
+    → breach_of (NewParam ∷ Colon ∷ ParamKind ∷ Params ∷ wanted) (in_params ops [] [])
+    (items_spelled (between_commas param_text ps (codes ")" ∷ rest))) ≡ None
     → (1 ≤ length ps) × AllParams ops [] [] ps wanted rest
 unfolding breach_of
 params_peel [] ops wanted rest n h = cc
 params_peel (p ∷ ps) ops wanted rest n h =
     let more = behind_commas param_text ps (codes ")" ∷ rest) in
-    let a = param_peels ops [] [] p (Params ∷ wanted) more n.0 h in
-    (omega arith, params_from ops [] [] p ps (Params ∷ wanted) wanted more rest a (params_behind ps ops (p.name ∷ []) (p ∷ []) wanted rest n.1 (omega arith) a.then))
+    let a = param_peels ops [] [] p (Params ∷ wanted) more n.0 h in (
+      omega arith,
+      params_from ops [] [] p ps (Params ∷ wanted) wanted more rest a
+          (params_behind ps ops (p.name ∷ []) (p ∷ []) wanted rest n.1 (omega arith) a.then),
+    )
 
 -- the scope behind the head of an op
 abbrev pub in_body : List (List ℕ) → List (List ℕ) → List Param → Param → Scope
 in_body ops stands known result = record {
   ops = ops;
-  op = record { stands = stands; defined = known; result = Some result; assigned = false; statements = 0 };
+  op = record {
+    stands = stands;
+    defined = known;
+    result = Some result;
+    assigned = false;
+    statements = 0;
+  };
   word = new_word;
   block = new_block;
   naming = None;
 }
 
-pub result_kind_moves : (k : Kind) (ops stands : List (List ℕ)) (done : List Param) (n : List ℕ) (wanted : List Wanted) (rest : List (List ℕ))
-    → breach_of (Colon ∷ ResultKind ∷ wanted) (record (in_params ops (stands ++ n ∷ []) done) { naming = Some n }) (items_spelled (codes ":" ∷ kind_text k ∷ rest))
+pub result_kind_moves : (k : Kind) (ops stands : List (List ℕ)) (done : List Param) (n : List ℕ)
+    (wanted : List Wanted) (rest : List (List ℕ))
+    → breach_of (Colon ∷ ResultKind ∷ wanted)
+    (record (in_params ops (stands ++ n ∷ []) done) { naming = Some n })
+    (items_spelled (codes ":" ∷ kind_text k ∷ rest))
     ≡ breach_of wanted (in_body ops (stands ++ n ∷ []) done (param n k)) (items_spelled rest)
 unfolding breach_of
 result_kind_moves Word ops stands done n wanted rest = refl
 result_kind_moves Bit ops stands done n wanted rest = refl
 
-pub result_peels : (ops stands : List (List ℕ)) (done : List Param) (p : Param) (wanted : List Wanted) (rest : List (List ℕ)) → HasParam p
-    → breach_of (NewResult ∷ Colon ∷ ResultKind ∷ wanted) (in_params ops stands done) (items_spelled (param_text p rest)) ≡ None
-    → IsGood p.name × (is_among stands p.name ≡ false) × (breach_of wanted (in_body ops (stands ++ p.name ∷ []) done p) (items_spelled rest) ≡ None)
+pub result_peels : (ops stands : List (List ℕ)) (done : List Param) (p : Param)
+    (wanted : List Wanted) (rest : List (List ℕ)) → HasParam p
+    → breach_of (NewResult ∷ Colon ∷ ResultKind ∷ wanted) (in_params ops stands done)
+    (items_spelled (param_text p rest)) ≡ None
+    → IsGood p.name × (is_among stands p.name ≡ false)
+    × (breach_of wanted (in_body ops (stands ++ p.name ∷ []) done p) (items_spelled rest)
+    ≡ None)
 unfolding breach_of
 result_peels ops stands done p wanted rest n h =
     let more = codes ":" ∷ kind_text p.kind ∷ rest in
@@ -123,5 +172,10 @@ result_peels ops stands done p wanted rest n h =
     let g = sym (named NewResult (Colon ∷ ResultKind ∷ wanted) s p.name more n) ∙ h in
     let k =
     two_rules (is_bad (spelling_of p.name) p.name) (is_among stands p.name) why.BadName why.Twice
-    (record (in_params ops (stands ++ p.name ∷ []) done) { naming = Some p.name }) [] (name_lexeme p.name) (goes (Colon ∷ ResultKind ∷ wanted) more) g in
-    (not_bad p.name k.0, k.1, sym (result_kind_moves p.kind ops stands done p.name wanted rest) ∙ k.2)
+    (record (in_params ops (stands ++ p.name ∷ []) done) { naming = Some p.name }) []
+    (name_lexeme p.name) (goes (Colon ∷ ResultKind ∷ wanted) more) g in (
+      not_bad p.name k.0,
+      k.1,
+      sym (result_kind_moves p.kind ops stands done p.name wanted rest)
+          ∙ k.2,
+    )

@@ -1,5 +1,7 @@
 -- Ops that meet the rules break none.
-use Rattle.std.proofs.Common.{◌≡◌, ℕ, ◌+◌, ◌<◌, ◌≤◌, Bool, true, false, not, ◌||◌, nat_le, List, [], ◌∷◌, ◌++◌, map, length, arith, Some, None, refl, sym, ap, ◌∙◌, codes, append_assoc, append-nil, bytes_eq, cond}
+use Rattle.std.proofs.Common.{◌≡◌, ℕ, ◌+◌, ◌<◌, ◌≤◌, Bool, true, false, not, ◌||◌, nat_le, List, []}
+use Rattle.std.proofs.Common.{◌∷◌, ◌++◌, map, length, arith, Some, None, refl, sym, ap, ◌∙◌, codes}
+use Rattle.std.proofs.Common.{append_assoc, append-nil, bytes_eq, cond}
 use Rattle.std.proofs.lemmas.List.{length-append}
 use Rattle.op_text.specs.declared.fault.OpsKind.TheVariants as why
 use Rattle.op_text.specs.declared.tree.Kind.{Kind}
@@ -7,13 +9,21 @@ use Rattle.op_text.specs.declared.tree.Param.{Param}
 use Rattle.op_text.specs.declared.tree.State.{State}
 use Rattle.op_text.specs.declared.tree.Kind.TheVariants.{Word, Bit}
 use Rattle.op_text.specs.declared.grammar.Wanted.{Wanted}
-use Rattle.op_text.specs.declared.grammar.Wanted.TheVariants.{Ops, NewOp, Open, NewParam, ParamKind, Params, Arrow, NewResult, ResultKind, Colon, Begin, FirstStmt, Stmts}
+use Rattle.op_text.specs.declared.grammar.Wanted.TheVariants.{Ops, NewOp, Open, NewParam, ParamKind}
+use Rattle.op_text.specs.declared.grammar.Wanted.TheVariants.{Params, Arrow, NewResult, ResultKind}
+use Rattle.op_text.specs.declared.grammar.Wanted.TheVariants.{Colon, Begin, FirstStmt, Stmts}
 use Rattle.op_text.specs.Items.{spelling_of}
 use Rattle.op_text.specs.Rules.{Scope, breach_of, is_bad, is_among, kind_among}
-use Rattle.op_text.specs.Language.{Term, Nought, Unity, Named, Negation, Conjunction, Disjunction, Parity, Majority, Equation, Statement, Compute, Visit, Operation}
+use Rattle.op_text.specs.Language.{Term, Nought, Unity, Named, Negation, Conjunction, Disjunction}
+use Rattle.op_text.specs.Language.{Parity, Majority, Equation, Statement, Compute, Visit, Operation}
 use Rattle.op_text.specs.Scratch.{param, defines, body_defines, kind_of, state_names, word_names}
-use Rattle.op_text.specs.Spelling.{items_spelled, between_commas, in_turn, param_text, statement_text, operation_text, MeetRules, Each, IsName, HasNames, HasParam, HasState, HasEquation, HasStatement, HasOperation, TermMeets}
-use Rattle.op_rules.specs.Meets.{used, IsGood, IsNew, IsNewOf, IsNewLet, IsKnown, Context, names_of, let_names, behind, StatementMeets, BodyMeets, LetsRead, can_read, OperationMeets, OpsMeet, at_start}
+use Rattle.op_text.specs.Spelling.{items_spelled, between_commas, in_turn, param_text}
+use Rattle.op_text.specs.Spelling.{statement_text, operation_text, MeetRules, Each, IsName}
+use Rattle.op_text.specs.Spelling.{HasNames, HasParam, HasState, HasEquation, HasStatement}
+use Rattle.op_text.specs.Spelling.{HasOperation, TermMeets}
+use Rattle.op_rules.specs.Meets.{used, IsGood, IsNew, IsNewOf, IsNewLet, IsKnown, Context, names_of}
+use Rattle.op_rules.specs.Meets.{let_names, behind, StatementMeets, BodyMeets, LetsRead, can_read}
+use Rattle.op_rules.specs.Meets.{OperationMeets, OpsMeet, at_start}
 use Rattle.op_rules.proofs.Names.{AllFresh, among-append, or_both, each_map, differ-fresh}
 use Rattle.op_rules.proofs.Tokens.{goes, name_lexeme, named}
 use Rattle.op_rules.proofs.Passing.{one_pass, two_pass, good_passes, good_fits, le_passes}
@@ -29,62 +39,99 @@ use Rattle.op_rules.proofs.MeetingWords.{Goes, word_back}
 use Rattle.op_rules.proofs.MeetingBlocks.{IsTarget, block_back, good_among, none_new, targets_are}
 
 -- a name that is known is among the names
-is_named : (known : List Param) (n : List ℕ) (k : Kind) → kind_among known n ≡ Some k → is_among (names_of known) n ≡ true
+is_named : (known : List Param) (n : List ℕ) (k : Kind) → kind_among known n ≡ Some k
+    → is_among (names_of known) n ≡ true
 is_named [] n k h = cc
 is_named (p ∷ known) n k h = cases (bytes_eq p.name n) h (λ g. is_named known n k g)
   where
-    cases : (b : Bool) → cond b (Some p.kind) (kind_among known n) ≡ Some k → (kind_among known n ≡ Some k → is_among (names_of known) n ≡ true) → (b || is_among (names_of known) n) ≡ true
+    cases : (b : Bool) → cond b (Some p.kind) (kind_among known n) ≡ Some k
+        → (kind_among known n ≡ Some k → is_among (names_of known) n ≡ true)
+        → (b || is_among (names_of known) n) ≡ true
     cases true g f = refl
     cases false g f = f g
 
-known_good : (known : List Param) → Each IsGood (names_of known) → (args : List (List ℕ)) → Each (IsKnown known) args → Each IsGood args
-known_good known g args h = each_map (IsKnown known) IsGood (λ n k. good_among (names_of known) g n (is_named known n (kind_of known n) k)) args h
+known_good : (known : List Param) → Each IsGood (names_of known) → (args : List (List ℕ))
+    → Each (IsKnown known) args → Each IsGood args
+known_good known g args h = each_map (IsKnown known) IsGood (λ n k.
+    good_among (names_of known) g n (is_named known n (kind_of known n) k)) args h
 
-params_good : (names : List (List ℕ)) (r : Param) (k : Kind) (ns : List (List ℕ)) → Each (IsNewOf names r k) ns → Each IsGood (names_of (map (λ n. param n k) ns))
+params_good : (names : List (List ℕ)) (r : Param) (k : Kind) (ns : List (List ℕ))
+    → Each (IsNewOf names r k) ns → Each IsGood (names_of (map (λ n. param n k) ns))
 params_good names r k [] h = tt
 params_good names r k (n ∷ ns) h = (h.0.good, params_good names r k ns h.1)
 
-good_append : (ps qs : List Param) → Each IsGood (names_of ps) → Each IsGood (names_of qs) → Each IsGood (names_of (ps ++ qs))
+good_append : (ps qs : List Param) → Each IsGood (names_of ps) → Each IsGood (names_of qs)
+    → Each IsGood (names_of (ps ++ qs))
 good_append [] qs g h = h
 good_append (p ∷ ps) qs g h = (g.0, good_append ps qs g.1 h)
 
-statement_good : (st : Statement) (c : Context) → StatementMeets c st → Each IsGood (names_of (defines c.known st))
+statement_good : (st : Statement) (c : Context) → StatementMeets c st
+    → Each IsGood (names_of (defines c.known st))
 statement_good (Compute target p args) c m = (m.gives.good, tt)
 statement_good (Visit b) c m =
-    good_append (map (λ n. param n Bit) (state_names b)) (map (λ n. param n Word) (word_names b)) (params_good _ c.result Bit (state_names b) m.states) (params_good _ c.result Word (word_names b) m.words)
+    good_append (map (λ n. param n Bit) (state_names b)) (map (λ n. param n Word) (word_names b))
+    (params_good _ c.result Bit (state_names b) m.states)
+    (params_good _ c.result Word (word_names b) m.words)
 
-statement_back : (st : Statement) (ops stands : List (List ℕ)) (c : Context) (assigned : Bool) (count : ℕ) (wanted : List Wanted) (rest : List (List ℕ)) → StatementMeets c st → Each IsGood (names_of c.known)
-    → Standing stands c assigned → count < 16 → Goes st ops c count wanted rest → breach_of (Stmts ∷ wanted) (at_statement ops stands c assigned count) (items_spelled (statement_text st rest)) ≡ None
-statement_back (Compute target p args) ops stands c assigned count wanted rest m g s l go = word_back target p args ops stands c assigned count wanted rest m (known_good c.known g args m.known) s l go
-statement_back (Visit b) ops stands c assigned count wanted rest m g s l go = block_back b ops stands c assigned count wanted rest m s l go
+statement_back : (st : Statement) (ops stands : List (List ℕ)) (c : Context) (assigned : Bool)
+    (count : ℕ) (wanted : List Wanted) (rest : List (List ℕ)) → StatementMeets c st
+    → Each IsGood (names_of c.known)
+    → Standing stands c assigned → count < 16 → Goes st ops c count wanted rest
+    → breach_of (Stmts ∷ wanted) (at_statement ops stands c assigned count)
+    (items_spelled (statement_text st rest)) ≡ None
+statement_back (Compute target p args) ops stands c assigned count wanted rest m g s l go =
+    word_back target p args ops stands c assigned count wanted rest m
+    (known_good c.known g args m.known) s l go
+statement_back (Visit b) ops stands c assigned count wanted rest m g s l go =
+    block_back b ops stands c assigned count wanted rest m s l go
 
-body_back : (body : List Statement) (ops stands : List (List ℕ)) (c : Context) (assigned : Bool) (count : ℕ) (wanted : List Wanted) (rest : List (List ℕ)) → BodyMeets c body → Each IsGood (names_of c.known)
-    → Standing stands c assigned → count + length body ≤ 16 → is_among (names_of (c.known ++ body_defines c.known body)) c.result.name ≡ true
+body_back : (body : List Statement) (ops stands : List (List ℕ)) (c : Context) (assigned : Bool)
+    (count : ℕ) (wanted : List Wanted) (rest : List (List ℕ)) → BodyMeets c body
+    → Each IsGood (names_of c.known)
+    → Standing stands c assigned → count + length body ≤ 16
+    → is_among (names_of (c.known ++ body_defines c.known body)) c.result.name ≡ true
     → breach_of wanted (in_params ops [] []) (items_spelled rest) ≡ None
-    → breach_of (Stmts ∷ wanted) (at_statement ops stands c assigned count) (items_spelled (in_turn statement_text body (codes "}" ∷ rest))) ≡ None
+    → breach_of (Stmts ∷ wanted) (at_statement ops stands c assigned count)
+    (items_spelled (in_turn statement_text body (codes "}" ∷ rest))) ≡ None
 unfolding breach_of
 body_back [] ops stands c assigned count wanted rest m g s l e h =
     let r = c.result.name in
     let k = ap (λ l. is_among (names_of l) r) (sym (append-nil c.known)) ∙ e in
-    let given = sym s.given ∙ among-append (names_of c.known) c.lets r ∙ or_left (is_among (names_of c.known) r) (is_among c.lets r) k in
-    one_pass (not assigned) why.NoResult (in_params ops [] []) [] (mark (codes "}")) (goes wanted rest) (ap not given) ∙ h
+    let given = sym s.given ∙ among-append (names_of c.known) c.lets r
+    ∙ or_left (is_among (names_of c.known) r) (is_among c.lets r) k in
+    one_pass (not assigned) why.NoResult (in_params ops [] []) [] (mark (codes "}"))
+    (goes wanted rest) (ap not given) ∙ h
 body_back (st ∷ body) ops stands c assigned count wanted rest m g s l e h =
-    let e' = ap (λ l. is_among (names_of l) c.result.name) (append_assoc c.known (defines c.known st) (body_defines (c.known ++ defines c.known st) body)) ∙ e in
+    let e' = ap (λ l. is_among (names_of l) c.result.name)
+    (append_assoc c.known (defines c.known st)
+    (body_defines (c.known ++ defines c.known st) body)) ∙ e in
     let good = good_append c.known (defines c.known st) g (statement_good st c m.0) in
     let go : Goes st ops c count wanted (in_turn statement_text body (codes "}" ∷ rest)) =
-    λ stands' assigned' s'. body_back body ops stands' (behind c st) assigned' (count + 1) wanted rest m.1 good s' (omega arith) e' h in
-    statement_back st ops stands c assigned count wanted (in_turn statement_text body (codes "}" ∷ rest)) m.0 g s (omega arith) go
+    λ stands' assigned' s'. body_back body ops stands' (behind c st) assigned' (count + 1) wanted
+    rest m.1 good s' (omega arith) e' h in
+    statement_back st ops stands c assigned count wanted
+    (in_turn statement_text body (codes "}" ∷ rest)) m.0 g s (omega arith) go
 
 -- names that are good are names
-term_has : (e : Term) (readable : List ℕ → Bool) (depth : ℕ) → TermMeets readable depth e → HasNames e
+term_has : (e : Term) (readable : List ℕ → Bool) (depth : ℕ) → TermMeets readable depth e
+    → HasNames e
 term_has Nought readable depth m = tt
 term_has Unity readable depth m = tt
 term_has (Named name) readable depth m = good_fits name m.0
 term_has (Negation a) readable depth m = term_has a readable (depth + 1) m.1
-term_has (Conjunction a b) readable depth m = (term_has a readable (depth + 1) m.1, term_has b readable (depth + 1) m.2)
-term_has (Disjunction a b) readable depth m = (term_has a readable (depth + 1) m.1, term_has b readable (depth + 1) m.2)
-term_has (Parity a b) readable depth m = (term_has a readable (depth + 1) m.1, term_has b readable (depth + 1) m.2)
-term_has (Majority a b c) readable depth m = (term_has a readable (depth + 1) m.1, term_has b readable (depth + 1) m.2, term_has c readable (depth + 1) m.3)
+term_has (Conjunction a b) readable depth m =
+    (term_has a readable (depth + 1) m.1, term_has b readable (depth + 1) m.2)
+term_has (Disjunction a b) readable depth m =
+    (term_has a readable (depth + 1) m.1, term_has b readable (depth + 1) m.2)
+term_has (Parity a b) readable depth m = (
+  term_has a readable (depth + 1) m.1,
+  term_has b readable (depth + 1) m.2,
+)
+term_has (Majority a b c) readable depth m = (
+  term_has a readable (depth + 1) m.1,
+  term_has b readable (depth + 1) m.2,
+  term_has c readable (depth + 1) m.3,
+)
 
 states_have : (ss : List State) → Each IsGood (map (λ (s : State). s.name) ss) → Each HasState ss
 states_have [] g = tt
@@ -94,43 +141,77 @@ params_have : (ps : List Param) → Each IsGood (names_of ps) → Each HasParam 
 params_have [] g = tt
 params_have (p ∷ ps) g = (good_fits p.name g.0, params_have ps g.1)
 
-lets_have : (es : List Equation) (known : List Param) (inside : List (List ℕ)) → Each IsGood (names_in es) → LetsRead known inside es → Each HasEquation es
+lets_have : (es : List Equation) (known : List Param) (inside : List (List ℕ))
+    → Each IsGood (names_in es) → LetsRead known inside es → Each HasEquation es
 lets_have [] known inside g m = tt
-lets_have (e ∷ es) known inside g m = ((good_fits e.name g.0, term_has e.value (can_read known inside) 0 m.0), lets_have es known (inside ++ e.name ∷ []) g.1 m.1)
+lets_have (e ∷ es) known inside g m = (
+  (good_fits e.name g.0, term_has e.value (can_read known inside) 0 m.0),
+  lets_have es known (inside ++ e.name ∷ []) g.1 m.1,
+)
 
-assigns_have : (es : List Equation) (readable : List ℕ → Bool) → Each IsGood (names_in es) → Each (λ (e : Equation). TermMeets readable 0 e.value) es → Each HasEquation es
+assigns_have : (es : List Equation) (readable : List ℕ → Bool) → Each IsGood (names_in es)
+    → Each (λ (e : Equation). TermMeets readable 0 e.value) es → Each HasEquation es
 assigns_have [] readable g m = tt
-assigns_have (e ∷ es) readable g m = ((good_fits e.name g.0, term_has e.value readable 0 m.0), assigns_have es readable g.1 m.1)
+assigns_have (e ∷ es) readable g m = (
+  (good_fits e.name g.0, term_has e.value readable 0 m.0),
+  assigns_have es readable g.1 m.1,
+)
 
-statement_has : (st : Statement) (c : Context) → StatementMeets c st → Each IsGood (names_of c.known) → HasStatement st
-statement_has (Compute target p args) c m g = (good_fits target m.gives.good, each_map IsGood IsName (λ n k. good_fits n k) args (known_good c.known g args m.known))
+statement_has : (st : Statement) (c : Context) → StatementMeets c st
+    → Each IsGood (names_of c.known) → HasStatement st
+statement_has (Compute target p args) c m g = (
+  good_fits target m.gives.good,
+  each_map IsGood IsName (λ n k. good_fits n k) args
+      (known_good c.known g args m.known),
+)
 statement_has (Visit b) c m g =
     let S = state_names b in
     let T = let_names b in (
-      states_have b.states (each_map (IsNewOf (used c) c.result Bit) IsGood (λ n f. f.good) S m.states),
-      lets_have b.lets c.known S (each_map (IsNewLet (used c ++ S) c.result) IsGood (λ n f. f.good) T m.lets) m.lets_read,
-      assigns_have b.assigns (can_read c.known (S ++ T)) (each_map (IsTarget c S T) IsGood (λ n f. f.good) (names_in b.assigns) (targets_are c b m)) m.values_read,
+      states_have b.states (each_map (IsNewOf (used c) c.result Bit) IsGood (λ n f.
+          f.good) S m.states),
+      lets_have b.lets c.known S (each_map (IsNewLet (used c ++ S) c.result) IsGood (λ n f.
+          f.good) T m.lets) m.lets_read,
+      assigns_have b.assigns (can_read c.known (S ++ T))
+          (each_map (IsTarget c S T) IsGood (λ n f. f.good) (names_in b.assigns)
+          (targets_are c b m)) m.values_read,
     )
 
-body_has : (body : List Statement) (c : Context) → BodyMeets c body → Each IsGood (names_of c.known) → Each HasStatement body
+body_has : (body : List Statement) (c : Context) → BodyMeets c body → Each IsGood (names_of c.known)
+    → Each HasStatement body
 body_has [] c m g = tt
-body_has (st ∷ body) c m g = (statement_has st c m.0 g, body_has body (behind c st) m.1 (good_append c.known (defines c.known st) g (statement_good st c m.0)))
+body_has (st ∷ body) c m g = (
+  statement_has st c m.0 g,
+  body_has body (behind c st) m.1 (good_append c.known (defines c.known st) g
+      (statement_good st c m.0)),
+)
 
 operation_has : (op : Operation) → OperationMeets op → HasOperation op
-operation_has op m = record { name = good_fits op.name m.name; params = params_have op.params m.params; result = good_fits op.result.name m.result_good; body = body_has op.body (at_start op) m.body m.params }
+operation_has op m = record {
+  name = good_fits op.name m.name;
+  params = params_have op.params m.params;
+  result = good_fits op.result.name m.result_good;
+  body =
+      body_has op.body (at_start op) m.body m.params;
+}
 
-first_back : (body : List Statement) (s : Scope) (wanted : List Wanted) (rest : List (List ℕ)) → Each HasStatement body → 1 ≤ length body
-    → breach_of (Stmts ∷ wanted) s (items_spelled (in_turn statement_text body (codes "}" ∷ rest))) ≡ None
-    → breach_of (FirstStmt ∷ wanted) s (items_spelled (in_turn statement_text body (codes "}" ∷ rest))) ≡ None
+first_back : (body : List Statement) (s : Scope) (wanted : List Wanted) (rest : List (List ℕ))
+    → Each HasStatement body → 1 ≤ length body
+    → breach_of (Stmts ∷ wanted) s (items_spelled (in_turn statement_text body (codes "}" ∷ rest)))
+    ≡ None
+    → breach_of (FirstStmt ∷ wanted) s (items_spelled
+    (in_turn statement_text body (codes "}" ∷ rest))) ≡ None
 first_back [] s wanted rest n l h = absurd (omega arith)
-first_back (st ∷ body) s wanted rest n l h = first_same st s wanted (in_turn statement_text body (codes "}" ∷ rest)) n.0 ∙ h
+first_back (st ∷ body) s wanted rest n l h = first_same st s wanted
+    (in_turn statement_text body (codes "}" ∷ rest)) n.0 ∙ h
 
 or_right : (a b : Bool) → b ≡ true → (a || b) ≡ true
 or_right true b h = refl
 or_right false b h = h
 
-op_back : (op : Operation) (ops : List (List ℕ)) (rest : List (List ℕ)) → OperationMeets op → length ops < 32 → IsNew ops op.name
-    → breach_of (Ops ∷ []) (in_params (ops ++ op.name ∷ []) [] []) (items_spelled rest) ≡ None → breach_of (Ops ∷ []) (in_params ops [] []) (items_spelled (operation_text op rest)) ≡ None
+op_back : (op : Operation) (ops : List (List ℕ)) (rest : List (List ℕ)) → OperationMeets op
+    → length ops < 32 → IsNew ops op.name
+    → breach_of (Ops ∷ []) (in_params (ops ++ op.name ∷ []) [] []) (items_spelled rest) ≡ None
+    → breach_of (Ops ∷ []) (in_params ops [] []) (items_spelled (operation_text op rest)) ≡ None
 unfolding breach_of
 op_back op ops rest m l f h =
     let n = operation_has op m in
@@ -145,31 +226,47 @@ op_back op ops rest m l f h =
     let stands = names_of op.params ++ r ∷ [] in
     let few = m.few_statements in
     let given =
-    ap (λ l. is_among l r) (names-append op.params ds) ∙ among-append (names_of op.params) (names_of ds) r
-    ∙ or_right (is_among (names_of op.params) r) (is_among (names_of ds) r) (is_named ds r op.result.kind m.result_given) in
-    let w = body_back op.body more stands (at_start op) false 0 (Ops ∷ []) rest m.body m.params (start_standing op m.result_new) (omega arith) given h in
-    let b = first_back op.body (at_statement more stands (at_start op) false 0) (Ops ∷ []) rest n.body m.has_body w in
-    let q = result_back more (names_of op.params) op.params op.result (Begin ∷ FirstStmt ∷ Ops ∷ []) (codes "{" ∷ body) m.result_good m.result_new b in
-    let p = params_back op.params more (Arrow ∷ first) head m.has_params m.few_params m.params (differ-fresh [] (names_of op.params) (none_new (names_of op.params)) m.params_differ) q in
-    one_pass (nat_le 32 (length ops)) why.TooMany (in_params ops [] []) (NewOp ∷ behind) (name_lexeme (codes "op")) (goes [] (op.name ∷ codes "(" ∷ params)) (le_passes 32 (length ops) l)
+    ap (λ l. is_among l r) (names-append op.params ds)
+    ∙ among-append (names_of op.params) (names_of ds) r
+    ∙ or_right (is_among (names_of op.params) r) (is_among (names_of ds) r)
+    (is_named ds r op.result.kind m.result_given) in
+    let w = body_back op.body more stands (at_start op) false 0 (Ops ∷ []) rest m.body m.params
+    (start_standing op m.result_new) (omega arith) given h in
+    let b = first_back op.body (at_statement more stands (at_start op) false 0) (Ops
+    ∷ []) rest n.body m.has_body w in
+    let q = result_back more (names_of op.params) op.params op.result (Begin ∷ FirstStmt ∷ Ops
+    ∷ []) (codes "{" ∷ body) m.result_good m.result_new b in
+    let p = params_back op.params more (Arrow ∷ first) head m.has_params m.few_params m.params
+    (differ-fresh [] (names_of op.params) (none_new (names_of op.params)) m.params_differ) q in
+    one_pass (nat_le 32 (length ops)) why.TooMany (in_params ops [] []) (NewOp
+    ∷ behind) (name_lexeme (codes "op")) (goes [] (op.name ∷ codes "(" ∷ params))
+    (le_passes 32 (length ops) l)
     ∙ named NewOp behind (in_params ops [] []) op.name (codes "(" ∷ params) n.name
-    ∙ two_pass (is_bad (spelling_of op.name) op.name || bytes_eq op.name (codes "trsp_init")) (is_among ops op.name) why.BadName why.Twice
-    (in_params more [] []) [] (name_lexeme op.name) (goes behind (codes "(" ∷ params)) (or_both (is_bad (spelling_of op.name) op.name) (bytes_eq op.name (codes "trsp_init")) (good_passes op.name m.name) m.not_reserved) f
+    ∙ two_pass (is_bad (spelling_of op.name) op.name || bytes_eq op.name (codes "trsp_init"))
+    (is_among ops op.name) why.BadName why.Twice
+    (in_params more [] []) [] (name_lexeme op.name) (goes behind (codes "(" ∷ params))
+    (or_both (is_bad (spelling_of op.name) op.name) (bytes_eq op.name (codes "trsp_init"))
+    (good_passes op.name m.name) m.not_reserved) f
     ∙ p
 
-ops_back : (all : List Operation) (ops : List (List ℕ)) → Each OperationMeets all → AllFresh ops (map (λ (op : Operation). op.name) all) → length ops + length all ≤ 32
-    → breach_of (Ops ∷ []) (in_params ops [] []) (items_spelled (in_turn operation_text all [])) ≡ None
+ops_back : (all : List Operation) (ops : List (List ℕ)) → Each OperationMeets all
+    → AllFresh ops (map (λ (op : Operation). op.name) all) → length ops + length all ≤ 32
+    → breach_of (Ops ∷ []) (in_params ops [] []) (items_spelled (in_turn operation_text all []))
+    ≡ None
 unfolding breach_of
 ops_back [] ops m f l = refl
 ops_back (op ∷ all) ops m f l =
     let e = length-append ops (op.name ∷ []) in
-    op_back op ops (in_turn operation_text all []) m.0 (omega arith) f.0 (ops_back all (ops ++ op.name ∷ []) m.1 f.1 (omega arith))
+    op_back op ops (in_turn operation_text all []) m.0 (omega arith) f.0
+    (ops_back all (ops ++ op.name ∷ []) m.1 f.1 (omega arith))
 
 back : (all : List Operation) → OpsMeet all → Each HasOperation all × MeetRules all
 back all m =
     let few = m.few_ops in
-    let names = map (λ (op : Operation). op.name) all in
-    (each_map OperationMeets HasOperation operation_has all m.each, ops_back all [] m.each (differ-fresh [] names (none_new names) m.differ) (omega arith))
+    let names = map (λ (op : Operation). op.name) all in (
+      each_map OperationMeets HasOperation operation_has all m.each,
+      ops_back all [] m.each (differ-fresh [] names (none_new names) m.differ) (omega arith),
+    )
 
 pub rules_are_exact : RulesAreExact
 rules_are_exact all = (λ h. rules_are_met all h.0 h.1, λ m. back all m)

@@ -1,5 +1,7 @@
 -- An expression that breaks no rule meets the rules.
-use Rattle.std.proofs.Common.{◌≡◌, ℕ, zero, suc, ◌+◌, ◌-◌, ◌<◌, ◌≤◌, length, arith, Bool, true, false, not, ◌||◌, nat_lt, nat_le, List, [], ◌∷◌, Some, None, Ok, refl, sym, ◌∙◌, codes, subst}
+use Rattle.std.proofs.Common.{◌≡◌, ℕ, zero, suc, ◌+◌, ◌-◌, ◌<◌, ◌≤◌, length, arith, Bool, true}
+use Rattle.std.proofs.Common.{false, not, ◌||◌, nat_lt, nat_le, List, [], ◌∷◌, Some, None, Ok, refl}
+use Rattle.std.proofs.Common.{sym, ◌∙◌, codes, subst}
 use Rattle.text_lex.specs.Lexical.{Item, Lexeme}
 use Rattle.op_text.specs.declared.fault.OpsKind.TheVariants as why
 use Rattle.op_text.specs.declared.terminal.Terminal.TheVariants as t
@@ -8,19 +10,24 @@ use Rattle.op_text.specs.declared.gate.Gate.TheVariants as gates
 use Rattle.op_text.specs.declared.grammar.Wanted.{Wanted}
 use Rattle.op_text.specs.declared.grammar.Wanted.TheVariants.{Value, GateOpen, More}
 use Rattle.op_text.specs.Items.{opens, spelling_of}
-use Rattle.op_text.specs.Rules.{Scope, gate_arguments, gate_weight, is_bad, is_readable, breach_of, after, with_rules, unless, step}
-use Rattle.op_text.specs.Language.{Term, Nought, Unity, Named, Negation, Conjunction, Disjunction, Parity, Majority}
+use Rattle.op_text.specs.Rules.{Scope, gate_arguments, gate_weight, is_bad, is_readable, breach_of}
+use Rattle.op_text.specs.Rules.{after, with_rules, unless, step}
+use Rattle.op_text.specs.Language.{Term, Nought, Unity, Named, Negation, Conjunction, Disjunction}
+use Rattle.op_text.specs.Language.{Parity, Majority}
 use Rattle.op_text.specs.Scratch.{term_weight}
-use Rattle.op_text.specs.Spelling.{is_good, term_text, items_spelled, heavier, opens_next, TermMeets, HasNames}
+use Rattle.op_text.specs.Spelling.{is_good, term_text, items_spelled, heavier, opens_next}
+use Rattle.op_text.specs.Spelling.{TermMeets, HasNames}
 use Rattle.op_rules.proofs.Names.{or_first, or_second}
-use Rattle.op_rules.proofs.Tokens.{goes, name_lexeme, named, one_rule, two_rules, not_bad, le_no, lt_no, not_not}
+use Rattle.op_rules.proofs.Tokens.{goes, name_lexeme, named, one_rule, two_rules, not_bad, le_no}
+use Rattle.op_rules.proofs.Tokens.{lt_no, not_not}
 
 pub opens_same : (rest : List (List ℕ)) → opens (items_spelled rest) ≡ opens_next rest
 opens_same [] = refl
 opens_same (x ∷ rest) = refl
 
 -- what stands behind an expression, and that it is light enough
-pub record BehindTerm (e : Term) (s : Scope) (depth : ℕ) (wanted : List Wanted) (rest : List (List ℕ)) : Type 0 where
+pub record BehindTerm (e : Term) (s : Scope) (depth : ℕ) (wanted : List Wanted)
+    (rest : List (List ℕ)) : Type 0 where
   pub meets : TermMeets (is_readable s) depth e
   pub light : s.block.weight + term_weight e ≤ 24
   pub then : breach_of wanted (heavier s (term_weight e)) (items_spelled rest) ≡ None
@@ -28,22 +35,33 @@ pub record BehindTerm (e : Term) (s : Scope) (depth : ℕ) (wanted : List Wanted
 abbrev pub weighing : Scope → List ℕ → ℕ → Scope
 weighing s m w = record s { block = record s.block { weight = w; missing = m } }
 
-weighs : (s : Scope) (m : List ℕ) (v w : ℕ) → v ≡ w → (wanted : List Wanted) (items : List Item) → breach_of wanted (weighing s m v) items ≡ None → breach_of wanted (weighing s m w) items ≡ None
-weighs s m v w e wanted items h = subst (λ (x : ℕ). breach_of wanted (weighing s m x) items ≡ None) e h
+weighs : (s : Scope) (m : List ℕ) (v w : ℕ) → v ≡ w → (wanted : List Wanted) (items : List Item)
+    → breach_of wanted (weighing s m v) items ≡ None
+    → breach_of wanted (weighing s m w) items ≡ None
+weighs s m v w e wanted items h = subst (λ (x : ℕ). breach_of wanted (weighing s m x) items
+    ≡ None) e h
 
 -- behind the name of a gate and "("
-record InGate (s : Scope) (depth a w : ℕ) (wanted : List Wanted) (rest : List (List ℕ)) : Type 0 where
-  deep : depth < 32
-  light : s.block.weight + w ≤ 24
-  then : breach_of (Value ∷ More ∷ wanted) (weighing s ((a - 1) ∷ s.block.missing) (s.block.weight + w)) (items_spelled rest) ≡ None
+record InGate (s : Scope) (depth a w : ℕ) (wanted : List Wanted) (rest : List (List ℕ)) : Type 0
+  where
+    deep : depth < 32
+    light : s.block.weight + w ≤ 24
+    then : breach_of (Value ∷ More ∷ wanted) (weighing s ((a - 1) ∷ s.block.missing) (s.block.weight
+        + w)) (items_spelled rest) ≡ None
 
-gate_behind : (s : Scope) (depth : ℕ) (g : Gate) (wanted : List Wanted) (rest : List (List ℕ)) → length s.block.missing ≡ depth
+gate_behind : (s : Scope) (depth : ℕ) (g : Gate) (wanted : List Wanted) (rest : List (List ℕ))
+    → length s.block.missing ≡ depth
     → (nat_lt 24 (s.block.weight + gate_weight g) || nat_le 32 (length s.block.missing)) ≡ false
-    → breach_of (Value ∷ More ∷ wanted) (weighing s ((gate_arguments g - 1) ∷ s.block.missing) (s.block.weight + gate_weight g)) (items_spelled rest) ≡ None
+    → breach_of (Value ∷ More ∷ wanted) (weighing s ((gate_arguments g - 1) ∷ s.block.missing)
+    (s.block.weight + gate_weight g)) (items_spelled rest) ≡ None
     → InGate s depth (gate_arguments g) (gate_weight g) wanted rest
 gate_behind s depth g wanted rest e h k =
-    let light = lt_no 24 (s.block.weight + gate_weight g) (or_first (nat_lt 24 (s.block.weight + gate_weight g)) (nat_le 32 (length s.block.missing)) h) in
-    let deep = le_no 32 (length s.block.missing) (or_second (nat_lt 24 (s.block.weight + gate_weight g)) (nat_le 32 (length s.block.missing)) h) in
+    let light = lt_no 24 (s.block.weight + gate_weight g)
+    (or_first (nat_lt 24 (s.block.weight + gate_weight g)) (nat_le 32 (length s.block.missing))
+    h) in
+    let deep = le_no 32 (length s.block.missing)
+    (or_second (nat_lt 24 (s.block.weight + gate_weight g)) (nat_le 32 (length s.block.missing))
+    h) in
     record { deep = omega arith; light = light; then = k }
 
 abbrev gate_text : Gate → List ℕ
@@ -56,21 +74,28 @@ gate_text gates.Maj = codes "maj"
 abbrev gate_lexeme : Gate → Lexeme
 gate_lexeme g = name_lexeme (gate_text g)
 
-gate_rule : (s : Scope) (depth : ℕ) (g : Gate) (wanted : List Wanted) (rest : List (List ℕ)) → length s.block.missing ≡ depth
+gate_rule : (s : Scope) (depth : ℕ) (g : Gate) (wanted : List Wanted) (rest : List (List ℕ))
+    → length s.block.missing ≡ depth
     → after
     (with_rules (Some (GateOpen ∷ Value ∷ More ∷ []))
-    (unless (nat_lt 24 (s.block.weight + gate_weight g) || nat_le 32 (length s.block.missing)) why.TooMany (Ok (weighing s ((gate_arguments g - 1) ∷ s.block.missing) (s.block.weight + gate_weight g)))))
+    (unless (nat_lt 24 (s.block.weight + gate_weight g) || nat_le 32 (length s.block.missing))
+    why.TooMany (Ok (weighing s ((gate_arguments g - 1) ∷ s.block.missing) (s.block.weight
+    + gate_weight g)))))
     (gate_lexeme g) (goes wanted (codes "(" ∷ rest)) ≡ None
     → InGate s depth (gate_arguments g) (gate_weight g) wanted rest
 unfolding breach_of
 gate_rule s depth g wanted rest e h =
     let k =
-    one_rule (nat_lt 24 (s.block.weight + gate_weight g) || nat_le 32 (length s.block.missing)) why.TooMany (weighing s ((gate_arguments g - 1) ∷ s.block.missing) (s.block.weight + gate_weight g))
+    one_rule (nat_lt 24 (s.block.weight + gate_weight g) || nat_le 32 (length s.block.missing))
+    why.TooMany (weighing s ((gate_arguments g - 1) ∷ s.block.missing) (s.block.weight
+    + gate_weight g))
     (GateOpen ∷ Value ∷ More ∷ []) (gate_lexeme g) (goes wanted (codes "(" ∷ rest)) h in
     gate_behind s depth g wanted rest e k.0 k.1
 
-gate_peels : (s : Scope) (depth : ℕ) (g : Gate) (wanted : List Wanted) (rest : List (List ℕ)) → length s.block.missing ≡ depth
-    → breach_of (Value ∷ wanted) s (items_spelled (gate_text g ∷ codes "(" ∷ rest)) ≡ None → InGate s depth (gate_arguments g) (gate_weight g) wanted rest
+gate_peels : (s : Scope) (depth : ℕ) (g : Gate) (wanted : List Wanted) (rest : List (List ℕ))
+    → length s.block.missing ≡ depth
+    → breach_of (Value ∷ wanted) s (items_spelled (gate_text g ∷ codes "(" ∷ rest)) ≡ None
+    → InGate s depth (gate_arguments g) (gate_weight g) wanted rest
 unfolding breach_of
 gate_peels s depth gates.Not wanted rest e h = gate_rule s depth gates.Not wanted rest e h
 gate_peels s depth gates.And wanted rest e h = gate_rule s depth gates.And wanted rest e h
@@ -79,86 +104,147 @@ gate_peels s depth gates.Xor wanted rest e h = gate_rule s depth gates.Xor wante
 gate_peels s depth gates.Maj wanted rest e h = gate_rule s depth gates.Maj wanted rest e h
 
 -- behind an argument
-comma_peels : (s : Scope) (n : ℕ) (outer : List ℕ) (w : ℕ) (wanted : List Wanted) (rest : List (List ℕ))
-    → breach_of (More ∷ wanted) (weighing s (suc n ∷ outer) w) (items_spelled (codes "," ∷ rest)) ≡ None → breach_of (Value ∷ More ∷ wanted) (weighing s (n ∷ outer) w) (items_spelled rest) ≡ None
+comma_peels : (s : Scope) (n : ℕ) (outer : List ℕ) (w : ℕ) (wanted : List Wanted)
+    (rest : List (List ℕ))
+    → breach_of (More ∷ wanted) (weighing s (suc n ∷ outer) w) (items_spelled (codes "," ∷ rest))
+    ≡ None → breach_of (Value ∷ More ∷ wanted) (weighing s (n ∷ outer) w) (items_spelled rest)
+    ≡ None
 unfolding breach_of
 comma_peels s n outer w wanted rest h = h
 
 close_peels : (s : Scope) (outer : List ℕ) (w : ℕ) (wanted : List Wanted) (rest : List (List ℕ))
-    → breach_of (More ∷ wanted) (weighing s (zero ∷ outer) w) (items_spelled (codes ")" ∷ rest)) ≡ None → breach_of wanted (weighing s outer w) (items_spelled rest) ≡ None
+    → breach_of (More ∷ wanted) (weighing s (zero ∷ outer) w) (items_spelled (codes ")" ∷ rest))
+    ≡ None → breach_of wanted (weighing s outer w) (items_spelled rest) ≡ None
 unfolding breach_of
 close_peels s outer w wanted rest h = h
 
-name_peels : (s : Scope) (name : List ℕ) (wanted : List Wanted) (rest : List (List ℕ)) (o : Bool) → o ≡ false
-    → after (step Value s (t.Name (spelling_of name)) name o) (name_lexeme name) (goes wanted rest) ≡ None
-    → (is_good name ≡ true) × (is_readable s name ≡ true) × (breach_of wanted s (items_spelled rest) ≡ None)
+name_peels : (s : Scope) (name : List ℕ) (wanted : List Wanted) (rest : List (List ℕ)) (o : Bool)
+    → o ≡ false
+    → after (step Value s (t.Name (spelling_of name)) name o) (name_lexeme name) (goes wanted rest)
+    ≡ None
+    → (is_good name ≡ true) × (is_readable s name ≡ true)
+    × (breach_of wanted s (items_spelled rest) ≡ None)
 name_peels s name wanted rest true e h = cc
 name_peels s name wanted rest false e h =
-    let k = two_rules (is_bad (spelling_of name) name) (not (is_readable s name)) why.BadName why.Unknown s [] (name_lexeme name) (goes wanted rest) h in
+    let k = two_rules (is_bad (spelling_of name) name) (not (is_readable s name)) why.BadName
+    why.Unknown s [] (name_lexeme name) (goes wanted rest) h in
     (not_bad name k.0, not_not (is_readable s name) k.1, k.2)
 
-pub term_peels : (e : Term) (s : Scope) (depth : ℕ) (wanted : List Wanted) (rest : List (List ℕ)) → HasNames e → opens_next rest ≡ false → length s.block.missing ≡ depth
-    → s.block.weight ≤ 24 → breach_of (Value ∷ wanted) s (items_spelled (term_text e rest)) ≡ None → BehindTerm e s depth wanted rest
+pub term_peels : (e : Term) (s : Scope) (depth : ℕ) (wanted : List Wanted) (rest : List (List ℕ))
+    → HasNames e → opens_next rest ≡ false → length s.block.missing ≡ depth
+    → s.block.weight ≤ 24 → breach_of (Value ∷ wanted) s (items_spelled (term_text e rest)) ≡ None
+    → BehindTerm e s depth wanted rest
 unfolding breach_of
 term_peels Nought s depth wanted rest n o d k h =
-    record { meets = tt; light = omega arith; then = weighs s s.block.missing s.block.weight (s.block.weight + 0) (omega arith) wanted (items_spelled rest) h }
+    record {
+      meets = tt;
+      light = omega arith;
+      then = weighs s s.block.missing s.block.weight (s.block.weight + 0) (omega arith) wanted
+          (items_spelled rest) h;
+    }
 term_peels Unity s depth wanted rest n o d k h =
-    record { meets = tt; light = omega arith; then = weighs s s.block.missing s.block.weight (s.block.weight + 0) (omega arith) wanted (items_spelled rest) h }
+    record {
+      meets = tt;
+      light = omega arith;
+      then = weighs s s.block.missing s.block.weight (s.block.weight + 0) (omega arith) wanted
+          (items_spelled rest) h;
+    }
 term_peels (Named name) s depth wanted rest n o d k h =
-    let p = name_peels s name wanted rest (opens (items_spelled rest)) (opens_same rest ∙ o) (sym (named Value wanted s name rest n) ∙ h) in
-    record { meets = (p.0, p.1); light = omega arith; then = weighs s s.block.missing s.block.weight (s.block.weight + 0) (omega arith) wanted (items_spelled rest) p.2 }
+    let p = name_peels s name wanted rest (opens (items_spelled rest)) (opens_same rest
+    ∙ o) (sym (named Value wanted s name rest n) ∙ h) in
+    record {
+      meets = (p.0, p.1);
+      light = omega arith;
+      then = weighs s s.block.missing s.block.weight (s.block.weight + 0) (omega arith) wanted
+          (items_spelled rest) p.2;
+    }
 term_peels (Negation a) s depth wanted rest n o d k h =
     let m = s.block.missing in
     let v = s.block.weight in
     let g = gate_peels s depth gates.Not wanted (term_text a (codes ")" ∷ rest)) d h in
-    let x = term_peels a (weighing s (0 ∷ m) (v + 0)) (depth + 1) (More ∷ wanted) (codes ")" ∷ rest) n refl (omega (arith, d)) g.light g.then in
+    let x = term_peels a (weighing s (0 ∷ m) (v + 0)) (depth + 1) (More ∷ wanted) (codes ")"
+    ∷ rest) n refl (omega (arith, d)) g.light g.then in
     record {
       meets = (g.deep, x.meets);
       light = let i = x.light in omega arith;
-      then = weighs s m (v + 0 + term_weight a) (v + term_weight a) (omega arith) wanted (items_spelled rest) (close_peels s m (v + 0 + term_weight a) wanted rest x.then);
+      then = weighs s m (v + 0 + term_weight a) (v + term_weight a) (omega arith) wanted
+          (items_spelled rest) (close_peels s m (v + 0 + term_weight a) wanted rest x.then);
     }
 term_peels (Conjunction a b) s depth wanted rest n o d k h =
     let m = s.block.missing in
     let v = s.block.weight in
-    let g = gate_peels s depth gates.And wanted (term_text a (codes "," ∷ term_text b (codes ")" ∷ rest))) d h in
-    let x = term_peels a (weighing s (1 ∷ m) (v + 1)) (depth + 1) (More ∷ wanted) (codes "," ∷ term_text b (codes ")" ∷ rest)) n.0 refl (omega (arith, d)) g.light g.then in
-    let y = term_peels b (weighing s (0 ∷ m) (v + 1 + term_weight a)) (depth + 1) (More ∷ wanted) (codes ")" ∷ rest) n.1 refl (omega (arith, d)) x.light (comma_peels s 0 m (v + 1 + term_weight a) wanted (term_text b (codes ")" ∷ rest)) x.then) in
+    let g = gate_peels s depth gates.And wanted
+    (term_text a (codes "," ∷ term_text b (codes ")" ∷ rest))) d h in
+    let x = term_peels a (weighing s (1 ∷ m) (v + 1)) (depth + 1) (More ∷ wanted) (codes ","
+    ∷ term_text b (codes ")" ∷ rest)) n.0 refl (omega (arith, d)) g.light g.then in
+    let y = term_peels b (weighing s (0 ∷ m) (v + 1 + term_weight a)) (depth + 1) (More
+    ∷ wanted) (codes ")" ∷ rest) n.1 refl (omega (arith, d)) x.light
+    (comma_peels s 0 m (v + 1 + term_weight a) wanted (term_text b (codes ")" ∷ rest)) x.then)
+    in
     record {
       meets = (g.deep, x.meets, y.meets);
       light = let i = y.light in omega arith;
-      then = weighs s m (v + 1 + term_weight a + term_weight b) (v + (1 + term_weight a + term_weight b)) (omega arith) wanted (items_spelled rest) (close_peels s m (v + 1 + term_weight a + term_weight b) wanted rest y.then);
+      then = weighs s m (v + 1 + term_weight a + term_weight b) (v
+          + (1 + term_weight a + term_weight b)) (omega arith) wanted (items_spelled rest)
+          (close_peels s m (v + 1 + term_weight a + term_weight b) wanted rest y.then);
     }
 term_peels (Disjunction a b) s depth wanted rest n o d k h =
     let m = s.block.missing in
     let v = s.block.weight in
-    let g = gate_peels s depth gates.Or wanted (term_text a (codes "," ∷ term_text b (codes ")" ∷ rest))) d h in
-    let x = term_peels a (weighing s (1 ∷ m) (v + 1)) (depth + 1) (More ∷ wanted) (codes "," ∷ term_text b (codes ")" ∷ rest)) n.0 refl (omega (arith, d)) g.light g.then in
-    let y = term_peels b (weighing s (0 ∷ m) (v + 1 + term_weight a)) (depth + 1) (More ∷ wanted) (codes ")" ∷ rest) n.1 refl (omega (arith, d)) x.light (comma_peels s 0 m (v + 1 + term_weight a) wanted (term_text b (codes ")" ∷ rest)) x.then) in
+    let g = gate_peels s depth gates.Or wanted
+    (term_text a (codes "," ∷ term_text b (codes ")" ∷ rest))) d h in
+    let x = term_peels a (weighing s (1 ∷ m) (v + 1)) (depth + 1) (More ∷ wanted) (codes ","
+    ∷ term_text b (codes ")" ∷ rest)) n.0 refl (omega (arith, d)) g.light g.then in
+    let y = term_peels b (weighing s (0 ∷ m) (v + 1 + term_weight a)) (depth + 1) (More
+    ∷ wanted) (codes ")" ∷ rest) n.1 refl (omega (arith, d)) x.light
+    (comma_peels s 0 m (v + 1 + term_weight a) wanted (term_text b (codes ")" ∷ rest)) x.then)
+    in
     record {
       meets = (g.deep, x.meets, y.meets);
       light = let i = y.light in omega arith;
-      then = weighs s m (v + 1 + term_weight a + term_weight b) (v + (1 + term_weight a + term_weight b)) (omega arith) wanted (items_spelled rest) (close_peels s m (v + 1 + term_weight a + term_weight b) wanted rest y.then);
+      then = weighs s m (v + 1 + term_weight a + term_weight b) (v
+          + (1 + term_weight a + term_weight b)) (omega arith) wanted (items_spelled rest)
+          (close_peels s m (v + 1 + term_weight a + term_weight b) wanted rest y.then);
     }
 term_peels (Parity a b) s depth wanted rest n o d k h =
     let m = s.block.missing in
     let v = s.block.weight in
-    let g = gate_peels s depth gates.Xor wanted (term_text a (codes "," ∷ term_text b (codes ")" ∷ rest))) d h in
-    let x = term_peels a (weighing s (1 ∷ m) (v + 3)) (depth + 1) (More ∷ wanted) (codes "," ∷ term_text b (codes ")" ∷ rest)) n.0 refl (omega (arith, d)) g.light g.then in
-    let y = term_peels b (weighing s (0 ∷ m) (v + 3 + term_weight a)) (depth + 1) (More ∷ wanted) (codes ")" ∷ rest) n.1 refl (omega (arith, d)) x.light (comma_peels s 0 m (v + 3 + term_weight a) wanted (term_text b (codes ")" ∷ rest)) x.then) in
+    let g = gate_peels s depth gates.Xor wanted
+    (term_text a (codes "," ∷ term_text b (codes ")" ∷ rest))) d h in
+    let x = term_peels a (weighing s (1 ∷ m) (v + 3)) (depth + 1) (More ∷ wanted) (codes ","
+    ∷ term_text b (codes ")" ∷ rest)) n.0 refl (omega (arith, d)) g.light g.then in
+    let y = term_peels b (weighing s (0 ∷ m) (v + 3 + term_weight a)) (depth + 1) (More
+    ∷ wanted) (codes ")" ∷ rest) n.1 refl (omega (arith, d)) x.light
+    (comma_peels s 0 m (v + 3 + term_weight a) wanted (term_text b (codes ")" ∷ rest)) x.then)
+    in
     record {
       meets = (g.deep, x.meets, y.meets);
       light = let i = y.light in omega arith;
-      then = weighs s m (v + 3 + term_weight a + term_weight b) (v + (3 + term_weight a + term_weight b)) (omega arith) wanted (items_spelled rest) (close_peels s m (v + 3 + term_weight a + term_weight b) wanted rest y.then);
+      then = weighs s m (v + 3 + term_weight a + term_weight b) (v
+          + (3 + term_weight a + term_weight b)) (omega arith) wanted (items_spelled rest)
+          (close_peels s m (v + 3 + term_weight a + term_weight b) wanted rest y.then);
     }
 term_peels (Majority a b c) s depth wanted rest n o d k h =
     let m = s.block.missing in
     let v = s.block.weight in
-    let g = gate_peels s depth gates.Maj wanted (term_text a (codes "," ∷ term_text b (codes "," ∷ term_text c (codes ")" ∷ rest)))) d h in
-    let x = term_peels a (weighing s (2 ∷ m) (v + 1)) (depth + 1) (More ∷ wanted) (codes "," ∷ term_text b (codes "," ∷ term_text c (codes ")" ∷ rest))) n.0 refl (omega (arith, d)) g.light g.then in
-    let y = term_peels b (weighing s (1 ∷ m) (v + 1 + term_weight a)) (depth + 1) (More ∷ wanted) (codes "," ∷ term_text c (codes ")" ∷ rest)) n.1 refl (omega (arith, d)) x.light (comma_peels s 1 m (v + 1 + term_weight a) wanted (term_text b (codes "," ∷ term_text c (codes ")" ∷ rest))) x.then) in
-    let z = term_peels c (weighing s (0 ∷ m) (v + 1 + term_weight a + term_weight b)) (depth + 1) (More ∷ wanted) (codes ")" ∷ rest) n.2 refl (omega (arith, d)) y.light (comma_peels s 0 m (v + 1 + term_weight a + term_weight b) wanted (term_text c (codes ")" ∷ rest)) y.then) in
+    let g = gate_peels s depth gates.Maj wanted
+    (term_text a (codes "," ∷ term_text b (codes "," ∷ term_text c (codes ")" ∷ rest)))) d h in
+    let x = term_peels a (weighing s (2 ∷ m) (v + 1)) (depth + 1) (More ∷ wanted) (codes ","
+    ∷ term_text b (codes "," ∷ term_text c (codes ")" ∷ rest))) n.0 refl (omega (arith, d))
+    g.light g.then in
+    let y = term_peels b (weighing s (1 ∷ m) (v + 1 + term_weight a)) (depth + 1) (More
+    ∷ wanted) (codes "," ∷ term_text c (codes ")" ∷ rest)) n.1 refl (omega (arith, d)) x.light
+    (comma_peels s 1 m (v + 1 + term_weight a) wanted
+    (term_text b (codes "," ∷ term_text c (codes ")" ∷ rest))) x.then) in
+    let z = term_peels c (weighing s (0 ∷ m) (v + 1 + term_weight a + term_weight b)) (depth + 1)
+    (More ∷ wanted) (codes ")" ∷ rest) n.2 refl (omega (arith, d)) y.light
+    (comma_peels s 0 m (v + 1 + term_weight a + term_weight b) wanted
+    (term_text c (codes ")" ∷ rest)) y.then) in
     record {
       meets = (g.deep, x.meets, y.meets, z.meets);
       light = let i = z.light in omega arith;
-      then = weighs s m (v + 1 + term_weight a + term_weight b + term_weight c) (v + (1 + term_weight a + term_weight b + term_weight c)) (omega arith) wanted (items_spelled rest) (close_peels s m (v + 1 + term_weight a + term_weight b + term_weight c) wanted rest z.then);
+      then = weighs s m (v + 1 + term_weight a + term_weight b + term_weight c) (v
+          + (1 + term_weight a + term_weight b + term_weight c)) (omega arith) wanted
+          (items_spelled rest) (close_peels s m (v + 1 + term_weight a + term_weight b
+          + term_weight c) wanted rest z.then);
     }

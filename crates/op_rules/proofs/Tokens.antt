@@ -1,5 +1,6 @@
 -- One token at a time, where no rule is broken.
-use Rattle.std.proofs.Common.{◌≡◌, ℕ, Bool, true, false, not, ◌&&◌, List, ◌∷◌, ◌++◌, Option, Some, None, Result, Ok, refl, ap, nat_le, length, nat_lt, ◌<◌, ◌≤◌, arith}
+use Rattle.std.proofs.Common.{◌≡◌, ℕ, Bool, true, false, not, ◌&&◌, List, ◌∷◌, ◌++◌, Option, Some}
+use Rattle.std.proofs.Common.{None, Result, Ok, refl, ap, nat_le, length, nat_lt, ◌<◌, ◌≤◌, arith}
 use Rattle.text_lex.specs.Lexical.{Lexeme, Whole, is_token}
 use Rattle.text_lex.specs.Spelled.{fits_name}
 use Rattle.text_lex.specs.declared.token.TokenKind.TheVariants as kinds
@@ -29,10 +30,15 @@ pub name_kind : (n : List ℕ) → fits_name n ≡ true → kind_of_text n ≡ k
 name_kind n h = rw (and_first (is_token kinds.Name n) (nat_le (length n) 16) h) refl
 
 -- a name is taken as a name
-pub named : (w : Wanted) (wanted : List Wanted) (s : Scope) (n : List ℕ) (rest : List (List ℕ)) → fits_name n ≡ true
-    → breach_of (w ∷ wanted) s (items_spelled (n ∷ rest)) ≡ after (step w s (t.Name (spelling_of n)) n (opens (items_spelled rest))) (name_lexeme n) (goes wanted rest)
+pub named : (w : Wanted) (wanted : List Wanted) (s : Scope) (n : List ℕ) (rest : List (List ℕ))
+    → fits_name n ≡ true
+    → breach_of (w ∷ wanted) s (items_spelled (n ∷ rest))
+    ≡ after (step w s (t.Name (spelling_of n)) n (opens (items_spelled rest))) (name_lexeme n)
+    (goes wanted rest)
 unfolding breach_of
-named w wanted s n rest h = ap (λ k. breach_of (w ∷ wanted) s (Whole (record { kind = k; text = n; start = 0 }) ∷ items_spelled rest)) (name_kind n h)
+named w wanted s n rest h =
+    ap (λ k. breach_of (w ∷ wanted) s (Whole (record { kind = k; text = n; start = 0 })
+    ∷ items_spelled rest)) (name_kind n h)
 
 -- rules that are not broken
 pub one_rule : (a : Bool) (i : OpsKind) (r : Scope) (f : List Wanted) (u : Lexeme) (go : Behind)
@@ -40,26 +46,34 @@ pub one_rule : (a : Bool) (i : OpsKind) (r : Scope) (f : List Wanted) (u : Lexem
 one_rule true i r f u go h = cc
 one_rule false i r f u go h = (refl, h)
 
-pub next_rule : (a : Bool) (i : OpsKind) (r : Result Scope OpsKind) (f : List Wanted) (u : Lexeme) (go : Behind)
-    → after (with_rules (Some f) (unless a i r)) u go ≡ None → (a ≡ false) × (after (with_rules (Some f) r) u go ≡ None)
+pub next_rule : (a : Bool) (i : OpsKind) (r : Result Scope OpsKind) (f : List Wanted) (u : Lexeme)
+    (go : Behind)
+    → after (with_rules (Some f) (unless a i r)) u go ≡ None
+    → (a ≡ false) × (after (with_rules (Some f) r) u go ≡ None)
 next_rule true i r f u go h = cc
 next_rule false i r f u go h = (refl, h)
 
-pub two_rules : (a b : Bool) (i j : OpsKind) (r : Scope) (f : List Wanted) (u : Lexeme) (go : Behind)
-    → after (with_rules (Some f) (unless a i (unless b j (Ok r)))) u go ≡ None → (a ≡ false) × (b ≡ false) × (go f r ≡ None)
+pub two_rules : (a b : Bool) (i j : OpsKind) (r : Scope) (f : List Wanted) (u : Lexeme)
+    (go : Behind)
+    → after (with_rules (Some f) (unless a i (unless b j (Ok r)))) u go ≡ None
+    → (a ≡ false) × (b ≡ false) × (go f r ≡ None)
 two_rules true b i j r f u go h = cc
 two_rules false true i j r f u go h = cc
 two_rules false false i j r f u go h = (refl, refl, h)
 
-pub three_rules : (a b c : Bool) (i j k : OpsKind) (r : Scope) (f : List Wanted) (u : Lexeme) (go : Behind)
-    → after (with_rules (Some f) (unless a i (unless b j (unless c k (Ok r))))) u go ≡ None → (a ≡ false) × (b ≡ false) × (c ≡ false) × (go f r ≡ None)
+pub three_rules : (a b c : Bool) (i j k : OpsKind) (r : Scope) (f : List Wanted) (u : Lexeme)
+    (go : Behind)
+    → after (with_rules (Some f) (unless a i (unless b j (unless c k (Ok r))))) u go ≡ None
+    → (a ≡ false) × (b ≡ false) × (c ≡ false) × (go f r ≡ None)
 three_rules true b c i j k r f u go h = cc
 three_rules false true c i j k r f u go h = cc
 three_rules false false true i j k r f u go h = cc
 three_rules false false false i j k r f u go h = (refl, refl, refl, h)
 
-pub four_rules : (a b c d : Bool) (i j k l : OpsKind) (r : Scope) (f : List Wanted) (u : Lexeme) (go : Behind)
-    → after (with_rules (Some f) (unless a i (unless b j (unless c k (unless d l (Ok r)))))) u go ≡ None → (a ≡ false) × (b ≡ false) × (c ≡ false) × (d ≡ false) × (go f r ≡ None)
+pub four_rules : (a b c d : Bool) (i j k l : OpsKind) (r : Scope) (f : List Wanted) (u : Lexeme)
+    (go : Behind)
+    → after (with_rules (Some f) (unless a i (unless b j (unless c k (unless d l (Ok r)))))) u go
+    ≡ None → (a ≡ false) × (b ≡ false) × (c ≡ false) × (d ≡ false) × (go f r ≡ None)
 four_rules true b c d i j k l r f u go h = cc
 four_rules false true c d i j k l r f u go h = cc
 four_rules false false true d i j k l r f u go h = cc

@@ -4,13 +4,16 @@ use Rattle.std.specs.List.{flat_map}
 use Rattle.op_text.specs.declared.tree.Kind.{Kind}
 use Rattle.op_text.specs.declared.tree.Param.{Param}
 use Rattle.op_text.specs.Language.{Statement, Operation}
-use Rattle.op_text.specs.Meaning.{Held, width, holds_nothing, after_statement, with_sources, after_body, outcome}
+use Rattle.op_text.specs.Meaning.{Held, width, holds_nothing, after_statement, with_sources}
+use Rattle.op_text.specs.Meaning.{after_body, outcome}
 use Rattle.op_text.specs.Rules.{kind_among}
 use Rattle.op_text.specs.Scratch.{defines, body_defines, scratch_names, scratch_bits, scratch_words}
 use Rattle.op_text.specs.Spelling.{Each, HasOperation, MeetRules}
-use Rattle.op_rules.specs.Meets.{IsNew, Differ, names_of, Context, lets_of, behind, StatementMeets, OperationMeets, OpsMeet}
+use Rattle.op_rules.specs.Meets.{IsNew, Differ, names_of, Context, lets_of, behind, StatementMeets}
+use Rattle.op_rules.specs.Meets.{OperationMeets, OpsMeet}
 
--- Ops meet the rules as trees exactly where their names are names and the tokens of their text break none.
+-- Ops meet the rules as trees exactly where their names are names and the tokens of their text
+-- break none.
 abbrev pub RulesAreExact : Type 0
 RulesAreExact = (all : List Operation) → (Each HasOperation all × MeetRules all) ↔ OpsMeet all
 
@@ -43,15 +46,21 @@ NamesStandOnce = (op : Operation) → OperationMeets op → NamesAreApart op
 
 -- what stands behind the first statements of an op
 abbrev pub context_behind : Operation → List Statement → Context
-context_behind op front = record { known = op.params ++ body_defines op.params front; lets = flat_map lets_of front; result = op.result }
+context_behind op front = record {
+  known = op.params ++ body_defines op.params front;
+  lets = flat_map lets_of front;
+  result = op.result;
+}
 
 -- Each statement of an op that meets the rules meets them where it stands.
 abbrev pub StatementsMeet : Type 0
-StatementsMeet = (op : Operation) (front rest : List Statement) (s : Statement) → OperationMeets op → op.body ≡ front ++ s ∷ rest → StatementMeets (context_behind op front) s
+StatementsMeet = (op : Operation) (front rest : List Statement) (s : Statement) → OperationMeets op
+    → op.body ≡ front ++ s ∷ rest → StatementMeets (context_behind op front) s
 
 -- A statement leaves each name as it was that it does not define.
 abbrev pub OthersStay : Type 0
-OthersStay = (known : List Param) (s : Statement) (n : ℕ) (names : List ℕ → Held) (name : List ℕ) → IsNew (names_of (defines known s)) name → after_statement n names s name ≡ names name
+OthersStay = (known : List Param) (s : Statement) (n : ℕ) (names : List ℕ → Held) (name : List ℕ)
+    → IsNew (names_of (defines known s)) name → after_statement n names s name ≡ names name
 
 -- bits of a kind, as many as it has at width n
 pub record IsHeld (n : ℕ) (k : Kind) (h : Held) : Type 0 where
@@ -61,15 +70,21 @@ pub record IsHeld (n : ℕ) (k : Kind) (h : Held) : Type 0 where
 abbrev pub Holds : ℕ → (List ℕ → Held) → Param → Type 0
 Holds n names p = IsHeld n p.kind (names p.name)
 
--- Where the names known hold bits of their kinds, they and the names defined do so behind a statement.
+-- Where the names known hold bits of their kinds, they and the names defined do so behind a
+-- statement.
 abbrev pub KindsAreKept : Type 0
-KindsAreKept = (c : Context) (s : Statement) (n : ℕ) (names : List ℕ → Held) → StatementMeets c s → Each (Holds n names) c.known → Each (Holds n (after_statement n names s)) (behind c s).known
+KindsAreKept = (c : Context) (s : Statement) (n : ℕ) (names : List ℕ → Held) → StatementMeets c s
+    → Each (Holds n names) c.known → Each (Holds n (after_statement n names s)) (behind c s).known
 
--- Behind the first statements of an op the names that are then known hold bits of their kinds, and behind
+-- Behind the first statements of an op the names that are then known hold bits of their kinds, and
+-- behind
 -- all of them the result does.
 pub record HoldsKinds (op : Operation) (n : ℕ) (values : List ℕ) : Type 0 where
-  pub behind : (front rest : List Statement) → op.body ≡ front ++ rest → Each (Holds n (after_body n front (with_sources n holds_nothing op.params values))) (context_behind op front).known
+  pub behind : (front rest : List Statement) → op.body ≡ front ++ rest
+      → Each (Holds n (after_body n front (with_sources n holds_nothing op.params values)))
+      (context_behind op front).known
   pub result : IsHeld n op.result.kind (outcome op n values)
 
 abbrev pub KindsAreHeld : Type 0
-KindsAreHeld = (op : Operation) (n : ℕ) (values : List ℕ) → OperationMeets op → length values ≡ length op.params → HoldsKinds op n values
+KindsAreHeld = (op : Operation) (n : ℕ) (values : List ℕ) → OperationMeets op
+    → length values ≡ length op.params → HoldsKinds op n values

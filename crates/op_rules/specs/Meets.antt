@@ -1,13 +1,16 @@
 -- Which operations meet the rules.
-use Rattle.std.specs.Prelude.{◌≡◌, ◌≤◌, ℕ, Bool, true, false, ◌||◌, List, [], ◌∷◌, ◌++◌, map, length, Some, bytes_eq, codes}
+use Rattle.std.specs.Prelude.{◌≡◌, ◌≤◌, ℕ, Bool, true, false, ◌||◌, List, [], ◌∷◌, ◌++◌, map}
+use Rattle.std.specs.Prelude.{length, Some, bytes_eq, codes}
 use Rattle.op_text.specs.declared.tree.Kind.{Kind}
 use Rattle.op_text.specs.declared.tree.Kind.TheVariants.{Word, Bit}
 use Rattle.op_text.specs.declared.tree.Param.{Param}
 use Rattle.op_text.specs.declared.tree.WordOp.{WordOp}
 use Rattle.op_text.specs.Language.{Equation, Block, Statement, Compute, Visit, Operation}
 use Rattle.op_text.specs.WordOps.{forms, filled}
-use Rattle.op_text.specs.Rules.{is_among, kind_among, is_known, MAX_OPS, MAX_SOURCES, MAX_STATEMENTS, MAX_STATES, MAX_ASSIGNS, MAX_LETS, MAX_WEIGHT}
-use Rattle.op_text.specs.Scratch.{kind_of, result_kind, state_names, word_names, block_weight, defines, body_defines}
+use Rattle.op_text.specs.Rules.{is_among, kind_among, is_known, MAX_OPS, MAX_SOURCES}
+use Rattle.op_text.specs.Rules.{MAX_STATEMENTS, MAX_STATES, MAX_ASSIGNS, MAX_LETS, MAX_WEIGHT}
+use Rattle.op_text.specs.Scratch.{kind_of, result_kind, state_names, word_names, block_weight}
+use Rattle.op_text.specs.Scratch.{defines, body_defines}
 use Rattle.op_text.specs.Spelling.{is_good, TermMeets, Each}
 
 -- a name that is none of these
@@ -31,7 +34,8 @@ let_names block = map (λ (e : Equation). e.name) block.lets
 abbrev pub targets : Block → List (List ℕ)
 targets block = map (λ (e : Equation). e.name) block.assigns
 
--- What stands before a statement: the names that can be read with their kinds, the lets of the blocks
+-- What stands before a statement: the names that can be read with their kinds, the lets of the
+-- blocks
 -- before it, which cannot be read any more, and the op's result.
 pub record Context : Type 0 where
   pub known : List Param
@@ -42,19 +46,23 @@ pub record Context : Type 0 where
 abbrev pub used : Context → List (List ℕ)
 used c = names_of c.known ++ c.lets
 
--- A new name of a kind, beside those used up. The result's is new until it is given, once, its own kind.
-pub record IsNewOf (names : List (List ℕ)) (result : Param) (kind : Kind) (name : List ℕ) : Type 0 where
-  pub good : IsGood name
-  pub new : IsNew names name
-  pub fits : name ≡ result.name → kind ≡ result.kind
+-- A new name of a kind, beside those used up. The result's is new until it is given, once, its own
+-- kind.
+pub record IsNewOf (names : List (List ℕ)) (result : Param) (kind : Kind) (name : List ℕ) : Type 0
+  where
+    pub good : IsGood name
+    pub new : IsNew names name
+    pub fits : name ≡ result.name → kind ≡ result.kind
 
 abbrev pub IsKnown : List Param → List ℕ → Type 0
 IsKnown known name = kind_among known name ≡ Some (kind_of known name)
 
 -- "target = operation(arguments);"
-pub record WordMeets (c : Context) (target : List ℕ) (operation : WordOp) (args : List (List ℕ)) : Type 0 where
+pub record WordMeets (c : Context) (target : List ℕ) (operation : WordOp) (args : List (List ℕ)) :
+    Type 0 where
   pub known : Each (IsKnown c.known) args
-  pub takes : filled (forms operation) (map (kind_of c.known) args) ≡ Some (result_kind c.known operation args)
+  pub takes : filled (forms operation) (map (kind_of c.known) args)
+      ≡ Some (result_kind c.known operation args)
   pub gives : IsNewOf (used c) c.result (result_kind c.known operation args) target
 
 -- the names that an expression in a block can read: those known, and these of the block
@@ -64,7 +72,8 @@ can_read known inside name = is_known (kind_among known name) || is_among inside
 -- each let reads what is known, and what stands in the block before it
 abbrev pub LetsRead : List Param → List (List ℕ) → List Equation → Type 0
 LetsRead known inside [] = Unit {0}
-LetsRead known inside (e ∷ lets) = TermMeets (can_read known inside) 0 e.value × LetsRead known (inside ++ e.name ∷ []) lets
+LetsRead known inside (e ∷ lets) = TermMeets (can_read known inside) 0 e.value
+    × LetsRead known (inside ++ e.name ∷ []) lets
 
 -- a let's name is never the result's
 pub record IsNewLet (names : List (List ℕ)) (result : Param) (name : List ℕ) : Type 0 where
@@ -86,7 +95,8 @@ pub record BlockMeets (c : Context) (block : Block) : Type 0 where
   pub lets_read : LetsRead c.known (state_names block) block.lets
   pub words : Each (IsNewOf (used c ++ let_names block) c.result Word) (word_names block)
   pub targets_differ : Differ (targets block)
-  pub values_read : Each (λ (e : Equation). TermMeets (can_read c.known (state_names block ++ let_names block)) 0 e.value) block.assigns
+  pub values_read : Each (λ (e : Equation). TermMeets
+      (can_read c.known (state_names block ++ let_names block)) 0 e.value) block.assigns
 
 abbrev pub StatementMeets : Context → Statement → Type 0
 StatementMeets c (Compute target operation args) = WordMeets c target operation args
@@ -98,7 +108,11 @@ lets_of (Visit block) = let_names block
 
 -- what stands behind a statement
 abbrev pub behind : Context → Statement → Context
-behind c s = record { known = c.known ++ defines c.known s; lets = c.lets ++ lets_of s; result = c.result }
+behind c s = record {
+  known = c.known ++ defines c.known s;
+  lets = c.lets ++ lets_of s;
+  result = c.result;
+}
 
 -- each statement meets the rules where it stands
 abbrev pub BodyMeets : Context → List Statement → Type 0
@@ -120,7 +134,8 @@ pub record OperationMeets (op : Operation) : Type 0 where
   pub has_body : 1 ≤ length op.body
   pub few_statements : length op.body ≤ MAX_STATEMENTS
   pub body : BodyMeets (at_start op) op.body
-  pub result_given : kind_among (body_defines op.params op.body) op.result.name ≡ Some op.result.kind
+  pub result_given : kind_among (body_defines op.params op.body) op.result.name
+      ≡ Some op.result.kind
 
 pub record OpsMeet (all : List Operation) : Type 0 where
   pub few_ops : length all ≤ MAX_OPS

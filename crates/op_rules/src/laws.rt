@@ -1,6 +1,7 @@
 //! Laws of the rules.
 
-ghost use Rattle.op_rules.specs.Laws.{KindsAreHeld, KindsAreKept, NamesStandOnce, OthersStay, RulesAreExact, ScratchIsSmall, StatementsMeet};
+ghost use Rattle.op_rules.specs.Laws.{KindsAreHeld, KindsAreKept, NamesStandOnce, OthersStay};
+ghost use Rattle.op_rules.specs.Laws.{RulesAreExact, ScratchIsSmall, StatementsMeet};
 
 /// Ops meet the rules as trees exactly where the tokens of their text break none.
 pub fn rules_are_exact()

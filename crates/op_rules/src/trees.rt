@@ -2,7 +2,8 @@
 
 ghost use Rattle.std.specs.Prelude.{map};
 ghost use Rattle.op_text.specs.Language.{term, equation, statement, operation, operations};
-ghost use Rattle.op_text.specs.Spelling.{MeetRules, Each, IsName, HasNames, HasParam, HasState, HasEquation, HasStatement, HasOperation};
+ghost use Rattle.op_text.specs.Spelling.{MeetRules, Each, IsName, HasNames, HasParam, HasState};
+ghost use Rattle.op_text.specs.Spelling.{HasEquation, HasStatement, HasOperation};
 ghost use Rattle.op_rules.specs.Meets.{OpsMeet};
 
 use crate::laws::rules_are_exact;
@@ -113,7 +114,8 @@ fn see_ops(ops: &[Op])
     }
 }
 
-/// Ops whose tokens break no rule meet the rules as trees. It reads each name once, and changes nothing.
+/// Ops whose tokens break no rule meet the rules as trees. It reads each name once, and changes
+/// nothing.
 pub fn ops_meet(ops: &Ops)
     requires { MeetRules (operations ops.now) }
     ensures names { Each HasOperation (operations ops.now) }

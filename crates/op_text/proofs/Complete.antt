@@ -1,19 +1,28 @@
 -- The grammar's steps allow tokens exactly where a text of the grammar starts with them.
-use Rattle.std.proofs.Common.{◌≡◌, Bool, true, false, ◌&&◌, List, [], ◌∷◌, ◌++◌, length, Option, Some, None, option_and_then, refl, sym, ap, ◌∙◌, arith, IsSome}
+use Rattle.std.proofs.Common.{◌≡◌, Bool, true, false, ◌&&◌, List, [], ◌∷◌, ◌++◌, length, Option}
+use Rattle.std.proofs.Common.{Some, None, option_and_then, refl, sym, ap, ◌∙◌, arith, IsSome}
 use Rattle.op_text.specs.declared.terminal.Terminal.{Terminal}
 use Rattle.op_text.specs.declared.terminal.Terminal.TheVariants as t
 use Rattle.op_text.specs.declared.terminal.Spelling.{Spelling}
 use Rattle.op_text.specs.declared.terminal.Spelling.TheVariants as sp
 use Rattle.op_text.specs.Items.{is_opening}
 use Rattle.op_text.specs.declared.grammar.Wanted.{Wanted}
-use Rattle.op_text.specs.declared.grammar.Wanted.TheVariants.{Ops, NewOp, NewParam, ParamKind, Params, NewResult, ResultKind, FirstStmt, Stmts, WordOpName, Args, ArgName, MoreArgs, WordEnd, Direction, States, StateName, MoreStates, Start, Lets, LetName, LetEnd, AssignEnd, Assigns, Value, GateOpen, More, Open, Begin, Colon, Arrow, Equals}
+use Rattle.op_text.specs.declared.grammar.Wanted.TheVariants.{Ops, NewOp, NewParam, ParamKind}
+use Rattle.op_text.specs.declared.grammar.Wanted.TheVariants.{Params, NewResult, ResultKind}
+use Rattle.op_text.specs.declared.grammar.Wanted.TheVariants.{FirstStmt, Stmts, WordOpName, Args}
+use Rattle.op_text.specs.declared.grammar.Wanted.TheVariants.{ArgName, MoreArgs, WordEnd, Direction}
+use Rattle.op_text.specs.declared.grammar.Wanted.TheVariants.{States, StateName, MoreStates, Start}
+use Rattle.op_text.specs.declared.grammar.Wanted.TheVariants.{Lets, LetName, LetEnd, AssignEnd}
+use Rattle.op_text.specs.declared.grammar.Wanted.TheVariants.{Assigns, Value, GateOpen, More, Open}
+use Rattle.op_text.specs.declared.grammar.Wanted.TheVariants.{Begin, Colon, Arrow, Equals}
 use Rattle.op_text.specs.Grammar.{follow, statement, let_or_assign, allowed, opens_terminal}
 use Rattle.op_text.specs.Trees.{text_of, IsViable, IsTheGrammar}
 use Rattle.op_text.proofs.Forward.{text_runs}
 use Rattle.op_text.proofs.Back.{text_back}
 
 -- Where tokens are refused, they are refused whatever follows.
-pub flagless : (want : Wanted) (u : Terminal) (o : Bool) → follow want u false ≡ None → follow want u o ≡ None
+pub flagless : (want : Wanted) (u : Terminal) (o : Bool) → follow want u false ≡ None
+    → follow want u o ≡ None
 flagless Value (t.Name n) o h = cc
 flagless Ops t.Zero o h = h
 flagless NewOp t.Zero o h = h
@@ -49,24 +58,30 @@ flagless Arrow t.Zero o h = h
 flagless Equals t.Zero o h = h
 flagless _ _ o h = h
 
-none_along : {A B : Type 0} (f g : A → Option B) (o : Option A) → ((x : A) → f x ≡ None → g x ≡ None) → option_and_then f o ≡ None → option_and_then g o ≡ None
+none_along : {A B : Type 0} (f g : A → Option B) (o : Option A)
+    → ((x : A) → f x ≡ None → g x ≡ None) → option_and_then f o ≡ None → option_and_then g o ≡ None
 none_along f g None k h = refl
 none_along f g (Some x) k h = k x h
 
-pub stays_refused : (ws : List Wanted) (ts more : List Terminal) → allowed ws ts ≡ None → allowed ws (ts ++ more) ≡ None
+pub stays_refused : (ws : List Wanted) (ts more : List Terminal) → allowed ws ts ≡ None
+    → allowed ws (ts ++ more) ≡ None
 unfolding allowed
 stays_refused ws [] more h = cc
 stays_refused [] (u ∷ ts) more h = refl
-stays_refused (want ∷ ws) (u ∷ []) more h = rw (flagless want u (opens_terminal more) (none_first (follow want u false) h)) refl
+stays_refused (want ∷ ws) (u ∷ []) more h = rw
+    (flagless want u (opens_terminal more) (none_first (follow want u false) h)) refl
   where
-    none_first : (o : Option (List Wanted)) → option_and_then (λ front. Some (front ++ ws)) o ≡ None → o ≡ None
+    none_first : (o : Option (List Wanted)) → option_and_then (λ front. Some (front ++ ws)) o ≡ None
+        → o ≡ None
     none_first None h = refl
     none_first (Some x) h = cc
 stays_refused (want ∷ ws) (u ∷ v ∷ ts) more h =
-    none_along (λ front. allowed (front ++ ws) (v ∷ ts)) (λ front. allowed (front ++ ws) (v ∷ (ts ++ more))) (follow want u (is_opening v))
+    none_along (λ front. allowed (front ++ ws) (v ∷ ts))
+    (λ front. allowed (front ++ ws) (v ∷ (ts ++ more))) (follow want u (is_opening v))
     (λ front g. stays_refused (front ++ ws) (v ∷ ts) more g) h
 
--- What is wanted can be given: a gate's parenthesis is wanted only where it follows, an op only at the
+-- What is wanted can be given: a gate's parenthesis is wanted only where it follows, an op only at
+-- the
 -- bottom, and behind a value comes what cannot be a parenthesis.
 abbrev is_stack : List Wanted → Bool
 is_stack [] = false
@@ -102,7 +117,8 @@ closing ParamKind = t.Name sp.Word ∷ []
 closing Params = t.Closes ∷ []
 closing NewResult = t.Name sp.Plain ∷ []
 closing ResultKind = t.Name sp.Word ∷ []
-closing FirstStmt = t.Name sp.Plain ∷ t.Equals ∷ t.Name sp.Plain ∷ t.Opens ∷ t.Closes ∷ t.Semi ∷ t.Finishes ∷ []
+closing FirstStmt = t.Name sp.Plain ∷ t.Equals ∷ t.Name sp.Plain ∷ t.Opens ∷ t.Closes ∷ t.Semi
+    ∷ t.Finishes ∷ []
 closing Stmts = t.Finishes ∷ []
 closing WordOpName = t.Name sp.Plain ∷ []
 closing Args = t.Closes ∷ []
@@ -144,7 +160,8 @@ finishes (Value ∷ AssignEnd ∷ ws) h = finishes (AssignEnd ∷ ws) h
 finishes (Value ∷ ws) h = cc
 finishes (w ∷ ws) h = finishes ws h
 
-below : (ws : List Wanted) → is_stack (Value ∷ ws) ≡ true → (is_stack ws ≡ true) × (opens_terminal (finish ws) ≡ false)
+below : (ws : List Wanted) → is_stack (Value ∷ ws) ≡ true → (is_stack ws ≡ true)
+    × (opens_terminal (finish ws) ≡ false)
 below (More ∷ ws) h = (h, refl)
 below (LetEnd ∷ ws) h = (h, refl)
 below (AssignEnd ∷ ws) h = (h, refl)
@@ -160,35 +177,42 @@ both_true : (a b : Bool) → (a && b) ≡ true → b ≡ true
 both_true true b h = h
 both_true false b h = cc
 
-ops_keep : (n : Spelling) (ws : List Wanted) (o : Bool) → is_stack (Ops ∷ ws) ≡ true → Keeps o ws (follow Ops (t.Name n) o)
+ops_keep : (n : Spelling) (ws : List Wanted) (o : Bool) → is_stack (Ops ∷ ws) ≡ true
+    → Keeps o ws (follow Ops (t.Name n) o)
 ops_keep sp.Op [] o h = refl
 ops_keep sp.Op (w ∷ ws) o h = cc
 ops_keep _ [] o h = tt
 ops_keep _ (w ∷ ws) o h = tt
 
-kind_keeps : (n : Spelling) (ws : List Wanted) (o : Bool) → is_stack ws ≡ true → Keeps o ws (follow ParamKind (t.Name n) o)
+kind_keeps : (n : Spelling) (ws : List Wanted) (o : Bool) → is_stack ws ≡ true
+    → Keeps o ws (follow ParamKind (t.Name n) o)
 kind_keeps sp.Word ws o h = loosen o ws h
 kind_keeps sp.Bit ws o h = loosen o ws h
 kind_keeps _ ws o h = tt
 
-direction_keeps : (n : Spelling) (ws : List Wanted) (o : Bool) → is_stack ws ≡ true → Keeps o ws (follow Direction (t.Name n) o)
+direction_keeps : (n : Spelling) (ws : List Wanted) (o : Bool) → is_stack ws ≡ true
+    → Keeps o ws (follow Direction (t.Name n) o)
 direction_keeps sp.Up ws o h = loosen o ws h
 direction_keeps sp.Down ws o h = loosen o ws h
 direction_keeps _ ws o h = tt
 
-statement_keeps : (n : Spelling) (ws : List Wanted) (o : Bool) → is_stack ws ≡ true → is_before o (statement n ++ ws) ≡ true
+statement_keeps : (n : Spelling) (ws : List Wanted) (o : Bool) → is_stack ws ≡ true
+    → is_before o (statement n ++ ws) ≡ true
 statement_keeps sp.Serial ws o h = h
 statement_keeps _ ws o h = h
 
-line_keeps : (n : Spelling) (ws : List Wanted) (o : Bool) → is_stack ws ≡ true → is_before o (let_or_assign n ++ ws) ≡ true
+line_keeps : (n : Spelling) (ws : List Wanted) (o : Bool) → is_stack ws ≡ true
+    → is_before o (let_or_assign n ++ ws) ≡ true
 line_keeps sp.Let ws o h = h
 line_keeps _ ws o h = h
 
-value_keeps : (n : Spelling) (ws : List Wanted) (o : Bool) → is_stack (Value ∷ ws) ≡ true → Keeps o ws (follow Value (t.Name n) o)
+value_keeps : (n : Spelling) (ws : List Wanted) (o : Bool) → is_stack (Value ∷ ws) ≡ true
+    → Keeps o ws (follow Value (t.Name n) o)
 value_keeps n ws true h = (below ws h).0
 value_keeps n ws false h = loosen false ws (below ws h).0
 
-keeps : (want : Wanted) (ws : List Wanted) (u : Terminal) (o : Bool) → is_before (is_opening u) (want ∷ ws) ≡ true → Keeps o ws (follow want u o)
+keeps : (want : Wanted) (ws : List Wanted) (u : Terminal) (o : Bool)
+    → is_before (is_opening u) (want ∷ ws) ≡ true → Keeps o ws (follow want u o)
 keeps Ops ws (t.Name n) o h = ops_keep n ws o h
 keeps ParamKind ws (t.Name n) o h = kind_keeps n ws o h
 keeps ResultKind ws (t.Name n) o h = kind_keeps n ws o h
@@ -235,7 +259,8 @@ keeps More ws t.Comma o h = h
 keeps _ ws _ o h = tt
 
 -- the flag behind the last token
-last_flag : (want : Wanted) (ws : List Wanted) (u : Terminal) (front : List Wanted) → is_before (is_opening u) (want ∷ ws) ≡ true → follow want u false ≡ Some front
+last_flag : (want : Wanted) (ws : List Wanted) (u : Terminal) (front : List Wanted)
+    → is_before (is_opening u) (want ∷ ws) ≡ true → follow want u false ≡ Some front
     → follow want u (opens_terminal (finish (front ++ ws))) ≡ Some front
 last_flag Value ws (t.Name n) front s h =
     let e : [] ≡ front = cc in
@@ -274,42 +299,61 @@ last_flag Arrow ws t.Zero front s h = h
 last_flag Equals ws t.Zero front s h = h
 last_flag _ ws _ front s h = h
 
-complete : (ts : List Terminal) (ws end : List Wanted) → is_before (opens_terminal ts) ws ≡ true → allowed ws ts ≡ Some end → allowed ws (ts ++ finish end) ≡ Some (Ops ∷ [])
+complete : (ts : List Terminal) (ws end : List Wanted) → is_before (opens_terminal ts) ws ≡ true
+    → allowed ws ts ≡ Some end → allowed ws (ts ++ finish end) ≡ Some (Ops ∷ [])
 unfolding allowed
 complete [] ws end s h = let e : ws ≡ end = cc in rw (← e) (finishes ws (unloosen ws s))
 complete (u ∷ ts) [] end s h = cc
 complete (u ∷ []) (want ∷ ws) end s h = last (follow want u false) refl (keeps want ws u false s) h
   where
-    last : (o : Option (List Wanted)) → follow want u false ≡ o → Keeps false ws o → option_and_then (λ front. Some (front ++ ws)) o ≡ Some end → allowed (want ∷ ws) (u ∷ finish end) ≡ Some (Ops ∷ [])
+    last : (o : Option (List Wanted)) → follow want u false ≡ o → Keeps false ws o
+        → option_and_then (λ front. Some (front ++ ws)) o ≡ Some end
+        → allowed (want ∷ ws) (u ∷ finish end) ≡ Some (Ops ∷ [])
     last None e k h = cc
     last (Some front) e k h =
         let is : front ++ ws ≡ end = cc in
-        let go : allowed (want ∷ ws) (u ∷ finish (front ++ ws)) ≡ Some (Ops ∷ []) = rw (last_flag want ws u front s e) (finishes (front ++ ws) (unloosen (front ++ ws) k)) in
+        let go : allowed (want ∷ ws) (u ∷ finish (front ++ ws)) ≡ Some (Ops ∷ []) =
+        rw (last_flag want ws u front s e) (finishes (front ++ ws) (unloosen (front ++ ws) k))
+        in
         ap (λ l. allowed (want ∷ ws) (u ∷ finish l)) (sym is) ∙ go
-complete (u ∷ v ∷ ts) (want ∷ ws) end s h = on (follow want u (is_opening v)) (keeps want ws u (is_opening v) s) (λ front k h. complete (v ∷ ts) (front ++ ws) end k h) h
+complete (u ∷ v ∷ ts) (want ∷ ws) end s h = on (follow want u (is_opening v))
+    (keeps want ws u (is_opening v) s) (λ front k h. complete (v ∷ ts) (front ++ ws) end k h) h
   where
     on : (o : Option (List Wanted)) → Keeps (is_opening v) ws o
-        → ((front : List Wanted) → is_before (is_opening v) (front ++ ws) ≡ true → allowed (front ++ ws) (v ∷ ts) ≡ Some end → allowed (front ++ ws) (v ∷ (ts ++ finish end)) ≡ Some (Ops ∷ []))
-        → option_and_then (λ front. allowed (front ++ ws) (v ∷ ts)) o ≡ Some end → option_and_then (λ front. allowed (front ++ ws) (v ∷ (ts ++ finish end))) o ≡ Some (Ops ∷ [])
+        → ((front : List Wanted) → is_before (is_opening v) (front ++ ws) ≡ true
+        → allowed (front ++ ws) (v ∷ ts) ≡ Some end
+        → allowed (front ++ ws) (v ∷ (ts ++ finish end)) ≡ Some (Ops ∷ []))
+        → option_and_then (λ front. allowed (front ++ ws) (v ∷ ts)) o ≡ Some end
+        → option_and_then (λ front. allowed (front ++ ws) (v ∷ (ts ++ finish end))) o
+        ≡ Some (Ops ∷ [])
     on None k go h = cc
     on (Some front) k go h = go front k h
 
-pub viable : (ts : List Terminal) (o : Option (List Wanted)) → allowed (Ops ∷ []) ts ≡ o → IsSome o → IsViable ts
+pub viable : (ts : List Terminal) (o : Option (List Wanted)) → allowed (Ops ∷ []) ts ≡ o → IsSome o
+    → IsViable ts
 viable ts None e h = cc
 viable ts (Some end) e h =
     let j = complete ts (Ops ∷ []) end refl e in
     let b = text_back (length (ts ++ finish end)) (ts ++ finish end) (omega arith) j in
     (b.0, finish end, sym b.1)
 
-pub not_viable : (ts : List Terminal) (o : Option (List Wanted)) → allowed (Ops ∷ []) ts ≡ o → IsViable ts → IsSome o
+pub not_viable : (ts : List Terminal) (o : Option (List Wanted)) → allowed (Ops ∷ []) ts ≡ o
+    → IsViable ts → IsSome o
 not_viable ts None e v =
     let a : allowed (Ops ∷ []) (text_of v.0) ≡ Some (Ops ∷ []) = text_runs v.0 in
-    let b : allowed (Ops ∷ []) (text_of v.0) ≡ None = ap (allowed (Ops ∷ [])) v.2 ∙ stays_refused (Ops ∷ []) ts v.1 e in
+    let b : allowed (Ops ∷ []) (text_of v.0) ≡ None = ap (allowed (Ops ∷ [])) v.2
+    ∙ stays_refused (Ops ∷ []) ts v.1 e in
     cc
 not_viable ts (Some end) e v = refl
 
 pub is_the_grammar : IsTheGrammar
 is_the_grammar = record {
-  accepts = λ ts. ((λ h. text_back (length ts) ts (omega arith) h), (λ b. ap (allowed (Ops ∷ [])) b.1 ∙ text_runs b.0));
-  allows = λ ts. (viable ts (allowed (Ops ∷ []) ts) refl, not_viable ts (allowed (Ops ∷ []) ts) refl);
+  accepts = λ ts. (
+    (λ h. text_back (length ts) ts (omega arith) h),
+    (λ b. ap (allowed (Ops ∷ [])) b.1 ∙ text_runs b.0),
+  );
+  allows = λ ts. (
+    viable ts (allowed (Ops ∷ []) ts) refl,
+    not_viable ts (allowed (Ops ∷ []) ts) refl,
+  );
 }

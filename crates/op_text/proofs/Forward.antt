@@ -7,9 +7,20 @@ use Rattle.op_text.specs.declared.terminal.Spelling.TheVariants as sp
 use Rattle.op_text.specs.declared.tree.Kind.{Kind}
 use Rattle.op_text.specs.declared.tree.Kind.TheVariants.{Word, Bit}
 use Rattle.op_text.specs.declared.grammar.Wanted.{Wanted}
-use Rattle.op_text.specs.declared.grammar.Wanted.TheVariants.{Ops, NewParam, ParamKind, Params, NewResult, ResultKind, FirstStmt, Stmts, WordOpName, Args, MoreArgs, WordEnd, Direction, States, MoreStates, Start, Lets, LetEnd, AssignEnd, Assigns, Value, More, Open, Begin, Colon, Arrow, Equals}
+use Rattle.op_text.specs.declared.grammar.Wanted.TheVariants.{Ops, NewParam, ParamKind, Params}
+use Rattle.op_text.specs.declared.grammar.Wanted.TheVariants.{NewResult, ResultKind, FirstStmt}
+use Rattle.op_text.specs.declared.grammar.Wanted.TheVariants.{Stmts, WordOpName, Args, MoreArgs}
+use Rattle.op_text.specs.declared.grammar.Wanted.TheVariants.{WordEnd, Direction, States}
+use Rattle.op_text.specs.declared.grammar.Wanted.TheVariants.{MoreStates, Start, Lets, LetEnd}
+use Rattle.op_text.specs.declared.grammar.Wanted.TheVariants.{AssignEnd, Assigns, Value, More, Open}
+use Rattle.op_text.specs.declared.grammar.Wanted.TheVariants.{Begin, Colon, Arrow, Equals}
 use Rattle.op_text.specs.Grammar.{allowed, opens_terminal}
-use Rattle.op_text.specs.Trees.{Tree, Trees, Nought, Unity, Leaf, Call, Last, Then, ParamTree, StateTree, EquationTree, StatementTree, Compute, Visit, OpTree, is_serial, is_let, value_text, values_text, behind_commas, between_commas, in_turn, kind_word, direction_word, start_word, name_text, param_text, state_text, assign_text, let_text, statement_text, op_text, text_of}
+use Rattle.op_text.specs.Trees.{Tree, Trees, Nought, Unity, Leaf, Call, Last, Then, ParamTree}
+use Rattle.op_text.specs.Trees.{StateTree, EquationTree, StatementTree, Compute, Visit, OpTree}
+use Rattle.op_text.specs.Trees.{is_serial, is_let, value_text, values_text, behind_commas}
+use Rattle.op_text.specs.Trees.{between_commas, in_turn, kind_word, direction_word, start_word}
+use Rattle.op_text.specs.Trees.{name_text, param_text, state_text, assign_text, let_text}
+use Rattle.op_text.specs.Trees.{statement_text, op_text, text_of}
 
 -- Each text of the grammar is accepted.
 shut_rest : (r : Trees) (rest : List Terminal) → opens_terminal (values_text r rest) ≡ false
@@ -19,17 +30,22 @@ shut_rest (Then a r) rest = refl
 mutual
   unfolding allowed
 
-  value_runs : (a : Tree) (ws : List Wanted) (rest : List Terminal) → opens_terminal rest ≡ false → allowed (Value ∷ ws) (value_text a rest) ≡ allowed ws rest
+  value_runs : (a : Tree) (ws : List Wanted) (rest : List Terminal) → opens_terminal rest ≡ false
+      → allowed (Value ∷ ws) (value_text a rest) ≡ allowed ws rest
   value_runs Nought ws rest h = refl
   value_runs Unity ws rest h = refl
   value_runs (Leaf n) ws rest h = rw h refl
-  value_runs (Call n a r) ws rest h = value_runs a (More ∷ ws) (values_text r rest) (shut_rest r rest) ∙ values_runs r ws rest
+  value_runs (Call n a r) ws rest h = value_runs a (More ∷ ws) (values_text r rest)
+      (shut_rest r rest) ∙ values_runs r ws rest
 
-  values_runs : (r : Trees) (ws : List Wanted) (rest : List Terminal) → allowed (More ∷ ws) (values_text r rest) ≡ allowed ws rest
+  values_runs : (r : Trees) (ws : List Wanted) (rest : List Terminal)
+      → allowed (More ∷ ws) (values_text r rest) ≡ allowed ws rest
   values_runs Last ws rest = refl
-  values_runs (Then a r) ws rest = value_runs a (More ∷ ws) (values_text r rest) (shut_rest r rest) ∙ values_runs r ws rest
+  values_runs (Then a r) ws rest = value_runs a (More ∷ ws) (values_text r rest) (shut_rest r rest)
+      ∙ values_runs r ws rest
 
-param_runs : (p : ParamTree) (ws : List Wanted) (rest : List Terminal) → allowed (NewParam ∷ Colon ∷ ParamKind ∷ ws) (param_text p rest) ≡ allowed ws rest
+param_runs : (p : ParamTree) (ws : List Wanted) (rest : List Terminal)
+    → allowed (NewParam ∷ Colon ∷ ParamKind ∷ ws) (param_text p rest) ≡ allowed ws rest
 unfolding allowed
 param_runs p ws rest = by_kind p.kind
   where
@@ -37,7 +53,8 @@ param_runs p ws rest = by_kind p.kind
     by_kind Word = refl
     by_kind Bit = refl
 
-result_runs : (p : ParamTree) (ws : List Wanted) (rest : List Terminal) → allowed (NewResult ∷ Colon ∷ ResultKind ∷ ws) (param_text p rest) ≡ allowed ws rest
+result_runs : (p : ParamTree) (ws : List Wanted) (rest : List Terminal)
+    → allowed (NewResult ∷ Colon ∷ ResultKind ∷ ws) (param_text p rest) ≡ allowed ws rest
 unfolding allowed
 result_runs p ws rest = by_kind p.kind
   where
@@ -45,90 +62,131 @@ result_runs p ws rest = by_kind p.kind
     by_kind Word = refl
     by_kind Bit = refl
 
-params_run : (ps : List ParamTree) (ws : List Wanted) (rest : List Terminal) → allowed (Params ∷ ws) (behind_commas param_text ps (t.Closes ∷ rest)) ≡ allowed ws rest
+params_run : (ps : List ParamTree) (ws : List Wanted) (rest : List Terminal)
+    → allowed (Params ∷ ws) (behind_commas param_text ps (t.Closes ∷ rest)) ≡ allowed ws rest
 unfolding allowed
 params_run [] ws rest = refl
-params_run (p ∷ ps) ws rest = param_runs p (Params ∷ ws) (behind_commas param_text ps (t.Closes ∷ rest)) ∙ params_run ps ws rest
+params_run (p ∷ ps) ws rest = param_runs p (Params
+    ∷ ws) (behind_commas param_text ps (t.Closes ∷ rest)) ∙ params_run ps ws rest
 
-more_args_run : (ns : List Spelling) (ws : List Wanted) (rest : List Terminal) → allowed (MoreArgs ∷ ws) (behind_commas name_text ns (t.Closes ∷ rest)) ≡ allowed ws rest
+more_args_run : (ns : List Spelling) (ws : List Wanted) (rest : List Terminal)
+    → allowed (MoreArgs ∷ ws) (behind_commas name_text ns (t.Closes ∷ rest)) ≡ allowed ws rest
 unfolding allowed
 more_args_run [] ws rest = refl
 more_args_run (n ∷ ns) ws rest = more_args_run ns ws rest
 
-args_run : (ns : List Spelling) (ws : List Wanted) (rest : List Terminal) → allowed (Args ∷ ws) (between_commas name_text ns (t.Closes ∷ rest)) ≡ allowed ws rest
+args_run : (ns : List Spelling) (ws : List Wanted) (rest : List Terminal)
+    → allowed (Args ∷ ws) (between_commas name_text ns (t.Closes ∷ rest)) ≡ allowed ws rest
 unfolding allowed
 args_run [] ws rest = refl
 args_run (n ∷ ns) ws rest = more_args_run ns ws rest
 
-state_runs : (b : Bool) (ws : List Wanted) (rest : List Terminal) → allowed (Start ∷ ws) (start_word b ∷ rest) ≡ allowed ws rest
+state_runs : (b : Bool) (ws : List Wanted) (rest : List Terminal)
+    → allowed (Start ∷ ws) (start_word b ∷ rest) ≡ allowed ws rest
 unfolding allowed
 state_runs true ws rest = refl
 state_runs false ws rest = refl
 
-more_states_run : (ss : List StateTree) (ws : List Wanted) (rest : List Terminal) → allowed (MoreStates ∷ ws) (behind_commas state_text ss (t.Closes ∷ rest)) ≡ allowed ws rest
+more_states_run : (ss : List StateTree) (ws : List Wanted) (rest : List Terminal)
+    → allowed (MoreStates ∷ ws) (behind_commas state_text ss (t.Closes ∷ rest)) ≡ allowed ws rest
 unfolding allowed
 more_states_run [] ws rest = refl
-more_states_run (s ∷ ss) ws rest = state_runs s.start (MoreStates ∷ ws) (behind_commas state_text ss (t.Closes ∷ rest)) ∙ more_states_run ss ws rest
+more_states_run (s ∷ ss) ws rest = state_runs s.start (MoreStates
+    ∷ ws) (behind_commas state_text ss (t.Closes ∷ rest)) ∙ more_states_run ss ws rest
 
-states_run : (ss : List StateTree) (ws : List Wanted) (rest : List Terminal) → allowed (States ∷ ws) (between_commas state_text ss (t.Closes ∷ rest)) ≡ allowed ws rest
+states_run : (ss : List StateTree) (ws : List Wanted) (rest : List Terminal)
+    → allowed (States ∷ ws) (between_commas state_text ss (t.Closes ∷ rest)) ≡ allowed ws rest
 unfolding allowed
 states_run [] ws rest = refl
-states_run (s ∷ ss) ws rest = state_runs s.start (MoreStates ∷ ws) (behind_commas state_text ss (t.Closes ∷ rest)) ∙ more_states_run ss ws rest
+states_run (s ∷ ss) ws rest = state_runs s.start (MoreStates
+    ∷ ws) (behind_commas state_text ss (t.Closes ∷ rest)) ∙ more_states_run ss ws rest
 
-assigns_run : (es : List EquationTree) (ws : List Wanted) (rest : List Terminal) → allowed (Assigns ∷ ws) (in_turn assign_text es (t.Finishes ∷ rest)) ≡ allowed ws rest
+assigns_run : (es : List EquationTree) (ws : List Wanted) (rest : List Terminal)
+    → allowed (Assigns ∷ ws) (in_turn assign_text es (t.Finishes ∷ rest)) ≡ allowed ws rest
 unfolding allowed
 assigns_run [] ws rest = refl
-assigns_run (e ∷ es) ws rest = value_runs e.value (AssignEnd ∷ Assigns ∷ ws) (t.Semi ∷ in_turn assign_text es (t.Finishes ∷ rest)) refl ∙ assigns_run es ws rest
+assigns_run (e ∷ es) ws rest = value_runs e.value (AssignEnd ∷ Assigns ∷ ws) (t.Semi
+    ∷ in_turn assign_text es (t.Finishes ∷ rest)) refl ∙ assigns_run es ws rest
 
-first_runs : (n : Spelling) → is_let n ≡ false → (ws : List Wanted) (rest : List Terminal) → allowed (Lets ∷ ws) (t.Name n ∷ rest) ≡ allowed (Equals ∷ Value ∷ AssignEnd ∷ Assigns ∷ ws) rest
+first_runs : (n : Spelling) → is_let n ≡ false → (ws : List Wanted) (rest : List Terminal)
+    → allowed (Lets ∷ ws) (t.Name n ∷ rest) ≡ allowed (Equals ∷ Value ∷ AssignEnd ∷ Assigns
+    ∷ ws) rest
 unfolding allowed
 first_runs sp.Let h ws rest = cc
 first_runs _ h ws rest = refl
 
-lets_run : (ls : List EquationTree) (e : EquationTree) (es : List EquationTree) → is_let e.name ≡ false → (ws : List Wanted) (rest : List Terminal)
-    → allowed (Lets ∷ ws) (in_turn let_text ls (assign_text e (in_turn assign_text es (t.Finishes ∷ rest)))) ≡ allowed ws rest
+lets_run : (ls : List EquationTree) (e : EquationTree) (es : List EquationTree)
+    → is_let e.name ≡ false → (ws : List Wanted) (rest : List Terminal)
+    → allowed (Lets ∷ ws) (in_turn let_text ls
+    (assign_text e (in_turn assign_text es (t.Finishes ∷ rest)))) ≡ allowed ws rest
 unfolding allowed
-lets_run [] e es h ws rest = first_runs e.name h ws (t.Equals ∷ value_text e.value (t.Semi ∷ in_turn assign_text es (t.Finishes ∷ rest))) ∙ value_runs e.value (AssignEnd ∷ Assigns ∷ ws) (t.Semi ∷ in_turn assign_text es (t.Finishes ∷ rest)) refl ∙ assigns_run es ws rest
+lets_run [] e es h ws rest = first_runs e.name h ws (t.Equals
+    ∷ value_text e.value (t.Semi ∷ in_turn assign_text es (t.Finishes ∷ rest)))
+    ∙ value_runs e.value (AssignEnd ∷ Assigns ∷ ws) (t.Semi
+    ∷ in_turn assign_text es (t.Finishes ∷ rest)) refl ∙ assigns_run es ws rest
 lets_run (l ∷ ls) e es h ws rest =
-    value_runs l.value (LetEnd ∷ Lets ∷ ws) (t.Semi ∷ in_turn let_text ls (assign_text e (in_turn assign_text es (t.Finishes ∷ rest)))) refl ∙ lets_run ls e es h ws rest
+    value_runs l.value (LetEnd ∷ Lets ∷ ws) (t.Semi
+    ∷ in_turn let_text ls (assign_text e (in_turn assign_text es (t.Finishes ∷ rest)))) refl
+    ∙ lets_run ls e es h ws rest
 
-direction_runs : (b : Bool) (ws : List Wanted) (rest : List Terminal) → allowed (Direction ∷ ws) (direction_word b ∷ rest) ≡ allowed ws rest
+direction_runs : (b : Bool) (ws : List Wanted) (rest : List Terminal)
+    → allowed (Direction ∷ ws) (direction_word b ∷ rest) ≡ allowed ws rest
 unfolding allowed
 direction_runs true ws rest = refl
 direction_runs false ws rest = refl
 
-target_runs : (n : Spelling) → is_serial n ≡ false → (ws : List Wanted) (rest : List Terminal) → allowed (Stmts ∷ ws) (t.Name n ∷ rest) ≡ allowed (Equals ∷ WordOpName ∷ Open ∷ Args ∷ WordEnd ∷ Stmts ∷ ws) rest
+target_runs : (n : Spelling) → is_serial n ≡ false → (ws : List Wanted) (rest : List Terminal)
+    → allowed (Stmts ∷ ws) (t.Name n ∷ rest) ≡ allowed (Equals ∷ WordOpName ∷ Open ∷ Args ∷ WordEnd
+    ∷ Stmts ∷ ws) rest
 unfolding allowed
 target_runs sp.Serial h ws rest = cc
 target_runs _ h ws rest = refl
 
-statement_runs : (s : StatementTree) (ws : List Wanted) (rest : List Terminal) → allowed (Stmts ∷ ws) (statement_text s rest) ≡ allowed (Stmts ∷ ws) rest
+statement_runs : (s : StatementTree) (ws : List Wanted) (rest : List Terminal)
+    → allowed (Stmts ∷ ws) (statement_text s rest) ≡ allowed (Stmts ∷ ws) rest
 unfolding allowed
-statement_runs (Compute w) ws rest = target_runs w.target w.free ws (t.Equals ∷ t.Name w.operation ∷ t.Opens ∷ between_commas name_text w.args (t.Closes ∷ t.Semi ∷ rest)) ∙ args_run w.args (WordEnd ∷ Stmts ∷ ws) (t.Semi ∷ rest)
+statement_runs (Compute w) ws rest = target_runs w.target w.free ws (t.Equals ∷ t.Name w.operation
+    ∷ t.Opens ∷ between_commas name_text w.args (t.Closes ∷ t.Semi ∷ rest))
+    ∙ args_run w.args (WordEnd ∷ Stmts ∷ ws) (t.Semi ∷ rest)
 statement_runs (Visit b) ws rest =
-    direction_runs b.down (Open ∷ States ∷ Begin ∷ Lets ∷ Stmts ∷ ws) (t.Opens ∷ between_commas state_text b.states (t.Closes ∷ t.Begins ∷ in_turn let_text b.lets (assign_text b.first (in_turn assign_text b.more (t.Finishes ∷ rest)))))
-    ∙ states_run b.states (Begin ∷ Lets ∷ Stmts ∷ ws) (t.Begins ∷ in_turn let_text b.lets (assign_text b.first (in_turn assign_text b.more (t.Finishes ∷ rest))))
+    direction_runs b.down (Open ∷ States ∷ Begin ∷ Lets ∷ Stmts ∷ ws) (t.Opens
+    ∷ between_commas state_text b.states (t.Closes ∷ t.Begins
+    ∷ in_turn let_text b.lets (assign_text b.first
+    (in_turn assign_text b.more (t.Finishes ∷ rest)))))
+    ∙ states_run b.states (Begin ∷ Lets ∷ Stmts ∷ ws) (t.Begins
+    ∷ in_turn let_text b.lets (assign_text b.first
+    (in_turn assign_text b.more (t.Finishes ∷ rest))))
     ∙ lets_run b.lets b.first b.more b.free (Stmts ∷ ws) rest
 
-first_statement : (s : StatementTree) (ws : List Wanted) (rest : List Terminal) → allowed (FirstStmt ∷ ws) (statement_text s rest) ≡ allowed (Stmts ∷ ws) (statement_text s rest)
+first_statement : (s : StatementTree) (ws : List Wanted) (rest : List Terminal)
+    → allowed (FirstStmt ∷ ws) (statement_text s rest)
+    ≡ allowed (Stmts ∷ ws) (statement_text s rest)
 unfolding allowed
 first_statement (Compute w) ws rest = refl
 first_statement (Visit b) ws rest = refl
 
-statements_run : (ss : List StatementTree) (ws : List Wanted) (rest : List Terminal) → allowed (Stmts ∷ ws) (in_turn statement_text ss (t.Finishes ∷ rest)) ≡ allowed ws rest
+statements_run : (ss : List StatementTree) (ws : List Wanted) (rest : List Terminal)
+    → allowed (Stmts ∷ ws) (in_turn statement_text ss (t.Finishes ∷ rest)) ≡ allowed ws rest
 unfolding allowed
 statements_run [] ws rest = refl
-statements_run (s ∷ ss) ws rest = statement_runs s ws (in_turn statement_text ss (t.Finishes ∷ rest)) ∙ statements_run ss ws rest
+statements_run (s ∷ ss) ws rest = statement_runs s ws
+    (in_turn statement_text ss (t.Finishes ∷ rest)) ∙ statements_run ss ws rest
 
-op_runs : (op : OpTree) (rest : List Terminal) → allowed (Ops ∷ []) (op_text op rest) ≡ allowed (Ops ∷ []) rest
+op_runs : (op : OpTree) (rest : List Terminal)
+    → allowed (Ops ∷ []) (op_text op rest) ≡ allowed (Ops ∷ []) rest
 unfolding allowed
 op_runs op rest =
-    let d = t.Begins ∷ statement_text op.statement (in_turn statement_text op.statements (t.Finishes ∷ rest)) in
-    param_runs op.source (Params ∷ Arrow ∷ NewResult ∷ Colon ∷ ResultKind ∷ Begin ∷ FirstStmt ∷ Ops ∷ []) (behind_commas param_text op.sources (t.Closes ∷ t.Arrow ∷ param_text op.result d))
-    ∙ params_run op.sources (Arrow ∷ NewResult ∷ Colon ∷ ResultKind ∷ Begin ∷ FirstStmt ∷ Ops ∷ []) (t.Arrow ∷ param_text op.result d)
+    let d = t.Begins ∷ statement_text op.statement
+    (in_turn statement_text op.statements (t.Finishes ∷ rest)) in
+    param_runs op.source (Params ∷ Arrow ∷ NewResult ∷ Colon ∷ ResultKind ∷ Begin ∷ FirstStmt ∷ Ops
+    ∷ []) (behind_commas param_text op.sources (t.Closes ∷ t.Arrow ∷ param_text op.result d))
+    ∙ params_run op.sources (Arrow ∷ NewResult ∷ Colon ∷ ResultKind ∷ Begin ∷ FirstStmt ∷ Ops
+    ∷ []) (t.Arrow ∷ param_text op.result d)
     ∙ result_runs op.result (Begin ∷ FirstStmt ∷ Ops ∷ []) d
-    ∙ first_statement op.statement (Ops ∷ []) (in_turn statement_text op.statements (t.Finishes ∷ rest))
-    ∙ statement_runs op.statement (Ops ∷ []) (in_turn statement_text op.statements (t.Finishes ∷ rest))
+    ∙ first_statement op.statement (Ops ∷ [])
+    (in_turn statement_text op.statements (t.Finishes ∷ rest))
+    ∙ statement_runs op.statement (Ops ∷ []) (in_turn statement_text op.statements (t.Finishes
+    ∷ rest))
     ∙ statements_run op.statements (Ops ∷ []) rest
 
 pub text_runs : (ops : List OpTree) → allowed (Ops ∷ []) (text_of ops) ≡ Some (Ops ∷ [])

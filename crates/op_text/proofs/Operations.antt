@@ -1,34 +1,43 @@
 -- Word operations.
-use Rattle.std.proofs.Common.{◌≡◌, ℕ, ◌≤◌, length, arith, Bool, true, false, List, [], ◌∷◌, ◌++◌, Option, Some, None, refl, sym, ap, ◌∙◌, bytes_eq, cond}
+use Rattle.std.proofs.Common.{◌≡◌, ℕ, ◌≤◌, length, arith, Bool, true, false, List, [], ◌∷◌, ◌++◌}
+use Rattle.std.proofs.Common.{Option, Some, None, refl, sym, ap, ◌∙◌, bytes_eq, cond}
 use Rattle.op_text.specs.declared.tree.Kind.{Kind}
 use Rattle.op_text.specs.declared.tree.Kind.TheVariants.{Word, Bit}
 use Rattle.op_text.specs.declared.tree.WordOp.{WordOp}
 use Rattle.op_text.specs.declared.tree.WordOp.TheVariants as o
 use Rattle.op_text.specs.declared.word_ops.Shape.{Shape}
 use Rattle.op_text.specs.declared.word_ops.Shape.TheVariants as shapes
-use Rattle.op_text.specs.WordOps.{Form, named_among, op_text, lacks, shape_forms, may_take, wants_more, filled, given_first, first_of, FirstSettles}
+use Rattle.op_text.specs.WordOps.{Form, named_among, op_text, lacks, shape_forms, may_take}
+use Rattle.op_text.specs.WordOps.{wants_more, filled, given_first, first_of, FirstSettles}
 
-or_some : (b : Bool) (p q : WordOp) (x y : Option WordOp) → (x ≡ Some q → y ≡ Some q) → cond b (Some p) x ≡ Some q → cond b (Some p) y ≡ Some q
+or_some : (b : Bool) (p q : WordOp) (x y : Option WordOp) → (x ≡ Some q → y ≡ Some q)
+    → cond b (Some p) x ≡ Some q → cond b (Some p) y ≡ Some q
 or_some true p q x y k h = h
 or_some false p q x y k h = k h
 
-or_none : (b : Bool) (p : WordOp) (x y z : Option WordOp) → (x ≡ None → y ≡ z) → cond b (Some p) x ≡ None → cond b (Some p) y ≡ z
+or_none : (b : Bool) (p : WordOp) (x y z : Option WordOp) → (x ≡ None → y ≡ z)
+    → cond b (Some p) x ≡ None → cond b (Some p) y ≡ z
 or_none true p x y z k h = cc
 or_none false p x y z k h = k h
 
-pub found : (xs ys : List WordOp) (text : List ℕ) (q : WordOp) → named_among xs text ≡ Some q → named_among (xs ++ ys) text ≡ Some q
+pub found : (xs ys : List WordOp) (text : List ℕ) (q : WordOp) → named_among xs text ≡ Some q
+    → named_among (xs ++ ys) text ≡ Some q
 found [] ys text q h = cc
-found (p ∷ xs) ys text q h = or_some (bytes_eq text (op_text p)) p q (named_among xs text) (named_among (xs ++ ys) text) (found xs ys text q) h
+found (p ∷ xs) ys text q h = or_some (bytes_eq text (op_text p)) p q (named_among xs text)
+    (named_among (xs ++ ys) text) (found xs ys text q) h
 
-pub not_found : (xs ys : List WordOp) (text : List ℕ) → named_among xs text ≡ None → named_among (xs ++ ys) text ≡ named_among ys text
+pub not_found : (xs ys : List WordOp) (text : List ℕ) → named_among xs text ≡ None
+    → named_among (xs ++ ys) text ≡ named_among ys text
 not_found [] ys text h = refl
-not_found (p ∷ xs) ys text h = or_none (bytes_eq text (op_text p)) p (named_among xs text) (named_among (xs ++ ys) text) (named_among ys text) (not_found xs ys text) h
+not_found (p ∷ xs) ys text h = or_none (bytes_eq text (op_text p)) p (named_among xs text)
+    (named_among (xs ++ ys) text) (named_among ys text) (not_found xs ys text) h
 
 nothing_lacks : (more : List Kind) (k : Kind) → lacks (more ++ k ∷ []) [] ≡ None
 nothing_lacks [] k = refl
 nothing_lacks (j ∷ more) k = refl
 
-too_many : (s : Shape) (given : List Kind) (k : Kind) → 3 ≤ length given → may_take (shape_forms s) given k ≡ false
+too_many : (s : Shape) (given : List Kind) (k : Kind) → 3 ≤ length given
+    → may_take (shape_forms s) given k ≡ false
 too_many s [] k h = absurd (omega arith)
 too_many s (a ∷ []) k h = absurd (omega arith)
 too_many s (a ∷ b ∷ []) k h = absurd (omega arith)
@@ -81,10 +90,12 @@ too_many shapes.Choice (Bit ∷ Word ∷ Bit ∷ more) k h = refl
 too_many shapes.Choice (Bit ∷ Bit ∷ Word ∷ more) k h = refl
 too_many shapes.Choice (Bit ∷ Bit ∷ Bit ∷ more) k h = rw (nothing_lacks more k) refl
 
-pub takes_no_fourth : (s : Shape) (fs : List Form) (given : List Kind) (k : Kind) → shape_forms s ≡ fs → 3 ≤ length given → false ≡ may_take fs given k
+pub takes_no_fourth : (s : Shape) (fs : List Form) (given : List Kind) (k : Kind)
+    → shape_forms s ≡ fs → 3 ≤ length given → false ≡ may_take fs given k
 takes_no_fourth s fs given k e h = sym (ap (λ l. may_take l given k) (sym e) ∙ too_many s given k h)
 
-none_wanted : (s : Shape) (given : List Kind) → 3 ≤ length given → wants_more (shape_forms s) given ≡ false
+none_wanted : (s : Shape) (given : List Kind) → 3 ≤ length given
+    → wants_more (shape_forms s) given ≡ false
 none_wanted s [] h = absurd (omega arith)
 none_wanted s (a ∷ []) h = absurd (omega arith)
 none_wanted s (a ∷ b ∷ []) h = absurd (omega arith)
@@ -139,10 +150,12 @@ none_wanted shapes.Choice (Bit ∷ Bit ∷ Word ∷ more) h = refl
 none_wanted shapes.Choice (Bit ∷ Bit ∷ Bit ∷ []) h = refl
 none_wanted shapes.Choice (Bit ∷ Bit ∷ Bit ∷ d ∷ more) h = refl
 
-pub wants_no_fourth : (s : Shape) (fs : List Form) (given : List Kind) → shape_forms s ≡ fs → 3 ≤ length given → false ≡ wants_more fs given
+pub wants_no_fourth : (s : Shape) (fs : List Form) (given : List Kind) → shape_forms s ≡ fs
+    → 3 ≤ length given → false ≡ wants_more fs given
 wants_no_fourth s fs given e h = sym (ap (λ l. wants_more l given) (sym e) ∙ none_wanted s given h)
 
-none_filled : (s : Shape) (given : List Kind) → 4 ≤ length given → filled (shape_forms s) given ≡ None
+none_filled : (s : Shape) (given : List Kind) → 4 ≤ length given
+    → filled (shape_forms s) given ≡ None
 none_filled s [] h = absurd (omega arith)
 none_filled s (a ∷ []) h = absurd (omega arith)
 none_filled s (a ∷ b ∷ []) h = absurd (omega arith)
@@ -196,10 +209,12 @@ none_filled shapes.Choice (Bit ∷ Word ∷ Bit ∷ d ∷ more) h = refl
 none_filled shapes.Choice (Bit ∷ Bit ∷ Word ∷ d ∷ more) h = refl
 none_filled shapes.Choice (Bit ∷ Bit ∷ Bit ∷ d ∷ more) h = refl
 
-pub fills_no_fourth : (s : Shape) (fs : List Form) (given : List Kind) → shape_forms s ≡ fs → 4 ≤ length given → None ≡ filled fs given
+pub fills_no_fourth : (s : Shape) (fs : List Form) (given : List Kind) → shape_forms s ≡ fs
+    → 4 ≤ length given → None ≡ filled fs given
 fills_no_fourth s fs given e h = sym (ap (λ l. filled l given) (sym e) ∙ none_filled s given h)
 
-settles : (s : Shape) (kinds : List Kind) (k : Kind) → filled (shape_forms s) kinds ≡ Some k → given_first (shape_forms s) (first_of kinds) ≡ k
+settles : (s : Shape) (kinds : List Kind) (k : Kind) → filled (shape_forms s) kinds ≡ Some k
+    → given_first (shape_forms s) (first_of kinds) ≡ k
 settles shapes.Nothing [] k h = cc
 settles shapes.Nothing (Word ∷ []) k h = cc
 settles shapes.Nothing (Bit ∷ []) k h = cc

@@ -8,26 +8,36 @@ use Rattle.op_text.specs.declared.grammar.Wanted.{Wanted}
 use Rattle.op_text.specs.declared.grammar.Wanted.TheVariants.{Ops}
 use Rattle.op_text.specs.Rules.{Scope, step, after, ends, breach_of}
 
-pub breach_at : (w : Wanted) (wanted : List Wanted) (s : Scope) (u : Lexeme) (items : List Item) (r : Result (List Wanted × Scope) OpsKind)
+pub breach_at : (w : Wanted) (wanted : List Wanted) (s : Scope) (u : Lexeme) (items : List Item)
+    (r : Result (List Wanted × Scope) OpsKind)
     → step w s (terminal_of u.kind u.text) u.text (opens items) ≡ r
-    → breach_of (w ∷ wanted) s (Whole u ∷ items) ≡ after r u (λ front scope. breach_of (front ++ wanted) scope items)
+    → breach_of (w ∷ wanted) s (Whole u ∷ items)
+    ≡ after r u (λ front scope. breach_of (front ++ wanted) scope items)
 unfolding breach_of
-breach_at w wanted s u items r e = ap (λ x. after x u (λ front scope. breach_of (front ++ wanted) scope items)) e
+breach_at w wanted s u items r e =
+    ap (λ x. after x u (λ front scope. breach_of (front ++ wanted) scope items)) e
 
 abbrev pub IsNoText : Wanted → Type 0
 IsNoText w = ends (w ∷ []) ≡ Some at_end
 
-pub no_value : (w : Wanted) (wanted : List Wanted) (s : Scope) (items : List Item) (b : Breach) → no_token items ≡ Some b → IsNoText w → breach_of (w ∷ wanted) s items ≡ Some b
+pub no_value : (w : Wanted) (wanted : List Wanted) (s : Scope) (items : List Item) (b : Breach)
+    → no_token items ≡ Some b → IsNoText w → breach_of (w ∷ wanted) s items ≡ Some b
 unfolding breach_of
 no_value Ops wanted s [] b e h = cc
 no_value _ wanted s [] b e h = e
 no_value w wanted s (Bad f ∷ items) b e h = e
 no_value w wanted s (Whole u ∷ items) b e h = cc
 
-pub moved : (w : Wanted) (s : Scope) (old : List Item) (u : Lexeme) (new : List Item) (front : List Wanted) (s' : Scope) → old ≡ Whole u ∷ new
-    → step w s (terminal_of u.kind u.text) u.text (opens new) ≡ Ok (front, s') → (wanted : List Wanted) → breach_of (w ∷ wanted) s old ≡ breach_of (front ++ wanted) s' new
-moved w s old u new front s' e is wanted = ap (breach_of (w ∷ wanted) s) e ∙ breach_at w wanted s u new (Ok (front, s')) is
+pub moved : (w : Wanted) (s : Scope) (old : List Item) (u : Lexeme) (new : List Item)
+    (front : List Wanted) (s' : Scope) → old ≡ Whole u ∷ new
+    → step w s (terminal_of u.kind u.text) u.text (opens new) ≡ Ok (front, s')
+    → (wanted : List Wanted) → breach_of (w ∷ wanted) s old ≡ breach_of (front ++ wanted) s' new
+moved w s old u new front s' e is wanted = ap (breach_of (w ∷ wanted) s) e
+    ∙ breach_at w wanted s u new (Ok (front, s')) is
 
-pub refused : (w : Wanted) (s : Scope) (old : List Item) (u : Lexeme) (new : List Item) (kind : OpsKind) → old ≡ Whole u ∷ new
-    → step w s (terminal_of u.kind u.text) u.text (opens new) ≡ Err kind → (wanted : List Wanted) → breach_of (w ∷ wanted) s old ≡ Some (at_token u kind)
-refused w s old u new kind e is wanted = ap (breach_of (w ∷ wanted) s) e ∙ breach_at w wanted s u new (Err kind) is
+pub refused : (w : Wanted) (s : Scope) (old : List Item) (u : Lexeme) (new : List Item)
+    (kind : OpsKind) → old ≡ Whole u ∷ new
+    → step w s (terminal_of u.kind u.text) u.text (opens new) ≡ Err kind → (wanted : List Wanted)
+    → breach_of (w ∷ wanted) s old ≡ Some (at_token u kind)
+refused w s old u new kind e is wanted = ap (breach_of (w ∷ wanted) s) e
+    ∙ breach_at w wanted s u new (Err kind) is

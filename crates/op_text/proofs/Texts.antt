@@ -3,7 +3,8 @@ use Rattle.std.proofs.Common.{◌≡◌, ℕ, List, [], ◌∷◌, map, Option, 
 use Rattle.text_lex.specs.Lexical.{items_from, front_of}
 use Rattle.op_text.specs.declared.fault.OpsFault.{OpsFault}
 use Rattle.op_text.specs.declared.fault.OpsKind.{OpsKind}
-use Rattle.op_text.specs.declared.fault.OpsKind.TheVariants.{Lex, Syntax, BadName, Twice, Unknown, Kind, NoResult, TooMany}
+use Rattle.op_text.specs.declared.fault.OpsKind.TheVariants.{Lex, Syntax, BadName, Twice, Unknown}
+use Rattle.op_text.specs.declared.fault.OpsKind.TheVariants.{Kind, NoResult, TooMany}
 use Rattle.op_text.specs.Rules.{breach_of}
 use Rattle.op_text.specs.Lines.{fault_in}
 
@@ -75,7 +76,8 @@ syntax_2 : Each (
     codes "op f(a: word, b: word, p: bit) -> y: word {\nserial up (c = 2) {\ny = xor(a, c); c = maj(a, b, c);\n}\n}" ∷
     codes "op f(a: word, b: word, p: bit) -> y: word {\nserial sideways () { y = a; }\n}" ∷
     codes "op f(a: word, b: word, p: bit) -> y: word {\nserial up () { }\n}" ∷
-    codes "op f(a: word, b: word, p: bit) -> y: word {\nserial up (c = 0,) { c = a; }\n}" ∷ []) (at_line 2 Syntax)
+    codes "op f(a: word, b: word, p: bit) -> y: word {\nserial up (c = 0,) { c = a; }\n}"
+    ∷ []) (at_line 2 Syntax)
 unfolding breach_of items_from front_of
 syntax_2 = refl
 
@@ -83,12 +85,14 @@ syntax_3 : Each (
     codes "op f(a: word, b: word, p: bit) -> y: word {\ny = not(a)\n}" ∷
     codes "op f(a: word, b: word, p: bit) -> y: word {\ny = not(a);\nz = " ∷
     codes "op f(a: word, b: word, p: bit) -> y: word {\nserial up () {\ny = 2;\n}\n}" ∷
-    codes "op f(a: word, b: word, p: bit) -> y: word {\nserial up () {\ny = 01;\n}\n}" ∷ []) (at_line 3 Syntax)
+    codes "op f(a: word, b: word, p: bit) -> y: word {\nserial up () {\ny = 01;\n}\n}"
+    ∷ []) (at_line 3 Syntax)
 unfolding breach_of items_from front_of
 syntax_3 = refl
 
 syntax_4 : Each (
-    codes "op f(a: word, b: word, p: bit) -> y: word {\nserial up () {\nlet x = not(a);\n}\n}" ∷ []) (at_line 4 Syntax)
+    codes "op f(a: word, b: word, p: bit) -> y: word {\nserial up () {\nlet x = not(a);\n}\n}"
+    ∷ []) (at_line 4 Syntax)
 unfolding breach_of items_from front_of
 syntax_4 = refl
 
@@ -109,7 +113,8 @@ bad_name_2 = refl
 
 bad_name_3 : Each (
     codes "op f(a: word, b: word, p: bit) -> y: word {\nserial up () {\ny = a; let x = a;\n}\n}" ∷
-    codes "op f(a: word, b: word, p: bit) -> y: word {\nserial up () {\ny = up;\n}\n}" ∷ []) (at_line 3 BadName)
+    codes "op f(a: word, b: word, p: bit) -> y: word {\nserial up () {\ny = up;\n}\n}"
+    ∷ []) (at_line 3 BadName)
 unfolding breach_of items_from front_of
 bad_name_3 = refl
 
@@ -120,14 +125,16 @@ twice_1 : Each (
     codes "op f(a: word) -> y: bit { serial up (y = 0) { t = a; } y = and_red(a); }" ∷
     codes "op f(a: word) -> y: word { serial up (y = 0) { t = a; } }" ∷
     codes "op f(a: word) -> y: word { serial up () { t = a; } serial up (t = 0) { y = a; } }" ∷
-    codes "op f(a: word) -> y: word { serial up (s = 0) { t = a; } serial up () { s = a; y = a;} }" ∷ []) (at_line 1 Twice)
+    codes "op f(a: word) -> y: word { serial up (s = 0) { t = a; } serial up () { s = a; y = a;} }"
+    ∷ []) (at_line 1 Twice)
 unfolding breach_of items_from front_of
 twice_1 = refl
 
 twice_2 : Each (
     codes "op f(a: word, b: word, p: bit) -> y: word {\na = not(a);\n}" ∷
     codes "op f(a: word, b: word, p: bit) -> y: bit {\nserial up (y = 0, y = 1) {\nz = a;\n}\n}" ∷
-    codes "op f(a: word, b: word, p: bit) -> y: word {\nserial up (y = 0, y = 1) {\nz = a;\n}\n}" ∷ []) (at_line 2 Twice)
+    codes "op f(a: word, b: word, p: bit) -> y: word {\nserial up (y = 0, y = 1) {\nz = a;\n}\n}"
+    ∷ []) (at_line 2 Twice)
 unfolding breach_of items_from front_of
 twice_2 = refl
 
@@ -142,7 +149,8 @@ unfolding breach_of items_from front_of
 twice_3 = refl
 
 twice_4 : Each (
-    codes "op f(a: word, b: word, p: bit) -> y: bit {\ny = or_red(a);\nserial up () {\ny = a;\n}\n}" ∷ []) (at_line 4 Twice)
+    codes "op f(a: word, b: word, p: bit) -> y: bit {\ny = or_red(a);\nserial up () {\ny = a;\n}\n}"
+    ∷ []) (at_line 4 Twice)
 unfolding breach_of items_from front_of
 twice_4 = refl
 
@@ -159,7 +167,8 @@ twice_18 = refl
 
 unknown_1 : Each (
     codes "op f(a: word) -> y: word { y = not(a); } op g(a: word) -> y: word { y = not(f); }" ∷
-    codes "op f(a: word) -> y: word { serial up () { let l = a; t = l; } serial up () { y = l; } }" ∷ []) (at_line 1 Unknown)
+    codes "op f(a: word) -> y: word { serial up () { let l = a; t = l; } serial up () { y = l; } }"
+    ∷ []) (at_line 1 Unknown)
 unfolding breach_of items_from front_of
 unknown_1 = refl
 
@@ -176,7 +185,8 @@ unknown_3 : Each (
     codes "op f(a: word, b: word, p: bit) -> y: word {\nserial up () {\nz = a; y = z;\n}\n}" ∷
     codes "op f(a: word, b: word, p: bit) -> y: word {\nserial up () {\ny = foo(a);\n}\n}" ∷
     codes "op f(a: word, b: word, p: bit) -> y: word {\nserial up () {\ny = foo;\n}\n}" ∷
-    codes "op f(a: word, b: word, p: bit) -> y: word {\nserial up () {\ny = and;\n}\n}" ∷ []) (at_line 3 Unknown)
+    codes "op f(a: word, b: word, p: bit) -> y: word {\nserial up () {\ny = and;\n}\n}"
+    ∷ []) (at_line 3 Unknown)
 unfolding breach_of items_from front_of
 unknown_3 = refl
 
@@ -201,14 +211,16 @@ kind_2 : Each (
     codes "op f(a: word, b: word, p: bit) -> y: word {\ny = not(a, b);\n}" ∷
     codes "op f(a: word, b: word, p: bit) -> y: word {\ny = zero(a);\n}" ∷
     codes "op f(a: word, b: word, p: bit) -> y: word {\ny = eq(a, b);\n}" ∷
-    codes "op f(a: word, b: word, p: bit) -> y: word {\ny = if_else(a, b, a);\n}" ∷ []) (at_line 2 Kind)
+    codes "op f(a: word, b: word, p: bit) -> y: word {\ny = if_else(a, b, a);\n}"
+    ∷ []) (at_line 2 Kind)
 unfolding breach_of items_from front_of
 kind_2 = refl
 
 kind_3 : Each (
     codes "op f(a: word, b: word, p: bit) -> y: word {\nserial up (c = 0) {\ny = xor(a, c); c = maj(a, b);\n}\n}" ∷
     codes "op f(a: word, b: word, p: bit) -> y: word {\nserial up () {\ny = and(a, b, a);\n}\n}" ∷
-    codes "op f(a: word, b: word, p: bit) -> y: bit {\nserial up () {\ny = a;\n}\n}" ∷ []) (at_line 3 Kind)
+    codes "op f(a: word, b: word, p: bit) -> y: bit {\nserial up () {\ny = a;\n}\n}"
+    ∷ []) (at_line 3 Kind)
 unfolding breach_of items_from front_of
 kind_3 = refl
 
@@ -219,7 +231,8 @@ kind_5 = refl
 
 no_result_3 : Each (
     codes "op f(a: word, b: word, p: bit) -> y: word {\nt = and(a, b);\n}" ∷
-    codes "op f(a: word, b: word, p: bit) -> y: word {\nserial up (c = 0) { c = a; }\n}" ∷ []) (at_line 3 NoResult)
+    codes "op f(a: word, b: word, p: bit) -> y: word {\nserial up (c = 0) { c = a; }\n}"
+    ∷ []) (at_line 3 NoResult)
 unfolding breach_of items_from front_of
 no_result_3 = refl
 

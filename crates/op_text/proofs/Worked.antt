@@ -3,10 +3,12 @@ use Rattle.std.proofs.Common.{◌≡◌, ℕ, ◌+◌, ◌*◌, false, List, [],
 use Rattle.op_text.specs.declared.tree.Kind.TheVariants.{Word}
 use Rattle.op_text.specs.declared.tree.WordOp.{WordOp}
 use Rattle.op_text.specs.declared.tree.WordOp.TheVariants as o
-use Rattle.op_text.specs.Language.{Term, Named, Parity, Majority, Equation, Compute, Visit, Operation}
+use Rattle.op_text.specs.Language.{Term, Named, Parity, Majority, Equation, Compute, Visit}
+use Rattle.op_text.specs.Language.{Operation}
 use Rattle.op_text.specs.Values.{bits, op_value}
 use Rattle.op_text.specs.Meaning.{meaning}
-use Rattle.op_text.specs.Scratch.{scratch_bits, scratch_words, need, ceiling, low_ceiling, param, op_ceiling}
+use Rattle.op_text.specs.Scratch.{scratch_bits, scratch_words, need, ceiling, low_ceiling, param}
+use Rattle.op_text.specs.Scratch.{op_ceiling}
 
 -- an operation's values at a width, for each list of arguments
 abbrev Gives : WordOp → ℕ → List (List ℕ) → List ℕ → Type 0
@@ -33,38 +35,48 @@ xor_4 : Gives o.Xor 4 (two 12 10 ∷ two 15 15 ∷ []) (6 ∷ 0 ∷ [])
 unfolding bits
 xor_4 = refl
 
-copy_ones : Gives o.Copy 4 (one 9 ∷ []) (9 ∷ []) × Gives o.Zero 4 ([] ∷ []) (0 ∷ []) × Gives o.Ones 4 ([] ∷ []) (15 ∷ [])
+copy_ones : Gives o.Copy 4 (one 9 ∷ []) (9 ∷ []) × Gives o.Zero 4 ([] ∷ []) (0 ∷ [])
+    × Gives o.Ones 4 ([] ∷ []) (15 ∷ [])
 copy_ones = (refl, refl, refl)
 
-shifts : Gives o.Shl1 4 (one 9 ∷ one 3 ∷ []) (2 ∷ 6 ∷ []) × Gives o.Shr1 4 (one 9 ∷ one 1 ∷ []) (4 ∷ 0 ∷ [])
+shifts : Gives o.Shl1 4 (one 9 ∷ one 3 ∷ []) (2 ∷ 6 ∷ [])
+    × Gives o.Shr1 4 (one 9 ∷ one 1 ∷ []) (4 ∷ 0 ∷ [])
 shifts = (refl, refl)
 
-sums : Gives o.Add 4 (two 9 8 ∷ two 3 4 ∷ []) (1 ∷ 7 ∷ []) × Gives o.Sub 4 (two 3 5 ∷ two 5 3 ∷ []) (14 ∷ 2 ∷ [])
+sums : Gives o.Add 4 (two 9 8 ∷ two 3 4 ∷ []) (1 ∷ 7 ∷ [])
+    × Gives o.Sub 4 (two 3 5 ∷ two 5 3 ∷ []) (14 ∷ 2 ∷ [])
 sums = (refl, refl)
 
 products : Gives o.Mul 4 (two 5 6 ∷ two 0 9 ∷ []) (14 ∷ 0 ∷ [])
 products = refl
 
-quotients : Gives o.Div 4 (two 14 4 ∷ two 3 0 ∷ []) (3 ∷ 15 ∷ []) × Gives o.Rem 4 (two 14 4 ∷ two 3 0 ∷ []) (2 ∷ 3 ∷ [])
+quotients : Gives o.Div 4 (two 14 4 ∷ two 3 0 ∷ []) (3 ∷ 15 ∷ [])
+    × Gives o.Rem 4 (two 14 4 ∷ two 3 0 ∷ []) (2 ∷ 3 ∷ [])
 quotients = (refl, refl)
 
-signs : Gives o.Abs 4 (one 7 ∷ one 8 ∷ one 15 ∷ []) (7 ∷ 8 ∷ 1 ∷ []) × Gives o.Relu 4 (one 7 ∷ one 8 ∷ []) (7 ∷ 0 ∷ []) × Gives o.Abs 1 (one 1 ∷ []) (1 ∷ [])
+signs : Gives o.Abs 4 (one 7 ∷ one 8 ∷ one 15 ∷ []) (7 ∷ 8 ∷ 1 ∷ [])
+    × Gives o.Relu 4 (one 7 ∷ one 8 ∷ []) (7 ∷ 0 ∷ []) × Gives o.Abs 1 (one 1 ∷ []) (1 ∷ [])
 signs = (refl, refl, refl)
 
-bounds : Gives o.Min 4 (two 9 3 ∷ two 2 2 ∷ []) (3 ∷ 2 ∷ []) × Gives o.Max 4 (two 9 3 ∷ two 2 2 ∷ []) (9 ∷ 2 ∷ [])
+bounds : Gives o.Min 4 (two 9 3 ∷ two 2 2 ∷ []) (3 ∷ 2 ∷ [])
+    × Gives o.Max 4 (two 9 3 ∷ two 2 2 ∷ []) (9 ∷ 2 ∷ [])
 bounds = (refl, refl)
 
-tests : Gives o.Eq 4 (two 9 9 ∷ two 9 8 ∷ []) (1 ∷ 0 ∷ []) × Gives o.Gt 4 (two 9 8 ∷ two 8 8 ∷ []) (1 ∷ 0 ∷ []) × Gives o.Ge 4 (two 8 8 ∷ two 7 8 ∷ []) (1 ∷ 0 ∷ [])
+tests : Gives o.Eq 4 (two 9 9 ∷ two 9 8 ∷ []) (1 ∷ 0 ∷ [])
+    × Gives o.Gt 4 (two 9 8 ∷ two 8 8 ∷ []) (1 ∷ 0 ∷ [])
+    × Gives o.Ge 4 (two 8 8 ∷ two 7 8 ∷ []) (1 ∷ 0 ∷ [])
 tests = (refl, refl, refl)
 
 choices : Gives o.IfElse 4 ((9 ∷ 3 ∷ 1 ∷ []) ∷ (9 ∷ 3 ∷ 0 ∷ []) ∷ []) (9 ∷ 3 ∷ [])
 choices = refl
 
-counts : Gives o.Bitcount 4 (one 0 ∷ one 11 ∷ one 15 ∷ []) (0 ∷ 3 ∷ 4 ∷ []) × Gives o.XorRed 4 (one 11 ∷ one 15 ∷ []) (1 ∷ 0 ∷ [])
+counts : Gives o.Bitcount 4 (one 0 ∷ one 11 ∷ one 15 ∷ []) (0 ∷ 3 ∷ 4 ∷ [])
+    × Gives o.XorRed 4 (one 11 ∷ one 15 ∷ []) (1 ∷ 0 ∷ [])
 unfolding bits
 counts = (refl, refl)
 
-reductions : Gives o.AndRed 4 (one 15 ∷ one 14 ∷ []) (1 ∷ 0 ∷ []) × Gives o.OrRed 4 (one 0 ∷ one 8 ∷ []) (0 ∷ 1 ∷ [])
+reductions : Gives o.AndRed 4 (one 15 ∷ one 14 ∷ []) (1 ∷ 0 ∷ [])
+    × Gives o.OrRed 4 (one 0 ∷ one 8 ∷ []) (0 ∷ 1 ∷ [])
 reductions = (refl, refl)
 
 abbrev name : List ℕ → Term
@@ -79,10 +91,12 @@ mac = record {
   name = codes "mac";
   params = param (codes "a") Word ∷ param (codes "b") Word ∷ param (codes "c") Word ∷ [];
   result = param (codes "y") Word;
-  body = Compute (codes "t") o.Mul (codes "a" ∷ codes "b" ∷ []) ∷ Compute (codes "y") o.Add (codes "t" ∷ codes "c" ∷ []) ∷ [];
+  body = Compute (codes "t") o.Mul (codes "a" ∷ codes "b" ∷ [])
+      ∷ Compute (codes "y") o.Add (codes "t" ∷ codes "c" ∷ []) ∷ [];
 }
 
-mac_means : (meaning mac 4 (3 ∷ 4 ∷ 9 ∷ []) ≡ 5) × (scratch_bits mac ≡ 1) × (scratch_words mac ≡ 1) × (need mac 32 ≡ 33) × (ceiling mac 32 ≡ 12321)
+mac_means : (meaning mac 4 (3 ∷ 4 ∷ 9 ∷ []) ≡ 5) × (scratch_bits mac ≡ 1) × (scratch_words mac ≡ 1)
+    × (need mac 32 ≡ 33) × (ceiling mac 32 ≡ 12321)
 unfolding bits
 mac_means = (refl, refl, refl, refl, refl)
 
@@ -96,14 +110,18 @@ sum = record {
     down = false;
     states = record { name = codes "c"; start = false } ∷ [];
     lets = equals (codes "x") (Parity (name (codes "a")) (name (codes "b"))) ∷ [];
-    assigns = equals (codes "y") (Parity (name (codes "x")) (name (codes "c"))) ∷ equals (codes "c") (Majority (name (codes "a")) (name (codes "b")) (name (codes "c"))) ∷ [];
+    assigns = equals (codes "y") (Parity (name (codes "x")) (name (codes "c")))
+        ∷ equals (codes "c") (Majority (name (codes "a")) (name (codes "b")) (name (codes "c")))
+        ∷ [];
   }) ∷ [];
 }
 
-sum_means : (meaning sum 4 (9 ∷ 8 ∷ []) ≡ 1) × (meaning sum 4 (3 ∷ 4 ∷ []) ≡ 7) × (scratch_bits sum ≡ 1) × (scratch_words sum ≡ 0) × (ceiling sum 4 ≡ 4 * (4 * 7 + 3 * 2) + 1)
+sum_means : (meaning sum 4 (9 ∷ 8 ∷ []) ≡ 1) × (meaning sum 4 (3 ∷ 4 ∷ []) ≡ 7)
+    × (scratch_bits sum ≡ 1) × (scratch_words sum ≡ 0) × (ceiling sum 4 ≡ 4 * (4 * 7 + 3 * 2) + 1)
 unfolding bits
 sum_means = (refl, refl, refl, refl, refl)
 
-ceilings : (op_ceiling o.Div 8 ≡ 29 * 64 + 18 * 8) × (low_ceiling mac 32 ≡ 11 * 1024 + 15 * 32 + 9 * 32 + 1)
+ceilings : (op_ceiling o.Div 8 ≡ 29 * 64 + 18 * 8)
+    × (low_ceiling mac 32 ≡ 11 * 1024 + 15 * 32 + 9 * 32 + 1)
 unfolding bits
 ceilings = (refl, refl)

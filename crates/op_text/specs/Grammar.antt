@@ -1,8 +1,16 @@
 -- The grammar, one token at a time.
-use Rattle.std.specs.Prelude.{Bool, false, List, [], ◌∷◌, ◌++◌, Option, Some, None, option_and_then, if◌then◌else◌}
+use Rattle.std.specs.Prelude.{Bool, false, List, [], ◌∷◌, ◌++◌, Option, Some, None, option_and_then}
+use Rattle.std.specs.Prelude.{if◌then◌else◌}
 use Rattle.op_text.specs.Items.{is_opening}
 use Rattle.op_text.specs.declared.grammar.Wanted.{Wanted}
-use Rattle.op_text.specs.declared.grammar.Wanted.TheVariants.{Ops, NewOp, NewParam, ParamKind, Params, NewResult, ResultKind, FirstStmt, Stmts, WordOpName, Args, ArgName, MoreArgs, WordEnd, Direction, States, StateName, MoreStates, Start, Lets, LetName, LetEnd, AssignEnd, Assigns, Value, GateOpen, More, Open, Begin, Colon, Arrow, Equals}
+use Rattle.op_text.specs.declared.grammar.Wanted.TheVariants.{Ops, NewOp, NewParam, ParamKind}
+use Rattle.op_text.specs.declared.grammar.Wanted.TheVariants.{Params, NewResult, ResultKind}
+use Rattle.op_text.specs.declared.grammar.Wanted.TheVariants.{FirstStmt, Stmts, WordOpName, Args}
+use Rattle.op_text.specs.declared.grammar.Wanted.TheVariants.{ArgName, MoreArgs, WordEnd, Direction}
+use Rattle.op_text.specs.declared.grammar.Wanted.TheVariants.{States, StateName, MoreStates, Start}
+use Rattle.op_text.specs.declared.grammar.Wanted.TheVariants.{Lets, LetName, LetEnd, AssignEnd}
+use Rattle.op_text.specs.declared.grammar.Wanted.TheVariants.{Assigns, Value, GateOpen, More, Open}
+use Rattle.op_text.specs.declared.grammar.Wanted.TheVariants.{Begin, Colon, Arrow, Equals}
 use Rattle.op_text.specs.declared.terminal.Terminal.{Terminal}
 use Rattle.op_text.specs.declared.terminal.Terminal.TheVariants as t
 use Rattle.op_text.specs.declared.terminal.Spelling.{Spelling}
@@ -19,7 +27,8 @@ let_or_assign sp.Let = LetName ∷ Equals ∷ Value ∷ LetEnd ∷ Lets ∷ []
 let_or_assign n = Equals ∷ Value ∷ AssignEnd ∷ Assigns ∷ []
 
 abbrev pub op_word : Spelling → Option (List Wanted)
-op_word sp.Op = Some (NewOp ∷ Open ∷ NewParam ∷ Colon ∷ ParamKind ∷ Params ∷ Arrow ∷ NewResult ∷ Colon ∷ ResultKind ∷ Begin ∷ FirstStmt ∷ Ops ∷ [])
+op_word sp.Op = Some (NewOp ∷ Open ∷ NewParam ∷ Colon ∷ ParamKind ∷ Params ∷ Arrow ∷ NewResult
+    ∷ Colon ∷ ResultKind ∷ Begin ∷ FirstStmt ∷ Ops ∷ [])
 op_word n = None
 
 abbrev pub kind_word : Spelling → Option (List Wanted)
@@ -32,7 +41,8 @@ direction_word sp.Up = Some []
 direction_word sp.Down = Some []
 direction_word n = None
 
--- What the grammar asks for behind a token, before all that it asked for later; or none, where it does
+-- What the grammar asks for behind a token, before all that it asked for later; or none, where it
+-- does
 -- not allow the token. The flag says whether an opening parenthesis follows.
 abbrev pub follow : Wanted → Terminal → Bool → Option (List Wanted)
 follow Ops (t.Name n) o = op_word n
@@ -88,4 +98,5 @@ opens_terminal (u ∷ ts) = is_opening u
 unfoldable pub allowed : List Wanted → List Terminal → Option (List Wanted)
 allowed wanted [] = Some wanted
 allowed [] (u ∷ ts) = None
-allowed (w ∷ wanted) (u ∷ ts) = option_and_then (λ front. allowed (front ++ wanted) ts) (follow w u (opens_terminal ts))
+allowed (w ∷ wanted) (u ∷ ts) = option_and_then (λ front. allowed (front ++ wanted) ts)
+    (follow w u (opens_terminal ts))

@@ -1,10 +1,13 @@
 -- The tokens that are left to read.
-use Rattle.std.specs.Prelude.{ℕ, Bool, true, false, List, [], ◌∷◌, Option, Some, None, bytes_eq, codes, if◌then◌else◌}
+use Rattle.std.specs.Prelude.{ℕ, Bool, true, false, List, [], ◌∷◌, Option, Some, None, bytes_eq}
+use Rattle.std.specs.Prelude.{codes, if◌then◌else◌}
 use Rattle.text_lex.specs.Lexical.{Item, Lexeme, Whole, Bad}
 use Rattle.text_lex.specs.declared.token.TokenKind.{TokenKind}
 use Rattle.text_lex.specs.declared.token.TokenKind.TheVariants as kinds
 use Rattle.op_text.specs.declared.terminal.Terminal.{Terminal}
-use Rattle.op_text.specs.declared.terminal.Terminal.TheVariants.{Name, Zero, One, Equals, Opens, Closes, Begins, Finishes, Comma, Semi, Colon, Arrow, Other}
+use Rattle.op_text.specs.declared.terminal.Terminal.TheVariants.{Name, Zero, One, Equals, Opens}
+use Rattle.op_text.specs.declared.terminal.Terminal.TheVariants.{Closes, Begins, Finishes, Comma}
+use Rattle.op_text.specs.declared.terminal.Terminal.TheVariants.{Semi, Colon, Arrow, Other}
 use Rattle.op_text.specs.declared.terminal.Spelling.{Spelling}
 use Rattle.op_text.specs.declared.terminal.Spelling.TheVariants as sp
 use Rattle.op_text.specs.declared.fault.OpsKind.{OpsKind}
@@ -25,7 +28,8 @@ spelling_of text =
 -- which terminal of the grammar a token is
 abbrev pub terminal_of : TokenKind → List ℕ → Terminal
 terminal_of kinds.Name text = Name (spelling_of text)
-terminal_of kinds.Number text = if bytes_eq text (codes "0") then Zero else (if bytes_eq text (codes "1") then One else Other)
+terminal_of kinds.Number text = if bytes_eq text (codes "0") then Zero
+    else (if bytes_eq text (codes "1") then One else Other)
 terminal_of kinds.Symbol text =
     if bytes_eq text (codes "=") then Equals
     else (if bytes_eq text (codes "(") then Opens

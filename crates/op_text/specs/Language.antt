@@ -9,7 +9,8 @@ use Rattle.op_text.specs.declared.tree.Stmt.TheVariants.{Word, Serial}
 use Rattle.op_text.specs.declared.tree.Op.{Op}
 use Rattle.op_text.specs.declared.tree.Ops.{Ops}
 use Rattle.op_text.specs.declared.tree.Expr.{Expr}
-use Rattle.op_text.specs.declared.tree.Expr.TheVariants.{Zero, One, Read, Not', And', Or', Xor', Maj'}
+use Rattle.op_text.specs.declared.tree.Expr.TheVariants.{Zero, One, Read, Not', And', Or', Xor'}
+use Rattle.op_text.specs.declared.tree.Expr.TheVariants.{Maj'}
 
 pub data Term : Type 0 where
   Nought : Term
@@ -58,10 +59,20 @@ equation a = record { name = a.name; value = term a.value }
 abbrev pub statement : Stmt → Statement
 statement (Word dst p args) = Compute dst p args.items
 statement (Serial down states lets assigns) =
-    Visit (record { down = down; states = states.items; lets = map equation lets.items; assigns = map equation assigns.items })
+    Visit (record {
+      down = down;
+      states = states.items;
+      lets = map equation lets.items;
+      assigns = map equation assigns.items;
+    })
 
 abbrev pub operation : Op → Operation
-operation p = record { name = p.name; params = p.params.items; result = p.result; body = map statement p.body.items }
+operation p = record {
+  name = p.name;
+  params = p.params.items;
+  result = p.result;
+  body = map statement p.body.items;
+}
 
 abbrev pub operations : Ops → List Operation
 operations all = map operation all.ops.items

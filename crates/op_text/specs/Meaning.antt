@@ -1,11 +1,15 @@
 -- What an operation means.
-use Rattle.std.specs.Prelude.{ℕ, ◌<◌, ◌^◌, zero, suc, Bool, true, false, not, ◌&&◌, ◌||◌, List, [], ◌∷◌, ◌++◌, map, fold, replicate, bytes_eq, slice_index_or, slice_set, unwrap_or, if◌then◌else◌}
+use Rattle.std.specs.Prelude.{ℕ, ◌<◌, ◌^◌, zero, suc, Bool, true, false, not, ◌&&◌, ◌||◌, List, []}
+use Rattle.std.specs.Prelude.{◌∷◌, ◌++◌, map, fold, replicate, bytes_eq, slice_index_or, slice_set}
+use Rattle.std.specs.Prelude.{unwrap_or, if◌then◌else◌}
 use Rattle.op_text.specs.declared.tree.Kind.{Kind}
 use Rattle.op_text.specs.declared.tree.Kind.TheVariants.{Word, Bit}
 use Rattle.op_text.specs.declared.tree.Param.{Param}
 use Rattle.op_text.specs.declared.tree.State.{State}
 use Rattle.op_text.specs.declared.tree.WordOp.{WordOp}
-use Rattle.op_text.specs.Language.{Term, Nought, Unity, Named, Negation, Conjunction, Disjunction, Parity, Majority, Equation, Block, Statement, Compute, Visit, Operation}
+use Rattle.op_text.specs.Language.{Term, Nought, Unity, Named, Negation, Conjunction, Disjunction}
+use Rattle.op_text.specs.Language.{Parity, Majority, Equation, Block, Statement, Compute, Visit}
+use Rattle.op_text.specs.Language.{Operation}
 use Rattle.op_text.specs.Values.{value, bits, differ, majority, op_value}
 use Rattle.op_text.specs.WordOps.{forms, filled}
 
@@ -45,7 +49,10 @@ changed names name v = λ n. if bytes_eq n name then v else names n
 
 -- the bit that is read at a position
 abbrev pub bit_read : ℕ → Held → Bool
-bit_read i h = elim h.kind [ Word ↦ slice_index_or h.bits i false | Bit ↦ slice_index_or h.bits 0 false ]
+bit_read i h = elim h.kind [
+  | Word ↦ slice_index_or h.bits i false
+  | Bit ↦ slice_index_or h.bits 0 false
+]
 
 abbrev pub bit_written : ℕ → Held → Bool → Held
 bit_written i h b = record h { bits = elim h.kind [ Word ↦ slice_set h.bits i b | Bit ↦ b ∷ [] ] }
@@ -58,11 +65,13 @@ with_lets r (e ∷ es) = with_lets (changed r e.name (term_bit r e.value)) es
 -- the assigned names, where all right sides are valued on r
 abbrev pub assigned : (List ℕ → Bool) → ℕ → (List ℕ → Held) → List Equation → List ℕ → Held
 assigned r i names [] = names
-assigned r i names (e ∷ es) = assigned r i (changed names e.name (bit_written i (names e.name) (term_bit r e.value))) es
+assigned r i names (e ∷ es) =
+    assigned r i (changed names e.name (bit_written i (names e.name) (term_bit r e.value))) es
 
 -- one position of a block
 abbrev pub visited : Block → (List ℕ → Held) → ℕ → List ℕ → Held
-visited block names i = assigned (with_lets (λ n. bit_read i (names n)) block.lets) i names block.assigns
+visited block names i = assigned (with_lets (λ n. bit_read i (names n)) block.lets) i names
+    block.assigns
 
 abbrev pub upwards : ℕ → List ℕ
 upwards zero = []
@@ -78,15 +87,18 @@ positions down n = if down then downwards n else upwards n
 -- before the first position: the assigned words are blank, and the states have their starts
 abbrev pub with_blanks : ℕ → (List ℕ → Held) → List Equation → List ℕ → Held
 with_blanks n names [] = names
-with_blanks n names (e ∷ es) = with_blanks n (changed names e.name (record { kind = Word; bits = replicate n false })) es
+with_blanks n names (e ∷ es) =
+    with_blanks n (changed names e.name (record { kind = Word; bits = replicate n false })) es
 
 abbrev pub with_states : (List ℕ → Held) → List State → List ℕ → Held
 with_states names [] = names
-with_states names (s ∷ ss) = with_states (changed names s.name (record { kind = Bit; bits = s.start ∷ [] })) ss
+with_states names (s ∷ ss) =
+    with_states (changed names s.name (record { kind = Bit; bits = s.start ∷ [] })) ss
 
 abbrev pub after_block : ℕ → Block → (List ℕ → Held) → List ℕ → Held
 after_block n block names =
-    fold (visited block) (with_states (with_blanks n names block.assigns) block.states) (positions block.down n)
+    fold (visited block) (with_states (with_blanks n names block.assigns) block.states)
+    (positions block.down n)
 
 -- the width of an operation's arguments, which are all words or all bits but for the third
 abbrev pub args_width : ℕ → List Held → ℕ
@@ -95,17 +107,20 @@ args_width n (h ∷ hs) = width n h.kind
 
 abbrev pub computed : ℕ → WordOp → List Held → Held
 computed n p args =
-    holding n (unwrap_or (filled (forms p) (map (λ h. h.kind) args)) Word) (op_value p (args_width n args) (map number args))
+    holding n (unwrap_or (filled (forms p) (map (λ h. h.kind) args)) Word)
+    (op_value p (args_width n args) (map number args))
 
 abbrev pub after_statement : ℕ → (List ℕ → Held) → Statement → List ℕ → Held
-after_statement n names (Compute target p args) = changed names target (computed n p (map names args))
+after_statement n names (Compute target p args) =
+    changed names target (computed n p (map names args))
 after_statement n names (Visit block) = after_block n block names
 
 -- the sources
 abbrev pub with_sources : ℕ → (List ℕ → Held) → List Param → List ℕ → List ℕ → Held
 with_sources n names [] values = names
 with_sources n names (p ∷ ps) [] = names
-with_sources n names (p ∷ ps) (v ∷ values) = with_sources n (changed names p.name (holding n p.kind v)) ps values
+with_sources n names (p ∷ ps) (v ∷ values) = with_sources n
+    (changed names p.name (holding n p.kind v)) ps values
 
 -- the names behind these statements
 abbrev pub after_body : ℕ → List Statement → (List ℕ → Held) → List ℕ → Held
@@ -113,7 +128,8 @@ after_body n body names = fold (after_statement n) names body
 
 -- what the result holds, from the sources' numbers
 abbrev pub outcome : Operation → ℕ → List ℕ → Held
-outcome op n values = after_body n op.body (with_sources n holds_nothing op.params values) op.result.name
+outcome op n values = after_body n op.body (with_sources n holds_nothing op.params values)
+    op.result.name
 
 -- the result's number
 abbrev pub meaning : Operation → ℕ → List ℕ → ℕ
@@ -121,4 +137,5 @@ meaning op n values = number (outcome op n values)
 
 -- A meaning is below 2 ^ n where the result is a word, and below 2 where it is a bit.
 abbrev pub MeaningFits : Type 0
-MeaningFits = (op : Operation) (n : ℕ) (values : List ℕ) → meaning op n values < 2 ^ width n (outcome op n values).kind
+MeaningFits = (op : Operation) (n : ℕ) (values : List ℕ)
+    → meaning op n values < 2 ^ width n (outcome op n values).kind

@@ -1,10 +1,13 @@
 -- Which texts are accepted, and the first token that breaks a rule.
-use Rattle.std.specs.Prelude.{ℕ, zero, suc, ◌+◌, ◌-◌, Bool, true, false, ◌&&◌, ◌||◌, not, nat_lt, nat_le, List, [], ◌∷◌, ◌++◌, length, map, filter, Option, Some, None, Result, Ok, Err, bytes_eq, codes, if◌then◌else◌}
+use Rattle.std.specs.Prelude.{ℕ, zero, suc, ◌+◌, ◌-◌, Bool, true, false, ◌&&◌, ◌||◌, not, nat_lt}
+use Rattle.std.specs.Prelude.{nat_le, List, [], ◌∷◌, ◌++◌, length, map, filter, Option, Some, None}
+use Rattle.std.specs.Prelude.{Result, Ok, Err, bytes_eq, codes, if◌then◌else◌}
 use Rattle.std.specs.List.{list_any}
 use Rattle.text_lex.specs.Lexical.{Item, Lexeme, Whole, Bad}
 use Rattle.text_lex.specs.Spelled.{fits_name}
 use Rattle.op_text.specs.declared.fault.OpsKind.{OpsKind}
-use Rattle.op_text.specs.declared.fault.OpsKind.TheVariants.{Lex, Syntax, BadName, Twice, Unknown, NoResult, TooMany}
+use Rattle.op_text.specs.declared.fault.OpsKind.TheVariants.{Lex, Syntax, BadName, Twice, Unknown}
+use Rattle.op_text.specs.declared.fault.OpsKind.TheVariants.{NoResult, TooMany}
 use Rattle.op_text.specs.declared.fault.OpsKind.TheVariants as why
 use Rattle.op_text.specs.declared.fault.Breach.{Breach}
 use Rattle.op_text.specs.declared.terminal.Terminal.{Terminal}
@@ -20,9 +23,15 @@ use Rattle.op_text.specs.declared.tree.WordOp.{WordOp}
 use Rattle.op_text.specs.declared.tree.WordOp.TheVariants as o
 use Rattle.op_text.specs.Items.{terminal_of, opens, at_token, at_end}
 use Rattle.op_text.specs.declared.grammar.Wanted.{Wanted}
-use Rattle.op_text.specs.declared.grammar.Wanted.TheVariants.{Ops, NewOp, NewParam, ParamKind, NewResult, ResultKind, FirstStmt, Stmts, WordOpName, Args, ArgName, MoreArgs, WordEnd, States, StateName, Lets, LetName, LetEnd, Assigns, Value, More}
+use Rattle.op_text.specs.declared.grammar.Wanted.TheVariants.{Ops, NewOp, NewParam, ParamKind}
+use Rattle.op_text.specs.declared.grammar.Wanted.TheVariants.{NewResult, ResultKind, FirstStmt}
+use Rattle.op_text.specs.declared.grammar.Wanted.TheVariants.{Stmts, WordOpName, Args, ArgName}
+use Rattle.op_text.specs.declared.grammar.Wanted.TheVariants.{MoreArgs, WordEnd, States, StateName}
+use Rattle.op_text.specs.declared.grammar.Wanted.TheVariants.{Lets, LetName, LetEnd, Assigns, Value}
+use Rattle.op_text.specs.declared.grammar.Wanted.TheVariants.{More}
 use Rattle.op_text.specs.Grammar.{follow}
-use Rattle.op_text.specs.WordOps.{forms, op_named, lacks, is_begun, is_part, is_whole, filled, same_kind}
+use Rattle.op_text.specs.WordOps.{forms, op_named, lacks, is_begun, is_part, is_whole, filled}
+use Rattle.op_text.specs.WordOps.{same_kind}
 
 -- the limits
 abbrev pub MAX_OPS : ℕ
@@ -49,8 +58,10 @@ MAX_WEIGHT = 24
 abbrev pub MAX_DEPTH : ℕ
 MAX_DEPTH = 32
 
--- What stands before a token, within the op: each new name, the names that can be read with their kinds
--- (the sources alone while these are read), the result, whether it is assigned, and the number of statements.
+-- What stands before a token, within the op: each new name, the names that can be read with their
+-- kinds
+-- (the sources alone while these are read), the result, whether it is assigned, and the number of
+-- statements.
 pub record InOp : Type 0 where
   pub stands : List (List ℕ)
   pub defined : List Param
@@ -64,7 +75,8 @@ pub record InWord : Type 0 where
   pub given : List Kind
 
 -- within a serial block: its states, the states and lets that can be read, the number of lets, the
--- targets, the weight of the gates, and how many arguments each open gate still lacks, the innermost first
+-- targets, the weight of the gates, and how many arguments each open gate still lacks, the
+-- innermost first
 pub record InBlock : Type 0 where
   pub states : List (List ℕ)
   pub readable : List (List ℕ)
@@ -156,7 +168,14 @@ source_rules s n text =
 abbrev pub source_of_kind : Scope → Option (List ℕ) → Kind → Scope
 source_of_kind s None k = s
 source_of_kind s (Some name) k =
-    record s { op = record s.op { stands = s.op.stands ++ name ∷ []; defined = s.op.defined ++ record { name = name; kind = k } ∷ [] }; naming = None }
+    record s {
+      op = record s.op {
+        stands = s.op.stands ++ name ∷ [];
+        defined = s.op.defined
+            ++ record { name = name; kind = k } ∷ [];
+      };
+      naming = None;
+    }
 
 abbrev pub with_source : Scope → Kind → Scope
 with_source s k = source_of_kind s s.naming k
@@ -171,7 +190,11 @@ naming_rules s n text =
 -- the named result has this kind
 abbrev pub result_of_kind : Scope → Option (List ℕ) → Kind → Scope
 result_of_kind s None k = s
-result_of_kind s (Some name) k = record s { op = record s.op { result = Some (record { name = name; kind = k }) }; naming = None }
+result_of_kind s (Some name) k =
+    record s {
+      op = record s.op { result = Some (record { name = name; kind = k }) };
+      naming = None;
+    }
 
 abbrev pub with_result : Scope → Kind → Scope
 with_result s k = result_of_kind s s.naming k
@@ -204,19 +227,25 @@ word_op_rules s n text = unless (is_bad n text) BadName (known_op s (op_named te
 abbrev pub argument_of_kind : Scope → Option Kind → Result Scope OpsKind
 argument_of_kind s None = Err Unknown
 argument_of_kind s (Some k) =
-    unless (not (list_any (λ f. is_begun (lacks (s.word.given ++ k ∷ []) f.takes)) (forms s.word.operation))) why.Kind
+    unless (not (list_any (λ f. is_begun (lacks (s.word.given ++ k ∷ []) f.takes))
+    (forms s.word.operation))) why.Kind
     (Ok (record s { word = record s.word { given = s.word.given ++ k ∷ [] } }))
 
 -- an argument
 abbrev pub argument_rules : Scope → Spelling → List ℕ → Result Scope OpsKind
-argument_rules s n text = unless (is_bad n text) BadName (argument_of_kind s (kind_among s.op.defined text))
+argument_rules s n text = unless (is_bad n text) BadName
+    (argument_of_kind s (kind_among s.op.defined text))
 
 -- "," behind an argument, and ")"
 abbrev pub another_argument : Scope → Result Scope OpsKind
-another_argument s = unless (not (list_any (λ f. is_part (lacks s.word.given f.takes)) (forms s.word.operation))) why.Kind (Ok s)
+another_argument s =
+    unless (not (list_any (λ f. is_part (lacks s.word.given f.takes)) (forms s.word.operation)))
+    why.Kind (Ok s)
 
 abbrev pub no_more_arguments : Scope → Result Scope OpsKind
-no_more_arguments s = unless (not (list_any (λ f. is_whole (lacks s.word.given f.takes)) (forms s.word.operation))) why.Kind (Ok s)
+no_more_arguments s =
+    unless (not (list_any (λ f. is_whole (lacks s.word.given f.takes)) (forms s.word.operation)))
+    why.Kind (Ok s)
 
 -- the ";" of a word statement, whose target is now a name of the kind that its operation gives
 abbrev pub gives_kind : Scope → Option (List ℕ) → Option Kind → Result Scope OpsKind
@@ -240,7 +269,8 @@ word_end s = gives_kind s s.naming (filled (forms s.word.operation) s.word.given
 -- a state that is the bit result is no new name
 abbrev pub is_taken_state : Scope → List ℕ → Bool
 is_taken_state s text =
-    if is_bit_result s text then s.op.assigned || is_among s.block.states text else stands_already s text
+    if is_bit_result s text then s.op.assigned || is_among s.block.states text
+    else stands_already s text
 
 abbrev pub state_rules : Scope → Spelling → List ℕ → Result Scope OpsKind
 state_rules s n text =
@@ -249,7 +279,11 @@ state_rules s n text =
     (unless (nat_le MAX_STATES (length s.block.states)) TooMany
     (Ok (record s {
       op = record s.op { stands = s.op.stands ++ text ∷ [] };
-      block = record s.block { states = s.block.states ++ text ∷ []; readable = s.block.readable ++ text ∷ [] };
+      block = record s.block {
+        states = s.block.states ++ text ∷ [];
+        readable = s.block.readable
+            ++ text ∷ [];
+      };
     }))))
 
 -- the word "let"
@@ -261,15 +295,23 @@ let_rules s =
 -- the ";" of a let, which can be read from now on
 abbrev pub let_ends : Scope → Option (List ℕ) → Scope
 let_ends s None = s
-let_ends s (Some name) = record s { block = record s.block { readable = s.block.readable ++ name ∷ [] }; naming = None }
+let_ends s (Some name) = record s {
+  block = record s.block {
+    readable = s.block.readable ++ name
+        ∷ [];
+  };
+  naming = None;
+}
 
 abbrev pub let_end : Scope → Scope
 let_end s = let_ends s s.naming
 
--- a serial target that is assigned already, or that stands as another name than a state of the block or the open result
+-- a serial target that is assigned already, or that stands as another name than a state of the
+-- block or the open result
 abbrev pub is_taken_target : Scope → List ℕ → Bool
 is_taken_target s text =
-    is_among s.block.targets text || (stands_already s text && not (is_among s.block.states text) && not (is_open_result s text))
+    is_among s.block.targets text || (stands_already s text && not (is_among s.block.states text)
+    && not (is_open_result s text))
 
 abbrev pub target_rules : Scope → Spelling → List ℕ → Result Scope OpsKind
 target_rules s n text =
@@ -293,7 +335,8 @@ block_end s =
     record s {
       op = record s.op {
         stands = s.op.stands ++ words;
-        defined = s.op.defined ++ map (λ n. record { name = n; kind = Bit }) s.block.states ++ map (λ n. record { name = n; kind = Word }) words;
+        defined = s.op.defined ++ map (λ n. record { name = n; kind = Bit }) s.block.states
+            ++ map (λ n. record { name = n; kind = Word }) words;
         assigned = s.op.assigned || is_result_among s s.block.states || is_result_among s words;
       };
       block = new_block;
@@ -324,8 +367,14 @@ gate_weight gates.Maj = 1
 abbrev pub gate_rules : Scope → Option Gate → Result Scope OpsKind
 gate_rules s None = Err Unknown
 gate_rules s (Some g) =
-    unless (nat_lt MAX_WEIGHT (s.block.weight + gate_weight g) || nat_le MAX_DEPTH (length s.block.missing)) TooMany
-    (Ok (record s { block = record s.block { weight = s.block.weight + gate_weight g; missing = (gate_arguments g - 1) ∷ s.block.missing } }))
+    unless (nat_lt MAX_WEIGHT (s.block.weight + gate_weight g)
+    || nat_le MAX_DEPTH (length s.block.missing)) TooMany
+    (Ok (record s {
+      block = record s.block {
+        weight = s.block.weight + gate_weight g;
+        missing = (gate_arguments g - 1) ∷ s.block.missing;
+      };
+    }))
 
 abbrev pub is_readable : Scope → List ℕ → Bool
 is_readable s text = is_known (kind_among s.op.defined text) || is_among s.block.readable text
@@ -334,7 +383,8 @@ is_readable s text = is_known (kind_among s.op.defined text) || is_among s.block
 abbrev pub value_rules : Scope → Spelling → List ℕ → Bool → Result Scope OpsKind
 value_rules s n text opened =
     unless (is_bad n text) BadName
-    (if opened then gate_rules s (gate_named text) else unless (not (is_readable s text)) Unknown (Ok s))
+    (if opened then gate_rules s (gate_named text)
+    else unless (not (is_readable s text)) Unknown (Ok s))
 
 abbrev pub comma_rules : Scope → List ℕ → Result Scope OpsKind
 comma_rules s [] = Err why.Kind
@@ -350,7 +400,8 @@ abbrev pub kind_of_word : Spelling → Kind
 kind_of_word sp.Word = Word
 kind_of_word n = Bit
 
--- The rules other than the grammar's at a token that the grammar allows: the first that it breaks, in
+-- The rules other than the grammar's at a token that the grammar allows: the first that it breaks,
+-- in
 -- the order of their numbers, or the scope behind it.
 abbrev pub rules_at : Wanted → Scope → Terminal → List ℕ → Bool → Result Scope OpsKind
 rules_at Ops s (t.Name n) text o = unless (nat_le MAX_OPS (length s.ops)) TooMany (Ok s)
@@ -361,7 +412,8 @@ rules_at NewResult s (t.Name n) text o = naming_rules s n text
 rules_at ResultKind s (t.Name n) text o = Ok (with_result s (kind_of_word n))
 rules_at FirstStmt s (t.Name n) text o = statement_rules s n text
 rules_at Stmts s (t.Name n) text o = statement_rules s n text
-rules_at Stmts s t.Finishes text o = unless (not s.op.assigned) NoResult (Ok (record s { op = new_op }))
+rules_at Stmts s t.Finishes text o = unless (not s.op.assigned) NoResult
+    (Ok (record s { op = new_op }))
 rules_at WordOpName s (t.Name n) text o = word_op_rules s n text
 rules_at Args s (t.Name n) text o = argument_rules s n text
 rules_at Args s t.Closes text o = no_more_arguments s
@@ -381,7 +433,8 @@ rules_at More s t.Comma text o = comma_rules s s.block.missing
 rules_at More s t.Closes text o = close_rules s s.block.missing
 rules_at w s u text o = Ok s
 
-abbrev pub with_rules : Option (List Wanted) → Result Scope OpsKind → Result (List Wanted × Scope) OpsKind
+abbrev pub with_rules : Option (List Wanted) → Result Scope OpsKind
+    → Result (List Wanted × Scope) OpsKind
 with_rules None rules = Err Syntax
 with_rules (Some wanted) (Err kind) = Err kind
 with_rules (Some wanted) (Ok s) = Ok (wanted, s)
@@ -396,7 +449,8 @@ ends [] = None
 ends (Ops ∷ wanted) = None
 ends (w ∷ wanted) = Some at_end
 
-abbrev pub after : Result (List Wanted × Scope) OpsKind → Lexeme → (List Wanted → Scope → Option Breach) → Option Breach
+abbrev pub after : Result (List Wanted × Scope) OpsKind → Lexeme
+    → (List Wanted → Scope → Option Breach) → Option Breach
 after (Ok r) u go = go r.0 r.1
 after (Err kind) u go = Some (at_token u kind)
 
@@ -406,7 +460,8 @@ breach_of wanted s [] = ends wanted
 breach_of wanted s (Bad f ∷ items) = Some (record { at = Some f.at; kind = Lex })
 breach_of [] s (Whole u ∷ items) = Some (at_token u Syntax)
 breach_of (w ∷ wanted) s (Whole u ∷ items) =
-    after (step w s (terminal_of u.kind u.text) u.text (opens items)) u (λ front scope. breach_of (front ++ wanted) scope items)
+    after (step w s (terminal_of u.kind u.text) u.text (opens items)) u
+    (λ front scope. breach_of (front ++ wanted) scope items)
 
 -- the first token of a text that breaks a rule, if any
 abbrev pub first_breach : List Item → Option Breach

@@ -1,11 +1,14 @@
 -- The scratch that an operation needs, and how many commands it may take.
-use Rattle.std.specs.Prelude.{ℕ, ◌+◌, ◌*◌, ◌^◌, max, not, ◌&&◌, List, [], ◌∷◌, ◌++◌, length, map, filter, count_by, sum, bytes_eq, unwrap_or, Some, None}
+use Rattle.std.specs.Prelude.{ℕ, ◌+◌, ◌*◌, ◌^◌, max, not, ◌&&◌, List, [], ◌∷◌, ◌++◌, length, map}
+use Rattle.std.specs.Prelude.{filter, count_by, sum, bytes_eq, unwrap_or, Some, None}
 use Rattle.op_text.specs.declared.tree.Kind.{Kind}
 use Rattle.op_text.specs.declared.tree.Kind.TheVariants.{Word, Bit}
 use Rattle.op_text.specs.declared.tree.Param.{Param}
 use Rattle.op_text.specs.declared.tree.WordOp.{WordOp}
 use Rattle.op_text.specs.declared.tree.WordOp.TheVariants as o
-use Rattle.op_text.specs.Language.{Term, Nought, Unity, Named, Negation, Conjunction, Disjunction, Parity, Majority, Equation, Block, Statement, Compute, Visit, Operation}
+use Rattle.op_text.specs.Language.{Term, Nought, Unity, Named, Negation, Conjunction, Disjunction}
+use Rattle.op_text.specs.Language.{Parity, Majority, Equation, Block, Statement, Compute, Visit}
+use Rattle.op_text.specs.Language.{Operation}
 use Rattle.op_text.specs.Rules.{is_among, kind_among}
 use Rattle.op_text.specs.WordOps.{forms, given_first, same_kind}
 use Rattle.op_text.specs.Meaning.{width}
@@ -85,12 +88,14 @@ state_names block = map (λ s. s.name) block.states
 
 -- the assigned names of a block that are no states
 abbrev pub word_names : Block → List (List ℕ)
-word_names block = filter (λ n. not (is_among (state_names block) n)) (map (λ (e : Equation). e.name) block.assigns)
+word_names block = filter (λ n. not (is_among (state_names block) n))
+    (map (λ (e : Equation). e.name) block.assigns)
 
 -- the names that a statement defines, the result among them
 abbrev pub defines : List Param → Statement → List Param
 defines known (Compute target p args) = param target (result_kind known p args) ∷ []
-defines known (Visit block) = map (λ n. param n Bit) (state_names block) ++ map (λ n. param n Word) (word_names block)
+defines known (Visit block) = map (λ n. param n Bit) (state_names block)
+    ++ map (λ n. param n Word) (word_names block)
 
 -- all names that a body defines
 abbrev pub body_defines : List Param → List Statement → List Param
@@ -108,7 +113,8 @@ greatest (n ∷ ns) = max n (greatest ns)
 -- the scratch rows: the names of a kind other than the result, and the largest need of a statement
 abbrev pub scratch_names : Kind → Operation → ℕ
 scratch_names k op =
-    count_by (λ p. same_kind p.kind k && not (bytes_eq p.name op.result.name)) (body_defines op.params op.body)
+    count_by (λ p. same_kind p.kind k && not (bytes_eq p.name op.result.name))
+    (body_defines op.params op.body)
 
 abbrev pub scratch_bits : Operation → ℕ
 scratch_bits op = scratch_names Bit op + greatest (map (need_inside bits_inside) op.body)
@@ -132,10 +138,12 @@ term_weight (Majority a b c) = 1 + term_weight a + term_weight b + term_weight c
 
 abbrev pub block_weight : Block → ℕ
 block_weight block =
-    sum (map (λ (e : Equation). term_weight e.value) block.lets) + sum (map (λ (e : Equation). term_weight e.value) block.assigns)
+    sum (map (λ (e : Equation). term_weight e.value) block.lets)
+    + sum (map (λ (e : Equation). term_weight e.value) block.assigns)
 
 abbrev pub block_ceiling : Block → ℕ → ℕ
-block_ceiling block n = n * (4 * block_weight block + 3 * length block.assigns) + length block.states
+block_ceiling block n = n * (4 * block_weight block + 3 * length block.assigns)
+    + length block.states
 
 -- the width of an operation's arguments
 abbrev pub names_width : List Param → ℕ → List (List ℕ) → ℕ
@@ -148,7 +156,8 @@ statement_ceiling f known n (Visit block) = block_ceiling block n
 
 abbrev pub body_ceiling : (WordOp → ℕ → ℕ) → List Param → ℕ → List Statement → ℕ
 body_ceiling f known n [] = 0
-body_ceiling f known n (s ∷ body) = statement_ceiling f known n s + body_ceiling f (known ++ defines known s) n body
+body_ceiling f known n (s ∷ body) = statement_ceiling f known n s
+    + body_ceiling f (known ++ defines known s) n body
 
 abbrev pub ceiling : Operation → ℕ → ℕ
 ceiling op n = body_ceiling op_ceiling op.params n op.body

@@ -1,5 +1,6 @@
 -- How values are spelled, and which values meet the rules.
-use Rattle.std.specs.Prelude.{◌≡◌, ◌+◌, ◌<◌, ◌≤◌, ℕ, Bool, true, false, ◌&&◌, List, [], ◌∷◌, map, None, ◌↔◌, codes, length, if◌then◌else◌}
+use Rattle.std.specs.Prelude.{◌≡◌, ◌+◌, ◌<◌, ◌≤◌, ℕ, Bool, true, false, ◌&&◌, List, [], ◌∷◌, map}
+use Rattle.std.specs.Prelude.{None, ◌↔◌, codes, length, if◌then◌else◌}
 use Rattle.text_lex.specs.Lexical.{Item, Whole, Bad, is_token}
 use Rattle.text_lex.specs.Spelled.{fits_name}
 use Rattle.text_lex.specs.declared.token.TokenKind.{TokenKind}
@@ -12,8 +13,10 @@ use Rattle.op_text.specs.WordOps.{op_text}
 use Rattle.op_text.specs.Items.{spelling_of, terminal_of, is_opening}
 use Rattle.op_text.specs.declared.grammar.Wanted.{Wanted}
 use Rattle.op_text.specs.declared.grammar.Wanted.TheVariants.{Value}
-use Rattle.op_text.specs.Rules.{Scope, is_plain, is_readable, breach_of, first_breach, MAX_WEIGHT, MAX_DEPTH}
-use Rattle.op_text.specs.Language.{Term, Nought, Unity, Named, Negation, Conjunction, Disjunction, Parity, Majority, Equation, Statement, Compute, Visit, Operation}
+use Rattle.op_text.specs.Rules.{Scope, is_plain, is_readable, breach_of, first_breach, MAX_WEIGHT}
+use Rattle.op_text.specs.Rules.{MAX_DEPTH}
+use Rattle.op_text.specs.Language.{Term, Nought, Unity, Named, Negation, Conjunction, Disjunction}
+use Rattle.op_text.specs.Language.{Parity, Majority, Equation, Statement, Compute, Visit, Operation}
 use Rattle.op_text.specs.Scratch.{term_weight}
 
 -- the tokens of an expression, in front of others
@@ -22,11 +25,15 @@ term_text Nought rest = codes "0" ∷ rest
 term_text Unity rest = codes "1" ∷ rest
 term_text (Named name) rest = name ∷ rest
 term_text (Negation a) rest = codes "not" ∷ codes "(" ∷ term_text a (codes ")" ∷ rest)
-term_text (Conjunction a b) rest = codes "and" ∷ codes "(" ∷ term_text a (codes "," ∷ term_text b (codes ")" ∷ rest))
-term_text (Disjunction a b) rest = codes "or" ∷ codes "(" ∷ term_text a (codes "," ∷ term_text b (codes ")" ∷ rest))
-term_text (Parity a b) rest = codes "xor" ∷ codes "(" ∷ term_text a (codes "," ∷ term_text b (codes ")" ∷ rest))
+term_text (Conjunction a b) rest = codes "and" ∷ codes "("
+    ∷ term_text a (codes "," ∷ term_text b (codes ")" ∷ rest))
+term_text (Disjunction a b) rest = codes "or" ∷ codes "("
+    ∷ term_text a (codes "," ∷ term_text b (codes ")" ∷ rest))
+term_text (Parity a b) rest = codes "xor" ∷ codes "("
+    ∷ term_text a (codes "," ∷ term_text b (codes ")" ∷ rest))
 term_text (Majority a b c) rest =
-    codes "maj" ∷ codes "(" ∷ term_text a (codes "," ∷ term_text b (codes "," ∷ term_text c (codes ")" ∷ rest)))
+    codes "maj" ∷ codes "(" ∷ term_text a (codes ","
+    ∷ term_text b (codes "," ∷ term_text c (codes ")" ∷ rest)))
 
 -- a name that is not reserved and not too long
 abbrev pub is_good : List ℕ → Bool
@@ -38,15 +45,20 @@ TermMeets readable depth Nought = Unit {0}
 TermMeets readable depth Unity = Unit {0}
 TermMeets readable depth (Named name) = (is_good name ≡ true) × (readable name ≡ true)
 TermMeets readable depth (Negation a) = (depth < MAX_DEPTH) × TermMeets readable (depth + 1) a
-TermMeets readable depth (Conjunction a b) = (depth < MAX_DEPTH) × TermMeets readable (depth + 1) a × TermMeets readable (depth + 1) b
-TermMeets readable depth (Disjunction a b) = (depth < MAX_DEPTH) × TermMeets readable (depth + 1) a × TermMeets readable (depth + 1) b
-TermMeets readable depth (Parity a b) = (depth < MAX_DEPTH) × TermMeets readable (depth + 1) a × TermMeets readable (depth + 1) b
+TermMeets readable depth (Conjunction a b) = (depth < MAX_DEPTH) × TermMeets readable (depth + 1) a
+    × TermMeets readable (depth + 1) b
+TermMeets readable depth (Disjunction a b) = (depth < MAX_DEPTH) × TermMeets readable (depth + 1) a
+    × TermMeets readable (depth + 1) b
+TermMeets readable depth (Parity a b) = (depth < MAX_DEPTH) × TermMeets readable (depth + 1) a
+    × TermMeets readable (depth + 1) b
 TermMeets readable depth (Majority a b c) =
-    (depth < MAX_DEPTH) × TermMeets readable (depth + 1) a × TermMeets readable (depth + 1) b × TermMeets readable (depth + 1) c
+    (depth < MAX_DEPTH) × TermMeets readable (depth + 1) a × TermMeets readable (depth + 1) b
+    × TermMeets readable (depth + 1) c
 
 -- tokens by their spellings alone, at no place
 abbrev pub kind_of_text : List ℕ → TokenKind
-kind_of_text text = if is_token kinds.Name text then kinds.Name else (if is_token kinds.Number text then kinds.Number else kinds.Symbol)
+kind_of_text text = if is_token kinds.Name text then kinds.Name
+    else (if is_token kinds.Number text then kinds.Number else kinds.Symbol)
 
 abbrev pub unplaced : List ℕ → Item
 unplaced text = Whole (record { kind = kind_of_text text; text = text; start = 0 })
@@ -65,9 +77,11 @@ opens_next [] = false
 opens_next (text ∷ rest) = opens_text text
 
 abbrev pub TermsAreAccepted : Type 0
-TermsAreAccepted = (e : Term) (s : Scope) (depth : ℕ) (wanted : List Wanted) (rest : List (List ℕ)) → opens_next rest ≡ false → length s.block.missing ≡ depth
+TermsAreAccepted = (e : Term) (s : Scope) (depth : ℕ) (wanted : List Wanted) (rest : List (List ℕ))
+    → opens_next rest ≡ false → length s.block.missing ≡ depth
     → TermMeets (is_readable s) depth e → s.block.weight + term_weight e ≤ MAX_WEIGHT
-    → breach_of (Value ∷ wanted) s (items_spelled (term_text e rest)) ≡ breach_of wanted (heavier s (term_weight e)) (items_spelled rest)
+    → breach_of (Value ∷ wanted) s (items_spelled (term_text e rest))
+    ≡ breach_of wanted (heavier s (term_weight e)) (items_spelled rest)
 
 -- an item without its place
 abbrev pub bare : Item → Item
@@ -76,7 +90,8 @@ bare (Bad f) = Bad f
 
 -- Whether tokens break a rule doesn't rest on where they stand.
 abbrev pub PlacesDoNotMatter : Type 0
-PlacesDoNotMatter = (items : List Item) (wanted : List Wanted) (s : Scope) → (breach_of wanted s items ≡ None) ↔ (breach_of wanted s (map bare items) ≡ None)
+PlacesDoNotMatter = (items : List Item) (wanted : List Wanted) (s : Scope)
+    → (breach_of wanted s items ≡ None) ↔ (breach_of wanted s (map bare items) ≡ None)
 
 -- the names in an expression are names
 abbrev pub HasNames : Term → Type 0
@@ -94,18 +109,22 @@ IsShut x = (y : List (List ℕ)) → x ≡ codes "(" ∷ y → ⊥
 
 -- No two expressions are spelled alike, whatever follows them, if it is no opening parenthesis.
 abbrev pub SpelledOnce : Type 0
-SpelledOnce = (a b : Term) (x y : List (List ℕ)) → HasNames a → HasNames b → IsShut x → IsShut y → term_text a x ≡ term_text b y → (a ≡ b) × (x ≡ y)
+SpelledOnce = (a b : Term) (x y : List (List ℕ)) → HasNames a → HasNames b → IsShut x → IsShut y
+    → term_text a x ≡ term_text b y → (a ≡ b) × (x ≡ y)
 
 -- parts with a comma before each, parts with commas between them, and parts one after the other
-abbrev pub behind_commas : {A : Type 0} → (A → List (List ℕ) → List (List ℕ)) → List A → List (List ℕ) → List (List ℕ)
+abbrev pub behind_commas : {A : Type 0} → (A → List (List ℕ) → List (List ℕ)) → List A
+    → List (List ℕ) → List (List ℕ)
 behind_commas text [] rest = rest
 behind_commas text (a ∷ more) rest = codes "," ∷ text a (behind_commas text more rest)
 
-abbrev pub between_commas : {A : Type 0} → (A → List (List ℕ) → List (List ℕ)) → List A → List (List ℕ) → List (List ℕ)
+abbrev pub between_commas : {A : Type 0} → (A → List (List ℕ) → List (List ℕ)) → List A
+    → List (List ℕ) → List (List ℕ)
 between_commas text [] rest = rest
 between_commas text (a ∷ more) rest = text a (behind_commas text more rest)
 
-abbrev pub in_turn : {A : Type 0} → (A → List (List ℕ) → List (List ℕ)) → List A → List (List ℕ) → List (List ℕ)
+abbrev pub in_turn : {A : Type 0} → (A → List (List ℕ) → List (List ℕ)) → List A → List (List ℕ)
+    → List (List ℕ)
 in_turn text [] rest = rest
 in_turn text (a ∷ more) rest = text a (in_turn text more rest)
 
@@ -138,9 +157,11 @@ let_text e rest = codes "let" ∷ equation_text e rest
 
 abbrev pub statement_text : Statement → List (List ℕ) → List (List ℕ)
 statement_text (Compute target p args) rest =
-    target ∷ codes "=" ∷ op_text p ∷ codes "(" ∷ between_commas name_text args (codes ")" ∷ codes ";" ∷ rest)
+    target ∷ codes "=" ∷ op_text p ∷ codes "("
+    ∷ between_commas name_text args (codes ")" ∷ codes ";" ∷ rest)
 statement_text (Visit b) rest =
-    codes "serial" ∷ direction_text b.down ∷ codes "(" ∷ between_commas state_text b.states (codes ")" ∷ codes "{"
+    codes "serial" ∷ direction_text b.down ∷ codes "("
+    ∷ between_commas state_text b.states (codes ")" ∷ codes "{"
     ∷ in_turn let_text b.lets (in_turn equation_text b.assigns (codes "}" ∷ rest)))
 
 abbrev pub operation_text : Operation → List (List ℕ) → List (List ℕ)
@@ -175,7 +196,8 @@ HasEquation e = IsName e.name × HasNames e.value
 
 abbrev pub HasStatement : Statement → Type 0
 HasStatement (Compute target p args) = IsName target × Each IsName args
-HasStatement (Visit b) = Each HasState b.states × Each HasEquation b.lets × Each HasEquation b.assigns
+HasStatement (Visit b) = Each HasState b.states × Each HasEquation b.lets
+    × Each HasEquation b.assigns
 
 pub record HasOperation (op : Operation) : Type 0 where
   pub name : IsName op.name
@@ -185,4 +207,5 @@ pub record HasOperation (op : Operation) : Type 0 where
 
 -- No two lists of ops are spelled alike.
 abbrev pub OpsSpelledOnce : Type 0
-OpsSpelledOnce = (a b : List Operation) → Each HasOperation a → Each HasOperation b → operations_text a ≡ operations_text b → a ≡ b
+OpsSpelledOnce = (a b : List Operation) → Each HasOperation a → Each HasOperation b
+    → operations_text a ≡ operations_text b → a ≡ b

@@ -1,6 +1,8 @@
--- The texts of the grammar, whatever their names are and however many parts they have. Each definition
+-- The texts of the grammar, whatever their names are and however many parts they have. Each
+-- definition
 -- gives the terminals of a part in front of those that follow it.
-use Rattle.std.specs.Prelude.{◌≡◌, ℕ, map, Bool, true, false, List, [], ◌∷◌, ◌++◌, Some, IsSome, ◌↔◌}
+use Rattle.std.specs.Prelude.{◌≡◌, ℕ, map, Bool, true, false, List, [], ◌∷◌, ◌++◌, Some, IsSome}
+use Rattle.std.specs.Prelude.{◌↔◌}
 use Rattle.text_lex.specs.Lexical.{Item, Lexeme, Whole}
 use Rattle.op_text.specs.declared.fault.OpsKind.TheVariants.{Syntax}
 use Rattle.op_text.specs.declared.terminal.Terminal.{Terminal}
@@ -47,7 +49,8 @@ abbrev pub is_let : Spelling → Bool
 is_let sp.Let = true
 is_let n = false
 
--- a statement's target is not the word "serial", and no "let" is the target of a block's first assignment
+-- a statement's target is not the word "serial", and no "let" is the target of a block's first
+-- assignment
 pub record WordTree : Type 0 where
   pub target : Spelling
   pub free : is_serial target ≡ false
@@ -86,16 +89,19 @@ abbrev mutual
   values_text (Then a r) rest = t.Comma ∷ value_text a (values_text r rest)
 
 -- parts with a comma before each, and parts with commas between them
-abbrev pub behind_commas : {A : Type 0} → (A → List Terminal → List Terminal) → List A → List Terminal → List Terminal
+abbrev pub behind_commas : {A : Type 0} → (A → List Terminal → List Terminal) → List A
+    → List Terminal → List Terminal
 behind_commas text [] rest = rest
 behind_commas text (a ∷ more) rest = t.Comma ∷ text a (behind_commas text more rest)
 
-abbrev pub between_commas : {A : Type 0} → (A → List Terminal → List Terminal) → List A → List Terminal → List Terminal
+abbrev pub between_commas : {A : Type 0} → (A → List Terminal → List Terminal) → List A
+    → List Terminal → List Terminal
 between_commas text [] rest = rest
 between_commas text (a ∷ more) rest = text a (behind_commas text more rest)
 
 -- parts one after the other
-abbrev pub in_turn : {A : Type 0} → (A → List Terminal → List Terminal) → List A → List Terminal → List Terminal
+abbrev pub in_turn : {A : Type 0} → (A → List Terminal → List Terminal) → List A → List Terminal
+    → List Terminal
 in_turn text [] rest = rest
 in_turn text (a ∷ more) rest = text a (in_turn text more rest)
 
@@ -128,15 +134,20 @@ let_text e rest = t.Name sp.Let ∷ assign_text e rest
 
 abbrev pub statement_text : StatementTree → List Terminal → List Terminal
 statement_text (Compute w) rest =
-    t.Name w.target ∷ t.Equals ∷ t.Name w.operation ∷ t.Opens ∷ between_commas name_text w.args (t.Closes ∷ t.Semi ∷ rest)
+    t.Name w.target ∷ t.Equals ∷ t.Name w.operation ∷ t.Opens
+    ∷ between_commas name_text w.args (t.Closes ∷ t.Semi ∷ rest)
 statement_text (Visit b) rest =
-    t.Name sp.Serial ∷ direction_word b.down ∷ t.Opens ∷ between_commas state_text b.states (t.Closes ∷ t.Begins
-    ∷ in_turn let_text b.lets (assign_text b.first (in_turn assign_text b.more (t.Finishes ∷ rest))))
+    t.Name sp.Serial ∷ direction_word b.down ∷ t.Opens
+    ∷ between_commas state_text b.states (t.Closes ∷ t.Begins
+    ∷ in_turn let_text b.lets (assign_text b.first
+    (in_turn assign_text b.more (t.Finishes ∷ rest))))
 
 abbrev pub op_text : OpTree → List Terminal → List Terminal
 op_text op rest =
-    t.Name sp.Op ∷ t.Name op.name ∷ t.Opens ∷ param_text op.source (behind_commas param_text op.sources (t.Closes
-    ∷ t.Arrow ∷ param_text op.result (t.Begins ∷ statement_text op.statement (in_turn statement_text op.statements (t.Finishes ∷ rest)))))
+    t.Name sp.Op ∷ t.Name op.name ∷ t.Opens ∷ param_text op.source
+    (behind_commas param_text op.sources (t.Closes
+    ∷ t.Arrow ∷ param_text op.result (t.Begins
+    ∷ statement_text op.statement (in_turn statement_text op.statements (t.Finishes ∷ rest)))))
 
 -- a text of the grammar
 abbrev pub text_of : List OpTree → List Terminal
@@ -146,10 +157,12 @@ text_of ops = in_turn op_text ops []
 abbrev pub IsViable : List Terminal → Type 0
 IsViable ts = (ops : List OpTree) × (more : List Terminal) × (text_of ops ≡ ts ++ more)
 
--- The grammar's steps accept exactly the grammar's texts, and they allow tokens exactly where a text of
+-- The grammar's steps accept exactly the grammar's texts, and they allow tokens exactly where a
+-- text of
 -- the grammar starts with them.
 pub record IsTheGrammar : Type 0 where
-  pub accepts : (ts : List Terminal) → (allowed (Ops ∷ []) ts ≡ Some (Ops ∷ [])) ↔ ((ops : List OpTree) × (ts ≡ text_of ops))
+  pub accepts : (ts : List Terminal) → (allowed (Ops ∷ []) ts ≡ Some (Ops ∷ []))
+      ↔ ((ops : List OpTree) × (ts ≡ text_of ops))
   pub allows : (ts : List Terminal) → IsSome (allowed (Ops ∷ []) ts) ↔ IsViable ts
 
 abbrev pub whole : List Lexeme → List Item
@@ -158,7 +171,8 @@ whole ts = map Whole ts
 abbrev pub terminals_of : List Lexeme → List Terminal
 terminals_of ts = map (λ u. terminal_of u.kind u.text) ts
 
--- Where the first breach is of the grammar, at the place n: a text of the grammar starts with the tokens
+-- Where the first breach is of the grammar, at the place n: a text of the grammar starts with the
+-- tokens
 -- before it, and none starts with these and it.
 pub record BreaksSyntax (items : List Item) (n : ℕ) : Type 0 where
   pub before : List Lexeme
@@ -170,4 +184,5 @@ pub record BreaksSyntax (items : List Item) (n : ℕ) : Type 0 where
   pub bad : IsViable (terminals_of before ++ terminal_of token.kind token.text ∷ []) → ⊥
 
 abbrev pub SyntaxIsTheGrammars : Type 0
-SyntaxIsTheGrammars = (items : List Item) (n : ℕ) → first_breach items ≡ Some (record { at = Some n; kind = Syntax }) → BreaksSyntax items n
+SyntaxIsTheGrammars = (items : List Item) (n : ℕ)
+    → first_breach items ≡ Some (record { at = Some n; kind = Syntax }) → BreaksSyntax items n

@@ -1,5 +1,6 @@
 -- The word operations: how they are spelled, what they take and give.
-use Rattle.std.specs.Prelude.{◌≡◌, ℕ, List, [], ◌∷◌, ◌++◌, Bool, true, false, Option, Some, None, bytes_eq, codes, if◌then◌else◌}
+use Rattle.std.specs.Prelude.{◌≡◌, ℕ, List, [], ◌∷◌, ◌++◌, Bool, true, false, Option, Some, None}
+use Rattle.std.specs.Prelude.{bytes_eq, codes, if◌then◌else◌}
 use Rattle.std.specs.List.{list_any}
 use Rattle.op_text.specs.declared.tree.Kind.{Kind}
 use Rattle.op_text.specs.declared.tree.Kind.TheVariants.{Word, Bit}
@@ -39,8 +40,10 @@ op_text o.XorRed = codes "xor_red"
 -- all word operations, in the order of their table
 abbrev pub all_ops : List WordOp
 all_ops =
-    o.Not ∷ o.And ∷ o.Or ∷ o.Xor ∷ o.Copy ∷ o.Zero ∷ o.Ones ∷ o.Shl1 ∷ o.Shr1 ∷ o.Add ∷ o.Sub ∷ o.Mul ∷ o.Div ∷ o.Rem
-    ∷ o.Abs ∷ o.Relu ∷ o.Min ∷ o.Max ∷ o.Eq ∷ o.Gt ∷ o.Ge ∷ o.IfElse ∷ o.Bitcount ∷ o.AndRed ∷ o.OrRed ∷ o.XorRed ∷ []
+    o.Not ∷ o.And ∷ o.Or ∷ o.Xor ∷ o.Copy ∷ o.Zero ∷ o.Ones ∷ o.Shl1 ∷ o.Shr1 ∷ o.Add ∷ o.Sub
+    ∷ o.Mul ∷ o.Div ∷ o.Rem
+    ∷ o.Abs ∷ o.Relu ∷ o.Min ∷ o.Max ∷ o.Eq ∷ o.Gt ∷ o.Ge ∷ o.IfElse ∷ o.Bitcount ∷ o.AndRed
+    ∷ o.OrRed ∷ o.XorRed ∷ []
 
 abbrev pub named_among : List WordOp → List ℕ → Option WordOp
 named_among [] text = None
@@ -145,9 +148,11 @@ first_of (k ∷ ks) = Some k
 
 -- The first argument settles the kind of the result.
 abbrev pub FirstSettles : Type 0
-FirstSettles = (p : WordOp) (kinds : List Kind) (k : Kind) → filled (forms p) kinds ≡ Some k → given_first (forms p) (first_of kinds) ≡ k
+FirstSettles = (p : WordOp) (kinds : List Kind) (k : Kind) → filled (forms p) kinds ≡ Some k
+    → given_first (forms p) (first_of kinds) ≡ k
 
--- whether one more argument of a kind may stand, whether another is wanted, and whether all are there
+-- whether one more argument of a kind may stand, whether another is wanted, and whether all are
+-- there
 abbrev pub may_take : List Form → List Kind → Kind → Bool
 may_take fs given k = list_any (λ f. is_begun (lacks (given ++ k ∷ []) f.takes)) fs
 
@@ -163,7 +168,8 @@ shape_forms shapes.OneOf = of_one
 shape_forms shapes.TwoOf = of_two
 shape_forms (shapes.OneWord k) = word_to k
 shape_forms (shapes.TwoWords k) = words_to k
-shape_forms shapes.Choice = form (Word ∷ Word ∷ Bit ∷ []) Word ∷ form (Bit ∷ Bit ∷ Bit ∷ []) Bit ∷ []
+shape_forms shapes.Choice = form (Word ∷ Word ∷ Bit ∷ []) Word ∷ form (Bit ∷ Bit ∷ Bit ∷ []) Bit
+    ∷ []
 
 abbrev pub ops_0 : List WordOp
 ops_0 = o.Not ∷ o.And ∷ o.Or ∷ o.Xor ∷ o.Copy ∷ o.Zero ∷ o.Ones ∷ []

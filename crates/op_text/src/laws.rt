@@ -3,7 +3,8 @@
 ghost use Rattle.op_text.specs.Trees.{IsTheGrammar, SyntaxIsTheGrammars};
 ghost use Rattle.op_text.specs.WordOps.{FirstSettles};
 ghost use Rattle.op_text.specs.Meaning.{MeaningFits};
-ghost use Rattle.op_text.specs.Spelling.{TermsAreAccepted, PlacesDoNotMatter, SpelledOnce, OpsSpelledOnce};
+ghost use Rattle.op_text.specs.Spelling.{TermsAreAccepted, PlacesDoNotMatter, SpelledOnce};
+ghost use Rattle.op_text.specs.Spelling.{OpsSpelledOnce};
 
 /// What the grammar's steps accept is the grammar's texts, and they allow what these begin with.
 pub fn grammar_is_followed()

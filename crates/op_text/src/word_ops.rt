@@ -1,7 +1,9 @@
 //! The word operations: how they are spelled and what they take.
 
 ghost use Rattle.std.specs.Prelude.{◌≡◌, ◌++◌, [], ◌∷◌, Some, None};
-ghost use Rattle.op_text.specs.WordOps.{named_among, op_named, ops_0, ops_1, ops_2, ops_3, forms, shape_forms, may_take, wants_more, has_all, filled, given_first, same_kind};
+ghost use Rattle.op_text.specs.WordOps.{named_among, op_named, ops_0, ops_1, ops_2, ops_3, forms};
+ghost use Rattle.op_text.specs.WordOps.{shape_forms, may_take, wants_more, has_all, filled};
+ghost use Rattle.op_text.specs.WordOps.{given_first, same_kind};
 ghost use Rattle.op_text.specs.declared.tree.Kind.TheVariants.{Word};
 
 use crate::tree::{Kind, WordOp};

@@ -18,5 +18,7 @@ unfolding trace issue
 xor_ends = tt
 
 -- a run reads no row for the host
-pub run_reads : (bank rows : ℕ) (shape : Shape) (code : List Uop) (b : Binding) (old new : Counters) → new ≡ all_counted (trace_events bank rows shape code b) old → new.reads ≡ old.reads
-run_reads bank rows shape code b old new e = ap (λ k. k.reads) (e ∙ counted-issues bank rows shape b (issues_of (trace shape code b.n)) old)
+pub run_reads : (bank rows : ℕ) (shape : Shape) (code : List Uop) (b : Binding) (old new : Counters)
+    → new ≡ all_counted (trace_events bank rows shape code b) old → new.reads ≡ old.reads
+run_reads bank rows shape code b old new e = ap (λ k. k.reads) (e
+    ∙ counted-issues bank rows shape b (issues_of (trace shape code b.n)) old)

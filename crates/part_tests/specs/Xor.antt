@@ -23,6 +23,9 @@ first_row space which = record { space = space; which = which; index = 8 }
 -- the sources into both cells of two pairs, and then four majorities
 abbrev pub xor_code : List Uop
 xor_code =
-    Aap (first_row space.Source 0) (fixed_row space.B 8) ∷ Aap (first_row space.Source 1) (fixed_row space.B 9)
-    ∷ Aap (fixed_row space.C 0) (fixed_row space.B 10) ∷ Ap (fixed_row space.B 14) ∷ Ap (fixed_row space.B 15)
-    ∷ Aap (fixed_row space.C 1) (fixed_row space.B 2) ∷ Aap (fixed_row space.B 12) (first_row space.Result 0) ∷ Done ∷ []
+    Aap (first_row space.Source 0) (fixed_row space.B 8)
+    ∷ Aap (first_row space.Source 1) (fixed_row space.B 9)
+    ∷ Aap (fixed_row space.C 0) (fixed_row space.B 10) ∷ Ap (fixed_row space.B 14)
+    ∷ Ap (fixed_row space.B 15)
+    ∷ Aap (fixed_row space.C 1) (fixed_row space.B 2)
+    ∷ Aap (fixed_row space.B 12) (first_row space.Result 0) ∷ Done ∷ []

@@ -18,7 +18,8 @@ const SMALL: Geometry = Geometry {
     words: 1,
 };
 
-/// Inputs stand from D0 on, the first output in D8 and the second in D2, and spill rows from D32 on.
+/// Inputs stand from D0 on, the first output in D8 and the second in D2, and spill rows from D32
+/// on.
 fn address(row: BodyRef) -> Addr {
     match row {
         BodyRef::B(k) => Addr::B(k),
@@ -104,7 +105,8 @@ fn row_of<D: Dram>(chip: &mut D, row: u16) -> Result<u64, Fail>
     Ok(word[0])
 }
 
-/// The full adder's graph, with the sum as its first output, and the carry in the row of the third input.
+/// The full adder's graph, with the sum as its first output, and the carry in the row of the third
+/// input.
 fn full_adder(rt: &impl Abort, alloc: Global) -> Result<(Mig, [OutRow; 2]), NoMemory>
     ensures { IfOk result (λ adder. FitBody adder.0 adder.1) }
 {

@@ -6,6 +6,7 @@ ghost use Rattle.uprog_code.specs.Programs.{IsProgram};
 ghost use Rattle.part_tests.specs.Xor.{xor_shape, xor_code};
 
 use arrayvec::ArrayVec;
+use bit_rows::Value;
 use dram_chip::{Chip, Counters, Dram, Geometry};
 use std::alloc::Global;
 use std::test::Fail;
@@ -23,7 +24,7 @@ const SMALL: Geometry = Geometry {
 };
 
 /// More elements than the columns of one bank.
-const ELEMENTS: [u64; 70] = [
+const ELEMENTS: [Value; 70] = [
     0, 1, 2, 3, 4, 5, 6, 7, 8, 9, 10, 11, 12, 13, 14, 15, 16, 17, 18, 19, 20, 21, 22, 23, 24, 25,
     26, 27, 28, 29, 30, 31, 0, 1, 2, 3, 4, 5, 6, 7, 8, 9, 10, 11, 12, 13, 14, 15, 16, 17, 18, 19,
     20, 21, 22, 23, 24, 25, 26, 27, 28, 29, 30, 31, 31, 1, 2, 16, 8, 21,
@@ -42,7 +43,7 @@ const ELEMENT_ROWS: [[u64; 5]; 2] = [
 ];
 
 /// Whether each value has at most 5 bits.
-fn are_small(values: &[u64]) -> bool
+fn are_small(values: &[Value]) -> bool
     ensures { result ≡ true → All (λ v. v < 2 ^ 5) values.now }
 {
     values.iter().all(|v| *v < 32)
@@ -74,7 +75,7 @@ fn an_object_is_read_back(rt: HostRuntime) -> Result<(), Fail> {
 }
 
 /// The word of a row that was all ones before the object was written to rows 7 to 11.
-fn row_after_object(values: &[u64; 70], bank: u16, row: u16, alloc: Global) -> Result<u64, Fail>
+fn row_after_object(values: &[Value; 70], bank: u16, row: u16, alloc: Global) -> Result<u64, Fail>
     requires small { All (λ v. v < 2 ^ 5) values.now }
     requires bank { bank < 2 }
     requires row { row < 64 }
@@ -212,7 +213,8 @@ fn xor_binding() -> Binding
     }
 }
 
-/// The word of a row after the run on bank 1, and the counters. The row was all ones before, and rows 0 and 1 of bank 1
+/// The word of a row after the run on bank 1, and the counters. The row was all ones before, and
+/// rows 0 and 1 of bank 1
 /// were A and B.
 #[tactic(auto, using(crate::proofs::Xor::xor_is_legal, crate::proofs::Xor::xor_ends))]
 fn row_after_xor(bank: u16, row: u16, alloc: Global) -> Result<(u64, Counters), Fail>

@@ -1,5 +1,7 @@
 -- The plain body reads each input before it writes an output
-use Rattle.std.proofs.Common.{◌≡◌, ◌≢◌, ℕ, ◌-◌, ◌<◌, ◌≤◌, Bool, true, false, not, List, [], ◌∷◌, ◌++◌, length, get_or, refl, sym, ◌∙◌, ap, arith, inl, inr, append_assoc, length-append}
+use Rattle.std.proofs.Common.{◌≡◌, ◌≢◌, ℕ, ◌-◌, ◌<◌, ◌≤◌, Bool, true, false, not, List, [], ◌∷◌}
+use Rattle.std.proofs.Common.{◌++◌, length, get_or, refl, sym, ◌∙◌, ap, arith, inl, inr}
+use Rattle.std.proofs.Common.{append_assoc, length-append}
 use Rattle.std.specs.Prelude.{if◌then◌else◌}
 use Rattle.std.proofs.lemmas.Bool.{cases_lt}
 use Rattle.std.proofs.lemmas.List.{append-nil, get_or_append_left, get_or-append_right}
@@ -13,10 +15,13 @@ use Rattle.row_alloc.specs.declared.body.BodyCmd.{BodyCmd}
 use Rattle.row_alloc.specs.declared.body.BodyCmd.TheVariants.{Aap, Ap}
 use Rattle.row_alloc.specs.declared.body.OutRow.{OutRow}
 use Rattle.row_alloc.specs.Body.{read_by, written_by, command_at, WritesLate}
-use Rattle.row_alloc.specs.Phases.{source_of, into_of, node_commands, stash_commands, is_out, is_in, keep_outputs, read_no_input, IsTwoParts}
+use Rattle.row_alloc.specs.Phases.{source_of, into_of, node_commands, stash_commands, is_out, is_in}
+use Rattle.row_alloc.specs.Phases.{keep_outputs, read_no_input, IsTwoParts}
 
-pub early-append : (xs ys : List BodyCmd) → keep_outputs xs ≡ true → keep_outputs ys ≡ true → keep_outputs (xs ++ ys) ≡ true
-early-append xs ys h k = list_all-append (λ (c : BodyCmd). not (is_out (written_by c))) xs ys ∙ rw (h, k) refl
+pub early-append : (xs ys : List BodyCmd) → keep_outputs xs ≡ true → keep_outputs ys ≡ true
+    → keep_outputs (xs ++ ys) ≡ true
+early-append xs ys h k = list_all-append (λ (c : BodyCmd). not (is_out (written_by c))) xs ys
+    ∙ rw (h, k) refl
 
 into-early : (l : Lit) → not (is_out (into_of l)) ≡ true
 into-early l = at (is_turned l)
@@ -31,7 +36,8 @@ node-early i k x = rw (into-early x.a) refl
 pub stash-early : (i k : ℕ) (l : Lit) → keep_outputs (stash_commands i l k) ≡ true
 stash-early i k l = at (is_turned l)
   where
-    at : (t : Bool) → keep_outputs (if t then Aap (source_of i l) (B 5) ∷ Aap (B 4) (Spill k) ∷ [] else Aap (source_of i l) (Spill k) ∷ []) ≡ true
+    at : (t : Bool) → keep_outputs (if t then Aap (source_of i l) (B 5) ∷ Aap (B 4) (Spill k) ∷ []
+        else Aap (source_of i l) (Spill k) ∷ []) ≡ true
     at true = refl
     at false = refl
 
@@ -46,31 +52,39 @@ parts-first cmds h = record {
 }
 
 -- one command more that reads no input
-pub parts-more : (cmds : List BodyCmd) (c : BodyCmd) → IsTwoParts cmds → is_in (read_by c) ≡ false → IsTwoParts (cmds ++ c ∷ [])
+pub parts-more : (cmds : List BodyCmd) (c : BodyCmd) → IsTwoParts cmds → is_in (read_by c) ≡ false
+    → IsTwoParts (cmds ++ c ∷ [])
 parts-more cmds c p h = record {
   first = p.first;
   rest = p.rest ++ c ∷ [];
   whole = rw p.whole (append_assoc p.first p.rest (c ∷ []));
   early = p.early;
-  late = list_all-append (λ (c : BodyCmd). not (is_in (read_by c))) p.rest (c ∷ []) ∙ rw (p.late, h) refl;
+  late = list_all-append (λ (c : BodyCmd). not (is_in (read_by c))) p.rest (c ∷ [])
+      ∙ rw (p.late, h) refl;
 }
 
 -- so no command that follows a write of an output reads an input
-at-first : (first rest : List BodyCmd) (p j : ℕ) → keep_outputs first ≡ true → p < length first → written_by (command_at (first ++ rest) p) ≢ Out j
+at-first : (first rest : List BodyCmd) (p j : ℕ) → keep_outputs first ≡ true → p < length first
+    → written_by (command_at (first ++ rest) p) ≢ Out j
 at-first first rest p j h l e =
     let same = get_or_append_left first rest (Ap (B 0)) p l in
-    let f : not (is_out (written_by (get_or first p (Ap (B 0))))) ≡ false = ap (λ (r : BodyRef). not (is_out r)) (ap written_by (sym same) ∙ e) in
+    let f : not (is_out (written_by (get_or first p (Ap (B 0))))) ≡ false =
+    ap (λ (r : BodyRef). not (is_out r)) (ap written_by (sym same) ∙ e) in
     let g = list_all_at (λ (c : BodyCmd). not (is_out (written_by c))) first p (Ap (B 0)) l f in
     cc
 
-at-rest : (first rest : List BodyCmd) (q k : ℕ) → read_no_input rest ≡ true → length first ≤ q → q < length (first ++ rest) → read_by (command_at (first ++ rest) q) ≢ In k
+at-rest : (first rest : List BodyCmd) (q k : ℕ) → read_no_input rest ≡ true → length first ≤ q
+    → q < length (first ++ rest) → read_by (command_at (first ++ rest) q) ≢ In k
 at-rest first rest q k h l b e =
     let same = get_or-append_right first rest (length first) q (Ap (B 0)) refl l in
-    let f : not (is_in (read_by (get_or rest (q - length first) (Ap (B 0))))) ≡ false = ap (λ (r : BodyRef). not (is_in r)) (ap read_by (sym same) ∙ e) in
-    let g = list_all_at (λ (c : BodyCmd). not (is_in (read_by c))) rest (q - length first) (Ap (B 0)) (omega (arith, length-append first rest)) f in
+    let f : not (is_in (read_by (get_or rest (q - length first) (Ap (B 0))))) ≡ false =
+    ap (λ (r : BodyRef). not (is_in r)) (ap read_by (sym same) ∙ e) in
+    let g = list_all_at (λ (c : BodyCmd). not (is_in (read_by c))) rest (q - length first)
+    (Ap (B 0)) (omega (arith, length-append first rest)) f in
     cc
 
-late-parts : (outs : List OutRow) (first rest : List BodyCmd) → keep_outputs first ≡ true → read_no_input rest ≡ true → WritesLate outs (first ++ rest)
+late-parts : (outs : List OutRow) (first rest : List BodyCmd) → keep_outputs first ≡ true
+    → read_no_input rest ≡ true → WritesLate outs (first ++ rest)
 late-parts outs first rest h i = record {
   late = λ p q j k before within shares written read. elim (cases_lt p (length first)) [
     | inl b ↦ at-first first rest p j h b written
@@ -78,9 +92,11 @@ late-parts outs first rest h i = record {
   ];
 }
 
-pub writes-late : (outs : List OutRow) (cmds : List BodyCmd) → IsTwoParts cmds → WritesLate outs cmds
+pub writes-late : (outs : List OutRow) (cmds : List BodyCmd) → IsTwoParts cmds
+    → WritesLate outs cmds
 writes-late outs cmds p = rw p.whole (late-parts outs p.first p.rest p.early p.late)
 
 -- one command alone
 pub one-late : (outs : List OutRow) (cmds : List BodyCmd) → length cmds ≡ 1 → WritesLate outs cmds
-one-late outs cmds e = record { late = λ p q j k before within shares written read. absurd (omega arith) }
+one-late outs cmds e =
+    record { late = λ p q j k before within shares written read. absurd (omega arith) }

@@ -1,5 +1,6 @@
 -- The plain body's commands are legal
-use Rattle.std.proofs.Common.{◌≡◌, ℕ, ◌+◌, ◌-◌, ◌<◌, ◌≤◌, Bool, true, false, ◌&&◌, List, [], ◌∷◌, ◌++◌, refl, ◌∙◌, arith, inl, inr}
+use Rattle.std.proofs.Common.{◌≡◌, ℕ, ◌+◌, ◌-◌, ◌<◌, ◌≤◌, Bool, true, false, ◌&&◌, List, [], ◌∷◌}
+use Rattle.std.proofs.Common.{◌++◌, refl, ◌∙◌, arith, inl, inr}
 use Rattle.std.specs.Prelude.{if◌then◌else◌, nat_lt}
 use Rattle.std.proofs.lemmas.Bool.Decides.{nat_tests}
 use Rattle.std.proofs.lemmas.List.Folds.{list_all-append}
@@ -14,18 +15,21 @@ use Rattle.row_alloc.specs.Legal.{is_ref, is_first_ref, is_second_ref, is_legal_
 use Rattle.row_alloc.specs.Phases.{source_of, into_of, node_commands, stash_commands}
 use Rattle.row_alloc.proofs.Holds.{source-cases}
 
-pub legal-append : (i o : ℕ) (xs ys : List BodyCmd) → are_legal i o xs ≡ true → are_legal i o ys ≡ true → are_legal i o (xs ++ ys) ≡ true
+pub legal-append : (i o : ℕ) (xs ys : List BodyCmd) → are_legal i o xs ≡ true
+    → are_legal i o ys ≡ true → are_legal i o (xs ++ ys) ≡ true
 legal-append i o xs ys h k = list_all-append (is_legal_cmd i o) xs ys ∙ rw (h, k) refl
 
 pub less : (a b : ℕ) → a < b → nat_lt a b ≡ true
 less a b h = grind (arith, nat_tests)
 
 -- where a literal is read from may stand first
-pub source-legal : (i o n : ℕ) (l : Lit) → l.node < i + 1 + n → n ≤ 32 → (is_ref i o (source_of i l) && is_first_ref (source_of i l)) ≡ true
+pub source-legal : (i o n : ℕ) (l : Lit) → l.node < i + 1 + n → n ≤ 32
+    → (is_ref i o (source_of i l) && is_first_ref (source_of i l)) ≡ true
 source-legal i o n l b small = elim (source-cases i l) [
   | inl h ↦ rw h.1 (constant-legal l.inverted)
   | inr (inl h) ↦ let e : l.node - 1 < i = omega arith in rw (h.2, less (l.node - 1) i e) refl
-  | inr (inr h) ↦ let e : l.node - i - 1 < 32 = omega arith in rw (h.1, less (l.node - i - 1) 32 e) refl
+  | inr (inr h) ↦ let e : l.node - i - 1 < 32 = omega arith in
+      rw (h.1, less (l.node - i - 1) 32 e) refl
 ]
   where
     constant-legal : (b : Bool) → (nat_lt (bit_number b) 2 && true) ≡ true
@@ -35,17 +39,27 @@ source-legal i o n l b small = elim (source-cases i l) [
 into-legal : (i o : ℕ) (l : Lit) → (is_ref i o (into_of l) && is_second_ref (into_of l)) ≡ true
 into-legal i o l = at (is_turned l)
   where
-    at : (b : Bool) → (is_ref i o (if b then B 5 else B 4) && is_second_ref (if b then B 5 else B 4)) ≡ true
+    at : (b : Bool) → (is_ref i o (if b then B 5 else B 4)
+        && is_second_ref (if b then B 5 else B 4)) ≡ true
     at true = refl
     at false = refl
 
-pub node-legal : (i o n k : ℕ) (x : Node) → IsLower (i + 1 + n) x → n ≤ 32 → k < 32 → are_legal i o (node_commands i x k) ≡ true
-node-legal i o n k x lower small l = rw (source-legal i o n x.a lower.0 small, into-legal i o x.a, source-legal i o n x.b lower.1 small, source-legal i o n x.c lower.2 small, less k 32 l) refl
+pub node-legal : (i o n k : ℕ) (x : Node) → IsLower (i + 1 + n) x → n ≤ 32 → k < 32
+    → are_legal i o (node_commands i x k) ≡ true
+node-legal i o n k x lower small l = rw (
+  source-legal i o n x.a lower.0 small,
+  into-legal i o x.a,
+  source-legal i o n x.b lower.1 small,
+  source-legal i o n x.c lower.2 small,
+  less k 32 l,
+) refl
 
-pub stash-legal : (i o n k : ℕ) (l : Lit) → l.node < i + 1 + n → n ≤ 32 → k < 32 → are_legal i o (stash_commands i l k) ≡ true
+pub stash-legal : (i o n k : ℕ) (l : Lit) → l.node < i + 1 + n → n ≤ 32 → k < 32
+    → are_legal i o (stash_commands i l k) ≡ true
 stash-legal i o n k l below small b = at (is_turned l)
   where
-    at : (t : Bool) → are_legal i o (if t then Aap (source_of i l) (B 5) ∷ Aap (B 4) (Spill k) ∷ [] else Aap (source_of i l) (Spill k) ∷ []) ≡ true
+    at : (t : Bool) → are_legal i o (if t then Aap (source_of i l) (B 5) ∷ Aap (B 4) (Spill k) ∷ []
+        else Aap (source_of i l) (Spill k) ∷ []) ≡ true
     at true = rw (source-legal i o n l below small, less k 32 b) refl
     at false = rw (source-legal i o n l below small, less k 32 b) refl
 

@@ -1,5 +1,6 @@
 -- How many commands the plain body has
-use Rattle.std.specs.Prelude.{ℕ, ◌+◌, ◌*◌, ◌==◌, Bool, not, ◌&&◌, if◌then◌else◌, sum_by, List, length}
+use Rattle.std.specs.Prelude.{ℕ, ◌+◌, ◌*◌, ◌==◌, Bool, not, ◌&&◌, if◌then◌else◌, sum_by, List}
+use Rattle.std.specs.Prelude.{length}
 use Rattle.mig_graph.specs.Literals.{is_turned}
 use Rattle.mig_graph.specs.Graph.{Graph}
 use Rattle.row_alloc.specs.declared.body.OutRow.{OutRow}
@@ -7,7 +8,8 @@ use Rattle.row_alloc.specs.Rows.{out_at}
 
 -- there is no majority node, and the only output is a constant or an input that is not inverted
 abbrev pub is_direct : Graph → List OutRow → Bool
-is_direct g outs = (length g.nodes == 0) && ((length outs == 1) && not (is_turned (out_at outs 0).lit))
+is_direct g outs = (length g.nodes == 0) && ((length outs == 1)
+    && not (is_turned (out_at outs 0).lit))
 
 -- the commands of one output: three where an input or a node is inverted, else two
 abbrev pub output_length : OutRow → ℕ

@@ -1,5 +1,6 @@
 -- Where a body's rows stand in a bank, and what its commands do to a column there
-use Rattle.std.specs.Prelude.{◌≡◌, ◌≢◌, ◌↔◌, ℕ, ◌<◌, false, List, length, map, slice_index_or, Some, None}
+use Rattle.std.specs.Prelude.{◌≡◌, ◌≢◌, ◌↔◌, ℕ, ◌<◌, false, List, length, map, slice_index_or, Some}
+use Rattle.std.specs.Prelude.{None}
 use Rattle.dram_model.specs.declared.address.Addr.{Addr}
 use Rattle.dram_model.specs.declared.address.Addr.TheVariants.{B as AddrB, C as AddrC, D as AddrD}
 use Rattle.dram_model.specs.declared.address.Command.{Command}
@@ -36,13 +37,19 @@ run_body rows cmds s = run (map (bound rows) cmds) s
 
 -- the output of this number
 abbrev pub out_at : List OutRow → ℕ → OutRow
-out_at outs j = slice_index_or outs j (record { lit = record { node = 0; inverted = false }; same = None })
+out_at outs j = slice_index_or outs j (record {
+  lit = record { node = 0; inverted = false };
+  same = None;
+})
 
--- The spill rows differ from one another, from the inputs and from the outputs; the outputs differ from one another; and
+-- The spill rows differ from one another, from the inputs and from the outputs; the outputs differ
+-- from one another; and
 -- an output stands in an input's row just where it says so. Inputs may share a row
 pub record AreApart (rows : Rows) (inputs : ℕ) (outs : List OutRow) : Type 0 where
   pub spills : (i k : ℕ) → i < 32 → k < 32 → rows.spill i ≡ rows.spill k → i ≡ k
   pub spill_input : (i k : ℕ) → i < 32 → k < inputs → rows.spill i ≢ rows.input k
   pub spill_output : (i j : ℕ) → i < 32 → j < length outs → rows.spill i ≢ rows.output j
-  pub outputs : (i j : ℕ) → i < length outs → j < length outs → rows.output i ≡ rows.output j → i ≡ j
-  pub same : (j k : ℕ) → j < length outs → k < inputs → (rows.output j ≡ rows.input k) ↔ ((out_at outs j).same ≡ Some k)
+  pub outputs : (i j : ℕ) → i < length outs → j < length outs → rows.output i ≡ rows.output j
+      → i ≡ j
+  pub same : (j k : ℕ) → j < length outs → k < inputs → (rows.output j ≡ rows.input k)
+      ↔ ((out_at outs j).same ≡ Some k)

@@ -1,5 +1,6 @@
 -- A body followed with literals in place of bits
-use Rattle.std.specs.Prelude.{◌≡◌, ℕ, ◌+◌, ◌<◌, ◌==◌, nat_lt, Bool, true, false, not, ◌&&◌, ◌||◌, if◌then◌else◌, List, [], ◌∷◌, length, map, Option, Some, None}
+use Rattle.std.specs.Prelude.{◌≡◌, ℕ, ◌+◌, ◌<◌, ◌==◌, nat_lt, Bool, true, false, not, ◌&&◌, ◌||◌}
+use Rattle.std.specs.Prelude.{if◌then◌else◌, List, [], ◌∷◌, length, map, Option, Some, None}
 use mathlib.Core.Bool.{beq}
 use Rattle.dram_model.specs.declared.address.Addr.{Addr}
 use Rattle.dram_model.specs.declared.address.Cell.{Cell}
@@ -60,7 +61,8 @@ is_node n x y z = lit_eq n.a x && (lit_eq n.b y && lit_eq n.c z)
 
 -- the node has these three literals in any order
 abbrev pub has_three : Node → Lit → Lit → Lit → Bool
-has_three n x y z = is_node n x y z || (is_node n x z y || (is_node n y x z || (is_node n y z x || (is_node n z x y || is_node n z y x))))
+has_three n x y z = is_node n x y z || (is_node n x z y
+    || (is_node n y x z || (is_node n y z x || (is_node n z x y || is_node n z y x))))
 
 -- the number of the first node that has the three, where the first of the list has number k
 unfoldable pub first_node : ℕ → List Node → Lit → Lit → Lit → Option ℕ
@@ -74,7 +76,8 @@ or_complement None None = None
 
 -- the first node with the three, or the complement of the first node with their complements
 abbrev pub node_for : Graph → Lit → Lit → Lit → Option Lit
-node_for g x y z = or_complement (first_node (g.inputs + 1) g.nodes x y z) (first_node (g.inputs + 1) g.nodes (complement x) (complement y) (complement z))
+node_for g x y z = or_complement (first_node (g.inputs + 1) g.nodes x y z)
+    (first_node (g.inputs + 1) g.nodes (complement x) (complement y) (complement z))
 
 -- where all three lines read a literal
 abbrev pub node_for_all : Graph → Option Lit → Option Lit → Option Lit → Option Lit
@@ -83,12 +86,15 @@ node_for_all g (Some x) (Some y) None = None
 node_for_all g (Some x) None r = None
 node_for_all g None q r = None
 
--- What three lines sense: what two of them read; else, where two read a literal and its complement, what the third
--- reads; else the node of the three, where all three read a literal and the graph has it; else nothing
+-- What three lines sense: what two of them read; else, where two read a literal and its complement,
+-- what the third
+-- reads; else the node of the three, where all three read a literal and the graph has it; else
+-- nothing
 unfoldable pub sense_three : Graph → Option Lit → Option Lit → Option Lit → Option Lit
 sense_three g p q r =
     if are_twins p q then p else (if are_twins p r then p else (if are_twins q r then q
-    else (if are_opposite p q then r else (if are_opposite p r then q else (if are_opposite q r then p
+    else (if are_opposite p q then r else (if are_opposite p r then q
+    else (if are_opposite q r then p
     else node_for_all g p q r)))))
 
 -- one line gives what it reads
@@ -96,11 +102,13 @@ abbrev pub sym_sense_lines : Graph → Symbols → List Line → Option Lit
 sym_sense_lines g sy [] = None
 sym_sense_lines g sy (a ∷ []) = sym_read sy a
 sym_sense_lines g sy (a ∷ b ∷ []) = None
-sym_sense_lines g sy (a ∷ b ∷ c ∷ more) = sense_three g (sym_read sy a) (sym_read sy b) (sym_read sy c)
+sym_sense_lines g sy (a ∷ b ∷ c ∷ more) = sense_three g (sym_read sy a) (sym_read sy b)
+    (sym_read sy c)
 
 -- the line's cell takes what is sensed, complemented on an n-wordline
 abbrev pub sym_drive : Line → Option Lit → Symbols → Symbols
-sym_drive line v sy = λ cell. if is_written line.cell cell then turned_option line.inverted v else sy cell
+sym_drive line v sy = λ cell. if is_written line.cell cell then turned_option line.inverted v
+    else sy cell
 
 -- each line's cell takes it
 abbrev pub sym_settle_lines : List Line → Option Lit → Symbols → Symbols
@@ -127,7 +135,8 @@ abbrev pub at_start : ℕ → Symbols
 at_start inputs (T k) = None
 at_start inputs (Dcc k) = None
 at_start inputs (C k) = None
-at_start inputs (D k) = if nat_lt k inputs then Some (record { node = k + 1; inverted = false }) else None
+at_start inputs (D k) = if nat_lt k inputs then Some (record { node = k + 1; inverted = false })
+    else None
 
 -- what each cell holds after the commands, where each row of the body stands at a number of its own
 abbrev pub symbols_after : Graph → List OutRow → List BodyCmd → Symbols
@@ -136,4 +145,5 @@ symbols_after g outs cmds = sym_run g (map (bound (own_rows outs)) cmds) (at_sta
 -- The list is legal, and each output's row ends with its literal
 pub record IsChecked (g : Graph) (outs : List OutRow) (cmds : List BodyCmd) : Type 0 where
   pub legal : are_legal g.inputs (length outs) cmds ≡ true
-  pub ends : (j : ℕ) → j < length outs → symbols_after g outs cmds (D ((own_rows outs).output j)) ≡ Some (out_at outs j).lit
+  pub ends : (j : ℕ) → j < length outs → symbols_after g outs cmds (D ((own_rows outs).output j))
+      ≡ Some (out_at outs j).lit

@@ -23,7 +23,8 @@ fn address(outs: &[OutRow], inputs: u8, x: BodyRef) -> Addr
     requires legal { is_ref inputs (length outs.now) x ≡ true }
     requires outs { length outs.now ≤ 8 }
     requires inputs { inputs ≤ 80 }
-    requires same { (j k : ℕ) → j < length outs.now → (out_at outs.now j).same ≡ Some k → k < inputs }
+    requires same { (j k : ℕ) → j < length outs.now → (out_at outs.now j).same ≡ Some k
+        → k < inputs }
     ensures place { result ≡ place (own_rows outs.now) x }
     ensures address { is_address result ≡ true }
     ensures kept { list_all (λ line. is_kept line.cell) (lines_of result) ≡ true }
@@ -53,7 +54,8 @@ fn activate(m: &Mig, table: &mut Table, x: Addr) -> Option<Lit>
     requires address { is_address x ≡ true }
     requires kept { list_all (λ line. is_kept line.cell) (lines_of x) ≡ true }
     ensures value { result ≡ sym_sense m.now x (symbols_of table.old) }
-    ensures table { symbols_of table.new ≡ sym_settle x (sym_sense m.now x (symbols_of table.old)) (symbols_of table.old) }
+    ensures table { symbols_of table.new ≡ sym_settle x (sym_sense m.now x (symbols_of table.old))
+        (symbols_of table.old) }
 {
     let raised = lines(x);
     let sensed = sense(m, table, raised.as_slice());
@@ -65,7 +67,8 @@ fn activate(m: &Mig, table: &mut Table, x: Addr) -> Option<Lit>
 fn step(m: &Mig, outs: &[OutRow], table: &mut Table, cmd: BodyCmd)
     requires fit { FitBody m.now outs.now }
     requires legal { is_legal_cmd m.now.inputs (length outs.now) cmd ≡ true }
-    ensures { symbols_of table.new ≡ sym_step m.now (bound (own_rows outs.now) cmd) (symbols_of table.old) }
+    ensures { symbols_of table.new ≡ sym_step m.now (bound (own_rows outs.now) cmd)
+        (symbols_of table.old) }
 {
     match cmd {
         BodyCmd::Ap(x) => {
@@ -83,7 +86,8 @@ fn step(m: &Mig, outs: &[OutRow], table: &mut Table, cmd: BodyCmd)
 fn follow(m: &Mig, outs: &[OutRow], table: &mut Table, cmds: &[BodyCmd])
     requires fit { FitBody m.now outs.now }
     requires legal { are_legal m.now.inputs (length outs.now) cmds.now ≡ true }
-    ensures { symbols_of table.new ≡ sym_run m.now (map (bound (own_rows outs.now)) cmds.now) (symbols_of table.old) }
+    ensures { symbols_of table.new ≡ sym_run m.now (map (bound (own_rows outs.now)) cmds.now)
+        (symbols_of table.old) }
 {
     for cmd in cmds {
         step(m, outs, table, *cmd);
@@ -94,8 +98,11 @@ fn follow(m: &Mig, outs: &[OutRow], table: &mut Table, cmds: &[BodyCmd])
 fn ends_right(outs: &[OutRow], inputs: u8, table: &Table) -> bool
     requires outs { length outs.now ≤ 8 }
     requires inputs { inputs ≤ 80 }
-    requires same { (j k : ℕ) → j < length outs.now → (out_at outs.now j).same ≡ Some k → k < inputs }
-    ensures { IsTrue result ↔ ((j : ℕ) → j < length outs.now → symbols_of table.now (CellD ((own_rows outs.now).output j)) ≡ Some (out_at outs.now j).lit) }
+    requires same { (j k : ℕ) → j < length outs.now → (out_at outs.now j).same ≡ Some k
+        → k < inputs }
+    ensures { IsTrue result ↔ ((j : ℕ) → j < length outs.now
+        → symbols_of table.now (CellD ((own_rows outs.now).output j))
+        ≡ Some (out_at outs.now j).lit) }
 {
     for (j, out) in outs.iter().enumerate() {
         if table.d[own_row(outs, j as u8) as usize] != Some(out.lit) {
@@ -107,7 +114,8 @@ fn ends_right(outs: &[OutRow], inputs: u8, table: &Table) -> bool
 
 /// Whether the body is legal and its symbolic run ends right. Then it does what a body must.
 ///
-/// Not every right body is found right: where three lines sense a value that no node of the graph has, the run knows
+/// Not every right body is found right: where three lines sense a value that no node of the graph
+/// has, the run knows
 /// nothing of it.
 pub fn check_body(m: &Mig, outs: &[OutRow], cmds: &[BodyCmd]) -> bool
     requires fit { FitBody m.now outs.now }

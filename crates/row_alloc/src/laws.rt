@@ -13,10 +13,13 @@ ghost use Rattle.row_alloc.specs.Numbering.{own_rows, AreBelow};
 
 /// The rows of a body can stand apart: each at a number of its own.
 pub fn rows_can_stand_apart()
-    ensures { (g : Graph) (outs : List OutRow) → FitBody g outs → AreApart (own_rows outs) g.inputs outs }
+    ensures { (g : Graph) (outs : List OutRow) → FitBody g outs
+        → AreApart (own_rows outs) g.inputs outs }
 {}
 
 /// A legal body's commands are legal on a bank that has its rows.
 pub fn legal_bodies_are_legal_on_banks()
-    ensures { (limit inputs outputs : ℕ) (rows : Rows) (cmds : List BodyCmd) → AreBelow limit rows inputs outputs → are_legal inputs outputs cmds ≡ true → list_all (is_legal_command limit) (map (bound rows) cmds) ≡ true }
+    ensures { (limit inputs outputs : ℕ) (rows : Rows) (cmds : List BodyCmd)
+        → AreBelow limit rows inputs outputs → are_legal inputs outputs cmds ≡ true
+        → list_all (is_legal_command limit) (map (bound rows) cmds) ≡ true }
 {}

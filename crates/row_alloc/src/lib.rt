@@ -1,6 +1,7 @@
 //! Row commands for the majority graph of a body.
 //!
-//! A body is what one round of a loop does: it reads some input rows, and leaves values in some output rows. An
+//! A body is what one round of a loop does: it reads some input rows, and leaves values in some
+//! output rows. An
 //! activation of three rows destroys its operands, so each is first copied into the bitwise cells.
 #![tactic(auto)]
 

@@ -1,7 +1,8 @@
 //! The commands of one node and of one output.
 
 ghost use Rattle.std.specs.Prelude.{◌≡◌, ◌<◌, ◌≤◌, ◌+◌, ℕ, length, false, ◌++◌, ◌∷◌, [], OnOk};
-ghost use Rattle.mig_graph.specs.Literals.{IsAnyOrder, IsLower, inversions, node_of, is_turned as turns};
+ghost use Rattle.mig_graph.specs.Literals.{IsAnyOrder, IsLower, inversions, node_of};
+ghost use Rattle.mig_graph.specs.Literals.{is_turned as turns};
 ghost use Rattle.mig_graph.specs.Graph.{node_at};
 ghost use Rattle.row_alloc.specs.Phases.{source_of, node_commands, stash_commands};
 
@@ -47,7 +48,8 @@ fn arrange(a: Lit, b: Lit, c: Lit) -> Node
     }
 }
 
-/// The literals of the graph's k-th majority node, in an order in which only the first may be inverted.
+/// The literals of the graph's k-th majority node, in an order in which only the first may be
+/// inverted.
 pub fn arranged(m: &Mig, k: u32) -> Node
     requires { k < length m.now.nodes }
     ensures order { let n = node_at m.now.nodes k in IsAnyOrder result n.a n.b n.c }

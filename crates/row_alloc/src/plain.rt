@@ -1,4 +1,5 @@
-//! The plain body: each node into a spill row, then each output into a spill row, then the outputs into their own rows.
+//! The plain body: each node into a spill row, then each output into a spill row, then the outputs
+//! into their own rows.
 //!
 //! So every input is read before any output is written, and an output may stand in an input's row.
 
@@ -26,7 +27,8 @@ fn node_count(m: &Mig) -> u32
 fn node_part(m: &Mig, alloc: Global) -> Result<Vec<BodyCmd>, NoMemory>
     requires inputs { m.now.inputs ≤ 80 }
     requires nodes { length m.now.nodes ≤ 32 }
-    ensures prepares { IfOk result (λ cmds. (outs : List OutRow) → Prepares m.now outs (length m.now.nodes) 0 cmds.items) }
+    ensures prepares { IfOk result (λ cmds. (outs : List OutRow)
+        → Prepares m.now outs (length m.now.nodes) 0 cmds.items) }
     ensures count { IfOk result (λ cmds. length cmds.items ≡ 4 * length m.now.nodes) }
 {
     let mut cmds = Vec::new(alloc);
@@ -41,8 +43,10 @@ fn node_part(m: &Mig, alloc: Global) -> Result<Vec<BodyCmd>, NoMemory>
 fn stash_part(m: &Mig, outs: &[OutRow], mut cmds: Vec<BodyCmd>) -> Result<Vec<BodyCmd>, NoMemory>
     requires fit { FitBody m.now outs.now }
     requires nodes { Prepares m.now outs.now (length m.now.nodes) 0 cmds.items }
-    ensures prepares { IfOk result (λ more. Prepares m.now outs.now (length m.now.nodes) (length outs.now) more.items) }
-    ensures count { IfOk result (λ more. length more.items + length outs.now ≡ length cmds.items + sum_by output_length outs.now) }
+    ensures prepares { IfOk result (λ more. Prepares m.now outs.now (length m.now.nodes)
+        (length outs.now) more.items) }
+    ensures count { IfOk result (λ more. length more.items + length outs.now
+        ≡ length cmds.items + sum_by output_length outs.now) }
 {
     let nodes = node_count(m) as u8;
     for (j, out) in outs.iter().enumerate() {
@@ -84,15 +88,18 @@ fn direct(m: &Mig, outs: &[OutRow], alloc: Global) -> Result<Vec<BodyCmd>, NoMem
 
 /// The commands that leave each output's value in its row.
 ///
-/// The B cells and the spill rows may hold anything at entry, and are left with anything. Only want of memory is an
+/// The B cells and the spill rows may hold anything at entry, and are left with anything. Only want
+/// of memory is an
 /// `Err`.
 pub fn plain_body(m: &Mig, outs: &[OutRow], alloc: Global) -> Result<Vec<BodyCmd>, NoMemory>
     requires fit { FitBody m.now outs.now }
     ensures does { IfOk result (λ cmds. DoesBody m.now outs.now cmds.items) }
     ensures late { IfOk result (λ cmds. WritesLate outs.now cmds.items) }
     ensures exact { IfOk result (λ cmds. length cmds.items ≡ plain_length m.now outs.now) }
-    ensures count { IfOk result (λ cmds. length cmds.items ≤ 4 * length m.now.nodes + 3 * length outs.now) }
-    ensures one { IfOk result (λ cmds. length m.now.nodes ≡ 0 → length outs.now ≡ 1 → turns (out_at outs.now 0).lit ≡ false → length cmds.items ≤ 1) }
+    ensures count { IfOk result (λ cmds. length cmds.items
+        ≤ 4 * length m.now.nodes + 3 * length outs.now) }
+    ensures one { IfOk result (λ cmds. length m.now.nodes ≡ 0 → length outs.now ≡ 1
+        → turns (out_at outs.now 0).lit ≡ false → length cmds.items ≤ 1) }
 {
     if node_count(m) == 0 && outs.len() == 1 && !is_turned(outs[0].lit) {
         return direct(m, outs, alloc);

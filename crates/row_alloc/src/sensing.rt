@@ -2,7 +2,9 @@
 
 ghost use Rattle.std.specs.Prelude.{◌≡◌, ◌+◌, true};
 ghost use Rattle.std.specs.List.{list_all};
-ghost use Rattle.row_alloc.specs.Symbolic.{lit_eq, are_twins, are_opposite, has_three, first_node, node_for, node_for_all, sense_three, sym_sense_lines, is_node as is_node_of};
+ghost use Rattle.row_alloc.specs.Symbolic.{lit_eq, are_twins, are_opposite, has_three, first_node};
+ghost use Rattle.row_alloc.specs.Symbolic.{node_for, node_for_all, sense_three, sym_sense_lines};
+ghost use Rattle.row_alloc.specs.Symbolic.{is_node as is_node_of};
 ghost use Rattle.row_alloc.specs.Table.{symbols_of, is_kept};
 
 use crate::table::Table;

@@ -1,14 +1,17 @@
 //! What each cell holds when a body is followed with literals in place of bits.
 
-ghost use Rattle.std.specs.Prelude.{◌≡◌, ◌≤◌, ◌+◌, ℕ, length, true, false, slice_index_or, nat_lt, if◌then◌else◌};
+ghost use Rattle.std.specs.Prelude.{◌≡◌, ◌≤◌, ◌+◌, ℕ, length, true, false, slice_index_or, nat_lt};
+ghost use Rattle.std.specs.Prelude.{if◌then◌else◌};
 ghost use Rattle.std.specs.List.{list_all};
-ghost use Rattle.row_alloc.specs.Symbolic.{turned_option, sym_read, sym_drive, sym_settle_lines, held as held_of, at_start};
+ghost use Rattle.row_alloc.specs.Symbolic.{turned_option, sym_read, sym_drive, sym_settle_lines};
+ghost use Rattle.row_alloc.specs.Symbolic.{held as held_of, at_start};
 ghost use Rattle.row_alloc.specs.Table.{symbols_of, is_kept};
 
 use dram_model::{Cell, Line};
 use mig_graph::{Lit, complement};
 
-/// What each cell holds: a literal or nothing. The data rows are a body's own: 80 for inputs, 8 for outputs and 32 to
+/// What each cell holds: a literal or nothing. The data rows are a body's own: 80 for inputs, 8 for
+/// outputs and 32 to
 /// spill.
 #[derive(Drop)]
 pub struct Table {
@@ -93,7 +96,8 @@ fn turn(inverted: bool, l: Option<Lit>) -> Option<Lit>
 fn fill_inputs(d: &mut [Option<Lit>], inputs: u8)
     requires long { inputs ≤ length d.old }
     requires empty { (n : ℕ) → slice_index_or d.old n None ≡ None }
-    ensures { (n : ℕ) → slice_index_or d.new n None ≡ (if nat_lt n inputs then Some (record { node = n + 1; inverted = false }) else None) }
+    ensures { (n : ℕ) → slice_index_or d.new n None
+        ≡ (if nat_lt n inputs then Some (record { node = n + 1; inverted = false }) else None) }
 {
     for k in 0..inputs {
         d[k as usize] = Some(Lit {

@@ -9,7 +9,8 @@ use std::alloc::Global;
 use std::process::Abort;
 use std::test::Fail;
 
-/// One column: inputs from D0 on, outputs that stand in no input's row from D4 on, spill rows from D32 on.
+/// One column: inputs from D0 on, outputs that stand in no input's row from D4 on, spill rows from
+/// D32 on.
 #[derive(Clone, Copy)]
 struct Column {
     t: [bool; 4],

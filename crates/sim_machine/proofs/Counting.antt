@@ -1,5 +1,6 @@
 -- What a microprogram counts.
-use Rattle.std.proofs.Common.{◌≡◌, ℕ, zero, suc, ◌+◌, ◌*◌, ◌<◌, ◌≤◌, List, [], ◌∷◌, ◌++◌, refl, sym, ◌∙◌, ap, subst, arith, add-one}
+use Rattle.std.proofs.Common.{◌≡◌, ℕ, zero, suc, ◌+◌, ◌*◌, ◌<◌, ◌≤◌, List, [], ◌∷◌, ◌++◌, refl, sym}
+use Rattle.std.proofs.Common.{◌∙◌, ap, subst, arith, add-one}
 use Rattle.std.specs.Prelude.{Ok, Err, flat_map, ◌^◌}
 use Rattle.std.specs.List.{range_with_len}
 use Rattle.std.proofs.Math.Nat.{suc-mul, mul-le-mul_right, mul-le-mul_left}
@@ -21,7 +22,8 @@ use Rattle.sim_machine.specs.Granted.{banks_events}
 use Rattle.sim_machine.specs.Image.{with_reads}
 use Rattle.sim_machine.proofs.Rows.{next_bank}
 
-pub counts_are : (t : Trace) (counts : Counts) → walked t ≡ Ok counts → counts_of (issues_of t) ≡ counts
+pub counts_are : (t : Trace) (counts : Counts) → walked t ≡ Ok counts
+    → counts_of (issues_of t) ≡ counts
 counts_are (Ended issues) counts e = cc
 counts_are (Stuck at why) counts e = cc
 
@@ -29,23 +31,31 @@ pub has_ended : (t : Trace) (counts : Counts) → walked t ≡ Ok counts → Has
 has_ended (Ended issues) counts e = tt
 has_ended (Stuck at why) counts e = absurd (cc)
 
-pub run_counts : (bank rows : ℕ) (m : Microprogram) (b : Binding) (counts : Counts) (k : Counters) → walked (trace m.shape m.code b.n) ≡ Ok counts → all_counted (trace_events bank rows m.shape m.code b) k ≡ with_counts k counts
+pub run_counts : (bank rows : ℕ) (m : Microprogram) (b : Binding) (counts : Counts) (k : Counters)
+    → walked (trace m.shape m.code b.n) ≡ Ok counts
+    → all_counted (trace_events bank rows m.shape m.code b) k ≡ with_counts k counts
 run_counts bank rows m b counts k e =
-    row_counted bank rows m.shape b.n (bound_of b) (issues_of (trace m.shape m.code b.n)) k ∙ ap (with_counts k) (counts_are (trace m.shape m.code b.n) counts e)
+    row_counted bank rows m.shape b.n (bound_of b) (issues_of (trace m.shape m.code b.n)) k
+    ∙ ap (with_counts k) (counts_are (trace m.shape m.code b.n) counts e)
 
 one_more : (x b c : ℕ) → x + b * c + c ≡ x + (b + 1) * c
 one_more x b c = rw (add-one b, suc-mul b c) (omega arith)
 
-pub next_counts : (k : Counters) (b : ℕ) (c : Counts) → with_counts (with_counts k (times b c)) c ≡ with_counts k (times (b + 1) c)
+pub next_counts : (k : Counters) (b : ℕ) (c : Counts)
+    → with_counts (with_counts k (times b c)) c ≡ with_counts k (times (b + 1) c)
 next_counts k b c = rw (one_more k.aap b c.aap, one_more k.ap b c.ap) refl
 
 -- one more bank runs the microprogram
-pub next_run : (rows : ℕ) (m : Microprogram) (b : Binding) (k : ℕ) (a : Shown) (banks new_banks : Banks) (counters new_counters : Counters) (log new_log : _) →
+pub next_run : (rows : ℕ) (m : Microprogram) (b : Binding) (k : ℕ) (a : Shown)
+    (banks new_banks : Banks) (counters new_counters : Counters) (log new_log : _) →
     Did (banks_events rows m b k) a (shown banks counters log) →
-    new_banks ≡ after (trace_events k rows m.shape m.code b) banks → new_counters ≡ all_counted (trace_events k rows m.shape m.code b) counters → Grew log new_log (trace_events k rows m.shape m.code b) →
+    new_banks ≡ after (trace_events k rows m.shape m.code b) banks
+    → new_counters ≡ all_counted (trace_events k rows m.shape m.code b) counters
+    → Grew log new_log (trace_events k rows m.shape m.code b) →
     Did (banks_events rows m b (k + 1)) a (shown new_banks new_counters new_log)
 next_run rows m b k a banks new_banks counters new_counters log new_log d e f h =
-    next_bank (λ bank. trace_events bank rows m.shape m.code b) k a (shown banks counters log) (shown new_banks new_counters new_log) d (record { banks = e; counters = f; log = h })
+    next_bank (λ bank. trace_events bank rows m.shape m.code b) k a (shown banks counters log)
+    (shown new_banks new_counters new_log) d (record { banks = e; counters = f; log = h })
 
 -- at most 16 banks of at most so many commands each
 pub few_counts : (x b c : ℕ) → x < 2 ^ 61 → b < 16 → c ≤ WALK_MAX → x + b * c < 2 ^ 62
@@ -56,7 +66,8 @@ few_counts x b c h l k =
     omega (arith, up, up')
 
 -- so many reads, and so many more
-pub reads_more : (m n k : ℕ) (c : Counters) → m + n ≡ k → with_reads n (with_reads m c) ≡ with_reads k c
+pub reads_more : (m n k : ℕ) (c : Counters) → m + n ≡ k
+    → with_reads n (with_reads m c) ≡ with_reads k c
 reads_more m n k c e = rw sum refl where
   sum : c.reads + m + n ≡ c.reads + k
   sum = omega (arith, e)

@@ -1,5 +1,7 @@
 -- A bbop that is granted.
-use Rattle.std.proofs.Common.{◌≡◌, ℕ, zero, suc, ◌+◌, ◌*◌, ◌<◌, ◌≤◌, Bool, true, false, cond, List, [], ◌∷◌, ◌++◌, map, length, refl, sym, ◌∙◌, ap, subst, arith, Some, None, append-nil}
+use Rattle.std.proofs.Common.{◌≡◌, ℕ, zero, suc, ◌+◌, ◌*◌, ◌<◌, ◌≤◌, Bool, true, false, cond, List}
+use Rattle.std.proofs.Common.{[], ◌∷◌, ◌++◌, map, length, refl, sym, ◌∙◌, ap, subst, arith, Some}
+use Rattle.std.proofs.Common.{None, append-nil}
 use Rattle.std.specs.Prelude.{All, Ok, Option, unwrap_or, flat_map, ◌||◌}
 use Rattle.std.specs.List.{range_with_len, find, AllByRecursion}
 use Rattle.std.specs.Option.{option_map}
@@ -9,7 +11,7 @@ use Rattle.dram_model.specs.declared.geometry.Geometry.{Geometry}
 use Rattle.dram_model.specs.Chip.{Event}
 use Rattle.dram_model.specs.Events.{row_events}
 use Rattle.uprog_code.specs.declared.binding.Binding.{Binding}
-use Rattle.uprog_code.specs.Shape.{Microprogram, need}
+use Rattle.uprog_code.specs.Shape.{Microprogram, need, results}
 use Rattle.uprog_code.specs.Machine.{trace, issues_of}
 use Rattle.uprog_code.specs.Bound.{Bound, bound, bound_of}
 use Rattle.uprog_code.specs.Fits.{Fits}
@@ -24,12 +26,17 @@ use Rattle.machine_model.specs.declared.Reply.TheVariants.{Done, Refused}
 use Rattle.machine_model.specs.declared.Why.{Why}
 use Rattle.machine_model.specs.declared.Why.TheVariants as why
 use Rattle.machine_model.specs.Operations.{Operation, Operations, operation_of, operations_in}
-use Rattle.machine_model.specs.Refusals.{nothing, object_named, first, bbop_conditions, bbop_refusal, refusal}
-use Rattle.machine_model.specs.Steps.{Held, table_of, base_for, binding, times, issues_at, bound_at, job_of, job_events, events_of, if_done, reply_to, reply_by, counts_for}
-use Rattle.machine_model.proofs.Facts.{IsGood, good}
-use Rattle.machine_model.proofs.Bbops.{binding_fits}
+use Rattle.machine_model.specs.Refusals.{nothing, object_named, first, bbop_conditions}
+use Rattle.machine_model.specs.Refusals.{bbop_refusal, refusal, dsts_in, srcs_in}
+use Rattle.machine_model.specs.Steps.{Held, table_of, base_for, binding, times, issues_at, bound_at}
+use Rattle.machine_model.specs.Steps.{job_of, job_events, events_of, if_done, reply_to, reply_by}
+use Rattle.machine_model.specs.Steps.{counts_for}
+use Rattle.machine_model.proofs.Facts.{AreOperands, none, more, IsGood, good}
+use Rattle.op_text.specs.declared.tree.Kind.{Kind}
+use Rattle.machine_model.proofs.Bbops.{binding_fits, operand_at}
 use Rattle.sim_machine.specs.declared.refusal.Grant.{Grant}
-use Rattle.sim_machine.specs.Granted.{IsGranted, banks_events, granted_events, granted_counts, instr_events}
+use Rattle.sim_machine.specs.Granted.{IsGranted, banks_events, granted_events, granted_counts}
+use Rattle.sim_machine.specs.Granted.{instr_events}
 use Rattle.sim_machine.specs.Did.{Did, Shown, Did-none}
 use Rattle.sim_machine.proofs.Counting.{counts_are}
 
@@ -37,36 +44,65 @@ use Rattle.sim_machine.proofs.Counting.{counts_are}
 still : Named → Held
 still p = record { name = p.0; object = p.1; numbers = [] }
 
-still_table : (table : List Named) → table_of (map (λ (p : Named). record { name = p.0; object = p.1; numbers = [] }) table) ≡ table
+still_table : (table : List Named)
+    → table_of (map (λ (p : Named). record { name = p.0; object = p.1; numbers = [] }) table)
+    ≡ table
 still_table [] = refl
 still_table (p ∷ table) = ap (λ rest. p ∷ rest) (still_table table)
 
-pub fits_at : (g : Geometry) (table : List Named) (o : Operation) (dst : List ℕ) (srcs : List (List ℕ)) (count n : ℕ) → IsTable (limit_of g) table → first (bbop_conditions (limit_of g) table o dst srcs count n) ≡ None → Fits g.rows o.shape n (binding g table o.shape dst srcs n)
+pub fits_at : (g : Geometry) (table : List Named) (o : Operation) (dst : List ℕ)
+    (srcs : List (List ℕ)) (count n : ℕ) → IsTable (limit_of g) table
+    → first (bbop_conditions (limit_of g) table o (dst ∷ srcs) count n) ≡ None
+    → Fits g.rows o.shape n (binding g table o.shape (dst ∷ srcs) n)
 fits_at g table o dst srcs count n listed allowed =
-    let state = map (λ (p : Named). let h : Held = record { name = p.0; object = p.1; numbers = [] } in h) table in
+    let state = map (λ (p : Named). let h : Held = record {
+      name = p.0;
+      object = p.1;
+      numbers = [];
+    } in h) table in
     let is = still_table table in
-    let whole = binding_fits g state o dst srcs count n (subst (IsTable (limit_of g)) (sym is) listed) (good g (table_of state) o dst srcs count n (subst (λ t. first (bbop_conditions (limit_of g) t o dst srcs count n) ≡ None) (sym is) allowed)) in
-    subst (λ t. Fits g.rows o.shape n (binding g t o.shape dst srcs n)) is whole
+    let whole = binding_fits g state o (dst ∷ srcs) count n
+    (subst (IsTable (limit_of g)) (sym is) listed)
+    (good g (table_of state) o (dst ∷ srcs) count n
+    (subst (λ t. first (bbop_conditions (limit_of g) t o (dst ∷ srcs) count n)
+    ≡ None) (sym is) allowed)) in
+    subst (λ t. Fits g.rows o.shape n (binding g t o.shape (dst ∷ srcs) n)) is whole
 
-found_case : (P : Object → Type 0) (p : Named) (rest : Option Named) (b r : Bool) → (b || r) ≡ true → P p.1 → (r ≡ true → P (unwrap_or (option_map (λ q. q.1) rest) nothing)) → P (unwrap_or (option_map (λ q. q.1) (cond b (Some p) rest)) nothing)
+found_case : (P : Object → Type 0) (p : Named) (rest : Option Named) (b r : Bool) → (b || r) ≡ true
+    → P p.1 → (r ≡ true → P (unwrap_or (option_map (λ q. q.1) rest) nothing))
+    → P (unwrap_or (option_map (λ q. q.1) (cond b (Some p) rest)) nothing)
 found_case P p rest true r h here there = here
 found_case P p rest false r h here there = there h
 
-found_object : (P : Object → Type 0) (table : List Named) (name : List ℕ) → has_name table name ≡ true → All (λ named. P named.1) table → P (object_named table name)
+found_object : (P : Object → Type 0) (table : List Named) (name : List ℕ)
+    → has_name table name ≡ true → All (λ named. P named.1) table → P (object_named table name)
 found_object P [] name h all = absurd (cc)
 found_object P (p ∷ table) name h all =
     found_case P p (find (λ q. bytes_eq q.0 name) table) (bytes_eq p.0 name) (has_name table name) h
-    (All-head (λ (named : Named). P named.1) p table all) (λ e. found_object P table name e (All-tail (λ (named : Named). P named.1) p table all))
+    (All-head (λ (named : Named). P named.1) p table all) (λ e.
+    found_object P table name e (All-tail (λ (named : Named). P named.1) p table all))
 
-pub object_fits : (g : Geometry) (table : List Named) (o : Operation) (dst : List ℕ) (srcs : List (List ℕ)) (count n : ℕ) → All (λ named. IsObject g named.1) table → first (bbop_conditions (limit_of g) table o dst srcs count n) ≡ None → IsObject g (object_named table dst)
-object_fits g table o dst srcs count n all allowed = found_object (IsObject g) table dst (good g table o dst srcs count n allowed).present all
+pub object_fits : (g : Geometry) (table : List Named) (o : Operation) (dst : List ℕ)
+    (srcs : List (List ℕ)) (count n : ℕ) → All (λ named. IsObject g named.1) table
+    → first (bbop_conditions (limit_of g) table o (dst ∷ srcs) count n) ≡ None
+    → IsObject g (object_named table dst)
+object_fits g table o dst srcs count n all allowed =
+    found_object (IsObject g) table dst (operand_at table count n (results o.shape)
+    (dsts_in o.shape (dst ∷ srcs)) 0 (omega arith)
+    (good g table o (dst ∷ srcs) count n allowed).destinations).0 all
 
-same_bound : (b : Bound) (result : ℕ) (sources : List ℕ) (scratch : ℕ) → b.result ≡ result → b.sources ≡ sources → b.scratch ≡ scratch → b ≡ record { result = result; sources = sources; scratch = scratch }
+same_bound : (b : Bound) (result : List ℕ) (sources : List ℕ) (scratch : ℕ) → b.results ≡ result
+    → b.sources ≡ sources → b.scratch ≡ scratch
+    → b ≡ record { results = result; sources = sources; scratch = scratch }
 same_bound b result sources scratch e f h = rw (← e, ← f, ← h) refl
 
-pub bound_is : (g : Geometry) (limit : ℕ) (table : List Named) (m : Microprogram) (dst : List ℕ) (srcs : List (List ℕ)) (n : ℕ) (b : Binding) (grant : Grant) → limit ≡ limit_of g
-    → (bound_of b).result ≡ (object_named table dst).base → (bound_of b).sources ≡ map (λ name. (object_named table name).base) srcs → (bound_of b).scratch ≡ grant.scratch
-    → IsGranted limit table m n grant → bound_of b ≡ binding g table m.shape dst srcs n
+pub bound_is : (g : Geometry) (limit : ℕ) (table : List Named) (m : Microprogram) (dst : List ℕ)
+    (srcs : List (List ℕ)) (n : ℕ) (b : Binding) (grant : Grant) → limit ≡ limit_of g
+    → (bound_of b).results ≡ map (λ name. (object_named table name).base)
+    (dsts_in m.shape (dst ∷ srcs)) → (bound_of b).sources
+    ≡ map (λ name. (object_named table name).base) (srcs_in m.shape (dst ∷ srcs))
+    → (bound_of b).scratch ≡ grant.scratch
+    → IsGranted limit table m n grant → bound_of b ≡ binding g table m.shape (dst ∷ srcs) n
 bound_is g limit table m dst srcs n b grant l e f h i =
     same_bound (bound_of b) _ _ _ e f (h ∙ based) where
       at_limit : free (limit_of g) (objects_of table) (need m.shape n) ≡ Some grant.scratch
@@ -75,58 +111,109 @@ bound_is g limit table m dst srcs n b grant l e f h i =
       based : grant.scratch ≡ base_for g table (need m.shape n)
       based = ap (λ o. unwrap_or o 0) (sym at_limit)
 
-pub binding_is_fit : (g : Geometry) (table : List Named) (m : Microprogram) (dst : List ℕ) (srcs : List (List ℕ)) (count n rows width : ℕ) (b : Bound) → IsTable (limit_of g) table
-    → first (bbop_conditions (limit_of g) table (operation_of m) dst srcs count n) ≡ None → b ≡ binding g table m.shape dst srcs n → rows ≡ g.rows → width ≡ n → Fits rows m.shape width b
+pub binding_is_fit : (g : Geometry) (table : List Named) (m : Microprogram) (dst : List ℕ)
+    (srcs : List (List ℕ)) (count n rows width : ℕ) (b : Bound) → IsTable (limit_of g) table
+    → first (bbop_conditions (limit_of g) table (operation_of m) (dst ∷ srcs) count n) ≡ None
+    → b ≡ binding g table m.shape (dst ∷ srcs) n → rows ≡ g.rows → width ≡ n
+    → Fits rows m.shape width b
 binding_is_fit g table m dst srcs count n rows width b listed allowed e f h =
     rw (e, f, h) (fits_at g table (operation_of m) dst srcs count n listed allowed)
 
 abbrev ran : ℕ → Microprogram → ℕ → ℕ → Bound → List Event
-ran rows m k n b = flat_map (λ bank. row_events bank (bound rows m.shape n b (issues_of (trace m.shape m.code n)))) (range_with_len 0 k)
+ran rows m k n b =
+    flat_map (λ bank. row_events bank (bound rows m.shape n b (issues_of (trace m.shape m.code n))))
+    (range_with_len 0 k)
 
-pub events_are : (g : Geometry) (table : List Named) (m : Microprogram) (dst : List ℕ) (srcs : List (List ℕ)) (n rows : ℕ) (b : Binding) → rows ≡ g.rows → b.n ≡ n → bound_of b ≡ binding g table m.shape dst srcs n
-    → banks_events rows m b (segments g (object_named table dst)) ≡ granted_events g table m dst srcs n
+pub events_are : (g : Geometry) (table : List Named) (m : Microprogram) (dst : List ℕ)
+    (srcs : List (List ℕ)) (n rows : ℕ) (b : Binding) → rows ≡ g.rows → b.n ≡ n
+    → bound_of b ≡ binding g table m.shape (dst ∷ srcs) n
+    → banks_events rows m b (segments g (object_named table dst))
+    ≡ granted_events g table m dst srcs n
 events_are g table m dst srcs n rows b e f h =
     ap (λ r. ran r m (segments g (object_named table dst)) b.n (bound_of b)) e
     ∙ ap (λ w. ran g.rows m (segments g (object_named table dst)) w (bound_of b)) f
     ∙ ap (ran g.rows m (segments g (object_named table dst)) n) h
 
 -- what a bbop comes to, by whether its operation is found and why it is refused
-pub refused_reply : (g : Geometry) (operations : Operations) (table : List Named) (instr : Instruction) (why : Why) → refusal g operations table instr ≡ Some why → Refused why ≡ reply_to g operations table instr
-refused_reply g operations table instr why e = ap (λ r. reply_by r (counts_for g operations table instr)) (sym e)
+pub refused_reply : (g : Geometry) (operations : Operations) (table : List Named)
+    (instr : Instruction) (why : Why) → refusal g operations table instr ≡ Some why
+    → Refused why ≡ reply_to g operations table instr
+refused_reply g operations table instr why e =
+    ap (λ r. reply_by r (counts_for g operations table instr)) (sym e)
 
-pub refused_did : (g : Geometry) (operations : Operations) (table : List Named) (instr : Instruction) (why : Why) (chip : Shown) → refusal g operations table instr ≡ Some why → Did (instr_events g operations table instr) chip chip
+pub refused_did : (g : Geometry) (operations : Operations) (table : List Named)
+    (instr : Instruction) (why : Why) (chip : Shown) → refusal g operations table instr ≡ Some why
+    → Did (instr_events g operations table instr) chip chip
 refused_did g operations table instr why chip e = rw e (Did-none chip)
 
-pub no_op : (g : Geometry) (program : List Microprogram) (table : List Named) (op dst : List ℕ) (srcs : List (List ℕ)) (count n : ℕ) → None ≡ find (λ m. bytes_eq m.name op) program → refusal g (operations_in program) table (Bbop op dst srcs count n) ≡ Some why.NoOp
-no_op g program table op dst srcs count n e = ap (λ o. bbop_refusal g table (option_map operation_of o) dst srcs count n) (sym e)
+pub no_op : (g : Geometry) (program : List Microprogram) (table : List Named) (op dst : List ℕ)
+    (srcs : List (List ℕ)) (count n : ℕ) → None ≡ find (λ m. bytes_eq m.name op) program
+    → refusal g (operations_in program) table (Bbop op dst srcs count n) ≡ Some why.NoOp
+no_op g program table op dst srcs count n e =
+    ap (λ o. bbop_refusal g table (option_map operation_of o) (dst ∷ srcs) count n) (sym e)
 
-pub refusal_at : (g : Geometry) (limit : ℕ) (program : List Microprogram) (m : Microprogram) (table : List Named) (op dst : List ℕ) (srcs : List (List ℕ)) (count n : ℕ) (r : Option Why) → limit ≡ limit_of g → Some m ≡ find (λ m. bytes_eq m.name op) program
-    → first (bbop_conditions limit table (operation_of m) dst srcs count n) ≡ r → refusal g (operations_in program) table (Bbop op dst srcs count n) ≡ r
+pub refusal_at : (g : Geometry) (limit : ℕ) (program : List Microprogram) (m : Microprogram)
+    (table : List Named) (op dst : List ℕ) (srcs : List (List ℕ)) (count n : ℕ) (r : Option Why)
+    → limit ≡ limit_of g → Some m ≡ find (λ m. bytes_eq m.name op) program
+    → first (bbop_conditions limit table (operation_of m) (dst ∷ srcs) count n) ≡ r
+    → refusal g (operations_in program) table (Bbop op dst srcs count n) ≡ r
 refusal_at g limit program m table op dst srcs count n r l e h =
-    ap (λ o. bbop_refusal g table (option_map operation_of o) dst srcs count n) (sym e)
-    ∙ ap (λ k. first (bbop_conditions k table (operation_of m) dst srcs count n)) (sym l) ∙ h
+    ap (λ o. bbop_refusal g table (option_map operation_of o) (dst ∷ srcs) count n) (sym e)
+    ∙ ap (λ k. first (bbop_conditions k table (operation_of m) (dst ∷ srcs) count n)) (sym l) ∙ h
 
-pub done_reply : (g : Geometry) (program : List Microprogram) (m : Microprogram) (table : List Named) (op dst : List ℕ) (srcs : List (List ℕ)) (count n : ℕ) → Some m ≡ find (λ m. bytes_eq m.name op) program
+pub done_reply : (g : Geometry) (program : List Microprogram) (m : Microprogram)
+    (table : List Named) (op dst : List ℕ) (srcs : List (List ℕ)) (count n : ℕ)
+    → Some m ≡ find (λ m. bytes_eq m.name op) program
     → refusal g (operations_in program) table (Bbop op dst srcs count n) ≡ None
-    → Done (granted_counts g table m dst n) ≡ reply_to g (operations_in program) table (Bbop op dst srcs count n)
+    → Done (granted_counts g table m dst n) ≡ reply_to g (operations_in program) table
+    (Bbop op dst srcs count n)
 done_reply g program m table op dst srcs count n e h =
-    ap (λ o. Done (times (segments g (object_named table dst)) (counts_of (issues_at (option_map operation_of o) n)))) e
-    ∙ ap (λ r. reply_by r (counts_for g (operations_in program) table (Bbop op dst srcs count n))) (sym h)
+    ap (λ o. Done (times (segments g (object_named table dst))
+    (counts_of (issues_at (option_map operation_of o) n)))) e
+    ∙ ap (λ r. reply_by r (counts_for g (operations_in program) table (Bbop op dst srcs count n)))
+    (sym h)
 
-pub done_events : (g : Geometry) (program : List Microprogram) (m : Microprogram) (table : List Named) (op dst : List ℕ) (srcs : List (List ℕ)) (count n : ℕ) → Some m ≡ find (λ m. bytes_eq m.name op) program
+pub done_events : (g : Geometry) (program : List Microprogram) (m : Microprogram)
+    (table : List Named) (op dst : List ℕ) (srcs : List (List ℕ)) (count n : ℕ)
+    → Some m ≡ find (λ m. bytes_eq m.name op) program
     → refusal g (operations_in program) table (Bbop op dst srcs count n) ≡ None
-    → instr_events g (operations_in program) table (Bbop op dst srcs count n) ≡ granted_events g table m dst srcs n
+    → instr_events g (operations_in program) table (Bbop op dst srcs count n)
+    ≡ granted_events g table m dst srcs n
 done_events g program m table op dst srcs count n e h =
     ap (λ r. if_done r (events_of g (operations_in program) table (Bbop op dst srcs count n)) []) h
     ∙ append-nil (job_events (job_of g (operations_in program) table (Bbop op dst srcs count n)))
-    ∙ ap (λ o. job_events (record { commands = bound_at g table (option_map operation_of o) dst srcs n; banks = segments g (object_named table dst) })) (sym e)
+    ∙ ap (λ o. job_events (record {
+      commands = bound_at g table (option_map operation_of o) (dst
+          ∷ srcs) n;
+      banks = segments g (object_named table dst);
+    })) (sym e)
 
-found_case_of : {X : Type 0} (P : X → Type 0) (x m : X) (rest : Option X) (b : Bool) → Some m ≡ cond b (Some x) rest → P x → (Some m ≡ rest → P m) → P m
+found_case_of : {X : Type 0} (P : X → Type 0) (x m : X) (rest : Option X) (b : Bool)
+    → Some m ≡ cond b (Some x) rest → P x → (Some m ≡ rest → P m) → P m
 found_case_of P x m rest true e here there = subst P (sym same) here where
   same : m ≡ x
   same = cc
 found_case_of P x m rest false e here there = there e
 
-pub found_holds : {X : Type 0} (P : X → Type 0) (p : X → Bool) (xs : List X) (m : X) → AllByRecursion P xs → Some m ≡ find p xs → P m
+pub found_holds : {X : Type 0} (P : X → Type 0) (p : X → Bool) (xs : List X) (m : X)
+    → AllByRecursion P xs → Some m ≡ find p xs → P m
 found_holds P p [] m all e = absurd (cc)
-found_holds P p (x ∷ xs) m all e = found_case_of P x m (find p xs) (p x) e all.0 (λ f. found_holds P p xs m all.1 f)
+found_holds P p (x ∷ xs) m all e = found_case_of P x m (find p xs) (p x) e all.0 (λ f.
+    found_holds P p xs m all.1 f)
+
+-- as many sources as the operation has
+pub few_sources : (g : Geometry) (table : List Named) (o : Operation) (dst : List ℕ)
+    (srcs : List (List ℕ)) (count n : ℕ)
+    → first (bbop_conditions (limit_of g) table o (dst ∷ srcs) count n) ≡ None
+    → length (srcs_in o.shape (dst ∷ srcs)) ≡ length o.shape.sources
+few_sources g table o dst srcs count n allowed =
+    same_length table count n o.shape.sources (srcs_in o.shape (dst ∷ srcs))
+    (good g table o (dst ∷ srcs) count n allowed).sources
+  where
+    same_length : (table : List Named) (count n : ℕ) (ks : List Kind) (xs : List (List ℕ))
+        → AreOperands table count n ks xs → length xs ≡ length ks
+    same_length table count n [] [] none = refl
+    same_length table count n [] (x ∷ xs) h = elim h [ ]
+    same_length table count n (k ∷ ks) [] h = elim h [ ]
+    same_length table count n (k ∷ ks) (x ∷ xs) (more _ _ _ _ op rest) = let e =
+        same_length table count n ks xs rest in omega (arith, e)

@@ -31,6 +31,7 @@ Did-none chip = record { banks = refl; counters = refl; log = told_same chip.log
 pub Did-more : (es fs : List Event) (a b c : Shown) → Did es a b → Did fs b c → Did (es ++ fs) a c
 Did-more es fs a b c d e = record {
   banks = e.banks ∙ ap (after fs) d.banks ∙ sym (after-append es fs a.banks);
-  counters = e.counters ∙ ap (all_counted fs) d.counters ∙ sym (all_counted-append es fs a.counters);
+  counters = e.counters ∙ ap (all_counted fs) d.counters
+      ∙ sym (all_counted-append es fs a.counters);
   log = Grew-more a.log b.log c.log es fs d.log e.log;
 }

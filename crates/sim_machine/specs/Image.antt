@@ -12,4 +12,5 @@ with_reads n counters = record counters { reads = counters.reads + n }
 
 -- the first k rows of a bank, upwards
 abbrev pub bank_bytes : Geometry → Banks → ℕ → ℕ → List ℕ
-bank_bytes g banks bank k = flat_map (λ row. bytes_of_bits (8 * g.words) (row_in row (banks bank))) (range_with_len 0 k)
+bank_bytes g banks bank k = flat_map (λ row. bytes_of_bits (8 * g.words) (row_in row (banks bank)))
+    (range_with_len 0 k)

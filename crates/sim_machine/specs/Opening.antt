@@ -8,7 +8,8 @@ use Rattle.object_alloc.specs.Spelling.{rows_in}
 
 -- the rows of one bank, upwards
 abbrev pub bank_writes : Geometry → List ℕ → ℕ → List Event
-bank_writes g rows bank = map (λ row. Write bank row (rows_in g rows bank row)) (range_with_len 0 g.rows)
+bank_writes g rows bank = map (λ row. Write bank row (rows_in g rows bank row))
+    (range_with_len 0 g.rows)
 
 -- bank by bank
 abbrev pub all_writes : Geometry → List ℕ → List Event

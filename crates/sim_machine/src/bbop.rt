@@ -1,8 +1,9 @@
 //! A bbop on the banks of its destination.
 
-ghost use Rattle.std.specs.Prelude.{◌≡◌, ◌+◌, ◌*◌, ◌<◌, ◌≤◌, ◌^◌, length, map, Some, None, Ok, OnOk, OnErr, IfOk, IfSome, true};
+ghost use Rattle.std.specs.Prelude.{◌≡◌, ◌+◌, ◌*◌, ◌<◌, ◌≤◌, ◌^◌, ◌∷◌, ℕ, List, length, map, Some};
+ghost use Rattle.std.specs.Prelude.{None, Ok, OnOk, OnErr, IfOk, IfSome, true};
 ghost use Rattle.std.specs.List.{find};
-ghost use Rattle.std.specs.Option.{option_map};
+ghost use Rattle.std.specs.Option.{option_map, option_to_list};
 ghost use Rattle.std.specs.Str.{bytes_eq};
 ghost use Rattle.dram_model.specs.Chip.{Rose};
 ghost use Rattle.uprog_code.specs.Shape.{shape_of, microprogram_of};
@@ -13,27 +14,30 @@ ghost use Rattle.uprog_code.specs.Fits.{Fits};
 ghost use Rattle.uprog_code.specs.Legal.{IsLegalCode};
 ghost use Rattle.object_alloc.specs.Spelling.{IsObject};
 ghost use Rattle.machine_model.specs.Columns.{segments};
-ghost use Rattle.machine_model.specs.Refusals.{bbop_conditions, first, object_named};
+ghost use Rattle.machine_model.specs.Refusals.{bbop_conditions, first, object_named, dsts_in};
+ghost use Rattle.machine_model.specs.Refusals.{srcs_in};
 ghost use Rattle.machine_model.specs.Script.{with_counts};
 ghost use Rattle.machine_model.specs.Steps.{reply_to, times};
 ghost use Rattle.sim_machine.specs.Did.{Did, shown};
 ghost use Rattle.machine_model.specs.declared.Reply.{Reply};
 ghost use Rattle.machine_model.specs.Operations.{operation_of, operations_in};
-ghost use Rattle.sim_machine.specs.Granted.{IsGranted, IsSetting, banks_events, granted_counts, granted_events, instr_events, said_bbop};
+ghost use Rattle.sim_machine.specs.Granted.{IsGranted, IsSetting, banks_events, granted_counts};
+ghost use Rattle.sim_machine.specs.Granted.{granted_events, instr_events, said_bbop};
 
-use crate::refusal::{Bbop, Grant, allow, object_named};
+use crate::refusal::{Bbop, Grant, allow, object_named, sources_of};
 use arrayvec::ArrayVec;
 use bit_rows::WIDTH_MAX;
 use dram_model::{ChipFault, Dram, Geometry};
 use machine_model::{Reply, Why};
 use object_alloc::{Object, Table};
 use text_lex::Name;
-use uprog_code::{Binding, Counts, EntryCode, WALK_MAX};
+use uprog_code::{Binding, Counts, EntryCode, Head, Kind, WALK_MAX};
 use uprog_ctl::run;
 
 /// The entry of this name.
 pub(crate) fn entry_named<'a>(entries: &'a [EntryCode], op: &Name) -> Option<&'a EntryCode>
-    ensures value { option_map (λ e. microprogram_of e.now) result ≡ find (λ m. bytes_eq m.name op.now) (map microprogram_of entries.now) }
+    ensures value { option_map (λ e. microprogram_of e.now) result
+        ≡ find (λ m. bytes_eq m.name op.now) (map microprogram_of entries.now) }
 {
     for entry in entries {
         if entry.head.name == *op {
@@ -54,8 +58,9 @@ pub(crate) fn segments(g: Geometry, o: Object) -> u16
 }
 
 /// The first rows of the sources.
-fn bases(table: &Table, srcs: &[Name]) -> ArrayVec<u16, 4>
-    requires { length srcs.now ≤ 4 }
+fn bases(table: &Table, kinds: &[Kind], srcs: &[Name]) -> ArrayVec<u16, 4>
+    requires few { length kinds.now ≤ 4 }
+    requires each { length srcs.now ≡ length kinds.now }
     ensures { result.items ≡ map (λ name. (object_named table.now.pairs name).base) srcs.now }
 {
     let mut bases = ArrayVec::new();
@@ -65,18 +70,40 @@ fn bases(table: &Table, srcs: &[Name]) -> ArrayVec<u16, 4>
     bases
 }
 
+/// The first row of the second destination, where there are two results.
+fn second_base(table: &Table, head: &Head, srcs: &[Name]) -> Option<u16>
+    ensures { (dst : List ℕ) → (object_named table.now.pairs dst).base ∷ option_to_list result
+        ≡ map (λ name. (object_named table.now.pairs name).base)
+        (dsts_in (shape_of head.now) (dst ∷ srcs.now)) }
+{
+    match (head.second, srcs) {
+        (Some(_), [second, ..]) => Some(object_named(table, second).base),
+        _ => None,
+    }
+}
+
 /// Where the operation's rows lie: those of its objects, and the scratch that it was granted.
-pub(crate) fn bind(table: &Table, bbop: &Bbop<'_>, scratch: u16) -> Binding
-    requires { length bbop.now.srcs.now ≤ 4 }
+pub(crate) fn bind(table: &Table, head: &Head, bbop: &Bbop<'_>, scratch: u16) -> Binding
+    requires { length (srcs_in (shape_of head.now) (bbop.now.dst.now ∷ bbop.now.srcs.now))
+        ≡ length head.now.sources.items }
     ensures width { result.n ≡ bbop.now.n }
-    ensures result { (bound_of result).result ≡ (object_named table.now.pairs bbop.now.dst.now).base }
-    ensures sources { (bound_of result).sources ≡ map (λ name. (object_named table.now.pairs name).base) bbop.now.srcs.now }
+    ensures results { (bound_of result).results
+        ≡ map (λ name. (object_named table.now.pairs name).base)
+        (dsts_in (shape_of head.now) (bbop.now.dst.now ∷ bbop.now.srcs.now)) }
+    ensures sources { (bound_of result).sources
+        ≡ map (λ name. (object_named table.now.pairs name).base)
+        (srcs_in (shape_of head.now) (bbop.now.dst.now ∷ bbop.now.srcs.now)) }
     ensures scratch { (bound_of result).scratch ≡ scratch }
 {
     Binding {
         n: bbop.n,
         result: object_named(table, bbop.dst).base,
-        sources: bases(table, bbop.srcs),
+        second: second_base(table, head, bbop.srcs),
+        sources: bases(
+            table,
+            head.sources.as_slice(),
+            sources_of(bbop.dst, head, bbop.srcs),
+        ),
         scratch,
     }
 }
@@ -95,8 +122,10 @@ pub(crate) fn run_banks<D: Dram>(
     requires legal { IsLegalCode (shape_of entry.now.head) entry.now.code.items }
     requires some { 0 < binding.now.n }
     requires narrow { binding.now.n ≤ WIDTH_MAX }
-    requires fits { Fits (D.geometry dram.old).rows (shape_of entry.now.head) binding.now.n (bound_of binding.now) }
-    requires walks { walked (trace (shape_of entry.now.head) entry.now.code.items binding.now.n) ≡ Ok counts }
+    requires fits { Fits (D.geometry dram.old).rows (shape_of entry.now.head) binding.now.n
+        (bound_of binding.now) }
+    requires walks { walked (trace (shape_of entry.now.head) entry.now.code.items binding.now.n)
+        ≡ Ok counts }
     requires few { counts.aap + counts.ap ≤ WALK_MAX }
     requires aap_room { (D.counters dram.old).aap < 2 ^ 61 }
     requires ap_room { (D.counters dram.old).ap < 2 ^ 61 }
@@ -104,8 +133,12 @@ pub(crate) fn run_banks<D: Dram>(
     ensures borrow { D.borrow dram.new ≡ D.borrow dram.old }
     ensures geometry { D.geometry dram.new ≡ D.geometry dram.old }
     ensures faults { D.faults dram.old ≤ D.faults dram.new }
-    ensures did { OnOk result (Did (banks_events (D.geometry dram.old).rows (microprogram_of entry.now) binding.now banks) (shown (D.banks dram.old) (D.counters dram.old) (D.log dram.old)) (shown (D.banks dram.new) (D.counters dram.new) (D.log dram.new))) }
-    ensures counters { OnOk result (D.counters dram.new ≡ with_counts (D.counters dram.old) (times banks counts)) }
+    ensures did
+        { OnOk result (Did (banks_events (D.geometry dram.old).rows (microprogram_of entry.now)
+        binding.now banks) (shown (D.banks dram.old) (D.counters dram.old) (D.log dram.old))
+        (shown (D.banks dram.new) (D.counters dram.new) (D.log dram.new))) }
+    ensures counters { OnOk result (D.counters dram.new
+        ≡ with_counts (D.counters dram.old) (times banks counts)) }
     ensures rose { OnErr result (Rose (D.faults dram.old) (D.faults dram.new)) }
 {
     for bank in 0..banks {
@@ -144,26 +177,37 @@ fn run_granted<D: Dram>(
 ) -> Result<Reply, ChipFault>
     requires begun { D.begun dram.old }
     requires geometry { D.geometry dram.old ≡ setting.now.geometry }
-    requires set { IsSetting setting.now.geometry setting.now.table.now (map microprogram_of setting.now.entries.now) }
-    requires few { length bbop.now.srcs.now ≤ 4 }
+    requires set { IsSetting setting.now.geometry setting.now.table.now
+        (map microprogram_of setting.now.entries.now) }
+    requires few { length bbop.now.srcs.now ≤ 5 }
     requires legal { IsLegalCode (shape_of entry.now.head) entry.now.code.items }
     requires some { 0 < bbop.now.n }
     requires narrow { bbop.now.n ≤ WIDTH_MAX }
-    requires allowed { first (bbop_conditions setting.now.table.now.limit setting.now.table.now.pairs (operation_of (microprogram_of entry.now)) bbop.now.dst.now bbop.now.srcs.now bbop.now.count bbop.now.n) ≡ None }
-    requires granted { IsGranted setting.now.table.now.limit setting.now.table.now.pairs (microprogram_of entry.now) bbop.now.n grant }
+    requires allowed { first (bbop_conditions setting.now.table.now.limit
+        setting.now.table.now.pairs (operation_of (microprogram_of entry.now)) (bbop.now.dst.now
+        ∷ bbop.now.srcs.now) bbop.now.count bbop.now.n) ≡ None }
+    requires granted { IsGranted setting.now.table.now.limit setting.now.table.now.pairs
+        (microprogram_of entry.now) bbop.now.n grant }
     requires aap_room { (D.counters dram.old).aap < 2 ^ 61 }
     requires ap_room { (D.counters dram.old).ap < 2 ^ 61 }
     ensures begun { D.begun dram.new }
     ensures borrow { D.borrow dram.new ≡ D.borrow dram.old }
     ensures geometry { D.geometry dram.new ≡ D.geometry dram.old }
     ensures faults { D.faults dram.old ≤ D.faults dram.new }
-    ensures reply { IfOk result (λ reply. reply ≡ Reply.Done (granted_counts setting.now.geometry setting.now.table.now.pairs (microprogram_of entry.now) bbop.now.dst.now bbop.now.n)) }
-    ensures did { OnOk result (Did (granted_events setting.now.geometry setting.now.table.now.pairs (microprogram_of entry.now) bbop.now.dst.now bbop.now.srcs.now bbop.now.n) (shown (D.banks dram.old) (D.counters dram.old) (D.log dram.old)) (shown (D.banks dram.new) (D.counters dram.new) (D.log dram.new))) }
-    ensures aap_grows { OnOk result ((D.counters dram.new).aap ≤ (D.counters dram.old).aap + 16 * WALK_MAX) }
-    ensures ap_grows { OnOk result ((D.counters dram.new).ap ≤ (D.counters dram.old).ap + 16 * WALK_MAX) }
+    ensures reply { IfOk result (λ reply. reply
+        ≡ Reply.Done (granted_counts setting.now.geometry setting.now.table.now.pairs
+        (microprogram_of entry.now) bbop.now.dst.now bbop.now.n)) }
+    ensures did { OnOk result (Did (granted_events setting.now.geometry setting.now.table.now.pairs
+        (microprogram_of entry.now) bbop.now.dst.now bbop.now.srcs.now bbop.now.n)
+        (shown (D.banks dram.old) (D.counters dram.old) (D.log dram.old))
+        (shown (D.banks dram.new) (D.counters dram.new) (D.log dram.new))) }
+    ensures aap_grows { OnOk result ((D.counters dram.new).aap
+        ≤ (D.counters dram.old).aap + 16 * WALK_MAX) }
+    ensures ap_grows { OnOk result ((D.counters dram.new).ap
+        ≤ (D.counters dram.old).ap + 16 * WALK_MAX) }
     ensures rose { OnErr result (Rose (D.faults dram.old) (D.faults dram.new)) }
 {
-    let binding = bind(setting.table, bbop, grant.scratch);
+    let binding = bind(setting.table, &entry.head, bbop, grant.scratch);
     let banks = segments(setting.geometry, object_named(setting.table, bbop.dst));
     run_banks(dram, entry, &binding, grant.counts, banks)?;
     Ok(Reply::Done(times_counts(banks, grant.counts)))
@@ -178,8 +222,9 @@ pub(crate) fn do_bbop<D: Dram>(
 ) -> Result<Reply, ChipFault>
     requires begun { D.begun dram.old }
     requires geometry { D.geometry dram.old ≡ setting.now.geometry }
-    requires set { IsSetting setting.now.geometry setting.now.table.now (map microprogram_of setting.now.entries.now) }
-    requires few { length bbop.now.srcs.now ≤ 4 }
+    requires set { IsSetting setting.now.geometry setting.now.table.now
+        (map microprogram_of setting.now.entries.now) }
+    requires few { length bbop.now.srcs.now ≤ 5 }
     requires some { 0 < bbop.now.n }
     requires narrow { bbop.now.n ≤ WIDTH_MAX }
     requires aap_room { (D.counters dram.old).aap < 2 ^ 61 }
@@ -188,10 +233,18 @@ pub(crate) fn do_bbop<D: Dram>(
     ensures borrow { D.borrow dram.new ≡ D.borrow dram.old }
     ensures geometry { D.geometry dram.new ≡ D.geometry dram.old }
     ensures faults { D.faults dram.old ≤ D.faults dram.new }
-    ensures reply { IfOk result (λ reply. reply ≡ reply_to setting.now.geometry (operations_in (map microprogram_of setting.now.entries.now)) setting.now.table.now.pairs (said_bbop op.now bbop.now)) }
-    ensures did { OnOk result (Did (instr_events setting.now.geometry (operations_in (map microprogram_of setting.now.entries.now)) setting.now.table.now.pairs (said_bbop op.now bbop.now)) (shown (D.banks dram.old) (D.counters dram.old) (D.log dram.old)) (shown (D.banks dram.new) (D.counters dram.new) (D.log dram.new))) }
-    ensures aap_grows { OnOk result ((D.counters dram.new).aap ≤ (D.counters dram.old).aap + 16 * WALK_MAX) }
-    ensures ap_grows { OnOk result ((D.counters dram.new).ap ≤ (D.counters dram.old).ap + 16 * WALK_MAX) }
+    ensures reply { IfOk result (λ reply. reply
+        ≡ reply_to setting.now.geometry (operations_in
+        (map microprogram_of setting.now.entries.now)) setting.now.table.now.pairs
+        (said_bbop op.now bbop.now)) }
+    ensures did { OnOk result (Did (instr_events setting.now.geometry
+        (operations_in (map microprogram_of setting.now.entries.now)) setting.now.table.now.pairs
+        (said_bbop op.now bbop.now)) (shown (D.banks dram.old) (D.counters dram.old)
+        (D.log dram.old)) (shown (D.banks dram.new) (D.counters dram.new) (D.log dram.new))) }
+    ensures aap_grows { OnOk result ((D.counters dram.new).aap
+        ≤ (D.counters dram.old).aap + 16 * WALK_MAX) }
+    ensures ap_grows { OnOk result ((D.counters dram.new).ap
+        ≤ (D.counters dram.old).ap + 16 * WALK_MAX) }
     ensures rose { OnErr result (Rose (D.faults dram.old) (D.faults dram.new)) }
 {
     match entry_named(setting.entries, op) {

@@ -1,6 +1,7 @@
 //! The image of a chip.
 
-ghost use Rattle.std.specs.Prelude.{◌≡◌, ◌+◌, ◌*◌, ◌<◌, ◌≤◌, ◌^◌, ◌++◌, [], ◌∷◌, length, flat_map, map, OnOk, OnErr, vec_len, vec_capacity};
+ghost use Rattle.std.specs.Prelude.{◌≡◌, ◌+◌, ◌*◌, ◌<◌, ◌≤◌, ◌^◌, ◌++◌, [], ◌∷◌, length, flat_map};
+ghost use Rattle.std.specs.Prelude.{map, OnOk, OnErr, vec_len, vec_capacity};
 ghost use Rattle.std.specs.List.{range_with_len};
 ghost use Rattle.dram_model.specs.Chip.{Grew, Rose, row_in};
 ghost use Rattle.object_alloc.specs.Bytes.{bytes_of_bits};
@@ -33,8 +34,11 @@ fn read_row<D: Dram>(
     ensures banks { OnOk result (D.banks dram.new ≡ D.banks dram.old) }
     ensures counters { OnOk result (D.counters dram.new ≡ with_reads 1 (D.counters dram.old)) }
     ensures log { Grew (D.log dram.old) (D.log dram.new) [] }
-    ensures file { OnOk result (file.new.items ≡ file.old.items ++ bytes_of_bits (8 * (D.geometry dram.old).words) (row_in row (D.banks dram.old bank))) }
-    ensures len { OnOk result (vec_len file.new ≡ vec_len file.old + 8 * (D.geometry dram.old).words) }
+    ensures file { OnOk result (file.new.items
+        ≡ file.old.items ++ bytes_of_bits (8 * (D.geometry dram.old).words)
+        (row_in row (D.banks dram.old bank))) }
+    ensures len { OnOk result (vec_len file.new
+        ≡ vec_len file.old + 8 * (D.geometry dram.old).words) }
     ensures capacity { OnOk result (vec_capacity file.old ≤ vec_capacity file.new) }
     ensures rose { OnErr result (Rose (D.faults dram.old) (D.faults dram.new)) }
 {
@@ -66,7 +70,8 @@ fn read_bank<D: Dram>(
     ensures banks { OnOk result (D.banks dram.new ≡ D.banks dram.old) }
     ensures counters { OnOk result (D.counters dram.new ≡ with_reads g.rows (D.counters dram.old)) }
     ensures log { Grew (D.log dram.old) (D.log dram.new) [] }
-    ensures file { OnOk result (file.new.items ≡ file.old.items ++ bank_bytes g (D.banks dram.old) bank g.rows) }
+    ensures file { OnOk result (file.new.items
+        ≡ file.old.items ++ bank_bytes g (D.banks dram.old) bank g.rows) }
     ensures len { OnOk result (vec_len file.new ≡ vec_len file.old + g.rows * (8 * g.words)) }
     ensures capacity { OnOk result (vec_capacity file.old ≤ vec_capacity file.new) }
     ensures rose { OnErr result (Rose (D.faults dram.old) (D.faults dram.new)) }
@@ -97,9 +102,11 @@ pub(crate) fn read_rows<D: Dram>(
     ensures stage { length stage.new ≡ length stage.old }
     ensures faults { D.faults dram.old ≤ D.faults dram.new }
     ensures banks { OnOk result (D.banks dram.new ≡ D.banks dram.old) }
-    ensures counters { OnOk result (D.counters dram.new ≡ with_reads (g.banks * g.rows) (D.counters dram.old)) }
+    ensures counters { OnOk result (D.counters dram.new
+        ≡ with_reads (g.banks * g.rows) (D.counters dram.old)) }
     ensures log { Grew (D.log dram.old) (D.log dram.new) [] }
-    ensures file { OnOk result (file.new.items ≡ file.old.items ++ rows_bytes g (rows_of (D.banks dram.old))) }
+    ensures file { OnOk result (file.new.items
+        ≡ file.old.items ++ rows_bytes g (rows_of (D.banks dram.old))) }
     ensures capacity { OnOk result (vec_capacity file.old ≤ vec_capacity file.new) }
     ensures rose { OnErr result (Rose (D.faults dram.old) (D.faults dram.new)) }
 {

@@ -1,6 +1,7 @@
 //! The machine.
 
-ghost use Rattle.std.specs.Prelude.{◌≡◌, ◌+◌, ◌*◌, ◌<◌, ◌≤◌, ◌^◌, ◌++◌, [], ◌∷◌, length, map, Some, OnOk, OnErr, IfOk, IsErrOf, true, vec_len, vec_capacity};
+ghost use Rattle.std.specs.Prelude.{◌≡◌, ◌+◌, ◌*◌, ◌<◌, ◌≤◌, ◌^◌, ◌++◌, [], ◌∷◌, length, map, Some};
+ghost use Rattle.std.specs.Prelude.{OnOk, OnErr, IfOk, IsErrOf, true, vec_len, vec_capacity};
 ghost use Rattle.host_edge.specs.Views.{Told, Rose, AppendsPart};
 ghost use Rattle.dram_model.specs.Geometry.{is_geometry};
 ghost use Rattle.dram_model.specs.Chip.{Rose as ChipRose, after, all_counted, blank_banks, Grew};
@@ -18,7 +19,8 @@ ghost use Rattle.machine_model.specs.Steps.{reply_to};
 ghost use Rattle.sim_machine.specs.Did.{Did, shown};
 ghost use Rattle.sim_machine.specs.Granted.{IsSetting, instr_events};
 ghost use Rattle.sim_machine.specs.Image.{with_reads};
-ghost use Rattle.sim_machine.specs.Machine.{IsReady, file_of, geometry_of, no_counts, program_of, table_in};
+ghost use Rattle.sim_machine.specs.Machine.{IsReady, file_of, geometry_of, no_counts, program_of};
+ghost use Rattle.sim_machine.specs.Machine.{table_in};
 ghost use Rattle.sim_machine.specs.Opening.{all_writes};
 
 use crate::bbop::{Setting, do_bbop};
@@ -99,9 +101,11 @@ fn begin<D: Dram>(g: Geometry, rows: &[u8], stage: &mut [u64], dram: &mut D) -> 
     ensures stage { length stage.new ≡ length stage.old }
     ensures faults { D.faults dram.old ≤ D.faults dram.new }
     ensures banks { OnOk result (D.banks dram.new ≡ after (all_writes g rows.now) (blank_banks g)) }
-    ensures counters { OnOk result (D.counters dram.new ≡ all_counted (all_writes g rows.now) no_counts) }
+    ensures counters { OnOk result (D.counters dram.new
+        ≡ all_counted (all_writes g rows.now) no_counts) }
     ensures log { OnOk result (Grew (Some []) (D.log dram.new) (all_writes g rows.now)) }
-    ensures failed { IsErrOf result StartNo.ChipFault → ChipRose (D.faults dram.old) (D.faults dram.new) }
+    ensures failed { IsErrOf result StartNo.ChipFault
+        → ChipRose (D.faults dram.old) (D.faults dram.new) }
 {
     match dram.begin(g) {
         Ok(()) => {}
@@ -115,7 +119,8 @@ fn begin<D: Dram>(g: Geometry, rows: &[u8], stage: &mut [u64], dram: &mut D) -> 
 }
 
 impl Machine {
-    /// Takes all memory that a script needs, begins the chip and gives it the image's rows, bank by bank and rows
+    /// Takes all memory that a script needs, begins the chip and gives it the image's rows, bank by
+    /// bank and rows
     /// upwards.
     pub fn open<D: Dram>(
         program: Program,
@@ -129,14 +134,19 @@ impl Machine {
         ensures borrow { D.borrow dram.new ≡ D.borrow dram.old }
         ensures geometry { OnOk result (D.geometry dram.new ≡ image.entry.geometry) }
         ensures faults { D.faults dram.old ≤ D.faults dram.new }
-        ensures banks { OnOk result (D.banks dram.new ≡ after (all_writes image.entry.geometry image.entry.rows.now) (blank_banks image.entry.geometry)) }
-        ensures counters { OnOk result (D.counters dram.new ≡ all_counted (all_writes image.entry.geometry image.entry.rows.now) no_counts) }
-        ensures log { OnOk result (Grew (Some []) (D.log dram.new) (all_writes image.entry.geometry image.entry.rows.now)) }
+        ensures banks { OnOk result (D.banks dram.new
+            ≡ after (all_writes image.entry.geometry image.entry.rows.now)
+            (blank_banks image.entry.geometry)) }
+        ensures counters { OnOk result (D.counters dram.new
+            ≡ all_counted (all_writes image.entry.geometry image.entry.rows.now) no_counts) }
+        ensures log { OnOk result (Grew (Some []) (D.log dram.new)
+            (all_writes image.entry.geometry image.entry.rows.now)) }
         ensures ready { IfOk result IsReady }
         ensures program { IfOk result (λ machine. program_of machine ≡ microprograms_of program) }
         ensures shape { IfOk result (λ machine. geometry_of machine ≡ image.entry.geometry) }
         ensures table { IfOk result (λ machine. table_in machine ≡ image.entry.table.pairs) }
-        ensures failed { IsErrOf result StartNo.ChipFault → ChipRose (D.faults dram.old) (D.faults dram.new) }
+        ensures failed { IsErrOf result StartNo.ChipFault
+            → ChipRose (D.faults dram.old) (D.faults dram.new) }
     {
         let mut stage = make_stage(image.geometry.words, alloc)?;
         let file = make_file(image.geometry, alloc)?;
@@ -163,10 +173,17 @@ impl Machine {
         ensures borrow { D.borrow dram.new ≡ D.borrow dram.old }
         ensures geometry { D.geometry dram.new ≡ D.geometry dram.old }
         ensures faults { D.faults dram.old ≤ D.faults dram.new }
-        ensures reply { IfOk result (λ reply. reply ≡ reply_to (geometry_of self.now) (operations_in (program_of self.now)) (table_in self.now) (view_of instr.now)) }
-        ensures did { OnOk result (Did (instr_events (geometry_of self.now) (operations_in (program_of self.now)) (table_in self.now) (view_of instr.now)) (shown (D.banks dram.old) (D.counters dram.old) (D.log dram.old)) (shown (D.banks dram.new) (D.counters dram.new) (D.log dram.new))) }
-        ensures aap_grows { OnOk result ((D.counters dram.new).aap ≤ (D.counters dram.old).aap + 16 * WALK_MAX) }
-        ensures ap_grows { OnOk result ((D.counters dram.new).ap ≤ (D.counters dram.old).ap + 16 * WALK_MAX) }
+        ensures reply { IfOk result (λ reply. reply
+            ≡ reply_to (geometry_of self.now) (operations_in (program_of self.now))
+            (table_in self.now) (view_of instr.now)) }
+        ensures did { OnOk result (Did (instr_events (geometry_of self.now)
+            (operations_in (program_of self.now)) (table_in self.now) (view_of instr.now))
+            (shown (D.banks dram.old) (D.counters dram.old) (D.log dram.old))
+            (shown (D.banks dram.new) (D.counters dram.new) (D.log dram.new))) }
+        ensures aap_grows { OnOk result ((D.counters dram.new).aap
+            ≤ (D.counters dram.old).aap + 16 * WALK_MAX) }
+        ensures ap_grows { OnOk result ((D.counters dram.new).ap
+            ≤ (D.counters dram.old).ap + 16 * WALK_MAX) }
         ensures rose { OnErr result (ChipRose (D.faults dram.old) (D.faults dram.new)) }
     {
         let Instr::Bbop {
@@ -214,14 +231,29 @@ impl Machine {
         ensures geometry { D.geometry dram.new ≡ D.geometry dram.old }
         ensures faults { D.faults dram.old ≤ D.faults dram.new }
         ensures sink_faults { (S.view out.old).faults ≤ (S.view out.new).faults }
-        ensures reply { IfOk result (λ reply. reply ≡ reply_to (geometry_of self.old) (operations_in (program_of self.old)) (table_in self.old) (view_of instr.now)) }
-        ensures did { OnOk result (Did (instr_events (geometry_of self.old) (operations_in (program_of self.old)) (table_in self.old) (view_of instr.now)) (shown (D.banks dram.old) (D.counters dram.old) (D.log dram.old)) (shown (D.banks dram.new) (D.counters dram.new) (D.log dram.new))) }
-        ensures aap_grows { OnOk result ((D.counters dram.new).aap ≤ (D.counters dram.old).aap + 16 * WALK_MAX) }
-        ensures ap_grows { OnOk result ((D.counters dram.new).ap ≤ (D.counters dram.old).ap + 16 * WALK_MAX) }
-        ensures sent { OnOk result (Told (λ before after. after ≡ before ++ line number (Said.Answered (reply_to (geometry_of self.old) (operations_in (program_of self.old)) (table_in self.old) (view_of instr.now)))) (S.view out.old).sent (S.view out.new).sent) }
-        ensures chip_fault { IsErrOf result StepFault.ChipFault → ChipRose (D.faults dram.old) (D.faults dram.new) × (S.view out.new ≡ S.view out.old) }
-        ensures write_fault { IsErrOf result StepFault.WriteFault → Rose (S.view out.old).faults (S.view out.new).faults
-            × Told (AppendsPart (line number (Said.Answered (reply_to (geometry_of self.old) (operations_in (program_of self.old)) (table_in self.old) (view_of instr.now))))) (S.view out.old).sent (S.view out.new).sent }
+        ensures reply { IfOk result (λ reply. reply
+            ≡ reply_to (geometry_of self.old) (operations_in (program_of self.old))
+            (table_in self.old) (view_of instr.now)) }
+        ensures did { OnOk result (Did (instr_events (geometry_of self.old)
+            (operations_in (program_of self.old)) (table_in self.old) (view_of instr.now))
+            (shown (D.banks dram.old) (D.counters dram.old) (D.log dram.old))
+            (shown (D.banks dram.new) (D.counters dram.new) (D.log dram.new))) }
+        ensures aap_grows { OnOk result ((D.counters dram.new).aap
+            ≤ (D.counters dram.old).aap + 16 * WALK_MAX) }
+        ensures ap_grows { OnOk result ((D.counters dram.new).ap
+            ≤ (D.counters dram.old).ap + 16 * WALK_MAX) }
+        ensures sent { OnOk result (Told (λ before after. after
+            ≡ before ++ line number (Said.Answered
+            (reply_to (geometry_of self.old) (operations_in (program_of self.old))
+            (table_in self.old) (view_of instr.now)))) (S.view out.old).sent (S.view out.new).sent) }
+        ensures chip_fault { IsErrOf result StepFault.ChipFault
+            → ChipRose (D.faults dram.old) (D.faults dram.new) × (S.view out.new ≡ S.view out.old) }
+        ensures write_fault { IsErrOf result StepFault.WriteFault
+            → Rose (S.view out.old).faults (S.view out.new).faults
+            × Told (AppendsPart (line number (Said.Answered
+            (reply_to (geometry_of self.old) (operations_in (program_of self.old))
+            (table_in self.old) (view_of instr.now))))) (S.view out.old).sent
+            (S.view out.new).sent }
     {
         let reply = match self.act(instr, dram) {
             Ok(reply) => reply,
@@ -234,7 +266,8 @@ impl Machine {
         }
     }
 
-    /// Reads every row of the chip, and spells the image file: the shape, the table and the rows. It takes no memory.
+    /// Reads every row of the chip, and spells the image file: the shape, the table and the rows.
+    /// It takes no memory.
     pub fn image<D: Dram>(&mut self, dram: &mut D) -> Result<(), ChipFault>
         requires ready { IsReady self.old }
         requires begun { D.begun dram.old }
@@ -245,9 +278,12 @@ impl Machine {
         ensures geometry { D.geometry dram.new ≡ D.geometry dram.old }
         ensures faults { D.faults dram.old ≤ D.faults dram.new }
         ensures banks { OnOk result (D.banks dram.new ≡ D.banks dram.old) }
-        ensures counters { OnOk result (D.counters dram.new ≡ with_reads ((geometry_of self.old).banks * (geometry_of self.old).rows) (D.counters dram.old)) }
+        ensures counters { OnOk result (D.counters dram.new
+            ≡ with_reads ((geometry_of self.old).banks * (geometry_of self.old).rows)
+            (D.counters dram.old)) }
         ensures log { Grew (D.log dram.old) (D.log dram.new) [] }
-        ensures file { OnOk result (file_of self.new ≡ image_bytes (geometry_of self.old) (table_in self.old) (rows_of (D.banks dram.old))) }
+        ensures file { OnOk result (file_of self.new
+            ≡ image_bytes (geometry_of self.old) (table_in self.old) (rows_of (D.banks dram.old))) }
         ensures rose { OnErr result (ChipRose (D.faults dram.old) (D.faults dram.new)) }
     {
         self.file.clear();
@@ -271,8 +307,11 @@ impl Machine {
     ) -> Result<(), Failed>
         requires { D.begun dram.now }
         ensures faults { (S.view out.old).faults ≤ (S.view out.new).faults }
-        ensures sent { OnOk result (Told (λ before after. after ≡ before ++ total_line (D.counters dram.now) refused) (S.view out.old).sent (S.view out.new).sent) }
-        ensures part { OnErr result (Told (AppendsPart (total_line (D.counters dram.now) refused)) (S.view out.old).sent (S.view out.new).sent) }
+        ensures sent { OnOk result (Told (λ before after. after
+            ≡ before ++ total_line (D.counters dram.now) refused) (S.view out.old).sent
+            (S.view out.new).sent) }
+        ensures part { OnErr result (Told (AppendsPart (total_line (D.counters dram.now) refused))
+            (S.view out.old).sent (S.view out.new).sent) }
         ensures rose { OnErr result (Rose (S.view out.old).faults (S.view out.new).faults) }
     {
         let text = total(dram.tally(), refused);

@@ -30,7 +30,9 @@ fn write_row<D: Dram>(
     ensures geometry { D.geometry dram.new ≡ D.geometry dram.old }
     ensures stage { length stage.new ≡ length stage.old }
     ensures faults { D.faults dram.old ≤ D.faults dram.new }
-    ensures did { OnOk result (Did (Event.Write bank row (bits_of_bytes bytes.now) ∷ []) (shown (D.banks dram.old) (D.counters dram.old) (D.log dram.old)) (shown (D.banks dram.new) (D.counters dram.new) (D.log dram.new))) }
+    ensures did { OnOk result (Did (Event.Write bank row (bits_of_bytes bytes.now)
+        ∷ []) (shown (D.banks dram.old) (D.counters dram.old) (D.log dram.old))
+        (shown (D.banks dram.new) (D.counters dram.new) (D.log dram.new))) }
     ensures rose { OnErr result (Rose (D.faults dram.old) (D.faults dram.new)) }
 {
     words_of_bytes(bytes, stage);
@@ -77,8 +79,11 @@ fn write_bank<D: Dram>(
     ensures geometry { D.geometry dram.new ≡ D.geometry dram.old }
     ensures stage { length stage.new ≡ length stage.old }
     ensures faults { D.faults dram.old ≤ D.faults dram.new }
-    ensures did { OnOk result (Did (bank_writes g rows.now bank) (shown (D.banks dram.old) (D.counters dram.old) (D.log dram.old)) (shown (D.banks dram.new) (D.counters dram.new) (D.log dram.new))) }
-    ensures writes { OnOk result ((D.counters dram.new).writes ≡ (D.counters dram.old).writes + g.rows) }
+    ensures did { OnOk result (Did (bank_writes g rows.now bank)
+        (shown (D.banks dram.old) (D.counters dram.old) (D.log dram.old))
+        (shown (D.banks dram.new) (D.counters dram.new) (D.log dram.new))) }
+    ensures writes { OnOk result ((D.counters dram.new).writes
+        ≡ (D.counters dram.old).writes + g.rows) }
     ensures rose { OnErr result (Rose (D.faults dram.old) (D.faults dram.new)) }
 {
     for row in 0..g.rows {
@@ -106,7 +111,9 @@ pub(crate) fn write_rows<D: Dram>(
     ensures geometry { D.geometry dram.new ≡ D.geometry dram.old }
     ensures stage { length stage.new ≡ length stage.old }
     ensures faults { D.faults dram.old ≤ D.faults dram.new }
-    ensures did { OnOk result (Did (all_writes g rows.now) (shown (D.banks dram.old) (D.counters dram.old) (D.log dram.old)) (shown (D.banks dram.new) (D.counters dram.new) (D.log dram.new))) }
+    ensures did { OnOk result (Did (all_writes g rows.now)
+        (shown (D.banks dram.old) (D.counters dram.old) (D.log dram.old))
+        (shown (D.banks dram.new) (D.counters dram.new) (D.log dram.new))) }
     ensures rose { OnErr result (Rose (D.faults dram.old) (D.faults dram.new)) }
 {
     for bank in 0..g.banks {

@@ -1,15 +1,21 @@
 //! Why a bbop is refused.
 
-ghost use Rattle.std.specs.Prelude.{◌≡◌, ℕ, ◌+◌, ◌<◌, ◌≤◌, ◌==◌, not, is_none, map, zip, ◌∷◌, List, Bool, Option, Some, None, length, position, IfSome, IfOk, IfErr, OnOk};
-ghost use Rattle.std.specs.Option.{option_map};
+ghost use Rattle.std.specs.Prelude.{◌≡◌, ℕ, ◌+◌, ◌<◌, ◌≤◌, ◌==◌, not, is_none, map, zip, ◌∷◌, ◌++◌};
+ghost use Rattle.std.specs.Prelude.{◌||◌, [], List, Bool, Option, Some, None, length, position};
+ghost use Rattle.std.specs.Prelude.{IfSome, IfOk, IfErr, OnOk};
+ghost use Rattle.std.specs.Option.{option_map, option_to_list};
 ghost use Rattle.std.specs.Str.{bytes_eq};
-ghost use Rattle.uprog_code.specs.Shape.{microprogram_of, need, shape_of, width};
+ghost use Rattle.uprog_code.specs.Shape.{microprogram_of, need, shape_of, width, results};
 ghost use Rattle.uprog_code.specs.Legal.{IsLegalCode};
 ghost use Rattle.machine_model.specs.declared.Why.{Why};
 ghost use Rattle.sim_machine.specs.Granted.{IsGranted};
 ghost use Rattle.machine_model.specs.Operations.{operation_of};
-ghost use Rattle.machine_model.specs.Refusals.{object_named, is_absent, is_misfit, at_place, first, operand_conditions, grant_conditions, bbop_conditions};
+ghost use Rattle.machine_model.specs.Refusals.{object_named, is_absent, is_misfit, at_place, first};
+ghost use Rattle.machine_model.specs.Refusals.{operand_conditions, grant_conditions};
+ghost use Rattle.machine_model.specs.Refusals.{bbop_conditions, dsts_in, srcs_in, is_one_of};
+ghost use Rattle.machine_model.specs.Refusals.{repeats};
 
+use arrayvec::ArrayVec;
 use bit_rows::WIDTH_MAX;
 use machine_model::Why;
 use object_alloc::{Object, Table};
@@ -58,26 +64,60 @@ fn absent_source(table: &Table, srcs: &[Name]) -> Option<usize>
 
 /// Where the first source is that has another number of elements.
 fn unlike_source(table: &Table, srcs: &[Name], count: u32) -> Option<usize>
-    ensures value { result ≡ position (λ src. not ((object_named table.now.pairs src).count == count)) srcs.now }
+    ensures value { result ≡ position (λ src. not ((object_named table.now.pairs src).count
+        == count)) srcs.now }
     ensures bound { IfSome result (λ at. at < length srcs.now) }
 {
     srcs.iter()
         .position(|src| object_named(table, src).count != count)
 }
 
-/// Where the first source is that is named as the destination is.
+/// The kinds of the operands behind the first destination.
+pub(crate) fn other_kinds(head: &Head) -> ArrayVec<Kind, 5>
+    ensures { result.items ≡ option_to_list head.now.second ++ head.now.sources.items }
+{
+    let mut kinds = ArrayVec::new();
+    if let Some(kind) = head.second {
+        kinds.push(kind);
+    }
+    for kind in head.sources.as_slice() {
+        kinds.push(*kind);
+    }
+    kinds
+}
+
+/// The sources, behind one or two destinations.
+pub(crate) fn sources_of<'a>(dst: &Name, head: &Head, srcs: &'a [Name]) -> &'a [Name]
+    ensures { result.now ≡ srcs_in (shape_of head.now) (dst.now ∷ srcs.now) }
+{
+    match (head.second, srcs) {
+        (Some(_), [_, rest @ ..]) => rest,
+        _ => srcs,
+    }
+}
+
+/// Where the first source is that is named as a destination is.
 fn same_source(dst: &Name, srcs: &[Name]) -> Option<usize>
-    ensures value { result ≡ position (λ src. bytes_eq src dst.now) srcs.now }
+    ensures value { result ≡ position (is_one_of (dst.now ∷ [])) srcs.now }
     ensures bound { IfSome result (λ at. at < length srcs.now) }
 {
     srcs.iter().position(|src| src == dst)
 }
 
+/// Where the first source is that is named as one of two destinations is.
+fn same_of_two(dst: &Name, second: &Name, srcs: &[Name]) -> Option<usize>
+    ensures value { result ≡ position (is_one_of (dst.now ∷ second.now ∷ [])) srcs.now }
+    ensures bound { IfSome result (λ at. at < length srcs.now) }
+{
+    srcs.iter().position(|src| src == dst || src == second)
+}
+
 /// The first operand that no object has.
 #[tactic(auto, using(crate::proofs::Found::places))]
 fn no_object(table: &Table, dst: &Name, srcs: &[Name]) -> Option<Why>
-    requires { length srcs.now ≤ 4 }
-    ensures { result ≡ at_place Why.NoObject 0 (map (is_absent table.now.pairs) (dst.now ∷ srcs.now)) }
+    requires { length srcs.now ≤ 5 }
+    ensures { result ≡ at_place Why.NoObject 0
+        (map (is_absent table.now.pairs) (dst.now ∷ srcs.now)) }
 {
     if is_absent(table, dst) {
         return Some(Why::NoObject(0));
@@ -91,8 +131,9 @@ fn no_object(table: &Table, dst: &Name, srcs: &[Name]) -> Option<Why>
 /// The first operand that has another number of elements.
 #[tactic(auto, using(crate::proofs::Found::places))]
 fn bad_size(table: &Table, dst: &Name, srcs: &[Name], count: u32) -> Option<Why>
-    requires { length srcs.now ≤ 4 }
-    ensures { result ≡ at_place Why.Size 0 (map (λ o. not (o.count == count)) (map (object_named table.now.pairs) (dst.now ∷ srcs.now))) }
+    requires { length srcs.now ≤ 5 }
+    ensures { result ≡ at_place Why.Size 0 (map (λ o. not (o.count == count))
+        (map (object_named table.now.pairs) (dst.now ∷ srcs.now))) }
 {
     if object_named(table, dst).count != count {
         return Some(Why::Size(0));
@@ -103,11 +144,11 @@ fn bad_size(table: &Table, dst: &Name, srcs: &[Name], count: u32) -> Option<Why>
     }
 }
 
-/// The first source that is named as the destination is.
+/// The first source that is named as the one destination is.
 #[tactic(auto, using(crate::proofs::Found::places))]
-fn overlap(dst: &Name, srcs: &[Name]) -> Option<Why>
-    requires { length srcs.now ≤ 4 }
-    ensures { result ≡ at_place Why.Overlap 1 (map (λ name. bytes_eq name dst.now) srcs.now) }
+fn overlap_of_one(dst: &Name, srcs: &[Name]) -> Option<Why>
+    requires { length srcs.now ≤ 5 }
+    ensures { result ≡ at_place Why.Overlap 1 (map (is_one_of (dst.now ∷ [])) srcs.now) }
 {
     match same_source(dst, srcs) {
         Some(at) => Some(Why::Overlap(at as u32 + 1)),
@@ -115,9 +156,45 @@ fn overlap(dst: &Name, srcs: &[Name]) -> Option<Why>
     }
 }
 
+/// The first source that is named as one of two destinations is.
+#[tactic(auto, using(crate::proofs::Found::places))]
+fn overlap_of_two(dst: &Name, second: &Name, srcs: &[Name]) -> Option<Why>
+    requires { length srcs.now ≤ 5 }
+    ensures { result ≡ at_place Why.Overlap 2 (map (is_one_of (dst.now ∷ second.now ∷ [])) srcs.now)
+        }
+{
+    match same_of_two(dst, second, srcs) {
+        Some(at) => Some(Why::Overlap(at as u32 + 2)),
+        None => None,
+    }
+}
+
+/// The second destination that is named as the first is, or the first source that is named as a
+/// destination is.
+fn overlap(head: &Head, dst: &Name, srcs: &[Name]) -> Option<Why>
+    requires { length srcs.now ≤ 5 }
+    ensures { result ≡ at_place Why.Overlap 0
+        (repeats [] (dsts_in (shape_of head.now) (dst.now ∷ srcs.now))
+        ++ map (is_one_of (dsts_in (shape_of head.now) (dst.now ∷ srcs.now)))
+        (srcs_in (shape_of head.now) (dst.now ∷ srcs.now))) }
+{
+    match (head.second, srcs) {
+        (Some(_), [second, rest @ ..]) => {
+            if second == dst {
+                return Some(Why::Overlap(1));
+            }
+            overlap_of_two(dst, second, rest)
+        }
+        _ => overlap_of_one(dst, srcs),
+    }
+}
+
 /// Where the first source is that is not as wide as its kind asks.
 fn misfit_source(table: &Table, kinds: &[Kind], srcs: &[Name], n: u8) -> Option<usize>
-    ensures value { result ≡ position (λ pair. is_misfit n (pair.0, object_named table.now.pairs pair.1)) (zip kinds.now srcs.now) }
+    ensures value { result ≡ position (λ pair. is_misfit n (
+      pair.0,
+      object_named table.now.pairs pair.1,
+    )) (zip kinds.now srcs.now) }
     ensures bound { IfSome result (λ at. at < length srcs.now) }
 {
     kinds.iter().zip(srcs).position(|(kind, src)| is_misfit(*kind, object_named(table, src), n))
@@ -126,13 +203,16 @@ fn misfit_source(table: &Table, kinds: &[Kind], srcs: &[Name], n: u8) -> Option<
 /// The first operand that is not as wide as its kind asks.
 #[tactic(auto, using(crate::proofs::Found::places))]
 fn bad_width(table: &Table, head: &Head, dst: &Name, srcs: &[Name], n: u8) -> Option<Why>
-    requires { length srcs.now ≤ 4 }
-    ensures { result ≡ at_place Why.Width 0 (map (is_misfit n) (zip (head.now.result ∷ head.now.sources.items) (map (object_named table.now.pairs) (dst.now ∷ srcs.now)))) }
+    requires { length srcs.now ≤ 5 }
+    ensures { result ≡ at_place Why.Width 0 (map (is_misfit n)
+        (zip (results (shape_of head.now) ++ head.now.sources.items)
+        (map (object_named table.now.pairs) (dst.now ∷ srcs.now)))) }
 {
     if is_misfit(head.result, object_named(table, dst), n) {
         return Some(Why::Width(0));
     }
-    match misfit_source(table, head.sources.as_slice(), srcs, n) {
+    let kinds = other_kinds(head);
+    match misfit_source(table, kinds.as_slice(), srcs, n) {
         Some(at) => Some(Why::Width(at as u32 + 1)),
         None => None,
     }
@@ -156,8 +236,9 @@ pub(crate) struct Bbop<'a> {
 
 /// Why the operands do not fit the operation.
 fn operands_refusal(table: &Table, head: &Head, bbop: &Bbop<'_>) -> Option<Why>
-    requires { length bbop.now.srcs.now ≤ 4 }
-    ensures { result ≡ first (operand_conditions table.now.pairs (shape_of head.now) bbop.now.dst.now bbop.now.srcs.now bbop.now.count bbop.now.n) }
+    requires { length bbop.now.srcs.now ≤ 5 }
+    ensures { result ≡ first (operand_conditions table.now.pairs (shape_of head.now)
+        (bbop.now.dst.now ∷ bbop.now.srcs.now) bbop.now.count bbop.now.n) }
 {
     if let Some(why) = no_object(table, bbop.dst, bbop.srcs) {
         return Some(why);
@@ -168,10 +249,11 @@ fn operands_refusal(table: &Table, head: &Head, bbop: &Bbop<'_>) -> Option<Why>
     if let Some(why) = bad_size(table, bbop.dst, bbop.srcs, bbop.count) {
         return Some(why);
     }
-    overlap(bbop.dst, bbop.srcs)
+    overlap(head, bbop.dst, bbop.srcs)
 }
 
-/// What a bbop that is not refused takes: its row commands in one bank, and the first row of its scratch.
+/// What a bbop that is not refused takes: its row commands in one bank, and the first row of its
+/// scratch.
 #[derive(Clone, Copy)]
 pub(crate) struct Grant {
     pub counts: Counts,
@@ -183,8 +265,11 @@ fn granted(table: &Table, entry: &EntryCode, n: u8) -> Result<Grant, Why>
     requires legal { IsLegalCode (shape_of entry.now.head) entry.now.code.items }
     requires some { 0 < n }
     requires narrow { n ≤ WIDTH_MAX }
-    ensures refused { IfErr result (λ why. first (grant_conditions table.now.limit table.now.pairs (operation_of (microprogram_of entry.now)) n) ≡ Some why) }
-    ensures granted { IfOk result (IsGranted table.now.limit table.now.pairs (microprogram_of entry.now) n) }
+    ensures refused { IfErr result (λ why. first
+        (grant_conditions table.now.limit table.now.pairs (operation_of (microprogram_of entry.now))
+        n) ≡ Some why) }
+    ensures granted { IfOk result (IsGranted table.now.limit table.now.pairs
+        (microprogram_of entry.now) n) }
 {
     let counts = match walk(entry, n) {
         Ok(counts) => counts,
@@ -196,17 +281,23 @@ fn granted(table: &Table, entry: &EntryCode, n: u8) -> Result<Grant, Why>
     }
 }
 
-/// What a bbop of this entry is granted, or the first condition that refuses it, in the order of the table.
+/// What a bbop of this entry is granted, or the first condition that refuses it, in the order of
+/// the table.
 pub(crate) fn allow(table: &Table, entry: &EntryCode, bbop: &Bbop<'_>) -> Result<Grant, Why>
-    requires few { length bbop.now.srcs.now ≤ 4 }
+    requires few { length bbop.now.srcs.now ≤ 5 }
     requires legal { IsLegalCode (shape_of entry.now.head) entry.now.code.items }
     requires some { 0 < bbop.now.n }
     requires narrow { bbop.now.n ≤ WIDTH_MAX }
-    ensures refused { IfErr result (λ why. first (bbop_conditions table.now.limit table.now.pairs (operation_of (microprogram_of entry.now)) bbop.now.dst.now bbop.now.srcs.now bbop.now.count bbop.now.n) ≡ Some why) }
-    ensures allowed { OnOk result (first (bbop_conditions table.now.limit table.now.pairs (operation_of (microprogram_of entry.now)) bbop.now.dst.now bbop.now.srcs.now bbop.now.count bbop.now.n) ≡ None) }
-    ensures granted { IfOk result (IsGranted table.now.limit table.now.pairs (microprogram_of entry.now) bbop.now.n) }
+    ensures refused { IfErr result (λ why. first
+        (bbop_conditions table.now.limit table.now.pairs (operation_of (microprogram_of entry.now))
+        (bbop.now.dst.now ∷ bbop.now.srcs.now) bbop.now.count bbop.now.n) ≡ Some why) }
+    ensures allowed { OnOk result (first (bbop_conditions table.now.limit table.now.pairs
+        (operation_of (microprogram_of entry.now)) (bbop.now.dst.now ∷ bbop.now.srcs.now)
+        bbop.now.count bbop.now.n) ≡ None) }
+    ensures granted { IfOk result (IsGranted table.now.limit table.now.pairs
+        (microprogram_of entry.now) bbop.now.n) }
 {
-    if bbop.srcs.len() != entry.head.sources.len() {
+    if bbop.srcs.len() != other_kinds(&entry.head).len() {
         return Err(Why::Arity);
     }
     if let Some(why) = operands_refusal(table, &entry.head, bbop) {

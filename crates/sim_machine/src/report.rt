@@ -1,7 +1,8 @@
 //! The lines of a report.
 
 ghost use Rattle.std.specs.Prelude.{◌≡◌, ◌+◌, ◌≤◌, ◌++◌, codes, decimal, length};
-ghost use Rattle.machine_model.specs.Report.{Said, at_number, walk_word, why_text, line, total_line};
+ghost use Rattle.machine_model.specs.Report.{Said, at_number, walk_word, why_text, line};
+ghost use Rattle.machine_model.specs.Report.{total_line};
 
 use arrayvec::ArrayVec;
 use dram_model::Counters;

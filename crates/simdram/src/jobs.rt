@@ -1,6 +1,7 @@
 //! Jobs with values that were worked out by hand.
 
 use crate::runs::{Object, image_of, number_at, run};
+use bit_rows::Value;
 use op_lang::parse_ops;
 use std::test::*;
 use uprog_gen::compile_ops;
@@ -10,13 +11,13 @@ struct Job {
     ops: &'static str,
     script: &'static str,
     n: u8,
-    a: &'static [u64],
-    b: &'static [u64],
+    a: &'static [Value],
+    b: &'static [Value],
     y_width: u8,
-    y: &'static [u64],
+    y: &'static [Value],
 }
 
-static JOBS: [Job; 16] = [
+static JOBS: [Job; 21] = [
     Job {
         ops: "op carry(a: word, b: word) -> c: bit { serial up (c = 0) { c = maj(a, b, c); } }",
         script: "bbop_carry y, a, b, 64, 8",
@@ -165,6 +166,51 @@ static JOBS: [Job; 16] = [
         y_width: 8,
         y: &[4, 4, 0, 255],
     },
+    Job {
+        ops: "op add(a: word, b: word) -> y: word { y = add(a, b); }",
+        script: "bbop_add y, a, b, 64, 128",
+        n: 128,
+        a: &[340_282_366_920_938_463_463_374_607_431_768_211_455],
+        b: &[1],
+        y_width: 128,
+        y: &[0],
+    },
+    Job {
+        ops: "op mul(a: word, b: word) -> y: word { y = mul(a, b); }",
+        script: "bbop_mul y, a, b, 64, 128",
+        n: 128,
+        a: &[340_282_366_920_938_463_463_374_607_431_768_211_455],
+        b: &[340_282_366_920_938_463_463_374_607_431_768_211_455],
+        y_width: 128,
+        y: &[1],
+    },
+    Job {
+        ops: "op div(a: word, b: word) -> y: word { y = div(a, b); }",
+        script: "bbop_div y, a, b, 64, 128",
+        n: 128,
+        a: &[340_282_366_920_938_463_463_374_607_431_768_211_455],
+        b: &[10],
+        y_width: 128,
+        y: &[34_028_236_692_093_846_346_337_460_743_176_821_145],
+    },
+    Job {
+        ops: "op rem(a: word, b: word) -> y: word { y = rem(a, b); }",
+        script: "bbop_rem y, a, b, 64, 128",
+        n: 128,
+        a: &[340_282_366_920_938_463_463_374_607_431_768_211_455],
+        b: &[10],
+        y_width: 128,
+        y: &[5],
+    },
+    Job {
+        ops: "op bitcount(a: word, b: word) -> y: word { y = bitcount(a); }",
+        script: "bbop_bitcount y, a, b, 64, 128",
+        n: 128,
+        a: &[340_282_366_920_938_463_463_374_607_431_768_211_455, 5],
+        b: &[],
+        y_width: 128,
+        y: &[128, 2],
+    },
 ];
 
 #[test]
@@ -188,7 +234,7 @@ fn jobs_leave_their_numbers(rt: HostRuntime) -> Result<(), Fail> {
                 numbers: job.a,
             },
         ];
-        let image = image_of(&objects, 384, alloc)?;
+        let image = image_of(&objects, 704, alloc)?;
         let ended = run(job.ops, job.script, &image, alloc)?;
         assert_eq!(rt; (job.script, ended.status), (job.script, 0));
         let rows = ended.rows(3).ok_or("no rows")?;
@@ -203,7 +249,8 @@ fn jobs_leave_their_numbers(rt: HostRuntime) -> Result<(), Fail> {
 
 const ADD: &str = "op add(a: word, b: word) -> y: word { y = add(a, b); }";
 
-/// The widths of a fourth object beside a, b and y of width 8 in 32 rows, and what an `add`, which needs a row, replies.
+/// The widths of a fourth object beside a, b and y of width 8 in 32 rows, and what an `add`, which
+/// needs a row, replies.
 static ROOMS: [(u8, u8, &str); 2] = [
     (
         8,

@@ -1,4 +1,5 @@
-//! The program: the words of the command line, real files and standard output, and the modelled chip.
+//! The program: the words of the command line, real files and standard output, and the modelled
+//! chip.
 #![tactic(auto)]
 
 ghost use Rattle.std.specs.Prelude.{◌≡◌, ◌⊎◌, map, IfOk, IfErr};

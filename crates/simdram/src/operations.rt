@@ -1,11 +1,13 @@
 //! Every word operation at several widths, against plain arithmetic.
 
 use crate::runs::{Object, image_of, number_at, run};
+use bit_rows::Value;
 use op_text::WordOp;
 use std::alloc::{AllocError, Global};
 use std::test::*;
 
-/// A word operation, its name, whether its arguments are one, two or three (the third a bit), and whether it gives a bit.
+/// A word operation, its name, whether its arguments are one, two or three (the third a bit), and
+/// whether it gives a bit.
 #[derive(Clone, Copy)]
 struct Operation {
     op: WordOp,
@@ -173,30 +175,31 @@ static OPERATIONS: [Operation; 26] = [
     },
 ];
 
-static WIDTHS: [u8; 6] = [1, 2, 7, 8, 31, 64];
+static WIDTHS: [u8; 8] = [1, 2, 7, 8, 31, 64, 65, 128];
 
-/// The rows of the images here: objects of up to 193 rows, scratch of up to 130, and the spill group.
-const ROWS: u16 = 384;
+/// The rows of the images here: objects of up to 385 rows, scratch of up to 258, and the spill
+/// group.
+const ROWS: u16 = 704;
 
-/// All ones at width n, from 1 to 64.
-fn ones(n: u8) -> u64 {
-    u64::MAX
-        .checked_shr(64u32.saturating_sub(u32::from(n)))
+/// All ones at width n, from 1 to 128.
+fn ones(n: u8) -> Value {
+    Value::MAX
+        .checked_shr(128u32.saturating_sub(u32::from(n)))
         .unwrap_or(0)
 }
 
 /// The lowest number with its top bit set.
-fn half(n: u8) -> u64 {
-    1u64.checked_shl(u32::from(n).saturating_sub(1))
-        .unwrap_or(0)
+fn half(n: u8) -> Value {
+    let one: Value = 1;
+    one.checked_shl(u32::from(n).saturating_sub(1)).unwrap_or(0)
 }
 
-fn one_if(b: bool) -> u64 {
+fn one_if(b: bool) -> Value {
     if b { 1 } else { 0 }
 }
 
 /// The value of an operation on numbers below 2^n.
-fn value(op: WordOp, n: u8, a: u64, b: u64, s: u64) -> u64 {
+fn value(op: WordOp, n: u8, a: Value, b: Value, s: Value) -> Value {
     let all = ones(n);
     match op {
         WordOp::Not => !a & all,
@@ -227,10 +230,10 @@ fn value(op: WordOp, n: u8, a: u64, b: u64, s: u64) -> u64 {
         WordOp::Gt => one_if(a > b),
         WordOp::Ge => one_if(a >= b),
         WordOp::IfElse => { if s == 1 { a } else { b } }
-        WordOp::Bitcount => u64::from(a.count_ones()),
+        WordOp::Bitcount => Value::from(a.count_ones()),
         WordOp::AndRed => one_if(a == all),
         WordOp::OrRed => one_if(a > 0),
-        WordOp::XorRed => u64::from(a.count_ones() % 2),
+        WordOp::XorRed => Value::from(a.count_ones() % 2),
     }
 }
 
@@ -250,7 +253,7 @@ fn text_of(operation: &Operation, alloc: Global) -> Result<String, AllocError> {
 }
 
 /// 64 numbers below 2^n: corners first, then words of a generator.
-fn numbers(n: u8, seed: u64, alloc: Global) -> Result<Vec<u64>, AllocError> {
+fn numbers(n: u8, seed: u64, alloc: Global) -> Result<Vec<Value>, AllocError> {
     let all = ones(n);
     let corners = [0, 1, all, half(n), all / 2, all ^ 1, 7, 200];
     let mut numbers = Vec::new(alloc);
@@ -263,7 +266,9 @@ fn numbers(n: u8, seed: u64, alloc: Global) -> Result<Vec<u64>, AllocError> {
         let number = if k < 24 {
             corner.unwrap_or(0)
         } else {
-            word ^ (word >> 29)
+            Value::from(word)
+                .wrapping_mul(one_if(true).checked_shl(64).unwrap_or(0))
+                .wrapping_add(Value::from(word ^ (word >> 29)))
         };
         numbers.push(number & all)?;
     }

@@ -1,5 +1,7 @@
-//! Runs over a folder and a sink in memory, on images of one bank of 64 columns whose objects have 64 elements.
+//! Runs over a folder and a sink in memory, on images of one bank of 64 columns whose objects have
+//! 64 elements.
 
+use bit_rows::Value;
 use dram_chip::Chip;
 use host_edge::{MemFolder, MemSink};
 use simdram_cli::simdram;
@@ -10,14 +12,14 @@ use std::alloc::{AllocError, Global};
 pub struct Object<'a> {
     pub name: u8,
     pub width: u8,
-    pub numbers: &'a [u64],
+    pub numbers: &'a [Value],
 }
 
 /// The row of bit k: column e has that bit of number e.
-fn row(numbers: &[u64], k: u8) -> u64 {
+fn row(numbers: &[Value], k: u8) -> u64 {
     let mut word: u64 = 0;
     for number in numbers.iter().rev() {
-        word = word.wrapping_add(word) | (number.checked_shr(u32::from(k)).unwrap_or(0) & 1);
+        word = word.wrapping_add(word) | (number.checked_shr(u32::from(k)).unwrap_or(0) % 2) as u64;
     }
     word
 }
@@ -49,8 +51,8 @@ pub fn image_of(objects: &[Object<'_>], rows: u16, alloc: Global) -> Result<Vec<
 }
 
 /// The number in a column of so many rows from a row on.
-pub fn number_at(rows: &[u8], base: usize, width: u8, column: u32) -> u64 {
-    let mut number: u64 = 0;
+pub fn number_at(rows: &[u8], base: usize, width: u8, column: u32) -> Value {
+    let mut number: Value = 0;
     for k in (0..usize::from(width)).rev() {
         let mut word: u64 = 0;
         for byte in (0..8usize).rev() {
@@ -60,7 +62,8 @@ pub fn number_at(rows: &[u8], base: usize, width: u8, column: u32) -> u64 {
                 .saturating_add(byte);
             word = word.wrapping_mul(256) | u64::from(rows.get(at).copied().unwrap_or(0));
         }
-        number = number.wrapping_add(number) | (word.checked_shr(column).unwrap_or(0) & 1);
+        number = number.wrapping_add(number)
+            | Value::from(word.checked_shr(column).unwrap_or(0) & 1);
     }
     number
 }

@@ -12,7 +12,8 @@ const JOB: &str = "bbop_and y, a, b, 4, 1\n";
 
 static WORDS: [&str; 6] = ["run", "ops", "prog", "script", "image", "out"];
 
-/// An image of one bank of 64 rows of 64 columns: a, b and y of width 1 and 4 elements in rows 0 to 2, c of 5 elements in
+/// An image of one bank of 64 rows of 64 columns: a, b and y of width 1 and 4 elements in rows 0 to
+/// 2, c of 5 elements in
 /// row 3. Row 0 is 0x0C, row 1 is 0x0A, and the others are 0.
 fn image(alloc: Global) -> Result<Vec<u8>, AllocError> {
     let mut bytes = Vec::new(alloc);
@@ -117,7 +118,7 @@ static CASES: [Case; 11] = [
     },
     Case {
         ops: AND,
-        script: "bbop_and y, a, b, 4, 65",
+        script: "bbop_and y, a, b, 4, 129",
         status: 6,
         report: "script line 1 not_yet\n",
     },

@@ -1,5 +1,6 @@
 -- The steps of a run, joined.
-use Rattle.std.proofs.Common.{◌≡◌, ℕ, Bool, true, false, cond, List, [], ◌∷◌, Option, Some, None, refl, subst, inl, inr}
+use Rattle.std.proofs.Common.{◌≡◌, ℕ, Bool, true, false, cond, List, [], ◌∷◌, Option, Some, None}
+use Rattle.std.proofs.Common.{refl, subst, inl, inr}
 use Rattle.std.specs.Prelude.{Result, Ok, Err, IfOk, IfSome, bytes_eq}
 use Rattle.std.specs.Option.{unwrap_or}
 use Rattle.host_edge.specs.Views.{Files, FolderView, SinkView, Told}
@@ -8,7 +9,8 @@ use Rattle.bbop_isa.specs.Forms.{Instruction}
 use Rattle.machine_model.specs.Operations.{Program}
 use Rattle.machine_model.specs.Opened.{Image}
 use Rattle.cli_model.specs.World.{World, world, with_file}
-use Rattle.cli_model.specs.Steps.{Step, Load, Take, Store, Refusal, Reason, End, Stopped, Goes, Loaded, LoadFails, loading}
+use Rattle.cli_model.specs.Steps.{Step, Load, Take, Store, Refusal, Reason, End, Stopped, Goes}
+use Rattle.cli_model.specs.Steps.{Loaded, LoadFails, loading}
 use Rattle.cli_model.proofs.Going.{goes_on, all_stand}
 use Rattle.built_forms.specs.Texts.{ops_in, script_in, image_of}
 use Rattle.simdram_cli.specs.declared.words.RunNames.{RunNames}
@@ -18,7 +20,8 @@ use Rattle.simdram_cli.specs.Stops.{end_of, reason_of}
 use Rattle.simdram_cli.specs.Reads.{refusal_of, IsText, ReadAs, NotRead}
 use Rattle.simdram_cli.specs.Run.{Texts}
 use Rattle.simdram_cli.specs.Works.{ChipView}
-use Rattle.simdram_cli.specs.Ends.{ProgramTaken, ProgramStopped, DoneOn, DoneBy, ImageWorked, RunGoes}
+use Rattle.simdram_cli.specs.Ends.{ProgramTaken, ProgramStopped, DoneOn, DoneBy, ImageWorked}
+use Rattle.simdram_cli.specs.Ends.{RunGoes}
 
 abbrev pub told_text : Option Files → List ℕ → List ℕ
 told_text None name = []
@@ -36,40 +39,54 @@ bytes_are : (o : Option (List ℕ)) (text : List ℕ) → o ≡ Some text → If
 bytes_are None text e = tt
 bytes_are (Some bytes) text e = cc
 
-has_text : (holds : Option Files) (name text : List ℕ) → IfSome holds (λ files. files name ≡ Some text) → IsText holds name text
+has_text : (holds : Option Files) (name text : List ℕ)
+    → IfSome holds (λ files. files name ≡ Some text) → IsText holds name text
 has_text None name text h = tt
 has_text (Some files) name text h = bytes_are (files name) text h
 
-pub loaded_text : (name : List ℕ) (limit : ℕ) (text : List ℕ) (a b : World) → Loaded name limit text a b → IsText a.files.holds name text
+pub loaded_text : (name : List ℕ) (limit : ℕ) (text : List ℕ) (a b : World)
+    → Loaded name limit text a b → IsText a.files.holds name text
 loaded_text name limit text a b l = has_text a.files.holds name text l.bytes
 
-pub loading_goes : {A : Type 0} (name : List ℕ) (limit : ℕ) (text : List ℕ) (read : Result A Refusal) (rest : A → List Step) (value : A) (end : End) (a b c : World)
-    → read ≡ Ok value → Loaded name limit text a b → Goes (rest value) end b c → Goes (loading name limit text read rest) end a c
+pub loading_goes : {A : Type 0} (name : List ℕ) (limit : ℕ) (text : List ℕ)
+    (read : Result A Refusal) (rest : A → List Step) (value : A) (end : End) (a b c : World)
+    → read ≡ Ok value → Loaded name limit text a b → Goes (rest value) end b c
+    → Goes (loading name limit text read rest) end a c
 loading_goes name limit text read rest value end a b c e l g = rw e (inl (b, ((refl, l), g)))
 
-pub loading_stops : {A : Type 0} (name : List ℕ) (limit : ℕ) (text : List ℕ) (read : Result A Refusal) (rest : A → List Step) (reason : Reason) (a b : World)
-    → LoadFails name limit text (refusal_of read) reason a b → Goes (loading name limit text read rest) (Stopped reason) a b
+pub loading_stops : {A : Type 0} (name : List ℕ) (limit : ℕ) (text : List ℕ)
+    (read : Result A Refusal) (rest : A → List Step) (reason : Reason) (a b : World)
+    → LoadFails name limit text (refusal_of read) reason a b
+    → Goes (loading name limit text read rest) (Stopped reason) a b
 loading_stops name limit text (Ok value) rest reason a b f = inr f
 loading_stops name limit text (Err refusal) rest reason a b f = inr f
 
-file_apart : (same : Bool) (bytes : List ℕ) (o : Option (List ℕ)) (text : List ℕ) → same ≡ false → IfSome (cond same (Some bytes) o) (λ b. b ≡ text) → IfSome o (λ b. b ≡ text)
+file_apart : (same : Bool) (bytes : List ℕ) (o : Option (List ℕ)) (text : List ℕ) → same ≡ false
+    → IfSome (cond same (Some bytes) o) (λ b. b ≡ text) → IfSome o (λ b. b ≡ text)
 file_apart true bytes o text e h = absurd (cc)
 file_apart false bytes o text e h = h
 
 -- a file that was not stored has the text that it had
-pub text_before : (stored bytes : List ℕ) (a b : Option Files) (name text : List ℕ) → bytes_eq name stored ≡ false
-    → Told (λ before after. after ≡ with_file stored bytes before) a b → IsText b name text → IsText a name text
+pub text_before : (stored bytes : List ℕ) (a b : Option Files) (name text : List ℕ)
+    → bytes_eq name stored ≡ false
+    → Told (λ before after. after ≡ with_file stored bytes before) a b → IsText b name text
+    → IsText a name text
 text_before stored bytes None b name text apart t is = tt
 text_before stored bytes (Some before) None name text apart t is = absurd t
 text_before stored bytes (Some before) (Some after) name text apart t is =
-    let now : IfSome (with_file stored bytes before name) (λ b. b ≡ text) = subst (λ (f : Files). IfSome (f name) (λ b. b ≡ text)) t is in
+    let now : IfSome (with_file stored bytes before name) (λ b. b ≡ text) =
+    subst (λ (f : Files). IfSome (f name) (λ b. b ≡ text)) t is in
     file_apart (bytes_eq name stored) bytes (before name) text apart now
 
 -- what is told after PROG was stored
-pub stored_program : (names : RunNames) (program : Program) (old new : FolderView) (sink : SinkView) → ProgramTaken names program old new
-    → Told (λ before after. after ≡ with_file names.prog.now (program_bytes program) before) old.holds new.holds
+pub stored_program : (names : RunNames) (program : Program) (old new : FolderView) (sink : SinkView)
+    → ProgramTaken names program old new
+    → Told (λ before after. after ≡ with_file names.prog.now (program_bytes program) before)
+    old.holds new.holds
 stored_program names program old new sink taken =
-    (all_stand (Load names.ops.now OPS_MAX taken.text None ∷ Take ∷ Store names.prog.now (program_bytes program) ∷ []) (world old sink 0) (world new sink 0) (taken.goes sink 0)).files
+    (all_stand (Load names.ops.now OPS_MAX taken.text None ∷ Take
+    ∷ Store names.prog.now (program_bytes program) ∷ []) (world old sink 0) (world new sink 0)
+    (taken.goes sink 0)).files
 
 -- the three files are not PROG
 pub record AreOthers (names : RunNames) : Type 0 where
@@ -77,34 +94,50 @@ pub record AreOthers (names : RunNames) : Type 0 where
   pub image : bytes_eq names.image.now names.prog.now ≡ false
 
 abbrev pub no_texts : RunNames → Option Files → List ℕ → Texts
-no_texts names holds ops = record { ops = ops; script = told_text holds names.script.now; image = told_text holds names.image.now }
+no_texts names holds ops = record {
+  ops = ops;
+  script = told_text holds names.script.now;
+  image = told_text holds names.image.now;
+}
 
 -- a run that stopped before PROG was stored
-pub run_stopped : (names : RunNames) (stop : Stop) (old new : FolderView) (sink : SinkView) (k : ℕ) (chip : ChipView) → ProgramStopped names (reason_of stop) old new
+pub run_stopped : (names : RunNames) (stop : Stop) (old new : FolderView) (sink : SinkView) (k : ℕ)
+    (chip : ChipView) → ProgramStopped names (reason_of stop) old new
     → RunGoes names (world old sink k) (world new sink k) chip (Err stop)
 run_stopped names stop old new sink k chip s = record {
   program = s.program;
   texts = no_texts names old.holds s.text;
   compiled = inl (s.goes [] sink k);
-  read = record { ops = s.is_text; script = told_is_text old.holds names.script.now; image = told_is_text old.holds names.image.now };
+  read = record {
+    ops = s.is_text;
+    script = told_is_text old.holds names.script.now;
+    image = told_is_text old.holds names.image.now;
+  };
   goes = s.goes _ sink k;
   done = tt;
 }
 
-goes_ops : (names : RunNames) (program : Program) (old mid : FolderView) (sink : SinkView) (k : ℕ) (rest : List Step) (end : End) (w : World)
+goes_ops : (names : RunNames) (program : Program) (old mid : FolderView) (sink : SinkView) (k : ℕ)
+    (rest : List Step) (end : End) (w : World)
     → (t : ProgramTaken names program old mid) → Goes rest end (world mid sink k) w
-    → Goes (loading names.ops.now OPS_MAX t.text (ops_in t.text) (λ _. Take ∷ Store names.prog.now (program_bytes program) ∷ rest)) end (world old sink k) w
+    → Goes (loading names.ops.now OPS_MAX t.text (ops_in t.text) (λ _. Take
+    ∷ Store names.prog.now (program_bytes program) ∷ rest)) end (world old sink k) w
 goes_ops names program old mid sink k rest end w t g =
-    rw t.accepted (goes_on (Load names.ops.now OPS_MAX t.text None ∷ Take ∷ Store names.prog.now (program_bytes program) ∷ []) rest end (world old sink k) (world mid sink k) w (t.goes sink k) g)
+    rw t.accepted (goes_on (Load names.ops.now OPS_MAX t.text None ∷ Take
+    ∷ Store names.prog.now (program_bytes program) ∷ []) rest end (world old sink k)
+    (world mid sink k) w (t.goes sink k) g)
 
-taken_text : (names : RunNames) (program : Program) (old mid : FolderView) (sink : SinkView) → (t : ProgramTaken names program old mid) → IsText old.holds names.ops.now t.text
+taken_text : (names : RunNames) (program : Program) (old mid : FolderView) (sink : SinkView)
+    → (t : ProgramTaken names program old mid) → IsText old.holds names.ops.now t.text
 taken_text names program old mid sink t = elim (t.goes sink 0) [
-  | inl (next, (does, rest)) ↦ loaded_text names.ops.now OPS_MAX t.text (world old sink 0) next does.1
+  | inl (next, (does, rest)) ↦ loaded_text names.ops.now OPS_MAX t.text (world old sink 0) next
+      does.1
   | inr fails ↦ absurd fails
 ]
 
 -- a run that stopped at SCRIPT
-pub run_unread : (names : RunNames) (program : Program) (stop : Stop) (old mid new : FolderView) (sink : SinkView) (k : ℕ) (chip : ChipView) → AreOthers names
+pub run_unread : (names : RunNames) (program : Program) (stop : Stop) (old mid new : FolderView)
+    (sink : SinkView) (k : ℕ) (chip : ChipView) → AreOthers names
     → (t : ProgramTaken names program old mid)
     → NotRead script_in names.script.now SCRIPT_MAX (reason_of stop) mid new
     → RunGoes names (world old sink k) (world new sink k) chip (Err stop)
@@ -114,21 +147,27 @@ run_unread names program stop old mid new sink k chip apart t n = record {
   compiled = inr t.compiled;
   read = record {
     ops = taken_text names program old mid sink t;
-    script = text_before names.prog.now (program_bytes program) old.holds mid.holds names.script.now n.text apart.script (stored_program names program old mid sink t) n.is_text;
+    script = text_before names.prog.now (program_bytes program) old.holds mid.holds names.script.now
+        n.text apart.script (stored_program names program old mid sink t) n.is_text;
     image = told_is_text old.holds names.image.now;
   };
   goes = goes_ops names program old mid sink k _ (Stopped (reason_of stop)) (world new sink k) t
-      (loading_stops names.script.now SCRIPT_MAX n.text (script_in n.text) _ (reason_of stop) (world mid sink k) (world new sink k) (n.fails sink k));
+      (loading_stops names.script.now SCRIPT_MAX n.text (script_in n.text) _ (reason_of stop)
+      (world mid sink k) (world new sink k) (n.fails sink k));
   done = tt;
 }
 
-done_by : (program : Program) (script : List Instruction) (read : Result (List Instruction) Refusal) (image : Result Image Refusal) (chip : ChipView) (result : Result ℕ Stop)
-    → read ≡ Ok script → IfOk result (DoneOn program script image chip) → IfOk result (DoneBy program read image chip)
+done_by : (program : Program) (script : List Instruction) (read : Result (List Instruction) Refusal)
+    (image : Result Image Refusal) (chip : ChipView) (result : Result ℕ Stop)
+    → read ≡ Ok script → IfOk result (DoneOn program script image chip)
+    → IfOk result (DoneBy program read image chip)
 done_by program script read image chip (Ok refused) e d = rw e d
 done_by program script read image chip (Err stop) e d = tt
 
 -- a run that came to IMAGE
-pub run_worked : (names : RunNames) (program : Program) (script : List Instruction) (result : Result ℕ Stop) (old mid last : FolderView) (sink : SinkView) (k : ℕ) (new : World) (chip : ChipView) → AreOthers names
+pub run_worked : (names : RunNames) (program : Program) (script : List Instruction)
+    (result : Result ℕ Stop) (old mid last : FolderView) (sink : SinkView) (k : ℕ) (new : World)
+    (chip : ChipView) → AreOthers names
     → (t : ProgramTaken names program old mid)
     → ReadAs script_in names.script.now SCRIPT_MAX script mid last
     → ImageWorked names program script (world last sink k) new chip result
@@ -143,12 +182,17 @@ run_worked names program script result old mid last sink k new chip apart t s w 
       compiled = inr t.compiled;
       read = record {
         ops = taken_text names program old mid sink t;
-        script = text_before names.prog.now (program_bytes program) old.holds mid.holds names.script.now s.text apart.script told
-            (loaded_text names.script.now SCRIPT_MAX s.text (world mid sink k) (world last sink k) loaded);
-        image = text_before names.prog.now (program_bytes program) old.holds mid.holds names.image.now w.text apart.image told
+        script = text_before names.prog.now (program_bytes program) old.holds mid.holds
+            names.script.now s.text apart.script told
+            (loaded_text names.script.now SCRIPT_MAX s.text (world mid sink k) (world last sink k)
+            loaded);
+        image = text_before names.prog.now (program_bytes program) old.holds mid.holds
+            names.image.now w.text apart.image told
             (subst (λ (holds : Option Files). IsText holds names.image.now w.text) same w.is_text);
       };
       goes = goes_ops names program old mid sink k _ (end_of result) new t
-          (loading_goes names.script.now SCRIPT_MAX s.text (script_in s.text) _ script (end_of result) (world mid sink k) (world last sink k) new s.value_is loaded w.goes);
-      done = done_by program script (script_in s.text) (image_of w.text) chip result s.value_is w.done;
+          (loading_goes names.script.now SCRIPT_MAX s.text (script_in s.text) _ script
+          (end_of result) (world mid sink k) (world last sink k) new s.value_is loaded w.goes);
+      done = done_by program script (script_in s.text) (image_of w.text) chip result s.value_is
+          w.done;
     }

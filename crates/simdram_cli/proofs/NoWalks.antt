@@ -1,5 +1,6 @@
 -- No bbop of a program that implements a text is refused for its walk.
-use Rattle.std.proofs.Common.{◌≡◌, ℕ, ◌+◌, ◌<◌, ◌≤◌, Bool, true, false, cond, List, [], ◌∷◌, map, Option, Some, None, refl, sym, subst, length}
+use Rattle.std.proofs.Common.{◌≡◌, ℕ, ◌+◌, ◌<◌, ◌≤◌, Bool, true, false, cond, List, [], ◌∷◌, map}
+use Rattle.std.proofs.Common.{Option, Some, None, refl, sym, subst, length}
 use Rattle.std.specs.Prelude.{◌*◌, ◌^◌, ◌==◌, nat_lt, nat_le, not, zip, is_none}
 use Rattle.std.specs.List.{AllByRecursion}
 use Rattle.std.specs.Str.{bytes_eq}
@@ -15,9 +16,12 @@ use Rattle.bbop_isa.specs.Forms.{Instruction}
 use Rattle.bbop_isa.specs.Forms.{Init, Bbop, Load, Fill, Print, Free, Order}
 use Rattle.machine_model.specs.declared.Why.{Why}
 use Rattle.machine_model.specs.declared.Why.TheVariants as why
-use Rattle.machine_model.specs.Operations.{Program, Operation, Operations, operations_in, operation_of, entry_named}
+use Rattle.machine_model.specs.Operations.{Program, Operation, Operations, operations_in}
+use Rattle.machine_model.specs.Operations.{operation_of, entry_named}
 use Rattle.uprog_code.specs.Texts.{TextOp, ImplementsAll}
-use Rattle.machine_model.specs.Refusals.{first, when, at_place, walks_badly, object_named, is_absent, is_misfit, bbop_conditions, bbop_refusal, refusal}
+use Rattle.machine_model.specs.Refusals.{first, when, at_place, walks_badly, object_named}
+use Rattle.machine_model.specs.Refusals.{is_absent, is_misfit, bbop_conditions, bbop_refusal}
+use Rattle.machine_model.specs.Refusals.{refusal}
 use Rattle.machine_model.specs.Steps.{reply_by, table_after}
 use Rattle.machine_model.specs.Script.{replies}
 use Rattle.machine_model.specs.Agrees.{IsPlain}
@@ -39,34 +43,43 @@ when_not : (b : Bool) (y : Why) → NotWalk (Some y) → NotWalk (when b y)
 when_not true y n walk e = n walk e
 when_not false y n walk e = cc
 
-place_case : (f : ℕ → Why) (k : ℕ) (b : Bool) (rest : Option Why) → NotWalk (Some (f k)) → NotWalk rest → NotWalk (cond b (Some (f k)) rest)
+place_case : (f : ℕ → Why) (k : ℕ) (b : Bool) (rest : Option Why) → NotWalk (Some (f k))
+    → NotWalk rest → NotWalk (cond b (Some (f k)) rest)
 place_case f k true rest n m walk e = n walk e
 place_case f k false rest n m walk e = m walk e
 
-place_not : (f : ℕ → Why) (k : ℕ) (bs : List Bool) → ((j : ℕ) → NotWalk (Some (f j))) → NotWalk (at_place f k bs)
+place_not : (f : ℕ → Why) (k : ℕ) (bs : List Bool) → ((j : ℕ) → NotWalk (Some (f j)))
+    → NotWalk (at_place f k bs)
 place_not f k [] n walk e = cc
-place_not f k (b ∷ bs) n walk e = place_case f k b (at_place f (k + 1) bs) (n k) (place_not f (k + 1) bs n) walk e
+place_not f k (b ∷ bs) n walk e = place_case f k b (at_place f (k + 1) bs) (n k)
+    (place_not f (k + 1) bs n) walk e
 
 ended_not : (t : Trace) → HasEnded t → NotWalk (walks_badly t)
 ended_not (Ended issues) h walk e = cc
 ended_not (Stuck at reason) h walk e = elim h [ ]
 
-bbop_not : (g : Geometry) (table : List Named) (o : Operation) (dst : List ℕ) (srcs : List (List ℕ)) (count n : ℕ) → HasEnded (o.trace n) → NotWalk (first (bbop_conditions (limit_of g) table o dst srcs count n))
+bbop_not : (g : Geometry) (table : List Named) (o : Operation) (dst : List ℕ) (srcs : List (List ℕ))
+    (count n : ℕ) → HasEnded (o.trace n)
+    → NotWalk (first (bbop_conditions (limit_of g) table o dst srcs count n))
 bbop_not g table o dst srcs count n ended =
     first_not (bbop_conditions (limit_of g) table o dst srcs count n) (
       when_not (not (length srcs == length o.shape.sources)) why.Arity (λ walk e. cc),
       (
         place_not why.NoObject 0 (map (is_absent table) (dst ∷ srcs)) (λ j walk e. cc),
         (
-          place_not why.Width 0 (map (is_misfit n) (zip (o.shape.result ∷ o.shape.sources) (map (object_named table) (dst ∷ srcs)))) (λ j walk e. cc),
+          place_not why.Width 0 (map (is_misfit n)
+              (zip (o.shape.result ∷ o.shape.sources) (map (object_named table) (dst ∷ srcs))))
+              (λ j walk e. cc),
           (
-            place_not why.Size 0 (map (λ x. not (x.count == count)) (map (object_named table) (dst ∷ srcs))) (λ j walk e. cc),
+            place_not why.Size 0 (map (λ x. not (x.count == count))
+                (map (object_named table) (dst ∷ srcs))) (λ j walk e. cc),
             (
               place_not why.Overlap 1 (map (λ name. bytes_eq name dst) srcs) (λ j walk e. cc),
               (
                 ended_not (o.trace n) ended,
                 (
-                  when_not (is_none (free (limit_of g) (objects_of table) (need o.shape n))) why.NoRows (λ walk e. cc),
+                  when_not (is_none (free (limit_of g) (objects_of table) (need o.shape n)))
+                      why.NoRows (λ walk e. cc),
                   tt,
                 ),
               ),
@@ -77,14 +90,20 @@ bbop_not g table o dst srcs count n ended =
     )
 
 abbrev pub AllEnd : Operations → Type 0
-AllEnd operations = (name : List ℕ) (o : Operation) → operations name ≡ Some o → (n : ℕ) → 0 < n → n ≤ WIDTH_MAX → HasEnded (o.trace n)
+AllEnd operations = (name : List ℕ) (o : Operation) → operations name ≡ Some o → (n : ℕ) → 0 < n
+    → n ≤ WIDTH_MAX → HasEnded (o.trace n)
 
-named_not : (g : Geometry) (table : List Named) (r : Option Operation) (dst : List ℕ) (srcs : List (List ℕ)) (count n : ℕ) → ((o : Operation) → r ≡ Some o → HasEnded (o.trace n)) → NotWalk (bbop_refusal g table r dst srcs count n)
+named_not : (g : Geometry) (table : List Named) (r : Option Operation) (dst : List ℕ)
+    (srcs : List (List ℕ)) (count n : ℕ) → ((o : Operation) → r ≡ Some o → HasEnded (o.trace n))
+    → NotWalk (bbop_refusal g table r dst srcs count n)
 named_not g table None dst srcs count n ends walk e = cc
-named_not g table (Some o) dst srcs count n ends walk e = bbop_not g table o dst srcs count n (ends o refl) walk e
+named_not g table (Some o) dst srcs count n ends walk e =
+    bbop_not g table o dst srcs count n (ends o refl) walk e
 
-refusal_not : (g : Geometry) (operations : Operations) (table : List Named) (i : Instruction) → AllEnd operations → IsPlain i → NotWalk (refusal g operations table i)
-refusal_not g operations table (Bbop op dst srcs count n) ends plain = named_not g table (operations op) dst srcs count n (λ o e. ends op o e n plain.0 plain.1)
+refusal_not : (g : Geometry) (operations : Operations) (table : List Named) (i : Instruction)
+    → AllEnd operations → IsPlain i → NotWalk (refusal g operations table i)
+refusal_not g operations table (Bbop op dst srcs count n) ends plain =
+    named_not g table (operations op) dst srcs count n (λ o e. ends op o e n plain.0 plain.1)
 refusal_not g operations table (Init name count n) ends plain =
     first_not
     (when (has_name table name) why.Exists
@@ -107,12 +126,14 @@ refusal_not g operations table (Load name values) ends plain =
     first_not
     (when (is_absent table name) (why.NoObject 0)
     ∷ when (not (length values == (object_named table name).count)) why.Count
-    ∷ at_place why.Range 1 (map (λ v. nat_le (2 ^ (object_named table name).width) v) values) ∷ []) (
+    ∷ at_place why.Range 1 (map (λ v. nat_le (2 ^ (object_named table name).width) v) values)
+    ∷ []) (
       when_not (is_absent table name) (why.NoObject 0) (λ walk e. cc),
       (
         when_not (not (length values == (object_named table name).count)) why.Count (λ walk e. cc),
         (
-          place_not why.Range 1 (map (λ v. nat_le (2 ^ (object_named table name).width) v) values) (λ j walk e. cc),
+          place_not why.Range 1 (map (λ v. nat_le (2 ^ (object_named table name).width) v) values)
+              (λ j walk e. cc),
           tt,
         ),
       ),
@@ -127,20 +148,27 @@ refusal_not g operations table (Fill name value) ends plain =
         tt,
       ),
     )
-refusal_not g operations table (Print name) ends plain = when_not (is_absent table name) (why.NoObject 0) (λ walk e. cc)
-refusal_not g operations table (Free name) ends plain = when_not (is_absent table name) (why.NoObject 0) (λ walk e. cc)
+refusal_not g operations table (Print name) ends plain =
+    when_not (is_absent table name) (why.NoObject 0) (λ walk e. cc)
+refusal_not g operations table (Free name) ends plain =
+    when_not (is_absent table name) (why.NoObject 0) (λ walk e. cc)
 refusal_not g operations table (Order order) ends plain = none_not
 
 reply_not : (r : Option Why) (counts : _) → NotWalk r → IsNoBadWalk (reply_by r counts)
 reply_not None counts n walk e = cc
 reply_not (Some reason) counts n walk e = n walk (cc)
 
-pub no_walks : (g : Geometry) (operations : Operations) (table : List Named) (script : List Instruction) → AllEnd operations → AllByRecursion IsPlain script → AllByRecursion IsNoBadWalk (replies g operations table script)
+pub no_walks : (g : Geometry) (operations : Operations) (table : List Named)
+    (script : List Instruction) → AllEnd operations → AllByRecursion IsPlain script
+    → AllByRecursion IsNoBadWalk (replies g operations table script)
 no_walks g operations table [] ends plain = tt
-no_walks g operations table (i ∷ script) ends plain =
-    (reply_not (refusal g operations table i) _ (refusal_not g operations table i ends plain.0), no_walks g operations (table_after g operations table i) script ends plain.1)
+no_walks g operations table (i ∷ script) ends plain = (
+  reply_not (refusal g operations table i) _ (refusal_not g operations table i ends plain.0),
+  no_walks g operations (table_after g operations table i) script ends plain.1,
+)
 
-ends_case : (x : Option Microprogram) (y : Option TextOp) (o : Operation) (n : ℕ) → Matched x y → option_map operation_of x ≡ Some o → 0 < n → n ≤ WIDTH_MAX → HasEnded (o.trace n)
+ends_case : (x : Option Microprogram) (y : Option TextOp) (o : Operation) (n : ℕ) → Matched x y
+    → option_map operation_of x ≡ Some o → 0 < n → n ≤ WIDTH_MAX → HasEnded (o.trace n)
 ends_case None y o n m e l k = cc
 ends_case (Some entry) None o n m e l k = elim m [ ]
 ends_case (Some entry) (Some op) o n (both _ _ does) e l k =

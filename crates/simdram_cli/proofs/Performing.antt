@@ -1,5 +1,6 @@
 -- A script that was done on an image, as the steps of a run.
-use Rattle.std.proofs.Common.{◌≡◌, ℕ, ◌*◌, true, List, [], ◌∷◌, ◌++◌, Option, Some, sym, ◌∙◌, ap, subst}
+use Rattle.std.proofs.Common.{◌≡◌, ℕ, ◌*◌, true, List, [], ◌∷◌, ◌++◌, Option, Some, sym, ◌∙◌, ap}
+use Rattle.std.proofs.Common.{subst}
 use Rattle.std.specs.Prelude.{count_by}
 use Rattle.std.specs.List.{AllByRecursion}
 use Rattle.dram_model.specs.declared.geometry.Geometry.{Geometry}
@@ -10,7 +11,8 @@ use Rattle.object_alloc.specs.Spelling.{image_bytes}
 use Rattle.bbop_isa.specs.Forms.{Instruction}
 use Rattle.machine_model.specs.Operations.{Program, operations_in}
 use Rattle.machine_model.specs.Opened.{Image, opened, rows_of, row_writes}
-use Rattle.machine_model.specs.Script.{is_bbop, is_refused, replies, script_events, banks_at_end, table_at_end}
+use Rattle.machine_model.specs.Script.{is_bbop, is_refused, replies, script_events, banks_at_end}
+use Rattle.machine_model.specs.Script.{table_at_end}
 use Rattle.machine_model.specs.Report.{said_in_rows, total_line}
 use Rattle.machine_model.proofs.Events.{events_are_steps}
 use Rattle.cli_model.specs.World.{World}
@@ -18,16 +20,19 @@ use Rattle.cli_model.specs.Steps.{Step, Open, Use, Store, Put, End, Done, Stoppe
 use Rattle.cli_model.proofs.Going.{goes_on, stops}
 use Rattle.sim_machine.specs.Did.{Did, Shown}
 use Rattle.sim_machine.specs.Image.{with_reads}
-use Rattle.simdram_cli.specs.Run.{line_steps, said_by, work_steps, image_by, tally_by, refused_by, opened_counters}
+use Rattle.simdram_cli.specs.Run.{line_steps, said_by, work_steps, image_by, tally_by, refused_by}
+use Rattle.simdram_cli.specs.Run.{opened_counters}
 use Rattle.simdram_cli.specs.Works.{chip_view, WorkDone}
 use Rattle.simdram_cli.proofs.Bbops.{table_at_end_is}
 use Rattle.simdram_cli.proofs.Tallies.{tally_is, work_done}
 
 abbrev pub last_steps : List ℕ → Program → List Instruction → Image → List Step
-last_steps name program script i = Use ∷ Store name (image_by program script i) ∷ Put (total_line (tally_by program script i) (refused_by program script i)) ∷ []
+last_steps name program script i = Use ∷ Store name (image_by program script i)
+    ∷ Put (total_line (tally_by program script i) (refused_by program script i)) ∷ []
 
 -- what stands before the end of a run, with a machine of this shape, program and table
-pub record Worked (program : Program) (script : List Instruction) (i : Image) (shape : Geometry) (p : Program) (table : List Named) (start now : Shown) (refused : ℕ) : Type 0 where
+pub record Worked (program : Program) (script : List Instruction) (i : Image) (shape : Geometry)
+    (p : Program) (table : List Named) (start now : Shown) (refused : ℕ) : Type 0 where
   pub shape_is : shape ≡ i.geometry
   pub program_is : p ≡ program
   pub table_is : table ≡ i.table
@@ -37,70 +42,118 @@ pub record Worked (program : Program) (script : List Instruction) (i : Image) (s
   pub did : Did (script_events shape (operations_in p) table script) start now
   pub refused_are : refused ≡ count_by is_refused (replies shape (operations_in p) table script)
 
-own_did : (program : Program) (script : List Instruction) (i : Image) (shape : Geometry) (p : Program) (table : List Named) (start now : Shown) (refused : ℕ) → Worked program script i shape p table start now refused
+own_did : (program : Program) (script : List Instruction) (i : Image) (shape : Geometry)
+    (p : Program) (table : List Named) (start now : Shown) (refused : ℕ)
+    → Worked program script i shape p table start now refused
     → Did (script_events i.geometry (operations_in program) i.table script) start now
-own_did program script i shape p table start now refused w = rw (w.shape_is, w.program_is, w.table_is) at w.did
+own_did program script i shape p table start now refused w =
+    rw (w.shape_is, w.program_is, w.table_is) at w.did
 
-own_refused : (program : Program) (script : List Instruction) (i : Image) (shape : Geometry) (p : Program) (table : List Named) (start now : Shown) (refused : ℕ) → Worked program script i shape p table start now refused → refused ≡ refused_by program script i
-own_refused program script i shape p table start now refused w = rw (w.shape_is, w.program_is, w.table_is) at w.refused_are
+own_refused : (program : Program) (script : List Instruction) (i : Image) (shape : Geometry)
+    (p : Program) (table : List Named) (start now : Shown) (refused : ℕ)
+    → Worked program script i shape p table start now refused
+    → refused ≡ refused_by program script i
+own_refused program script i shape p table start now refused w =
+    rw (w.shape_is, w.program_is, w.table_is) at w.refused_are
 
-own_image : (program : Program) (script : List Instruction) (i : Image) (shape : Geometry) (p : Program) (table : List Named) (start now : Shown) (refused : ℕ) → Worked program script i shape p table start now refused
+own_image : (program : Program) (script : List Instruction) (i : Image) (shape : Geometry)
+    (p : Program) (table : List Named) (start now : Shown) (refused : ℕ)
+    → Worked program script i shape p table start now refused
     → image_bytes shape table (rows_of now.banks) ≡ image_by program script i
 own_image program script i shape p table start now refused w =
     let did = own_did program script i shape p table start now refused w in
     let events = script_events i.geometry (operations_in program) i.table script in
-    let banks : now.banks ≡ banks_at_end i.geometry (operations_in program) i.table (opened i) script =
-    did.banks ∙ ap (after events) w.banks_are ∙ events_are_steps i.geometry (operations_in program) i.table script (opened i) in
-    let same_table : i.table ≡ table_at_end i.geometry (operations_in program) i.table script = sym (table_at_end_is i.geometry (operations_in program) i.table script w.bbops) in
+    let banks : now.banks ≡ banks_at_end i.geometry (operations_in program) i.table (opened i)
+    script =
+    did.banks ∙ ap (after events) w.banks_are
+    ∙ events_are_steps i.geometry (operations_in program) i.table script (opened i) in
+    let same_table : i.table ≡ table_at_end i.geometry (operations_in program) i.table script =
+    sym (table_at_end_is i.geometry (operations_in program) i.table script w.bbops) in
     ap (λ (s : Geometry). image_bytes s table (rows_of now.banks)) w.shape_is
-    ∙ ap (λ (t : List Named). image_bytes i.geometry t (rows_of now.banks)) (w.table_is ∙ same_table)
-    ∙ ap (λ (b : Banks). image_bytes i.geometry (table_at_end i.geometry (operations_in program) i.table script) (rows_of b)) banks
+    ∙ ap (λ (t : List Named). image_bytes i.geometry t (rows_of now.banks)) (w.table_is
+    ∙ same_table)
+    ∙ ap (λ (b : Banks). image_bytes i.geometry
+    (table_at_end i.geometry (operations_in program) i.table script) (rows_of b)) banks
 
-own_tally : (program : Program) (script : List Instruction) (i : Image) (shape : Geometry) (p : Program) (table : List Named) (start now : Shown) (refused : ℕ) → Worked program script i shape p table start now refused
+own_tally : (program : Program) (script : List Instruction) (i : Image) (shape : Geometry)
+    (p : Program) (table : List Named) (start now : Shown) (refused : ℕ)
+    → Worked program script i shape p table start now refused
     → with_reads (shape.banks * shape.rows) now.counters ≡ tally_by program script i
 own_tally program script i shape p table start now refused w =
     let did = own_did program script i shape p table start now refused w in
     ap (λ (s : Geometry). with_reads (s.banks * s.rows) now.counters) w.shape_is
-    ∙ ap (with_reads (i.geometry.banks * i.geometry.rows)) (did.counters ∙ ap (all_counted (script_events i.geometry (operations_in program) i.table script)) w.counters_are)
+    ∙ ap (with_reads (i.geometry.banks * i.geometry.rows)) (did.counters
+    ∙ ap (all_counted (script_events i.geometry (operations_in program) i.table script))
+    w.counters_are)
     ∙ tally_is program script i w.bbops
 
 -- the steps at the end are those of the run
-pub last_are : (name : List ℕ) (program : Program) (script : List Instruction) (i : Image) (shape : Geometry) (p : Program) (table : List Named) (start now : Shown) (refused : ℕ) (end : End) (a b : World) → Worked program script i shape p table start now refused
-    → Goes (Use ∷ Store name (image_bytes shape table (rows_of now.banks)) ∷ Put (total_line (with_reads (shape.banks * shape.rows) now.counters) refused) ∷ []) end a b
+pub last_are : (name : List ℕ) (program : Program) (script : List Instruction) (i : Image)
+    (shape : Geometry) (p : Program) (table : List Named) (start now : Shown) (refused : ℕ)
+    (end : End) (a b : World) → Worked program script i shape p table start now refused
+    → Goes (Use ∷ Store name (image_bytes shape table (rows_of now.banks))
+    ∷ Put (total_line (with_reads (shape.banks * shape.rows) now.counters) refused)
+    ∷ []) end a b
     → Goes (last_steps name program script i) end a b
 last_are name program script i shape p table start now refused end a b w g =
     let image = own_image program script i shape p table start now refused w in
     let tally = own_tally program script i shape p table start now refused w in
     let count = own_refused program script i shape p table start now refused w in
     subst (λ (steps : List Step). Goes steps end a b)
-    (ap (λ (bytes : List ℕ). Use ∷ Store name bytes ∷ Put (total_line (with_reads (shape.banks * shape.rows) now.counters) refused) ∷ []) image
-    ∙ ap (λ (k : Counters). Use ∷ Store name (image_by program script i) ∷ Put (total_line k refused) ∷ []) tally
-    ∙ ap (λ (n : ℕ). Use ∷ Store name (image_by program script i) ∷ Put (total_line (tally_by program script i) n) ∷ []) count) g
+    (ap (λ (bytes : List ℕ). Use ∷ Store name bytes
+    ∷ Put (total_line (with_reads (shape.banks * shape.rows) now.counters) refused) ∷ []) image
+    ∙ ap (λ (k : Counters). Use ∷ Store name (image_by program script i)
+    ∷ Put (total_line k refused) ∷ []) tally
+    ∙ ap (λ (n : ℕ). Use ∷ Store name (image_by program script i)
+    ∷ Put (total_line (tally_by program script i) n) ∷ []) count) g
 
 -- the lines are those of the run
-pub lines_are : (program : Program) (script : List Instruction) (i : Image) (shape : Geometry) (p : Program) (table : List Named) (banks : Banks) (end : End) (a b : World)
+pub lines_are : (program : Program) (script : List Instruction) (i : Image) (shape : Geometry)
+    (p : Program) (table : List Named) (banks : Banks) (end : End) (a b : World)
     → shape ≡ i.geometry → p ≡ program → table ≡ i.table → banks ≡ opened i
-    → Goes (line_steps 1 (said_in_rows shape (operations_in p) table banks script)) end a b → Goes (line_steps 1 (said_by program script i)) end a b
+    → Goes (line_steps 1 (said_in_rows shape (operations_in p) table banks script)) end a b
+    → Goes (line_steps 1 (said_by program script i)) end a b
 lines_are program script i shape p table banks end a b e f t s g = rw (e, f, t, s) at g
 
 -- a run that stopped at the opening, in the script, or went on to its end
-pub stopped_open : (name : List ℕ) (program : Program) (script : List Instruction) (i : Image) (reason : Reason) (a b : World) → Goes (Open ∷ []) (Stopped reason) a b → Goes (work_steps name program script i) (Stopped reason) a b
-stopped_open name program script i reason a b g = stops (Open ∷ []) (line_steps 1 (said_by program script i) ++ last_steps name program script i) reason a b g
+pub stopped_open : (name : List ℕ) (program : Program) (script : List Instruction) (i : Image)
+    (reason : Reason) (a b : World) → Goes (Open ∷ []) (Stopped reason) a b
+    → Goes (work_steps name program script i) (Stopped reason) a b
+stopped_open name program script i reason a b g =
+    stops (Open ∷ []) (line_steps 1 (said_by program script i) ++ last_steps name program script i)
+    reason a b g
 
-pub stopped_work : (name : List ℕ) (program : Program) (script : List Instruction) (i : Image) (reason : Reason) (a b c : World) → Goes (Open ∷ []) Done a b → Goes (line_steps 1 (said_by program script i)) (Stopped reason) b c
+pub stopped_work : (name : List ℕ) (program : Program) (script : List Instruction) (i : Image)
+    (reason : Reason) (a b c : World) → Goes (Open ∷ []) Done a b
+    → Goes (line_steps 1 (said_by program script i)) (Stopped reason) b c
     → Goes (work_steps name program script i) (Stopped reason) a c
 stopped_work name program script i reason a b c g h =
-    goes_on (Open ∷ []) (line_steps 1 (said_by program script i) ++ last_steps name program script i) (Stopped reason) a b c g (stops (line_steps 1 (said_by program script i)) (last_steps name program script i) reason b c h)
+    goes_on (Open ∷ []) (line_steps 1 (said_by program script i)
+    ++ last_steps name program script i) (Stopped reason) a b c g
+    (stops (line_steps 1 (said_by program script i)) (last_steps name program script i) reason b
+    c h)
 
-pub went_on : (name : List ℕ) (program : Program) (script : List Instruction) (i : Image) (end : End) (a b c d : World) → Goes (Open ∷ []) Done a b → Goes (line_steps 1 (said_by program script i)) Done b c → Goes (last_steps name program script i) end c d
+pub went_on : (name : List ℕ) (program : Program) (script : List Instruction) (i : Image)
+    (end : End) (a b c d : World) → Goes (Open ∷ []) Done a b
+    → Goes (line_steps 1 (said_by program script i)) Done b c
+    → Goes (last_steps name program script i) end c d
     → Goes (work_steps name program script i) end a d
 went_on name program script i end a b c d g h k =
-    goes_on (Open ∷ []) (line_steps 1 (said_by program script i) ++ last_steps name program script i) end a b d g (goes_on (line_steps 1 (said_by program script i)) (last_steps name program script i) end b c d h k)
+    goes_on (Open ∷ []) (line_steps 1 (said_by program script i)
+    ++ last_steps name program script i) end a b d g
+    (goes_on (line_steps 1 (said_by program script i)) (last_steps name program script i) end b
+    c d h k)
 
 -- what stands when all is done
-pub all_done : (program : Program) (script : List Instruction) (i : Image) (shape : Geometry) (p : Program) (table : List Named) (x y : Shown) (c : Banks) (z : Counters) (r : Option (List Event)) (refused : ℕ)
-    → Worked program script i shape p table x y refused → Grew (Some []) x.log (row_writes i) → c ≡ y.banks → z ≡ with_reads (shape.banks * shape.rows) y.counters → Grew y.log r []
+pub all_done : (program : Program) (script : List Instruction) (i : Image) (shape : Geometry)
+    (p : Program) (table : List Named) (x y : Shown) (c : Banks) (z : Counters)
+    (r : Option (List Event)) (refused : ℕ)
+    → Worked program script i shape p table x y refused → Grew (Some []) x.log (row_writes i)
+    → c ≡ y.banks → z ≡ with_reads (shape.banks * shape.rows) y.counters → Grew y.log r []
     → WorkDone program script i (chip_view c z r) refused
 all_done program script i shape p table x y c z r refused w log same read told =
-    work_done program script i x.banks y.banks c x.counters y.counters z x.log y.log r refused w.bbops w.banks_are w.counters_are log (own_did program script i shape p table x y refused w) same
-    (read ∙ ap (λ (s : Geometry). with_reads (s.banks * s.rows) y.counters) w.shape_is) told (own_refused program script i shape p table x y refused w)
+    work_done program script i x.banks y.banks c x.counters y.counters z x.log y.log r refused
+    w.bbops w.banks_are w.counters_are log
+    (own_did program script i shape p table x y refused w) same
+    (read ∙ ap (λ (s : Geometry). with_reads (s.banks * s.rows) y.counters) w.shape_is) told
+    (own_refused program script i shape p table x y refused w)

@@ -1,5 +1,6 @@
 -- What a run that is done promises.
-use Rattle.std.proofs.Common.{◌≡◌, ℕ, ◌+◌, ◌*◌, ◌<◌, List, [], ◌∷◌, ◌++◌, map, Some, refl, sym, ◌∙◌, ap, subst}
+use Rattle.std.proofs.Common.{◌≡◌, ℕ, ◌+◌, ◌*◌, ◌<◌, List, [], ◌∷◌, ◌++◌, map, Some, refl, sym, ◌∙◌}
+use Rattle.std.proofs.Common.{ap, subst}
 use Rattle.std.specs.Prelude.{count_by}
 use Rattle.std.specs.List.{AllByRecursion}
 use Rattle.host_edge.specs.Views.{Files}
@@ -8,14 +9,17 @@ use Rattle.dram_model.specs.Chip.{Banks, row_in}
 use Rattle.object_alloc.specs.Listed.{Named}
 use Rattle.object_alloc.specs.Spelling.{image_bytes, IsImage}
 use Rattle.bbop_isa.specs.Forms.{Instruction}
-use Rattle.machine_model.specs.Operations.{Program, Operations, operations_of, operations_in, meaning_in}
+use Rattle.machine_model.specs.Operations.{Program, Operations, operations_of, operations_in}
+use Rattle.machine_model.specs.Operations.{meaning_in}
 use Rattle.op_text.specs.Language.{Operation}
 use Rattle.uprog_code.specs.Texts.{ImplementsAll, text_op}
 use Rattle.machine_model.specs.Opened.{Image, opened, words_of, rows_of}
 use Rattle.machine_model.specs.Columns.{columns}
 use Rattle.machine_model.specs.Steps.{Held, table_of, words_after}
 use Rattle.machine_model.specs.Agrees.{Agrees, IsPlain, StepAgrees, DoesAll}
-use Rattle.machine_model.specs.Script.{replies, words_at_end, banks_at_end, table_at_end, is_touched_by, sum_of, sum_done, rows_loaded, rows_printed, is_refused}
+use Rattle.machine_model.specs.Script.{replies, words_at_end, banks_at_end, table_at_end}
+use Rattle.machine_model.specs.Script.{is_touched_by, sum_of, sum_done, rows_loaded, rows_printed}
+use Rattle.machine_model.specs.Script.{is_refused}
 use Rattle.machine_model.specs.Report.{lines, total_line, said_in_words, said_in_rows}
 use Rattle.machine_model.proofs.Texts.{same_operations, does_all}
 use Rattle.machine_model.proofs.Scripts.{table_step}
@@ -25,108 +29,179 @@ use Rattle.machine_model.proofs.KeptAll.{script_kept}
 use Rattle.simdram_cli.specs.declared.words.RunNames.{RunNames}
 use Rattle.simdram_cli.specs.Run.{said_by, tally_by, refused_by}
 use Rattle.simdram_cli.specs.Works.{ChipView, WorkDone}
-use Rattle.simdram_cli.specs.Headline.{Job, replies_of, state_after, ObjectsRight, RowsUntouched, CommandsCounted, report_of, IsNoBadWalk}
+use Rattle.simdram_cli.specs.Headline.{Job, replies_of, state_after, ObjectsRight, RowsUntouched}
+use Rattle.simdram_cli.specs.Headline.{CommandsCounted, report_of, IsNoBadWalk}
 use Rattle.simdram_cli.proofs.NoWalks.{all_end, no_walks}
 use Rattle.simdram_cli.proofs.OpenedRows.{opened_rows}
 
 abbrev pub job_of : List Operation → List Instruction → Image → Program → Job
 job_of t script i program = record { ops = t; script = script; image = i; program = program }
 
-tables : (g : Geometry) (banks : Banks) (table : List Named) → table_of (map (λ (p : Named). record { name = p.0; object = p.1; numbers = columns g banks p.1 }) table) ≡ table
+tables : (g : Geometry) (banks : Banks) (table : List Named)
+    → table_of (map (λ (p : Named). record {
+      name = p.0;
+      object = p.1;
+      numbers = columns g banks p.1;
+    }) table) ≡ table
 tables g banks [] = refl
 tables g banks (p ∷ table) = ap (λ rest. p ∷ rest) (tables g banks table)
 
 pub table_is : (i : Image) → table_of (words_of i) ≡ i.table
 table_is i = tables i.geometry (opened i) i.table
 
-tables_end : (g : Geometry) (o : Operations) (meaning : List ℕ → ℕ → List ℕ → ℕ) (state : List Held) (script : List Instruction) → table_of (words_at_end g o meaning state script) ≡ table_at_end g o (table_of state) script
+tables_end : (g : Geometry) (o : Operations) (meaning : List ℕ → ℕ → List ℕ
+    → ℕ) (state : List Held) (script : List Instruction)
+    → table_of (words_at_end g o meaning state script) ≡ table_at_end g o (table_of state) script
 tables_end g o meaning state [] = refl
 tables_end g o meaning state (i ∷ script) =
-    tables_end g o meaning (words_after g o meaning state i) script ∙ ap (λ t. table_at_end g o t script) (table_step g o meaning state i)
+    tables_end g o meaning (words_after g o meaning state i) script
+    ∙ ap (λ t. table_at_end g o t script) (table_step g o meaning state i)
 
-all_steps : (g : Geometry) (o : Operations) (meaning : List ℕ → ℕ → List ℕ → ℕ) (script : List Instruction) → 0 < g.words → DoesAll o meaning → AllByRecursion IsPlain script → AllByRecursion (StepAgrees g o meaning) script
+all_steps : (g : Geometry) (o : Operations) (meaning : List ℕ → ℕ → List ℕ
+    → ℕ) (script : List Instruction) → 0 < g.words → DoesAll o meaning
+    → AllByRecursion IsPlain script → AllByRecursion (StepAgrees g o meaning) script
 all_steps g o meaning [] words does plain = tt
-all_steps g o meaning (i ∷ script) words does plain = (every_step g o meaning i words does plain.0, all_steps g o meaning script words does plain.1)
+all_steps g o meaning (i ∷ script) words does plain =
+    (every_step g o meaning i words does plain.0, all_steps g o meaning script words does plain.1)
 
 -- what is known of a job that was done
-pub record IsDone (t : List Operation) (script : List Instruction) (i : Image) (program : Program) (chip : ChipView) (refused : ℕ) : Type 0 where
+pub record IsDone (t : List Operation) (script : List Instruction) (i : Image) (program : Program)
+    (chip : ChipView) (refused : ℕ) : Type 0 where
   pub implements : ImplementsAll program (map text_op t)
   pub image : IsImage i.geometry i.table i.rows
   pub words : 0 < i.geometry.words
   pub plain : AllByRecursion IsPlain script
   pub work : WorkDone program script i chip refused
 
-section_does : (t : List Operation) (program : Program) → ImplementsAll program (map text_op t) → DoesAll (operations_in program) (meaning_in (map text_op t))
-section_does t program implements = subst (λ (o : Operations). DoesAll o (meaning_in (map text_op t))) (same_operations program (map text_op t) implements) (does_all program (map text_op t) implements)
+section_does : (t : List Operation) (program : Program) → ImplementsAll program (map text_op t)
+    → DoesAll (operations_in program) (meaning_in (map text_op t))
+section_does t program implements =
+    subst (λ (o : Operations). DoesAll o (meaning_in (map text_op t)))
+    (same_operations program (map text_op t) implements)
+    (does_all program (map text_op t) implements)
 
-agrees_at_end : (t : List Operation) (script : List Instruction) (i : Image) (program : Program) (chip : ChipView) (refused : ℕ) → IsDone t script i program chip refused
-    → Agrees i.geometry chip.banks (words_at_end i.geometry (operations_in program) (meaning_in (map text_op t)) (words_of i) script)
+agrees_at_end : (t : List Operation) (script : List Instruction) (i : Image) (program : Program)
+    (chip : ChipView) (refused : ℕ) → IsDone t script i program chip refused
+    → Agrees i.geometry chip.banks (words_at_end i.geometry (operations_in program)
+    (meaning_in (map text_op t)) (words_of i) script)
 agrees_at_end t script i program chip refused d =
-    let whole = rows_give_words i.geometry (operations_in program) (meaning_in (map text_op t)) script d.words (section_does t program d.implements) d.plain (opened i) (words_of i) (opened_agrees i d.words d.image) in
-    let banks : banks_at_end i.geometry (operations_in program) (table_of (words_of i)) (opened i) script ≡ chip.banks =
-    ap (λ (table : List Named). banks_at_end i.geometry (operations_in program) table (opened i) script) (table_is i) ∙ sym d.work.banks in
-    subst (λ (b : Banks). Agrees i.geometry b (words_at_end i.geometry (operations_in program) (meaning_in (map text_op t)) (words_of i) script)) banks whole
+    let whole = rows_give_words i.geometry (operations_in program) (meaning_in (map text_op t))
+    script d.words (section_does t program d.implements) d.plain (opened i) (words_of i)
+    (opened_agrees i d.words d.image) in
+    let banks : banks_at_end i.geometry (operations_in program) (table_of (words_of i)) (opened i)
+    script ≡ chip.banks =
+    ap (λ (table : List Named). banks_at_end i.geometry (operations_in program) table (opened i)
+    script) (table_is i) ∙ sym d.work.banks in
+    subst (λ (b : Banks). Agrees i.geometry b
+    (words_at_end i.geometry (operations_in program) (meaning_in (map text_op t)) (words_of i)
+    script)) banks whole
 
 -- the table at the end
-pub end_table : (t : List Operation) (script : List Instruction) (i : Image) (program : Program) → ImplementsAll program (map text_op t)
-    → table_of (state_after (job_of t script i program)) ≡ table_at_end i.geometry (operations_in program) i.table script
+pub end_table : (t : List Operation) (script : List Instruction) (i : Image) (program : Program)
+    → ImplementsAll program (map text_op t)
+    → table_of (state_after (job_of t script i program))
+    ≡ table_at_end i.geometry (operations_in program) i.table script
 end_table t script i program implements =
-    tables_end i.geometry (operations_of (map text_op t) program) (meaning_in (map text_op t)) (words_of i) script
-    ∙ ap (λ (table : List Named). table_at_end i.geometry (operations_of (map text_op t) program) table script) (table_is i)
-    ∙ ap (λ (o : Operations). table_at_end i.geometry o i.table script) (same_operations program (map text_op t) implements)
+    tables_end i.geometry (operations_of (map text_op t) program) (meaning_in (map text_op t))
+    (words_of i) script
+    ∙ ap (λ (table : List Named). table_at_end i.geometry (operations_of (map text_op t) program)
+    table script) (table_is i)
+    ∙ ap (λ (o : Operations). table_at_end i.geometry o i.table script)
+    (same_operations program (map text_op t) implements)
 
-pub objects_right : (names : RunNames) (t : List Operation) (script : List Instruction) (i : Image) (program : Program) (chip : ChipView) (refused : ℕ) (after : Files) → IsDone t script i program chip refused
-    → after names.out.now ≡ Some (image_bytes i.geometry (table_at_end i.geometry (operations_in program) i.table script) (rows_of (banks_at_end i.geometry (operations_in program) i.table (opened i) script)))
+pub objects_right : (names : RunNames) (t : List Operation) (script : List Instruction) (i : Image)
+    (program : Program) (chip : ChipView) (refused : ℕ) (after : Files)
+    → IsDone t script i program chip refused
+    → after names.out.now
+    ≡ Some (image_bytes i.geometry (table_at_end i.geometry (operations_in program) i.table
+    script) (rows_of (banks_at_end i.geometry (operations_in program) i.table (opened i)
+    script)))
     → ObjectsRight names (job_of t script i program) after chip
 objects_right names t script i program chip refused after d out = record {
-  file = out ∙ ap (λ (table : List Named). Some (image_bytes i.geometry table (rows_of (banks_at_end i.geometry (operations_in program) i.table (opened i) script)))) (sym (end_table t script i program d.implements))
-      ∙ ap (λ (b : Banks). Some (image_bytes i.geometry (table_of (state_after (job_of t script i program))) (rows_of b))) (sym d.work.banks);
-  numbers = (subst (λ (o : Operations). Agrees i.geometry chip.banks (words_at_end i.geometry o (meaning_in (map text_op t)) (words_of i) script)) (sym (same_operations program (map text_op t) d.implements))
+  file = out
+      ∙ ap (λ (table : List Named). Some (image_bytes i.geometry table
+      (rows_of (banks_at_end i.geometry (operations_in program) i.table (opened i) script))))
+      (sym (end_table t script i program d.implements))
+      ∙ ap (λ (b : Banks). Some (image_bytes i.geometry
+      (table_of (state_after (job_of t script i program))) (rows_of b))) (sym d.work.banks);
+  numbers =
+      (subst (λ (o : Operations). Agrees i.geometry chip.banks
+      (words_at_end i.geometry o (meaning_in (map text_op t)) (words_of i) script))
+      (sym (same_operations program (map text_op t) d.implements))
       (agrees_at_end t script i program chip refused d)).numbers;
 }
 
-pub rows_untouched : (t : List Operation) (script : List Instruction) (i : Image) (program : Program) (chip : ChipView) (refused : ℕ) → IsDone t script i program chip refused → RowsUntouched (job_of t script i program) chip
+pub rows_untouched : (t : List Operation) (script : List Instruction) (i : Image)
+    (program : Program) (chip : ChipView) (refused : ℕ) → IsDone t script i program chip refused
+    → RowsUntouched (job_of t script i program) chip
 rows_untouched t script i program chip refused d bank row b r out =
     let same = same_operations program (map text_op t) d.implements in
-    let kept = script_kept i.geometry (operations_in program) (meaning_in (map text_op t)) script d.words (section_does t program d.implements) d.plain (opened i) (words_of i) (opened_agrees i d.words d.image) bank row
-    (ap (λ (table : List Named). is_touched_by i.geometry (operations_in program) table script bank row) (table_is i)
-    ∙ ap (λ (o : Operations). is_touched_by i.geometry o i.table script bank row) (sym same) ∙ out) in
+    let kept = script_kept i.geometry (operations_in program) (meaning_in (map text_op t)) script
+    d.words (section_does t program d.implements) d.plain (opened i) (words_of i)
+    (opened_agrees i d.words d.image) bank row
+    (ap (λ (table : List Named). is_touched_by i.geometry (operations_in program) table script bank
+    row) (table_is i)
+    ∙ ap (λ (o : Operations). is_touched_by i.geometry o i.table script bank row) (sym same)
+    ∙ out) in
     ap (λ (x : Banks). row_in row (x bank)) d.work.banks
-    ∙ ap (λ (table : List Named). row_in row (banks_at_end i.geometry (operations_in program) table (opened i) script bank)) (sym (table_is i))
+    ∙ ap (λ (table : List Named). row_in row (banks_at_end i.geometry (operations_in program) table
+    (opened i) script bank)) (sym (table_is i))
     ∙ kept ∙ opened_rows i bank row d.image b r
 
-pub commands_counted : (t : List Operation) (script : List Instruction) (i : Image) (program : Program) (chip : ChipView) (refused : ℕ) → IsDone t script i program chip refused → CommandsCounted (job_of t script i program) chip
+pub commands_counted : (t : List Operation) (script : List Instruction) (i : Image)
+    (program : Program) (chip : ChipView) (refused : ℕ) → IsDone t script i program chip refused
+    → CommandsCounted (job_of t script i program) chip
 commands_counted t script i program chip refused d =
     let same = sym (same_operations program (map text_op t) d.implements) in
     let all = i.geometry.banks * i.geometry.rows in
     record {
-      aap = ap (λ k. k.aap) d.work.counters ∙ ap (λ (o : Operations). (sum_of (replies i.geometry o i.table script)).aap) same;
-      ap = ap (λ k. k.ap) d.work.counters ∙ ap (λ (o : Operations). (sum_of (replies i.geometry o i.table script)).ap) same;
-      writes = ap (λ k. k.writes) d.work.counters ∙ ap (λ (o : Operations). all + sum_done rows_loaded i.geometry o i.table script) same;
-      reads = ap (λ k. k.reads) d.work.counters ∙ ap (λ (o : Operations). all + sum_done rows_printed i.geometry o i.table script) same;
+      aap = ap (λ k. k.aap) d.work.counters ∙ ap
+          (λ (o : Operations). (sum_of (replies i.geometry o i.table script)).aap) same;
+      ap = ap (λ k. k.ap) d.work.counters ∙ ap
+          (λ (o : Operations). (sum_of (replies i.geometry o i.table script)).ap) same;
+      writes = ap (λ k. k.writes) d.work.counters
+          ∙ ap (λ (o : Operations). all + sum_done rows_loaded i.geometry o i.table script) same;
+      reads = ap (λ k. k.reads) d.work.counters
+          ∙ ap (λ (o : Operations). all + sum_done rows_printed i.geometry o i.table script) same;
       banks = d.work.banks;
       log = d.work.log;
     }
 
 -- the report by the rows is the report by the words
-pub report_is : (t : List Operation) (script : List Instruction) (i : Image) (program : Program) (chip : ChipView) (refused : ℕ) → IsDone t script i program chip refused
-    → lines 1 (said_by program script i) ++ total_line (tally_by program script i) (refused_by program script i) ≡ report_of (job_of t script i program) chip
+pub report_is : (t : List Operation) (script : List Instruction) (i : Image) (program : Program)
+    (chip : ChipView) (refused : ℕ) → IsDone t script i program chip refused
+    → lines 1 (said_by program script i) ++ total_line (tally_by program script i)
+    (refused_by program script i) ≡ report_of (job_of t script i program) chip
 report_is t script i program chip refused d =
     let same = same_operations program (map text_op t) d.implements in
     let does = section_does t program d.implements in
-    let said : said_by program script i ≡ said_in_words i.geometry (operations_in program) (meaning_in (map text_op t)) (words_of i) script =
-    ap (λ (table : List Named). said_in_rows i.geometry (operations_in program) table (opened i) script) (sym (table_is i))
-    ∙ report_same i.geometry (operations_in program) (meaning_in (map text_op t)) script (all_steps i.geometry (operations_in program) (meaning_in (map text_op t)) script d.words does d.plain) (opened i) (words_of i) (opened_agrees i d.words d.image) in
+    let said : said_by program script i ≡ said_in_words i.geometry (operations_in program)
+    (meaning_in (map text_op t)) (words_of i) script =
+    ap (λ (table : List Named). said_in_rows i.geometry (operations_in program) table (opened i)
+    script) (sym (table_is i))
+    ∙ report_same i.geometry (operations_in program) (meaning_in (map text_op t)) script
+    (all_steps i.geometry (operations_in program) (meaning_in (map text_op t)) script d.words
+    does d.plain) (opened i) (words_of i) (opened_agrees i d.words d.image) in
     ap (λ s. lines 1 s ++ total_line (tally_by program script i) (refused_by program script i)) said
-    ∙ ap (λ k. lines 1 (said_in_words i.geometry (operations_in program) (meaning_in (map text_op t)) (words_of i) script) ++ total_line k (refused_by program script i)) (sym d.work.counters)
-    ∙ ap (λ (o : Operations). lines 1 (said_in_words i.geometry o (meaning_in (map text_op t)) (words_of i) script) ++ total_line chip.counters (count_by is_refused (replies i.geometry o i.table script))) (sym same)
+    ∙ ap (λ k. lines 1 (said_in_words i.geometry (operations_in program)
+    (meaning_in (map text_op t)) (words_of i) script)
+    ++ total_line k (refused_by program script i)) (sym d.work.counters)
+    ∙ ap (λ (o : Operations). lines 1 (said_in_words i.geometry o (meaning_in (map text_op t))
+    (words_of i) script) ++ total_line chip.counters
+    (count_by is_refused (replies i.geometry o i.table script))) (sym same)
 
-pub refusals_are : (t : List Operation) (script : List Instruction) (i : Image) (program : Program) → ImplementsAll program (map text_op t)
+pub refusals_are : (t : List Operation) (script : List Instruction) (i : Image) (program : Program)
+    → ImplementsAll program (map text_op t)
     → refused_by program script i ≡ count_by is_refused (replies_of (job_of t script i program))
-refusals_are t script i program implements = ap (λ (o : Operations). count_by is_refused (replies i.geometry o i.table script)) (sym (same_operations program (map text_op t) implements))
+refusals_are t script i program implements = ap
+    (λ (o : Operations). count_by is_refused (replies i.geometry o i.table script))
+    (sym (same_operations program (map text_op t) implements))
 
-pub no_bad_walks : (t : List Operation) (script : List Instruction) (i : Image) (program : Program) → ImplementsAll program (map text_op t) → AllByRecursion IsPlain script
+pub no_bad_walks : (t : List Operation) (script : List Instruction) (i : Image) (program : Program)
+    → ImplementsAll program (map text_op t) → AllByRecursion IsPlain script
     → AllByRecursion IsNoBadWalk (replies_of (job_of t script i program))
 no_bad_walks t script i program implements plain =
-    subst (λ (o : Operations). AllByRecursion IsNoBadWalk (replies i.geometry o i.table script)) (sym (same_operations program (map text_op t) implements))
-    (no_walks i.geometry (operations_in program) i.table script (all_end program (map text_op t) implements) plain)
+    subst (λ (o : Operations). AllByRecursion IsNoBadWalk (replies i.geometry o i.table script))
+    (sym (same_operations program (map text_op t) implements))
+    (no_walks i.geometry (operations_in program) i.table script
+    (all_end program (map text_op t) implements) plain)

@@ -11,7 +11,8 @@ use Rattle.op_text.specs.Language.{Operation}
 use Rattle.op_text.specs.Lines.{fault_in}
 use Rattle.op_print.specs.Reading.{IsTextOf}
 use Rattle.simdram_cli.specs.declared.words.TheConstants.{OPS_MAX}
-use Rattle.built_forms.specs.Texts.{ops_in, ops_refusal, unless_fault, script_in, built_from, at_line, not_yet}
+use Rattle.built_forms.specs.Texts.{ops_in, ops_refusal, unless_fault, script_in, built_from}
+use Rattle.built_forms.specs.Texts.{at_line, not_yet}
 use Rattle.simdram_cli.specs.Reads.{refusal_of, LoadedAs, NotLoaded, NotRead, OpsRead}
 use Rattle.simdram_cli.proofs.Joins.{told_text, told_is_text, loaded_text}
 
@@ -19,38 +20,51 @@ pub no_sink : SinkView
 no_sink = record { sent = None; faults = 0 }
 
 -- a file that was not loaded
-pub not_read : {A : Type 0} (read : List ℕ → Result A Refusal) (name : List ℕ) (limit : ℕ) (reason : Reason) (old new : FolderView) → NotLoaded name limit reason old new → NotRead read name limit reason old new
+pub not_read : {A : Type 0} (read : List ℕ → Result A Refusal) (name : List ℕ) (limit : ℕ)
+    (reason : Reason) (old new : FolderView) → NotLoaded name limit reason old new
+    → NotRead read name limit reason old new
 not_read read name limit reason old new n = record {
   text = told_text old.holds name;
   is_text = told_is_text old.holds name;
-  fails = λ sink chip. n (told_text old.holds name) (refusal_of (read (told_text old.holds name))) sink chip;
+  fails = λ sink chip. n (told_text old.holds name) (refusal_of (read (told_text old.holds name)))
+      sink chip;
 }
 
 -- a text that is refused
-pub text_refused : {A : Type 0} (read : List ℕ → Result A Refusal) (name : List ℕ) (limit : ℕ) (text : List ℕ) (refusal : Refusal) (old new : FolderView) → LoadedAs name limit text old new → read text ≡ Err refusal → NotRead read name limit (Refused refusal) old new
+pub text_refused : {A : Type 0} (read : List ℕ
+    → Result A Refusal) (name : List ℕ) (limit : ℕ) (text : List ℕ) (refusal : Refusal)
+    (old new : FolderView) → LoadedAs name limit text old new → read text ≡ Err refusal
+    → NotRead read name limit (Refused refusal) old new
 text_refused read name limit text refusal old new loaded e = record {
   text = text;
-  is_text = loaded_text name limit text (world old no_sink 0) (world new no_sink 0) (loaded no_sink 0);
+  is_text = loaded_text name limit text (world old no_sink 0) (world new no_sink 0)
+      (loaded no_sink 0);
   fails = λ sink chip. (ap refusal_of e, loaded sink chip);
 }
 
 -- no memory to read a text
-pub text_unread : {A : Type 0} (read : List ℕ → Result A Refusal) (name : List ℕ) (limit : ℕ) (text : List ℕ) (old new : FolderView) → LoadedAs name limit text old new → NotRead read name limit NoMemory old new
+pub text_unread : {A : Type 0} (read : List ℕ
+    → Result A Refusal) (name : List ℕ) (limit : ℕ) (text : List ℕ) (old new : FolderView)
+    → LoadedAs name limit text old new → NotRead read name limit NoMemory old new
 text_unread read name limit text old new loaded = record {
   text = text;
-  is_text = loaded_text name limit text (world old no_sink 0) (world new no_sink 0) (loaded no_sink 0);
+  is_text = loaded_text name limit text (world old no_sink 0) (world new no_sink 0)
+      (loaded no_sink 0);
   fails = λ sink chip. (loaded sink chip).reads;
 }
 
-pub ops_refused : (text : List ℕ) (fault : OpsFault) → fault_in text ≡ Some fault → ops_in text ≡ Err (ops_refusal fault)
+pub ops_refused : (text : List ℕ) (fault : OpsFault) → fault_in text ≡ Some fault
+    → ops_in text ≡ Err (ops_refusal fault)
 ops_refused text fault e = ap unless_fault e
 
 pub ops_accepted : (text : List ℕ) → fault_in text ≡ None → ops_in text ≡ Ok tt
 ops_accepted text e = ap unless_fault e
 
-pub script_refused : (text : List ℕ) (line : ℕ) → built_from 1 (lines_of text) ≡ Err line → script_in text ≡ Err (not_yet 6 (codes "script line ") line)
+pub script_refused : (text : List ℕ) (line : ℕ) → built_from 1 (lines_of text) ≡ Err line
+    → script_in text ≡ Err (not_yet 6 (codes "script line ") line)
 script_refused text line e = ap {B = Result (List Instruction) Refusal} at_line e
 
 -- the ops of a text that is loaded
-pub ops_parsed : (name text : List ℕ) (ops : List Operation) (old new : FolderView) → LoadedAs name OPS_MAX text old new → IsTextOf text ops → OpsRead name ops old new
+pub ops_parsed : (name text : List ℕ) (ops : List Operation) (old new : FolderView)
+    → LoadedAs name OPS_MAX text old new → IsTextOf text ops → OpsRead name ops old new
 ops_parsed name text ops old new loaded is = record { text = text; is = is; loaded = loaded }

@@ -1,5 +1,6 @@
 -- The parts of a run.
-use Rattle.std.proofs.Common.{◌≡◌, ℕ, Bool, true, false, List, [], ◌∷◌, map, refl, sym, ◌∙◌, ap, inl}
+use Rattle.std.proofs.Common.{◌≡◌, ℕ, Bool, true, false, List, [], ◌∷◌, map, refl, sym, ◌∙◌, ap}
+use Rattle.std.proofs.Common.{inl}
 use Rattle.std.specs.Prelude.{Result, Ok, Err, IfOk, IfErr, bytes_eq, not, ◌&&◌, codes}
 use Rattle.std.specs.List.{AllByRecursion, list_all}
 use Rattle.std.proofs.lemmas.Slice.Eq.{bytes_eq-Decides}
@@ -14,7 +15,8 @@ use Rattle.machine_model.specs.Opened.{Image}
 use Rattle.machine_model.specs.Agrees.{IsPlain}
 use Rattle.machine_model.specs.Script.{is_bbop}
 use Rattle.cli_model.specs.World.{World, world}
-use Rattle.cli_model.specs.Steps.{Take, Store, Refusal, Reason, Refused, NoMemory, Done, Stopped, Goes}
+use Rattle.cli_model.specs.Steps.{Take, Store, Refusal, Reason, Refused, NoMemory, Done, Stopped}
+use Rattle.cli_model.specs.Steps.{Goes}
 use Rattle.cli_model.proofs.Going.{stops}
 use Rattle.built_forms.specs.Texts.{ops_in, image_of, not_yet}
 use Rattle.simdram_cli.specs.declared.words.RunNames.{RunNames}
@@ -28,20 +30,27 @@ use Rattle.simdram_cli.specs.Reads.{refusal_of, LoadedAs, NotLoaded, NotRead, Op
 use Rattle.simdram_cli.specs.Run.{work_steps}
 use Rattle.simdram_cli.specs.Works.{ChipView, WorkDone}
 use Rattle.simdram_cli.specs.Words.{are_apart, all_differ}
-use Rattle.simdram_cli.specs.Ends.{GoesToStore, StopsAtStore, ProgramTaken, ProgramStopped, DoneOn, ImageWorked}
-use Rattle.simdram_cli.proofs.Joins.{told_text, told_is_text, loaded_text, loading_goes, loading_stops, AreOthers}
+use Rattle.simdram_cli.specs.Ends.{GoesToStore, StopsAtStore, ProgramTaken, ProgramStopped, DoneOn}
+use Rattle.simdram_cli.specs.Ends.{ImageWorked}
+use Rattle.simdram_cli.proofs.Joins.{told_text, told_is_text, loaded_text, loading_goes}
+use Rattle.simdram_cli.proofs.Joins.{loading_stops, AreOthers}
 use Rattle.simdram_cli.proofs.Reading.{no_sink, ops_accepted}
 
-pub program_unread : (names : RunNames) (reason : Reason) (old new : FolderView) → NotRead ops_in names.ops.now OPS_MAX reason old new → ProgramStopped names reason old new
+pub program_unread : (names : RunNames) (reason : Reason) (old new : FolderView)
+    → NotRead ops_in names.ops.now OPS_MAX reason old new → ProgramStopped names reason old new
 program_unread names reason old new n = record {
   program = [];
   text = n.text;
   is_text = n.is_text;
-  goes = λ rest sink k. loading_stops names.ops.now OPS_MAX n.text (ops_in n.text) (λ _. Take ∷ Store names.prog.now (program_bytes []) ∷ rest) reason (world old sink k) (world new sink k) (n.fails sink k);
+  goes = λ rest sink k. loading_stops names.ops.now OPS_MAX n.text (ops_in n.text) (λ _. Take
+      ∷ Store names.prog.now (program_bytes []) ∷ rest) reason (world old sink k) (world new sink k)
+      (n.fails sink k);
 }
 
 -- OPS was read, and PROG stored
-pub program_taken : (names : RunNames) (ops : List Operation) (program : Program) (old mid new : FolderView) → OpsRead names.ops.now ops old mid → ImplementsAll program (map text_op ops)
+pub program_taken : (names : RunNames) (ops : List Operation) (program : Program)
+    (old mid new : FolderView) → OpsRead names.ops.now ops old mid
+    → ImplementsAll program (map text_op ops)
     → GoesToStore names.prog.now program Done mid new → ProgramTaken names program old new
 program_taken names ops program old mid new r implements g = record {
   text = r.text;
@@ -51,91 +60,140 @@ program_taken names ops program old mid new r implements g = record {
 }
 
 -- the answers of a call that stores PROG
-pub taken_by : {X : Type 0} (names : RunNames) (ops : List Operation) (program : X → Program) (result : Result X Stop) (old mid new : FolderView) → OpsRead names.ops.now ops old mid
-    → IfOk result (λ p. ImplementsAll (program p) (map text_op ops)) → IfOk result (λ p. GoesToStore names.prog.now (program p) Done mid new) → IfOk result (λ p. ProgramTaken names (program p) old new)
-taken_by names ops program (Ok p) old mid new r implements g = program_taken names ops (program p) old mid new r implements g
+pub taken_by : {X : Type 0} (names : RunNames) (ops : List Operation) (program : X
+    → Program) (result : Result X Stop) (old mid new : FolderView)
+    → OpsRead names.ops.now ops old mid
+    → IfOk result (λ p. ImplementsAll (program p) (map text_op ops))
+    → IfOk result (λ p. GoesToStore names.prog.now (program p) Done mid new)
+    → IfOk result (λ p. ProgramTaken names (program p) old new)
+taken_by names ops program (Ok p) old mid new r implements g =
+    program_taken names ops (program p) old mid new r implements g
 taken_by names ops program (Err stop) old mid new r implements g = tt
 
 -- OPS was read, and PROG not stored
-pub program_unstored : (names : RunNames) (ops : List Operation) (reason : Reason) (old mid new : FolderView) → OpsRead names.ops.now ops old mid → StopsAtStore names.prog.now reason mid new → ProgramStopped names reason old new
+pub program_unstored : (names : RunNames) (ops : List Operation) (reason : Reason)
+    (old mid new : FolderView) → OpsRead names.ops.now ops old mid
+    → StopsAtStore names.prog.now reason mid new → ProgramStopped names reason old new
 program_unstored names ops reason old mid new r g = record {
   program = g.0;
   text = r.text;
-  is_text = loaded_text names.ops.now OPS_MAX r.text (world old no_sink 0) (world mid no_sink 0) (r.loaded no_sink 0);
-  goes = λ rest sink k. loading_goes names.ops.now OPS_MAX r.text (ops_in r.text) (λ _. Take ∷ Store names.prog.now (program_bytes g.0) ∷ rest) tt (Stopped reason) (world old sink k) (world mid sink k) (world new sink k)
-      (ops_accepted r.text r.is.0) (r.loaded sink k) (stops (Take ∷ Store names.prog.now (program_bytes g.0) ∷ []) rest reason (world mid sink k) (world new sink k) (g.1 sink k));
+  is_text = loaded_text names.ops.now OPS_MAX r.text (world old no_sink 0) (world mid no_sink 0)
+      (r.loaded no_sink 0);
+  goes = λ rest sink k. loading_goes names.ops.now OPS_MAX r.text (ops_in r.text) (λ _. Take
+      ∷ Store names.prog.now (program_bytes g.0) ∷ rest) tt (Stopped reason) (world old sink k)
+      (world mid sink k) (world new sink k)
+      (ops_accepted r.text r.is.0) (r.loaded sink k)
+      (stops (Take ∷ Store names.prog.now (program_bytes g.0) ∷ []) rest reason
+      (world mid sink k) (world new sink k) (g.1 sink k));
 }
 
-pub stopped_by : {X : Type 0} (names : RunNames) (ops : List Operation) (result : Result X Stop) (old mid new : FolderView) → OpsRead names.ops.now ops old mid
-    → IfErr result (λ stop. StopsAtStore names.prog.now (reason_of stop) mid new) → IfErr result (λ stop. ProgramStopped names (reason_of stop) old new)
+pub stopped_by : {X : Type 0} (names : RunNames) (ops : List Operation) (result : Result X Stop)
+    (old mid new : FolderView) → OpsRead names.ops.now ops old mid
+    → IfErr result (λ stop. StopsAtStore names.prog.now (reason_of stop) mid new)
+    → IfErr result (λ stop. ProgramStopped names (reason_of stop) old new)
 stopped_by names ops (Ok p) old mid new r g = tt
-stopped_by names ops (Err stop) old mid new r g = program_unstored names ops (reason_of stop) old mid new r g
+stopped_by names ops (Err stop) old mid new r g =
+    program_unstored names ops (reason_of stop) old mid new r g
 
 -- IMAGE was not loaded
-pub image_unread : (names : RunNames) (program : Program) (script : List Instruction) (stop : Stop) (old new : FolderView) (sink : SinkView) (k : ℕ) (chip : ChipView) → NotLoaded names.image.now IMAGE_MAX (reason_of stop) old new
+pub image_unread : (names : RunNames) (program : Program) (script : List Instruction) (stop : Stop)
+    (old new : FolderView) (sink : SinkView) (k : ℕ) (chip : ChipView)
+    → NotLoaded names.image.now IMAGE_MAX (reason_of stop) old new
     → ImageWorked names program script (world old sink k) (world new sink k) chip (Err stop)
 image_unread names program script stop old new sink k chip n = record {
   text = told_text old.holds names.image.now;
   is_text = told_is_text old.holds names.image.now;
-  goes = loading_stops names.image.now IMAGE_MAX (told_text old.holds names.image.now) (image_of (told_text old.holds names.image.now)) (λ i. work_steps names.out.now program script i) (reason_of stop) (world old sink k) (world new sink k)
-      (n (told_text old.holds names.image.now) (refusal_of (image_of (told_text old.holds names.image.now))) sink k);
+  goes = loading_stops names.image.now IMAGE_MAX (told_text old.holds names.image.now)
+      (image_of (told_text old.holds names.image.now)) (λ i.
+      work_steps names.out.now program script i) (reason_of stop) (world old sink k)
+      (world new sink k)
+      (n (told_text old.holds names.image.now)
+      (refusal_of (image_of (told_text old.holds names.image.now))) sink k);
   done = tt;
 }
 
 -- IMAGE is refused
-pub image_refused : (names : RunNames) (program : Program) (script : List Instruction) (stop : Stop) (text : List ℕ) (refusal : Refusal) (old new : FolderView) (sink : SinkView) (k : ℕ) (chip : ChipView) → LoadedAs names.image.now IMAGE_MAX text old new
-    → image_of text ≡ Err refusal → reason_of stop ≡ Refused refusal → ImageWorked names program script (world old sink k) (world new sink k) chip (Err stop)
+pub image_refused : (names : RunNames) (program : Program) (script : List Instruction) (stop : Stop)
+    (text : List ℕ) (refusal : Refusal) (old new : FolderView) (sink : SinkView) (k : ℕ)
+    (chip : ChipView) → LoadedAs names.image.now IMAGE_MAX text old new
+    → image_of text ≡ Err refusal → reason_of stop ≡ Refused refusal
+    → ImageWorked names program script (world old sink k) (world new sink k) chip (Err stop)
 image_refused names program script stop text refusal old new sink k chip loaded e f = record {
   text = text;
-  is_text = loaded_text names.image.now IMAGE_MAX text (world old sink k) (world new sink k) (loaded sink k);
-  goes = loading_stops names.image.now IMAGE_MAX text (image_of text) (λ i. work_steps names.out.now program script i) (reason_of stop) (world old sink k) (world new sink k) (rw f (ap refusal_of e, loaded sink k));
+  is_text = loaded_text names.image.now IMAGE_MAX text (world old sink k) (world new sink k)
+      (loaded sink k);
+  goes = loading_stops names.image.now IMAGE_MAX text (image_of text) (λ i.
+      work_steps names.out.now program script i) (reason_of stop) (world old sink k)
+      (world new sink k) (rw f (ap refusal_of e, loaded sink k));
   done = tt;
 }
 
 -- there was no memory to read IMAGE
-pub image_no_memory : (names : RunNames) (program : Program) (script : List Instruction) (stop : Stop) (text : List ℕ) (old new : FolderView) (sink : SinkView) (k : ℕ) (chip : ChipView) → LoadedAs names.image.now IMAGE_MAX text old new
-    → reason_of stop ≡ NoMemory → ImageWorked names program script (world old sink k) (world new sink k) chip (Err stop)
+pub image_no_memory : (names : RunNames) (program : Program) (script : List Instruction)
+    (stop : Stop) (text : List ℕ) (old new : FolderView) (sink : SinkView) (k : ℕ) (chip : ChipView)
+    → LoadedAs names.image.now IMAGE_MAX text old new
+    → reason_of stop ≡ NoMemory → ImageWorked names program script (world old sink k)
+    (world new sink k) chip (Err stop)
 image_no_memory names program script stop text old new sink k chip loaded f = record {
   text = text;
-  is_text = loaded_text names.image.now IMAGE_MAX text (world old sink k) (world new sink k) (loaded sink k);
-  goes = loading_stops names.image.now IMAGE_MAX text (image_of text) (λ i. work_steps names.out.now program script i) (reason_of stop) (world old sink k) (world new sink k) (rw f (loaded sink k).reads);
+  is_text = loaded_text names.image.now IMAGE_MAX text (world old sink k) (world new sink k)
+      (loaded sink k);
+  goes = loading_stops names.image.now IMAGE_MAX text (image_of text) (λ i.
+      work_steps names.out.now program script i) (reason_of stop) (world old sink k)
+      (world new sink k) (rw f (loaded sink k).reads);
   done = tt;
 }
 
 -- IMAGE is not taken
-pub image_not_read : (names : RunNames) (program : Program) (script : List Instruction) (stop : Stop) (no : FormNo) (text : List ℕ) (old new : FolderView) (sink : SinkView) (k : ℕ) (chip : ChipView) → LoadedAs names.image.now IMAGE_MAX text old new
-    → NoImage text no → reason_of stop ≡ image_reason no → ImageWorked names program script (world old sink k) (world new sink k) chip (Err stop)
+pub image_not_read : (names : RunNames) (program : Program) (script : List Instruction)
+    (stop : Stop) (no : FormNo) (text : List ℕ) (old new : FolderView) (sink : SinkView) (k : ℕ)
+    (chip : ChipView) → LoadedAs names.image.now IMAGE_MAX text old new
+    → NoImage text no → reason_of stop ≡ image_reason no
+    → ImageWorked names program script (world old sink k) (world new sink k) chip (Err stop)
 image_not_read names program script stop (forms.NotYet at) text old new sink k chip loaded e f =
-    image_refused names program script stop text (not_yet 7 (codes "image byte ") 0) old new sink k chip loaded e.0 (f ∙ ap (λ n. Refused (not_yet 7 (codes "image byte ") n)) e.1)
-image_not_read names program script stop forms.NoMemory text old new sink k chip loaded e f = image_no_memory names program script stop text old new sink k chip loaded f
+    image_refused names program script stop text (not_yet 7 (codes "image byte ") 0) old new sink k
+    chip loaded e.0 (f ∙ ap (λ n. Refused (not_yet 7 (codes "image byte ") n)) e.1)
+image_not_read names program script stop forms.NoMemory text old new sink k chip loaded e f =
+    image_no_memory names program script stop text old new sink k chip loaded f
 
-done_on : (program : Program) (script : List Instruction) (i : Image) (read : Result Image Refusal) (chip : ChipView) (result : Result ℕ Stop) → read ≡ Ok i → IsImage i.geometry i.table i.rows → AllByRecursion IsPlain script → IfOk result (WorkDone program script i chip)
+done_on : (program : Program) (script : List Instruction) (i : Image) (read : Result Image Refusal)
+    (chip : ChipView) (result : Result ℕ Stop) → read ≡ Ok i → IsImage i.geometry i.table i.rows
+    → AllByRecursion IsPlain script → IfOk result (WorkDone program script i chip)
     → IfOk result (DoneOn program script read chip)
 done_on program script i read chip (Ok refused) e is plain w = rw e (is, plain, w)
 done_on program script i read chip (Err stop) e is plain w = tt
 
 -- IMAGE was read, and the script done on it
-pub image_worked : (names : RunNames) (program : Program) (script : List Instruction) (i : Image) (result : Result ℕ Stop) (text : List ℕ) (old mid : FolderView) (sink : SinkView) (k : ℕ) (new : World) (chip : ChipView) → LoadedAs names.image.now IMAGE_MAX text old mid
+pub image_worked : (names : RunNames) (program : Program) (script : List Instruction) (i : Image)
+    (result : Result ℕ Stop) (text : List ℕ) (old mid : FolderView) (sink : SinkView) (k : ℕ)
+    (new : World) (chip : ChipView) → LoadedAs names.image.now IMAGE_MAX text old mid
     → image_of text ≡ Ok i → IsImage i.geometry i.table i.rows → AllByRecursion IsPlain script
-    → Goes (work_steps names.out.now program script i) (end_of result) (world mid sink k) new → IfOk result (WorkDone program script i chip)
+    → Goes (work_steps names.out.now program script i) (end_of result) (world mid sink k) new
+    → IfOk result (WorkDone program script i chip)
     → ImageWorked names program script (world old sink k) new chip result
-image_worked names program script i result text old mid sink k new chip loaded e is plain g w = record {
-  text = text;
-  is_text = loaded_text names.image.now IMAGE_MAX text (world old sink k) (world mid sink k) (loaded sink k);
-  goes = loading_goes names.image.now IMAGE_MAX text (image_of text) (λ x. work_steps names.out.now program script x) i (end_of result) (world old sink k) (world mid sink k) new e (loaded sink k) g;
-  done = done_on program script i (image_of text) chip result e is plain w;
-}
+image_worked names program script i result text old mid sink k new chip loaded e is plain g w =
+    record {
+      text = text;
+      is_text = loaded_text names.image.now IMAGE_MAX text (world old sink k) (world mid sink k)
+          (loaded sink k);
+      goes = loading_goes names.image.now IMAGE_MAX text (image_of text) (λ x.
+          work_steps names.out.now program script x) i (end_of result) (world old sink k)
+          (world mid sink k) new e (loaded sink k) g;
+      done = done_on program script i (image_of text) chip result e is plain w;
+    }
 
 pub both : (x y : Bool) → (x && y) ≡ true → (x ≡ true) × (y ≡ true)
 both true true e = (refl, refl)
 both true false e = absurd (cc)
 both false y e = absurd (cc)
 
-pub all_bbops : (script : List Instruction) → AllByRecursion IsBuilt script → AllByRecursion (λ i. is_bbop i ≡ true) script
+pub all_bbops : (script : List Instruction) → AllByRecursion IsBuilt script
+    → AllByRecursion (λ i. is_bbop i ≡ true) script
 all_bbops [] all = tt
 all_bbops (i ∷ script) all = (all.0.0, all_bbops script all.1)
 
-pub all_plain : (script : List Instruction) → AllByRecursion IsBuilt script → AllByRecursion IsPlain script
+pub all_plain : (script : List Instruction) → AllByRecursion IsBuilt script
+    → AllByRecursion IsPlain script
 all_plain [] all = tt
 all_plain (i ∷ script) all = (all.0.1, all_plain script all.1)
 
@@ -143,7 +201,8 @@ not_true : (b : Bool) → not b ≡ true → b ≡ false
 not_true true e = absurd (cc)
 not_true false e = refl
 
-same_back : (x y : List ℕ) (b : Bool) → bytes_eq y x ≡ b → bytes_eq x y ≡ false → bytes_eq y x ≡ false
+same_back : (x y : List ℕ) (b : Bool) → bytes_eq y x ≡ b → bytes_eq x y ≡ false
+    → bytes_eq y x ≡ false
 same_back x y true e f =
     let same = (bytes_eq-Decides y x).0 e in
     let back = (bytes_eq-Decides x y).1 (sym same) in
@@ -164,16 +223,29 @@ record Differ (a b c d : List ℕ) : Type 0 where
 
 four_differ : (a b c d : List ℕ) → all_differ (a ∷ b ∷ c ∷ d ∷ []) ≡ true → Differ a b c d
 four_differ a b c d e =
-    let first = both (list_all (λ other. not (bytes_eq a other)) (b ∷ c ∷ d ∷ [])) (all_differ (b ∷ c ∷ d ∷ [])) e in
-    let second = both (list_all (λ other. not (bytes_eq b other)) (c ∷ d ∷ [])) (all_differ (c ∷ d ∷ [])) first.1 in
-    let third = both (list_all (λ other. not (bytes_eq c other)) (d ∷ [])) (all_differ (d ∷ [])) second.1 in
-    let one = both (not (bytes_eq a b)) (list_all (λ other. not (bytes_eq a other)) (c ∷ d ∷ [])) first.0 in
-    let two = both (not (bytes_eq a c)) (list_all (λ other. not (bytes_eq a other)) (d ∷ [])) one.1 in
+    let first = both (list_all (λ other. not (bytes_eq a other)) (b ∷ c ∷ d ∷ []))
+    (all_differ (b ∷ c ∷ d ∷ [])) e in
+    let second = both (list_all (λ other. not (bytes_eq b other)) (c ∷ d ∷ []))
+    (all_differ (c ∷ d ∷ [])) first.1 in
+    let third = both (list_all (λ other. not (bytes_eq c other)) (d ∷ [])) (all_differ (d ∷ []))
+    second.1 in
+    let one = both (not (bytes_eq a b)) (list_all (λ other. not (bytes_eq a other)) (c ∷ d ∷ []))
+    first.0 in
+    let two = both (not (bytes_eq a c)) (list_all (λ other. not (bytes_eq a other)) (d ∷ [])) one.1
+    in
     let three = both (not (bytes_eq a d)) true two.1 in
-    let four = both (not (bytes_eq b c)) (list_all (λ other. not (bytes_eq b other)) (d ∷ [])) second.0 in
+    let four = both (not (bytes_eq b c)) (list_all (λ other. not (bytes_eq b other)) (d ∷ []))
+    second.0 in
     let five = both (not (bytes_eq b d)) true four.1 in
     let six = both (not (bytes_eq c d)) true third.0 in
-    record { ab = not_true _ one.0; ac = not_true _ two.0; ad = not_true _ three.0; bc = not_true _ four.0; bd = not_true _ five.0; cd = not_true _ six.0 }
+    record {
+      ab = not_true _ one.0;
+      ac = not_true _ two.0;
+      ad = not_true _ three.0;
+      bc = not_true _ four.0;
+      bd = not_true _ five.0;
+      cd = not_true _ six.0;
+    }
 
 -- which files of a run are apart
 pub record Apart (names : RunNames) : Type 0 where
@@ -182,14 +254,21 @@ pub record Apart (names : RunNames) : Type 0 where
   pub prog_out : bytes_eq names.prog.now names.out.now ≡ false
   pub script_out : bytes_eq names.script.now names.out.now ≡ false
 
-pub apart : (names : RunNames) → are_apart names.ops.now names.prog.now names.script.now names.image.now names.out.now ≡ true → Apart names
+pub apart : (names : RunNames) → are_apart names.ops.now names.prog.now names.script.now
+    names.image.now names.out.now ≡ true → Apart names
 apart names e =
-    let parts = both (all_differ (names.ops.now ∷ names.prog.now ∷ names.script.now ∷ names.image.now ∷ [])) (all_differ (names.ops.now ∷ names.prog.now ∷ names.script.now ∷ names.out.now ∷ [])) e in
-    let inputs = four_differ names.ops.now names.prog.now names.script.now names.image.now parts.0 in
+    let parts = both (all_differ (names.ops.now ∷ names.prog.now ∷ names.script.now
+    ∷ names.image.now ∷ [])) (all_differ (names.ops.now ∷ names.prog.now ∷ names.script.now
+    ∷ names.out.now ∷ [])) e in
+    let inputs = four_differ names.ops.now names.prog.now names.script.now names.image.now parts.0
+    in
     let outputs = four_differ names.ops.now names.prog.now names.script.now names.out.now parts.1 in
     record {
       ops_prog = inputs.ab;
-      others = record { script = turned names.prog.now names.script.now inputs.bc; image = turned names.prog.now names.image.now inputs.bd };
+      others = record {
+        script = turned names.prog.now names.script.now inputs.bc;
+        image = turned names.prog.now names.image.now inputs.bd;
+      };
       prog_out = outputs.bd;
       script_out = outputs.cd;
     }

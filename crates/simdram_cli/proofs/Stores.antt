@@ -1,65 +1,145 @@
 -- Stores, and the steps at the end of a run.
-use Rattle.std.proofs.Common.{◌≡◌, ℕ, ◌≤◌, Bool, true, false, cond, List, [], ◌∷◌, ◌++◌, Option, Some, None, refl, ◌∙◌, ap, inl, inr, arith}
+use Rattle.std.proofs.Common.{◌≡◌, ℕ, ◌≤◌, Bool, true, false, cond, List, [], ◌∷◌, ◌++◌, Option}
+use Rattle.std.proofs.Common.{Some, None, refl, ◌∙◌, ap, inl, inr, arith}
 use Rattle.std.specs.Prelude.{bytes_eq, IfSome, Result, Ok, Err, OnOk, OnErr, is_err}
 use mathlib.Core.Path.{fun_ext}
 use Rattle.std.proofs.lemmas.Slice.Eq.{bytes_eq-Decides}
-use Rattle.host_edge.specs.Views.{Files, FolderView, SinkView, Told, Rose, NoCountFalls, KeepsOthers, HasBytes, AppendsPart}
+use Rattle.host_edge.specs.Views.{Files, FolderView, SinkView, Told, Rose, NoCountFalls}
+use Rattle.host_edge.specs.Views.{KeepsOthers, HasBytes, AppendsPart}
 use Rattle.cli_model.specs.World.{World, world, with_file}
-use Rattle.cli_model.specs.Steps.{Take, Use, Store, Put, ReadsOnly, CannotWrite, PutFailed, Done, Stopped, Goes, Used, Stored, Sent, Unstored}
+use Rattle.cli_model.specs.Steps.{Take, Use, Store, Put, ReadsOnly, CannotWrite, PutFailed, Done}
+use Rattle.cli_model.specs.Steps.{Stopped, Goes, Used, Stored, Sent, Unstored}
 
 different : (other name : List ℕ) → bytes_eq other name ≡ false → other ≡ name → ⊥
 different other name e is = let same = (bytes_eq-Decides other name).1 is in cc
 
-with_file_at : (name bytes : List ℕ) (before after : Files) (other : List ℕ) (same : Bool) → bytes_eq other name ≡ same → KeepsOthers name before after → after name ≡ Some bytes
+with_file_at : (name bytes : List ℕ) (before after : Files) (other : List ℕ) (same : Bool)
+    → bytes_eq other name ≡ same → KeepsOthers name before after → after name ≡ Some bytes
     → after other ≡ cond same (Some bytes) (before other)
-with_file_at name bytes before after other true e keeps there = ap after ((bytes_eq-Decides other name).0 e) ∙ there
-with_file_at name bytes before after other false e keeps there = keeps other (λ is. absurd (different other name e is))
+with_file_at name bytes before after other true e keeps there =
+    ap after ((bytes_eq-Decides other name).0 e) ∙ there
+with_file_at name bytes before after other false e keeps there =
+    keeps other (λ is. absurd (different other name e is))
 
-pub stored_is : (name bytes : List ℕ) (a b : Option Files) → Told (KeepsOthers name) a b → IfSome b (λ files. files name ≡ Some bytes) → Told (λ before after. after ≡ with_file name bytes before) a b
+pub stored_is : (name bytes : List ℕ) (a b : Option Files) → Told (KeepsOthers name) a b
+    → IfSome b (λ files. files name ≡ Some bytes)
+    → Told (λ before after. after ≡ with_file name bytes before) a b
 stored_is name bytes None b t h = tt
 stored_is name bytes (Some before) None t h = absurd t
-stored_is name bytes (Some before) (Some after) t h = fun_ext (λ other. with_file_at name bytes before after other (bytes_eq other name) refl t h)
+stored_is name bytes (Some before) (Some after) t h =
+    fun_ext (λ other. with_file_at name bytes before after other (bytes_eq other name) refl t h)
 
-pub stored : (name bytes : List ℕ) (old new : FolderView) (sink : SinkView) (chip : ℕ) → Told (KeepsOthers name) old.holds new.holds → HasBytes new name bytes → NoCountFalls old new → Stored name bytes (world old sink chip) (world new sink chip)
-stored name bytes old new sink chip t h n = record { files = stored_is name bytes old.holds new.holds t h; counts = n; sink = refl; chip = refl }
+pub stored : (name bytes : List ℕ) (old new : FolderView) (sink : SinkView) (chip : ℕ)
+    → Told (KeepsOthers name) old.holds new.holds → HasBytes new name bytes → NoCountFalls old new
+    → Stored name bytes (world old sink chip) (world new sink chip)
+stored name bytes old new sink chip t h n = record
+    { files = stored_is name bytes old.holds new.holds t h; counts = n; sink = refl; chip = refl }
 
-pub unstored : (name : List ℕ) (old new : FolderView) (sink : SinkView) (chip : ℕ) → Told (KeepsOthers name) old.holds new.holds → Rose old.store_faults new.store_faults → NoCountFalls old new → Unstored name (world old sink chip) (world new sink chip)
-unstored name old new sink chip t r n = record { others = t; counts = n; rose = r; sink = refl; chip = refl }
+pub unstored : (name : List ℕ) (old new : FolderView) (sink : SinkView) (chip : ℕ)
+    → Told (KeepsOthers name) old.holds new.holds → Rose old.store_faults new.store_faults
+    → NoCountFalls old new → Unstored name (world old sink chip) (world new sink chip)
+unstored name old new sink chip t r n = record {
+  others = t;
+  counts = n;
+  rose = r;
+  sink = refl;
+  chip = refl;
+}
 
-pub used : (files : FolderView) (sink : SinkView) (a b : ℕ) → a ≤ b → Used (world files sink a) (world files sink b)
+pub used : (files : FolderView) (sink : SinkView) (a b : ℕ) → a ≤ b
+    → Used (world files sink a) (world files sink b)
 used files sink a b l = record { files = refl; sink = refl; chip = l }
 
-pub sent : (R : List ℕ → List ℕ → Type 0) (files : FolderView) (old new : SinkView) (chip : ℕ) → Told R old.sent new.sent → old.faults ≤ new.faults → Sent R (world files old chip) (world files new chip)
+pub sent : (R : List ℕ → List ℕ → Type 0) (files : FolderView) (old new : SinkView) (chip : ℕ)
+    → Told R old.sent new.sent → old.faults ≤ new.faults
+    → Sent R (world files old chip) (world files new chip)
 sent R files old new chip t l = record { files = refl; sent = t; faults = l; chip = refl }
 
-pub finish_unstored : (name bytes total : List ℕ) (f g : FolderView) (s : SinkView) (a b : ℕ) → a ≤ b → Unstored name (world f s b) (world g s b)
-    → Goes (Use ∷ Store name bytes ∷ Put total ∷ []) (Stopped (CannotWrite name)) (world f s a) (world g s b)
+pub finish_unstored : (name bytes total : List ℕ) (f g : FolderView) (s : SinkView) (a b : ℕ)
+    → a ≤ b → Unstored name (world f s b) (world g s b)
+    → Goes (Use ∷ Store name bytes ∷ Put total ∷ []) (Stopped (CannotWrite name)) (world f s a)
+    (world g s b)
 finish_unstored name bytes total f g s a b l u = inl (world f s b, (used f s a b l, inr (refl, u)))
 
-pub finish_unput : (name bytes total : List ℕ) (f g : FolderView) (s t : SinkView) (a b : ℕ) → a ≤ b → Stored name bytes (world f s b) (world g s b) → Told (AppendsPart total) s.sent t.sent → s.faults ≤ t.faults → Rose s.faults t.faults
+pub finish_unput : (name bytes total : List ℕ) (f g : FolderView) (s t : SinkView) (a b : ℕ) → a ≤ b
+    → Stored name bytes (world f s b) (world g s b) → Told (AppendsPart total) s.sent t.sent
+    → s.faults ≤ t.faults → Rose s.faults t.faults
     → Goes (Use ∷ Store name bytes ∷ Put total ∷ []) (Stopped PutFailed) (world f s a) (world g t b)
-finish_unput name bytes total f g s t a b l u p n r = inl (world f s b, (used f s a b l, inl (world g s b, (u, inr (tt, sent (AppendsPart total) g s t b p n, r)))))
+finish_unput name bytes total f g s t a b l u p n r =
+    inl (
+      world f s b,
+      (
+        used f s a b l,
+        inl (
+          world g s b,
+          (u, inr (tt, sent (AppendsPart total) g s t b p n, r)),
+        ),
+      ),
+    )
 
-pub finish_done : (name bytes total : List ℕ) (f g : FolderView) (s t : SinkView) (a b : ℕ) → a ≤ b → Stored name bytes (world f s b) (world g s b) → Told (λ before after. after ≡ before ++ total) s.sent t.sent → s.faults ≤ t.faults
+pub finish_done : (name bytes total : List ℕ) (f g : FolderView) (s t : SinkView) (a b : ℕ) → a ≤ b
+    → Stored name bytes (world f s b) (world g s b)
+    → Told (λ before after. after ≡ before ++ total) s.sent t.sent → s.faults ≤ t.faults
     → Goes (Use ∷ Store name bytes ∷ Put total ∷ []) Done (world f s a) (world g t b)
-finish_done name bytes total f g s t a b l u p n = inl (world f s b, (used f s a b l, inl (world g s b, (u, inl (world g t b, (sent (λ before after. after ≡ before ++ total) g s t b p n, refl))))))
+finish_done name bytes total f g s t a b l u p n =
+    inl (
+      world f s b,
+      (
+        used f s a b l,
+        inl (
+          world g s b,
+          (u, inl (world g t b, (sent (λ before after. after ≡ before ++ total) g s t b p n,
+              refl))),
+        ),
+      ),
+    )
 
 pub nothing_read : (w : World) → ReadsOnly w w
-nothing_read w = record { files = refl; counts = record { load_faults = λ name. omega arith; store_faults = omega arith; taken = omega arith }; sink = refl; chip = refl }
+nothing_read w = record {
+  files = refl;
+  counts = record {
+    load_faults = λ name. omega arith;
+    store_faults = omega arith;
+    taken = omega arith;
+  };
+  sink = refl;
+  chip = refl;
+}
 
-pub take_stored : (name bytes : List ℕ) (f g : FolderView) (s : SinkView) (k : ℕ) → Stored name bytes (world f s k) (world g s k) → Goes (Take ∷ Store name bytes ∷ []) Done (world f s k) (world g s k)
-take_stored name bytes f g s k t = inl (world f s k, (nothing_read (world f s k), inl (world g s k, (t, refl))))
+pub take_stored : (name bytes : List ℕ) (f g : FolderView) (s : SinkView) (k : ℕ)
+    → Stored name bytes (world f s k) (world g s k)
+    → Goes (Take ∷ Store name bytes ∷ []) Done (world f s k) (world g s k)
+take_stored name bytes f g s k t = inl (
+  world f s k,
+  (nothing_read (world f s k), inl (world g s k, (t, refl))),
+)
 
-pub take_unstored : (name bytes : List ℕ) (f g : FolderView) (s : SinkView) (k : ℕ) → Unstored name (world f s k) (world g s k) → Goes (Take ∷ Store name bytes ∷ []) (Stopped (CannotWrite name)) (world f s k) (world g s k)
+pub take_unstored : (name bytes : List ℕ) (f g : FolderView) (s : SinkView) (k : ℕ)
+    → Unstored name (world f s k) (world g s k)
+    → Goes (Take ∷ Store name bytes ∷ []) (Stopped (CannotWrite name)) (world f s k) (world g s k)
 take_unstored name bytes f g s k t = inl (world f s k, (nothing_read (world f s k), inr (refl, t)))
 
-pub line_done : (bytes : List ℕ) (files : FolderView) (s t : SinkView) (a b : ℕ) → a ≤ b → Told (λ before after. after ≡ before ++ bytes) s.sent t.sent → s.faults ≤ t.faults
+pub line_done : (bytes : List ℕ) (files : FolderView) (s t : SinkView) (a b : ℕ) → a ≤ b
+    → Told (λ before after. after ≡ before ++ bytes) s.sent t.sent → s.faults ≤ t.faults
     → Goes (Use ∷ Put bytes ∷ []) Done (world files s a) (world files t b)
-line_done bytes files s t a b l p n = inl (world files s b, (used files s a b l, inl (world files t b, (sent (λ before after. after ≡ before ++ bytes) files s t b p n, refl))))
+line_done bytes files s t a b l p n = inl (
+  world files s b,
+  (
+    used files s a b l,
+    inl (
+      world files t b,
+      (sent (λ before after. after ≡ before ++ bytes) files s t b p n, refl),
+    ),
+  ),
+)
 
-pub line_unput : (bytes : List ℕ) (files : FolderView) (s t : SinkView) (a b : ℕ) → a ≤ b → Told (AppendsPart bytes) s.sent t.sent → s.faults ≤ t.faults → Rose s.faults t.faults
+pub line_unput : (bytes : List ℕ) (files : FolderView) (s t : SinkView) (a b : ℕ) → a ≤ b
+    → Told (AppendsPart bytes) s.sent t.sent → s.faults ≤ t.faults → Rose s.faults t.faults
     → Goes (Use ∷ Put bytes ∷ []) (Stopped PutFailed) (world files s a) (world files t b)
-line_unput bytes files s t a b l p n r = inl (world files s b, (used files s a b l, inr (tt, sent (AppendsPart bytes) files s t b p n, r)))
+line_unput bytes files s t a b l p n r = inl (
+  world files s b,
+  (used files s a b l, inr (tt, sent (AppendsPart bytes) files s t b p n, r)),
+)
 
 -- a clause at the answer that a test showed
 pub at_ok : {T E P : Type 0} (r : Result T E) → is_err r ≡ false → OnOk r P → P

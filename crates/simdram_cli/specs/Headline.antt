@@ -1,5 +1,6 @@
 -- What a run promises when it ends with status 0 or 8.
-use Rattle.std.specs.Prelude.{map, ◌≡◌, ◌≢◌, ◌⊎◌, ℕ, ◌+◌, ◌*◌, ◌<◌, false, List, ◌++◌, Option, Some, None, Result, IfSome, count_by}
+use Rattle.std.specs.Prelude.{map, ◌≡◌, ◌≢◌, ◌⊎◌, ℕ, ◌+◌, ◌*◌, ◌<◌, false, List, ◌++◌, Option, Some}
+use Rattle.std.specs.Prelude.{None, Result, IfSome, count_by}
 use Rattle.std.specs.List.{AllByRecursion}
 use Rattle.std.specs.Result.{result_ok}
 use denote.Ref.{Bor}
@@ -11,13 +12,16 @@ use Rattle.bbop_isa.specs.Forms.{Instruction}
 use Rattle.machine_model.specs.declared.Reply.{Reply}
 use Rattle.machine_model.specs.declared.Reply.TheVariants.{Refused}
 use Rattle.machine_model.specs.declared.Why.TheVariants as why
-use Rattle.machine_model.specs.Operations.{Program, Operations, operations_of, operations_in, meaning_in}
+use Rattle.machine_model.specs.Operations.{Program, Operations, operations_of, operations_in}
+use Rattle.machine_model.specs.Operations.{meaning_in}
 use Rattle.op_text.specs.Language.{Operation}
 use Rattle.op_print.specs.Reading.{IsTextOf}
 use Rattle.uprog_code.specs.Texts.{TextOp, ImplementsAll, text_op}
 use Rattle.machine_model.specs.Steps.{Held, table_of}
 use Rattle.machine_model.specs.Agrees.{HoldsNumbers}
-use Rattle.machine_model.specs.Script.{replies, words_at_end, banks_at_end, is_touched_by, script_events, sum_of, sum_done, rows_loaded, rows_printed, is_refused}
+use Rattle.machine_model.specs.Script.{replies, words_at_end, banks_at_end, is_touched_by}
+use Rattle.machine_model.specs.Script.{script_events, sum_of, sum_done, rows_loaded, rows_printed}
+use Rattle.machine_model.specs.Script.{is_refused}
 use Rattle.machine_model.specs.Report.{report, said_in_words}
 use Rattle.machine_model.specs.Opened.{Image, row_writes, opened, rows_of, words_of}
 use Rattle.cli_model.specs.Steps.{Refusal}
@@ -63,17 +67,22 @@ replies_of job = replies job.image.geometry (operations job) job.image.table job
 
 -- the word machine's state after the script: the objects with their numbers
 abbrev pub state_after : Job → List Held
-state_after job = words_at_end job.image.geometry (operations job) (meaning_in (text_of job)) (words_of job.image) job.script
+state_after job = words_at_end job.image.geometry (operations job) (meaning_in (text_of job))
+    (words_of job.image) job.script
 
 -- PROG is the spelling of a program that implements the operations
 pub record ProgramWritten (names : RunNames) (job : Job) (after : Files) : Type 0 where
   pub file : after names.prog.now ≡ Some (program_bytes job.program)
   pub implements : ImplementsAll job.program (text_of job)
 
--- OUT is the spelling of the word machine's table with the chip's rows, in which each object has exactly its numbers
-pub record ObjectsRight (names : RunNames) (job : Job) (after : Files) (chip : ChipView) : Type 0 where
-  pub file : after names.out.now ≡ Some (image_bytes job.image.geometry (table_of (state_after job)) (rows_of chip.banks))
-  pub numbers : HoldsNumbers job.image.geometry chip.banks (state_after job)
+-- OUT is the spelling of the word machine's table with the chip's rows, in which each object has
+-- exactly its numbers
+pub record ObjectsRight (names : RunNames) (job : Job) (after : Files) (chip : ChipView) : Type 0
+  where
+    pub file : after names.out.now ≡ Some (image_bytes job.image.geometry
+        (table_of (state_after job))
+        (rows_of chip.banks))
+    pub numbers : HoldsNumbers job.image.geometry chip.banks (state_after job)
 
 -- A row that no done instruction touches is as it was in the image read
 abbrev pub RowsUntouched : Job → ChipView → Type 0
@@ -82,19 +91,25 @@ RowsUntouched job chip =
     → is_touched_by job.image.geometry (operations job) job.image.table job.script bank row ≡ false
     → row_in row (chip.banks bank) ≡ job.image.rows bank row
 
--- The chip received what the replies count, and nothing else; its banks are what the commands of the program written leave
+-- The chip received what the replies count, and nothing else; its banks are what the commands of
+-- the program written leave
 pub record CommandsCounted (job : Job) (chip : ChipView) : Type 0 where
   pub aap : chip.counters.aap ≡ (sum_of (replies_of job)).aap
   pub ap : chip.counters.ap ≡ (sum_of (replies_of job)).ap
-  pub writes : chip.counters.writes ≡ job.image.geometry.banks * job.image.geometry.rows + sum_done rows_loaded job.image.geometry (operations job) job.image.table job.script
-  pub reads : chip.counters.reads ≡ job.image.geometry.banks * job.image.geometry.rows + sum_done rows_printed job.image.geometry (operations job) job.image.table job.script
-  pub banks : chip.banks ≡ banks_at_end job.image.geometry (operations_in job.program) job.image.table (opened job.image) job.script
-  pub log : IfSome chip.log (λ told. told ≡ row_writes job.image ++ script_events job.image.geometry (operations_in job.program) job.image.table job.script)
+  pub writes : chip.counters.writes ≡ job.image.geometry.banks * job.image.geometry.rows
+      + sum_done rows_loaded job.image.geometry (operations job) job.image.table job.script
+  pub reads : chip.counters.reads ≡ job.image.geometry.banks * job.image.geometry.rows
+      + sum_done rows_printed job.image.geometry (operations job) job.image.table job.script
+  pub banks : chip.banks ≡ banks_at_end job.image.geometry (operations_in job.program)
+      job.image.table (opened job.image) job.script
+  pub log : IfSome chip.log (λ told. told ≡ row_writes job.image
+      ++ script_events job.image.geometry (operations_in job.program) job.image.table job.script)
 
 -- what the word machine says of the script, and the line of the totals
 abbrev pub report_of : Job → ChipView → List ℕ
 report_of job chip =
-    report (said_in_words job.image.geometry (operations job) (meaning_in (text_of job)) (words_of job.image) job.script) chip.counters (replies_of job)
+    report (said_in_words job.image.geometry (operations job) (meaning_in (text_of job))
+    (words_of job.image) job.script) chip.counters (replies_of job)
 
 -- The report was sent, behind what was sent before
 abbrev pub ReportSent : Job → ChipView → Option (List ℕ) → Option (List ℕ) → Type 0
@@ -103,18 +118,24 @@ ReportSent job chip old new = Told (λ before after. after ≡ before ++ report_
 abbrev pub IsNoBadWalk : Reply → Type 0
 IsNoBadWalk reply = (walk : _) → reply ≢ Refused (why.BadWalk walk)
 
--- The status tells whether a reply is a refusal; no walk was stuck; and all files but PROG and OUT are as at entry
-pub record RepliesExact (names : RunNames) (job : Job) (status : ℕ) (before after : Files) : Type 0 where
-  pub answers : status ≡ done_status (count_by is_refused (replies_of job))
-  pub walks : AllByRecursion IsNoBadWalk (replies_of job)
-  pub others : (other : List ℕ) → other ≢ names.prog.now → other ≢ names.out.now → after other ≡ before other
+-- The status tells whether a reply is a refusal; no walk was stuck; and all files but PROG and OUT
+-- are as at entry
+pub record RepliesExact (names : RunNames) (job : Job) (status : ℕ) (before after : Files) : Type 0
+  where
+    pub answers : status ≡ done_status (count_by is_refused (replies_of job))
+    pub walks : AllByRecursion IsNoBadWalk (replies_of job)
+    pub others : (other : List ℕ) → other ≢ names.prog.now → other ≢ names.out.now
+        → after other ≡ before other
 
 -- Where the words are those of a run
 abbrev pub OnRunWords : List (Bor (List ℕ)) → (RunNames → Type 0) → Type 0
 OnRunWords words P = (names : RunNames) → command_of words ≡ Some (Run names) → P names
 
--- Where the words are those of a run, the status is 0 or 8 and the folder tells its files: a promise on its job
-abbrev pub OnRun : List (Bor (List ℕ)) → ℕ → Option Files → Option Files → (RunNames → Job → Files → Files → Type 0) → Type 0
+-- Where the words are those of a run, the status is 0 or 8 and the folder tells its files: a
+-- promise on its job
+abbrev pub OnRun : List (Bor (List ℕ)) → ℕ → Option Files → Option Files
+    → (RunNames → Job → Files → Files → Type 0) → Type 0
 OnRun words status old new P =
     (names : RunNames) → command_of words ≡ Some (Run names) → (status ≡ 0) ⊎ (status ≡ 8)
-    → Told (λ before after. (job : Job) × IsJob names before job × ProgramWritten names job after × P names job before after) old new
+    → Told (λ before after. (job : Job) × IsJob names before job × ProgramWritten names job after
+    × P names job before after) old new

@@ -17,24 +17,31 @@ IsText holds name text = IfSome holds (λ files. IfSome (files name) (λ bytes. 
 
 -- the file was loaded, with this text
 abbrev pub LoadedAs : (name : List ℕ) (limit : ℕ) (text : List ℕ) → FolderView → FolderView → Type 0
-LoadedAs name limit text old new = (sink : SinkView) (chip : ℕ) → Loaded name limit text (world old sink chip) (world new sink chip)
+LoadedAs name limit text old new = (sink : SinkView) (chip : ℕ)
+    → Loaded name limit text (world old sink chip) (world new sink chip)
 
 -- the file was not loaded
 abbrev pub NotLoaded : (name : List ℕ) (limit : ℕ) → Reason → FolderView → FolderView → Type 0
 NotLoaded name limit reason old new =
-    (text : List ℕ) (refusal : Option Refusal) (sink : SinkView) (chip : ℕ) → LoadFails name limit text refusal reason (world old sink chip) (world new sink chip)
+    (text : List ℕ) (refusal : Option Refusal) (sink : SinkView) (chip : ℕ)
+    → LoadFails name limit text refusal reason (world old sink chip) (world new sink chip)
 
 -- the file was loaded, and its text is read as this value
-pub record ReadAs {A : Type 0} (read : List ℕ → Result A Refusal) (name : List ℕ) (limit : ℕ) (value : A) (old new : FolderView) : Type 0 where
-  pub text : List ℕ
-  pub value_is : read text ≡ Ok value
-  pub loaded : LoadedAs name limit text old new
+pub record ReadAs {A : Type 0} (read : List ℕ
+    → Result A Refusal) (name : List ℕ) (limit : ℕ) (value : A) (old new : FolderView) : Type 0
+  where
+    pub text : List ℕ
+    pub value_is : read text ≡ Ok value
+    pub loaded : LoadedAs name limit text old new
 
 -- the file was not loaded, or its text is refused, or there was no memory to read it
-pub record NotRead {A : Type 0} (read : List ℕ → Result A Refusal) (name : List ℕ) (limit : ℕ) (reason : Reason) (old new : FolderView) : Type 0 where
+pub record NotRead {A : Type 0} (read : List ℕ
+    → Result A Refusal) (name : List ℕ) (limit : ℕ) (reason : Reason) (old new : FolderView) : Type
+    0 where
   pub text : List ℕ
   pub is_text : IsText old.holds name text
-  pub fails : (sink : SinkView) (chip : ℕ) → LoadFails name limit text (refusal_of (read text)) reason (world old sink chip) (world new sink chip)
+  pub fails : (sink : SinkView) (chip : ℕ) → LoadFails name limit text (refusal_of (read text))
+      reason (world old sink chip) (world new sink chip)
 
 -- OPS was loaded, and its text is one of these ops
 pub record OpsRead (name : List ℕ) (ops : List Operation) (old new : FolderView) : Type 0 where

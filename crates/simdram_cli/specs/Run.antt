@@ -8,7 +8,8 @@ use Rattle.bbop_isa.specs.Forms.{Instruction}
 use Rattle.machine_model.specs.declared.Reply.{Reply}
 use Rattle.machine_model.specs.Operations.{Program, operations_in}
 use Rattle.machine_model.specs.Opened.{Image, opened, rows_of}
-use Rattle.machine_model.specs.Script.{replies, table_at_end, banks_at_end, sum_of, sum_done, rows_loaded, rows_printed, is_refused}
+use Rattle.machine_model.specs.Script.{replies, table_at_end, banks_at_end, sum_of, sum_done}
+use Rattle.machine_model.specs.Script.{rows_loaded, rows_printed, is_refused}
 use Rattle.machine_model.specs.Report.{Said, said_in_rows, line, total_line}
 use Rattle.cli_model.specs.Steps.{Step, Take, Store, Open, Use, Put, loading}
 use Rattle.simdram_cli.specs.declared.words.RunNames.{RunNames}
@@ -65,7 +66,8 @@ line_steps number (said ∷ rest) = Use ∷ Put (line number said) ∷ line_step
 abbrev pub work_steps : List ℕ → Program → List Instruction → Image → List Step
 work_steps out program script i =
     Open ∷ line_steps 1 (said_by program script i)
-    ++ (Use ∷ Store out (image_by program script i) ∷ Put (total_line (tally_by program script i) (refused_by program script i)) ∷ [])
+    ++ (Use ∷ Store out (image_by program script i)
+    ∷ Put (total_line (tally_by program script i) (refused_by program script i)) ∷ [])
 
 -- OPS is compiled and PROG stored, and then SCRIPT is done on IMAGE
 abbrev pub run_steps : RunNames → Program → Texts → List Step

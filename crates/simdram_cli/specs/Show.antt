@@ -1,5 +1,6 @@
 -- The command `show`: how it goes, when it answers each status, and what stands then.
-use Rattle.std.specs.Prelude.{◌≡◌, ◌⊎◌, ℕ, ◌+◌, List, [], ◌∷◌, ◌++◌, Option, Some, Result, Ok, Err, IfOk, IfSome, codes}
+use Rattle.std.specs.Prelude.{◌≡◌, ◌⊎◌, ℕ, ◌+◌, List, [], ◌∷◌, ◌++◌, Option, Some, Result, Ok, Err}
+use Rattle.std.specs.Prelude.{IfOk, IfSome, codes}
 use denote.Ref.{Bor}
 use Rattle.host_edge.specs.Views.{Files, Told, Rose, RoseBy}
 use Rattle.op_text.specs.Language.{Operation}
@@ -21,12 +22,14 @@ use Rattle.simdram_cli.specs.Statuses.{Reads, IsTooLong, IsFaulty, LastLine}
 
 -- OPS is loaded, and the canonical text of its ops is sent
 abbrev pub show_steps : List ℕ → List ℕ → List Operation → List Step
-show_steps name text ops = loading name OPS_MAX text (ops_in text) (λ t. Take ∷ Put (canonical_text ops) ∷ [])
+show_steps name text ops = loading name OPS_MAX text (ops_in text) (λ t. Take
+    ∷ Put (canonical_text ops) ∷ [])
 
 -- it stopped at the load of OPS
 abbrev pub StoppedAtLoad : List ℕ → List ℕ → End → World → World → Type 0
 StoppedAtLoad name text Done old new = ⊥
-StoppedAtLoad name text (Stopped reason) old new = Goes (loading name OPS_MAX text (ops_in text) (λ t. [])) (Stopped reason) old new
+StoppedAtLoad name text (Stopped reason) old new =
+    Goes (loading name OPS_MAX text (ops_in text) (λ t. [])) (Stopped reason) old new
 
 -- it goes through its steps on the text of OPS and the ops that the text has
 pub record ShowGoes (name : List ℕ) (old new : World) (result : Result ℕ Stop) : Type 0 where
@@ -58,15 +61,23 @@ pub record Shown (name : List ℕ) (before : Files) (old new : Option (List ℕ)
 
 -- Each status only where its cause is; but for the text of the ops, its line alone is sent
 pub record ShowOnlyWhere (name : List ℕ) (old new : World) (status : ℕ) : Type 0 where
-  pub no_other : (status ≡ 0) ⊎ ((status ≡ 2) ⊎ ((status ≡ 3) ⊎ ((status ≡ 4) ⊎ ((status ≡ 10) ⊎ (status ≡ 11)))))
-  pub read_fault : status ≡ 2 → Rose (old.files.load_faults name) (new.files.load_faults name) × LastLine (codes "cannot read " ++ name ++ codes "\n") old new
+  pub no_other : (status ≡ 0) ⊎ ((status ≡ 2)
+      ⊎ ((status ≡ 3) ⊎ ((status ≡ 4) ⊎ ((status ≡ 10) ⊎ (status ≡ 11)))))
+  pub read_fault : status ≡ 2 → Rose (old.files.load_faults name) (new.files.load_faults name)
+      × LastLine (codes "cannot read " ++ name ++ codes "\n") old new
   pub write_fault : status ≡ 3 → Rose old.sink.faults new.sink.faults
-  pub bad_ops : status ≡ 4 → (r : Refusal) × IfSome old.files.holds (λ files. Reads ops_in OPS_MAX files name (Err r)) × LastLine r.line old new
+  pub bad_ops : status ≡ 4 → (r : Refusal) × IfSome old.files.holds
+      (λ files. Reads ops_in OPS_MAX files name (Err r)) × LastLine r.line old new
   pub no_memory : status ≡ 10 → LastLine (codes "no memory\n") old new
-  pub too_long : status ≡ 11 → RoseBy (OPS_MAX + 1) old.files.taken new.files.taken × IfSome old.files.holds (λ files. IsTooLong OPS_MAX files name) × LastLine (codes "too long " ++ name ++ codes "\n") old new
+  pub too_long : status ≡ 11 → RoseBy (OPS_MAX + 1) old.files.taken new.files.taken
+      × IfSome old.files.holds (λ files. IsTooLong OPS_MAX files name)
+      × LastLine (codes "too long " ++ name ++ codes "\n") old new
 
--- Where the folder tells its files, OPS foretells the status, unless memory was wanting or a count of faults rose
-pub record ShowAlwaysWhere (name : List ℕ) (files : Files) (old new : World) (status : ℕ) : Type 0 where
-  pub too_long : IsTooLong OPS_MAX files name → (status ≡ 11) ⊎ IsFaulty old new status
-  pub bad_ops : (r : Refusal) → Reads ops_in OPS_MAX files name (Err r) → (status ≡ 4) ⊎ IsFaulty old new status
-  pub complete : Reads ops_in OPS_MAX files name (Ok tt) → (status ≡ 0) ⊎ IsFaulty old new status
+-- Where the folder tells its files, OPS foretells the status, unless memory was wanting or a count
+-- of faults rose
+pub record ShowAlwaysWhere (name : List ℕ) (files : Files) (old new : World) (status : ℕ) : Type 0
+  where
+    pub too_long : IsTooLong OPS_MAX files name → (status ≡ 11) ⊎ IsFaulty old new status
+    pub bad_ops : (r : Refusal) → Reads ops_in OPS_MAX files name (Err r)
+        → (status ≡ 4) ⊎ IsFaulty old new status
+    pub complete : Reads ops_in OPS_MAX files name (Ok tt) → (status ≡ 0) ⊎ IsFaulty old new status

@@ -1,6 +1,7 @@
 -- What a stop of the program says.
 use Rattle.std.specs.Prelude.{codes, Result, Ok, Err}
-use Rattle.cli_model.specs.Steps.{Refusal, Reason, CannotRead, TooLong, Refused, NoMemory, CannotWrite, PutFailed, ChipFailed, End, Done, Stopped}
+use Rattle.cli_model.specs.Steps.{Refusal, Reason, CannotRead, TooLong, Refused, NoMemory}
+use Rattle.cli_model.specs.Steps.{CannotWrite, PutFailed, ChipFailed, End, Done, Stopped}
 use Rattle.built_forms.specs.Texts.{not_yet, ops_refusal}
 use Rattle.built_forms.specs.declared.scripts.FormNo.{FormNo}
 use Rattle.built_forms.specs.declared.scripts.FormNo.TheVariants as no

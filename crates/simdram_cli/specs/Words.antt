@@ -1,5 +1,6 @@
 -- The words of a command.
-use Rattle.std.specs.Prelude.{ℕ, Bool, true, not, ◌&&◌, List, [], ◌∷◌, Option, Some, None, bytes_eq, codes, if◌then◌else◌}
+use Rattle.std.specs.Prelude.{ℕ, Bool, true, not, ◌&&◌, List, [], ◌∷◌, Option, Some, None, bytes_eq}
+use Rattle.std.specs.Prelude.{codes, if◌then◌else◌}
 use Rattle.std.specs.List.{list_all}
 use denote.Ref.{Bor}
 use Rattle.simdram_cli.specs.declared.words.Command.{Command}
@@ -12,7 +13,8 @@ all_differ (name ∷ names) = list_all (λ other. not (bytes_eq name other)) nam
 
 -- the five files of a run are apart, but for IMAGE and OUT, which may be one
 abbrev pub are_apart : List ℕ → List ℕ → List ℕ → List ℕ → List ℕ → Bool
-are_apart ops prog script image out = all_differ (ops ∷ prog ∷ script ∷ image ∷ []) && all_differ (ops ∷ prog ∷ script ∷ out ∷ [])
+are_apart ops prog script image out = all_differ (ops ∷ prog ∷ script ∷ image ∷ [])
+    && all_differ (ops ∷ prog ∷ script ∷ out ∷ [])
 
 -- the command that the words are: `run OPS PROG SCRIPT IMAGE OUT` or `show OPS`
 abbrev pub command_of : List (Bor (List ℕ)) → Option Command

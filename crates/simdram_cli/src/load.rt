@@ -26,9 +26,11 @@ pub(crate) fn load<'a, F: Folder>(
     files: &mut F,
     alloc: Global,
 ) -> Result<Vec<u8>, Stop<'a>>
-    ensures loaded { IfOk result (λ bytes. LoadedAs name.now limit bytes.items (F.view files.old) (F.view files.new)) }
+    ensures loaded { IfOk result (λ bytes. LoadedAs name.now limit bytes.items (F.view files.old)
+        (F.view files.new)) }
     ensures within { IfOk result (λ bytes. length bytes.items ≤ limit) }
-    ensures failed { IfErr result (λ stop. NotLoaded name.now limit (reason_of stop) (F.view files.old) (F.view files.new)) }
+    ensures failed { IfErr result (λ stop. NotLoaded name.now limit (reason_of stop)
+        (F.view files.old) (F.view files.new)) }
 {
     match files.load(name, limit, alloc) {
         Ok(bytes) => Ok(bytes),
@@ -44,9 +46,11 @@ pub(crate) fn load_ops<'a, F: Folder>(
     files: &mut F,
     alloc: Global,
 ) -> Result<Ops, Stop<'a>>
-    ensures read { IfOk result (λ ops. OpsRead name.now (operations ops) (F.view files.old) (F.view files.new)) }
+    ensures read { IfOk result (λ ops. OpsRead name.now (operations ops) (F.view files.old)
+        (F.view files.new)) }
     ensures meets { IfOk result (λ ops. MeetRules (operations ops)) }
-    ensures not_read { IfErr result (λ stop. NotRead ops_in name.now OPS_MAX (reason_of stop) (F.view files.old) (F.view files.new)) }
+    ensures not_read { IfErr result (λ stop. NotRead ops_in name.now OPS_MAX (reason_of stop)
+        (F.view files.old) (F.view files.new)) }
 {
     let text = load(name, OPS_MAX, files, alloc)?;
     match parse_ops(&text, alloc) {
@@ -62,10 +66,12 @@ pub(crate) fn load_script<'a, F: Folder>(
     files: &mut F,
     alloc: Global,
 ) -> Result<Vec<Instr>, Stop<'a>>
-    ensures read { IfOk result (λ script. ReadAs script_in name.now SCRIPT_MAX (map view_of script.items) (F.view files.old) (F.view files.new)) }
+    ensures read { IfOk result (λ script. ReadAs script_in name.now SCRIPT_MAX
+        (map view_of script.items) (F.view files.old) (F.view files.new)) }
     ensures built { IfOk result (λ script. AllByRecursion IsBuilt (map view_of script.items)) }
     ensures few { IfOk result (λ script. length script.items ≤ SCRIPT_MAX + 1) }
-    ensures not_read { IfErr result (λ stop. NotRead script_in name.now SCRIPT_MAX (reason_of stop) (F.view files.old) (F.view files.new)) }
+    ensures not_read { IfErr result (λ stop. NotRead script_in name.now SCRIPT_MAX (reason_of stop)
+        (F.view files.old) (F.view files.new)) }
 {
     let text = load(name, SCRIPT_MAX, files, alloc)?;
     match read_script(&text, alloc) {

@@ -1,6 +1,7 @@
 //! A script is done on an image, on a chip.
 
-ghost use Rattle.std.specs.Prelude.{◌≡◌, ◌≢◌, ◌+◌, ◌*◌, ◌<◌, ◌≤◌, ◌^◌, ◌∷◌, [], length, map, true, Some, IfOk, OnOk, OnErr};
+ghost use Rattle.std.specs.Prelude.{◌≡◌, ◌≢◌, ◌+◌, ◌*◌, ◌<◌, ◌≤◌, ◌^◌, ◌∷◌, [], length, map, true};
+ghost use Rattle.std.specs.Prelude.{Some, IfOk, OnOk, OnErr};
 ghost use Rattle.std.specs.List.{AllByRecursion};
 ghost use Rattle.host_edge.specs.Views.{FolderView, SinkView, Told, KeepsOthers};
 ghost use Rattle.dram_model.specs.Chip.{Grew};
@@ -48,12 +49,15 @@ fn open<'a, D: Dram>(
     ensures faults { D.faults chip.old ≤ D.faults chip.new }
     ensures banks { OnOk result (D.banks chip.new ≡ opened (image_found (found_in image.entry))) }
     ensures counters { OnOk result (D.counters chip.new ≡ opened_counters image.entry.geometry) }
-    ensures log { OnOk result (Grew (Some []) (D.log chip.new) (row_writes (image_found (found_in image.entry)))) }
+    ensures log { OnOk result (Grew (Some []) (D.log chip.new)
+        (row_writes (image_found (found_in image.entry)))) }
     ensures ready { IfOk result IsReady }
     ensures program { IfOk result (λ machine. program_of machine ≡ microprograms_of program) }
     ensures shape { IfOk result (λ machine. geometry_of machine ≡ image.entry.geometry) }
     ensures table { IfOk result (λ machine. table_in machine ≡ image.entry.table.pairs) }
-    ensures goes { (files : FolderView) (sink : SinkView) → Goes (Open ∷ []) (end_of result) (world files sink (D.faults chip.old)) (world files sink (D.faults chip.new)) }
+    ensures goes { (files : FolderView) (sink : SinkView)
+        → Goes (Open ∷ []) (end_of result) (world files sink (D.faults chip.old))
+        (world files sink (D.faults chip.new)) }
 {
     match Machine::open(program, image, chip, alloc) {
         Ok(machine) => Ok(machine),
@@ -78,10 +82,14 @@ fn finish<'a, F: Folder, S: Sink, D: Dram>(
     ensures faults { D.faults chip.old ≤ D.faults chip.new }
     ensures borrow { D.borrow chip.new ≡ D.borrow chip.old }
     ensures banks { OnOk result (D.banks chip.new ≡ D.banks chip.old) }
-    ensures counters { OnOk result (D.counters chip.new ≡ with_reads ((geometry_of machine.old).banks * (geometry_of machine.old).rows) (D.counters chip.old)) }
+    ensures counters { OnOk result (D.counters chip.new
+        ≡ with_reads ((geometry_of machine.old).banks * (geometry_of machine.old).rows)
+        (D.counters chip.old)) }
     ensures log { OnOk result (Grew (D.log chip.old) (D.log chip.new) []) }
-    ensures goes { Goes (Use ∷ Store name.now (image_bytes (geometry_of machine.old) (table_in machine.old) (rows_of (D.banks chip.old)))
-        ∷ Put (total_line (with_reads ((geometry_of machine.old).banks * (geometry_of machine.old).rows) (D.counters chip.old)) refused) ∷ [])
+    ensures goes { Goes (Use ∷ Store name.now
+        (image_bytes (geometry_of machine.old) (table_in machine.old) (rows_of (D.banks chip.old)))
+        ∷ Put (total_line (with_reads ((geometry_of machine.old).banks
+        * (geometry_of machine.old).rows) (D.counters chip.old)) refused) ∷ [])
         (end_of result) (world (F.view files.old) (S.view out.old) (D.faults chip.old)) (world (F.view files.new) (S.view out.new) (D.faults chip.new)) }
 {
     if machine.image(chip).is_err() {
@@ -96,7 +104,8 @@ fn finish<'a, F: Folder, S: Sink, D: Dram>(
     Ok(())
 }
 
-/// Does a script on an image with the operations of a program; answers how many instructions were refused.
+/// Does a script on an image with the operations of a program; answers how many instructions were
+/// refused.
 pub(crate) fn perform<'a, F: Folder, S: Sink, D: Dram>(
     program: Program,
     script: &[Instr],
@@ -114,8 +123,13 @@ pub(crate) fn perform<'a, F: Folder, S: Sink, D: Dram>(
     requires few { length script.now ≤ 2 ^ 25 }
     ensures faults { D.faults chip.old ≤ D.faults chip.new }
     ensures borrow { D.borrow chip.new ≡ D.borrow chip.old }
-    ensures goes { Goes (work_steps name.now (microprograms_of program) (map view_of script.now) (image_found (found_in image.entry))) (end_of result) (world (F.view files.old) (S.view out.old) (D.faults chip.old)) (world (F.view files.new) (S.view out.new) (D.faults chip.new)) }
-    ensures done { IfOk result (WorkDone (microprograms_of program) (map view_of script.now) (image_found (found_in image.entry)) (chip_view (D.banks chip.new) (D.counters chip.new) (D.log chip.new))) }
+    ensures goes { Goes (work_steps name.now (microprograms_of program) (map view_of script.now)
+        (image_found (found_in image.entry))) (end_of result)
+        (world (F.view files.old) (S.view out.old) (D.faults chip.old))
+        (world (F.view files.new) (S.view out.new) (D.faults chip.new)) }
+    ensures done { IfOk result (WorkDone (microprograms_of program) (map view_of script.now)
+        (image_found (found_in image.entry)) (chip_view (D.banks chip.new) (D.counters chip.new)
+        (D.log chip.new))) }
 {
     let mut machine = open(program, image, chip, alloc)?;
     let refused = work(&mut machine, script, chip, out)?;

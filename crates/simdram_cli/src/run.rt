@@ -1,6 +1,7 @@
 //! The command `run`.
 
-ghost use Rattle.std.specs.Prelude.{◌≡◌, ◌+◌, ◌*◌, ◌<◌, ◌≤◌, ◌^◌, ◌∷◌, [], length, map, true, IfOk, IfErr, OnOk};
+ghost use Rattle.std.specs.Prelude.{◌≡◌, ◌+◌, ◌*◌, ◌<◌, ◌≤◌, ◌^◌, ◌∷◌, [], length, map, true, IfOk};
+ghost use Rattle.std.specs.Prelude.{IfErr, OnOk};
 ghost use Rattle.std.specs.List.{AllByRecursion};
 ghost use Rattle.host_edge.specs.Views.{FolderView, SinkView, NoCountFalls};
 ghost use Rattle.uprog_code.specs.Shape.{microprograms_of};
@@ -13,7 +14,8 @@ ghost use Rattle.op_text.specs.Spelling.{MeetRules};
 ghost use Rattle.uprog_code.specs.Programs.{IsProgram};
 ghost use Rattle.uprog_code.specs.Texts.{ImplementsAll, text_op};
 ghost use Rattle.built_forms.specs.Answers.{IsBuilt};
-ghost use Rattle.simdram_cli.specs.Ends.{GoesToStore, ImageWorked, ProgramStopped, ProgramTaken, RunGoes, StopsAtStore};
+ghost use Rattle.simdram_cli.specs.Ends.{GoesToStore, ImageWorked, ProgramStopped, ProgramTaken};
+ghost use Rattle.simdram_cli.specs.Ends.{RunGoes, StopsAtStore};
 ghost use Rattle.simdram_cli.specs.Stops.{end_of, image_reason, reason_of};
 ghost use Rattle.simdram_cli.specs.Words.{are_apart};
 ghost use Rattle.simdram_cli.specs.Works.{chip_view};
@@ -36,7 +38,8 @@ use uprog_gen::compile_ops;
 /// The program of ops and its file, where there is memory.
 fn compile(ops: &Ops, alloc: Global) -> Result<(Program, Vec<u8>), NoMemory>
     requires meets { MeetRules (operations ops.now) }
-    ensures implements { IfOk result (λ made. ImplementsAll (microprograms_of made.0) (map text_op (operations ops.now))) }
+    ensures implements { IfOk result (λ made. ImplementsAll (microprograms_of made.0)
+        (map text_op (operations ops.now))) }
     ensures program { IfOk result (λ made. IsProgram (microprograms_of made.0)) }
     ensures file { IfOk result (λ made. made.1.items ≡ program_bytes (microprograms_of made.0)) }
 {
@@ -56,10 +59,13 @@ fn write_program<'a, F: Folder>(
     alloc: Global,
 ) -> Result<Program, Stop<'a>>
     requires meets { MeetRules (operations ops.now) }
-    ensures implements { IfOk result (λ p. ImplementsAll (microprograms_of p) (map text_op (operations ops.now))) }
+    ensures implements { IfOk result (λ p. ImplementsAll (microprograms_of p)
+        (map text_op (operations ops.now))) }
     ensures program { IfOk result (λ p. IsProgram (microprograms_of p)) }
-    ensures goes { IfOk result (λ p. GoesToStore name.now (microprograms_of p) Done (F.view files.old) (F.view files.new)) }
-    ensures stops { IfErr result (λ stop. StopsAtStore name.now (reason_of stop) (F.view files.old) (F.view files.new)) }
+    ensures goes { IfOk result (λ p. GoesToStore name.now (microprograms_of p) Done
+        (F.view files.old) (F.view files.new)) }
+    ensures stops { IfErr result (λ stop. StopsAtStore name.now (reason_of stop) (F.view files.old)
+        (F.view files.new)) }
 {
     let Ok((program, file)) = compile(ops, alloc) else {
         return Err(Stop::NoMemory);
@@ -77,8 +83,10 @@ fn take_program<'a, F: Folder>(
     alloc: Global,
 ) -> Result<Program, Stop<'a>>
     ensures program { IfOk result (λ p. IsProgram (microprograms_of p)) }
-    ensures taken { IfOk result (λ p. ProgramTaken names.now (microprograms_of p) (F.view files.old) (F.view files.new)) }
-    ensures stopped { IfErr result (λ stop. ProgramStopped names.now (reason_of stop) (F.view files.old) (F.view files.new)) }
+    ensures taken { IfOk result (λ p. ProgramTaken names.now (microprograms_of p) (F.view files.old)
+        (F.view files.new)) }
+    ensures stopped { IfErr result (λ stop. ProgramStopped names.now (reason_of stop)
+        (F.view files.old) (F.view files.new)) }
 {
     let ops = load_ops(names.ops, files, alloc)?;
     write_program(&ops, names.prog, files, alloc)
@@ -108,7 +116,10 @@ fn work_on_image<'a, F: Folder, S: Sink, D: Dram>(
     requires built { AllByRecursion IsBuilt (map view_of script.now) }
     requires few { length script.now ≤ SCRIPT_MAX + 1 }
     ensures borrow { D.borrow chip.new ≡ D.borrow chip.old }
-    ensures worked { ImageWorked names.now (microprograms_of program) (map view_of script.now) (world (F.view files.old) (S.view out.old) (D.faults chip.old)) (world (F.view files.new) (S.view out.new) (D.faults chip.new)) (chip_view (D.banks chip.new) (D.counters chip.new) (D.log chip.new)) result }
+    ensures worked { ImageWorked names.now (microprograms_of program) (map view_of script.now)
+        (world (F.view files.old) (S.view out.old) (D.faults chip.old))
+        (world (F.view files.new) (S.view out.new) (D.faults chip.new))
+        (chip_view (D.banks chip.new) (D.counters chip.new) (D.log chip.new)) result }
 {
     let bytes = load(names.image, IMAGE_MAX, files, alloc)?;
     let image = match read_built_image(&bytes, alloc) {
@@ -126,9 +137,12 @@ pub(crate) fn run<'a, F: Folder, S: Sink, D: Dram>(
     chip: &mut D,
     alloc: Global,
 ) -> Result<u64, Stop<'a>>
-    requires apart { are_apart names.now.ops.now names.now.prog.now names.now.script.now names.now.image.now names.now.out.now ≡ true }
+    requires apart { are_apart names.now.ops.now names.now.prog.now names.now.script.now
+        names.now.image.now names.now.out.now ≡ true }
     ensures borrow { D.borrow chip.new ≡ D.borrow chip.old }
-    ensures goes { RunGoes names.now (world (F.view files.old) (S.view out.old) (D.faults chip.old)) (world (F.view files.new) (S.view out.new) (D.faults chip.new)) (chip_view (D.banks chip.new) (D.counters chip.new) (D.log chip.new)) result }
+    ensures goes { RunGoes names.now (world (F.view files.old) (S.view out.old) (D.faults chip.old))
+        (world (F.view files.new) (S.view out.new) (D.faults chip.new))
+        (chip_view (D.banks chip.new) (D.counters chip.new) (D.log chip.new)) result }
 {
     let program = take_program(names, files, alloc)?;
     let script = load_script(names.script, files, alloc)?;

@@ -17,7 +17,8 @@ pub(crate) fn show<'a, F: Folder, S: Sink>(
     out: &mut S,
     alloc: Global,
 ) -> Result<u64, Stop<'a>>
-    ensures goes { (chip : _) → ShowGoes name.now (world (F.view files.old) (S.view out.old) chip) (world (F.view files.new) (S.view out.new) chip) result }
+    ensures goes { (chip : _) → ShowGoes name.now (world (F.view files.old) (S.view out.old) chip)
+        (world (F.view files.new) (S.view out.new) chip) result }
 {
     let ops = load_ops(name, files, alloc)?;
     let Ok(text) = print_ops(&ops, alloc) else {

@@ -49,8 +49,11 @@ pub fn status_of(stop: Stop<'_>) -> u8
 /// Puts three pieces, up to the first that fails.
 fn put_three<S: Sink>(first: &[u8], second: &[u8], third: &[u8], out: &mut S) -> Result<(), Failed>
     ensures counts { (S.view out.old).faults ≤ (S.view out.new).faults }
-    ensures sent { OnOk result (Told (λ before after. after ≡ before ++ (first.now ++ second.now ++ third.now)) (S.view out.old).sent (S.view out.new).sent) }
-    ensures part { Told (AppendsPart (first.now ++ second.now ++ third.now)) (S.view out.old).sent (S.view out.new).sent }
+    ensures sent { OnOk result (Told (λ before after. after
+        ≡ before ++ (first.now ++ second.now ++ third.now)) (S.view out.old).sent
+        (S.view out.new).sent) }
+    ensures part { Told (AppendsPart (first.now ++ second.now ++ third.now)) (S.view out.old).sent
+        (S.view out.new).sent }
     ensures failed { OnErr result (Rose (S.view out.old).faults (S.view out.new).faults) }
 {
     out.put(first)?;
@@ -61,8 +64,11 @@ fn put_three<S: Sink>(first: &[u8], second: &[u8], third: &[u8], out: &mut S) ->
 /// Puts the line of a form that is not built.
 fn tell_not_yet<S: Sink>(what: &[u8], at: u32, out: &mut S) -> Result<(), Failed>
     ensures counts { (S.view out.old).faults ≤ (S.view out.new).faults }
-    ensures sent { OnOk result (Told (λ before after. after ≡ before ++ (what.now ++ decimal at ++ codes " not_yet\n")) (S.view out.old).sent (S.view out.new).sent) }
-    ensures part { Told (AppendsPart (what.now ++ decimal at ++ codes " not_yet\n")) (S.view out.old).sent (S.view out.new).sent }
+    ensures sent { OnOk result (Told (λ before after. after
+        ≡ before ++ (what.now ++ decimal at ++ codes " not_yet\n")) (S.view out.old).sent
+        (S.view out.new).sent) }
+    ensures part { Told (AppendsPart (what.now ++ decimal at ++ codes " not_yet\n"))
+        (S.view out.old).sent (S.view out.new).sent }
     ensures failed { OnErr result (Rose (S.view out.old).faults (S.view out.new).faults) }
 {
     let mut buffer = Buffer::new();
@@ -72,8 +78,10 @@ fn tell_not_yet<S: Sink>(what: &[u8], at: u32, out: &mut S) -> Result<(), Failed
 /// Puts the line of a form that is not built, in its file's words.
 fn tell_form<S: Sink>(form: NotYet, out: &mut S) -> Result<(), Failed>
     ensures counts { (S.view out.old).faults ≤ (S.view out.new).faults }
-    ensures sent { OnOk result (Told (λ before after. after ≡ before ++ ((refusal_by form).line)) (S.view out.old).sent (S.view out.new).sent) }
-    ensures part { Told (AppendsPart (refusal_by form).line) (S.view out.old).sent (S.view out.new).sent }
+    ensures sent { OnOk result (Told (λ before after. after ≡ before ++ ((refusal_by form).line))
+        (S.view out.old).sent (S.view out.new).sent) }
+    ensures part { Told (AppendsPart (refusal_by form).line) (S.view out.old).sent
+        (S.view out.new).sent }
     ensures failed { OnErr result (Rose (S.view out.old).faults (S.view out.new).faults) }
 {
     match form {
@@ -101,8 +109,10 @@ fn kind_end(kind: OpsKind) -> &'static [u8]
 /// Puts the line of a text of operations that breaks a rule.
 fn tell_ops<S: Sink>(fault: OpsFault, out: &mut S) -> Result<(), Failed>
     ensures counts { (S.view out.old).faults ≤ (S.view out.new).faults }
-    ensures sent { OnOk result (Told (λ before after. after ≡ before ++ ((ops_refusal fault).line)) (S.view out.old).sent (S.view out.new).sent) }
-    ensures part { Told (AppendsPart (ops_refusal fault).line) (S.view out.old).sent (S.view out.new).sent }
+    ensures sent { OnOk result (Told (λ before after. after ≡ before ++ ((ops_refusal fault).line))
+        (S.view out.old).sent (S.view out.new).sent) }
+    ensures part { Told (AppendsPart (ops_refusal fault).line) (S.view out.old).sent
+        (S.view out.new).sent }
     ensures failed { OnErr result (Rose (S.view out.old).faults (S.view out.new).faults) }
 {
     let mut buffer = Buffer::new();
@@ -117,8 +127,11 @@ fn tell_ops<S: Sink>(fault: OpsFault, out: &mut S) -> Result<(), Failed>
 /// Puts the last line. A sink that failed is told nothing.
 pub fn tell<S: Sink>(stop: Stop<'_>, out: &mut S) -> Result<(), Failed>
     ensures counts { (S.view out.old).faults ≤ (S.view out.new).faults }
-    ensures sent { OnOk result (Told (λ before after. after ≡ before ++ (reason_line (reason_of stop.entry))) (S.view out.old).sent (S.view out.new).sent) }
-    ensures part { Told (AppendsPart (reason_line (reason_of stop.entry))) (S.view out.old).sent (S.view out.new).sent }
+    ensures sent { OnOk result (Told (λ before after. after
+        ≡ before ++ (reason_line (reason_of stop.entry))) (S.view out.old).sent
+        (S.view out.new).sent) }
+    ensures part { Told (AppendsPart (reason_line (reason_of stop.entry))) (S.view out.old).sent
+        (S.view out.new).sent }
     ensures failed { OnErr result (Rose (S.view out.old).faults (S.view out.new).faults) }
 {
     match stop {

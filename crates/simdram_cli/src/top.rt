@@ -6,8 +6,11 @@ ghost use Rattle.cli_model.specs.World.{world};
 ghost use Rattle.cli_model.specs.Steps.{Sent};
 ghost use Rattle.cli_model.specs.Status.{Tells};
 ghost use Rattle.simdram_cli.specs.Ends.{RunEnds, answer_to};
-ghost use Rattle.simdram_cli.specs.Headline.{CommandsCounted, ObjectsRight, OnRun, OnRunWords, ProgramWritten, RepliesExact, ReportSent, RowsUntouched};
-ghost use Rattle.simdram_cli.specs.Show.{OnShowWords, ShowAlwaysWhere, ShowEnds, ShowOnlyWhere, Shown};
+ghost use Rattle.simdram_cli.specs.Headline.{CommandsCounted, ObjectsRight, OnRun, OnRunWords};
+ghost use Rattle.simdram_cli.specs.Headline.{ProgramWritten, RepliesExact, ReportSent};
+ghost use Rattle.simdram_cli.specs.Headline.{RowsUntouched};
+ghost use Rattle.simdram_cli.specs.Show.{OnShowWords, ShowAlwaysWhere, ShowEnds, ShowOnlyWhere};
+ghost use Rattle.simdram_cli.specs.Show.{Shown};
 ghost use Rattle.simdram_cli.specs.Statuses.{AlwaysWhere, FilesKept, OnlyWhere};
 ghost use Rattle.simdram_cli.specs.Stops.{end_of};
 ghost use Rattle.simdram_cli.specs.Words.{are_apart, command_of};
@@ -24,7 +27,9 @@ use std::alloc::Global;
 /// The exit status; why a command stopped is told first.
 fn answer<S: Sink>(ended: Result<u64, Stop<'_>>, out: &mut S) -> u8
     ensures status { result ≡ answer_to ended.entry }
-    ensures tells { (files : FolderView) (chip : _) → Tells (end_of ended.entry) (world files (S.view out.old) chip) (world files (S.view out.new) chip) }
+    ensures tells { (files : FolderView) (chip : _)
+        → Tells (end_of ended.entry) (world files (S.view out.old) chip)
+        (world files (S.view out.new) chip) }
 {
     match ended {
         Ok(0) => 0,
@@ -44,9 +49,12 @@ fn run_and_answer<F: Folder, S: Sink, D: Dram>(
     chip: &mut D,
     alloc: Global,
 ) -> u8
-    requires apart { are_apart names.now.ops.now names.now.prog.now names.now.script.now names.now.image.now names.now.out.now ≡ true }
+    requires apart { are_apart names.now.ops.now names.now.prog.now names.now.script.now
+        names.now.image.now names.now.out.now ≡ true }
     ensures borrow { D.borrow chip.new ≡ D.borrow chip.old }
-    ensures ends { RunEnds names.now (world (F.view files.old) (S.view out.old) (D.faults chip.old)) (world (F.view files.new) (S.view out.new) (D.faults chip.new)) (chip_view (D.banks chip.new) (D.counters chip.new) (D.log chip.new)) result }
+    ensures ends { RunEnds names.now (world (F.view files.old) (S.view out.old) (D.faults chip.old))
+        (world (F.view files.new) (S.view out.new) (D.faults chip.new))
+        (chip_view (D.banks chip.new) (D.counters chip.new) (D.log chip.new)) result }
 {
     let ended = run(names, files, out, chip, alloc);
     answer(ended, out)
@@ -54,7 +62,8 @@ fn run_and_answer<F: Folder, S: Sink, D: Dram>(
 
 /// Shows, and tells why it stopped if it did.
 fn show_and_answer<F: Folder, S: Sink>(name: &str, files: &mut F, out: &mut S, alloc: Global) -> u8
-    ensures ends { (chip : _) → ShowEnds name.now (world (F.view files.old) (S.view out.old) chip) (world (F.view files.new) (S.view out.new) chip) result }
+    ensures ends { (chip : _) → ShowEnds name.now (world (F.view files.old) (S.view out.old) chip)
+        (world (F.view files.new) (S.view out.new) chip) result }
 {
     let ended = show(name, files, out, alloc);
     answer(ended, out)
@@ -70,9 +79,17 @@ fn dispatch<F: Folder, S: Sink, D: Dram>(
 ) -> u8
     ensures borrow { D.borrow chip.new ≡ D.borrow chip.old }
     ensures usage { command_of words.now ≡ None → result ≡ 1 }
-    ensures usage_line { command_of words.now ≡ None → Sent (AppendsPart (codes "usage\n")) (world (F.view files.old) (S.view out.old) (D.faults chip.old)) (world (F.view files.new) (S.view out.new) (D.faults chip.new)) }
-    ensures ends { OnRunWords words.now (λ names. RunEnds names (world (F.view files.old) (S.view out.old) (D.faults chip.old)) (world (F.view files.new) (S.view out.new) (D.faults chip.new)) (chip_view (D.banks chip.new) (D.counters chip.new) (D.log chip.new)) result) }
-    ensures show_ends { OnShowWords words.now (λ name. ShowEnds name (world (F.view files.old) (S.view out.old) (D.faults chip.old)) (world (F.view files.new) (S.view out.new) (D.faults chip.new)) result) }
+    ensures usage_line { command_of words.now ≡ None
+        → Sent (AppendsPart (codes "usage\n"))
+        (world (F.view files.old) (S.view out.old) (D.faults chip.old))
+        (world (F.view files.new) (S.view out.new) (D.faults chip.new)) }
+    ensures ends { OnRunWords words.now (λ names. RunEnds names
+        (world (F.view files.old) (S.view out.old) (D.faults chip.old))
+        (world (F.view files.new) (S.view out.new) (D.faults chip.new))
+        (chip_view (D.banks chip.new) (D.counters chip.new) (D.log chip.new)) result) }
+    ensures show_ends { OnShowWords words.now
+        (λ name. ShowEnds name (world (F.view files.old) (S.view out.old) (D.faults chip.old))
+        (world (F.view files.new) (S.view out.new) (D.faults chip.new)) result) }
 {
     match command_of(words) {
         Some(Command::Run(names)) => run_and_answer(&names, files, out, chip, alloc),
@@ -84,8 +101,10 @@ fn dispatch<F: Folder, S: Sink, D: Dram>(
     }
 }
 
-/// Does the command that the words are, without the program's name: `run OPS PROG SCRIPT IMAGE OUT` compiles the
-/// operations of OPS, stores PROG, does SCRIPT on IMAGE with the program that PROG spells, puts the report and stores
+/// Does the command that the words are, without the program's name: `run OPS PROG SCRIPT IMAGE OUT`
+/// compiles the
+/// operations of OPS, stores PROG, does SCRIPT on IMAGE with the program that PROG spells, puts the
+/// report and stores
 /// OUT; `show OPS` puts the canonical text of the operations of OPS. The answer is the exit status.
 pub fn simdram<F: Folder, S: Sink, D: Dram>(
     words: &[&str],
@@ -97,26 +116,61 @@ pub fn simdram<F: Folder, S: Sink, D: Dram>(
     ensures borrow { D.borrow chip.new ≡ D.borrow chip.old }
     // The words are no command.
     ensures usage { (result ≡ 1) ↔ (command_of words.now ≡ None) }
-    ensures usage_line { command_of words.now ≡ None → Sent (AppendsPart (codes "usage\n")) (world (F.view files.old) (S.view out.old) (D.faults chip.old)) (world (F.view files.new) (S.view out.new) (D.faults chip.new)) }
+    ensures usage_line { command_of words.now ≡ None
+        → Sent (AppendsPart (codes "usage\n"))
+        (world (F.view files.old) (S.view out.old) (D.faults chip.old))
+        (world (F.view files.new) (S.view out.new) (D.faults chip.new)) }
     // A run goes through its steps; the first event decides how it ends.
-    ensures ends { OnRunWords words.now (λ names. RunEnds names (world (F.view files.old) (S.view out.old) (D.faults chip.old)) (world (F.view files.new) (S.view out.new) (D.faults chip.new)) (chip_view (D.banks chip.new) (D.counters chip.new) (D.log chip.new)) result) }
+    ensures ends { OnRunWords words.now (λ names. RunEnds names
+        (world (F.view files.old) (S.view out.old) (D.faults chip.old))
+        (world (F.view files.new) (S.view out.new) (D.faults chip.new))
+        (chip_view (D.banks chip.new) (D.counters chip.new) (D.log chip.new)) result) }
     // When it ends with 0 or 8:
-    ensures program_written { OnRun words.now result (F.view files.old).holds (F.view files.new).holds (λ names job before after. ProgramWritten names job after) }
-    ensures objects_right { OnRun words.now result (F.view files.old).holds (F.view files.new).holds (λ names job before after. ObjectsRight names job after (chip_view (D.banks chip.new) (D.counters chip.new) (D.log chip.new))) }
-    ensures rows_untouched { OnRun words.now result (F.view files.old).holds (F.view files.new).holds (λ names job before after. RowsUntouched job (chip_view (D.banks chip.new) (D.counters chip.new) (D.log chip.new))) }
-    ensures commands_counted { OnRun words.now result (F.view files.old).holds (F.view files.new).holds (λ names job before after. CommandsCounted job (chip_view (D.banks chip.new) (D.counters chip.new) (D.log chip.new))) }
-    ensures report_sent { OnRun words.now result (F.view files.old).holds (F.view files.new).holds (λ names job before after. ReportSent job (chip_view (D.banks chip.new) (D.counters chip.new) (D.log chip.new)) (S.view out.old).sent (S.view out.new).sent) }
-    ensures replies_exact { OnRun words.now result (F.view files.old).holds (F.view files.new).holds (λ names job before after. RepliesExact names job result before after) }
+    ensures program_written { OnRun words.now result (F.view files.old).holds
+        (F.view files.new).holds (λ names job before after. ProgramWritten names job after) }
+    ensures objects_right { OnRun words.now result (F.view files.old).holds (F.view files.new).holds
+        (λ names job before after. ObjectsRight names job after
+        (chip_view (D.banks chip.new) (D.counters chip.new) (D.log chip.new))) }
+    ensures rows_untouched { OnRun words.now result (F.view files.old).holds
+        (F.view files.new).holds (λ names job before after. RowsUntouched job
+        (chip_view (D.banks chip.new) (D.counters chip.new) (D.log chip.new))) }
+    ensures commands_counted { OnRun words.now result (F.view files.old).holds
+        (F.view files.new).holds (λ names job before after. CommandsCounted job
+        (chip_view (D.banks chip.new) (D.counters chip.new) (D.log chip.new))) }
+    ensures report_sent { OnRun words.now result (F.view files.old).holds (F.view files.new).holds
+        (λ names job before after. ReportSent job
+        (chip_view (D.banks chip.new) (D.counters chip.new) (D.log chip.new)) (S.view out.old).sent
+        (S.view out.new).sent) }
+    ensures replies_exact { OnRun words.now result (F.view files.old).holds (F.view files.new).holds
+        (λ names job before after. RepliesExact names job result before after) }
     // Which status it is, and what stands after each.
-    ensures only_where { OnRunWords words.now (λ names. OnlyWhere names (world (F.view files.old) (S.view out.old) (D.faults chip.old)) (world (F.view files.new) (S.view out.new) (D.faults chip.new)) result) }
-    ensures always_where { OnRunWords words.now (λ names. IfSome (F.view files.old).holds (λ held. AlwaysWhere names held (world (F.view files.old) (S.view out.old) (D.faults chip.old)) (world (F.view files.new) (S.view out.new) (D.faults chip.new)) result)) }
+    ensures only_where { OnRunWords words.now
+        (λ names. OnlyWhere names (world (F.view files.old) (S.view out.old) (D.faults chip.old))
+        (world (F.view files.new) (S.view out.new) (D.faults chip.new)) result) }
+    ensures always_where { OnRunWords words.now
+        (λ names. IfSome (F.view files.old).holds
+        (λ held. AlwaysWhere names held (world (F.view files.old) (S.view out.old)
+        (D.faults chip.old)) (world (F.view files.new) (S.view out.new) (D.faults chip.new))
+        result)) }
     // A show goes through its steps too.
-    ensures show_ends { OnShowWords words.now (λ name. ShowEnds name (world (F.view files.old) (S.view out.old) (D.faults chip.old)) (world (F.view files.new) (S.view out.new) (D.faults chip.new)) result) }
-    ensures shown { OnShowWords words.now (λ name. result ≡ 0 → IfSome (F.view files.old).holds (λ before. Shown name before (S.view out.old).sent (S.view out.new).sent)) }
-    ensures show_only_where { OnShowWords words.now (λ name. ShowOnlyWhere name (world (F.view files.old) (S.view out.old) (D.faults chip.old)) (world (F.view files.new) (S.view out.new) (D.faults chip.new)) result) }
-    ensures show_always_where { OnShowWords words.now (λ name. IfSome (F.view files.old).holds (λ held. ShowAlwaysWhere name held (world (F.view files.old) (S.view out.old) (D.faults chip.old)) (world (F.view files.new) (S.view out.new) (D.faults chip.new)) result)) }
-    ensures show_keeps { OnShowWords words.now (λ name. Told (λ before after. after ≡ before) (F.view files.old).holds (F.view files.new).holds) }
-    ensures files_kept { OnRunWords words.now (λ names. Told (FilesKept names result) (F.view files.old).holds (F.view files.new).holds) }
+    ensures show_ends { OnShowWords words.now
+        (λ name. ShowEnds name (world (F.view files.old) (S.view out.old) (D.faults chip.old))
+        (world (F.view files.new) (S.view out.new) (D.faults chip.new)) result) }
+    ensures shown { OnShowWords words.now (λ name. result ≡ 0
+        → IfSome (F.view files.old).holds (λ before. Shown name before (S.view out.old).sent
+        (S.view out.new).sent)) }
+    ensures show_only_where { OnShowWords words.now
+        (λ name. ShowOnlyWhere name (world (F.view files.old) (S.view out.old) (D.faults chip.old))
+        (world (F.view files.new) (S.view out.new) (D.faults chip.new)) result) }
+    ensures show_always_where { OnShowWords words.now
+        (λ name. IfSome (F.view files.old).holds
+        (λ held. ShowAlwaysWhere name held (world (F.view files.old) (S.view out.old)
+        (D.faults chip.old)) (world (F.view files.new) (S.view out.new) (D.faults chip.new))
+        result)) }
+    ensures show_keeps { OnShowWords words.now (λ name. Told (λ before after. after
+        ≡ before) (F.view files.old).holds (F.view files.new).holds) }
+    ensures files_kept { OnRunWords words.now
+        (λ names. Told (FilesKept names result) (F.view files.old).holds (F.view files.new).holds) }
 {
     dispatch(words, files, out, chip, alloc)
 }

@@ -1,6 +1,7 @@
 //! A script is done, line by line.
 
-ghost use Rattle.std.specs.Prelude.{◌≡◌, ℕ, ◌+◌, ◌*◌, ◌<◌, ◌≤◌, ◌^◌, ◌∷◌, [], length, map, count_by, true, IfOk, OnOk};
+ghost use Rattle.std.specs.Prelude.{◌≡◌, ℕ, ◌+◌, ◌*◌, ◌<◌, ◌≤◌, ◌^◌, ◌∷◌, [], length, map};
+ghost use Rattle.std.specs.Prelude.{count_by, true, IfOk, OnOk};
 ghost use Rattle.std.specs.List.{AllByRecursion};
 ghost use Rattle.host_edge.specs.Views.{FolderView};
 ghost use Rattle.bbop_isa.specs.Forms.{view_of};
@@ -45,12 +46,23 @@ fn work_line<'a, D: Dram, S: Sink>(
     ensures geometry { D.geometry chip.new ≡ D.geometry chip.old }
     ensures faults { D.faults chip.old ≤ D.faults chip.new }
     ensures sink_faults { (S.view out.old).faults ≤ (S.view out.new).faults }
-    ensures did { OnOk result (Did (instr_events (geometry_of machine.old) (operations_in (program_of machine.old)) (table_in machine.old) (view_of instr.now)) (shown (D.banks chip.old) (D.counters chip.old) (D.log chip.old)) (shown (D.banks chip.new) (D.counters chip.new) (D.log chip.new))) }
-    ensures aap_grows { OnOk result ((D.counters chip.new).aap ≤ (D.counters chip.old).aap + 16 * WALK_MAX) }
-    ensures ap_grows { OnOk result ((D.counters chip.new).ap ≤ (D.counters chip.old).ap + 16 * WALK_MAX) }
-    ensures refused { IfOk result (λ refused. refused ≡ count_by is_refused (reply_to (geometry_of machine.old) (operations_in (program_of machine.old)) (table_in machine.old) (view_of instr.now) ∷ [])) }
+    ensures did { OnOk result (Did (instr_events (geometry_of machine.old)
+        (operations_in (program_of machine.old)) (table_in machine.old) (view_of instr.now))
+        (shown (D.banks chip.old) (D.counters chip.old) (D.log chip.old))
+        (shown (D.banks chip.new) (D.counters chip.new) (D.log chip.new))) }
+    ensures aap_grows { OnOk result ((D.counters chip.new).aap
+        ≤ (D.counters chip.old).aap + 16 * WALK_MAX) }
+    ensures ap_grows { OnOk result ((D.counters chip.new).ap
+        ≤ (D.counters chip.old).ap + 16 * WALK_MAX) }
+    ensures refused { IfOk result (λ refused. refused
+        ≡ count_by is_refused (reply_to (geometry_of machine.old)
+        (operations_in (program_of machine.old)) (table_in machine.old) (view_of instr.now) ∷ [])) }
     ensures one { IfOk result (λ refused. refused ≤ 1) }
-    ensures goes { (files : FolderView) → Goes (Use ∷ Put (line number (Said.Answered (reply_to (geometry_of machine.old) (operations_in (program_of machine.old)) (table_in machine.old) (view_of instr.now)))) ∷ []) (end_of result) (world files (S.view out.old) (D.faults chip.old)) (world files (S.view out.new) (D.faults chip.new)) }
+    ensures goes { (files : FolderView) → Goes (Use
+        ∷ Put (line number (Said.Answered (reply_to (geometry_of machine.old)
+        (operations_in (program_of machine.old)) (table_in machine.old) (view_of instr.now))))
+        ∷ []) (end_of result) (world files (S.view out.old) (D.faults chip.old))
+        (world files (S.view out.new) (D.faults chip.new)) }
 {
     match machine.step(number, instr, chip, out) {
         Ok(Reply::Done(_)) => Ok(0),
@@ -81,9 +93,19 @@ pub(crate) fn work<'a, D: Dram, S: Sink>(
     ensures geometry { D.geometry chip.new ≡ D.geometry chip.old }
     ensures faults { D.faults chip.old ≤ D.faults chip.new }
     ensures sink_faults { (S.view out.old).faults ≤ (S.view out.new).faults }
-    ensures did { OnOk result (Did (script_events (geometry_of machine.old) (operations_in (program_of machine.old)) (table_in machine.old) (map view_of script.now)) (shown (D.banks chip.old) (D.counters chip.old) (D.log chip.old)) (shown (D.banks chip.new) (D.counters chip.new) (D.log chip.new))) }
-    ensures refused { IfOk result (λ refused. refused ≡ count_by is_refused (replies (geometry_of machine.old) (operations_in (program_of machine.old)) (table_in machine.old) (map view_of script.now))) }
-    ensures goes { (files : FolderView) → Goes (line_steps 1 (said_in_rows (geometry_of machine.old) (operations_in (program_of machine.old)) (table_in machine.old) (D.banks chip.old) (map view_of script.now))) (end_of result) (world files (S.view out.old) (D.faults chip.old)) (world files (S.view out.new) (D.faults chip.new)) }
+    ensures did { OnOk result (Did (script_events (geometry_of machine.old)
+        (operations_in (program_of machine.old)) (table_in machine.old) (map view_of script.now))
+        (shown (D.banks chip.old) (D.counters chip.old) (D.log chip.old))
+        (shown (D.banks chip.new) (D.counters chip.new) (D.log chip.new))) }
+    ensures refused { IfOk result (λ refused. refused
+        ≡ count_by is_refused (replies (geometry_of machine.old)
+        (operations_in (program_of machine.old)) (table_in machine.old) (map view_of script.now))) }
+    ensures goes { (files : FolderView)
+        → Goes (line_steps 1 (said_in_rows (geometry_of machine.old)
+        (operations_in (program_of machine.old)) (table_in machine.old) (D.banks chip.old)
+        (map view_of script.now))) (end_of result)
+        (world files (S.view out.old) (D.faults chip.old))
+        (world files (S.view out.new) (D.faults chip.new)) }
 {
     let mut number: u32 = 0;
     let mut refused: u64 = 0;

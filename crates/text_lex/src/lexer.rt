@@ -3,8 +3,10 @@
 ghost use Rattle.std.specs.Prelude.{◌≡◌, ℕ, ◌≤◌, List, length, drop};
 ghost use Rattle.std.specs.List.{prefix_len, AllByRecursion};
 ghost use Rattle.std.specs.Char.{is_ascii_digit};
-ghost use Rattle.text_lex.specs.Bytes.{is_name_start, is_name_byte, is_blank, is_mark, is_no_newline};
-ghost use Rattle.text_lex.specs.Lexical.{Item, items_of, items_from, Takes, Stands, IsWithin, front_of, begins_with, IsRight, ReadsBack};
+ghost use Rattle.text_lex.specs.Bytes.{is_name_start, is_name_byte, is_blank, is_mark};
+ghost use Rattle.text_lex.specs.Bytes.{is_no_newline};
+ghost use Rattle.text_lex.specs.Lexical.{Item, items_of, items_from, Takes, Stands, IsWithin};
+ghost use Rattle.text_lex.specs.Lexical.{front_of, begins_with, IsRight, ReadsBack};
 
 use crate::token::{Front, LexFault, Token, TokenKind};
 use std::marker::Model;
@@ -152,7 +154,8 @@ impl<'a> Lexer<'a> {
     }
 }
 
-/// The items of a text are right in it: each token is the slice at its start and the longest there, and a
+/// The items of a text are right in it: each token is the slice at its start and the longest there,
+/// and a
 /// byte that is a fault starts none.
 pub fn items_are_right()
     ensures { (text : List ℕ) → AllByRecursion (IsRight text) (items_of text) }

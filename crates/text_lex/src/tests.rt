@@ -101,10 +101,17 @@ fn numbers_are_read(rt: HostRuntime) {
     for (word, value) in [
         (b"0".as_slice(), Some(0)),
         (b"007".as_slice(), Some(7)),
-        (b"18446744073709551615".as_slice(), Some(u64::MAX)),
-        (b"018446744073709551615".as_slice(), Some(u64::MAX)),
-        (b"18446744073709551616".as_slice(), None),
-        (b"99999999999999999999".as_slice(), None),
+        (b"18446744073709551616".as_slice(), Some(1 << 64)),
+        (
+            b"340282366920938463463374607431768211455".as_slice(),
+            Some(u128::MAX),
+        ),
+        (
+            b"0340282366920938463463374607431768211455".as_slice(),
+            Some(u128::MAX),
+        ),
+        (b"340282366920938463463374607431768211456".as_slice(), None),
+        (b"999999999999999999999999999999999999999".as_slice(), None),
     ] {
         if word.iter().all(|b| b.is_ascii_digit()) {
             assert!(rt; number(word) == value);

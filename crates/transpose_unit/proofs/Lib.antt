@@ -3,3 +3,4 @@ mod Events
 mod Columns
 mod Segments
 mod Held
+mod Rows

@@ -1,5 +1,6 @@
 -- What the writes of an object leave.
-use Rattle.std.specs.Prelude.{◌≡◌, ℕ, ◌+◌, ◌<◌, ◌^◌, Bool, false, ◌&&◌, nat_le, nat_lt, List, length, map, All}
+use Rattle.std.specs.Prelude.{◌≡◌, ℕ, ◌+◌, ◌<◌, ◌^◌, Bool, false, ◌&&◌, nat_le, nat_lt, List}
+use Rattle.std.specs.Prelude.{length, map, All}
 use Rattle.dram_model.specs.declared.geometry.Geometry.{Geometry}
 use Rattle.dram_model.specs.declared.address.Cell.{Cell}
 use Rattle.dram_model.specs.declared.address.Cell.TheVariants.{T, Dcc, C, D}
@@ -14,12 +15,18 @@ is_in_rows base n (T k) = false
 is_in_rows base n (Dcc k) = false
 is_in_rows base n (C k) = false
 
--- After the writes the columns spell the values, and 0 past them. Cells of other rows stay, and so do other banks.
+-- After the writes the columns spell the values, and 0 past them. Cells of other rows stay, and so
+-- do other banks.
 pub record WritesHold : Type 0 where
-  pub numbers : (g : Geometry) (base n : ℕ) (values : List ℕ) (banks : Banks) → 0 < g.words → All (λ v. v < 2 ^ n) values
+  pub numbers : (g : Geometry) (base n : ℕ) (values : List ℕ) (banks : Banks) → 0 < g.words
+      → All (λ v. v < 2 ^ n) values
       → ((bank : ℕ) → bank < segments_of g (length values) → length (banks bank) ≡ column_count g)
-      → numbers_in g (after (write_events g base n values) banks) base n (length values) ≡ padded_to (size_of g (length values)) values
-  pub others : (g : Geometry) (base n : ℕ) (values : List ℕ) (banks : Banks) (bank : ℕ) (cell : Cell) → is_in_rows base n cell ≡ false
-      → map (λ column. column cell) (after (write_events g base n values) banks bank) ≡ map (λ column. column cell) (banks bank)
-  pub behind : (g : Geometry) (base n : ℕ) (values : List ℕ) (banks : Banks) (bank : ℕ) → (bank < segments_of g (length values) → ⊥)
+      → numbers_in g (after (write_events g base n values) banks) base n (length values)
+      ≡ padded_to (size_of g (length values)) values
+  pub others : (g : Geometry) (base n : ℕ) (values : List ℕ) (banks : Banks) (bank : ℕ)
+      (cell : Cell) → is_in_rows base n cell ≡ false
+      → map (λ column. column cell) (after (write_events g base n values) banks bank)
+      ≡ map (λ column. column cell) (banks bank)
+  pub behind : (g : Geometry) (base n : ℕ) (values : List ℕ) (banks : Banks) (bank : ℕ)
+      → (bank < segments_of g (length values) → ⊥)
       → after (write_events g base n values) banks bank ≡ banks bank

@@ -1,4 +1,5 @@
--- Numbers in rows: the stage that holds the rows of one bank, the writes of an object, and its columns.
+-- Numbers in rows: the stage that holds the rows of one bank, the writes of an object, and its
+-- columns.
 pub mod Stage
 pub mod Columns
 pub mod Laws

@@ -1,4 +1,5 @@
-//! Numbers turned into vertical rows, and back: element e stands in bank e / (64 * words), column e mod (64 * words), and
+//! Numbers turned into vertical rows, and back: element e stands in bank e / (64 * words), column e
+//! mod (64 * words), and
 //! its bit k in row base + k.
 #![tactic(auto)]
 
@@ -8,6 +9,7 @@ mod transpose;
 mod write;
 
 pub use read::{read_column, read_segment};
+pub use stage::stage_rows;
 pub use transpose::transpose64;
 pub use write::{write_object, writes_hold};
 

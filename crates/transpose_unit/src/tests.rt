@@ -25,4 +25,10 @@ fn reads_columns(rt: HostRuntime) {
     assert_eq!(rt; read_column(&stage, 3, 64), 5);
     assert_eq!(rt; read_column(&stage, 3, 127), 1);
     assert_eq!(rt; read_column(&stage, 3, 126), 0);
+    let mut tall = [0; 128];
+    tall[0] = 2;
+    tall[64] = 2;
+    tall[127] = 2;
+    assert_eq!(rt; read_column(&tall, 128, 1), (1 << 127) + (1 << 64) + 1);
+    assert_eq!(rt; read_column(&tall, 65, 1), (1 << 64) + 1);
 }

@@ -4,7 +4,13 @@ ghost use Rattle.std.specs.Prelude.{◌≡◌, ℕ, ◌<◌, slice_index_or};
 ghost use Rattle.bit_rows.specs.Bits.{bit_at};
 ghost use Rattle.transpose_unit.specs.Stage.{IsTransposed};
 
-use bit_rows::bit_of;
+/// Bit k of a word; bit 0 is the lowest.
+pub(crate) fn word_bit(word: u64, k: u8) -> bool
+    requires { k < 64 }
+    ensures { result ≡ bit_at word k }
+{
+    (word >> k) % 2 == 1
+}
 
 /// The word whose bit j is bit i of word j.
 fn column_of(m: &[u64; 64], i: u8) -> u64
@@ -13,7 +19,7 @@ fn column_of(m: &[u64; 64], i: u8) -> u64
 {
     let mut word: u64 = 0;
     for j in (0..64).rev() {
-        word = 2 * word + bit_of(m[j], i) as u64;
+        word = 2 * word + word_bit(m[j], i) as u64;
     }
     word
 }

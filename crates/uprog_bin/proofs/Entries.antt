@@ -6,9 +6,11 @@ use Rattle.uprog_code.specs.declared.code.EntryCode.{EntryCode}
 use Rattle.uprog_code.specs.Shape.{microprogram_of}
 use Rattle.uprog_code.specs.Programs.{IsEntry}
 
-short : (es : List EntryCode) → AllByRecursion IsEntry (map microprogram_of es) → AllByRecursion (λ e. length e.code.items < 2 ^ 16) es
+short : (es : List EntryCode) → AllByRecursion IsEntry (map microprogram_of es)
+    → AllByRecursion (λ e. length e.code.items < 2 ^ 16) es
 short [] h = tt
 short (e ∷ es) h = (h.0.code.short, short es h.1)
 
-pub all_short : (es : List EntryCode) → AllByRecursion IsEntry (map microprogram_of es) → All (λ e. length e.code.items < 2 ^ 16) es
+pub all_short : (es : List EntryCode) → AllByRecursion IsEntry (map microprogram_of es)
+    → All (λ e. length e.code.items < 2 ^ 16) es
 all_short es h = All-from_recursion (λ e. length e.code.items < 2 ^ 16) es (short es h)

@@ -1,5 +1,7 @@
 -- A program file is read exactly.
-use Rattle.std.proofs.Common.{◌≡◌, ◌≢◌, ℕ, zero, suc, ◌+◌, ◌*◌, ◌^◌, ◌<◌, eqb, leb, List, [], ◌∷◌, ◌++◌, length, get_or, Ok, refl, sym, ap, ◌∙◌, subst, arith, append-nil}
+use Rattle.std.proofs.Common.{◌≡◌, ◌≢◌, ℕ, zero, suc, ◌+◌, ◌*◌, ◌^◌, ◌<◌, eqb, leb, List, [], ◌∷◌}
+use Rattle.std.proofs.Common.{◌++◌, length, get_or, Ok, refl, sym, ap, ◌∙◌, subst, arith}
+use Rattle.std.proofs.Common.{append-nil}
 use Rattle.std.specs.Prelude.{codes}
 use Rattle.std.specs.Int.{w16, to_le_bytes}
 use Rattle.std.specs.List.{flat_map, AllByRecursion, AllPairs}
@@ -11,27 +13,39 @@ use Rattle.std.proofs.lemmas.List.Concat.{flat_map-cons}
 use Rattle.op_text.specs.declared.tree.Kind.TheVariants.{Word}
 use Rattle.uprog_code.specs.Shape.{Microprogram}
 use Rattle.uprog_bin.specs.declared.fault.ProgKind.TheVariants as kinds
-use Rattle.uprog_bin.specs.Spelling.{head_bytes, directory_bytes, code_bytes, opening_bytes, program_bytes}
+use Rattle.uprog_bin.specs.Spelling.{head_bytes, directory_bytes, code_bytes, opening_bytes}
+use Rattle.uprog_bin.specs.Spelling.{program_bytes}
 use Rattle.uprog_code.specs.Programs.{IsEntry, IsProgram}
-use Rattle.uprog_bin.specs.Reading.{IsBytes, ◌>>=◌, rule, bytes_at, field_at, uops_at, codes_at, codes_start, total_count, Listing, directory_at, opening_in, program_in}
+use Rattle.uprog_bin.specs.Reading.{IsBytes, ◌>>=◌, rule, bytes_at, field_at, uops_at, codes_at}
+use Rattle.uprog_bin.specs.Reading.{codes_start, total_count, Listing, directory_at, opening_in}
+use Rattle.uprog_bin.specs.Reading.{program_in}
 use Rattle.uprog_bin.specs.Opened.{AreStarts}
-use Rattle.uprog_bin.proofs.Held.{Holds, Holds-then, bind_ok, ok_is, rule_ok, bytes_takes, wide16, field_takes}
+use Rattle.uprog_bin.proofs.Held.{Holds, Holds-then, bind_ok, ok_is, rule_ok, bytes_takes, wide16}
+use Rattle.uprog_bin.proofs.Held.{field_takes}
 use Rattle.uprog_bin.proofs.Files.{codes_length, directory_starts}
 use Rattle.uprog_bin.proofs.Found.{uops_read, legal_read}
 use Rattle.uprog_bin.proofs.Records.{listing_bytes, IsListing, HaveNames, directory_takes}
 use Rattle.uprog_bin.proofs.Taken.{codes_take}
 
-opening_takes : (bytes : List ℕ) (x : Unit {0}) → IsBytes bytes → opening_in bytes ≡ Ok x → Holds bytes 0 opening_bytes 6
+opening_takes : (bytes : List ℕ) (x : Unit {0}) → IsBytes bytes → opening_in bytes ≡ Ok x
+    → Holds bytes 0 opening_bytes 6
 unfolding opening_in
 opening_takes bytes x fits e =
-    let a = bind_ok (bytes_at 4 0 bytes) (λ magic. rule (bytes_eq magic (codes "SDMP")) 0 kinds.Magic >>= λ _. field_at w16 (λ v. eqb v 1) kinds.Version 4 bytes >>= λ _. Ok tt) x e in
-    let b = bind_ok (rule (bytes_eq a.0 (codes "SDMP")) 0 kinds.Magic) (λ _. field_at w16 (λ v. eqb v 1) kinds.Version 4 bytes >>= λ _. Ok tt) x a.2 in
+    let a = bind_ok (bytes_at 4 0 bytes) (λ magic. rule (bytes_eq magic (codes "SDMP")) 0
+    kinds.Magic >>= λ _. field_at w16 (λ v. eqb v 1) kinds.Version 4 bytes >>= λ _.
+    Ok tt) x e in
+    let b = bind_ok (rule (bytes_eq a.0 (codes "SDMP")) 0 kinds.Magic) (λ _.
+    field_at w16 (λ v. eqb v 1) kinds.Version 4 bytes >>= λ _. Ok tt) x a.2 in
     let c = bind_ok (field_at w16 (λ v. eqb v 1) kinds.Version 4 bytes) (λ _. Ok tt) x b.2 in
     let magic = bytes_takes 4 0 4 bytes a.0 a.1 (omega arith) in
-    let same : a.0 ≡ codes "SDMP" = (bytes_eq-Decides a.0 (codes "SDMP")).0 (rule_ok (bytes_eq a.0 (codes "SDMP")) 0 kinds.Magic b.0 b.1) in
-    let version = field_takes w16 (2 ^ 16) (to_le_bytes w16) wide16 (λ v. eqb v 1) kinds.Version 4 6 bytes c.0 fits c.1 (omega arith) in
+    let same : a.0 ≡ codes "SDMP" = (bytes_eq-Decides a.0 (codes "SDMP")).0
+    (rule_ok (bytes_eq a.0 (codes "SDMP")) 0 kinds.Magic b.0 b.1) in
+    let version = field_takes w16 (2 ^ 16) (to_le_bytes w16) wide16 (λ v. eqb v 1) kinds.Version 4 6
+    bytes c.0 fits c.1 (omega arith) in
     let one : c.0 ≡ 1 = eqb-true c.0 1 version.2 in
-    Holds-then bytes 0 (codes "SDMP") 4 (to_le_bytes w16 1) 6 (subst (λ f. Holds bytes 0 f 4) same magic.0) (subst (λ n. Holds bytes 4 (to_le_bytes w16 n) 6) one version.0)
+    Holds-then bytes 0 (codes "SDMP") 4 (to_le_bytes w16 1) 6
+    (subst (λ f. Holds bytes 0 f 4) same magic.0)
+    (subst (λ n. Holds bytes 4 (to_le_bytes w16 n) 6) one version.0)
 
 -- an entry of a file has its record's name and shape, and as many instructions
 pub record Matches (l : Listing) (m : Microprogram) : Type 0 where
@@ -45,20 +59,33 @@ AllMatch [] (m ∷ ms) = ⊥
 AllMatch (l ∷ ls) [] = ⊥
 AllMatch (l ∷ ls) (m ∷ ms) = Matches l m × AllMatch ls ms
 
-codes_match : (ls : List Listing) (at : ℕ) (bytes : List ℕ) (ms : List Microprogram) → codes_at ls at bytes ≡ Ok ms → AllMatch ls ms
+codes_match : (ls : List Listing) (at : ℕ) (bytes : List ℕ) (ms : List Microprogram)
+    → codes_at ls at bytes ≡ Ok ms → AllMatch ls ms
 unfolding codes_at
 codes_match [] at bytes ms e = subst (AllMatch []) (ok_is [] ms e) tt
 codes_match (l ∷ ls) at bytes ms e =
-    let a = bind_ok (uops_at l.count l.shape l.count at bytes) (λ code. codes_at ls (at + 8 * l.count) bytes >>= λ others. Ok (record { name = l.name; shape = l.shape; code = code } ∷ others)) ms e in
-    let b = bind_ok (codes_at ls (at + 8 * l.count) bytes) (λ others. Ok (record { name = l.name; shape = l.shape; code = a.0 } ∷ others)) ms a.2 in
+    let a = bind_ok (uops_at l.count l.shape l.count at bytes)
+    (λ code. codes_at ls (at + 8 * l.count) bytes >>= λ others. Ok
+    (record { name = l.name; shape = l.shape; code = code } ∷ others)) ms e in
+    let b = bind_ok (codes_at ls (at + 8 * l.count) bytes)
+    (λ others. Ok (record { name = l.name; shape = l.shape; code = a.0 } ∷ others)) ms a.2 in
     let m : Microprogram = record { name = l.name; shape = l.shape; code = a.0 } in
     let size = (uops_read l.count l.shape l.count at bytes a.0 a.1).1 in
-    subst (AllMatch (l ∷ ls)) (ok_is (m ∷ b.0) ms b.2) (record { name = refl; shape = refl; count = sym size }, codes_match ls (at + 8 * l.count) bytes b.0 b.1)
+    subst (AllMatch (l ∷ ls)) (ok_is (m ∷ b.0) ms b.2) (
+      record {
+        name = refl;
+        shape = refl;
+        count = sym size;
+      },
+      codes_match ls (at + 8 * l.count) bytes b.0 b.1,
+    )
 
-head_is : (l : Listing) (m : Microprogram) (start : ℕ) → Matches l m → l.start ≡ start → listing_bytes l ≡ head_bytes start m
+head_is : (l : Listing) (m : Microprogram) (start : ℕ) → Matches l m → l.start ≡ start
+    → listing_bytes l ≡ head_bytes start m
 head_is l m start h s = rw (h.name, h.shape, h.count, s) refl
 
-directory_is : (ls : List Listing) (ms : List Microprogram) (start : ℕ) → AllMatch ls ms → AreStarts start ls → flat_map listing_bytes ls ≡ directory_bytes start ms
+directory_is : (ls : List Listing) (ms : List Microprogram) (start : ℕ) → AllMatch ls ms
+    → AreStarts start ls → flat_map listing_bytes ls ≡ directory_bytes start ms
 directory_is [] [] start h s = refl
 directory_is [] (m ∷ ms) start h s = absurd h
 directory_is (l ∷ ls) [] start h s = absurd h
@@ -68,12 +95,17 @@ directory_is (l ∷ ls) (m ∷ ms) start h s =
     ∙ ap (λ (t : List ℕ). head_bytes start m ++ t) (directory_is ls ms (start + l.count) h.1 s.3)
     ∙ ap (λ n. head_bytes start m ++ directory_bytes (start + n) ms) h.0.count
 
-entries_are : (ls : List Listing) (at first : ℕ) (bytes : List ℕ) (ms : List Microprogram) → AllByRecursion IsListing ls → AreStarts first ls → codes_at ls at bytes ≡ Ok ms → AllByRecursion IsEntry ms
+entries_are : (ls : List Listing) (at first : ℕ) (bytes : List ℕ) (ms : List Microprogram)
+    → AllByRecursion IsListing ls → AreStarts first ls → codes_at ls at bytes ≡ Ok ms
+    → AllByRecursion IsEntry ms
 unfolding codes_at
 entries_are [] at first bytes ms is s e = subst (AllByRecursion IsEntry) (ok_is [] ms e) tt
 entries_are (l ∷ ls) at first bytes ms is s e =
-    let a = bind_ok (uops_at l.count l.shape l.count at bytes) (λ code. codes_at ls (at + 8 * l.count) bytes >>= λ others. Ok (record { name = l.name; shape = l.shape; code = code } ∷ others)) ms e in
-    let b = bind_ok (codes_at ls (at + 8 * l.count) bytes) (λ others. Ok (record { name = l.name; shape = l.shape; code = a.0 } ∷ others)) ms a.2 in
+    let a = bind_ok (uops_at l.count l.shape l.count at bytes)
+    (λ code. codes_at ls (at + 8 * l.count) bytes >>= λ others. Ok
+    (record { name = l.name; shape = l.shape; code = code } ∷ others)) ms e in
+    let b = bind_ok (codes_at ls (at + 8 * l.count) bytes)
+    (λ others. Ok (record { name = l.name; shape = l.shape; code = a.0 } ∷ others)) ms a.2 in
     let m : Microprogram = record { name = l.name; shape = l.shape; code = a.0 } in
     let entry : IsEntry m = record {
       name = is.0.name;
@@ -83,9 +115,14 @@ entries_are (l ∷ ls) at first bytes ms is s e =
       words = is.0.shape.words;
       code = legal_read l.count l.shape at bytes a.0 s.1 s.2 a.1;
     } in
-    subst (AllByRecursion IsEntry) (ok_is (m ∷ b.0) ms b.2) (entry, entries_are ls (at + 8 * l.count) (first + l.count) bytes b.0 is.1 s.3 b.1)
+    subst (AllByRecursion IsEntry) (ok_is (m ∷ b.0) ms b.2) (
+      entry,
+      entries_are ls (at + 8 * l.count) (first + l.count) bytes b.0 is.1 s.3 b.1,
+    )
 
-name_at_place : (ls : List Listing) (ms : List Microprogram) (k : ℕ) (c : Listing) (d : Microprogram) → AllMatch ls ms → k < length ms → (get_or ls k c).name ≡ (get_or ms k d).name
+name_at_place : (ls : List Listing) (ms : List Microprogram) (k : ℕ) (c : Listing)
+    (d : Microprogram) → AllMatch ls ms → k < length ms
+    → (get_or ls k c).name ≡ (get_or ms k d).name
 name_at_place [] [] k c d h lt = absurd (omega arith)
 name_at_place [] (m ∷ ms) k c d h lt = absurd h
 name_at_place (l ∷ ls) [] k c d h lt = absurd h
@@ -99,25 +136,49 @@ match_length (l ∷ ls) [] h = absurd h
 match_length (l ∷ ls) (m ∷ ms) h = let e = match_length ls ms h.1 in omega arith
 
 blank : Listing
-blank = record { name = []; shape = record { sources = []; result = Word; bits = 0; words = 0 }; start = 0; count = 0 }
+blank = record {
+  name = [];
+  shape = record { sources = []; result = Word; bits = 0; words = 0 };
+  start = 0;
+  count = 0;
+}
 
-names_differ : (ls : List Listing) (ms : List Microprogram) → AllMatch ls ms → HaveNames ls → AllPairs (λ m n. m.name ≢ n.name) ms
+names_differ : (ls : List Listing) (ms : List Microprogram) → AllMatch ls ms → HaveNames ls
+    → AllPairs (λ m n. m.name ≢ n.name) ms
 names_differ ls ms h names i j d lt lj e =
     let size = match_length ls ms h in
-    names i j blank lt (omega arith) (name_at_place ls ms i blank d h (omega arith) ∙ e ∙ sym (name_at_place ls ms j blank d h lj))
+    names i j blank lt (omega arith) (name_at_place ls ms i blank d h (omega arith) ∙ e
+    ∙ sym (name_at_place ls ms j blank d h lj))
 
-pub spelled : (bytes : List ℕ) (ms : List Microprogram) → IsBytes bytes → program_in bytes ≡ Ok ms → IsProgram ms × (bytes ≡ program_bytes ms)
+pub spelled : (bytes : List ℕ) (ms : List Microprogram) → IsBytes bytes → program_in bytes ≡ Ok ms
+    → IsProgram ms × (bytes ≡ program_bytes ms)
 unfolding program_in program_bytes
 spelled bytes ms fits e =
-    let a = bind_ok (opening_in bytes) (λ _. field_at w16 (λ n. leb n 32) kinds.Directory 6 bytes >>= λ count. directory_at count [] 0 8 bytes >>= λ ls. codes_at ls (codes_start ls) bytes >>= λ ps. rule (eqb (length bytes) (codes_start ls + 8 * total_count ls)) (codes_start ls + 8 * total_count ls) kinds.Rest >>= λ _. Ok ps) ms e in
-    let b = bind_ok (field_at w16 (λ n. leb n 32) kinds.Directory 6 bytes) (λ count. directory_at count [] 0 8 bytes >>= λ ls. codes_at ls (codes_start ls) bytes >>= λ ps. rule (eqb (length bytes) (codes_start ls + 8 * total_count ls)) (codes_start ls + 8 * total_count ls) kinds.Rest >>= λ _. Ok ps) ms a.2 in
-    let c = bind_ok (directory_at b.0 [] 0 8 bytes) (λ ls. codes_at ls (codes_start ls) bytes >>= λ ps. rule (eqb (length bytes) (codes_start ls + 8 * total_count ls)) (codes_start ls + 8 * total_count ls) kinds.Rest >>= λ _. Ok ps) ms b.2 in
+    let a = bind_ok (opening_in bytes) (λ _. field_at w16 (λ n. leb n 32) kinds.Directory 6 bytes
+    >>= λ count. directory_at count [] 0 8 bytes >>= λ ls. codes_at ls (codes_start ls) bytes
+    >>= λ ps. rule (eqb (length bytes) (codes_start ls + 8 * total_count ls)) (codes_start ls
+    + 8 * total_count ls) kinds.Rest >>= λ _. Ok ps) ms e in
+    let b = bind_ok (field_at w16 (λ n. leb n 32) kinds.Directory 6 bytes)
+    (λ count. directory_at count [] 0 8 bytes >>= λ ls. codes_at ls (codes_start ls) bytes >>=
+    λ ps. rule (eqb (length bytes) (codes_start ls + 8 * total_count ls)) (codes_start ls + 8
+    * total_count ls) kinds.Rest >>= λ _. Ok ps) ms a.2 in
+    let c = bind_ok (directory_at b.0 [] 0 8 bytes)
+    (λ ls. codes_at ls (codes_start ls) bytes >>= λ ps. rule
+    (eqb (length bytes) (codes_start ls + 8 * total_count ls)) (codes_start ls + 8
+    * total_count ls) kinds.Rest >>= λ _. Ok ps) ms b.2 in
     let ls = c.0 in
-    let d = bind_ok (codes_at ls (codes_start ls) bytes) (λ ps. rule (eqb (length bytes) (codes_start ls + 8 * total_count ls)) (codes_start ls + 8 * total_count ls) kinds.Rest >>= λ _. Ok ps) ms c.2 in
-    let f = bind_ok (rule (eqb (length bytes) (codes_start ls + 8 * total_count ls)) (codes_start ls + 8 * total_count ls) kinds.Rest) (λ _. Ok d.0) ms d.2 in
-    let long : length bytes ≡ codes_start ls + 8 * total_count ls = eqb-true (length bytes) (codes_start ls + 8 * total_count ls) (rule_ok (eqb (length bytes) (codes_start ls + 8 * total_count ls)) (codes_start ls + 8 * total_count ls) kinds.Rest f.0 f.1) in
+    let d = bind_ok (codes_at ls (codes_start ls) bytes)
+    (λ ps. rule (eqb (length bytes) (codes_start ls + 8 * total_count ls)) (codes_start ls + 8
+    * total_count ls) kinds.Rest >>= λ _. Ok ps) ms c.2 in
+    let f = bind_ok (rule (eqb (length bytes) (codes_start ls + 8 * total_count ls)) (codes_start ls
+    + 8 * total_count ls) kinds.Rest) (λ _. Ok d.0) ms d.2 in
+    let long : length bytes ≡ codes_start ls + 8 * total_count ls =
+    eqb-true (length bytes) (codes_start ls + 8 * total_count ls)
+    (rule_ok (eqb (length bytes) (codes_start ls + 8 * total_count ls)) (codes_start ls + 8
+    * total_count ls) kinds.Rest f.0 f.1) in
     let opening = opening_takes bytes a.0 fits a.1 in
-    let count = field_takes w16 (2 ^ 16) (to_le_bytes w16) wide16 (λ n. leb n 32) kinds.Directory 6 8 bytes b.0 fits b.1 (omega arith) in
+    let count = field_takes w16 (2 ^ 16) (to_le_bytes w16) wide16 (λ n. leb n 32) kinds.Directory 6
+    8 bytes b.0 fits b.1 (omega arith) in
     let reads = directory_takes b.0 [] 0 8 bytes ls fits count.0.within c.1 in
     let same : reads.rest ≡ ls = sym reads.parts in
     let size : length ls ≡ b.0 = ap length (sym same) ∙ reads.size in
@@ -132,12 +193,27 @@ spelled bytes ms fits e =
       names = names_differ ls d.0 matches names;
     } in
     let from : 8 + 27 * b.0 ≡ codes_start ls = omega (arith, size) in
-    let directory : Holds bytes 8 (directory_bytes 0 d.0) (codes_start ls) = subst (λ (t : List ℕ). Holds bytes 8 t (codes_start ls)) (ap (flat_map listing_bytes) same ∙ directory_is ls d.0 0 matches starts) (subst (Holds bytes 8 (flat_map listing_bytes reads.rest)) from reads.held) in
+    let directory : Holds bytes 8 (directory_bytes 0 d.0) (codes_start ls) =
+    subst (λ (t : List ℕ). Holds bytes 8 t (codes_start ls)) (ap (flat_map listing_bytes) same
+    ∙ directory_is ls d.0 0 matches starts)
+    (subst (Holds bytes 8 (flat_map listing_bytes reads.rest)) from reads.held) in
     let codes = codes_take ls (codes_start ls) bytes d.0 fits directory.within d.1 in
     let end : ℕ = codes_start ls + 8 * total_count ls in
-    let counted : Holds bytes 6 (to_le_bytes w16 (length d.0)) 8 = subst (λ n. Holds bytes 6 (to_le_bytes w16 n) 8) (sym many) count.0 in
-    let behind = Holds-then bytes 8 (directory_bytes 0 d.0) (codes_start ls) (flat_map code_bytes d.0) end directory codes in
-    let whole = Holds-then bytes 0 opening_bytes 6 (to_le_bytes w16 (length d.0) ++ (directory_bytes 0 d.0 ++ flat_map code_bytes d.0)) end opening (Holds-then bytes 6 (to_le_bytes w16 (length d.0)) 8 (directory_bytes 0 d.0 ++ flat_map code_bytes d.0) end counted behind) in
-    let text : bytes ≡ opening_bytes ++ (to_le_bytes w16 (length d.0) ++ (directory_bytes 0 d.0 ++ flat_map code_bytes d.0)) =
-    whole.parts ∙ ap (λ (rest : List ℕ). (opening_bytes ++ (to_le_bytes w16 (length d.0) ++ (directory_bytes 0 d.0 ++ flat_map code_bytes d.0))) ++ rest) (drop_all end bytes (omega (arith, long))) ∙ append-nil (opening_bytes ++ (to_le_bytes w16 (length d.0) ++ (directory_bytes 0 d.0 ++ flat_map code_bytes d.0))) in
-    subst (λ (ps : List Microprogram). IsProgram ps × (bytes ≡ opening_bytes ++ (to_le_bytes w16 (length ps) ++ (directory_bytes 0 ps ++ flat_map code_bytes ps)))) (ok_is d.0 ms f.2) (is, text)
+    let counted : Holds bytes 6 (to_le_bytes w16 (length d.0)) 8 =
+    subst (λ n. Holds bytes 6 (to_le_bytes w16 n) 8) (sym many) count.0 in
+    let behind = Holds-then bytes 8 (directory_bytes 0 d.0) (codes_start ls)
+    (flat_map code_bytes d.0) end directory codes in
+    let whole = Holds-then bytes 0 opening_bytes 6 (to_le_bytes w16 (length d.0)
+    ++ (directory_bytes 0 d.0 ++ flat_map code_bytes d.0)) end opening
+    (Holds-then bytes 6 (to_le_bytes w16 (length d.0)) 8 (directory_bytes 0 d.0
+    ++ flat_map code_bytes d.0) end counted behind) in
+    let text : bytes ≡ opening_bytes ++ (to_le_bytes w16 (length d.0)
+    ++ (directory_bytes 0 d.0 ++ flat_map code_bytes d.0)) =
+    whole.parts ∙ ap (λ (rest : List ℕ). (opening_bytes
+    ++ (to_le_bytes w16 (length d.0) ++ (directory_bytes 0 d.0 ++ flat_map code_bytes d.0)))
+    ++ rest) (drop_all end bytes (omega (arith, long)))
+    ∙ append-nil (opening_bytes ++ (to_le_bytes w16 (length d.0)
+    ++ (directory_bytes 0 d.0 ++ flat_map code_bytes d.0))) in
+    subst (λ (ps : List Microprogram). IsProgram ps
+    × (bytes ≡ opening_bytes ++ (to_le_bytes w16 (length ps)
+    ++ (directory_bytes 0 ps ++ flat_map code_bytes ps)))) (ok_is d.0 ms f.2) (is, text)

@@ -1,11 +1,14 @@
 -- A file that was read.
-use Rattle.std.proofs.Common.{◌≡◌, ℕ, zero, suc, ◌+◌, ◌*◌, ◌<◌, ◌≤◌, true, eqb, leb, eq-eqb, ◌^◌, List, [], ◌∷◌, ◌++◌, length, Ok, refl, sym, ap, ◌∙◌, subst, arith}
+use Rattle.std.proofs.Common.{◌≡◌, ℕ, zero, suc, ◌+◌, ◌*◌, ◌<◌, ◌≤◌, true, eqb, leb, eq-eqb, ◌^◌}
+use Rattle.std.proofs.Common.{List, [], ◌∷◌, ◌++◌, length, Ok, refl, sym, ap, ◌∙◌, subst, arith}
 use Rattle.std.specs.Int.{w16, w32}
 use Rattle.std.proofs.lemmas.Bool.{eqb-true}
 use Rattle.uprog_code.specs.Shape.{Microprogram}
 use Rattle.uprog_bin.specs.declared.fault.ProgKind.TheVariants as kinds
 use Rattle.uprog_bin.specs.declared.directory.Listed.{Listed}
-use Rattle.uprog_bin.specs.Reading.{◌>>=◌, rule, number_at, field_at, is_between, name_at, shape_at, Listing, listing_at, directory_at, listings_of, opening_in, uops_at, codes_at, codes_start, total_count, program_in}
+use Rattle.uprog_bin.specs.Reading.{◌>>=◌, rule, number_at, field_at, is_between, name_at, shape_at}
+use Rattle.uprog_bin.specs.Reading.{Listing, listing_at, directory_at, listings_of, opening_in}
+use Rattle.uprog_bin.specs.Reading.{uops_at, codes_at, codes_start, total_count, program_in}
 use Rattle.uprog_bin.specs.Opened.{File, accepted, AreStarts, IsOpened}
 use Rattle.uprog_bin.proofs.Held.{bind_ok, ok_is, rule_ok}
 use Rattle.std.proofs.lemmas.Bool.Decides.{nat_tests}
@@ -13,59 +16,118 @@ use Rattle.std.proofs.lemmas.Bool.Decides.{nat_tests}
 pub between_is : (low high n : ℕ) → is_between low high n ≡ true → (low ≤ n) × (n ≤ high)
 between_is low high n h = (grind (arith, nat_tests), grind (arith, nat_tests))
 
-pub codes_length : (ls : List Listing) (at : ℕ) (bytes : List ℕ) (ms : List Microprogram) → codes_at ls at bytes ≡ Ok ms → length ms ≡ length ls
+pub codes_length : (ls : List Listing) (at : ℕ) (bytes : List ℕ) (ms : List Microprogram)
+    → codes_at ls at bytes ≡ Ok ms → length ms ≡ length ls
 unfolding codes_at
 codes_length [] at bytes ms e = ap length (sym (ok_is [] ms e))
 codes_length (l ∷ ls) at bytes ms e =
-    let a = bind_ok (uops_at l.count l.shape l.count at bytes) (λ code. codes_at ls (at + 8 * l.count) bytes >>= λ others. Ok (record { name = l.name; shape = l.shape; code = code } ∷ others)) ms e in
-    let b = bind_ok (codes_at ls (at + 8 * l.count) bytes) (λ others. Ok (record { name = l.name; shape = l.shape; code = a.0 } ∷ others)) ms a.2 in
+    let a = bind_ok (uops_at l.count l.shape l.count at bytes)
+    (λ code. codes_at ls (at + 8 * l.count) bytes >>= λ others. Ok
+    (record { name = l.name; shape = l.shape; code = code } ∷ others)) ms e in
+    let b = bind_ok (codes_at ls (at + 8 * l.count) bytes)
+    (λ others. Ok (record { name = l.name; shape = l.shape; code = a.0 } ∷ others)) ms a.2 in
     let h = codes_length ls (at + 8 * l.count) bytes b.0 b.1 in
     let m : Microprogram = record { name = l.name; shape = l.shape; code = a.0 } in
     ap length (sym (ok_is (m ∷ b.0) ms b.2)) ∙ omega arith
 
-pub program_whole : (bytes : List ℕ) (count : ℕ) (ls : List Listing) (ms : List Microprogram) → opening_in bytes ≡ Ok tt → number_at w16 6 bytes ≡ Ok count → leb count 32 ≡ true → directory_at count [] 0 8 bytes ≡ Ok ls → codes_at ls (codes_start ls) bytes ≡ Ok ms → length bytes ≡ codes_start ls + 8 * total_count ls → program_in bytes ≡ Ok ms
+pub program_whole : (bytes : List ℕ) (count : ℕ) (ls : List Listing) (ms : List Microprogram)
+    → opening_in bytes ≡ Ok tt → number_at w16 6 bytes ≡ Ok count → leb count 32 ≡ true
+    → directory_at count [] 0 8 bytes ≡ Ok ls → codes_at ls (codes_start ls) bytes ≡ Ok ms
+    → length bytes ≡ codes_start ls + 8 * total_count ls → program_in bytes ≡ Ok ms
 unfolding program_in
-program_whole bytes count ls ms opening number few directory codes long = rw (opening, number, few, directory, codes, eq-eqb (length bytes) (codes_start ls + 8 * total_count ls) long) refl
+program_whole bytes count ls ms opening number few directory codes long =
+    rw (
+      opening,
+      number,
+      few,
+      directory,
+      codes,
+      eq-eqb (length bytes) (codes_start ls + 8 * total_count ls) long,
+    ) refl
 
-starts_more : (start : ℕ) (ls : List Listing) (l : Listing) → AreStarts start ls → l.start ≡ start + total_count ls → 0 < l.count → l.count < 2 ^ 16 → AreStarts start (ls ++ l ∷ [])
+starts_more : (start : ℕ) (ls : List Listing) (l : Listing) → AreStarts start ls
+    → l.start ≡ start + total_count ls → 0 < l.count → l.count < 2 ^ 16
+    → AreStarts start (ls ++ l ∷ [])
 starts_more start [] l h e some few = (omega arith, some, few, tt)
-starts_more start (x ∷ ls) l h e some few = (h.0, h.1, h.2, starts_more (start + x.count) ls l h.3 (omega arith) some few)
+starts_more start (x ∷ ls) l h e some few = (
+  h.0,
+  h.1,
+  h.2,
+  starts_more (start + x.count) ls l h.3 (omega arith) some few,
+)
 
-total_more : (ls : List Listing) (l : Listing) → total_count (ls ++ l ∷ []) ≡ total_count ls + l.count
+total_more : (ls : List Listing) (l : Listing)
+    → total_count (ls ++ l ∷ []) ≡ total_count ls + l.count
 total_more [] l = omega arith
 total_more (x ∷ ls) l = let h = total_more ls l in omega arith
 
-listing_start : (earlier : List Listing) (start at : ℕ) (bytes : List ℕ) (l : Listing) → listing_at earlier start at bytes ≡ Ok l → (l.start ≡ start) × (0 < l.count) × (l.count < 2 ^ 16)
+listing_start : (earlier : List Listing) (start at : ℕ) (bytes : List ℕ) (l : Listing)
+    → listing_at earlier start at bytes ≡ Ok l → (l.start ≡ start) × (0 < l.count)
+    × (l.count < 2 ^ 16)
 unfolding listing_at
 listing_start earlier start at bytes l e =
-    let a = bind_ok (name_at earlier at bytes) (λ name. shape_at (at + 17) bytes >>= λ shape. field_at w32 (λ n. eqb n start) kinds.Directory (at + 21) bytes >>= λ first. field_at w16 (is_between 1 65535) kinds.Directory (at + 25) bytes >>= λ count. Ok (record { name = name; shape = shape; start = first; count = count })) l e in
-    let b = bind_ok (shape_at (at + 17) bytes) (λ shape. field_at w32 (λ n. eqb n start) kinds.Directory (at + 21) bytes >>= λ first. field_at w16 (is_between 1 65535) kinds.Directory (at + 25) bytes >>= λ count. Ok (record { name = a.0; shape = shape; start = first; count = count })) l a.2 in
-    let c = bind_ok (field_at w32 (λ n. eqb n start) kinds.Directory (at + 21) bytes) (λ first. field_at w16 (is_between 1 65535) kinds.Directory (at + 25) bytes >>= λ count. Ok (record { name = a.0; shape = b.0; start = first; count = count })) l b.2 in
-    let d = bind_ok (field_at w16 (is_between 1 65535) kinds.Directory (at + 25) bytes) (λ count. Ok (record { name = a.0; shape = b.0; start = c.0; count = count })) l c.2 in
-    let n = bind_ok (number_at w32 (at + 21) bytes) (λ k. rule (eqb k start) (at + 21) kinds.Directory >>= λ _. Ok k) c.0 c.1 in
+    let a = bind_ok (name_at earlier at bytes)
+    (λ name. shape_at (at + 17) bytes >>= λ shape. field_at w32 (λ n.
+    eqb n start) kinds.Directory (at + 21) bytes >>= λ first. field_at w16 (is_between 1 65535)
+    kinds.Directory (at + 25) bytes >>= λ count. Ok (record {
+      name = name;
+      shape = shape;
+      start = first;
+      count = count;
+    })) l e in
+    let b = bind_ok (shape_at (at + 17) bytes)
+    (λ shape. field_at w32 (λ n. eqb n start) kinds.Directory (at + 21) bytes >>= λ first.
+    field_at w16 (is_between 1 65535) kinds.Directory (at + 25) bytes >>= λ count. Ok
+    (record { name = a.0; shape = shape; start = first; count = count })) l a.2 in
+    let c = bind_ok (field_at w32 (λ n. eqb n start) kinds.Directory (at + 21) bytes)
+    (λ first. field_at w16 (is_between 1 65535) kinds.Directory (at + 25) bytes >>= λ count. Ok
+    (record { name = a.0; shape = b.0; start = first; count = count })) l b.2 in
+    let d = bind_ok (field_at w16 (is_between 1 65535) kinds.Directory (at + 25) bytes)
+    (λ count. Ok (record { name = a.0; shape = b.0; start = c.0; count = count })) l c.2 in
+    let n = bind_ok (number_at w32 (at + 21) bytes) (λ k.
+    rule (eqb k start) (at + 21) kinds.Directory >>= λ _. Ok k) c.0 c.1 in
     let r = bind_ok (rule (eqb n.0 start) (at + 21) kinds.Directory) (λ _. Ok n.0) c.0 n.2 in
-    let same : n.0 ≡ start = eqb-true n.0 start (rule_ok (eqb n.0 start) (at + 21) kinds.Directory r.0 r.1) in
-    let m = bind_ok (number_at w16 (at + 25) bytes) (λ k. rule (is_between 1 65535 k) (at + 25) kinds.Directory >>= λ _. Ok k) d.0 d.1 in
-    let q = bind_ok (rule (is_between 1 65535 m.0) (at + 25) kinds.Directory) (λ _. Ok m.0) d.0 m.2 in
-    let some = between_is 1 65535 m.0 (rule_ok (is_between 1 65535 m.0) (at + 25) kinds.Directory q.0 q.1) in
+    let same : n.0 ≡ start = eqb-true n.0 start
+    (rule_ok (eqb n.0 start) (at + 21) kinds.Directory r.0 r.1) in
+    let m = bind_ok (number_at w16 (at + 25) bytes) (λ k.
+    rule (is_between 1 65535 k) (at + 25) kinds.Directory >>= λ _. Ok k) d.0 d.1 in
+    let q = bind_ok (rule (is_between 1 65535 m.0) (at + 25) kinds.Directory) (λ _.
+    Ok m.0) d.0 m.2 in
+    let some = between_is 1 65535 m.0 (rule_ok (is_between 1 65535 m.0) (at + 25) kinds.Directory
+    q.0 q.1) in
     let made : Listing = record { name = a.0; shape = b.0; start = c.0; count = d.0 } in
     let start-is : c.0 ≡ start = sym (ok_is n.0 c.0 r.2) ∙ same in
     let count-is : d.0 ≡ m.0 = sym (ok_is m.0 d.0 q.2) in
-    subst (λ (x : Listing). (x.start ≡ start) × (0 < x.count) × (x.count < 2 ^ 16)) (ok_is made l d.2) (start-is, omega (arith, some.0), omega (arith, some.1))
+    subst (λ (x : Listing). (x.start ≡ start) × (0 < x.count)
+    × (x.count < 2 ^ 16)) (ok_is made l d.2) (
+      start-is,
+      omega (arith, some.0),
+      omega (arith, some.1),
+    )
 
-pub directory_starts : (n : ℕ) (earlier : List Listing) (start at : ℕ) (bytes : List ℕ) (all : List Listing) → directory_at n earlier start at bytes ≡ Ok all → AreStarts 0 earlier → start ≡ total_count earlier → AreStarts 0 all
+pub directory_starts : (n : ℕ) (earlier : List Listing) (start at : ℕ) (bytes : List ℕ)
+    (all : List Listing) → directory_at n earlier start at bytes ≡ Ok all → AreStarts 0 earlier
+    → start ≡ total_count earlier → AreStarts 0 all
 unfolding directory_at
 directory_starts zero earlier start at bytes all e h s = subst (AreStarts 0) (ok_is earlier all e) h
 directory_starts (suc n) earlier start at bytes all e h s =
-    let a = bind_ok (listing_at earlier start at bytes) (λ l. directory_at n (earlier ++ l ∷ []) (start + l.count) (at + 27) bytes) all e in
+    let a = bind_ok (listing_at earlier start at bytes) (λ l.
+    directory_at n (earlier ++ l ∷ []) (start + l.count) (at + 27) bytes) all e in
     let here = listing_start earlier start at bytes a.0 a.1 in
-    directory_starts n (earlier ++ a.0 ∷ []) (start + a.0.count) (at + 27) bytes all a.2 (starts_more 0 earlier a.0 h (omega (arith, here.0)) here.1 here.2) (omega (arith, total_more earlier a.0))
+    directory_starts n (earlier ++ a.0 ∷ []) (start + a.0.count) (at + 27) bytes all a.2
+    (starts_more 0 earlier a.0 h (omega (arith, here.0)) here.1 here.2)
+    (omega (arith, total_more earlier a.0))
 
 -- the records of a file that was read
-pub opened : (bytes : List ℕ) (count : ℕ) (listed : List Listed) (ms : List Microprogram) → length bytes < 2 ^ 32 → opening_in bytes ≡ Ok tt → number_at w16 6 bytes ≡ Ok count → leb count 32 ≡ true → directory_at count [] 0 8 bytes ≡ Ok (listings_of listed)
-    → codes_at (listings_of listed) (codes_start (listings_of listed)) bytes ≡ Ok ms → length bytes ≡ codes_start (listings_of listed) + 8 * total_count (listings_of listed) → IsOpened bytes listed
+pub opened : (bytes : List ℕ) (count : ℕ) (listed : List Listed) (ms : List Microprogram)
+    → length bytes < 2 ^ 32 → opening_in bytes ≡ Ok tt → number_at w16 6 bytes ≡ Ok count
+    → leb count 32 ≡ true → directory_at count [] 0 8 bytes ≡ Ok (listings_of listed)
+    → codes_at (listings_of listed) (codes_start (listings_of listed)) bytes ≡ Ok ms
+    → length bytes ≡ codes_start (listings_of listed) + 8 * total_count (listings_of listed)
+    → IsOpened bytes listed
 opened bytes count listed ms small opening number few directory codes long =
-    let whole = program_whole bytes count (listings_of listed) ms opening number few directory codes long in
+    let whole = program_whole bytes count (listings_of listed) ms opening number few directory codes
+    long in
     let same : ms ≡ accepted (program_in bytes) = ap accepted (sym whole) in
     record {
       small = small;
@@ -80,14 +142,30 @@ listings_length [] = refl
 listings_length (l ∷ ls) = let h = listings_length ls in omega arith
 
 -- the same, as the code has them
-pub opened_from : (bytes : List ℕ) (count : ℕ) (listed seen : List Listed) (start end : ℕ) (ms : List Microprogram) → length bytes < 2 ^ 32 → opening_in bytes ≡ Ok tt → number_at w16 6 bytes ≡ Ok count → leb count 32 ≡ true → directory_at count [] 0 8 bytes ≡ Ok (listings_of listed)
-    → seen ≡ listed → start ≡ 8 + 27 * length listed → codes_at (listings_of seen) start bytes ≡ Ok ms → end ≡ start + 8 * total_count (listings_of seen) → length bytes ≡ end → IsOpened bytes listed
-opened_from bytes count listed seen start end ms small opening number few directory same begin codes stop long =
-    let first : start ≡ codes_start (listings_of listed) = omega (arith, begin, listings_length listed) in
-    let all : codes_at (listings_of listed) (codes_start (listings_of listed)) bytes ≡ Ok ms = ap (λ (ls : List Listed). codes_at (listings_of ls) (codes_start (listings_of listed)) bytes) (sym same) ∙ ap (λ n. codes_at (listings_of seen) n bytes) (sym first) ∙ codes in
-    let total : total_count (listings_of seen) ≡ total_count (listings_of listed) = ap (λ (ls : List Listed). total_count (listings_of ls)) same in
-    opened bytes count listed ms small opening number few directory all (omega (arith, long, stop, first, total))
+pub opened_from : (bytes : List ℕ) (count : ℕ) (listed seen : List Listed) (start end : ℕ)
+    (ms : List Microprogram) → length bytes < 2 ^ 32 → opening_in bytes ≡ Ok tt
+    → number_at w16 6 bytes ≡ Ok count → leb count 32 ≡ true
+    → directory_at count [] 0 8 bytes ≡ Ok (listings_of listed)
+    → seen ≡ listed → start ≡ 8 + 27 * length listed
+    → codes_at (listings_of seen) start bytes ≡ Ok ms
+    → end ≡ start + 8 * total_count (listings_of seen) → length bytes ≡ end
+    → IsOpened bytes listed
+opened_from bytes count listed seen start end ms small opening number few directory same begin codes
+    stop long =
+    let first : start ≡ codes_start (listings_of listed) =
+    omega (arith, begin, listings_length listed) in
+    let all : codes_at (listings_of listed) (codes_start (listings_of listed)) bytes ≡ Ok ms =
+    ap (λ (ls : List Listed). codes_at (listings_of ls) (codes_start (listings_of listed))
+    bytes) (sym same) ∙ ap (λ n. codes_at (listings_of seen) n bytes) (sym first) ∙ codes in
+    let total : total_count (listings_of seen) ≡ total_count (listings_of listed) =
+    ap (λ (ls : List Listed). total_count (listings_of ls)) same in
+    opened bytes count listed ms small opening number few directory all
+    (omega (arith, long, stop, first, total))
 
-pub entries_are : (bytes : List ℕ) (listed : List Listed) (seen : File) → (let f : File = record { bytes = bytes; programs = accepted (program_in bytes) } in f) ≡ seen → IsOpened bytes listed → length listed ≡ length seen.programs
+pub entries_are : (bytes : List ℕ) (listed : List Listed) (seen : File)
+    → (let f : File = record { bytes = bytes; programs = accepted (program_in bytes) } in f) ≡ seen
+    → IsOpened bytes listed → length listed ≡ length seen.programs
 entries_are bytes listed seen is h =
-    sym (listings_length listed) ∙ sym (codes_length (listings_of listed) (codes_start (listings_of listed)) bytes (accepted (program_in bytes)) h.codes) ∙ ap (λ (f : File). length f.programs) is
+    sym (listings_length listed)
+    ∙ sym (codes_length (listings_of listed) (codes_start (listings_of listed)) bytes
+    (accepted (program_in bytes)) h.codes) ∙ ap (λ (f : File). length f.programs) is

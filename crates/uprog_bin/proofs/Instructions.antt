@@ -1,5 +1,6 @@
 -- An instruction is its spelling, and its spelling is read.
-use Rattle.std.proofs.Common.{◌≡◌, ℕ, zero, suc, ◌<◌, Bool, true, false, ◌&&◌, eqb, ltb, leb, List, [], ◌∷◌, ◌++◌, length, get_or, Some, refl, sym, ap, ◌∙◌, arith}
+use Rattle.std.proofs.Common.{◌≡◌, ℕ, zero, suc, ◌<◌, Bool, true, false, ◌&&◌, eqb, ltb, leb, List}
+use Rattle.std.proofs.Common.{[], ◌∷◌, ◌++◌, length, get_or, Some, refl, sym, ap, ◌∙◌, arith}
 use Rattle.std.specs.Prelude.{slice_get, slice_index_or}
 use Rattle.std.specs.Int.{w16, to_le_bytes}
 use Rattle.std.proofs.lemmas.Bool.{eqb-true, ltb-true}
@@ -10,10 +11,12 @@ use Rattle.uprog_code.specs.Legal.{is_first, is_second}
 use Rattle.uprog_bin.specs.declared.instruction.RawRow.{RawRow}
 use Rattle.uprog_bin.specs.declared.instruction.Raw.{Raw}
 use Rattle.uprog_bin.specs.declared.opcode.Opcode.{Opcode}
-use Rattle.uprog_bin.specs.declared.opcode.Opcode.TheVariants.{Done, SetI, SetN, SetT, Mov, Add, AddI, SubI, Bnez, Aap, Ap}
+use Rattle.uprog_bin.specs.declared.opcode.Opcode.TheVariants.{Done, SetI, SetN, SetT, Mov, Add}
+use Rattle.uprog_bin.specs.declared.opcode.Opcode.TheVariants.{AddI, SubI, Bnez, Aap, Ap}
 use Rattle.uprog_bin.specs.declared.opcode.TheConstants.{OPCODES, SPACES}
 use Rattle.uprog_bin.specs.Spelling.{space_number, instruction_bytes, zeros}
-use Rattle.uprog_bin.specs.Reading.{raw_of, is_zero, has_register, has_second, operand, row_of, ends_at_y, is_formed, has_rows, uop_as}
+use Rattle.uprog_bin.specs.Reading.{raw_of, is_zero, has_register, has_second, operand, row_of}
+use Rattle.uprog_bin.specs.Reading.{ends_at_y, is_formed, has_rows, uop_as}
 
 both : (a b : Bool) → (a && b) ≡ true → (a ≡ true) × (b ≡ true)
 both true b h = (refl, h)
@@ -41,10 +44,14 @@ number_is (suc (suc (suc zero))) k e = let h : SetT ≡ k = cc in ap number_of h
 number_is (suc (suc (suc (suc zero)))) k e = let h : Mov ≡ k = cc in ap number_of h
 number_is (suc (suc (suc (suc (suc zero))))) k e = let h : Add ≡ k = cc in ap number_of h
 number_is (suc (suc (suc (suc (suc (suc zero)))))) k e = let h : AddI ≡ k = cc in ap number_of h
-number_is (suc (suc (suc (suc (suc (suc (suc zero))))))) k e = let h : SubI ≡ k = cc in ap number_of h
-number_is (suc (suc (suc (suc (suc (suc (suc (suc zero)))))))) k e = let h : Bnez ≡ k = cc in ap number_of h
-number_is (suc (suc (suc (suc (suc (suc (suc (suc (suc zero))))))))) k e = let h : Aap ≡ k = cc in ap number_of h
-number_is (suc (suc (suc (suc (suc (suc (suc (suc (suc (suc zero)))))))))) k e = let h : Ap ≡ k = cc in ap number_of h
+number_is (suc (suc (suc (suc (suc (suc (suc zero))))))) k e = let h : SubI ≡ k = cc in
+    ap number_of h
+number_is (suc (suc (suc (suc (suc (suc (suc (suc zero)))))))) k e = let h : Bnez ≡ k = cc in
+    ap number_of h
+number_is (suc (suc (suc (suc (suc (suc (suc (suc (suc zero))))))))) k e = let h : Aap ≡ k = cc in
+    ap number_of h
+number_is (suc (suc (suc (suc (suc (suc (suc (suc (suc (suc zero)))))))))) k e = let h : Ap ≡ k =
+    cc in ap number_of h
 number_is (suc (suc (suc (suc (suc (suc (suc (suc (suc (suc (suc n))))))))))) k e = absurd cc
 
 space_is : (n : ℕ) → n < 7 → space_number (slice_index_or SPACES n space.Spill) ≡ n
@@ -62,7 +69,8 @@ abbrev pub row_text : RawRow → List ℕ
 row_text x = x.space ∷ x.which ∷ x.index ∷ []
 
 abbrev pub text_of : Raw → List ℕ
-text_of r = r.number ∷ r.x.space ∷ r.x.which ∷ r.x.index ∷ r.y.space ∷ r.y.which ∷ r.y.index ∷ r.spare ∷ []
+text_of r = r.number ∷ r.x.space ∷ r.x.which ∷ r.x.index ∷ r.y.space ∷ r.y.which ∷ r.y.index
+    ∷ r.spare ∷ []
 
 pub text-raw : (field : List ℕ) → length field ≡ 8 → text_of (raw_of field) ≡ field
 text-raw [] e = absurd (omega arith)
@@ -77,7 +85,8 @@ text-raw (a ∷ b ∷ c ∷ d ∷ f ∷ g ∷ h ∷ i ∷ []) e = refl
 text-raw (a ∷ b ∷ c ∷ d ∷ f ∷ g ∷ h ∷ i ∷ j ∷ more) e = absurd (omega arith)
 
 -- the second and third byte as a number, and back
-operand_text : (x : RawRow) → x.which < 256 → x.index < 256 → to_le_bytes w16 (operand x) ≡ x.which ∷ x.index ∷ []
+operand_text : (x : RawRow) → x.which < 256 → x.index < 256
+    → to_le_bytes w16 (operand x) ≡ x.which ∷ x.index ∷ []
 operand_text x w i = le_bytes_2 (x.which ∷ x.index ∷ []) (operand x) refl fits refl
   where
     fits : (k : ℕ) → get_or (x.which ∷ x.index ∷ []) k 0 < 256
@@ -94,10 +103,15 @@ zero_is : (x : RawRow) → is_zero x ≡ true → IsZero x
 zero_is x h =
     let a = both (eqb x.space 0) (eqb x.which 0 && eqb x.index 0) h in
     let b = both (eqb x.which 0) (eqb x.index 0) a.1 in
-    record { space = eqb-true x.space 0 a.0; which = eqb-true x.which 0 b.0; index = eqb-true x.index 0 b.1 }
+    record {
+      space = eqb-true x.space 0 a.0;
+      which = eqb-true x.which 0 b.0;
+      index = eqb-true x.index 0 b.1;
+    }
 
 -- bytes 4 to 7 are 0
-ends_is : (r : Raw) → ends_at_y r ≡ true → (r.y.space ∷ r.y.which ∷ r.y.index ∷ r.spare ∷ []) ≡ zeros 4
+ends_is : (r : Raw) → ends_at_y r ≡ true → (r.y.space ∷ r.y.which ∷ r.y.index ∷ r.spare ∷ [])
+    ≡ zeros 4
 ends_is r h =
     let a = both (is_zero r.y) (eqb r.spare 0) h in
     let y = zero_is r.y a.0 in
@@ -105,55 +119,72 @@ ends_is r h =
     rw (y.space, y.which, y.index, s) refl
 
 -- an instruction that was read is spelled so
-pub instruction_text : (k : Opcode) (shape : Shape) (r : Raw) → r.x.which < 256 → r.x.index < 256 → is_formed k r ≡ true → has_rows k shape r ≡ true
-    → (number_of k ∷ r.x.space ∷ r.x.which ∷ r.x.index ∷ r.y.space ∷ r.y.which ∷ r.y.index ∷ r.spare ∷ []) ≡ instruction_bytes (uop_as k r)
+pub instruction_text : (k : Opcode) (shape : Shape) (r : Raw) → r.x.which < 256 → r.x.index < 256
+    → is_formed k r ≡ true → has_rows k shape r ≡ true
+    → (number_of k ∷ r.x.space ∷ r.x.which ∷ r.x.index ∷ r.y.space ∷ r.y.which ∷ r.y.index ∷ r.spare
+    ∷ []) ≡ instruction_bytes (uop_as k r)
 instruction_text Done shape r w i f h =
     let a = both (is_zero r.x) (ends_at_y r) f in
     let x = zero_is r.x a.0 in
-    ap (λ (t : List ℕ). 0 ∷ r.x.space ∷ r.x.which ∷ r.x.index ∷ t) (ends_is r a.1) ∙ rw (x.space, x.which, x.index) refl
+    ap (λ (t : List ℕ). 0 ∷ r.x.space ∷ r.x.which ∷ r.x.index ∷ t) (ends_is r a.1)
+    ∙ rw (x.space, x.which, x.index) refl
 instruction_text SetI shape r w i f h =
     let a = both (has_register r.x) (leb (operand r.x) 1023 && ends_at_y r) f in
     let b = both (leb (operand r.x) 1023) (ends_at_y r) a.1 in
-    ap (λ (t : List ℕ). 1 ∷ r.x.space ∷ r.x.which ∷ r.x.index ∷ t) (ends_is r b.1) ∙ ap (λ (t : List ℕ). 1 ∷ r.x.space ∷ (t ++ zeros 4)) (sym (operand_text r.x w i))
+    ap (λ (t : List ℕ). 1 ∷ r.x.space ∷ r.x.which ∷ r.x.index ∷ t) (ends_is r b.1)
+    ∙ ap (λ (t : List ℕ). 1 ∷ r.x.space ∷ (t ++ zeros 4)) (sym (operand_text r.x w i))
 instruction_text SetN shape r w i f h =
     let a = both (has_register r.x) ((eqb r.x.which 0 && eqb r.x.index 0) && ends_at_y r) f in
     let b = both (eqb r.x.which 0 && eqb r.x.index 0) (ends_at_y r) a.1 in
     let c = both (eqb r.x.which 0) (eqb r.x.index 0) b.0 in
-    ap (λ (t : List ℕ). 2 ∷ r.x.space ∷ r.x.which ∷ r.x.index ∷ t) (ends_is r b.1) ∙ rw (eqb-true r.x.which 0 c.0, eqb-true r.x.index 0 c.1) refl
+    ap (λ (t : List ℕ). 2 ∷ r.x.space ∷ r.x.which ∷ r.x.index ∷ t) (ends_is r b.1)
+    ∙ rw (eqb-true r.x.which 0 c.0, eqb-true r.x.index 0 c.1) refl
 instruction_text SetT shape r w i f h =
     let a = both (has_register r.x) ((eqb r.x.which 0 && eqb r.x.index 0) && ends_at_y r) f in
     let b = both (eqb r.x.which 0 && eqb r.x.index 0) (ends_at_y r) a.1 in
     let c = both (eqb r.x.which 0) (eqb r.x.index 0) b.0 in
-    ap (λ (t : List ℕ). 3 ∷ r.x.space ∷ r.x.which ∷ r.x.index ∷ t) (ends_is r b.1) ∙ rw (eqb-true r.x.which 0 c.0, eqb-true r.x.index 0 c.1) refl
+    ap (λ (t : List ℕ). 3 ∷ r.x.space ∷ r.x.which ∷ r.x.index ∷ t) (ends_is r b.1)
+    ∙ rw (eqb-true r.x.which 0 c.0, eqb-true r.x.index 0 c.1) refl
 instruction_text Mov shape r w i f h =
     let a = both (has_register r.x) ((has_second r.x && eqb r.x.index 0) && ends_at_y r) f in
     let b = both (has_second r.x && eqb r.x.index 0) (ends_at_y r) a.1 in
     let c = both (has_second r.x) (eqb r.x.index 0) b.0 in
-    ap (λ (t : List ℕ). 4 ∷ r.x.space ∷ r.x.which ∷ r.x.index ∷ t) (ends_is r b.1) ∙ rw (eqb-true r.x.index 0 c.1) refl
+    ap (λ (t : List ℕ). 4 ∷ r.x.space ∷ r.x.which ∷ r.x.index ∷ t) (ends_is r b.1)
+    ∙ rw (eqb-true r.x.index 0 c.1) refl
 instruction_text Add shape r w i f h =
     let a = both (has_register r.x) ((has_second r.x && eqb r.x.index 0) && ends_at_y r) f in
     let b = both (has_second r.x && eqb r.x.index 0) (ends_at_y r) a.1 in
     let c = both (has_second r.x) (eqb r.x.index 0) b.0 in
-    ap (λ (t : List ℕ). 5 ∷ r.x.space ∷ r.x.which ∷ r.x.index ∷ t) (ends_is r b.1) ∙ rw (eqb-true r.x.index 0 c.1) refl
+    ap (λ (t : List ℕ). 5 ∷ r.x.space ∷ r.x.which ∷ r.x.index ∷ t) (ends_is r b.1)
+    ∙ rw (eqb-true r.x.index 0 c.1) refl
 instruction_text AddI shape r w i f h =
     let a = both (has_register r.x) (leb (operand r.x) 1023 && ends_at_y r) f in
     let b = both (leb (operand r.x) 1023) (ends_at_y r) a.1 in
-    ap (λ (t : List ℕ). 6 ∷ r.x.space ∷ r.x.which ∷ r.x.index ∷ t) (ends_is r b.1) ∙ ap (λ (t : List ℕ). 6 ∷ r.x.space ∷ (t ++ zeros 4)) (sym (operand_text r.x w i))
+    ap (λ (t : List ℕ). 6 ∷ r.x.space ∷ r.x.which ∷ r.x.index ∷ t) (ends_is r b.1)
+    ∙ ap (λ (t : List ℕ). 6 ∷ r.x.space ∷ (t ++ zeros 4)) (sym (operand_text r.x w i))
 instruction_text SubI shape r w i f h =
     let a = both (has_register r.x) (leb (operand r.x) 1023 && ends_at_y r) f in
     let b = both (leb (operand r.x) 1023) (ends_at_y r) a.1 in
-    ap (λ (t : List ℕ). 7 ∷ r.x.space ∷ r.x.which ∷ r.x.index ∷ t) (ends_is r b.1) ∙ ap (λ (t : List ℕ). 7 ∷ r.x.space ∷ (t ++ zeros 4)) (sym (operand_text r.x w i))
+    ap (λ (t : List ℕ). 7 ∷ r.x.space ∷ r.x.which ∷ r.x.index ∷ t) (ends_is r b.1)
+    ∙ ap (λ (t : List ℕ). 7 ∷ r.x.space ∷ (t ++ zeros 4)) (sym (operand_text r.x w i))
 instruction_text Bnez shape r w i f h =
     let a = both (has_register r.x) (ends_at_y r) f in
-    ap (λ (t : List ℕ). 8 ∷ r.x.space ∷ r.x.which ∷ r.x.index ∷ t) (ends_is r a.1) ∙ ap (λ (t : List ℕ). 8 ∷ r.x.space ∷ (t ++ zeros 4)) (sym (operand_text r.x w i))
+    ap (λ (t : List ℕ). 8 ∷ r.x.space ∷ r.x.which ∷ r.x.index ∷ t) (ends_is r a.1)
+    ∙ ap (λ (t : List ℕ). 8 ∷ r.x.space ∷ (t ++ zeros 4)) (sym (operand_text r.x w i))
 instruction_text Aap shape r w i f h =
-    let a = both (ltb r.x.space 7 && is_first shape (row_of r.x)) (ltb r.y.space 7 && is_second shape (row_of r.y)) h in
-    let x = space_is r.x.space (ltb-true r.x.space 7 (both (ltb r.x.space 7) (is_first shape (row_of r.x)) a.0).0) in
-    let y = space_is r.y.space (ltb-true r.y.space 7 (both (ltb r.y.space 7) (is_second shape (row_of r.y)) a.1).0) in
-    ap (λ s. 9 ∷ r.x.space ∷ r.x.which ∷ r.x.index ∷ r.y.space ∷ r.y.which ∷ r.y.index ∷ s ∷ []) (eqb-true r.spare 0 f)
+    let a = both (ltb r.x.space 7 && is_first shape (row_of r.x)) (ltb r.y.space 7
+    && is_second shape (row_of r.y)) h in
+    let x = space_is r.x.space (ltb-true r.x.space 7
+    (both (ltb r.x.space 7) (is_first shape (row_of r.x)) a.0).0) in
+    let y = space_is r.y.space (ltb-true r.y.space 7
+    (both (ltb r.y.space 7) (is_second shape (row_of r.y)) a.1).0) in
+    ap (λ s. 9 ∷ r.x.space ∷ r.x.which ∷ r.x.index ∷ r.y.space ∷ r.y.which ∷ r.y.index ∷ s
+    ∷ []) (eqb-true r.spare 0 f)
     ∙ ap (λ s. 9 ∷ s ∷ r.x.which ∷ r.x.index ∷ r.y.space ∷ r.y.which ∷ r.y.index ∷ 0 ∷ []) (sym x)
-    ∙ ap (λ s. 9 ∷ space_number (row_of r.x).space ∷ r.x.which ∷ r.x.index ∷ s ∷ r.y.which ∷ r.y.index ∷ 0 ∷ []) (sym y)
+    ∙ ap (λ s. 9 ∷ space_number (row_of r.x).space ∷ r.x.which ∷ r.x.index ∷ s ∷ r.y.which
+    ∷ r.y.index ∷ 0 ∷ []) (sym y)
 instruction_text Ap shape r w i f h =
-    let x = space_is r.x.space (ltb-true r.x.space 7 (both (ltb r.x.space 7) (is_first shape (row_of r.x)) h).0) in
+    let x = space_is r.x.space (ltb-true r.x.space 7
+    (both (ltb r.x.space 7) (is_first shape (row_of r.x)) h).0) in
     ap (λ (t : List ℕ). 10 ∷ r.x.space ∷ r.x.which ∷ r.x.index ∷ t) (ends_is r f)
     ∙ ap (λ s. 10 ∷ s ∷ r.x.which ∷ r.x.index ∷ zeros 4) (sym x)

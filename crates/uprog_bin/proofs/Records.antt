@@ -1,5 +1,7 @@
 -- The records of a directory are spelled so.
-use Rattle.std.proofs.Common.{◌≡◌, ◌≢◌, ℕ, zero, suc, ◌+◌, ◌*◌, ◌/◌, ◌%◌, ◌^◌, ◌<◌, ◌≤◌, Bool, true, false, ◌||◌, eqb, ltb, List, [], ◌∷◌, ◌++◌, length, get_or, drop, Ok, refl, sym, ap, ◌∙◌, subst, arith, append_assoc, append-nil}
+use Rattle.std.proofs.Common.{◌≡◌, ◌≢◌, ℕ, zero, suc, ◌+◌, ◌*◌, ◌/◌, ◌%◌, ◌^◌, ◌<◌, ◌≤◌, Bool, true}
+use Rattle.std.proofs.Common.{false, ◌||◌, eqb, ltb, List, [], ◌∷◌, ◌++◌, length, get_or, drop, Ok}
+use Rattle.std.proofs.Common.{refl, sym, ap, ◌∙◌, subst, arith, append_assoc, append-nil}
 use Rattle.std.specs.Int.{w8, w16, w32, to_le_bytes}
 use Rattle.std.specs.List.{flat_map, AllByRecursion, AllPairs}
 use Rattle.std.specs.Str.{bytes_eq}
@@ -12,8 +14,11 @@ use Rattle.op_text.specs.declared.tree.Kind.{Kind}
 use Rattle.uprog_code.specs.Shape.{Shape}
 use Rattle.uprog_bin.specs.declared.fault.ProgKind.TheVariants as kinds
 use Rattle.uprog_bin.specs.Spelling.{name_bytes, kind_bits, result_bit, shape_bytes}
-use Rattle.uprog_bin.specs.Reading.{IsBytes, is_between, ◌>>=◌, number_at, field_at, kind_of_bit, kinds_of, is_kinds, shape_at, Listing, has_name, name_at, listing_at, directory_at}
-use Rattle.uprog_bin.proofs.Held.{Holds, Holds-then, bind_ok, ok_is, wide8, wide16, wide32, number_takes, field_takes}
+use Rattle.uprog_bin.specs.Reading.{IsBytes, is_between, ◌>>=◌, number_at, field_at, kind_of_bit}
+use Rattle.uprog_bin.specs.Reading.{kinds_of, is_kinds, shape_at, Listing, has_name, name_at}
+use Rattle.uprog_bin.specs.Reading.{listing_at, directory_at}
+use Rattle.uprog_bin.proofs.Held.{Holds, Holds-then, bind_ok, ok_is, wide8, wide16, wide32}
+use Rattle.uprog_bin.proofs.Held.{number_takes, field_takes}
 use Rattle.uprog_bin.proofs.Names.{both, between_is, name_takes}
 
 one_kind : (b : ℕ) (ks : List Kind) → b < 2 → kind_bits (kind_of_bit b ∷ ks) ≡ 2 * kind_bits ks + b
@@ -33,15 +38,28 @@ kinds_low : (m n : ℕ) → 1 ≤ m → m ≤ 4 → n % 16 < 2 ^ m → kind_bits
 kinds_low zero n l h small = absurd (omega arith)
 kinds_low (suc zero) n l h small = omega (arith, kinds_sum 0 n)
 kinds_low (suc (suc zero)) n l h small = omega (arith, kinds_sum 1 n, kinds_sum 0 (n / 2))
-kinds_low (suc (suc (suc zero))) n l h small = omega (arith, kinds_sum 2 n, kinds_sum 1 (n / 2), kinds_sum 0 (n / 2 / 2))
-kinds_low (suc (suc (suc (suc zero)))) n l h small = omega (arith, kinds_sum 3 n, kinds_sum 2 (n / 2), kinds_sum 1 (n / 2 / 2), kinds_sum 0 (n / 2 / 2 / 2))
+kinds_low (suc (suc (suc zero))) n l h small =
+    omega (arith, kinds_sum 2 n, kinds_sum 1 (n / 2), kinds_sum 0 (n / 2 / 2))
+kinds_low (suc (suc (suc (suc zero)))) n l h small =
+    omega (
+      arith,
+      kinds_sum 3 n,
+      kinds_sum 2 (n / 2),
+      kinds_sum 1 (n / 2 / 2),
+      kinds_sum 0 (n / 2 / 2 / 2),
+    )
 kinds_low (suc (suc (suc (suc (suc m))))) n l h small = absurd (omega arith)
 
-kinds_text : (m n : ℕ) → 1 ≤ m → m ≤ 4 → is_kinds m n ≡ true → kind_bits (kinds_of m n) + result_bit (kind_of_bit (n / 16)) ≡ n
+kinds_text : (m n : ℕ) → 1 ≤ m → m ≤ 4 → is_kinds m n ≡ true
+    → kind_bits (kinds_of m n) + result_bit (kind_of_bit (n / 16)) ≡ n
 kinds_text m n l h k =
     let b = both (ltb n 32) (ltb (n % 16) (2 ^ m)) k in
     let top = ltb-true n 32 b.0 in
-    omega (arith, kinds_low m n l h (ltb-true (n % 16) (2 ^ m) b.1), result_is (n / 16) (omega arith))
+    omega (
+      arith,
+      kinds_low m n l h (ltb-true (n % 16) (2 ^ m) b.1),
+      result_is (n / 16) (omega arith),
+    )
 
 length-kinds : (m n : ℕ) → length (kinds_of m n) ≡ m
 length-kinds zero n = refl
@@ -54,54 +72,130 @@ pub record IsShape (s : Shape) : Type 0 where
   pub bits : s.bits < 2 ^ 8
   pub words : s.words < 2 ^ 8
 
-pub shape_takes : (at : ℕ) (bytes : List ℕ) (s : Shape) → IsBytes bytes → shape_at at bytes ≡ Ok s → Holds bytes at (shape_bytes s) (at + 4) × IsShape s
+pub shape_takes : (at : ℕ) (bytes : List ℕ) (s : Shape) → IsBytes bytes → shape_at at bytes ≡ Ok s
+    → Holds bytes at (shape_bytes s) (at + 4) × IsShape s
 unfolding shape_at
 shape_takes at bytes s fits e =
-    let a = bind_ok (field_at w8 (is_between 1 4) kinds.Directory at bytes) (λ sources. field_at w8 (is_kinds sources) kinds.Directory (at + 1) bytes >>= λ k. number_at w8 (at + 2) bytes >>= λ bits. number_at w8 (at + 3) bytes >>= λ words. Ok (record { sources = kinds_of sources k; result = kind_of_bit (k / 16); bits = bits; words = words })) s e in
-    let b = bind_ok (field_at w8 (is_kinds a.0) kinds.Directory (at + 1) bytes) (λ k. number_at w8 (at + 2) bytes >>= λ bits. number_at w8 (at + 3) bytes >>= λ words. Ok (record { sources = kinds_of a.0 k; result = kind_of_bit (k / 16); bits = bits; words = words })) s a.2 in
-    let c = bind_ok (number_at w8 (at + 2) bytes) (λ bits. number_at w8 (at + 3) bytes >>= λ words. Ok (record { sources = kinds_of a.0 b.0; result = kind_of_bit (b.0 / 16); bits = bits; words = words })) s b.2 in
-    let d = bind_ok (number_at w8 (at + 3) bytes) (λ words. Ok (record { sources = kinds_of a.0 b.0; result = kind_of_bit (b.0 / 16); bits = c.0; words = words })) s c.2 in
-    let one = field_takes w8 256 (λ n. n ∷ []) wide8 (is_between 1 4) kinds.Directory at (at + 1) bytes a.0 fits a.1 refl in
-    let two = field_takes w8 256 (λ n. n ∷ []) wide8 (is_kinds a.0) kinds.Directory (at + 1) (at + 2) bytes b.0 fits b.1 (omega arith) in
-    let three = number_takes w8 256 (λ n. n ∷ []) wide8 (at + 2) (at + 3) bytes c.0 fits c.1 (omega arith) in
-    let four = number_takes w8 256 (λ n. n ∷ []) wide8 (at + 3) (at + 4) bytes d.0 fits d.1 (omega arith) in
+    let a = bind_ok (field_at w8 (is_between 1 4) kinds.Directory at bytes)
+    (λ sources. field_at w8 (is_kinds sources) kinds.Directory (at + 1) bytes >>= λ k.
+    number_at w8 (at + 2) bytes >>= λ bits. number_at w8 (at + 3) bytes >>= λ words. Ok
+    (record {
+      sources = kinds_of sources k;
+      result = kind_of_bit (k / 16);
+      bits = bits;
+      words = words;
+    })) s e in
+    let b = bind_ok (field_at w8 (is_kinds a.0) kinds.Directory (at + 1) bytes) (λ k.
+    number_at w8 (at + 2) bytes >>= λ bits. number_at w8 (at + 3) bytes >>= λ words. Ok
+    (record {
+      sources = kinds_of a.0 k;
+      result = kind_of_bit (k / 16);
+      bits = bits;
+      words = words;
+    })) s a.2 in
+    let c = bind_ok (number_at w8 (at + 2) bytes)
+    (λ bits. number_at w8 (at + 3) bytes >>= λ words. Ok (record {
+      sources = kinds_of a.0 b.0;
+      result = kind_of_bit (b.0 / 16);
+      bits = bits;
+      words = words;
+    })) s b.2 in
+    let d = bind_ok (number_at w8 (at + 3) bytes)
+    (λ words. Ok (record {
+      sources = kinds_of a.0 b.0;
+      result = kind_of_bit (b.0 / 16);
+      bits = c.0;
+      words = words;
+    })) s c.2 in
+    let one = field_takes w8 256 (λ n. n ∷ []) wide8 (is_between 1 4) kinds.Directory at (at + 1)
+    bytes a.0 fits a.1 refl in
+    let two = field_takes w8 256 (λ n. n ∷ []) wide8 (is_kinds a.0) kinds.Directory (at + 1) (at
+    + 2) bytes b.0 fits b.1 (omega arith) in
+    let three = number_takes w8 256 (λ n. n ∷ []) wide8 (at + 2) (at + 3) bytes c.0 fits c.1
+    (omega arith) in
+    let four = number_takes w8 256 (λ n. n ∷ []) wide8 (at + 3) (at + 4) bytes d.0 fits d.1
+    (omega arith) in
     let some = between_is 1 4 a.0 one.2 in
     let size = length-kinds a.0 b.0 in
     let held : Holds bytes at (a.0 ∷ b.0 ∷ c.0 ∷ d.0 ∷ []) (at + 4) =
     Holds-then bytes at (a.0 ∷ []) (at + 1) (b.0 ∷ c.0 ∷ d.0 ∷ []) (at + 4) one.0
-    (Holds-then bytes (at + 1) (b.0 ∷ []) (at + 2) (c.0 ∷ d.0 ∷ []) (at + 4) two.0 (Holds-then bytes (at + 2) (c.0 ∷ []) (at + 3) (d.0 ∷ []) (at + 4) three.0 four.0)) in
-    let made : Shape = record { sources = kinds_of a.0 b.0; result = kind_of_bit (b.0 / 16); bits = c.0; words = d.0 } in
-    let text : (a.0 ∷ b.0 ∷ c.0 ∷ d.0 ∷ []) ≡ shape_bytes made = ap (λ n. n ∷ b.0 ∷ c.0 ∷ d.0 ∷ []) (sym size) ∙ ap (λ n. length (kinds_of a.0 b.0) ∷ n ∷ c.0 ∷ d.0 ∷ []) (sym (kinds_text a.0 b.0 some.0 some.1 two.2)) in
-    let is : IsShape made = record { some = omega (arith, size, some.0); few = omega (arith, size, some.1); bits = three.1; words = four.1 } in
-    subst (λ (x : Shape). Holds bytes at (shape_bytes x) (at + 4) × IsShape x) (ok_is made s d.2) (subst (λ (t : List ℕ). Holds bytes at t (at + 4)) text held, is)
+    (Holds-then bytes (at + 1) (b.0 ∷ []) (at + 2) (c.0 ∷ d.0 ∷ []) (at + 4) two.0
+    (Holds-then bytes (at + 2) (c.0 ∷ []) (at + 3) (d.0 ∷ []) (at + 4) three.0 four.0)) in
+    let made : Shape = record {
+      sources = kinds_of a.0 b.0;
+      result = kind_of_bit (b.0 / 16);
+      bits = c.0;
+      words = d.0;
+    } in
+    let text : (a.0 ∷ b.0 ∷ c.0 ∷ d.0 ∷ []) ≡ shape_bytes made =
+    ap (λ n. n ∷ b.0 ∷ c.0 ∷ d.0 ∷ []) (sym size)
+    ∙ ap (λ n. length (kinds_of a.0 b.0) ∷ n ∷ c.0 ∷ d.0
+    ∷ []) (sym (kinds_text a.0 b.0 some.0 some.1 two.2)) in
+    let is : IsShape made = record {
+      some = omega (arith, size, some.0);
+      few = omega (arith, size, some.1);
+      bits = three.1;
+      words = four.1;
+    } in
+    subst (λ (x : Shape). Holds bytes at (shape_bytes x) (at + 4)
+    × IsShape x) (ok_is made s d.2) (
+      subst (λ (t : List ℕ). Holds bytes at t (at + 4)) text
+          held,
+      is,
+    )
 
 abbrev pub listing_bytes : Listing → List ℕ
-listing_bytes l = name_bytes l.name ++ (shape_bytes l.shape ++ (to_le_bytes w32 l.start ++ to_le_bytes w16 l.count))
+listing_bytes l = name_bytes l.name ++ (shape_bytes l.shape
+    ++ (to_le_bytes w32 l.start ++ to_le_bytes w16 l.count))
 
 -- what a record says of an entry
 pub record IsListing (l : Listing) : Type 0 where
   pub name : fits_name l.name ≡ true
   pub shape : IsShape l.shape
 
-pub listing_takes : (earlier : List Listing) (start at : ℕ) (bytes : List ℕ) (l : Listing) → IsBytes bytes → listing_at earlier start at bytes ≡ Ok l → Holds bytes at (listing_bytes l) (at + 27) × IsListing l × (has_name earlier l.name ≡ false)
+pub listing_takes : (earlier : List Listing) (start at : ℕ) (bytes : List ℕ) (l : Listing)
+    → IsBytes bytes → listing_at earlier start at bytes ≡ Ok l
+    → Holds bytes at (listing_bytes l) (at + 27) × IsListing l × (has_name earlier l.name ≡ false)
 unfolding listing_at
 listing_takes earlier start at bytes l fits e =
-    let a = bind_ok (name_at earlier at bytes) (λ name. shape_at (at + 17) bytes >>= λ shape. field_at w32 (λ n. eqb n start) kinds.Directory (at + 21) bytes >>= λ first. field_at w16 (is_between 1 65535) kinds.Directory (at + 25) bytes >>= λ count. Ok (record { name = name; shape = shape; start = first; count = count })) l e in
-    let b = bind_ok (shape_at (at + 17) bytes) (λ shape. field_at w32 (λ n. eqb n start) kinds.Directory (at + 21) bytes >>= λ first. field_at w16 (is_between 1 65535) kinds.Directory (at + 25) bytes >>= λ count. Ok (record { name = a.0; shape = shape; start = first; count = count })) l a.2 in
-    let c = bind_ok (field_at w32 (λ n. eqb n start) kinds.Directory (at + 21) bytes) (λ first. field_at w16 (is_between 1 65535) kinds.Directory (at + 25) bytes >>= λ count. Ok (record { name = a.0; shape = b.0; start = first; count = count })) l b.2 in
-    let d = bind_ok (field_at w16 (is_between 1 65535) kinds.Directory (at + 25) bytes) (λ count. Ok (record { name = a.0; shape = b.0; start = c.0; count = count })) l c.2 in
+    let a = bind_ok (name_at earlier at bytes)
+    (λ name. shape_at (at + 17) bytes >>= λ shape. field_at w32 (λ n.
+    eqb n start) kinds.Directory (at + 21) bytes >>= λ first. field_at w16 (is_between 1 65535)
+    kinds.Directory (at + 25) bytes >>= λ count. Ok (record {
+      name = name;
+      shape = shape;
+      start = first;
+      count = count;
+    })) l e in
+    let b = bind_ok (shape_at (at + 17) bytes)
+    (λ shape. field_at w32 (λ n. eqb n start) kinds.Directory (at + 21) bytes >>= λ first.
+    field_at w16 (is_between 1 65535) kinds.Directory (at + 25) bytes >>= λ count. Ok
+    (record { name = a.0; shape = shape; start = first; count = count })) l a.2 in
+    let c = bind_ok (field_at w32 (λ n. eqb n start) kinds.Directory (at + 21) bytes)
+    (λ first. field_at w16 (is_between 1 65535) kinds.Directory (at + 25) bytes >>= λ count. Ok
+    (record { name = a.0; shape = b.0; start = first; count = count })) l b.2 in
+    let d = bind_ok (field_at w16 (is_between 1 65535) kinds.Directory (at + 25) bytes)
+    (λ count. Ok (record { name = a.0; shape = b.0; start = c.0; count = count })) l c.2 in
     let name = name_takes earlier at bytes a.0 fits a.1 in
     let shape = shape_takes (at + 17) bytes b.0 fits b.1 in
-    let first = field_takes w32 (2 ^ 32) (to_le_bytes w32) wide32 (λ n. eqb n start) kinds.Directory (at + 21) (at + 25) bytes c.0 fits c.1 (omega arith) in
-    let count = field_takes w16 (2 ^ 16) (to_le_bytes w16) wide16 (is_between 1 65535) kinds.Directory (at + 25) (at + 27) bytes d.0 fits d.1 (omega arith) in
+    let first = field_takes w32 (2 ^ 32) (to_le_bytes w32) wide32 (λ n. eqb n start) kinds.Directory
+    (at + 21) (at + 25) bytes c.0 fits c.1 (omega arith) in
+    let count = field_takes w16 (2 ^ 16) (to_le_bytes w16) wide16 (is_between 1 65535)
+    kinds.Directory (at + 25) (at + 27) bytes d.0 fits d.1 (omega arith) in
     let to : at + 17 + 4 ≡ at + 21 = omega arith in
-    let second : Holds bytes (at + 17) (shape_bytes b.0) (at + 21) = subst (Holds bytes (at + 17) (shape_bytes b.0)) to shape.0 in
+    let second : Holds bytes (at + 17) (shape_bytes b.0) (at + 21) =
+    subst (Holds bytes (at + 17) (shape_bytes b.0)) to shape.0 in
     let made : Listing = record { name = a.0; shape = b.0; start = c.0; count = d.0 } in
-    let numbers = Holds-then bytes (at + 21) (to_le_bytes w32 c.0) (at + 25) (to_le_bytes w16 d.0) (at + 27) first.0 count.0 in
-    let rest = Holds-then bytes (at + 17) (shape_bytes b.0) (at + 21) (to_le_bytes w32 c.0 ++ to_le_bytes w16 d.0) (at + 27) second numbers in
-    let held : Holds bytes at (listing_bytes made) (at + 27) = Holds-then bytes at (name_bytes a.0) (at + 17) (shape_bytes b.0 ++ (to_le_bytes w32 c.0 ++ to_le_bytes w16 d.0)) (at + 27) name.0 rest in
+    let numbers = Holds-then bytes (at + 21) (to_le_bytes w32 c.0) (at + 25) (to_le_bytes w16 d.0)
+    (at + 27) first.0 count.0 in
+    let rest = Holds-then bytes (at + 17) (shape_bytes b.0) (at + 21) (to_le_bytes w32 c.0
+    ++ to_le_bytes w16 d.0) (at + 27) second numbers in
+    let held : Holds bytes at (listing_bytes made) (at + 27) =
+    Holds-then bytes at (name_bytes a.0) (at + 17) (shape_bytes b.0
+    ++ (to_le_bytes w32 c.0 ++ to_le_bytes w16 d.0)) (at + 27) name.0 rest in
     let is : IsListing made = record { name = name.1; shape = shape.1 } in
-    subst (λ (y : Listing). Holds bytes at (listing_bytes y) (at + 27) × IsListing y × (has_name earlier y.name ≡ false)) (ok_is made l d.2) (held, is, name.2)
+    subst (λ (y : Listing). Holds bytes at (listing_bytes y) (at + 27) × IsListing y
+    × (has_name earlier y.name ≡ false)) (ok_is made l d.2) (held, is, name.2)
 
 -- no two have one name
 abbrev pub HaveNames : List Listing → Type 0
@@ -111,10 +205,14 @@ or_false : (a b : Bool) → (a || b) ≡ false → (a ≡ false) × (b ≡ false
 or_false true b h = absurd cc
 or_false false b h = (refl, h)
 
-unnamed : (ls : List Listing) (name : List ℕ) → has_name ls name ≡ false → (k : ℕ) (d : Listing) → k < length ls → (get_or ls k d).name ≢ name
+unnamed : (ls : List Listing) (name : List ℕ) → has_name ls name ≡ false → (k : ℕ) (d : Listing)
+    → k < length ls → (get_or ls k d).name ≢ name
 unnamed [] name h k d lt e = omega arith
-unnamed (x ∷ ls) name h zero d lt e = false≢true (sym (or_false (bytes_eq x.name name) (has_name ls name) h).0 ∙ (bytes_eq-Decides x.name name).1 e)
-unnamed (x ∷ ls) name h (suc k) d lt e = unnamed ls name (or_false (bytes_eq x.name name) (has_name ls name) h).1 k d (omega arith) e
+unnamed (x ∷ ls) name h zero d lt e = false≢true
+    (sym (or_false (bytes_eq x.name name) (has_name ls name) h).0
+    ∙ (bytes_eq-Decides x.name name).1 e)
+unnamed (x ∷ ls) name h (suc k) d lt e = unnamed ls name
+    (or_false (bytes_eq x.name name) (has_name ls name) h).1 k d (omega arith) e
 
 -- the records that were read, behind the earlier ones
 pub record Reads (bytes : List ℕ) (n at : ℕ) (earlier all : List Listing) : Type 0 where
@@ -125,29 +223,42 @@ pub record Reads (bytes : List ℕ) (n at : ℕ) (earlier all : List Listing) : 
   pub listings : AllByRecursion IsListing rest
   pub names : HaveNames earlier → HaveNames all
 
-pub directory_takes : (n : ℕ) (earlier : List Listing) (start at : ℕ) (bytes : List ℕ) (all : List Listing) → IsBytes bytes → at ≤ length bytes → directory_at n earlier start at bytes ≡ Ok all → Reads bytes n at earlier all
+pub directory_takes : (n : ℕ) (earlier : List Listing) (start at : ℕ) (bytes : List ℕ)
+    (all : List Listing) → IsBytes bytes → at ≤ length bytes
+    → directory_at n earlier start at bytes ≡ Ok all → Reads bytes n at earlier all
 unfolding directory_at
 directory_takes zero earlier start at bytes all fits le e =
     let same = ok_is earlier all e in
     record {
       rest = [];
       parts = sym same ∙ sym (append-nil earlier);
-      held = record { parts = ap (λ k. drop k bytes) (omega arith); ends = omega arith; within = omega arith };
+      held = record {
+        parts = ap (λ k. drop k bytes) (omega arith);
+        ends = omega arith;
+        within = omega arith;
+      };
       size = refl;
       listings = tt;
       names = λ h. subst HaveNames same h;
     }
 directory_takes (suc n) earlier start at bytes all fits le e =
-    let a = bind_ok (listing_at earlier start at bytes) (λ l. directory_at n (earlier ++ l ∷ []) (start + l.count) (at + 27) bytes) all e in
+    let a = bind_ok (listing_at earlier start at bytes) (λ l.
+    directory_at n (earlier ++ l ∷ []) (start + l.count) (at + 27) bytes) all e in
     let l = a.0 in
     let one = listing_takes earlier start at bytes l fits a.1 in
-    let more = directory_takes n (earlier ++ l ∷ []) (start + l.count) (at + 27) bytes all fits one.0.within a.2 in
+    let more = directory_takes n (earlier ++ l ∷ []) (start + l.count) (at + 27) bytes all fits
+    one.0.within a.2 in
     let end : at + 27 + 27 * n ≡ at + 27 * suc n = omega arith in
     record {
       rest = l ∷ more.rest;
       parts = more.parts ∙ append_assoc earlier (l ∷ []) more.rest;
-      held = subst (λ (t : List ℕ). Holds bytes at t (at + 27 * suc n)) (sym (flat_map-cons listing_bytes l more.rest)) (subst (Holds bytes at (listing_bytes l ++ flat_map listing_bytes more.rest)) end (Holds-then bytes at (listing_bytes l) (at + 27) (flat_map listing_bytes more.rest) (at + 27 + 27 * n) one.0 more.held));
+      held = subst (λ (t : List ℕ). Holds bytes at t (at + 27 * suc n))
+          (sym (flat_map-cons listing_bytes l more.rest))
+          (subst (Holds bytes at (listing_bytes l ++ flat_map listing_bytes more.rest)) end
+          (Holds-then bytes at (listing_bytes l) (at + 27) (flat_map listing_bytes more.rest) (at
+          + 27 + 27 * n) one.0 more.held));
       size = omega (arith, more.size);
       listings = (one.1, more.listings);
-      names = λ h. more.names (all_pairs_push (λ (k m : Listing). k.name ≢ m.name) earlier l h (unnamed earlier l.name one.2));
+      names = λ h. more.names (all_pairs_push (λ (k m : Listing). k.name ≢ m.name) earlier l h
+          (unnamed earlier l.name one.2));
     }

@@ -1,5 +1,8 @@
 -- The spelling of a program is read as the program.
-use Rattle.std.proofs.Common.{◌≡◌, ◌≢◌, ℕ, zero, suc, ◌+◌, ◌-◌, ◌*◌, ◌/◌, ◌%◌, ◌^◌, ◌<◌, ◌≤◌, Bool, true, false, eqb, leb, List, [], ◌∷◌, ◌++◌, length, get_or, Ok, refl, sym, ap, ◌∙◌, subst, arith, append_assoc, append-nil, replicate, ◌⊎◌, inl, inr}
+use Rattle.std.proofs.Common.{◌≡◌, ◌≢◌, ℕ, zero, suc, ◌+◌, ◌-◌, ◌*◌, ◌/◌, ◌%◌, ◌^◌, ◌<◌, ◌≤◌, Bool}
+use Rattle.std.proofs.Common.{true, false, eqb, leb, List, [], ◌∷◌, ◌++◌, length, get_or, Ok, refl}
+use Rattle.std.proofs.Common.{sym, ap, ◌∙◌, subst, arith, append_assoc, append-nil, replicate, ◌⊎◌}
+use Rattle.std.proofs.Common.{inl, inr}
 use Rattle.std.specs.Prelude.{slice_get, codes}
 use Rattle.std.specs.Int.{w8, w16, w32, to_le_bytes}
 use Rattle.std.specs.List.{flat_map, AllByRecursion, AllPairs}
@@ -15,10 +18,15 @@ use Rattle.op_text.specs.declared.tree.Kind.TheVariants.{Word, Bit}
 use Rattle.uprog_code.specs.declared.code.Uop.TheVariants.{Done}
 use Rattle.uprog_code.specs.Shape.{Shape, Microprogram}
 use Rattle.uprog_bin.specs.declared.fault.ProgKind.TheVariants as kinds
-use Rattle.uprog_bin.specs.Spelling.{name_bytes, kind_bits, result_bit, kinds_byte, shape_bytes, head_bytes, directory_bytes, code_bytes, opening_bytes, program_bytes}
+use Rattle.uprog_bin.specs.Spelling.{name_bytes, kind_bits, result_bit, kinds_byte, shape_bytes}
+use Rattle.uprog_bin.specs.Spelling.{head_bytes, directory_bytes, code_bytes, opening_bytes}
+use Rattle.uprog_bin.specs.Spelling.{program_bytes}
 use Rattle.uprog_code.specs.Programs.{IsEntry, IsProgram}
-use Rattle.uprog_bin.specs.Reading.{is_between, kind_of_bit, kinds_of, is_kinds, shape_at, Listing, has_name, listing_at, directory_at, codes_at, codes_start, total_count, opening_in, program_in}
-use Rattle.uprog_bin.proofs.Held.{Holds, Holds-front, Holds-back, bytes_again, wide8, wide16, wide32, number_again, field_again}
+use Rattle.uprog_bin.specs.Reading.{is_between, kind_of_bit, kinds_of, is_kinds, shape_at, Listing}
+use Rattle.uprog_bin.specs.Reading.{has_name, listing_at, directory_at, codes_at, codes_start}
+use Rattle.uprog_bin.specs.Reading.{total_count, opening_in, program_in}
+use Rattle.uprog_bin.proofs.Held.{Holds, Holds-front, Holds-back, bytes_again, wide8, wide16}
+use Rattle.uprog_bin.proofs.Held.{wide32, number_again, field_again}
 use Rattle.uprog_bin.proofs.Names.{is-between, name_again, name_short}
 use Rattle.uprog_bin.proofs.Records.{IsShape}
 use Rattle.uprog_bin.proofs.KindBits.{kind_bits_small}
@@ -30,7 +38,8 @@ tops : ℕ → ℕ → ℕ
 tops q zero = q
 tops q (suc m) = 2 * tops q m
 
-kinds_back : (m : ℕ) (ks : List Kind) (q n : ℕ) → length ks ≡ m → n ≡ kind_bits ks + tops q m → kinds_of m n ≡ ks
+kinds_back : (m : ℕ) (ks : List Kind) (q n : ℕ) → length ks ≡ m → n ≡ kind_bits ks + tops q m
+    → kinds_of m n ≡ ks
 unfolding tops
 kinds_back zero [] q n e h = refl
 kinds_back zero (k ∷ ks) q n e h = absurd (omega arith)
@@ -38,11 +47,13 @@ kinds_back (suc m) [] q n e h = absurd (omega arith)
 kinds_back (suc m) (Word ∷ ks) q n e h =
     let low : n % 2 ≡ 1 = omega arith in
     let high : n / 2 ≡ kind_bits ks + tops q m = omega arith in
-    ap (λ b. kind_of_bit b ∷ kinds_of m (n / 2)) low ∙ ap (λ (r : List Kind). Word ∷ r) (kinds_back m ks q (n / 2) (omega arith) high)
+    ap (λ b. kind_of_bit b ∷ kinds_of m (n / 2)) low
+    ∙ ap (λ (r : List Kind). Word ∷ r) (kinds_back m ks q (n / 2) (omega arith) high)
 kinds_back (suc m) (Bit ∷ ks) q n e h =
     let low : n % 2 ≡ 0 = omega arith in
     let high : n / 2 ≡ kind_bits ks + tops q m = omega arith in
-    ap (λ b. kind_of_bit b ∷ kinds_of m (n / 2)) low ∙ ap (λ (r : List Kind). Bit ∷ r) (kinds_back m ks q (n / 2) (omega arith) high)
+    ap (λ b. kind_of_bit b ∷ kinds_of m (n / 2)) low
+    ∙ ap (λ (r : List Kind). Bit ∷ r) (kinds_back m ks q (n / 2) (omega arith) high)
 
 result_top : (m : ℕ) (r : Kind) → 1 ≤ m → m ≤ 4 → (q : ℕ) × (result_bit r ≡ tops q m)
 unfolding tops
@@ -79,7 +90,8 @@ kinds_below (suc m) (k ∷ ks) e h = step m k (kinds_below m ks (omega arith) (o
     step m Word l h = omega (arith, twice m (omega arith))
     step m Bit l h = omega (arith, twice m (omega arith))
 
-result_small : (r : Kind) (low : ℕ) → low ≤ 15 → (low + result_bit r < 32) × ((low + result_bit r) % 16 ≡ low)
+result_small : (r : Kind) (low : ℕ) → low ≤ 15 → (low + result_bit r < 32)
+    × ((low + result_bit r) % 16 ≡ low)
 result_small Word low h = (omega arith, omega arith)
 result_small Bit low h = (omega arith, omega arith)
 
@@ -91,25 +103,33 @@ kinds_pass s is =
     let small : kinds_byte s % 16 < 2 ^ length s.sources = omega (arith, r.1, below) in
     rw (lt-ltb (kinds_byte s) 32 r.0, lt-ltb (kinds_byte s % 16) (2 ^ length s.sources) small) refl
 
-pub shape_again : (at : ℕ) (bytes : List ℕ) (s : Shape) → IsShape s → Holds bytes at (shape_bytes s) (at + 4) → shape_at at bytes ≡ Ok s
+pub shape_again : (at : ℕ) (bytes : List ℕ) (s : Shape) → IsShape s
+    → Holds bytes at (shape_bytes s) (at + 4) → shape_at at bytes ≡ Ok s
 unfolding shape_at
 shape_again at bytes s is h =
     let m = length s.sources in
     let k = kinds_byte s in
     let one = Holds-front bytes at (m ∷ []) (at + 1) (k ∷ s.bits ∷ s.words ∷ []) (at + 4) h refl in
     let h1 = Holds-back bytes at (m ∷ []) (at + 1) (k ∷ s.bits ∷ s.words ∷ []) (at + 4) h refl in
-    let two = Holds-front bytes (at + 1) (k ∷ []) (at + 2) (s.bits ∷ s.words ∷ []) (at + 4) h1 (omega arith) in
-    let h2 = Holds-back bytes (at + 1) (k ∷ []) (at + 2) (s.bits ∷ s.words ∷ []) (at + 4) h1 (omega arith) in
-    let three = Holds-front bytes (at + 2) (s.bits ∷ []) (at + 3) (s.words ∷ []) (at + 4) h2 (omega arith) in
-    let four = Holds-back bytes (at + 2) (s.bits ∷ []) (at + 3) (s.words ∷ []) (at + 4) h2 (omega arith) in
+    let two = Holds-front bytes (at + 1) (k ∷ []) (at + 2) (s.bits ∷ s.words ∷ []) (at + 4) h1
+    (omega arith) in
+    let h2 = Holds-back bytes (at + 1) (k ∷ []) (at + 2) (s.bits ∷ s.words ∷ []) (at + 4) h1
+    (omega arith) in
+    let three = Holds-front bytes (at + 2) (s.bits ∷ []) (at + 3) (s.words ∷ []) (at + 4) h2
+    (omega arith) in
+    let four = Holds-back bytes (at + 2) (s.bits ∷ []) (at + 3) (s.words ∷ []) (at + 4) h2
+    (omega arith) in
     let low = kind_bits_small s.sources is.few in
     let r = result_small s.result (kind_bits s.sources) low in
-    let a = field_again w8 256 (λ n. n ∷ []) wide8 (is_between 1 4) kinds.Directory at (at + 1) bytes m one (omega (arith, is.few)) (is-between 1 4 m is.some is.few) in
-    let b = field_again w8 256 (λ n. n ∷ []) wide8 (is_kinds m) kinds.Directory (at + 1) (at + 2) bytes k two (omega (arith, r.0)) (kinds_pass s is) in
+    let a = field_again w8 256 (λ n. n ∷ []) wide8 (is_between 1 4) kinds.Directory at (at + 1)
+    bytes m one (omega (arith, is.few)) (is-between 1 4 m is.some is.few) in
+    let b = field_again w8 256 (λ n. n ∷ []) wide8 (is_kinds m) kinds.Directory (at + 1) (at + 2)
+    bytes k two (omega (arith, r.0)) (kinds_pass s is) in
     let c = number_again w8 256 (λ n. n ∷ []) wide8 (at + 2) (at + 3) bytes s.bits three is.bits in
     let d = number_again w8 256 (λ n. n ∷ []) wide8 (at + 3) (at + 4) bytes s.words four is.words in
     let top = result_top m s.result is.some is.few in
-    let sources : kinds_of m k ≡ s.sources = kinds_back m s.sources top.0 k refl (ap (λ n. kind_bits s.sources + n) top.1) in
+    let sources : kinds_of m k ≡ s.sources = kinds_back m s.sources top.0 k refl
+    (ap (λ n. kind_bits s.sources + n) top.1) in
     let result : kind_of_bit (k / 16) ≡ s.result = result_back s.result (kind_bits s.sources) low in
     rw (a, b, c, d, sources, result) refl
 
@@ -117,7 +137,12 @@ shape_again at bytes s is h =
 
 -- the record of an entry whose code starts at this instruction
 abbrev pub listing_from : ℕ → Microprogram → Listing
-listing_from start m = record { name = m.name; shape = m.shape; start = start; count = length m.code }
+listing_from start m = record {
+  name = m.name;
+  shape = m.shape;
+  start = start;
+  count = length m.code;
+}
 
 abbrev pub listings_from : ℕ → List Microprogram → List Listing
 listings_from start [] = []
@@ -127,31 +152,51 @@ shape_is : (m : Microprogram) → IsEntry m → IsShape m.shape
 shape_is m is = record { some = is.some; few = is.few; bits = is.bits; words = is.words }
 
 code_some : (m : Microprogram) → IsEntry m → 0 < length m.code
-code_some m is = let h = slice_get_within m.code (length m.code - 1) Done is.code.last in omega arith
+code_some m is = let h = slice_get_within m.code (length m.code - 1) Done is.code.last in
+    omega arith
 
 name_length : (m : Microprogram) → IsEntry m → length (name_bytes m.name) ≡ 17
-name_length m is = let short = name_short m.name is.name in omega (arith, length-append m.name (replicate (16 - length m.name) 0), length-replicate {A = ℕ} (16 - length m.name) 0)
+name_length m is = let short = name_short m.name is.name in
+    omega (
+      arith,
+      length-append m.name (replicate (16 - length m.name) 0),
+      length-replicate {A = ℕ} (16 - length m.name) 0,
+    )
 
-listing_again : (earlier : List Listing) (start at : ℕ) (bytes : List ℕ) (m : Microprogram) → IsEntry m → start < 2 ^ 32 → has_name earlier m.name ≡ false → Holds bytes at (head_bytes start m) (at + 27) → listing_at earlier start at bytes ≡ Ok (listing_from start m)
+listing_again : (earlier : List Listing) (start at : ℕ) (bytes : List ℕ) (m : Microprogram)
+    → IsEntry m → start < 2 ^ 32 → has_name earlier m.name ≡ false
+    → Holds bytes at (head_bytes start m) (at + 27)
+    → listing_at earlier start at bytes ≡ Ok (listing_from start m)
 unfolding listing_at
 listing_again earlier start at bytes m is small new h =
     let numbers : List ℕ = to_le_bytes w32 start ++ to_le_bytes w16 (length m.code) in
     let size = name_length m is in
     let place : at + 17 ≡ at + length (name_bytes m.name) = omega arith in
-    let name = Holds-front bytes at (name_bytes m.name) (at + 17) (shape_bytes m.shape ++ numbers) (at + 27) h place in
-    let h1 = Holds-back bytes at (name_bytes m.name) (at + 17) (shape_bytes m.shape ++ numbers) (at + 27) h place in
-    let shape = Holds-front bytes (at + 17) (shape_bytes m.shape) (at + 17 + 4) numbers (at + 27) h1 refl in
-    let h2 = Holds-back bytes (at + 17) (shape_bytes m.shape) (at + 21) numbers (at + 27) h1 (omega arith) in
-    let first = Holds-front bytes (at + 21) (to_le_bytes w32 start) (at + 25) (to_le_bytes w16 (length m.code)) (at + 27) h2 (omega arith) in
-    let count = Holds-back bytes (at + 21) (to_le_bytes w32 start) (at + 25) (to_le_bytes w16 (length m.code)) (at + 27) h2 (omega arith) in
+    let name = Holds-front bytes at (name_bytes m.name) (at + 17) (shape_bytes m.shape
+    ++ numbers) (at + 27) h place in
+    let h1 = Holds-back bytes at (name_bytes m.name) (at + 17) (shape_bytes m.shape
+    ++ numbers) (at + 27) h place in
+    let shape = Holds-front bytes (at + 17) (shape_bytes m.shape) (at + 17 + 4) numbers (at + 27) h1
+    refl in
+    let h2 = Holds-back bytes (at + 17) (shape_bytes m.shape) (at + 21) numbers (at + 27) h1
+    (omega arith) in
+    let first = Holds-front bytes (at + 21) (to_le_bytes w32 start) (at + 25)
+    (to_le_bytes w16 (length m.code)) (at + 27) h2 (omega arith) in
+    let count = Holds-back bytes (at + 21) (to_le_bytes w32 start) (at + 25)
+    (to_le_bytes w16 (length m.code)) (at + 27) h2 (omega arith) in
     let a = name_again earlier at bytes m.name name is.name new in
     let b = shape_again (at + 17) bytes m.shape (shape_is m is) shape in
-    let c = field_again w32 (2 ^ 32) (to_le_bytes w32) wide32 (λ n. eqb n start) kinds.Directory (at + 21) (at + 25) bytes start first small (eq-eqb start start refl) in
+    let c = field_again w32 (2 ^ 32) (to_le_bytes w32) wide32 (λ n. eqb n start) kinds.Directory (at
+    + 21) (at + 25) bytes start first small (eq-eqb start start refl) in
     let some = code_some m is in
-    let d = field_again w16 (2 ^ 16) (to_le_bytes w16) wide16 (is_between 1 65535) kinds.Directory (at + 25) (at + 27) bytes (length m.code) count is.code.short (is-between 1 65535 (length m.code) (omega arith) (omega (arith, is.code.short))) in
+    let d = field_again w16 (2 ^ 16) (to_le_bytes w16) wide16 (is_between 1 65535) kinds.Directory
+    (at + 25) (at + 27) bytes (length m.code) count is.code.short
+    (is-between 1 65535 (length m.code) (omega arith) (omega (arith, is.code.short))) in
     rw (a, b, c, d) refl
 
-unnamed_is : (ls : List Listing) (name : List ℕ) → ((k : ℕ) (d : Listing) → k < length ls → (get_or ls k d).name ≢ name) → has_name ls name ≡ false
+unnamed_is : (ls : List Listing) (name : List ℕ)
+    → ((k : ℕ) (d : Listing) → k < length ls → (get_or ls k d).name ≢ name)
+    → has_name ls name ≡ false
 unnamed_is [] name h = refl
 unnamed_is (x ∷ ls) name h = elim (cases_bool (bytes_eq x.name name)) [
   | inl t ↦ absurd (h 0 x (omega arith) ((bytes_eq-Decides x.name name).0 t))
@@ -162,19 +207,30 @@ unnamed_is (x ∷ ls) name h = elim (cases_bool (bytes_eq x.name name)) [
     cases_bool true = inl refl
     cases_bool false = inr refl
 
-new_is : (earlier rest : List Listing) (l : Listing) → AllPairs (λ k m. k.name ≢ m.name) (earlier ++ l ∷ rest) → has_name earlier l.name ≡ false
+new_is : (earlier rest : List Listing) (l : Listing)
+    → AllPairs (λ k m. k.name ≢ m.name) (earlier ++ l ∷ rest) → has_name earlier l.name ≡ false
 new_is earlier rest l names =
     unnamed_is earlier l.name (λ k d lt e.
     names k (length earlier) d lt (omega (arith, length-append earlier (l ∷ rest)))
-    (ap (λ (x : Listing). x.name) (get_or_append_left earlier (l ∷ rest) d k lt) ∙ e ∙ ap (λ (x : Listing). x.name) (sym (get_or-append_seam earlier l rest d))))
+    (ap (λ (x : Listing). x.name) (get_or_append_left earlier (l ∷ rest) d k lt) ∙ e
+    ∙ ap (λ (x : Listing). x.name) (sym (get_or-append_seam earlier l rest d))))
 
 head_length : (start : ℕ) (m : Microprogram) → IsEntry m → length (head_bytes start m) ≡ 27
-head_length start m is = omega (arith, length-append (name_bytes m.name) (shape_bytes m.shape ++ (to_le_bytes w32 start ++ to_le_bytes w16 (length m.code))), name_length m is)
+head_length start m is = omega (
+  arith,
+  length-append (name_bytes m.name) (shape_bytes m.shape
+      ++ (to_le_bytes w32 start ++ to_le_bytes w16 (length m.code))),
+  name_length m is,
+)
 
-pub directory_again : (n : ℕ) (ms : List Microprogram) (earlier : List Listing) (start at : ℕ) (bytes : List ℕ) → length ms ≡ n → AllByRecursion IsEntry ms → start + 65536 * n < 2 ^ 32 → AllPairs (λ k m. k.name ≢ m.name) (earlier ++ listings_from start ms)
-    → Holds bytes at (directory_bytes start ms) (at + 27 * n) → directory_at n earlier start at bytes ≡ Ok (earlier ++ listings_from start ms)
+pub directory_again : (n : ℕ) (ms : List Microprogram) (earlier : List Listing) (start at : ℕ)
+    (bytes : List ℕ) → length ms ≡ n → AllByRecursion IsEntry ms → start + 65536 * n < 2 ^ 32
+    → AllPairs (λ k m. k.name ≢ m.name) (earlier ++ listings_from start ms)
+    → Holds bytes at (directory_bytes start ms) (at + 27 * n)
+    → directory_at n earlier start at bytes ≡ Ok (earlier ++ listings_from start ms)
 unfolding directory_at
-directory_again zero [] earlier start at bytes e is small names h = ap (λ (ls : List Listing). Ok ls) (sym (append-nil earlier))
+directory_again zero [] earlier start at bytes e is small names h =
+    ap (λ (ls : List Listing). Ok ls) (sym (append-nil earlier))
 directory_again zero (m ∷ ms) earlier start at bytes e is small names h = absurd (omega arith)
 directory_again (suc n) [] earlier start at bytes e is small names h = absurd (omega arith)
 directory_again (suc n) (m ∷ ms) earlier start at bytes e is small names h =
@@ -182,56 +238,91 @@ directory_again (suc n) (m ∷ ms) earlier start at bytes e is small names h =
     let rest = listings_from (start + length m.code) ms in
     let size = head_length start m is.0 in
     let place : at + 27 ≡ at + length (head_bytes start m) = omega arith in
-    let front = Holds-front bytes at (head_bytes start m) (at + 27) (directory_bytes (start + length m.code) ms) (at + 27 * suc n) h place in
-    let back = Holds-back bytes at (head_bytes start m) (at + 27) (directory_bytes (start + length m.code) ms) (at + 27 * suc n) h place in
+    let front = Holds-front bytes at (head_bytes start m) (at + 27)
+    (directory_bytes (start + length m.code) ms) (at + 27 * suc n) h place in
+    let back = Holds-back bytes at (head_bytes start m) (at + 27)
+    (directory_bytes (start + length m.code) ms) (at + 27 * suc n) h place in
     let end : at + 27 * suc n ≡ at + 27 + 27 * n = omega arith in
-    let one = listing_again earlier start at bytes m is.0 (omega arith) (new_is earlier rest l names) front in
+    let one = listing_again earlier start at bytes m is.0 (omega arith)
+    (new_is earlier rest l names) front in
     let short = is.0.code.short in
-    let same : earlier ++ l ∷ rest ≡ (earlier ++ l ∷ []) ++ rest = sym (append_assoc earlier (l ∷ []) rest) in
-    let more = directory_again n ms (earlier ++ l ∷ []) (start + length m.code) (at + 27) bytes (omega arith) is.1 (omega arith) (subst (λ (ls : List Listing). AllPairs (λ k x. k.name ≢ x.name) ls) same names) (subst (Holds bytes (at + 27) (directory_bytes (start + length m.code) ms)) end back) in
+    let same : earlier ++ l ∷ rest ≡ (earlier ++ l ∷ []) ++ rest =
+    sym (append_assoc earlier (l ∷ []) rest) in
+    let more = directory_again n ms (earlier ++ l ∷ []) (start + length m.code) (at + 27) bytes
+    (omega arith) is.1 (omega arith) (subst
+    (λ (ls : List Listing). AllPairs (λ k x. k.name ≢ x.name) ls) same names)
+    (subst (Holds bytes (at + 27) (directory_bytes (start + length m.code) ms)) end back) in
     rw one (more ∙ ap (λ (ls : List Listing). Ok ls) (sym same))
 
 -- ---- code
 
-pub codes_again : (ms : List Microprogram) (start at : ℕ) (bytes : List ℕ) → AllByRecursion IsEntry ms → Holds bytes at (flat_map code_bytes ms) (at + 8 * total_count (listings_from start ms)) → codes_at (listings_from start ms) at bytes ≡ Ok ms
+pub codes_again : (ms : List Microprogram) (start at : ℕ) (bytes : List ℕ)
+    → AllByRecursion IsEntry ms → Holds bytes at (flat_map code_bytes ms) (at + 8
+    * total_count (listings_from start ms)) → codes_at (listings_from start ms) at bytes ≡ Ok ms
 unfolding codes_at
 codes_again [] start at bytes is h = refl
 codes_again (m ∷ ms) start at bytes is h =
     let n = length m.code in
     let total = total_count (listings_from (start + n) ms) in
-    let split = subst (λ (t : List ℕ). Holds bytes at t (at + 8 * (n + total))) (flat_map-cons code_bytes m ms) h in
+    let split = subst (λ (t : List ℕ). Holds bytes at t (at + 8 * (n + total)))
+    (flat_map-cons code_bytes m ms) h in
     let place : at + 8 * n ≡ at + length (code_bytes m) = omega (arith, length-code m.code) in
-    let front = Holds-front bytes at (code_bytes m) (at + 8 * n) (flat_map code_bytes ms) (at + 8 * (n + total)) split place in
-    let back = Holds-back bytes at (code_bytes m) (at + 8 * n) (flat_map code_bytes ms) (at + 8 * (n + total)) split place in
+    let front = Holds-front bytes at (code_bytes m) (at + 8 * n) (flat_map code_bytes ms) (at + 8
+    * (n + total)) split place in
+    let back = Holds-back bytes at (code_bytes m) (at + 8 * n) (flat_map code_bytes ms) (at + 8
+    * (n + total)) split place in
     let end : at + 8 * (n + total) ≡ at + 8 * n + 8 * total = omega arith in
-    let code = uops_again n m.shape n at bytes m.code refl is.0.code.short is.0.code.each (λ k e. (let same : k ≡ n - 1 = omega arith in ap (slice_get m.code) same) ∙ is.0.code.last) front in
-    let more = codes_again ms (start + n) (at + 8 * n) bytes is.1 (subst (Holds bytes (at + 8 * n) (flat_map code_bytes ms)) end back) in
+    let code = uops_again n m.shape n at bytes m.code refl is.0.code.short is.0.code.each (λ k e.
+    (let same : k ≡ n - 1 = omega arith in ap (slice_get m.code) same)
+    ∙ is.0.code.last) front in
+    let more = codes_again ms (start + n) (at + 8 * n) bytes is.1
+    (subst (Holds bytes (at + 8 * n) (flat_map code_bytes ms)) end back) in
     rw (code, more) refl
 
-length-codes : (ms : List Microprogram) (start : ℕ) → length (flat_map code_bytes ms) ≡ 8 * total_count (listings_from start ms)
+length-codes : (ms : List Microprogram) (start : ℕ)
+    → length (flat_map code_bytes ms) ≡ 8 * total_count (listings_from start ms)
 length-codes [] start = omega arith
-length-codes (m ∷ ms) start = ap length (flat_map-cons code_bytes m ms) ∙ omega (arith, length-append (code_bytes m) (flat_map code_bytes ms), length-code m.code, length-codes ms (start + length m.code))
+length-codes (m ∷ ms) start = ap length (flat_map-cons code_bytes m ms)
+    ∙ omega (
+      arith,
+      length-append (code_bytes m) (flat_map code_bytes ms),
+      length-code m.code,
+      length-codes ms (start + length m.code),
+    )
 
-length-directory : (ms : List Microprogram) (start : ℕ) → AllByRecursion IsEntry ms → length (directory_bytes start ms) ≡ 27 * length ms
+length-directory : (ms : List Microprogram) (start : ℕ) → AllByRecursion IsEntry ms
+    → length (directory_bytes start ms) ≡ 27 * length ms
 length-directory [] start is = omega arith
-length-directory (m ∷ ms) start is = omega (arith, length-append (head_bytes start m) (directory_bytes (start + length m.code) ms), head_length start m is.0, length-directory ms (start + length m.code) is.1)
+length-directory (m ∷ ms) start is = omega (
+  arith,
+  length-append (head_bytes start m) (directory_bytes (start + length m.code) ms),
+  head_length start m is.0,
+  length-directory ms (start + length m.code) is.1,
+)
 
 length-listings : (ms : List Microprogram) (start : ℕ) → length (listings_from start ms) ≡ length ms
 length-listings [] start = refl
 length-listings (m ∷ ms) start = let h = length-listings ms (start + length m.code) in omega arith
 
-name_of : (ms : List Microprogram) (start k : ℕ) (c : Listing) (d : Microprogram) → k < length ms → (get_or (listings_from start ms) k c).name ≡ (get_or ms k d).name
+name_of : (ms : List Microprogram) (start k : ℕ) (c : Listing) (d : Microprogram) → k < length ms
+    → (get_or (listings_from start ms) k c).name ≡ (get_or ms k d).name
 name_of [] start k c d lt = absurd (omega arith)
 name_of (m ∷ ms) start zero c d lt = refl
 name_of (m ∷ ms) start (suc k) c d lt = name_of ms (start + length m.code) k c d (omega arith)
 
 blank : Microprogram
-blank = record { name = []; shape = record { sources = []; result = Word; bits = 0; words = 0 }; code = [] }
+blank = record {
+  name = [];
+  shape = record { sources = []; result = Word; bits = 0; words = 0 };
+  code = [];
+}
 
-names_again : (ms : List Microprogram) → AllPairs (λ m n. m.name ≢ n.name) ms → AllPairs (λ k l. k.name ≢ l.name) (listings_from 0 ms)
+names_again : (ms : List Microprogram) → AllPairs (λ m n. m.name ≢ n.name) ms
+    → AllPairs (λ k l. k.name ≢ l.name) (listings_from 0 ms)
 names_again ms names i j d lt lj e =
     let size = length-listings ms 0 in
-    names i j blank lt (omega arith) (sym (name_of ms 0 i d blank (omega arith)) ∙ e ∙ name_of ms 0 j d blank (omega arith))
+    names i j blank lt (omega arith) (sym (name_of ms 0 i d blank (omega arith)) ∙ e
+    ∙ name_of ms 0 j d blank (omega arith))
 
 opening_again : (bytes : List ℕ) → Holds bytes 0 opening_bytes 6 → opening_in bytes ≡ Ok tt
 unfolding opening_in
@@ -239,7 +330,8 @@ opening_again bytes h =
     let front = Holds-front bytes 0 (codes "SDMP") 4 (to_le_bytes w16 1) 6 h refl in
     let back = Holds-back bytes 0 (codes "SDMP") 4 (to_le_bytes w16 1) 6 h refl in
     let magic = bytes_again 4 0 4 bytes (codes "SDMP") front refl in
-    let version = field_again w16 (2 ^ 16) (to_le_bytes w16) wide16 (λ v. eqb v 1) kinds.Version 4 6 bytes 1 back (omega arith) refl in
+    let version = field_again w16 (2 ^ 16) (to_le_bytes w16) wide16 (λ v. eqb v 1) kinds.Version 4 6
+    bytes 1 back (omega arith) refl in
     rw (magic, version) refl
 
 pub read : (ms : List Microprogram) → IsProgram ms → program_in (program_bytes ms) ≡ Ok ms
@@ -254,13 +346,20 @@ read ms is =
     let records_len = length-directory ms 0 is.entries in
     let many = length-listings ms 0 in
     let end : ℕ = codes_start ls + 8 * total_count ls in
-    let size : length bytes ≡ end = omega (arith, length-append opening_bytes (number ++ (records ++ code)), length-append number (records ++ code), length-append records code) in
+    let size : length bytes ≡ end = omega (
+      arith,
+      length-append opening_bytes (number ++ (records ++ code)),
+      length-append number (records ++ code),
+      length-append records code,
+    ) in
     let whole : Holds bytes 0 (opening_bytes ++ (number ++ (records ++ code))) end = record {
-      parts = sym (ap (λ (rest : List ℕ). bytes ++ rest) (drop_all end bytes (omega (arith, size))) ∙ append-nil bytes);
+      parts = sym (ap (λ (rest : List ℕ). bytes ++ rest) (drop_all end bytes (omega (arith, size)))
+          ∙ append-nil bytes);
       ends = omega (arith, size);
       within = omega (arith, size);
     } in
-    let opening = Holds-front bytes 0 opening_bytes 6 (number ++ (records ++ code)) end whole refl in
+    let opening = Holds-front bytes 0 opening_bytes 6 (number ++ (records ++ code)) end whole refl
+    in
     let h1 = Holds-back bytes 0 opening_bytes 6 (number ++ (records ++ code)) end whole refl in
     let count = Holds-front bytes 6 number 8 (records ++ code) end h1 refl in
     let h2 = Holds-back bytes 6 number 8 (records ++ code) end h1 refl in
@@ -269,7 +368,9 @@ read ms is =
     let h3 = Holds-back bytes 8 records (codes_start ls) code end h2 (omega arith) in
     let a = opening_again bytes opening in
     let few = is.few in
-    let b = field_again w16 (2 ^ 16) (to_le_bytes w16) wide16 (λ n. leb n 32) kinds.Directory 6 8 bytes (length ms) count (omega arith) (le-leb (length ms) 32 is.few) in
-    let c = directory_again (length ms) ms [] 0 8 bytes refl is.entries (omega arith) (names_again ms is.names) directory in
+    let b = field_again w16 (2 ^ 16) (to_le_bytes w16) wide16 (λ n. leb n 32) kinds.Directory 6 8
+    bytes (length ms) count (omega arith) (le-leb (length ms) 32 is.few) in
+    let c = directory_again (length ms) ms [] 0 8 bytes refl is.entries (omega arith)
+    (names_again ms is.names) directory in
     let d = codes_again ms 0 (codes_start ls) bytes is.entries h3 in
     rw (a, b, c, d, eq-eqb (length bytes) end size) refl

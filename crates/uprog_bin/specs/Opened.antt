@@ -1,12 +1,14 @@
 -- An accepted file, and an entry of it.
-use Rattle.std.specs.Prelude.{◌≡◌, ℕ, zero, suc, ◌+◌, ◌*◌, ◌/◌, ◌<◌, ◌^◌, List, [], ◌∷◌, length, take, drop, Result, Ok, Err, slice_index, slice_index_or}
+use Rattle.std.specs.Prelude.{◌≡◌, ℕ, zero, suc, ◌+◌, ◌*◌, ◌/◌, ◌<◌, ◌^◌, List, [], ◌∷◌, length}
+use Rattle.std.specs.Prelude.{take, drop, Result, Ok, Err, slice_index, slice_index_or}
 use Rattle.uprog_code.specs.declared.code.Uop.{Uop}
 use Rattle.uprog_code.specs.Shape.{Shape, Microprogram}
 use Rattle.uprog_bin.specs.declared.fault.ProgFault.{ProgFault}
 use Rattle.uprog_bin.specs.declared.directory.Listed.{Listed}
 use Rattle.uprog_bin.specs.declared.opcode.Opcode.TheVariants.{Done}
 use Rattle.uprog_bin.specs.declared.opcode.TheConstants.{OPCODES}
-use Rattle.uprog_bin.specs.Reading.{raw_of, uop_as, codes_at, codes_start, total_count, Listing, listings_of, program_in}
+use Rattle.uprog_bin.specs.Reading.{raw_of, uop_as, codes_at, codes_start, total_count, Listing}
+use Rattle.uprog_bin.specs.Reading.{listings_of, program_in}
 
 -- the program of an accepted file
 abbrev pub accepted : Result (List Microprogram) ProgFault → List Microprogram
@@ -52,12 +54,14 @@ code_place ms k = 8 + 27 * length ms + 8 * count_before ms k
 -- each entry's code starts where that of the one before it ends, and has 1 to 65,535 instructions
 abbrev pub AreStarts : ℕ → List Listing → Type 0
 AreStarts start [] = Unit {0}
-AreStarts start (l ∷ ls) = (l.start ≡ start) × (0 < l.count) × (l.count < 2 ^ 16) × AreStarts (start + l.count) ls
+AreStarts start (l ∷ ls) = (l.start ≡ start) × (0 < l.count) × (l.count < 2 ^ 16)
+    × AreStarts (start + l.count) ls
 
 -- these are the records of an accepted file
 pub record IsOpened (bytes : List ℕ) (listed : List Listed) : Type 0 where
   pub small : length bytes < 2 ^ 32
   pub read : program_in bytes ≡ Ok (accepted (program_in bytes))
-  pub codes : codes_at (listings_of listed) (codes_start (listings_of listed)) bytes ≡ Ok (accepted (program_in bytes))
+  pub codes : codes_at (listings_of listed) (codes_start (listings_of listed)) bytes
+      ≡ Ok (accepted (program_in bytes))
   pub starts : AreStarts 0 (listings_of listed)
   pub long : length bytes ≡ codes_start (listings_of listed) + 8 * total_count (listings_of listed)

@@ -1,5 +1,9 @@
--- Reading a program file field by field: its program, or the first field that is not whole or breaks its rule.
-use Rattle.std.specs.Prelude.{◌≡◌, ◌<◌, ℕ, zero, suc, ◌+◌, ◌*◌, ◌/◌, ◌%◌, ◌^◌, Bool, true, ◌&&◌, not, nat_le, nat_lt, ◌==◌, List, [], ◌∷◌, ◌++◌, length, take, drop, Option, Some, None, Result, Ok, Err, if◌then◌else◌, codes, map, slice_get, slice_index, slice_index_or}
+-- Reading a program file field by field: its program, or the first field that is not whole or
+-- breaks its rule.
+use Rattle.std.specs.Prelude.{◌≡◌, ◌<◌, ℕ, zero, suc, ◌+◌, ◌*◌, ◌/◌, ◌%◌, ◌^◌, Bool, true, ◌&&◌}
+use Rattle.std.specs.Prelude.{not, nat_le, nat_lt, ◌==◌, List, [], ◌∷◌, ◌++◌, length, take, drop}
+use Rattle.std.specs.Prelude.{Option, Some, None, Result, Ok, Err, if◌then◌else◌, codes, map}
+use Rattle.std.specs.Prelude.{slice_get, slice_index, slice_index_or}
 use Rattle.std.specs.Int.{Width, w8, w16, w32, byte_len, from_le_bytes}
 use Rattle.std.specs.List.{list_all, list_any}
 use Rattle.std.specs.Str.{bytes_eq}
@@ -17,13 +21,15 @@ use Rattle.uprog_bin.specs.declared.fault.ProgKind.{ProgKind}
 use Rattle.uprog_bin.specs.declared.fault.ProgKind.TheVariants as kinds
 use Rattle.uprog_bin.specs.declared.fault.ProgFault.{ProgFault}
 use Rattle.uprog_bin.specs.declared.opcode.Opcode.{Opcode}
-use Rattle.uprog_bin.specs.declared.opcode.Opcode.TheVariants.{Done, SetI, SetN, SetT, Mov, Add, AddI, SubI, Bnez, Aap, Ap}
+use Rattle.uprog_bin.specs.declared.opcode.Opcode.TheVariants.{Done, SetI, SetN, SetT, Mov, Add}
+use Rattle.uprog_bin.specs.declared.opcode.Opcode.TheVariants.{AddI, SubI, Bnez, Aap, Ap}
 use Rattle.uprog_bin.specs.declared.opcode.TheConstants.{OPCODES, SPACES}
 use Rattle.uprog_bin.specs.declared.instruction.RawRow.{RawRow}
 use Rattle.uprog_bin.specs.declared.instruction.Raw.{Raw}
 
 infixl 10 ◌>>=◌
-abbrev pub ◌>>=◌ : {A B : Type 0} → Result A ProgFault → (A → Result B ProgFault) → Result B ProgFault
+abbrev pub ◌>>=◌ : {A B : Type 0} → Result A ProgFault → (A → Result B ProgFault)
+    → Result B ProgFault
 (Ok x) >>= f = f x
 (Err e) >>= f = Err e
 
@@ -41,7 +47,8 @@ rule holds at kind = if holds then Ok tt else Err (fault_at at kind)
 
 -- so many bytes from a place on. A file that ends before is Short at its length
 abbrev pub bytes_at : ℕ → ℕ → List ℕ → Result (List ℕ) ProgFault
-bytes_at len at bytes = if nat_lt (length bytes) (at + len) then Err (fault_at (length bytes) kinds.Short) else Ok (take len (drop at bytes))
+bytes_at len at bytes = if nat_lt (length bytes) (at + len)
+    then Err (fault_at (length bytes) kinds.Short) else Ok (take len (drop at bytes))
 
 -- the number of that width at a place, the low byte first
 abbrev pub number_at : Width → ℕ → List ℕ → Result ℕ ProgFault
@@ -61,10 +68,19 @@ is_between low high n = nat_le low n && nat_le n high
 
 -- the eight bytes of an instruction: its number, two rows, and one more
 abbrev pub raw_row : List ℕ → ℕ → RawRow
-raw_row field k = record { space = slice_index field k; which = slice_index field (k + 1); index = slice_index field (k + 2) }
+raw_row field k = record {
+  space = slice_index field k;
+  which = slice_index field (k + 1);
+  index = slice_index field (k + 2);
+}
 
 abbrev pub raw_of : List ℕ → Raw
-raw_of field = record { number = slice_index field 0; x = raw_row field 1; y = raw_row field 4; spare = slice_index field 7 }
+raw_of field = record {
+  number = slice_index field 0;
+  x = raw_row field 1;
+  y = raw_row field 4;
+  spare = slice_index field 7;
+}
 
 abbrev pub is_zero : RawRow → Bool
 is_zero x = x.space == 0 && (x.which == 0 && x.index == 0)
@@ -83,7 +99,8 @@ operand x = from_le_bytes w16 (x.which ∷ x.index ∷ [])
 abbrev pub ends_at_y : Raw → Bool
 ends_at_y r = is_zero r.y && r.spare == 0
 
--- registers are below 8 and numbers at most 1023, and the bytes that the instruction does not name are 0
+-- registers are below 8 and numbers at most 1023, and the bytes that the instruction does not name
+-- are 0
 abbrev pub is_formed : Opcode → Raw → Bool
 is_formed Done r = is_zero r.x && ends_at_y r
 is_formed SetI r = has_register r.x && (nat_le (operand r.x) 1023 && ends_at_y r)
@@ -107,7 +124,8 @@ row_of x = record { space = slice_index_or SPACES x.space Spill; which = x.which
 
 -- the rows are legal in their places
 abbrev pub has_rows : Opcode → Shape → Raw → Bool
-has_rows Aap shape r = (nat_lt r.x.space 7 && is_first shape (row_of r.x)) && (nat_lt r.y.space 7 && is_second shape (row_of r.y))
+has_rows Aap shape r = (nat_lt r.x.space 7 && is_first shape (row_of r.x))
+    && (nat_lt r.y.space 7 && is_second shape (row_of r.y))
 has_rows Ap shape r = nat_lt r.x.space 7 && is_first shape (row_of r.x)
 has_rows _ shape r = true
 
@@ -169,7 +187,8 @@ has_name earlier name = list_any (λ l. bytes_eq l.name name) earlier
 
 -- the first so many bytes of the field are a name, which no earlier entry has, and the others are 0
 abbrev pub is_new_name : List Listing → ℕ → List ℕ → Bool
-is_new_name earlier len field = fits_name (take len field) && (list_all (λ b. b == 0) (drop len field) && not (has_name earlier (take len field)))
+is_new_name earlier len field = fits_name (take len field)
+    && (list_all (λ b. b == 0) (drop len field) && not (has_name earlier (take len field)))
 
 unfoldable pub name_at : List Listing → ℕ → List ℕ → Result (List ℕ) ProgFault
 name_at earlier at bytes = do
@@ -196,7 +215,12 @@ shape_at at bytes = do
   kinds ← field_at w8 (is_kinds sources) kinds.Directory (at + 1) bytes
   bits ← number_at w8 (at + 2) bytes
   words ← number_at w8 (at + 3) bytes
-  Ok (record { sources = kinds_of sources kinds; result = kind_of_bit (kinds / 16); bits = bits; words = words })
+  Ok (record {
+    sources = kinds_of sources kinds;
+    result = kind_of_bit (kinds / 16);
+    bits = bits;
+    words = words;
+  })
 
 unfoldable pub listing_at : List Listing → ℕ → ℕ → List ℕ → Result Listing ProgFault
 listing_at earlier start at bytes = do
@@ -245,14 +269,20 @@ program_in bytes = do
   count ← field_at w16 (λ n. nat_le n 32) kinds.Directory 6 bytes
   listings ← directory_at count [] 0 8 bytes
   programs ← codes_at listings (codes_start listings) bytes
-  ended ← rule (length bytes == codes_start listings + 8 * total_count listings) (codes_start listings + 8 * total_count listings) kinds.Rest
+  ended ← rule (length bytes == codes_start listings + 8 * total_count listings)
+      (codes_start listings + 8 * total_count listings) kinds.Rest
   Ok programs
 
 -- ---- what the code keeps of a file
 
 -- an entry's record, without where it lies in memory
 abbrev pub listing_of : Listed → Listing
-listing_of l = record { name = l.head.name; shape = shape_of l.head; start = l.start; count = l.count }
+listing_of l = record {
+  name = l.head.name;
+  shape = shape_of l.head;
+  start = l.start;
+  count = l.count;
+}
 
 abbrev pub listings_of : List Listed → List Listing
 listings_of ls = map listing_of ls

@@ -8,7 +8,8 @@ use Rattle.uprog_code.specs.declared.code.RowSpace.{RowSpace}
 use Rattle.uprog_code.specs.declared.code.RowSpace.TheVariants as space
 use Rattle.uprog_code.specs.declared.code.RowRef.{RowRef}
 use Rattle.uprog_code.specs.declared.code.Uop.{Uop}
-use Rattle.uprog_code.specs.declared.code.Uop.TheVariants.{Done, SetI, SetN, SetT, Mov, Add, AddI, SubI, Bnez, Aap, Ap}
+use Rattle.uprog_code.specs.declared.code.Uop.TheVariants.{Done, SetI, SetN, SetT, Mov, Add, AddI}
+use Rattle.uprog_code.specs.declared.code.Uop.TheVariants.{SubI, Bnez, Aap, Ap}
 use Rattle.uprog_code.specs.Shape.{Shape, Microprogram}
 
 -- a name's length, its bytes, and zeros up to 16
@@ -63,7 +64,8 @@ shape_bytes shape = length shape.sources ∷ kinds_byte shape ∷ shape.bits ∷
 
 -- the record of an entry whose code begins at this instruction
 abbrev pub head_bytes : ℕ → Microprogram → List ℕ
-head_bytes start m = name_bytes m.name ++ (shape_bytes m.shape ++ (to_le_bytes w32 start ++ to_le_bytes w16 (length m.code)))
+head_bytes start m = name_bytes m.name ++ (shape_bytes m.shape
+    ++ (to_le_bytes w32 start ++ to_le_bytes w16 (length m.code)))
 
 -- a record for each entry
 abbrev pub directory_bytes : ℕ → List Microprogram → List ℕ
@@ -78,4 +80,5 @@ opening_bytes = codes "SDMP" ++ to_le_bytes w16 1
 
 -- the file of a program
 unfoldable pub program_bytes : List Microprogram → List ℕ
-program_bytes ms = opening_bytes ++ (to_le_bytes w16 (length ms) ++ (directory_bytes 0 ms ++ flat_map code_bytes ms))
+program_bytes ms = opening_bytes ++ (to_le_bytes w16 (length ms)
+    ++ (directory_bytes 0 ms ++ flat_map code_bytes ms))

@@ -1,8 +1,10 @@
 //! The code of a program file, checked in place.
 
-ghost use Rattle.std.specs.Prelude.{◌≡◌, ℕ, List, ◌+◌, ◌*◌, ◌<◌, ◌≤◌, ◌^◌, length, Some, IfOk, OnOk};
+ghost use Rattle.std.specs.Prelude.{◌≡◌, ℕ, List, ◌+◌, ◌*◌, ◌<◌, ◌≤◌, ◌^◌, length, Some, IfOk};
+ghost use Rattle.std.specs.Prelude.{OnOk};
 ghost use Rattle.uprog_code.specs.Shape.{shape_of};
-ghost use Rattle.uprog_bin.specs.Reading.{Gives, Checks, unit_of, uops_at, codes_at, codes_start, total_count, listings_of, opening_in};
+ghost use Rattle.uprog_bin.specs.Reading.{Gives, Checks, unit_of, uops_at, codes_at, codes_start};
+ghost use Rattle.uprog_bin.specs.Reading.{total_count, listings_of, opening_in};
 
 use crate::directory::{Listed, directory_of};
 use crate::fault::{ProgFault, ProgKind, rule};

@@ -4,7 +4,9 @@ ghost use Rattle.std.specs.Prelude.{◌≡◌, ◌+◌, ◌*◌, ◌<◌, ◌≤
 ghost use Rattle.std.specs.List.{list_all, list_any};
 ghost use Rattle.arrayvec.specs.ArrayVec.{array_vec_len};
 ghost use Rattle.uprog_code.specs.Shape.{shape_of};
-ghost use Rattle.uprog_bin.specs.Reading.{Gives, is_named, has_name, name_at, kind_of_bit, kinds_of, is_kinds, shape_at, listing_at, directory_at, listing_of, listings_of};
+ghost use Rattle.uprog_bin.specs.Reading.{Gives, is_named, has_name, name_at, kind_of_bit};
+ghost use Rattle.uprog_bin.specs.Reading.{kinds_of, is_kinds, shape_at, listing_at, directory_at};
+ghost use Rattle.uprog_bin.specs.Reading.{listing_of, listings_of};
 
 use crate::fault::{ProgFault, ProgKind, fault, rule};
 use crate::fields::{bytes_at, u8_at, u16_at, u32_at};
@@ -139,7 +141,8 @@ fn head_of(name: Name, bytes: &[u8], at: usize) -> Result<Head, ProgFault>
 fn listed_of(earlier: &[Listed], start: u32, bytes: &[u8], at: usize) -> Result<Listed, ProgFault>
     requires small { length bytes.now < 2 ^ 32 }
     requires place { at ≤ length bytes.now }
-    ensures gives { Gives listing_of result (listing_at (listings_of earlier.now) start at bytes.now) }
+    ensures gives { Gives listing_of result (listing_at (listings_of earlier.now) start at
+        bytes.now) }
     ensures count { IfOk result (λ l. l.count < 2 ^ 16) }
     ensures within { OnOk result (at + 27 ≤ length bytes.now) }
 {
@@ -161,7 +164,8 @@ pub(crate) fn directory_of(count: u16, bytes: &[u8]) -> Result<ArrayVec<Listed, 
     requires few { count ≤ 32 }
     requires small { length bytes.now < 2 ^ 32 }
     requires place { 8 ≤ length bytes.now }
-    ensures gives { Gives (λ ls. listings_of ls.items) result (directory_at count [] 0 8 bytes.now) }
+    ensures gives { Gives (λ ls. listings_of ls.items) result (directory_at count [] 0 8 bytes.now)
+        }
     ensures within { IfOk result (λ ls. 8 + 27 * length ls.items ≤ length bytes.now) }
 {
     let mut listed = ArrayVec::new();

@@ -1,9 +1,15 @@
 //! One instruction of a file.
 
-ghost use Rattle.std.specs.Prelude.{◌≡◌, ◌+◌, ◌<◌, ◌≤◌, ◌^◌, ◌==◌, ◌&&◌, length, slice_get, slice_index_or, OnOk};
+ghost use Rattle.std.specs.Prelude.{◌≡◌, ◌+◌, ◌<◌, ◌≤◌, ◌^◌, ◌==◌, ◌&&◌, length, slice_get};
+ghost use Rattle.std.specs.Prelude.{slice_index_or, OnOk};
 ghost use Rattle.uprog_code.specs.Shape.{shape_of};
-ghost use Rattle.uprog_code.specs.Legal.{is_place, may_be_first, may_be_second, is_row, is_first, is_second};
-ghost use Rattle.uprog_bin.specs.Reading.{Gives, raw_row, raw_of, is_zero, has_register, has_second, operand as operand_of, ends_at_y, is_formed as is_formed_as, has_target, row_of, has_rows, ends_code, uop_as as uop_of_raw, uop_of, numbered, uop_at};
+ghost use Rattle.uprog_code.specs.Legal.{is_place, may_be_first, may_be_second, is_row, is_first};
+ghost use Rattle.uprog_code.specs.Legal.{is_second};
+ghost use Rattle.uprog_bin.specs.Reading.{Gives, raw_row, raw_of, is_zero, has_register};
+ghost use Rattle.uprog_bin.specs.Reading.{has_second, operand as operand_of, ends_at_y};
+ghost use Rattle.uprog_bin.specs.Reading.{is_formed as is_formed_as, has_target, row_of, has_rows};
+ghost use Rattle.uprog_bin.specs.Reading.{ends_code, uop_as as uop_of_raw, uop_of, numbered};
+ghost use Rattle.uprog_bin.specs.Reading.{uop_at};
 
 use crate::fault::{ProgFault, ProgKind, fault, rule};
 use crate::fields::bytes_at;
@@ -218,7 +224,8 @@ fn check(
     raw: Raw,
 ) -> Result<(), ProgFault>
     requires { at < 2 ^ 32 }
-    ensures { Gives (λ x. uop_of_raw opcode raw) result (uop_of opcode (shape_of head.now) size last at raw) }
+    ensures { Gives (λ x. uop_of_raw opcode raw) result
+        (uop_of opcode (shape_of head.now) size last at raw) }
 {
     rule(is_formed(opcode, raw), at, ProgKind::Instruction)?;
     rule(has_target(opcode, size, raw), at, ProgKind::Target)?;

@@ -1,11 +1,14 @@
 //! The program file, written.
 
-ghost use Rattle.std.specs.Prelude.{◌≡◌, ◌+◌, ◌<◌, ◌≤◌, ◌^◌, ◌∷◌, [], ◌++◌, length, map, replicate, All, OnOk, IfOk};
+ghost use Rattle.std.specs.Prelude.{◌≡◌, ◌+◌, ◌<◌, ◌≤◌, ◌^◌, ◌∷◌, [], ◌++◌, length, map, replicate};
+ghost use Rattle.std.specs.Prelude.{All, OnOk, IfOk};
 ghost use Rattle.std.specs.List.{flat_map};
 ghost use Rattle.std.specs.Int.{w16, to_le_bytes};
 ghost use Rattle.arrayvec.specs.ArrayVec.{array_vec_len};
 ghost use Rattle.uprog_code.specs.Shape.{microprogram_of, microprograms_of};
-ghost use Rattle.uprog_bin.specs.Spelling.{name_bytes, row_bytes, instruction_bytes, kind_bits, kinds_byte, head_bytes, directory_bytes, code_bytes, program_bytes, zeros};
+ghost use Rattle.uprog_bin.specs.Spelling.{name_bytes, row_bytes, instruction_bytes, kind_bits};
+ghost use Rattle.uprog_bin.specs.Spelling.{kinds_byte, head_bytes, directory_bytes, code_bytes};
+ghost use Rattle.uprog_bin.specs.Spelling.{program_bytes, zeros};
 ghost use Rattle.uprog_code.specs.Programs.{IsProgram};
 
 use crate::opcode::number_of;
@@ -58,7 +61,8 @@ fn bits_of(kinds: &[Kind]) -> u8
 #[tactic(auto, using(crate::proofs::KindBits::kind_bits_small))]
 fn put_head(out: &mut Vec<u8>, start: u32, entry: &EntryCode) -> Result<(), NoMemory>
     requires { length entry.now.code.items < 2 ^ 16 }
-    ensures { OnOk result (out.new.items ≡ out.old.items ++ head_bytes start (microprogram_of entry.now)) }
+    ensures { OnOk result (out.new.items ≡ out.old.items
+        ++ head_bytes start (microprogram_of entry.now)) }
 {
     let head = &entry.head;
     put_name(out, &head.name)?;
@@ -139,7 +143,8 @@ fn put_code(out: &mut Vec<u8>, code: &[Uop]) -> Result<(), NoMemory>
 fn put_directory(out: &mut Vec<u8>, entries: &[EntryCode]) -> Result<(), NoMemory>
     requires few { length entries.now ≤ 32 }
     requires short { All (λ e. length e.code.items < 2 ^ 16) entries.now }
-    ensures { OnOk result (out.new.items ≡ out.old.items ++ directory_bytes 0 (map microprogram_of entries.now)) }
+    ensures { OnOk result (out.new.items ≡ out.old.items
+        ++ directory_bytes 0 (map microprogram_of entries.now)) }
 {
     let mut start = 0u32;
     for entry in entries {
@@ -151,7 +156,8 @@ fn put_directory(out: &mut Vec<u8>, entries: &[EntryCode]) -> Result<(), NoMemor
 
 /// Appends the code of each entry.
 fn put_codes(out: &mut Vec<u8>, entries: &[EntryCode]) -> Result<(), NoMemory>
-    ensures { OnOk result (out.new.items ≡ out.old.items ++ flat_map code_bytes (map microprogram_of entries.now)) }
+    ensures { OnOk result (out.new.items ≡ out.old.items
+        ++ flat_map code_bytes (map microprogram_of entries.now)) }
 {
     for entry in entries {
         put_code(out, entry.code.as_slice())?;

@@ -1,13 +1,16 @@
 //! The program file, read in place.
 
-ghost use Rattle.std.specs.Prelude.{◌≡◌, ℕ, List, ◌+◌, ◌*◌, ◌/◌, ◌<◌, ◌≤◌, ◌^◌, length, take, drop, position, slice_get, slice_index_or, Some, Ok, Err, IfSome, IfOk, IfErr};
+ghost use Rattle.std.specs.Prelude.{◌≡◌, ℕ, List, ◌+◌, ◌*◌, ◌/◌, ◌<◌, ◌≤◌, ◌^◌, length, take, drop};
+ghost use Rattle.std.specs.Prelude.{position, slice_get, slice_index_or, Some, Ok, Err, IfSome};
+ghost use Rattle.std.specs.Prelude.{IfOk, IfErr};
 ghost use Rattle.std.specs.Str.{bytes_eq};
 ghost use Rattle.uprog_code.specs.Shape.{Microprogram, shape_of};
 ghost use Rattle.uprog_code.specs.Legal.{IsLegalCode};
 ghost use Rattle.uprog_bin.specs.Reading.{Gives, is_named, program_in};
 ghost use Rattle.uprog_bin.specs.Spelling.{program_bytes};
 ghost use Rattle.uprog_code.specs.Programs.{IsProgram};
-ghost use Rattle.uprog_bin.specs.Opened.{File, Held, IsOpened, accepted, code_of, program_of, code_place, uop_in};
+ghost use Rattle.uprog_bin.specs.Opened.{File, Held, IsOpened, accepted, code_of, program_of};
+ghost use Rattle.uprog_bin.specs.Opened.{code_place, uop_in};
 
 use crate::checks::{check_codes, opening_of};
 use crate::directory::{Listed, directory_of};
@@ -52,7 +55,8 @@ impl<'a> Model for ProgView<'a> {
 
     ghost Value = { File };
 
-    ghost view = { λ v. record { bytes = v.bytes.now; programs = accepted (program_in v.bytes.now) } };
+    ghost view = { λ v. record { bytes = v.bytes.now; programs = accepted (program_in v.bytes.now) }
+        };
 
     ghost invariant = { λ v. IsOpened v.bytes.now v.listed.items };
 }
@@ -70,7 +74,11 @@ impl<'a> Model for Entry<'a> {
 
     ghost Value = { Held };
 
-    ghost view = { λ e. record { name = e.head.name; shape = shape_of e.head; bytes = e.code.now } };
+    ghost view = { λ e. record {
+      name = e.head.name;
+      shape = shape_of e.head;
+      bytes = e.code.now;
+    } };
 }
 
 impl<'a> ProgView<'a> {
@@ -78,9 +86,11 @@ impl<'a> ProgView<'a> {
     pub fn open(bytes: &'a [u8]) -> Result<ProgView<'a>, ProgFault>
         requires { length bytes.now < 2 ^ 32 }
         // What is accepted is the one spelling of a program.
-        ensures spelled { IfOk result (λ v. IsProgram v.programs × (v.bytes ≡ program_bytes v.programs)) }
+        ensures spelled { IfOk result (λ v. IsProgram v.programs
+            × (v.bytes ≡ program_bytes v.programs)) }
         // The spelling of a program is accepted, as that program.
-        ensures only { (ms : List Microprogram) → IsProgram ms → bytes.now ≡ program_bytes ms → Gives (λ v. v.programs) result (Ok ms) }
+        ensures only { (ms : List Microprogram) → IsProgram ms → bytes.now ≡ program_bytes ms
+            → Gives (λ v. v.programs) result (Ok ms) }
         // Which program it is, and which fault.
         ensures exact { Gives (λ v. v.programs) result (program_in bytes.now) }
         ensures bytes { IfOk result (λ v. v.bytes ≡ bytes.now) }
@@ -100,7 +110,8 @@ impl<'a> ProgView<'a> {
     pub fn entry(&self, k: u16) -> Entry<'a>
         requires { k < length self.now.programs }
         ensures program { slice_get self.now.programs k ≡ Some (program_of result) }
-        ensures bytes { result.bytes ≡ take (8 * length (code_of result)) (drop (code_place self.now.programs k) self.now.bytes) }
+        ensures bytes { result.bytes ≡ take (8 * length (code_of result))
+            (drop (code_place self.now.programs k) self.now.bytes) }
         ensures legal { IsLegalCode result.shape (code_of result) }
     {
         let listed = self.listed.as_slice();

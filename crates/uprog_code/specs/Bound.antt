@@ -1,5 +1,6 @@
 -- From a trace to the commands on a bank.
-use Rattle.std.specs.Prelude.{ℕ, ◌+◌, ◌-◌, ◌*◌, List, map, slice_index}
+use Rattle.std.specs.Prelude.{ℕ, ◌+◌, ◌-◌, ◌*◌, List, ◌∷◌, map, slice_index}
+use Rattle.std.specs.Option.{option_to_list}
 use Rattle.dram_model.specs.declared.address.Addr.{Addr}
 use Rattle.dram_model.specs.declared.address.Addr.TheVariants as addr
 use Rattle.dram_model.specs.declared.address.Command.{Command}
@@ -11,23 +12,29 @@ use Rattle.uprog_code.specs.declared.binding.Binding.{Binding}
 use Rattle.uprog_code.specs.Shape.{Shape}
 use Rattle.uprog_code.specs.Machine.{Issue, Twice, Once}
 
--- the first row of the result, of each source and of the scratch
+-- the first row of each result, of each source and of the scratch
 pub record Bound : Type 0 where
-  pub result : ℕ
+  pub results : List ℕ
   pub sources : List ℕ
   pub scratch : ℕ
 
 abbrev pub bound_of : Binding → Bound
-bound_of b = record { result = b.result; sources = b.sources.items; scratch = b.scratch }
+bound_of b = record {
+  results = b.result ∷ option_to_list b.second;
+  sources = b.sources.items;
+  scratch = b.scratch;
+}
 
--- the address of a row at a position, in a bank of so many data rows: the spill group is the last 32
+-- the address of a row at a position, in a bank of so many data rows: the spill group is the last
+-- 32
 abbrev pub address_in : ℕ → Shape → ℕ → Bound → RowSpace → ℕ → ℕ → Addr
 address_in rows shape n b space.B which i = addr.B which
 address_in rows shape n b space.C which i = addr.C which
-address_in rows shape n b space.Result which i = addr.D (b.result + i)
+address_in rows shape n b space.Result which i = addr.D (slice_index b.results which + i)
 address_in rows shape n b space.Source which i = addr.D (slice_index b.sources which + i)
 address_in rows shape n b space.ScratchBit which i = addr.D (b.scratch + which)
-address_in rows shape n b space.ScratchWord which i = addr.D (b.scratch + shape.bits + which * n + i)
+address_in rows shape n b space.ScratchWord which i =
+    addr.D (b.scratch + shape.bits + which * n + i)
 address_in rows shape n b space.Spill which i = addr.D (rows - 32 + which)
 
 abbrev pub address : ℕ → Shape → ℕ → Bound → RowRef → Addr

@@ -34,5 +34,8 @@ counts_after (Issues (issued.Once x)) c = record { aap = c.aap; ap = c.ap + 1 }
 
 -- what a walk answers that has counted so many before the trace
 abbrev pub walked_after : Counts → Trace → Result Counts BadWalk
-walked_after c (Ended issues) = Ok (record { aap = c.aap + count_by is_twice issues; ap = c.ap + count_by is_once issues })
+walked_after c (Ended issues) = Ok (record {
+  aap = c.aap + count_by is_twice issues;
+  ap = c.ap + count_by is_once issues;
+})
 walked_after c (Stuck at why) = Err (record { at = at; why = why })

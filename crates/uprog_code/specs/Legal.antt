@@ -1,18 +1,21 @@
 -- Which code is legal.
-use Rattle.std.specs.Prelude.{◌≡◌, ℕ, ◌-◌, ◌^◌, ◌<◌, ◌==◌, nat_lt, nat_le, Bool, true, false, ◌&&◌, ◌||◌, List, length, Some, slice_get}
+use Rattle.std.specs.Prelude.{◌≡◌, ℕ, ◌-◌, ◌^◌, ◌<◌, ◌==◌, nat_lt, nat_le, Bool, true, false, ◌&&◌}
+use Rattle.std.specs.Prelude.{◌||◌, List, length, Some, slice_get}
 use Rattle.std.specs.List.{AllByRecursion}
 use Rattle.uprog_code.specs.declared.code.RowSpace.{RowSpace}
 use Rattle.uprog_code.specs.declared.code.RowSpace.TheVariants as space
 use Rattle.uprog_code.specs.declared.code.RowRef.{RowRef}
 use Rattle.uprog_code.specs.declared.code.Uop.{Uop}
-use Rattle.uprog_code.specs.declared.code.Uop.TheVariants.{Done, SetI, SetN, SetT, Mov, Add, AddI, SubI, Bnez, Aap, Ap}
-use Rattle.uprog_code.specs.Shape.{Shape}
+use Rattle.uprog_code.specs.declared.code.Uop.TheVariants.{Done, SetI, SetN, SetT, Mov, Add, AddI}
+use Rattle.uprog_code.specs.declared.code.Uop.TheVariants.{SubI, Bnez, Aap, Ap}
+use Rattle.uprog_code.specs.Shape.{Shape, results}
 
--- which row of its space, and what names its index: 0 to 7 a register, 8 the number 0; a row without an index has 0 there
+-- which row of its space, and what names its index: 0 to 7 a register, 8 the number 0; a row
+-- without an index has 0 there
 abbrev pub is_place : Shape → RowSpace → ℕ → ℕ → Bool
 is_place shape space.B which i = nat_lt which 16 && i == 0
 is_place shape space.C which i = nat_lt which 2 && i == 0
-is_place shape space.Result which i = which == 0 && nat_le i 8
+is_place shape space.Result which i = nat_lt which (length (results shape)) && nat_le i 8
 is_place shape space.Source which i = nat_lt which (length shape.sources) && nat_le i 8
 is_place shape space.ScratchBit which i = nat_lt which shape.bits && i == 0
 is_place shape space.ScratchWord which i = nat_lt which shape.words && nat_le i 8
@@ -47,7 +50,8 @@ is_first shape r = is_row shape r && may_be_first r.space r.which
 abbrev pub is_second : Shape → RowRef → Bool
 is_second shape r = is_row shape r && may_be_second r.space
 
--- an instruction of code of this length: registers below 8, numbers at most 1023, targets within the code
+-- an instruction of code of this length: registers below 8, numbers at most 1023, targets within
+-- the code
 abbrev pub is_legal : Shape → ℕ → Uop → Bool
 is_legal shape size Done = true
 is_legal shape size (SetI r k) = nat_lt r 8 && nat_le k 1023

@@ -1,4 +1,5 @@
--- Microprograms: what they are, what they issue, where their rows lie, and when they do an operation.
+-- Microprograms: what they are, what they issue, where their rows lie, and when they do an
+-- operation.
 pub mod Shape
 pub mod Machine
 pub mod OneStep

@@ -1,16 +1,19 @@
 -- What a microprogram issues.
-use Rattle.std.specs.Prelude.{ℕ, zero, suc, ◌+◌, ◌-◌, ◌*◌, ◌==◌, nat_lt, nat_le, Bool, true, false, ◌&&◌, if◌then◌else◌, List, [], ◌∷◌, ◌++◌, Option, Some, None, slice_get, slice_index, slice_set}
+use Rattle.std.specs.Prelude.{ℕ, zero, suc, ◌+◌, ◌-◌, ◌*◌, ◌==◌, nat_lt, nat_le, Bool, true, false}
+use Rattle.std.specs.Prelude.{◌&&◌, if◌then◌else◌, List, [], ◌∷◌, ◌++◌, Option, Some, None}
+use Rattle.std.specs.Prelude.{slice_get, slice_index, slice_set}
 use Rattle.op_text.specs.declared.tree.Kind.{Kind}
 use Rattle.op_text.specs.declared.tree.Kind.TheVariants.{Word, Bit}
 use Rattle.uprog_code.specs.declared.code.RowSpace.{RowSpace}
 use Rattle.uprog_code.specs.declared.code.RowSpace.TheVariants as space
 use Rattle.uprog_code.specs.declared.code.RowRef.{RowRef}
-use Rattle.uprog_code.specs.Shape.{Shape}
+use Rattle.uprog_code.specs.Shape.{Shape, results}
 use Rattle.uprog_code.specs.declared.TheConstants.{WALK_MAX}
 use Rattle.uprog_code.specs.declared.walker.Why3.{Why3}
 use Rattle.uprog_code.specs.declared.walker.Why3.TheVariants.{Index, Register, Budget}
 use Rattle.uprog_code.specs.declared.code.Uop.{Uop}
-use Rattle.uprog_code.specs.declared.code.Uop.TheVariants.{Done, SetI, SetN, SetT, Mov, Add, AddI, SubI, Bnez, Aap, Ap}
+use Rattle.uprog_code.specs.declared.code.Uop.TheVariants.{Done, SetI, SetN, SetT, Mov, Add, AddI}
+use Rattle.uprog_code.specs.declared.code.Uop.TheVariants.{SubI, Bnez, Aap, Ap}
 
 -- a row command of a trace: each row's index is the position itself
 pub data Issue : Type 0 where
@@ -39,7 +42,11 @@ position space.Spill i = 0
 
 -- the row with the value of its index: a register past the last one means 0
 abbrev pub row_at : List ℕ → RowRef → RowRef
-row_at regs r = record { space = r.space; which = r.which; index = position r.space (slice_index regs r.index) }
+row_at regs r = record {
+  space = r.space;
+  which = r.which;
+  index = position r.space (slice_index regs r.index);
+}
 
 abbrev pub command_at : List ℕ → Issue → Issue
 command_at regs (Twice x y) = Twice (row_at regs x) (row_at regs y)
@@ -54,7 +61,7 @@ in_kind (Some Bit) n i = i == 0
 abbrev pub in_space : Shape → ℕ → RowSpace → ℕ → ℕ → Bool
 in_space head n space.B which i = true
 in_space head n space.C which i = true
-in_space head n space.Result which i = in_kind (Some head.result) n i
+in_space head n space.Result which i = in_kind (slice_get (results head) which) n i
 in_space head n space.Source which i = in_kind (slice_get head.sources which) n i
 in_space head n space.ScratchBit which i = true
 in_space head n space.ScratchWord which i = nat_lt (which * n + i) (n * head.words)
@@ -94,8 +101,10 @@ act head n (SubI r k) next pc regs =
     if nat_le k (slice_index regs r)
     then next (pc + 1) (slice_set regs r (slice_index regs r - k))
     else Stuck pc Register
-act head n (Bnez r t) next pc regs = if slice_index regs r == 0 then next (pc + 1) regs else next t regs
-act head n (Aap x y) next pc regs = issued head n (command_at regs (Twice x y)) pc (next (pc + 1) regs)
+act head n (Bnez r t) next pc regs = if slice_index regs r == 0 then next (pc + 1) regs
+    else next t regs
+act head n (Aap x y) next pc regs = issued head n (command_at regs (Twice x y)) pc
+    (next (pc + 1) regs)
 act head n (Ap x) next pc regs = issued head n (command_at regs (Once x)) pc (next (pc + 1) regs)
 
 -- legal code has an instruction at each place that is reached
@@ -106,7 +115,8 @@ act_at head n (Some i) next pc regs = act head n i next pc regs
 -- what is issued from here on, where this many instructions are left in the budget
 unfoldable pub issue : Shape → List Uop → ℕ → ℕ → ℕ → List ℕ → Trace
 issue head code n zero pc regs = Stuck pc Budget
-issue head code n (suc left) pc regs = act_at head n (slice_get code pc) (issue head code n left) pc regs
+issue head code n (suc left) pc regs = act_at head n (slice_get code pc) (issue head code n left) pc
+    regs
 
 abbrev pub start : List ℕ
 start = 0 ∷ 0 ∷ 0 ∷ 0 ∷ 0 ∷ 0 ∷ 0 ∷ 0 ∷ []

@@ -1,5 +1,6 @@
 -- What an operation takes and gives, and its microprogram, as plain lists.
-use Rattle.std.specs.Prelude.{ℕ, ◌+◌, ◌*◌, List, map}
+use Rattle.std.specs.Prelude.{ℕ, ◌+◌, ◌*◌, List, ◌∷◌, map, Option}
+use Rattle.std.specs.Option.{option_to_list}
 use Rattle.op_text.specs.declared.tree.Kind.{Kind}
 use Rattle.op_text.specs.declared.tree.Kind.TheVariants.{Word, Bit}
 use Rattle.uprog_code.specs.declared.code.Uop.{Uop}
@@ -7,15 +8,26 @@ use Rattle.uprog_code.specs.declared.code.Head.{Head}
 use Rattle.uprog_code.specs.declared.code.EntryCode.{EntryCode}
 use Rattle.uprog_code.specs.declared.code.Program.{Program}
 
--- the kinds of its sources and of its result, and its bits and words of scratch
+-- the kinds of its sources and of its one or two results, and its bits and words of scratch
 pub record Shape : Type 0 where
   pub sources : List Kind
   pub result : Kind
+  pub second : Option Kind
   pub bits : ℕ
   pub words : ℕ
 
 abbrev pub shape_of : Head → Shape
-shape_of head = record { sources = head.sources.items; result = head.result; bits = head.bits; words = head.words }
+shape_of head = record {
+  sources = head.sources.items;
+  result = head.result;
+  second = head.second;
+  bits = head.bits;
+  words = head.words;
+}
+
+-- the kinds of its results, in order
+abbrev pub results : Shape → List Kind
+results shape = shape.result ∷ option_to_list shape.second
 
 -- an operation's name, shape and code
 pub record Microprogram : Type 0 where

@@ -1,25 +1,37 @@
 -- When a program implements the operations of a text.
-use Rattle.std.specs.Prelude.{◌≡◌, ℕ, List, [], ◌∷◌, map}
+use Rattle.std.specs.Prelude.{◌≡◌, ℕ, List, [], ◌∷◌, map, None}
 use Rattle.op_text.specs.Language.{Operation}
 use Rattle.op_text.specs.Meaning.{meaning}
 use Rattle.op_text.specs.Scratch.{scratch_bits, scratch_words, ceiling}
 use Rattle.uprog_code.specs.Shape.{Shape, Microprogram}
 use Rattle.uprog_code.specs.Implements.{Implements}
 
--- an op of a text, as far as a machine knows it: its name, its kinds and scratch, how many commands it may take, and
+-- an op of a text, as far as a machine knows it: its name, its kinds and scratch, how many commands
+-- it may take, and
 -- the number that it makes of its sources' numbers
 pub record TextOp : Type 0 where
   pub name : List ℕ
   pub shape : Shape
   pub ceiling : ℕ → ℕ
-  pub meaning : ℕ → List ℕ → ℕ
+  pub meaning : ℕ → List ℕ → List ℕ
 
 -- the kinds of an op's sources and result, and the scratch that it needs
 abbrev pub op_shape : Operation → Shape
-op_shape op = record { sources = map (λ p. p.kind) op.params; result = op.result.kind; bits = scratch_bits op; words = scratch_words op }
+op_shape op = record {
+  sources = map (λ p. p.kind) op.params;
+  result = op.result.kind;
+  second = None;
+  bits = scratch_bits op;
+  words = scratch_words op;
+}
 
 abbrev pub text_op : Operation → TextOp
-text_op op = record { name = op.name; shape = op_shape op; ceiling = ceiling op; meaning = meaning op }
+text_op op = record {
+  name = op.name;
+  shape = op_shape op;
+  ceiling = ceiling op;
+  meaning = λ n values. meaning op n values ∷ [];
+}
 
 -- the entry is the op's, and its code does the op
 pub record EntryDoes (e : Microprogram) (o : TextOp) : Type 0 where

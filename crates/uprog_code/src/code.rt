@@ -19,7 +19,8 @@ pub enum RowSpace {
     Spill,
 }
 
-/// A row of an instruction: its space, which row or value of that space, and what gives the position in that value. An
+/// A row of an instruction: its space, which row or value of that space, and what gives the
+/// position in that value. An
 /// index of 0 to 7 names a register, and an index of 8 is position 0.
 #[derive(Clone, Copy, Debug, PartialEq, Eq)]
 pub struct RowRef {
@@ -61,6 +62,7 @@ pub struct Head {
     pub name: Name,
     pub sources: ArrayVec<Kind, 4>,
     pub result: Kind,
+    pub second: Option<Kind>,
     pub bits: u8,
     pub words: u8,
 }
@@ -79,6 +81,7 @@ impl Head {
             name: self.name.copied(),
             sources,
             result: self.result,
+            second: self.second,
             bits: self.bits,
             words: self.words,
         }

@@ -11,9 +11,14 @@ ghost use Rattle.uprog_code.specs.Bound.{Bound, bound};
 ghost use Rattle.uprog_code.specs.Fits.{Fits};
 ghost use Rattle.uprog_code.specs.Implements.{Keeps};
 
-/// Whatever an accepted program does, under a binding that fits its commands are legal on the chip, and it changes no
+/// Whatever an accepted program does, under a binding that fits its commands are legal on the chip,
+/// and it changes no
 /// data row outside its result, its scratch and the spill group.
 pub fn legal_code_is_safe()
-    ensures legal { (shape : Shape) (code : List Uop) → IsLegalCode shape code → (rows n : ℕ) (b : Bound) → 0 < n → Fits rows shape n b → AllByRecursion (λ c. is_legal rows c ≡ true) (bound rows shape n b (issues_of (trace shape code n))) }
-    ensures keeps { (shape : Shape) (code : List Uop) → IsLegalCode shape code → (n : ℕ) → Keeps shape n (issues_of (trace shape code n)) }
+    ensures legal { (shape : Shape) (code : List Uop) → IsLegalCode shape code
+        → (rows n : ℕ) (b : Bound) → 0 < n → Fits rows shape n b
+        → AllByRecursion (λ c. is_legal rows c
+        ≡ true) (bound rows shape n b (issues_of (trace shape code n))) }
+    ensures keeps { (shape : Shape) (code : List Uop) → IsLegalCode shape code → (n : ℕ)
+        → Keeps shape n (issues_of (trace shape code n)) }
 {}

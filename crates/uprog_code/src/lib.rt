@@ -19,4 +19,4 @@ pub use registers::{Issued, Place, Turn, step};
 pub use walker::{BadWalk, Counts, Why3, walk};
 
 /// The greatest number of instructions of a walk, with its last.
-pub const WALK_MAX: u32 = 16_777_216;
+pub const WALK_MAX: u32 = 67_108_864;

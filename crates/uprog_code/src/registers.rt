@@ -1,9 +1,11 @@
 //! A machine's registers, and what one instruction does to them.
 
-ghost use Rattle.std.specs.Prelude.{◌≡◌, ℕ, ◌+◌, ◌-◌, ◌*◌, ◌<◌, ◌≤◌, List, length, slice_index, slice_get, slice_set, MatchResult, Ok, Some, IsTrue, ◌↔◌};
-ghost use Rattle.uprog_code.specs.Shape.{shape_of};
+ghost use Rattle.std.specs.Prelude.{◌≡◌, ℕ, ◌+◌, ◌-◌, ◌*◌, ◌<◌, ◌≤◌, List, length, slice_index};
+ghost use Rattle.std.specs.Prelude.{slice_get, slice_set, MatchResult, Ok, Some, IsTrue, ◌↔◌};
+ghost use Rattle.uprog_code.specs.Shape.{shape_of, results};
 ghost use Rattle.uprog_code.specs.Machine.{Next, act, in_range, in_kind, row_at};
-ghost use Rattle.uprog_code.specs.OneStep.{AreRegisters, HasOperands, next_place, row_of, turn_trace};
+ghost use Rattle.uprog_code.specs.OneStep.{AreRegisters, HasOperands, next_place, row_of};
+ghost use Rattle.uprog_code.specs.OneStep.{turn_trace};
 
 use crate::code::{Head, RowRef, RowSpace, Uop};
 use crate::walker::Why3;
@@ -72,7 +74,8 @@ pub fn step(uop: &Uop, head: &Head, n: u8, regs: &mut [u16]) -> Result<Turn, Why
     ensures registers { AreRegisters regs.new }
     ensures over { uop.now ≡ Uop.Done → result ≡ Ok Turn.Over }
     ensures target { (size t : ℕ) → HasOperands size uop.now → result ≡ Ok (Turn.To t) → t < size }
-    ensures does { (next : Next) (pc : ℕ) → act (shape_of head.now) n uop.now next pc regs.old ≡ turn_trace result next pc regs.new }
+    ensures does { (next : Next) (pc : ℕ) → act (shape_of head.now) n uop.now next pc regs.old
+        ≡ turn_trace result next pc regs.new }
 {
     match uop {
         Uop::Done => Ok(Turn::Over),
@@ -137,7 +140,9 @@ fn add(regs: &mut [u16], r: u8, k: u16) -> Result<Turn, Why3>
     requires k_small { k ≤ 1023 }
     requires small { AreRegisters regs.old }
     ensures small { AreRegisters regs.new }
-    ensures does { MatchResult result (λ t. (t ≡ Turn.On) × (slice_index regs.old r + k ≤ 1023) × (regs.new ≡ slice_set regs.old r (slice_index regs.old r + k))) (λ e. (e ≡ Why3.Register) × (1023 < slice_index regs.old r + k) × (regs.new ≡ regs.old)) }
+    ensures does { MatchResult result (λ t. (t ≡ Turn.On) × (slice_index regs.old r + k ≤ 1023)
+        × (regs.new ≡ slice_set regs.old r (slice_index regs.old r + k))) (λ e. (e ≡ Why3.Register)
+        × (1023 < slice_index regs.old r + k) × (regs.new ≡ regs.old)) }
 {
     let sum = regs[r as usize] + k;
     if sum <= 1023 {
@@ -181,12 +186,22 @@ fn is_in_range(head: &Head, n: u8, row: &Place) -> bool
         RowSpace::C => true,
         RowSpace::ScratchBit => true,
         RowSpace::Spill => true,
-        RowSpace::Result => is_in_kind(head.result, n, row.index),
+        RowSpace::Result => is_in_result(head, row.which, n, row.index),
         RowSpace::Source => is_in_source(head.sources.as_slice(), row.which, n, row.index),
         RowSpace::ScratchWord => {
             u32::from(row.which) * u32::from(n) + u32::from(row.index)
                 < u32::from(n) * u32::from(head.words)
         }
+    }
+}
+
+fn is_in_result(head: &Head, which: u8, n: u8, i: u16) -> bool
+    ensures { result ≡ in_kind (slice_get (results (shape_of head.now)) which) n i }
+{
+    match (which, head.second) {
+        (0, _) => is_in_kind(head.result, n, i),
+        (1, Some(kind)) => is_in_kind(kind, n, i),
+        _ => false,
     }
 }
 

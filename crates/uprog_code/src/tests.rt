@@ -1,4 +1,4 @@
-ghost use Rattle.std.specs.Prelude.{◌≡◌, ◌∷◌, [], IfOk, true};
+ghost use Rattle.std.specs.Prelude.{◌≡◌, ◌∷◌, [], None, IfOk, true};
 ghost use Rattle.uprog_code.specs.Shape.{shape_of};
 ghost use Rattle.op_text.specs.declared.tree.Kind.TheVariants.{Word};
 
@@ -20,7 +20,9 @@ fn row(space: RowSpace, which: u8, index: u8) -> RowRef
 
 /// An operation on two words, with this code.
 fn on_two_words(code: &[Uop], alloc: Global) -> Result<EntryCode, Fail>
-    ensures shape { IfOk result (λ e. shape_of e.head ≡ record { sources = Word ∷ Word ∷ []; result = Word; bits = 0; words = 0 }) }
+    ensures shape { IfOk result (λ e. shape_of e.head
+        ≡ record { sources = Word ∷ Word ∷ []; result = Word; second = None; bits = 0; words = 0 })
+            }
     ensures code { IfOk result (λ e. e.code.items ≡ code.now) }
 {
     let mut sources = ArrayVec::new();
@@ -30,6 +32,7 @@ fn on_two_words(code: &[Uop], alloc: Global) -> Result<EntryCode, Fail>
         name: Name::new(b"xor").ok_or("a name")?,
         sources,
         result: Kind::Word,
+        second: None,
         bits: 0,
         words: 0,
     };

@@ -35,7 +35,8 @@ pub struct Counts {
     pub ap: u64,
 }
 
-/// The numbers of commands that a microprogram issues at width n, or the first instruction where it is stuck. The
+/// The numbers of commands that a microprogram issues at width n, or the first instruction where it
+/// is stuck. The
 /// budget is looked at before the instruction, and its last instruction counts.
 pub fn walk<F: Fetch>(code: &F, n: u8) -> Result<Counts, BadWalk>
     requires legal { IsLegalCode (F.shape code.now) (F.code code.now) }

@@ -19,17 +19,30 @@ fn source_row(sources: &[u16], which: u8, index: u16) -> u16
     sources[usize::from(which)] + index
 }
 
+/// The row at a position of a result.
+fn result_row(binding: &Binding, which: u8, index: u16) -> u16
+    requires which { which < length (bound_of binding.now).results }
+    requires room { slice_index (bound_of binding.now).results which + index < 2 ^ 16 }
+    ensures { result ≡ slice_index (bound_of binding.now).results which + index }
+{
+    match (which, binding.second) {
+        (1, Some(base)) => base + index,
+        _ => binding.result + index,
+    }
+}
+
 /// The address of a row under a binding, in a bank of so many data rows.
 fn address_of(place: &Place, head: &Head, rows: u16, binding: &Binding) -> Addr
     requires some { 0 < binding.now.n }
     requires fits { Fits rows (shape_of head.now) binding.now.n (bound_of binding.now) }
     requires good { is_issued (shape_of head.now) binding.now.n (row_of place.now) ≡ true }
-    ensures { result ≡ address rows (shape_of head.now) binding.now.n (bound_of binding.now) (row_of place.now) }
+    ensures { result ≡ address rows (shape_of head.now) binding.now.n (bound_of binding.now)
+        (row_of place.now) }
 {
     match place.space {
         RowSpace::B => Addr::B(place.which),
         RowSpace::C => Addr::C(place.which),
-        RowSpace::Result => Addr::D(binding.result + place.index),
+        RowSpace::Result => Addr::D(result_row(binding, place.which, place.index)),
         RowSpace::Source => Addr::D(source_row(
             binding.sources.as_slice(),
             place.which,
@@ -49,7 +62,8 @@ pub(crate) fn command_of(issued: &Issued, head: &Head, rows: u16, binding: &Bind
     requires some { 0 < binding.now.n }
     requires fits { Fits rows (shape_of head.now) binding.now.n (bound_of binding.now) }
     requires good { is_good (shape_of head.now) binding.now.n (issue_of issued.now) ≡ true }
-    ensures { result ≡ bound_command rows (shape_of head.now) binding.now.n (bound_of binding.now) (issue_of issued.now) }
+    ensures { result ≡ bound_command rows (shape_of head.now) binding.now.n (bound_of binding.now)
+        (issue_of issued.now) }
 {
     match issued {
         Issued::Twice(x, y) => {

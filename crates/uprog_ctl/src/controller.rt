@@ -3,7 +3,8 @@
 ghost use Rattle.std.specs.Prelude.{◌≡◌, ℕ, List, ◌+◌, ◌<◌, ◌≤◌, ◌^◌, true, OnOk, OnErr, ◌∷◌, []};
 ghost use Rattle.std.specs.List.{AllByRecursion};
 ghost use Rattle.dram_model.specs.Column.{is_legal};
-ghost use Rattle.dram_model.specs.Chip.{Event, happens, after, counted, all_counted, Rose, Grew, SameBut};
+ghost use Rattle.dram_model.specs.Chip.{Event, happens, after, counted, all_counted, Rose, Grew};
+ghost use Rattle.dram_model.specs.Chip.{SameBut};
 ghost use Rattle.uprog_code.specs.Shape.{Shape, shape_of};
 ghost use Rattle.uprog_code.specs.Machine.{HasEnded, Issue, trace};
 ghost use Rattle.uprog_code.specs.Legal.{IsLegalCode};
@@ -23,7 +24,8 @@ use uprog_code::{Binding, Fetch, Head, Turn, WALK_MAX, step};
 
 /// A trace's events raise the counters by its counts.
 pub fn counters_rise_by_counts()
-    ensures { (bank rows : ℕ) (shape : Shape) (b : Binding) (issues : List Issue) (c : Counters) → all_counted (issue_events bank rows shape b issues) c ≡ risen (counts_of issues) c }
+    ensures { (bank rows : ℕ) (shape : Shape) (b : Binding) (issues : List Issue) (c : Counters)
+        → all_counted (issue_events bank rows shape b issues) c ≡ risen (counts_of issues) c }
 {}
 
 /// One command on one bank.
@@ -37,9 +39,12 @@ fn do_command<D: Dram>(dram: &mut D, bank: u16, command: Command) -> Result<(), 
     ensures borrow { D.borrow dram.new ≡ D.borrow dram.old }
     ensures geometry { D.geometry dram.new ≡ D.geometry dram.old }
     ensures faults { D.faults dram.old ≤ D.faults dram.new }
-    ensures banks { OnOk result (D.banks dram.new ≡ happens (Event.Row bank command) (D.banks dram.old)) }
-    ensures counters { OnOk result (D.counters dram.new ≡ counted (Event.Row bank command) (D.counters dram.old)) }
-    ensures log { OnOk result (Grew (D.log dram.old) (D.log dram.new) (Event.Row bank command ∷ [])) }
+    ensures banks { OnOk result (D.banks dram.new
+        ≡ happens (Event.Row bank command) (D.banks dram.old)) }
+    ensures counters { OnOk result (D.counters dram.new
+        ≡ counted (Event.Row bank command) (D.counters dram.old)) }
+    ensures log { OnOk result (Grew (D.log dram.old) (D.log dram.new) (Event.Row bank command ∷ []))
+        }
     ensures rose { OnErr result (Rose (D.faults dram.old) (D.faults dram.new)) }
     ensures others { OnErr result (SameBut bank (D.banks dram.old) (D.banks dram.new)) }
 {
@@ -60,7 +65,8 @@ fn do_turn<D: Dram>(
     requires begun { D.begun dram.old }
     requires bank { bank < (D.geometry dram.old).banks }
     requires some { 0 < binding.now.n }
-    requires fits { Fits (D.geometry dram.old).rows (shape_of head.now) binding.now.n (bound_of binding.now) }
+    requires fits { Fits (D.geometry dram.old).rows (shape_of head.now) binding.now.n
+        (bound_of binding.now) }
     requires good { AreGood (shape_of head.now) binding.now.n (issues_by turn) }
     requires aap_room { (D.counters dram.old).aap < 2 ^ 63 }
     requires ap_room { (D.counters dram.old).ap < 2 ^ 63 }
@@ -68,9 +74,15 @@ fn do_turn<D: Dram>(
     ensures borrow { D.borrow dram.new ≡ D.borrow dram.old }
     ensures geometry { D.geometry dram.new ≡ D.geometry dram.old }
     ensures faults { D.faults dram.old ≤ D.faults dram.new }
-    ensures banks { OnOk result (D.banks dram.new ≡ after (issue_events bank (D.geometry dram.old).rows (shape_of head.now) binding.now (issues_by turn)) (D.banks dram.old)) }
-    ensures counters { OnOk result (D.counters dram.new ≡ all_counted (issue_events bank (D.geometry dram.old).rows (shape_of head.now) binding.now (issues_by turn)) (D.counters dram.old)) }
-    ensures log { OnOk result (Grew (D.log dram.old) (D.log dram.new) (issue_events bank (D.geometry dram.old).rows (shape_of head.now) binding.now (issues_by turn))) }
+    ensures banks { OnOk result (D.banks dram.new
+        ≡ after (issue_events bank (D.geometry dram.old).rows (shape_of head.now) binding.now
+        (issues_by turn)) (D.banks dram.old)) }
+    ensures counters { OnOk result (D.counters dram.new
+        ≡ all_counted (issue_events bank (D.geometry dram.old).rows (shape_of head.now) binding.now
+        (issues_by turn)) (D.counters dram.old)) }
+    ensures log { OnOk result (Grew (D.log dram.old) (D.log dram.new)
+        (issue_events bank (D.geometry dram.old).rows (shape_of head.now) binding.now
+        (issues_by turn))) }
     ensures rose { OnErr result (Rose (D.faults dram.old) (D.faults dram.new)) }
     ensures others { SameBut bank (D.banks dram.old) (D.banks dram.new) }
 {
@@ -95,7 +107,8 @@ pub fn run<D: Dram, F: Fetch>(
     requires legal { IsLegalCode (F.shape entry.now) (F.code entry.now) }
     requires some { 0 < binding.now.n }
     requires narrow { binding.now.n ≤ WIDTH_MAX }
-    requires fits { Fits (D.geometry dram.old).rows (F.shape entry.now) binding.now.n (bound_of binding.now) }
+    requires fits { Fits (D.geometry dram.old).rows (F.shape entry.now) binding.now.n
+        (bound_of binding.now) }
     requires ends { HasEnded (trace (F.shape entry.now) (F.code entry.now) binding.now.n) }
     requires aap_room { (D.counters dram.old).aap < 2 ^ 62 }
     requires ap_room { (D.counters dram.old).ap < 2 ^ 62 }
@@ -103,9 +116,15 @@ pub fn run<D: Dram, F: Fetch>(
     ensures borrow { D.borrow dram.new ≡ D.borrow dram.old }
     ensures geometry { D.geometry dram.new ≡ D.geometry dram.old }
     ensures faults { D.faults dram.old ≤ D.faults dram.new }
-    ensures banks { OnOk result (D.banks dram.new ≡ after (trace_events bank (D.geometry dram.old).rows (F.shape entry.now) (F.code entry.now) binding.now) (D.banks dram.old)) }
-    ensures counters { OnOk result (D.counters dram.new ≡ all_counted (trace_events bank (D.geometry dram.old).rows (F.shape entry.now) (F.code entry.now) binding.now) (D.counters dram.old)) }
-    ensures log { OnOk result (Grew (D.log dram.old) (D.log dram.new) (trace_events bank (D.geometry dram.old).rows (F.shape entry.now) (F.code entry.now) binding.now)) }
+    ensures banks { OnOk result (D.banks dram.new
+        ≡ after (trace_events bank (D.geometry dram.old).rows (F.shape entry.now) (F.code entry.now)
+        binding.now) (D.banks dram.old)) }
+    ensures counters { OnOk result (D.counters dram.new
+        ≡ all_counted (trace_events bank (D.geometry dram.old).rows (F.shape entry.now)
+        (F.code entry.now) binding.now) (D.counters dram.old)) }
+    ensures log { OnOk result (Grew (D.log dram.old) (D.log dram.new)
+        (trace_events bank (D.geometry dram.old).rows (F.shape entry.now) (F.code entry.now)
+        binding.now)) }
     ensures rose { OnErr result (Rose (D.faults dram.old) (D.faults dram.new)) }
     ensures others { SameBut bank (D.banks dram.old) (D.banks dram.new) }
 {

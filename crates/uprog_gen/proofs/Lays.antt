@@ -1,5 +1,6 @@
 -- Names and their places.
-use Rattle.std.proofs.Common.{◌≡◌, ℕ, ◌+◌, Bool, true, false, cond, List, [], ◌∷◌, ◌++◌, map, Option, Some, None, refl, sym, ap, ◌∙◌, subst, bytes_eq}
+use Rattle.std.proofs.Common.{◌≡◌, ℕ, ◌+◌, Bool, true, false, cond, List, [], ◌∷◌, ◌++◌, map}
+use Rattle.std.proofs.Common.{Option, Some, None, refl, sym, ap, ◌∙◌, subst, bytes_eq}
 use Rattle.op_text.specs.declared.tree.Kind.{Kind}
 use Rattle.op_text.specs.declared.tree.Kind.TheVariants.{Word, Bit}
 use Rattle.op_text.specs.declared.tree.Param.{Param}
@@ -10,7 +11,8 @@ use Rattle.op_rules.proofs.Names.{same_name, or_first, or_second}
 use Rattle.loop_ir.specs.declared.ir.Space.TheVariants.{Result}
 use Rattle.loop_ir.specs.declared.names.Slot.{Slot}
 use Rattle.uprog_gen.specs.Laying.{kind_in}
-use Rattle.uprog_gen.specs.Layout.{Lay, slot, source_lays, is_scratch, scratch_slot, own_slot, defined_lays, found}
+use Rattle.uprog_gen.specs.Layout.{Lay, slot, source_lays, is_scratch, scratch_slot, own_slot}
+use Rattle.uprog_gen.specs.Layout.{defined_lays, found}
 
 abbrev pub lay : List ℕ → Slot → Lay
 lay name x = record { name = name; slot = x }
@@ -24,11 +26,14 @@ pub some_is : {A : Type 0} (x y : A) → Some x ≡ Some y → x ≡ y
 some_is x y e = cc
 
 -- what holds of each name and its place holds where a name is found
-pub found_each : (P : Lay → Type 0) (ls : List Lay) (name : List ℕ) (x : Slot) → Each P ls → found ls name ≡ Some x → P (lay name x)
+pub found_each : (P : Lay → Type 0) (ls : List Lay) (name : List ℕ) (x : Slot) → Each P ls
+    → found ls name ≡ Some x → P (lay name x)
 found_each P [] name x h e = absurd (cc)
 found_each P (l ∷ ls) name x h e =
-    by_bool (λ b. cond b (Some l.slot) (found ls name) ≡ Some x → P (lay name x)) (bytes_eq l.name name)
-    (λ s f. subst (λ (z : Slot). P (lay name z)) (some_is l.slot x f) (subst (λ (m : List ℕ). P (lay m l.slot)) (same_name l.name name s) h.0))
+    by_bool (λ b. cond b (Some l.slot) (found ls name) ≡ Some x
+    → P (lay name x)) (bytes_eq l.name name)
+    (λ s f. subst (λ (z : Slot). P (lay name z)) (some_is l.slot x f)
+    (subst (λ (m : List ℕ). P (lay m l.slot)) (same_name l.name name s) h.0))
     (λ s f. found_each P ls name x h.1 f)
     e
 
@@ -41,7 +46,8 @@ abbrev pub AreApartLays : List Lay → Type 0
 AreApartLays [] = Unit {0}
 AreApartLays (l ∷ ls) = Each (λ m. IsShared l m → l.name ≡ m.name) ls × AreApartLays ls
 
-pub found_apart : (ls : List Lay) (a b : List ℕ) (x y : Slot) → AreApartLays ls → found ls a ≡ Some x → found ls b ≡ Some y → x.space ≡ y.space → x.which ≡ y.which → a ≡ b
+pub found_apart : (ls : List Lay) (a b : List ℕ) (x y : Slot) → AreApartLays ls
+    → found ls a ≡ Some x → found ls b ≡ Some y → x.space ≡ y.space → x.which ≡ y.which → a ≡ b
 found_apart [] a b x y h e f s w = absurd (cc)
 found_apart (l ∷ ls) a b x y h e f s w =
     let Shares : Lay → Type 0 = λ m. IsShared l m → l.name ≡ m.name in
@@ -50,13 +56,18 @@ found_apart (l ∷ ls) a b x y h e f s w =
     let z : l.slot ≡ x = some_is l.slot x e' in
     by_bool (λ d. cond d (Some l.slot) (found ls b) ≡ Some y → a ≡ b) (bytes_eq l.name b)
     (λ q f'. sym (same_name l.name a p) ∙ same_name l.name b q)
-    (λ q f'. sym (same_name l.name a p) ∙ found_each Shares ls b y h.0 f' (ap (λ (v : Slot). v.space) z ∙ s, ap (λ (v : Slot). v.which) z ∙ w))
+    (λ q f'. sym (same_name l.name a p) ∙ found_each Shares ls b y h.0 f'
+    (ap (λ (v : Slot). v.space) z ∙ s, ap (λ (v : Slot). v.which) z ∙ w))
     f)
     (λ p e'.
     by_bool (λ d. cond d (Some l.slot) (found ls b) ≡ Some y → a ≡ b) (bytes_eq l.name b)
     (λ q f'.
     let z : l.slot ≡ y = some_is l.slot y f' in
-    sym (found_each Shares ls a x h.0 e' (ap (λ (v : Slot). v.space) z ∙ sym s, ap (λ (v : Slot). v.which) z ∙ sym w)) ∙ same_name l.name b q)
+    sym (found_each Shares ls a x h.0 e' (
+      ap (λ (v : Slot). v.space) z
+          ∙ sym s,
+      ap (λ (v : Slot). v.which) z ∙ sym w,
+    )) ∙ same_name l.name b q)
     (λ q f'. found_apart ls a b x y h.1 e' f' s w)
     f)
     e
@@ -65,25 +76,35 @@ found_apart (l ∷ ls) a b x y h e f s w =
 abbrev pub params_of : List Lay → List Param
 params_of ls = map (λ (l : Lay). record { name = l.name; kind = l.slot.kind }) ls
 
-pub found_kind : (ls : List Lay) (name : List ℕ) → kind_among (params_of ls) name ≡ kind_in (found ls name)
+pub found_kind : (ls : List Lay) (name : List ℕ)
+    → kind_among (params_of ls) name ≡ kind_in (found ls name)
 found_kind [] name = refl
 found_kind (l ∷ ls) name =
-    by_bool (λ b. cond b (Some l.slot.kind) (kind_among (params_of ls) name) ≡ kind_in (cond b (Some l.slot) (found ls name))) (bytes_eq l.name name) (λ e. refl) (λ e. found_kind ls name)
+    by_bool (λ b. cond b (Some l.slot.kind) (kind_among (params_of ls) name)
+    ≡ kind_in (cond b (Some l.slot) (found ls name))) (bytes_eq l.name name) (λ e. refl) (λ e.
+    found_kind ls name)
 
-pub found_new : (ls : List Lay) (name : List ℕ) → is_among (names_of (params_of ls)) name ≡ false → found ls name ≡ None
+pub found_new : (ls : List Lay) (name : List ℕ) → is_among (names_of (params_of ls)) name ≡ false
+    → found ls name ≡ None
 found_new [] name h = refl
 found_new (l ∷ ls) name h =
     let f = or_first (bytes_eq l.name name) (is_among (names_of (params_of ls)) name) h in
-    by_bool (λ b. b ≡ false → cond b (Some l.slot) (found ls name) ≡ None) (bytes_eq l.name name) (λ e g. absurd (cc)) (λ e g. found_new ls name (or_second (bytes_eq l.name name) (is_among (names_of (params_of ls)) name) h)) f
+    by_bool (λ b. b ≡ false → cond b (Some l.slot) (found ls name)
+    ≡ None) (bytes_eq l.name name) (λ e g. absurd (cc)) (λ e g.
+    found_new ls name (or_second (bytes_eq l.name name)
+    (is_among (names_of (params_of ls)) name) h)) f
 
 abbrev pub or_else : Option Slot → Option Slot → Option Slot
 or_else (Some x) y = Some x
 or_else None y = y
 
-pub found-append : (ls ms : List Lay) (name : List ℕ) → found (ls ++ ms) name ≡ or_else (found ls name) (found ms name)
+pub found-append : (ls ms : List Lay) (name : List ℕ)
+    → found (ls ++ ms) name ≡ or_else (found ls name) (found ms name)
 found-append [] ms name = refl
 found-append (l ∷ ls) ms name =
-    by_bool (λ b. cond b (Some l.slot) (found (ls ++ ms) name) ≡ or_else (cond b (Some l.slot) (found ls name)) (found ms name)) (bytes_eq l.name name) (λ e. refl) (λ e. found-append ls ms name)
+    by_bool (λ b. cond b (Some l.slot) (found (ls ++ ms) name)
+    ≡ or_else (cond b (Some l.slot) (found ls name)) (found ms name)) (bytes_eq l.name name)
+    (λ e. refl) (λ e. found-append ls ms name)
 
 -- the kinds
 own_kind : (result : List ℕ) (b w : ℕ) (p : Param) → (own_slot result b w p).kind ≡ p.kind
@@ -98,10 +119,12 @@ pub source_params : (k : ℕ) (ps : List Param) → params_of (source_lays k ps)
 source_params k [] = refl
 source_params k (p ∷ ps) = ap (λ l. p ∷ l) (source_params (k + 1) ps)
 
-pub defined_params : (result : List ℕ) (b w : ℕ) (ps : List Param) → params_of (defined_lays result b w ps) ≡ ps
+pub defined_params : (result : List ℕ) (b w : ℕ) (ps : List Param)
+    → params_of (defined_lays result b w ps) ≡ ps
 defined_params result b w [] = refl
 defined_params result b w (p ∷ ps) =
     let b' = cond (is_scratch result Bit p) (b + 1) b in
     let w' = cond (is_scratch result Word p) (w + 1) w in
-    ap (λ (k : Kind). record { name = p.name; kind = k } ∷ params_of (defined_lays result b' w' ps)) (own_kind result b w p)
+    ap (λ (k : Kind). record { name = p.name; kind = k } ∷ params_of (defined_lays result b' w' ps))
+    (own_kind result b w p)
     ∙ ap (λ l. p ∷ l) (defined_params result b' w' ps)

@@ -1,5 +1,7 @@
 -- Where the names of an operation lie: in places of their own.
-use Rattle.std.proofs.Common.{◌≡◌, ℕ, suc, ◌+◌, ◌<◌, ◌≤◌, Bool, true, false, not, ◌&&◌, cond, List, [], ◌∷◌, ◌++◌, map, Some, refl, sym, ap, ◌∙◌, arith, bytes_eq, ◌⊎◌, inl, inr}
+use Rattle.std.proofs.Common.{◌≡◌, ℕ, suc, ◌+◌, ◌<◌, ◌≤◌, Bool, true, false, not, ◌&&◌, cond, List}
+use Rattle.std.proofs.Common.{[], ◌∷◌, ◌++◌, map, Some, refl, sym, ap, ◌∙◌, arith, bytes_eq, ◌⊎◌}
+use Rattle.std.proofs.Common.{inl, inr}
 use Rattle.std.proofs.lemmas.List.Sums.{sum_by-cons}
 use Rattle.std.specs.Prelude.{slice_get, count_by}
 use Rattle.op_text.specs.declared.tree.Kind.{Kind}
@@ -13,7 +15,8 @@ use Rattle.op_rules.proofs.Names.{same_name, each_map}
 use Rattle.op_rules.proofs.Ops.{each_append}
 use Rattle.loop_ir.specs.declared.ir.Space.{Space}
 use Rattle.loop_ir.specs.declared.ir.Space.TheVariants.{Result, Source, ScratchBit, ScratchWord}
-use Rattle.uprog_gen.specs.Layout.{Lay, slot, source_lays, is_scratch, scratch_slot, defined_lays, lays}
+use Rattle.uprog_gen.specs.Layout.{Lay, slot, source_lays, is_scratch, scratch_slot, defined_lays}
+use Rattle.uprog_gen.specs.Layout.{lays}
 use Rattle.uprog_gen.proofs.Lays.{lay, IsShared, AreApartLays}
 
 abbrev pub kinds_of : List Param → List Kind
@@ -21,24 +24,35 @@ kinds_of ps = map (λ (p : Param). p.kind) ps
 
 -- a source, from this one on
 abbrev pub IsSourceLay : ℕ → List Param → Lay → Type 0
-IsSourceLay k ps m = (j : ℕ) × (m.slot.space ≡ Source) × (m.slot.which ≡ k + j) × (slice_get (kinds_of ps) j ≡ Some m.slot.kind)
+IsSourceLay k ps m = (j : ℕ) × (m.slot.space ≡ Source) × (m.slot.which ≡ k + j)
+    × (slice_get (kinds_of ps) j ≡ Some m.slot.kind)
 
 pub source_each : (k : ℕ) (ps : List Param) → Each (IsSourceLay k ps) (source_lays k ps)
 source_each k [] = tt
-source_each k (p ∷ ps) =
-    ((0, refl, omega arith, refl), each_map (IsSourceLay (k + 1) ps) (IsSourceLay k (p ∷ ps)) (λ m h. (suc h.0, h.1, omega (arith, h.2), h.3)) (source_lays (k + 1) ps) (source_each (k + 1) ps))
+source_each k (p ∷ ps) = (
+  (0, refl, omega arith, refl),
+  each_map (IsSourceLay (k + 1) ps) (IsSourceLay k (p ∷ ps))
+      (λ m h. (suc h.0, h.1, omega (arith, h.2), h.3)) (source_lays (k + 1) ps)
+      (source_each (k + 1) ps),
+)
 
 source_apart : (k : ℕ) (ps : List Param) → AreApartLays (source_lays k ps)
 source_apart k [] = tt
-source_apart k (p ∷ ps) =
-    (each_map (IsSourceLay (k + 1) ps) (λ m. IsShared (lay p.name (slot Source k p.kind)) m → p.name ≡ m.name) (λ m h s. absurd (omega (arith, h.2, s.1))) (source_lays (k + 1) ps) (source_each (k + 1) ps), source_apart (k + 1) ps)
+source_apart k (p ∷ ps) = (
+  each_map (IsSourceLay (k + 1) ps) (λ m. IsShared (lay p.name (slot Source k p.kind)) m
+      → p.name ≡ m.name) (λ m h s. absurd (omega (arith, h.2, s.1))) (source_lays (k + 1) ps)
+      (source_each (k + 1) ps),
+  source_apart (k + 1) ps,
+)
 
 -- a name that the body defines: the result, or one in the scratch of these bits and words
 abbrev pub IsDefinedLay : List ℕ → ℕ → ℕ → ℕ → ℕ → Lay → Type 0
 IsDefinedLay result b w bits words m =
     ((m.slot.space ≡ Result) × (m.slot.which ≡ 0) × (m.name ≡ result))
-    ⊎ (((m.slot.space ≡ ScratchBit) × (m.slot.kind ≡ Bit) × (b ≤ m.slot.which) × (m.slot.which < bits) × (bytes_eq m.name result ≡ false))
-    ⊎ ((m.slot.space ≡ ScratchWord) × (m.slot.kind ≡ Word) × (w ≤ m.slot.which) × (m.slot.which < words) × (bytes_eq m.name result ≡ false)))
+    ⊎ (((m.slot.space ≡ ScratchBit) × (m.slot.kind ≡ Bit) × (b ≤ m.slot.which)
+    × (m.slot.which < bits) × (bytes_eq m.name result ≡ false))
+    ⊎ ((m.slot.space ≡ ScratchWord) × (m.slot.kind ≡ Word) × (w ≤ m.slot.which)
+    × (m.slot.which < words) × (bytes_eq m.name result ≡ false)))
 
 abbrev head : Bool → ℕ → ℕ → List ℕ → Kind → Lay
 head c b w name k = lay name (cond c (slot Result 0 k) (scratch_slot b w k))
@@ -54,10 +68,14 @@ next_more : (t : Bool) (b : ℕ) → b ≤ cond t (b + 1) b
 next_more true b = omega arith
 next_more false b = omega arith
 
-head_is : (c : Bool) (k : Kind) (name result : List ℕ) (b w bits words x y : ℕ) → bytes_eq name result ≡ c → next Bit c b k + x ≤ bits → next Word c w k + y ≤ words → IsDefinedLay result b w bits words (head c b w name k)
+head_is : (c : Bool) (k : Kind) (name result : List ℕ) (b w bits words x y : ℕ)
+    → bytes_eq name result ≡ c → next Bit c b k + x ≤ bits → next Word c w k + y ≤ words
+    → IsDefinedLay result b w bits words (head c b w name k)
 head_is true k name result b w bits words x y e f g = inl (refl, refl, same_name name result e)
-head_is false Bit name result b w bits words x y e f g = inr (inl (refl, refl, omega arith, omega (arith, f), e))
-head_is false Word name result b w bits words x y e f g = inr (inr (refl, refl, omega arith, omega (arith, g), e))
+head_is false Bit name result b w bits words x y e f g =
+    inr (inl (refl, refl, omega arith, omega (arith, f), e))
+head_is false Word name result b w bits words x y e f g =
+    inr (inr (refl, refl, omega arith, omega (arith, g), e))
 
 is_bit : Space → Bool
 is_bit Result = false
@@ -65,31 +83,45 @@ is_bit Source = false
 is_bit ScratchBit = true
 is_bit ScratchWord = false
 
-head_apart : (c : Bool) (k : Kind) (name result : List ℕ) (b w bits words : ℕ) (m : Lay) → bytes_eq name result ≡ c → IsDefinedLay result (next Bit c b k) (next Word c w k) bits words m → IsShared (head c b w name k) m → name ≡ m.name
+head_apart : (c : Bool) (k : Kind) (name result : List ℕ) (b w bits words : ℕ) (m : Lay)
+    → bytes_eq name result ≡ c → IsDefinedLay result (next Bit c b k) (next Word c w k) bits words m
+    → IsShared (head c b w name k) m → name ≡ m.name
 head_apart true k name result b w bits words m e (inl h) s = same_name name result e ∙ sym h.2
 head_apart true k name result b w bits words m e (inr (inl h)) s = absurd (cc (s.0, h.0))
 head_apart true k name result b w bits words m e (inr (inr h)) s = absurd (cc (s.0, h.0))
 head_apart false Bit name result b w bits words m e (inl h) s = absurd (cc (s.0, h.0))
-head_apart false Bit name result b w bits words m e (inr (inl h)) s = absurd (omega (arith, s.1, h.2))
+head_apart false Bit name result b w bits words m e (inr (inl h)) s =
+    absurd (omega (arith, s.1, h.2))
 head_apart false Bit name result b w bits words m e (inr (inr h)) s = absurd (cc (s.0, h.0))
 head_apart false Word name result b w bits words m e (inl h) s = absurd (cc (s.0, h.0))
 head_apart false Word name result b w bits words m e (inr (inl h)) s = absurd (cc (s.0, h.0))
-head_apart false Word name result b w bits words m e (inr (inr h)) s = absurd (omega (arith, s.1, h.2))
+head_apart false Word name result b w bits words m e (inr (inr h)) s =
+    absurd (omega (arith, s.1, h.2))
 
 -- further on
-wider : (result : List ℕ) (b w b' w' bits words : ℕ) (m : Lay) → b ≤ b' → w ≤ w' → IsDefinedLay result b' w' bits words m → IsDefinedLay result b w bits words m
+wider : (result : List ℕ) (b w b' w' bits words : ℕ) (m : Lay) → b ≤ b' → w ≤ w'
+    → IsDefinedLay result b' w' bits words m → IsDefinedLay result b w bits words m
 wider result b w b' w' bits words m f g (inl h) = inl h
-wider result b w b' w' bits words m f g (inr (inl h)) = inr (inl (h.0, h.1, omega (arith, f, h.2), h.3, h.4))
-wider result b w b' w' bits words m f g (inr (inr h)) = inr (inr (h.0, h.1, omega (arith, g, h.2), h.3, h.4))
+wider result b w b' w' bits words m f g (inr (inl h)) =
+    inr (inl (h.0, h.1, omega (arith, f, h.2), h.3, h.4))
+wider result b w b' w' bits words m f g (inr (inr h)) =
+    inr (inr (h.0, h.1, omega (arith, g, h.2), h.3, h.4))
 
 module _ (result : List ℕ) (bits words : ℕ) where
   abbrev fits : Kind → List Param → ℕ → ℕ → Type 0
   fits k ps b limit = b + count_by (is_scratch result k) ps ≤ limit
 
-  fits_rest : (k : Kind) (p : Param) (ps : List Param) (b limit : ℕ) → fits k (p ∷ ps) b limit → cond (is_scratch result k p) (b + 1) b + count_by (is_scratch result k) ps ≤ limit
-  fits_rest k p ps b limit h = omega (arith, h, next_count (is_scratch result k p) b (count_by (is_scratch result k) ps), sum_by-cons (λ (q : Param). cond (is_scratch result k q) 1 0) p ps)
+  fits_rest : (k : Kind) (p : Param) (ps : List Param) (b limit : ℕ) → fits k (p ∷ ps) b limit
+      → cond (is_scratch result k p) (b + 1) b + count_by (is_scratch result k) ps ≤ limit
+  fits_rest k p ps b limit h = omega (
+    arith,
+    h,
+    next_count (is_scratch result k p) b (count_by (is_scratch result k) ps),
+    sum_by-cons (λ (q : Param). cond (is_scratch result k q) 1 0) p ps,
+  )
 
-  pub defined_each : (b w : ℕ) (ps : List Param) → fits Bit ps b bits → fits Word ps w words → Each (IsDefinedLay result b w bits words) (defined_lays result b w ps)
+  pub defined_each : (b w : ℕ) (ps : List Param) → fits Bit ps b bits → fits Word ps w words
+      → Each (IsDefinedLay result b w bits words) (defined_lays result b w ps)
   defined_each b w [] f g = tt
   defined_each b w (p ∷ ps) f g =
       let c = bytes_eq p.name result in
@@ -97,13 +129,16 @@ module _ (result : List ℕ) (bits words : ℕ) where
       let g' = fits_rest Word p ps w words g in
       let b' = next Bit c b p.kind in
       let w' = next Word c w p.kind in (
-        head_is c p.kind p.name result b w bits words (count_by (is_scratch result Bit) ps) (count_by (is_scratch result Word) ps) refl f' g',
+        head_is c p.kind p.name result b w bits words (count_by (is_scratch result Bit) ps)
+            (count_by (is_scratch result Word) ps) refl f' g',
         each_map (IsDefinedLay result b' w' bits words) (IsDefinedLay result b w bits words)
-            (λ m h. wider result b w b' w' bits words m (next_more (is_scratch result Bit p) b) (next_more (is_scratch result Word p) w) h)
+            (λ m h. wider result b w b' w' bits words m (next_more (is_scratch result Bit p) b)
+            (next_more (is_scratch result Word p) w) h)
             (defined_lays result b' w' ps) (defined_each b' w' ps f' g'),
       )
 
-  pub defined_apart : (b w : ℕ) (ps : List Param) → fits Bit ps b bits → fits Word ps w words → AreApartLays (defined_lays result b w ps)
+  pub defined_apart : (b w : ℕ) (ps : List Param) → fits Bit ps b bits → fits Word ps w words
+      → AreApartLays (defined_lays result b w ps)
   defined_apart b w [] f g = tt
   defined_apart b w (p ∷ ps) f g =
       let c = bytes_eq p.name result in
@@ -111,13 +146,19 @@ module _ (result : List ℕ) (bits words : ℕ) where
       let g' = fits_rest Word p ps w words g in
       let b' = next Bit c b p.kind in
       let w' = next Word c w p.kind in (
-        each_map (IsDefinedLay result b' w' bits words) (λ m. IsShared (head c b w p.name p.kind) m → p.name ≡ m.name) (λ m h s. head_apart c p.kind p.name result b w bits words m refl h s) (defined_lays result b' w' ps) (defined_each b' w' ps f' g'),
+        each_map (IsDefinedLay result b' w' bits words) (λ m. IsShared (head c b w p.name p.kind) m
+            → p.name ≡ m.name) (λ m h s. head_apart c p.kind p.name result b w bits words m refl h
+            s) (defined_lays result b' w' ps) (defined_each b' w' ps f' g'),
         defined_apart b' w' ps f' g',
       )
 
-apart-append : (ls ms : List Lay) → AreApartLays ls → AreApartLays ms → Each (λ l. Each (λ m. IsShared l m → l.name ≡ m.name) ms) ls → AreApartLays (ls ++ ms)
+apart-append : (ls ms : List Lay) → AreApartLays ls → AreApartLays ms
+    → Each (λ l. Each (λ m. IsShared l m → l.name ≡ m.name) ms) ls → AreApartLays (ls ++ ms)
 apart-append [] ms f g h = g
-apart-append (l ∷ ls) ms f g h = (each_append (λ m. IsShared l m → l.name ≡ m.name) ls ms f.0 h.0, apart-append ls ms f.1 g h.1)
+apart-append (l ∷ ls) ms f g h = (
+  each_append (λ m. IsShared l m → l.name ≡ m.name) ls ms f.0 h.0,
+  apart-append ls ms f.1 g h.1,
+)
 
 -- where a name of the operation lies
 abbrev pub LiesIn : Operation → Lay → Type 0
@@ -135,25 +176,40 @@ module _ (op : Operation) where
   abbrev own : List Lay
   own = defined_lays op.result.name 0 0 defined
 
-  pub own_each : Each (IsDefinedLay op.result.name 0 0 (scratch_names Bit op) (scratch_names Word op)) own
-  own_each = defined_each op.result.name (scratch_names Bit op) (scratch_names Word op) 0 0 defined (omega arith) (omega arith)
+  pub own_each : Each (IsDefinedLay op.result.name 0 0 (scratch_names Bit op)
+      (scratch_names Word op)) own
+  own_each = defined_each op.result.name (scratch_names Bit op) (scratch_names Word op) 0 0 defined
+      (omega arith) (omega arith)
 
   source_lies : (m : Lay) → IsSourceLay 0 op.params m → LiesIn op m
-  source_lies m h = inl (h.1, let e : h.0 ≡ m.slot.which = omega (arith, h.2) in ap (slice_get (kinds_of op.params)) (sym e) ∙ h.3)
+  source_lies m h = inl (
+    h.1,
+    let e : h.0 ≡ m.slot.which = omega (arith, h.2) in
+        ap (slice_get (kinds_of op.params)) (sym e) ∙ h.3,
+  )
 
   pub all_lie : Each (LiesIn op) (lays op)
   all_lie =
-      each_append (LiesIn op) sources own (each_map (IsSourceLay 0 op.params) (LiesIn op) source_lies sources (source_each 0 op.params))
-      (each_map (IsDefinedLay op.result.name 0 0 (scratch_names Bit op) (scratch_names Word op)) (LiesIn op) (λ m h. inr h) own own_each)
+      each_append (LiesIn op) sources own (each_map (IsSourceLay 0 op.params) (LiesIn op)
+      source_lies sources (source_each 0 op.params))
+      (each_map (IsDefinedLay op.result.name 0 0 (scratch_names Bit op) (scratch_names Word op))
+      (LiesIn op) (λ m h. inr h) own own_each)
 
   -- a source and another name
-  other_space : (l m : Lay) → IsSourceLay 0 op.params l → IsDefinedLay op.result.name 0 0 (scratch_names Bit op) (scratch_names Word op) m → IsShared l m → l.name ≡ m.name
+  other_space : (l m : Lay) → IsSourceLay 0 op.params l
+      → IsDefinedLay op.result.name 0 0 (scratch_names Bit op) (scratch_names Word op) m
+      → IsShared l m → l.name ≡ m.name
   other_space l m h (inl d) s = absurd (cc (s.0, h.1, d.0))
   other_space l m h (inr (inl d)) s = absurd (cc (s.0, h.1, d.0))
   other_space l m h (inr (inr d)) s = absurd (cc (s.0, h.1, d.0))
 
   pub all_apart : AreApartLays (lays op)
   all_apart =
-      apart-append sources own (source_apart 0 op.params) (defined_apart op.result.name (scratch_names Bit op) (scratch_names Word op) 0 0 defined (omega arith) (omega arith))
+      apart-append sources own (source_apart 0 op.params)
+      (defined_apart op.result.name (scratch_names Bit op) (scratch_names Word op) 0 0 defined
+      (omega arith) (omega arith))
       (each_map (IsSourceLay 0 op.params) (λ l. Each (λ m. IsShared l m → l.name ≡ m.name) own)
-      (λ l h. each_map (IsDefinedLay op.result.name 0 0 (scratch_names Bit op) (scratch_names Word op)) (λ m. IsShared l m → l.name ≡ m.name) (λ m d s. other_space l m h d s) own own_each) sources (source_each 0 op.params))
+      (λ l h. each_map (IsDefinedLay op.result.name 0 0 (scratch_names Bit op)
+      (scratch_names Word op)) (λ m. IsShared l m
+      → l.name ≡ m.name) (λ m d s. other_space l m h d s) own own_each) sources
+      (source_each 0 op.params))

@@ -1,5 +1,6 @@
 -- Numbers and their bits, as operations and rows have them.
-use Rattle.std.proofs.Common.{◌≡◌, ℕ, zero, suc, ◌+◌, ◌*◌, Bool, true, false, List, [], ◌∷◌, length, refl, ap, ◌∙◌}
+use Rattle.std.proofs.Common.{◌≡◌, ℕ, zero, suc, ◌+◌, ◌*◌, Bool, true, false, List, [], ◌∷◌, length}
+use Rattle.std.proofs.Common.{refl, ap, ◌∙◌}
 use Rattle.std.specs.Prelude.{◌%◌, ◌/◌, ◌==◌}
 use Rattle.bit_rows.specs.Bits as row
 use Rattle.bit_rows.specs.Bits.{bits as row_bits}
@@ -13,7 +14,8 @@ bit_same false = refl
 
 pub value_same : (bs : List Bool) → text.value bs ≡ row.value bs
 value_same [] = refl
-value_same (b ∷ bs) = ap (λ n. text.bit_number b + 2 * n) (value_same bs) ∙ ap (λ n. n + 2 * row.value bs) (bit_same b)
+value_same (b ∷ bs) = ap (λ n. text.bit_number b + 2 * n) (value_same bs)
+    ∙ ap (λ n. n + 2 * row.value bs) (bit_same b)
 
 pub bits_same : (v n : ℕ) → text_bits v n ≡ row_bits v n
 unfolding text_bits row_bits

@@ -1,5 +1,7 @@
 -- Names that come to their places one after another.
-use Rattle.std.proofs.Common.{◌≡◌, ℕ, ◌+◌, ◌<◌, ◌≤◌, Bool, true, false, not, ◌||◌, cond, List, [], ◌∷◌, ◌++◌, map, length, take, Some, None, refl, sym, ap, ◌∙◌, subst, arith, bytes_eq}
+use Rattle.std.proofs.Common.{◌≡◌, ℕ, ◌+◌, ◌<◌, ◌≤◌, Bool, true, false, not, ◌||◌, cond, List, []}
+use Rattle.std.proofs.Common.{◌∷◌, ◌++◌, map, length, take, Some, None, refl, sym, ap, ◌∙◌, subst}
+use Rattle.std.proofs.Common.{arith, bytes_eq}
 use Rattle.std.specs.Prelude.{count_by, slice_index_or}
 use Rattle.std.specs.List.{filter, list_any}
 use Rattle.std.proofs.lemmas.List.{map-append, take_more, length-map}
@@ -18,29 +20,38 @@ use Rattle.op_rules.proofs.Names.{same_name, turned}
 use Rattle.loop_ir.specs.declared.names.NameMap.{NameMap}
 use Rattle.loop_ir.specs.declared.ir.Space.TheVariants.{Source}
 use Rattle.loop_ir.specs.Statements.{Slots, slots_of}
-use Rattle.uprog_gen.specs.Layout.{Lay, slot, own_slot, is_scratch, source_lays, defined_lays, found}
+use Rattle.uprog_gen.specs.Layout.{Lay, slot, own_slot, is_scratch, source_lays, defined_lays}
+use Rattle.uprog_gen.specs.Layout.{found}
 use Rattle.uprog_gen.specs.Laying.{placed, Lays, states_defined, words_defined}
 use Rattle.uprog_gen.proofs.Lays.{by_bool, params_of, found_new, or_else}
 use Rattle.uprog_gen.proofs.Among.{changed_other}
 
-pub placed_same : (f g : Slots) (ls : List Lay) → ((n : List ℕ) → f n ≡ g n) → (n : List ℕ) → placed f ls n ≡ placed g ls n
+pub placed_same : (f g : Slots) (ls : List Lay) → ((n : List ℕ) → f n ≡ g n) → (n : List ℕ)
+    → placed f ls n ≡ placed g ls n
 placed_same f g [] e n = e n
-placed_same f g (l ∷ ls) e n = placed_same (changed f l.name (Some l.slot)) (changed g l.name (Some l.slot)) ls (λ m. ap (λ o. cond (bytes_eq m l.name) (Some l.slot) o) (e m)) n
+placed_same f g (l ∷ ls) e n = placed_same (changed f l.name (Some l.slot))
+    (changed g l.name (Some l.slot)) ls (λ m.
+    ap (λ o. cond (bytes_eq m l.name) (Some l.slot) o) (e m)) n
 
-pub placed-append : (f : Slots) (ls ms : List Lay) (n : List ℕ) → placed f (ls ++ ms) n ≡ placed (placed f ls) ms n
+pub placed-append : (f : Slots) (ls ms : List Lay) (n : List ℕ)
+    → placed f (ls ++ ms) n ≡ placed (placed f ls) ms n
 placed-append f [] ms n = refl
 placed-append f (l ∷ ls) ms n = placed-append (changed f l.name (Some l.slot)) ls ms n
 
 -- where no name stands twice, the last place is the first
-pub placed_found : (f : Slots) (ls : List Lay) → Differ (names_of (params_of ls)) → (n : List ℕ) → placed f ls n ≡ or_else (found ls n) (f n)
+pub placed_found : (f : Slots) (ls : List Lay) → Differ (names_of (params_of ls)) → (n : List ℕ)
+    → placed f ls n ≡ or_else (found ls n) (f n)
 placed_found f [] d n = refl
 placed_found f (l ∷ ls) d n =
     placed_found (changed f l.name (Some l.slot)) ls d.1 n
-    ∙ by_bool (λ b. bytes_eq l.name n ≡ b → or_else (found ls n) (changed f l.name (Some l.slot) n) ≡ or_else (cond b (Some l.slot) (found ls n)) (f n)) (bytes_eq l.name n)
+    ∙ by_bool (λ b. bytes_eq l.name n ≡ b → or_else (found ls n) (changed f l.name (Some l.slot) n)
+    ≡ or_else (cond b (Some l.slot) (found ls n)) (f n)) (bytes_eq l.name n)
     (λ e h.
     let m : l.name ≡ n = same_name l.name n e in
-    let none : found ls n ≡ None = found_new ls n (ap (λ x. is_among (names_of (params_of ls)) x) (sym m) ∙ d.0) in
-    ap (λ o. or_else o (changed f l.name (Some l.slot) n)) none ∙ ap (λ b. cond b (Some l.slot) (f n)) (turned n l.name ∙ e))
+    let none : found ls n ≡ None = found_new ls n
+    (ap (λ x. is_among (names_of (params_of ls)) x) (sym m) ∙ d.0) in
+    ap (λ o. or_else o (changed f l.name (Some l.slot) n)) none
+    ∙ ap (λ b. cond b (Some l.slot) (f n)) (turned n l.name ∙ e))
     (λ e h. ap (or_else (found ls n)) (changed_other f l.name n (Some l.slot) e))
     refl
 
@@ -55,7 +66,9 @@ module _ (result : List ℕ) where
   stepped true b x = omega arith
   stepped false b x = omega arith
 
-  pub defined_lays-append : (b w : ℕ) (ps qs : List Param) → defined_lays result b w (ps ++ qs) ≡ defined_lays result b w ps ++ defined_lays result (b + bits_in ps) (w + words_in ps) qs
+  pub defined_lays-append : (b w : ℕ) (ps qs : List Param)
+      → defined_lays result b w (ps ++ qs) ≡ defined_lays result b w ps
+      ++ defined_lays result (b + bits_in ps) (w + words_in ps) qs
   defined_lays-append b w [] qs =
       let e : b ≡ b + 0 = omega arith in
       let f : w ≡ w + 0 = omega arith in
@@ -63,105 +76,207 @@ module _ (result : List ℕ) where
   defined_lays-append b w (p ∷ ps) qs =
       let b' = cond (is_scratch result Bit p) (b + 1) b in
       let w' = cond (is_scratch result Word p) (w + 1) w in
-      let e : b' + bits_in ps ≡ b + bits_in (p ∷ ps) = stepped (is_scratch result Bit p) b (bits_in ps) ∙ ap (λ x. b + x) (sym (sum_by-cons (λ (q : Param). cond (is_scratch result Bit q) 1 0) p ps)) in
-      let f : w' + words_in ps ≡ w + words_in (p ∷ ps) = stepped (is_scratch result Word p) w (words_in ps) ∙ ap (λ x. w + x) (sym (sum_by-cons (λ (q : Param). cond (is_scratch result Word q) 1 0) p ps)) in
-      ap (λ (l : List Lay). record { name = p.name; slot = own_slot result b w p } ∷ l) (defined_lays-append b' w' ps qs ∙ ap (λ x. defined_lays result b' w' ps ++ defined_lays result x (w' + words_in ps) qs) e ∙ ap (λ y. defined_lays result b' w' ps ++ defined_lays result (b + bits_in (p ∷ ps)) y qs) f)
+      let e : b' + bits_in ps ≡ b + bits_in (p ∷ ps) =
+      stepped (is_scratch result Bit p) b (bits_in ps)
+      ∙ ap (λ x. b + x) (sym (sum_by-cons (λ (q : Param). cond (is_scratch result Bit q) 1 0) p
+      ps)) in
+      let f : w' + words_in ps ≡ w + words_in (p ∷ ps) =
+      stepped (is_scratch result Word p) w (words_in ps)
+      ∙ ap (λ x. w + x) (sym (sum_by-cons (λ (q : Param). cond (is_scratch result Word q) 1 0) p
+      ps)) in
+      ap (λ (l : List Lay). record { name = p.name; slot = own_slot result b w p }
+      ∷ l) (defined_lays-append b' w' ps qs
+      ∙ ap (λ x. defined_lays result b' w' ps ++ defined_lays result x (w' + words_in ps) qs) e
+      ∙ ap (λ y. defined_lays result b' w' ps
+      ++ defined_lays result (b + bits_in (p ∷ ps)) y qs) f)
 
   pub lays_none : (m : NameMap) → Lays result [] m m
   lays_none m = record { at = λ n. refl; bits = omega arith; words = omega arith }
 
-  pub lays_then : (ps qs : List Param) (a b c : NameMap) → Lays result ps a b → Lays result qs b c → Lays result (ps ++ qs) a c
+  pub lays_then : (ps qs : List Param) (a b c : NameMap) → Lays result ps a b → Lays result qs b c
+      → Lays result (ps ++ qs) a c
   lays_then ps qs a b c f g = record {
     at = λ n.
         g.at n
-        ∙ placed_same (slots_of b) (placed (slots_of a) (defined_lays result a.free_bit a.free_word ps)) (defined_lays result b.free_bit b.free_word qs) f.at n
-        ∙ ap (λ x. placed (placed (slots_of a) (defined_lays result a.free_bit a.free_word ps)) (defined_lays result x b.free_word qs) n) f.bits
-        ∙ ap (λ x. placed (placed (slots_of a) (defined_lays result a.free_bit a.free_word ps)) (defined_lays result (a.free_bit + bits_in ps) x qs) n) f.words
-        ∙ sym (placed-append (slots_of a) (defined_lays result a.free_bit a.free_word ps) (defined_lays result (a.free_bit + bits_in ps) (a.free_word + words_in ps) qs) n)
-        ∙ ap (λ l. placed (slots_of a) l n) (sym (defined_lays-append a.free_bit a.free_word ps qs));
-    bits = omega (arith, g.bits, f.bits, sum_by-append (λ (q : Param). cond (is_scratch result Bit q) 1 0) ps qs);
-    words = omega (arith, g.words, f.words, sum_by-append (λ (q : Param). cond (is_scratch result Word q) 1 0) ps qs);
+        ∙ placed_same (slots_of b) (placed (slots_of a)
+        (defined_lays result a.free_bit a.free_word ps))
+        (defined_lays result b.free_bit b.free_word qs) f.at n
+        ∙ ap (λ x. placed (placed (slots_of a) (defined_lays result a.free_bit a.free_word ps))
+        (defined_lays result x b.free_word qs) n) f.bits
+        ∙ ap (λ x. placed (placed (slots_of a) (defined_lays result a.free_bit a.free_word ps))
+        (defined_lays result (a.free_bit + bits_in ps) x qs) n) f.words
+        ∙ sym (placed-append (slots_of a) (defined_lays result a.free_bit a.free_word ps)
+        (defined_lays result (a.free_bit + bits_in ps) (a.free_word + words_in ps) qs) n)
+        ∙ ap (λ l. placed (slots_of a) l n) (sym
+        (defined_lays-append a.free_bit a.free_word ps qs));
+    bits = omega (
+      arith,
+      g.bits,
+      f.bits,
+      sum_by-append
+          (λ (q : Param). cond (is_scratch result Bit q) 1 0) ps qs,
+    );
+    words = omega (
+      arith,
+      g.words,
+      f.words,
+      sum_by-append
+          (λ (q : Param). cond (is_scratch result Word q) 1 0) ps qs,
+    );
   }
 
 -- one more of a list
-pub one_more : {A : Type 0} (xs : List A) (k : ℕ) (x : A) → k < length xs → x ≡ slice_index_or xs k x → take (k + 1) xs ≡ take k xs ++ x ∷ []
+pub one_more : {A : Type 0} (xs : List A) (k : ℕ) (x : A) → k < length xs
+    → x ≡ slice_index_or xs k x → take (k + 1) xs ≡ take k xs ++ x ∷ []
 one_more xs k x lt e = take_more xs k x lt ∙ ap (λ y. take k xs ++ y ∷ []) (sym e)
 
 -- the sources
-pub source_lays-append : (k : ℕ) (ps qs : List Param) → source_lays k (ps ++ qs) ≡ source_lays k ps ++ source_lays (k + length ps) qs
+pub source_lays-append : (k : ℕ) (ps qs : List Param)
+    → source_lays k (ps ++ qs) ≡ source_lays k ps ++ source_lays (k + length ps) qs
 source_lays-append k [] qs = let e : k ≡ k + 0 = omega arith in ap (λ x. source_lays x qs) e
-source_lays-append k (p ∷ ps) qs = let e : k + 1 + length ps ≡ k + length (p ∷ ps) = omega arith in ap (λ (l : List Lay). record { name = p.name; slot = slot Source k p.kind } ∷ l) (source_lays-append (k + 1) ps qs ∙ ap (λ x. source_lays (k + 1) ps ++ source_lays x qs) e)
+source_lays-append k (p ∷ ps) qs = let e : k + 1 + length ps ≡ k + length (p ∷ ps) = omega arith in
+    ap (λ (l : List Lay). record { name = p.name; slot = slot Source k p.kind }
+    ∷ l) (source_lays-append (k + 1) ps qs ∙ ap (λ x. source_lays (k + 1) ps ++ source_lays x qs) e)
 
 -- what a block defines, one after another
-pub states_more : (states : List State) (k : ℕ) (s : State) → k < length states → s ≡ slice_index_or states k s → states_defined (take (k + 1) states) ≡ states_defined (take k states) ++ param s.name Bit ∷ []
-states_more states k s lt e = ap states_defined (one_more states k s lt e) ∙ map-append (λ (x : State). param x.name Bit) (take k states) (s ∷ [])
+pub states_more : (states : List State) (k : ℕ) (s : State) → k < length states
+    → s ≡ slice_index_or states k s → states_defined (take (k + 1) states)
+    ≡ states_defined (take k states) ++ param s.name Bit ∷ []
+states_more states k s lt e = ap states_defined (one_more states k s lt e)
+    ∙ map-append (λ (x : State). param x.name Bit) (take k states) (s ∷ [])
 
-any_names : (states : List State) (name : List ℕ) → list_any (λ (s : State). bytes_eq s.name name) states ≡ is_among (map (λ (s : State). s.name) states) name
+any_names : (states : List State) (name : List ℕ)
+    → list_any (λ (s : State). bytes_eq s.name name) states
+    ≡ is_among (map (λ (s : State). s.name) states) name
 any_names [] name = refl
 any_names (s ∷ states) name = ap (λ b. bytes_eq s.name name || b) (any_names states name)
 
 abbrev is_word : List State → List ℕ → Bool
 is_word states n = not (is_among (map (λ (s : State). s.name) states) n)
 
-filter_map-append : (states : List State) (xs : List Assign) (a : Assign) → words_defined states (xs ++ a ∷ []) ≡ words_defined states xs ++ words_defined states (a ∷ [])
+filter_map-append : (states : List State) (xs : List Assign) (a : Assign)
+    → words_defined states (xs ++ a ∷ []) ≡ words_defined states xs ++ words_defined states (a ∷ [])
 filter_map-append states [] a = refl
 filter_map-append states (x ∷ xs) a =
-    by_bool (λ b. map (λ n. param n Word) (cond b (x.name ∷ filter (is_word states) (map (λ (y : Assign). y.name) (xs ++ a ∷ []))) (filter (is_word states) (map (λ (y : Assign). y.name) (xs ++ a ∷ []))))
-    ≡ map (λ n. param n Word) (cond b (x.name ∷ filter (is_word states) (map (λ (y : Assign). y.name) xs)) (filter (is_word states) (map (λ (y : Assign). y.name) xs))) ++ words_defined states (a ∷ [])) (is_word states x.name)
-    (λ e. ap (λ l. param x.name Word ∷ l) (filter_map-append states xs a)) (λ e. filter_map-append states xs a)
+    by_bool (λ b. map (λ n. param n Word) (cond b (x.name
+    ∷ filter (is_word states) (map (λ (y : Assign). y.name) (xs ++ a ∷ [])))
+    (filter (is_word states) (map (λ (y : Assign). y.name) (xs ++ a ∷ []))))
+    ≡ map (λ n. param n Word) (cond b (x.name
+    ∷ filter (is_word states) (map (λ (y : Assign). y.name) xs))
+    (filter (is_word states) (map (λ (y : Assign). y.name) xs)))
+    ++ words_defined states (a ∷ [])) (is_word states x.name)
+    (λ e. ap (λ l. param x.name Word ∷ l) (filter_map-append states xs a)) (λ e.
+    filter_map-append states xs a)
 
-pub words_more : (states : List State) (assigns : List Assign) (k : ℕ) (a : Assign) → k < length assigns → a ≡ slice_index_or assigns k a → words_defined states (take (k + 1) assigns) ≡ words_defined states (take k assigns) ++ words_defined states (a ∷ [])
-words_more states assigns k a lt e = ap (words_defined states) (one_more assigns k a lt e) ∙ filter_map-append states (take k assigns) a
+pub words_more : (states : List State) (assigns : List Assign) (k : ℕ) (a : Assign)
+    → k < length assigns → a ≡ slice_index_or assigns k a
+    → words_defined states (take (k + 1) assigns) ≡ words_defined states (take k assigns)
+    ++ words_defined states (a ∷ [])
+words_more states assigns k a lt e = ap (words_defined states) (one_more assigns k a lt e)
+    ∙ filter_map-append states (take k assigns) a
 
-pub a_word : (states : List State) (a : Assign) → list_any (λ (s : State). bytes_eq s.name a.name) states ≡ false → words_defined states (a ∷ []) ≡ param a.name Word ∷ []
-a_word states a h = ap (λ b. map (λ n. param n Word) (cond (not b) (a.name ∷ []) [])) (sym (any_names states a.name) ∙ h)
+pub a_word : (states : List State) (a : Assign)
+    → list_any (λ (s : State). bytes_eq s.name a.name) states ≡ false
+    → words_defined states (a ∷ []) ≡ param a.name Word ∷ []
+a_word states a h = ap (λ b. map (λ n. param n Word) (cond (not b) (a.name ∷ []) []))
+    (sym (any_names states a.name) ∙ h)
 
-pub no_word : (states : List State) (a : Assign) → list_any (λ (s : State). bytes_eq s.name a.name) states ≡ true → words_defined states (a ∷ []) ≡ []
-no_word states a h = ap (λ b. map (λ n. param n Word) (cond (not b) (a.name ∷ []) [])) (sym (any_names states a.name) ∙ h)
+pub no_word : (states : List State) (a : Assign)
+    → list_any (λ (s : State). bytes_eq s.name a.name) states ≡ true
+    → words_defined states (a ∷ []) ≡ []
+no_word states a h = ap (λ b. map (λ n. param n Word) (cond (not b) (a.name ∷ []) []))
+    (sym (any_names states a.name) ∙ h)
 
 -- how many rows of scratch one name takes
-pub one_name : (result : List ℕ) (k : Kind) (p : Param) → count_by (is_scratch result k) (p ∷ []) ≤ 1
+pub one_name : (result : List ℕ) (k : Kind) (p : Param)
+    → count_by (is_scratch result k) (p ∷ []) ≤ 1
 one_name result k p = omega (arith, count_by-le-length (is_scratch result k) (p ∷ []))
 
-pub one_word : (result : List ℕ) (k : Kind) (states : List State) (a : Assign) → count_by (is_scratch result k) (words_defined states (a ∷ [])) ≤ 1
+pub one_word : (result : List ℕ) (k : Kind) (states : List State) (a : Assign)
+    → count_by (is_scratch result k) (words_defined states (a ∷ [])) ≤ 1
 one_word result k states a = by (list_any (λ (s : State). bytes_eq s.name a.name) states) refl
   where
-    by : (b : Bool) → list_any (λ (s : State). bytes_eq s.name a.name) states ≡ b → count_by (is_scratch result k) (words_defined states (a ∷ [])) ≤ 1
+    by : (b : Bool) → list_any (λ (s : State). bytes_eq s.name a.name) states ≡ b
+        → count_by (is_scratch result k) (words_defined states (a ∷ [])) ≤ 1
     by true e = omega (arith, ap (count_by (is_scratch result k)) (no_word states a e))
-    by false e = omega (arith, ap (count_by (is_scratch result k)) (a_word states a e), one_name result k (param a.name Word))
+    by false e = omega (
+      arith,
+      ap (count_by (is_scratch result k)) (a_word states a e),
+      one_name result k (param a.name Word),
+    )
 
-no_bits : (result : List ℕ) (ns : List (List ℕ)) → count_by (is_scratch result Bit) (map (λ n. param n Word) ns) ≡ 0
+no_bits : (result : List ℕ) (ns : List (List ℕ))
+    → count_by (is_scratch result Bit) (map (λ n. param n Word) ns) ≡ 0
 no_bits result [] = refl
-no_bits result (n ∷ ns) = omega (arith, sum_by-cons (λ (q : Param). cond (is_scratch result Bit q) 1 0) (param n Word) (map (λ m. param m Word) ns), no_bits result ns)
+no_bits result (n ∷ ns) =
+    omega (
+      arith,
+      sum_by-cons (λ (q : Param). cond (is_scratch result Bit q) 1 0) (param n Word)
+          (map (λ m. param m Word) ns),
+      no_bits result ns,
+    )
 
-pub words_no_bits : (result : List ℕ) (states : List State) (assigns : List Assign) → count_by (is_scratch result Bit) (words_defined states assigns) ≡ 0
-words_no_bits result states assigns = no_bits result (filter (is_word states) (map (λ (a : Assign). a.name) assigns))
+pub words_no_bits : (result : List ℕ) (states : List State) (assigns : List Assign)
+    → count_by (is_scratch result Bit) (words_defined states assigns) ≡ 0
+words_no_bits result states assigns = no_bits result
+    (filter (is_word states) (map (λ (a : Assign). a.name) assigns))
 
-pub states_no_words : (result : List ℕ) (states : List State) → count_by (is_scratch result Word) (states_defined states) ≡ 0
+pub states_no_words : (result : List ℕ) (states : List State)
+    → count_by (is_scratch result Word) (states_defined states) ≡ 0
 states_no_words result [] = refl
-states_no_words result (s ∷ states) = omega (arith, sum_by-cons (λ (q : Param). cond (is_scratch result Word q) 1 0) (param s.name Bit) (states_defined states), states_no_words result states)
+states_no_words result (s ∷ states) = omega (
+  arith,
+  sum_by-cons (λ (q : Param). cond (is_scratch result Word q) 1 0) (param s.name Bit)
+      (states_defined states),
+  states_no_words result states,
+)
 
 states_length : (states : List State) → length (states_defined states) ≡ length states
 states_length states = length-map states (λ (s : State). param s.name Bit)
 
-pub states_few : (result : List ℕ) (states : List State) → count_by (is_scratch result Bit) (states_defined states) ≤ length states
-states_few result states = omega (arith, count_by-le-length (is_scratch result Bit) (states_defined states), states_length states)
+pub states_few : (result : List ℕ) (states : List State)
+    → count_by (is_scratch result Bit) (states_defined states) ≤ length states
+states_few result states =
+    omega (
+      arith,
+      count_by-le-length (is_scratch result Bit) (states_defined states),
+      states_length states,
+    )
 
 -- what a block defines
-equation_names : (assigns : List Assign) → map (λ (e : Equation). e.name) (map equation assigns) ≡ map (λ (a : Assign). a.name) assigns
+equation_names : (assigns : List Assign) → map (λ (e : Equation). e.name) (map equation assigns)
+    ≡ map (λ (a : Assign). a.name) assigns
 equation_names [] = refl
 equation_names (a ∷ assigns) = ap (λ l. a.name ∷ l) (equation_names assigns)
 
-state_params : (states : List State) → states_defined states ≡ map (λ n. param n Bit) (map (λ (s : State). s.name) states)
+state_params : (states : List State) → states_defined states
+    ≡ map (λ n. param n Bit) (map (λ (s : State). s.name) states)
 state_params [] = refl
 state_params (s ∷ states) = ap (λ l. param s.name Bit ∷ l) (state_params states)
 
-pub block_defined : (known : List Param) (down : Bool) (states : List State) (lets assigns : List Assign) → states_defined states ++ words_defined states assigns ≡ defines known (Visit (record { down = down; states = states; lets = map equation lets; assigns = map equation assigns }))
+pub block_defined : (known : List Param) (down : Bool) (states : List State)
+    (lets assigns : List Assign) → states_defined states ++ words_defined states assigns
+    ≡ defines known (Visit (record {
+      down = down;
+      states = states;
+      lets = map equation lets;
+      assigns = map equation assigns;
+    }))
 block_defined known down states lets assigns =
     ap (λ l. l ++ words_defined states assigns) (state_params states)
-    ∙ ap (λ ns. map (λ n. param n Bit) (map (λ (s : State). s.name) states) ++ map (λ n. param n Word) (filter (is_word states) ns)) (sym (equation_names assigns))
+    ∙ ap (λ ns. map (λ n. param n Bit) (map (λ (s : State). s.name) states)
+    ++ map (λ n. param n Word) (filter (is_word states) ns)) (sym (equation_names assigns))
 
-pub block_lays : (result : List ℕ) (down : Bool) (states : List State) (lets assigns : List Assign) (old mid new : NameMap) → Lays result (states_defined states) old mid → Lays result (words_defined states assigns) mid new
-    → (known : List Param) → Lays result (defines known (Visit (record { down = down; states = states; lets = map equation lets; assigns = map equation assigns }))) old new
+pub block_lays : (result : List ℕ) (down : Bool) (states : List State) (lets assigns : List Assign)
+    (old mid new : NameMap) → Lays result (states_defined states) old mid
+    → Lays result (words_defined states assigns) mid new
+    → (known : List Param)
+    → Lays result (defines known (Visit (record {
+      down = down;
+      states = states;
+      lets = map equation lets;
+      assigns = map equation assigns;
+    }))) old new
 block_lays result down states lets assigns old mid new f g known =
-    subst (λ ps. Lays result ps old new) (block_defined known down states lets assigns) (lays_then result (states_defined states) (words_defined states assigns) old mid new f g)
+    subst (λ ps. Lays result ps old new) (block_defined known down states lets assigns)
+    (lays_then result (states_defined states) (words_defined states assigns) old mid new f g)

@@ -1,5 +1,6 @@
 -- The commands of a round are in range.
-use Rattle.std.proofs.Common.{◌≡◌, ℕ, ◌+◌, ◌*◌, ◌<◌, true, List, [], ◌∷◌, map, length, refl, arith, Option, Some, None}
+use Rattle.std.proofs.Common.{◌≡◌, ℕ, ◌+◌, ◌*◌, ◌<◌, true, List, [], ◌∷◌, map, length, refl, arith}
+use Rattle.std.proofs.Common.{Option, Some, None}
 use Rattle.std.specs.Prelude.{slice_get, ◌&&◌}
 use Rattle.std.specs.List.{AllByRecursion, list_all}
 use Rattle.std.proofs.lemmas.Bool.{and_parts, and_from, ltb-true, lt-ltb, eq-eqb}
@@ -28,36 +29,48 @@ below_kind (Some Word) n i h = lt-ltb i n h
 below_kind (Some Bit) n i h = eq-eqb i 0 (omega (arith, h))
 
 module _ (head : Shape) (n : ℕ) where
-  space_range : (s : Space) (w v : ℕ) → IsSpot head n (spot_in n s w v) → in_space head n (row_space s) w (position (row_space s) v) ≡ true
+  space_range : (s : Space) (w v : ℕ) → IsSpot head n (spot_in n s w v)
+      → in_space head n (row_space s) w (position (row_space s) v) ≡ true
   space_range Result w v h = below_kind (Some head.result) n v h.1
   space_range Source w v h = below_kind (slice_get head.sources w) n v h
   space_range ScratchBit w v h = refl
   space_range ScratchWord w v h = lt-ltb (w * n + v) (n * head.words) h.1
 
-  module _ (r : RoundOf Part) (is : IsRound (IsSpot head n) n (block_round r)) (part : IsPart r.part) where
-    ref_range : (x : BodyRef) → is_ref r.part.block.graph.inputs (length r.part.outs) x ≡ true → in_range head n (round_ref n r x) ≡ true
+  module _ (r : RoundOf Part) (is : IsRound (IsSpot head n) n (block_round r))
+      (part : IsPart r.part) where
+    ref_range : (x : BodyRef) → is_ref r.part.block.graph.inputs (length r.part.outs) x ≡ true
+        → in_range head n (round_ref n r x) ≡ true
     ref_range (ref.B k) h = refl
     ref_range (ref.C k) h = refl
     ref_range (ref.Spill k) h = refl
     ref_range (ref.In k) h =
         let lk : k < r.part.block.graph.inputs = ltb-true k r.part.block.graph.inputs h in
         let p = nth_place r.part.block.reads k in
-        space_range p.space p.which (sub_value n r.i r.o p.sub) (is.reads k (omega (arith, lk, part.well.reads)))
+        space_range p.space p.which (sub_value n r.i r.o p.sub)
+        (is.reads k (omega (arith, lk, part.well.reads)))
     ref_range (ref.Out k) h =
         let lk : k < length r.part.outs = ltb-true k (length r.part.outs) h in
         let p = nth_place r.part.block.writes k in
-        space_range p.space p.which (sub_value n r.i r.o p.sub) (is.writes k (omega (arith, lk, part.outs.size, part.well.writes)))
+        space_range p.space p.which (sub_value n r.i r.o p.sub)
+        (is.writes k (omega (arith, lk, part.outs.size, part.well.writes)))
 
-    command_range : (c : BodyCmd) → is_legal_cmd r.part.block.graph.inputs (length r.part.outs) c ≡ true → all_in_range head n (round_command n r c) ≡ true
+    command_range : (c : BodyCmd) → is_legal_cmd r.part.block.graph.inputs (length r.part.outs) c
+        ≡ true → all_in_range head n (round_command n r c) ≡ true
     command_range (cmd.Aap x y) h =
         let i = r.part.block.graph.inputs in
         let o = length r.part.outs in
         let a = and_parts (is_ref i o x && is_first_ref x) (is_ref i o y && is_second_ref y) h in
-        and_from (in_range head n (round_ref n r x)) (in_range head n (round_ref n r y)) (ref_range x (and_parts (is_ref i o x) (is_first_ref x) a.0).0) (ref_range y (and_parts (is_ref i o y) (is_second_ref y) a.1).0)
-    command_range (cmd.Ap x) h = let i = r.part.block.graph.inputs in let o = length r.part.outs in ref_range x (and_parts (is_ref i o x) (is_first_ref x) h).0
+        and_from (in_range head n (round_ref n r x)) (in_range head n (round_ref n r y))
+        (ref_range x (and_parts (is_ref i o x) (is_first_ref x) a.0).0)
+        (ref_range y (and_parts (is_ref i o y) (is_second_ref y) a.1).0)
+    command_range (cmd.Ap x) h = let i = r.part.block.graph.inputs in let o = length r.part.outs in
+        ref_range x (and_parts (is_ref i o x) (is_first_ref x) h).0
 
-    pub commands_range : (cs : List BodyCmd) → list_all (is_legal_cmd r.part.block.graph.inputs (length r.part.outs)) cs ≡ true → AllByRecursion (λ c. all_in_range head n c ≡ true) (map (round_command n r) cs)
+    pub commands_range : (cs : List BodyCmd)
+        → list_all (is_legal_cmd r.part.block.graph.inputs (length r.part.outs)) cs ≡ true
+        → AllByRecursion (λ c. all_in_range head n c ≡ true) (map (round_command n r) cs)
     commands_range [] h = tt
     commands_range (c ∷ cs) h =
-        let a = and_parts (is_legal_cmd r.part.block.graph.inputs (length r.part.outs) c) (list_all (is_legal_cmd r.part.block.graph.inputs (length r.part.outs)) cs) h in
+        let a = and_parts (is_legal_cmd r.part.block.graph.inputs (length r.part.outs) c)
+        (list_all (is_legal_cmd r.part.block.graph.inputs (length r.part.outs)) cs) h in
         (command_range c a.0, commands_range cs a.1)

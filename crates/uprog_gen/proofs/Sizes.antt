@@ -1,5 +1,6 @@
 -- How many instructions there are.
-use Rattle.std.proofs.Common.{◌≡◌, ℕ, ◌+◌, ◌*◌, ◌≤◌, Bool, true, false, cond, List, [], ◌∷◌, ◌++◌, map, length, refl, arith, length-append}
+use Rattle.std.proofs.Common.{◌≡◌, ℕ, ◌+◌, ◌*◌, ◌≤◌, Bool, true, false, cond, List, [], ◌∷◌, ◌++◌}
+use Rattle.std.proofs.Common.{map, length, refl, arith, length-append}
 use Rattle.std.specs.Prelude.{◌==◌, ◌&&◌, not, sum_by}
 use Rattle.std.proofs.lemmas.Bool.{and_parts, eqb-true}
 use Rattle.std.proofs.lemmas.List.{length-map}
@@ -8,15 +9,22 @@ use Rattle.mig_graph.specs.Literals.{is_turned}
 use Rattle.uprog_code.specs.declared.code.Uop.{Uop}
 use Rattle.uprog_code.specs.declared.code.Uop.TheVariants.{SubI, AddI, Bnez}
 use Rattle.loop_ir.specs.declared.ir.Sub.{Sub}
-use Rattle.loop_ir.specs.declared.ir.Sub.TheVariants.{Zero, Top, Inner as At_inner, InnerDown, Outer, OuterDown, Sum, DownSum, DownPlusN, NPlusInner}
+use Rattle.loop_ir.specs.declared.ir.Sub.TheVariants.{Zero, Top, Inner as At_inner, InnerDown}
+use Rattle.loop_ir.specs.declared.ir.Sub.TheVariants.{Outer, OuterDown, Sum, DownSum, DownPlusN}
+use Rattle.loop_ir.specs.declared.ir.Sub.TheVariants.{NPlusInner}
 use Rattle.loop_ir.specs.declared.ir.Count.{Count}
 use Rattle.loop_ir.specs.declared.ir.Count.TheVariants.{All as All_of, Rest}
-use Rattle.loop_ir.specs.Plain.{Block, InnerOf, StepOf, inner_map, step_map, AllInner, AllStep, AllParts}
+use Rattle.loop_ir.specs.Plain.{Block, InnerOf, StepOf, inner_map, step_map, AllInner, AllStep}
+use Rattle.loop_ir.specs.Plain.{AllParts}
 use Rattle.loop_ir.specs.Plain.InnerOf.{Alone, Across}
 use Rattle.loop_ir.specs.Plain.StepOf.{Single, Along, Nest}
 use Rattle.uprog_gen.specs.declared.plan.Plan.{Plan}
-use Rattle.uprog_gen.specs.Code.{Part, block_of_part, blocks, code_uop, init, before, after, inits, befores, afters, counter, body_uops, once_code, turn_code, enter_code, loop_code, inner_list, outside, step_code, program_code}
-use Rattle.loop_ir.specs.Costs.{is_fixed, is_copy, body_cost, turn_cost, inner_cost, step_cost, code_cost}
+use Rattle.uprog_gen.specs.Code.{Part, block_of_part, blocks, code_uop, init, before, after, inits}
+use Rattle.uprog_gen.specs.Code.{befores, afters, counter, body_uops, once_code, turn_code}
+use Rattle.uprog_gen.specs.Code.{enter_code, loop_code, inner_list, outside, step_code}
+use Rattle.uprog_gen.specs.Code.{program_code}
+use Rattle.loop_ir.specs.Costs.{is_fixed, is_copy, body_cost, turn_cost, inner_cost, step_cost}
+use Rattle.loop_ir.specs.Costs.{code_cost}
 use Rattle.uprog_gen.specs.Parts.{IsPart}
 use Rattle.mig_graph.specs.Outputs.{lit_at}
 
@@ -35,7 +43,8 @@ init_few NPlusInner r = omega arith
 three_length : (a b c : List Uop) → length (a ++ (b ++ c)) ≡ length a + length b + length c
 three_length a b c = omega (arith, length-append a (b ++ c), length-append b c)
 
-pub plan_few : (plan : Plan) → length (inits plan) + length (befores plan) + length (afters plan) ≤ 6
+pub plan_few : (plan : Plan) → length (inits plan) + length (befores plan) + length (afters plan)
+    ≤ 6
 plan_few plan =
     omega (
       arith,
@@ -52,26 +61,44 @@ counter_few All_of = omega arith
 counter_few Rest = omega arith
 
 pub enter_few : (plan : Plan) (count : Count) → length (enter_code plan count) ≤ 8
-enter_few plan count = omega (arith, length-append (counter count) (inits plan), counter_few count, plan_few plan)
+enter_few plan count = omega (
+  arith,
+  length-append (counter count) (inits plan),
+  counter_few count,
+  plan_few plan,
+)
 
 turn_body : (b : Block) → turn_cost b ≤ body_cost b
 turn_body b = by (is_copy b) refl
   where
     by : (c : Bool) → is_copy b ≡ c → cond c 1 (body_cost b) ≤ body_cost b
     by true e =
-        let h = and_parts (length b.graph.nodes == 0) ((length b.outs == 1) && not (is_turned (lit_at b.outs 0))) e in
+        let h = and_parts (length b.graph.nodes == 0) ((length b.outs == 1)
+        && not (is_turned (lit_at b.outs 0))) e in
         let g = and_parts (length b.outs == 1) (not (is_turned (lit_at b.outs 0))) h.1 in
         let l : length b.outs ≡ 1 = eqb-true (length b.outs) 1 g.0 in
         omega (arith, l)
     by false e = omega arith
 
 body_few : (p : Part) → IsPart p → length (body_uops p) ≤ body_cost p.block
-body_few p is = omega (arith, length-map p.cmds (code_uop p.plan p.block), is.few, turn_body p.block)
+body_few p is = omega (
+  arith,
+  length-map p.cmds (code_uop p.plan p.block),
+  is.few,
+  turn_body p.block,
+)
 
 pub once_few : (p : Part) → IsPart p → length (once_code p) ≤ body_cost p.block + 6
-once_few p is = omega (arith, length-append (inits p.plan) (befores p.plan ++ body_uops p), length-append (befores p.plan) (body_uops p), plan_few p.plan, body_few p is)
+once_few p is = omega (
+  arith,
+  length-append (inits p.plan) (befores p.plan ++ body_uops p),
+  length-append (befores p.plan) (body_uops p),
+  plan_few p.plan,
+  body_few p is,
+)
 
-pub loop_few : (count : Count) (p : Part) (pc : ℕ) → IsPart p → length (loop_code count p pc) ≤ body_cost p.block + 10
+pub loop_few : (count : Count) (p : Part) (pc : ℕ) → IsPart p
+    → length (loop_code count p pc) ≤ body_cost p.block + 10
 loop_few count p pc is =
     let jump = Bnez 2 (pc + length (enter_code p.plan count)) ∷ [] in
     omega (
@@ -87,28 +114,58 @@ loop_few count p pc is =
       body_few p is,
     )
 
-pub inner_few : (xs : List (InnerOf Part)) (pc : ℕ) → AllInner IsPart xs → length (inner_list xs pc) + 5 * length xs ≤ sum_by inner_cost (map (inner_map block_of_part) xs)
+pub inner_few : (xs : List (InnerOf Part)) (pc : ℕ) → AllInner IsPart xs
+    → length (inner_list xs pc) + 5 * length xs
+    ≤ sum_by inner_cost (map (inner_map block_of_part) xs)
 inner_few [] pc h = omega arith
 inner_few (Alone p ∷ xs) pc h =
-    omega (arith, length-append (once_code p) (inner_list xs (pc + length (once_code p))), once_few p h.0, inner_few xs (pc + length (once_code p)) h.1, sum_by-cons inner_cost (Alone p.block) (map (inner_map block_of_part) xs))
+    omega (
+      arith,
+      length-append (once_code p) (inner_list xs (pc + length (once_code p))),
+      once_few p h.0,
+      inner_few xs (pc + length (once_code p)) h.1,
+      sum_by-cons inner_cost (Alone p.block) (map (inner_map block_of_part) xs),
+    )
 inner_few (Across count p ∷ xs) pc h =
     let a = loop_code count p pc in
-    omega (arith, length-append a (inner_list xs (pc + length a)), loop_few count p pc h.0, inner_few xs (pc + length a) h.1, sum_by-cons inner_cost (Across count p.block) (map (inner_map block_of_part) xs))
+    omega (
+      arith,
+      length-append a (inner_list xs (pc + length a)),
+      loop_few count p pc h.0,
+      inner_few xs (pc + length a) h.1,
+      sum_by-cons inner_cost (Across count p.block)
+          (map (inner_map block_of_part) xs),
+    )
 
-single_few : (p : Part) → IsPart p → (fixed : Bool) → length (cond fixed (body_uops p) (outside ++ once_code p)) ≤ body_cost p.block + cond fixed 0 15
+single_few : (p : Part) → IsPart p → (fixed : Bool)
+    → length (cond fixed (body_uops p) (outside ++ once_code p))
+    ≤ body_cost p.block + cond fixed 0 15
 single_few p is true = omega (arith, body_few p is)
 single_few p is false = omega (arith, once_few p is)
 
-pub step_few : (s : StepOf Part) (pc : ℕ) → AllStep IsPart s → length (step_code s pc) ≤ step_cost (step_map block_of_part s)
+pub step_few : (s : StepOf Part) (pc : ℕ) → AllStep IsPart s
+    → length (step_code s pc) ≤ step_cost (step_map block_of_part s)
 step_few (Single p) pc h = single_few p h (is_fixed p.block)
 step_few (Along p) pc h = omega (arith, loop_few All_of p (pc + 1 + 1) h)
 step_few (Nest []) pc h = omega arith
 step_few (Nest (x ∷ xs)) pc h =
     let q = pc + 1 + 1 + 1 in
-    omega (arith, length-append (inner_list (x ∷ xs) q) (AddI 0 1 ∷ Bnez 1 (pc + 1 + 1) ∷ []), inner_few (x ∷ xs) q h)
+    omega (
+      arith,
+      length-append (inner_list (x ∷ xs) q) (AddI 0 1 ∷ Bnez 1 (pc + 1 + 1) ∷ []),
+      inner_few (x ∷ xs) q h,
+    )
 
-pub program_few : (ss : List (StepOf Part)) (pc : ℕ) → AllParts IsPart ss → length (program_code ss pc) ≤ code_cost (blocks ss)
+pub program_few : (ss : List (StepOf Part)) (pc : ℕ) → AllParts IsPart ss
+    → length (program_code ss pc) ≤ code_cost (blocks ss)
 program_few [] pc h = omega arith
 program_few (s ∷ ss) pc h =
     let a = step_code s pc in
-    omega (arith, length-append a (program_code ss (pc + length a)), step_few s pc h.0, program_few ss (pc + length a) h.1, sum_by-cons step_cost (step_map block_of_part s) (blocks ss))
+    omega (
+      arith,
+      length-append a (program_code ss (pc + length a)),
+      step_few s pc h.0,
+      program_few ss (pc + length a) h.1,
+      sum_by-cons step_cost (step_map block_of_part s)
+          (blocks ss),
+    )

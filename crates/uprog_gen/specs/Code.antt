@@ -1,10 +1,12 @@
 -- The code of a loop program, each of whose bodies has its commands.
-use Rattle.std.specs.Prelude.{◌≡◌, ℕ, ◌+◌, ◌||◌, Bool, true, if◌then◌else◌, List, [], ◌∷◌, ◌++◌, map, length, filter, slice_index_or}
+use Rattle.std.specs.Prelude.{◌≡◌, ℕ, ◌+◌, ◌||◌, Bool, true, if◌then◌else◌, List, [], ◌∷◌, ◌++◌}
+use Rattle.std.specs.Prelude.{map, length, filter, slice_index_or}
 use Rattle.uprog_code.specs.declared.code.RowSpace.{RowSpace}
 use Rattle.uprog_code.specs.declared.code.RowSpace.TheVariants as row
 use Rattle.uprog_code.specs.declared.code.RowRef.{RowRef}
 use Rattle.uprog_code.specs.declared.code.Uop.{Uop}
-use Rattle.uprog_code.specs.declared.code.Uop.TheVariants.{SetI, SetN, SetT, Mov, Add, SubI, AddI, Bnez, Aap, Ap}
+use Rattle.uprog_code.specs.declared.code.Uop.TheVariants.{SetI, SetN, SetT, Mov, Add, SubI, AddI}
+use Rattle.uprog_code.specs.declared.code.Uop.TheVariants.{Bnez, Aap, Ap}
 use Rattle.uprog_code.specs.Machine.{Issue, Twice, Once, position}
 use Rattle.row_alloc.specs.declared.body.BodyRef.{BodyRef}
 use Rattle.row_alloc.specs.declared.body.BodyRef.TheVariants as ref
@@ -12,7 +14,9 @@ use Rattle.row_alloc.specs.declared.body.BodyCmd.{BodyCmd}
 use Rattle.row_alloc.specs.declared.body.BodyCmd.TheVariants as cmd
 use Rattle.row_alloc.specs.declared.body.OutRow.{OutRow}
 use Rattle.loop_ir.specs.declared.ir.Sub.{Sub}
-use Rattle.loop_ir.specs.declared.ir.Sub.TheVariants.{Zero, Top, Inner as At_inner, InnerDown, Outer, OuterDown, Sum, DownSum, DownPlusN, NPlusInner}
+use Rattle.loop_ir.specs.declared.ir.Sub.TheVariants.{Zero, Top, Inner as At_inner, InnerDown}
+use Rattle.loop_ir.specs.declared.ir.Sub.TheVariants.{Outer, OuterDown, Sum, DownSum, DownPlusN}
+use Rattle.loop_ir.specs.declared.ir.Sub.TheVariants.{NPlusInner}
 use Rattle.loop_ir.specs.declared.ir.Space.{Space}
 use Rattle.loop_ir.specs.declared.ir.Space.TheVariants.{Result, Source, ScratchBit, ScratchWord}
 use Rattle.loop_ir.specs.declared.ir.Place.{Place}
@@ -26,7 +30,8 @@ use Rattle.loop_ir.specs.Loops.{RoundOf, sub_value}
 use Rattle.loop_ir.specs.Spots.{nth_place}
 use Rattle.loop_ir.specs.Costs.{same_sub, is_used, is_fixed}
 
--- a body, which subscripts its registers hold, its outputs with the inputs whose rows they share, and its commands
+-- a body, which subscripts its registers hold, its outputs with the inputs whose rows they share,
+-- and its commands
 pub record Part : Type 0 where
   pub block : Block
   pub plan : Plan
@@ -41,7 +46,11 @@ row_space ScratchWord = row.ScratchWord
 
 -- a place's row, in a command of the trace
 abbrev pub place_row : ℕ → ℕ → ℕ → Place → RowRef
-place_row n i o p = record { space = row_space p.space; which = p.which; index = position (row_space p.space) (sub_value n i o p.sub) }
+place_row n i o p = record {
+  space = row_space p.space;
+  which = p.which;
+  index = position (row_space p.space) (sub_value n i o p.sub);
+}
 
 -- a body's row in a round, in a command of the trace
 abbrev pub round_ref : ℕ → RoundOf Part → BodyRef → RowRef
@@ -60,7 +69,8 @@ abbrev pub rounds_commands : ℕ → List (RoundOf Part) → List Issue
 rounds_commands n [] = []
 rounds_commands n (r ∷ rs) = map (round_command n r) r.part.cmds ++ rounds_commands n rs
 
--- Registers 0 and 1 hold o and n - 1 - o, and 2 counts an inner loop down. The other subscripts that a body uses have registers 3 to 5
+-- Registers 0 and 1 hold o and n - 1 - o, and 2 counts an inner loop down. The other subscripts
+-- that a body uses have registers 3 to 5
 abbrev pub loop_subs : List Sub
 loop_subs = Top ∷ At_inner ∷ InnerDown ∷ Sum ∷ DownSum ∷ DownPlusN ∷ NPlusInner ∷ []
 
@@ -72,7 +82,11 @@ abbrev pub sub_in : List Sub → ℕ → Sub
 sub_in subs k = slice_index_or subs k Zero
 
 abbrev pub plan_of : Block → Plan
-plan_of b = record { first = sub_in (own_subs b) 0; second = sub_in (own_subs b) 1; third = sub_in (own_subs b) 2 }
+plan_of b = record {
+  first = sub_in (own_subs b) 0;
+  second = sub_in (own_subs b) 1;
+  third = sub_in (own_subs b) 2;
+}
 
 -- the register of a subscript; 8 stands for the number 0
 abbrev pub register : Plan → Sub → ℕ
@@ -87,7 +101,9 @@ register plan s =
 
 -- the plan has the subscript, or it needs no register of the body's own
 abbrev pub is_planned : Plan → Sub → Bool
-is_planned plan s = same_sub s Zero || (same_sub s Outer || (same_sub s OuterDown || (same_sub s plan.first || (same_sub s plan.second || same_sub s plan.third))))
+is_planned plan s = same_sub s Zero || (same_sub s Outer
+    || (same_sub s OuterDown || (same_sub s plan.first
+    || (same_sub s plan.second || same_sub s plan.third))))
 
 -- each place of the body is at 0 or has a register
 pub record IsPlanned (plan : Plan) (b : Block) : Type 0 where
@@ -102,7 +118,11 @@ index_in ScratchBit r = 0
 index_in ScratchWord r = r
 
 abbrev pub place_ref : Plan → Place → RowRef
-place_ref plan p = record { space = row_space p.space; which = p.which; index = index_in p.space (register plan p.sub) }
+place_ref plan p = record {
+  space = row_space p.space;
+  which = p.which;
+  index = index_in p.space (register plan p.sub);
+}
 
 -- a body's row in the code
 abbrev pub code_ref : Plan → Block → BodyRef → RowRef
@@ -182,7 +202,8 @@ enter_code plan count = counter count ++ inits plan
 
 -- an inner loop, whose first instruction has this place
 abbrev pub loop_code : Count → Part → ℕ → List Uop
-loop_code count p pc = enter_code p.plan count ++ (turn_code p.plan (body_uops p) ++ (Bnez 2 (pc + length (enter_code p.plan count)) ∷ []))
+loop_code count p pc = enter_code p.plan count
+    ++ (turn_code p.plan (body_uops p) ++ (Bnez 2 (pc + length (enter_code p.plan count)) ∷ []))
 
 abbrev pub inner_code : InnerOf Part → ℕ → List Uop
 inner_code (Alone p) pc = once_code p
@@ -194,7 +215,8 @@ inner_list (x ∷ xs) pc = inner_code x pc ++ inner_list xs (pc + length (inner_
 
 -- an outer loop
 abbrev pub nest_code : (ℕ → List Uop) → ℕ → List Uop
-nest_code inner pc = SetI 0 0 ∷ SetN 1 ∷ SubI 1 1 ∷ (inner (pc + 1 + 1 + 1) ++ (AddI 0 1 ∷ Bnez 1 (pc + 1 + 1) ∷ []))
+nest_code inner pc = SetI 0 0 ∷ SetN 1 ∷ SubI 1 1
+    ∷ (inner (pc + 1 + 1 + 1) ++ (AddI 0 1 ∷ Bnez 1 (pc + 1 + 1) ∷ []))
 
 -- a body that stands in no nest: o is 0
 abbrev pub outside : List Uop

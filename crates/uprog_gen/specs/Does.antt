@@ -19,12 +19,18 @@ use Rattle.loop_ir.specs.Spots.{Spots, after_rounds}
 use Rattle.loop_ir.specs.Costs.{rounds_cost}
 use Rattle.uprog_gen.specs.Where.{spots_in, Agree}
 
--- The code ends, takes no more commands than its rounds may, leaves the bits of the named rows as the rounds do, and no other row changes but the spill rows
-pub record DoesRounds (head : Shape) (n : ℕ) (steps : List (StepOf Block)) (code : List Uop) : Type 0 where
+-- The code ends, takes no more commands than its rounds may, leaves the bits of the named rows as
+-- the rounds do, and no other row changes but the spill rows
+pub record DoesRounds (head : Shape) (n : ℕ) (steps : List (StepOf Block)) (code : List Uop) : Type
+    0 where
   pub ends : HasEnded (trace head code n)
   pub few : length (issues_of (trace head code n)) ≤ rounds_cost (all_rounds n steps)
-  pub agrees : (rows : ℕ) (b : Bound) (s : Column) → Fits rows head n b → Agree head n b (after_rounds n (all_rounds n steps) (spots_in head n b s)) (run (bound rows head n b (issues_of (trace head code n))) s)
-  pub keeps : (rows : ℕ) (b : Bound) (s : Column) → Fits rows head n b → (q : ℕ) → (IsTouched rows head n b q → ⊥) → run (bound rows head n b (issues_of (trace head code n))) s (D q) ≡ s (D q)
+  pub agrees : (rows : ℕ) (b : Bound) (s : Column) → Fits rows head n b
+      → Agree head n b (after_rounds n (all_rounds n steps) (spots_in head n b s))
+      (run (bound rows head n b (issues_of (trace head code n))) s)
+  pub keeps : (rows : ℕ) (b : Bound) (s : Column) → Fits rows head n b → (q : ℕ)
+      → (IsTouched rows head n b q → ⊥) → run (bound rows head n b (issues_of (trace head code n)))
+      s (D q) ≡ s (D q)
 
 -- the loop programs of several statements, one after another
 abbrev pub joined : List (List (StepOf Block)) → List (StepOf Block)
@@ -38,12 +44,15 @@ after_statements n (p ∷ ps) bits = after_statements n ps (after_rounds n (all_
 
 -- the number that the named rows from 0 on spell, the lowest bit first
 abbrev pub spot_number : Space → ℕ → ℕ → Spots → ℕ
-spot_number space which size bits = value (map (λ i. bits (record { space = space; which = which; index = i })) (range_with_len 0 size))
+spot_number space which size bits =
+    value (map (λ i. bits (record { space = space; which = which; index = i }))
+    (range_with_len 0 size))
 
 -- the numbers of the sources from this one on
 abbrev pub source_numbers : ℕ → List Kind → ℕ → Spots → List ℕ
 source_numbers n [] which bits = []
-source_numbers n (k ∷ ks) which bits = spot_number Source which (width k n) bits ∷ source_numbers n ks (which + 1) bits
+source_numbers n (k ∷ ks) which bits = spot_number Source which (width k n) bits
+    ∷ source_numbers n ks (which + 1) bits
 
 -- each statement's rounds at n take at most its ceiling
 abbrev pub AreCheap : ℕ → List (List (StepOf Block)) → List (ℕ → ℕ) → Type 0
@@ -56,7 +65,11 @@ AreCheap n (p ∷ ps) (c ∷ cs) = (rounds_cost (all_rounds n p) ≤ c n) × Are
 abbrev pub total : List (ℕ → ℕ) → ℕ → ℕ
 total ceilings n = sum_by (λ c. c n) ceilings
 
--- the statements' loop programs, one after another, give the operation's result, within their ceilings
-pub record Means (head : Shape) (statements : List (List (StepOf Block))) (ceilings : List (ℕ → ℕ)) (meaning : ℕ → List ℕ → ℕ) : Type 0 where
-  pub gives : (n : ℕ) → 0 < n → n ≤ WIDTH_MAX → (bits : Spots) → spot_number Result 0 (width head.result n) (after_statements n statements bits) ≡ meaning n (source_numbers n head.sources 0 bits)
+-- the statements' loop programs, one after another, give the operation's result, within their
+-- ceilings
+pub record Means (head : Shape) (statements : List (List (StepOf Block))) (ceilings : List (ℕ
+    → ℕ)) (meaning : ℕ → List ℕ → ℕ) : Type 0 where
+  pub gives : (n : ℕ) → 0 < n → n ≤ WIDTH_MAX → (bits : Spots)
+      → spot_number Result 0 (width head.result n) (after_statements n statements bits)
+      ≡ meaning n (source_numbers n head.sources 0 bits)
   pub cheap : (n : ℕ) → 0 < n → n ≤ WIDTH_MAX → AreCheap n statements ceilings

@@ -1,5 +1,6 @@
 -- The graphs of an operation's serial blocks, and what they say of the number of commands.
-use Rattle.std.specs.Prelude.{◌≡◌, ℕ, ◌+◌, ◌*◌, ◌<◌, ◌≤◌, Bool, List, [], ◌∷◌, ◌++◌, length, Some, slice_get}
+use Rattle.std.specs.Prelude.{◌≡◌, ℕ, ◌+◌, ◌*◌, ◌<◌, ◌≤◌, Bool, List, [], ◌∷◌, ◌++◌, length, Some}
+use Rattle.std.specs.Prelude.{slice_get}
 use Rattle.bit_rows.specs.declared.TheConstants.{WIDTH_MAX}
 use Rattle.op_text.specs.declared.tree.Param.{Param}
 use Rattle.op_text.specs.Language.{Equation, Block, Statement, Compute, Visit, Operation}
@@ -24,13 +25,16 @@ pub record Graphed : Type 0 where
 abbrev pub graphed_of : MigOuts → Graphed
 graphed_of g = record { graph = g.mig; outs = g.outs.items }
 
--- The graph of a serial block. For all values of the names, where each input has its name's value, output j has the value
+-- The graph of a serial block. For all values of the names, where each input has its name's value,
+-- output j has the value
 -- of assignment j. It has no more nodes than the block has weight, and no rule makes it smaller
 pub record IsGraphOf (b : Block) (g : Graphed) : Type 0 where
   pub as_many : length g.outs ≡ length b.assigns
   pub inputs : g.graph.inputs ≤ length (block_inputs b)
-  pub values : (env : List ℕ → Bool) (v : ℕ → Bool) → ((k : ℕ) → k < length (block_inputs b) → v k ≡ env (name_at (block_inputs b) k))
-      → (j : ℕ) (e : Equation) → slice_get b.assigns j ≡ Some e → value g.graph v (lit_at g.outs j) ≡ term_bit (with_lets env b.lets) e.value
+  pub values : (env : List ℕ → Bool) (v : ℕ → Bool)
+      → ((k : ℕ) → k < length (block_inputs b) → v k ≡ env (name_at (block_inputs b) k))
+      → (j : ℕ) (e : Equation) → slice_get b.assigns j ≡ Some e
+      → value g.graph v (lit_at g.outs j) ≡ term_bit (with_lets env b.lets) e.value
   pub nodes : length g.graph.nodes ≤ block_weight b
   pub graph : IsGraph g.graph.inputs g.graph.nodes
   pub named : AreNamed g.graph g.outs
@@ -44,19 +48,26 @@ AreGraphsOf (Compute target p args ∷ body) gs = AreGraphsOf body gs
 AreGraphsOf (Visit b ∷ body) [] = ⊥
 AreGraphsOf (Visit b ∷ body) (g ∷ gs) = IsGraphOf b g × AreGraphsOf body gs
 
--- The greatest number of commands at width n, where these names are known and the serial blocks have these graphs: a round
--- of a block takes four for a node of its graph and three for an assignment, and each state's start takes one
+-- The greatest number of commands at width n, where these names are known and the serial blocks
+-- have these graphs: a round
+-- of a block takes four for a node of its graph and three for an assignment, and each state's start
+-- takes one
 abbrev pub graphed_ceiling : List Param → ℕ → List Statement → List Graphed → ℕ
 graphed_ceiling known n [] gs = 0
-graphed_ceiling known n (Compute target p args ∷ body) gs = op_ceiling p (names_width known n args) + graphed_ceiling (known ++ defines known (Compute target p args)) n body gs
+graphed_ceiling known n (Compute target p args ∷ body) gs =
+    op_ceiling p (names_width known n args) + graphed_ceiling (known
+    ++ defines known (Compute target p args)) n body gs
 graphed_ceiling known n (Visit b ∷ body) [] = 0
 graphed_ceiling known n (Visit b ∷ body) (g ∷ gs) =
-    n * (4 * length g.graph.nodes + 3 * length b.assigns) + length b.states + graphed_ceiling (known ++ defines known (Visit b)) n body gs
+    n * (4 * length g.graph.nodes + 3 * length b.assigns) + length b.states
+    + graphed_ceiling (known ++ defines known (Visit b)) n body gs
 
--- the graphs are those of the operation's blocks, and its entry takes no more commands than they say
+-- the graphs are those of the operation's blocks, and its entry takes no more commands than they
+-- say
 pub record IsGraphed (e : Microprogram) (op : Operation) (gs : List Graphed) : Type 0 where
   pub graphs : AreGraphsOf op.body gs
-  pub few : (n : ℕ) → 0 < n → n ≤ WIDTH_MAX → length (issues_of (trace e.shape e.code n)) ≤ graphed_ceiling op.params n op.body gs
+  pub few : (n : ℕ) → 0 < n → n ≤ WIDTH_MAX → length (issues_of (trace e.shape e.code n))
+      ≤ graphed_ceiling op.params n op.body gs
 
 -- behind the graphs before stand the operation's
 abbrev pub AddsGraphs : Microprogram → Operation → List Graphed → List Graphed → Type 0
@@ -68,7 +79,8 @@ AreGraphed [] [] [] = Unit {0}
 AreGraphed [] [] (g ∷ gs) = ⊥
 AreGraphed [] (op ∷ ops) gs = ⊥
 AreGraphed (e ∷ es) [] gs = ⊥
-AreGraphed (e ∷ es) (op ∷ ops) gs = (own : List Graphed) × (rest : List Graphed) × (gs ≡ own ++ rest) × IsGraphed e op own × AreGraphed es ops rest
+AreGraphed (e ∷ es) (op ∷ ops) gs = (own : List Graphed) × (rest : List Graphed)
+    × (gs ≡ own ++ rest) × IsGraphed e op own × AreGraphed es ops rest
 
 -- the graph that a loop program does last at each position, if it does one
 abbrev pub step_graph : StepOf Body → List Graphed

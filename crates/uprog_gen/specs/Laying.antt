@@ -1,5 +1,6 @@
 -- How the names of an operation come to their places, one after another.
-use Rattle.std.specs.Prelude.{take, ◌≡◌, ℕ, ◌+◌, ◌≤◌, List, [], ◌∷◌, ◌++◌, length, map, filter, not, Option, Some, None, count_by}
+use Rattle.std.specs.Prelude.{take, ◌≡◌, ℕ, ◌+◌, ◌≤◌, List, [], ◌∷◌, ◌++◌, length, map, filter, not}
+use Rattle.std.specs.Prelude.{Option, Some, None, count_by}
 use Rattle.op_text.specs.declared.tree.Kind.{Kind}
 use Rattle.op_text.specs.declared.tree.Kind.TheVariants.{Word, Bit}
 use Rattle.op_text.specs.declared.tree.Param.{Param}
@@ -21,7 +22,8 @@ placed slots (l ∷ ls) = placed (changed slots l.name (Some l.slot)) ls
 
 -- these names have come to the next places
 pub record Lays (result : List ℕ) (ps : List Param) (old new : NameMap) : Type 0 where
-  pub at : (name : List ℕ) → slots_of new name ≡ placed (slots_of old) (defined_lays result old.free_bit old.free_word ps) name
+  pub at : (name : List ℕ) → slots_of new name
+      ≡ placed (slots_of old) (defined_lays result old.free_bit old.free_word ps) name
   pub bits : new.free_bit ≡ old.free_bit + count_by (is_scratch result Bit) ps
   pub words : new.free_word ≡ old.free_word + count_by (is_scratch result Word) ps
 
@@ -44,7 +46,9 @@ abbrev pub states_defined : List State → List Param
 states_defined states = map (λ (s : State). param s.name Bit) states
 
 abbrev pub words_defined : List State → List Assign → List Param
-words_defined states assigns = map (λ n. param n Word) (filter (λ n. not (is_among (map (λ (s : State). s.name) states) n)) (map (λ (a : Assign). a.name) assigns))
+words_defined states assigns = map (λ n. param n Word)
+    (filter (λ n. not (is_among (map (λ (s : State). s.name) states) n))
+    (map (λ (a : Assign). a.name) assigns))
 
 -- a statement that defines no more names than an operation's statement may
 abbrev pub IsShort : Statement → Type 0
@@ -53,6 +57,9 @@ IsShort (Visit b) = (length b.states ≤ MAX_STATES) × (length b.assigns ≤ MA
 
 -- the names of the first k statements have come to their places, and those of the sources
 pub record IsLaidTo (op : Operation) (k : ℕ) (m : NameMap) : Type 0 where
-  pub at : (name : List ℕ) → slots_of m name ≡ placed (λ n. None) (source_lays 0 op.params ++ defined_lays op.result.name 0 0 (body_defines op.params (take k op.body))) name
-  pub bits : m.free_bit ≡ count_by (is_scratch op.result.name Bit) (body_defines op.params (take k op.body))
-  pub words : m.free_word ≡ count_by (is_scratch op.result.name Word) (body_defines op.params (take k op.body))
+  pub at : (name : List ℕ) → slots_of m name ≡ placed (λ n. None) (source_lays 0 op.params
+      ++ defined_lays op.result.name 0 0 (body_defines op.params (take k op.body))) name
+  pub bits : m.free_bit ≡ count_by (is_scratch op.result.name Bit)
+      (body_defines op.params (take k op.body))
+  pub words : m.free_word ≡ count_by (is_scratch op.result.name Word)
+      (body_defines op.params (take k op.body))

@@ -1,5 +1,6 @@
 -- Where the names of an operation lie.
-use Rattle.std.specs.Prelude.{◌≡◌, ℕ, ◌+◌, Bool, not, ◌&&◌, if◌then◌else◌, List, [], ◌∷◌, ◌++◌, Option, Some, None, bytes_eq}
+use Rattle.std.specs.Prelude.{◌≡◌, ℕ, ◌+◌, Bool, not, ◌&&◌, if◌then◌else◌, List, [], ◌∷◌, ◌++◌}
+use Rattle.std.specs.Prelude.{Option, Some, None, bytes_eq}
 use Rattle.op_text.specs.declared.tree.Kind.{Kind}
 use Rattle.op_text.specs.declared.tree.Kind.TheVariants.{Word, Bit}
 use Rattle.op_text.specs.declared.tree.Param.{Param}
@@ -23,7 +24,8 @@ slot s w k = record { space = s; which = w; kind = k }
 -- the sources from this one on
 abbrev pub source_lays : ℕ → List Param → List Lay
 source_lays k [] = []
-source_lays k (p ∷ ps) = record { name = p.name; slot = slot Source k p.kind } ∷ source_lays (k + 1) ps
+source_lays k (p ∷ ps) = record { name = p.name; slot = slot Source k p.kind }
+    ∷ source_lays (k + 1) ps
 
 -- a name of this kind that stands in scratch
 abbrev pub is_scratch : List ℕ → Kind → Param → Bool
@@ -35,18 +37,22 @@ scratch_slot b w Word = slot ScratchWord w Word
 
 -- the place of a name that the body defines, where so many bits and words of scratch have names
 abbrev pub own_slot : List ℕ → ℕ → ℕ → Param → Slot
-own_slot result b w p = if bytes_eq p.name result then slot Result 0 p.kind else scratch_slot b w p.kind
+own_slot result b w p = if bytes_eq p.name result then slot Result 0 p.kind
+    else scratch_slot b w p.kind
 
 -- the names of a body, where so many bits and words of scratch have names before them
 abbrev pub defined_lays : List ℕ → ℕ → ℕ → List Param → List Lay
 defined_lays result b w [] = []
 defined_lays result b w (p ∷ ps) =
     record { name = p.name; slot = own_slot result b w p }
-    ∷ defined_lays result (if is_scratch result Bit p then b + 1 else b) (if is_scratch result Word p then w + 1 else w) ps
+    ∷ defined_lays result (if is_scratch result Bit p then b + 1
+    else b) (if is_scratch result Word p then w + 1 else w) ps
 
--- the parameters are the sources, the result stands in its own rows, and each other name takes the next bit or word of scratch
+-- the parameters are the sources, the result stands in its own rows, and each other name takes the
+-- next bit or word of scratch
 abbrev pub lays : Operation → List Lay
-lays op = source_lays 0 op.params ++ defined_lays op.result.name 0 0 (body_defines op.params op.body)
+lays op = source_lays 0 op.params ++ defined_lays op.result.name 0 0
+    (body_defines op.params op.body)
 
 abbrev pub found : List Lay → List ℕ → Option Slot
 found [] name = None

@@ -1,4 +1,5 @@
--- From operations to microprograms: the code of loop programs, what it does, and where the names of an operation lie.
+-- From operations to microprograms: the code of loop programs, what it does, and where the names of
+-- an operation lie.
 pub mod Where
 pub mod Code
 pub mod Rounds

@@ -9,7 +9,12 @@ use Rattle.uprog_gen.specs.declared.part.Made.{Made}
 use Rattle.uprog_gen.specs.Code.{Part}
 
 abbrev pub part_of : Block → Made → Part
-part_of b made = record { block = b; plan = made.plan; outs = made.outs.items; cmds = made.cmds.items }
+part_of b made = record {
+  block = b;
+  plan = made.plan;
+  outs = made.outs.items;
+  cmds = made.cmds.items;
+}
 
 -- the body has this row
 abbrev pub is_ref_of : Block → BodyRef → Bool

@@ -11,12 +11,15 @@ use Rattle.loop_ir.specs.WellFormed.{IsWellFormed}
 use Rattle.loop_ir.specs.Costs.{turn_cost}
 use Rattle.uprog_gen.specs.Code.{Part, IsPlanned}
 
--- the first m outputs: each has its literal, and names an input that is read at the place of its write, if there is one
+-- the first m outputs: each has its literal, and names an input that is read at the place of its
+-- write, if there is one
 pub record IsOuts (b : Block) (m : ℕ) (outs : List OutRow) : Type 0 where
   pub size : length outs ≡ m
   pub lits : (j : ℕ) → j < length outs → (out_at outs j).lit ≡ lit_at b.outs j
-  pub found : (j k : ℕ) → j < length outs → (out_at outs j).same ≡ Some k → (k < b.graph.inputs) × (nth_place b.reads k ≡ nth_place b.writes j)
-  pub none : (j : ℕ) → j < length outs → (out_at outs j).same ≡ None → (k : ℕ) → k < b.graph.inputs → nth_place b.reads k ≢ nth_place b.writes j
+  pub found : (j k : ℕ) → j < length outs → (out_at outs j).same ≡ Some k → (k < b.graph.inputs)
+      × (nth_place b.reads k ≡ nth_place b.writes j)
+  pub none : (j : ℕ) → j < length outs → (out_at outs j).same ≡ None → (k : ℕ) → k < b.graph.inputs
+      → nth_place b.reads k ≢ nth_place b.writes j
 
 -- a part whose commands do its body
 pub record IsPart (p : Part) : Type 0 where

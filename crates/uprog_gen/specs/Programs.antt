@@ -16,7 +16,8 @@ abbrev pub AreLowered : Slots → ℕ → ℕ → List Statement → List (List 
 AreLowered slots free_bit free_word [] [] = Unit {0}
 AreLowered slots free_bit free_word [] (p ∷ ps) = ⊥
 AreLowered slots free_bit free_word (s ∷ body) [] = ⊥
-AreLowered slots free_bit free_word (s ∷ body) (p ∷ ps) = IsLowered slots free_bit free_word s p × AreLowered slots free_bit free_word body ps
+AreLowered slots free_bit free_word (s ∷ body) (p ∷ ps) = IsLowered slots free_bit free_word s p
+    × AreLowered slots free_bit free_word body ps
 
 -- and that of a block is its states' starts and its graph at each position
 abbrev pub HaveForms : Slots → List Statement → List (List (StepOf Block)) → Type 0
@@ -28,9 +29,11 @@ HaveForms slots (s ∷ body) (p ∷ ps) = HasForm slots s p × HaveForms slots b
 -- the ceiling of each statement, where these names are known
 abbrev pub ceilings : List Param → List Statement → List (ℕ → ℕ)
 ceilings known [] = []
-ceilings known (s ∷ body) = (λ n. statement_ceiling op_ceiling known n s) ∷ ceilings (known ++ defines known s) body
+ceilings known (s ∷ body) = (λ n. statement_ceiling op_ceiling known n s)
+    ∷ ceilings (known ++ defines known s) body
 
--- An operation's entry: it does the operation, its code is legal, and it has at most 256 instructions for each statement, and DONE
+-- An operation's entry: it does the operation, its code is legal, and it has at most 256
+-- instructions for each statement, and DONE
 pub record IsCompiled (e : Microprogram) (op : Operation) : Type 0 where
   pub does : EntryDoes e (text_op op)
   pub legal : IsLegalCode e.shape e.code

@@ -9,9 +9,11 @@ use Rattle.loop_ir.specs.Spots.{Spot, nth_spot, IsOwn}
 use Rattle.uprog_gen.specs.Where.{spot_row, IsSpot}
 use Rattle.uprog_gen.specs.Code.{Part}
 
--- how the operation's rows lie in a bank: none that it may write shares its row with another, and all lie below the spill group
+-- how the operation's rows lie in a bank: none that it may write shares its row with another, and
+-- all lie below the spill group
 pub record IsLaid (rows : ℕ) (head : Shape) (n : ℕ) (b : Bound) : Type 0 where
-  pub own : (p q : Spot) → IsSpot head n p → IsSpot head n q → IsOwn p.space → spot_row head n b p ≡ spot_row head n b q → p ≡ q
+  pub own : (p q : Spot) → IsSpot head n p → IsSpot head n q → IsOwn p.space
+      → spot_row head n b p ≡ spot_row head n b q → p ≡ q
   pub low : (p : Spot) → IsSpot head n p → spot_row head n b p < rows - 32
 
 -- the data rows of a round's body, in a bank of so many data rows

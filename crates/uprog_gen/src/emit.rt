@@ -1,9 +1,12 @@
 //! Instructions, one after another.
 
-ghost use Rattle.std.specs.Prelude.{◌≡◌, ◌<◌, ◌≤◌, ◌+◌, ◌^◌, ◌++◌, ◌∷◌, [], length, map, OnOk, true};
+ghost use Rattle.std.specs.Prelude.{◌≡◌, ◌<◌, ◌≤◌, ◌+◌, ◌^◌, ◌++◌, ◌∷◌, [], length, map, OnOk};
+ghost use Rattle.std.specs.Prelude.{true};
 ghost use Rattle.row_alloc.specs.declared.body.BodyRef.{BodyRef};
 ghost use Rattle.loop_ir.specs.Plain.{block_of};
-ghost use Rattle.uprog_gen.specs.Code.{row_space, index_in, place_ref, code_ref, code_uop, init, before, after, inits, befores, afters, counter, body_uops, once_code, turn_code, enter_code, loop_code};
+ghost use Rattle.uprog_gen.specs.Code.{row_space, index_in, place_ref, code_ref, code_uop, init};
+ghost use Rattle.uprog_gen.specs.Code.{before, after, inits, befores, afters, counter, body_uops};
+ghost use Rattle.uprog_gen.specs.Code.{once_code, turn_code, enter_code, loop_code};
 ghost use Rattle.uprog_gen.specs.Made.{part_of, is_ref_of, are_refs_of};
 ghost use Rattle.uprog_gen.specs.Parts.{IsPart};
 
@@ -94,7 +97,8 @@ fn uop_of(plan: Plan, body: &Body, cmd: BodyCmd) -> Uop
 /// The body's commands.
 pub fn push_body(code: &mut Vec<Uop>, body: &Body, made: &Made) -> Result<(), NoMemory>
     requires { IsPart (part_of (block_of body.now) made.now) }
-    ensures { OnOk result (code.new.items ≡ code.old.items ++ body_uops (part_of (block_of body.now) made.now)) }
+    ensures { OnOk result (code.new.items ≡ code.old.items
+        ++ body_uops (part_of (block_of body.now) made.now)) }
 {
     for cmd in &made.cmds {
         push(code, uop_of(made.plan, body, *cmd))?;
@@ -190,7 +194,8 @@ fn push_enter(code: &mut Vec<Uop>, plan: Plan, count: Count) -> Result<(), NoMem
 /// A turn of a loop, up to the jump.
 fn push_turn(code: &mut Vec<Uop>, body: &Body, made: &Made) -> Result<(), NoMemory>
     requires { IsPart (part_of (block_of body.now) made.now) }
-    ensures { let p = part_of (block_of body.now) made.now in OnOk result (code.new.items ≡ code.old.items ++ turn_code p.plan (body_uops p)) }
+    ensures { let p = part_of (block_of body.now) made.now in
+        OnOk result (code.new.items ≡ code.old.items ++ turn_code p.plan (body_uops p)) }
 {
     push_befores(code, made.plan)?;
     push_body(code, body, made)?;
@@ -201,7 +206,8 @@ fn push_turn(code: &mut Vec<Uop>, body: &Body, made: &Made) -> Result<(), NoMemo
 /// A body once.
 pub fn push_once(code: &mut Vec<Uop>, body: &Body, made: &Made) -> Result<(), NoMemory>
     requires { IsPart (part_of (block_of body.now) made.now) }
-    ensures { OnOk result (code.new.items ≡ code.old.items ++ once_code (part_of (block_of body.now) made.now)) }
+    ensures { OnOk result (code.new.items ≡ code.old.items
+        ++ once_code (part_of (block_of body.now) made.now)) }
 {
     push_inits(code, made.plan)?;
     push_befores(code, made.plan)?;
@@ -217,7 +223,8 @@ pub fn push_loop(
 ) -> Result<(), NoMemory>
     requires part { IsPart (part_of (block_of body.now) made.now) }
     requires room { length code.old.items + 8 < 2 ^ 16 }
-    ensures { OnOk result (code.new.items ≡ code.old.items ++ loop_code count (part_of (block_of body.now) made.now) (length code.old.items)) }
+    ensures { OnOk result (code.new.items ≡ code.old.items
+        ++ loop_code count (part_of (block_of body.now) made.now) (length code.old.items)) }
 {
     push_enter(code, made.plan, count)?;
     let top = code.len() as u16;

@@ -26,16 +26,22 @@ pub fn compile_entry(
     statements: &[LoopProgram],
     alloc: Global,
 ) -> Result<EntryCode, NoMemory>
-    requires can { AllByRecursion (CanCompile (IsSpot (shape_of head))) (map steps_of statements.now) }
+    requires can { AllByRecursion (CanCompile (IsSpot (shape_of head)))
+        (map steps_of statements.now) }
     requires few { length statements.now ≤ 16 }
 
     ensures head { IfOk result (λ entry. entry.head ≡ head) }
     ensures legal { IfOk result (λ entry. IsLegalCode (shape_of head) entry.code.items) }
-    ensures short { IfOk result (λ entry. length entry.code.items ≤ 256 * length statements.now + 1) }
-    ensures does { IfOk result (λ entry. (n : ℕ) → 0 < n → n ≤ WIDTH_MAX → DoesRounds (shape_of head) n (joined (map steps_of statements.now)) entry.code.items) }
+    ensures short { IfOk result (λ entry. length entry.code.items
+        ≤ 256 * length statements.now + 1) }
+    ensures does { IfOk result (λ entry. (n : ℕ) → 0 < n → n ≤ WIDTH_MAX
+        → DoesRounds (shape_of head) n (joined (map steps_of statements.now)) entry.code.items) }
 
-    // Whatever number the statements' rounds give, and whatever ceilings they keep, the code has that meaning within the sum of the ceilings.
-    ensures implements { IfOk result (λ entry. (ceilings : List (ℕ → ℕ)) (meaning : ℕ → List ℕ → ℕ) → Means (shape_of head) (map steps_of statements.now) ceilings meaning → Implements (shape_of head) entry.code.items (total ceilings) meaning) }
+    // Whatever number the statements' rounds give, and whatever ceilings they keep, the code has
+    // that meaning within the sum of the ceilings.
+    ensures implements { IfOk result (λ entry. (ceilings : List (ℕ → ℕ)) (meaning : ℕ → List ℕ → ℕ)
+        → Means (shape_of head) (map steps_of statements.now) ceilings meaning
+        → Implements (shape_of head) entry.code.items (total ceilings) meaning) }
 {
     let mut code = Vec::new(alloc);
     for statement in statements {

@@ -3,7 +3,8 @@
 ghost use Rattle.std.specs.Prelude.{◌≡◌, ◌++◌, ◌∷◌, [], map, option_to_list, OnOk};
 ghost use Rattle.op_text.specs.Language.{statement, operation};
 ghost use Rattle.loop_ir.specs.Plain.{step_of, steps_of};
-ghost use Rattle.uprog_gen.specs.Graphs.{graphed_of, step_graph, last_graph, statement_graph, graphs_in};
+ghost use Rattle.uprog_gen.specs.Graphs.{graphed_of, step_graph, last_graph, statement_graph};
+ghost use Rattle.uprog_gen.specs.Graphs.{graphs_in};
 
 use crate::ops::Lowered;
 use loop_ir::{LoopProgram, Step};
@@ -41,7 +42,8 @@ fn keep(graphs: &mut Vec<MigOuts>, graph: MigOuts) -> Result<(), NoMemory>
 
 /// The graph of a statement that is a serial block.
 fn take_statement(s: &Stmt, program: LoopProgram, graphs: &mut Vec<MigOuts>) -> Result<(), NoMemory>
-    ensures { OnOk result (map graphed_of graphs.new.items ≡ map graphed_of graphs.old.items ++ statement_graph (statement s.now) (steps_of program)) }
+    ensures { OnOk result (map graphed_of graphs.new.items ≡ map graphed_of graphs.old.items
+        ++ statement_graph (statement s.now) (steps_of program)) }
 {
     match s {
         Stmt::Word { .. } => Ok(()),
@@ -52,9 +54,11 @@ fn take_statement(s: &Stmt, program: LoopProgram, graphs: &mut Vec<MigOuts>) -> 
     }
 }
 
-/// The graphs of an operation's serial blocks, in the order of the text, out of the loop programs of its statements.
+/// The graphs of an operation's serial blocks, in the order of the text, out of the loop programs
+/// of its statements.
 pub fn take_graphs(op: &Op, lowered: Lowered, graphs: &mut Vec<MigOuts>) -> Result<(), NoMemory>
-    ensures { OnOk result (map graphed_of graphs.new.items ≡ map graphed_of graphs.old.items ++ graphs_in (operation op.now).body (map steps_of lowered.programs.items)) }
+    ensures { OnOk result (map graphed_of graphs.new.items ≡ map graphed_of graphs.old.items
+        ++ graphs_in (operation op.now).body (map steps_of lowered.programs.items)) }
 {
     for (s, program) in op.body.iter().zip(lowered.programs) {
         take_statement(s, program, graphs)?;

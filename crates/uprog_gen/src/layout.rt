@@ -1,6 +1,7 @@
 //! Where the names of an operation lie.
 
-ghost use Rattle.std.specs.Prelude.{◌≡◌, ℕ, ◌+◌, ◌<◌, ◌≤◌, List, [], ◌∷◌, length, Some, bytes_eq, unwrap_or, OnOk, IfOk};
+ghost use Rattle.std.specs.Prelude.{◌≡◌, ℕ, ◌+◌, ◌<◌, ◌≤◌, List, [], ◌∷◌, length, Some, bytes_eq};
+ghost use Rattle.std.specs.Prelude.{unwrap_or, OnOk, IfOk};
 ghost use Rattle.std.specs.List.{list_any};
 ghost use Rattle.op_text.specs.declared.tree.Param.{Param as Parameter};
 ghost use Rattle.op_text.specs.Language.{statement, operation};
@@ -10,7 +11,8 @@ ghost use Rattle.op_text.specs.WordOps.{forms};
 ghost use Rattle.op_rules.specs.Meets.{OperationMeets};
 ghost use Rattle.loop_ir.specs.Statements.{slots_of};
 ghost use Rattle.uprog_gen.specs.Layout.{IsLayoutMap};
-ghost use Rattle.uprog_gen.specs.Laying.{Lays, LaysSources, Knows, IsShort, kind_in, states_defined, words_defined};
+ghost use Rattle.uprog_gen.specs.Laying.{Lays, LaysSources, Knows, IsShort, kind_in};
+ghost use Rattle.uprog_gen.specs.Laying.{states_defined, words_defined};
 
 use indexmap::IndexMap;
 use loop_ir::{NameMap, Slot, Space};
@@ -21,7 +23,8 @@ use text_lex::Name;
 
 /// Gives a name its place.
 fn put(names: &mut NameMap, name: &Name, slot: Slot) -> Result<(), NoMemory>
-    ensures slots { OnOk result ((n : List ℕ) → slots_of names.new n ≡ changed (slots_of names.old) name.now (Some slot) n) }
+    ensures slots { OnOk result ((n : List ℕ)
+        → slots_of names.new n ≡ changed (slots_of names.old) name.now (Some slot) n) }
     ensures bits { names.new.free_bit ≡ names.old.free_bit }
     ensures words { names.new.free_word ≡ names.old.free_word }
 {
@@ -113,7 +116,8 @@ fn place_word(
 ) -> Result<(), NoMemory>
     requires bits { names.old.free_bit < 255 }
     requires words { names.old.free_word < 255 }
-    ensures { OnOk result (Lays outcome.now (words_defined states.now (assign.now ∷ [])) names.old names.new) }
+    ensures { OnOk result (Lays outcome.now (words_defined states.now (assign.now ∷ [])) names.old
+        names.new) }
 {
     if is_state(states, &assign.name) {
         return Ok(());
@@ -130,7 +134,8 @@ fn place_words(
 ) -> Result<(), NoMemory>
     requires bits { names.old.free_bit < 255 }
     requires words { names.old.free_word + length assigns.now ≤ 255 }
-    ensures { OnOk result (Lays outcome.now (words_defined states.now assigns.now) names.old names.new) }
+    ensures { OnOk result (Lays outcome.now (words_defined states.now assigns.now) names.old
+        names.new) }
 {
     for assign in assigns {
         place_word(names, outcome, states, assign)?;
@@ -150,7 +155,8 @@ fn kind_of(names: &NameMap, name: &Name) -> Kind
 
 /// The kind of a word statement's target.
 fn kind_given(names: &NameMap, op: WordOp, args: &[Name]) -> Kind
-    ensures { (known : List Parameter) → Knows known names.now → result ≡ result_kind known op args.now }
+    ensures { (known : List Parameter) → Knows known names.now
+        → result ≡ result_kind known op args.now }
 {
     match args {
         [] => given_first(op, None),
@@ -163,7 +169,8 @@ fn place_statement(names: &mut NameMap, outcome: &Name, stmt: &Stmt) -> Result<(
     requires bits { names.old.free_bit ≤ 128 }
     requires words { names.old.free_word ≤ 128 }
     requires short { IsShort (statement stmt.now) }
-    ensures { OnOk result ((known : List Parameter) → Knows known names.old → Lays outcome.now (defines known (statement stmt.now)) names.old names.new) }
+    ensures { OnOk result ((known : List Parameter) → Knows known names.old
+        → Lays outcome.now (defines known (statement stmt.now)) names.old names.new) }
 {
     match stmt {
         Stmt::Word { dst, op, args } => {
@@ -181,7 +188,8 @@ fn place_statement(names: &mut NameMap, outcome: &Name, stmt: &Stmt) -> Result<(
     }
 }
 
-/// The places of the names of an operation: the parameters are the sources, the result stands in its own rows, and every
+/// The places of the names of an operation: the parameters are the sources, the result stands in
+/// its own rows, and every
 /// other name that the body defines takes the next bit or word of scratch.
 ///
 /// Only want of memory is an `Err`.

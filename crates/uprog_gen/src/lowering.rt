@@ -38,8 +38,10 @@ fn is_nested(s: &Stmt) -> bool
 /// The loop program of a statement.
 fn lower_statement(s: &Stmt, names: &NameMap, alloc: Global) -> Result<LoopProgram, NoMemory>
     requires meets { StatementMeets (slots_of names.now) (statement s.now) }
-    requires placed { IsPlaced (slots_of names.now) names.now.free_bit names.now.free_word (statement s.now) }
-    ensures lowered { IfOk result (λ p. IsLowered (slots_of names.now) names.now.free_bit names.now.free_word (statement s.now) (steps_of p)) }
+    requires placed { IsPlaced (slots_of names.now) names.now.free_bit names.now.free_word
+        (statement s.now) }
+    ensures lowered { IfOk result (λ p. IsLowered (slots_of names.now) names.now.free_bit
+        names.now.free_word (statement s.now) (steps_of p)) }
     ensures form { IfOk result (λ p. HasForm (slots_of names.now) (statement s.now) (steps_of p)) }
 {
     if is_nested(s) {
@@ -62,8 +64,10 @@ fn keep(programs: &mut Vec<LoopProgram>, program: LoopProgram) -> Result<(), NoM
 pub fn lower(op: &Op, alloc: Global) -> Result<Lowered, NoMemory>
     requires meets { OperationMeets (operation op.now) }
     ensures names { IfOk result (λ l. IsLayoutMap (operation op.now) l.names) }
-    ensures lowered { IfOk result (λ l. AreLowered (slots_of l.names) l.names.free_bit l.names.free_word (operation op.now).body (map steps_of l.programs.items)) }
-    ensures forms { IfOk result (λ l. HaveForms (slots_of l.names) (operation op.now).body (map steps_of l.programs.items)) }
+    ensures lowered { IfOk result (λ l. AreLowered (slots_of l.names) l.names.free_bit
+        l.names.free_word (operation op.now).body (map steps_of l.programs.items)) }
+    ensures forms { IfOk result (λ l. HaveForms (slots_of l.names) (operation op.now).body
+        (map steps_of l.programs.items)) }
 {
     let names = lay_out(op, alloc)?;
     let mut programs = Vec::new(alloc);

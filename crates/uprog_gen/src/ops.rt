@@ -37,7 +37,8 @@ pub struct Lowered {
     pub programs: Vec<LoopProgram>,
 }
 
-/// The program of a text's operations, and the graphs of their serial blocks in the order of the text.
+/// The program of a text's operations, and the graphs of their serial blocks in the order of the
+/// text.
 #[derive(Debug, Drop)]
 pub struct Compiled {
     pub program: Program,
@@ -70,18 +71,26 @@ fn head_of(op: &Op) -> Head
 pub fn compile_lowered(op: &Op, lowered: &Lowered, alloc: Global) -> Result<EntryCode, NoMemory>
     requires meets { OperationMeets (operation op.now) }
     requires names { IsLayoutMap (operation op.now) lowered.now.names }
-    requires lowered { AreLowered (slots_of lowered.now.names) lowered.now.names.free_bit lowered.now.names.free_word (operation op.now).body (map steps_of lowered.now.programs.items) }
-    ensures compiled { IfOk result (λ entry. IsCompiled (microprogram_of entry) (operation op.now)) }
-    ensures few { IfOk result (λ entry. (n : ℕ) → 0 < n → n ≤ WIDTH_MAX → length (issues_of (trace (microprogram_of entry).shape entry.code.items n)) ≤ rounds_cost (all_rounds n (joined (map steps_of lowered.now.programs.items)))) }
+    requires lowered { AreLowered (slots_of lowered.now.names) lowered.now.names.free_bit
+        lowered.now.names.free_word (operation op.now).body
+        (map steps_of lowered.now.programs.items) }
+    ensures compiled { IfOk result (λ entry. IsCompiled (microprogram_of entry) (operation op.now))
+        }
+    ensures few { IfOk result (λ entry. (n : ℕ) → 0 < n → n ≤ WIDTH_MAX
+        → length (issues_of (trace (microprogram_of entry).shape entry.code.items n))
+        ≤ rounds_cost (all_rounds n (joined (map steps_of lowered.now.programs.items)))) }
 {
     compile_entry(head_of(op), &lowered.programs, alloc)
 }
 
-/// The code of an operation that meets the rules, and behind other graphs those of its serial blocks.
+/// The code of an operation that meets the rules, and behind other graphs those of its serial
+/// blocks.
 fn compile_op(op: &Op, graphs: &mut Vec<MigOuts>, alloc: Global) -> Result<EntryCode, NoMemory>
     requires meets { OperationMeets (operation op.now) }
-    ensures compiled { IfOk result (λ entry. IsCompiled (microprogram_of entry) (operation op.now)) }
-    ensures graphs { IfOk result (λ entry. AddsGraphs (microprogram_of entry) (operation op.now) (map graphed_of graphs.old.items) (map graphed_of graphs.new.items)) }
+    ensures compiled { IfOk result (λ entry. IsCompiled (microprogram_of entry) (operation op.now))
+        }
+    ensures graphs { IfOk result (λ entry. AddsGraphs (microprogram_of entry) (operation op.now)
+        (map graphed_of graphs.old.items) (map graphed_of graphs.new.items)) }
 {
     let lowered = lower(op, alloc)?;
     let entry = compile_lowered(op, &lowered, alloc)?;
@@ -101,8 +110,10 @@ fn keep(entries: &mut Vec<EntryCode>, entry: EntryCode) -> Result<(), NoMemory>
 /// The entries of operations that meet the rules, in order, and the graphs of their serial blocks.
 fn compile_each(ops: &[Op], alloc: Global) -> Result<Compiled, NoMemory>
     requires meets { Each OperationMeets (map operation ops.now) }
-    ensures compiled { IfOk result (λ c. AreCompiled (microprograms_of c.program) (map operation ops.now)) }
-    ensures graphs { IfOk result (λ c. AreGraphed (microprograms_of c.program) (map operation ops.now) (map graphed_of c.graphs.items)) }
+    ensures compiled { IfOk result (λ c. AreCompiled (microprograms_of c.program)
+        (map operation ops.now)) }
+    ensures graphs { IfOk result (λ c. AreGraphed (microprograms_of c.program)
+        (map operation ops.now) (map graphed_of c.graphs.items)) }
 {
     let mut entries = Vec::new(alloc);
     let mut graphs = Vec::new(alloc);
@@ -116,18 +127,22 @@ fn compile_each(ops: &[Op], alloc: Global) -> Result<Compiled, NoMemory>
     })
 }
 
-/// The program of a text's operations, an entry for each, in order, and the graphs of their serial blocks.
+/// The program of a text's operations, an entry for each, in order, and the graphs of their serial
+/// blocks.
 ///
 /// Only want of memory is an `Err`.
 pub fn compile_ops(ops: &Ops, alloc: Global) -> Result<Compiled, NoMemory>
     requires meets { MeetRules (operations ops.now) }
-    ensures implements { IfOk result (λ c. ImplementsAll (microprograms_of c.program) (map text_op (operations ops.now))) }
+    ensures implements { IfOk result (λ c. ImplementsAll (microprograms_of c.program)
+        (map text_op (operations ops.now))) }
     // A file can hold it.
     ensures program { IfOk result (λ c. IsProgram (microprograms_of c.program)) }
     // Each has at most 256 instructions for each statement, and DONE.
-    ensures compiled { IfOk result (λ c. AreCompiled (microprograms_of c.program) (operations ops.now)) }
+    ensures compiled { IfOk result (λ c. AreCompiled (microprograms_of c.program)
+        (operations ops.now)) }
     // The graphs are those of the blocks, and no entry takes more commands than they say.
-    ensures graphs { IfOk result (λ c. AreGraphed (microprograms_of c.program) (operations ops.now) (map graphed_of c.graphs.items)) }
+    ensures graphs { IfOk result (λ c. AreGraphed (microprograms_of c.program) (operations ops.now)
+        (map graphed_of c.graphs.items)) }
 {
     ops_meet(ops);
     compile_each(&ops.ops, alloc)

@@ -1,6 +1,7 @@
 //! The commands of a body.
 
-ghost use Rattle.std.specs.Prelude.{◌≡◌, ◌≢◌, ℕ, ◌<◌, ◌≤◌, ◌++◌, ◌∷◌, [], length, OnOk, IfOk, IfSome, IfNone};
+ghost use Rattle.std.specs.Prelude.{◌≡◌, ◌≢◌, ℕ, ◌<◌, ◌≤◌, ◌++◌, ◌∷◌, [], length, OnOk, IfOk};
+ghost use Rattle.std.specs.Prelude.{IfSome, IfNone};
 ghost use Rattle.mig_graph.specs.Graph.{IsGraph};
 ghost use Rattle.loop_ir.specs.Plain.{block_of};
 ghost use Rattle.loop_ir.specs.Spots.{nth_place};
@@ -56,7 +57,8 @@ fn push_out(outs: &mut Vec<OutRow>, out: OutRow) -> Result<(), NoMemory>
 /// The rows of the body's outputs.
 fn out_rows(body: &Body, alloc: Global) -> Result<Vec<OutRow>, NoMemory>
     requires { IsSmall (block_of body.now) }
-    ensures outs { IfOk result (λ outs. IsOuts (block_of body.now) (length body.now.graph.outs.items) outs.items) }
+    ensures outs { IfOk result (λ outs. IsOuts (block_of body.now)
+        (length body.now.graph.outs.items) outs.items) }
     ensures graph { IfOk result (λ _. IsGraph body.now.graph.mig.inputs body.now.graph.mig.nodes) }
 {
     let mut outs = Vec::new(alloc);

@@ -1,6 +1,7 @@
 //! Which subscripts a body's registers hold.
 
-ghost use Rattle.std.specs.Prelude.{◌≡◌, ◌<◌, ◌≤◌, ◌++◌, [], ◌∷◌, length, OnOk, IfOk, if◌then◌else◌};
+ghost use Rattle.std.specs.Prelude.{◌≡◌, ◌<◌, ◌≤◌, ◌++◌, [], ◌∷◌, length, OnOk, IfOk};
+ghost use Rattle.std.specs.Prelude.{if◌then◌else◌};
 ghost use Rattle.std.specs.List.{list_any, list_all};
 ghost use Rattle.loop_ir.specs.Plain.{block_of};
 ghost use Rattle.loop_ir.specs.declared.ir.Sub.TheVariants.{Zero};
@@ -72,7 +73,8 @@ pub fn is_fixed(body: &Body) -> bool
 
 /// The subscript more, if the body uses it.
 fn push_used(subs: &mut Vec<Sub>, body: &Body, s: Sub) -> Result<(), NoMemory>
-    ensures { OnOk result (subs.new.items ≡ subs.old.items ++ (if is_used (block_of body.now) s then s ∷ [] else [])) }
+    ensures { OnOk result (subs.new.items ≡ subs.old.items ++ (if is_used (block_of body.now) s
+        then s ∷ [] else [])) }
 {
     if is_used(body, s) {
         push_sub(subs, s)

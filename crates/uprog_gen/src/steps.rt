@@ -38,7 +38,8 @@ fn emit_inner(inner: &Inner, code: &mut Vec<Uop>, alloc: Global) -> Result<(), N
 /// The steps of a nest.
 fn emit_inners(parts: &[Inner], code: &mut Vec<Uop>, alloc: Global) -> Result<(), NoMemory>
     requires small { AllInner IsSmall (map inner_of parts.now) }
-    requires room { length code.old.items + sum_by inner_cost (map inner_of parts.now) + 8 < 2 ^ 16 }
+    requires room { length code.old.items + sum_by inner_cost (map inner_of parts.now) + 8
+        < 2 ^ 16 }
     ensures { OnOk result (EmitsInner (map inner_of parts.now) code.old.items code.new.items) }
 {
     for inner in parts {
@@ -50,7 +51,8 @@ fn emit_inners(parts: &[Inner], code: &mut Vec<Uop>, alloc: Global) -> Result<()
 /// A body that stands in no loop.
 fn emit_single(body: &Body, code: &mut Vec<Uop>, alloc: Global) -> Result<(), NoMemory>
     requires { IsSmall (block_of body.now) }
-    ensures { OnOk result (EmitsSteps (SingleOf (block_of body.now) ∷ []) code.old.items code.new.items) }
+    ensures { OnOk result (EmitsSteps (SingleOf (block_of body.now) ∷ []) code.old.items
+        code.new.items) }
 {
     let made = make_part(body, alloc)?;
     if is_fixed(body) {
@@ -66,8 +68,10 @@ fn emit_single(body: &Body, code: &mut Vec<Uop>, alloc: Global) -> Result<(), No
 /// Two nested loops.
 fn emit_nest(parts: &[Inner], code: &mut Vec<Uop>, alloc: Global) -> Result<(), NoMemory>
     requires small { AllInner IsSmall (map inner_of parts.now) }
-    requires room { length code.old.items + sum_by inner_cost (map inner_of parts.now) + 16 < 2 ^ 16 }
-    ensures { OnOk result (EmitsSteps (NestOf (map inner_of parts.now) ∷ []) code.old.items code.new.items) }
+    requires room { length code.old.items + sum_by inner_cost (map inner_of parts.now) + 16
+        < 2 ^ 16 }
+    ensures { OnOk result (EmitsSteps (NestOf (map inner_of parts.now) ∷ []) code.old.items
+        code.new.items) }
 {
     if parts.is_empty() {
         return Ok(());
@@ -106,7 +110,8 @@ pub fn emit_steps(steps: &[Step], code: &mut Vec<Uop>, alloc: Global) -> Result<
     requires small { AllParts IsSmall (map step_of steps.now) }
     requires room { length code.old.items + code_cost (map step_of steps.now) + 16 < 2 ^ 16 }
     ensures emits { OnOk result (EmitsSteps (map step_of steps.now) code.old.items code.new.items) }
-    ensures short { OnOk result (length code.new.items ≤ length code.old.items + code_cost (map step_of steps.now)) }
+    ensures short { OnOk result (length code.new.items
+        ≤ length code.old.items + code_cost (map step_of steps.now)) }
 {
     for step in steps {
         emit_step(step, code, alloc)?;

@@ -1,5 +1,6 @@
 -- Programs that grow step by step.
-use Rattle.std.proofs.Common.{◌≡◌, ℕ, zero, suc, ◌+◌, ◌<◌, List, [], ◌∷◌, ◌++◌, map, take, length, slice_index_or, Option, Some, None, refl, sym, ap, ◌∙◌, subst, arith}
+use Rattle.std.proofs.Common.{◌≡◌, ℕ, zero, suc, ◌+◌, ◌<◌, List, [], ◌∷◌, ◌++◌, map, take, length}
+use Rattle.std.proofs.Common.{slice_index_or, Option, Some, None, refl, sym, ap, ◌∙◌, subst, arith}
 use Rattle.loop_ir.specs.declared.ir.Step.{Step}
 use Rattle.loop_ir.specs.Plain.{Block, StepOf, AllParts, AllStep, step_of}
 use Rattle.loop_ir.specs.Like.{LikeSteps, no_steps, single, along, nest}
@@ -8,25 +9,34 @@ use Rattle.word_lower.specs.declared.shapes.Owners.{Owners}
 use Rattle.word_lower.specs.declared.shapes.Line.{Line}
 use Rattle.word_lower.specs.Shapes.{lines_steps, program_on}
 
-like_append : {ss ts us vs : List (StepOf Block)} → LikeSteps ss ts → LikeSteps us vs → LikeSteps (ss ++ us) (ts ++ vs)
+like_append : {ss ts us vs : List (StepOf Block)} → LikeSteps ss ts → LikeSteps us vs
+    → LikeSteps (ss ++ us) (ts ++ vs)
 like_append no_steps h = h
 like_append (single is more) h = single is (like_append more h)
 like_append (along is more) h = along is (like_append more h)
 like_append (nest is more) h = nest is (like_append more h)
 
-step_last : (steps : List Step) (s : Step) → map step_of (steps ++ s ∷ []) ≡ map step_of steps ++ step_of s ∷ []
+step_last : (steps : List Step) (s : Step) → map step_of (steps ++ s ∷ []) ≡ map step_of steps
+    ++ step_of s ∷ []
 step_last [] s = refl
 step_last (x ∷ xs) s = ap (λ ys. step_of x ∷ ys) (step_last xs s)
 
-pub like_push : (steps new : List Step) (s : Step) (ts us : List (StepOf Block)) → new ≡ steps ++ s ∷ [] → LikeSteps (map step_of steps) ts → LikeSteps (step_of s ∷ []) us → LikeSteps (map step_of new) (ts ++ us)
-like_push steps new s ts us e h g = subst (λ x. LikeSteps x (ts ++ us)) (sym (ap (map step_of) e ∙ step_last steps s)) (like_append h g)
+pub like_push : (steps new : List Step) (s : Step) (ts us : List (StepOf Block))
+    → new ≡ steps ++ s ∷ [] → LikeSteps (map step_of steps) ts → LikeSteps (step_of s ∷ []) us
+    → LikeSteps (map step_of new) (ts ++ us)
+like_push steps new s ts us e h g = subst (λ x. LikeSteps x (ts ++ us)) (sym (ap (map step_of) e
+    ∙ step_last steps s)) (like_append h g)
 
-made_last : (ss : List (StepOf Block)) (s : StepOf Block) → AllParts IsMade ss → AllStep IsMade s → AllParts IsMade (ss ++ s ∷ [])
+made_last : (ss : List (StepOf Block)) (s : StepOf Block) → AllParts IsMade ss → AllStep IsMade s
+    → AllParts IsMade (ss ++ s ∷ [])
 made_last [] s all h = (h, tt)
 made_last (x ∷ xs) s all h = (all.0, made_last xs s all.1 h)
 
-pub made_push : (steps new : List Step) (s : Step) → new ≡ steps ++ s ∷ [] → AllParts IsMade (map step_of steps) → AllStep IsMade (step_of s) → AllParts IsMade (map step_of new)
-made_push steps new s e all h = subst (AllParts IsMade) (sym (ap (map step_of) e ∙ step_last steps s)) (made_last (map step_of steps) (step_of s) all h)
+pub made_push : (steps new : List Step) (s : Step) → new ≡ steps ++ s ∷ []
+    → AllParts IsMade (map step_of steps) → AllStep IsMade (step_of s)
+    → AllParts IsMade (map step_of new)
+made_push steps new s e all h = subst (AllParts IsMade) (sym (ap (map step_of) e
+    ∙ step_last steps s)) (made_last (map step_of steps) (step_of s) all h)
 
 no_more : (ts : List (StepOf Block)) → ts ++ [] ≡ ts
 no_more [] = refl
@@ -36,7 +46,9 @@ no_more (t ∷ ts) = ap (λ x. t ∷ x) (no_more ts)
 pub like_none : (ss ts : List (StepOf Block)) → LikeSteps ss ts → LikeSteps ss (ts ++ [])
 like_none ss ts h = subst (LikeSteps ss) (sym (no_more ts)) h
 
-line_more : (o : Owners) (l : Option Line) (ls : List (Option Line)) → program_on o (lines_steps (l ∷ ls)) ≡ program_on o (lines_steps (l ∷ [])) ++ program_on o (lines_steps ls)
+line_more : (o : Owners) (l : Option Line) (ls : List (Option Line))
+    → program_on o (lines_steps (l ∷ ls)) ≡ program_on o (lines_steps (l ∷ []))
+    ++ program_on o (lines_steps ls)
 line_more o None ls = refl
 line_more o (Some l) ls = refl
 
@@ -44,7 +56,10 @@ append_over : (xs ys zs : List (StepOf Block)) → xs ++ (ys ++ zs) ≡ (xs ++ y
 append_over [] ys zs = refl
 append_over (x ∷ xs) ys zs = ap (λ l. x ∷ l) (append_over xs ys zs)
 
-pub lines_more : (o : Owners) (lines : List (Option Line)) (i : ℕ) (d : Option Line) → i < length lines → program_on o (lines_steps (take (i + 1) lines)) ≡ program_on o (lines_steps (take i lines)) ++ program_on o (lines_steps (slice_index_or lines i d ∷ []))
+pub lines_more : (o : Owners) (lines : List (Option Line)) (i : ℕ) (d : Option Line)
+    → i < length lines → program_on o (lines_steps (take (i + 1) lines))
+    ≡ program_on o (lines_steps (take i lines))
+    ++ program_on o (lines_steps (slice_index_or lines i d ∷ []))
 lines_more o [] i d lt = absurd (omega arith)
 lines_more o (l ∷ ls) zero d lt = refl
 lines_more o (l ∷ ls) (suc i) d lt =
@@ -52,5 +67,7 @@ lines_more o (l ∷ ls) (suc i) d lt =
     ap (λ n. program_on o (lines_steps (take n (l ∷ ls)))) e
     ∙ line_more o l (take (i + 1) ls)
     ∙ ap (λ x. program_on o (lines_steps (l ∷ [])) ++ x) (lines_more o ls i d (omega arith))
-    ∙ append_over (program_on o (lines_steps (l ∷ []))) (program_on o (lines_steps (take i ls))) (program_on o (lines_steps (slice_index_or ls i d ∷ [])))
-    ∙ ap (λ x. x ++ program_on o (lines_steps (slice_index_or ls i d ∷ []))) (sym (line_more o l (take i ls)))
+    ∙ append_over (program_on o (lines_steps (l ∷ []))) (program_on o (lines_steps (take i ls)))
+    (program_on o (lines_steps (slice_index_or ls i d ∷ [])))
+    ∙ ap (λ x. x ++ program_on o (lines_steps (slice_index_or ls i d ∷ [])))
+    (sym (line_more o l (take i ls)))

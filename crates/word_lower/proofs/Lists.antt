@@ -1,5 +1,6 @@
 -- The number that bits spell, by their list and by their positions.
-use Rattle.std.proofs.Common.{◌≡◌, ℕ, zero, suc, ◌+◌, ◌*◌, ◌/◌, ◌%◌, Bool, true, false, List, [], ◌∷◌, map, refl, sym, ap, ◌∙◌, arith}
+use Rattle.std.proofs.Common.{◌≡◌, ℕ, zero, suc, ◌+◌, ◌*◌, ◌/◌, ◌%◌, Bool, true, false, List, []}
+use Rattle.std.proofs.Common.{◌∷◌, map, refl, sym, ap, ◌∙◌, arith}
 use Rattle.std.specs.Prelude.{◌==◌, count_by, cond}
 use Rattle.std.specs.List.{range_with_len}
 use Rattle.std.proofs.lemmas.List.Sums.{sum_by-cons}
@@ -20,10 +21,14 @@ high_bits true w = omega arith
 high_bits false w = omega arith
 
 shift : (f : ℕ → Bool) (a n : ℕ) → number (λ i. f (a + suc i)) n ≡ number (λ i. f (a + 1 + i)) n
-shift f a n = value_same (λ i. f (a + suc i)) (λ i. f (a + 1 + i)) n (λ i lt. let e : a + suc i ≡ a + 1 + i = omega arith in ap f e)
+shift f a n = value_same (λ i. f (a + suc i)) (λ i. f (a + 1 + i)) n (λ i lt. let e : a + suc i
+    ≡ a + 1 + i = omega arith in ap f e)
 
-split : (f : ℕ → Bool) (a n : ℕ) → number (λ i. f (a + i)) (suc n) ≡ bit (f a) + 2 * number (λ i. f (a + 1 + i)) n
-split f a n = let e : a + 0 ≡ a = omega arith in value_low (λ i. f (a + i)) n ∙ ap (λ x. bit (f x) + 2 * number (λ i. f (a + suc i)) n) e ∙ ap (λ x. bit (f a) + 2 * x) (shift f a n)
+split : (f : ℕ → Bool) (a n : ℕ) → number (λ i. f (a + i)) (suc n)
+    ≡ bit (f a) + 2 * number (λ i. f (a + 1 + i)) n
+split f a n = let e : a + 0 ≡ a = omega arith in
+    value_low (λ i. f (a + i)) n ∙ ap (λ x. bit (f x) + 2 * number (λ i. f (a + suc i)) n) e
+    ∙ ap (λ x. bit (f a) + 2 * x) (shift f a n)
 
 from_bits : (f : ℕ → Bool) (a n : ℕ) → bits (number (λ i. f (a + i)) n) n ≡ listed f a n
 unfolding bits
@@ -50,12 +55,14 @@ bits_of_number f n = ap (λ v. bits v n) (sym (none_more f n)) ∙ from_bits f 0
 pub value_of_list : (f : ℕ → Bool) (n : ℕ) → value (listed f 0 n) ≡ number f n
 value_of_list f n = from_value f 0 n ∙ none_more f n
 
-both_mapped : (g : Bool → Bool → Bool) (f h : ℕ → Bool) (xs : List ℕ) → both g (map f xs) (map h xs) ≡ map (λ i. g (f i) (h i)) xs
+both_mapped : (g : Bool → Bool → Bool) (f h : ℕ → Bool) (xs : List ℕ)
+    → both g (map f xs) (map h xs) ≡ map (λ i. g (f i) (h i)) xs
 both_mapped g f h [] = refl
 both_mapped g f h (x ∷ xs) = ap (λ bs. g (f x) (h x) ∷ bs) (both_mapped g f h xs)
 
 -- numbers are combined bit by bit
-pub by_bits : (g : Bool → Bool → Bool) (f h : ℕ → Bool) (n : ℕ) → number (λ i. g (f i) (h i)) n ≡ bit_by_bit g n (number f n) (number h n)
+pub by_bits : (g : Bool → Bool → Bool) (f h : ℕ → Bool) (n : ℕ)
+    → number (λ i. g (f i) (h i)) n ≡ bit_by_bit g n (number f n) (number h n)
 by_bits g f h n = sym (
     ap (λ bs. value (both g bs (bits (number h n) n))) (bits_of_number f n)
     ∙ ap (λ bs. value (both g (listed f 0 n) bs)) (bits_of_number h n)
@@ -76,10 +83,13 @@ none_set f a = refl
 
 ones_first : (f : ℕ → Bool) (a n : ℕ) → ones f a (suc n) ≡ bit (f a) + ones f (a + 1) n
 unfolding ones
-ones_first f a n = sum_by-cons (λ (b : Bool). cond b 1 0) (f a) (listed f (a + 1) n) ∙ ap (λ x. x + ones f (a + 1) n) (one_if (f a))
+ones_first f a n = sum_by-cons (λ (b : Bool). cond b 1 0) (f a) (listed f (a + 1) n)
+    ∙ ap (λ x. x + ones f (a + 1) n) (one_if (f a))
 
 ones_last : (f : ℕ → Bool) (a n : ℕ) → ones f a (suc n) ≡ ones f a n + bit (f (a + n))
-ones_last f a zero = let e : a + 0 ≡ a = omega arith in let g = ap (λ x. bit (f x)) e in let h = ones_first f a 0 in let k = none_set f (a + 1) in let l = none_set f a in omega (arith, g, h, k, l)
+ones_last f a zero = let e : a + 0 ≡ a = omega arith in let g = ap (λ x. bit (f x)) e in
+    let h = ones_first f a 0 in let k = none_set f (a + 1) in let l = none_set f a in
+    omega (arith, g, h, k, l)
 ones_last f a (suc n) =
     let e : a + 1 + n ≡ a + suc n = omega arith in
     let p = ones_first f a (suc n) in
@@ -93,7 +103,8 @@ unfolding bits
 ones_of_none f = refl
 
 -- how many bits of a number are set
-pub ones_of_more : (f : ℕ → Bool) (n : ℕ) → ones_of (suc n) (number f (suc n)) ≡ ones_of n (number f n) + bit (f n)
+pub ones_of_more : (f : ℕ → Bool) (n : ℕ) → ones_of (suc n) (number f (suc n))
+    ≡ ones_of n (number f n) + bit (f n)
 unfolding ones
 ones_of_more f n =
     let e : 0 + n ≡ n = omega arith in

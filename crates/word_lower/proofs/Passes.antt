@@ -1,5 +1,6 @@
 -- Operations of one loop with a carry.
-use Rattle.std.proofs.Common.{◌≡◌, ℕ, zero, suc, ◌-◌, ◌<◌, Bool, List, [], ◌∷◌, refl, sym, ap, ◌∙◌, arith}
+use Rattle.std.proofs.Common.{◌≡◌, ℕ, zero, suc, ◌-◌, ◌<◌, Bool, List, [], ◌∷◌, refl, sym, ap, ◌∙◌}
+use Rattle.std.proofs.Common.{arith}
 use Rattle.mig_graph.specs.declared.Lit.{Lit}
 use Rattle.mig_graph.specs.declared.Node.{Node}
 use Rattle.op_text.specs.declared.tree.WordOp.{WordOp}
@@ -15,20 +16,30 @@ use Rattle.loop_laws.proofs.Same.{set_other}
 use Rattle.loop_laws.proofs.Loop.{loop_word, loop_state, loop_turns}
 use Rattle.loop_laws.proofs.Placed.{ReadPlaces, loop_of}
 use Rattle.word_lower.specs.Places.{scratch_bit}
-use Rattle.word_lower.proofs.Setting.{number, operation, Slots, at, row, number_at, SlotsApart, Moves, IsFree, AreSlots, IsElsewhere, Gives}
+use Rattle.word_lower.proofs.Setting.{number, operation, Slots, at, row, number_at, SlotsApart}
+use Rattle.word_lower.proofs.Setting.{Moves, IsFree, AreSlots, IsElsewhere, Gives}
 use Rattle.word_lower.proofs.Sums.{value_same}
 
-pub bit_free : (n k l bits : ℕ) (m : Slots) → AreSlots n k l (suc bits) m → IsFree n k l m (scratch_bit m.free_bit) 1
+pub bit_free : (n k l bits : ℕ) (m : Slots) → AreSlots n k l (suc bits) m
+    → IsFree n k l m (scratch_bit m.free_bit) 1
 bit_free n k l bits m are = are.bit (omega arith)
 
-pub bit_else : (n k bits : ℕ) (m : Slots) (q : Spot) → IsElsewhere n k (suc bits) m q → q ≡ row n (scratch_bit m.free_bit) 0 → ⊥
+pub bit_else : (n k bits : ℕ) (m : Slots) (q : Spot) → IsElsewhere n k (suc bits) m q
+    → q ≡ row n (scratch_bit m.free_bit) 0 → ⊥
 bit_else n k bits m q is e = is.bit (omega arith) e
 
 -- the numbers of the arguments stay where one row that is apart from them is set
-pub set_number : (n l : ℕ) (bits : Spots) (s t : Slot) (v : Bool) → SlotsApart n s l t 1 → number_at n (set_spot bits (row n t 0) v) s l ≡ number_at n bits s l
-set_number n l bits s t v apart = value_same _ _ l (λ j lj. set_other bits (row n t 0) v (row n s j) (λ e. apart.by j 0 lj (omega arith) e))
+pub set_number : (n l : ℕ) (bits : Spots) (s t : Slot) (v : Bool) → SlotsApart n s l t 1
+    → number_at n (set_spot bits (row n t 0) v) s l ≡ number_at n bits s l
+set_number n l bits s t v apart = value_same _ _ l
+    (λ j lj. set_other bits (row n t 0) v (row n s j) (λ e. apart.by j 0 lj (omega arith) e))
 
-pub set_operation : (o : WordOp) (n k l : ℕ) (m : Slots) (bits : Spots) (t : Slot) (v : Bool) → SlotsApart n m.a l t 1 → SlotsApart n m.b l t 1 → SlotsApart n m.s 1 t 1 → operation o l (number_at n (set_spot bits (row n t 0) v) m.a l) (number_at n (set_spot bits (row n t 0) v) m.b l) (number_at n (set_spot bits (row n t 0) v) m.s 1) ≡ operation o l (number_at n bits m.a l) (number_at n bits m.b l) (number_at n bits m.s 1)
+pub set_operation : (o : WordOp) (n k l : ℕ) (m : Slots) (bits : Spots) (t : Slot) (v : Bool)
+    → SlotsApart n m.a l t 1 → SlotsApart n m.b l t 1 → SlotsApart n m.s 1 t 1
+    → operation o l (number_at n (set_spot bits (row n t 0) v) m.a l)
+    (number_at n (set_spot bits (row n t 0) v) m.b l)
+    (number_at n (set_spot bits (row n t 0) v) m.s 1)
+    ≡ operation o l (number_at n bits m.a l) (number_at n bits m.b l) (number_at n bits m.s 1)
 set_operation o n k l m bits t v fa fb fs =
     let new = set_spot bits (row n t 0) v in
     let a = set_number n l bits m.a t v fa in
@@ -46,52 +57,99 @@ pub record Meets (n o : ℕ) (u : Sub) (turn_of : ℕ → ℕ) : Type 0 where
   pub meets : (v : ℕ) → v < n → sub_value n (turn_of v) o u ≡ v
 
 pub upwards : (n o : ℕ) → Meets n o sub.Inner (λ v. v)
-upwards n o = record { below = λ i lt. lt; once = λ i j li lj e. e; turn_below = λ v lt. lt; meets = λ v lt. refl }
+upwards n o = record {
+  below = λ i lt. lt;
+  once = λ i j li lj e. e;
+  turn_below = λ v lt. lt;
+  meets = λ v lt. refl;
+}
 
 pub downwards : (n o : ℕ) → Meets n o sub.InnerDown (λ v. n - 1 - v)
-downwards n o = record { below = λ i lt. omega arith; once = λ i j li lj e. omega (arith, e); turn_below = λ v lt. omega arith; meets = λ v lt. omega arith }
+downwards n o = record {
+  below = λ i lt. omega arith;
+  once = λ i j li lj e. omega (arith, e);
+  turn_below = λ v lt. omega arith;
+  meets = λ v lt. omega arith;
+}
 
 -- a carry in a scratch bit, and a word
 abbrev pub carry_body : Slots → Sub → List Place → ℕ → List Node → Lit → Lit → Block
-carry_body m u reads inputs nodes y c = record { reads = reads; graph = record { inputs = inputs; nodes = nodes }; outs = y ∷ (c ∷ []); writes = at m.target u ∷ (at (scratch_bit m.free_bit) sub.Zero ∷ []) }
+carry_body m u reads inputs nodes y c = record {
+  reads = reads;
+  graph = record { inputs = inputs; nodes = nodes };
+  outs = y ∷ (c ∷ []);
+  writes =
+      at m.target u ∷ (at (scratch_bit m.free_bit) sub.Zero ∷ []);
+}
 
-module _ (o : WordOp) (n : ℕ) (m : Slots) (are : AreSlots n n n 1 m) (u : Sub) (turn_of : ℕ → ℕ) (meets : Meets n 0 u turn_of) (reads : List Place) (inputs : ℕ) (nodes : List Node) (y c : Lit) (xs : List Origin) (v : Bool) (bits : Spots) where
-  pub carry_does : ReadPlaces n 0 n (at m.target u ∷ (at (scratch_bit m.free_bit) sub.Zero ∷ [])) reads xs
-      → (let b = carry_body m u reads inputs nodes y c in let start = set_spot bits (row n (scratch_bit m.free_bit) 0) v in
-      number (λ j. turn n 0 b xs start (suc (turn_of j)) 0) n ≡ operation o n (number_at n start m.a n) (number_at n start m.b n) (number_at n start m.s 1))
-      → Gives o n n n 1 m bits (after_many n 0 (carry_body m u reads inputs nodes y c) n (set_spot bits (row n (scratch_bit m.free_bit) 0) v))
+module _ (o : WordOp) (n : ℕ) (m : Slots) (are : AreSlots n n n 1 m) (u : Sub) (turn_of : ℕ
+    → ℕ) (meets : Meets n 0 u turn_of) (reads : List Place) (inputs : ℕ) (nodes : List Node)
+    (y c : Lit) (xs : List Origin) (v : Bool) (bits : Spots) where
+  pub carry_does : ReadPlaces n 0 n (at m.target u ∷ (at (scratch_bit m.free_bit) sub.Zero ∷ []))
+      reads xs
+      → (let b = carry_body m u reads inputs nodes y c in
+      let start = set_spot bits (row n (scratch_bit m.free_bit) 0) v in
+      number (λ j. turn n 0 b xs start (suc (turn_of j)) 0) n
+      ≡ operation o n (number_at n start m.a n) (number_at n start m.b n)
+      (number_at n start m.s 1))
+      → Gives o n n n 1 m bits (after_many n 0 (carry_body m u reads inputs nodes y c) n
+      (set_spot bits (row n (scratch_bit m.free_bit) 0) v))
   carry_does are_read gives =
       let f = bit_free n n n 0 m are in
       let b = carry_body m u reads inputs nodes y c in
       let p = row n (scratch_bit m.free_bit) 0 in
       let start = set_spot bits p v in
       let new = after_many n 0 b n start in
-      let is : IsLoop n 0 n b xs = loop_of n 0 n b xs refl (are.own, (tt, tt)) (((λ i j li lj e. f.target.by 0 (sub_value n i 0 u) (omega arith) (meets.below i li) (sym e)), tt), (tt, tt)) are_read in
+      let is : IsLoop n 0 n b xs = loop_of n 0 n b xs refl (
+        are.own,
+        (tt, tt),
+      ) (
+        (
+          (λ i j li lj e. f.target.by 0 (sub_value n i 0 u) (omega arith) (meets.below i li)
+              (sym e)),
+          tt,
+        ),
+        (tt, tt),
+      ) are_read in
       record {
         gives =
             value_same _ _ n (λ j lj.
             ap (λ x. new (row n m.target x)) (sym (meets.meets j lj))
-            ∙ loop_word n 0 n b xs is start 0 (omega arith) (λ i k li lk e. meets.once i k li lk (are.moves.by (sub_value n i 0 u) (sub_value n k 0 u) (meets.below i li) (meets.below k lk) e)) (turn_of j) (meets.turn_below j lj))
+            ∙ loop_word n 0 n b xs is start 0 (omega arith) (λ i k li lk e.
+            meets.once i k li lk (are.moves.by (sub_value n i 0 u) (sub_value n k 0 u)
+            (meets.below i li) (meets.below k lk) e)) (turn_of j) (meets.turn_below j lj))
             ∙ gives
             ∙ set_operation o n n n m bits (scratch_bit m.free_bit) v f.a f.b f.s;
-        keeps = λ q out. (loop_turns n 0 n b xs is start).rest q (λ j w lj lw e. elsewhere q out j w lj lw e) ∙ set_other bits p v q (bit_else n n 0 m q out);
+        keeps = λ q out. (loop_turns n 0 n b xs is start).rest q (λ j w lj lw e.
+            elsewhere q out j w lj lw e) ∙ set_other bits p v q (bit_else n n 0 m q out);
       }
     where
-      elsewhere : (q : Spot) → IsElsewhere n n 1 m q → (j w : ℕ) → j < n → w < 2 → q ≡ spot_at n j 0 (nth_place (at m.target u ∷ (at (scratch_bit m.free_bit) sub.Zero ∷ [])) w) → ⊥
+      elsewhere : (q : Spot) → IsElsewhere n n 1 m q → (j w : ℕ) → j < n → w < 2
+          → q ≡ spot_at n j 0 (nth_place (at m.target u
+          ∷ (at (scratch_bit m.free_bit) sub.Zero ∷ [])) w) → ⊥
       elsewhere q out j zero lj lw e = out.target (sub_value n j 0 u) (meets.below j lj) e
       elsewhere q out j (suc zero) lj lw e = bit_else n n 0 m q out e
       elsewhere q out j (suc (suc w)) lj lw e = absurd (omega arith)
 
 -- a state alone
 abbrev pub state_body : Slot → List Place → ℕ → List Node → Lit → Block
-state_body t reads inputs nodes c = record { reads = reads; graph = record { inputs = inputs; nodes = nodes }; outs = c ∷ []; writes = at t sub.Zero ∷ [] }
+state_body t reads inputs nodes c = record {
+  reads = reads;
+  graph = record { inputs = inputs; nodes = nodes };
+  outs = c ∷ [];
+  writes = at t sub.Zero ∷ [];
+}
 
-pub record Leaves (n o : ℕ) (b : Block) (xs : List Origin) (t : Slot) (bits new : Spots) : Type 0 where
-  pub state : new (row n t 0) ≡ turn n o b xs bits n 0
-  pub rest : (q : Spot) → (q ≡ row n t 0 → ⊥) → new q ≡ bits q
+pub record Leaves (n o : ℕ) (b : Block) (xs : List Origin) (t : Slot) (bits new : Spots) : Type 0
+  where
+    pub state : new (row n t 0) ≡ turn n o b xs bits n 0
+    pub rest : (q : Spot) → (q ≡ row n t 0 → ⊥) → new q ≡ bits q
 
-module _ (n o : ℕ) (t : Slot) (own : IsOwn t.space) (reads : List Place) (inputs : ℕ) (nodes : List Node) (c : Lit) (xs : List Origin) (bits : Spots) where
-  pub state_loop : ReadPlaces n o n (at t sub.Zero ∷ []) reads xs → Leaves n o (state_body t reads inputs nodes c) xs t bits (after_many n o (state_body t reads inputs nodes c) n bits)
+module _ (n o : ℕ) (t : Slot) (own : IsOwn t.space) (reads : List Place) (inputs : ℕ)
+    (nodes : List Node) (c : Lit) (xs : List Origin) (bits : Spots) where
+  pub state_loop : ReadPlaces n o n (at t sub.Zero ∷ []) reads xs
+      → Leaves n o (state_body t reads inputs nodes c) xs t bits
+      (after_many n o (state_body t reads inputs nodes c) n bits)
   state_loop are_read =
       let b = state_body t reads inputs nodes c in
       let is : IsLoop n o n b xs = loop_of n o n b xs refl (own, tt) (tt, tt) are_read in
@@ -100,20 +158,31 @@ module _ (n o : ℕ) (t : Slot) (own : IsOwn t.space) (reads : List Place) (inpu
         rest = λ q out. (loop_turns n o n b xs is bits).rest q (λ j w lj lw e. only q out j w lw e);
       }
     where
-      only : (q : Spot) → (q ≡ row n t 0 → ⊥) → (j w : ℕ) → w < 1 → q ≡ spot_at n j o (nth_place (at t sub.Zero ∷ []) w) → ⊥
+      only : (q : Spot) → (q ≡ row n t 0 → ⊥) → (j w : ℕ) → w < 1
+          → q ≡ spot_at n j o (nth_place (at t sub.Zero ∷ []) w) → ⊥
       only q out j zero lw e = out e
       only q out j (suc w) lw e = absurd (omega arith)
 
 -- a word alone
 abbrev pub word_body : Slot → Sub → List Place → ℕ → List Node → Lit → Block
-word_body t u reads inputs nodes y = record { reads = reads; graph = record { inputs = inputs; nodes = nodes }; outs = y ∷ []; writes = at t u ∷ [] }
+word_body t u reads inputs nodes y = record {
+  reads = reads;
+  graph = record { inputs = inputs; nodes = nodes };
+  outs = y ∷ [];
+  writes = at t u ∷ [];
+}
 
-pub record Writes (n o : ℕ) (b : Block) (xs : List Origin) (t : Slot) (turn_of : ℕ → ℕ) (bits new : Spots) : Type 0 where
+pub record Writes (n o : ℕ) (b : Block) (xs : List Origin) (t : Slot) (turn_of : ℕ
+    → ℕ) (bits new : Spots) : Type 0 where
   pub word : (v : ℕ) → v < n → new (row n t v) ≡ turn n o b xs bits (suc (turn_of v)) 0
   pub rest : (q : Spot) → ((v : ℕ) → v < n → q ≡ row n t v → ⊥) → new q ≡ bits q
 
-module _ (n o : ℕ) (t : Slot) (own : IsOwn t.space) (moves : Moves n t n) (u : Sub) (turn_of : ℕ → ℕ) (meets : Meets n o u turn_of) (reads : List Place) (inputs : ℕ) (nodes : List Node) (y : Lit) (xs : List Origin) (bits : Spots) where
-  pub word_loop : ReadPlaces n o n (at t u ∷ []) reads xs → Writes n o (word_body t u reads inputs nodes y) xs t turn_of bits (after_many n o (word_body t u reads inputs nodes y) n bits)
+module _ (n o : ℕ) (t : Slot) (own : IsOwn t.space) (moves : Moves n t n) (u : Sub) (turn_of : ℕ
+    → ℕ) (meets : Meets n o u turn_of) (reads : List Place) (inputs : ℕ) (nodes : List Node)
+    (y : Lit) (xs : List Origin) (bits : Spots) where
+  pub word_loop : ReadPlaces n o n (at t u ∷ []) reads xs
+      → Writes n o (word_body t u reads inputs nodes y) xs t turn_of bits
+      (after_many n o (word_body t u reads inputs nodes y) n bits)
   word_loop are_read =
       let b = word_body t u reads inputs nodes y in
       let new = after_many n o b n bits in
@@ -121,10 +190,14 @@ module _ (n o : ℕ) (t : Slot) (own : IsOwn t.space) (moves : Moves n t n) (u :
       record {
         word = λ v lv.
             ap (λ x. new (row n t x)) (sym (meets.meets v lv))
-            ∙ loop_word n o n b xs is bits 0 (omega arith) (λ i k li lk e. meets.once i k li lk (moves.by (sub_value n i o u) (sub_value n k o u) (meets.below i li) (meets.below k lk) e)) (turn_of v) (meets.turn_below v lv);
-        rest = λ q out. (loop_turns n o n b xs is bits).rest q (λ j w lj lw e. only q out j w lj lw e);
+            ∙ loop_word n o n b xs is bits 0 (omega arith) (λ i k li lk e.
+            meets.once i k li lk (moves.by (sub_value n i o u) (sub_value n k o u)
+            (meets.below i li) (meets.below k lk) e)) (turn_of v) (meets.turn_below v lv);
+        rest = λ q out. (loop_turns n o n b xs is bits).rest q (λ j w lj lw e.
+            only q out j w lj lw e);
       }
     where
-      only : (q : Spot) → ((v : ℕ) → v < n → q ≡ row n t v → ⊥) → (j w : ℕ) → j < n → w < 1 → q ≡ spot_at n j o (nth_place (at t u ∷ []) w) → ⊥
+      only : (q : Spot) → ((v : ℕ) → v < n → q ≡ row n t v → ⊥) → (j w : ℕ) → j < n → w < 1
+          → q ≡ spot_at n j o (nth_place (at t u ∷ []) w) → ⊥
       only q out j zero lj lw e = out (sub_value n j o u) (meets.below j lj) e
       only q out j (suc w) lj lw e = absurd (omega arith)

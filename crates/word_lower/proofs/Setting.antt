@@ -1,5 +1,6 @@
 -- When a loop program does a word operation: the places of its names, and what it leaves.
-use Rattle.std.specs.Prelude.{◌≡◌, ℕ, zero, suc, ◌+◌, ◌*◌, ◌^◌, ◌<◌, ◌==◌, Bool, List, [], ◌∷◌, if◌then◌else◌}
+use Rattle.std.specs.Prelude.{◌≡◌, ℕ, zero, suc, ◌+◌, ◌*◌, ◌^◌, ◌<◌, ◌==◌, Bool, List, [], ◌∷◌}
+use Rattle.std.specs.Prelude.{if◌then◌else◌}
 use Rattle.op_text.specs.declared.tree.Kind.{Kind}
 use Rattle.op_text.specs.declared.tree.Kind.TheVariants.{Bit}
 use Rattle.op_text.specs.declared.tree.WordOp.{WordOp}
@@ -95,7 +96,8 @@ pub record IsFree (n k l : ℕ) (m : Slots) (t : Slot) (j : ℕ) : Type 0 where
   pub b : SlotsApart n m.b l t j
   pub s : SlotsApart n m.s 1 t j
 
--- a target of k rows, arguments of l rows, and so many bits of internal scratch lie apart; arguments may be the same
+-- a target of k rows, arguments of l rows, and so many bits of internal scratch lie apart;
+-- arguments may be the same
 pub record AreSlots (n k l bits : ℕ) (m : Slots) : Type 0 where
   pub own : IsOwn m.target.space
   pub moves : Moves n m.target k
@@ -111,13 +113,16 @@ pub record IsElsewhere (n k bits : ℕ) (m : Slots) (q : Spot) : Type 0 where
 
 -- the target has the operation's value, and no other row but the internal scratch has changed
 pub record Gives (p : WordOp) (n k l bits : ℕ) (m : Slots) (before after : Spots) : Type 0 where
-  pub gives : number_at n after m.target k ≡ operation p l (number_at n before m.a l) (number_at n before m.b l) (number_at n before m.s 1)
+  pub gives : number_at n after m.target k ≡ operation p l (number_at n before m.a l)
+      (number_at n before m.b l) (number_at n before m.s 1)
   pub keeps : (q : Spot) → IsElsewhere n k bits m q → after q ≡ before q
 
 -- the operation's loop program on words does it, from every content
 abbrev pub DoesWords : WordOp → Kind → ℕ → ℕ → ℕ → Slots → Type 0
-DoesWords p kind n k bits m = (before : Spots) → Gives p n k n bits m before (after_rounds n (all_rounds n (steps_for p kind m)) before)
+DoesWords p kind n k bits m = (before : Spots)
+    → Gives p n k n bits m before (after_rounds n (all_rounds n (steps_for p kind m)) before)
 
 -- and on bits
 abbrev pub DoesBits : WordOp → ℕ → Slots → Type 0
-DoesBits p n m = (before : Spots) → Gives p n 1 1 0 m before (after_rounds n (all_rounds n (steps_for p Bit m)) before)
+DoesBits p n m = (before : Spots) → Gives p n 1 1 0 m before
+    (after_rounds n (all_rounds n (steps_for p Bit m)) before)

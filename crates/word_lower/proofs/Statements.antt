@@ -1,5 +1,7 @@
 -- A loop program like an operation's one does the statement.
-use Rattle.std.proofs.Common.{◌≡◌, inl, inr, ℕ, zero, suc, ◌+◌, ◌*◌, ◌/◌, ◌<◌, ◌≤◌, Bool, true, false, List, [], ◌∷◌, map, length, Option, Some, None, refl, sym, ap, ◌∙◌, subst, ⊎_elim, arith}
+use Rattle.std.proofs.Common.{◌≡◌, inl, inr, ℕ, zero, suc, ◌+◌, ◌*◌, ◌/◌, ◌<◌, ◌≤◌, Bool, true}
+use Rattle.std.proofs.Common.{false, List, [], ◌∷◌, map, length, Option, Some, None, refl, sym, ap}
+use Rattle.std.proofs.Common.{◌∙◌, subst, ⊎_elim, arith}
 use Rattle.std.specs.Prelude.{◌||◌, bytes_eq, unwrap_or, if◌then◌else◌}
 use Rattle.std.proofs.lemmas.Nat.{div-mul-add}
 use Rattle.std.proofs.lemmas.Slice.Eq.{bytes_eq-Decides}
@@ -19,8 +21,10 @@ use Rattle.loop_ir.specs.Plain.{Block, StepOf, AllParts}
 use Rattle.loop_ir.specs.Loops.{all_rounds}
 use Rattle.loop_ir.specs.Spots.{Spot, Spots, spot_in, after_rounds, IsOwn}
 use Rattle.loop_ir.specs.Like.{LikeSteps}
-use Rattle.loop_ir.specs.Statements.{Slots, holds_kind, statement_names, IsPlaced, HaveKinds, ComputeMeets}
-use Rattle.loop_ir.specs.Lowered.{slot_spot, slot_bits, HoldsAt, Holds, IsRowOf, IsStatementRow, Does, ceiling_of, IsLowered}
+use Rattle.loop_ir.specs.Statements.{Slots, holds_kind, statement_names, IsPlaced, HaveKinds}
+use Rattle.loop_ir.specs.Statements.{ComputeMeets}
+use Rattle.loop_ir.specs.Lowered.{slot_spot, slot_bits, HoldsAt, Holds, IsRowOf, IsStatementRow}
+use Rattle.loop_ir.specs.Lowered.{Does, ceiling_of, IsLowered}
 use Rattle.loop_ir.specs.Lowered as l
 use Rattle.loop_laws.specs.Rooms.{Room, room_at, IsOwned, extent}
 use Rattle.loop_laws.specs.Forms.{IsMade, HasForm}
@@ -31,7 +35,8 @@ use Rattle.loop_laws.proofs.Compile.{alike_compile}
 use Rattle.word_lower.specs.Places.{rooms_of, scratch_bit, scratch_from, AreAt}
 use Rattle.word_lower.specs.Programs.{program, is_linear}
 use Rattle.word_lower.specs.Shapes.{owners_of, program_on}
-use Rattle.word_lower.proofs.Pieces.{no_slot, slot_at, AreApart, Pieces, RoomView, is_target, is_arg, is_scratch, room_view, rooms_apart, extent_is}
+use Rattle.word_lower.proofs.Pieces.{no_slot, slot_at, AreApart, Pieces, RoomView, is_target}
+use Rattle.word_lower.proofs.Pieces.{is_arg, is_scratch, room_view, rooms_apart, extent_is}
 use Rattle.word_lower.proofs.Operations.{slots_width, steps_on, DoesOp, Lowers}
 use Rattle.word_lower.proofs.Filled.{op_lowers}
 
@@ -46,28 +51,41 @@ space_is n Source w v = refl
 space_is n ScratchBit w v = refl
 space_is n ScratchWord w v = refl
 
-same_which : (n : ℕ) (s : Space) (w x u v : ℕ) (j k : Kind) → u < width n j → v < width n k → holds_kind s j ≡ true → holds_kind s k ≡ true → spot_in n s w u ≡ spot_in n s x v → w ≡ x
+same_which : (n : ℕ) (s : Space) (w x u v : ℕ) (j k : Kind) → u < width n j → v < width n k
+    → holds_kind s j ≡ true → holds_kind s k ≡ true → spot_in n s w u ≡ spot_in n s x v → w ≡ x
 same_which n Result w x u v j k lu lv hj hk e = ap (λ (q : Spot). q.which) e
 same_which n Source w x u v j k lu lv hj hk e = ap (λ (q : Spot). q.which) e
 same_which n ScratchBit w x u v j k lu lv hj hk e = ap (λ (q : Spot). q.which) e
-same_which n ScratchWord w x u v Word Word lu lv hj hk e = let f : w * n + u ≡ x * n + v = ap (λ (q : Spot). q.index) e in sym (div-mul-add w n u lu) ∙ ap (λ z. z / n) f ∙ div-mul-add x n v lv
+same_which n ScratchWord w x u v Word Word lu lv hj hk e = let f : w * n + u ≡ x * n + v =
+    ap (λ (q : Spot). q.index) e in sym (div-mul-add w n u lu) ∙ ap (λ z. z / n) f
+    ∙ div-mul-add x n v lv
 same_which n ScratchWord w x u v Bit k lu lv hj hk e = cc
 same_which n ScratchWord w x u v Word Bit lu lv hj hk e = cc
 
-one_place : (n : ℕ) (s t : Slot) (u v : ℕ) → u < width n s.kind → v < width n t.kind → holds_kind s.space s.kind ≡ true → holds_kind t.space t.kind ≡ true → slot_spot n s u ≡ slot_spot n t v → OnePlace s.space t.space s.which t.which
+one_place : (n : ℕ) (s t : Slot) (u v : ℕ) → u < width n s.kind → v < width n t.kind
+    → holds_kind s.space s.kind ≡ true → holds_kind t.space t.kind ≡ true
+    → slot_spot n s u ≡ slot_spot n t v → OnePlace s.space t.space s.which t.which
 one_place n s t u v lu lv hs ht e =
-    let f : s.space ≡ t.space = sym (space_is n s.space s.which u) ∙ ap (λ (q : Spot). q.space) e ∙ space_is n t.space t.which v in
-    let g : spot_in n t.space s.which u ≡ spot_in n t.space t.which v = sym (ap (λ z. spot_in n z s.which u) f) ∙ e in
-    record { space = f; which = same_which n t.space s.which t.which u v s.kind t.kind lu lv (sym (ap (λ z. holds_kind z s.kind) f) ∙ hs) ht g }
+    let f : s.space ≡ t.space = sym (space_is n s.space s.which u) ∙ ap (λ (q : Spot). q.space) e
+    ∙ space_is n t.space t.which v in
+    let g : spot_in n t.space s.which u ≡ spot_in n t.space t.which v =
+    sym (ap (λ z. spot_in n z s.which u) f) ∙ e in
+    record {
+      space = f;
+      which = same_which n t.space s.which t.which u v s.kind t.kind lu lv
+          (sym (ap (λ z. holds_kind z s.kind) f) ∙ hs) ht g;
+    }
 
 pub length_scratch : (free count : ℕ) → length (scratch_from free count) ≡ count
 length_scratch free zero = refl
 length_scratch free (suc count) = ap suc (length_scratch (free + 1) count)
 
-pub scratch_at : (free count j : ℕ) → j < count → slot_at (scratch_from free count) j ≡ scratch_bit (free + j)
+pub scratch_at : (free count j : ℕ) → j < count
+    → slot_at (scratch_from free count) j ≡ scratch_bit (free + j)
 scratch_at free zero j lt = absurd (omega arith)
 scratch_at free (suc count) zero lt = let e : free ≡ free + 0 = omega arith in ap scratch_bit e
-scratch_at free (suc count) (suc j) lt = let e : free + 1 + j ≡ free + suc j = omega arith in scratch_at (free + 1) count j (omega arith) ∙ ap scratch_bit e
+scratch_at free (suc count) (suc j) lt = let e : free + 1 + j ≡ free + suc j = omega arith in
+    scratch_at (free + 1) count j (omega arith) ∙ ap scratch_bit e
 
 pub or_left : (a b : Bool) → a ≡ true → (a || b) ≡ true
 or_left true b e = refl
@@ -85,22 +103,29 @@ name_at [] k = []
 name_at (n ∷ ns) zero = n
 name_at (n ∷ ns) (suc k) = name_at ns k
 
-pub among_like : (names : List (List ℕ)) (i : ℕ) (name : List ℕ) → i < length names → bytes_eq (name_at names i) name ≡ true → is_among names name ≡ true
+pub among_like : (names : List (List ℕ)) (i : ℕ) (name : List ℕ) → i < length names
+    → bytes_eq (name_at names i) name ≡ true → is_among names name ≡ true
 unfolding name_at
 among_like [] i name lt e = absurd (omega arith)
 among_like (n ∷ ns) zero name lt e = or_left (bytes_eq n name) (is_among ns name) e
-among_like (n ∷ ns) (suc i) name lt e = or_right (bytes_eq n name) (is_among ns name) (among_like ns i name (omega arith) e)
+among_like (n ∷ ns) (suc i) name lt e = or_right (bytes_eq n name) (is_among ns name)
+    (among_like ns i name (omega arith) e)
 
-pub among_at : (names : List (List ℕ)) (i : ℕ) → i < length names → is_among names (name_at names i) ≡ true
-among_at names i lt = among_like names i (name_at names i) lt (same_name (name_at names i) (name_at names i) refl)
+pub among_at : (names : List (List ℕ)) (i : ℕ) → i < length names
+    → is_among names (name_at names i) ≡ true
+among_at names i lt = among_like names i (name_at names i) lt
+    (same_name (name_at names i) (name_at names i) refl)
 
-pub at_place : (slots : Slots) (names : List (List ℕ)) (ss : List Slot) (i : ℕ) → AreAt slots names ss → i < length ss → (i < length names) × (slots (name_at names i) ≡ Some (slot_at ss i))
+pub at_place : (slots : Slots) (names : List (List ℕ)) (ss : List Slot) (i : ℕ)
+    → AreAt slots names ss → i < length ss → (i < length names)
+    × (slots (name_at names i) ≡ Some (slot_at ss i))
 unfolding name_at
 at_place slots [] [] i at lt = absurd (omega arith)
 at_place slots [] (s ∷ ss) i at lt = absurd at
 at_place slots (n ∷ ns) [] i at lt = absurd at
 at_place slots (n ∷ ns) (s ∷ ss) zero at lt = (omega arith, at.0)
-at_place slots (n ∷ ns) (s ∷ ss) (suc i) at lt = let h = at_place slots ns ss i at.1 (omega arith) in ((let l = h.0 in omega arith), h.1)
+at_place slots (n ∷ ns) (s ∷ ss) (suc i) at lt = let h =
+    at_place slots ns ss i at.1 (omega arith) in ((let l = h.0 in omega arith), h.1)
 
 slot_in : Option Slot → Slot
 slot_in None = no_slot
@@ -110,7 +135,8 @@ pub same_slot : (x y : Slot) → Some x ≡ Some y → x ≡ y
 unfolding slot_in
 same_slot x y e = ap slot_in e
 
-pub kinds_at : (slots : Slots) (names : List (List ℕ)) (ss : List Slot) (kinds : List Kind) → AreAt slots names ss → HaveKinds slots names kinds → map (λ (s : Slot). s.kind) ss ≡ kinds
+pub kinds_at : (slots : Slots) (names : List (List ℕ)) (ss : List Slot) (kinds : List Kind)
+    → AreAt slots names ss → HaveKinds slots names kinds → map (λ (s : Slot). s.kind) ss ≡ kinds
 kinds_at slots [] [] [] at have = refl
 kinds_at slots [] [] (k ∷ ks) at have = absurd have
 kinds_at slots [] (s ∷ ss) ks at have = absurd at
@@ -118,20 +144,29 @@ kinds_at slots (n ∷ ns) [] ks at have = absurd at
 kinds_at slots (n ∷ ns) (s ∷ ss) [] at have = absurd have
 kinds_at slots (n ∷ ns) (s ∷ ss) (k ∷ ks) at have =
     let e : s ≡ have.0.slot = same_slot s have.0.slot (sym at.0 ∙ have.0.found) in
-    ap (λ x. x ∷ map (λ (s : Slot). s.kind) ss) (ap (λ (s : Slot). s.kind) e ∙ have.0.kind) ∙ ap (λ xs. k ∷ xs) (kinds_at slots ns ss ks at.1 have.1)
+    ap (λ x. x ∷ map (λ (s : Slot). s.kind) ss) (ap (λ (s : Slot). s.kind) e ∙ have.0.kind)
+    ∙ ap (λ xs. k ∷ xs) (kinds_at slots ns ss ks at.1 have.1)
 
-module _ (slots : Slots) (free_bit free_word : ℕ) (target : List ℕ) (p : WordOp) (args : List (List ℕ)) (meets : ComputeMeets slots target p args) (placed : IsPlaced slots free_bit free_word (Compute target p args)) (t : Slot) (found : slots target ≡ Some t) (ss : List Slot) (at : AreAt slots args ss) where
+module _ (slots : Slots) (free_bit free_word : ℕ) (target : List ℕ) (p : WordOp)
+    (args : List (List ℕ)) (meets : ComputeMeets slots target p args)
+    (placed : IsPlaced slots free_bit free_word (Compute target p args)) (t : Slot)
+    (found : slots target ≡ Some t) (ss : List Slot) (at : AreAt slots args ss) where
   pub among_target : is_among (statement_names (Compute target p args)) target ≡ true
-  among_target = or_left (bytes_eq target target) (is_among args target) (same_name target target refl)
+  among_target = or_left (bytes_eq target target) (is_among args target)
+      (same_name target target refl)
 
-  pub among_arg : (i : ℕ) → i < length args → is_among (statement_names (Compute target p args)) (name_at args i) ≡ true
-  among_arg i lt = or_right (bytes_eq target (name_at args i)) (is_among args (name_at args i)) (among_at args i lt)
+  pub among_arg : (i : ℕ) → i < length args → is_among (statement_names (Compute target p args))
+      (name_at args i) ≡ true
+  among_arg i lt = or_right (bytes_eq target (name_at args i)) (is_among args (name_at args i))
+      (among_at args i lt)
 
   pub written : is_among (target ∷ []) target ≡ true
   written = or_left (bytes_eq target target) false (same_name target target refl)
 
-  pub holds : (name : List ℕ) (x : Slot) → is_among (statement_names (Compute target p args)) name ≡ true → slots name ≡ Some x → holds_kind x.space x.kind ≡ true
-  holds name x a f = let h = placed.there name a in let e : h.0 ≡ x = same_slot h.0 x (sym h.1 ∙ f) in subst (λ (x : Slot). holds_kind x.space x.kind ≡ true) e h.2
+  pub holds : (name : List ℕ) (x : Slot) → is_among (statement_names (Compute target p args)) name
+      ≡ true → slots name ≡ Some x → holds_kind x.space x.kind ≡ true
+  holds name x a f = let h = placed.there name a in let e : h.0 ≡ x =
+      same_slot h.0 x (sym h.1 ∙ f) in subst (λ (x : Slot). holds_kind x.space x.kind ≡ true) e h.2
 
   arg_apart : (n i : ℕ) → i < length ss → AreApart n (slot_at ss i) t
   arg_apart n i lt =
@@ -139,67 +174,126 @@ module _ (slots : Slots) (free_bit free_word : ℕ) (target : List ℕ) (p : Wor
       let a = among_arg i h.0 in
       record {
         by = λ u v lu lv e.
-            (let one = one_place n (slot_at ss i) t u v lu lv (holds (name_at args i) (slot_at ss i) a h.1) (holds target t among_target found) e in
-            let same = placed.differ (name_at args i) target (slot_at ss i) t a among_target h.1 found one.space one.which in
+            (let one = one_place n (slot_at ss i) t u v lu lv
+            (holds (name_at args i) (slot_at ss i) a h.1) (holds target t among_target found) e
+            in
+            let same = placed.differ (name_at args i) target (slot_at ss i) t a among_target h.1
+            found one.space one.which in
             let z : false ≡ true = sym meets.fresh ∙ among_like args i target h.0 same in
             cc);
       }
 
-  pub scratch_apart : (n j : ℕ) (name : List ℕ) (x : Slot) → j < bits_inside p → is_among (statement_names (Compute target p args)) name ≡ true → slots name ≡ Some x → AreApart n x (scratch_bit (free_bit + j))
+  pub scratch_apart : (n j : ℕ) (name : List ℕ) (x : Slot) → j < bits_inside p
+      → is_among (statement_names (Compute target p args)) name ≡ true → slots name ≡ Some x
+      → AreApart n x (scratch_bit (free_bit + j))
   scratch_apart n j name x lj a f = record {
     by = λ u v lu lv e.
         (let one = one_place n x (scratch_bit (free_bit + j)) u v lu lv (holds name x a f) refl e in
         let w = one.which in
-        ⊎_elim (λ (h : x.which < free_bit). absurd (omega arith)) (λ (h : free_bit + bits_inside p ≤ x.which). absurd (omega arith)) (placed.bit name x a f one.space));
+        ⊎_elim (λ (h : x.which < free_bit). absurd (omega arith))
+        (λ (h : free_bit + bits_inside p ≤ x.which). absurd (omega arith))
+        (placed.bit name x a f one.space));
   }
 
   turned : (n : ℕ) (s r : Slot) → AreApart n s r → AreApart n r s
   turned n s r a = record { by = λ u v lu lv e. a.by v u lv lu (sym e) }
 
-  scratch_each : (n i j : ℕ) → (i ≡ j → ⊥) → AreApart n (scratch_bit (free_bit + i)) (scratch_bit (free_bit + j))
-  scratch_each n i j ne = record { by = λ u v lu lv e. (let f : free_bit + i ≡ free_bit + j = ap (λ (q : Spot). q.which) e in ne (omega arith)) }
+  scratch_each : (n i j : ℕ) → (i ≡ j → ⊥) → AreApart n (scratch_bit (free_bit + i))
+      (scratch_bit (free_bit + j))
+  scratch_each n i j ne = record {
+    by = λ u v lu lv e.
+        (let f : free_bit + i ≡ free_bit + j = ap (λ (q : Spot). q.which) e in ne (omega arith));
+  }
 
   pub pieces : (n : ℕ) → Pieces n t ss (scratch_from free_bit (bits_inside p))
   pieces n =
       let len = length_scratch free_bit (bits_inside p) in
-      let is = λ (j : ℕ) (lt : j < length (scratch_from free_bit (bits_inside p))). scratch_at free_bit (bits_inside p) j (omega arith) in
+      let is = λ (j : ℕ) (lt : j < length (scratch_from free_bit (bits_inside p))). scratch_at
+      free_bit (bits_inside p) j (omega arith) in
       record {
         own = placed.own target t written found;
         holds = holds target t among_target found;
         given = λ i lt. arg_apart n i lt;
         owned = λ j lt. subst (λ (s : Slot). IsOwn s.space) (sym (is j lt)) tt;
-        free = λ j lt. subst (λ (s : Slot). AreApart n s t) (sym (is j lt)) (turned n t (scratch_bit (free_bit + j)) (scratch_apart n j target t (omega arith) among_target found));
-        others = λ i j li lj. subst (λ (s : Slot). AreApart n (slot_at ss i) s) (sym (is j lj)) (let h = at_place slots args ss i at li in scratch_apart n j (name_at args i) (slot_at ss i) (omega arith) (among_arg i h.0) h.1);
-        each = λ i j li lj ne. subst (λ (s : Slot). AreApart n s (slot_at (scratch_from free_bit (bits_inside p)) j)) (sym (is i li)) (subst (λ (s : Slot). AreApart n (scratch_bit (free_bit + i)) s) (sym (is j lj)) (scratch_each n i j ne));
+        free = λ j lt. subst (λ (s : Slot). AreApart n s t) (sym (is j lt))
+            (turned n t (scratch_bit (free_bit + j))
+            (scratch_apart n j target t (omega arith) among_target found));
+        others = λ i j li lj. subst (λ (s : Slot). AreApart n (slot_at ss i) s) (sym (is j lj))
+            (let h = at_place slots args ss i at li in
+            scratch_apart n j (name_at args i) (slot_at ss i) (omega arith) (among_arg i h.0) h.1);
+        each = λ i j li lj ne. subst (λ (s : Slot). AreApart n s
+            (slot_at (scratch_from free_bit (bits_inside p)) j)) (sym (is i li))
+            (subst (λ (s : Slot). AreApart n (scratch_bit (free_bit + i)) s) (sym (is j lj))
+            (scratch_each n i j ne));
       }
 
   -- the rooms' rows are the statement's
-  view_row : (n k v : ℕ) (q : Spot) (r : Room) → RoomView t ss (scratch_from free_bit (bits_inside p)) k r → v < extent n r.rows → q ≡ spot_in n r.space r.which v → IsStatementRow slots free_bit free_word (Compute target p args) n q
+  view_row : (n k v : ℕ) (q : Spot) (r : Room)
+      → RoomView t ss (scratch_from free_bit (bits_inside p)) k r → v < extent n r.rows
+      → q ≡ spot_in n r.space r.which v → IsStatementRow slots free_bit free_word
+      (Compute target p args) n q
   view_row n k v q r (is_target e f) lt g =
-      let x : extent n r.rows ≡ width n t.kind = ap (λ (z : Room). extent n z.rows) f ∙ extent_is n t.kind in
-      inl (target, t, v, among_target, found, (omega arith), g ∙ ap (λ (z : Room). spot_in n z.space z.which v) f)
+      let x : extent n r.rows ≡ width n t.kind = ap (λ (z : Room). extent n z.rows) f
+      ∙ extent_is n t.kind in
+      inl (
+        target,
+        t,
+        v,
+        among_target,
+        found,
+        (omega arith),
+        g
+            ∙ ap (λ (z : Room). spot_in n z.space z.which v) f,
+      )
   view_row n k v q r (is_arg i l e f) lt g =
-      let x : extent n r.rows ≡ width n (slot_at ss i).kind = ap (λ (z : Room). extent n z.rows) f ∙ extent_is n (slot_at ss i).kind in
+      let x : extent n r.rows ≡ width n (slot_at ss i).kind = ap (λ (z : Room). extent n z.rows) f
+      ∙ extent_is n (slot_at ss i).kind in
       let h = at_place slots args ss i at l in
-      inl (name_at args i, slot_at ss i, v, among_arg i h.0, h.1, (omega arith), g ∙ ap (λ (z : Room). spot_in n z.space z.which v) f)
+      inl (
+        name_at args i,
+        slot_at ss i,
+        v,
+        among_arg i h.0,
+        h.1,
+        (omega arith),
+        g
+            ∙ ap (λ (z : Room). spot_in n z.space z.which v) f,
+      )
   view_row n k v q r (is_scratch j l e f) lt g =
       let len = length_scratch free_bit (bits_inside p) in
       let s = slot_at (scratch_from free_bit (bits_inside p)) j in
-      let is : s ≡ scratch_bit (free_bit + j) = scratch_at free_bit (bits_inside p) j (omega arith) in
-      inr (inl (j, (omega arith), g ∙ ap (λ (z : Room). spot_in n z.space z.which v) f ∙ ap (λ (z : Slot). spot_in n z.space z.which v) is))
+      let is : s ≡ scratch_bit (free_bit + j) =
+      scratch_at free_bit (bits_inside p) j (omega arith) in
+      inr (inl (
+        j,
+        (omega arith),
+        g ∙ ap (λ (z : Room). spot_in n z.space z.which v) f
+            ∙ ap (λ (z : Slot). spot_in n z.space z.which v) is,
+      ))
 
-  pub row_of : (n : ℕ) (q : Spot) → IsOwned n (rooms_of t ss (scratch_from free_bit (bits_inside p))) q → IsStatementRow slots free_bit free_word (Compute target p args) n q
-  row_of n q o = view_row n o.0 o.1 q (room_at (rooms_of t ss (scratch_from free_bit (bits_inside p))) o.0) (room_view t ss (scratch_from free_bit (bits_inside p)) o.0 o.2) o.3 o.4
+  pub row_of : (n : ℕ) (q : Spot)
+      → IsOwned n (rooms_of t ss (scratch_from free_bit (bits_inside p))) q
+      → IsStatementRow slots free_bit free_word (Compute target p args) n q
+  row_of n q o =
+      view_row n o.0 o.1 q (room_at (rooms_of t ss (scratch_from free_bit (bits_inside p))) o.0)
+      (room_view t ss (scratch_from free_bit (bits_inside p)) o.0 o.2) o.3 o.4
 
-  pub form : (k : Kind) → is_linear p ≡ true → Lowers p k t ss free_bit → HasForm (IsStatementRow slots free_bit free_word (Compute target p args)) (steps_on p k t ss free_bit)
-  form k linear lowers = marks_are_enough (IsStatementRow slots free_bit free_word (Compute target p args)) (rooms_of t ss (scratch_from free_bit (bits_inside p))) (program p k)
-      (λ n some most. rooms_apart n t ss (scratch_from free_bit (bits_inside p)) (pieces n)) (λ n some most. row_of n) lowers.fit lowers.short
+  pub form : (k : Kind) → is_linear p ≡ true → Lowers p k t ss free_bit
+      → HasForm (IsStatementRow slots free_bit free_word (Compute target p args))
+      (steps_on p k t ss free_bit)
+  form k linear lowers =
+      marks_are_enough (IsStatementRow slots free_bit free_word (Compute target p args))
+      (rooms_of t ss (scratch_from free_bit (bits_inside p))) (program p k)
+      (λ n some most. rooms_apart n t ss (scratch_from free_bit (bits_inside p)) (pieces n))
+      (λ n some most. row_of n) lowers.fit lowers.short
 
   pub arg_kinds : map (λ (s : Slot). s.kind) ss ≡ meets.kinds
   arg_kinds = kinds_at slots args ss meets.kinds at meets.have
 
   pub target_kind : meets.kind ≡ t.kind
-  target_kind = let e : meets.gives.slot ≡ t = same_slot meets.gives.slot t (sym meets.gives.found ∙ found) in sym meets.gives.kind ∙ ap (λ (s : Slot). s.kind) e
+  target_kind = let e : meets.gives.slot ≡ t =
+      same_slot meets.gives.slot t (sym meets.gives.found ∙ found) in
+      sym meets.gives.kind ∙ ap (λ (s : Slot). s.kind) e
 
   pub form_filled : filled (forms p) (map (λ (s : Slot). s.kind) ss) ≡ Some t.kind
   form_filled = ap (filled (forms p)) arg_kinds ∙ meets.form ∙ ap (λ k. Some k) target_kind
@@ -209,108 +303,186 @@ pub HeldAt : ℕ → (List ℕ → Held) → Spots → List (List ℕ) → List 
 HeldAt n held rows [] [] = Unit {0}
 HeldAt n held rows [] (s ∷ ss) = ⊥
 HeldAt n held rows (name ∷ names) [] = ⊥
-HeldAt n held rows (name ∷ names) (s ∷ ss) = ((held name).kind ≡ s.kind) × ((held name).bits ≡ slot_bits n rows s) × HeldAt n held rows names ss
+HeldAt n held rows (name ∷ names) (s ∷ ss) = ((held name).kind ≡ s.kind)
+    × ((held name).bits ≡ slot_bits n rows s) × HeldAt n held rows names ss
 
-pub held_args : (n : ℕ) (slots : Slots) (held : List ℕ → Held) (rows : Spots) (names : List (List ℕ)) (ss : List Slot) → AreAt slots names ss → ((name : List ℕ) → is_among names name ≡ true → Holds n slots held rows name) → HeldAt n held rows names ss
+pub held_args : (n : ℕ) (slots : Slots) (held : List ℕ
+    → Held) (rows : Spots) (names : List (List ℕ)) (ss : List Slot) → AreAt slots names ss
+    → ((name : List ℕ) → is_among names name ≡ true → Holds n slots held rows name)
+    → HeldAt n held rows names ss
 unfolding HeldAt
 held_args n slots held rows [] [] at h = tt
 held_args n slots held rows [] (s ∷ ss) at h = absurd at
 held_args n slots held rows (name ∷ names) [] at h = absurd at
 held_args n slots held rows (name ∷ names) (s ∷ ss) at h =
-    let a : HoldsAt n (Some s) (held name) rows = subst (λ (x : Option Slot). HoldsAt n x (held name) rows) at.0 (h name (or_left (bytes_eq name name) (is_among names name) (same_name name name refl))) in
-    (a.0, a.1, held_args n slots held rows names ss at.1 (λ x e. h x (or_right (bytes_eq name x) (is_among names x) e)))
+    let a : HoldsAt n (Some s) (held name) rows =
+    subst (λ (x : Option Slot). HoldsAt n x (held name) rows) at.0
+    (h name (or_left (bytes_eq name name) (is_among names name) (same_name name name refl))) in (
+      a.0,
+      a.1,
+      held_args n slots held rows names ss at.1 (λ x e.
+          h x (or_right (bytes_eq name x) (is_among names x) e)),
+    )
 
-pub held_kinds : (n : ℕ) (held : List ℕ → Held) (rows : Spots) (names : List (List ℕ)) (ss : List Slot) → HeldAt n held rows names ss → map (λ (h : Held). h.kind) (map held names) ≡ map (λ (s : Slot). s.kind) ss
+pub held_kinds : (n : ℕ) (held : List ℕ → Held) (rows : Spots) (names : List (List ℕ))
+    (ss : List Slot) → HeldAt n held rows names ss
+    → map (λ (h : Held). h.kind) (map held names) ≡ map (λ (s : Slot). s.kind) ss
 unfolding HeldAt
 held_kinds n held rows [] [] at = refl
 held_kinds n held rows [] (s ∷ ss) at = absurd at
 held_kinds n held rows (name ∷ names) [] at = absurd at
-held_kinds n held rows (name ∷ names) (s ∷ ss) at = ap (λ k. k ∷ map (λ (h : Held). h.kind) (map held names)) at.0 ∙ ap (λ ks. s.kind ∷ ks) (held_kinds n held rows names ss at.2)
+held_kinds n held rows (name ∷ names) (s ∷ ss) at =
+    ap (λ k. k ∷ map (λ (h : Held). h.kind) (map held names)) at.0
+    ∙ ap (λ ks. s.kind ∷ ks) (held_kinds n held rows names ss at.2)
 
-pub held_numbers : (n : ℕ) (held : List ℕ → Held) (rows : Spots) (names : List (List ℕ)) (ss : List Slot) → HeldAt n held rows names ss → map number (map held names) ≡ map (λ s. value (slot_bits n rows s)) ss
+pub held_numbers : (n : ℕ) (held : List ℕ → Held) (rows : Spots) (names : List (List ℕ))
+    (ss : List Slot) → HeldAt n held rows names ss
+    → map number (map held names) ≡ map (λ s. value (slot_bits n rows s)) ss
 unfolding HeldAt
 held_numbers n held rows [] [] at = refl
 held_numbers n held rows [] (s ∷ ss) at = absurd at
 held_numbers n held rows (name ∷ names) [] at = absurd at
-held_numbers n held rows (name ∷ names) (s ∷ ss) at = ap (λ bs. value bs ∷ map number (map held names)) at.1 ∙ ap (λ vs. value (slot_bits n rows s) ∷ vs) (held_numbers n held rows names ss at.2)
+held_numbers n held rows (name ∷ names) (s ∷ ss) at =
+    ap (λ bs. value bs ∷ map number (map held names)) at.1
+    ∙ ap (λ vs. value (slot_bits n rows s) ∷ vs) (held_numbers n held rows names ss at.2)
 
-pub held_width : (n : ℕ) (held : List ℕ → Held) (rows : Spots) (names : List (List ℕ)) (ss : List Slot) → HeldAt n held rows names ss → args_width n (map held names) ≡ slots_width n ss
+pub held_width : (n : ℕ) (held : List ℕ → Held) (rows : Spots) (names : List (List ℕ))
+    (ss : List Slot) → HeldAt n held rows names ss
+    → args_width n (map held names) ≡ slots_width n ss
 unfolding HeldAt
 held_width n held rows [] [] at = refl
 held_width n held rows [] (s ∷ ss) at = absurd at
 held_width n held rows (name ∷ names) [] at = absurd at
 held_width n held rows (name ∷ names) (s ∷ ss) at = ap (width n) at.0
 
-pub named_width : (n : ℕ) (slots : Slots) (names : List (List ℕ)) (ss : List Slot) → AreAt slots names ss → l.args_width slots n names ≡ slots_width n ss
+pub named_width : (n : ℕ) (slots : Slots) (names : List (List ℕ)) (ss : List Slot)
+    → AreAt slots names ss → l.args_width slots n names ≡ slots_width n ss
 named_width n slots [] [] at = refl
 named_width n slots [] (s ∷ ss) at = absurd at
 named_width n slots (name ∷ names) [] at = absurd at
 named_width n slots (name ∷ names) (s ∷ ss) at = ap (λ x. width n (l.kind_at x)) at.0
 
-module _ (slots : Slots) (free_bit free_word : ℕ) (target : List ℕ) (p : WordOp) (args : List (List ℕ)) (linear : is_linear p ≡ true) (meets : ComputeMeets slots target p args) (placed : IsPlaced slots free_bit free_word (Compute target p args)) (t : Slot) (found : slots target ≡ Some t) (ss : List Slot) (at : AreAt slots args ss) where
+module _ (slots : Slots) (free_bit free_word : ℕ) (target : List ℕ) (p : WordOp)
+    (args : List (List ℕ)) (linear : is_linear p ≡ true) (meets : ComputeMeets slots target p args)
+    (placed : IsPlaced slots free_bit free_word (Compute target p args)) (t : Slot)
+    (found : slots target ≡ Some t) (ss : List Slot) (at : AreAt slots args ss) where
   lowers : Lowers p t.kind t ss free_bit
-  lowers = op_lowers p t.kind t ss free_bit linear (form_filled slots free_bit free_word target p args meets placed t found ss at) refl
+  lowers = op_lowers p t.kind t ss free_bit linear
+      (form_filled slots free_bit free_word target p args meets placed t found ss at) refl
 
   -- what the target holds after the statement
-  answer : (n : ℕ) (held : List ℕ → Held) (before after : Spots) → ((name : List ℕ) → is_among args name ≡ true → Holds n slots held before name)
-      → slot_bits n after t ≡ bits (op_value p (slots_width n ss) (map (λ s. value (slot_bits n before s)) ss)) (width n t.kind)
+  answer : (n : ℕ) (held : List ℕ → Held) (before after : Spots)
+      → ((name : List ℕ) → is_among args name ≡ true → Holds n slots held before name)
+      → slot_bits n after t ≡ bits (op_value p (slots_width n ss)
+      (map (λ s. value (slot_bits n before s)) ss)) (width n t.kind)
       → HoldsAt n (Some t) (computed n p (map held args)) after
   answer n held before after h gives =
       let a = held_args n slots held before args ss at h in
-      let k : unwrap_or (filled (forms p) (map (λ (h : Held). h.kind) (map held args))) Word ≡ t.kind = ap (λ ks. unwrap_or (filled (forms p) ks) Word) (held_kinds n held before args ss a) ∙ ap (λ x. unwrap_or x Word) (form_filled slots free_bit free_word target p args meets placed t found ss at) in
-      let v : op_value p (args_width n (map held args)) (map number (map held args)) ≡ op_value p (slots_width n ss) (map (λ s. value (slot_bits n before s)) ss) = ap (λ x. op_value p x (map number (map held args))) (held_width n held before args ss a) ∙ ap (λ xs. op_value p (slots_width n ss) xs) (held_numbers n held before args ss a) in
-      (k, ap (λ x. bits (op_value p (args_width n (map held args)) (map number (map held args))) (width n x)) k ∙ ap (λ x. bits x (width n t.kind)) v ∙ sym gives)
+      let k : unwrap_or (filled (forms p) (map (λ (h : Held). h.kind) (map held args))) Word
+      ≡ t.kind = ap (λ ks. unwrap_or (filled (forms p) ks) Word)
+      (held_kinds n held before args ss a)
+      ∙ ap (λ x. unwrap_or x Word) (form_filled slots free_bit free_word target p args meets
+      placed t found ss at) in
+      let v : op_value p (args_width n (map held args)) (map number (map held args))
+      ≡ op_value p (slots_width n ss) (map (λ s. value (slot_bits n before s)) ss) =
+      ap (λ x. op_value p x (map number (map held args))) (held_width n held before args ss a)
+      ∙ ap (λ xs. op_value p (slots_width n ss) xs) (held_numbers n held before args ss a) in (
+        k,
+        ap (λ x. bits (op_value p (args_width n (map held args)) (map number (map held args)))
+            (width n x)) k ∙ ap (λ x. bits x (width n t.kind)) v ∙ sym gives,
+      )
 
   does_op : (n : ℕ) → 0 < n → DoesOp p n t.kind t ss free_bit
-  does_op n some = lowers.does n some (pieces slots free_bit free_word target p args meets placed t found ss at n)
+  does_op n some = lowers.does n some (pieces slots free_bit free_word target p args meets placed t
+      found ss at n)
 
-  module _ (steps : List (StepOf Block)) (like : LikeSteps steps (steps_on p t.kind t ss free_bit)) where
-    after : ℕ → Spots → Spots
-    after n rows = after_rounds n (all_rounds n steps) rows
+  module _ (steps : List (StepOf Block)) (like : LikeSteps steps (steps_on p t.kind t ss free_bit))
+    where
+      after : ℕ → Spots → Spots
+      after n rows = after_rounds n (all_rounds n steps) rows
 
-    after_is : (n : ℕ) (rows : Spots) → after_rounds n (all_rounds n steps) rows ≡ after_rounds n (all_rounds n (steps_on p t.kind t ss free_bit)) rows
-    after_is n rows = alike_do_the_same steps (steps_on p t.kind t ss free_bit) like n rows
+      after_is : (n : ℕ) (rows : Spots) → after_rounds n (all_rounds n steps) rows
+          ≡ after_rounds n (all_rounds n (steps_on p t.kind t ss free_bit)) rows
+      after_is n rows = alike_do_the_same steps (steps_on p t.kind t ss free_bit) like n rows
 
-    does : (n : ℕ) → 0 < n → Does slots free_bit free_word (Compute target p args) n steps
-    does n some = record {
-      gives = λ held rows h name e.
-          (let new = after_rounds n (all_rounds n steps) rows in
-          let same : target ≡ name = (bytes_eq-Decides target name).0 (only (bytes_eq target name) e) in
-          let g : slot_bits n new t ≡ bits (op_value p (slots_width n ss) (map (λ s. value (slot_bits n rows s)) ss)) (width n t.kind) = ap (λ (b : Spots). slot_bits n b t) (after_is n rows) ∙ (does_op n some).gives rows in
-          let one : HoldsAt n (Some t) (after_statement n held (Compute target p args) target) new = subst (λ (c : Bool). HoldsAt n (Some t) (if c then computed n p (map held args) else held target) new) (sym (same_name target target refl)) (answer n held rows new h g) in
-          subst (λ x. Holds n slots (after_statement n held (Compute target p args)) new x) same (subst (λ (x : Option Slot). HoldsAt n x (after_statement n held (Compute target p args) target) new) (sym found) one));
-      keeps = λ rows q out.
-          ap (λ (b : Spots). b q) (after_is n rows)
-          ∙ (does_op n some).keeps rows q (λ v lv e. out (inl (target, t, v, written slots free_bit free_word target p args meets placed t found ss at, found, lv, e))) (λ j lj e. out (inr (inl (j, lj, e))));
-    }
-      where
-        only : (b : Bool) → (b || false) ≡ true → b ≡ true
-        only true e = refl
-        only false e = cc
+      does : (n : ℕ) → 0 < n → Does slots free_bit free_word (Compute target p args) n steps
+      does n some = record {
+        gives = λ held rows h name e.
+            (let new = after_rounds n (all_rounds n steps) rows in
+            let same : target ≡ name = (bytes_eq-Decides target name).0
+            (only (bytes_eq target name) e) in
+            let g : slot_bits n new t ≡ bits (op_value p (slots_width n ss)
+            (map (λ s. value (slot_bits n rows s)) ss)) (width n t.kind) =
+            ap (λ (b : Spots). slot_bits n b t) (after_is n rows) ∙ (does_op n some).gives rows in
+            let one : HoldsAt n (Some t) (after_statement n held (Compute target p args) target)
+                new =
+            subst (λ (c : Bool). HoldsAt n (Some t) (if c then computed n p (map held args)
+            else held target) new) (sym (same_name target target refl))
+            (answer n held rows new h g) in
+            subst (λ x. Holds n slots (after_statement n held (Compute target p args)) new x) same
+            (subst (λ (x : Option Slot). HoldsAt n x
+            (after_statement n held (Compute target p args) target) new) (sym found) one));
+        keeps = λ rows q out.
+            ap (λ (b : Spots). b q) (after_is n rows)
+            ∙ (does_op n some).keeps rows q (λ v lv e.
+            out (inl (
+              target,
+              t,
+              v,
+              written slots free_bit free_word target p args meets placed t
+                  found ss at,
+              found,
+              lv,
+              e,
+            ))) (λ j lj e. out (inr (inl (j, lj, e))));
+      }
+        where
+          only : (b : Bool) → (b || false) ≡ true → b ≡ true
+          only true e = refl
+          only false e = cc
 
-    pub lowered : AllParts IsMade steps → IsLowered slots free_bit free_word (Compute target p args) steps
-    lowered made =
-        let c = alike_compile (IsStatementRow slots free_bit free_word (Compute target p args)) steps (steps_on p t.kind t ss free_bit) like made (form slots free_bit free_word target p args meets placed t found ss at t.kind linear lowers) in
-        record {
-          well = c.0;
-          can = c.1;
-          does = λ n some most. does n some;
-          cheap = λ n some most. (let a = alike_cost_no_more steps (steps_on p t.kind t ss free_bit) like n in let b = lowers.cheap n in let w = ap (op_ceiling p) (named_width n slots args ss at) in omega (arith, a, b, w));
-        }
+      pub lowered : AllParts IsMade steps → IsLowered slots free_bit free_word
+          (Compute target p args)
+          steps
+      lowered made =
+          let c = alike_compile (IsStatementRow slots free_bit free_word (Compute target p args))
+          steps (steps_on p t.kind t ss free_bit) like made
+          (form slots free_bit free_word target p args meets placed t found ss at t.kind linear
+          lowers) in
+          record {
+            well = c.0;
+            can = c.1;
+            does = λ n some most. does n some;
+            cheap = λ n some most. (let a = alike_cost_no_more steps
+                (steps_on p t.kind t ss free_bit)
+                like n in let b = lowers.cheap n in
+                let w = ap (op_ceiling p) (named_width n slots args ss at) in
+                    omega (arith, a, b, w));
+          }
 
 -- a program like the one on the owners' places does the statement
-pub lowered_on : (slots : Slots) (free_bit free_word : ℕ) (target : List ℕ) (p : WordOp) (args : List (List ℕ)) (linear : is_linear p ≡ true) (meets : ComputeMeets slots target p args) (placed : IsPlaced slots free_bit free_word (Compute target p args)) (t : Slot) (found : slots target ≡ Some t) (ss : List Slot) (at : AreAt slots args ss) (steps : List (StepOf Block))
-    → LikeSteps steps (program_on (owners_of t ss free_bit) (program p t.kind)) → AllParts IsMade steps → IsLowered slots free_bit free_word (Compute target p args) steps
-lowered_on slots free_bit free_word target p args linear meets placed t found ss at steps like made =
-    lowered slots free_bit free_word target p args linear meets placed t found ss at steps (subst (LikeSteps steps) (lowers slots free_bit free_word target p args linear meets placed t found ss at).same like) made
+pub lowered_on : (slots : Slots) (free_bit free_word : ℕ) (target : List ℕ) (p : WordOp)
+    (args : List (List ℕ)) (linear : is_linear p ≡ true) (meets : ComputeMeets slots target p args)
+    (placed : IsPlaced slots free_bit free_word (Compute target p args)) (t : Slot)
+    (found : slots target ≡ Some t) (ss : List Slot) (at : AreAt slots args ss)
+    (steps : List (StepOf Block))
+    → LikeSteps steps (program_on (owners_of t ss free_bit) (program p t.kind))
+    → AllParts IsMade steps → IsLowered slots free_bit free_word (Compute target p args) steps
+lowered_on slots free_bit free_word target p args linear meets placed t found ss at steps like
+    made =
+    lowered slots free_bit free_word target p args linear meets placed t found ss at steps
+    (subst (LikeSteps steps) (lowers slots free_bit free_word target p args linear meets placed
+    t found ss at).same like) made
 
 -- the arguments have places
 pub record Places (slots : Slots) (names : List (List ℕ)) : Type 0 where
   pub list : List Slot
   pub at : AreAt slots names list
 
-pub places_of : (slots : Slots) (names : List (List ℕ)) (kinds : List Kind) → HaveKinds slots names kinds → Places slots names
+pub places_of : (slots : Slots) (names : List (List ℕ)) (kinds : List Kind)
+    → HaveKinds slots names kinds → Places slots names
 places_of slots [] [] have = record { list = []; at = tt }
 places_of slots [] (k ∷ ks) have = absurd have
 places_of slots (n ∷ ns) [] have = absurd have
-places_of slots (n ∷ ns) (k ∷ ks) have = let more = places_of slots ns ks have.1 in record { list = have.0.slot ∷ more.list; at = (have.0.found, more.at) }
+places_of slots (n ∷ ns) (k ∷ ks) have = let more = places_of slots ns ks have.1 in
+    record { list = have.0.slot ∷ more.list; at = (have.0.found, more.at) }

@@ -1,5 +1,6 @@
 -- Comparisons and reductions: a state in the target's row.
-use Rattle.std.proofs.Common.{◌≡◌, ℕ, ◌+◌, Bool, true, false, not, List, [], ◌∷◌, refl, sym, ap, ◌∙◌, subst, arith}
+use Rattle.std.proofs.Common.{◌≡◌, ℕ, ◌+◌, Bool, true, false, not, List, [], ◌∷◌, refl, sym, ap}
+use Rattle.std.proofs.Common.{◌∙◌, subst, arith}
 use Rattle.std.specs.Prelude.{nat_lt, ◌&&◌}
 use Rattle.bit_rows.specs.Bits.{majority}
 use Rattle.mig_graph.specs.declared.Lit.{Lit}
@@ -16,8 +17,10 @@ use Rattle.loop_laws.specs.Rooms.{placed_body}
 use Rattle.loop_laws.proofs.Same.{set_same, set_other}
 use Rattle.loop_laws.proofs.Steps.{steps_each}
 use Rattle.loop_laws.proofs.Placed.{AllBefore, ReadPlaces}
-use Rattle.word_lower.specs.Programs.{target, first, second, plain, off, up, joined, unlike, compared, agreed}
-use Rattle.word_lower.proofs.Setting.{bit, number, operation, Slots, rooms_for, at, row, number_at, AreSlots, Gives, DoesWords}
+use Rattle.word_lower.specs.Programs.{target, first, second, plain, off, up, joined, unlike}
+use Rattle.word_lower.specs.Programs.{compared, agreed}
+use Rattle.word_lower.proofs.Setting.{bit, number, operation, Slots, rooms_for, at, row, number_at}
+use Rattle.word_lower.proofs.Setting.{AreSlots, Gives, DoesWords}
 use Rattle.word_lower.proofs.Passes.{state_body, state_loop, set_operation}
 use Rattle.word_lower.proofs.Sums.{compare, same_gives, xor2}
 use Rattle.word_lower.proofs.Bitwise.{any_gives, all_gives, parity_gives, at_least}
@@ -26,21 +29,28 @@ one_bit : (f : ℕ → Bool) → number f 1 ≡ bit (f 0)
 one_bit f = omega arith
 
 -- the state starts as v, and what it is after all positions is the operation's number
-module _ (o : WordOp) (n : ℕ) (m : Slots) (are : AreSlots n 1 n 0 m) (reads : List Place) (inputs : ℕ) (nodes : List Node) (c : Lit) (xs : List Origin) (v : Bool) (bits : Spots) where
+module _ (o : WordOp) (n : ℕ) (m : Slots) (are : AreSlots n 1 n 0 m) (reads : List Place)
+    (inputs : ℕ) (nodes : List Node) (c : Lit) (xs : List Origin) (v : Bool) (bits : Spots) where
   pub state_does : ReadPlaces n 0 n (at m.target sub.Zero ∷ []) reads xs
-      → (let b = state_body m.target reads inputs nodes c in let start = set_spot bits (row n m.target 0) v in
-      bit (turn n 0 b xs start n 0) ≡ operation o n (number_at n start m.a n) (number_at n start m.b n) (number_at n start m.s 1))
-      → Gives o n 1 n 0 m bits (after_many n 0 (state_body m.target reads inputs nodes c) n (set_spot bits (row n m.target 0) v))
+      → (let b = state_body m.target reads inputs nodes c in
+      let start = set_spot bits (row n m.target 0) v in
+      bit (turn n 0 b xs start n 0) ≡ operation o n (number_at n start m.a n)
+      (number_at n start m.b n) (number_at n start m.s 1))
+      → Gives o n 1 n 0 m bits (after_many n 0 (state_body m.target reads inputs nodes c) n
+      (set_spot bits (row n m.target 0) v))
   state_does are_read gives =
       let start = set_spot bits (row n m.target 0) v in
       let new = after_many n 0 (state_body m.target reads inputs nodes c) n start in
       let l = state_loop n 0 m.target are.own reads inputs nodes c xs start are_read in
       record {
-        gives = one_bit (λ j. new (row n m.target j)) ∙ ap bit l.state ∙ gives ∙ set_operation o n 1 n m bits m.target v are.a are.b are.s;
-        keeps = λ q out. l.rest q (λ e. out.target 0 (omega arith) e) ∙ set_other bits (row n m.target 0) v q (λ e. out.target 0 (omega arith) e);
+        gives = one_bit (λ j. new (row n m.target j)) ∙ ap bit l.state ∙ gives
+            ∙ set_operation o n 1 n m bits m.target v are.a are.b are.s;
+        keeps = λ q out. l.rest q (λ e. out.target 0 (omega arith) e)
+            ∙ set_other bits (row n m.target 0) v q (λ e. out.target 0 (omega arith) e);
       }
 
-agreed_bit : (x y e : Bool) → majority false e (majority true (majority false x y) (not (majority true x y))) ≡ e && not (xor2 x y)
+agreed_bit : (x y e : Bool) → majority false e
+    (majority true (majority false x y) (not (majority true x y))) ≡ e && not (xor2 x y)
 unfolding majority
 agreed_bit true true true = refl
 agreed_bit true true false = refl
@@ -74,7 +84,8 @@ module _ (n : ℕ) (m : Slots) (are : AreSlots n 1 n 0 m) where
   pub eq_does : DoesWords op.Eq Bit n 1 0 m
   unfolding values_from
   eq_does before =
-      let b = placed_body (rooms_for op.Eq m) (agreed (first sub.Inner) (second sub.Inner) (target sub.Zero)) in
+      let b = placed_body (rooms_for op.Eq m)
+      (agreed (first sub.Inner) (second sub.Inner) (target sub.Zero)) in
       let p = row n m.target 0 in
       let start = set_spot before p true in
       let e = λ (i : ℕ). turn n 0 b three start i 0 in
@@ -83,18 +94,21 @@ module _ (n : ℕ) (m : Slots) (are : AreSlots n 1 n 0 m) where
       subst (Gives op.Eq n 1 n 0 m before) (sym (steps_each n b [] start))
       (state_does op.Eq n m are b.reads b.graph.inputs b.graph.nodes (plain 7) three true before
       (a_read, (b_read, ((omega arith, λ i j li lj. refl), tt)))
-      (ap bit (same_gives a c e n (set_same before p true p refl) (λ i lt. agreed_bit (a i) (c i) (e i)))))
+      (ap bit (same_gives a c e n (set_same before p true p refl)
+      (λ i lt. agreed_bit (a i) (c i) (e i)))))
 
   pub gt_does : DoesWords op.Gt Bit n 1 0 m
   unfolding values_from
   gt_does before =
-      let b = placed_body (rooms_for op.Gt m) (compared (first sub.Inner) (second sub.Inner) (target sub.Zero)) in
+      let b = placed_body (rooms_for op.Gt m)
+      (compared (first sub.Inner) (second sub.Inner) (target sub.Zero)) in
       let p = row n m.target 0 in
       let start = set_spot before p false in
       let e = λ (i : ℕ). turn n 0 b three start i 0 in
       let a = λ (i : ℕ). start (row n m.a i) in
       let c = λ (i : ℕ). start (row n m.b i) in
-      let none : number a n + bit (e 0) ≡ number a n = (let z = ap bit (set_same before p false p refl) in omega (arith, z)) in
+      let none : number a n + bit (e 0) ≡ number a n =
+      (let z = ap bit (set_same before p false p refl) in omega (arith, z)) in
       subst (Gives op.Gt n 1 n 0 m before) (sym (steps_each n b [] start))
       (state_does op.Gt n m are b.reads b.graph.inputs b.graph.nodes (plain 4) three false before
       (a_read, (b_read, ((omega arith, λ i j li lj. refl), tt)))
@@ -103,7 +117,8 @@ module _ (n : ℕ) (m : Slots) (are : AreSlots n 1 n 0 m) where
   pub ge_does : DoesWords op.Ge Bit n 1 0 m
   unfolding values_from
   ge_does before =
-      let b = placed_body (rooms_for op.Ge m) (compared (first sub.Inner) (second sub.Inner) (target sub.Zero)) in
+      let b = placed_body (rooms_for op.Ge m)
+      (compared (first sub.Inner) (second sub.Inner) (target sub.Zero)) in
       let p = row n m.target 0 in
       let start = set_spot before p true in
       let e = λ (i : ℕ). turn n 0 b three start i 0 in
@@ -112,12 +127,15 @@ module _ (n : ℕ) (m : Slots) (are : AreSlots n 1 n 0 m) where
       subst (Gives op.Ge n 1 n 0 m before) (sym (steps_each n b [] start))
       (state_does op.Ge n m are b.reads b.graph.inputs b.graph.nodes (plain 4) three true before
       (a_read, (b_read, ((omega arith, λ i j li lj. refl), tt)))
-      (ap bit (compare a c e n (λ i lt. refl) ∙ ap (λ x. nat_lt (number c n) (number a n + bit x)) (set_same before p true p refl) ∙ at_least (number a n) (number c n))))
+      (ap bit (compare a c e n (λ i lt. refl)
+      ∙ ap (λ x. nat_lt (number c n) (number a n + bit x)) (set_same before p true p refl)
+      ∙ at_least (number a n) (number c n))))
 
   pub and_red_does : DoesWords op.AndRed Bit n 1 0 m
   unfolding values_from
   and_red_does before =
-      let b = placed_body (rooms_for op.AndRed m) (joined off (first sub.Inner) (target sub.Zero) (target sub.Zero)) in
+      let b = placed_body (rooms_for op.AndRed m)
+      (joined off (first sub.Inner) (target sub.Zero) (target sub.Zero)) in
       let p = row n m.target 0 in
       let start = set_spot before p true in
       let e = λ (i : ℕ). turn n 0 b two start i 0 in
@@ -130,7 +148,8 @@ module _ (n : ℕ) (m : Slots) (are : AreSlots n 1 n 0 m) where
   pub or_red_does : DoesWords op.OrRed Bit n 1 0 m
   unfolding values_from
   or_red_does before =
-      let b = placed_body (rooms_for op.OrRed m) (joined up (first sub.Inner) (target sub.Zero) (target sub.Zero)) in
+      let b = placed_body (rooms_for op.OrRed m)
+      (joined up (first sub.Inner) (target sub.Zero) (target sub.Zero)) in
       let p = row n m.target 0 in
       let start = set_spot before p false in
       let e = λ (i : ℕ). turn n 0 b two start i 0 in
@@ -143,7 +162,8 @@ module _ (n : ℕ) (m : Slots) (are : AreSlots n 1 n 0 m) where
   pub xor_red_does : DoesWords op.XorRed Bit n 1 0 m
   unfolding values_from
   xor_red_does before =
-      let b = placed_body (rooms_for op.XorRed m) (unlike (first sub.Inner) (target sub.Zero) (target sub.Zero)) in
+      let b = placed_body (rooms_for op.XorRed m)
+      (unlike (first sub.Inner) (target sub.Zero) (target sub.Zero)) in
       let p = row n m.target 0 in
       let start = set_spot before p false in
       let e = λ (i : ℕ). turn n 0 b two start i 0 in

@@ -1,5 +1,6 @@
 -- Loops with a carry, as numbers.
-use Rattle.std.proofs.Common.{◌≡◌, ℕ, zero, suc, ◌+◌, ◌-◌, ◌*◌, ◌/◌, ◌^◌, ◌%◌, ◌<◌, ◌≤◌, Bool, true, false, not, cond, refl, sym, ap, ◌∙◌, ⊎_elim, arith, ◌⊎◌, inl, inr}
+use Rattle.std.proofs.Common.{◌≡◌, ℕ, zero, suc, ◌+◌, ◌-◌, ◌*◌, ◌/◌, ◌^◌, ◌%◌, ◌<◌, ◌≤◌, Bool, true}
+use Rattle.std.proofs.Common.{false, not, cond, refl, sym, ap, ◌∙◌, ⊎_elim, arith, ◌⊎◌, inl, inr}
 use Rattle.std.specs.Prelude.{nat_lt, ◌==◌, ◌&&◌}
 use Rattle.std.proofs.lemmas.Bool.{cases_eq, cases_Bool, eq-eqb, ne_eqb, lt-ltb}
 use Rattle.std.proofs.lemmas.Nat.{mod-mul-add}
@@ -11,17 +12,25 @@ abbrev pub digits : (ℕ → ℕ) → ℕ → ℕ
 digits x zero = 0
 digits x (suc n) = digits x n + x n * 2 ^ n
 
-one_digit : (v w a x p low d s : ℕ) → v + 2 * w ≡ x + a → low + a * p ≡ d + s → low + v * p + w * (p * 2) ≡ d + x * p + s
-one_digit v w a x p low d s e h = let k : (v + 2 * w) * p ≡ (x + a) * p = ap (λ z. z * p) e in omega (arith, k, h)
+one_digit : (v w a x p low d s : ℕ) → v + 2 * w ≡ x + a → low + a * p ≡ d + s
+    → low + v * p + w * (p * 2) ≡ d + x * p + s
+one_digit v w a x p low d s e h = let k : (v + 2 * w) * p ≡ (x + a) * p = ap (λ z. z * p) e in
+    omega (arith, k, h)
 
 -- a carry goes through all positions: the sum of what is added at each
-pub carry_sum : (x : ℕ → ℕ) (y c : ℕ → Bool) (n : ℕ) → ((i : ℕ) → i < n → bit (y i) + 2 * bit (c (suc i)) ≡ x i + bit (c i)) → number y n + bit (c n) * 2 ^ n ≡ digits x n + bit (c 0)
+pub carry_sum : (x : ℕ → ℕ) (y c : ℕ → Bool) (n : ℕ)
+    → ((i : ℕ) → i < n → bit (y i) + 2 * bit (c (suc i)) ≡ x i + bit (c i))
+    → number y n + bit (c n) * 2 ^ n ≡ digits x n + bit (c 0)
 carry_sum x y c zero h = omega arith
-carry_sum x y c (suc n) h = rw pow-suc (one_digit (bit (y n)) (bit (c (suc n))) (bit (c n)) (x n) (2 ^ n) (number y n) (digits x n) (bit (c 0)) (h n (omega arith)) (carry_sum x y c n (λ i lt. h i (omega arith))))
+carry_sum x y c (suc n) h =
+    rw pow-suc (one_digit (bit (y n)) (bit (c (suc n))) (bit (c n)) (x n) (2 ^ n) (number y n)
+    (digits x n) (bit (c 0)) (h n (omega arith)) (carry_sum x y c n (λ i lt. h i (omega arith))))
 
 pub value_same : (f g : ℕ → Bool) (n : ℕ) → ((k : ℕ) → k < n → f k ≡ g k) → number f n ≡ number g n
 value_same f g zero h = refl
-value_same f g (suc n) h = ap (λ x. x + bit (f n) * 2 ^ n) (value_same f g n (λ k lt. h k (omega arith))) ∙ ap (λ b. number g n + bit b * 2 ^ n) (h n (omega arith))
+value_same f g (suc n) h = ap (λ x. x + bit (f n) * 2 ^ n)
+    (value_same f g n (λ k lt. h k (omega arith)))
+    ∙ ap (λ b. number g n + bit b * 2 ^ n) (h n (omega arith))
 
 pub value_below : (f : ℕ → Bool) (n : ℕ) → number f n < 2 ^ n
 value_below f zero = omega arith
@@ -31,7 +40,8 @@ value_below f (suc n) = rw pow-suc (step_below (f n) (number f n) (2 ^ n) (value
     step_below true v p h = omega arith
     step_below false v p h = omega arith
 
-pub digits_two : (f g : ℕ → Bool) (n : ℕ) → digits (λ i. bit (f i) + bit (g i)) n ≡ number f n + number g n
+pub digits_two : (f g : ℕ → Bool) (n : ℕ) → digits (λ i. bit (f i) + bit (g i)) n
+    ≡ number f n + number g n
 digits_two f g zero = refl
 digits_two f g (suc n) = let e = digits_two f g n in omega (arith, e)
 
@@ -51,33 +61,46 @@ pub value_not : (f : ℕ → Bool) (n : ℕ) → number (λ i. not (f i)) n + nu
 value_not f zero = refl
 value_not f (suc n) =
     let e = value_not f n in
-    let k : (bit (not (f n)) + bit (f n)) * 2 ^ n ≡ 1 * 2 ^ n = ap (λ z. z * 2 ^ n) (bit_not (f n)) in
+    let k : (bit (not (f n)) + bit (f n)) * 2 ^ n ≡ 1 * 2 ^ n =
+    ap (λ z. z * 2 ^ n) (bit_not (f n)) in
     rw pow-suc (omega (arith, e, k))
 
 -- two words are added with a carry
-pub sum_two : (a b y c : ℕ → Bool) (n : ℕ) → ((i : ℕ) → i < n → bit (y i) + 2 * bit (c (suc i)) ≡ bit (a i) + bit (b i) + bit (c i)) → number y n + bit (c n) * 2 ^ n ≡ number a n + number b n + bit (c 0)
-sum_two a b y c n h = let e = carry_sum (λ i. bit (a i) + bit (b i)) y c n h in omega (arith, e, digits_two a b n)
+pub sum_two : (a b y c : ℕ → Bool) (n : ℕ) → ((i : ℕ) → i < n
+    → bit (y i) + 2 * bit (c (suc i)) ≡ bit (a i) + bit (b i) + bit (c i))
+    → number y n + bit (c n) * 2 ^ n ≡ number a n + number b n + bit (c 0)
+sum_two a b y c n h = let e = carry_sum (λ i. bit (a i) + bit (b i)) y c n h in
+    omega (arith, e, digits_two a b n)
 
 -- what is left of a sum without its last carry
 pub last_sum : (y c p x : ℕ) → y < p → y + c * p ≡ x → y ≡ x % p
-last_sum y c p x lt e = let f : c * p + y ≡ x = omega (arith, e) in sym (mod-mul-add c p y lt) ∙ ap (λ z. z % p) f
+last_sum y c p x lt e = let f : c * p + y ≡ x = omega (arith, e) in
+    sym (mod-mul-add c p y lt) ∙ ap (λ z. z % p) f
 
-pub add_gives : (a b y c : ℕ → Bool) (n : ℕ) → c 0 ≡ false → ((i : ℕ) → i < n → bit (y i) + 2 * bit (c (suc i)) ≡ bit (a i) + bit (b i) + bit (c i)) → number y n ≡ (number a n + number b n) % 2 ^ n
+pub add_gives : (a b y c : ℕ → Bool) (n : ℕ) → c 0 ≡ false
+    → ((i : ℕ) → i < n → bit (y i) + 2 * bit (c (suc i)) ≡ bit (a i) + bit (b i) + bit (c i))
+    → number y n ≡ (number a n + number b n) % 2 ^ n
 add_gives a b y c n start h =
     let e = sum_two a b y c n h in
     let s = ap bit start in
-    last_sum (number y n) (bit (c n)) (2 ^ n) (number a n + number b n) (value_below y n) (omega (arith, e, s))
+    last_sum (number y n) (bit (c n)) (2 ^ n) (number a n + number b n) (value_below y n)
+    (omega (arith, e, s))
 
 -- the difference, and the borrow's complement
-pub less_two : (a b y c : ℕ → Bool) (n : ℕ) → ((i : ℕ) → i < n → bit (y i) + 2 * bit (c (suc i)) ≡ bit (a i) + bit (not (b i)) + bit (c i)) → number y n + bit (c n) * 2 ^ n + number b n + 1 ≡ number a n + 2 ^ n + bit (c 0)
+pub less_two : (a b y c : ℕ → Bool) (n : ℕ) → ((i : ℕ) → i < n
+    → bit (y i) + 2 * bit (c (suc i)) ≡ bit (a i) + bit (not (b i)) + bit (c i))
+    → number y n + bit (c n) * 2 ^ n + number b n + 1 ≡ number a n + 2 ^ n + bit (c 0)
 less_two a b y c n h = let e = sum_two a (λ i. not (b i)) y c n h in omega (arith, e, value_not b n)
 
-pub sub_gives : (a b y c : ℕ → Bool) (n : ℕ) → c 0 ≡ true → ((i : ℕ) → i < n → bit (y i) + 2 * bit (c (suc i)) ≡ bit (a i) + bit (not (b i)) + bit (c i)) → number y n ≡ (number a n + 2 ^ n - number b n) % 2 ^ n
+pub sub_gives : (a b y c : ℕ → Bool) (n : ℕ) → c 0 ≡ true
+    → ((i : ℕ) → i < n → bit (y i) + 2 * bit (c (suc i)) ≡ bit (a i) + bit (not (b i)) + bit (c i))
+    → number y n ≡ (number a n + 2 ^ n - number b n) % 2 ^ n
 sub_gives a b y c n start h =
     let e = less_two a b y c n h in
     let s = ap bit start in
     let lb = value_below b n in
-    last_sum (number y n) (bit (c n)) (2 ^ n) (number a n + 2 ^ n - number b n) (value_below y n) (omega (arith, e, s, lb))
+    last_sum (number y n) (bit (c n)) (2 ^ n) (number a n + 2 ^ n - number b n) (value_below y n)
+    (omega (arith, e, s, lb))
 
 abbrev pub xor3 : Bool → Bool → Bool → Bool
 xor3 true true c = c
@@ -96,37 +119,45 @@ full false true false = refl
 full false false true = refl
 full false false false = refl
 
-carry_says : (c : Bool) (y a b p s : ℕ) → y < p → b < p → a < p → y + bit c * p + b + 1 ≡ a + p + s → s ≤ 1 → c ≡ nat_lt b (a + s)
+carry_says : (c : Bool) (y a b p s : ℕ) → y < p → b < p → a < p → y + bit c * p + b + 1 ≡ a + p + s
+    → s ≤ 1 → c ≡ nat_lt b (a + s)
 carry_says true y a b p s ly lb la e ls = sym (lt-ltb b (a + s) (omega (arith, e)))
 carry_says false y a b p s ly lb la e ls = sym (not_lt b (a + s) (omega (arith, e)))
   where
     not_lt : (x z : ℕ) → z ≤ x → nat_lt x z ≡ false
-    not_lt x z h = ⊎_elim (λ (t : nat_lt x z ≡ true). absurd (grind arith)) (λ (f : nat_lt x z ≡ false). f) (cases_Bool (nat_lt x z))
+    not_lt x z h = ⊎_elim (λ (t : nat_lt x z ≡ true). absurd (grind arith))
+        (λ (f : nat_lt x z ≡ false). f) (cases_Bool (nat_lt x z))
 
 bit_le : (b : Bool) → bit b ≤ 1
 bit_le true = omega arith
 bit_le false = omega arith
 
 -- the last carry of a and the complement of b compares them
-pub compare : (a b c : ℕ → Bool) (n : ℕ) → ((i : ℕ) → i < n → c (suc i) ≡ majority (a i) (not (b i)) (c i)) → c n ≡ nat_lt (number b n) (number a n + bit (c 0))
+pub compare : (a b c : ℕ → Bool) (n : ℕ) → ((i : ℕ) → i < n
+    → c (suc i) ≡ majority (a i) (not (b i)) (c i))
+    → c n ≡ nat_lt (number b n) (number a n + bit (c 0))
 compare a b c n h =
     let y = λ (i : ℕ). xor3 (a i) (not (b i)) (c i) in
-    let e = less_two a b y c n (λ i lt. ap (λ z. bit (y i) + 2 * bit z) (h i lt) ∙ full (a i) (not (b i)) (c i)) in
-    carry_says (c n) (number y n) (number a n) (number b n) (2 ^ n) (bit (c 0)) (value_below y n) (value_below b n) (value_below a n) e (bit_le (c 0))
+    let e = less_two a b y c n (λ i lt. ap (λ z. bit (y i) + 2 * bit z) (h i lt)
+    ∙ full (a i) (not (b i)) (c i)) in
+    carry_says (c n) (number y n) (number a n) (number b n) (2 ^ n) (bit (c 0)) (value_below y n)
+    (value_below b n) (value_below a n) e (bit_le (c 0))
 
 -- the top bit says which half the word is in
 pub top_half : (a : ℕ → Bool) (m : ℕ) → nat_lt (number a (suc m)) (2 ^ m) ≡ not (a m)
 top_half a m = by (a m) (number a m) (2 ^ m) (value_below a m)
   where
     by : (b : Bool) (v p : ℕ) → v < p → nat_lt (v + bit b * p) p ≡ not b
-    by true v p h = ⊎_elim (λ (t : nat_lt (v + bit true * p) p ≡ true). absurd (grind arith)) (λ (f : nat_lt (v + bit true * p) p ≡ false). f) (cases_Bool (nat_lt (v + bit true * p) p))
+    by true v p h = ⊎_elim (λ (t : nat_lt (v + bit true * p) p ≡ true). absurd (grind arith))
+        (λ (f : nat_lt (v + bit true * p) p ≡ false). f) (cases_Bool (nat_lt (v + bit true * p) p))
     by false v p h = lt-ltb (v + bit false * p) p (omega arith)
 
 abbrev pub pick : Bool → Bool → Bool → Bool
 pick true a b = a
 pick false a b = b
 
-pub value_pick : (g : Bool) (a b : ℕ → Bool) (n : ℕ) → number (λ i. pick g (a i) (b i)) n ≡ cond g (number a n) (number b n)
+pub value_pick : (g : Bool) (a b : ℕ → Bool) (n : ℕ)
+    → number (λ i. pick g (a i) (b i)) n ≡ cond g (number a n) (number b n)
 value_pick true a b n = refl
 value_pick false a b n = refl
 
@@ -139,58 +170,76 @@ xor2 true b = not b
 xor2 false b = b
 
 -- the complement and one more, where the top bit is set
-pub abs_gives : (a y c : ℕ → Bool) (m : ℕ) → c 0 ≡ a m → ((i : ℕ) → i < suc m → bit (y i) + 2 * bit (c (suc i)) ≡ bit (xor2 (a m) (a i)) + bit (c i)) → number y (suc m) ≡ cond (nat_lt (number a (suc m)) (2 ^ m)) (number a (suc m)) ((2 ^ suc m - number a (suc m)) % 2 ^ suc m)
+pub abs_gives : (a y c : ℕ → Bool) (m : ℕ) → c 0 ≡ a m
+    → ((i : ℕ) → i < suc m → bit (y i) + 2 * bit (c (suc i)) ≡ bit (xor2 (a m) (a i)) + bit (c i))
+    → number y (suc m) ≡ cond (nat_lt (number a (suc m)) (2 ^ m)) (number a (suc m))
+    ((2 ^ suc m - number a (suc m)) % 2 ^ suc m)
 abs_gives a y c m start h = rw (top_half a m) (by (a m) start h)
   where
-    by : (t : Bool) → c 0 ≡ t → ((i : ℕ) → i < suc m → bit (y i) + 2 * bit (c (suc i)) ≡ bit (xor2 t (a i)) + bit (c i)) → number y (suc m) ≡ cond (not t) (number a (suc m)) ((2 ^ suc m - number a (suc m)) % 2 ^ suc m)
+    by : (t : Bool) → c 0 ≡ t → ((i : ℕ) → i < suc m
+        → bit (y i) + 2 * bit (c (suc i)) ≡ bit (xor2 t (a i)) + bit (c i))
+        → number y (suc m) ≡ cond (not t) (number a (suc m))
+        ((2 ^ suc m - number a (suc m)) % 2 ^ suc m)
     by true s k =
         let e = carry_sum (λ i. bit (not (a i))) y c (suc m) k in
         let f = value_not a (suc m) in
         let g = digits_one (λ i. not (a i)) (suc m) in
         let z = ap bit s in
-        last_sum (number y (suc m)) (bit (c (suc m))) (2 ^ suc m) (2 ^ suc m - number a (suc m)) (value_below y (suc m)) (omega (arith, e, f, g, z))
+        last_sum (number y (suc m)) (bit (c (suc m))) (2 ^ suc m) (2 ^ suc m - number a (suc m))
+        (value_below y (suc m)) (omega (arith, e, f, g, z))
     by false s k =
         let e = carry_sum (λ i. bit (a i)) y c (suc m) k in
         let g = digits_one a (suc m) in
         let z = ap bit s in
-        small (c (suc m)) (number y (suc m)) (number a (suc m)) (2 ^ suc m) (value_below a (suc m)) (omega (arith, e, g, z))
+        small (c (suc m)) (number y (suc m)) (number a (suc m)) (2 ^ suc m) (value_below a (suc m))
+        (omega (arith, e, g, z))
       where
         small : (c : Bool) (y a p : ℕ) → a < p → y + bit c * p ≡ a → y ≡ a
         small true y a p lt e = absurd (omega (arith, e))
         small false y a p lt e = omega (arith, e)
 
-pub shl1_gives : (a y c : ℕ → Bool) (n : ℕ) → c 0 ≡ false → ((i : ℕ) → i < n → y i ≡ c i) → ((i : ℕ) → i < n → c (suc i) ≡ a i) → number y n ≡ (2 * number a n) % 2 ^ n
+pub shl1_gives : (a y c : ℕ → Bool) (n : ℕ) → c 0 ≡ false → ((i : ℕ) → i < n → y i ≡ c i)
+    → ((i : ℕ) → i < n → c (suc i) ≡ a i) → number y n ≡ (2 * number a n) % 2 ^ n
 shl1_gives a y c n start hy hc =
-    let e = carry_sum (λ i. 2 * bit (a i)) y c n (λ i lt. let p = ap bit (hy i lt) in let q = ap bit (hc i lt) in omega (arith, p, q)) in
+    let e = carry_sum (λ i. 2 * bit (a i)) y c n (λ i lt. let p = ap bit (hy i lt) in
+    let q = ap bit (hc i lt) in omega (arith, p, q)) in
     let g = digits_double a n in
     let s = ap bit start in
-    last_sum (number y n) (bit (c n)) (2 ^ n) (2 * number a n) (value_below y n) (omega (arith, e, s, g))
+    last_sum (number y n) (bit (c n)) (2 ^ n) (2 * number a n) (value_below y n)
+    (omega (arith, e, s, g))
 
 -- the lowest bit, and the others one position down
-pub value_low : (a : ℕ → Bool) (m : ℕ) → number a (suc m) ≡ bit (a 0) + 2 * number (λ k. a (suc k)) m
+pub value_low : (a : ℕ → Bool) (m : ℕ) → number a (suc m)
+    ≡ bit (a 0) + 2 * number (λ k. a (suc k)) m
 value_low a zero = omega arith
 value_low a (suc m) = let e = value_low a m in rw pow-suc (omega (arith, e))
 
 -- downwards: each position gets the bit above it, and the top one none
-pub shr1_gives : (a y : ℕ → Bool) (m : ℕ) → y m ≡ false → ((i : ℕ) → i < m → y i ≡ a (suc i)) → number y (suc m) ≡ number a (suc m) / 2
+pub shr1_gives : (a y : ℕ → Bool) (m : ℕ) → y m ≡ false → ((i : ℕ) → i < m → y i ≡ a (suc i))
+    → number y (suc m) ≡ number a (suc m) / 2
 shr1_gives a y m top h =
     let e = value_same y (λ k. a (suc k)) m h in
     let f = value_low a m in
     let z = ap bit top in
-    let w : number y (suc m) ≡ number (λ k. a (suc k)) m = omega (arith, ap (λ (b : ℕ). b * 2 ^ m) z, e) in
+    let w : number y (suc m) ≡ number (λ k. a (suc k)) m =
+    omega (arith, ap (λ (b : ℕ). b * 2 ^ m) z, e) in
     w ∙ half (a 0) (number (λ k. a (suc k)) m) ∙ ap (λ x. x / 2) (sym f)
   where
     half : (b : Bool) (v : ℕ) → v ≡ (bit b + 2 * v) / 2
     half b v = let le = bit_le b in omega (arith, le)
 
 -- a state that stays set while two words agree
-pub same_gives : (a b e : ℕ → Bool) (n : ℕ) → e 0 ≡ true → ((i : ℕ) → i < n → e (suc i) ≡ e i && not (xor2 (a i) (b i))) → e n ≡ (number a n == number b n)
+pub same_gives : (a b e : ℕ → Bool) (n : ℕ) → e 0 ≡ true
+    → ((i : ℕ) → i < n → e (suc i) ≡ e i && not (xor2 (a i) (b i)))
+    → e n ≡ (number a n == number b n)
 same_gives a b e zero start h = start
 same_gives a b e (suc n) start h =
-    h n (omega arith) ∙ ap (λ x. x && not (xor2 (a n) (b n))) (same_gives a b e n start (λ i lt. h i (omega arith)))
+    h n (omega arith) ∙ ap (λ x. x && not (xor2 (a n) (b n)))
+    (same_gives a b e n start (λ i lt. h i (omega arith)))
     ∙ by (a n) (b n) (number a n) (number b n) (2 ^ n) (value_below a n) (value_below b n)
   where
-    by : (s t : Bool) (x y p : ℕ) → x < p → y < p → ((x == y) && not (xor2 s t)) ≡ (x + bit s * p == y + bit t * p)
+    by : (s t : Bool) (x y p : ℕ) → x < p → y < p
+        → ((x == y) && not (xor2 s t)) ≡ (x + bit s * p == y + bit t * p)
     by s t x y p lx ly = by_eq s t x y p lx ly (cases_eq x y)
       where
         at_eq : (u v : ℕ) → u ≡ v → true ≡ (u == v)
@@ -199,12 +248,21 @@ same_gives a b e (suc n) start h =
         at_ne : (u v : ℕ) → (u ≡ v → ⊥) → false ≡ (u == v)
         at_ne u v h = sym (ne_eqb u v h)
 
-        by_eq : (s t : Bool) (x y p : ℕ) → x < p → y < p → (x ≡ y) ⊎ (x ≡ y → ⊥) → ((x == y) && not (xor2 s t)) ≡ (x + bit s * p == y + bit t * p)
-        by_eq true true x y p lx ly (inl h) = rw (eq-eqb x y h) (at_eq (x + 1 * p) (y + 1 * p) (omega (arith, h)))
-        by_eq false false x y p lx ly (inl h) = rw (eq-eqb x y h) (at_eq (x + 0 * p) (y + 0 * p) (omega (arith, h)))
-        by_eq true false x y p lx ly (inl h) = rw (eq-eqb x y h) (at_ne (x + 1 * p) (y + 0 * p) (λ g. absurd (omega (arith, g))))
-        by_eq false true x y p lx ly (inl h) = rw (eq-eqb x y h) (at_ne (x + 0 * p) (y + 1 * p) (λ g. absurd (omega (arith, g))))
-        by_eq true true x y p lx ly (inr h) = rw (ne_eqb x y h) (at_ne (x + 1 * p) (y + 1 * p) (λ g. h (omega (arith, g))))
-        by_eq false false x y p lx ly (inr h) = rw (ne_eqb x y h) (at_ne (x + 0 * p) (y + 0 * p) (λ g. h (omega (arith, g))))
-        by_eq true false x y p lx ly (inr h) = rw (ne_eqb x y h) (at_ne (x + 1 * p) (y + 0 * p) (λ g. absurd (omega (arith, g))))
-        by_eq false true x y p lx ly (inr h) = rw (ne_eqb x y h) (at_ne (x + 0 * p) (y + 1 * p) (λ g. absurd (omega (arith, g))))
+        by_eq : (s t : Bool) (x y p : ℕ) → x < p → y < p → (x ≡ y) ⊎ (x ≡ y → ⊥)
+            → ((x == y) && not (xor2 s t)) ≡ (x + bit s * p == y + bit t * p)
+        by_eq true true x y p lx ly (inl h) =
+            rw (eq-eqb x y h) (at_eq (x + 1 * p) (y + 1 * p) (omega (arith, h)))
+        by_eq false false x y p lx ly (inl h) =
+            rw (eq-eqb x y h) (at_eq (x + 0 * p) (y + 0 * p) (omega (arith, h)))
+        by_eq true false x y p lx ly (inl h) =
+            rw (eq-eqb x y h) (at_ne (x + 1 * p) (y + 0 * p) (λ g. absurd (omega (arith, g))))
+        by_eq false true x y p lx ly (inl h) =
+            rw (eq-eqb x y h) (at_ne (x + 0 * p) (y + 1 * p) (λ g. absurd (omega (arith, g))))
+        by_eq true true x y p lx ly (inr h) =
+            rw (ne_eqb x y h) (at_ne (x + 1 * p) (y + 1 * p) (λ g. h (omega (arith, g))))
+        by_eq false false x y p lx ly (inr h) =
+            rw (ne_eqb x y h) (at_ne (x + 0 * p) (y + 0 * p) (λ g. h (omega (arith, g))))
+        by_eq true false x y p lx ly (inr h) =
+            rw (ne_eqb x y h) (at_ne (x + 1 * p) (y + 0 * p) (λ g. absurd (omega (arith, g))))
+        by_eq false true x y p lx ly (inr h) =
+            rw (ne_eqb x y h) (at_ne (x + 0 * p) (y + 1 * p) (λ g. absurd (omega (arith, g))))

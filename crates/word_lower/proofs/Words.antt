@@ -1,5 +1,6 @@
 -- Operations that write each bit of a word without a carry, and the lesser and the greater.
-use Rattle.std.proofs.Common.{◌≡◌, ℕ, suc, ◌+◌, ◌-◌, ◌*◌, ◌^◌, ◌<◌, Bool, true, false, not, cond, List, [], ◌∷◌, refl, sym, ap, ◌∙◌, subst, arith}
+use Rattle.std.proofs.Common.{◌≡◌, ℕ, suc, ◌+◌, ◌-◌, ◌*◌, ◌^◌, ◌<◌, Bool, true, false, not, cond}
+use Rattle.std.proofs.Common.{List, [], ◌∷◌, refl, sym, ap, ◌∙◌, subst, arith}
 use Rattle.std.specs.Prelude.{nat_lt, ◌==◌}
 use Rattle.bit_rows.specs.Bits.{majority}
 use Rattle.mig_graph.specs.declared.Lit.{Lit}
@@ -20,19 +21,29 @@ use Rattle.loop_laws.proofs.Same.{set_same, set_other}
 use Rattle.loop_laws.proofs.Steps.{after_steps, steps_each}
 use Rattle.loop_laws.proofs.Placed.{AllBefore, ReadPlaces}
 use Rattle.word_lower.specs.Places.{scratch_bit}
-use Rattle.word_lower.specs.Programs.{target, first, second, third, plain, turned, off, up, constant, moved, inverted, joined, without, unlike, chosen, compared}
-use Rattle.word_lower.proofs.Setting.{bit, number, operation, Slots, rooms_for, at, row, number_at, SlotsApart, IsFree, AreSlots, Gives, DoesWords, DoesBits}
+use Rattle.word_lower.specs.Programs.{target, first, second, third, plain, turned, off, up}
+use Rattle.word_lower.specs.Programs.{constant, moved, inverted, joined, without, unlike, chosen}
+use Rattle.word_lower.specs.Programs.{compared}
+use Rattle.word_lower.proofs.Setting.{bit, number, operation, Slots, rooms_for, at, row, number_at}
+use Rattle.word_lower.proofs.Setting.{SlotsApart, IsFree, AreSlots, Gives, DoesWords, DoesBits}
 use Rattle.op_text.specs.Values.{bits}
-use Rattle.word_lower.proofs.Passes.{bit_free, bit_else, state_body, state_loop, word_body, word_loop, upwards, set_number}
+use Rattle.word_lower.proofs.Passes.{bit_free, bit_else, state_body, state_loop, word_body}
+use Rattle.word_lower.proofs.Passes.{word_loop, upwards, set_number}
 use Rattle.word_lower.proofs.Sums.{value_same, value_false, value_pick, compare, xor2, pick}
-use Rattle.word_lower.proofs.Bitwise.{value_and, value_or, value_xor, value_inverted, value_true, relu_gives, least, greatest}
+use Rattle.word_lower.proofs.Bitwise.{value_and, value_or, value_xor, value_inverted, value_true}
+use Rattle.word_lower.proofs.Bitwise.{relu_gives, least, greatest}
 
-module _ (o : WordOp) (n : ℕ) (m : Slots) (are : AreSlots n n n 0 m) (reads : List Place) (inputs : ℕ) (nodes : List Node) (y : Lit) (xs : List Origin) (bits : Spots) where
+module _ (o : WordOp) (n : ℕ) (m : Slots) (are : AreSlots n n n 0 m) (reads : List Place)
+    (inputs : ℕ) (nodes : List Node) (y : Lit) (xs : List Origin) (bits : Spots) where
   pub word_does : ReadPlaces n 0 n (at m.target sub.Inner ∷ []) reads xs
-      → number (λ j. turn n 0 (word_body m.target sub.Inner reads inputs nodes y) xs bits (suc j) 0) n ≡ operation o n (number_at n bits m.a n) (number_at n bits m.b n) (number_at n bits m.s 1)
-      → Gives o n n n 0 m bits (after_many n 0 (word_body m.target sub.Inner reads inputs nodes y) n bits)
+      → number (λ j. turn n 0 (word_body m.target sub.Inner reads inputs nodes y) xs bits (suc j) 0)
+      n ≡ operation o n (number_at n bits m.a n) (number_at n bits m.b n)
+      (number_at n bits m.s 1)
+      → Gives o n n n 0 m bits (after_many n 0 (word_body m.target sub.Inner reads inputs nodes y) n
+      bits)
   word_does are_read gives =
-      let l = word_loop n 0 m.target are.own are.moves sub.Inner (λ v. v) (upwards n 0) reads inputs nodes y xs bits are_read in
+      let l = word_loop n 0 m.target are.own are.moves sub.Inner (λ v. v) (upwards n 0) reads inputs
+      nodes y xs bits are_read in
       record { gives = value_same _ _ n l.word ∙ gives; keeps = λ q out. l.rest q out.target }
 
 unlike_bit : (x y : Bool) → majority false (not (majority false x y)) (majority true x y) ≡ xor2 x y
@@ -42,7 +53,8 @@ unlike_bit true false = refl
 unlike_bit false true = refl
 unlike_bit false false = refl
 
-chosen_bit : (x y s : Bool) → majority true (majority false x s) (majority false y (not s)) ≡ pick s x y
+chosen_bit : (x y s : Bool) → majority true (majority false x s) (majority false y (not s))
+    ≡ pick s x y
 unfolding majority
 chosen_bit true true true = refl
 chosen_bit true true false = refl
@@ -75,88 +87,118 @@ module _ (n : ℕ) (m : Slots) (are : AreSlots n n n 0 m) where
   not_does before =
       let b = placed_body (rooms_for op.Not m) (inverted (first sub.Inner) (target sub.Inner)) in
       subst (Gives op.Not n n n 0 m before) (sym (steps_each n b [] before))
-      (word_does op.Not n m are b.reads b.graph.inputs b.graph.nodes (turned 1) (Standing ∷ []) before (a_read, tt) (value_inverted (λ i. before (row n m.a i)) n))
+      (word_does op.Not n m are b.reads b.graph.inputs b.graph.nodes (turned 1) (Standing
+      ∷ []) before (a_read, tt) (value_inverted (λ i. before (row n m.a i)) n))
 
   pub copy_does : DoesWords op.Copy Word n n 0 m
   unfolding values_from
   copy_does before =
       let b = placed_body (rooms_for op.Copy m) (moved (first sub.Inner) (target sub.Inner)) in
       subst (Gives op.Copy n n n 0 m before) (sym (steps_each n b [] before))
-      (word_does op.Copy n m are b.reads b.graph.inputs b.graph.nodes (plain 1) (Standing ∷ []) before (a_read, tt) refl)
+      (word_does op.Copy n m are b.reads b.graph.inputs b.graph.nodes (plain 1) (Standing
+      ∷ []) before (a_read, tt) refl)
 
   pub zero_does : DoesWords op.Zero Word n n 0 m
   unfolding values_from
   zero_does before =
       let b = placed_body (rooms_for op.Zero m) (constant off (target sub.Inner)) in
       subst (Gives op.Zero n n n 0 m before) (sym (steps_each n b [] before))
-      (word_does op.Zero n m are b.reads b.graph.inputs b.graph.nodes off [] before tt (value_false n))
+      (word_does op.Zero n m are b.reads b.graph.inputs b.graph.nodes off [] before tt
+      (value_false n))
 
   pub ones_does : DoesWords op.Ones Word n n 0 m
   unfolding values_from
   ones_does before =
       let b = placed_body (rooms_for op.Ones m) (constant up (target sub.Inner)) in
       subst (Gives op.Ones n n n 0 m before) (sym (steps_each n b [] before))
-      (word_does op.Ones n m are b.reads b.graph.inputs b.graph.nodes up [] before tt (value_true n))
+      (word_does op.Ones n m are b.reads b.graph.inputs b.graph.nodes up [] before tt
+      (value_true n))
 
   pub and_does : DoesWords op.And Word n n 0 m
   unfolding values_from
   and_does before =
-      let b = placed_body (rooms_for op.And m) (joined off (first sub.Inner) (second sub.Inner) (target sub.Inner)) in
+      let b = placed_body (rooms_for op.And m)
+      (joined off (first sub.Inner) (second sub.Inner) (target sub.Inner)) in
       subst (Gives op.And n n n 0 m before) (sym (steps_each n b [] before))
-      (word_does op.And n m are b.reads b.graph.inputs b.graph.nodes (plain 3) (Standing ∷ (Standing ∷ [])) before (a_read, (b_read, tt)) (value_and (λ i. before (row n m.a i)) (λ i. before (row n m.b i)) n))
+      (word_does op.And n m are b.reads b.graph.inputs b.graph.nodes (plain 3) (Standing
+      ∷ (Standing ∷ [])) before (a_read, (b_read, tt))
+      (value_and (λ i. before (row n m.a i)) (λ i. before (row n m.b i)) n))
 
   pub or_does : DoesWords op.Or Word n n 0 m
   unfolding values_from
   or_does before =
-      let b = placed_body (rooms_for op.Or m) (joined up (first sub.Inner) (second sub.Inner) (target sub.Inner)) in
+      let b = placed_body (rooms_for op.Or m)
+      (joined up (first sub.Inner) (second sub.Inner) (target sub.Inner)) in
       subst (Gives op.Or n n n 0 m before) (sym (steps_each n b [] before))
-      (word_does op.Or n m are b.reads b.graph.inputs b.graph.nodes (plain 3) (Standing ∷ (Standing ∷ [])) before (a_read, (b_read, tt)) (value_or (λ i. before (row n m.a i)) (λ i. before (row n m.b i)) n))
+      (word_does op.Or n m are b.reads b.graph.inputs b.graph.nodes (plain 3) (Standing
+      ∷ (Standing ∷ [])) before (a_read, (b_read, tt))
+      (value_or (λ i. before (row n m.a i)) (λ i. before (row n m.b i)) n))
 
   pub xor_does : DoesWords op.Xor Word n n 0 m
   unfolding values_from
   xor_does before =
-      let b = placed_body (rooms_for op.Xor m) (unlike (first sub.Inner) (second sub.Inner) (target sub.Inner)) in
+      let b = placed_body (rooms_for op.Xor m)
+      (unlike (first sub.Inner) (second sub.Inner) (target sub.Inner)) in
       let a = λ (i : ℕ). before (row n m.a i) in
       let c = λ (i : ℕ). before (row n m.b i) in
       subst (Gives op.Xor n n n 0 m before) (sym (steps_each n b [] before))
-      (word_does op.Xor n m are b.reads b.graph.inputs b.graph.nodes (plain 5) (Standing ∷ (Standing ∷ [])) before (a_read, (b_read, tt))
+      (word_does op.Xor n m are b.reads b.graph.inputs b.graph.nodes (plain 5) (Standing
+      ∷ (Standing ∷ [])) before (a_read, (b_read, tt))
       (value_same _ _ n (λ i lt. unlike_bit (a i) (c i)) ∙ value_xor a c n))
 
   pub relu_does : 0 < n → DoesWords op.Relu Word n n 0 m
   unfolding values_from
   relu_does some before =
-      let b = placed_body (rooms_for op.Relu m) (without (first sub.Inner) (first sub.Top) (target sub.Inner)) in
+      let b = placed_body (rooms_for op.Relu m)
+      (without (first sub.Inner) (first sub.Top) (target sub.Inner)) in
       let a = λ (i : ℕ). before (row n m.a i) in
       let e : n ≡ suc (n - 1) = omega arith in
       subst (Gives op.Relu n n n 0 m before) (sym (steps_each n b [] before))
-      (word_does op.Relu n m are b.reads b.graph.inputs b.graph.nodes (plain 3) (Standing ∷ (Standing ∷ [])) before (a_read, (top_read, tt))
-      (subst (λ k. number (λ i. majority false (a i) (not (a (n - 1)))) k ≡ cond (nat_lt (number a k) (2 ^ (n - 1))) (number a k) 0) (sym e) (relu_gives a (n - 1))))
+      (word_does op.Relu n m are b.reads b.graph.inputs b.graph.nodes (plain 3) (Standing
+      ∷ (Standing ∷ [])) before (a_read, (top_read, tt))
+      (subst (λ k. number (λ i. majority false (a i) (not (a (n - 1)))) k
+      ≡ cond (nat_lt (number a k) (2 ^ (n - 1))) (number a k) 0) (sym e)
+      (relu_gives a (n - 1))))
 
   pub if_else_does : DoesWords op.IfElse Word n n 0 m
   unfolding values_from
   if_else_does before =
-      let b = placed_body (rooms_for op.IfElse m) (chosen (first sub.Inner) (second sub.Inner) (third sub.Zero) (target sub.Inner)) in
+      let b = placed_body (rooms_for op.IfElse m)
+      (chosen (first sub.Inner) (second sub.Inner) (third sub.Zero) (target sub.Inner)) in
       let a = λ (i : ℕ). before (row n m.a i) in
       let c = λ (i : ℕ). before (row n m.b i) in
       let s = before (row n m.s 0) in
       subst (Gives op.IfElse n n n 0 m before) (sym (steps_each n b [] before))
-      (word_does op.IfElse n m are b.reads b.graph.inputs b.graph.nodes (plain 6) (Standing ∷ (Standing ∷ (Standing ∷ []))) before (a_read, (b_read, (s_read, tt)))
-      (value_same _ _ n (λ i lt. chosen_bit (a i) (c i) s) ∙ value_pick s a c n ∙ by_bit s (number a n) (number c n)))
+      (word_does op.IfElse n m are b.reads b.graph.inputs b.graph.nodes (plain 6) (Standing
+      ∷ (Standing ∷ (Standing ∷ []))) before (a_read, (b_read, (s_read, tt)))
+      (value_same _ _ n (λ i lt. chosen_bit (a i) (c i) s) ∙ value_pick s a c n
+      ∙ by_bit s (number a n) (number c n)))
 
 -- the comparison of the arguments in a bit, and the choice by it
 abbrev pub compare_block : Slots → Slot → Block
-compare_block m t = state_body t (at m.a sub.Inner ∷ at m.b sub.Inner ∷ at t sub.Zero ∷ []) 3 (compared (first sub.Zero) (second sub.Zero) (third sub.Zero)).graph.nodes (plain 4)
+compare_block m t = state_body t (at m.a sub.Inner ∷ at m.b sub.Inner ∷ at t sub.Zero
+    ∷ []) 3 (compared (first sub.Zero) (second sub.Zero) (third sub.Zero)).graph.nodes (plain 4)
 
 abbrev pub choice_block : Slots → Slot → Slot → Slot → Block
-choice_block m x y t = word_body m.target sub.Inner (at x sub.Inner ∷ at y sub.Inner ∷ at t sub.Zero ∷ []) 3 (chosen (first sub.Zero) (second sub.Zero) (third sub.Zero) (target sub.Zero)).graph.nodes (plain 6)
+choice_block m x y t = word_body m.target sub.Inner (at x sub.Inner ∷ at y sub.Inner ∷ at t sub.Zero
+    ∷ []) 3 (chosen (first sub.Zero) (second sub.Zero) (third sub.Zero)
+    (target sub.Zero)).graph.nodes (plain 6)
 
 -- first the comparison in a scratch bit, and then the choice by it
-module _ (o : WordOp) (n : ℕ) (m : Slots) (are : AreSlots n n n 1 m) (x y : Slot) (x_target : SlotsApart n x n m.target n) (y_target : SlotsApart n y n m.target n) (x_bit : SlotsApart n x n (scratch_bit m.free_bit) 1) (y_bit : SlotsApart n y n (scratch_bit m.free_bit) 1) (before : Spots) where
+module _ (o : WordOp) (n : ℕ) (m : Slots) (are : AreSlots n n n 1 m) (x y : Slot)
+    (x_target : SlotsApart n x n m.target n) (y_target : SlotsApart n y n m.target n)
+    (x_bit : SlotsApart n x n (scratch_bit m.free_bit) 1)
+    (y_bit : SlotsApart n y n (scratch_bit m.free_bit) 1) (before : Spots) where
   f : IsFree n n n m (scratch_bit m.free_bit) 1
   f = bit_free n n n 0 m are
 
-  pub choice_does : cond (nat_lt (number_at n before m.b n) (number_at n before m.a n)) (number_at n before x n) (number_at n before y n) ≡ operation o n (number_at n before m.a n) (number_at n before m.b n) (number_at n before m.s 1)
-      → Gives o n n n 1 m before (after_steps n (Along (compare_block m (scratch_bit m.free_bit)) ∷ (Along (choice_block m x y (scratch_bit m.free_bit)) ∷ [])) (set_spot before (row n (scratch_bit m.free_bit) 0) false))
+  pub choice_does : cond (nat_lt (number_at n before m.b n) (number_at n before m.a n))
+      (number_at n before x n) (number_at n before y n)
+      ≡ operation o n (number_at n before m.a n) (number_at n before m.b n)
+      (number_at n before m.s 1)
+      → Gives o n n n 1 m before (after_steps n (Along (compare_block m (scratch_bit m.free_bit))
+      ∷ (Along (choice_block m x y (scratch_bit m.free_bit)) ∷ []))
+      (set_spot before (row n (scratch_bit m.free_bit) 0) false))
   unfolding values_from
   choice_does gives =
       let t = scratch_bit m.free_bit in
@@ -167,27 +209,48 @@ module _ (o : WordOp) (n : ℕ) (m : Slots) (are : AreSlots n n n 1 m) (x y : Sl
       let mid = after_many n 0 b1 n start in
       let new = after_many n 0 b2 n mid in
       let xs : List Origin = Standing ∷ (Standing ∷ (Carried 0 ∷ [])) in
-      let l1 = state_loop n 0 t tt b1.reads b1.graph.inputs b1.graph.nodes (plain 4) xs start (((λ i j li lj e. f.a.by i 0 li (omega arith) e), tt), (((λ i j li lj e. f.b.by i 0 li (omega arith) e), tt), ((omega arith, λ i j li lj. refl), tt))) in
-      let l2 = word_loop n 0 m.target are.own are.moves sub.Inner (λ v. v) (upwards n 0) b2.reads b2.graph.inputs b2.graph.nodes (plain 6) (Standing ∷ (Standing ∷ (Standing ∷ []))) mid
-      (((λ i j li lj e. x_target.by i j li (omega arith) e), tt), (((λ i j li lj e. y_target.by i j li (omega arith) e), tt), (((λ i j li lj e. f.target.by 0 j (omega arith) (omega arith) e), tt), tt))) in
+      let l1 = state_loop n 0 t tt b1.reads b1.graph.inputs b1.graph.nodes (plain 4) xs start (
+        ((λ i j li lj e. f.a.by i 0 li (omega arith) e), tt),
+        (
+          ((λ i j li lj e. f.b.by i 0 li (omega arith) e), tt),
+          ((omega arith, λ i j li lj. refl), tt),
+        ),
+      ) in
+      let l2 = word_loop n 0 m.target are.own are.moves sub.Inner (λ v. v) (upwards n 0) b2.reads
+      b2.graph.inputs b2.graph.nodes (plain 6) (Standing ∷ (Standing ∷ (Standing ∷ []))) mid (
+        ((λ i j li lj e. x_target.by i j li (omega arith) e), tt),
+        (
+          ((λ i j li lj e. y_target.by i j li (omega arith) e), tt),
+          (((λ i j li lj e. f.target.by 0 j (omega arith) (omega arith) e), tt), tt),
+        ),
+      ) in
       let e = λ (i : ℕ). turn n 0 b1 xs start i 0 in
       let a = λ (i : ℕ). start (row n m.a i) in
       let c = λ (i : ℕ). start (row n m.b i) in
       let va : number a n ≡ number_at n before m.a n = set_number n n before m.a t false f.a in
       let vb : number c n ≡ number_at n before m.b n = set_number n n before m.b t false f.b in
-      let none : number a n + bit (e 0) ≡ number_at n before m.a n = (let z = ap bit (set_same before p false p refl) in omega (arith, z, va)) in
-      let g : mid p ≡ nat_lt (number_at n before m.b n) (number_at n before m.a n) = l1.state ∙ compare a c e n (λ i lt. refl) ∙ ap (nat_lt (number c n)) none ∙ ap (λ z. nat_lt z (number_at n before m.a n)) vb in
+      let none : number a n + bit (e 0) ≡ number_at n before m.a n =
+      (let z = ap bit (set_same before p false p refl) in omega (arith, z, va)) in
+      let g : mid p ≡ nat_lt (number_at n before m.b n) (number_at n before m.a n) =
+      l1.state ∙ compare a c e n (λ i lt. refl) ∙ ap (nat_lt (number c n)) none
+      ∙ ap (λ z. nat_lt z (number_at n before m.a n)) vb in
       let stays = λ (q : Spot) (out : q ≡ p → ⊥). l1.rest q out ∙ set_other before p false q out in
-      let vx : number (λ i. mid (row n x i)) n ≡ number_at n before x n = value_same _ _ n (λ i li. stays (row n x i) (λ h. x_bit.by i 0 li (omega arith) h)) in
-      let vy : number (λ i. mid (row n y i)) n ≡ number_at n before y n = value_same _ _ n (λ i li. stays (row n y i) (λ h. y_bit.by i 0 li (omega arith) h)) in
-      subst (Gives o n n n 1 m before) (sym (steps_each n b1 (Along b2 ∷ []) start ∙ steps_each n b2 [] mid))
+      let vx : number (λ i. mid (row n x i)) n ≡ number_at n before x n =
+      value_same _ _ n (λ i li. stays (row n x i) (λ h. x_bit.by i 0 li (omega arith) h)) in
+      let vy : number (λ i. mid (row n y i)) n ≡ number_at n before y n =
+      value_same _ _ n (λ i li. stays (row n y i) (λ h. y_bit.by i 0 li (omega arith) h)) in
+      subst (Gives o n n n 1 m before) (sym (steps_each n b1 (Along b2 ∷ []) start
+      ∙ steps_each n b2 [] mid))
       record {
         gives =
-            value_same _ _ n (λ i li. l2.word i li ∙ chosen_bit (mid (row n x i)) (mid (row n y i)) (mid p))
+            value_same _ _ n (λ i li. l2.word i li
+            ∙ chosen_bit (mid (row n x i)) (mid (row n y i)) (mid p))
             ∙ value_pick (mid p) (λ i. mid (row n x i)) (λ i. mid (row n y i)) n
             ∙ ap (λ z. cond z (number (λ i. mid (row n x i)) n) (number (λ i. mid (row n y i)) n)) g
-            ∙ ap (λ z. cond (nat_lt (number_at n before m.b n) (number_at n before m.a n)) z (number (λ i. mid (row n y i)) n)) vx
-            ∙ ap (λ z. cond (nat_lt (number_at n before m.b n) (number_at n before m.a n)) (number_at n before x n) z) vy
+            ∙ ap (λ z. cond (nat_lt (number_at n before m.b n) (number_at n before m.a n)) z
+            (number (λ i. mid (row n y i)) n)) vx
+            ∙ ap (λ z. cond (nat_lt (number_at n before m.b n) (number_at n before m.a n))
+            (number_at n before x n) z) vy
             ∙ gives;
         keeps = λ q out. l2.rest q out.target ∙ stays q (bit_else n n 0 m q out);
       }
@@ -196,24 +259,32 @@ pub min_does : (n : ℕ) (m : Slots) → AreSlots n n n 1 m → DoesWords op.Min
 unfolding values_from
 min_does n m are before =
     let f = bit_free n n n 0 m are in
-    choice_does op.Min n m are m.b m.a are.b are.a f.b f.a before (least (number_at n before m.a n) (number_at n before m.b n))
+    choice_does op.Min n m are m.b m.a are.b are.a f.b f.a before
+    (least (number_at n before m.a n) (number_at n before m.b n))
 
 pub max_does : (n : ℕ) (m : Slots) → AreSlots n n n 1 m → DoesWords op.Max Word n n 1 m
 unfolding values_from
 max_does n m are before =
     let f = bit_free n n n 0 m are in
-    choice_does op.Max n m are m.a m.b are.a are.b f.a f.b before (greatest (number_at n before m.a n) (number_at n before m.b n))
+    choice_does op.Max n m are m.a m.b are.a are.b f.a f.b before
+    (greatest (number_at n before m.a n) (number_at n before m.b n))
 
 -- on bits
 module _ (n : ℕ) (m : Slots) (before : Spots) where
-  pub bit_does : (o : WordOp) (v : Bool) → bit v ≡ operation o 1 (bit (before (row n m.a 0))) (bit (before (row n m.b 0))) (bit (before (row n m.s 0))) → Gives o n 1 1 0 m before (set_spot before (row n m.target 0) v)
+  pub bit_does : (o : WordOp) (v : Bool) → bit v
+      ≡ operation o 1 (bit (before (row n m.a 0))) (bit (before (row n m.b 0)))
+      (bit (before (row n m.s 0))) → Gives o n 1 1 0 m before (set_spot before (row n m.target 0) v)
   bit_does o v gives = record {
     gives =
-        one_bit (λ j. set_spot before (row n m.target 0) v (row n m.target j)) ∙ ap bit (set_same before (row n m.target 0) v (row n m.target 0) refl)
+        one_bit (λ j. set_spot before (row n m.target 0) v (row n m.target j))
+        ∙ ap bit (set_same before (row n m.target 0) v (row n m.target 0) refl)
         ∙ gives
-        ∙ ap (λ x. operation o 1 x (bit (before (row n m.b 0))) (bit (before (row n m.s 0)))) (sym (one_bit (λ j. before (row n m.a j))))
-        ∙ ap (λ x. operation o 1 (number_at n before m.a 1) x (bit (before (row n m.s 0)))) (sym (one_bit (λ j. before (row n m.b j))))
-        ∙ ap (λ x. operation o 1 (number_at n before m.a 1) (number_at n before m.b 1) x) (sym (one_bit (λ j. before (row n m.s j))));
+        ∙ ap (λ x. operation o 1 x (bit (before (row n m.b 0))) (bit (before (row n m.s 0))))
+        (sym (one_bit (λ j. before (row n m.a j))))
+        ∙ ap (λ x. operation o 1 (number_at n before m.a 1) x (bit (before (row n m.s 0))))
+        (sym (one_bit (λ j. before (row n m.b j))))
+        ∙ ap (λ x. operation o 1 (number_at n before m.a 1) (number_at n before m.b 1) x)
+        (sym (one_bit (λ j. before (row n m.s j))));
     keeps = λ q out. set_other before (row n m.target 0) v q (λ e. out.target 0 (omega arith) e);
   }
     where
@@ -222,7 +293,8 @@ module _ (n : ℕ) (m : Slots) (before : Spots) where
 
 pub not_bit_does : (n : ℕ) (m : Slots) → DoesBits op.Not n m
 unfolding values_from
-not_bit_does n m before = bit_does n m before op.Not (not (before (row n m.a 0))) (by (before (row n m.a 0)))
+not_bit_does n m before = bit_does n m before op.Not (not (before (row n m.a 0)))
+    (by (before (row n m.a 0)))
   where
     by : (x : Bool) → bit (not x) ≡ 2 ^ 1 - 1 - bit x
     by true = refl
@@ -234,7 +306,9 @@ copy_bit_does n m before = bit_does n m before op.Copy (before (row n m.a 0)) re
 
 pub and_bit_does : (n : ℕ) (m : Slots) → DoesBits op.And n m
 unfolding values_from majority bits
-and_bit_does n m before = bit_does n m before op.And (majority false (before (row n m.a 0)) (before (row n m.b 0))) (by (before (row n m.a 0)) (before (row n m.b 0)))
+and_bit_does n m before = bit_does n m before op.And
+    (majority false (before (row n m.a 0)) (before (row n m.b 0)))
+    (by (before (row n m.a 0)) (before (row n m.b 0)))
   where
     by : (x y : Bool) → bit (majority false x y) ≡ operation op.And 1 (bit x) (bit y) 0
     by true true = refl
@@ -244,9 +318,13 @@ and_bit_does n m before = bit_does n m before op.And (majority false (before (ro
 
 pub if_else_bit_does : (n : ℕ) (m : Slots) → DoesBits op.IfElse n m
 unfolding values_from majority
-if_else_bit_does n m before = bit_does n m before op.IfElse (majority true (majority false (before (row n m.a 0)) (before (row n m.s 0))) (majority false (before (row n m.b 0)) (not (before (row n m.s 0))))) (by (before (row n m.a 0)) (before (row n m.b 0)) (before (row n m.s 0)))
+if_else_bit_does n m before = bit_does n m before op.IfElse
+    (majority true (majority false (before (row n m.a 0)) (before (row n m.s 0)))
+    (majority false (before (row n m.b 0)) (not (before (row n m.s 0)))))
+    (by (before (row n m.a 0)) (before (row n m.b 0)) (before (row n m.s 0)))
   where
-    by : (x y s : Bool) → bit (majority true (majority false x s) (majority false y (not s))) ≡ operation op.IfElse 1 (bit x) (bit y) (bit s)
+    by : (x y s : Bool) → bit (majority true (majority false x s) (majority false y (not s)))
+        ≡ operation op.IfElse 1 (bit x) (bit y) (bit s)
     by true true true = refl
     by true true false = refl
     by true false true = refl
@@ -258,7 +336,9 @@ if_else_bit_does n m before = bit_does n m before op.IfElse (majority true (majo
 
 pub or_bit_does : (n : ℕ) (m : Slots) → DoesBits op.Or n m
 unfolding values_from majority bits
-or_bit_does n m before = bit_does n m before op.Or (majority true (before (row n m.a 0)) (before (row n m.b 0))) (by (before (row n m.a 0)) (before (row n m.b 0)))
+or_bit_does n m before = bit_does n m before op.Or
+    (majority true (before (row n m.a 0)) (before (row n m.b 0)))
+    (by (before (row n m.a 0)) (before (row n m.b 0)))
   where
     by : (x y : Bool) → bit (majority true x y) ≡ operation op.Or 1 (bit x) (bit y) 0
     by true true = refl
@@ -268,9 +348,13 @@ or_bit_does n m before = bit_does n m before op.Or (majority true (before (row n
 
 pub xor_bit_does : (n : ℕ) (m : Slots) → DoesBits op.Xor n m
 unfolding values_from majority bits
-xor_bit_does n m before = bit_does n m before op.Xor (majority false (not (majority false (before (row n m.a 0)) (before (row n m.b 0)))) (majority true (before (row n m.a 0)) (before (row n m.b 0)))) (by (before (row n m.a 0)) (before (row n m.b 0)))
+xor_bit_does n m before = bit_does n m before op.Xor
+    (majority false (not (majority false (before (row n m.a 0)) (before (row n m.b 0))))
+    (majority true (before (row n m.a 0)) (before (row n m.b 0))))
+    (by (before (row n m.a 0)) (before (row n m.b 0)))
   where
-    by : (x y : Bool) → bit (majority false (not (majority false x y)) (majority true x y)) ≡ operation op.Xor 1 (bit x) (bit y) 0
+    by : (x y : Bool) → bit (majority false (not (majority false x y)) (majority true x y))
+        ≡ operation op.Xor 1 (bit x) (bit y) 0
     by true true = refl
     by true false = refl
     by false true = refl

@@ -1,5 +1,6 @@
 -- The rooms of a word statement: the target, the arguments, and the bits of internal scratch.
-use Rattle.std.specs.Prelude.{◌≡◌, ℕ, zero, suc, ◌+◌, Bool, true, false, List, [], ◌∷◌, ◌++◌, map, Some}
+use Rattle.std.specs.Prelude.{◌≡◌, ℕ, zero, suc, ◌+◌, Bool, true, false, List, [], ◌∷◌, ◌++◌, map}
+use Rattle.std.specs.Prelude.{Some}
 use Rattle.op_text.specs.declared.tree.Kind.{Kind}
 use Rattle.op_text.specs.declared.tree.Kind.TheVariants.{Word, Bit}
 use Rattle.loop_ir.specs.declared.ir.Space.TheVariants.{ScratchBit}
@@ -12,7 +13,12 @@ rows_of Word = Full
 rows_of Bit = One
 
 abbrev pub room_of : Bool → Slot → Room
-room_of written s = record { space = s.space; which = s.which; rows = rows_of s.kind; written = written }
+room_of written s = record {
+  space = s.space;
+  which = s.which;
+  rows = rows_of s.kind;
+  written = written;
+}
 
 abbrev pub scratch_bit : ℕ → Slot
 scratch_bit k = record { space = ScratchBit; which = k; kind = Bit }
@@ -23,7 +29,8 @@ scratch_from free zero = []
 scratch_from free (suc count) = scratch_bit free ∷ scratch_from (free + 1) count
 
 abbrev pub rooms_of : Slot → List Slot → List Slot → List Room
-rooms_of target args scratch = room_of true target ∷ (map (room_of false) args ++ map (room_of true) scratch)
+rooms_of target args scratch = room_of true target
+    ∷ (map (room_of false) args ++ map (room_of true) scratch)
 
 -- the names have these places
 abbrev pub AreAt : Slots → List (List ℕ) → List Slot → Type 0

@@ -45,7 +45,12 @@ up = turned 0
 
 -- a body in which each read is an input
 abbrev pub template : List Mark → List Node → List Lit → List Mark → Marked
-template reads nodes outs writes = record { reads = reads; graph = record { inputs = length reads; nodes = nodes }; outs = outs; writes = writes }
+template reads nodes outs writes = record {
+  reads = reads;
+  graph = record { inputs = length reads; nodes = nodes };
+  outs = outs;
+  writes = writes;
+}
 
 -- one row gets a constant, what another has, or its complement
 abbrev pub constant : Lit → Mark → Marked
@@ -63,17 +68,20 @@ joined l x y z = template (x ∷ y ∷ []) (node_of l (plain 1) (plain 2) ∷ []
 
 -- x and not y
 abbrev pub without : Mark → Mark → Mark → Marked
-without x y z = template (x ∷ y ∷ []) (node_of off (plain 1) (turned 2) ∷ []) (plain 3 ∷ []) (z ∷ [])
+without x y z = template (x ∷ y ∷ []) (node_of off (plain 1) (turned 2) ∷ []) (plain 3 ∷ []) (z
+    ∷ [])
 
 abbrev pub unlike : Mark → Mark → Mark → Marked
 unlike x y z = template (x ∷ y ∷ [])
-    (node_of off (plain 1) (plain 2) ∷ node_of up (plain 1) (plain 2) ∷ node_of off (turned 3) (plain 4) ∷ [])
+    (node_of off (plain 1) (plain 2) ∷ node_of up (plain 1) (plain 2)
+    ∷ node_of off (turned 3) (plain 4) ∷ [])
     (plain 5 ∷ []) (z ∷ [])
 
 -- x where s is set, else y
 abbrev pub chosen : Mark → Mark → Mark → Mark → Marked
 chosen x y s z = template (x ∷ y ∷ s ∷ [])
-    (node_of off (plain 1) (plain 3) ∷ node_of off (plain 2) (turned 3) ∷ node_of up (plain 4) (plain 5) ∷ [])
+    (node_of off (plain 1) (plain 3) ∷ node_of off (plain 2) (turned 3)
+    ∷ node_of up (plain 4) (plain 5) ∷ [])
     (plain 6 ∷ []) (z ∷ [])
 
 -- the state's bit is put down, and the word's bit taken up
@@ -83,30 +91,36 @@ shifted x c z = template (x ∷ c ∷ []) [] (plain 2 ∷ plain 1 ∷ []) (z ∷
 -- x, y and a carry
 abbrev pub added : Mark → Mark → Mark → Mark → Marked
 added x y c z = template (x ∷ y ∷ c ∷ [])
-    (node_of (plain 1) (plain 2) (plain 3) ∷ node_of (plain 1) (plain 2) (turned 3) ∷ node_of (plain 3) (turned 4) (plain 5) ∷ [])
+    (node_of (plain 1) (plain 2) (plain 3) ∷ node_of (plain 1) (plain 2) (turned 3)
+    ∷ node_of (plain 3) (turned 4) (plain 5) ∷ [])
     (plain 6 ∷ plain 4 ∷ []) (z ∷ c ∷ [])
 
 -- x, the complement of y, and a carry
 abbrev pub lessened : Mark → Mark → Mark → Mark → Marked
 lessened x y c z = template (x ∷ y ∷ c ∷ [])
-    (node_of (plain 1) (turned 2) (plain 3) ∷ node_of (plain 1) (plain 2) (plain 3) ∷ node_of (plain 2) (plain 4) (turned 5) ∷ [])
+    (node_of (plain 1) (turned 2) (plain 3) ∷ node_of (plain 1) (plain 2) (plain 3)
+    ∷ node_of (plain 2) (plain 4) (turned 5) ∷ [])
     (turned 6 ∷ plain 4 ∷ []) (z ∷ c ∷ [])
 
 -- x unlike t, and a carry
 abbrev pub turned_by : Mark → Mark → Mark → Mark → Marked
 turned_by x t c z = template (x ∷ t ∷ c ∷ [])
-    (node_of off (plain 1) (plain 2) ∷ node_of up (plain 1) (plain 2) ∷ node_of off (turned 4) (plain 5)
-    ∷ node_of off (plain 6) (plain 3) ∷ node_of up (plain 6) (plain 3) ∷ node_of off (turned 7) (plain 8) ∷ [])
+    (node_of off (plain 1) (plain 2) ∷ node_of up (plain 1) (plain 2)
+    ∷ node_of off (turned 4) (plain 5)
+    ∷ node_of off (plain 6) (plain 3) ∷ node_of up (plain 6) (plain 3)
+    ∷ node_of off (turned 7) (plain 8) ∷ [])
     (plain 9 ∷ plain 7 ∷ []) (z ∷ c ∷ [])
 
 -- the state is whether what was read of x is over what was read of y
 abbrev pub compared : Mark → Mark → Mark → Marked
-compared x y g = template (x ∷ y ∷ g ∷ []) (node_of (plain 1) (turned 2) (plain 3) ∷ []) (plain 4 ∷ []) (g ∷ [])
+compared x y g = template (x ∷ y ∷ g ∷ []) (node_of (plain 1) (turned 2) (plain 3) ∷ []) (plain 4
+    ∷ []) (g ∷ [])
 
 -- the state is whether all that was read agrees
 abbrev pub agreed : Mark → Mark → Mark → Marked
 agreed x y e = template (x ∷ y ∷ e ∷ [])
-    (node_of off (plain 1) (plain 2) ∷ node_of up (plain 1) (plain 2) ∷ node_of up (plain 4) (turned 5) ∷ node_of off (plain 3) (plain 6) ∷ [])
+    (node_of off (plain 1) (plain 2) ∷ node_of up (plain 1) (plain 2)
+    ∷ node_of up (plain 4) (turned 5) ∷ node_of off (plain 3) (plain 6) ∷ [])
     (plain 7 ∷ []) (e ∷ [])
 
 -- on every bit of a word, or on the one of a bit
@@ -133,11 +147,16 @@ program o.Xor k = spread k (λ u. unlike (first u) (second u) (target u))
 program o.Copy k = spread k (λ u. moved (first u) (target u))
 program o.Zero k = Along (constant off (target sub.Inner)) ∷ []
 program o.Ones k = Along (constant up (target sub.Inner)) ∷ []
-program o.Shl1 k = Single (constant off (second sub.Zero)) ∷ Along (shifted (first sub.Inner) (second sub.Zero) (target sub.Inner)) ∷ []
-program o.Shr1 k = Single (constant off (second sub.Zero)) ∷ Along (shifted (first sub.InnerDown) (second sub.Zero) (target sub.InnerDown)) ∷ []
-program o.Add k = Single (constant off (third sub.Zero)) ∷ Along (added (first sub.Inner) (second sub.Inner) (third sub.Zero) (target sub.Inner)) ∷ []
-program o.Sub k = Single (constant up (third sub.Zero)) ∷ Along (lessened (first sub.Inner) (second sub.Inner) (third sub.Zero) (target sub.Inner)) ∷ []
-program o.Abs k = Single (moved (first sub.Top) (second sub.Zero)) ∷ Along (turned_by (first sub.Inner) (first sub.Top) (second sub.Zero) (target sub.Inner)) ∷ []
+program o.Shl1 k = Single (constant off (second sub.Zero))
+    ∷ Along (shifted (first sub.Inner) (second sub.Zero) (target sub.Inner)) ∷ []
+program o.Shr1 k = Single (constant off (second sub.Zero))
+    ∷ Along (shifted (first sub.InnerDown) (second sub.Zero) (target sub.InnerDown)) ∷ []
+program o.Add k = Single (constant off (third sub.Zero))
+    ∷ Along (added (first sub.Inner) (second sub.Inner) (third sub.Zero) (target sub.Inner)) ∷ []
+program o.Sub k = Single (constant up (third sub.Zero))
+    ∷ Along (lessened (first sub.Inner) (second sub.Inner) (third sub.Zero) (target sub.Inner)) ∷ []
+program o.Abs k = Single (moved (first sub.Top) (second sub.Zero))
+    ∷ Along (turned_by (first sub.Inner) (first sub.Top) (second sub.Zero) (target sub.Inner)) ∷ []
 program o.Relu k = Along (without (first sub.Inner) (first sub.Top) (target sub.Inner)) ∷ []
 program o.Min k =
     Single (constant off (third sub.Zero))
@@ -147,13 +166,19 @@ program o.Max k =
     Single (constant off (third sub.Zero))
     ∷ Along (compared (first sub.Inner) (second sub.Inner) (third sub.Zero))
     ∷ Along (chosen (first sub.Inner) (second sub.Inner) (third sub.Zero) (target sub.Inner)) ∷ []
-program o.Eq k = Single (constant up (target sub.Zero)) ∷ Along (agreed (first sub.Inner) (second sub.Inner) (target sub.Zero)) ∷ []
-program o.Gt k = Single (constant off (target sub.Zero)) ∷ Along (compared (first sub.Inner) (second sub.Inner) (target sub.Zero)) ∷ []
-program o.Ge k = Single (constant up (target sub.Zero)) ∷ Along (compared (first sub.Inner) (second sub.Inner) (target sub.Zero)) ∷ []
+program o.Eq k = Single (constant up (target sub.Zero))
+    ∷ Along (agreed (first sub.Inner) (second sub.Inner) (target sub.Zero)) ∷ []
+program o.Gt k = Single (constant off (target sub.Zero))
+    ∷ Along (compared (first sub.Inner) (second sub.Inner) (target sub.Zero)) ∷ []
+program o.Ge k = Single (constant up (target sub.Zero))
+    ∷ Along (compared (first sub.Inner) (second sub.Inner) (target sub.Zero)) ∷ []
 program o.IfElse k = spread k (λ u. chosen (first u) (second u) (third sub.Zero) (target u))
-program o.AndRed k = Single (constant up (target sub.Zero)) ∷ Along (joined off (first sub.Inner) (target sub.Zero) (target sub.Zero)) ∷ []
-program o.OrRed k = Single (constant off (target sub.Zero)) ∷ Along (joined up (first sub.Inner) (target sub.Zero) (target sub.Zero)) ∷ []
-program o.XorRed k = Single (constant off (target sub.Zero)) ∷ Along (unlike (first sub.Inner) (target sub.Zero) (target sub.Zero)) ∷ []
+program o.AndRed k = Single (constant up (target sub.Zero))
+    ∷ Along (joined off (first sub.Inner) (target sub.Zero) (target sub.Zero)) ∷ []
+program o.OrRed k = Single (constant off (target sub.Zero))
+    ∷ Along (joined up (first sub.Inner) (target sub.Zero) (target sub.Zero)) ∷ []
+program o.XorRed k = Single (constant off (target sub.Zero))
+    ∷ Along (unlike (first sub.Inner) (target sub.Zero) (target sub.Zero)) ∷ []
 program p k = []
 
 -- the operations that take one pass over a word

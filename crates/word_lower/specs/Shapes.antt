@@ -1,5 +1,6 @@
 -- The bodies of the code's shapes, and their places.
-use Rattle.std.specs.Prelude.{ℕ, zero, suc, ◌+◌, Bool, true, ◌&&◌, nat_lt, List, [], ◌∷◌, map, Option, Some, None}
+use Rattle.std.specs.Prelude.{ℕ, zero, suc, ◌+◌, Bool, true, ◌&&◌, nat_lt, List, [], ◌∷◌, map}
+use Rattle.std.specs.Prelude.{Option, Some, None}
 use Rattle.mig_graph.specs.declared.Lit.{Lit}
 use Rattle.mig_graph.specs.declared.Node.{Node}
 use Rattle.loop_ir.specs.declared.ir.Place.{Place}
@@ -13,11 +14,16 @@ use Rattle.word_lower.specs.declared.shapes.Owner.TheVariants.{Target, First, Se
 use Rattle.word_lower.specs.declared.shapes.Mark.{Mark}
 use Rattle.word_lower.specs.declared.shapes.Owners.{Owners}
 use Rattle.word_lower.specs.declared.shapes.Shape.{Shape}
-use Rattle.word_lower.specs.declared.shapes.Shape.TheVariants.{Off, On, Moved, Inverted, Both, Either, Without, Unlike, Chosen, Shifted, Added, Lessened, TurnedBy, Compared, Agreed}
+use Rattle.word_lower.specs.declared.shapes.Shape.TheVariants.{Off, On, Moved, Inverted, Both}
+use Rattle.word_lower.specs.declared.shapes.Shape.TheVariants.{Either, Without, Unlike, Chosen}
+use Rattle.word_lower.specs.declared.shapes.Shape.TheVariants.{Shifted, Added, Lessened, TurnedBy}
+use Rattle.word_lower.specs.declared.shapes.Shape.TheVariants.{Compared, Agreed}
 use Rattle.word_lower.specs.declared.shapes.Line.{Line}
 use Rattle.word_lower.specs.declared.shapes.Line.TheVariants.{Once, Each}
 use Rattle.word_lower.specs.Places.{scratch_bit}
-use Rattle.word_lower.specs.Programs.{on, off, up, constant, moved, inverted, joined, without, unlike, chosen, shifted, added, lessened, turned_by, compared, agreed}
+use Rattle.word_lower.specs.Programs.{on, off, up, constant, moved, inverted, joined, without}
+use Rattle.word_lower.specs.Programs.{unlike, chosen, shifted, added, lessened, turned_by, compared}
+use Rattle.word_lower.specs.Programs.{agreed}
 
 abbrev pub number_of : Owner → ℕ
 number_of Target = 0
@@ -65,10 +71,19 @@ owner_at o (suc (suc zero)) = o.second
 owner_at o (suc (suc (suc k))) = o.third
 
 abbrev pub place_on : Owners → rooms.Mark → Place
-place_on o m = let s = owner_at o m.owner in record { space = s.space; which = s.which; sub = m.sub }
+place_on o m = let s = owner_at o m.owner in record {
+  space = s.space;
+  which = s.which;
+  sub = m.sub;
+}
 
 abbrev pub body_on : Owners → Marked → Block
-body_on o b = record { reads = map (place_on o) b.reads; graph = b.graph; outs = b.outs; writes = map (place_on o) b.writes }
+body_on o b = record {
+  reads = map (place_on o) b.reads;
+  graph = b.graph;
+  outs = b.outs;
+  writes = map (place_on o) b.writes;
+}
 
 abbrev pub program_on : Owners → List (StepOf Marked) → List (StepOf Block)
 program_on o steps = map (step_map (body_on o)) steps
@@ -80,12 +95,18 @@ behind (s ∷ ss) free zero = s
 behind (s ∷ ss) free (suc k) = behind ss free k
 
 abbrev pub owners_of : Slot → List Slot → ℕ → Owners
-owners_of t args free = record { target = t; first = behind args free 0; second = behind args free 1; third = behind args free 2 }
+owners_of t args free = record {
+  target = t;
+  first = behind args free 0;
+  second = behind args free 1;
+  third = behind args free 2;
+}
 
 -- each node reads lower nodes, where the first has the number k
 abbrev pub are_lower : ℕ → List Node → Bool
 are_lower k [] = true
-are_lower k (n ∷ ns) = (nat_lt n.a.node k && (nat_lt n.b.node k && nat_lt n.c.node k)) && are_lower (k + 1) ns
+are_lower k (n ∷ ns) = (nat_lt n.a.node k && (nat_lt n.b.node k && nat_lt n.c.node k))
+    && are_lower (k + 1) ns
 
 abbrev pub are_below : ℕ → List Lit → Bool
 are_below k [] = true

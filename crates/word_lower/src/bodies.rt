@@ -1,12 +1,14 @@
 //! Bodies and steps of loop programs.
 
-ghost use Rattle.std.specs.Prelude.{◌≡◌, ◌<◌, ◌≤◌, ◌+◌, ◌++◌, ◌∷◌, [], ℕ, List, length, map, IfOk, OnOk, Some, None, true};
+ghost use Rattle.std.specs.Prelude.{◌≡◌, ◌<◌, ◌≤◌, ◌+◌, ◌++◌, ◌∷◌, [], ℕ, List, length, map, IfOk};
+ghost use Rattle.std.specs.Prelude.{OnOk, Some, None, true};
 ghost use Rattle.loop_ir.specs.Plain.{block_of, step_of, steps_of};
 ghost use Rattle.loop_ir.specs.Like.{IsLike, LikeSteps};
 ghost use Rattle.loop_ir.specs.Plain.{Block, StepOf, AllParts, AllStep, step_map};
 ghost use Rattle.loop_laws.specs.Forms.{IsMade};
 ghost use Rattle.word_lower.specs.Programs.{template};
-ghost use Rattle.word_lower.specs.Shapes.{mark_of, marks, shape_body, line_step, lines_steps, place_on, body_on, program_on, are_lower, are_below};
+ghost use Rattle.word_lower.specs.Shapes.{mark_of, marks, shape_body, line_step, lines_steps};
+ghost use Rattle.word_lower.specs.Shapes.{place_on, body_on, program_on, are_lower, are_below};
 
 use crate::graphs::made;
 use crate::shapes::{Line, Mark, Owner, Owners, Shape};
@@ -69,7 +71,8 @@ fn templated(
     requires outs { 0 < length outs.now }
     requires lower { are_lower (length reads.now + 1) nodes.now ≡ true }
     requires named { are_below (length reads.now + 1 + length nodes.now) outs.now ≡ true }
-    ensures like { IfOk result (λ b. IsLike (block_of b) (body_on owners (template (marks reads.now) nodes.now outs.now (marks writes.now)))) }
+    ensures like { IfOk result (λ b. IsLike (block_of b)
+        (body_on owners (template (marks reads.now) nodes.now outs.now (marks writes.now)))) }
     ensures made { IfOk result (λ b. IsMade (block_of b)) }
 {
     Ok(Body {
@@ -106,7 +109,8 @@ fn body(shape: Shape, owners: Owners, alloc: Global) -> Result<Body, NoMemory>
 
 /// The step of a line.
 fn step(line: Line, owners: Owners, alloc: Global) -> Result<Step, NoMemory>
-    ensures like { IfOk result (λ s. LikeSteps (step_of s ∷ []) (program_on owners (line_step line ∷ []))) }
+    ensures like { IfOk result (λ s. LikeSteps (step_of s
+        ∷ []) (program_on owners (line_step line ∷ []))) }
     ensures made { IfOk result (λ s. AllStep IsMade (step_of s)) }
 {
     match line {
@@ -131,8 +135,12 @@ fn add_step(
     owners: Owners,
     alloc: Global,
 ) -> Result<(), NoMemory>
-    ensures like { OnOk result ((ts : List (StepOf Block)) → LikeSteps (map step_of steps.old.items) ts → LikeSteps (map step_of steps.new.items) (ts ++ program_on owners (lines_steps (line ∷ [])))) }
-    ensures made { OnOk result (AllParts IsMade (map step_of steps.old.items) → AllParts IsMade (map step_of steps.new.items)) }
+    ensures like { OnOk result ((ts : List (StepOf Block))
+        → LikeSteps (map step_of steps.old.items) ts
+        → LikeSteps (map step_of steps.new.items) (ts
+        ++ program_on owners (lines_steps (line ∷ [])))) }
+    ensures made { OnOk result (AllParts IsMade (map step_of steps.old.items)
+        → AllParts IsMade (map step_of steps.new.items)) }
 {
     match line {
         None => Ok(()),
@@ -150,7 +158,8 @@ pub fn program(
     owners: Owners,
     alloc: Global,
 ) -> Result<LoopProgram, NoMemory>
-    ensures like { IfOk result (λ p. LikeSteps (steps_of p) (program_on owners (lines_steps lines.now))) }
+    ensures like { IfOk result (λ p. LikeSteps (steps_of p)
+        (program_on owners (lines_steps lines.now))) }
     ensures made { IfOk result (λ p. AllParts IsMade (steps_of p)) }
 {
     let mut steps = Vec::new(alloc);

@@ -43,7 +43,8 @@ fn free_bit(names: &NameMap) -> Slot
 
 /// The place of an argument, or behind the arguments that of the first free bit of scratch.
 fn owner(names: &NameMap, args: &[Name], k: usize) -> Slot
-    ensures { (ss : List Slot) → AreAt (slots_of names.now) args.now ss → result ≡ behind ss names.now.free_bit k }
+    ensures { (ss : List Slot) → AreAt (slots_of names.now) args.now ss
+        → result ≡ behind ss names.now.free_bit k }
 {
     if k < args.len() {
         slot_of(names, &args[k])
@@ -54,7 +55,8 @@ fn owner(names: &NameMap, args: &[Name], k: usize) -> Slot
 
 /// The places of a statement's names.
 fn owners(names: &NameMap, target: &Name, args: &[Name]) -> Owners
-    ensures { (t : Slot) (ss : List Slot) → slots_of names.now target.now ≡ Some t → AreAt (slots_of names.now) args.now ss → result ≡ owners_of t ss names.now.free_bit }
+    ensures { (t : Slot) (ss : List Slot) → slots_of names.now target.now ≡ Some t
+        → AreAt (slots_of names.now) args.now ss → result ≡ owners_of t ss names.now.free_bit }
 {
     Owners {
         target: slot_of(names, target),
@@ -73,9 +75,11 @@ fn lower_word(
     alloc: Global,
 ) -> Result<LoopProgram, NoMemory>
     requires meets { ComputeMeets (slots_of names.now) target.now op args.now }
-    requires placed { IsPlaced (slots_of names.now) names.now.free_bit names.now.free_word (Compute target.now op args.now) }
+    requires placed { IsPlaced (slots_of names.now) names.now.free_bit names.now.free_word
+        (Compute target.now op args.now) }
     requires linear { is_linear op ≡ true }
-    ensures { IfOk result (λ p. IsLowered (slots_of names.now) names.now.free_bit names.now.free_word (Compute target.now op args.now) (steps_of p)) }
+    ensures { IfOk result (λ p. IsLowered (slots_of names.now) names.now.free_bit
+        names.now.free_word (Compute target.now op args.now) (steps_of p)) }
 {
     let owners = owners(names, target, args);
     let p = program(&lines(op, owners.target.kind), owners, alloc)?;
@@ -87,9 +91,11 @@ fn lower_word(
 /// Only want of memory is an `Err`.
 pub fn lower_linear(s: &Stmt, names: &NameMap, alloc: Global) -> Result<LoopProgram, NoMemory>
     requires meets { StatementMeets (slots_of names.now) (statement s.now) }
-    requires placed { IsPlaced (slots_of names.now) names.now.free_bit names.now.free_word (statement s.now) }
+    requires placed { IsPlaced (slots_of names.now) names.now.free_bit names.now.free_word
+        (statement s.now) }
     requires linear { is_linear_statement (statement s.now) ≡ true }
-    ensures lowered { IfOk result (λ p. IsLowered (slots_of names.now) names.now.free_bit names.now.free_word (statement s.now) (steps_of p)) }
+    ensures lowered { IfOk result (λ p. IsLowered (slots_of names.now) names.now.free_bit
+        names.now.free_word (statement s.now) (steps_of p)) }
     // A block's steps are its states' starts and then its graph at each position.
     ensures form { IfOk result (λ p. HasForm (slots_of names.now) (statement s.now) (steps_of p)) }
 {

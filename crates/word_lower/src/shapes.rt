@@ -2,7 +2,8 @@
 
 use loop_ir::{Slot, Sub};
 
-/// Whose rows a place has: the target's, an argument's, or behind the arguments those of the bit of scratch.
+/// Whose rows a place has: the target's, an argument's, or behind the arguments those of the bit of
+/// scratch.
 #[derive(Clone, Copy, PartialEq, Eq, Debug)]
 pub enum Owner {
     Target,
@@ -27,7 +28,8 @@ pub struct Owners {
     pub third: Slot,
 }
 
-/// What a body computes: from its reads, of which a state is the last, into its writes, of which it is the last too.
+/// What a body computes: from its reads, of which a state is the last, into its writes, of which it
+/// is the last too.
 #[derive(Clone, Copy, PartialEq, Eq, Debug)]
 pub enum Shape {
     Off(Mark),

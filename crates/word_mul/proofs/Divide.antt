@@ -1,5 +1,6 @@
 -- One step of a division.
-use Rattle.std.proofs.Common.{◌≡◌, ℕ, zero, suc, ◌+◌, ◌-◌, ◌*◌, ◌^◌, ◌<◌, Bool, true, false, List, [], ◌∷◌, map, refl, sym, ap, ◌∙◌, subst, arith}
+use Rattle.std.proofs.Common.{◌≡◌, ℕ, zero, suc, ◌+◌, ◌-◌, ◌*◌, ◌^◌, ◌<◌, Bool, true, false, List}
+use Rattle.std.proofs.Common.{[], ◌∷◌, map, refl, sym, ap, ◌∙◌, subst, arith}
 use Rattle.std.specs.Prelude.{nat_lt}
 use Rattle.std.proofs.lemmas.Bool.{lt-ltb}
 use Rattle.bit_rows.specs.Bits.{majority}
@@ -29,7 +30,8 @@ use Rattle.word_mul.proofs.Setting.{IsFree, AreRows}
 use Rattle.word_mul.proofs.Product.{value_gated}
 
 -- the comparison of the low rows, or the top row, compares all rows
-whole_compare : (t : Bool) (x b p : ℕ) → b < p → majority true t (nat_lt b (x + 1)) ≡ nat_lt b (x + bit t * p + 1)
+whole_compare : (t : Bool) (x b p : ℕ) → b < p
+    → majority true t (nat_lt b (x + 1)) ≡ nat_lt b (x + bit t * p + 1)
 unfolding majority
 whole_compare true x b p lt = sym (lt-ltb b (x + 1 * p + 1) (omega arith))
 whole_compare false x b p lt = let e : x + 1 ≡ x + 0 * p + 1 = omega arith in ap (nat_lt b) e
@@ -45,16 +47,19 @@ module _ (n : ℕ) (m : Rows) (are : AreRows n 2 2 m) where
   cp = row n (scratch_bit (m.free_bit + 1)) 0
 
   abbrev compare_body : Block
-  compare_body = placed_body (rooms_for op.Div m) (compared (fifth sub.DownSum) (second sub.Inner) (third sub.Zero))
+  compare_body = placed_body (rooms_for op.Div m)
+      (compared (fifth sub.DownSum) (second sub.Inner) (third sub.Zero))
 
   abbrev divide_body : Block
-  divide_body = placed_body (rooms_for op.Div m) (divided (fifth sub.DownSum) (second sub.Inner) (third sub.Zero) (fourth sub.Zero))
+  divide_body = placed_body (rooms_for op.Div m)
+      (divided (fifth sub.DownSum) (second sub.Inner) (third sub.Zero) (fourth sub.Zero))
 
   abbrev pub core : List (InnerOf Block)
   core = map (inner_map (placed_body (rooms_for op.Div m))) division
 
   pub gf : IsFree n m (scratch_bit m.free_bit) 1
-  gf = let e : m.free_bit + 0 ≡ m.free_bit = omega arith in subst (λ x. IsFree n m (scratch_bit x) 1) e (are.bit 0 (omega arith))
+  gf = let e : m.free_bit + 0 ≡ m.free_bit = omega arith in
+      subst (λ x. IsFree n m (scratch_bit x) 1) e (are.bit 0 (omega arith))
 
   pub cf : IsFree n m (scratch_bit (m.free_bit + 1)) 1
   cf = are.bit 1 (omega arith)
@@ -69,7 +74,8 @@ module _ (n : ℕ) (m : Rows) (are : AreRows n 2 2 m) where
   w_bit v k e = space_other ScratchWord ScratchBit 0 (m.free_word * n + v) k 0 (λ h. cc) e
 
   pub w_moves : (u v : ℕ) → row n w u ≡ row n w v → u ≡ v
-  w_moves u v e = let z : m.free_word * n + u ≡ m.free_word * n + v = ap (λ (s : Spot). s.index) e in omega arith
+  w_moves u v e = let z : m.free_word * n + u ≡ m.free_word * n + v =
+      ap (λ (s : Spot). s.index) e in omega arith
 
   g_c : gp ≡ cp → ⊥
   g_c e = let z : m.free_bit ≡ m.free_bit + 1 = ap (λ (s : Spot). s.which) e in absurd (omega arith)
@@ -78,9 +84,11 @@ module _ (n : ℕ) (m : Rows) (are : AreRows n 2 2 m) where
   pub record Stepped (j : ℕ) (old new : Spots) : Type 0 where
     pub chosen : Bool
     pub at_g : new gp ≡ chosen
-    pub compares : chosen ≡ nat_lt (number_at n old m.b n) (number (λ i. old (row n w (j + i))) (suc n) + 1)
+    pub compares : chosen ≡ nat_lt (number_at n old m.b n)
+        (number (λ i. old (row n w (j + i))) (suc n) + 1)
     pub borrow : Bool
-    pub less : number (λ i. new (row n w (j + i))) n + bit borrow * 2 ^ n + bit chosen * number_at n old m.b n ≡ number (λ i. old (row n w (j + i))) n + 2 ^ n
+    pub less : number (λ i. new (row n w (j + i))) n + bit borrow * 2 ^ n + bit chosen
+        * number_at n old m.b n ≡ number (λ i. old (row n w (j + i))) n + 2 ^ n
     pub low : (v : ℕ) → v < j → new (row n w v) ≡ old (row n w v)
     pub rest : (q : Spot) → IsOther q → new q ≡ old q
 
@@ -92,11 +100,21 @@ module _ (n : ℕ) (m : Rows) (are : AreRows n 2 2 m) where
   is_loop o lo =
       loop_of n o n divide_body zs refl (tt, (tt, tt))
       (((λ i j li lj e. w_bit (n - 1 - o + i) (m.free_bit + 1) e), tt), (tt, tt)) (
-        ((λ i j li lj e. let z : n - 1 - o + i ≡ n - 1 - o + j = w_moves (n - 1 - o + i) (n - 1 - o + j) e in absurd (omega arith)), ((λ i j li lj e. w_bit (n - 1 - o + i) (m.free_bit + 1) e), tt)),
         (
-          ((λ i j li lj e. are.word.b.by i (n - 1 - o + j) (omega arith) (omega arith) e), ((λ i j li lj e. cf.b.by i 0 (omega arith) (omega arith) e), tt)),
+          (λ i j li lj e. let z : n - 1 - o + i
+              ≡ n - 1 - o + j = w_moves (n - 1 - o + i) (n - 1 - o + j) e in absurd (omega arith)),
+          ((λ i j li lj e. w_bit (n - 1 - o + i) (m.free_bit + 1) e), tt),
+        ),
+        (
           (
-            ((λ i j li lj e. w_bit (n - 1 - o + j) m.free_bit (sym e)), ((λ i j li lj e. g_c e), tt)),
+            (λ i j li lj e. are.word.b.by i (n - 1 - o + j) (omega arith) (omega arith) e),
+            ((λ i j li lj e. cf.b.by i 0 (omega arith) (omega arith) e), tt),
+          ),
+          (
+            (
+              (λ i j li lj e. w_bit (n - 1 - o + j) m.free_bit (sym e)),
+              ((λ i j li lj e. g_c e), tt),
+            ),
             ((omega arith, λ i j li lj. refl), tt),
           ),
         ),
@@ -108,8 +126,14 @@ module _ (n : ℕ) (m : Rows) (are : AreRows n 2 2 m) where
       let s1 = set_spot old gp true in
       let xs : List Origin = Standing ∷ (Standing ∷ (Carried 0 ∷ [])) in
       let s2 = after_many n o compare_body n s1 in
-      let l = state_loop n o (scratch_bit m.free_bit) tt compare_body.reads compare_body.graph.inputs compare_body.graph.nodes (plain 4) xs s1
-      (((λ i j li lj e. w_bit (n - 1 - o + i) m.free_bit e), tt), (((λ i j li lj e. gf.b.by i 0 (omega arith) (omega arith) e), tt), ((omega arith, λ i j li lj. refl), tt))) in
+      let l = state_loop n o (scratch_bit m.free_bit) tt compare_body.reads
+      compare_body.graph.inputs compare_body.graph.nodes (plain 4) xs s1 (
+        ((λ i j li lj e. w_bit (n - 1 - o + i) m.free_bit e), tt),
+        (
+          ((λ i j li lj e. gf.b.by i 0 (omega arith) (omega arith) e), tt),
+          ((omega arith, λ i j li lj. refl), tt),
+        ),
+      ) in
       let top = s2 (row n w (2 * n - 1 - o)) in
       let v = majority true top (s2 gp) in
       let s3 = set_spot s2 gp v in
@@ -118,19 +142,32 @@ module _ (n : ℕ) (m : Rows) (are : AreRows n 2 2 m) where
       let is = is_loop o lo in
       let t = loop_turns n o n divide_body zs is s4 in
       let at2 = λ (q : Spot) (ng : q ≡ gp → ⊥). l.rest q ng ∙ set_other old gp true q ng in
-      let at4 = λ (q : Spot) (ng : q ≡ gp → ⊥) (nc : q ≡ cp → ⊥). set_other s3 cp true q nc ∙ set_other s2 gp v q ng ∙ at2 q ng in
+      let at4 = λ (q : Spot) (ng : q ≡ gp → ⊥) (nc : q ≡ cp → ⊥). set_other s3 cp true q nc
+      ∙ set_other s2 gp v q ng ∙ at2 q ng in
       let g4 : s4 gp ≡ v = set_other s3 cp true gp g_c ∙ set_same s2 gp v gp refl in
       let x1 = λ (i : ℕ). s1 (row n w (n - 1 - o + i)) in
       let b1 = λ (i : ℕ). s1 (row n m.b i) in
       let x = λ (i : ℕ). old (row n w (n - 1 - o + i)) in
-      let vb : number b1 n ≡ number_at n old m.b n = value_same b1 (λ i. old (row n m.b i)) n (λ i li. set_other old gp true (row n m.b i) (λ e. gf.b.by i 0 li (omega arith) e)) in
-      let vx : number x1 n ≡ number x n = value_same x1 x n (λ i li. set_other old gp true (row n w (n - 1 - o + i)) (λ e. w_bit (n - 1 - o + i) m.free_bit e)) in
-      let e1 : s2 gp ≡ nat_lt (number b1 n) (number x1 n + bit (s1 gp)) = l.state ∙ compare x1 b1 (λ i. turn n o compare_body xs s1 i 0) n (λ i lt. refl) in
-      let e2 : s2 gp ≡ nat_lt (number_at n old m.b n) (number x n + 1) = e1 ∙ ap (λ z. nat_lt (number b1 n) (number x1 n + bit z)) (set_same old gp true gp refl) ∙ ap (λ z. nat_lt z (number x1 n + 1)) vb ∙ ap (λ z. nat_lt (number_at n old m.b n) (z + 1)) vx in
+      let vb : number b1 n ≡ number_at n old m.b n =
+      value_same b1 (λ i. old (row n m.b i)) n
+      (λ i li. set_other old gp true (row n m.b i) (λ e. gf.b.by i 0 li (omega arith) e)) in
+      let vx : number x1 n ≡ number x n = value_same x1 x n
+      (λ i li. set_other old gp true (row n w (n - 1 - o + i)) (λ e.
+      w_bit (n - 1 - o + i) m.free_bit e)) in
+      let e1 : s2 gp ≡ nat_lt (number b1 n) (number x1 n + bit (s1 gp)) =
+      l.state ∙ compare x1 b1 (λ i. turn n o compare_body xs s1 i 0) n (λ i lt. refl) in
+      let e2 : s2 gp ≡ nat_lt (number_at n old m.b n) (number x n + 1) =
+      e1 ∙ ap (λ z. nat_lt (number b1 n) (number x1 n + bit z)) (set_same old gp true gp refl)
+      ∙ ap (λ z. nat_lt z (number x1 n + 1)) vb
+      ∙ ap (λ z. nat_lt (number_at n old m.b n) (z + 1)) vx in
       let high : 2 * n - 1 - o ≡ n - 1 - o + n = omega arith in
-      let top_old : top ≡ x n = ap (λ k. s2 (row n w k)) high ∙ at2 (row n w (n - 1 - o + n)) (λ e. w_bit (n - 1 - o + n) m.free_bit e) in
+      let top_old : top ≡ x n = ap (λ k. s2 (row n w k)) high
+      ∙ at2 (row n w (n - 1 - o + n)) (λ e. w_bit (n - 1 - o + n) m.free_bit e) in
       let all : v ≡ nat_lt (number_at n old m.b n) (number x (suc n) + 1) =
-      ap (majority true top) e2 ∙ ap (λ z. majority true z (nat_lt (number_at n old m.b n) (number x n + 1))) top_old ∙ whole_compare (x n) (number x n) (number_at n old m.b n) (2 ^ n) (value_below (λ i. old (row n m.b i)) n) in
+      ap (majority true top) e2
+      ∙ ap (λ z. majority true z (nat_lt (number_at n old m.b n) (number x n + 1))) top_old
+      ∙ whole_compare (x n) (number x n) (number_at n old m.b n) (2 ^ n)
+      (value_below (λ i. old (row n m.b i)) n) in
       let x4 = λ (i : ℕ). s4 (row n w (n - 1 - o + i)) in
       let b4 = λ (i : ℕ). s4 (row n m.b i) in
       let gb = λ (i : ℕ). majority false (b4 i) (s4 gp) in
@@ -139,18 +176,31 @@ module _ (n : ℕ) (m : Rows) (are : AreRows n 2 2 m) where
       let d = less_two x4 gb y carry n (λ i lt. lessened_digit (x4 i) (gb i) (carry i)) in
       let one : bit (carry 0) ≡ 1 = ap bit (set_same s3 cp true cp refl) in
       let gated = value_gated b4 (s4 gp) n in
-      let vb4 : number b4 n ≡ number_at n old m.b n = value_same b4 (λ i. old (row n m.b i)) n (λ i li. at4 (row n m.b i) (λ e. gf.b.by i 0 li (omega arith) e) (λ e. cf.b.by i 0 li (omega arith) e)) in
-      let vx4 : number x4 n ≡ number x n = value_same x4 x n (λ i li. at4 (row n w (n - 1 - o + i)) (λ e. w_bit (n - 1 - o + i) m.free_bit e) (λ e. w_bit (n - 1 - o + i) (m.free_bit + 1) e)) in
-      let gated' : number gb n ≡ bit v * number_at n old m.b n = gated ∙ ap (λ z. bit z * number b4 n) g4 ∙ ap (λ z. bit v * z) vb4 in
-      let vy : number (λ i. new (row n w (n - 1 - o + i))) n ≡ number y n = value_same (λ i. new (row n w (n - 1 - o + i))) y n (λ i li. loop_word n o n divide_body zs is s4 0 (omega arith) (λ u k lu lk e. let z : n - 1 - o + u ≡ n - 1 - o + k = w_moves (n - 1 - o + u) (n - 1 - o + k) e in omega arith) i li) in
+      let vb4 : number b4 n ≡ number_at n old m.b n =
+      value_same b4 (λ i. old (row n m.b i)) n
+      (λ i li. at4 (row n m.b i) (λ e. gf.b.by i 0 li (omega arith) e) (λ e.
+      cf.b.by i 0 li (omega arith) e)) in
+      let vx4 : number x4 n ≡ number x n = value_same x4 x n
+      (λ i li. at4 (row n w (n - 1 - o + i)) (λ e. w_bit (n - 1 - o + i) m.free_bit e) (λ e.
+      w_bit (n - 1 - o + i) (m.free_bit + 1) e)) in
+      let gated' : number gb n ≡ bit v * number_at n old m.b n =
+      gated ∙ ap (λ z. bit z * number b4 n) g4 ∙ ap (λ z. bit v * z) vb4 in
+      let vy : number (λ i. new (row n w (n - 1 - o + i))) n ≡ number y n =
+      value_same (λ i. new (row n w (n - 1 - o + i))) y n
+      (λ i li. loop_word n o n divide_body zs is s4 0 (omega arith) (λ u k lu lk e.
+      let z : n - 1 - o + u ≡ n - 1 - o + k = w_moves (n - 1 - o + u) (n - 1 - o + k) e in
+      omega arith) i li) in
       record {
         chosen = v;
         at_g = t.rest gp (λ j k lj lk e. apart_g o j k lk e) ∙ g4;
         compares = all;
         borrow = carry n;
-        less = ap (λ z. z + bit (carry n) * 2 ^ n + bit v * number_at n old m.b n) vy ∙ omega (arith, d, one, gated', vx4);
-        low = λ u lu. t.rest (row n w u) (λ j k lj lk e. apart_low o u lu j k lk e) ∙ at4 (row n w u) (λ e. w_bit u m.free_bit e) (λ e. w_bit u (m.free_bit + 1) e);
-        rest = λ q out. t.rest q (λ j k lj lk e. apart_rest o lo q out j k lj lk e) ∙ at4 q out.g out.c;
+        less = ap (λ z. z + bit (carry n) * 2 ^ n + bit v * number_at n old m.b n) vy
+            ∙ omega (arith, d, one, gated', vx4);
+        low = λ u lu. t.rest (row n w u) (λ j k lj lk e. apart_low o u lu j k lk e)
+            ∙ at4 (row n w u) (λ e. w_bit u m.free_bit e) (λ e. w_bit u (m.free_bit + 1) e);
+        rest = λ q out. t.rest q (λ j k lj lk e. apart_rest o lo q out j k lj lk e)
+            ∙ at4 q out.g out.c;
       }
     where
       apart_g : (o j k : ℕ) → k < 2 → gp ≡ spot_at n j o (nth_place divide_body.writes k) → ⊥
@@ -158,12 +208,15 @@ module _ (n : ℕ) (m : Rows) (are : AreRows n 2 2 m) where
       apart_g o j (suc zero) lk e = g_c e
       apart_g o j (suc (suc k)) lk e = absurd (omega arith)
 
-      apart_low : (o u : ℕ) → u < n - 1 - o → (j k : ℕ) → k < 2 → row n w u ≡ spot_at n j o (nth_place divide_body.writes k) → ⊥
-      apart_low o u lu j zero lk e = let z : u ≡ n - 1 - o + j = w_moves u (n - 1 - o + j) e in absurd (omega arith)
+      apart_low : (o u : ℕ) → u < n - 1 - o → (j k : ℕ) → k < 2
+          → row n w u ≡ spot_at n j o (nth_place divide_body.writes k) → ⊥
+      apart_low o u lu j zero lk e = let z : u ≡ n - 1 - o + j = w_moves u (n - 1 - o + j) e in
+          absurd (omega arith)
       apart_low o u lu j (suc zero) lk e = w_bit u (m.free_bit + 1) e
       apart_low o u lu j (suc (suc k)) lk e = absurd (omega arith)
 
-      apart_rest : (o : ℕ) → o < n → (q : Spot) → IsOther q → (j k : ℕ) → j < n → k < 2 → q ≡ spot_at n j o (nth_place divide_body.writes k) → ⊥
+      apart_rest : (o : ℕ) → o < n → (q : Spot) → IsOther q → (j k : ℕ) → j < n → k < 2
+          → q ≡ spot_at n j o (nth_place divide_body.writes k) → ⊥
       apart_rest o lo q out j zero lj lk e = out.word (n - 1 - o + j) (omega arith) e
       apart_rest o lo q out j (suc zero) lj lk e = out.c e
       apart_rest o lo q out j (suc (suc k)) lj lk e = absurd (omega arith)

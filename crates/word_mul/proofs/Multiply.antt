@@ -1,5 +1,6 @@
 -- mul and bitcount: by the bits of a word.
-use Rattle.std.proofs.Common.{◌≡◌, ℕ, zero, suc, ◌+◌, ◌-◌, ◌*◌, ◌^◌, ◌<◌, ◌≤◌, Bool, true, false, not, List, [], ◌∷◌, refl, sym, ap, ◌∙◌, subst, arith}
+use Rattle.std.proofs.Common.{◌≡◌, ℕ, zero, suc, ◌+◌, ◌-◌, ◌*◌, ◌^◌, ◌<◌, ◌≤◌, Bool, true, false}
+use Rattle.std.proofs.Common.{not, List, [], ◌∷◌, refl, sym, ap, ◌∙◌, subst, arith}
 use Rattle.std.proofs.lemmas.Nat.{pow-add}
 use Rattle.bit_rows.specs.Bits.{majority}
 use Rattle.mig_graph.specs.Graph.{values_from}
@@ -23,20 +24,25 @@ use Rattle.word_lower.specs.Places.{scratch_bit}
 use Rattle.word_lower.specs.Programs.{target, first, second, third, off, constant, moved}
 use Rattle.word_lower.proofs.Setting.{bit, number, at, row, number_at, SlotsApart}
 use Rattle.word_lower.proofs.Passes.{word_loop, upwards}
-use Rattle.word_lower.proofs.Sums.{value_same, value_below, value_false, sum_two, carry_sum, digits_one, last_sum}
+use Rattle.word_lower.proofs.Sums.{value_same, value_below, value_false, sum_two, carry_sum}
+use Rattle.word_lower.proofs.Sums.{digits_one, last_sum}
 use Rattle.word_lower.proofs.Carries.{added_digit}
 use Rattle.word_lower.proofs.Lists.{ones_of_none, ones_of_more}
 use Rattle.word_mul.specs.Programs.{multiplied, counted}
 use Rattle.word_mul.specs.declared.rows.Rows.{Rows}
 use Rattle.word_mul.specs.Places.{rooms_for}
-use Rattle.word_mul.proofs.Setting.{IsFree, AreRows, IsElsewhere, Gives, DoesNested, bit_free, bit_else}
+use Rattle.word_mul.proofs.Setting.{IsFree, AreRows, IsElsewhere, Gives, DoesNested, bit_free}
+use Rattle.word_mul.proofs.Setting.{bit_else}
 use Rattle.word_mul.proofs.Product.{value_split, value_gated, product_step, below_pow, few_ones}
 
 -- an argument's rows are neither the target's nor the scratch bit's
-args_else : (n : ℕ) (m : Rows) (s : Slot) → SlotsApart n s n m.target n → SlotsApart n s n (scratch_bit m.free_bit) 1 → (v : ℕ) → v < n → IsElsewhere n 1 0 m (row n s v)
+args_else : (n : ℕ) (m : Rows) (s : Slot) → SlotsApart n s n m.target n
+    → SlotsApart n s n (scratch_bit m.free_bit) 1 → (v : ℕ) → v < n
+    → IsElsewhere n 1 0 m (row n s v)
 args_else n m s t c v lt = record {
   target = λ u lu e. t.by v u lt lu e;
-  bit = λ j lj e. let z : m.free_bit + j ≡ m.free_bit = omega arith in c.by v 0 lt (omega arith) (e ∙ ap (λ x. row n (scratch_bit x) 0) z);
+  bit = λ j lj e. let z : m.free_bit + j ≡ m.free_bit = omega arith in
+      c.by v 0 lt (omega arith) (e ∙ ap (λ x. row n (scratch_bit x) 0) z);
   word = λ u lu e. absurd (omega arith);
 }
 
@@ -51,10 +57,12 @@ module _ (n : ℕ) (m : Rows) (are : AreRows n 1 0 m) (bits : Spots) where
   p = row n (scratch_bit m.free_bit) 0
 
   abbrev body : Block
-  body = placed_body (rooms_for op.Mul m) (multiplied (target sub.Sum) (first sub.Inner) (second sub.Outer) (third sub.Zero))
+  body = placed_body (rooms_for op.Mul m) (multiplied (target sub.Sum) (first sub.Inner)
+      (second sub.Outer) (third sub.Zero))
 
   abbrev parts : List (InnerOf Block)
-  parts = Alone (placed_body (rooms_for op.Mul m) (constant off (third sub.Zero))) ∷ (Across Rest body ∷ [])
+  parts = Alone (placed_body (rooms_for op.Mul m) (constant off (third sub.Zero)))
+      ∷ (Across Rest body ∷ [])
 
   abbrev xs : List Origin
   xs = Standing ∷ (Standing ∷ (Standing ∷ (Carried 1 ∷ [])))
@@ -63,11 +71,21 @@ module _ (n : ℕ) (m : Rows) (are : AreRows n 1 0 m) (bits : Spots) where
   is_loop o lo =
       loop_of n o (n - o) body xs refl (are.own, (tt, tt))
       (((λ i j li lj e. f.target.by 0 (o + i) (omega arith) (omega arith) (sym e)), tt), (tt, tt)) (
-        ((λ i j li lj e. let z : o + i ≡ o + j = are.moves.by (o + i) (o + j) (omega arith) (omega arith) e in absurd (omega arith)), ((λ i j li lj e. f.target.by 0 (o + i) (omega arith) (omega arith) (sym e)), tt)),
         (
-          ((λ i j li lj e. are.a.by i (o + j) (omega arith) (omega arith) e), ((λ i j li lj e. f.a.by i 0 (omega arith) (omega arith) e), tt)),
+          (λ i j li lj e. let z : o + i ≡ o + j =
+              are.moves.by (o + i) (o + j) (omega arith) (omega arith) e in absurd (omega arith)),
+          ((λ i j li lj e. f.target.by 0 (o + i) (omega arith) (omega arith) (sym e)), tt),
+        ),
+        (
           (
-            ((λ i j li lj e. are.b.by o (o + j) lo (omega arith) e), ((λ i j li lj e. f.b.by o 0 lo (omega arith) e), tt)),
+            (λ i j li lj e. are.a.by i (o + j) (omega arith) (omega arith) e),
+            ((λ i j li lj e. f.a.by i 0 (omega arith) (omega arith) e), tt),
+          ),
+          (
+            (
+              (λ i j li lj e. are.b.by o (o + j) lo (omega arith) e),
+              ((λ i j li lj e. f.b.by o 0 lo (omega arith) e), tt),
+            ),
             ((omega arith, λ i j li lj. refl), tt),
           ),
         ),
@@ -76,10 +94,12 @@ module _ (n : ℕ) (m : Rows) (are : AreRows n 1 0 m) (bits : Spots) where
   -- after the first bits of b: the product with these, but for a multiple of 2 ^ n
   record Multiplied (o : ℕ) (new : Spots) : Type 0 where
     over : ℕ
-    product : number_at n new m.target n + over * 2 ^ n ≡ number_at n bits m.a n * number_at n bits m.b o
+    product : number_at n new m.target n + over * 2 ^ n
+        ≡ number_at n bits m.a n * number_at n bits m.b o
     rest : (q : Spot) → IsElsewhere n 1 0 m q → new q ≡ bits q
 
-  one_bit : (o : ℕ) (old : Spots) → o < n → Multiplied o old → Multiplied (suc o) (after_parts n o parts old)
+  one_bit : (o : ℕ) (old : Spots) → o < n → Multiplied o old
+      → Multiplied (suc o) (after_parts n o parts old)
   unfolding values_from
   one_bit o old lo i =
       let r = n - o in
@@ -92,57 +112,93 @@ module _ (n : ℕ) (m : Rows) (are : AreRows n 1 0 m) (bits : Spots) where
       let ta = λ (j : ℕ). start (row n m.target (o + j)) in
       let a = λ (j : ℕ). start (row n m.a j) in
       let g = start (row n m.b o) in
-      let sums : number y r + bit (carry r) * 2 ^ r ≡ number ta r + number (λ j. majority false (a j) g) r + bit (carry 0) =
-      sum_two ta (λ j. majority false (a j) g) y carry r (λ j lj. added_digit (ta j) (majority false (a j) g) (carry j)) in
+      let sums : number y r + bit (carry r) * 2 ^ r
+      ≡ number ta r + number (λ j. majority false (a j) g) r + bit (carry 0) =
+      sum_two ta (λ j. majority false (a j) g) y carry r
+      (λ j lj. added_digit (ta j) (majority false (a j) g) (carry j)) in
       let gated = value_gated a g r in
       let none : bit (carry 0) ≡ 0 = ap bit (set_same old p false p refl) in
       let split : n ≡ o + r = omega arith in
       let high : (j : ℕ) → j < r → new (row n m.target (o + j)) ≡ y j =
-      λ j lj. loop_word n o r body xs is start 0 (omega arith) (λ u v lu lv e. let z : o + u ≡ o + v = are.moves.by (o + u) (o + v) (omega arith) (omega arith) e in omega arith) j lj in
+      λ j lj. loop_word n o r body xs is start 0 (omega arith) (λ u v lu lv e. let z : o + u
+      ≡ o + v = are.moves.by (o + u) (o + v) (omega arith) (omega arith) e in
+      omega arith) j lj in
       let untouched : (v : ℕ) → v < o → new (row n m.target v) ≡ old (row n m.target v) =
-      λ v lv. t.rest (row n m.target v) (λ j w lj lw e. low o v lo lv j w lj lw e) ∙ set_other old p false (row n m.target v) (λ e. f.target.by 0 v (omega arith) (omega arith) (sym e)) in
+      λ v lv. t.rest (row n m.target v) (λ j w lj lw e. low o v lo lv j w lj lw e)
+      ∙ set_other old p false (row n m.target v) (λ e.
+      f.target.by 0 v (omega arith) (omega arith) (sym e)) in
       let stays : (q : Spot) → (q ≡ p → ⊥) → start q ≡ old q = λ q ne. set_other old p false q ne in
-      let low_new = value_same (λ v. new (row n m.target v)) (λ v. old (row n m.target v)) o untouched in
+      let low_new = value_same (λ v. new (row n m.target v)) (λ v. old (row n m.target v)) o
+      untouched in
       let high_new = value_same (λ j. new (row n m.target (o + j))) y r high in
-      let high_old = value_same ta (λ j. old (row n m.target (o + j))) r (λ j lj. stays (row n m.target (o + j)) (λ e. f.target.by 0 (o + j) (omega arith) (omega arith) (sym e))) in
-      let a_old = value_same a (λ j. bits (row n m.a j)) r (λ j lj. stays (row n m.a j) (λ e. f.a.by j 0 (omega arith) (omega arith) e) ∙ i.rest (row n m.a j) (args_else n m m.a are.a f.a j (omega arith))) in
-      let g_old : g ≡ bits (row n m.b o) = stays (row n m.b o) (λ e. f.b.by o 0 lo (omega arith) e) ∙ i.rest (row n m.b o) (args_else n m m.b are.b f.b o lo) in
+      let high_old = value_same ta (λ j. old (row n m.target (o + j))) r
+      (λ j lj. stays (row n m.target (o + j)) (λ e.
+      f.target.by 0 (o + j) (omega arith) (omega arith) (sym e))) in
+      let a_old = value_same a (λ j. bits (row n m.a j)) r
+      (λ j lj. stays (row n m.a j) (λ e. f.a.by j 0 (omega arith) (omega arith) e)
+      ∙ i.rest (row n m.a j) (args_else n m m.a are.a f.a j (omega arith))) in
+      let g_old : g ≡ bits (row n m.b o) = stays (row n m.b o) (λ e. f.b.by o 0 lo (omega arith) e)
+      ∙ i.rest (row n m.b o) (args_else n m m.b are.b f.b o lo) in
       let back : r + o ≡ n = omega arith in
-      let all_a : number_at n bits m.a n ≡ number (λ j. bits (row n m.a j)) r + 2 ^ r * number (λ j. bits (row n m.a (r + j))) o =
+      let all_a : number_at n bits m.a n ≡ number (λ j. bits (row n m.a j)) r + 2 ^ r
+      * number (λ j. bits (row n m.a (r + j))) o =
       ap (number_at n bits m.a) (sym back) ∙ value_split (λ j. bits (row n m.a j)) r o in
-      let new_split : number_at n new m.target n ≡ number (λ v. new (row n m.target v)) o + 2 ^ o * number (λ j. new (row n m.target (o + j))) r =
+      let new_split : number_at n new m.target n ≡ number (λ v. new (row n m.target v)) o + 2 ^ o
+      * number (λ j. new (row n m.target (o + j))) r =
       ap (number_at n new m.target) split ∙ value_split (λ v. new (row n m.target v)) o r in
-      let old_split : number_at n old m.target n ≡ number (λ v. old (row n m.target v)) o + 2 ^ o * number (λ j. old (row n m.target (o + j))) r =
+      let old_split : number_at n old m.target n ≡ number (λ v. old (row n m.target v)) o + 2 ^ o
+      * number (λ j. old (row n m.target (o + j))) r =
       ap (number_at n old m.target) split ∙ value_split (λ v. old (row n m.target v)) o r in
       let pow : 2 ^ n ≡ 2 ^ o * 2 ^ r = ap (λ x. 2 ^ x) split ∙ pow-add 2 o r in
-      let digit : number y r + bit (carry r) * 2 ^ r ≡ number (λ j. old (row n m.target (o + j))) r + bit (bits (row n m.b o)) * number (λ j. bits (row n m.a j)) r =
-      sums ∙ omega (arith, none, gated, high_old) ∙ ap (λ x. number (λ j. old (row n m.target (o + j))) r + bit g * x) a_old ∙ ap (λ x. number (λ j. old (row n m.target (o + j))) r + bit x * number (λ j. bits (row n m.a j)) r) g_old in
+      let digit : number y r + bit (carry r) * 2 ^ r ≡ number (λ j. old (row n m.target (o + j))) r
+      + bit (bits (row n m.b o)) * number (λ j. bits (row n m.a j)) r =
+      sums ∙ omega (arith, none, gated, high_old)
+      ∙ ap (λ x. number (λ j. old (row n m.target (o + j))) r + bit g * x) a_old
+      ∙ ap (λ x. number (λ j. old (row n m.target (o + j))) r + bit x
+      * number (λ j. bits (row n m.a j)) r) g_old in
       let low_v = number (λ v. old (row n m.target v)) o in
-      let before : low_v + 2 ^ o * number (λ j. old (row n m.target (o + j))) r + i.over * (2 ^ o * 2 ^ r) ≡ number_at n bits m.a n * number_at n bits m.b o =
-      ap (λ x. x + i.over * (2 ^ o * 2 ^ r)) (sym old_split) ∙ ap (λ x. number_at n old m.target n + i.over * x) (sym pow) ∙ i.product in
-      let step = product_step low_v (number (λ j. old (row n m.target (o + j))) r) (number y r) (bit (carry r)) (2 ^ o) (2 ^ r) (number (λ j. bits (row n m.a j)) r) (number (λ j. bits (row n m.a (r + j))) o) (bit (bits (row n m.b o))) i.over (number_at n bits m.b o) (number_at n bits m.a n) digit all_a before in
+      let before : low_v + 2 ^ o * number (λ j. old (row n m.target (o + j))) r + i.over
+      * (2 ^ o * 2 ^ r) ≡ number_at n bits m.a n * number_at n bits m.b o =
+      ap (λ x. x + i.over * (2 ^ o * 2 ^ r)) (sym old_split)
+      ∙ ap (λ x. number_at n old m.target n + i.over * x) (sym pow) ∙ i.product in
+      let step = product_step low_v (number (λ j. old (row n m.target (o + j))) r) (number y r)
+      (bit (carry r)) (2 ^ o) (2 ^ r) (number (λ j. bits (row n m.a j)) r)
+      (number (λ j. bits (row n m.a (r + j))) o) (bit (bits (row n m.b o))) i.over
+      (number_at n bits m.b o) (number_at n bits m.a n) digit all_a before in
       record {
-        over = i.over + bit (carry r) + number (λ j. bits (row n m.a (r + j))) o * bit (bits (row n m.b o));
+        over = i.over + bit (carry r) + number (λ j. bits (row n m.a (r + j))) o
+            * bit (bits (row n m.b o));
         product =
-            ap (λ x. x + (i.over + bit (carry r) + number (λ j. bits (row n m.a (r + j))) o * bit (bits (row n m.b o))) * 2 ^ n) (new_split ∙ ap (λ x. x + 2 ^ o * number (λ j. new (row n m.target (o + j))) r) low_new ∙ ap (λ x. low_v + 2 ^ o * x) high_new)
-            ∙ ap (λ x. low_v + 2 ^ o * number y r + (i.over + bit (carry r) + number (λ j. bits (row n m.a (r + j))) o * bit (bits (row n m.b o))) * x) pow
+            ap (λ x. x + (i.over + bit (carry r) + number (λ j. bits (row n m.a (r + j))) o
+            * bit (bits (row n m.b o))) * 2 ^ n) (new_split
+            ∙ ap (λ x. x + 2 ^ o * number (λ j. new (row n m.target (o + j))) r) low_new
+            ∙ ap (λ x. low_v + 2 ^ o * x) high_new)
+            ∙ ap (λ x. low_v + 2 ^ o * number y r
+            + (i.over + bit (carry r) + number (λ j. bits (row n m.a (r + j))) o
+            * bit (bits (row n m.b o))) * x) pow
             ∙ step;
-        rest = λ q out. t.rest q (λ j w lj lw e. elsewhere o lo q out j w lj lw e) ∙ stays q (bit_else n 0 0 m q out) ∙ i.rest q out;
+        rest = λ q out. t.rest q (λ j w lj lw e. elsewhere o lo q out j w lj lw e)
+            ∙ stays q (bit_else n 0 0 m q out) ∙ i.rest q out;
       }
     where
-      low : (o v : ℕ) → o < n → v < o → (j w : ℕ) → j < n - o → w < 2 → row n m.target v ≡ spot_at n j o (nth_place body.writes w) → ⊥
-      low o v lo lv j zero lj lw e = let z : v ≡ o + j = are.moves.by v (o + j) (omega arith) (omega arith) e in absurd (omega arith)
+      low : (o v : ℕ) → o < n → v < o → (j w : ℕ) → j < n - o → w < 2
+          → row n m.target v ≡ spot_at n j o (nth_place body.writes w) → ⊥
+      low o v lo lv j zero lj lw e = let z : v ≡ o + j =
+          are.moves.by v (o + j) (omega arith) (omega arith) e in absurd (omega arith)
       low o v lo lv j (suc zero) lj lw e = f.target.by 0 v (omega arith) (omega arith) (sym e)
       low o v lo lv j (suc (suc w)) lj lw e = absurd (omega arith)
 
-      elsewhere : (o : ℕ) → o < n → (q : Spot) → IsElsewhere n 1 0 m q → (j w : ℕ) → j < n - o → w < 2 → q ≡ spot_at n j o (nth_place body.writes w) → ⊥
+      elsewhere : (o : ℕ) → o < n → (q : Spot) → IsElsewhere n 1 0 m q → (j w : ℕ) → j < n - o
+          → w < 2 → q ≡ spot_at n j o (nth_place body.writes w) → ⊥
       elsewhere o lo q out j zero lj lw e = out.target (o + j) (omega arith) e
       elsewhere o lo q out j (suc zero) lj lw e = bit_else n 0 0 m q out e
       elsewhere o lo q out j (suc (suc w)) lj lw e = absurd (omega arith)
 
-  all_bits : (o : ℕ) (zeroed : Spots) → o ≤ n → Multiplied 0 zeroed → Multiplied o (after_outer n parts o zeroed)
+  all_bits : (o : ℕ) (zeroed : Spots) → o ≤ n → Multiplied 0 zeroed
+      → Multiplied o (after_outer n parts o zeroed)
   all_bits zero zeroed lo i = i
-  all_bits (suc o) zeroed lo i = one_bit o (after_outer n parts o zeroed) (omega arith) (all_bits o zeroed (omega arith) i)
+  all_bits (suc o) zeroed lo i = one_bit o (after_outer n parts o zeroed) (omega arith)
+      (all_bits o zeroed (omega arith) i)
 
 pub mul_does : (n : ℕ) (m : Rows) → AreRows n 1 0 m → DoesNested op.Mul n 1 0 m
 unfolding values_from
@@ -150,17 +206,24 @@ mul_does n m are bits =
     let b0 = placed_body (rooms_for op.Mul m) (constant off (target sub.Inner)) in
     let ps : List (InnerOf Block) = parts n m are bits in
     let zeroed = after_many n 0 b0 n bits in
-    let l = word_loop n 0 m.target are.own are.moves sub.Inner (λ v. v) (upwards n 0) [] 0 [] off [] bits tt in
-    let none : number_at n zeroed m.target n ≡ 0 = value_same (λ v. zeroed (row n m.target v)) (λ v. false) n l.word ∙ value_false n in
-    let first : Multiplied n m are bits 0 zeroed = record { over = 0; product = omega (arith, none); rest = λ q out. l.rest q out.target } in
+    let l = word_loop n 0 m.target are.own are.moves sub.Inner (λ v. v) (upwards n 0) [] 0 [] off []
+    bits tt in
+    let none : number_at n zeroed m.target n ≡ 0 =
+    value_same (λ v. zeroed (row n m.target v)) (λ v. false) n l.word ∙ value_false n in
+    let first : Multiplied n m are bits 0 zeroed =
+    record { over = 0; product = omega (arith, none); rest = λ q out. l.rest q out.target } in
     let i = all_bits n m are bits n zeroed (omega arith) first in
-    subst (Gives op.Mul n 1 0 m bits) (sym (steps_each n b0 (Nest ps ∷ []) bits ∙ steps_nest n ps [] zeroed))
+    subst (Gives op.Mul n 1 0 m bits) (sym (steps_each n b0 (Nest ps ∷ []) bits
+    ∙ steps_nest n ps [] zeroed))
     record {
-      gives = last_sum (number_at n (after_outer n ps n zeroed) m.target n) i.over (2 ^ n) (number_at n bits m.a n * number_at n bits m.b n) (value_below (λ v. after_outer n ps n zeroed (row n m.target v)) n) i.product;
+      gives = last_sum (number_at n (after_outer n ps n zeroed) m.target n) i.over (2 ^ n)
+          (number_at n bits m.a n * number_at n bits m.b n)
+          (value_below (λ v. after_outer n ps n zeroed (row n m.target v)) n) i.product;
       keeps = i.rest;
     }
 
-counted_digit : (t c : Bool) → bit (majority false (not (majority false t c)) (majority true t c)) + 2 * bit (majority false t c) ≡ bit t + bit c
+counted_digit : (t c : Bool) → bit (majority false (not (majority false t c)) (majority true t c))
+    + 2 * bit (majority false t c) ≡ bit t + bit c
 unfolding majority
 counted_digit true true = refl
 counted_digit true false = refl
@@ -183,7 +246,9 @@ module _ (n : ℕ) (m : Rows) (are : AreRows n 1 0 m) (bits : Spots) where
   count_body = placed_body (rooms_for op.Bitcount m) (counted (target sub.Inner) (second sub.Zero))
 
   abbrev count_parts : List (InnerOf Block)
-  count_parts = Alone (placed_body (rooms_for op.Bitcount m) (moved (first sub.Outer) (second sub.Zero))) ∷ (Across All count_body ∷ [])
+  count_parts =
+      Alone (placed_body (rooms_for op.Bitcount m) (moved (first sub.Outer) (second sub.Zero)))
+      ∷ (Across All count_body ∷ [])
 
   abbrev ys : List Origin
   ys = Standing ∷ (Carried 1 ∷ [])
@@ -192,7 +257,11 @@ module _ (n : ℕ) (m : Rows) (are : AreRows n 1 0 m) (bits : Spots) where
   count_loop o =
       loop_of n o n count_body ys refl (are.own, (tt, tt))
       (((λ i j li lj e. cf.target.by 0 i (omega arith) (omega arith) (sym e)), tt), (tt, tt)) (
-        ((λ i j li lj e. let z : i ≡ j = are.moves.by i j (omega arith) (omega arith) e in absurd (omega arith)), ((λ i j li lj e. cf.target.by 0 i (omega arith) (omega arith) (sym e)), tt)),
+        (
+          (λ i j li lj e. let z : i ≡ j = are.moves.by i j (omega arith) (omega arith) e in
+              absurd (omega arith)),
+          ((λ i j li lj e. cf.target.by 0 i (omega arith) (omega arith) (sym e)), tt),
+        ),
         ((omega arith, λ i j li lj. refl), tt),
       )
 
@@ -201,7 +270,8 @@ module _ (n : ℕ) (m : Rows) (are : AreRows n 1 0 m) (bits : Spots) where
     ones : number_at n new m.target n ≡ ones_of o (number_at n bits m.a o)
     rest : (q : Spot) → IsElsewhere n 1 0 m q → new q ≡ bits q
 
-  one_count : (o : ℕ) (old : Spots) → o < n → Counted o old → Counted (suc o) (after_parts n o count_parts old)
+  one_count : (o : ℕ) (old : Spots) → o < n → Counted o old
+      → Counted (suc o) (after_parts n o count_parts old)
   unfolding values_from majority
   one_count o old lo i =
       let v = old (row n m.a o) in
@@ -212,27 +282,44 @@ module _ (n : ℕ) (m : Rows) (are : AreRows n 1 0 m) (bits : Spots) where
       let y = λ (j : ℕ). turn n o count_body ys start (suc j) 0 in
       let carry = λ (j : ℕ). turn n o count_body ys start j 1 in
       let ta = λ (j : ℕ). start (row n m.target j) in
-      let sums : number y n + bit (carry n) * 2 ^ n ≡ number ta n + bit (carry 0) = carry_sum (λ j. bit (ta j)) y carry n (λ j lj. counted_digit (ta j) (carry j)) ∙ ap (λ x. x + bit (carry 0)) (digits_one ta n) in
-      let first : bit (carry 0) ≡ bit (bits (row n m.a o)) = ap bit (set_same old cp v cp refl ∙ i.rest (row n m.a o) (args_else n m m.a are.a cf.a o lo)) in
-      let word = value_same (λ j. new (row n m.target j)) y n (λ j lj. loop_word n o n count_body ys is start 0 (omega arith) (λ u w lu lw e. are.moves.by u w (omega arith) (omega arith) e) j lj) in
+      let sums : number y n + bit (carry n) * 2 ^ n ≡ number ta n + bit (carry 0) =
+      carry_sum (λ j. bit (ta j)) y carry n (λ j lj. counted_digit (ta j) (carry j))
+      ∙ ap (λ x. x + bit (carry 0)) (digits_one ta n) in
+      let first : bit (carry 0) ≡ bit (bits (row n m.a o)) =
+      ap bit (set_same old cp v cp refl ∙ i.rest (row n m.a o)
+      (args_else n m m.a are.a cf.a o lo)) in
+      let word = value_same (λ j. new (row n m.target j)) y n
+      (λ j lj. loop_word n o n count_body ys is start 0 (omega arith) (λ u w lu lw e.
+      are.moves.by u w (omega arith) (omega arith) e) j lj) in
       let stays : (q : Spot) → (q ≡ cp → ⊥) → start q ≡ old q = λ q ne. set_other old cp v q ne in
-      let was = value_same ta (λ j. old (row n m.target j)) n (λ j lj. stays (row n m.target j) (λ e. cf.target.by 0 j (omega arith) lj (sym e))) in
-      let total : number y n + bit (carry n) * 2 ^ n ≡ ones_of (suc o) (number_at n bits m.a (suc o)) =
-      sums ∙ ap (λ x. x + bit (carry 0)) (was ∙ i.ones) ∙ ap (λ x. ones_of o (number_at n bits m.a o) + x) first ∙ sym (ones_of_more (λ j. bits (row n m.a j)) o) in
-      let few : ones_of (suc o) (number_at n bits m.a (suc o)) < 2 ^ n = (let a = few_ones (λ j. bits (row n m.a j)) (suc o) in let b = below_pow n in omega (arith, a, b)) in
+      let was = value_same ta (λ j. old (row n m.target j)) n
+      (λ j lj. stays (row n m.target j) (λ e. cf.target.by 0 j (omega arith) lj (sym e))) in
+      let total : number y n + bit (carry n) * 2 ^ n
+      ≡ ones_of (suc o) (number_at n bits m.a (suc o)) =
+      sums ∙ ap (λ x. x + bit (carry 0)) (was ∙ i.ones)
+      ∙ ap (λ x. ones_of o (number_at n bits m.a o) + x) first
+      ∙ sym (ones_of_more (λ j. bits (row n m.a j)) o) in
+      let few : ones_of (suc o) (number_at n bits m.a (suc o)) < 2 ^ n =
+      (let a = few_ones (λ j. bits (row n m.a j)) (suc o) in let b = below_pow n in
+      omega (arith, a, b)) in
       record {
-        ones = word ∙ no_carry (carry n) (number y n) (2 ^ n) (ones_of (suc o) (number_at n bits m.a (suc o))) few total;
-        rest = λ q out. t.rest q (λ j w lj lw e. elsewhere o q out j w lj lw e) ∙ stays q (bit_else n 0 0 m q out) ∙ i.rest q out;
+        ones = word ∙ no_carry (carry n) (number y n) (2 ^ n)
+            (ones_of (suc o) (number_at n bits m.a (suc o))) few total;
+        rest = λ q out. t.rest q (λ j w lj lw e. elsewhere o q out j w lj lw e)
+            ∙ stays q (bit_else n 0 0 m q out) ∙ i.rest q out;
       }
     where
-      elsewhere : (o : ℕ) → (q : Spot) → IsElsewhere n 1 0 m q → (j w : ℕ) → j < n → w < 2 → q ≡ spot_at n j o (nth_place count_body.writes w) → ⊥
+      elsewhere : (o : ℕ) → (q : Spot) → IsElsewhere n 1 0 m q → (j w : ℕ) → j < n → w < 2
+          → q ≡ spot_at n j o (nth_place count_body.writes w) → ⊥
       elsewhere o q out j zero lj lw e = out.target j (omega arith) e
       elsewhere o q out j (suc zero) lj lw e = bit_else n 0 0 m q out e
       elsewhere o q out j (suc (suc w)) lj lw e = absurd (omega arith)
 
-  all_counts : (o : ℕ) (zeroed : Spots) → o ≤ n → Counted 0 zeroed → Counted o (after_outer n count_parts o zeroed)
+  all_counts : (o : ℕ) (zeroed : Spots) → o ≤ n → Counted 0 zeroed
+      → Counted o (after_outer n count_parts o zeroed)
   all_counts zero zeroed lo i = i
-  all_counts (suc o) zeroed lo i = one_count o (after_outer n count_parts o zeroed) (omega arith) (all_counts o zeroed (omega arith) i)
+  all_counts (suc o) zeroed lo i = one_count o (after_outer n count_parts o zeroed) (omega arith)
+      (all_counts o zeroed (omega arith) i)
 
 pub bitcount_does : (n : ℕ) (m : Rows) → AreRows n 1 0 m → DoesNested op.Bitcount n 1 0 m
 unfolding values_from
@@ -240,9 +327,16 @@ bitcount_does n m are bits =
     let b0 = placed_body (rooms_for op.Bitcount m) (constant off (target sub.Inner)) in
     let ps : List (InnerOf Block) = count_parts n m are bits in
     let zeroed = after_many n 0 b0 n bits in
-    let l = word_loop n 0 m.target are.own are.moves sub.Inner (λ v. v) (upwards n 0) [] 0 [] off [] bits tt in
-    let none : number_at n zeroed m.target n ≡ 0 = value_same (λ v. zeroed (row n m.target v)) (λ v. false) n l.word ∙ value_false n in
-    let first : Counted n m are bits 0 zeroed = record { ones = none ∙ sym (ones_of_none (λ j. bits (row n m.a j))); rest = λ q out. l.rest q out.target } in
+    let l = word_loop n 0 m.target are.own are.moves sub.Inner (λ v. v) (upwards n 0) [] 0 [] off []
+    bits tt in
+    let none : number_at n zeroed m.target n ≡ 0 =
+    value_same (λ v. zeroed (row n m.target v)) (λ v. false) n l.word ∙ value_false n in
+    let first : Counted n m are bits 0 zeroed =
+    record {
+      ones = none ∙ sym (ones_of_none (λ j. bits (row n m.a j)));
+      rest = λ q out. l.rest q out.target;
+    } in
     let i = all_counts n m are bits n zeroed (omega arith) first in
-    subst (Gives op.Bitcount n 1 0 m bits) (sym (steps_each n b0 (Nest ps ∷ []) bits ∙ steps_nest n ps [] zeroed))
+    subst (Gives op.Bitcount n 1 0 m bits) (sym (steps_each n b0 (Nest ps ∷ []) bits
+    ∙ steps_nest n ps [] zeroed))
     record { gives = i.ones; keeps = i.rest }

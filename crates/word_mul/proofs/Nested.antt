@@ -1,5 +1,7 @@
--- Each nested operation's loop program gives its value, takes so many commands, and passes the tests.
-use Rattle.std.proofs.Common.{◌≡◌, ◌⊎◌, inl, ℕ, ◌+◌, ◌*◌, ◌^◌, ◌<◌, ◌≤◌, true, List, [], ◌∷◌, map, length, refl, sym, ap, ◌∙◌, subst, arith}
+-- Each nested operation's loop program gives its value, takes so many commands, and passes the
+-- tests.
+use Rattle.std.proofs.Common.{◌≡◌, ◌⊎◌, inl, ℕ, ◌+◌, ◌*◌, ◌^◌, ◌<◌, ◌≤◌, true, List, [], ◌∷◌, map}
+use Rattle.std.proofs.Common.{length, refl, sym, ap, ◌∙◌, subst, arith}
 use Rattle.std.proofs.Math.Nat.{pow-suc, pow-zero}
 use Rattle.op_text.specs.declared.tree.Kind.TheVariants.{Word}
 use Rattle.op_text.specs.declared.tree.WordOp.{WordOp}
@@ -31,150 +33,224 @@ use Rattle.word_mul.proofs.Clear.{WordsClear, rooms_more, owned_more, clear_room
 use Rattle.word_mul.proofs.Multiply.{mul_does, bitcount_does}
 use Rattle.word_mul.proofs.Quotient.{div_does, rem_does}
 
--- the target has the operation's value, and no row but the target's and the internal scratch's has changed
-pub record DoesOp (p : WordOp) (n : ℕ) (t : Slot) (args : List Slot) (free_bit free_word : ℕ) (before after : Spots) : Type 0 where
-  pub gives : slot_bits n after t ≡ bits (op_value p (slots_width n args) (map (λ a. value (slot_bits n before a)) args)) (width n t.kind)
-  pub keeps : (q : Spot) → ((v : ℕ) → v < width n t.kind → q ≡ slot_spot n t v → ⊥) → ((j : ℕ) → j < bits_inside p → q ≡ spot_in n ScratchBit (free_bit + j) 0 → ⊥) → ((v : ℕ) → v < n * words_inside p → q ≡ spot_in n ScratchWord free_word v → ⊥) → after q ≡ before q
+-- the target has the operation's value, and no row but the target's and the internal scratch's has
+-- changed
+pub record DoesOp (p : WordOp) (n : ℕ) (t : Slot) (args : List Slot) (free_bit free_word : ℕ)
+    (before after : Spots) : Type 0 where
+  pub gives : slot_bits n after t ≡ bits (op_value p (slots_width n args)
+      (map (λ a. value (slot_bits n before a)) args)) (width n t.kind)
+  pub keeps : (q : Spot) → ((v : ℕ) → v < width n t.kind → q ≡ slot_spot n t v → ⊥)
+      → ((j : ℕ) → j < bits_inside p → q ≡ spot_in n ScratchBit (free_bit + j) 0 → ⊥)
+      → ((v : ℕ) → v < n * words_inside p → q ≡ spot_in n ScratchWord free_word v → ⊥)
+      → after q ≡ before q
 
 pub record Lowers (p : WordOp) (t : Slot) (args : List Slot) (free_bit free_word : ℕ) : Type 0 where
   pub fit : steps_fit (rooms_for p (rows_on t args free_bit free_word)) (nested p) ≡ true
   pub short : is_short (steps_for p (rows_on t args free_bit free_word)) ≡ true
-  pub apart : (n : ℕ) → 0 < n → Pieces n t args (scratch_from free_bit (bits_inside p)) → WordsClear n t args free_word (words_inside p) → RoomsApart n (rooms_for p (rows_on t args free_bit free_word))
-  pub owned : (n : ℕ) (q : Spot) → IsOwned n (rooms_for p (rows_on t args free_bit free_word)) q → IsOwned n (rooms_of t args (scratch_from free_bit (bits_inside p))) q ⊎ ((v : ℕ) × (v < n * words_inside p) × (q ≡ spot_in n ScratchWord free_word v))
-  pub does : (n : ℕ) → 0 < n → Pieces n t args (scratch_from free_bit (bits_inside p)) → WordsClear n t args free_word (words_inside p) → (before : Spots) → DoesOp p n t args free_bit free_word before (after_rounds n (all_rounds n (steps_for p (rows_on t args free_bit free_word))) before)
-  pub total : (n : ℕ) → rounds_cost (all_rounds n (steps_for p (rows_on t args free_bit free_word))) ≡ nested_total p n
+  pub apart : (n : ℕ) → 0 < n → Pieces n t args (scratch_from free_bit (bits_inside p))
+      → WordsClear n t args free_word (words_inside p)
+      → RoomsApart n (rooms_for p (rows_on t args free_bit free_word))
+  pub owned : (n : ℕ) (q : Spot) → IsOwned n (rooms_for p (rows_on t args free_bit free_word)) q
+      → IsOwned n (rooms_of t args (scratch_from free_bit (bits_inside p))) q
+      ⊎ ((v : ℕ) × (v < n * words_inside p) × (q ≡ spot_in n ScratchWord free_word v))
+  pub does : (n : ℕ) → 0 < n → Pieces n t args (scratch_from free_bit (bits_inside p))
+      → WordsClear n t args free_word (words_inside p) → (before : Spots)
+      → DoesOp p n t args free_bit free_word before
+      (after_rounds n (all_rounds n (steps_for p (rows_on t args free_bit free_word))) before)
+  pub total : (n : ℕ) → rounds_cost (all_rounds n (steps_for p (rows_on t args free_bit free_word)))
+      ≡ nested_total p n
   pub cheap : (n : ℕ) → nested_total p n ≤ op_ceiling p (slots_width n args)
 
 square : (n : ℕ) → n ^ 2 ≡ n * n
-square n = let e : n ^ 2 ≡ n ^ 1 * n = pow-suc n 1 in let f : n ^ 1 ≡ n ^ 0 * n = pow-suc n 0 in let z : n ^ 0 ≡ 1 = pow-zero n in e ∙ ap (λ x. x * n) (f ∙ ap (λ x. x * n) z ∙ omega arith)
+square n = let e : n ^ 2 ≡ n ^ 1 * n = pow-suc n 1 in let f : n ^ 1 ≡ n ^ 0 * n = pow-suc n 0 in
+    let z : n ^ 0 ≡ 1 = pow-zero n in e ∙ ap (λ x. x * n) (f ∙ ap (λ x. x * n) z ∙ omega arith)
 
 turn : (n : ℕ) (s t : Slot) (k l : ℕ) → SlotsApart n s k t l → SlotsApart n t l s k
 turn n s t k l a = record { by = λ u v lu lv e. a.by v u lv lu (sym e) }
 
 -- a bit of scratch is free
-bit_is_free : (n : ℕ) (t a b : Slot) (args : List Slot) (free_bit free_word bits_free j : ℕ) → t.kind ≡ Word → a.kind ≡ Word → b.kind ≡ Word → (i k : ℕ) → i < length args → k < length args → slot_at args i ≡ a → slot_at args k ≡ b → j < bits_free → Pieces n t args (scratch_from free_bit bits_free)
-    → IsFree n (record { target = t; a = a; b = b; free_bit = free_bit; free_word = free_word }) (scratch_bit (free_bit + j)) 1
+bit_is_free : (n : ℕ) (t a b : Slot) (args : List Slot) (free_bit free_word bits_free j : ℕ)
+    → t.kind ≡ Word → a.kind ≡ Word → b.kind ≡ Word → (i k : ℕ) → i < length args → k < length args
+    → slot_at args i ≡ a → slot_at args k ≡ b → j < bits_free
+    → Pieces n t args (scratch_from free_bit bits_free)
+    → IsFree n (record { target = t; a = a; b = b; free_bit = free_bit; free_word = free_word })
+    (scratch_bit (free_bit + j)) 1
 bit_is_free n t a b args free_bit free_word bits_free j kt ka kb i k li lk ea eb lj are =
     let len = length_scratch free_bit bits_free in
-    let is : slot_at (scratch_from free_bit bits_free) j ≡ scratch_bit (free_bit + j) = scratch_at free_bit bits_free j lj in
+    let is : slot_at (scratch_from free_bit bits_free) j ≡ scratch_bit (free_bit + j) =
+    scratch_at free_bit bits_free j lj in
     let in_list : j < length (scratch_from free_bit bits_free) = omega arith in
-    let apart = λ (s r : Slot) (w : ℕ) (h : SlotsApart n s (width n s.kind) (slot_at (scratch_from free_bit bits_free) j) (width n (slot_at (scratch_from free_bit bits_free) j).kind)) (e : s ≡ r) (f : r.kind ≡ Word).
+    let apart =
+    λ (s r : Slot) (w : ℕ) (h : SlotsApart n s (width n s.kind)
+    (slot_at (scratch_from free_bit bits_free) j)
+    (width n (slot_at (scratch_from free_bit bits_free) j).kind)) (e : s ≡ r) (f : r.kind
+    ≡ Word).
     subst (λ (r : Slot). SlotsApart n r n (scratch_bit (free_bit + j)) 1) e
-    (subst (λ x. SlotsApart n s x (scratch_bit (free_bit + j)) 1) (ap (λ (z : Slot). width n z.kind) e ∙ ap (width n) f)
+    (subst (λ x. SlotsApart n s x (scratch_bit (free_bit + j)) 1)
+    (ap (λ (z : Slot). width n z.kind) e ∙ ap (width n) f)
     (subst (λ (z : Slot). SlotsApart n s (width n s.kind) z (width n z.kind)) is h)) in
     record {
-      target = turn n t (scratch_bit (free_bit + j)) n 1 (apart t t 0 (turn n (slot_at (scratch_from free_bit bits_free) j) t _ _ (are.free j in_list)) refl kt);
+      target = turn n t (scratch_bit (free_bit + j)) n 1
+          (apart t t 0 (turn n (slot_at (scratch_from free_bit bits_free) j) t _ _
+          (are.free j in_list)) refl kt);
       a = apart (slot_at args i) a 0 (are.others i j li in_list) ea ka;
       b = apart (slot_at args k) b 0 (are.others k j lk in_list) eb kb;
     }
 
 -- from numbers to bits
-answer : (p : WordOp) (n : ℕ) (space : Space) (which : ℕ) (after : Spots) (x y : ℕ) → number_at n after (slot space which Word) n ≡ x → x ≡ y → slot_bits n after (slot space which Word) ≡ bits y n
-answer p n space which after x y e f = sym (bits_of_number (λ v. after (row n (slot space which Word) v)) n) ∙ ap (λ z. bits z n) (e ∙ f)
+answer : (p : WordOp) (n : ℕ) (space : Space) (which : ℕ) (after : Spots) (x y : ℕ)
+    → number_at n after (slot space which Word) n ≡ x → x ≡ y
+    → slot_bits n after (slot space which Word) ≡ bits y n
+answer p n space which after x y e f =
+    sym (bits_of_number (λ v. after (row n (slot space which Word) v)) n)
+    ∙ ap (λ z. bits z n) (e ∙ f)
 
-elsewhere : (n bits_free words : ℕ) (m : Rows) (q : Spot) → ((v : ℕ) → v < n → q ≡ slot_spot n m.target v → ⊥) → ((j : ℕ) → j < bits_free → q ≡ spot_in n ScratchBit (m.free_bit + j) 0 → ⊥) → ((v : ℕ) → v < n * words → q ≡ spot_in n ScratchWord m.free_word v → ⊥) → IsElsewhere n bits_free words m q
+elsewhere : (n bits_free words : ℕ) (m : Rows) (q : Spot)
+    → ((v : ℕ) → v < n → q ≡ slot_spot n m.target v → ⊥)
+    → ((j : ℕ) → j < bits_free → q ≡ spot_in n ScratchBit (m.free_bit + j) 0 → ⊥)
+    → ((v : ℕ) → v < n * words → q ≡ spot_in n ScratchWord m.free_word v → ⊥)
+    → IsElsewhere n bits_free words m q
 elsewhere n bits_free words m q t b w = record { target = t; bit = b; word = w }
 
-module _ (x0 : Space) (y0 : ℕ) (x1 : Space) (y1 : ℕ) (x2 : Space) (y2 : ℕ) (free_bit free_word : ℕ) where
-  abbrev t : Slot
-  t = slot x0 y0 Word
+module _ (x0 : Space) (y0 : ℕ) (x1 : Space) (y1 : ℕ) (x2 : Space) (y2 : ℕ) (free_bit free_word : ℕ)
+  where
+    abbrev t : Slot
+    t = slot x0 y0 Word
 
-  abbrev a : Slot
-  a = slot x1 y1 Word
+    abbrev a : Slot
+    a = slot x1 y1 Word
 
-  abbrev b : Slot
-  b = slot x2 y2 Word
+    abbrev b : Slot
+    b = slot x2 y2 Word
 
-  abbrev two : Rows
-  two = rows_on t (a ∷ b ∷ []) free_bit free_word
+    abbrev two : Rows
+    two = rows_on t (a ∷ b ∷ []) free_bit free_word
 
-  abbrev one : Rows
-  one = rows_on t (a ∷ []) free_bit free_word
+    abbrev one : Rows
+    one = rows_on t (a ∷ []) free_bit free_word
 
-  two_rows : (n bits_free words : ℕ) → Pieces n t (a ∷ b ∷ []) (scratch_from free_bit bits_free) → WordsClear n t (a ∷ b ∷ []) free_word words → AreRows n bits_free words two
-  two_rows n bits_free words are clear = record {
-    own = are.own;
-    moves = record { by = moves_in n x0 y0 Word are.holds };
-    a = are.given 0 (omega arith);
-    b = are.given 1 (omega arith);
-    bit = λ j lj. bit_is_free n t a b (a ∷ b ∷ []) free_bit free_word bits_free j refl refl refl 0 1 (omega arith) (omega arith) refl refl lj are;
-    word = record { target = turn n t (scratch_word free_word) n (n * words) clear.target; a = clear.given 0 (omega arith); b = clear.given 1 (omega arith) };
-  }
+    two_rows : (n bits_free words : ℕ) → Pieces n t (a ∷ b ∷ []) (scratch_from free_bit bits_free)
+        → WordsClear n t (a ∷ b ∷ []) free_word words → AreRows n bits_free words two
+    two_rows n bits_free words are clear = record {
+      own = are.own;
+      moves = record { by = moves_in n x0 y0 Word are.holds };
+      a = are.given 0 (omega arith);
+      b = are.given 1 (omega arith);
+      bit = λ j lj. bit_is_free n t a b (a ∷ b ∷ []) free_bit free_word bits_free j refl refl refl 0
+          1
+          (omega arith) (omega arith) refl refl lj are;
+      word = record {
+        target = turn n t (scratch_word free_word) n (n * words) clear.target;
+        a = clear.given 0 (omega arith);
+        b = clear.given 1 (omega arith);
+      };
+    }
 
-  one_rows : (n bits_free words : ℕ) → Pieces n t (a ∷ []) (scratch_from free_bit bits_free) → WordsClear n t (a ∷ []) free_word words → AreRows n bits_free words one
-  one_rows n bits_free words are clear = record {
-    own = are.own;
-    moves = record { by = moves_in n x0 y0 Word are.holds };
-    a = are.given 0 (omega arith);
-    b = are.given 0 (omega arith);
-    bit = λ j lj. bit_is_free n t a a (a ∷ []) free_bit free_word bits_free j refl refl refl 0 0 (omega arith) (omega arith) refl refl lj are;
-    word = record { target = turn n t (scratch_word free_word) n (n * words) clear.target; a = clear.given 0 (omega arith); b = clear.given 0 (omega arith) };
-  }
+    one_rows : (n bits_free words : ℕ) → Pieces n t (a ∷ []) (scratch_from free_bit bits_free)
+        → WordsClear n t (a ∷ []) free_word words → AreRows n bits_free words one
+    one_rows n bits_free words are clear = record {
+      own = are.own;
+      moves = record { by = moves_in n x0 y0 Word are.holds };
+      a = are.given 0 (omega arith);
+      b = are.given 0 (omega arith);
+      bit = λ j lj. bit_is_free n t a a (a ∷ []) free_bit free_word bits_free j refl refl refl 0 0
+          (omega arith) (omega arith) refl refl lj are;
+      word = record {
+        target = turn n t (scratch_word free_word) n (n * words) clear.target;
+        a = clear.given 0 (omega arith);
+        b = clear.given 0 (omega arith);
+      };
+    }
 
-  two_values : (p : WordOp) (n : ℕ) (before : Spots) → op_value p n (number_at n before a n ∷ number_at n before b n ∷ []) ≡ op_value p n (value (slot_bits n before a) ∷ value (slot_bits n before b) ∷ [])
-  two_values p n before =
-      ap (λ x. op_value p n (x ∷ number_at n before b n ∷ [])) (sym (value_of_list (λ v. before (row n a v)) n))
-      ∙ ap (λ x. op_value p n (value (slot_bits n before a) ∷ x ∷ [])) (sym (value_of_list (λ v. before (row n b v)) n))
+    two_values : (p : WordOp) (n : ℕ) (before : Spots)
+        → op_value p n (number_at n before a n ∷ number_at n before b n ∷ [])
+        ≡ op_value p n (value (slot_bits n before a) ∷ value (slot_bits n before b) ∷ [])
+    two_values p n before =
+        ap (λ x. op_value p n (x ∷ number_at n before b n ∷ []))
+        (sym (value_of_list (λ v. before (row n a v)) n))
+        ∙ ap (λ x. op_value p n (value (slot_bits n before a) ∷ x ∷ []))
+        (sym (value_of_list (λ v. before (row n b v)) n))
 
-  does_two : (p : WordOp) (n : ℕ) → ((x y : ℕ) → operation p n x y ≡ op_value p n (x ∷ y ∷ [])) → DoesNested p n (bits_inside p) (words_inside p) two → (before : Spots) → DoesOp p n t (a ∷ b ∷ []) free_bit free_word before (after_rounds n (all_rounds n (steps_for p two)) before)
-  does_two p n is does before =
-      let g = does before in
-      record {
-        gives = answer p n x0 y0 (after_rounds n (all_rounds n (steps_for p two)) before) _ _ g.gives (is (number_at n before a n) (number_at n before b n) ∙ two_values p n before);
-        keeps = λ q tq bq wq. g.keeps q (elsewhere n (bits_inside p) (words_inside p) two q tq bq wq);
-      }
-
-  window_apart : (n : ℕ) → Pieces n t (a ∷ b ∷ []) (scratch_from free_bit 2) → WordsClear n t (a ∷ b ∷ []) free_word 2 → RoomsApart n (rooms_for op.Div two)
-  window_apart n are clear = rooms_more n (rooms_of t (a ∷ b ∷ []) (scratch_from free_bit 2)) _ (rooms_apart n t (a ∷ b ∷ []) (scratch_from free_bit 2) are) (clear_rooms n t (a ∷ b ∷ []) free_bit 2 free_word clear) tt
-
-  window_owned : (n : ℕ) (q : Spot) → IsOwned n (rooms_for op.Div two) q → IsOwned n (rooms_of t (a ∷ b ∷ []) (scratch_from free_bit 2)) q ⊎ ((v : ℕ) × (v < n * 2) × (q ≡ spot_in n ScratchWord free_word v))
-  window_owned n q o = owned_more n (rooms_of t (a ∷ b ∷ []) (scratch_from free_bit 2)) _ q o
-
-  pub on_mul : Lowers op.Mul t (a ∷ b ∷ []) free_bit free_word
-  on_mul = record {
-    fit = refl;
-    short = refl;
-    apart = λ n some are clear. rooms_apart n t (a ∷ b ∷ []) (scratch_from free_bit 1) are;
-    owned = λ n q o. inl o;
-    does = λ n some are clear. does_two op.Mul n (λ x y. refl) (mul_does n two (two_rows n 1 0 are clear));
-    total = λ n. (let e = total_is n (steps_for op.Mul two) in let s = square n in omega (arith, e, s));
-    cheap = λ n. omega arith;
-  }
-
-  pub on_div : Lowers op.Div t (a ∷ b ∷ []) free_bit free_word
-  on_div = record {
-    fit = refl;
-    short = refl;
-    apart = λ n some are clear. window_apart n are clear;
-    owned = window_owned;
-    does = λ n some are clear. does_two op.Div n (λ x y. refl) (div_does n two (two_rows n 2 2 are clear));
-    total = λ n. (let e = total_is n (steps_for op.Div two) in let s = square n in omega (arith, e, s));
-    cheap = λ n. omega arith;
-  }
-
-  pub on_rem : Lowers op.Rem t (a ∷ b ∷ []) free_bit free_word
-  on_rem = record {
-    fit = refl;
-    short = refl;
-    apart = λ n some are clear. window_apart n are clear;
-    owned = window_owned;
-    does = λ n some are clear. does_two op.Rem n (λ x y. refl) (rem_does n two (two_rows n 2 2 are clear));
-    total = λ n. (let e = total_is n (steps_for op.Rem two) in let s = square n in omega (arith, e, s));
-    cheap = λ n. omega arith;
-  }
-
-  pub on_bitcount : Lowers op.Bitcount t (a ∷ []) free_bit free_word
-  on_bitcount = record {
-    fit = refl;
-    short = refl;
-    apart = λ n some are clear. rooms_apart n t (a ∷ []) (scratch_from free_bit 1) are;
-    owned = λ n q o. inl o;
-    does = λ n some are clear before.
-        (let g = bitcount_does n one (one_rows n 1 0 are clear) before in
+    does_two : (p : WordOp) (n : ℕ) → ((x y : ℕ) → operation p n x y ≡ op_value p n (x ∷ y ∷ []))
+        → DoesNested p n (bits_inside p) (words_inside p) two → (before : Spots)
+        → DoesOp p n t (a ∷ b ∷ []) free_bit free_word before
+        (after_rounds n (all_rounds n (steps_for p two)) before)
+    does_two p n is does before =
+        let g = does before in
         record {
-          gives = answer op.Bitcount n x0 y0 (after_rounds n (all_rounds n (steps_for op.Bitcount one)) before) _ _ g.gives (ap (λ x. op_value op.Bitcount n (x ∷ [])) (sym (value_of_list (λ v. before (row n a v)) n)));
-          keeps = λ q tq bq wq. g.keeps q (elsewhere n 1 0 one q tq bq wq);
-        });
-    total = λ n. (let e = total_is n (steps_for op.Bitcount one) in let s = square n in omega (arith, e, s));
-    cheap = λ n. omega arith;
-  }
+          gives = answer p n x0 y0 (after_rounds n (all_rounds n (steps_for p two)) before) _ _
+              g.gives (is (number_at n before a n) (number_at n before b n)
+                  ∙ two_values p n before);
+          keeps = λ q tq bq wq. g.keeps q (elsewhere n (bits_inside p) (words_inside p) two q tq bq
+              wq);
+        }
+
+    window_apart : (n : ℕ) → Pieces n t (a ∷ b ∷ []) (scratch_from free_bit 2)
+        → WordsClear n t (a ∷ b ∷ []) free_word 2 → RoomsApart n (rooms_for op.Div two)
+    window_apart n are clear = rooms_more n (rooms_of t (a ∷ b ∷ []) (scratch_from free_bit 2)) _
+        (rooms_apart n t (a ∷ b ∷ []) (scratch_from free_bit 2) are)
+        (clear_rooms n t (a ∷ b ∷ []) free_bit 2 free_word clear) tt
+
+    window_owned : (n : ℕ) (q : Spot) → IsOwned n (rooms_for op.Div two) q
+        → IsOwned n (rooms_of t (a ∷ b ∷ []) (scratch_from free_bit 2)) q
+        ⊎ ((v : ℕ) × (v < n * 2) × (q ≡ spot_in n ScratchWord free_word v))
+    window_owned n q o = owned_more n (rooms_of t (a ∷ b ∷ []) (scratch_from free_bit 2)) _ q o
+
+    pub on_mul : Lowers op.Mul t (a ∷ b ∷ []) free_bit free_word
+    on_mul = record {
+      fit = refl;
+      short = refl;
+      apart = λ n some are clear. rooms_apart n t (a ∷ b ∷ []) (scratch_from free_bit 1) are;
+      owned = λ n q o. inl o;
+      does = λ n some are clear. does_two op.Mul n (λ x y.
+          refl) (mul_does n two (two_rows n 1 0 are clear));
+      total = λ n. (let e = total_is n (steps_for op.Mul two) in let s = square n in
+          omega (arith, e, s));
+      cheap = λ n. omega arith;
+    }
+
+    pub on_div : Lowers op.Div t (a ∷ b ∷ []) free_bit free_word
+    on_div = record {
+      fit = refl;
+      short = refl;
+      apart = λ n some are clear. window_apart n are clear;
+      owned = window_owned;
+      does = λ n some are clear. does_two op.Div n (λ x y.
+          refl) (div_does n two (two_rows n 2 2 are clear));
+      total = λ n. (let e = total_is n (steps_for op.Div two) in let s = square n in
+          omega (arith, e, s));
+      cheap = λ n. omega arith;
+    }
+
+    pub on_rem : Lowers op.Rem t (a ∷ b ∷ []) free_bit free_word
+    on_rem = record {
+      fit = refl;
+      short = refl;
+      apart = λ n some are clear. window_apart n are clear;
+      owned = window_owned;
+      does = λ n some are clear. does_two op.Rem n (λ x y.
+          refl) (rem_does n two (two_rows n 2 2 are clear));
+      total = λ n. (let e = total_is n (steps_for op.Rem two) in let s = square n in
+          omega (arith, e, s));
+      cheap = λ n. omega arith;
+    }
+
+    pub on_bitcount : Lowers op.Bitcount t (a ∷ []) free_bit free_word
+    on_bitcount = record {
+      fit = refl;
+      short = refl;
+      apart = λ n some are clear. rooms_apart n t (a ∷ []) (scratch_from free_bit 1) are;
+      owned = λ n q o. inl o;
+      does = λ n some are clear before.
+          (let g = bitcount_does n one (one_rows n 1 0 are clear) before in
+          record {
+            gives = answer op.Bitcount n x0 y0 (after_rounds n
+                (all_rounds n (steps_for op.Bitcount one)) before) _ _ g.gives
+                (ap (λ x. op_value op.Bitcount n (x ∷ []))
+                (sym (value_of_list (λ v. before (row n a v)) n)));
+            keeps = λ q tq bq wq. g.keeps q (elsewhere n 1 0 one q tq bq wq);
+          });
+      total = λ n. (let e = total_is n (steps_for op.Bitcount one) in let s = square n in
+          omega (arith, e, s));
+      cheap = λ n. omega arith;
+    }

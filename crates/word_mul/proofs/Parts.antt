@@ -13,43 +13,60 @@ use Rattle.word_mul.specs.Bodies.{IsBuilt, PartsBuilt, StepsBuilt}
 pub none_built : PartsBuilt [] []
 none_built = record { like = no_parts; made = tt }
 
-pub once_built : (b a : Block) (ps qs : List (InnerOf Block)) → IsBuilt b a → PartsBuilt ps qs → PartsBuilt (Alone b ∷ ps) (Alone a ∷ qs)
+pub once_built : (b a : Block) (ps qs : List (InnerOf Block)) → IsBuilt b a → PartsBuilt ps qs
+    → PartsBuilt (Alone b ∷ ps) (Alone a ∷ qs)
 once_built b a ps qs h more = record { like = alone h.like more.like; made = (h.made, more.made) }
 
-pub each_built : (c : Count) (b a : Block) (ps qs : List (InnerOf Block)) → IsBuilt b a → PartsBuilt ps qs → PartsBuilt (Across c b ∷ ps) (Across c a ∷ qs)
-each_built c b a ps qs h more = record { like = across h.like more.like; made = (h.made, more.made) }
+pub each_built : (c : Count) (b a : Block) (ps qs : List (InnerOf Block)) → IsBuilt b a
+    → PartsBuilt ps qs → PartsBuilt (Across c b ∷ ps) (Across c a ∷ qs)
+each_built c b a ps qs h more = record {
+  like = across h.like more.like;
+  made = (h.made, more.made);
+}
 
 pub end_built : StepsBuilt [] []
 end_built = record { like = no_steps; made = tt }
 
-pub along_built : (b a : Block) (ss ts : List (StepOf Block)) → IsBuilt b a → StepsBuilt ss ts → StepsBuilt (Along b ∷ ss) (Along a ∷ ts)
+pub along_built : (b a : Block) (ss ts : List (StepOf Block)) → IsBuilt b a → StepsBuilt ss ts
+    → StepsBuilt (Along b ∷ ss) (Along a ∷ ts)
 along_built b a ss ts h more = record { like = along h.like more.like; made = (h.made, more.made) }
 
-pub nest_built : (ps qs : List (InnerOf Block)) (ss ts : List (StepOf Block)) → PartsBuilt ps qs → StepsBuilt ss ts → StepsBuilt (Nest ps ∷ ss) (Nest qs ∷ ts)
+pub nest_built : (ps qs : List (InnerOf Block)) (ss ts : List (StepOf Block)) → PartsBuilt ps qs
+    → StepsBuilt ss ts → StepsBuilt (Nest ps ∷ ss) (Nest qs ∷ ts)
 nest_built ps qs ss ts h more = record { like = nest h.like more.like; made = (h.made, more.made) }
 
-like_more : {ps qs : List (InnerOf Block)} → LikeParts ps qs → (rs ss : List (InnerOf Block)) → LikeParts rs ss → LikeParts (ps ++ rs) (qs ++ ss)
+like_more : {ps qs : List (InnerOf Block)} → LikeParts ps qs → (rs ss : List (InnerOf Block))
+    → LikeParts rs ss → LikeParts (ps ++ rs) (qs ++ ss)
 like_more no_parts rs ss h = h
 like_more (alone b more) rs ss h = alone b (like_more more rs ss h)
 like_more (across b more) rs ss h = across b (like_more more rs ss h)
 
-made_more : (ps rs : List (InnerOf Block)) → AllInner IsMade ps → AllInner IsMade rs → AllInner IsMade (ps ++ rs)
+made_more : (ps rs : List (InnerOf Block)) → AllInner IsMade ps → AllInner IsMade rs
+    → AllInner IsMade (ps ++ rs)
 made_more [] rs h g = g
 made_more (Alone b ∷ ps) rs h g = (h.0, made_more ps rs h.1 g)
 made_more (Across c b ∷ ps) rs h g = (h.0, made_more ps rs h.1 g)
 
-map_more : (ps : List Inner) (p : Inner) → map inner_of (ps ++ p ∷ []) ≡ map inner_of ps ++ inner_of p ∷ []
+map_more : (ps : List Inner) (p : Inner) → map inner_of (ps ++ p ∷ []) ≡ map inner_of ps
+    ++ inner_of p ∷ []
 map_more [] p = refl
 map_more (x ∷ ps) p = ap (λ r. inner_of x ∷ r) (map_more ps p)
 
 -- one part more
-pub more_built : (ps : List Inner) (p : Inner) (all : List Inner) (qs ss : List (InnerOf Block)) → all ≡ ps ++ p ∷ [] → PartsBuilt (map inner_of ps) qs → PartsBuilt (inner_of p ∷ []) ss → PartsBuilt (map inner_of all) (qs ++ ss)
+pub more_built : (ps : List Inner) (p : Inner) (all : List Inner) (qs ss : List (InnerOf Block))
+    → all ≡ ps ++ p ∷ [] → PartsBuilt (map inner_of ps) qs → PartsBuilt (inner_of p ∷ []) ss
+    → PartsBuilt (map inner_of all) (qs ++ ss)
 more_built ps p all qs ss e h g =
     subst (λ rs. PartsBuilt rs (qs ++ ss)) (sym (ap (map inner_of) e ∙ map_more ps p))
-    record { like = like_more h.like (inner_of p ∷ []) ss g.like; made = made_more (map inner_of ps) (inner_of p ∷ []) h.made g.made }
+    record {
+      like = like_more h.like (inner_of p ∷ []) ss g.like;
+      made = made_more (map inner_of ps) (inner_of p ∷ []) h.made g.made;
+    }
 
-pub parts_as : (all ps : List Inner) (qs : List (InnerOf Block)) → all ≡ ps → PartsBuilt (map inner_of ps) qs → PartsBuilt (map inner_of all) qs
+pub parts_as : (all ps : List Inner) (qs : List (InnerOf Block)) → all ≡ ps
+    → PartsBuilt (map inner_of ps) qs → PartsBuilt (map inner_of all) qs
 parts_as all ps qs e h = subst (λ r. PartsBuilt (map inner_of r) qs) (sym e) h
 
-pub steps_as : (all ss : List Step) (ts : List (StepOf Block)) → all ≡ ss → StepsBuilt (map step_of ss) ts → StepsBuilt (map step_of all) ts
+pub steps_as : (all ss : List Step) (ts : List (StepOf Block)) → all ≡ ss
+    → StepsBuilt (map step_of ss) ts → StepsBuilt (map step_of all) ts
 steps_as all ss ts e h = subst (λ r. StepsBuilt (map step_of r) ts) (sym e) h

@@ -1,5 +1,7 @@
 -- Division: the quotient bit by bit, and the remainder.
-use Rattle.std.proofs.Common.{◌≡◌, ℕ, zero, suc, ◌+◌, ◌-◌, ◌*◌, ◌^◌, ◌%◌, ◌/◌, ◌<◌, ◌≤◌, Bool, true, false, cond, List, [], ◌∷◌, ◌++◌, refl, sym, ap, ◌∙◌, subst, arith, ⊎_elim, ◌⊎◌, inl, inr}
+use Rattle.std.proofs.Common.{◌≡◌, ℕ, zero, suc, ◌+◌, ◌-◌, ◌*◌, ◌^◌, ◌%◌, ◌/◌, ◌<◌, ◌≤◌, Bool, true}
+use Rattle.std.proofs.Common.{false, cond, List, [], ◌∷◌, ◌++◌, refl, sym, ap, ◌∙◌, subst, arith}
+use Rattle.std.proofs.Common.{⊎_elim, ◌⊎◌, inl, inr}
 use Rattle.std.specs.Prelude.{nat_lt, ◌==◌}
 use Rattle.std.proofs.lemmas.Bool.{cases_lt, cases_eq, lt-ltb, eq-eqb, ne_eqb}
 use Rattle.std.proofs.lemmas.Nat.{mod-mul-add, div-mul-add}
@@ -30,7 +32,8 @@ use Rattle.word_mul.proofs.Setting.{AreRows, IsElsewhere, Gives, DoesNested}
 use Rattle.word_mul.proofs.Divide.{w, gp, gf, cf, core, IsOther, w_moves, Stepped, step}
 
 -- what is left of the rows without a borrow is the whole difference
-exact : (t c : Bool) (y x xl k p : ℕ) → y < p → x < k + p → k ≤ x → x ≡ xl + bit t * p → y + bit c * p + k ≡ xl + p → y + k ≡ x
+exact : (t c : Bool) (y x xl k p : ℕ) → y < p → x < k + p → k ≤ x → x ≡ xl + bit t * p
+    → y + bit c * p + k ≡ xl + p → y + k ≡ x
 exact true true y x xl k p ly lx le e f = absurd (omega (arith, e, f))
 exact true false y x xl k p ly lx le e f = omega (arith, e, f)
 exact false true y x xl k p ly lx le e f = omega (arith, e, f)
@@ -42,7 +45,9 @@ record Next (y g b x hi quot : ℕ) : Type 0 where
   none : b ≡ 0 → g ≡ 1
   equation : hi ≡ (2 * quot + g) * b + y
 
-next : (g t c : Bool) (y x xl b p r aj hi up quot : ℕ) → g ≡ nat_lt b (x + 1) → y < p → b < p → hi < p → aj ≤ 1 → (0 < b → r < b) → x ≡ aj + 2 * r → x ≡ xl + bit t * p → up ≡ quot * b + r → hi ≡ aj + 2 * up → y + bit c * p + bit g * b ≡ xl + p → Next y (bit g) b x hi quot
+next : (g t c : Bool) (y x xl b p r aj hi up quot : ℕ) → g ≡ nat_lt b (x + 1) → y < p → b < p
+    → hi < p → aj ≤ 1 → (0 < b → r < b) → x ≡ aj + 2 * r → x ≡ xl + bit t * p → up ≡ quot * b + r
+    → hi ≡ aj + 2 * up → y + bit c * p + bit g * b ≡ xl + p → Next y (bit g) b x hi quot
 next true t c y x xl b p r aj hi up quot eg ly lb lh la lr ex et eu eh ed =
     let over : b ≤ x = under b x eg in
     let fits : x < 1 * b + p = by (cases_eq b 0) in
@@ -58,7 +63,8 @@ next true t c y x xl b p r aj hi up quot eg ly lb lh la lr ex et eu eh ed =
     under b x e = grind arith
 
     by : (b ≡ 0) ⊎ (b ≡ 0 → ⊥) → x < 1 * b + p
-    by (inl z) = let q : quot * b ≡ quot * 0 = ap (λ k. quot * k) z in omega (arith, q, z, ex, eu, eh)
+    by (inl z) = let q : quot * b ≡ quot * 0 = ap (λ k. quot * k) z in
+        omega (arith, q, z, ex, eu, eh)
     by (inr some) = let h : r < b = lr (omega (arith, some)) in omega (arith, h, ex)
 next false t c y x xl b p r aj hi up quot eg ly lb lh la lr ex et eu eh ed =
     let over : x < b = under b x eg in
@@ -71,7 +77,8 @@ next false t c y x xl b p r aj hi up quot eg ly lb lh la lr ex et eu eh ed =
     }
   where
     under : (b x : ℕ) → false ≡ nat_lt b (x + 1) → x < b
-    under b x e = ⊎_elim (λ (h : x < b). h) (λ (h : b ≤ x). absurd (bad (lt-ltb b (x + 1) (omega (arith, h))))) (cases_lt x b)
+    under b x e = ⊎_elim (λ (h : x < b). h) (λ (h : b
+        ≤ x). absurd (bad (lt-ltb b (x + 1) (omega (arith, h))))) (cases_lt x b)
       where
         bad : nat_lt b (x + 1) ≡ true → ⊥
         bad f = let z : false ≡ true = e ∙ f in cc
@@ -84,9 +91,11 @@ module _ (n : ℕ) (m : Rows) (are : AreRows n 2 2 m) (bits : Spots) where
   abbrev b : ℕ
   b = number_at n bits m.b n
 
-  -- the high rows of a from a position on, divided: the quotient, and the remainder in the window from there on
+  -- the high rows of a from a position on, divided: the quotient, and the remainder in the window
+  -- from there on
   record Divides (j o quot : ℕ) (new : Spots) : Type 0 where
-    equation : number (λ k. bits (row n m.a (j + k))) o ≡ quot * b + number (λ i. new (row n (w n m are) (j + i))) n
+    equation : number (λ k. bits (row n m.a (j + k))) o
+        ≡ quot * b + number (λ i. new (row n (w n m are) (j + i))) n
     small : 0 < b → number (λ i. new (row n (w n m are) (j + i))) n < b
     none : b ≡ 0 → quot + 1 ≡ 2 ^ o
     low : (v : ℕ) → v < j → new (row n (w n m are) v) ≡ bits (row n m.a v)
@@ -102,7 +111,8 @@ module _ (n : ℕ) (m : Rows) (are : AreRows n 2 2 m) (bits : Spots) where
   other : (q : Spot) → IsElsewhere n 2 2 m q → IsOther n m are q
   other q out = record {
     word = out.word;
-    g = λ e. let z : m.free_bit + 0 ≡ m.free_bit = omega arith in out.bit 0 (omega arith) (e ∙ ap (λ x. row n (scratch_bit x) 0) (sym z));
+    g = λ e. let z : m.free_bit + 0 ≡ m.free_bit = omega arith in
+        out.bit 0 (omega arith) (e ∙ ap (λ x. row n (scratch_bit x) 0) (sym z));
     c = λ e. out.bit 1 (omega arith) e;
   }
 
@@ -113,25 +123,36 @@ module _ (n : ℕ) (m : Rows) (are : AreRows n 2 2 m) (bits : Spots) where
     c = λ e. (cf n m are).target.by 0 v (omega arith) lv (sym e);
   }
 
-  one_step : (j o quot : ℕ) (old new : Spots) → suc j + o ≡ n → Divides (suc j) o quot old → (st : Stepped n m are j old new) → Divides j (suc o) (2 * quot + bit st.chosen) new
+  one_step : (j o quot : ℕ) (old new : Spots) → suc j + o ≡ n → Divides (suc j) o quot old
+      → (st : Stepped n m are j old new) → Divides j (suc o) (2 * quot + bit st.chosen) new
   one_step j o quot old new e i st =
       let win = w n m are in
       let x = λ (k : ℕ). old (row n win (j + k)) in
       let r = number (λ k. old (row n win (suc j + k))) n in
-      let vb : number_at n old m.b n ≡ b = value_same (λ v. old (row n m.b v)) (λ v. bits (row n m.b v)) n (λ v lv. i.rest (row n m.b v) (b_else v lv)) in
+      let vb : number_at n old m.b n ≡ b = value_same (λ v. old (row n m.b v)) (λ v.
+      bits (row n m.b v)) n (λ v lv. i.rest (row n m.b v) (b_else v lv)) in
       let shift = λ (k : ℕ). (let z : j + suc k ≡ suc j + k = omega arith in z) in
       let none : j + 0 ≡ j = omega arith in
-      let first : x 0 ≡ bits (row n m.a j) = ap (λ k. old (row n win k)) none ∙ i.low j (omega arith) in
+      let first : x 0 ≡ bits (row n m.a j) = ap (λ k. old (row n win k)) none
+      ∙ i.low j (omega arith) in
       let ex : number x (suc n) ≡ bit (bits (row n m.a j)) + 2 * r =
-      value_low x n ∙ ap (λ z. bit z + 2 * number (λ k. x (suc k)) n) first ∙ ap (λ z. bit (bits (row n m.a j)) + 2 * z) (value_same (λ k. x (suc k)) (λ k. old (row n win (suc j + k))) n (λ k lk. ap (λ q. old (row n win q)) (shift k))) in
+      value_low x n ∙ ap (λ z. bit z + 2 * number (λ k. x (suc k)) n) first
+      ∙ ap (λ z. bit (bits (row n m.a j)) + 2 * z)
+      (value_same (λ k. x (suc k)) (λ k. old (row n win (suc j + k))) n
+      (λ k lk. ap (λ q. old (row n win q)) (shift k))) in
       let h = λ (k : ℕ). bits (row n m.a (j + k)) in
       let up = number (λ k. bits (row n m.a (suc j + k))) o in
       let eh : number h (suc o) ≡ bit (bits (row n m.a j)) + 2 * up =
-      value_low h o ∙ ap (λ q. bit (bits (row n m.a q)) + 2 * number (λ k. h (suc k)) o) none ∙ ap (λ z. bit (bits (row n m.a j)) + 2 * z) (value_same (λ k. h (suc k)) (λ k. bits (row n m.a (suc j + k))) o (λ k lk. ap (λ q. bits (row n m.a q)) (shift k))) in
+      value_low h o ∙ ap (λ q. bit (bits (row n m.a q)) + 2 * number (λ k. h (suc k)) o) none
+      ∙ ap (λ z. bit (bits (row n m.a j)) + 2 * z)
+      (value_same (λ k. h (suc k)) (λ k. bits (row n m.a (suc j + k))) o
+      (λ k lk. ap (λ q. bits (row n m.a q)) (shift k))) in
       let le : suc o ≤ n = omega (arith, e) in
-      let lh : number h (suc o) < 2 ^ n = (let p = value_below h (suc o) in let q = pow_mono le in omega (arith, p, q)) in
+      let lh : number h (suc o) < 2 ^ n = (let p = value_below h (suc o) in let q = pow_mono le in
+      omega (arith, p, q)) in
       let y = number (λ k. new (row n win (j + k))) n in
-      let s = next st.chosen (x n) st.borrow y (number x (suc n)) (number x n) b (2 ^ n) r (bit (bits (row n m.a j))) (number h (suc o)) up quot
+      let s = next st.chosen (x n) st.borrow y (number x (suc n)) (number x n) b (2 ^ n) r
+      (bit (bits (row n m.a j))) (number h (suc o)) up quot
       (st.compares ∙ ap (λ z. nat_lt z (number x (suc n) + 1)) vb)
       (value_below (λ k. new (row n win (j + k))) n)
       (value_below (λ v. bits (row n m.b v)) n)
@@ -165,34 +186,48 @@ module _ (n : ℕ) (m : Rows) (are : AreRows n 2 2 m) (bits : Spots) where
   unfolding values_from
   start =
       let win = w n m are in
-      let l1 = word_loop n 0 win tt (record { by = λ u v lu lv e. w_moves n m are u v e }) sub.Inner (λ v. v) (upwards n 0) copy_body.reads 1 [] (plain 1) (Standing ∷ []) bits (((λ i j li lj e. are.word.a.by i j li (omega arith) e), tt), tt) in
+      let l1 = word_loop n 0 win tt (record { by = λ u v lu lv e. w_moves n m are u v e }) sub.Inner
+      (λ v. v) (upwards n 0) copy_body.reads 1 [] (plain 1) (Standing
+      ∷ []) bits (((λ i j li lj e. are.word.a.by i j li (omega arith) e), tt), tt) in
       let t = loop_turns n 0 n clear_body [] clear_loop copied in
       let zeros : number (λ k. ready (row n win (n + k))) n ≡ 0 =
-      value_same (λ k. ready (row n win (n + k))) (λ k. false) n (λ k lk. loop_word n 0 n clear_body [] clear_loop copied 0 (omega arith) (λ u v lu lv e. let z : n + u ≡ n + v = w_moves n m are (n + u) (n + v) e in omega arith) k lk) ∙ value_false n in
+      value_same (λ k. ready (row n win (n + k))) (λ k.
+      false) n (λ k lk. loop_word n 0 n clear_body [] clear_loop copied 0 (omega arith)
+      (λ u v lu lv e. let z : n + u ≡ n + v = w_moves n m are (n + u) (n + v) e in
+      omega arith) k lk) ∙ value_false n in
       record {
         equation = omega (arith, zeros);
         small = λ some. omega (arith, zeros, some);
         none = λ z. omega arith;
-        low = λ v lv. t.rest (row n win v) (λ j k lj lk e. low_apart v lv j k lj lk e) ∙ l1.word v lv;
-        rest = λ q out. t.rest q (λ j k lj lk e. clear_apart q out j k lj lk e) ∙ l1.rest q (λ v lv e. out.word v (omega arith) e);
+        low = λ v lv. t.rest (row n win v) (λ j k lj lk e. low_apart v lv j k lj lk e)
+            ∙ l1.word v lv;
+        rest = λ q out. t.rest q (λ j k lj lk e. clear_apart q out j k lj lk e)
+            ∙ l1.rest q (λ v lv e. out.word v (omega arith) e);
       }
     where
-      low_apart : (v : ℕ) → v < n → (j k : ℕ) → j < n → k < 1 → row n (w n m are) v ≡ spot_at n j 0 (nth_place clear_body.writes k) → ⊥
-      low_apart v lv j zero lj lk e = let z : v ≡ n + j = w_moves n m are v (n + j) e in absurd (omega arith)
+      low_apart : (v : ℕ) → v < n → (j k : ℕ) → j < n → k < 1
+          → row n (w n m are) v ≡ spot_at n j 0 (nth_place clear_body.writes k) → ⊥
+      low_apart v lv j zero lj lk e = let z : v ≡ n + j = w_moves n m are v (n + j) e in
+          absurd (omega arith)
       low_apart v lv j (suc k) lj lk e = absurd (omega arith)
 
-      clear_apart : (q : Spot) → IsElsewhere n 2 2 m q → (j k : ℕ) → j < n → k < 1 → q ≡ spot_at n j 0 (nth_place clear_body.writes k) → ⊥
+      clear_apart : (q : Spot) → IsElsewhere n 2 2 m q → (j k : ℕ) → j < n → k < 1
+          → q ≡ spot_at n j 0 (nth_place clear_body.writes k) → ⊥
       clear_apart q out j zero lj lk e = out.word (n + j) (omega arith) e
       clear_apart q out j (suc k) lj lk e = absurd (omega arith)
 
   abbrev the_core : List (InnerOf Block)
   the_core = core n m are
 
-  stepped : (o j : ℕ) (old : Spots) → suc j + o ≡ n → Stepped n m are j old (after_parts n o the_core old)
-  stepped o j old e = let z : n - 1 - o ≡ j = omega (arith, e) in subst (λ x. Stepped n m are x old (after_parts n o the_core old)) z (step n m are o old (omega (arith, e)))
+  stepped : (o j : ℕ) (old : Spots) → suc j + o ≡ n
+      → Stepped n m are j old (after_parts n o the_core old)
+  stepped o j old e = let z : n - 1 - o ≡ j = omega (arith, e) in
+      subst (λ x. Stepped n m are x old (after_parts n o the_core old)) z
+      (step n m are o old (omega (arith, e)))
 
   all_steps : (o j : ℕ) → j + o ≡ n → (quot : ℕ) × Divides j o quot (after_outer n the_core o ready)
-  all_steps zero j e = let z : n ≡ j = omega (arith, e) in (0, subst (λ x. Divides x 0 0 ready) z start)
+  all_steps zero j e = let z : n ≡ j = omega (arith, e) in
+      (0, subst (λ x. Divides x 0 0 ready) z start)
   all_steps (suc o) j e =
       let old = after_outer n the_core o ready in
       let e' : suc j + o ≡ n = omega (arith, e) in
@@ -202,22 +237,27 @@ module _ (n : ℕ) (m : Rows) (are : AreRows n 2 2 m) (bits : Spots) where
 
   -- one more row of the target
   abbrev last : List (InnerOf Block)
-  last = Alone (placed_body (rooms_for op.Div m) (moved (third sub.Zero) (target sub.OuterDown))) ∷ []
+  last = Alone (placed_body (rooms_for op.Div m) (moved (third sub.Zero) (target sub.OuterDown)))
+      ∷ []
 
   abbrev all_parts : List (InnerOf Block)
   all_parts = the_core ++ last
 
-  written : (j o quot k : ℕ) (new : Spots) (v : Bool) → j + o ≡ n → k < n → Divides j o quot new → Divides j o quot (set_spot new (row n m.target k) v)
+  written : (j o quot k : ℕ) (new : Spots) (v : Bool) → j + o ≡ n → k < n → Divides j o quot new
+      → Divides j o quot (set_spot new (row n m.target k) v)
   written j o quot k new v e lk i =
       let win = w n m are in
-      let same = λ (u : ℕ) (lu : u < n * 2). set_other new (row n m.target k) v (row n win u) (λ h. are.word.target.by u k lu lk h) in
-      let all = value_same (λ i. set_spot new (row n m.target k) v (row n win (j + i))) (λ i. new (row n win (j + i))) n (λ i li. same (j + i) (omega (arith, e))) in
+      let same = λ (u : ℕ) (lu : u < n * 2). set_other new (row n m.target k) v (row n win u) (λ h.
+      are.word.target.by u k lu lk h) in
+      let all = value_same (λ i. set_spot new (row n m.target k) v (row n win (j + i))) (λ i.
+      new (row n win (j + i))) n (λ i li. same (j + i) (omega (arith, e))) in
       record {
         equation = i.equation ∙ ap (λ x. quot * b + x) (sym all);
         small = λ some. let h = i.small some in omega (arith, h, all);
         none = i.none;
         low = λ u lu. same u (omega (arith, e)) ∙ i.low u lu;
-        rest = λ q out. set_other new (row n m.target k) v q (λ h. out.target k lk h) ∙ i.rest q out;
+        rest = λ q out. set_other new (row n m.target k) v q (λ h. out.target k lk h)
+            ∙ i.rest q out;
       }
 
   record Quotient (j o : ℕ) (new : Spots) : Type 0 where
@@ -227,7 +267,8 @@ module _ (n : ℕ) (m : Rows) (are : AreRows n 2 2 m) (bits : Spots) where
 
   all_quotients : (o j : ℕ) → j + o ≡ n → Quotient j o (after_outer n all_parts o ready)
   unfolding values_from
-  all_quotients zero j e = let z : n ≡ j = omega (arith, e) in record { quot = 0; divides = subst (λ x. Divides x 0 0 ready) z start; word = refl }
+  all_quotients zero j e = let z : n ≡ j = omega (arith, e) in
+      record { quot = 0; divides = subst (λ x. Divides x 0 0 ready) z start; word = refl }
   all_quotients (suc o) j e =
       let old = after_outer n all_parts o ready in
       let e' : suc j + o ≡ n = omega (arith, e) in
@@ -242,49 +283,62 @@ module _ (n : ℕ) (m : Rows) (are : AreRows n 2 2 m) (bits : Spots) where
       let d = one_step j o i.quot old mid e' i.divides st in
       let none : j + 0 ≡ n - 1 - o = omega (arith, at_j) in
       let t = λ (k : ℕ). new (row n m.target (j + k)) in
-      let first : t 0 ≡ st.chosen = set_same mid p v (row n m.target (j + 0)) (ap (row n m.target) none) ∙ st.at_g in
+      let first : t 0 ≡ st.chosen = set_same mid p v (row n m.target (j + 0))
+      (ap (row n m.target) none) ∙ st.at_g in
       let more : number (λ k. t (suc k)) o ≡ i.quot =
       value_same (λ k. t (suc k)) (λ k. old (row n m.target (suc j + k))) o
       (λ k lk.
       let z : j + suc k ≡ suc j + k = omega arith in
-      set_other mid p v (row n m.target (j + suc k)) (λ h. let y : j + suc k ≡ n - 1 - o = are.moves.by (j + suc k) (n - 1 - o) (omega (arith, e)) (omega (arith, e)) h in absurd (omega (arith, y, at_j)))
+      set_other mid p v (row n m.target (j + suc k)) (λ h. let y : j + suc k
+      ≡ n - 1 - o = are.moves.by (j + suc k) (n - 1 - o) (omega (arith, e)) (omega (arith, e)) h
+      in absurd (omega (arith, y, at_j)))
       ∙ st.rest (row n m.target (j + suc k)) (target_other (j + suc k) (omega (arith, e)))
       ∙ ap (λ x. old (row n m.target x)) z)
       ∙ i.word in
       record {
         quot = 2 * i.quot + bit st.chosen;
-        divides = written j (suc o) (2 * i.quot + bit st.chosen) (n - 1 - o) mid v e (omega (arith, e)) d;
-        word = value_low t o ∙ ap (λ x. bit x + 2 * number (λ k. t (suc k)) o) first ∙ omega (arith, more);
+        divides = written j (suc o) (2 * i.quot + bit st.chosen) (n - 1 - o) mid v e
+            (omega (arith, e)) d;
+        word = value_low t o ∙ ap (λ x. bit x + 2 * number (λ k. t (suc k)) o) first
+            ∙ omega (arith, more);
       }
 
   -- what the last step leaves
-  whole : (quot : ℕ) (new : Spots) → Divides 0 n quot new → number_at n bits m.a n ≡ quot * b + number_at n new (w n m are) n
+  whole : (quot : ℕ) (new : Spots) → Divides 0 n quot new
+      → number_at n bits m.a n ≡ quot * b + number_at n new (w n m are) n
   whole quot new i =
       let zero_add = λ (k : ℕ). (let z : 0 + k ≡ k = omega arith in z) in
-      value_same (λ k. bits (row n m.a k)) (λ k. bits (row n m.a (0 + k))) n (λ k lk. ap (λ x. bits (row n m.a x)) (sym (zero_add k)))
+      value_same (λ k. bits (row n m.a k)) (λ k. bits (row n m.a (0 + k))) n
+      (λ k lk. ap (λ x. bits (row n m.a x)) (sym (zero_add k)))
       ∙ i.equation
-      ∙ ap (λ x. quot * b + x) (value_same (λ k. new (row n (w n m are) (0 + k))) (λ k. new (row n (w n m are) k)) n (λ k lk. ap (λ x. new (row n (w n m are) x)) (zero_add k)))
+      ∙ ap (λ x. quot * b + x) (value_same (λ k. new (row n (w n m are) (0 + k))) (λ k.
+      new (row n (w n m are) k)) n (λ k lk. ap (λ x. new (row n (w n m are) x)) (zero_add k)))
 
   less : (quot : ℕ) (new : Spots) → Divides 0 n quot new → 0 < b → number_at n new (w n m are) n < b
   less quot new i some =
       let zero_add = λ (k : ℕ). (let z : 0 + k ≡ k = omega arith in z) in
-      let e = value_same (λ k. new (row n (w n m are) (0 + k))) (λ k. new (row n (w n m are) k)) n (λ k lk. ap (λ x. new (row n (w n m are) x)) (zero_add k)) in
+      let e = value_same (λ k. new (row n (w n m are) (0 + k))) (λ k. new (row n (w n m are) k)) n
+      (λ k lk. ap (λ x. new (row n (w n m are) x)) (zero_add k)) in
       let h = i.small some in
       omega (arith, e, h)
 
-quotient_is : (a b q r p : ℕ) → a ≡ q * b + r → (0 < b → r < b) → (b ≡ 0 → q + 1 ≡ p) → q ≡ cond (b == 0) (p - 1) (a / b)
+quotient_is : (a b q r p : ℕ) → a ≡ q * b + r → (0 < b → r < b) → (b ≡ 0 → q + 1 ≡ p)
+    → q ≡ cond (b == 0) (p - 1) (a / b)
 quotient_is a b q r p e small none = by (cases_eq b 0)
   where
     by : (b ≡ 0) ⊎ (b ≡ 0 → ⊥) → q ≡ cond (b == 0) (p - 1) (a / b)
     by (inl z) = let h = none z in rw (eq-eqb b 0 z) (omega (arith, h))
-    by (inr nz) = let h : r < b = small (omega (arith, nz)) in rw (ne_eqb b 0 nz) (sym (div-mul-add q b r h) ∙ ap (λ x. x / b) (sym e))
+    by (inr nz) = let h : r < b = small (omega (arith, nz)) in
+        rw (ne_eqb b 0 nz) (sym (div-mul-add q b r h) ∙ ap (λ x. x / b) (sym e))
 
 remainder_is : (a b q r : ℕ) → a ≡ q * b + r → (0 < b → r < b) → r ≡ cond (b == 0) a (a % b)
 remainder_is a b q r e small = by (cases_eq b 0)
   where
     by : (b ≡ 0) ⊎ (b ≡ 0 → ⊥) → r ≡ cond (b == 0) a (a % b)
-    by (inl z) = let h : q * b ≡ q * 0 = ap (λ x. q * x) z in rw (eq-eqb b 0 z) (omega (arith, e, h))
-    by (inr nz) = let h : r < b = small (omega (arith, nz)) in rw (ne_eqb b 0 nz) (sym (mod-mul-add q b r h) ∙ ap (λ x. x % b) (sym e))
+    by (inl z) = let h : q * b ≡ q * 0 = ap (λ x. q * x) z in
+        rw (eq-eqb b 0 z) (omega (arith, e, h))
+    by (inr nz) = let h : r < b = small (omega (arith, nz)) in
+        rw (ne_eqb b 0 nz) (sym (mod-mul-add q b r h) ∙ ap (λ x. x % b) (sym e))
 
 pub div_does : (n : ℕ) (m : Rows) → AreRows n 2 2 m → DoesNested op.Div n 2 2 m
 unfolding values_from
@@ -299,10 +353,15 @@ div_does n m are bits =
     let i = all_quotients n m are bits n 0 e in
     let zero_add = λ (k : ℕ). (let z : 0 + k ≡ k = omega arith in z) in
     let word : number_at n new m.target n ≡ i.quot =
-    value_same (λ k. new (row n m.target k)) (λ k. new (row n m.target (0 + k))) n (λ k lk. ap (λ x. new (row n m.target x)) (sym (zero_add k))) ∙ i.word in
-    subst (Gives op.Div n 2 2 m bits) (sym (steps_each n b1 (Along b2 ∷ (Nest parts ∷ [])) bits ∙ steps_each n b2 (Nest parts ∷ []) s1 ∙ steps_nest n parts [] s2))
+    value_same (λ k. new (row n m.target k)) (λ k. new (row n m.target (0 + k))) n
+    (λ k lk. ap (λ x. new (row n m.target x)) (sym (zero_add k))) ∙ i.word in
+    subst (Gives op.Div n 2 2 m bits) (sym (steps_each n b1 (Along b2 ∷ (Nest parts ∷ [])) bits
+    ∙ steps_each n b2 (Nest parts ∷ []) s1 ∙ steps_nest n parts [] s2))
     record {
-      gives = word ∙ quotient_is (number_at n bits m.a n) (number_at n bits m.b n) i.quot (number_at n new (scratch_word m.free_word) n) (2 ^ n) (whole n m are bits i.quot new i.divides) (less n m are bits i.quot new i.divides) i.divides.none;
+      gives = word ∙ quotient_is (number_at n bits m.a n) (number_at n bits m.b n) i.quot
+          (number_at n new (scratch_word m.free_word) n) (2 ^ n)
+          (whole n m are bits i.quot new i.divides) (less n m are bits i.quot new i.divides)
+          i.divides.none;
       keeps = i.divides.rest;
     }
 
@@ -318,9 +377,21 @@ rem_does n m are bits =
     let b3 = placed_body (rooms_for op.Div m) (moved (fifth sub.Inner) (target sub.Inner)) in
     let e : 0 + n ≡ n = omega arith in
     let i = all_steps n m are bits n 0 e in
-    let l = word_loop n 0 m.target are.own are.moves sub.Inner (λ v. v) (upwards n 0) b3.reads 1 [] (plain 1) (Standing ∷ []) mid (((λ i j li lj h. are.word.target.by i j (omega arith) (omega arith) h), tt), tt) in
-    subst (Gives op.Rem n 2 2 m bits) (sym (steps_each n b1 (Along b2 ∷ (Nest parts ∷ (Along b3 ∷ []))) bits ∙ steps_each n b2 (Nest parts ∷ (Along b3 ∷ [])) s1 ∙ steps_nest n parts (Along b3 ∷ []) s2 ∙ steps_each n b3 [] mid))
+    let l = word_loop n 0 m.target are.own are.moves sub.Inner (λ v. v) (upwards n 0) b3.reads 1 []
+    (plain 1) (Standing ∷ []) mid (
+      (
+        (λ i j li lj h.
+            are.word.target.by i j (omega arith) (omega arith) h),
+        tt,
+      ),
+      tt,
+    ) in
+    subst (Gives op.Rem n 2 2 m bits) (sym (steps_each n b1 (Along b2
+    ∷ (Nest parts ∷ (Along b3 ∷ []))) bits ∙ steps_each n b2 (Nest parts ∷ (Along b3 ∷ [])) s1
+    ∙ steps_nest n parts (Along b3 ∷ []) s2 ∙ steps_each n b3 [] mid))
     record {
-      gives = value_same _ _ n l.word ∙ remainder_is (number_at n bits m.a n) (number_at n bits m.b n) i.0 (number_at n mid (scratch_word m.free_word) n) (whole n m are bits i.0 mid i.1) (less n m are bits i.0 mid i.1);
+      gives = value_same _ _ n l.word ∙ remainder_is (number_at n bits m.a n)
+          (number_at n bits m.b n) i.0 (number_at n mid (scratch_word m.free_word) n)
+          (whole n m are bits i.0 mid i.1) (less n m are bits i.0 mid i.1);
       keeps = λ q out. l.rest q out.target ∙ i.1.rest q out;
     }

@@ -39,16 +39,22 @@ pub record IsElsewhere (n bits words : ℕ) (m : Rows) (q : Spot) : Type 0 where
 
 -- the target has the operation's value, and no other row but the internal scratch has changed
 pub record Gives (p : WordOp) (n bits words : ℕ) (m : Rows) (before after : Spots) : Type 0 where
-  pub gives : number_at n after m.target n ≡ operation p n (number_at n before m.a n) (number_at n before m.b n)
+  pub gives : number_at n after m.target n ≡ operation p n (number_at n before m.a n)
+      (number_at n before m.b n)
   pub keeps : (q : Spot) → IsElsewhere n bits words m q → after q ≡ before q
 
 -- the operation's loop program does it, from every content
 abbrev pub DoesNested : WordOp → ℕ → ℕ → ℕ → Rows → Type 0
-DoesNested p n bits words m = (before : Spots) → Gives p n bits words m before (after_rounds n (all_rounds n (steps_for p m)) before)
+DoesNested p n bits words m = (before : Spots)
+    → Gives p n bits words m before (after_rounds n (all_rounds n (steps_for p m)) before)
 
 -- the first bit of scratch
-pub bit_free : (n bits words : ℕ) (m : Rows) → AreRows n (1 + bits) words m → IsFree n m (scratch_bit m.free_bit) 1
-bit_free n bits words m are = let e : m.free_bit + 0 ≡ m.free_bit = omega arith in subst (λ x. IsFree n m (scratch_bit x) 1) e (are.bit 0 (omega arith))
+pub bit_free : (n bits words : ℕ) (m : Rows) → AreRows n (1 + bits) words m
+    → IsFree n m (scratch_bit m.free_bit) 1
+bit_free n bits words m are = let e : m.free_bit + 0 ≡ m.free_bit = omega arith in
+    subst (λ x. IsFree n m (scratch_bit x) 1) e (are.bit 0 (omega arith))
 
-pub bit_else : (n bits words : ℕ) (m : Rows) (q : Spot) → IsElsewhere n (1 + bits) words m q → q ≡ row n (scratch_bit m.free_bit) 0 → ⊥
-bit_else n bits words m q out e = let z : m.free_bit + 0 ≡ m.free_bit = omega arith in out.bit 0 (omega arith) (e ∙ ap (λ x. row n (scratch_bit x) 0) (sym z))
+pub bit_else : (n bits words : ℕ) (m : Rows) (q : Spot) → IsElsewhere n (1 + bits) words m q
+    → q ≡ row n (scratch_bit m.free_bit) 0 → ⊥
+bit_else n bits words m q out e = let z : m.free_bit + 0 ≡ m.free_bit = omega arith in
+    out.bit 0 (omega arith) (e ∙ ap (λ x. row n (scratch_bit x) 0) (sym z))

@@ -1,5 +1,6 @@
 -- The rows of a statement, by its arguments.
-use Rattle.std.proofs.Common.{◌≡◌, ℕ, suc, ◌<◌, ◌≤◌, true, false, List, [], ◌∷◌, length, refl, sym, ap, ◌∙◌, ⊎_elim, arith}
+use Rattle.std.proofs.Common.{◌≡◌, ℕ, suc, ◌<◌, ◌≤◌, true, false, List, [], ◌∷◌, length, refl, sym}
+use Rattle.std.proofs.Common.{ap, ◌∙◌, ⊎_elim, arith}
 use Rattle.std.specs.Prelude.{nat_lt, if◌then◌else◌}
 use Rattle.std.proofs.lemmas.Bool.{cases_Bool, lt-ltb}
 use Rattle.loop_ir.specs.declared.names.Slot.{Slot}
@@ -9,24 +10,54 @@ use Rattle.word_lower.specs.Shapes.{behind}
 use Rattle.word_mul.specs.declared.rows.Rows.{Rows}
 use Rattle.word_mul.specs.Places.{rows_on}
 
-pub as_many : (slots : Slots) (names : List (List ℕ)) (ss : List Slot) → AreAt slots names ss → length names ≡ length ss
+pub as_many : (slots : Slots) (names : List (List ℕ)) (ss : List Slot) → AreAt slots names ss
+    → length names ≡ length ss
 as_many slots [] [] at = refl
 as_many slots [] (s ∷ ss) at = absurd at
 as_many slots (n ∷ ns) [] at = absurd at
 as_many slots (n ∷ ns) (s ∷ ss) at = ap suc (as_many slots ns ss at.1)
 
-pub second_one : (ss : List Slot) (second : ℕ) → second ≡ 1 → 1 < length ss → second ≡ (if nat_lt 1 (length ss) then 1 else 0)
+pub second_one : (ss : List Slot) (second : ℕ) → second ≡ 1 → 1 < length ss
+    → second ≡ (if nat_lt 1 (length ss) then 1 else 0)
 second_one ss second e lt = e ∙ ap (λ b. if b then 1 else 0) (sym (lt-ltb 1 (length ss) lt))
 
-pub second_none : (ss : List Slot) (second : ℕ) → second ≡ 0 → length ss ≤ 1 → second ≡ (if nat_lt 1 (length ss) then 1 else 0)
+pub second_none : (ss : List Slot) (second : ℕ) → second ≡ 0 → length ss ≤ 1
+    → second ≡ (if nat_lt 1 (length ss) then 1 else 0)
 second_none ss second e le = e ∙ ap (λ b. if b then 1 else 0) (sym (not_less (length ss) le))
   where
     not_less : (k : ℕ) → k ≤ 1 → nat_lt 1 k ≡ false
-    not_less k h = ⊎_elim (λ (t : nat_lt 1 k ≡ true). absurd (grind arith)) (λ (f : nat_lt 1 k ≡ false). f) (cases_Bool (nat_lt 1 k))
+    not_less k h = ⊎_elim (λ (t : nat_lt 1 k ≡ true). absurd (grind arith))
+        (λ (f : nat_lt 1 k ≡ false). f) (cases_Bool (nat_lt 1 k))
 
-pub rows_are : (t : Slot) (ss : List Slot) (free_bit free_word : ℕ) (x y z : Slot) (second : ℕ) → x ≡ t → y ≡ behind ss free_bit 0 → z ≡ behind ss free_bit second → second ≡ (if nat_lt 1 (length ss) then 1 else 0)
-    → ◌≡◌ {A = Rows} (record { target = x; a = y; b = z; free_bit = free_bit; free_word = free_word }) (rows_on t ss free_bit free_word)
+pub rows_are : (t : Slot) (ss : List Slot) (free_bit free_word : ℕ) (x y z : Slot) (second : ℕ)
+    → x ≡ t → y ≡ behind ss free_bit 0 → z ≡ behind ss free_bit second
+    → second ≡ (if nat_lt 1 (length ss) then 1 else 0)
+    → ◌≡◌ {A = Rows} (record {
+      target = x;
+      a = y;
+      b = z;
+      free_bit = free_bit;
+      free_word = free_word;
+    }) (rows_on t ss free_bit free_word)
 rows_are t ss free_bit free_word x y z second ex ey ez es =
-    ap (λ (k : Slot). record { target = k; a = y; b = z; free_bit = free_bit; free_word = free_word }) ex
-    ∙ ap (λ (k : Slot). record { target = t; a = k; b = z; free_bit = free_bit; free_word = free_word }) ey
-    ∙ ap (λ (k : Slot). record { target = t; a = behind ss free_bit 0; b = k; free_bit = free_bit; free_word = free_word }) (ez ∙ ap (behind ss free_bit) es)
+    ap (λ (k : Slot). record {
+      target = k;
+      a = y;
+      b = z;
+      free_bit = free_bit;
+      free_word = free_word;
+    }) ex
+    ∙ ap (λ (k : Slot). record {
+      target = t;
+      a = k;
+      b = z;
+      free_bit = free_bit;
+      free_word = free_word;
+    }) ey
+    ∙ ap (λ (k : Slot). record {
+      target = t;
+      a = behind ss free_bit 0;
+      b = k;
+      free_bit = free_bit;
+      free_word = free_word;
+    }) (ez ∙ ap (behind ss free_bit) es)

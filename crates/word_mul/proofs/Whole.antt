@@ -1,5 +1,6 @@
 -- A loop program that is built as a nested operation's one does the statement.
-use Rattle.std.proofs.Common.{◌≡◌, ◌⊎◌, inl, inr, ℕ, ◌+◌, ◌*◌, ◌<◌, ◌≤◌, Bool, true, false, List, [], ◌∷◌, map, Option, Some, refl, sym, ap, ◌∙◌, subst, arith}
+use Rattle.std.proofs.Common.{◌≡◌, ◌⊎◌, inl, inr, ℕ, ◌+◌, ◌*◌, ◌<◌, ◌≤◌, Bool, true, false, List}
+use Rattle.std.proofs.Common.{[], ◌∷◌, map, Option, Some, refl, sym, ap, ◌∙◌, subst, arith}
 use Rattle.std.specs.Prelude.{◌||◌, bytes_eq, unwrap_or, if◌then◌else◌}
 use Rattle.std.proofs.lemmas.Slice.Eq.{bytes_eq-Decides}
 use Rattle.op_text.specs.declared.tree.Kind.{Kind}
@@ -30,47 +31,80 @@ use Rattle.word_lower.specs.Places.{rooms_of, scratch_from, AreAt}
 use Rattle.word_lower.proofs.Pieces.{slot_at}
 use Rattle.word_lower.proofs.Operations.{slots_width, slot}
 use Rattle.word_lower.proofs.Filled.{filled_word, filled_words, slot_is, one_slot, no_slots}
-use Rattle.word_lower.proofs.Statements.{name_at, at_place, same_name, among_target, among_arg, written, holds, pieces, row_of, form_filled, held_args, held_kinds, held_numbers, held_width, named_width, Places, places_of}
+use Rattle.word_lower.proofs.Statements.{name_at, at_place, same_name, among_target, among_arg}
+use Rattle.word_lower.proofs.Statements.{written, holds, pieces, row_of, form_filled, held_args}
+use Rattle.word_lower.proofs.Statements.{held_kinds, held_numbers, held_width, named_width, Places}
+use Rattle.word_lower.proofs.Statements.{places_of}
 use Rattle.word_mul.specs.declared.rows.Rows.{Rows}
 use Rattle.word_mul.specs.Places.{rooms_for, steps_for, rows_on}
-use Rattle.word_mul.specs.Programs.{nested, is_nested, is_nested_statement, nested_total, statement_total}
+use Rattle.word_mul.specs.Programs.{nested, is_nested, is_nested_statement, nested_total}
+use Rattle.word_mul.specs.Programs.{statement_total}
 use Rattle.word_mul.specs.Bodies.{StepsBuilt}
 use Rattle.word_mul.proofs.Clear.{WordsClear, word_clear}
 use Rattle.word_mul.proofs.Nested.{DoesOp, Lowers, on_mul, on_div, on_rem, on_bitcount}
 
 -- where the arguments are words
-by_words : (p : WordOp) (t : Slot) (k : Kind) (args : List Slot) (free_bit free_word : ℕ) → t.kind ≡ k → (map (λ (s : Slot). s.kind) args ≡ Word ∷ Word ∷ []) × (k ≡ Word)
-    → ((t a b : Slot) → t.kind ≡ Word → a.kind ≡ Word → b.kind ≡ Word → Lowers p t (a ∷ b ∷ []) free_bit free_word) → Lowers p t args free_bit free_word
+by_words : (p : WordOp) (t : Slot) (k : Kind) (args : List Slot) (free_bit free_word : ℕ)
+    → t.kind ≡ k → (map (λ (s : Slot). s.kind) args ≡ Word ∷ Word ∷ []) × (k ≡ Word)
+    → ((t a b : Slot) → t.kind ≡ Word → a.kind ≡ Word → b.kind ≡ Word
+    → Lowers p t (a ∷ b ∷ []) free_bit free_word) → Lowers p t args free_bit free_word
 by_words p t k args free_bit free_word e f h =
     let x = one_slot args Word (Word ∷ []) f.0 in
     let y = one_slot x.more Word [] x.others in
-    subst (λ l. Lowers p t l free_bit free_word) (sym (x.is ∙ ap (λ l. slot x.space x.which Word ∷ l) (y.is ∙ ap (λ l. slot y.space y.which Word ∷ l) (no_slots y.more y.others))))
+    subst (λ l. Lowers p t l free_bit free_word)
+    (sym (x.is ∙ ap (λ l. slot x.space x.which Word ∷ l) (y.is
+    ∙ ap (λ l. slot y.space y.which Word ∷ l) (no_slots y.more y.others))))
     (h t (slot x.space x.which Word) (slot y.space y.which Word) (e ∙ f.1) refl refl)
 
-by_word : (p : WordOp) (t : Slot) (k : Kind) (args : List Slot) (free_bit free_word : ℕ) → t.kind ≡ k → (map (λ (s : Slot). s.kind) args ≡ Word ∷ []) × (k ≡ Word)
-    → ((t a : Slot) → t.kind ≡ Word → a.kind ≡ Word → Lowers p t (a ∷ []) free_bit free_word) → Lowers p t args free_bit free_word
+by_word : (p : WordOp) (t : Slot) (k : Kind) (args : List Slot) (free_bit free_word : ℕ)
+    → t.kind ≡ k → (map (λ (s : Slot). s.kind) args ≡ Word ∷ []) × (k ≡ Word)
+    → ((t a : Slot) → t.kind ≡ Word → a.kind ≡ Word → Lowers p t (a ∷ []) free_bit free_word)
+    → Lowers p t args free_bit free_word
 by_word p t k args free_bit free_word e f h =
     let x = one_slot args Word [] f.0 in
-    subst (λ l. Lowers p t l free_bit free_word) (sym (x.is ∙ ap (λ l. slot x.space x.which Word ∷ l) (no_slots x.more x.others)))
+    subst (λ l. Lowers p t l free_bit free_word)
+    (sym (x.is ∙ ap (λ l. slot x.space x.which Word ∷ l) (no_slots x.more x.others)))
     (h t (slot x.space x.which Word) (e ∙ f.1) refl)
 
-on_words : (p : WordOp) (free_bit free_word : ℕ) (t a b : Slot) → t.kind ≡ Word → a.kind ≡ Word → b.kind ≡ Word → Lowers p (slot t.space t.which Word) (slot a.space a.which Word ∷ slot b.space b.which Word ∷ []) free_bit free_word → Lowers p t (a ∷ b ∷ []) free_bit free_word
+on_words : (p : WordOp) (free_bit free_word : ℕ) (t a b : Slot) → t.kind ≡ Word → a.kind ≡ Word
+    → b.kind ≡ Word → Lowers p (slot t.space t.which Word) (slot a.space a.which Word
+    ∷ slot b.space b.which Word ∷ []) free_bit free_word
+    → Lowers p t (a ∷ b ∷ []) free_bit free_word
 on_words p free_bit free_word t a b et ea eb h =
     subst (λ x. Lowers p x (a ∷ b ∷ []) free_bit free_word) (sym (slot_is t Word et))
-    (subst (λ x. Lowers p (slot t.space t.which Word) (x ∷ b ∷ []) free_bit free_word) (sym (slot_is a Word ea))
-    (subst (λ x. Lowers p (slot t.space t.which Word) (slot a.space a.which Word ∷ x ∷ []) free_bit free_word) (sym (slot_is b Word eb)) h))
+    (subst (λ x. Lowers p (slot t.space t.which Word) (x ∷ b ∷ []) free_bit free_word)
+    (sym (slot_is a Word ea))
+    (subst (λ x. Lowers p (slot t.space t.which Word) (slot a.space a.which Word ∷ x
+    ∷ []) free_bit free_word) (sym (slot_is b Word eb)) h))
 
-on_word : (p : WordOp) (free_bit free_word : ℕ) (t a : Slot) → t.kind ≡ Word → a.kind ≡ Word → Lowers p (slot t.space t.which Word) (slot a.space a.which Word ∷ []) free_bit free_word → Lowers p t (a ∷ []) free_bit free_word
+on_word : (p : WordOp) (free_bit free_word : ℕ) (t a : Slot) → t.kind ≡ Word → a.kind ≡ Word
+    → Lowers p (slot t.space t.which Word) (slot a.space a.which Word ∷ []) free_bit free_word
+    → Lowers p t (a ∷ []) free_bit free_word
 on_word p free_bit free_word t a et ea h =
     subst (λ x. Lowers p x (a ∷ []) free_bit free_word) (sym (slot_is t Word et))
-    (subst (λ x. Lowers p (slot t.space t.which Word) (x ∷ []) free_bit free_word) (sym (slot_is a Word ea)) h)
+    (subst (λ x. Lowers p (slot t.space t.which Word) (x ∷ []) free_bit free_word)
+    (sym (slot_is a Word ea)) h)
 
 -- where the arguments fill a form of a nested operation, its program does it
-pub op_lowers : (p : WordOp) (k : Kind) (t : Slot) (args : List Slot) (free_bit free_word : ℕ) → is_nested p ≡ true → filled (forms p) (map (λ (s : Slot). s.kind) args) ≡ Some k → t.kind ≡ k → Lowers p t args free_bit free_word
-op_lowers op.Mul k t args fb fw n e h = by_words op.Mul t k args fb fw h (filled_words Word (map (λ (s : Slot). s.kind) args) k e) (λ t a b et ea eb. on_words op.Mul fb fw t a b et ea eb (on_mul t.space t.which a.space a.which b.space b.which fb fw))
-op_lowers op.Div k t args fb fw n e h = by_words op.Div t k args fb fw h (filled_words Word (map (λ (s : Slot). s.kind) args) k e) (λ t a b et ea eb. on_words op.Div fb fw t a b et ea eb (on_div t.space t.which a.space a.which b.space b.which fb fw))
-op_lowers op.Rem k t args fb fw n e h = by_words op.Rem t k args fb fw h (filled_words Word (map (λ (s : Slot). s.kind) args) k e) (λ t a b et ea eb. on_words op.Rem fb fw t a b et ea eb (on_rem t.space t.which a.space a.which b.space b.which fb fw))
-op_lowers op.Bitcount k t args fb fw n e h = by_word op.Bitcount t k args fb fw h (filled_word Word (map (λ (s : Slot). s.kind) args) k e) (λ t a et ea. on_word op.Bitcount fb fw t a et ea (on_bitcount t.space t.which a.space a.which t.space t.which fb fw))
+pub op_lowers : (p : WordOp) (k : Kind) (t : Slot) (args : List Slot) (free_bit free_word : ℕ)
+    → is_nested p ≡ true → filled (forms p) (map (λ (s : Slot). s.kind) args) ≡ Some k → t.kind ≡ k
+    → Lowers p t args free_bit free_word
+op_lowers op.Mul k t args fb fw n e h = by_words op.Mul t k args fb fw h
+    (filled_words Word (map (λ (s : Slot). s.kind) args) k e)
+    (λ t a b et ea eb. on_words op.Mul fb fw t a b et ea eb
+    (on_mul t.space t.which a.space a.which b.space b.which fb fw))
+op_lowers op.Div k t args fb fw n e h = by_words op.Div t k args fb fw h
+    (filled_words Word (map (λ (s : Slot). s.kind) args) k e)
+    (λ t a b et ea eb. on_words op.Div fb fw t a b et ea eb
+    (on_div t.space t.which a.space a.which b.space b.which fb fw))
+op_lowers op.Rem k t args fb fw n e h = by_words op.Rem t k args fb fw h
+    (filled_words Word (map (λ (s : Slot). s.kind) args) k e)
+    (λ t a b et ea eb. on_words op.Rem fb fw t a b et ea eb
+    (on_rem t.space t.which a.space a.which b.space b.which fb fw))
+op_lowers op.Bitcount k t args fb fw n e h = by_word op.Bitcount t k args fb fw h
+    (filled_word Word (map (λ (s : Slot). s.kind) args) k e)
+    (λ t a et ea. on_word op.Bitcount fb fw t a et ea
+    (on_bitcount t.space t.which a.space a.which t.space t.which fb fw))
 op_lowers op.Not k t args fb fw n e h = cc
 op_lowers op.And k t args fb fw n e h = cc
 op_lowers op.Or k t args fb fw n e h = cc
@@ -94,7 +128,10 @@ op_lowers op.AndRed k t args fb fw n e h = cc
 op_lowers op.OrRed k t args fb fw n e h = cc
 op_lowers op.XorRed k t args fb fw n e h = cc
 
-module _ (slots : Slots) (free_bit free_word : ℕ) (target : List ℕ) (p : WordOp) (args : List (List ℕ)) (is : is_nested p ≡ true) (meets : ComputeMeets slots target p args) (placed : IsPlaced slots free_bit free_word (Compute target p args)) (t : Slot) (found : slots target ≡ Some t) (ss : List Slot) (at : AreAt slots args ss) where
+module _ (slots : Slots) (free_bit free_word : ℕ) (target : List ℕ) (p : WordOp)
+    (args : List (List ℕ)) (is : is_nested p ≡ true) (meets : ComputeMeets slots target p args)
+    (placed : IsPlaced slots free_bit free_word (Compute target p args)) (t : Slot)
+    (found : slots target ≡ Some t) (ss : List Slot) (at : AreAt slots args ss) where
   filled_form : filled (forms p) (map (λ (s : Slot). s.kind) ss) ≡ Some t.kind
   filled_form = form_filled slots free_bit free_word target p args meets placed t found ss at
 
@@ -108,48 +145,88 @@ module _ (slots : Slots) (free_bit free_word : ℕ) (target : List ℕ) (p : Wor
   clear n = record {
     target =
         (let a = among_target slots free_bit free_word target p args meets placed t found ss at in
-        word_clear n t free_word (words_inside p) (holds slots free_bit free_word target p args meets placed t found ss at target t a found) (λ e. placed.word target t a found e));
+        word_clear n t free_word (words_inside p)
+        (holds slots free_bit free_word target p args meets placed t found ss at target t a
+        found) (λ e. placed.word target t a found e));
     given = λ i lt.
         (let h = at_place slots args ss i at lt in
         let a = among_arg slots free_bit free_word target p args meets placed t found ss at i h.0 in
-        word_clear n (slot_at ss i) free_word (words_inside p) (holds slots free_bit free_word target p args meets placed t found ss at (name_at args i) (slot_at ss i) a h.1) (λ e. placed.word (name_at args i) (slot_at ss i) a h.1 e));
+        word_clear n (slot_at ss i) free_word (words_inside p)
+        (holds slots free_bit free_word target p args meets placed t found ss at
+        (name_at args i) (slot_at ss i) a h.1) (λ e.
+        placed.word (name_at args i) (slot_at ss i) a h.1 e));
   }
 
-  owner_row : (n : ℕ) (q : Spot) → IsOwned n (rooms_of t ss (scratch_from free_bit (bits_inside p))) q ⊎ ((v : ℕ) × (v < n * words_inside p) × (q ≡ spot_in n ScratchWord free_word v)) → row n q
-  owner_row n q (inl o) = row_of slots free_bit free_word target p args meets placed t found ss at n q o
+  owner_row : (n : ℕ) (q : Spot) → IsOwned n (rooms_of t ss (scratch_from free_bit (bits_inside p)))
+      q ⊎ ((v : ℕ) × (v < n * words_inside p) × (q ≡ spot_in n ScratchWord free_word v)) → row n q
+  owner_row n q (inl o) = row_of slots free_bit free_word target p args meets placed t found ss at n
+      q o
   owner_row n q (inr o) = inr (inr o)
 
   form : HasForm row (steps_for p (rows_on t ss free_bit free_word))
   form = marks_are_enough row (rooms_for p (rows_on t ss free_bit free_word)) (nested p)
-      (λ n some most. lowers.apart n some (pieces slots free_bit free_word target p args meets placed t found ss at n) (clear n))
+      (λ n some most. lowers.apart n some (pieces slots free_bit free_word target p args meets
+      placed t found ss at n) (clear n))
       (λ n some most q o. owner_row n q (lowers.owned n q o)) lowers.fit lowers.short
 
   -- what the target holds after the statement
-  answer : (n : ℕ) (held : List ℕ → Held) (before after : Spots) → ((name : List ℕ) → is_among args name ≡ true → Holds n slots held before name)
-      → slot_bits n after t ≡ bits (op_value p (slots_width n ss) (map (λ s. value (slot_bits n before s)) ss)) (width n t.kind)
+  answer : (n : ℕ) (held : List ℕ → Held) (before after : Spots)
+      → ((name : List ℕ) → is_among args name ≡ true → Holds n slots held before name)
+      → slot_bits n after t ≡ bits (op_value p (slots_width n ss)
+      (map (λ s. value (slot_bits n before s)) ss)) (width n t.kind)
       → HoldsAt n (Some t) (computed n p (map held args)) after
   answer n held before after h gives =
       let a = held_args n slots held before args ss at h in
-      let k : unwrap_or (filled (forms p) (map (λ (h : Held). h.kind) (map held args))) Word ≡ t.kind = ap (λ ks. unwrap_or (filled (forms p) ks) Word) (held_kinds n held before args ss a) ∙ ap (λ x. unwrap_or x Word) filled_form in
-      let v : op_value p (args_width n (map held args)) (map number (map held args)) ≡ op_value p (slots_width n ss) (map (λ s. value (slot_bits n before s)) ss) = ap (λ x. op_value p x (map number (map held args))) (held_width n held before args ss a) ∙ ap (λ xs. op_value p (slots_width n ss) xs) (held_numbers n held before args ss a) in
-      (k, ap (λ x. bits (op_value p (args_width n (map held args)) (map number (map held args))) (width n x)) k ∙ ap (λ x. bits x (width n t.kind)) v ∙ sym gives)
+      let k : unwrap_or (filled (forms p) (map (λ (h : Held). h.kind) (map held args))) Word
+      ≡ t.kind = ap (λ ks. unwrap_or (filled (forms p) ks) Word)
+      (held_kinds n held before args ss a) ∙ ap (λ x. unwrap_or x Word) filled_form in
+      let v : op_value p (args_width n (map held args)) (map number (map held args))
+      ≡ op_value p (slots_width n ss) (map (λ s. value (slot_bits n before s)) ss) =
+      ap (λ x. op_value p x (map number (map held args))) (held_width n held before args ss a)
+      ∙ ap (λ xs. op_value p (slots_width n ss) xs) (held_numbers n held before args ss a) in (
+        k,
+        ap (λ x. bits (op_value p (args_width n (map held args)) (map number (map held args)))
+            (width n x)) k ∙ ap (λ x. bits x (width n t.kind)) v ∙ sym gives,
+      )
 
-  module _ (steps : List (StepOf Block)) (built : StepsBuilt steps (steps_for p (rows_on t ss free_bit free_word))) where
-    after_is : (n : ℕ) (rows : Spots) → after_rounds n (all_rounds n steps) rows ≡ after_rounds n (all_rounds n (steps_for p (rows_on t ss free_bit free_word))) rows
-    after_is n rows = alike_do_the_same steps (steps_for p (rows_on t ss free_bit free_word)) built.like n rows
+  module _ (steps : List (StepOf Block)) (built : StepsBuilt steps
+      (steps_for p (rows_on t ss free_bit free_word))) where
+    after_is : (n : ℕ) (rows : Spots) → after_rounds n (all_rounds n steps) rows
+        ≡ after_rounds n (all_rounds n (steps_for p (rows_on t ss free_bit free_word))) rows
+    after_is n rows = alike_do_the_same steps (steps_for p (rows_on t ss free_bit free_word))
+        built.like n rows
 
-    does_op : (n : ℕ) → 0 < n → (rows : Spots) → DoesOp p n t ss free_bit free_word rows (after_rounds n (all_rounds n steps) rows)
-    does_op n some rows = subst (DoesOp p n t ss free_bit free_word rows) (sym (after_is n rows)) (lowers.does n some (pieces slots free_bit free_word target p args meets placed t found ss at n) (clear n) rows)
+    does_op : (n : ℕ) → 0 < n → (rows : Spots)
+        → DoesOp p n t ss free_bit free_word rows (after_rounds n (all_rounds n steps) rows)
+    does_op n some rows = subst (DoesOp p n t ss free_bit free_word rows) (sym (after_is n rows))
+        (lowers.does n some (pieces slots free_bit free_word target p args meets placed t found ss
+        at n) (clear n) rows)
 
     does : (n : ℕ) → 0 < n → Does slots free_bit free_word (Compute target p args) n steps
     does n some = record {
       gives = λ held rows h name e.
           (let new = after_rounds n (all_rounds n steps) rows in
-          let same : target ≡ name = (bytes_eq-Decides target name).0 (only (bytes_eq target name) e) in
-          let one : HoldsAt n (Some t) (after_statement n held (Compute target p args) target) new = subst (λ (c : Bool). HoldsAt n (Some t) (if c then computed n p (map held args) else held target) new) (sym (same_name target target refl)) (answer n held rows new h (does_op n some rows).gives) in
-          subst (λ x. Holds n slots (after_statement n held (Compute target p args)) new x) same (subst (λ (x : Option Slot). HoldsAt n x (after_statement n held (Compute target p args) target) new) (sym found) one));
+          let same : target ≡ name = (bytes_eq-Decides target name).0
+          (only (bytes_eq target name) e) in
+          let one : HoldsAt n (Some t) (after_statement n held (Compute target p args) target) new =
+          subst (λ (c : Bool). HoldsAt n (Some t) (if c then computed n p (map held args)
+          else held target) new) (sym (same_name target target refl))
+          (answer n held rows new h (does_op n some rows).gives) in
+          subst (λ x. Holds n slots (after_statement n held (Compute target p args)) new x) same
+          (subst (λ (x : Option Slot). HoldsAt n x
+          (after_statement n held (Compute target p args) target) new) (sym found) one));
       keeps = λ rows q out. (does_op n some rows).keeps q
-          (λ v lv e. out (inl (target, t, v, written slots free_bit free_word target p args meets placed t found ss at, found, lv, e)))
+          (λ v lv e.
+          out (inl (
+            target,
+            t,
+            v,
+            written slots free_bit free_word target p args meets placed t
+                found ss at,
+            found,
+            lv,
+            e,
+          )))
           (λ j lj e. out (inr (inl (j, lj, e))))
           (λ v lv e. out (inr (inr (v, lv, e))));
     }
@@ -159,20 +236,25 @@ module _ (slots : Slots) (free_bit free_word : ℕ) (target : List ℕ) (p : Wor
         only false e = cc
 
     pub few : (n : ℕ) → rounds_cost (all_rounds n steps) ≤ nested_total p n
-    few n = let a = alike_cost_no_more steps (steps_for p (rows_on t ss free_bit free_word)) built.like n in let b = lowers.total n in omega (arith, a, b)
+    few n = let a = alike_cost_no_more steps (steps_for p (rows_on t ss free_bit free_word))
+        built.like n in let b = lowers.total n in omega (arith, a, b)
 
     pub lowered : IsLowered slots free_bit free_word (Compute target p args) steps
     lowered =
-        let c = alike_compile row steps (steps_for p (rows_on t ss free_bit free_word)) built.like built.made form in
+        let c = alike_compile row steps (steps_for p (rows_on t ss free_bit free_word)) built.like
+        built.made form in
         record {
           well = c.0;
           can = c.1;
           does = λ n some most. does n some;
-          cheap = λ n some most. (let a = few n in let b = lowers.cheap n in let w = ap (op_ceiling p) (named_width n slots args ss at) in omega (arith, a, b, w));
+          cheap = λ n some most. (let a = few n in let b = lowers.cheap n in
+              let w = ap (op_ceiling p) (named_width n slots args ss at) in omega (arith, a, b, w));
         }
 
 -- a program that is built on the statement's rows does it
-module _ (slots : Slots) (free_bit free_word : ℕ) (s : Statement) (target : List ℕ) (p : WordOp) (args : List (List ℕ)) (e : s ≡ Compute target p args) (nested_one : is_nested_statement s ≡ true) (meets : StatementMeets slots s) (placed : IsPlaced slots free_bit free_word s) where
+module _ (slots : Slots) (free_bit free_word : ℕ) (s : Statement) (target : List ℕ) (p : WordOp)
+    (args : List (List ℕ)) (e : s ≡ Compute target p args) (nested_one : is_nested_statement s
+    ≡ true) (meets : StatementMeets slots s) (placed : IsPlaced slots free_bit free_word s) where
   word_meets : ComputeMeets slots target p args
   word_meets = subst (StatementMeets slots) e meets
 
@@ -185,17 +267,25 @@ module _ (slots : Slots) (free_bit free_word : ℕ) (s : Statement) (target : Li
   found_args : Places slots args
   found_args = places_of slots args word_meets.kinds word_meets.have
 
-  module _ (m : Rows) (on : (t : Slot) (ss : List Slot) → slots target ≡ Some t → AreAt slots args ss → m ≡ rows_on t ss free_bit free_word) where
+  module _ (m : Rows) (on : (t : Slot) (ss : List Slot) → slots target ≡ Some t
+      → AreAt slots args ss → m ≡ rows_on t ss free_bit free_word) where
     m_is : m ≡ rows_on word_meets.gives.slot found_args.list free_bit free_word
     m_is = on word_meets.gives.slot found_args.list word_meets.gives.found found_args.at
 
     pub has_bits : m.free_bit + bits_inside p ≤ 256
     has_bits = subst (λ (m : Rows). m.free_bit + bits_inside p ≤ 256) (sym m_is) word_placed.bits
 
-    pub statement_lowered : (steps : List (StepOf Block)) → StepsBuilt steps (steps_for p m) → IsLowered slots free_bit free_word s steps
+    pub statement_lowered : (steps : List (StepOf Block)) → StepsBuilt steps (steps_for p m)
+        → IsLowered slots free_bit free_word s steps
     statement_lowered steps built = subst (λ x. IsLowered slots free_bit free_word x steps) (sym e)
-        (lowered slots free_bit free_word target p args word_nested word_meets word_placed word_meets.gives.slot word_meets.gives.found found_args.list found_args.at steps (subst (λ m. StepsBuilt steps (steps_for p m)) m_is built))
+        (lowered slots free_bit free_word target p args word_nested word_meets word_placed
+        word_meets.gives.slot word_meets.gives.found found_args.list found_args.at steps
+        (subst (λ m. StepsBuilt steps (steps_for p m)) m_is built))
 
-    pub statement_few : (steps : List (StepOf Block)) → StepsBuilt steps (steps_for p m) → (n : ℕ) → rounds_cost (all_rounds n steps) ≤ statement_total s n
-    statement_few steps built n = subst (λ x. rounds_cost (all_rounds n steps) ≤ statement_total x n) (sym e)
-        (few slots free_bit free_word target p args word_nested word_meets word_placed word_meets.gives.slot word_meets.gives.found found_args.list found_args.at steps (subst (λ m. StepsBuilt steps (steps_for p m)) m_is built) n)
+    pub statement_few : (steps : List (StepOf Block)) → StepsBuilt steps (steps_for p m) → (n : ℕ)
+        → rounds_cost (all_rounds n steps) ≤ statement_total s n
+    statement_few steps built n = subst (λ x. rounds_cost (all_rounds n steps)
+        ≤ statement_total x n) (sym e)
+        (few slots free_bit free_word target p args word_nested word_meets word_placed
+        word_meets.gives.slot word_meets.gives.found found_args.list found_args.at steps
+        (subst (λ m. StepsBuilt steps (steps_for p m)) m_is built) n)

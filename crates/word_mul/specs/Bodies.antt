@@ -14,7 +14,12 @@ place_at s u = record { space = s.space; which = s.which; sub = u }
 
 -- a body in which each read is an input
 abbrev pub over : List Place → List Node → List Lit → List Place → Block
-over reads nodes outs writes = record { reads = reads; graph = record { inputs = length reads; nodes = nodes }; outs = outs; writes = writes }
+over reads nodes outs writes = record {
+  reads = reads;
+  graph = record { inputs = length reads; nodes = nodes };
+  outs = outs;
+  writes = writes;
+}
 
 -- like the other, with a graph such as `Mig` makes
 pub record IsBuilt (b a : Block) : Type 0 where

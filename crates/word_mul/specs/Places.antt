@@ -1,5 +1,7 @@
--- The rooms of such a statement: as any word statement's, and two words of internal scratch as one room.
-use Rattle.std.specs.Prelude.{ℕ, zero, suc, true, List, [], ◌∷◌, ◌++◌, length, nat_lt, if◌then◌else◌}
+-- The rooms of such a statement: as any word statement's, and two words of internal scratch as one
+-- room.
+use Rattle.std.specs.Prelude.{ℕ, zero, suc, true, List, [], ◌∷◌, ◌++◌, length, nat_lt}
+use Rattle.std.specs.Prelude.{if◌then◌else◌}
 use Rattle.op_text.specs.declared.tree.Kind.TheVariants.{Word}
 use Rattle.op_text.specs.declared.tree.WordOp.{WordOp}
 use Rattle.op_text.specs.declared.tree.WordOp.TheVariants as o
@@ -18,7 +20,12 @@ scratch_word k = record { space = ScratchWord; which = k; kind = Word }
 
 abbrev pub double_words : ℕ → ℕ → List Room
 double_words free zero = []
-double_words free (suc words) = record { space = ScratchWord; which = free; rows = Twice; written = true } ∷ []
+double_words free (suc words) = record {
+  space = ScratchWord;
+  which = free;
+  rows = Twice;
+  written = true;
+} ∷ []
 
 -- bitcount has one argument
 abbrev pub args_of : WordOp → Rows → List Slot
@@ -26,7 +33,8 @@ args_of o.Bitcount m = m.a ∷ []
 args_of p m = m.a ∷ m.b ∷ []
 
 abbrev pub rooms_for : WordOp → Rows → List Room
-rooms_for p m = rooms_of m.target (args_of p m) (scratch_from m.free_bit (bits_inside p)) ++ double_words m.free_word (words_inside p)
+rooms_for p m = rooms_of m.target (args_of p m) (scratch_from m.free_bit (bits_inside p))
+    ++ double_words m.free_word (words_inside p)
 
 abbrev pub steps_for : WordOp → Rows → List (StepOf Block)
 steps_for p m = placed_steps (rooms_for p m) (nested p)

@@ -12,9 +12,11 @@ use Rattle.loop_ir.specs.Plain.{InnerOf, StepOf}
 use Rattle.loop_ir.specs.Plain.InnerOf.{Alone, Across}
 use Rattle.loop_ir.specs.Plain.StepOf.{Along, Nest}
 use Rattle.loop_laws.specs.Rooms.{Mark, Marked}
-use Rattle.word_lower.specs.Programs.{on, target, first, second, third, plain, turned, off, up, template, constant, moved, joined, compared}
+use Rattle.word_lower.specs.Programs.{on, target, first, second, third, plain, turned, off, up}
+use Rattle.word_lower.specs.Programs.{template, constant, moved, joined, compared}
 
--- Owners of places: the target, then the arguments, then the bits of scratch, then the words of scratch
+-- Owners of places: the target, then the arguments, then the bits of scratch, then the words of
+-- scratch
 abbrev pub fourth : Sub → Mark
 fourth s = on 4 s
 
@@ -23,26 +25,31 @@ fifth s = on 5 s
 
 -- y, the bit of a product and a carry, into y
 abbrev pub multiplied_nodes : List Node
-multiplied_nodes = node_of off (plain 2) (plain 3) ∷ node_of (plain 1) (plain 5) (plain 4) ∷ node_of (plain 1) (plain 5) (turned 4) ∷ node_of (plain 4) (turned 6) (plain 7) ∷ []
+multiplied_nodes = node_of off (plain 2) (plain 3) ∷ node_of (plain 1) (plain 5) (plain 4)
+    ∷ node_of (plain 1) (plain 5) (turned 4) ∷ node_of (plain 4) (turned 6) (plain 7) ∷ []
 
 abbrev pub multiplied : Mark → Mark → Mark → Mark → Marked
-multiplied y a b c = template (y ∷ a ∷ b ∷ c ∷ []) multiplied_nodes (plain 8 ∷ plain 6 ∷ []) (y ∷ c ∷ [])
+multiplied y a b c = template (y ∷ a ∷ b ∷ c ∷ []) multiplied_nodes (plain 8 ∷ plain 6 ∷ []) (y ∷ c
+    ∷ [])
 
 -- y and a carry, into y
 abbrev pub counted_nodes : List Node
-counted_nodes = node_of off (plain 1) (plain 2) ∷ node_of up (plain 1) (plain 2) ∷ node_of off (turned 3) (plain 4) ∷ []
+counted_nodes = node_of off (plain 1) (plain 2) ∷ node_of up (plain 1) (plain 2)
+    ∷ node_of off (turned 3) (plain 4) ∷ []
 
 abbrev pub counted : Mark → Mark → Marked
 counted y c = template (y ∷ c ∷ []) counted_nodes (plain 5 ∷ plain 3 ∷ []) (y ∷ c ∷ [])
 
 -- w, the complement of y where g is set, and a carry, into w
 abbrev pub divided_nodes : List Node
-divided_nodes = node_of off (plain 2) (plain 3) ∷ node_of (plain 1) (turned 5) (plain 4) ∷ node_of (plain 1) (plain 5) (plain 4) ∷ node_of (plain 5) (plain 6) (turned 7) ∷ []
+divided_nodes = node_of off (plain 2) (plain 3) ∷ node_of (plain 1) (turned 5) (plain 4)
+    ∷ node_of (plain 1) (plain 5) (plain 4) ∷ node_of (plain 5) (plain 6) (turned 7) ∷ []
 
 abbrev pub divided : Mark → Mark → Mark → Mark → Marked
 divided w y g c = template (w ∷ y ∷ g ∷ c ∷ []) divided_nodes (turned 8 ∷ plain 6 ∷ []) (w ∷ c ∷ [])
 
--- One step of a long division. The window is the n + 1 rows of the dividend from the outer position down: the divisor is
+-- One step of a long division. The window is the n + 1 rows of the dividend from the outer position
+-- down: the divisor is
 -- compared with it, and taken from it where it is not greater
 abbrev pub division : List (InnerOf Marked)
 division =
@@ -50,21 +57,27 @@ division =
     ∷ Across All (compared (fifth sub.DownSum) (second sub.Inner) (third sub.Zero))
     ∷ Alone (joined up (fifth sub.DownPlusN) (third sub.Zero) (third sub.Zero))
     ∷ Alone (constant up (fourth sub.Zero))
-    ∷ Across All (divided (fifth sub.DownSum) (second sub.Inner) (third sub.Zero) (fourth sub.Zero)) ∷ []
+    ∷ Across All (divided (fifth sub.DownSum) (second sub.Inner) (third sub.Zero) (fourth sub.Zero))
+    ∷ []
 
 -- the dividend, and zeros above it
 abbrev pub dividend : List (StepOf Marked) → List (StepOf Marked)
-dividend more = Along (moved (first sub.Inner) (fifth sub.Inner)) ∷ Along (constant off (fifth sub.NPlusInner)) ∷ more
+dividend more = Along (moved (first sub.Inner) (fifth sub.Inner))
+    ∷ Along (constant off (fifth sub.NPlusInner)) ∷ more
 
 -- The loop program of an operation
 abbrev pub nested : WordOp → List (StepOf Marked)
 nested o.Mul =
     Along (constant off (target sub.Inner))
-    ∷ Nest (Alone (constant off (third sub.Zero)) ∷ Across Rest (multiplied (target sub.Sum) (first sub.Inner) (second sub.Outer) (third sub.Zero)) ∷ []) ∷ []
+    ∷ Nest (Alone (constant off (third sub.Zero))
+    ∷ Across Rest (multiplied (target sub.Sum) (first sub.Inner) (second sub.Outer)
+    (third sub.Zero)) ∷ []) ∷ []
 nested o.Bitcount =
     Along (constant off (target sub.Inner))
-    ∷ Nest (Alone (moved (first sub.Outer) (second sub.Zero)) ∷ Across All (counted (target sub.Inner) (second sub.Zero)) ∷ []) ∷ []
-nested o.Div = dividend (Nest (division ++ Alone (moved (third sub.Zero) (target sub.OuterDown)) ∷ []) ∷ [])
+    ∷ Nest (Alone (moved (first sub.Outer) (second sub.Zero))
+    ∷ Across All (counted (target sub.Inner) (second sub.Zero)) ∷ []) ∷ []
+nested o.Div = dividend (Nest (division ++ Alone (moved (third sub.Zero) (target sub.OuterDown))
+    ∷ []) ∷ [])
 nested o.Rem = dividend (Nest division ∷ Along (moved (fifth sub.Inner) (target sub.Inner)) ∷ [])
 nested p = []
 

@@ -46,7 +46,8 @@ fn templated(
     requires outs { 0 < length outs.now }
     requires lower { are_lower (length reads.now + 1) nodes.now ≡ true }
     requires named { are_below (length reads.now + 1 + length nodes.now) outs.now ≡ true }
-    ensures { IfOk result (λ b. IsBuilt (block_of b) (over reads.now nodes.now outs.now writes.now)) }
+    ensures { IfOk result (λ b. IsBuilt (block_of b) (over reads.now nodes.now outs.now writes.now))
+        }
 {
     Ok(Body {
         reads: listed(reads, alloc)?,
@@ -72,7 +73,8 @@ pub fn moved(x: Place, z: Place, alloc: Global) -> Result<Body, NoMemory>
 
 /// A state is set where a row is.
 pub fn raised(x: Place, g: Place, alloc: Global) -> Result<Body, NoMemory>
-    ensures { IfOk result (λ b. IsBuilt (block_of b) (over (x ∷ g ∷ []) (node_of up (plain 1) (plain 2) ∷ []) (plain 3 ∷ []) (g ∷ []))) }
+    ensures { IfOk result (λ b. IsBuilt (block_of b)
+        (over (x ∷ g ∷ []) (node_of up (plain 1) (plain 2) ∷ []) (plain 3 ∷ []) (g ∷ []))) }
 {
     templated(
         &[x, g],
@@ -89,7 +91,9 @@ pub fn raised(x: Place, g: Place, alloc: Global) -> Result<Body, NoMemory>
 
 /// A state is whether what was read of x is over what was read of y.
 pub fn compared(x: Place, y: Place, g: Place, alloc: Global) -> Result<Body, NoMemory>
-    ensures { IfOk result (λ b. IsBuilt (block_of b) (over (x ∷ y ∷ g ∷ []) (node_of (plain 1) (turned 2) (plain 3) ∷ []) (plain 4 ∷ []) (g ∷ []))) }
+    ensures { IfOk result (λ b. IsBuilt (block_of b)
+        (over (x ∷ y ∷ g ∷ []) (node_of (plain 1) (turned 2) (plain 3) ∷ []) (plain 4 ∷ []) (g
+        ∷ []))) }
 {
     templated(
         &[x, y, g],
@@ -106,21 +110,24 @@ pub fn compared(x: Place, y: Place, g: Place, alloc: Global) -> Result<Body, NoM
 
 /// The bit of a product is added, with a carry.
 pub fn multiplied(y: Place, a: Place, b: Place, c: Place, alloc: Global) -> Result<Body, NoMemory>
-    ensures { IfOk result (λ r. IsBuilt (block_of r) (over (y ∷ a ∷ b ∷ c ∷ []) multiplied_nodes (plain 8 ∷ plain 6 ∷ []) (y ∷ c ∷ []))) }
+    ensures { IfOk result (λ r. IsBuilt (block_of r)
+        (over (y ∷ a ∷ b ∷ c ∷ []) multiplied_nodes (plain 8 ∷ plain 6 ∷ []) (y ∷ c ∷ []))) }
 {
     templated(&[y, a, b, c], &MULTIPLIED, &[P8, P6], &[y, c], alloc)
 }
 
 /// A carry is added.
 pub fn counted(y: Place, c: Place, alloc: Global) -> Result<Body, NoMemory>
-    ensures { IfOk result (λ b. IsBuilt (block_of b) (over (y ∷ c ∷ []) counted_nodes (plain 5 ∷ plain 3 ∷ []) (y ∷ c ∷ []))) }
+    ensures { IfOk result (λ b. IsBuilt (block_of b)
+        (over (y ∷ c ∷ []) counted_nodes (plain 5 ∷ plain 3 ∷ []) (y ∷ c ∷ []))) }
 {
     templated(&[y, c], &COUNTED, &[P5, P3], &[y, c], alloc)
 }
 
 /// What y has is taken away where g is set, with a carry.
 pub fn divided(w: Place, y: Place, g: Place, c: Place, alloc: Global) -> Result<Body, NoMemory>
-    ensures { IfOk result (λ b. IsBuilt (block_of b) (over (w ∷ y ∷ g ∷ c ∷ []) divided_nodes (turned 8 ∷ plain 6 ∷ []) (w ∷ c ∷ []))) }
+    ensures { IfOk result (λ b. IsBuilt (block_of b)
+        (over (w ∷ y ∷ g ∷ c ∷ []) divided_nodes (turned 8 ∷ plain 6 ∷ []) (w ∷ c ∷ []))) }
 {
     templated(&[w, y, g, c], &DIVIDED, &[N8, P6], &[w, c], alloc)
 }

@@ -36,7 +36,8 @@ fn slot_of(names: &NameMap, name: &Name) -> Slot
 /// The place of an argument.
 fn argument(names: &NameMap, args: &[Name], k: usize) -> Slot
     requires { k < length args.now }
-    ensures { (ss : List Slot) → AreAt (slots_of names.now) args.now ss → result ≡ behind ss names.now.free_bit k }
+    ensures { (ss : List Slot) → AreAt (slots_of names.now) args.now ss
+        → result ≡ behind ss names.now.free_bit k }
 {
     slot_of(names, &args[k])
 }
@@ -44,7 +45,9 @@ fn argument(names: &NameMap, args: &[Name], k: usize) -> Slot
 /// The places of a statement's names.
 fn rows(names: &NameMap, target: &Name, args: &[Name]) -> Rows
     requires { 0 < length args.now }
-    ensures { (t : Slot) (ss : List Slot) → slots_of names.now target.now ≡ Some t → AreAt (slots_of names.now) args.now ss → result ≡ rows_on t ss names.now.free_bit names.now.free_word }
+    ensures { (t : Slot) (ss : List Slot) → slots_of names.now target.now ≡ Some t
+        → AreAt (slots_of names.now) args.now ss
+        → result ≡ rows_on t ss names.now.free_bit names.now.free_word }
 {
     let second = if args.len() > 1 { 1 } else { 0 };
     Rows {
@@ -76,10 +79,13 @@ pub fn program(op: WordOp, m: Rows, alloc: Global) -> Result<LoopProgram, NoMemo
 /// Only want of memory is an `Err`.
 pub fn lower_nested(s: &Stmt, names: &NameMap, alloc: Global) -> Result<LoopProgram, NoMemory>
     requires meets { StatementMeets (slots_of names.now) (statement s.now) }
-    requires placed { IsPlaced (slots_of names.now) names.now.free_bit names.now.free_word (statement s.now) }
+    requires placed { IsPlaced (slots_of names.now) names.now.free_bit names.now.free_word
+        (statement s.now) }
     requires nested { is_nested_statement (statement s.now) ≡ true }
-    ensures lowered { IfOk result (λ p. IsLowered (slots_of names.now) names.now.free_bit names.now.free_word (statement s.now) (steps_of p)) }
-    ensures few { IfOk result (λ p. (n : ℕ) → rounds_cost (all_rounds n (steps_of p)) ≤ statement_total (statement s.now) n) }
+    ensures lowered { IfOk result (λ p. IsLowered (slots_of names.now) names.now.free_bit
+        names.now.free_word (statement s.now) (steps_of p)) }
+    ensures few { IfOk result (λ p. (n : ℕ) → rounds_cost (all_rounds n (steps_of p))
+        ≤ statement_total (statement s.now) n) }
 {
     match s {
         Stmt::Word { dst, op, args } => {

@@ -67,10 +67,12 @@ pub fn ones(m: Rows, alloc: Global) -> Result<LoopProgram, NoMemory>
     whole([Step::Each(clear), Step::Nest(parts)], alloc)
 }
 
-/// One step of a long division: the divisor is compared with the window, and taken from it where it is not greater.
+/// One step of a long division: the divisor is compared with the window, and taken from it where it
+/// is not greater.
 fn division(m: Rows, alloc: Global) -> Result<Vec<Inner>, NoMemory>
     requires { m.free_bit < 255 }
-    ensures { IfOk result (λ v. PartsBuilt (map inner_of v.items) (map (inner_map (placed_body (rooms_for o.Div m))) division)) }
+    ensures { IfOk result (λ v. PartsBuilt (map inner_of v.items)
+        (map (inner_map (placed_body (rooms_for o.Div m))) division)) }
 {
     let window = at(words(m.free_word), Sub::DownSum);
     let top = at(words(m.free_word), Sub::DownPlusN);

@@ -8,7 +8,8 @@ ghost use Rattle.word_mul.specs.Bodies.{place_at};
 use loop_ir::{Place, Slot, Space, Sub};
 use op_text::Kind;
 
-/// The places of a statement's names, and its first internal scratch. Where there is one argument, it stands for both.
+/// The places of a statement's names, and its first internal scratch. Where there is one argument,
+/// it stands for both.
 #[derive(Clone, Copy, PartialEq, Eq, Debug)]
 pub struct Rows {
     pub target: Slot,

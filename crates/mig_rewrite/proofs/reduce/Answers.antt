@@ -9,8 +9,15 @@ loop-now-preserved c =
     let merged = c.in_ok-merged-in-Some.merged in
     let new = c.in_ok-now-in-Some.now in
     record {
-      keeps = keeps-twice c.args.m.mig old.mig new.mig c.args.m.outs.items old.outs.items new.outs.items so.keeps
-          (keeps-twice old.mig merged.mig new.mig old.outs.items merged.outs.items new.outs.items c.in_ok-merged-in-Some.ensures.keeps c.in_ok-now-in-Some.ensures.keeps);
+      keeps = keeps-twice c.args.m.mig old.mig new.mig c.args.m.outs.items old.outs.items
+          new.outs.items so.keeps
+          (keeps-twice old.mig merged.mig new.mig old.outs.items merged.outs.items new.outs.items
+          c.in_ok-merged-in-Some.ensures.keeps c.in_ok-now-in-Some.ensures.keeps);
       named = c.in_ok-now-in-Some.ensures.named;
-      count = omega (arith, c.in_ok-now-in-Some.ensures.count, c.in_ok-merged-in-Some.ensures.count, so.count);
+      count = omega (
+        arith,
+        c.in_ok-now-in-Some.ensures.count,
+        c.in_ok-merged-in-Some.ensures.count,
+        so.count,
+      );
     }

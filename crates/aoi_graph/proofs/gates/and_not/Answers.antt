@@ -8,8 +8,10 @@ both a b x y e f = rw (e, f) refl
 
 pub returns-clause-value : goal.returns-clause-value
 returns-clause-value c = IfOk-weaker c.gate-2.result _ _ (λ r h bits. h bits ∙ both _ _ _ _
-    (grows-keeps c.args.nodes.now.items c.gate.new.nodes.items _ _ bits c.args.a c.in_ok-other.ensures.grows c.requires.a)
+    (grows-keeps c.args.nodes.now.items c.gate.new.nodes.items _ _ bits c.args.a
+    c.in_ok-other.ensures.grows c.requires.a)
     (c.in_ok-other.ensures.value bits)) c.gate-2.ensures.value
 
 pub returns-clause-held : goal.returns-clause-held
-returns-clause-held c = IfOk-weaker c.gate-2.result _ _ (λ r h inputs o. h inputs tt (c.in_ok-other.ensures.held inputs tt o)) c.gate-2.ensures.held
+returns-clause-held c = IfOk-weaker c.gate-2.result _ _ (λ r h inputs o.
+    h inputs tt (c.in_ok-other.ensures.held inputs tt o)) c.gate-2.ensures.held

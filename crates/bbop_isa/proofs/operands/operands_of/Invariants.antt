@@ -5,4 +5,5 @@ use Rattle.bbop_isa.specs.Reading.{left_in}
 use Rattle.bbop_isa.proofs.operands.operands_of.Given as goal
 
 abbrev pub invariant-loop-word : goal.invariant-loop-word
-invariant-loop-word l = operands_of (map word_view l.words) ≡ left_in l.operands (map word_view (drop l.word-index l.words))
+invariant-loop-word l = operands_of (map word_view l.words)
+    ≡ left_in l.operands (map word_view (drop l.word-index l.words))

@@ -8,16 +8,27 @@ use Rattle.block_lower.proofs.Making.{room, parts-few, inputs-below, inputs-most
 use Rattle.block_lower.proofs.body.block_body.Goals as goal
 
 pub inputs_of-requires : goal.inputs_of-requires
-inputs_of-requires c = record { room = room (slots_of c.args.names.now) c.args.down c.requires.meets.0 c.args.lets.now c.args.assigns.now c.requires.meets.1 }
+inputs_of-requires c =
+    record {
+      room = room (slots_of c.args.names.now) c.args.down c.requires.meets.0 c.args.lets.now
+          c.args.assigns.now c.requires.meets.1;
+    }
 
 pub build-requires : goal.build-requires
-build-requires c = record { room = parts-few (slots_of c.args.names.now) c.args.down c.requires.meets.0 c.args.lets.now c.args.assigns.now c.requires.meets.1 }
+build-requires c =
+    record {
+      room = parts-few (slots_of c.args.names.now) c.args.down c.requires.meets.0
+          c.args.lets.now c.args.assigns.now c.requires.meets.1;
+    }
 
 pub from_aoi-requires-clause-input : goal.from_aoi-requires-clause-input
 from_aoi-requires-clause-input c =
     let inputs = c.in_ok-inputs.inputs in
-    let num = subst (λ names. AreNumbered names inputs.numbers) c.in_ok-inputs.ensures.order c.in_ok-inputs.ensures.numbered in
-    inputs-below (slots_of c.args.names.now) c.args.down c.requires.meets.0 c.args.lets.now c.args.assigns.now c.requires.meets.1 inputs.numbers num c.in_ok-gates.gates.nodes.items c.in_ok-gates.ensures.held
+    let num = subst (λ names. AreNumbered names inputs.numbers) c.in_ok-inputs.ensures.order
+    c.in_ok-inputs.ensures.numbered in
+    inputs-below (slots_of c.args.names.now) c.args.down c.requires.meets.0 c.args.lets.now
+    c.args.assigns.now c.requires.meets.1 inputs.numbers num c.in_ok-gates.gates.nodes.items
+    c.in_ok-gates.ensures.held
 
 pub returns : goal.returns
 returns c = λ s.
@@ -28,16 +39,26 @@ returns c = λ s.
     let gates = c.in_ok-gates.gates in
     let first = c.in_ok-from_aoi.field-0 in
     let graph = c.in_ok-graph.graph in
-    let num = subst (λ names. AreNumbered names inputs.numbers) c.in_ok-inputs.ensures.order c.in_ok-inputs.ensures.numbered in
+    let num = subst (λ names. AreNumbered names inputs.numbers) c.in_ok-inputs.ensures.order
+    c.in_ok-inputs.ensures.numbered in
     let made = c.in_ok-graph.ensures in
     record {
-      reads = c.in_ok-places_of.ensures ∙ ap (places_of slots c.args.down) (c.deref.ensures.value ∙ c.in_ok-inputs.ensures.order);
+      reads = c.in_ok-places_of.ensures ∙ ap (places_of slots c.args.down) (c.deref.ensures.value
+          ∙ c.in_ok-inputs.ensures.order);
       writes = c.in_ok-target_places.ensures;
-      as_many = made.keeps.long ∙ c.in_ok-from_aoi.ensures.long ∙ c.in_ok-gates.ensures.long ∙ sym (length-map assigns equation);
-      inputs = let m = inputs-most slots c.args.down c.requires.meets.0 lets assigns c.requires.meets.1 inputs.numbers num gates.nodes.items c.in_ok-gates.ensures.held first.mig.inputs c.in_ok-from_aoi.ensures.inputs in let e = made.keeps.inputs in omega (arith, m, e);
-      values = output-values slots c.args.down c.requires.meets.0 lets assigns c.requires.meets.1 inputs.numbers num gates.nodes.items c.in_ok-gates.ensures.held gates.outs.items first.mig graph.mig first.outs.items graph.outs.items
-          c.in_ok-gates.ensures.value c.in_ok-from_aoi.ensures.value made.keeps c.in_ok-from_aoi.ensures.long c.in_ok-gates.ensures.long;
-      nodes = let a = made.count in let b = c.in_ok-from_aoi.ensures.count in let d = c.in_ok-gates.ensures.gates in omega (arith, a, b, d);
+      as_many = made.keeps.long ∙ c.in_ok-from_aoi.ensures.long ∙ c.in_ok-gates.ensures.long
+          ∙ sym (length-map assigns equation);
+      inputs = let m = inputs-most slots c.args.down c.requires.meets.0 lets assigns
+          c.requires.meets.1 inputs.numbers num gates.nodes.items c.in_ok-gates.ensures.held
+          first.mig.inputs c.in_ok-from_aoi.ensures.inputs in let e = made.keeps.inputs in
+          omega (arith, m, e);
+      values = output-values slots c.args.down c.requires.meets.0 lets assigns c.requires.meets.1
+          inputs.numbers num gates.nodes.items c.in_ok-gates.ensures.held gates.outs.items first.mig
+          graph.mig first.outs.items graph.outs.items
+          c.in_ok-gates.ensures.value c.in_ok-from_aoi.ensures.value made.keeps
+          c.in_ok-from_aoi.ensures.long c.in_ok-gates.ensures.long;
+      nodes = let a = made.count in let b = c.in_ok-from_aoi.ensures.count in
+          let d = c.in_ok-gates.ensures.gates in omega (arith, a, b, d);
       graph = c.inputs.ensures.graph;
       named = made.named;
       reduced = made.reduced;

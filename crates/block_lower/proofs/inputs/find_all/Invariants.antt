@@ -4,4 +4,5 @@ use Rattle.loop_ir.specs.Statements.{equation_names}
 use Rattle.block_lower.proofs.inputs.find_all.Given as goal
 
 abbrev pub invariant-loop-a : goal.invariant-loop-a
-invariant-loop-a l = l.found.items ≡ l.initial.found.items ++ equation_names (map equation (take l.a-index l.assigns))
+invariant-loop-a l = l.found.items ≡ l.initial.found.items
+    ++ equation_names (map equation (take l.a-index l.assigns))

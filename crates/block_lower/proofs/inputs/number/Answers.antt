@@ -10,6 +10,8 @@ returns-clause-numbered c =
     let same = c.copied.ensures in
     let next : c.len-next.result ≡ length order.items = c.len-next.ensures ∙ order.ok.0 in
     subst (λ names. AreNumbered names c.note.new.numbers) (sym c.in_ok-keep.ensures)
-    (numbered-more order.items c.args.name.now c.args.inputs.now.numbers c.note.new.numbers c.requires.numbered
-    (subst (λ name. get bytes_eq c.note.new.numbers name ≡ Some c.len-next.result) same c.in_ok-note.ensures.same ∙ ap Some next)
+    (numbered-more order.items c.args.name.now c.args.inputs.now.numbers c.note.new.numbers
+    c.requires.numbered
+    (subst (λ name. get bytes_eq c.note.new.numbers name
+    ≡ Some c.len-next.result) same c.in_ok-note.ensures.same ∙ ap Some next)
     (λ other ne. c.in_ok-note.ensures.others other (λ e. ne (e ∙ same))))

@@ -13,5 +13,7 @@ pub loop-name-preserved : goal.loop-name-preserved
 loop-name-preserved c =
     let v = c.loop-name.invariant in
     let e = c.in_ok-number_other.ensures in
-    let h = gathers-more (is_other c.args.lets.now) c.args.inputs.now.order.items c.loop-name.inputs.order.items c.number_other.new.inputs.order.items c.args.found.now c.loop-name.name-index c.name-item.result (omega arith) c.name-item.is v.1 v.2 e.order in
+    let h = gathers-more (is_other c.args.lets.now) c.args.inputs.now.order.items
+    c.loop-name.inputs.order.items c.number_other.new.inputs.order.items c.args.found.now
+    c.loop-name.name-index c.name-item.result (omega arith) c.name-item.is v.1 v.2 e.order in
     (e.numbered, h.0, h.1)

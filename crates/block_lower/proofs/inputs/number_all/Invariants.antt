@@ -8,5 +8,7 @@ use Rattle.block_lower.proofs.inputs.number_all.Given as goal
 abbrev pub invariant-loop-name : goal.invariant-loop-name
 invariant-loop-name l =
     AreNumbered l.inputs.order.items l.inputs.numbers
-    × (l.inputs.order.items ≡ gathered l.initial.inputs.order.items (filter (λ name. not (is_among (targets_of (map equation l.lets)) name)) (take l.name-index l.found)))
+    × (l.inputs.order.items ≡ gathered l.initial.inputs.order.items
+    (filter (λ name. not (is_among (targets_of (map equation l.lets)) name))
+    (take l.name-index l.found)))
     × (length l.inputs.order.items ≤ length l.initial.inputs.order.items + l.name-index)

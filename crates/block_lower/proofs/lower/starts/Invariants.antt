@@ -5,4 +5,5 @@ use Rattle.block_lower.specs.Form.{start}
 use Rattle.block_lower.proofs.lower.starts.Given as goal
 
 abbrev pub invariant-loop-state : goal.invariant-loop-state
-invariant-loop-state l = map step_of l.steps.items ≡ map (start (slots_of l.names) l.down) (take l.state-index l.states)
+invariant-loop-state l = map step_of l.steps.items
+    ≡ map (start (slots_of l.names) l.down) (take l.state-index l.states)

@@ -5,4 +5,5 @@ use Rattle.block_lower.specs.Form.{places_of}
 use Rattle.block_lower.proofs.places.target_places.Given as goal
 
 abbrev pub invariant-loop-a : goal.invariant-loop-a
-invariant-loop-a l = l.places.items ≡ places_of (slots_of l.names) l.down (targets_of (map equation (take l.a-index l.assigns)))
+invariant-loop-a l = l.places.items ≡ places_of (slots_of l.names) l.down
+    (targets_of (map equation (take l.a-index l.assigns)))

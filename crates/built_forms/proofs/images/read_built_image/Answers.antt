@@ -7,4 +7,5 @@ pub returns-then-is_built_image-clause-rows : goal.returns-then-is_built_image-c
 returns-then-is_built_image-clause-rows c =
     let image = c.in-Ok.image in
     let rows = rows_in image.geometry image.rows.now in
-    rows_sized (found_in image) (c.in-Ok.ensures.only image.geometry image.table.pairs rows c.in-Ok.ensures.spelled.0 c.in-Ok.ensures.spelled.1)
+    rows_sized (found_in image) (c.in-Ok.ensures.only image.geometry image.table.pairs rows
+    c.in-Ok.ensures.spelled.0 c.in-Ok.ensures.spelled.1)

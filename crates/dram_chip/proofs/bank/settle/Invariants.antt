@@ -10,5 +10,7 @@ invariant-loop-line l = record {
   shaped : IsShaped l.cells;
   rows : rows_of l.cells ≡ rows_of l.fn.cells;
   columns : columns_of l.cells ≡ columns_of l.fn.cells;
-  settled : (c : ℕ) → c < columns_of l.fn.cells → column_at l.cells c ≡ settle_lines (take l.line-index l.line-items) (bit_in l.sensed c) (column_at l.fn.cells c);
+  settled : (c : ℕ) → c < columns_of l.fn.cells
+      → column_at l.cells c ≡ settle_lines (take l.line-index l.line-items) (bit_in l.sensed c)
+      (column_at l.fn.cells c);
 }

@@ -3,4 +3,5 @@ use Rattle.host_edge.specs.Sends.{AppendsUpTo}
 use Rattle.host_edge.proofs.stream.write_whole.Given as goal
 
 abbrev pub invariant-loop : goal.invariant-loop
-invariant-loop g l = Told (AppendsUpTo l.rest l.bytes) (g.W.Write.contents l.fn.out) (g.W.Write.contents l.out)
+invariant-loop g l = Told (AppendsUpTo l.rest l.bytes) (g.W.Write.contents l.fn.out)
+    (g.W.Write.contents l.out)

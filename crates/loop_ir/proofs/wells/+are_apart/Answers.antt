@@ -16,11 +16,15 @@ returns-then-is_apart t c =
     let ps = c.args.places.now in
     let a = c.is_apart.ensures in
     let b = c.are_apart.ensures in
-    let h = apart-is ps (rest ps) (get_or ps 0 none) c.is_apart.result c.are_apart.result (front ps none (omega arith)) a.0 a.1 b.0 b.1 in
+    let h = apart-is ps (rest ps) (get_or ps 0 none) c.is_apart.result c.are_apart.result
+    (front ps none (omega arith)) a.0 a.1 b.0 b.1 in
     (λ e. h.0 (cc) e, λ all. (h.1 all).1)
 
 pub returns-else-is_apart : goal.returns-else-is_apart
 returns-else-is_apart t c =
     let ps = c.args.places.now in
-    let a = c.is_apart.ensures in
-    (λ e. absurd (cc), λ all. a.1 (apart-first-of ps (rest ps) (get_or ps 0 none) (front ps none (omega arith)) all))
+    let a = c.is_apart.ensures in (
+      λ e. absurd (cc),
+      λ all. a.1 (apart-first-of ps (rest ps) (get_or ps 0 none)
+          (front ps none (omega arith)) all),
+    )

@@ -10,7 +10,11 @@ abbrev none : Place
 none = record { space = Result; which = 0; sub = Zero }
 
 pub returns-then-not-agree : goal.returns-then-not-agree
-returns-then-not-agree c = refuses _ (λ q. IsOneValue c.args.write q → c.args.write.sub ≡ q.sub) c.args.reads.now c.loop-read.read-index none c.agree.result (omega arith) (cc) c.agree.ensures.1
+returns-then-not-agree c = refuses _ (λ q. IsOneValue c.args.write q
+    → c.args.write.sub ≡ q.sub) c.args.reads.now c.loop-read.read-index none c.agree.result
+    (omega arith) (cc) c.agree.ensures.1
 
 pub loop-read-preserved : goal.loop-read-preserved
-loop-read-preserved c = each-more (λ q. IsOneValue c.args.write q → c.args.write.sub ≡ q.sub) c.args.reads.now c.loop-read.read-index none (omega arith) c.loop-read.invariant (c.agree.ensures.0 (cc))
+loop-read-preserved c = each-more (λ q. IsOneValue c.args.write q
+    → c.args.write.sub ≡ q.sub) c.args.reads.now c.loop-read.read-index none (omega arith)
+    c.loop-read.invariant (c.agree.ensures.0 (cc))

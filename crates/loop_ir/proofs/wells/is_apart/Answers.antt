@@ -10,7 +10,11 @@ abbrev none : Place
 none = record { space = Result; which = 0; sub = Zero }
 
 pub returns-then-not-are_two_values : goal.returns-then-not-are_two_values
-returns-then-not-are_two_values c = refuses _ (λ q. IsOneValue c.args.p q → ⊥) c.args.others.now c.loop-other.other-index none c.are_two_values.result (omega arith) (cc) c.are_two_values.ensures.1
+returns-then-not-are_two_values c = refuses _ (λ q. IsOneValue c.args.p q
+    → ⊥) c.args.others.now c.loop-other.other-index none c.are_two_values.result (omega arith) (cc)
+    c.are_two_values.ensures.1
 
 pub loop-other-preserved : goal.loop-other-preserved
-loop-other-preserved c = each-more (λ q. IsOneValue c.args.p q → ⊥) c.args.others.now c.loop-other.other-index none (omega arith) c.loop-other.invariant (c.are_two_values.ensures.0 (cc))
+loop-other-preserved c = each-more (λ q. IsOneValue c.args.p q
+    → ⊥) c.args.others.now c.loop-other.other-index none (omega arith) c.loop-other.invariant
+    (c.are_two_values.ensures.0 (cc))

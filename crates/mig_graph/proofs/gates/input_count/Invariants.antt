@@ -8,5 +8,6 @@ use Rattle.mig_graph.proofs.gates.input_count.Given as goal
 abbrev pub invariant-loop-node : goal.invariant-loop-node
 invariant-loop-node l = record {
   each : (k : ℕ) → k < l.node-index → HasInput l.count (aoi_at l.nodes k);
-  least : (l.count ≡ 0) ⊎ ((k : ℕ) × (k < l.node-index) × (0 < l.count) × (aoi_at l.nodes k ≡ Input (l.count - 1)));
+  least : (l.count ≡ 0) ⊎ ((k : ℕ) × (k < l.node-index) × (0 < l.count)
+      × (aoi_at l.nodes k ≡ Input (l.count - 1)));
 }

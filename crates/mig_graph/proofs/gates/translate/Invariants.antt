@@ -11,6 +11,7 @@ invariant-loop-node l = record {
   inputs : l.mig.inputs ≡ l.inputs;
   long : length l.lits.items ≡ l.node-index;
   named : (k : ℕ) → k < l.node-index → (lit_at l.lits.items k).node < size_of l.mig;
-  values : (bits : ℕ → Bool) (k : ℕ) → k < l.node-index → value l.mig bits (lit_at l.lits.items k) ≡ aoi_values l.nodes bits k;
+  values : (bits : ℕ → Bool) (k : ℕ) → k < l.node-index
+      → value l.mig bits (lit_at l.lits.items k) ≡ aoi_values l.nodes bits k;
   count : length l.mig.nodes ≤ count_by is_gate (take l.node-index l.nodes);
 }

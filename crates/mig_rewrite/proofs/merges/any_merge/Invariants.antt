@@ -5,4 +5,5 @@ use Rattle.mig_rewrite.proofs.merges.any_merge.Given as goal
 
 -- the nodes so far have no merge
 abbrev pub invariant-loop-k : goal.invariant-loop-k
-invariant-loop-k l = (j : ℕ) → l.m.mig.inputs < j → j < l.k → NoMerge l.m.mig l.m.outs.items (node_numbered l.m.mig j)
+invariant-loop-k l = (j : ℕ) → l.m.mig.inputs < j → j < l.k
+    → NoMerge l.m.mig l.m.outs.items (node_numbered l.m.mig j)

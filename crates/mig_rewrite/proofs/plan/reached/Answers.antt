@@ -10,13 +10,17 @@ loop-k-preserved c =
     let old = c.loop-k.marks.items in
     let same = c.deref_mut-in-loop-k.ensures.value in
     let long : length new ≡ length old = c.mark_read.auto.marks ∙ ap length same in
-    let e : take c.loop-k.marks.len (new ++ drop (length new) old) ≡ new = written c.loop-k.marks.len new old (long ∙ sym c.loop-k.marks.ok.0) in
-    let grew : (j : ℕ) → is_marked old j ≡ true → is_marked new j ≡ true = rw same at c.mark_read.ensures.grew in
-    let others : (j : ℕ) → c.loop-k.k - 1 ≤ j → is_marked new j ≡ is_marked old j = rw same at c.mark_read.ensures.others in
+    let e : take c.loop-k.marks.len (new ++ drop (length new) old) ≡ new =
+    written c.loop-k.marks.len new old (long ∙ sym c.loop-k.marks.ok.0) in
+    let grew : (j : ℕ) → is_marked old j ≡ true → is_marked new j ≡ true =
+    rw same at c.mark_read.ensures.grew in
+    let others : (j : ℕ) → c.loop-k.k - 1 ≤ j → is_marked new j ≡ is_marked old j =
+    rw same at c.mark_read.ensures.others in
     record {
       long = ap length e ∙ long ∙ so.long;
       least = omega arith;
       most = omega arith;
       outputs = rw e (λ j b. grew _ (so.outputs j b));
-      closed = rw e (closed-more c.args.m.now.mig old new c.loop-k.k (omega arith) so.closed c.mark_read.ensures.read others grew);
+      closed = rw e (closed-more c.args.m.now.mig old new c.loop-k.k (omega arith) so.closed
+          c.mark_read.ensures.read others grew);
     }

@@ -18,8 +18,10 @@ invariant-loop-k l = record {
   long : length l.marks.items ≡ size_of l.m.mig;
   least : l.first ≤ l.k;
   most : l.k ≤ size_of l.m.mig;
-  outputs : (j : ℕ) → j < length l.m.outs.items → is_marked l.marks.items (lit_at l.m.outs.items j).node ≡ true;
-  closed : (j : ℕ) → l.k ≤ j → j < size_of l.m.mig → is_marked l.marks.items j ≡ true → ReadsMarked l.marks.items (node_numbered l.m.mig j);
+  outputs : (j : ℕ) → j < length l.m.outs.items
+      → is_marked l.marks.items (lit_at l.m.outs.items j).node ≡ true;
+  closed : (j : ℕ) → l.k ≤ j → j < size_of l.m.mig → is_marked l.marks.items j ≡ true
+      → ReadsMarked l.marks.items (node_numbered l.m.mig j);
 }
 
 abbrev pub decreases-loop-k : goal.decreases-loop-k

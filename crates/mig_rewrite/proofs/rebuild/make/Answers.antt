@@ -1,4 +1,5 @@
-use Rattle.std.proofs.Common.{◌≡◌, ℕ, Bool, ◌∙◌, ap, refl, ◌<◌, ◌∷◌, [], List, length, length-append, arith, inl, inr}
+use Rattle.std.proofs.Common.{◌≡◌, ℕ, Bool, ◌∙◌, ap, refl, ◌<◌, ◌∷◌, [], List, length}
+use Rattle.std.proofs.Common.{length-append, arith, inl, inr}
 use Rattle.std.proofs.lemmas.Result.{IfOk-weaker}
 use Rattle.bit_rows.specs.Bits.{majority, flip_if}
 use Rattle.mig_graph.specs.declared.Lit.{Lit}
@@ -12,18 +13,25 @@ use Rattle.mig_rewrite.specs.Plan.{part_value}
 use Rattle.mig_rewrite.proofs.rebuild.make.Goals as goal
 
 -- a translated literal has the value of its node's literal
-moved : (g : Graph) (bits : ℕ → Bool) (x y l : Lit) → x ≡ turn_if l.inverted y → value g bits x ≡ flip_if l.inverted (value g bits y)
+moved : (g : Graph) (bits : ℕ → Bool) (x y l : Lit) → x ≡ turn_if l.inverted y
+    → value g bits x ≡ flip_if l.inverted (value g bits y)
 moved g bits x y l e = rw e (value-turned (values g bits) l.inverted y)
 
 three : (a b c x y z : Bool) → a ≡ x → b ≡ y → c ≡ z → majority a b c ≡ majority x y z
 three a b c x y z e f g = rw (e, f, g) refl
 
 -- it names a node of the graph
-translated-named : (g : Graph) (lits : List Lit) (x l : Lit) → x ≡ turn_if l.inverted (lit_at lits l.node) → AreNamed g lits → l.node < length lits → x.node < size_of g
-translated-named g lits x l e named b = rw (e, turned-node l.inverted (lit_at lits l.node)) (named l.node b)
+translated-named : (g : Graph) (lits : List Lit) (x l : Lit)
+    → x ≡ turn_if l.inverted (lit_at lits l.node) → AreNamed g lits → l.node < length lits
+    → x.node < size_of g
+translated-named g lits x l e named b = rw (e, turned-node l.inverted (lit_at lits l.node))
+    (named l.node b)
 
 two : (g h k : Graph) (bits : ℕ → Bool) (lits : List Lit) (x y u v z x' y' u' v' z' i l : Lit)
-    → x' ≡ turn_if x.inverted (lit_at lits x.node) → y' ≡ turn_if y.inverted (lit_at lits y.node) → u' ≡ turn_if u.inverted (lit_at lits u.node) → v' ≡ turn_if v.inverted (lit_at lits v.node) → z' ≡ turn_if z.inverted (lit_at lits z.node)
+    → x' ≡ turn_if x.inverted (lit_at lits x.node) → y' ≡ turn_if y.inverted (lit_at lits y.node)
+    → u' ≡ turn_if u.inverted (lit_at lits u.node)
+    → v' ≡ turn_if v.inverted (lit_at lits v.node)
+    → z' ≡ turn_if z.inverted (lit_at lits z.node)
     → AreNamed g lits → x.node < length lits → y.node < length lits
     → ((m : Lit) → m.node < size_of g → value h bits m ≡ value g bits m)
     → value h bits i ≡ majority (value g bits u') (value g bits v') (value g bits z')
@@ -33,7 +41,8 @@ two g h k bits lits x y u v z x' y' u' v' z' i l ex ey eu ev ez named bx by kept
     outer ∙ three _ _ _ _ _ _
     (kept x' (translated-named g lits x' x ex named bx) ∙ moved g bits x' (lit_at lits x.node) x ex)
     (kept y' (translated-named g lits y' y ey named by) ∙ moved g bits y' (lit_at lits y.node) y ey)
-    (inner ∙ three _ _ _ _ _ _ (moved g bits u' (lit_at lits u.node) u eu) (moved g bits v' (lit_at lits v.node) v ev) (moved g bits z' (lit_at lits z.node) z ez))
+    (inner ∙ three _ _ _ _ _ _ (moved g bits u' (lit_at lits u.node) u eu)
+    (moved g bits v' (lit_at lits v.node) v ev) (moved g bits z' (lit_at lits z.node) z ez))
 
 -- a graph that grew has the nodes that it had
 grown : (g h : Graph) (n : ℕ) → h.inputs ≡ g.inputs → GrewByOne g h → n < size_of g → n < size_of h
@@ -45,21 +54,31 @@ returns-in-Nothing-clause-value c = λ bits. rw c.in-Nothing.is (value-zero c.ar
 
 pub returns-in-One-clause-value : goal.returns-in-One-clause-value
 returns-in-One-clause-value c =
-    let g = c.args.mig.now in let lits = c.args.lits.now in let x = c.in-One.x in let y = c.in-One.y in let z = c.in-One.z in
+    let g = c.args.mig.now in let lits = c.args.lits.now in let x = c.in-One.x in
+    let y = c.in-One.y in let z = c.in-One.z in
     rw c.in-One.is (IfOk-weaker c.maj.result _ _ (λ l h bits. h bits ∙ three _ _ _ _ _ _
     (moved g bits c.translated.result (lit_at lits x.node) x c.translated.ensures)
     (moved g bits c.translated-in-One.result (lit_at lits y.node) y c.translated-in-One.ensures)
-    (moved g bits c.translated-in-One-2.result (lit_at lits z.node) z c.translated-in-One-2.ensures)) c.maj.ensures.value)
+    (moved g bits c.translated-in-One-2.result (lit_at lits z.node) z
+    c.translated-in-One-2.ensures)) c.maj.ensures.value)
 
 pub returns-in_ok-inner-in-Two-clause-value : goal.returns-in_ok-inner-in-Two-clause-value
 returns-in_ok-inner-in-Two-clause-value c =
     let within = rw c.in-Two.is at c.requires.within in
-    rw c.in-Two.is (IfOk-weaker c.maj-in-Two-2.result _ _ (λ l h bits. two c.args.mig.now c.maj-in-Two.new.self c.maj-in-Two-2.new.self bits c.args.lits.now
+    rw c.in-Two.is (IfOk-weaker c.maj-in-Two-2.result _ _
+    (λ l h bits. two c.args.mig.now c.maj-in-Two.new.self c.maj-in-Two-2.new.self bits
+    c.args.lits.now
     c.in-Two.x c.in-Two.y c.in-Two.u c.in-Two.v c.in-Two.z
-    c.translated-in-Two-4.result c.translated-in-Two-5.result c.translated-in-Two.result c.translated-in-Two-2.result c.translated-in-Two-3.result c.in_ok-inner-in-Two.inner l
-    c.translated-in-Two-4.ensures c.translated-in-Two-5.ensures c.translated-in-Two.ensures c.translated-in-Two-2.ensures c.translated-in-Two-3.ensures
-    c.requires.known within.0 within.1 (c.in_ok-inner-in-Two.ensures.kept bits) (c.in_ok-inner-in-Two.ensures.value bits) (h bits)) c.maj-in-Two-2.ensures.value)
+    c.translated-in-Two-4.result c.translated-in-Two-5.result c.translated-in-Two.result
+    c.translated-in-Two-2.result c.translated-in-Two-3.result c.in_ok-inner-in-Two.inner l
+    c.translated-in-Two-4.ensures c.translated-in-Two-5.ensures c.translated-in-Two.ensures
+    c.translated-in-Two-2.ensures c.translated-in-Two-3.ensures
+    c.requires.known within.0 within.1 (c.in_ok-inner-in-Two.ensures.kept bits)
+    (c.in_ok-inner-in-Two.ensures.value bits) (h bits)) c.maj-in-Two-2.ensures.value)
 
 pub returns-in_ok-inner-in-Two-clause-kept : goal.returns-in_ok-inner-in-Two-clause-kept
 returns-in_ok-inner-in-Two-clause-kept c =
-    IfOk-weaker c.maj-in-Two-2.result _ _ (λ x _ bits l b. c.maj-in-Two-2.ensures.kept bits l (grown c.args.mig.now c.maj-in-Two.new.self l.node c.in_ok-inner-in-Two.ensures.inputs c.in_ok-inner-in-Two.ensures.grew b) ∙ c.in_ok-inner-in-Two.ensures.kept bits l b) c.maj-in-Two-2.ensures.value
+    IfOk-weaker c.maj-in-Two-2.result _ _ (λ x _ bits l b.
+    c.maj-in-Two-2.ensures.kept bits l (grown c.args.mig.now c.maj-in-Two.new.self l.node
+    c.in_ok-inner-in-Two.ensures.inputs c.in_ok-inner-in-Two.ensures.grew b)
+    ∙ c.in_ok-inner-in-Two.ensures.kept bits l b) c.maj-in-Two-2.ensures.value

@@ -10,6 +10,8 @@ invariant-loop-k l = record {
   inputs : l.mig.inputs ≡ l.m.mig.inputs;
   long : length l.lits.items ≡ l.k;
   named : AreNamed l.mig l.lits.items;
-  values : (bits : ℕ → Bool) (j : ℕ) → j < l.k → is_marked l.marks.items j ≡ true → value l.mig bits (lit_at l.lits.items j) ≡ values l.m.mig bits j;
-  count : l.inputs + 1 + length l.mig.nodes + spared_below l.merge l.k ≤ l.k + merged_below l.merge l.k;
+  values : (bits : ℕ → Bool) (j : ℕ) → j < l.k → is_marked l.marks.items j ≡ true
+      → value l.mig bits (lit_at l.lits.items j) ≡ values l.m.mig bits j;
+  count : l.inputs + 1 + length l.mig.nodes + spared_below l.merge l.k
+      ≤ l.k + merged_below l.merge l.k;
 }

@@ -12,5 +12,7 @@ loop-l-preserved c =
     let done = flat_map literals c.args.m.now.mig.nodes in
     let i = c.loop-l.l-index in
     let b : i < length outs = rw c.deref-l-items.ensures.value at c.loop-l-test.true in
-    let more : AreCounts c.count.new.counts ((done ++ take i outs) ++ lit_at outs i ∷ []) = rw c.deref-l-items.ensures.value at (c.count.ensures (done ++ take i outs) c.loop-l.invariant.counts) in
+    let more : AreCounts c.count.new.counts ((done ++ take i outs) ++ lit_at outs i ∷ []) =
+    rw c.deref-l-items.ensures.value at (c.count.ensures (done
+    ++ take i outs) c.loop-l.invariant.counts) in
     record { counts = subst (AreCounts c.count.new.counts) (outputs-more done outs i b) more }

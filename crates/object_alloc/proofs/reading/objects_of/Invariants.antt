@@ -10,5 +10,6 @@ invariant-loop-k l = record {
   len : length l.table.pairs ≡ l._k;
   place : l.place ≡ l.fn.at + 24 * l._k;
   within : l.place ≤ length l.bytes;
-  all : objects_at (l.fn.count - l._k) l.fn.g l.table.pairs l.place l.bytes ≡ objects_at l.fn.count l.fn.g [] l.fn.at l.bytes;
+  all : objects_at (l.fn.count - l._k) l.fn.g l.table.pairs l.place l.bytes
+      ≡ objects_at l.fn.count l.fn.g [] l.fn.at l.bytes;
 }

@@ -11,10 +11,12 @@ loop-k-preserved c =
     let pairs : List Named = c.args.table.now.pairs in
     let front : List ℕ = flat_map object_bytes (take c.loop-k.k pairs) in
     record {
-      items = c.append.ensures.items ∙ ap (λ (xs : List ℕ). c.loop-k.out.items ++ xs) c.record_of.ensures
+      items = c.append.ensures.items ∙ ap (λ (xs : List ℕ). c.loop-k.out.items
+          ++ xs) c.record_of.ensures
           ∙ ap (λ (xs : List ℕ). xs ++ object_bytes named) c.loop-k.invariant.items
           ∙ append_assoc c.args.out.now.items front (object_bytes named)
-          ∙ ap (λ (xs : List ℕ). c.args.out.now.items ++ xs) (sym (objects_more pairs c.loop-k.k named c.at-name.ensures));
+          ∙ ap (λ (xs : List ℕ). c.args.out.now.items
+          ++ xs) (sym (objects_more pairs c.loop-k.k named c.at-name.ensures));
       len = omega arith;
       room = omega arith;
     }

@@ -6,4 +6,5 @@ use Rattle.object_alloc.proofs.table.blocker.Given as goal
 
 -- what is found in what is left is found in all
 abbrev pub invariant-loop-pair : goal.invariant-loop-pair
-invariant-loop-pair l = find (meets l.base l.k) (objects_of l.pairs) ≡ find (meets l.base l.k) (objects_of (drop l.pair-index l.pairs))
+invariant-loop-pair l = find (meets l.base l.k) (objects_of l.pairs)
+    ≡ find (meets l.base l.k) (objects_of (drop l.pair-index l.pairs))

@@ -7,7 +7,8 @@ use Rattle.object_alloc.proofs.table.take_away.Given as goal
 abbrev pub invariant-loop-k : goal.invariant-loop-k
 invariant-loop-k l = record {
   within : l.k ≤ vec_len l.pairs;
-  kept : take l.k l.pairs.items ++ without (drop l.k l.pairs.items) l.name ≡ without l.initial.pairs.items l.name;
+  kept : take l.k l.pairs.items ++ without (drop l.k l.pairs.items) l.name
+      ≡ without l.initial.pairs.items l.name;
   capacity : vec_capacity l.pairs ≡ vec_capacity l.initial.pairs;
 }
 

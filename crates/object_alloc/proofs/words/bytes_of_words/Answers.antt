@@ -7,5 +7,10 @@ pub returns-clause-items : goal.returns-clause-items
 returns-clause-items c =
     let words = c.args.words.now in
     let all = take_all c.loop-word.word-index words (omega arith) in
-    let is = bytes-words words (λ k d l. omega (arith, c.type_inv.words k, get_or_default words k d 0 l)) in
-    c.loop-word.invariant.items ∙ ap (λ (xs : List ℕ). c.args.out.now.items ++ xs) (ap word_list_bytes all ∙ sym is)
+    let is = bytes-words words (λ k d l. omega (
+      arith,
+      c.type_inv.words k,
+      get_or_default words k d 0 l,
+    )) in
+    c.loop-word.invariant.items ∙ ap (λ (xs : List ℕ). c.args.out.now.items
+    ++ xs) (ap word_list_bytes all ∙ sym is)

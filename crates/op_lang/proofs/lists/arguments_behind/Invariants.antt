@@ -6,7 +6,8 @@ use Rattle.op_text.specs.Spelling.{name_text}
 use Rattle.op_lang.proofs.lists.arguments_behind.Given as goal
 
 abbrev pub invariant-loop-names : goal.invariant-loop-names
-invariant-loop-names l = HasParts w.MoreArgs name_text (name_text l.fn.first (left l.fn.parser)) l.fn.parser l.names.items l.parser
+invariant-loop-names l = HasParts w.MoreArgs name_text (name_text l.fn.first (left l.fn.parser))
+    l.fn.parser l.names.items l.parser
 
 abbrev pub decreases-loop-names : goal.decreases-loop-names
 decreases-loop-names l = length (left l.parser)

@@ -4,4 +4,6 @@ use Rattle.op_lang.proofs.Taking.{exits}
 use Rattle.op_lang.proofs.lists.sources.Goals as goal
 
 pub returns-in_err-first-clause-moves : goal.returns-in_err-first-clause-moves
-returns-in_err-first-clause-moves c = exits (w.NewParam ∷ w.Colon ∷ w.ParamKind ∷ w.Params ∷ []) _ _ _ (λ x. []) _ c.from_residual.ensures.1 (λ more. c.in_err-first.ensures.moves (w.Params ∷ more))
+returns-in_err-first-clause-moves c = exits (w.NewParam ∷ w.Colon ∷ w.ParamKind ∷ w.Params
+    ∷ []) _ _ _ (λ x. []) _ c.from_residual.ensures.1
+    (λ more. c.in_err-first.ensures.moves (w.Params ∷ more))

@@ -6,7 +6,8 @@ use Rattle.op_text.specs.Spelling.{state_text}
 use Rattle.op_lang.proofs.lists.states_behind.Given as goal
 
 abbrev pub invariant-loop-states : goal.invariant-loop-states
-invariant-loop-states l = HasParts w.MoreStates state_text (state_text l.fn.first (left l.fn.parser)) l.fn.parser l.states.items l.parser
+invariant-loop-states l = HasParts w.MoreStates state_text
+    (state_text l.fn.first (left l.fn.parser)) l.fn.parser l.states.items l.parser
 
 abbrev pub decreases-loop-states : goal.decreases-loop-states
 decreases-loop-states l = length (left l.parser)

@@ -3,4 +3,5 @@ use Rattle.op_text.specs.Rules.{is_among}
 use Rattle.op_lang.proofs.names.others.Given as goal
 
 abbrev pub invariant-loop-name : goal.invariant-loop-name
-invariant-loop-name l = l.kept.items ≡ filter (λ n. not (is_among l.without n)) (take l.name-index l.names)
+invariant-loop-name l = l.kept.items ≡ filter (λ n. not (is_among l.without n))
+    (take l.name-index l.names)

@@ -10,7 +10,8 @@ use Rattle.op_lang.proofs.Ending.{ops_exit, ops_end}
 use Rattle.op_lang.proofs.parse.all_ops.Goals as goal
 
 pub returns-in_err-next : goal.returns-in_err-next
-returns-in_err-next c = ops_exit (λ v. v.items) _ _ _ c.from_residual.ensures.1 (fails_along _ (c.loop-alloc.invariant.same []) (c.in_err-next.ensures.moves []))
+returns-in_err-next c = ops_exit (λ v. v.items) _ _ _ c.from_residual.ensures.1
+    (fails_along _ (c.loop-alloc.invariant.same []) (c.in_err-next.ensures.moves []))
 
 pub loop-alloc-smaller : goal.loop-alloc-smaller
 loop-alloc-smaller c =
@@ -20,8 +21,11 @@ loop-alloc-smaller c =
 
 pub loop-alloc-preserved : goal.loop-alloc-preserved
 loop-alloc-preserved c =
-    next_turn (w.Ops ∷ []) w.Ops w.Ops operation_text operation _ c.args.parser.now c.loop-alloc.all.items c.loop-alloc.parser _ c.in_ok-next.next c.one_op.new.parser c.loop-alloc.invariant
+    next_turn (w.Ops ∷ []) w.Ops w.Ops operation_text operation _ c.args.parser.now
+    c.loop-alloc.all.items c.loop-alloc.parser _ c.in_ok-next.next c.one_op.new.parser
+    c.loop-alloc.invariant
     (λ more. c.in_ok-next.ensures.moves more) c.in_ok-next.ensures.spells c.in_ok-push.ensures.items
 
 pub returns : goal.returns
-returns c = ops_end (λ v. v.items) c.loop-alloc.all c.args.parser.now c.loop-alloc.parser c.loop-alloc.invariant (sym c.loop-alloc-test.ensures)
+returns c = ops_end (λ v. v.items) c.loop-alloc.all c.args.parser.now c.loop-alloc.parser
+    c.loop-alloc.invariant (sym c.loop-alloc-test.ensures)

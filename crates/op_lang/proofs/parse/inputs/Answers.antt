@@ -4,4 +4,6 @@ use Rattle.op_lang.proofs.Taking.{exits}
 use Rattle.op_lang.proofs.parse.inputs.Goals as goal
 
 pub returns-in_err-mark-clause-moves : goal.returns-in_err-mark-clause-moves
-returns-in_err-mark-clause-moves c = exits (w.Open ∷ w.NewParam ∷ w.Colon ∷ w.ParamKind ∷ w.Params ∷ []) _ _ _ (λ x. []) _ c.from_residual.ensures.1 (λ more. c.in_err-mark.ensures.moves (w.NewParam ∷ w.Colon ∷ w.ParamKind ∷ w.Params ∷ more))
+returns-in_err-mark-clause-moves c = exits (w.Open ∷ w.NewParam ∷ w.Colon ∷ w.ParamKind ∷ w.Params
+    ∷ []) _ _ _ (λ x. []) _ c.from_residual.ensures.1
+    (λ more. c.in_err-mark.ensures.moves (w.NewParam ∷ w.Colon ∷ w.ParamKind ∷ w.Params ∷ more))

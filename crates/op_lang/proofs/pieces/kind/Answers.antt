@@ -4,7 +4,8 @@ use Rattle.op_lang.proofs.Single.{kind_took}
 use Rattle.op_lang.proofs.pieces.kind.Goals as goal
 
 pub returns-in_err-token-clause-moves : goal.returns-in_err-token-clause-moves
-returns-in_err-token-clause-moves c = exits (c.args.wanted ∷ []) _ _ _ (λ x. []) _ c.from_residual.ensures.1 c.in_err-token.ensures
+returns-in_err-token-clause-moves c = exits (c.args.wanted ∷ []) _ _ _ (λ x.
+    []) _ c.from_residual.ensures.1 c.in_err-token.ensures
 
 pub returns-clause-moves : goal.returns-clause-moves
 returns-clause-moves c = λ more. kind_took _ _ _ _ _ c.requires c.in_ok-token.ensures more

@@ -6,10 +6,13 @@ use Rattle.op_lang.proofs.Single.{let_took, target_took}
 use Rattle.op_lang.proofs.pieces.line_start.Goals as goal
 
 pub returns-in_err-token-clause-moves : goal.returns-in_err-token-clause-moves
-returns-in_err-token-clause-moves c = exits (w.Lets ∷ []) _ _ _ behind_line _ c.from_residual.ensures.1 c.in_err-token.ensures
+returns-in_err-token-clause-moves c = exits (w.Lets ∷ []) _ _ _ behind_line _
+    c.from_residual.ensures.1 c.in_err-token.ensures
 
 pub returns-then-is_let_word-clause-moves : goal.returns-then-is_let_word-clause-moves
-returns-then-is_let_word-clause-moves c = λ more. let_took _ _ _ _ (sym c.if-is_let_word.ensures) c.in_ok-token.ensures more
+returns-then-is_let_word-clause-moves c = λ more. let_took _ _ _ _ (sym c.if-is_let_word.ensures)
+    c.in_ok-token.ensures more
 
 pub returns-clause-moves : goal.returns-clause-moves
-returns-clause-moves c = λ more. target_took _ _ _ _ (sym c.if-is_let_word.ensures) c.in_ok-token.ensures more
+returns-clause-moves c = λ more. target_took _ _ _ _ (sym c.if-is_let_word.ensures)
+    c.in_ok-token.ensures more

@@ -4,7 +4,8 @@ use Rattle.op_lang.proofs.Single.{mark_took}
 use Rattle.op_lang.proofs.pieces.mark.Goals as goal
 
 pub returns-in_err-take-clause-moves : goal.returns-in_err-take-clause-moves
-returns-in_err-take-clause-moves c = exits (c.args.wanted ∷ []) _ _ _ (λ x. []) _ c.from_residual.ensures.1 c.in_err-take.ensures
+returns-in_err-take-clause-moves c = exits (c.args.wanted ∷ []) _ _ _ (λ x.
+    []) _ c.from_residual.ensures.1 c.in_err-take.ensures
 
 pub returns-clause-moves : goal.returns-clause-moves
 returns-clause-moves c = λ more. mark_took _ _ _ _ _ c.requires c.in_ok-take.ensures more

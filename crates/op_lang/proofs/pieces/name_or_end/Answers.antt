@@ -5,10 +5,14 @@ use Rattle.op_lang.proofs.Single.{end_took, listed_took}
 use Rattle.op_lang.proofs.pieces.name_or_end.Goals as goal
 
 pub returns-in_err-token-clause-moves : goal.returns-in_err-token-clause-moves
-returns-in_err-token-clause-moves c = exits (c.args.wanted ∷ []) _ _ _ (behind_name_or_end c.args.wanted) _ c.from_residual.ensures.1 c.in_err-token.ensures
+returns-in_err-token-clause-moves c = exits (c.args.wanted
+    ∷ []) _ _ _ (behind_name_or_end c.args.wanted) _ c.from_residual.ensures.1
+    c.in_err-token.ensures
 
 pub returns-then-not-is_named-clause-moves : goal.returns-then-not-is_named-clause-moves
-returns-then-not-is_named-clause-moves c = λ more. end_took _ _ _ _ _ c.requires (sym c.if-not-is_named.ensures) c.in_ok-token.ensures more
+returns-then-not-is_named-clause-moves c = λ more. end_took _ _ _ _ _ c.requires
+    (sym c.if-not-is_named.ensures) c.in_ok-token.ensures more
 
 pub returns-clause-moves : goal.returns-clause-moves
-returns-clause-moves c = λ more. listed_took _ _ _ _ _ c.requires (sym c.if-not-is_named.ensures) c.in_ok-token.ensures more
+returns-clause-moves c = λ more. listed_took _ _ _ _ _ c.requires (sym c.if-not-is_named.ensures)
+    c.in_ok-token.ensures more

@@ -5,7 +5,8 @@ use Rattle.op_lang.proofs.Single.{start_took}
 use Rattle.op_lang.proofs.pieces.state_start.Goals as goal
 
 pub returns-in_err-token-clause-moves : goal.returns-in_err-token-clause-moves
-returns-in_err-token-clause-moves c = exits (w.Start ∷ []) _ _ _ (λ x. []) _ c.from_residual.ensures.1 c.in_err-token.ensures
+returns-in_err-token-clause-moves c = exits (w.Start ∷ []) _ _ _ (λ x.
+    []) _ c.from_residual.ensures.1 c.in_err-token.ensures
 
 pub returns-clause-moves : goal.returns-clause-moves
 returns-clause-moves c = λ more. start_took _ _ _ _ c.in_ok-token.ensures more

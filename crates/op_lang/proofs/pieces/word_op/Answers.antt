@@ -6,7 +6,8 @@ use Rattle.op_lang.specs.Reading.{left}
 use Rattle.op_lang.proofs.pieces.word_op.Goals as goal
 
 pub returns-in_err-token-clause-moves : goal.returns-in_err-token-clause-moves
-returns-in_err-token-clause-moves c = exits (w.WordOpName ∷ []) _ _ _ (λ x. []) _ c.from_residual.ensures.1 c.in_err-token.ensures
+returns-in_err-token-clause-moves c = exits (w.WordOpName ∷ []) _ _ _ (λ x.
+    []) _ c.from_residual.ensures.1 c.in_err-token.ensures
 
 pub unreachable-requires : goal.unreachable-requires
 unreachable-requires c =
@@ -17,4 +18,5 @@ pub returns-clause-moves : goal.returns-clause-moves
 returns-clause-moves c = λ more. word_op_took _ _ _ _ c.in_ok-token.ensures more
 
 pub returns-clause-spells : goal.returns-clause-spells
-returns-clause-spells c = took_left _ _ _ _ _ c.in_ok-token.ensures ∙ ap (λ x. x ∷ left c.take.new.self) (op_spelled _ _ (sym c.in-Some.ensures))
+returns-clause-spells c = took_left _ _ _ _ _ c.in_ok-token.ensures
+    ∙ ap (λ x. x ∷ left c.take.new.self) (op_spelled _ _ (sym c.in-Some.ensures))

@@ -10,7 +10,8 @@ use Rattle.op_lang.proofs.statements.body.Given as goal
 abbrev pub invariant-loop-all : goal.invariant-loop-all
 invariant-loop-all l = record {
   is : is_statement l.wanted ≡ true;
-  read : HasTurns (w.FirstStmt ∷ []) l.wanted statement_text statement (left l.fn.parser) l.fn.parser l.all.items l.parser;
+  read : HasTurns (w.FirstStmt ∷ []) l.wanted statement_text statement (left l.fn.parser)
+      l.fn.parser l.all.items l.parser;
 }
 
 abbrev pub decreases-loop-all : goal.decreases-loop-all

@@ -4,4 +4,6 @@ use Rattle.op_lang.proofs.Taking.{exits}
 use Rattle.op_lang.proofs.statements.let_line.Goals as goal
 
 pub returns-in_err-name-clause-moves : goal.returns-in_err-name-clause-moves
-returns-in_err-name-clause-moves c = exits (w.LetName ∷ w.Equals ∷ w.Value ∷ w.LetEnd ∷ []) _ _ _ (λ x. []) _ c.from_residual.ensures.1 (λ more. c.in_err-name.ensures.moves (w.Equals ∷ w.Value ∷ w.LetEnd ∷ more))
+returns-in_err-name-clause-moves c = exits (w.LetName ∷ w.Equals ∷ w.Value ∷ w.LetEnd
+    ∷ []) _ _ _ (λ x. []) _ c.from_residual.ensures.1
+    (λ more. c.in_err-name.ensures.moves (w.Equals ∷ w.Value ∷ w.LetEnd ∷ more))

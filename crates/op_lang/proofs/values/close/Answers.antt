@@ -5,7 +5,9 @@ use Rattle.op_lang.proofs.Single.{close_took}
 use Rattle.op_lang.proofs.values.close.Goals as goal
 
 pub returns-in_err-take-clause-moves : goal.returns-in_err-take-clause-moves
-returns-in_err-take-clause-moves c = λ outer h. exits (w.More ∷ []) _ _ _ (λ x. []) _ c.from_residual.ensures.1 c.in_err-take.ensures
+returns-in_err-take-clause-moves c = λ outer h.
+    exits (w.More ∷ []) _ _ _ (λ x. []) _ c.from_residual.ensures.1 c.in_err-take.ensures
 
 pub returns-clause-moves : goal.returns-clause-moves
-returns-clause-moves c = λ outer h more. (close_took _ _ _ _ outer h c.in_ok-take.ensures).moves more
+returns-clause-moves c = λ outer h more. (close_took _ _ _ _ outer h c.in_ok-take.ensures).moves
+    more

@@ -6,6 +6,7 @@ use Rattle.op_print.proofs.lists.put_more_arguments.Given as goal
 
 abbrev pub invariant-loop-arg : goal.invariant-loop-arg
 invariant-loop-arg l = record {
-  written : l.out.items ≡ l.fn.out.items ++ flat_map (behind_comma spelled) (take l.arg-index l.args);
+  written : l.out.items ≡ l.fn.out.items ++ flat_map (behind_comma spelled)
+      (take l.arg-index l.args);
   named : Each IsName (take l.arg-index l.args);
 }

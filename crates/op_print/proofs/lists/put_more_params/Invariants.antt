@@ -6,6 +6,7 @@ use Rattle.op_print.proofs.lists.put_more_params.Given as goal
 
 abbrev pub invariant-loop-param : goal.invariant-loop-param
 invariant-loop-param l = record {
-  written : l.out.items ≡ l.fn.out.items ++ flat_map (behind_comma param_text) (take l.param-index l.params);
+  written : l.out.items ≡ l.fn.out.items ++ flat_map (behind_comma param_text)
+      (take l.param-index l.params);
   named : Each HasParam (take l.param-index l.params);
 }

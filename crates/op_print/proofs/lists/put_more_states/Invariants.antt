@@ -6,6 +6,7 @@ use Rattle.op_print.proofs.lists.put_more_states.Given as goal
 
 abbrev pub invariant-loop-state : goal.invariant-loop-state
 invariant-loop-state l = record {
-  written : l.out.items ≡ l.fn.out.items ++ flat_map (behind_comma state_text) (take l.state-index l.states);
+  written : l.out.items ≡ l.fn.out.items ++ flat_map (behind_comma state_text)
+      (take l.state-index l.states);
   named : Each HasState (take l.state-index l.states);
 }

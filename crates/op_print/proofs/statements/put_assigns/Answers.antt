@@ -5,4 +5,6 @@ use Rattle.op_print.proofs.statements.put_assigns.Goals as goal
 
 pub returns-clause-names : goal.returns-clause-names
 returns-clause-names c =
-    each_mapped HasEquation equation c.args.assigns.now (each_all (λ a. HasEquation (equation a)) c.args.assigns.now c.loop-assign.assign-index c.loop-assign-test.false c.loop-assign.invariant.named)
+    each_mapped HasEquation equation c.args.assigns.now
+    (each_all (λ a. HasEquation (equation a)) c.args.assigns.now c.loop-assign.assign-index
+    c.loop-assign-test.false c.loop-assign.invariant.named)

@@ -5,4 +5,6 @@ use Rattle.op_print.proofs.statements.put_body.Goals as goal
 
 pub returns-clause-names : goal.returns-clause-names
 returns-clause-names c =
-    each_mapped HasStatement statement c.args.body.now (each_all (λ a. HasStatement (statement a)) c.args.body.now c.loop-stmt.stmt-index c.loop-stmt-test.false c.loop-stmt.invariant.named)
+    each_mapped HasStatement statement c.args.body.now
+    (each_all (λ a. HasStatement (statement a)) c.args.body.now c.loop-stmt.stmt-index
+    c.loop-stmt-test.false c.loop-stmt.invariant.named)

@@ -7,6 +7,7 @@ use Rattle.op_print.proofs.statements.put_body.Given as goal
 
 abbrev pub invariant-loop-stmt : goal.invariant-loop-stmt
 invariant-loop-stmt l = record {
-  written : l.out.items ≡ l.fn.out.items ++ flat_map statement_lines (map statement (take l.stmt-index l.body));
+  written : l.out.items ≡ l.fn.out.items ++ flat_map statement_lines
+      (map statement (take l.stmt-index l.body));
   named : Each (λ s. HasStatement (statement s)) (take l.stmt-index l.body);
 }

@@ -7,6 +7,7 @@ use Rattle.op_print.proofs.statements.put_lets.Given as goal
 
 abbrev pub invariant-loop-assign : goal.invariant-loop-assign
 invariant-loop-assign l = record {
-  written : l.out.items ≡ l.fn.out.items ++ flat_map (λ e. line (codes "    ") (let_text e)) (map equation (take l.assign-index l.lets));
+  written : l.out.items ≡ l.fn.out.items ++ flat_map (λ e. line (codes "    ") (let_text e))
+      (map equation (take l.assign-index l.lets));
   named : Each (λ a. HasEquation (equation a)) (take l.assign-index l.lets);
 }

@@ -5,4 +5,6 @@ use Rattle.op_rules.proofs.trees.see_assigns.Goals as goal
 
 pub returns : goal.returns
 returns c =
-    each_mapped HasEquation equation c.args.assigns.now (each_all (λ x. HasEquation (equation x)) c.args.assigns.now c.loop-assign.assign-index c.loop-assign-test.false c.loop-assign.invariant)
+    each_mapped HasEquation equation c.args.assigns.now
+    (each_all (λ x. HasEquation (equation x)) c.args.assigns.now c.loop-assign.assign-index
+    c.loop-assign-test.false c.loop-assign.invariant)

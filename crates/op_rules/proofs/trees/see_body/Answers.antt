@@ -5,4 +5,6 @@ use Rattle.op_rules.proofs.trees.see_body.Goals as goal
 
 pub returns : goal.returns
 returns c =
-    each_mapped HasStatement statement c.args.body.now (each_all (λ x. HasStatement (statement x)) c.args.body.now c.loop-stmt.stmt-index c.loop-stmt-test.false c.loop-stmt.invariant)
+    each_mapped HasStatement statement c.args.body.now
+    (each_all (λ x. HasStatement (statement x)) c.args.body.now c.loop-stmt.stmt-index
+    c.loop-stmt-test.false c.loop-stmt.invariant)

@@ -5,4 +5,6 @@ use Rattle.op_rules.proofs.trees.see_ops.Goals as goal
 
 pub returns : goal.returns
 returns c =
-    each_mapped HasOperation operation c.args.ops.now (each_all (λ x. HasOperation (operation x)) c.args.ops.now c.loop-op.op-index c.loop-op-test.false c.loop-op.invariant)
+    each_mapped HasOperation operation c.args.ops.now
+    (each_all (λ x. HasOperation (operation x)) c.args.ops.now c.loop-op.op-index
+    c.loop-op-test.false c.loop-op.invariant)

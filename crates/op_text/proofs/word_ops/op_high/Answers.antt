@@ -7,4 +7,5 @@ pub returns-in-Some : goal.returns-in-Some
 returns-in-Some c = sym (found ops_2 ops_3 c.args.name.now c.in-Some.op (sym c.in-Some.ensures))
 
 pub returns-in-None : goal.returns-in-None
-returns-in-None c = c.op_3.ensures ∙ sym (not_found ops_2 ops_3 c.args.name.now (sym c.in-None.ensures))
+returns-in-None c =
+    c.op_3.ensures ∙ sym (not_found ops_2 ops_3 c.args.name.now (sym c.in-None.ensures))

@@ -7,4 +7,5 @@ pub returns-in-Some : goal.returns-in-Some
 returns-in-Some c = sym (found ops_0 ops_1 c.args.name.now c.in-Some.op (sym c.in-Some.ensures))
 
 pub returns-in-None : goal.returns-in-None
-returns-in-None c = c.op_1.ensures ∙ sym (not_found ops_0 ops_1 c.args.name.now (sym c.in-None.ensures))
+returns-in-None c =
+    c.op_1.ensures ∙ sym (not_found ops_0 ops_1 c.args.name.now (sym c.in-None.ensures))

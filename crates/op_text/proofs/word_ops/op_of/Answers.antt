@@ -4,7 +4,9 @@ use Rattle.op_text.proofs.Operations.{found, not_found}
 use Rattle.op_text.proofs.word_ops.op_of.Goals as goal
 
 pub returns-in-Some : goal.returns-in-Some
-returns-in-Some c = sym (found (ops_0 ++ ops_1) (ops_2 ++ ops_3) c.args.name.now c.in-Some.op (sym c.in-Some.ensures))
+returns-in-Some c = sym (found (ops_0 ++ ops_1) (ops_2 ++ ops_3) c.args.name.now c.in-Some.op
+    (sym c.in-Some.ensures))
 
 pub returns-in-None : goal.returns-in-None
-returns-in-None c = c.op_high.ensures ∙ sym (not_found (ops_0 ++ ops_1) (ops_2 ++ ops_3) c.args.name.now (sym c.in-None.ensures))
+returns-in-None c = c.op_high.ensures ∙ sym (not_found (ops_0 ++ ops_1) (ops_2
+    ++ ops_3) c.args.name.now (sym c.in-None.ensures))

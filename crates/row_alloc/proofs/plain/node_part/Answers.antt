@@ -12,9 +12,13 @@ loop-k-preserved c =
     let order = rw same at c.arranged-n.ensures.order in
     let lower = rw same at c.arranged-n.ensures.lower in record {
       prepares = λ outs. rw (c.in_ok-push_node.ensures, c.inputs.ensures.inputs)
-          (prepares-node c.args.m.now outs c.loop-k.k c.loop-k.cmds.items c.arranged-n.result (c.loop-k.invariant.prepares outs) c.inputs.ensures.graph l small order lower c.arranged-n.ensures.b c.arranged-n.ensures.c);
+          (prepares-node c.args.m.now outs c.loop-k.k c.loop-k.cmds.items c.arranged-n.result
+          (c.loop-k.invariant.prepares outs) c.inputs.ensures.graph l small order lower
+          c.arranged-n.ensures.b c.arranged-n.ensures.c);
       count = rw c.in_ok-push_node.ensures (grind (arith, common_steps, c.loop-k.invariant.count));
     }
 
 pub returns-clause-prepares : goal.returns-clause-prepares
-returns-clause-prepares c = λ outs. let e : c.loop-k.k ≡ length c.args.m.now.nodes = omega arith in let P : ℕ → Type 0 = λ n. Prepares c.args.m.now outs n 0 c.loop-k.cmds.items in subst P e (c.loop-k.invariant.prepares outs)
+returns-clause-prepares c = λ outs. let e : c.loop-k.k ≡ length c.args.m.now.nodes = omega arith in
+    let P : ℕ → Type 0 = λ n. Prepares c.args.m.now outs n 0 c.loop-k.cmds.items in
+    subst P e (c.loop-k.invariant.prepares outs)

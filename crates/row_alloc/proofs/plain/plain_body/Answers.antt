@@ -13,10 +13,22 @@ at-most-three false = omega arith
 
 outputs-bound : (outs : List OutRow) → sum_by output_length outs ≤ 3 * length outs
 outputs-bound [] = omega arith
-outputs-bound (o ∷ outs) = omega (arith, sum_by-cons output_length o outs, at-most-three (is_turned o.lit), outputs-bound outs)
+outputs-bound (o ∷ outs) = omega (
+  arith,
+  sum_by-cons output_length o outs,
+  at-most-three (is_turned o.lit),
+  outputs-bound outs,
+)
 
 pub stash_part-requires-clause-nodes : goal.stash_part-requires-clause-nodes
 stash_part-requires-clause-nodes c = c.in_ok-cmds.ensures.prepares c.args.outs.now
 
 pub returns-clause-count : goal.returns-clause-count
-returns-clause-count c = IfOk-weaker c.write_part.result _ _ (λ cmds e. omega (arith, e, c.in_ok-cmds-2.ensures.count, c.in_ok-cmds.ensures.count, outputs-bound c.args.outs.now)) c.write_part.ensures.count
+returns-clause-count c = IfOk-weaker c.write_part.result _ _ (λ cmds e.
+    omega (
+      arith,
+      e,
+      c.in_ok-cmds-2.ensures.count,
+      c.in_ok-cmds.ensures.count,
+      outputs-bound c.args.outs.now,
+    )) c.write_part.ensures.count

@@ -8,5 +8,6 @@ use Rattle.row_alloc.proofs.plain.stash_part.Given as goal
 abbrev pub invariant-loop-j : goal.invariant-loop-j
 invariant-loop-j l = record {
   prepares : Prepares l.m l.outs (length l.m.nodes) l.j l.cmds.items;
-  count : length l.cmds.items + l.j ≡ length l.fn.cmds.items + sum_by output_length (take l.j l.outs);
+  count : length l.cmds.items + l.j ≡ length l.fn.cmds.items
+      + sum_by output_length (take l.j l.outs);
 }

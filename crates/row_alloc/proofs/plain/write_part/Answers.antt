@@ -11,7 +11,9 @@ use Rattle.row_alloc.proofs.Late.{writes-late}
 use Rattle.row_alloc.proofs.Sequence.{writes-none, writes-more, does-written}
 use Rattle.row_alloc.proofs.plain.write_part.Goals as goal
 
-next : (g : Graph) (outs : List OutRow) (m k : ℕ) (cmds more : List BodyCmd) → more ≡ cmds ++ Aap (Spill k) (Out m) ∷ [] → k ≡ length g.nodes + m → Writes g outs m cmds → FitBody g outs → m < length outs → Writes g outs (m + 1) more
+next : (g : Graph) (outs : List OutRow) (m k : ℕ) (cmds more : List BodyCmd)
+    → more ≡ cmds ++ Aap (Spill k) (Out m) ∷ [] → k ≡ length g.nodes + m → Writes g outs m cmds
+    → FitBody g outs → m < length outs → Writes g outs (m + 1) more
 next g outs m k cmds more e h so fit l = rw (e, h) (writes-more g outs m cmds so fit l)
 
 pub loop-j-init : goal.loop-j-init
@@ -22,12 +24,17 @@ loop-j-init c = record {
 
 pub loop-j-preserved : goal.loop-j-preserved
 loop-j-preserved c = record {
-  writes = next c.args.m.now c.args.outs.now c.loop-j.j _ c.loop-j.cmds.items _ c.in_ok-push.ensures (omega arith) c.loop-j.invariant.writes c.requires.fit (omega arith);
+  writes = next c.args.m.now c.args.outs.now c.loop-j.j _ c.loop-j.cmds.items _ c.in_ok-push.ensures
+      (omega arith) c.loop-j.invariant.writes c.requires.fit (omega arith);
   count = rw c.in_ok-push.ensures (grind (arith, common_steps, c.loop-j.invariant.count));
 }
 
 pub returns-clause-does : goal.returns-clause-does
-returns-clause-does c = let e : c.loop-j.j ≡ length c.args.outs.now = omega arith in let P : ℕ → Type 0 = λ n. Writes c.args.m.now c.args.outs.now n c.loop-j.cmds.items in does-written c.args.m.now c.args.outs.now c.loop-j.cmds.items (subst P e c.loop-j.invariant.writes)
+returns-clause-does c = let e : c.loop-j.j ≡ length c.args.outs.now = omega arith in let P : ℕ
+    → Type 0 = λ n. Writes c.args.m.now c.args.outs.now n c.loop-j.cmds.items in
+    does-written c.args.m.now c.args.outs.now c.loop-j.cmds.items
+    (subst P e c.loop-j.invariant.writes)
 
 pub returns-clause-late : goal.returns-clause-late
-returns-clause-late c = writes-late c.args.outs.now c.loop-j.cmds.items c.loop-j.invariant.writes.parts
+returns-clause-late c = writes-late c.args.outs.now c.loop-j.cmds.items
+    c.loop-j.invariant.writes.parts

@@ -7,4 +7,5 @@ use Rattle.sim_machine.proofs.bbop.entry_named.Given as goal
 -- the entry is among those that are left
 abbrev pub invariant-loop-entry : goal.invariant-loop-entry
 invariant-loop-entry l =
-    find (λ m. bytes_eq m.name l.op) (map microprogram_of (drop l.entry-index l.entries)) ≡ find (λ m. bytes_eq m.name l.op) (map microprogram_of l.entries)
+    find (λ m. bytes_eq m.name l.op) (map microprogram_of (drop l.entry-index l.entries))
+    ≡ find (λ m. bytes_eq m.name l.op) (map microprogram_of l.entries)

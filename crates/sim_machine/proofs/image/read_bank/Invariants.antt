@@ -14,7 +14,8 @@ invariant-loop-row g l = let D = g.D.Dram in record {
   banks : D.banks l.dram ≡ D.banks l.initial.dram;
   counters : D.counters l.dram ≡ with_reads l.row (D.counters l.initial.dram);
   log : Grew (D.log l.initial.dram) (D.log l.dram) [];
-  file : l.file.items ≡ l.initial.file.items ++ bank_bytes l.fn.g (D.banks l.initial.dram) l.bank l.row;
+  file : l.file.items ≡ l.initial.file.items ++ bank_bytes l.fn.g (D.banks l.initial.dram) l.bank
+      l.row;
   len : vec_len l.file ≡ vec_len l.initial.file + l.row * (8 * l.fn.g.words);
   capacity : vec_capacity l.initial.file ≤ vec_capacity l.file;
 }

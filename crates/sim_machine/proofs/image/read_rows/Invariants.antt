@@ -16,7 +16,8 @@ invariant-loop-bank g l = let D = g.D.Dram in record {
   banks : D.banks l.dram ≡ D.banks l.initial.dram;
   counters : D.counters l.dram ≡ with_reads (l.bank * l.g.rows) (D.counters l.initial.dram);
   log : Grew (D.log l.initial.dram) (D.log l.dram) [];
-  file : l.file.items ≡ l.initial.file.items ++ flat_map (λ bank. bank_bytes l.g (D.banks l.initial.dram) bank l.g.rows) (range_with_len 0 l.bank);
+  file : l.file.items ≡ l.initial.file.items ++ flat_map
+      (λ bank. bank_bytes l.g (D.banks l.initial.dram) bank l.g.rows) (range_with_len 0 l.bank);
   len : vec_len l.file ≡ vec_len l.initial.file + l.bank * (l.g.rows * (8 * l.g.words));
   capacity : vec_capacity l.initial.file ≤ vec_capacity l.file;
 }

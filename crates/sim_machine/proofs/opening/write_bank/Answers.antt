@@ -15,5 +15,7 @@ loop-row-preserved g c =
       stage = grind (arith, common_steps);
       faults = grind (arith, common_steps);
       writes = grind (arith, common_steps);
-      did = next_row (λ row. Write c.args.bank row (rows_in c.args.g c.args.rows.now c.args.bank row)) c.loop-row.row _ _ _ c.loop-row.invariant.did here;
+      did = next_row (λ row. Write c.args.bank row
+          (rows_in c.args.g c.args.rows.now c.args.bank row)) c.loop-row.row _ _ _
+          c.loop-row.invariant.did here;
     }

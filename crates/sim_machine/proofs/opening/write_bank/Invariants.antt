@@ -15,5 +15,6 @@ invariant-loop-row g l = let D = g.D.Dram in record {
   faults : D.faults l.initial.dram ≤ D.faults l.dram;
   writes : (D.counters l.dram).writes ≡ (D.counters l.initial.dram).writes + l.row;
   did : Did (map (λ row. Write l.bank row (rows_in l.g l.rows l.bank row)) (range_with_len 0 l.row))
-      (shown (D.banks l.initial.dram) (D.counters l.initial.dram) (D.log l.initial.dram)) (shown (D.banks l.dram) (D.counters l.dram) (D.log l.dram));
+      (shown (D.banks l.initial.dram) (D.counters l.initial.dram) (D.log l.initial.dram))
+      (shown (D.banks l.dram) (D.counters l.dram) (D.log l.dram));
 }

@@ -12,5 +12,6 @@ loop-bank-preserved g c = record {
   stage = grind (arith, common_steps);
   faults = grind (arith, common_steps);
   writes = grind (arith, common_steps);
-  did = next_bank (bank_writes c.args.g c.args.rows.now) c.loop-bank.bank _ _ _ c.loop-bank.invariant.did c.in_ok-write_bank.ensures.did;
+  did = next_bank (bank_writes c.args.g c.args.rows.now) c.loop-bank.bank _ _ _
+      c.loop-bank.invariant.did c.in_ok-write_bank.ensures.did;
 }

@@ -15,5 +15,6 @@ invariant-loop-bank g l = let D = g.D.Dram in record {
   faults : D.faults l.initial.dram ≤ D.faults l.dram;
   writes : (D.counters l.dram).writes ≤ l.bank * 65536;
   did : Did (flat_map (bank_writes l.g l.rows) (range_with_len 0 l.bank))
-      (shown (D.banks l.initial.dram) (D.counters l.initial.dram) (D.log l.initial.dram)) (shown (D.banks l.dram) (D.counters l.dram) (D.log l.dram));
+      (shown (D.banks l.initial.dram) (D.counters l.initial.dram) (D.log l.initial.dram))
+      (shown (D.banks l.dram) (D.counters l.dram) (D.log l.dram));
 }

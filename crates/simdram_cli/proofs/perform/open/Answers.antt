@@ -5,4 +5,5 @@ use Rattle.simdram_cli.proofs.Tallies.{opened_counted}
 use Rattle.simdram_cli.proofs.perform.open.Goals as goal
 
 pub returns-in-Ok-clause-counters : goal.returns-in-Ok-clause-counters
-returns-in-Ok-clause-counters g c = c.in-Ok.ensures.counters ∙ opened_counted (image_found (found_in c.args.image))
+returns-in-Ok-clause-counters g c = c.in-Ok.ensures.counters
+    ∙ opened_counted (image_found (found_in c.args.image))

@@ -8,5 +8,7 @@ returns g c = record {
       (world (g.F.Folder.view c.args.files.now) (g.S.Sink.view c.args.out.now) chip)
       (world (g.F.Folder.view c.show-ended.new.files) (g.S.Sink.view c.show-ended.new.out) chip)
       (world (g.F.Folder.view c.show-ended.new.files) (g.S.Sink.view c.answer.new.out) chip)
-      c.show-ended.result c.answer.result (c.show-ended.ensures.goes chip) (c.answer.ensures.tells (g.F.Folder.view c.show-ended.new.files) chip) c.answer.ensures.status;
+      c.show-ended.result c.answer.result (c.show-ended.ensures.goes chip)
+      (c.answer.ensures.tells (g.F.Folder.view c.show-ended.new.files) chip)
+      c.answer.ensures.status;
 }

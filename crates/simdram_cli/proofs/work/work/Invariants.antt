@@ -12,6 +12,7 @@ use Rattle.cli_model.specs.Steps.{Goes, End}
 use Rattle.sim_machine.specs.Did.{Did, Shown, shown}
 use Rattle.sim_machine.specs.Machine.{geometry_of, program_of, table_in}
 use Rattle.simdram_cli.specs.Run.{line_steps}
+use Rattle.uprog_code.specs.declared.TheConstants.{WALK_MAX}
 use Rattle.simdram_cli.proofs.work.work.Given as goal
 
 -- what goes on from here goes as the whole
@@ -22,7 +23,8 @@ invariant-loop-instr g l =
     let shape = geometry_of l.initial.machine in
     let operations = operations_in (program_of l.initial.machine) in
     let table = table_in l.initial.machine in
-    let start = shown (g.D.Dram.banks l.initial.chip) (g.D.Dram.counters l.initial.chip) (g.D.Dram.log l.initial.chip) in
+    let start = shown (g.D.Dram.banks l.initial.chip) (g.D.Dram.counters l.initial.chip)
+    (g.D.Dram.log l.initial.chip) in
     let now = shown (g.D.Dram.banks l.chip) (g.D.Dram.counters l.chip) (g.D.Dram.log l.chip) in
     record {
       number : l.number ≡ l.instr-index;
@@ -32,14 +34,20 @@ invariant-loop-instr g l =
       geometry : g.D.Dram.geometry l.chip ≡ g.D.Dram.geometry l.initial.chip;
       faults : g.D.Dram.faults l.initial.chip ≤ g.D.Dram.faults l.chip;
       sink_faults : (g.S.Sink.view l.initial.out).faults ≤ (g.S.Sink.view l.out).faults;
-      aap : (g.D.Dram.counters l.chip).aap ≤ 268435456 * l.instr-index;
-      ap : (g.D.Dram.counters l.chip).ap ≤ 268435456 * l.instr-index;
+      aap : (g.D.Dram.counters l.chip).aap ≤ 16 * WALK_MAX * l.instr-index;
+      ap : (g.D.Dram.counters l.chip).ap ≤ 16 * WALK_MAX * l.instr-index;
       few : l.refused ≤ l.instr-index;
       bbops : AllByRecursion (λ i. is_bbop i ≡ true) rest;
       plain : AllByRecursion IsPlain rest;
-      did : (new : Shown) → Did (script_events shape operations table rest) now new → Did (script_events shape operations table script) start new;
-      refused_so_far : l.refused + count_by is_refused (replies shape operations table rest) ≡ count_by is_refused (replies shape operations table script);
+      did : (new : Shown) → Did (script_events shape operations table rest) now new
+          → Did (script_events shape operations table script) start new;
+      refused_so_far : l.refused + count_by is_refused (replies shape operations table rest)
+          ≡ count_by is_refused (replies shape operations table script);
       goes : (files : FolderView) (end : End) (w : World)
-          → Goes (line_steps (l.number + 1) (said_in_rows shape operations table (g.D.Dram.banks l.chip) rest)) end (world files (g.S.Sink.view l.out) (g.D.Dram.faults l.chip)) w
-          → Goes (line_steps 1 (said_in_rows shape operations table (g.D.Dram.banks l.initial.chip) script)) end (world files (g.S.Sink.view l.initial.out) (g.D.Dram.faults l.initial.chip)) w;
+          → Goes (line_steps (l.number + 1) (said_in_rows shape operations table
+          (g.D.Dram.banks l.chip) rest)) end
+          (world files (g.S.Sink.view l.out) (g.D.Dram.faults l.chip)) w
+          → Goes (line_steps 1 (said_in_rows shape operations table (g.D.Dram.banks l.initial.chip)
+          script)) end (world files (g.S.Sink.view l.initial.out)
+          (g.D.Dram.faults l.initial.chip)) w;
     }

@@ -6,7 +6,9 @@ use Rattle.dram_model.specs.declared.geometry.Geometry.{Geometry}
 use Rattle.dram_model.specs.Chip.{Banks, row_in}
 use Rattle.dram_model.specs.Elements.{column_count}
 use Rattle.transpose_unit.proofs.Columns.{rows_more, columns_read, one_row}
+use Rattle.transpose_unit.specs.Stage.{stage_rows}
 use Rattle.transpose_unit.proofs.Events.{more_reads}
+use Rattle.transpose_unit.proofs.Rows.{rows-enough}
 use Rattle.transpose_unit.proofs.read.read_segment.Goals as goal
 
 pub loop-k-preserved : goal.loop-k-preserved
@@ -15,11 +17,18 @@ loop-k-preserved g c =
     let kept = c.loop-k.invariant in
     let words : ℕ = c.args.g.words in
     let start : ℕ = c.from.result * c.from-words.result in
-    let at : c.from.result * c.from-words.result ≡ c.loop-k.k * c.args.g.words = rw (c.from.ensures, c.from-words.ensures) refl in
-    let next : c.loop-k.k + 1 ≤ 64 = omega arith in
-    let inside : c.loop-k.k * c.args.g.words + c.args.g.words ≤ 64 * c.args.g.words = one_row c.loop-k.k c.args.g.words next in
-    let read : bits_of_words c.read_row.new.out ≡ row_in (c.args.base + c.loop-k.k) (dram.banks c.args.dram.now c.args.bank) =
-    c.in_ok-read_row.ensures.read ∙ ap (λ (n : ℕ). row_in (c.args.base + n) (dram.banks c.loop-k.dram c.args.bank)) c.from-in-loop-k.ensures
+    let at : c.from.result * c.from-words.result ≡ c.loop-k.k * c.args.g.words =
+    rw (c.from.ensures, c.from-words.ensures) refl in
+    let next : c.loop-k.k + 1 ≤ stage_rows c.args.n =
+    omega (arith, rows-enough c.args.n c.requires.narrow) in
+    let inside : c.loop-k.k * c.args.g.words + c.args.g.words
+    ≤ stage_rows c.args.n * c.args.g.words =
+    one_row c.loop-k.k c.args.g.words (stage_rows c.args.n) next in
+    let read : bits_of_words c.read_row.new.out
+    ≡ row_in (c.args.base + c.loop-k.k) (dram.banks c.args.dram.now c.args.bank) =
+    c.in_ok-read_row.ensures.read
+    ∙ ap (λ (n : ℕ). row_in (c.args.base + n) (dram.banks c.loop-k.dram c.args.bank))
+    c.from-in-loop-k.ensures
     ∙ ap (λ (banks : Banks). row_in (c.args.base + c.loop-k.k) (banks c.args.bank)) kept.banks in
     record {
       begun = c.in_ok-read_row.ensures.begun;
@@ -27,13 +36,38 @@ loop-k-preserved g c =
       geometry = c.in_ok-read_row.ensures.geometry ∙ kept.geometry;
       faults = omega (arith, c.in_ok-read_row.ensures.faults, kept.faults);
       banks = c.in_ok-read_row.ensures.banks ∙ kept.banks;
-      counters = more_reads (dram.counters c.args.dram.now) (dram.counters c.loop-k.dram) (dram.counters c.read_row.new.self) c.loop-k.k kept.counters c.in_ok-read_row.ensures.counters;
-      log = Grew-more (dram.log c.args.dram.now) (dram.log c.loop-k.dram) (dram.log c.read_row.new.self) [] [] kept.log c.in_ok-read_row.ensures.log;
-      rows = rows_more words c.loop-k.k start c.loop-k.stage c.read_row.new.out (post_of start (start + c.from-words.result - start) c.loop-k.stage) (λ k. row_in (c.args.base + k) (dram.banks c.args.dram.now c.args.bank)) at (omega (arith, at, inside)) (omega arith) read kept.rows;
+      counters = more_reads (dram.counters c.args.dram.now) (dram.counters c.loop-k.dram)
+          (dram.counters c.read_row.new.self) c.loop-k.k kept.counters
+          c.in_ok-read_row.ensures.counters;
+      log = Grew-more (dram.log c.args.dram.now) (dram.log c.loop-k.dram)
+          (dram.log c.read_row.new.self) [] [] kept.log c.in_ok-read_row.ensures.log;
+      rows = rows_more words c.loop-k.k start c.loop-k.stage c.read_row.new.out
+          (post_of start (start + c.from-words.result - start) c.loop-k.stage) (λ k.
+          row_in (c.args.base + k) (dram.banks c.args.dram.now c.args.bank)) at
+          (omega (arith, at, inside, c.requires.stage)) (omega arith) read kept.rows;
     }
 
 pub returns-clause-numbers : goal.returns-clause-numbers
 returns-clause-numbers g c =
     let dram = g.D.Dram in
-    let width = g.met.D.Dram.width c.args.dram.now c.requires.begun c.args.bank (omega (arith, ap (λ (x : Geometry). x.banks) c.requires.geometry, c.requires.bank)) in
-    columns_read c.args.g.words c.args.base c.args.n (column_count c.args.g) c.loop-k.stage (dram.banks c.args.dram.now c.args.bank) (width ∙ ap (λ (x : Geometry). 64 * x.words) c.requires.geometry) (λ k l. c.loop-k.invariant.rows k (omega arith))
+    let width = g.met.D.Dram.width c.args.dram.now c.requires.begun c.args.bank
+    (omega (arith, ap (λ (x : Geometry). x.banks) c.requires.geometry, c.requires.bank)) in
+    columns_read c.args.g.words c.args.base c.args.n (column_count c.args.g) c.loop-k.stage
+    (dram.banks c.args.dram.now c.args.bank) (width
+    ∙ ap (λ (x : Geometry). 64 * x.words) c.requires.geometry) (λ k l.
+    c.loop-k.invariant.rows k (omega arith))
+
+pub slice_bounds-read_row-end : goal.slice_bounds-read_row-end
+slice_bounds-read_row-end g c =
+    let at : c.from.result * c.from-words.result ≡ c.loop-k.k * c.args.g.words =
+    rw (c.from.ensures, c.from-words.ensures) refl in
+    let next : c.loop-k.k + 1 ≤ stage_rows c.args.n =
+    omega (arith, rows-enough c.args.n c.requires.narrow) in
+    omega (
+      arith,
+      at,
+      c.from-words.ensures,
+      one_row c.loop-k.k c.args.g.words (stage_rows c.args.n)
+          next,
+      c.requires.stage,
+    )

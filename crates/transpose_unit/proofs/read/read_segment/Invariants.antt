@@ -12,7 +12,9 @@ invariant-loop-k g l = let dram = g.D.Dram in record {
   geometry : dram.geometry l.dram ≡ l.fn.g;
   faults : dram.faults l.fn.dram ≤ dram.faults l.dram;
   banks : dram.banks l.dram ≡ dram.banks l.fn.dram;
-  counters : dram.counters l.dram ≡ record (dram.counters l.fn.dram) { reads = (dram.counters l.fn.dram).reads + l.k };
+  counters : dram.counters l.dram ≡ record (dram.counters l.fn.dram)
+      { reads = (dram.counters l.fn.dram).reads + l.k };
   log : Grew (dram.log l.fn.dram) (dram.log l.dram) [];
-  rows : (j : ℕ) → j < l.k → bits_of_words (stage_row l.fn.g.words l.stage j) ≡ row_in (l.base + j) (dram.banks l.fn.dram l.bank);
+  rows : (j : ℕ) → j < l.k → bits_of_words (stage_row l.fn.g.words l.stage j)
+      ≡ row_in (l.base + j) (dram.banks l.fn.dram l.bank);
 }

@@ -1,10 +1,14 @@
-use Rattle.std.proofs.Common.{◌≡◌, ℕ, ◌+◌, ◌-◌, ◌*◌, ◌∷◌, [], List, take, drop, ap, ◌∙◌, arith, refl}
+use Rattle.std.proofs.Common.{◌≡◌, ℕ, ◌+◌, ◌-◌, ◌*◌, ◌∷◌, [], ◌≤◌, List, take, drop, ap, ◌∙◌, arith}
+use Rattle.std.proofs.Common.{refl}
 use Rattle.bit_rows.specs.Bits.{bits_of_words}
 use Rattle.dram_model.specs.Chip.{Banks, Event}
 use Rattle.dram_model.specs.Chip.Event.{Write}
 use Rattle.dram_model.specs.Events.{Grew-more}
-use Rattle.transpose_unit.specs.Stage.{stage_events, stage_row}
-use Rattle.transpose_unit.proofs.Events.{on_err_always, stage_more, after_one, more_writes, stage_others, part_is}
+use Rattle.transpose_unit.specs.Stage.{stage_events, stage_row, stage_rows}
+use Rattle.transpose_unit.proofs.Columns.{one_row}
+use Rattle.transpose_unit.proofs.Rows.{rows-enough}
+use Rattle.transpose_unit.proofs.Events.{on_err_always, stage_more, after_one, more_writes}
+use Rattle.transpose_unit.proofs.Events.{stage_others, part_is}
 use Rattle.transpose_unit.proofs.write.write_rows.Goals as goal
 
 pub loop-k-preserved : goal.loop-k-preserved
@@ -17,9 +21,14 @@ loop-k-preserved g c =
     let part : List ℕ = take (start + c.from-words.result - start) (drop start c.args.stage.now) in
     let row : ℕ = c.args.base + c.from-in-loop-k.result in
     let so_far : List Event = stage_events words c.args.bank c.args.base k c.args.stage.now in
-    let at : c.from.result * c.from-words.result ≡ c.loop-k.k * c.args.g.words = rw (c.from.ensures, c.from-words.ensures) refl in
-    let is : take (c.from.result * c.from-words.result + c.from-words.result - c.from.result * c.from-words.result) (drop (c.from.result * c.from-words.result) c.args.stage.now) ≡ stage_row c.args.g.words c.args.stage.now c.loop-k.k = part_is words k start c.from-words.result c.args.stage.now at c.from-words.ensures in
-    let place : c.args.base + c.from-in-loop-k.result ≡ c.args.base + c.loop-k.k = ap (λ (n : ℕ). c.args.base + n) c.from-in-loop-k.ensures in
+    let at : c.from.result * c.from-words.result ≡ c.loop-k.k * c.args.g.words =
+    rw (c.from.ensures, c.from-words.ensures) refl in
+    let is : take (c.from.result * c.from-words.result + c.from-words.result - c.from.result
+    * c.from-words.result) (drop (c.from.result * c.from-words.result) c.args.stage.now)
+    ≡ stage_row c.args.g.words c.args.stage.now c.loop-k.k =
+    part_is words k start c.from-words.result c.args.stage.now at c.from-words.ensures in
+    let place : c.args.base + c.from-in-loop-k.result ≡ c.args.base + c.loop-k.k =
+    ap (λ (n : ℕ). c.args.base + n) c.from-in-loop-k.ensures in
     let more = stage_more words c.args.bank c.args.base k row c.args.stage.now part place is in
     let event : Event = Write c.args.bank row (bits_of_words part) in
     record {
@@ -27,13 +36,34 @@ loop-k-preserved g c =
       borrow = c.in_ok-write_row.ensures.borrow ∙ kept.borrow;
       geometry = c.in_ok-write_row.ensures.geometry ∙ kept.geometry;
       faults = omega (arith, c.in_ok-write_row.ensures.faults, kept.faults);
-      banks = after_one so_far _ event (dram.banks c.args.dram.now) (dram.banks c.loop-k.dram) (dram.banks c.write_row.new.self) more kept.banks c.in_ok-write_row.ensures.banks;
-      counters = more_writes (dram.counters c.args.dram.now) (dram.counters c.loop-k.dram) (dram.counters c.write_row.new.self) c.loop-k.k kept.counters c.in_ok-write_row.ensures.counters;
-      log = rw more (Grew-more (dram.log c.args.dram.now) (dram.log c.loop-k.dram) (dram.log c.write_row.new.self) so_far (event ∷ []) kept.log c.in_ok-write_row.ensures.log);
+      banks = after_one so_far _ event (dram.banks c.args.dram.now) (dram.banks c.loop-k.dram)
+          (dram.banks c.write_row.new.self) more kept.banks c.in_ok-write_row.ensures.banks;
+      counters = more_writes (dram.counters c.args.dram.now) (dram.counters c.loop-k.dram)
+          (dram.counters c.write_row.new.self) c.loop-k.k kept.counters
+          c.in_ok-write_row.ensures.counters;
+      log = rw more (Grew-more (dram.log c.args.dram.now) (dram.log c.loop-k.dram)
+          (dram.log c.write_row.new.self) so_far (event
+          ∷ []) kept.log c.in_ok-write_row.ensures.log);
     }
 
 pub returns-in_err-write_row-clause-others : goal.returns-in_err-write_row-clause-others
 returns-in_err-write_row-clause-others g c = on_err_always c.from_residual.result (λ b ne.
     c.in_err-write_row.ensures.others b ne
     ∙ ap (λ (banks : Banks). banks b) c.loop-k.invariant.banks
-    ∙ stage_others c.args.g.words c.args.bank c.args.base c.loop-k.k c.args.stage.now (g.D.Dram.banks c.args.dram.now) b ne)
+    ∙ stage_others c.args.g.words c.args.bank c.args.base c.loop-k.k c.args.stage.now
+    (g.D.Dram.banks c.args.dram.now) b ne)
+
+pub slice_bounds-write_row-end : goal.slice_bounds-write_row-end
+slice_bounds-write_row-end g c =
+    let at : c.from.result * c.from-words.result ≡ c.loop-k.k * c.args.g.words =
+    rw (c.from.ensures, c.from-words.ensures) refl in
+    let next : c.loop-k.k + 1 ≤ stage_rows c.args.n =
+    omega (arith, rows-enough c.args.n c.requires.narrow) in
+    omega (
+      arith,
+      at,
+      c.from-words.ensures,
+      one_row c.loop-k.k c.args.g.words (stage_rows c.args.n)
+          next,
+      c.requires.stage,
+    )

@@ -10,7 +10,10 @@ invariant-loop-k g l = let dram = g.D.Dram in record {
   borrow : dram.borrow l.dram ≡ dram.borrow l.fn.dram;
   geometry : dram.geometry l.dram ≡ l.fn.g;
   faults : dram.faults l.fn.dram ≤ dram.faults l.dram;
-  banks : dram.banks l.dram ≡ after (stage_events l.fn.g.words l.bank l.base l.k l.stage) (dram.banks l.fn.dram);
-  counters : dram.counters l.dram ≡ record (dram.counters l.fn.dram) { writes = (dram.counters l.fn.dram).writes + l.k };
-  log : Grew (dram.log l.fn.dram) (dram.log l.dram) (stage_events l.fn.g.words l.bank l.base l.k l.stage);
+  banks : dram.banks l.dram ≡ after (stage_events l.fn.g.words l.bank l.base l.k l.stage)
+      (dram.banks l.fn.dram);
+  counters : dram.counters l.dram ≡ record (dram.counters l.fn.dram)
+      { writes = (dram.counters l.fn.dram).writes + l.k };
+  log : Grew (dram.log l.fn.dram) (dram.log l.dram)
+      (stage_events l.fn.g.words l.bank l.base l.k l.stage);
 }

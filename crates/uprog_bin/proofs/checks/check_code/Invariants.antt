@@ -11,5 +11,6 @@ invariant-loop-k l = record {
   next : l.place ≡ l.at + 8 * l.k;
   within : l.place ≤ length l.bytes;
   front : List Uop;
-  so_far : with_front front (uops_at (l.count - l.k) (shape_of l.head) l.count l.place l.bytes) ≡ uops_at l.count (shape_of l.head) l.count l.at l.bytes;
+  so_far : with_front front (uops_at (l.count - l.k) (shape_of l.head) l.count l.place l.bytes)
+      ≡ uops_at l.count (shape_of l.head) l.count l.at l.bytes;
 }

@@ -13,5 +13,6 @@ loop-k-preserved c =
       so_far =
           ap (λ (ks : List Kind). ks ++ left) c.push.ensures.items
           ∙ ap (λ (x : Kind). (k.kinds.items ++ x ∷ []) ++ left) c.kind_of_bit.ensures
-          ∙ kinds_more k.kinds.items c.args.count k._k k.rest (kinds_of c.args.count c.args.bits) c.loop-k-test.true k.invariant.so_far;
+          ∙ kinds_more k.kinds.items c.args.count k._k k.rest (kinds_of c.args.count c.args.bits)
+          c.loop-k-test.true k.invariant.so_far;
     }

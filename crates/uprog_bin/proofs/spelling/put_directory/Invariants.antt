@@ -7,5 +7,7 @@ use Rattle.uprog_bin.proofs.spelling.put_directory.Given as goal
 abbrev pub invariant-loop-entry : goal.invariant-loop-entry
 invariant-loop-entry l = record {
   small : l.start ≤ 65535 * l.entry-index;
-  so_far : l.out.items ++ directory_bytes l.start (map microprogram_of (drop l.entry-index l.entries)) ≡ l.fn.out.items ++ directory_bytes 0 (map microprogram_of l.entries);
+  so_far : l.out.items ++ directory_bytes l.start
+      (map microprogram_of (drop l.entry-index l.entries))
+      ≡ l.fn.out.items ++ directory_bytes 0 (map microprogram_of l.entries);
 }

@@ -7,7 +7,9 @@ use Rattle.uprog_code.specs.Shape.{Shape, shape_of}
 use Rattle.uprog_code.specs.Machine.{issue, start}
 use Rattle.uprog_code.specs.OneStep.{turn_trace, next_place}
 use Rattle.uprog_code.specs.Count.{walked, walked_after, counts_after}
-use Rattle.uprog_code.proofs.Steps.{legal_operands, trace_is, no_more, one_step, start_registers, goes_on, not_last, place_in, walked_is, counts_on, few_after, some_first, none_left}
+use Rattle.uprog_code.proofs.Steps.{legal_operands, trace_is, no_more, one_step, start_registers}
+use Rattle.uprog_code.proofs.Steps.{goes_on, not_last, place_in, walked_is, counts_on, few_after}
+use Rattle.uprog_code.proofs.Steps.{some_first, none_left}
 use Rattle.uprog_code.proofs.walker.walk.Goals as goal
 
 pub loop-k-init : goal.loop-k-init
@@ -20,35 +22,47 @@ loop-k-init g c =
       few = omega arith;
       same =
           walked_is (issue (shape_of c.head-head.result) code c.args.n WALK_MAX 0 start)
-          ∙ ap (λ (s : Shape). walked (issue s code c.args.n WALK_MAX 0 start)) c.head-head.ensures.shape
+          ∙ ap (λ (s : Shape). walked (issue s code c.args.n WALK_MAX 0 start))
+          c.head-head.ensures.shape
           ∙ ap walked (trace_is shape code c.args.n);
     }
 
 pub step-requires-clause-operands : goal.step-requires-clause-operands
 step-requires-clause-operands g c =
-    let code = g.F.Fetch.code c.args.code.now in
-    (length code, legal_operands (g.F.Fetch.shape c.args.code.now) code c.loop-k.pc c.fetch-uop.result c.requires.legal c.fetch-uop.ensures)
+    let code = g.F.Fetch.code c.args.code.now in (
+      length code,
+      legal_operands (g.F.Fetch.shape c.args.code.now) code c.loop-k.pc
+          c.fetch-uop.result c.requires.legal c.fetch-uop.ensures,
+    )
 
 pub returns-in-Err-clause-value : goal.returns-in-Err-clause-value
 returns-in-Err-clause-value g c =
     let code = g.F.Fetch.code c.args.code.now in
     let shape = shape_of c.head-head.result in
-    let turn = one_step shape code c.args.n (WALK_MAX - c.loop-k.k) (WALK_MAX - (c.loop-k.k + 1)) c.loop-k.pc c.loop-k.regs c.step.new.regs c.fetch-uop.result c.step.result (omega arith) c.fetch-uop.ensures c.step.ensures.does in
+    let turn = one_step shape code c.args.n (WALK_MAX - c.loop-k.k) (WALK_MAX - (c.loop-k.k + 1))
+    c.loop-k.pc c.loop-k.regs c.step.new.regs c.fetch-uop.result c.step.result (omega arith)
+    c.fetch-uop.ensures c.step.ensures.does in
     let next = issue shape code c.args.n (WALK_MAX - (c.loop-k.k + 1)) in
-    sym (sym c.loop-k.invariant.same ∙ ap (walked_after c.loop-k.counts) turn ∙ ap (λ r. walked_after c.loop-k.counts (turn_trace r next c.loop-k.pc c.step.new.regs)) c.in-Err.is)
+    sym (sym c.loop-k.invariant.same ∙ ap (walked_after c.loop-k.counts) turn
+    ∙ ap (λ r. walked_after c.loop-k.counts (turn_trace r next c.loop-k.pc c.step.new.regs))
+    c.in-Err.is)
 
 pub returns-then-is_over-clause-value : goal.returns-then-is_over-clause-value
 returns-then-is_over-clause-value g c =
     let code = g.F.Fetch.code c.args.code.now in
     let shape = shape_of c.head-head.result in
-    let turn = one_step shape code c.args.n (WALK_MAX - c.loop-k.k) (WALK_MAX - (c.loop-k.k + 1)) c.loop-k.pc c.loop-k.regs c.step.new.regs c.fetch-uop.result c.step.result (omega arith) c.fetch-uop.ensures c.step.ensures.does in
+    let turn = one_step shape code c.args.n (WALK_MAX - c.loop-k.k) (WALK_MAX - (c.loop-k.k + 1))
+    c.loop-k.pc c.loop-k.regs c.step.new.regs c.fetch-uop.result c.step.result (omega arith)
+    c.fetch-uop.ensures c.step.ensures.does in
     let next = issue shape code c.args.n (WALK_MAX - (c.loop-k.k + 1)) in
     let over = c.is_over.ensures.0 c.if-is_over.true in
     sym
     (sym c.loop-k.invariant.same
     ∙ ap (walked_after c.loop-k.counts) turn
-    ∙ ap (λ r. walked_after c.loop-k.counts (turn_trace r next c.loop-k.pc c.step.new.regs)) c.in-Ok.is
-    ∙ ap (λ t. walked_after c.loop-k.counts (turn_trace (Ok t) next c.loop-k.pc c.step.new.regs)) over
+    ∙ ap (λ r. walked_after c.loop-k.counts (turn_trace r next c.loop-k.pc c.step.new.regs))
+    c.in-Ok.is
+    ∙ ap (λ t. walked_after c.loop-k.counts (turn_trace (Ok t) next c.loop-k.pc c.step.new.regs))
+    over
     ∙ none_left c.loop-k.counts)
 
 pub loop-k-preserved : goal.loop-k-preserved
@@ -56,21 +70,34 @@ loop-k-preserved g c =
     let code = g.F.Fetch.code c.args.code.now in
     let shape = shape_of c.head-head.result in
     let next = issue shape code c.args.n (WALK_MAX - (c.loop-k.k + 1)) in
-    let turn = one_step shape code c.args.n (WALK_MAX - c.loop-k.k) (WALK_MAX - (c.loop-k.k + 1)) c.loop-k.pc c.loop-k.regs c.step.new.regs c.fetch-uop.result c.step.result (omega arith) c.fetch-uop.ensures c.step.ensures.does in
-    let ne : c.in-Ok.turn ≡ Over → ⊥ = λ e. false≢true (sym c.if-is_over.false ∙ c.is_over.ensures.1 e) in
-    let more = not_last code c.loop-k.pc c.fetch-uop.result c.in-Ok.turn c.step.result c.loop-k.invariant.place c.fetch-uop.ensures c.requires.legal.last c.step.ensures.over c.in-Ok.is ne in
-    let here = legal_operands (g.F.Fetch.shape c.args.code.now) code c.loop-k.pc c.fetch-uop.result c.requires.legal c.fetch-uop.ensures in
+    let turn = one_step shape code c.args.n (WALK_MAX - c.loop-k.k) (WALK_MAX - (c.loop-k.k + 1))
+    c.loop-k.pc c.loop-k.regs c.step.new.regs c.fetch-uop.result c.step.result (omega arith)
+    c.fetch-uop.ensures c.step.ensures.does in
+    let ne : c.in-Ok.turn ≡ Over → ⊥ = λ e. false≢true (sym c.if-is_over.false
+    ∙ c.is_over.ensures.1 e) in
+    let more = not_last code c.loop-k.pc c.fetch-uop.result c.in-Ok.turn c.step.result
+    c.loop-k.invariant.place c.fetch-uop.ensures c.requires.legal.last c.step.ensures.over
+    c.in-Ok.is ne in
+    let here = legal_operands (g.F.Fetch.shape c.args.code.now) code c.loop-k.pc c.fetch-uop.result
+    c.requires.legal c.fetch-uop.ensures in
     let on = goes_on c.in-Ok.turn next c.loop-k.pc c.step.new.regs ne in
     record {
-      place = subst (λ q. q < length code) (sym c.place_after-pc.ensures) (place_in (length code) c.loop-k.pc c.fetch-uop.result c.in-Ok.turn c.step.result more here c.step.ensures.target c.in-Ok.is);
+      place = subst (λ q. q < length code) (sym c.place_after-pc.ensures)
+          (place_in (length code) c.loop-k.pc c.fetch-uop.result c.in-Ok.turn c.step.result more
+          here c.step.ensures.target c.in-Ok.is);
       registers = c.step.ensures.registers;
-      few = subst (λ (x : Counts). x.aap + x.ap ≤ c.loop-k.k + 1) (sym c.counted-counts.ensures) (few_after c.in-Ok.turn c.loop-k.counts c.loop-k.k c.loop-k.invariant.few);
+      few = subst (λ (x : Counts). x.aap + x.ap ≤ c.loop-k.k + 1) (sym c.counted-counts.ensures)
+          (few_after c.in-Ok.turn c.loop-k.counts c.loop-k.k c.loop-k.invariant.few);
       same =
-          ap (λ x. walked_after x (next c.place_after-pc.result c.step.new.regs)) c.counted-counts.ensures
-          ∙ ap (λ q. walked_after (counts_after c.in-Ok.turn c.loop-k.counts) (next q c.step.new.regs)) c.place_after-pc.ensures
-          ∙ sym (counts_on c.in-Ok.turn c.loop-k.counts (next (next_place c.in-Ok.turn c.loop-k.pc) c.step.new.regs))
+          ap (λ x. walked_after x (next c.place_after-pc.result c.step.new.regs))
+          c.counted-counts.ensures
+          ∙ ap (λ q. walked_after (counts_after c.in-Ok.turn c.loop-k.counts)
+          (next q c.step.new.regs)) c.place_after-pc.ensures
+          ∙ sym (counts_on c.in-Ok.turn c.loop-k.counts
+          (next (next_place c.in-Ok.turn c.loop-k.pc) c.step.new.regs))
           ∙ ap (walked_after c.loop-k.counts) (sym on)
-          ∙ ap (λ r. walked_after c.loop-k.counts (turn_trace r next c.loop-k.pc c.step.new.regs)) (sym c.in-Ok.is)
+          ∙ ap (λ r. walked_after c.loop-k.counts (turn_trace r next c.loop-k.pc c.step.new.regs))
+          (sym c.in-Ok.is)
           ∙ ap (walked_after c.loop-k.counts) (sym turn)
           ∙ c.loop-k.invariant.same;
     }
@@ -78,4 +105,6 @@ loop-k-preserved g c =
 pub returns-clause-value : goal.returns-clause-value
 returns-clause-value g c =
     let none : WALK_MAX - c.loop-k.k ≡ 0 = omega arith in
-    sym (sym c.loop-k.invariant.same ∙ ap (walked_after c.loop-k.counts) (no_more (shape_of c.head-head.result) (g.F.Fetch.code c.args.code.now) c.args.n (WALK_MAX - c.loop-k.k) c.loop-k.pc c.loop-k.regs none))
+    sym (sym c.loop-k.invariant.same ∙ ap (walked_after c.loop-k.counts)
+    (no_more (shape_of c.head-head.result) (g.F.Fetch.code c.args.code.now) c.args.n
+    (WALK_MAX - c.loop-k.k) c.loop-k.pc c.loop-k.regs none))

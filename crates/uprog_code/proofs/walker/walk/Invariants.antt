@@ -12,5 +12,6 @@ invariant-loop-k g l = let code = g.F.Fetch.code l.code in record {
   place : l.pc < length code;
   registers : AreRegisters l.regs;
   few : l.counts.aap + l.counts.ap ≤ l.k;
-  same : walked_after l.counts (issue (shape_of l.head) code l.n (WALK_MAX - l.k) l.pc l.regs) ≡ walked (trace (g.F.Fetch.shape l.code) code l.n);
+  same : walked_after l.counts (issue (shape_of l.head) code l.n (WALK_MAX - l.k) l.pc l.regs)
+      ≡ walked (trace (g.F.Fetch.shape l.code) code l.n);
 }

@@ -13,6 +13,10 @@ do_command-requires-clause-legal g c =
     let rows = (g.D.Dram.geometry c.args.dram.now).rows in
     let shape = shape_of c.args.head.now in
     let b = c.args.binding.now in
-    let good = subst (λ (t : Turn). AreGood shape b.n (issues_by t)) c.in-Issues.is c.requires.good in
-    let legal = command_legal rows shape b.n (bound_of b) c.requires.fits c.requires.some (issue_of c.in-Issues.issued) good.0 in
-    ap (is_legal rows) (c.command_of.ensures ∙ ap (λ (q : Geometry). bound_command q.rows shape b.n (bound_of b) (issue_of c.in-Issues.issued)) c.geometry-rows.ensures) ∙ legal
+    let good = subst (λ (t : Turn). AreGood shape b.n (issues_by t)) c.in-Issues.is c.requires.good
+    in
+    let legal = command_legal rows shape b.n (bound_of b) c.requires.fits c.requires.some
+    (issue_of c.in-Issues.issued) good.0 in
+    ap (is_legal rows) (c.command_of.ensures ∙ ap
+    (λ (q : Geometry). bound_command q.rows shape b.n (bound_of b)
+    (issue_of c.in-Issues.issued)) c.geometry-rows.ensures) ∙ legal

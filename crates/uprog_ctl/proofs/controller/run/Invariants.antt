@@ -22,9 +22,15 @@ invariant-loop-k g l =
       geometry : dram.geometry l.dram ≡ dram.geometry l.fn.dram;
       faults : dram.faults l.fn.dram ≤ dram.faults l.dram;
       ended : HasEnded left;
-      banks : after (issue_events l.bank rows shape l.binding (issues_of left)) (dram.banks l.dram) ≡ after (trace_events l.bank rows shape code l.binding) (dram.banks l.fn.dram);
-      counters : all_counted (issue_events l.bank rows shape l.binding (issues_of left)) (dram.counters l.dram) ≡ all_counted (trace_events l.bank rows shape code l.binding) (dram.counters l.fn.dram);
-      log : (final : Option (List Event)) → Grew (dram.log l.dram) final (issue_events l.bank rows shape l.binding (issues_of left)) → Grew (dram.log l.fn.dram) final (trace_events l.bank rows shape code l.binding);
-      few : ((dram.counters l.dram).aap ≤ (dram.counters l.fn.dram).aap + l.k) × ((dram.counters l.dram).ap ≤ (dram.counters l.fn.dram).ap + l.k);
+      banks : after (issue_events l.bank rows shape l.binding (issues_of left)) (dram.banks l.dram)
+          ≡ after (trace_events l.bank rows shape code l.binding) (dram.banks l.fn.dram);
+      counters : all_counted (issue_events l.bank rows shape l.binding (issues_of left))
+          (dram.counters l.dram) ≡ all_counted (trace_events l.bank rows shape code l.binding)
+          (dram.counters l.fn.dram);
+      log : (final : Option (List Event)) → Grew (dram.log l.dram) final
+          (issue_events l.bank rows shape l.binding (issues_of left))
+          → Grew (dram.log l.fn.dram) final (trace_events l.bank rows shape code l.binding);
+      few : ((dram.counters l.dram).aap ≤ (dram.counters l.fn.dram).aap + l.k)
+          × ((dram.counters l.dram).ap ≤ (dram.counters l.fn.dram).ap + l.k);
       others : SameBut l.bank (dram.banks l.fn.dram) (dram.banks l.dram);
     }

@@ -3,42 +3,75 @@ use Rattle.std.proofs.lemmas.List.{length-map}
 use Rattle.loop_ir.specs.Plain.{steps_of, step_of}
 use Rattle.uprog_code.specs.Shape.{shape_of}
 use Rattle.loop_ir.specs.Costs.{code_cost}
-use Rattle.uprog_gen.proofs.Joined.{is_entry, can_at, statement_room, next_statement, all_statements, does_implement}
+use Rattle.uprog_gen.proofs.Joined.{is_entry, can_at, statement_room, next_statement}
+use Rattle.uprog_gen.proofs.Joined.{all_statements, does_implement}
 use Rattle.uprog_gen.proofs.entry.compile_entry.Goals as goal
 
 pub emit_steps-requires-clause-small : goal.emit_steps-requires-clause-small
 emit_steps-requires-clause-small c =
-    rw c.deref.ensures.value (can_at (shape_of c.args.head) c.args.statements.now c.loop-statement.statement-index c.statement-item.result c.requires.can c.loop-statement-test.true c.statement-item.is).small
+    rw c.deref.ensures.value (can_at (shape_of c.args.head) c.args.statements.now
+    c.loop-statement.statement-index c.statement-item.result c.requires.can
+    c.loop-statement-test.true c.statement-item.is).small
 
 pub emit_steps-requires-clause-room : goal.emit_steps-requires-clause-room
 emit_steps-requires-clause-room c =
     omega (
       arith,
-      (can_at (shape_of c.args.head) c.args.statements.now c.loop-statement.statement-index c.statement-item.result c.requires.can c.loop-statement-test.true c.statement-item.is).size,
+      (can_at (shape_of c.args.head) c.args.statements.now c.loop-statement.statement-index
+          c.statement-item.result c.requires.can c.loop-statement-test.true
+          c.statement-item.is).size,
       ap (λ l. code_cost (map step_of l)) c.deref.ensures.value,
-      statement_room (shape_of c.args.head) c.args.statements.now c.loop-statement.statement-index c.loop-statement.code.items c.requires.can c.loop-statement.invariant,
+      statement_room (shape_of c.args.head) c.args.statements.now c.loop-statement.statement-index
+          c.loop-statement.code.items c.requires.can c.loop-statement.invariant,
       c.requires.few,
       c.loop-statement-test.true,
     )
 
 pub loop-statement-preserved : goal.loop-statement-preserved
 loop-statement-preserved c =
-    next_statement c.args.statements.now c.loop-statement.statement-index c.statement-item.result c.loop-statement.code.items c.emit_steps.new.code.items c.loop-statement-test.true c.statement-item.is c.loop-statement.invariant (rw c.deref.ensures.value at c.in_ok-emit_steps.ensures.emits)
+    next_statement c.args.statements.now c.loop-statement.statement-index c.statement-item.result
+    c.loop-statement.code.items c.emit_steps.new.code.items c.loop-statement-test.true
+    c.statement-item.is c.loop-statement.invariant
+    (rw c.deref.ensures.value at c.in_ok-emit_steps.ensures.emits)
 
 pub returns-clause-legal : goal.returns-clause-legal
 returns-clause-legal c =
-    (is_entry (shape_of c.args.head) (map steps_of c.args.statements.now) c.loop-statement.code.items c.push.new.code.items c.requires.can (let e : length (map steps_of c.args.statements.now) ≤ 16 = omega (arith, length-map c.args.statements.now steps_of, c.requires.few) in e) (all_statements c.args.statements.now c.loop-statement.statement-index c.loop-statement.code.items (omega arith) c.loop-statement.invariant) c.in_ok-push.ensures).legal
+    (is_entry (shape_of c.args.head) (map steps_of c.args.statements.now)
+    c.loop-statement.code.items c.push.new.code.items c.requires.can
+    (let e : length (map steps_of c.args.statements.now)
+    ≤ 16 = omega (arith, length-map c.args.statements.now steps_of, c.requires.few) in
+    e) (all_statements c.args.statements.now c.loop-statement.statement-index
+    c.loop-statement.code.items (omega arith) c.loop-statement.invariant)
+    c.in_ok-push.ensures).legal
 
 pub returns-clause-short : goal.returns-clause-short
 returns-clause-short c =
-    let h = (is_entry (shape_of c.args.head) (map steps_of c.args.statements.now) c.loop-statement.code.items c.push.new.code.items c.requires.can (let e : length (map steps_of c.args.statements.now) ≤ 16 = omega (arith, length-map c.args.statements.now steps_of, c.requires.few) in e) (all_statements c.args.statements.now c.loop-statement.statement-index c.loop-statement.code.items (omega arith) c.loop-statement.invariant) c.in_ok-push.ensures).short in
+    let h = (is_entry (shape_of c.args.head) (map steps_of c.args.statements.now)
+    c.loop-statement.code.items c.push.new.code.items c.requires.can
+    (let e : length (map steps_of c.args.statements.now)
+    ≤ 16 = omega (arith, length-map c.args.statements.now steps_of, c.requires.few) in
+    e) (all_statements c.args.statements.now c.loop-statement.statement-index
+    c.loop-statement.code.items (omega arith) c.loop-statement.invariant)
+    c.in_ok-push.ensures).short in
     omega (arith, h, length-map c.args.statements.now steps_of)
 
 pub returns-clause-does : goal.returns-clause-does
 returns-clause-does c =
-    (is_entry (shape_of c.args.head) (map steps_of c.args.statements.now) c.loop-statement.code.items c.push.new.code.items c.requires.can (let e : length (map steps_of c.args.statements.now) ≤ 16 = omega (arith, length-map c.args.statements.now steps_of, c.requires.few) in e) (all_statements c.args.statements.now c.loop-statement.statement-index c.loop-statement.code.items (omega arith) c.loop-statement.invariant) c.in_ok-push.ensures).does
+    (is_entry (shape_of c.args.head) (map steps_of c.args.statements.now)
+    c.loop-statement.code.items c.push.new.code.items c.requires.can
+    (let e : length (map steps_of c.args.statements.now)
+    ≤ 16 = omega (arith, length-map c.args.statements.now steps_of, c.requires.few) in
+    e) (all_statements c.args.statements.now c.loop-statement.statement-index
+    c.loop-statement.code.items (omega arith) c.loop-statement.invariant)
+    c.in_ok-push.ensures).does
 
 pub returns-clause-implements : goal.returns-clause-implements
 returns-clause-implements c =
     does_implement (shape_of c.args.head) (map steps_of c.args.statements.now) c.push.new.code.items
-    (is_entry (shape_of c.args.head) (map steps_of c.args.statements.now) c.loop-statement.code.items c.push.new.code.items c.requires.can (let e : length (map steps_of c.args.statements.now) ≤ 16 = omega (arith, length-map c.args.statements.now steps_of, c.requires.few) in e) (all_statements c.args.statements.now c.loop-statement.statement-index c.loop-statement.code.items (omega arith) c.loop-statement.invariant) c.in_ok-push.ensures).does
+    (is_entry (shape_of c.args.head) (map steps_of c.args.statements.now)
+    c.loop-statement.code.items c.push.new.code.items c.requires.can
+    (let e : length (map steps_of c.args.statements.now)
+    ≤ 16 = omega (arith, length-map c.args.statements.now steps_of, c.requires.few) in
+    e) (all_statements c.args.statements.now c.loop-statement.statement-index
+    c.loop-statement.code.items (omega arith) c.loop-statement.invariant)
+    c.in_ok-push.ensures).does

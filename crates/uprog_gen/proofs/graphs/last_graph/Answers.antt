@@ -3,4 +3,6 @@ use Rattle.uprog_gen.proofs.Taken.{last_popped}
 use Rattle.uprog_gen.proofs.graphs.last_graph.Goals as goal
 
 pub returns-in-Some : goal.returns-in-Some
-returns-in-Some c = c.step_graph.ensures ∙ sym (last_popped c.args.program.steps.items c.pop.new.self.items c.in-Some.step (c.pop.ensures.items ∙ ap (λ o. c.pop.new.self.items ++ option_to_list o) c.in-Some.is))
+returns-in-Some c = c.step_graph.ensures ∙ sym
+    (last_popped c.args.program.steps.items c.pop.new.self.items c.in-Some.step (c.pop.ensures.items
+    ∙ ap (λ o. c.pop.new.self.items ++ option_to_list o) c.in-Some.is))

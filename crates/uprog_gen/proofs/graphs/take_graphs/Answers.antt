@@ -18,14 +18,20 @@ loop-s-preserved c =
     ∙ ap (λ l. l ++ own) c.loop-s.invariant
     ∙ append_assoc old (pair_graphs seen) own
     ∙ ap (λ l. old ++ l) (sym (pairs-append seen (c.in-Some.s.now, c.in-Some.program)))
-    ∙ ap (λ l. old ++ pair_graphs l) (sym (map-append (λ p. (p.0.now, p.1)) c.loop-s.yielded ((c.in-Some.s, c.in-Some.program) ∷ [])))
+    ∙ ap (λ l. old ++ pair_graphs l) (sym (map-append (λ p. (p.0.now, p.1)) c.loop-s.yielded
+    ((c.in-Some.s, c.in-Some.program) ∷ [])))
 
 pub returns : goal.returns
 returns c =
     let body = c.args.op.now.body.items in
     let programs = c.args.lowered.programs in
-    let first = YieldsList-at c.zip-s-items.ensures.first (YieldsList-from_slice body (c.iter.ensures.rest ∙ c.deref.ensures.value)) in
-    let second = YieldsList-from_vec programs.items c.zip-s-items.ensures.second.0 (c.zip-s-items.ensures.second.1 ∙ programs.ok.0) in
-    let road = YieldsList-at c.into_iter-s-iterator.ensures.into_iter_gives (YieldsList-from_zip first second) in
-    let t = YieldsList-end road c.loop-s.yielded c.loop-s.s-iterator c.loop-s.yielded_by c.next.result c.next.new.self c.in-None.is c.next.ensures.steps in
-    c.loop-s.invariant ∙ ap (λ l. map graphed_of c.args.graphs.now.items ++ l) (ap pair_graphs t.0 ∙ pairs_are body programs.items)
+    let first = YieldsList-at c.zip-s-items.ensures.first
+    (YieldsList-from_slice body (c.iter.ensures.rest ∙ c.deref.ensures.value)) in
+    let second = YieldsList-from_vec programs.items c.zip-s-items.ensures.second.0
+    (c.zip-s-items.ensures.second.1 ∙ programs.ok.0) in
+    let road = YieldsList-at c.into_iter-s-iterator.ensures.into_iter_gives
+    (YieldsList-from_zip first second) in
+    let t = YieldsList-end road c.loop-s.yielded c.loop-s.s-iterator c.loop-s.yielded_by
+    c.next.result c.next.new.self c.in-None.is c.next.ensures.steps in
+    c.loop-s.invariant ∙ ap (λ l. map graphed_of c.args.graphs.now.items ++ l) (ap pair_graphs t.0
+    ∙ pairs_are body programs.items)

@@ -4,4 +4,5 @@ use Rattle.uprog_gen.proofs.Taken.{pair_graphs}
 use Rattle.uprog_gen.proofs.graphs.take_graphs.Given as goal
 
 abbrev pub invariant-loop-s : goal.invariant-loop-s
-invariant-loop-s l = map graphed_of l.graphs.items ≡ map graphed_of l.initial.graphs.items ++ pair_graphs (map (λ p. (p.0.now, p.1)) l.yielded)
+invariant-loop-s l = map graphed_of l.graphs.items ≡ map graphed_of l.initial.graphs.items
+    ++ pair_graphs (map (λ p. (p.0.now, p.1)) l.yielded)

@@ -16,7 +16,10 @@ loop-state-preserved c =
     let step = c.in_ok-place.ensures in
     let p : Param = param s.name Bit in
     record {
-      lays = subst (λ ps. Lays outcome ps c.args.names.now c.place.new.names) (sym (states_more states k s c.loop-state-test.true c.state-item.is)) (lays_then outcome (states_defined (take k states)) (p ∷ []) c.args.names.now c.loop-state.names c.place.new.names old.lays step);
+      lays = subst (λ ps. Lays outcome ps c.args.names.now c.place.new.names)
+          (sym (states_more states k s c.loop-state-test.true c.state-item.is))
+          (lays_then outcome (states_defined (take k states)) (p ∷ []) c.args.names.now
+          c.loop-state.names c.place.new.names old.lays step);
       bits = omega (arith, old.bits, step.bits, one_name outcome Bit p);
       words = omega (arith, old.words, step.words, states_no_words outcome (s ∷ []));
     }

@@ -14,7 +14,10 @@ loop-assign-preserved c =
     let a = c.assign-item.result in
     let step = c.in_ok-place_word.ensures in
     record {
-      lays = subst (λ ps. Lays outcome ps c.args.names.now c.place_word.new.names) (sym (words_more states assigns k a c.loop-assign-test.true c.assign-item.is)) (lays_then outcome (words_defined states (take k assigns)) (words_defined states (a ∷ [])) c.args.names.now c.loop-assign.names c.place_word.new.names old.lays step);
+      lays = subst (λ ps. Lays outcome ps c.args.names.now c.place_word.new.names)
+          (sym (words_more states assigns k a c.loop-assign-test.true c.assign-item.is))
+          (lays_then outcome (words_defined states (take k assigns)) (words_defined states (a ∷ []))
+          c.args.names.now c.loop-assign.names c.place_word.new.names old.lays step);
       bits = omega (arith, old.bits, step.bits, words_no_bits outcome states (a ∷ []));
       words = omega (arith, old.words, step.words, one_word outcome Word states a);
     }

@@ -7,5 +7,7 @@ use Rattle.uprog_gen.proofs.lowering.lower.Given as goal
 
 abbrev pub invariant-loop-s : goal.invariant-loop-s
 invariant-loop-s l =
-    AreLowered (slots_of l.names) l.names.free_bit l.names.free_word (take l.s-index (operation l.op).body) (map steps_of l.programs.items)
-    × HaveForms (slots_of l.names) (take l.s-index (operation l.op).body) (map steps_of l.programs.items)
+    AreLowered (slots_of l.names) l.names.free_bit l.names.free_word
+    (take l.s-index (operation l.op).body) (map steps_of l.programs.items)
+    × HaveForms (slots_of l.names) (take l.s-index (operation l.op).body)
+    (map steps_of l.programs.items)

@@ -4,14 +4,17 @@ use Rattle.op_text.specs.Language.{operation}
 use Rattle.loop_ir.specs.Plain.{steps_of}
 use Rattle.loop_ir.specs.Statements.{slots_of}
 use Rattle.uprog_gen.proofs.Meant.{can_compile}
-use Rattle.uprog_gen.proofs.Entries.{lowered_length, entry_compiled, entry_few, if_ok_both, if_ok_three}
+use Rattle.uprog_gen.proofs.Entries.{lowered_length, entry_compiled, entry_few, if_ok_both}
+use Rattle.uprog_gen.proofs.Entries.{if_ok_three}
 use Rattle.uprog_gen.proofs.ops.compile_lowered.Goals as goal
 
 pub compile_entry-requires-clause-can : goal.compile_entry-requires-clause-can
 compile_entry-requires-clause-can c =
     let op = operation c.args.op.now in
     let m = c.args.lowered.now.names in
-    rw (c.head_of.ensures.shape, c.deref.ensures.value) (can_compile op c.requires.meets (slots_of m) m.free_bit m.free_word c.requires.names (map steps_of c.args.lowered.now.programs.items) c.requires.lowered)
+    rw (c.head_of.ensures.shape, c.deref.ensures.value)
+    (can_compile op c.requires.meets (slots_of m) m.free_bit m.free_word c.requires.names
+    (map steps_of c.args.lowered.now.programs.items) c.requires.lowered)
 
 pub compile_entry-requires-clause-few : goal.compile_entry-requires-clause-few
 compile_entry-requires-clause-few c =
@@ -30,7 +33,8 @@ pub returns-clause-few : goal.returns-clause-few
 returns-clause-few c =
     let ps = map steps_of c.args.lowered.now.programs.items in
     let e = c.compile_entry.ensures in
-    if_ok_both c.compile_entry.result _ _ _ (λ entry h does. entry_few c.head_of.result ps entry h does) e.head (rw c.deref.ensures.value at e.does)
+    if_ok_both c.compile_entry.result _ _ _ (λ entry h does. entry_few c.head_of.result ps entry h
+    does) e.head (rw c.deref.ensures.value at e.does)
 
 pub returns-clause-compiled : goal.returns-clause-compiled
 returns-clause-compiled c =
@@ -40,7 +44,15 @@ returns-clause-compiled c =
     let e = c.compile_entry.ensures in
     if_ok_both c.compile_entry.result _ _ _
     (λ entry h short.
-    entry_compiled op c.requires.meets (slots_of m) m.free_bit m.free_word c.requires.names ps c.requires.lowered c.head_of.result entry c.head_of.ensures.name c.head_of.ensures.shape h.0 h.1 h.2
-    (omega (arith, short, ap length c.deref.ensures.value, length-map c.args.lowered.now.programs.items steps_of)))
-    (if_ok_three c.compile_entry.result _ _ _ e.head (rw c.deref.ensures.value at e.implements) e.legal)
+    entry_compiled op c.requires.meets (slots_of m) m.free_bit m.free_word c.requires.names ps
+    c.requires.lowered c.head_of.result entry c.head_of.ensures.name c.head_of.ensures.shape h.0
+    h.1 h.2
+    (omega (
+      arith,
+      short,
+      ap length c.deref.ensures.value,
+      length-map c.args.lowered.now.programs.items steps_of,
+    )))
+    (if_ok_three c.compile_entry.result _ _ _ e.head (rw c.deref.ensures.value at e.implements)
+    e.legal)
     e.short

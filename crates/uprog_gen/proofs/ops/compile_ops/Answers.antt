@@ -6,7 +6,11 @@ use Rattle.uprog_gen.proofs.Entries.{compiled_implement, compiled_program}
 use Rattle.uprog_gen.proofs.ops.compile_ops.Goals as goal
 
 pub returns-clause-implements : goal.returns-clause-implements
-returns-clause-implements c = IfOk-weaker c.compile_each.result _ _ (λ x h. compiled_implement (microprograms_of x.program) (map operation c.args.ops.now.ops.items) h) (rw c.deref.ensures.value at c.compile_each.ensures.compiled)
+returns-clause-implements c = IfOk-weaker c.compile_each.result _ _ (λ x h.
+    compiled_implement (microprograms_of x.program) (map operation c.args.ops.now.ops.items) h)
+    (rw c.deref.ensures.value at c.compile_each.ensures.compiled)
 
 pub returns-clause-program : goal.returns-clause-program
-returns-clause-program c = IfOk-weaker c.compile_each.result _ _ (λ x h. compiled_program (microprograms_of x.program) (map operation c.args.ops.now.ops.items) h c.ops_meet.ensures.meets) (rw c.deref.ensures.value at c.compile_each.ensures.compiled)
+returns-clause-program c = IfOk-weaker c.compile_each.result _ _ (λ x h.
+    compiled_program (microprograms_of x.program) (map operation c.args.ops.now.ops.items) h
+    c.ops_meet.ensures.meets) (rw c.deref.ensures.value at c.compile_each.ensures.compiled)

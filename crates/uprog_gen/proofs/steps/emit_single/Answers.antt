@@ -8,10 +8,16 @@ use Rattle.uprog_gen.proofs.steps.emit_single.Goals as goal
 
 pub returns-then-is_fixed : goal.returns-then-is_fixed
 returns-then-is_fixed c =
-    fixed_emits (part_of (block_of c.args.body.now) c.in_ok-made.made) c.args.code.now.items c.push_body.new.code.items c.in_ok-made.ensures (sym c.is_fixed.ensures ∙ c.if-is_fixed.true) c.in_ok-push_body.ensures
+    fixed_emits (part_of (block_of c.args.body.now) c.in_ok-made.made) c.args.code.now.items
+    c.push_body.new.code.items c.in_ok-made.ensures (sym c.is_fixed.ensures
+    ∙ c.if-is_fixed.true) c.in_ok-push_body.ensures
 
 pub returns : goal.returns
 returns c =
     let p = part_of (block_of c.args.body.now) c.in_ok-made.made in
-    single_emits p c.args.code.now.items c.push_once.new.code.items c.in_ok-made.ensures (sym c.is_fixed.ensures ∙ c.if-is_fixed.false)
-    (outside_then c.args.code.now.items c.push-2.new.code.items c.push_once.new.code.items (once_code p) (two_pushes c.args.code.now.items c.push.new.code.items c.push-2.new.code.items (SetI 0 0) (SetT 1) c.in_ok-push.ensures c.in_ok-push-2.ensures) c.in_ok-push_once.ensures)
+    single_emits p c.args.code.now.items c.push_once.new.code.items c.in_ok-made.ensures
+    (sym c.is_fixed.ensures ∙ c.if-is_fixed.false)
+    (outside_then c.args.code.now.items c.push-2.new.code.items c.push_once.new.code.items
+    (once_code p) (two_pushes c.args.code.now.items c.push.new.code.items
+    c.push-2.new.code.items (SetI 0 0) (SetT 1) c.in_ok-push.ensures c.in_ok-push-2.ensures)
+    c.in_ok-push_once.ensures)

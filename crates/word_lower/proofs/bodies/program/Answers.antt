@@ -11,6 +11,8 @@ pub loop-line-preserved : goal.loop-line-preserved
 loop-line-preserved c =
     let so = c.loop-line.invariant in
     record {
-      like = subst (LikeSteps (map step_of c.add_step.new.steps.items)) (sym (lines_more c.args.owners c.args.lines.now c.loop-line.line-index None c.loop-line-test.true)) (c.in_ok-add_step.ensures.like _ so.like);
+      like = subst (LikeSteps (map step_of c.add_step.new.steps.items))
+          (sym (lines_more c.args.owners c.args.lines.now c.loop-line.line-index None
+          c.loop-line-test.true)) (c.in_ok-add_step.ensures.like _ so.like);
       made = c.in_ok-add_step.ensures.made so.made;
     }

@@ -8,6 +8,7 @@ use Rattle.word_lower.proofs.bodies.program.Given as goal
 -- the steps so far
 abbrev pub invariant-loop-line : goal.invariant-loop-line
 invariant-loop-line l = record {
-  like : LikeSteps (map step_of l.steps.items) (program_on l.owners (lines_steps (take l.line-index l.lines)));
+  like : LikeSteps (map step_of l.steps.items)
+      (program_on l.owners (lines_steps (take l.line-index l.lines)));
   made : AllParts IsMade (map step_of l.steps.items);
 }

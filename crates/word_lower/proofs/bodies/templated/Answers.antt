@@ -10,4 +10,6 @@ made-requires-clause-named c = all_below _ c.args.outs.now c.requires.named
 pub returns-clause-like : goal.returns-clause-like
 returns-clause-like c =
     let m = c.in_ok-made.ensures in
-    template_like c.args.owners c.args.reads.now c.args.writes.now c.args.nodes.now c.args.outs.now _ _ _ _ c.in_ok-places.ensures c.in_ok-places-2.ensures m.inputs m.long m.value m.count m.bare c.requires.outs
+    template_like c.args.owners c.args.reads.now c.args.writes.now c.args.nodes.now c.args.outs.now
+    _ _ _ _ c.in_ok-places.ensures c.in_ok-places-2.ensures m.inputs m.long m.value m.count
+    m.bare c.requires.outs

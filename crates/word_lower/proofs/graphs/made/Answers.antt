@@ -10,5 +10,6 @@ returns-clause-value c =
     (let l = lit_at c.args.outs.now j in
     let end = c.loop-l-test.false in
     let stop = c.loop-l.auto.l-index-end in
-    turned_value c.in_ok-whole.whole.mig bits c.in_ok-whole.whole.outs.items l (lit_at c.loop-l.lits.items j) (c.loop-l.invariant.each j (omega (arith, end, stop)))
+    turned_value c.in_ok-whole.whole.mig bits c.in_ok-whole.whole.outs.items l
+    (lit_at c.loop-l.lits.items j) (c.loop-l.invariant.each j (omega (arith, end, stop)))
     ∙ ap (flip_if l.inverted) (c.in_ok-whole.ensures.value bits l.node (c.requires.named j lt)))

@@ -12,7 +12,12 @@ pub returns-clause-value : goal.returns-clause-value
 returns-clause-value c =
     let g = c.args.mig.now in
     IfOk-weaker c.maj.result
-    (λ (l : Lit). (bits : ℕ → Bool) → value c.maj.new.self bits l ≡ majority (value g bits c.stand_in-a.result) (value g bits c.stand_in-b.result) (value g bits c.stand_in-c.result))
-    (λ (l : Lit). (bits : ℕ → Bool) → value c.maj.new.self bits l ≡ node_value (λ n. value g bits (lit_at c.args.lits.now n)) c.args.node)
-    (λ l h bits. h bits ∙ three_values g bits c.args.lits.now c.args.node c.stand_in-a.result c.stand_in-b.result c.stand_in-c.result c.stand_in-a.ensures c.stand_in-b.ensures c.stand_in-c.ensures)
+    (λ (l : Lit). (bits : ℕ → Bool) → value c.maj.new.self bits l
+    ≡ majority (value g bits c.stand_in-a.result) (value g bits c.stand_in-b.result)
+    (value g bits c.stand_in-c.result))
+    (λ (l : Lit). (bits : ℕ → Bool) → value c.maj.new.self bits l
+    ≡ node_value (λ n. value g bits (lit_at c.args.lits.now n)) c.args.node)
+    (λ l h bits. h bits ∙ three_values g bits c.args.lits.now c.args.node c.stand_in-a.result
+    c.stand_in-b.result c.stand_in-c.result c.stand_in-a.ensures c.stand_in-b.ensures
+    c.stand_in-c.ensures)
     c.maj.ensures.value

@@ -12,8 +12,11 @@ loop-node-init c =
     record {
       inputs = ap (λ (g : Graph). g.inputs) m;
       long = omega (arith, long);
-      named = λ k lt. (let e = ap (λ (l : Lit). l.node) (c.in_ok-lits.ensures.each k (omega arith)) in let i = ap (λ (g : Graph). g.inputs) m in omega (arith, e, i));
-      values = λ bits k lt. first_value c.args.inputs c.args.nodes.now c.in_ok-mig.mig (lit_at c.in_ok-lits.lits.items k) bits k (omega arith) m (c.in_ok-lits.ensures.each k (omega arith));
+      named = λ k lt. (let e = ap (λ (l : Lit). l.node) (c.in_ok-lits.ensures.each k (omega arith))
+          in let i = ap (λ (g : Graph). g.inputs) m in omega (arith, e, i));
+      values = λ bits k lt. first_value c.args.inputs c.args.nodes.now c.in_ok-mig.mig
+          (lit_at c.in_ok-lits.lits.items k) bits k (omega arith) m
+          (c.in_ok-lits.ensures.each k (omega arith));
       count = (let e = ap (λ (g : Graph). length g.nodes) m in omega (arith, e));
       bare = λ z k lt. c.in_ok-lits.ensures.each k lt;
       graph = rw (← c.mig.view_is) c.mig.invariant.0;
@@ -32,8 +35,12 @@ loop-node-preserved c =
     record {
       inputs = c.next.ensures.inputs ∙ so.inputs;
       long = rw e (omega (arith, length-append c.loop-node.lits.items (c.in_ok-l.l ∷ []), long));
-      named = named_more c.args.inputs g h c.loop-node.lits.items _ c.in_ok-l.l i so.long e c.next.ensures.inputs c.next.ensures.least so.named c.in_ok-l.ensures.named;
-      values = λ bits. values_more c.args.inputs c.args.nodes.now g h c.loop-node.lits.items _ c.in_ok-l.l i bits so.long e c.requires.lower c.loop-node-test.true so.named (so.values bits) (c.in_ok-l.ensures.kept bits) (rw c.deref.ensures.value at (c.in_ok-l.ensures.value bits));
+      named = named_more c.args.inputs g h c.loop-node.lits.items _ c.in_ok-l.l i so.long e
+          c.next.ensures.inputs c.next.ensures.least so.named c.in_ok-l.ensures.named;
+      values = λ bits. values_more c.args.inputs c.args.nodes.now g h c.loop-node.lits.items _
+          c.in_ok-l.l i bits so.long e c.requires.lower c.loop-node-test.true so.named
+          (so.values bits) (c.in_ok-l.ensures.kept bits)
+          (rw c.deref.ensures.value at (c.in_ok-l.ensures.value bits));
       count = omega (arith, count, more);
       bare = λ z. absurd (omega (arith, z));
       graph = c.next.ensures.graph;

@@ -17,5 +17,9 @@ returns c =
     let ss = places_of slots c.args.args.now meets.kinds meets.have in
     let r = c.owners-owners.result in
     let o = c.owners-owners.ensures t ss.list meets.gives.found ss.at in
-    let like = subst (LikeSteps (steps_of c.in_ok-p.p)) (ap (program_on r) c.lines.ensures ∙ ap (λ (r : Owners). program_on r (program c.args.op r.target.kind)) o) c.in_ok-p.ensures.like in
-    lowered_on slots names.free_bit names.free_word c.args.target.now c.args.op c.args.args.now c.requires.linear meets c.requires.placed t meets.gives.found ss.list ss.at (steps_of c.in_ok-p.p) like c.in_ok-p.ensures.made
+    let like = subst (LikeSteps (steps_of c.in_ok-p.p)) (ap (program_on r) c.lines.ensures
+    ∙ ap (λ (r : Owners). program_on r (program c.args.op r.target.kind)) o)
+    c.in_ok-p.ensures.like in
+    lowered_on slots names.free_bit names.free_word c.args.target.now c.args.op c.args.args.now
+    c.requires.linear meets c.requires.placed t meets.gives.found ss.list ss.at
+    (steps_of c.in_ok-p.p) like c.in_ok-p.ensures.made

@@ -11,4 +11,6 @@ made-requires-clause-named c = all_below _ c.args.outs.now c.requires.named
 pub returns : goal.returns
 returns c =
     let m = c.in_ok-made.ensures in
-    built c.args.reads.now c.args.writes.now _ _ c.args.nodes.now c.args.outs.now _ _ c.in_ok-listed.ensures c.in_ok-listed-2.ensures m.inputs m.long m.value m.count m.bare c.requires.outs m.graph m.named
+    built c.args.reads.now c.args.writes.now _ _ c.args.nodes.now c.args.outs.now _ _
+    c.in_ok-listed.ensures c.in_ok-listed-2.ensures m.inputs m.long m.value m.count m.bare
+    c.requires.outs m.graph m.named

@@ -10,21 +10,27 @@ pub program-requires-clause-bits : goal.program-requires-clause-bits
 program-requires-clause-bits c =
     let n = c.args.names.now in
     let w = c.in-Word in
-    has_bits (slots_of n) n.free_bit n.free_word (statement c.args.s.now) w.dst w.op w.args.items (ap statement w.is) c.requires.nested c.requires.meets c.requires.placed
-    c.rows.result (λ t ss found at. c.rows.ensures t ss found (subst (λ ns. AreAt (slots_of n) ns ss) (sym c.deref.ensures.value) at))
+    has_bits (slots_of n) n.free_bit n.free_word (statement c.args.s.now) w.dst w.op w.args.items
+    (ap statement w.is) c.requires.nested c.requires.meets c.requires.placed
+    c.rows.result (λ t ss found at. c.rows.ensures t ss found
+    (subst (λ ns. AreAt (slots_of n) ns ss) (sym c.deref.ensures.value) at))
 
 pub returns-clause-lowered : goal.returns-clause-lowered
 returns-clause-lowered c =
     let n = c.args.names.now in
     let w = c.in-Word in
-    statement_lowered (slots_of n) n.free_bit n.free_word (statement c.args.s.now) w.dst w.op w.args.items (ap statement w.is) c.requires.nested c.requires.meets c.requires.placed
-    c.rows.result (λ t ss found at. c.rows.ensures t ss found (subst (λ ns. AreAt (slots_of n) ns ss) (sym c.deref.ensures.value) at))
+    statement_lowered (slots_of n) n.free_bit n.free_word (statement c.args.s.now) w.dst w.op
+    w.args.items (ap statement w.is) c.requires.nested c.requires.meets c.requires.placed
+    c.rows.result (λ t ss found at. c.rows.ensures t ss found
+    (subst (λ ns. AreAt (slots_of n) ns ss) (sym c.deref.ensures.value) at))
     (steps_of c.in_ok-p-in-Word.p) c.in_ok-p-in-Word.ensures
 
 pub returns-clause-few : goal.returns-clause-few
 returns-clause-few c =
     let n = c.args.names.now in
     let w = c.in-Word in
-    statement_few (slots_of n) n.free_bit n.free_word (statement c.args.s.now) w.dst w.op w.args.items (ap statement w.is) c.requires.nested c.requires.meets c.requires.placed
-    c.rows.result (λ t ss found at. c.rows.ensures t ss found (subst (λ ns. AreAt (slots_of n) ns ss) (sym c.deref.ensures.value) at))
+    statement_few (slots_of n) n.free_bit n.free_word (statement c.args.s.now) w.dst w.op
+    w.args.items (ap statement w.is) c.requires.nested c.requires.meets c.requires.placed
+    c.rows.result (λ t ss found at. c.rows.ensures t ss found
+    (subst (λ ns. AreAt (slots_of n) ns ss) (sym c.deref.ensures.value) at))
     (steps_of c.in_ok-p-in-Word.p) c.in_ok-p-in-Word.ensures

@@ -9,8 +9,13 @@ pub returns : goal.returns
 returns c = λ t ss found at.
     (let many = as_many (slots_of c.args.names.now) c.args.args.now ss at in
     let names = c.args.names.now in
-    let second : c.if-args-gt1.second ≡ (if nat_lt 1 (length ss) then 1 else 0) = elim c.if-args-gt1.branch [
-      | then-args-gt1 w ↦ second_one ss c.if-args-gt1.second w.second-is (let h = w.if-args-gt1.true in omega (arith, h, many))
-      | else-args-gt1 w ↦ second_none ss c.if-args-gt1.second w.second-is (let h = w.if-args-gt1.false in omega (arith, h, many))
+    let second : c.if-args-gt1.second ≡ (if nat_lt 1 (length ss) then 1 else 0) =
+    elim c.if-args-gt1.branch [
+      | then-args-gt1 w ↦ second_one ss c.if-args-gt1.second w.second-is
+          (let h = w.if-args-gt1.true in omega (arith, h, many))
+      | else-args-gt1 w ↦ second_none ss c.if-args-gt1.second w.second-is
+          (let h = w.if-args-gt1.false in omega (arith, h, many))
     ] in
-    rows_are t ss names.free_bit names.free_word c.slot_of.result c.argument.result c.argument-2.result c.if-args-gt1.second (c.slot_of.ensures t found) (c.argument.ensures ss at) (c.argument-2.ensures ss at) second)
+    rows_are t ss names.free_bit names.free_word c.slot_of.result c.argument.result
+    c.argument-2.result c.if-args-gt1.second (c.slot_of.ensures t found)
+    (c.argument.ensures ss at) (c.argument-2.ensures ss at) second)

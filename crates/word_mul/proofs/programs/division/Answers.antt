@@ -17,14 +17,40 @@ use Rattle.word_mul.proofs.programs.division.Goals as goal
 pub returns : goal.returns
 returns c =
     let yes = rw (c.at-fits.ensures, c.bit.ensures) at c.in_ok-yes.ensures in
-    let compare = rw (c.at-window.ensures, c.at-divisor.ensures, c.at-fits.ensures, c.words.ensures, c.bit.ensures) at c.in_ok-compare.ensures in
-    let over = rw (c.at-top.ensures, c.at-fits.ensures, c.words-2.ensures, c.bit.ensures) at c.in_ok-over.ensures in
+    let compare = rw (
+      c.at-window.ensures,
+      c.at-divisor.ensures,
+      c.at-fits.ensures,
+      c.words.ensures,
+      c.bit.ensures,
+    ) at c.in_ok-compare.ensures in
+    let over = rw (
+      c.at-top.ensures,
+      c.at-fits.ensures,
+      c.words-2.ensures,
+      c.bit.ensures,
+    ) at c.in_ok-over.ensures in
     let start = rw (c.at-carry.ensures, c.bit-2.ensures) at c.in_ok-start.ensures in
-    let take = rw (c.at-window.ensures, c.at-divisor.ensures, c.at-fits.ensures, c.at-carry.ensures, c.words.ensures, c.bit.ensures, c.bit-2.ensures) at c.in_ok-take.ensures in
-    let parts : List Inner = inner.Once c.in_ok-yes.yes ∷ inner.Each All c.in_ok-compare.compare ∷ inner.Once c.in_ok-over.over ∷ inner.Once c.in_ok-start.start ∷ inner.Each All c.in_ok-take.take ∷ [] in
-    let built = once_built _ _ _ _ yes (each_built All _ _ _ _ compare (once_built _ _ _ _ over (once_built _ _ _ _ start (each_built All _ _ _ _ take none_built)))) in
+    let take = rw (
+      c.at-window.ensures,
+      c.at-divisor.ensures,
+      c.at-fits.ensures,
+      c.at-carry.ensures,
+      c.words.ensures,
+      c.bit.ensures,
+      c.bit-2.ensures,
+    ) at c.in_ok-take.ensures in
+    let parts : List Inner = inner.Once c.in_ok-yes.yes ∷ inner.Each All c.in_ok-compare.compare
+    ∷ inner.Once c.in_ok-over.over ∷ inner.Once c.in_ok-start.start
+    ∷ inner.Each All c.in_ok-take.take ∷ [] in
+    let built =
+    once_built _ _ _ _ yes (each_built All _ _ _ _ compare
+    (once_built _ _ _ _ over (once_built _ _ _ _ start
+    (each_built All _ _ _ _ take none_built)))) in
     IfOk-weaker c.nest.result
     (λ (v : Vec Inner Global). v.items ≡ parts)
-    (λ (v : Vec Inner Global). PartsBuilt (map inner_of v.items) (map (inner_map (placed_body (rooms_for o.Div c.args.m))) division))
-    (λ v e. parts_as v.items parts (map (inner_map (placed_body (rooms_for o.Div c.args.m))) division) e built)
+    (λ (v : Vec Inner Global). PartsBuilt (map inner_of v.items)
+    (map (inner_map (placed_body (rooms_for o.Div c.args.m))) division))
+    (λ v e. parts_as v.items parts (map (inner_map (placed_body (rooms_for o.Div c.args.m)))
+    division) e built)
     c.nest.ensures

@@ -12,12 +12,19 @@ use Rattle.word_mul.proofs.programs.remainder.Goals as goal
 
 pub returns : goal.returns
 returns c =
-    let dividend = rw (c.at.ensures, c.at-window.ensures, c.words.ensures) at c.in_ok-dividend.ensures in
+    let dividend = rw (
+      c.at.ensures,
+      c.at-window.ensures,
+      c.words.ensures,
+    ) at c.in_ok-dividend.ensures in
     let zeros = rw (c.at-2.ensures, c.words-2.ensures) at c.in_ok-zeros.ensures in
     let left = rw (c.at-3.ensures, c.at-window.ensures, c.words.ensures) at c.in_ok-left.ensures in
-    let steps : List Step = step.Each c.in_ok-dividend.dividend ∷ step.Each c.in_ok-zeros.zeros ∷ step.Nest c.in_ok-parts.parts ∷ step.Each c.in_ok-left.left ∷ [] in
+    let steps : List Step = step.Each c.in_ok-dividend.dividend ∷ step.Each c.in_ok-zeros.zeros
+    ∷ step.Nest c.in_ok-parts.parts ∷ step.Each c.in_ok-left.left ∷ [] in
     IfOk-weaker c.whole.result
     (λ (p : LoopProgram). p.steps.items ≡ steps)
     (λ (p : LoopProgram). StepsBuilt (steps_of p) (steps_for o.Rem c.args.m))
-    (λ p e. steps_as p.steps.items steps (steps_for o.Rem c.args.m) e (along_built _ _ _ _ dividend (along_built _ _ _ _ zeros (nest_built _ _ _ _ c.in_ok-parts.ensures (along_built _ _ _ _ left end_built)))))
+    (λ p e. steps_as p.steps.items steps (steps_for o.Rem c.args.m) e
+    (along_built _ _ _ _ dividend (along_built _ _ _ _ zeros
+    (nest_built _ _ _ _ c.in_ok-parts.ensures (along_built _ _ _ _ left end_built)))))
     c.whole.ensures

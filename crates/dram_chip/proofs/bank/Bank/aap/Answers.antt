@@ -7,11 +7,14 @@ use Rattle.dram_chip.specs.Rows.{column_at, columns_of}
 use Rattle.dram_chip.proofs.bank.Bank.aap.Goals as goal
 
 -- AP(x), and then y takes what was sensed
-then-second : (x y : Addr) (v : Bool) (s t u : Column) → v ≡ sense_of x s → t ≡ step (Ap x) s → u ≡ settle_of y v t → u ≡ step (Aap x y) s
+then-second : (x y : Addr) (v : Bool) (s t u : Column) → v ≡ sense_of x s → t ≡ step (Ap x) s
+    → u ≡ settle_of y v t → u ≡ step (Aap x y) s
 then-second x y v s t u e f g = g ∙ ap (settle_of y v) f ∙ ap (λ b. settle_of y b (step (Ap x) s)) e
 
 pub returns-clause-stepped : goal.returns-clause-stepped
 returns-clause-stepped c = λ k h.
     let below : k < columns_of c.ap.new.self.cells = omega (arith, c.ap.ensures.columns) in
-    then-second c.args.x c.args.y (bit_in c.ap.new.self.sensed k) (column_at c.args.self.now.cells k) (column_at c.ap.new.self.cells k) (column_at c.settle.new.cells k)
+    then-second c.args.x c.args.y (bit_in c.ap.new.self.sensed k)
+    (column_at c.args.self.now.cells k) (column_at c.ap.new.self.cells k)
+    (column_at c.settle.new.cells k)
     (c.ap.ensures.sensed k h) (c.ap.ensures.stepped k h) (c.settle.ensures.settled k below)

@@ -4,5 +4,9 @@ use Rattle.object_alloc.proofs.table.Table.add.Goals as goal
 
 pub invariant_of-self : goal.invariant_of-self
 invariant_of-self c =
-    let h = c.self.invariant in
-    (h.0, rw c.in-Ok.ensures.items (IsTable-added _ _ _ c.self.view_is _ _ h.1 c.requires.few c.requires.new c.requires.some c.requires.rows), omega arith)
+    let h = c.self.invariant in (
+      h.0,
+      rw c.in-Ok.ensures.items (IsTable-added _ _ _ c.self.view_is _ _ h.1 c.requires.few
+          c.requires.new c.requires.some c.requires.rows),
+      omega arith,
+    )

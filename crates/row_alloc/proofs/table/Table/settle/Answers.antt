@@ -8,8 +8,11 @@ use Rattle.row_alloc.proofs.table.Table.settle.Goals as goal
 pub loop-line-preserved : goal.loop-line-preserved
 loop-line-preserved c =
     c.loop-line.invariant
-    ∙ settle-step c.args.lines.now c.loop-line.line-index (record { cell = T 0; inverted = false }) c.args.sensed (symbols_of c.loop-line.self) c.loop-line-test.true
-    ∙ ap (sym_settle_lines (drop (c.loop-line.line-index + 1) c.args.lines.now) c.args.sensed) (sym c.drive.ensures)
+    ∙ settle-step c.args.lines.now c.loop-line.line-index (record { cell = T 0; inverted = false })
+    c.args.sensed (symbols_of c.loop-line.self) c.loop-line-test.true
+    ∙ ap (sym_settle_lines (drop (c.loop-line.line-index + 1) c.args.lines.now) c.args.sensed)
+    (sym c.drive.ensures)
 
 pub returns : goal.returns
-returns c = sym (c.loop-line.invariant ∙ settle-end c.args.lines.now c.loop-line.line-index c.args.sensed (symbols_of c.loop-line.self) c.loop-line-test.false)
+returns c = sym (c.loop-line.invariant ∙ settle-end c.args.lines.now c.loop-line.line-index
+    c.args.sensed (symbols_of c.loop-line.self) c.loop-line-test.false)

@@ -11,4 +11,6 @@ where_ok (Err e) p f = tt
 pub returns-clause-file : goal.returns-clause-file
 returns-clause-file g c =
     where_ok c.read_rows.result c.read_rows.ensures.file
-    (λ read. image_is c.args.self.now.geometry c.args.self.now.table.pairs (rows_of (g.D.Dram.banks c.args.dram.now)) _ _ _ c.clear.ensures.items c.put_head.ensures.items read)
+    (λ read. image_is c.args.self.now.geometry c.args.self.now.table.pairs
+    (rows_of (g.D.Dram.banks c.args.dram.now)) _ _ _ c.clear.ensures.items
+    c.put_head.ensures.items read)

@@ -1,4 +1,5 @@
-use Rattle.std.proofs.Common.{◌≡◌, ◌+◌, ◌*◌, ◌<◌, refl, length, List, Some, drop, take, sym, ap, ◌∙◌, arith}
+use Rattle.std.proofs.Common.{◌≡◌, ◌+◌, ◌*◌, ◌<◌, refl, length, List, Some, drop, take, sym, ap}
+use Rattle.std.proofs.Common.{◌∙◌, arith}
 use Rattle.std.specs.Prelude.{slice_get}
 use Rattle.std.proofs.lemmas.Option.{slice_get_read}
 use Rattle.uprog_code.specs.Shape.{shape_of}
@@ -10,7 +11,8 @@ use Rattle.uprog_bin.proofs.view.ProgView.entry.Goals as goal
 
 pub bounds-listed-from : goal.bounds-listed-from
 bounds-listed-from c =
-    let many = entries_are c.self.inside.bytes.now c.self.inside.listed.items c.args.self.now c.self.view_is c.self.invariant in
+    let many = entries_are c.self.inside.bytes.now c.self.inside.listed.items c.args.self.now
+    c.self.view_is c.self.invariant in
     omega (arith, many, c.requires, c.from.ensures, ap length c.as_slice-listed.ensures.value)
 
 pub part-code-requires : goal.part-code-requires
@@ -20,8 +22,17 @@ part-code-requires c =
     let xs = c.as_slice-listed.result.now in
     let l = c.index-listed-from.result in
     let many = entries_are bytes listed c.args.self.now c.self.view_is c.self.invariant in
-    let lt : c.from.result < length xs = omega (arith, many, c.requires, c.from.ensures, ap length c.as_slice-listed.ensures.value) in
-    let at : slice_get listed c.args.k ≡ Some l = ap (λ (ys : List Listed). slice_get ys c.args.k) (sym c.as_slice-listed.ensures.value) ∙ ap (slice_get xs) (sym c.from.ensures) ∙ slice_get_read xs (length xs) c.from.result l refl lt c.index-listed-from.is in
+    let lt : c.from.result < length xs = omega (
+      arith,
+      many,
+      c.requires,
+      c.from.ensures,
+      ap length c.as_slice-listed.ensures.value,
+    ) in
+    let at : slice_get listed c.args.k ≡ Some l =
+    ap (λ (ys : List Listed). slice_get ys c.args.k) (sym c.as_slice-listed.ensures.value)
+    ∙ ap (slice_get xs) (sym c.from.ensures)
+    ∙ slice_get_read xs (length xs) c.from.result l refl lt c.index-listed-from.is in
     let f = found_in bytes listed c.args.self.now c.args.k l c.self.view_is c.self.invariant at in
     omega (arith, f.within, c.from-2.ensures, ap length c.as_slice-listed.ensures.value)
 
@@ -32,14 +43,33 @@ returns-clause-program c =
     let xs = c.as_slice-listed.result.now in
     let l = c.index-listed-from.result in
     let many = entries_are bytes listed c.args.self.now c.self.view_is c.self.invariant in
-    let lt : c.from.result < length xs = omega (arith, many, c.requires, c.from.ensures, ap length c.as_slice-listed.ensures.value) in
-    let at : slice_get listed c.args.k ≡ Some l = ap (λ (ys : List Listed). slice_get ys c.args.k) (sym c.as_slice-listed.ensures.value) ∙ ap (slice_get xs) (sym c.from.ensures) ∙ slice_get_read xs (length xs) c.from.result l refl lt c.index-listed-from.is in
+    let lt : c.from.result < length xs = omega (
+      arith,
+      many,
+      c.requires,
+      c.from.ensures,
+      ap length c.as_slice-listed.ensures.value,
+    ) in
+    let at : slice_get listed c.args.k ≡ Some l =
+    ap (λ (ys : List Listed). slice_get ys c.args.k) (sym c.as_slice-listed.ensures.value)
+    ∙ ap (slice_get xs) (sym c.from.ensures)
+    ∙ slice_get_read xs (length xs) c.from.result l refl lt c.index-listed-from.is in
     let f = found_in bytes listed c.args.self.now c.args.k l c.self.view_is c.self.invariant at in
     let size = ap length c.as_slice-listed.ensures.value in
-    let start : 8 + 27 * length xs + 8 * l.start ≡ 8 + 27 * length listed + 8 * l.start = omega arith in
-    let code : c.part-code.result.now ≡ take (8 * l.count) (drop (8 + 27 * length listed + 8 * l.start) bytes) = c.part-code.ensures ∙ ap (λ n. take (8 * n) (drop (8 + 27 * length xs + 8 * l.start) bytes)) c.from-2.ensures ∙ ap (λ n. take (8 * l.count) (drop n bytes)) start in
-    let h : Held = record { name = c.copied.result.name; shape = shape_of c.copied.result; bytes = c.part-code.result.now } in
-    let all = hands bytes c.args.self.now c.args.k l.head.name (shape_of l.head) (8 + 27 * length listed + 8 * l.start) l.count h f c.copied.ensures.name c.copied.ensures.shape code in
+    let start : 8 + 27 * length xs + 8 * l.start ≡ 8 + 27 * length listed + 8 * l.start =
+    omega arith in
+    let code : c.part-code.result.now ≡ take (8 * l.count)
+    (drop (8 + 27 * length listed + 8 * l.start) bytes) = c.part-code.ensures
+    ∙ ap (λ n. take (8 * n) (drop (8 + 27 * length xs + 8 * l.start) bytes)) c.from-2.ensures
+    ∙ ap (λ n. take (8 * l.count) (drop n bytes)) start in
+    let h : Held = record {
+      name = c.copied.result.name;
+      shape = shape_of c.copied.result;
+      bytes = c.part-code.result.now;
+    } in
+    let all = hands bytes c.args.self.now c.args.k l.head.name (shape_of l.head) (8 + 27
+    * length listed + 8 * l.start) l.count h f c.copied.ensures.name c.copied.ensures.shape code
+    in
     all.program
 
 pub returns-clause-bytes : goal.returns-clause-bytes
@@ -49,14 +79,33 @@ returns-clause-bytes c =
     let xs = c.as_slice-listed.result.now in
     let l = c.index-listed-from.result in
     let many = entries_are bytes listed c.args.self.now c.self.view_is c.self.invariant in
-    let lt : c.from.result < length xs = omega (arith, many, c.requires, c.from.ensures, ap length c.as_slice-listed.ensures.value) in
-    let at : slice_get listed c.args.k ≡ Some l = ap (λ (ys : List Listed). slice_get ys c.args.k) (sym c.as_slice-listed.ensures.value) ∙ ap (slice_get xs) (sym c.from.ensures) ∙ slice_get_read xs (length xs) c.from.result l refl lt c.index-listed-from.is in
+    let lt : c.from.result < length xs = omega (
+      arith,
+      many,
+      c.requires,
+      c.from.ensures,
+      ap length c.as_slice-listed.ensures.value,
+    ) in
+    let at : slice_get listed c.args.k ≡ Some l =
+    ap (λ (ys : List Listed). slice_get ys c.args.k) (sym c.as_slice-listed.ensures.value)
+    ∙ ap (slice_get xs) (sym c.from.ensures)
+    ∙ slice_get_read xs (length xs) c.from.result l refl lt c.index-listed-from.is in
     let f = found_in bytes listed c.args.self.now c.args.k l c.self.view_is c.self.invariant at in
     let size = ap length c.as_slice-listed.ensures.value in
-    let start : 8 + 27 * length xs + 8 * l.start ≡ 8 + 27 * length listed + 8 * l.start = omega arith in
-    let code : c.part-code.result.now ≡ take (8 * l.count) (drop (8 + 27 * length listed + 8 * l.start) bytes) = c.part-code.ensures ∙ ap (λ n. take (8 * n) (drop (8 + 27 * length xs + 8 * l.start) bytes)) c.from-2.ensures ∙ ap (λ n. take (8 * l.count) (drop n bytes)) start in
-    let h : Held = record { name = c.copied.result.name; shape = shape_of c.copied.result; bytes = c.part-code.result.now } in
-    let all = hands bytes c.args.self.now c.args.k l.head.name (shape_of l.head) (8 + 27 * length listed + 8 * l.start) l.count h f c.copied.ensures.name c.copied.ensures.shape code in
+    let start : 8 + 27 * length xs + 8 * l.start ≡ 8 + 27 * length listed + 8 * l.start =
+    omega arith in
+    let code : c.part-code.result.now ≡ take (8 * l.count)
+    (drop (8 + 27 * length listed + 8 * l.start) bytes) = c.part-code.ensures
+    ∙ ap (λ n. take (8 * n) (drop (8 + 27 * length xs + 8 * l.start) bytes)) c.from-2.ensures
+    ∙ ap (λ n. take (8 * l.count) (drop n bytes)) start in
+    let h : Held = record {
+      name = c.copied.result.name;
+      shape = shape_of c.copied.result;
+      bytes = c.part-code.result.now;
+    } in
+    let all = hands bytes c.args.self.now c.args.k l.head.name (shape_of l.head) (8 + 27
+    * length listed + 8 * l.start) l.count h f c.copied.ensures.name c.copied.ensures.shape code
+    in
     all.code
 
 pub returns-clause-legal : goal.returns-clause-legal
@@ -66,12 +115,31 @@ returns-clause-legal c =
     let xs = c.as_slice-listed.result.now in
     let l = c.index-listed-from.result in
     let many = entries_are bytes listed c.args.self.now c.self.view_is c.self.invariant in
-    let lt : c.from.result < length xs = omega (arith, many, c.requires, c.from.ensures, ap length c.as_slice-listed.ensures.value) in
-    let at : slice_get listed c.args.k ≡ Some l = ap (λ (ys : List Listed). slice_get ys c.args.k) (sym c.as_slice-listed.ensures.value) ∙ ap (slice_get xs) (sym c.from.ensures) ∙ slice_get_read xs (length xs) c.from.result l refl lt c.index-listed-from.is in
+    let lt : c.from.result < length xs = omega (
+      arith,
+      many,
+      c.requires,
+      c.from.ensures,
+      ap length c.as_slice-listed.ensures.value,
+    ) in
+    let at : slice_get listed c.args.k ≡ Some l =
+    ap (λ (ys : List Listed). slice_get ys c.args.k) (sym c.as_slice-listed.ensures.value)
+    ∙ ap (slice_get xs) (sym c.from.ensures)
+    ∙ slice_get_read xs (length xs) c.from.result l refl lt c.index-listed-from.is in
     let f = found_in bytes listed c.args.self.now c.args.k l c.self.view_is c.self.invariant at in
     let size = ap length c.as_slice-listed.ensures.value in
-    let start : 8 + 27 * length xs + 8 * l.start ≡ 8 + 27 * length listed + 8 * l.start = omega arith in
-    let code : c.part-code.result.now ≡ take (8 * l.count) (drop (8 + 27 * length listed + 8 * l.start) bytes) = c.part-code.ensures ∙ ap (λ n. take (8 * n) (drop (8 + 27 * length xs + 8 * l.start) bytes)) c.from-2.ensures ∙ ap (λ n. take (8 * l.count) (drop n bytes)) start in
-    let h : Held = record { name = c.copied.result.name; shape = shape_of c.copied.result; bytes = c.part-code.result.now } in
-    let all = hands bytes c.args.self.now c.args.k l.head.name (shape_of l.head) (8 + 27 * length listed + 8 * l.start) l.count h f c.copied.ensures.name c.copied.ensures.shape code in
+    let start : 8 + 27 * length xs + 8 * l.start ≡ 8 + 27 * length listed + 8 * l.start =
+    omega arith in
+    let code : c.part-code.result.now ≡ take (8 * l.count)
+    (drop (8 + 27 * length listed + 8 * l.start) bytes) = c.part-code.ensures
+    ∙ ap (λ n. take (8 * n) (drop (8 + 27 * length xs + 8 * l.start) bytes)) c.from-2.ensures
+    ∙ ap (λ n. take (8 * l.count) (drop n bytes)) start in
+    let h : Held = record {
+      name = c.copied.result.name;
+      shape = shape_of c.copied.result;
+      bytes = c.part-code.result.now;
+    } in
+    let all = hands bytes c.args.self.now c.args.k l.head.name (shape_of l.head) (8 + 27
+    * length listed + 8 * l.start) l.count h f c.copied.ensures.name c.copied.ensures.shape code
+    in
     all.legal

@@ -1,0 +1,7 @@
+use Rattle.std.proofs.Common.{◌≡◌, ◌++◌, take}
+use Rattle.std.specs.Option.{option_to_list}
+use Rattle.sim_machine.proofs.refusal.other_kinds.Given as goal
+
+abbrev pub invariant-loop-kind : goal.invariant-loop-kind
+invariant-loop-kind l = l.kinds.items ≡ option_to_list l.head.second
+    ++ take l.kind-index l.head.sources.items
