@@ -1,21 +1,19 @@
 -- A file that was read.
-use Rattle.std.proofs.Common.{◌≡◌, ℕ, zero, suc, ◌+◌, ◌*◌, ◌<◌, ◌≤◌, true, eqb, leb, eq-eqb, ◌^◌}
+use Rattle.std.proofs.Common.{◌≡◌, ℕ, zero, suc, ◌+◌, ◌*◌, ◌<◌, true, eqb, leb, eq-eqb, ◌^◌}
 use Rattle.std.proofs.Common.{List, [], ◌∷◌, ◌++◌, length, Result, Ok, refl, sym, ap, ◌∙◌, subst, arith}
 use Rattle.std.specs.Int.{w16, w32}
 use Rattle.std.proofs.lemmas.Bool.{eqb-true}
 use Rattle.uprog_code.specs.Shape.{Microprogram}
 use Rattle.uprog_bin.specs.declared.fault.ProgKind.TheVariants as kinds
 use Rattle.uprog_bin.specs.declared.directory.Listed.{Listed}
-use Rattle.uprog_bin.specs.Reading.{◌>>=◌, rule, number_at, field_at, is_between, name_at, shape_at}
+use Rattle.uprog_bin.specs.Reading.{number_at, field_at, name_at, shape_at}
 use Rattle.uprog_bin.specs.Reading.{Listing, listing_at, directory_at, listings_of, opening_in}
 use Rattle.uprog_bin.specs.Reading.{uops_at, codes_at, codes_start, total_count, program_in}
-use Rattle.uprog_bin.specs.declared.fault.ProgFault.{ProgFault}
 use Rattle.uprog_bin.specs.Opened.{File, file_of, accepted, programs_in, AreStarts, IsOpened}
-use Rattle.uprog_bin.proofs.Held.{bind_ok, ok_is, rule_ok}
-use Rattle.std.proofs.lemmas.Bool.Decides.{nat_tests}
-
-pub between_is : (low high n : ℕ) → is_between low high n ≡ true → (low ≤ n) × (n ≤ high)
-between_is low high n h = (grind (arith, nat_tests), grind (arith, nat_tests))
+use Rattle.file_fields.proofs.Padded.{between_is}
+use Rattle.file_fields.specs.Fields.{◌>>=◌, rule, is_between}
+use Rattle.uprog_bin.specs.Reading.{ProgFault}
+use Rattle.file_fields.proofs.Held.{bind_ok, ok_is, rule_ok}
 
 pub codes_length : (ls : List Listing) (at : ℕ) (bytes : List ℕ) (ms : List Microprogram)
     → codes_at ls at bytes ≡ Ok ms → length ms ≡ length ls

@@ -4,7 +4,6 @@ pub mod Entries
 pub mod Exact
 pub mod Files
 pub mod Found
-pub mod Held
 pub mod Instructions
 pub mod KindBits
 pub mod Listings
