@@ -89,7 +89,8 @@ guard_ok : {K A : Type 0} (b : Bool) (d : FileFault K) (x y : A) → cond b (Err
 guard_ok true d x y e = absurd cc
 guard_ok false d x y e = (refl, cc)
 
-pub bytes_takes : {K : Type 0} (short : K) (len at next : ℕ) (bytes field : List ℕ) → bytes_at short len at bytes ≡ Ok field
+pub bytes_takes : {K : Type 0} (short : K) (len at next : ℕ) (bytes field : List ℕ)
+    → bytes_at short len at bytes ≡ Ok field
     → next ≡ at + len → Holds bytes at field next × (length field ≡ len)
 bytes_takes short len at next bytes field e n =
     let g = guard_ok (ltb (length bytes) (at + len)) (fault_at (length bytes) short)
@@ -107,7 +108,8 @@ bytes_takes short len at next bytes field e n =
     } in
     subst (λ (f : List ℕ). Holds bytes at f next × (length f ≡ len)) g.1 (held, size)
 
-pub bytes_again : {K : Type 0} (short : K) (len at next : ℕ) (bytes field : List ℕ) → Holds bytes at field next
+pub bytes_again : {K : Type 0} (short : K) (len at next : ℕ) (bytes field : List ℕ)
+    → Holds bytes at field next
     → length field ≡ len → bytes_at short len at bytes ≡ Ok field
 bytes_again short len at next bytes field h size =
     let long : ltb (length bytes) (at + len) ≡ false =
@@ -158,7 +160,8 @@ pub number_takes : {K : Type 0} (short : K) (w : Width) (limit : ℕ) (text : �
     → number_at short w at bytes ≡ Ok n → next ≡ at + byte_len w → Holds bytes at (text n) next
     × (n < limit)
 number_takes short w limit text wide at next bytes n fits e nx =
-    let a = bind_ok (bytes_at short (byte_len w) at bytes) (λ field. Ok (from_le_bytes w field)) n e in
+    let a = bind_ok (bytes_at short (byte_len w) at bytes) (λ field. Ok (from_le_bytes w field)) n e
+    in
     let t = bytes_takes short (byte_len w) at next bytes a.0 a.1 nx in
     let part : IsBytes a.0 = Holds-fits bytes at a.0 next t.0 fits in
     let held : Holds bytes at (text (from_le_bytes w a.0)) next =
@@ -170,7 +173,8 @@ pub number_again : {K : Type 0} (short : K) (w : Width) (limit : ℕ) (text : �
     → List ℕ) (wide : IsWide w limit text) (at next : ℕ) (bytes : List ℕ) (n : ℕ)
     → Holds bytes at (text n) next → n < limit → number_at short w at bytes ≡ Ok n
 number_again short w limit text wide at next bytes n h lt =
-    rw (bytes_again short (byte_len w) at next bytes (text n) h (wide.len n)) (ap done (wide.again n lt))
+    rw (bytes_again short (byte_len w) at next bytes (text n) h (wide.len n))
+    (ap done (wide.again n lt))
 
 pub field_takes : {K : Type 0} (short : K) (w : Width) (limit : ℕ) (text : ℕ
     → List ℕ) (wide : IsWide w limit text) (passes : ℕ
@@ -190,7 +194,8 @@ pub field_again : {K : Type 0} (short : K) (w : Width) (limit : ℕ) (text : ℕ
     → Holds bytes at (text n) next → n < limit → passes n ≡ true
     → field_at short w passes kind at bytes ≡ Ok n
 field_again {K = K} short w limit text wide passes kind at next bytes n h lt ok =
-    let read : number_at short w at bytes ≡ Ok n = number_again short w limit text wide at next bytes n h lt in
+    let read : number_at short w at bytes ≡ Ok n =
+    number_again short w limit text wide at next bytes n h lt in
     let step : Result ℕ (FileFault K) → Result ℕ (FileFault K) =
     λ r. r >>= λ k. rule (passes k) at kind >>= λ _. Ok k in
     ap step read ∙ rw ok refl

@@ -1,9 +1,10 @@
 -- Reading a file field by field: what a field holds, or the first field that is not whole or breaks
 -- its rule. K is what fields can break.
-use Rattle.std.specs.Prelude.{◌≡◌, ◌<◌, ℕ, ◌+◌, ◌-◌, Bool, ◌&&◌, nat_le, nat_lt, ◌==◌, List, ◌∷◌}
+use Rattle.std.specs.Prelude.{◌≡◌, ◌<◌, ℕ, ◌+◌, ◌-◌, Bool, not, ◌&&◌, nat_le, nat_lt, ◌==◌, List}
+use Rattle.std.specs.Prelude.{◌∷◌}
 use Rattle.std.specs.Prelude.{◌++◌, length, take, drop, replicate, Result, Ok, Err}
 use Rattle.std.specs.Prelude.{if◌then◌else◌, slice_index_or}
-use Rattle.std.specs.Int.{Width, byte_len, from_le_bytes}
+use Rattle.std.specs.Int.{Width, w8, byte_len, from_le_bytes}
 use Rattle.std.specs.List.{list_all}
 use Rattle.text_lex.specs.Spelled.{fits_name}
 use Rattle.file_fields.specs.declared.faults.FileFault.{FileFault}
@@ -59,3 +60,12 @@ is_padded_name len field = fits_name (take len field) && list_all (λ b. b == 0)
 -- a name's length, its bytes, and zeros up to 16
 abbrev pub name_bytes : List ℕ → List ℕ
 name_bytes name = length name ∷ (name ++ replicate (16 - length name) 0)
+
+-- a name that is not taken, in a byte for its length and 16 for itself
+unfoldable pub name_at : {K : Type 0} → K → K → (List ℕ → Bool) → ℕ → List ℕ
+    → Result (List ℕ) (FileFault K)
+name_at short kind taken at bytes = do
+  len ← field_at short w8 (is_between 1 16) kind at bytes
+  field ← bytes_at short 16 (at + 1) bytes
+  new ← rule (is_padded_name len field && not (taken (take len field))) (at + 1) kind
+  Ok (take len field)

@@ -288,7 +288,8 @@ pub uop_again : (shape : Shape) (size : ℕ) (last : Bool) (at : ℕ) (bytes : L
     → uop_at shape size last at bytes ≡ Ok i
 unfolding uop_at
 uop_again shape size last at bytes i h a =
-    let field = bytes_again kinds.Short 8 at (at + 8) bytes (instruction_bytes i) h (instruction_length i) in
+    let field = bytes_again kinds.Short 8 at (at + 8) bytes (instruction_bytes i) h
+    (instruction_length i) in
     let read : Result (List ℕ) _ → Result Uop _ =
     λ f. f >>= λ field. numbered (slice_get OPCODES (slice_index field 0)) shape size last at
     (raw_of field) in

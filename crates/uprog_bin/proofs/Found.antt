@@ -24,7 +24,8 @@ use Rattle.uprog_bin.specs.Reading.{operand, row_of, ends_at_y, is_formed, has_t
 use Rattle.uprog_bin.specs.Reading.{ends_code, uop_as, uop_of, numbered, uop_at, uops_at, codes_at}
 use Rattle.uprog_bin.specs.Reading.{codes_start, total_count, Listing, listing_of, listings_of}
 use Rattle.uprog_bin.specs.Reading.{is_named}
-use Rattle.uprog_bin.specs.Opened.{Held, File, file_of, programs_in, uop_in, uops_in, code_of, program_of}
+use Rattle.uprog_bin.specs.Opened.{Held, File, file_of, programs_in, uop_in, uops_in, code_of}
+use Rattle.uprog_bin.specs.Opened.{program_of}
 use Rattle.uprog_bin.specs.Opened.{count_before, code_place, AreStarts, IsOpened}
 use Rattle.uprog_bin.proofs.Files.{codes_length, entries_are}
 use Rattle.uprog_bin.proofs.Uops.{length-uops}

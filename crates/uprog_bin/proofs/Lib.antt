@@ -7,7 +7,6 @@ pub mod Found
 pub mod Instructions
 pub mod KindBits
 pub mod Listings
-pub mod Names
 pub mod Numbers
 pub mod Records
 pub mod Taken

@@ -1,5 +1,6 @@
 -- A file is that of one program.
-use Rattle.std.proofs.Common.{◌≡◌, ℕ, List, Ok, Result, refl, sym, ap, ◌∙◌, inl, inr, ◌<◌, length, arith}
+use Rattle.std.proofs.Common.{◌≡◌, ℕ, List, Ok, Result, refl, sym, ap, ◌∙◌, inl, inr, ◌<◌, length}
+use Rattle.std.proofs.Common.{arith}
 use Rattle.std.specs.Prelude.{slice_set}
 use Rattle.uprog_code.specs.Shape.{Microprogram}
 use Rattle.uprog_code.specs.Programs.{IsProgram}

@@ -1,7 +1,7 @@
 -- Reading a program file field by field: its program, or the first field that is not whole or
 -- breaks its rule.
 use Rattle.std.specs.Prelude.{◌≡◌, ℕ, zero, suc, ◌+◌, ◌*◌, ◌/◌, ◌%◌, ◌^◌, Bool, true, ◌&&◌, ◌||◌}
-use Rattle.std.specs.Prelude.{not, nat_le, nat_lt, ◌==◌, List, [], ◌∷◌, ◌++◌, length, take}
+use Rattle.std.specs.Prelude.{not, nat_le, nat_lt, ◌==◌, List, [], ◌∷◌, ◌++◌, length}
 use Rattle.std.specs.Prelude.{Option, Some, None, Result, Ok, Err, if◌then◌else◌, codes, map}
 use Rattle.std.specs.Prelude.{slice_get, slice_index, slice_index_or}
 use Rattle.std.specs.Int.{Width, w8, w16, w32, from_le_bytes}
@@ -163,16 +163,9 @@ pub record Listing : Type 0 where
 abbrev pub has_name : List Listing → List ℕ → Bool
 has_name earlier name = list_any (λ l. bytes_eq l.name name) earlier
 
--- the first so many bytes of the field are a name, which no earlier entry has, and the others are 0
-abbrev pub is_new_name : List Listing → ℕ → List ℕ → Bool
-is_new_name earlier len field = is_padded_name len field && not (has_name earlier (take len field))
-
-unfoldable pub name_at : List Listing → ℕ → List ℕ → Result (List ℕ) ProgFault
-name_at earlier at bytes = do
-  len ← field_at w8 (is_between 1 16) kinds.Directory at bytes
-  field ← bytes_at 16 (at + 1) bytes
-  new ← rule (is_new_name earlier len field) (at + 1) kinds.Directory
-  Ok (take len field)
+-- a name that no earlier entry has
+abbrev pub name_at : List Listing → ℕ → List ℕ → Result (List ℕ) ProgFault
+name_at earlier = fields.name_at kinds.Short kinds.Directory (has_name earlier)
 
 abbrev pub kind_of_bit : ℕ → Kind
 kind_of_bit b = if b == 1 then Word else Bit

@@ -5,7 +5,8 @@ ghost use Rattle.std.specs.List.{list_all, list_any};
 ghost use Rattle.arrayvec.specs.ArrayVec.{array_vec_len};
 ghost use Rattle.uprog_code.specs.Shape.{shape_of};
 ghost use Rattle.uprog_bin.specs.Reading.{is_named, has_name, name_at, kind_of_bit};
-ghost use Rattle.uprog_bin.specs.Reading.{kinds_of, second_of, is_results, is_kinds, shape_at, listing_at, directory_at};
+ghost use Rattle.uprog_bin.specs.Reading.{kinds_of, second_of, is_results, is_kinds, shape_at};
+ghost use Rattle.uprog_bin.specs.Reading.{listing_at, directory_at};
 ghost use Rattle.uprog_bin.specs.Reading.{listing_of, listings_of};
 ghost use Rattle.file_fields.specs.Fields.{Gives};
 
@@ -55,7 +56,7 @@ fn has_name(earlier: &[Listed], name: &[u8]) -> bool
 }
 
 /// The name at a place, which none of the earlier entries has.
-#[tactic(auto, unfolding(crate::specs::Reading::name_at))]
+#[tactic(auto, unfolding(file_fields::specs::Fields::name_at))]
 fn name_of(earlier: &[Listed], bytes: &[u8], at: usize) -> Result<Name, ProgFault>
     requires small { length bytes.now < 2 ^ 32 }
     requires place { at ≤ length bytes.now }
