@@ -7,8 +7,9 @@ use Rattle.dram_model.specs.declared.dram.Counters.{Counters}
 use Rattle.dram_model.specs.Chip.{Banks, Event, after, all_counted, Grew}
 use Rattle.dram_model.specs.Chip.Event.{Row}
 use Rattle.dram_model.specs.declared.address.Command.{Command}
-use Rattle.dram_model.specs.Events.{row_events, after-append, all_counted-append, Grew-more}
-use Rattle.dram_model.specs.Events.{counted-bound}
+use Rattle.dram_model.specs.Events.{row_events}
+use Rattle.dram_model.proofs.EventLaws.{after-append, all_counted-append, Grew-more}
+use Rattle.dram_model.proofs.EventLaws.{counted-bound}
 use Rattle.uprog_code.specs.declared.binding.Binding.{Binding}
 use Rattle.uprog_code.specs.declared.registers.Turn.{Turn}
 use Rattle.uprog_code.specs.declared.registers.Turn.TheVariants.{Over, On, To, Issues}
