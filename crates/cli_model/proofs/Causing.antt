@@ -7,7 +7,7 @@ use Rattle.host_edge.specs.Views.{Files, Told}
 use Rattle.cli_model.specs.World.{World, with_file}
 use Rattle.cli_model.specs.Steps.{Step, Load, Take, Store, Open, Use, Put, Refusal, Reason}
 use Rattle.cli_model.specs.Steps.{CannotRead, TooLong, Refused, NoMemory, CannotWrite, PutFailed}
-use Rattle.cli_model.specs.Steps.{ChipFailed, End, Done, Stopped, Goes, Fails, FailsBy, LoadFails}
+use Rattle.cli_model.specs.Steps.{ChipFailed, End, Done, Stopped, Goes, FailsBy, LoadFails}
 use Rattle.cli_model.specs.Steps.{Loaded}
 use Rattle.cli_model.specs.Foreseen.{refused_or, load_end, foreseen}
 use Rattle.cli_model.specs.Ends.{IsFault}

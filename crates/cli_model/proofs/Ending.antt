@@ -1,21 +1,20 @@
 -- How a command that went through its steps ends.
-use Rattle.std.proofs.Common.{◌≡◌, ◌⊎◌, ℕ, ◌+◌, ◌≤◌, List, [], ◌∷◌, ◌++◌, Option, Some, None, refl}
+use Rattle.std.proofs.Common.{◌≡◌, ℕ, ◌+◌, ◌≤◌, List, [], ◌∷◌, ◌++◌, Option, Some, None, refl}
 use Rattle.std.proofs.Common.{sym, ◌∙◌, ap, subst, inl, inr, arith, append_assoc, append-nil}
 use Rattle.std.specs.Prelude.{IfSome}
-use Rattle.host_edge.specs.Views.{Files, Told, Rose, RoseBy, IsPrefix, AppendsPart}
+use Rattle.host_edge.specs.Views.{Files, Told, RoseBy, AppendsPart}
 use Rattle.cli_model.specs.World.{World}
 use Rattle.cli_model.specs.Steps.{Step, Load, Take, Store, Open, Use, Put, Reason, CannotRead}
 use Rattle.cli_model.specs.Steps.{TooLong, Refused, NoMemory, CannotWrite, PutFailed, ChipFailed}
-use Rattle.cli_model.specs.Steps.{End, Done, Stopped, Goes, Fails, ReadsOnly}
+use Rattle.cli_model.specs.Steps.{End, Done, Stopped, Goes, Fails}
 use Rattle.cli_model.specs.Stands.{files_after, sent_by, CountsOn, Stands}
-use Rattle.cli_model.specs.Status.{reason_status, reason_line, Says, Tells, Ran, end_status}
-use Rattle.cli_model.specs.Ends.{Stop, Ended, All, At, Causes, last_bytes, AppendsAfter, Sends}
+use Rattle.cli_model.specs.Status.{reason_status, reason_line, Says, Tells, end_status}
+use Rattle.cli_model.specs.Ends.{Stop, All, At, Causes, last_bytes, AppendsAfter, Sends}
 use Rattle.cli_model.specs.Ends.{IsStoreOf, LeavesFiles, IsFault, IsForetold, Ends}
-use Rattle.cli_model.specs.Foreseen.{foreseen}
 use Rattle.cli_model.specs.Laws.{FirstDecides}
 use Rattle.cli_model.proofs.Causing.{Decided, files_decide}
-use Rattle.cli_model.proofs.Going.{within, rises, more_counts, told_same, told_sent, all_stand}
-use Rattle.cli_model.proofs.Going.{all_off, StoppedAt, stopped_at}
+use Rattle.cli_model.proofs.Going.{within, more_counts, told_sent, all_stand}
+use Rattle.cli_model.proofs.Going.{all_off, stopped_at}
 
 -- why a step fails
 

@@ -1,12 +1,12 @@
 -- How every command ends: its status, why, what was sent and which files stand, over its steps.
 use Rattle.std.specs.Prelude.{◌≡◌, ◌⊎◌, ℕ, ◌+◌, Bool, true, false, List, [], ◌∷◌, ◌++◌}
-use Rattle.std.specs.Prelude.{Option, Some, IfSome}
+use Rattle.std.specs.Prelude.{Some, IfSome}
 use Rattle.std.specs.List.{list_any}
 use Rattle.host_edge.specs.Views.{Files, Told, Rose, RoseBy, IsPrefix}
 use Rattle.cli_model.specs.World.{World}
 use Rattle.cli_model.specs.Steps.{Step, Load, Take, Store, Open, Use, Put, Reason, CannotRead}
 use Rattle.cli_model.specs.Steps.{TooLong, Refused, NoMemory, CannotWrite, PutFailed, ChipFailed}
-use Rattle.cli_model.specs.Steps.{End, Done, Stopped}
+use Rattle.cli_model.specs.Steps.{Done, Stopped}
 use Rattle.cli_model.specs.Stands.{files_after, sent_by, CountsOn}
 use Rattle.cli_model.specs.Status.{reason_status, reason_line}
 use Rattle.cli_model.specs.Foreseen.{foreseen}
@@ -72,6 +72,11 @@ IsStoreOf name Take = ⊥
 IsStoreOf name Open = ⊥
 IsStoreOf name Use = ⊥
 IsStoreOf name (Put bytes) = ⊥
+
+-- some step stores the file of this name
+abbrev pub Stores : List ℕ → List Step → Type 0
+Stores name [] = ⊥
+Stores name (step ∷ steps) = IsStoreOf name step ⊎ Stores name steps
 
 -- The files are as the stores before it left them, but for one that could not be stored
 abbrev pub LeavesFiles : Stop → Files → Files → Type 0
