@@ -241,27 +241,30 @@ says_counts line a b s = record {
 same_world : (steps : List Step) (a b c : World) → c ≡ b → Stands steps a b → Stands steps a c
 same_world steps a b c e s = subst (Stands steps a) (sym e) s
 
-all_ends : (steps : List Step) (done : ℕ) (a b c : World) (status : ℕ) → Goes steps Done a b
-    → c ≡ b → status ≡ done → Ends steps done a c status
+-- the end of a command that was done, and of one that stopped
+pub all_ends : (steps : List Step) (done : ℕ) (a b c : World) (status : ℕ) → Goes steps Done a b
+    → c ≡ b → status ≡ done → (e : Ends steps done a c status) × (e.ended ≡ All)
 all_ends steps done a b c status g e answers =
     let stands = same_world steps a b c e (all_stand steps a b g) in
-    record {
+    let ends : Ends steps done a c status = record {
       ended = All;
       so = record { answers = answers; sent = stands.sent; files = stands.files };
       foretold = if_told a.files.holds (IsForetold steps All)
           (λ files there. done_foretold steps files (files_decide steps Done a b files g there));
       counts = stands.counts;
       chip = λ off. ap (λ w. w.chip) e ∙ all_off steps a b g off;
-    }
+    } in
+    (ends, refl)
 
-stop_ends : (steps : List Step) (done : ℕ) (reason : Reason) (a b c : World) (status : ℕ)
+pub stop_ends : (steps : List Step) (done : ℕ) (reason : Reason) (a b c : World) (status : ℕ)
     → Goes steps (Stopped reason) a b → Says (reason_line reason) b c
-    → status ≡ reason_status reason → Ends steps done a c status
+    → status ≡ reason_status reason
+    → (stop : Stop) × (e : Ends steps done a c status) × (e.ended ≡ At stop)
 stop_ends steps done reason a b c status g says answers =
     let s = stopped_at steps reason a b g in
     let stop : Stop =
     record { before = s.front; failed = s.at; behind = s.rest; reason = reason } in
-    record {
+    let ends : Ends steps done a c status = record {
       ended = At stop;
       so = record {
         place = s.parts;
@@ -278,14 +281,15 @@ stop_ends steps done reason a b c status g says answers =
           (files_decide steps (Stopped reason) a b files g there));
       counts = more_counts a b c s.counts (says_counts _ b c says);
       chip = λ off. says.chip ∙ s.off off;
-    }
+    } in
+    (stop, ends, refl)
 
 ends_by : (steps : List Step) (done : ℕ) (end : End) (a b c : World) (status : ℕ)
     → Goes steps end a b → Tells end b c → status ≡ end_status done end
     → Ends steps done a c status
-ends_by steps done Done a b c status g t answers = all_ends steps done a b c status g t answers
+ends_by steps done Done a b c status g t answers = (all_ends steps done a b c status g t answers).0
 ends_by steps done (Stopped reason) a b c status g t answers =
-    stop_ends steps done reason a b c status g t answers
+    (stop_ends steps done reason a b c status g t answers).1
 
 pub first_decides : FirstDecides
 first_decides steps done old new status ran =

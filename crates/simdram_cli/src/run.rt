@@ -117,9 +117,9 @@ fn work_on_image<'a, F: Folder, S: Sink, D: Dram>(
     requires few { length script.now ≤ SCRIPT_MAX + 1 }
     ensures borrow { D.borrow chip.new ≡ D.borrow chip.old }
     ensures worked { ImageWorked names.now (microprograms_of program) (map view_of script.now)
-        (world (F.view files.old) (S.view out.old) (D.faults chip.old))
-        (world (F.view files.new) (S.view out.new) (D.faults chip.new))
-        (chip_view (D.banks chip.new) (D.counters chip.new) (D.log chip.new)) result }
+        (world (F.view files.old) (S.view out.old) (D.view chip.old))
+        (world (F.view files.new) (S.view out.new) (D.view chip.new))
+        (D.view chip.new) result }
 {
     let bytes = load(names.image, IMAGE_MAX, files, alloc)?;
     let image = match read_built_image(&bytes, alloc) {
@@ -140,9 +140,9 @@ pub(crate) fn run<'a, F: Folder, S: Sink, D: Dram>(
     requires apart { are_apart names.now.ops.now names.now.prog.now names.now.script.now
         names.now.image.now names.now.out.now ≡ true }
     ensures borrow { D.borrow chip.new ≡ D.borrow chip.old }
-    ensures goes { RunGoes names.now (world (F.view files.old) (S.view out.old) (D.faults chip.old))
-        (world (F.view files.new) (S.view out.new) (D.faults chip.new))
-        (chip_view (D.banks chip.new) (D.counters chip.new) (D.log chip.new)) result }
+    ensures goes { RunGoes names.now (world (F.view files.old) (S.view out.old) (D.view chip.old))
+        (world (F.view files.new) (S.view out.new) (D.view chip.new))
+        (D.view chip.new) result }
 {
     let program = take_program(names, files, alloc)?;
     let script = load_script(names.script, files, alloc)?;

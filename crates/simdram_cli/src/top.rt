@@ -52,9 +52,9 @@ fn run_and_answer<F: Folder, S: Sink, D: Dram>(
     requires apart { are_apart names.now.ops.now names.now.prog.now names.now.script.now
         names.now.image.now names.now.out.now ≡ true }
     ensures borrow { D.borrow chip.new ≡ D.borrow chip.old }
-    ensures ends { RunEnds names.now (world (F.view files.old) (S.view out.old) (D.faults chip.old))
-        (world (F.view files.new) (S.view out.new) (D.faults chip.new))
-        (chip_view (D.banks chip.new) (D.counters chip.new) (D.log chip.new)) result }
+    ensures ends { RunEnds names.now (world (F.view files.old) (S.view out.old) (D.view chip.old))
+        (world (F.view files.new) (S.view out.new) (D.view chip.new))
+        (D.view chip.new) result }
 {
     let ended = run(names, files, out, chip, alloc);
     answer(ended, out)
@@ -81,15 +81,15 @@ fn dispatch<F: Folder, S: Sink, D: Dram>(
     ensures usage { command_of words.now ≡ None → result ≡ 1 }
     ensures usage_line { command_of words.now ≡ None
         → Sent (AppendsPart (codes "usage\n"))
-        (world (F.view files.old) (S.view out.old) (D.faults chip.old))
-        (world (F.view files.new) (S.view out.new) (D.faults chip.new)) }
+        (world (F.view files.old) (S.view out.old) (D.view chip.old))
+        (world (F.view files.new) (S.view out.new) (D.view chip.new)) }
     ensures ends { OnRunWords words.now (λ names. RunEnds names
-        (world (F.view files.old) (S.view out.old) (D.faults chip.old))
-        (world (F.view files.new) (S.view out.new) (D.faults chip.new))
-        (chip_view (D.banks chip.new) (D.counters chip.new) (D.log chip.new)) result) }
+        (world (F.view files.old) (S.view out.old) (D.view chip.old))
+        (world (F.view files.new) (S.view out.new) (D.view chip.new))
+        (D.view chip.new) result) }
     ensures show_ends { OnShowWords words.now
-        (λ name. ShowEnds name (world (F.view files.old) (S.view out.old) (D.faults chip.old))
-        (world (F.view files.new) (S.view out.new) (D.faults chip.new)) result) }
+        (λ name. ShowEnds name (world (F.view files.old) (S.view out.old) (D.view chip.old))
+        (world (F.view files.new) (S.view out.new) (D.view chip.new)) result) }
 {
     match command_of(words) {
         Some(Command::Run(names)) => run_and_answer(&names, files, out, chip, alloc),
@@ -118,54 +118,54 @@ pub fn simdram<F: Folder, S: Sink, D: Dram>(
     ensures usage { (result ≡ 1) ↔ (command_of words.now ≡ None) }
     ensures usage_line { command_of words.now ≡ None
         → Sent (AppendsPart (codes "usage\n"))
-        (world (F.view files.old) (S.view out.old) (D.faults chip.old))
-        (world (F.view files.new) (S.view out.new) (D.faults chip.new)) }
+        (world (F.view files.old) (S.view out.old) (D.view chip.old))
+        (world (F.view files.new) (S.view out.new) (D.view chip.new)) }
     // A run goes through its steps; the first event decides how it ends.
     ensures ends { OnRunWords words.now (λ names. RunEnds names
-        (world (F.view files.old) (S.view out.old) (D.faults chip.old))
-        (world (F.view files.new) (S.view out.new) (D.faults chip.new))
-        (chip_view (D.banks chip.new) (D.counters chip.new) (D.log chip.new)) result) }
+        (world (F.view files.old) (S.view out.old) (D.view chip.old))
+        (world (F.view files.new) (S.view out.new) (D.view chip.new))
+        (D.view chip.new) result) }
     // When it ends with 0 or 8:
     ensures program_written { OnRun words.now result (F.view files.old).holds
         (F.view files.new).holds (λ names job before after. ProgramWritten names job after) }
     ensures objects_right { OnRun words.now result (F.view files.old).holds (F.view files.new).holds
         (λ names job before after. ObjectsRight names job after
-        (chip_view (D.banks chip.new) (D.counters chip.new) (D.log chip.new))) }
+        (D.view chip.new)) }
     ensures rows_untouched { OnRun words.now result (F.view files.old).holds
         (F.view files.new).holds (λ names job before after. RowsUntouched job
-        (chip_view (D.banks chip.new) (D.counters chip.new) (D.log chip.new))) }
+        (D.view chip.new)) }
     ensures commands_counted { OnRun words.now result (F.view files.old).holds
         (F.view files.new).holds (λ names job before after. CommandsCounted job
-        (chip_view (D.banks chip.new) (D.counters chip.new) (D.log chip.new))) }
+        (D.view chip.new)) }
     ensures report_sent { OnRun words.now result (F.view files.old).holds (F.view files.new).holds
         (λ names job before after. ReportSent job
-        (chip_view (D.banks chip.new) (D.counters chip.new) (D.log chip.new)) (S.view out.old).sent
+        (D.view chip.new) (S.view out.old).sent
         (S.view out.new).sent) }
     ensures replies_exact { OnRun words.now result (F.view files.old).holds (F.view files.new).holds
         (λ names job before after. RepliesExact names job result before after) }
     // Which status it is, and what stands after each.
     ensures only_where { OnRunWords words.now
-        (λ names. OnlyWhere names (world (F.view files.old) (S.view out.old) (D.faults chip.old))
-        (world (F.view files.new) (S.view out.new) (D.faults chip.new)) result) }
+        (λ names. OnlyWhere names (world (F.view files.old) (S.view out.old) (D.view chip.old))
+        (world (F.view files.new) (S.view out.new) (D.view chip.new)) result) }
     ensures always_where { OnRunWords words.now
         (λ names. IfSome (F.view files.old).holds
         (λ held. AlwaysWhere names held (world (F.view files.old) (S.view out.old)
-        (D.faults chip.old)) (world (F.view files.new) (S.view out.new) (D.faults chip.new))
+        (D.view chip.old)) (world (F.view files.new) (S.view out.new) (D.view chip.new))
         result)) }
     // A show goes through its steps too.
     ensures show_ends { OnShowWords words.now
-        (λ name. ShowEnds name (world (F.view files.old) (S.view out.old) (D.faults chip.old))
-        (world (F.view files.new) (S.view out.new) (D.faults chip.new)) result) }
+        (λ name. ShowEnds name (world (F.view files.old) (S.view out.old) (D.view chip.old))
+        (world (F.view files.new) (S.view out.new) (D.view chip.new)) result) }
     ensures shown { OnShowWords words.now (λ name. result ≡ 0
         → IfSome (F.view files.old).holds (λ before. Shown name before (S.view out.old).sent
         (S.view out.new).sent)) }
     ensures show_only_where { OnShowWords words.now
-        (λ name. ShowOnlyWhere name (world (F.view files.old) (S.view out.old) (D.faults chip.old))
-        (world (F.view files.new) (S.view out.new) (D.faults chip.new)) result) }
+        (λ name. ShowOnlyWhere name (world (F.view files.old) (S.view out.old) (D.view chip.old))
+        (world (F.view files.new) (S.view out.new) (D.view chip.new)) result) }
     ensures show_always_where { OnShowWords words.now
         (λ name. IfSome (F.view files.old).holds
         (λ held. ShowAlwaysWhere name held (world (F.view files.old) (S.view out.old)
-        (D.faults chip.old)) (world (F.view files.new) (S.view out.new) (D.faults chip.new))
+        (D.view chip.old)) (world (F.view files.new) (S.view out.new) (D.view chip.new))
         result)) }
     ensures show_keeps { OnShowWords words.now (λ name. Told (λ before after. after
         ≡ before) (F.view files.old).holds (F.view files.new).holds) }
