@@ -1,7 +1,7 @@
 use Rattle.op_text.specs.Language.{operation}
 use Rattle.op_text.specs.Spelling.{HasOperation}
-use Rattle.op_rules.proofs.Loops.{each_all, each_mapped}
-use Rattle.op_rules.proofs.trees.see_ops.Goals as goal
+use Rattle.op_text.proofs.Loops.{each_all, each_mapped}
+use Rattle.op_text.proofs.names.see_ops.Goals as goal
 
 pub returns : goal.returns
 returns c =

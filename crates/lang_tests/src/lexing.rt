@@ -1,5 +1,7 @@
-use crate::{LexFault, Lexer, Name, TokenKind, number};
+//! What texts, names and numbers are read as.
+
 use std::process::Abort;
+use text_lex::{LexFault, Lexer, Name, TokenKind, number};
 
 /// A token: its kind, its place and its bytes.
 type Want = (TokenKind, usize, &'static [u8]);

@@ -1,6 +1,7 @@
--- What a text without a fault is parsed as meets the rules.
+-- The ops of a text are one, and meet the rules.
 use Rattle.std.proofs.Common.{◌≡◌, ℕ, Bool, true, false, ◌&&◌, ◌==◌, List, [], ◌∷◌, ◌++◌, map}
-use Rattle.std.proofs.Common.{Option, None, Result, Ok, Err, refl, sym, ap, ◌∙◌, arith}
+use Rattle.std.proofs.Common.{Option, Some, None, Result, Ok, Err, refl, sym, ap, ◌∙◌, arith}
+use Rattle.std.specs.Option.{option_map}
 use Rattle.std.specs.Char.{is_ascii_digit}
 use Rattle.std.specs.List.{list_all, AllByRecursion}
 use Rattle.std.proofs.lemmas.Bool.Decides.{nat_tests}
@@ -17,7 +18,10 @@ use Rattle.op_text.specs.Rules.{Scope, step, after, breach_of, first_breach, not
 use Rattle.op_text.specs.Language.{Operation}
 use Rattle.op_text.specs.Spelling.{kind_of_text, unplaced, items_spelled, bare, operations_text}
 use Rattle.op_text.specs.Spelling.{MeetRules}
+use Rattle.op_text.specs.Lines.{fault_of}
+use Rattle.op_text.specs.OpsOf.{OpsOfATextAreOne, OpsOfATextMeet}
 use Rattle.op_text.proofs.Places.{places_do_not_matter}
+use Rattle.op_text.proofs.Once.{ops_spelled_once}
 
 digit_no_name : (b : ℕ) → is_ascii_digit b ≡ true → is_name_start b ≡ false
 digit_no_name b h = grind (arith, nat_tests)
@@ -81,3 +85,16 @@ meets text all h e =
     ap (λ l. first_breach (items_spelled l)) (sym e)
     ∙ ap first_breach (sym (bare_all text (items_of text) _ nothing_yet (items_right text) h))
     ∙ b
+
+no_breach : {A : Type 0} (f : Breach → A) (found : Option Breach) → option_map f found ≡ None
+    → found ≡ None
+no_breach f None h = refl
+no_breach f (Some b) h = cc
+
+pub ops_of_a_text_meet : OpsOfATextMeet
+ops_of_a_text_meet text ops h =
+    meets text ops (no_breach (fault_of text) (first_breach (items_of text)) h.accepted) h.spelled
+
+pub ops_of_a_text_are_one : OpsOfATextAreOne
+ops_of_a_text_are_one text a b g h =
+    ops_spelled_once a b g.named h.named (sym g.spelled ∙ h.spelled)
