@@ -2,8 +2,9 @@
 //! report on it.
 #![tactic(auto)]
 
-ghost use Rattle.machine_model.specs.Laws.{CountedByReplies, EventsAreSteps, RowsGiveWords};
-ghost use Rattle.machine_model.specs.Laws.{SameOperations, TextGivesWords};
+ghost use Rattle.machine_model.specs.Laws.{CountedByReplies, EventsAreSteps, FollowsQueue};
+ghost use Rattle.machine_model.specs.Laws.{OneBankInOrder, PicksAreWhole, RowsGiveWords};
+ghost use Rattle.machine_model.specs.Laws.{SameOperations, SeenInOrder, TextGivesWords, WaveIsSteps};
 
 use uprog_code::{BadWalk, Counts};
 
@@ -41,8 +42,18 @@ pub fn rows_give_words()
     ensures same { SameOperations }
 {}
 
-/// A script's events leave the banks as its steps do, and its replies count them.
+/// In whatever order the banks of a wave take turns, each does its own commands in order.
+pub fn waves_are_steps()
+    ensures whole { PicksAreWhole }
+    ensures follows { FollowsQueue }
+    ensures steps { WaveIsSteps }
+{}
+
+/// Under every order in force a script's events leave the banks as its steps do, and its replies
+/// count them; on one bank they are the events of its instructions one after another.
 pub fn events_are_steps()
+    ensures seen { SeenInOrder }
     ensures steps { EventsAreSteps }
     ensures counted { CountedByReplies }
+    ensures one_bank { OneBankInOrder }
 {}
