@@ -8,7 +8,7 @@ use Rattle.bbop_isa.specs.Forms.{Instruction}
 use Rattle.machine_model.specs.Operations.{Program}
 use Rattle.machine_model.specs.Opened.{Image}
 use Rattle.uprog_bin.specs.Spelling.{program_bytes}
-use Rattle.uprog_bin.proofs.Exact.{one_program}
+use Rattle.uprog_bin.proofs.Versions.{file_is_one}
 use Rattle.simdram_cli.specs.declared.words.RunNames.{RunNames}
 use Rattle.simdram_cli.specs.Headline.{Job, IsJob, Spells, ProgramWritten, OneJob}
 
@@ -31,5 +31,5 @@ one_job names before after a b ja jb pa pb =
     (same_ops (before names.ops.now) a.ops b.ops ja.ops jb.ops)
     (same_value _ a.script b.script ja.script jb.script)
     (same_value _ a.image b.image ja.image jb.image)
-    (one_program a.program b.program pa.legal pb.legal
-    (same_value (after names.prog.now) _ _ pa.file pb.file))
+    (file_is_one 2 2 a.program b.program pa.legal pb.legal (inr refl) (inr refl)
+    (same_value (after names.prog.now) _ _ pa.file pb.file)).1
