@@ -9,10 +9,8 @@ use Rattle.std.proofs.lemmas.List.{length-take, length-drop, get_or-drop, get_or
 use Rattle.std.proofs.lemmas.List.{get_or_past}
 use Rattle.std.proofs.lemmas.Nat.{le_bytes_2, le_bytes_4, from_le_bytes-to_le_bytes_2}
 use Rattle.std.proofs.lemmas.Nat.{from_le_bytes-to_le_bytes_4}
-use Rattle.uprog_bin.specs.declared.fault.ProgKind.{ProgKind}
-use Rattle.uprog_bin.specs.declared.fault.ProgKind.TheVariants as kinds
-use Rattle.uprog_bin.specs.declared.fault.ProgFault.{ProgFault}
-use Rattle.uprog_bin.specs.Reading.{IsBytes, ◌>>=◌, fault_at, rule, bytes_at, number_at, field_at}
+use Rattle.file_fields.specs.declared.faults.FileFault.{FileFault}
+use Rattle.file_fields.specs.Fields.{IsBytes, ◌>>=◌, fault_at, rule, bytes_at, number_at, field_at}
 
 -- this text stands at a place of the bytes, and ends at the next place
 pub record Holds (bytes : List ℕ) (at : ℕ) (text : List ℕ) (next : ℕ) : Type 0 where
@@ -69,32 +67,33 @@ Holds-fits bytes at text next h fits i =
     ]
 
 -- the value of a step that did not fail
-pub bind_ok : {A B : Type 0} (r : Result A ProgFault) (f : A → Result B ProgFault) (y : B)
+pub bind_ok : {K A B : Type 0} (r : Result A (FileFault K)) (f : A → Result B (FileFault K)) (y : B)
     → (r >>= f) ≡ Ok y → (x : A) × (r ≡ Ok x) × (f x ≡ Ok y)
 bind_ok (Ok x) f y e = (x, refl, e)
 bind_ok (Err d) f y e = absurd cc
 
-abbrev done : {A : Type 0} → A → Result A ProgFault
+abbrev done : {K A : Type 0} → A → Result A (FileFault K)
 done x = Ok x
 
-pub ok_is : {A : Type 0} (x y : A) → done x ≡ done y → x ≡ y
+pub ok_is : {K A : Type 0} (x y : A) → done {K = K} x ≡ done y → x ≡ y
 ok_is x y e = cc
 
 -- a rule that did not fail
-pub rule_ok : (b : Bool) (at : ℕ) (kind : ProgKind) (x : Unit {0}) → rule b at kind ≡ Ok x
+pub rule_ok : {K : Type 0} (b : Bool) (at : ℕ) (kind : K) (x : Unit {0}) → rule b at kind ≡ Ok x
     → b ≡ true
 rule_ok true at kind x e = refl
 rule_ok false at kind x e = absurd cc
 
-guard_ok : {A : Type 0} (b : Bool) (d : ProgFault) (x y : A) → cond b (Err d) (Ok x) ≡ Ok y
+guard_ok : {K A : Type 0} (b : Bool) (d : FileFault K) (x y : A) → cond b (Err d) (Ok x) ≡ Ok y
     → (b ≡ false) × (x ≡ y)
 guard_ok true d x y e = absurd cc
 guard_ok false d x y e = (refl, cc)
 
-pub bytes_takes : (len at next : ℕ) (bytes field : List ℕ) → bytes_at len at bytes ≡ Ok field
+pub bytes_takes : {K : Type 0} (short : K) (len at next : ℕ) (bytes field : List ℕ)
+    → bytes_at short len at bytes ≡ Ok field
     → next ≡ at + len → Holds bytes at field next × (length field ≡ len)
-bytes_takes len at next bytes field e n =
-    let g = guard_ok (ltb (length bytes) (at + len)) (fault_at (length bytes) kinds.Short)
+bytes_takes short len at next bytes field e n =
+    let g = guard_ok (ltb (length bytes) (at + len)) (fault_at (length bytes) short)
     (take len (drop at bytes)) field e in
     let long : at + len ≤ length bytes = ltb-false _ _ g.0 in
     let size : length (take len (drop at bytes)) ≡ len =
@@ -109,9 +108,10 @@ bytes_takes len at next bytes field e n =
     } in
     subst (λ (f : List ℕ). Holds bytes at f next × (length f ≡ len)) g.1 (held, size)
 
-pub bytes_again : (len at next : ℕ) (bytes field : List ℕ) → Holds bytes at field next
-    → length field ≡ len → bytes_at len at bytes ≡ Ok field
-bytes_again len at next bytes field h size =
+pub bytes_again : {K : Type 0} (short : K) (len at next : ℕ) (bytes field : List ℕ)
+    → Holds bytes at field next
+    → length field ≡ len → bytes_at short len at bytes ≡ Ok field
+bytes_again short len at next bytes field h size =
     let long : ltb (length bytes) (at + len) ≡ false =
     le-ltb _ _ (omega (arith, h.ends, h.within, size)) in
     let part : take len (drop at bytes) ≡ field = ap (take len) h.parts
@@ -155,44 +155,47 @@ wide32 = record {
   below = λ bytes fits. omega (arith, fits 0, fits 1, fits 2, fits 3);
 }
 
-pub number_takes : (w : Width) (limit : ℕ) (text : ℕ
+pub number_takes : {K : Type 0} (short : K) (w : Width) (limit : ℕ) (text : ℕ
     → List ℕ) (wide : IsWide w limit text) (at next : ℕ) (bytes : List ℕ) (n : ℕ) → IsBytes bytes
-    → number_at w at bytes ≡ Ok n → next ≡ at + byte_len w → Holds bytes at (text n) next
+    → number_at short w at bytes ≡ Ok n → next ≡ at + byte_len w → Holds bytes at (text n) next
     × (n < limit)
-number_takes w limit text wide at next bytes n fits e nx =
-    let a = bind_ok (bytes_at (byte_len w) at bytes) (λ field. Ok (from_le_bytes w field)) n e in
-    let t = bytes_takes (byte_len w) at next bytes a.0 a.1 nx in
+number_takes short w limit text wide at next bytes n fits e nx =
+    let a = bind_ok (bytes_at short (byte_len w) at bytes) (λ field. Ok (from_le_bytes w field)) n e
+    in
+    let t = bytes_takes short (byte_len w) at next bytes a.0 a.1 nx in
     let part : IsBytes a.0 = Holds-fits bytes at a.0 next t.0 fits in
     let held : Holds bytes at (text (from_le_bytes w a.0)) next =
     subst (λ (f : List ℕ). Holds bytes at f next) (sym (wide.back a.0 t.1 part)) t.0 in
     subst (λ (k : ℕ). Holds bytes at (text k) next
     × (k < limit)) (ok_is (from_le_bytes w a.0) n a.2) (held, wide.below a.0 part)
 
-pub number_again : (w : Width) (limit : ℕ) (text : ℕ
+pub number_again : {K : Type 0} (short : K) (w : Width) (limit : ℕ) (text : ℕ
     → List ℕ) (wide : IsWide w limit text) (at next : ℕ) (bytes : List ℕ) (n : ℕ)
-    → Holds bytes at (text n) next → n < limit → number_at w at bytes ≡ Ok n
-number_again w limit text wide at next bytes n h lt =
-    rw (bytes_again (byte_len w) at next bytes (text n) h (wide.len n)) (ap done (wide.again n lt))
+    → Holds bytes at (text n) next → n < limit → number_at short w at bytes ≡ Ok n
+number_again short w limit text wide at next bytes n h lt =
+    rw (bytes_again short (byte_len w) at next bytes (text n) h (wide.len n))
+    (ap done (wide.again n lt))
 
-pub field_takes : (w : Width) (limit : ℕ) (text : ℕ
+pub field_takes : {K : Type 0} (short : K) (w : Width) (limit : ℕ) (text : ℕ
     → List ℕ) (wide : IsWide w limit text) (passes : ℕ
-    → Bool) (kind : ProgKind) (at next : ℕ) (bytes : List ℕ) (n : ℕ)
-    → IsBytes bytes → field_at w passes kind at bytes ≡ Ok n → next ≡ at + byte_len w
+    → Bool) (kind : K) (at next : ℕ) (bytes : List ℕ) (n : ℕ)
+    → IsBytes bytes → field_at short w passes kind at bytes ≡ Ok n → next ≡ at + byte_len w
     → Holds bytes at (text n) next × (n < limit) × (passes n ≡ true)
-field_takes w limit text wide passes kind at next bytes n fits e nx =
-    let a = bind_ok (number_at w at bytes) (λ k. rule (passes k) at kind >>= λ _. Ok k) n e in
+field_takes {K = K} short w limit text wide passes kind at next bytes n fits e nx =
+    let a = bind_ok (number_at short w at bytes) (λ k. rule (passes k) at kind >>= λ _. Ok k) n e in
     let b = bind_ok (rule (passes a.0) at kind) (λ _. Ok a.0) n a.2 in
-    let t = number_takes w limit text wide at next bytes a.0 fits a.1 nx in
+    let t = number_takes short w limit text wide at next bytes a.0 fits a.1 nx in
     subst (λ (k : ℕ). Holds bytes at (text k) next × (k < limit)
     × (passes k ≡ true)) (ok_is a.0 n b.2) (t.0, t.1, rule_ok (passes a.0) at kind b.0 b.1)
 
-pub field_again : (w : Width) (limit : ℕ) (text : ℕ
+pub field_again : {K : Type 0} (short : K) (w : Width) (limit : ℕ) (text : ℕ
     → List ℕ) (wide : IsWide w limit text) (passes : ℕ
-    → Bool) (kind : ProgKind) (at next : ℕ) (bytes : List ℕ) (n : ℕ)
+    → Bool) (kind : K) (at next : ℕ) (bytes : List ℕ) (n : ℕ)
     → Holds bytes at (text n) next → n < limit → passes n ≡ true
-    → field_at w passes kind at bytes ≡ Ok n
-field_again w limit text wide passes kind at next bytes n h lt ok =
-    let read : number_at w at bytes ≡ Ok n = number_again w limit text wide at next bytes n h lt in
-    let step : Result ℕ ProgFault → Result ℕ ProgFault =
+    → field_at short w passes kind at bytes ≡ Ok n
+field_again {K = K} short w limit text wide passes kind at next bytes n h lt ok =
+    let read : number_at short w at bytes ≡ Ok n =
+    number_again short w limit text wide at next bytes n h lt in
+    let step : Result ℕ (FileFault K) → Result ℕ (FileFault K) =
     λ r. r >>= λ k. rule (passes k) at kind >>= λ _. Ok k in
     ap step read ∙ rw ok refl
