@@ -30,7 +30,8 @@ Alike-append a b c d h k bank = events_of-append bank a c
     ∙ ap (λ es. events_of bank b ++ es) (k bank)
     ∙ sym (events_of-append bank b d)
 
-pub alike_after : (es fs : List Event) → Alike es fs → (chip : Banks) → after es chip ≡ after fs chip
+pub alike_after : (es fs : List Event) → Alike es fs → (chip : Banks)
+    → after es chip ≡ after fs chip
 alike_after es fs h chip = fun_ext (λ bank. projection es chip bank
     ∙ ap (λ own. on_bank_all own (chip bank)) (h bank) ∙ sym (projection fs chip bank))
 
