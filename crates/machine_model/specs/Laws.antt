@@ -6,7 +6,7 @@ use Rattle.dram_model.specs.declared.dram.Counters.{Counters}
 use Rattle.dram_model.specs.Column.{run}
 use Rattle.dram_model.specs.Chip.{Banks, after, all_counted}
 use Rattle.dram_model.specs.Elements.{column_count}
-use Rattle.dram_model.specs.Events.{events_of as on_one}
+use Rattle.dram_model.specs.Events.{events_of as seen_by}
 use Rattle.object_alloc.specs.Listed.{Named}
 use Rattle.bbop_isa.specs.Forms.{Instruction}
 use Rattle.uprog_code.specs.Texts.{TextOp, ImplementsAll}
@@ -46,6 +46,16 @@ abbrev pub SameOperations : Type 0
 SameOperations = (p : Program) (t : List TextOp) → ImplementsAll p t
     → operations_of t p ≡ operations_in p
 
+-- The picks of every order in force are a whole list
+abbrev pub PicksAreWhole : Type 0
+PicksAreWhole =
+    (turn : Turn) (banks : ℕ) (left : Queues)
+    → IsWhole banks (whole_picks in_turn banks turn left) left
+
+-- the banks hold each object of a table
+abbrev pub FitsBanks : Geometry → List Named → Type 0
+FitsBanks g table = All (λ named. named.1.count ≤ column_count g * g.banks) table
+
 -- Each bank of a wave is left as its own queue alone leaves it, for every whole list of picks
 abbrev pub FollowsQueue : Type 0
 FollowsQueue =
@@ -62,10 +72,6 @@ WaveIsSteps =
     → after (events_of_picks g.banks picks (wave_queues g operations table wave)) chip bank
     ≡ banks_at_end g operations table chip wave bank
 
--- the banks hold each object of a table
-abbrev pub FitsBanks : Geometry → List Named → Type 0
-FitsBanks g table = All (λ named. named.1.count ≤ column_count g * g.banks) table
-
 -- and is counted by its replies
 abbrev pub WaveIsCounted : Type 0
 WaveIsCounted =
@@ -74,12 +80,6 @@ WaveIsCounted =
     → IsWhole g.banks picks (wave_queues g operations table wave)
     → all_counted (events_of_picks g.banks picks (wave_queues g operations table wave)) k
     ≡ with_counts k (sum_of (replies g operations table wave))
-
--- The picks of every order in force are a whole list
-abbrev pub PicksAreWhole : Type 0
-PicksAreWhole =
-    (turn : Turn) (banks : ℕ) (left : Queues)
-    → IsWhole banks (whole_picks in_turn banks turn left) left
 
 -- A script's pieces are waves and single instructions, and together they are the script
 abbrev pub PiecesAreScript : Type 0
@@ -92,8 +92,8 @@ abbrev pub SeenInOrder : Type 0
 SeenInOrder =
     (g : Geometry) (operations : Operations) (turn : Turn) (table : List Named)
     (script : List Instruction) (bank : ℕ) → 0 < g.words → FitsBanks g table
-    → on_one bank (events_of_pieces g operations turn table (pieces script))
-    ≡ on_one bank (events_in_order g operations table script)
+    → seen_by bank (events_of_pieces g operations turn table (pieces script))
+    ≡ seen_by bank (events_in_order g operations table script)
 
 -- So a script's events leave the banks as its instructions one after another do
 abbrev pub EventsAreSteps : Type 0
