@@ -9,7 +9,8 @@ use mathlib.Core.Path.{fun_ext}
 use Rattle.dram_model.specs.declared.geometry.Geometry.{Geometry}
 use Rattle.dram_model.specs.declared.dram.Counters.{Counters}
 use Rattle.dram_model.specs.Chip.{Banks, Event, after, all_counted}
-use Rattle.dram_model.specs.Events.{row_events, after-append, all_counted-append}
+use Rattle.dram_model.specs.Events.{row_events}
+use Rattle.dram_model.proofs.EventLaws.{after-append, all_counted-append}
 use Rattle.uprog_code.specs.declared.walker.Counts.{Counts}
 use Rattle.uprog_code.specs.Shape.{Shape}
 use Rattle.uprog_code.specs.Machine.{Issue, Twice, Once, issues_of}

@@ -19,7 +19,8 @@ use Rattle.bit_rows.specs.Bits.{value, bit_number, bit_at}
 use Rattle.dram_model.specs.Column.{Column, step, run}
 use Rattle.dram_model.specs.Chip.{Banks, Event, after}
 use Rattle.dram_model.specs.Chip.Event.{Row}
-use Rattle.dram_model.specs.Events.{row_events, after-append, on-its-bank, on-others}
+use Rattle.dram_model.specs.Events.{row_events}
+use Rattle.dram_model.proofs.EventLaws.{after-append, on-its-bank, on-others}
 use Rattle.dram_model.specs.Elements.{number}
 use Rattle.object_alloc.specs.declared.table.Object.{Object}
 use Rattle.object_alloc.specs.Free.{has_row, AreApart}

@@ -29,11 +29,11 @@ use Rattle.op_text.specs.Spelling.{in_turn, operations_text, HasNames, HasParam,
 use Rattle.op_text.specs.Spelling.{HasEquation, HasStatement, HasOperation, IsName, Each, MeetRules}
 use Rattle.op_text.specs.Spelling as tokens
 use Rattle.op_text.proofs.Places.{places_do_not_matter}
-use Rattle.op_text.proofs.Once.{ops_spelled_once}
+use Rattle.op_text.specs.OpsOf.{IsOpsOf}
 use Rattle.op_print.specs.Canonical.{behind_comma, listed, spelled, value_text, param_text}
 use Rattle.op_print.specs.Canonical.{state_text, equation_text, let_text, word_text, block_head}
 use Rattle.op_print.specs.Canonical.{op_head, line, statement_lines, op_lines, canonical_text}
-use Rattle.op_print.specs.Reading.{TokensSpellOps, IsReadAs, PrintingIsUndone}
+use Rattle.op_print.specs.Reading.{TokensSpellOps, PrintingIsUndone}
 
 -- A text is read as these tokens, wherever it stands.
 record Reads (text : List ℕ) (spells : List (List ℕ)) : Type 0 where
@@ -383,18 +383,17 @@ printing_is_undone all h meets =
     let items = items_of (canonical_text all) in
     let same = tokens_spell_ops all h in
     let good : first_breach items ≡ None = (places_do_not_matter items _ nothing_yet).1
-    (ap first_breach same ∙ meets) in
-    let spelled : texts items ≡ operations_text all = sym (texts_bare items) ∙ ap texts same
-    ∙ texts_spelled (operations_text all) in (
-      (ap (option_map (fault_of (canonical_text all))) good, spelled),
-      λ others k t. ops_spelled_once others all k h (sym t.1 ∙ spelled),
-    )
+    (ap first_breach same ∙ meets) in record {
+      accepted = ap (option_map (fault_of (canonical_text all))) good;
+      spelled = sym (texts_bare items) ∙ ap texts same ∙ texts_spelled (operations_text all);
+      named = h;
+    }
 
 -- where a text is begun empty, and these ops are written to it
 pub read_back : (ops given : List Op) (text before : List ℕ) → given ≡ ops
-    → Each HasOperation (map operation given) → MeetRules (map operation ops) → before ≡ []
+    → Each HasOperation (map operation ops) → MeetRules (map operation ops) → before ≡ []
     → text ≡ before ++ canonical_text (map operation given)
-    → IsReadAs text (map operation ops)
+    → IsOpsOf text (map operation ops)
 read_back ops given text before same named meets blank written =
     let is : text ≡ canonical_text (map operation ops) = rw (written, blank, same) refl in
-    rw is (printing_is_undone (map operation ops) (rw same at named) meets)
+    rw is (printing_is_undone (map operation ops) named meets)

@@ -5,6 +5,7 @@ ghost use Rattle.op_text.specs.WordOps.{FirstSettles};
 ghost use Rattle.op_text.specs.Meaning.{MeaningFits};
 ghost use Rattle.op_text.specs.Spelling.{TermsAreAccepted, PlacesDoNotMatter, SpelledOnce};
 ghost use Rattle.op_text.specs.Spelling.{OpsSpelledOnce};
+ghost use Rattle.op_text.specs.OpsOf.{OpsOfATextAreOne, OpsOfATextMeet};
 
 /// What the grammar's steps accept is the grammar's texts, and they allow what these begin with.
 pub fn grammar_is_followed()
@@ -44,4 +45,14 @@ pub fn first_settles()
 /// No two lists of ops are spelled alike.
 pub fn ops_spelled_once()
     ensures { OpsSpelledOnce }
+{}
+
+/// A text has one list of ops.
+pub fn ops_of_a_text_are_one()
+    ensures { OpsOfATextAreOne }
+{}
+
+/// The ops of a text meet the rules.
+pub fn ops_of_a_text_meet()
+    ensures { OpsOfATextMeet }
 {}

@@ -8,7 +8,7 @@ use Rattle.dram_model.specs.declared.dram.Counters.{Counters}
 use Rattle.dram_model.specs.declared.address.Command.TheVariants.{Ap, Aap}
 use Rattle.dram_model.specs.Chip.{Banks, Event, after, counted, all_counted, Grew}
 use Rattle.dram_model.specs.Chip.Event.{Row, Write}
-use Rattle.dram_model.specs.Events.{all_counted-append}
+use Rattle.dram_model.proofs.EventLaws.{all_counted-append}
 use Rattle.object_alloc.specs.Spelling.{Rows}
 use Rattle.bbop_isa.specs.Forms.{Instruction}
 use Rattle.machine_model.specs.Operations.{Program, operations_in}

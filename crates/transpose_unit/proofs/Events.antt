@@ -8,7 +8,7 @@ use Rattle.bit_rows.specs.Bits.{bits_of_words}
 use Rattle.dram_model.specs.declared.dram.Counters.{Counters}
 use Rattle.dram_model.specs.Chip.{Banks, Event, happens, after}
 use Rattle.dram_model.specs.Chip.Event.{Write}
-use Rattle.dram_model.specs.Events.{after-append}
+use Rattle.dram_model.proofs.EventLaws.{after-append}
 use Rattle.transpose_unit.specs.Stage.{stage_row, stage_events}
 
 -- a row more

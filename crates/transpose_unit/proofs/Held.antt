@@ -17,7 +17,8 @@ use Rattle.bit_rows.specs.Bits.{value, bit_at, bit_number}
 use Rattle.dram_model.specs.Column.{Column, drive, plain, is_written}
 use Rattle.dram_model.specs.Chip.{Banks, Event, after, with_row}
 use Rattle.dram_model.specs.Chip.Event.{Write}
-use Rattle.dram_model.specs.Events.{events_of, on_bank_all, projection, after-append}
+use Rattle.dram_model.specs.Events.{events_of, on_bank_all}
+use Rattle.dram_model.proofs.EventLaws.{projection, after-append}
 use Rattle.dram_model.specs.Elements.{number, column_count}
 use Rattle.transpose_unit.specs.Columns.{segments_of, numbers_in, size_of, padded_to, part_of}
 use Rattle.transpose_unit.specs.Columns.{row_bits, write_events}

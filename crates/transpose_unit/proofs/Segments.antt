@@ -14,7 +14,7 @@ use Rattle.dram_model.specs.declared.geometry.Geometry.{Geometry}
 use Rattle.dram_model.specs.Elements.{column_count}
 use Rattle.dram_model.specs.Chip.{Banks, Event, after}
 use Rattle.dram_model.specs.Chip.Event.{Write}
-use Rattle.dram_model.specs.Events.{after-append}
+use Rattle.dram_model.proofs.EventLaws.{after-append}
 use Rattle.transpose_unit.specs.Stage.{stage_row, stage_events}
 use Rattle.transpose_unit.specs.Columns.{segments_of, size_of, padded_to, part_of, row_bits}
 

@@ -125,7 +125,7 @@ again shape size last (uop.SetI r k) small h l =
       read = record {
         formed = from_both (ltb r 8) (leb (operand x) 1023
             && true) b.0 (from_both (leb (operand x) 1023) true (ap (λ n. leb n 1023) o
-                ∙ b.1) refl);
+            ∙ b.1) refl);
         target = refl;
         rows = refl;
         ends = open_end last (λ t. let e = l t in absurd cc);
@@ -164,7 +164,7 @@ again shape size last (uop.Mov r s) small h l =
       read = record {
         formed = from_both (ltb r 8) ((ltb s 8 && true)
             && true) b.0 (from_both (ltb s 8 && true) true (from_both (ltb s 8) true b.1 refl)
-                refl);
+            refl);
         target = refl;
         rows = refl;
         ends = open_end last (λ t. let e = l t in absurd cc);
@@ -179,7 +179,7 @@ again shape size last (uop.Add r s) small h l =
       read = record {
         formed = from_both (ltb r 8) ((ltb s 8 && true)
             && true) b.0 (from_both (ltb s 8 && true) true (from_both (ltb s 8) true b.1 refl)
-                refl);
+            refl);
         target = refl;
         rows = refl;
         ends = open_end last (λ t. let e = l t in absurd cc);
@@ -196,7 +196,7 @@ again shape size last (uop.AddI r k) small h l =
       read = record {
         formed = from_both (ltb r 8) (leb (operand x) 1023
             && true) b.0 (from_both (leb (operand x) 1023) true (ap (λ n. leb n 1023) o
-                ∙ b.1) refl);
+            ∙ b.1) refl);
         target = refl;
         rows = refl;
         ends = open_end last (λ t. let e = l t in absurd cc);
@@ -213,7 +213,7 @@ again shape size last (uop.SubI r k) small h l =
       read = record {
         formed = from_both (ltb r 8) (leb (operand x) 1023
             && true) b.0 (from_both (leb (operand x) 1023) true (ap (λ n. leb n 1023) o
-                ∙ b.1) refl);
+            ∙ b.1) refl);
         target = refl;
         rows = refl;
         ends = open_end last (λ t. let e = l t in absurd cc);

@@ -9,7 +9,9 @@ pub mod Instructions
 pub mod KindBits
 pub mod Listings
 pub mod Names
+pub mod Numbers
 pub mod Records
 pub mod Taken
 pub mod Uops
+pub mod Versions
 pub mod Whole

@@ -1,6 +1,6 @@
 -- Reading a program file field by field: its program, or the first field that is not whole or
 -- breaks its rule.
-use Rattle.std.specs.Prelude.{◌≡◌, ◌<◌, ℕ, zero, suc, ◌+◌, ◌*◌, ◌/◌, ◌%◌, ◌^◌, Bool, true, ◌&&◌}
+use Rattle.std.specs.Prelude.{◌≡◌, ◌<◌, ℕ, zero, suc, ◌+◌, ◌*◌, ◌/◌, ◌%◌, ◌^◌, Bool, true, ◌&&◌, ◌||◌}
 use Rattle.std.specs.Prelude.{not, nat_le, nat_lt, ◌==◌, List, [], ◌∷◌, ◌++◌, length, take, drop}
 use Rattle.std.specs.Prelude.{Option, Some, None, Result, Ok, Err, if◌then◌else◌, codes, map}
 use Rattle.std.specs.Prelude.{slice_get, slice_index, slice_index_or}
@@ -205,46 +205,60 @@ abbrev pub kinds_of : ℕ → ℕ → List Kind
 kinds_of zero n = []
 kinds_of (suc m) n = kind_of_bit (n % 2) ∷ kinds_of m (n / 2)
 
--- bits 5 to 7 are 0, and those at and past the sources' number up to bit 3
-abbrev pub is_kinds : ℕ → ℕ → Bool
-is_kinds m n = nat_lt n 32 && nat_lt (n % 16) (2 ^ m)
+-- the second result: the low bit says that there is one, and the other that it is a word
+abbrev pub second_of : ℕ → Option Kind
+second_of b = if b == 0 then None else Some (kind_of_bit (b / 2))
 
-unfoldable pub shape_at : ℕ → List ℕ → Result Shape ProgFault
-shape_at at bytes = do
+-- The bits from bit 4 on. Bit 4 is the first result's; in version 2 bits 5 and 6 are the second's,
+-- and bit 6 is 0 where bit 5 is. All others are 0.
+abbrev pub is_results : ℕ → ℕ → Bool
+is_results version top = nat_lt top (if version == 1 then 2 else 8) && not (top / 2 == 2)
+
+-- the bits at and past the sources' number up to bit 3 are 0
+abbrev pub is_kinds : ℕ → ℕ → ℕ → Bool
+is_kinds version m n = nat_lt (n % 16) (2 ^ m) && is_results version (n / 16)
+
+unfoldable pub shape_at : ℕ → ℕ → List ℕ → Result Shape ProgFault
+shape_at version at bytes = do
   sources ← field_at w8 (is_between 1 4) kinds.Directory at bytes
-  kinds ← field_at w8 (is_kinds sources) kinds.Directory (at + 1) bytes
+  kinds ← field_at w8 (is_kinds version sources) kinds.Directory (at + 1) bytes
   bits ← number_at w8 (at + 2) bytes
   words ← number_at w8 (at + 3) bytes
   Ok (record {
     sources = kinds_of sources kinds;
-    result = kind_of_bit (kinds / 16);
+    result = kind_of_bit (kinds / 16 % 2);
+    second = second_of (kinds / 16 / 2);
     bits = bits;
     words = words;
   })
 
-unfoldable pub listing_at : List Listing → ℕ → ℕ → List ℕ → Result Listing ProgFault
-listing_at earlier start at bytes = do
+unfoldable pub listing_at : ℕ → List Listing → ℕ → ℕ → List ℕ → Result Listing ProgFault
+listing_at version earlier start at bytes = do
   name ← name_at earlier at bytes
-  shape ← shape_at (at + 17) bytes
+  shape ← shape_at version (at + 17) bytes
   first ← field_at w32 (λ n. n == start) kinds.Directory (at + 21) bytes
   count ← field_at w16 (is_between 1 65535) kinds.Directory (at + 25) bytes
   Ok (record { name = name; shape = shape; start = first; count = count })
 
 -- these entries, and so many after them, whose code starts behind theirs
-unfoldable pub directory_at : ℕ → List Listing → ℕ → ℕ → List ℕ → Result (List Listing) ProgFault
-directory_at zero earlier start at bytes = Ok earlier
-directory_at (suc n) earlier start at bytes = do
-  listing ← listing_at earlier start at bytes
-  directory_at n (earlier ++ listing ∷ []) (start + listing.count) (at + 27) bytes
+unfoldable pub directory_at : ℕ → ℕ → List Listing → ℕ → ℕ → List ℕ
+    → Result (List Listing) ProgFault
+directory_at version zero earlier start at bytes = Ok earlier
+directory_at version (suc n) earlier start at bytes = do
+  listing ← listing_at version earlier start at bytes
+  directory_at version n (earlier ++ listing ∷ []) (start + listing.count) (at + 27) bytes
 
 -- ---- the file
 
-unfoldable pub opening_in : List ℕ → Result (Unit {0}) ProgFault
+abbrev pub is_version : ℕ → Bool
+is_version n = n == 1 || n == 2
+
+-- the version of the file
+unfoldable pub opening_in : List ℕ → Result ℕ ProgFault
 opening_in bytes = do
   magic ← bytes_at 4 0 bytes
   same ← rule (bytes_eq magic (codes "SDMP")) 0 kinds.Magic
-  version ← field_at w16 (λ version. version == 1) kinds.Version 4 bytes
-  Ok tt
+  field_at w16 is_version kinds.Version 4 bytes
 
 -- the code of each of these entries, from a place on
 unfoldable pub codes_at : List Listing → ℕ → List ℕ → Result (List Microprogram) ProgFault
@@ -262,16 +276,16 @@ total_count (l ∷ ls) = l.count + total_count ls
 abbrev pub codes_start : List Listing → ℕ
 codes_start ls = 8 + 27 * length ls
 
--- the program that a file spells, or its first fault
-unfoldable pub program_in : List ℕ → Result (List Microprogram) ProgFault
+-- the version of a file and the program that it spells, or its first fault
+unfoldable pub program_in : List ℕ → Result (ℕ × List Microprogram) ProgFault
 program_in bytes = do
-  opening ← opening_in bytes
+  version ← opening_in bytes
   count ← field_at w16 (λ n. nat_le n 32) kinds.Directory 6 bytes
-  listings ← directory_at count [] 0 8 bytes
+  listings ← directory_at version count [] 0 8 bytes
   programs ← codes_at listings (codes_start listings) bytes
   ended ← rule (length bytes == codes_start listings + 8 * total_count listings)
       (codes_start listings + 8 * total_count listings) kinds.Rest
-  Ok programs
+  Ok (version, programs)
 
 -- ---- what the code keeps of a file
 

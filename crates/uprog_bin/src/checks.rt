@@ -43,16 +43,16 @@ pub(crate) fn check_codes(listed: &[Listed], bytes: &[u8], start: usize) -> Resu
     Ok(at)
 }
 
-/// Whether the file begins as a program of the version that there is.
+/// The version of a file that begins as a program.
 #[tactic(auto, unfolding(crate::specs::Reading::opening_in))]
-pub(crate) fn opening_of(bytes: &[u8]) -> Result<(), ProgFault>
+pub(crate) fn opening_of(bytes: &[u8]) -> Result<u16, ProgFault>
     requires { length bytes.now < 2 ^ 32 }
-    ensures gives { Gives (λ x. x) result (opening_in bytes.now) }
+    ensures gives { Gives (λ version. version) result (opening_in bytes.now) }
     ensures within { OnOk result (6 ≤ length bytes.now) }
 {
     let magic = bytes_at(bytes, 0, 4)?;
     rule(magic == b"SDMP".as_slice(), 0, ProgKind::Magic)?;
     let version = u16_at(bytes, 4)?;
-    rule(version == 1, 4, ProgKind::Version)?;
-    Ok(())
+    rule(version == 1 || version == 2, 4, ProgKind::Version)?;
+    Ok(version)
 }

@@ -5,7 +5,7 @@ ghost use Rattle.std.specs.List.{list_all, list_any};
 ghost use Rattle.arrayvec.specs.ArrayVec.{array_vec_len};
 ghost use Rattle.uprog_code.specs.Shape.{shape_of};
 ghost use Rattle.uprog_bin.specs.Reading.{Gives, is_named, has_name, name_at, kind_of_bit};
-ghost use Rattle.uprog_bin.specs.Reading.{kinds_of, is_kinds, shape_at, listing_at, directory_at};
+ghost use Rattle.uprog_bin.specs.Reading.{kinds_of, second_of, is_results, is_kinds, shape_at, listing_at, directory_at};
 ghost use Rattle.uprog_bin.specs.Reading.{listing_of, listings_of};
 
 use crate::fault::{ProgFault, ProgKind, fault, rule};
@@ -29,6 +29,7 @@ impl Default for Listed {
                 name: Name::default(),
                 sources: ArrayVec::new(),
                 result: Kind::Word,
+                second: None,
                 bits: 0,
                 words: 0,
             },
@@ -97,11 +98,30 @@ fn kinds_of(count: u8, bits: u8) -> ArrayVec<Kind, 4>
     kinds
 }
 
-/// Whether the byte has bits for so many sources and the result alone.
-fn is_kinds(sources: u8, bits: u8) -> bool
+/// The kind of the second result, if there is one.
+fn second_of_bits(bits: u8) -> Option<Kind>
+    ensures { result ≡ second_of bits }
+{
+    if bits == 0 {
+        None
+    } else {
+        Some(kind_of_bit(bits / 2))
+    }
+}
+
+/// Whether the bits from bit 4 on are those of results in a file of this version.
+fn is_results(version: u16, top: u8) -> bool
+    ensures { result ≡ is_results version top }
+{
+    let limit = if version == 1 { 2 } else { 8 };
+    top < limit && top / 2 != 2
+}
+
+/// Whether the byte has bits for so many sources and the results alone.
+fn is_kinds(version: u16, sources: u8, bits: u8) -> bool
     requires some { 1 ≤ sources }
     requires few { sources ≤ 4 }
-    ensures { result ≡ is_kinds sources bits }
+    ensures { result ≡ is_kinds version sources bits }
 {
     let limit = match sources {
         1 => 2,
@@ -109,28 +129,33 @@ fn is_kinds(sources: u8, bits: u8) -> bool
         3 => 8,
         _ => 16,
     };
-    bits < 32 && bits % 16 < limit
+    bits % 16 < limit && is_results(version, bits / 16)
 }
 
 /// The head at a place, behind its name.
 #[tactic(auto, unfolding(crate::specs::Reading::shape_at))]
-fn head_of(name: Name, bytes: &[u8], at: usize) -> Result<Head, ProgFault>
+fn head_of(version: u16, name: Name, bytes: &[u8], at: usize) -> Result<Head, ProgFault>
     requires small { length bytes.now < 2 ^ 32 }
     requires place { at ≤ length bytes.now }
     ensures name { IfOk result (λ head. head.name ≡ name) }
-    ensures gives { Gives shape_of result (shape_at at bytes.now) }
+    ensures gives { Gives shape_of result (shape_at version at bytes.now) }
     ensures within { OnOk result (at + 4 ≤ length bytes.now) }
 {
     let sources = u8_at(bytes, at)?;
     rule((1..=4).contains(&sources), at, ProgKind::Directory)?;
     let kinds = u8_at(bytes, at + 1)?;
-    rule(is_kinds(sources, kinds), at + 1, ProgKind::Directory)?;
+    rule(
+        is_kinds(version, sources, kinds),
+        at + 1,
+        ProgKind::Directory,
+    )?;
     let bits = u8_at(bytes, at + 2)?;
     let words = u8_at(bytes, at + 3)?;
     Ok(Head {
         name,
         sources: kinds_of(sources, kinds),
-        result: kind_of_bit(kinds / 16),
+        result: kind_of_bit(kinds / 16 % 2),
+        second: second_of_bits(kinds / 16 / 2),
         bits,
         words,
     })
@@ -138,16 +163,22 @@ fn head_of(name: Name, bytes: &[u8], at: usize) -> Result<Head, ProgFault>
 
 /// The record at a place of an entry whose code begins at this instruction.
 #[tactic(auto, unfolding(crate::specs::Reading::listing_at))]
-fn listed_of(earlier: &[Listed], start: u32, bytes: &[u8], at: usize) -> Result<Listed, ProgFault>
+fn listed_of(
+    version: u16,
+    earlier: &[Listed],
+    start: u32,
+    bytes: &[u8],
+    at: usize,
+) -> Result<Listed, ProgFault>
     requires small { length bytes.now < 2 ^ 32 }
     requires place { at ≤ length bytes.now }
-    ensures gives { Gives listing_of result (listing_at (listings_of earlier.now) start at
-        bytes.now) }
+    ensures gives { Gives listing_of result (listing_at version (listings_of earlier.now) start
+        at bytes.now) }
     ensures count { IfOk result (λ l. l.count < 2 ^ 16) }
     ensures within { OnOk result (at + 27 ≤ length bytes.now) }
 {
     let name = name_of(earlier, bytes, at)?;
-    let head = head_of(name, bytes, at + 17)?;
+    let head = head_of(version, name, bytes, at + 17)?;
     let first = u32_at(bytes, at + 21)?;
     rule(first == start, at + 21, ProgKind::Directory)?;
     let count = u16_at(bytes, at + 25)?;
@@ -160,19 +191,23 @@ fn listed_of(earlier: &[Listed], start: u32, bytes: &[u8], at: usize) -> Result<
 }
 
 /// The records of a file.
-pub(crate) fn directory_of(count: u16, bytes: &[u8]) -> Result<ArrayVec<Listed, 32>, ProgFault>
+pub(crate) fn directory_of(
+    version: u16,
+    count: u16,
+    bytes: &[u8],
+) -> Result<ArrayVec<Listed, 32>, ProgFault>
     requires few { count ≤ 32 }
     requires small { length bytes.now < 2 ^ 32 }
     requires place { 8 ≤ length bytes.now }
-    ensures gives { Gives (λ ls. listings_of ls.items) result (directory_at count [] 0 8 bytes.now)
-        }
+    ensures gives { Gives (λ ls. listings_of ls.items) result (directory_at version count [] 0 8
+        bytes.now) }
     ensures within { IfOk result (λ ls. 8 + 27 * length ls.items ≤ length bytes.now) }
 {
     let mut listed = ArrayVec::new();
     let mut start = 0u32;
     let mut at = 8usize;
     for _k in 0..count {
-        let next = listed_of(listed.as_slice(), start, bytes, at)?;
+        let next = listed_of(version, listed.as_slice(), start, bytes, at)?;
         start += u32::from(next.count);
         at += 27;
         listed.push(next);

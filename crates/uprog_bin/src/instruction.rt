@@ -1,8 +1,8 @@
 //! One instruction of a file.
 
 ghost use Rattle.std.specs.Prelude.{◌≡◌, ◌+◌, ◌<◌, ◌≤◌, ◌^◌, ◌==◌, ◌&&◌, length, slice_get};
-ghost use Rattle.std.specs.Prelude.{slice_index_or, OnOk};
-ghost use Rattle.uprog_code.specs.Shape.{shape_of};
+ghost use Rattle.std.specs.Prelude.{slice_index_or, OnOk, nat_lt};
+ghost use Rattle.uprog_code.specs.Shape.{shape_of, results};
 ghost use Rattle.uprog_code.specs.Legal.{is_place, may_be_first, may_be_second, is_row, is_first};
 ghost use Rattle.uprog_code.specs.Legal.{is_second};
 ghost use Rattle.uprog_bin.specs.Reading.{Gives, raw_row, raw_of, is_zero, has_register};
@@ -127,6 +127,16 @@ fn has_target(opcode: Opcode, size: u16, raw: Raw) -> bool
     }
 }
 
+/// Whether the entry has so many results and one more.
+fn is_result(head: &Head, which: u8) -> bool
+    ensures { result ≡ nat_lt which (length (results (shape_of head.now))) }
+{
+    match head.second {
+        None => which < 1,
+        Some(_) => which < 2,
+    }
+}
+
 /// Whether the row is one of its space, with an index that may stand there.
 fn is_row(head: &Head, row: RowRef) -> bool
     ensures { result ≡ is_row (shape_of head.now) row }
@@ -135,7 +145,7 @@ fn is_row(head: &Head, row: RowRef) -> bool
     match row.space {
         RowSpace::B => row.which < 16 && row.index == 0,
         RowSpace::C => row.which < 2 && row.index == 0,
-        RowSpace::Result => row.which == 0 && row.index <= 8,
+        RowSpace::Result => is_result(head, row.which) && row.index <= 8,
         RowSpace::Source => usize::from(row.which) < sources && row.index <= 8,
         RowSpace::ScratchBit => row.which < head.bits && row.index == 0,
         RowSpace::ScratchWord => row.which < head.words && row.index <= 8,

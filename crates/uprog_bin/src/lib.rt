@@ -6,12 +6,14 @@ mod directory;
 mod fault;
 mod fields;
 mod instruction;
+mod laws;
 mod opcode;
 mod spelling;
-#[cfg(test)]
-mod tests;
+mod version_two;
 mod view;
 
 pub use fault::{ProgFault, ProgKind};
+pub use laws::program_files_are_exact;
 pub use spelling::encode;
+pub use version_two::migrate;
 pub use view::{Entry, ProgView};

@@ -18,7 +18,7 @@ use Rattle.dram_model.specs.Column.{Column, lines_of, b_lines, drive, sense, set
 use Rattle.dram_model.specs.Column.{sense_lines, run, step, is_first as is_first_address}
 use Rattle.dram_model.specs.Column.{is_second as is_second_address, is_written}
 use Rattle.dram_model.specs.Column.{is_in_range as is_address_in, is_legal as is_legal_command}
-use Rattle.dram_model.specs.Laws.{activate_lines, step-is-quick, drive-other}
+use Rattle.dram_model.proofs.ColumnLaws.{activate_lines, step-is-quick, drive-other}
 use Rattle.op_text.specs.declared.tree.Kind.{Kind}
 use Rattle.op_text.specs.declared.tree.Kind.TheVariants.{Word, Bit}
 use Rattle.uprog_code.specs.declared.code.RowSpace.{RowSpace}

@@ -23,9 +23,9 @@ returns-in_err-machine-clause-goes g c =
     rw (p.1, p.2) (stopped_open c.args.name.now (microprograms_of c.args.program)
     (map view_of c.args.script.now) i _
     (world (g.F.Folder.view c.args.files.now) (g.S.Sink.view c.args.out.now)
-    (g.D.Dram.faults c.args.chip.now))
+    (g.D.Dram.view c.args.chip.now))
     (world (g.F.Folder.view c.args.files.now) (g.S.Sink.view c.args.out.now)
-    (g.D.Dram.faults c.open.new.chip))
+    (g.D.Dram.view c.open.new.chip))
     (c.in_err-machine.ensures.goes (g.F.Folder.view c.args.files.now)
     (g.S.Sink.view c.args.out.now)))
 
@@ -35,14 +35,14 @@ returns-in_err-refused-clause-goes g c =
     c.from_residual-in_err-refused.ensures.1 in
     let i = image_found (found_in c.args.image) in
     let files = g.F.Folder.view c.args.files.now in
-    let a = world files (g.S.Sink.view c.args.out.now) (g.D.Dram.faults c.args.chip.now) in
-    let b = world files (g.S.Sink.view c.args.out.now) (g.D.Dram.faults c.open.new.chip) in
-    let d = world files (g.S.Sink.view c.work.new.out) (g.D.Dram.faults c.work.new.chip) in
+    let a = world files (g.S.Sink.view c.args.out.now) (g.D.Dram.view c.args.chip.now) in
+    let b = world files (g.S.Sink.view c.args.out.now) (g.D.Dram.view c.open.new.chip) in
+    let d = world files (g.S.Sink.view c.work.new.out) (g.D.Dram.view c.work.new.chip) in
     rw (p.1, p.2) (stopped_work c.args.name.now (microprograms_of c.args.program)
     (map view_of c.args.script.now) i _ a b d
     (c.in_ok-machine.ensures.goes files (g.S.Sink.view c.args.out.now))
     (lines_are (microprograms_of c.args.program) (map view_of c.args.script.now) i _ _ _
-    (g.D.Dram.banks c.open.new.chip) _ b d
+    (g.D.Dram.view c.open.new.chip).banks _ b d
     c.in_ok-machine.ensures.shape c.in_ok-machine.ensures.program c.in_ok-machine.ensures.table
     c.in_ok-machine.ensures.banks (c.in_err-refused.ensures.goes files)))
 
@@ -51,7 +51,7 @@ finish-requires-clause-reads g c =
     let same = ap (λ k. k.reads) c.in_ok-refused.ensures.did.counters
     ∙ reads_same (script_events (geometry_of c.in_ok-machine.machine)
     (operations_in (program_of c.in_ok-machine.machine)) (table_in c.in_ok-machine.machine)
-    (map view_of c.args.script.now)) (g.D.Dram.counters c.open.new.chip)
+    (map view_of c.args.script.now)) (g.D.Dram.view c.open.new.chip).counters
     ∙ ap (λ k. k.reads) c.in_ok-machine.ensures.counters in
     omega (arith, same)
 
@@ -64,15 +64,13 @@ returns-in_err-finish-clause-goes g c =
     let i = image_found (found_in c.args.image) in
     let machine = c.in_ok-machine.machine in
     let files = g.F.Folder.view c.args.files.now in
-    let start = shown (g.D.Dram.banks c.open.new.chip) (g.D.Dram.counters c.open.new.chip)
-    (g.D.Dram.log c.open.new.chip) in
-    let now = shown (g.D.Dram.banks c.work.new.chip) (g.D.Dram.counters c.work.new.chip)
-    (g.D.Dram.log c.work.new.chip) in
-    let a = world files (g.S.Sink.view c.args.out.now) (g.D.Dram.faults c.args.chip.now) in
-    let b = world files (g.S.Sink.view c.args.out.now) (g.D.Dram.faults c.open.new.chip) in
-    let d = world files (g.S.Sink.view c.work.new.out) (g.D.Dram.faults c.work.new.chip) in
+    let start = (g.D.Dram.view c.open.new.chip) in
+    let now = (g.D.Dram.view c.work.new.chip) in
+    let a = world files (g.S.Sink.view c.args.out.now) (g.D.Dram.view c.args.chip.now) in
+    let b = world files (g.S.Sink.view c.args.out.now) (g.D.Dram.view c.open.new.chip) in
+    let d = world files (g.S.Sink.view c.work.new.out) (g.D.Dram.view c.work.new.chip) in
     let e = world (g.F.Folder.view c.finish.new.files) (g.S.Sink.view c.finish.new.out)
-    (g.D.Dram.faults c.finish.new.chip) in
+    (g.D.Dram.view c.finish.new.chip) in
     let worked : Worked program script i (geometry_of machine) (program_of machine)
     (table_in machine) start now c.in_ok-refused.refused = record {
       shape_is = c.in_ok-machine.ensures.shape;
@@ -86,7 +84,7 @@ returns-in_err-finish-clause-goes g c =
     } in
     rw (p.1, p.2) (went_on c.args.name.now program script i _ a b d e
     (c.in_ok-machine.ensures.goes files (g.S.Sink.view c.args.out.now))
-    (lines_are program script i _ _ _ (g.D.Dram.banks c.open.new.chip) Done b d
+    (lines_are program script i _ _ _ (g.D.Dram.view c.open.new.chip).banks Done b d
     c.in_ok-machine.ensures.shape c.in_ok-machine.ensures.program c.in_ok-machine.ensures.table
     c.in_ok-machine.ensures.banks (c.in_ok-refused.ensures.goes files))
     (last_are c.args.name.now program script i (geometry_of machine) (program_of machine)
@@ -101,15 +99,13 @@ returns-clause-goes g c =
     let i = image_found (found_in c.args.image) in
     let machine = c.in_ok-machine.machine in
     let files = g.F.Folder.view c.args.files.now in
-    let start = shown (g.D.Dram.banks c.open.new.chip) (g.D.Dram.counters c.open.new.chip)
-    (g.D.Dram.log c.open.new.chip) in
-    let now = shown (g.D.Dram.banks c.work.new.chip) (g.D.Dram.counters c.work.new.chip)
-    (g.D.Dram.log c.work.new.chip) in
-    let a = world files (g.S.Sink.view c.args.out.now) (g.D.Dram.faults c.args.chip.now) in
-    let b = world files (g.S.Sink.view c.args.out.now) (g.D.Dram.faults c.open.new.chip) in
-    let d = world files (g.S.Sink.view c.work.new.out) (g.D.Dram.faults c.work.new.chip) in
+    let start = (g.D.Dram.view c.open.new.chip) in
+    let now = (g.D.Dram.view c.work.new.chip) in
+    let a = world files (g.S.Sink.view c.args.out.now) (g.D.Dram.view c.args.chip.now) in
+    let b = world files (g.S.Sink.view c.args.out.now) (g.D.Dram.view c.open.new.chip) in
+    let d = world files (g.S.Sink.view c.work.new.out) (g.D.Dram.view c.work.new.chip) in
     let e = world (g.F.Folder.view c.finish.new.files) (g.S.Sink.view c.finish.new.out)
-    (g.D.Dram.faults c.finish.new.chip) in
+    (g.D.Dram.view c.finish.new.chip) in
     let worked : Worked program script i (geometry_of machine) (program_of machine)
     (table_in machine) start now c.in_ok-refused.refused = record {
       shape_is = c.in_ok-machine.ensures.shape;
@@ -123,7 +119,7 @@ returns-clause-goes g c =
     } in
     went_on c.args.name.now program script i Done a b d e
     (c.in_ok-machine.ensures.goes files (g.S.Sink.view c.args.out.now))
-    (lines_are program script i _ _ _ (g.D.Dram.banks c.open.new.chip) Done b d
+    (lines_are program script i _ _ _ (g.D.Dram.view c.open.new.chip).banks Done b d
     c.in_ok-machine.ensures.shape c.in_ok-machine.ensures.program c.in_ok-machine.ensures.table
     c.in_ok-machine.ensures.banks (c.in_ok-refused.ensures.goes files))
     (last_are c.args.name.now program script i (geometry_of machine) (program_of machine)
@@ -136,10 +132,8 @@ returns-clause-done g c =
     let script = map view_of c.args.script.now in
     let i = image_found (found_in c.args.image) in
     let machine = c.in_ok-machine.machine in
-    let start = shown (g.D.Dram.banks c.open.new.chip) (g.D.Dram.counters c.open.new.chip)
-    (g.D.Dram.log c.open.new.chip) in
-    let now = shown (g.D.Dram.banks c.work.new.chip) (g.D.Dram.counters c.work.new.chip)
-    (g.D.Dram.log c.work.new.chip) in
+    let start = (g.D.Dram.view c.open.new.chip) in
+    let now = (g.D.Dram.view c.work.new.chip) in
     let worked : Worked program script i (geometry_of machine) (program_of machine)
     (table_in machine) start now c.in_ok-refused.refused = record {
       shape_is = c.in_ok-machine.ensures.shape;
@@ -152,7 +146,7 @@ returns-clause-done g c =
       refused_are = c.in_ok-refused.ensures.refused;
     } in
     all_done program script i (geometry_of machine) (program_of machine) (table_in machine) start
-    now (g.D.Dram.banks c.finish.new.chip) (g.D.Dram.counters c.finish.new.chip)
-    (g.D.Dram.log c.finish.new.chip) c.in_ok-refused.refused worked
+    now (g.D.Dram.view c.finish.new.chip).banks (g.D.Dram.view c.finish.new.chip).counters
+    (g.D.Dram.view c.finish.new.chip).log c.in_ok-refused.refused worked
     c.in_ok-machine.ensures.log c.in_ok-finish.ensures.banks
     (rw c.work.ensures.kept at c.in_ok-finish.ensures.counters) c.in_ok-finish.ensures.log

@@ -7,13 +7,12 @@ pub returns-clause-ends : goal.returns-clause-ends
 returns-clause-ends g c =
     run_ends c.args.names.now
     (world (g.F.Folder.view c.args.files.now) (g.S.Sink.view c.args.out.now)
-    (g.D.Dram.faults c.args.chip.now))
+    (g.D.Dram.view c.args.chip.now))
     (world (g.F.Folder.view c.run-ended.new.files) (g.S.Sink.view c.run-ended.new.out)
-    (g.D.Dram.faults c.run-ended.new.chip))
+    (g.D.Dram.view c.run-ended.new.chip))
     (world (g.F.Folder.view c.run-ended.new.files) (g.S.Sink.view c.answer.new.out)
-    (g.D.Dram.faults c.run-ended.new.chip))
-    (chip_view (g.D.Dram.banks c.run-ended.new.chip) (g.D.Dram.counters c.run-ended.new.chip)
-    (g.D.Dram.log c.run-ended.new.chip))
+    (g.D.Dram.view c.run-ended.new.chip))
+    (g.D.Dram.view c.run-ended.new.chip)
     c.run-ended.result c.answer.result c.run-ended.ensures.goes
     (c.answer.ensures.tells (g.F.Folder.view c.run-ended.new.files)
-    (g.D.Dram.faults c.run-ended.new.chip)) c.answer.ensures.status
+    (g.D.Dram.view c.run-ended.new.chip)) c.answer.ensures.status

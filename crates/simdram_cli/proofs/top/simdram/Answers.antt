@@ -14,22 +14,20 @@ use Rattle.simdram_cli.proofs.top.simdram.Goals as goal
 pub returns-clause-usage : goal.returns-clause-usage
 returns-clause-usage g c =
     let old = world (g.F.Folder.view c.args.files.now) (g.S.Sink.view c.args.out.now)
-    (g.D.Dram.faults c.args.chip.now) in
+    (g.D.Dram.view c.args.chip.now) in
     let new = world (g.F.Folder.view c.dispatch.new.files) (g.S.Sink.view c.dispatch.new.out)
-    (g.D.Dram.faults c.dispatch.new.chip) in
-    let chip = chip_view (g.D.Dram.banks c.dispatch.new.chip)
-    (g.D.Dram.counters c.dispatch.new.chip) (g.D.Dram.log c.dispatch.new.chip) in
+    (g.D.Dram.view c.dispatch.new.chip) in
+    let chip = (g.D.Dram.view c.dispatch.new.chip) in
     usage c.args.words.now old new chip c.dispatch.result c.dispatch.ensures.usage
     c.dispatch.ensures.ends c.dispatch.ensures.show_ends
 
 pub returns-clause-program_written : goal.returns-clause-program_written
 returns-clause-program_written g c =
     let old = world (g.F.Folder.view c.args.files.now) (g.S.Sink.view c.args.out.now)
-    (g.D.Dram.faults c.args.chip.now) in
+    (g.D.Dram.view c.args.chip.now) in
     let new = world (g.F.Folder.view c.dispatch.new.files) (g.S.Sink.view c.dispatch.new.out)
-    (g.D.Dram.faults c.dispatch.new.chip) in
-    let chip = chip_view (g.D.Dram.banks c.dispatch.new.chip)
-    (g.D.Dram.counters c.dispatch.new.chip) (g.D.Dram.log c.dispatch.new.chip) in
+    (g.D.Dram.view c.dispatch.new.chip) in
+    let chip = (g.D.Dram.view c.dispatch.new.chip) in
     on_run c.args.words.now old new chip c.dispatch.result
     (λ names job before after. ProgramWritten names job after) c.dispatch.ensures.ends
     (λ names job before after h. h.program)
@@ -37,11 +35,10 @@ returns-clause-program_written g c =
 pub returns-clause-objects_right : goal.returns-clause-objects_right
 returns-clause-objects_right g c =
     let old = world (g.F.Folder.view c.args.files.now) (g.S.Sink.view c.args.out.now)
-    (g.D.Dram.faults c.args.chip.now) in
+    (g.D.Dram.view c.args.chip.now) in
     let new = world (g.F.Folder.view c.dispatch.new.files) (g.S.Sink.view c.dispatch.new.out)
-    (g.D.Dram.faults c.dispatch.new.chip) in
-    let chip = chip_view (g.D.Dram.banks c.dispatch.new.chip)
-    (g.D.Dram.counters c.dispatch.new.chip) (g.D.Dram.log c.dispatch.new.chip) in
+    (g.D.Dram.view c.dispatch.new.chip) in
+    let chip = (g.D.Dram.view c.dispatch.new.chip) in
     on_run c.args.words.now old new chip c.dispatch.result
     (λ names job before after. ObjectsRight names job after chip) c.dispatch.ensures.ends
     (λ names job before after h. h.objects)
@@ -49,11 +46,10 @@ returns-clause-objects_right g c =
 pub returns-clause-rows_untouched : goal.returns-clause-rows_untouched
 returns-clause-rows_untouched g c =
     let old = world (g.F.Folder.view c.args.files.now) (g.S.Sink.view c.args.out.now)
-    (g.D.Dram.faults c.args.chip.now) in
+    (g.D.Dram.view c.args.chip.now) in
     let new = world (g.F.Folder.view c.dispatch.new.files) (g.S.Sink.view c.dispatch.new.out)
-    (g.D.Dram.faults c.dispatch.new.chip) in
-    let chip = chip_view (g.D.Dram.banks c.dispatch.new.chip)
-    (g.D.Dram.counters c.dispatch.new.chip) (g.D.Dram.log c.dispatch.new.chip) in
+    (g.D.Dram.view c.dispatch.new.chip) in
+    let chip = (g.D.Dram.view c.dispatch.new.chip) in
     on_run c.args.words.now old new chip c.dispatch.result
     (λ names job before after. RowsUntouched job chip) c.dispatch.ensures.ends
     (λ names job before after h. h.rows)
@@ -61,11 +57,10 @@ returns-clause-rows_untouched g c =
 pub returns-clause-commands_counted : goal.returns-clause-commands_counted
 returns-clause-commands_counted g c =
     let old = world (g.F.Folder.view c.args.files.now) (g.S.Sink.view c.args.out.now)
-    (g.D.Dram.faults c.args.chip.now) in
+    (g.D.Dram.view c.args.chip.now) in
     let new = world (g.F.Folder.view c.dispatch.new.files) (g.S.Sink.view c.dispatch.new.out)
-    (g.D.Dram.faults c.dispatch.new.chip) in
-    let chip = chip_view (g.D.Dram.banks c.dispatch.new.chip)
-    (g.D.Dram.counters c.dispatch.new.chip) (g.D.Dram.log c.dispatch.new.chip) in
+    (g.D.Dram.view c.dispatch.new.chip) in
+    let chip = (g.D.Dram.view c.dispatch.new.chip) in
     on_run c.args.words.now old new chip c.dispatch.result
     (λ names job before after. CommandsCounted job chip) c.dispatch.ensures.ends
     (λ names job before after h. h.commands)
@@ -73,11 +68,10 @@ returns-clause-commands_counted g c =
 pub returns-clause-report_sent : goal.returns-clause-report_sent
 returns-clause-report_sent g c =
     let old = world (g.F.Folder.view c.args.files.now) (g.S.Sink.view c.args.out.now)
-    (g.D.Dram.faults c.args.chip.now) in
+    (g.D.Dram.view c.args.chip.now) in
     let new = world (g.F.Folder.view c.dispatch.new.files) (g.S.Sink.view c.dispatch.new.out)
-    (g.D.Dram.faults c.dispatch.new.chip) in
-    let chip = chip_view (g.D.Dram.banks c.dispatch.new.chip)
-    (g.D.Dram.counters c.dispatch.new.chip) (g.D.Dram.log c.dispatch.new.chip) in
+    (g.D.Dram.view c.dispatch.new.chip) in
+    let chip = (g.D.Dram.view c.dispatch.new.chip) in
     on_run c.args.words.now old new chip c.dispatch.result
     (λ names job before after. ReportSent job chip old.sink.sent new.sink.sent)
     c.dispatch.ensures.ends (λ names job before after h. h.report)
@@ -85,11 +79,10 @@ returns-clause-report_sent g c =
 pub returns-clause-replies_exact : goal.returns-clause-replies_exact
 returns-clause-replies_exact g c =
     let old = world (g.F.Folder.view c.args.files.now) (g.S.Sink.view c.args.out.now)
-    (g.D.Dram.faults c.args.chip.now) in
+    (g.D.Dram.view c.args.chip.now) in
     let new = world (g.F.Folder.view c.dispatch.new.files) (g.S.Sink.view c.dispatch.new.out)
-    (g.D.Dram.faults c.dispatch.new.chip) in
-    let chip = chip_view (g.D.Dram.banks c.dispatch.new.chip)
-    (g.D.Dram.counters c.dispatch.new.chip) (g.D.Dram.log c.dispatch.new.chip) in
+    (g.D.Dram.view c.dispatch.new.chip) in
+    let chip = (g.D.Dram.view c.dispatch.new.chip) in
     on_run c.args.words.now old new chip c.dispatch.result
     (λ names job before after. RepliesExact names job c.dispatch.result before after)
     c.dispatch.ensures.ends (λ names job before after h. h.replies)
@@ -97,58 +90,55 @@ returns-clause-replies_exact g c =
 pub returns-clause-only_where : goal.returns-clause-only_where
 returns-clause-only_where g c names e =
     let old = world (g.F.Folder.view c.args.files.now) (g.S.Sink.view c.args.out.now)
-    (g.D.Dram.faults c.args.chip.now) in
+    (g.D.Dram.view c.args.chip.now) in
     let new = world (g.F.Folder.view c.dispatch.new.files) (g.S.Sink.view c.dispatch.new.out)
-    (g.D.Dram.faults c.dispatch.new.chip) in
-    let chip = chip_view (g.D.Dram.banks c.dispatch.new.chip)
-    (g.D.Dram.counters c.dispatch.new.chip) (g.D.Dram.log c.dispatch.new.chip) in
+    (g.D.Dram.view c.dispatch.new.chip) in
+    let chip = (g.D.Dram.view c.dispatch.new.chip) in
     only_where names old new chip c.dispatch.result
     (apart names (command_apart c.args.words.now names e)) (c.dispatch.ensures.ends names e)
 
 pub returns-clause-always_where : goal.returns-clause-always_where
 returns-clause-always_where g c names e =
     let old = world (g.F.Folder.view c.args.files.now) (g.S.Sink.view c.args.out.now)
-    (g.D.Dram.faults c.args.chip.now) in
+    (g.D.Dram.view c.args.chip.now) in
     let new = world (g.F.Folder.view c.dispatch.new.files) (g.S.Sink.view c.dispatch.new.out)
-    (g.D.Dram.faults c.dispatch.new.chip) in
-    let chip = chip_view (g.D.Dram.banks c.dispatch.new.chip)
-    (g.D.Dram.counters c.dispatch.new.chip) (g.D.Dram.log c.dispatch.new.chip) in
+    (g.D.Dram.view c.dispatch.new.chip) in
+    let chip = (g.D.Dram.view c.dispatch.new.chip) in
     always_where names old new chip c.dispatch.result
     (apart names (command_apart c.args.words.now names e)) (c.dispatch.ensures.ends names e)
 
 pub returns-clause-files_kept : goal.returns-clause-files_kept
 returns-clause-files_kept g c names e =
     let old = world (g.F.Folder.view c.args.files.now) (g.S.Sink.view c.args.out.now)
-    (g.D.Dram.faults c.args.chip.now) in
+    (g.D.Dram.view c.args.chip.now) in
     let new = world (g.F.Folder.view c.dispatch.new.files) (g.S.Sink.view c.dispatch.new.out)
-    (g.D.Dram.faults c.dispatch.new.chip) in
-    let chip = chip_view (g.D.Dram.banks c.dispatch.new.chip)
-    (g.D.Dram.counters c.dispatch.new.chip) (g.D.Dram.log c.dispatch.new.chip) in
+    (g.D.Dram.view c.dispatch.new.chip) in
+    let chip = (g.D.Dram.view c.dispatch.new.chip) in
     run_keeps names old new chip c.dispatch.result
     (apart names (command_apart c.args.words.now names e)) (c.dispatch.ensures.ends names e)
 
 pub returns-clause-shown : goal.returns-clause-shown
 returns-clause-shown g c name e zero_is =
     let old = world (g.F.Folder.view c.args.files.now) (g.S.Sink.view c.args.out.now)
-    (g.D.Dram.faults c.args.chip.now) in
+    (g.D.Dram.view c.args.chip.now) in
     let new = world (g.F.Folder.view c.dispatch.new.files) (g.S.Sink.view c.dispatch.new.out)
-    (g.D.Dram.faults c.dispatch.new.chip) in
+    (g.D.Dram.view c.dispatch.new.chip) in
     show_shown name.now old new c.dispatch.result (c.dispatch.ensures.show_ends name e) zero_is
 
 pub returns-clause-show_only_where : goal.returns-clause-show_only_where
 returns-clause-show_only_where g c name e =
     let old = world (g.F.Folder.view c.args.files.now) (g.S.Sink.view c.args.out.now)
-    (g.D.Dram.faults c.args.chip.now) in
+    (g.D.Dram.view c.args.chip.now) in
     let new = world (g.F.Folder.view c.dispatch.new.files) (g.S.Sink.view c.dispatch.new.out)
-    (g.D.Dram.faults c.dispatch.new.chip) in
+    (g.D.Dram.view c.dispatch.new.chip) in
     show_only name.now old new c.dispatch.result (c.dispatch.ensures.show_ends name e)
 
 pub returns-clause-show_always_where : goal.returns-clause-show_always_where
 returns-clause-show_always_where g c name e =
     let old = world (g.F.Folder.view c.args.files.now) (g.S.Sink.view c.args.out.now)
-    (g.D.Dram.faults c.args.chip.now) in
+    (g.D.Dram.view c.args.chip.now) in
     let new = world (g.F.Folder.view c.dispatch.new.files) (g.S.Sink.view c.dispatch.new.out)
-    (g.D.Dram.faults c.dispatch.new.chip) in
+    (g.D.Dram.view c.dispatch.new.chip) in
     told_files_case old.files.holds (λ held. ShowAlwaysWhere name.now held old new
     c.dispatch.result) (λ held there. show_always name.now held old new c.dispatch.result there
     (c.dispatch.ensures.show_ends name e))
@@ -156,7 +146,7 @@ returns-clause-show_always_where g c name e =
 pub returns-clause-show_keeps : goal.returns-clause-show_keeps
 returns-clause-show_keeps g c name e =
     let old = world (g.F.Folder.view c.args.files.now) (g.S.Sink.view c.args.out.now)
-    (g.D.Dram.faults c.args.chip.now) in
+    (g.D.Dram.view c.args.chip.now) in
     let new = world (g.F.Folder.view c.dispatch.new.files) (g.S.Sink.view c.dispatch.new.out)
-    (g.D.Dram.faults c.dispatch.new.chip) in
+    (g.D.Dram.view c.dispatch.new.chip) in
     show_keeps name.now old new c.dispatch.result (c.dispatch.ensures.show_ends name e)

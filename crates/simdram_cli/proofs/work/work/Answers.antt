@@ -52,12 +52,12 @@ loop-instr-preserved g c =
           c.loop-instr.refused c.in_ok-refused.field-0 _ bbops.0 one
           (rw rest at c.loop-instr.invariant.refused_so_far);
       goes = λ files end w more. c.loop-instr.invariant.goes files end w
-          (rw rest (goes_line shape operations table (g.D.Dram.banks c.loop-instr.chip)
-          (g.D.Dram.banks c.work_line.new.chip) (c.loop-instr.number + 1) instr
+          (rw rest (goes_line shape operations table (g.D.Dram.view c.loop-instr.chip).banks
+          (g.D.Dram.view c.work_line.new.chip).banks (c.loop-instr.number + 1) instr
           (map view_of (drop (k + 1) script)) end
-          (world files (g.S.Sink.view c.loop-instr.out) (g.D.Dram.faults c.loop-instr.chip))
+          (world files (g.S.Sink.view c.loop-instr.out) (g.D.Dram.view c.loop-instr.chip))
           (world files (g.S.Sink.view c.work_line.new.out)
-          (g.D.Dram.faults c.work_line.new.chip)) w bbops.0 did.banks
+          (g.D.Dram.view c.work_line.new.chip)) w bbops.0 did.banks
           (rw kept at (c.in_ok-refused.ensures.goes files)) more));
     }
 
@@ -74,17 +74,16 @@ returns-in_err-refused-clause-goes g c files =
     let table = table_in c.args.machine.now in
     let p = err_from_is_err_and c.from_residual.result c.from_residual.ensures.1 in
     rw (p.1, p.2) (c.loop-instr.invariant.goes files _
-    (world files (g.S.Sink.view c.work_line.new.out) (g.D.Dram.faults c.work_line.new.chip))
-    (rw rest (stops_line shape operations table (g.D.Dram.banks c.loop-instr.chip)
+    (world files (g.S.Sink.view c.work_line.new.out) (g.D.Dram.view c.work_line.new.chip))
+    (rw rest (stops_line shape operations table (g.D.Dram.view c.loop-instr.chip).banks
     (c.loop-instr.number + 1) instr (map view_of (drop (k + 1) script)) _
-    (world files (g.S.Sink.view c.loop-instr.out) (g.D.Dram.faults c.loop-instr.chip))
-    (world files (g.S.Sink.view c.work_line.new.out) (g.D.Dram.faults c.work_line.new.chip))
+    (world files (g.S.Sink.view c.loop-instr.out) (g.D.Dram.view c.loop-instr.chip))
+    (world files (g.S.Sink.view c.work_line.new.out) (g.D.Dram.view c.work_line.new.chip))
     bbops.0
     (rw c.loop-instr.invariant.kept at (c.in_err-refused.ensures.goes files)))))
 
 pub returns-clause-did : goal.returns-clause-did
 returns-clause-did g c =
     let none = drop_all c.loop-instr.instr-index c.args.script.now (omega arith) in
-    let now = shown (g.D.Dram.banks c.loop-instr.chip) (g.D.Dram.counters c.loop-instr.chip)
-    (g.D.Dram.log c.loop-instr.chip) in
+    let now = (g.D.Dram.view c.loop-instr.chip) in
     (rw none at c.loop-instr.invariant.did) now (Did-none now)

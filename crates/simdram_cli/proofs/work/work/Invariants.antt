@@ -23,19 +23,18 @@ invariant-loop-instr g l =
     let shape = geometry_of l.initial.machine in
     let operations = operations_in (program_of l.initial.machine) in
     let table = table_in l.initial.machine in
-    let start = shown (g.D.Dram.banks l.initial.chip) (g.D.Dram.counters l.initial.chip)
-    (g.D.Dram.log l.initial.chip) in
-    let now = shown (g.D.Dram.banks l.chip) (g.D.Dram.counters l.chip) (g.D.Dram.log l.chip) in
+    let start = (g.D.Dram.view l.initial.chip) in
+    let now = (g.D.Dram.view l.chip) in
     record {
       number : l.number ≡ l.instr-index;
       kept : l.machine ≡ l.initial.machine;
-      begun : g.D.Dram.begun l.chip;
+      begun : HasBegun (g.D.Dram.view l.chip;)
       borrow : g.D.Dram.borrow l.chip ≡ g.D.Dram.borrow l.initial.chip;
-      geometry : g.D.Dram.geometry l.chip ≡ g.D.Dram.geometry l.initial.chip;
-      faults : g.D.Dram.faults l.initial.chip ≤ g.D.Dram.faults l.chip;
+      geometry : (g.D.Dram.view l.chip).geometry ≡ (g.D.Dram.view l.initial.chip;).geometry
+      faults : (g.D.Dram.view l.initial.chip).faults ≤ (g.D.Dram.view l.chip;).faults
       sink_faults : (g.S.Sink.view l.initial.out).faults ≤ (g.S.Sink.view l.out).faults;
-      aap : (g.D.Dram.counters l.chip).aap ≤ 16 * WALK_MAX * l.instr-index;
-      ap : (g.D.Dram.counters l.chip).ap ≤ 16 * WALK_MAX * l.instr-index;
+      aap : (g.D.Dram.view l.chip).counters.aap ≤ 16 * WALK_MAX * l.instr-index;
+      ap : (g.D.Dram.view l.chip).counters.ap ≤ 16 * WALK_MAX * l.instr-index;
       few : l.refused ≤ l.instr-index;
       bbops : AllByRecursion (λ i. is_bbop i ≡ true) rest;
       plain : AllByRecursion IsPlain rest;
@@ -45,9 +44,9 @@ invariant-loop-instr g l =
           ≡ count_by is_refused (replies shape operations table script);
       goes : (files : FolderView) (end : End) (w : World)
           → Goes (line_steps (l.number + 1) (said_in_rows shape operations table
-          (g.D.Dram.banks l.chip) rest)) end
-          (world files (g.S.Sink.view l.out) (g.D.Dram.faults l.chip)) w
-          → Goes (line_steps 1 (said_in_rows shape operations table (g.D.Dram.banks l.initial.chip)
+          (g.D.Dram.view l.chip).banks rest)) end
+          (world files (g.S.Sink.view l.out) (g.D.Dram.view l.chip)) w
+          → Goes (line_steps 1 (said_in_rows shape operations table (g.D.Dram.view l.initial.chip).banks
           script)) end (world files (g.S.Sink.view l.initial.out)
-          (g.D.Dram.faults l.initial.chip)) w;
+          (g.D.Dram.view l.initial.chip)) w;
     }

@@ -1,5 +1,5 @@
 use Rattle.std.proofs.Common.{◌≡◌, ℕ, ◌+◌, ◌∙◌, ◌*◌, ◌-◌, ◌≤◌, [], refl, ap, arith}
-use Rattle.dram_model.specs.Events.{Grew-more}
+use Rattle.dram_model.proofs.EventLaws.{Grew-more}
 use borrow.Rule.Slice.PartMut.{post_of}
 use Rattle.bit_rows.specs.Bits.{bits_of_words}
 use Rattle.dram_model.specs.declared.geometry.Geometry.{Geometry}

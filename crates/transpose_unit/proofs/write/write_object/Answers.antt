@@ -4,7 +4,7 @@ use Rattle.std.specs.List.{flat_map, range_with_len}
 use Rattle.std.specs.Int.{div_ceil}
 use Rattle.dram_model.specs.declared.geometry.Geometry.{Geometry}
 use Rattle.dram_model.specs.Chip.{Banks, Event, after, Grew}
-use Rattle.dram_model.specs.Events.{Grew-more}
+use Rattle.dram_model.proofs.EventLaws.{Grew-more}
 use Rattle.dram_model.specs.Elements.{column_count}
 use Rattle.bit_rows.specs.Bits.{bit_at}
 use Rattle.transpose_unit.specs.Columns.{segments_of, size_of, padded_to, write_events, numbers_in}

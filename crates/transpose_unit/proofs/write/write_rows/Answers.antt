@@ -3,7 +3,7 @@ use Rattle.std.proofs.Common.{refl}
 use Rattle.bit_rows.specs.Bits.{bits_of_words}
 use Rattle.dram_model.specs.Chip.{Banks, Event}
 use Rattle.dram_model.specs.Chip.Event.{Write}
-use Rattle.dram_model.specs.Events.{Grew-more}
+use Rattle.dram_model.proofs.EventLaws.{Grew-more}
 use Rattle.transpose_unit.specs.Stage.{stage_events, stage_row, stage_rows}
 use Rattle.transpose_unit.proofs.Columns.{one_row}
 use Rattle.transpose_unit.proofs.Rows.{rows-enough}

@@ -14,7 +14,7 @@ returns-clause-ok c =
     (rule_ok (eqb (length bytes) c.in_ok-end.end) c.in_ok-end.end kinds.Rest
     c.in_ok-rule-2.field-0 c.in_ok-rule-2.ensures) in
     let codes = c.in_ok-end.ensures.gives in
-    opened_from bytes c.in_ok-count.count c.in_ok-listed.listed.items c.as_slice.result.now (8 + 27
-    * c.len.result) c.in_ok-end.end codes.0 c.requires c.in_ok-opening_of.ensures.gives
+    opened_from c.in_ok-version.version bytes c.in_ok-count.count c.in_ok-listed.listed.items c.as_slice.result.now (8 + 27
+    * c.len.result) c.in_ok-end.end codes.0 c.requires c.in_ok-version.ensures.gives
     c.in_ok-count.ensures.gives few c.in_ok-listed.ensures.gives c.as_slice.ensures.value
     (omega (arith, c.len.ensures.value)) codes.1 c.in_ok-end.ensures.end long
