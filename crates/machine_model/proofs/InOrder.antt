@@ -16,7 +16,8 @@ use Rattle.dram_model.specs.declared.address.Command.{Command}
 use Rattle.dram_model.specs.Chip.{Banks, Event, after}
 use Rattle.dram_model.specs.Chip.Event.{Row}
 use Rattle.dram_model.specs.Elements.{column_count}
-use Rattle.dram_model.specs.Events.{events_of, row_events, on_bank_all, projection}
+use Rattle.dram_model.specs.Events.{events_of, row_events, on_bank_all}
+use Rattle.dram_model.proofs.EventLaws.{projection}
 use Rattle.object_alloc.specs.Free.{free}
 use Rattle.object_alloc.specs.Listed.{Named, limit_of, objects_of, has_name}
 use Rattle.bbop_isa.specs.Forms.{Instruction}
