@@ -8,7 +8,8 @@ use Rattle.dram_model.specs.declared.address.Command.TheVariants.{Ap, Aap}
 use Rattle.dram_model.specs.declared.dram.Counters.{Counters}
 use Rattle.dram_model.specs.Chip.{Banks, Event, bank_of, after, counted, all_counted}
 use Rattle.dram_model.specs.Chip.Event.{Row, Write}
-use Rattle.dram_model.specs.Events.{events_of, on_bank_all, projection}
+use Rattle.dram_model.specs.Events.{events_of, on_bank_all}
+use Rattle.dram_model.proofs.EventLaws.{projection}
 
 abbrev pub Alike : List Event → List Event → Type 0
 Alike es fs = (bank : ℕ) → events_of bank es ≡ events_of bank fs
@@ -30,7 +31,8 @@ Alike-append a b c d h k bank = events_of-append bank a c
     ∙ ap (λ es. events_of bank b ++ es) (k bank)
     ∙ sym (events_of-append bank b d)
 
-pub alike_after : (es fs : List Event) → Alike es fs → (chip : Banks) → after es chip ≡ after fs chip
+pub alike_after : (es fs : List Event) → Alike es fs → (chip : Banks)
+    → after es chip ≡ after fs chip
 alike_after es fs h chip = fun_ext (λ bank. projection es chip bank
     ∙ ap (λ own. on_bank_all own (chip bank)) (h bank) ∙ sym (projection fs chip bank))
 

@@ -119,10 +119,6 @@ banks_counted a (suc size) rows shape n b issues k =
     ∙ both_counts k _ _ _ _ (one_more k.aap size (count_by is_twice issues))
     (one_more k.ap size (count_by is_once issues))
 
-no_events : (k : Counters) (banks : ℕ)
-    → all_counted (flat_map (λ bank. row_events bank []) (range_with_len banks 0)) k ≡ k
-no_events k banks = refl
-
 idle_counted : (a size : ℕ) (k : Counters)
     → all_counted (flat_map (λ bank. row_events bank []) (range_with_len a size)) k ≡ k
 idle_counted a zero k = refl

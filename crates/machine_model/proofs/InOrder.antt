@@ -16,7 +16,8 @@ use Rattle.dram_model.specs.declared.address.Command.{Command}
 use Rattle.dram_model.specs.Chip.{Banks, Event, after}
 use Rattle.dram_model.specs.Chip.Event.{Row}
 use Rattle.dram_model.specs.Elements.{column_count}
-use Rattle.dram_model.specs.Events.{events_of, row_events, on_bank_all, projection}
+use Rattle.dram_model.specs.Events.{events_of, row_events, on_bank_all}
+use Rattle.dram_model.proofs.EventLaws.{projection}
 use Rattle.object_alloc.specs.Free.{free}
 use Rattle.object_alloc.specs.Listed.{Named, limit_of, objects_of, has_name}
 use Rattle.bbop_isa.specs.Forms.{Instruction}
@@ -30,7 +31,7 @@ use Rattle.machine_model.specs.Schedule.{picked, without_next}
 use Rattle.machine_model.specs.Steps.{job_of, job_events, own_events, if_done, table_after, tabled}
 use Rattle.machine_model.specs.Steps.{new_object}
 use Rattle.machine_model.specs.Script.{is_bbop, table_at_end, events_in_order}
-use Rattle.machine_model.specs.Pieces.{jobs_of, wave_queues}
+use Rattle.machine_model.specs.Pieces.{AreBbops, jobs_of, wave_queues}
 use Rattle.machine_model.specs.Laws.{FitsBanks, WaveIsSteps}
 use Rattle.machine_model.proofs.Facts.{first_none, when_none}
 use Rattle.machine_model.proofs.Makes.{few_banks}
@@ -146,7 +147,7 @@ one_case g operations table instr wave own (Some reason) e = refl
 
 -- bbops one after another are their jobs one after another
 pub wave_in_order : (g : Geometry) (operations : Operations) (table : List Named)
-    (wave : List Instruction) → AllByRecursion (λ i. is_bbop i ≡ true) wave
+    (wave : List Instruction) → AreBbops wave
     → events_in_order g operations table wave
     ≡ flat_map job_events (jobs_of g operations table wave)
 wave_in_order g operations table [] h = refl

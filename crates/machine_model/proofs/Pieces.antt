@@ -1,37 +1,30 @@
 -- A script in pieces beside its instructions one after another.
 use Rattle.std.proofs.Common.{◌≡◌, ◌<◌, Bool, true, false, cond, eqb, List, [], ◌∷◌, ◌++◌}
 use Rattle.std.proofs.Common.{length, refl, sym, ◌∙◌, ap, subst}
-use Rattle.std.proofs.Common.{append_assoc, append-nil}
+use Rattle.std.proofs.Common.{append_assoc, append-nil, length-append, ◌+◌, ◌≤◌, arith}
+use Rattle.std.proofs.lemmas.Bool.Decides.{nat_tests}
 use Rattle.std.specs.Prelude.{flat_map}
 use Rattle.std.specs.List.{AllByRecursion}
 use Rattle.dram_model.specs.declared.geometry.Geometry.{Geometry}
-use Rattle.dram_model.specs.Chip.{Event}
+use Rattle.dram_model.specs.Chip.{Event, all_counted}
 use Rattle.object_alloc.specs.Listed.{Named}
 use Rattle.bbop_isa.specs.Forms.{Instruction}
 use Rattle.bbop_isa.specs.Forms.{Init, Bbop, Load, Fill, Print, Free, Order}
 use Rattle.machine_model.specs.Operations.{Operations}
 use Rattle.machine_model.specs.Refusals.{refusal}
-use Rattle.machine_model.specs.Schedule.{Turn, in_turn, whole_picks}
+use Rattle.machine_model.specs.Schedule.{Turn, in_turn, whole_picks, events_of_picks}
 use Rattle.machine_model.specs.Steps.{job_of, job_events, own_events, if_done, table_after}
 use Rattle.machine_model.specs.Script.{is_bbop, table_at_end, events_in_order}
 use Rattle.machine_model.specs.Pieces.{Piece, Wave, Alone, instrs_in, gathered, pieces_from, pieces}
 use Rattle.machine_model.specs.Pieces.{jobs_of, wave_queues, piece_events, turn_behind}
-use Rattle.machine_model.specs.Pieces.{events_of_pieces}
+use Rattle.machine_model.specs.Pieces.{events_of_pieces, AreBbops, IsPiece}
 use Rattle.machine_model.specs.Laws.{FitsBanks, SeenInOrder, EventsAreSteps, CountedByReplies}
-use Rattle.machine_model.specs.Laws.{OneBankInOrder}
+use Rattle.machine_model.specs.Laws.{OneBankInOrder, PiecesAreScript, WaveIsCounted}
 use Rattle.machine_model.proofs.Events.{in_order_steps, in_order_counted}
 use Rattle.machine_model.proofs.Waves.{turns_whole}
 use Rattle.machine_model.proofs.Alike.{Alike, Alike-append, alike_after, alike_counted}
 use Rattle.machine_model.proofs.InOrder.{wave_in_order, jobs_fit, picks_alike, picks_same}
 use Rattle.machine_model.proofs.InOrder.{fits_after}
-
--- a wave has bbops alone, and an instruction by itself is none
-abbrev pub AreBbops : List Instruction → Type 0
-AreBbops = AllByRecursion (λ instr. is_bbop instr ≡ true)
-
-abbrev pub IsPiece : Piece → Type 0
-IsPiece (Wave wave) = AreBbops wave
-IsPiece (Alone instr) = is_bbop instr ≡ false
 
 all_more : (wave : List Instruction) (instr : Instruction) → AreBbops wave
     → is_bbop instr ≡ true → AreBbops (wave ++ instr ∷ [])
@@ -39,9 +32,10 @@ all_more [] instr h e = (e, tt)
 all_more (x ∷ wave) instr h e = (h.0, all_more wave instr h.1 e)
 
 gathered_are : (wave : List Instruction) (rest : List Piece) → AreBbops wave
-    → AllByRecursion IsPiece rest → AllByRecursion IsPiece (gathered wave ++ rest)
-gathered_are [] rest h r = r
-gathered_are (x ∷ wave) rest h r = (h, r)
+    → length wave ≤ 16 → AllByRecursion IsPiece rest
+    → AllByRecursion IsPiece (gathered wave ++ rest)
+gathered_are [] rest h l r = r
+gathered_are (x ∷ wave) rest h l r = ((h, omega arith, l), r)
 
 gathered_whole : (wave : List Instruction) (rest : List Piece)
     → flat_map instrs_in (gathered wave ++ rest) ≡ wave ++ flat_map instrs_in rest
@@ -53,33 +47,43 @@ abbrev pub AreOf : List Instruction → List Piece → Type 0
 AreOf instrs ps = AllByRecursion IsPiece ps × (flat_map instrs_in ps ≡ instrs)
 
 pieces_case : (wave : List Instruction) (instr : Instruction) (script : List Instruction)
-    (t : Bool) (full : Bool) (first next one more : List Piece) → AreBbops wave
-    → is_bbop instr ≡ t → (is_bbop instr ≡ true → AreOf (instr ∷ script) one)
-    → (is_bbop instr ≡ true → AreOf ((wave ++ instr ∷ []) ++ script) more) → AreOf script next
+    (t full : Bool) (next one more : List Piece) → AreBbops wave → length wave ≤ 16
+    → is_bbop instr ≡ t → eqb (length wave) 16 ≡ full
+    → (is_bbop instr ≡ true → AreOf (instr ∷ script) one)
+    → (is_bbop instr ≡ true → length (wave ++ instr ∷ []) ≤ 16
+    → AreOf ((wave ++ instr ∷ []) ++ script) more)
+    → AreOf script next
     → AreOf (wave ++ instr ∷ script)
     (cond t (cond full (Wave wave ∷ one) more) (gathered wave ++ Alone instr ∷ next))
-pieces_case wave instr script true true first next one more h e o m n = let r = o e in
-    ((h, r.0), ap (λ xs. wave ++ xs) r.1)
-pieces_case wave instr script true false first next one more h e o m n = let r = m e in
+pieces_case wave instr script true true next one more h l e f o m n =
+    let r = o e in
+    let some : 0 < length wave = grind (arith, nat_tests) in
+    (((h, some, l), r.0), ap (λ xs. wave ++ xs) r.1)
+pieces_case wave instr script true false next one more h l e f o m n =
+    let long : length (wave ++ instr ∷ []) ≡ length wave + 1 = length-append wave (instr ∷ []) in
+    let below : length wave + 1 ≤ 16 = grind (arith, nat_tests) in
+    let r = m e (omega (arith, long, below)) in
     (r.0, r.1 ∙ append_assoc wave (instr ∷ []) script)
-pieces_case wave instr script false full first next one more h e o m n = (
-  gathered_are wave (Alone instr ∷ next) h (e, n.0),
+pieces_case wave instr script false full next one more h l e f o m n = (
+  gathered_are wave (Alone instr ∷ next) h l (e, n.0),
   gathered_whole wave (Alone instr ∷ next) ∙ ap (λ xs. wave ++ instr ∷ xs) n.1,
 )
 
-pieces_are : (wave script : List Instruction) → AreBbops wave
+pieces_are : (wave script : List Instruction) → AreBbops wave → length wave ≤ 16
     → AreOf (wave ++ script) (pieces_from wave script)
-pieces_are wave [] h = (
-  subst (AllByRecursion IsPiece) (append-nil (gathered wave)) (gathered_are wave [] h tt),
+pieces_are wave [] h l = (
+  subst (AllByRecursion IsPiece) (append-nil (gathered wave)) (gathered_are wave [] h l tt),
   ap (flat_map instrs_in) (sym (append-nil (gathered wave))) ∙ gathered_whole wave [],
 )
-pieces_are wave (instr ∷ script) h =
-    pieces_case wave instr script (is_bbop instr) (eqb (length wave) 16) []
-    (pieces_from [] script) (pieces_from (instr ∷ []) script)
-    (pieces_from (wave ++ instr ∷ []) script) h refl
-    (λ e. pieces_are (instr ∷ []) script (e, tt))
-    (λ e. pieces_are (wave ++ instr ∷ []) script (all_more wave instr h e))
-    (pieces_are [] script tt)
+pieces_are wave (instr ∷ script) h l =
+    pieces_case wave instr script (is_bbop instr) (eqb (length wave) 16) (pieces_from [] script)
+    (pieces_from (instr ∷ []) script) (pieces_from (wave ++ instr ∷ []) script) h l refl refl
+    (λ e. pieces_are (instr ∷ []) script (e, tt) (omega arith))
+    (λ e m. pieces_are (wave ++ instr ∷ []) script (all_more wave instr h e) m)
+    (pieces_are [] script tt (omega arith))
+
+pub pieces_are_script : PiecesAreScript
+pieces_are_script script = pieces_are [] script tt (omega arith)
 
 order_append : (g : Geometry) (operations : Operations) (table : List Named)
     (xs ys : List Instruction) → events_in_order g operations table (xs ++ ys)
@@ -123,7 +127,7 @@ module _ (R : List Event → List Event → Type 0) (same : (es : List Event) �
     piece_is : (turn : Turn) (table : List Named) (piece : Piece) → FitsBanks g table
         → IsPiece piece → R (piece_events g operations turn table piece)
         (events_in_order g operations table (instrs_in piece))
-    piece_is turn table (Wave wave) f h = wave_is turn table wave f h
+    piece_is turn table (Wave wave) f h = wave_is turn table wave f h.0
     piece_is turn table (Alone instr) f h =
         let own = if_done (refusal g operations table instr) (own_events g table instr) [] in
         subst (R own) (alone_same g operations table instr h) (same own)
@@ -148,8 +152,9 @@ module _ (R : List Event → List Event → Type 0) (same : (es : List Event) �
         → FitsBanks g table → R (events_of_pieces g operations turn table (pieces script))
         (events_in_order g operations table script)
     script_is turn table script f =
-        let p = pieces_are [] script tt in
-        subst (λ (s : List Instruction). R (events_of_pieces g operations turn table (pieces script))
+        let p = pieces_are_script script in
+        subst (λ (s : List Instruction). R (events_of_pieces g operations turn table
+        (pieces script))
         (events_in_order g operations table s)) p.1 (pieces_is turn table (pieces script) f p.0)
 
 wave_alike : (g : Geometry) (operations : Operations) → 0 < g.words → (turn : Turn)
@@ -182,6 +187,15 @@ counted_by_replies g operations turn table script k some f h =
     (events_in_order g operations table script)
     (λ bank. seen_in_order g operations turn table script bank some f) k
     ∙ in_order_counted g operations table script k h
+
+pub wave_counted : WaveIsCounted
+wave_counted g operations table wave ps k some f h w =
+    alike_counted (events_of_picks g.banks ps (wave_queues g operations table wave))
+    (flat_map job_events (jobs_of g operations table wave))
+    (picks_alike g.banks ps (jobs_of g operations table wave)
+    (jobs_fit g operations table _ some f) w) k
+    ∙ ap (λ es. all_counted es k) (sym (wave_in_order g operations table wave h))
+    ∙ in_order_counted g operations table wave k h
 
 wave_same : (g : Geometry) (operations : Operations) → g.banks ≡ 1 → 0 < g.words → (turn : Turn)
     (table : List Named) (wave : List Instruction) → FitsBanks g table → AreBbops wave

@@ -10,9 +10,10 @@ use Rattle.dram_model.specs.declared.address.Command.{Command}
 use Rattle.dram_model.specs.Column.{Column, run}
 use Rattle.dram_model.specs.Chip.{Event}
 use Rattle.dram_model.specs.Chip.Event.{Row}
-use Rattle.dram_model.specs.Events.{events_of, on_bank_all, projection, row_events, step-then-run}
+use Rattle.dram_model.specs.Events.{events_of, on_bank_all, row_events}
+use Rattle.dram_model.proofs.EventLaws.{projection, step-then-run}
 use Rattle.machine_model.specs.Schedule.{Queues, is_live, live, picked, without_next}
-use Rattle.machine_model.specs.Schedule.{events_of_picks, IsWhole, Picker, Answers, picks}
+use Rattle.machine_model.specs.Schedule.{events_of_picks, IsWhole, Picker, PicksLive, picks}
 use Rattle.machine_model.specs.Schedule.{total_left, Ahead, Turning, Drawing, in_turn}
 use Rattle.machine_model.specs.Laws.{FollowsQueue, PicksAreWhole}
 
@@ -180,7 +181,7 @@ some_live left a (suc n) m h =
     ]
 
 -- The picks of a picker are a whole list
-pub picks_whole : {S : Type 0} (p : Picker S) (banks n : ℕ) (s : S) (left : Queues) → Answers p
+pub picks_whole : {S : Type 0} (p : Picker S) (banks n : ℕ) (s : S) (left : Queues) → PicksLive p
     → total_left banks left ≡ n → IsWhole banks (picks p banks n s left) left
 picks_whole p banks zero s left ok h = all_done left 0 banks h
 picks_whole p banks (suc n) s left ok h =
@@ -192,7 +193,7 @@ picks_whole p banks (suc n) s left ok h =
     let less = left_less left b 0 banks at.0 at.1 at.2 in
     (lt, picks_whole p banks n (p.next s count) (without_next b left) ok (omega (arith, less)))
 
-turns_answer : Answers in_turn
+turns_answer : PicksLive in_turn
 turns_answer Ahead count h = h
 turns_answer (Turning t) count h = omega arith
 turns_answer (Drawing state) count h = omega arith

@@ -1,12 +1,12 @@
 -- Laws of whole scripts.
-use Rattle.std.specs.Prelude.{◌≡◌, ℕ, ◌*◌, ◌<◌, ◌≤◌, List, map, All, true}
+use Rattle.std.specs.Prelude.{◌≡◌, ℕ, ◌*◌, ◌<◌, ◌≤◌, List, map, flat_map, All}
 use Rattle.std.specs.List.{AllByRecursion}
 use Rattle.dram_model.specs.declared.geometry.Geometry.{Geometry}
 use Rattle.dram_model.specs.declared.dram.Counters.{Counters}
 use Rattle.dram_model.specs.Column.{run}
 use Rattle.dram_model.specs.Chip.{Banks, after, all_counted}
 use Rattle.dram_model.specs.Elements.{column_count}
-use Rattle.dram_model.specs.Events.{events_of as on_one}
+use Rattle.dram_model.specs.Events.{events_of as seen_by}
 use Rattle.object_alloc.specs.Listed.{Named}
 use Rattle.bbop_isa.specs.Forms.{Instruction}
 use Rattle.uprog_code.specs.Texts.{TextOp, ImplementsAll}
@@ -16,9 +16,10 @@ use Rattle.machine_model.specs.Schedule.{Queues, events_of_picks, IsWhole, whole
 use Rattle.machine_model.specs.Schedule.{in_turn}
 use Rattle.machine_model.specs.Steps.{Held, table_of}
 use Rattle.machine_model.specs.Agrees.{Agrees, DoesAll, IsPlain}
-use Rattle.machine_model.specs.Script.{is_bbop, banks_at_end, words_at_end, events_in_order}
+use Rattle.machine_model.specs.Script.{banks_at_end, words_at_end, events_in_order}
 use Rattle.machine_model.specs.Script.{replies, sum_of, with_counts}
-use Rattle.machine_model.specs.Pieces.{wave_queues, pieces, events_of_pieces}
+use Rattle.machine_model.specs.Pieces.{AreBbops, IsPiece, instrs_in, pieces, wave_queues}
+use Rattle.machine_model.specs.Pieces.{events_of_pieces}
 
 -- Where what is issued for each operation does what it means, the banks after a script hold what
 -- the word machine holds
@@ -45,6 +46,16 @@ abbrev pub SameOperations : Type 0
 SameOperations = (p : Program) (t : List TextOp) → ImplementsAll p t
     → operations_of t p ≡ operations_in p
 
+-- The picks of every order in force are a whole list
+abbrev pub PicksAreWhole : Type 0
+PicksAreWhole =
+    (turn : Turn) (banks : ℕ) (left : Queues)
+    → IsWhole banks (whole_picks in_turn banks turn left) left
+
+-- the banks hold each object of a table
+abbrev pub FitsBanks : Geometry → List Named → Type 0
+FitsBanks g table = All (λ named. named.1.count ≤ column_count g * g.banks) table
+
 -- Each bank of a wave is left as its own queue alone leaves it, for every whole list of picks
 abbrev pub FollowsQueue : Type 0
 FollowsQueue =
@@ -56,20 +67,24 @@ FollowsQueue =
 abbrev pub WaveIsSteps : Type 0
 WaveIsSteps =
     (g : Geometry) (operations : Operations) (table : List Named) (wave : List Instruction)
-    (picks : List ℕ) (chip : Banks) (bank : ℕ) → AllByRecursion (λ i. is_bbop i ≡ true) wave
+    (picks : List ℕ) (chip : Banks) (bank : ℕ) → AreBbops wave
     → IsWhole g.banks picks (wave_queues g operations table wave) → bank < g.banks
     → after (events_of_picks g.banks picks (wave_queues g operations table wave)) chip bank
     ≡ banks_at_end g operations table chip wave bank
 
--- The picks of every order in force are a whole list
-abbrev pub PicksAreWhole : Type 0
-PicksAreWhole =
-    (turn : Turn) (banks : ℕ) (left : Queues)
-    → IsWhole banks (whole_picks in_turn banks turn left) left
+-- and is counted by its replies
+abbrev pub WaveIsCounted : Type 0
+WaveIsCounted =
+    (g : Geometry) (operations : Operations) (table : List Named) (wave : List Instruction)
+    (picks : List ℕ) (k : Counters) → 0 < g.words → FitsBanks g table → AreBbops wave
+    → IsWhole g.banks picks (wave_queues g operations table wave)
+    → all_counted (events_of_picks g.banks picks (wave_queues g operations table wave)) k
+    ≡ with_counts k (sum_of (replies g operations table wave))
 
--- the banks hold each object of a table
-abbrev pub FitsBanks : Geometry → List Named → Type 0
-FitsBanks g table = All (λ named. named.1.count ≤ column_count g * g.banks) table
+-- A script's pieces are waves and single instructions, and together they are the script
+abbrev pub PiecesAreScript : Type 0
+PiecesAreScript = (script : List Instruction) → AllByRecursion IsPiece (pieces script)
+    × (flat_map instrs_in (pieces script) ≡ script)
 
 -- Under every order in force each bank sees the events of a script in the same order: that of its
 -- instructions
@@ -77,8 +92,8 @@ abbrev pub SeenInOrder : Type 0
 SeenInOrder =
     (g : Geometry) (operations : Operations) (turn : Turn) (table : List Named)
     (script : List Instruction) (bank : ℕ) → 0 < g.words → FitsBanks g table
-    → on_one bank (events_of_pieces g operations turn table (pieces script))
-    ≡ on_one bank (events_in_order g operations table script)
+    → seen_by bank (events_of_pieces g operations turn table (pieces script))
+    ≡ seen_by bank (events_in_order g operations table script)
 
 -- So a script's events leave the banks as its instructions one after another do
 abbrev pub EventsAreSteps : Type 0
@@ -93,7 +108,7 @@ abbrev pub CountedByReplies : Type 0
 CountedByReplies =
     (g : Geometry) (operations : Operations) (turn : Turn) (table : List Named)
     (script : List Instruction) (k : Counters) → 0 < g.words → FitsBanks g table
-    → AllByRecursion (λ i. is_bbop i ≡ true) script
+    → AreBbops script
     → all_counted (events_of_pieces g operations turn table (pieces script)) k
     ≡ with_counts k (sum_of (replies g operations table script))
 

@@ -1,6 +1,7 @@
 -- A script's events: its bbops in waves under the order in force, each other instruction alone.
-use Rattle.std.specs.Prelude.{◌==◌, is_none, if◌then◌else◌, List, [], ◌∷◌, ◌++◌, map, filter}
-use Rattle.std.specs.Prelude.{length}
+use Rattle.std.specs.Prelude.{◌≡◌, ◌<◌, ◌≤◌, ◌==◌, true, false, is_none, if◌then◌else◌, List, []}
+use Rattle.std.specs.Prelude.{◌∷◌, ◌++◌, map, filter, length}
+use Rattle.std.specs.List.{AllByRecursion}
 use Rattle.dram_model.specs.declared.geometry.Geometry.{Geometry}
 use Rattle.dram_model.specs.Chip.{Event}
 use Rattle.object_alloc.specs.Listed.{Named}
@@ -24,12 +25,20 @@ abbrev pub instrs_in : Piece → List Instruction
 instrs_in (Wave wave) = wave
 instrs_in (Alone instr) = instr ∷ []
 
+abbrev pub AreBbops : List Instruction → Type 0
+AreBbops instrs = AllByRecursion (λ instr. is_bbop instr ≡ true) instrs
+
+-- a wave has 1 to 16 bbops
+abbrev pub IsPiece : Piece → Type 0
+IsPiece (Wave wave) = AreBbops wave × (0 < length wave) × (length wave ≤ 16)
+IsPiece (Alone instr) = is_bbop instr ≡ false
+
 -- the wave that was gathered, if there is any
 abbrev pub gathered : List Instruction → List Piece
 gathered [] = []
 gathered (instr ∷ wave) = Wave (instr ∷ wave) ∷ []
 
--- the pieces of a wave being gathered and of what follows it. A wave has at most 16 bbops
+-- the pieces of a wave being gathered and of the script behind it: a wave ends when it has 16
 abbrev pub pieces_from : List Instruction → List Instruction → List Piece
 pieces_from wave [] = gathered wave
 pieces_from wave (instr ∷ script) =

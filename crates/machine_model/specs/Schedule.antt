@@ -56,8 +56,8 @@ pub record Picker (S : Type 0) : Type 0 where
   pub next : S → ℕ → S
 
 -- its pick is always one of the live banks
-abbrev pub Answers : {S : Type 0} → Picker S → Type 0
-Answers {S} p = (s : S) (count : ℕ) → 0 < count → p.choice s count < count
+abbrev pub PicksLive : {S : Type 0} → Picker S → Type 0
+PicksLive {S} p = (s : S) (count : ℕ) → 0 < count → p.choice s count < count
 
 -- its first n picks, and its state after them
 abbrev pub picks : {S : Type 0} → Picker S → ℕ → ℕ → S → Queues → List ℕ
