@@ -1,2 +1,3 @@
 pub mod Wordlines
 pub mod Banks
+pub mod Begun

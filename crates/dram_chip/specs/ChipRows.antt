@@ -1,10 +1,8 @@
--- A chip as it is kept
-use Rattle.std.specs.Prelude.{◌≡◌, ◌*◌, true, List, [], ◌∷◌, map, length, All, zero, suc}
+-- The banks of a chip as they are kept
+use Rattle.std.specs.Prelude.{◌≡◌, ◌*◌, List, [], ◌∷◌, map, length, All, zero, suc}
 use Rattle.std.specs.List.{range_with_len}
 use Rattle.dram_chip.specs.declared.bank.Bank.{Bank}
-use Rattle.dram_chip.specs.declared.chip.Chip.{Chip}
 use Rattle.dram_model.specs.declared.geometry.Geometry.{Geometry}
-use Rattle.dram_model.specs.declared.dram.Counters.{Counters}
 use Rattle.dram_model.specs.Column.{Column}
 use Rattle.dram_model.specs.Chip.{Banks}
 use Rattle.dram_chip.specs.Rows.{column_at, rows_of, columns_of}
@@ -29,18 +27,3 @@ pub record Fits (g : Geometry) (bank : Bank) : Type 0 where
 pub record HasBanks (g : Geometry) (banks : List Bank) : Type 0 where
   pub count : length banks ≡ g.banks
   pub each : All (Fits g) banks
-
--- `begin` was Ok
-pub record HasBegun (chip : Chip) : Type 0 where
-  pub flag : chip.begun ≡ true
-  pub banks : HasBanks chip.geometry chip.banks.items
-
--- what its callers see of it
-abbrev pub chip_geometry : Chip → Geometry
-chip_geometry chip = chip.geometry
-
-abbrev pub chip_banks : Chip → Banks
-chip_banks chip = banks_in chip.banks.items
-
-abbrev pub chip_counters : Chip → Counters
-chip_counters chip = chip.counters

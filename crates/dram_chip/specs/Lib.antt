@@ -2,5 +2,7 @@
 pub mod Rows
 pub mod BankRows
 pub mod ChipRows
+pub mod Begun
+pub mod Seen
 pub mod ChipWidth
 pub mod FailingCalls

@@ -11,8 +11,9 @@ ghost use Rattle.dram_chip.specs.Rows.{row_of, column_at, IsShaped, rows_of, col
 ghost use Rattle.dram_chip.specs.BankRows.{IsReady};
 
 use crate::cells::{Cells, put};
-use bit_rows::{NoMemory, Row};
+use bit_rows::Row;
 use dram_model::{Addr, Cell, Line, lines};
+use no_memory::{NoMemory, keep};
 use std::alloc::Global;
 
 /// The rows of a bank, and a row for what an activation senses.
@@ -58,23 +59,13 @@ fn settle(cells: &mut Cells, x: Addr, sensed: &Row)
     }
 }
 
-/// One more row.
-fn push_row(rows: &mut Vec<Row>, row: Row) -> Result<(), NoMemory>
-    ensures { OnOk result (rows.new.items ≡ rows.old.items ++ row ∷ []) }
-{
-    match rows.push(row) {
-        Ok(()) => Ok(()),
-        Err(_e) => Err(NoMemory),
-    }
-}
-
 /// Rows of zeros.
 fn zero_rows(n: u16, columns: u32, alloc: Global) -> Result<Vec<Row>, NoMemory>
     ensures { IfOk result (λ rows. rows.items ≡ replicate n (replicate columns false)) }
 {
     let mut rows = Vec::new(alloc);
     for _i in 0..n {
-        push_row(&mut rows, Row::zeros(columns, alloc)?)?;
+        keep(&mut rows, Row::zeros(columns, alloc)?)?;
     }
     Ok(rows)
 }
@@ -88,8 +79,8 @@ fn constant_rows(columns: u32, alloc: Global) -> Result<Vec<Row>, NoMemory>
     let mut ones = Row::zeros(columns, alloc)?;
     ones.fill(true);
     let mut rows = Vec::new(alloc);
-    push_row(&mut rows, zeros)?;
-    push_row(&mut rows, ones)?;
+    keep(&mut rows, zeros)?;
+    keep(&mut rows, ones)?;
     Ok(rows)
 }
 

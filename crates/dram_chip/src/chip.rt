@@ -1,18 +1,19 @@
 //! A chip that keeps its banks as rows.
 
-ghost use Rattle.std.specs.Prelude.{◌≡◌, ℕ, ◌<◌, ◌*◌, IfOk, OnOk, true, Option, ◌++◌, ◌∷◌, []};
+ghost use Rattle.std.specs.Prelude.{◌≡◌, IfOk};
 ghost use Rattle.dram_model.specs.declared.geometry.Geometry.{Geometry};
 ghost use Rattle.dram_model.specs.Chip.{blank_banks};
+ghost use Rattle.dram_model.specs.View.{NotBegun};
 ghost use Rattle.dram_chip.specs.ChipRows.{HasBanks, banks_in};
 
 use crate::bank::Bank;
-use bit_rows::NoMemory;
 use dram_model::{Addr, BeginNo, ChipFault, Counters, Dram, Geometry};
+use no_memory::{NoMemory, keep};
 use std::alloc::Global;
 
 /// A chip that never fails: its count of faults is 0. It keeps every shape that passes
-/// `Geometry::check`, and tells no
-/// log. `begin` takes the memory of its rows, and no other call takes any.
+/// `Geometry::check`, and tells no log. `begin` takes the memory of its rows, and no other call
+/// takes any.
 #[derive(Drop)]
 pub struct Chip {
     alloc: Global,
@@ -32,9 +33,8 @@ const NO_COUNTS: Counters = Counters {
 impl Chip {
     /// A chip that has not begun. It takes no memory.
     pub fn new(alloc: Global) -> Chip
-        ensures begun { ¬ (⟦<Chip as Dram>⟧.begun result) }
-        ensures faults { ⟦<Chip as Dram>⟧.faults result ≡ 0 }
-        ensures untold { ⟦<Chip as Dram>⟧.log result ≡ Option.None }
+        ensures unbegun { NotBegun (⟦<Chip as Dram>⟧.view result) }
+        ensures faults { (⟦<Chip as Dram>⟧.view result).faults ≡ 0 }
     {
         Chip {
             alloc,
@@ -50,15 +50,6 @@ impl Chip {
     }
 }
 
-fn push_bank(banks: &mut Vec<Bank>, bank: Bank) -> Result<(), NoMemory>
-    ensures { OnOk result (banks.new.items ≡ banks.old.items ++ bank ∷ []) }
-{
-    match banks.push(bank) {
-        Ok(()) => Ok(()),
-        Err(_e) => Err(NoMemory),
-    }
-}
-
 /// The banks of a geometry, with zeros.
 fn make_banks(g: Geometry, alloc: Global) -> Result<Vec<Bank>, NoMemory>
     ensures banks { IfOk result (λ banks. HasBanks g banks.items) }
@@ -66,28 +57,16 @@ fn make_banks(g: Geometry, alloc: Global) -> Result<Vec<Bank>, NoMemory>
 {
     let mut banks = Vec::new(alloc);
     for _i in 0..g.banks {
-        push_bank(&mut banks, Bank::new(g.rows, 64 * g.words as u32, alloc)?)?;
+        keep(&mut banks, Bank::new(g.rows, 64 * g.words as u32, alloc)?)?;
     }
     Ok(banks)
 }
 
 impl Dram for Chip {
-    ghost use Rattle.std.specs.Prelude.{Option};
-    ghost use Rattle.std.specs.Prelude.Option.{None};
-    ghost use Rattle.dram_chip.specs.ChipRows.{HasBegun, chip_geometry, chip_banks, chip_counters};
+    ghost use Rattle.dram_chip.specs.Seen.{chip_view};
     ghost use Rattle.dram_chip.specs.ChipWidth.{chip_width};
 
-    ghost begun = { HasBegun };
-
-    ghost geometry = { chip_geometry };
-
-    ghost banks = { chip_banks };
-
-    ghost counters = { chip_counters };
-
-    ghost faults = { λ s. 0 };
-
-    ghost log = { λ s. None };
+    ghost view = { chip_view };
 
     ghost borrow = { λ s. 0 };
 

@@ -19,7 +19,8 @@ use Rattle.bit_rows.specs.Bits.{value, bit_number, bit_at}
 use Rattle.dram_model.specs.Column.{Column, step, run}
 use Rattle.dram_model.specs.Chip.{Banks, Event, after}
 use Rattle.dram_model.specs.Chip.Event.{Row}
-use Rattle.dram_model.specs.Events.{row_events, after-append, on-its-bank, on-others}
+use Rattle.dram_model.specs.Events.{row_events}
+use Rattle.dram_model.proofs.EventLaws.{after-append, on-its-bank, on-others}
 use Rattle.dram_model.specs.Elements.{number}
 use Rattle.object_alloc.specs.declared.table.Object.{Object}
 use Rattle.object_alloc.specs.Free.{has_row, AreApart}
@@ -28,7 +29,7 @@ use Rattle.machine_model.specs.Columns.{segments, size_of, columns}
 use Rattle.machine_model.proofs.Below.{below_run, below_same, below_length, through_in}
 use Rattle.machine_model.proofs.Below.{through_same, number_same}
 use Rattle.machine_model.proofs.Bbops.{has_from}
-use Rattle.machine_model.specs.Steps.{Job}
+use Rattle.machine_model.specs.Schedule.{Job}
 use Rattle.machine_model.specs.Steps.{through, fill_events}
 
 -- row base + k takes bit k of the value, for n bits from bit a on

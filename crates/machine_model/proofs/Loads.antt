@@ -12,7 +12,8 @@ use Rattle.bit_rows.specs.Bits.{value, bit_at}
 use Rattle.dram_model.specs.Column.{Column, drive, plain}
 use Rattle.dram_model.specs.Chip.{Banks, Event, after, with_row}
 use Rattle.dram_model.specs.Chip.Event.{Write}
-use Rattle.dram_model.specs.Events.{events_of, on_bank_all, projection, after-append}
+use Rattle.dram_model.specs.Events.{events_of, on_bank_all}
+use Rattle.dram_model.proofs.EventLaws.{projection, after-append}
 use Rattle.dram_model.specs.Elements.{number}
 use Rattle.object_alloc.specs.declared.table.Object.{Object}
 use Rattle.machine_model.specs.Columns.{columns}

@@ -23,6 +23,7 @@ use Rattle.machine_model.specs.Refusals.{refusal, object_named, is_absent, when}
 use Rattle.machine_model.specs.Steps.{Held, table_of, numbers_named, reply_by, reply_to}
 use Rattle.machine_model.specs.Steps.{words_after, banks_after}
 use Rattle.machine_model.specs.Agrees.{Agrees, StepAgrees}
+use Rattle.machine_model.specs.Laws.{FitsBanks}
 use Rattle.std.specs.List.{AllByRecursion}
 use Rattle.machine_model.specs.Report.{Said, said_of, said_in_words, said_in_rows}
 use Rattle.object_alloc.specs.Spelling.{IsImage}
@@ -55,9 +56,6 @@ pub after_length : (events : List Event) (banks : Banks) (bank : ℕ)
 after_length [] banks bank = refl
 after_length (event ∷ events) banks bank = after_length events (happens event banks) bank
     ∙ happens_case event _ (banks bank)
-
-held_of : Image → Named → Held
-held_of i p = record { name = p.0; object = p.1; numbers = columns i.geometry (opened i) p.1 }
 
 tables : (g : Geometry) (banks : Banks) (table : List Named)
     → table_of (map (λ (p : Named). record {
@@ -154,3 +152,7 @@ report_same g operations meaning (instr ∷ script) steps banks state a =
     ∙ report_same g operations meaning script steps.1
     (banks_after g operations (table_of state) banks instr)
     (words_after g operations meaning state instr) (steps.0 banks state a)))
+
+-- The objects of an image fit its banks
+pub image_fits : (i : Image) → IsImage i.geometry i.table i.rows → FitsBanks i.geometry i.table
+image_fits i good k d l = (good.objects k d l).fits

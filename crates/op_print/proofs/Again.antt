@@ -28,12 +28,12 @@ use Rattle.op_text.specs.Spelling.{direction_text, start_text, behind_commas, be
 use Rattle.op_text.specs.Spelling.{in_turn, operations_text, HasNames, HasParam, HasState}
 use Rattle.op_text.specs.Spelling.{HasEquation, HasStatement, HasOperation, IsName, Each, MeetRules}
 use Rattle.op_text.specs.Spelling as tokens
-use Rattle.op_text.proofs.Places.{places_do_not_matter}
-use Rattle.op_text.proofs.Once.{ops_spelled_once}
+use Rattle.op_text.proofs.Meeting.{texts_of_ops}
+use Rattle.op_text.specs.OpsOf.{IsOpsOf}
 use Rattle.op_print.specs.Canonical.{behind_comma, listed, spelled, value_text, param_text}
 use Rattle.op_print.specs.Canonical.{state_text, equation_text, let_text, word_text, block_head}
 use Rattle.op_print.specs.Canonical.{op_head, line, statement_lines, op_lines, canonical_text}
-use Rattle.op_print.specs.Reading.{TokensSpellOps, IsReadAs, PrintingIsUndone}
+use Rattle.op_print.specs.Reading.{TokensSpellOps, PrintingIsUndone}
 
 -- A text is read as these tokens, wherever it stands.
 record Reads (text : List ℕ) (spells : List (List ℕ)) : Type 0 where
@@ -369,32 +369,15 @@ text_reads all h = subst (λ (x : List ℕ). Reads x (operations_text all))
 pub tokens_spell_ops : TokensSpellOps
 tokens_spell_ops all h = (text_reads all h).reads 0
 
-texts_bare : (items : List Item) → texts (map bare items) ≡ texts items
-texts_bare [] = refl
-texts_bare (Bad f ∷ items) = refl
-texts_bare (Whole u ∷ items) = ap (λ l. u.text ∷ l) (texts_bare items)
-
-texts_spelled : (spells : List (List ℕ)) → texts (items_spelled spells) ≡ spells
-texts_spelled [] = refl
-texts_spelled (t ∷ spells) = ap (λ l. t ∷ l) (texts_spelled spells)
-
 pub printing_is_undone : PrintingIsUndone
-printing_is_undone all h meets =
-    let items = items_of (canonical_text all) in
-    let same = tokens_spell_ops all h in
-    let good : first_breach items ≡ None = (places_do_not_matter items _ nothing_yet).1
-    (ap first_breach same ∙ meets) in
-    let spelled : texts items ≡ operations_text all = sym (texts_bare items) ∙ ap texts same
-    ∙ texts_spelled (operations_text all) in (
-      (ap (option_map (fault_of (canonical_text all))) good, spelled),
-      λ others k t. ops_spelled_once others all k h (sym t.1 ∙ spelled),
-    )
+printing_is_undone all h meets = texts_of_ops (canonical_text all) all h meets
+    (tokens_spell_ops all h)
 
 -- where a text is begun empty, and these ops are written to it
 pub read_back : (ops given : List Op) (text before : List ℕ) → given ≡ ops
-    → Each HasOperation (map operation given) → MeetRules (map operation ops) → before ≡ []
+    → Each HasOperation (map operation ops) → MeetRules (map operation ops) → before ≡ []
     → text ≡ before ++ canonical_text (map operation given)
-    → IsReadAs text (map operation ops)
+    → IsOpsOf text (map operation ops)
 read_back ops given text before same named meets blank written =
     let is : text ≡ canonical_text (map operation ops) = rw (written, blank, same) refl in
-    rw is (printing_is_undone (map operation ops) (rw same at named) meets)
+    rw is (printing_is_undone (map operation ops) named meets)

@@ -1,3 +1,2 @@
 mod Again
-mod Named
 mod Worked

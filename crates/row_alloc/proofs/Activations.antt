@@ -11,7 +11,7 @@ use Rattle.dram_model.specs.declared.address.Command.TheVariants.{Aap as RowAap}
 use Rattle.bit_rows.specs.Bits.{majority, flip_if}
 use Rattle.dram_model.specs.Column.{Column, run, step, settle, settle_lines, sense_lines, lines_of}
 use Rattle.dram_model.specs.Column.{bit, drive, plain}
-use Rattle.dram_model.specs.Laws.{step-is-quick, activate_lines}
+use Rattle.dram_model.proofs.ColumnLaws.{step-is-quick, activate_lines}
 
 -- a row that commands with B rows leave
 abbrev pub is_stored : Cell → Bool

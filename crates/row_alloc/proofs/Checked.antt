@@ -10,7 +10,7 @@ use Rattle.dram_model.specs.declared.address.Cell.TheVariants.{T, Dcc, C as Cell
 use Rattle.dram_model.specs.declared.address.Line.{Line}
 use Rattle.dram_model.specs.Column.{Column, lines_of, settle_lines, drive, sense, settle, step}
 use Rattle.dram_model.specs.Column.{plain}
-use Rattle.dram_model.specs.Laws.{refresh, drive-other}
+use Rattle.dram_model.proofs.ColumnLaws.{refresh, drive-other}
 use Rattle.mig_graph.specs.declared.Lit.{Lit}
 use Rattle.mig_graph.specs.Graph.{Graph, IsGraph, start}
 use Rattle.mig_graph.specs.Laws.{values-below}

@@ -10,7 +10,7 @@ use Rattle.bit_rows.specs.Bits.{flip_if, bit_number}
 use Rattle.dram_model.specs.declared.address.Cell.{Cell}
 use Rattle.dram_model.specs.declared.address.Cell.TheVariants.{Dcc, C as CellC, D}
 use Rattle.dram_model.specs.Column.{Column, run, lines_of, bit, plain}
-use Rattle.dram_model.specs.Laws.{run-append}
+use Rattle.dram_model.proofs.ColumnLaws.{run-append}
 use Rattle.mig_graph.specs.declared.Lit.{Lit}
 use Rattle.mig_graph.specs.declared.Node.{Node}
 use Rattle.mig_graph.specs.Literals.{is_turned, IsLower, node_value}

@@ -11,7 +11,7 @@ use Rattle.dram_model.specs.declared.address.Line.{Line}
 use Rattle.bit_rows.specs.Bits.{flip_if}
 use Rattle.dram_model.specs.Column.{Column, lines_of, b_lines, is_written, bit, read, sense_lines}
 use Rattle.dram_model.specs.Column.{settle_lines, drive, sense, settle, step, plain}
-use Rattle.dram_model.specs.Laws.{refresh}
+use Rattle.dram_model.proofs.ColumnLaws.{refresh}
 use Rattle.row_alloc.specs.declared.body.BodyRef.{BodyRef}
 use Rattle.row_alloc.specs.declared.body.BodyRef.TheVariants.{B, C, In, Out, Spill}
 use Rattle.row_alloc.specs.declared.body.BodyCmd.{BodyCmd}

@@ -3,7 +3,7 @@ use Rattle.std.specs.Prelude.{◌≡◌, ℕ, ◌+◌, List, [], ◌++◌, Optio
 use Rattle.std.proofs.Common.{◌∙◌, ap, append-nil, sym}
 use Rattle.dram_model.specs.declared.dram.Counters.{Counters}
 use Rattle.dram_model.specs.Chip.{Banks, Event, after, all_counted, Grew}
-use Rattle.dram_model.specs.Events.{after-append, all_counted-append, Grew-more}
+use Rattle.dram_model.proofs.EventLaws.{after-append, all_counted-append, Grew-more}
 
 -- what a chip shows of its work: its banks, its counters, and its log where it tells one
 pub record Shown : Type 0 where

@@ -18,7 +18,7 @@ use Rattle.dram_model.specs.Column.{Column, lines_of, b_lines, drive, sense, set
 use Rattle.dram_model.specs.Column.{sense_lines, run, step, is_first as is_first_address}
 use Rattle.dram_model.specs.Column.{is_second as is_second_address, is_written}
 use Rattle.dram_model.specs.Column.{is_in_range as is_address_in, is_legal as is_legal_command}
-use Rattle.dram_model.specs.Laws.{activate_lines, step-is-quick, drive-other}
+use Rattle.dram_model.proofs.ColumnLaws.{activate_lines, step-is-quick, drive-other}
 use Rattle.op_text.specs.declared.tree.Kind.{Kind}
 use Rattle.op_text.specs.declared.tree.Kind.TheVariants.{Word, Bit}
 use Rattle.uprog_code.specs.declared.code.RowSpace.{RowSpace}
@@ -262,10 +262,12 @@ module _ (rows : ℕ) (shape : Shape) (n : ℕ) (b : Bound) (fits : Fits rows sh
   address_good some space.Source which i h = lt-ltb (slice_index b.sources which + i) rows
       (omega (arith, value_in shape.sources b.sources which i fits.sources h))
   address_good some space.ScratchBit which i h =
-      lt-ltb (b.scratch + which) rows (omega (arith, fits.scratch, ltb-true which shape.bits h))
+      let l = ltb-true which shape.bits h in
+      lt-ltb (b.scratch + which) rows (omega (arith, fits.scratch (omega (arith, l)), l))
   address_good some space.ScratchWord which i h =
+      let l = ltb-true (which * n + i) (n * shape.words) h in
       lt-ltb (b.scratch + shape.bits + which * n + i) rows
-      (omega (arith, fits.scratch, ltb-true (which * n + i) (n * shape.words) h))
+      (omega (arith, fits.scratch (omega (arith, l)), l))
   address_good some space.Spill which i h = lt-ltb (rows - 32 + which) rows
       (omega (
         arith,

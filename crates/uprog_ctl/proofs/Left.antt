@@ -1,14 +1,15 @@
 -- What is left to issue from here gives what all gives.
-use Rattle.std.proofs.Common.{◌≡◌, ℕ, suc, ◌+◌, ◌≤◌, List, [], ◌++◌, refl, sym, ap, ◌∙◌, subst}
-use Rattle.std.proofs.Common.{arith, Option, Some, None, Result, append-nil}
+use Rattle.std.proofs.Common.{◌≡◌, ℕ, suc, ◌+◌, ◌≤◌, List, ◌++◌, refl, sym, ap, ◌∙◌, subst}
+use Rattle.std.proofs.Common.{arith, Some, Result}
 use Rattle.std.proofs.lemmas.List.{map-append}
 use Rattle.std.specs.Prelude.{slice_get}
 use Rattle.dram_model.specs.declared.dram.Counters.{Counters}
-use Rattle.dram_model.specs.Chip.{Banks, Event, after, all_counted, Grew}
+use Rattle.dram_model.specs.Chip.{Banks, Event, all_counted, SameBut}
 use Rattle.dram_model.specs.Chip.Event.{Row}
+use Rattle.dram_model.specs.View.{ChipView, Did}
 use Rattle.dram_model.specs.declared.address.Command.{Command}
-use Rattle.dram_model.specs.Events.{row_events, after-append, all_counted-append, Grew-more}
-use Rattle.dram_model.specs.Events.{counted-bound}
+use Rattle.dram_model.specs.Events.{row_events}
+use Rattle.dram_model.proofs.EventLaws.{Did-more, counted-bound, on-others}
 use Rattle.uprog_code.specs.declared.binding.Binding.{Binding}
 use Rattle.uprog_code.specs.declared.registers.Turn.{Turn}
 use Rattle.uprog_code.specs.declared.registers.Turn.TheVariants.{Over, On, To, Issues}
@@ -31,10 +32,6 @@ issues-onto : (cs : List Issue) (t : Trace) → HasEnded (onto cs t)
 issues-onto cs (Ended ds) h = refl
 issues-onto cs (Stuck at why) h = absurd h
 
-pub Grew-none : (a : Option (List Event)) → Grew a a []
-Grew-none None = tt
-Grew-none (Some x) = sym (append-nil x)
-
 module _ (bank rows : ℕ) (shape : Shape) (b : Binding) where
   events-append : (cs ds : List Issue) → issue_events bank rows shape b (cs ++ ds)
       ≡ issue_events bank rows shape b cs ++ issue_events bank rows shape b ds
@@ -43,48 +40,12 @@ module _ (bank rows : ℕ) (shape : Shape) (b : Binding) where
       ∙ map-append (λ (c : Command). Row bank c) (bound rows shape b.n (bound_of b) cs)
       (bound rows shape b.n (bound_of b) ds)
 
-  -- one step further: these banks, counters and log are those after its commands
-  banks-on : (cs ds : List Issue) (old new : Banks)
-      → new ≡ after (issue_events bank rows shape b cs) old
-      → after (issue_events bank rows shape b ds) new
-      ≡ after (issue_events bank rows shape b (cs ++ ds)) old
-  banks-on cs ds old new e =
-      ap (after (issue_events bank rows shape b ds)) e
-      ∙ sym (after-append (issue_events bank rows shape b cs) (issue_events bank rows shape b ds)
-      old)
-      ∙ ap (λ (es : List Event). after es old) (sym (events-append cs ds))
-
-  counters-on : (cs ds : List Issue) (old new : Counters)
-      → new ≡ all_counted (issue_events bank rows shape b cs) old
-      → all_counted (issue_events bank rows shape b ds) new
-      ≡ all_counted (issue_events bank rows shape b (cs ++ ds)) old
-  counters-on cs ds old new e =
-      ap (all_counted (issue_events bank rows shape b ds)) e
-      ∙ sym (all_counted-append (issue_events bank rows shape b cs)
-      (issue_events bank rows shape b ds) old)
-      ∙ ap (λ (es : List Event). all_counted es old) (sym (events-append cs ds))
-
-  log-on : (cs ds : List Issue) (old new final : Option (List Event))
-      → Grew old new (issue_events bank rows shape b cs)
-      → Grew new final (issue_events bank rows shape b ds)
-      → Grew old final (issue_events bank rows shape b (cs ++ ds))
-  log-on cs ds old new final g h = subst (Grew old final) (sym (events-append cs ds))
-      (Grew-more old new final (issue_events bank rows shape b cs)
-      (issue_events bank rows shape b ds) g h)
-
   -- what is left when a step that goes on is done
   pub record Left (here next : Trace) (cs : List Issue) : Type 0 where
     pub ended : HasEnded next
-    pub banks : (old new : Banks) → new ≡ after (issue_events bank rows shape b cs) old
-        → after (issue_events bank rows shape b (issues_of next)) new
-        ≡ after (issue_events bank rows shape b (issues_of here)) old
-    pub counters : (old new : Counters) → new ≡ all_counted (issue_events bank rows shape b cs) old
-        → all_counted (issue_events bank rows shape b (issues_of next)) new
-        ≡ all_counted (issue_events bank rows shape b (issues_of here)) old
-    pub log : (old new final : Option (List Event))
-        → Grew old new (issue_events bank rows shape b cs)
-        → Grew new final (issue_events bank rows shape b (issues_of next))
-        → Grew old final (issue_events bank rows shape b (issues_of here))
+    pub did : (old new final : ChipView) → Did (issue_events bank rows shape b cs) old new
+        → Did (issue_events bank rows shape b (issues_of next)) new final
+        → Did (issue_events bank rows shape b (issues_of here)) old final
 
   pub left : (here next : Trace) (cs : List Issue) → HasEnded here → here ≡ onto cs next
       → Left here next cs
@@ -93,13 +54,18 @@ module _ (bank rows : ℕ) (shape : Shape) (b : Binding) where
       let all : issues_of here ≡ cs ++ issues_of next = ap issues_of e ∙ issues-onto cs next h' in
       record {
         ended = ended-onto cs next h';
-        banks = λ old new f. banks-on cs (issues_of next) old new f
-            ∙ ap (λ is. after (issue_events bank rows shape b is) old) (sym all);
-        counters = λ old new f. counters-on cs (issues_of next) old new f
-            ∙ ap (λ is. all_counted (issue_events bank rows shape b is) old) (sym all);
-        log = λ old new final f g. subst (λ is. Grew old final (issue_events bank rows shape b is))
-            (sym all) (log-on cs (issues_of next) old new final f g);
+        did = λ old new final f g.
+            subst (λ is. Did (issue_events bank rows shape b is) old final) (sym all)
+            (subst (λ (es : List Event). Did es old final) (sym (events-append cs (issues_of next)))
+            (Did-more (issue_events bank rows shape b cs)
+            (issue_events bank rows shape b (issues_of next)) old new final f g));
       }
+
+  -- the other banks stay
+  pub others-stay : (cs : List Issue) (old new : ChipView)
+      → Did (issue_events bank rows shape b cs) old new → SameBut bank old.banks new.banks
+  others-stay cs old new did = λ other h. ap (λ (banks : Banks). banks other) did.banks
+      ∙ on-others bank (bound rows shape b.n (bound_of b) cs) old.banks other h
 
   few-by : (turn : Turn) (old : Counters)
       → ((all_counted (issue_events bank rows shape b (issues_by turn)) old).aap ≤ old.aap + 1)

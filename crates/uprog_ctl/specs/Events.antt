@@ -1,16 +1,13 @@
 -- The events of a microprogram that runs in a bank.
-use Rattle.std.specs.Prelude.{◌≡◌, ℕ, ◌+◌, Bool, cond, List, [], ◌∷◌, count_by}
-use Rattle.std.proofs.Common.{◌∙◌, ap, arith}
-use Rattle.std.proofs.lemmas.List.Sums.{sum_by-cons}
+use Rattle.std.specs.Prelude.{ℕ, ◌+◌, List}
 use Rattle.dram_model.specs.declared.dram.Counters.{Counters}
-use Rattle.dram_model.specs.Chip.{Event, all_counted}
+use Rattle.dram_model.specs.Chip.{Event}
 use Rattle.dram_model.specs.Events.{row_events}
 use Rattle.uprog_code.specs.declared.binding.Binding.{Binding}
 use Rattle.uprog_code.specs.declared.code.Uop.{Uop}
 use Rattle.uprog_code.specs.Shape.{Shape}
 use Rattle.uprog_code.specs.declared.walker.Counts.{Counts}
-use Rattle.uprog_code.specs.Machine.{Issue, Twice, Once, trace, issues_of}
-use Rattle.uprog_code.specs.Count.{is_twice, is_once, counts_of}
+use Rattle.uprog_code.specs.Machine.{Issue, trace, issues_of}
 use Rattle.uprog_code.specs.Bound.{bound, bound_of}
 
 -- these row commands, bound, in order
@@ -25,37 +22,3 @@ trace_events bank rows shape code b = issue_events bank rows shape b
 -- counters after so many commands of each kind
 abbrev pub risen : Counts → Counters → Counters
 risen counts c = record c { aap = c.aap + counts.aap; ap = c.ap + counts.ap }
-
-more_of : (p : Issue → Bool) (i : Issue) (is : List Issue)
-    → count_by p (i ∷ is) ≡ cond (p i) 1 0 + count_by p is
-more_of p i is = sum_by-cons (λ x. cond (p x) 1 0) i is
-
-same_counters : (m m' n n' : ℕ) (c : Counters) → m ≡ m' → n ≡ n'
-    → (let k : Counters = record c { aap = m; ap = n } in k) ≡ record c { aap = m'; ap = n' }
-same_counters m m' n n' c e f = ap (λ i. (let k : Counters = record c { aap = i; ap = n } in k)) e
-    ∙ ap (λ i. (let k : Counters = record c { aap = m'; ap = i } in k)) f
-
--- the counters rise by the counts of the trace
-pub counted-issues : (bank rows : ℕ) (shape : Shape) (b : Binding) (issues : List Issue)
-    (c : Counters) → all_counted (issue_events bank rows shape b issues) c
-    ≡ risen (counts_of issues) c
-counted-issues bank rows shape b [] c = same_counters c.aap (c.aap + 0) c.ap (c.ap + 0) c
-    (omega arith) (omega arith)
-counted-issues bank rows shape b (Twice x y ∷ is) c =
-    let t : count_by is_twice (Twice x y ∷ is) ≡ 1 + count_by is_twice is =
-    more_of is_twice (Twice x y) is in
-    let o : count_by is_once (Twice x y ∷ is) ≡ 0 + count_by is_once is =
-    more_of is_once (Twice x y) is in
-    counted-issues bank rows shape b is (record c { aap = c.aap + 1 })
-    ∙ same_counters (c.aap + 1 + count_by is_twice is) (c.aap + count_by is_twice (Twice x y ∷ is))
-    (c.ap + count_by is_once is) (c.ap + count_by is_once (Twice x y ∷ is)) c (omega arith)
-    (omega arith)
-counted-issues bank rows shape b (Once x ∷ is) c =
-    let t : count_by is_twice (Once x ∷ is) ≡ 0 + count_by is_twice is =
-    more_of is_twice (Once x) is in
-    let o : count_by is_once (Once x ∷ is) ≡ 1 + count_by is_once is =
-    more_of is_once (Once x) is in
-    counted-issues bank rows shape b is (record c { ap = c.ap + 1 })
-    ∙ same_counters (c.aap + count_by is_twice is) (c.aap + count_by is_twice (Once x ∷ is)) (c.ap
-    + 1 + count_by is_once is) (c.ap + count_by is_once (Once x ∷ is)) c (omega arith)
-    (omega arith)

@@ -1,10 +1,9 @@
 //! Runs a microprogram on one bank.
 
 ghost use Rattle.std.specs.Prelude.{◌≡◌, ℕ, List, ◌+◌, ◌<◌, ◌≤◌, ◌^◌, true, OnOk, OnErr, ◌∷◌, []};
-ghost use Rattle.std.specs.List.{AllByRecursion};
 ghost use Rattle.dram_model.specs.Column.{is_legal};
-ghost use Rattle.dram_model.specs.Chip.{Event, happens, after, counted, all_counted, Rose, Grew};
-ghost use Rattle.dram_model.specs.Chip.{SameBut};
+ghost use Rattle.dram_model.specs.Chip.{Event, all_counted};
+ghost use Rattle.dram_model.specs.View.{HasBegun, Kept, Did, FailedIn};
 ghost use Rattle.uprog_code.specs.Shape.{Shape, shape_of};
 ghost use Rattle.uprog_code.specs.Machine.{HasEnded, Issue, trace};
 ghost use Rattle.uprog_code.specs.Legal.{IsLegalCode};
@@ -30,23 +29,16 @@ pub fn counters_rise_by_counts()
 
 /// One command on one bank.
 fn do_command<D: Dram>(dram: &mut D, bank: u16, command: Command) -> Result<(), ChipFault>
-    requires begun { D.begun dram.old }
-    requires bank { bank < (D.geometry dram.old).banks }
-    requires legal { is_legal (D.geometry dram.old).rows command ≡ true }
-    requires aap_room { (D.counters dram.old).aap < 2 ^ 63 }
-    requires ap_room { (D.counters dram.old).ap < 2 ^ 63 }
-    ensures begun { D.begun dram.new }
+    requires begun { HasBegun (D.view dram.old) }
+    requires bank { bank < (D.view dram.old).geometry.banks }
+    requires legal { is_legal (D.view dram.old).geometry.rows command ≡ true }
+    requires aap_room { (D.view dram.old).counters.aap < 2 ^ 63 }
+    requires ap_room { (D.view dram.old).counters.ap < 2 ^ 63 }
     ensures borrow { D.borrow dram.new ≡ D.borrow dram.old }
-    ensures geometry { D.geometry dram.new ≡ D.geometry dram.old }
-    ensures faults { D.faults dram.old ≤ D.faults dram.new }
-    ensures banks { OnOk result (D.banks dram.new
-        ≡ happens (Event.Row bank command) (D.banks dram.old)) }
-    ensures counters { OnOk result (D.counters dram.new
-        ≡ counted (Event.Row bank command) (D.counters dram.old)) }
-    ensures log { OnOk result (Grew (D.log dram.old) (D.log dram.new) (Event.Row bank command ∷ []))
-        }
-    ensures rose { OnErr result (Rose (D.faults dram.old) (D.faults dram.new)) }
-    ensures others { OnErr result (SameBut bank (D.banks dram.old) (D.banks dram.new)) }
+    ensures kept { Kept (D.view dram.old) (D.view dram.new) }
+    ensures did { OnOk result (Did (Event.Row bank command ∷ [])
+        (D.view dram.old) (D.view dram.new)) }
+    ensures failed { OnErr result (FailedIn bank (D.view dram.old) (D.view dram.new)) }
 {
     match command {
         Command::Ap(x) => dram.ap(bank, x),
@@ -62,29 +54,20 @@ fn do_turn<D: Dram>(
     head: &Head,
     binding: &Binding,
 ) -> Result<(), ChipFault>
-    requires begun { D.begun dram.old }
-    requires bank { bank < (D.geometry dram.old).banks }
+    requires begun { HasBegun (D.view dram.old) }
+    requires bank { bank < (D.view dram.old).geometry.banks }
     requires some { 0 < binding.now.n }
-    requires fits { Fits (D.geometry dram.old).rows (shape_of head.now) binding.now.n
+    requires fits { Fits (D.view dram.old).geometry.rows (shape_of head.now) binding.now.n
         (bound_of binding.now) }
     requires good { AreGood (shape_of head.now) binding.now.n (issues_by turn) }
-    requires aap_room { (D.counters dram.old).aap < 2 ^ 63 }
-    requires ap_room { (D.counters dram.old).ap < 2 ^ 63 }
-    ensures begun { D.begun dram.new }
+    requires aap_room { (D.view dram.old).counters.aap < 2 ^ 63 }
+    requires ap_room { (D.view dram.old).counters.ap < 2 ^ 63 }
     ensures borrow { D.borrow dram.new ≡ D.borrow dram.old }
-    ensures geometry { D.geometry dram.new ≡ D.geometry dram.old }
-    ensures faults { D.faults dram.old ≤ D.faults dram.new }
-    ensures banks { OnOk result (D.banks dram.new
-        ≡ after (issue_events bank (D.geometry dram.old).rows (shape_of head.now) binding.now
-        (issues_by turn)) (D.banks dram.old)) }
-    ensures counters { OnOk result (D.counters dram.new
-        ≡ all_counted (issue_events bank (D.geometry dram.old).rows (shape_of head.now) binding.now
-        (issues_by turn)) (D.counters dram.old)) }
-    ensures log { OnOk result (Grew (D.log dram.old) (D.log dram.new)
-        (issue_events bank (D.geometry dram.old).rows (shape_of head.now) binding.now
-        (issues_by turn))) }
-    ensures rose { OnErr result (Rose (D.faults dram.old) (D.faults dram.new)) }
-    ensures others { SameBut bank (D.banks dram.old) (D.banks dram.new) }
+    ensures kept { Kept (D.view dram.old) (D.view dram.new) }
+    ensures did { OnOk result (Did (issue_events bank (D.view dram.old).geometry.rows
+        (shape_of head.now) binding.now (issues_by turn))
+        (D.view dram.old) (D.view dram.new)) }
+    ensures failed { OnErr result (FailedIn bank (D.view dram.old) (D.view dram.new)) }
 {
     match turn {
         Turn::Issues(issued) => {
@@ -95,38 +78,30 @@ fn do_turn<D: Dram>(
     }
 }
 
-/// Runs a microprogram on one bank to its end.
+/// Runs a microprogram on one bank to its end. A call that fails ends it: the commands before it
+/// are done.
 pub fn run<D: Dram, F: Fetch>(
     dram: &mut D,
     bank: u16,
     entry: &F,
     binding: &Binding,
 ) -> Result<(), ChipFault>
-    requires begun { D.begun dram.old }
-    requires bank { bank < (D.geometry dram.old).banks }
+    requires begun { HasBegun (D.view dram.old) }
+    requires bank { bank < (D.view dram.old).geometry.banks }
     requires legal { IsLegalCode (F.shape entry.now) (F.code entry.now) }
     requires some { 0 < binding.now.n }
     requires narrow { binding.now.n ≤ WIDTH_MAX }
-    requires fits { Fits (D.geometry dram.old).rows (F.shape entry.now) binding.now.n
+    requires fits { Fits (D.view dram.old).geometry.rows (F.shape entry.now) binding.now.n
         (bound_of binding.now) }
     requires ends { HasEnded (trace (F.shape entry.now) (F.code entry.now) binding.now.n) }
-    requires aap_room { (D.counters dram.old).aap < 2 ^ 62 }
-    requires ap_room { (D.counters dram.old).ap < 2 ^ 62 }
-    ensures begun { D.begun dram.new }
+    requires aap_room { (D.view dram.old).counters.aap < 2 ^ 62 + 2 ^ 61 }
+    requires ap_room { (D.view dram.old).counters.ap < 2 ^ 62 + 2 ^ 61 }
     ensures borrow { D.borrow dram.new ≡ D.borrow dram.old }
-    ensures geometry { D.geometry dram.new ≡ D.geometry dram.old }
-    ensures faults { D.faults dram.old ≤ D.faults dram.new }
-    ensures banks { OnOk result (D.banks dram.new
-        ≡ after (trace_events bank (D.geometry dram.old).rows (F.shape entry.now) (F.code entry.now)
-        binding.now) (D.banks dram.old)) }
-    ensures counters { OnOk result (D.counters dram.new
-        ≡ all_counted (trace_events bank (D.geometry dram.old).rows (F.shape entry.now)
-        (F.code entry.now) binding.now) (D.counters dram.old)) }
-    ensures log { OnOk result (Grew (D.log dram.old) (D.log dram.new)
-        (trace_events bank (D.geometry dram.old).rows (F.shape entry.now) (F.code entry.now)
-        binding.now)) }
-    ensures rose { OnErr result (Rose (D.faults dram.old) (D.faults dram.new)) }
-    ensures others { SameBut bank (D.banks dram.old) (D.banks dram.new) }
+    ensures kept { Kept (D.view dram.old) (D.view dram.new) }
+    ensures did { OnOk result (Did (trace_events bank (D.view dram.old).geometry.rows
+        (F.shape entry.now) (F.code entry.now) binding.now)
+        (D.view dram.old) (D.view dram.new)) }
+    ensures failed { OnErr result (FailedIn bank (D.view dram.old) (D.view dram.new)) }
 {
     let head = entry.head();
     let mut regs = [0u16; 8];

@@ -9,7 +9,7 @@ use Rattle.dram_model.specs.declared.address.Addr.TheVariants.{D as AddrD}
 use Rattle.dram_model.specs.declared.address.Cell.TheVariants.{D}
 use Rattle.dram_model.specs.declared.address.Command.TheVariants.{Ap as RowAp, Aap as RowAap}
 use Rattle.dram_model.specs.Column.{Column, run}
-use Rattle.dram_model.specs.Laws.{run-append}
+use Rattle.dram_model.proofs.ColumnLaws.{run-append}
 use Rattle.mig_graph.specs.Graph.{value}
 use Rattle.uprog_code.specs.Shape.{Shape}
 use Rattle.uprog_code.specs.Bound.{Bound, address, bound, bound_command}

@@ -4,5 +4,5 @@ use Rattle.op_print.proofs.print.print_ops.Goals as goal
 pub returns-clause-read : goal.returns-clause-read
 returns-clause-read c =
     read_back c.args.ops.now.ops.items c.deref.result.now c.put_ops.new.out.items
-    c.new-out.result.items c.deref.ensures.value c.in_ok-put_ops.ensures.names c.requires
-    c.new-out.ensures.items c.in_ok-put_ops.ensures.text
+    c.new-out.result.items c.deref.ensures.value c.names_are_names.ensures c.requires
+    c.new-out.ensures.items c.in_ok-put_ops.ensures

@@ -2,7 +2,7 @@ use Rattle.std.proofs.Common.{◌≡◌, ◌+◌, ◌*◌, ◌≤◌, ◌++◌, 
 use Rattle.std.proofs.Common.{◌∙◌, subst}
 use Rattle.std.proofs.lemmas.Grind.{common_steps}
 use Rattle.dram_model.specs.Chip.{row_in}
-use Rattle.dram_model.specs.Events.{Grew-more}
+use Rattle.dram_model.proofs.EventLaws.{Grew-more}
 use Rattle.object_alloc.specs.Bytes.{bytes_of_bits}
 use Rattle.sim_machine.specs.Image.{with_reads}
 use Rattle.sim_machine.proofs.Rows.{next_bytes, more_reads}

@@ -1,7 +1,7 @@
 use Rattle.std.proofs.Common.{◌≡◌, ◌+◌, ◌*◌, ◌≤◌, ◌++◌, [], arith, rules, length, vec_len, ap, sym}
 use Rattle.std.proofs.Common.{◌∙◌, subst}
 use Rattle.std.proofs.lemmas.Grind.{common_steps}
-use Rattle.dram_model.specs.Events.{Grew-more}
+use Rattle.dram_model.proofs.EventLaws.{Grew-more}
 use Rattle.sim_machine.specs.Image.{with_reads, bank_bytes}
 use Rattle.sim_machine.proofs.Rows.{next_bytes, more_reads, one_times_more}
 use Rattle.sim_machine.proofs.Counting.{reads_more}

@@ -1,0 +1,164 @@
+-- Laws of events, for those who do several
+use Rattle.std.specs.Prelude.{◌≡◌, ℕ, ◌+◌, ◌<◌, ◌≤◌, List, [], ◌∷◌, ◌++◌}
+use Rattle.std.specs.Prelude.{length, map, Option, Some, None, refl, take}
+use Rattle.std.proofs.Common.{sym, ◌∙◌, ap, arith, inl, inr, get_or, append_assoc, map-id}
+use Rattle.std.proofs.Common.{append-nil, add_assoc, add-zero}
+use Rattle.std.proofs.lemmas.List.{map_more}
+use Rattle.std.proofs.lemmas.Bool.{ne_eqb, eq-eqb}
+use Rattle.std.proofs.lemmas.Bool.Decides.{eqb_tells}
+use Rattle.dram_model.specs.declared.address.Command.{Command}
+use Rattle.dram_model.specs.declared.address.Command.TheVariants.{Ap, Aap}
+use Rattle.dram_model.specs.declared.dram.Counters.{Counters}
+use Rattle.dram_model.specs.Column.{Column, step, run}
+use Rattle.dram_model.specs.Chip.{Banks, Event, bank_of, happens, after, counted}
+use Rattle.dram_model.specs.Chip.{all_counted, Grew}
+use Rattle.dram_model.specs.Chip.Event.{Row, Write}
+use Rattle.dram_model.specs.Events.{events_of, on_bank_all, row_events}
+use Rattle.dram_model.specs.View.{ChipView, Kept, Did, DidRead, with_reads}
+
+pub after-append : (es fs : List Event) (banks : Banks)
+    → after (es ++ fs) banks ≡ after fs (after es banks)
+after-append [] fs banks = refl
+after-append (e ∷ es) fs banks = after-append es fs (happens e banks)
+
+pub all_counted-append : (es fs : List Event) (counters : Counters)
+    → all_counted (es ++ fs) counters ≡ all_counted fs (all_counted es counters)
+all_counted-append [] fs counters = refl
+all_counted-append (e ∷ es) fs counters = all_counted-append es fs (counted e counters)
+
+-- two growths make one
+pub Grew-more : (a b c : Option (List Event)) (es fs : List Event) → Grew a b es → Grew b c fs
+    → Grew a c (es ++ fs)
+Grew-more a b None es fs g h = tt
+Grew-more a None (Some z) es fs g h = absurd h
+Grew-more None (Some y) (Some z) es fs g h = absurd g
+Grew-more (Some x) (Some y) (Some z) es fs g h = h ∙ ap (λ w. w ++ fs) g ∙ append_assoc x es fs
+
+-- each bank is left as its own events alone leave it, whatever stands between them
+pub projection : (events : List Event) (banks : Banks) (bank : ℕ)
+    → after events banks bank ≡ on_bank_all (events_of bank events) (banks bank)
+projection [] banks bank = refl
+projection (event ∷ events) banks bank = elim (eqb_tells (bank_of event) bank) [
+  | inl h ↦ projection events (happens event banks) bank ∙ rw h.0 refl
+  | inr h ↦ projection events (happens event banks) bank ∙ rw h.0 refl
+]
+
+-- a command at a time
+pub row_events-more : (bank : ℕ) (commands : List Command) (i : ℕ) (d : Command)
+    → i < length commands → row_events bank (take (i + 1) commands)
+    ≡ row_events bank (take i commands) ++ Row bank (get_or commands i d) ∷ []
+row_events-more bank commands i d l = map_more (λ command. Row bank command) commands i d l
+
+pub after-more : (bank : ℕ) (commands : List Command) (i : ℕ) (d : Command) (start old new : Banks)
+    → i < length commands
+    → old ≡ after (row_events bank (take i commands)) start
+    → new ≡ happens (Row bank (get_or commands i d)) old
+    → new ≡ after (row_events bank (take (i + 1) commands)) start
+after-more bank commands i d start old new l e f =
+    rw (row_events-more bank commands i d l, after-append) (f
+    ∙ ap (happens (Row bank (get_or commands i d))) e)
+
+pub counted-more : (bank : ℕ) (commands : List Command) (i : ℕ) (d : Command)
+    (start old new : Counters) → i < length commands
+    → old ≡ all_counted (row_events bank (take i commands)) start
+    → new ≡ counted (Row bank (get_or commands i d)) old
+    → new ≡ all_counted (row_events bank (take (i + 1) commands)) start
+counted-more bank commands i d start old new l e f =
+    rw (row_events-more bank commands i d l, all_counted-append) (f
+    ∙ ap (counted (Row bank (get_or commands i d))) e)
+
+pub Grew-row : (bank : ℕ) (commands : List Command) (i : ℕ) (d : Command)
+    (start old new : Option (List Event)) → i < length commands
+    → Grew start old (row_events bank (take i commands))
+    → Grew old new (Row bank (get_or commands i d) ∷ [])
+    → Grew start new (row_events bank (take (i + 1) commands))
+Grew-row bank commands i d start old new l g h =
+    rw (row_events-more bank commands i d l) (Grew-more start old new _ _ g h)
+
+pub step-then-run : (command : Command) (commands : List Command) (columns : List Column)
+    → map (run commands) (map (step command) columns) ≡ map (run (command ∷ commands)) columns
+step-then-run command commands [] = refl
+step-then-run command commands (column ∷ columns) =
+    ap (λ rest. run commands (step command column) ∷ rest) (step-then-run command commands columns)
+
+-- commands on one bank take each of its columns through them
+pub on-its-bank : (bank : ℕ) (commands : List Command) (banks : Banks)
+    → after (row_events bank commands) banks bank ≡ map (run commands) (banks bank)
+on-its-bank bank [] banks = sym (map-id (banks bank))
+on-its-bank bank (command ∷ commands) banks =
+    on-its-bank bank commands (happens (Row bank command) banks)
+    ∙ rw (eq-eqb bank bank refl) (step-then-run command commands (banks bank))
+
+-- and leave the others
+pub on-others : (bank : ℕ) (commands : List Command) (banks : Banks) (b : ℕ) → (b ≡ bank → ⊥)
+    → after (row_events bank commands) banks b ≡ banks b
+on-others bank [] banks b h = refl
+on-others bank (command ∷ commands) banks b h =
+    on-others bank commands (happens (Row bank command) banks) b h
+    ∙ rw (ne_eqb bank b (λ e. h (sym e))) refl
+
+-- a counter rises by at most one for each event
+pub counted-bound : (events : List Event) (counters : Counters)
+    → ((all_counted events counters).aap ≤ counters.aap + length events)
+    × ((all_counted events counters).ap ≤ counters.ap + length events)
+    × ((all_counted events counters).writes ≤ counters.writes + length events)
+counted-bound [] counters = (omega arith, omega arith, omega arith)
+counted-bound (Row bank (Ap x) ∷ events) counters = let h =
+    counted-bound events (counted (Row bank (Ap x)) counters) in
+    (omega arith, omega arith, omega arith)
+counted-bound (Row bank (Aap x y) ∷ events) counters = let h =
+    counted-bound events (counted (Row bank (Aap x y)) counters) in
+    (omega arith, omega arith, omega arith)
+counted-bound (Write bank row bits ∷ events) counters = let h =
+    counted-bound events (counted (Write bank row bits) counters) in
+    (omega arith, omega arith, omega arith)
+
+told_same : (log : Option (List Event)) → Grew log log []
+told_same None = tt
+told_same (Some told) = sym (append-nil told)
+
+-- no event
+pub Did-none : (chip : ChipView) → Did [] chip chip
+Did-none chip = record { banks = refl; counters = refl; log = told_same chip.log }
+
+-- some events, and then others
+pub Did-more : (es fs : List Event) (a b c : ChipView) → Did es a b → Did fs b c
+    → Did (es ++ fs) a c
+Did-more es fs a b c d e = record {
+  banks = e.banks ∙ ap (after fs) d.banks ∙ sym (after-append es fs a.banks);
+  counters = e.counters ∙ ap (all_counted fs) d.counters
+      ∙ sym (all_counted-append es fs a.counters);
+  log = Grew-more a.log b.log c.log es fs d.log e.log;
+}
+
+-- what one call kept and the next kept, both kept
+pub Kept-same : (chip : ChipView) → Kept chip chip
+Kept-same chip = record { begun = refl; geometry = refl; faults = omega arith }
+
+pub Kept-more : (a b c : ChipView) → Kept a b → Kept b c → Kept a c
+Kept-more a b c h k = record {
+  begun = k.begun ∙ h.begun;
+  geometry = k.geometry ∙ h.geometry;
+  faults = omega (arith, h.faults, k.faults);
+}
+
+more_reads : (m n : ℕ) (c : Counters) → with_reads n (with_reads m c) ≡ with_reads (m + n) c
+more_reads m n c = ap (λ k. let d : Counters = record c { reads = k } in d) (add_assoc c.reads m n)
+
+no_reads : (c : Counters) → c ≡ with_reads 0 c
+no_reads c = ap (λ k. let d : Counters = record c { reads = k } in d) (sym (add-zero c.reads))
+
+pub DidRead-none : (chip : ChipView) → DidRead 0 chip chip
+DidRead-none chip = record {
+  banks = refl;
+  counters = no_reads chip.counters;
+  log = told_same chip.log;
+}
+
+pub DidRead-more : (m n : ℕ) (a b c : ChipView) → DidRead m a b → DidRead n b c
+    → DidRead (m + n) a c
+DidRead-more m n a b c d e = record {
+  banks = e.banks ∙ d.banks;
+  counters = e.counters ∙ ap (with_reads n) d.counters ∙ more_reads m n a.counters;
+  log = Grew-more a.log b.log c.log [] [] d.log e.log;
+}

@@ -1,0 +1,64 @@
+-- What a chip shows, and what calls on it do.
+use Rattle.std.specs.Prelude.{◌≡◌, ℕ, ◌+◌, ◌≤◌, Bool, true, false, List}
+use Rattle.std.specs.Prelude.{[], Option, Some, None}
+use Rattle.dram_model.specs.declared.geometry.Geometry.{Geometry}
+use Rattle.dram_model.specs.declared.dram.Counters.{Counters}
+use Rattle.dram_model.specs.Chip.{Banks, Event, after, all_counted, blank_banks, Rose, Grew}
+use Rattle.dram_model.specs.Chip.{SameBut}
+
+-- What a chip shows: whether its last `begin` was Ok, its shape, the columns of its banks, its
+-- counters, how many of its calls failed, and its log, where it tells one
+pub record ChipView : Type 0 where
+  pub begun : Bool
+  pub geometry : Geometry
+  pub banks : Banks
+  pub counters : Counters
+  pub faults : ℕ
+  pub log : Option (List Event)
+
+-- its last `begin` was Ok
+abbrev pub HasBegun : ChipView → Type 0
+HasBegun chip = chip.begun ≡ true
+
+abbrev pub no_counts : Counters
+no_counts = record { aap = 0; ap = 0; writes = 0; reads = 0 }
+
+-- so many host reads more
+abbrev pub with_reads : ℕ → Counters → Counters
+with_reads n counters = record counters { reads = counters.reads + n }
+
+-- what no call but `begin` changes, whatever comes of it
+pub record Kept (old new : ChipView) : Type 0 where
+  pub begun : new.begun ≡ old.begun
+  pub geometry : new.geometry ≡ old.geometry
+  pub faults : old.faults ≤ new.faults
+
+-- exactly these events happened, in this order
+pub record Did (events : List Event) (old new : ChipView) : Type 0 where
+  pub banks : new.banks ≡ after events old.banks
+  pub counters : new.counters ≡ all_counted events old.counters
+  pub log : Grew old.log new.log events
+
+-- so many data rows were read, and nothing else happened
+pub record DidRead (n : ℕ) (old new : ChipView) : Type 0 where
+  pub banks : new.banks ≡ old.banks
+  pub counters : new.counters ≡ with_reads n old.counters
+  pub log : Grew old.log new.log []
+
+-- a call on this bank failed: what stands in it is unsaid, and the other banks are as they were
+pub record FailedIn (bank : ℕ) (old new : ChipView) : Type 0 where
+  pub rose : Rose old.faults new.faults
+  pub others : SameBut bank old.banks new.banks
+
+-- the chip has this shape, zeros in every row and no counts; a log that it tells is empty
+pub record Began (g : Geometry) (chip : ChipView) : Type 0 where
+  pub begun : HasBegun chip
+  pub geometry : chip.geometry ≡ g
+  pub banks : chip.banks ≡ blank_banks g
+  pub counters : chip.counters ≡ no_counts
+  pub log : Grew (Some []) chip.log []
+
+-- the last `begin` failed: rows and counters are unsaid, and no log is told
+pub record NotBegun (chip : ChipView) : Type 0 where
+  pub begun : chip.begun ≡ false
+  pub untold : chip.log ≡ None
