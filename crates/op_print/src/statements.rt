@@ -16,8 +16,7 @@ use text_lex::Name;
 
 fn put_lets(out: &mut Vec<u8>, lets: &[Assign]) -> Result<(), NoMemory>
     ensures { OnOk result (out.new.items
-        ≡ out.old.items ++ flat_map (λ e. line (codes "    ") (let_text e)) (map equation lets.now))
-            }
+        ≡ out.old.items ++ flat_map (λ e. line (codes "    ") (let_text e)) (map equation lets.now)) }
 {
     for assign in lets {
         put(out, b"    let ")?;
