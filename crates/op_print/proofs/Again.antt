@@ -28,7 +28,7 @@ use Rattle.op_text.specs.Spelling.{direction_text, start_text, behind_commas, be
 use Rattle.op_text.specs.Spelling.{in_turn, operations_text, HasNames, HasParam, HasState}
 use Rattle.op_text.specs.Spelling.{HasEquation, HasStatement, HasOperation, IsName, Each, MeetRules}
 use Rattle.op_text.specs.Spelling as tokens
-use Rattle.op_text.proofs.Places.{places_do_not_matter}
+use Rattle.op_text.proofs.Meeting.{texts_of_ops}
 use Rattle.op_text.specs.OpsOf.{IsOpsOf}
 use Rattle.op_print.specs.Canonical.{behind_comma, listed, spelled, value_text, param_text}
 use Rattle.op_print.specs.Canonical.{state_text, equation_text, let_text, word_text, block_head}
@@ -369,25 +369,9 @@ text_reads all h = subst (λ (x : List ℕ). Reads x (operations_text all))
 pub tokens_spell_ops : TokensSpellOps
 tokens_spell_ops all h = (text_reads all h).reads 0
 
-texts_bare : (items : List Item) → texts (map bare items) ≡ texts items
-texts_bare [] = refl
-texts_bare (Bad f ∷ items) = refl
-texts_bare (Whole u ∷ items) = ap (λ l. u.text ∷ l) (texts_bare items)
-
-texts_spelled : (spells : List (List ℕ)) → texts (items_spelled spells) ≡ spells
-texts_spelled [] = refl
-texts_spelled (t ∷ spells) = ap (λ l. t ∷ l) (texts_spelled spells)
-
 pub printing_is_undone : PrintingIsUndone
-printing_is_undone all h meets =
-    let items = items_of (canonical_text all) in
-    let same = tokens_spell_ops all h in
-    let good : first_breach items ≡ None = (places_do_not_matter items _ nothing_yet).1
-    (ap first_breach same ∙ meets) in record {
-      accepted = ap (option_map (fault_of (canonical_text all))) good;
-      spelled = sym (texts_bare items) ∙ ap texts same ∙ texts_spelled (operations_text all);
-      named = h;
-    }
+printing_is_undone all h meets = texts_of_ops (canonical_text all) all h meets
+    (tokens_spell_ops all h)
 
 -- where a text is begun empty, and these ops are written to it
 pub read_back : (ops given : List Op) (text before : List ℕ) → given ≡ ops

@@ -19,7 +19,7 @@ use Rattle.op_text.specs.Language.{Operation}
 use Rattle.op_text.specs.Spelling.{kind_of_text, unplaced, items_spelled, bare, operations_text}
 use Rattle.op_text.specs.Spelling.{MeetRules}
 use Rattle.op_text.specs.Lines.{fault_of}
-use Rattle.op_text.specs.OpsOf.{OpsOfATextAreOne, OpsOfATextMeet}
+use Rattle.op_text.specs.OpsOf.{OpsOfATextAreOne, OpsOfATextMeet, TextsOfOps}
 use Rattle.op_text.proofs.Places.{places_do_not_matter}
 use Rattle.op_text.proofs.Once.{ops_spelled_once}
 
@@ -98,3 +98,22 @@ ops_of_a_text_meet text ops h =
 pub ops_of_a_text_are_one : OpsOfATextAreOne
 ops_of_a_text_are_one text a b g h =
     ops_spelled_once a b g.named h.named (sym g.spelled ∙ h.spelled)
+
+texts_bare : (items : List Item) → texts (map bare items) ≡ texts items
+texts_bare [] = refl
+texts_bare (Bad f ∷ items) = refl
+texts_bare (Whole u ∷ items) = ap (λ l. u.text ∷ l) (texts_bare items)
+
+texts_spelled : (spells : List (List ℕ)) → texts (items_spelled spells) ≡ spells
+texts_spelled [] = refl
+texts_spelled (t ∷ spells) = ap (λ l. t ∷ l) (texts_spelled spells)
+
+pub texts_of_ops : TextsOfOps
+texts_of_ops text ops h meets same =
+    let items = items_of text in
+    let good : first_breach items ≡ None = (places_do_not_matter items _ nothing_yet).1
+    (ap first_breach same ∙ meets) in record {
+      accepted = ap (option_map (fault_of text)) good;
+      spelled = sym (texts_bare items) ∙ ap texts same ∙ texts_spelled (operations_text ops);
+      named = h;
+    }

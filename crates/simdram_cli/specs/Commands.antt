@@ -1,5 +1,6 @@
 -- What each command promises, by its words.
-use Rattle.std.specs.Prelude.{◌≡◌, ◌⊎◌, ℕ, List, [], ◌∷◌, Option, Some, IfSome}
+use Rattle.std.specs.Prelude.{◌≡◌, ◌⊎◌, ◌==◌, ℕ, true, List, [], ◌∷◌, Some, IfSome}
+use Rattle.std.specs.List.{list_any}
 use denote.Ref.{Bor}
 use Rattle.host_edge.specs.Views.{Told}
 use Rattle.cli_model.specs.World.{World}
@@ -14,6 +15,9 @@ use Rattle.simdram_cli.specs.Show.{ShowEnds, Shown}
 abbrev pub statuses : Command → List ℕ
 statuses (Run names) = 0 ∷ 2 ∷ 3 ∷ 4 ∷ 6 ∷ 7 ∷ 8 ∷ 9 ∷ 10 ∷ 11 ∷ []
 statuses (Show name) = 0 ∷ 2 ∷ 3 ∷ 4 ∷ 10 ∷ 11 ∷ []
+
+abbrev pub CanAnswer : Command → ℕ → Type 0
+CanAnswer command status = list_any (λ s. s == status) (statuses command) ≡ true
 
 -- how it ends: it goes through its steps, and the first event decides
 abbrev pub CommandEnds : Command → World → World → ℕ → Type 0

@@ -1,11 +1,11 @@
 //! The top of the program.
 
-ghost use Rattle.std.specs.Prelude.{◌≡◌, ◌↔◌, codes, true, None, Contains};
+ghost use Rattle.std.specs.Prelude.{◌≡◌, ◌↔◌, codes, true, None};
 ghost use Rattle.dram_model.specs.View.{ChipView};
 ghost use Rattle.host_edge.specs.Views.{FolderView};
 ghost use Rattle.cli_model.specs.World.{world};
 ghost use Rattle.cli_model.specs.Status.{Says, Tells};
-ghost use Rattle.simdram_cli.specs.Commands.{CommandEnds, OnCommand, Promises, statuses};
+ghost use Rattle.simdram_cli.specs.Commands.{CanAnswer, CommandEnds, OnCommand, Promises};
 ghost use Rattle.simdram_cli.specs.Ends.{RunEnds, answer_to};
 ghost use Rattle.simdram_cli.specs.Headline.{OneJob};
 ghost use Rattle.simdram_cli.specs.Show.{ShowEnds};
@@ -104,7 +104,7 @@ pub fn simdram<F: Folder, S: Sink, D: Dram>(
         (world (F.view files.old) (S.view out.old) (D.view chip.old))
         (world (F.view files.new) (S.view out.new) (D.view chip.new)) }
     // A command answers one of its own statuses.
-    ensures no_other { OnCommand words.now (λ command. Contains (statuses command) result) }
+    ensures no_other { OnCommand words.now (λ command. CanAnswer command result) }
     // It goes through its steps, and its first event decides the status, what is sent and which
     // files stand.
     ensures ends { OnCommand words.now (λ command. CommandEnds command

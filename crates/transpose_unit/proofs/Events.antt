@@ -1,15 +1,23 @@
 -- Writes of rows, one after the other.
 use Rattle.std.proofs.Common.{◌≡◌, ◌≢◌, ℕ, zero, suc, ◌+◌, ◌-◌, ◌*◌, Bool, List, [], ◌∷◌, ◌++◌}
 use Rattle.std.proofs.Common.{take, drop, map, Result, Ok, Err, OnErr, refl, sym, ap, ◌∙◌, arith}
-use Rattle.std.specs.List.{range_with_len}
+use Rattle.std.specs.List.{range_with_len, flat_map}
+use Rattle.std.proofs.Math.Nat.{mul-suc}
 use Rattle.std.proofs.lemmas.List.FromFn.{map-range_with_len_more}
 use Rattle.std.proofs.lemmas.Bool.{ne_eqb}
 use Rattle.bit_rows.specs.Bits.{bits_of_words}
 use Rattle.dram_model.specs.declared.dram.Counters.{Counters}
-use Rattle.dram_model.specs.Chip.{Banks, Event, happens, after}
+use Rattle.dram_model.specs.Chip.{Banks, Event, happens, after, all_counted}
 use Rattle.dram_model.specs.Chip.Event.{Write}
-use Rattle.dram_model.proofs.EventLaws.{after-append}
+use Rattle.dram_model.proofs.EventLaws.{all_counted-append}
 use Rattle.transpose_unit.specs.Stage.{stage_row, stage_events}
+
+same_writes : (counters : Counters) (m n : ℕ) → m ≡ n
+    → (let k : Counters = record counters { writes = m } in k) ≡ record counters { writes = n }
+same_writes counters m n e = ap (λ w. let k : Counters = record counters { writes = w } in k) e
+
+no_writes : (counters : Counters) → counters ≡ record counters { writes = counters.writes + 0 }
+no_writes counters = same_writes counters counters.writes (counters.writes + 0) (omega arith)
 
 -- a row more
 pub stage_more : (words bank base k row : ℕ) (stage part : List ℕ) → row ≡ base + k
@@ -23,35 +31,30 @@ stage_more words bank base k row stage part e f =
     ∷ []) (ap (λ (r : ℕ). Write bank r (bits_of_words (stage_row words stage k))) (sym e)
     ∙ ap (λ (p : List ℕ). Write bank row (bits_of_words p)) (sym f))
 
-pub after_one : (es all : List Event) (e : Event) (start old new : Banks) → all ≡ es ++ e ∷ []
-    → old ≡ after es start → new ≡ happens e old → new ≡ after all start
-after_one es all e start old new a b c = rw (a, after-append) (c ∙ ap (happens e) b)
+-- each is one write
+writes_counted : (bank base : ℕ) (row : ℕ → List Bool) (a n : ℕ) (counters : Counters)
+    → all_counted (map (λ k. Write bank (base + k) (row k)) (range_with_len a n)) counters
+    ≡ record counters { writes = counters.writes + n }
+writes_counted bank base row a zero counters = no_writes counters
+writes_counted bank base row a (suc n) counters =
+    writes_counted bank base row (a + 1) n (record counters { writes = counters.writes + 1 })
+    ∙ same_writes counters (counters.writes + 1 + n) (counters.writes + suc n) (omega arith)
 
-pub more_writes : (start old new : Counters) (k : ℕ)
-    → old ≡ record start { writes = start.writes + k }
-    → new ≡ record old { writes = old.writes + 1 }
-    → new ≡ record start { writes = start.writes + (k + 1) }
-more_writes start old new k a b =
-    let sum : start.writes + k + 1 ≡ start.writes + (k + 1) = omega arith in
-    b ∙ ap (λ (c : Counters). record c { writes = c.writes + 1 }) a
-    ∙ ap (λ (w : ℕ). record start { writes = w }) sum
-
-pub add_writes : (start old new : Counters) (k n : ℕ)
-    → old ≡ record start { writes = start.writes + k }
-    → new ≡ record old { writes = old.writes + n }
-    → new ≡ record start { writes = start.writes + (k + n) }
-add_writes start old new k n a b =
-    let sum : start.writes + k + n ≡ start.writes + (k + n) = omega arith in
-    b ∙ ap (λ (c : Counters). record c { writes = c.writes + n }) a
-    ∙ ap (λ (w : ℕ). record start { writes = w }) sum
-
-pub more_reads : (start old new : Counters) (k : ℕ) → old ≡ record start { reads = start.reads + k }
-    → new ≡ record old { reads = old.reads + 1 }
-    → new ≡ record start { reads = start.reads + (k + 1) }
-more_reads start old new k a b =
-    let sum : start.reads + k + 1 ≡ start.reads + (k + 1) = omega arith in
-    b ∙ ap (λ (c : Counters). record c { reads = c.reads + 1 }) a
-    ∙ ap (λ (w : ℕ). record start { reads = w }) sum
+pub banks_counted : (base n : ℕ) (row : ℕ → ℕ → List Bool) (a m : ℕ) (counters : Counters)
+    → all_counted (flat_map (λ bank. map (λ k. Write bank (base + k) (row bank k))
+    (range_with_len 0 n)) (range_with_len a m)) counters
+    ≡ record counters { writes = counters.writes + n * m }
+banks_counted base n row a zero counters = no_writes counters
+    ∙ same_writes counters (counters.writes + 0) (counters.writes + n * 0) (omega arith)
+banks_counted base n row a (suc m) counters =
+    let all : n * suc m ≡ n + n * m = mul-suc n m ∙ omega arith in
+    let rest : List Event = flat_map (λ bank. map (λ k. Write bank (base + k) (row bank k))
+    (range_with_len 0 n)) (range_with_len (a + 1) m) in
+    all_counted-append (map (λ k. Write a (base + k) (row a k)) (range_with_len 0 n)) rest counters
+    ∙ ap (all_counted rest) (writes_counted a base (row a) 0 n counters)
+    ∙ banks_counted base n row (a + 1) m (record counters { writes = counters.writes + n })
+    ∙ same_writes counters (counters.writes + n + n * m) (counters.writes + n * suc m)
+    (omega (arith, all))
 
 -- they leave the other banks
 writes_others : (bank base : ℕ) (row : ℕ → List Bool) (a n : ℕ) (banks : Banks) (b : ℕ) → b ≢ bank

@@ -15,13 +15,15 @@ use Rattle.dram_model.specs.declared.address.Cell.{Cell}
 use Rattle.dram_model.specs.declared.address.Cell.TheVariants.{T, Dcc, C, D}
 use Rattle.bit_rows.specs.Bits.{value, bit_at, bit_number}
 use Rattle.dram_model.specs.Column.{Column, drive, plain, is_written}
-use Rattle.dram_model.specs.Chip.{Banks, Event, after, with_row}
+use Rattle.dram_model.specs.declared.dram.Counters.{Counters}
+use Rattle.dram_model.specs.Chip.{Banks, Event, after, with_row, all_counted}
+use Rattle.transpose_unit.proofs.Events.{banks_counted}
 use Rattle.dram_model.specs.Chip.Event.{Write}
 use Rattle.dram_model.specs.Events.{events_of, on_bank_all}
 use Rattle.dram_model.proofs.EventLaws.{projection, after-append}
 use Rattle.dram_model.specs.Elements.{number, column_count}
-use Rattle.transpose_unit.specs.Columns.{segments_of, numbers_in, size_of, padded_to, part_of}
-use Rattle.transpose_unit.specs.Columns.{row_bits, write_events}
+use Rattle.dram_model.specs.Elements.{segments_of, numbers_in, size_of, padded_to, part_of}
+use Rattle.dram_model.specs.Elements.{row_bits, write_events}
 use Rattle.transpose_unit.specs.Laws.{is_in_rows, WritesHold}
 use Rattle.transpose_unit.proofs.Segments.{bank_events, segments_cover, padded_length, part_length}
 
@@ -341,5 +343,18 @@ behind_hold g base n values banks bank h = behind_first g base n
     (padded_to (size_of g (length values)) values) banks (segments_of g (length values)) bank
     (elim (cases_lt bank (segments_of g (length values))) [ inl lt ↦ absurd (h lt) | inr ge ↦ ge ])
 
+pub counted_hold : (g : Geometry) (base n : ℕ) (values : List ℕ) (counters : Counters)
+    → all_counted (write_events g base n values) counters
+    ≡ record counters { writes = counters.writes + n * segments_of g (length values) }
+unfolding write_events
+counted_hold g base n values counters =
+    banks_counted base n (row_bits g (padded_to (size_of g (length values)) values)) 0
+    (segments_of g (length values)) counters
+
 pub writes_hold : WritesHold
-writes_hold = record { numbers = numbers_hold; others = others_hold; behind = behind_hold }
+writes_hold = record {
+  numbers = numbers_hold;
+  others = others_hold;
+  behind = behind_hold;
+  counted = counted_hold;
+}

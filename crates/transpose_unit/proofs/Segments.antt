@@ -12,11 +12,10 @@ use Rattle.bit_rows.specs.Bits.{bit_at, bits_of_words}
 use Rattle.bit_rows.proofs.Words.{words-eq}
 use Rattle.dram_model.specs.declared.geometry.Geometry.{Geometry}
 use Rattle.dram_model.specs.Elements.{column_count}
-use Rattle.dram_model.specs.Chip.{Banks, Event, after}
+use Rattle.dram_model.specs.Chip.{Event}
 use Rattle.dram_model.specs.Chip.Event.{Write}
-use Rattle.dram_model.proofs.EventLaws.{after-append}
 use Rattle.transpose_unit.specs.Stage.{stage_row, stage_events}
-use Rattle.transpose_unit.specs.Columns.{segments_of, size_of, padded_to, part_of, row_bits}
+use Rattle.dram_model.specs.Elements.{segments_of, size_of, padded_to, part_of, row_bits}
 
 -- the segments of a count cover it, and are no more than the banks that do
 pub segments_cover : (g : Geometry) (count : ℕ) → 0 < column_count g → count ≤ size_of g count
@@ -167,10 +166,6 @@ banks_more g base n numbers bank =
     ∙ flat_map-range_more (bank_events g base n numbers) 0 bank
     ∙ ap (λ (k : ℕ). flat_map (bank_events g base n numbers) (range_with_len 0 bank)
     ++ bank_events g base n numbers k) none
-
-pub after_both : (es fs all : List Event) (start old new : Banks) → all ≡ es ++ fs
-    → old ≡ after es start → new ≡ after fs old → new ≡ after all start
-after_both es fs all start old new a b c = rw (a, after-append) (c ∙ ap (after fs) b)
 
 -- where there is an element, a row has words
 pub words_some : (words banks count : ℕ) → 0 < count → count ≤ 64 * words * banks → 0 < words

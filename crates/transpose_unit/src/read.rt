@@ -4,7 +4,8 @@ ghost use Rattle.std.specs.Prelude.{◌≡◌, ℕ, ◌+◌, ◌*◌, ◌/◌, �
 ghost use Rattle.std.specs.Prelude.{OnErr};
 ghost use Rattle.std.specs.List.{range_with_len};
 ghost use Rattle.bit_rows.specs.Bits.{bits_of_words};
-ghost use Rattle.dram_model.specs.Chip.{Rose, Grew, SameBut, row_in};
+ghost use Rattle.dram_model.specs.Chip.{Grew, row_in};
+ghost use Rattle.dram_model.specs.View.{HasBegun, Kept, DidRead, FailedIn};
 ghost use Rattle.dram_model.specs.Elements.{number, column_count};
 ghost use Rattle.transpose_unit.specs.Stage.{stage_rows, stage_row, stage_number};
 
@@ -39,30 +40,25 @@ pub fn read_segment<D: Dram>(
     n: u8,
     stage: &mut [u64],
 ) -> Result<(), ChipFault>
-    requires begun { D.begun dram.old }
-    requires geometry { D.geometry dram.old ≡ g }
+    requires begun { HasBegun (D.view dram.old) }
+    requires geometry { (D.view dram.old).geometry ≡ g }
     requires bank { bank < g.banks }
     requires narrow { n ≤ WIDTH_MAX }
     requires rows { base + n ≤ g.rows }
     requires stage { length stage.old ≡ stage_rows n * g.words }
-    requires room { (D.counters dram.old).reads < 2 ^ 62 }
-    ensures begun { D.begun dram.new }
+    requires room { (D.view dram.old).counters.reads < 2 ^ 62 + 2 ^ 61 }
     ensures borrow { D.borrow dram.new ≡ D.borrow dram.old }
-    ensures geometry { D.geometry dram.new ≡ g }
-    ensures faults { D.faults dram.old ≤ D.faults dram.new }
+    ensures kept { Kept (D.view dram.old) (D.view dram.new) }
 
     // Each column of the stage spells the number that stands in the chip's column.
     ensures rows { OnOk result ((k : ℕ) → k < n
-        → bits_of_words (stage_row g.words stage.new k) ≡ row_in (base + k) (D.banks dram.old bank))
-            }
+        → bits_of_words (stage_row g.words stage.new k)
+        ≡ row_in (base + k) ((D.view dram.old).banks bank)) }
     ensures numbers { OnOk result (map (stage_number g.words n stage.new)
-        (range_with_len 0 (column_count g)) ≡ map (number base n) (D.banks dram.old bank)) }
-    ensures banks { OnOk result (D.banks dram.new ≡ D.banks dram.old) }
-    ensures counters { OnOk result (D.counters dram.new
-        ≡ record (D.counters dram.old) { reads = (D.counters dram.old).reads + n }) }
-    ensures log { Grew (D.log dram.old) (D.log dram.new) [] }
-    ensures rose { OnErr result (Rose (D.faults dram.old) (D.faults dram.new)) }
-    ensures others { OnErr result (SameBut bank (D.banks dram.old) (D.banks dram.new)) }
+        (range_with_len 0 (column_count g)) ≡ map (number base n) ((D.view dram.old).banks bank)) }
+    ensures did { OnOk result (DidRead n (D.view dram.old) (D.view dram.new)) }
+    ensures failed { OnErr result (FailedIn bank (D.view dram.old) (D.view dram.new)) }
+    ensures untold { OnErr result (Grew (D.view dram.old).log (D.view dram.new).log []) }
 {
     let words = usize::from(g.words);
     for k in 0..n {

@@ -1,11 +1,10 @@
 //! Writing an object.
 
 ghost use Rattle.std.specs.Prelude.{◌≡◌, ℕ, ◌+◌, ◌*◌, ◌<◌, ◌≤◌, ◌^◌, length, All, OnOk, OnErr};
-ghost use Rattle.dram_model.specs.Chip.{after, Rose, Grew, SameBut};
-ghost use Rattle.dram_model.specs.Elements.{column_count};
+ghost use Rattle.dram_model.specs.View.{HasBegun, Kept, Did, FailedIn};
+ghost use Rattle.dram_model.specs.Elements.{column_count, segments_of, write_events, numbers_in};
+ghost use Rattle.dram_model.specs.Elements.{padded_to, size_of, FailedBelow};
 ghost use Rattle.transpose_unit.specs.Stage.{stage_events, stage_rows};
-ghost use Rattle.transpose_unit.specs.Columns.{segments_of, write_events, numbers_in, padded_to};
-ghost use Rattle.transpose_unit.specs.Columns.{size_of};
 ghost use Rattle.transpose_unit.specs.Laws.{WritesHold};
 
 use crate::stage::fill_stage;
@@ -21,25 +20,18 @@ fn write_rows<D: Dram>(
     n: u8,
     stage: &[u64],
 ) -> Result<(), ChipFault>
-    requires begun { D.begun dram.old }
-    requires geometry { D.geometry dram.old ≡ g }
+    requires begun { HasBegun (D.view dram.old) }
+    requires geometry { (D.view dram.old).geometry ≡ g }
     requires bank { bank < g.banks }
     requires narrow { n ≤ WIDTH_MAX }
     requires rows { base + n ≤ g.rows }
     requires stage { length stage.now ≡ stage_rows n * g.words }
-    requires room { (D.counters dram.old).writes < 2 ^ 62 + 2 ^ 61 }
-    ensures begun { D.begun dram.new }
+    requires room { (D.view dram.old).counters.writes < 2 ^ 62 + 2 ^ 61 }
     ensures borrow { D.borrow dram.new ≡ D.borrow dram.old }
-    ensures geometry { D.geometry dram.new ≡ g }
-    ensures faults { D.faults dram.old ≤ D.faults dram.new }
-    ensures banks { OnOk result (D.banks dram.new
-        ≡ after (stage_events g.words bank base n stage.now) (D.banks dram.old)) }
-    ensures counters { OnOk result (D.counters dram.new
-        ≡ record (D.counters dram.old) { writes = (D.counters dram.old).writes + n }) }
-    ensures log { OnOk result (Grew (D.log dram.old) (D.log dram.new)
-        (stage_events g.words bank base n stage.now)) }
-    ensures rose { OnErr result (Rose (D.faults dram.old) (D.faults dram.new)) }
-    ensures others { OnErr result (SameBut bank (D.banks dram.old) (D.banks dram.new)) }
+    ensures kept { Kept (D.view dram.old) (D.view dram.new) }
+    ensures did { OnOk result (Did (stage_events g.words bank base n stage.now) (D.view dram.old) (D.view dram.new)) }
+    ensures writes { OnOk result ((D.view dram.new).counters.writes ≡ (D.view dram.old).counters.writes + n) }
+    ensures failed { OnErr result (FailedIn bank (D.view dram.old) (D.view dram.new)) }
 {
     let words = usize::from(g.words);
     for k in 0..n {
@@ -50,9 +42,8 @@ fn write_rows<D: Dram>(
 }
 
 /// Writes the values, each of at most n bits, into the columns of n rows from `base` on: segment by
-/// segment, and rows
-/// upwards in each. The columns past the last value take 0. The stage holds the rows of one
-/// segment.
+/// segment, and rows upwards in each. The columns past the last value take 0. The stage holds the
+/// rows of one segment.
 pub fn write_object<D: Dram>(
     dram: &mut D,
     g: Geometry,
@@ -61,35 +52,24 @@ pub fn write_object<D: Dram>(
     values: &[Value],
     stage: &mut [u64],
 ) -> Result<(), ChipFault>
-    requires begun { D.begun dram.old }
-    requires geometry { D.geometry dram.old ≡ g }
+    requires begun { HasBegun (D.view dram.old) }
+    requires geometry { (D.view dram.old).geometry ≡ g }
     requires narrow { n ≤ WIDTH_MAX }
     requires rows { base + n ≤ g.rows }
     requires stage { length stage.old ≡ stage_rows n * g.words }
     requires small { All (λ v. v < 2 ^ n) values.now }
     requires some { 0 < length values.now }
     requires fits { length values.now ≤ column_count g * g.banks }
-    requires room { (D.counters dram.old).writes < 2 ^ 62 }
-    ensures begun { D.begun dram.new }
+    requires room { (D.view dram.old).counters.writes < 2 ^ 62 }
     ensures borrow { D.borrow dram.new ≡ D.borrow dram.old }
-    ensures geometry { D.geometry dram.new ≡ g }
-    ensures faults { D.faults dram.old ≤ D.faults dram.new }
+    ensures kept { Kept (D.view dram.old) (D.view dram.new) }
 
     // The writes, in order, and what they leave in the columns.
-    ensures banks { OnOk result (D.banks dram.new
-        ≡ after (write_events g base n values.now) (D.banks dram.old)) }
-    ensures numbers { OnOk result (numbers_in g (D.banks dram.new) base n (length values.now)
+    ensures did { OnOk result (Did (write_events g base n values.now) (D.view dram.old) (D.view dram.new)) }
+    ensures numbers { OnOk result (numbers_in g (D.view dram.new).banks base n (length values.now)
         ≡ padded_to (size_of g (length values.now)) values.now) }
-    ensures counters { OnOk result (D.counters dram.new
-        ≡ record (D.counters dram.old) {
-          writes = (D.counters dram.old).writes + n
-              * segments_of g (length values.now);
-        }) }
-    ensures log { OnOk result (Grew (D.log dram.old) (D.log dram.new)
-        (write_events g base n values.now)) }
-    ensures rose { OnErr result (Rose (D.faults dram.old) (D.faults dram.new)) }
-    ensures others { (bank : ℕ) → segments_of g (length values.now) ≤ bank
-        → D.banks dram.new bank ≡ D.banks dram.old bank }
+    ensures failed { OnErr result (FailedBelow (segments_of g (length values.now)) (D.view dram.old)
+        (D.view dram.new)) }
 {
     let words = usize::from(g.words);
     let columns = 64 * words;
@@ -100,7 +80,8 @@ pub fn write_object<D: Dram>(
     Ok(())
 }
 
-/// Shows what the writes of an object leave: its columns hold the numbers, and all else stays.
+/// Shows what the writes of an object leave: its columns hold the numbers, all else stays, and each
+/// row of each bank is counted once.
 pub fn writes_hold()
     ensures { WritesHold }
 {}

@@ -1,6 +1,7 @@
 -- A program file is read exactly.
 use Rattle.std.proofs.Common.{◌≡◌, ◌≢◌, ℕ, zero, suc, ◌+◌, ◌*◌, ◌^◌, ◌<◌, eqb, leb, List, [], ◌∷◌}
-use Rattle.std.proofs.Common.{◌++◌, length, get_or, Ok, refl, sym, ap, None, ◌⊎◌, inl, inr, ◌∙◌, subst, arith}
+use Rattle.std.proofs.Common.{◌++◌, length, get_or, Ok, refl, sym, ap, None, ◌⊎◌, inl, inr, ◌∙◌}
+use Rattle.std.proofs.Common.{subst, arith}
 use Rattle.std.proofs.Common.{append-nil}
 use Rattle.std.specs.Prelude.{codes}
 use Rattle.std.specs.Int.{w16, to_le_bytes}
@@ -16,17 +17,18 @@ use Rattle.uprog_bin.specs.declared.fault.ProgKind.TheVariants as kinds
 use Rattle.uprog_bin.specs.Spelling.{head_bytes, directory_bytes, code_bytes, opening_bytes}
 use Rattle.uprog_bin.specs.Spelling.{HasVersion, program_bytes}
 use Rattle.uprog_code.specs.Programs.{IsEntry, IsProgram}
-use Rattle.uprog_bin.specs.Reading.{IsBytes, ◌>>=◌, rule, bytes_at, field_at, uops_at, codes_at}
+use Rattle.uprog_bin.specs.Reading.{bytes_at, field_at, uops_at, codes_at}
 use Rattle.uprog_bin.specs.Reading.{codes_start, total_count, Listing, directory_at, opening_in}
 use Rattle.uprog_bin.specs.Reading.{is_version, program_in}
 use Rattle.uprog_bin.specs.Opened.{AreStarts}
-use Rattle.uprog_bin.proofs.Held.{Holds, Holds-then, bind_ok, ok_is, rule_ok, bytes_takes, wide16}
-use Rattle.uprog_bin.proofs.Held.{field_takes}
 use Rattle.uprog_bin.proofs.Files.{codes_length, directory_starts}
 use Rattle.uprog_bin.proofs.Found.{uops_read, legal_read}
 use Rattle.uprog_bin.proofs.Records.{listing_bytes, IsListing, HaveNames, directory_takes}
 use Rattle.uprog_bin.proofs.Taken.{codes_take}
 use Rattle.uprog_bin.proofs.Numbers.{is_one_or_two}
+use Rattle.file_fields.specs.Fields.{IsBytes, ◌>>=◌, rule}
+use Rattle.file_fields.proofs.Held.{Holds, Holds-then, bind_ok, ok_is, rule_ok, bytes_takes, wide16}
+use Rattle.file_fields.proofs.Held.{field_takes}
 
 opening_takes : (v : ℕ) (bytes : List ℕ) → IsBytes bytes → opening_in bytes ≡ Ok v
     → Holds bytes 0 (opening_bytes v) 6 × ((v ≡ 1) ⊎ (v ≡ 2))
@@ -36,10 +38,11 @@ opening_takes v bytes fits e =
     kinds.Magic >>= λ _. field_at w16 is_version kinds.Version 4 bytes) v e in
     let b = bind_ok (rule (bytes_eq a.0 (codes "SDMP")) 0 kinds.Magic) (λ _.
     field_at w16 is_version kinds.Version 4 bytes) v a.2 in
-    let magic = bytes_takes 4 0 4 bytes a.0 a.1 (omega arith) in
+    let magic = bytes_takes kinds.Short 4 0 4 bytes a.0 a.1 (omega arith) in
     let same : a.0 ≡ codes "SDMP" = (bytes_eq-Decides a.0 (codes "SDMP")).0
     (rule_ok (bytes_eq a.0 (codes "SDMP")) 0 kinds.Magic b.0 b.1) in
-    let version = field_takes w16 (2 ^ 16) (to_le_bytes w16) wide16 is_version kinds.Version 4 6
+    let version = field_takes kinds.Short w16 (2 ^ 16) (to_le_bytes w16) wide16 is_version
+    kinds.Version 4 6
     bytes v fits b.2 (omega arith) in (
       Holds-then bytes 0 (codes "SDMP") 4 (to_le_bytes w16 v) 6
           (subst (λ f. Holds bytes 0 f 4) same magic.0) version.0,
@@ -183,7 +186,8 @@ spelled bytes version ms fits e =
     (rule_ok (eqb (length bytes) (codes_start ls + 8 * total_count ls)) (codes_start ls + 8
     * total_count ls) kinds.Rest f.0 f.1) in
     let opening = opening_takes v bytes fits a.1 in
-    let count = field_takes w16 (2 ^ 16) (to_le_bytes w16) wide16 (λ n. leb n 32) kinds.Directory 6
+    let count = field_takes kinds.Short w16 (2 ^ 16) (to_le_bytes w16) wide16 (λ n.
+    leb n 32) kinds.Directory 6
     8 bytes b.0 fits b.1 (omega arith) in
     let reads = directory_takes v b.0 [] 0 8 bytes ls fits count.0.within c.1 in
     let same : reads.rest ≡ ls = sym reads.parts in

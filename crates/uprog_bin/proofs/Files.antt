@@ -1,21 +1,20 @@
 -- A file that was read.
-use Rattle.std.proofs.Common.{◌≡◌, ℕ, zero, suc, ◌+◌, ◌*◌, ◌<◌, ◌≤◌, true, eqb, leb, eq-eqb, ◌^◌}
-use Rattle.std.proofs.Common.{List, [], ◌∷◌, ◌++◌, length, Result, Ok, refl, sym, ap, ◌∙◌, subst, arith}
+use Rattle.std.proofs.Common.{◌≡◌, ℕ, zero, suc, ◌+◌, ◌*◌, ◌<◌, true, eqb, leb, eq-eqb, ◌^◌}
+use Rattle.std.proofs.Common.{List, [], ◌∷◌, ◌++◌, length, Result, Ok, refl, sym, ap, ◌∙◌, subst}
+use Rattle.std.proofs.Common.{arith}
 use Rattle.std.specs.Int.{w16, w32}
 use Rattle.std.proofs.lemmas.Bool.{eqb-true}
 use Rattle.uprog_code.specs.Shape.{Microprogram}
 use Rattle.uprog_bin.specs.declared.fault.ProgKind.TheVariants as kinds
 use Rattle.uprog_bin.specs.declared.directory.Listed.{Listed}
-use Rattle.uprog_bin.specs.Reading.{◌>>=◌, rule, number_at, field_at, is_between, name_at, shape_at}
+use Rattle.uprog_bin.specs.Reading.{number_at, field_at, name_at, shape_at}
 use Rattle.uprog_bin.specs.Reading.{Listing, listing_at, directory_at, listings_of, opening_in}
 use Rattle.uprog_bin.specs.Reading.{uops_at, codes_at, codes_start, total_count, program_in}
-use Rattle.uprog_bin.specs.declared.fault.ProgFault.{ProgFault}
 use Rattle.uprog_bin.specs.Opened.{File, file_of, accepted, programs_in, AreStarts, IsOpened}
-use Rattle.uprog_bin.proofs.Held.{bind_ok, ok_is, rule_ok}
-use Rattle.std.proofs.lemmas.Bool.Decides.{nat_tests}
-
-pub between_is : (low high n : ℕ) → is_between low high n ≡ true → (low ≤ n) × (n ≤ high)
-between_is low high n h = (grind (arith, nat_tests), grind (arith, nat_tests))
+use Rattle.file_fields.proofs.Padded.{between_is}
+use Rattle.file_fields.specs.Fields.{◌>>=◌, rule, is_between}
+use Rattle.uprog_bin.specs.Reading.{ProgFault}
+use Rattle.file_fields.proofs.Held.{bind_ok, ok_is, rule_ok}
 
 pub codes_length : (ls : List Listing) (at : ℕ) (bytes : List ℕ) (ms : List Microprogram)
     → codes_at ls at bytes ≡ Ok ms → length ms ≡ length ls
@@ -31,7 +30,8 @@ codes_length (l ∷ ls) at bytes ms e =
     let m : Microprogram = record { name = l.name; shape = l.shape; code = a.0 } in
     ap length (sym (ok_is (m ∷ b.0) ms b.2)) ∙ omega arith
 
-pub program_whole : (v : ℕ) (bytes : List ℕ) (count : ℕ) (ls : List Listing) (ms : List Microprogram)
+pub program_whole : (v : ℕ) (bytes : List ℕ) (count : ℕ) (ls : List Listing)
+    (ms : List Microprogram)
     → opening_in bytes ≡ Ok v → number_at w16 6 bytes ≡ Ok count → leb count 32 ≡ true
     → directory_at v count [] 0 8 bytes ≡ Ok ls → codes_at ls (codes_start ls) bytes ≡ Ok ms
     → length bytes ≡ codes_start ls + 8 * total_count ls → program_in bytes ≡ Ok (v, ms)
@@ -110,7 +110,8 @@ pub directory_starts : (v : ℕ) (n : ℕ) (earlier : List Listing) (start at : 
     (all : List Listing) → directory_at v n earlier start at bytes ≡ Ok all → AreStarts 0 earlier
     → start ≡ total_count earlier → AreStarts 0 all
 unfolding directory_at
-directory_starts v zero earlier start at bytes all e h s = subst (AreStarts 0) (ok_is earlier all e) h
+directory_starts v zero earlier start at bytes all e h s =
+    subst (AreStarts 0) (ok_is earlier all e) h
 directory_starts v (suc n) earlier start at bytes all e h s =
     let a = bind_ok (listing_at v earlier start at bytes) (λ l.
     directory_at v n (earlier ++ l ∷ []) (start + l.count) (at + 27) bytes) all e in
@@ -137,7 +138,8 @@ pub opened : (v : ℕ) (bytes : List ℕ) (count : ℕ) (listed : List Listed) (
     → length bytes ≡ codes_start (listings_of listed) + 8 * total_count (listings_of listed)
     → IsOpened bytes v listed
 opened v bytes count listed ms small opening number few directory codes long =
-    let whole = program_whole v bytes count (listings_of listed) ms opening number few directory codes
+    let whole = program_whole v bytes count (listings_of listed) ms opening number few directory
+    codes
     long in
     let same : ms ≡ programs_in bytes = ap (λ r. (accepted r).1) (sym whole) in
     record {
@@ -161,7 +163,8 @@ pub opened_from : (v : ℕ) (bytes : List ℕ) (count : ℕ) (listed seen : List
     → codes_at (listings_of seen) start bytes ≡ Ok ms
     → end ≡ start + 8 * total_count (listings_of seen) → length bytes ≡ end
     → IsOpened bytes v listed
-opened_from v bytes count listed seen start end ms small opening number few directory same begin codes
+opened_from v bytes count listed seen start end ms small opening number few directory same begin
+    codes
     stop long =
     let first : start ≡ codes_start (listings_of listed) =
     omega (arith, begin, listings_length listed) in

@@ -19,16 +19,18 @@ use Rattle.uprog_bin.specs.declared.opcode.Opcode.{Opcode}
 use Rattle.uprog_bin.specs.declared.opcode.Opcode.TheVariants.{Done, SetI, SetN, SetT, Mov, Add}
 use Rattle.uprog_bin.specs.declared.opcode.Opcode.TheVariants.{AddI, SubI, Bnez, Aap, Ap}
 use Rattle.uprog_bin.specs.declared.opcode.TheConstants.{OPCODES}
-use Rattle.uprog_bin.specs.Reading.{◌>>=◌, rule, bytes_at, raw_of, has_register, has_second}
+use Rattle.uprog_bin.specs.Reading.{bytes_at, raw_of, has_register, has_second}
 use Rattle.uprog_bin.specs.Reading.{operand, row_of, ends_at_y, is_formed, has_target, has_rows}
 use Rattle.uprog_bin.specs.Reading.{ends_code, uop_as, uop_of, numbered, uop_at, uops_at, codes_at}
 use Rattle.uprog_bin.specs.Reading.{codes_start, total_count, Listing, listing_of, listings_of}
 use Rattle.uprog_bin.specs.Reading.{is_named}
-use Rattle.uprog_bin.specs.Opened.{Held, File, file_of, programs_in, uop_in, uops_in, code_of, program_of}
+use Rattle.uprog_bin.specs.Opened.{Held, File, file_of, programs_in, uop_in, uops_in, code_of}
+use Rattle.uprog_bin.specs.Opened.{program_of}
 use Rattle.uprog_bin.specs.Opened.{count_before, code_place, AreStarts, IsOpened}
 use Rattle.uprog_bin.proofs.Files.{codes_length, entries_are}
 use Rattle.uprog_bin.proofs.Uops.{length-uops}
-use Rattle.uprog_bin.proofs.Held.{bind_ok, ok_is, rule_ok, bytes_takes}
+use Rattle.file_fields.specs.Fields.{◌>>=◌, rule}
+use Rattle.file_fields.proofs.Held.{bind_ok, ok_is, rule_ok, bytes_takes}
 
 both : (a b : Bool) → (a && b) ≡ true → (a ≡ true) × (b ≡ true)
 both true b h = (refl, h)
@@ -87,7 +89,7 @@ unfolding uop_at
 uop_at_read shape size last at bytes i e =
     let a = bind_ok (bytes_at 8 at bytes) (λ field. numbered
     (slice_get OPCODES (slice_index field 0)) shape size last at (raw_of field)) i e in
-    let t = bytes_takes 8 at (at + 8) bytes a.0 a.1 refl in
+    let t = bytes_takes kinds.Short 8 at (at + 8) bytes a.0 a.1 refl in
     let n = numbered_read (slice_get OPCODES (slice_index a.0 0)) shape size last at (raw_of a.0) i
     a.2 in
     let known : IsUop shape size last a.0 i =

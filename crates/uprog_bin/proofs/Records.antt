@@ -1,6 +1,7 @@
 -- The records of a directory are spelled so.
 use Rattle.std.proofs.Common.{◌≡◌, ◌≢◌, ℕ, zero, suc, ◌+◌, ◌*◌, ◌/◌, ◌%◌, ◌^◌, ◌<◌, ◌≤◌, Bool, true}
-use Rattle.std.proofs.Common.{false, not, ◌||◌, cond, eqb, eq-eqb, None, ltb, List, [], ◌∷◌, ◌++◌, length, get_or, drop, Ok}
+use Rattle.std.proofs.Common.{false, not, ◌||◌, cond, eqb, eq-eqb, None, ltb, List, [], ◌∷◌, ◌++◌}
+use Rattle.std.proofs.Common.{length, get_or, drop, Ok}
 use Rattle.std.proofs.Common.{refl, sym, ap, ◌∙◌, subst, arith, append_assoc, append-nil}
 use Rattle.std.specs.Int.{w8, w16, w32, to_le_bytes}
 use Rattle.std.specs.List.{flat_map, AllByRecursion, AllPairs}
@@ -13,13 +14,16 @@ use Rattle.text_lex.specs.Spelled.{fits_name}
 use Rattle.op_text.specs.declared.tree.Kind.{Kind}
 use Rattle.uprog_code.specs.Shape.{Shape}
 use Rattle.uprog_bin.specs.declared.fault.ProgKind.TheVariants as kinds
-use Rattle.uprog_bin.specs.Spelling.{name_bytes, kind_bits, result_bit, second_bits, shape_bytes}
-use Rattle.uprog_bin.specs.Reading.{IsBytes, is_between, ◌>>=◌, number_at, field_at, kind_of_bit}
-use Rattle.uprog_bin.specs.Reading.{kinds_of, second_of, is_results, is_kinds, shape_at, Listing, has_name, name_at}
+use Rattle.uprog_bin.specs.Spelling.{kind_bits, result_bit, second_bits, shape_bytes}
+use Rattle.uprog_bin.specs.Reading.{number_at, field_at, kind_of_bit}
+use Rattle.uprog_bin.specs.Reading.{kinds_of, second_of, is_results, is_kinds, shape_at, Listing}
+use Rattle.uprog_bin.specs.Reading.{has_name, name_at}
 use Rattle.uprog_bin.specs.Reading.{listing_at, directory_at}
-use Rattle.uprog_bin.proofs.Held.{Holds, Holds-then, bind_ok, ok_is, wide8, wide16, wide32}
-use Rattle.uprog_bin.proofs.Held.{number_takes, field_takes}
-use Rattle.uprog_bin.proofs.Names.{both, between_is, name_takes}
+use Rattle.file_fields.proofs.NameField.{name_takes}
+use Rattle.file_fields.specs.Fields.{name_bytes, IsBytes, is_between, ◌>>=◌}
+use Rattle.file_fields.proofs.Held.{Holds, Holds-then, bind_ok, ok_is, wide8, wide16, wide32}
+use Rattle.file_fields.proofs.Held.{number_takes, field_takes}
+use Rattle.file_fields.proofs.Padded.{both, between_is}
 
 one_kind : (b : ℕ) (ks : List Kind) → b < 2 → kind_bits (kind_of_bit b ∷ ks) ≡ 2 * kind_bits ks + b
 one_kind zero ks h = omega arith
@@ -113,7 +117,8 @@ pub record IsShape (v : ℕ) (s : Shape) : Type 0 where
   pub words : s.words < 2 ^ 8
   pub one : v ≡ 1 → s.second ≡ None
 
-pub shape_takes : (v : ℕ) (at : ℕ) (bytes : List ℕ) (s : Shape) → IsBytes bytes → shape_at v at bytes ≡ Ok s
+pub shape_takes : (v : ℕ) (at : ℕ) (bytes : List ℕ) (s : Shape) → IsBytes bytes
+    → shape_at v at bytes ≡ Ok s
     → Holds bytes at (shape_bytes s) (at + 4) × IsShape v s
 unfolding shape_at
 shape_takes v at bytes s fits e =
@@ -152,13 +157,17 @@ shape_takes v at bytes s fits e =
       bits = c.0;
       words = words;
     })) s c.2 in
-    let one = field_takes w8 256 (λ n. n ∷ []) wide8 (is_between 1 4) kinds.Directory at (at + 1)
+    let one = field_takes kinds.Short w8 256 (λ n. n ∷ []) wide8 (is_between 1 4) kinds.Directory at
+    (at + 1)
     bytes a.0 fits a.1 refl in
-    let two = field_takes w8 256 (λ n. n ∷ []) wide8 (is_kinds v a.0) kinds.Directory (at + 1) (at
+    let two = field_takes kinds.Short w8 256 (λ n. n ∷ []) wide8 (is_kinds v a.0) kinds.Directory
+    (at + 1) (at
     + 2) bytes b.0 fits b.1 (omega arith) in
-    let three = number_takes w8 256 (λ n. n ∷ []) wide8 (at + 2) (at + 3) bytes c.0 fits c.1
+    let three = number_takes kinds.Short w8 256 (λ n. n ∷ []) wide8 (at + 2) (at + 3) bytes c.0 fits
+    c.1
     (omega arith) in
-    let four = number_takes w8 256 (λ n. n ∷ []) wide8 (at + 3) (at + 4) bytes d.0 fits d.1
+    let four = number_takes kinds.Short w8 256 (λ n. n ∷ []) wide8 (at + 3) (at + 4) bytes d.0 fits
+    d.1
     (omega arith) in
     let some = between_is 1 4 a.0 one.2 in
     let size = length-kinds a.0 b.0 in
@@ -223,11 +232,12 @@ listing_takes v earlier start at bytes l fits e =
     (record { name = a.0; shape = b.0; start = first; count = count })) l b.2 in
     let d = bind_ok (field_at w16 (is_between 1 65535) kinds.Directory (at + 25) bytes)
     (λ count. Ok (record { name = a.0; shape = b.0; start = c.0; count = count })) l c.2 in
-    let name = name_takes earlier at bytes a.0 fits a.1 in
+    let name = name_takes kinds.Short kinds.Directory (has_name earlier) at bytes a.0 fits a.1 in
     let shape = shape_takes v (at + 17) bytes b.0 fits b.1 in
-    let first = field_takes w32 (2 ^ 32) (to_le_bytes w32) wide32 (λ n. eqb n start) kinds.Directory
+    let first = field_takes kinds.Short w32 (2 ^ 32) (to_le_bytes w32) wide32 (λ n.
+    eqb n start) kinds.Directory
     (at + 21) (at + 25) bytes c.0 fits c.1 (omega arith) in
-    let count = field_takes w16 (2 ^ 16) (to_le_bytes w16) wide16 (is_between 1 65535)
+    let count = field_takes kinds.Short w16 (2 ^ 16) (to_le_bytes w16) wide16 (is_between 1 65535)
     kinds.Directory (at + 25) (at + 27) bytes d.0 fits d.1 (omega arith) in
     let to : at + 17 + 4 ≡ at + 21 = omega arith in
     let second : Holds bytes (at + 17) (shape_bytes b.0) (at + 21) =

@@ -1,7 +1,8 @@
 -- The spelling of a program is read as the program.
 use Rattle.std.proofs.Common.{◌≡◌, ◌≢◌, ℕ, zero, suc, ◌+◌, ◌-◌, ◌*◌, ◌/◌, ◌%◌, ◌^◌, ◌<◌, ◌≤◌, Bool}
-use Rattle.std.proofs.Common.{true, false, eqb, ltb, leb, List, [], ◌∷◌, ◌++◌, length, get_or, Ok, refl}
-use Rattle.std.proofs.Common.{sym, ap, ◌∙◌, subst, arith, append_assoc, append-nil, replicate, ◌⊎◌}
+use Rattle.std.proofs.Common.{true, false, eqb, ltb, leb, List, [], ◌∷◌, ◌++◌, length, get_or, Ok}
+use Rattle.std.proofs.Common.{refl}
+use Rattle.std.proofs.Common.{sym, ap, ◌∙◌, subst, arith, append_assoc, append-nil, ◌⊎◌}
 use Rattle.std.proofs.Common.{inl, inr}
 use Rattle.std.specs.Prelude.{slice_get, codes, cond, not, ◌&&◌, Option, Some, None}
 use Rattle.std.specs.Int.{w8, w16, w32, to_le_bytes}
@@ -10,7 +11,7 @@ use Rattle.std.specs.Str.{bytes_eq}
 use Rattle.std.proofs.lemmas.Bool.{eq-eqb, eqb-true, lt-ltb, le-leb}
 use Rattle.std.proofs.lemmas.Option.{slice_get_within}
 use Rattle.std.proofs.lemmas.Slice.Eq.{bytes_eq-Decides}
-use Rattle.std.proofs.lemmas.List.{length-append, length-replicate, drop_all, get_or_append_left}
+use Rattle.std.proofs.lemmas.List.{length-append, drop_all, get_or_append_left}
 use Rattle.std.proofs.lemmas.List.Concat.{flat_map-cons}
 use Rattle.std.proofs.Math.Seq.{get_or-append_seam}
 use Rattle.op_text.specs.declared.tree.Kind.{Kind}
@@ -18,21 +19,23 @@ use Rattle.op_text.specs.declared.tree.Kind.TheVariants.{Word, Bit}
 use Rattle.uprog_code.specs.declared.code.Uop.TheVariants.{Done}
 use Rattle.uprog_code.specs.Shape.{Shape, Microprogram}
 use Rattle.uprog_bin.specs.declared.fault.ProgKind.TheVariants as kinds
-use Rattle.uprog_bin.specs.Spelling.{name_bytes, kind_bits, result_bit, second_bits, kinds_byte}
+use Rattle.uprog_bin.specs.Spelling.{kind_bits, result_bit, second_bits, kinds_byte}
 use Rattle.uprog_bin.specs.Spelling.{shape_bytes, HasVersion}
 use Rattle.uprog_bin.specs.Spelling.{head_bytes, directory_bytes, code_bytes, opening_bytes}
 use Rattle.uprog_bin.specs.Spelling.{program_bytes}
 use Rattle.uprog_code.specs.Programs.{IsEntry, IsProgram}
-use Rattle.uprog_bin.specs.Reading.{is_between, kind_of_bit, kinds_of, is_kinds, shape_at, Listing}
+use Rattle.uprog_bin.specs.Reading.{kind_of_bit, kinds_of, is_kinds, shape_at, Listing}
 use Rattle.uprog_bin.specs.Reading.{has_name, listing_at, directory_at, codes_at, codes_start}
 use Rattle.uprog_bin.specs.Reading.{total_count, is_version, opening_in, program_in, second_of}
-use Rattle.uprog_bin.proofs.Held.{Holds, Holds-front, Holds-back, bytes_again, wide8, wide16}
-use Rattle.uprog_bin.proofs.Held.{wide32, number_again, field_again}
-use Rattle.uprog_bin.proofs.Names.{is-between, name_again, name_short}
+use Rattle.file_fields.proofs.NameField.{name_again}
 use Rattle.uprog_bin.proofs.Records.{IsShape}
 use Rattle.uprog_bin.proofs.Numbers.{version_small}
 use Rattle.uprog_bin.proofs.KindBits.{kind_bits_small}
 use Rattle.uprog_bin.proofs.Again.{uops_again, length-code}
+use Rattle.file_fields.specs.Fields.{name_bytes, is_between}
+use Rattle.file_fields.proofs.Held.{Holds, Holds-front, Holds-back, bytes_again, wide8, wide16}
+use Rattle.file_fields.proofs.Held.{wide32, number_again, field_again}
+use Rattle.file_fields.proofs.Padded.{is-between, name_size}
 
 -- ---- kinds
 
@@ -184,12 +187,16 @@ shape_again v at bytes s is h =
     let four = Holds-back bytes (at + 2) (s.bits ∷ []) (at + 3) (s.words ∷ []) (at + 4) h2
     (omega arith) in
     let byte = is_byte v s is in
-    let a = field_again w8 256 (λ n. n ∷ []) wide8 (is_between 1 4) kinds.Directory at (at + 1)
+    let a = field_again kinds.Short w8 256 (λ n. n ∷ []) wide8 (is_between 1 4) kinds.Directory at
+    (at + 1)
     bytes m one (omega (arith, is.few)) (is-between 1 4 m is.some is.few) in
-    let b = field_again w8 256 (λ n. n ∷ []) wide8 (is_kinds v m) kinds.Directory (at + 1) (at + 2)
+    let b = field_again kinds.Short w8 256 (λ n. n ∷ []) wide8 (is_kinds v m) kinds.Directory (at
+    + 1) (at + 2)
     bytes k two byte.small (kinds_pass v s is) in
-    let c = number_again w8 256 (λ n. n ∷ []) wide8 (at + 2) (at + 3) bytes s.bits three is.bits in
-    let d = number_again w8 256 (λ n. n ∷ []) wide8 (at + 3) (at + 4) bytes s.words four is.words in
+    let c = number_again kinds.Short w8 256 (λ n. n ∷ []) wide8 (at + 2) (at + 3) bytes s.bits three
+    is.bits in
+    let d = number_again kinds.Short w8 256 (λ n. n ∷ []) wide8 (at + 3) (at + 4) bytes s.words four
+    is.words in
     let top = sixteens m (top_of s.result s.second) is.some is.few in
     let sources : kinds_of m k ≡ s.sources = kinds_back m s.sources top.0 k refl
     (ap (λ n. kind_bits s.sources + n) (top_is s.result s.second ∙ top.1)) in
@@ -229,12 +236,7 @@ code_some m is = let h = slice_get_within m.code (length m.code - 1) Done is.cod
     omega arith
 
 name_length : (m : Microprogram) → IsEntry m → length (name_bytes m.name) ≡ 17
-name_length m is = let short = name_short m.name is.name in
-    omega (
-      arith,
-      length-append m.name (replicate (16 - length m.name) 0),
-      length-replicate {A = ℕ} (16 - length m.name) 0,
-    )
+name_length m is = name_size m.name is.name
 
 listing_again : (v : ℕ) (earlier : List Listing) (start at : ℕ) (bytes : List ℕ) (m : Microprogram)
     → IsEntry m → (v ≡ 1 → m.shape.second ≡ None) → start < 2 ^ 32 → has_name earlier m.name ≡ false
@@ -257,12 +259,15 @@ listing_again v earlier start at bytes m is one small new h =
     (to_le_bytes w16 (length m.code)) (at + 27) h2 (omega arith) in
     let count = Holds-back bytes (at + 21) (to_le_bytes w32 start) (at + 25)
     (to_le_bytes w16 (length m.code)) (at + 27) h2 (omega arith) in
-    let a = name_again earlier at bytes m.name name is.name new in
+    let a = name_again kinds.Short kinds.Directory (has_name earlier) at bytes m.name name is.name
+    new in
     let b = shape_again v (at + 17) bytes m.shape (shape_is v m is one) shape in
-    let c = field_again w32 (2 ^ 32) (to_le_bytes w32) wide32 (λ n. eqb n start) kinds.Directory (at
+    let c = field_again kinds.Short w32 (2 ^ 32) (to_le_bytes w32) wide32 (λ n.
+    eqb n start) kinds.Directory (at
     + 21) (at + 25) bytes start first small (eq-eqb start start refl) in
     let some = code_some m is in
-    let d = field_again w16 (2 ^ 16) (to_le_bytes w16) wide16 (is_between 1 65535) kinds.Directory
+    let d = field_again kinds.Short w16 (2 ^ 16) (to_le_bytes w16) wide16 (is_between 1 65535)
+    kinds.Directory
     (at + 25) (at + 27) bytes (length m.code) count is.code.short
     (is-between 1 65535 (length m.code) (omega arith) (omega (arith, is.code.short))) in
     rw (a, b, c, d) refl
@@ -296,7 +301,8 @@ head_length start m is = omega (
   name_length m is,
 )
 
-pub directory_again : (v : ℕ) (n : ℕ) (ms : List Microprogram) (earlier : List Listing) (start at : ℕ)
+pub directory_again : (v : ℕ) (n : ℕ) (ms : List Microprogram) (earlier : List Listing)
+    (start at : ℕ)
     (bytes : List ℕ) → length ms ≡ n → AllByRecursion IsEntry ms
     → (v ≡ 1 → AllByRecursion (λ m. m.shape.second ≡ None) ms) → start + 65536 * n < 2 ^ 32
     → AllPairs (λ k m. k.name ≢ m.name) (earlier ++ listings_from start ms)
@@ -404,8 +410,9 @@ unfolding opening_in
 opening_again v bytes is h =
     let front = Holds-front bytes 0 (codes "SDMP") 4 (to_le_bytes w16 v) 6 h refl in
     let back = Holds-back bytes 0 (codes "SDMP") 4 (to_le_bytes w16 v) 6 h refl in
-    let magic = bytes_again 4 0 4 bytes (codes "SDMP") front refl in
-    let version = field_again w16 (2 ^ 16) (to_le_bytes w16) wide16 is_version kinds.Version 4 6
+    let magic = bytes_again kinds.Short 4 0 4 bytes (codes "SDMP") front refl in
+    let version = field_again kinds.Short w16 (2 ^ 16) (to_le_bytes w16) wide16 is_version
+    kinds.Version 4 6
     bytes v back (version_small v is) is in
     rw magic version
 
@@ -441,7 +448,8 @@ read v ms is has =
       ends = omega (arith, size);
       within = omega (arith, size);
     } in
-    let opening = Holds-front bytes 0 (opening_bytes v) 6 (number ++ (records ++ code)) end whole refl
+    let opening = Holds-front bytes 0 (opening_bytes v) 6 (number ++ (records ++ code)) end whole
+    refl
     in
     let h1 = Holds-back bytes 0 (opening_bytes v) 6 (number ++ (records ++ code)) end whole refl in
     let count = Holds-front bytes 6 number 8 (records ++ code) end h1 refl in
@@ -451,7 +459,8 @@ read v ms is has =
     let h3 = Holds-back bytes 8 records (codes_start ls) code end h2 (omega arith) in
     let a = opening_again v bytes one.0 opening in
     let few = is.few in
-    let b = field_again w16 (2 ^ 16) (to_le_bytes w16) wide16 (λ n. leb n 32) kinds.Directory 6 8
+    let b = field_again kinds.Short w16 (2 ^ 16) (to_le_bytes w16) wide16 (λ n.
+    leb n 32) kinds.Directory 6 8
     bytes (length ms) count (omega arith) (le-leb (length ms) 32 is.few) in
     let c = directory_again v (length ms) ms [] 0 8 bytes refl is.entries one.1 (omega arith)
     (names_again ms is.names) directory in

@@ -1,13 +1,12 @@
 -- Reading a program file field by field: its program, or the first field that is not whole or
 -- breaks its rule.
-use Rattle.std.specs.Prelude.{◌≡◌, ◌<◌, ℕ, zero, suc, ◌+◌, ◌*◌, ◌/◌, ◌%◌, ◌^◌, Bool, true, ◌&&◌, ◌||◌}
-use Rattle.std.specs.Prelude.{not, nat_le, nat_lt, ◌==◌, List, [], ◌∷◌, ◌++◌, length, take, drop}
+use Rattle.std.specs.Prelude.{◌≡◌, ℕ, zero, suc, ◌+◌, ◌*◌, ◌/◌, ◌%◌, ◌^◌, Bool, true, ◌&&◌, ◌||◌}
+use Rattle.std.specs.Prelude.{not, nat_le, nat_lt, ◌==◌, List, [], ◌∷◌, ◌++◌, length}
 use Rattle.std.specs.Prelude.{Option, Some, None, Result, Ok, Err, if◌then◌else◌, codes, map}
 use Rattle.std.specs.Prelude.{slice_get, slice_index, slice_index_or}
-use Rattle.std.specs.Int.{Width, w8, w16, w32, byte_len, from_le_bytes}
-use Rattle.std.specs.List.{list_all, list_any}
+use Rattle.std.specs.Int.{Width, w8, w16, w32, from_le_bytes}
+use Rattle.std.specs.List.{list_any}
 use Rattle.std.specs.Str.{bytes_eq}
-use Rattle.text_lex.specs.Spelled.{fits_name}
 use Rattle.op_text.specs.declared.tree.Kind.{Kind}
 use Rattle.op_text.specs.declared.tree.Kind.TheVariants.{Word, Bit}
 use Rattle.uprog_code.specs.declared.code.RowSpace.TheVariants.{Spill}
@@ -19,50 +18,29 @@ use Rattle.uprog_bin.specs.declared.directory.Listed.{Listed}
 use Rattle.uprog_code.specs.Legal.{is_first, is_second}
 use Rattle.uprog_bin.specs.declared.fault.ProgKind.{ProgKind}
 use Rattle.uprog_bin.specs.declared.fault.ProgKind.TheVariants as kinds
-use Rattle.uprog_bin.specs.declared.fault.ProgFault.{ProgFault}
 use Rattle.uprog_bin.specs.declared.opcode.Opcode.{Opcode}
 use Rattle.uprog_bin.specs.declared.opcode.Opcode.TheVariants.{Done, SetI, SetN, SetT, Mov, Add}
 use Rattle.uprog_bin.specs.declared.opcode.Opcode.TheVariants.{AddI, SubI, Bnez, Aap, Ap}
 use Rattle.uprog_bin.specs.declared.opcode.TheConstants.{OPCODES, SPACES}
 use Rattle.uprog_bin.specs.declared.instruction.RawRow.{RawRow}
 use Rattle.uprog_bin.specs.declared.instruction.Raw.{Raw}
+use Rattle.file_fields.specs.declared.faults.FileFault.{FileFault}
+use Rattle.file_fields.specs.Fields as fields
+use Rattle.file_fields.specs.Fields.{◌>>=◌, rule, fault_at, is_between, is_padded_name}
 
-infixl 10 ◌>>=◌
-abbrev pub ◌>>=◌ : {A B : Type 0} → Result A ProgFault → (A → Result B ProgFault)
-    → Result B ProgFault
-(Ok x) >>= f = f x
-(Err e) >>= f = Err e
+abbrev pub ProgFault : Type 0
+ProgFault = FileFault ProgKind
 
-abbrev pub fault_at : ℕ → ProgKind → ProgFault
-fault_at at kind = record { at = at; kind = kind }
-
--- What a function returned, seen by view, is what reading gives.
-abbrev pub Gives : {X Y : Type 0} → (X → Y) → Result X ProgFault → Result Y ProgFault → Type 0
-Gives view (Ok x) read = read ≡ Ok (view x)
-Gives view (Err f) read = read ≡ Err f
-
--- a rule of the field at a place
-abbrev pub rule : Bool → ℕ → ProgKind → Result (Unit {0}) ProgFault
-rule holds at kind = if holds then Ok tt else Err (fault_at at kind)
-
--- so many bytes from a place on. A file that ends before is Short at its length
+-- So many bytes from a place on, the number of a width there, and a number that has to pass a test.
+-- A file that ends before is Short at its length.
 abbrev pub bytes_at : ℕ → ℕ → List ℕ → Result (List ℕ) ProgFault
-bytes_at len at bytes = if nat_lt (length bytes) (at + len)
-    then Err (fault_at (length bytes) kinds.Short) else Ok (take len (drop at bytes))
+bytes_at = fields.bytes_at kinds.Short
 
--- the number of that width at a place, the low byte first
 abbrev pub number_at : Width → ℕ → List ℕ → Result ℕ ProgFault
-number_at w at bytes = bytes_at (byte_len w) at bytes >>= λ field. Ok (from_le_bytes w field)
+number_at = fields.number_at kinds.Short
 
--- a number that has to pass a test
 abbrev pub field_at : Width → (ℕ → Bool) → ProgKind → ℕ → List ℕ → Result ℕ ProgFault
-field_at w passes kind at bytes = do
-  n ← number_at w at bytes
-  fits ← rule (passes n) at kind
-  Ok n
-
-abbrev pub is_between : ℕ → ℕ → ℕ → Bool
-is_between low high n = nat_le low n && nat_le n high
+field_at = fields.field_at kinds.Short
 
 -- ---- an instruction
 
@@ -185,17 +163,9 @@ pub record Listing : Type 0 where
 abbrev pub has_name : List Listing → List ℕ → Bool
 has_name earlier name = list_any (λ l. bytes_eq l.name name) earlier
 
--- the first so many bytes of the field are a name, which no earlier entry has, and the others are 0
-abbrev pub is_new_name : List Listing → ℕ → List ℕ → Bool
-is_new_name earlier len field = fits_name (take len field)
-    && (list_all (λ b. b == 0) (drop len field) && not (has_name earlier (take len field)))
-
-unfoldable pub name_at : List Listing → ℕ → List ℕ → Result (List ℕ) ProgFault
-name_at earlier at bytes = do
-  len ← field_at w8 (is_between 1 16) kinds.Directory at bytes
-  field ← bytes_at 16 (at + 1) bytes
-  new ← rule (is_new_name earlier len field) (at + 1) kinds.Directory
-  Ok (take len field)
+-- a name that no earlier entry has
+abbrev pub name_at : List Listing → ℕ → List ℕ → Result (List ℕ) ProgFault
+name_at earlier = fields.name_at kinds.Short kinds.Directory (has_name earlier)
 
 abbrev pub kind_of_bit : ℕ → Kind
 kind_of_bit b = if b == 1 then Word else Bit
@@ -313,7 +283,3 @@ Checks (Err f) read = read ≡ Err f
 abbrev pub unit_of : {X : Type 0} → Result X ProgFault → Result (Unit {0}) ProgFault
 unit_of (Ok x) = Ok tt
 unit_of (Err f) = Err f
-
--- each is a byte
-abbrev pub IsBytes : List ℕ → Type 0
-IsBytes bytes = (i : ℕ) → slice_index_or bytes i 0 < 256

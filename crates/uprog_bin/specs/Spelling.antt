@@ -1,5 +1,5 @@
 -- The one spelling of a program in each version that has it.
-use Rattle.std.specs.Prelude.{◌≡◌, ℕ, ◌+◌, ◌-◌, ◌*◌, List, [], ◌∷◌, ◌++◌, length, replicate, codes}
+use Rattle.std.specs.Prelude.{◌≡◌, ℕ, ◌+◌, ◌*◌, List, [], ◌∷◌, ◌++◌, length, replicate, codes}
 use Rattle.std.specs.Prelude.{Option, Some, None, ◌⊎◌}
 use Rattle.std.specs.List.{flat_map, AllByRecursion}
 use Rattle.std.specs.Int.{to_le_bytes, w16, w32}
@@ -12,10 +12,7 @@ use Rattle.uprog_code.specs.declared.code.Uop.{Uop}
 use Rattle.uprog_code.specs.declared.code.Uop.TheVariants.{Done, SetI, SetN, SetT, Mov, Add, AddI}
 use Rattle.uprog_code.specs.declared.code.Uop.TheVariants.{SubI, Bnez, Aap, Ap}
 use Rattle.uprog_code.specs.Shape.{Shape, Microprogram}
-
--- a name's length, its bytes, and zeros up to 16
-abbrev pub name_bytes : List ℕ → List ℕ
-name_bytes name = length name ∷ (name ++ replicate (16 - length name) 0)
+use Rattle.file_fields.specs.Fields.{name_bytes}
 
 abbrev pub space_number : RowSpace → ℕ
 space_number space.B = 0

@@ -4,13 +4,16 @@ ghost use Rattle.std.specs.Prelude.{◌≡◌, ◌+◌, ◌*◌, ◌<◌, ◌≤
 ghost use Rattle.std.specs.List.{list_all, list_any};
 ghost use Rattle.arrayvec.specs.ArrayVec.{array_vec_len};
 ghost use Rattle.uprog_code.specs.Shape.{shape_of};
-ghost use Rattle.uprog_bin.specs.Reading.{Gives, is_named, has_name, name_at, kind_of_bit};
-ghost use Rattle.uprog_bin.specs.Reading.{kinds_of, second_of, is_results, is_kinds, shape_at, listing_at, directory_at};
+ghost use Rattle.uprog_bin.specs.Reading.{is_named, has_name, name_at, kind_of_bit};
+ghost use Rattle.uprog_bin.specs.Reading.{kinds_of, second_of, is_results, is_kinds, shape_at};
+ghost use Rattle.uprog_bin.specs.Reading.{listing_at, directory_at};
 ghost use Rattle.uprog_bin.specs.Reading.{listing_of, listings_of};
+ghost use Rattle.file_fields.specs.Fields.{Gives};
 
-use crate::fault::{ProgFault, ProgKind, fault, rule};
-use crate::fields::{bytes_at, u8_at, u16_at, u32_at};
+use crate::fault::{ProgFault, ProgKind};
+use crate::sizes::{HEAD_BYTES, RECORD_BYTES};
 use arrayvec::ArrayVec;
+use file_fields::{bytes_at, fault, padded_name, rule, u8_at, u16_at, u32_at};
 use text_lex::Name;
 use uprog_code::{Head, Kind};
 
@@ -39,12 +42,6 @@ impl Default for Listed {
     }
 }
 
-fn all_zero(bytes: &[u8]) -> bool
-    ensures { result ≡ list_all (λ b. b == 0) bytes.now }
-{
-    bytes.iter().all(|b| *b == 0)
-}
-
 fn any_named(earlier: &[Listed], name: &[u8]) -> bool
     ensures { result ≡ list_any (is_named name.now) earlier.now }
 {
@@ -59,22 +56,24 @@ fn has_name(earlier: &[Listed], name: &[u8]) -> bool
 }
 
 /// The name at a place, which none of the earlier entries has.
-#[tactic(auto, unfolding(crate::specs::Reading::name_at))]
+#[tactic(auto, unfolding(file_fields::specs::Fields::name_at))]
 fn name_of(earlier: &[Listed], bytes: &[u8], at: usize) -> Result<Name, ProgFault>
     requires small { length bytes.now < 2 ^ 32 }
     requires place { at ≤ length bytes.now }
     ensures gives { Gives (λ name. name) result (name_at (listings_of earlier.now) at bytes.now) }
     ensures within { OnOk result (at + 17 ≤ length bytes.now) }
 {
-    let len = u8_at(bytes, at)?;
+    let len = u8_at(bytes, at, ProgKind::Short)?;
     rule((1..=16).contains(&len), at, ProgKind::Directory)?;
-    let field = bytes_at(bytes, at + 1, 16)?;
-    let (front, behind) = field.split_at(usize::from(len));
-    let Some(name) = Name::new(front) else {
+    let field = bytes_at(bytes, at + 1, 16, ProgKind::Short)?;
+    let Some(name) = padded_name(len, field) else {
         return Err(fault(at + 1, ProgKind::Directory));
     };
-    rule(all_zero(behind), at + 1, ProgKind::Directory)?;
-    rule(!has_name(earlier, front), at + 1, ProgKind::Directory)?;
+    rule(
+        !has_name(earlier, name.bytes()),
+        at + 1,
+        ProgKind::Directory,
+    )?;
     Ok(name)
 }
 
@@ -141,16 +140,16 @@ fn head_of(version: u16, name: Name, bytes: &[u8], at: usize) -> Result<Head, Pr
     ensures gives { Gives shape_of result (shape_at version at bytes.now) }
     ensures within { OnOk result (at + 4 ≤ length bytes.now) }
 {
-    let sources = u8_at(bytes, at)?;
+    let sources = u8_at(bytes, at, ProgKind::Short)?;
     rule((1..=4).contains(&sources), at, ProgKind::Directory)?;
-    let kinds = u8_at(bytes, at + 1)?;
+    let kinds = u8_at(bytes, at + 1, ProgKind::Short)?;
     rule(
         is_kinds(version, sources, kinds),
         at + 1,
         ProgKind::Directory,
     )?;
-    let bits = u8_at(bytes, at + 2)?;
-    let words = u8_at(bytes, at + 3)?;
+    let bits = u8_at(bytes, at + 2, ProgKind::Short)?;
+    let words = u8_at(bytes, at + 3, ProgKind::Short)?;
     Ok(Head {
         name,
         sources: kinds_of(sources, kinds),
@@ -179,9 +178,9 @@ fn listed_of(
 {
     let name = name_of(earlier, bytes, at)?;
     let head = head_of(version, name, bytes, at + 17)?;
-    let first = u32_at(bytes, at + 21)?;
+    let first = u32_at(bytes, at + 21, ProgKind::Short)?;
     rule(first == start, at + 21, ProgKind::Directory)?;
-    let count = u16_at(bytes, at + 25)?;
+    let count = u16_at(bytes, at + 25, ProgKind::Short)?;
     rule(count >= 1, at + 25, ProgKind::Directory)?;
     Ok(Listed {
         head,
@@ -205,11 +204,11 @@ pub(crate) fn directory_of(
 {
     let mut listed = ArrayVec::new();
     let mut start = 0u32;
-    let mut at = 8usize;
+    let mut at = HEAD_BYTES;
     for _k in 0..count {
         let next = listed_of(version, listed.as_slice(), start, bytes, at)?;
         start += u32::from(next.count);
-        at += 27;
+        at += RECORD_BYTES;
         listed.push(next);
     }
     Ok(listed)

@@ -5,15 +5,16 @@ ghost use Rattle.std.specs.Prelude.{slice_index_or, OnOk, nat_lt};
 ghost use Rattle.uprog_code.specs.Shape.{shape_of, results};
 ghost use Rattle.uprog_code.specs.Legal.{is_place, may_be_first, may_be_second, is_row, is_first};
 ghost use Rattle.uprog_code.specs.Legal.{is_second};
-ghost use Rattle.uprog_bin.specs.Reading.{Gives, raw_row, raw_of, is_zero, has_register};
+ghost use Rattle.uprog_bin.specs.Reading.{raw_row, raw_of, is_zero, has_register};
 ghost use Rattle.uprog_bin.specs.Reading.{has_second, operand as operand_of, ends_at_y};
 ghost use Rattle.uprog_bin.specs.Reading.{is_formed as is_formed_as, has_target, row_of, has_rows};
 ghost use Rattle.uprog_bin.specs.Reading.{ends_code, uop_as as uop_of_raw, uop_of, numbered};
 ghost use Rattle.uprog_bin.specs.Reading.{uop_at};
+ghost use Rattle.file_fields.specs.Fields.{Gives};
 
-use crate::fault::{ProgFault, ProgKind, fault, rule};
-use crate::fields::bytes_at;
+use crate::fault::{ProgFault, ProgKind};
 use crate::opcode::{OPCODES, Opcode, SPACES};
+use file_fields::{bytes_at, fault, rule};
 use uprog_code::{Head, RowRef, RowSpace, Uop};
 
 /// Three bytes of an instruction: a row, or registers and numbers.
@@ -257,7 +258,7 @@ pub(crate) fn uop_of(
     ensures gives { Gives (λ uop. uop) result (uop_at (shape_of head.now) size last at bytes.now) }
     ensures within { OnOk result (at + 8 ≤ length bytes.now) }
 {
-    let field = bytes_at(bytes, at, 8)?;
+    let field = bytes_at(bytes, at, 8, ProgKind::Short)?;
     let raw = Raw::new(field);
     let Some(opcode) = opcode_of(raw.number) else {
         return Err(fault(at, ProgKind::Instruction));

@@ -4,10 +4,10 @@
 mod checks;
 mod directory;
 mod fault;
-mod fields;
 mod instruction;
 mod laws;
 mod opcode;
+mod sizes;
 mod spelling;
 mod version_two;
 mod view;

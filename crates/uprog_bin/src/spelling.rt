@@ -6,43 +6,18 @@ ghost use Rattle.std.specs.List.{flat_map};
 ghost use Rattle.std.specs.Int.{w16, to_le_bytes};
 ghost use Rattle.arrayvec.specs.ArrayVec.{array_vec_len};
 ghost use Rattle.uprog_code.specs.Shape.{microprogram_of, microprograms_of};
-ghost use Rattle.uprog_bin.specs.Spelling.{name_bytes, row_bytes, instruction_bytes, kind_bits};
-ghost use Rattle.uprog_bin.specs.Spelling.{result_bit, second_bits, kinds_byte, head_bytes, directory_bytes, code_bytes};
+ghost use Rattle.uprog_bin.specs.Spelling.{row_bytes, instruction_bytes, kind_bits};
+ghost use Rattle.uprog_bin.specs.Spelling.{result_bit, second_bits, kinds_byte, head_bytes};
+ghost use Rattle.uprog_bin.specs.Spelling.{directory_bytes, code_bytes};
 ghost use Rattle.uprog_bin.specs.Spelling.{program_bytes, zeros};
 ghost use Rattle.uprog_code.specs.Programs.{IsProgram};
+ghost use Rattle.file_fields.specs.Fields.{name_bytes};
 
 use crate::opcode::number_of;
+use file_fields::name_field;
 use no_memory::NoMemory;
 use std::alloc::Global;
-use text_lex::Name;
 use uprog_code::{EntryCode, Head, Kind, Program, RowRef, Uop};
-
-/// Appends one byte.
-fn put(out: &mut Vec<u8>, byte: u8) -> Result<(), NoMemory>
-    ensures { OnOk result (out.new.items ≡ out.old.items ++ byte ∷ []) }
-{
-    Ok(out.extend_from_slice(&[byte])?)
-}
-
-/// Appends so many zeros.
-fn put_zeros(out: &mut Vec<u8>, count: usize) -> Result<(), NoMemory>
-    ensures { OnOk result (out.new.items ≡ out.old.items ++ replicate count 0) }
-{
-    for _k in 0..count {
-        put(out, 0)?;
-    }
-    Ok(())
-}
-
-/// Appends a name's length, its bytes, and zeros up to 16.
-fn put_name(out: &mut Vec<u8>, name: &Name) -> Result<(), NoMemory>
-    ensures { OnOk result (out.new.items ≡ out.old.items ++ name_bytes name.now) }
-{
-    let bytes = name.bytes();
-    put(out, bytes.len() as u8)?;
-    out.extend_from_slice(bytes)?;
-    put_zeros(out, 16 - bytes.len())
-}
 
 /// A bit for each source that is a word, the first the lowest.
 #[tactic(auto, using(crate::proofs::KindBits::kind_bits_small))]
@@ -82,7 +57,7 @@ fn put_head(out: &mut Vec<u8>, start: u32, entry: &EntryCode) -> Result<(), NoMe
         ++ head_bytes start (microprogram_of entry.now)) }
 {
     let head = &entry.head;
-    put_name(out, &head.name)?;
+    out.extend_from_slice(&name_field(&head.name))?;
     let sources = head.sources.as_slice();
     let shape = [
         sources.len() as u8,

@@ -6,19 +6,21 @@ ghost use Rattle.std.specs.Prelude.{IfOk, IfErr};
 ghost use Rattle.std.specs.Str.{bytes_eq};
 ghost use Rattle.uprog_code.specs.Shape.{Microprogram, shape_of};
 ghost use Rattle.uprog_code.specs.Legal.{IsLegalCode};
-ghost use Rattle.uprog_bin.specs.Reading.{Gives, is_named, program_in};
+ghost use Rattle.uprog_bin.specs.Reading.{is_named, program_in};
 ghost use Rattle.uprog_bin.specs.Spelling.{HasVersion, program_bytes};
 ghost use Rattle.uprog_code.specs.Programs.{IsProgram};
 ghost use Rattle.uprog_bin.specs.Opened.{Held, found_of, IsOpened, code_of, program_of};
 ghost use Rattle.uprog_bin.specs.Opened.{code_place, uop_in};
+ghost use Rattle.file_fields.specs.Fields.{Gives};
 
 use crate::checks::{check_codes, opening_of};
 use crate::directory::{Listed, directory_of};
-use crate::fault::{ProgFault, ProgKind, rule};
-use crate::fields::u16_at;
+use crate::fault::{ProgFault, ProgKind};
 use crate::instruction::{Raw, uop_as};
 use crate::opcode::{OPCODES, Opcode};
+use crate::sizes::{ENTRIES_MAX, HEAD_BYTES, INSTRUCTION_BYTES, RECORD_BYTES};
 use arrayvec::ArrayVec;
+use file_fields::{rule, u16_at};
 use std::marker::Model;
 use text_lex::Name;
 use uprog_code::{Fetch, Head, Uop};
@@ -31,10 +33,10 @@ fn records_of(bytes: &[u8]) -> Result<(u16, ArrayVec<Listed, 32>), ProgFault>
     ensures err { IfErr result (λ f. program_in bytes.now ≡ Err f) }
 {
     let version = opening_of(bytes)?;
-    let count = u16_at(bytes, 6)?;
-    rule(count <= 32, 6, ProgKind::Directory)?;
+    let count = u16_at(bytes, 6, ProgKind::Short)?;
+    rule(count <= ENTRIES_MAX, 6, ProgKind::Directory)?;
     let listed = directory_of(version, count, bytes)?;
-    let start = 8 + 27 * listed.len();
+    let start = HEAD_BYTES + RECORD_BYTES * listed.len();
     let end = check_codes(listed.as_slice(), bytes, start)?;
     rule(bytes.len() == end, end, ProgKind::Rest)?;
     Ok((version, listed))
@@ -125,8 +127,9 @@ impl<'a> ProgView<'a> {
     {
         let listed = self.listed.as_slice();
         let l = &listed[usize::from(k)];
-        let start = 8 + 27 * listed.len() + 8 * (l.start as usize);
-        let code = part(self.bytes, start, 8 * usize::from(l.count));
+        let directory = RECORD_BYTES * listed.len();
+        let start = HEAD_BYTES + directory + INSTRUCTION_BYTES * (l.start as usize);
+        let code = part(self.bytes, start, INSTRUCTION_BYTES * usize::from(l.count));
         Entry {
             head: l.head.copied(),
             code,
@@ -184,8 +187,8 @@ fn uop_at(code: &[u8], at: u16) -> Uop
     requires { at < length code.now / 8 }
     ensures { result ≡ uop_in (take 8 (drop (8 * at) code.now)) }
 {
-    let (_, rest) = code.split_at(8 * usize::from(at));
-    let (field, _) = rest.split_at(8);
+    let (_, rest) = code.split_at(INSTRUCTION_BYTES * usize::from(at));
+    let (field, _) = rest.split_at(INSTRUCTION_BYTES);
     decoded(field)
 }
 
@@ -203,7 +206,7 @@ impl<'a> Fetch for Entry<'a> {
     }
 
     fn len(&self) -> u16 {
-        (self.code.len() / 8) as u16
+        (self.code.len() / INSTRUCTION_BYTES) as u16
     }
 
     fn fetch(&self, at: u16) -> Uop {

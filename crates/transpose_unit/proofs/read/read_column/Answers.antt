@@ -62,7 +62,7 @@ overflow_mul-at c =
       arith,
       placed c.stage_rows.result c.args.n c.loop-k.k c.from.result
           (length c.args.stage.now / c.stage_rows.result) c.args.column (length c.args.stage.now)
-              rows
+          rows
           c.loop-k-test.true c.loop-k.auto.k c.from.ensures whole lies,
     )
 
@@ -78,7 +78,7 @@ overflow_add-at c =
       arith,
       placed c.stage_rows.result c.args.n c.loop-k.k c.from.result
           (length c.args.stage.now / c.stage_rows.result) c.args.column (length c.args.stage.now)
-              rows
+          rows
           c.loop-k-test.true c.loop-k.auto.k c.from.ensures whole lies,
     )
 
@@ -94,7 +94,7 @@ offset_bounds-stage-at c =
       arith,
       placed c.stage_rows.result c.args.n c.loop-k.k c.from.result
           (length c.args.stage.now / c.stage_rows.result) c.args.column (length c.args.stage.now)
-              rows
+          rows
           c.loop-k-test.true c.loop-k.auto.k c.from.ensures whole lies,
     )
 
@@ -110,6 +110,6 @@ bounds-stage-at c =
       arith,
       placed c.stage_rows.result c.args.n c.loop-k.k c.from.result
           (length c.args.stage.now / c.stage_rows.result) c.args.column (length c.args.stage.now)
-              rows
+          rows
           c.loop-k-test.true c.loop-k.auto.k c.from.ensures whole lies,
     )

@@ -1,5 +1,5 @@
-use Rattle.std.proofs.Common.{◌≡◌, ℕ, ◌+◌, ◌∙◌, ◌*◌, ◌-◌, ◌≤◌, [], refl, ap, arith}
-use Rattle.dram_model.proofs.EventLaws.{Grew-more}
+use Rattle.std.proofs.Common.{◌≡◌, ℕ, ◌+◌, ◌∙◌, ◌*◌, ◌-◌, ◌≤◌, refl, ap, arith}
+use Rattle.dram_model.proofs.EventLaws.{Kept-more, DidRead-more}
 use borrow.Rule.Slice.PartMut.{post_of}
 use Rattle.bit_rows.specs.Bits.{bits_of_words}
 use Rattle.dram_model.specs.declared.geometry.Geometry.{Geometry}
@@ -7,7 +7,6 @@ use Rattle.dram_model.specs.Chip.{Banks, row_in}
 use Rattle.dram_model.specs.Elements.{column_count}
 use Rattle.transpose_unit.proofs.Columns.{rows_more, columns_read, one_row}
 use Rattle.transpose_unit.specs.Stage.{stage_rows}
-use Rattle.transpose_unit.proofs.Events.{more_reads}
 use Rattle.transpose_unit.proofs.Rows.{rows-enough}
 use Rattle.transpose_unit.proofs.read.read_segment.Goals as goal
 
@@ -24,26 +23,22 @@ loop-k-preserved g c =
     let inside : c.loop-k.k * c.args.g.words + c.args.g.words
     ≤ stage_rows c.args.n * c.args.g.words =
     one_row c.loop-k.k c.args.g.words (stage_rows c.args.n) next in
+    let first = dram.view c.args.dram.now in
+    let now = dram.view c.loop-k.dram in
+    let new = dram.view c.read_row.new.self in
     let read : bits_of_words c.read_row.new.out
-    ≡ row_in (c.args.base + c.loop-k.k) (dram.banks c.args.dram.now c.args.bank) =
+    ≡ row_in (c.args.base + c.loop-k.k) (first.banks c.args.bank) =
     c.in_ok-read_row.ensures.read
-    ∙ ap (λ (n : ℕ). row_in (c.args.base + n) (dram.banks c.loop-k.dram c.args.bank))
-    c.from-in-loop-k.ensures
-    ∙ ap (λ (banks : Banks). row_in (c.args.base + c.loop-k.k) (banks c.args.bank)) kept.banks in
+    ∙ ap (λ (n : ℕ). row_in (c.args.base + n) (now.banks c.args.bank)) c.from-in-loop-k.ensures
+    ∙ ap (λ (banks : Banks). row_in (c.args.base + c.loop-k.k) (banks c.args.bank)) kept.did.banks
+    in
     record {
-      begun = c.in_ok-read_row.ensures.begun;
       borrow = c.in_ok-read_row.ensures.borrow ∙ kept.borrow;
-      geometry = c.in_ok-read_row.ensures.geometry ∙ kept.geometry;
-      faults = omega (arith, c.in_ok-read_row.ensures.faults, kept.faults);
-      banks = c.in_ok-read_row.ensures.banks ∙ kept.banks;
-      counters = more_reads (dram.counters c.args.dram.now) (dram.counters c.loop-k.dram)
-          (dram.counters c.read_row.new.self) c.loop-k.k kept.counters
-          c.in_ok-read_row.ensures.counters;
-      log = Grew-more (dram.log c.args.dram.now) (dram.log c.loop-k.dram)
-          (dram.log c.read_row.new.self) [] [] kept.log c.in_ok-read_row.ensures.log;
+      kept = Kept-more first now new kept.kept c.in_ok-read_row.ensures.kept;
+      did = DidRead-more c.loop-k.k 1 first now new kept.did c.in_ok-read_row.ensures.did;
       rows = rows_more words c.loop-k.k start c.loop-k.stage c.read_row.new.out
           (post_of start (start + c.from-words.result - start) c.loop-k.stage) (λ k.
-          row_in (c.args.base + k) (dram.banks c.args.dram.now c.args.bank)) at
+          row_in (c.args.base + k) (first.banks c.args.bank)) at
           (omega (arith, at, inside, c.requires.stage)) (omega arith) read kept.rows;
     }
 
@@ -53,7 +48,7 @@ returns-clause-numbers g c =
     let width = g.met.D.Dram.width c.args.dram.now c.requires.begun c.args.bank
     (omega (arith, ap (λ (x : Geometry). x.banks) c.requires.geometry, c.requires.bank)) in
     columns_read c.args.g.words c.args.base c.args.n (column_count c.args.g) c.loop-k.stage
-    (dram.banks c.args.dram.now c.args.bank) (width
+    ((dram.view c.args.dram.now).banks c.args.bank) (width
     ∙ ap (λ (x : Geometry). 64 * x.words) c.requires.geometry) (λ k l.
     c.loop-k.invariant.rows k (omega arith))
 

@@ -3,12 +3,13 @@ use Rattle.std.proofs.Common.{refl}
 use Rattle.bit_rows.specs.Bits.{bits_of_words}
 use Rattle.dram_model.specs.Chip.{Banks, Event}
 use Rattle.dram_model.specs.Chip.Event.{Write}
-use Rattle.dram_model.proofs.EventLaws.{Grew-more}
+use Rattle.dram_model.specs.declared.dram.Counters.{Counters}
+use Rattle.dram_model.specs.View.{FailedIn}
+use Rattle.dram_model.proofs.EventLaws.{Did-more, Kept-more}
 use Rattle.transpose_unit.specs.Stage.{stage_events, stage_row, stage_rows}
 use Rattle.transpose_unit.proofs.Columns.{one_row}
 use Rattle.transpose_unit.proofs.Rows.{rows-enough}
-use Rattle.transpose_unit.proofs.Events.{on_err_always, stage_more, after_one, more_writes}
-use Rattle.transpose_unit.proofs.Events.{stage_others, part_is}
+use Rattle.transpose_unit.proofs.Events.{on_err_always, stage_more, stage_others, part_is}
 use Rattle.transpose_unit.proofs.write.write_rows.Goals as goal
 
 pub loop-k-preserved : goal.loop-k-preserved
@@ -31,27 +32,30 @@ loop-k-preserved g c =
     ap (λ (n : ℕ). c.args.base + n) c.from-in-loop-k.ensures in
     let more = stage_more words c.args.bank c.args.base k row c.args.stage.now part place is in
     let event : Event = Write c.args.bank row (bits_of_words part) in
+    let first = dram.view c.args.dram.now in
+    let now = dram.view c.loop-k.dram in
+    let new = dram.view c.write_row.new.self in
+    let did = c.in_ok-write_row.ensures.did in
     record {
-      begun = c.in_ok-write_row.ensures.begun;
       borrow = c.in_ok-write_row.ensures.borrow ∙ kept.borrow;
-      geometry = c.in_ok-write_row.ensures.geometry ∙ kept.geometry;
-      faults = omega (arith, c.in_ok-write_row.ensures.faults, kept.faults);
-      banks = after_one so_far _ event (dram.banks c.args.dram.now) (dram.banks c.loop-k.dram)
-          (dram.banks c.write_row.new.self) more kept.banks c.in_ok-write_row.ensures.banks;
-      counters = more_writes (dram.counters c.args.dram.now) (dram.counters c.loop-k.dram)
-          (dram.counters c.write_row.new.self) c.loop-k.k kept.counters
-          c.in_ok-write_row.ensures.counters;
-      log = rw more (Grew-more (dram.log c.args.dram.now) (dram.log c.loop-k.dram)
-          (dram.log c.write_row.new.self) so_far (event
-          ∷ []) kept.log c.in_ok-write_row.ensures.log);
+      kept = Kept-more first now new kept.kept c.in_ok-write_row.ensures.kept;
+      did = rw more (Did-more so_far (event ∷ []) first now new kept.did did);
+      writes = ap (λ (n : Counters). n.writes) did.counters ∙ omega (arith, kept.writes);
     }
 
-pub returns-in_err-write_row-clause-others : goal.returns-in_err-write_row-clause-others
-returns-in_err-write_row-clause-others g c = on_err_always c.from_residual.result (λ b ne.
-    c.in_err-write_row.ensures.others b ne
-    ∙ ap (λ (banks : Banks). banks b) c.loop-k.invariant.banks
-    ∙ stage_others c.args.g.words c.args.bank c.args.base c.loop-k.k c.args.stage.now
-    (g.D.Dram.banks c.args.dram.now) b ne)
+pub returns-in_err-write_row-clause-failed : goal.returns-in_err-write_row-clause-failed
+returns-in_err-write_row-clause-failed g c =
+    let first = g.D.Dram.view c.args.dram.now in
+    let new = g.D.Dram.view c.write_row.new.self in
+    let failed = c.in_err-write_row.ensures.failed in
+    let all : FailedIn c.args.bank first new = record {
+      rose = omega (arith, c.loop-k.invariant.kept.faults, failed.rose);
+      others = λ b ne. failed.others b ne
+          ∙ ap (λ (banks : Banks). banks b) c.loop-k.invariant.did.banks
+          ∙ stage_others c.args.g.words c.args.bank c.args.base c.loop-k.k c.args.stage.now
+          first.banks b ne;
+    } in
+    on_err_always c.from_residual.result all
 
 pub slice_bounds-write_row-end : goal.slice_bounds-write_row-end
 slice_bounds-write_row-end g c =

@@ -10,7 +10,8 @@ use Rattle.uprog_bin.proofs.view.ProgView.open.Goals as goal
 pub returns-clause-spelled : goal.returns-clause-spelled
 returns-clause-spelled c =
     let bytes = c.args.bytes.now in
-    spelled bytes (file_of bytes).version (programs_in bytes) (λ i. omega (arith, c.type_inv.bytes i))
+    spelled bytes (file_of bytes).version (programs_in bytes) (λ i.
+    omega (arith, c.type_inv.bytes i))
     (accepted_is bytes c.in_ok-version.version c.in_ok-version.ensures.ok.read)
 
 pub returns-clause-only : goal.returns-clause-only
