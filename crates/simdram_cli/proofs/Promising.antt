@@ -13,7 +13,7 @@ use Rattle.op_text.specs.declared.fault.OpsFault.{OpsFault}
 use Rattle.op_text.specs.Language.{Operation}
 use Rattle.op_text.specs.Lines.{fault_in}
 use Rattle.op_print.specs.Canonical.{canonical_text}
-use Rattle.object_alloc.specs.declared.fault.ImageFault.{ImageFault}
+use Rattle.object_alloc.specs.Reading.{ImageFault}
 use Rattle.object_alloc.specs.Reading.{Found, image_in}
 use Rattle.bbop_isa.specs.Lines.{lines_of}
 use Rattle.cli_model.specs.World.{World}
