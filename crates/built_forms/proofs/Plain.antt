@@ -1,10 +1,7 @@
 -- A line that says an instruction says one of a width that there is.
-use Rattle.std.proofs.Common.{◌≡◌, ℕ, ◌<◌, ◌≤◌, Bool, true, false, cond, List, Option, Some, None}
+use Rattle.std.proofs.Common.{◌≡◌, ℕ, true, List, Some}
 use Rattle.std.proofs.Common.{refl, arith}
-use Rattle.std.specs.Prelude.{Result, Ok, Err}
-use Rattle.text_lex.specs.Lexical.{items_of}
-use Rattle.bbop_isa.specs.declared.instr.ScriptKind.{ScriptKind}
-use Rattle.bbop_isa.specs.Words.{words_in}
+use Rattle.std.specs.Prelude.{Ok}
 use Rattle.bbop_isa.specs.Forms.{Instruction, Init, Bbop, Load, Fill, Print, Free, Order, line_of}
 use Rattle.bbop_isa.specs.Laws.{IsRight}
 use Rattle.bbop_isa.proofs.Meant.{lines_are}

@@ -1,13 +1,13 @@
 -- The rows of an image file have the size that its geometry asks for.
-use Rattle.std.proofs.Common.{◌≡◌, ℕ, zero, suc, ◌+◌, ◌*◌, List, [], ◌∷◌, ◌++◌, length, map, Ok}
-use Rattle.std.proofs.Common.{refl, sym, ◌∙◌, ap, subst, arith}
+use Rattle.std.proofs.Common.{◌≡◌, ℕ, zero, suc, ◌+◌, ◌*◌, List, length, Ok}
+use Rattle.std.proofs.Common.{sym, ◌∙◌, ap, arith}
 use Rattle.std.specs.Prelude.{flat_map, Result}
 use Rattle.std.specs.List.{range_with_len}
 use Rattle.std.proofs.lemmas.List.{length-map, length-append}
 use Rattle.std.proofs.lemmas.List.FromFn.{length-range_with_len}
 use Rattle.std.proofs.Math.Nat.{suc-mul, mul_assoc, mul_comm}
 use Rattle.dram_model.specs.declared.geometry.Geometry.{Geometry}
-use Rattle.object_alloc.specs.declared.fault.ImageFault.{ImageFault}
+use Rattle.object_alloc.specs.Reading.{ImageFault}
 use Rattle.object_alloc.specs.Bytes.{bytes_of_bits}
 use Rattle.object_alloc.specs.Spelling.{Rows, rows_bytes, rows_in}
 use Rattle.object_alloc.specs.Reading.{Found, rows_size}

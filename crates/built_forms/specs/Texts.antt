@@ -1,5 +1,5 @@
 -- Which texts and images the program takes today, and as what.
-use Rattle.std.specs.Prelude.{◌≡◌, ℕ, ◌+◌, ◌==◌, Bool, true, false, ◌&&◌, List, [], ◌∷◌, ◌++◌}
+use Rattle.std.specs.Prelude.{ℕ, ◌+◌, ◌==◌, Bool, ◌&&◌, List, [], ◌∷◌, ◌++◌}
 use Rattle.std.specs.Prelude.{Option, Some, None, Result, Ok, Err, codes, decimal, if◌then◌else◌}
 use Rattle.op_text.specs.declared.fault.OpsKind.{OpsKind}
 use Rattle.op_text.specs.declared.fault.OpsKind.TheVariants as kinds

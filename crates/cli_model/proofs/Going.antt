@@ -1,14 +1,16 @@
 -- How commands go.
-use Rattle.std.proofs.Common.{◌≡◌, ℕ, ◌+◌, ◌≤◌, List, [], ◌∷◌, ◌++◌, Option, Some, None, refl, sym}
+use Rattle.std.proofs.Common.{◌≡◌, ℕ, ◌≤◌, List, [], ◌∷◌, ◌++◌, Option, Some, None, refl, sym}
 use Rattle.std.proofs.Common.{◌∙◌, ap, subst, inl, inr, arith, append_assoc, append-nil}
-use Rattle.host_edge.specs.Views.{Files, FolderView, NoCountFalls, Told, Rose, RoseBy}
+use Rattle.std.specs.Prelude.{false}
+use Rattle.std.specs.List.{list_any}
+use Rattle.host_edge.specs.Views.{Files, FolderView, NoCountFalls, Told, RoseBy}
 use Rattle.cli_model.specs.World.{World}
 use Rattle.cli_model.specs.Steps.{Step, Load, Take, Store, Open, Use, Put, Reason, CannotRead}
 use Rattle.cli_model.specs.Steps.{TooLong, Refused, NoMemory, CannotWrite, PutFailed, ChipFailed}
 use Rattle.cli_model.specs.Steps.{End, Done, Stopped, Goes, Does, Fails, ReadsOnly, Stored, Used}
-use Rattle.cli_model.specs.Steps.{Sent, Unstored, IsNoMemory, IsCannotWrite, IsPutFailed}
-use Rattle.cli_model.specs.Steps.{IsChipFailed}
-use Rattle.cli_model.specs.Stands.{files_after, sent_by, CountsOn, Stands, StoppedAt, Caused}
+use Rattle.cli_model.specs.Steps.{Sent, Unstored}
+use Rattle.cli_model.specs.Stands.{files_after, sent_by, CountsOn, Stands}
+use Rattle.cli_model.specs.Ends.{is_on_chip}
 
 -- steps, and then others
 pub goes_on : (xs ys : List Step) (end : End) (a b c : World) → Goes xs Done a b → Goes ys end b c
@@ -24,10 +26,10 @@ stops [] ys reason a b g = elim g [ ]
 stops (x ∷ xs) ys reason a b (inl (mid, (d, g))) = inl (mid, (d, stops xs ys reason mid b g))
 stops (x ∷ xs) ys reason a b (inr f) = inr f
 
-within : (a b c : ℕ) (n : ℕ) → a ≤ b → RoseBy n b c → RoseBy n a c
+pub within : (a b c : ℕ) (n : ℕ) → a ≤ b → RoseBy n b c → RoseBy n a c
 within a b c n l r = omega (arith, r)
 
-rises : (a b c : ℕ) (n : ℕ) → RoseBy n a b → b ≤ c → RoseBy n a c
+pub rises : (a b c : ℕ) (n : ℕ) → RoseBy n a b → b ≤ c → RoseBy n a c
 rises a b c n r l = omega (arith, r)
 
 same_counts : (a : World) → CountsOn a a
@@ -41,7 +43,7 @@ same_counts a = record {
   chip = omega arith;
 }
 
-more_counts : (a b c : World) → CountsOn a b → CountsOn b c → CountsOn a c
+pub more_counts : (a b c : World) → CountsOn a b → CountsOn b c → CountsOn a c
 more_counts a b c p q = record {
   files = record {
     load_faults = λ name. let x = p.files.load_faults name in let y = q.files.load_faults name in
@@ -57,7 +59,7 @@ reads_count : (a b : World) → ReadsOnly a b → CountsOn a b
 reads_count a b r = record {
   files = r.counts;
   sink = rw r.sink (omega arith);
-  chip = rw r.chip (omega arith);
+  chip = rw (ap (λ v. v.faults) r.chip) (omega arith);
 }
 
 no_falls : (f : FolderView) → NoCountFalls f f
@@ -78,21 +80,21 @@ pub sent_count : (R : List ℕ → List ℕ → Type 0) (a b : World) → Sent R
 sent_count R a b s = record {
   files = rw s.files (no_falls a.files);
   sink = s.faults;
-  chip = rw s.chip (omega arith);
+  chip = rw (ap (λ v. v.faults) s.chip) (omega arith);
 }
 
 stored_count : (name bytes : List ℕ) (a b : World) → Stored name bytes a b → CountsOn a b
 stored_count name bytes a b s = record {
   files = s.counts;
   sink = rw s.sink (omega arith);
-  chip = rw s.chip (omega arith);
+  chip = rw (ap (λ v. v.faults) s.chip) (omega arith);
 }
 
 unstored_count : (name : List ℕ) (a b : World) → Unstored name a b → CountsOn a b
 unstored_count name a b s = record {
   files = s.counts;
   sink = rw s.sink (omega arith);
-  chip = rw s.chip (omega arith);
+  chip = rw (ap (λ v. v.faults) s.chip) (omega arith);
 }
 
 pub does_count : (step : Step) (a b : World) → Does step a b → CountsOn a b
@@ -124,7 +126,7 @@ fails_count Open reason a b (inr f) = used_count a b f.1
 fails_count Use reason a b f = used_count a b f.1
 fails_count (Put bytes) reason a b f = sent_count _ a b f.1
 
-told_same : {A : Type 0} (a b : Option A) → b ≡ a → Told (λ x y. y ≡ x) a b
+pub told_same : {A : Type 0} (a b : Option A) → b ≡ a → Told (λ x y. y ≡ x) a b
 told_same None b e = tt
 told_same (Some x) b e = subst (λ o. Told (λ x y. y ≡ x) (Some x) o) (sym e) refl
 
@@ -135,7 +137,7 @@ told_then f g (Some x) None c p q = absurd p
 told_then f g (Some x) (Some y) None p q = absurd q
 told_then f g (Some x) (Some y) (Some z) p q = q ∙ ap g p
 
-told_sent : (first rest : List ℕ) (a b c : Option (List ℕ)) → Told (λ x y. y ≡ x ++ first) a b
+pub told_sent : (first rest : List ℕ) (a b c : Option (List ℕ)) → Told (λ x y. y ≡ x ++ first) a b
     → Told (λ x y. y ≡ x ++ rest) b c → Told (λ x y. y ≡ x ++ (first ++ rest)) a c
 told_sent first rest None b c p q = tt
 told_sent first rest (Some x) None c p q = absurd p
@@ -234,6 +236,65 @@ all_stand (step ∷ steps) a b (inl (mid, (d, g))) =
     more_stand step steps a mid b d (all_stand steps mid b g)
 all_stand (step ∷ steps) a b (inr f) = elim f [ ]
 
+-- a step that is not on the chip leaves it
+does_chip : (step : Step) (a b : World) → is_on_chip step ≡ false → Does step a b → b.chip ≡ a.chip
+does_chip (Load name limit text refusal) a b off d = d.1.reads.chip
+does_chip Take a b off d = d.chip
+does_chip (Store name bytes) a b off d = d.chip
+does_chip Open a b off d = absurd (cc)
+does_chip Use a b off d = absurd (cc)
+does_chip (Put bytes) a b off d = d.chip
+
+load_chip : (name : List ℕ) (limit : ℕ) (text : List ℕ) (refusal : _) (reason : Reason)
+    (a b : World) → Fails (Load name limit text refusal) reason a b → b.chip ≡ a.chip
+load_chip name limit text refusal (CannotRead told) a b f = f.1.chip
+load_chip name limit text refusal (TooLong told) a b f = f.1.chip
+load_chip name limit text refusal (Refused r) a b f = f.1.reads.chip
+load_chip name limit text refusal NoMemory a b f = f.chip
+load_chip name limit text refusal (CannotWrite told) a b f = elim f [ ]
+load_chip name limit text refusal PutFailed a b f = elim f [ ]
+load_chip name limit text refusal ChipFailed a b f = elim f [ ]
+
+fails_chip : (step : Step) (reason : Reason) (a b : World) → is_on_chip step ≡ false
+    → Fails step reason a b → b.chip ≡ a.chip
+fails_chip (Load name limit text refusal) reason a b off f =
+    load_chip name limit text refusal reason a b f
+fails_chip Take reason a b off f = f.1.chip
+fails_chip (Store name bytes) reason a b off f = f.1.chip
+fails_chip Open reason a b off f = absurd (cc)
+fails_chip Use reason a b off f = absurd (cc)
+fails_chip (Put bytes) reason a b off f = f.1.chip
+
+-- the first step is off the chip, and so are the others
+first_off : (step : Step) (steps : List Step) → list_any is_on_chip (step ∷ steps) ≡ false
+    → (is_on_chip step ≡ false) × (list_any is_on_chip steps ≡ false)
+first_off (Load name limit text refusal) steps off = (refl, off)
+first_off Take steps off = (refl, off)
+first_off (Store name bytes) steps off = (refl, off)
+first_off Open steps off = absurd (cc)
+first_off Use steps off = absurd (cc)
+first_off (Put bytes) steps off = (refl, off)
+
+pub all_off : (steps : List Step) (a b : World) → Goes steps Done a b
+    → list_any is_on_chip steps ≡ false → b.chip ≡ a.chip
+all_off [] a b e off = ap (λ w. w.chip) e
+all_off (step ∷ steps) a b (inl (mid, (d, g))) off =
+    let parts = first_off step steps off in
+    all_off steps mid b g parts.1 ∙ does_chip step a mid parts.0 d
+all_off (step ∷ steps) a b (inr f) off = elim f [ ]
+
+-- the steps before one were done, and that one failed
+pub record StoppedAt (steps : List Step) (reason : Reason) (old new : World) : Type 0 where
+  pub front : List Step
+  pub at : Step
+  pub rest : List Step
+  pub parts : front ++ at ∷ rest ≡ steps
+  pub failing : World
+  pub stands : Stands front old failing
+  pub fails : Fails at reason failing new
+  pub counts : CountsOn old new
+  pub off : list_any is_on_chip (front ++ at ∷ []) ≡ false → new.chip ≡ old.chip
+
 pub stopped_at : (steps : List Step) (reason : Reason) (a b : World)
     → Goes steps (Stopped reason) a b → StoppedAt steps reason a b
 stopped_at [] reason a b g = elim g [ ]
@@ -248,6 +309,8 @@ stopped_at (step ∷ steps) reason a b (inl (mid, (d, g))) =
       stands = more_stand step s.front a mid s.failing d s.stands;
       fails = s.fails;
       counts = more_counts a mid b (does_count step a mid d) s.counts;
+      off = λ o. let parts = first_off step (s.front ++ s.at ∷ []) o in
+          s.off parts.1 ∙ does_chip step a mid parts.0 d;
     }
 stopped_at (step ∷ steps) reason a b (inr f) = record {
   front = [];
@@ -258,82 +321,5 @@ stopped_at (step ∷ steps) reason a b (inr f) = record {
   stands = none_stand a a refl;
   fails = f;
   counts = fails_count step reason a b f;
+  off = λ o. fails_chip step reason a b (first_off step [] o).0 f;
 }
-
-load_caused : (name : List ℕ) (limit : ℕ) (text : List ℕ) (refusal : _) (reason : Reason)
-    (a b : World) → Fails (Load name limit text refusal) reason a b → Caused reason a b
-load_caused name limit text refusal (CannotRead told) a b f = rw f.0 f.2
-load_caused name limit text refusal (TooLong told) a b f = (limit, f.2)
-load_caused name limit text refusal (Refused r) a b f = tt
-load_caused name limit text refusal NoMemory a b f = tt
-load_caused name limit text refusal (CannotWrite told) a b f = elim f [ ]
-load_caused name limit text refusal PutFailed a b f = elim f [ ]
-load_caused name limit text refusal ChipFailed a b f = elim f [ ]
-
-memory_caused : (reason : Reason) (a b : World) → IsNoMemory reason → Caused reason a b
-memory_caused NoMemory a b f = tt
-memory_caused (CannotRead told) a b f = elim f [ ]
-memory_caused (TooLong told) a b f = elim f [ ]
-memory_caused (Refused r) a b f = elim f [ ]
-memory_caused (CannotWrite told) a b f = elim f [ ]
-memory_caused PutFailed a b f = elim f [ ]
-memory_caused ChipFailed a b f = elim f [ ]
-
-store_caused : (name : List ℕ) (reason : Reason) (a b : World) → IsCannotWrite name reason
-    → Rose a.files.store_faults b.files.store_faults → Caused reason a b
-store_caused name (CannotWrite told) a b f r = r
-store_caused name NoMemory a b f r = elim f [ ]
-store_caused name (CannotRead told) a b f r = elim f [ ]
-store_caused name (TooLong told) a b f r = elim f [ ]
-store_caused name (Refused x) a b f r = elim f [ ]
-store_caused name PutFailed a b f r = elim f [ ]
-store_caused name ChipFailed a b f r = elim f [ ]
-
-put_caused : (reason : Reason) (a b : World) → IsPutFailed reason → Rose a.sink.faults b.sink.faults
-    → Caused reason a b
-put_caused PutFailed a b f r = r
-put_caused NoMemory a b f r = elim f [ ]
-put_caused (CannotRead told) a b f r = elim f [ ]
-put_caused (TooLong told) a b f r = elim f [ ]
-put_caused (Refused x) a b f r = elim f [ ]
-put_caused (CannotWrite told) a b f r = elim f [ ]
-put_caused ChipFailed a b f r = elim f [ ]
-
-chip_caused : (reason : Reason) (a b : World) → IsChipFailed reason → Rose a.chip b.chip
-    → Caused reason a b
-chip_caused ChipFailed a b f r = r
-chip_caused NoMemory a b f r = elim f [ ]
-chip_caused (CannotRead told) a b f r = elim f [ ]
-chip_caused (TooLong told) a b f r = elim f [ ]
-chip_caused (Refused x) a b f r = elim f [ ]
-chip_caused (CannotWrite told) a b f r = elim f [ ]
-chip_caused PutFailed a b f r = elim f [ ]
-
-pub fails_caused : (step : Step) (reason : Reason) (a b : World) → Fails step reason a b
-    → Caused reason a b
-fails_caused (Load name limit text refusal) reason a b f =
-    load_caused name limit text refusal reason a b f
-fails_caused Take reason a b f = memory_caused reason a b f.0
-fails_caused (Store name bytes) reason a b f = store_caused name reason a b f.0 f.1.rose
-fails_caused Open reason a b (inl f) = memory_caused reason a b f.0
-fails_caused Open reason a b (inr f) = chip_caused reason a b f.0 f.2
-fails_caused Use reason a b f = chip_caused reason a b f.0 f.2
-fails_caused (Put bytes) reason a b f = put_caused reason a b f.0 f.2
-
--- a count that rose later rose from an earlier moment on too
-pub caused_before : (reason : Reason) (a b c : World) → CountsOn a b → Caused reason b c
-    → Caused reason a c
-caused_before (CannotRead name) a b c p q = within _ _ _ 1 (p.files.load_faults name) q
-caused_before (TooLong name) a b c p (limit, q) = (limit, within _ _ _ (limit + 1) p.files.taken q)
-caused_before (Refused r) a b c p q = tt
-caused_before NoMemory a b c p q = tt
-caused_before (CannotWrite name) a b c p q = within _ _ _ 1 p.files.store_faults q
-caused_before PutFailed a b c p q = within _ _ _ 1 p.sink q
-caused_before ChipFailed a b c p q = within _ _ _ 1 p.chip q
-
-pub caused : (steps : List Step) (reason : Reason) (a b : World) → Goes steps (Stopped reason) a b
-    → Caused reason a b
-caused [] reason a b g = elim g [ ]
-caused (step ∷ steps) reason a b (inl (mid, (d, g))) =
-    caused_before reason a mid b (does_count step a mid d) (caused steps reason mid b g)
-caused (step ∷ steps) reason a b (inr f) = fails_caused step reason a b f

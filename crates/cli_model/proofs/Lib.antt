@@ -1,2 +1,4 @@
 pub mod Going
 pub mod Causing
+pub mod Ending
+pub mod Statuses

@@ -1,10 +1,8 @@
 -- What stands after steps: the files, what was sent, and which counts of faults rose.
-use Rattle.std.specs.Prelude.{◌≡◌, ℕ, ◌+◌, ◌≤◌, List, [], ◌∷◌, ◌++◌}
-use Rattle.host_edge.specs.Views.{Files, NoCountFalls, Told, Rose, RoseBy}
+use Rattle.std.specs.Prelude.{◌≡◌, ℕ, ◌≤◌, List, [], ◌∷◌, ◌++◌}
+use Rattle.host_edge.specs.Views.{Files, NoCountFalls, Told}
 use Rattle.cli_model.specs.World.{World, with_file}
-use Rattle.cli_model.specs.Steps.{Step, Load, Take, Store, Open, Use, Put, Reason, CannotRead}
-use Rattle.cli_model.specs.Steps.{TooLong, Refused, NoMemory, CannotWrite, PutFailed, ChipFailed}
-use Rattle.cli_model.specs.Steps.{Fails}
+use Rattle.cli_model.specs.Steps.{Step, Load, Take, Store, Open, Use, Put}
 
 -- the files after the stores of these steps
 abbrev pub files_after : List Step → Files → Files
@@ -30,7 +28,7 @@ sent_by (Put bytes ∷ steps) = bytes ++ sent_by steps
 pub record CountsOn (old new : World) : Type 0 where
   pub files : NoCountFalls old.files new.files
   pub sink : old.sink.faults ≤ new.sink.faults
-  pub chip : old.chip ≤ new.chip
+  pub chip : old.chip.faults ≤ new.chip.faults
 
 -- all of these steps were done
 pub record Stands (steps : List Step) (old new : World) : Type 0 where
@@ -38,24 +36,3 @@ pub record Stands (steps : List Step) (old new : World) : Type 0 where
       new.files.holds
   pub sent : Told (λ before after. after ≡ before ++ sent_by steps) old.sink.sent new.sink.sent
   pub counts : CountsOn old new
-
--- the steps before one were done, and that one failed
-pub record StoppedAt (steps : List Step) (reason : Reason) (old new : World) : Type 0 where
-  pub front : List Step
-  pub at : Step
-  pub rest : List Step
-  pub parts : front ++ at ∷ rest ≡ steps
-  pub failing : World
-  pub stands : Stands front old failing
-  pub fails : Fails at reason failing new
-  pub counts : CountsOn old new
-
--- the count that rose, by the reason
-abbrev pub Caused : Reason → World → World → Type 0
-Caused (CannotRead name) old new = Rose (old.files.load_faults name) (new.files.load_faults name)
-Caused (TooLong name) old new = (limit : ℕ) × RoseBy (limit + 1) old.files.taken new.files.taken
-Caused (Refused refusal) old new = Unit {0}
-Caused NoMemory old new = Unit {0}
-Caused (CannotWrite name) old new = Rose old.files.store_faults new.files.store_faults
-Caused PutFailed old new = Rose old.sink.faults new.sink.faults
-Caused ChipFailed old new = Rose old.chip new.chip

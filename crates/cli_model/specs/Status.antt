@@ -1,9 +1,9 @@
 -- The exit status and the last line of a command.
-use Rattle.std.specs.Prelude.{◌≡◌, ℕ, List, [], ◌++◌, codes}
-use Rattle.host_edge.specs.Views.{AppendsPart}
+use Rattle.std.specs.Prelude.{◌≡◌, ◌⊎◌, ℕ, ◌≤◌, List, [], ◌++◌, codes}
+use Rattle.host_edge.specs.Views.{Told, Rose, AppendsPart}
 use Rattle.cli_model.specs.World.{World}
 use Rattle.cli_model.specs.Steps.{Step, Reason, CannotRead, TooLong, Refused, NoMemory, CannotWrite}
-use Rattle.cli_model.specs.Steps.{PutFailed, ChipFailed, End, Done, Stopped, Sent, Goes}
+use Rattle.cli_model.specs.Steps.{PutFailed, ChipFailed, End, Done, Stopped, Goes}
 
 abbrev pub reason_status : Reason → ℕ
 reason_status (CannotRead name) = 2
@@ -24,15 +24,25 @@ reason_line (CannotWrite name) = codes "cannot write " ++ name ++ codes "\n"
 reason_line PutFailed = []
 reason_line ChipFailed = codes "chip fault\n"
 
+-- the whole line was sent, or a part of it where the sink's count of faults rose, and nothing else
+-- happened
+pub record Says (text : List ℕ) (old new : World) : Type 0 where
+  pub files : new.files ≡ old.files
+  pub chip : new.chip ≡ old.chip
+  pub faults : old.sink.faults ≤ new.sink.faults
+  pub sent : Told (λ before after. after ≡ before ++ text) old.sink.sent new.sink.sent
+      ⊎ (Rose old.sink.faults new.sink.faults
+      × Told (AppendsPart text) old.sink.sent new.sink.sent)
+
+-- a command that stopped tells why; a failure to tell it is dropped
+abbrev pub Tells : End → World → World → Type 0
+Tells Done old new = new ≡ old
+Tells (Stopped reason) old new = Says (reason_line reason) old new
+
 -- the status of an end; a command that is done says its own
 abbrev pub end_status : ℕ → End → ℕ
 end_status done Done = done
 end_status done (Stopped reason) = reason_status reason
-
--- the line is put last, and its own failure is dropped
-abbrev pub Tells : End → World → World → Type 0
-Tells Done old new = new ≡ old
-Tells (Stopped reason) old new = Sent (AppendsPart (reason_line reason)) old new
 
 -- A command went through its steps, told why it stopped if it did, and answers the status
 pub record Ran (steps : List Step) (done : ℕ) (old new : World) (status : ℕ) : Type 0 where

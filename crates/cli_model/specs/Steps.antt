@@ -72,7 +72,7 @@ pub record Stored (name bytes : List ℕ) (old new : World) : Type 0 where
 pub record Used (old new : World) : Type 0 where
   pub files : new.files ≡ old.files
   pub sink : new.sink ≡ old.sink
-  pub chip : old.chip ≤ new.chip
+  pub chip : old.chip.faults ≤ new.chip.faults
 
 -- bytes were sent, related so to what was sent before, and all else is as it was
 pub record Sent (R : List ℕ → List ℕ → Type 0) (old new : World) : Type 0 where
@@ -99,9 +99,7 @@ LoadFails name limit text refusal (TooLong told) old new = (told ≡ name) × Re
 LoadFails name limit text refusal (Refused reason) old new = (refusal ≡ Some reason)
     × Loaded name limit text old new
 LoadFails name limit text refusal NoMemory old new = ReadsOnly old new
-LoadFails name limit text refusal (CannotWrite told) old new = ⊥
-LoadFails name limit text refusal PutFailed old new = ⊥
-LoadFails name limit text refusal ChipFailed old new = ⊥
+LoadFails name limit text refusal _ old new = ⊥
 
 -- the store of a file failed: that file is unsaid, and all else is as it was
 pub record Unstored (name : List ℕ) (old new : World) : Type 0 where
@@ -111,52 +109,17 @@ pub record Unstored (name : List ℕ) (old new : World) : Type 0 where
   pub sink : new.sink ≡ old.sink
   pub chip : new.chip ≡ old.chip
 
-abbrev pub IsNoMemory : Reason → Type 0
-IsNoMemory NoMemory = Unit {0}
-IsNoMemory (CannotRead name) = ⊥
-IsNoMemory (TooLong name) = ⊥
-IsNoMemory (Refused reason) = ⊥
-IsNoMemory (CannotWrite name) = ⊥
-IsNoMemory PutFailed = ⊥
-IsNoMemory ChipFailed = ⊥
-
-abbrev pub IsCannotWrite : List ℕ → Reason → Type 0
-IsCannotWrite name (CannotWrite told) = told ≡ name
-IsCannotWrite name NoMemory = ⊥
-IsCannotWrite name (CannotRead told) = ⊥
-IsCannotWrite name (TooLong told) = ⊥
-IsCannotWrite name (Refused reason) = ⊥
-IsCannotWrite name PutFailed = ⊥
-IsCannotWrite name ChipFailed = ⊥
-
-abbrev pub IsPutFailed : Reason → Type 0
-IsPutFailed PutFailed = Unit {0}
-IsPutFailed NoMemory = ⊥
-IsPutFailed (CannotRead name) = ⊥
-IsPutFailed (TooLong name) = ⊥
-IsPutFailed (Refused reason) = ⊥
-IsPutFailed (CannotWrite name) = ⊥
-IsPutFailed ChipFailed = ⊥
-
-abbrev pub IsChipFailed : Reason → Type 0
-IsChipFailed ChipFailed = Unit {0}
-IsChipFailed NoMemory = ⊥
-IsChipFailed (CannotRead name) = ⊥
-IsChipFailed (TooLong name) = ⊥
-IsChipFailed (Refused reason) = ⊥
-IsChipFailed (CannotWrite name) = ⊥
-IsChipFailed PutFailed = ⊥
-
 -- the step failed for this reason
 abbrev pub Fails : Step → Reason → World → World → Type 0
 Fails (Load name limit text refusal) reason old new =
     LoadFails name limit text refusal reason old new
-Fails Take reason old new = IsNoMemory reason × ReadsOnly old new
-Fails (Store name bytes) reason old new = IsCannotWrite name reason × Unstored name old new
-Fails Open reason old new = (IsNoMemory reason × Used old new)
-    ⊎ (IsChipFailed reason × Used old new × Rose old.chip new.chip)
-Fails Use reason old new = IsChipFailed reason × Used old new × Rose old.chip new.chip
-Fails (Put bytes) reason old new = IsPutFailed reason × Sent (AppendsPart bytes) old new
+Fails Take reason old new = (reason ≡ NoMemory) × ReadsOnly old new
+Fails (Store name bytes) reason old new = (reason ≡ CannotWrite name) × Unstored name old new
+Fails Open reason old new = ((reason ≡ NoMemory) × Used old new)
+    ⊎ ((reason ≡ ChipFailed) × Used old new × Rose old.chip.faults new.chip.faults)
+Fails Use reason old new =
+    (reason ≡ ChipFailed) × Used old new × Rose old.chip.faults new.chip.faults
+Fails (Put bytes) reason old new = (reason ≡ PutFailed) × Sent (AppendsPart bytes) old new
     × Rose old.sink.faults new.sink.faults
 
 abbrev pub FailsBy : Step → End → World → World → Type 0

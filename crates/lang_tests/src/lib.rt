@@ -8,4 +8,6 @@ pub use round::reread;
 #[cfg(test)]
 mod faults;
 #[cfg(test)]
+mod lexing;
+#[cfg(test)]
 mod texts;

@@ -4,7 +4,7 @@ use Rattle.std.proofs.Common.{true, false, refl, sym, ◌∙◌, ap, arith, appe
 use Rattle.std.specs.Prelude.{flat_map, count_by}
 use Rattle.std.proofs.Math.Nat.{suc-mul}
 use Rattle.std.proofs.lemmas.List.Sums.{sum_by-cons}
-use Rattle.std.specs.List.{range_with_len}
+use Rattle.std.specs.List.{range_with_len, AllByRecursion}
 use mathlib.Core.Path.{fun_ext}
 use Rattle.dram_model.specs.declared.geometry.Geometry.{Geometry}
 use Rattle.dram_model.specs.declared.dram.Counters.{Counters}
@@ -17,16 +17,17 @@ use Rattle.uprog_code.specs.Machine.{Issue, Twice, Once, issues_of}
 use Rattle.uprog_code.specs.Bound.{Bound, bound}
 use Rattle.uprog_code.specs.Count.{counts_of, is_twice, is_once}
 use Rattle.object_alloc.specs.Listed.{Named}
-use Rattle.bbop_isa.specs.Forms.{Instruction, Init, Bbop, Load, Fill, Print, Free, Order}
+use Rattle.bbop_isa.specs.Forms.{Init, Bbop, Load, Fill, Print, Free, Order}
 use Rattle.machine_model.specs.declared.Why.{Why}
 use Rattle.machine_model.specs.Operations.{Operation, Operations}
 use Rattle.machine_model.specs.Refusals.{refusal}
-use Rattle.machine_model.specs.Steps.{Job, job_of, job_events, own_events, events_of, through}
+use Rattle.machine_model.specs.Schedule.{Job}
+use Rattle.machine_model.specs.Steps.{job_of, job_events, own_events, events_of, through}
 use Rattle.machine_model.specs.Steps.{rowed, banks_after, table_after, if_done, times, counts_for}
 use Rattle.machine_model.specs.Steps.{reply_to, reply_by, binding, issues_at, bound_at}
-use Rattle.machine_model.specs.Script.{script_events, banks_at_end, replies, sum_of, counted_in}
+use Rattle.machine_model.specs.Script.{events_in_order, banks_at_end, replies, sum_of, counted_in}
 use Rattle.machine_model.specs.Script.{is_bbop, with_counts}
-use Rattle.machine_model.specs.Laws.{EventsAreSteps, CountedByReplies}
+use Rattle.bbop_isa.specs.Forms.{Instruction}
 use Rattle.machine_model.proofs.Fills.{through_bank}
 
 job_is_through : (job : Job) (banks : Banks) → after (job_events job) banks ≡ through job banks
@@ -52,12 +53,16 @@ instr_events g operations table banks instr =
     done_events (refusal g operations table instr) (events_of g operations table instr)
     (rowed g operations table banks instr) banks (events_are_rows g operations table banks instr)
 
-pub events_are_steps : EventsAreSteps
-events_are_steps g operations table [] banks = refl
-events_are_steps g operations table (instr ∷ script) banks =
+-- one instruction after another, the events leave the banks as the steps do
+pub in_order_steps : (g : Geometry) (operations : Operations) (table : List Named)
+    (script : List Instruction) (banks : Banks)
+    → after (events_in_order g operations table script) banks
+    ≡ banks_at_end g operations table banks script
+in_order_steps g operations table [] banks = refl
+in_order_steps g operations table (instr ∷ script) banks =
     after-append (if_done (refusal g operations table instr) (events_of g operations table instr)
-    []) (script_events g operations (table_after g operations table instr) script) banks
-    ∙ events_are_steps g operations (table_after g operations table instr) script _
+    []) (events_in_order g operations (table_after g operations table instr) script) banks
+    ∙ in_order_steps g operations (table_after g operations table instr) script _
     ∙ ap (λ b. banks_at_end g operations (table_after g operations table instr) b script)
     (instr_events g operations table banks instr)
 
@@ -114,10 +119,6 @@ banks_counted a (suc size) rows shape n b issues k =
     ∙ both_counts k _ _ _ _ (one_more k.aap size (count_by is_twice issues))
     (one_more k.ap size (count_by is_once issues))
 
-no_events : (k : Counters) (banks : ℕ)
-    → all_counted (flat_map (λ bank. row_events bank []) (range_with_len banks 0)) k ≡ k
-no_events k banks = refl
-
 idle_counted : (a size : ℕ) (k : Counters)
     → all_counted (flat_map (λ bank. row_events bank []) (range_with_len a size)) k ≡ k
 idle_counted a zero k = refl
@@ -169,15 +170,20 @@ instr_counted g operations table instr k h = reply_case (refusal g operations ta
 regroup : (x a b : ℕ) → x + a + b ≡ x + (a + b)
 regroup x a b = omega arith
 
-pub counted_by_replies : CountedByReplies
-counted_by_replies g operations table [] k h =
+-- and are counted by the replies
+pub in_order_counted : (g : Geometry) (operations : Operations) (table : List Named)
+    (script : List Instruction) (k : Counters)
+    → AllByRecursion (λ instr. is_bbop instr ≡ true) script
+    → all_counted (events_in_order g operations table script) k
+    ≡ with_counts k (sum_of (replies g operations table script))
+in_order_counted g operations table [] k h =
     sym (plain_counts k _ _ (add_none k.aap) (add_none k.ap))
-counted_by_replies g operations table (instr ∷ script) k h =
+in_order_counted g operations table (instr ∷ script) k h =
     let first = counted_in (reply_to g operations table instr) in
     let rest = sum_of (replies g operations (table_after g operations table instr) script) in
     all_counted-append (if_done (refusal g operations table instr)
     (events_of g operations table instr) [])
-    (script_events g operations (table_after g operations table instr) script) k
-    ∙ counted_by_replies g operations (table_after g operations table instr) script _ h.1
+    (events_in_order g operations (table_after g operations table instr) script) k
+    ∙ in_order_counted g operations (table_after g operations table instr) script _ h.1
     ∙ ap (λ c. with_counts c rest) (instr_counted g operations table instr k h.0)
     ∙ both_counts k _ _ _ _ (regroup k.aap first.aap rest.aap) (regroup k.ap first.ap rest.ap)

@@ -28,9 +28,6 @@ use Rattle.machine_model.proofs.Facts.{AreOperands, none, more, IsGood, good}
 use Rattle.machine_model.proofs.Bbops.{or_false, base_in, binding_fits, has_from}
 use Rattle.machine_model.proofs.Steps.{job_is}
 
-and_false : (b : Bool) → (true && b) ≡ false → b ≡ false
-and_false b h = h
-
 among_from : (base size row : ℕ) → base ≤ row → row < base + size → is_among base size row ≡ true
 among_from base size row a b = grind (arith, nat_tests)
 

@@ -56,9 +56,6 @@ after_length [] banks bank = refl
 after_length (event ∷ events) banks bank = after_length events (happens event banks) bank
     ∙ happens_case event _ (banks bank)
 
-held_of : Image → Named → Held
-held_of i p = record { name = p.0; object = p.1; numbers = columns i.geometry (opened i) p.1 }
-
 tables : (g : Geometry) (banks : Banks) (table : List Named)
     → table_of (map (λ (p : Named). record {
       name = p.0;

@@ -122,11 +122,6 @@ found limit state name t h =
     ap (λ (p : Named). p.0) (get_or-map entry_of state at.0 no_one) in
     found_at state name at.0 (names_differ limit state t) within (sym is ∙ same_bytes _ _ at.2)
 
-pub stands : (limit : ℕ) (state : List Held) (k : ℕ) (name : List ℕ)
-    → IsTable limit (table_of state) → k < length state → (get_or state k no_one).name ≡ name
-    → IsFound state name
-stands limit state k name t l e = found_at state name k (names_differ limit state t) l e
-
 -- the object at a place is that of its name
 pub object_at : (limit : ℕ) (state : List Held) (k : ℕ) (name : List ℕ)
     → IsTable limit (table_of state) → k < length state → (get_or state k no_one).name ≡ name

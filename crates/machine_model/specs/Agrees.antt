@@ -38,7 +38,7 @@ StepAgrees g operations meaning instr =
     → Agrees g (banks_after g operations (table_of state) banks instr)
     (words_after g operations meaning state instr)
 
--- what every script has: an object and a bbop have widths from 1 to 64
+-- what every script has: an object and a bbop have a width from 1 to the greatest
 abbrev pub IsWidth : ℕ → Type 0
 IsWidth n = (0 < n) × (n ≤ WIDTH_MAX)
 

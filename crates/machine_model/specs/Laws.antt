@@ -1,18 +1,25 @@
 -- Laws of whole scripts.
-use Rattle.std.specs.Prelude.{◌≡◌, ℕ, ◌<◌, List, true}
+use Rattle.std.specs.Prelude.{◌≡◌, ℕ, ◌*◌, ◌<◌, ◌≤◌, List, map, flat_map, All}
 use Rattle.std.specs.List.{AllByRecursion}
 use Rattle.dram_model.specs.declared.geometry.Geometry.{Geometry}
-use Rattle.dram_model.specs.Chip.{Banks, after, all_counted}
 use Rattle.dram_model.specs.declared.dram.Counters.{Counters}
+use Rattle.dram_model.specs.Column.{run}
+use Rattle.dram_model.specs.Chip.{Banks, after, all_counted}
+use Rattle.dram_model.specs.Elements.{column_count}
+use Rattle.dram_model.specs.Events.{events_of as seen_by}
 use Rattle.object_alloc.specs.Listed.{Named}
 use Rattle.bbop_isa.specs.Forms.{Instruction}
+use Rattle.uprog_code.specs.Texts.{TextOp, ImplementsAll}
 use Rattle.machine_model.specs.Operations.{Program, Operations, operations_of, operations_in}
 use Rattle.machine_model.specs.Operations.{meaning_in}
-use Rattle.uprog_code.specs.Texts.{TextOp, ImplementsAll}
+use Rattle.machine_model.specs.Schedule.{Queues, events_of_picks, IsWhole, whole_picks, Turn}
+use Rattle.machine_model.specs.Schedule.{in_turn}
 use Rattle.machine_model.specs.Steps.{Held, table_of}
 use Rattle.machine_model.specs.Agrees.{Agrees, DoesAll, IsPlain}
-use Rattle.machine_model.specs.Script.{banks_at_end, words_at_end, script_events, replies, sum_of}
-use Rattle.machine_model.specs.Script.{is_bbop, with_counts}
+use Rattle.machine_model.specs.Script.{banks_at_end, words_at_end, events_in_order}
+use Rattle.machine_model.specs.Script.{replies, sum_of, with_counts}
+use Rattle.machine_model.specs.Pieces.{AreBbops, IsPiece, instrs_in, pieces, wave_queues}
+use Rattle.machine_model.specs.Pieces.{events_of_pieces}
 
 -- Where what is issued for each operation does what it means, the banks after a script hold what
 -- the word machine holds
@@ -39,19 +46,76 @@ abbrev pub SameOperations : Type 0
 SameOperations = (p : Program) (t : List TextOp) → ImplementsAll p t
     → operations_of t p ≡ operations_in p
 
--- A script's events leave the banks as its instructions one after another do
+-- The picks of every order in force are a whole list
+abbrev pub PicksAreWhole : Type 0
+PicksAreWhole =
+    (turn : Turn) (banks : ℕ) (left : Queues)
+    → IsWhole banks (whole_picks in_turn banks turn left) left
+
+-- the banks hold each object of a table
+abbrev pub FitsBanks : Geometry → List Named → Type 0
+FitsBanks g table = All (λ named. named.1.count ≤ column_count g * g.banks) table
+
+-- Each bank of a wave is left as its own queue alone leaves it, for every whole list of picks
+abbrev pub FollowsQueue : Type 0
+FollowsQueue =
+    (banks : ℕ) (picks : List ℕ) (left : Queues) (chip : Banks) (bank : ℕ)
+    → IsWhole banks picks left → bank < banks
+    → after (events_of_picks banks picks left) chip bank ≡ map (run (left bank)) (chip bank)
+
+-- and so as the wave's bbops one after another leave it
+abbrev pub WaveIsSteps : Type 0
+WaveIsSteps =
+    (g : Geometry) (operations : Operations) (table : List Named) (wave : List Instruction)
+    (picks : List ℕ) (chip : Banks) (bank : ℕ) → AreBbops wave
+    → IsWhole g.banks picks (wave_queues g operations table wave) → bank < g.banks
+    → after (events_of_picks g.banks picks (wave_queues g operations table wave)) chip bank
+    ≡ banks_at_end g operations table chip wave bank
+
+-- and is counted by its replies
+abbrev pub WaveIsCounted : Type 0
+WaveIsCounted =
+    (g : Geometry) (operations : Operations) (table : List Named) (wave : List Instruction)
+    (picks : List ℕ) (k : Counters) → 0 < g.words → FitsBanks g table → AreBbops wave
+    → IsWhole g.banks picks (wave_queues g operations table wave)
+    → all_counted (events_of_picks g.banks picks (wave_queues g operations table wave)) k
+    ≡ with_counts k (sum_of (replies g operations table wave))
+
+-- A script's pieces are waves and single instructions, and together they are the script
+abbrev pub PiecesAreScript : Type 0
+PiecesAreScript = (script : List Instruction) → AllByRecursion IsPiece (pieces script)
+    × (flat_map instrs_in (pieces script) ≡ script)
+
+-- Under every order in force each bank sees the events of a script in the same order: that of its
+-- instructions
+abbrev pub SeenInOrder : Type 0
+SeenInOrder =
+    (g : Geometry) (operations : Operations) (turn : Turn) (table : List Named)
+    (script : List Instruction) (bank : ℕ) → 0 < g.words → FitsBanks g table
+    → seen_by bank (events_of_pieces g operations turn table (pieces script))
+    ≡ seen_by bank (events_in_order g operations table script)
+
+-- So a script's events leave the banks as its instructions one after another do
 abbrev pub EventsAreSteps : Type 0
 EventsAreSteps =
-    (g : Geometry) (operations : Operations) (table : List Named) (script : List Instruction)
-    (banks : Banks)
-    → after (script_events g operations table script) banks
-    ≡ banks_at_end g operations table banks script
+    (g : Geometry) (operations : Operations) (turn : Turn) (table : List Named)
+    (script : List Instruction) (chip : Banks) → 0 < g.words → FitsBanks g table
+    → after (events_of_pieces g operations turn table (pieces script)) chip
+    ≡ banks_at_end g operations table chip script
 
 -- and a script of bbops is counted by its replies, and has no host writes
 abbrev pub CountedByReplies : Type 0
 CountedByReplies =
-    (g : Geometry) (operations : Operations) (table : List Named) (script : List Instruction)
-    (k : Counters)
-    → AllByRecursion (λ instr. is_bbop instr ≡ true) script
-    → all_counted (script_events g operations table script) k
+    (g : Geometry) (operations : Operations) (turn : Turn) (table : List Named)
+    (script : List Instruction) (k : Counters) → 0 < g.words → FitsBanks g table
+    → AreBbops script
+    → all_counted (events_of_pieces g operations turn table (pieces script)) k
     ≡ with_counts k (sum_of (replies g operations table script))
+
+-- On a chip of one bank every order gives the events of one instruction after another
+abbrev pub OneBankInOrder : Type 0
+OneBankInOrder =
+    (g : Geometry) (operations : Operations) (turn : Turn) (table : List Named)
+    (script : List Instruction) → g.banks ≡ 1 → 0 < g.words → FitsBanks g table
+    → events_of_pieces g operations turn table (pieces script)
+    ≡ events_in_order g operations table script

@@ -2,9 +2,11 @@
 pub mod Columns
 pub mod Operations
 pub mod Refusals
+pub mod Schedule
 pub mod Steps
 pub mod Agrees
 pub mod Script
+pub mod Pieces
 pub mod Report
 pub mod Laws
 pub mod Opened

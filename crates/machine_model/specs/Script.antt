@@ -58,12 +58,12 @@ is_touched_by g operations table (instr ∷ script) bank row =
     is_touched g operations table instr bank row
     || is_touched_by g operations (table_after g operations table instr) script bank row
 
--- the events of the instructions that are done, in order
-abbrev pub script_events : Geometry → Operations → List Named → List Instruction → List Event
-script_events g operations table [] = []
-script_events g operations table (instr ∷ script) =
+-- the events of the instructions that are done, one instruction after another, bank by bank
+abbrev pub events_in_order : Geometry → Operations → List Named → List Instruction → List Event
+events_in_order g operations table [] = []
+events_in_order g operations table (instr ∷ script) =
     if_done (refusal g operations table instr) (events_of g operations table instr) []
-    ++ script_events g operations (table_after g operations table instr) script
+    ++ events_in_order g operations (table_after g operations table instr) script
 
 -- the commands that the replies count
 abbrev pub plus : Counts → Counts → Counts

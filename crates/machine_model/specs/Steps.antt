@@ -31,6 +31,7 @@ use Rattle.machine_model.specs.Columns.{segments, size_of, padded_to, row_bits}
 use Rattle.machine_model.specs.Operations.{Operation, Operations}
 use Rattle.object_alloc.specs.Listed.{limit_of}
 use Rattle.machine_model.specs.Refusals.{refusal, object_named, dsts_in, srcs_in}
+use Rattle.machine_model.specs.Schedule.{Job}
 
 -- an object with the numbers of its columns
 pub record Held : Type 0 where
@@ -147,11 +148,6 @@ abbrev pub bound_at : Geometry → List Named → Option Operation → List (Lis
 bound_at g table None names n = []
 bound_at g table (Some operation) names n = bound g.rows operation.shape n
     (binding g table operation.shape names n) (issues_of (operation.trace n))
-
--- commands, and how many banks do them
-pub record Job : Type 0 where
-  pub commands : List Command
-  pub banks : ℕ
 
 -- the commands of a bbop in one bank, and how many banks do them
 abbrev pub job_of : Geometry → Operations → List Named → Instruction → Job

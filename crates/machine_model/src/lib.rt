@@ -2,14 +2,16 @@
 //! report on it.
 #![tactic(auto)]
 
-ghost use Rattle.machine_model.specs.Laws.{CountedByReplies, EventsAreSteps, RowsGiveWords};
-ghost use Rattle.machine_model.specs.Laws.{SameOperations, TextGivesWords};
+ghost use Rattle.machine_model.specs.Laws.{CountedByReplies, EventsAreSteps, FollowsQueue};
+ghost use Rattle.machine_model.specs.Laws.{OneBankInOrder, PicksAreWhole, PiecesAreScript};
+ghost use Rattle.machine_model.specs.Laws.{RowsGiveWords, SameOperations, SeenInOrder};
+ghost use Rattle.machine_model.specs.Laws.{TextGivesWords, WaveIsCounted, WaveIsSteps};
 
 use uprog_code::{BadWalk, Counts};
 
-/// The first condition under which an instruction is refused. A place counts from 0 for the
-/// destination and from 1
-/// for the first source, and in `load` and `fill` from 1 for the first value.
+/// The first condition under which an instruction is refused.
+/// A place counts from 0 for the destination and from 1 for the first source, and in `load` and
+/// `fill` from 1 for the first value.
 #[derive(Clone, Copy, PartialEq, Eq, Debug)]
 pub enum Why {
     NoOp,
@@ -41,8 +43,20 @@ pub fn rows_give_words()
     ensures same { SameOperations }
 {}
 
-/// A script's events leave the banks as its steps do, and its replies count them.
+/// In whatever order the banks of a wave take turns, each does its own commands in order.
+pub fn waves_are_steps()
+    ensures whole { PicksAreWhole }
+    ensures follows { FollowsQueue }
+    ensures steps { WaveIsSteps }
+    ensures counted { WaveIsCounted }
+{}
+
+/// Under every order in force a script's events leave the banks as its steps do, and its replies
+/// count them; on one bank they are the events of its instructions one after another.
 pub fn events_are_steps()
+    ensures pieces { PiecesAreScript }
+    ensures seen { SeenInOrder }
     ensures steps { EventsAreSteps }
     ensures counted { CountedByReplies }
+    ensures one_bank { OneBankInOrder }
 {}

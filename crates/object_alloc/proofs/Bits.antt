@@ -9,9 +9,10 @@ use Rattle.std.proofs.lemmas.Grind.{flat_map-append}
 use Rattle.std.proofs.lemmas.List.{append-nil, length-append, take_more_set, take_more}
 use Rattle.std.proofs.lemmas.Nat.{from_le_bytes-to_le_bytes_8}
 use Rattle.bit_rows.specs.Bits.{bits, bits_of_words}
-use Rattle.object_alloc.specs.Bytes.{bits_of_bytes, bytes_of_bits, IsBytes}
+use Rattle.object_alloc.specs.Bytes.{bits_of_bytes, bytes_of_bits}
 use Rattle.object_alloc.proofs.Pieces.{take-add}
 use Rattle.object_alloc.proofs.Rows.{bytes-bits}
+use Rattle.file_fields.specs.Fields.{IsBytes}
 
 -- low bits, and high bits behind them
 bits-join : (m n b v : ℕ) → b < 2 ^ m → bits (b + 2 ^ m * v) (m + n) ≡ bits b m ++ bits v n

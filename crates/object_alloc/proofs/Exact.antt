@@ -9,19 +9,19 @@ use Rattle.std.proofs.lemmas.List.Concat.{flat_map-cons}
 use Rattle.dram_model.specs.declared.geometry.Geometry.{Geometry}
 use Rattle.text_lex.specs.Spelled.{fits_name}
 use Rattle.object_alloc.specs.Listed.{Named}
-use Rattle.object_alloc.specs.Bytes.{IsBytes}
-use Rattle.object_alloc.specs.Spelling.{Rows, name_bytes, object_bytes, table_bytes, geometry_bytes}
+use Rattle.object_alloc.specs.Spelling.{Rows, object_bytes, table_bytes, geometry_bytes}
 use Rattle.object_alloc.specs.Spelling.{opening_bytes, head_bytes, rows_bytes, rows_in, image_bytes}
 use Rattle.object_alloc.specs.Spelling.{IsImage}
-use Rattle.object_alloc.specs.Reading.{◌>>=◌, opening_in, geometry_at, table_at, rows_start}
+use Rattle.object_alloc.specs.Reading.{opening_in, geometry_at, table_at, rows_start}
 use Rattle.object_alloc.specs.Reading.{rows_at, Found, image_in}
 use Rattle.object_alloc.specs.Exact.{ReadsExactly}
-use Rattle.object_alloc.proofs.Held.{Holds, Holds-then, Holds-front, Holds-back, Holds-fits}
-use Rattle.object_alloc.proofs.Held.{bind_ok, ok_is}
-use Rattle.object_alloc.proofs.Records.{name_short, name_size}
 use Rattle.object_alloc.proofs.Images.{opening_takes, opening_again, geometry_takes, geometry_again}
 use Rattle.object_alloc.proofs.Images.{IsListed, table_takes, table_again, rows_take, rows_again}
 use Rattle.object_alloc.proofs.Rows.{rows-in, rows-shaped, rows-again, length-rows_bytes}
+use Rattle.file_fields.specs.Fields.{IsBytes, name_bytes, ◌>>=◌}
+use Rattle.file_fields.proofs.Held.{Holds, Holds-then, Holds-front, Holds-back, Holds-fits, bind_ok}
+use Rattle.file_fields.proofs.Held.{ok_is}
+use Rattle.file_fields.proofs.Padded.{name_size}
 
 pub image_spelled : (bytes : List ℕ) (found : Found) → IsBytes bytes → image_in bytes ≡ Ok found
     → IsImage found.geometry found.table (rows_in found.geometry found.rows)
@@ -71,13 +71,12 @@ pub objects_size : (table : List Named) → All (λ named. fits_name named.0 ≡
     → length (flat_map object_bytes table) ≡ 24 * length table
 objects_size [] h = refl
 objects_size (named ∷ table) h =
-    let short = (name_short named.0 (h 0 named (omega arith))).1 in
     let one : length (object_bytes named) ≡ 24 =
     omega (
       arith,
       length-append (name_bytes named.0) (named.1.width
           ∷ to_le_bytes w16 named.1.base ++ to_le_bytes w32 named.1.count),
-      name_size named.0 short,
+      name_size named.0 (h 0 named (omega arith)),
     ) in
     let rest = objects_size table (λ k d l. h (suc k) d (omega arith)) in
     let split : length (flat_map object_bytes (named ∷ table))

@@ -21,18 +21,19 @@ use Rattle.object_alloc.specs.declared.fault.ImageKind.TheVariants as kinds
 use Rattle.object_alloc.specs.declared.table.Object.{Object}
 use Rattle.object_alloc.specs.Free.{end_of, has_row, AreApart}
 use Rattle.object_alloc.specs.Listed.{Named, IsTable, objects_of, limit_of}
-use Rattle.object_alloc.specs.Bytes.{IsBytes}
-use Rattle.object_alloc.specs.Spelling.{name_bytes, object_bytes, table_bytes, geometry_bytes}
+use Rattle.object_alloc.specs.Spelling.{object_bytes, table_bytes, geometry_bytes}
 use Rattle.object_alloc.specs.Spelling.{opening_bytes, IsObject}
-use Rattle.object_alloc.specs.Reading.{◌>>=◌, rule, bytes_at, field_at, object_at, objects_at}
+use Rattle.object_alloc.specs.Reading.{bytes_at, field_at, object_at, objects_at}
 use Rattle.object_alloc.specs.Reading.{table_at, geometry_at, opening_in, rows_size, rows_at}
 use Rattle.object_alloc.proofs.Tables.{IsTable-add, if_not_true}
 use Rattle.object_alloc.proofs.Least.{AreFree-are}
-use Rattle.object_alloc.proofs.Held.{Holds, Holds-then, Holds-front, Holds-back, bind_ok, ok_is}
-use Rattle.object_alloc.proofs.Held.{rule_ok, bytes_takes, bytes_again, wide16, field_takes}
-use Rattle.object_alloc.proofs.Held.{field_again}
-use Rattle.object_alloc.proofs.Records.{Follows, both, between_is, le_is, is-le, name_short}
-use Rattle.object_alloc.proofs.Records.{name_size, object_takes, object_again}
+use Rattle.object_alloc.proofs.Records.{Follows, le_is, is-le}
+use Rattle.object_alloc.proofs.Records.{object_takes, object_again}
+use Rattle.file_fields.specs.Fields.{IsBytes, name_bytes, ◌>>=◌, rule}
+use Rattle.file_fields.proofs.Held.{Holds, Holds-then, Holds-front, Holds-back, bind_ok, ok_is}
+use Rattle.file_fields.proofs.Held.{rule_ok, bytes_takes, bytes_again, wide16, field_takes}
+use Rattle.file_fields.proofs.Held.{field_again}
+use Rattle.file_fields.proofs.Padded.{both, between_is, name_short, name_size}
 
 -- ---- the opening
 
@@ -50,8 +51,9 @@ opening_takes bytes x fits e =
     field_at w16 (λ version. eqb version 1) kinds.Version 4 bytes >>= λ _. Ok tt) x a.2 in
     let c = bind_ok (field_at w16 (λ version. eqb version 1) kinds.Version 4 bytes) (λ _.
     Ok tt) x b.2 in
-    let magic = bytes_takes 4 0 4 bytes a.0 a.1 refl in
-    let version = field_takes w16 (2 ^ 16) (to_le_bytes w16) wide16 (λ v. eqb v 1) kinds.Version 4 6
+    let magic = bytes_takes kinds.Short 4 0 4 bytes a.0 a.1 refl in
+    let version = field_takes kinds.Short w16 (2 ^ 16) (to_le_bytes w16) wide16 (λ v.
+    eqb v 1) kinds.Version 4 6
     bytes c.0 fits c.1 refl in
     let same : a.0 ≡ codes "SDMI" = opening_is a.0
     (rule_ok (bytes_eq a.0 (codes "SDMI")) 0 kinds.Magic b.0 b.1) in
@@ -67,8 +69,9 @@ unfolding opening_in
 opening_again bytes h =
     let front = Holds-front bytes 0 (codes "SDMI") 4 (to_le_bytes w16 1) 6 h refl in
     let back = Holds-back bytes 0 (codes "SDMI") 4 (to_le_bytes w16 1) 6 h refl in
-    let magic = bytes_again 4 0 4 bytes (codes "SDMI") front refl in
-    let version = field_again w16 (2 ^ 16) (to_le_bytes w16) wide16 (λ v. eqb v 1) kinds.Version 4 6
+    let magic = bytes_again kinds.Short 4 0 4 bytes (codes "SDMI") front refl in
+    let version = field_again kinds.Short w16 (2 ^ 16) (to_le_bytes w16) wide16 (λ v.
+    eqb v 1) kinds.Version 4 6
     bytes 1 back (omega arith) refl in
     rw (magic, version) refl
 
@@ -93,11 +96,14 @@ geometry_takes at bytes g fits e =
     })) g a.2 in
     let c = bind_ok (third a.0 b.0) (λ words. Ok
     (record { banks = a.0; rows = b.0; words = words })) g b.2 in
-    let banks = field_takes w16 (2 ^ 16) (to_le_bytes w16) wide16 (is_between 1 16) kinds.Geometry
+    let banks = field_takes kinds.Short w16 (2 ^ 16) (to_le_bytes w16) wide16 (is_between 1 16)
+    kinds.Geometry
     at (at + 2) bytes a.0 fits a.1 refl in
-    let rows = field_takes w16 (2 ^ 16) (to_le_bytes w16) wide16 (is_between 64 1006) kinds.Geometry
+    let rows = field_takes kinds.Short w16 (2 ^ 16) (to_le_bytes w16) wide16 (is_between 64 1006)
+    kinds.Geometry
     (at + 2) (at + 4) bytes b.0 fits b.1 (omega arith) in
-    let words = field_takes w16 (2 ^ 16) (to_le_bytes w16) wide16 (λ words. is_between 1 1024 words
+    let words = field_takes kinds.Short w16 (2 ^ 16) (to_le_bytes w16) wide16
+    (λ words. is_between 1 1024 words
     && fits_size (record { banks = a.0; rows = b.0; words = words })) kinds.Geometry (at + 4)
     (at + 6) bytes c.0 fits c.1 (omega arith) in
     let made : Geometry = record { banks = a.0; rows = b.0; words = c.0 } in
@@ -144,11 +150,14 @@ geometry_again at bytes g h is =
     (to_le_bytes w16 g.words) (at + 6) back (omega arith) in
     let last = Holds-back bytes (at + 2) (to_le_bytes w16 g.rows) (at + 4) (to_le_bytes w16 g.words)
     (at + 6) back (omega arith) in
-    let one = field_again w16 (2 ^ 16) (to_le_bytes w16) wide16 (is_between 1 16) kinds.Geometry at
+    let one = field_again kinds.Short w16 (2 ^ 16) (to_le_bytes w16) wide16 (is_between 1 16)
+    kinds.Geometry at
     (at + 2) bytes g.banks front (omega (arith, banks.1)) b.banks in
-    let two = field_again w16 (2 ^ 16) (to_le_bytes w16) wide16 (is_between 64 1006) kinds.Geometry
+    let two = field_again kinds.Short w16 (2 ^ 16) (to_le_bytes w16) wide16 (is_between 64 1006)
+    kinds.Geometry
     (at + 2) (at + 4) bytes g.rows middle (omega (arith, rows.1)) b.rows in
-    let three = field_again w16 (2 ^ 16) (to_le_bytes w16) wide16 (λ words. is_between 1 1024 words
+    let three = field_again kinds.Short w16 (2 ^ 16) (to_le_bytes w16) wide16
+    (λ words. is_between 1 1024 words
     && fits_size (record { banks = g.banks; rows = g.rows; words = words })) kinds.Geometry (at
     + 4) (at + 6) bytes g.words last (omega (arith, words.1)) (rw (b.words, b.size) refl) in
     rw (one, two, three) refl
@@ -245,7 +254,8 @@ unfolding table_at
 table_takes g at bytes table fits e =
     let a = bind_ok (field_at w16 (λ count. leb count 256) kinds.Object at bytes)
     (λ count. objects_at count g [] (at + 2) bytes) table e in
-    let count = field_takes w16 (2 ^ 16) (to_le_bytes w16) wide16 (λ count. leb count 256)
+    let count = field_takes kinds.Short w16 (2 ^ 16) (to_le_bytes w16) wide16
+    (λ count. leb count 256)
     kinds.Object at (at + 2) bytes a.0 fits a.1 refl in
     let r = objects_take a.0 g [] (at + 2) bytes table fits (no_listed g)
     (omega (arith, le_is a.0 256 count.2)) count.0.within a.2 in
@@ -330,7 +340,7 @@ object_size g earlier named f =
       arith,
       length-append (name_bytes named.0) (named.1.width ∷ to_le_bytes w16 named.1.base
           ++ to_le_bytes w32 named.1.count),
-      name_size named.0 short,
+      name_size named.0 f.name,
     )
 
 objects_again : (more : List Named) (g : Geometry) (earlier : List Named) (at : ℕ) (bytes : List ℕ)
@@ -370,7 +380,8 @@ table_again g at bytes table is t h =
     let back = Holds-back bytes at (to_le_bytes w16 (length table)) (at + 2)
     (flat_map object_bytes table) (at + 2 + 24 * length table) h refl in
     let few = t.listed.few in
-    let count = field_again w16 (2 ^ 16) (to_le_bytes w16) wide16 (λ count. leb count 256)
+    let count = field_again kinds.Short w16 (2 ^ 16) (to_le_bytes w16) wide16
+    (λ count. leb count 256)
     kinds.Object at (at + 2) bytes (length table) front (omega arith)
     (is-le (length table) 256 few) in
     rw (count, objects_again table g [] (at + 2) bytes is t back) refl
@@ -389,7 +400,7 @@ rows_take g at bytes rows e =
     let whole : length bytes ≡ at + rows_size g =
     eqb-true _ _ (rule_ok (eqb (length bytes) (at + rows_size g)) (at + rows_size g) kinds.Rest
     b.0 b.1) in
-    let t = bytes_takes (rows_size g) at (length bytes) bytes a.0 a.1 whole in
+    let t = bytes_takes kinds.Short (rows_size g) at (length bytes) bytes a.0 a.1 whole in
     subst (λ (r : List ℕ). Holds bytes at r (length bytes)
     × (length r ≡ rows_size g)) (ok_is a.0 rows b.2) t
 
@@ -398,4 +409,7 @@ pub rows_again : (g : Geometry) (at : ℕ) (bytes rows : List ℕ) → Holds byt
 unfolding rows_at
 rows_again g at bytes rows h size =
     let whole : length bytes ≡ at + rows_size g = h.ends ∙ ap (λ (n : ℕ). at + n) size in
-    rw (bytes_again (rows_size g) at (length bytes) bytes rows h size, eq-eqb _ _ whole) refl
+    rw (
+      bytes_again kinds.Short (rows_size g) at (length bytes) bytes rows h size,
+      eq-eqb _ _ whole,
+    ) refl

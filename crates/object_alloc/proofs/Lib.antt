@@ -1,7 +1,6 @@
 mod Bases
 pub mod Tables
 mod Least
-mod Held
 mod Records
 mod Objects
 mod Images

@@ -1,13 +1,9 @@
 -- The record of an object is its spelling, and its spelling is read.
-use Rattle.std.proofs.Common.{◌≡◌, ℕ, zero, suc, ◌+◌, ◌-◌, ◌*◌, ◌^◌, ◌<◌, ◌≤◌, Bool, true, false}
-use Rattle.std.proofs.Common.{not, ◌&&◌, eqb, leb, List, [], ◌∷◌, ◌++◌, length, take, drop}
-use Rattle.std.proofs.Common.{replicate, Ok, refl, sym, ap, subst, ◌∙◌, arith}
+use Rattle.std.proofs.Common.{◌≡◌, ℕ, ◌+◌, ◌*◌, ◌^◌, ◌<◌, ◌≤◌, true, false}
+use Rattle.std.proofs.Common.{leb, List, [], ◌∷◌, ◌++◌, length}
+use Rattle.std.proofs.Common.{Ok, refl, subst, arith}
 use Rattle.std.specs.Int.{w8, w16, w32, to_le_bytes}
-use Rattle.std.specs.List.{list_all}
-use Rattle.std.proofs.lemmas.Bool.{eqb-true}
 use Rattle.std.proofs.lemmas.Bool.Decides.{nat_tests}
-use Rattle.std.proofs.lemmas.List.{take_at, drop_at, take-append-drop, length-append, length-take}
-use Rattle.std.proofs.lemmas.List.{length-drop, length-replicate}
 use Rattle.bit_rows.specs.declared.TheConstants.{WIDTH_MAX}
 use Rattle.dram_model.specs.declared.geometry.Geometry.{Geometry}
 use Rattle.dram_model.specs.Geometry.{is_between}
@@ -16,118 +12,14 @@ use Rattle.text_lex.specs.Spelled.{fits_name}
 use Rattle.object_alloc.specs.declared.fault.ImageKind.TheVariants as kinds
 use Rattle.object_alloc.specs.Free.{are_free, end_of}
 use Rattle.object_alloc.specs.Listed.{Named, objects_of, has_name, limit_of}
-use Rattle.object_alloc.specs.Bytes.{IsBytes}
-use Rattle.object_alloc.specs.Spelling.{name_bytes, object_bytes, IsObject}
-use Rattle.object_alloc.specs.Reading.{◌>>=◌, rule, bytes_at, field_at, is_new_name, name_at}
+use Rattle.object_alloc.specs.Spelling.{object_bytes, IsObject}
+use Rattle.object_alloc.specs.Reading.{field_at, name_at}
 use Rattle.object_alloc.specs.Reading.{place_at, count_at, object_at}
-use Rattle.object_alloc.proofs.Held.{Holds, Holds-then, Holds-front, Holds-back, bind_ok, ok_is}
-use Rattle.object_alloc.proofs.Held.{rule_ok, bytes_takes, bytes_again, wide8, wide16, wide32}
-use Rattle.object_alloc.proofs.Held.{field_takes, field_again}
-
-pub both : (a b : Bool) → (a && b) ≡ true → (a ≡ true) × (b ≡ true)
-both true b h = (refl, h)
-both false b h = absurd cc
-
-pub between_is : (low high n : ℕ) → is_between low high n ≡ true → (low ≤ n) × (n ≤ high)
-between_is low high n h = (grind (arith, nat_tests), grind (arith, nat_tests))
-
-pub is-between : (low high n : ℕ) → low ≤ n → n ≤ high → is_between low high n ≡ true
-is-between low high n l h = grind (arith, nat_tests)
-
-zeros_are : (bytes : List ℕ) → list_all (λ b. eqb b 0) bytes ≡ true
-    → bytes ≡ replicate (length bytes) 0
-zeros_are [] h = refl
-zeros_are (b ∷ bytes) h =
-    let t = both (eqb b 0) (list_all (λ c. eqb c 0) bytes) h in
-    let first : b ≡ 0 = eqb-true _ _ t.0 in
-    rw first (ap (λ (bs : List ℕ). 0 ∷ bs) (zeros_are bytes t.1))
-
-are-zeros : (n : ℕ) → list_all (λ b. eqb b 0) (replicate n 0) ≡ true
-are-zeros zero = refl
-are-zeros (suc n) = are-zeros n
-
-is_not : (b : Bool) → not b ≡ true → b ≡ false
-is_not true h = absurd cc
-is_not false h = refl
-
--- ---- the name
-
--- a field of 16 bytes with a name in front and zeros behind
-padded_is : (len : ℕ) (field : List ℕ) → length field ≡ 16 → len ≤ 16
-    → list_all (λ b. eqb b 0) (drop len field) ≡ true → (len ∷ field) ≡ name_bytes (take len field)
-padded_is len field e l z =
-    let size : length (take len field) ≡ len = omega (arith, length-take len field) in
-    let count : length (drop len field) ≡ 16 - len = omega (arith, length-drop len field) in
-    let zeros : drop len field ≡ replicate (16 - len) 0 = zeros_are (drop len field) z
-    ∙ ap (λ (n : ℕ). replicate n 0) count in
-    let whole : field ≡ take len field ++ replicate (16 - len) 0 = sym (take-append-drop len field)
-    ∙ ap (λ (r : List ℕ). take len field ++ r) zeros in
-    let text : ℕ → List ℕ = λ n. n ∷ (take len field ++ replicate (16 - n) 0) in
-    ap (λ (f : List ℕ). len ∷ f) whole ∙ ap text (sym size)
-
-pub name_takes : (earlier : List Named) (at : ℕ) (bytes name : List ℕ) → IsBytes bytes
-    → name_at earlier at bytes ≡ Ok name
-    → Holds bytes at (name_bytes name) (at + 17) × (fits_name name ≡ true)
-    × (has_name earlier name ≡ false)
-unfolding name_at
-name_takes earlier at bytes name fits e =
-    let a = bind_ok (field_at w8 (is_between 1 16) kinds.Object at bytes)
-    (λ len. bytes_at 16 (at + 1) bytes >>= λ field. rule (is_new_name earlier len field) (at
-    + 1) kinds.Object >>= λ _. Ok (take len field)) name e in
-    let b = bind_ok (bytes_at 16 (at + 1) bytes)
-    (λ field. rule (is_new_name earlier a.0 field) (at + 1) kinds.Object >>= λ _.
-    Ok (take a.0 field)) name a.2 in
-    let c = bind_ok (rule (is_new_name earlier a.0 b.0) (at + 1) kinds.Object) (λ _.
-    Ok (take a.0 b.0)) name b.2 in
-    let len = field_takes w8 256 (λ n. n ∷ []) wide8 (is_between 1 16) kinds.Object at (at + 1)
-    bytes a.0 fits a.1 refl in
-    let field = bytes_takes 16 (at + 1) (at + 17) bytes b.0 b.1 (omega arith) in
-    let new = both (fits_name (take a.0 b.0)) (list_all (λ z. eqb z 0) (drop a.0 b.0)
-    && not (has_name earlier (take a.0 b.0)))
-    (rule_ok (is_new_name earlier a.0 b.0) (at + 1) kinds.Object c.0 c.1) in
-    let others = both (list_all (λ z. eqb z 0) (drop a.0 b.0))
-    (not (has_name earlier (take a.0 b.0))) new.1 in
-    let short = between_is 1 16 a.0 len.2 in
-    let spelled : (a.0 ∷ b.0) ≡ name_bytes (take a.0 b.0) =
-    padded_is a.0 b.0 field.1 short.1 others.0 in
-    let held : Holds bytes at (a.0 ∷ b.0) (at + 17) =
-    Holds-then bytes at (a.0 ∷ []) (at + 1) b.0 (at + 17) len.0 field.0 in
-    let named : Holds bytes at (name_bytes (take a.0 b.0)) (at + 17) =
-    subst (λ (t : List ℕ). Holds bytes at t (at + 17)) spelled held in
-    subst (λ (n : List ℕ). Holds bytes at (name_bytes n) (at + 17) × (fits_name n ≡ true)
-    × (has_name earlier n ≡ false)) (ok_is (take a.0 b.0) name c.2) (
-      named,
-      new.0,
-      is_not (has_name earlier (take a.0 b.0)) others.1,
-    )
-
-pub name_short : (name : List ℕ) → fits_name name ≡ true → (1 ≤ length name) × (length name ≤ 16)
-name_short [] h = absurd cc
-name_short (b ∷ bs) h = let t = both _ (leb (length (b ∷ bs)) 16) h in
-    (omega arith, grind (arith, nat_tests))
-
-pub name_again : (earlier : List Named) (at : ℕ) (bytes name : List ℕ)
-    → Holds bytes at (name_bytes name) (at + 17) → fits_name name ≡ true
-    → has_name earlier name ≡ false → name_at earlier at bytes ≡ Ok name
-unfolding name_at
-name_again earlier at bytes name h ok new =
-    let short = name_short name ok in
-    let padding : List ℕ = replicate (16 - length name) 0 in
-    let front = Holds-front bytes at (length name ∷ []) (at + 1) (name ++ padding) (at + 17) h refl
-    in
-    let back = Holds-back bytes at (length name ∷ []) (at + 1) (name ++ padding) (at + 17) h refl in
-    let size : length (name ++ padding) ≡ 16 =
-    omega (arith, length-append name padding, length-replicate {A = ℕ} (16 - length name) 0) in
-    let len = field_again w8 256 (λ n. n ∷ []) wide8 (is_between 1 16) kinds.Object at (at + 1)
-    bytes (length name) front (omega arith) (is-between 1 16 (length name) short.0 short.1) in
-    let field = bytes_again 16 (at + 1) (at + 17) bytes (name ++ padding) back size in
-    let taken : take (length name) (name ++ padding) ≡ name =
-    take_at name padding (length name) refl in
-    let rest : drop (length name) (name ++ padding) ≡ padding =
-    drop_at name padding (length name) refl in
-    let passes : is_new_name earlier (length name) (name ++ padding) ≡ true =
-    rw (taken, rest, ok, new) (rw (are-zeros (16 - length name)) refl) in
-    rw (len, field, passes, taken) refl
+use Rattle.file_fields.specs.Fields.{IsBytes, name_bytes, ◌>>=◌, rule}
+use Rattle.file_fields.proofs.Held.{Holds, Holds-then, Holds-front, Holds-back, bind_ok, ok_is}
+use Rattle.file_fields.proofs.Held.{rule_ok, wide8, wide16, wide32, field_takes, field_again}
+use Rattle.file_fields.proofs.NameField.{name_takes, name_again}
+use Rattle.file_fields.proofs.Padded.{between_is, is-between, name_size}
 
 -- ---- the place
 
@@ -157,9 +49,10 @@ place_takes g earlier at bytes x fits e =
     kinds.Overlap >>= λ _. Ok (a.0, base)) x a.2 in
     let c = bind_ok (rule (are_free (limit_of g) (objects_of earlier) a.0 b.0) (at + 1)
     kinds.Overlap) (λ _. Ok (a.0, b.0)) x b.2 in
-    let width = field_takes w8 256 (λ n. n ∷ []) wide8 (is_between 1 WIDTH_MAX) kinds.Object at (at
+    let width = field_takes kinds.Short w8 256 (λ n. n ∷ []) wide8 (is_between 1 WIDTH_MAX)
+    kinds.Object at (at
     + 1) bytes a.0 fits a.1 refl in
-    let base = field_takes w16 (2 ^ 16) (to_le_bytes w16) wide16
+    let base = field_takes kinds.Short w16 (2 ^ 16) (to_le_bytes w16) wide16
     (λ base. leb (base + a.0) (limit_of g)) kinds.Object (at + 1) (at + 3) bytes b.0 fits b.1
     (omega arith) in
     let wide = between_is 1 WIDTH_MAX a.0 width.2 in
@@ -182,10 +75,11 @@ unfolding place_at
 place_again g earlier at bytes width base small h p =
     let front = Holds-front bytes at (width ∷ []) (at + 1) (to_le_bytes w16 base) (at + 3) h refl in
     let back = Holds-back bytes at (width ∷ []) (at + 1) (to_le_bytes w16 base) (at + 3) h refl in
-    let first = field_again w8 256 (λ n. n ∷ []) wide8 (is_between 1 WIDTH_MAX) kinds.Object at (at
+    let first = field_again kinds.Short w8 256 (λ n. n ∷ []) wide8 (is_between 1 WIDTH_MAX)
+    kinds.Object at (at
     + 1) bytes width front (omega (arith, p.narrow))
     (is-between 1 WIDTH_MAX width p.some p.narrow) in
-    let second = field_again w16 (2 ^ 16) (to_le_bytes w16) wide16 (λ b.
+    let second = field_again kinds.Short w16 (2 ^ 16) (to_le_bytes w16) wide16 (λ b.
     leb (b + width) (limit_of g)) kinds.Object (at + 1) (at + 3) bytes base back
     (omega (arith, p.within)) (is-le (base + width) (limit_of g) p.within) in
     rw (first, second, p.free) refl
@@ -199,13 +93,6 @@ pub record Follows (g : Geometry) (earlier : List Named) (named : Named) : Type 
   pub object : IsObject g named.1
   pub within : end_of named.1 ≤ limit_of g
   pub free : are_free (limit_of g) (objects_of earlier) named.1.width named.1.base ≡ true
-
-pub name_size : (name : List ℕ) → length name ≤ 16 → length (name_bytes name) ≡ 17
-name_size name short = omega (
-  arith,
-  length-append name (replicate (16 - length name) 0),
-  length-replicate {A = ℕ} (16 - length name) 0,
-)
 
 pub object_takes : (g : Geometry) (earlier : List Named) (at : ℕ) (bytes : List ℕ) (named : Named)
     → IsBytes bytes → object_at g earlier at bytes ≡ Ok named
@@ -222,9 +109,9 @@ object_takes g earlier at bytes named fits e =
     )) named a.2 in
     let c = bind_ok (count_at g (at + 20) bytes)
     (λ count. Ok (a.0, record { base = b.0.1; width = b.0.0; count = count })) named b.2 in
-    let name = name_takes earlier at bytes a.0 fits a.1 in
+    let name = name_takes kinds.Short kinds.Object (has_name earlier) at bytes a.0 fits a.1 in
     let place = place_takes g earlier (at + 17) bytes b.0 fits b.1 in
-    let count = field_takes w32 (2 ^ 32) (to_le_bytes w32) wide32
+    let count = field_takes kinds.Short w32 (2 ^ 32) (to_le_bytes w32) wide32
     (is_between 1 (column_count g * g.banks)) kinds.Object (at + 20) (at + 24) bytes c.0 fits
     c.1 (omega arith) in
     let some = between_is 1 (column_count g * g.banks) c.0 count.2 in
@@ -261,7 +148,7 @@ unfolding object_at count_at
 object_again g earlier at bytes named small few h f =
     let o = named.1 in
     let name_len : length (name_bytes named.0) ≡ 17 =
-    name_size named.0 (name_short named.0 f.name).1 in
+    name_size named.0 f.name in
     let front = Holds-front bytes at (name_bytes named.0) (at + 17) (o.width
     ∷ to_le_bytes w16 o.base ++ to_le_bytes w32 o.count) (at + 24) h (omega (arith, name_len))
     in
@@ -278,9 +165,10 @@ object_again g earlier at bytes named small few h f =
       within = f.within;
       free = f.free;
     } in
-    let first = name_again earlier at bytes named.0 front f.name f.new in
+    let first = name_again kinds.Short kinds.Object (has_name earlier) at bytes named.0 front f.name
+    f.new in
     let second = place_again g earlier (at + 17) bytes o.width o.base small place is in
-    let third = field_again w32 (2 ^ 32) (to_le_bytes w32) wide32
+    let third = field_again kinds.Short w32 (2 ^ 32) (to_le_bytes w32) wide32
     (is_between 1 (column_count g * g.banks)) kinds.Object (at + 20) (at + 24) bytes o.count
     count (omega (arith, f.object.fits)) (is-between 1 (column_count g * g.banks) o.count
     f.object.some f.object.fits) in

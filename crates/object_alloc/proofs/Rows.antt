@@ -15,10 +15,11 @@ use Rattle.bit_rows.specs.Bits.{bits, value, bit_number}
 use Rattle.bit_rows.proofs.Words.{length-bits, bits-cons}
 use Rattle.dram_model.specs.declared.geometry.Geometry.{Geometry}
 use Rattle.dram_model.specs.Elements.{column_count}
-use Rattle.object_alloc.specs.Bytes.{bits_of_bytes, bytes_of_bits, IsBytes}
+use Rattle.object_alloc.specs.Bytes.{bits_of_bytes, bytes_of_bits}
 use Rattle.object_alloc.specs.Spelling.{Rows, rows_bytes, row_at, rows_in}
 use Rattle.object_alloc.specs.Reading.{rows_size}
 use Rattle.object_alloc.proofs.Pieces.{joined_all, flat_map-range, length-pieces, piece_at}
+use Rattle.file_fields.specs.Fields.{IsBytes}
 
 low_bit : (v : ℕ) → bit_number (v % 2 == 1) + 2 * (v / 2) ≡ v
 low_bit v = grind (arith, nat_tests)

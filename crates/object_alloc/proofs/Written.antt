@@ -11,13 +11,14 @@ use Rattle.std.proofs.lemmas.List.{take_all, take_more}
 use Rattle.bit_rows.specs.Bits.{bits}
 use Rattle.dram_model.specs.declared.geometry.Geometry.{Geometry}
 use Rattle.dram_model.specs.Elements.{column_count}
-use Rattle.object_alloc.specs.Bytes.{bits_of_bytes, bytes_of_bits, IsBytes}
+use Rattle.object_alloc.specs.Bytes.{bits_of_bytes, bytes_of_bits}
 use Rattle.object_alloc.specs.Spelling.{object_bytes, head_bytes, rows_bytes, blank_rows}
 use Rattle.object_alloc.specs.Spelling.{image_bytes, opening_bytes, geometry_bytes}
 use Rattle.object_alloc.specs.Listed.{Named}
 use Rattle.object_alloc.specs.Reading.{rows_size}
 use Rattle.object_alloc.proofs.Pieces.{flat_map-range}
 use Rattle.object_alloc.proofs.Rows.{bytes-bits, whole_size}
+use Rattle.file_fields.specs.Fields.{IsBytes}
 
 pub five : (start a b c d e : List ℕ) → ((((start ++ a) ++ b) ++ c) ++ d) ++ e
     ≡ start ++ ((a ++ b) ++ (c ++ (d ++ e)))

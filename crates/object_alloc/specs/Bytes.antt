@@ -1,5 +1,5 @@
 -- Rows of bits as bytes.
-use Rattle.std.specs.Prelude.{ℕ, ◌*◌, ◌<◌, List, Bool, map, flat_map, take, drop, slice_index_or}
+use Rattle.std.specs.Prelude.{ℕ, ◌*◌, List, Bool, map, flat_map, take, drop}
 use Rattle.std.specs.List.{range_with_len}
 use Rattle.bit_rows.specs.Bits.{bits, value}
 
@@ -10,7 +10,3 @@ bits_of_bytes bytes = flat_map (λ byte. bits byte 8) bytes
 -- so many bytes of bits, the lowest bit of each byte first
 abbrev pub bytes_of_bits : ℕ → List Bool → List ℕ
 bytes_of_bits count row = map (λ k. value (take 8 (drop (8 * k) row))) (range_with_len 0 count)
-
--- each is a byte
-abbrev pub IsBytes : List ℕ → Type 0
-IsBytes bytes = (i : ℕ) → slice_index_or bytes i 0 < 256

@@ -2,10 +2,10 @@
 use Rattle.std.specs.Prelude.{◌≡◌, ℕ, ◌<◌, List, Ok}
 use Rattle.dram_model.specs.declared.geometry.Geometry.{Geometry}
 use Rattle.object_alloc.specs.declared.image.Image.{Image}
-use Rattle.object_alloc.specs.Bytes.{IsBytes}
 use Rattle.object_alloc.specs.Listed.{Named}
 use Rattle.object_alloc.specs.Spelling.{Rows, rows_bytes, rows_in, image_bytes, IsImage}
 use Rattle.object_alloc.specs.Reading.{Found, image_in}
+use Rattle.file_fields.specs.Fields.{IsBytes}
 
 -- what was found, without where it lies in memory
 abbrev pub found_in : Image → Found

@@ -1,79 +1,50 @@
 -- Reading an image file field by field: what it holds, or the first field that is not whole or
 -- breaks its rule.
-use Rattle.std.specs.Prelude.{◌≡◌, ℕ, zero, suc, ◌+◌, ◌*◌, Bool, ◌&&◌, not, nat_le, nat_lt, ◌==◌}
-use Rattle.std.specs.Prelude.{List, [], ◌∷◌, ◌++◌, length, take, drop, Result, Ok, Err}
-use Rattle.std.specs.Prelude.{if◌then◌else◌, codes}
-use Rattle.std.specs.Int.{Width, w8, w16, w32, byte_len, from_le_bytes}
-use Rattle.std.specs.List.{list_all}
+use Rattle.std.specs.Prelude.{◌≡◌, ℕ, zero, suc, ◌+◌, ◌*◌, Bool, ◌&&◌, nat_le, ◌==◌}
+use Rattle.std.specs.Prelude.{List, [], ◌∷◌, ◌++◌, length, Result, Ok, Err}
+use Rattle.std.specs.Prelude.{codes}
+use Rattle.std.specs.Int.{Width, w8, w16, w32}
 use Rattle.std.specs.Str.{bytes_eq}
 use Rattle.bit_rows.specs.declared.TheConstants.{WIDTH_MAX}
 use Rattle.dram_model.specs.declared.geometry.Geometry.{Geometry}
 use Rattle.dram_model.specs.Geometry.{is_between, fits_size}
 use Rattle.dram_model.specs.Elements.{column_count}
-use Rattle.text_lex.specs.Spelled.{fits_name}
 use Rattle.object_alloc.specs.declared.fault.ImageKind.{ImageKind}
 use Rattle.object_alloc.specs.declared.fault.ImageKind.TheVariants as kinds
-use Rattle.object_alloc.specs.declared.fault.ImageFault.{ImageFault}
 use Rattle.object_alloc.specs.declared.fault.ImageNo.{ImageNo}
 use Rattle.object_alloc.specs.declared.fault.ImageNo.TheVariants as no
 use Rattle.object_alloc.specs.Free.{are_free}
 use Rattle.object_alloc.specs.Listed.{Named, objects_of, has_name, limit_of}
+use Rattle.file_fields.specs.declared.faults.FileFault.{FileFault}
+use Rattle.file_fields.specs.Fields as fields
+use Rattle.file_fields.specs.Fields.{◌>>=◌, rule}
 
-infixl 10 ◌>>=◌
-abbrev pub ◌>>=◌ : {A B : Type 0} → Result A ImageFault → (A → Result B ImageFault)
-    → Result B ImageFault
-(Ok x) >>= f = f x
-(Err e) >>= f = Err e
-
-abbrev pub fault_at : ℕ → ImageKind → ImageFault
-fault_at at kind = record { at = at; kind = kind }
-
--- What a function returned, seen by view, is what reading gives.
-abbrev pub Gives : {X Y : Type 0} → (X → Y) → Result X ImageFault → Result Y ImageFault → Type 0
-Gives view (Ok x) read = read ≡ Ok (view x)
-Gives view (Err f) read = read ≡ Err f
+abbrev pub ImageFault : Type 0
+ImageFault = FileFault ImageKind
 
 abbrev pub IsFault : {Y : Type 0} → ImageNo → Result Y ImageFault → Type 0
 IsFault (no.Fault f) read = read ≡ Err f
 IsFault no.NoMemory read = Unit {0}
 
--- The same, unless memory ran out.
+-- What a function returned, seen by view, is what reading gives, unless memory ran out.
 abbrev pub Answers : {X Y : Type 0} → (X → Y) → Result X ImageNo → Result Y ImageFault → Type 0
 Answers view (Ok x) read = read ≡ Ok (view x)
 Answers view (Err e) read = IsFault e read
 
--- a rule of the field at a place
-abbrev pub rule : Bool → ℕ → ImageKind → Result (Unit {0}) ImageFault
-rule holds at kind = if holds then Ok tt else Err (fault_at at kind)
-
--- so many bytes from a place on. A file that ends before is Short at its length
+-- So many bytes from a place on, the number of a width there, and a number that has to pass a test.
+-- A file that ends before is Short at its length.
 abbrev pub bytes_at : ℕ → ℕ → List ℕ → Result (List ℕ) ImageFault
-bytes_at len at bytes = if nat_lt (length bytes) (at + len)
-    then Err (fault_at (length bytes) kinds.Short) else Ok (take len (drop at bytes))
+bytes_at = fields.bytes_at kinds.Short
 
--- the number of that width at a place, the low byte first
 abbrev pub number_at : Width → ℕ → List ℕ → Result ℕ ImageFault
-number_at w at bytes = bytes_at (byte_len w) at bytes >>= λ field. Ok (from_le_bytes w field)
+number_at = fields.number_at kinds.Short
 
--- a number that has to pass a test
 abbrev pub field_at : Width → (ℕ → Bool) → ImageKind → ℕ → List ℕ → Result ℕ ImageFault
-field_at w passes kind at bytes = do
-  n ← number_at w at bytes
-  fits ← rule (passes n) at kind
-  Ok n
+field_at = fields.field_at kinds.Short
 
--- the first so many bytes of the field are a name, which none of these objects has, and the others
--- are 0
-abbrev pub is_new_name : List Named → ℕ → List ℕ → Bool
-is_new_name earlier len field = fits_name (take len field)
-    && (list_all (λ b. b == 0) (drop len field) && not (has_name earlier (take len field)))
-
-unfoldable pub name_at : List Named → ℕ → List ℕ → Result (List ℕ) ImageFault
-name_at earlier at bytes = do
-  len ← field_at w8 (is_between 1 16) kinds.Object at bytes
-  field ← bytes_at 16 (at + 1) bytes
-  new ← rule (is_new_name earlier len field) (at + 1) kinds.Object
-  Ok (take len field)
+-- a name that none of these objects has
+abbrev pub name_at : List Named → ℕ → List ℕ → Result (List ℕ) ImageFault
+name_at earlier = fields.name_at kinds.Short kinds.Object (has_name earlier)
 
 -- the width and the base of an object
 unfoldable pub place_at : Geometry → List Named → ℕ → List ℕ → Result (ℕ × ℕ) ImageFault

@@ -1,5 +1,5 @@
 -- The one spelling of an image file, and what an image may be.
-use Rattle.std.specs.Prelude.{◌≡◌, ℕ, ◌+◌, ◌-◌, ◌*◌, ◌<◌, ◌≤◌, true, false, List, ◌∷◌, ◌++◌, Bool}
+use Rattle.std.specs.Prelude.{◌≡◌, ℕ, ◌+◌, ◌*◌, ◌<◌, ◌≤◌, true, false, List, ◌∷◌, ◌++◌, Bool}
 use Rattle.std.specs.Prelude.{flat_map, length, take, drop, replicate, codes, All}
 use Rattle.std.specs.List.{range_with_len}
 use Rattle.std.specs.Int.{to_le_bytes, w16, w32}
@@ -9,12 +9,9 @@ use Rattle.dram_model.specs.Geometry.{is_geometry}
 use Rattle.dram_model.specs.Elements.{column_count}
 use Rattle.text_lex.specs.Spelled.{fits_name}
 use Rattle.object_alloc.specs.declared.table.Object.{Object}
+use Rattle.file_fields.specs.Fields.{name_bytes}
 use Rattle.object_alloc.specs.Bytes.{bits_of_bytes, bytes_of_bits}
 use Rattle.object_alloc.specs.Listed.{Named, IsTable, limit_of}
-
--- a name's 17 bytes: its length, its bytes, and zeros
-abbrev pub name_bytes : List ℕ → List ℕ
-name_bytes name = length name ∷ name ++ replicate (16 - length name) 0
 
 -- the 24 bytes of an object
 abbrev pub object_bytes : Named → List ℕ

@@ -1,9 +1,7 @@
 //! Where an image file breaks a rule.
 
-ghost use Rattle.std.specs.Prelude.{◌≡◌, ◌<◌, ◌^◌};
-ghost use Rattle.object_alloc.specs.Reading.{Gives, rule as rule_of, fault_at};
-
-use bit_rows::NoMemory;
+use file_fields::FileFault;
+use no_memory::NoMemory;
 
 /// What a field of an image file breaks. A file that ends inside a field is `Short`.
 #[derive(Clone, Copy, Debug, PartialEq, Eq)]
@@ -18,13 +16,8 @@ pub enum ImageKind {
 }
 
 /// The first field that breaks a rule, by the place of its first byte. `Short` and `Rest` are at
-/// the end: that of the
-/// file, and that of the image.
-#[derive(Clone, Copy, Debug, PartialEq, Eq)]
-pub struct ImageFault {
-    pub at: u32,
-    pub kind: ImageKind,
-}
+/// the end: that of the file, and that of the image.
+pub type ImageFault = FileFault<ImageKind>;
 
 /// Why no image was read.
 #[derive(Clone, Copy, Debug, PartialEq, Eq)]
@@ -53,21 +46,4 @@ impl From<NoMemory> for ImageNo {
     fn from(_no: NoMemory) -> ImageNo {
         ImageNo::NoMemory
     }
-}
-
-pub(crate) fn fault(at: usize, kind: ImageKind) -> ImageFault
-    requires { at < 2 ^ 32 }
-    ensures { result ≡ fault_at at kind }
-{
-    ImageFault {
-        at: at as u32,
-        kind,
-    }
-}
-
-pub(crate) fn rule(holds: bool, at: usize, kind: ImageKind) -> Result<(), ImageFault>
-    requires { at < 2 ^ 32 }
-    ensures { Gives (λ x. x) result (rule_of holds at kind) }
-{
-    if holds { Ok(()) } else { Err(fault(at, kind)) }
 }

@@ -8,42 +8,36 @@ ghost use Rattle.dram_model.specs.declared.geometry.Geometry.{Geometry};
 ghost use Rattle.object_alloc.specs.Exact.{ReadsExactly, found_in};
 ghost use Rattle.object_alloc.specs.Listed.{Named, has_name, limit_of};
 ghost use Rattle.object_alloc.specs.Spelling.{Rows, IsImage, image_bytes, rows_bytes, rows_in};
-ghost use Rattle.object_alloc.specs.Reading.{Gives, Answers, name_at, place_at, count_at};
+ghost use Rattle.object_alloc.specs.Reading.{Answers, name_at, place_at, count_at};
 ghost use Rattle.object_alloc.specs.Reading.{object_at, objects_at, table_at, geometry_at};
 ghost use Rattle.object_alloc.specs.Reading.{opening_in, rows_at, rows_size, rows_start, image_in};
+ghost use Rattle.file_fields.specs.Fields.{Gives};
 
-use crate::fault::{ImageFault, ImageKind, ImageNo, fault, rule};
-use crate::fields::{bytes_at, u8_at, u16_at, u32_at};
+use crate::fault::{ImageFault, ImageKind, ImageNo};
 use crate::image::Image;
+use crate::sizes::{HEAD_BYTES, OBJECTS_MAX, RECORD_BYTES};
 use crate::table::{Object, Table};
 use bit_rows::WIDTH_MAX;
 use dram_model::Geometry;
+use file_fields::{bytes_at, fault, padded_name, rule, u8_at, u16_at, u32_at};
 use std::alloc::Global;
 use text_lex::Name;
 
-fn all_zero(bytes: &[u8]) -> bool
-    ensures { result ≡ list_all (λ b. b == 0) bytes.now }
-{
-    bytes.iter().all(|b| *b == 0)
-}
-
 /// The name at a place, which none of the earlier objects has.
-#[tactic(auto, unfolding(crate::specs::Reading::name_at))]
+#[tactic(auto, unfolding(file_fields::specs::Fields::name_at))]
 fn name_of(earlier: &Table, bytes: &[u8], at: usize) -> Result<Name, ImageFault>
     requires small { length bytes.now < 2 ^ 32 }
     requires place { at ≤ length bytes.now }
     ensures gives { Gives (λ name. name) result (name_at earlier.now.pairs at bytes.now) }
     ensures within { OnOk result (at + 17 ≤ length bytes.now) }
 {
-    let len = u8_at(bytes, at)?;
+    let len = u8_at(bytes, at, ImageKind::Short)?;
     rule((1..=16).contains(&len), at, ImageKind::Object)?;
-    let field = bytes_at(bytes, at + 1, 16)?;
-    let (front, behind) = field.split_at(usize::from(len));
-    let Some(name) = Name::new(front) else {
+    let field = bytes_at(bytes, at + 1, 16, ImageKind::Short)?;
+    let Some(name) = padded_name(len, field) else {
         return Err(fault(at + 1, ImageKind::Object));
     };
-    rule(all_zero(behind), at + 1, ImageKind::Object)?;
-    rule(!earlier.has_name(front), at + 1, ImageKind::Object)?;
+    rule(!earlier.has_name(name.bytes()), at + 1, ImageKind::Object)?;
     Ok(name)
 }
 
@@ -57,9 +51,9 @@ fn place_of(g: Geometry, earlier: &Table, bytes: &[u8], at: usize) -> Result<(u8
     ensures gives { Gives (λ x. x) result (place_at g earlier.now.pairs at bytes.now) }
     ensures within { OnOk result (at + 3 ≤ length bytes.now) }
 {
-    let width = u8_at(bytes, at)?;
+    let width = u8_at(bytes, at, ImageKind::Short)?;
     rule((1..=WIDTH_MAX).contains(&width), at, ImageKind::Object)?;
-    let base = u16_at(bytes, at + 1)?;
+    let base = u16_at(bytes, at + 1, ImageKind::Short)?;
     let limit = u32::from(g.rows - Geometry::SPILL_ROWS);
     let end = u32::from(base) + u32::from(width);
     rule(end <= limit, at + 1, ImageKind::Object)?;
@@ -80,7 +74,7 @@ fn count_of(g: Geometry, bytes: &[u8], at: usize) -> Result<u32, ImageFault>
     ensures gives { Gives (λ n. n) result (count_at g at bytes.now) }
     ensures within { OnOk result (at + 4 ≤ length bytes.now) }
 {
-    let count = u32_at(bytes, at)?;
+    let count = u32_at(bytes, at, ImageKind::Short)?;
     let columns = 64 * u32::from(g.words) * u32::from(g.banks);
     rule((1..=columns).contains(&count), at, ImageKind::Object)?;
     Ok(count)
@@ -116,11 +110,11 @@ fn geometry_of(bytes: &[u8], at: usize) -> Result<Geometry, ImageFault>
     ensures geometry { IfOk result (λ g. is_geometry g ≡ true) }
     ensures within { OnOk result (at + 6 ≤ length bytes.now) }
 {
-    let banks = u16_at(bytes, at)?;
+    let banks = u16_at(bytes, at, ImageKind::Short)?;
     rule((1..=16).contains(&banks), at, ImageKind::Geometry)?;
-    let rows = u16_at(bytes, at + 2)?;
+    let rows = u16_at(bytes, at + 2, ImageKind::Short)?;
     rule((64..=1006).contains(&rows), at + 2, ImageKind::Geometry)?;
-    let words = u16_at(bytes, at + 4)?;
+    let words = u16_at(bytes, at + 4, ImageKind::Short)?;
     let g = Geometry { banks, rows, words };
     rule(g.check().is_ok(), at + 4, ImageKind::Geometry)?;
     Ok(g)
@@ -133,9 +127,9 @@ fn opening_of(bytes: &[u8]) -> Result<(), ImageFault>
     ensures gives { Gives (λ x. x) result (opening_in bytes.now) }
     ensures within { OnOk result (6 ≤ length bytes.now) }
 {
-    let magic = bytes_at(bytes, 0, 4)?;
+    let magic = bytes_at(bytes, 0, 4, ImageKind::Short)?;
     rule(magic == b"SDMI".as_slice(), 0, ImageKind::Magic)?;
-    let version = u16_at(bytes, 4)?;
+    let version = u16_at(bytes, 4, ImageKind::Short)?;
     rule(version == 1, 4, ImageKind::Version)?;
     Ok(())
 }
@@ -161,7 +155,7 @@ fn objects_of(
     for _k in 0..count {
         let (name, o) = object_of(g, &table, bytes, place)?;
         table.add(name, o);
-        place += 24;
+        place += RECORD_BYTES;
     }
     Ok(table)
 }
@@ -176,8 +170,8 @@ fn table_of(bytes: &[u8], at: usize, g: Geometry, alloc: Global) -> Result<Table
     ensures limit { IfOk result (λ t. t.limit ≡ limit_of g) }
     ensures within { IfOk result (λ t. at + 2 + 24 * length t.pairs ≤ length bytes.now) }
 {
-    let count = u16_at(bytes, at)?;
-    rule(count <= 256, at, ImageKind::Object)?;
+    let count = u16_at(bytes, at, ImageKind::Short)?;
+    rule(usize::from(count) <= OBJECTS_MAX, at, ImageKind::Object)?;
     objects_of(count, g, bytes, at + 2, alloc)
 }
 
@@ -190,7 +184,7 @@ fn rows_of(g: Geometry, bytes: &[u8], at: usize) -> Result<&[u8], ImageFault>
     ensures gives { Gives (λ rows. rows.now) result (rows_at g at bytes.now) }
 {
     let size = 8 * (usize::from(g.banks) * usize::from(g.rows) * usize::from(g.words));
-    let rows = bytes_at(bytes, at, size)?;
+    let rows = bytes_at(bytes, at, size, ImageKind::Short)?;
     rule(bytes.len() == at + size, at + size, ImageKind::Rest)?;
     Ok(rows)
 }
@@ -205,7 +199,7 @@ fn whole(bytes: &[u8], alloc: Global) -> Result<Image<'_>, ImageNo>
     opening_of(bytes)?;
     let geometry = geometry_of(bytes, 6)?;
     let table = table_of(bytes, 12, geometry, alloc)?;
-    let start = 14 + 24 * usize::from(table.len());
+    let start = HEAD_BYTES + RECORD_BYTES * usize::from(table.len());
     let rows = rows_of(geometry, bytes, start)?;
     Ok(Image {
         geometry,

@@ -6,13 +6,16 @@ ghost use Rattle.std.specs.List.{flat_map};
 ghost use Rattle.arrayvec.specs.ArrayVec.{array_vec_len};
 ghost use Rattle.dram_model.specs.Elements.{column_count};
 ghost use Rattle.dram_model.specs.Geometry.{is_geometry};
-ghost use Rattle.object_alloc.specs.Spelling.{name_bytes, object_bytes, opening_bytes};
+ghost use Rattle.object_alloc.specs.Spelling.{object_bytes, opening_bytes};
 ghost use Rattle.object_alloc.specs.Spelling.{geometry_bytes, head_bytes, image_bytes, blank_rows};
+ghost use Rattle.file_fields.specs.Fields.{name_bytes};
 
+use crate::sizes::{HEAD_BYTES, RECORD_BYTES};
 use crate::table::{Object, Table};
 use arrayvec::ArrayVec;
-use bit_rows::NoMemory;
 use dram_model::Geometry;
+use file_fields::name_field;
+use no_memory::NoMemory;
 use std::alloc::Global;
 use text_lex::Name;
 
@@ -28,26 +31,12 @@ fn put(out: &mut ArrayVec<u8, 24>, bytes: &[u8])
     }
 }
 
-/// A name's length, its bytes, and zeros up to 16.
-fn put_name(out: &mut ArrayVec<u8, 24>, name: &Name)
-    requires { out.old.items ≡ [] }
-    ensures items { out.new.items ≡ name_bytes name.now }
-    ensures len { array_vec_len out.new ≡ 17 }
-{
-    let bytes = name.bytes();
-    out.push(bytes.len() as u8);
-    put(out, bytes);
-    for _k in bytes.len()..16 {
-        out.push(0);
-    }
-}
-
 /// The 24 bytes of an object in an image file.
 pub fn record_of(name: &Name, o: &Object) -> [u8; 24]
     ensures { result ≡ object_bytes (name.now, o.now) }
 {
     let mut record = ArrayVec::new();
-    put_name(&mut record, name);
+    put(&mut record, &name_field(name));
     record.push(o.width);
     put(&mut record, &o.base.to_le_bytes());
     put(&mut record, &o.count.to_le_bytes());
@@ -115,7 +104,7 @@ pub fn put_head(out: &mut Vec<u8>, g: Geometry, table: &Table)
 pub fn image_head(g: Geometry, table: &Table, alloc: Global) -> Result<Vec<u8>, NoMemory>
     ensures { IfOk result (λ head. head.items ≡ head_bytes g table.now.pairs) }
 {
-    let mut head = Vec::with_capacity(alloc, 14 + 24 * usize::from(table.len()))?;
+    let mut head = Vec::with_capacity(alloc, HEAD_BYTES + RECORD_BYTES * usize::from(table.len()))?;
     put_head(&mut head, g, table);
     Ok(head)
 }
@@ -126,9 +115,9 @@ pub fn empty_image(g: Geometry, alloc: Global) -> Result<Vec<u8>, NoMemory>
     ensures { IfOk result (λ file. file.items ≡ image_bytes g [] (blank_rows g)) }
 {
     let size = 8 * (usize::from(g.banks) * usize::from(g.rows) * usize::from(g.words));
-    let mut file = Vec::with_capacity(alloc, 14 + size)?;
+    let mut file = Vec::with_capacity(alloc, HEAD_BYTES + size)?;
     put_opening(&mut file, g);
     append(&mut file, &0u16.to_le_bytes());
-    file.resize(14 + size, 0)?;
+    file.resize(HEAD_BYTES + size, 0)?;
     Ok(file)
 }

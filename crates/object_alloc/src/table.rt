@@ -10,8 +10,9 @@ ghost use Rattle.object_alloc.specs.declared.table.Object.{Object};
 ghost use Rattle.object_alloc.specs.Free.{free, are_free, meets, end_of, IsLeastFree};
 ghost use Rattle.object_alloc.specs.Listed.{IsTable, objects_of, look_up, has_name, without};
 
-use bit_rows::NoMemory;
+use crate::sizes::OBJECTS_MAX;
 use dram_model::Geometry;
+use no_memory::NoMemory;
 use std::alloc::Global;
 use std::marker::Model;
 use text_lex::Name;
@@ -119,13 +120,11 @@ impl Table {
         requires { is_geometry g ≡ true }
         ensures { IfOk result (λ t. t ≡ record { limit = g.rows - 32; pairs = [] }) }
     {
-        match Vec::with_capacity(alloc, 256) {
-            Ok(pairs) => Ok(Table {
-                limit: g.rows - Geometry::SPILL_ROWS,
-                pairs,
-            }),
-            Err(_) => Err(NoMemory),
-        }
+        let pairs = Vec::with_capacity(alloc, OBJECTS_MAX)?;
+        Ok(Table {
+            limit: g.rows - Geometry::SPILL_ROWS,
+            pairs,
+        })
     }
 
     /// The least base of k free rows.

@@ -4,4 +4,3 @@ pub mod Loops
 pub mod Lengths
 pub mod Ending
 pub mod Counts
-pub mod Meeting

@@ -1,15 +1,14 @@
 -- What a text is parsed as.
 use Rattle.std.specs.Prelude.{◌≡◌, ℕ, List, [], ◌∷◌, Some, None, Result, Ok, Err, map}
-use Rattle.text_lex.specs.Lexical.{items_of}
 use Rattle.op_text.specs.declared.tree.Op.{Op}
 use Rattle.op_text.specs.declared.tree.Ops.{Ops}
 use Rattle.op_text.specs.declared.fault.OpsNo.{OpsNo}
 use Rattle.op_text.specs.declared.fault.OpsNo.TheVariants as no
 use Rattle.op_text.specs.declared.grammar.Wanted.TheVariants as w
-use Rattle.op_text.specs.Items.{texts}
 use Rattle.op_text.specs.Language.{operation, operations}
 use Rattle.op_text.specs.Lines.{fault_in}
 use Rattle.op_text.specs.Spelling.{operations_text}
+use Rattle.op_text.specs.OpsOf.{IsOpsOf}
 use Rattle.op_lang.specs.declared.fault.ReadNo.{ReadNo}
 use Rattle.op_lang.specs.Reading.{Reading, breach, Fails, left}
 
@@ -19,11 +18,9 @@ ReadsOps list old (Ok all) = (breach (w.Ops ∷ []) old ≡ None)
     × (left old ≡ operations_text (map operation (list all)))
 ReadsOps list old (Err e) = Fails (breach (w.Ops ∷ []) old) e
 
--- What a text is parsed as: the ops that its tokens spell, where none breaks a rule; or the line
--- and the
--- kind of the first that does; or want of memory.
+-- What a text is parsed as: its ops, where it breaks no rule; or the line and the kind of the first
+-- token that does; or want of memory.
 abbrev pub Parses : List ℕ → Result Ops OpsNo → Type 0
-Parses text (Ok all) = (fault_in text ≡ None)
-    × (texts (items_of text) ≡ operations_text (operations all))
+Parses text (Ok all) = IsOpsOf text (operations all)
 Parses text (Err (no.Fault f)) = fault_in text ≡ Some f
 Parses text (Err no.NoMemory) = Unit {0}

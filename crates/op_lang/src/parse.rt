@@ -15,7 +15,7 @@ use crate::lists::{param, sources};
 use crate::parser::Parser;
 use crate::pieces::{mark, name, op_word};
 use crate::statements::body;
-use op_text::{Op, Ops, OpsFault, OpsNo, Param, Wanted};
+use op_text::{Op, Ops, OpsFault, OpsNo, Param, Wanted, names_are_names};
 use std::alloc::Global;
 
 /// The sources of an op, with their parentheses.
@@ -121,7 +121,11 @@ pub fn parse_ops(text: &[u8], alloc: Global) -> Result<Ops, OpsNo>
 {
     let mut parser = Parser::new(text, alloc);
     match all_ops(&mut parser, alloc) {
-        Ok(ops) => Ok(Ops { ops }),
+        Ok(ops) => {
+            let ops = Ops { ops };
+            names_are_names(&ops);
+            Ok(ops)
+        }
         Err(ReadNo::Memory) => Err(OpsNo::NoMemory),
         Err(ReadNo::Breach(breach)) => Err(OpsNo::Fault(OpsFault {
             line: line_of(text, breach.at),

@@ -1,15 +1,14 @@
 -- The canonical text is read again.
 use Rattle.std.proofs.Common.{◌≡◌, ℕ, ◌+◌, Bool, true, false, not, ◌||◌, ◌&&◌, List, [], ◌∷◌, ◌++◌}
-use Rattle.std.proofs.Common.{length, map, None, refl, sym, ap, ◌∙◌, subst, codes, append_assoc}
+use Rattle.std.proofs.Common.{length, map, refl, sym, ap, ◌∙◌, subst, codes, append_assoc}
 use Rattle.std.proofs.Common.{nat_le}
-use Rattle.std.specs.Option.{option_map}
 use Rattle.std.specs.Char.{is_ascii_digit}
 use Rattle.std.specs.List.{flat_map}
 use Rattle.text_lex.specs.Bytes.{is_name_start}
 use Rattle.text_lex.specs.Spelled.{fits_name}
 use Rattle.text_lex.specs.declared.token.TokenKind.{TokenKind}
 use Rattle.text_lex.specs.declared.token.TokenKind.TheVariants as kinds
-use Rattle.text_lex.specs.Lexical.{Item, Whole, Bad, items_from, items_of, is_token, stops}
+use Rattle.text_lex.specs.Lexical.{Item, Whole, items_from, is_token, stops}
 use Rattle.text_lex.proofs.Back.{reads_token, reads_blank}
 use Rattle.op_text.specs.declared.tree.Kind.{Kind}
 use Rattle.op_text.specs.declared.tree.Kind.TheVariants.{Word, Bit}
@@ -17,9 +16,6 @@ use Rattle.op_text.specs.declared.tree.Op.{Op}
 use Rattle.op_text.specs.declared.tree.WordOp.{WordOp}
 use Rattle.op_text.specs.declared.tree.WordOp.TheVariants as o
 use Rattle.op_text.specs.WordOps.{op_text}
-use Rattle.op_text.specs.Items.{texts}
-use Rattle.op_text.specs.Lines.{fault_of}
-use Rattle.op_text.specs.Rules.{first_breach, nothing_yet}
 use Rattle.op_text.specs.Language.{Term, Nought, Unity, Named, Negation, Conjunction, Disjunction}
 use Rattle.op_text.specs.Language.{Parity, Majority, Equation, Block, Compute, Visit, Operation}
 use Rattle.op_text.specs.Language.{operation}
@@ -28,12 +24,12 @@ use Rattle.op_text.specs.Spelling.{direction_text, start_text, behind_commas, be
 use Rattle.op_text.specs.Spelling.{in_turn, operations_text, HasNames, HasParam, HasState}
 use Rattle.op_text.specs.Spelling.{HasEquation, HasStatement, HasOperation, IsName, Each, MeetRules}
 use Rattle.op_text.specs.Spelling as tokens
-use Rattle.op_text.proofs.Places.{places_do_not_matter}
-use Rattle.op_text.proofs.Once.{ops_spelled_once}
+use Rattle.op_text.proofs.Meeting.{texts_of_ops}
+use Rattle.op_text.specs.OpsOf.{IsOpsOf}
 use Rattle.op_print.specs.Canonical.{behind_comma, listed, spelled, value_text, param_text}
 use Rattle.op_print.specs.Canonical.{state_text, equation_text, let_text, word_text, block_head}
 use Rattle.op_print.specs.Canonical.{op_head, line, statement_lines, op_lines, canonical_text}
-use Rattle.op_print.specs.Reading.{TokensSpellOps, IsReadAs, PrintingIsUndone}
+use Rattle.op_print.specs.Reading.{TokensSpellOps, PrintingIsUndone}
 
 -- A text is read as these tokens, wherever it stands.
 record Reads (text : List ℕ) (spells : List (List ℕ)) : Type 0 where
@@ -369,32 +365,15 @@ text_reads all h = subst (λ (x : List ℕ). Reads x (operations_text all))
 pub tokens_spell_ops : TokensSpellOps
 tokens_spell_ops all h = (text_reads all h).reads 0
 
-texts_bare : (items : List Item) → texts (map bare items) ≡ texts items
-texts_bare [] = refl
-texts_bare (Bad f ∷ items) = refl
-texts_bare (Whole u ∷ items) = ap (λ l. u.text ∷ l) (texts_bare items)
-
-texts_spelled : (spells : List (List ℕ)) → texts (items_spelled spells) ≡ spells
-texts_spelled [] = refl
-texts_spelled (t ∷ spells) = ap (λ l. t ∷ l) (texts_spelled spells)
-
 pub printing_is_undone : PrintingIsUndone
-printing_is_undone all h meets =
-    let items = items_of (canonical_text all) in
-    let same = tokens_spell_ops all h in
-    let good : first_breach items ≡ None = (places_do_not_matter items _ nothing_yet).1
-    (ap first_breach same ∙ meets) in
-    let spelled : texts items ≡ operations_text all = sym (texts_bare items) ∙ ap texts same
-    ∙ texts_spelled (operations_text all) in (
-      (ap (option_map (fault_of (canonical_text all))) good, spelled),
-      λ others k t. ops_spelled_once others all k h (sym t.1 ∙ spelled),
-    )
+printing_is_undone all h meets = texts_of_ops (canonical_text all) all h meets
+    (tokens_spell_ops all h)
 
 -- where a text is begun empty, and these ops are written to it
 pub read_back : (ops given : List Op) (text before : List ℕ) → given ≡ ops
-    → Each HasOperation (map operation given) → MeetRules (map operation ops) → before ≡ []
+    → Each HasOperation (map operation ops) → MeetRules (map operation ops) → before ≡ []
     → text ≡ before ++ canonical_text (map operation given)
-    → IsReadAs text (map operation ops)
+    → IsOpsOf text (map operation ops)
 read_back ops given text before same named meets blank written =
     let is : text ≡ canonical_text (map operation ops) = rw (written, blank, same) refl in
-    rw is (printing_is_undone (map operation ops) (rw same at named) meets)
+    rw is (printing_is_undone (map operation ops) named meets)

@@ -1,3 +1,3 @@
 mod Again
-mod Named
 mod Worked
+mod Short

@@ -7,9 +7,7 @@ pub fn tokens_spell_ops()
     ensures { TokensSpellOps }
 {}
 
-/// The canonical text of ops that meet the rules is read as these ops and no others, by the rules
-/// that an operation
-/// text is accepted by.
+/// Ops that meet the rules are the ops of their canonical text.
 pub fn printing_is_undone()
     ensures { PrintingIsUndone }
 {}

@@ -2,18 +2,16 @@
 
 ghost use Rattle.std.specs.Prelude.{◌≡◌, ◌++◌, OnOk};
 ghost use Rattle.std.specs.List.{flat_map};
-ghost use Rattle.op_text.specs.Spelling.{Each, IsName, HasParam, HasState};
 ghost use Rattle.op_print.specs.Canonical.{listed, behind_comma, spelled, param_text, state_text};
 
 use crate::pieces::{kind_name, put, put_comma};
-use bit_rows::NoMemory;
+use no_memory::NoMemory;
 use op_text::{Param, State};
 use text_lex::Name;
 
 /// Writes a parameter's name and kind.
 pub(crate) fn put_param(out: &mut Vec<u8>, param: &Param) -> Result<(), NoMemory>
-    ensures text { OnOk result (out.new.items ≡ out.old.items ++ param_text param.now) }
-    ensures names { OnOk result (HasParam param.now) }
+    ensures { OnOk result (out.new.items ≡ out.old.items ++ param_text param.now) }
 {
     put(out, param.name.bytes())?;
     put(out, b": ")?;
@@ -21,9 +19,8 @@ pub(crate) fn put_param(out: &mut Vec<u8>, param: &Param) -> Result<(), NoMemory
 }
 
 fn put_more_params(out: &mut Vec<u8>, params: &[Param]) -> Result<(), NoMemory>
-    ensures text { OnOk result (out.new.items
+    ensures { OnOk result (out.new.items
         ≡ out.old.items ++ flat_map (behind_comma param_text) params.now) }
-    ensures names { OnOk result (Each HasParam params.now) }
 {
     for param in params {
         put_comma(out)?;
@@ -34,8 +31,7 @@ fn put_more_params(out: &mut Vec<u8>, params: &[Param]) -> Result<(), NoMemory>
 
 /// Writes parameters, with commas between them.
 pub(crate) fn put_params(out: &mut Vec<u8>, params: &[Param]) -> Result<(), NoMemory>
-    ensures text { OnOk result (out.new.items ≡ out.old.items ++ listed param_text params.now) }
-    ensures names { OnOk result (Each HasParam params.now) }
+    ensures { OnOk result (out.new.items ≡ out.old.items ++ listed param_text params.now) }
 {
     match params {
         [] => Ok(()),
@@ -47,9 +43,8 @@ pub(crate) fn put_params(out: &mut Vec<u8>, params: &[Param]) -> Result<(), NoMe
 }
 
 fn put_more_arguments(out: &mut Vec<u8>, args: &[Name]) -> Result<(), NoMemory>
-    ensures text { OnOk result (out.new.items
+    ensures { OnOk result (out.new.items
         ≡ out.old.items ++ flat_map (behind_comma spelled) args.now) }
-    ensures names { OnOk result (Each IsName args.now) }
 {
     for arg in args {
         put_comma(out)?;
@@ -60,8 +55,7 @@ fn put_more_arguments(out: &mut Vec<u8>, args: &[Name]) -> Result<(), NoMemory>
 
 /// Writes names, with commas between them.
 pub(crate) fn put_arguments(out: &mut Vec<u8>, args: &[Name]) -> Result<(), NoMemory>
-    ensures text { OnOk result (out.new.items ≡ out.old.items ++ listed spelled args.now) }
-    ensures names { OnOk result (Each IsName args.now) }
+    ensures { OnOk result (out.new.items ≡ out.old.items ++ listed spelled args.now) }
 {
     match args {
         [] => Ok(()),
@@ -73,17 +67,15 @@ pub(crate) fn put_arguments(out: &mut Vec<u8>, args: &[Name]) -> Result<(), NoMe
 }
 
 fn put_state(out: &mut Vec<u8>, state: &State) -> Result<(), NoMemory>
-    ensures text { OnOk result (out.new.items ≡ out.old.items ++ state_text state.now) }
-    ensures names { OnOk result (HasState state.now) }
+    ensures { OnOk result (out.new.items ≡ out.old.items ++ state_text state.now) }
 {
     put(out, state.name.bytes())?;
     put(out, if state.start { b" = 1" } else { b" = 0" })
 }
 
 fn put_more_states(out: &mut Vec<u8>, states: &[State]) -> Result<(), NoMemory>
-    ensures text { OnOk result (out.new.items
+    ensures { OnOk result (out.new.items
         ≡ out.old.items ++ flat_map (behind_comma state_text) states.now) }
-    ensures names { OnOk result (Each HasState states.now) }
 {
     for state in states {
         put_comma(out)?;
@@ -94,8 +86,7 @@ fn put_more_states(out: &mut Vec<u8>, states: &[State]) -> Result<(), NoMemory>
 
 /// Writes states and their starts, with commas between them.
 pub(crate) fn put_states(out: &mut Vec<u8>, states: &[State]) -> Result<(), NoMemory>
-    ensures text { OnOk result (out.new.items ≡ out.old.items ++ listed state_text states.now) }
-    ensures names { OnOk result (Each HasState states.now) }
+    ensures { OnOk result (out.new.items ≡ out.old.items ++ listed state_text states.now) }
 {
     match states {
         [] => Ok(()),

@@ -4,7 +4,7 @@ ghost use Rattle.std.specs.Prelude.{◌≡◌, ◌++◌, codes, OnOk};
 ghost use Rattle.op_text.specs.WordOps.{op_text};
 ghost use Rattle.op_text.specs.Spelling.{kind_text};
 
-use bit_rows::NoMemory;
+use no_memory::NoMemory;
 use op_text::{Kind, WordOp};
 
 /// Appends bytes.

@@ -1,24 +1,23 @@
 //! Ops, written.
 
-ghost use Rattle.std.specs.Prelude.{◌≡◌, ◌++◌, [], map, OnOk, IfOk};
+ghost use Rattle.std.specs.Prelude.{◌≡◌, ◌++◌, ◌<◌, ◌^◌, [], length, map, OnOk, IfOk};
 ghost use Rattle.op_text.specs.Language.{operation, operations};
-ghost use Rattle.op_text.specs.Spelling.{MeetRules, Each, IsName, HasParam, HasOperation};
+ghost use Rattle.op_text.specs.Spelling.{MeetRules};
+ghost use Rattle.op_text.specs.OpsOf.{IsOpsOf};
 ghost use Rattle.op_print.specs.Canonical.{op_head, line, op_lines, canonical_text};
-ghost use Rattle.op_print.specs.Reading.{IsReadAs};
 
 use crate::lists::{put_param, put_params};
 use crate::pieces::put;
 use crate::statements::put_body;
-use bit_rows::NoMemory;
+use no_memory::NoMemory;
+use op_rules::ops_meet;
 use op_text::{Op, Ops};
 use std::alloc::Global;
 
 /// Writes the first line of an op.
 fn put_head(out: &mut Vec<u8>, op: &Op) -> Result<(), NoMemory>
-    ensures text { OnOk result (out.new.items
+    ensures { OnOk result (out.new.items
         ≡ out.old.items ++ line [] (op_head (operation op.now))) }
-    ensures names { OnOk result (IsName op.now.name × Each HasParam op.now.params.items
-        × HasParam op.now.result) }
 {
     put(out, b"op ")?;
     put(out, op.name.bytes())?;
@@ -30,8 +29,7 @@ fn put_head(out: &mut Vec<u8>, op: &Op) -> Result<(), NoMemory>
 }
 
 fn put_op(out: &mut Vec<u8>, op: &Op) -> Result<(), NoMemory>
-    ensures text { OnOk result (out.new.items ≡ out.old.items ++ op_lines (operation op.now)) }
-    ensures names { OnOk result (HasOperation (operation op.now)) }
+    ensures { OnOk result (out.new.items ≡ out.old.items ++ op_lines (operation op.now)) }
 {
     put_head(out, op)?;
     put_body(out, &op.body)?;
@@ -39,9 +37,8 @@ fn put_op(out: &mut Vec<u8>, op: &Op) -> Result<(), NoMemory>
 }
 
 fn put_ops(out: &mut Vec<u8>, ops: &[Op]) -> Result<(), NoMemory>
-    ensures text { OnOk result (out.new.items
+    ensures { OnOk result (out.new.items
         ≡ out.old.items ++ canonical_text (map operation ops.now)) }
-    ensures names { OnOk result (Each HasOperation (map operation ops.now)) }
 {
     for op in ops {
         put_op(out, op)?;
@@ -49,13 +46,14 @@ fn put_ops(out: &mut Vec<u8>, ops: &[Op]) -> Result<(), NoMemory>
     Ok(())
 }
 
-/// The canonical text of ops. It is read as these ops again.
+/// The canonical text of ops, whose ops these are. It is never too long to be read.
 pub fn print_ops(ops: &Ops, alloc: Global) -> Result<Vec<u8>, NoMemory>
     requires { MeetRules (operations ops.now) }
     ensures text { IfOk result (λ text. text.items ≡ canonical_text (operations ops.now)) }
-    ensures read { IfOk result (λ text. IsReadAs text.items (operations ops.now)) }
-    ensures names { IfOk result (λ text. Each HasOperation (operations ops.now)) }
+    ensures read { IfOk result (λ text. IsOpsOf text.items (operations ops.now)) }
+    ensures short { IfOk result (λ text. length text.items < 2 ^ 32) }
 {
+    ops_meet(ops);
     let mut out = Vec::new(alloc);
     put_ops(&mut out, &ops.ops)?;
     Ok(out)

@@ -3,23 +3,20 @@
 ghost use Rattle.std.specs.Prelude.{◌≡◌, ◌++◌, codes, map, OnOk};
 ghost use Rattle.std.specs.List.{flat_map};
 ghost use Rattle.op_text.specs.Language.{equation, statement};
-ghost use Rattle.op_text.specs.Spelling.{direction_text, Each, IsName, HasState, HasEquation};
-ghost use Rattle.op_text.specs.Spelling.{HasStatement};
+ghost use Rattle.op_text.specs.Spelling.{direction_text};
 ghost use Rattle.op_print.specs.Canonical.{listed, state_text, equation_text, let_text, word_text};
 ghost use Rattle.op_print.specs.Canonical.{line, statement_lines};
 
 use crate::lists::{put_arguments, put_states};
 use crate::pieces::{op_name, put};
 use crate::values::put_equation;
-use bit_rows::NoMemory;
+use no_memory::NoMemory;
 use op_text::{Assign, State, Stmt, WordOp};
 use text_lex::Name;
 
 fn put_lets(out: &mut Vec<u8>, lets: &[Assign]) -> Result<(), NoMemory>
-    ensures text { OnOk result (out.new.items
-        ≡ out.old.items ++ flat_map (λ e. line (codes "    ") (let_text e)) (map equation lets.now))
-            }
-    ensures names { OnOk result (Each HasEquation (map equation lets.now)) }
+    ensures { OnOk result (out.new.items
+        ≡ out.old.items ++ flat_map (λ e. line (codes "    ") (let_text e)) (map equation lets.now)) }
 {
     for assign in lets {
         put(out, b"    let ")?;
@@ -30,10 +27,9 @@ fn put_lets(out: &mut Vec<u8>, lets: &[Assign]) -> Result<(), NoMemory>
 }
 
 fn put_assigns(out: &mut Vec<u8>, assigns: &[Assign]) -> Result<(), NoMemory>
-    ensures text { OnOk result (out.new.items
+    ensures { OnOk result (out.new.items
         ≡ out.old.items ++ flat_map (λ e. line (codes "    ") (equation_text e))
         (map equation assigns.now)) }
-    ensures names { OnOk result (Each HasEquation (map equation assigns.now)) }
 {
     for assign in assigns {
         put(out, b"    ")?;
@@ -45,9 +41,8 @@ fn put_assigns(out: &mut Vec<u8>, assigns: &[Assign]) -> Result<(), NoMemory>
 
 /// Writes the line of a word statement.
 fn put_word(out: &mut Vec<u8>, dst: &Name, op: WordOp, args: &[Name]) -> Result<(), NoMemory>
-    ensures text { OnOk result (out.new.items
+    ensures { OnOk result (out.new.items
         ≡ out.old.items ++ line (codes "  ") (word_text dst.now op args.now)) }
-    ensures names { OnOk result (IsName dst.now × Each IsName args.now) }
 {
     put(out, b"  ")?;
     put(out, dst.bytes())?;
@@ -60,10 +55,9 @@ fn put_word(out: &mut Vec<u8>, dst: &Name, op: WordOp, args: &[Name]) -> Result<
 
 /// Writes the first line of a block.
 fn put_block_head(out: &mut Vec<u8>, down: bool, states: &[State]) -> Result<(), NoMemory>
-    ensures text { OnOk result (out.new.items
+    ensures { OnOk result (out.new.items
         ≡ out.old.items ++ line (codes "  ") (codes "serial " ++ direction_text down ++ codes " ("
         ++ listed state_text states.now ++ codes ") {")) }
-    ensures names { OnOk result (Each HasState states.now) }
 {
     put(out, b"  serial ")?;
     if down {
@@ -76,9 +70,8 @@ fn put_block_head(out: &mut Vec<u8>, down: bool, states: &[State]) -> Result<(),
 }
 
 fn put_statement(out: &mut Vec<u8>, stmt: &Stmt) -> Result<(), NoMemory>
-    ensures text { OnOk result (out.new.items
+    ensures { OnOk result (out.new.items
         ≡ out.old.items ++ statement_lines (statement stmt.now)) }
-    ensures names { OnOk result (HasStatement (statement stmt.now)) }
 {
     match stmt {
         Stmt::Word { dst, op, args } => put_word(out, dst, *op, args),
@@ -98,9 +91,8 @@ fn put_statement(out: &mut Vec<u8>, stmt: &Stmt) -> Result<(), NoMemory>
 
 /// Writes the lines of statements.
 pub(crate) fn put_body(out: &mut Vec<u8>, body: &[Stmt]) -> Result<(), NoMemory>
-    ensures text { OnOk result (out.new.items
+    ensures { OnOk result (out.new.items
         ≡ out.old.items ++ flat_map statement_lines (map statement body.now)) }
-    ensures names { OnOk result (Each HasStatement (map statement body.now)) }
 {
     for stmt in body {
         put_statement(out, stmt)?;

@@ -2,16 +2,14 @@
 
 ghost use Rattle.std.specs.Prelude.{◌≡◌, ◌++◌, OnOk};
 ghost use Rattle.op_text.specs.Language.{term, equation};
-ghost use Rattle.op_text.specs.Spelling.{HasNames, HasEquation};
 ghost use Rattle.op_print.specs.Canonical.{value_text, equation_text};
 
 use crate::pieces::{put, put_comma};
-use bit_rows::NoMemory;
+use no_memory::NoMemory;
 use op_text::{Assign, Expr};
 
 fn put_value(out: &mut Vec<u8>, value: &Expr) -> Result<(), NoMemory>
-    ensures text { OnOk result (out.new.items ≡ out.old.items ++ value_text (term value.now)) }
-    ensures names { OnOk result (HasNames (term value.now)) }
+    ensures { OnOk result (out.new.items ≡ out.old.items ++ value_text (term value.now)) }
 {
     match value {
         Expr::Zero => put(out, b"0"),
@@ -57,9 +55,8 @@ fn put_value(out: &mut Vec<u8>, value: &Expr) -> Result<(), NoMemory>
 
 /// Writes a name, what it is set to, and the `;`.
 pub(crate) fn put_equation(out: &mut Vec<u8>, assign: &Assign) -> Result<(), NoMemory>
-    ensures text { OnOk result (out.new.items
+    ensures { OnOk result (out.new.items
         ≡ out.old.items ++ equation_text (equation assign.now)) }
-    ensures names { OnOk result (HasEquation (equation assign.now)) }
 {
     put(out, assign.name.bytes())?;
     put(out, b" = ")?;

@@ -16,4 +16,3 @@ pub mod MeetingBlocks
 pub mod MeetingOps
 pub mod Holding
 pub mod Few
-pub mod Loops

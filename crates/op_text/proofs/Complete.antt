@@ -81,9 +81,8 @@ stays_refused (want ∷ ws) (u ∷ v ∷ ts) more h =
     (λ front g. stays_refused (front ++ ws) (v ∷ ts) more g) h
 
 -- What is wanted can be given: a gate's parenthesis is wanted only where it follows, an op only at
--- the
--- bottom, and behind a value comes what cannot be a parenthesis.
-abbrev is_stack : List Wanted → Bool
+-- the bottom, and behind a value comes what cannot be a parenthesis.
+abbrev pub is_stack : List Wanted → Bool
 is_stack [] = false
 is_stack (Ops ∷ []) = true
 is_stack (Ops ∷ w ∷ ws) = false
@@ -94,7 +93,7 @@ is_stack (Value ∷ AssignEnd ∷ ws) = is_stack ws
 is_stack (Value ∷ ws) = false
 is_stack (w ∷ ws) = is_stack ws
 
-abbrev is_before : Bool → List Wanted → Bool
+abbrev pub is_before : Bool → List Wanted → Bool
 is_before o (GateOpen ∷ ws) = o && is_stack ws
 is_before o ws = is_stack ws
 
@@ -172,10 +171,6 @@ below (w ∷ ws) h = cc
 abbrev Keeps : Bool → List Wanted → Option (List Wanted) → Type 0
 Keeps o ws None = Unit {0}
 Keeps o ws (Some front) = is_before o (front ++ ws) ≡ true
-
-both_true : (a b : Bool) → (a && b) ≡ true → b ≡ true
-both_true true b h = h
-both_true false b h = cc
 
 ops_keep : (n : Spelling) (ws : List Wanted) (o : Bool) → is_stack (Ops ∷ ws) ≡ true
     → Keeps o ws (follow Ops (t.Name n) o)
@@ -326,6 +321,22 @@ complete (u ∷ v ∷ ts) (want ∷ ws) end s h = on (follow want u (is_opening 
         → option_and_then (λ front. allowed (front ++ ws) (v ∷ ts)) o ≡ Some end
         → option_and_then (λ front. allowed (front ++ ws) (v ∷ (ts ++ finish end))) o
         ≡ Some (Ops ∷ [])
+    on None k go h = cc
+    on (Some front) k go h = go front k h
+
+-- what is wanted behind tokens can be given
+pub stays_stack : (ts : List Terminal) (ws end : List Wanted)
+    → is_before (opens_terminal ts) ws ≡ true → allowed ws ts ≡ Some end → is_stack end ≡ true
+unfolding allowed
+stays_stack [] ws end s h = let e : ws ≡ end = cc in rw (← e) (unloosen ws s)
+stays_stack (u ∷ ts) [] end s h = cc
+stays_stack (u ∷ ts) (want ∷ ws) end s h = on (follow want u (opens_terminal ts))
+    (keeps want ws u (opens_terminal ts) s) (λ front k h. stays_stack ts (front ++ ws) end k h) h
+  where
+    on : (o : Option (List Wanted)) → Keeps (opens_terminal ts) ws o
+        → ((front : List Wanted) → is_before (opens_terminal ts) (front ++ ws) ≡ true
+        → allowed (front ++ ws) ts ≡ Some end → is_stack end ≡ true)
+        → option_and_then (λ front. allowed (front ++ ws) ts) o ≡ Some end → is_stack end ≡ true
     on None k go h = cc
     on (Some front) k go h = go front k h
 

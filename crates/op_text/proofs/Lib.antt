@@ -11,3 +11,5 @@ pub mod Places
 pub mod Unique
 pub mod Bounds
 pub mod Once
+pub mod Loops
+pub mod Meeting

@@ -1,5 +1,5 @@
 -- No two lists of ops are spelled alike.
-use Rattle.std.proofs.Common.{◌≡◌, ℕ, Bool, true, false, List, [], ◌∷◌, Option, Some, None, refl}
+use Rattle.std.proofs.Common.{◌≡◌, ℕ, Bool, true, false, List, [], ◌∷◌, Some, refl}
 use Rattle.std.proofs.Common.{sym, ap, ◌∙◌, codes, arith}
 use Rattle.text_lex.specs.Spelled.{fits_name}
 use Rattle.op_text.specs.declared.tree.Kind.{Kind}
@@ -9,11 +9,11 @@ use Rattle.op_text.specs.declared.tree.State.{State}
 use Rattle.op_text.specs.declared.tree.WordOp.{WordOp}
 use Rattle.op_text.specs.declared.tree.WordOp.TheVariants as o
 use Rattle.op_text.specs.WordOps.{op_text, op_named}
-use Rattle.op_text.specs.Language.{Term, Equation, Block, Statement, Compute, Visit, Operation}
-use Rattle.op_text.specs.Spelling.{HasNames, IsShut, term_text, behind_commas, between_commas}
+use Rattle.op_text.specs.Language.{Equation, Block, Compute, Visit, Operation}
+use Rattle.op_text.specs.Spelling.{IsShut, behind_commas, between_commas}
 use Rattle.op_text.specs.Spelling.{in_turn, kind_text, direction_text, start_text, name_text}
 use Rattle.op_text.specs.Spelling.{param_text, state_text, equation_text, let_text, statement_text}
-use Rattle.op_text.specs.Spelling.{operation_text, operations_text, IsName, HasParam, HasState}
+use Rattle.op_text.specs.Spelling.{operation_text, IsName, HasParam, HasState}
 use Rattle.op_text.specs.Spelling.{HasEquation, HasStatement, HasOperation, Each, OpsSpelledOnce}
 use Rattle.op_text.proofs.Unique.{spelled_once}
 

@@ -2,6 +2,7 @@
 use Rattle.std.specs.Prelude.{ℕ, Bool, true, false, List, [], ◌∷◌, Option, Some, None, bytes_eq}
 use Rattle.std.specs.Prelude.{codes, if◌then◌else◌}
 use Rattle.text_lex.specs.Lexical.{Item, Lexeme, Whole, Bad}
+use Rattle.text_lex.specs.declared.token.LexFault.{LexFault}
 use Rattle.text_lex.specs.declared.token.TokenKind.{TokenKind}
 use Rattle.text_lex.specs.declared.token.TokenKind.TheVariants as kinds
 use Rattle.op_text.specs.declared.terminal.Terminal.{Terminal}
@@ -51,9 +52,12 @@ opens [] = false
 opens (Bad f ∷ items) = false
 opens (Whole t ∷ items) = is_opening (terminal_of t.kind t.text)
 
--- a fault at a token, and one at the end of the text
+-- a fault at a token, one at a byte that starts no token, and one at the end of the text
 abbrev pub at_token : Lexeme → OpsKind → Breach
 at_token t why = record { at = Some t.start; kind = why }
+
+abbrev pub at_byte : LexFault → Breach
+at_byte f = record { at = Some f.at; kind = Lex }
 
 abbrev pub at_end : Breach
 at_end = record { at = None; kind = Syntax }
@@ -61,7 +65,7 @@ at_end = record { at = None; kind = Syntax }
 -- what is wrong where a token is needed and none stands
 abbrev pub no_token : List Item → Option Breach
 no_token [] = Some at_end
-no_token (Bad f ∷ items) = Some (record { at = Some f.at; kind = Lex })
+no_token (Bad f ∷ items) = Some (at_byte f)
 no_token (Whole t ∷ items) = None
 
 -- the spellings of the tokens

@@ -9,3 +9,4 @@ pub mod Meaning
 pub mod Scratch
 pub mod Trees
 pub mod Spelling
+pub mod OpsOf

@@ -6,7 +6,7 @@ use Rattle.std.specs.List.{list_any}
 use Rattle.text_lex.specs.Lexical.{Item, Lexeme, Whole, Bad}
 use Rattle.text_lex.specs.Spelled.{fits_name}
 use Rattle.op_text.specs.declared.fault.OpsKind.{OpsKind}
-use Rattle.op_text.specs.declared.fault.OpsKind.TheVariants.{Lex, Syntax, BadName, Twice, Unknown}
+use Rattle.op_text.specs.declared.fault.OpsKind.TheVariants.{Syntax, BadName, Twice, Unknown}
 use Rattle.op_text.specs.declared.fault.OpsKind.TheVariants.{NoResult, TooMany}
 use Rattle.op_text.specs.declared.fault.OpsKind.TheVariants as why
 use Rattle.op_text.specs.declared.fault.Breach.{Breach}
@@ -21,7 +21,7 @@ use Rattle.op_text.specs.declared.tree.Kind.TheVariants.{Word, Bit}
 use Rattle.op_text.specs.declared.tree.Param.{Param}
 use Rattle.op_text.specs.declared.tree.WordOp.{WordOp}
 use Rattle.op_text.specs.declared.tree.WordOp.TheVariants as o
-use Rattle.op_text.specs.Items.{terminal_of, opens, at_token, at_end}
+use Rattle.op_text.specs.Items.{terminal_of, opens, at_token, at_byte, at_end}
 use Rattle.op_text.specs.declared.grammar.Wanted.{Wanted}
 use Rattle.op_text.specs.declared.grammar.Wanted.TheVariants.{Ops, NewOp, NewParam, ParamKind}
 use Rattle.op_text.specs.declared.grammar.Wanted.TheVariants.{NewResult, ResultKind, FirstStmt}
@@ -457,7 +457,7 @@ after (Err kind) u go = Some (at_token u kind)
 -- The first token that breaks a rule, if any, where all this is wanted.
 unfoldable pub breach_of : List Wanted → Scope → List Item → Option Breach
 breach_of wanted s [] = ends wanted
-breach_of wanted s (Bad f ∷ items) = Some (record { at = Some f.at; kind = Lex })
+breach_of wanted s (Bad f ∷ items) = Some (at_byte f)
 breach_of [] s (Whole u ∷ items) = Some (at_token u Syntax)
 breach_of (w ∷ wanted) s (Whole u ∷ items) =
     after (step w s (terminal_of u.kind u.text) u.text (opens items)) u

@@ -1,19 +1,22 @@
 //! Laws of the definitions.
 
+ghost use Rattle.std.specs.Prelude.{List};
+ghost use Rattle.text_lex.specs.Lexical.{Item};
 ghost use Rattle.op_text.specs.Trees.{IsTheGrammar, SyntaxIsTheGrammars};
 ghost use Rattle.op_text.specs.WordOps.{FirstSettles};
 ghost use Rattle.op_text.specs.Meaning.{MeaningFits};
 ghost use Rattle.op_text.specs.Spelling.{TermsAreAccepted, PlacesDoNotMatter, SpelledOnce};
 ghost use Rattle.op_text.specs.Spelling.{OpsSpelledOnce};
+ghost use Rattle.op_text.specs.OpsOf.{OpsOfATextAreOne, OpsOfATextMeet, TextsOfOps};
 
 /// What the grammar's steps accept is the grammar's texts, and they allow what these begin with.
 pub fn grammar_is_followed()
     ensures { IsTheGrammar }
 {}
 
-/// A breach of the grammar stands where no text of the grammar goes on.
+/// The first breach of items is another rule's, or exactly what the grammar finds in them.
 pub fn syntax_is_the_grammars()
-    ensures { SyntaxIsTheGrammars }
+    ensures { (items : List Item) → SyntaxIsTheGrammars items }
 {}
 
 /// An expression that meets the rules breaks none where it is spelled.
@@ -44,4 +47,19 @@ pub fn first_settles()
 /// No two lists of ops are spelled alike.
 pub fn ops_spelled_once()
     ensures { OpsSpelledOnce }
+{}
+
+/// A text has one list of ops.
+pub fn ops_of_a_text_are_one()
+    ensures { OpsOfATextAreOne }
+{}
+
+/// The ops of a text meet the rules.
+pub fn ops_of_a_text_meet()
+    ensures { OpsOfATextMeet }
+{}
+
+/// Ops that meet the rules are the ops of each text whose tokens spell them.
+pub fn texts_of_ops()
+    ensures { TextsOfOps }
 {}

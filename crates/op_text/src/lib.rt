@@ -5,6 +5,7 @@ mod fault;
 mod gate;
 mod grammar;
 mod laws;
+mod names;
 mod terminal;
 mod tree;
 mod word_ops;
@@ -13,9 +14,11 @@ pub use fault::{Breach, OpsFault, OpsKind, OpsNo};
 pub use gate::{Gate, gate_of};
 pub use grammar::Wanted;
 pub use laws::{
-    first_settles, grammar_is_followed, meaning_fits, ops_spelled_once, places_do_not_matter,
-    spelled_once, syntax_is_the_grammars, terms_are_accepted,
+    first_settles, grammar_is_followed, meaning_fits, ops_of_a_text_are_one, ops_of_a_text_meet,
+    ops_spelled_once, places_do_not_matter, spelled_once, syntax_is_the_grammars,
+    terms_are_accepted, texts_of_ops,
 };
+pub use names::names_are_names;
 pub use terminal::{Spelling, Terminal, spelling_of, terminal_of};
 pub use tree::{Assign, Expr, Kind, Op, Ops, Param, State, Stmt, WordOp};
 pub use word_ops::{filled, given_first, may_take, op_of, wants_more};

@@ -11,7 +11,7 @@ use Rattle.machine_model.specs.declared.Why.{Why}
 use Rattle.machine_model.specs.Operations.{Operations}
 use Rattle.machine_model.specs.Refusals.{refusal}
 use Rattle.machine_model.specs.Steps.{if_done, reply_by, reply_to, table_after, counts_for}
-use Rattle.machine_model.specs.Script.{is_bbop, replies, script_events, table_at_end, sum_done}
+use Rattle.machine_model.specs.Script.{is_bbop, replies, events_in_order, table_at_end, sum_done}
 use Rattle.machine_model.specs.Script.{rows_loaded, rows_printed}
 use Rattle.machine_model.specs.Report.{Said, said_of, said_in_rows, line}
 use Rattle.machine_model.proofs.Events.{instr_events as instr_events_are}
@@ -68,8 +68,9 @@ line_more g o table banks number i rest b =
 -- one instruction's events more
 pub events_more : (g : Geometry) (o : Operations) (table : List Named) (i : Instruction)
     (rest : List Instruction) → is_bbop i ≡ true
-    → script_events g o table (i ∷ rest) ≡ instr_events g o table i ++ script_events g o table rest
-events_more g o table i rest b = ap (λ t. instr_events g o table i ++ script_events g o t rest)
+    → events_in_order g o table (i ∷ rest)
+    ≡ instr_events g o table i ++ events_in_order g o table rest
+events_more g o table i rest b = ap (λ t. instr_events g o table i ++ events_in_order g o t rest)
     (table_stays g o table i b)
 
 -- one reply more

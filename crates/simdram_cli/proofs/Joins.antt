@@ -3,6 +3,7 @@ use Rattle.std.proofs.Common.{◌≡◌, ℕ, Bool, true, false, cond, List, [],
 use Rattle.std.proofs.Common.{refl, subst, inl, inr}
 use Rattle.std.specs.Prelude.{Result, Ok, Err, IfOk, IfSome, bytes_eq}
 use Rattle.std.specs.Option.{unwrap_or}
+use Rattle.dram_model.specs.View.{ChipView, no_counts}
 use Rattle.host_edge.specs.Views.{Files, FolderView, SinkView, Told}
 use Rattle.uprog_bin.specs.Spelling.{program_bytes}
 use Rattle.bbop_isa.specs.Forms.{Instruction}
@@ -19,9 +20,22 @@ use Rattle.simdram_cli.specs.declared.stop.Stop.{Stop}
 use Rattle.simdram_cli.specs.Stops.{end_of, reason_of}
 use Rattle.simdram_cli.specs.Reads.{refusal_of, IsText, ReadAs, NotRead}
 use Rattle.simdram_cli.specs.Run.{Texts}
-use Rattle.simdram_cli.specs.Works.{ChipView}
 use Rattle.simdram_cli.specs.Ends.{ProgramTaken, ProgramStopped, DoneOn, DoneBy, ImageWorked}
 use Rattle.simdram_cli.specs.Ends.{RunGoes}
+
+-- a sink and a chip that show nothing
+pub no_sink : SinkView
+no_sink = record { sent = None; faults = 0 }
+
+pub no_chip : ChipView
+no_chip = record {
+  begun = false;
+  geometry = record { banks = 0; rows = 0; words = 0 };
+  banks = λ bank. [];
+  counters = no_counts;
+  faults = 0;
+  log = None;
+}
 
 abbrev pub told_text : Option Files → List ℕ → List ℕ
 told_text None name = []
@@ -79,14 +93,14 @@ text_before stored bytes (Some before) (Some after) name text apart t is =
     file_apart (bytes_eq name stored) bytes (before name) text apart now
 
 -- what is told after PROG was stored
-pub stored_program : (names : RunNames) (program : Program) (old new : FolderView) (sink : SinkView)
+pub stored_program : (names : RunNames) (program : Program) (old new : FolderView)
     → ProgramTaken names program old new
-    → Told (λ before after. after ≡ with_file names.prog.now (program_bytes program) before)
+    → Told (λ before after. after ≡ with_file names.prog.now (program_bytes 2 program) before)
     old.holds new.holds
-stored_program names program old new sink taken =
+stored_program names program old new taken =
     (all_stand (Load names.ops.now OPS_MAX taken.text None ∷ Take
-    ∷ Store names.prog.now (program_bytes program) ∷ []) (world old sink 0) (world new sink 0)
-    (taken.goes sink 0)).files
+    ∷ Store names.prog.now (program_bytes 2 program) ∷ []) (world old no_sink no_chip)
+    (world new no_sink no_chip) (taken.goes no_sink no_chip)).files
 
 -- the three files are not PROG
 pub record AreOthers (names : RunNames) : Type 0 where
@@ -101,59 +115,57 @@ no_texts names holds ops = record {
 }
 
 -- a run that stopped before PROG was stored
-pub run_stopped : (names : RunNames) (stop : Stop) (old new : FolderView) (sink : SinkView) (k : ℕ)
+pub run_stopped : (names : RunNames) (stop : Stop) (old new : FolderView) (sink : SinkView)
     (chip : ChipView) → ProgramStopped names (reason_of stop) old new
-    → RunGoes names (world old sink k) (world new sink k) chip (Err stop)
-run_stopped names stop old new sink k chip s = record {
+    → RunGoes names (world old sink chip) (world new sink chip) (Err stop)
+run_stopped names stop old new sink chip s = record {
   program = s.program;
   texts = no_texts names old.holds s.text;
-  compiled = inl (s.goes [] sink k);
   read = record {
     ops = s.is_text;
     script = told_is_text old.holds names.script.now;
     image = told_is_text old.holds names.image.now;
   };
-  goes = s.goes _ sink k;
+  goes = inl (s.goes sink chip);
   done = tt;
 }
 
-goes_ops : (names : RunNames) (program : Program) (old mid : FolderView) (sink : SinkView) (k : ℕ)
-    (rest : List Step) (end : End) (w : World)
-    → (t : ProgramTaken names program old mid) → Goes rest end (world mid sink k) w
+goes_ops : (names : RunNames) (program : Program) (old mid : FolderView) (sink : SinkView)
+    (chip : ChipView) (rest : List Step) (end : End) (w : World)
+    → (t : ProgramTaken names program old mid) → Goes rest end (world mid sink chip) w
     → Goes (loading names.ops.now OPS_MAX t.text (ops_in t.text) (λ _. Take
-    ∷ Store names.prog.now (program_bytes program) ∷ rest)) end (world old sink k) w
-goes_ops names program old mid sink k rest end w t g =
+    ∷ Store names.prog.now (program_bytes 2 program) ∷ rest)) end (world old sink chip) w
+goes_ops names program old mid sink chip rest end w t g =
     rw t.accepted (goes_on (Load names.ops.now OPS_MAX t.text None ∷ Take
-    ∷ Store names.prog.now (program_bytes program) ∷ []) rest end (world old sink k)
-    (world mid sink k) w (t.goes sink k) g)
+    ∷ Store names.prog.now (program_bytes 2 program) ∷ []) rest end (world old sink chip)
+    (world mid sink chip) w (t.goes sink chip) g)
 
-taken_text : (names : RunNames) (program : Program) (old mid : FolderView) (sink : SinkView)
+taken_text : (names : RunNames) (program : Program) (old mid : FolderView)
     → (t : ProgramTaken names program old mid) → IsText old.holds names.ops.now t.text
-taken_text names program old mid sink t = elim (t.goes sink 0) [
-  | inl (next, (does, rest)) ↦ loaded_text names.ops.now OPS_MAX t.text (world old sink 0) next
-      does.1
+taken_text names program old mid t = elim (t.goes no_sink no_chip) [
+  | inl (next, (does, rest)) ↦ loaded_text names.ops.now OPS_MAX t.text
+      (world old no_sink no_chip) next does.1
   | inr fails ↦ absurd fails
 ]
 
 -- a run that stopped at SCRIPT
 pub run_unread : (names : RunNames) (program : Program) (stop : Stop) (old mid new : FolderView)
-    (sink : SinkView) (k : ℕ) (chip : ChipView) → AreOthers names
+    (sink : SinkView) (chip : ChipView) → AreOthers names
     → (t : ProgramTaken names program old mid)
     → NotRead script_in names.script.now SCRIPT_MAX (reason_of stop) mid new
-    → RunGoes names (world old sink k) (world new sink k) chip (Err stop)
-run_unread names program stop old mid new sink k chip apart t n = record {
+    → RunGoes names (world old sink chip) (world new sink chip) (Err stop)
+run_unread names program stop old mid new sink chip apart t n = record {
   program = program;
   texts = record { ops = t.text; script = n.text; image = told_text old.holds names.image.now };
-  compiled = inr t.compiled;
   read = record {
-    ops = taken_text names program old mid sink t;
-    script = text_before names.prog.now (program_bytes program) old.holds mid.holds names.script.now
-        n.text apart.script (stored_program names program old mid sink t) n.is_text;
+    ops = taken_text names program old mid t;
+    script = text_before names.prog.now (program_bytes 2 program) old.holds mid.holds
+        names.script.now n.text apart.script (stored_program names program old mid t) n.is_text;
     image = told_is_text old.holds names.image.now;
   };
-  goes = goes_ops names program old mid sink k _ (Stopped (reason_of stop)) (world new sink k) t
-      (loading_stops names.script.now SCRIPT_MAX n.text (script_in n.text) _ (reason_of stop)
-      (world mid sink k) (world new sink k) (n.fails sink k));
+  goes = inr (t.compiled, goes_ops names program old mid sink chip _ (Stopped (reason_of stop))
+      (world new sink chip) t (loading_stops names.script.now SCRIPT_MAX n.text (script_in n.text)
+      _ (reason_of stop) (world mid sink chip) (world new sink chip) (n.fails sink chip)));
   done = tt;
 }
 
@@ -166,33 +178,32 @@ done_by program script read image chip (Err stop) e d = tt
 
 -- a run that came to IMAGE
 pub run_worked : (names : RunNames) (program : Program) (script : List Instruction)
-    (result : Result ℕ Stop) (old mid last : FolderView) (sink : SinkView) (k : ℕ) (new : World)
-    (chip : ChipView) → AreOthers names
-    → (t : ProgramTaken names program old mid)
+    (result : Result ℕ Stop) (old mid last : FolderView) (sink : SinkView) (chip : ChipView)
+    (new : World) → AreOthers names → (t : ProgramTaken names program old mid)
     → ReadAs script_in names.script.now SCRIPT_MAX script mid last
-    → ImageWorked names program script (world last sink k) new chip result
-    → RunGoes names (world old sink k) new chip result
-run_worked names program script result old mid last sink k new chip apart t s w =
-    let loaded = s.loaded sink k in
+    → ImageWorked names program script (world last sink chip) new result
+    → RunGoes names (world old sink chip) new result
+run_worked names program script result old mid last sink chip new apart t s w =
+    let loaded = s.loaded sink chip in
     let same : last.holds ≡ mid.holds = loaded.reads.files in
-    let told = stored_program names program old mid sink t in
+    let told = stored_program names program old mid t in
     record {
       program = program;
       texts = record { ops = t.text; script = s.text; image = w.text };
-      compiled = inr t.compiled;
       read = record {
-        ops = taken_text names program old mid sink t;
-        script = text_before names.prog.now (program_bytes program) old.holds mid.holds
+        ops = taken_text names program old mid t;
+        script = text_before names.prog.now (program_bytes 2 program) old.holds mid.holds
             names.script.now s.text apart.script told
-            (loaded_text names.script.now SCRIPT_MAX s.text (world mid sink k) (world last sink k)
-            loaded);
-        image = text_before names.prog.now (program_bytes program) old.holds mid.holds
+            (loaded_text names.script.now SCRIPT_MAX s.text (world mid sink chip)
+            (world last sink chip) loaded);
+        image = text_before names.prog.now (program_bytes 2 program) old.holds mid.holds
             names.image.now w.text apart.image told
             (subst (λ (holds : Option Files). IsText holds names.image.now w.text) same w.is_text);
       };
-      goes = goes_ops names program old mid sink k _ (end_of result) new t
+      goes = inr (t.compiled, goes_ops names program old mid sink chip _ (end_of result) new t
           (loading_goes names.script.now SCRIPT_MAX s.text (script_in s.text) _ script
-          (end_of result) (world mid sink k) (world last sink k) new s.value_is loaded w.goes);
-      done = done_by program script (script_in s.text) (image_of w.text) chip result s.value_is
+          (end_of result) (world mid sink chip) (world last sink chip) new s.value_is loaded
+          w.goes));
+      done = done_by program script (script_in s.text) (image_of w.text) new.chip result s.value_is
           w.done;
     }

@@ -5,15 +5,14 @@ pub mod Tallies
 pub mod Working
 pub mod Performing
 pub mod Running
+pub mod Foreseen
 pub mod Promised
 pub mod Ended
-pub mod Fates
-pub mod Keeping
-pub mod Silent
-pub mod Deciding
-pub mod Topping
+pub mod Promising
 pub mod OpenedRows
 pub mod NoWalks
 pub mod Promises
 pub mod Stores
+pub mod Telling
+pub mod Unique
 mod Showing

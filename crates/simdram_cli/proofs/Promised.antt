@@ -1,47 +1,36 @@
 -- A run that ends with 0 or 8 keeps its promises.
 use Rattle.std.proofs.Common.{◌≡◌, ◌⊎◌, ℕ, ◌+◌, ◌<◌, Bool, true, false, cond, List, [], ◌∷◌, ◌++◌}
 use Rattle.std.proofs.Common.{Option, Some, None, refl, sym, ◌∙◌, ap, subst, inl, inr, append_assoc}
-use Rattle.std.proofs.Common.{append-nil, lit≤, ltb}
-use Rattle.std.specs.Prelude.{Result, Ok, Err, bytes_eq, ◌≢◌, nat_le, ◌&&◌, codes}
+use Rattle.std.proofs.Common.{append-nil, arith}
+use Rattle.std.specs.Prelude.{Result, Ok, Err, bytes_eq, ◌≢◌, IfSome}
 use Rattle.std.specs.Result.{result_ok}
 use Rattle.std.proofs.lemmas.Slice.Eq.{bytes_eq-Decides}
-use Rattle.std.proofs.lemmas.Bool.{leb-true}
+use Rattle.dram_model.specs.View.{ChipView}
 use Rattle.host_edge.specs.Views.{Files, Told}
-use Rattle.dram_model.specs.Geometry.{is_geometry, is_between, fits_size}
 use Rattle.uprog_bin.specs.Spelling.{program_bytes}
 use Rattle.bbop_isa.specs.Forms.{Instruction}
 use Rattle.machine_model.specs.Operations.{Program}
-use Rattle.op_text.specs.declared.fault.OpsFault.{OpsFault}
 use Rattle.op_text.specs.Language.{Operation}
-use Rattle.op_text.specs.Lines.{fault_in}
-use Rattle.op_print.specs.Reading.{IsTextOf}
+use Rattle.op_text.specs.OpsOf.{IsOpsOf}
 use Rattle.machine_model.specs.Opened.{Image}
 use Rattle.machine_model.specs.Report.{Said, line, lines, total_line}
 use Rattle.machine_model.proofs.Places.{bytes_differ}
 use Rattle.cli_model.specs.World.{World, with_file}
-use Rattle.cli_model.specs.Steps.{Step, Load, Take, Store, Use, Put, Refusal, End, Done, Stopped}
-use Rattle.cli_model.specs.Steps.{Goes, Does, loading}
-use Rattle.cli_model.specs.Status.{Tells, end_status}
+use Rattle.cli_model.specs.Steps.{Step, Load, Take, Store, Use, Put, Refusal, loading, Done}
 use Rattle.cli_model.specs.Stands.{files_after, sent_by}
-use Rattle.cli_model.specs.Causes.{IsRefusal, AreRefusals, Causes}
-use Rattle.cli_model.proofs.Going.{all_stand}
-use Rattle.cli_model.proofs.Causing.{status_has_cause, told_new, bytes_at}
-use Rattle.object_alloc.specs.declared.fault.ImageFault.{ImageFault}
-use Rattle.object_alloc.specs.Reading.{Found, image_in}
-use Rattle.bbop_isa.specs.Lines.{lines_of}
-use Rattle.built_forms.specs.Texts.{ops_in, unless_fault, script_in, image_of, image_found}
-use Rattle.built_forms.specs.Texts.{built_from, at_line, built_image, is_built_image, not_yet}
-use Rattle.simdram_cli.specs.Reads.{refusal_of}
+use Rattle.cli_model.specs.Foreseen.{foreseen}
+use Rattle.cli_model.specs.Ends.{Ended, All, Ends, EndsSo, IsAllDone, IsForetold, Stores, IsStoreOf}
+use Rattle.cli_model.specs.Ends.{done_steps}
+use Rattle.built_forms.specs.Texts.{ops_in, script_in, image_of}
 use Rattle.simdram_cli.specs.declared.words.RunNames.{RunNames}
 use Rattle.simdram_cli.specs.declared.words.TheConstants.{OPS_MAX, SCRIPT_MAX, IMAGE_MAX}
 use Rattle.simdram_cli.specs.Run.{Texts, run_steps, work_steps, line_steps, said_by, image_by}
 use Rattle.simdram_cli.specs.Run.{tally_by, refused_by, done_status}
-use Rattle.simdram_cli.specs.Works.{ChipView}
-use Rattle.simdram_cli.specs.Ends.{IsCompiled, StoppedEarly, DoneBy, IsDoneBy, status_on}
-use Rattle.simdram_cli.specs.Ends.{run_status, RunEnds}
-use Rattle.simdram_cli.specs.Headline.{Job, IsJob, Spells, read_as, ProgramWritten, ObjectsRight}
-use Rattle.simdram_cli.specs.Headline.{RowsUntouched, CommandsCounted, ReportSent, RepliesExact}
-use Rattle.simdram_cli.proofs.Running.{Apart, both}
+use Rattle.simdram_cli.specs.Ends.{IsCompiled, IsRead, DoneBy, IsDoneBy, run_status, RunEnds}
+use Rattle.simdram_cli.specs.Headline.{Job, IsJob, Spells, read_as, Headline}
+use Rattle.simdram_cli.proofs.Foreseen.{WasRead, was_read, text_at, spells_at}
+use Rattle.simdram_cli.proofs.Running.{Apart}
+use Rattle.simdram_cli.proofs.Tallies.{some_words}
 use Rattle.simdram_cli.proofs.Promises.{job_of, IsDone, objects_right, rows_untouched}
 use Rattle.simdram_cli.proofs.Promises.{commands_counted, report_is, refusals_are, no_bad_walks}
 
@@ -73,17 +62,6 @@ work_sent out program script i =
     ∙ ap (λ more. lines 1 (said_by program script i)
     ++ more) (append-nil (total_line (tally_by program script i) (refused_by program script i)))
 
-record FirstDone (step : Step) (steps : List Step) (a b : World) : Type 0 where
-  pub mid : World
-  pub does : Does step a mid
-  pub goes : Goes steps Done mid b
-
-first_done : (step : Step) (steps : List Step) (a b : World) → Goes (step ∷ steps) Done a b
-    → FirstDone step steps a b
-first_done step steps a b (inl (mid, (d, g))) = record { mid = mid; does = d; goes = g }
-first_done step steps a b (inr f) = elim f [ ]
-
--- what a file says that is not PROG
 at_other : (name stored bytes : List ℕ) (f : Files) → bytes_eq name stored ≡ false
     → with_file stored bytes f name ≡ f name
 at_other name stored bytes f e = rw e refl
@@ -91,294 +69,194 @@ at_other name stored bytes f e = rw e refl
 at_own : (name bytes : List ℕ) (f : Files) → with_file name bytes f name ≡ Some bytes
 at_own name bytes f = rw ((bytes_eq-Decides name name).1 refl) refl
 
--- the texts that a run has read are those of the files at entry
-pub record HasRead (names : RunNames) (texts : Texts) (before : Files) : Type 0 where
-  pub ops : before names.ops.now ≡ Some texts.ops
-  pub script : before names.script.now ≡ Some texts.script
-  pub image : before names.image.now ≡ Some texts.image
-
-abbrev steps_read : RunNames → Program → Texts → List Step → List Step
-steps_read names program texts rest =
-    Load names.ops.now OPS_MAX texts.ops None ∷ Take ∷ Store names.prog.now (program_bytes program)
+-- the steps of a run whose texts are accepted
+abbrev pub whole_steps : RunNames → Program → Texts → List Instruction → Image → List Step
+whole_steps names program texts script i =
+    Load names.ops.now OPS_MAX texts.ops None ∷ Take
+    ∷ Store names.prog.now (program_bytes 2 program)
     ∷ Load names.script.now SCRIPT_MAX texts.script None
-    ∷ Load names.image.now IMAGE_MAX texts.image None ∷ rest
+    ∷ Load names.image.now IMAGE_MAX texts.image None
+    ∷ work_steps names.out.now program script i
 
-has_read : (names : RunNames) (program : Program) (texts : Texts) (rest : List Step) (a b : World)
-    (before : Files) → Apart names → Goes (steps_read names program texts rest) Done a b
-    → a.files.holds ≡ Some before → HasRead names texts before
-has_read names program texts rest a b before apart g e =
-    let last = Load names.image.now IMAGE_MAX texts.image None ∷ rest in
-    let later = Load names.script.now SCRIPT_MAX texts.script None ∷ last in
-    let one = first_done (Load names.ops.now OPS_MAX texts.ops None) (Take
-    ∷ Store names.prog.now (program_bytes program) ∷ later) a b g in
-    let two = first_done Take (Store names.prog.now (program_bytes program) ∷ later) one.mid b
-    one.goes in
-    let three = first_done (Store names.prog.now (program_bytes program)) later two.mid b two.goes
-    in
-    let four = first_done (Load names.script.now SCRIPT_MAX texts.script None) last three.mid b
-    three.goes in
-    let five = first_done (Load names.image.now IMAGE_MAX texts.image None) rest four.mid b
-    four.goes in
-    let there : two.mid.files.holds ≡ Some before = two.does.files ∙ one.does.1.reads.files ∙ e in
-    let stored = told_new (λ old new. new ≡ with_file names.prog.now (program_bytes program) old)
-    two.mid.files.holds three.mid.files.holds before three.does.files there in
-    let behind : four.mid.files.holds ≡ Some stored.0 = four.does.1.reads.files ∙ stored.1 in
+steps_read : (names : RunNames) (program : Program) (texts : Texts)
+    (ro : Result (Unit {0}) Refusal) (rs : Result (List Instruction) Refusal)
+    (ri : Result Image Refusal) (u : Unit {0}) (script : List Instruction) (i : Image)
+    → ro ≡ Ok u → rs ≡ Ok script → ri ≡ Ok i
+    → loading names.ops.now OPS_MAX texts.ops ro (λ t. Take
+    ∷ Store names.prog.now (program_bytes 2 program)
+    ∷ loading names.script.now SCRIPT_MAX texts.script rs
+    (λ s. loading names.image.now IMAGE_MAX texts.image ri (λ x.
+    work_steps names.out.now program s x)))
+    ≡ whole_steps names program texts script i
+steps_read names program texts ro rs ri u script i e f k = rw (e, f, k) refl
+
+-- what a run that is done has read: its texts are those of the files at entry
+pub record HasRead (names : RunNames) (program : Program) (texts : Texts) (before : Files) : Type 0
+  where
+    pub script : List Instruction
+    pub image : Image
+    pub script_is : script_in texts.script ≡ Ok script
+    pub image_is : image_of texts.image ≡ Ok image
+    pub ops_at : before names.ops.now ≡ Some texts.ops
+    pub script_at : before names.script.now ≡ Some texts.script
+    pub image_at : before names.image.now ≡ Some texts.image
+    pub steps_are : run_steps names program texts ≡ whole_steps names program texts script image
+
+has_read : (names : RunNames) (program : Program) (texts : Texts) (holds : Option Files)
+    (before : Files) → Apart names → holds ≡ Some before → IsRead names texts holds
+    → foreseen (run_steps names program texts) before ≡ Done → HasRead names program texts before
+has_read names program texts holds before apart there read foretold =
+    let bytes = program_bytes 2 program in
+    let stored = with_file names.prog.now bytes before in
+    let one = was_read names.ops.now OPS_MAX texts.ops (ops_in texts.ops) _ before foretold in
+    let two = was_read names.script.now SCRIPT_MAX texts.script (script_in texts.script) _ stored
+    one.goes_on in
+    let three = was_read names.image.now IMAGE_MAX texts.image (image_of texts.image) _ stored
+    two.goes_on in
     record {
-      ops = bytes_at a.files.holds before names.ops.now texts.ops e one.does.1.bytes;
-      script = sym (at_other names.script.now names.prog.now (program_bytes program) before
-          apart.others.script) ∙ ap (λ (f : Files). f names.script.now) (sym stored.2)
-          ∙ bytes_at three.mid.files.holds stored.0 names.script.now texts.script stored.1
-          four.does.1.bytes;
-      image = sym (at_other names.image.now names.prog.now (program_bytes program) before
-          apart.others.image) ∙ ap (λ (f : Files). f names.image.now) (sym stored.2)
-          ∙ bytes_at four.mid.files.holds stored.0 names.image.now texts.image behind
-          five.does.1.bytes;
+      script = two.value;
+      image = three.value;
+      script_is = two.is;
+      image_is = three.is;
+      ops_at = text_at holds before names.ops.now one.bytes texts.ops there read.ops one.there;
+      script_at = text_at holds before names.script.now two.bytes texts.script there read.script
+          (sym (at_other names.script.now names.prog.now bytes before apart.others.script)
+          ∙ two.there);
+      image_at = text_at holds before names.image.now three.bytes texts.image there read.image
+          (sym (at_other names.image.now names.prog.now bytes before apart.others.image)
+          ∙ three.there);
+      steps_are = steps_read names program texts (ops_in texts.ops) (script_in texts.script)
+          (image_of texts.image) one.value two.value three.value one.is two.is three.is;
     }
 
--- all that a run promises of its job
-pub record Promise (names : RunNames) (job : Job) (before after : Files) (chip : ChipView)
-    (status : ℕ) (old new : Option (List ℕ)) : Type 0 where
-  pub is_job : IsJob names before job
-  pub program : ProgramWritten names job after
-  pub objects : ObjectsRight names job after chip
-  pub rows : RowsUntouched job chip
-  pub commands : CommandsCounted job chip
-  pub report : ReportSent job chip old new
-  pub replies : RepliesExact names job status before after
-
-abbrev pub Promised : RunNames → ChipView → ℕ → World → World → Type 0
-Promised names chip status old new = Told (λ before after. (job : Job)
-    × Promise names job before after chip status old.sink.sent new.sink.sent) old.files.holds
-    new.files.holds
-
-job_is : (names : RunNames) (texts : Texts) (t : List Operation) (script : List Instruction)
-    (i : Image) (program : Program) (before : Files) → HasRead names texts before
-    → IsTextOf texts.ops t → script_in texts.script ≡ Ok script → image_of texts.image ≡ Ok i
-    → IsJob names before (job_of t script i program)
-job_is names texts t script i program before h e f k = record {
-  ops = subst (λ (o : Option (List ℕ)). Spells o t) (sym h.ops) e;
-  script = ap (read_as script_in) h.script ∙ ap result_ok f;
-  image = ap (read_as image_of) h.image ∙ ap result_ok k;
+-- the job of the files
+job_is : (names : RunNames) (texts : Texts) (t : List Operation) (program : Program)
+    (before : Files) → (h : HasRead names program texts before) → IsOpsOf texts.ops t
+    → IsJob names before (job_of t h.script h.image program)
+job_is names texts t program before h e = record {
+  ops = spells_at (before names.ops.now) texts.ops t h.ops_at e;
+  script = ap (read_as script_in) h.script_at ∙ ap result_ok h.script_is;
+  image = ap (read_as image_of) h.image_at ∙ ap result_ok h.image_is;
 }
 
 kept_other : (names : RunNames) (program : Program) (bytes : List ℕ) (before after : Files)
-    → after ≡ with_file names.out.now bytes (with_file names.prog.now (program_bytes program)
+    → after ≡ with_file names.out.now bytes (with_file names.prog.now (program_bytes 2 program)
     before)
     → (other : List ℕ) → other ≢ names.prog.now → other ≢ names.out.now → after other ≡ before other
 kept_other names program bytes before after e other p o =
     ap (λ (f : Files). f other) e ∙ at_other other names.out.now bytes
-    (with_file names.prog.now (program_bytes program) before)
+    (with_file names.prog.now (program_bytes 2 program) before)
     (bytes_differ other names.out.now o)
-    ∙ at_other other names.prog.now (program_bytes program) before
+    ∙ at_other other names.prog.now (program_bytes 2 program) before
     (bytes_differ other names.prog.now p)
 
-promise_of : (names : RunNames) (texts : Texts) (t : List Operation) (script : List Instruction)
-    (i : Image) (program : Program) (chip : ChipView) (refused status : ℕ) (a b : World)
-    (before after : Files)
-    → Apart names → IsTextOf texts.ops t → script_in texts.script ≡ Ok script
-    → image_of texts.image ≡ Ok i → IsDone t script i program chip refused
-    → status ≡ done_status (refused_by program script i)
-    → Goes (steps_read names program texts (work_steps names.out.now program script i)) Done a b
-    → a.files.holds ≡ Some before
-    → after ≡ with_file names.out.now (image_by program script i)
-    (with_file names.prog.now (program_bytes program) before)
-    → Told (λ x y. y ≡ x ++ (lines 1 (said_by program script i)
-    ++ total_line (tally_by program script i) (refused_by program script i))) a.sink.sent
-    b.sink.sent
-    → Promise names (job_of t script i program) before after chip status a.sink.sent b.sink.sent
-promise_of names texts t script i program chip refused status a b before after apart e f k d s g
-    there files sent =
-    let read = has_read names program texts (work_steps names.out.now program script i) a b before
-    apart g there in
+done_on : (t : List Operation) (program : Program) (texts : Texts) (script : List Instruction)
+    (i : Image) (chip : ChipView) (refused : ℕ) (rs : Result (List Instruction) Refusal)
+    (ri : Result Image Refusal) → (compiled : IsCompiled texts.ops program)
+    → rs ≡ Ok script → ri ≡ Ok i → DoneBy program rs ri chip refused
+    → IsDone compiled.ops script i program chip refused
+done_on t program texts script i chip refused rs ri compiled e f d =
+    let done : DoneBy program (Ok script) (Ok i) chip refused = rw (e, f) at d in
     record {
-      is_job = job_is names texts t script i program before read e f k;
-      program = record {
+      implements = compiled.implements;
+      image = done.0;
+      words = some_words i.geometry done.0.geometry;
+      plain = done.1;
+      work = done.2;
+    }
+
+status_read : (program : Program) (script : List Instruction) (i : Image)
+    (rs : Result (List Instruction) Refusal) (ri : Result Image Refusal) → rs ≡ Ok script
+    → ri ≡ Ok i → run_status program rs ri ≡ done_status (refused_by program script i)
+status_read program script i rs ri e f = rw (e, f) refl
+
+headline_of : (names : RunNames) (program : Program) (texts : Texts) (refused status : ℕ)
+    (old new : World) (before after : Files) → Apart names
+    → (compiled : IsCompiled texts.ops program)
+    → (h : HasRead names program texts before)
+    → IsDone compiled.ops h.script h.image program new.chip refused
+    → status ≡ done_status (refused_by program h.script h.image)
+    → after ≡ with_file names.out.now (image_by program h.script h.image)
+    (with_file names.prog.now (program_bytes 2 program) before)
+    → Told (λ x y. y ≡ x ++ (lines 1 (said_by program h.script h.image)
+    ++ total_line (tally_by program h.script h.image) (refused_by program h.script h.image)))
+    old.sink.sent new.sink.sent
+    → Headline names before after old new status
+headline_of names program texts refused status old new before after apart compiled h d s files sent
+    =
+    let t = compiled.ops in
+    let script = h.script in
+    let i = h.image in
+    record {
+      job = job_of t script i program;
+      of_files = job_is names texts t program before h compiled.is;
+      program_written = record {
         file = ap (λ (x : Files). x names.prog.now) files
             ∙ at_other names.prog.now names.out.now (image_by program script i)
-            (with_file names.prog.now (program_bytes program) before) apart.prog_out
-            ∙ at_own names.prog.now (program_bytes program) before;
-        implements = d.implements;
+            (with_file names.prog.now (program_bytes 2 program) before) apart.prog_out
+            ∙ at_own names.prog.now (program_bytes 2 program) before;
+        legal = compiled.legal;
+        implements = compiled.implements;
       };
-      objects = objects_right names t script i program chip refused after d
+      objects_right = objects_right names t script i program new.chip refused after d
           (ap (λ (x : Files). x names.out.now) files
           ∙ at_own names.out.now (image_by program script i)
-          (with_file names.prog.now (program_bytes program) before));
-      rows = rows_untouched t script i program chip refused d;
-      commands = commands_counted t script i program chip refused d;
-      report = subst (λ (bytes : List ℕ). Told (λ x y. y ≡ x ++ bytes) a.sink.sent b.sink.sent)
-          (report_is t script i program chip refused d) sent;
-      replies = record {
+          (with_file names.prog.now (program_bytes 2 program) before));
+      rows_untouched = rows_untouched t script i program new.chip refused d;
+      commands_counted = commands_counted t script i program new.chip refused d;
+      report_sent = subst (λ (bytes : List ℕ). Told (λ x y. y ≡ x ++ bytes) old.sink.sent
+          new.sink.sent) (report_is t script i program new.chip refused d) sent;
+      replies_exact = record {
         answers = s ∙ ap done_status (refusals_are t script i program d.implements);
         walks = no_bad_walks t script i program d.implements d.plain;
         others = kept_other names program (image_by program script i) before after files;
       };
     }
 
-tell_both : (a b : Option Files) (R P : Files → Files → Type 0) → Told R a b
-    → ((before after : Files) → a ≡ Some before → R before after → P before after) → Told P a b
-tell_both None b R P t h = tt
-tell_both (Some before) None R P t h = absurd t
-tell_both (Some before) (Some after) R P t h = h before after refl t
+stores_prog : (names : RunNames) (program : Program) (texts : Texts)
+    (ro : Result (Unit {0}) Refusal) (u : Unit {0}) (rest : List Step) → ro ≡ Ok u
+    → Stores names.prog.now (loading names.ops.now OPS_MAX texts.ops ro (λ t. Take
+    ∷ Store names.prog.now (program_bytes 2 program) ∷ rest))
+stores_prog names program texts (Ok v) u rest e = inr (inr (inl refl))
+stores_prog names program texts (Err r) u rest e = absurd (cc)
 
-some_words : (i : Image) → is_geometry i.geometry ≡ true → 0 < i.geometry.words
-some_words i e =
-    let g = i.geometry in
-    let one = both (is_between 1 16 g.banks && is_between 64 1006 g.rows
-    && is_between 1 1024 g.words) (fits_size g) e in
-    let two = both (is_between 1 16 g.banks && is_between 64 1006 g.rows)
-    (is_between 1 1024 g.words) one.0 in
-    let three = both (nat_le 1 g.words) (nat_le g.words 1024) two.1 in
-    leb-true 1 g.words three.0
+tell_both : (a b : Option Files) (R Q : Files → Files → Type 0) (P : Files → Type 0)
+    → Told R a b → IfSome a P
+    → ((before after : Files) → a ≡ Some before → P before → R before after → Q before after)
+    → Told Q a b
+tell_both None b R Q P t p h = tt
+tell_both (Some before) None R Q P t p h = absurd t
+tell_both (Some before) (Some after) R Q P t p h = h before after refl p t
 
-first_refused : (name : List ℕ) (limit : ℕ) (text : List ℕ) (r : Refusal) (a b : World)
-    → Goes (Load name limit text (Some r) ∷ []) Done a b → ⊥
-first_refused name limit text r a b (inl (mid, ((none, loaded), g))) = absurd (cc)
-first_refused name limit text r a b (inr f) = elim f [ ]
-
-done_promised : (names : RunNames) (program : Program) (texts : Texts) (chip : ChipView)
-    (refused status : ℕ) (a b : World) (ro : Result (Unit {0}) Refusal)
-    (rs : Result (List Instruction) Refusal) (ri : Result Image Refusal)
-    → Apart names → IsCompiled texts.ops program → script_in texts.script ≡ rs
-    → image_of texts.image ≡ ri → DoneBy program rs ri chip refused
-    → status ≡ run_status program rs ri
-    → Goes (loading names.ops.now OPS_MAX texts.ops ro (λ t. Take
-    ∷ Store names.prog.now (program_bytes program)
-    ∷ loading names.script.now SCRIPT_MAX texts.script rs
-    (λ script. loading names.image.now IMAGE_MAX texts.image ri (λ i.
-    work_steps names.out.now program script i)))) Done a b
-    → Promised names chip status a b
-done_promised names program texts chip refused status a b (Err r) rs ri apart compiled f k d s g =
-    absurd (first_refused names.ops.now OPS_MAX texts.ops r a b g)
-done_promised names program texts chip refused status a b (Ok u) (Err r) ri apart compiled f k d s
-    g = elim d [ ]
-done_promised names program texts chip refused status a b (Ok u) (Ok script) (Err r) apart compiled
-    f k d s g = elim d [ ]
-done_promised names program texts chip refused status a b (Ok u) (Ok script) (Ok i) apart compiled f
-    k d s g =
-    let t = compiled.ops in
-    let stands =
-    all_stand (steps_read names program texts (work_steps names.out.now program script i)) a b g
-    in
-    let sent = subst (λ (bytes : List ℕ). Told (λ x y. y ≡ x ++ bytes) a.sink.sent b.sink.sent)
-    (work_sent names.out.now program script i) stands.sent in
-    let all : IsDone t script i program chip refused =
-    record {
-      implements = compiled.implements;
-      image = d.0;
-      words = some_words i d.0.geometry;
-      plain = d.1;
-      work = d.2;
-    } in
-    tell_both a.files.holds b.files.holds (λ before after. after
-    ≡ files_after (steps_read names program texts (work_steps names.out.now program script i))
-    before)
-    (λ before after. (job : Job) × Promise names job before after chip status a.sink.sent
-    b.sink.sent) stands.files
-    (λ before after there is. (
-      job_of t script i program,
-      promise_of names texts t script i program chip refused status a b before after apart
-          compiled.is f k all s g there
-          (is ∙ work_files names.out.now program script i
-          (with_file names.prog.now (program_bytes program) before)) sent,
-    ))
-
-built_refusals : (b : Bool) (i : Image)
-    → IsRefusal (refusal_of (cond b (Ok i) (Err (not_yet 7 (codes "image byte ") 0))))
-built_refusals true i = tt
-built_refusals false i = (lit≤ tt, lit≤ tt)
-
-image_refusals : (found : Result Found ImageFault) → IsRefusal (refusal_of (built_image found))
-image_refusals (Ok found) = built_refusals (is_built_image found) (image_found found)
-image_refusals (Err fault) = (lit≤ tt, lit≤ tt)
-
-script_refusals : (script : Result (List Instruction) ℕ) → IsRefusal (refusal_of (at_line script))
-script_refusals (Ok script) = tt
-script_refusals (Err line) = (lit≤ tt, lit≤ tt)
-
-ops_refusals : (fault : Option OpsFault) → IsRefusal (refusal_of (unless_fault fault))
-ops_refusals None = tt
-ops_refusals (Some fault) = (lit≤ tt, lit≤ tt)
-
-loading_refusals : {A : Type 0} (name : List ℕ) (limit : ℕ) (text : List ℕ)
-    (read : Result A Refusal) (rest : A → List Step) → IsRefusal (refusal_of read)
-    → ((x : A) → AreRefusals (rest x)) → AreRefusals (loading name limit text read rest)
-loading_refusals name limit text (Ok x) rest one more = (tt, more x)
-loading_refusals name limit text (Err r) rest one more = (one, tt)
-
-lines_refusals : (number : ℕ) (said : List Said) (rest : List Step) → AreRefusals rest
-    → AreRefusals (line_steps number said ++ rest)
-lines_refusals number [] rest r = r
-lines_refusals number (s ∷ said) rest r = lines_refusals (number + 1) said rest r
-
--- the texts of a run are refused with 4, 6 and 7
-pub run_refusals : (names : RunNames) (program : Program) (texts : Texts)
-    → AreRefusals (run_steps names program texts)
-run_refusals names program texts =
-    loading_refusals names.ops.now OPS_MAX texts.ops (ops_in texts.ops) _
-    (ops_refusals (fault_in texts.ops)) (λ t.
-    loading_refusals names.script.now SCRIPT_MAX texts.script (script_in texts.script) _
-    (script_refusals (built_from 1 (lines_of texts.script))) (λ script.
-    loading_refusals names.image.now IMAGE_MAX texts.image (image_of texts.image) _
-    (image_refusals (image_in texts.image)) (λ i.
-    lines_refusals 1 (said_by program script i) (Use
-    ∷ Store names.out.now (image_by program script i)
-    ∷ Put (total_line (tally_by program script i) (refused_by program script i)) ∷ []) tt)))
-
-either_of : (b : Bool) → (◌≡◌ {A = ℕ} (cond b 8 0) 0) ⊎ (◌≡◌ {A = ℕ} (cond b 8 0) 8)
-either_of true = inr refl
-either_of false = inl refl
-
-status_either : (n : ℕ) → (done_status n ≡ 0) ⊎ (done_status n ≡ 8)
-status_either n = either_of (ltb 0 n)
-
-status_on_either : (program : Program) (script : List Instruction) (ri : Result Image Refusal)
-    → (status_on program script ri ≡ 0) ⊎ (status_on program script ri ≡ 8)
-status_on_either program script (Ok i) = status_either (refused_by program script i)
-status_on_either program script (Err r) = inl refl
-
--- a run that is done answers 0 or 8
-pub run_either : (program : Program) (rs : Result (List Instruction) Refusal)
-    (ri : Result Image Refusal) → (run_status program rs ri ≡ 0) ⊎ (run_status program rs ri ≡ 8)
-run_either program (Ok script) ri = status_on_either program script ri
-run_either program (Err r) ri = inl refl
-
--- the causes of a run's status
-pub run_causes : (names : RunNames) (old new : World) (chip : ChipView) (status : ℕ)
-    → (e : RunEnds names old new chip status)
-    → Causes (run_steps names e.program e.texts) old new e.ran.end status
-run_causes names old new chip status e =
-    status_has_cause (run_steps names e.program e.texts)
-    (run_status e.program (script_in e.texts.script) (image_of e.texts.image)) old new status
-    (run_refusals names e.program e.texts)
-    (run_either e.program (script_in e.texts.script) (image_of e.texts.image)) e.ran
-
-not_early : (names : RunNames) (program : Program) (texts : Texts) (old new : World)
-    → StoppedEarly names program texts Done old new ⊎ IsCompiled texts.ops program
-    → IsCompiled texts.ops program
-not_early names program texts old new (inl early) = absurd early
-not_early names program texts old new (inr compiled) = compiled
-
-ended_promised : (names : RunNames) (program : Program) (texts : Texts) (end : End)
-    (chip : ChipView) (status : ℕ) (old stopped new : World) → Apart names → end ≡ Done
-    → StoppedEarly names program texts end old stopped ⊎ IsCompiled texts.ops program
-    → IsDoneBy end program texts chip
-    → Goes (run_steps names program texts) end old stopped → Tells end stopped new
-    → status ≡ end_status (run_status program (script_in texts.script) (image_of texts.image))
-    end → Promised names chip status old new
-ended_promised names program texts Done chip status old stopped new apart is compiled done goes
-    tells answers =
-    subst (λ (w : World). Promised names chip status old w) (sym tells)
-    (done_promised names program texts chip done.0 status old stopped (ops_in texts.ops)
-    (script_in texts.script) (image_of texts.image) apart
-    (not_early names program texts old stopped compiled) refl refl done.1 answers goes)
-ended_promised names program texts (Stopped reason) chip status old stopped new apart is compiled
-    done goes tells answers = absurd (cc)
-
--- A run that ends with 0 or 8 keeps its promises
-pub run_promised : (names : RunNames) (old new : World) (chip : ChipView) (status : ℕ) → Apart names
-    → RunEnds names old new chip status → (status ≡ 0) ⊎ (status ≡ 8)
-    → Promised names chip status old new
-run_promised names old new chip status apart e is =
-    ended_promised names e.program e.texts e.ran.end chip status old e.ran.stopped new apart
-    ((run_causes names old new chip status e).done is) e.compiled e.done e.ran.goes e.ran.tells
-    e.ran.answers
+-- A run that was done keeps its promises
+pub run_promised : (names : RunNames) (old new : World) (status : ℕ) → Apart names
+    → (e : RunEnds names old new status) → e.ends.ended ≡ All
+    → Told (λ before after. Headline names before after old new status) old.files.holds
+    new.files.holds
+run_promised names old new status apart e done =
+    let steps = run_steps names e.program e.texts in
+    let rs = script_in e.texts.script in
+    let ri = image_of e.texts.image in
+    let so : IsAllDone steps (run_status e.program rs ri) old new status =
+    subst (λ (x : Ended). EndsSo steps (run_status e.program rs ri) x old new status) done
+    e.ends.so in
+    let told : IfSome old.files.holds (IsForetold steps All) =
+    subst (λ (x : Ended). IfSome old.files.holds (IsForetold steps x)) done e.ends.foretold in
+    let work : IsDoneBy All e.program e.texts new.chip =
+    subst (λ (x : Ended). IsDoneBy x e.program e.texts new.chip) done e.done in
+    tell_both old.files.holds new.files.holds (λ before after. after ≡ files_after steps before)
+    (λ before after. Headline names before after old new status) (IsForetold steps All) so.files
+    told (λ before after there foretold files.
+    let h = has_read names e.program e.texts old.files.holds before apart there e.read foretold in
+    let one = was_read names.ops.now OPS_MAX e.texts.ops (ops_in e.texts.ops) _ before foretold in
+    let compiled = e.compiled (subst (λ (x : Ended). Stores names.prog.now (done_steps steps x))
+    (sym done) (stores_prog names e.program e.texts (ops_in e.texts.ops) one.value _ one.is)) in
+    headline_of names e.program e.texts work.0 status old new before after apart compiled h
+    (done_on compiled.ops e.program e.texts h.script h.image new.chip work.0 rs ri compiled
+    h.script_is h.image_is work.1)
+    (so.answers ∙ status_read e.program h.script h.image rs ri h.script_is h.image_is)
+    (files ∙ ap (λ xs. files_after xs before) h.steps_are
+    ∙ work_files names.out.now e.program h.script h.image
+    (with_file names.prog.now (program_bytes 2 e.program) before))
+    (subst (λ (bytes : List ℕ). Told (λ x y. y ≡ x ++ bytes) old.sink.sent new.sink.sent)
+    (ap sent_by h.steps_are ∙ work_sent names.out.now e.program h.script h.image) so.sent))

@@ -6,6 +6,7 @@ use Rattle.std.specs.List.{AllByRecursion}
 use Rattle.host_edge.specs.Views.{Files}
 use Rattle.dram_model.specs.declared.geometry.Geometry.{Geometry}
 use Rattle.dram_model.specs.Chip.{Banks, row_in}
+use Rattle.dram_model.specs.View.{ChipView}
 use Rattle.object_alloc.specs.Listed.{Named}
 use Rattle.object_alloc.specs.Spelling.{image_bytes, IsImage}
 use Rattle.bbop_isa.specs.Forms.{Instruction}
@@ -28,7 +29,7 @@ use Rattle.machine_model.proofs.Opened.{opened_agrees, report_same}
 use Rattle.machine_model.proofs.KeptAll.{script_kept}
 use Rattle.simdram_cli.specs.declared.words.RunNames.{RunNames}
 use Rattle.simdram_cli.specs.Run.{said_by, tally_by, refused_by}
-use Rattle.simdram_cli.specs.Works.{ChipView, WorkDone}
+use Rattle.simdram_cli.specs.Works.{WorkDone}
 use Rattle.simdram_cli.specs.Headline.{Job, replies_of, state_after, ObjectsRight, RowsUntouched}
 use Rattle.simdram_cli.specs.Headline.{CommandsCounted, report_of, IsNoBadWalk}
 use Rattle.simdram_cli.proofs.NoWalks.{all_end, no_walks}
@@ -49,16 +50,14 @@ tables g banks (p ∷ table) = ap (λ rest. p ∷ rest) (tables g banks table)
 pub table_is : (i : Image) → table_of (words_of i) ≡ i.table
 table_is i = tables i.geometry (opened i) i.table
 
-tables_end : (g : Geometry) (o : Operations) (meaning : List ℕ → ℕ → List ℕ
-    → ℕ) (state : List Held) (script : List Instruction)
+tables_end : (g : Geometry) (o : Operations) (meaning : List ℕ → ℕ → List ℕ → List ℕ) (state : List Held) (script : List Instruction)
     → table_of (words_at_end g o meaning state script) ≡ table_at_end g o (table_of state) script
 tables_end g o meaning state [] = refl
 tables_end g o meaning state (i ∷ script) =
     tables_end g o meaning (words_after g o meaning state i) script
     ∙ ap (λ t. table_at_end g o t script) (table_step g o meaning state i)
 
-all_steps : (g : Geometry) (o : Operations) (meaning : List ℕ → ℕ → List ℕ
-    → ℕ) (script : List Instruction) → 0 < g.words → DoesAll o meaning
+all_steps : (g : Geometry) (o : Operations) (meaning : List ℕ → ℕ → List ℕ → List ℕ) (script : List Instruction) → 0 < g.words → DoesAll o meaning
     → AllByRecursion IsPlain script → AllByRecursion (StepAgrees g o meaning) script
 all_steps g o meaning [] words does plain = tt
 all_steps g o meaning (i ∷ script) words does plain =

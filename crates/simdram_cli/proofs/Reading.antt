@@ -9,15 +9,12 @@ use Rattle.cli_model.specs.Steps.{Refusal, Reason, Refused, NoMemory}
 use Rattle.op_text.specs.declared.fault.OpsFault.{OpsFault}
 use Rattle.op_text.specs.Language.{Operation}
 use Rattle.op_text.specs.Lines.{fault_in}
-use Rattle.op_print.specs.Reading.{IsTextOf}
+use Rattle.op_text.specs.OpsOf.{IsOpsOf}
 use Rattle.simdram_cli.specs.declared.words.TheConstants.{OPS_MAX}
 use Rattle.built_forms.specs.Texts.{ops_in, ops_refusal, unless_fault, script_in, built_from}
 use Rattle.built_forms.specs.Texts.{at_line, not_yet}
 use Rattle.simdram_cli.specs.Reads.{refusal_of, LoadedAs, NotLoaded, NotRead, OpsRead}
-use Rattle.simdram_cli.proofs.Joins.{told_text, told_is_text, loaded_text}
-
-pub no_sink : SinkView
-no_sink = record { sent = None; faults = 0 }
+use Rattle.simdram_cli.proofs.Joins.{told_text, told_is_text, loaded_text, no_sink, no_chip}
 
 -- a file that was not loaded
 pub not_read : {A : Type 0} (read : List ℕ → Result A Refusal) (name : List ℕ) (limit : ℕ)
@@ -37,8 +34,8 @@ pub text_refused : {A : Type 0} (read : List ℕ
     → NotRead read name limit (Refused refusal) old new
 text_refused read name limit text refusal old new loaded e = record {
   text = text;
-  is_text = loaded_text name limit text (world old no_sink 0) (world new no_sink 0)
-      (loaded no_sink 0);
+  is_text = loaded_text name limit text (world old no_sink no_chip) (world new no_sink no_chip)
+      (loaded no_sink no_chip);
   fails = λ sink chip. (ap refusal_of e, loaded sink chip);
 }
 
@@ -48,8 +45,8 @@ pub text_unread : {A : Type 0} (read : List ℕ
     → LoadedAs name limit text old new → NotRead read name limit NoMemory old new
 text_unread read name limit text old new loaded = record {
   text = text;
-  is_text = loaded_text name limit text (world old no_sink 0) (world new no_sink 0)
-      (loaded no_sink 0);
+  is_text = loaded_text name limit text (world old no_sink no_chip) (world new no_sink no_chip)
+      (loaded no_sink no_chip);
   fails = λ sink chip. (loaded sink chip).reads;
 }
 
@@ -66,5 +63,5 @@ script_refused text line e = ap {B = Result (List Instruction) Refusal} at_line 
 
 -- the ops of a text that is loaded
 pub ops_parsed : (name text : List ℕ) (ops : List Operation) (old new : FolderView)
-    → LoadedAs name OPS_MAX text old new → IsTextOf text ops → OpsRead name ops old new
+    → LoadedAs name OPS_MAX text old new → IsOpsOf text ops → OpsRead name ops old new
 ops_parsed name text ops old new loaded is = record { text = text; is = is; loaded = loaded }

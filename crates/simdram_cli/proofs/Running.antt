@@ -1,15 +1,17 @@
 -- The parts of a run.
 use Rattle.std.proofs.Common.{◌≡◌, ℕ, Bool, true, false, List, [], ◌∷◌, map, refl, sym, ◌∙◌, ap}
-use Rattle.std.proofs.Common.{inl}
-use Rattle.std.specs.Prelude.{Result, Ok, Err, IfOk, IfErr, bytes_eq, not, ◌&&◌, codes}
+use Rattle.std.proofs.Common.{inl, eqb-true}
+use Rattle.std.specs.Prelude.{Result, Ok, Err, IfOk, IfErr, bytes_eq, not, ◌&&◌, ◌==◌, codes}
 use Rattle.std.specs.List.{AllByRecursion, list_all}
 use Rattle.std.proofs.lemmas.Slice.Eq.{bytes_eq-Decides}
+use Rattle.dram_model.specs.View.{ChipView}
 use Rattle.host_edge.specs.Views.{FolderView, SinkView}
 use Rattle.uprog_bin.specs.Spelling.{program_bytes}
 use Rattle.bbop_isa.specs.Forms.{Instruction}
 use Rattle.object_alloc.specs.Spelling.{IsImage}
 use Rattle.machine_model.specs.Operations.{Program}
 use Rattle.op_text.specs.Language.{Operation}
+use Rattle.uprog_code.specs.Programs.{IsProgram}
 use Rattle.uprog_code.specs.Texts.{ImplementsAll, text_op}
 use Rattle.machine_model.specs.Opened.{Image}
 use Rattle.machine_model.specs.Agrees.{IsPlain}
@@ -17,8 +19,8 @@ use Rattle.machine_model.specs.Script.{is_bbop}
 use Rattle.cli_model.specs.World.{World, world}
 use Rattle.cli_model.specs.Steps.{Take, Store, Refusal, Reason, Refused, NoMemory, Done, Stopped}
 use Rattle.cli_model.specs.Steps.{Goes}
-use Rattle.cli_model.proofs.Going.{stops}
-use Rattle.built_forms.specs.Texts.{ops_in, image_of, not_yet}
+use Rattle.object_alloc.specs.Reading.{Found}
+use Rattle.built_forms.specs.Texts.{ops_in, image_of, is_built_image, not_yet}
 use Rattle.simdram_cli.specs.declared.words.RunNames.{RunNames}
 use Rattle.simdram_cli.specs.declared.words.TheConstants.{OPS_MAX, IMAGE_MAX}
 use Rattle.simdram_cli.specs.declared.stop.Stop.{Stop}
@@ -28,13 +30,14 @@ use Rattle.built_forms.specs.Answers.{IsBuilt, NoImage}
 use Rattle.simdram_cli.specs.Stops.{end_of, image_reason, reason_of}
 use Rattle.simdram_cli.specs.Reads.{refusal_of, LoadedAs, NotLoaded, NotRead, OpsRead}
 use Rattle.simdram_cli.specs.Run.{work_steps}
-use Rattle.simdram_cli.specs.Works.{ChipView, WorkDone}
+use Rattle.simdram_cli.specs.Works.{WorkDone}
 use Rattle.simdram_cli.specs.Words.{are_apart, all_differ}
 use Rattle.simdram_cli.specs.Ends.{GoesToStore, StopsAtStore, ProgramTaken, ProgramStopped, DoneOn}
 use Rattle.simdram_cli.specs.Ends.{ImageWorked}
 use Rattle.simdram_cli.proofs.Joins.{told_text, told_is_text, loaded_text, loading_goes}
-use Rattle.simdram_cli.proofs.Joins.{loading_stops, AreOthers}
-use Rattle.simdram_cli.proofs.Reading.{no_sink, ops_accepted}
+use Rattle.simdram_cli.proofs.Joins.{loading_stops, AreOthers, no_sink, no_chip}
+use Rattle.simdram_cli.proofs.Reading.{ops_accepted}
+use Rattle.simdram_cli.proofs.Tallies.{both}
 
 pub program_unread : (names : RunNames) (reason : Reason) (old new : FolderView)
     → NotRead ops_in names.ops.now OPS_MAX reason old new → ProgramStopped names reason old new
@@ -42,33 +45,34 @@ program_unread names reason old new n = record {
   program = [];
   text = n.text;
   is_text = n.is_text;
-  goes = λ rest sink k. loading_stops names.ops.now OPS_MAX n.text (ops_in n.text) (λ _. Take
-      ∷ Store names.prog.now (program_bytes []) ∷ rest) reason (world old sink k) (world new sink k)
-      (n.fails sink k);
+  goes = λ sink chip. loading_stops names.ops.now OPS_MAX n.text (ops_in n.text) (λ _. Take
+      ∷ Store names.prog.now (program_bytes 2 []) ∷ []) reason (world old sink chip)
+      (world new sink chip) (n.fails sink chip);
 }
 
 -- OPS was read, and PROG stored
 pub program_taken : (names : RunNames) (ops : List Operation) (program : Program)
     (old mid new : FolderView) → OpsRead names.ops.now ops old mid
-    → ImplementsAll program (map text_op ops)
+    → IsProgram program → ImplementsAll program (map text_op ops)
     → GoesToStore names.prog.now program Done mid new → ProgramTaken names program old new
-program_taken names ops program old mid new r implements g = record {
+program_taken names ops program old mid new r legal implements g = record {
   text = r.text;
-  accepted = ops_accepted r.text r.is.0;
-  compiled = record { ops = ops; is = r.is; implements = implements };
-  goes = λ sink k. inl (world mid sink k, ((refl, r.loaded sink k), g sink k));
+  accepted = ops_accepted r.text r.is.accepted;
+  compiled = record { ops = ops; is = r.is; legal = legal; implements = implements };
+  goes = λ sink chip. inl (world mid sink chip, ((refl, r.loaded sink chip), g sink chip));
 }
 
 -- the answers of a call that stores PROG
-pub taken_by : {X : Type 0} (names : RunNames) (ops : List Operation) (program : X
-    → Program) (result : Result X Stop) (old mid new : FolderView)
+pub taken_by : {X : Type 0} (names : RunNames) (ops : List Operation) (program : X → Program)
+    (result : Result X Stop) (old mid new : FolderView)
     → OpsRead names.ops.now ops old mid
+    → IfOk result (λ p. IsProgram (program p))
     → IfOk result (λ p. ImplementsAll (program p) (map text_op ops))
     → IfOk result (λ p. GoesToStore names.prog.now (program p) Done mid new)
     → IfOk result (λ p. ProgramTaken names (program p) old new)
-taken_by names ops program (Ok p) old mid new r implements g =
-    program_taken names ops (program p) old mid new r implements g
-taken_by names ops program (Err stop) old mid new r implements g = tt
+taken_by names ops program (Ok p) old mid new r legal implements g =
+    program_taken names ops (program p) old mid new r legal implements g
+taken_by names ops program (Err stop) old mid new r legal implements g = tt
 
 -- OPS was read, and PROG not stored
 pub program_unstored : (names : RunNames) (ops : List Operation) (reason : Reason)
@@ -77,14 +81,12 @@ pub program_unstored : (names : RunNames) (ops : List Operation) (reason : Reaso
 program_unstored names ops reason old mid new r g = record {
   program = g.0;
   text = r.text;
-  is_text = loaded_text names.ops.now OPS_MAX r.text (world old no_sink 0) (world mid no_sink 0)
-      (r.loaded no_sink 0);
-  goes = λ rest sink k. loading_goes names.ops.now OPS_MAX r.text (ops_in r.text) (λ _. Take
-      ∷ Store names.prog.now (program_bytes g.0) ∷ rest) tt (Stopped reason) (world old sink k)
-      (world mid sink k) (world new sink k)
-      (ops_accepted r.text r.is.0) (r.loaded sink k)
-      (stops (Take ∷ Store names.prog.now (program_bytes g.0) ∷ []) rest reason
-      (world mid sink k) (world new sink k) (g.1 sink k));
+  is_text = loaded_text names.ops.now OPS_MAX r.text (world old no_sink no_chip)
+      (world mid no_sink no_chip) (r.loaded no_sink no_chip);
+  goes = λ sink chip. loading_goes names.ops.now OPS_MAX r.text (ops_in r.text) (λ _. Take
+      ∷ Store names.prog.now (program_bytes 2 g.0) ∷ []) tt (Stopped reason)
+      (world old sink chip) (world mid sink chip) (world new sink chip)
+      (ops_accepted r.text r.is.accepted) (r.loaded sink chip) (g.1 sink chip);
 }
 
 pub stopped_by : {X : Type 0} (names : RunNames) (ops : List Operation) (result : Result X Stop)
@@ -97,64 +99,63 @@ stopped_by names ops (Err stop) old mid new r g =
 
 -- IMAGE was not loaded
 pub image_unread : (names : RunNames) (program : Program) (script : List Instruction) (stop : Stop)
-    (old new : FolderView) (sink : SinkView) (k : ℕ) (chip : ChipView)
+    (old new : FolderView) (sink : SinkView) (chip : ChipView)
     → NotLoaded names.image.now IMAGE_MAX (reason_of stop) old new
-    → ImageWorked names program script (world old sink k) (world new sink k) chip (Err stop)
-image_unread names program script stop old new sink k chip n = record {
+    → ImageWorked names program script (world old sink chip) (world new sink chip) (Err stop)
+image_unread names program script stop old new sink chip n = record {
   text = told_text old.holds names.image.now;
   is_text = told_is_text old.holds names.image.now;
   goes = loading_stops names.image.now IMAGE_MAX (told_text old.holds names.image.now)
       (image_of (told_text old.holds names.image.now)) (λ i.
-      work_steps names.out.now program script i) (reason_of stop) (world old sink k)
-      (world new sink k)
-      (n (told_text old.holds names.image.now)
-      (refusal_of (image_of (told_text old.holds names.image.now))) sink k);
+      work_steps names.out.now program script i) (reason_of stop) (world old sink chip)
+      (world new sink chip) (n (told_text old.holds names.image.now)
+      (refusal_of (image_of (told_text old.holds names.image.now))) sink chip);
   done = tt;
 }
 
 -- IMAGE is refused
 pub image_refused : (names : RunNames) (program : Program) (script : List Instruction) (stop : Stop)
-    (text : List ℕ) (refusal : Refusal) (old new : FolderView) (sink : SinkView) (k : ℕ)
+    (text : List ℕ) (refusal : Refusal) (old new : FolderView) (sink : SinkView)
     (chip : ChipView) → LoadedAs names.image.now IMAGE_MAX text old new
     → image_of text ≡ Err refusal → reason_of stop ≡ Refused refusal
-    → ImageWorked names program script (world old sink k) (world new sink k) chip (Err stop)
-image_refused names program script stop text refusal old new sink k chip loaded e f = record {
+    → ImageWorked names program script (world old sink chip) (world new sink chip) (Err stop)
+image_refused names program script stop text refusal old new sink chip loaded e f = record {
   text = text;
-  is_text = loaded_text names.image.now IMAGE_MAX text (world old sink k) (world new sink k)
-      (loaded sink k);
+  is_text = loaded_text names.image.now IMAGE_MAX text (world old sink chip)
+      (world new sink chip) (loaded sink chip);
   goes = loading_stops names.image.now IMAGE_MAX text (image_of text) (λ i.
-      work_steps names.out.now program script i) (reason_of stop) (world old sink k)
-      (world new sink k) (rw f (ap refusal_of e, loaded sink k));
+      work_steps names.out.now program script i) (reason_of stop) (world old sink chip)
+      (world new sink chip) (rw f (ap refusal_of e, loaded sink chip));
   done = tt;
 }
 
 -- there was no memory to read IMAGE
 pub image_no_memory : (names : RunNames) (program : Program) (script : List Instruction)
-    (stop : Stop) (text : List ℕ) (old new : FolderView) (sink : SinkView) (k : ℕ) (chip : ChipView)
+    (stop : Stop) (text : List ℕ) (old new : FolderView) (sink : SinkView) (chip : ChipView)
     → LoadedAs names.image.now IMAGE_MAX text old new
-    → reason_of stop ≡ NoMemory → ImageWorked names program script (world old sink k)
-    (world new sink k) chip (Err stop)
-image_no_memory names program script stop text old new sink k chip loaded f = record {
+    → reason_of stop ≡ NoMemory → ImageWorked names program script (world old sink chip)
+    (world new sink chip) (Err stop)
+image_no_memory names program script stop text old new sink chip loaded f = record {
   text = text;
-  is_text = loaded_text names.image.now IMAGE_MAX text (world old sink k) (world new sink k)
-      (loaded sink k);
+  is_text = loaded_text names.image.now IMAGE_MAX text (world old sink chip)
+      (world new sink chip) (loaded sink chip);
   goes = loading_stops names.image.now IMAGE_MAX text (image_of text) (λ i.
-      work_steps names.out.now program script i) (reason_of stop) (world old sink k)
-      (world new sink k) (rw f (loaded sink k).reads);
+      work_steps names.out.now program script i) (reason_of stop) (world old sink chip)
+      (world new sink chip) (rw f (loaded sink chip).reads);
   done = tt;
 }
 
 -- IMAGE is not taken
 pub image_not_read : (names : RunNames) (program : Program) (script : List Instruction)
-    (stop : Stop) (no : FormNo) (text : List ℕ) (old new : FolderView) (sink : SinkView) (k : ℕ)
+    (stop : Stop) (no : FormNo) (text : List ℕ) (old new : FolderView) (sink : SinkView)
     (chip : ChipView) → LoadedAs names.image.now IMAGE_MAX text old new
     → NoImage text no → reason_of stop ≡ image_reason no
-    → ImageWorked names program script (world old sink k) (world new sink k) chip (Err stop)
-image_not_read names program script stop (forms.NotYet at) text old new sink k chip loaded e f =
-    image_refused names program script stop text (not_yet 7 (codes "image byte ") 0) old new sink k
+    → ImageWorked names program script (world old sink chip) (world new sink chip) (Err stop)
+image_not_read names program script stop (forms.NotYet at) text old new sink chip loaded e f =
+    image_refused names program script stop text (not_yet 7 (codes "image byte ") 0) old new sink
     chip loaded e.0 (f ∙ ap (λ n. Refused (not_yet 7 (codes "image byte ") n)) e.1)
-image_not_read names program script stop forms.NoMemory text old new sink k chip loaded e f =
-    image_no_memory names program script stop text old new sink k chip loaded f
+image_not_read names program script stop forms.NoMemory text old new sink chip loaded e f =
+    image_no_memory names program script stop text old new sink chip loaded f
 
 done_on : (program : Program) (script : List Instruction) (i : Image) (read : Result Image Refusal)
     (chip : ChipView) (result : Result ℕ Stop) → read ≡ Ok i → IsImage i.geometry i.table i.rows
@@ -165,27 +166,27 @@ done_on program script i read chip (Err stop) e is plain w = tt
 
 -- IMAGE was read, and the script done on it
 pub image_worked : (names : RunNames) (program : Program) (script : List Instruction) (i : Image)
-    (result : Result ℕ Stop) (text : List ℕ) (old mid : FolderView) (sink : SinkView) (k : ℕ)
-    (new : World) (chip : ChipView) → LoadedAs names.image.now IMAGE_MAX text old mid
+    (result : Result ℕ Stop) (text : List ℕ) (old mid : FolderView) (sink : SinkView)
+    (chip : ChipView) (new : World) → LoadedAs names.image.now IMAGE_MAX text old mid
     → image_of text ≡ Ok i → IsImage i.geometry i.table i.rows → AllByRecursion IsPlain script
-    → Goes (work_steps names.out.now program script i) (end_of result) (world mid sink k) new
-    → IfOk result (WorkDone program script i chip)
-    → ImageWorked names program script (world old sink k) new chip result
-image_worked names program script i result text old mid sink k new chip loaded e is plain g w =
+    → Goes (work_steps names.out.now program script i) (end_of result) (world mid sink chip) new
+    → IfOk result (WorkDone program script i new.chip)
+    → ImageWorked names program script (world old sink chip) new result
+image_worked names program script i result text old mid sink chip new loaded e is plain g w =
     record {
       text = text;
-      is_text = loaded_text names.image.now IMAGE_MAX text (world old sink k) (world mid sink k)
-          (loaded sink k);
+      is_text = loaded_text names.image.now IMAGE_MAX text (world old sink chip)
+          (world mid sink chip) (loaded sink chip);
       goes = loading_goes names.image.now IMAGE_MAX text (image_of text) (λ x.
-          work_steps names.out.now program script x) i (end_of result) (world old sink k)
-          (world mid sink k) new e (loaded sink k) g;
-      done = done_on program script i (image_of text) chip result e is plain w;
+          work_steps names.out.now program script x) i (end_of result) (world old sink chip)
+          (world mid sink chip) new e (loaded sink chip) g;
+      done = done_on program script i (image_of text) new.chip result e is plain w;
     }
 
-pub both : (x y : Bool) → (x && y) ≡ true → (x ≡ true) × (y ≡ true)
-both true true e = (refl, refl)
-both true false e = absurd (cc)
-both false y e = absurd (cc)
+-- an image that is built has one bank
+pub one_bank : (found : Found) → is_built_image found ≡ true → found.geometry.banks ≡ 1
+one_bank found e = eqb-true found.geometry.banks 1
+    (both (found.geometry.banks == 1) (found.geometry.words == 1) e).0
 
 pub all_bbops : (script : List Instruction) → AllByRecursion IsBuilt script
     → AllByRecursion (λ i. is_bbop i ≡ true) script

@@ -4,6 +4,7 @@ use Rattle.std.proofs.Common.{Some, None, refl, ◌∙◌, ap, inl, inr, arith}
 use Rattle.std.specs.Prelude.{bytes_eq, IfSome, Result, Ok, Err, OnOk, OnErr, is_err}
 use mathlib.Core.Path.{fun_ext}
 use Rattle.std.proofs.lemmas.Slice.Eq.{bytes_eq-Decides}
+use Rattle.dram_model.specs.View.{ChipView}
 use Rattle.host_edge.specs.Views.{Files, FolderView, SinkView, Told, Rose, NoCountFalls}
 use Rattle.host_edge.specs.Views.{KeepsOthers, HasBytes, AppendsPart}
 use Rattle.cli_model.specs.World.{World, world, with_file}
@@ -29,13 +30,13 @@ stored_is name bytes (Some before) None t h = absurd t
 stored_is name bytes (Some before) (Some after) t h =
     fun_ext (λ other. with_file_at name bytes before after other (bytes_eq other name) refl t h)
 
-pub stored : (name bytes : List ℕ) (old new : FolderView) (sink : SinkView) (chip : ℕ)
+pub stored : (name bytes : List ℕ) (old new : FolderView) (sink : SinkView) (chip : ChipView)
     → Told (KeepsOthers name) old.holds new.holds → HasBytes new name bytes → NoCountFalls old new
     → Stored name bytes (world old sink chip) (world new sink chip)
 stored name bytes old new sink chip t h n = record
     { files = stored_is name bytes old.holds new.holds t h; counts = n; sink = refl; chip = refl }
 
-pub unstored : (name : List ℕ) (old new : FolderView) (sink : SinkView) (chip : ℕ)
+pub unstored : (name : List ℕ) (old new : FolderView) (sink : SinkView) (chip : ChipView)
     → Told (KeepsOthers name) old.holds new.holds → Rose old.store_faults new.store_faults
     → NoCountFalls old new → Unstored name (world old sink chip) (world new sink chip)
 unstored name old new sink chip t r n = record {
@@ -46,22 +47,22 @@ unstored name old new sink chip t r n = record {
   chip = refl;
 }
 
-pub used : (files : FolderView) (sink : SinkView) (a b : ℕ) → a ≤ b
+pub used : (files : FolderView) (sink : SinkView) (a b : ChipView) → a.faults ≤ b.faults
     → Used (world files sink a) (world files sink b)
 used files sink a b l = record { files = refl; sink = refl; chip = l }
 
-pub sent : (R : List ℕ → List ℕ → Type 0) (files : FolderView) (old new : SinkView) (chip : ℕ)
+pub sent : (R : List ℕ → List ℕ → Type 0) (files : FolderView) (old new : SinkView) (chip : ChipView)
     → Told R old.sent new.sent → old.faults ≤ new.faults
     → Sent R (world files old chip) (world files new chip)
 sent R files old new chip t l = record { files = refl; sent = t; faults = l; chip = refl }
 
-pub finish_unstored : (name bytes total : List ℕ) (f g : FolderView) (s : SinkView) (a b : ℕ)
-    → a ≤ b → Unstored name (world f s b) (world g s b)
+pub finish_unstored : (name bytes total : List ℕ) (f g : FolderView) (s : SinkView) (a b : ChipView)
+    → a.faults ≤ b.faults → Unstored name (world f s b) (world g s b)
     → Goes (Use ∷ Store name bytes ∷ Put total ∷ []) (Stopped (CannotWrite name)) (world f s a)
     (world g s b)
 finish_unstored name bytes total f g s a b l u = inl (world f s b, (used f s a b l, inr (refl, u)))
 
-pub finish_unput : (name bytes total : List ℕ) (f g : FolderView) (s t : SinkView) (a b : ℕ) → a ≤ b
+pub finish_unput : (name bytes total : List ℕ) (f g : FolderView) (s t : SinkView) (a b : ChipView) → a.faults ≤ b.faults
     → Stored name bytes (world f s b) (world g s b) → Told (AppendsPart total) s.sent t.sent
     → s.faults ≤ t.faults → Rose s.faults t.faults
     → Goes (Use ∷ Store name bytes ∷ Put total ∷ []) (Stopped PutFailed) (world f s a) (world g t b)
@@ -72,12 +73,12 @@ finish_unput name bytes total f g s t a b l u p n r =
         used f s a b l,
         inl (
           world g s b,
-          (u, inr (tt, sent (AppendsPart total) g s t b p n, r)),
+          (u, inr (refl, sent (AppendsPart total) g s t b p n, r)),
         ),
       ),
     )
 
-pub finish_done : (name bytes total : List ℕ) (f g : FolderView) (s t : SinkView) (a b : ℕ) → a ≤ b
+pub finish_done : (name bytes total : List ℕ) (f g : FolderView) (s t : SinkView) (a b : ChipView) → a.faults ≤ b.faults
     → Stored name bytes (world f s b) (world g s b)
     → Told (λ before after. after ≡ before ++ total) s.sent t.sent → s.faults ≤ t.faults
     → Goes (Use ∷ Store name bytes ∷ Put total ∷ []) Done (world f s a) (world g t b)
@@ -106,7 +107,7 @@ nothing_read w = record {
   chip = refl;
 }
 
-pub take_stored : (name bytes : List ℕ) (f g : FolderView) (s : SinkView) (k : ℕ)
+pub take_stored : (name bytes : List ℕ) (f g : FolderView) (s : SinkView) (k : ChipView)
     → Stored name bytes (world f s k) (world g s k)
     → Goes (Take ∷ Store name bytes ∷ []) Done (world f s k) (world g s k)
 take_stored name bytes f g s k t = inl (
@@ -114,12 +115,12 @@ take_stored name bytes f g s k t = inl (
   (nothing_read (world f s k), inl (world g s k, (t, refl))),
 )
 
-pub take_unstored : (name bytes : List ℕ) (f g : FolderView) (s : SinkView) (k : ℕ)
+pub take_unstored : (name bytes : List ℕ) (f g : FolderView) (s : SinkView) (k : ChipView)
     → Unstored name (world f s k) (world g s k)
     → Goes (Take ∷ Store name bytes ∷ []) (Stopped (CannotWrite name)) (world f s k) (world g s k)
 take_unstored name bytes f g s k t = inl (world f s k, (nothing_read (world f s k), inr (refl, t)))
 
-pub line_done : (bytes : List ℕ) (files : FolderView) (s t : SinkView) (a b : ℕ) → a ≤ b
+pub line_done : (bytes : List ℕ) (files : FolderView) (s t : SinkView) (a b : ChipView) → a.faults ≤ b.faults
     → Told (λ before after. after ≡ before ++ bytes) s.sent t.sent → s.faults ≤ t.faults
     → Goes (Use ∷ Put bytes ∷ []) Done (world files s a) (world files t b)
 line_done bytes files s t a b l p n = inl (
@@ -133,12 +134,12 @@ line_done bytes files s t a b l p n = inl (
   ),
 )
 
-pub line_unput : (bytes : List ℕ) (files : FolderView) (s t : SinkView) (a b : ℕ) → a ≤ b
+pub line_unput : (bytes : List ℕ) (files : FolderView) (s t : SinkView) (a b : ChipView) → a.faults ≤ b.faults
     → Told (AppendsPart bytes) s.sent t.sent → s.faults ≤ t.faults → Rose s.faults t.faults
     → Goes (Use ∷ Put bytes ∷ []) (Stopped PutFailed) (world files s a) (world files t b)
 line_unput bytes files s t a b l p n r = inl (
   world files s b,
-  (used files s a b l, inr (tt, sent (AppendsPart bytes) files s t b p n, r)),
+  (used files s a b l, inr (refl, sent (AppendsPart bytes) files s t b p n, r)),
 )
 
 -- a clause at the answer that a test showed

@@ -1,25 +1,40 @@
 -- What a chip's counters come to.
 use Rattle.std.proofs.Common.{◌≡◌, ℕ, zero, suc, ◌+◌, ◌*◌, List, [], ◌∷◌, ◌++◌, map, Option, Some}
-use Rattle.std.proofs.Common.{None, refl, ◌∙◌, ap, arith, append-nil, add-zero, zero-add, true}
-use Rattle.std.specs.Prelude.{IfSome, flat_map}
+use Rattle.std.proofs.Common.{None, refl, sym, ◌∙◌, ap, subst, arith, append-nil, add-zero, zero-add}
+use Rattle.std.proofs.Common.{true, ◌<◌}
+use Rattle.std.specs.Prelude.{All, Bool, false, ◌&&◌, ◌≤◌, IfSome, flat_map, nat_le}
+use Rattle.std.proofs.lemmas.Bool.{leb-true}
+use Rattle.std.proofs.lemmas.List.Elements.{All-nil, All-cons, All-head, All-tail}
 use Rattle.std.specs.List.{range_with_len, AllByRecursion}
 use Rattle.std.proofs.Math.Nat.{suc-mul}
 use Rattle.dram_model.specs.declared.dram.Counters.{Counters}
 use Rattle.dram_model.specs.declared.address.Command.TheVariants.{Ap, Aap}
 use Rattle.dram_model.specs.Chip.{Banks, Event, after, counted, all_counted, Grew}
 use Rattle.dram_model.specs.Chip.Event.{Row, Write}
+use Rattle.dram_model.specs.View.{ChipView, Did, DidRead, with_reads}
 use Rattle.dram_model.proofs.EventLaws.{all_counted-append}
-use Rattle.object_alloc.specs.Spelling.{Rows}
+use Rattle.dram_model.specs.declared.geometry.Geometry.{Geometry}
+use Rattle.dram_model.specs.Geometry.{is_geometry, is_between, fits_size}
+use Rattle.dram_model.specs.Elements.{column_count}
+use Rattle.object_alloc.specs.Listed.{Listing, Named}
+use Rattle.object_alloc.specs.Spelling.{IsObject, Rows}
+use Rattle.sim_machine.specs.Granted.{IsSetting}
 use Rattle.bbop_isa.specs.Forms.{Instruction}
 use Rattle.machine_model.specs.Operations.{Program, operations_in}
 use Rattle.machine_model.specs.Opened.{Image, row_writes, opened}
-use Rattle.machine_model.specs.Script.{is_bbop, script_events, replies, sum_of}
-use Rattle.machine_model.proofs.Events.{events_are_steps, counted_by_replies}
-use Rattle.sim_machine.specs.Did.{Did, shown}
-use Rattle.sim_machine.specs.Image.{with_reads}
+use Rattle.machine_model.specs.Schedule.{Ahead}
+use Rattle.machine_model.specs.Script.{is_bbop, events_in_order, replies, sum_of}
+use Rattle.machine_model.specs.Laws.{FitsBanks}
+use Rattle.machine_model.proofs.Events.{in_order_steps, in_order_counted}
+use Rattle.machine_model.proofs.Pieces.{one_bank}
 use Rattle.simdram_cli.specs.Run.{opened_counters, tally_by, refused_by}
-use Rattle.simdram_cli.specs.Works.{chip_view, WorkDone}
+use Rattle.simdram_cli.specs.Works.{OpenedOn, WorkDone}
 use Rattle.simdram_cli.proofs.Bbops.{none_loaded, none_printed}
+
+pub both : (x y : Bool) → (x && y) ≡ true → (x ≡ true) × (y ≡ true)
+both true true e = (refl, refl)
+both true false e = absurd (cc)
+both false y e = absurd (cc)
 
 abbrev pub more_writes : Counters → ℕ → Counters
 more_writes k n = record k { writes = k.writes + n }
@@ -63,13 +78,13 @@ opened_counted i = banks_counted i.rows i.geometry.rows 0 i.geometry.banks
 pub tally_is : (program : Program) (script : List Instruction) (i : Image)
     → AllByRecursion (λ instr. is_bbop instr ≡ true) script
     → with_reads (i.geometry.banks * i.geometry.rows)
-    (all_counted (script_events i.geometry (operations_in program) i.table script)
+    (all_counted (events_in_order i.geometry (operations_in program) i.table script)
     (opened_counters i.geometry)) ≡ tally_by program script i
 tally_is program script i bbops =
     let loaded = none_loaded i.geometry (operations_in program) i.table script bbops in
     let printed = none_printed i.geometry (operations_in program) i.table script bbops in
     let all = i.geometry.banks * i.geometry.rows in
-    ap (with_reads all) (counted_by_replies i.geometry (operations_in program) i.table script
+    ap (with_reads all) (in_order_counted i.geometry (operations_in program) i.table script
     (opened_counters i.geometry) bbops)
     ∙ rw (loaded, printed, add-zero all)
     (let sum = sum_of (replies i.geometry (operations_in program) i.table script) in
@@ -84,27 +99,59 @@ log_is start None (Some y) (Some z) events g h k = absurd h
 log_is start (Some x) (Some y) (Some z) events g h k = k ∙ append-nil y ∙ h
     ∙ ap (λ w. w ++ events) g
 
+-- what an image and a script on one bank have
+pub record IsPlayed (script : List Instruction) (i : Image) : Type 0 where
+  pub bbops : AllByRecursion (λ instr. is_bbop instr ≡ true) script
+  pub one : i.geometry.banks ≡ 1
+  pub words : 0 < i.geometry.words
+  pub fits : FitsBanks i.geometry i.table
+
+all_fit : (g : Geometry) (table : List Named) → All (λ named. IsObject g named.1) table
+    → FitsBanks g table
+all_fit g [] h = All-nil (λ named. named.1.count ≤ column_count g * g.banks)
+all_fit g (named ∷ table) h =
+    All-cons (λ named. named.1.count ≤ column_count g * g.banks) named table
+    (All-head (λ named. IsObject g named.1) named table h).fits
+    (all_fit g table (All-tail (λ named. IsObject g named.1) named table h))
+
+pub some_words : (g : Geometry) → is_geometry g ≡ true → 0 < g.words
+some_words g e =
+    let one = both (is_between 1 16 g.banks && is_between 64 1006 g.rows
+    && is_between 1 1024 g.words) (fits_size g) e in
+    let two = both (is_between 1 16 g.banks && is_between 64 1006 g.rows)
+    (is_between 1 1024 g.words) one.0 in
+    let three = both (nat_le 1 g.words) (nat_le g.words 1024) two.1 in
+    leb-true 1 g.words three.0
+
+pub played : (script : List Instruction) (i : Image) {listing : Listing} {program : Program}
+    → AllByRecursion (λ instr. is_bbop instr ≡ true) script → i.geometry.banks ≡ 1
+    → IsSetting i.geometry listing program → IsPlayed script (record i { table = listing.pairs })
+played script i bbops one set = record {
+  bbops = bbops;
+  one = one;
+  words = some_words i.geometry set.geometry;
+  fits = all_fit i.geometry _ set.objects;
+}
+
 -- a script that was done to its end
-pub work_done : (program : Program) (script : List Instruction) (i : Image) (a b c : Banks)
-    (x y z : Counters) (p q r : Option (List Event)) (refused : ℕ)
-    → AllByRecursion (λ instr. is_bbop instr ≡ true) script
-    → a ≡ opened i → x ≡ opened_counters i.geometry → Grew (Some []) p (row_writes i)
-    → Did (script_events i.geometry (operations_in program) i.table script) (shown a x p)
-    (shown b y q)
-    → c ≡ b → z ≡ with_reads (i.geometry.banks * i.geometry.rows) y → Grew q r []
-    → refused ≡ refused_by program script i
-    → WorkDone program script i (chip_view c z r) refused
-work_done program script i a b c x y z p q r refused bbops banks counters log did same read told
-    count = record {
-      banks = same ∙ did.banks
-          ∙ ap (after (script_events i.geometry (operations_in program) i.table script)) banks
-          ∙ events_are_steps i.geometry (operations_in program) i.table script (opened i);
-      counters = read ∙ ap (with_reads (i.geometry.banks * i.geometry.rows)) (did.counters
-          ∙ ap (all_counted (script_events i.geometry (operations_in program) i.table script))
-              counters)
-          ∙ tally_is program script i bbops;
-      log = log_is (row_writes i) p q r (script_events i.geometry (operations_in program) i.table
-          script) log did.log told;
+pub work_done : (program : Program) (script : List Instruction) (i : Image) (a b c : ChipView)
+    (refused : ℕ) → IsPlayed script i → OpenedOn i a
+    → Did (events_in_order i.geometry (operations_in program) i.table script) a b
+    → DidRead (i.geometry.banks * i.geometry.rows) b c → refused ≡ refused_by program script i
+    → WorkDone program script i c refused
+work_done program script i a b c refused played start did read count =
+    let o = operations_in program in
+    let events = events_in_order i.geometry o i.table script in
+    record {
+      banks = read.banks ∙ did.banks ∙ ap (after events) start.banks
+          ∙ in_order_steps i.geometry o i.table script (opened i);
+      counters = read.counters
+          ∙ ap (with_reads (i.geometry.banks * i.geometry.rows)) (did.counters
+          ∙ ap (all_counted events) start.counters)
+          ∙ tally_is program script i played.bbops;
+      log = subst (λ (es : List Event). IfSome c.log (λ told. told ≡ row_writes i ++ es))
+          (sym (one_bank i.geometry o Ahead i.table script played.one played.words played.fits))
+          (log_is (row_writes i) a.log b.log c.log events start.log did.log read.log);
       refused_is = count;
     }
 

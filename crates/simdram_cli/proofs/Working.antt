@@ -10,12 +10,13 @@ use Rattle.bbop_isa.specs.declared.instr.Instr.{Instr}
 use Rattle.bbop_isa.specs.Forms.{Instruction, view_of}
 use Rattle.machine_model.specs.Operations.{Operations}
 use Rattle.machine_model.specs.Steps.{reply_to}
-use Rattle.machine_model.specs.Script.{is_bbop, is_refused, replies, script_events}
+use Rattle.machine_model.specs.Script.{is_bbop, is_refused, replies, events_in_order}
 use Rattle.machine_model.specs.Report.{Said, said_in_rows, line}
 use Rattle.cli_model.specs.World.{World}
 use Rattle.cli_model.specs.Steps.{Step, Use, Put, End, Done, Stopped, Reason, Goes}
 use Rattle.cli_model.proofs.Going.{goes_on, stops}
-use Rattle.sim_machine.specs.Did.{Did, Shown, Did-more}
+use Rattle.dram_model.specs.View.{ChipView, Did}
+use Rattle.dram_model.proofs.EventLaws.{Did-more}
 use Rattle.sim_machine.specs.Granted.{instr_events}
 use Rattle.simdram_cli.specs.Run.{line_steps}
 use Rattle.simdram_cli.proofs.Bbops.{line_more, events_more, reply_more}
@@ -58,12 +59,12 @@ stops_line g o table banks number i rest reason a b bbop one =
 
 -- one instruction's events, and then the others'
 pub did_line : (g : Geometry) (o : Operations) (table : List Named) (i : Instruction)
-    (rest : List Instruction) (a b c : Shown) → is_bbop i ≡ true
-    → Did (instr_events g o table i) a b → Did (script_events g o table rest) b c
-    → Did (script_events g o table (i ∷ rest)) a c
+    (rest : List Instruction) (a b c : ChipView) → is_bbop i ≡ true
+    → Did (instr_events g o table i) a b → Did (events_in_order g o table rest) b c
+    → Did (events_in_order g o table (i ∷ rest)) a c
 did_line g o table i rest a b c bbop one more =
     subst (λ (events : _). Did events a c) (sym (events_more g o table i rest bbop))
-    (Did-more (instr_events g o table i) (script_events g o table rest) a b c one more)
+    (Did-more (instr_events g o table i) (events_in_order g o table rest) a b c one more)
 
 tally : {X : Type 0} (p : X → Bool) → List X → ℕ
 tally p [] = 0

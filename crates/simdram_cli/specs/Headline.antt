@@ -3,9 +3,9 @@ use Rattle.std.specs.Prelude.{map, ◌≡◌, ◌≢◌, ◌⊎◌, ℕ, ◌+◌
 use Rattle.std.specs.Prelude.{None, Result, IfSome, count_by}
 use Rattle.std.specs.List.{AllByRecursion}
 use Rattle.std.specs.Result.{result_ok}
-use denote.Ref.{Bor}
 use Rattle.host_edge.specs.Views.{Files, Told}
 use Rattle.dram_model.specs.Chip.{row_in}
+use Rattle.dram_model.specs.View.{ChipView}
 use Rattle.object_alloc.specs.Spelling.{image_bytes}
 use Rattle.uprog_bin.specs.Spelling.{program_bytes}
 use Rattle.bbop_isa.specs.Forms.{Instruction}
@@ -15,7 +15,8 @@ use Rattle.machine_model.specs.declared.Why.TheVariants as why
 use Rattle.machine_model.specs.Operations.{Program, Operations, operations_of, operations_in}
 use Rattle.machine_model.specs.Operations.{meaning_in}
 use Rattle.op_text.specs.Language.{Operation}
-use Rattle.op_print.specs.Reading.{IsTextOf}
+use Rattle.op_text.specs.OpsOf.{IsOpsOf}
+use Rattle.uprog_code.specs.Programs.{IsProgram}
 use Rattle.uprog_code.specs.Texts.{TextOp, ImplementsAll, text_op}
 use Rattle.machine_model.specs.Steps.{Held, table_of}
 use Rattle.machine_model.specs.Agrees.{HoldsNumbers}
@@ -24,13 +25,11 @@ use Rattle.machine_model.specs.Script.{script_events, sum_of, sum_done, rows_loa
 use Rattle.machine_model.specs.Script.{is_refused}
 use Rattle.machine_model.specs.Report.{report, said_in_words}
 use Rattle.machine_model.specs.Opened.{Image, row_writes, opened, rows_of, words_of}
+use Rattle.cli_model.specs.World.{World}
 use Rattle.cli_model.specs.Steps.{Refusal}
-use Rattle.simdram_cli.specs.declared.words.RunNames.{RunNames}
-use Rattle.simdram_cli.specs.declared.words.Command.TheVariants.{Run}
-use Rattle.simdram_cli.specs.Words.{command_of}
 use Rattle.built_forms.specs.Texts.{script_in, image_of}
+use Rattle.simdram_cli.specs.declared.words.RunNames.{RunNames}
 use Rattle.simdram_cli.specs.Run.{done_status}
-use Rattle.simdram_cli.specs.Works.{ChipView}
 
 -- the ops of OPS, the instructions of SCRIPT and the image of IMAGE, and the program in PROG
 pub record Job : Type 0 where
@@ -44,10 +43,10 @@ abbrev pub read_as : {A : Type 0} → (List ℕ → Result A Refusal) → Option
 read_as read None = None
 read_as read (Some bytes) = result_ok (read bytes)
 
--- the file is there, its tokens spell these ops, and none breaks a rule
+-- the file is there, and its text is one of these ops
 abbrev pub Spells : Option (List ℕ) → List Operation → Type 0
 Spells None ops = ⊥
-Spells (Some bytes) ops = IsTextOf bytes ops
+Spells (Some bytes) ops = IsOpsOf bytes ops
 
 -- the job is that of the files at entry
 pub record IsJob (names : RunNames) (before : Files) (job : Job) : Type 0 where
@@ -70,9 +69,10 @@ abbrev pub state_after : Job → List Held
 state_after job = words_at_end job.image.geometry (operations job) (meaning_in (text_of job))
     (words_of job.image) job.script
 
--- PROG is the spelling of a program that implements the operations
+-- PROG is the spelling of a program, which implements the operations
 pub record ProgramWritten (names : RunNames) (job : Job) (after : Files) : Type 0 where
-  pub file : after names.prog.now ≡ Some (program_bytes job.program)
+  pub file : after names.prog.now ≡ Some (program_bytes 2 job.program)
+  pub legal : IsProgram job.program
   pub implements : ImplementsAll job.program (text_of job)
 
 -- OUT is the spelling of the word machine's table with the chip's rows, in which each object has
@@ -127,15 +127,19 @@ pub record RepliesExact (names : RunNames) (job : Job) (status : ℕ) (before af
     pub others : (other : List ℕ) → other ≢ names.prog.now → other ≢ names.out.now
         → after other ≡ before other
 
--- Where the words are those of a run
-abbrev pub OnRunWords : List (Bor (List ℕ)) → (RunNames → Type 0) → Type 0
-OnRunWords words P = (names : RunNames) → command_of words ≡ Some (Run names) → P names
+-- The headline: one job, that of the files at entry, and the six promises on it
+pub record Headline (names : RunNames) (before after : Files) (old new : World) (status : ℕ)
+    : Type 0 where
+  pub job : Job
+  pub of_files : IsJob names before job
+  pub program_written : ProgramWritten names job after
+  pub objects_right : ObjectsRight names job after new.chip
+  pub rows_untouched : RowsUntouched job new.chip
+  pub commands_counted : CommandsCounted job new.chip
+  pub report_sent : ReportSent job new.chip old.sink.sent new.sink.sent
+  pub replies_exact : RepliesExact names job status before after
 
--- Where the words are those of a run, the status is 0 or 8 and the folder tells its files: a
--- promise on its job
-abbrev pub OnRun : List (Bor (List ℕ)) → ℕ → Option Files → Option Files
-    → (RunNames → Job → Files → Files → Type 0) → Type 0
-OnRun words status old new P =
-    (names : RunNames) → command_of words ≡ Some (Run names) → (status ≡ 0) ⊎ (status ≡ 8)
-    → Told (λ before after. (job : Job) × IsJob names before job × ProgramWritten names job after
-    × P names job before after) old new
+-- there is one such job: the files determine it
+abbrev pub OneJob : Type 0
+OneJob = (names : RunNames) (before after : Files) (a b : Job) → IsJob names before a
+    → IsJob names before b → ProgramWritten names a after → ProgramWritten names b after → a ≡ b

@@ -6,5 +6,5 @@ pub mod Run
 pub mod Works
 pub mod Ends
 pub mod Headline
-pub mod Statuses
 pub mod Show
+pub mod Commands

@@ -1,8 +1,9 @@
 -- How a file is loaded and read, whatever the sink and the chip show meanwhile.
 use Rattle.std.specs.Prelude.{◌≡◌, ℕ, List, Option, Some, None, Result, Ok, Err, IfSome}
+use Rattle.dram_model.specs.View.{ChipView}
 use Rattle.host_edge.specs.Views.{Files, FolderView, SinkView}
 use Rattle.op_text.specs.Language.{Operation}
-use Rattle.op_print.specs.Reading.{IsTextOf}
+use Rattle.op_text.specs.OpsOf.{IsOpsOf}
 use Rattle.cli_model.specs.World.{world}
 use Rattle.cli_model.specs.Steps.{Refusal, Reason, Loaded, LoadFails}
 use Rattle.simdram_cli.specs.declared.words.TheConstants.{OPS_MAX}
@@ -17,13 +18,13 @@ IsText holds name text = IfSome holds (λ files. IfSome (files name) (λ bytes. 
 
 -- the file was loaded, with this text
 abbrev pub LoadedAs : (name : List ℕ) (limit : ℕ) (text : List ℕ) → FolderView → FolderView → Type 0
-LoadedAs name limit text old new = (sink : SinkView) (chip : ℕ)
+LoadedAs name limit text old new = (sink : SinkView) (chip : ChipView)
     → Loaded name limit text (world old sink chip) (world new sink chip)
 
 -- the file was not loaded
 abbrev pub NotLoaded : (name : List ℕ) (limit : ℕ) → Reason → FolderView → FolderView → Type 0
 NotLoaded name limit reason old new =
-    (text : List ℕ) (refusal : Option Refusal) (sink : SinkView) (chip : ℕ)
+    (text : List ℕ) (refusal : Option Refusal) (sink : SinkView) (chip : ChipView)
     → LoadFails name limit text refusal reason (world old sink chip) (world new sink chip)
 
 -- the file was loaded, and its text is read as this value
@@ -40,11 +41,11 @@ pub record NotRead {A : Type 0} (read : List ℕ
     0 where
   pub text : List ℕ
   pub is_text : IsText old.holds name text
-  pub fails : (sink : SinkView) (chip : ℕ) → LoadFails name limit text (refusal_of (read text))
+  pub fails : (sink : SinkView) (chip : ChipView) → LoadFails name limit text (refusal_of (read text))
       reason (world old sink chip) (world new sink chip)
 
 -- OPS was loaded, and its text is one of these ops
 pub record OpsRead (name : List ℕ) (ops : List Operation) (old new : FolderView) : Type 0 where
   pub text : List ℕ
-  pub is : IsTextOf text ops
+  pub is : IsOpsOf text ops
   pub loaded : LoadedAs name OPS_MAX text old new

@@ -73,7 +73,7 @@ work_steps out program script i =
 abbrev pub run_steps : RunNames → Program → Texts → List Step
 run_steps names program texts =
     loading names.ops.now OPS_MAX texts.ops (ops_in texts.ops) (λ t.
-    Take ∷ Store names.prog.now (program_bytes program)
+    Take ∷ Store names.prog.now (program_bytes 2 program)
     ∷ loading names.script.now SCRIPT_MAX texts.script (script_in texts.script) (λ script.
     loading names.image.now IMAGE_MAX texts.image (image_of texts.image) (λ i.
     work_steps names.out.now program script i)))

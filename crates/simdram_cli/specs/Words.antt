@@ -1,6 +1,6 @@
 -- The words of a command.
-use Rattle.std.specs.Prelude.{ℕ, Bool, true, not, ◌&&◌, List, [], ◌∷◌, Option, Some, None, bytes_eq}
-use Rattle.std.specs.Prelude.{codes, if◌then◌else◌}
+use Rattle.std.specs.Prelude.{◌≡◌, ℕ, Bool, true, not, ◌&&◌, List, [], ◌∷◌, Option, Some, None}
+use Rattle.std.specs.Prelude.{bytes_eq, codes, if◌then◌else◌}
 use Rattle.std.specs.List.{list_all}
 use denote.Ref.{Bor}
 use Rattle.simdram_cli.specs.declared.words.Command.{Command}
@@ -24,3 +24,9 @@ command_of (verb ∷ ops ∷ prog ∷ script ∷ image ∷ out ∷ []) =
     else None
 command_of (verb ∷ ops ∷ []) = if bytes_eq verb.now (codes "show") then Some (Show ops) else None
 command_of _ = None
+
+-- the files of a command are apart
+abbrev pub IsApart : Command → Type 0
+IsApart (Run names) = are_apart names.ops.now names.prog.now names.script.now names.image.now
+    names.out.now ≡ true
+IsApart (Show name) = Unit {0}

@@ -11,5 +11,5 @@ mod words;
 mod work;
 
 pub use stop::{NotYet, Stop, status_of, tell};
-pub use top::simdram;
+pub use top::{one_job, simdram};
 pub use words::{Command, IMAGE_MAX, OPS_MAX, RunNames, SCRIPT_MAX, command_of};

@@ -1,28 +1,27 @@
 //! A script is done on an image, on a chip.
 
-ghost use Rattle.std.specs.Prelude.{◌≡◌, ◌≢◌, ◌+◌, ◌*◌, ◌<◌, ◌≤◌, ◌^◌, ◌∷◌, [], length, map, true};
-ghost use Rattle.std.specs.Prelude.{Some, IfOk, OnOk, OnErr};
+ghost use Rattle.std.specs.Prelude.{◌≡◌, ◌+◌, ◌*◌, ◌<◌, ◌≤◌, ◌^◌, ◌∷◌, [], length, map, true};
+ghost use Rattle.std.specs.Prelude.{IfOk, OnOk};
 ghost use Rattle.std.specs.List.{AllByRecursion};
-ghost use Rattle.host_edge.specs.Views.{FolderView, SinkView, Told, KeepsOthers};
-ghost use Rattle.dram_model.specs.Chip.{Grew};
+ghost use Rattle.host_edge.specs.Views.{FolderView, SinkView};
+ghost use Rattle.dram_model.specs.View.{HasBegun, DidRead, with_reads};
 ghost use Rattle.uprog_code.specs.Shape.{microprograms_of};
 ghost use Rattle.object_alloc.specs.Exact.{found_in};
 ghost use Rattle.object_alloc.specs.Reading.{rows_size};
 ghost use Rattle.object_alloc.specs.Spelling.{image_bytes};
 ghost use Rattle.bbop_isa.specs.Forms.{view_of};
 ghost use Rattle.machine_model.specs.Agrees.{IsPlain};
-ghost use Rattle.machine_model.specs.Opened.{opened, row_writes, rows_of};
+ghost use Rattle.machine_model.specs.Opened.{rows_of};
 ghost use Rattle.machine_model.specs.Report.{total_line};
 ghost use Rattle.machine_model.specs.Script.{is_bbop};
 ghost use Rattle.cli_model.specs.World.{world};
 ghost use Rattle.cli_model.specs.Steps.{Goes, Open, Use, Store, Put};
 ghost use Rattle.sim_machine.specs.Granted.{IsSetting};
-ghost use Rattle.sim_machine.specs.Image.{with_reads};
 ghost use Rattle.sim_machine.specs.Machine.{IsReady, geometry_of, program_of, table_in};
 ghost use Rattle.built_forms.specs.Texts.{image_found};
-ghost use Rattle.simdram_cli.specs.Run.{opened_counters, work_steps};
+ghost use Rattle.simdram_cli.specs.Run.{work_steps};
 ghost use Rattle.simdram_cli.specs.Stops.{end_of};
-ghost use Rattle.simdram_cli.specs.Works.{WorkDone, chip_view};
+ghost use Rattle.simdram_cli.specs.Works.{OpenedOn, WorkDone};
 
 use crate::stop::Stop;
 use crate::work::work;
@@ -43,21 +42,14 @@ fn open<'a, D: Dram>(
 ) -> Result<Machine, Stop<'a>>
     requires set { IsSetting image.geometry image.table (microprograms_of program) }
     requires rows { length image.rows.now ≡ rows_size image.geometry }
-    ensures begun { OnOk result (D.begun chip.new) }
     ensures borrow { D.borrow chip.new ≡ D.borrow chip.old }
-    ensures geometry { OnOk result (D.geometry chip.new ≡ image.entry.geometry) }
-    ensures faults { D.faults chip.old ≤ D.faults chip.new }
-    ensures banks { OnOk result (D.banks chip.new ≡ opened (image_found (found_in image.entry))) }
-    ensures counters { OnOk result (D.counters chip.new ≡ opened_counters image.entry.geometry) }
-    ensures log { OnOk result (Grew (Some []) (D.log chip.new)
-        (row_writes (image_found (found_in image.entry)))) }
+    ensures opened { OnOk result (OpenedOn (image_found (found_in image.entry)) (D.view chip.new)) }
     ensures ready { IfOk result IsReady }
     ensures program { IfOk result (λ machine. program_of machine ≡ microprograms_of program) }
     ensures shape { IfOk result (λ machine. geometry_of machine ≡ image.entry.geometry) }
     ensures table { IfOk result (λ machine. table_in machine ≡ image.entry.table.pairs) }
-    ensures goes { (files : FolderView) (sink : SinkView)
-        → Goes (Open ∷ []) (end_of result) (world files sink (D.faults chip.old))
-        (world files sink (D.faults chip.new)) }
+    ensures goes { (files : FolderView) (sink : SinkView) → Goes (Open ∷ []) (end_of result)
+        (world files sink (D.view chip.old)) (world files sink (D.view chip.new)) }
 {
     match Machine::open(program, image, chip, alloc) {
         Ok(machine) => Ok(machine),
@@ -76,21 +68,18 @@ fn finish<'a, F: Folder, S: Sink, D: Dram>(
     chip: &mut D,
 ) -> Result<(), Stop<'a>>
     requires ready { IsReady machine.old }
-    requires begun { D.begun chip.old }
-    requires geometry { D.geometry chip.old ≡ geometry_of machine.old }
-    requires reads { (D.counters chip.old).reads < 2 ^ 61 }
-    ensures faults { D.faults chip.old ≤ D.faults chip.new }
+    requires begun { HasBegun (D.view chip.old) }
+    requires geometry { (D.view chip.old).geometry ≡ geometry_of machine.old }
+    requires reads { (D.view chip.old).counters.reads < 2 ^ 62 }
     ensures borrow { D.borrow chip.new ≡ D.borrow chip.old }
-    ensures banks { OnOk result (D.banks chip.new ≡ D.banks chip.old) }
-    ensures counters { OnOk result (D.counters chip.new
-        ≡ with_reads ((geometry_of machine.old).banks * (geometry_of machine.old).rows)
-        (D.counters chip.old)) }
-    ensures log { OnOk result (Grew (D.log chip.old) (D.log chip.new) []) }
-    ensures goes { Goes (Use ∷ Store name.now
-        (image_bytes (geometry_of machine.old) (table_in machine.old) (rows_of (D.banks chip.old)))
+    ensures did { OnOk result (DidRead ((geometry_of machine.old).banks
+        * (geometry_of machine.old).rows) (D.view chip.old) (D.view chip.new)) }
+    ensures goes { Goes (Use ∷ Store name.now (image_bytes (geometry_of machine.old)
+        (table_in machine.old) (rows_of (D.view chip.old).banks))
         ∷ Put (total_line (with_reads ((geometry_of machine.old).banks
-        * (geometry_of machine.old).rows) (D.counters chip.old)) refused) ∷ [])
-        (end_of result) (world (F.view files.old) (S.view out.old) (D.faults chip.old)) (world (F.view files.new) (S.view out.new) (D.faults chip.new)) }
+        * (geometry_of machine.old).rows) (D.view chip.old).counters) refused) ∷ [])
+        (end_of result) (world (F.view files.old) (S.view out.old) (D.view chip.old))
+        (world (F.view files.new) (S.view out.new) (D.view chip.new)) }
 {
     if machine.image(chip).is_err() {
         return Err(Stop::ChipFailed);
@@ -118,18 +107,18 @@ pub(crate) fn perform<'a, F: Folder, S: Sink, D: Dram>(
 ) -> Result<u64, Stop<'a>>
     requires set { IsSetting image.geometry image.table (microprograms_of program) }
     requires rows { length image.rows.now ≡ rows_size image.geometry }
+    // several banks wait for waves
+    requires one_bank { image.geometry.banks ≡ 1 }
     requires bbops { AllByRecursion (λ i. is_bbop i ≡ true) (map view_of script.now) }
     requires plain { AllByRecursion IsPlain (map view_of script.now) }
     requires few { length script.now ≤ 2 ^ 25 }
-    ensures faults { D.faults chip.old ≤ D.faults chip.new }
     ensures borrow { D.borrow chip.new ≡ D.borrow chip.old }
     ensures goes { Goes (work_steps name.now (microprograms_of program) (map view_of script.now)
         (image_found (found_in image.entry))) (end_of result)
-        (world (F.view files.old) (S.view out.old) (D.faults chip.old))
-        (world (F.view files.new) (S.view out.new) (D.faults chip.new)) }
+        (world (F.view files.old) (S.view out.old) (D.view chip.old))
+        (world (F.view files.new) (S.view out.new) (D.view chip.new)) }
     ensures done { IfOk result (WorkDone (microprograms_of program) (map view_of script.now)
-        (image_found (found_in image.entry)) (chip_view (D.banks chip.new) (D.counters chip.new)
-        (D.log chip.new))) }
+        (image_found (found_in image.entry)) (D.view chip.new)) }
 {
     let mut machine = open(program, image, chip, alloc)?;
     let refused = work(&mut machine, script, chip, out)?;

@@ -18,7 +18,6 @@ ghost use Rattle.simdram_cli.specs.Ends.{GoesToStore, ImageWorked, ProgramStoppe
 ghost use Rattle.simdram_cli.specs.Ends.{RunGoes, StopsAtStore};
 ghost use Rattle.simdram_cli.specs.Stops.{end_of, image_reason, reason_of};
 ghost use Rattle.simdram_cli.specs.Words.{are_apart};
-ghost use Rattle.simdram_cli.specs.Works.{chip_view};
 
 use crate::load::{load, load_ops, load_script};
 use crate::perform::perform;
@@ -41,7 +40,7 @@ fn compile(ops: &Ops, alloc: Global) -> Result<(Program, Vec<u8>), NoMemory>
     ensures implements { IfOk result (λ made. ImplementsAll (microprograms_of made.0)
         (map text_op (operations ops.now))) }
     ensures program { IfOk result (λ made. IsProgram (microprograms_of made.0)) }
-    ensures file { IfOk result (λ made. made.1.items ≡ program_bytes (microprograms_of made.0)) }
+    ensures file { IfOk result (λ made. made.1.items ≡ program_bytes 2 (microprograms_of made.0)) }
 {
     let Ok(compiled) = compile_ops(ops, alloc) else {
         return Err(NoMemory);
@@ -117,9 +116,8 @@ fn work_on_image<'a, F: Folder, S: Sink, D: Dram>(
     requires few { length script.now ≤ SCRIPT_MAX + 1 }
     ensures borrow { D.borrow chip.new ≡ D.borrow chip.old }
     ensures worked { ImageWorked names.now (microprograms_of program) (map view_of script.now)
-        (world (F.view files.old) (S.view out.old) (D.faults chip.old))
-        (world (F.view files.new) (S.view out.new) (D.faults chip.new))
-        (chip_view (D.banks chip.new) (D.counters chip.new) (D.log chip.new)) result }
+        (world (F.view files.old) (S.view out.old) (D.view chip.old))
+        (world (F.view files.new) (S.view out.new) (D.view chip.new)) result }
 {
     let bytes = load(names.image, IMAGE_MAX, files, alloc)?;
     let image = match read_built_image(&bytes, alloc) {
@@ -140,9 +138,8 @@ pub(crate) fn run<'a, F: Folder, S: Sink, D: Dram>(
     requires apart { are_apart names.now.ops.now names.now.prog.now names.now.script.now
         names.now.image.now names.now.out.now ≡ true }
     ensures borrow { D.borrow chip.new ≡ D.borrow chip.old }
-    ensures goes { RunGoes names.now (world (F.view files.old) (S.view out.old) (D.faults chip.old))
-        (world (F.view files.new) (S.view out.new) (D.faults chip.new))
-        (chip_view (D.banks chip.new) (D.counters chip.new) (D.log chip.new)) result }
+    ensures goes { RunGoes names.now (world (F.view files.old) (S.view out.old) (D.view chip.old))
+        (world (F.view files.new) (S.view out.new) (D.view chip.new)) result }
 {
     let program = take_program(names, files, alloc)?;
     let script = load_script(names.script, files, alloc)?;

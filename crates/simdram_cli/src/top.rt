@@ -1,20 +1,16 @@
 //! The top of the program.
 
-ghost use Rattle.std.specs.Prelude.{◌≡◌, ◌⊎◌, ◌≤◌, ◌↔◌, codes, true, Some, None, IfSome};
-ghost use Rattle.host_edge.specs.Views.{AppendsPart, FolderView, Told};
+ghost use Rattle.std.specs.Prelude.{◌≡◌, ◌↔◌, codes, true, None};
+ghost use Rattle.dram_model.specs.View.{ChipView};
+ghost use Rattle.host_edge.specs.Views.{FolderView};
 ghost use Rattle.cli_model.specs.World.{world};
-ghost use Rattle.cli_model.specs.Steps.{Sent};
-ghost use Rattle.cli_model.specs.Status.{Tells};
+ghost use Rattle.cli_model.specs.Status.{Says, Tells};
+ghost use Rattle.simdram_cli.specs.Commands.{CanAnswer, CommandEnds, OnCommand, Promises};
 ghost use Rattle.simdram_cli.specs.Ends.{RunEnds, answer_to};
-ghost use Rattle.simdram_cli.specs.Headline.{CommandsCounted, ObjectsRight, OnRun, OnRunWords};
-ghost use Rattle.simdram_cli.specs.Headline.{ProgramWritten, RepliesExact, ReportSent};
-ghost use Rattle.simdram_cli.specs.Headline.{RowsUntouched};
-ghost use Rattle.simdram_cli.specs.Show.{OnShowWords, ShowAlwaysWhere, ShowEnds, ShowOnlyWhere};
-ghost use Rattle.simdram_cli.specs.Show.{Shown};
-ghost use Rattle.simdram_cli.specs.Statuses.{AlwaysWhere, FilesKept, OnlyWhere};
+ghost use Rattle.simdram_cli.specs.Headline.{OneJob};
+ghost use Rattle.simdram_cli.specs.Show.{ShowEnds};
 ghost use Rattle.simdram_cli.specs.Stops.{end_of};
-ghost use Rattle.simdram_cli.specs.Words.{are_apart, command_of};
-ghost use Rattle.simdram_cli.specs.Works.{chip_view};
+ghost use Rattle.simdram_cli.specs.Words.{IsApart, are_apart, command_of};
 
 use crate::run::run;
 use crate::show::show;
@@ -27,7 +23,7 @@ use std::alloc::Global;
 /// The exit status; why a command stopped is told first.
 fn answer<S: Sink>(ended: Result<u64, Stop<'_>>, out: &mut S) -> u8
     ensures status { result ≡ answer_to ended.entry }
-    ensures tells { (files : FolderView) (chip : _)
+    ensures tells { (files : FolderView) (chip : ChipView)
         → Tells (end_of ended.entry) (world files (S.view out.old) chip)
         (world files (S.view out.new) chip) }
 {
@@ -52,9 +48,9 @@ fn run_and_answer<F: Folder, S: Sink, D: Dram>(
     requires apart { are_apart names.now.ops.now names.now.prog.now names.now.script.now
         names.now.image.now names.now.out.now ≡ true }
     ensures borrow { D.borrow chip.new ≡ D.borrow chip.old }
-    ensures ends { RunEnds names.now (world (F.view files.old) (S.view out.old) (D.faults chip.old))
-        (world (F.view files.new) (S.view out.new) (D.faults chip.new))
-        (chip_view (D.banks chip.new) (D.counters chip.new) (D.log chip.new)) result }
+    ensures ends { RunEnds names.now
+        (world (F.view files.old) (S.view out.old) (D.view chip.old))
+        (world (F.view files.new) (S.view out.new) (D.view chip.new)) result }
 {
     let ended = run(names, files, out, chip, alloc);
     answer(ended, out)
@@ -62,50 +58,38 @@ fn run_and_answer<F: Folder, S: Sink, D: Dram>(
 
 /// Shows, and tells why it stopped if it did.
 fn show_and_answer<F: Folder, S: Sink>(name: &str, files: &mut F, out: &mut S, alloc: Global) -> u8
-    ensures ends { (chip : _) → ShowEnds name.now (world (F.view files.old) (S.view out.old) chip)
+    ensures { (chip : ChipView) → ShowEnds name.now
+        (world (F.view files.old) (S.view out.old) chip)
         (world (F.view files.new) (S.view out.new) chip) result }
 {
     let ended = show(name, files, out, alloc);
     answer(ended, out)
 }
 
-/// Does the command that the words are.
+/// Does a command.
 fn dispatch<F: Folder, S: Sink, D: Dram>(
-    words: &[&str],
+    command: &Command<'_>,
     files: &mut F,
     out: &mut S,
     chip: &mut D,
     alloc: Global,
 ) -> u8
+    requires apart { IsApart command.now }
     ensures borrow { D.borrow chip.new ≡ D.borrow chip.old }
-    ensures usage { command_of words.now ≡ None → result ≡ 1 }
-    ensures usage_line { command_of words.now ≡ None
-        → Sent (AppendsPart (codes "usage\n"))
-        (world (F.view files.old) (S.view out.old) (D.faults chip.old))
-        (world (F.view files.new) (S.view out.new) (D.faults chip.new)) }
-    ensures ends { OnRunWords words.now (λ names. RunEnds names
-        (world (F.view files.old) (S.view out.old) (D.faults chip.old))
-        (world (F.view files.new) (S.view out.new) (D.faults chip.new))
-        (chip_view (D.banks chip.new) (D.counters chip.new) (D.log chip.new)) result) }
-    ensures show_ends { OnShowWords words.now
-        (λ name. ShowEnds name (world (F.view files.old) (S.view out.old) (D.faults chip.old))
-        (world (F.view files.new) (S.view out.new) (D.faults chip.new)) result) }
+    ensures ends { CommandEnds command.now
+        (world (F.view files.old) (S.view out.old) (D.view chip.old))
+        (world (F.view files.new) (S.view out.new) (D.view chip.new)) result }
 {
-    match command_of(words) {
-        Some(Command::Run(names)) => run_and_answer(&names, files, out, chip, alloc),
-        Some(Command::Show(name)) => show_and_answer(name, files, out, alloc),
-        None => {
-            let _ = out.put(b"usage\n");
-            1
-        }
+    match command {
+        Command::Run(names) => run_and_answer(names, files, out, chip, alloc),
+        Command::Show(name) => show_and_answer(*name, files, out, alloc),
     }
 }
 
 /// Does the command that the words are, without the program's name: `run OPS PROG SCRIPT IMAGE OUT`
-/// compiles the
-/// operations of OPS, stores PROG, does SCRIPT on IMAGE with the program that PROG spells, puts the
-/// report and stores
-/// OUT; `show OPS` puts the canonical text of the operations of OPS. The answer is the exit status.
+/// compiles the operations of OPS, stores PROG, does SCRIPT on IMAGE with the program that PROG
+/// spells, puts the report and stores OUT; `show OPS` puts the canonical text of the operations of
+/// OPS. The answer is the exit status.
 pub fn simdram<F: Folder, S: Sink, D: Dram>(
     words: &[&str],
     files: &mut F,
@@ -114,63 +98,33 @@ pub fn simdram<F: Folder, S: Sink, D: Dram>(
     alloc: Global,
 ) -> u8
     ensures borrow { D.borrow chip.new ≡ D.borrow chip.old }
-    // The words are no command.
+    // Words that are no command, and no others, are answered with 1; `usage` is told, and no more.
     ensures usage { (result ≡ 1) ↔ (command_of words.now ≡ None) }
-    ensures usage_line { command_of words.now ≡ None
-        → Sent (AppendsPart (codes "usage\n"))
-        (world (F.view files.old) (S.view out.old) (D.faults chip.old))
-        (world (F.view files.new) (S.view out.new) (D.faults chip.new)) }
-    // A run goes through its steps; the first event decides how it ends.
-    ensures ends { OnRunWords words.now (λ names. RunEnds names
-        (world (F.view files.old) (S.view out.old) (D.faults chip.old))
-        (world (F.view files.new) (S.view out.new) (D.faults chip.new))
-        (chip_view (D.banks chip.new) (D.counters chip.new) (D.log chip.new)) result) }
-    // When it ends with 0 or 8:
-    ensures program_written { OnRun words.now result (F.view files.old).holds
-        (F.view files.new).holds (λ names job before after. ProgramWritten names job after) }
-    ensures objects_right { OnRun words.now result (F.view files.old).holds (F.view files.new).holds
-        (λ names job before after. ObjectsRight names job after
-        (chip_view (D.banks chip.new) (D.counters chip.new) (D.log chip.new))) }
-    ensures rows_untouched { OnRun words.now result (F.view files.old).holds
-        (F.view files.new).holds (λ names job before after. RowsUntouched job
-        (chip_view (D.banks chip.new) (D.counters chip.new) (D.log chip.new))) }
-    ensures commands_counted { OnRun words.now result (F.view files.old).holds
-        (F.view files.new).holds (λ names job before after. CommandsCounted job
-        (chip_view (D.banks chip.new) (D.counters chip.new) (D.log chip.new))) }
-    ensures report_sent { OnRun words.now result (F.view files.old).holds (F.view files.new).holds
-        (λ names job before after. ReportSent job
-        (chip_view (D.banks chip.new) (D.counters chip.new) (D.log chip.new)) (S.view out.old).sent
-        (S.view out.new).sent) }
-    ensures replies_exact { OnRun words.now result (F.view files.old).holds (F.view files.new).holds
-        (λ names job before after. RepliesExact names job result before after) }
-    // Which status it is, and what stands after each.
-    ensures only_where { OnRunWords words.now
-        (λ names. OnlyWhere names (world (F.view files.old) (S.view out.old) (D.faults chip.old))
-        (world (F.view files.new) (S.view out.new) (D.faults chip.new)) result) }
-    ensures always_where { OnRunWords words.now
-        (λ names. IfSome (F.view files.old).holds
-        (λ held. AlwaysWhere names held (world (F.view files.old) (S.view out.old)
-        (D.faults chip.old)) (world (F.view files.new) (S.view out.new) (D.faults chip.new))
-        result)) }
-    // A show goes through its steps too.
-    ensures show_ends { OnShowWords words.now
-        (λ name. ShowEnds name (world (F.view files.old) (S.view out.old) (D.faults chip.old))
-        (world (F.view files.new) (S.view out.new) (D.faults chip.new)) result) }
-    ensures shown { OnShowWords words.now (λ name. result ≡ 0
-        → IfSome (F.view files.old).holds (λ before. Shown name before (S.view out.old).sent
-        (S.view out.new).sent)) }
-    ensures show_only_where { OnShowWords words.now
-        (λ name. ShowOnlyWhere name (world (F.view files.old) (S.view out.old) (D.faults chip.old))
-        (world (F.view files.new) (S.view out.new) (D.faults chip.new)) result) }
-    ensures show_always_where { OnShowWords words.now
-        (λ name. IfSome (F.view files.old).holds
-        (λ held. ShowAlwaysWhere name held (world (F.view files.old) (S.view out.old)
-        (D.faults chip.old)) (world (F.view files.new) (S.view out.new) (D.faults chip.new))
-        result)) }
-    ensures show_keeps { OnShowWords words.now (λ name. Told (λ before after. after
-        ≡ before) (F.view files.old).holds (F.view files.new).holds) }
-    ensures files_kept { OnRunWords words.now
-        (λ names. Told (FilesKept names result) (F.view files.old).holds (F.view files.new).holds) }
+    ensures usage_told { command_of words.now ≡ None → Says (codes "usage\n")
+        (world (F.view files.old) (S.view out.old) (D.view chip.old))
+        (world (F.view files.new) (S.view out.new) (D.view chip.new)) }
+    // A command answers one of its own statuses.
+    ensures no_other { OnCommand words.now (λ command. CanAnswer command result) }
+    // It goes through its steps, and its first event decides the status, what is sent and which
+    // files stand.
+    ensures ends { OnCommand words.now (λ command. CommandEnds command
+        (world (F.view files.old) (S.view out.old) (D.view chip.old))
+        (world (F.view files.new) (S.view out.new) (D.view chip.new)) result) }
+    // What it promises: of a run that ends with 0 or 8, one job with six promises.
+    ensures headline { OnCommand words.now (λ command. Promises command
+        (world (F.view files.old) (S.view out.old) (D.view chip.old))
+        (world (F.view files.new) (S.view out.new) (D.view chip.new)) result) }
 {
-    dispatch(words, files, out, chip, alloc)
+    match command_of(words) {
+        Some(command) => dispatch(&command, files, out, chip, alloc),
+        None => {
+            let _ = out.put(b"usage\n");
+            1
+        }
+    }
 }
+
+/// Shows that the files of a run determine the job of the headline.
+pub fn one_job()
+    ensures { OneJob }
+{}

@@ -6,7 +6,7 @@ ghost use Rattle.std.specs.Char.{is_ascii_digit};
 ghost use Rattle.text_lex.specs.Bytes.{is_name_start, is_name_byte, is_blank, is_mark};
 ghost use Rattle.text_lex.specs.Bytes.{is_no_newline};
 ghost use Rattle.text_lex.specs.Lexical.{Item, items_of, items_from, Takes, Stands, IsWithin};
-ghost use Rattle.text_lex.specs.Lexical.{front_of, begins_with, IsRight, ReadsBack};
+ghost use Rattle.text_lex.specs.Lexical.{front_of, begins_with, IsRight, AreApart, ReadsBack};
 
 use crate::token::{Front, LexFault, Token, TokenKind};
 use std::marker::Model;
@@ -155,10 +155,14 @@ impl<'a> Lexer<'a> {
 }
 
 /// The items of a text are right in it: each token is the slice at its start and the longest there,
-/// and a
-/// byte that is a fault starts none.
+/// and a byte that is a fault starts none.
 pub fn items_are_right()
     ensures { (text : List ℕ) → AllByRecursion (IsRight text) (items_of text) }
+{}
+
+/// Between the items of a text stand only blanks and comments.
+pub fn items_are_apart()
+    ensures { (text : List ℕ) → AreApart text 0 (items_of text) }
 {}
 
 /// What is written is read again, token by token.

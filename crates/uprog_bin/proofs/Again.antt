@@ -21,10 +21,12 @@ use Rattle.uprog_bin.specs.declared.opcode.Opcode.TheVariants.{Done, SetI, SetN,
 use Rattle.uprog_bin.specs.declared.opcode.Opcode.TheVariants.{AddI, SubI, Bnez, Aap, Ap}
 use Rattle.uprog_bin.specs.declared.opcode.TheConstants.{OPCODES, SPACES}
 use Rattle.uprog_bin.specs.Spelling.{space_number, instruction_bytes}
-use Rattle.uprog_bin.specs.Reading.{◌>>=◌, raw_of, operand, row_of, uop_as, uop_of, numbered}
+use Rattle.uprog_bin.specs.Reading.{raw_of, operand, row_of, uop_as, uop_of, numbered}
 use Rattle.uprog_bin.specs.Reading.{uop_at, uops_at}
-use Rattle.uprog_bin.proofs.Held.{Holds, Holds-front, Holds-back, bytes_again}
 use Rattle.uprog_bin.proofs.Found.{IsRead}
+use Rattle.file_fields.specs.Fields.{◌>>=◌}
+use Rattle.file_fields.proofs.Held.{Holds, Holds-front, Holds-back, bytes_again}
+use Rattle.uprog_bin.specs.declared.fault.ProgKind.TheVariants as kinds
 
 both : (a b : Bool) → (a && b) ≡ true → (a ≡ true) × (b ≡ true)
 both true b h = (refl, h)
@@ -125,7 +127,7 @@ again shape size last (uop.SetI r k) small h l =
       read = record {
         formed = from_both (ltb r 8) (leb (operand x) 1023
             && true) b.0 (from_both (leb (operand x) 1023) true (ap (λ n. leb n 1023) o
-                ∙ b.1) refl);
+            ∙ b.1) refl);
         target = refl;
         rows = refl;
         ends = open_end last (λ t. let e = l t in absurd cc);
@@ -164,7 +166,7 @@ again shape size last (uop.Mov r s) small h l =
       read = record {
         formed = from_both (ltb r 8) ((ltb s 8 && true)
             && true) b.0 (from_both (ltb s 8 && true) true (from_both (ltb s 8) true b.1 refl)
-                refl);
+            refl);
         target = refl;
         rows = refl;
         ends = open_end last (λ t. let e = l t in absurd cc);
@@ -179,7 +181,7 @@ again shape size last (uop.Add r s) small h l =
       read = record {
         formed = from_both (ltb r 8) ((ltb s 8 && true)
             && true) b.0 (from_both (ltb s 8 && true) true (from_both (ltb s 8) true b.1 refl)
-                refl);
+            refl);
         target = refl;
         rows = refl;
         ends = open_end last (λ t. let e = l t in absurd cc);
@@ -196,7 +198,7 @@ again shape size last (uop.AddI r k) small h l =
       read = record {
         formed = from_both (ltb r 8) (leb (operand x) 1023
             && true) b.0 (from_both (leb (operand x) 1023) true (ap (λ n. leb n 1023) o
-                ∙ b.1) refl);
+            ∙ b.1) refl);
         target = refl;
         rows = refl;
         ends = open_end last (λ t. let e = l t in absurd cc);
@@ -213,7 +215,7 @@ again shape size last (uop.SubI r k) small h l =
       read = record {
         formed = from_both (ltb r 8) (leb (operand x) 1023
             && true) b.0 (from_both (leb (operand x) 1023) true (ap (λ n. leb n 1023) o
-                ∙ b.1) refl);
+            ∙ b.1) refl);
         target = refl;
         rows = refl;
         ends = open_end last (λ t. let e = l t in absurd cc);
@@ -286,7 +288,8 @@ pub uop_again : (shape : Shape) (size : ℕ) (last : Bool) (at : ℕ) (bytes : L
     → uop_at shape size last at bytes ≡ Ok i
 unfolding uop_at
 uop_again shape size last at bytes i h a =
-    let field = bytes_again 8 at (at + 8) bytes (instruction_bytes i) h (instruction_length i) in
+    let field = bytes_again kinds.Short 8 at (at + 8) bytes (instruction_bytes i) h
+    (instruction_length i) in
     let read : Result (List ℕ) _ → Result Uop _ =
     λ f. f >>= λ field. numbered (slice_get OPCODES (slice_index field 0)) shape size last at
     (raw_of field) in

@@ -1,20 +1,20 @@
 -- A file that was read.
-use Rattle.std.proofs.Common.{◌≡◌, ℕ, zero, suc, ◌+◌, ◌*◌, ◌<◌, ◌≤◌, true, eqb, leb, eq-eqb, ◌^◌}
-use Rattle.std.proofs.Common.{List, [], ◌∷◌, ◌++◌, length, Ok, refl, sym, ap, ◌∙◌, subst, arith}
+use Rattle.std.proofs.Common.{◌≡◌, ℕ, zero, suc, ◌+◌, ◌*◌, ◌<◌, true, eqb, leb, eq-eqb, ◌^◌}
+use Rattle.std.proofs.Common.{List, [], ◌∷◌, ◌++◌, length, Result, Ok, refl, sym, ap, ◌∙◌, subst}
+use Rattle.std.proofs.Common.{arith}
 use Rattle.std.specs.Int.{w16, w32}
 use Rattle.std.proofs.lemmas.Bool.{eqb-true}
 use Rattle.uprog_code.specs.Shape.{Microprogram}
 use Rattle.uprog_bin.specs.declared.fault.ProgKind.TheVariants as kinds
 use Rattle.uprog_bin.specs.declared.directory.Listed.{Listed}
-use Rattle.uprog_bin.specs.Reading.{◌>>=◌, rule, number_at, field_at, is_between, name_at, shape_at}
+use Rattle.uprog_bin.specs.Reading.{number_at, field_at, name_at, shape_at}
 use Rattle.uprog_bin.specs.Reading.{Listing, listing_at, directory_at, listings_of, opening_in}
 use Rattle.uprog_bin.specs.Reading.{uops_at, codes_at, codes_start, total_count, program_in}
-use Rattle.uprog_bin.specs.Opened.{File, accepted, AreStarts, IsOpened}
-use Rattle.uprog_bin.proofs.Held.{bind_ok, ok_is, rule_ok}
-use Rattle.std.proofs.lemmas.Bool.Decides.{nat_tests}
-
-pub between_is : (low high n : ℕ) → is_between low high n ≡ true → (low ≤ n) × (n ≤ high)
-between_is low high n h = (grind (arith, nat_tests), grind (arith, nat_tests))
+use Rattle.uprog_bin.specs.Opened.{File, file_of, accepted, programs_in, AreStarts, IsOpened}
+use Rattle.file_fields.proofs.Padded.{between_is}
+use Rattle.file_fields.specs.Fields.{◌>>=◌, rule, is_between}
+use Rattle.uprog_bin.specs.Reading.{ProgFault}
+use Rattle.file_fields.proofs.Held.{bind_ok, ok_is, rule_ok}
 
 pub codes_length : (ls : List Listing) (at : ℕ) (bytes : List ℕ) (ms : List Microprogram)
     → codes_at ls at bytes ≡ Ok ms → length ms ≡ length ls
@@ -30,12 +30,13 @@ codes_length (l ∷ ls) at bytes ms e =
     let m : Microprogram = record { name = l.name; shape = l.shape; code = a.0 } in
     ap length (sym (ok_is (m ∷ b.0) ms b.2)) ∙ omega arith
 
-pub program_whole : (bytes : List ℕ) (count : ℕ) (ls : List Listing) (ms : List Microprogram)
-    → opening_in bytes ≡ Ok tt → number_at w16 6 bytes ≡ Ok count → leb count 32 ≡ true
-    → directory_at count [] 0 8 bytes ≡ Ok ls → codes_at ls (codes_start ls) bytes ≡ Ok ms
-    → length bytes ≡ codes_start ls + 8 * total_count ls → program_in bytes ≡ Ok ms
+pub program_whole : (v : ℕ) (bytes : List ℕ) (count : ℕ) (ls : List Listing)
+    (ms : List Microprogram)
+    → opening_in bytes ≡ Ok v → number_at w16 6 bytes ≡ Ok count → leb count 32 ≡ true
+    → directory_at v count [] 0 8 bytes ≡ Ok ls → codes_at ls (codes_start ls) bytes ≡ Ok ms
+    → length bytes ≡ codes_start ls + 8 * total_count ls → program_in bytes ≡ Ok (v, ms)
 unfolding program_in
-program_whole bytes count ls ms opening number few directory codes long =
+program_whole v bytes count ls ms opening number few directory codes long =
     rw (
       opening,
       number,
@@ -61,13 +62,13 @@ total_more : (ls : List Listing) (l : Listing)
 total_more [] l = omega arith
 total_more (x ∷ ls) l = let h = total_more ls l in omega arith
 
-listing_start : (earlier : List Listing) (start at : ℕ) (bytes : List ℕ) (l : Listing)
-    → listing_at earlier start at bytes ≡ Ok l → (l.start ≡ start) × (0 < l.count)
+listing_start : (v : ℕ) (earlier : List Listing) (start at : ℕ) (bytes : List ℕ) (l : Listing)
+    → listing_at v earlier start at bytes ≡ Ok l → (l.start ≡ start) × (0 < l.count)
     × (l.count < 2 ^ 16)
 unfolding listing_at
-listing_start earlier start at bytes l e =
+listing_start v earlier start at bytes l e =
     let a = bind_ok (name_at earlier at bytes)
-    (λ name. shape_at (at + 17) bytes >>= λ shape. field_at w32 (λ n.
+    (λ name. shape_at v (at + 17) bytes >>= λ shape. field_at w32 (λ n.
     eqb n start) kinds.Directory (at + 21) bytes >>= λ first. field_at w16 (is_between 1 65535)
     kinds.Directory (at + 25) bytes >>= λ count. Ok (record {
       name = name;
@@ -75,7 +76,7 @@ listing_start earlier start at bytes l e =
       start = first;
       count = count;
     })) l e in
-    let b = bind_ok (shape_at (at + 17) bytes)
+    let b = bind_ok (shape_at v (at + 17) bytes)
     (λ shape. field_at w32 (λ n. eqb n start) kinds.Directory (at + 21) bytes >>= λ first.
     field_at w16 (is_between 1 65535) kinds.Directory (at + 25) bytes >>= λ count. Ok
     (record { name = a.0; shape = shape; start = first; count = count })) l a.2 in
@@ -105,35 +106,47 @@ listing_start earlier start at bytes l e =
       omega (arith, some.1),
     )
 
-pub directory_starts : (n : ℕ) (earlier : List Listing) (start at : ℕ) (bytes : List ℕ)
-    (all : List Listing) → directory_at n earlier start at bytes ≡ Ok all → AreStarts 0 earlier
+pub directory_starts : (v : ℕ) (n : ℕ) (earlier : List Listing) (start at : ℕ) (bytes : List ℕ)
+    (all : List Listing) → directory_at v n earlier start at bytes ≡ Ok all → AreStarts 0 earlier
     → start ≡ total_count earlier → AreStarts 0 all
 unfolding directory_at
-directory_starts zero earlier start at bytes all e h s = subst (AreStarts 0) (ok_is earlier all e) h
-directory_starts (suc n) earlier start at bytes all e h s =
-    let a = bind_ok (listing_at earlier start at bytes) (λ l.
-    directory_at n (earlier ++ l ∷ []) (start + l.count) (at + 27) bytes) all e in
-    let here = listing_start earlier start at bytes a.0 a.1 in
-    directory_starts n (earlier ++ a.0 ∷ []) (start + a.0.count) (at + 27) bytes all a.2
+directory_starts v zero earlier start at bytes all e h s =
+    subst (AreStarts 0) (ok_is earlier all e) h
+directory_starts v (suc n) earlier start at bytes all e h s =
+    let a = bind_ok (listing_at v earlier start at bytes) (λ l.
+    directory_at v n (earlier ++ l ∷ []) (start + l.count) (at + 27) bytes) all e in
+    let here = listing_start v earlier start at bytes a.0 a.1 in
+    directory_starts v n (earlier ++ a.0 ∷ []) (start + a.0.count) (at + 27) bytes all a.2
     (starts_more 0 earlier a.0 h (omega (arith, here.0)) here.1 here.2)
     (omega (arith, total_more earlier a.0))
 
+abbrev versioned : ℕ → List Microprogram → Result (ℕ × List Microprogram) ProgFault
+versioned v ms = Ok (v, ms)
+
+-- what a file that was read shows is what was read
+pub accepted_is : (bytes : List ℕ) (v : ℕ) → program_in bytes ≡ Ok (v, programs_in bytes)
+    → program_in bytes ≡ Ok ((file_of bytes).version, programs_in bytes)
+accepted_is bytes v e =
+    let same : v ≡ (file_of bytes).version = ap (λ r. (accepted r).0) (sym e) in
+    e ∙ ap (λ n. versioned n (programs_in bytes)) same
+
 -- the records of a file that was read
-pub opened : (bytes : List ℕ) (count : ℕ) (listed : List Listed) (ms : List Microprogram)
-    → length bytes < 2 ^ 32 → opening_in bytes ≡ Ok tt → number_at w16 6 bytes ≡ Ok count
-    → leb count 32 ≡ true → directory_at count [] 0 8 bytes ≡ Ok (listings_of listed)
+pub opened : (v : ℕ) (bytes : List ℕ) (count : ℕ) (listed : List Listed) (ms : List Microprogram)
+    → length bytes < 2 ^ 32 → opening_in bytes ≡ Ok v → number_at w16 6 bytes ≡ Ok count
+    → leb count 32 ≡ true → directory_at v count [] 0 8 bytes ≡ Ok (listings_of listed)
     → codes_at (listings_of listed) (codes_start (listings_of listed)) bytes ≡ Ok ms
     → length bytes ≡ codes_start (listings_of listed) + 8 * total_count (listings_of listed)
-    → IsOpened bytes listed
-opened bytes count listed ms small opening number few directory codes long =
-    let whole = program_whole bytes count (listings_of listed) ms opening number few directory codes
+    → IsOpened bytes v listed
+opened v bytes count listed ms small opening number few directory codes long =
+    let whole = program_whole v bytes count (listings_of listed) ms opening number few directory
+    codes
     long in
-    let same : ms ≡ accepted (program_in bytes) = ap accepted (sym whole) in
+    let same : ms ≡ programs_in bytes = ap (λ r. (accepted r).1) (sym whole) in
     record {
       small = small;
-      read = whole ∙ ap (λ (x : List Microprogram). Ok x) same;
+      read = whole ∙ ap (λ (x : List Microprogram). versioned v x) same;
       codes = codes ∙ ap (λ (x : List Microprogram). Ok x) same;
-      starts = directory_starts count [] 0 8 bytes (listings_of listed) directory tt refl;
+      starts = directory_starts v count [] 0 8 bytes (listings_of listed) directory tt refl;
       long = long;
     }
 
@@ -142,15 +155,16 @@ listings_length [] = refl
 listings_length (l ∷ ls) = let h = listings_length ls in omega arith
 
 -- the same, as the code has them
-pub opened_from : (bytes : List ℕ) (count : ℕ) (listed seen : List Listed) (start end : ℕ)
-    (ms : List Microprogram) → length bytes < 2 ^ 32 → opening_in bytes ≡ Ok tt
+pub opened_from : (v : ℕ) (bytes : List ℕ) (count : ℕ) (listed seen : List Listed) (start end : ℕ)
+    (ms : List Microprogram) → length bytes < 2 ^ 32 → opening_in bytes ≡ Ok v
     → number_at w16 6 bytes ≡ Ok count → leb count 32 ≡ true
-    → directory_at count [] 0 8 bytes ≡ Ok (listings_of listed)
+    → directory_at v count [] 0 8 bytes ≡ Ok (listings_of listed)
     → seen ≡ listed → start ≡ 8 + 27 * length listed
     → codes_at (listings_of seen) start bytes ≡ Ok ms
     → end ≡ start + 8 * total_count (listings_of seen) → length bytes ≡ end
-    → IsOpened bytes listed
-opened_from bytes count listed seen start end ms small opening number few directory same begin codes
+    → IsOpened bytes v listed
+opened_from v bytes count listed seen start end ms small opening number few directory same begin
+    codes
     stop long =
     let first : start ≡ codes_start (listings_of listed) =
     omega (arith, begin, listings_length listed) in
@@ -159,13 +173,12 @@ opened_from bytes count listed seen start end ms small opening number few direct
     bytes) (sym same) ∙ ap (λ n. codes_at (listings_of seen) n bytes) (sym first) ∙ codes in
     let total : total_count (listings_of seen) ≡ total_count (listings_of listed) =
     ap (λ (ls : List Listed). total_count (listings_of ls)) same in
-    opened bytes count listed ms small opening number few directory all
+    opened v bytes count listed ms small opening number few directory all
     (omega (arith, long, stop, first, total))
 
-pub entries_are : (bytes : List ℕ) (listed : List Listed) (seen : File)
-    → (let f : File = record { bytes = bytes; programs = accepted (program_in bytes) } in f) ≡ seen
-    → IsOpened bytes listed → length listed ≡ length seen.programs
-entries_are bytes listed seen is h =
+pub entries_are : (v : ℕ) (bytes : List ℕ) (listed : List Listed) (seen : File)
+    → file_of bytes ≡ seen → IsOpened bytes v listed → length listed ≡ length seen.programs
+entries_are v bytes listed seen is h =
     sym (listings_length listed)
     ∙ sym (codes_length (listings_of listed) (codes_start (listings_of listed)) bytes
-    (accepted (program_in bytes)) h.codes) ∙ ap (λ (f : File). length f.programs) is
+    (programs_in bytes) h.codes) ∙ ap (λ (f : File). length f.programs) is

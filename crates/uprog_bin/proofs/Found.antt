@@ -19,16 +19,18 @@ use Rattle.uprog_bin.specs.declared.opcode.Opcode.{Opcode}
 use Rattle.uprog_bin.specs.declared.opcode.Opcode.TheVariants.{Done, SetI, SetN, SetT, Mov, Add}
 use Rattle.uprog_bin.specs.declared.opcode.Opcode.TheVariants.{AddI, SubI, Bnez, Aap, Ap}
 use Rattle.uprog_bin.specs.declared.opcode.TheConstants.{OPCODES}
-use Rattle.uprog_bin.specs.Reading.{◌>>=◌, rule, bytes_at, raw_of, has_register, has_second}
+use Rattle.uprog_bin.specs.Reading.{bytes_at, raw_of, has_register, has_second}
 use Rattle.uprog_bin.specs.Reading.{operand, row_of, ends_at_y, is_formed, has_target, has_rows}
 use Rattle.uprog_bin.specs.Reading.{ends_code, uop_as, uop_of, numbered, uop_at, uops_at, codes_at}
 use Rattle.uprog_bin.specs.Reading.{codes_start, total_count, Listing, listing_of, listings_of}
-use Rattle.uprog_bin.specs.Reading.{is_named, program_in}
-use Rattle.uprog_bin.specs.Opened.{Held, File, accepted, uop_in, uops_in, code_of, program_of}
+use Rattle.uprog_bin.specs.Reading.{is_named}
+use Rattle.uprog_bin.specs.Opened.{Held, File, file_of, programs_in, uop_in, uops_in, code_of}
+use Rattle.uprog_bin.specs.Opened.{program_of}
 use Rattle.uprog_bin.specs.Opened.{count_before, code_place, AreStarts, IsOpened}
 use Rattle.uprog_bin.proofs.Files.{codes_length, entries_are}
 use Rattle.uprog_bin.proofs.Uops.{length-uops}
-use Rattle.uprog_bin.proofs.Held.{bind_ok, ok_is, rule_ok, bytes_takes}
+use Rattle.file_fields.specs.Fields.{◌>>=◌, rule}
+use Rattle.file_fields.proofs.Held.{bind_ok, ok_is, rule_ok, bytes_takes}
 
 both : (a b : Bool) → (a && b) ≡ true → (a ≡ true) × (b ≡ true)
 both true b h = (refl, h)
@@ -87,7 +89,7 @@ unfolding uop_at
 uop_at_read shape size last at bytes i e =
     let a = bind_ok (bytes_at 8 at bytes) (λ field. numbered
     (slice_get OPCODES (slice_index field 0)) shape size last at (raw_of field)) i e in
-    let t = bytes_takes 8 at (at + 8) bytes a.0 a.1 refl in
+    let t = bytes_takes kinds.Short 8 at (at + 8) bytes a.0 a.1 refl in
     let n = numbered_read (slice_get OPCODES (slice_index a.0 0)) shape size last at (raw_of a.0) i
     a.2 in
     let known : IsUop shape size last a.0 i =
@@ -335,13 +337,14 @@ listings_length : (ls : List Listed) → length (listings_of ls) ≡ length ls
 listings_length [] = refl
 listings_length (l ∷ ls) = let h = listings_length ls in omega arith
 
-pub found : (bytes : List ℕ) (listed : List Listed) (k : ℕ) (l : Listed) → IsOpened bytes listed
+pub found : (v : ℕ) (bytes : List ℕ) (listed : List Listed) (k : ℕ) (l : Listed)
+    → IsOpened bytes v listed
     → slice_get listed k ≡ Some l
-    → IsFound bytes (record { bytes = bytes; programs = accepted (program_in bytes) }) k l.head.name
+    → IsFound bytes (file_of bytes) k l.head.name
     (shape_of l.head) (8 + 27 * length listed + 8 * l.start) l.count
-found bytes listed k l h at =
+found v bytes listed k l h at =
     let ls = listings_of listed in
-    let ms = accepted (program_in bytes) in
+    let ms = programs_in bytes in
     let entry = entry_at ls (codes_start ls) 0 bytes ms k (listing_of l) h.codes h.starts
     (listings_get listed k l at) in
     let size = listings_length listed in
@@ -391,23 +394,20 @@ or_len_is (l ∷ ls) at bytes ms name e =
     ap (λ n. cond (not (bytes_eq l.head.name name)) (1 + n) 0) h
     ∙ ap (position_or_len (λ (m : Microprogram). bytes_eq m.name name)) (ok_is (m ∷ b.0) ms b.2)
 
-pub place_is : (bytes : List ℕ) (listed : List Listed) (seen : File) (name : List ℕ)
-    → (let f : File = record { bytes = bytes; programs = accepted (program_in bytes) } in f) ≡ seen
-    → IsOpened bytes listed → position (is_named name) listed
+pub place_is : (v : ℕ) (bytes : List ℕ) (listed : List Listed) (seen : File) (name : List ℕ)
+    → file_of bytes ≡ seen
+    → IsOpened bytes v listed → position (is_named name) listed
     ≡ position (λ m. bytes_eq m.name name) seen.programs
-place_is bytes listed seen name is h =
+place_is v bytes listed seen name is h =
     let place = or_len_is listed (codes_start (listings_of listed)) bytes
-    (accepted (program_in bytes)) name h.codes in
-    let many = entries_are bytes listed (record {
-      bytes = bytes;
-      programs = accepted (program_in bytes);
-    }) refl h in
+    (programs_in bytes) name h.codes in
+    let many = entries_are v bytes listed (file_of bytes) refl h in
     ap (λ n. cond (ltb n (length listed)) (Some n) None) place
     ∙ ap (λ n.
     cond (ltb (position_or_len (λ (m : Microprogram). bytes_eq m.name name)
-    (accepted (program_in bytes))) n) (Some
+    (programs_in bytes)) n) (Some
     (position_or_len (λ (m : Microprogram). bytes_eq m.name name)
-    (accepted (program_in bytes)))) None) many
+    (programs_in bytes))) None) many
     ∙ ap (λ (f : File). position (λ (m : Microprogram). bytes_eq m.name name) f.programs) is
 
 -- an entry as it is handed out: its head is a copy, and its code a slice
@@ -449,11 +449,11 @@ hands bytes seen k name shape start count h f n s t =
     }
 
 -- the same of the file that a view shows
-pub found_in : (bytes : List ℕ) (listed : List Listed) (seen : File) (k : ℕ) (l : Listed)
-    → (let f : File = record { bytes = bytes; programs = accepted (program_in bytes) } in f) ≡ seen
-    → IsOpened bytes listed → slice_get listed k ≡ Some l
+pub found_in : (v : ℕ) (bytes : List ℕ) (listed : List Listed) (seen : File) (k : ℕ) (l : Listed)
+    → file_of bytes ≡ seen
+    → IsOpened bytes v listed → slice_get listed k ≡ Some l
     → IsFound bytes seen k l.head.name (shape_of l.head) (8 + 27 * length listed + 8 * l.start)
     l.count
-found_in bytes listed seen k l is h at = subst
+found_in v bytes listed seen k l is h at = subst
     (λ (f : File). IsFound bytes f k l.head.name (shape_of l.head) (8 + 27 * length listed + 8
-    * l.start) l.count) is (found bytes listed k l h at)
+    * l.start) l.count) is (found v bytes listed k l h at)

@@ -4,12 +4,12 @@ pub mod Entries
 pub mod Exact
 pub mod Files
 pub mod Found
-pub mod Held
 pub mod Instructions
 pub mod KindBits
 pub mod Listings
-pub mod Names
+pub mod Numbers
 pub mod Records
 pub mod Taken
 pub mod Uops
+pub mod Versions
 pub mod Whole

@@ -5,10 +5,10 @@ use Rattle.std.specs.List.{list_any}
 use Rattle.std.specs.Str.{bytes_eq}
 use Rattle.std.proofs.lemmas.List.{map-append}
 use Rattle.op_text.specs.declared.tree.Kind.{Kind}
-use Rattle.uprog_bin.specs.declared.fault.ProgFault.{ProgFault}
 use Rattle.uprog_bin.specs.declared.directory.Listed.{Listed}
 use Rattle.uprog_bin.specs.Reading.{is_named, has_name, listing_of, listings_of, Listing, kinds_of}
 use Rattle.uprog_bin.specs.Reading.{kind_of_bit, listing_at, directory_at}
+use Rattle.uprog_bin.specs.Reading.{ProgFault}
 
 pub has_name_is : (ls : List Listed) (name : List ℕ)
     → list_any (is_named name) ls ≡ has_name (listings_of ls) name
@@ -27,34 +27,34 @@ pub listings_more : (ls : List Listed) (l : Listed)
     → listings_of (ls ++ l ∷ []) ≡ listings_of ls ++ listing_of l ∷ []
 listings_more ls l = map-append listing_of ls (l ∷ [])
 
-pub directory_more : (count k : ℕ) (earlier : List Listing) (start at : ℕ) (bytes : List ℕ)
+pub directory_more : (v : ℕ) (count k : ℕ) (earlier : List Listing) (start at : ℕ) (bytes : List ℕ)
     (l : Listing) (all : Result (List Listing) ProgFault) → k < count
-    → listing_at earlier start at bytes ≡ Ok l
-    → directory_at (count - k) earlier start at bytes ≡ all
-    → directory_at (count - (k + 1)) (earlier ++ l ∷ []) (start + l.count) (at + 27) bytes ≡ all
+    → listing_at v earlier start at bytes ≡ Ok l
+    → directory_at v (count - k) earlier start at bytes ≡ all
+    → directory_at v (count - (k + 1)) (earlier ++ l ∷ []) (start + l.count) (at + 27) bytes ≡ all
 unfolding directory_at
-directory_more count k earlier start at bytes l all lt h so_far =
+directory_more v count k earlier start at bytes l all lt h so_far =
     let e : count - k ≡ suc (count - (k + 1)) = omega arith in
-    let one : directory_at (count - k) earlier start at bytes
-    ≡ directory_at (count - (k + 1)) (earlier ++ l ∷ []) (start + l.count) (at + 27) bytes =
+    let one : directory_at v (count - k) earlier start at bytes
+    ≡ directory_at v (count - (k + 1)) (earlier ++ l ∷ []) (start + l.count) (at + 27) bytes =
     rw (e, h) refl in
     sym one ∙ so_far
 
-pub directory_fault : (count k : ℕ) (earlier : List Listing) (start at : ℕ) (bytes : List ℕ)
+pub directory_fault : (v : ℕ) (count k : ℕ) (earlier : List Listing) (start at : ℕ) (bytes : List ℕ)
     (f : ProgFault) (all : Result (List Listing) ProgFault) → k < count
-    → listing_at earlier start at bytes ≡ Err f
-    → directory_at (count - k) earlier start at bytes ≡ all → all ≡ Err f
+    → listing_at v earlier start at bytes ≡ Err f
+    → directory_at v (count - k) earlier start at bytes ≡ all → all ≡ Err f
 unfolding directory_at
-directory_fault count k earlier start at bytes f all lt h so_far =
+directory_fault v count k earlier start at bytes f all lt h so_far =
     let e : count - k ≡ suc (count - (k + 1)) = omega arith in
-    let one : directory_at (count - k) earlier start at bytes ≡ Err f = rw (e, h) refl in
+    let one : directory_at v (count - k) earlier start at bytes ≡ Err f = rw (e, h) refl in
     sym so_far ∙ one
 
-pub directory_done : (count k : ℕ) (earlier : List Listing) (start at : ℕ) (bytes : List ℕ)
+pub directory_done : (v : ℕ) (count k : ℕ) (earlier : List Listing) (start at : ℕ) (bytes : List ℕ)
     (all : Result (List Listing) ProgFault) → count ≤ k
-    → directory_at (count - k) earlier start at bytes ≡ all → all ≡ Ok earlier
+    → directory_at v (count - k) earlier start at bytes ≡ all → all ≡ Ok earlier
 unfolding directory_at
-directory_done count k earlier start at bytes all le so_far =
+directory_done v count k earlier start at bytes all le so_far =
     let e : count - k ≡ 0 = omega arith in
-    let one : directory_at (count - k) earlier start at bytes ≡ Ok earlier = rw e refl in
+    let one : directory_at v (count - k) earlier start at bytes ≡ Ok earlier = rw e refl in
     sym so_far ∙ one

@@ -8,12 +8,14 @@ use Rattle.std.proofs.lemmas.List.{take_at}
 use Rattle.uprog_code.specs.declared.code.Uop.{Uop}
 use Rattle.uprog_code.specs.Shape.{Shape, Microprogram}
 use Rattle.uprog_bin.specs.Spelling.{instruction_bytes, code_bytes}
-use Rattle.uprog_bin.specs.Reading.{IsBytes, ◌>>=◌, bytes_at, raw_of, numbered, uop_at, uops_at}
+use Rattle.uprog_bin.specs.Reading.{bytes_at, raw_of, numbered, uop_at, uops_at}
 use Rattle.uprog_bin.specs.Reading.{codes_at, Listing, total_count}
 use Rattle.uprog_bin.specs.declared.opcode.TheConstants.{OPCODES}
-use Rattle.uprog_bin.proofs.Held.{Holds, Holds-then, Holds-fits, bind_ok, ok_is, bytes_takes}
 use Rattle.uprog_bin.proofs.Found.{IsUop, uop_at_read}
 use Rattle.uprog_bin.proofs.Instructions.{number_of, number_is, text-raw, instruction_text}
+use Rattle.file_fields.specs.Fields.{IsBytes, ◌>>=◌}
+use Rattle.file_fields.proofs.Held.{Holds, Holds-then, Holds-fits, bind_ok, ok_is, bytes_takes}
+use Rattle.uprog_bin.specs.declared.fault.ProgKind.TheVariants as kinds
 
 -- a place and its text, by two names
 same-place : (bytes : List ℕ) (at : ℕ) (text : List ℕ) (next next' : ℕ) → next ≡ next'
@@ -33,7 +35,7 @@ unfolding uop_at
 uop_takes shape size last at bytes i fits e =
     let a = bind_ok (bytes_at 8 at bytes) (λ field. numbered
     (slice_get OPCODES (slice_index field 0)) shape size last at (raw_of field)) i e in
-    let t = bytes_takes 8 at (at + 8) bytes a.0 a.1 refl in
+    let t = bytes_takes kinds.Short 8 at (at + 8) bytes a.0 a.1 refl in
     let part = Holds-fits bytes at a.0 (at + 8) t.0 fits in
     let known = (uop_at_read shape size last at bytes i e).1 in
     let field : a.0 ≡ take 8 (drop at bytes) = sym (take_at a.0 (drop (at + 8) bytes) 8 t.1)

@@ -1,16 +1,17 @@
 -- The spelling of a program is read as the program.
 use Rattle.std.proofs.Common.{◌≡◌, ◌≢◌, ℕ, zero, suc, ◌+◌, ◌-◌, ◌*◌, ◌/◌, ◌%◌, ◌^◌, ◌<◌, ◌≤◌, Bool}
-use Rattle.std.proofs.Common.{true, false, eqb, leb, List, [], ◌∷◌, ◌++◌, length, get_or, Ok, refl}
-use Rattle.std.proofs.Common.{sym, ap, ◌∙◌, subst, arith, append_assoc, append-nil, replicate, ◌⊎◌}
+use Rattle.std.proofs.Common.{true, false, eqb, ltb, leb, List, [], ◌∷◌, ◌++◌, length, get_or, Ok}
+use Rattle.std.proofs.Common.{refl}
+use Rattle.std.proofs.Common.{sym, ap, ◌∙◌, subst, arith, append_assoc, append-nil, ◌⊎◌}
 use Rattle.std.proofs.Common.{inl, inr}
-use Rattle.std.specs.Prelude.{slice_get, codes}
+use Rattle.std.specs.Prelude.{slice_get, codes, cond, not, ◌&&◌, Option, Some, None}
 use Rattle.std.specs.Int.{w8, w16, w32, to_le_bytes}
 use Rattle.std.specs.List.{flat_map, AllByRecursion, AllPairs}
 use Rattle.std.specs.Str.{bytes_eq}
-use Rattle.std.proofs.lemmas.Bool.{eq-eqb, lt-ltb, le-leb}
+use Rattle.std.proofs.lemmas.Bool.{eq-eqb, eqb-true, lt-ltb, le-leb}
 use Rattle.std.proofs.lemmas.Option.{slice_get_within}
 use Rattle.std.proofs.lemmas.Slice.Eq.{bytes_eq-Decides}
-use Rattle.std.proofs.lemmas.List.{length-append, length-replicate, drop_all, get_or_append_left}
+use Rattle.std.proofs.lemmas.List.{length-append, drop_all, get_or_append_left}
 use Rattle.std.proofs.lemmas.List.Concat.{flat_map-cons}
 use Rattle.std.proofs.Math.Seq.{get_or-append_seam}
 use Rattle.op_text.specs.declared.tree.Kind.{Kind}
@@ -18,19 +19,23 @@ use Rattle.op_text.specs.declared.tree.Kind.TheVariants.{Word, Bit}
 use Rattle.uprog_code.specs.declared.code.Uop.TheVariants.{Done}
 use Rattle.uprog_code.specs.Shape.{Shape, Microprogram}
 use Rattle.uprog_bin.specs.declared.fault.ProgKind.TheVariants as kinds
-use Rattle.uprog_bin.specs.Spelling.{name_bytes, kind_bits, result_bit, kinds_byte, shape_bytes}
+use Rattle.uprog_bin.specs.Spelling.{kind_bits, result_bit, second_bits, kinds_byte}
+use Rattle.uprog_bin.specs.Spelling.{shape_bytes, HasVersion}
 use Rattle.uprog_bin.specs.Spelling.{head_bytes, directory_bytes, code_bytes, opening_bytes}
 use Rattle.uprog_bin.specs.Spelling.{program_bytes}
 use Rattle.uprog_code.specs.Programs.{IsEntry, IsProgram}
-use Rattle.uprog_bin.specs.Reading.{is_between, kind_of_bit, kinds_of, is_kinds, shape_at, Listing}
+use Rattle.uprog_bin.specs.Reading.{kind_of_bit, kinds_of, is_kinds, shape_at, Listing}
 use Rattle.uprog_bin.specs.Reading.{has_name, listing_at, directory_at, codes_at, codes_start}
-use Rattle.uprog_bin.specs.Reading.{total_count, opening_in, program_in}
-use Rattle.uprog_bin.proofs.Held.{Holds, Holds-front, Holds-back, bytes_again, wide8, wide16}
-use Rattle.uprog_bin.proofs.Held.{wide32, number_again, field_again}
-use Rattle.uprog_bin.proofs.Names.{is-between, name_again, name_short}
+use Rattle.uprog_bin.specs.Reading.{total_count, is_version, opening_in, program_in, second_of}
+use Rattle.file_fields.proofs.NameField.{name_again}
 use Rattle.uprog_bin.proofs.Records.{IsShape}
+use Rattle.uprog_bin.proofs.Numbers.{version_small}
 use Rattle.uprog_bin.proofs.KindBits.{kind_bits_small}
 use Rattle.uprog_bin.proofs.Again.{uops_again, length-code}
+use Rattle.file_fields.specs.Fields.{name_bytes, is_between}
+use Rattle.file_fields.proofs.Held.{Holds, Holds-front, Holds-back, bytes_again, wide8, wide16}
+use Rattle.file_fields.proofs.Held.{wide32, number_again, field_again}
+use Rattle.file_fields.proofs.Padded.{is-between, name_size}
 
 -- ---- kinds
 
@@ -55,22 +60,68 @@ kinds_back (suc m) (Bit ∷ ks) q n e h =
     ap (λ b. kind_of_bit b ∷ kinds_of m (n / 2)) low
     ∙ ap (λ (r : List Kind). Bit ∷ r) (kinds_back m ks q (n / 2) (omega arith) high)
 
-result_top : (m : ℕ) (r : Kind) → 1 ≤ m → m ≤ 4 → (q : ℕ) × (result_bit r ≡ tops q m)
+sixteens : (m t : ℕ) → 1 ≤ m → m ≤ 4 → (q : ℕ) × (16 * t ≡ tops q m)
 unfolding tops
-result_top zero r l h = absurd (omega arith)
-result_top (suc zero) Word l h = (8, refl)
-result_top (suc (suc zero)) Word l h = (4, refl)
-result_top (suc (suc (suc zero))) Word l h = (2, refl)
-result_top (suc (suc (suc (suc zero)))) Word l h = (1, refl)
-result_top (suc zero) Bit l h = (0, refl)
-result_top (suc (suc zero)) Bit l h = (0, refl)
-result_top (suc (suc (suc zero))) Bit l h = (0, refl)
-result_top (suc (suc (suc (suc zero)))) Bit l h = (0, refl)
-result_top (suc (suc (suc (suc (suc m))))) r l h = absurd (omega arith)
+sixteens zero t l h = absurd (omega arith)
+sixteens (suc zero) t l h = (8 * t, omega arith)
+sixteens (suc (suc zero)) t l h = (4 * t, omega arith)
+sixteens (suc (suc (suc zero))) t l h = (2 * t, omega arith)
+sixteens (suc (suc (suc (suc zero)))) t l h = (t, omega arith)
+sixteens (suc (suc (suc (suc (suc m))))) t l h = absurd (omega arith)
 
-result_back : (r : Kind) (low : ℕ) → low ≤ 15 → kind_of_bit ((low + result_bit r) / 16) ≡ r
-result_back Word low h = let e : (low + 16) / 16 ≡ 1 = omega arith in ap kind_of_bit e
-result_back Bit low h = let e : (low + 0) / 16 ≡ 0 = omega arith in ap kind_of_bit e
+-- the results' bits from bit 4 on, as a number
+abbrev top_of : Kind → Option Kind → ℕ
+top_of Word None = 1
+top_of Word (Some Bit) = 3
+top_of Word (Some Word) = 7
+top_of Bit None = 0
+top_of Bit (Some Bit) = 2
+top_of Bit (Some Word) = 6
+
+top_is : (r : Kind) (o : Option Kind) → result_bit r + second_bits o ≡ 16 * top_of r o
+top_is Word None = refl
+top_is Word (Some Bit) = refl
+top_is Word (Some Word) = refl
+top_is Bit None = refl
+top_is Bit (Some Bit) = refl
+top_is Bit (Some Word) = refl
+
+top_small : (r : Kind) (o : Option Kind) → top_of r o < 8
+top_small Word None = omega arith
+top_small Word (Some Bit) = omega arith
+top_small Word (Some Word) = omega arith
+top_small Bit None = omega arith
+top_small Bit (Some Bit) = omega arith
+top_small Bit (Some Word) = omega arith
+
+result_back : (r : Kind) (o : Option Kind) → kind_of_bit (top_of r o % 2) ≡ r
+result_back Word None = refl
+result_back Word (Some Bit) = refl
+result_back Word (Some Word) = refl
+result_back Bit None = refl
+result_back Bit (Some Bit) = refl
+result_back Bit (Some Word) = refl
+
+second_back : (r : Kind) (o : Option Kind) → second_of (top_of r o / 2) ≡ o
+second_back Word None = refl
+second_back Word (Some Bit) = refl
+second_back Word (Some Word) = refl
+second_back Bit None = refl
+second_back Bit (Some Bit) = refl
+second_back Bit (Some Word) = refl
+
+-- a version that is not 1, or no second result
+results_pass : (c : Bool) (r : Kind) (o : Option Kind) → (c ≡ true → o ≡ None)
+    → (ltb (top_of r o) (cond c 2 8) && not (eqb (top_of r o / 2) 2)) ≡ true
+results_pass true Word None h = refl
+results_pass true Bit None h = refl
+results_pass true r (Some k) h = let e : Some k ≡ None = h refl in absurd cc
+results_pass false Word None h = refl
+results_pass false Word (Some Bit) h = refl
+results_pass false Word (Some Word) h = refl
+results_pass false Bit None h = refl
+results_pass false Bit (Some Bit) h = refl
+results_pass false Bit (Some Word) h = refl
 
 -- fewer kinds, fewer bits
 kinds_below : (m : ℕ) (ks : List Kind) → length ks ≡ m → m ≤ 4 → kind_bits ks < 2 ^ m
@@ -90,23 +141,39 @@ kinds_below (suc m) (k ∷ ks) e h = step m k (kinds_below m ks (omega arith) (o
     step m Word l h = omega (arith, twice m (omega arith))
     step m Bit l h = omega (arith, twice m (omega arith))
 
-result_small : (r : Kind) (low : ℕ) → low ≤ 15 → (low + result_bit r < 32)
-    × ((low + result_bit r) % 16 ≡ low)
-result_small Word low h = (omega arith, omega arith)
-result_small Bit low h = (omega arith, omega arith)
+-- the byte of kinds and its parts
+record IsByte (s : Shape) : Type 0 where
+  small : kinds_byte s < 256
+  low : kinds_byte s % 16 ≡ kind_bits s.sources
+  top : kinds_byte s / 16 ≡ top_of s.result s.second
 
-kinds_pass : (s : Shape) → IsShape s → is_kinds (length s.sources) (kinds_byte s) ≡ true
-kinds_pass s is =
+is_byte : (v : ℕ) (s : Shape) → IsShape v s → IsByte s
+is_byte v s is =
     let low = kind_bits_small s.sources is.few in
-    let r = result_small s.result (kind_bits s.sources) low in
-    let below = kinds_below (length s.sources) s.sources refl is.few in
-    let small : kinds_byte s % 16 < 2 ^ length s.sources = omega (arith, r.1, below) in
-    rw (lt-ltb (kinds_byte s) 32 r.0, lt-ltb (kinds_byte s % 16) (2 ^ length s.sources) small) refl
+    let top = top_is s.result s.second in
+    let few = top_small s.result s.second in
+    record {
+      small = omega (arith, low, top, few);
+      low = omega (arith, low, top);
+      top = omega (arith, low, top);
+    }
 
-pub shape_again : (at : ℕ) (bytes : List ℕ) (s : Shape) → IsShape s
-    → Holds bytes at (shape_bytes s) (at + 4) → shape_at at bytes ≡ Ok s
+kinds_pass : (v : ℕ) (s : Shape) → IsShape v s
+    → is_kinds v (length s.sources) (kinds_byte s) ≡ true
+kinds_pass v s is =
+    let b = is_byte v s is in
+    let below = kinds_below (length s.sources) s.sources refl is.few in
+    let small : kinds_byte s % 16 < 2 ^ length s.sources = omega (arith, b.low, below) in
+    rw (
+      lt-ltb (kinds_byte s % 16) (2 ^ length s.sources) small,
+      b.top,
+      results_pass (eqb v 1) s.result s.second (λ t. is.one (eqb-true v 1 t)),
+    ) refl
+
+pub shape_again : (v : ℕ) (at : ℕ) (bytes : List ℕ) (s : Shape) → IsShape v s
+    → Holds bytes at (shape_bytes s) (at + 4) → shape_at v at bytes ≡ Ok s
 unfolding shape_at
-shape_again at bytes s is h =
+shape_again v at bytes s is h =
     let m = length s.sources in
     let k = kinds_byte s in
     let one = Holds-front bytes at (m ∷ []) (at + 1) (k ∷ s.bits ∷ s.words ∷ []) (at + 4) h refl in
@@ -119,19 +186,25 @@ shape_again at bytes s is h =
     (omega arith) in
     let four = Holds-back bytes (at + 2) (s.bits ∷ []) (at + 3) (s.words ∷ []) (at + 4) h2
     (omega arith) in
-    let low = kind_bits_small s.sources is.few in
-    let r = result_small s.result (kind_bits s.sources) low in
-    let a = field_again w8 256 (λ n. n ∷ []) wide8 (is_between 1 4) kinds.Directory at (at + 1)
+    let byte = is_byte v s is in
+    let a = field_again kinds.Short w8 256 (λ n. n ∷ []) wide8 (is_between 1 4) kinds.Directory at
+    (at + 1)
     bytes m one (omega (arith, is.few)) (is-between 1 4 m is.some is.few) in
-    let b = field_again w8 256 (λ n. n ∷ []) wide8 (is_kinds m) kinds.Directory (at + 1) (at + 2)
-    bytes k two (omega (arith, r.0)) (kinds_pass s is) in
-    let c = number_again w8 256 (λ n. n ∷ []) wide8 (at + 2) (at + 3) bytes s.bits three is.bits in
-    let d = number_again w8 256 (λ n. n ∷ []) wide8 (at + 3) (at + 4) bytes s.words four is.words in
-    let top = result_top m s.result is.some is.few in
+    let b = field_again kinds.Short w8 256 (λ n. n ∷ []) wide8 (is_kinds v m) kinds.Directory (at
+    + 1) (at + 2)
+    bytes k two byte.small (kinds_pass v s is) in
+    let c = number_again kinds.Short w8 256 (λ n. n ∷ []) wide8 (at + 2) (at + 3) bytes s.bits three
+    is.bits in
+    let d = number_again kinds.Short w8 256 (λ n. n ∷ []) wide8 (at + 3) (at + 4) bytes s.words four
+    is.words in
+    let top = sixteens m (top_of s.result s.second) is.some is.few in
     let sources : kinds_of m k ≡ s.sources = kinds_back m s.sources top.0 k refl
-    (ap (λ n. kind_bits s.sources + n) top.1) in
-    let result : kind_of_bit (k / 16) ≡ s.result = result_back s.result (kind_bits s.sources) low in
-    rw (a, b, c, d, sources, result) refl
+    (ap (λ n. kind_bits s.sources + n) (top_is s.result s.second ∙ top.1)) in
+    let result : kind_of_bit (k / 16 % 2) ≡ s.result = ap (λ n. kind_of_bit (n % 2)) byte.top
+    ∙ result_back s.result s.second in
+    let second : second_of (k / 16 / 2) ≡ s.second = ap (λ n. second_of (n / 2)) byte.top
+    ∙ second_back s.result s.second in
+    rw (a, b, c, d, sources, result, second) refl
 
 -- ---- records
 
@@ -148,27 +221,29 @@ abbrev pub listings_from : ℕ → List Microprogram → List Listing
 listings_from start [] = []
 listings_from start (m ∷ ms) = listing_from start m ∷ listings_from (start + length m.code) ms
 
-shape_is : (m : Microprogram) → IsEntry m → IsShape m.shape
-shape_is m is = record { some = is.some; few = is.few; bits = is.bits; words = is.words }
+shape_is : (v : ℕ) (m : Microprogram) → IsEntry m → (v ≡ 1 → m.shape.second ≡ None)
+    → IsShape v m.shape
+shape_is v m is one = record {
+  some = is.some;
+  few = is.few;
+  bits = is.bits;
+  words = is.words;
+  one = one;
+}
 
 code_some : (m : Microprogram) → IsEntry m → 0 < length m.code
 code_some m is = let h = slice_get_within m.code (length m.code - 1) Done is.code.last in
     omega arith
 
 name_length : (m : Microprogram) → IsEntry m → length (name_bytes m.name) ≡ 17
-name_length m is = let short = name_short m.name is.name in
-    omega (
-      arith,
-      length-append m.name (replicate (16 - length m.name) 0),
-      length-replicate {A = ℕ} (16 - length m.name) 0,
-    )
+name_length m is = name_size m.name is.name
 
-listing_again : (earlier : List Listing) (start at : ℕ) (bytes : List ℕ) (m : Microprogram)
-    → IsEntry m → start < 2 ^ 32 → has_name earlier m.name ≡ false
+listing_again : (v : ℕ) (earlier : List Listing) (start at : ℕ) (bytes : List ℕ) (m : Microprogram)
+    → IsEntry m → (v ≡ 1 → m.shape.second ≡ None) → start < 2 ^ 32 → has_name earlier m.name ≡ false
     → Holds bytes at (head_bytes start m) (at + 27)
-    → listing_at earlier start at bytes ≡ Ok (listing_from start m)
+    → listing_at v earlier start at bytes ≡ Ok (listing_from start m)
 unfolding listing_at
-listing_again earlier start at bytes m is small new h =
+listing_again v earlier start at bytes m is one small new h =
     let numbers : List ℕ = to_le_bytes w32 start ++ to_le_bytes w16 (length m.code) in
     let size = name_length m is in
     let place : at + 17 ≡ at + length (name_bytes m.name) = omega arith in
@@ -184,12 +259,15 @@ listing_again earlier start at bytes m is small new h =
     (to_le_bytes w16 (length m.code)) (at + 27) h2 (omega arith) in
     let count = Holds-back bytes (at + 21) (to_le_bytes w32 start) (at + 25)
     (to_le_bytes w16 (length m.code)) (at + 27) h2 (omega arith) in
-    let a = name_again earlier at bytes m.name name is.name new in
-    let b = shape_again (at + 17) bytes m.shape (shape_is m is) shape in
-    let c = field_again w32 (2 ^ 32) (to_le_bytes w32) wide32 (λ n. eqb n start) kinds.Directory (at
+    let a = name_again kinds.Short kinds.Directory (has_name earlier) at bytes m.name name is.name
+    new in
+    let b = shape_again v (at + 17) bytes m.shape (shape_is v m is one) shape in
+    let c = field_again kinds.Short w32 (2 ^ 32) (to_le_bytes w32) wide32 (λ n.
+    eqb n start) kinds.Directory (at
     + 21) (at + 25) bytes start first small (eq-eqb start start refl) in
     let some = code_some m is in
-    let d = field_again w16 (2 ^ 16) (to_le_bytes w16) wide16 (is_between 1 65535) kinds.Directory
+    let d = field_again kinds.Short w16 (2 ^ 16) (to_le_bytes w16) wide16 (is_between 1 65535)
+    kinds.Directory
     (at + 25) (at + 27) bytes (length m.code) count is.code.short
     (is-between 1 65535 (length m.code) (omega arith) (omega (arith, is.code.short))) in
     rw (a, b, c, d) refl
@@ -223,17 +301,19 @@ head_length start m is = omega (
   name_length m is,
 )
 
-pub directory_again : (n : ℕ) (ms : List Microprogram) (earlier : List Listing) (start at : ℕ)
-    (bytes : List ℕ) → length ms ≡ n → AllByRecursion IsEntry ms → start + 65536 * n < 2 ^ 32
+pub directory_again : (v : ℕ) (n : ℕ) (ms : List Microprogram) (earlier : List Listing)
+    (start at : ℕ)
+    (bytes : List ℕ) → length ms ≡ n → AllByRecursion IsEntry ms
+    → (v ≡ 1 → AllByRecursion (λ m. m.shape.second ≡ None) ms) → start + 65536 * n < 2 ^ 32
     → AllPairs (λ k m. k.name ≢ m.name) (earlier ++ listings_from start ms)
     → Holds bytes at (directory_bytes start ms) (at + 27 * n)
-    → directory_at n earlier start at bytes ≡ Ok (earlier ++ listings_from start ms)
+    → directory_at v n earlier start at bytes ≡ Ok (earlier ++ listings_from start ms)
 unfolding directory_at
-directory_again zero [] earlier start at bytes e is small names h =
+directory_again v zero [] earlier start at bytes e is one small names h =
     ap (λ (ls : List Listing). Ok ls) (sym (append-nil earlier))
-directory_again zero (m ∷ ms) earlier start at bytes e is small names h = absurd (omega arith)
-directory_again (suc n) [] earlier start at bytes e is small names h = absurd (omega arith)
-directory_again (suc n) (m ∷ ms) earlier start at bytes e is small names h =
+directory_again v zero (m ∷ ms) earlier start at bytes e is one small names h = absurd (omega arith)
+directory_again v (suc n) [] earlier start at bytes e is one small names h = absurd (omega arith)
+directory_again v (suc n) (m ∷ ms) earlier start at bytes e is one small names h =
     let l = listing_from start m in
     let rest = listings_from (start + length m.code) ms in
     let size = head_length start m is.0 in
@@ -243,16 +323,16 @@ directory_again (suc n) (m ∷ ms) earlier start at bytes e is small names h =
     let back = Holds-back bytes at (head_bytes start m) (at + 27)
     (directory_bytes (start + length m.code) ms) (at + 27 * suc n) h place in
     let end : at + 27 * suc n ≡ at + 27 + 27 * n = omega arith in
-    let one = listing_again earlier start at bytes m is.0 (omega arith)
+    let first = listing_again v earlier start at bytes m is.0 (λ e. (one e).0) (omega arith)
     (new_is earlier rest l names) front in
     let short = is.0.code.short in
     let same : earlier ++ l ∷ rest ≡ (earlier ++ l ∷ []) ++ rest =
     sym (append_assoc earlier (l ∷ []) rest) in
-    let more = directory_again n ms (earlier ++ l ∷ []) (start + length m.code) (at + 27) bytes
-    (omega arith) is.1 (omega arith) (subst
+    let more = directory_again v n ms (earlier ++ l ∷ []) (start + length m.code) (at + 27) bytes
+    (omega arith) is.1 (λ e. (one e).1) (omega arith) (subst
     (λ (ls : List Listing). AllPairs (λ k x. k.name ≢ x.name) ls) same names)
     (subst (Holds bytes (at + 27) (directory_bytes (start + length m.code) ms)) end back) in
-    rw one (more ∙ ap (λ (ls : List Listing). Ok ls) (sym same))
+    rw first (more ∙ ap (λ (ls : List Listing). Ok ls) (sym same))
 
 -- ---- code
 
@@ -313,7 +393,7 @@ name_of (m ∷ ms) start (suc k) c d lt = name_of ms (start + length m.code) k c
 blank : Microprogram
 blank = record {
   name = [];
-  shape = record { sources = []; result = Word; bits = 0; words = 0 };
+  shape = record { sources = []; result = Word; second = None; bits = 0; words = 0 };
   code = [];
 }
 
@@ -324,53 +404,65 @@ names_again ms names i j d lt lj e =
     names i j blank lt (omega arith) (sym (name_of ms 0 i d blank (omega arith)) ∙ e
     ∙ name_of ms 0 j d blank (omega arith))
 
-opening_again : (bytes : List ℕ) → Holds bytes 0 opening_bytes 6 → opening_in bytes ≡ Ok tt
+opening_again : (v : ℕ) (bytes : List ℕ) → is_version v ≡ true
+    → Holds bytes 0 (opening_bytes v) 6 → opening_in bytes ≡ Ok v
 unfolding opening_in
-opening_again bytes h =
-    let front = Holds-front bytes 0 (codes "SDMP") 4 (to_le_bytes w16 1) 6 h refl in
-    let back = Holds-back bytes 0 (codes "SDMP") 4 (to_le_bytes w16 1) 6 h refl in
-    let magic = bytes_again 4 0 4 bytes (codes "SDMP") front refl in
-    let version = field_again w16 (2 ^ 16) (to_le_bytes w16) wide16 (λ v. eqb v 1) kinds.Version 4 6
-    bytes 1 back (omega arith) refl in
-    rw (magic, version) refl
+opening_again v bytes is h =
+    let front = Holds-front bytes 0 (codes "SDMP") 4 (to_le_bytes w16 v) 6 h refl in
+    let back = Holds-back bytes 0 (codes "SDMP") 4 (to_le_bytes w16 v) 6 h refl in
+    let magic = bytes_again kinds.Short 4 0 4 bytes (codes "SDMP") front refl in
+    let version = field_again kinds.Short w16 (2 ^ 16) (to_le_bytes w16) wide16 is_version
+    kinds.Version 4 6
+    bytes v back (version_small v is) is in
+    rw magic version
 
-pub read : (ms : List Microprogram) → IsProgram ms → program_in (program_bytes ms) ≡ Ok ms
+-- a version that a program has
+has_one : (v : ℕ) (ms : List Microprogram) → HasVersion v ms → (is_version v ≡ true)
+    × (v ≡ 1 → AllByRecursion (λ m. m.shape.second ≡ None) ms)
+has_one v ms (inl h) = (ap is_version h.0, λ e. h.1)
+has_one v ms (inr two) = (ap is_version two, λ e. absurd (omega arith))
+
+pub read : (v : ℕ) (ms : List Microprogram) → IsProgram ms → HasVersion v ms
+    → program_in (program_bytes v ms) ≡ Ok (v, ms)
 unfolding program_in program_bytes
-read ms is =
+read v ms is has =
+    let one = has_one v ms has in
     let ls = listings_from 0 ms in
     let code : List ℕ = flat_map code_bytes ms in
     let records : List ℕ = directory_bytes 0 ms in
     let number : List ℕ = to_le_bytes w16 (length ms) in
-    let bytes : List ℕ = opening_bytes ++ (number ++ (records ++ code)) in
+    let bytes : List ℕ = opening_bytes v ++ (number ++ (records ++ code)) in
     let codes_len = length-codes ms 0 in
     let records_len = length-directory ms 0 is.entries in
     let many = length-listings ms 0 in
     let end : ℕ = codes_start ls + 8 * total_count ls in
     let size : length bytes ≡ end = omega (
       arith,
-      length-append opening_bytes (number ++ (records ++ code)),
+      length-append (opening_bytes v) (number ++ (records ++ code)),
       length-append number (records ++ code),
       length-append records code,
     ) in
-    let whole : Holds bytes 0 (opening_bytes ++ (number ++ (records ++ code))) end = record {
+    let whole : Holds bytes 0 (opening_bytes v ++ (number ++ (records ++ code))) end = record {
       parts = sym (ap (λ (rest : List ℕ). bytes ++ rest) (drop_all end bytes (omega (arith, size)))
           ∙ append-nil bytes);
       ends = omega (arith, size);
       within = omega (arith, size);
     } in
-    let opening = Holds-front bytes 0 opening_bytes 6 (number ++ (records ++ code)) end whole refl
+    let opening = Holds-front bytes 0 (opening_bytes v) 6 (number ++ (records ++ code)) end whole
+    refl
     in
-    let h1 = Holds-back bytes 0 opening_bytes 6 (number ++ (records ++ code)) end whole refl in
+    let h1 = Holds-back bytes 0 (opening_bytes v) 6 (number ++ (records ++ code)) end whole refl in
     let count = Holds-front bytes 6 number 8 (records ++ code) end h1 refl in
     let h2 = Holds-back bytes 6 number 8 (records ++ code) end h1 refl in
     let from : 8 + 27 * length ms ≡ 8 + length records = omega arith in
     let directory = Holds-front bytes 8 records (8 + 27 * length ms) code end h2 from in
     let h3 = Holds-back bytes 8 records (codes_start ls) code end h2 (omega arith) in
-    let a = opening_again bytes opening in
+    let a = opening_again v bytes one.0 opening in
     let few = is.few in
-    let b = field_again w16 (2 ^ 16) (to_le_bytes w16) wide16 (λ n. leb n 32) kinds.Directory 6 8
+    let b = field_again kinds.Short w16 (2 ^ 16) (to_le_bytes w16) wide16 (λ n.
+    leb n 32) kinds.Directory 6 8
     bytes (length ms) count (omega arith) (le-leb (length ms) 32 is.few) in
-    let c = directory_again (length ms) ms [] 0 8 bytes refl is.entries (omega arith)
+    let c = directory_again v (length ms) ms [] 0 8 bytes refl is.entries one.1 (omega arith)
     (names_again ms is.names) directory in
     let d = codes_again ms 0 (codes_start ls) bytes is.entries h3 in
     rw (a, b, c, d, eq-eqb (length bytes) end size) refl

@@ -3,22 +3,46 @@ use Rattle.std.specs.Prelude.{◌≡◌, ℕ, zero, suc, ◌+◌, ◌*◌, ◌/�
 use Rattle.std.specs.Prelude.{take, drop, Result, Ok, Err, slice_index, slice_index_or}
 use Rattle.uprog_code.specs.declared.code.Uop.{Uop}
 use Rattle.uprog_code.specs.Shape.{Shape, Microprogram}
-use Rattle.uprog_bin.specs.declared.fault.ProgFault.{ProgFault}
+use Rattle.uprog_code.specs.Programs.{IsProgram}
+use Rattle.uprog_bin.specs.Spelling.{HasVersion, program_bytes}
 use Rattle.uprog_bin.specs.declared.directory.Listed.{Listed}
 use Rattle.uprog_bin.specs.declared.opcode.Opcode.TheVariants.{Done}
 use Rattle.uprog_bin.specs.declared.opcode.TheConstants.{OPCODES}
 use Rattle.uprog_bin.specs.Reading.{raw_of, uop_as, codes_at, codes_start, total_count, Listing}
 use Rattle.uprog_bin.specs.Reading.{listings_of, program_in}
+use Rattle.uprog_bin.specs.Reading.{ProgFault}
 
--- the program of an accepted file
-abbrev pub accepted : Result (List Microprogram) ProgFault → List Microprogram
-accepted (Ok ms) = ms
-accepted (Err f) = []
+-- the version and the program of an accepted file
+abbrev pub accepted : Result (ℕ × List Microprogram) ProgFault → ℕ × List Microprogram
+accepted (Ok found) = found
+accepted (Err f) = (0, [])
 
--- what a view shows: the file, and the program that it spells
+abbrev pub programs_in : List ℕ → List Microprogram
+programs_in bytes = (accepted (program_in bytes)).1
+
+-- the bytes are the file of a program
+pub record IsProgramFile (bytes : List ℕ) : Type 0 where
+  pub version : ℕ
+  pub programs : List Microprogram
+  pub is : IsProgram programs
+  pub has : HasVersion version programs
+  pub spelled : bytes ≡ program_bytes version programs
+
+-- what a view shows: the file, its version, and the program that it spells
 pub record File : Type 0 where
   pub bytes : List ℕ
+  pub version : ℕ
   pub programs : List Microprogram
+
+abbrev pub found_of : File → ℕ × List Microprogram
+found_of f = (f.version, f.programs)
+
+abbrev pub file_of : List ℕ → File
+file_of bytes = record {
+  bytes = bytes;
+  version = (accepted (program_in bytes)).0;
+  programs = programs_in bytes;
+}
 
 -- what an entry shows: its head, and the bytes of its code
 pub record Held : Type 0 where
@@ -57,11 +81,11 @@ AreStarts start [] = Unit {0}
 AreStarts start (l ∷ ls) = (l.start ≡ start) × (0 < l.count) × (l.count < 2 ^ 16)
     × AreStarts (start + l.count) ls
 
--- these are the records of an accepted file
-pub record IsOpened (bytes : List ℕ) (listed : List Listed) : Type 0 where
+-- these are the version and the records of an accepted file
+pub record IsOpened (bytes : List ℕ) (version : ℕ) (listed : List Listed) : Type 0 where
   pub small : length bytes < 2 ^ 32
-  pub read : program_in bytes ≡ Ok (accepted (program_in bytes))
+  pub read : program_in bytes ≡ Ok (version, programs_in bytes)
   pub codes : codes_at (listings_of listed) (codes_start (listings_of listed)) bytes
-      ≡ Ok (accepted (program_in bytes))
+      ≡ Ok (programs_in bytes)
   pub starts : AreStarts 0 (listings_of listed)
   pub long : length bytes ≡ codes_start (listings_of listed) + 8 * total_count (listings_of listed)

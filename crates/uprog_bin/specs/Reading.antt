@@ -1,13 +1,12 @@
 -- Reading a program file field by field: its program, or the first field that is not whole or
 -- breaks its rule.
-use Rattle.std.specs.Prelude.{◌≡◌, ◌<◌, ℕ, zero, suc, ◌+◌, ◌*◌, ◌/◌, ◌%◌, ◌^◌, Bool, true, ◌&&◌}
-use Rattle.std.specs.Prelude.{not, nat_le, nat_lt, ◌==◌, List, [], ◌∷◌, ◌++◌, length, take, drop}
+use Rattle.std.specs.Prelude.{◌≡◌, ℕ, zero, suc, ◌+◌, ◌*◌, ◌/◌, ◌%◌, ◌^◌, Bool, true, ◌&&◌, ◌||◌}
+use Rattle.std.specs.Prelude.{not, nat_le, nat_lt, ◌==◌, List, [], ◌∷◌, ◌++◌, length}
 use Rattle.std.specs.Prelude.{Option, Some, None, Result, Ok, Err, if◌then◌else◌, codes, map}
 use Rattle.std.specs.Prelude.{slice_get, slice_index, slice_index_or}
-use Rattle.std.specs.Int.{Width, w8, w16, w32, byte_len, from_le_bytes}
-use Rattle.std.specs.List.{list_all, list_any}
+use Rattle.std.specs.Int.{Width, w8, w16, w32, from_le_bytes}
+use Rattle.std.specs.List.{list_any}
 use Rattle.std.specs.Str.{bytes_eq}
-use Rattle.text_lex.specs.Spelled.{fits_name}
 use Rattle.op_text.specs.declared.tree.Kind.{Kind}
 use Rattle.op_text.specs.declared.tree.Kind.TheVariants.{Word, Bit}
 use Rattle.uprog_code.specs.declared.code.RowSpace.TheVariants.{Spill}
@@ -19,50 +18,29 @@ use Rattle.uprog_bin.specs.declared.directory.Listed.{Listed}
 use Rattle.uprog_code.specs.Legal.{is_first, is_second}
 use Rattle.uprog_bin.specs.declared.fault.ProgKind.{ProgKind}
 use Rattle.uprog_bin.specs.declared.fault.ProgKind.TheVariants as kinds
-use Rattle.uprog_bin.specs.declared.fault.ProgFault.{ProgFault}
 use Rattle.uprog_bin.specs.declared.opcode.Opcode.{Opcode}
 use Rattle.uprog_bin.specs.declared.opcode.Opcode.TheVariants.{Done, SetI, SetN, SetT, Mov, Add}
 use Rattle.uprog_bin.specs.declared.opcode.Opcode.TheVariants.{AddI, SubI, Bnez, Aap, Ap}
 use Rattle.uprog_bin.specs.declared.opcode.TheConstants.{OPCODES, SPACES}
 use Rattle.uprog_bin.specs.declared.instruction.RawRow.{RawRow}
 use Rattle.uprog_bin.specs.declared.instruction.Raw.{Raw}
+use Rattle.file_fields.specs.declared.faults.FileFault.{FileFault}
+use Rattle.file_fields.specs.Fields as fields
+use Rattle.file_fields.specs.Fields.{◌>>=◌, rule, fault_at, is_between, is_padded_name}
 
-infixl 10 ◌>>=◌
-abbrev pub ◌>>=◌ : {A B : Type 0} → Result A ProgFault → (A → Result B ProgFault)
-    → Result B ProgFault
-(Ok x) >>= f = f x
-(Err e) >>= f = Err e
+abbrev pub ProgFault : Type 0
+ProgFault = FileFault ProgKind
 
-abbrev pub fault_at : ℕ → ProgKind → ProgFault
-fault_at at kind = record { at = at; kind = kind }
-
--- What a function returned, seen by view, is what reading gives.
-abbrev pub Gives : {X Y : Type 0} → (X → Y) → Result X ProgFault → Result Y ProgFault → Type 0
-Gives view (Ok x) read = read ≡ Ok (view x)
-Gives view (Err f) read = read ≡ Err f
-
--- a rule of the field at a place
-abbrev pub rule : Bool → ℕ → ProgKind → Result (Unit {0}) ProgFault
-rule holds at kind = if holds then Ok tt else Err (fault_at at kind)
-
--- so many bytes from a place on. A file that ends before is Short at its length
+-- So many bytes from a place on, the number of a width there, and a number that has to pass a test.
+-- A file that ends before is Short at its length.
 abbrev pub bytes_at : ℕ → ℕ → List ℕ → Result (List ℕ) ProgFault
-bytes_at len at bytes = if nat_lt (length bytes) (at + len)
-    then Err (fault_at (length bytes) kinds.Short) else Ok (take len (drop at bytes))
+bytes_at = fields.bytes_at kinds.Short
 
--- the number of that width at a place, the low byte first
 abbrev pub number_at : Width → ℕ → List ℕ → Result ℕ ProgFault
-number_at w at bytes = bytes_at (byte_len w) at bytes >>= λ field. Ok (from_le_bytes w field)
+number_at = fields.number_at kinds.Short
 
--- a number that has to pass a test
 abbrev pub field_at : Width → (ℕ → Bool) → ProgKind → ℕ → List ℕ → Result ℕ ProgFault
-field_at w passes kind at bytes = do
-  n ← number_at w at bytes
-  fits ← rule (passes n) at kind
-  Ok n
-
-abbrev pub is_between : ℕ → ℕ → ℕ → Bool
-is_between low high n = nat_le low n && nat_le n high
+field_at = fields.field_at kinds.Short
 
 -- ---- an instruction
 
@@ -185,17 +163,9 @@ pub record Listing : Type 0 where
 abbrev pub has_name : List Listing → List ℕ → Bool
 has_name earlier name = list_any (λ l. bytes_eq l.name name) earlier
 
--- the first so many bytes of the field are a name, which no earlier entry has, and the others are 0
-abbrev pub is_new_name : List Listing → ℕ → List ℕ → Bool
-is_new_name earlier len field = fits_name (take len field)
-    && (list_all (λ b. b == 0) (drop len field) && not (has_name earlier (take len field)))
-
-unfoldable pub name_at : List Listing → ℕ → List ℕ → Result (List ℕ) ProgFault
-name_at earlier at bytes = do
-  len ← field_at w8 (is_between 1 16) kinds.Directory at bytes
-  field ← bytes_at 16 (at + 1) bytes
-  new ← rule (is_new_name earlier len field) (at + 1) kinds.Directory
-  Ok (take len field)
+-- a name that no earlier entry has
+abbrev pub name_at : List Listing → ℕ → List ℕ → Result (List ℕ) ProgFault
+name_at earlier = fields.name_at kinds.Short kinds.Directory (has_name earlier)
 
 abbrev pub kind_of_bit : ℕ → Kind
 kind_of_bit b = if b == 1 then Word else Bit
@@ -205,46 +175,60 @@ abbrev pub kinds_of : ℕ → ℕ → List Kind
 kinds_of zero n = []
 kinds_of (suc m) n = kind_of_bit (n % 2) ∷ kinds_of m (n / 2)
 
--- bits 5 to 7 are 0, and those at and past the sources' number up to bit 3
-abbrev pub is_kinds : ℕ → ℕ → Bool
-is_kinds m n = nat_lt n 32 && nat_lt (n % 16) (2 ^ m)
+-- the second result: the low bit says that there is one, and the other that it is a word
+abbrev pub second_of : ℕ → Option Kind
+second_of b = if b == 0 then None else Some (kind_of_bit (b / 2))
 
-unfoldable pub shape_at : ℕ → List ℕ → Result Shape ProgFault
-shape_at at bytes = do
+-- The bits from bit 4 on. Bit 4 is the first result's; in version 2 bits 5 and 6 are the second's,
+-- and bit 6 is 0 where bit 5 is. All others are 0.
+abbrev pub is_results : ℕ → ℕ → Bool
+is_results version top = nat_lt top (if version == 1 then 2 else 8) && not (top / 2 == 2)
+
+-- the bits at and past the sources' number up to bit 3 are 0
+abbrev pub is_kinds : ℕ → ℕ → ℕ → Bool
+is_kinds version m n = nat_lt (n % 16) (2 ^ m) && is_results version (n / 16)
+
+unfoldable pub shape_at : ℕ → ℕ → List ℕ → Result Shape ProgFault
+shape_at version at bytes = do
   sources ← field_at w8 (is_between 1 4) kinds.Directory at bytes
-  kinds ← field_at w8 (is_kinds sources) kinds.Directory (at + 1) bytes
+  kinds ← field_at w8 (is_kinds version sources) kinds.Directory (at + 1) bytes
   bits ← number_at w8 (at + 2) bytes
   words ← number_at w8 (at + 3) bytes
   Ok (record {
     sources = kinds_of sources kinds;
-    result = kind_of_bit (kinds / 16);
+    result = kind_of_bit (kinds / 16 % 2);
+    second = second_of (kinds / 16 / 2);
     bits = bits;
     words = words;
   })
 
-unfoldable pub listing_at : List Listing → ℕ → ℕ → List ℕ → Result Listing ProgFault
-listing_at earlier start at bytes = do
+unfoldable pub listing_at : ℕ → List Listing → ℕ → ℕ → List ℕ → Result Listing ProgFault
+listing_at version earlier start at bytes = do
   name ← name_at earlier at bytes
-  shape ← shape_at (at + 17) bytes
+  shape ← shape_at version (at + 17) bytes
   first ← field_at w32 (λ n. n == start) kinds.Directory (at + 21) bytes
   count ← field_at w16 (is_between 1 65535) kinds.Directory (at + 25) bytes
   Ok (record { name = name; shape = shape; start = first; count = count })
 
 -- these entries, and so many after them, whose code starts behind theirs
-unfoldable pub directory_at : ℕ → List Listing → ℕ → ℕ → List ℕ → Result (List Listing) ProgFault
-directory_at zero earlier start at bytes = Ok earlier
-directory_at (suc n) earlier start at bytes = do
-  listing ← listing_at earlier start at bytes
-  directory_at n (earlier ++ listing ∷ []) (start + listing.count) (at + 27) bytes
+unfoldable pub directory_at : ℕ → ℕ → List Listing → ℕ → ℕ → List ℕ
+    → Result (List Listing) ProgFault
+directory_at version zero earlier start at bytes = Ok earlier
+directory_at version (suc n) earlier start at bytes = do
+  listing ← listing_at version earlier start at bytes
+  directory_at version n (earlier ++ listing ∷ []) (start + listing.count) (at + 27) bytes
 
 -- ---- the file
 
-unfoldable pub opening_in : List ℕ → Result (Unit {0}) ProgFault
+abbrev pub is_version : ℕ → Bool
+is_version n = n == 1 || n == 2
+
+-- the version of the file
+unfoldable pub opening_in : List ℕ → Result ℕ ProgFault
 opening_in bytes = do
   magic ← bytes_at 4 0 bytes
   same ← rule (bytes_eq magic (codes "SDMP")) 0 kinds.Magic
-  version ← field_at w16 (λ version. version == 1) kinds.Version 4 bytes
-  Ok tt
+  field_at w16 is_version kinds.Version 4 bytes
 
 -- the code of each of these entries, from a place on
 unfoldable pub codes_at : List Listing → ℕ → List ℕ → Result (List Microprogram) ProgFault
@@ -262,16 +246,16 @@ total_count (l ∷ ls) = l.count + total_count ls
 abbrev pub codes_start : List Listing → ℕ
 codes_start ls = 8 + 27 * length ls
 
--- the program that a file spells, or its first fault
-unfoldable pub program_in : List ℕ → Result (List Microprogram) ProgFault
+-- the version of a file and the program that it spells, or its first fault
+unfoldable pub program_in : List ℕ → Result (ℕ × List Microprogram) ProgFault
 program_in bytes = do
-  opening ← opening_in bytes
+  version ← opening_in bytes
   count ← field_at w16 (λ n. nat_le n 32) kinds.Directory 6 bytes
-  listings ← directory_at count [] 0 8 bytes
+  listings ← directory_at version count [] 0 8 bytes
   programs ← codes_at listings (codes_start listings) bytes
   ended ← rule (length bytes == codes_start listings + 8 * total_count listings)
       (codes_start listings + 8 * total_count listings) kinds.Rest
-  Ok programs
+  Ok (version, programs)
 
 -- ---- what the code keeps of a file
 
@@ -299,7 +283,3 @@ Checks (Err f) read = read ≡ Err f
 abbrev pub unit_of : {X : Type 0} → Result X ProgFault → Result (Unit {0}) ProgFault
 unit_of (Ok x) = Ok tt
 unit_of (Err f) = Err f
-
--- each is a byte
-abbrev pub IsBytes : List ℕ → Type 0
-IsBytes bytes = (i : ℕ) → slice_index_or bytes i 0 < 256

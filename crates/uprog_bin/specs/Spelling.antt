@@ -1,6 +1,7 @@
--- The one spelling of a program.
-use Rattle.std.specs.Prelude.{ℕ, ◌+◌, ◌-◌, ◌*◌, List, [], ◌∷◌, ◌++◌, length, replicate, codes}
-use Rattle.std.specs.List.{flat_map}
+-- The one spelling of a program in each version that has it.
+use Rattle.std.specs.Prelude.{◌≡◌, ℕ, ◌+◌, ◌*◌, List, [], ◌∷◌, ◌++◌, length, replicate, codes}
+use Rattle.std.specs.Prelude.{Option, Some, None, ◌⊎◌}
+use Rattle.std.specs.List.{flat_map, AllByRecursion}
 use Rattle.std.specs.Int.{to_le_bytes, w16, w32}
 use Rattle.op_text.specs.declared.tree.Kind.{Kind}
 use Rattle.op_text.specs.declared.tree.Kind.TheVariants.{Word, Bit}
@@ -11,10 +12,7 @@ use Rattle.uprog_code.specs.declared.code.Uop.{Uop}
 use Rattle.uprog_code.specs.declared.code.Uop.TheVariants.{Done, SetI, SetN, SetT, Mov, Add, AddI}
 use Rattle.uprog_code.specs.declared.code.Uop.TheVariants.{SubI, Bnez, Aap, Ap}
 use Rattle.uprog_code.specs.Shape.{Shape, Microprogram}
-
--- a name's length, its bytes, and zeros up to 16
-abbrev pub name_bytes : List ℕ → List ℕ
-name_bytes name = length name ∷ (name ++ replicate (16 - length name) 0)
+use Rattle.file_fields.specs.Fields.{name_bytes}
 
 abbrev pub space_number : RowSpace → ℕ
 space_number space.B = 0
@@ -55,8 +53,14 @@ abbrev pub result_bit : Kind → ℕ
 result_bit Word = 16
 result_bit Bit = 0
 
+-- 32 where there is a second result, and 64 where it is a word
+abbrev pub second_bits : Option Kind → ℕ
+second_bits None = 0
+second_bits (Some Bit) = 32
+second_bits (Some Word) = 96
+
 abbrev pub kinds_byte : Shape → ℕ
-kinds_byte shape = kind_bits shape.sources + result_bit shape.result
+kinds_byte shape = kind_bits shape.sources + (result_bit shape.result + second_bits shape.second)
 
 -- the sources and their kinds, and the scratch
 abbrev pub shape_bytes : Shape → List ℕ
@@ -75,10 +79,15 @@ directory_bytes start (m ∷ ms) = head_bytes start m ++ directory_bytes (start 
 abbrev pub code_bytes : Microprogram → List ℕ
 code_bytes m = flat_map instruction_bytes m.code
 
-abbrev pub opening_bytes : List ℕ
-opening_bytes = codes "SDMP" ++ to_le_bytes w16 1
+abbrev pub opening_bytes : ℕ → List ℕ
+opening_bytes version = codes "SDMP" ++ to_le_bytes w16 version
 
--- the file of a program
-unfoldable pub program_bytes : List Microprogram → List ℕ
-program_bytes ms = opening_bytes ++ (to_le_bytes w16 (length ms)
+-- version 2 has every program, and version 1 those with one result an entry
+abbrev pub HasVersion : ℕ → List Microprogram → Type 0
+HasVersion version ms = ((version ≡ 1) × AllByRecursion (λ m. m.shape.second ≡ None) ms)
+    ⊎ (version ≡ 2)
+
+-- the file of a program in a version
+unfoldable pub program_bytes : ℕ → List Microprogram → List ℕ
+program_bytes version ms = opening_bytes version ++ (to_le_bytes w16 (length ms)
     ++ (directory_bytes 0 ms ++ flat_map code_bytes ms))

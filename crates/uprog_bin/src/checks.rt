@@ -3,13 +3,15 @@
 ghost use Rattle.std.specs.Prelude.{◌≡◌, ℕ, List, ◌+◌, ◌*◌, ◌<◌, ◌≤◌, ◌^◌, length, Some, IfOk};
 ghost use Rattle.std.specs.Prelude.{OnOk};
 ghost use Rattle.uprog_code.specs.Shape.{shape_of};
-ghost use Rattle.uprog_bin.specs.Reading.{Gives, Checks, unit_of, uops_at, codes_at, codes_start};
+ghost use Rattle.uprog_bin.specs.Reading.{Checks, unit_of, uops_at, codes_at, codes_start};
 ghost use Rattle.uprog_bin.specs.Reading.{total_count, listings_of, opening_in};
+ghost use Rattle.file_fields.specs.Fields.{Gives};
 
 use crate::directory::{Listed, directory_of};
-use crate::fault::{ProgFault, ProgKind, rule};
-use crate::fields::{bytes_at, u16_at};
+use crate::fault::{ProgFault, ProgKind};
 use crate::instruction::uop_of;
+use crate::sizes::INSTRUCTION_BYTES;
+use file_fields::{bytes_at, rule, u16_at};
 use uprog_code::Head;
 
 /// The first fault of so many instructions from a place on.
@@ -22,7 +24,7 @@ fn check_code(head: &Head, count: u16, bytes: &[u8], at: usize) -> Result<(), Pr
     let mut place = at;
     for k in 0..count {
         let _uop = uop_of(head, count, k + 1 == count, bytes, place)?;
-        place += 8;
+        place += INSTRUCTION_BYTES;
     }
     Ok(())
 }
@@ -38,21 +40,21 @@ pub(crate) fn check_codes(listed: &[Listed], bytes: &[u8], start: usize) -> Resu
     let mut at = start;
     for l in listed {
         check_code(&l.head, l.count, bytes, at)?;
-        at += 8 * usize::from(l.count);
+        at += INSTRUCTION_BYTES * usize::from(l.count);
     }
     Ok(at)
 }
 
-/// Whether the file begins as a program of the version that there is.
+/// The version of a file that begins as a program.
 #[tactic(auto, unfolding(crate::specs::Reading::opening_in))]
-pub(crate) fn opening_of(bytes: &[u8]) -> Result<(), ProgFault>
+pub(crate) fn opening_of(bytes: &[u8]) -> Result<u16, ProgFault>
     requires { length bytes.now < 2 ^ 32 }
-    ensures gives { Gives (λ x. x) result (opening_in bytes.now) }
+    ensures gives { Gives (λ version. version) result (opening_in bytes.now) }
     ensures within { OnOk result (6 ≤ length bytes.now) }
 {
-    let magic = bytes_at(bytes, 0, 4)?;
+    let magic = bytes_at(bytes, 0, 4, ProgKind::Short)?;
     rule(magic == b"SDMP".as_slice(), 0, ProgKind::Magic)?;
-    let version = u16_at(bytes, 4)?;
-    rule(version == 1, 4, ProgKind::Version)?;
-    Ok(())
+    let version = u16_at(bytes, 4, ProgKind::Short)?;
+    rule(version == 1 || version == 2, 4, ProgKind::Version)?;
+    Ok(version)
 }

@@ -4,13 +4,16 @@ ghost use Rattle.std.specs.Prelude.{◌≡◌, ◌+◌, ◌*◌, ◌<◌, ◌≤
 ghost use Rattle.std.specs.List.{list_all, list_any};
 ghost use Rattle.arrayvec.specs.ArrayVec.{array_vec_len};
 ghost use Rattle.uprog_code.specs.Shape.{shape_of};
-ghost use Rattle.uprog_bin.specs.Reading.{Gives, is_named, has_name, name_at, kind_of_bit};
-ghost use Rattle.uprog_bin.specs.Reading.{kinds_of, is_kinds, shape_at, listing_at, directory_at};
+ghost use Rattle.uprog_bin.specs.Reading.{is_named, has_name, name_at, kind_of_bit};
+ghost use Rattle.uprog_bin.specs.Reading.{kinds_of, second_of, is_results, is_kinds, shape_at};
+ghost use Rattle.uprog_bin.specs.Reading.{listing_at, directory_at};
 ghost use Rattle.uprog_bin.specs.Reading.{listing_of, listings_of};
+ghost use Rattle.file_fields.specs.Fields.{Gives};
 
-use crate::fault::{ProgFault, ProgKind, fault, rule};
-use crate::fields::{bytes_at, u8_at, u16_at, u32_at};
+use crate::fault::{ProgFault, ProgKind};
+use crate::sizes::{HEAD_BYTES, RECORD_BYTES};
 use arrayvec::ArrayVec;
+use file_fields::{bytes_at, fault, padded_name, rule, u8_at, u16_at, u32_at};
 use text_lex::Name;
 use uprog_code::{Head, Kind};
 
@@ -29,6 +32,7 @@ impl Default for Listed {
                 name: Name::default(),
                 sources: ArrayVec::new(),
                 result: Kind::Word,
+                second: None,
                 bits: 0,
                 words: 0,
             },
@@ -36,12 +40,6 @@ impl Default for Listed {
             count: 0,
         }
     }
-}
-
-fn all_zero(bytes: &[u8]) -> bool
-    ensures { result ≡ list_all (λ b. b == 0) bytes.now }
-{
-    bytes.iter().all(|b| *b == 0)
 }
 
 fn any_named(earlier: &[Listed], name: &[u8]) -> bool
@@ -58,22 +56,24 @@ fn has_name(earlier: &[Listed], name: &[u8]) -> bool
 }
 
 /// The name at a place, which none of the earlier entries has.
-#[tactic(auto, unfolding(crate::specs::Reading::name_at))]
+#[tactic(auto, unfolding(file_fields::specs::Fields::name_at))]
 fn name_of(earlier: &[Listed], bytes: &[u8], at: usize) -> Result<Name, ProgFault>
     requires small { length bytes.now < 2 ^ 32 }
     requires place { at ≤ length bytes.now }
     ensures gives { Gives (λ name. name) result (name_at (listings_of earlier.now) at bytes.now) }
     ensures within { OnOk result (at + 17 ≤ length bytes.now) }
 {
-    let len = u8_at(bytes, at)?;
+    let len = u8_at(bytes, at, ProgKind::Short)?;
     rule((1..=16).contains(&len), at, ProgKind::Directory)?;
-    let field = bytes_at(bytes, at + 1, 16)?;
-    let (front, behind) = field.split_at(usize::from(len));
-    let Some(name) = Name::new(front) else {
+    let field = bytes_at(bytes, at + 1, 16, ProgKind::Short)?;
+    let Some(name) = padded_name(len, field) else {
         return Err(fault(at + 1, ProgKind::Directory));
     };
-    rule(all_zero(behind), at + 1, ProgKind::Directory)?;
-    rule(!has_name(earlier, front), at + 1, ProgKind::Directory)?;
+    rule(
+        !has_name(earlier, name.bytes()),
+        at + 1,
+        ProgKind::Directory,
+    )?;
     Ok(name)
 }
 
@@ -97,11 +97,30 @@ fn kinds_of(count: u8, bits: u8) -> ArrayVec<Kind, 4>
     kinds
 }
 
-/// Whether the byte has bits for so many sources and the result alone.
-fn is_kinds(sources: u8, bits: u8) -> bool
+/// The kind of the second result, if there is one.
+fn second_of_bits(bits: u8) -> Option<Kind>
+    ensures { result ≡ second_of bits }
+{
+    if bits == 0 {
+        None
+    } else {
+        Some(kind_of_bit(bits / 2))
+    }
+}
+
+/// Whether the bits from bit 4 on are those of results in a file of this version.
+fn is_results(version: u16, top: u8) -> bool
+    ensures { result ≡ is_results version top }
+{
+    let limit = if version == 1 { 2 } else { 8 };
+    top < limit && top / 2 != 2
+}
+
+/// Whether the byte has bits for so many sources and the results alone.
+fn is_kinds(version: u16, sources: u8, bits: u8) -> bool
     requires some { 1 ≤ sources }
     requires few { sources ≤ 4 }
-    ensures { result ≡ is_kinds sources bits }
+    ensures { result ≡ is_kinds version sources bits }
 {
     let limit = match sources {
         1 => 2,
@@ -109,28 +128,33 @@ fn is_kinds(sources: u8, bits: u8) -> bool
         3 => 8,
         _ => 16,
     };
-    bits < 32 && bits % 16 < limit
+    bits % 16 < limit && is_results(version, bits / 16)
 }
 
 /// The head at a place, behind its name.
 #[tactic(auto, unfolding(crate::specs::Reading::shape_at))]
-fn head_of(name: Name, bytes: &[u8], at: usize) -> Result<Head, ProgFault>
+fn head_of(version: u16, name: Name, bytes: &[u8], at: usize) -> Result<Head, ProgFault>
     requires small { length bytes.now < 2 ^ 32 }
     requires place { at ≤ length bytes.now }
     ensures name { IfOk result (λ head. head.name ≡ name) }
-    ensures gives { Gives shape_of result (shape_at at bytes.now) }
+    ensures gives { Gives shape_of result (shape_at version at bytes.now) }
     ensures within { OnOk result (at + 4 ≤ length bytes.now) }
 {
-    let sources = u8_at(bytes, at)?;
+    let sources = u8_at(bytes, at, ProgKind::Short)?;
     rule((1..=4).contains(&sources), at, ProgKind::Directory)?;
-    let kinds = u8_at(bytes, at + 1)?;
-    rule(is_kinds(sources, kinds), at + 1, ProgKind::Directory)?;
-    let bits = u8_at(bytes, at + 2)?;
-    let words = u8_at(bytes, at + 3)?;
+    let kinds = u8_at(bytes, at + 1, ProgKind::Short)?;
+    rule(
+        is_kinds(version, sources, kinds),
+        at + 1,
+        ProgKind::Directory,
+    )?;
+    let bits = u8_at(bytes, at + 2, ProgKind::Short)?;
+    let words = u8_at(bytes, at + 3, ProgKind::Short)?;
     Ok(Head {
         name,
         sources: kinds_of(sources, kinds),
-        result: kind_of_bit(kinds / 16),
+        result: kind_of_bit(kinds / 16 % 2),
+        second: second_of_bits(kinds / 16 / 2),
         bits,
         words,
     })
@@ -138,19 +162,25 @@ fn head_of(name: Name, bytes: &[u8], at: usize) -> Result<Head, ProgFault>
 
 /// The record at a place of an entry whose code begins at this instruction.
 #[tactic(auto, unfolding(crate::specs::Reading::listing_at))]
-fn listed_of(earlier: &[Listed], start: u32, bytes: &[u8], at: usize) -> Result<Listed, ProgFault>
+fn listed_of(
+    version: u16,
+    earlier: &[Listed],
+    start: u32,
+    bytes: &[u8],
+    at: usize,
+) -> Result<Listed, ProgFault>
     requires small { length bytes.now < 2 ^ 32 }
     requires place { at ≤ length bytes.now }
-    ensures gives { Gives listing_of result (listing_at (listings_of earlier.now) start at
-        bytes.now) }
+    ensures gives { Gives listing_of result (listing_at version (listings_of earlier.now) start
+        at bytes.now) }
     ensures count { IfOk result (λ l. l.count < 2 ^ 16) }
     ensures within { OnOk result (at + 27 ≤ length bytes.now) }
 {
     let name = name_of(earlier, bytes, at)?;
-    let head = head_of(name, bytes, at + 17)?;
-    let first = u32_at(bytes, at + 21)?;
+    let head = head_of(version, name, bytes, at + 17)?;
+    let first = u32_at(bytes, at + 21, ProgKind::Short)?;
     rule(first == start, at + 21, ProgKind::Directory)?;
-    let count = u16_at(bytes, at + 25)?;
+    let count = u16_at(bytes, at + 25, ProgKind::Short)?;
     rule(count >= 1, at + 25, ProgKind::Directory)?;
     Ok(Listed {
         head,
@@ -160,21 +190,25 @@ fn listed_of(earlier: &[Listed], start: u32, bytes: &[u8], at: usize) -> Result<
 }
 
 /// The records of a file.
-pub(crate) fn directory_of(count: u16, bytes: &[u8]) -> Result<ArrayVec<Listed, 32>, ProgFault>
+pub(crate) fn directory_of(
+    version: u16,
+    count: u16,
+    bytes: &[u8],
+) -> Result<ArrayVec<Listed, 32>, ProgFault>
     requires few { count ≤ 32 }
     requires small { length bytes.now < 2 ^ 32 }
     requires place { 8 ≤ length bytes.now }
-    ensures gives { Gives (λ ls. listings_of ls.items) result (directory_at count [] 0 8 bytes.now)
-        }
+    ensures gives { Gives (λ ls. listings_of ls.items) result (directory_at version count [] 0 8
+        bytes.now) }
     ensures within { IfOk result (λ ls. 8 + 27 * length ls.items ≤ length bytes.now) }
 {
     let mut listed = ArrayVec::new();
     let mut start = 0u32;
-    let mut at = 8usize;
+    let mut at = HEAD_BYTES;
     for _k in 0..count {
-        let next = listed_of(listed.as_slice(), start, bytes, at)?;
+        let next = listed_of(version, listed.as_slice(), start, bytes, at)?;
         start += u32::from(next.count);
-        at += 27;
+        at += RECORD_BYTES;
         listed.push(next);
     }
     Ok(listed)

@@ -1,19 +1,20 @@
 //! One instruction of a file.
 
 ghost use Rattle.std.specs.Prelude.{◌≡◌, ◌+◌, ◌<◌, ◌≤◌, ◌^◌, ◌==◌, ◌&&◌, length, slice_get};
-ghost use Rattle.std.specs.Prelude.{slice_index_or, OnOk};
-ghost use Rattle.uprog_code.specs.Shape.{shape_of};
+ghost use Rattle.std.specs.Prelude.{slice_index_or, OnOk, nat_lt};
+ghost use Rattle.uprog_code.specs.Shape.{shape_of, results};
 ghost use Rattle.uprog_code.specs.Legal.{is_place, may_be_first, may_be_second, is_row, is_first};
 ghost use Rattle.uprog_code.specs.Legal.{is_second};
-ghost use Rattle.uprog_bin.specs.Reading.{Gives, raw_row, raw_of, is_zero, has_register};
+ghost use Rattle.uprog_bin.specs.Reading.{raw_row, raw_of, is_zero, has_register};
 ghost use Rattle.uprog_bin.specs.Reading.{has_second, operand as operand_of, ends_at_y};
 ghost use Rattle.uprog_bin.specs.Reading.{is_formed as is_formed_as, has_target, row_of, has_rows};
 ghost use Rattle.uprog_bin.specs.Reading.{ends_code, uop_as as uop_of_raw, uop_of, numbered};
 ghost use Rattle.uprog_bin.specs.Reading.{uop_at};
+ghost use Rattle.file_fields.specs.Fields.{Gives};
 
-use crate::fault::{ProgFault, ProgKind, fault, rule};
-use crate::fields::bytes_at;
+use crate::fault::{ProgFault, ProgKind};
 use crate::opcode::{OPCODES, Opcode, SPACES};
+use file_fields::{bytes_at, fault, rule};
 use uprog_code::{Head, RowRef, RowSpace, Uop};
 
 /// Three bytes of an instruction: a row, or registers and numbers.
@@ -127,6 +128,16 @@ fn has_target(opcode: Opcode, size: u16, raw: Raw) -> bool
     }
 }
 
+/// Whether the entry has so many results and one more.
+fn is_result(head: &Head, which: u8) -> bool
+    ensures { result ≡ nat_lt which (length (results (shape_of head.now))) }
+{
+    match head.second {
+        None => which < 1,
+        Some(_) => which < 2,
+    }
+}
+
 /// Whether the row is one of its space, with an index that may stand there.
 fn is_row(head: &Head, row: RowRef) -> bool
     ensures { result ≡ is_row (shape_of head.now) row }
@@ -135,7 +146,7 @@ fn is_row(head: &Head, row: RowRef) -> bool
     match row.space {
         RowSpace::B => row.which < 16 && row.index == 0,
         RowSpace::C => row.which < 2 && row.index == 0,
-        RowSpace::Result => row.which == 0 && row.index <= 8,
+        RowSpace::Result => is_result(head, row.which) && row.index <= 8,
         RowSpace::Source => usize::from(row.which) < sources && row.index <= 8,
         RowSpace::ScratchBit => row.which < head.bits && row.index == 0,
         RowSpace::ScratchWord => row.which < head.words && row.index <= 8,
@@ -247,7 +258,7 @@ pub(crate) fn uop_of(
     ensures gives { Gives (λ uop. uop) result (uop_at (shape_of head.now) size last at bytes.now) }
     ensures within { OnOk result (at + 8 ≤ length bytes.now) }
 {
-    let field = bytes_at(bytes, at, 8)?;
+    let field = bytes_at(bytes, at, 8, ProgKind::Short)?;
     let raw = Raw::new(field);
     let Some(opcode) = opcode_of(raw.number) else {
         return Err(fault(at, ProgKind::Instruction));

@@ -6,43 +6,18 @@ ghost use Rattle.std.specs.List.{flat_map};
 ghost use Rattle.std.specs.Int.{w16, to_le_bytes};
 ghost use Rattle.arrayvec.specs.ArrayVec.{array_vec_len};
 ghost use Rattle.uprog_code.specs.Shape.{microprogram_of, microprograms_of};
-ghost use Rattle.uprog_bin.specs.Spelling.{name_bytes, row_bytes, instruction_bytes, kind_bits};
-ghost use Rattle.uprog_bin.specs.Spelling.{kinds_byte, head_bytes, directory_bytes, code_bytes};
+ghost use Rattle.uprog_bin.specs.Spelling.{row_bytes, instruction_bytes, kind_bits};
+ghost use Rattle.uprog_bin.specs.Spelling.{result_bit, second_bits, kinds_byte, head_bytes};
+ghost use Rattle.uprog_bin.specs.Spelling.{directory_bytes, code_bytes};
 ghost use Rattle.uprog_bin.specs.Spelling.{program_bytes, zeros};
 ghost use Rattle.uprog_code.specs.Programs.{IsProgram};
+ghost use Rattle.file_fields.specs.Fields.{name_bytes};
 
 use crate::opcode::number_of;
-use bit_rows::NoMemory;
+use file_fields::name_field;
+use no_memory::NoMemory;
 use std::alloc::Global;
-use text_lex::Name;
-use uprog_code::{EntryCode, Kind, Program, RowRef, Uop};
-
-/// Appends one byte.
-fn put(out: &mut Vec<u8>, byte: u8) -> Result<(), NoMemory>
-    ensures { OnOk result (out.new.items ≡ out.old.items ++ byte ∷ []) }
-{
-    Ok(out.extend_from_slice(&[byte])?)
-}
-
-/// Appends so many zeros.
-fn put_zeros(out: &mut Vec<u8>, count: usize) -> Result<(), NoMemory>
-    ensures { OnOk result (out.new.items ≡ out.old.items ++ replicate count 0) }
-{
-    for _k in 0..count {
-        put(out, 0)?;
-    }
-    Ok(())
-}
-
-/// Appends a name's length, its bytes, and zeros up to 16.
-fn put_name(out: &mut Vec<u8>, name: &Name) -> Result<(), NoMemory>
-    ensures { OnOk result (out.new.items ≡ out.old.items ++ name_bytes name.now) }
-{
-    let bytes = name.bytes();
-    put(out, bytes.len() as u8)?;
-    out.extend_from_slice(bytes)?;
-    put_zeros(out, 16 - bytes.len())
-}
+use uprog_code::{EntryCode, Head, Kind, Program, RowRef, Uop};
 
 /// A bit for each source that is a word, the first the lowest.
 #[tactic(auto, using(crate::proofs::KindBits::kind_bits_small))]
@@ -57,6 +32,23 @@ fn bits_of(kinds: &[Kind]) -> u8
     }
 }
 
+/// The results' bits in the byte of kinds.
+fn results_bits(head: &Head) -> u8
+    ensures value { result ≡ result_bit head.now.result + second_bits head.now.second }
+    ensures few { result ≤ 112 }
+{
+    let first = match head.result {
+        Kind::Word => 16,
+        Kind::Bit => 0,
+    };
+    let second = match head.second {
+        None => 0,
+        Some(Kind::Bit) => 32,
+        Some(Kind::Word) => 96,
+    };
+    first + second
+}
+
 /// Appends what stands in the directory for an entry whose code begins at this instruction.
 #[tactic(auto, using(crate::proofs::KindBits::kind_bits_small))]
 fn put_head(out: &mut Vec<u8>, start: u32, entry: &EntryCode) -> Result<(), NoMemory>
@@ -65,15 +57,11 @@ fn put_head(out: &mut Vec<u8>, start: u32, entry: &EntryCode) -> Result<(), NoMe
         ++ head_bytes start (microprogram_of entry.now)) }
 {
     let head = &entry.head;
-    put_name(out, &head.name)?;
+    out.extend_from_slice(&name_field(&head.name))?;
     let sources = head.sources.as_slice();
-    let result = match head.result {
-        Kind::Word => 16,
-        Kind::Bit => 0,
-    };
     let shape = [
         sources.len() as u8,
-        bits_of(sources) + result,
+        bits_of(sources) + results_bits(head),
         head.bits,
         head.words,
     ];
@@ -165,16 +153,16 @@ fn put_codes(out: &mut Vec<u8>, entries: &[EntryCode]) -> Result<(), NoMemory>
     Ok(())
 }
 
-/// The file of a program. Each program has one.
+/// The file of a program, which is of version 2. Each program has one.
 #[tactic(auto, unfolding(crate::specs::Spelling::program_bytes))]
 pub fn encode(p: &Program, alloc: Global) -> Result<Vec<u8>, NoMemory>
     requires { IsProgram (microprograms_of p.now) }
-    ensures { IfOk result (λ file. file.items ≡ program_bytes (microprograms_of p.now)) }
+    ensures { IfOk result (λ file. file.items ≡ program_bytes 2 (microprograms_of p.now)) }
 {
     let entries = p.entries.as_slice();
     let mut out = Vec::new(alloc);
     out.extend_from_slice(b"SDMP")?;
-    out.extend_from_slice(&1u16.to_le_bytes())?;
+    out.extend_from_slice(&2u16.to_le_bytes())?;
     out.extend_from_slice(&(entries.len() as u16).to_le_bytes())?;
     put_directory(&mut out, entries)?;
     put_codes(&mut out, entries)?;

@@ -6,59 +6,58 @@ ghost use Rattle.std.specs.Prelude.{IfOk, IfErr};
 ghost use Rattle.std.specs.Str.{bytes_eq};
 ghost use Rattle.uprog_code.specs.Shape.{Microprogram, shape_of};
 ghost use Rattle.uprog_code.specs.Legal.{IsLegalCode};
-ghost use Rattle.uprog_bin.specs.Reading.{Gives, is_named, program_in};
-ghost use Rattle.uprog_bin.specs.Spelling.{program_bytes};
+ghost use Rattle.uprog_bin.specs.Reading.{is_named, program_in};
+ghost use Rattle.uprog_bin.specs.Spelling.{HasVersion, program_bytes};
 ghost use Rattle.uprog_code.specs.Programs.{IsProgram};
-ghost use Rattle.uprog_bin.specs.Opened.{File, Held, IsOpened, accepted, code_of, program_of};
+ghost use Rattle.uprog_bin.specs.Opened.{Held, found_of, IsOpened, code_of, program_of};
 ghost use Rattle.uprog_bin.specs.Opened.{code_place, uop_in};
+ghost use Rattle.file_fields.specs.Fields.{Gives};
 
 use crate::checks::{check_codes, opening_of};
 use crate::directory::{Listed, directory_of};
-use crate::fault::{ProgFault, ProgKind, rule};
-use crate::fields::u16_at;
+use crate::fault::{ProgFault, ProgKind};
 use crate::instruction::{Raw, uop_as};
 use crate::opcode::{OPCODES, Opcode};
+use crate::sizes::{ENTRIES_MAX, HEAD_BYTES, INSTRUCTION_BYTES, RECORD_BYTES};
 use arrayvec::ArrayVec;
+use file_fields::{rule, u16_at};
 use std::marker::Model;
 use text_lex::Name;
 use uprog_code::{Fetch, Head, Uop};
 
-/// The records of a file, or its first fault.
+/// The version and the records of a file, or its first fault.
 #[tactic(auto, unfolding(crate::specs::Reading::program_in))]
-fn records_of(bytes: &[u8]) -> Result<ArrayVec<Listed, 32>, ProgFault>
+fn records_of(bytes: &[u8]) -> Result<(u16, ArrayVec<Listed, 32>), ProgFault>
     requires { length bytes.now < 2 ^ 32 }
-    ensures ok { IfOk result (λ listed. IsOpened bytes.now listed.items) }
+    ensures ok { IfOk result (λ found. IsOpened bytes.now found.0 found.1.items) }
     ensures err { IfErr result (λ f. program_in bytes.now ≡ Err f) }
 {
-    opening_of(bytes)?;
-    let count = u16_at(bytes, 6)?;
-    rule(count <= 32, 6, ProgKind::Directory)?;
-    let listed = directory_of(count, bytes)?;
-    let start = 8 + 27 * listed.len();
+    let version = opening_of(bytes)?;
+    let count = u16_at(bytes, 6, ProgKind::Short)?;
+    rule(count <= ENTRIES_MAX, 6, ProgKind::Directory)?;
+    let listed = directory_of(version, count, bytes)?;
+    let start = HEAD_BYTES + RECORD_BYTES * listed.len();
     let end = check_codes(listed.as_slice(), bytes, start)?;
     rule(bytes.len() == end, end, ProgKind::Rest)?;
-    Ok(listed)
+    Ok((version, listed))
 }
 
 /// A program file that was accepted. It borrows the bytes.
 #[derive(Debug, Drop)]
 pub struct ProgView<'a> {
     bytes: &'a [u8],
+    version: u16,
     listed: ArrayVec<Listed, 32>,
 }
 
 impl<'a> Model for ProgView<'a> {
-    ghost use Rattle.uprog_bin.specs.Spelling.{program_bytes};
-    ghost use Rattle.uprog_code.specs.Programs.{IsProgram};
-    ghost use Rattle.uprog_bin.specs.Opened.{File, IsOpened, accepted};
-    ghost use Rattle.uprog_bin.specs.Reading.{program_in};
+    ghost use Rattle.uprog_bin.specs.Opened.{File, IsOpened, file_of};
 
     ghost Value = { File };
 
-    ghost view = { λ v. record { bytes = v.bytes.now; programs = accepted (program_in v.bytes.now) }
-        };
+    ghost view = { λ v. file_of v.bytes.now };
 
-    ghost invariant = { λ v. IsOpened v.bytes.now v.listed.items };
+    ghost invariant = { λ v. IsOpened v.bytes.now v.version v.listed.items };
 }
 
 /// An entry of a program file, which fetches from the file's own bytes.
@@ -85,18 +84,30 @@ impl<'a> ProgView<'a> {
     /// The program that the bytes spell, or the first field that is not whole or breaks its rule.
     pub fn open(bytes: &'a [u8]) -> Result<ProgView<'a>, ProgFault>
         requires { length bytes.now < 2 ^ 32 }
-        // What is accepted is the one spelling of a program.
-        ensures spelled { IfOk result (λ v. IsProgram v.programs
-            × (v.bytes ≡ program_bytes v.programs)) }
-        // The spelling of a program is accepted, as that program.
-        ensures only { (ms : List Microprogram) → IsProgram ms → bytes.now ≡ program_bytes ms
-            → Gives (λ v. v.programs) result (Ok ms) }
-        // Which program it is, and which fault.
-        ensures exact { Gives (λ v. v.programs) result (program_in bytes.now) }
+        // What is accepted is the one spelling of a program in a version that has it.
+        ensures spelled { IfOk result (λ v. IsProgram v.programs × HasVersion v.version v.programs
+            × (v.bytes ≡ program_bytes v.version v.programs)) }
+        // That spelling is accepted, as that version and that program.
+        ensures only { (version : ℕ) (ms : List Microprogram) → IsProgram ms → HasVersion version ms
+            → bytes.now ≡ program_bytes version ms
+            → Gives found_of result (Ok (version, ms)) }
+        // Which version and program it is, and which fault.
+        ensures exact { Gives found_of result (program_in bytes.now) }
         ensures bytes { IfOk result (λ v. v.bytes ≡ bytes.now) }
     {
-        let listed = records_of(bytes)?;
-        Ok(ProgView { bytes, listed })
+        let (version, listed) = records_of(bytes)?;
+        Ok(ProgView {
+            bytes,
+            version,
+            listed,
+        })
+    }
+
+    /// The version of the file: 1 or 2.
+    pub fn version(&self) -> u16
+        ensures { result ≡ self.now.version }
+    {
+        self.version
     }
 
     /// The number of entries.
@@ -116,8 +127,9 @@ impl<'a> ProgView<'a> {
     {
         let listed = self.listed.as_slice();
         let l = &listed[usize::from(k)];
-        let start = 8 + 27 * listed.len() + 8 * (l.start as usize);
-        let code = part(self.bytes, start, 8 * usize::from(l.count));
+        let directory = RECORD_BYTES * listed.len();
+        let start = HEAD_BYTES + directory + INSTRUCTION_BYTES * (l.start as usize);
+        let code = part(self.bytes, start, INSTRUCTION_BYTES * usize::from(l.count));
         Entry {
             head: l.head.copied(),
             code,
@@ -175,8 +187,8 @@ fn uop_at(code: &[u8], at: u16) -> Uop
     requires { at < length code.now / 8 }
     ensures { result ≡ uop_in (take 8 (drop (8 * at) code.now)) }
 {
-    let (_, rest) = code.split_at(8 * usize::from(at));
-    let (field, _) = rest.split_at(8);
+    let (_, rest) = code.split_at(INSTRUCTION_BYTES * usize::from(at));
+    let (field, _) = rest.split_at(INSTRUCTION_BYTES);
     decoded(field)
 }
 
@@ -194,7 +206,7 @@ impl<'a> Fetch for Entry<'a> {
     }
 
     fn len(&self) -> u16 {
-        (self.code.len() / 8) as u16
+        (self.code.len() / INSTRUCTION_BYTES) as u16
     }
 
     fn fetch(&self, at: u16) -> Uop {

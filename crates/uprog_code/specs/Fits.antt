@@ -47,11 +47,12 @@ scratch_range shape n b = record { base = b.scratch; size = need shape n }
 abbrev pub written : Shape → ℕ → Bound → List Range
 written shape n b = scratch_range shape n b ∷ result_ranges shape n b
 
--- the binding fits in a bank of so many data rows
+-- The binding fits in a bank of so many data rows: all values, and scratch where some is needed,
+-- lie below the spill group, and what it may write is apart from all else
 pub record Fits (rows : ℕ) (shape : Shape) (n : ℕ) (b : Bound) : Type 0 where
   pub results : AreBelow rows n (results shape) b.results
   pub sources : AreBelow rows n shape.sources b.sources
-  pub scratch : b.scratch + need shape n ≤ rows - 32
+  pub scratch : 0 < need shape n → b.scratch + need shape n ≤ rows - 32
   pub apart : ArePairwiseApart (written shape n b)
   pub read : AllByRecursion (λ s. AllByRecursion (AreApart s) (written shape n b))
       (ranges n shape.sources b.sources)

@@ -262,10 +262,12 @@ module _ (rows : ℕ) (shape : Shape) (n : ℕ) (b : Bound) (fits : Fits rows sh
   address_good some space.Source which i h = lt-ltb (slice_index b.sources which + i) rows
       (omega (arith, value_in shape.sources b.sources which i fits.sources h))
   address_good some space.ScratchBit which i h =
-      lt-ltb (b.scratch + which) rows (omega (arith, fits.scratch, ltb-true which shape.bits h))
+      let l = ltb-true which shape.bits h in
+      lt-ltb (b.scratch + which) rows (omega (arith, fits.scratch (omega (arith, l)), l))
   address_good some space.ScratchWord which i h =
+      let l = ltb-true (which * n + i) (n * shape.words) h in
       lt-ltb (b.scratch + shape.bits + which * n + i) rows
-      (omega (arith, fits.scratch, ltb-true (which * n + i) (n * shape.words) h))
+      (omega (arith, fits.scratch (omega (arith, l)), l))
   address_good some space.Spill which i h = lt-ltb (rows - 32 + which) rows
       (omega (
         arith,

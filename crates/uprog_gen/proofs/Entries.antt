@@ -34,7 +34,7 @@ use Rattle.loop_ir.specs.Costs.{rounds_cost}
 use Rattle.loop_ir.specs.Statements.{Slots}
 use Rattle.uprog_gen.specs.Does.{DoesRounds, Means, joined, total}
 use Rattle.uprog_gen.specs.Layout.{IsLayout}
-use Rattle.uprog_gen.specs.Programs.{AreLowered, ceilings, IsCompiled, AreCompiled}
+use Rattle.uprog_gen.specs.Programs.{AreLowered, ceilings, HasParts, IsCompiled, AreCompiled}
 use Rattle.uprog_gen.proofs.Meant.{lower_ceiling, total_ceilings, statements_mean}
 
 pub uncapped : (a n : ℕ) → n ≤ 130 → a ≡ min n 65535 → a ≡ n
@@ -54,7 +54,7 @@ pub entry_does : (op : Operation) (meets : OperationMeets op) (slots : Slots)
     → (ps : List (List (StepOf Block))) → AreLowered slots free_bit free_word op.body ps
     → (head : Head) (entry : EntryCode) → head.name ≡ op.name → shape_of head ≡ op_shape op
     → entry.head ≡ head
-    → ((ceilings : List (ℕ → ℕ)) (meaning : ℕ → List ℕ → ℕ)
+    → ((ceilings : List (ℕ → ℕ)) (meaning : ℕ → List ℕ → List ℕ)
     → Means (shape_of head) ps ceilings meaning
     → Implements (shape_of head) entry.code.items (total ceilings) meaning)
     → EntryDoes (microprogram_of entry) (text_op op)
@@ -65,11 +65,11 @@ entry_does op meets slots free_bit free_word is ps low head entry name shape sam
       code =
           lower_ceiling (op_shape op) entry.code.items (total (ceilings op.params op.body))
               (ceiling op)
-          (meaning op) (total_ceilings op.params op.body)
+          (text_op op).meaning (total_ceilings op.params op.body)
           (subst (λ (s : Shape). Implements s entry.code.items (total (ceilings op.params op.body))
-          (meaning op)) shape
-          (implements (ceilings op.params op.body) (meaning op)
-          (subst (λ (s : Shape). Means s ps (ceilings op.params op.body) (meaning op)) (sym shape)
+          (text_op op).meaning) shape
+          (implements (ceilings op.params op.body) (text_op op).meaning
+          (subst (λ (s : Shape). Means s ps (ceilings op.params op.body) (text_op op).meaning) (sym shape)
           (statements_mean op meets slots free_bit free_word is ps low))));
     }
 
@@ -84,17 +84,18 @@ pub entry_compiled : (op : Operation) (meets : OperationMeets op) (slots : Slots
     → (ps : List (List (StepOf Block))) → AreLowered slots free_bit free_word op.body ps
     → (head : Head) (entry : EntryCode) → head.name ≡ op.name → shape_of head ≡ op_shape op
     → entry.head ≡ head
-    → ((ceilings : List (ℕ → ℕ)) (meaning : ℕ → List ℕ → ℕ)
+    → ((ceilings : List (ℕ → ℕ)) (meaning : ℕ → List ℕ → List ℕ)
     → Means (shape_of head) ps ceilings meaning
     → Implements (shape_of head) entry.code.items (total ceilings) meaning)
-    → IsLegalCode (shape_of head) entry.code.items → length entry.code.items ≤ 256 * length ps + 1
+    → IsLegalCode (shape_of head) entry.code.items → HasParts (length ps) entry.code.items
     → IsCompiled (microprogram_of entry) op
 entry_compiled op meets slots free_bit free_word is ps low head entry name shape same implements
-    legal short = record {
+    legal parts = record {
       does = entry_does op meets slots free_bit free_word is ps low head entry name shape same
           implements;
       legal = subst (λ (s : Shape). IsLegalCode s entry.code.items) (sym (ap shape_of same)) legal;
-      short = omega (arith, short, lowered_length slots free_bit free_word op.body ps low);
+      parts = subst (λ k. HasParts k entry.code.items)
+          (lowered_length slots free_bit free_word op.body ps low) parts;
     }
 
 -- no more commands than the rounds may take

@@ -2,7 +2,7 @@
 use Rattle.std.proofs.Common.{◌≡◌, ℕ, zero, suc, ◌+◌, ◌*◌, ◌<◌, ◌≤◌, Bool, List, [], ◌∷◌, ◌++◌, map}
 use Rattle.std.proofs.Common.{length, refl, sym, ap, ◌∙◌, subst, arith, append_assoc, append-nil}
 use Rattle.std.proofs.Common.{length-append}
-use Rattle.std.specs.Prelude.{slice_index, slice_index_or, take}
+use Rattle.std.specs.Prelude.{slice_get, slice_index, slice_index_or, take}
 use Rattle.std.specs.List.{AllByRecursion, range_with_len}
 use Rattle.std.proofs.lemmas.List.{map_more}
 use Rattle.std.proofs.lemmas.List.Sums.{sum_by-cons, sum_by-append}
@@ -13,26 +13,29 @@ use Rattle.dram_model.specs.Column.{Column, run}
 use Rattle.op_text.specs.declared.tree.Kind.{Kind}
 use Rattle.uprog_code.specs.declared.code.Uop.{Uop}
 use Rattle.uprog_code.specs.declared.code.Uop.TheVariants.{Done}
-use Rattle.uprog_code.specs.Shape.{Shape, width}
+use Rattle.uprog_code.specs.Shape.{Shape, width, results}
 use Rattle.uprog_code.specs.Bound.{Bound, bound}
 use Rattle.uprog_code.specs.Machine.{trace, issues_of}
 use Rattle.uprog_code.specs.Legal.{IsLegalCode}
-use Rattle.uprog_code.specs.Fits.{Fits, SourcesFit}
+use Rattle.uprog_code.specs.Fits.{Fits, AreBelow}
 use Rattle.dram_model.specs.Elements.{number}
 use Rattle.uprog_code.specs.Implements.{numbers, Implements}
-use Rattle.loop_ir.specs.declared.ir.Space.TheVariants.{Result}
+use Rattle.loop_ir.specs.declared.ir.Space.{Space}
+use Rattle.loop_ir.specs.declared.ir.Space.TheVariants.{Result, Source}
 use Rattle.loop_ir.specs.declared.ir.LoopProgram.{LoopProgram}
 use Rattle.loop_ir.specs.Plain.{Block, StepOf, steps_of}
 use Rattle.loop_ir.specs.Loops.{RoundOf, step_rounds, all_rounds}
 use Rattle.loop_ir.specs.Spots.{Spots, after_round, after_rounds}
-use Rattle.uprog_gen.specs.Where.{Agree, spots_in, IsSpot}
+use Rattle.uprog_gen.specs.Where.{Agree, spots_in, IsSpot, IsBelow}
 use Rattle.uprog_gen.specs.Code.{blocks, program_code}
 use Rattle.loop_ir.specs.Limits.{IsRound, CanCompile}
 use Rattle.loop_ir.specs.Costs.{turn_cost, step_cost, code_cost, rounds_cost}
 use Rattle.uprog_gen.specs.Emits.{EmitsSteps}
 use Rattle.uprog_gen.specs.Does.{DoesRounds, Means, AreCheap, joined, total, after_statements}
-use Rattle.uprog_gen.specs.Does.{spot_number, source_numbers}
+use Rattle.uprog_gen.specs.Does.{numbers_in}
+use Rattle.uprog_gen.specs.Programs.{HasParts}
 use Rattle.uprog_gen.proofs.Sizes.{program_few}
+use Rattle.uprog_gen.proofs.Pieces.{pieces}
 use Rattle.uprog_gen.proofs.Emitted.{more_steps}
 use Rattle.uprog_gen.proofs.Top.{program_does, all_blocks}
 use Rattle.uprog_gen.proofs.Legal.{code_legal}
@@ -123,27 +126,32 @@ same_bits f g a c (suc w) h =
     ≡ a + suc i = omega arith in let d : c + suc i ≡ c + 1 + i = omega arith in
     ap f e ∙ h (suc i) (omega arith) ∙ ap g d))
 
-sources_same : (rows : ℕ) (head : Shape) (n : ℕ) (b : Bound) (s : Column) (ks : List Kind)
-    (bs : List ℕ) (which : ℕ) → SourcesFit rows head n b ks bs
-    → ((j : ℕ) → slice_index b.sources (which + j) ≡ slice_index bs j)
-    → source_numbers n ks which (spots_in head n b s) ≡ numbers n ks bs s
-sources_same rows head n b s [] bs which fit at = refl
-sources_same rows head n b s (k ∷ ks) [] which fit at = absurd fit
-sources_same rows head n b s (k ∷ ks) (c ∷ bs) which fit at =
-    let e : which + 0 ≡ which = omega arith in
-    let here : slice_index b.sources which ≡ c = ap (slice_index b.sources) (sym e) ∙ at 0 in
-    ap (λ l. value l ∷ source_numbers n ks (which + 1) (spots_in head n b s))
-    (same_bits (λ i. s (D (slice_index b.sources which + i))) (λ row. s (D row)) 0 c (width k n)
-    (λ i lt. let z : 0 + i ≡ i = omega arith in
-    ap (λ j. s (D (slice_index b.sources which + j))) z ∙ ap (λ x. s (D (x + i))) here))
-    ∙ ap (λ l. number c (width k n) s ∷ l) (sources_same rows head n b s ks bs (which + 1) fit.3
-    (λ j. let f : which + 1 + j ≡ which + suc j = omega arith in
-    ap (slice_index b.sources) f ∙ at (suc j)))
+-- of values that lie in a column where the named rows say
+values_same : (space : Space) (rows n : ℕ) (bits : Spots) (s : Column) (ks : List Kind)
+    (bs : List ℕ) (which : ℕ) → AreBelow rows n ks bs
+    → ((v i : ℕ) → IsBelow (slice_get ks v) n i
+    → bits (record { space = space; which = which + v; index = i })
+    ≡ s (D (slice_index bs v + i)))
+    → numbers_in space n ks which bits ≡ numbers n ks bs s
+values_same space rows n bits s [] bs which fit at = refl
+values_same space rows n bits s (k ∷ ks) [] which fit at = absurd fit
+values_same space rows n bits s (k ∷ ks) (c ∷ bs) which fit at =
+    ap (λ l. value l ∷ numbers_in space n ks (which + 1) bits)
+    (same_bits (λ i. bits (record { space = space; which = which; index = i })) (λ row. s (D row)) 0
+    c (width k n) (λ i lt. let z : 0 + i ≡ i = omega arith in
+    let w : which ≡ which + 0 = omega arith in
+    ap (λ j. bits (record { space = space; which = which; index = j })) z
+    ∙ ap (λ x. bits (record { space = space; which = x; index = i })) w ∙ at 0 i lt))
+    ∙ ap (λ l. number c (width k n) s ∷ l)
+    (values_same space rows n bits s ks bs (which + 1) fit.1 (λ v i below.
+    let w : which + 1 + v ≡ which + suc v = omega arith in
+    ap (λ x. bits (record { space = space; which = x; index = i })) w ∙ at (suc v) i below))
 
 -- rounds that mean an operation implement it
 pub does_implement : (head : Shape) (ps : List Statement) (code : List Uop)
     → ((n : ℕ) → 0 < n → n ≤ WIDTH_MAX → DoesRounds head n (joined ps) code)
-    → (ceilings : List (ℕ → ℕ)) (meaning : ℕ → List ℕ → ℕ) → Means head ps ceilings meaning
+    → (ceilings : List (ℕ → ℕ)) (meaning : ℕ → List ℕ → List ℕ)
+    → Means head ps ceilings meaning
     → Implements head code (total ceilings) meaning
 does_implement head ps code does ceilings meaning means = record {
   ends = λ n some small. (does n some small).ends;
@@ -160,7 +168,7 @@ does_implement head ps code does ceilings meaning means = record {
 }
   where
     gives : (n : ℕ) → 0 < n → n ≤ WIDTH_MAX → (rows : ℕ) (b : Bound) (s : Column)
-        → Fits rows head n b → number b.result (width head.result n)
+        → Fits rows head n b → numbers n (results head) b.results
         (run (bound rows head n b (issues_of (trace head code n))) s)
         ≡ meaning n (numbers n head.sources b.sources s)
     gives n some small rows b s fits =
@@ -168,20 +176,19 @@ does_implement head ps code does ceilings meaning means = record {
         let bits : Spots = spots_in head n b s in
         let new : Spots = after_rounds n (all_rounds n (joined ps)) bits in
         let agrees : Agree head n b new t = (does n some small).agrees rows b s fits in
-        ap value (same_bits (λ row. t (D row)) (λ i.
-        new (record { space = Result; which = 0; index = i })) b.result 0 (width head.result n)
-        (λ i lt. let z : i ≡ 0 + i = omega arith in
-        agrees (record { space = Result; which = 0; index = i }) (refl, lt)
-        ∙ ap (λ j. new (record { space = Result; which = 0; index = j })) z))
-        ∙ ap (spot_number Result 0 (width head.result n)) (after_joined n ps bits)
+        let zero_on : (v : ℕ) → 0 + v ≡ v = λ v. omega arith in
+        sym (values_same Result rows n new t (results head) b.results 0 fits.results (λ v i below.
+        ap (λ w. new (record { space = Result; which = w; index = i })) (zero_on v)
+        ∙ sym (agrees (record { space = Result; which = v; index = i }) below)))
+        ∙ ap (numbers_in Result n (results head) 0) (after_joined n ps bits)
         ∙ means.gives n some small bits
-        ∙ ap (meaning n) (sources_same rows head n b s head.sources b.sources 0 fits.sources (λ j.
-        let z : 0 + j ≡ j = omega arith in ap (slice_index b.sources) z))
+        ∙ ap (meaning n) (values_same Source rows n bits s head.sources b.sources 0 fits.sources
+        (λ v i below. ap (λ w. s (D (slice_index b.sources w + i))) (zero_on v)))
 
 -- what the emitters give, with Done, does the rounds and is legal
 pub record IsEntry (head : Shape) (ps : List Statement) (code : List Uop) : Type 0 where
   pub legal : IsLegalCode head code
-  pub short : length code ≤ 256 * length ps + 1
+  pub parts : HasParts (length ps) code
   pub does : (n : ℕ) → 0 < n → n ≤ WIDTH_MAX → DoesRounds head n (joined ps) code
 
 pub is_entry : (head : Shape) (ps : List Statement) (mid code : List Uop)
@@ -212,7 +219,12 @@ is_entry head ps mid code can few emits e = subst (IsEntry head ps)
       legal = code_legal head emits.coded (omega (arith, size, few)) emits.parts
           (subst (AllByRecursion (IsRound (IsSpot head 1) 1)) (all_blocks 1 emits.coded)
           (rounds 1 (omega arith) (omega arith)));
-      short = omega (arith, size, length-append is (Done ∷ []));
+      parts = let q = pieces head ps emits.coded 0 emits.same emits.parts can in record {
+        parts = q.0;
+        many = q.1;
+        short = q.2;
+        whole = ap (λ l. l ++ Done ∷ []) q.3;
+      };
       does = λ n some small. subst (λ (l : Statement). DoesRounds head n l (is ++ Done ∷ []))
           emits.same (program_does head n emits.coded some small (omega (arith, size, few))
           emits.parts (rounds n some small));

@@ -10,7 +10,7 @@ use Rattle.std.proofs.lemmas.Bool.{and_parts, and_from, ltb-true, lt-ltb, eq-eqb
 use Rattle.op_text.specs.declared.tree.Kind.{Kind}
 use Rattle.uprog_code.specs.declared.code.Uop.{Uop}
 use Rattle.uprog_code.specs.declared.code.Uop.TheVariants.{Done, SubI, AddI, Bnez}
-use Rattle.uprog_code.specs.Shape.{Shape}
+use Rattle.uprog_code.specs.Shape.{Shape, results}
 use Rattle.uprog_code.specs.Legal.{is_row, is_first, is_second, may_be_first, may_be_second}
 use Rattle.uprog_code.specs.Legal.{is_legal, IsLegalCode}
 use Rattle.loop_ir.specs.Loops.{rounds, RoundOf, round_at, inner_rounds, step_rounds, all_rounds}
@@ -71,8 +71,9 @@ below_length (k ∷ ks) (suc w) n v h = let l = below_length ks w n v h in omega
 module _ (head : Shape) where
   place_row_legal : (s : Space) (w v : ℕ) (plan : Plan) (u : Sub) → IsSpot head 1 (spot_in 1 s w v)
       → is_row head (place_ref plan (record { space = s; which = w; sub = u })) ≡ true
-  place_row_legal Result w v plan u h = and_from (w == 0) (nat_le (register plan u) 8)
-      (eq-eqb w 0 h.0) (register_small plan u)
+  place_row_legal Result w v plan u h = and_from (nat_lt w (length (results head)))
+      (nat_le (register plan u) 8) (lt-ltb w (length (results head))
+      (below_length (results head) w 1 v h)) (register_small plan u)
   place_row_legal Source w v plan u h = and_from (nat_lt w (length head.sources))
       (nat_le (register plan u) 8) (lt-ltb w (length head.sources)
       (below_length head.sources w 1 v h)) (register_small plan u)

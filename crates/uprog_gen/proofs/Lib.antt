@@ -16,6 +16,7 @@ pub mod Outs
 pub mod Sizes
 pub mod Emitted
 pub mod Legal
+pub mod Pieces
 pub mod Joined
 pub mod Lays
 pub mod Lies

@@ -37,7 +37,7 @@ use Rattle.loop_ir.specs.Limits.{IsRound, CanCompile}
 use Rattle.loop_ir.specs.Statements.{Slots}
 use Rattle.loop_ir.specs.Lowered.{HoldsAt, IsStatementRow, kind_at, args_width, ceiling_of}
 use Rattle.uprog_gen.specs.Where.{IsSpot}
-use Rattle.uprog_gen.specs.Does.{after_statements, spot_number, source_numbers, AreCheap, total}
+use Rattle.uprog_gen.specs.Does.{after_statements, spot_number, numbers_in, AreCheap, total}
 use Rattle.uprog_gen.specs.Does.{Means}
 use Rattle.uprog_gen.specs.Layout.{IsLayout, slot, source_lays, defined_lays, found}
 use Rattle.uprog_gen.specs.Programs.{AreLowered, ceilings}
@@ -82,12 +82,12 @@ source_held n k j bits =
 
 sources_hold : (n k : ℕ) (ps : List Param) (names : List ℕ → Held) (bits : Spots)
     → Differ (names_of ps) → (name : List ℕ) (x : Slot) → found (source_lays k ps) name ≡ Some x
-    → HoldsAt n (Some x) (with_sources n names ps (source_numbers n (kinds_of ps) k bits) name) bits
+    → HoldsAt n (Some x) (with_sources n names ps (numbers_in Source n (kinds_of ps) k bits) name) bits
 sources_hold n k [] names bits d name x e = absurd (cc)
 sources_hold n k (p ∷ ps) names bits d name x e =
     let v = spot_number Source k (shape.width p.kind n) bits in
     let names' = changed names p.name (holding n p.kind v) in
-    let rest = source_numbers n (kinds_of ps) (k + 1) bits in
+    let rest = numbers_in Source n (kinds_of ps) (k + 1) bits in
     by_bool (λ b. cond b (Some (slot Source k p.kind)) (found (source_lays (k + 1) ps) name)
     ≡ Some x → HoldsAt n (Some x) (with_sources n names' ps rest name) bits)
     (bytes_eq p.name name)
@@ -141,7 +141,7 @@ total_ceilings known (s ∷ body) n =
     (total_ceilings (known ++ defines known s) body n)
 
 pub lower_ceiling : (shape : shape.Shape) (code : List Uop) (low high : ℕ → ℕ) (meaning : ℕ → List ℕ
-    → ℕ) → ((n : ℕ) → low n ≡ high n) → Implements shape code low meaning
+    → List ℕ) → ((n : ℕ) → low n ≡ high n) → Implements shape code low meaning
     → Implements shape code high meaning
 lower_ceiling shape code low high meaning e does = record {
   ends = does.ends;
@@ -182,12 +182,12 @@ module _ (op : Operation) (meets : OperationMeets op) (slots : Slots) (free_bit 
           e) ∙ f
 
   first_holds : (n : ℕ) (bits : Spots) → HoldsAll n slots
-      (with_sources n holds_nothing op.params (source_numbers n (kinds_of op.params) 0 bits)) bits
+      (with_sources n holds_nothing op.params (numbers_in Source n (kinds_of op.params) 0 bits)) bits
       (names_of op.params)
   first_holds n bits name h =
       let x = source_slot name h in
       subst (λ (o : Option Slot). HoldsAt n o
-      (with_sources n holds_nothing op.params (source_numbers n (kinds_of op.params) 0 bits)
+      (with_sources n holds_nothing op.params (numbers_in Source n (kinds_of op.params) 0 bits)
       name) bits) (sym x.1) (sources_hold n 0 op.params holds_nothing bits meets.params_differ
       name x.0 x.2)
 
@@ -297,10 +297,11 @@ module _ (op : Operation) (meets : OperationMeets op) (slots : Slots) (free_bit 
 
   pub statements_mean : (ps : List (List (StepOf Block)))
       → AreLowered slots free_bit free_word op.body ps
-      → Means (op_shape op) ps (ceilings op.params op.body) (meaning op)
+      → Means (op_shape op) ps (ceilings op.params op.body)
+      (λ n values. meaning op n values ∷ [])
   statements_mean ps low = record {
     gives = λ n some small bits.
-        let sources = source_numbers n (kinds_of op.params) 0 bits in
+        let sources = numbers_in Source n (kinds_of op.params) 0 bits in
         let first = with_sources n holds_nothing op.params sources in
         let all = body_holds op meets slots free_bit free_word is op.body (at_start op)
         (first_stage op meets) ps low n some small first bits (first_holds n bits) in
@@ -309,8 +310,8 @@ module _ (op : Operation) (meets : OperationMeets op) (slots : Slots) (free_bit 
         let last = after_statements n ps bits in
         let h : HoldsAt n (slots op.result.name) (outcome op n sources) last =
         all op.result.name known in
-        result_means n (outcome op n sources) last
-        (subst (λ (o : Option Slot). HoldsAt n o (outcome op n sources) last) result_slot h);
+        ap (λ v. v ∷ []) (result_means n (outcome op n sources) last
+        (subst (λ (o : Option Slot). HoldsAt n o (outcome op n sources) last) result_slot h));
     cheap = λ n some small. all_cheap n some small op.body (at_start op) (first_stage op meets) ps
         low;
   }

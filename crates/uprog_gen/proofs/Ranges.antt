@@ -6,7 +6,7 @@ use Rattle.std.specs.List.{AllByRecursion, list_all}
 use Rattle.std.proofs.lemmas.Bool.{and_parts, and_from, ltb-true, lt-ltb, eq-eqb}
 use Rattle.op_text.specs.declared.tree.Kind.{Kind}
 use Rattle.op_text.specs.declared.tree.Kind.TheVariants.{Word, Bit}
-use Rattle.uprog_code.specs.Shape.{Shape}
+use Rattle.uprog_code.specs.Shape.{Shape, results}
 use Rattle.uprog_code.specs.Machine.{position, in_kind, in_space, in_range, all_in_range}
 use Rattle.row_alloc.specs.declared.body.BodyRef.{BodyRef}
 use Rattle.row_alloc.specs.declared.body.BodyRef.TheVariants as ref
@@ -31,7 +31,7 @@ below_kind (Some Bit) n i h = eq-eqb i 0 (omega (arith, h))
 module _ (head : Shape) (n : ℕ) where
   space_range : (s : Space) (w v : ℕ) → IsSpot head n (spot_in n s w v)
       → in_space head n (row_space s) w (position (row_space s) v) ≡ true
-  space_range Result w v h = below_kind (Some head.result) n v h.1
+  space_range Result w v h = below_kind (slice_get (results head) w) n v h
   space_range Source w v h = below_kind (slice_get head.sources w) n v h
   space_range ScratchBit w v h = refl
   space_range ScratchWord w v h = lt-ltb (w * n + v) (n * head.words) h.1

@@ -165,11 +165,10 @@ module _ (op : Operation) (meets : OperationMeets op) (slots : Slots) (free_bit 
           → IsSpot (op_shape op) n (spot_in n Result x.which v)
       of_result w m =
           let k : x.kind ≡ op.result.kind = some_kind x.kind op.result.kind
-          (sym (kind_of_slot name x e) ∙ ap (kind_among (all_names op)) m ∙ result_known) in (
-            w,
-            subst (λ (l : ℕ). v < l) (width_same op.result.kind n)
-                (subst (λ (j : Kind). v < width n j) k lt),
-          )
+          (sym (kind_of_slot name x e) ∙ ap (kind_among (all_names op)) m ∙ result_known) in
+          subst (λ (u : ℕ). IsSpot (op_shape op) n (spot_in n Result u v)) (sym w)
+          (subst (λ (l : ℕ). v < l) (width_same op.result.kind n)
+          (subst (λ (j : Kind). v < width n j) k lt))
 
       by : LiesIn op (lay name x) → IsSpot (op_shape op) n (slot_spot n x v)
       by (inl h) = at_space Source h.0 (in_source n v x h.1 lt)

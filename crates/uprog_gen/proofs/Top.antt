@@ -9,7 +9,7 @@ use Rattle.dram_model.specs.declared.address.Cell.TheVariants.{D}
 use Rattle.dram_model.specs.Column.{Column, run}
 use Rattle.uprog_code.specs.declared.code.Uop.{Uop}
 use Rattle.uprog_code.specs.declared.code.Uop.TheVariants.{Done}
-use Rattle.uprog_code.specs.Shape.{Shape}
+use Rattle.uprog_code.specs.Shape.{Shape, results}
 use Rattle.uprog_code.specs.Bound.{Bound, bound}
 use Rattle.uprog_code.specs.Machine.{Issue, Ended, trace, HasEnded, issues_of}
 use Rattle.loop_ir.specs.Loops.{rounds, RoundOf, round_at, one_round, positions, inner_rounds}
@@ -31,7 +31,7 @@ use Rattle.uprog_gen.specs.Parts.{IsPart}
 use Rattle.loop_ir.specs.Costs.{turn_cost, rounds_cost}
 use Rattle.uprog_gen.specs.Does.{DoesRounds}
 use Rattle.uprog_gen.proofs.Agree.{AreRounds, IsMine, rounds_agree, rounds_keep}
-use Rattle.uprog_gen.proofs.Laid.{laid, bit_among, word_among}
+use Rattle.uprog_gen.proofs.Laid.{laid, value_among, bit_among, word_among}
 use Rattle.uprog_gen.proofs.Ranges.{commands_range}
 use Rattle.uprog_gen.proofs.Program.{IsGood, program_trace}
 use Rattle.bit_rows.specs.declared.TheConstants.{WIDTH_MAX}
@@ -170,7 +170,8 @@ module _ (rows : ℕ) (head : Shape) (n : ℕ) (b : Bound) (fits : Fits rows hea
   -- an own row lies in the result or the scratch
   own_touched : (s : Space) (w i : ℕ) → IsIn head n s w i → IsOwn s
       → IsTouched rows head n b (row_in head n b s w i)
-  own_touched Result w i p own = inl (omega arith, omega (arith, p.1))
+  own_touched Result w i p own =
+      inl (value_among rows n (results head) b.results fits.results w i p)
   own_touched Source w i p own = absurd own
   own_touched ScratchBit w i p own = inr (inl (bit_among rows head n b fits w p.0))
   own_touched ScratchWord w i p own = inr (inl (word_among rows head n b fits i p.1))

@@ -7,7 +7,7 @@ use Rattle.dram_model.specs.declared.address.Cell.TheVariants.{D}
 use Rattle.dram_model.specs.Column.{Column, run}
 use Rattle.op_text.specs.declared.tree.Kind.{Kind}
 use Rattle.uprog_code.specs.declared.code.Uop.{Uop}
-use Rattle.uprog_code.specs.Shape.{Shape, width}
+use Rattle.uprog_code.specs.Shape.{Shape, width, results}
 use Rattle.uprog_code.specs.Machine.{HasEnded, issues_of, trace}
 use Rattle.uprog_code.specs.Bound.{Bound, bound}
 use Rattle.uprog_code.specs.Fits.{Fits, IsTouched}
@@ -48,11 +48,11 @@ spot_number space which size bits =
     value (map (λ i. bits (record { space = space; which = which; index = i }))
     (range_with_len 0 size))
 
--- the numbers of the sources from this one on
-abbrev pub source_numbers : ℕ → List Kind → ℕ → Spots → List ℕ
-source_numbers n [] which bits = []
-source_numbers n (k ∷ ks) which bits = spot_number Source which (width k n) bits
-    ∷ source_numbers n ks (which + 1) bits
+-- the numbers of the values of these kinds, the sources or the results, from this one on
+abbrev pub numbers_in : Space → ℕ → List Kind → ℕ → Spots → List ℕ
+numbers_in space n [] which bits = []
+numbers_in space n (k ∷ ks) which bits = spot_number space which (width k n) bits
+    ∷ numbers_in space n ks (which + 1) bits
 
 -- each statement's rounds at n take at most its ceiling
 abbrev pub AreCheap : ℕ → List (List (StepOf Block)) → List (ℕ → ℕ) → Type 0
@@ -65,11 +65,11 @@ AreCheap n (p ∷ ps) (c ∷ cs) = (rounds_cost (all_rounds n p) ≤ c n) × Are
 abbrev pub total : List (ℕ → ℕ) → ℕ → ℕ
 total ceilings n = sum_by (λ c. c n) ceilings
 
--- the statements' loop programs, one after another, give the operation's result, within their
--- ceilings
+-- the statements' loop programs, one after another, give the operation's results, within
+-- their ceilings
 pub record Means (head : Shape) (statements : List (List (StepOf Block))) (ceilings : List (ℕ
-    → ℕ)) (meaning : ℕ → List ℕ → ℕ) : Type 0 where
+    → ℕ)) (meaning : ℕ → List ℕ → List ℕ) : Type 0 where
   pub gives : (n : ℕ) → 0 < n → n ≤ WIDTH_MAX → (bits : Spots)
-      → spot_number Result 0 (width head.result n) (after_statements n statements bits)
-      ≡ meaning n (source_numbers n head.sources 0 bits)
+      → numbers_in Result n (results head) 0 (after_statements n statements bits)
+      ≡ meaning n (numbers_in Source n head.sources 0 bits)
   pub cheap : (n : ℕ) → 0 < n → n ≤ WIDTH_MAX → AreCheap n statements ceilings

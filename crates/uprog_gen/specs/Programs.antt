@@ -1,8 +1,11 @@
 -- The loop programs of an operation's statements, and its entry.
-use Rattle.std.specs.Prelude.{◌+◌, ◌*◌, ◌≤◌, length, ℕ, List, [], ◌∷◌, ◌++◌}
+use Rattle.std.specs.Prelude.{◌≡◌, ◌≤◌, length, ℕ, List, [], ◌∷◌, ◌++◌}
+use Rattle.std.specs.List.{AllByRecursion}
 use Rattle.op_text.specs.declared.tree.Param.{Param}
 use Rattle.op_text.specs.Language.{Statement, Operation}
 use Rattle.op_text.specs.Scratch.{defines, op_ceiling, statement_ceiling}
+use Rattle.uprog_code.specs.declared.code.Uop.{Uop}
+use Rattle.uprog_code.specs.declared.code.Uop.TheVariants.{Done}
 use Rattle.uprog_code.specs.Shape.{Microprogram}
 use Rattle.uprog_code.specs.Legal.{IsLegalCode}
 use Rattle.uprog_code.specs.Texts.{text_op, EntryDoes}
@@ -32,12 +35,22 @@ ceilings known [] = []
 ceilings known (s ∷ body) = (λ n. statement_ceiling op_ceiling known n s)
     ∷ ceilings (known ++ defines known s) body
 
--- An operation's entry: it does the operation, its code is legal, and it has at most 256
--- instructions for each statement, and DONE
+abbrev pub together : List (List Uop) → List Uop
+together [] = []
+together (p ∷ ps) = p ++ together ps
+
+-- the code is so many parts of at most 256 instructions each, one after another, and DONE
+pub record HasParts (count : ℕ) (code : List Uop) : Type 0 where
+  pub parts : List (List Uop)
+  pub many : length parts ≡ count
+  pub short : AllByRecursion (λ p. length p ≤ 256) parts
+  pub whole : code ≡ together parts ++ Done ∷ []
+
+-- an operation's entry: it does the operation, its code is legal, and has a part for each statement
 pub record IsCompiled (e : Microprogram) (op : Operation) : Type 0 where
   pub does : EntryDoes e (text_op op)
   pub legal : IsLegalCode e.shape e.code
-  pub short : length e.code ≤ 256 * length op.body + 1
+  pub parts : HasParts (length op.body) e.code
 
 -- an entry for each operation, in order
 abbrev pub AreCompiled : List Microprogram → List Operation → Type 0

@@ -3,14 +3,14 @@ use Rattle.std.specs.Prelude.{◌≡◌, ℕ, ◌+◌, ◌*◌, ◌<◌, Option,
 use Rattle.dram_model.specs.declared.address.Cell.TheVariants.{D}
 use Rattle.dram_model.specs.Column.{Column}
 use Rattle.op_text.specs.declared.tree.Kind.{Kind}
-use Rattle.uprog_code.specs.Shape.{Shape, width}
+use Rattle.uprog_code.specs.Shape.{Shape, width, results}
 use Rattle.uprog_code.specs.Bound.{Bound}
 use Rattle.loop_ir.specs.declared.ir.Space.{Space}
 use Rattle.loop_ir.specs.declared.ir.Space.TheVariants.{Result, Source, ScratchBit, ScratchWord}
 use Rattle.loop_ir.specs.Spots.{Spot, Spots}
 
 abbrev pub row_in : Shape → ℕ → Bound → Space → ℕ → ℕ → ℕ
-row_in head n b Result w i = b.result + i
+row_in head n b Result w i = slice_index b.results w + i
 row_in head n b Source w i = slice_index b.sources w + i
 row_in head n b ScratchBit w i = b.scratch + w
 row_in head n b ScratchWord w i = b.scratch + head.bits + i
@@ -24,7 +24,7 @@ IsBelow None n i = ⊥
 IsBelow (Some k) n i = i < width k n
 
 abbrev pub IsIn : Shape → ℕ → Space → ℕ → ℕ → Type 0
-IsIn head n Result w i = (w ≡ 0) × (i < width head.result n)
+IsIn head n Result w i = IsBelow (slice_get (results head) w) n i
 IsIn head n Source w i = IsBelow (slice_get head.sources w) n i
 IsIn head n ScratchBit w i = (w < head.bits) × (i ≡ 0)
 IsIn head n ScratchWord w i = (w ≡ 0) × (i < n * head.words)

@@ -1,6 +1,6 @@
 //! The code of an operation.
 
-ghost use Rattle.std.specs.Prelude.{◌≡◌, ℕ, ◌+◌, ◌*◌, ◌<◌, ◌≤◌, List, length, map, IfOk};
+ghost use Rattle.std.specs.Prelude.{◌≡◌, ℕ, ◌<◌, ◌≤◌, List, length, map, IfOk};
 ghost use Rattle.std.specs.List.{AllByRecursion};
 ghost use Rattle.bit_rows.specs.declared.TheConstants.{WIDTH_MAX};
 ghost use Rattle.uprog_code.specs.Shape.{shape_of};
@@ -10,6 +10,7 @@ ghost use Rattle.loop_ir.specs.Plain.{steps_of};
 ghost use Rattle.loop_ir.specs.Limits.{CanCompile};
 ghost use Rattle.uprog_gen.specs.Where.{IsSpot};
 ghost use Rattle.uprog_gen.specs.Does.{DoesRounds, Means, joined, total};
+ghost use Rattle.uprog_gen.specs.Programs.{HasParts};
 
 use crate::emit::push;
 use crate::steps::emit_steps;
@@ -20,7 +21,7 @@ use uprog_code::{EntryCode, Head, Uop};
 
 /// The code of an operation whose statements have these loop programs.
 ///
-/// Each statement has at most 256 instructions. Only want of memory is an `Err`.
+/// Only want of memory is an `Err`.
 pub fn compile_entry(
     head: Head,
     statements: &[LoopProgram],
@@ -32,14 +33,14 @@ pub fn compile_entry(
 
     ensures head { IfOk result (λ entry. entry.head ≡ head) }
     ensures legal { IfOk result (λ entry. IsLegalCode (shape_of head) entry.code.items) }
-    ensures short { IfOk result (λ entry. length entry.code.items
-        ≤ 256 * length statements.now + 1) }
+    ensures parts { IfOk result (λ entry. HasParts (length statements.now) entry.code.items) }
     ensures does { IfOk result (λ entry. (n : ℕ) → 0 < n → n ≤ WIDTH_MAX
         → DoesRounds (shape_of head) n (joined (map steps_of statements.now)) entry.code.items) }
 
-    // Whatever number the statements' rounds give, and whatever ceilings they keep, the code has
+    // Whatever numbers the statements' rounds give, and whatever ceilings they keep, the code has
     // that meaning within the sum of the ceilings.
-    ensures implements { IfOk result (λ entry. (ceilings : List (ℕ → ℕ)) (meaning : ℕ → List ℕ → ℕ)
+    ensures implements { IfOk result (λ entry. (ceilings : List (ℕ → ℕ)) (meaning : ℕ → List ℕ
+        → List ℕ)
         → Means (shape_of head) (map steps_of statements.now) ceilings meaning
         → Implements (shape_of head) entry.code.items (total ceilings) meaning) }
 {

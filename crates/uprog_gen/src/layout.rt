@@ -189,8 +189,7 @@ fn place_statement(names: &mut NameMap, outcome: &Name, stmt: &Stmt) -> Result<(
 }
 
 /// The places of the names of an operation: the parameters are the sources, the result stands in
-/// its own rows, and every
-/// other name that the body defines takes the next bit or word of scratch.
+/// its own rows, and every other name that the body defines takes the next bit or word of scratch.
 ///
 /// Only want of memory is an `Err`.
 pub fn lay_out(op: &Op, alloc: Global) -> Result<NameMap, NoMemory>

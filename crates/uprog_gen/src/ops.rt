@@ -60,6 +60,7 @@ fn head_of(op: &Op) -> Head
         name: op.name.copied(),
         sources,
         result: op.result.kind,
+        second: None,
         bits: scratch.bits as u8,
         words: scratch.words as u8,
     }
@@ -137,7 +138,7 @@ pub fn compile_ops(ops: &Ops, alloc: Global) -> Result<Compiled, NoMemory>
         (map text_op (operations ops.now))) }
     // A file can hold it.
     ensures program { IfOk result (λ c. IsProgram (microprograms_of c.program)) }
-    // Each has at most 256 instructions for each statement, and DONE.
+    // Each has a part of at most 256 instructions for each statement, and DONE.
     ensures compiled { IfOk result (λ c. AreCompiled (microprograms_of c.program)
         (operations ops.now)) }
     // The graphs are those of the blocks, and no entry takes more commands than they say.

@@ -1,8 +1,12 @@
-use Rattle.machine_model.proofs.Events.{events_are_steps, counted_by_replies}
+use Rattle.machine_model.proofs.Pieces.{seen_in_order, events_are_steps, counted_by_replies}
+use Rattle.machine_model.proofs.Pieces.{one_bank, pieces_are_script}
 use Rattle.machine_model.proofs.events_are_steps.Goals as goal
 
-pub returns-clause-steps : goal.returns-clause-steps
-returns-clause-steps c = events_are_steps
-
-pub returns-clause-counted : goal.returns-clause-counted
-returns-clause-counted c = counted_by_replies
+pub returns : goal.returns
+returns c = record {
+  pieces = pieces_are_script;
+  seen = seen_in_order;
+  steps = events_are_steps;
+  counted = counted_by_replies;
+  one_bank = one_bank;
+}

@@ -1,4 +1,4 @@
-use Rattle.op_lang.proofs.Meeting.{meets}
+use Rattle.op_text.proofs.Meeting.{meets}
 use Rattle.op_lang.proofs.parse.parse_ops.Goals as goal
 
 pub returns-in-Ok-clause-meets : goal.returns-in-Ok-clause-meets

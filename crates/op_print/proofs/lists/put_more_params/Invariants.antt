@@ -1,12 +1,9 @@
 use Rattle.std.proofs.Common.{◌≡◌, ◌++◌, take}
 use Rattle.std.specs.List.{flat_map}
 use Rattle.op_print.specs.Canonical.{behind_comma, param_text}
-use Rattle.op_text.specs.Spelling.{Each, HasParam}
 use Rattle.op_print.proofs.lists.put_more_params.Given as goal
 
 abbrev pub invariant-loop-param : goal.invariant-loop-param
-invariant-loop-param l = record {
-  written : l.out.items ≡ l.fn.out.items ++ flat_map (behind_comma param_text)
-      (take l.param-index l.params);
-  named : Each HasParam (take l.param-index l.params);
-}
+invariant-loop-param l =
+    l.out.items ≡ l.fn.out.items ++ flat_map (behind_comma param_text)
+    (take l.param-index l.params)

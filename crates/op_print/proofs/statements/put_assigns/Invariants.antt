@@ -2,12 +2,9 @@ use Rattle.std.proofs.Common.{◌≡◌, ◌++◌, take, map, codes}
 use Rattle.std.specs.List.{flat_map}
 use Rattle.op_text.specs.Language.{equation}
 use Rattle.op_print.specs.Canonical.{line, equation_text}
-use Rattle.op_text.specs.Spelling.{Each, HasEquation}
 use Rattle.op_print.proofs.statements.put_assigns.Given as goal
 
 abbrev pub invariant-loop-assign : goal.invariant-loop-assign
-invariant-loop-assign l = record {
-  written : l.out.items ≡ l.fn.out.items ++ flat_map (λ e. line (codes "    ") (equation_text e))
-      (map equation (take l.assign-index l.assigns));
-  named : Each (λ a. HasEquation (equation a)) (take l.assign-index l.assigns);
-}
+invariant-loop-assign l =
+    l.out.items ≡ l.fn.out.items ++ flat_map (λ e. line (codes "    ") (equation_text e))
+    (map equation (take l.assign-index l.assigns))

@@ -9,17 +9,17 @@ returns-then-is_err-2-clause-goes g c =
     ∙ c.if-is_err-2.true) c.store.ensures.failed in
     finish_unstored c.args.name.now _ _ (g.F.Folder.view c.args.files.now)
     (g.F.Folder.view c.store.new.self) (g.S.Sink.view c.args.out.now)
-    (g.D.Dram.faults c.args.chip.now) (g.D.Dram.faults c.image.new.dram) c.image.ensures.faults
+    (g.D.Dram.view c.args.chip.now) (g.D.Dram.view c.image.new.dram) c.image.ensures.kept.faults
     (unstored c.args.name.now (g.F.Folder.view c.args.files.now) (g.F.Folder.view c.store.new.self)
-    (g.S.Sink.view c.args.out.now) (g.D.Dram.faults c.image.new.dram) c.store.ensures.others
+    (g.S.Sink.view c.args.out.now) (g.D.Dram.view c.image.new.dram) c.store.ensures.others
     rose c.store.ensures.counts)
 
 pub returns-then-is_err-3-clause-goes : goal.returns-then-is_err-3-clause-goes
 returns-then-is_err-3-clause-goes g c =
     let file = at_ok c.image.result (sym c.is_err.ensures.value
     ∙ c.if-is_err.false) c.image.ensures.file in
-    let counters = at_ok c.image.result (sym c.is_err.ensures.value
-    ∙ c.if-is_err.false) c.image.ensures.counters in
+    let did = at_ok c.image.result (sym c.is_err.ensures.value
+    ∙ c.if-is_err.false) c.image.ensures.did in
     let there = at_ok c.store.result (sym c.is_err-2.ensures.value
     ∙ c.if-is_err-2.false) c.store.ensures.stored in
     let part = at_err c.put_total.result (sym c.is_err-3.ensures.value
@@ -28,28 +28,28 @@ returns-then-is_err-3-clause-goes g c =
     ∙ c.if-is_err-3.true) c.put_total.ensures.rose in
     finish_unput c.args.name.now _ _ (g.F.Folder.view c.args.files.now)
     (g.F.Folder.view c.store.new.self) (g.S.Sink.view c.args.out.now)
-    (g.S.Sink.view c.put_total.new.out) (g.D.Dram.faults c.args.chip.now)
-    (g.D.Dram.faults c.image.new.dram) c.image.ensures.faults
+    (g.S.Sink.view c.put_total.new.out) (g.D.Dram.view c.args.chip.now)
+    (g.D.Dram.view c.image.new.dram) c.image.ensures.kept.faults
     (stored c.args.name.now _ (g.F.Folder.view c.args.files.now) (g.F.Folder.view c.store.new.self)
-    (g.S.Sink.view c.args.out.now) (g.D.Dram.faults c.image.new.dram) c.store.ensures.others
+    (g.S.Sink.view c.args.out.now) (g.D.Dram.view c.image.new.dram) c.store.ensures.others
     (rw (c.file.ensures, file) at there) c.store.ensures.counts)
-    (rw counters at part) c.put_total.ensures.faults rose
+    (rw did.counters at part) c.put_total.ensures.faults rose
 
 pub returns-clause-goes : goal.returns-clause-goes
 returns-clause-goes g c =
     let file = at_ok c.image.result (sym c.is_err.ensures.value
     ∙ c.if-is_err.false) c.image.ensures.file in
-    let counters = at_ok c.image.result (sym c.is_err.ensures.value
-    ∙ c.if-is_err.false) c.image.ensures.counters in
+    let did = at_ok c.image.result (sym c.is_err.ensures.value
+    ∙ c.if-is_err.false) c.image.ensures.did in
     let there = at_ok c.store.result (sym c.is_err-2.ensures.value
     ∙ c.if-is_err-2.false) c.store.ensures.stored in
     let sent = at_ok c.put_total.result (sym c.is_err-3.ensures.value
     ∙ c.if-is_err-3.false) c.put_total.ensures.sent in
     finish_done c.args.name.now _ _ (g.F.Folder.view c.args.files.now)
     (g.F.Folder.view c.store.new.self) (g.S.Sink.view c.args.out.now)
-    (g.S.Sink.view c.put_total.new.out) (g.D.Dram.faults c.args.chip.now)
-    (g.D.Dram.faults c.image.new.dram) c.image.ensures.faults
+    (g.S.Sink.view c.put_total.new.out) (g.D.Dram.view c.args.chip.now)
+    (g.D.Dram.view c.image.new.dram) c.image.ensures.kept.faults
     (stored c.args.name.now _ (g.F.Folder.view c.args.files.now) (g.F.Folder.view c.store.new.self)
-    (g.S.Sink.view c.args.out.now) (g.D.Dram.faults c.image.new.dram) c.store.ensures.others
+    (g.S.Sink.view c.args.out.now) (g.D.Dram.view c.image.new.dram) c.store.ensures.others
     (rw (c.file.ensures, file) at there) c.store.ensures.counts)
-    (rw counters at sent) c.put_total.ensures.faults
+    (rw did.counters at sent) c.put_total.ensures.faults

@@ -4,6 +4,13 @@ use Rattle.built_forms.specs.Texts.{image_found}
 use Rattle.simdram_cli.proofs.Tallies.{opened_counted}
 use Rattle.simdram_cli.proofs.perform.open.Goals as goal
 
-pub returns-in-Ok-clause-counters : goal.returns-in-Ok-clause-counters
-returns-in-Ok-clause-counters g c = c.in-Ok.ensures.counters
-    ∙ opened_counted (image_found (found_in c.args.image))
+pub returns-in-Ok-clause-opened : goal.returns-in-Ok-clause-opened
+returns-in-Ok-clause-opened g c =
+    let o = c.in-Ok.ensures.opened in
+    record {
+      begun = o.begun;
+      geometry = o.geometry;
+      banks = o.banks;
+      counters = o.counters ∙ opened_counted (image_found (found_in c.args.image));
+      log = o.log;
+    }

@@ -15,7 +15,8 @@ returns-clause-taken g c =
     taken_by c.args.names.now (operations c.in_ok-ops.ops) microprograms_of c.write_program.result
     (g.F.Folder.view c.args.files.now) (g.F.Folder.view c.load_ops.new.files)
     (g.F.Folder.view c.write_program.new.files)
-    c.in_ok-ops.ensures.read c.write_program.ensures.implements c.write_program.ensures.goes
+    c.in_ok-ops.ensures.read c.write_program.ensures.program c.write_program.ensures.implements
+    c.write_program.ensures.goes
 
 pub returns-clause-stopped : goal.returns-clause-stopped
 returns-clause-stopped g c =

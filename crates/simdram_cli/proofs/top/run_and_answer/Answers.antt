@@ -1,19 +1,15 @@
 use Rattle.cli_model.specs.World.{world}
-use Rattle.simdram_cli.specs.Works.{chip_view}
 use Rattle.simdram_cli.proofs.Ended.{run_ends}
 use Rattle.simdram_cli.proofs.top.run_and_answer.Goals as goal
 
 pub returns-clause-ends : goal.returns-clause-ends
 returns-clause-ends g c =
+    let files = g.F.Folder.view c.run-ended.new.files in
+    let chip = g.D.Dram.view c.run-ended.new.chip in
     run_ends c.args.names.now
     (world (g.F.Folder.view c.args.files.now) (g.S.Sink.view c.args.out.now)
-    (g.D.Dram.faults c.args.chip.now))
-    (world (g.F.Folder.view c.run-ended.new.files) (g.S.Sink.view c.run-ended.new.out)
-    (g.D.Dram.faults c.run-ended.new.chip))
-    (world (g.F.Folder.view c.run-ended.new.files) (g.S.Sink.view c.answer.new.out)
-    (g.D.Dram.faults c.run-ended.new.chip))
-    (chip_view (g.D.Dram.banks c.run-ended.new.chip) (g.D.Dram.counters c.run-ended.new.chip)
-    (g.D.Dram.log c.run-ended.new.chip))
+    (g.D.Dram.view c.args.chip.now))
+    (world files (g.S.Sink.view c.run-ended.new.out) chip)
+    (world files (g.S.Sink.view c.answer.new.out) chip)
     c.run-ended.result c.answer.result c.run-ended.ensures.goes
-    (c.answer.ensures.tells (g.F.Folder.view c.run-ended.new.files)
-    (g.D.Dram.faults c.run-ended.new.chip)) c.answer.ensures.status
+    (c.answer.ensures.tells files chip) c.answer.ensures.status

@@ -5,18 +5,20 @@ use Rattle.simdram_cli.proofs.work.work_line.Goals as goal
 pub returns-in-Ok-Done-clause-goes : goal.returns-in-Ok-Done-clause-goes
 returns-in-Ok-Done-clause-goes g c files =
     line_done _ files (g.S.Sink.view c.args.out.now) (g.S.Sink.view c.step.new.out)
-    (g.D.Dram.faults c.args.chip.now) (g.D.Dram.faults c.step.new.dram)
-    c.step.ensures.faults c.in-Ok-Done.ensures.sent c.step.ensures.sink_faults
+    (g.D.Dram.view c.args.chip.now) (g.D.Dram.view c.step.new.dram)
+    c.step.ensures.kept.faults c.in-Ok-Done.ensures.sent c.step.ensures.sink_faults
 
 pub returns-in-Ok-Refused-clause-goes : goal.returns-in-Ok-Refused-clause-goes
 returns-in-Ok-Refused-clause-goes g c files =
     line_done _ files (g.S.Sink.view c.args.out.now) (g.S.Sink.view c.step.new.out)
-    (g.D.Dram.faults c.args.chip.now) (g.D.Dram.faults c.step.new.dram)
-    c.step.ensures.faults c.in-Ok-Refused.ensures.sent c.step.ensures.sink_faults
+    (g.D.Dram.view c.args.chip.now) (g.D.Dram.view c.step.new.dram)
+    c.step.ensures.kept.faults c.in-Ok-Refused.ensures.sent c.step.ensures.sink_faults
 
 pub returns-in-Err-WriteFault-clause-goes : goal.returns-in-Err-WriteFault-clause-goes
 returns-in-Err-WriteFault-clause-goes g c files =
-    let w = c.in-Err-WriteFault.ensures.write_fault (rw c.in-Err-WriteFault.field-0-is refl) in
+    let is = rw c.in-Err-WriteFault.field-0-is refl in
+    let rose = c.in-Err-WriteFault.ensures.write_fault is in
+    let part = c.in-Err-WriteFault.ensures.part is in
     line_unput _ files (g.S.Sink.view c.args.out.now) (g.S.Sink.view c.step.new.out)
-    (g.D.Dram.faults c.args.chip.now) (g.D.Dram.faults c.step.new.dram)
-    c.step.ensures.faults w.1 c.step.ensures.sink_faults w.0
+    (g.D.Dram.view c.args.chip.now) (g.D.Dram.view c.step.new.dram)
+    c.step.ensures.kept.faults part c.step.ensures.sink_faults rose

@@ -10,6 +10,6 @@ invariant-loop-k l = record {
   place : l.at ≡ 8 + 27 * l._k;
   within : l.at ≤ length l.bytes;
   small : l.start ≤ 65535 * l._k;
-  so_far : directory_at (l.count - l._k) (listings_of l.listed.items) l.start l.at l.bytes
-      ≡ directory_at l.count [] 0 8 l.bytes;
+  so_far : directory_at l.version (l.count - l._k) (listings_of l.listed.items) l.start l.at l.bytes
+      ≡ directory_at l.version l.count [] 0 8 l.bytes;
 }

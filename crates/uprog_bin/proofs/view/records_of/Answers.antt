@@ -1,9 +1,9 @@
 use Rattle.std.proofs.Common.{◌+◌, ◌*◌, leb, eqb, length, arith}
 use Rattle.std.proofs.lemmas.Bool.{eqb-true}
 use Rattle.uprog_bin.specs.declared.fault.ProgKind.TheVariants as kinds
-use Rattle.uprog_bin.proofs.Held.{rule_ok}
 use Rattle.uprog_bin.proofs.Files.{opened_from}
 use Rattle.uprog_bin.proofs.view.records_of.Goals as goal
+use Rattle.file_fields.proofs.Held.{rule_ok}
 
 pub returns-clause-ok : goal.returns-clause-ok
 returns-clause-ok c =
@@ -14,7 +14,8 @@ returns-clause-ok c =
     (rule_ok (eqb (length bytes) c.in_ok-end.end) c.in_ok-end.end kinds.Rest
     c.in_ok-rule-2.field-0 c.in_ok-rule-2.ensures) in
     let codes = c.in_ok-end.ensures.gives in
-    opened_from bytes c.in_ok-count.count c.in_ok-listed.listed.items c.as_slice.result.now (8 + 27
-    * c.len.result) c.in_ok-end.end codes.0 c.requires c.in_ok-opening_of.ensures.gives
+    opened_from c.in_ok-version.version bytes c.in_ok-count.count c.in_ok-listed.listed.items
+    c.as_slice.result.now (8 + 27
+    * c.len.result) c.in_ok-end.end codes.0 c.requires c.in_ok-version.ensures.gives
     c.in_ok-count.ensures.gives few c.in_ok-listed.ensures.gives c.as_slice.ensures.value
     (omega (arith, c.len.ensures.value)) codes.1 c.in_ok-end.ensures.end long

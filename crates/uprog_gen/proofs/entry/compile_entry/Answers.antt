@@ -1,8 +1,9 @@
-use Rattle.std.proofs.Common.{◌≤◌, ap, arith, map, length}
+use Rattle.std.proofs.Common.{◌≤◌, ap, subst, arith, map, length}
 use Rattle.std.proofs.lemmas.List.{length-map}
 use Rattle.loop_ir.specs.Plain.{steps_of, step_of}
 use Rattle.uprog_code.specs.Shape.{shape_of}
 use Rattle.loop_ir.specs.Costs.{code_cost}
+use Rattle.uprog_gen.specs.Programs.{HasParts}
 use Rattle.uprog_gen.proofs.Joined.{is_entry, can_at, statement_room, next_statement}
 use Rattle.uprog_gen.proofs.Joined.{all_statements, does_implement}
 use Rattle.uprog_gen.proofs.entry.compile_entry.Goals as goal
@@ -44,16 +45,16 @@ returns-clause-legal c =
     c.loop-statement.code.items (omega arith) c.loop-statement.invariant)
     c.in_ok-push.ensures).legal
 
-pub returns-clause-short : goal.returns-clause-short
-returns-clause-short c =
-    let h = (is_entry (shape_of c.args.head) (map steps_of c.args.statements.now)
+pub returns-clause-parts : goal.returns-clause-parts
+returns-clause-parts c =
+    subst (λ k. HasParts k c.push.new.code.items) (length-map c.args.statements.now steps_of)
+    (is_entry (shape_of c.args.head) (map steps_of c.args.statements.now)
     c.loop-statement.code.items c.push.new.code.items c.requires.can
     (let e : length (map steps_of c.args.statements.now)
     ≤ 16 = omega (arith, length-map c.args.statements.now steps_of, c.requires.few) in
     e) (all_statements c.args.statements.now c.loop-statement.statement-index
     c.loop-statement.code.items (omega arith) c.loop-statement.invariant)
-    c.in_ok-push.ensures).short in
-    omega (arith, h, length-map c.args.statements.now steps_of)
+    c.in_ok-push.ensures).parts
 
 pub returns-clause-does : goal.returns-clause-does
 returns-clause-does c =

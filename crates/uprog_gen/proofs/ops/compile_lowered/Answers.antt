@@ -1,8 +1,9 @@
-use Rattle.std.proofs.Common.{ap, map, length, arith}
+use Rattle.std.proofs.Common.{ap, sym, subst, map, length, arith}
 use Rattle.std.proofs.lemmas.List.{length-map}
 use Rattle.op_text.specs.Language.{operation}
 use Rattle.loop_ir.specs.Plain.{steps_of}
 use Rattle.loop_ir.specs.Statements.{slots_of}
+use Rattle.uprog_gen.specs.Programs.{HasParts}
 use Rattle.uprog_gen.proofs.Meant.{can_compile}
 use Rattle.uprog_gen.proofs.Entries.{lowered_length, entry_compiled, entry_few, if_ok_both}
 use Rattle.uprog_gen.proofs.Entries.{if_ok_three}
@@ -43,16 +44,12 @@ returns-clause-compiled c =
     let ps = map steps_of c.args.lowered.now.programs.items in
     let e = c.compile_entry.ensures in
     if_ok_both c.compile_entry.result _ _ _
-    (λ entry h short.
+    (λ entry h parts.
     entry_compiled op c.requires.meets (slots_of m) m.free_bit m.free_word c.requires.names ps
     c.requires.lowered c.head_of.result entry c.head_of.ensures.name c.head_of.ensures.shape h.0
     h.1 h.2
-    (omega (
-      arith,
-      short,
-      ap length c.deref.ensures.value,
-      length-map c.args.lowered.now.programs.items steps_of,
-    )))
+    (subst (λ k. HasParts k entry.code.items)
+    (sym (length-map c.args.lowered.now.programs.items steps_of)) parts))
     (if_ok_three c.compile_entry.result _ _ _ e.head (rw c.deref.ensures.value at e.implements)
     e.legal)
-    e.short
+    (rw c.deref.ensures.value at e.parts)

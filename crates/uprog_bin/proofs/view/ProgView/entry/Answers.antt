@@ -11,7 +11,8 @@ use Rattle.uprog_bin.proofs.view.ProgView.entry.Goals as goal
 
 pub bounds-listed-from : goal.bounds-listed-from
 bounds-listed-from c =
-    let many = entries_are c.self.inside.bytes.now c.self.inside.listed.items c.args.self.now
+    let many = entries_are c.self.inside.version c.self.inside.bytes.now c.self.inside.listed.items
+    c.args.self.now
     c.self.view_is c.self.invariant in
     omega (arith, many, c.requires, c.from.ensures, ap length c.as_slice-listed.ensures.value)
 
@@ -21,7 +22,8 @@ part-code-requires c =
     let listed = c.self.inside.listed.items in
     let xs = c.as_slice-listed.result.now in
     let l = c.index-listed-from.result in
-    let many = entries_are bytes listed c.args.self.now c.self.view_is c.self.invariant in
+    let many = entries_are c.self.inside.version bytes listed c.args.self.now c.self.view_is
+    c.self.invariant in
     let lt : c.from.result < length xs = omega (
       arith,
       many,
@@ -33,7 +35,8 @@ part-code-requires c =
     ap (λ (ys : List Listed). slice_get ys c.args.k) (sym c.as_slice-listed.ensures.value)
     ∙ ap (slice_get xs) (sym c.from.ensures)
     ∙ slice_get_read xs (length xs) c.from.result l refl lt c.index-listed-from.is in
-    let f = found_in bytes listed c.args.self.now c.args.k l c.self.view_is c.self.invariant at in
+    let f = found_in c.self.inside.version bytes listed c.args.self.now c.args.k l c.self.view_is
+    c.self.invariant at in
     omega (arith, f.within, c.from-2.ensures, ap length c.as_slice-listed.ensures.value)
 
 pub returns-clause-program : goal.returns-clause-program
@@ -42,7 +45,8 @@ returns-clause-program c =
     let listed = c.self.inside.listed.items in
     let xs = c.as_slice-listed.result.now in
     let l = c.index-listed-from.result in
-    let many = entries_are bytes listed c.args.self.now c.self.view_is c.self.invariant in
+    let many = entries_are c.self.inside.version bytes listed c.args.self.now c.self.view_is
+    c.self.invariant in
     let lt : c.from.result < length xs = omega (
       arith,
       many,
@@ -54,7 +58,8 @@ returns-clause-program c =
     ap (λ (ys : List Listed). slice_get ys c.args.k) (sym c.as_slice-listed.ensures.value)
     ∙ ap (slice_get xs) (sym c.from.ensures)
     ∙ slice_get_read xs (length xs) c.from.result l refl lt c.index-listed-from.is in
-    let f = found_in bytes listed c.args.self.now c.args.k l c.self.view_is c.self.invariant at in
+    let f = found_in c.self.inside.version bytes listed c.args.self.now c.args.k l c.self.view_is
+    c.self.invariant at in
     let size = ap length c.as_slice-listed.ensures.value in
     let start : 8 + 27 * length xs + 8 * l.start ≡ 8 + 27 * length listed + 8 * l.start =
     omega arith in
@@ -78,7 +83,8 @@ returns-clause-bytes c =
     let listed = c.self.inside.listed.items in
     let xs = c.as_slice-listed.result.now in
     let l = c.index-listed-from.result in
-    let many = entries_are bytes listed c.args.self.now c.self.view_is c.self.invariant in
+    let many = entries_are c.self.inside.version bytes listed c.args.self.now c.self.view_is
+    c.self.invariant in
     let lt : c.from.result < length xs = omega (
       arith,
       many,
@@ -90,7 +96,8 @@ returns-clause-bytes c =
     ap (λ (ys : List Listed). slice_get ys c.args.k) (sym c.as_slice-listed.ensures.value)
     ∙ ap (slice_get xs) (sym c.from.ensures)
     ∙ slice_get_read xs (length xs) c.from.result l refl lt c.index-listed-from.is in
-    let f = found_in bytes listed c.args.self.now c.args.k l c.self.view_is c.self.invariant at in
+    let f = found_in c.self.inside.version bytes listed c.args.self.now c.args.k l c.self.view_is
+    c.self.invariant at in
     let size = ap length c.as_slice-listed.ensures.value in
     let start : 8 + 27 * length xs + 8 * l.start ≡ 8 + 27 * length listed + 8 * l.start =
     omega arith in
@@ -114,7 +121,8 @@ returns-clause-legal c =
     let listed = c.self.inside.listed.items in
     let xs = c.as_slice-listed.result.now in
     let l = c.index-listed-from.result in
-    let many = entries_are bytes listed c.args.self.now c.self.view_is c.self.invariant in
+    let many = entries_are c.self.inside.version bytes listed c.args.self.now c.self.view_is
+    c.self.invariant in
     let lt : c.from.result < length xs = omega (
       arith,
       many,
@@ -126,7 +134,8 @@ returns-clause-legal c =
     ap (λ (ys : List Listed). slice_get ys c.args.k) (sym c.as_slice-listed.ensures.value)
     ∙ ap (slice_get xs) (sym c.from.ensures)
     ∙ slice_get_read xs (length xs) c.from.result l refl lt c.index-listed-from.is in
-    let f = found_in bytes listed c.args.self.now c.args.k l c.self.view_is c.self.invariant at in
+    let f = found_in c.self.inside.version bytes listed c.args.self.now c.args.k l c.self.view_is
+    c.self.invariant at in
     let size = ap length c.as_slice-listed.ensures.value in
     let start : 8 + 27 * length xs + 8 * l.start ≡ 8 + 27 * length listed + 8 * l.start =
     omega arith in

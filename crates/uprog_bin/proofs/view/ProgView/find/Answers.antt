@@ -11,7 +11,8 @@ returns-in-Some c =
     ∙ c.place_of.ensures.value
     ∙ ap (λ (xs : List Listed). position (is_named c.bytes.result.now) xs) c.as_slice.ensures.value
     ∙ ap (λ (n : List ℕ). position (is_named n) c.self.inside.listed.items) c.bytes.ensures.value
-    ∙ place_is c.self.inside.bytes.now c.self.inside.listed.items c.args.self.now c.args.name.now
+    ∙ place_is c.self.inside.version c.self.inside.bytes.now c.self.inside.listed.items
+    c.args.self.now c.args.name.now
     c.self.view_is c.self.invariant
 
 pub returns-in-None : goal.returns-in-None
@@ -20,5 +21,6 @@ returns-in-None c =
     ∙ c.place_of.ensures.value
     ∙ ap (λ (xs : List Listed). position (is_named c.bytes.result.now) xs) c.as_slice.ensures.value
     ∙ ap (λ (n : List ℕ). position (is_named n) c.self.inside.listed.items) c.bytes.ensures.value
-    ∙ place_is c.self.inside.bytes.now c.self.inside.listed.items c.args.self.now c.args.name.now
+    ∙ place_is c.self.inside.version c.self.inside.bytes.now c.self.inside.listed.items
+    c.args.self.now c.args.name.now
     c.self.view_is c.self.invariant

@@ -1,0 +1,296 @@
+-- How a command that went through its steps ends.
+use Rattle.std.proofs.Common.{◌≡◌, ℕ, ◌+◌, ◌≤◌, List, [], ◌∷◌, ◌++◌, Option, Some, None, refl}
+use Rattle.std.proofs.Common.{sym, ◌∙◌, ap, subst, inl, inr, arith, append_assoc, append-nil}
+use Rattle.std.specs.Prelude.{IfSome}
+use Rattle.host_edge.specs.Views.{Files, Told, RoseBy, AppendsPart}
+use Rattle.cli_model.specs.World.{World}
+use Rattle.cli_model.specs.Steps.{Step, Load, Take, Store, Open, Use, Put, Reason, CannotRead}
+use Rattle.cli_model.specs.Steps.{TooLong, Refused, NoMemory, CannotWrite, PutFailed, ChipFailed}
+use Rattle.cli_model.specs.Steps.{End, Done, Stopped, Goes, Fails}
+use Rattle.cli_model.specs.Stands.{files_after, sent_by, CountsOn, Stands}
+use Rattle.cli_model.specs.Status.{reason_status, reason_line, Says, Tells, end_status}
+use Rattle.cli_model.specs.Ends.{Stop, All, At, Causes, last_bytes, AppendsAfter, Sends}
+use Rattle.cli_model.specs.Ends.{IsStoreOf, LeavesFiles, IsFault, IsForetold, Ends}
+use Rattle.cli_model.specs.Laws.{FirstDecides}
+use Rattle.cli_model.proofs.Causing.{Decided, files_decide}
+use Rattle.cli_model.proofs.Going.{within, more_counts, told_sent, all_stand}
+use Rattle.cli_model.proofs.Going.{all_off, stopped_at}
+
+-- why a step fails
+
+load_causes : (name : List ℕ) (limit : ℕ) (text : List ℕ) (refusal : _) (reason : Reason)
+    (a b : World) → Fails (Load name limit text refusal) reason a b
+    → Causes (Load name limit text refusal) reason a b
+load_causes name limit text refusal (CannotRead told) a b f = (f.0, f.2)
+load_causes name limit text refusal (TooLong told) a b f = (f.0, f.2)
+load_causes name limit text refusal (Refused r) a b f = f.0
+load_causes name limit text refusal NoMemory a b f = tt
+load_causes name limit text refusal (CannotWrite told) a b f = f
+load_causes name limit text refusal PutFailed a b f = f
+load_causes name limit text refusal ChipFailed a b f = f
+
+fails_causes : (step : Step) (reason : Reason) (a b : World) → Fails step reason a b
+    → Causes step reason a b
+fails_causes (Load name limit text refusal) reason a b f =
+    load_causes name limit text refusal reason a b f
+fails_causes Take reason a b f = f.0
+fails_causes (Store name bytes) reason a b f = (f.0, f.1.rose)
+fails_causes Open reason a b (inl f) = inl f.0
+fails_causes Open reason a b (inr f) = inr (f.0, f.2)
+fails_causes Use reason a b f = (f.0, f.2)
+fails_causes (Put bytes) reason a b f = (f.0, f.2)
+
+-- a count that rose between two moments rose between moments around them
+around : (a b c d n : ℕ) → a ≤ b → RoseBy n b c → c ≤ d → RoseBy n a d
+around a b c d n l r m = omega (arith, r)
+
+load_causes_around : (name : List ℕ) (limit : ℕ) (text : List ℕ) (refusal : _) (reason : Reason)
+    (a b c d : World) → CountsOn a b → CountsOn c d
+    → Causes (Load name limit text refusal) reason b c
+    → Causes (Load name limit text refusal) reason a d
+load_causes_around name limit text refusal (CannotRead told) a b c d p q f =
+    (f.0, around _ _ _ _ 1 (p.files.load_faults name) f.1 (q.files.load_faults name))
+load_causes_around name limit text refusal (TooLong told) a b c d p q f =
+    (f.0, around _ _ _ _ (limit + 1) p.files.taken f.1 q.files.taken)
+load_causes_around name limit text refusal (Refused r) a b c d p q f = f
+load_causes_around name limit text refusal NoMemory a b c d p q f = tt
+load_causes_around name limit text refusal (CannotWrite told) a b c d p q f = f
+load_causes_around name limit text refusal PutFailed a b c d p q f = f
+load_causes_around name limit text refusal ChipFailed a b c d p q f = f
+
+causes_around : (step : Step) (reason : Reason) (a b c d : World) → CountsOn a b → CountsOn c d
+    → Causes step reason b c → Causes step reason a d
+causes_around (Load name limit text refusal) reason a b c d p q f =
+    load_causes_around name limit text refusal reason a b c d p q f
+causes_around Take reason a b c d p q f = f
+causes_around (Store name bytes) reason a b c d p q f =
+    (f.0, around _ _ _ _ 1 p.files.store_faults f.1 q.files.store_faults)
+causes_around Open reason a b c d p q (inl f) = inl f
+causes_around Open reason a b c d p q (inr f) = inr (f.0, around _ _ _ _ 1 p.chip f.1 q.chip)
+causes_around Use reason a b c d p q f = (f.0, around _ _ _ _ 1 p.chip f.1 q.chip)
+causes_around (Put bytes) reason a b c d p q f = (f.0, around _ _ _ _ 1 p.sink f.1 q.sink)
+
+-- what was sent
+
+told_part : (certain last : List ℕ) (a b c : Option (List ℕ))
+    → Told (λ x y. y ≡ x ++ certain) a b → Told (AppendsPart last) b c
+    → Told (AppendsAfter certain last) a c
+told_part certain last None b c p q = tt
+told_part certain last (Some x) None c p q = absurd p
+told_part certain last (Some x) (Some y) None p q = absurd q
+told_part certain last (Some x) (Some y) (Some z) p (part, (is, e)) =
+    (part, (is, e ∙ ap (λ w. w ++ part) p ∙ append_assoc x certain part))
+
+-- a line behind what was sent
+line_sent : (certain line : List ℕ) (a b c d : World)
+    → Told (λ x y. y ≡ x ++ certain) a.sink.sent b.sink.sent → a.sink.faults ≤ b.sink.faults
+    → c.sink ≡ b.sink → Says line c d → Sends certain line a d
+line_sent certain line a b c d t l e s =
+    let before : Told (λ x y. y ≡ x ++ certain) a.sink.sent c.sink.sent =
+    subst (λ (k : _). Told (λ x y. y ≡ x ++ certain) a.sink.sent k.sent) (sym e) t in
+    let below : a.sink.faults ≤ c.sink.faults =
+    subst (λ (k : _). a.sink.faults ≤ k.faults) (sym e) l in
+    elim s.sent as (λ _. Sends certain line a d) [
+      | inl whole ↦ inl (told_sent certain line _ _ _ before whole)
+      | inr part ↦ inr (within _ _ _ 1 below part.0, told_part certain line _ _ _ before part.1)
+    ]
+
+no_part : (part rest : List ℕ) → part ++ rest ≡ [] → part ≡ []
+no_part [] rest e = refl
+no_part (x ∷ part) rest e = absurd (cc)
+
+nothing_more : (x y : List ℕ) → AppendsPart [] x y → y ≡ x
+nothing_more x y (part, ((rest, p), e)) =
+    e ∙ ap (λ w. x ++ w) (no_part part rest p) ∙ append-nil x
+
+told_nothing : (a b : Option (List ℕ)) → Told (AppendsPart []) a b → Told (λ x y. y ≡ x) a b
+told_nothing None b t = tt
+told_nothing (Some x) None t = absurd t
+told_nothing (Some x) (Some y) t = nothing_more x y t
+
+told_empty : (a b : Option (List ℕ)) → Told (λ x y. y ≡ x ++ []) a b → Told (λ x y. y ≡ x) a b
+told_empty None b t = tt
+told_empty (Some x) None t = absurd t
+told_empty (Some x) (Some y) t = t ∙ append-nil x
+
+says_nothing : (a b : World) → Says [] a b → Told (λ x y. y ≡ x) a.sink.sent b.sink.sent
+says_nothing a b s = elim s.sent as (λ _. Told (λ x y. y ≡ x) a.sink.sent b.sink.sent) [
+  | inl whole ↦ told_empty _ _ whole
+  | inr part ↦ told_nothing _ _ part.1
+]
+
+told_then_same : (bytes : List ℕ) (a b c : Option (List ℕ)) → Told (AppendsPart bytes) a b
+    → Told (λ x y. y ≡ x) b c → Told (AppendsPart bytes) a c
+told_then_same bytes None b c p q = tt
+told_then_same bytes (Some x) None c p q = absurd p
+told_then_same bytes (Some x) (Some y) None p q = absurd q
+told_then_same bytes (Some x) (Some y) (Some z) p q = subst (AppendsPart bytes x) (sym q) p
+
+load_sink : (name : List ℕ) (limit : ℕ) (text : List ℕ) (refusal : _) (reason : Reason)
+    (a b : World) → Fails (Load name limit text refusal) reason a b → b.sink ≡ a.sink
+load_sink name limit text refusal (CannotRead told) a b f = f.1.sink
+load_sink name limit text refusal (TooLong told) a b f = f.1.sink
+load_sink name limit text refusal (Refused r) a b f = f.1.reads.sink
+load_sink name limit text refusal NoMemory a b f = f.sink
+load_sink name limit text refusal (CannotWrite told) a b f = elim f [ ]
+load_sink name limit text refusal PutFailed a b f = elim f [ ]
+load_sink name limit text refusal ChipFailed a b f = elim f [ ]
+
+put_sent : (certain bytes : List ℕ) (reason : Reason) (a b c d : World)
+    → Told (λ x y. y ≡ x ++ certain) a.sink.sent b.sink.sent → a.sink.faults ≤ b.sink.faults
+    → Fails (Put bytes) reason b c → Says (reason_line reason) c d → Sends certain bytes a d
+put_sent certain bytes reason a b c d t l f s =
+    let says : Says [] c d = subst (λ (r : Reason). Says (reason_line r) c d) f.0 s in
+    inr (
+      around _ _ _ _ 1 l f.2 says.faults,
+      told_part certain bytes _ _ _ t
+          (told_then_same bytes _ _ _ f.1.sent (says_nothing c d says)),
+    )
+
+stop_sent : (certain : List ℕ) (step : Step) (reason : Reason) (a b c d : World)
+    → Told (λ x y. y ≡ x ++ certain) a.sink.sent b.sink.sent → a.sink.faults ≤ b.sink.faults
+    → Fails step reason b c → Says (reason_line reason) c d
+    → Sends certain (last_bytes step reason) a d
+stop_sent certain (Load name limit text refusal) reason a b c d t l f s =
+    line_sent certain (reason_line reason) a b c d t l
+    (load_sink name limit text refusal reason b c f) s
+stop_sent certain Take reason a b c d t l f s =
+    line_sent certain (reason_line reason) a b c d t l f.1.sink s
+stop_sent certain (Store name bytes) reason a b c d t l f s =
+    line_sent certain (reason_line reason) a b c d t l f.1.sink s
+stop_sent certain Open reason a b c d t l (inl f) s =
+    line_sent certain (reason_line reason) a b c d t l f.1.sink s
+stop_sent certain Open reason a b c d t l (inr f) s =
+    line_sent certain (reason_line reason) a b c d t l f.1.sink s
+stop_sent certain Use reason a b c d t l f s =
+    line_sent certain (reason_line reason) a b c d t l f.1.sink s
+stop_sent certain (Put bytes) reason a b c d t l f s =
+    put_sent certain bytes reason a b c d t l f s
+
+-- which files stand
+
+abbrev KeepsBut : Step → Files → Files → Type 0
+KeepsBut step old new = (name : List ℕ) → (IsStoreOf name step → ⊥) → new name ≡ old name
+
+told_kept : (step : Step) (a b : Option Files) → b ≡ a → Told (KeepsBut step) a b
+told_kept step None b e = tt
+told_kept step (Some x) b e =
+    subst (λ (o : Option Files). Told (KeepsBut step) (Some x) o) (sym e) (λ name not. refl)
+
+load_files : (name : List ℕ) (limit : ℕ) (text : List ℕ) (refusal : _) (reason : Reason)
+    (a b : World) → Fails (Load name limit text refusal) reason a b
+    → b.files.holds ≡ a.files.holds
+load_files name limit text refusal (CannotRead told) a b f = f.1.files
+load_files name limit text refusal (TooLong told) a b f = f.1.files
+load_files name limit text refusal (Refused r) a b f = f.1.reads.files
+load_files name limit text refusal NoMemory a b f = f.files
+load_files name limit text refusal (CannotWrite told) a b f = elim f [ ]
+load_files name limit text refusal PutFailed a b f = elim f [ ]
+load_files name limit text refusal ChipFailed a b f = elim f [ ]
+
+fails_files : (step : Step) (reason : Reason) (a b : World) → Fails step reason a b
+    → Told (KeepsBut step) a.files.holds b.files.holds
+fails_files (Load name limit text refusal) reason a b f =
+    told_kept (Load name limit text refusal) _ _ (load_files name limit text refusal reason a b f)
+fails_files Take reason a b f = told_kept Take _ _ f.1.files
+fails_files (Store name bytes) reason a b f = f.1.others
+fails_files Open reason a b (inl f) = told_kept Open _ _ (ap (λ k. k.holds) f.1.files)
+fails_files Open reason a b (inr f) = told_kept Open _ _ (ap (λ k. k.holds) f.1.files)
+fails_files Use reason a b f = told_kept Use _ _ (ap (λ k. k.holds) f.1.files)
+fails_files (Put bytes) reason a b f = told_kept (Put bytes) _ _ (ap (λ k. k.holds) f.1.files)
+
+told_left : (stop : Stop) (a b c d : Option Files)
+    → Told (λ x y. y ≡ files_after stop.before x) a b → Told (KeepsBut stop.failed) b c → d ≡ c
+    → Told (LeavesFiles stop) a d
+told_left stop None b c d p q e = tt
+told_left stop (Some x) None c d p q e = absurd p
+told_left stop (Some x) (Some y) None d p q e = absurd q
+told_left stop (Some x) (Some y) (Some z) d p q e =
+    subst (λ (o : Option Files). Told (LeavesFiles stop) (Some x) o) (sym e)
+    (λ name not. q name not ∙ ap (λ (f : Files). f name) p)
+
+-- what the files foretell
+
+if_told : (o : Option Files) (P : Files → Type 0) → ((files : Files) → o ≡ Some files → P files)
+    → IfSome o P
+if_told None P h = tt
+if_told (Some files) P h = h files refl
+
+done_foretold : (steps : List Step) (files : Files) → Decided steps Done files
+    → IsForetold steps All files
+done_foretold steps files (inl e) = sym e
+done_foretold steps files (inr (reason, e, is)) = absurd (cc)
+
+stop_foretold : (steps : List Step) (stop : Stop) (files : Files)
+    → Decided steps (Stopped stop.reason) files → IsForetold steps (At stop) files
+stop_foretold steps stop files (inl e) = inl (sym e)
+stop_foretold steps stop files (inr (reason, e, is)) =
+    let same : stop.reason ≡ reason = cc in inr (subst IsFault (sym same) is)
+
+says_counts : (line : List ℕ) (a b : World) → Says line a b → CountsOn a b
+says_counts line a b s = record {
+  files = record {
+    load_faults = λ name. rw (ap (λ f. f.load_faults name) s.files) (omega arith);
+    store_faults = rw (ap (λ f. f.store_faults) s.files) (omega arith);
+    taken = rw (ap (λ f. f.taken) s.files) (omega arith);
+  };
+  sink = s.faults;
+  chip = rw (ap (λ v. v.faults) s.chip) (omega arith);
+}
+
+same_world : (steps : List Step) (a b c : World) → c ≡ b → Stands steps a b → Stands steps a c
+same_world steps a b c e s = subst (Stands steps a) (sym e) s
+
+-- the end of a command that was done, and of one that stopped
+pub all_ends : (steps : List Step) (done : ℕ) (a b c : World) (status : ℕ) → Goes steps Done a b
+    → c ≡ b → status ≡ done → (e : Ends steps done a c status) × (e.ended ≡ All)
+all_ends steps done a b c status g e answers =
+    let stands = same_world steps a b c e (all_stand steps a b g) in
+    let ends : Ends steps done a c status = record {
+      ended = All;
+      so = record { answers = answers; sent = stands.sent; files = stands.files };
+      foretold = if_told a.files.holds (IsForetold steps All)
+          (λ files there. done_foretold steps files (files_decide steps Done a b files g there));
+      counts = stands.counts;
+      chip = λ off. ap (λ w. w.chip) e ∙ all_off steps a b g off;
+    } in
+    (ends, refl)
+
+pub stop_ends : (steps : List Step) (done : ℕ) (reason : Reason) (a b c : World) (status : ℕ)
+    → Goes steps (Stopped reason) a b → Says (reason_line reason) b c
+    → status ≡ reason_status reason
+    → (stop : Stop) × (e : Ends steps done a c status) × (e.ended ≡ At stop)
+stop_ends steps done reason a b c status g says answers =
+    let s = stopped_at steps reason a b g in
+    let stop : Stop =
+    record { before = s.front; failed = s.at; behind = s.rest; reason = reason } in
+    let ends : Ends steps done a c status = record {
+      ended = At stop;
+      so = record {
+        place = s.parts;
+        answers = answers;
+        causes = causes_around s.at reason a s.failing b c s.stands.counts (says_counts _ b c says)
+            (fails_causes s.at reason s.failing b s.fails);
+        sent = stop_sent (sent_by s.front) s.at reason a s.failing b c s.stands.sent
+            s.stands.counts.sink s.fails says;
+        files = told_left stop _ _ _ _ s.stands.files
+            (fails_files s.at reason s.failing b s.fails) (ap (λ f. f.holds) says.files);
+      };
+      foretold = if_told a.files.holds (IsForetold steps (At stop))
+          (λ files there. stop_foretold steps stop files
+          (files_decide steps (Stopped reason) a b files g there));
+      counts = more_counts a b c s.counts (says_counts _ b c says);
+      chip = λ off. says.chip ∙ s.off off;
+    } in
+    (stop, ends, refl)
+
+ends_by : (steps : List Step) (done : ℕ) (end : End) (a b c : World) (status : ℕ)
+    → Goes steps end a b → Tells end b c → status ≡ end_status done end
+    → Ends steps done a c status
+ends_by steps done Done a b c status g t answers = (all_ends steps done a b c status g t answers).0
+ends_by steps done (Stopped reason) a b c status g t answers =
+    (stop_ends steps done reason a b c status g t answers).1
+
+pub first_decides : FirstDecides
+first_decides steps done old new status ran =
+    ends_by steps done ran.end old ran.stopped new status ran.goes ran.tells ran.answers

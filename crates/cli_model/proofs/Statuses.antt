@@ -1,0 +1,168 @@
+-- Which statuses a command can answer, and steps that would come after its end.
+use Rattle.std.proofs.Common.{◌≡◌, ℕ, Bool, true, false, cond, List, [], ◌∷◌, ◌++◌, Option}
+use Rattle.std.proofs.Common.{Some, None, refl, sym, ◌∙◌, ap, subst, inl, inr, append_assoc}
+use Rattle.std.specs.Prelude.{IfSome, length, nat_lt}
+use Rattle.std.specs.List.{list_any}
+use Rattle.host_edge.specs.Views.{Files}
+use Rattle.cli_model.specs.World.{World, with_file}
+use Rattle.cli_model.specs.Steps.{Step, Load, Take, Store, Open, Use, Put, Refusal, Reason}
+use Rattle.cli_model.specs.Steps.{CannotRead, TooLong, Refused, NoMemory, CannotWrite, PutFailed}
+use Rattle.cli_model.specs.Steps.{ChipFailed, End, Stopped}
+use Rattle.cli_model.specs.Status.{reason_status}
+use Rattle.cli_model.specs.Ends.{Stop, Ended, All, At, Causes, IsStopped, EndsSo, Ends}
+use Rattle.cli_model.specs.Ends.{IsForetold, is_on_chip, begun_steps}
+use Rattle.cli_model.specs.Foreseen.{foreseen, load_end, refused_or}
+
+-- the statuses that a step that fails can give have the property
+abbrev pub OfRefusal : (ℕ → Type 0) → Option Refusal → Type 0
+OfRefusal P None = Unit {0}
+OfRefusal P (Some refusal) = P refusal.status
+
+abbrev pub OfStep : (ℕ → Type 0) → Step → Type 0
+OfStep P (Load name limit text refusal) = P 2 × P 11 × P 10 × OfRefusal P refusal
+OfStep P Take = P 10
+OfStep P (Store name bytes) = P 3
+OfStep P Open = P 9 × P 10
+OfStep P Use = P 9
+OfStep P (Put bytes) = P 3
+
+abbrev pub OfSteps : (ℕ → Type 0) → List Step → Type 0
+OfSteps P [] = Unit {0}
+OfSteps P (step ∷ steps) = OfStep P step × OfSteps P steps
+
+pub of_more : (P : ℕ → Type 0) (xs ys : List Step) → OfSteps P xs → OfSteps P ys
+    → OfSteps P (xs ++ ys)
+of_more P [] ys h k = k
+of_more P (x ∷ xs) ys h k = (h.0, of_more P xs ys h.1 k)
+
+refused_so : (P : ℕ → Type 0) (refusal : Option Refusal) (told : Refusal) → refusal ≡ Some told
+    → OfRefusal P refusal → P told.status
+refused_so P None told e h = absurd (cc)
+refused_so P (Some r) told e h = let same : r ≡ told = cc in
+    subst (λ (x : Refusal). P x.status) same h
+
+load_so : (P : ℕ → Type 0) (name : List ℕ) (limit : ℕ) (text : List ℕ) (refusal : Option Refusal)
+    (reason : Reason) (a b : World) → OfStep P (Load name limit text refusal)
+    → Causes (Load name limit text refusal) reason a b → P (reason_status reason)
+load_so P name limit text refusal (CannotRead told) a b h c = h.0
+load_so P name limit text refusal (TooLong told) a b h c = h.1
+load_so P name limit text refusal (Refused told) a b h c = refused_so P refusal told c h.3
+load_so P name limit text refusal NoMemory a b h c = h.2
+load_so P name limit text refusal (CannotWrite told) a b h c = elim c [ ]
+load_so P name limit text refusal PutFailed a b h c = elim c [ ]
+load_so P name limit text refusal ChipFailed a b h c = elim c [ ]
+
+reason_so : (P : ℕ → Type 0) (reason other : Reason) → reason ≡ other → P (reason_status other)
+    → P (reason_status reason)
+reason_so P reason other e h = subst (λ (r : Reason). P (reason_status r)) (sym e) h
+
+step_so : (P : ℕ → Type 0) (step : Step) (reason : Reason) (a b : World) → OfStep P step
+    → Causes step reason a b → P (reason_status reason)
+step_so P (Load name limit text refusal) reason a b h c =
+    load_so P name limit text refusal reason a b h c
+step_so P Take reason a b h c = reason_so P reason NoMemory c h
+step_so P (Store name bytes) reason a b h c = reason_so P reason (CannotWrite name) c.0 h
+step_so P Open reason a b h (inl c) = reason_so P reason NoMemory c h.1
+step_so P Open reason a b h (inr c) = reason_so P reason ChipFailed c.0 h.0
+step_so P Use reason a b h c = reason_so P reason ChipFailed c.0 h
+step_so P (Put bytes) reason a b h c = reason_so P reason PutFailed c.0 h
+
+of_middle : (P : ℕ → Type 0) (front : List Step) (at : Step) (rest : List Step)
+    → OfSteps P (front ++ at ∷ rest) → OfStep P at
+of_middle P [] at rest h = h.0
+of_middle P (x ∷ front) at rest h = of_middle P front at rest h.1
+
+-- a command that stopped answers one of them
+pub stop_so : (P : ℕ → Type 0) (steps : List Step) (stop : Stop) (a b : World) (status : ℕ)
+    → OfSteps P steps → IsStopped steps stop a b status → P status
+stop_so P steps stop a b status h s =
+    subst P (sym s.answers) (step_so P stop.failed stop.reason a b
+    (of_middle P stop.before stop.failed stop.behind (subst (OfSteps P) (sym s.place) h)) s.causes)
+
+end_so : (P : ℕ → Type 0) (steps : List Step) (done : ℕ) (ended : Ended) (a b : World)
+    (status : ℕ) → P done → OfSteps P steps → EndsSo steps done ended a b status → P status
+end_so P steps done All a b status d h s = subst P (sym s.answers) d
+end_so P steps done (At stop) a b status d h s = stop_so P steps stop a b status h s
+
+pub ends_so : (P : ℕ → Type 0) (steps : List Step) (done : ℕ) (a b : World) (status : ℕ) → P done
+    → OfSteps P steps → Ends steps done a b status → P status
+ends_so P steps done a b status d h e = end_so P steps done e.ended a b status d h e.so
+
+-- where the status is none that a step that fails can give, all was done
+pub all_done : (steps : List Step) (done : ℕ) (ended : Ended) (a b : World) (status : ℕ)
+    → OfSteps (λ s. s ≡ status → ⊥) steps → EndsSo steps done ended a b status → ended ≡ All
+all_done steps done All a b status h s = refl
+all_done steps done (At stop) a b status h s =
+    absurd (stop_so (λ s. s ≡ status → ⊥) steps stop a b status h s refl)
+
+-- an end is not undone by steps that would come after it
+
+or_stopped : (refusal : Option Refusal) (one other end : End) → refused_or refusal one ≡ end
+    → (one ≡ end → other ≡ end) → refused_or refusal other ≡ end
+or_stopped None one other end e f = f e
+or_stopped (Some refusal) one other end e f = e
+
+cond_stopped : (b : Bool) (long one other end : End) → cond b long one ≡ end
+    → (one ≡ end → other ≡ end) → cond b long other ≡ end
+cond_stopped true long one other end e f = e
+cond_stopped false long one other end e f = f e
+
+load_stopped : (name : List ℕ) (limit : ℕ) (refusal : Option Refusal) (file : Option (List ℕ))
+    (one other end : End) → load_end name limit refusal file one ≡ end
+    → (one ≡ end → other ≡ end) → load_end name limit refusal file other ≡ end
+load_stopped name limit refusal None one other end e f = e
+load_stopped name limit refusal (Some bytes) one other end e f =
+    cond_stopped (nat_lt limit (length bytes)) (Stopped (TooLong name)) (refused_or refusal one)
+    (refused_or refusal other) end e (λ r. or_stopped refusal one other end r f)
+
+foreseen_more : (xs ys : List Step) (files : Files) (reason : Reason)
+    → foreseen xs files ≡ Stopped reason → foreseen (xs ++ ys) files ≡ Stopped reason
+foreseen_more [] ys files reason e = absurd (cc)
+foreseen_more (Load name limit text refusal ∷ xs) ys files reason e =
+    load_stopped name limit refusal (files name) (foreseen xs files) (foreseen (xs ++ ys) files)
+    (Stopped reason) e (foreseen_more xs ys files reason)
+foreseen_more (Take ∷ xs) ys files reason e = foreseen_more xs ys files reason e
+foreseen_more (Store name bytes ∷ xs) ys files reason e =
+    foreseen_more xs ys (with_file name bytes files) reason e
+foreseen_more (Open ∷ xs) ys files reason e = foreseen_more xs ys files reason e
+foreseen_more (Use ∷ xs) ys files reason e = foreseen_more xs ys files reason e
+foreseen_more (Put bytes ∷ xs) ys files reason e = foreseen_more xs ys files reason e
+
+foretold_more : (xs ys : List Step) (stop : Stop) (holds : Option Files)
+    → IfSome holds (IsForetold xs (At stop)) → IfSome holds (IsForetold (xs ++ ys) (At stop))
+foretold_more xs ys stop None h = tt
+foretold_more xs ys stop (Some files) (inl e) = inl (foreseen_more xs ys files stop.reason e)
+foretold_more xs ys stop (Some files) (inr f) = inr f
+
+pub stopped_more : (xs ys : List Step) (stop : Stop) (a b : World) (status : ℕ)
+    → IsStopped xs stop a b status
+    → IsStopped (xs ++ ys) (record stop { behind = stop.behind ++ ys }) a b status
+stopped_more xs ys stop a b status s = record {
+  place = sym (append_assoc stop.before (stop.failed ∷ stop.behind) ys)
+      ∙ ap (λ zs. zs ++ ys) s.place;
+  answers = s.answers;
+  causes = s.causes;
+  sent = s.sent;
+  files = s.files;
+}
+
+-- the whole end, with the steps that would come after it
+pub end_more : (xs ys : List Step) (done other : ℕ) (stop : Stop) (a b : World) (status : ℕ)
+    → (e : Ends xs done a b status) → e.ended ≡ At stop
+    → (f : Ends (xs ++ ys) other a b status) × (f.ended
+    ≡ At (record stop { behind = stop.behind ++ ys }))
+end_more xs ys done other stop a b status e is =
+    let so : IsStopped xs stop a b status =
+    subst (λ (x : Ended). EndsSo xs done x a b status) is e.so in
+    let told : IfSome a.files.holds (IsForetold xs (At stop)) =
+    subst (λ (x : Ended). IfSome a.files.holds (IsForetold xs x)) is e.foretold in
+    let more : Stop = record stop { behind = stop.behind ++ ys } in
+    let whole : Ends (xs ++ ys) other a b status = record {
+      ended = At more;
+      so = stopped_more xs ys stop a b status so;
+      foretold = foretold_more xs ys stop a.files.holds told;
+      counts = e.counts;
+      chip = λ off. e.chip (subst (λ (x : Ended). list_any is_on_chip (begun_steps xs x)
+          ≡ false) (sym is) off);
+    } in
+    (whole, refl)

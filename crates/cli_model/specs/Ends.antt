@@ -1,0 +1,148 @@
+-- How every command ends: its status, why, what was sent and which files stand, over its steps.
+use Rattle.std.specs.Prelude.{◌≡◌, ◌⊎◌, ℕ, ◌+◌, Bool, true, false, List, [], ◌∷◌, ◌++◌}
+use Rattle.std.specs.Prelude.{Some, IfSome}
+use Rattle.std.specs.List.{list_any}
+use Rattle.host_edge.specs.Views.{Files, Told, Rose, RoseBy, IsPrefix}
+use Rattle.cli_model.specs.World.{World}
+use Rattle.cli_model.specs.Steps.{Step, Load, Take, Store, Open, Use, Put, Reason, CannotRead}
+use Rattle.cli_model.specs.Steps.{TooLong, Refused, NoMemory, CannotWrite, PutFailed, ChipFailed}
+use Rattle.cli_model.specs.Steps.{Done, Stopped}
+use Rattle.cli_model.specs.Stands.{files_after, sent_by, CountsOn}
+use Rattle.cli_model.specs.Status.{reason_status, reason_line}
+use Rattle.cli_model.specs.Foreseen.{foreseen}
+
+-- Where a command stopped: the steps before were done, this one failed for this reason, and those
+-- behind were not begun
+pub record Stop : Type 0 where
+  pub before : List Step
+  pub failed : Step
+  pub behind : List Step
+  pub reason : Reason
+
+-- all steps were done, or it stopped
+pub data Ended : Type 0 where
+  All : Ended
+  At : Stop → Ended
+
+-- Why a step fails: a count rose in this call, the text of its file is refused, or memory was
+-- wanting
+abbrev pub Causes : Step → Reason → World → World → Type 0
+Causes (Load name limit text refusal) (CannotRead told) old new =
+    (told ≡ name) × Rose (old.files.load_faults name) (new.files.load_faults name)
+Causes (Load name limit text refusal) (TooLong told) old new =
+    (told ≡ name) × RoseBy (limit + 1) old.files.taken new.files.taken
+Causes (Load name limit text refusal) (Refused told) old new = refusal ≡ Some told
+Causes (Load name limit text refusal) NoMemory old new = Unit {0}
+Causes (Load name limit text refusal) _ old new = ⊥
+Causes Take reason old new = reason ≡ NoMemory
+Causes (Store name bytes) reason old new =
+    (reason ≡ CannotWrite name) × Rose old.files.store_faults new.files.store_faults
+Causes Open reason old new =
+    (reason ≡ NoMemory) ⊎ ((reason ≡ ChipFailed) × Rose old.chip.faults new.chip.faults)
+Causes Use reason old new = (reason ≡ ChipFailed) × Rose old.chip.faults new.chip.faults
+Causes (Put bytes) reason old new =
+    (reason ≡ PutFailed) × Rose old.sink.faults new.sink.faults
+
+-- what is sent last: the line that tells why, or what could not be put
+abbrev pub last_bytes : Step → Reason → List ℕ
+last_bytes (Put bytes) reason = bytes
+last_bytes (Load name limit text refusal) reason = reason_line reason
+last_bytes Take reason = reason_line reason
+last_bytes (Store name bytes) reason = reason_line reason
+last_bytes Open reason = reason_line reason
+last_bytes Use reason = reason_line reason
+
+-- a part of the last bytes came behind those that are certain
+abbrev pub AppendsAfter : (certain last : List ℕ) → List ℕ → List ℕ → Type 0
+AppendsAfter certain last old new =
+    (part : List ℕ) × (IsPrefix part last × (new ≡ old ++ (certain ++ part)))
+
+-- all of it was sent, or a part of the last bytes is missing and the sink's count of faults rose
+abbrev pub Sends : (certain last : List ℕ) → World → World → Type 0
+Sends certain last old new =
+    Told (λ before after. after ≡ before ++ (certain ++ last)) old.sink.sent new.sink.sent
+    ⊎ (Rose old.sink.faults new.sink.faults
+    × Told (AppendsAfter certain last) old.sink.sent new.sink.sent)
+
+-- the step stores the file of this name
+abbrev pub IsStoreOf : List ℕ → Step → Type 0
+IsStoreOf name (Store other bytes) = name ≡ other
+IsStoreOf name (Load other limit text refusal) = ⊥
+IsStoreOf name Take = ⊥
+IsStoreOf name Open = ⊥
+IsStoreOf name Use = ⊥
+IsStoreOf name (Put bytes) = ⊥
+
+-- some step stores the file of this name
+abbrev pub Stores : List ℕ → List Step → Type 0
+Stores name [] = ⊥
+Stores name (step ∷ steps) = IsStoreOf name step ⊎ Stores name steps
+
+-- The files are as the stores before it left them, but for one that could not be stored
+abbrev pub LeavesFiles : Stop → Files → Files → Type 0
+LeavesFiles stop old new = (name : List ℕ) → (IsStoreOf name stop.failed → ⊥)
+    → new name ≡ files_after stop.before old name
+
+-- a step begins or uses the chip
+abbrev pub is_on_chip : Step → Bool
+is_on_chip (Load name limit text refusal) = false
+is_on_chip Take = false
+is_on_chip (Store name bytes) = false
+is_on_chip Open = true
+is_on_chip Use = true
+is_on_chip (Put bytes) = false
+
+-- the steps that were begun
+abbrev pub begun_steps : List Step → Ended → List Step
+begun_steps steps All = steps
+begun_steps steps (At stop) = stop.before ++ stop.failed ∷ []
+
+-- the steps that were done
+abbrev pub done_steps : List Step → Ended → List Step
+done_steps steps All = steps
+done_steps steps (At stop) = stop.before
+
+-- all of its steps were done
+pub record IsAllDone (steps : List Step) (done : ℕ) (old new : World) (status : ℕ) : Type 0 where
+  pub answers : status ≡ done
+  pub sent : Told (λ before after. after ≡ before ++ sent_by steps) old.sink.sent new.sink.sent
+  pub files : Told (λ before after. after ≡ files_after steps before) old.files.holds
+      new.files.holds
+
+-- it stopped there
+pub record IsStopped (steps : List Step) (stop : Stop) (old new : World) (status : ℕ) : Type 0 where
+  pub place : stop.before ++ stop.failed ∷ stop.behind ≡ steps
+  pub answers : status ≡ reason_status stop.reason
+  pub causes : Causes stop.failed stop.reason old new
+  pub sent : Sends (sent_by stop.before) (last_bytes stop.failed stop.reason) old new
+  pub files : Told (LeavesFiles stop) old.files.holds new.files.holds
+
+abbrev pub EndsSo : List Step → ℕ → Ended → World → World → ℕ → Type 0
+EndsSo steps done All old new status = IsAllDone steps done old new status
+EndsSo steps done (At stop) old new status = IsStopped steps stop old new status
+
+-- a fault that no file foretells: one that a count tells, or want of memory
+abbrev pub IsFault : Reason → Type 0
+IsFault (CannotRead name) = Unit {0}
+IsFault (TooLong name) = ⊥
+IsFault (Refused refusal) = ⊥
+IsFault NoMemory = Unit {0}
+IsFault (CannotWrite name) = Unit {0}
+IsFault PutFailed = Unit {0}
+IsFault ChipFailed = Unit {0}
+
+-- it ends as its files foretell, or by a fault
+abbrev pub IsForetold : List Step → Ended → Files → Type 0
+IsForetold steps All files = foreseen steps files ≡ Done
+IsForetold steps (At stop) files =
+    (foreseen steps files ≡ Stopped stop.reason) ⊎ IsFault stop.reason
+
+-- A command of these steps ends with this status, and with `done` where all of them were done: the
+-- first event decides. No count of faults falls, and the chip is as it was where no step on it was
+-- begun
+pub record Ends (steps : List Step) (done : ℕ) (old new : World) (status : ℕ) : Type 0 where
+  pub ended : Ended
+  pub so : EndsSo steps done ended old new status
+  pub foretold : IfSome old.files.holds (IsForetold steps ended)
+  pub counts : CountsOn old new
+  pub chip : list_any is_on_chip (begun_steps steps ended) ≡ false → new.chip ≡ old.chip

@@ -1,0 +1,3 @@
+-- Fields of files.
+pub mod Fields
+pub use Rattle.text_lex.specs.Spelled

@@ -1,9 +1,0 @@
-use Rattle.std.proofs.Common.{◌≡◌, ◌+◌, ◌-◌, ◌∷◌, ◌++◌, replicate, length}
-use Rattle.arrayvec.specs.ArrayVec.{array_vec_len}
-use Rattle.object_alloc.proofs.spelling.put_name.Given as goal
-
-abbrev pub invariant-loop-k : goal.invariant-loop-k
-invariant-loop-k l = record {
-  items : l.out.items ≡ length l.name ∷ l.name ++ replicate (l._k - length l.name) 0;
-  len : array_vec_len l.out ≡ 1 + l._k;
-}

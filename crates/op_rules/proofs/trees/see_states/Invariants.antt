@@ -1,6 +1,0 @@
-use Rattle.std.proofs.Common.{take}
-use Rattle.op_text.specs.Spelling.{Each, HasState}
-use Rattle.op_rules.proofs.trees.see_states.Given as goal
-
-abbrev pub invariant-loop-state : goal.invariant-loop-state
-invariant-loop-state l = Each HasState (take l.state-index l.states)

@@ -1,0 +1,228 @@
+-- What the top call promises, from how a command ends.
+use Rattle.std.proofs.Common.{◌≡◌, ◌⊎◌, inl, inr, arith, ℕ, Bool, true, false, cond, List, [], ◌∷◌}
+use Rattle.std.proofs.Common.{◌+◌, ◌++◌, Option, Some, None, refl, sym, subst}
+use Rattle.std.specs.Prelude.{Result, Ok, Err, ◌↔◌, ◌==◌, ◌&&◌, bytes_eq, codes, IfSome}
+use Rattle.std.specs.List.{list_any}
+use denote.Ref.{Bor}
+use Rattle.host_edge.specs.Views.{Told}
+use Rattle.bbop_isa.specs.Forms.{Instruction}
+use Rattle.machine_model.specs.Operations.{Program}
+use Rattle.machine_model.specs.Opened.{Image}
+use Rattle.machine_model.specs.Report.{Said, total_line}
+use Rattle.op_text.specs.declared.fault.OpsFault.{OpsFault}
+use Rattle.op_text.specs.Language.{Operation}
+use Rattle.op_text.specs.Lines.{fault_in}
+use Rattle.op_print.specs.Canonical.{canonical_text}
+use Rattle.object_alloc.specs.Reading.{ImageFault}
+use Rattle.object_alloc.specs.Reading.{Found, image_in}
+use Rattle.bbop_isa.specs.Lines.{lines_of}
+use Rattle.cli_model.specs.World.{World}
+use Rattle.cli_model.specs.Steps.{Step, Use, Take, Store, Put, Refusal, loading}
+use Rattle.cli_model.specs.Ends.{Ends}
+use Rattle.cli_model.proofs.Statuses.{OfSteps, OfRefusal, of_more, ends_so, all_done}
+use Rattle.built_forms.specs.Texts.{ops_in, unless_fault, script_in, image_of, image_found}
+use Rattle.built_forms.specs.Texts.{built_from, at_line, built_image, is_built_image, not_yet}
+use Rattle.simdram_cli.specs.declared.words.RunNames.{RunNames}
+use Rattle.simdram_cli.specs.declared.words.TheConstants.{OPS_MAX, SCRIPT_MAX, IMAGE_MAX}
+use Rattle.simdram_cli.specs.declared.words.Command.{Command}
+use Rattle.simdram_cli.specs.declared.words.Command.TheVariants.{Run, Show}
+use Rattle.simdram_cli.specs.Words.{command_of, are_apart, IsApart}
+use Rattle.simdram_cli.specs.Reads.{refusal_of}
+use Rattle.simdram_cli.specs.Run.{Texts, run_steps, work_steps, line_steps, said_by, image_by}
+use Rattle.simdram_cli.specs.Run.{tally_by, refused_by, done_status}
+use Rattle.simdram_cli.specs.Ends.{RunEnds, run_status, status_on}
+use Rattle.simdram_cli.specs.Headline.{Headline}
+use Rattle.simdram_cli.specs.Show.{show_steps, ShowEnds, Shown}
+use Rattle.simdram_cli.specs.Commands.{CanAnswer, CommandEnds, OnCommand, Promises}
+use Rattle.simdram_cli.proofs.Running.{apart}
+use Rattle.simdram_cli.proofs.Promised.{run_promised}
+use Rattle.simdram_cli.proofs.Showing.{show_shown}
+
+picked : (b c : Bool) (r names : RunNames) → cond (b && c) (Some (Run r)) None ≡ Some (Run names)
+    → (c ≡ true) × (r ≡ names)
+picked true true r names e = (refl, cc)
+picked true false r names e = absurd (cc)
+picked false c r names e = absurd (cc)
+
+not_run : (b : Bool) (ops : Bor (List ℕ)) (names : RunNames)
+    → cond b (Some (Show ops)) None ≡ Some (Run names) → ⊥
+not_run true ops names e = cc
+not_run false ops names e = cc
+
+abbrev AreApart : RunNames → Type 0
+AreApart names = IsApart (Run names)
+
+-- the files of a run are apart
+run_apart : (words : List (Bor (List ℕ))) (names : RunNames)
+    → command_of words ≡ Some (Run names) → AreApart names
+run_apart [] names e = absurd (cc)
+run_apart (a ∷ []) names e = absurd (cc)
+run_apart (a ∷ b ∷ []) names e = absurd (not_run (bytes_eq a.now (codes "show")) b names e)
+run_apart (a ∷ b ∷ c ∷ []) names e = absurd (cc)
+run_apart (a ∷ b ∷ c ∷ d ∷ []) names e = absurd (cc)
+run_apart (a ∷ b ∷ c ∷ d ∷ f ∷ []) names e = absurd (cc)
+run_apart (verb ∷ ops ∷ prog ∷ script ∷ image ∷ out ∷ []) names e =
+    let r : RunNames = record {
+      ops = ops;
+      prog = prog;
+      script = script;
+      image = image;
+      out = out;
+    } in
+    let p = picked (bytes_eq verb.now (codes "run"))
+    (are_apart ops.now prog.now script.now image.now out.now) r names e in
+    subst AreApart p.1 p.0
+run_apart (a ∷ b ∷ c ∷ d ∷ f ∷ h ∷ i ∷ rest) names e = absurd (cc)
+
+-- the files of a command are apart
+pub command_apart : (words : List (Bor (List ℕ))) (command : Command)
+    → command_of words ≡ Some command → IsApart command
+command_apart words (Run names) e = run_apart words names e
+command_apart words (Show name) e = tt
+
+-- the statuses that the steps of a run and of a show can give
+
+loading_of : (P : ℕ → Type 0) {A : Type 0} (name : List ℕ) (limit : ℕ) (text : List ℕ)
+    (read : Result A Refusal) (rest : A → List Step) → P 2 → P 11 → P 10
+    → OfRefusal P (refusal_of read) → ((x : A) → OfSteps P (rest x))
+    → OfSteps P (loading name limit text read rest)
+loading_of P name limit text (Ok x) rest two eleven ten one more =
+    ((two, eleven, ten, one), more x)
+loading_of P name limit text (Err r) rest two eleven ten one more =
+    ((two, eleven, ten, one), tt)
+
+ops_of : (P : ℕ → Type 0) (fault : Option OpsFault) → P 4
+    → OfRefusal P (refusal_of (unless_fault fault))
+ops_of P None four = tt
+ops_of P (Some fault) four = four
+
+script_of : (P : ℕ → Type 0) (script : Result (List Instruction) ℕ) → P 6
+    → OfRefusal P (refusal_of (at_line script))
+script_of P (Ok script) six = tt
+script_of P (Err line) six = six
+
+built_of : (P : ℕ → Type 0) (b : Bool) (i : Image) → P 7
+    → OfRefusal P (refusal_of (cond b (Ok i) (Err (not_yet 7 (codes "image byte ") 0))))
+built_of P true i seven = tt
+built_of P false i seven = seven
+
+image_is : (P : ℕ → Type 0) (found : Result Found ImageFault) → P 7
+    → OfRefusal P (refusal_of (built_image found))
+image_is P (Ok found) seven = built_of P (is_built_image found) (image_found found) seven
+image_is P (Err fault) seven = seven
+
+lines_of_steps : (P : ℕ → Type 0) (number : ℕ) (said : List Said) → P 9 → P 3
+    → OfSteps P (line_steps number said)
+lines_of_steps P number [] nine three = tt
+lines_of_steps P number (s ∷ said) nine three =
+    (nine, three, lines_of_steps P (number + 1) said nine three)
+
+work_of : (P : ℕ → Type 0) (out : List ℕ) (program : Program) (script : List Instruction)
+    (i : Image) → P 3 → P 9 → P 10 → OfSteps P (work_steps out program script i)
+work_of P out program script i three nine ten =
+    ((nine, ten), of_more P (line_steps 1 (said_by program script i))
+    (Use ∷ Store out (image_by program script i)
+    ∷ Put (total_line (tally_by program script i) (refused_by program script i)) ∷ [])
+    (lines_of_steps P 1 (said_by program script i) nine three) (nine, three, three, tt))
+
+record Gives (P : ℕ → Type 0) : Type 0 where
+  two : P 2
+  three : P 3
+  four : P 4
+  ten : P 10
+  eleven : P 11
+
+run_of : (P : ℕ → Type 0) (names : RunNames) (program : Program) (texts : Texts) → Gives P → P 6
+    → P 7 → P 9 → OfSteps P (run_steps names program texts)
+run_of P names program texts g six seven nine =
+    loading_of P names.ops.now OPS_MAX texts.ops (ops_in texts.ops) _ g.two g.eleven g.ten
+    (ops_of P (fault_in texts.ops) g.four) (λ t. (g.ten, g.three,
+    loading_of P names.script.now SCRIPT_MAX texts.script (script_in texts.script) _ g.two g.eleven
+    g.ten (script_of P (built_from 1 (lines_of texts.script)) six) (λ script.
+    loading_of P names.image.now IMAGE_MAX texts.image (image_of texts.image) _ g.two g.eleven
+    g.ten (image_is P (image_in texts.image) seven) (λ i.
+    work_of P names.out.now program script i g.three nine g.ten))))
+
+show_of : (P : ℕ → Type 0) (name text : List ℕ) (ops : List Operation) → Gives P
+    → OfSteps P (show_steps name text ops)
+show_of P name text ops g =
+    loading_of P name OPS_MAX text (ops_in text) _ g.two g.eleven g.ten
+    (ops_of P (fault_in text) g.four) (λ t. (g.ten, g.three, tt))
+
+either_so : (P : ℕ → Type 0) (b : Bool) → P 0 → P 8 → P (cond b 8 0)
+either_so P true zero eight = eight
+either_so P false zero eight = zero
+
+status_so : (P : ℕ → Type 0) (program : Program) (script : List Instruction)
+    (ri : Result Image Refusal) → P 0 → P 8 → P (status_on program script ri)
+status_so P program script (Ok i) zero eight = either_so P _ zero eight
+status_so P program script (Err r) zero eight = zero
+
+done_so : (P : ℕ → Type 0) (program : Program) (rs : Result (List Instruction) Refusal)
+    (ri : Result Image Refusal) → P 0 → P 8 → P (run_status program rs ri)
+done_so P program (Ok script) ri zero eight = status_so P program script ri zero eight
+done_so P program (Err r) ri zero eight = zero
+
+-- a command answers one of its statuses
+pub can_answer : (command : Command) (old new : World) (status : ℕ)
+    → CommandEnds command old new status → CanAnswer command status
+can_answer (Run names) old new status e =
+    let P : ℕ → Type 0 = CanAnswer (Run names) in
+    ends_so P (run_steps names e.program e.texts) _ old new status
+    (done_so P e.program (script_in e.texts.script) (image_of e.texts.image) refl refl)
+    (run_of P names e.program e.texts
+    (record { two = refl; three = refl; four = refl; ten = refl; eleven = refl }) refl refl refl)
+    e.ends
+can_answer (Show name) old new status e =
+    let P : ℕ → Type 0 = CanAnswer (Show name) in
+    ends_so P (show_steps name.now e.text e.ops) 0 old new status refl
+    (show_of P name.now e.text e.ops
+    (record { two = refl; three = refl; four = refl; ten = refl; eleven = refl })) e.ends
+
+not_one : (command : Command) (status : ℕ) → CanAnswer command status → status ≡ 1 → ⊥
+not_one (Run names) status can e =
+    let one : CanAnswer (Run names) 1 = subst (CanAnswer (Run names)) e can in cc
+not_one (Show name) status can e =
+    let one : CanAnswer (Show name) 1 = subst (CanAnswer (Show name)) e can in cc
+
+no_command : (words : List (Bor (List ℕ))) (o : Option Command) (status : ℕ) → command_of words ≡ o
+    → OnCommand words (λ command. CanAnswer command status) → status ≡ 1
+    → command_of words ≡ None
+no_command words None status e on is = e
+no_command words (Some command) status e on is =
+    absurd (not_one command status (on command e) is)
+
+pub usage : (words : List (Bor (List ℕ))) (status : ℕ) → (command_of words ≡ None → status ≡ 1)
+    → OnCommand words (λ command. CanAnswer command status)
+    → (status ≡ 1) ↔ (command_of words ≡ None)
+usage words status none on = (no_command words (command_of words) status refl on, none)
+
+-- a step that fails gives neither 0 nor 8
+apart_from_done : (status : ℕ) → (status ≡ 0) ⊎ (status ≡ 8) → (n : ℕ) → (n ≡ 0 → ⊥)
+    → (n ≡ 8 → ⊥) → n ≡ status → ⊥
+apart_from_done status (inl e) n zero eight f = zero (omega (arith, e, f))
+apart_from_done status (inr e) n zero eight f = eight (omega (arith, e, f))
+
+gives_apart : (status : ℕ) → (status ≡ 0) ⊎ (status ≡ 8) → Gives (λ s. s ≡ status → ⊥)
+gives_apart status is = record {
+  two = apart_from_done status is 2 (λ f. cc) (λ f. cc);
+  three = apart_from_done status is 3 (λ f. cc) (λ f. cc);
+  four = apart_from_done status is 4 (λ f. cc) (λ f. cc);
+  ten = apart_from_done status is 10 (λ f. cc) (λ f. cc);
+  eleven = apart_from_done status is 11 (λ f. cc) (λ f. cc);
+}
+
+-- a command keeps what it promises
+pub promises : (command : Command) (old new : World) (status : ℕ) → IsApart command
+    → CommandEnds command old new status → Promises command old new status
+promises (Run names) old new status are e is =
+    let P : ℕ → Type 0 = λ s. s ≡ status → ⊥ in
+    run_promised names old new status (apart names are) e
+    (all_done (run_steps names e.program e.texts) _ e.ends.ended old new status
+    (run_of P names e.program e.texts (gives_apart status is)
+    (apart_from_done status is 6 (λ f. cc) (λ f. cc))
+    (apart_from_done status is 7 (λ f. cc) (λ f. cc))
+    (apart_from_done status is 9 (λ f. cc) (λ f. cc))) e.ends.so)
+promises (Show name) old new status are e is =
+    show_shown name.now old new status e
+    (show_of (λ s. s ≡ status → ⊥) name.now e.text e.ops (gives_apart status (inl is)))

@@ -1,0 +1,35 @@
+-- The files determine the job of the headline.
+use Rattle.std.proofs.Common.{◌≡◌, ◌⊎◌, List, Option, Some, None, refl, sym, ◌∙◌, ap, inr}
+use Rattle.std.specs.Prelude.{Result}
+use Rattle.host_edge.specs.Views.{Files}
+use Rattle.op_text.specs.Language.{Operation}
+use Rattle.op_text.proofs.Meeting.{ops_of_a_text_are_one}
+use Rattle.bbop_isa.specs.Forms.{Instruction}
+use Rattle.machine_model.specs.Operations.{Program}
+use Rattle.machine_model.specs.Opened.{Image}
+use Rattle.uprog_bin.specs.Spelling.{program_bytes}
+use Rattle.uprog_bin.proofs.Versions.{file_is_one}
+use Rattle.simdram_cli.specs.declared.words.RunNames.{RunNames}
+use Rattle.simdram_cli.specs.Headline.{Job, IsJob, Spells, ProgramWritten, OneJob}
+
+same_ops : (file : Option (List _)) (a b : List Operation) → Spells file a → Spells file b → a ≡ b
+same_ops None a b s t = absurd s
+same_ops (Some bytes) a b s t = ops_of_a_text_are_one bytes a b s t
+
+same_value : {A : Type 0} (o : Option A) (a b : A) → o ≡ Some a → o ≡ Some b → a ≡ b
+same_value o a b e f = let g : ◌≡◌ {A = Option A} (Some a) (Some b) = sym e ∙ f in cc
+
+job_by : (o o' : List Operation) (s s' : List Instruction) (i i' : Image) (p p' : Program)
+    → o ≡ o' → s ≡ s' → i ≡ i' → p ≡ p'
+    → (let a : Job = record { ops = o; script = s; image = i; program = p } in a)
+    ≡ record { ops = o'; script = s'; image = i'; program = p' }
+job_by o o' s s' i i' p p' e f g h = rw (e, f, g, h) refl
+
+pub one_job : OneJob
+one_job names before after a b ja jb pa pb =
+    job_by a.ops b.ops a.script b.script a.image b.image a.program b.program
+    (same_ops (before names.ops.now) a.ops b.ops ja.ops jb.ops)
+    (same_value _ a.script b.script ja.script jb.script)
+    (same_value _ a.image b.image ja.image jb.image)
+    (file_is_one 2 2 a.program b.program pa.legal pb.legal (inr refl) (inr refl)
+    (same_value (after names.prog.now) _ _ pa.file pb.file)).1
