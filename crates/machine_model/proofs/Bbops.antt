@@ -253,7 +253,7 @@ binding_fits g state o names count n t good =
       results = all_below g state count n t (results o.shape) (dsts_in o.shape names)
           good.destinations;
       sources = all_below g state count n t o.shape.sources (srcs_in o.shape names) good.sources;
-      scratch = scratch_within (limit_of g) (objects_of (table_of state)) (need o.shape n)
+      scratch = λ some. scratch_within (limit_of g) (objects_of (table_of state)) (need o.shape n)
           good.room;
       apart = (
         free_apart g state count n t _ _ room (results o.shape) (dsts_in o.shape names)
