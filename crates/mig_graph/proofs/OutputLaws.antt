@@ -7,7 +7,7 @@ use Rattle.std.proofs.lemmas.List.{get_or_append_left, get_or-append-add}
 use Rattle.bit_rows.specs.Bits.{flip_if}
 use Rattle.mig_graph.specs.declared.Lit.{Lit}
 use Rattle.mig_graph.specs.Literals.{lit_value, turn_if}
-use Rattle.mig_graph.specs.Laws.{flip-not}
+use Rattle.mig_graph.proofs.Laws.{flip-not}
 use Rattle.mig_graph.specs.Outputs.{lit_at}
 
 lit-old : (lits : List Lit) (l : Lit) (k : ℕ) → k < length lits

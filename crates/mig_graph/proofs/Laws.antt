@@ -6,7 +6,7 @@ use Rattle.std.proofs.lemmas.Bool.{cases_lt}
 use Rattle.std.proofs.lemmas.List.{get_or_append_left, get_or-append-add}
 use Rattle.bit_rows.specs.Bits.{majority, flip_if}
 use Rattle.aoi_graph.specs.Gates.{with_value}
-use Rattle.aoi_graph.specs.GateLaws.{with-other, with-same}
+use Rattle.aoi_graph.proofs.GateLaws.{with-other, with-same}
 use Rattle.mig_graph.specs.declared.Lit.{Lit}
 use Rattle.mig_graph.specs.declared.Node.{Node}
 use Rattle.mig_graph.specs.Literals.{lit_value, node_value, IsLower, SameThree, IsAnyOrder}

@@ -42,28 +42,7 @@ use Rattle.uprog_code.specs.Legal.{is_second, is_legal, IsLegalCode}
 use Rattle.uprog_code.specs.Bound.{Bound, address, address_in, bound, bound_command}
 use Rattle.uprog_code.specs.Fits.{AreBelow, ranges, Fits, IsInSome, IsTouched}
 use Rattle.uprog_code.specs.Implements.{Keeps}
-
--- a row of a trace: its space and number are legal, and its position lies within what it belongs to
-abbrev pub is_issued_in : Shape → ℕ → RowSpace → ℕ → ℕ → Bool
-is_issued_in shape n space.B which i = nat_lt which 16
-is_issued_in shape n space.C which i = nat_lt which 2
-is_issued_in shape n space.Result which i = in_kind (slice_get (results shape) which) n i
-is_issued_in shape n space.Source which i = in_kind (slice_get shape.sources which) n i
-is_issued_in shape n space.ScratchBit which i = nat_lt which shape.bits
-is_issued_in shape n space.ScratchWord which i = nat_lt (which * n + i) (n * shape.words)
-is_issued_in shape n space.Spill which i = nat_lt which 32
-
-abbrev pub is_issued : Shape → ℕ → RowRef → Bool
-is_issued shape n r = is_issued_in shape n r.space r.which r.index
-
--- each row of the command is legal in its place
-abbrev pub is_good : Shape → ℕ → Issue → Bool
-is_good shape n (Twice x y) = (is_issued shape n x && may_be_first x.space x.which)
-    && (is_issued shape n y && may_be_second y.space)
-is_good shape n (Once x) = is_issued shape n x && may_be_first x.space x.which
-
-abbrev pub AreGood : Shape → ℕ → List Issue → Type 0
-AreGood shape n issues = AllByRecursion (λ c. is_good shape n c ≡ true) issues
+use Rattle.uprog_code.specs.Issued.{is_issued_in, is_issued, is_good, AreGood}
 
 both : (a b : Bool) → (a && b) ≡ true → (a ≡ true) × (b ≡ true)
 both true b h = (refl, h)
