@@ -38,8 +38,7 @@ const HEAVY: &[u8] = b"op g(a: word, b: word) -> y: word {
 }
 ";
 
-const LOOSE: &[u8] =
-    b"# bits\nop odd ( a : bit ) -> y : bit {\r\n\tz = zero ( ) ; # none
+const LOOSE: &[u8] = b"# bits\nop odd ( a : bit ) -> y : bit {\r\n\tz = zero ( ) ; # none
   serial up ( ) { v = not ( and ( a , 1 ) ) ; }
 serial down(y=1,c=0){y=or(0,v);}}";
 
@@ -124,12 +123,14 @@ fn ops_are_read(rt: HostRuntime) -> Result<(), Fail> {
     assert!(rt; scratch_of(sum).bits == 1 && scratch_of(sum).words == 0);
     assert!(rt; need(mac, 32) == 33 && need(sum, 32) == 1);
     match sum.body.as_slice() {
-        [Stmt::Serial {
-            down,
-            states,
-            lets,
-            assigns,
-        }] => {
+        [
+            Stmt::Serial {
+                down,
+                states,
+                lets,
+                assigns,
+            },
+        ] => {
             assert!(rt; !*down && states.len() == 1);
             assert!(rt; lets.len() == 1 && assigns.len() == 2);
         }

@@ -232,11 +232,6 @@ flag_is : (before : List Lexeme) (token : Lexeme) (behind : List Item)
 flag_is [] token behind = refl
 flag_is (u ∷ before) token behind = refl
 
-flag_strange : (before : List Lexeme) (f : LexFault) (behind : List Item)
-    → opens_terminal (terminals_of before) ≡ opens (whole before ++ (Bad f ∷ behind))
-flag_strange [] f behind = refl
-flag_strange (u ∷ before) f behind = refl
-
 flag_whole : (ts : List Lexeme) → opens_terminal (terminals_of ts) ≡ opens (whole ts)
 flag_whole [] = refl
 flag_whole (u ∷ ts) = refl
