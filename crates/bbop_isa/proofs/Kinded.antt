@@ -1,6 +1,7 @@
 -- What is wrong with a line, kind by kind.
 use Rattle.std.proofs.Common.{◌≡◌, ◌≢◌, ℕ, nat_lt, nat_eq, Bool, true, false, List, [], ◌∷◌}
-use Rattle.std.proofs.Common.{◌≤◌, ◌++◌, map, length, drop, take, Option, Some, None, Result, Ok, Err}
+use Rattle.std.proofs.Common.{◌≤◌, ◌++◌, map, length, drop, take, Option, Some, None, Result, Ok}
+use Rattle.std.proofs.Common.{Err}
 use Rattle.std.proofs.Common.{if◌then◌else◌, codes, refl, sym, ap, ◌∙◌, subst, arith}
 use Rattle.std.specs.Str.{bytes_eq}
 use Rattle.std.specs.Option.{option_map}

@@ -15,13 +15,13 @@ use Rattle.op_text.specs.Language.{Term, term}
 use Rattle.op_text.specs.Spelling.{term_text}
 use Rattle.op_text.specs.Items.{opens, no_token, texts}
 use Rattle.op_text.specs.Grammar.{follow}
-use Rattle.op_text.specs.Rules.{Scope, rules_at, breach_of}
+use Rattle.op_text.specs.Rules.{Scope, breach_of}
 use Rattle.op_text.proofs.Steps.{moved, refused}
 use Rattle.op_lang.specs.declared.fault.ReadNo.{ReadNo}
 use Rattle.op_lang.specs.declared.fault.ReadNo.TheVariants as no
 use Rattle.op_lang.specs.declared.parser.Taken.{Taken}
 use Rattle.op_lang.specs.Reading.{Reading, breach, Fails, Moves, MovesTo, Took, Takes, is_due, left}
-use Rattle.op_lang.specs.Judging.{IsFine, IsWrong, JudgesToken}
+use Rattle.op_lang.specs.Judging.{IsWrong, JudgesToken}
 
 -- where there is no token
 pub due_end : (want : Wanted) (s : Scope) (items : List Item) (b : Breach)
