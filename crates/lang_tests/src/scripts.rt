@@ -1,4 +1,6 @@
-use crate::{Instr, Order, ScriptFault, ScriptKind, ScriptNo, parse_script};
+//! Scripts that are read and refused.
+
+use bbop_isa::{Instr, Order, ScriptFault, ScriptKind, ScriptNo, parse_script};
 use std::alloc::AllocError;
 use std::fmt::Write;
 use std::str;
