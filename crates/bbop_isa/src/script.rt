@@ -23,8 +23,7 @@ fn add_line(script: &mut Vec<Instr>, line: &[u8], alloc: Global) -> Result<(), L
 }
 
 /// The instructions of a script's lines, or the first line that breaks a rule. Time and memory are
-/// in proportion
-/// to the text.
+/// in proportion to the text.
 pub fn parse_script(text: &[u8], alloc: Global) -> Result<Vec<Instr>, ScriptNo>
     requires { length text.now < 2 ^ 32 }
     ensures accepted { IfOk result (λ script. script_of text.now ≡ Ok (map view_of script.items)) }

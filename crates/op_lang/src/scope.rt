@@ -9,8 +9,7 @@ use std::alloc::Global;
 use text_lex::Name;
 
 /// Within an op: each new name, the names that can be read, the result once it is named, whether it
-/// is
-/// assigned, and the number of statements.
+/// is assigned, and the number of statements.
 #[derive(Debug, Drop)]
 pub(crate) struct InOp {
     pub stands: Vec<Name>,
