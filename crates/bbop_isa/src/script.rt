@@ -8,6 +8,7 @@ ghost use Rattle.bbop_isa.specs.Reading.{AddsLine};
 use crate::forms::line_of;
 use crate::instr::{Instr, LineNo, ScriptFault, ScriptNo};
 use crate::lines::split_line;
+use no_memory::keep;
 use std::alloc::Global;
 
 /// Adds the instruction of a line, if it has one.
@@ -15,9 +16,7 @@ fn add_line(script: &mut Vec<Instr>, line: &[u8], alloc: Global) -> Result<(), L
     ensures { AddsLine line.now script.old.items result script.new.items }
 {
     if let Some(instr) = line_of(line, alloc)? {
-        if script.push(instr).is_err() {
-            return Err(LineNo::NoMemory);
-        }
+        keep(script, instr)?;
     }
     Ok(())
 }
