@@ -10,14 +10,14 @@ use op_text::{Breach, OpsKind};
 use std::alloc::{AllocError, AllocFailed};
 
 /// Why a part of a text is not read.
-#[derive(Debug, Drop)]
+#[derive(Drop)]
 pub(crate) enum ReadNo {
     Memory,
     Breach(Breach),
 }
 
 /// Why a token is refused that the grammar allows.
-#[derive(Clone, Copy, Debug)]
+#[derive(Clone, Copy)]
 pub(crate) enum Refused {
     Memory,
     Rule(OpsKind),
