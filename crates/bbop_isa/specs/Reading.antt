@@ -111,8 +111,7 @@ following before (Ok script) = Ok (before ++ script)
 following before (Err fault) = Err fault
 
 -- The instruction of the line was added, if it has one, so that the script of this line and others
--- comes to the
--- same. Or the line is refused.
+-- comes to the same. Or the line is refused.
 abbrev pub AddsLine : List ℕ → List Instr → Result (Unit {0}) LineNo → List Instr → Type 0
 AddsLine line old (Ok u) new = (number : ℕ) (rest : Result (List Instruction) ScriptFault)
     → following (map view_of old) (go_on number (line_of line) rest)

@@ -18,6 +18,7 @@ use crate::operands::{Operands, operands_of};
 use crate::words::{Word, words_of};
 use arrayvec::ArrayVec;
 use bit_rows::{Value, WIDTH_MAX};
+use no_memory::keep;
 use std::alloc::Global;
 use text_lex::Name;
 
@@ -190,9 +191,7 @@ fn values_of(numbers: &[Option<Value>], alloc: Global) -> Result<Vec<Value>, Lin
         let Some(value) = *number else {
             return Err(Bad(BadNumber));
         };
-        if values.push(value).is_err() {
-            return Err(LineNo::NoMemory);
-        }
+        keep(&mut values, value)?;
     }
     Ok(values)
 }

@@ -1,7 +1,11 @@
 //! What a script says, and why it is refused.
 
+ghost use Rattle.std.specs.Prelude.{◌≡◌};
+ghost use Rattle.bbop_isa.specs.declared.instr.LineNo.TheVariants as line_no;
+
 use arrayvec::ArrayVec;
 use bit_rows::Value;
+use no_memory::NoMemory;
 use text_lex::Name;
 
 /// In which order the banks take turns.
@@ -86,4 +90,12 @@ pub enum ScriptNo {
 pub enum LineNo {
     Bad(ScriptKind),
     NoMemory,
+}
+
+impl From<NoMemory> for LineNo {
+    ghost from_gives = { λ _ e. e ≡ line_no.NoMemory };
+
+    fn from(_no: NoMemory) -> LineNo {
+        LineNo::NoMemory
+    }
 }

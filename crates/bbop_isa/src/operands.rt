@@ -6,6 +6,7 @@ ghost use Rattle.bbop_isa.specs.Reading.{OperandsOf, Pushes, Takes};
 use crate::instr::LineNo;
 use crate::words::Word;
 use bit_rows::Value;
+use no_memory::keep;
 use std::alloc::Global;
 
 /// Names, and then numbers.
@@ -23,16 +24,12 @@ impl<'a> Operands<'a> {
         ensures pushed { Pushes self.old word.entry result self.new }
         ensures comma { self.new.at_comma ≡ self.old.at_comma }
     {
-        let pushed = match word {
-            Word::Name(name) if self.numbers.is_empty() => self.names.push(name).is_ok(),
-            Word::Number(number) => self.numbers.push(number).is_ok(),
+        match word {
+            Word::Name(name) if self.numbers.is_empty() => keep(&mut self.names, name)?,
+            Word::Number(number) => keep(&mut self.numbers, number)?,
             _ => return Ok(false),
-        };
-        if pushed {
-            Ok(true)
-        } else {
-            Err(LineNo::NoMemory)
         }
+        Ok(true)
     }
 
     /// Whether the word may come next.

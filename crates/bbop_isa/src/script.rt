@@ -8,6 +8,7 @@ ghost use Rattle.bbop_isa.specs.Reading.{AddsLine};
 use crate::forms::line_of;
 use crate::instr::{Instr, LineNo, ScriptFault, ScriptNo};
 use crate::lines::split_line;
+use no_memory::keep;
 use std::alloc::Global;
 
 /// Adds the instruction of a line, if it has one.
@@ -15,16 +16,13 @@ fn add_line(script: &mut Vec<Instr>, line: &[u8], alloc: Global) -> Result<(), L
     ensures { AddsLine line.now script.old.items result script.new.items }
 {
     if let Some(instr) = line_of(line, alloc)? {
-        if script.push(instr).is_err() {
-            return Err(LineNo::NoMemory);
-        }
+        keep(script, instr)?;
     }
     Ok(())
 }
 
 /// The instructions of a script's lines, or the first line that breaks a rule. Time and memory are
-/// in proportion
-/// to the text.
+/// in proportion to the text.
 pub fn parse_script(text: &[u8], alloc: Global) -> Result<Vec<Instr>, ScriptNo>
     requires { length text.now < 2 ^ 32 }
     ensures accepted { IfOk result (λ script. script_of text.now ≡ Ok (map view_of script.items)) }

@@ -9,6 +9,7 @@ ghost use Rattle.bbop_isa.specs.Reading.{WordsOf};
 
 use crate::instr::{LineNo, ScriptKind};
 use bit_rows::Value;
+use no_memory::keep;
 use std::alloc::Global;
 use text_lex::{Lexer, Token, TokenKind, items_are_right, number};
 
@@ -47,11 +48,7 @@ pub(crate) fn words_of<'a>(line: &'a [u8], alloc: Global) -> Result<Vec<Word<'a>
     let mut lexer = Lexer::new(line);
     loop {
         match lexer.next() {
-            Ok(Some(token)) => {
-                if words.push(word_of(token)).is_err() {
-                    return Err(LineNo::NoMemory);
-                }
-            }
+            Ok(Some(token)) => keep(&mut words, word_of(token))?,
             Ok(None) => return Ok(words),
             Err(_) => return Err(LineNo::Bad(ScriptKind::Lex)),
         }

@@ -29,8 +29,7 @@ Fails found no.Memory = Unit {0}
 Fails found (no.Breach b) = found ≡ Some b
 
 -- Where front is wanted first, and whatever is wanted behind it, what was left is as good as what
--- is
--- left where behind x is wanted first; or one of the tokens breaks a rule, which is the answer.
+-- is left where behind x is wanted first; or one of the tokens breaks a rule, which is the answer.
 abbrev pub MovesTo : {A : Type 0} → List Wanted → Reading → Result A ReadNo → (A → List Wanted)
     → Reading → Type 0
 MovesTo front old (Ok x) behind new = (wanted : List Wanted)

@@ -6,10 +6,10 @@ ghost use Rattle.op_lang.specs.Seen.{seen, Judges};
 
 use crate::fault::Refused;
 use crate::names::{
-    define_all, good_name, is_among, is_called, is_called_by_one, is_of_kind, keep, keep_all,
-    others,
+    define_all, good_name, is_among, is_called, is_called_by_one, is_of_kind, keep_all, others,
 };
 use crate::scope::{InBlock, Scope};
+use no_memory::keep;
 use op_text::{Kind, OpsKind, Spelling};
 
 fn is_bit_result(scope: &Scope, text: &[u8]) -> bool
@@ -42,12 +42,9 @@ pub(crate) fn state(scope: &mut Scope, spelling: Spelling, text: &[u8]) -> Resul
     if scope.block.states.len() >= 8 {
         return Err(Refused::Rule(OpsKind::TooMany));
     }
-    if !keep(&mut scope.op.stands, name.copied())
-        || !keep(&mut scope.block.states, name.copied())
-        || !keep(&mut scope.block.readable, name)
-    {
-        return Err(Refused::Memory);
-    }
+    keep(&mut scope.op.stands, name.copied())?;
+    keep(&mut scope.block.states, name.copied())?;
+    keep(&mut scope.block.readable, name)?;
     Ok(())
 }
 
@@ -69,9 +66,7 @@ pub(crate) fn let_end(scope: &mut Scope) -> Result<(), Refused>
     let Some(name) = &scope.naming else {
         return Ok(());
     };
-    if !keep(&mut scope.block.readable, name.copied()) {
-        return Err(Refused::Memory);
-    }
+    keep(&mut scope.block.readable, name.copied())?;
     scope.naming = None;
     Ok(())
 }
@@ -102,9 +97,7 @@ pub(crate) fn target(scope: &mut Scope, spelling: Spelling, text: &[u8]) -> Resu
     if scope.block.targets.len() >= 8 {
         return Err(Refused::Rule(OpsKind::TooMany));
     }
-    if !keep(&mut scope.block.targets, name) {
-        return Err(Refused::Memory);
-    }
+    keep(&mut scope.block.targets, name)?;
     Ok(())
 }
 
@@ -127,17 +120,12 @@ pub(crate) fn let_or_target(
 pub(crate) fn block_end(scope: &mut Scope) -> Result<(), Refused>
     ensures { Judges (Ok (rules.block_end (seen scope.old))) result (seen scope.new) }
 {
-    let Some(words) = others(&scope.block.targets, &scope.block.states, scope.alloc) else {
-        return Err(Refused::Memory);
-    };
+    let words = others(&scope.block.targets, &scope.block.states, scope.alloc)?;
     let assigned = is_called_by_one(&scope.op.result, &scope.block.states)
         || is_called_by_one(&scope.op.result, &words);
-    if !keep_all(&mut scope.op.stands, &words)
-        || !define_all(&mut scope.op.defined, &scope.block.states, Kind::Bit)
-        || !define_all(&mut scope.op.defined, &words, Kind::Word)
-    {
-        return Err(Refused::Memory);
-    }
+    keep_all(&mut scope.op.stands, &words)?;
+    define_all(&mut scope.op.defined, &scope.block.states, Kind::Bit)?;
+    define_all(&mut scope.op.defined, &words, Kind::Word)?;
     scope.op.assigned = scope.op.assigned || assigned;
     scope.block = InBlock::new(scope.alloc);
     Ok(())

@@ -3,22 +3,32 @@
 ghost use Rattle.std.specs.Prelude.{◌≡◌};
 ghost use Rattle.op_lang.specs.declared.fault.ReadNo.TheVariants as no;
 ghost use Rattle.op_lang.specs.declared.fault.ReadNo.TheVariants.{Memory};
+ghost use Rattle.op_lang.specs.declared.fault.Refused.TheVariants as refused;
 
+use no_memory::NoMemory;
 use op_text::{Breach, OpsKind};
 use std::alloc::{AllocError, AllocFailed};
 
 /// Why a part of a text is not read.
-#[derive(Debug, Drop)]
+#[derive(Drop)]
 pub(crate) enum ReadNo {
     Memory,
     Breach(Breach),
 }
 
 /// Why a token is refused that the grammar allows.
-#[derive(Clone, Copy, Debug)]
+#[derive(Clone, Copy)]
 pub(crate) enum Refused {
     Memory,
     Rule(OpsKind),
+}
+
+impl From<NoMemory> for Refused {
+    ghost from_gives = { λ _ e. e ≡ refused.Memory };
+
+    fn from(_no: NoMemory) -> Refused {
+        Refused::Memory
+    }
 }
 
 impl From<AllocError> for ReadNo {

@@ -6,8 +6,9 @@ ghost use Rattle.op_text.specs.Rules as rules;
 ghost use Rattle.op_lang.specs.Seen.{seen, Judges};
 
 use crate::fault::Refused;
-use crate::names::{define, good_name, is_among, keep};
+use crate::names::{define, good_name, is_among};
 use crate::scope::{InOp, Scope};
+use no_memory::keep;
 use op_text::{Kind, OpsKind, Param, Spelling};
 
 /// The word `op`.
@@ -33,9 +34,7 @@ pub(crate) fn op_name(scope: &mut Scope, spelling: Spelling, text: &[u8]) -> Res
     if is_among(&scope.ops, text) {
         return Err(Refused::Rule(OpsKind::Twice));
     }
-    if !keep(&mut scope.ops, name) {
-        return Err(Refused::Memory);
-    }
+    keep(&mut scope.ops, name)?;
     scope.op = InOp::new(scope.alloc);
     Ok(())
 }
@@ -63,11 +62,8 @@ pub(crate) fn source_kind(scope: &mut Scope, kind: Kind) -> Result<(), Refused>
     let Some(name) = &scope.naming else {
         return Ok(());
     };
-    if !keep(&mut scope.op.stands, name.copied())
-        || !define(&mut scope.op.defined, name.copied(), kind)
-    {
-        return Err(Refused::Memory);
-    }
+    keep(&mut scope.op.stands, name.copied())?;
+    define(&mut scope.op.defined, name.copied(), kind)?;
     scope.naming = None;
     Ok(())
 }
@@ -83,9 +79,7 @@ pub(crate) fn new_name(scope: &mut Scope, spelling: Spelling, text: &[u8]) -> Re
     if is_among(&scope.op.stands, text) {
         return Err(Refused::Rule(OpsKind::Twice));
     }
-    if !keep(&mut scope.op.stands, name.copied()) {
-        return Err(Refused::Memory);
-    }
+    keep(&mut scope.op.stands, name.copied())?;
     scope.naming = Some(name);
     Ok(())
 }

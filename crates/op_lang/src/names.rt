@@ -1,12 +1,13 @@
 //! Names in lists.
 
-ghost use Rattle.std.specs.Prelude.{◌≡◌, ◌++◌, [], ◌∷◌, map, filter, not, true, Some, None, IfSome};
+ghost use Rattle.std.specs.Prelude.{◌≡◌, ◌++◌, [], ◌∷◌, map, filter, not, Some, None, OnOk, IfOk};
 ghost use Rattle.std.specs.Prelude.{if◌then◌else◌};
 ghost use Rattle.std.specs.List.{list_any};
 ghost use Rattle.op_text.specs.Rules.{is_among, is_bad, is_called, is_of_kind, kind_among};
 ghost use Rattle.op_text.specs.Rules.{kind_of_word};
 ghost use Rattle.op_text.specs.WordOps.{same_kind};
 
+use no_memory::{NoMemory, keep};
 use op_text::{Kind, Param, Spelling};
 use std::alloc::Global;
 use text_lex::Name;
@@ -98,61 +99,48 @@ pub(crate) fn kind_of_word(spelling: Spelling) -> Kind
     }
 }
 
-/// Adds a name, if there is memory.
-pub(crate) fn keep(names: &mut Vec<Name>, name: Name) -> bool
-    ensures { result ≡ true → names.new.items ≡ names.old.items ++ name ∷ [] }
-{
-    match names.push(name) {
-        Ok(()) => true,
-        Err(_) => false,
-    }
-}
-
 /// Adds a name that can be read, if there is memory.
-pub(crate) fn define(defined: &mut Vec<Param>, name: Name, kind: Kind) -> bool
-    ensures { result ≡ true → defined.new.items ≡ defined.old.items
-        ++ record { name = name; kind = kind } ∷ [] }
+pub(crate) fn define(defined: &mut Vec<Param>, name: Name, kind: Kind) -> Result<(), NoMemory>
+    ensures { OnOk result (defined.new.items ≡ defined.old.items
+        ++ record { name = name; kind = kind } ∷ []) }
 {
-    match defined.push(Param { name, kind }) {
-        Ok(()) => true,
-        Err(_) => false,
-    }
+    keep(defined, Param { name, kind })
 }
 
 /// Adds names, if there is memory.
-pub(crate) fn keep_all(names: &mut Vec<Name>, more: &[Name]) -> bool
-    ensures { result ≡ true → names.new.items ≡ names.old.items ++ more.now }
+pub(crate) fn keep_all(names: &mut Vec<Name>, more: &[Name]) -> Result<(), NoMemory>
+    ensures { OnOk result (names.new.items ≡ names.old.items ++ more.now) }
 {
     for name in more {
-        if !keep(names, name.copied()) {
-            return false;
-        }
+        keep(names, name.copied())?;
     }
-    true
+    Ok(())
 }
 
 /// Adds names that can be read, if there is memory.
-pub(crate) fn define_all(defined: &mut Vec<Param>, names: &[Name], kind: Kind) -> bool
-    ensures { result ≡ true → defined.new.items ≡ defined.old.items
-        ++ map (λ n. record { name = n; kind = kind }) names.now }
+pub(crate) fn define_all(
+    defined: &mut Vec<Param>,
+    names: &[Name],
+    kind: Kind,
+) -> Result<(), NoMemory>
+    ensures { OnOk result (defined.new.items ≡ defined.old.items
+        ++ map (λ n. record { name = n; kind = kind }) names.now) }
 {
     for name in names {
-        if !define(defined, name.copied(), kind) {
-            return false;
-        }
+        define(defined, name.copied(), kind)?;
     }
-    true
+    Ok(())
 }
 
 /// The names that are not among others, if there is memory.
-pub(crate) fn others(names: &[Name], without: &[Name], alloc: Global) -> Option<Vec<Name>>
-    ensures { IfSome result (λ v. v.items ≡ filter (λ n. not (is_among without.now n)) names.now) }
+pub(crate) fn others(names: &[Name], without: &[Name], alloc: Global) -> Result<Vec<Name>, NoMemory>
+    ensures { IfOk result (λ v. v.items ≡ filter (λ n. not (is_among without.now n)) names.now) }
 {
     let mut kept = Vec::new(alloc);
     for name in names {
-        if !is_among(without, name.bytes()) && !keep(&mut kept, name.copied()) {
-            return None;
+        if !is_among(without, name.bytes()) {
+            keep(&mut kept, name.copied())?;
         }
     }
-    Some(kept)
+    Ok(kept)
 }

@@ -20,14 +20,14 @@ use std::marker::Model;
 use text_lex::Token;
 
 /// A token that breaks no rule.
-#[derive(Clone, Copy, Debug)]
+#[derive(Clone, Copy)]
 pub(crate) struct Taken<'a> {
     pub text: &'a [u8],
     pub terminal: Terminal,
 }
 
 /// A text, seen as what stands before its next token and the items that are left.
-#[derive(Debug, Drop)]
+#[derive(Drop)]
 pub(crate) struct Parser<'a> {
     tokens: Tokens<'a>,
     scope: Scope,

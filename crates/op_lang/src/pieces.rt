@@ -19,7 +19,7 @@ use op_text::{Gate, Kind, Spelling, Terminal, Wanted, WordOp, op_of};
 use text_lex::Name;
 
 /// The first token of a statement, or the `}` behind the last.
-#[derive(Debug, Drop)]
+#[derive(Drop)]
 pub(crate) enum Start {
     Word(Name),
     Serial,
@@ -27,7 +27,7 @@ pub(crate) enum Start {
 }
 
 /// The first token of a value.
-#[derive(Debug, Drop)]
+#[derive(Drop)]
 pub(crate) enum Leaf {
     Zero,
     One,

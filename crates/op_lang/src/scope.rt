@@ -9,9 +9,8 @@ use std::alloc::Global;
 use text_lex::Name;
 
 /// Within an op: each new name, the names that can be read, the result once it is named, whether it
-/// is
-/// assigned, and the number of statements.
-#[derive(Debug, Drop)]
+/// is assigned, and the number of statements.
+#[derive(Drop)]
 pub(crate) struct InOp {
     pub stands: Vec<Name>,
     pub defined: Vec<Param>,
@@ -21,7 +20,7 @@ pub(crate) struct InOp {
 }
 
 /// Within a word statement: its operation and the kinds of the arguments so far.
-#[derive(Debug, Drop)]
+#[derive(Drop)]
 pub(crate) struct InWord {
     pub operation: WordOp,
     pub given: Vec<Kind>,
@@ -30,7 +29,7 @@ pub(crate) struct InWord {
 /// Within a serial block: its states, the states and lets that can be read, the number of lets, the
 /// targets, the weight of the gates, and how many arguments each open gate still lacks, the
 /// innermost last.
-#[derive(Debug, Drop)]
+#[derive(Drop)]
 pub(crate) struct InBlock {
     pub states: Vec<Name>,
     pub readable: Vec<Name>,
@@ -41,7 +40,7 @@ pub(crate) struct InBlock {
 }
 
 /// What stands before a token, and the name that is being defined.
-#[derive(Debug, Drop)]
+#[derive(Drop)]
 pub(crate) struct Scope {
     pub alloc: Global,
     pub ops: Vec<Name>,

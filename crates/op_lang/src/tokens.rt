@@ -9,7 +9,7 @@ use op_text::{Breach, OpsKind, Terminal, terminal_of};
 use std::marker::Model;
 use text_lex::{LexFault, Lexer, Token};
 
-#[derive(Clone, Copy, Debug)]
+#[derive(Clone, Copy)]
 pub(crate) enum Ahead<'a> {
     Token(Token<'a>),
     Stranger(LexFault),
@@ -17,7 +17,7 @@ pub(crate) enum Ahead<'a> {
 }
 
 /// A text, seen as the items that are left.
-#[derive(Debug, Drop)]
+#[derive(Drop)]
 pub(crate) struct Tokens<'a> {
     lexer: Lexer<'a>,
     ahead: Ahead<'a>,

@@ -7,6 +7,7 @@ ghost use Rattle.op_lang.specs.Seen.{seen, Judges};
 use crate::fault::Refused;
 use crate::names::{is_among, is_bad, kind_of};
 use crate::scope::Scope;
+use no_memory::keep;
 use op_text::{Gate, OpsKind, Spelling, gate_of};
 
 fn weight_of(gate: Gate) -> usize
@@ -38,10 +39,8 @@ fn gate(scope: &mut Scope, gate: Gate) -> Result<(), Refused>
         return Err(Refused::Rule(OpsKind::TooMany));
     }
     scope.block.weight += weight;
-    match scope.block.missing.push(others_of(gate)) {
-        Ok(()) => Ok(()),
-        Err(_) => Err(Refused::Memory),
-    }
+    keep(&mut scope.block.missing, others_of(gate))?;
+    Ok(())
 }
 
 fn is_readable(scope: &Scope, text: &[u8]) -> bool
@@ -86,10 +85,8 @@ pub(crate) fn comma(scope: &mut Scope) -> Result<(), Refused>
     if lacking == 0 {
         return Err(Refused::Rule(OpsKind::Kind));
     }
-    match scope.block.missing.push(lacking - 1) {
-        Ok(()) => Ok(()),
-        Err(_) => Err(Refused::Memory),
-    }
+    keep(&mut scope.block.missing, lacking - 1)?;
+    Ok(())
 }
 
 /// The `)` behind a gate's argument.

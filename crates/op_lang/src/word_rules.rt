@@ -5,8 +5,9 @@ ghost use Rattle.op_text.specs.Rules as rules;
 ghost use Rattle.op_lang.specs.Seen.{seen, Judges};
 
 use crate::fault::Refused;
-use crate::names::{define, good_name, is_among, is_bad, is_called, is_of_kind, keep, kind_of};
+use crate::names::{define, good_name, is_among, is_bad, is_called, is_of_kind, kind_of};
 use crate::scope::{InBlock, InWord, Scope};
+use no_memory::keep;
 use op_text::{Kind, OpsKind, Spelling, filled, may_take, op_of, wants_more};
 
 /// The target of a word statement.
@@ -72,10 +73,8 @@ fn argument_of_kind(scope: &mut Scope, kind: Kind) -> Result<(), Refused>
     if !may_take(scope.word.operation, &scope.word.given, kind) {
         return Err(Refused::Rule(OpsKind::Kind));
     }
-    match scope.word.given.push(kind) {
-        Ok(()) => Ok(()),
-        Err(_) => Err(Refused::Memory),
-    }
+    keep(&mut scope.word.given, kind)?;
+    Ok(())
 }
 
 pub(crate) fn argument(scope: &mut Scope, spelling: Spelling, text: &[u8]) -> Result<(), Refused>
@@ -122,11 +121,8 @@ fn gives_kind(scope: &mut Scope, kind: Kind) -> Result<(), Refused>
     if is_result && !is_of_kind(&scope.op.result, kind) {
         return Err(Refused::Rule(OpsKind::Kind));
     }
-    if !keep(&mut scope.op.stands, target.copied())
-        || !define(&mut scope.op.defined, target.copied(), kind)
-    {
-        return Err(Refused::Memory);
-    }
+    keep(&mut scope.op.stands, target.copied())?;
+    define(&mut scope.op.defined, target.copied(), kind)?;
     scope.op.assigned = scope.op.assigned || is_result;
     scope.word = InWord::new(scope.alloc);
     scope.naming = None;

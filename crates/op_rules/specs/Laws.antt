@@ -77,8 +77,7 @@ KindsAreKept = (c : Context) (s : Statement) (n : ℕ) (names : List ℕ → Hel
     → Each (Holds n names) c.known → Each (Holds n (after_statement n names s)) (behind c s).known
 
 -- Behind the first statements of an op the names that are then known hold bits of their kinds, and
--- behind
--- all of them the result does.
+-- behind all of them the result does.
 pub record HoldsKinds (op : Operation) (n : ℕ) (values : List ℕ) : Type 0 where
   pub behind : (front rest : List Statement) → op.body ≡ front ++ rest
       → Each (Holds n (after_body n front (with_sources n holds_nothing op.params values)))

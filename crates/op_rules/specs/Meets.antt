@@ -35,8 +35,7 @@ abbrev pub targets : Block → List (List ℕ)
 targets block = map (λ (e : Equation). e.name) block.assigns
 
 -- What stands before a statement: the names that can be read with their kinds, the lets of the
--- blocks
--- before it, which cannot be read any more, and the op's result.
+-- blocks before it, which cannot be read any more, and the op's result.
 pub record Context : Type 0 where
   pub known : List Param
   pub lets : List (List ℕ)

@@ -42,8 +42,7 @@ direction_word sp.Down = Some []
 direction_word n = None
 
 -- What the grammar asks for behind a token, before all that it asked for later; or none, where it
--- does
--- not allow the token. The flag says whether an opening parenthesis follows.
+-- does not allow the token. The flag says whether an opening parenthesis follows.
 abbrev pub follow : Wanted → Terminal → Bool → Option (List Wanted)
 follow Ops (t.Name n) o = op_word n
 follow NewOp (t.Name n) o = Some []

@@ -59,9 +59,8 @@ abbrev pub MAX_DEPTH : ℕ
 MAX_DEPTH = 32
 
 -- What stands before a token, within the op: each new name, the names that can be read with their
--- kinds
--- (the sources alone while these are read), the result, whether it is assigned, and the number of
--- statements.
+-- kinds (the sources alone while these are read), the result, whether it is assigned, and the
+-- number of statements.
 pub record InOp : Type 0 where
   pub stands : List (List ℕ)
   pub defined : List Param
@@ -401,8 +400,7 @@ kind_of_word sp.Word = Word
 kind_of_word n = Bit
 
 -- The rules other than the grammar's at a token that the grammar allows: the first that it breaks,
--- in
--- the order of their numbers, or the scope behind it.
+-- in the order of their numbers, or the scope behind it.
 abbrev pub rules_at : Wanted → Scope → Terminal → List ℕ → Bool → Result Scope OpsKind
 rules_at Ops s (t.Name n) text o = unless (nat_le MAX_OPS (length s.ops)) TooMany (Ok s)
 rules_at NewOp s (t.Name n) text o = op_rules s n text
