@@ -1,16 +1,14 @@
 -- Lists of gates that go on
-use Rattle.std.proofs.Common.{◌≡◌, ℕ, suc, ◌+◌, ◌<◌, ◌≤◌, Bool, false, cond, List, [], ◌∷◌, ◌++◌}
+use Rattle.std.proofs.Common.{◌≡◌, ℕ, suc, ◌+◌, ◌<◌, ◌≤◌, Bool, false, List, [], ◌∷◌, ◌++◌}
 use Rattle.std.proofs.Common.{length, refl, sym, ◌∙◌, ap, subst, arith, inl, inr, length-append}
-use Rattle.std.proofs.Common.{append_assoc, if◌then◌else◌}
+use Rattle.std.proofs.Common.{append_assoc}
 use Rattle.std.proofs.lemmas.Bool.{cases_lt}
-use Rattle.std.proofs.lemmas.List.{get_or_append_left, get_or-append-add, append-nil}
-use Rattle.std.proofs.lemmas.List.Sums.{sum_by-append}
+use Rattle.std.proofs.lemmas.List.{get_or_append_left, get_or-append-add}
 use Rattle.aoi_graph.specs.Gates.{with_value}
 use Rattle.aoi_graph.proofs.GateLaws.{with-same}
 use Rattle.aoi_graph.specs.declared.AoiNode.{AoiNode}
 use Rattle.aoi_graph.specs.declared.AoiNode.TheVariants.{Zero}
 use Rattle.aoi_graph.specs.Gates.{gate_value, ReadsBelow, aoi_at, aoi_from, aoi_values, AreLower}
-use Rattle.aoi_graph.specs.Gates.{is_gate}
 use Rattle.aoi_graph.proofs.GateLaws.{aoi-below}
 use Rattle.std.specs.Prelude.{Option, Some, None, bytes_eq}
 use Rattle.std.specs.Option.{option_map_or}
@@ -39,25 +37,6 @@ at-last : (ns : List AoiNode) (n : AoiNode) → aoi_at (ns ++ n ∷ []) (length 
 at-last ns n = let e : length ns ≡ length ns + 0 = omega arith in
     rw e (get_or-append-add ns (n ∷ []) 0 Zero)
 
-pub lower-more : (ns : List AoiNode) (n : AoiNode) → AreLower ns → ReadsBelow (length ns) n
-    → AreLower (ns ++ n ∷ [])
-lower-more ns n h b k l = elim (cases_lt k (length ns)) [
-  | inl c ↦ subst (ReadsBelow k) (sym (at-old ns n k c)) (h k c)
-  | inr c ↦ let e : length ns ≡ k = omega (arith, length-append ns (n ∷ [])) in
-      subst (λ j. ReadsBelow j (aoi_at (ns ++ n ∷ []) j)) e
-      (subst (ReadsBelow (length ns)) (sym (at-last ns n)) b)
-]
-
--- one node more
-pub grows-one : (ns new : List AoiNode) (n : AoiNode) → new ≡ ns ++ n ∷ [] → AreLower ns
-    → ReadsBelow (length ns) n → Grows ns new (if is_gate n then 1 else 0) 1
-grows-one ns new n e h b = rw e (record {
-  extends = (n ∷ [], refl);
-  lower = lower-more ns n h b;
-  few = omega (arith, sum_by-append (λ (n : AoiNode). cond (is_gate n) 1 0) ns (n ∷ []));
-  short = omega (arith, length-append ns (n ∷ []));
-})
-
 pub value-new : (bits : ℕ → Bool) (ns new : List AoiNode) (n : AoiNode) (r : ℕ) → new ≡ ns ++ n ∷ []
     → r ≡ length ns → AreLower ns → ReadsBelow (length ns) n
     → aoi_values new bits r ≡ gate_value bits (aoi_values ns bits) n
@@ -66,14 +45,6 @@ value-new bits ns new n r e f h b = rw (e, f)
     (ap (λ (v : ℕ → Bool). v (length ns)) (aoi-append bits 0 ns (n ∷ []) (λ _. false))
     ∙ (let z : 0 + length ns ≡ length ns = omega arith in
     rw z (with-same (length ns) (gate_value bits (aoi_values ns bits) n) (aoi_values ns bits))))
-
-pub grows-none : (ns : List AoiNode) (most : ℕ) → AreLower ns → Grows ns ns 0 most
-grows-none ns most h = record {
-  extends = ([], sym (append-nil ns));
-  lower = h;
-  few = omega arith;
-  short = omega arith;
-}
 
 -- twice
 pub grows-then : (a b c : List AoiNode) (g p h q i r : ℕ) → Grows a b g p → Grows b c h q

@@ -3,7 +3,7 @@ use Rattle.std.proofs.Common.{◌≡◌, ℕ, zero, suc, ◌+◌, List, [], ◌�
 use Rattle.std.proofs.Common.{arith}
 use Rattle.loop_ir.specs.Plain.{Block, InnerOf, StepOf}
 use Rattle.loop_ir.specs.Plain.InnerOf.{Alone, Across}
-use Rattle.loop_ir.specs.Plain.StepOf.{Single, Along, Nest}
+use Rattle.loop_ir.specs.Plain.StepOf.{Along, Nest}
 use Rattle.loop_ir.specs.Loops.{RoundOf, round_at, one_round, rounds, positions, inner_rounds}
 use Rattle.loop_ir.specs.Loops.{all_rounds}
 use Rattle.loop_ir.specs.Spots.{Spots, after_round, after_rounds}

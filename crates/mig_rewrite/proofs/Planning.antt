@@ -2,7 +2,7 @@
 use Rattle.std.proofs.Common.{◌≡◌, ◌≢◌, ℕ, ◌<◌, ◌==◌, Bool, true, false, List, length, refl, arith}
 use Rattle.std.proofs.Common.{inl, inr, sym, ◌∙◌, subst, slice_set, if◌then◌else◌, eqb-true, eq-eqb}
 use Rattle.std.proofs.Common.{get_or-set_other, get_or-set_same, length-set}
-use Rattle.std.specs.Prelude.{Some, None}
+use Rattle.std.specs.Prelude.{Some}
 use Rattle.mig_graph.specs.declared.Lit.{Lit}
 use Rattle.mig_graph.specs.Graph.{Graph, size_of, IsGraph}
 use Rattle.mig_graph.specs.Outputs.{lit_at}
@@ -151,17 +151,6 @@ pub each-map : (P Q : Lit → Type 0) (p : Part) → ((l : Lit) → P l → Q l)
 each-map P Q Nothing f a = tt
 each-map P Q (One x y z) f a = (f x a.0, f y a.1, f z a.2)
 each-map P Q (Two x y u v z) f a = (f x a.0, f y a.1, f u a.2, f v a.3, f z a.4)
-
--- without a merge
-pub plan-plain : (g : Graph) (outs : List Lit) (marks : List Bool) → IsReached g outs marks
-    → IsPlan g outs None marks
-plan-plain g outs marks h = record {
-  long = h.long;
-  outputs = h.outputs;
-  closed = λ k a b. if-cases (EachLit (λ l. is_marked marks l.node ≡ true)) (is_marked marks k)
-      (whole_part g None k) Nothing (λ e. h.closed k a b e) (λ _. tt);
-  spared = tt;
-}
 
 -- with a merge
 pub plan-merge : (g : Graph) (outs : List Lit) (m : Merge) (marks : List Bool)

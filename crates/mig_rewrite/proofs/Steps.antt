@@ -17,7 +17,7 @@ use Rattle.mig_rewrite.specs.declared.rebuild.Part.{Part}
 use Rattle.mig_rewrite.specs.declared.rebuild.Part.TheVariants.{Nothing, One, Two}
 use Rattle.mig_rewrite.specs.Merge.{IsMerge, straight}
 use Rattle.mig_rewrite.specs.Plan.{is_marked, EachLit, part_of, whole_part, part_value, IsPlan}
-use Rattle.mig_rewrite.specs.Plan.{MayMerge, cost, spared_below, merged_below, one_below, saving}
+use Rattle.mig_rewrite.specs.Plan.{MayMerge, cost, spared_below, merged_below, one_below}
 use Rattle.mig_rewrite.proofs.Numbered.{numbered-lower, numbered-value}
 use Rattle.mig_rewrite.proofs.Planning.{if-cases, not-both, merge-placed, AreOutside, outside}
 use Rattle.mig_rewrite.proofs.Planning.{each-map, each-zip}
@@ -131,9 +131,6 @@ below-two a b k d = grind (arith, nat_tests)
 below-least : (a b k : ℕ) → a < b → one_below b k ≤ one_below a k
 below-least a b k d = grind (arith, nat_tests)
 
-below-yes : (a k : ℕ) → a < k → one_below a k ≡ 1
-below-yes a k d = grind (arith, nat_tests)
-
 below-no : (a k : ℕ) → k ≤ a → one_below a k ≡ 0
 below-no a k d = grind (arith, nat_tests)
 
@@ -173,21 +170,6 @@ pub merged-spared : (g : Graph) (outs : List Lit) (merge : Option Merge) (k : �
 merged-spared g outs None k graph h = omega arith
 merged-spared g outs (Some m) k graph h = let l =
     below-least m.first m.node k (merge-placed g outs m graph h).first_below in omega arith
-
--- at the end two are spared and one is merged
-pub saved : (g : Graph) (outs : List Lit) (merge : Option Merge) (n : ℕ) → IsGraph g.inputs g.nodes
-    → MayMerge g outs merge → n + spared_below merge (size_of g)
-    ≤ size_of g + merged_below merge (size_of g) → n + saving merge ≤ size_of g
-saved g outs None n graph h c = omega arith
-saved g outs (Some m) n graph h c =
-    let p = merge-placed g outs m graph h in
-    let b = h.below in
-    let f : m.first < size_of g = omega (arith, p.first_below) in
-    let s : m.second < size_of g = omega (arith, p.second_below) in
-    let x = below-yes m.first (size_of g) f in
-    let y = below-yes m.second (size_of g) s in
-    let z = below-yes m.node (size_of g) b in
-    omega arith
 
 -- none stands below the first node
 pub spared-none : (g : Graph) (outs : List Lit) (merge : Option Merge) → MayMerge g outs merge

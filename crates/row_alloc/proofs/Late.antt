@@ -95,8 +95,3 @@ late-parts outs first rest h i = record {
 pub writes-late : (outs : List OutRow) (cmds : List BodyCmd) → IsTwoParts cmds
     → WritesLate outs cmds
 writes-late outs cmds p = rw p.whole (late-parts outs p.first p.rest p.early p.late)
-
--- one command alone
-pub one-late : (outs : List OutRow) (cmds : List BodyCmd) → length cmds ≡ 1 → WritesLate outs cmds
-one-late outs cmds e =
-    record { late = λ p q j k before within shares written read. absurd (omega arith) }

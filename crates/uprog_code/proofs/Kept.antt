@@ -218,13 +218,6 @@ module _ (rows : ℕ) (shape : Shape) (n : ℕ) (b : Bound) (fits : Fits rows sh
     value_in shape.sources b.sources which i fits.sources h,
   )
 
-  pub result_fits : (which i : ℕ) → is_issued_in shape n space.Result which i ≡ true
-      → (which < length b.results) × (slice_index b.results which + i < rows - 32)
-  result_fits which i h = (
-    value_there (results shape) b.results which i fits.results h,
-    value_in (results shape) b.results which i fits.results h,
-  )
-
   -- a first value has a row below the spill group
   room : 0 < n → (k : Kind) (ks : List Kind) (bs : List ℕ) → AreBelow rows n (k ∷ ks) bs → 32 < rows
   room some k ks [] f = absurd f

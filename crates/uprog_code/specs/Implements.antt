@@ -25,7 +25,7 @@ pub record Gives (shape : Shape) (n : ℕ) (issues : List Issue) (meaning : List
       → numbers n (results shape) b.results (run (bound rows shape n b issues) s)
       ≡ meaning (numbers n shape.sources b.sources s)
 
--- and every data row outside result, scratch and spill group as it was
+-- and every data row outside results, scratch and spill group as it was
 pub record Keeps (shape : Shape) (n : ℕ) (issues : List Issue) : Type 0 where
   pub row : (rows : ℕ) (b : Bound) (s : Column) → Fits rows shape n b → (r : ℕ)
       → (IsTouched rows shape n b r → ⊥) → run (bound rows shape n b issues) s (D r) ≡ s (D r)

@@ -7,14 +7,14 @@ use Rattle.uprog_code.specs.Shape.{Shape, Microprogram}
 use Rattle.uprog_code.specs.Implements.{Implements}
 
 -- an op of a text, as far as a machine knows it: its name, its kinds and scratch, how many commands
--- it may take, and the number that it makes of its sources' numbers
+-- it may take, and the numbers that it makes of its sources' numbers
 pub record TextOp : Type 0 where
   pub name : List ℕ
   pub shape : Shape
   pub ceiling : ℕ → ℕ
   pub meaning : ℕ → List ℕ → List ℕ
 
--- the kinds of an op's sources and result, and the scratch that it needs
+-- the kinds of an op's sources and result (an op of the language has one), and its scratch
 abbrev pub op_shape : Operation → Shape
 op_shape op = record {
   sources = map (λ p. p.kind) op.params;

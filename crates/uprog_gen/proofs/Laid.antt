@@ -4,7 +4,7 @@ use Rattle.std.proofs.Common.{subst, refl, arith, inl, inr}
 use Rattle.std.specs.Prelude.{slice_get, slice_index}
 use Rattle.std.specs.List.{AllByRecursion}
 use Rattle.op_text.specs.declared.tree.Kind.{Kind}
-use Rattle.uprog_code.specs.Shape.{Shape, width, need, results}
+use Rattle.uprog_code.specs.Shape.{Shape, width, results}
 use Rattle.uprog_code.specs.Bound.{Bound}
 use Rattle.uprog_code.specs.Fits.{Fits, Range, IsAmong, AreApart, ranges, AreBelow}
 use Rattle.uprog_code.specs.Fits.{ArePairwiseApart, scratch_range, written, IsInSome}

@@ -22,7 +22,7 @@ use Rattle.loop_ir.specs.declared.names.Slot.{Slot}
 use Rattle.loop_ir.specs.declared.names.NameMap.{NameMap}
 use Rattle.loop_ir.specs.Statements.{slots_of}
 use Rattle.uprog_gen.specs.Layout.{Lay, is_scratch, source_lays, defined_lays, found, IsLayoutMap}
-use Rattle.uprog_gen.specs.Laying.{placed, Lays, LaysSources, kind_in, Knows, IsShort, IsLaidTo}
+use Rattle.uprog_gen.specs.Laying.{placed, Lays, kind_in, Knows, IsShort, IsLaidTo}
 use Rattle.uprog_gen.proofs.Lays.{params_of, or_else, found_kind, source_params, defined_params}
 use Rattle.uprog_gen.proofs.Placed.{placed_same, placed-append, placed_found, defined_lays-append}
 
@@ -120,16 +120,6 @@ module _ (op : Operation) (meets : OperationMeets op) where
 
   pub laid_words : (k : ℕ) (m : NameMap) → IsLaidTo op k m → m.free_word ≤ 128
   laid_words k m is = omega (arith, is.words, few Word k)
-
-  -- at the start the sources alone have places
-  pub laid_start : (old new : NameMap) → ((n : List ℕ) → slots_of old n ≡ None) → old.free_bit ≡ 0
-      → old.free_word ≡ 0 → LaysSources 0 op.params old new → IsLaidTo op 0 new
-  laid_start old new none b w h = record {
-    at = λ n. h.at n ∙ placed_same (slots_of old) (λ m. None) (source_lays 0 op.params) none n
-        ∙ ap (λ l. placed (λ m. None) l n) (sym (append-nil (source_lays 0 op.params)));
-    bits = omega (arith, h.bits, b);
-    words = omega (arith, h.words, w);
-  }
 
   -- one statement more
   pub laid_more : (k : ℕ) (s : Statement) (old new : NameMap)

@@ -13,7 +13,6 @@ use Rattle.op_text.specs.Scratch.{body_defines, scratch_names}
 use Rattle.op_text.specs.Spelling.{Each}
 use Rattle.op_rules.proofs.Names.{same_name, each_map}
 use Rattle.op_rules.proofs.Ops.{each_append}
-use Rattle.loop_ir.specs.declared.ir.Space.{Space}
 use Rattle.loop_ir.specs.declared.ir.Space.TheVariants.{Result, Source, ScratchBit, ScratchWord}
 use Rattle.uprog_gen.specs.Layout.{Lay, slot, source_lays, is_scratch, scratch_slot, defined_lays}
 use Rattle.uprog_gen.specs.Layout.{lays}

@@ -68,14 +68,6 @@ found-here b j lit (Some l) reads inputs place writes er ei ew ep lt el f g = re
   none = λ h. absurd (cc);
 }
 
-pub outs-none : (b : Block) → IsOuts b 0 []
-outs-none b = record {
-  size = refl;
-  lits = λ j lt. absurd (omega arith);
-  found = λ j k lt. absurd (omega arith);
-  none = λ j lt. absurd (omega arith);
-}
-
 out-old : (outs : List OutRow) (o : OutRow) (j : ℕ) → j < length outs
     → out_at (outs ++ o ∷ []) j ≡ out_at outs j
 out-old outs o j lt = get_or_append_left outs (o

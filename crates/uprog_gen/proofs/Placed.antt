@@ -4,7 +4,7 @@ use Rattle.std.proofs.Common.{◌∷◌, ◌++◌, map, length, take, Some, None
 use Rattle.std.proofs.Common.{arith, bytes_eq}
 use Rattle.std.specs.Prelude.{count_by, slice_index_or}
 use Rattle.std.specs.List.{filter, list_any}
-use Rattle.std.proofs.lemmas.List.{map-append, take_more, length-map}
+use Rattle.std.proofs.lemmas.List.{map-append, take_more}
 use Rattle.std.proofs.lemmas.List.Sums.{sum_by-append, sum_by-cons, count_by-le-length}
 use Rattle.op_text.specs.declared.tree.Kind.{Kind}
 use Rattle.op_text.specs.declared.tree.Kind.TheVariants.{Word, Bit}
@@ -18,9 +18,8 @@ use Rattle.op_text.specs.Scratch.{param, defines}
 use Rattle.op_rules.specs.Meets.{names_of, Differ}
 use Rattle.op_rules.proofs.Names.{same_name, turned}
 use Rattle.loop_ir.specs.declared.names.NameMap.{NameMap}
-use Rattle.loop_ir.specs.declared.ir.Space.TheVariants.{Source}
 use Rattle.loop_ir.specs.Statements.{Slots, slots_of}
-use Rattle.uprog_gen.specs.Layout.{Lay, slot, own_slot, is_scratch, source_lays, defined_lays}
+use Rattle.uprog_gen.specs.Layout.{Lay, slot, own_slot, is_scratch, defined_lays}
 use Rattle.uprog_gen.specs.Layout.{found}
 use Rattle.uprog_gen.specs.Laying.{placed, Lays, states_defined, words_defined}
 use Rattle.uprog_gen.proofs.Lays.{by_bool, params_of, found_new, or_else}

@@ -113,24 +113,6 @@ module _ (P : Part → Type 0) where
   in_rounds n (s ∷ ss) h = all_both In (step_rounds n s) (all_rounds n ss) (step_parts n s h.0)
       (in_rounds n ss h.1)
 
--- what holds of the bodies holds of the parts' bodies
-inner_back : (P : Block → Type 0) (xs : List (InnerOf Part))
-    → AllInner P (map (inner_map block_of_part) xs) → AllInner (λ p. P p.block) xs
-inner_back P [] h = tt
-inner_back P (Alone p ∷ xs) h = (h.0, inner_back P xs h.1)
-inner_back P (Across count p ∷ xs) h = (h.0, inner_back P xs h.1)
-
-step_back : (P : Block → Type 0) (s : StepOf Part) → AllStep P (step_map block_of_part s)
-    → AllStep (λ p. P p.block) s
-step_back P (Single p) h = h
-step_back P (Along p) h = h
-step_back P (Nest parts) h = inner_back P parts h
-
-pub parts_back : (P : Block → Type 0) (ss : List (StepOf Part)) → AllParts P (blocks ss)
-    → AllParts (λ p. P p.block) ss
-parts_back P [] h = tt
-parts_back P (s ∷ ss) h = (step_back P s h.0, parts_back P ss h.1)
-
 module _ (head : Shape) (n : ℕ) where
   good : (rs : List (RoundOf Part)) → AllByRecursion (IsRound (IsSpot head n) n)
       (map block_round rs) → AllByRecursion (λ r. IsPart r.part) rs

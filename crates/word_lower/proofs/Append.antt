@@ -38,14 +38,6 @@ pub made_push : (steps new : List Step) (s : Step) → new ≡ steps ++ s ∷ []
 made_push steps new s e all h = subst (AllParts IsMade) (sym (ap (map step_of) e
     ∙ step_last steps s)) (made_last (map step_of steps) (step_of s) all h)
 
-no_more : (ts : List (StepOf Block)) → ts ++ [] ≡ ts
-no_more [] = refl
-no_more (t ∷ ts) = ap (λ x. t ∷ x) (no_more ts)
-
--- no line, no step
-pub like_none : (ss ts : List (StepOf Block)) → LikeSteps ss ts → LikeSteps ss (ts ++ [])
-like_none ss ts h = subst (LikeSteps ss) (sym (no_more ts)) h
-
 line_more : (o : Owners) (l : Option Line) (ls : List (Option Line))
     → program_on o (lines_steps (l ∷ ls)) ≡ program_on o (lines_steps (l ∷ []))
     ++ program_on o (lines_steps ls)

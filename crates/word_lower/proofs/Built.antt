@@ -1,11 +1,11 @@
 -- The nodes of a graph that is built by a template.
-use Rattle.std.proofs.Common.{◌≡◌, inl, inr, ℕ, ◌+◌, ◌<◌, ◌≤◌, Bool, List, [], ◌∷◌, ◌++◌, length}
-use Rattle.std.proofs.Common.{length-append, refl, sym, ap, ◌∙◌, arith}
+use Rattle.std.proofs.Common.{◌≡◌, ℕ, ◌+◌, ◌<◌, ◌≤◌, Bool, List, [], ◌∷◌, ◌++◌, length}
+use Rattle.std.proofs.Common.{refl, sym, ap, ◌∙◌, arith}
 use Rattle.bit_rows.specs.Bits.{majority}
 use Rattle.mig_graph.specs.declared.Lit.{Lit}
 use Rattle.mig_graph.specs.declared.Node.{Node}
 use Rattle.mig_graph.specs.Literals.{IsLower, lit_value, node_value, turn_if}
-use Rattle.mig_graph.specs.Graph.{Graph, start, values, value, node_at, size_of, GrewByOne}
+use Rattle.mig_graph.specs.Graph.{Graph, start, values, value, node_at, size_of}
 use Rattle.mig_graph.proofs.Laws.{values-below, values-at}
 use Rattle.mig_graph.specs.Outputs.{lit_at}
 use Rattle.mig_graph.proofs.OutputLaws.{each-more, value-turned}
@@ -77,9 +77,3 @@ pub named_more : (inputs : ℕ) (g h : Graph) (lits more : List Lit) (l : Lit) (
 named_more inputs g h lits more l i long e same grew named new k lt =
     each-more (λ k x. x.node < size_of h) lits more l (inputs + 1 + i) long e (λ k b.
     let c = named k b in omega arith) new k (omega arith)
-
-pub grew_some : (g h : Graph) → GrewByOne g h → (length g.nodes ≤ length h.nodes)
-    × (length h.nodes ≤ length g.nodes + 1)
-grew_some g h (inl e) = let f = ap length e in (omega arith, omega arith)
-grew_some g h (inr e) = let f = ap length e.1 in let a = length-append g.nodes (e.0 ∷ []) in
-    (omega (arith, f, a), omega (arith, f, a))

@@ -23,8 +23,8 @@ use Rattle.loop_ir.specs.Spots.{Spot, Spots, spot_in, after_rounds, IsOwn}
 use Rattle.loop_ir.specs.Like.{LikeSteps}
 use Rattle.loop_ir.specs.Statements.{Slots, holds_kind, statement_names, IsPlaced, HaveKinds}
 use Rattle.loop_ir.specs.Statements.{ComputeMeets}
-use Rattle.loop_ir.specs.Lowered.{slot_spot, slot_bits, HoldsAt, Holds, IsRowOf, IsStatementRow}
-use Rattle.loop_ir.specs.Lowered.{Does, ceiling_of, IsLowered}
+use Rattle.loop_ir.specs.Lowered.{slot_spot, slot_bits, HoldsAt, Holds, IsStatementRow}
+use Rattle.loop_ir.specs.Lowered.{Does, IsLowered}
 use Rattle.loop_ir.specs.Lowered as l
 use Rattle.loop_laws.specs.Rooms.{Room, room_at, IsOwned, extent}
 use Rattle.loop_laws.specs.Forms.{IsMade, HasForm}
