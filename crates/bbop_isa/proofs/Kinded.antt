@@ -1,6 +1,7 @@
 -- What is wrong with a line, kind by kind.
 use Rattle.std.proofs.Common.{◌≡◌, ◌≢◌, ℕ, nat_lt, nat_eq, Bool, true, false, List, [], ◌∷◌}
-use Rattle.std.proofs.Common.{◌≤◌, ◌++◌, map, length, drop, take, Option, Some, None, Result, Ok, Err}
+use Rattle.std.proofs.Common.{◌≤◌, ◌++◌, map, length, drop, take, Option, Some, None, Result, Ok}
+use Rattle.std.proofs.Common.{Err}
 use Rattle.std.proofs.Common.{if◌then◌else◌, codes, refl, sym, ap, ◌∙◌, subst, arith}
 use Rattle.std.specs.Str.{bytes_eq}
 use Rattle.std.specs.Option.{option_map}
@@ -188,6 +189,7 @@ verb_begins head v is =
   where
     verb_is : (a b : Verb) → Some a ≡ Some b → Begins head a → Begins head b
     verb_is a b e h = let same : a ≡ b = cc in subst (Begins head) same h
+
     at : (a b c d e f : Bool) → bytes_eq head (codes "bbop_trsp_init") ≡ a
         → starts_with nat_eq head (codes "bbop_") ≡ b → bytes_eq head (codes "load") ≡ c
         → bytes_eq head (codes "fill") ≡ d
@@ -201,8 +203,11 @@ verb_begins head v is =
         let front : codes "bbop_" ≡ take 5 head = is_text (codes "bbop_") (take 5 head) q in
         let whole : head ≡ codes "bbop_" ++ drop 5 head = sym (take-append-drop 5 head)
         ∙ ap (λ l. l ++ drop 5 head) (sym front) in
-        verb_is verb.Bbop v is (whole, λ same. is_other head (codes "bbop_trsp_init") p (whole
-        ∙ ap (λ l. codes "bbop_" ++ l) same))
+        verb_is verb.Bbop v is (
+          whole,
+          λ same. is_other head (codes "bbop_trsp_init") p (whole
+              ∙ ap (λ l. codes "bbop_" ++ l) same),
+        )
     at false false true d e f p q r s t u is = verb_is verb.Load v is (is_text head _ r)
     at false false false true e f p q r s t u is = verb_is verb.Fill v is (is_text head _ s)
     at false false false false true f p q r s t u is = verb_is verb.Print v is (is_text head _ t)
@@ -287,9 +292,11 @@ order_has head (Name word ∷ Number seed ∷ []) f h is = at (bytes_eq word (co
     at : (a : Bool) → bytes_eq word (codes "seed") ≡ a
         → (if a then Some (SeedOrder seed) else None) ≡ Some f
         → HasForm (Name head ∷ Name word ∷ Number seed ∷ []) f
-    at true e is = has_form head (Name word ∷ Number seed ∷ []) (SeedOrder seed) f is
-        (two_words head _ (Name word ∷ Number seed ∷ []) _ h (ap (λ t. Name t ∷ Number seed ∷ [])
-        (is_text word _ e)), tt)
+    at true e is = has_form head (Name word ∷ Number seed ∷ []) (SeedOrder seed) f is (
+      two_words head _ (Name word ∷ Number seed ∷ []) _ h (ap (λ t. Name t ∷ Number seed ∷ [])
+          (is_text word _ e)),
+      tt,
+    )
     at false e is = absurd (cc)
 order_has head (Name word ∷ Name other ∷ words) f h is = absurd (cc)
 order_has head (Name word ∷ Comma ∷ words) f h is = absurd (cc)

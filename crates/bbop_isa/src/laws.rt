@@ -20,8 +20,8 @@ pub fn lines_are_forms()
     ensures { LinesAreForms }
 {}
 
-/// A line is refused for what is wrong with it: for its bytes, its form, a name or a number, in this
-/// order.
+/// A line is refused for what is wrong with it: for its bytes, its form, a name or a number, in
+/// this order.
 pub fn lines_are_wrong()
     ensures { LinesAreWrong }
 {}

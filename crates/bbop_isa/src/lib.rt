@@ -16,6 +16,3 @@ pub use laws::{
 };
 pub use lines::split_line;
 pub use script::parse_script;
-
-#[cfg(test)]
-mod tests;

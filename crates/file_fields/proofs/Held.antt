@@ -199,3 +199,12 @@ field_again {K = K} short w limit text wide passes kind at next bytes n h lt ok 
     let step : Result ℕ (FileFault K) → Result ℕ (FileFault K) =
     λ r. r >>= λ k. rule (passes k) at kind >>= λ _. Ok k in
     ap step read ∙ rw ok refl
+
+-- a number that was read passes its test
+pub field_passes : {K : Type 0} (short : K) (w : Width) (passes : ℕ
+    → Bool) (kind : K) (at : ℕ) (bytes : List ℕ) (n : ℕ)
+    → field_at short w passes kind at bytes ≡ Ok n → passes n ≡ true
+field_passes short w passes kind at bytes n e =
+    let a = bind_ok (number_at short w at bytes) (λ k. rule (passes k) at kind >>= λ _. Ok k) n e in
+    let b = bind_ok (rule (passes a.0) at kind) (λ _. Ok a.0) n a.2 in
+    ap passes (sym (ok_is a.0 n b.2)) ∙ rule_ok (passes a.0) at kind b.0 b.1

@@ -1,8 +1,7 @@
 -- Reading a file field by field: what a field holds, or the first field that is not whole or breaks
 -- its rule. K is what fields can break.
 use Rattle.std.specs.Prelude.{◌≡◌, ◌<◌, ℕ, ◌+◌, ◌-◌, Bool, not, ◌&&◌, nat_le, nat_lt, ◌==◌, List}
-use Rattle.std.specs.Prelude.{◌∷◌}
-use Rattle.std.specs.Prelude.{◌++◌, length, take, drop, replicate, Result, Ok, Err}
+use Rattle.std.specs.Prelude.{◌∷◌, ◌++◌, length, take, drop, replicate, Result, Ok, Err}
 use Rattle.std.specs.Prelude.{if◌then◌else◌, slice_index_or}
 use Rattle.std.specs.Int.{Width, w8, byte_len, from_le_bytes}
 use Rattle.std.specs.List.{list_all}

@@ -1,7 +1,6 @@
 //! Names as fields of a file.
 
-ghost use Rattle.std.specs.Prelude.{◌≡◌, ◌≤◌, ◌==◌, [], take, length, Some, None};
-ghost use Rattle.std.specs.Prelude.{if◌then◌else◌};
+ghost use Rattle.std.specs.Prelude.{◌≡◌, ◌≤◌, ◌==◌, [], take, length, Some, None, if◌then◌else◌};
 ghost use Rattle.std.specs.List.{list_all};
 ghost use Rattle.arrayvec.specs.ArrayVec.{array_vec_len};
 ghost use Rattle.file_fields.specs.Fields.{is_padded_name, name_bytes};
@@ -13,7 +12,7 @@ use text_lex::Name;
 pub const NAME_MAX: usize = 16;
 
 /// The bytes of a name in a file: its length, its bytes, and zeros.
-pub const NAME_BYTES: usize = 17;
+pub const NAME_BYTES: usize = NAME_MAX + 1;
 
 fn all_zero(bytes: &[u8]) -> bool
     ensures { result ≡ list_all (λ b. b == 0) bytes.now }
@@ -34,7 +33,7 @@ pub fn padded_name(len: u8, field: &[u8]) -> Option<Name>
 }
 
 /// A name's length, its bytes, and zeros up to 16.
-pub fn name_field(name: &Name) -> [u8; 17]
+pub fn name_field(name: &Name) -> [u8; NAME_BYTES]
     ensures { result ≡ name_bytes name.now }
 {
     let bytes = name.bytes();
@@ -44,7 +43,7 @@ pub fn name_field(name: &Name) -> [u8; 17]
         Ok(()) => {}
         Err(_) => unreachable!(),
     }
-    for _k in bytes.len()..16 {
+    for _k in bytes.len()..NAME_MAX {
         field.push(0);
     }
     match field.into_inner() {

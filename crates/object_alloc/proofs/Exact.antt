@@ -12,8 +12,8 @@ use Rattle.object_alloc.specs.Listed.{Named}
 use Rattle.object_alloc.specs.Spelling.{Rows, object_bytes, table_bytes, geometry_bytes}
 use Rattle.object_alloc.specs.Spelling.{opening_bytes, head_bytes, rows_bytes, rows_in, image_bytes}
 use Rattle.object_alloc.specs.Spelling.{IsImage}
-use Rattle.object_alloc.specs.Reading.{opening_in, geometry_at, table_at, rows_start}
-use Rattle.object_alloc.specs.Reading.{rows_at, Found, image_in}
+use Rattle.object_alloc.specs.Reading.{opening_in, geometry_at, table_at, rows_start, rows_at}
+use Rattle.object_alloc.specs.Reading.{Found, image_in}
 use Rattle.object_alloc.specs.Exact.{ReadsExactly}
 use Rattle.object_alloc.proofs.Images.{opening_takes, opening_again, geometry_takes, geometry_again}
 use Rattle.object_alloc.proofs.Images.{IsListed, table_takes, table_again, rows_take, rows_again}

@@ -10,9 +10,9 @@ use Rattle.std.proofs.lemmas.Bool.{eqb-true, eq-eqb}
 use Rattle.std.proofs.lemmas.Bool.Decides.{nat_tests}
 use Rattle.std.proofs.lemmas.Slice.Eq.{bytes_eq-Decides}
 use Rattle.std.proofs.lemmas.List.{append-nil, length-append, get_or_append_left, get_or_at}
+use Rattle.std.proofs.lemmas.List.{length-map, get_or-map}
 use Rattle.std.proofs.lemmas.List.Concat.{flat_map-cons}
 use Rattle.std.proofs.lemmas.List.Folds.{list_any_none}
-use Rattle.std.proofs.lemmas.List.{length-map, get_or-map}
 use Rattle.dram_model.specs.declared.geometry.Geometry.{Geometry}
 use Rattle.dram_model.specs.Geometry.{is_between, fits_size, is_geometry}
 use Rattle.dram_model.specs.Elements.{column_count}
@@ -21,14 +21,13 @@ use Rattle.object_alloc.specs.declared.fault.ImageKind.TheVariants as kinds
 use Rattle.object_alloc.specs.declared.table.Object.{Object}
 use Rattle.object_alloc.specs.Free.{end_of, has_row, AreApart}
 use Rattle.object_alloc.specs.Listed.{Named, IsTable, objects_of, limit_of}
-use Rattle.object_alloc.specs.Spelling.{object_bytes, table_bytes, geometry_bytes}
-use Rattle.object_alloc.specs.Spelling.{opening_bytes, IsObject}
-use Rattle.object_alloc.specs.Reading.{bytes_at, field_at, object_at, objects_at}
-use Rattle.object_alloc.specs.Reading.{table_at, geometry_at, opening_in, rows_size, rows_at}
+use Rattle.object_alloc.specs.Spelling.{object_bytes, table_bytes, geometry_bytes, opening_bytes}
+use Rattle.object_alloc.specs.Spelling.{IsObject}
+use Rattle.object_alloc.specs.Reading.{bytes_at, field_at, object_at, objects_at, table_at}
+use Rattle.object_alloc.specs.Reading.{geometry_at, opening_in, rows_size, rows_at}
 use Rattle.object_alloc.proofs.Tables.{IsTable-add, if_not_true}
 use Rattle.object_alloc.proofs.Least.{AreFree-are}
-use Rattle.object_alloc.proofs.Records.{Follows, le_is, is-le}
-use Rattle.object_alloc.proofs.Records.{object_takes, object_again}
+use Rattle.object_alloc.proofs.Records.{Follows, le_is, is-le, object_takes, object_again}
 use Rattle.file_fields.specs.Fields.{IsBytes, name_bytes, ◌>>=◌, rule}
 use Rattle.file_fields.proofs.Held.{Holds, Holds-then, Holds-front, Holds-back, bind_ok, ok_is}
 use Rattle.file_fields.proofs.Held.{rule_ok, bytes_takes, bytes_again, wide16, field_takes}

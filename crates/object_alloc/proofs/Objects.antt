@@ -3,9 +3,8 @@ use Rattle.std.proofs.Common.{◌≡◌, ℕ, suc, ◌+◌, ◌-◌, ◌<◌, �
 use Rattle.std.proofs.Common.{refl, sym, ◌∙◌, arith}
 use Rattle.dram_model.specs.declared.geometry.Geometry.{Geometry}
 use Rattle.object_alloc.specs.Listed.{Named}
-use Rattle.object_alloc.specs.Reading.{object_at, objects_at}
+use Rattle.object_alloc.specs.Reading.{object_at, objects_at, ImageFault}
 use Rattle.object_alloc.proofs.Records.{Follows, object_takes}
-use Rattle.object_alloc.specs.Reading.{ImageFault}
 use Rattle.file_fields.specs.Fields.{IsBytes}
 
 -- an object that was read may be added

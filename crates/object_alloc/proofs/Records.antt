@@ -1,7 +1,6 @@
 -- The record of an object is its spelling, and its spelling is read.
-use Rattle.std.proofs.Common.{◌≡◌, ℕ, ◌+◌, ◌*◌, ◌^◌, ◌<◌, ◌≤◌, true, false}
-use Rattle.std.proofs.Common.{leb, List, [], ◌∷◌, ◌++◌, length}
-use Rattle.std.proofs.Common.{Ok, refl, subst, arith}
+use Rattle.std.proofs.Common.{◌≡◌, ℕ, ◌+◌, ◌*◌, ◌^◌, ◌<◌, ◌≤◌, true, false, leb, List, [], ◌∷◌}
+use Rattle.std.proofs.Common.{◌++◌, length, Ok, refl, subst, arith}
 use Rattle.std.specs.Int.{w8, w16, w32, to_le_bytes}
 use Rattle.std.proofs.lemmas.Bool.Decides.{nat_tests}
 use Rattle.bit_rows.specs.declared.TheConstants.{WIDTH_MAX}
@@ -13,8 +12,7 @@ use Rattle.object_alloc.specs.declared.fault.ImageKind.TheVariants as kinds
 use Rattle.object_alloc.specs.Free.{are_free, end_of}
 use Rattle.object_alloc.specs.Listed.{Named, objects_of, has_name, limit_of}
 use Rattle.object_alloc.specs.Spelling.{object_bytes, IsObject}
-use Rattle.object_alloc.specs.Reading.{field_at, name_at}
-use Rattle.object_alloc.specs.Reading.{place_at, count_at, object_at}
+use Rattle.object_alloc.specs.Reading.{field_at, name_at, place_at, count_at, object_at}
 use Rattle.file_fields.specs.Fields.{IsBytes, name_bytes, ◌>>=◌, rule}
 use Rattle.file_fields.proofs.Held.{Holds, Holds-then, Holds-front, Holds-back, bind_ok, ok_is}
 use Rattle.file_fields.proofs.Held.{rule_ok, wide8, wide16, wide32, field_takes, field_again}

@@ -1,8 +1,7 @@
 -- Reading an image file field by field: what it holds, or the first field that is not whole or
 -- breaks its rule.
-use Rattle.std.specs.Prelude.{◌≡◌, ℕ, zero, suc, ◌+◌, ◌*◌, Bool, ◌&&◌, nat_le, ◌==◌}
-use Rattle.std.specs.Prelude.{List, [], ◌∷◌, ◌++◌, length, Result, Ok, Err}
-use Rattle.std.specs.Prelude.{codes}
+use Rattle.std.specs.Prelude.{◌≡◌, ℕ, zero, suc, ◌+◌, ◌*◌, Bool, ◌&&◌, nat_le, ◌==◌, List, [], ◌∷◌}
+use Rattle.std.specs.Prelude.{◌++◌, length, Result, Ok, Err, codes}
 use Rattle.std.specs.Int.{Width, w8, w16, w32}
 use Rattle.std.specs.Str.{bytes_eq}
 use Rattle.bit_rows.specs.declared.TheConstants.{WIDTH_MAX}

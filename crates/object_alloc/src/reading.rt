@@ -8,9 +8,9 @@ ghost use Rattle.dram_model.specs.declared.geometry.Geometry.{Geometry};
 ghost use Rattle.object_alloc.specs.Exact.{ReadsExactly, found_in};
 ghost use Rattle.object_alloc.specs.Listed.{Named, has_name, limit_of};
 ghost use Rattle.object_alloc.specs.Spelling.{Rows, IsImage, image_bytes, rows_bytes, rows_in};
-ghost use Rattle.object_alloc.specs.Reading.{Answers, name_at, place_at, count_at};
-ghost use Rattle.object_alloc.specs.Reading.{object_at, objects_at, table_at, geometry_at};
-ghost use Rattle.object_alloc.specs.Reading.{opening_in, rows_at, rows_size, rows_start, image_in};
+ghost use Rattle.object_alloc.specs.Reading.{Answers, name_at, place_at, count_at, object_at};
+ghost use Rattle.object_alloc.specs.Reading.{objects_at, table_at, geometry_at, opening_in};
+ghost use Rattle.object_alloc.specs.Reading.{rows_at, rows_size, rows_start, image_in};
 ghost use Rattle.file_fields.specs.Fields.{Gives};
 
 use crate::fault::{ImageFault, ImageKind, ImageNo};
@@ -19,7 +19,7 @@ use crate::sizes::{HEAD_BYTES, OBJECTS_MAX, RECORD_BYTES};
 use crate::table::{Object, Table};
 use bit_rows::WIDTH_MAX;
 use dram_model::Geometry;
-use file_fields::{bytes_at, fault, padded_name, rule, u8_at, u16_at, u32_at};
+use file_fields::{NAME_MAX, bytes_at, fault, padded_name, rule, u8_at, u16_at, u32_at};
 use std::alloc::Global;
 use text_lex::Name;
 
@@ -33,7 +33,7 @@ fn name_of(earlier: &Table, bytes: &[u8], at: usize) -> Result<Name, ImageFault>
 {
     let len = u8_at(bytes, at, ImageKind::Short)?;
     rule((1..=16).contains(&len), at, ImageKind::Object)?;
-    let field = bytes_at(bytes, at + 1, 16, ImageKind::Short)?;
+    let field = bytes_at(bytes, at + 1, NAME_MAX, ImageKind::Short)?;
     let Some(name) = padded_name(len, field) else {
         return Err(fault(at + 1, ImageKind::Object));
     };

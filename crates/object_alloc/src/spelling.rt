@@ -6,8 +6,8 @@ ghost use Rattle.std.specs.List.{flat_map};
 ghost use Rattle.arrayvec.specs.ArrayVec.{array_vec_len};
 ghost use Rattle.dram_model.specs.Elements.{column_count};
 ghost use Rattle.dram_model.specs.Geometry.{is_geometry};
-ghost use Rattle.object_alloc.specs.Spelling.{object_bytes, opening_bytes};
-ghost use Rattle.object_alloc.specs.Spelling.{geometry_bytes, head_bytes, image_bytes, blank_rows};
+ghost use Rattle.object_alloc.specs.Spelling.{object_bytes, opening_bytes, geometry_bytes};
+ghost use Rattle.object_alloc.specs.Spelling.{head_bytes, image_bytes, blank_rows};
 ghost use Rattle.file_fields.specs.Fields.{name_bytes};
 
 use crate::sizes::{HEAD_BYTES, RECORD_BYTES};

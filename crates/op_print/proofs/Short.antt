@@ -28,8 +28,8 @@ use Rattle.op_text.specs.Spelling.{HasOperation}
 use Rattle.op_rules.specs.Meets.{Context, LetsRead, WordMeets, BlockMeets, StatementMeets}
 use Rattle.op_rules.specs.Meets.{BodyMeets, OperationMeets, OpsMeet, behind}
 use Rattle.op_print.specs.Canonical.{behind_comma, listed, spelled, value_text, param_text}
-use Rattle.op_print.specs.Canonical.{state_text, equation_text, let_text, word_text, block_head}
-use Rattle.op_print.specs.Canonical.{op_head, line, statement_lines, op_lines, canonical_text}
+use Rattle.op_print.specs.Canonical.{state_text, equation_text, let_text}
+use Rattle.op_print.specs.Canonical.{line, statement_lines, op_lines, canonical_text}
 
 and_second : (a b : Bool) → (a && b) ≡ true → b ≡ true
 and_second true b h = h
@@ -133,7 +133,12 @@ Short text c a = length (text a) ≤ c
 flat_short : {A : Type 0} (text : A → List ℕ) (c : ℕ) (xs : List A) → Each (Short text c) xs
     → length (flat_map text xs) ≤ length xs * c
 flat_short text c [] h = omega arith
-flat_short text c (x ∷ xs) h = simp length-append (omega (arith, h.0, flat_short text c xs h.1, ap length (flat_map-cons text x xs)))
+flat_short text c (x ∷ xs) h = simp length-append (omega (
+  arith,
+  h.0,
+  flat_short text c xs h.1,
+  ap length (flat_map-cons text x xs),
+))
 
 behind_short : {A : Type 0} (text : A → List ℕ) (c : ℕ) (xs : List A) → Each (Short text c) xs
     → Each (Short (behind_comma text) (c + 2)) xs
@@ -144,7 +149,8 @@ behind_short text c (x ∷ xs) h =
 listed_short : {A : Type 0} (text : A → List ℕ) (c : ℕ) (xs : List A) → Each (Short text c) xs
     → length (listed text xs) ≤ length xs * (c + 2)
 listed_short text c [] h = omega arith
-listed_short text c (x ∷ xs) h = simp length-append (omega (arith, h.0, flat_short (behind_comma text) (c + 2) xs (behind_short text c xs h.1)))
+listed_short text c (x ∷ xs) h = simp length-append
+    (omega (arith, h.0, flat_short (behind_comma text) (c + 2) xs (behind_short text c xs h.1)))
 
 times : (n m c : ℕ) → n ≤ m → n * c ≤ m * c
 times n m c h = mul-le-mul_right c h
@@ -199,7 +205,14 @@ lines_short : (text : Equation → List ℕ) → ((e : Equation) → IsShort e
     → length (text e) ≤ 301 + 544 * term_weight e.value) → (es : List Equation)
     → Each IsShort es → length (flat_map text es) ≤ 301 * length es + 544 * weights es
 lines_short text f [] h = omega arith
-lines_short text f (e ∷ es) h = simp length-append (omega (arith, f e h.0, lines_short text f es h.1, weights-cons e es, ap length (flat_map-cons text e es)))
+lines_short text f (e ∷ es) h = simp length-append
+    (omega (
+      arith,
+      f e h.0,
+      lines_short text f es h.1,
+      weights-cons e es,
+      ap length (flat_map-cons text e es),
+    ))
 
 let_long : (text : List ℕ) → length (line (codes "    ") (codes "let " ++ text))
     ≡ length text + 9
@@ -235,7 +248,19 @@ block_short c b h m =
     let assigns = flat_map assign_line b.assigns in
     let last = line (codes "  ") (codes "}") in
     let states = listed state_text b.states in
-    simp length-append (omega (arith, direction_short b.down, listed_short state_text 20 b.states (each_short HasState state_text 20 state_short b.states h.0), times (length b.states) 8 22 m.few_states, lines_short let_line let_short b.lets (lets_are_short c.known _ b.lets h.1 m.lets_read), lines_short assign_line assign_short b.assigns (assigns_are_short _ b.assigns h.2 m.values_read), m.few_lets, m.few_assigns, m.light, line_long (codes " ") (block_head b)))
+    simp length-append (omega (
+      arith,
+      direction_short b.down,
+      listed_short state_text 20 b.states (each_short HasState state_text 20 state_short b.states
+          h.0),
+      times (length b.states) 8 22 m.few_states,
+      lines_short let_line let_short b.lets (lets_are_short c.known _ b.lets h.1 m.lets_read),
+      lines_short assign_line assign_short b.assigns
+          (assigns_are_short _ b.assigns h.2 m.values_read),
+      m.few_lets,
+      m.few_assigns,
+      m.light,
+    ))
 
 -- an operation takes three arguments at most
 abbrev HasFew : Form → Type 0
@@ -334,7 +359,15 @@ word_short : (c : Context) (target : List ℕ) (p : WordOp) (args : List (List �
 word_short c target p args h m =
     let few = filled_few (forms p) (map (kind_of c.known) args) _ (forms_few p) m.takes in
     let list = listed spelled args in
-    simp length-append (omega (arith, few, length-map (kind_of c.known) args, listed_short spelled 16 args (names_short args h.1), times (length args) 3 18 (omega (arith, few, length-map (kind_of c.known) args)), op_short p, name_short target h.0, line_long (codes " ") (word_text target p args)))
+    simp length-append (omega (
+      arith,
+      few,
+      length-map (kind_of c.known) args,
+      listed_short spelled 16 args (names_short args h.1),
+      times (length args) 3 18 (omega (arith, few, length-map (kind_of c.known) args)),
+      op_short p,
+      name_short target h.0,
+    ))
 
 statement_short : (c : Context) (s : Statement) → HasStatement s → StatementMeets c s
     → Short statement_lines 20500 s
@@ -353,7 +386,17 @@ op_is_short op h m =
     let result = param_text op.result in
     let body = flat_map statement_lines op.body in
     let last = line [] (codes "}") in
-    simp length-append (omega (arith, name_short op.name h.name, listed_short param_text 22 op.params (each_short HasParam param_text 22 param_short op.params h.params), times (length op.params) 4 24 m.few_params, name_short op.result.name h.result, kind_short op.result.kind, flat_short statement_lines 20500 op.body (body_short _ op.body h.body m.body), times (length op.body) 16 20500 m.few_statements, line_long [] (op_head op)))
+    simp length-append (omega (
+      arith,
+      name_short op.name h.name,
+      listed_short param_text 22 op.params (each_short HasParam param_text 22 param_short
+          op.params h.params),
+      times (length op.params) 4 24 m.few_params,
+      name_short op.result.name h.result,
+      kind_short op.result.kind,
+      flat_short statement_lines 20500 op.body (body_short _ op.body h.body m.body),
+      times (length op.body) 16 20500 m.few_statements,
+    ))
 
 ops_short : (all : List Operation) → Each HasOperation all → Each OperationMeets all
     → Each (Short op_lines 330000) all

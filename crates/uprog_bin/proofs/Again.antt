@@ -21,8 +21,8 @@ use Rattle.uprog_bin.specs.declared.opcode.Opcode.TheVariants.{Done, SetI, SetN,
 use Rattle.uprog_bin.specs.declared.opcode.Opcode.TheVariants.{AddI, SubI, Bnez, Aap, Ap}
 use Rattle.uprog_bin.specs.declared.opcode.TheConstants.{OPCODES, SPACES}
 use Rattle.uprog_bin.specs.Spelling.{space_number, instruction_bytes}
-use Rattle.uprog_bin.specs.Reading.{raw_of, operand, row_of, uop_as, uop_of, numbered}
-use Rattle.uprog_bin.specs.Reading.{uop_at, uops_at}
+use Rattle.uprog_bin.specs.Reading.{raw_of, operand, row_of, uop_as, uop_of, numbered, uop_at}
+use Rattle.uprog_bin.specs.Reading.{uops_at}
 use Rattle.uprog_bin.proofs.Found.{IsRead}
 use Rattle.file_fields.specs.Fields.{◌>>=◌}
 use Rattle.file_fields.proofs.Held.{Holds, Holds-front, Holds-back, bytes_again}

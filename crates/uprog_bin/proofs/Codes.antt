@@ -8,8 +8,7 @@ use Rattle.std.proofs.lemmas.List.{drop_all}
 use Rattle.uprog_code.specs.declared.code.Uop.{Uop}
 use Rattle.uprog_code.specs.Shape.{Shape, Microprogram, shape_of}
 use Rattle.uprog_bin.specs.declared.directory.Listed.{Listed}
-use Rattle.uprog_bin.specs.Reading.{uop_at, uops_at, codes_at, listings_of}
-use Rattle.uprog_bin.specs.Reading.{ProgFault}
+use Rattle.uprog_bin.specs.Reading.{uop_at, uops_at, codes_at, listings_of, ProgFault}
 use Rattle.file_fields.specs.Fields.{◌>>=◌}
 
 -- what was read before, and what is still read

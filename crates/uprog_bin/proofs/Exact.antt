@@ -1,8 +1,7 @@
 -- A program file is read exactly.
 use Rattle.std.proofs.Common.{◌≡◌, ◌≢◌, ℕ, zero, suc, ◌+◌, ◌*◌, ◌^◌, ◌<◌, eqb, leb, List, [], ◌∷◌}
 use Rattle.std.proofs.Common.{◌++◌, length, get_or, Ok, refl, sym, ap, None, ◌⊎◌, inl, inr, ◌∙◌}
-use Rattle.std.proofs.Common.{subst, arith}
-use Rattle.std.proofs.Common.{append-nil}
+use Rattle.std.proofs.Common.{subst, arith, append-nil}
 use Rattle.std.specs.Prelude.{codes}
 use Rattle.std.specs.Int.{w16, to_le_bytes}
 use Rattle.std.specs.List.{flat_map, AllByRecursion, AllPairs}
@@ -17,9 +16,8 @@ use Rattle.uprog_bin.specs.declared.fault.ProgKind.TheVariants as kinds
 use Rattle.uprog_bin.specs.Spelling.{head_bytes, directory_bytes, code_bytes, opening_bytes}
 use Rattle.uprog_bin.specs.Spelling.{HasVersion, program_bytes}
 use Rattle.uprog_code.specs.Programs.{IsEntry, IsProgram}
-use Rattle.uprog_bin.specs.Reading.{bytes_at, field_at, uops_at, codes_at}
-use Rattle.uprog_bin.specs.Reading.{codes_start, total_count, Listing, directory_at, opening_in}
-use Rattle.uprog_bin.specs.Reading.{is_version, program_in}
+use Rattle.uprog_bin.specs.Reading.{bytes_at, field_at, uops_at, codes_at, codes_start, total_count}
+use Rattle.uprog_bin.specs.Reading.{Listing, directory_at, opening_in, is_version, program_in}
 use Rattle.uprog_bin.specs.Opened.{AreStarts}
 use Rattle.uprog_bin.proofs.Files.{codes_length, directory_starts}
 use Rattle.uprog_bin.proofs.Found.{uops_read, legal_read}

@@ -1,20 +1,18 @@
 -- A file that was read.
-use Rattle.std.proofs.Common.{◌≡◌, ℕ, zero, suc, ◌+◌, ◌*◌, ◌<◌, true, eqb, leb, eq-eqb, ◌^◌}
-use Rattle.std.proofs.Common.{List, [], ◌∷◌, ◌++◌, length, Result, Ok, refl, sym, ap, ◌∙◌, subst}
-use Rattle.std.proofs.Common.{arith}
+use Rattle.std.proofs.Common.{◌≡◌, ℕ, zero, suc, ◌+◌, ◌*◌, ◌<◌, true, eqb, leb, eq-eqb, ◌^◌, List}
+use Rattle.std.proofs.Common.{[], ◌∷◌, ◌++◌, length, Result, Ok, refl, sym, ap, ◌∙◌, subst, arith}
 use Rattle.std.specs.Int.{w16, w32}
 use Rattle.std.proofs.lemmas.Bool.{eqb-true}
 use Rattle.uprog_code.specs.Shape.{Microprogram}
 use Rattle.uprog_bin.specs.declared.fault.ProgKind.TheVariants as kinds
 use Rattle.uprog_bin.specs.declared.directory.Listed.{Listed}
-use Rattle.uprog_bin.specs.Reading.{number_at, field_at, name_at, shape_at}
-use Rattle.uprog_bin.specs.Reading.{Listing, listing_at, directory_at, listings_of, opening_in}
-use Rattle.uprog_bin.specs.Reading.{uops_at, codes_at, codes_start, total_count, program_in}
+use Rattle.uprog_bin.specs.Reading.{number_at, field_at, name_at, shape_at, Listing, listing_at}
+use Rattle.uprog_bin.specs.Reading.{directory_at, listings_of, opening_in, uops_at, codes_at}
+use Rattle.uprog_bin.specs.Reading.{codes_start, total_count, program_in, ProgFault}
 use Rattle.uprog_bin.specs.Opened.{File, file_of, accepted, programs_in, AreStarts, IsOpened}
 use Rattle.file_fields.proofs.Padded.{between_is}
 use Rattle.file_fields.specs.Fields.{◌>>=◌, rule, is_between}
-use Rattle.uprog_bin.specs.Reading.{ProgFault}
-use Rattle.file_fields.proofs.Held.{bind_ok, ok_is, rule_ok}
+use Rattle.file_fields.proofs.Held.{field_passes, bind_ok, ok_is, rule_ok}
 
 pub codes_length : (ls : List Listing) (at : ℕ) (bytes : List ℕ) (ms : List Microprogram)
     → codes_at ls at bytes ≡ Ok ms → length ms ≡ length ls
@@ -85,23 +83,14 @@ listing_start v earlier start at bytes l e =
     (record { name = a.0; shape = b.0; start = first; count = count })) l b.2 in
     let d = bind_ok (field_at w16 (is_between 1 65535) kinds.Directory (at + 25) bytes)
     (λ count. Ok (record { name = a.0; shape = b.0; start = c.0; count = count })) l c.2 in
-    let n = bind_ok (number_at w32 (at + 21) bytes) (λ k.
-    rule (eqb k start) (at + 21) kinds.Directory >>= λ _. Ok k) c.0 c.1 in
-    let r = bind_ok (rule (eqb n.0 start) (at + 21) kinds.Directory) (λ _. Ok n.0) c.0 n.2 in
-    let same : n.0 ≡ start = eqb-true n.0 start
-    (rule_ok (eqb n.0 start) (at + 21) kinds.Directory r.0 r.1) in
-    let m = bind_ok (number_at w16 (at + 25) bytes) (λ k.
-    rule (is_between 1 65535 k) (at + 25) kinds.Directory >>= λ _. Ok k) d.0 d.1 in
-    let q = bind_ok (rule (is_between 1 65535 m.0) (at + 25) kinds.Directory) (λ _.
-    Ok m.0) d.0 m.2 in
-    let some = between_is 1 65535 m.0 (rule_ok (is_between 1 65535 m.0) (at + 25) kinds.Directory
-    q.0 q.1) in
+    let first : c.0 ≡ start = eqb-true c.0 start
+    (field_passes kinds.Short w32 (λ n. eqb n start) kinds.Directory (at + 21) bytes c.0 c.1) in
+    let some = between_is 1 65535 d.0
+    (field_passes kinds.Short w16 (is_between 1 65535) kinds.Directory (at + 25) bytes d.0 d.1) in
     let made : Listing = record { name = a.0; shape = b.0; start = c.0; count = d.0 } in
-    let start-is : c.0 ≡ start = sym (ok_is n.0 c.0 r.2) ∙ same in
-    let count-is : d.0 ≡ m.0 = sym (ok_is m.0 d.0 q.2) in
     subst (λ (x : Listing). (x.start ≡ start) × (0 < x.count)
     × (x.count < 2 ^ 16)) (ok_is made l d.2) (
-      start-is,
+      first,
       omega (arith, some.0),
       omega (arith, some.1),
     )

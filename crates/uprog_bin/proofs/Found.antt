@@ -19,14 +19,12 @@ use Rattle.uprog_bin.specs.declared.opcode.Opcode.{Opcode}
 use Rattle.uprog_bin.specs.declared.opcode.Opcode.TheVariants.{Done, SetI, SetN, SetT, Mov, Add}
 use Rattle.uprog_bin.specs.declared.opcode.Opcode.TheVariants.{AddI, SubI, Bnez, Aap, Ap}
 use Rattle.uprog_bin.specs.declared.opcode.TheConstants.{OPCODES}
-use Rattle.uprog_bin.specs.Reading.{bytes_at, raw_of, has_register, has_second}
-use Rattle.uprog_bin.specs.Reading.{operand, row_of, ends_at_y, is_formed, has_target, has_rows}
-use Rattle.uprog_bin.specs.Reading.{ends_code, uop_as, uop_of, numbered, uop_at, uops_at, codes_at}
-use Rattle.uprog_bin.specs.Reading.{codes_start, total_count, Listing, listing_of, listings_of}
-use Rattle.uprog_bin.specs.Reading.{is_named}
+use Rattle.uprog_bin.specs.Reading.{bytes_at, raw_of, has_register, has_second, operand, row_of}
+use Rattle.uprog_bin.specs.Reading.{ends_at_y, is_formed, has_target, has_rows, ends_code, uop_as}
+use Rattle.uprog_bin.specs.Reading.{uop_of, numbered, uop_at, uops_at, codes_at, codes_start}
+use Rattle.uprog_bin.specs.Reading.{total_count, Listing, listing_of, listings_of, is_named}
 use Rattle.uprog_bin.specs.Opened.{Held, File, file_of, programs_in, uop_in, uops_in, code_of}
-use Rattle.uprog_bin.specs.Opened.{program_of}
-use Rattle.uprog_bin.specs.Opened.{count_before, code_place, AreStarts, IsOpened}
+use Rattle.uprog_bin.specs.Opened.{program_of, count_before, code_place, AreStarts, IsOpened}
 use Rattle.uprog_bin.proofs.Files.{codes_length, entries_are}
 use Rattle.uprog_bin.proofs.Uops.{length-uops}
 use Rattle.file_fields.specs.Fields.{◌>>=◌, rule}

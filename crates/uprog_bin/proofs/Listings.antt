@@ -7,8 +7,7 @@ use Rattle.std.proofs.lemmas.List.{map-append}
 use Rattle.op_text.specs.declared.tree.Kind.{Kind}
 use Rattle.uprog_bin.specs.declared.directory.Listed.{Listed}
 use Rattle.uprog_bin.specs.Reading.{is_named, has_name, listing_of, listings_of, Listing, kinds_of}
-use Rattle.uprog_bin.specs.Reading.{kind_of_bit, listing_at, directory_at}
-use Rattle.uprog_bin.specs.Reading.{ProgFault}
+use Rattle.uprog_bin.specs.Reading.{kind_of_bit, listing_at, directory_at, ProgFault}
 
 pub has_name_is : (ls : List Listed) (name : List ℕ)
     → list_any (is_named name) ls ≡ has_name (listings_of ls) name

@@ -1,8 +1,8 @@
 -- The records of a directory are spelled so.
 use Rattle.std.proofs.Common.{◌≡◌, ◌≢◌, ℕ, zero, suc, ◌+◌, ◌*◌, ◌/◌, ◌%◌, ◌^◌, ◌<◌, ◌≤◌, Bool, true}
 use Rattle.std.proofs.Common.{false, not, ◌||◌, cond, eqb, eq-eqb, None, ltb, List, [], ◌∷◌, ◌++◌}
-use Rattle.std.proofs.Common.{length, get_or, drop, Ok}
-use Rattle.std.proofs.Common.{refl, sym, ap, ◌∙◌, subst, arith, append_assoc, append-nil}
+use Rattle.std.proofs.Common.{length, get_or, drop, Ok, refl, sym, ap, ◌∙◌, subst, arith}
+use Rattle.std.proofs.Common.{append_assoc, append-nil}
 use Rattle.std.specs.Int.{w8, w16, w32, to_le_bytes}
 use Rattle.std.specs.List.{flat_map, AllByRecursion, AllPairs}
 use Rattle.std.specs.Str.{bytes_eq}
@@ -15,9 +15,8 @@ use Rattle.op_text.specs.declared.tree.Kind.{Kind}
 use Rattle.uprog_code.specs.Shape.{Shape}
 use Rattle.uprog_bin.specs.declared.fault.ProgKind.TheVariants as kinds
 use Rattle.uprog_bin.specs.Spelling.{kind_bits, result_bit, second_bits, shape_bytes}
-use Rattle.uprog_bin.specs.Reading.{number_at, field_at, kind_of_bit}
-use Rattle.uprog_bin.specs.Reading.{kinds_of, second_of, is_results, is_kinds, shape_at, Listing}
-use Rattle.uprog_bin.specs.Reading.{has_name, name_at}
+use Rattle.uprog_bin.specs.Reading.{number_at, field_at, kind_of_bit, kinds_of, second_of}
+use Rattle.uprog_bin.specs.Reading.{is_results, is_kinds, shape_at, Listing, has_name, name_at}
 use Rattle.uprog_bin.specs.Reading.{listing_at, directory_at}
 use Rattle.file_fields.proofs.NameField.{name_takes}
 use Rattle.file_fields.specs.Fields.{name_bytes, IsBytes, is_between, ◌>>=◌}

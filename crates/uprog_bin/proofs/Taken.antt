@@ -8,8 +8,8 @@ use Rattle.std.proofs.lemmas.List.{take_at}
 use Rattle.uprog_code.specs.declared.code.Uop.{Uop}
 use Rattle.uprog_code.specs.Shape.{Shape, Microprogram}
 use Rattle.uprog_bin.specs.Spelling.{instruction_bytes, code_bytes}
-use Rattle.uprog_bin.specs.Reading.{bytes_at, raw_of, numbered, uop_at, uops_at}
-use Rattle.uprog_bin.specs.Reading.{codes_at, Listing, total_count}
+use Rattle.uprog_bin.specs.Reading.{bytes_at, raw_of, numbered, uop_at, uops_at, codes_at, Listing}
+use Rattle.uprog_bin.specs.Reading.{total_count}
 use Rattle.uprog_bin.specs.declared.opcode.TheConstants.{OPCODES}
 use Rattle.uprog_bin.proofs.Found.{IsUop, uop_at_read}
 use Rattle.uprog_bin.proofs.Instructions.{number_of, number_is, text-raw, instruction_text}

@@ -5,10 +5,9 @@ use Rattle.std.specs.Prelude.{slice_set}
 use Rattle.uprog_code.specs.Shape.{Microprogram}
 use Rattle.uprog_code.specs.Programs.{IsProgram}
 use Rattle.uprog_bin.specs.Spelling.{HasVersion, program_bytes}
-use Rattle.uprog_bin.specs.Reading.{program_in}
+use Rattle.uprog_bin.specs.Reading.{program_in, ProgFault}
 use Rattle.uprog_bin.specs.Opened.{IsProgramFile}
 use Rattle.uprog_bin.proofs.Whole.{read}
-use Rattle.uprog_bin.specs.Reading.{ProgFault}
 use Rattle.file_fields.proofs.Held.{ok_is}
 
 found : ℕ → List Microprogram → Result (ℕ × List Microprogram) ProgFault

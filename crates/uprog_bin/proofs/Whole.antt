@@ -1,9 +1,8 @@
 -- The spelling of a program is read as the program.
 use Rattle.std.proofs.Common.{◌≡◌, ◌≢◌, ℕ, zero, suc, ◌+◌, ◌-◌, ◌*◌, ◌/◌, ◌%◌, ◌^◌, ◌<◌, ◌≤◌, Bool}
 use Rattle.std.proofs.Common.{true, false, eqb, ltb, leb, List, [], ◌∷◌, ◌++◌, length, get_or, Ok}
-use Rattle.std.proofs.Common.{refl}
-use Rattle.std.proofs.Common.{sym, ap, ◌∙◌, subst, arith, append_assoc, append-nil, ◌⊎◌}
-use Rattle.std.proofs.Common.{inl, inr}
+use Rattle.std.proofs.Common.{refl, sym, ap, ◌∙◌, subst, arith, append_assoc, append-nil, ◌⊎◌, inl}
+use Rattle.std.proofs.Common.{inr}
 use Rattle.std.specs.Prelude.{slice_get, codes, cond, not, ◌&&◌, Option, Some, None}
 use Rattle.std.specs.Int.{w8, w16, w32, to_le_bytes}
 use Rattle.std.specs.List.{flat_map, AllByRecursion, AllPairs}
@@ -19,14 +18,13 @@ use Rattle.op_text.specs.declared.tree.Kind.TheVariants.{Word, Bit}
 use Rattle.uprog_code.specs.declared.code.Uop.TheVariants.{Done}
 use Rattle.uprog_code.specs.Shape.{Shape, Microprogram}
 use Rattle.uprog_bin.specs.declared.fault.ProgKind.TheVariants as kinds
-use Rattle.uprog_bin.specs.Spelling.{kind_bits, result_bit, second_bits, kinds_byte}
-use Rattle.uprog_bin.specs.Spelling.{shape_bytes, HasVersion}
-use Rattle.uprog_bin.specs.Spelling.{head_bytes, directory_bytes, code_bytes, opening_bytes}
-use Rattle.uprog_bin.specs.Spelling.{program_bytes}
+use Rattle.uprog_bin.specs.Spelling.{kind_bits, result_bit, second_bits, kinds_byte, shape_bytes}
+use Rattle.uprog_bin.specs.Spelling.{HasVersion, head_bytes, directory_bytes, code_bytes}
+use Rattle.uprog_bin.specs.Spelling.{opening_bytes, program_bytes}
 use Rattle.uprog_code.specs.Programs.{IsEntry, IsProgram}
-use Rattle.uprog_bin.specs.Reading.{kind_of_bit, kinds_of, is_kinds, shape_at, Listing}
-use Rattle.uprog_bin.specs.Reading.{has_name, listing_at, directory_at, codes_at, codes_start}
-use Rattle.uprog_bin.specs.Reading.{total_count, is_version, opening_in, program_in, second_of}
+use Rattle.uprog_bin.specs.Reading.{kind_of_bit, kinds_of, is_kinds, shape_at, Listing, has_name}
+use Rattle.uprog_bin.specs.Reading.{listing_at, directory_at, codes_at, codes_start, total_count}
+use Rattle.uprog_bin.specs.Reading.{is_version, opening_in, program_in, second_of}
 use Rattle.file_fields.proofs.NameField.{name_again}
 use Rattle.uprog_bin.proofs.Records.{IsShape}
 use Rattle.uprog_bin.proofs.Numbers.{version_small}

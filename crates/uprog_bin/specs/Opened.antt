@@ -9,8 +9,7 @@ use Rattle.uprog_bin.specs.declared.directory.Listed.{Listed}
 use Rattle.uprog_bin.specs.declared.opcode.Opcode.TheVariants.{Done}
 use Rattle.uprog_bin.specs.declared.opcode.TheConstants.{OPCODES}
 use Rattle.uprog_bin.specs.Reading.{raw_of, uop_as, codes_at, codes_start, total_count, Listing}
-use Rattle.uprog_bin.specs.Reading.{listings_of, program_in}
-use Rattle.uprog_bin.specs.Reading.{ProgFault}
+use Rattle.uprog_bin.specs.Reading.{listings_of, program_in, ProgFault}
 
 -- the version and the program of an accepted file
 abbrev pub accepted : Result (ℕ × List Microprogram) ProgFault → ℕ × List Microprogram

@@ -4,16 +4,15 @@ ghost use Rattle.std.specs.Prelude.{◌≡◌, ◌+◌, ◌*◌, ◌<◌, ◌≤
 ghost use Rattle.std.specs.List.{list_all, list_any};
 ghost use Rattle.arrayvec.specs.ArrayVec.{array_vec_len};
 ghost use Rattle.uprog_code.specs.Shape.{shape_of};
-ghost use Rattle.uprog_bin.specs.Reading.{is_named, has_name, name_at, kind_of_bit};
-ghost use Rattle.uprog_bin.specs.Reading.{kinds_of, second_of, is_results, is_kinds, shape_at};
-ghost use Rattle.uprog_bin.specs.Reading.{listing_at, directory_at};
-ghost use Rattle.uprog_bin.specs.Reading.{listing_of, listings_of};
+ghost use Rattle.uprog_bin.specs.Reading.{is_named, has_name, name_at, kind_of_bit, kinds_of};
+ghost use Rattle.uprog_bin.specs.Reading.{second_of, is_results, is_kinds, shape_at, listing_at};
+ghost use Rattle.uprog_bin.specs.Reading.{directory_at, listing_of, listings_of};
 ghost use Rattle.file_fields.specs.Fields.{Gives};
 
 use crate::fault::{ProgFault, ProgKind};
 use crate::sizes::{HEAD_BYTES, RECORD_BYTES};
 use arrayvec::ArrayVec;
-use file_fields::{bytes_at, fault, padded_name, rule, u8_at, u16_at, u32_at};
+use file_fields::{NAME_MAX, bytes_at, fault, padded_name, rule, u8_at, u16_at, u32_at};
 use text_lex::Name;
 use uprog_code::{Head, Kind};
 
@@ -65,7 +64,7 @@ fn name_of(earlier: &[Listed], bytes: &[u8], at: usize) -> Result<Name, ProgFaul
 {
     let len = u8_at(bytes, at, ProgKind::Short)?;
     rule((1..=16).contains(&len), at, ProgKind::Directory)?;
-    let field = bytes_at(bytes, at + 1, 16, ProgKind::Short)?;
+    let field = bytes_at(bytes, at + 1, NAME_MAX, ProgKind::Short)?;
     let Some(name) = padded_name(len, field) else {
         return Err(fault(at + 1, ProgKind::Directory));
     };

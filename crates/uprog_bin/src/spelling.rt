@@ -6,10 +6,9 @@ ghost use Rattle.std.specs.List.{flat_map};
 ghost use Rattle.std.specs.Int.{w16, to_le_bytes};
 ghost use Rattle.arrayvec.specs.ArrayVec.{array_vec_len};
 ghost use Rattle.uprog_code.specs.Shape.{microprogram_of, microprograms_of};
-ghost use Rattle.uprog_bin.specs.Spelling.{row_bytes, instruction_bytes, kind_bits};
-ghost use Rattle.uprog_bin.specs.Spelling.{result_bit, second_bits, kinds_byte, head_bytes};
-ghost use Rattle.uprog_bin.specs.Spelling.{directory_bytes, code_bytes};
-ghost use Rattle.uprog_bin.specs.Spelling.{program_bytes, zeros};
+ghost use Rattle.uprog_bin.specs.Spelling.{row_bytes, instruction_bytes, kind_bits, result_bit};
+ghost use Rattle.uprog_bin.specs.Spelling.{second_bits, kinds_byte, head_bytes, directory_bytes};
+ghost use Rattle.uprog_bin.specs.Spelling.{code_bytes, program_bytes, zeros};
 ghost use Rattle.uprog_code.specs.Programs.{IsProgram};
 ghost use Rattle.file_fields.specs.Fields.{name_bytes};
 
