@@ -1,1 +1,3 @@
 pub mod Xor
+pub mod Dup
+pub mod Runs

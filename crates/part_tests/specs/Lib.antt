@@ -1,2 +1,3 @@
--- The operation of the tests.
+-- The operations of the tests.
 pub mod Xor
+pub mod Dup

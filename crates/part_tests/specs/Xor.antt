@@ -1,5 +1,5 @@
 -- The microprogram of the operation `xor` on words, straight code for width 1.
-use Rattle.std.specs.Prelude.{ℕ, List, [], ◌∷◌}
+use Rattle.std.specs.Prelude.{ℕ, List, [], ◌∷◌, None}
 use Rattle.op_text.specs.declared.tree.Kind.TheVariants.{Word}
 use Rattle.uprog_code.specs.declared.code.RowSpace.{RowSpace}
 use Rattle.uprog_code.specs.declared.code.RowSpace.TheVariants as space
@@ -10,7 +10,13 @@ use Rattle.uprog_code.specs.Shape.{Shape}
 
 -- two words give a word, without scratch
 abbrev pub xor_shape : Shape
-xor_shape = record { sources = Word ∷ Word ∷ []; result = Word; bits = 0; words = 0 }
+xor_shape = record {
+  sources = Word ∷ Word ∷ [];
+  result = Word;
+  second = None;
+  bits = 0;
+  words = 0;
+}
 
 -- a row of the B or C group
 abbrev pub fixed_row : RowSpace → ℕ → RowRef

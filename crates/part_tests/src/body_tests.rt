@@ -1,10 +1,11 @@
 //! The body of the full adder, on the rows of a chip.
 
-ghost use Rattle.std.specs.Prelude.{◌≡◌, ◌+◌, ◌*◌, ◌<◌, ◌≤◌, ◌^◌, length, IfOk};
-ghost use Rattle.dram_model.specs.Column.{is_in_range};
+ghost use Rattle.std.specs.Prelude.{◌≡◌, ◌+◌, ◌<◌, ◌≤◌, ◌^◌, IfOk, OnOk};
+ghost use Rattle.dram_model.specs.View.{HasBegun, Kept};
 ghost use Rattle.row_alloc.specs.Body.{FitBody};
 
-use dram_chip::{Addr, Chip, Dram, Geometry, legal_first, legal_second};
+use crate::rows::play;
+use dram_chip::{Addr, Chip, Command, Dram, Geometry};
 use mig_graph::{Lit, Mig, NoMemory};
 use row_alloc::{BodyCmd, BodyRef, OutRow, plain_body};
 use std::alloc::Global;
@@ -31,74 +32,22 @@ fn address(row: BodyRef) -> Addr {
     }
 }
 
-/// Whether a bank of 64 rows has the row.
-fn is_there(row: Addr) -> bool
-    ensures { result ≡ is_in_range 64 row }
-{
-    match row {
-        Addr::B(k) => k < 16,
-        Addr::C(k) => k < 2,
-        Addr::D(k) => k < 64,
-    }
-}
-
-/// Sends one command to the bank.
-fn play_one<D: Dram>(chip: &mut D, cmd: BodyCmd) -> Result<(), Fail>
-    requires begun { D.begun chip.old }
-    requires geometry { D.geometry chip.old ≡ SMALL }
-    requires aap_room { (D.counters chip.old).aap < 2 ^ 62 }
-    requires ap_room { (D.counters chip.old).ap < 2 ^ 62 }
-    ensures begun { D.begun chip.new }
-    ensures geometry { D.geometry chip.new ≡ SMALL }
-    ensures aap { (D.counters chip.new).aap ≤ (D.counters chip.old).aap + 1 }
-    ensures ap { (D.counters chip.new).ap ≤ (D.counters chip.old).ap + 1 }
-    ensures reads { (D.counters chip.new).reads ≡ (D.counters chip.old).reads }
-{
+fn command_of(cmd: BodyCmd) -> Command {
     match cmd {
-        BodyCmd::Aap(first, second) => {
-            let x = address(first);
-            let y = address(second);
-            if (is_there(x) && legal_first(x)) && (is_there(y) && legal_second(y)) {
-                chip.aap(0, x, y)?;
-                return Ok(());
-            }
-        }
-        BodyCmd::Ap(first) => {
-            let x = address(first);
-            if is_there(x) && legal_first(x) {
-                chip.ap(0, x)?;
-                return Ok(());
-            }
-        }
+        BodyCmd::Aap(x, y) => Command::Aap(address(x), address(y)),
+        BodyCmd::Ap(x) => Command::Ap(address(x)),
     }
-    Err("an illegal command")?
-}
-
-fn play<D: Dram>(chip: &mut D, cmds: &[BodyCmd]) -> Result<(), Fail>
-    requires begun { D.begun chip.old }
-    requires geometry { D.geometry chip.old ≡ SMALL }
-    requires few { length cmds.now < 2 ^ 32 }
-    requires aap_room { (D.counters chip.old).aap < 2 ^ 32 }
-    requires ap_room { (D.counters chip.old).ap < 2 ^ 32 }
-    ensures begun { D.begun chip.new }
-    ensures geometry { D.geometry chip.new ≡ SMALL }
-    ensures reads { (D.counters chip.new).reads ≡ (D.counters chip.old).reads }
-{
-    for cmd in cmds {
-        play_one(chip, *cmd)?;
-    }
-    Ok(())
 }
 
 /// The word of a row.
 fn row_of<D: Dram>(chip: &mut D, row: u16) -> Result<u64, Fail>
-    requires begun { D.begun chip.old }
-    requires geometry { D.geometry chip.old ≡ SMALL }
+    requires begun { HasBegun (D.view chip.old) }
+    requires geometry { (D.view chip.old).geometry ≡ SMALL }
     requires row { row < 64 }
-    requires room { (D.counters chip.old).reads < 2 ^ 32 }
-    ensures begun { D.begun chip.new }
-    ensures geometry { D.geometry chip.new ≡ SMALL }
-    ensures reads { (D.counters chip.new).reads ≤ (D.counters chip.old).reads + 1 }
+    requires room { (D.view chip.old).counters.reads < 2 ^ 32 }
+    ensures kept { Kept (D.view chip.old) (D.view chip.new) }
+    ensures reads { OnOk result ((D.view chip.new).counters.reads
+        ≤ (D.view chip.old).counters.reads + 1) }
 {
     let mut word = [0; 1];
     chip.read_row(0, row, &mut word)?;
@@ -153,14 +102,18 @@ fn a_body_adds_in_a_chip(rt: HostRuntime) -> Result<(), Fail> {
     );
     let (m, outs) = full_adder(&rt, rt.alloc())?;
     let cmds = plain_body(&m, &outs, rt.alloc())?;
-    assert!(rt; cmds.len() <= 18);
+    let mut commands = Vec::new(rt.alloc());
+    for cmd in &cmds {
+        commands.push(command_of(*cmd))?;
+    }
+    assert!(rt; commands.len() <= 18);
     let mut chip = Chip::new(rt.alloc());
     chip.begin(SMALL)?;
     chip.write_row(0, 0, &[a])?;
     chip.write_row(0, 1, &[b])?;
     chip.write_row(0, 2, &[c])?;
     chip.write_row(0, 9, &[u64::MAX])?;
-    play(&mut chip, &cmds)?;
+    play(&mut chip, SMALL, 0, &commands)?;
     assert_eq!(rt; row_of(&mut chip, 0)?, a);
     assert_eq!(rt; row_of(&mut chip, 1)?, b);
     assert_eq!(rt; row_of(&mut chip, 2)?, (a & b) | (a & c) | (b & c));

@@ -1,9 +1,14 @@
-//! Tests that cross crates: an object in the banks of a chip, a microprogram from its file to the
-//! rows of a bank, and a
-//! body of row commands.
+//! Tests of public calls: commands on the rows of a chip, objects in its banks, microprograms from
+//! their files to the rows of a bank, and a body of row commands.
 #![tactic(auto)]
 
 #[cfg(test)]
 mod body_tests;
 #[cfg(test)]
-mod tests;
+mod chip_tests;
+#[cfg(test)]
+mod object_tests;
+#[cfg(test)]
+mod program_tests;
+#[cfg(test)]
+mod rows;

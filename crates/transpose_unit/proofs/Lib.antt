@@ -2,5 +2,5 @@ mod Sets
 mod Events
 mod Columns
 mod Segments
-mod Held
+pub mod Held
 mod Rows

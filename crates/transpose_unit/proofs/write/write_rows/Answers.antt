@@ -36,11 +36,13 @@ loop-k-preserved g c =
     let now = dram.view c.loop-k.dram in
     let new = dram.view c.write_row.new.self in
     let did = c.in_ok-write_row.ensures.did in
+    let wrote : new.counters.writes ≡ now.counters.writes + 1 =
+    ap (λ (n : Counters). n.writes) did.counters in
     record {
       borrow = c.in_ok-write_row.ensures.borrow ∙ kept.borrow;
       kept = Kept-more first now new kept.kept c.in_ok-write_row.ensures.kept;
       did = rw more (Did-more so_far (event ∷ []) first now new kept.did did);
-      writes = ap (λ (n : Counters). n.writes) did.counters ∙ omega (arith, kept.writes);
+      writes = omega (arith, wrote, kept.writes);
     }
 
 pub returns-in_err-write_row-clause-failed : goal.returns-in_err-write_row-clause-failed

@@ -1,17 +1,20 @@
-ghost use Rattle.std.specs.Prelude.{◌≡◌, ◌<◌, ◌^◌, All, IfOk, true};
+//! Microprograms: their files, and their runs on the rows of a bank.
+
+ghost use Rattle.std.specs.Prelude.{◌≡◌, ◌<◌, IfOk};
 ghost use Rattle.uprog_code.specs.Shape.{shape_of, microprograms_of};
+ghost use Rattle.uprog_code.specs.Machine.{HasEnded, trace};
+ghost use Rattle.uprog_code.specs.Legal.{IsLegalCode};
 ghost use Rattle.uprog_code.specs.Fits.{Fits};
 ghost use Rattle.uprog_code.specs.Bound.{bound_of};
 ghost use Rattle.uprog_code.specs.Programs.{IsProgram};
 ghost use Rattle.part_tests.specs.Xor.{xor_shape, xor_code};
+ghost use Rattle.part_tests.specs.Dup.{dup_shape, dup_code};
 
 use arrayvec::ArrayVec;
-use bit_rows::Value;
 use dram_chip::{Chip, Counters, Dram, Geometry};
 use std::alloc::Global;
 use std::test::Fail;
 use text_lex::Name;
-use transpose_unit::{read_column, read_segment, write_object};
 use uprog_bin::{ProgFault, ProgKind, ProgView, encode};
 use uprog_code::{Binding, EntryCode, Fetch, Head, Kind, Program, RowRef, RowSpace, Uop};
 use uprog_ctl::run;
@@ -23,93 +26,9 @@ const SMALL: Geometry = Geometry {
     words: 1,
 };
 
-/// More elements than the columns of one bank.
-const ELEMENTS: [Value; 70] = [
-    0, 1, 2, 3, 4, 5, 6, 7, 8, 9, 10, 11, 12, 13, 14, 15, 16, 17, 18, 19, 20, 21, 22, 23, 24, 25,
-    26, 27, 28, 29, 30, 31, 0, 1, 2, 3, 4, 5, 6, 7, 8, 9, 10, 11, 12, 13, 14, 15, 16, 17, 18, 19,
-    20, 21, 22, 23, 24, 25, 26, 27, 28, 29, 30, 31, 31, 1, 2, 16, 8, 21,
-];
-
-/// The rows that hold the elements, the lowest bit first.
-const ELEMENT_ROWS: [[u64; 5]; 2] = [
-    [
-        0xaaaa_aaaa_aaaa_aaaa,
-        0xcccc_cccc_cccc_cccc,
-        0xf0f0_f0f0_f0f0_f0f0,
-        0xff00_ff00_ff00_ff00,
-        0xffff_0000_ffff_0000,
-    ],
-    [0x23, 0x05, 0x21, 0x11, 0x29],
-];
-
-/// Whether each value has at most 5 bits.
-fn are_small(values: &[Value]) -> bool
-    ensures { result ≡ true → All (λ v. v < 2 ^ 5) values.now }
-{
-    values.iter().all(|v| *v < 32)
-}
-
-#[test]
-fn an_object_is_read_back(rt: HostRuntime) -> Result<(), Fail> {
-    assert!(rt; are_small(&ELEMENTS));
-    let mut chip = Chip::new(rt.alloc());
-    chip.begin(SMALL)?;
-    let mut stage = [u64::MAX; 64];
-    write_object(&mut chip, SMALL, 7, 5, &ELEMENTS, &mut stage)?;
-    let mut stages = [[0; 64]; 2];
-    read_segment(&mut chip, SMALL, 0, 7, 5, &mut stages[0])?;
-    read_segment(&mut chip, SMALL, 1, 7, 5, &mut stages[1])?;
-    for e in 0..128usize {
-        let number = read_column(&stages[e / 64], 5, (e % 64) as u32);
-        let want = ELEMENTS.get(e).copied().unwrap_or(0);
-        assert_eq!(rt; number, want, "element {e}");
-    }
-    let counters = Counters {
-        aap: 0,
-        ap: 0,
-        writes: 10,
-        reads: 10,
-    };
-    assert_eq!(rt; chip.tally(), counters);
-    Ok(())
-}
-
-/// The word of a row that was all ones before the object was written to rows 7 to 11.
-fn row_after_object(values: &[Value; 70], bank: u16, row: u16, alloc: Global) -> Result<u64, Fail>
-    requires small { All (λ v. v < 2 ^ 5) values.now }
-    requires bank { bank < 2 }
-    requires row { row < 64 }
-{
-    let mut chip = Chip::new(alloc);
-    chip.begin(SMALL)?;
-    chip.write_row(bank, row, &[u64::MAX])?;
-    let mut stage = [0; 64];
-    write_object(&mut chip, SMALL, 7, 5, values, &mut stage)?;
-    let mut word = [0; 1];
-    chip.read_row(bank, row, &mut word)?;
-    Ok(word[0])
-}
-
-#[test]
-fn an_object_takes_its_rows(rt: HostRuntime) -> Result<(), Fail> {
-    assert!(rt; are_small(&ELEMENTS));
-    for bank in 0..2u16 {
-        for row in 0..64u16 {
-            let word = row_after_object(&ELEMENTS, bank, row, rt.alloc())?;
-            let want = if 7 <= row && row < 12 {
-                ELEMENT_ROWS[bank as usize][row as usize - 7]
-            } else {
-                u64::MAX
-            };
-            assert_eq!(rt; word, want, "bank {bank} row {row}");
-        }
-    }
-    Ok(())
-}
-
 /// The program file of the operation `xor` on words, straight code for width 1.
 const XOR_BYTES: [u8; 99] = [
-    0x53, 0x44, 0x4D, 0x50, 0x01, 0x00, 0x01, 0x00, // magic, version 1, one entry
+    0x53, 0x44, 0x4D, 0x50, 0x02, 0x00, 0x01, 0x00, // magic, version 2, one entry
     0x03, 0x78, 0x6F, 0x72, 0, 0, 0, 0, 0, 0, 0, 0, 0, 0, 0, 0, 0, // xor
     0x02, 0x13, 0x00, 0x00, 0x00, 0x00, 0x00, 0x00, 0x08, 0x00, // two words, no scratch
     0x09, 0x03, 0x00, 0x08, 0x00, 0x08, 0x00, 0x00, // AAP s0[0] B8
@@ -158,6 +77,7 @@ fn xor_entry(alloc: Global) -> Result<EntryCode, Fail>
         name: Name::new(b"xor").ok_or("a name")?,
         sources,
         result: Kind::Word,
+        second: None,
         bits: 0,
         words: 0,
     };
@@ -193,10 +113,6 @@ fn a_program_is_its_file(rt: HostRuntime) -> Result<(), Fail> {
     Ok(())
 }
 
-const A: u64 = 0x0123_4567_89ab_cdef;
-
-const B: u64 = 0xfedc_ba98_0f0f_3355;
-
 /// Width 1, the sources in rows 0 and 1, and the result in row 2.
 fn xor_binding() -> Binding
     ensures width { result.n ≡ 1 }
@@ -208,35 +124,93 @@ fn xor_binding() -> Binding
     Binding {
         n: 1,
         result: 2,
+        second: None,
         sources,
         scratch: 3,
     }
 }
 
-/// The word of a row after the run on bank 1, and the counters. The row was all ones before, and
-/// rows 0 and 1 of bank 1
-/// were A and B.
-#[tactic(auto, using(crate::proofs::Xor::xor_is_legal, crate::proofs::Xor::xor_ends))]
-fn row_after_xor(bank: u16, row: u16, alloc: Global) -> Result<(u64, Counters), Fail>
+/// The operation `dup`, whose two results are its source.
+fn dup_entry(alloc: Global) -> Result<EntryCode, Fail>
+    ensures shape { IfOk result (λ e. shape_of e.head ≡ dup_shape) }
+    ensures code { IfOk result (λ e. e.code.items ≡ dup_code) }
+{
+    let mut sources = ArrayVec::new();
+    sources.push(Kind::Word);
+    let head = Head {
+        name: Name::new(b"dup").ok_or("a name")?,
+        sources,
+        result: Kind::Word,
+        second: Some(Kind::Word),
+        bits: 0,
+        words: 0,
+    };
+    let code = [
+        Uop::Aap(row(RowSpace::Source, 0, 8), row(RowSpace::B, 0, 0)),
+        Uop::Aap(row(RowSpace::B, 0, 0), row(RowSpace::Result, 0, 8)),
+        Uop::Aap(row(RowSpace::B, 0, 0), row(RowSpace::Result, 1, 8)),
+        Uop::Done,
+    ];
+    Ok(EntryCode {
+        head,
+        code: code.to_vec(alloc)?,
+    })
+}
+
+/// Width 1, the source in row 0, and the results in rows 1 and 2.
+fn dup_binding() -> Binding
+    ensures width { result.n ≡ 1 }
+    ensures fits { Fits 64 dup_shape 1 (bound_of result) }
+{
+    let mut sources = ArrayVec::new();
+    sources.push(0);
+    Binding {
+        n: 1,
+        result: 1,
+        second: Some(2),
+        sources,
+        scratch: 3,
+    }
+}
+
+/// The word of a row after a run on bank 1, and the counters. The row was all ones before, and rows
+/// 0 and 1 of bank 1 were these.
+fn word_after(
+    entry: &EntryCode,
+    binding: &Binding,
+    rows: [u64; 2],
+    bank: u16,
+    row: u16,
+    alloc: Global,
+) -> Result<(u64, Counters), Fail>
+    requires legal { IsLegalCode (shape_of entry.now.head) entry.now.code.items }
+    requires width { binding.now.n ≡ 1 }
+    requires fits { Fits 64 (shape_of entry.now.head) 1 (bound_of binding.now) }
+    requires ends { HasEnded (trace (shape_of entry.now.head) entry.now.code.items 1) }
     requires bank { bank < 2 }
     requires row { row < 64 }
 {
-    let entry = xor_entry(alloc)?;
-    let binding = xor_binding();
     let mut chip = Chip::new(alloc);
     chip.begin(SMALL)?;
     chip.write_row(bank, row, &[u64::MAX])?;
-    chip.write_row(1, 0, &[A])?;
-    chip.write_row(1, 1, &[B])?;
-    run(&mut chip, 1, &entry, &binding)?;
+    chip.write_row(1, 0, &[rows[0]])?;
+    chip.write_row(1, 1, &[rows[1]])?;
+    run(&mut chip, 1, entry, binding)?;
     let mut word = [0; 1];
     chip.read_row(bank, row, &mut word)?;
     Ok((word[0], chip.tally()))
 }
 
+const A: u64 = 0x0123_4567_89ab_cdef;
+
+const B: u64 = 0xfedc_ba98_0f0f_3355;
+
 /// The rows below the spill group.
 #[test]
+#[tactic(auto, using(crate::proofs::Xor::xor_is_legal, crate::proofs::Xor::xor_ends))]
 fn xor_is_run(rt: HostRuntime) -> Result<(), Fail> {
+    let entry = xor_entry(rt.alloc())?;
+    let binding = xor_binding();
     let counters = Counters {
         aap: 5,
         ap: 2,
@@ -251,7 +225,30 @@ fn xor_is_run(rt: HostRuntime) -> Result<(), Fail> {
                 (1, 2) => 0xffff_ffff_86a4_feba,
                 _ => u64::MAX,
             };
-            let (word, tally) = row_after_xor(bank, row, rt.alloc())?;
+            let (word, tally) = word_after(&entry, &binding, [A, B], bank, row, rt.alloc())?;
+            assert_eq!(rt; word, want, "bank {bank} row {row}");
+            assert_eq!(rt; tally, counters);
+        }
+    }
+    Ok(())
+}
+
+/// An entry with two results.
+#[test]
+#[tactic(auto, using(crate::proofs::Dup::dup_is_legal, crate::proofs::Dup::dup_ends))]
+fn dup_is_run(rt: HostRuntime) -> Result<(), Fail> {
+    let entry = dup_entry(rt.alloc())?;
+    let binding = dup_binding();
+    let counters = Counters {
+        aap: 3,
+        ap: 0,
+        writes: 3,
+        reads: 1,
+    };
+    for bank in 0..2u16 {
+        for row in 0..32u16 {
+            let want = if bank == 1 && row < 3 { 0x0C } else { u64::MAX };
+            let (word, tally) = word_after(&entry, &binding, [0x0C, B], bank, row, rt.alloc())?;
             assert_eq!(rt; word, want, "bank {bank} row {row}");
             assert_eq!(rt; tally, counters);
         }
@@ -290,6 +287,7 @@ fn changed_files_are_refused(rt: HostRuntime) {
     for (changes, at, kind) in cases {
         assert_eq!(rt; fault_with(changes), Some((at, kind)), "byte {at}");
     }
-    // scratch of any size is a program's own
+    // scratch of any size is a program's own, and version 1 is read too
     assert_eq!(rt; fault_with([(27, 255), none, none]), None);
+    assert_eq!(rt; fault_with([(4, 1), none, none]), None);
 }
