@@ -6,12 +6,12 @@ use Rattle.std.proofs.lemmas.Bool.{cases_lt}
 use Rattle.std.proofs.lemmas.List.{get_or_append_left, get_or-append-add, append-nil}
 use Rattle.std.proofs.lemmas.List.Sums.{sum_by-append}
 use Rattle.aoi_graph.specs.Gates.{with_value}
-use Rattle.aoi_graph.specs.GateLaws.{with-same}
+use Rattle.aoi_graph.proofs.GateLaws.{with-same}
 use Rattle.aoi_graph.specs.declared.AoiNode.{AoiNode}
 use Rattle.aoi_graph.specs.declared.AoiNode.TheVariants.{Zero}
 use Rattle.aoi_graph.specs.Gates.{gate_value, ReadsBelow, aoi_at, aoi_from, aoi_values, AreLower}
 use Rattle.aoi_graph.specs.Gates.{is_gate}
-use Rattle.aoi_graph.specs.GateLaws.{aoi-below}
+use Rattle.aoi_graph.proofs.GateLaws.{aoi-below}
 use Rattle.std.specs.Prelude.{Option, Some, None, bytes_eq}
 use Rattle.std.specs.Option.{option_map_or}
 use Rattle.indexmap.specs.IndexMap.{get}

@@ -2,3 +2,4 @@ pub mod Growing
 pub mod Lets
 pub mod Outs
 pub mod Known
+pub mod GateLaws

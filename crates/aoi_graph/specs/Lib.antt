@@ -1,4 +1,3 @@
 pub mod Gates
-pub mod GateLaws
 pub mod Blocks
 pub mod Making

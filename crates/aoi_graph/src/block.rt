@@ -15,6 +15,7 @@ ghost use Rattle.aoi_graph.specs.Making.{Grows, AreBelow, IsEnv, name_value};
 use crate::gates::{gate, one, xor};
 use crate::{AoiGraph, AoiNode, NoMemory};
 use indexmap::IndexMap;
+use no_memory::keep;
 use op_text::{Assign, Expr};
 use std::alloc::Global;
 use text_lex::Name;
@@ -103,20 +104,8 @@ fn note(known: &mut IndexMap<Name, u32>, name: Name, k: u32) -> Result<(), NoMem
     ensures others { OnOk result ((other : List ℕ) → other ≢ name
         → get bytes_eq known.new other ≡ get bytes_eq known.old other) }
 {
-    match known.insert(name, k) {
-        Ok(_) => Ok(()),
-        Err(_) => Err(NoMemory),
-    }
-}
-
-/// One output more.
-fn keep_out(outs: &mut Vec<u32>, k: u32) -> Result<(), NoMemory>
-    ensures { OnOk result (outs.new.items ≡ outs.old.items ++ k ∷ []) }
-{
-    match outs.push(k) {
-        Ok(()) => Ok(()),
-        Err(_) => Err(NoMemory),
-    }
+    known.insert(name, k)?;
+    Ok(())
 }
 
 /// The nodes of the lets.
@@ -170,7 +159,7 @@ fn out_nodes(
 {
     for a in assigns {
         let k = expression(nodes, known, inputs, &a.value)?;
-        keep_out(outs, k)?;
+        keep(outs, k)?;
     }
     Ok(())
 }

@@ -8,6 +8,7 @@ ghost use Rattle.aoi_graph.specs.Blocks.{Numbers, IsHeld, AreHeld};
 ghost use Rattle.aoi_graph.specs.Making.{Grows};
 
 use crate::{AoiNode, NoMemory};
+use no_memory::keep;
 
 /// One node more.
 fn push(nodes: &mut Vec<AoiNode>, node: AoiNode) -> Result<u32, NoMemory>
@@ -16,10 +17,8 @@ fn push(nodes: &mut Vec<AoiNode>, node: AoiNode) -> Result<u32, NoMemory>
         × (r ≡ length nodes.old.items)) }
 {
     let k = nodes.len() as u32;
-    match nodes.push(node) {
-        Ok(()) => Ok(k),
-        Err(_) => Err(NoMemory),
-    }
+    keep(nodes, node)?;
+    Ok(k)
 }
 
 /// The node of a gate over nodes that stand.

@@ -7,9 +7,6 @@ mod gates;
 pub use block::build;
 pub use no_memory::NoMemory;
 
-#[cfg(test)]
-mod tests;
-
 /// A gate over lower nodes.
 #[derive(Clone, Copy, Debug, PartialEq, Eq)]
 pub enum AoiNode {

@@ -19,7 +19,7 @@ use Rattle.bbop_isa.specs.declared.instr.ScriptKind.TheVariants.{Syntax, BadName
 use Rattle.bbop_isa.specs.Words.{Word, Name, Number, Comma, Other}
 use Rattle.bbop_isa.specs.Forms.{Instruction, Init, Bbop, Load, Fill, Print, Free, Order, Operands}
 use Rattle.bbop_isa.specs.Forms.{operands_of, is_count, is_width, is_seed, value, result_map}
-use Rattle.bbop_isa.specs.Forms.{checked, init_of, bbop_of, load_of, fill_of, lone_name, seed_of}
+use Rattle.bbop_isa.specs.Forms.{checked, init_of, bbop_of, load_of, fill_of, lone_name}
 use Rattle.bbop_isa.specs.Forms.{order_of, verb_of, of_verb, instruction_of}
 use Rattle.bbop_isa.specs.Laws.{with_commas, first_name, other_words, AreSizes, IsRight}
 use Rattle.bbop_isa.proofs.Spelling.{read_is_spelled}
@@ -40,13 +40,13 @@ pub record IsWritten (head : List ℕ) (words : List Word) (i : Instruction) : T
   pub right : IsRight i
 
 -- how operands are written
-abbrev Spelled : List Word → List (List ℕ) → List (Option ℕ) → Type 0
+abbrev pub Spelled : List Word → List (List ℕ) → List (Option ℕ) → Type 0
 Spelled words names numbers = words ≡ with_commas (map Name names ++ map Number numbers)
 
-is_text : (a b : List ℕ) → bytes_eq a b ≡ true → a ≡ b
+pub is_text : (a b : List ℕ) → bytes_eq a b ≡ true → a ≡ b
 is_text a b is = (bytes_eq-Decides a b).0 is
 
-is_other : (a b : List ℕ) → bytes_eq a b ≡ false → a ≢ b
+pub is_other : (a b : List ℕ) → bytes_eq a b ≡ false → a ≢ b
 is_other a b is same = let clash : true ≡ false = sym ((bytes_eq-Decides a b).1 same) ∙ is in cc
 
 both : (a b : Bool) → (a && b) ≡ true → (a ≡ true) × (b ≡ true)

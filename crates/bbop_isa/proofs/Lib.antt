@@ -7,3 +7,4 @@ pub mod Spelling
 pub mod Numbered
 pub mod Formed
 pub mod Meant
+pub mod Kinded

@@ -25,7 +25,7 @@ sizes_hold count n are =
     let d : nat_le n WIDTH_MAX ≡ true = grind (arith, nat_tests, are.3) in
     rw (a, b, c, d) refl
 
-not_true : (b : Bool) → (b ≡ true → ⊥) → b ≡ false
+pub not_true : (b : Bool) → (b ≡ true → ⊥) → b ≡ false
 not_true true h = absurd (h refl)
 not_true false h = refl
 

@@ -5,3 +5,4 @@ pub mod Forms
 pub mod Script
 pub mod Reading
 pub mod Laws
+pub mod Kinds

@@ -2,6 +2,7 @@
 
 ghost use Rattle.bbop_isa.specs.Laws.{LinesAreRight, OperandsAreSpelled, LinesAreForms};
 ghost use Rattle.bbop_isa.specs.Laws.{ScriptsGoByLines};
+ghost use Rattle.bbop_isa.specs.Kinds.{LinesAreWrong};
 
 /// The lines of a text are what stands between its newlines.
 pub fn lines_are_right()
@@ -17,6 +18,12 @@ pub fn operands_are_spelled()
 /// that are right.
 pub fn lines_are_forms()
     ensures { LinesAreForms }
+{}
+
+/// A line is refused for what is wrong with it: for its bytes, its form, a name or a number, in
+/// this order.
+pub fn lines_are_wrong()
+    ensures { LinesAreWrong }
 {}
 
 /// Each line counts by itself, and the first line at fault decides.

@@ -14,4 +14,3 @@ mod Ends
 mod Costs
 mod Compile
 mod Whole
-mod Example

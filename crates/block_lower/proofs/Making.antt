@@ -18,7 +18,7 @@ use Rattle.mig_graph.specs.declared.Lit.{Lit}
 use Rattle.mig_graph.specs.Graph.{Graph, value}
 use Rattle.mig_graph.specs.Outputs.{lit_at, KeepsOutputs}
 use Rattle.mig_graph.specs.Inputs.{HasInput, IsInputCount}
-use Rattle.mig_graph.specs.InputLaws.{held-inputs, count-most}
+use Rattle.mig_graph.proofs.InputLaws.{held-inputs, count-most}
 use Rattle.loop_ir.specs.Statements.{Slots, BlockMeets, equation_names, targets_of}
 use Rattle.block_lower.specs.Inputs.{block_from, block_inputs, name_at, AreNumbered}
 use Rattle.block_lower.proofs.Names.{among-left, among-right, among-kept}

@@ -35,8 +35,7 @@ abbrev pub row : ℕ → Slots → List ℕ → ℕ → Spot
 row n slots x v = slot_spot n (slot_or (slots x)) v
 
 -- after i positions: the states' rows hold their bits, the assigned words' rows theirs at the
--- positions done, the names
--- that are read as they stand are as before, and so are all other rows
+-- positions done, the names that are read as they stand are as before, and so are all other rows
 pub record Stands (slots : Slots) (b : Block) (n : ℕ) (old : List ℕ
     → Held) (before : Spots) (i : ℕ) (held : List ℕ → Held) (bits : Spots) : Type 0 where
   pub states : (x : List ℕ) → is_among (state_names b) x ≡ true

@@ -48,10 +48,8 @@ abbrev pub start : Slots → Bool → State → StepOf Body
 start slots down s = Single (constant s.start (place_of down (slots s.name)))
 
 -- The body reads the block's inputs at their places and writes the assigned names at theirs. For
--- all values of the names,
--- where each input has its name's value, output j is the value of assignment j. It has no more
--- nodes than the block has
--- weight, and no rule makes the graph smaller
+-- all values of the names, where each input has its name's value, output j is the value of
+-- assignment j. It has no more nodes than the block has weight, and no rule makes the graph smaller
 pub record IsBlockBody (slots : Slots) (b : Block) (body : Body) : Type 0 where
   pub reads : body.reads ≡ places_of slots b.down (block_inputs b)
   pub writes : body.writes ≡ places_of slots b.down (targets_of b.assigns)

@@ -13,6 +13,7 @@ use aoi_graph::build;
 use loop_ir::{Body, NameMap, Place};
 use mig_graph::{Lit, Mig, MigOuts, NoMemory, from_aoi};
 use mig_rewrite::reduce;
+use no_memory::keep;
 use op_text::Assign;
 use std::alloc::Global;
 
@@ -26,17 +27,14 @@ pub(crate) fn constant(value: bool, place: Place, alloc: Global) -> Result<Body,
         node: 0,
         inverted: value,
     };
-    match (outs.push(lit), writes.push(place)) {
-        (Ok(()), Ok(())) => Ok(Body {
-            reads: Vec::new(alloc),
-            graph: MigOuts {
-                mig: Mig::new(0, alloc)?,
-                outs,
-            },
-            writes,
-        }),
-        _ => Err(NoMemory),
-    }
+    keep(&mut outs, lit)?;
+    keep(&mut writes, place)?;
+    let mig = Mig::new(0, alloc)?;
+    Ok(Body {
+        reads: Vec::new(alloc),
+        graph: MigOuts { mig, outs },
+        writes,
+    })
 }
 
 /// The body of a block at a position, whatever its states are.

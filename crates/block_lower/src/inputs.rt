@@ -12,6 +12,7 @@ ghost use Rattle.block_lower.specs.Inputs.{gathered, AreNumbered};
 
 use indexmap::IndexMap;
 use mig_graph::NoMemory;
+use no_memory::keep;
 use op_text::{Assign, Expr};
 use std::alloc::Global;
 use text_lex::Name;
@@ -23,16 +24,6 @@ pub(crate) struct Inputs {
     pub order: Vec<Name>,
 }
 
-/// One name more.
-fn keep(found: &mut Vec<Name>, name: &Name) -> Result<(), NoMemory>
-    ensures { OnOk result (found.new.items ≡ found.old.items ++ name.now ∷ []) }
-{
-    match found.push(name.copied()) {
-        Ok(()) => Ok(()),
-        Err(_) => Err(NoMemory),
-    }
-}
-
 /// The names that an expression reads, behind those that were found.
 fn find(found: &mut Vec<Name>, e: &Expr) -> Result<(), NoMemory>
     ensures { OnOk result (found.new.items ≡ found.old.items ++ term_names (term e.now)) }
@@ -40,7 +31,7 @@ fn find(found: &mut Vec<Name>, e: &Expr) -> Result<(), NoMemory>
     match e {
         Expr::Zero => Ok(()),
         Expr::One => Ok(()),
-        Expr::Read(name) => keep(found, name),
+        Expr::Read(name) => keep(found, name.copied()),
         Expr::Not(a) => find(found, a),
         Expr::And(a, b) => {
             find(found, a)?;
@@ -91,10 +82,8 @@ fn note(numbers: &mut IndexMap<Name, u8>, name: Name, k: u8) -> Result<(), NoMem
     ensures others { OnOk result ((other : List ℕ) → other ≢ name
         → get bytes_eq numbers.new other ≡ get bytes_eq numbers.old other) }
 {
-    match numbers.insert(name, k) {
-        Ok(_) => Ok(()),
-        Err(_) => Err(NoMemory),
-    }
+    numbers.insert(name, k)?;
+    Ok(())
 }
 
 /// Gives the name the next number, if it has none.
@@ -109,7 +98,7 @@ fn number(inputs: &mut Inputs, name: &Name) -> Result<(), NoMemory>
         return Ok(());
     }
     let next = inputs.order.len() as u8;
-    keep(&mut inputs.order, name)?;
+    keep(&mut inputs.order, name.copied())?;
     note(&mut inputs.numbers, name.copied(), next)?;
     Ok(())
 }

@@ -5,8 +5,6 @@ mod body;
 mod inputs;
 mod lower;
 mod places;
-#[cfg(test)]
-mod tests;
 
 pub use lower::lower_block;
 pub use mig_graph::NoMemory;

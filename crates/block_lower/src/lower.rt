@@ -12,18 +12,9 @@ use crate::body::{block_body, constant};
 use crate::places::place_of;
 use loop_ir::{LoopProgram, NameMap, Step};
 use mig_graph::NoMemory;
+use no_memory::keep;
 use op_text::{Assign, State};
 use std::alloc::Global;
-
-/// One step more.
-fn keep(steps: &mut Vec<Step>, step: Step) -> Result<(), NoMemory>
-    ensures { OnOk result (steps.new.items ≡ steps.old.items ++ step ∷ []) }
-{
-    match steps.push(step) {
-        Ok(()) => Ok(()),
-        Err(_) => Err(NoMemory),
-    }
-}
 
 /// The steps that give the states their starts.
 fn starts(
@@ -59,7 +50,8 @@ pub fn lower_block(
     ensures form { IfOk result (λ p. IsBlockProgram (slots_of names.now)
         (block_from down states.now lets.now assigns.now) (steps_of p)) }
     ensures lowered { IfOk result (λ p. IsLowered (slots_of names.now) names.now.free_bit
-        names.now.free_word (Visit (block_from down states.now lets.now assigns.now)) (steps_of p)) }
+        names.now.free_word (Visit (block_from down states.now lets.now assigns.now))
+        (steps_of p)) }
 {
     let mut steps = starts(down, states, names, alloc)?;
     let body = block_body(down, lets, assigns, names, alloc)?;

@@ -7,6 +7,7 @@ ghost use Rattle.block_lower.specs.Form.{kind_sub, place_of, places_of};
 
 use loop_ir::{NameMap, Place, Space, Sub};
 use mig_graph::NoMemory;
+use no_memory::keep;
 use op_text::{Assign, Kind};
 use std::alloc::Global;
 use text_lex::Name;
@@ -50,10 +51,7 @@ pub(crate) fn places_of(
 {
     let mut places = Vec::new(alloc);
     for name in listed {
-        match places.push(place_of(names, down, name)) {
-            Ok(()) => (),
-            Err(_) => return Err(NoMemory),
-        }
+        keep(&mut places, place_of(names, down, name))?;
     }
     Ok(places)
 }
@@ -70,10 +68,7 @@ pub(crate) fn target_places(
 {
     let mut places = Vec::new(alloc);
     for a in assigns {
-        match places.push(place_of(names, down, &a.name)) {
-            Ok(()) => (),
-            Err(_) => return Err(NoMemory),
-        }
+        keep(&mut places, place_of(names, down, &a.name))?;
     }
     Ok(places)
 }

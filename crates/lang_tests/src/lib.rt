@@ -10,4 +10,6 @@ mod faults;
 #[cfg(test)]
 mod lexing;
 #[cfg(test)]
+mod scripts;
+#[cfg(test)]
 mod texts;

@@ -1,7 +1,7 @@
 //! Texts that are read and written.
 
 use crate::reread;
-use op_lang::parse_ops;
+use op_lang::{Stmt, need, parse_ops, scratch_of};
 use op_print::print_ops;
 use std::process::Abort;
 use std::test::Fail;
@@ -38,8 +38,8 @@ const HEAVY: &[u8] = b"op g(a: word, b: word) -> y: word {
 }
 ";
 
-const LOOSE: &[u8] =
-    b"# bits\nop odd ( a : bit ) -> y : bit {\r\n\tz = zero ( ) ; # none\n  serial up ( ) { v = not ( and ( a , 1 ) ) ; }
+const LOOSE: &[u8] = b"# bits\nop odd ( a : bit ) -> y : bit {\r\n\tz = zero ( ) ; # none
+  serial up ( ) { v = not ( and ( a , 1 ) ) ; }
 serial down(y=1,c=0){y=or(0,v);}}";
 
 const ODD: &[u8] = b"op odd(a: bit) -> y: bit {
@@ -87,8 +87,6 @@ fn written(rt: &(impl Abort + AllocGlobal), text: &[u8]) -> Result<Vec<u8>, Fail
     assert!(rt; text.len() < 10_000);
     let ops = parse_ops(text, rt.alloc())?;
     let text = print_ops(&ops, rt.alloc())?;
-    let bytes = text.as_slice();
-    assert!(rt; bytes.len() < 10_000);
     let again = reread(&ops, rt.alloc())?;
     assert!(rt; again.ops.len() == ops.ops.len());
     Ok(text)
@@ -108,6 +106,35 @@ fn texts_are_written(rt: HostRuntime) -> Result<(), Fail> {
     ] {
         let text = written(&rt, text)?;
         assert!(rt; text.as_slice() == want);
+    }
+    Ok(())
+}
+
+// What the ops of a text hold, and the rows of scratch that they need.
+#[test]
+fn ops_are_read(rt: HostRuntime) -> Result<(), Fail> {
+    let all = parse_ops(MAC, rt.alloc())?;
+    assert!(rt; all.ops.len() == 2);
+    let mac = &all.ops[0];
+    let sum = &all.ops[1];
+    assert!(rt; mac.name.bytes() == b"mac".as_slice());
+    assert!(rt; mac.params.len() == 3 && mac.body.len() == 2);
+    assert!(rt; scratch_of(mac).bits == 1 && scratch_of(mac).words == 1);
+    assert!(rt; scratch_of(sum).bits == 1 && scratch_of(sum).words == 0);
+    assert!(rt; need(mac, 32) == 33 && need(sum, 32) == 1);
+    match sum.body.as_slice() {
+        [
+            Stmt::Serial {
+                down,
+                states,
+                lets,
+                assigns,
+            },
+        ] => {
+            assert!(rt; !*down && states.len() == 1);
+            assert!(rt; lets.len() == 1 && assigns.len() == 2);
+        }
+        _ => assert!(rt; false, "no block"),
     }
     Ok(())
 }

@@ -50,8 +50,8 @@ step_stands (Along b) = all_stand true false b
 step_stands (Nest parts) = list_all inner_stands parts
 
 -- In a round the body's places are rows that it may have, and none of its writes is a source's. The
--- row of a write is that
--- of no other write, and that of at most one read, which is a read of the same place
+-- row of a write is that of no other write, and that of at most one read, which is a read of the
+-- same place
 pub record IsRound (may_have : Spot → Type 0) (n : ℕ) (r : RoundOf Block) : Type 0 where
   pub reads : (k : ℕ) → k < length r.part.reads → may_have (nth_spot n r.i r.o r.part.reads k)
   pub writes : (j : ℕ) → j < length r.part.writes → may_have (nth_spot n r.i r.o r.part.writes j)

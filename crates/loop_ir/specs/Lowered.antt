@@ -57,8 +57,8 @@ IsStatementRow slots free_bit free_word s n q = IsRowOf n slots (statement_names
     ⊎ IsInside n free_bit free_word s q
 
 -- At width n, whatever the rows hold: where the rows of the names that it reads hold their values,
--- the rows of the names
--- that it sets hold theirs after it; and no other row changes but the internal scratch
+-- the rows of the names that it sets hold theirs after it; and no other row changes but the
+-- internal scratch
 pub record Does (slots : Slots) (free_bit free_word : ℕ) (s : Statement) (n : ℕ)
     (steps : List (StepOf Block)) : Type 0 where
   pub gives : (held : List ℕ → Held) (bits : Spots)
@@ -84,8 +84,7 @@ ceiling_of slots (Compute target p args) n = op_ceiling p (args_width slots n ar
 ceiling_of slots (Visit block) n = block_ceiling block n
 
 -- A statement's loop program: well formed, such that code can be made of it over the statement's
--- rows alone, and at every
--- width it does the statement within the ceiling
+-- rows alone, and at every width it does the statement within the ceiling
 pub record IsLowered (slots : Slots) (free_bit free_word : ℕ) (s : Statement)
     (steps : List (StepOf Block)) : Type 0 where
   pub well : AreWellFormed steps

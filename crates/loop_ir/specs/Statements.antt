@@ -80,8 +80,7 @@ abbrev pub statement_names : Statement → List (List ℕ)
 statement_names s = written_names s ++ read_names s
 
 -- Its names have places, which differ, and are no internal scratch: the bits and words from the
--- first free ones on. What
--- it sets is no source
+-- first free ones on. What it sets is no source
 pub record IsPlaced (slots : Slots) (free_bit free_word : ℕ) (s : Statement) : Type 0 where
   pub there : (name : List ℕ) → is_among (statement_names s) name ≡ true
       → (x : Slot) × (slots name ≡ Some x) × (holds_kind x.space x.kind ≡ true)
@@ -107,8 +106,7 @@ HaveKinds slots (name ∷ names) [] = ⊥
 HaveKinds slots (name ∷ names) (k ∷ ks) = HasKind slots name k × HaveKinds slots names ks
 
 -- A word statement meets the rules: its arguments have the kinds of a form of its operation, the
--- target has the kind that
--- the form gives, and is no argument
+-- target has the kind that the form gives, and is no argument
 pub record ComputeMeets (slots : Slots) (target : List ℕ) (p : WordOp) (args : List (List ℕ)) : Type
     0 where
   pub kinds : List Kind
@@ -131,8 +129,7 @@ AreDistinct [] = Unit {0}
 AreDistinct (name ∷ names) = (is_among names name ≡ false) × AreDistinct names
 
 -- A block meets the rules: its limits, its lets without places, its states with bits and its other
--- targets with words that
--- it does not read
+-- targets with words that it does not read
 pub record BlockMeets (slots : Slots) (b : Block) : Type 0 where
   pub states : length b.states ≤ MAX_STATES
   pub lets : length b.lets ≤ MAX_LETS

@@ -11,8 +11,7 @@ abbrev pub IsOneValue : Place → Place → Type 0
 IsOneValue p q = (p.space ≡ q.space) × (p.which ≡ q.which)
 
 -- Each output names a node; there are reads for the inputs and writes for the outputs; two writes
--- are rows of two values;
--- and what a body writes is read in it with the same subscript only
+-- are rows of two values; and what a body writes is read in it with the same subscript only
 pub record IsWellFormed (b : Block) : Type 0 where
   pub named : (j : ℕ) → j < length b.outs → (lit_at b.outs j).node < size_of b.graph
   pub reads : b.graph.inputs ≤ length b.reads

@@ -45,8 +45,7 @@ pub struct Place {
 }
 
 /// What is done in one round: read k is input k of the graph, and output j is written to place j.
-/// All writes come after
-/// all reads.
+/// All writes come after all reads.
 #[derive(Debug, Drop)]
 pub struct Body {
     pub reads: Vec<Place>,

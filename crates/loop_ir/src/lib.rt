@@ -3,8 +3,6 @@
 
 mod ir;
 mod names;
-#[cfg(test)]
-mod tests;
 mod wells;
 
 pub use ir::{Body, Count, Inner, LoopProgram, Place, Space, Step, Sub};

@@ -19,10 +19,6 @@ rounds_append n (r ∷ rs) ss bits = rounds_append n rs ss (after_round n r bits
 abbrev pub after_steps : ℕ → List (StepOf Block) → Spots → Spots
 after_steps n ss bits = after_rounds n (all_rounds n ss) bits
 
-pub steps_once : (n : ℕ) (b : Block) (ss : List (StepOf Block)) (bits : Spots)
-    → after_steps n (Single b ∷ ss) bits ≡ after_steps n ss (after_round n (round_at b 0 0) bits)
-steps_once n b ss bits = refl
-
 pub steps_each : (n : ℕ) (b : Block) (ss : List (StepOf Block)) (bits : Spots)
     → after_steps n (Along b ∷ ss) bits ≡ after_steps n ss (after_many n 0 b n bits)
 steps_each n b ss bits =

@@ -138,8 +138,7 @@ fits r outer w sub.DownPlusN = is_twice w && outer
 fits r outer w sub.NPlusInner = is_twice w && has_inner r
 
 -- In a body: each place has an owner and stays in its rows; what is written may be, and has owners
--- that differ; and of the
--- reads at most one has a write's owner, with the write's subscript
+-- that differ; and of the reads at most one has a write's owner, with the write's subscript
 pub record BodyFits (r : Reach) (outer : Bool) (rooms : List Room) (reads writes : List Mark) : Type
     0 where
   pub read_owner : (k : ℕ) → k < length reads → (mark_at reads k).owner < length rooms

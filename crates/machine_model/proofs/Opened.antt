@@ -23,7 +23,6 @@ use Rattle.machine_model.specs.Refusals.{refusal, object_named, is_absent, when}
 use Rattle.machine_model.specs.Steps.{Held, table_of, numbers_named, reply_by, reply_to}
 use Rattle.machine_model.specs.Steps.{words_after, banks_after}
 use Rattle.machine_model.specs.Agrees.{Agrees, StepAgrees}
-use Rattle.machine_model.specs.Laws.{FitsBanks}
 use Rattle.std.specs.List.{AllByRecursion}
 use Rattle.machine_model.specs.Report.{Said, said_of, said_in_words, said_in_rows}
 use Rattle.object_alloc.specs.Spelling.{IsImage}
@@ -152,7 +151,3 @@ report_same g operations meaning (instr ∷ script) steps banks state a =
     ∙ report_same g operations meaning script steps.1
     (banks_after g operations (table_of state) banks instr)
     (words_after g operations meaning state instr) (steps.0 banks state a)))
-
--- The objects of an image fit its banks
-pub image_fits : (i : Image) → IsImage i.geometry i.table i.rows → FitsBanks i.geometry i.table
-image_fits i good k d l = (good.objects k d l).fits

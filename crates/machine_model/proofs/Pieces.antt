@@ -3,21 +3,22 @@ use Rattle.std.proofs.Common.{◌≡◌, ◌<◌, Bool, true, false, cond, eqb, 
 use Rattle.std.proofs.Common.{length, refl, sym, ◌∙◌, ap, subst}
 use Rattle.std.proofs.Common.{append_assoc, append-nil, length-append, ◌+◌, ◌≤◌, arith}
 use Rattle.std.proofs.lemmas.Bool.Decides.{nat_tests}
-use Rattle.std.specs.Prelude.{flat_map}
+use Rattle.std.specs.Prelude.{flat_map, All}
 use Rattle.std.specs.List.{AllByRecursion}
 use Rattle.dram_model.specs.declared.geometry.Geometry.{Geometry}
 use Rattle.dram_model.specs.Chip.{Event, all_counted}
 use Rattle.object_alloc.specs.Listed.{Named}
+use Rattle.object_alloc.specs.Spelling.{IsObject}
 use Rattle.bbop_isa.specs.Forms.{Instruction}
 use Rattle.bbop_isa.specs.Forms.{Init, Bbop, Load, Fill, Print, Free, Order}
 use Rattle.machine_model.specs.Operations.{Operations}
 use Rattle.machine_model.specs.Refusals.{refusal}
-use Rattle.machine_model.specs.Schedule.{Turn, in_turn, whole_picks, events_of_picks}
+use Rattle.machine_model.specs.Schedule.{Turn, Ahead, in_turn, whole_picks, events_of_picks}
 use Rattle.machine_model.specs.Steps.{job_of, job_events, own_events, if_done, table_after}
 use Rattle.machine_model.specs.Script.{is_bbop, table_at_end, events_in_order}
 use Rattle.machine_model.specs.Pieces.{Piece, Wave, Alone, instrs_in, gathered, pieces_from, pieces}
 use Rattle.machine_model.specs.Pieces.{jobs_of, wave_queues, piece_events, turn_behind}
-use Rattle.machine_model.specs.Pieces.{events_of_pieces, AreBbops, IsPiece}
+use Rattle.machine_model.specs.Pieces.{events_of_pieces, script_events, AreBbops, IsPiece}
 use Rattle.machine_model.specs.Laws.{FitsBanks, SeenInOrder, EventsAreSteps, CountedByReplies}
 use Rattle.machine_model.specs.Laws.{OneBankInOrder, PiecesAreScript, WaveIsCounted}
 use Rattle.machine_model.proofs.Events.{in_order_steps, in_order_counted}
@@ -215,3 +216,11 @@ one_bank g operations turn table script one some f =
     let same : (es : List Event) → es ≡ es = λ es. refl in
     script_is (λ a b. a ≡ b) same both_same g operations (wave_same g operations one some) turn
     table script f
+
+-- on a chip of one bank a script has the events of its instructions one after another
+pub script_in_order : (g : Geometry) (operations : Operations) (table : List Named)
+    (script : List Instruction) → g.banks ≡ 1 → 0 < g.words
+    → All (λ named. IsObject g named.1) table
+    → script_events g operations table script ≡ events_in_order g operations table script
+script_in_order g operations table script one some objects =
+    one_bank g operations Ahead table script one some (λ k d l. (objects k d l).fits)

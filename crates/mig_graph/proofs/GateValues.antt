@@ -4,7 +4,7 @@ use Rattle.bit_rows.specs.Bits.{majority, majority-false, majority-true}
 use Rattle.op_text.specs.Values.{majority as gate_majority}
 use Rattle.mig_graph.specs.declared.Lit.{Lit}
 use Rattle.mig_graph.specs.Graph.{Graph, value, values}
-use Rattle.mig_graph.specs.Laws.{value-zero}
+use Rattle.mig_graph.proofs.Laws.{value-zero}
 
 and-value : (a b z : Bool) → z ≡ false → majority a b z ≡ (a && b)
 and-value a b z e = rw e (majority-false a b)

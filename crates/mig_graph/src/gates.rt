@@ -12,6 +12,7 @@ ghost use Rattle.mig_graph.specs.Inputs.{HasInput, IsInputCount};
 
 use crate::{Lit, Mig, MigOuts, NoMemory, complement};
 use aoi_graph::{AoiGraph, AoiNode};
+use no_memory::keep;
 use std::alloc::Global;
 
 const ZERO: Lit = Lit {
@@ -31,8 +32,8 @@ fn gate(mig: &mut Mig, lits: &[Lit], node: AoiNode) -> Result<Lit, NoMemory>
     requires input { HasInput mig.old.inputs node }
     requires room { size_of mig.old < 2 ^ 32 - 1 }
     ensures value { IfOk result (λ l. (bits : ℕ → Bool)
-        → value mig.new bits l ≡ gate_value bits (λ n. value mig.old bits (lit_at lits.now n)) node)
-            }
+        → value mig.new bits l
+        ≡ gate_value bits (λ n. value mig.old bits (lit_at lits.now n)) node) }
     ensures kept { IfOk result (λ _. (bits : ℕ → Bool) (l : Lit) → l.node < size_of mig.old
         → value mig.new bits l ≡ value mig.old bits l) }
     ensures named { IfOk result (λ l. l.node < size_of mig.new) }
@@ -74,15 +75,6 @@ fn translate(nodes: &[AoiNode], inputs: u8, alloc: Global) -> Result<MigOuts, No
         keep(&mut lits, l)?;
     }
     Ok(MigOuts { mig, outs: lits })
-}
-
-fn keep(lits: &mut Vec<Lit>, l: Lit) -> Result<(), NoMemory>
-    ensures { OnOk result (lits.new.items ≡ lits.old.items ++ l ∷ []) }
-{
-    match lits.push(l) {
-        Ok(()) => Ok(()),
-        Err(_) => Err(NoMemory),
-    }
 }
 
 /// The number of inputs that this many and one more node name.

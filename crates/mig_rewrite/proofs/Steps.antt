@@ -7,11 +7,11 @@ use Rattle.bit_rows.specs.Bits.{majority}
 use Rattle.mig_graph.specs.declared.Lit.{Lit}
 use Rattle.mig_graph.specs.Literals.{lit_value}
 use Rattle.mig_graph.specs.Graph.{Graph, size_of, IsGraph, values, value}
-use Rattle.mig_graph.specs.Laws.{any-order}
+use Rattle.mig_graph.proofs.Laws.{any-order}
 use Rattle.mig_graph.specs.Outputs.{lit_at}
-use Rattle.mig_graph.specs.OutputLaws.{each-more}
+use Rattle.mig_graph.proofs.OutputLaws.{each-more}
 use Rattle.mig_graph.specs.Reduced.{node_numbered}
-use Rattle.mig_graph.specs.ReducedLaws.{majority-merge}
+use Rattle.mig_graph.proofs.ReducedLaws.{majority-merge}
 use Rattle.mig_rewrite.specs.declared.merges.Merge.{Merge}
 use Rattle.mig_rewrite.specs.declared.rebuild.Part.{Part}
 use Rattle.mig_rewrite.specs.declared.rebuild.Part.TheVariants.{Nothing, One, Two}

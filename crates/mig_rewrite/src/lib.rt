@@ -9,8 +9,6 @@ mod merges;
 mod plan;
 mod rebuild;
 mod tally;
-#[cfg(test)]
-mod tests;
 
 use merges::any_merge;
 use mig_graph::{MigOuts, NoMemory};

@@ -14,10 +14,7 @@ use std::alloc::Global;
 fn unmarked(n: u32, alloc: Global) -> Result<Vec<bool>, NoMemory>
     ensures { IfOk result (λ v. v.items ≡ replicate n false) }
 {
-    match vec![in alloc; false; n as usize] {
-        Ok(v) => Ok(v),
-        Err(_) => Err(NoMemory),
-    }
+    Ok(vec![in alloc; false; n as usize]?)
 }
 
 /// Marks the node of a literal.

@@ -12,6 +12,7 @@ ghost use Rattle.mig_rewrite.specs.Plan.{part_value, EachLit, cost, part_of, sav
 use crate::merges::Merge;
 use crate::plan::planned;
 use mig_graph::{Lit, Mig, MigOuts, NoMemory, complement};
+use no_memory::keep;
 use std::alloc::Global;
 
 /// What is made again for a node: nothing, `M(x, y, z)`, or `M(x, y, M(u, v, z))`.
@@ -88,16 +89,6 @@ fn part_of(mig: &Mig, marks: &[bool], merge: Option<Merge>, k: u32) -> Part
             }
         }
         None => Part::One(a, b, c),
-    }
-}
-
-/// One literal more.
-fn keep(lits: &mut Vec<Lit>, l: Lit) -> Result<(), NoMemory>
-    ensures { OnOk result (lits.new.items ≡ lits.old.items ++ l ∷ []) }
-{
-    match lits.push(l) {
-        Ok(()) => Ok(()),
-        Err(_) => Err(NoMemory),
     }
 }
 

@@ -60,13 +60,9 @@ pub(crate) fn counted(m: &MigOuts, alloc: Global) -> Result<Vec<u8>, NoMemory>
     requires { AreNamed m.now.mig m.now.outs.items }
     ensures { IfOk result (λ v. AreReads m.now.mig m.now.outs.items v.items) }
 {
-    match vec![in alloc; 0u8; m.mig.size() as usize] {
-        Ok(mut counts) => {
-            count_all(&mut counts, m);
-            Ok(counts)
-        }
-        Err(_) => Err(NoMemory),
-    }
+    let mut counts = vec![in alloc; 0u8; m.mig.size() as usize]?;
+    count_all(&mut counts, m);
+    Ok(counts)
 }
 
 /// The literals of a node, as a node.

@@ -25,15 +25,6 @@ pub record HasParts {A : Type 0} (more : Wanted) (spell : A → List (List ℕ)
     pub spells : start ≡ between_commas spell xs (left new)
     pub some : 1 ≤ length xs
 
-pub first_part : {A : Type 0} (more : Wanted) (spell : A → List (List ℕ)
-    → List (List ℕ)) (old : Reading) (xs : List A) (x : A) → xs ≡ x ∷ []
-    → HasParts more spell (spell x (left old)) old xs old
-first_part more spell old xs x e = rw e (record {
-  same = λ wanted. refl;
-  spells = refl;
-  some = omega arith;
-})
-
 pub next_part : {A : Type 0} (more : Wanted) (spell : A → List (List ℕ)
     → List (List ℕ)) (start : List (List ℕ)) (old : Reading) (xs : List A) (mid : Reading)
     (ys : List A) (x : A) (new : Reading)
@@ -61,20 +52,6 @@ pub record HasTurns {A B : Type 0} (front : List Wanted) (wanted : Wanted) (spel
     (xs : List B) (new : Reading) : Type 0 where
   pub same : (more : List Wanted) → breach (front ++ more) old ≡ breach (wanted ∷ more) new
   pub spells : start ≡ in_turn spell (map f xs) (left new)
-
-pub no_turn : {A B : Type 0} (wanted : Wanted) (spell : A → List (List ℕ) → List (List ℕ)) (f : B
-    → A) (old : Reading) (xs : List B) → xs ≡ []
-    → HasTurns (wanted ∷ []) wanted spell f (left old) old xs old
-no_turn wanted spell f old xs e = rw e (record { same = λ more. refl; spells = refl })
-
-pub first_turn : {A B : Type 0} (front : List Wanted) (wanted : Wanted) (spell : A → List (List ℕ)
-    → List (List ℕ)) (f : B → A) (start : List (List ℕ)) (old : Reading) (xs : List B) (x : B)
-    (new : Reading)
-    → ((more : List Wanted) → breach (front ++ more) old ≡ breach (wanted ∷ more) new)
-    → start ≡ spell (f x) (left new) → xs ≡ x ∷ []
-    → HasTurns front wanted spell f start old xs new
-first_turn front wanted spell f start old xs x new moves spells e =
-    rw e (record { same = moves; spells = spells })
 
 pub next_turn : {A B : Type 0} (front : List Wanted) (wanted next : Wanted) (spell : A
     → List (List ℕ) → List (List ℕ)) (f : B → A) (start : List (List ℕ)) (old : Reading)

@@ -469,13 +469,6 @@ gate_value (t.Name n) true text s s' g m e k r =
 gate_value (t.Name n) false text s s' g m e k r = cc
 gate_value _ o text s s' g m e k r = cc
 
-pub gate_known : (u : Terminal) (o : Bool) (text : List ℕ) (s s' : Scope) → is_named u ≡ true
-    → o ≡ true → gate_named text ≡ None → rules_at w.Value s u text o ≡ Ok s' → ⊥
-gate_known (t.Name n) true text s s' m e k r = let r' =
-    rw k at (unless_ok (is_bad n text) _ _ s' r) in cc
-gate_known (t.Name n) false text s s' m e k r = cc
-gate_known _ o text s s' m e k r = cc
-
 pub name_value : (u : Terminal) (o : Bool) (text : List ℕ) (s s' : Scope) → is_named u ≡ true
     → o ≡ false → rules_at w.Value s u text o ≡ Ok s'
     → (follow w.Value u o ≡ Some (behind_leaf (leaf.Read text))) × (fits_name text ≡ true)
@@ -524,12 +517,6 @@ close_follows t.Closes o text s s' outer e a k r =
 close_follows t.Comma o text s s' outer e a k r =
     absurd (close_no_comma s s' outer s.block.missing e r)
 close_follows _ o text s s' outer e a k r = cc
-
-pub open_follows : (u : Terminal) (o : Bool) (text : List ℕ) (s s' : Scope)
-    → is_allowed (follow w.GateOpen u o) ≡ true → rules_at w.GateOpen s u text o ≡ Ok s'
-    → s'.block.missing ≡ s.block.missing
-open_follows t.Opens o text s s' a r = ok_missing s s' r
-open_follows _ o text s s' a r = cc
 
 -- what one of these was taken as
 pub record AsComma (n : ℕ) (outer : List ℕ) (old new : Reading) : Type 0 where

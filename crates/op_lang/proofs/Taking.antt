@@ -15,13 +15,13 @@ use Rattle.op_text.specs.Language.{Term, term}
 use Rattle.op_text.specs.Spelling.{term_text}
 use Rattle.op_text.specs.Items.{opens, no_token, texts}
 use Rattle.op_text.specs.Grammar.{follow}
-use Rattle.op_text.specs.Rules.{Scope, rules_at, breach_of}
+use Rattle.op_text.specs.Rules.{Scope, breach_of}
 use Rattle.op_text.proofs.Steps.{moved, refused}
 use Rattle.op_lang.specs.declared.fault.ReadNo.{ReadNo}
 use Rattle.op_lang.specs.declared.fault.ReadNo.TheVariants as no
 use Rattle.op_lang.specs.declared.parser.Taken.{Taken}
 use Rattle.op_lang.specs.Reading.{Reading, breach, Fails, Moves, MovesTo, Took, Takes, is_due, left}
-use Rattle.op_lang.specs.Judging.{IsFine, IsWrong, JudgesToken}
+use Rattle.op_lang.specs.Judging.{IsWrong, JudgesToken}
 
 -- where there is no token
 pub due_end : (want : Wanted) (s : Scope) (items : List Item) (b : Breach)
@@ -51,19 +51,6 @@ refused_fails want s old token new o no.Memory s' e f h more = tt
 refused_fails want s old token new o (no.Breach b) s' e f h more =
     wrong_fails want s old token new o b e f h more
 
-pub fine_took : (want : Wanted) (s : Scope) (old : List Item) (token : Token) (new : List Item)
-    (o : Bool) (u : Terminal) (s' : Scope) → old ≡ Whole (lexeme_of token) ∷ new → o ≡ opens new
-    → IsFine want s token o u s' → Took want (record { scope = s; items = old }) token.text.now u
-    (record { scope = s'; items = new })
-fine_took want s old token new o u s' e f h = record {
-  kind = token.kind;
-  start = token.start;
-  items = e;
-  is = h.is;
-  allowed = rw (← f) h.allowed;
-  rules = rw (← f) h.rules;
-}
-
 -- The terminals that no rule but the grammar's speaks of.
 abbrev pub is_judged : Terminal → Bool
 is_judged (t.Name n) = true
@@ -72,47 +59,6 @@ is_judged t.Closes = true
 is_judged t.Semi = true
 is_judged t.Finishes = true
 is_judged u = false
-
-pub no_rules : (want : Wanted) (s : Scope) (u : Terminal) (text : List ℕ) (o : Bool)
-    → is_judged u ≡ false → rules_at want s u text o ≡ Ok s
-no_rules w.Ops s t.Zero text o h = refl
-no_rules w.NewOp s t.Zero text o h = refl
-no_rules w.NewParam s t.Zero text o h = refl
-no_rules w.ParamKind s t.Zero text o h = refl
-no_rules w.Params s t.Zero text o h = refl
-no_rules w.NewResult s t.Zero text o h = refl
-no_rules w.ResultKind s t.Zero text o h = refl
-no_rules w.FirstStmt s t.Zero text o h = refl
-no_rules w.Stmts s t.Zero text o h = refl
-no_rules w.WordOpName s t.Zero text o h = refl
-no_rules w.Args s t.Zero text o h = refl
-no_rules w.ArgName s t.Zero text o h = refl
-no_rules w.MoreArgs s t.Zero text o h = refl
-no_rules w.WordEnd s t.Zero text o h = refl
-no_rules w.Direction s t.Zero text o h = refl
-no_rules w.States s t.Zero text o h = refl
-no_rules w.StateName s t.Zero text o h = refl
-no_rules w.MoreStates s t.Zero text o h = refl
-no_rules w.Start s t.Zero text o h = refl
-no_rules w.Lets s t.Zero text o h = refl
-no_rules w.LetName s t.Zero text o h = refl
-no_rules w.LetEnd s t.Zero text o h = refl
-no_rules w.AssignEnd s t.Zero text o h = refl
-no_rules w.Assigns s t.Zero text o h = refl
-no_rules w.Value s t.Zero text o h = refl
-no_rules w.GateOpen s t.Zero text o h = refl
-no_rules w.More s t.Zero text o h = refl
-no_rules w.Open s t.Zero text o h = refl
-no_rules w.Begin s t.Zero text o h = refl
-no_rules w.Colon s t.Zero text o h = refl
-no_rules w.Arrow s t.Zero text o h = refl
-no_rules w.Equals s t.Zero text o h = refl
-no_rules _ s (t.Name n) text o h = cc
-no_rules _ s t.Comma text o h = cc
-no_rules _ s t.Closes text o h = cc
-no_rules _ s t.Semi text o h = cc
-no_rules _ s t.Finishes text o h = cc
-no_rules _ s _ text o h = refl
 
 -- what comes behind a token that was taken
 pub took_moves : (want : Wanted) (old : Reading) (text : List ℕ) (u : Terminal) (new : Reading)
@@ -155,9 +101,6 @@ pub then_memory : {A : Type 0} (front : List Wanted) (old : Reading) (r : Result
     → MovesTo front old r behind new
 then_memory front old (Ok x) behind new h k = k x
 then_memory front old (Err e) behind new h k = λ more. rw h tt
-
-pub fails_memory : (found : Option Breach) (e : ReadNo) → e ≡ no.Memory → Fails found e
-fails_memory found e h = rw h tt
 
 -- The rest is read behind what is read already.
 pub continues : {A : Type 0} (front mid back : List Wanted) (old there : Reading)

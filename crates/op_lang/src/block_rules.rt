@@ -30,8 +30,8 @@ fn is_taken_state(scope: &Scope, text: &[u8]) -> bool
 
 /// The name of a state.
 pub(crate) fn state(scope: &mut Scope, spelling: Spelling, text: &[u8]) -> Result<(), Refused>
-    ensures { Judges (rules.state_rules (seen scope.old) spelling text.now) result (seen scope.new)
-        }
+    ensures { Judges (rules.state_rules (seen scope.old) spelling text.now) result
+        (seen scope.new) }
 {
     let Some(name) = good_name(spelling, text) else {
         return Err(Refused::Rule(OpsKind::BadName));
@@ -87,8 +87,8 @@ fn is_taken_target(scope: &Scope, text: &[u8]) -> bool
 
 /// The target of an assignment.
 pub(crate) fn target(scope: &mut Scope, spelling: Spelling, text: &[u8]) -> Result<(), Refused>
-    ensures { Judges (rules.target_rules (seen scope.old) spelling text.now) result (seen scope.new)
-        }
+    ensures { Judges (rules.target_rules (seen scope.old) spelling text.now) result
+        (seen scope.new) }
 {
     let Some(name) = good_name(spelling, text) else {
         return Err(Refused::Rule(OpsKind::BadName));

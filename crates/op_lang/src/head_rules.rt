@@ -41,8 +41,8 @@ pub(crate) fn op_name(scope: &mut Scope, spelling: Spelling, text: &[u8]) -> Res
 }
 
 pub(crate) fn source_name(scope: &mut Scope, spelling: Spelling, text: &[u8]) -> Result<(), Refused>
-    ensures { Judges (rules.source_rules (seen scope.old) spelling text.now) result (seen scope.new)
-        }
+    ensures { Judges (rules.source_rules (seen scope.old) spelling text.now) result
+        (seen scope.new) }
 {
     let Some(name) = good_name(spelling, text) else {
         return Err(Refused::Rule(OpsKind::BadName));
@@ -74,8 +74,8 @@ pub(crate) fn source_kind(scope: &mut Scope, kind: Kind) -> Result<(), Refused>
 
 /// The name of a result, or of a let.
 pub(crate) fn new_name(scope: &mut Scope, spelling: Spelling, text: &[u8]) -> Result<(), Refused>
-    ensures { Judges (rules.naming_rules (seen scope.old) spelling text.now) result (seen scope.new)
-        }
+    ensures { Judges (rules.naming_rules (seen scope.old) spelling text.now) result
+        (seen scope.new) }
 {
     let Some(name) = good_name(spelling, text) else {
         return Err(Refused::Rule(OpsKind::BadName));

@@ -23,6 +23,3 @@ pub use op_text::{
 };
 pub use parse::parse_ops;
 pub use scratch::{Scratch, need, scratch_of};
-
-#[cfg(test)]
-mod tests;

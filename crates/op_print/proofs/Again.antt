@@ -1,15 +1,14 @@
 -- The canonical text is read again.
 use Rattle.std.proofs.Common.{◌≡◌, ℕ, ◌+◌, Bool, true, false, not, ◌||◌, ◌&&◌, List, [], ◌∷◌, ◌++◌}
-use Rattle.std.proofs.Common.{length, map, None, refl, sym, ap, ◌∙◌, subst, codes, append_assoc}
+use Rattle.std.proofs.Common.{length, map, refl, sym, ap, ◌∙◌, subst, codes, append_assoc}
 use Rattle.std.proofs.Common.{nat_le}
-use Rattle.std.specs.Option.{option_map}
 use Rattle.std.specs.Char.{is_ascii_digit}
 use Rattle.std.specs.List.{flat_map}
 use Rattle.text_lex.specs.Bytes.{is_name_start}
 use Rattle.text_lex.specs.Spelled.{fits_name}
 use Rattle.text_lex.specs.declared.token.TokenKind.{TokenKind}
 use Rattle.text_lex.specs.declared.token.TokenKind.TheVariants as kinds
-use Rattle.text_lex.specs.Lexical.{Item, Whole, Bad, items_from, items_of, is_token, stops}
+use Rattle.text_lex.specs.Lexical.{Item, Whole, items_from, is_token, stops}
 use Rattle.text_lex.proofs.Back.{reads_token, reads_blank}
 use Rattle.op_text.specs.declared.tree.Kind.{Kind}
 use Rattle.op_text.specs.declared.tree.Kind.TheVariants.{Word, Bit}
@@ -17,9 +16,6 @@ use Rattle.op_text.specs.declared.tree.Op.{Op}
 use Rattle.op_text.specs.declared.tree.WordOp.{WordOp}
 use Rattle.op_text.specs.declared.tree.WordOp.TheVariants as o
 use Rattle.op_text.specs.WordOps.{op_text}
-use Rattle.op_text.specs.Items.{texts}
-use Rattle.op_text.specs.Lines.{fault_of}
-use Rattle.op_text.specs.Rules.{first_breach, nothing_yet}
 use Rattle.op_text.specs.Language.{Term, Nought, Unity, Named, Negation, Conjunction, Disjunction}
 use Rattle.op_text.specs.Language.{Parity, Majority, Equation, Block, Compute, Visit, Operation}
 use Rattle.op_text.specs.Language.{operation}

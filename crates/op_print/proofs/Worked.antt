@@ -1,5 +1,5 @@
 -- Worked texts: what is written for these trees, byte for byte.
-use Rattle.std.proofs.Common.{◌≡◌, ℕ, true, false, List, [], ◌∷◌, codes, refl}
+use Rattle.std.proofs.Common.{◌≡◌, ℕ, true, false, List, [], ◌∷◌, ◌++◌, codes, refl}
 use Rattle.op_text.specs.declared.tree.Kind.{Kind}
 use Rattle.op_text.specs.declared.tree.Kind.TheVariants.{Word, Bit}
 use Rattle.op_text.specs.declared.tree.Param.{Param}
@@ -48,8 +48,11 @@ sum = record {
   }) ∷ [];
 }
 
-two_ops : canonical_text (mac ∷ sum ∷ []) ≡ codes
-    "op mac(a: word, b: word, c: word) -> y: word {\n  t = mul(a, b);\n  y = add(t, c);\n}\nop sum(a: word, b: word) -> y: word {\n  serial up (c = 0) {\n    let x = xor(a, b);\n    y = xor(x, c);\n    c = maj(a, b, c);\n  }\n}\n"
+two_ops : canonical_text (mac ∷ sum ∷ []) ≡
+    codes "op mac(a: word, b: word, c: word) -> y: word {\n"
+    ++ codes "  t = mul(a, b);\n  y = add(t, c);\n}\n"
+    ++ codes "op sum(a: word, b: word) -> y: word {\n  serial up (c = 0) {\n"
+    ++ codes "    let x = xor(a, b);\n    y = xor(x, c);\n    c = maj(a, b, c);\n  }\n}\n"
 two_ops = refl
 
 -- an operation without arguments, a block without states, and one downwards with two
@@ -73,8 +76,10 @@ odd = record {
       }) ∷ [];
 }
 
-odd_op : canonical_text (odd ∷ [])
-    ≡ codes "op odd(a: bit) -> y: bit {\n  z = zero();\n  serial up () {\n    v = not(and(a, 1));\n  }\n  serial down (y = 1, c = 0) {\n    y = or(0, v);\n  }\n}\n"
+odd_op : canonical_text (odd ∷ []) ≡
+    codes "op odd(a: bit) -> y: bit {\n  z = zero();\n  serial up () {\n"
+    ++ codes "    v = not(and(a, 1));\n  }\n"
+    ++ codes "  serial down (y = 1, c = 0) {\n    y = or(0, v);\n  }\n}\n"
 odd_op = refl
 
 no_ops : canonical_text [] ≡ []

@@ -1,6 +1,6 @@
 //! Ops, written.
 
-ghost use Rattle.std.specs.Prelude.{◌≡◌, ◌++◌, [], map, OnOk, IfOk};
+ghost use Rattle.std.specs.Prelude.{◌≡◌, ◌++◌, ◌<◌, ◌^◌, [], length, map, OnOk, IfOk};
 ghost use Rattle.op_text.specs.Language.{operation, operations};
 ghost use Rattle.op_text.specs.Spelling.{MeetRules};
 ghost use Rattle.op_text.specs.OpsOf.{IsOpsOf};
@@ -10,7 +10,8 @@ use crate::lists::{put_param, put_params};
 use crate::pieces::put;
 use crate::statements::put_body;
 use no_memory::NoMemory;
-use op_text::{Op, Ops, names_are_names};
+use op_rules::ops_meet;
+use op_text::{Op, Ops};
 use std::alloc::Global;
 
 /// Writes the first line of an op.
@@ -45,13 +46,14 @@ fn put_ops(out: &mut Vec<u8>, ops: &[Op]) -> Result<(), NoMemory>
     Ok(())
 }
 
-/// The canonical text of ops, whose ops these are.
+/// The canonical text of ops, whose ops these are. It is never too long to be read.
 pub fn print_ops(ops: &Ops, alloc: Global) -> Result<Vec<u8>, NoMemory>
     requires { MeetRules (operations ops.now) }
     ensures text { IfOk result (λ text. text.items ≡ canonical_text (operations ops.now)) }
     ensures read { IfOk result (λ text. IsOpsOf text.items (operations ops.now)) }
+    ensures short { IfOk result (λ text. length text.items < 2 ^ 32) }
 {
-    names_are_names(ops);
+    ops_meet(ops);
     let mut out = Vec::new(alloc);
     put_ops(&mut out, &ops.ops)?;
     Ok(out)

@@ -15,9 +15,8 @@ use op_text::{Assign, State, Stmt, WordOp};
 use text_lex::Name;
 
 fn put_lets(out: &mut Vec<u8>, lets: &[Assign]) -> Result<(), NoMemory>
-    ensures { OnOk result (out.new.items
-        ≡ out.old.items ++ flat_map (λ e. line (codes "    ") (let_text e)) (map equation lets.now))
-            }
+    ensures { OnOk result (out.new.items ≡ out.old.items
+        ++ flat_map (λ e. line (codes "    ") (let_text e)) (map equation lets.now)) }
 {
     for assign in lets {
         put(out, b"    let ")?;

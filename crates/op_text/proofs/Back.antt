@@ -221,10 +221,6 @@ takes_start t.Zero o front h = (false, refl, some_is [] front h)
 takes_start t.One o front h = (true, refl, some_is [] front h)
 takes_start _ o front h = cc
 
--- values
-abbrev leaf_left : List Wanted → List Terminal → List Wanted → Bool → Type 0
-leaf_left ws ts end o = (opens_terminal ts ≡ o) × (allowed ws ts ≡ Some end)
-
 opening : (ts : List Terminal) → opens_terminal ts ≡ true → (more : List Terminal)
     × (ts ≡ t.Opens ∷ more)
 opening [] h = cc

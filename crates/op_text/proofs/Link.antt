@@ -140,9 +140,11 @@ rules_no FirstStmt s (t.Name n) text o = statement_no s n text
 rules_no Stmts s (t.Name n) text o = statement_no s n text
 rules_no Stmts s t.Finishes text o = unless_no _ NoResult _ refl (Passes _)
 rules_no WordOpName s (t.Name n) text o = unless_no _ BadName _ refl (known_no s (op_named text))
-rules_no Args s (t.Name n) text o = unless_no _ BadName _ refl (argument_no s (kind_among s.op.defined text))
+rules_no Args s (t.Name n) text o = unless_no _ BadName _ refl
+    (argument_no s (kind_among s.op.defined text))
 rules_no Args s t.Closes text o = unless_no _ why.Kind _ refl (Passes _)
-rules_no ArgName s (t.Name n) text o = unless_no _ BadName _ refl (argument_no s (kind_among s.op.defined text))
+rules_no ArgName s (t.Name n) text o = unless_no _ BadName _ refl
+    (argument_no s (kind_among s.op.defined text))
 rules_no MoreArgs s t.Comma text o = unless_no _ why.Kind _ refl (Passes _)
 rules_no MoreArgs s t.Closes text o = unless_no _ why.Kind _ refl (Passes _)
 rules_no WordEnd s t.Semi text o = gives_no s s.naming
@@ -232,11 +234,6 @@ flag_is : (before : List Lexeme) (token : Lexeme) (behind : List Item)
 flag_is [] token behind = refl
 flag_is (u ∷ before) token behind = refl
 
-flag_strange : (before : List Lexeme) (f : LexFault) (behind : List Item)
-    → opens_terminal (terminals_of before) ≡ opens (whole before ++ (Bad f ∷ behind))
-flag_strange [] f behind = refl
-flag_strange (u ∷ before) f behind = refl
-
 flag_whole : (ts : List Lexeme) → opens_terminal (terminals_of ts) ≡ opens (whole ts)
 flag_whole [] = refl
 flag_whole (u ∷ ts) = refl
@@ -304,7 +301,8 @@ unfolding allowed
 one want ws s u items None r e g k = Wrong' [] u items (λ x. cc)
     (rw (unflag want (terminal_of u.kind u.text) (opens items) e) refl)
 one want ws s u items (Some front) (Err why) e g k = Broken' [] u items why
-    (other_is why (subst IsOther g (rules_no want s (terminal_of u.kind u.text) u.text (opens items))))
+    (other_is why (subst IsOther g (rules_no want s (terminal_of u.kind u.text) u.text
+    (opens items))))
     (alone want ws (terminal_of u.kind u.text) (opens items) front e)
 one want ws s u items (Some front) (Ok s') e g k =
     goes_on want ws u items front _ e (k front s')
@@ -359,7 +357,8 @@ finds _ _ (Ended ts end e) = inr (at_ends ts end e (stays_stack (terminals_of ts
 finds _ _ (Wrong' before token behind g b) =
     inr (Wrong before token behind (good _ g) (bad _ b))
 finds _ _ (Strange' before f behind g) = inr (Strange before f behind (good _ g))
-finds _ _ (Broken' before token behind kind o g) = inl (Broken before token behind kind o (good _ g))
+finds _ _ (Broken' before token behind kind o g) =
+    inl (Broken before token behind kind o (good _ g))
 
 -- what the grammar's steps find, with no other rule
 abbrev on_follow : Option (List Wanted) → Lexeme → (List Wanted → Option Breach) → Option Breach

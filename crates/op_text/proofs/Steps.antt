@@ -1,12 +1,10 @@
 -- One token at a time.
-use Rattle.std.proofs.Common.{◌≡◌, List, [], ◌∷◌, ◌++◌, Some, Result, Ok, Err, ap, ◌∙◌}
-use Rattle.text_lex.specs.Lexical.{Item, Lexeme, Whole, Bad}
+use Rattle.std.proofs.Common.{◌≡◌, List, ◌∷◌, ◌++◌, Some, Result, Ok, Err, ap, ◌∙◌}
+use Rattle.text_lex.specs.Lexical.{Item, Lexeme, Whole}
 use Rattle.op_text.specs.declared.fault.OpsKind.{OpsKind}
-use Rattle.op_text.specs.declared.fault.Breach.{Breach}
-use Rattle.op_text.specs.Items.{opens, at_token, at_end, no_token, terminal_of}
+use Rattle.op_text.specs.Items.{opens, at_token, terminal_of}
 use Rattle.op_text.specs.declared.grammar.Wanted.{Wanted}
-use Rattle.op_text.specs.declared.grammar.Wanted.TheVariants.{Ops}
-use Rattle.op_text.specs.Rules.{Scope, step, after, ends, breach_of}
+use Rattle.op_text.specs.Rules.{Scope, step, after, breach_of}
 
 pub breach_at : (w : Wanted) (wanted : List Wanted) (s : Scope) (u : Lexeme) (items : List Item)
     (r : Result (List Wanted × Scope) OpsKind)
@@ -16,17 +14,6 @@ pub breach_at : (w : Wanted) (wanted : List Wanted) (s : Scope) (u : Lexeme) (it
 unfolding breach_of
 breach_at w wanted s u items r e =
     ap (λ x. after x u (λ front scope. breach_of (front ++ wanted) scope items)) e
-
-abbrev pub IsNoText : Wanted → Type 0
-IsNoText w = ends (w ∷ []) ≡ Some at_end
-
-pub no_value : (w : Wanted) (wanted : List Wanted) (s : Scope) (items : List Item) (b : Breach)
-    → no_token items ≡ Some b → IsNoText w → breach_of (w ∷ wanted) s items ≡ Some b
-unfolding breach_of
-no_value Ops wanted s [] b e h = cc
-no_value _ wanted s [] b e h = e
-no_value w wanted s (Bad f ∷ items) b e h = e
-no_value w wanted s (Whole u ∷ items) b e h = cc
 
 pub moved : (w : Wanted) (s : Scope) (old : List Item) (u : Lexeme) (new : List Item)
     (front : List Wanted) (s' : Scope) → old ≡ Whole u ∷ new

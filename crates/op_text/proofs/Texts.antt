@@ -1,5 +1,5 @@
 -- Texts, each with the line and the kind of its fault, if it has one.
-use Rattle.std.proofs.Common.{◌≡◌, ℕ, List, [], ◌∷◌, map, Option, Some, None, codes, refl}
+use Rattle.std.proofs.Common.{◌≡◌, ℕ, List, [], ◌∷◌, ◌++◌, map, Option, Some, None, codes, refl}
 use Rattle.text_lex.specs.Lexical.{items_from, front_of}
 use Rattle.op_text.specs.declared.fault.OpsFault.{OpsFault}
 use Rattle.op_text.specs.declared.fault.OpsKind.{OpsKind}
@@ -27,25 +27,64 @@ unfolding breach_of items_from front_of
 accepted_a = refl
 
 accepted_b : Each (
-    codes "op f(a: word, b: word, p: bit) -> y: word {\nserial up (c = 0) {\ny = xor(a, c); c = maj(a, b, c);\n}\n}" ∷
-    codes "op f(a: word, b: word, p: bit) -> y: word {\nserial up () {\nlet x = not(a); y = and(a, x);\n}\n}" ∷
+    (codes "op f(a: word, b: word, p: bit) -> y: word {\nserial up (c = 0) {\n"
+    ++ codes "y = xor(a, c); c = maj(a, b, c);\n}\n}") ∷
+    (codes "op f(a: word, b: word, p: bit) -> y: word {\nserial up () {\n"
+    ++ codes "let x = not(a); y = and(a, x);\n}\n}") ∷
     codes "op f(a: word, b: word, p: bit) -> y: word {\nserial up () {\nz = a;\n}\ny = not(z);\n}" ∷
     codes "op f(a: word, b: word, p: bit) -> y: bit {\nserial up (y = 0) {\ny = a;\n}\n}" ∷
     codes "op f(a: word, b: word, p: bit) -> y: bit {\nserial up (y = 0) {\nz = a;\n}\n}" ∷
-    codes "op f(a: word, b: word, p: bit) -> y: word {\nserial up () {\ny = not(not(not(not(not(not(not(not(not(not(not(not(not(not(not(not(not(not(not(not(not(not(not(not(not(not(not(not(not(not(not(not(a))))))))))))))))))))))))))))))));\n}\n}" ∷
+    (codes "op f(a: word, b: word, p: bit) -> y: word {\nserial up () {\n"
+    ++ codes "y = not(not(not(not(not(not(not(not(not(not(not(not(not(not(not(not(not(not(no"
+    ++ codes "t(not(not(not(not(not(not(not(not(not(not(not(not(not(a)))))))))))))))))))))))"
+    ++ codes ")))))))));\n}\n}") ∷
     codes "op f(a: word, b: word, p: bit) -> y: word {\nserial up () {\ny = not (a);\n}\n}" ∷
-    codes "op f(a: word, b: word, p: bit) -> y: word {\nserial up (s0 = 0, s1 = 0, s2 = 0, s3 = 0, s4 = 0, s5 = 0, s6 = 0, s7 = 0) {\ny = 0;\n}\n}" ∷ []) None
+    (codes "op f(a: word, b: word, p: bit) -> y: word {\nserial up (s0 = 0, s1 = 0, s2 = 0"
+    ++ codes ", s3 = 0, s4 = 0, s5 = 0, s6 = 0, s7 = 0) {\ny = 0;\n"
+    ++ codes "}\n}") ∷ []) None
 unfolding breach_of items_from front_of
 accepted_b = refl
 
 accepted_c : Each (
-    codes "op f(a: word, b: word, p: bit) -> y: word {\nserial up () {\ny = 0;t0 = 0;t1 = 0;t2 = 0;t3 = 0;t4 = 0;t5 = 0;t6 = 0;\n}\n}" ∷
-    codes "op f(a: word, b: word, p: bit) -> y: word {\nserial up () {\nlet t0 = 0;let t1 = 0;let t2 = 0;let t3 = 0;let t4 = 0;let t5 = 0;let t6 = 0;let t7 = 0;let t8 = 0;let t9 = 0;let t10 = 0;let t11 = 0;let t12 = 0;let t13 = 0;let t14 = 0;let t15 = 0;y = 0;\n}\n}" ∷
-    codes "op f(a: word, b: word, p: bit) -> y: word {\nt0 = not(a);\nt1 = not(a);\nt2 = not(a);\nt3 = not(a);\nt4 = not(a);\nt5 = not(a);\nt6 = not(a);\nt7 = not(a);\nt8 = not(a);\nt9 = not(a);\nt10 = not(a);\nt11 = not(a);\nt12 = not(a);\nt13 = not(a);\nt14 = not(a);\ny = not(a);\n}" ∷
+    (codes "op f(a: word, b: word, p: bit) -> y: word {\nserial up () {\n"
+    ++ codes "y = 0;t0 = 0;t1 = 0;t2 = 0;t3 = 0;t4 = 0;t5 = 0;t6 = 0;\n"
+    ++ codes "}\n}") ∷
+    (codes "op f(a: word, b: word, p: bit) -> y: word {\nserial up () {\n"
+    ++ codes "let t0 = 0;let t1 = 0;let t2 = 0;let t3 = 0;let t4 = 0;let t5 = 0;let t6 = 0;l"
+    ++ codes "et t7 = 0;let t8 = 0;let t9 = 0;let t10 = 0;let t11 = 0;let t12 = 0;let t13 = "
+    ++ codes "0;let t14 = 0;let t15 = 0;y = 0;\n}\n}") ∷
+    (codes "op f(a: word, b: word, p: bit) -> y: word {\nt0 = not(a);\n"
+    ++ codes "t1 = not(a);\nt2 = not(a);\nt3 = not(a);\nt4 = not(a);\n"
+    ++ codes "t5 = not(a);\nt6 = not(a);\nt7 = not(a);\nt8 = not(a);\n"
+    ++ codes "t9 = not(a);\nt10 = not(a);\nt11 = not(a);\nt12 = not(a);\n"
+    ++ codes "t13 = not(a);\nt14 = not(a);\ny = not(a);\n}") ∷
     codes "op f(a: word, b: word, p: bit) -> y: word {\nserial down () { y = a; }\n}" ∷
-    codes "op f(a: word, b: word, p: bit) -> y: word {\nserial up () {\nlet x1 = xor(a, b);let x2 = xor(x1, b);let x3 = xor(x2, b);let x4 = xor(x3, b);let x5 = xor(x4, b);let x6 = xor(x5, b);let x7 = xor(x6, b);let x8 = xor(x7, b);\ny = x8;\n}\n}" ∷
-    codes "op f(a: word, b: word, p: bit) -> y: word {\nserial up () {\nlet x1 = xor(a, b);let x2 = xor(x1, b);let x3 = xor(x2, b);let x4 = xor(x3, b);let x5 = xor(x4, b);let x6 = xor(x5, b);let x7 = xor(x6, b);let x8 = xor(x7, b);\ny = not(x8);\n}\n}" ∷
-    codes "op f0(a: word) -> y: word { y = not(a); }op f1(a: word) -> y: word { y = not(a); }op f2(a: word) -> y: word { y = not(a); }op f3(a: word) -> y: word { y = not(a); }op f4(a: word) -> y: word { y = not(a); }op f5(a: word) -> y: word { y = not(a); }op f6(a: word) -> y: word { y = not(a); }op f7(a: word) -> y: word { y = not(a); }op f8(a: word) -> y: word { y = not(a); }op f9(a: word) -> y: word { y = not(a); }op f10(a: word) -> y: word { y = not(a); }op f11(a: word) -> y: word { y = not(a); }op f12(a: word) -> y: word { y = not(a); }op f13(a: word) -> y: word { y = not(a); }op f14(a: word) -> y: word { y = not(a); }op f15(a: word) -> y: word { y = not(a); }op f16(a: word) -> y: word { y = not(a); }op f17(a: word) -> y: word { y = not(a); }op f18(a: word) -> y: word { y = not(a); }op f19(a: word) -> y: word { y = not(a); }op f20(a: word) -> y: word { y = not(a); }op f21(a: word) -> y: word { y = not(a); }op f22(a: word) -> y: word { y = not(a); }op f23(a: word) -> y: word { y = not(a); }op f24(a: word) -> y: word { y = not(a); }op f25(a: word) -> y: word { y = not(a); }op f26(a: word) -> y: word { y = not(a); }op f27(a: word) -> y: word { y = not(a); }op f28(a: word) -> y: word { y = not(a); }op f29(a: word) -> y: word { y = not(a); }op f30(a: word) -> y: word { y = not(a); }op f31(a: word) -> y: word { y = not(a); }" ∷
+    (codes "op f(a: word, b: word, p: bit) -> y: word {\nserial up () {\n"
+    ++ codes "let x1 = xor(a, b);let x2 = xor(x1, b);let x3 = xor(x2, b);let x4 = xor(x3, b)"
+    ++ codes ";let x5 = xor(x4, b);let x6 = xor(x5, b);let x7 = xor(x6, b);let x8 = xor(x7, "
+    ++ codes "b);\ny = x8;\n}\n}") ∷
+    (codes "op f(a: word, b: word, p: bit) -> y: word {\nserial up () {\n"
+    ++ codes "let x1 = xor(a, b);let x2 = xor(x1, b);let x3 = xor(x2, b);let x4 = xor(x3, b)"
+    ++ codes ";let x5 = xor(x4, b);let x6 = xor(x5, b);let x7 = xor(x6, b);let x8 = xor(x7, "
+    ++ codes "b);\ny = not(x8);\n}\n}") ∷
+    (codes "op f0(a: word) -> y: word { y = not(a); }op f1(a: word) -> y: word { y = not(a"
+    ++ codes "); }op f2(a: word) -> y: word { y = not(a); }op f3(a: word) -> y: word { y = n"
+    ++ codes "ot(a); }op f4(a: word) -> y: word { y = not(a); }op f5(a: word) -> y: word { y"
+    ++ codes " = not(a); }op f6(a: word) -> y: word { y = not(a); }op f7(a: word) -> y: word"
+    ++ codes " { y = not(a); }op f8(a: word) -> y: word { y = not(a); }op f9(a: word) -> y: "
+    ++ codes "word { y = not(a); }op f10(a: word) -> y: word { y = not(a); }op f11(a: word) "
+    ++ codes "-> y: word { y = not(a); }op f12(a: word) -> y: word { y = not(a); }op f13(a: "
+    ++ codes "word) -> y: word { y = not(a); }op f14(a: word) -> y: word { y = not(a); }op f"
+    ++ codes "15(a: word) -> y: word { y = not(a); }op f16(a: word) -> y: word { y = not(a);"
+    ++ codes " }op f17(a: word) -> y: word { y = not(a); }op f18(a: word) -> y: word { y = n"
+    ++ codes "ot(a); }op f19(a: word) -> y: word { y = not(a); }op f20(a: word) -> y: word {"
+    ++ codes " y = not(a); }op f21(a: word) -> y: word { y = not(a); }op f22(a: word) -> y: "
+    ++ codes "word { y = not(a); }op f23(a: word) -> y: word { y = not(a); }op f24(a: word) "
+    ++ codes "-> y: word { y = not(a); }op f25(a: word) -> y: word { y = not(a); }op f26(a: "
+    ++ codes "word) -> y: word { y = not(a); }op f27(a: word) -> y: word { y = not(a); }op f"
+    ++ codes "28(a: word) -> y: word { y = not(a); }op f29(a: word) -> y: word { y = not(a);"
+    ++ codes " }op f30(a: word) -> y: word { y = not(a); }op f31(a: word) -> y: word { y = n"
+    ++ codes "ot(a); }") ∷
     codes "op f(a: word) -> y: bit { serial up (y = 0) { y = a; t = y; } z = copy(y); }" ∷ []) None
 unfolding breach_of items_from front_of
 accepted_c = refl
@@ -73,7 +112,8 @@ syntax_2 : Each (
     codes "op f(a: word, b: word, p: bit) -> y: word {\n}" ∷
     codes "op f(a: word, b: word, p: bit) -> y: word {\ny = and" ∷
     codes "op f(a: word, b: word, p: bit) -> y: word {\nserial = not(a);\n}" ∷
-    codes "op f(a: word, b: word, p: bit) -> y: word {\nserial up (c = 2) {\ny = xor(a, c); c = maj(a, b, c);\n}\n}" ∷
+    (codes "op f(a: word, b: word, p: bit) -> y: word {\nserial up (c = 2) {\n"
+    ++ codes "y = xor(a, c); c = maj(a, b, c);\n}\n}") ∷
     codes "op f(a: word, b: word, p: bit) -> y: word {\nserial sideways () { y = a; }\n}" ∷
     codes "op f(a: word, b: word, p: bit) -> y: word {\nserial up () { }\n}" ∷
     codes "op f(a: word, b: word, p: bit) -> y: word {\nserial up (c = 0,) { c = a; }\n}"
@@ -141,10 +181,12 @@ twice_2 = refl
 twice_3 : Each (
     codes "op f(a: word, b: word, p: bit) -> y: word {\nt = and(a, b);\nt = not(t);\n}" ∷
     codes "op f(a: word, b: word, p: bit) -> y: word {\ny = not(a);\ny = not(y);\n}" ∷
-    codes "op f(a: word, b: word, p: bit) -> y: word {\nserial up () {\nlet x = a; let x = b; y = x;\n}\n}" ∷
+    (codes "op f(a: word, b: word, p: bit) -> y: word {\nserial up () {\n"
+    ++ codes "let x = a; let x = b; y = x;\n}\n}") ∷
     codes "op f(a: word, b: word, p: bit) -> y: word {\nserial up () {\nz = a; z = b;\n}\n}" ∷
     codes "op f(a: word, b: word, p: bit) -> y: word {\nserial up () {\na = b;\n}\n}" ∷
-    codes "op f(a: word, b: word, p: bit) -> y: bit {\ny = or_red(a);\nserial up (y = 0) {\nz = a;\n}\n}" ∷ []) (at_line 3 Twice)
+    (codes "op f(a: word, b: word, p: bit) -> y: bit {\ny = or_red(a);\n"
+    ++ codes "serial up (y = 0) {\nz = a;\n}\n}") ∷ []) (at_line 3 Twice)
 unfolding breach_of items_from front_of
 twice_3 = refl
 
@@ -155,13 +197,20 @@ unfolding breach_of items_from front_of
 twice_4 = refl
 
 twice_5 : Each (
-    codes "op f(a: word, b: word, p: bit) -> y: word {\nserial up () {\nlet x = a; y = x;\n}\nx = not(a);\n}" ∷
-    codes "op f(a: word, b: word, p: bit) -> y: word {\nserial up (c = 1) {\nz = a;\n}\nc = not(p);\ny = not(z);\n}" ∷ []) (at_line 5 Twice)
+    (codes "op f(a: word, b: word, p: bit) -> y: word {\nserial up () {\n"
+    ++ codes "let x = a; y = x;\n}\nx = not(a);\n}") ∷
+    (codes "op f(a: word, b: word, p: bit) -> y: word {\nserial up (c = 1) {\n"
+    ++ codes "z = a;\n}\nc = not(p);\ny = not(z);\n}") ∷ []) (at_line 5 Twice)
 unfolding breach_of items_from front_of
 twice_5 = refl
 
 twice_18 : Each (
-    codes "op f(a: word, b: word, p: bit) -> y: word {\nt0 = not(a);\nt1 = not(a);\nt2 = not(a);\nt3 = not(a);\nt4 = not(a);\nt5 = not(a);\nt6 = not(a);\nt7 = not(a);\nt8 = not(a);\nt9 = not(a);\nt10 = not(a);\nt11 = not(a);\nt12 = not(a);\nt13 = not(a);\nt14 = not(a);\nt15 = not(a);\na = not(a);\n}" ∷ []) (at_line 18 Twice)
+    (codes "op f(a: word, b: word, p: bit) -> y: word {\nt0 = not(a);\n"
+    ++ codes "t1 = not(a);\nt2 = not(a);\nt3 = not(a);\nt4 = not(a);\n"
+    ++ codes "t5 = not(a);\nt6 = not(a);\nt7 = not(a);\nt8 = not(a);\n"
+    ++ codes "t9 = not(a);\nt10 = not(a);\nt11 = not(a);\nt12 = not(a);\n"
+    ++ codes "t13 = not(a);\nt14 = not(a);\nt15 = not(a);\na = not(a);\n"
+    ++ codes "}") ∷ []) (at_line 18 Twice)
 unfolding breach_of items_from front_of
 twice_18 = refl
 
@@ -181,7 +230,8 @@ unknown_2 = refl
 
 unknown_3 : Each (
     codes "op f(a: word, b: word, p: bit) -> y: word {\nserial up () {\ny = and(a, x);\n}\n}" ∷
-    codes "op f(a: word, b: word, p: bit) -> y: word {\nserial up () {\nlet x = not(x); y = and(a, x);\n}\n}" ∷
+    (codes "op f(a: word, b: word, p: bit) -> y: word {\nserial up () {\n"
+    ++ codes "let x = not(x); y = and(a, x);\n}\n}") ∷
     codes "op f(a: word, b: word, p: bit) -> y: word {\nserial up () {\nz = a; y = z;\n}\n}" ∷
     codes "op f(a: word, b: word, p: bit) -> y: word {\nserial up () {\ny = foo(a);\n}\n}" ∷
     codes "op f(a: word, b: word, p: bit) -> y: word {\nserial up () {\ny = foo;\n}\n}" ∷
@@ -191,12 +241,15 @@ unfolding breach_of items_from front_of
 unknown_3 = refl
 
 unknown_5 : Each (
-    codes "op f(a: word, b: word, p: bit) -> y: word {\nserial up () {\nlet x = a; y = x;\n}\nz = not(x);\n}" ∷ []) (at_line 5 Unknown)
+    (codes "op f(a: word, b: word, p: bit) -> y: word {\nserial up () {\n"
+    ++ codes "let x = a; y = x;\n}\nz = not(x);\n}") ∷ []) (at_line 5 Unknown)
 unfolding breach_of items_from front_of
 unknown_5 = refl
 
 unknown_6 : Each (
-    codes "op f(a: word, b: word, p: bit) -> y: word {\nserial up (c = 0) {\ny = 0;\n}\n} op g(a: word, b: word, p: bit) -> y: word {\ny = c;\n}" ∷ []) (at_line 6 Unknown)
+    (codes "op f(a: word, b: word, p: bit) -> y: word {\nserial up (c = 0) {\n"
+    ++ codes "y = 0;\n}\n} op g(a: word, b: word, p: bit) -> y: word {\n"
+    ++ codes "y = c;\n}") ∷ []) (at_line 6 Unknown)
 unfolding breach_of items_from front_of
 unknown_6 = refl
 
@@ -217,7 +270,8 @@ unfolding breach_of items_from front_of
 kind_2 = refl
 
 kind_3 : Each (
-    codes "op f(a: word, b: word, p: bit) -> y: word {\nserial up (c = 0) {\ny = xor(a, c); c = maj(a, b);\n}\n}" ∷
+    (codes "op f(a: word, b: word, p: bit) -> y: word {\nserial up (c = 0) {\n"
+    ++ codes "y = xor(a, c); c = maj(a, b);\n}\n}") ∷
     codes "op f(a: word, b: word, p: bit) -> y: word {\nserial up () {\ny = and(a, b, a);\n}\n}" ∷
     codes "op f(a: word, b: word, p: bit) -> y: bit {\nserial up () {\ny = a;\n}\n}"
     ∷ []) (at_line 3 Kind)
@@ -225,7 +279,8 @@ unfolding breach_of items_from front_of
 kind_3 = refl
 
 kind_5 : Each (
-    codes "op f(a: word, b: word, p: bit) -> y: word {\nserial up (c = 1) {\nz = a;\n}\ny = not(c);\n}" ∷ []) (at_line 5 Kind)
+    (codes "op f(a: word, b: word, p: bit) -> y: word {\nserial up (c = 1) {\n"
+    ++ codes "z = a;\n}\ny = not(c);\n}") ∷ []) (at_line 5 Kind)
 unfolding breach_of items_from front_of
 kind_5 = refl
 
@@ -238,29 +293,70 @@ no_result_3 = refl
 
 too_many_1 : Each (
     codes "op f(a: word, b: bit, c: bit, d: bit, e: bit) -> y: word { y = not(a); }" ∷
-    codes "op f0(a: word) -> y: word { y = not(a); }op f1(a: word) -> y: word { y = not(a); }op f2(a: word) -> y: word { y = not(a); }op f3(a: word) -> y: word { y = not(a); }op f4(a: word) -> y: word { y = not(a); }op f5(a: word) -> y: word { y = not(a); }op f6(a: word) -> y: word { y = not(a); }op f7(a: word) -> y: word { y = not(a); }op f8(a: word) -> y: word { y = not(a); }op f9(a: word) -> y: word { y = not(a); }op f10(a: word) -> y: word { y = not(a); }op f11(a: word) -> y: word { y = not(a); }op f12(a: word) -> y: word { y = not(a); }op f13(a: word) -> y: word { y = not(a); }op f14(a: word) -> y: word { y = not(a); }op f15(a: word) -> y: word { y = not(a); }op f16(a: word) -> y: word { y = not(a); }op f17(a: word) -> y: word { y = not(a); }op f18(a: word) -> y: word { y = not(a); }op f19(a: word) -> y: word { y = not(a); }op f20(a: word) -> y: word { y = not(a); }op f21(a: word) -> y: word { y = not(a); }op f22(a: word) -> y: word { y = not(a); }op f23(a: word) -> y: word { y = not(a); }op f24(a: word) -> y: word { y = not(a); }op f25(a: word) -> y: word { y = not(a); }op f26(a: word) -> y: word { y = not(a); }op f27(a: word) -> y: word { y = not(a); }op f28(a: word) -> y: word { y = not(a); }op f29(a: word) -> y: word { y = not(a); }op f30(a: word) -> y: word { y = not(a); }op f31(a: word) -> y: word { y = not(a); }op f32(a: word) -> y: word { y = not(a); }" ∷ []) (at_line 1 TooMany)
+    (codes "op f0(a: word) -> y: word { y = not(a); }op f1(a: word) -> y: word { y = not(a"
+    ++ codes "); }op f2(a: word) -> y: word { y = not(a); }op f3(a: word) -> y: word { y = n"
+    ++ codes "ot(a); }op f4(a: word) -> y: word { y = not(a); }op f5(a: word) -> y: word { y"
+    ++ codes " = not(a); }op f6(a: word) -> y: word { y = not(a); }op f7(a: word) -> y: word"
+    ++ codes " { y = not(a); }op f8(a: word) -> y: word { y = not(a); }op f9(a: word) -> y: "
+    ++ codes "word { y = not(a); }op f10(a: word) -> y: word { y = not(a); }op f11(a: word) "
+    ++ codes "-> y: word { y = not(a); }op f12(a: word) -> y: word { y = not(a); }op f13(a: "
+    ++ codes "word) -> y: word { y = not(a); }op f14(a: word) -> y: word { y = not(a); }op f"
+    ++ codes "15(a: word) -> y: word { y = not(a); }op f16(a: word) -> y: word { y = not(a);"
+    ++ codes " }op f17(a: word) -> y: word { y = not(a); }op f18(a: word) -> y: word { y = n"
+    ++ codes "ot(a); }op f19(a: word) -> y: word { y = not(a); }op f20(a: word) -> y: word {"
+    ++ codes " y = not(a); }op f21(a: word) -> y: word { y = not(a); }op f22(a: word) -> y: "
+    ++ codes "word { y = not(a); }op f23(a: word) -> y: word { y = not(a); }op f24(a: word) "
+    ++ codes "-> y: word { y = not(a); }op f25(a: word) -> y: word { y = not(a); }op f26(a: "
+    ++ codes "word) -> y: word { y = not(a); }op f27(a: word) -> y: word { y = not(a); }op f"
+    ++ codes "28(a: word) -> y: word { y = not(a); }op f29(a: word) -> y: word { y = not(a);"
+    ++ codes " }op f30(a: word) -> y: word { y = not(a); }op f31(a: word) -> y: word { y = n"
+    ++ codes "ot(a); }op f32(a: word) -> y: word { y = not(a); }") ∷ []) (at_line 1 TooMany)
 unfolding breach_of items_from front_of
 too_many_1 = refl
 
 too_many_2 : Each (
-    codes "op f(a: word, b: word, p: bit) -> y: word {\nserial up (s0 = 0, s1 = 0, s2 = 0, s3 = 0, s4 = 0, s5 = 0, s6 = 0, s7 = 0, s8 = 0) {\ny = 0;\n}\n}" ∷ []) (at_line 2 TooMany)
+    (codes "op f(a: word, b: word, p: bit) -> y: word {\nserial up (s0 = 0, s1 = 0, s2 = 0"
+    ++ codes ", s3 = 0, s4 = 0, s5 = 0, s6 = 0, s7 = 0, s8 = 0) {\n"
+    ++ codes "y = 0;\n}\n}") ∷ []) (at_line 2 TooMany)
 unfolding breach_of items_from front_of
 too_many_2 = refl
 
 too_many_3 : Each (
-    codes "op f(a: word, b: word, p: bit) -> y: word {\nserial up () {\ny = not(not(not(not(not(not(not(not(not(not(not(not(not(not(not(not(not(not(not(not(not(not(not(not(not(not(not(not(not(not(not(not(not(a)))))))))))))))))))))))))))))))));\n}\n}" ∷
-    codes "op f(a: word, b: word, p: bit) -> y: word {\nserial up () {\ny = 0;t0 = 0;t1 = 0;t2 = 0;t3 = 0;t4 = 0;t5 = 0;t6 = 0;t7 = 0;\n}\n}" ∷
-    codes "op f(a: word, b: word, p: bit) -> y: word {\nserial up () {\nlet t0 = 0;let t1 = 0;let t2 = 0;let t3 = 0;let t4 = 0;let t5 = 0;let t6 = 0;let t7 = 0;let t8 = 0;let t9 = 0;let t10 = 0;let t11 = 0;let t12 = 0;let t13 = 0;let t14 = 0;let t15 = 0;let t16 = 0;y = 0;\n}\n}" ∷ []) (at_line 3 TooMany)
+    (codes "op f(a: word, b: word, p: bit) -> y: word {\nserial up () {\n"
+    ++ codes "y = not(not(not(not(not(not(not(not(not(not(not(not(not(not(not(not(not(not(no"
+    ++ codes "t(not(not(not(not(not(not(not(not(not(not(not(not(not(not(a)))))))))))))))))))"
+    ++ codes "))))))))))))));\n}\n}") ∷
+    (codes "op f(a: word, b: word, p: bit) -> y: word {\nserial up () {\n"
+    ++ codes "y = 0;t0 = 0;t1 = 0;t2 = 0;t3 = 0;t4 = 0;t5 = 0;t6 = 0;t7 = 0;\n"
+    ++ codes "}\n}") ∷
+    (codes "op f(a: word, b: word, p: bit) -> y: word {\nserial up () {\n"
+    ++ codes "let t0 = 0;let t1 = 0;let t2 = 0;let t3 = 0;let t4 = 0;let t5 = 0;let t6 = 0;l"
+    ++ codes "et t7 = 0;let t8 = 0;let t9 = 0;let t10 = 0;let t11 = 0;let t12 = 0;let t13 = "
+    ++ codes "0;let t14 = 0;let t15 = 0;let t16 = 0;y = 0;\n}\n"
+    ++ codes "}") ∷ []) (at_line 3 TooMany)
 unfolding breach_of items_from front_of
 too_many_3 = refl
 
 too_many_4 : Each (
-    codes "op f(a: word, b: word, p: bit) -> y: word {\nserial up () {\nlet x1 = xor(a, b);let x2 = xor(x1, b);let x3 = xor(x2, b);let x4 = xor(x3, b);let x5 = xor(x4, b);let x6 = xor(x5, b);let x7 = xor(x6, b);let x8 = xor(x7, b);\ny = and(x8, a);\n}\n}" ∷ []) (at_line 4 TooMany)
+    (codes "op f(a: word, b: word, p: bit) -> y: word {\nserial up () {\n"
+    ++ codes "let x1 = xor(a, b);let x2 = xor(x1, b);let x3 = xor(x2, b);let x4 = xor(x3, b)"
+    ++ codes ";let x5 = xor(x4, b);let x6 = xor(x5, b);let x7 = xor(x6, b);let x8 = xor(x7, "
+    ++ codes "b);\ny = and(x8, a);\n}\n}") ∷ []) (at_line 4 TooMany)
 unfolding breach_of items_from front_of
 too_many_4 = refl
 
 too_many_18 : Each (
-    codes "op f(a: word, b: word, p: bit) -> y: word {\nt0 = not(a);\nt1 = not(a);\nt2 = not(a);\nt3 = not(a);\nt4 = not(a);\nt5 = not(a);\nt6 = not(a);\nt7 = not(a);\nt8 = not(a);\nt9 = not(a);\nt10 = not(a);\nt11 = not(a);\nt12 = not(a);\nt13 = not(a);\nt14 = not(a);\nt15 = not(a);\ny = not(a);\n}" ∷
-    codes "op f(a: word, b: word, p: bit) -> y: word {\nt0 = not(a);\nt1 = not(a);\nt2 = not(a);\nt3 = not(a);\nt4 = not(a);\nt5 = not(a);\nt6 = not(a);\nt7 = not(a);\nt8 = not(a);\nt9 = not(a);\nt10 = not(a);\nt11 = not(a);\nt12 = not(a);\nt13 = not(a);\nt14 = not(a);\nt15 = not(a);\nserial up () { y = a; }\n}" ∷ []) (at_line 18 TooMany)
+    (codes "op f(a: word, b: word, p: bit) -> y: word {\nt0 = not(a);\n"
+    ++ codes "t1 = not(a);\nt2 = not(a);\nt3 = not(a);\nt4 = not(a);\n"
+    ++ codes "t5 = not(a);\nt6 = not(a);\nt7 = not(a);\nt8 = not(a);\n"
+    ++ codes "t9 = not(a);\nt10 = not(a);\nt11 = not(a);\nt12 = not(a);\n"
+    ++ codes "t13 = not(a);\nt14 = not(a);\nt15 = not(a);\ny = not(a);\n"
+    ++ codes "}") ∷
+    (codes "op f(a: word, b: word, p: bit) -> y: word {\nt0 = not(a);\n"
+    ++ codes "t1 = not(a);\nt2 = not(a);\nt3 = not(a);\nt4 = not(a);\n"
+    ++ codes "t5 = not(a);\nt6 = not(a);\nt7 = not(a);\nt8 = not(a);\n"
+    ++ codes "t9 = not(a);\nt10 = not(a);\nt11 = not(a);\nt12 = not(a);\n"
+    ++ codes "t13 = not(a);\nt14 = not(a);\nt15 = not(a);\nserial up () { y = a; }\n"
+    ++ codes "}") ∷ []) (at_line 18 TooMany)
 unfolding breach_of items_from front_of
 too_many_18 = refl

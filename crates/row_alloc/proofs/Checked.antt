@@ -13,7 +13,7 @@ use Rattle.dram_model.specs.Column.{plain}
 use Rattle.dram_model.proofs.ColumnLaws.{refresh, drive-other}
 use Rattle.mig_graph.specs.declared.Lit.{Lit}
 use Rattle.mig_graph.specs.Graph.{Graph, IsGraph, start}
-use Rattle.mig_graph.specs.Laws.{values-below}
+use Rattle.mig_graph.proofs.Laws.{values-below}
 use Rattle.row_alloc.specs.declared.body.BodyRef.{BodyRef}
 use Rattle.row_alloc.specs.declared.body.BodyRef.TheVariants.{B, C, In, Out, Spill}
 use Rattle.row_alloc.specs.declared.body.BodyCmd.{BodyCmd}

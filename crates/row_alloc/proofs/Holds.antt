@@ -15,7 +15,7 @@ use Rattle.mig_graph.specs.declared.Lit.{Lit}
 use Rattle.mig_graph.specs.declared.Node.{Node}
 use Rattle.mig_graph.specs.Literals.{is_turned, IsLower, node_value}
 use Rattle.mig_graph.specs.Graph.{Graph, value, values, start}
-use Rattle.mig_graph.specs.Laws.{values-below}
+use Rattle.mig_graph.proofs.Laws.{values-below}
 use Rattle.row_alloc.specs.declared.body.BodyRef.{BodyRef}
 use Rattle.row_alloc.specs.declared.body.BodyRef.TheVariants.{B, C, In, Spill}
 use Rattle.row_alloc.specs.declared.body.BodyCmd.{BodyCmd}

@@ -5,7 +5,7 @@ use Rattle.dram_model.specs.Column.{Column}
 use Rattle.mig_graph.specs.declared.Node.{Node}
 use Rattle.mig_graph.specs.Literals.{is_turned, IsLower, IsAnyOrder, node_value}
 use Rattle.mig_graph.specs.Graph.{Graph, value, values, node_at, IsGraph}
-use Rattle.mig_graph.specs.Laws.{value-node, any-order}
+use Rattle.mig_graph.proofs.Laws.{value-node, any-order}
 use Rattle.row_alloc.specs.declared.body.BodyRef.TheVariants.{Out, Spill}
 use Rattle.row_alloc.specs.declared.body.BodyCmd.{BodyCmd}
 use Rattle.row_alloc.specs.declared.body.BodyCmd.TheVariants.{Aap}

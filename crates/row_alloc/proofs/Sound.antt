@@ -18,8 +18,8 @@ use Rattle.mig_graph.specs.declared.Lit.{Lit}
 use Rattle.mig_graph.specs.declared.Node.{Node}
 use Rattle.mig_graph.specs.Literals.{complement, node_of, node_value, IsAnyOrder}
 use Rattle.mig_graph.specs.Graph.{Graph, value, values, IsGraph, node_at, no_node, start}
-use Rattle.mig_graph.specs.Laws.{flip-not, value-node, values-below, any-order, turned-value}
-use Rattle.mig_graph.specs.Laws.{majority-same, majority-not, majority-swap, majority-tail}
+use Rattle.mig_graph.proofs.Laws.{flip-not, value-node, values-below, any-order, turned-value}
+use Rattle.mig_graph.proofs.Laws.{majority-same, majority-not, majority-swap, majority-tail}
 use Rattle.row_alloc.specs.declared.body.BodyCmd.{BodyCmd}
 use Rattle.row_alloc.specs.Rows.{Rows, bound}
 use Rattle.row_alloc.specs.Symbolic.{Symbols, held, turned_option, sym_read, lit_eq, are_twins}
@@ -72,14 +72,14 @@ has-three-true n x y z h =
             | inr h ↦ elim (or-cases (is_node n y x z) (is_node n y z x
                 || (is_node n z x y || is_node n z y x)) h) [
                   | inl a ↦ inr (inr (inl (is-node-true n y x z a)))
-                  | inr h ↦ elim (or-cases (is_node n y z x) (is_node n z x y || is_node n z y x) h)
-                      [
-                    | inl a ↦ inr (inr (inr (inl (is-node-true n y z x a))))
-                    | inr h ↦ elim (or-cases (is_node n z x y) (is_node n z y x) h) [
-                      | inl a ↦ inr (inr (inr (inr (inl (is-node-true n z x y a)))))
-                      | inr a ↦ inr (inr (inr (inr (inr (is-node-true n z y x a)))))
-                    ]
-                  ]
+                  | inr h ↦ elim (or-cases (is_node n y z x)
+                      (is_node n z x y || is_node n z y x) h) [
+                        | inl a ↦ inr (inr (inr (inl (is-node-true n y z x a))))
+                        | inr h ↦ elim (or-cases (is_node n z x y) (is_node n z y x) h) [
+                          | inl a ↦ inr (inr (inr (inr (inl (is-node-true n z x y a)))))
+                          | inr a ↦ inr (inr (inr (inr (inr (is-node-true n z y x a)))))
+                        ]
+                      ]
                 ]
           ]
     ]
@@ -105,10 +105,6 @@ first-means v k (n ∷ ns) x y z h =
     by-test true e rest = let z0 : k + 0 ≡ k = omega arith in
         sym (any-order v n x y z (has-three-true n x y z e)) ∙ sym (h 0 (omega arith)) ∙ ap v z0
     by-test false e rest = rest
-
-not-not : (b : Bool) → not (not b) ≡ b
-not-not true = refl
-not-not false = refl
 
 node-means : (g : Graph) (bits : ℕ → Bool) (x y z : Lit) → IsGraph g.inputs g.nodes
     → Means g bits (node_for g x y z) (node_value (values g bits) (node_of x y z))

@@ -87,9 +87,8 @@ node_for_all g (Some x) None r = None
 node_for_all g None q r = None
 
 -- What three lines sense: what two of them read; else, where two read a literal and its complement,
--- what the third
--- reads; else the node of the three, where all three read a literal and the graph has it; else
--- nothing
+-- what the third reads; else the node of the three, where all three read a literal and the graph
+-- has it; else nothing
 unfoldable pub sense_three : Graph → Option Lit → Option Lit → Option Lit → Option Lit
 sense_three g p q r =
     if are_twins p q then p else (if are_twins p r then p else (if are_twins q r then q

@@ -3,8 +3,7 @@
 use mig_graph::Lit;
 
 /// A row that a body's commands name: of the bitwise group or the constants, or by its number among
-/// the body's inputs,
-/// outputs and spill rows.
+/// the body's inputs, outputs and spill rows.
 #[derive(Clone, Copy, Debug, PartialEq, Eq)]
 pub enum BodyRef {
     B(u8),

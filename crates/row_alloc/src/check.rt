@@ -115,8 +115,7 @@ fn ends_right(outs: &[OutRow], inputs: u8, table: &Table) -> bool
 /// Whether the body is legal and its symbolic run ends right. Then it does what a body must.
 ///
 /// Not every right body is found right: where three lines sense a value that no node of the graph
-/// has, the run knows
-/// nothing of it.
+/// has, the run knows nothing of it.
 pub fn check_body(m: &Mig, outs: &[OutRow], cmds: &[BodyCmd]) -> bool
     requires fit { FitBody m.now outs.now }
     ensures exact { IsTrue result ↔ IsChecked m.now outs.now cmds.now }

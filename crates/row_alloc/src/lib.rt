@@ -1,8 +1,8 @@
 //! Row commands for the majority graph of a body.
 //!
 //! A body is what one round of a loop does: it reads some input rows, and leaves values in some
-//! output rows. An
-//! activation of three rows destroys its operands, so each is first copied into the bitwise cells.
+//! output rows. An activation of three rows destroys its operands, so each is first copied into the
+//! bitwise cells.
 #![tactic(auto)]
 
 mod body;
@@ -19,6 +19,3 @@ pub use check::check_body;
 pub use laws::{legal_bodies_are_legal_on_banks, rows_can_stand_apart};
 pub use mig_graph::NoMemory;
 pub use plain::plain_body;
-
-#[cfg(test)]
-mod tests;

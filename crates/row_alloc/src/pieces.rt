@@ -8,6 +8,7 @@ ghost use Rattle.row_alloc.specs.Phases.{source_of, node_commands, stash_command
 
 use crate::body::{BodyCmd, BodyRef};
 use mig_graph::{Lit, Mig, NoMemory, Node, is_turned};
+use no_memory::keep;
 
 /// The row that holds the literal's node, or the constant.
 pub fn source(l: Lit, inputs: u8) -> BodyRef
@@ -22,13 +23,6 @@ pub fn source(l: Lit, inputs: u8) -> BodyRef
     } else {
         BodyRef::Spill((l.node - u32::from(inputs) - 1) as u8)
     }
-}
-
-/// One command more.
-pub fn push(cmds: &mut Vec<BodyCmd>, cmd: BodyCmd) -> Result<(), NoMemory>
-    ensures { OnOk result (cmds.new.items ≡ cmds.old.items ++ cmd ∷ []) }
-{
-    cmds.push(cmd).map_err(|_| NoMemory)
 }
 
 /// The three literals in an order in which only the first may be inverted.
@@ -72,10 +66,10 @@ pub fn push_node(cmds: &mut Vec<BodyCmd>, n: Node, inputs: u8, spill: u8) -> Res
     } else {
         BodyRef::B(4)
     };
-    push(cmds, BodyCmd::Aap(source(n.a, inputs), into))?;
-    push(cmds, BodyCmd::Aap(source(n.b, inputs), BodyRef::B(1)))?;
-    push(cmds, BodyCmd::Aap(source(n.c, inputs), BodyRef::B(2)))?;
-    push(cmds, BodyCmd::Aap(BodyRef::B(14), BodyRef::Spill(spill)))
+    keep(cmds, BodyCmd::Aap(source(n.a, inputs), into))?;
+    keep(cmds, BodyCmd::Aap(source(n.b, inputs), BodyRef::B(1)))?;
+    keep(cmds, BodyCmd::Aap(source(n.c, inputs), BodyRef::B(2)))?;
+    keep(cmds, BodyCmd::Aap(BodyRef::B(14), BodyRef::Spill(spill)))
 }
 
 /// One or two commands that leave a literal's value in a spill row.
@@ -85,9 +79,9 @@ pub fn push_stash(cmds: &mut Vec<BodyCmd>, l: Lit, inputs: u8, spill: u8) -> Res
     ensures { OnOk result (cmds.new.items ≡ cmds.old.items ++ stash_commands inputs l spill) }
 {
     if is_turned(l) {
-        push(cmds, BodyCmd::Aap(source(l, inputs), BodyRef::B(5)))?;
-        push(cmds, BodyCmd::Aap(BodyRef::B(4), BodyRef::Spill(spill)))
+        keep(cmds, BodyCmd::Aap(source(l, inputs), BodyRef::B(5)))?;
+        keep(cmds, BodyCmd::Aap(BodyRef::B(4), BodyRef::Spill(spill)))
     } else {
-        push(cmds, BodyCmd::Aap(source(l, inputs), BodyRef::Spill(spill)))
+        keep(cmds, BodyCmd::Aap(source(l, inputs), BodyRef::Spill(spill)))
     }
 }

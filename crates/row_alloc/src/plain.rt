@@ -12,8 +12,9 @@ ghost use Rattle.row_alloc.specs.Phases.{Prepares};
 ghost use Rattle.row_alloc.specs.declared.body.OutRow.{OutRow};
 
 use crate::body::{BodyCmd, BodyRef, OutRow};
-use crate::pieces::{arranged, push, push_node, push_stash, source};
+use crate::pieces::{arranged, push_node, push_stash, source};
 use mig_graph::{Mig, NoMemory, is_turned};
+use no_memory::keep;
 use std::alloc::Global;
 
 /// The number of majority nodes.
@@ -66,7 +67,7 @@ fn write_part(m: &Mig, outs: &[OutRow], mut cmds: Vec<BodyCmd>) -> Result<Vec<Bo
     let nodes = node_count(m) as u8;
     for j in 0..outs.len() as u8 {
         let write = BodyCmd::Aap(BodyRef::Spill(nodes + j), BodyRef::Out(j));
-        push(&mut cmds, write)?;
+        keep(&mut cmds, write)?;
     }
     Ok(cmds)
 }
@@ -82,15 +83,14 @@ fn direct(m: &Mig, outs: &[OutRow], alloc: Global) -> Result<Vec<BodyCmd>, NoMem
 {
     let mut cmds = Vec::new(alloc);
     let from = source(outs[0].lit, m.inputs());
-    push(&mut cmds, BodyCmd::Aap(from, BodyRef::Out(0)))?;
+    keep(&mut cmds, BodyCmd::Aap(from, BodyRef::Out(0)))?;
     Ok(cmds)
 }
 
 /// The commands that leave each output's value in its row.
 ///
 /// The B cells and the spill rows may hold anything at entry, and are left with anything. Only want
-/// of memory is an
-/// `Err`.
+/// of memory is an `Err`.
 pub fn plain_body(m: &Mig, outs: &[OutRow], alloc: Global) -> Result<Vec<BodyCmd>, NoMemory>
     requires fit { FitBody m.now outs.now }
     ensures does { IfOk result (λ cmds. DoesBody m.now outs.now cmds.items) }

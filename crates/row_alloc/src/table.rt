@@ -11,8 +11,7 @@ use dram_model::{Cell, Line};
 use mig_graph::{Lit, complement};
 
 /// What each cell holds: a literal or nothing. The data rows are a body's own: 80 for inputs, 8 for
-/// outputs and 32 to
-/// spill.
+/// outputs and 32 to spill.
 #[derive(Drop)]
 pub struct Table {
     pub t: [Option<Lit>; 4],

@@ -1,11 +1,9 @@
 -- What a microprogram counts.
-use Rattle.std.proofs.Common.{◌≡◌, ℕ, zero, suc, ◌+◌, ◌*◌, ◌<◌, ◌≤◌, List, [], ◌∷◌, ◌++◌, refl, sym}
-use Rattle.std.proofs.Common.{◌∙◌, ap, subst, arith, add-one}
-use Rattle.std.specs.Prelude.{Ok, Err, flat_map, ◌^◌}
-use Rattle.std.specs.List.{range_with_len}
+use Rattle.std.proofs.Common.{◌≡◌, ℕ, ◌+◌, ◌*◌, ◌<◌, ◌≤◌, refl, ◌∙◌, ap, arith, add-one}
+use Rattle.std.specs.Prelude.{Ok, ◌^◌}
 use Rattle.std.proofs.Math.Nat.{suc-mul, mul-le-mul_right, mul-le-mul_left}
 use Rattle.dram_model.specs.declared.dram.Counters.{Counters}
-use Rattle.dram_model.specs.Chip.{Banks, Event, after, all_counted, Grew}
+use Rattle.dram_model.specs.Chip.{all_counted}
 use Rattle.uprog_code.specs.declared.binding.Binding.{Binding}
 use Rattle.uprog_code.specs.declared.walker.Counts.{Counts}
 use Rattle.uprog_code.specs.declared.TheConstants.{WALK_MAX}
@@ -17,10 +15,6 @@ use Rattle.uprog_ctl.specs.Events.{trace_events}
 use Rattle.machine_model.specs.Script.{with_counts}
 use Rattle.machine_model.specs.Steps.{times}
 use Rattle.machine_model.proofs.Events.{row_counted}
-use Rattle.sim_machine.specs.Did.{Did, Shown, shown}
-use Rattle.sim_machine.specs.Granted.{banks_events}
-use Rattle.sim_machine.specs.Image.{with_reads}
-use Rattle.sim_machine.proofs.Rows.{next_bank}
 
 pub counts_are : (t : Trace) (counts : Counts) → walked t ≡ Ok counts
     → counts_of (issues_of t) ≡ counts
@@ -45,29 +39,11 @@ pub next_counts : (k : Counters) (b : ℕ) (c : Counts)
     → with_counts (with_counts k (times b c)) c ≡ with_counts k (times (b + 1) c)
 next_counts k b c = rw (one_more k.aap b c.aap, one_more k.ap b c.ap) refl
 
--- one more bank runs the microprogram
-pub next_run : (rows : ℕ) (m : Microprogram) (b : Binding) (k : ℕ) (a : Shown)
-    (banks new_banks : Banks) (counters new_counters : Counters) (log new_log : _) →
-    Did (banks_events rows m b k) a (shown banks counters log) →
-    new_banks ≡ after (trace_events k rows m.shape m.code b) banks
-    → new_counters ≡ all_counted (trace_events k rows m.shape m.code b) counters
-    → Grew log new_log (trace_events k rows m.shape m.code b) →
-    Did (banks_events rows m b (k + 1)) a (shown new_banks new_counters new_log)
-next_run rows m b k a banks new_banks counters new_counters log new_log d e f h =
-    next_bank (λ bank. trace_events bank rows m.shape m.code b) k a (shown banks counters log)
-    (shown new_banks new_counters new_log) d (record { banks = e; counters = f; log = h })
-
 -- at most 16 banks of at most so many commands each
-pub few_counts : (x b c : ℕ) → x < 2 ^ 61 → b < 16 → c ≤ WALK_MAX → x + b * c < 2 ^ 62
+pub few_counts : (x b c : ℕ) → x < 2 ^ 62 → b < 16 → c ≤ WALK_MAX
+    → x + b * c < 2 ^ 62 + 2 ^ 61
 few_counts x b c h l k =
     let up = mul-le-mul_left b k in
     let less : b ≤ 16 = omega arith in
     let up' = mul-le-mul_right WALK_MAX less in
     omega (arith, up, up')
-
--- so many reads, and so many more
-pub reads_more : (m n k : ℕ) (c : Counters) → m + n ≡ k
-    → with_reads n (with_reads m c) ≡ with_reads k c
-reads_more m n k c e = rw sum refl where
-  sum : c.reads + m + n ≡ c.reads + k
-  sum = omega (arith, e)

@@ -1,8 +1,8 @@
 -- A bbop that is granted.
-use Rattle.std.proofs.Common.{◌≡◌, ℕ, zero, suc, ◌+◌, ◌*◌, ◌<◌, ◌≤◌, Bool, true, false, cond, List}
-use Rattle.std.proofs.Common.{[], ◌∷◌, ◌++◌, map, length, refl, sym, ◌∙◌, ap, subst, arith, Some}
+use Rattle.std.proofs.Common.{◌≡◌, ℕ, Bool, true, false, cond, List}
+use Rattle.std.proofs.Common.{[], ◌∷◌, map, length, refl, sym, ◌∙◌, ap, subst, arith, Some}
 use Rattle.std.proofs.Common.{None, append-nil}
-use Rattle.std.specs.Prelude.{All, Ok, Option, unwrap_or, flat_map, ◌||◌}
+use Rattle.std.specs.Prelude.{All, Option, unwrap_or, flat_map, ◌||◌}
 use Rattle.std.specs.List.{range_with_len, find, AllByRecursion}
 use Rattle.std.specs.Option.{option_map}
 use Rattle.std.specs.Str.{bytes_eq}
@@ -31,14 +31,14 @@ use Rattle.machine_model.specs.Refusals.{bbop_refusal, refusal, dsts_in, srcs_in
 use Rattle.machine_model.specs.Steps.{Held, table_of, base_for, binding, times, issues_at, bound_at}
 use Rattle.machine_model.specs.Steps.{job_of, job_events, events_of, if_done, reply_to, reply_by}
 use Rattle.machine_model.specs.Steps.{counts_for}
-use Rattle.machine_model.proofs.Facts.{AreOperands, none, more, IsGood, good}
+use Rattle.machine_model.proofs.Facts.{AreOperands, none, more, good}
 use Rattle.op_text.specs.declared.tree.Kind.{Kind}
 use Rattle.machine_model.proofs.Bbops.{binding_fits, operand_at}
 use Rattle.sim_machine.specs.declared.refusal.Grant.{Grant}
 use Rattle.sim_machine.specs.Granted.{IsGranted, banks_events, granted_events, granted_counts}
 use Rattle.sim_machine.specs.Granted.{instr_events}
-use Rattle.sim_machine.specs.Did.{Did, Shown, Did-none}
-use Rattle.sim_machine.proofs.Counting.{counts_are}
+use Rattle.dram_model.specs.View.{ChipView, Did}
+use Rattle.dram_model.proofs.EventLaws.{Did-none}
 
 -- a state with this table
 still : Named → Held
@@ -142,7 +142,8 @@ refused_reply g operations table instr why e =
     ap (λ r. reply_by r (counts_for g operations table instr)) (sym e)
 
 pub refused_did : (g : Geometry) (operations : Operations) (table : List Named)
-    (instr : Instruction) (why : Why) (chip : Shown) → refusal g operations table instr ≡ Some why
+    (instr : Instruction) (why : Why) (chip : ChipView)
+    → refusal g operations table instr ≡ Some why
     → Did (instr_events g operations table instr) chip chip
 refused_did g operations table instr why chip e = rw e (Did-none chip)
 

@@ -1,6 +1,6 @@
 -- Rows among all rows, and events row by row.
 use Rattle.std.proofs.Common.{◌≡◌, ℕ, zero, suc, ◌+◌, ◌*◌, ◌<◌, ◌≤◌, List, [], ◌∷◌, ◌++◌, map}
-use Rattle.std.proofs.Common.{length, take, drop, refl, sym, ◌∙◌, ap, subst, arith, append_assoc}
+use Rattle.std.proofs.Common.{refl, sym, ◌∙◌, ap, subst, arith, append_assoc}
 use Rattle.std.proofs.Common.{append-nil, add-one}
 use Rattle.std.specs.Prelude.{flat_map}
 use Rattle.std.specs.List.{range_with_len}
@@ -11,10 +11,11 @@ use Rattle.dram_model.specs.Chip.{Event}
 use Rattle.dram_model.specs.declared.geometry.Geometry.{Geometry}
 use Rattle.object_alloc.specs.Listed.{Named}
 use Rattle.object_alloc.specs.Spelling.{Rows, head_bytes, rows_bytes, image_bytes}
-use Rattle.sim_machine.specs.Did.{Did, Shown, Did-more}
+use Rattle.dram_model.specs.View.{ChipView, Did}
+use Rattle.dram_model.proofs.EventLaws.{Did-more}
 
 -- one more row
-pub next_row : (f : ℕ → Event) (k : ℕ) (a b c : Shown) → Did (map f (range_with_len 0 k)) a b
+pub next_row : (f : ℕ → Event) (k : ℕ) (a b c : ChipView) → Did (map f (range_with_len 0 k)) a b
     → Did (f k ∷ []) b c → Did (map f (range_with_len 0 (k + 1))) a c
 next_row f k a b c d e = rw (map-range_with_len_more f 0 k k (omega arith)) (Did-more _ _ a b c d e)
 
@@ -37,7 +38,7 @@ flat_bytes E a (suc n) =
     ∙ ap (λ k. (E a ++ flat_map E (range_with_len (a + 1) n)) ++ E k) e
 
 -- one more bank
-pub next_bank : (E : ℕ → List Event) (k : ℕ) (a b c : Shown)
+pub next_bank : (E : ℕ → List Event) (k : ℕ) (a b c : ChipView)
     → Did (flat_map E (range_with_len 0 k)) a b → Did (E k) b c
     → Did (flat_map E (range_with_len 0 (k + 1))) a c
 next_bank E k a b c d e =

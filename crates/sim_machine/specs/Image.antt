@@ -1,14 +1,9 @@
 -- The bytes of a chip's rows.
-use Rattle.std.specs.Prelude.{ℕ, ◌+◌, ◌*◌, List, flat_map}
+use Rattle.std.specs.Prelude.{ℕ, ◌*◌, List, flat_map}
 use Rattle.std.specs.List.{range_with_len}
 use Rattle.dram_model.specs.declared.geometry.Geometry.{Geometry}
-use Rattle.dram_model.specs.declared.dram.Counters.{Counters}
 use Rattle.dram_model.specs.Chip.{Banks, row_in}
 use Rattle.object_alloc.specs.Bytes.{bytes_of_bits}
-
--- so many host reads more
-abbrev pub with_reads : ℕ → Counters → Counters
-with_reads n counters = record counters { reads = counters.reads + n }
 
 -- the first k rows of a bank, upwards
 abbrev pub bank_bytes : Geometry → Banks → ℕ → ℕ → List ℕ

@@ -1,5 +1,4 @@
 -- What the machine does to a chip, and what it shows of itself.
-pub mod Did
 pub mod Granted
 pub mod Opening
 pub mod Machine

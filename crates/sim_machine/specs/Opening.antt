@@ -1,9 +1,10 @@
--- The writes of an image's rows.
-use Rattle.std.specs.Prelude.{ℕ, List, map, flat_map}
+-- A chip that was opened: the writes of an image's rows.
+use Rattle.std.specs.Prelude.{◌≡◌, ℕ, List, [], map, flat_map, Some}
 use Rattle.std.specs.List.{range_with_len}
 use Rattle.dram_model.specs.declared.geometry.Geometry.{Geometry}
-use Rattle.dram_model.specs.Chip.{Event}
+use Rattle.dram_model.specs.Chip.{Event, after, all_counted, blank_banks, Grew}
 use Rattle.dram_model.specs.Chip.Event.{Write}
+use Rattle.dram_model.specs.View.{ChipView, HasBegun, no_counts}
 use Rattle.object_alloc.specs.Spelling.{rows_in}
 
 -- the rows of one bank, upwards
@@ -14,3 +15,11 @@ bank_writes g rows bank = map (λ row. Write bank row (rows_in g rows bank row))
 -- bank by bank
 abbrev pub all_writes : Geometry → List ℕ → List Event
 all_writes g rows = flat_map (bank_writes g rows) (range_with_len 0 g.banks)
+
+-- the chip has this shape, and since it began exactly the writes of these rows happened
+pub record Opened (g : Geometry) (rows : List ℕ) (chip : ChipView) : Type 0 where
+  pub begun : HasBegun chip
+  pub geometry : chip.geometry ≡ g
+  pub banks : chip.banks ≡ after (all_writes g rows) (blank_banks g)
+  pub counters : chip.counters ≡ all_counted (all_writes g rows) no_counts
+  pub log : Grew (Some []) chip.log (all_writes g rows)

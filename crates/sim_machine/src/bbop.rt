@@ -5,7 +5,8 @@ ghost use Rattle.std.specs.Prelude.{None, Ok, OnOk, OnErr, IfOk, IfSome, true};
 ghost use Rattle.std.specs.List.{find};
 ghost use Rattle.std.specs.Option.{option_map, option_to_list};
 ghost use Rattle.std.specs.Str.{bytes_eq};
-ghost use Rattle.dram_model.specs.Chip.{Rose};
+ghost use Rattle.dram_model.specs.View.{HasBegun, Kept, Did};
+ghost use Rattle.dram_model.specs.Elements.{FailedBelow};
 ghost use Rattle.uprog_code.specs.Shape.{shape_of, microprogram_of};
 ghost use Rattle.uprog_code.specs.Machine.{trace};
 ghost use Rattle.uprog_code.specs.Count.{walked};
@@ -18,7 +19,6 @@ ghost use Rattle.machine_model.specs.Refusals.{bbop_conditions, first, object_na
 ghost use Rattle.machine_model.specs.Refusals.{srcs_in};
 ghost use Rattle.machine_model.specs.Script.{with_counts};
 ghost use Rattle.machine_model.specs.Steps.{reply_to, times};
-ghost use Rattle.sim_machine.specs.Did.{Did, shown};
 ghost use Rattle.machine_model.specs.declared.Reply.{Reply};
 ghost use Rattle.machine_model.specs.Operations.{operation_of, operations_in};
 ghost use Rattle.sim_machine.specs.Granted.{IsGranted, IsSetting, banks_events, granted_counts};
@@ -116,30 +116,26 @@ pub(crate) fn run_banks<D: Dram>(
     counts: Counts,
     banks: u16,
 ) -> Result<(), ChipFault>
-    requires begun { D.begun dram.old }
-    requires banks { banks ≤ (D.geometry dram.old).banks }
+    requires begun { HasBegun (D.view dram.old) }
+    requires banks { banks ≤ (D.view dram.old).geometry.banks }
     requires few_banks { banks ≤ 16 }
     requires legal { IsLegalCode (shape_of entry.now.head) entry.now.code.items }
     requires some { 0 < binding.now.n }
     requires narrow { binding.now.n ≤ WIDTH_MAX }
-    requires fits { Fits (D.geometry dram.old).rows (shape_of entry.now.head) binding.now.n
+    requires fits { Fits (D.view dram.old).geometry.rows (shape_of entry.now.head) binding.now.n
         (bound_of binding.now) }
     requires walks { walked (trace (shape_of entry.now.head) entry.now.code.items binding.now.n)
         ≡ Ok counts }
     requires few { counts.aap + counts.ap ≤ WALK_MAX }
-    requires aap_room { (D.counters dram.old).aap < 2 ^ 61 }
-    requires ap_room { (D.counters dram.old).ap < 2 ^ 61 }
-    ensures begun { D.begun dram.new }
+    requires aap_room { (D.view dram.old).counters.aap < 2 ^ 62 }
+    requires ap_room { (D.view dram.old).counters.ap < 2 ^ 62 }
     ensures borrow { D.borrow dram.new ≡ D.borrow dram.old }
-    ensures geometry { D.geometry dram.new ≡ D.geometry dram.old }
-    ensures faults { D.faults dram.old ≤ D.faults dram.new }
-    ensures did
-        { OnOk result (Did (banks_events (D.geometry dram.old).rows (microprogram_of entry.now)
-        binding.now banks) (shown (D.banks dram.old) (D.counters dram.old) (D.log dram.old))
-        (shown (D.banks dram.new) (D.counters dram.new) (D.log dram.new))) }
-    ensures counters { OnOk result (D.counters dram.new
-        ≡ with_counts (D.counters dram.old) (times banks counts)) }
-    ensures rose { OnErr result (Rose (D.faults dram.old) (D.faults dram.new)) }
+    ensures kept { Kept (D.view dram.old) (D.view dram.new) }
+    ensures did { OnOk result (Did (banks_events (D.view dram.old).geometry.rows
+        (microprogram_of entry.now) binding.now banks) (D.view dram.old) (D.view dram.new)) }
+    ensures counters { OnOk result ((D.view dram.new).counters
+        ≡ with_counts (D.view dram.old).counters (times banks counts)) }
+    ensures failed { OnErr result (FailedBelow banks (D.view dram.old) (D.view dram.new)) }
 {
     for bank in 0..banks {
         run(dram, bank, entry, binding)?;
@@ -175,8 +171,8 @@ fn run_granted<D: Dram>(
     grant: Grant,
     dram: &mut D,
 ) -> Result<Reply, ChipFault>
-    requires begun { D.begun dram.old }
-    requires geometry { D.geometry dram.old ≡ setting.now.geometry }
+    requires begun { HasBegun (D.view dram.old) }
+    requires geometry { (D.view dram.old).geometry ≡ setting.now.geometry }
     requires set { IsSetting setting.now.geometry setting.now.table.now
         (map microprogram_of setting.now.entries.now) }
     requires few { length bbop.now.srcs.now ≤ 5 }
@@ -188,24 +184,23 @@ fn run_granted<D: Dram>(
         ∷ bbop.now.srcs.now) bbop.now.count bbop.now.n) ≡ None }
     requires granted { IsGranted setting.now.table.now.limit setting.now.table.now.pairs
         (microprogram_of entry.now) bbop.now.n grant }
-    requires aap_room { (D.counters dram.old).aap < 2 ^ 61 }
-    requires ap_room { (D.counters dram.old).ap < 2 ^ 61 }
-    ensures begun { D.begun dram.new }
+    requires aap_room { (D.view dram.old).counters.aap < 2 ^ 62 }
+    requires ap_room { (D.view dram.old).counters.ap < 2 ^ 62 }
     ensures borrow { D.borrow dram.new ≡ D.borrow dram.old }
-    ensures geometry { D.geometry dram.new ≡ D.geometry dram.old }
-    ensures faults { D.faults dram.old ≤ D.faults dram.new }
+    ensures kept { Kept (D.view dram.old) (D.view dram.new) }
     ensures reply { IfOk result (λ reply. reply
         ≡ Reply.Done (granted_counts setting.now.geometry setting.now.table.now.pairs
         (microprogram_of entry.now) bbop.now.dst.now bbop.now.n)) }
     ensures did { OnOk result (Did (granted_events setting.now.geometry setting.now.table.now.pairs
         (microprogram_of entry.now) bbop.now.dst.now bbop.now.srcs.now bbop.now.n)
-        (shown (D.banks dram.old) (D.counters dram.old) (D.log dram.old))
-        (shown (D.banks dram.new) (D.counters dram.new) (D.log dram.new))) }
-    ensures aap_grows { OnOk result ((D.counters dram.new).aap
-        ≤ (D.counters dram.old).aap + 16 * WALK_MAX) }
-    ensures ap_grows { OnOk result ((D.counters dram.new).ap
-        ≤ (D.counters dram.old).ap + 16 * WALK_MAX) }
-    ensures rose { OnErr result (Rose (D.faults dram.old) (D.faults dram.new)) }
+        (D.view dram.old) (D.view dram.new)) }
+    ensures aap_grows { OnOk result ((D.view dram.new).counters.aap
+        ≤ (D.view dram.old).counters.aap + 16 * WALK_MAX) }
+    ensures ap_grows { OnOk result ((D.view dram.new).counters.ap
+        ≤ (D.view dram.old).counters.ap + 16 * WALK_MAX) }
+    ensures failed { OnErr result (FailedBelow (segments setting.now.geometry
+        (object_named setting.now.table.now.pairs bbop.now.dst.now))
+        (D.view dram.old) (D.view dram.new)) }
 {
     let binding = bind(setting.table, &entry.head, bbop, grant.scratch);
     let banks = segments(setting.geometry, object_named(setting.table, bbop.dst));
@@ -220,32 +215,31 @@ pub(crate) fn do_bbop<D: Dram>(
     bbop: &Bbop<'_>,
     dram: &mut D,
 ) -> Result<Reply, ChipFault>
-    requires begun { D.begun dram.old }
-    requires geometry { D.geometry dram.old ≡ setting.now.geometry }
+    requires begun { HasBegun (D.view dram.old) }
+    requires geometry { (D.view dram.old).geometry ≡ setting.now.geometry }
     requires set { IsSetting setting.now.geometry setting.now.table.now
         (map microprogram_of setting.now.entries.now) }
     requires few { length bbop.now.srcs.now ≤ 5 }
     requires some { 0 < bbop.now.n }
     requires narrow { bbop.now.n ≤ WIDTH_MAX }
-    requires aap_room { (D.counters dram.old).aap < 2 ^ 61 }
-    requires ap_room { (D.counters dram.old).ap < 2 ^ 61 }
-    ensures begun { D.begun dram.new }
+    requires aap_room { (D.view dram.old).counters.aap < 2 ^ 62 }
+    requires ap_room { (D.view dram.old).counters.ap < 2 ^ 62 }
     ensures borrow { D.borrow dram.new ≡ D.borrow dram.old }
-    ensures geometry { D.geometry dram.new ≡ D.geometry dram.old }
-    ensures faults { D.faults dram.old ≤ D.faults dram.new }
+    ensures kept { Kept (D.view dram.old) (D.view dram.new) }
     ensures reply { IfOk result (λ reply. reply
         ≡ reply_to setting.now.geometry (operations_in
         (map microprogram_of setting.now.entries.now)) setting.now.table.now.pairs
         (said_bbop op.now bbop.now)) }
     ensures did { OnOk result (Did (instr_events setting.now.geometry
         (operations_in (map microprogram_of setting.now.entries.now)) setting.now.table.now.pairs
-        (said_bbop op.now bbop.now)) (shown (D.banks dram.old) (D.counters dram.old)
-        (D.log dram.old)) (shown (D.banks dram.new) (D.counters dram.new) (D.log dram.new))) }
-    ensures aap_grows { OnOk result ((D.counters dram.new).aap
-        ≤ (D.counters dram.old).aap + 16 * WALK_MAX) }
-    ensures ap_grows { OnOk result ((D.counters dram.new).ap
-        ≤ (D.counters dram.old).ap + 16 * WALK_MAX) }
-    ensures rose { OnErr result (Rose (D.faults dram.old) (D.faults dram.new)) }
+        (said_bbop op.now bbop.now)) (D.view dram.old) (D.view dram.new)) }
+    ensures aap_grows { OnOk result ((D.view dram.new).counters.aap
+        ≤ (D.view dram.old).counters.aap + 16 * WALK_MAX) }
+    ensures ap_grows { OnOk result ((D.view dram.new).counters.ap
+        ≤ (D.view dram.old).counters.ap + 16 * WALK_MAX) }
+    ensures failed { OnErr result (FailedBelow (segments setting.now.geometry
+        (object_named setting.now.table.now.pairs bbop.now.dst.now))
+        (D.view dram.old) (D.view dram.new)) }
 {
     match entry_named(setting.entries, op) {
         None => Ok(Reply::Refused(Why::NoOp)),

@@ -1,27 +1,24 @@
 //! The machine.
 
-ghost use Rattle.std.specs.Prelude.{◌≡◌, ◌+◌, ◌*◌, ◌<◌, ◌≤◌, ◌^◌, ◌++◌, [], ◌∷◌, length, map, Some};
-ghost use Rattle.std.specs.Prelude.{OnOk, OnErr, IfOk, IsErrOf, true, vec_len, vec_capacity};
-ghost use Rattle.host_edge.specs.Views.{Told, Rose, AppendsPart};
+ghost use Rattle.std.specs.Prelude.{◌≡◌, ◌+◌, ◌*◌, ◌<◌, ◌≤◌, ◌^◌, ◌++◌, [], length, OnOk, OnErr};
+ghost use Rattle.std.specs.Prelude.{IfOk, IsErrOf, true, vec_capacity};
+ghost use Rattle.host_edge.specs.Views.{Told, Rose as SinkRose, AppendsPart};
 ghost use Rattle.dram_model.specs.Geometry.{is_geometry};
-ghost use Rattle.dram_model.specs.Chip.{Rose as ChipRose, after, all_counted, blank_banks, Grew};
+ghost use Rattle.dram_model.specs.Chip.{Rose, Grew};
+ghost use Rattle.dram_model.specs.View.{HasBegun, Kept, Did, DidRead};
+ghost use Rattle.dram_model.specs.Elements.{FailedBelow};
 ghost use Rattle.uprog_code.specs.Shape.{microprograms_of};
-ghost use Rattle.object_alloc.specs.Listed.{limit_of};
 ghost use Rattle.object_alloc.specs.Reading.{rows_size};
 ghost use Rattle.object_alloc.specs.Spelling.{image_bytes};
 ghost use Rattle.bbop_isa.specs.Forms.{view_of};
 ghost use Rattle.machine_model.specs.Agrees.{IsPlain};
-ghost use Rattle.machine_model.specs.Operations.{operations_in};
 ghost use Rattle.machine_model.specs.Opened.{rows_of};
-ghost use Rattle.machine_model.specs.Report.{Said, line, total_line};
+ghost use Rattle.machine_model.specs.Report.{total_line};
 ghost use Rattle.machine_model.specs.Script.{is_bbop};
-ghost use Rattle.machine_model.specs.Steps.{reply_to};
-ghost use Rattle.sim_machine.specs.Did.{Did, shown};
-ghost use Rattle.sim_machine.specs.Granted.{IsSetting, instr_events};
-ghost use Rattle.sim_machine.specs.Image.{with_reads};
-ghost use Rattle.sim_machine.specs.Machine.{IsReady, file_of, geometry_of, no_counts, program_of};
-ghost use Rattle.sim_machine.specs.Machine.{table_in};
-ghost use Rattle.sim_machine.specs.Opening.{all_writes};
+ghost use Rattle.sim_machine.specs.Granted.{IsSetting};
+ghost use Rattle.sim_machine.specs.Machine.{IsReady, file_of, geometry_of, program_of, table_in};
+ghost use Rattle.sim_machine.specs.Machine.{reply_of, line_of, events_by, banks_by};
+ghost use Rattle.sim_machine.specs.Opening.{Opened};
 
 use crate::bbop::{Setting, do_bbop};
 use crate::image::read_rows;
@@ -95,17 +92,12 @@ fn begin<D: Dram>(g: Geometry, rows: &[u8], stage: &mut [u64], dram: &mut D) -> 
     requires passes { is_geometry g ≡ true }
     requires words { length stage.old ≡ g.words }
     requires bytes { length rows.now ≡ rows_size g }
-    ensures begun { OnOk result (D.begun dram.new) }
     ensures borrow { D.borrow dram.new ≡ D.borrow dram.old }
-    ensures geometry { OnOk result (D.geometry dram.new ≡ g) }
     ensures stage { length stage.new ≡ length stage.old }
-    ensures faults { D.faults dram.old ≤ D.faults dram.new }
-    ensures banks { OnOk result (D.banks dram.new ≡ after (all_writes g rows.now) (blank_banks g)) }
-    ensures counters { OnOk result (D.counters dram.new
-        ≡ all_counted (all_writes g rows.now) no_counts) }
-    ensures log { OnOk result (Grew (Some []) (D.log dram.new) (all_writes g rows.now)) }
+    ensures faults { (D.view dram.old).faults ≤ (D.view dram.new).faults }
+    ensures opened { OnOk result (Opened g rows.now (D.view dram.new)) }
     ensures failed { IsErrOf result StartNo.ChipFault
-        → ChipRose (D.faults dram.old) (D.faults dram.new) }
+        → Rose (D.view dram.old).faults (D.view dram.new).faults }
 {
     match dram.begin(g) {
         Ok(()) => {}
@@ -120,8 +112,7 @@ fn begin<D: Dram>(g: Geometry, rows: &[u8], stage: &mut [u64], dram: &mut D) -> 
 
 impl Machine {
     /// Takes all memory that a script needs, begins the chip and gives it the image's rows, bank by
-    /// bank and rows
-    /// upwards.
+    /// bank and rows upwards.
     pub fn open<D: Dram>(
         program: Program,
         image: Image<'_>,
@@ -130,23 +121,16 @@ impl Machine {
     ) -> Result<Machine, StartNo>
         requires set { IsSetting image.geometry image.table (microprograms_of program) }
         requires rows { length image.rows.now ≡ rows_size image.geometry }
-        ensures begun { OnOk result (D.begun dram.new) }
         ensures borrow { D.borrow dram.new ≡ D.borrow dram.old }
-        ensures geometry { OnOk result (D.geometry dram.new ≡ image.entry.geometry) }
-        ensures faults { D.faults dram.old ≤ D.faults dram.new }
-        ensures banks { OnOk result (D.banks dram.new
-            ≡ after (all_writes image.entry.geometry image.entry.rows.now)
-            (blank_banks image.entry.geometry)) }
-        ensures counters { OnOk result (D.counters dram.new
-            ≡ all_counted (all_writes image.entry.geometry image.entry.rows.now) no_counts) }
-        ensures log { OnOk result (Grew (Some []) (D.log dram.new)
-            (all_writes image.entry.geometry image.entry.rows.now)) }
+        ensures faults { (D.view dram.old).faults ≤ (D.view dram.new).faults }
+        ensures opened { OnOk result (Opened image.entry.geometry image.entry.rows.now
+            (D.view dram.new)) }
         ensures ready { IfOk result IsReady }
         ensures program { IfOk result (λ machine. program_of machine ≡ microprograms_of program) }
         ensures shape { IfOk result (λ machine. geometry_of machine ≡ image.entry.geometry) }
         ensures table { IfOk result (λ machine. table_in machine ≡ image.entry.table.pairs) }
         ensures failed { IsErrOf result StartNo.ChipFault
-            → ChipRose (D.faults dram.old) (D.faults dram.new) }
+            → Rose (D.view dram.old).faults (D.view dram.new).faults }
     {
         let mut stage = make_stage(image.geometry.words, alloc)?;
         let file = make_file(image.geometry, alloc)?;
@@ -163,28 +147,23 @@ impl Machine {
     /// Does one instruction on the chip.
     fn act<D: Dram>(&self, instr: &Instr, dram: &mut D) -> Result<Reply, ChipFault>
         requires ready { IsReady self.now }
-        requires begun { D.begun dram.old }
-        requires geometry { D.geometry dram.old ≡ geometry_of self.now }
+        requires begun { HasBegun (D.view dram.old) }
+        requires geometry { (D.view dram.old).geometry ≡ geometry_of self.now }
         requires bbop { is_bbop (view_of instr.now) ≡ true }
         requires plain { IsPlain (view_of instr.now) }
-        requires aap_room { (D.counters dram.old).aap < 2 ^ 61 }
-        requires ap_room { (D.counters dram.old).ap < 2 ^ 61 }
-        ensures begun { D.begun dram.new }
+        requires aap_room { (D.view dram.old).counters.aap < 2 ^ 62 }
+        requires ap_room { (D.view dram.old).counters.ap < 2 ^ 62 }
         ensures borrow { D.borrow dram.new ≡ D.borrow dram.old }
-        ensures geometry { D.geometry dram.new ≡ D.geometry dram.old }
-        ensures faults { D.faults dram.old ≤ D.faults dram.new }
-        ensures reply { IfOk result (λ reply. reply
-            ≡ reply_to (geometry_of self.now) (operations_in (program_of self.now))
-            (table_in self.now) (view_of instr.now)) }
-        ensures did { OnOk result (Did (instr_events (geometry_of self.now)
-            (operations_in (program_of self.now)) (table_in self.now) (view_of instr.now))
-            (shown (D.banks dram.old) (D.counters dram.old) (D.log dram.old))
-            (shown (D.banks dram.new) (D.counters dram.new) (D.log dram.new))) }
-        ensures aap_grows { OnOk result ((D.counters dram.new).aap
-            ≤ (D.counters dram.old).aap + 16 * WALK_MAX) }
-        ensures ap_grows { OnOk result ((D.counters dram.new).ap
-            ≤ (D.counters dram.old).ap + 16 * WALK_MAX) }
-        ensures rose { OnErr result (ChipRose (D.faults dram.old) (D.faults dram.new)) }
+        ensures kept { Kept (D.view dram.old) (D.view dram.new) }
+        ensures reply { IfOk result (λ reply. reply ≡ reply_of self.now (view_of instr.now)) }
+        ensures did { OnOk result (Did (events_by self.now (view_of instr.now)) (D.view dram.old)
+            (D.view dram.new)) }
+        ensures aap_grows { OnOk result ((D.view dram.new).counters.aap
+            ≤ (D.view dram.old).counters.aap + 16 * WALK_MAX) }
+        ensures ap_grows { OnOk result ((D.view dram.new).counters.ap
+            ≤ (D.view dram.old).counters.ap + 16 * WALK_MAX) }
+        ensures failed { OnErr result (FailedBelow (banks_by self.now (view_of instr.now))
+            (D.view dram.old) (D.view dram.new)) }
     {
         let Instr::Bbop {
             op,
@@ -219,41 +198,39 @@ impl Machine {
         out: &mut S,
     ) -> Result<Reply, StepFault>
         requires ready { IsReady self.old }
-        requires begun { D.begun dram.old }
-        requires geometry { D.geometry dram.old ≡ geometry_of self.old }
+        requires begun { HasBegun (D.view dram.old) }
+        requires geometry { (D.view dram.old).geometry ≡ geometry_of self.old }
         requires bbop { is_bbop (view_of instr.now) ≡ true }
         requires plain { IsPlain (view_of instr.now) }
-        requires aap_room { (D.counters dram.old).aap < 2 ^ 61 }
-        requires ap_room { (D.counters dram.old).ap < 2 ^ 61 }
-        ensures kept { self.new ≡ self.old }
-        ensures begun { D.begun dram.new }
+        requires aap_room { (D.view dram.old).counters.aap < 2 ^ 62 }
+        requires ap_room { (D.view dram.old).counters.ap < 2 ^ 62 }
+        ensures same { self.new ≡ self.old }
         ensures borrow { D.borrow dram.new ≡ D.borrow dram.old }
-        ensures geometry { D.geometry dram.new ≡ D.geometry dram.old }
-        ensures faults { D.faults dram.old ≤ D.faults dram.new }
+        ensures kept { Kept (D.view dram.old) (D.view dram.new) }
         ensures sink_faults { (S.view out.old).faults ≤ (S.view out.new).faults }
-        ensures reply { IfOk result (λ reply. reply
-            ≡ reply_to (geometry_of self.old) (operations_in (program_of self.old))
-            (table_in self.old) (view_of instr.now)) }
-        ensures did { OnOk result (Did (instr_events (geometry_of self.old)
-            (operations_in (program_of self.old)) (table_in self.old) (view_of instr.now))
-            (shown (D.banks dram.old) (D.counters dram.old) (D.log dram.old))
-            (shown (D.banks dram.new) (D.counters dram.new) (D.log dram.new))) }
-        ensures aap_grows { OnOk result ((D.counters dram.new).aap
-            ≤ (D.counters dram.old).aap + 16 * WALK_MAX) }
-        ensures ap_grows { OnOk result ((D.counters dram.new).ap
-            ≤ (D.counters dram.old).ap + 16 * WALK_MAX) }
+        ensures reply { IfOk result (λ reply. reply ≡ reply_of self.old (view_of instr.now)) }
+        ensures did { OnOk result (Did (events_by self.old (view_of instr.now)) (D.view dram.old)
+            (D.view dram.new)) }
+        ensures aap_grows { OnOk result ((D.view dram.new).counters.aap
+            ≤ (D.view dram.old).counters.aap + 16 * WALK_MAX) }
+        ensures ap_grows { OnOk result ((D.view dram.new).counters.ap
+            ≤ (D.view dram.old).counters.ap + 16 * WALK_MAX) }
         ensures sent { OnOk result (Told (λ before after. after
-            ≡ before ++ line number (Said.Answered
-            (reply_to (geometry_of self.old) (operations_in (program_of self.old))
-            (table_in self.old) (view_of instr.now)))) (S.view out.old).sent (S.view out.new).sent) }
+            ≡ before ++ line_of self.old number (view_of instr.now))
+            (S.view out.old).sent (S.view out.new).sent) }
+
+        // Where the chip fails, nothing is put. Where the sink fails, the instruction was done.
         ensures chip_fault { IsErrOf result StepFault.ChipFault
-            → ChipRose (D.faults dram.old) (D.faults dram.new) × (S.view out.new ≡ S.view out.old) }
+            → FailedBelow (banks_by self.old (view_of instr.now)) (D.view dram.old)
+            (D.view dram.new) }
+        ensures unsent { IsErrOf result StepFault.ChipFault → S.view out.new ≡ S.view out.old }
+        ensures done { IsErrOf result StepFault.WriteFault
+            → Did (events_by self.old (view_of instr.now)) (D.view dram.old) (D.view dram.new) }
         ensures write_fault { IsErrOf result StepFault.WriteFault
-            → Rose (S.view out.old).faults (S.view out.new).faults
-            × Told (AppendsPart (line number (Said.Answered
-            (reply_to (geometry_of self.old) (operations_in (program_of self.old))
-            (table_in self.old) (view_of instr.now))))) (S.view out.old).sent
-            (S.view out.new).sent }
+            → SinkRose (S.view out.old).faults (S.view out.new).faults }
+        ensures part { IsErrOf result StepFault.WriteFault
+            → Told (AppendsPart (line_of self.old number (view_of instr.now)))
+            (S.view out.old).sent (S.view out.new).sent }
     {
         let reply = match self.act(instr, dram) {
             Ok(reply) => reply,
@@ -270,21 +247,21 @@ impl Machine {
     /// It takes no memory.
     pub fn image<D: Dram>(&mut self, dram: &mut D) -> Result<(), ChipFault>
         requires ready { IsReady self.old }
-        requires begun { D.begun dram.old }
-        requires geometry { D.geometry dram.old ≡ geometry_of self.old }
-        requires reads { (D.counters dram.old).reads < 2 ^ 61 }
-        ensures begun { D.begun dram.new }
+        requires begun { HasBegun (D.view dram.old) }
+        requires geometry { (D.view dram.old).geometry ≡ geometry_of self.old }
+        requires room { (D.view dram.old).counters.reads < 2 ^ 62 }
         ensures borrow { D.borrow dram.new ≡ D.borrow dram.old }
-        ensures geometry { D.geometry dram.new ≡ D.geometry dram.old }
-        ensures faults { D.faults dram.old ≤ D.faults dram.new }
-        ensures banks { OnOk result (D.banks dram.new ≡ D.banks dram.old) }
-        ensures counters { OnOk result (D.counters dram.new
-            ≡ with_reads ((geometry_of self.old).banks * (geometry_of self.old).rows)
-            (D.counters dram.old)) }
-        ensures log { Grew (D.log dram.old) (D.log dram.new) [] }
-        ensures file { OnOk result (file_of self.new
-            ≡ image_bytes (geometry_of self.old) (table_in self.old) (rows_of (D.banks dram.old))) }
-        ensures rose { OnErr result (ChipRose (D.faults dram.old) (D.faults dram.new)) }
+        ensures kept { Kept (D.view dram.old) (D.view dram.new) }
+        ensures did { OnOk result (DidRead ((geometry_of self.old).banks
+            * (geometry_of self.old).rows) (D.view dram.old) (D.view dram.new)) }
+        ensures file { OnOk result (file_of self.new ≡ image_bytes (geometry_of self.old)
+            (table_in self.old) (rows_of (D.view dram.old).banks)) }
+        ensures ready { OnOk result (IsReady self.new) }
+        ensures program { program_of self.new ≡ program_of self.old }
+        ensures shape { geometry_of self.new ≡ geometry_of self.old }
+        ensures table { table_in self.new ≡ table_in self.old }
+        ensures failed { OnErr result (Rose (D.view dram.old).faults (D.view dram.new).faults) }
+        ensures untold { Grew (D.view dram.old).log (D.view dram.new).log [] }
     {
         self.file.clear();
         put_head(&mut self.file, self.geometry, &self.table);
@@ -305,14 +282,14 @@ impl Machine {
         dram: &D,
         out: &mut S,
     ) -> Result<(), Failed>
-        requires { D.begun dram.now }
+        requires begun { HasBegun (D.view dram.now) }
         ensures faults { (S.view out.old).faults ≤ (S.view out.new).faults }
         ensures sent { OnOk result (Told (λ before after. after
-            ≡ before ++ total_line (D.counters dram.now) refused) (S.view out.old).sent
-            (S.view out.new).sent) }
-        ensures part { OnErr result (Told (AppendsPart (total_line (D.counters dram.now) refused))
+            ≡ before ++ total_line (D.view dram.now).counters refused)
             (S.view out.old).sent (S.view out.new).sent) }
-        ensures rose { OnErr result (Rose (S.view out.old).faults (S.view out.new).faults) }
+        ensures part { OnErr result (Told (AppendsPart (total_line (D.view dram.now).counters
+            refused)) (S.view out.old).sent (S.view out.new).sent) }
+        ensures rose { OnErr result (SinkRose (S.view out.old).faults (S.view out.new).faults) }
     {
         let text = total(dram.tally(), refused);
         out.put(text.as_slice())

@@ -2,10 +2,10 @@
 
 ghost use Rattle.std.specs.Prelude.{◌≡◌, ◌+◌, ◌*◌, ◌<◌, ◌≤◌, ◌^◌, length, OnOk, OnErr, ◌∷◌, []};
 ghost use Rattle.dram_model.specs.Chip.{Event, Rose};
+ghost use Rattle.dram_model.specs.View.{HasBegun, Kept, Did};
 ghost use Rattle.object_alloc.specs.Bytes.{bits_of_bytes};
 ghost use Rattle.object_alloc.specs.Reading.{rows_size};
 ghost use Rattle.object_alloc.specs.Spelling.{row_at};
-ghost use Rattle.sim_machine.specs.Did.{Did, shown};
 ghost use Rattle.sim_machine.specs.Opening.{bank_writes, all_writes};
 
 use dram_model::{ChipFault, Dram, Geometry};
@@ -19,21 +19,18 @@ fn write_row<D: Dram>(
     bytes: &[u8],
     stage: &mut [u64],
 ) -> Result<(), ChipFault>
-    requires begun { D.begun dram.old }
-    requires bank { bank < (D.geometry dram.old).banks }
-    requires row { row < (D.geometry dram.old).rows }
-    requires words { length stage.old ≡ (D.geometry dram.old).words }
-    requires bytes { length bytes.now ≡ 8 * (D.geometry dram.old).words }
-    requires room { (D.counters dram.old).writes < 2 ^ 63 }
-    ensures begun { D.begun dram.new }
+    requires begun { HasBegun (D.view dram.old) }
+    requires bank { bank < (D.view dram.old).geometry.banks }
+    requires row { row < (D.view dram.old).geometry.rows }
+    requires words { length stage.old ≡ (D.view dram.old).geometry.words }
+    requires bytes { length bytes.now ≡ 8 * (D.view dram.old).geometry.words }
+    requires room { (D.view dram.old).counters.writes < 2 ^ 63 }
     ensures borrow { D.borrow dram.new ≡ D.borrow dram.old }
-    ensures geometry { D.geometry dram.new ≡ D.geometry dram.old }
+    ensures kept { Kept (D.view dram.old) (D.view dram.new) }
     ensures stage { length stage.new ≡ length stage.old }
-    ensures faults { D.faults dram.old ≤ D.faults dram.new }
-    ensures did { OnOk result (Did (Event.Write bank row (bits_of_bytes bytes.now)
-        ∷ []) (shown (D.banks dram.old) (D.counters dram.old) (D.log dram.old))
-        (shown (D.banks dram.new) (D.counters dram.new) (D.log dram.new))) }
-    ensures rose { OnErr result (Rose (D.faults dram.old) (D.faults dram.new)) }
+    ensures did { OnOk result (Did (Event.Write bank row (bits_of_bytes bytes.now) ∷ [])
+        (D.view dram.old) (D.view dram.new)) }
+    ensures rose { OnErr result (Rose (D.view dram.old).faults (D.view dram.new).faults) }
 {
     words_of_bytes(bytes, stage);
     dram.write_row(bank, row, stage)
@@ -67,24 +64,21 @@ fn write_bank<D: Dram>(
     rows: &[u8],
     stage: &mut [u64],
 ) -> Result<(), ChipFault>
-    requires begun { D.begun dram.old }
-    requires geometry { D.geometry dram.old ≡ g }
+    requires begun { HasBegun (D.view dram.old) }
+    requires geometry { (D.view dram.old).geometry ≡ g }
     requires bank { bank < g.banks }
     requires small { g.banks * g.rows * g.words ≤ 8388608 }
     requires words { length stage.old ≡ g.words }
     requires bytes { length rows.now ≡ rows_size g }
-    requires room { (D.counters dram.old).writes < 2 ^ 62 }
-    ensures begun { D.begun dram.new }
+    requires room { (D.view dram.old).counters.writes < 2 ^ 62 }
     ensures borrow { D.borrow dram.new ≡ D.borrow dram.old }
-    ensures geometry { D.geometry dram.new ≡ D.geometry dram.old }
+    ensures kept { Kept (D.view dram.old) (D.view dram.new) }
     ensures stage { length stage.new ≡ length stage.old }
-    ensures faults { D.faults dram.old ≤ D.faults dram.new }
-    ensures did { OnOk result (Did (bank_writes g rows.now bank)
-        (shown (D.banks dram.old) (D.counters dram.old) (D.log dram.old))
-        (shown (D.banks dram.new) (D.counters dram.new) (D.log dram.new))) }
-    ensures writes { OnOk result ((D.counters dram.new).writes
-        ≡ (D.counters dram.old).writes + g.rows) }
-    ensures rose { OnErr result (Rose (D.faults dram.old) (D.faults dram.new)) }
+    ensures did { OnOk result (Did (bank_writes g rows.now bank) (D.view dram.old)
+        (D.view dram.new)) }
+    ensures writes { OnOk result ((D.view dram.new).counters.writes
+        ≡ (D.view dram.old).counters.writes + g.rows) }
+    ensures rose { OnErr result (Rose (D.view dram.old).faults (D.view dram.new).faults) }
 {
     for row in 0..g.rows {
         write_row(dram, bank, row, row_bytes(g, rows, bank, row), stage)?;
@@ -99,22 +93,18 @@ pub(crate) fn write_rows<D: Dram>(
     rows: &[u8],
     stage: &mut [u64],
 ) -> Result<(), ChipFault>
-    requires begun { D.begun dram.old }
-    requires geometry { D.geometry dram.old ≡ g }
+    requires begun { HasBegun (D.view dram.old) }
+    requires geometry { (D.view dram.old).geometry ≡ g }
     requires banks { g.banks ≤ 16 }
     requires small { g.banks * g.rows * g.words ≤ 8388608 }
     requires words { length stage.old ≡ g.words }
     requires bytes { length rows.now ≡ rows_size g }
-    requires fresh { (D.counters dram.old).writes ≡ 0 }
-    ensures begun { D.begun dram.new }
+    requires fresh { (D.view dram.old).counters.writes ≡ 0 }
     ensures borrow { D.borrow dram.new ≡ D.borrow dram.old }
-    ensures geometry { D.geometry dram.new ≡ D.geometry dram.old }
+    ensures kept { Kept (D.view dram.old) (D.view dram.new) }
     ensures stage { length stage.new ≡ length stage.old }
-    ensures faults { D.faults dram.old ≤ D.faults dram.new }
-    ensures did { OnOk result (Did (all_writes g rows.now)
-        (shown (D.banks dram.old) (D.counters dram.old) (D.log dram.old))
-        (shown (D.banks dram.new) (D.counters dram.new) (D.log dram.new))) }
-    ensures rose { OnErr result (Rose (D.faults dram.old) (D.faults dram.new)) }
+    ensures did { OnOk result (Did (all_writes g rows.now) (D.view dram.old) (D.view dram.new)) }
+    ensures rose { OnErr result (Rose (D.view dram.old).faults (D.view dram.new).faults) }
 {
     for bank in 0..g.banks {
         write_bank(dram, g, bank, rows, stage)?;

@@ -160,8 +160,8 @@ fn overlap_of_one(dst: &Name, srcs: &[Name]) -> Option<Why>
 #[tactic(auto, using(crate::proofs::Found::places))]
 fn overlap_of_two(dst: &Name, second: &Name, srcs: &[Name]) -> Option<Why>
     requires { length srcs.now ≤ 5 }
-    ensures { result ≡ at_place Why.Overlap 2 (map (is_one_of (dst.now ∷ second.now ∷ [])) srcs.now)
-        }
+    ensures { result ≡ at_place Why.Overlap 2
+        (map (is_one_of (dst.now ∷ second.now ∷ [])) srcs.now) }
 {
     match same_of_two(dst, second, srcs) {
         Some(at) => Some(Why::Overlap(at as u32 + 2)),

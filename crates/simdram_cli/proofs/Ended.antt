@@ -58,11 +58,11 @@ not_stored name text bytes n limit (x ∷ y ∷ z ∷ front) at rest e s =
 not_refused_stored : (name : List ℕ) (step : Step) (front : List Step) (at : Step)
     (rest : List Step) → (IsStoreOf name step → ⊥) → front ++ at ∷ rest ≡ step ∷ []
     → Stores name front → ⊥
-not_refused_stored name step [] at rest no e s = s
-not_refused_stored name step (x ∷ []) at rest no e (inl s) =
-    let same : x ≡ step = cc in no (store_is name x step same s)
-not_refused_stored name step (x ∷ []) at rest no e (inr s) = s
-not_refused_stored name step (x ∷ y ∷ front) at rest no e s =
+not_refused_stored name step [] at rest other e s = s
+not_refused_stored name step (x ∷ []) at rest other e (inl s) =
+    let same : x ≡ step = cc in other (store_is name x step same s)
+not_refused_stored name step (x ∷ []) at rest other e (inr s) = s
+not_refused_stored name step (x ∷ y ∷ front) at rest other e s =
     let left : (y ∷ front) ++ at ∷ rest ≡ [] = cc in no_more (y ∷ front) at rest left
 
 abbrev first_of : RunNames → Program → List ℕ → Result (Unit {0}) Refusal → List Step

@@ -1,13 +1,13 @@
 -- No bbop of a program that implements a text is refused for its walk.
 use Rattle.std.proofs.Common.{◌≡◌, ℕ, ◌+◌, ◌<◌, ◌≤◌, Bool, true, false, cond, List, [], ◌∷◌, map}
-use Rattle.std.proofs.Common.{Option, Some, None, refl, sym, subst, length}
+use Rattle.std.proofs.Common.{◌++◌, Option, Some, None, refl, sym, subst, length}
 use Rattle.std.specs.Prelude.{◌*◌, ◌^◌, ◌==◌, nat_lt, nat_le, not, zip, is_none}
 use Rattle.std.specs.List.{AllByRecursion}
 use Rattle.std.specs.Str.{bytes_eq}
 use Rattle.std.specs.Option.{option_map}
 use Rattle.dram_model.specs.declared.geometry.Geometry.{Geometry}
 use Rattle.bit_rows.specs.declared.TheConstants.{WIDTH_MAX}
-use Rattle.uprog_code.specs.Shape.{Microprogram, need}
+use Rattle.uprog_code.specs.Shape.{Microprogram, need, results}
 use Rattle.uprog_code.specs.Machine.{Trace, Ended, Stuck, trace, HasEnded}
 use Rattle.dram_model.specs.Elements.{column_count}
 use Rattle.object_alloc.specs.Free.{free}
@@ -21,6 +21,7 @@ use Rattle.machine_model.specs.Operations.{operation_of, entry_named}
 use Rattle.uprog_code.specs.Texts.{TextOp, ImplementsAll}
 use Rattle.machine_model.specs.Refusals.{first, when, at_place, walks_badly, object_named}
 use Rattle.machine_model.specs.Refusals.{is_absent, is_misfit, bbop_conditions, bbop_refusal}
+use Rattle.machine_model.specs.Refusals.{dsts_in, srcs_in, is_one_of, repeats}
 use Rattle.machine_model.specs.Refusals.{refusal}
 use Rattle.machine_model.specs.Steps.{reply_by, table_after}
 use Rattle.machine_model.specs.Script.{replies}
@@ -58,23 +59,26 @@ ended_not : (t : Trace) → HasEnded t → NotWalk (walks_badly t)
 ended_not (Ended issues) h walk e = cc
 ended_not (Stuck at reason) h walk e = elim h [ ]
 
-bbop_not : (g : Geometry) (table : List Named) (o : Operation) (dst : List ℕ) (srcs : List (List ℕ))
+bbop_not : (g : Geometry) (table : List Named) (o : Operation) (names : List (List ℕ))
     (count n : ℕ) → HasEnded (o.trace n)
-    → NotWalk (first (bbop_conditions (limit_of g) table o dst srcs count n))
-bbop_not g table o dst srcs count n ended =
-    first_not (bbop_conditions (limit_of g) table o dst srcs count n) (
-      when_not (not (length srcs == length o.shape.sources)) why.Arity (λ walk e. cc),
+    → NotWalk (first (bbop_conditions (limit_of g) table o names count n))
+bbop_not g table o names count n ended =
+    let operands = map (object_named table) names in
+    let dsts = dsts_in o.shape names in
+    first_not (bbop_conditions (limit_of g) table o names count n) (
+      when_not (not (length names == length (results o.shape ++ o.shape.sources))) why.Arity
+          (λ walk e. cc),
       (
-        place_not why.NoObject 0 (map (is_absent table) (dst ∷ srcs)) (λ j walk e. cc),
+        place_not why.NoObject 0 (map (is_absent table) names) (λ j walk e. cc),
         (
           place_not why.Width 0 (map (is_misfit n)
-              (zip (o.shape.result ∷ o.shape.sources) (map (object_named table) (dst ∷ srcs))))
-              (λ j walk e. cc),
+              (zip (results o.shape ++ o.shape.sources) operands)) (λ j walk e. cc),
           (
-            place_not why.Size 0 (map (λ x. not (x.count == count))
-                (map (object_named table) (dst ∷ srcs))) (λ j walk e. cc),
+            place_not why.Size 0 (map (λ x. not (x.count == count)) operands) (λ j walk e. cc),
             (
-              place_not why.Overlap 1 (map (λ name. bytes_eq name dst) srcs) (λ j walk e. cc),
+              place_not why.Overlap 0
+                  (repeats [] dsts ++ map (is_one_of dsts) (srcs_in o.shape names))
+                  (λ j walk e. cc),
               (
                 ended_not (o.trace n) ended,
                 (
@@ -93,17 +97,18 @@ abbrev pub AllEnd : Operations → Type 0
 AllEnd operations = (name : List ℕ) (o : Operation) → operations name ≡ Some o → (n : ℕ) → 0 < n
     → n ≤ WIDTH_MAX → HasEnded (o.trace n)
 
-named_not : (g : Geometry) (table : List Named) (r : Option Operation) (dst : List ℕ)
-    (srcs : List (List ℕ)) (count n : ℕ) → ((o : Operation) → r ≡ Some o → HasEnded (o.trace n))
-    → NotWalk (bbop_refusal g table r dst srcs count n)
-named_not g table None dst srcs count n ends walk e = cc
-named_not g table (Some o) dst srcs count n ends walk e =
-    bbop_not g table o dst srcs count n (ends o refl) walk e
+named_not : (g : Geometry) (table : List Named) (r : Option Operation) (names : List (List ℕ))
+    (count n : ℕ) → ((o : Operation) → r ≡ Some o → HasEnded (o.trace n))
+    → NotWalk (bbop_refusal g table r names count n)
+named_not g table None names count n ends walk e = cc
+named_not g table (Some o) names count n ends walk e =
+    bbop_not g table o names count n (ends o refl) walk e
 
 refusal_not : (g : Geometry) (operations : Operations) (table : List Named) (i : Instruction)
     → AllEnd operations → IsPlain i → NotWalk (refusal g operations table i)
 refusal_not g operations table (Bbop op dst srcs count n) ends plain =
-    named_not g table (operations op) dst srcs count n (λ o e. ends op o e n plain.0 plain.1)
+    named_not g table (operations op) (dst ∷ srcs) count n
+    (λ o e. ends op o e n plain.0 plain.1)
 refusal_not g operations table (Init name count n) ends plain =
     first_not
     (when (has_name table name) why.Exists

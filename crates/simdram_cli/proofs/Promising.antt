@@ -13,7 +13,7 @@ use Rattle.op_text.specs.declared.fault.OpsFault.{OpsFault}
 use Rattle.op_text.specs.Language.{Operation}
 use Rattle.op_text.specs.Lines.{fault_in}
 use Rattle.op_print.specs.Canonical.{canonical_text}
-use Rattle.object_alloc.specs.declared.fault.ImageFault.{ImageFault}
+use Rattle.object_alloc.specs.Reading.{ImageFault}
 use Rattle.object_alloc.specs.Reading.{Found, image_in}
 use Rattle.bbop_isa.specs.Lines.{lines_of}
 use Rattle.cli_model.specs.World.{World}
@@ -115,7 +115,7 @@ lines_of_steps : (P : ℕ → Type 0) (number : ℕ) (said : List Said) → P 9 
     → OfSteps P (line_steps number said)
 lines_of_steps P number [] nine three = tt
 lines_of_steps P number (s ∷ said) nine three =
-    (nine, three, lines_of_steps P (number + 1) said nine three)
+    (nine, (three, lines_of_steps P (number + 1) said nine three))
 
 work_of : (P : ℕ → Type 0) (out : List ℕ) (program : Program) (script : List Instruction)
     (i : Image) → P 3 → P 9 → P 10 → OfSteps P (work_steps out program script i)
@@ -123,7 +123,7 @@ work_of P out program script i three nine ten =
     ((nine, ten), of_more P (line_steps 1 (said_by program script i))
     (Use ∷ Store out (image_by program script i)
     ∷ Put (total_line (tally_by program script i) (refused_by program script i)) ∷ [])
-    (lines_of_steps P 1 (said_by program script i) nine three) (nine, three, three, tt))
+    (lines_of_steps P 1 (said_by program script i) nine three) (nine, (three, (three, tt))))
 
 record Gives (P : ℕ → Type 0) : Type 0 where
   two : P 2
@@ -136,18 +136,18 @@ run_of : (P : ℕ → Type 0) (names : RunNames) (program : Program) (texts : Te
     → P 7 → P 9 → OfSteps P (run_steps names program texts)
 run_of P names program texts g six seven nine =
     loading_of P names.ops.now OPS_MAX texts.ops (ops_in texts.ops) _ g.two g.eleven g.ten
-    (ops_of P (fault_in texts.ops) g.four) (λ t. (g.ten, g.three,
+    (ops_of P (fault_in texts.ops) g.four) (λ t. (g.ten, (g.three,
     loading_of P names.script.now SCRIPT_MAX texts.script (script_in texts.script) _ g.two g.eleven
     g.ten (script_of P (built_from 1 (lines_of texts.script)) six) (λ script.
     loading_of P names.image.now IMAGE_MAX texts.image (image_of texts.image) _ g.two g.eleven
     g.ten (image_is P (image_in texts.image) seven) (λ i.
-    work_of P names.out.now program script i g.three nine g.ten))))
+    work_of P names.out.now program script i g.three nine g.ten)))))
 
 show_of : (P : ℕ → Type 0) (name text : List ℕ) (ops : List Operation) → Gives P
     → OfSteps P (show_steps name text ops)
 show_of P name text ops g =
     loading_of P name OPS_MAX text (ops_in text) _ g.two g.eleven g.ten
-    (ops_of P (fault_in text) g.four) (λ t. (g.ten, g.three, tt))
+    (ops_of P (fault_in text) g.four) (λ t. (g.ten, (g.three, tt)))
 
 either_so : (P : ℕ → Type 0) (b : Bool) → P 0 → P 8 → P (cond b 8 0)
 either_so P true zero eight = eight
@@ -215,7 +215,7 @@ gives_apart status is = record {
 -- a command keeps what it promises
 pub promises : (command : Command) (old new : World) (status : ℕ) → IsApart command
     → CommandEnds command old new status → Promises command old new status
-promises (Run names) old new status are e is =
+promises (Run names) old new status are e = λ is.
     let P : ℕ → Type 0 = λ s. s ≡ status → ⊥ in
     run_promised names old new status (apart names are) e
     (all_done (run_steps names e.program e.texts) _ e.ends.ended old new status
@@ -223,6 +223,6 @@ promises (Run names) old new status are e is =
     (apart_from_done status is 6 (λ f. cc) (λ f. cc))
     (apart_from_done status is 7 (λ f. cc) (λ f. cc))
     (apart_from_done status is 9 (λ f. cc) (λ f. cc))) e.ends.so)
-promises (Show name) old new status are e is =
+promises (Show name) old new status are e = λ is.
     show_shown name.now old new status e
     (show_of (λ s. s ≡ status → ⊥) name.now e.text e.ops (gives_apart status (inl is)))

@@ -4,7 +4,6 @@ use Rattle.std.proofs.Common.{None, refl, sym, ◌∙◌, ap, subst, arith, appe
 use Rattle.std.proofs.Common.{true, ◌<◌}
 use Rattle.std.specs.Prelude.{All, Bool, false, ◌&&◌, ◌≤◌, IfSome, flat_map, nat_le}
 use Rattle.std.proofs.lemmas.Bool.{leb-true}
-use Rattle.std.proofs.lemmas.List.Elements.{All-nil, All-cons, All-head, All-tail}
 use Rattle.std.specs.List.{range_with_len, AllByRecursion}
 use Rattle.std.proofs.Math.Nat.{suc-mul}
 use Rattle.dram_model.specs.declared.dram.Counters.{Counters}
@@ -15,18 +14,15 @@ use Rattle.dram_model.specs.View.{ChipView, Did, DidRead, with_reads}
 use Rattle.dram_model.proofs.EventLaws.{all_counted-append}
 use Rattle.dram_model.specs.declared.geometry.Geometry.{Geometry}
 use Rattle.dram_model.specs.Geometry.{is_geometry, is_between, fits_size}
-use Rattle.dram_model.specs.Elements.{column_count}
 use Rattle.object_alloc.specs.Listed.{Listing, Named}
 use Rattle.object_alloc.specs.Spelling.{IsObject, Rows}
 use Rattle.sim_machine.specs.Granted.{IsSetting}
 use Rattle.bbop_isa.specs.Forms.{Instruction}
 use Rattle.machine_model.specs.Operations.{Program, operations_in}
 use Rattle.machine_model.specs.Opened.{Image, row_writes, opened}
-use Rattle.machine_model.specs.Schedule.{Ahead}
 use Rattle.machine_model.specs.Script.{is_bbop, events_in_order, replies, sum_of}
-use Rattle.machine_model.specs.Laws.{FitsBanks}
 use Rattle.machine_model.proofs.Events.{in_order_steps, in_order_counted}
-use Rattle.machine_model.proofs.Pieces.{one_bank}
+use Rattle.machine_model.proofs.Pieces.{script_in_order}
 use Rattle.simdram_cli.specs.Run.{opened_counters, tally_by, refused_by}
 use Rattle.simdram_cli.specs.Works.{OpenedOn, WorkDone}
 use Rattle.simdram_cli.proofs.Bbops.{none_loaded, none_printed}
@@ -104,15 +100,7 @@ pub record IsPlayed (script : List Instruction) (i : Image) : Type 0 where
   pub bbops : AllByRecursion (λ instr. is_bbop instr ≡ true) script
   pub one : i.geometry.banks ≡ 1
   pub words : 0 < i.geometry.words
-  pub fits : FitsBanks i.geometry i.table
-
-all_fit : (g : Geometry) (table : List Named) → All (λ named. IsObject g named.1) table
-    → FitsBanks g table
-all_fit g [] h = All-nil (λ named. named.1.count ≤ column_count g * g.banks)
-all_fit g (named ∷ table) h =
-    All-cons (λ named. named.1.count ≤ column_count g * g.banks) named table
-    (All-head (λ named. IsObject g named.1) named table h).fits
-    (all_fit g table (All-tail (λ named. IsObject g named.1) named table h))
+  pub objects : All (λ named. IsObject i.geometry named.1) i.table
 
 pub some_words : (g : Geometry) → is_geometry g ≡ true → 0 < g.words
 some_words g e =
@@ -130,7 +118,7 @@ played script i bbops one set = record {
   bbops = bbops;
   one = one;
   words = some_words i.geometry set.geometry;
-  fits = all_fit i.geometry _ set.objects;
+  objects = set.objects;
 }
 
 -- a script that was done to its end
@@ -150,7 +138,7 @@ work_done program script i a b c refused played start did read count =
           ∙ ap (all_counted events) start.counters)
           ∙ tally_is program script i played.bbops;
       log = subst (λ (es : List Event). IfSome c.log (λ told. told ≡ row_writes i ++ es))
-          (sym (one_bank i.geometry o Ahead i.table script played.one played.words played.fits))
+          (sym (script_in_order i.geometry o i.table script played.one played.words played.objects))
           (log_is (row_writes i) a.log b.log c.log events start.log did.log read.log);
       refused_is = count;
     }

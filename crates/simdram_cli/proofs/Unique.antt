@@ -17,7 +17,7 @@ same_ops None a b s t = absurd s
 same_ops (Some bytes) a b s t = ops_of_a_text_are_one bytes a b s t
 
 same_value : {A : Type 0} (o : Option A) (a b : A) → o ≡ Some a → o ≡ Some b → a ≡ b
-same_value o a b e f = let g : ◌≡◌ {A = Option A} (Some a) (Some b) = sym e ∙ f in cc
+same_value {A = A} o a b e f = let g : ◌≡◌ {A = Option A} (Some a) (Some b) = sym e ∙ f in cc
 
 job_by : (o o' : List Operation) (s s' : List Instruction) (i i' : Image) (p p' : Program)
     → o ≡ o' → s ≡ s' → i ≡ i' → p ≡ p'

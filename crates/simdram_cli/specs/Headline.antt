@@ -21,7 +21,8 @@ use Rattle.uprog_code.specs.Texts.{TextOp, ImplementsAll, text_op}
 use Rattle.machine_model.specs.Steps.{Held, table_of}
 use Rattle.machine_model.specs.Agrees.{HoldsNumbers}
 use Rattle.machine_model.specs.Script.{replies, words_at_end, banks_at_end, is_touched_by}
-use Rattle.machine_model.specs.Script.{script_events, sum_of, sum_done, rows_loaded, rows_printed}
+use Rattle.machine_model.specs.Pieces.{script_events}
+use Rattle.machine_model.specs.Script.{sum_of, sum_done, rows_loaded, rows_printed}
 use Rattle.machine_model.specs.Script.{is_refused}
 use Rattle.machine_model.specs.Report.{report, said_in_words}
 use Rattle.machine_model.specs.Opened.{Image, row_writes, opened, rows_of, words_of}

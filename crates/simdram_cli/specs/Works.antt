@@ -5,7 +5,8 @@ use Rattle.dram_model.specs.View.{ChipView, HasBegun}
 use Rattle.bbop_isa.specs.Forms.{Instruction}
 use Rattle.machine_model.specs.Operations.{Program, operations_in}
 use Rattle.machine_model.specs.Opened.{Image, row_writes, opened}
-use Rattle.machine_model.specs.Script.{banks_at_end, script_events}
+use Rattle.machine_model.specs.Pieces.{script_events}
+use Rattle.machine_model.specs.Script.{banks_at_end}
 use Rattle.simdram_cli.specs.Run.{opened_counters, tally_by, refused_by}
 
 -- the chip has begun and taken the rows of the image

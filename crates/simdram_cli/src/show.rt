@@ -1,6 +1,7 @@
 //! The command `show`.
 
 ghost use Rattle.std.specs.Prelude.{◌≡◌};
+ghost use Rattle.dram_model.specs.View.{ChipView};
 ghost use Rattle.cli_model.specs.World.{world};
 ghost use Rattle.simdram_cli.specs.Show.{ShowGoes};
 
@@ -17,7 +18,7 @@ pub(crate) fn show<'a, F: Folder, S: Sink>(
     out: &mut S,
     alloc: Global,
 ) -> Result<u64, Stop<'a>>
-    ensures goes { (chip : _) → ShowGoes name.now (world (F.view files.old) (S.view out.old) chip)
+    ensures { (chip : ChipView) → ShowGoes name.now (world (F.view files.old) (S.view out.old) chip)
         (world (F.view files.new) (S.view out.new) chip) result }
 {
     let ops = load_ops(name, files, alloc)?;

@@ -29,8 +29,10 @@ fn write_rows<D: Dram>(
     requires room { (D.view dram.old).counters.writes < 2 ^ 62 + 2 ^ 61 }
     ensures borrow { D.borrow dram.new ≡ D.borrow dram.old }
     ensures kept { Kept (D.view dram.old) (D.view dram.new) }
-    ensures did { OnOk result (Did (stage_events g.words bank base n stage.now) (D.view dram.old) (D.view dram.new)) }
-    ensures writes { OnOk result ((D.view dram.new).counters.writes ≡ (D.view dram.old).counters.writes + n) }
+    ensures did { OnOk result (Did (stage_events g.words bank base n stage.now) (D.view dram.old)
+        (D.view dram.new)) }
+    ensures writes { OnOk result ((D.view dram.new).counters.writes
+        ≡ (D.view dram.old).counters.writes + n) }
     ensures failed { OnErr result (FailedIn bank (D.view dram.old) (D.view dram.new)) }
 {
     let words = usize::from(g.words);
@@ -65,7 +67,8 @@ pub fn write_object<D: Dram>(
     ensures kept { Kept (D.view dram.old) (D.view dram.new) }
 
     // The writes, in order, and what they leave in the columns.
-    ensures did { OnOk result (Did (write_events g base n values.now) (D.view dram.old) (D.view dram.new)) }
+    ensures did { OnOk result (Did (write_events g base n values.now) (D.view dram.old)
+        (D.view dram.new)) }
     ensures numbers { OnOk result (numbers_in g (D.view dram.new).banks base n (length values.now)
         ≡ padded_to (size_of g (length values.now)) values.now) }
     ensures failed { OnErr result (FailedBelow (segments_of g (length values.now)) (D.view dram.old)

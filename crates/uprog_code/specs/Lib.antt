@@ -10,4 +10,4 @@ pub mod Legal
 pub mod Programs
 pub mod Implements
 pub mod Texts
-pub mod Kept
+pub mod Issued

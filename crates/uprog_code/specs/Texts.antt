@@ -7,8 +7,7 @@ use Rattle.uprog_code.specs.Shape.{Shape, Microprogram}
 use Rattle.uprog_code.specs.Implements.{Implements}
 
 -- an op of a text, as far as a machine knows it: its name, its kinds and scratch, how many commands
--- it may take, and
--- the number that it makes of its sources' numbers
+-- it may take, and the number that it makes of its sources' numbers
 pub record TextOp : Type 0 where
   pub name : List ℕ
   pub shape : Shape

@@ -20,8 +20,7 @@ pub enum RowSpace {
 }
 
 /// A row of an instruction: its space, which row or value of that space, and what gives the
-/// position in that value. An
-/// index of 0 to 7 names a register, and an index of 8 is position 0.
+/// position in that value. An index of 0 to 7 names a register, and an index of 8 is position 0.
 #[derive(Clone, Copy, Debug, PartialEq, Eq)]
 pub struct RowRef {
     pub space: RowSpace,

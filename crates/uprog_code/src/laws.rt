@@ -12,8 +12,7 @@ ghost use Rattle.uprog_code.specs.Fits.{Fits};
 ghost use Rattle.uprog_code.specs.Implements.{Keeps};
 
 /// Whatever an accepted program does, under a binding that fits its commands are legal on the chip,
-/// and it changes no
-/// data row outside its result, its scratch and the spill group.
+/// and it changes no data row outside its result, its scratch and the spill group.
 pub fn legal_code_is_safe()
     ensures legal { (shape : Shape) (code : List Uop) → IsLegalCode shape code
         → (rows n : ℕ) (b : Bound) → 0 < n → Fits rows shape n b

@@ -6,8 +6,6 @@ mod code;
 mod fetch;
 mod laws;
 mod registers;
-#[cfg(test)]
-mod tests;
 mod walker;
 
 pub use binding::Binding;
@@ -16,6 +14,7 @@ pub use fetch::Fetch;
 pub use laws::legal_code_is_safe;
 pub use op_text::Kind;
 pub use registers::{Issued, Place, Turn, step};
+pub use text_lex::Name;
 pub use walker::{BadWalk, Counts, Why3, walk};
 
 /// The greatest number of instructions of a walk, with its last.

@@ -36,8 +36,7 @@ pub struct Counts {
 }
 
 /// The numbers of commands that a microprogram issues at width n, or the first instruction where it
-/// is stuck. The
-/// budget is looked at before the instruction, and its last instruction counts.
+/// is stuck. The budget is looked at before the instruction, and its last instruction counts.
 pub fn walk<F: Fetch>(code: &F, n: u8) -> Result<Counts, BadWalk>
     requires legal { IsLegalCode (F.shape code.now) (F.code code.now) }
     requires some { 0 < n }

@@ -5,7 +5,7 @@ ghost use Rattle.uprog_code.specs.Shape.{shape_of};
 ghost use Rattle.uprog_code.specs.OneStep.{row_of, issue_of};
 ghost use Rattle.uprog_code.specs.Bound.{address, bound_command, bound_of};
 ghost use Rattle.uprog_code.specs.Fits.{Fits};
-ghost use Rattle.uprog_code.specs.Kept.{is_issued, is_good};
+ghost use Rattle.uprog_code.specs.Issued.{is_issued, is_good};
 
 use dram_model::{Addr, Command, Geometry};
 use uprog_code::{Binding, Head, Issued, Place, RowSpace};

@@ -10,7 +10,7 @@ ghost use Rattle.uprog_code.specs.Legal.{IsLegalCode};
 ghost use Rattle.uprog_code.specs.OneStep.{issues_by};
 ghost use Rattle.uprog_code.specs.Bound.{bound_of};
 ghost use Rattle.uprog_code.specs.Fits.{Fits};
-ghost use Rattle.uprog_code.specs.Kept.{AreGood};
+ghost use Rattle.uprog_code.specs.Issued.{AreGood};
 ghost use Rattle.dram_model.specs.declared.dram.Counters.{Counters};
 ghost use Rattle.uprog_code.specs.declared.binding.Binding.{Binding};
 ghost use Rattle.uprog_code.specs.Count.{counts_of};

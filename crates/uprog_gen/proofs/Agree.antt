@@ -28,7 +28,7 @@ use Rattle.loop_ir.specs.Spots.{round_env, after_round, after_rounds}
 use Rattle.uprog_gen.specs.Where.{spot_row, IsSpot, Agree}
 use Rattle.uprog_gen.specs.Code.{Part, row_space, round_ref, round_command, rounds_commands}
 use Rattle.loop_ir.specs.Limits.{IsRound}
-use Rattle.uprog_gen.specs.Rounds.{IsLaid, round_rows, block_round}
+use Rattle.uprog_gen.proofs.Rounds.{IsLaid, round_rows, block_round}
 use Rattle.uprog_gen.specs.Parts.{IsPart}
 use Rattle.mig_graph.specs.Outputs.{lit_at}
 use Rattle.uprog_gen.proofs.Same.{write_other, write_at}

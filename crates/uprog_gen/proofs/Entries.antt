@@ -64,12 +64,13 @@ entry_does op meets slots free_bit free_word is ps low head entry name shape sam
       shape = ap shape_of same ∙ shape;
       code =
           lower_ceiling (op_shape op) entry.code.items (total (ceilings op.params op.body))
-              (ceiling op)
+          (ceiling op)
           (text_op op).meaning (total_ceilings op.params op.body)
           (subst (λ (s : Shape). Implements s entry.code.items (total (ceilings op.params op.body))
           (text_op op).meaning) shape
           (implements (ceilings op.params op.body) (text_op op).meaning
-          (subst (λ (s : Shape). Means s ps (ceilings op.params op.body) (text_op op).meaning) (sym shape)
+          (subst (λ (s : Shape). Means s ps (ceilings op.params op.body) (text_op op).meaning)
+          (sym shape)
           (statements_mean op meets slots free_bit free_word is ps low))));
     }
 

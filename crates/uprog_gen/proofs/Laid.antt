@@ -12,7 +12,7 @@ use Rattle.loop_ir.specs.declared.ir.Space.{Space}
 use Rattle.loop_ir.specs.declared.ir.Space.TheVariants.{Result, Source, ScratchBit, ScratchWord}
 use Rattle.loop_ir.specs.Spots.{Spot, IsOwn}
 use Rattle.uprog_gen.specs.Where.{row_in, IsIn, IsBelow}
-use Rattle.uprog_gen.specs.Rounds.{IsLaid}
+use Rattle.uprog_gen.proofs.Rounds.{IsLaid}
 
 spot_of : (s : Space) (w v i j : ℕ) → w ≡ v → i ≡ j
     → (let p : Spot = record { space = s; which = w; index = i } in p)

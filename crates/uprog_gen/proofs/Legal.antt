@@ -40,7 +40,7 @@ use Rattle.uprog_gen.specs.Code.{once_code, turn_code, enter_code, loop_code, in
 use Rattle.uprog_gen.specs.Code.{step_code, program_code}
 use Rattle.loop_ir.specs.Costs.{is_fixed, same_sub}
 use Rattle.loop_ir.specs.Limits.{IsRound}
-use Rattle.uprog_gen.specs.Rounds.{block_round}
+use Rattle.uprog_gen.proofs.Rounds.{block_round}
 use Rattle.uprog_gen.specs.Parts.{IsPart}
 use Rattle.uprog_gen.proofs.Program.{front_all, back_all}
 

@@ -5,6 +5,7 @@ pub mod Each
 pub mod Nest
 pub mod Held
 pub mod Program
+pub mod Rounds
 pub mod Same
 pub mod Laid
 pub mod Values

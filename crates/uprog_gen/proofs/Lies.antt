@@ -77,12 +77,6 @@ head_is false Bit name result b w bits words x y e f g =
 head_is false Word name result b w bits words x y e f g =
     inr (inr (refl, refl, omega arith, omega (arith, g), e))
 
-is_bit : Space → Bool
-is_bit Result = false
-is_bit Source = false
-is_bit ScratchBit = true
-is_bit ScratchWord = false
-
 head_apart : (c : Bool) (k : Kind) (name result : List ℕ) (b w bits words : ℕ) (m : Lay)
     → bytes_eq name result ≡ c → IsDefinedLay result (next Bit c b k) (next Word c w k) bits words m
     → IsShared (head c b w name k) m → name ≡ m.name

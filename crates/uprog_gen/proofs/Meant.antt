@@ -82,7 +82,8 @@ source_held n k j bits =
 
 sources_hold : (n k : ℕ) (ps : List Param) (names : List ℕ → Held) (bits : Spots)
     → Differ (names_of ps) → (name : List ℕ) (x : Slot) → found (source_lays k ps) name ≡ Some x
-    → HoldsAt n (Some x) (with_sources n names ps (numbers_in Source n (kinds_of ps) k bits) name) bits
+    → HoldsAt n (Some x)
+    (with_sources n names ps (numbers_in Source n (kinds_of ps) k bits) name) bits
 sources_hold n k [] names bits d name x e = absurd (cc)
 sources_hold n k (p ∷ ps) names bits d name x e =
     let v = spot_number Source k (shape.width p.kind n) bits in
@@ -182,8 +183,8 @@ module _ (op : Operation) (meets : OperationMeets op) (slots : Slots) (free_bit 
           e) ∙ f
 
   first_holds : (n : ℕ) (bits : Spots) → HoldsAll n slots
-      (with_sources n holds_nothing op.params (numbers_in Source n (kinds_of op.params) 0 bits)) bits
-      (names_of op.params)
+      (with_sources n holds_nothing op.params (numbers_in Source n (kinds_of op.params) 0 bits))
+      bits (names_of op.params)
   first_holds n bits name h =
       let x = source_slot name h in
       subst (λ (o : Option Slot). HoldsAt n o

@@ -130,14 +130,6 @@ pub one_more : {A : Type 0} (xs : List A) (k : ℕ) (x : A) → k < length xs
     → x ≡ slice_index_or xs k x → take (k + 1) xs ≡ take k xs ++ x ∷ []
 one_more xs k x lt e = take_more xs k x lt ∙ ap (λ y. take k xs ++ y ∷ []) (sym e)
 
--- the sources
-pub source_lays-append : (k : ℕ) (ps qs : List Param)
-    → source_lays k (ps ++ qs) ≡ source_lays k ps ++ source_lays (k + length ps) qs
-source_lays-append k [] qs = let e : k ≡ k + 0 = omega arith in ap (λ x. source_lays x qs) e
-source_lays-append k (p ∷ ps) qs = let e : k + 1 + length ps ≡ k + length (p ∷ ps) = omega arith in
-    ap (λ (l : List Lay). record { name = p.name; slot = slot Source k p.kind }
-    ∷ l) (source_lays-append (k + 1) ps qs ∙ ap (λ x. source_lays (k + 1) ps ++ source_lays x qs) e)
-
 -- what a block defines, one after another
 pub states_more : (states : List State) (k : ℕ) (s : State) → k < length states
     → s ≡ slice_index_or states k s → states_defined (take (k + 1) states)
@@ -230,18 +222,6 @@ states_no_words result (s ∷ states) = omega (
       (states_defined states),
   states_no_words result states,
 )
-
-states_length : (states : List State) → length (states_defined states) ≡ length states
-states_length states = length-map states (λ (s : State). param s.name Bit)
-
-pub states_few : (result : List ℕ) (states : List State)
-    → count_by (is_scratch result Bit) (states_defined states) ≤ length states
-states_few result states =
-    omega (
-      arith,
-      count_by-le-length (is_scratch result Bit) (states_defined states),
-      states_length states,
-    )
 
 -- what a block defines
 equation_names : (assigns : List Assign) → map (λ (e : Equation). e.name) (map equation assigns)

@@ -125,9 +125,6 @@ place_front P q (x ∷ xs) ys same z h (suc k) =
     place_front P q xs ys same z (λ s e. h s (or_right (q s x) (list_any (q s) (xs ++ ys)) e)) k
 
 module _ (b : Block) (few : length (used_subs b) ≤ 3) where
-  test : Sub → Place → Bool
-  test s p = same_sub p.sub s
-
   passes : (s : Sub) (p : Place) → p.sub ≡ s → same_sub p.sub s ≡ true
   passes s p e = ap (λ t. same_sub t s) e ∙ same_self s
 

@@ -20,7 +20,7 @@ use Rattle.loop_ir.specs.Spots.{nth_place, spot_in}
 use Rattle.uprog_gen.specs.Where.{IsSpot, IsBelow}
 use Rattle.uprog_gen.specs.Code.{Part, row_space, round_ref, round_command}
 use Rattle.loop_ir.specs.Limits.{IsRound}
-use Rattle.uprog_gen.specs.Rounds.{block_round}
+use Rattle.uprog_gen.proofs.Rounds.{block_round}
 use Rattle.uprog_gen.specs.Parts.{IsPart}
 
 below_kind : (k : Option Kind) (n i : ℕ) → IsBelow k n i → in_kind k n i ≡ true

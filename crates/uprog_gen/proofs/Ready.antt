@@ -242,7 +242,7 @@ module _ (op : Operation) (meets : OperationMeets op) (slots : Slots) (free_bit 
       let_unplaced name h =
           let m = st.body.0 in
           let l = each_among (IsNewLet (used c ++ state_names b) c.result) (let_names b) name m.lets
-              h
+          h
           in
           let more = body_defines (c.known ++ defines c.known (Visit b)) rest in
           let old : is_among (names_of c.known) name ≡ false =
@@ -256,11 +256,11 @@ module _ (op : Operation) (meets : OperationMeets op) (slots : Slots) (free_bit 
             h,
             new-right (used c) (let_names b) name
                 (each_among (IsNewOf (used c ++ let_names b) c.result Word) (word_names b) name
-                    m.words
+                m.words
                 w).new,
           )))
           (λ (w : is_among (word_names b) name ≡ false). w) (tested (is_among (word_names b) name))
-              in
+          in
           let new : is_among (names_of (defines c.known (Visit b))) name ≡ false =
           written_defined c.known (Visit b) name
           ∙ new-append (state_names b) (word_names b) name state word in
@@ -272,7 +272,7 @@ module _ (op : Operation) (meets : OperationMeets op) (slots : Slots) (free_bit 
           ∙ ap (λ l. is_among l name) (names-append c.known (defines c.known (Visit b) ++ more)
           ∙ ap (λ l. names_of c.known ++ l) (names-append (defines c.known (Visit b)) more))
           ∙ new-append (names_of c.known) (names_of (defines c.known (Visit b)) ++ names_of more)
-              name
+          name
           old (new-append (names_of (defines c.known (Visit b))) (names_of more) name new later)
           in
           slot_none op meets slots free_bit free_word is name whole

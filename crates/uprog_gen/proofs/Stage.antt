@@ -175,9 +175,6 @@ term_reads readable depth (Majority a b d) name h e =
     (term_reads readable (depth + 1) d name h.3)
     (among_split (term_names a ++ term_names b) (term_names d) name e)
 
-names_of_lets : List Equation → List (List ℕ)
-names_of_lets es = map (λ (e : Equation). e.name) es
-
 -- the names that can be read stand in the list or are known
 abbrev pub CanStand : List Param → List (List ℕ) → List ℕ → Type 0
 CanStand known inside name = (is_known (kind_among known name) ≡ true)

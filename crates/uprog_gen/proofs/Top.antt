@@ -26,7 +26,7 @@ use Rattle.uprog_gen.specs.Where.{spot_row, row_in, IsSpot, IsIn, Agree, spots_i
 use Rattle.uprog_gen.specs.Code.{Part, block_of_part, blocks, round_command, rounds_commands}
 use Rattle.uprog_gen.specs.Code.{program_code}
 use Rattle.loop_ir.specs.Limits.{IsRound}
-use Rattle.uprog_gen.specs.Rounds.{block_round}
+use Rattle.uprog_gen.proofs.Rounds.{block_round}
 use Rattle.uprog_gen.specs.Parts.{IsPart}
 use Rattle.loop_ir.specs.Costs.{turn_cost, rounds_cost}
 use Rattle.uprog_gen.specs.Does.{DoesRounds}

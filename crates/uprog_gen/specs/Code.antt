@@ -1,4 +1,5 @@
 -- The code of a loop program, each of whose bodies has its commands.
+-- Private contracts alone speak of this.
 use Rattle.std.specs.Prelude.{◌≡◌, ℕ, ◌+◌, ◌||◌, Bool, true, if◌then◌else◌, List, [], ◌∷◌, ◌++◌}
 use Rattle.std.specs.Prelude.{map, length, filter, slice_index_or}
 use Rattle.uprog_code.specs.declared.code.RowSpace.{RowSpace}

@@ -1,4 +1,5 @@
 -- What the emitters add to the code.
+-- Private contracts alone speak of this.
 use Rattle.std.specs.Prelude.{◌≡◌, List, ◌++◌, length, map}
 use Rattle.uprog_code.specs.declared.code.Uop.{Uop}
 use Rattle.loop_ir.specs.Plain.{Block, InnerOf, StepOf, inner_map, AllInner, AllParts}

@@ -26,8 +26,8 @@ abbrev pub graphed_of : MigOuts → Graphed
 graphed_of g = record { graph = g.mig; outs = g.outs.items }
 
 -- The graph of a serial block. For all values of the names, where each input has its name's value,
--- output j has the value
--- of assignment j. It has no more nodes than the block has weight, and no rule makes it smaller
+-- output j has the value of assignment j. It has no more nodes than the block has weight, and no
+-- rule makes it smaller
 pub record IsGraphOf (b : Block) (g : Graphed) : Type 0 where
   pub as_many : length g.outs ≡ length b.assigns
   pub inputs : g.graph.inputs ≤ length (block_inputs b)
@@ -49,9 +49,8 @@ AreGraphsOf (Visit b ∷ body) [] = ⊥
 AreGraphsOf (Visit b ∷ body) (g ∷ gs) = IsGraphOf b g × AreGraphsOf body gs
 
 -- The greatest number of commands at width n, where these names are known and the serial blocks
--- have these graphs: a round
--- of a block takes four for a node of its graph and three for an assignment, and each state's start
--- takes one
+-- have these graphs: a round of a block takes four for a node of its graph and three for an
+-- assignment, and each state's start takes one
 abbrev pub graphed_ceiling : List Param → ℕ → List Statement → List Graphed → ℕ
 graphed_ceiling known n [] gs = 0
 graphed_ceiling known n (Compute target p args ∷ body) gs =

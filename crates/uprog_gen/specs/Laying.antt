@@ -1,4 +1,5 @@
 -- How the names of an operation come to their places, one after another.
+-- Private contracts alone speak of this.
 use Rattle.std.specs.Prelude.{take, ◌≡◌, ℕ, ◌+◌, ◌≤◌, List, [], ◌∷◌, ◌++◌, length, map, filter, not}
 use Rattle.std.specs.Prelude.{Option, Some, None, count_by}
 use Rattle.op_text.specs.declared.tree.Kind.{Kind}

@@ -1,4 +1,5 @@
 -- Parts that the code has made.
+-- Private contracts alone speak of this.
 use Rattle.std.specs.Prelude.{Bool, ◌&&◌, length}
 use Rattle.row_alloc.specs.declared.body.BodyRef.{BodyRef}
 use Rattle.row_alloc.specs.declared.body.BodyCmd.{BodyCmd}

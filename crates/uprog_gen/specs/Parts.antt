@@ -1,4 +1,5 @@
 -- When a part has the right commands for its body.
+-- Private contracts alone speak of this.
 use Rattle.std.specs.Prelude.{◌≡◌, ◌≢◌, ℕ, ◌<◌, ◌≤◌, List, length, Some, None}
 use Rattle.mig_graph.specs.Graph.{IsGraph}
 use Rattle.mig_graph.specs.Outputs.{lit_at}

@@ -14,18 +14,9 @@ use crate::part::{Made, place_at};
 use crate::plan::{Plan, register};
 use loop_ir::{Body, Count, Place, Space, Sub};
 use mig_graph::NoMemory;
+use no_memory::keep;
 use row_alloc::{BodyCmd, BodyRef};
 use uprog_code::{RowRef, RowSpace, Uop};
-
-/// One instruction more.
-pub fn push(code: &mut Vec<Uop>, uop: Uop) -> Result<(), NoMemory>
-    ensures { OnOk result (code.new.items ≡ code.old.items ++ uop ∷ []) }
-{
-    match code.push(uop) {
-        Ok(()) => Ok(()),
-        Err(_) => Err(NoMemory),
-    }
-}
 
 fn row_space(space: Space) -> RowSpace
     ensures { result ≡ row_space space }
@@ -101,7 +92,7 @@ pub fn push_body(code: &mut Vec<Uop>, body: &Body, made: &Made) -> Result<(), No
         ++ body_uops (part_of (block_of body.now) made.now)) }
 {
     for cmd in &made.cmds {
-        push(code, uop_of(made.plan, body, *cmd))?;
+        keep(code, uop_of(made.plan, body, *cmd))?;
     }
     Ok(())
 }
@@ -111,15 +102,15 @@ fn push_init(code: &mut Vec<Uop>, sub: Sub, r: u8) -> Result<(), NoMemory>
 {
     match sub {
         Sub::Zero | Sub::Outer | Sub::OuterDown => Ok(()),
-        Sub::Top => push(code, Uop::SetT(r)),
-        Sub::Inner => push(code, Uop::SetI(r, 0)),
-        Sub::InnerDown => push(code, Uop::SetN(r)),
-        Sub::NPlusInner => push(code, Uop::SetN(r)),
-        Sub::Sum => push(code, Uop::Mov(r, 0)),
-        Sub::DownSum => push(code, Uop::Mov(r, 1)),
+        Sub::Top => keep(code, Uop::SetT(r)),
+        Sub::Inner => keep(code, Uop::SetI(r, 0)),
+        Sub::InnerDown => keep(code, Uop::SetN(r)),
+        Sub::NPlusInner => keep(code, Uop::SetN(r)),
+        Sub::Sum => keep(code, Uop::Mov(r, 0)),
+        Sub::DownSum => keep(code, Uop::Mov(r, 1)),
         Sub::DownPlusN => {
-            push(code, Uop::SetN(r))?;
-            push(code, Uop::Add(r, 1))
+            keep(code, Uop::SetN(r))?;
+            keep(code, Uop::Add(r, 1))
         }
     }
 }
@@ -128,7 +119,7 @@ fn push_before(code: &mut Vec<Uop>, sub: Sub, r: u8) -> Result<(), NoMemory>
     ensures { OnOk result (code.new.items ≡ code.old.items ++ before sub r) }
 {
     match sub {
-        Sub::InnerDown => push(code, Uop::SubI(r, 1)),
+        Sub::InnerDown => keep(code, Uop::SubI(r, 1)),
         Sub::Zero | Sub::Outer | Sub::OuterDown | Sub::Top | Sub::Inner => Ok(()),
         Sub::Sum | Sub::DownSum | Sub::DownPlusN | Sub::NPlusInner => Ok(()),
     }
@@ -138,10 +129,10 @@ fn push_after(code: &mut Vec<Uop>, sub: Sub, r: u8) -> Result<(), NoMemory>
     ensures { OnOk result (code.new.items ≡ code.old.items ++ after sub r) }
 {
     match sub {
-        Sub::Inner => push(code, Uop::AddI(r, 1)),
-        Sub::Sum => push(code, Uop::AddI(r, 1)),
-        Sub::DownSum => push(code, Uop::AddI(r, 1)),
-        Sub::NPlusInner => push(code, Uop::AddI(r, 1)),
+        Sub::Inner => keep(code, Uop::AddI(r, 1)),
+        Sub::Sum => keep(code, Uop::AddI(r, 1)),
+        Sub::DownSum => keep(code, Uop::AddI(r, 1)),
+        Sub::NPlusInner => keep(code, Uop::AddI(r, 1)),
         Sub::Zero | Sub::Top | Sub::InnerDown => Ok(()),
         Sub::Outer | Sub::OuterDown | Sub::DownPlusN => Ok(()),
     }
@@ -175,10 +166,10 @@ fn push_counter(code: &mut Vec<Uop>, count: Count) -> Result<(), NoMemory>
     ensures { OnOk result (code.new.items ≡ code.old.items ++ counter count) }
 {
     match count {
-        Count::All => push(code, Uop::SetN(2)),
+        Count::All => keep(code, Uop::SetN(2)),
         Count::Rest => {
-            push(code, Uop::Mov(2, 1))?;
-            push(code, Uop::AddI(2, 1))
+            keep(code, Uop::Mov(2, 1))?;
+            keep(code, Uop::AddI(2, 1))
         }
     }
 }
@@ -200,7 +191,7 @@ fn push_turn(code: &mut Vec<Uop>, body: &Body, made: &Made) -> Result<(), NoMemo
     push_befores(code, made.plan)?;
     push_body(code, body, made)?;
     push_afters(code, made.plan)?;
-    push(code, Uop::SubI(2, 1))
+    keep(code, Uop::SubI(2, 1))
 }
 
 /// A body once.
@@ -229,5 +220,5 @@ pub fn push_loop(
     push_enter(code, made.plan, count)?;
     let top = code.len() as u16;
     push_turn(code, body, made)?;
-    push(code, Uop::Bnez(2, top))
+    keep(code, Uop::Bnez(2, top))
 }

@@ -12,10 +12,10 @@ ghost use Rattle.uprog_gen.specs.Where.{IsSpot};
 ghost use Rattle.uprog_gen.specs.Does.{DoesRounds, Means, joined, total};
 ghost use Rattle.uprog_gen.specs.Programs.{HasParts};
 
-use crate::emit::push;
 use crate::steps::emit_steps;
 use loop_ir::LoopProgram;
 use mig_graph::NoMemory;
+use no_memory::keep;
 use std::alloc::Global;
 use uprog_code::{EntryCode, Head, Uop};
 
@@ -48,6 +48,6 @@ pub fn compile_entry(
     for statement in statements {
         emit_steps(&statement.steps, &mut code, alloc)?;
     }
-    push(&mut code, Uop::Done)?;
+    keep(&mut code, Uop::Done)?;
     Ok(EntryCode { head, code })
 }

@@ -9,6 +9,7 @@ ghost use Rattle.uprog_gen.specs.Graphs.{graphs_in};
 use crate::ops::Lowered;
 use loop_ir::{LoopProgram, Step};
 use mig_graph::{MigOuts, NoMemory};
+use no_memory::keep;
 use op_text::{Op, Stmt};
 
 fn step_graph(step: Step) -> Option<MigOuts>
@@ -28,15 +29,6 @@ fn last_graph(program: LoopProgram) -> Option<MigOuts>
     match steps.pop() {
         Some(step) => step_graph(step),
         None => None,
-    }
-}
-
-fn keep(graphs: &mut Vec<MigOuts>, graph: MigOuts) -> Result<(), NoMemory>
-    ensures { OnOk result (graphs.new.items ≡ graphs.old.items ++ graph ∷ []) }
-{
-    match graphs.push(graph) {
-        Ok(()) => Ok(()),
-        Err(_) => Err(NoMemory),
     }
 }
 

@@ -28,10 +28,8 @@ fn put(names: &mut NameMap, name: &Name, slot: Slot) -> Result<(), NoMemory>
     ensures bits { names.new.free_bit ≡ names.old.free_bit }
     ensures words { names.new.free_word ≡ names.old.free_word }
 {
-    match names.slots.insert(name.copied(), slot) {
-        Ok(_) => Ok(()),
-        Err(_) => Err(NoMemory),
-    }
+    names.slots.insert(name.copied(), slot)?;
+    Ok(())
 }
 
 /// Gives the sources their places.

@@ -15,6 +15,7 @@ use crate::layout::lay_out;
 use crate::ops::Lowered;
 use loop_ir::{LoopProgram, NameMap};
 use mig_graph::NoMemory;
+use no_memory::keep;
 use op_text::{Op, Stmt, WordOp};
 use std::alloc::Global;
 use word_lower::lower_linear;
@@ -48,15 +49,6 @@ fn lower_statement(s: &Stmt, names: &NameMap, alloc: Global) -> Result<LoopProgr
         lower_nested(s, names, alloc)
     } else {
         lower_linear(s, names, alloc)
-    }
-}
-
-fn keep(programs: &mut Vec<LoopProgram>, program: LoopProgram) -> Result<(), NoMemory>
-    ensures { OnOk result (programs.new.items ≡ programs.old.items ++ program ∷ []) }
-{
-    match programs.push(program) {
-        Ok(()) => Ok(()),
-        Err(_) => Err(NoMemory),
     }
 }
 

@@ -24,6 +24,7 @@ use crate::lowering::lower;
 use arrayvec::ArrayVec;
 use loop_ir::{LoopProgram, NameMap};
 use mig_graph::{MigOuts, NoMemory};
+use no_memory::keep;
 use op_lang::scratch_of;
 use op_rules::ops_meet;
 use op_text::{Op, Ops};
@@ -75,8 +76,8 @@ pub fn compile_lowered(op: &Op, lowered: &Lowered, alloc: Global) -> Result<Entr
     requires lowered { AreLowered (slots_of lowered.now.names) lowered.now.names.free_bit
         lowered.now.names.free_word (operation op.now).body
         (map steps_of lowered.now.programs.items) }
-    ensures compiled { IfOk result (λ entry. IsCompiled (microprogram_of entry) (operation op.now))
-        }
+    ensures compiled { IfOk result (λ entry.
+        IsCompiled (microprogram_of entry) (operation op.now)) }
     ensures few { IfOk result (λ entry. (n : ℕ) → 0 < n → n ≤ WIDTH_MAX
         → length (issues_of (trace (microprogram_of entry).shape entry.code.items n))
         ≤ rounds_cost (all_rounds n (joined (map steps_of lowered.now.programs.items)))) }
@@ -88,8 +89,8 @@ pub fn compile_lowered(op: &Op, lowered: &Lowered, alloc: Global) -> Result<Entr
 /// blocks.
 fn compile_op(op: &Op, graphs: &mut Vec<MigOuts>, alloc: Global) -> Result<EntryCode, NoMemory>
     requires meets { OperationMeets (operation op.now) }
-    ensures compiled { IfOk result (λ entry. IsCompiled (microprogram_of entry) (operation op.now))
-        }
+    ensures compiled { IfOk result (λ entry.
+        IsCompiled (microprogram_of entry) (operation op.now)) }
     ensures graphs { IfOk result (λ entry. AddsGraphs (microprogram_of entry) (operation op.now)
         (map graphed_of graphs.old.items) (map graphed_of graphs.new.items)) }
 {
@@ -97,15 +98,6 @@ fn compile_op(op: &Op, graphs: &mut Vec<MigOuts>, alloc: Global) -> Result<Entry
     let entry = compile_lowered(op, &lowered, alloc)?;
     take_graphs(op, lowered, graphs)?;
     Ok(entry)
-}
-
-fn keep(entries: &mut Vec<EntryCode>, entry: EntryCode) -> Result<(), NoMemory>
-    ensures { OnOk result (entries.new.items ≡ entries.old.items ++ entry ∷ []) }
-{
-    match entries.push(entry) {
-        Ok(()) => Ok(()),
-        Err(_) => Err(NoMemory),
-    }
 }
 
 /// The entries of operations that meet the rules, in order, and the graphs of their serial blocks.

@@ -12,6 +12,7 @@ ghost use Rattle.uprog_gen.specs.Made.{part_of};
 use crate::plan::{Plan, plan_of};
 use loop_ir::{Body, Place};
 use mig_graph::NoMemory;
+use no_memory::keep;
 use row_alloc::{BodyCmd, OutRow, plain_body};
 use std::alloc::Global;
 
@@ -45,15 +46,6 @@ fn find_place(reads: &[Place], inputs: u8, place: Place) -> Option<u8>
     None
 }
 
-fn push_out(outs: &mut Vec<OutRow>, out: OutRow) -> Result<(), NoMemory>
-    ensures { OnOk result (outs.new.items ≡ outs.old.items ++ out ∷ []) }
-{
-    match outs.push(out) {
-        Ok(()) => Ok(()),
-        Err(_) => Err(NoMemory),
-    }
-}
-
 /// The rows of the body's outputs.
 fn out_rows(body: &Body, alloc: Global) -> Result<Vec<OutRow>, NoMemory>
     requires { IsSmall (block_of body.now) }
@@ -67,7 +59,7 @@ fn out_rows(body: &Body, alloc: Global) -> Result<Vec<OutRow>, NoMemory>
         let place = place_at(&body.writes, j as u8);
         let same = find_place(&body.reads, inputs, place);
         let lit = body.graph.outs[j];
-        push_out(&mut outs, OutRow { lit, same })?;
+        keep(&mut outs, OutRow { lit, same })?;
     }
     Ok(outs)
 }

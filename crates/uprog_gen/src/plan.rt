@@ -10,6 +10,7 @@ ghost use Rattle.uprog_gen.specs.Code.{own_subs, sub_in, plan_of, register};
 
 use loop_ir::{Body, Place, Sub};
 use mig_graph::NoMemory;
+use no_memory::keep;
 use std::alloc::Global;
 
 /// The subscripts that registers 3, 4 and 5 hold; one of `Zero` holds none.
@@ -77,18 +78,9 @@ fn push_used(subs: &mut Vec<Sub>, body: &Body, s: Sub) -> Result<(), NoMemory>
         then s ∷ [] else [])) }
 {
     if is_used(body, s) {
-        push_sub(subs, s)
+        keep(subs, s)
     } else {
         Ok(())
-    }
-}
-
-fn push_sub(subs: &mut Vec<Sub>, s: Sub) -> Result<(), NoMemory>
-    ensures { OnOk result (subs.new.items ≡ subs.old.items ++ s ∷ []) }
-{
-    match subs.push(s) {
-        Ok(()) => Ok(()),
-        Err(_) => Err(NoMemory),
     }
 }
 

@@ -7,11 +7,12 @@ ghost use Rattle.loop_ir.specs.Limits.{IsSmall};
 ghost use Rattle.loop_ir.specs.Costs.{inner_cost, step_cost, code_cost};
 ghost use Rattle.uprog_gen.specs.Emits.{EmitsInner, EmitsSteps};
 
-use crate::emit::{push, push_body, push_loop, push_once};
+use crate::emit::{push_body, push_loop, push_once};
 use crate::part::make_part;
 use crate::plan::is_fixed;
 use loop_ir::{Body, Count, Inner, Step};
 use mig_graph::NoMemory;
+use no_memory::keep;
 use std::alloc::Global;
 use uprog_code::Uop;
 
@@ -59,8 +60,8 @@ fn emit_single(body: &Body, code: &mut Vec<Uop>, alloc: Global) -> Result<(), No
         push_body(code, body, &made)?;
         return Ok(());
     }
-    push(code, Uop::SetI(0, 0))?;
-    push(code, Uop::SetT(1))?;
+    keep(code, Uop::SetI(0, 0))?;
+    keep(code, Uop::SetT(1))?;
     push_once(code, body, &made)?;
     Ok(())
 }
@@ -76,13 +77,13 @@ fn emit_nest(parts: &[Inner], code: &mut Vec<Uop>, alloc: Global) -> Result<(), 
     if parts.is_empty() {
         return Ok(());
     }
-    push(code, Uop::SetI(0, 0))?;
-    push(code, Uop::SetN(1))?;
+    keep(code, Uop::SetI(0, 0))?;
+    keep(code, Uop::SetN(1))?;
     let top = code.len() as u16;
-    push(code, Uop::SubI(1, 1))?;
+    keep(code, Uop::SubI(1, 1))?;
     emit_inners(parts, code, alloc)?;
-    push(code, Uop::AddI(0, 1))?;
-    push(code, Uop::Bnez(1, top))?;
+    keep(code, Uop::AddI(0, 1))?;
+    keep(code, Uop::Bnez(1, top))?;
     Ok(())
 }
 
@@ -97,8 +98,8 @@ fn emit_step(step: &Step, code: &mut Vec<Uop>, alloc: Global) -> Result<(), NoMe
         Step::Nest(parts) => emit_nest(parts, code, alloc),
         Step::Each(body) => {
             let made = make_part(body, alloc)?;
-            push(code, Uop::SetI(0, 0))?;
-            push(code, Uop::SetT(1))?;
+            keep(code, Uop::SetI(0, 0))?;
+            keep(code, Uop::SetT(1))?;
             push_loop(code, Count::All, body, &made)?;
             Ok(())
         }

@@ -6,9 +6,9 @@ use Rattle.mig_graph.specs.declared.Lit.{Lit}
 use Rattle.mig_graph.specs.declared.Node.{Node}
 use Rattle.mig_graph.specs.Literals.{IsLower, lit_value, node_value, turn_if}
 use Rattle.mig_graph.specs.Graph.{Graph, start, values, value, node_at, size_of, GrewByOne}
-use Rattle.mig_graph.specs.Laws.{values-below, values-at}
+use Rattle.mig_graph.proofs.Laws.{values-below, values-at}
 use Rattle.mig_graph.specs.Outputs.{lit_at}
-use Rattle.mig_graph.specs.OutputLaws.{each-more, value-turned}
+use Rattle.mig_graph.proofs.OutputLaws.{each-more, value-turned}
 use Rattle.word_lower.specs.Programs.{plain}
 
 -- the constant and the inputs

@@ -245,11 +245,11 @@ op_lowers op.Max k t args free l e h = by_words op.Max t k free h Word args e on
 op_lowers op.Eq k t args free l e h = by_words op.Eq t k free h Bit args e on_eq
 op_lowers op.Gt k t args free l e h = by_words op.Gt t k free h Bit args e on_gt
 op_lowers op.Ge k t args free l e h = by_words op.Ge t k free h Bit args e on_ge
-op_lowers op.IfElse k t args free l e h = elim (filled_choice (map (λ (s : Slot). s.kind) args) k e)
-    [
-  | inl f ↦ lower_3 op.IfElse t k free h Word Word Word Bit args f.1 f.0 on_if_else
-  | inr f ↦ lower_3 op.IfElse t k free h Bit Bit Bit Bit args f.1 f.0 on_if_else_bit
-]
+op_lowers op.IfElse k t args free l e h =
+    elim (filled_choice (map (λ (s : Slot). s.kind) args) k e) [
+      | inl f ↦ lower_3 op.IfElse t k free h Word Word Word Bit args f.1 f.0 on_if_else
+      | inr f ↦ lower_3 op.IfElse t k free h Bit Bit Bit Bit args f.1 f.0 on_if_else_bit
+    ]
 op_lowers op.Bitcount k t args free l e h = cc
 op_lowers op.AndRed k t args free l e h = by_word op.AndRed t k free h Bit args e on_and_red
 op_lowers op.OrRed k t args free l e h = by_word op.OrRed t k free h Bit args e on_or_red

@@ -415,7 +415,7 @@ module _ (slots : Slots) (free_bit free_word : ℕ) (target : List ℕ) (p : Wor
             (map (λ s. value (slot_bits n rows s)) ss)) (width n t.kind) =
             ap (λ (b : Spots). slot_bits n b t) (after_is n rows) ∙ (does_op n some).gives rows in
             let one : HoldsAt n (Some t) (after_statement n held (Compute target p args) target)
-                new =
+            new =
             subst (λ (c : Bool). HoldsAt n (Some t) (if c then computed n p (map held args)
             else held target) new) (sym (same_name target target refl))
             (answer n held rows new h g) in
@@ -457,7 +457,7 @@ module _ (slots : Slots) (free_bit free_word : ℕ) (target : List ℕ) (p : Wor
                 (steps_on p t.kind t ss free_bit)
                 like n in let b = lowers.cheap n in
                 let w = ap (op_ceiling p) (named_width n slots args ss at) in
-                    omega (arith, a, b, w));
+                omega (arith, a, b, w));
           }
 
 -- a program like the one on the owners' places does the statement

@@ -11,13 +11,14 @@ ghost use Rattle.word_lower.specs.Shapes.{mark_of, marks, shape_body, line_step,
 ghost use Rattle.word_lower.specs.Shapes.{place_on, body_on, program_on, are_lower, are_below};
 
 use crate::graphs::made;
+use crate::literals::{N1, N6, OFF, ON, P1, P2, P3, P4, P5, P6, P7, P9};
 use crate::shapes::{Line, Mark, Owner, Owners, Shape};
 use crate::templates::{
-    ADDED, AGREED, BOTH, CHOSEN, COMPARED, EITHER, LESSENED, N1, N6, OFF, ON, P1, P2, P3, P4, P5,
-    P6, P7, P9, TURNED_BY, UNLIKE, WITHOUT,
+    ADDED, AGREED, BOTH, CHOSEN, COMPARED, EITHER, LESSENED, TURNED_BY, UNLIKE, WITHOUT,
 };
 use loop_ir::{Body, LoopProgram, Place, Step};
 use mig_graph::{Lit, NoMemory, Node};
+use no_memory::keep;
 use std::alloc::Global;
 
 /// The place of a mark.
@@ -37,22 +38,13 @@ fn place(mark: Mark, owners: Owners) -> Place
     }
 }
 
-fn keep_place(places: &mut Vec<Place>, p: Place) -> Result<(), NoMemory>
-    ensures { OnOk result (places.new.items ≡ places.old.items ++ p ∷ []) }
-{
-    match places.push(p) {
-        Ok(()) => Ok(()),
-        Err(_) => Err(NoMemory),
-    }
-}
-
 /// The places of marks.
 fn places(marks: &[Mark], owners: Owners, alloc: Global) -> Result<Vec<Place>, NoMemory>
     ensures { IfOk result (λ v. v.items ≡ map (λ m. place_on owners (mark_of m)) marks.now) }
 {
     let mut all = Vec::new(alloc);
     for mark in marks {
-        keep_place(&mut all, place(*mark, owners))?;
+        keep(&mut all, place(*mark, owners))?;
     }
     Ok(all)
 }
@@ -119,15 +111,6 @@ fn step(line: Line, owners: Owners, alloc: Global) -> Result<Step, NoMemory>
     }
 }
 
-fn push_step(steps: &mut Vec<Step>, s: Step) -> Result<(), NoMemory>
-    ensures { OnOk result (steps.new.items ≡ steps.old.items ++ s ∷ []) }
-{
-    match steps.push(s) {
-        Ok(()) => Ok(()),
-        Err(_) => Err(NoMemory),
-    }
-}
-
 /// One more step, where there is a line.
 fn add_step(
     steps: &mut Vec<Step>,
@@ -146,7 +129,7 @@ fn add_step(
         None => Ok(()),
         Some(l) => {
             let s = step(l, owners, alloc)?;
-            push_step(steps, s)?;
+            keep(steps, s)?;
             Ok(())
         }
     }

@@ -9,16 +9,8 @@ ghost use Rattle.mig_graph.specs.Outputs.{lit_at, AreNamed};
 ghost use Rattle.word_lower.specs.Programs.{plain};
 
 use mig_graph::{Lit, Mig, MigOuts, NoMemory, Node, complement};
+use no_memory::keep;
 use std::alloc::Global;
-
-fn keep(lits: &mut Vec<Lit>, l: Lit) -> Result<(), NoMemory>
-    ensures { OnOk result (lits.new.items ≡ lits.old.items ++ l ∷ []) }
-{
-    match lits.push(l) {
-        Ok(()) => Ok(()),
-        Err(_) => Err(NoMemory),
-    }
-}
 
 /// The literal that stands for a literal of the template.
 fn stand_in(lits: &[Lit], l: Lit) -> Lit

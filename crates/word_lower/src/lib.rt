@@ -4,9 +4,10 @@
 mod bodies;
 mod graphs;
 mod linear;
+pub mod literals;
 mod shapes;
 mod table;
 mod templates;
 
 pub use graphs::made;
-pub use linear::lower_linear;
+pub use linear::{lower_linear, slot_of};

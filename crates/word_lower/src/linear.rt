@@ -22,7 +22,7 @@ use std::alloc::Global;
 use text_lex::Name;
 
 /// The place of a name, or the first free bit of scratch.
-fn slot_of(names: &NameMap, name: &Name) -> Slot
+pub fn slot_of(names: &NameMap, name: &Name) -> Slot
     ensures { (s : Slot) → slots_of names.now name.now ≡ Some s → result ≡ s }
 {
     match names.slots.get(name).copied() {

@@ -180,7 +180,7 @@ module _ (x0 : Space) (y0 : ℕ) (x1 : Space) (y1 : ℕ) (x2 : Space) (y2 : ℕ)
         record {
           gives = answer p n x0 y0 (after_rounds n (all_rounds n (steps_for p two)) before) _ _
               g.gives (is (number_at n before a n) (number_at n before b n)
-                  ∙ two_values p n before);
+              ∙ two_values p n before);
           keeps = λ q tq bq wq. g.keeps q (elsewhere n (bits_inside p) (words_inside p) two q tq bq
               wq);
         }

@@ -49,8 +49,7 @@ abbrev pub divided : Mark → Mark → Mark → Mark → Marked
 divided w y g c = template (w ∷ y ∷ g ∷ c ∷ []) divided_nodes (turned 8 ∷ plain 6 ∷ []) (w ∷ c ∷ [])
 
 -- One step of a long division. The window is the n + 1 rows of the dividend from the outer position
--- down: the divisor is
--- compared with it, and taken from it where it is not greater
+-- down: the divisor is compared with it, and taken from it where it is not greater
 abbrev pub division : List (InnerOf Marked)
 division =
     Alone (constant up (third sub.Zero))

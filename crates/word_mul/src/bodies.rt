@@ -8,30 +8,12 @@ ghost use Rattle.word_mul.specs.Programs.{multiplied_nodes, counted_nodes, divid
 ghost use Rattle.word_lower.specs.Shapes.{are_lower, are_below};
 ghost use Rattle.word_mul.specs.Bodies.{over, IsBuilt};
 
-use crate::templates::{COUNTED, DIVIDED, MULTIPLIED, N2, N8, ON, P1, P2, P3, P4, P5, P6, P8};
+use crate::templates::{COUNTED, DIVIDED, MULTIPLIED};
 use loop_ir::{Body, Place};
 use mig_graph::{Lit, NoMemory, Node};
 use std::alloc::Global;
+use word_lower::literals::{N2, N8, ON, P1, P2, P3, P4, P5, P6, P8};
 use word_lower::made;
-
-fn keep(places: &mut Vec<Place>, p: Place) -> Result<(), NoMemory>
-    ensures { OnOk result (places.new.items ≡ places.old.items ++ p ∷ []) }
-{
-    match places.push(p) {
-        Ok(()) => Ok(()),
-        Err(_) => Err(NoMemory),
-    }
-}
-
-fn listed(places: &[Place], alloc: Global) -> Result<Vec<Place>, NoMemory>
-    ensures { IfOk result (λ v. v.items ≡ places.now) }
-{
-    let mut all = Vec::new(alloc);
-    for p in places {
-        keep(&mut all, *p)?;
-    }
-    Ok(all)
-}
 
 /// A body with such nodes over its reads, and such outputs.
 fn templated(
@@ -46,13 +28,13 @@ fn templated(
     requires outs { 0 < length outs.now }
     requires lower { are_lower (length reads.now + 1) nodes.now ≡ true }
     requires named { are_below (length reads.now + 1 + length nodes.now) outs.now ≡ true }
-    ensures { IfOk result (λ b. IsBuilt (block_of b) (over reads.now nodes.now outs.now writes.now))
-        }
+    ensures { IfOk result (λ b.
+        IsBuilt (block_of b) (over reads.now nodes.now outs.now writes.now)) }
 {
     Ok(Body {
-        reads: listed(reads, alloc)?,
+        reads: reads.to_vec(alloc)?,
         graph: made(reads.len() as u8, nodes, outs, alloc)?,
-        writes: listed(writes, alloc)?,
+        writes: writes.to_vec(alloc)?,
     })
 }
 

@@ -6,7 +6,5 @@ mod lower;
 mod programs;
 mod rows;
 mod templates;
-#[cfg(test)]
-mod tests;
 
 pub use lower::lower_nested;

@@ -16,22 +16,13 @@ ghost use Rattle.word_mul.specs.Programs.{is_nested, is_nested_statement, statem
 ghost use Rattle.word_mul.specs.Bodies.{StepsBuilt};
 
 use crate::programs::{ones, product, quotient, remainder};
-use crate::rows::{Rows, bit};
+use crate::rows::Rows;
 use loop_ir::{LoopProgram, NameMap, Slot};
 use mig_graph::NoMemory;
 use op_text::{Stmt, WordOp};
 use std::alloc::Global;
 use text_lex::Name;
-
-/// The place of a name.
-fn slot_of(names: &NameMap, name: &Name) -> Slot
-    ensures { (s : Slot) → slots_of names.now name.now ≡ Some s → result ≡ s }
-{
-    match names.slots.get(name).copied() {
-        Some(slot) => slot,
-        None => bit(names.free_bit),
-    }
-}
+use word_lower::slot_of;
 
 /// The place of an argument.
 fn argument(names: &NameMap, args: &[Name], k: usize) -> Slot

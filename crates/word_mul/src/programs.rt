@@ -10,36 +10,23 @@ ghost use Rattle.word_mul.specs.Bodies.{PartsBuilt, StepsBuilt};
 
 use crate::bodies::{compared, constant, counted, divided, moved, multiplied, raised};
 use crate::rows::{Rows, at, bit, words};
-use crate::templates::{OFF, ON};
 use loop_ir::{Count, Inner, LoopProgram, Step, Sub};
 use mig_graph::NoMemory;
+use no_memory::keep;
 use std::alloc::Global;
+use word_lower::literals::{OFF, ON};
 
 fn nest<const N: usize>(parts: [Inner; N], alloc: Global) -> Result<Vec<Inner>, NoMemory>
     ensures { IfOk result (λ v. v.items ≡ parts.entry) }
 {
-    match Vec::from_array(alloc, parts) {
-        Ok(all) => Ok(all),
-        Err(_) => Err(NoMemory),
-    }
+    Ok(Vec::from_array(alloc, parts)?)
 }
 
 fn whole<const N: usize>(steps: [Step; N], alloc: Global) -> Result<LoopProgram, NoMemory>
     ensures { IfOk result (λ p. p.steps.items ≡ steps.entry) }
 {
-    match Vec::from_array(alloc, steps) {
-        Ok(steps) => Ok(LoopProgram { steps }),
-        Err(_) => Err(NoMemory),
-    }
-}
-
-fn keep(parts: &mut Vec<Inner>, part: Inner) -> Result<(), NoMemory>
-    ensures { OnOk result (parts.new.items ≡ parts.old.items ++ part ∷ []) }
-{
-    match parts.push(part) {
-        Ok(()) => Ok(()),
-        Err(_) => Err(NoMemory),
-    }
+    let steps = Vec::from_array(alloc, steps)?;
+    Ok(LoopProgram { steps })
 }
 
 /// mul: for each bit of the second argument, the first is added from that position on.

@@ -25,7 +25,7 @@ loop-a-preserved c =
     let w = weights-more xs a in
     let p = parts-more xs a in
     let k = c.in_ok-k.k in
-    let out = c.in_ok-keep_out.ensures in
+    let out = c.in_ok-keep.ensures in
     let e : take (i + 1) all ≡ xs ++ a ∷ [] =
     take-one-more all a i c.loop-a-test.true c.a-item.is in
     let grows = c.in_ok-k.ensures.grows in

@@ -14,7 +14,7 @@ returns-clause-form c =
     let made = ap (map step_of) c.in_ok-keep.ensures
     ∙ map-append step_of c.in_ok-steps.steps.items (Each body ∷ [])
     ∙ ap (λ xs. xs ++ Along (block_of body) ∷ []) c.in_ok-steps.ensures in
-    is-program (block_of body) (map step_of c.keep.new.steps.items)
+    is-program (block_of body) (map step_of c.keep.new.items.items)
     (c.in_ok-body.ensures c.args.states.now) c.requires.meets.some made
 
 pub returns-clause-lowered : goal.returns-clause-lowered

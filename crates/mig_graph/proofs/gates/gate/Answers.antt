@@ -1,6 +1,6 @@
 use Rattle.std.proofs.Common.{◌∙◌}
 use Rattle.std.proofs.lemmas.Result.{IfOk-weaker}
-use Rattle.mig_graph.specs.Laws.{value-zero, value-input}
+use Rattle.mig_graph.proofs.Laws.{value-zero, value-input}
 use Rattle.mig_graph.specs.Outputs.{lit_at}
 use Rattle.mig_graph.proofs.GateValues.{and-gate, or-gate, one-majority}
 use Rattle.mig_graph.proofs.gates.gate.Goals as goal

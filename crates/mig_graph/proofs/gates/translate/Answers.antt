@@ -5,9 +5,9 @@ use Rattle.mig_graph.specs.declared.Lit.{Lit}
 use Rattle.mig_graph.specs.Graph.{Graph, value, size_of}
 use Rattle.aoi_graph.specs.declared.AoiNode.{AoiNode}
 use Rattle.mig_graph.specs.Outputs.{lit_at}
-use Rattle.mig_graph.specs.OutputLaws.{each-more}
+use Rattle.mig_graph.proofs.OutputLaws.{each-more}
 use Rattle.aoi_graph.specs.Gates.{gate_value, aoi_values, aoi_at, AreLower}
-use Rattle.aoi_graph.specs.GateLaws.{aoi-at-node, gate-below}
+use Rattle.aoi_graph.proofs.GateLaws.{aoi-at-node, gate-below}
 use Rattle.mig_graph.proofs.gates.translate.Goals as goal
 
 -- the values of i literals and of one more

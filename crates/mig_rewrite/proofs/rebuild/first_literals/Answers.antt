@@ -1,5 +1,5 @@
 use Rattle.std.proofs.Common.{◌≡◌, ◌∷◌, [], length-append, arith, refl}
-use Rattle.mig_graph.specs.OutputLaws.{each-more}
+use Rattle.mig_graph.proofs.OutputLaws.{each-more}
 use Rattle.mig_rewrite.specs.Merge.{straight}
 use Rattle.mig_rewrite.proofs.rebuild.first_literals.Goals as goal
 

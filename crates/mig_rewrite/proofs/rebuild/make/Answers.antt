@@ -5,9 +5,9 @@ use Rattle.bit_rows.specs.Bits.{majority, flip_if}
 use Rattle.mig_graph.specs.declared.Lit.{Lit}
 use Rattle.mig_graph.specs.Literals.{turn_if}
 use Rattle.mig_graph.specs.Graph.{Graph, value, values, size_of, GrewByOne}
-use Rattle.mig_graph.specs.Laws.{value-zero}
+use Rattle.mig_graph.proofs.Laws.{value-zero}
 use Rattle.mig_graph.specs.Outputs.{lit_at, AreNamed}
-use Rattle.mig_graph.specs.OutputLaws.{value-turned, turned-node}
+use Rattle.mig_graph.proofs.OutputLaws.{value-turned, turned-node}
 use Rattle.mig_rewrite.specs.declared.rebuild.Part.TheVariants.{Two}
 use Rattle.mig_rewrite.specs.Plan.{part_value}
 use Rattle.mig_rewrite.proofs.rebuild.make.Goals as goal

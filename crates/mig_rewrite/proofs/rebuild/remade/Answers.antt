@@ -4,9 +4,9 @@ use Rattle.mig_graph.specs.declared.Lit.{Lit}
 use Rattle.mig_graph.specs.Literals.{turn_if}
 use Rattle.bit_rows.specs.Bits.{flip_if}
 use Rattle.mig_graph.specs.Graph.{Graph, size_of, value, values, start}
-use Rattle.mig_graph.specs.Laws.{values-below}
+use Rattle.mig_graph.proofs.Laws.{values-below}
 use Rattle.mig_graph.specs.Outputs.{lit_at}
-use Rattle.mig_graph.specs.OutputLaws.{each-more, value-turned}
+use Rattle.mig_graph.proofs.OutputLaws.{each-more, value-turned}
 use Rattle.mig_rewrite.specs.Plan.{part_of}
 use Rattle.mig_rewrite.proofs.Steps.{part-lower, values-more, count-more, merged-spared}
 use Rattle.mig_rewrite.proofs.Steps.{spared-none}
@@ -103,7 +103,7 @@ loop-k-preserved c =
     let n = c.inputs-inputs.result + 1 + length c.loop-k.mig.nodes in
     let more = count-more g outs marks c.args.merge k n c.requires.merge c.in_ok-marks.ensures
     so.count in
-    let now : length c.keep.new.lits.items ≡ k + 1 =
+    let now : length c.keep.new.items.items ≡ k + 1 =
     rw e (omega (arith, length-append lits (l ∷ []))) in
     let count = rw part at c.in_ok-l.ensures.count in
     let new = λ (bits : ℕ → Bool). rw (part, c.deref-in-loop-k.ensures.value) at
@@ -111,10 +111,10 @@ loop-k-preserved c =
     record {
       inputs = c.make.ensures.inputs ∙ so.inputs;
       long = now;
-      named = λ j b. each-more (λ k x. x.node < size_of next) lits c.keep.new.lits.items l k long e
+      named = λ j b. each-more (λ k x. x.node < size_of next) lits c.keep.new.items.items l k long e
           (λ j b. grown h next (lit_at lits j).node c.make.ensures.inputs c.make.ensures.least
           (so.named j (omega arith))) c.in_ok-l.ensures.named j (omega arith);
-      values = λ bits. values-more g outs marks c.args.merge h next lits c.keep.new.lits.items l k
+      values = λ bits. values-more g outs marks c.args.merge h next lits c.keep.new.items.items l k
           bits c.inputs-inputs.ensures.graph c.requires.merge c.in_ok-marks.ensures (omega arith)
           (omega arith) long e
           (λ j b. so.named j (omega arith)) (so.values bits) (c.in_ok-l.ensures.kept bits)

@@ -3,7 +3,7 @@ use Rattle.row_alloc.proofs.plain.direct.Goals as goal
 
 pub returns-clause-does : goal.returns-clause-does
 returns-clause-does c = rw (
-  c.in_ok-push.ensures,
+  c.in_ok-keep.ensures,
   c.new-cmds.ensures.items,
   c.source-from.ensures,
   c.inputs.ensures.inputs,

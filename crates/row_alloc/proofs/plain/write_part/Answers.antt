@@ -24,9 +24,9 @@ loop-j-init c = record {
 
 pub loop-j-preserved : goal.loop-j-preserved
 loop-j-preserved c = record {
-  writes = next c.args.m.now c.args.outs.now c.loop-j.j _ c.loop-j.cmds.items _ c.in_ok-push.ensures
+  writes = next c.args.m.now c.args.outs.now c.loop-j.j _ c.loop-j.cmds.items _ c.in_ok-keep.ensures
       (omega arith) c.loop-j.invariant.writes c.requires.fit (omega arith);
-  count = rw c.in_ok-push.ensures (grind (arith, common_steps, c.loop-j.invariant.count));
+  count = rw c.in_ok-keep.ensures (grind (arith, common_steps, c.loop-j.invariant.count));
 }
 
 pub returns-clause-does : goal.returns-clause-does

@@ -1,4 +1,4 @@
-use Rattle.std.proofs.Common.{◌≡◌, map}
+use Rattle.std.proofs.Common.{map}
 use Rattle.std.specs.Str.{bytes_eq}
 use Rattle.uprog_code.specs.Shape.{microprogram_of}
 use Rattle.uprog_code.specs.Legal.{IsLegalCode}

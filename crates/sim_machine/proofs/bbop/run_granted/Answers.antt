@@ -1,8 +1,6 @@
-use Rattle.std.proofs.Common.{◌≡◌, ap, sym, ◌∙◌, subst, map, List}
+use Rattle.std.proofs.Common.{ap}
 use Rattle.uprog_code.specs.Shape.{microprogram_of}
 use Rattle.machine_model.specs.Operations.{operation_of}
-use Rattle.machine_model.specs.Refusals.{first, bbop_conditions}
-use Rattle.sim_machine.specs.Did.{Did}
 use Rattle.sim_machine.proofs.Granting.{few_sources, object_fits, bound_is, binding_is_fit}
 use Rattle.sim_machine.proofs.Granting.{events_are}
 use Rattle.sim_machine.proofs.bbop.run_granted.Goals as goal
@@ -37,7 +35,7 @@ returns-clause-did g c =
     c.bind-binding.result c.args.grant c.requires.set.limit c.bind-binding.ensures.results
     c.bind-binding.ensures.sources c.bind-binding.ensures.scratch c.requires.granted in
     let events = events_are s.geometry s.table.now.pairs m b.dst.now b.srcs.now b.n
-    (g.D.Dram.geometry c.args.dram.now).rows c.bind-binding.result
+    (g.D.Dram.view c.args.dram.now).geometry.rows c.bind-binding.result
     (ap (λ x. x.rows) c.requires.geometry) c.bind-binding.ensures.width bound in
     rw (← events, ← c.object_named.ensures, ← c.segments-banks.ensures.value)
     c.in_ok-run_banks.ensures.did

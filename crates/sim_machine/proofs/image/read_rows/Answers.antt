@@ -1,33 +1,30 @@
-use Rattle.std.proofs.Common.{◌≡◌, ◌+◌, ◌*◌, ◌≤◌, ◌++◌, [], arith, rules, length, vec_len, ap, sym}
-use Rattle.std.proofs.Common.{◌∙◌, subst}
+use Rattle.std.proofs.Common.{◌+◌, ◌*◌, arith, vec_len, ap, ◌∙◌, subst}
 use Rattle.std.proofs.lemmas.Grind.{common_steps}
-use Rattle.dram_model.proofs.EventLaws.{Grew-more}
-use Rattle.sim_machine.specs.Image.{with_reads, bank_bytes}
+use Rattle.dram_model.specs.View.{DidRead}
+use Rattle.dram_model.proofs.EventLaws.{Kept-more, DidRead-more}
+use Rattle.sim_machine.specs.Image.{bank_bytes}
 use Rattle.sim_machine.proofs.Rows.{next_bytes, more_reads, one_times_more}
-use Rattle.sim_machine.proofs.Counting.{reads_more}
 use Rattle.sim_machine.proofs.image.read_rows.Goals as goal
 
 pub loop-bank-preserved : goal.loop-bank-preserved
 loop-bank-preserved g c =
-    let banks = g.D.Dram.banks c.args.dram.now in
-    let here = rw c.loop-bank.invariant.banks at c.in_ok-read_bank.ensures.file in
+    let first = g.D.Dram.view c.args.dram.now in
+    let now = g.D.Dram.view c.loop-bank.dram in
+    let new = g.D.Dram.view c.read_bank.new.dram in
+    let kept = c.loop-bank.invariant in
+    let here = rw kept.did.banks at c.in_ok-read_bank.ensures.file in
     record {
-      begun = search rules;
       borrow = grind (arith, common_steps);
-      geometry = grind (arith, common_steps);
+      kept = Kept-more first now new kept.kept c.in_ok-read_bank.ensures.kept;
       stage = grind (arith, common_steps);
-      faults = grind (arith, common_steps);
-      banks = grind (arith, common_steps);
-      counters = c.in_ok-read_bank.ensures.counters
-          ∙ ap (with_reads c.args.g.rows) c.loop-bank.invariant.counters
-          ∙ reads_more (c.loop-bank.bank * c.args.g.rows) c.args.g.rows ((c.loop-bank.bank + 1)
-          * c.args.g.rows) (g.D.Dram.counters c.args.dram.now)
-          (one_times_more c.loop-bank.bank c.args.g.rows);
-      log = Grew-more _ _ _ [] [] c.loop-bank.invariant.log c.in_ok-read_bank.ensures.log;
-      file = next_bytes (λ bank. bank_bytes c.args.g banks bank c.args.g.rows) c.loop-bank.bank _ _
-          _ c.loop-bank.invariant.file here;
+      did = subst (λ n. DidRead n first new)
+          (one_times_more c.loop-bank.bank c.args.g.rows)
+          (DidRead-more (c.loop-bank.bank * c.args.g.rows) c.args.g.rows first now new kept.did
+          c.in_ok-read_bank.ensures.did);
+      file = next_bytes (λ bank. bank_bytes c.args.g first.banks bank c.args.g.rows)
+          c.loop-bank.bank _ _ _ kept.file here;
       len = c.in_ok-read_bank.ensures.len ∙ ap (λ x. x + c.args.g.rows * (8 * c.args.g.words))
-          c.loop-bank.invariant.len ∙ more_reads c.loop-bank.bank (c.args.g.rows
-          * (8 * c.args.g.words)) (vec_len c.args.file.now);
+          kept.len ∙ more_reads c.loop-bank.bank (c.args.g.rows * (8 * c.args.g.words))
+          (vec_len c.args.file.now);
       capacity = grind (arith, common_steps);
     }

@@ -1,5 +1,6 @@
-use Rattle.std.proofs.Common.{rules, ◌≡◌, ◌+◌, ◌*◌, ◌<◌, ◌≤◌, arith, length}
+use Rattle.std.proofs.Common.{arith}
 use Rattle.std.proofs.lemmas.Grind.{common_steps}
+use Rattle.dram_model.proofs.EventLaws.{Kept-more}
 use Rattle.dram_model.specs.Chip.Event.{Write}
 use Rattle.object_alloc.specs.Spelling.{rows_in}
 use Rattle.sim_machine.proofs.Rows.{next_row}
@@ -9,11 +10,9 @@ pub loop-row-preserved : goal.loop-row-preserved
 loop-row-preserved g c =
     let here = rw c.row_bytes.ensures.value at c.in_ok-write_row.ensures.did in
     record {
-      begun = search rules;
       borrow = grind (arith, common_steps);
-      geometry = grind (arith, common_steps);
+      kept = Kept-more _ _ _ c.loop-row.invariant.kept c.in_ok-write_row.ensures.kept;
       stage = grind (arith, common_steps);
-      faults = grind (arith, common_steps);
       writes = grind (arith, common_steps);
       did = next_row (λ row. Write c.args.bank row
           (rows_in c.args.g c.args.rows.now c.args.bank row)) c.loop-row.row _ _ _

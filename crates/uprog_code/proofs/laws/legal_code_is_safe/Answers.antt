@@ -1,4 +1,4 @@
-use Rattle.uprog_code.specs.Kept.{legal_commands, legal_keeps}
+use Rattle.uprog_code.proofs.Kept.{legal_commands, legal_keeps}
 use Rattle.uprog_code.proofs.laws.legal_code_is_safe.Goals as goal
 
 pub returns-clause-legal : goal.returns-clause-legal

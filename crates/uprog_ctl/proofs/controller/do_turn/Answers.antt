@@ -4,7 +4,8 @@ use Rattle.dram_model.specs.Column.{is_legal}
 use Rattle.uprog_code.specs.Shape.{shape_of}
 use Rattle.uprog_code.specs.Bound.{bound_of, bound_command}
 use Rattle.uprog_code.specs.OneStep.{issue_of, issues_by}
-use Rattle.uprog_code.specs.Kept.{command_legal, AreGood}
+use Rattle.uprog_code.specs.Issued.{AreGood}
+use Rattle.uprog_code.proofs.Kept.{command_legal}
 use Rattle.uprog_code.specs.declared.registers.Turn.{Turn}
 use Rattle.uprog_ctl.proofs.controller.do_turn.Goals as goal
 

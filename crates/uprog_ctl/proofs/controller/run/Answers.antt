@@ -10,7 +10,8 @@ use Rattle.uprog_code.specs.declared.registers.Turn.TheVariants.{Over}
 use Rattle.uprog_code.specs.Shape.{Shape, shape_of}
 use Rattle.uprog_code.specs.Machine.{Next, act, issue, trace, start, HasEnded, issues_of, onto}
 use Rattle.uprog_code.specs.OneStep.{turn_trace, issues_by}
-use Rattle.uprog_code.specs.Kept.{AreGood, turn_good}
+use Rattle.uprog_code.specs.Issued.{AreGood}
+use Rattle.uprog_code.proofs.Kept.{turn_good}
 use Rattle.uprog_code.proofs.Steps.{legal_operands, trace_is, no_more, start_registers, goes_on}
 use Rattle.uprog_code.proofs.Steps.{not_last, place_in, some_first}
 use Rattle.uprog_ctl.specs.Events.{issue_events}

@@ -38,41 +38,42 @@ loop-statement-preserved c =
 pub returns-clause-legal : goal.returns-clause-legal
 returns-clause-legal c =
     (is_entry (shape_of c.args.head) (map steps_of c.args.statements.now)
-    c.loop-statement.code.items c.push.new.code.items c.requires.can
+    c.loop-statement.code.items c.keep.new.items.items c.requires.can
     (let e : length (map steps_of c.args.statements.now)
     ≤ 16 = omega (arith, length-map c.args.statements.now steps_of, c.requires.few) in
     e) (all_statements c.args.statements.now c.loop-statement.statement-index
     c.loop-statement.code.items (omega arith) c.loop-statement.invariant)
-    c.in_ok-push.ensures).legal
+    c.in_ok-keep.ensures).legal
 
 pub returns-clause-parts : goal.returns-clause-parts
 returns-clause-parts c =
-    subst (λ k. HasParts k c.push.new.code.items) (length-map c.args.statements.now steps_of)
+    subst (λ k. HasParts k c.keep.new.items.items) (length-map c.args.statements.now steps_of)
     (is_entry (shape_of c.args.head) (map steps_of c.args.statements.now)
-    c.loop-statement.code.items c.push.new.code.items c.requires.can
+    c.loop-statement.code.items c.keep.new.items.items c.requires.can
     (let e : length (map steps_of c.args.statements.now)
     ≤ 16 = omega (arith, length-map c.args.statements.now steps_of, c.requires.few) in
     e) (all_statements c.args.statements.now c.loop-statement.statement-index
     c.loop-statement.code.items (omega arith) c.loop-statement.invariant)
-    c.in_ok-push.ensures).parts
+    c.in_ok-keep.ensures).parts
 
 pub returns-clause-does : goal.returns-clause-does
 returns-clause-does c =
     (is_entry (shape_of c.args.head) (map steps_of c.args.statements.now)
-    c.loop-statement.code.items c.push.new.code.items c.requires.can
+    c.loop-statement.code.items c.keep.new.items.items c.requires.can
     (let e : length (map steps_of c.args.statements.now)
     ≤ 16 = omega (arith, length-map c.args.statements.now steps_of, c.requires.few) in
     e) (all_statements c.args.statements.now c.loop-statement.statement-index
     c.loop-statement.code.items (omega arith) c.loop-statement.invariant)
-    c.in_ok-push.ensures).does
+    c.in_ok-keep.ensures).does
 
 pub returns-clause-implements : goal.returns-clause-implements
 returns-clause-implements c =
-    does_implement (shape_of c.args.head) (map steps_of c.args.statements.now) c.push.new.code.items
+    does_implement (shape_of c.args.head) (map steps_of c.args.statements.now)
+    c.keep.new.items.items
     (is_entry (shape_of c.args.head) (map steps_of c.args.statements.now)
-    c.loop-statement.code.items c.push.new.code.items c.requires.can
+    c.loop-statement.code.items c.keep.new.items.items c.requires.can
     (let e : length (map steps_of c.args.statements.now)
     ≤ 16 = omega (arith, length-map c.args.statements.now steps_of, c.requires.few) in
     e) (all_statements c.args.statements.now c.loop-statement.statement-index
     c.loop-statement.code.items (omega arith) c.loop-statement.invariant)
-    c.in_ok-push.ensures).does
+    c.in_ok-keep.ensures).does

@@ -28,9 +28,9 @@ loop-s-preserved c =
     let items = c.args.op.now.body.items in
     let p = c.in_ok-program.program in (
       lowered_more (slots_of m) m.free_bit m.free_word items c.loop-s.s-index c.s-item.result
-          c.loop-s.programs.items c.keep.new.programs.items p lt is c.in_ok-keep.ensures
+          c.loop-s.programs.items c.keep.new.items.items p lt is c.in_ok-keep.ensures
           c.loop-s.invariant.0 c.in_ok-program.ensures.lowered,
       forms_more (slots_of m) items c.loop-s.s-index c.s-item.result c.loop-s.programs.items
-          c.keep.new.programs.items p lt is c.in_ok-keep.ensures c.loop-s.invariant.1
+          c.keep.new.items.items p lt is c.in_ok-keep.ensures c.loop-s.invariant.1
           c.in_ok-program.ensures.form,
     )

@@ -20,7 +20,7 @@ loop-op-preserved c =
     let items = c.args.ops.now in
     let entry = c.in_ok-entry.entry in
     let old = c.loop-op.entries.items in
-    let new = c.keep.new.entries.items in
+    let new = c.keep.new.items.items in
     let g = c.in_ok-entry.ensures.graphs in (
       compiled_more items c.loop-op.op-index c.op-item.result old new entry c.loop-op-test.true
           c.op-item.is c.in_ok-keep.ensures c.loop-op.invariant.0 c.in_ok-entry.ensures.compiled,

@@ -17,7 +17,7 @@ returns c =
     let p = part_of (block_of c.args.body.now) c.in_ok-made.made in
     single_emits p c.args.code.now.items c.push_once.new.code.items c.in_ok-made.ensures
     (sym c.is_fixed.ensures ∙ c.if-is_fixed.false)
-    (outside_then c.args.code.now.items c.push-2.new.code.items c.push_once.new.code.items
-    (once_code p) (two_pushes c.args.code.now.items c.push.new.code.items
-    c.push-2.new.code.items (SetI 0 0) (SetT 1) c.in_ok-push.ensures c.in_ok-push-2.ensures)
+    (outside_then c.args.code.now.items c.keep-2.new.items.items c.push_once.new.code.items
+    (once_code p) (two_pushes c.args.code.now.items c.keep.new.items.items
+    c.keep-2.new.items.items (SetI 0 0) (SetT 1) c.in_ok-keep.ensures c.in_ok-keep-2.ensures)
     c.in_ok-push_once.ensures)

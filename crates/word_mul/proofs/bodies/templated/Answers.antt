@@ -12,5 +12,6 @@ pub returns : goal.returns
 returns c =
     let m = c.in_ok-made.ensures in
     built c.args.reads.now c.args.writes.now _ _ c.args.nodes.now c.args.outs.now _ _
-    c.in_ok-listed.ensures c.in_ok-listed-2.ensures m.inputs m.long m.value m.count m.bare
-    c.requires.outs m.graph m.named
+    (c.in_ok-to_vec.ensures.items_if_clones_equal (λ x y e. e))
+    (c.in_ok-to_vec-2.ensures.items_if_clones_equal (λ x y e. e)) m.inputs m.long m.value m.count
+    m.bare c.requires.outs m.graph m.named

@@ -18,10 +18,10 @@ returns c =
     let zeros = rw (c.at-3.ensures, c.words-2.ensures) at c.in_ok-zeros.ensures in
     let digit = rw (c.at-4.ensures, c.at-5.ensures, c.bit.ensures) at c.in_ok-digit.ensures in
     let parts = more_built c.in_ok-parts.parts.items (inner.Once c.in_ok-digit.digit)
-    c.keep.new.parts.items _ _ c.in_ok-keep.ensures c.in_ok-parts.ensures
+    c.keep.new.items.items _ _ c.in_ok-keep.ensures c.in_ok-parts.ensures
     (once_built _ _ _ _ digit none_built) in
     let steps : List Step = step.Each c.in_ok-dividend.dividend ∷ step.Each c.in_ok-zeros.zeros
-    ∷ step.Nest c.keep.new.parts ∷ [] in
+    ∷ step.Nest c.keep.new.items ∷ [] in
     IfOk-weaker c.whole.result
     (λ (p : LoopProgram). p.steps.items ≡ steps)
     (λ (p : LoopProgram). StepsBuilt (steps_of p) (steps_for o.Div c.args.m))

@@ -1,16 +1,11 @@
-use Rattle.std.proofs.Common.{◌≡◌}
-use Rattle.std.specs.Prelude.{Result, Ok, Err, OnOk}
+use Rattle.std.proofs.lemmas.Result.{on_ok_weaker}
 use Rattle.machine_model.specs.Opened.{rows_of}
 use Rattle.sim_machine.proofs.Rows.{image_is}
 use Rattle.sim_machine.proofs.machine.Machine.image.Goals as goal
 
-where_ok : {T E P Q : Type 0} (r : Result T E) → OnOk r P → (P → Q) → OnOk r Q
-where_ok (Ok x) p f = f p
-where_ok (Err e) p f = tt
-
 pub returns-clause-file : goal.returns-clause-file
 returns-clause-file g c =
-    where_ok c.read_rows.result c.read_rows.ensures.file
+    on_ok_weaker c.read_rows.result
     (λ read. image_is c.args.self.now.geometry c.args.self.now.table.pairs
-    (rows_of (g.D.Dram.banks c.args.dram.now)) _ _ _ c.clear.ensures.items
-    c.put_head.ensures.items read)
+    (rows_of (g.D.Dram.view c.args.dram.now).banks) _ _ _ c.clear.ensures.items
+    c.put_head.ensures.items read) c.read_rows.ensures.file
