@@ -6,7 +6,7 @@ use arrayvec::ArrayVec;
 use std::alloc::{AllocError, Global};
 use std::test::Fail;
 use text_lex::Name;
-use uprog_bin::{ProgKind, ProgView, encode, migrate};
+use uprog_bin::{ProgFault, ProgKind, ProgView, encode, migrate};
 use uprog_code::{EntryCode, Fetch, Head, Kind, Program, RowRef, RowSpace, Uop};
 
 /// A version 1 file of one entry `xor`: two words into a word.
@@ -52,7 +52,7 @@ fn opened(bytes: &[u8]) -> Result<(u16, u16), (u32, ProgKind)> {
     }
     match ProgView::open(bytes) {
         Ok(view) => Ok((view.version(), view.entries())),
-        Err(fault) => Err((fault.at, fault.kind)),
+        Err(ProgFault { at, kind }) => Err((at, kind)),
     }
 }
 
