@@ -81,9 +81,12 @@ old_read names text result f old mid last sink after chip loaded g none = record
   text = text;
   is_text = loaded_text names.old.now PROG_MAX text (world old sink chip) (world mid sink chip)
       (loaded sink chip);
-  goes = inr (f, loading_goes names.old.now PROG_MAX text (prog_in text) _ f.programs
-      (end_of result) (world old sink chip) (world mid sink chip) (world last after chip)
-      (prog_is text f) (loaded sink chip) g);
+  goes = inr (
+    f,
+    loading_goes names.old.now PROG_MAX text (prog_in text) _ f.programs
+        (end_of result) (world old sink chip) (world mid sink chip) (world last after chip)
+        (prog_is text f) (loaded sink chip) g,
+  );
   nothing = none;
 }
 

@@ -161,11 +161,13 @@ lines_of_steps P number (s ∷ said) nine three =
 
 work_of : (P : ℕ → Type 0) (out : List ℕ) (program : Program) (script : List Instruction)
     (i : Image) → P 3 → P 9 → P 10 → OfSteps P (work_steps out program script i)
-work_of P out program script i three nine ten =
-    ((nine, ten), of_more P (line_steps 1 (said_by program script i))
-    (Use ∷ Store out (image_by program script i)
-    ∷ Put (total_line (tally_by program script i) (refused_by program script i)) ∷ [])
-    (lines_of_steps P 1 (said_by program script i) nine three) (nine, (three, (three, tt))))
+work_of P out program script i three nine ten = (
+  (nine, ten),
+  of_more P (line_steps 1 (said_by program script i))
+      (Use ∷ Store out (image_by program script i)
+      ∷ Put (total_line (tally_by program script i) (refused_by program script i)) ∷ [])
+      (lines_of_steps P 1 (said_by program script i) nine three) (nine, (three, (three, tt))),
+)
 
 record Gives (P : ℕ → Type 0) : Type 0 where
   two : P 2
@@ -178,12 +180,17 @@ run_of : (P : ℕ → Type 0) (names : RunNames) (program : Program) (texts : Te
     → P 7 → P 9 → OfSteps P (run_steps names program texts)
 run_of P names program texts g six seven nine =
     loading_of P names.ops.now OPS_MAX texts.ops (ops_in texts.ops) _ g.two g.eleven g.ten
-    (ops_of P (fault_in texts.ops) g.four) (λ t. (g.ten, (g.three,
-    loading_of P names.script.now SCRIPT_MAX texts.script (script_in texts.script) _ g.two g.eleven
-    g.ten (script_of P (built_from 1 (lines_of texts.script)) six) (λ script.
-    loading_of P names.image.now IMAGE_MAX texts.image (image_of texts.image) _ g.two g.eleven
-    g.ten (image_is P (image_in texts.image) seven) (λ i.
-    work_of P names.out.now program script i g.three nine g.ten)))))
+    (ops_of P (fault_in texts.ops) g.four) (λ t. (
+      g.ten,
+      (
+        g.three,
+        loading_of P names.script.now SCRIPT_MAX texts.script (script_in texts.script) _ g.two g.eleven
+            g.ten (script_of P (built_from 1 (lines_of texts.script)) six) (λ script.
+            loading_of P names.image.now IMAGE_MAX texts.image (image_of texts.image) _ g.two g.eleven
+            g.ten (image_is P (image_in texts.image) seven) (λ i.
+            work_of P names.out.now program script i g.three nine g.ten)),
+      ),
+    ))
 
 show_of : (P : ℕ → Type 0) (name text : List ℕ) (ops : List Operation) → Gives P
     → OfSteps P (show_steps name text ops)
@@ -231,7 +238,6 @@ can_answer (Show name) old new status e =
     ends_so P (show_steps name.now e.text e.ops) 0 old new status refl
     (show_of P name.now e.text e.ops
     (record { two = refl; three = refl; four = refl; ten = refl; eleven = refl })) e.ends
-
 can_answer (Migrate names) old new status e =
     let P : ℕ → Type 0 = CanAnswer (Migrate names) in
     ends_so P (migrate_steps names e.text) 0 old new status refl
@@ -242,7 +248,6 @@ not_one (Run names) status can e =
     let one : CanAnswer (Run names) 1 = subst (CanAnswer (Run names)) e can in cc
 not_one (Show name) status can e =
     let one : CanAnswer (Show name) 1 = subst (CanAnswer (Show name)) e can in cc
-
 not_one (Migrate names) status can e =
     let one : CanAnswer (Migrate names) 1 = subst (CanAnswer (Migrate names)) e can in cc
 

@@ -54,10 +54,13 @@ show_read name ops result old mid sink after chip r g none = record {
   ops = ops;
   is_text = loaded_text name OPS_MAX r.text (world old sink chip) (world mid sink chip)
       (r.loaded sink chip);
-  goes = inr (r.is, loading_goes name OPS_MAX r.text (ops_in r.text) (λ t.
-      Take ∷ Put (canonical_text ops) ∷ []) tt (end_of result) (world old sink chip)
-      (world mid sink chip) (world mid after chip) (ops_accepted r.text r.is.accepted)
-      (r.loaded sink chip) g);
+  goes = inr (
+    r.is,
+    loading_goes name OPS_MAX r.text (ops_in r.text) (λ t.
+        Take ∷ Put (canonical_text ops) ∷ []) tt (end_of result) (world old sink chip)
+        (world mid sink chip) (world mid after chip) (ops_accepted r.text r.is.accepted)
+        (r.loaded sink chip) g,
+  );
   nothing = none;
 }
 
@@ -119,7 +122,9 @@ show_ends name old mid new (Err by) status g tells answers =
 -- what a show that is done has sent
 
 sent_of : (name text : List ℕ) (ops : List Operation) (read : Result (Unit {0}) Refusal)
-    (u : Unit {0}) → read ≡ Ok u → sent_by (loading name OPS_MAX text read (λ t. Take ∷ Put (canonical_text ops) ∷ [])) ≡ canonical_text ops
+    (u : Unit {0}) → read ≡ Ok u
+    → sent_by (loading name OPS_MAX text read (λ t. Take ∷ Put (canonical_text ops) ∷ []))
+    ≡ canonical_text ops
 sent_of name text ops (Ok v) u e = append-nil (canonical_text ops)
 sent_of name text ops (Err r) u e = absurd (cc)
 

@@ -1,5 +1,6 @@
 -- The command `migrate`.
-use Rattle.std.specs.Prelude.{◌≡◌, ◌≢◌, ◌⊎◌, ℕ, List, [], ◌∷◌, ◌++◌, Some, Result, IfOk, length, codes}
+use Rattle.std.specs.Prelude.{◌≡◌, ◌≢◌, ◌⊎◌, ℕ, List, [], ◌∷◌, ◌++◌, Some, Result, IfOk, length}
+use Rattle.std.specs.Prelude.{codes}
 use Rattle.std.specs.Prelude.{decimal}
 use Rattle.host_edge.specs.Views.{Files, Told}
 use Rattle.uprog_code.specs.Programs.{IsProgram}

@@ -42,7 +42,8 @@ pub record NotRead {A : Type 0} (read : List ℕ
     0 where
   pub text : List ℕ
   pub is_text : IsText old.holds name text
-  pub fails : (sink : SinkView) (chip : ChipView) → LoadFails name limit text (refusal_of (read text))
+  pub fails : (sink : SinkView) (chip : ChipView)
+      → LoadFails name limit text (refusal_of (read text))
       reason (world old sink chip) (world new sink chip)
 
 -- OPS was loaded, and its text is one of these ops

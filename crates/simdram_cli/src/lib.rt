@@ -13,5 +13,6 @@ mod work;
 
 pub use stop::{NotYet, Stop, status_of, tell};
 pub use top::{one_job, simdram};
-pub use words::{Command, MigrateNames, RunNames, command_of};
-pub use words::{IMAGE_MAX, OPS_MAX, PROG_MAX, SCRIPT_MAX};
+pub use words::{
+    Command, IMAGE_MAX, MigrateNames, OPS_MAX, PROG_MAX, RunNames, SCRIPT_MAX, command_of,
+};
