@@ -184,10 +184,10 @@ run_of P names program texts g six seven nine =
       g.ten,
       (
         g.three,
-        loading_of P names.script.now SCRIPT_MAX texts.script (script_in texts.script) _ g.two g.eleven
-            g.ten (script_of P (built_from 1 (lines_of texts.script)) six) (λ script.
-            loading_of P names.image.now IMAGE_MAX texts.image (image_of texts.image) _ g.two g.eleven
-            g.ten (image_is P (image_in texts.image) seven) (λ i.
+        loading_of P names.script.now SCRIPT_MAX texts.script (script_in texts.script) _ g.two
+            g.eleven g.ten (script_of P (built_from 1 (lines_of texts.script)) six) (λ script.
+            loading_of P names.image.now IMAGE_MAX texts.image (image_of texts.image) _ g.two
+            g.eleven g.ten (image_is P (image_in texts.image) seven) (λ i.
             work_of P names.out.now program script i g.three nine g.ten)),
       ),
     ))
