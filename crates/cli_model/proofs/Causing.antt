@@ -84,14 +84,16 @@ step_fails : (step : Step) (steps : List Step) (end : End) (a b : World) (files 
 step_fails step steps Done a b files f e = elim f [ ]
 step_fails (Load name limit text refusal) steps (Stopped reason) a b files f e =
     load_fails name limit text refusal steps reason a b files f e
-step_fails Take steps (Stopped reason) a b files f e = inr (reason, refl, fault_of reason NoMemory f.0 tt)
+step_fails Take steps (Stopped reason) a b files f e =
+    inr (reason, refl, fault_of reason NoMemory f.0 tt)
 step_fails (Store name bytes) steps (Stopped reason) a b files f e =
     inr (reason, refl, fault_of reason (CannotWrite name) f.0 tt)
 step_fails Open steps (Stopped reason) a b files (inl f) e =
     inr (reason, refl, fault_of reason NoMemory f.0 tt)
 step_fails Open steps (Stopped reason) a b files (inr f) e =
     inr (reason, refl, fault_of reason ChipFailed f.0 tt)
-step_fails Use steps (Stopped reason) a b files f e = inr (reason, refl, fault_of reason ChipFailed f.0 tt)
+step_fails Use steps (Stopped reason) a b files f e =
+    inr (reason, refl, fault_of reason ChipFailed f.0 tt)
 step_fails (Put bytes) steps (Stopped reason) a b files f e =
     inr (reason, refl, fault_of reason PutFailed f.0 tt)
 

@@ -29,7 +29,9 @@ static JOBS: [Job; 21] = [
     },
     // a block of weight 24, which gives a
     Job {
-        ops: "op g(a: word, b: word) -> y: word { serial up () { let x1 = xor(a, b); let x2 = xor(x1, b); let x3 = xor(x2, b); let x4 = xor(x3, b); let x5 = xor(x4, b); let x6 = xor(x5, b); let x7 = xor(x6, b); let x8 = xor(x7, b); y = x8; } }",
+        ops: "op g(a: word, b: word) -> y: word { serial up () { let x1 = xor(a, b); \
+            let x2 = xor(x1, b); let x3 = xor(x2, b); let x4 = xor(x3, b); let x5 = xor(x4, b); \
+            let x6 = xor(x5, b); let x7 = xor(x6, b); let x8 = xor(x7, b); y = x8; } }",
         script: "bbop_g y, a, b, 64, 8",
         n: 8,
         a: &[200],
@@ -148,7 +150,8 @@ static JOBS: [Job; 21] = [
     },
     // internal scratch is used again by each statement: quotient times divisor plus remainder is a
     Job {
-        ops: "op back(a: word, b: word) -> y: word { q = div(a, b); r = rem(a, b); t = mul(q, b); y = add(t, r); }",
+        ops: "op back(a: word, b: word) -> y: word { q = div(a, b); r = rem(a, b); \
+            t = mul(q, b); y = add(t, r); }",
         script: "bbop_back y, a, b, 64, 8",
         n: 8,
         a: &[200, 7, 255, 0],
@@ -158,7 +161,9 @@ static JOBS: [Job; 21] = [
     },
     // a block between word statements: the lowest one of a + b, by a state that goes up
     Job {
-        ops: "op low(a: word, b: word) -> y: word { t = add(a, b); serial up (found = 0) { s = and(t, not(found)); found = or(found, t); } z = copy(s); y = if_else(z, b, found); }",
+        ops: "op low(a: word, b: word) -> y: word { t = add(a, b); serial up (found = 0) { \
+            s = and(t, not(found)); found = or(found, t); } z = copy(s); \
+            y = if_else(z, b, found); }",
         script: "bbop_low y, a, b, 64, 8",
         n: 8,
         a: &[8, 100, 0, 1],

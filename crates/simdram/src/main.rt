@@ -15,6 +15,8 @@ use std::{env, io};
 #[cfg(test)]
 mod jobs;
 #[cfg(test)]
+mod migrated;
+#[cfg(test)]
 mod operations;
 #[cfg(test)]
 mod runs;

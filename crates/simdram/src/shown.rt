@@ -14,7 +14,9 @@ struct Case {
 }
 
 const CANONICAL: &str =
-    "op mac(a: word, b: word, c: word) -> y: word {\n  t = mul(a, b);\n  y = add(t, c);\n}\nop sum(a: word, b: word) -> y: word {\n  serial up (c = 0) {\n    let x = xor(a, b);\n    y = xor(x, c);\n    c = maj(a, b, c);\n  }\n}\n";
+    "op mac(a: word, b: word, c: word) -> y: word {\n  t = mul(a, b);\n  y = add(t, c);\n}\n\
+     op sum(a: word, b: word) -> y: word {\n  serial up (c = 0) {\n    let x = xor(a, b);\n    \
+     y = xor(x, c);\n    c = maj(a, b, c);\n  }\n}\n";
 
 static CASES: [Case; 7] = [
     Case {
@@ -29,13 +31,21 @@ static CASES: [Case; 7] = [
     },
     // a block of weight 24 without line breaks
     Case {
-        ops: "op g(a: word, b: word) -> y: word { serial up () { let x1 = xor(a, b); let x2 = xor(x1, b); let x3 = xor(x2, b); let x4 = xor(x3, b); let x5 = xor(x4, b); let x6 = xor(x5, b); let x7 = xor(x6, b); let x8 = xor(x7, b); y = x8; } }",
+        ops: "op g(a: word, b: word) -> y: word { serial up () { let x1 = xor(a, b); \
+            let x2 = xor(x1, b); let x3 = xor(x2, b); let x4 = xor(x3, b); let x5 = xor(x4, b); \
+            let x6 = xor(x5, b); let x7 = xor(x6, b); let x8 = xor(x7, b); y = x8; } }",
         status: 0,
-        sent: "op g(a: word, b: word) -> y: word {\n  serial up () {\n    let x1 = xor(a, b);\n    let x2 = xor(x1, b);\n    let x3 = xor(x2, b);\n    let x4 = xor(x3, b);\n    let x5 = xor(x4, b);\n    let x6 = xor(x5, b);\n    let x7 = xor(x6, b);\n    let x8 = xor(x7, b);\n    y = x8;\n  }\n}\n",
+        sent: "op g(a: word, b: word) -> y: word {\n  serial up () {\n    \
+            let x1 = xor(a, b);\n    let x2 = xor(x1, b);\n    let x3 = xor(x2, b);\n    \
+            let x4 = xor(x3, b);\n    let x5 = xor(x4, b);\n    let x6 = xor(x5, b);\n    \
+            let x7 = xor(x6, b);\n    let x8 = xor(x7, b);\n    y = x8;\n  }\n}\n",
     },
     // and of weight 25
     Case {
-        ops: "op g(a: word, b: word) -> y: word {\n  serial up () {\n    let x1 = xor(a, b);\n    let x2 = xor(x1, b);\n    let x3 = xor(x2, b);\n    let x4 = xor(x3, b);\n    let x5 = xor(x4, b);\n    let x6 = xor(x5, b);\n    let x7 = xor(x6, b);\n    let x8 = xor(x7, b);\n    y = and(x8, a);\n  }\n}\n",
+        ops: "op g(a: word, b: word) -> y: word {\n  serial up () {\n    \
+            let x1 = xor(a, b);\n    let x2 = xor(x1, b);\n    let x3 = xor(x2, b);\n    \
+            let x4 = xor(x3, b);\n    let x5 = xor(x4, b);\n    let x6 = xor(x5, b);\n    \
+            let x7 = xor(x6, b);\n    let x8 = xor(x7, b);\n    y = and(x8, a);\n  }\n}\n",
         status: 4,
         sent: "ops line 11 too_many\n",
     },

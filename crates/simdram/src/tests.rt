@@ -55,8 +55,9 @@ struct Case {
     report: &'static str,
 }
 
-const BITS: &str =
-    "op and(a: word, b: word) -> y: word { y = and(a, b); }\nop or(a: word, b: word) -> y: word { y = or(a, b); }\nop not(a: word) -> y: word { y = not(a); }\n";
+const BITS: &str = "op and(a: word, b: word) -> y: word { y = and(a, b); }\n\
+     op or(a: word, b: word) -> y: word { y = or(a, b); }\n\
+     op not(a: word) -> y: word { y = not(a); }\n";
 
 static CASES: [Case; 11] = [
     Case {
@@ -70,14 +71,21 @@ static CASES: [Case; 11] = [
         ops: "# bits\nop and(l: word, r: word) -> both: word { both = and(l, r); }",
         script: "\n# twice\nbbop_and y, a, b, 4, 1\n\nbbop_and a, y, b, 4, 1",
         status: 0,
-        report: "1 ok aap=6 ap=0\n2 ok aap=6 ap=0\ntotal aap=12 ap=0 writes=64 reads=64 refused=0\n",
+        report: "1 ok aap=6 ap=0\n2 ok aap=6 ap=0\n\
+            total aap=12 ap=0 writes=64 reads=64 refused=0\n",
     },
     // each reply
     Case {
         ops: BITS,
-        script: "bbop_nor y, a, b, 4, 1\nbbop_not y, a, b, 4, 1\nbbop_and y, a, 4, 1\nbbop_and z, a, b, 4, 1\nbbop_and y, a, z, 4, 1\nbbop_and y, a, b, 4, 2\nbbop_and y, a, b, 3, 1\nbbop_and y, c, b, 4, 1\nbbop_and y, y, b, 4, 1\nbbop_and y, a, a, 4, 1\n",
+        script: "bbop_nor y, a, b, 4, 1\nbbop_not y, a, b, 4, 1\nbbop_and y, a, 4, 1\n\
+            bbop_and z, a, b, 4, 1\nbbop_and y, a, z, 4, 1\nbbop_and y, a, b, 4, 2\n\
+            bbop_and y, a, b, 3, 1\nbbop_and y, c, b, 4, 1\nbbop_and y, y, b, 4, 1\n\
+            bbop_and y, a, a, 4, 1\n",
         status: 8,
-        report: "1 refused no_op\n2 refused arity\n3 refused arity\n4 refused no_object 0\n5 refused no_object 2\n6 refused width 0\n7 refused size 0\n8 refused size 1\n9 refused overlap 1\n10 ok aap=6 ap=0\ntotal aap=6 ap=0 writes=64 reads=64 refused=9\n",
+        report: "1 refused no_op\n2 refused arity\n3 refused arity\n4 refused no_object 0\n\
+            5 refused no_object 2\n6 refused width 0\n7 refused size 0\n8 refused size 1\n\
+            9 refused overlap 1\n10 ok aap=6 ap=0\n\
+            total aap=6 ap=0 writes=64 reads=64 refused=9\n",
     },
     Case {
         ops: BITS,

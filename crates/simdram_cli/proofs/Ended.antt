@@ -123,7 +123,7 @@ early_tail names program texts done by old mid new status g says answers =
     subst (λ (x : Ended). EndsSo firsts done x old new status) s.2 s.1.so in
     let more : Stop = record s.0 { behind = s.0.behind ++ last_of names program texts read } in
     let moved : (f : Ends (run_steps names program texts) done old new status)
-        × (f.ended ≡ At more) =
+    × (f.ended ≡ At more) =
     subst (λ (xs : List Step). (f : Ends xs done old new status) × (f.ended ≡ At more))
     (whole_is names program texts read) whole in
     record {

@@ -51,7 +51,8 @@ was_read name limit text (Ok value) rest files e =
     let t = load_there name limit None (files name) (foreseen (rest value) files) e in
     record { value = value; is = refl; bytes = t.bytes; there = t.there; goes_on = t.goes_on }
 was_read name limit text (Err r) rest files e =
-    let t = load_there name limit (Some r) (files name) Done e in absurd (some_not_none r t.accepted)
+    let t = load_there name limit (Some r) (files name) Done e in
+    absurd (some_not_none r t.accepted)
   where
     some_not_none : (r : Refusal) → ◌≡◌ {A = Option Refusal} (Some r) None → ⊥
     some_not_none r e = cc

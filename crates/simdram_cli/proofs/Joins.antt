@@ -163,9 +163,12 @@ run_unread names program stop old mid new sink chip apart t n = record {
         names.script.now n.text apart.script (stored_program names program old mid t) n.is_text;
     image = told_is_text old.holds names.image.now;
   };
-  goes = inr (t.compiled, goes_ops names program old mid sink chip _ (Stopped (reason_of stop))
-      (world new sink chip) t (loading_stops names.script.now SCRIPT_MAX n.text (script_in n.text)
-      _ (reason_of stop) (world mid sink chip) (world new sink chip) (n.fails sink chip)));
+  goes = inr (
+    t.compiled,
+    goes_ops names program old mid sink chip _ (Stopped (reason_of stop))
+        (world new sink chip) t (loading_stops names.script.now SCRIPT_MAX n.text (script_in n.text)
+        _ (reason_of stop) (world mid sink chip) (world new sink chip) (n.fails sink chip)),
+  );
   done = tt;
 }
 
@@ -200,10 +203,13 @@ run_worked names program script result old mid last sink chip new apart t s w =
             names.image.now w.text apart.image told
             (subst (λ (holds : Option Files). IsText holds names.image.now w.text) same w.is_text);
       };
-      goes = inr (t.compiled, goes_ops names program old mid sink chip _ (end_of result) new t
-          (loading_goes names.script.now SCRIPT_MAX s.text (script_in s.text) _ script
-          (end_of result) (world mid sink chip) (world last sink chip) new s.value_is loaded
-          w.goes));
+      goes = inr (
+        t.compiled,
+        goes_ops names program old mid sink chip _ (end_of result) new t
+            (loading_goes names.script.now SCRIPT_MAX s.text (script_in s.text) _ script
+            (end_of result) (world mid sink chip) (world last sink chip) new s.value_is loaded
+            w.goes),
+      );
       done = done_by program script (script_in s.text) (image_of w.text) new.chip result s.value_is
           w.done;
     }

@@ -6,6 +6,8 @@ pub mod Working
 pub mod Performing
 pub mod Running
 pub mod Foreseen
+pub mod Loaded
+pub mod Migrating
 pub mod Promised
 pub mod Ended
 pub mod Promising

@@ -40,7 +40,6 @@ pub record Worked (program : Program) (script : List Instruction) (i : Image) (s
 module _ (program : Program) (script : List Instruction) (i : Image) (shape : Geometry)
     (p : Program) (table : List Named) (start now : ChipView) (refused : ℕ)
     (w : Worked program script i shape p table start now refused) where
-
   own_did : Did (events_in_order i.geometry (operations_in program) i.table script) start now
   own_did = rw (w.shape_is, w.program_is, w.table_is) at w.did
 
@@ -79,7 +78,8 @@ module _ (program : Program) (script : List Instruction) (i : Image) (shape : Ge
   last_are name end a b g =
       subst (λ (steps : List Step). Goes steps end a b)
       (ap (λ (bytes : List ℕ). Use ∷ Store name bytes
-      ∷ Put (total_line (with_reads (shape.banks * shape.rows) now.counters) refused) ∷ []) own_image
+      ∷ Put (total_line (with_reads (shape.banks * shape.rows) now.counters) refused)
+      ∷ []) own_image
       ∙ ap (λ (k : Counters). Use ∷ Store name (image_by program script i)
       ∷ Put (total_line k refused) ∷ []) own_tally
       ∙ ap (λ (n : ℕ). Use ∷ Store name (image_by program script i)

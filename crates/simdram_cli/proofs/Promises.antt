@@ -50,14 +50,16 @@ tables g banks (p ∷ table) = ap (λ rest. p ∷ rest) (tables g banks table)
 pub table_is : (i : Image) → table_of (words_of i) ≡ i.table
 table_is i = tables i.geometry (opened i) i.table
 
-tables_end : (g : Geometry) (o : Operations) (meaning : List ℕ → ℕ → List ℕ → List ℕ) (state : List Held) (script : List Instruction)
+tables_end : (g : Geometry) (o : Operations) (meaning : List ℕ → ℕ → List ℕ
+    → List ℕ) (state : List Held) (script : List Instruction)
     → table_of (words_at_end g o meaning state script) ≡ table_at_end g o (table_of state) script
 tables_end g o meaning state [] = refl
 tables_end g o meaning state (i ∷ script) =
     tables_end g o meaning (words_after g o meaning state i) script
     ∙ ap (λ t. table_at_end g o t script) (table_step g o meaning state i)
 
-all_steps : (g : Geometry) (o : Operations) (meaning : List ℕ → ℕ → List ℕ → List ℕ) (script : List Instruction) → 0 < g.words → DoesAll o meaning
+all_steps : (g : Geometry) (o : Operations) (meaning : List ℕ → ℕ → List ℕ
+    → List ℕ) (script : List Instruction) → 0 < g.words → DoesAll o meaning
     → AllByRecursion IsPlain script → AllByRecursion (StepAgrees g o meaning) script
 all_steps g o meaning [] words does plain = tt
 all_steps g o meaning (i ∷ script) words does plain =

@@ -1,7 +1,7 @@
 -- What the top call promises, from how a command ends.
 use Rattle.std.proofs.Common.{◌≡◌, ◌⊎◌, inl, inr, arith, ℕ, Bool, true, false, cond, List, [], ◌∷◌}
 use Rattle.std.proofs.Common.{◌+◌, ◌++◌, Option, Some, None, refl, sym, subst}
-use Rattle.std.specs.Prelude.{Result, Ok, Err, ◌↔◌, ◌==◌, ◌&&◌, bytes_eq, codes, IfSome}
+use Rattle.std.specs.Prelude.{Result, Ok, Err, ◌↔◌, ◌==◌, ◌&&◌, not, bytes_eq, codes, IfSome}
 use Rattle.std.specs.List.{list_any}
 use denote.Ref.{Bor}
 use Rattle.host_edge.specs.Views.{Told}
@@ -23,9 +23,10 @@ use Rattle.cli_model.proofs.Statuses.{OfSteps, OfRefusal, of_more, ends_so, all_
 use Rattle.built_forms.specs.Texts.{ops_in, unless_fault, script_in, image_of, image_found}
 use Rattle.built_forms.specs.Texts.{built_from, at_line, built_image, is_built_image, not_yet}
 use Rattle.simdram_cli.specs.declared.words.RunNames.{RunNames}
-use Rattle.simdram_cli.specs.declared.words.TheConstants.{OPS_MAX, SCRIPT_MAX, IMAGE_MAX}
+use Rattle.simdram_cli.specs.declared.words.MigrateNames.{MigrateNames}
+use Rattle.simdram_cli.specs.declared.words.TheConstants.{OPS_MAX, SCRIPT_MAX, IMAGE_MAX, PROG_MAX}
 use Rattle.simdram_cli.specs.declared.words.Command.{Command}
-use Rattle.simdram_cli.specs.declared.words.Command.TheVariants.{Run, Show}
+use Rattle.simdram_cli.specs.declared.words.Command.TheVariants.{Run, Show, Migrate}
 use Rattle.simdram_cli.specs.Words.{command_of, are_apart, IsApart}
 use Rattle.simdram_cli.specs.Reads.{refusal_of}
 use Rattle.simdram_cli.specs.Run.{Texts, run_steps, work_steps, line_steps, said_by, image_by}
@@ -33,6 +34,10 @@ use Rattle.simdram_cli.specs.Run.{tally_by, refused_by, done_status}
 use Rattle.simdram_cli.specs.Ends.{RunEnds, run_status, status_on}
 use Rattle.simdram_cli.specs.Headline.{Headline}
 use Rattle.simdram_cli.specs.Show.{show_steps, ShowEnds, Shown}
+use Rattle.simdram_cli.specs.Migrate.{migrate_steps}
+use Rattle.simdram_cli.specs.Programs.{prog_in, program_or_refusal}
+use Rattle.simdram_cli.proofs.Migrating.{migrated}
+use Rattle.uprog_bin.specs.Reading.{program_in, ProgFault}
 use Rattle.simdram_cli.specs.Commands.{CanAnswer, CommandEnds, OnCommand, Promises}
 use Rattle.simdram_cli.proofs.Running.{apart}
 use Rattle.simdram_cli.proofs.Promised.{run_promised}
@@ -43,6 +48,11 @@ picked : (b c : Bool) (r names : RunNames) → cond (b && c) (Some (Run r)) None
 picked true true r names e = (refl, cc)
 picked true false r names e = absurd (cc)
 picked false c r names e = absurd (cc)
+
+not_migrated : (b : Bool) (m : MigrateNames) (names : RunNames)
+    → cond b (Some (Migrate m)) None ≡ Some (Run names) → ⊥
+not_migrated true m names e = cc
+not_migrated false m names e = cc
 
 not_run : (b : Bool) (ops : Bor (List ℕ)) (names : RunNames)
     → cond b (Some (Show ops)) None ≡ Some (Run names) → ⊥
@@ -58,7 +68,7 @@ run_apart : (words : List (Bor (List ℕ))) (names : RunNames)
 run_apart [] names e = absurd (cc)
 run_apart (a ∷ []) names e = absurd (cc)
 run_apart (a ∷ b ∷ []) names e = absurd (not_run (bytes_eq a.now (codes "show")) b names e)
-run_apart (a ∷ b ∷ c ∷ []) names e = absurd (cc)
+run_apart (a ∷ b ∷ c ∷ []) names e = absurd (not_migrated _ _ names e)
 run_apart (a ∷ b ∷ c ∷ d ∷ []) names e = absurd (cc)
 run_apart (a ∷ b ∷ c ∷ d ∷ f ∷ []) names e = absurd (cc)
 run_apart (verb ∷ ops ∷ prog ∷ script ∷ image ∷ out ∷ []) names e =
@@ -74,11 +84,43 @@ run_apart (verb ∷ ops ∷ prog ∷ script ∷ image ∷ out ∷ []) names e =
     subst AreApart p.1 p.0
 run_apart (a ∷ b ∷ c ∷ d ∷ f ∷ h ∷ i ∷ rest) names e = absurd (cc)
 
+not_shown : (b : Bool) (ops : Bor (List ℕ)) (names : MigrateNames)
+    → cond b (Some (Show ops)) None ≡ Some (Migrate names) → ⊥
+not_shown true ops names e = cc
+not_shown false ops names e = cc
+
+not_runs : (b : Bool) (r : RunNames) (names : MigrateNames)
+    → cond b (Some (Run r)) None ≡ Some (Migrate names) → ⊥
+not_runs true r names e = cc
+not_runs false r names e = cc
+
+picked_two : (b c : Bool) (m names : MigrateNames)
+    → cond (b && not c) (Some (Migrate m)) None ≡ Some (Migrate names)
+    → (c ≡ false) × (m ≡ names)
+picked_two true false m names e = (refl, cc)
+picked_two true true m names e = absurd (cc)
+picked_two false c m names e = absurd (cc)
+
+migrate_apart : (words : List (Bor (List ℕ))) (names : MigrateNames)
+    → command_of words ≡ Some (Migrate names) → IsApart (Migrate names)
+migrate_apart [] names e = absurd (cc)
+migrate_apart (a ∷ []) names e = absurd (cc)
+migrate_apart (a ∷ b ∷ []) names e = absurd (not_shown _ b names e)
+migrate_apart (verb ∷ old ∷ new ∷ []) names e =
+    let m : MigrateNames = record { old = old; new = new } in
+    let p = picked_two (bytes_eq verb.now (codes "migrate")) (bytes_eq old.now new.now) m names e in
+    subst (λ (x : MigrateNames). bytes_eq x.old.now x.new.now ≡ false) p.1 p.0
+migrate_apart (a ∷ b ∷ c ∷ d ∷ []) names e = absurd (cc)
+migrate_apart (a ∷ b ∷ c ∷ d ∷ f ∷ []) names e = absurd (cc)
+migrate_apart (a ∷ b ∷ c ∷ d ∷ f ∷ g ∷ []) names e = absurd (not_runs _ _ names e)
+migrate_apart (a ∷ b ∷ c ∷ d ∷ f ∷ g ∷ i ∷ rest) names e = absurd (cc)
+
 -- the files of a command are apart
 pub command_apart : (words : List (Bor (List ℕ))) (command : Command)
     → command_of words ≡ Some command → IsApart command
 command_apart words (Run names) e = run_apart words names e
 command_apart words (Show name) e = tt
+command_apart words (Migrate names) e = migrate_apart words names e
 
 -- the statuses that the steps of a run and of a show can give
 
@@ -119,11 +161,13 @@ lines_of_steps P number (s ∷ said) nine three =
 
 work_of : (P : ℕ → Type 0) (out : List ℕ) (program : Program) (script : List Instruction)
     (i : Image) → P 3 → P 9 → P 10 → OfSteps P (work_steps out program script i)
-work_of P out program script i three nine ten =
-    ((nine, ten), of_more P (line_steps 1 (said_by program script i))
-    (Use ∷ Store out (image_by program script i)
-    ∷ Put (total_line (tally_by program script i) (refused_by program script i)) ∷ [])
-    (lines_of_steps P 1 (said_by program script i) nine three) (nine, (three, (three, tt))))
+work_of P out program script i three nine ten = (
+  (nine, ten),
+  of_more P (line_steps 1 (said_by program script i))
+      (Use ∷ Store out (image_by program script i)
+      ∷ Put (total_line (tally_by program script i) (refused_by program script i)) ∷ [])
+      (lines_of_steps P 1 (said_by program script i) nine three) (nine, (three, (three, tt))),
+)
 
 record Gives (P : ℕ → Type 0) : Type 0 where
   two : P 2
@@ -136,12 +180,17 @@ run_of : (P : ℕ → Type 0) (names : RunNames) (program : Program) (texts : Te
     → P 7 → P 9 → OfSteps P (run_steps names program texts)
 run_of P names program texts g six seven nine =
     loading_of P names.ops.now OPS_MAX texts.ops (ops_in texts.ops) _ g.two g.eleven g.ten
-    (ops_of P (fault_in texts.ops) g.four) (λ t. (g.ten, (g.three,
-    loading_of P names.script.now SCRIPT_MAX texts.script (script_in texts.script) _ g.two g.eleven
-    g.ten (script_of P (built_from 1 (lines_of texts.script)) six) (λ script.
-    loading_of P names.image.now IMAGE_MAX texts.image (image_of texts.image) _ g.two g.eleven
-    g.ten (image_is P (image_in texts.image) seven) (λ i.
-    work_of P names.out.now program script i g.three nine g.ten)))))
+    (ops_of P (fault_in texts.ops) g.four) (λ t. (
+      g.ten,
+      (
+        g.three,
+        loading_of P names.script.now SCRIPT_MAX texts.script (script_in texts.script) _ g.two
+            g.eleven g.ten (script_of P (built_from 1 (lines_of texts.script)) six) (λ script.
+            loading_of P names.image.now IMAGE_MAX texts.image (image_of texts.image) _ g.two
+            g.eleven g.ten (image_is P (image_in texts.image) seven) (λ i.
+            work_of P names.out.now program script i g.three nine g.ten)),
+      ),
+    ))
 
 show_of : (P : ℕ → Type 0) (name text : List ℕ) (ops : List Operation) → Gives P
     → OfSteps P (show_steps name text ops)
@@ -163,6 +212,17 @@ done_so : (P : ℕ → Type 0) (program : Program) (rs : Result (List Instructio
 done_so P program (Ok script) ri zero eight = status_so P program script ri zero eight
 done_so P program (Err r) ri zero eight = zero
 
+found_of : (P : ℕ → Type 0) (found : Result (ℕ × Program) ProgFault) → P 5
+    → OfRefusal P (refusal_of (program_or_refusal found))
+found_of P (Ok found) five = tt
+found_of P (Err fault) five = five
+
+migrate_of : (P : ℕ → Type 0) (names : MigrateNames) (text : List ℕ) → P 2 → P 3 → P 5 → P 10
+    → P 11 → OfSteps P (migrate_steps names text)
+migrate_of P names text two three five ten eleven =
+    loading_of P names.old.now PROG_MAX text (prog_in text) _ two eleven ten
+    (found_of P (program_in text) five) (λ program. (three, (three, tt)))
+
 -- a command answers one of its statuses
 pub can_answer : (command : Command) (old new : World) (status : ℕ)
     → CommandEnds command old new status → CanAnswer command status
@@ -178,12 +238,18 @@ can_answer (Show name) old new status e =
     ends_so P (show_steps name.now e.text e.ops) 0 old new status refl
     (show_of P name.now e.text e.ops
     (record { two = refl; three = refl; four = refl; ten = refl; eleven = refl })) e.ends
+can_answer (Migrate names) old new status e =
+    let P : ℕ → Type 0 = CanAnswer (Migrate names) in
+    ends_so P (migrate_steps names e.text) 0 old new status refl
+    (migrate_of P names e.text refl refl refl refl refl) e.ends
 
 not_one : (command : Command) (status : ℕ) → CanAnswer command status → status ≡ 1 → ⊥
 not_one (Run names) status can e =
     let one : CanAnswer (Run names) 1 = subst (CanAnswer (Run names)) e can in cc
 not_one (Show name) status can e =
     let one : CanAnswer (Show name) 1 = subst (CanAnswer (Show name)) e can in cc
+not_one (Migrate names) status can e =
+    let one : CanAnswer (Migrate names) 1 = subst (CanAnswer (Migrate names)) e can in cc
 
 no_command : (words : List (Bor (List ℕ))) (o : Option Command) (status : ℕ) → command_of words ≡ o
     → OnCommand words (λ command. CanAnswer command status) → status ≡ 1
@@ -226,3 +292,9 @@ promises (Run names) old new status are e = λ is.
 promises (Show name) old new status are e = λ is.
     show_shown name.now old new status e
     (show_of (λ s. s ≡ status → ⊥) name.now e.text e.ops (gives_apart status (inl is)))
+promises (Migrate names) old new status are e = λ is.
+    let apart = apart_from_done status (inl is) in
+    migrated names old new status e
+    (migrate_of (λ s. s ≡ status → ⊥) names e.text (apart 2 (λ f. cc) (λ f. cc))
+    (apart 3 (λ f. cc) (λ f. cc)) (apart 5 (λ f. cc) (λ f. cc)) (apart 10 (λ f. cc) (λ f. cc))
+    (apart 11 (λ f. cc) (λ f. cc)))

@@ -51,7 +51,8 @@ pub used : (files : FolderView) (sink : SinkView) (a b : ChipView) → a.faults 
     → Used (world files sink a) (world files sink b)
 used files sink a b l = record { files = refl; sink = refl; chip = l }
 
-pub sent : (R : List ℕ → List ℕ → Type 0) (files : FolderView) (old new : SinkView) (chip : ChipView)
+pub sent : (R : List ℕ → List ℕ → Type 0) (files : FolderView) (old new : SinkView)
+    (chip : ChipView)
     → Told R old.sent new.sent → old.faults ≤ new.faults
     → Sent R (world files old chip) (world files new chip)
 sent R files old new chip t l = record { files = refl; sent = t; faults = l; chip = refl }
@@ -62,7 +63,8 @@ pub finish_unstored : (name bytes total : List ℕ) (f g : FolderView) (s : Sink
     (world g s b)
 finish_unstored name bytes total f g s a b l u = inl (world f s b, (used f s a b l, inr (refl, u)))
 
-pub finish_unput : (name bytes total : List ℕ) (f g : FolderView) (s t : SinkView) (a b : ChipView) → a.faults ≤ b.faults
+pub finish_unput : (name bytes total : List ℕ) (f g : FolderView) (s t : SinkView) (a b : ChipView)
+    → a.faults ≤ b.faults
     → Stored name bytes (world f s b) (world g s b) → Told (AppendsPart total) s.sent t.sent
     → s.faults ≤ t.faults → Rose s.faults t.faults
     → Goes (Use ∷ Store name bytes ∷ Put total ∷ []) (Stopped PutFailed) (world f s a) (world g t b)
@@ -78,7 +80,8 @@ finish_unput name bytes total f g s t a b l u p n r =
       ),
     )
 
-pub finish_done : (name bytes total : List ℕ) (f g : FolderView) (s t : SinkView) (a b : ChipView) → a.faults ≤ b.faults
+pub finish_done : (name bytes total : List ℕ) (f g : FolderView) (s t : SinkView) (a b : ChipView)
+    → a.faults ≤ b.faults
     → Stored name bytes (world f s b) (world g s b)
     → Told (λ before after. after ≡ before ++ total) s.sent t.sent → s.faults ≤ t.faults
     → Goes (Use ∷ Store name bytes ∷ Put total ∷ []) Done (world f s a) (world g t b)
@@ -89,8 +92,16 @@ finish_done name bytes total f g s t a b l u p n =
         used f s a b l,
         inl (
           world g s b,
-          (u, inl (world g t b, (sent (λ before after. after ≡ before ++ total) g s t b p n,
-              refl))),
+          (
+            u,
+            inl (
+              world g t b,
+              (
+                sent (λ before after. after ≡ before ++ total) g s t b p n,
+                refl,
+              ),
+            ),
+          ),
         ),
       ),
     )
@@ -120,7 +131,8 @@ pub take_unstored : (name bytes : List ℕ) (f g : FolderView) (s : SinkView) (k
     → Goes (Take ∷ Store name bytes ∷ []) (Stopped (CannotWrite name)) (world f s k) (world g s k)
 take_unstored name bytes f g s k t = inl (world f s k, (nothing_read (world f s k), inr (refl, t)))
 
-pub line_done : (bytes : List ℕ) (files : FolderView) (s t : SinkView) (a b : ChipView) → a.faults ≤ b.faults
+pub line_done : (bytes : List ℕ) (files : FolderView) (s t : SinkView) (a b : ChipView)
+    → a.faults ≤ b.faults
     → Told (λ before after. after ≡ before ++ bytes) s.sent t.sent → s.faults ≤ t.faults
     → Goes (Use ∷ Put bytes ∷ []) Done (world files s a) (world files t b)
 line_done bytes files s t a b l p n = inl (
@@ -134,7 +146,8 @@ line_done bytes files s t a b l p n = inl (
   ),
 )
 
-pub line_unput : (bytes : List ℕ) (files : FolderView) (s t : SinkView) (a b : ChipView) → a.faults ≤ b.faults
+pub line_unput : (bytes : List ℕ) (files : FolderView) (s t : SinkView) (a b : ChipView)
+    → a.faults ≤ b.faults
     → Told (AppendsPart bytes) s.sent t.sent → s.faults ≤ t.faults → Rose s.faults t.faults
     → Goes (Use ∷ Put bytes ∷ []) (Stopped PutFailed) (world files s a) (world files t b)
 line_unput bytes files s t a b l p n r = inl (

@@ -1,6 +1,7 @@
 -- What a chip's counters come to.
 use Rattle.std.proofs.Common.{◌≡◌, ℕ, zero, suc, ◌+◌, ◌*◌, List, [], ◌∷◌, ◌++◌, map, Option, Some}
-use Rattle.std.proofs.Common.{None, refl, sym, ◌∙◌, ap, subst, arith, append-nil, add-zero, zero-add}
+use Rattle.std.proofs.Common.{None, refl, sym, ◌∙◌, ap, subst, arith, append-nil, add-zero}
+use Rattle.std.proofs.Common.{zero-add}
 use Rattle.std.proofs.Common.{true, ◌<◌}
 use Rattle.std.specs.Prelude.{All, Bool, false, ◌&&◌, ◌≤◌, IfSome, flat_map, nat_le}
 use Rattle.std.proofs.lemmas.Bool.{leb-true}

@@ -1,5 +1,6 @@
 -- The commands of the program, and what each of them promises.
 pub mod Words
+pub mod Programs
 pub mod Stops
 pub mod Reads
 pub mod Run
@@ -7,4 +8,5 @@ pub mod Works
 pub mod Ends
 pub mod Headline
 pub mod Show
+pub mod Migrate
 pub mod Commands

@@ -1,11 +1,12 @@
 -- How a file is loaded and read, whatever the sink and the chip show meanwhile.
-use Rattle.std.specs.Prelude.{◌≡◌, ℕ, List, Option, Some, None, Result, Ok, Err, IfSome}
+use Rattle.std.specs.Prelude.{◌≡◌, ℕ, List, [], Option, Some, None, Result, Ok, Err, IfSome}
 use Rattle.dram_model.specs.View.{ChipView}
 use Rattle.host_edge.specs.Views.{Files, FolderView, SinkView}
 use Rattle.op_text.specs.Language.{Operation}
 use Rattle.op_text.specs.OpsOf.{IsOpsOf}
-use Rattle.cli_model.specs.World.{world}
-use Rattle.cli_model.specs.Steps.{Refusal, Reason, Loaded, LoadFails}
+use Rattle.cli_model.specs.World.{World, world}
+use Rattle.cli_model.specs.Steps.{Refusal, Reason, Loaded, LoadFails, End, Done, Stopped, Goes}
+use Rattle.cli_model.specs.Steps.{loading}
 use Rattle.simdram_cli.specs.declared.words.TheConstants.{OPS_MAX}
 
 abbrev pub refusal_of : {A : Type 0} → Result A Refusal → Option Refusal
@@ -41,7 +42,8 @@ pub record NotRead {A : Type 0} (read : List ℕ
     0 where
   pub text : List ℕ
   pub is_text : IsText old.holds name text
-  pub fails : (sink : SinkView) (chip : ChipView) → LoadFails name limit text (refusal_of (read text))
+  pub fails : (sink : SinkView) (chip : ChipView)
+      → LoadFails name limit text (refusal_of (read text))
       reason (world old sink chip) (world new sink chip)
 
 -- OPS was loaded, and its text is one of these ops
@@ -49,3 +51,10 @@ pub record OpsRead (name : List ℕ) (ops : List Operation) (old new : FolderVie
   pub text : List ℕ
   pub is : IsOpsOf text ops
   pub loaded : LoadedAs name OPS_MAX text old new
+
+-- a command stopped at the load of a file
+abbrev pub StopsAtLoad : {A : Type 0} → (name : List ℕ) (limit : ℕ) (text : List ℕ)
+    → Result A Refusal → End → World → World → Type 0
+StopsAtLoad name limit text read Done old new = ⊥
+StopsAtLoad name limit text read (Stopped reason) old new =
+    Goes (loading name limit text read (λ x. [])) (Stopped reason) old new

@@ -5,12 +5,12 @@ use Rattle.op_text.specs.Language.{Operation}
 use Rattle.op_text.specs.OpsOf.{IsOpsOf}
 use Rattle.op_print.specs.Canonical.{canonical_text}
 use Rattle.cli_model.specs.World.{World}
-use Rattle.cli_model.specs.Steps.{Step, Take, Put, End, Done, Stopped, Goes, loading}
+use Rattle.cli_model.specs.Steps.{Step, Take, Put, Goes, loading}
 use Rattle.cli_model.specs.Ends.{Ends, done_steps}
 use Rattle.built_forms.specs.Texts.{ops_in}
 use Rattle.simdram_cli.specs.declared.words.TheConstants.{OPS_MAX}
 use Rattle.simdram_cli.specs.declared.stop.Stop.{Stop}
-use Rattle.simdram_cli.specs.Reads.{IsText}
+use Rattle.simdram_cli.specs.Reads.{IsText, StopsAtLoad}
 use Rattle.simdram_cli.specs.Stops.{end_of}
 use Rattle.simdram_cli.specs.Headline.{Spells}
 
@@ -35,17 +35,11 @@ pub record Shown (name : List ℕ) (before : Files) (old new : World) : Type 0 w
 
 -- what its parts come to, for its proof
 
--- it stopped at the load of OPS
-abbrev pub StoppedAtLoad : List ℕ → List ℕ → End → World → World → Type 0
-StoppedAtLoad name text Done old new = ⊥
-StoppedAtLoad name text (Stopped reason) old new =
-    Goes (loading name OPS_MAX text (ops_in text) (λ t. [])) (Stopped reason) old new
-
 -- it goes through its steps on the text of OPS and the ops that the text has
 pub record ShowGoes (name : List ℕ) (old new : World) (result : Result ℕ Stop) : Type 0 where
   pub text : List ℕ
   pub ops : List Operation
   pub is_text : IsText old.files.holds name text
-  pub goes : StoppedAtLoad name text (end_of result) old new
+  pub goes : StopsAtLoad name OPS_MAX text (ops_in text) (end_of result) old new
       ⊎ (IsOpsOf text ops × Goes (show_steps name text ops) (end_of result) old new)
   pub nothing : IfOk result (λ refused. refused ≡ 0)

@@ -5,6 +5,7 @@ use Rattle.cli_model.specs.Steps.{CannotWrite, PutFailed, ChipFailed, End, Done,
 use Rattle.built_forms.specs.Texts.{not_yet, ops_refusal}
 use Rattle.built_forms.specs.declared.scripts.FormNo.{FormNo}
 use Rattle.built_forms.specs.declared.scripts.FormNo.TheVariants as no
+use Rattle.simdram_cli.specs.Programs.{prog_refusal}
 use Rattle.simdram_cli.specs.declared.stop.NotYet.{NotYet}
 use Rattle.simdram_cli.specs.declared.stop.NotYet.TheVariants as form
 use Rattle.simdram_cli.specs.declared.stop.Stop.{Stop}
@@ -18,6 +19,7 @@ abbrev pub reason_of : Stop → Reason
 reason_of (stop.CannotRead name) = CannotRead name.now
 reason_of (stop.TooLong name) = TooLong name.now
 reason_of (stop.BadOps fault) = Refused (ops_refusal fault)
+reason_of (stop.BadProg fault) = Refused (prog_refusal fault)
 reason_of (stop.Refused form) = Refused (refusal_by form)
 reason_of stop.NoMemory = NoMemory
 reason_of (stop.CannotWrite name) = CannotWrite name.now

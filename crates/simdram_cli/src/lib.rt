@@ -2,6 +2,7 @@
 #![tactic(auto)]
 
 mod load;
+mod migrate;
 mod perform;
 mod run;
 mod show;
@@ -12,4 +13,6 @@ mod work;
 
 pub use stop::{NotYet, Stop, status_of, tell};
 pub use top::{one_job, simdram};
-pub use words::{Command, IMAGE_MAX, OPS_MAX, RunNames, SCRIPT_MAX, command_of};
+pub use words::{
+    Command, IMAGE_MAX, MigrateNames, OPS_MAX, PROG_MAX, RunNames, SCRIPT_MAX, command_of,
+};

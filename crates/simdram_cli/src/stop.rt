@@ -4,11 +4,13 @@ ghost use Rattle.std.specs.Prelude.{OnOk, OnErr, ◌≡◌, ◌≤◌, ◌++◌,
 ghost use Rattle.host_edge.specs.Views.{Told, AppendsPart, Rose};
 ghost use Rattle.cli_model.specs.Status.{reason_status, reason_line};
 ghost use Rattle.built_forms.specs.Texts.{kind_word, ops_refusal};
+ghost use Rattle.simdram_cli.specs.Programs.{prog_refusal, prog_word};
 ghost use Rattle.simdram_cli.specs.Stops.{reason_of, refusal_by};
 
 use host_edge::{Failed, Sink};
 use itoa::Buffer;
 use op_text::{OpsFault, OpsKind};
+use uprog_bin::{ProgFault, ProgKind};
 
 /// A form that is not built yet, by its line or byte.
 #[derive(Clone, Copy, Debug, PartialEq, Eq)]
@@ -23,6 +25,7 @@ pub enum Stop<'a> {
     CannotRead(&'a str),
     TooLong(&'a str),
     BadOps(OpsFault),
+    BadProg(ProgFault),
     Refused(NotYet),
     NoMemory,
     CannotWrite(&'a str),
@@ -38,6 +41,7 @@ pub fn status_of(stop: Stop<'_>) -> u8
         Stop::CannotRead(_) => 2,
         Stop::CannotWrite(_) | Stop::PutFailed => 3,
         Stop::BadOps(_) => 4,
+        Stop::BadProg(_) => 5,
         Stop::Refused(NotYet::Script(_)) => 6,
         Stop::Refused(NotYet::Image(_)) => 7,
         Stop::ChipFailed => 9,
@@ -124,6 +128,41 @@ fn tell_ops<S: Sink>(fault: OpsFault, out: &mut S) -> Result<(), Failed>
     )
 }
 
+/// The end of the line of a program file that breaks this rule.
+fn prog_end(kind: ProgKind) -> &'static [u8]
+    ensures { result.now ≡ codes " " ++ prog_word kind ++ codes "\n" }
+{
+    match kind {
+        ProgKind::Short => b" short\n",
+        ProgKind::Magic => b" magic\n",
+        ProgKind::Version => b" version\n",
+        ProgKind::Directory => b" directory\n",
+        ProgKind::Instruction => b" instruction\n",
+        ProgKind::Target => b" target\n",
+        ProgKind::Row => b" row\n",
+        ProgKind::NoDone => b" no_done\n",
+        ProgKind::Rest => b" rest\n",
+    }
+}
+
+/// Puts the line of a program file that breaks a rule.
+fn tell_prog<S: Sink>(fault: ProgFault, out: &mut S) -> Result<(), Failed>
+    ensures counts { (S.view out.old).faults ≤ (S.view out.new).faults }
+    ensures sent { OnOk result (Told (λ before after. after ≡ before ++ ((prog_refusal fault).line))
+        (S.view out.old).sent (S.view out.new).sent) }
+    ensures part { Told (AppendsPart (prog_refusal fault).line) (S.view out.old).sent
+        (S.view out.new).sent }
+    ensures failed { OnErr result (Rose (S.view out.old).faults (S.view out.new).faults) }
+{
+    let mut buffer = Buffer::new();
+    put_three(
+        b"program byte ",
+        buffer.format(fault.at).as_bytes(),
+        prog_end(fault.kind),
+        out,
+    )
+}
+
 /// Puts the last line. A sink that failed is told nothing.
 pub fn tell<S: Sink>(stop: Stop<'_>, out: &mut S) -> Result<(), Failed>
     ensures counts { (S.view out.old).faults ≤ (S.view out.new).faults }
@@ -139,6 +178,7 @@ pub fn tell<S: Sink>(stop: Stop<'_>, out: &mut S) -> Result<(), Failed>
         Stop::TooLong(name) => put_three(b"too long ", name.as_bytes(), b"\n", out),
         Stop::CannotWrite(name) => put_three(b"cannot write ", name.as_bytes(), b"\n", out),
         Stop::BadOps(fault) => tell_ops(fault, out),
+        Stop::BadProg(fault) => tell_prog(fault, out),
         Stop::Refused(form) => tell_form(form, out),
         Stop::NoMemory => put_three(b"no memory\n", b"", b"", out),
         Stop::ChipFailed => put_three(b"chip fault\n", b"", b"", out),

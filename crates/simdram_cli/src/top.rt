@@ -8,14 +8,16 @@ ghost use Rattle.cli_model.specs.Status.{Says, Tells};
 ghost use Rattle.simdram_cli.specs.Commands.{CanAnswer, CommandEnds, OnCommand, Promises};
 ghost use Rattle.simdram_cli.specs.Ends.{RunEnds, answer_to};
 ghost use Rattle.simdram_cli.specs.Headline.{OneJob};
+ghost use Rattle.simdram_cli.specs.Migrate.{MigrateEnds};
 ghost use Rattle.simdram_cli.specs.Show.{ShowEnds};
 ghost use Rattle.simdram_cli.specs.Stops.{end_of};
 ghost use Rattle.simdram_cli.specs.Words.{IsApart, are_apart, command_of};
 
+use crate::migrate::migrate;
 use crate::run::run;
 use crate::show::show;
 use crate::stop::{Stop, status_of, tell};
-use crate::words::{Command, RunNames, command_of};
+use crate::words::{Command, MigrateNames, RunNames, command_of};
 use dram_model::Dram;
 use host_edge::{Folder, Sink};
 use std::alloc::Global;
@@ -66,6 +68,21 @@ fn show_and_answer<F: Folder, S: Sink>(name: &str, files: &mut F, out: &mut S, a
     answer(ended, out)
 }
 
+/// Migrates, and tells why it stopped if it did.
+fn migrate_and_answer<F: Folder, S: Sink>(
+    names: &MigrateNames<'_>,
+    files: &mut F,
+    out: &mut S,
+    alloc: Global,
+) -> u8
+    ensures { (chip : ChipView) → MigrateEnds names.now
+        (world (F.view files.old) (S.view out.old) chip)
+        (world (F.view files.new) (S.view out.new) chip) result }
+{
+    let ended = migrate(names, files, out, alloc);
+    answer(ended, out)
+}
+
 /// Does a command.
 fn dispatch<F: Folder, S: Sink, D: Dram>(
     command: &Command<'_>,
@@ -83,13 +100,15 @@ fn dispatch<F: Folder, S: Sink, D: Dram>(
     match command {
         Command::Run(names) => run_and_answer(names, files, out, chip, alloc),
         Command::Show(name) => show_and_answer(*name, files, out, alloc),
+        Command::Migrate(names) => migrate_and_answer(names, files, out, alloc),
     }
 }
 
 /// Does the command that the words are, without the program's name: `run OPS PROG SCRIPT IMAGE OUT`
 /// compiles the operations of OPS, stores PROG, does SCRIPT on IMAGE with the program that PROG
 /// spells, puts the report and stores OUT; `show OPS` puts the canonical text of the operations of
-/// OPS. The answer is the exit status.
+/// OPS; `migrate OLD NEW` stores the version 2 file of OLD's program as NEW. The answer is the exit
+/// status.
 pub fn simdram<F: Folder, S: Sink, D: Dram>(
     words: &[&str],
     files: &mut F,

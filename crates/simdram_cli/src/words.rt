@@ -6,6 +6,8 @@ ghost use Rattle.simdram_cli.specs.Words.{all_differ, are_apart, command_of};
 /// The greatest length of each file, in bytes.
 pub const OPS_MAX: u64 = 65_536;
 
+pub const PROG_MAX: u64 = 4_194_304;
+
 pub const SCRIPT_MAX: u64 = 16_777_216;
 
 pub const IMAGE_MAX: u64 = 67_115_022;
@@ -20,11 +22,19 @@ pub struct RunNames<'a> {
     pub out: &'a str,
 }
 
+/// The files of `migrate`.
+#[derive(Clone, Copy)]
+pub struct MigrateNames<'a> {
+    pub old: &'a str,
+    pub new: &'a str,
+}
+
 /// A command, with its words.
 #[derive(Clone, Copy)]
 pub enum Command<'a> {
     Run(RunNames<'a>),
     Show(&'a str),
+    Migrate(MigrateNames<'a>),
 }
 
 /// Whether no two of four names are equal.
@@ -54,6 +64,16 @@ pub fn command_of<'a>(words: &[&'a str]) -> Option<Command<'a>>
                     script: *script,
                     image: *image,
                     out: *out,
+                }))
+            } else {
+                None
+            }
+        }
+        [verb, old, new] => {
+            if *verb == "migrate" && old != new {
+                Some(Command::Migrate(MigrateNames {
+                    old: *old,
+                    new: *new,
                 }))
             } else {
                 None

@@ -21,7 +21,8 @@ returns-in_err-script-clause-goes g c =
     rw (p.1, p.2) (run_unread c.args.names.now (microprograms_of c.in_ok-program.program) _
     (g.F.Folder.view c.args.files.now) (g.F.Folder.view c.take_program.new.files)
     (g.F.Folder.view c.load_script.new.files)
-    (g.S.Sink.view c.args.out.now) (g.D.Dram.view c.args.chip.now) (apart c.args.names.now c.requires.apart).others
+    (g.S.Sink.view c.args.out.now) (g.D.Dram.view c.args.chip.now)
+    (apart c.args.names.now c.requires.apart).others
     c.in_ok-program.ensures.taken c.in_err-script.ensures.not_read)
 
 pub returns-clause-goes : goal.returns-clause-goes
