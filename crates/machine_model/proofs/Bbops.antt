@@ -28,7 +28,7 @@ use Rattle.object_alloc.specs.declared.table.Object.{Object}
 use Rattle.object_alloc.specs.Free.{has_row, is_free, are_free, free, end_of, AreApart}
 use Rattle.object_alloc.specs.Listed.{Named, IsTable, objects_of, has_name}
 use Rattle.dram_model.specs.Elements.{column_count, below}
-use Rattle.machine_model.specs.Columns.{segments, columns, size_of}
+use Rattle.machine_model.specs.Columns.{object_size, segments, columns}
 use Rattle.machine_model.specs.Operations.{Operation}
 use Rattle.object_alloc.specs.Listed.{limit_of}
 use Rattle.machine_model.specs.Refusals.{object_named, nothing, dsts_in, srcs_in, is_one_of}
@@ -368,7 +368,7 @@ pub bbop_numbers : (g : Geometry) (banks : Banks) (state : List Held) (o : Opera
     → columns g (through job banks) (object_named (table_of state)
     (get_or (dsts_in o.shape names) k []))
     ≡ computed (λ values. slice_index (meaning values) k)
-    (map (numbers_named state) (srcs_in o.shape names)) (size_of g first)
+    (map (numbers_named state) (srcs_in o.shape names)) (object_size g first)
 bbop_numbers g banks state o names first count n meaning job a good counted does is k lk =
     let dsts = dsts_in o.shape names in
     let srcs = srcs_in o.shape names in
@@ -384,8 +384,8 @@ bbop_numbers g banks state o names first count n meaning job a good counted does
     let fits = binding_fits g state o names count n a.table good in
     let inside : segments g dest ≤ g.banks = subst (λ (p : Object). segments g p
     ≤ g.banks) (sym f.object) (a.within f.place no_one f.within) in
-    let size : size_of g dest ≡ size_of g first = ap (λ k. column_count g * k) seg in
-    let long : length cols ≡ size_of g first =
+    let size : object_size g dest ≡ object_size g first = ap (λ k. column_count g * k) seg in
+    let long : length cols ≡ object_size g first =
     below_length (column_count g) (segments g first) banks (λ b h.
     a.shaped b (omega (arith, inside, h, seg))) in
     let new = through (record { commands = cs; banks = segments g first }) banks in
@@ -405,10 +405,10 @@ bbop_numbers g banks state o names first count n meaning job a good counted does
     ∙ map_map (number dest.base dest.width) (run cs) cols ∙ map_cong _ _ cols meant in
     let right : map (λ s. slice_index (meaning (map (read_in state s) srcs)) k) cols
     ≡ computed (λ values. slice_index (meaning values) k) (map (numbers_named state) srcs)
-    (size_of g first) =
+    (object_size g first) =
     fill_by_all (λ e.
     slice_index (meaning (map (λ ns. get_or ns e 0) (map (numbers_named state) srcs))) k)
-    (map (λ s. slice_index (meaning (map (read_in state s) srcs)) k) cols) (size_of g first) 0
+    (map (λ s. slice_index (meaning (map (read_in state s) srcs)) k) cols) (object_size g first) 0
     (simp length-map long)
     (λ e h. let lt : e < length cols = omega (arith, long, h) in
     get_or-map (λ s. slice_index (meaning (map (read_in state s) srcs)) k) cols e blank 0 lt

@@ -25,7 +25,7 @@ use Rattle.dram_model.specs.Elements.{number}
 use Rattle.object_alloc.specs.declared.table.Object.{Object}
 use Rattle.object_alloc.specs.Free.{has_row, AreApart}
 use Rattle.dram_model.specs.Elements.{column_count, below}
-use Rattle.machine_model.specs.Columns.{segments, size_of, columns}
+use Rattle.machine_model.specs.Columns.{object_size, segments, columns}
 use Rattle.machine_model.proofs.Below.{below_run, below_same, below_length, through_in}
 use Rattle.machine_model.proofs.Below.{through_same, number_same}
 use Rattle.machine_model.proofs.Bbops.{has_from}
@@ -200,14 +200,15 @@ map_const f v (x ∷ xs) e = rw e_x (ap (λ rest. v ∷ rest) (map_const f v xs 
 -- every column of the object has the value
 pub fill_columns : (g : Geometry) (banks : Banks) (o : Object) (v : ℕ) → v < 2 ^ o.width
     → ((bank : ℕ) → bank < segments g o → length (banks bank) ≡ column_count g)
-    → columns g (through (fill_job g o v) banks) o ≡ replicate (size_of g o) v
+    → columns g (through (fill_job g o v) banks) o ≡ replicate (object_size g o) v
 fill_columns g banks o v small shaped =
     let cols = below (segments g o) banks in
     let ran : below (segments g o) (through (fill_job g o v) banks)
     ≡ map (run (fill_commands o.base v 0 o.width)) cols =
     below_run (run (fill_commands o.base v 0 o.width)) (through (fill_job g o v) banks) banks
     (segments g o) (λ b h. through_in (fill_job g o v) banks b h) in
-    let long : length cols ≡ size_of g o = below_length (column_count g) (segments g o) banks shaped
+    let long : length cols ≡ object_size g o =
+    below_length (column_count g) (segments g o) banks shaped
     in
     ap (map (number o.base o.width)) ran ∙ map_map (number o.base o.width)
     (run (fill_commands o.base v 0 o.width)) cols

@@ -16,7 +16,8 @@ use Rattle.object_alloc.specs.Listed.{Named, IsTable}
 use Rattle.bbop_isa.specs.Forms.{Instruction}
 use Rattle.bbop_isa.specs.Forms.{Init, Bbop, Load, Fill, Print, Free, Order}
 use Rattle.dram_model.specs.Elements.{column_count}
-use Rattle.machine_model.specs.Columns.{segments, size_of, padded_to}
+use Rattle.machine_model.specs.Columns.{object_size, segments}
+use Rattle.dram_model.specs.Elements.{padded_to}
 use Rattle.machine_model.specs.Operations.{Operations}
 use Rattle.object_alloc.specs.Listed.{limit_of}
 use Rattle.machine_model.specs.Refusals.{object_named, refusal}
@@ -65,7 +66,7 @@ loaded_kept : (g : Geometry) (o : Object) (vs : List ℕ) (banks : Banks) (bank 
     → row_in row (after (load_events g o vs) (through (record { commands = []; banks = 0 }) banks)
     bank) ≡ row_in row (banks bank)
 loaded_kept g o vs banks bank row out =
-    let nums = padded_to (size_of g o) vs in
+    let nums = padded_to (object_size g o) vs in
     let w = column_count g in
     ap (λ (x : Banks). row_in row (after (load_events g o vs) x bank)) (idle [] banks)
     ∙ elim (cases_lt bank (segments g o)) [

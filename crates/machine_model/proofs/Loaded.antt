@@ -22,7 +22,8 @@ use Rattle.bbop_isa.specs.Forms.{Load}
 use Rattle.machine_model.specs.declared.Why.{Why}
 use Rattle.machine_model.specs.declared.Why.TheVariants as why
 use Rattle.dram_model.specs.Elements.{column_count}
-use Rattle.machine_model.specs.Columns.{segments, size_of, padded_to}
+use Rattle.machine_model.specs.Columns.{object_size, segments}
+use Rattle.dram_model.specs.Elements.{padded_to}
 use Rattle.machine_model.specs.Operations.{Operations}
 use Rattle.object_alloc.specs.Listed.{limit_of}
 use Rattle.machine_model.specs.Refusals.{object_named, is_absent, refusal, when, at_place}
@@ -114,7 +115,7 @@ load_agrees g operations meaning name vs words banks state a =
     let table = table_of state in
     let o = object_named table name in
     let w = column_count g in
-    let nums = padded_to (size_of g o) vs in
+    let nums = padded_to (object_size g o) vs in
     let new = after (load_events g o vs) banks in
     done_or_not g (refusal g operations table (Load name vs)) _ banks _ state (λ h.
     let c3 = at_place why.Range 1 (map (λ v. leb (2 ^ o.width) v) vs) ∷ [] in
@@ -127,13 +128,14 @@ load_agrees g operations meaning name vs words banks state a =
     let counted : length vs ≡ o.count = grind (arith, nat_tests) in
     let inside : segments g o ≤ g.banks = subst (λ (p : Object). segments g p
     ≤ g.banks) (sym f.object) (a.within f.place no_one f.within) in
-    let room : o.count ≤ size_of g o = omega (arith, (div_ceil_times o.count w (omega arith)).0) in
+    let room : o.count ≤ object_size g o = omega (arith, (div_ceil_times o.count w (omega arith)).0)
+    in
     let long : length nums ≡ w * segments g o =
-    padded_length (size_of g o) vs (omega (arith, counted, room)) in
+    padded_length (object_size g o) vs (omega (arith, counted, room)) in
     let small : AllByRecursion (λ v. v < 2 ^ o.width) nums =
-    all_append (λ v. v < 2 ^ o.width) vs (replicate (size_of g o - length vs) 0)
+    all_append (λ v. v < 2 ^ o.width) vs (replicate (object_size g o - length vs) 0)
     (all_small (2 ^ o.width) 1 why.Range vs range.0)
-    (all_zero (λ v. v < 2 ^ o.width) (size_of g o - length vs) (pow_pos o.width)) in
+    (all_zero (λ v. v < 2 ^ o.width) (object_size g o - length vs) (pow_pos o.width)) in
     let in_bank : (bank : ℕ) → bank < segments g o
     → new bank ≡ on_bank_all (all_writes w o.base o.width nums bank) (banks bank) =
     λ bank l. each_inside (all_writes w o.base o.width nums) 0 (segments g o) banks bank

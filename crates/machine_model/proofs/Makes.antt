@@ -18,7 +18,7 @@ use Rattle.object_alloc.proofs.Tables.{IsTable-add}
 use Rattle.bbop_isa.specs.Forms.{Init, Fill}
 use Rattle.machine_model.specs.declared.Why.TheVariants as why
 use Rattle.dram_model.specs.Elements.{column_count}
-use Rattle.machine_model.specs.Columns.{segments, columns, size_of}
+use Rattle.machine_model.specs.Columns.{object_size, segments, columns}
 use Rattle.machine_model.specs.Operations.{Operations}
 use Rattle.object_alloc.specs.Listed.{limit_of}
 use Rattle.machine_model.specs.Refusals.{object_named, is_absent, refusal, when}
@@ -51,10 +51,10 @@ fill_agrees g operations meaning name v banks state a =
     let below : leb (2 ^ o.width) v ≡ false = when_none _ _ small.0 in
     let inside : segments g o ≤ g.banks = subst (λ (p : Object). segments g p
     ≤ g.banks) (sym f.object) (a.within f.place no_one f.within) in
-    subst (λ (b : Banks). Agrees g b (with_numbers state name (replicate (size_of g o) v)))
+    subst (λ (b : Banks). Agrees g b (with_numbers state name (replicate (object_size g o) v)))
     (sym (filled g o v banks))
     (with_numbers_agrees g banks (through (fill_job g o v) banks) state name
-    (replicate (size_of g o) v) a
+    (replicate (object_size g o) v) a
     (λ bank l. through_length (fill_job g o v) banks bank ∙ a.shaped bank l)
     (fill_columns g banks o v (grind (arith, nat_tests)) (λ b l.
     a.shaped b (omega (arith, inside, l))))
@@ -85,7 +85,7 @@ pub init_agrees : (g : Geometry) (operations : Operations) (meaning : List ℕ �
 init_agrees g operations meaning name count n some words banks state a =
     let table = table_of state in
     let o = new_object g table count n in
-    let h' : Held = record { name = name; object = o; numbers = replicate (size_of g o) 0 } in
+    let h' : Held = record { name = name; object = o; numbers = replicate (object_size g o) 0 } in
     done_or_not g (refusal g operations table (Init name count n)) _ banks _ state (λ h.
     let c4 = when (is_none (free (limit_of g) (objects_of table) n)) why.NoRows ∷ [] in
     let c3 = when (ltb (column_count g * g.banks) count) why.TooLarge ∷ c4 in

@@ -12,7 +12,7 @@ use Rattle.bbop_isa.specs.Forms.{Init, Bbop, Load, Fill, Print, Free, Order}
 use Rattle.machine_model.specs.declared.Why.{Why}
 use Rattle.machine_model.specs.Operations.{Operations}
 use Rattle.machine_model.specs.Refusals.{refusal, object_named}
-use Rattle.machine_model.specs.Columns.{size_of}
+use Rattle.machine_model.specs.Columns.{object_size}
 use Rattle.machine_model.specs.Steps.{Held, table_of, new_numbers, computed, numbers_named, srcs_of}
 use Rattle.machine_model.specs.Steps.{dsts_of, words_after, banks_after, table_after, tabled}
 use Rattle.machine_model.specs.Steps.{worded, if_done}
@@ -28,7 +28,7 @@ tabled_is g operations meaning state (Init name count n) = map-append entry_of s
 tabled_is g operations meaning state (Bbop op dst srcs count n) =
     table_with state (new_numbers (λ k. computed (λ vs. slice_index (meaning op n vs) k)
     (map (numbers_named state) (srcs_of (operations op) (dst ∷ srcs)))
-    (size_of g (object_named (table_of state) dst))) 0 (dsts_of (operations op) (dst ∷ srcs)))
+    (object_size g (object_named (table_of state) dst))) 0 (dsts_of (operations op) (dst ∷ srcs)))
 tabled_is g operations meaning state (Load name values) = table_kept state name _
 tabled_is g operations meaning state (Fill name value) = table_kept state name _
 tabled_is g operations meaning state (Print name) = refl

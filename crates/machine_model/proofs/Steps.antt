@@ -21,7 +21,7 @@ use Rattle.bbop_isa.specs.Forms.{Bbop, Print, Free, Order}
 use Rattle.bbop_isa.specs.declared.instr.Order.{Order as Orders}
 use Rattle.machine_model.specs.declared.Why.{Why}
 use Rattle.dram_model.specs.Elements.{column_count}
-use Rattle.machine_model.specs.Columns.{segments, columns, size_of}
+use Rattle.machine_model.specs.Columns.{object_size, segments, columns}
 use Rattle.machine_model.specs.Operations.{Operation, Operations}
 use Rattle.object_alloc.specs.Listed.{limit_of}
 use Rattle.machine_model.specs.Refusals.{object_named, refusal, bbop_refusal, dsts_in, srcs_in}
@@ -229,11 +229,11 @@ bbop_done g operations meaning op dst srcs count n (Some o) e some few does bank
     (operand_at (table_of state) count n (results o.shape) (dsts_in o.shape names) 0
     (omega arith) facts.destinations).1 in
     let result : ℕ → List ℕ = λ k. computed (λ vs. slice_index (meaning op n vs) k)
-    (map (numbers_named state) (srcs_in o.shape names)) (size_of g first) in
+    (map (numbers_named state) (srcs_in o.shape names)) (object_size g first) in
     subst (λ (f : Option Operation). Agrees g (through job banks)
     (with_results state (new_numbers (λ k.
     computed (λ vs. slice_index (meaning op n vs) k)
-    (map (numbers_named state) (srcs_of f names)) (size_of g first)) 0 (dsts_of f names))))
+    (map (numbers_named state) (srcs_of f names)) (object_size g first)) 0 (dsts_of f names))))
     (sym e)
     (with_results_agrees g banks (through job banks) state result (dsts_in o.shape names) a
     (λ bank l. through_length job banks bank ∙ a.shaped bank l)

@@ -1,29 +1,22 @@
 -- An object's elements in the banks' columns.
-use Rattle.std.specs.Prelude.{ℕ, ◌-◌, ◌*◌, List, map, replicate, ◌++◌, length, take, drop, Bool}
-use Rattle.std.specs.Int.{div_ceil}
+use Rattle.std.specs.Prelude.{ℕ, List}
 use Rattle.dram_model.specs.declared.geometry.Geometry.{Geometry}
-use Rattle.bit_rows.specs.Bits.{bit_at}
-use Rattle.dram_model.specs.Chip.{Banks}
-use Rattle.dram_model.specs.Elements.{number, column_count, below}
+use Rattle.dram_model.specs.Chip.{Banks, Event}
+use Rattle.dram_model.specs.Elements.{segments_of, numbers_in, size_of, row_by_row}
 use Rattle.object_alloc.specs.declared.table.Object.{Object}
 
--- how many banks the elements take: the count by the columns, rounded up
+-- how many banks its elements take
 abbrev pub segments : Geometry → Object → ℕ
-segments g o = div_ceil o.count (column_count g)
+segments g o = segments_of g o.count
 
 -- an object's numbers, segment by segment and column by column
 abbrev pub columns : Geometry → Banks → Object → List ℕ
-columns g banks o = map (number o.base o.width) (below (segments g o) banks)
+columns g banks o = numbers_in g banks o.base o.width o.count
 
 -- how many numbers an object has, those past its count too
-abbrev pub size_of : Geometry → Object → ℕ
-size_of g o = column_count g * segments g o
+abbrev pub object_size : Geometry → Object → ℕ
+object_size g o = size_of g o.count
 
--- the numbers at first, and 0 past them
-abbrev pub padded_to : ℕ → List ℕ → List ℕ
-padded_to size values = values ++ replicate (size - length values) 0
-
--- bit k of the numbers that stand in one bank
-abbrev pub row_bits : Geometry → List ℕ → ℕ → ℕ → List Bool
-row_bits g numbers bank k = map (λ v. bit_at v k)
-    (take (column_count g) (drop (bank * column_count g) numbers))
+-- one event for each row of the object, segment by segment and rows upwards in each
+abbrev pub each_row : Geometry → Object → (ℕ → ℕ → Event) → List Event
+each_row g o event = row_by_row (segments g o) o.width event

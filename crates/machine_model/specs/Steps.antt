@@ -27,7 +27,8 @@ use Rattle.bbop_isa.specs.Forms.{Init, Bbop, Load, Fill, Print, Free, Order}
 use Rattle.machine_model.specs.declared.Reply.{Reply}
 use Rattle.machine_model.specs.declared.Reply.TheVariants.{Done, Refused}
 use Rattle.machine_model.specs.declared.Why.{Why}
-use Rattle.machine_model.specs.Columns.{segments, size_of, padded_to, row_bits}
+use Rattle.machine_model.specs.Columns.{each_row, object_size, segments}
+use Rattle.dram_model.specs.Elements.{padded_to, row_bits}
 use Rattle.machine_model.specs.Operations.{Operation, Operations}
 use Rattle.object_alloc.specs.Listed.{limit_of}
 use Rattle.machine_model.specs.Refusals.{refusal, object_named, dsts_in, srcs_in}
@@ -92,17 +93,17 @@ abbrev pub worded : Geometry → Operations → (List ℕ → ℕ → List ℕ �
     → List Held
 worded g operations meaning state (Init name count n) =
     let o = new_object g (table_of state) count n in
-    state ++ record { name = name; object = o; numbers = replicate (size_of g o) 0 } ∷ []
+    state ++ record { name = name; object = o; numbers = replicate (object_size g o) 0 } ∷ []
 worded g operations meaning state (Bbop op dst srcs count n) =
     let names = dst ∷ srcs in
     let values = map (numbers_named state) (srcs_of (operations op) names) in
-    let size = size_of g (object_named (table_of state) dst) in
+    let size = object_size g (object_named (table_of state) dst) in
     with_results state (new_numbers (λ k. computed (λ vs. slice_index (meaning op n vs) k) values
     size) 0 (dsts_of (operations op) names))
 worded g operations meaning state (Load name values) =
-    with_numbers state name (padded_to (size_of g (object_named (table_of state) name)) values)
+    with_numbers state name (padded_to (object_size g (object_named (table_of state) name)) values)
 worded g operations meaning state (Fill name value) =
-    with_numbers state name (replicate (size_of g (object_named (table_of state) name)) value)
+    with_numbers state name (replicate (object_size g (object_named (table_of state) name)) value)
 worded g operations meaning state (Print name) = state
 worded g operations meaning state (Free name) = filter (λ h. not (bytes_eq h.name name)) state
 worded g operations meaning state (Order order) = state
@@ -162,19 +163,14 @@ job_of g operations table (Print name) = record { commands = []; banks = 0 }
 job_of g operations table (Free name) = record { commands = []; banks = 0 }
 job_of g operations table (Order order) = record { commands = []; banks = 0 }
 
--- one event for each row of the object, segment by segment and rows upwards in each
-abbrev pub row_by_row : Geometry → Object → (ℕ → ℕ → Event) → List Event
-row_by_row g o event = flat_map (λ bank. map (λ k. event bank k) (range_with_len 0 o.width))
-    (range_with_len 0 (segments g o))
-
 -- a row of zeros or ones
 abbrev pub fill_events : Geometry → Object → ℕ → List Event
-fill_events g o value = row_by_row g o (λ bank k.
+fill_events g o value = each_row g o (λ bank k.
     Row bank (Aap (addr.C (bit_number (bit_at value k))) (addr.D (o.base + k))))
 
 abbrev pub load_events : Geometry → Object → List ℕ → List Event
-load_events g o values = row_by_row g o (λ bank k.
-    Write bank (o.base + k) (row_bits g (padded_to (size_of g o) values) bank k))
+load_events g o values = each_row g o (λ bank k.
+    Write bank (o.base + k) (row_bits g (padded_to (object_size g o) values) bank k))
 
 -- the events of an instruction that is done by itself
 abbrev pub own_events : Geometry → List Named → Instruction → List Event

@@ -298,3 +298,32 @@ promises (Migrate names) old new status are e = λ is.
     (migrate_of (λ s. s ≡ status → ⊥) names e.text (apart 2 (λ f. cc) (λ f. cc))
     (apart 3 (λ f. cc) (λ f. cc)) (apart 5 (λ f. cc) (λ f. cc)) (apart 10 (λ f. cc) (λ f. cc))
     (apart 11 (λ f. cc) (λ f. cc)))
+
+-- the words are this command and no other
+pub on_command : (words : List (Bor (List ℕ))) (command : Command) (P : Command → Type 0)
+    → command_of words ≡ Some command → P command → OnCommand words P
+on_command words command P e p other f =
+    let same : command ≡ other = cc in subst P same p
+
+some_not_none : (o : Option Command) (command : Command) → o ≡ Some command → o ≡ None → ⊥
+some_not_none o command e f = cc
+
+pub answers_one : (words : List (Bor (List ℕ))) (command : Command) (old new : World)
+    (status : ℕ) → command_of words ≡ Some command → CommandEnds command old new status
+    → OnCommand words (λ c. CanAnswer c status)
+answers_one words command old new status e ends =
+    on_command words command (λ c. CanAnswer c status) e (can_answer command old new status ends)
+
+pub usage_of : (words : List (Bor (List ℕ))) (command : Command) (old new : World) (status : ℕ)
+    → command_of words ≡ Some command → CommandEnds command old new status
+    → (status ≡ 1) ↔ (command_of words ≡ None)
+usage_of words command old new status e ends =
+    usage words status (λ none. absurd (some_not_none (command_of words) command e none))
+    (answers_one words command old new status e ends)
+
+pub keeps_promises : (words : List (Bor (List ℕ))) (command : Command) (old new : World)
+    (status : ℕ) → command_of words ≡ Some command → CommandEnds command old new status
+    → OnCommand words (λ c. Promises c old new status)
+keeps_promises words command old new status e ends =
+    on_command words command (λ c. Promises c old new status) e
+    (promises command old new status (command_apart words command e) ends)

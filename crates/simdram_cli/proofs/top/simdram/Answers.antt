@@ -1,3 +1,35 @@
+use Rattle.std.proofs.Common.{sym, ◌∙◌}
 use Rattle.cli_model.specs.World.{world}
-use Rattle.simdram_cli.proofs.Promising.{command_apart, can_answer, promises, usage}
+use Rattle.simdram_cli.proofs.Promising.{command_apart, answers_one, usage_of, keeps_promises}
 use Rattle.simdram_cli.proofs.top.simdram.Goals as goal
+
+pub dispatch-requires : goal.dispatch-requires
+dispatch-requires g c = command_apart c.args.words.now c.in-Some.command
+    (sym c.command_of.ensures ∙ c.in-Some.is)
+
+pub returns-in-Some-clause-usage : goal.returns-in-Some-clause-usage
+returns-in-Some-clause-usage g c =
+    usage_of c.args.words.now c.in-Some.command
+    (world (g.F.Folder.view c.args.files.now) (g.S.Sink.view c.args.out.now)
+    (g.D.Dram.view c.args.chip.now))
+    (world (g.F.Folder.view c.dispatch.new.files) (g.S.Sink.view c.dispatch.new.out)
+    (g.D.Dram.view c.dispatch.new.chip))
+    c.dispatch.result (sym c.command_of.ensures ∙ c.in-Some.is) c.dispatch.ensures.ends
+
+pub returns-in-Some-clause-no_other : goal.returns-in-Some-clause-no_other
+returns-in-Some-clause-no_other g c =
+    answers_one c.args.words.now c.in-Some.command
+    (world (g.F.Folder.view c.args.files.now) (g.S.Sink.view c.args.out.now)
+    (g.D.Dram.view c.args.chip.now))
+    (world (g.F.Folder.view c.dispatch.new.files) (g.S.Sink.view c.dispatch.new.out)
+    (g.D.Dram.view c.dispatch.new.chip))
+    c.dispatch.result (sym c.command_of.ensures ∙ c.in-Some.is) c.dispatch.ensures.ends
+
+pub returns-in-Some-clause-headline : goal.returns-in-Some-clause-headline
+returns-in-Some-clause-headline g c =
+    keeps_promises c.args.words.now c.in-Some.command
+    (world (g.F.Folder.view c.args.files.now) (g.S.Sink.view c.args.out.now)
+    (g.D.Dram.view c.args.chip.now))
+    (world (g.F.Folder.view c.dispatch.new.files) (g.S.Sink.view c.dispatch.new.out)
+    (g.D.Dram.view c.dispatch.new.chip))
+    c.dispatch.result (sym c.command_of.ensures ∙ c.in-Some.is) c.dispatch.ensures.ends

@@ -32,7 +32,7 @@ loop-instr-preserved g c =
       number = grind (arith, common_steps);
       same = c.work_line.ensures.same ∙ same;
       borrow = c.work_line.ensures.borrow ∙ c.loop-instr.invariant.borrow;
-      kept = Kept-more (g.D.Dram.view c.loop-instr.initial.chip)
+      kept = Kept-more (g.D.Dram.view c.args.chip.now)
           (g.D.Dram.view c.loop-instr.chip) (g.D.Dram.view c.work_line.new.chip)
           c.loop-instr.invariant.kept c.work_line.ensures.kept;
       aap = omega (arith, aap, c.loop-instr.invariant.aap);

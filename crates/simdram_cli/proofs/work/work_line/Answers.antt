@@ -16,9 +16,9 @@ returns-in-Ok-Refused-clause-goes g c files =
 
 pub returns-in-Err-WriteFault-clause-goes : goal.returns-in-Err-WriteFault-clause-goes
 returns-in-Err-WriteFault-clause-goes g c files =
-    let is = rw c.in-Err-WriteFault.field-0-is refl in
-    let rose = c.in-Err-WriteFault.ensures.write_fault is in
-    let part = c.in-Err-WriteFault.ensures.part is in
+    let rose =
+    c.in-Err-WriteFault.ensures.write_fault (rw c.in-Err-WriteFault.field-0-is refl) in
+    let part = c.in-Err-WriteFault.ensures.part (rw c.in-Err-WriteFault.field-0-is refl) in
     line_unput _ files (g.S.Sink.view c.args.out.now) (g.S.Sink.view c.step.new.out)
     (g.D.Dram.view c.args.chip.now) (g.D.Dram.view c.step.new.dram)
     c.step.ensures.kept.faults part c.step.ensures.sink_faults rose
