@@ -141,31 +141,3 @@ impl Folder for DiskFolder<'_> {
         }
     }
 }
-
-#[cfg(test)]
-mod tests {
-    use super::*;
-    use std::alloc::AllocError;
-
-    #[test]
-    fn what_is_stored_is_loaded(rt: HostRuntime) -> Result<(), AllocError> {
-        let name = "host_edge_test.bin";
-        let words = [name, "b", name];
-        let alloc = rt.alloc();
-        let mut folder = DiskFolder::new(rt, &words);
-        for size in [0, 1, 4096, 5000] {
-            let bytes: Vec<u8> = vec![in alloc; 7; size]?;
-            assert_eq!(rt; folder.store(name, &bytes), Ok(()));
-            let found = folder.load(name, size as u64, alloc);
-            assert!(rt; found.is_ok_and(|found| found.as_slice() == bytes.as_slice()));
-        }
-        assert_eq!(rt; folder.load(name, 4999, alloc).err(), Some(LoadNo::TooLong));
-        assert_eq!(rt;
-            folder.load("no such file", 9, alloc).err(),
-            Some(LoadNo::Failed)
-        );
-        assert_eq!(rt; folder.store("no/such/folder", b"x"), Err(Failed));
-        assert!(rt; fs::remove_file(&rt, name).is_ok());
-        Ok(())
-    }
-}

@@ -13,10 +13,10 @@ mod stream;
 mod turns;
 
 pub use answer::{Failed, LoadNo};
-pub use no_memory::NoMemory;
 pub use disk_folder::DiskFolder;
 pub use folder::Folder;
 pub use mem_folder::MemFolder;
 pub use mem_sink::MemSink;
+pub use no_memory::NoMemory;
 pub use sink::Sink;
 pub use std_sink::StdSink;

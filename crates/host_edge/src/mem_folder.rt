@@ -158,8 +158,7 @@ impl Folder for MemFolder {
     fn load(&mut self, name: &str, limit: u64, alloc: Global) -> Result<Vec<u8>, LoadNo>
         ensures files { (folder_view self.new).holds ≡ (folder_view self.old).holds }
         ensures counts { NoCountFalls (folder_view self.old) (folder_view self.new) }
-        ensures bytes { IfOk result (λ bytes. HasBytes (folder_view self.old) name.now bytes.items)
-            }
+        ensures bytes { IfOk result (λ bytes. HasBytes (folder_view self.old) name.now bytes.items) }
         ensures within { IfOk result (λ bytes. length bytes.items ≤ limit) }
         ensures failed { IsErrOf result LoadNo.Failed
             → Rose ((folder_view self.old).load_faults name.now)
@@ -222,46 +221,6 @@ impl Folder for MemFolder {
         } else {
             self.store_faults = raised(self.store_faults, 1);
             Err(Failed)
-        }
-    }
-}
-
-#[cfg(test)]
-mod tests {
-    use super::*;
-
-    #[test]
-    fn calls_in_turn(rt: HostRuntime) {
-        let mut folder = MemFolder::new(rt.alloc());
-        assert_eq!(rt; folder.put_file("a", b"hello"), Ok(()));
-        assert_eq!(rt; folder.fail_at(5), Ok(()));
-        assert_eq!(rt; folder.fail_at(6), Ok(()));
-        let loads = [
-            ("a", 5, None),
-            ("a", u64::MAX, None),
-            ("a", 4, Some(LoadNo::TooLong)),
-            ("b", 9, Some(LoadNo::Failed)),
-            ("a", 9, Some(LoadNo::Failed)),
-        ];
-        for (name, limit, want) in loads {
-            match folder.load(name, limit, rt.alloc()) {
-                Ok(bytes) => {
-                    assert_eq!(rt; bytes.as_slice(), b"hello".as_slice());
-                    assert_eq!(rt; want, None);
-                }
-                Err(no) => assert_eq!(rt; want, Some(no), "{name} up to {limit}"),
-            }
-        }
-        for (name, text, want) in [
-            ("b", "x", Err(Failed)),
-            ("b", "xy", Ok(())),
-            ("a", "", Ok(())),
-        ] {
-            assert_eq!(rt; folder.store(name, text.as_bytes()), want);
-            let kept = folder
-                .file(name)
-                .is_some_and(|bytes| bytes == text.as_bytes());
-            assert_eq!(rt; kept, want.is_ok());
         }
     }
 }

@@ -59,8 +59,7 @@ impl Sink for MemSink {
             ≡ old ++ bytes.now) (sink_view self.old).sent (sink_view self.new).sent) }
         ensures part { OnErr result (Told (AppendsPart bytes.now) (sink_view self.old).sent
             (sink_view self.new).sent) }
-        ensures failed { OnErr result (Rose (sink_view self.old).faults (sink_view self.new).faults)
-            }
+        ensures failed { OnErr result (Rose (sink_view self.old).faults (sink_view self.new).faults) }
         ensures done { OnOk result ((sink_view self.new).faults ≡ (sink_view self.old).faults) }
         ensures none_kept { OnErr result (sink_view self.new
             ≡ record (sink_view self.old) { faults = raised 1 (sink_view self.old).faults }) }
@@ -75,20 +74,5 @@ impl Sink for MemSink {
             self.faults = raised(self.faults, 1);
             Err(Failed)
         }
-    }
-}
-
-#[cfg(test)]
-mod tests {
-    use super::*;
-
-    #[test]
-    fn the_second_put_fails(rt: HostRuntime) {
-        let mut sink = MemSink::new(rt.alloc());
-        assert_eq!(rt; sink.fail_at(2), Ok(()));
-        for (bytes, want) in [("one ", Ok(())), ("two ", Err(Failed)), ("three", Ok(()))] {
-            assert_eq!(rt; sink.put(bytes.as_bytes()), want);
-        }
-        assert_eq!(rt; sink.bytes(), b"one three".as_slice());
     }
 }

@@ -52,21 +52,3 @@ impl<W: Write> Sink for StdSink<W> {
         }
     }
 }
-
-#[cfg(test)]
-mod tests {
-    use super::*;
-
-    #[test]
-    fn bytes_come_in_order(rt: HostRuntime) {
-        let mut sink = StdSink::new(Vec::new(rt.alloc()));
-        assert_eq!(rt; sink.put(b"one "), Ok(()));
-        assert_eq!(rt; sink.put(b""), Ok(()));
-        assert_eq!(rt; sink.put(b"two"), Ok(()));
-        assert_eq!(rt; sink.out.as_slice(), b"one two".as_slice());
-        let mut full = [0; 2];
-        let mut sink = StdSink::new(full.as_mut_slice());
-        assert_eq!(rt; sink.put(b"xy"), Ok(()));
-        assert_eq!(rt; sink.put(b"z"), Err(Failed));
-    }
-}

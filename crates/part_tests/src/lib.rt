@@ -1,4 +1,4 @@
-//! Tests of public calls: commands on the rows of a chip, objects in its banks, microprograms from
+//! Tests of public calls: the decode table, folders and sinks, commands on the rows of a chip, objects in its banks, microprograms from
 //! their files to the rows of a bank, and a body of row commands.
 #![tactic(auto)]
 
@@ -6,6 +6,10 @@
 mod body_tests;
 #[cfg(test)]
 mod chip_tests;
+#[cfg(test)]
+mod decode_tests;
+#[cfg(test)]
+mod edge_tests;
 #[cfg(test)]
 mod object_tests;
 #[cfg(test)]

@@ -1,0 +1,84 @@
+//! Folders and sinks, in memory and real.
+
+use host_edge::{DiskFolder, Failed, Folder, LoadNo, MemFolder, MemSink, Sink, StdSink};
+use std::alloc::AllocError;
+use std::fs;
+use std::test::*;
+
+#[test]
+fn what_is_stored_is_loaded(rt: HostRuntime) -> Result<(), AllocError> {
+    let name = "host_edge_test.bin";
+    let words = [name, "b", name];
+    let alloc = rt.alloc();
+    let mut folder = DiskFolder::new(rt, &words);
+    for size in [0, 1, 4096, 5000] {
+        let bytes: Vec<u8> = vec![in alloc; 7; size]?;
+        assert_eq!(rt; folder.store(name, &bytes), Ok(()));
+        let found = folder.load(name, size as u64, alloc);
+        assert!(rt; found.is_ok_and(|found| found.as_slice() == bytes.as_slice()));
+    }
+    assert_eq!(rt; folder.load(name, 4999, alloc).err(), Some(LoadNo::TooLong));
+    assert_eq!(rt;
+        folder.load("no such file", 9, alloc).err(),
+        Some(LoadNo::Failed)
+    );
+    assert_eq!(rt; folder.store("no/such/folder", b"x"), Err(Failed));
+    assert!(rt; fs::remove_file(&rt, name).is_ok());
+    Ok(())
+}
+
+#[test]
+fn calls_in_turn(rt: HostRuntime) {
+    let mut folder = MemFolder::new(rt.alloc());
+    assert_eq!(rt; folder.put_file("a", b"hello"), Ok(()));
+    assert_eq!(rt; folder.fail_at(5), Ok(()));
+    assert_eq!(rt; folder.fail_at(6), Ok(()));
+    let loads = [
+        ("a", 5, None),
+        ("a", u64::MAX, None),
+        ("a", 4, Some(LoadNo::TooLong)),
+        ("b", 9, Some(LoadNo::Failed)),
+        ("a", 9, Some(LoadNo::Failed)),
+    ];
+    for (name, limit, want) in loads {
+        match folder.load(name, limit, rt.alloc()) {
+            Ok(bytes) => {
+                assert_eq!(rt; bytes.as_slice(), b"hello".as_slice());
+                assert_eq!(rt; want, None);
+            }
+            Err(no) => assert_eq!(rt; want, Some(no), "{name} up to {limit}"),
+        }
+    }
+    for (name, text, want) in [
+        ("b", "x", Err(Failed)),
+        ("b", "xy", Ok(())),
+        ("a", "", Ok(())),
+    ] {
+        assert_eq!(rt; folder.store(name, text.as_bytes()), want);
+        let kept = folder
+            .file(name)
+            .is_some_and(|bytes| bytes == text.as_bytes());
+        assert_eq!(rt; kept, want.is_ok());
+    }
+}
+
+#[test]
+fn the_second_put_fails(rt: HostRuntime) {
+    let mut sink = MemSink::new(rt.alloc());
+    assert_eq!(rt; sink.fail_at(2), Ok(()));
+    for (bytes, want) in [("one ", Ok(())), ("two ", Err(Failed)), ("three", Ok(()))] {
+        assert_eq!(rt; sink.put(bytes.as_bytes()), want);
+    }
+    assert_eq!(rt; sink.bytes(), b"one three".as_slice());
+}
+
+#[test]
+fn bytes_come_in_order(rt: HostRuntime) {
+    let mut full = [0; 7];
+    let mut sink = StdSink::new(full.as_mut_slice());
+    assert_eq!(rt; sink.put(b"one "), Ok(()));
+    assert_eq!(rt; sink.put(b""), Ok(()));
+    assert_eq!(rt; sink.put(b"two"), Ok(()));
+    assert_eq!(rt; sink.put(b"!"), Err(Failed));
+    assert_eq!(rt; full.as_slice(), b"one two".as_slice());
+}
