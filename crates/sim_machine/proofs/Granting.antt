@@ -1,7 +1,7 @@
 -- A bbop that is granted.
 use Rattle.std.proofs.Common.{◌≡◌, ℕ, Bool, true, false, cond, List}
 use Rattle.std.proofs.Common.{[], ◌∷◌, map, length, refl, sym, ◌∙◌, ap, subst, arith, Some}
-use Rattle.std.proofs.Common.{None, append-nil}
+use Rattle.std.proofs.Common.{None}
 use Rattle.std.specs.Prelude.{All, Option, unwrap_or, flat_map, ◌||◌}
 use Rattle.std.specs.List.{range_with_len, find, AllByRecursion}
 use Rattle.std.specs.Option.{option_map}
@@ -15,30 +15,20 @@ use Rattle.uprog_code.specs.Shape.{Microprogram, need, results}
 use Rattle.uprog_code.specs.Machine.{trace, issues_of}
 use Rattle.uprog_code.specs.Bound.{Bound, bound, bound_of}
 use Rattle.uprog_code.specs.Fits.{Fits}
-use Rattle.uprog_code.specs.Count.{counts_of}
 use Rattle.object_alloc.specs.declared.table.Object.{Object}
 use Rattle.object_alloc.specs.Free.{free}
 use Rattle.object_alloc.specs.Listed.{Named, IsTable, limit_of, has_name, objects_of}
 use Rattle.object_alloc.specs.Spelling.{IsObject}
 use Rattle.machine_model.specs.Columns.{segments}
-use Rattle.bbop_isa.specs.Forms.{Instruction, Bbop}
-use Rattle.machine_model.specs.declared.Reply.TheVariants.{Done, Refused}
-use Rattle.machine_model.specs.declared.Why.{Why}
-use Rattle.machine_model.specs.declared.Why.TheVariants as why
-use Rattle.machine_model.specs.Operations.{Operation, Operations, operation_of, operations_in}
+use Rattle.machine_model.specs.Operations.{Operation, operation_of}
 use Rattle.machine_model.specs.Refusals.{nothing, object_named, first, bbop_conditions}
-use Rattle.machine_model.specs.Refusals.{bbop_refusal, refusal, dsts_in, srcs_in}
-use Rattle.machine_model.specs.Steps.{Held, table_of, base_for, binding, times, issues_at, bound_at}
-use Rattle.machine_model.specs.Steps.{job_of, job_events, events_of, if_done, reply_to, reply_by}
-use Rattle.machine_model.specs.Steps.{counts_for}
+use Rattle.machine_model.specs.Refusals.{dsts_in, srcs_in}
+use Rattle.machine_model.specs.Steps.{Held, table_of, base_for, binding}
 use Rattle.machine_model.proofs.Facts.{AreOperands, none, more, good}
 use Rattle.op_text.specs.declared.tree.Kind.{Kind}
 use Rattle.machine_model.proofs.Bbops.{binding_fits, operand_at}
 use Rattle.sim_machine.specs.declared.refusal.Grant.{Grant}
-use Rattle.sim_machine.specs.Granted.{IsGranted, banks_events, granted_events, granted_counts}
-use Rattle.sim_machine.specs.Granted.{instr_events}
-use Rattle.dram_model.specs.View.{ChipView, Did}
-use Rattle.dram_model.proofs.EventLaws.{Did-none}
+use Rattle.sim_machine.specs.Granted.{IsGranted, banks_events, granted_events}
 
 -- a state with this table
 still : Named → Held
@@ -133,61 +123,6 @@ events_are g table m dst srcs n rows b e f h =
     ap (λ r. ran r m (segments g (object_named table dst)) b.n (bound_of b)) e
     ∙ ap (λ w. ran g.rows m (segments g (object_named table dst)) w (bound_of b)) f
     ∙ ap (ran g.rows m (segments g (object_named table dst)) n) h
-
--- what a bbop comes to, by whether its operation is found and why it is refused
-pub refused_reply : (g : Geometry) (operations : Operations) (table : List Named)
-    (instr : Instruction) (why : Why) → refusal g operations table instr ≡ Some why
-    → Refused why ≡ reply_to g operations table instr
-refused_reply g operations table instr why e =
-    ap (λ r. reply_by r (counts_for g operations table instr)) (sym e)
-
-pub refused_did : (g : Geometry) (operations : Operations) (table : List Named)
-    (instr : Instruction) (why : Why) (chip : ChipView)
-    → refusal g operations table instr ≡ Some why
-    → Did (instr_events g operations table instr) chip chip
-refused_did g operations table instr why chip e = rw e (Did-none chip)
-
-pub no_op : (g : Geometry) (program : List Microprogram) (table : List Named) (op dst : List ℕ)
-    (srcs : List (List ℕ)) (count n : ℕ) → None ≡ find (λ m. bytes_eq m.name op) program
-    → refusal g (operations_in program) table (Bbop op dst srcs count n) ≡ Some why.NoOp
-no_op g program table op dst srcs count n e =
-    ap (λ o. bbop_refusal g table (option_map operation_of o) (dst ∷ srcs) count n) (sym e)
-
-pub refusal_at : (g : Geometry) (limit : ℕ) (program : List Microprogram) (m : Microprogram)
-    (table : List Named) (op dst : List ℕ) (srcs : List (List ℕ)) (count n : ℕ) (r : Option Why)
-    → limit ≡ limit_of g → Some m ≡ find (λ m. bytes_eq m.name op) program
-    → first (bbop_conditions limit table (operation_of m) (dst ∷ srcs) count n) ≡ r
-    → refusal g (operations_in program) table (Bbop op dst srcs count n) ≡ r
-refusal_at g limit program m table op dst srcs count n r l e h =
-    ap (λ o. bbop_refusal g table (option_map operation_of o) (dst ∷ srcs) count n) (sym e)
-    ∙ ap (λ k. first (bbop_conditions k table (operation_of m) (dst ∷ srcs) count n)) (sym l) ∙ h
-
-pub done_reply : (g : Geometry) (program : List Microprogram) (m : Microprogram)
-    (table : List Named) (op dst : List ℕ) (srcs : List (List ℕ)) (count n : ℕ)
-    → Some m ≡ find (λ m. bytes_eq m.name op) program
-    → refusal g (operations_in program) table (Bbop op dst srcs count n) ≡ None
-    → Done (granted_counts g table m dst n) ≡ reply_to g (operations_in program) table
-    (Bbop op dst srcs count n)
-done_reply g program m table op dst srcs count n e h =
-    ap (λ o. Done (times (segments g (object_named table dst))
-    (counts_of (issues_at (option_map operation_of o) n)))) e
-    ∙ ap (λ r. reply_by r (counts_for g (operations_in program) table (Bbop op dst srcs count n)))
-    (sym h)
-
-pub done_events : (g : Geometry) (program : List Microprogram) (m : Microprogram)
-    (table : List Named) (op dst : List ℕ) (srcs : List (List ℕ)) (count n : ℕ)
-    → Some m ≡ find (λ m. bytes_eq m.name op) program
-    → refusal g (operations_in program) table (Bbop op dst srcs count n) ≡ None
-    → instr_events g (operations_in program) table (Bbop op dst srcs count n)
-    ≡ granted_events g table m dst srcs n
-done_events g program m table op dst srcs count n e h =
-    ap (λ r. if_done r (events_of g (operations_in program) table (Bbop op dst srcs count n)) []) h
-    ∙ append-nil (job_events (job_of g (operations_in program) table (Bbop op dst srcs count n)))
-    ∙ ap (λ o. job_events (record {
-      commands = bound_at g table (option_map operation_of o) (dst
-          ∷ srcs) n;
-      banks = segments g (object_named table dst);
-    })) (sym e)
 
 found_case_of : {X : Type 0} (P : X → Type 0) (x m : X) (rest : Option X) (b : Bool)
     → Some m ≡ cond b (Some x) rest → P x → (Some m ≡ rest → P m) → P m

@@ -15,13 +15,6 @@ rows-enough n l = at (nat_le n 64) refl
     at true e = grind (arith, nat_tests, e)
     at false e = omega (arith, l)
 
-pub rows-some : (n : ℕ) → 0 < stage_rows n
-rows-some n = at (nat_le n 64)
-  where
-    at : (b : Bool) → 0 < (if b then 64 else 128)
-    at true = omega arith
-    at false = omega arith
-
 -- a number of fewer bits than the greatest has room for one more
 pub one-more : (n k v : ℕ) → 0 < k → k ≤ n → n ≤ WIDTH_MAX → v < 2 ^ (n - k)
     → 2 * v + 1 < 2 ^ WIDTH_MAX
