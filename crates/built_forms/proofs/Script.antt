@@ -1,6 +1,6 @@
 -- The lines of a script, read one after another.
 use Rattle.std.proofs.Common.{◌≡◌, ℕ, ◌+◌, ◌≤◌, List, [], ◌∷◌, ◌++◌, map, length, Some, None}
-use Rattle.std.proofs.Common.{Result, Ok, Err, refl, ap, ◌∙◌, append_assoc, append-nil, arith, sym}
+use Rattle.std.proofs.Common.{Result, Ok, Err, refl, ap, ◌∙◌, append_assoc, append-nil, arith}
 use Rattle.text_lex.specs.Lexical.{items_from}
 use Rattle.bbop_isa.specs.declared.instr.Instr.{Instr}
 use Rattle.bbop_isa.specs.Lines.{lines_of}
@@ -58,28 +58,6 @@ built_more (o ∷ old) i is are = (are.0, built_more old i is are.1)
 length_more : (old : List Instr) (i : Instr) → length (old ++ i ∷ []) ≤ length old + 1
 length_more [] i = omega arith
 length_more (o ∷ old) i = let h = length_more old i in omega (arith, h)
-
--- the instruction of a line is added
-pub adds_one : (line : List ℕ) (old new : List Instr) (i : Instr)
-    → built_line (line_of line) ≡ Some (Some (view_of i)) → IsBuilt (view_of i)
-    → new ≡ old ++ i ∷ [] → Added line old new
-adds_one line old new i says is e = rw e (record {
-  said = λ number rest. ap (λ l. following (map view_of old) (next_line number l rest)) says
-      ∙ one_more (map view_of old) (view_of i) rest
-      ∙ ap (λ before. following before rest) (sym (view_more old i));
-  built = built_more old i is;
-  few = length_more old i;
-})
-
--- a line without one
-pub adds_none : (line : List ℕ) (old : List Instr) → built_line (line_of line) ≡ Some None
-    → Added line old old
-adds_none line old says = record {
-  said = λ number rest. ap (λ l. following (map view_of old) (next_line number l rest)) says
-      ∙ no_more (map view_of old) rest;
-  built = λ are. are;
-  few = omega arith;
-}
 
 -- the line is added, and others are left
 pub goes_on : (text : List ℕ) (old new : List Instr) (rest line more : List ℕ) (number : ℕ)

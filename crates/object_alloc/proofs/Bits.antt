@@ -1,12 +1,12 @@
 -- The bits of words and of their bytes.
 use Rattle.std.proofs.Common.{◌≡◌, ℕ, zero, suc, ◌+◌, ◌-◌, ◌*◌, ◌/◌, ◌%◌, ◌^◌, ◌<◌, ◌==◌, Bool}
-use Rattle.std.proofs.Common.{List, [], ◌∷◌, ◌++◌, length, get_or, set, take, drop, All, refl, sym}
+use Rattle.std.proofs.Common.{List, [], ◌∷◌, ◌++◌, length, set, take, drop, All, refl, sym}
 use Rattle.std.proofs.Common.{ap, ◌∙◌, arith}
 use Rattle.std.specs.List.{flat_map}
 use Rattle.std.specs.Int.{w64, from_le_bytes, to_le_bytes}
 use Rattle.std.proofs.Math.Nat.{pow-succ', mul_assoc}
 use Rattle.std.proofs.lemmas.Grind.{flat_map-append}
-use Rattle.std.proofs.lemmas.List.{append-nil, length-append, take_more_set, take_more}
+use Rattle.std.proofs.lemmas.List.{append-nil, length-append, take_more_set}
 use Rattle.std.proofs.lemmas.Nat.{from_le_bytes-to_le_bytes_8}
 use Rattle.bit_rows.specs.Bits.{bits, bits_of_words}
 use Rattle.object_alloc.specs.Bytes.{bits_of_bytes, bytes_of_bits}
@@ -154,13 +154,3 @@ words_more bytes words i word l e so_far =
     ∙ ap (λ (xs : List Bool). xs ++ bits_of_bytes (take 8 (drop (8 * i) bytes))) so_far
     ∙ sym (flat_map-append (λ byte. bits byte 8) (take (8 * i) bytes) (take 8 (drop (8 * i) bytes)))
     ∙ ap bits_of_bytes (sym (take-add (8 * i) 8 bytes) ∙ ap (λ (n : ℕ). take n bytes) (sym next))
-
--- the bytes of a word more
-pub bytes_more : (words : List ℕ) (i : ℕ) (d : ℕ) → i < length words
-    → word_list_bytes (take (i + 1) words) ≡ word_list_bytes (take i words)
-    ++ to_le_bytes w64 (get_or words i d)
-bytes_more words i d l =
-    ap word_list_bytes (take_more words i d l)
-    ∙ flat_map-append (to_le_bytes w64) (take i words) (get_or words i d ∷ [])
-    ∙ ap (λ (xs : List ℕ). word_list_bytes (take i words)
-    ++ xs) (append-nil (to_le_bytes w64 (get_or words i d)))

@@ -1,8 +1,8 @@
 -- A table stays one.
-use Rattle.std.proofs.Common.{◌≡◌, ◌≢◌, ℕ, zero, suc, ◌+◌, ◌-◌, ◌<◌, ◌≤◌, Bool, true, false, not}
-use Rattle.std.proofs.Common.{List, [], ◌∷◌, ◌++◌, length, get_or, take, drop, refl, sym, ap, subst}
+use Rattle.std.proofs.Common.{◌≡◌, ◌≢◌, ℕ, ◌+◌, ◌-◌, ◌<◌, ◌≤◌, Bool, true, false, not}
+use Rattle.std.proofs.Common.{List, [], ◌∷◌, ◌++◌, length, get_or, refl, sym, subst}
 use Rattle.std.proofs.Common.{arith, length-append}
-use Rattle.std.specs.List.{list_all, range_with_len, filter, remove}
+use Rattle.std.specs.List.{list_all, range_with_len}
 use Rattle.std.specs.Str.{bytes_eq}
 use Rattle.std.proofs.lemmas.Bool.Decides.{nat_tests, not_from_Decides}
 use Rattle.std.proofs.lemmas.List.Folds.{list_all_at, list_any_at}
@@ -89,22 +89,6 @@ IsTable-without limit pairs name t = record {
   names = AllPairs-filter (λ p q. p.0 ≢ q.0) _ pairs t.names;
   rows = AllPairs-filter (λ p q. AreApart p.1 q.1) _ pairs t.rows;
 }
-
--- an element that passes stays before those that are left
-pub kept_more : {X : Type 0} (t : X → Bool) (xs : List X) (i : ℕ) (d : X) → i < length xs
-    → t (get_or xs i d) ≡ true → take (suc i) xs ++ filter t (drop (suc i) xs)
-    ≡ take i xs ++ filter t (drop i xs)
-kept_more t [] i d h e = absurd (omega arith)
-kept_more t (x ∷ xs) zero d h e = rw e refl
-kept_more t (x ∷ xs) (suc i) d h e = ap (λ ys. x ∷ ys) (kept_more t xs i d (omega arith) e)
-
--- one that does not pass is taken out
-pub gone_more : {X : Type 0} (t : X → Bool) (xs : List X) (i : ℕ) (d : X) → i < length xs
-    → t (get_or xs i d) ≡ false → take i (remove xs i) ++ filter t (drop i (remove xs i))
-    ≡ take i xs ++ filter t (drop i xs)
-gone_more t [] i d h e = absurd (omega arith)
-gone_more t (x ∷ xs) zero d h e = rw e refl
-gone_more t (x ∷ xs) (suc i) d h e = ap (λ ys. x ∷ ys) (gone_more t xs i d (omega arith) e)
 
 -- the same of a table as it is seen
 pub IsTable-added : (limit : ℕ) (pairs : List Named) (seen : Listing)

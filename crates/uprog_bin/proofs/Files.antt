@@ -11,8 +11,8 @@ use Rattle.uprog_bin.specs.Reading.{directory_at, listings_of, opening_in, uops_
 use Rattle.uprog_bin.specs.Reading.{codes_start, total_count, program_in, ProgFault}
 use Rattle.uprog_bin.specs.Opened.{File, file_of, accepted, programs_in, AreStarts, IsOpened}
 use Rattle.file_fields.proofs.Padded.{between_is}
-use Rattle.file_fields.specs.Fields.{◌>>=◌, rule, is_between}
-use Rattle.file_fields.proofs.Held.{field_passes, bind_ok, ok_is, rule_ok}
+use Rattle.file_fields.specs.Fields.{◌>>=◌, is_between}
+use Rattle.file_fields.proofs.Held.{field_passes, bind_ok, ok_is}
 
 pub codes_length : (ls : List Listing) (at : ℕ) (bytes : List ℕ) (ms : List Microprogram)
     → codes_at ls at bytes ≡ Ok ms → length ms ≡ length ls

@@ -242,9 +242,6 @@ last_as Bnez r h = absurd cc
 last_as Aap r h = absurd cc
 last_as Ap r h = absurd cc
 
-IsLegal : Shape → ℕ → Uop → Type 0
-IsLegal shape size i = is_legal shape size i ≡ true
-
 pub uops_legal : (n : ℕ) (shape : Shape) (size at : ℕ) (bytes : List ℕ) (code : List Uop)
     → uops_at n shape size at bytes ≡ Ok code
     → AllByRecursion (λ i. is_legal shape size i ≡ true) code

@@ -65,9 +65,6 @@ space_is (suc (suc (suc (suc (suc (suc zero)))))) h = refl
 space_is (suc (suc (suc (suc (suc (suc (suc n))))))) h = absurd (omega arith)
 
 -- the bytes of an instruction, before they are read
-abbrev pub row_text : RawRow → List ℕ
-row_text x = x.space ∷ x.which ∷ x.index ∷ []
-
 abbrev pub text_of : Raw → List ℕ
 text_of r = r.number ∷ r.x.space ∷ r.x.which ∷ r.x.index ∷ r.y.space ∷ r.y.which ∷ r.y.index
     ∷ r.spare ∷ []
