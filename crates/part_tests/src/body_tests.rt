@@ -7,7 +7,7 @@ ghost use Rattle.row_alloc.specs.Body.{FitBody};
 use crate::rows::play;
 use dram_chip::{Addr, Chip, Command, Dram, Geometry};
 use mig_graph::{Lit, Mig, NoMemory};
-use row_alloc::{BodyCmd, BodyRef, OutRow, plain_body};
+use row_alloc::{BodyCmd, BodyRef, OutRow, check_body, plain_body};
 use std::alloc::Global;
 use std::process::Abort;
 use std::test::Fail;
@@ -119,5 +119,31 @@ fn a_body_adds_in_a_chip(rt: HostRuntime) -> Result<(), Fail> {
     assert_eq!(rt; row_of(&mut chip, 2)?, (a & b) | (a & c) | (b & c));
     assert_eq!(rt; row_of(&mut chip, 8)?, a ^ b ^ c);
     assert_eq!(rt; row_of(&mut chip, 9)?, u64::MAX);
+    Ok(())
+}
+
+// Nine commands add one bit, and eight of them do not.
+#[test]
+fn nine_commands_add(rt: HostRuntime) -> Result<(), Fail> {
+    let (m, outs) = full_adder(&rt, rt.alloc())?;
+    let cmds = [
+        BodyCmd::Aap(BodyRef::In(0), BodyRef::B(10)),
+        BodyCmd::Aap(BodyRef::In(1), BodyRef::B(1)),
+        BodyCmd::Aap(BodyRef::In(2), BodyRef::B(8)),
+        BodyCmd::Ap(BodyRef::B(14)),
+        BodyCmd::Aap(BodyRef::In(1), BodyRef::B(6)),
+        BodyCmd::Aap(BodyRef::B(15), BodyRef::B(5)),
+        BodyCmd::Aap(BodyRef::In(2), BodyRef::B(2)),
+        BodyCmd::Aap(BodyRef::B(14), BodyRef::Out(0)),
+        BodyCmd::Aap(BodyRef::B(0), BodyRef::Out(1)),
+    ];
+    assert!(rt; check_body(&m, &outs, &cmds));
+    let mut fewer = Vec::new(rt.alloc());
+    for (k, cmd) in cmds.iter().enumerate() {
+        if k != 6 {
+            fewer.push(*cmd)?;
+        }
+    }
+    assert!(rt; !check_body(&m, &outs, &fewer));
     Ok(())
 }

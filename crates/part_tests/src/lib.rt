@@ -1,5 +1,6 @@
-//! Tests of public calls: the decode table, folders and sinks, commands on the rows of a chip, objects in its banks, microprograms from
-//! their files to the rows of a bank, and a body of row commands.
+//! Tests of public calls: the decode table, folders and sinks, commands on the rows of a chip,
+//! objects in its banks, microprograms from their files to the rows of a bank, walks, and bodies of
+//! row commands.
 #![tactic(auto)]
 
 #[cfg(test)]
@@ -16,3 +17,5 @@ mod object_tests;
 mod program_tests;
 #[cfg(test)]
 mod rows;
+#[cfg(test)]
+mod walk_tests;

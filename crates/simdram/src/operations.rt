@@ -175,7 +175,7 @@ static OPERATIONS: [Operation; 26] = [
     },
 ];
 
-static WIDTHS: [u8; 8] = [1, 2, 7, 8, 31, 64, 65, 128];
+static WIDTHS: [u8; 9] = [1, 2, 7, 8, 31, 64, 65, 127, 128];
 
 /// The rows of the images here: objects of up to 385 rows, scratch of up to 258, and the spill
 /// group.

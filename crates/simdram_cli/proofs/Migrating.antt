@@ -1,10 +1,10 @@
 -- How a migration goes and ends.
-use Rattle.std.proofs.Common.{◌≡◌, ◌⊎◌, ℕ, Bool, true, false, List, [], ◌∷◌, ◌++◌, Option, Some}
+use Rattle.std.proofs.Common.{◌≡◌, ◌⊎◌, ℕ, ◌≤◌, Bool, true, false, List, [], ◌∷◌, ◌++◌, Option, Some}
 use Rattle.std.proofs.Common.{None, refl, sym, ◌∙◌, ap, subst, inl, inr, append-nil}
 use Rattle.std.specs.Prelude.{Result, Ok, Err, IfOk, IfSome, bytes_eq, ◌≢◌, length}
 use Rattle.std.proofs.lemmas.Slice.Eq.{bytes_eq-Decides}
 use Rattle.dram_model.specs.View.{ChipView}
-use Rattle.host_edge.specs.Views.{Files, FolderView, SinkView, Told}
+use Rattle.host_edge.specs.Views.{Files, FolderView, SinkView, Told, AppendsPart, Rose}
 use Rattle.uprog_code.specs.Programs.{IsProgram}
 use Rattle.uprog_bin.specs.Spelling.{HasVersion, program_bytes}
 use Rattle.uprog_bin.specs.Reading.{program_in, ProgFault}
@@ -13,8 +13,8 @@ use Rattle.uprog_bin.proofs.Whole.{read}
 use Rattle.machine_model.specs.Operations.{Program}
 use Rattle.machine_model.proofs.Places.{bytes_differ}
 use Rattle.cli_model.specs.World.{World, world, with_file}
-use Rattle.cli_model.specs.Steps.{Step, Store, Put, Refusal, Refused, End, Done, Stopped, Goes}
-use Rattle.cli_model.specs.Steps.{loading}
+use Rattle.cli_model.specs.Steps.{Step, Store, Put, Refusal, Refused, CannotWrite, PutFailed, End}
+use Rattle.cli_model.specs.Steps.{Done, Stopped, Goes, Stored, Unstored, loading}
 use Rattle.cli_model.specs.Stands.{files_after, sent_by}
 use Rattle.cli_model.specs.Status.{Tells}
 use Rattle.cli_model.specs.Ends.{Ended, All, EndsSo, IsAllDone, IsForetold, done_steps}
@@ -33,6 +33,7 @@ use Rattle.simdram_cli.proofs.Foreseen.{was_read, text_at, if_there}
 use Rattle.simdram_cli.proofs.Joins.{told_text, told_is_text, loaded_text, loading_goes}
 use Rattle.simdram_cli.proofs.Joins.{loading_stops}
 use Rattle.simdram_cli.proofs.Loaded.{loaded_ends, load_is_step}
+use Rattle.simdram_cli.proofs.Stores.{sent}
 
 -- OLD was not loaded
 pub old_unread : (names : MigrateNames) (stop : Stop) (old new : FolderView) (sink : SinkView)
@@ -89,6 +90,36 @@ old_read names text result f old mid last sink after chip loaded g none = record
   );
   nothing = none;
 }
+
+pub not_stored : (name bytes line : List ℕ) (f g : FolderView) (s : SinkView) (chip : ChipView)
+    → Unstored name (world f s chip) (world g s chip)
+    → Goes (Store name bytes ∷ Put line ∷ []) (Stopped (CannotWrite name)) (world f s chip)
+    (world g s chip)
+not_stored name bytes line f g s chip u = inr (refl, u)
+
+pub not_told : (name bytes line : List ℕ) (f g : FolderView) (s t : SinkView) (chip : ChipView)
+    → Stored name bytes (world f s chip) (world g s chip)
+    → Told (AppendsPart line) s.sent t.sent → s.faults ≤ t.faults → Rose s.faults t.faults
+    → Goes (Store name bytes ∷ Put line ∷ []) (Stopped PutFailed) (world f s chip) (world g t chip)
+not_told name bytes line f g s t chip u p n r = inl (
+  world g s chip,
+  (u, inr (refl, sent (AppendsPart line) g s t chip p n, r)),
+)
+
+pub all_told : (name bytes line : List ℕ) (f g : FolderView) (s t : SinkView) (chip : ChipView)
+    → Stored name bytes (world f s chip) (world g s chip)
+    → Told (λ before after. after ≡ before ++ line) s.sent t.sent → s.faults ≤ t.faults
+    → Goes (Store name bytes ∷ Put line ∷ []) Done (world f s chip) (world g t chip)
+all_told name bytes line f g s t chip u p n = inl (
+  world g s chip,
+  (
+    u,
+    inl (
+      world g t chip,
+      (sent (λ before after. after ≡ before ++ line) g s t chip p n, refl),
+    ),
+  ),
+)
 
 -- how a migration that went through its steps ends
 pub migrate_ends : (names : MigrateNames) (old mid new : World) (result : Result ℕ Stop)
