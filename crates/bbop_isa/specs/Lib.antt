@@ -1,5 +1,6 @@
 -- What a script says.
 pub mod Lines
+pub mod Numbers
 pub mod Words
 pub mod Forms
 pub mod Script

@@ -1,12 +1,12 @@
 -- The tokens of a line, as a script sees them.
-use Rattle.std.specs.Prelude.{ℕ, ◌^◌, nat_lt, List, [], ◌∷◌, map, Option, Some, None, if◌then◌else◌}
+use Rattle.std.specs.Prelude.{ℕ, List, [], ◌∷◌, map, Option, Some, None, if◌then◌else◌}
 use Rattle.std.specs.Prelude.{bytes_eq, codes}
 use Rattle.std.specs.Option.{option_map}
-use Rattle.std.specs.Str.Parse.{digits_value}
 use denote.Ref.{Bor}
 use Rattle.text_lex.specs.declared.token.TokenKind.{TokenKind}
 use Rattle.text_lex.specs.declared.token.TokenKind.TheVariants as kind
 use Rattle.text_lex.specs.Lexical.{Item, Whole, Bad}
+use Rattle.bbop_isa.specs.Numbers.{number_of}
 use Rattle.bbop_isa.specs.declared.words.Word.{Word as Kept}
 use Rattle.bbop_isa.specs.declared.words.Word.TheVariants as kept
 
@@ -16,11 +16,6 @@ pub data Word : Type 0 where
   Number : Option ℕ → Word
   Comma : Word
   Other : Word
-
--- the value that digits write, where it is below 2^128
-abbrev pub number_of : List ℕ → Option ℕ
-number_of digits = if nat_lt (digits_value 10 digits) (2 ^ 128) then Some (digits_value 10 digits)
-    else None
 
 abbrev pub word_at : TokenKind → List ℕ → Word
 word_at kind.Name text = Name text

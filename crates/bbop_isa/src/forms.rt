@@ -11,6 +11,7 @@ ghost use Rattle.bbop_isa.specs.Forms.{bbop_of, load_of, fill_of, lone_name, ord
 ghost use Rattle.bbop_isa.specs.Forms.{of_operands, instruction_of, line_of};
 ghost use Rattle.bbop_isa.specs.Reading.{Gives, ValuesOf, IsNoTarget, operands_view};
 
+use crate::digits::Digits;
 use crate::instr::LineNo::{self, Bad};
 use crate::instr::ScriptKind::{BadName, BadNumber, Syntax};
 use crate::instr::{Instr, Order};
@@ -55,21 +56,21 @@ fn verb_of(head: &[u8]) -> Option<Verb>
 }
 
 /// The one item.
-fn only<T: Copy>(items: &[T]) -> Option<T>
-    ensures { MatchOption result (length items.now ≢ 1) (λ x. items.now ≡ x ∷ []) }
+fn only<T>(items: &[T]) -> Option<&T>
+    ensures { MatchOption result (length items.now ≢ 1) (λ x. items.now ≡ x.now ∷ []) }
 {
     match items {
-        [item] => Some(*item),
+        [item] => Some(item),
         _ => None,
     }
 }
 
 /// The two items.
-fn pair<T: Copy>(items: &[T]) -> Option<(T, T)>
-    ensures { MatchOption result (length items.now ≢ 2) (λ p. items.now ≡ p.0 ∷ p.1 ∷ []) }
+fn pair<T>(items: &[T]) -> Option<(&T, &T)>
+    ensures { MatchOption result (length items.now ≢ 2) (λ p. items.now ≡ p.0.now ∷ p.1.now ∷ []) }
 {
     match items {
-        [first, second] => Some((*first, *second)),
+        [first, second] => Some((first, second)),
         _ => None,
     }
 }
@@ -97,15 +98,15 @@ fn width_of(number: Option<Value>) -> Option<u8>
 }
 
 /// A number of elements, and a width in bits.
-fn sizes_of(count: Option<Value>, n: Option<Value>) -> Option<(u32, u8)>
-    ensures { MatchOption result ((is_count count && is_width n)
-        ≡ false) (λ p. ((is_count count && is_width n) ≡ true) × (p.0 ≡ value count)
-        × (p.1 ≡ value n)) }
+fn sizes_of(count: &Digits<'_>, n: &Digits<'_>) -> Option<(u32, u8)>
+    ensures { MatchOption result ((is_count count.now && is_width n.now)
+        ≡ false) (λ p. ((is_count count.now && is_width n.now) ≡ true) × (p.0 ≡ value count.now)
+        × (p.1 ≡ value n.now)) }
 {
-    Some((count_of(count)?, width_of(n)?))
+    Some((count_of(count.value())?, width_of(n.value())?))
 }
 
-fn init_of(names: &[&[u8]], numbers: &[Option<Value>]) -> Result<Instr, LineNo>
+fn init_of(names: &[&[u8]], numbers: &[Digits<'_>]) -> Result<Instr, LineNo>
     ensures { Gives view_of (init_of (texts_in names.now) numbers.now) result }
 {
     let Some(name) = only(names) else {
@@ -158,7 +159,7 @@ fn targets<'a, 'b>(names: &'b [&'a [u8]]) -> Option<(&'a [u8], &'b [&'a [u8]])>
     }
 }
 
-fn bbop_of(op: &[u8], names: &[&[u8]], numbers: &[Option<Value>]) -> Result<Instr, LineNo>
+fn bbop_of(op: &[u8], names: &[&[u8]], numbers: &[Digits<'_>]) -> Result<Instr, LineNo>
     ensures { Gives view_of (bbop_of op.now (texts_in names.now) numbers.now) result }
 {
     let Some((dst, srcs)) = targets(names) else {
@@ -183,12 +184,12 @@ fn bbop_of(op: &[u8], names: &[&[u8]], numbers: &[Option<Value>]) -> Result<Inst
 }
 
 /// The values, where all are right.
-fn values_of(numbers: &[Option<Value>], alloc: Global) -> Result<Vec<Value>, LineNo>
+fn values_of(numbers: &[Digits<'_>], alloc: Global) -> Result<Vec<Value>, LineNo>
     ensures { ValuesOf numbers.now result }
 {
     let mut values = Vec::new(alloc);
     for number in numbers {
-        let Some(value) = *number else {
+        let Some(value) = number.value() else {
             return Err(Bad(BadNumber));
         };
         keep(&mut values, value)?;
@@ -196,7 +197,7 @@ fn values_of(numbers: &[Option<Value>], alloc: Global) -> Result<Vec<Value>, Lin
     Ok(values)
 }
 
-fn load_of(names: &[&[u8]], numbers: &[Option<Value>], alloc: Global) -> Result<Instr, LineNo>
+fn load_of(names: &[&[u8]], numbers: &[Digits<'_>], alloc: Global) -> Result<Instr, LineNo>
     ensures { Gives view_of (load_of (texts_in names.now) numbers.now) result }
 {
     let Some(name) = only(names) else {
@@ -212,26 +213,26 @@ fn load_of(names: &[&[u8]], numbers: &[Option<Value>], alloc: Global) -> Result<
     Ok(Instr::Load { name, values })
 }
 
-fn fill_of(names: &[&[u8]], numbers: &[Option<Value>]) -> Result<Instr, LineNo>
+fn fill_of(names: &[&[u8]], numbers: &[Digits<'_>]) -> Result<Instr, LineNo>
     ensures { Gives view_of (fill_of (texts_in names.now) numbers.now) result }
 {
     let Some(name) = only(names) else {
         return Err(Bad(Syntax));
     };
-    let Some(value) = only(numbers) else {
+    let Some(number) = only(numbers) else {
         return Err(Bad(Syntax));
     };
     let Some(name) = Name::new(name) else {
         return Err(Bad(BadName));
     };
-    match value {
+    match number.value() {
         Some(value) => Ok(Instr::Fill { name, value }),
         None => Err(Bad(BadNumber)),
     }
 }
 
 /// The one name that stands alone.
-fn lone_name(names: &[&[u8]], numbers: &[Option<Value>]) -> Result<Name, LineNo>
+fn lone_name(names: &[&[u8]], numbers: &[Digits<'_>]) -> Result<Name, LineNo>
     ensures { Gives (λ name. name) (lone_name (texts_in names.now) numbers.now) result }
 {
     let Some(name) = only(names) else {
@@ -261,13 +262,19 @@ fn order_of(words: &[Word<'_>]) -> Result<Instr, LineNo>
     ensures { Gives view_of (order_of (map word_view words.now)) result }
 {
     match words {
-        [Word::Name(word)] if *word == b"in".as_slice() => Ok(Instr::Order(Order::Forward)),
-        [Word::Name(word)] if *word == b"turns".as_slice() => Ok(Instr::Order(Order::Turns)),
-        [Word::Name(word), Word::Number(seed)] if *word == b"seed".as_slice() => match seed_of(
-            *seed,
-        ) {
-            Some(seed) => Ok(Instr::Order(Order::Seed(seed))),
-            None => Err(Bad(BadNumber)),
+        [word] => match word {
+            Word::Name(word) if *word == b"in".as_slice() => Ok(Instr::Order(Order::Forward)),
+            Word::Name(word) if *word == b"turns".as_slice() => Ok(Instr::Order(Order::Turns)),
+            _ => Err(Bad(Syntax)),
+        },
+        [word, seed] => match (word, seed) {
+            (Word::Name(word), Word::Number(seed)) if *word == b"seed".as_slice() => {
+                match seed_of(seed.value()) {
+                    Some(seed) => Ok(Instr::Order(Order::Seed(seed))),
+                    None => Err(Bad(BadNumber)),
+                }
+            }
+            _ => Err(Bad(Syntax)),
         },
         _ => Err(Bad(Syntax)),
     }

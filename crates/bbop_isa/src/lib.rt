@@ -1,6 +1,7 @@
 //! Scripts: texts of instructions for the machine, one a line.
 #![tactic(auto)]
 
+mod digits;
 mod forms;
 mod instr;
 mod laws;

@@ -3,9 +3,9 @@
 ghost use Rattle.std.specs.Prelude.{◌≡◌};
 ghost use Rattle.bbop_isa.specs.Reading.{OperandsOf, Pushes, Takes};
 
+use crate::digits::Digits;
 use crate::instr::LineNo;
 use crate::words::Word;
-use bit_rows::Value;
 use no_memory::keep;
 use std::alloc::Global;
 
@@ -13,28 +13,28 @@ use std::alloc::Global;
 #[derive(Drop)]
 pub(crate) struct Operands<'a> {
     pub names: Vec<&'a [u8]>,
-    pub numbers: Vec<Option<Value>>,
+    pub numbers: Vec<Digits<'a>>,
     /// Whether the next word is to be a comma.
     at_comma: bool,
 }
 
 impl<'a> Operands<'a> {
     /// Whether the word is a name, or a number; with no name behind a number.
-    fn push(&mut self, word: Word<'a>) -> Result<bool, LineNo>
-        ensures pushed { Pushes self.old word.entry result self.new }
+    fn push(&mut self, word: &Word<'a>) -> Result<bool, LineNo>
+        ensures pushed { Pushes self.old word.now result self.new }
         ensures comma { self.new.at_comma ≡ self.old.at_comma }
     {
         match word {
-            Word::Name(name) if self.numbers.is_empty() => keep(&mut self.names, name)?,
-            Word::Number(number) => keep(&mut self.numbers, number)?,
+            Word::Name(name) if self.numbers.is_empty() => keep(&mut self.names, *name)?,
+            Word::Number(number) => keep(&mut self.numbers, number.copied())?,
             _ => return Ok(false),
         }
         Ok(true)
     }
 
     /// Whether the word may come next.
-    fn take(&mut self, word: Word<'a>) -> Result<bool, LineNo>
-        ensures { Takes self.old word.entry result self.new }
+    fn take(&mut self, word: &Word<'a>) -> Result<bool, LineNo>
+        ensures { Takes self.old word.now result self.new }
     {
         if self.at_comma {
             self.at_comma = false;
@@ -59,7 +59,7 @@ pub(crate) fn operands_of<'a>(
         at_comma: false,
     };
     for word in words {
-        if !operands.take(*word)? {
+        if !operands.take(word)? {
             return Ok(None);
         }
     }

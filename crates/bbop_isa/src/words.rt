@@ -7,17 +7,17 @@ ghost use Rattle.text_lex.specs.declared.token.TokenKind.TheVariants as kind;
 ghost use Rattle.bbop_isa.specs.Words.{word_at, word_view};
 ghost use Rattle.bbop_isa.specs.Reading.{WordsOf};
 
+use crate::digits::Digits;
 use crate::instr::{LineNo, ScriptKind};
-use bit_rows::Value;
 use no_memory::keep;
 use std::alloc::Global;
-use text_lex::{Lexer, Token, TokenKind, items_are_right, number};
+use text_lex::{Lexer, Token, TokenKind, items_are_right};
 
-/// A token. A number is `None` where its value is 2^128 or more.
-#[derive(Clone, Copy)]
+/// A token.
+#[derive(Drop)]
 pub(crate) enum Word<'a> {
     Name(&'a [u8]),
-    Number(Option<Value>),
+    Number(Digits<'a>),
     Comma,
     Other,
 }
@@ -28,7 +28,7 @@ fn word_of(token: Token<'_>) -> Word<'_>
 {
     match token.kind {
         TokenKind::Name => Word::Name(token.text),
-        TokenKind::Number => Word::Number(number(token.text)),
+        TokenKind::Number => Word::Number(Digits::new(token.text)),
         TokenKind::Symbol => {
             if token.text == b",".as_slice() {
                 Word::Comma

@@ -1,0 +1,54 @@
+//! Numbers, as a script writes them.
+
+ghost use Rattle.std.specs.Prelude.{◌≡◌};
+ghost use Rattle.std.specs.Char.{is_ascii_digit};
+ghost use Rattle.std.specs.List.{AllPass};
+ghost use Rattle.bbop_isa.specs.Numbers.{number_of};
+
+use bit_rows::Value;
+use std::marker::Model;
+use text_lex::number;
+
+/// The digits of a number, seen as its value, or `None` where that is 2^128 or more.
+///
+/// A line keeps its numbers so, since a value takes more bytes.
+#[derive(Drop)]
+pub(crate) struct Digits<'a> {
+    text: &'a [u8],
+}
+
+impl<'a> Model for Digits<'a> {
+    ghost use Rattle.std.specs.Prelude.{ℕ, Option};
+    ghost use Rattle.std.specs.Char.{is_ascii_digit};
+    ghost use Rattle.std.specs.List.{AllPass};
+    ghost use Rattle.bbop_isa.specs.Numbers.{number_of};
+
+    ghost Value = { Option ℕ };
+
+    ghost view = { λ d. number_of d.text.now };
+
+    ghost invariant = { λ d. AllPass is_ascii_digit d.text.now };
+}
+
+impl<'a> Digits<'a> {
+    pub fn new(text: &'a [u8]) -> Digits<'a>
+        requires { AllPass is_ascii_digit text.now }
+        ensures { result ≡ number_of text.now }
+    {
+        Digits { text }
+    }
+
+    /// The value.
+    pub fn value(&self) -> Option<Value>
+        ensures { result ≡ self.now }
+    {
+        number(self.text)
+    }
+
+    /// The same digits again.
+    pub fn copied(&self) -> Digits<'a>
+        ensures { result ≡ self.now }
+    {
+        Digits { text: self.text }
+    }
+}
