@@ -4,6 +4,7 @@ use crate::runs::{Object, image_of, number_at, run};
 use bit_rows::Value;
 use op_text::WordOp;
 use std::alloc::{AllocError, Global};
+use std::process::Abort;
 use std::test::*;
 
 /// A word operation, its name, whether its arguments are one, two or three (the third a bit), and
@@ -16,7 +17,7 @@ struct Operation {
     bit: bool,
 }
 
-static OPERATIONS: [Operation; 26] = [
+static FAST: [Operation; 23] = [
     Operation {
         op: WordOp::Not,
         name: "not",
@@ -80,24 +81,6 @@ static OPERATIONS: [Operation; 26] = [
     Operation {
         op: WordOp::Sub,
         name: "sub",
-        takes: 2,
-        bit: false,
-    },
-    Operation {
-        op: WordOp::Mul,
-        name: "mul",
-        takes: 2,
-        bit: false,
-    },
-    Operation {
-        op: WordOp::Div,
-        name: "div",
-        takes: 2,
-        bit: false,
-    },
-    Operation {
-        op: WordOp::Rem,
-        name: "rem",
         takes: 2,
         bit: false,
     },
@@ -175,7 +158,27 @@ static OPERATIONS: [Operation; 26] = [
     },
 ];
 
-static WIDTHS: [u8; 9] = [1, 2, 7, 8, 31, 64, 65, 127, 128];
+/// The operations whose commands grow with the square of the width.
+static SLOW: [Operation; 3] = [
+    Operation {
+        op: WordOp::Mul,
+        name: "mul",
+        takes: 2,
+        bit: false,
+    },
+    Operation {
+        op: WordOp::Div,
+        name: "div",
+        takes: 2,
+        bit: false,
+    },
+    Operation {
+        op: WordOp::Rem,
+        name: "rem",
+        takes: 2,
+        bit: false,
+    },
+];
 
 /// The rows of the images here: objects of up to 385 rows, scratch of up to 258, and the spill
 /// group.
@@ -321,13 +324,42 @@ fn right_columns(operation: &Operation, n: u8, alloc: Global) -> Result<u32, Fai
     Ok(right)
 }
 
-#[test]
-fn operations_have_their_values(rt: HostRuntime) -> Result<(), Fail> {
-    for operation in OPERATIONS.as_slice() {
-        for n in WIDTHS {
-            let right = right_columns(operation, n, rt.alloc())?;
-            assert_eq!(rt; (operation.name, n, right), (operation.name, n, 64));
-        }
+/// Asserts that operations have their values at a width.
+fn all_are_right(
+    rt: &impl Abort,
+    operations: &[Operation],
+    n: u8,
+    alloc: Global,
+) -> Result<(), Fail> {
+    for operation in operations {
+        let right = right_columns(operation, n, alloc)?;
+        assert_eq!(rt; (operation.name, n, right), (operation.name, n, 64));
     }
     Ok(())
+}
+
+#[test]
+fn operations_have_their_values(rt: HostRuntime) -> Result<(), Fail> {
+    for n in [1, 2, 7, 8, 31, 64, 65, 127, 128] {
+        all_are_right(&rt, &FAST, n, rt.alloc())?;
+    }
+    Ok(())
+}
+
+#[test]
+fn products_have_their_values(rt: HostRuntime) -> Result<(), Fail> {
+    for n in [1, 2, 7, 8, 31, 64, 65] {
+        all_are_right(&rt, &SLOW, n, rt.alloc())?;
+    }
+    Ok(())
+}
+
+#[test]
+fn products_at_127_have_their_values(rt: HostRuntime) -> Result<(), Fail> {
+    all_are_right(&rt, &SLOW, 127, rt.alloc())
+}
+
+#[test]
+fn products_at_128_have_their_values(rt: HostRuntime) -> Result<(), Fail> {
+    all_are_right(&rt, &SLOW, 128, rt.alloc())
 }

@@ -1,6 +1,8 @@
 -- How a migration goes and ends.
 use Rattle.std.proofs.Common.{◌≡◌, ◌⊎◌, ℕ, ◌≤◌, Bool, true, false, List, [], ◌∷◌, ◌++◌, Option, Some}
-use Rattle.std.proofs.Common.{None, refl, sym, ◌∙◌, ap, subst, inl, inr, append-nil}
+use Rattle.std.proofs.Common.{None, refl, sym, ◌∙◌, ap, subst, inl, inr, append-nil, take, drop}
+use Rattle.std.proofs.Common.{arith}
+use Rattle.std.proofs.lemmas.Grind.{common_steps}
 use Rattle.std.specs.Prelude.{Result, Ok, Err, IfOk, IfSome, bytes_eq, ◌≢◌, length}
 use Rattle.std.proofs.lemmas.Slice.Eq.{bytes_eq-Decides}
 use Rattle.dram_model.specs.View.{ChipView}
@@ -69,6 +71,14 @@ old_refused names stop text fault old new sink chip loaded e f = record {
 -- the program of a program file
 pub prog_is : (text : List ℕ) → (f : IsProgramFile text) → prog_in text ≡ Ok f.programs
 prog_is text f = ap prog_in f.spelled ∙ ap program_or_refusal (read f.version f.programs f.is f.has)
+
+pub entries_are : (r : Result ℕ ProgFault) (k n : ℕ) → r ≡ Ok k → r ≡ Ok n → k ≡ n
+entries_are r k n e f = cc
+
+-- a vector that was written whole
+pub written : (len : ℕ) (new old : List ℕ) → length new ≡ len
+    → take len (new ++ drop (length new) old) ≡ new
+written len new old h = grind (arith, common_steps)
 
 -- OLD was read
 pub old_read : (names : MigrateNames) (text : List ℕ) (result : Result ℕ Stop)

@@ -51,7 +51,12 @@ pub fn status_of(stop: Stop<'_>) -> u8
 }
 
 /// Puts three pieces, up to the first that fails.
-fn put_three<S: Sink>(first: &[u8], second: &[u8], third: &[u8], out: &mut S) -> Result<(), Failed>
+pub(crate) fn put_three<S: Sink>(
+    first: &[u8],
+    second: &[u8],
+    third: &[u8],
+    out: &mut S,
+) -> Result<(), Failed>
     ensures counts { (S.view out.old).faults ≤ (S.view out.new).faults }
     ensures sent { OnOk result (Told (λ before after. after
         ≡ before ++ (first.now ++ second.now ++ third.now)) (S.view out.old).sent

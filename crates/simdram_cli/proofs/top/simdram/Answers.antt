@@ -4,8 +4,10 @@ use Rattle.simdram_cli.proofs.Promising.{command_apart, answers_one, usage_of, k
 use Rattle.simdram_cli.proofs.top.simdram.Goals as goal
 
 pub dispatch-requires : goal.dispatch-requires
-dispatch-requires g c = command_apart c.args.words.now c.in-Some.command
-    (sym c.command_of.ensures ∙ c.in-Some.is)
+dispatch-requires g c = record {
+  apart = command_apart c.args.words.now c.in-Some.command
+      (sym c.command_of.ensures ∙ c.in-Some.is);
+}
 
 pub returns-in-Some-clause-usage : goal.returns-in-Some-clause-usage
 returns-in-Some-clause-usage g c =
