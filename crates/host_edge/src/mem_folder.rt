@@ -158,7 +158,8 @@ impl Folder for MemFolder {
     fn load(&mut self, name: &str, limit: u64, alloc: Global) -> Result<Vec<u8>, LoadNo>
         ensures files { (folder_view self.new).holds ≡ (folder_view self.old).holds }
         ensures counts { NoCountFalls (folder_view self.old) (folder_view self.new) }
-        ensures bytes { IfOk result (λ bytes. HasBytes (folder_view self.old) name.now bytes.items) }
+        ensures bytes { IfOk result (λ bytes. HasBytes (folder_view self.old) name.now
+            bytes.items) }
         ensures within { IfOk result (λ bytes. length bytes.items ≤ limit) }
         ensures failed { IsErrOf result LoadNo.Failed
             → Rose ((folder_view self.old).load_faults name.now)

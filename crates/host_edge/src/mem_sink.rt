@@ -59,7 +59,8 @@ impl Sink for MemSink {
             ≡ old ++ bytes.now) (sink_view self.old).sent (sink_view self.new).sent) }
         ensures part { OnErr result (Told (AppendsPart bytes.now) (sink_view self.old).sent
             (sink_view self.new).sent) }
-        ensures failed { OnErr result (Rose (sink_view self.old).faults (sink_view self.new).faults) }
+        ensures failed { OnErr result (Rose (sink_view self.old).faults
+            (sink_view self.new).faults) }
         ensures done { OnOk result ((sink_view self.new).faults ≡ (sink_view self.old).faults) }
         ensures none_kept { OnErr result (sink_view self.new
             ≡ record (sink_view self.old) { faults = raised 1 (sink_view self.old).faults }) }

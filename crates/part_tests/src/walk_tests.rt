@@ -1,8 +1,8 @@
 //! Walks: how many commands a microprogram issues, and where it is stuck.
 
-ghost use Rattle.std.specs.Prelude.{◌≡◌, ◌∷◌, [], None, IfOk};
+ghost use Rattle.std.specs.Prelude.{◌≡◌, IfOk};
 ghost use Rattle.uprog_code.specs.Shape.{shape_of};
-ghost use Rattle.op_text.specs.declared.tree.Kind.TheVariants.{Word};
+ghost use Rattle.part_tests.specs.Xor.{xor_shape};
 
 use arrayvec::ArrayVec;
 use std::alloc::Global;
@@ -29,9 +29,7 @@ fn row(space: RowSpace, which: u8, index: u8) -> RowRef
 
 /// An operation on two words, with this code.
 fn on_two_words(code: &[Uop], alloc: Global) -> Result<EntryCode, Fail>
-    ensures shape { IfOk result (λ e. shape_of e.head
-        ≡ record { sources = Word ∷ Word ∷ []; result = Word; second = None; bits = 0; words = 0 })
-            }
+    ensures shape { IfOk result (λ e. shape_of e.head ≡ xor_shape) }
     ensures code { IfOk result (λ e. e.code.items ≡ code.now) }
 {
     let mut sources = ArrayVec::new();
@@ -99,7 +97,12 @@ fn walks_are_stuck(rt: HostRuntime) -> Result<(), Fail> {
 #[test]
 fn sums_end_at_the_greatest_subscript(rt: HostRuntime) -> Result<(), Fail> {
     for (second, counts) in [(511, Ok(Counts { aap: 0, ap: 0 })), (512, Err(OVER))] {
-        let code = [Uop::SetI(0, 512), Uop::SetI(1, second), Uop::Add(0, 1), Uop::Done];
+        let code = [
+            Uop::SetI(0, 512),
+            Uop::SetI(1, second),
+            Uop::Add(0, 1),
+            Uop::Done,
+        ];
         let entry = on_two_words(&code, rt.alloc())?;
         assert_eq!(rt; walk(&entry, 128), counts);
     }

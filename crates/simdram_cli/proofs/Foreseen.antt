@@ -1,6 +1,6 @@
 -- What a command that is done has read.
 use Rattle.std.proofs.Common.{◌≡◌, ℕ, Bool, true, false, cond, List, Option, Some, None, refl, sym}
-use Rattle.std.proofs.Common.{◌∙◌, ap, subst, length}
+use Rattle.std.proofs.Common.{ap, subst, length}
 use Rattle.std.specs.Prelude.{Result, Ok, Err, IfSome, nat_lt}
 use Rattle.host_edge.specs.Views.{Files}
 use Rattle.op_text.specs.Language.{Operation}

@@ -4,7 +4,7 @@ use Rattle.std.specs.Prelude.{Result, Ok, Err}
 use Rattle.cli_model.specs.World.{World}
 use Rattle.cli_model.specs.Steps.{Step, Refusal, Reason, End, Done, Stopped, Goes, loading}
 use Rattle.cli_model.specs.Status.{Tells, Says, reason_status, reason_line, end_status}
-use Rattle.cli_model.specs.Ends.{Stop, Ended, All, At, Ends, EndsSo, IsStopped, done_steps}
+use Rattle.cli_model.specs.Ends.{Stop, Ended, At, Ends, EndsSo, IsStopped, done_steps}
 use Rattle.cli_model.proofs.Ending.{all_ends, stop_ends}
 use Rattle.cli_model.proofs.Statuses.{end_more}
 use Rattle.simdram_cli.specs.Reads.{StopsAtLoad}

@@ -1,9 +1,9 @@
 -- How a migration goes and ends.
-use Rattle.std.proofs.Common.{◌≡◌, ◌⊎◌, ℕ, ◌≤◌, Bool, true, false, List, [], ◌∷◌, ◌++◌, Option, Some}
+use Rattle.std.proofs.Common.{◌≡◌, ℕ, ◌≤◌, List, [], ◌∷◌, ◌++◌, Option, Some}
 use Rattle.std.proofs.Common.{None, refl, sym, ◌∙◌, ap, subst, inl, inr, append-nil, take, drop}
 use Rattle.std.proofs.Common.{arith}
 use Rattle.std.proofs.lemmas.Grind.{common_steps}
-use Rattle.std.specs.Prelude.{Result, Ok, Err, IfOk, IfSome, bytes_eq, ◌≢◌, length}
+use Rattle.std.specs.Prelude.{Result, Ok, Err, IfOk, IfSome, length}
 use Rattle.std.proofs.lemmas.Slice.Eq.{bytes_eq-Decides}
 use Rattle.dram_model.specs.View.{ChipView}
 use Rattle.host_edge.specs.Views.{Files, FolderView, SinkView, Told, AppendsPart, Rose}
@@ -15,7 +15,7 @@ use Rattle.uprog_bin.proofs.Whole.{read}
 use Rattle.machine_model.specs.Operations.{Program}
 use Rattle.machine_model.proofs.Places.{bytes_differ}
 use Rattle.cli_model.specs.World.{World, world, with_file}
-use Rattle.cli_model.specs.Steps.{Step, Store, Put, Refusal, Refused, CannotWrite, PutFailed, End}
+use Rattle.cli_model.specs.Steps.{Step, Store, Put, Refusal, Refused, CannotWrite, PutFailed}
 use Rattle.cli_model.specs.Steps.{Done, Stopped, Goes, Stored, Unstored, loading}
 use Rattle.cli_model.specs.Stands.{files_after, sent_by}
 use Rattle.cli_model.specs.Status.{Tells}
@@ -31,7 +31,7 @@ use Rattle.simdram_cli.specs.Ends.{answer_to}
 use Rattle.simdram_cli.specs.Run.{done_status}
 use Rattle.simdram_cli.specs.Migrate.{migrate_steps, migrated_line, MigrateEnds, Migrated}
 use Rattle.simdram_cli.specs.Migrate.{MigrateGoes}
-use Rattle.simdram_cli.proofs.Foreseen.{was_read, text_at, if_there}
+use Rattle.simdram_cli.proofs.Foreseen.{was_read, text_at}
 use Rattle.simdram_cli.proofs.Joins.{told_text, told_is_text, loaded_text, loading_goes}
 use Rattle.simdram_cli.proofs.Joins.{loading_stops}
 use Rattle.simdram_cli.proofs.Loaded.{loaded_ends, load_is_step}

@@ -3,7 +3,6 @@ use Rattle.std.proofs.Common.{◌≡◌, ℕ, ◌+◌, ◌<◌, ◌≤◌, Bool,
 use Rattle.std.proofs.Common.{◌++◌, Option, Some, None, refl, sym, subst, length}
 use Rattle.std.specs.Prelude.{◌*◌, ◌^◌, ◌==◌, nat_lt, nat_le, not, zip, is_none}
 use Rattle.std.specs.List.{AllByRecursion}
-use Rattle.std.specs.Str.{bytes_eq}
 use Rattle.std.specs.Option.{option_map}
 use Rattle.dram_model.specs.declared.geometry.Geometry.{Geometry}
 use Rattle.bit_rows.specs.declared.TheConstants.{WIDTH_MAX}

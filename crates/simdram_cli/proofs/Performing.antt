@@ -1,5 +1,5 @@
 -- A script that was done on an image, as the steps of a run.
-use Rattle.std.proofs.Common.{◌≡◌, ℕ, ◌*◌, true, List, [], ◌∷◌, ◌++◌, Some, sym, ◌∙◌, ap, subst}
+use Rattle.std.proofs.Common.{◌≡◌, ℕ, ◌*◌, List, [], ◌∷◌, ◌++◌, sym, ◌∙◌, ap, subst}
 use Rattle.std.specs.Prelude.{count_by}
 use Rattle.dram_model.specs.declared.geometry.Geometry.{Geometry}
 use Rattle.dram_model.specs.declared.dram.Counters.{Counters}

@@ -1,7 +1,7 @@
 -- A run that ends with 0 or 8 keeps its promises.
-use Rattle.std.proofs.Common.{◌≡◌, ◌⊎◌, ℕ, ◌+◌, ◌<◌, Bool, true, false, cond, List, [], ◌∷◌, ◌++◌}
+use Rattle.std.proofs.Common.{◌≡◌, ℕ, ◌+◌, false, List, [], ◌∷◌, ◌++◌}
 use Rattle.std.proofs.Common.{Option, Some, None, refl, sym, ◌∙◌, ap, subst, inl, inr, append_assoc}
-use Rattle.std.proofs.Common.{append-nil, arith}
+use Rattle.std.proofs.Common.{append-nil}
 use Rattle.std.specs.Prelude.{Result, Ok, Err, bytes_eq, ◌≢◌, IfSome}
 use Rattle.std.specs.Result.{result_ok}
 use Rattle.std.proofs.lemmas.Slice.Eq.{bytes_eq-Decides}
@@ -19,7 +19,7 @@ use Rattle.cli_model.specs.World.{World, with_file}
 use Rattle.cli_model.specs.Steps.{Step, Load, Take, Store, Use, Put, Refusal, loading, Done}
 use Rattle.cli_model.specs.Stands.{files_after, sent_by}
 use Rattle.cli_model.specs.Foreseen.{foreseen}
-use Rattle.cli_model.specs.Ends.{Ended, All, Ends, EndsSo, IsAllDone, IsForetold, Stores, IsStoreOf}
+use Rattle.cli_model.specs.Ends.{Ended, All, EndsSo, IsAllDone, IsForetold, Stores}
 use Rattle.cli_model.specs.Ends.{done_steps}
 use Rattle.built_forms.specs.Texts.{ops_in, script_in, image_of}
 use Rattle.simdram_cli.specs.declared.words.RunNames.{RunNames}
@@ -27,8 +27,8 @@ use Rattle.simdram_cli.specs.declared.words.TheConstants.{OPS_MAX, SCRIPT_MAX, I
 use Rattle.simdram_cli.specs.Run.{Texts, run_steps, work_steps, line_steps, said_by, image_by}
 use Rattle.simdram_cli.specs.Run.{tally_by, refused_by, done_status}
 use Rattle.simdram_cli.specs.Ends.{IsCompiled, IsRead, DoneBy, IsDoneBy, run_status, RunEnds}
-use Rattle.simdram_cli.specs.Headline.{Job, IsJob, Spells, read_as, Headline}
-use Rattle.simdram_cli.proofs.Foreseen.{WasRead, was_read, text_at, spells_at}
+use Rattle.simdram_cli.specs.Headline.{IsJob, read_as, Headline}
+use Rattle.simdram_cli.proofs.Foreseen.{was_read, text_at, spells_at}
 use Rattle.simdram_cli.proofs.Running.{Apart}
 use Rattle.simdram_cli.proofs.Tallies.{some_words}
 use Rattle.simdram_cli.proofs.Promises.{job_of, IsDone, objects_right, rows_untouched}

@@ -1,10 +1,8 @@
 -- What the top call promises, from how a command ends.
 use Rattle.std.proofs.Common.{◌≡◌, ◌⊎◌, inl, inr, arith, ℕ, Bool, true, false, cond, List, [], ◌∷◌}
-use Rattle.std.proofs.Common.{◌+◌, ◌++◌, Option, Some, None, refl, sym, subst}
-use Rattle.std.specs.Prelude.{Result, Ok, Err, ◌↔◌, ◌==◌, ◌&&◌, not, bytes_eq, codes, IfSome}
-use Rattle.std.specs.List.{list_any}
+use Rattle.std.proofs.Common.{◌+◌, Option, Some, None, refl, subst}
+use Rattle.std.specs.Prelude.{Result, Ok, Err, ◌↔◌, ◌&&◌, not, bytes_eq, codes}
 use denote.Ref.{Bor}
-use Rattle.host_edge.specs.Views.{Told}
 use Rattle.bbop_isa.specs.Forms.{Instruction}
 use Rattle.machine_model.specs.Operations.{Program}
 use Rattle.machine_model.specs.Opened.{Image}
@@ -12,13 +10,11 @@ use Rattle.machine_model.specs.Report.{Said, total_line}
 use Rattle.op_text.specs.declared.fault.OpsFault.{OpsFault}
 use Rattle.op_text.specs.Language.{Operation}
 use Rattle.op_text.specs.Lines.{fault_in}
-use Rattle.op_print.specs.Canonical.{canonical_text}
 use Rattle.object_alloc.specs.Reading.{ImageFault}
 use Rattle.object_alloc.specs.Reading.{Found, image_in}
 use Rattle.bbop_isa.specs.Lines.{lines_of}
 use Rattle.cli_model.specs.World.{World}
-use Rattle.cli_model.specs.Steps.{Step, Use, Take, Store, Put, Refusal, loading}
-use Rattle.cli_model.specs.Ends.{Ends}
+use Rattle.cli_model.specs.Steps.{Step, Use, Store, Put, Refusal, loading}
 use Rattle.cli_model.proofs.Statuses.{OfSteps, OfRefusal, of_more, ends_so, all_done}
 use Rattle.built_forms.specs.Texts.{ops_in, unless_fault, script_in, image_of, image_found}
 use Rattle.built_forms.specs.Texts.{built_from, at_line, built_image, is_built_image, not_yet}
@@ -30,10 +26,9 @@ use Rattle.simdram_cli.specs.declared.words.Command.TheVariants.{Run, Show, Migr
 use Rattle.simdram_cli.specs.Words.{command_of, are_apart, IsApart}
 use Rattle.simdram_cli.specs.Reads.{refusal_of}
 use Rattle.simdram_cli.specs.Run.{Texts, run_steps, work_steps, line_steps, said_by, image_by}
-use Rattle.simdram_cli.specs.Run.{tally_by, refused_by, done_status}
-use Rattle.simdram_cli.specs.Ends.{RunEnds, run_status, status_on}
-use Rattle.simdram_cli.specs.Headline.{Headline}
-use Rattle.simdram_cli.specs.Show.{show_steps, ShowEnds, Shown}
+use Rattle.simdram_cli.specs.Run.{tally_by, refused_by}
+use Rattle.simdram_cli.specs.Ends.{run_status, status_on}
+use Rattle.simdram_cli.specs.Show.{show_steps}
 use Rattle.simdram_cli.specs.Migrate.{migrate_steps}
 use Rattle.simdram_cli.specs.Programs.{prog_in, program_or_refusal}
 use Rattle.simdram_cli.proofs.Migrating.{migrated}

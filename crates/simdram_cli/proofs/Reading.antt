@@ -1,7 +1,7 @@
 -- Files that were loaded, and what they were read as.
 use Rattle.std.proofs.Common.{◌≡◌, ℕ, List, Some, None, ap}
 use Rattle.std.specs.Prelude.{Result, Ok, Err, codes}
-use Rattle.host_edge.specs.Views.{FolderView, SinkView}
+use Rattle.host_edge.specs.Views.{FolderView}
 use Rattle.bbop_isa.specs.Lines.{lines_of}
 use Rattle.bbop_isa.specs.Forms.{Instruction}
 use Rattle.cli_model.specs.World.{world}

@@ -1,7 +1,7 @@
 -- The parts of a run.
 use Rattle.std.proofs.Common.{◌≡◌, ℕ, Bool, true, false, List, [], ◌∷◌, map, refl, sym, ◌∙◌, ap}
 use Rattle.std.proofs.Common.{inl, eqb-true}
-use Rattle.std.specs.Prelude.{Result, Ok, Err, IfOk, IfErr, bytes_eq, not, ◌&&◌, ◌==◌, codes}
+use Rattle.std.specs.Prelude.{Result, Ok, Err, IfOk, IfErr, bytes_eq, not, ◌==◌, codes}
 use Rattle.std.specs.List.{AllByRecursion, list_all}
 use Rattle.std.proofs.lemmas.Slice.Eq.{bytes_eq-Decides}
 use Rattle.dram_model.specs.View.{ChipView}

@@ -1,14 +1,14 @@
 -- How a show goes and ends.
-use Rattle.std.proofs.Common.{◌≡◌, ◌⊎◌, ℕ, ◌≤◌, List, [], ◌∷◌, ◌++◌, Option, Some, None, refl, sym}
+use Rattle.std.proofs.Common.{◌≡◌, ℕ, ◌≤◌, List, [], ◌∷◌, ◌++◌, refl}
 use Rattle.std.proofs.Common.{◌∙◌, ap, subst, inl, inr, append-nil}
 use Rattle.std.specs.Prelude.{Result, Ok, Err, IfOk, IfSome}
 use Rattle.dram_model.specs.View.{ChipView}
-use Rattle.host_edge.specs.Views.{Files, FolderView, SinkView, Told, AppendsPart, Rose}
+use Rattle.host_edge.specs.Views.{FolderView, SinkView, Told, AppendsPart, Rose}
 use Rattle.op_text.specs.Language.{Operation}
 use Rattle.op_text.specs.OpsOf.{IsOpsOf}
 use Rattle.op_print.specs.Canonical.{canonical_text}
 use Rattle.cli_model.specs.World.{World, world}
-use Rattle.cli_model.specs.Steps.{Step, Load, Take, Put, Refusal, NoMemory, PutFailed, End, Done}
+use Rattle.cli_model.specs.Steps.{Take, Put, Refusal, NoMemory, PutFailed, Done}
 use Rattle.cli_model.specs.Steps.{Stopped, Goes, loading}
 use Rattle.cli_model.specs.Stands.{sent_by}
 use Rattle.cli_model.specs.Status.{Tells}
@@ -18,11 +18,10 @@ use Rattle.cli_model.proofs.Statuses.{OfSteps, all_done}
 use Rattle.built_forms.specs.Texts.{ops_in}
 use Rattle.simdram_cli.specs.declared.words.TheConstants.{OPS_MAX}
 use Rattle.simdram_cli.specs.declared.stop.Stop.{Stop as StopBy}
-use Rattle.simdram_cli.specs.Reads.{IsText, NotRead, OpsRead}
+use Rattle.simdram_cli.specs.Reads.{NotRead, OpsRead}
 use Rattle.simdram_cli.specs.Stops.{end_of, reason_of}
 use Rattle.simdram_cli.specs.Ends.{answer_to}
 use Rattle.simdram_cli.specs.Run.{done_status}
-use Rattle.simdram_cli.specs.Headline.{Spells}
 use Rattle.simdram_cli.specs.Show.{show_steps, ShowGoes, ShowEnds, Shown}
 use Rattle.simdram_cli.proofs.Loaded.{loaded_ends, load_is_step}
 use Rattle.simdram_cli.proofs.Foreseen.{was_read, text_at, if_there, spells_at}

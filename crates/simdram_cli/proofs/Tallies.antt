@@ -3,19 +3,19 @@ use Rattle.std.proofs.Common.{◌≡◌, ℕ, zero, suc, ◌+◌, ◌*◌, List,
 use Rattle.std.proofs.Common.{None, refl, sym, ◌∙◌, ap, subst, arith, append-nil, add-zero}
 use Rattle.std.proofs.Common.{zero-add}
 use Rattle.std.proofs.Common.{true, ◌<◌}
-use Rattle.std.specs.Prelude.{All, Bool, false, ◌&&◌, ◌≤◌, IfSome, flat_map, nat_le}
+use Rattle.std.specs.Prelude.{All, Bool, false, ◌&&◌, IfSome, flat_map, nat_le}
 use Rattle.std.proofs.lemmas.Bool.{leb-true}
 use Rattle.std.specs.List.{range_with_len, AllByRecursion}
 use Rattle.std.proofs.Math.Nat.{suc-mul}
 use Rattle.dram_model.specs.declared.dram.Counters.{Counters}
 use Rattle.dram_model.specs.declared.address.Command.TheVariants.{Ap, Aap}
-use Rattle.dram_model.specs.Chip.{Banks, Event, after, counted, all_counted, Grew}
+use Rattle.dram_model.specs.Chip.{Event, after, counted, all_counted, Grew}
 use Rattle.dram_model.specs.Chip.Event.{Row, Write}
 use Rattle.dram_model.specs.View.{ChipView, Did, DidRead, with_reads}
 use Rattle.dram_model.proofs.EventLaws.{all_counted-append}
 use Rattle.dram_model.specs.declared.geometry.Geometry.{Geometry}
 use Rattle.dram_model.specs.Geometry.{is_geometry, is_between, fits_size}
-use Rattle.object_alloc.specs.Listed.{Listing, Named}
+use Rattle.object_alloc.specs.Listed.{Listing}
 use Rattle.object_alloc.specs.Spelling.{IsObject, Rows}
 use Rattle.sim_machine.specs.Granted.{IsSetting}
 use Rattle.bbop_isa.specs.Forms.{Instruction}

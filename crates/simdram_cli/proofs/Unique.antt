@@ -1,16 +1,12 @@
 -- The files determine the job of the headline.
-use Rattle.std.proofs.Common.{◌≡◌, ◌⊎◌, List, Option, Some, None, refl, sym, ◌∙◌, ap, inr}
-use Rattle.std.specs.Prelude.{Result}
-use Rattle.host_edge.specs.Views.{Files}
+use Rattle.std.proofs.Common.{◌≡◌, List, Option, Some, None, refl, sym, ◌∙◌, inr}
 use Rattle.op_text.specs.Language.{Operation}
 use Rattle.op_text.proofs.Meeting.{ops_of_a_text_are_one}
 use Rattle.bbop_isa.specs.Forms.{Instruction}
 use Rattle.machine_model.specs.Operations.{Program}
 use Rattle.machine_model.specs.Opened.{Image}
-use Rattle.uprog_bin.specs.Spelling.{program_bytes}
 use Rattle.uprog_bin.proofs.Versions.{file_is_one}
-use Rattle.simdram_cli.specs.declared.words.RunNames.{RunNames}
-use Rattle.simdram_cli.specs.Headline.{Job, IsJob, Spells, ProgramWritten, OneJob}
+use Rattle.simdram_cli.specs.Headline.{Job, Spells, OneJob}
 
 same_ops : (file : Option (List _)) (a b : List Operation) → Spells file a → Spells file b → a ≡ b
 same_ops None a b s t = absurd s
