@@ -5,6 +5,7 @@ use Rattle.dram_model.specs.Chip.{Event}
 use Rattle.uprog_code.specs.Shape.{Microprogram, microprograms_of}
 use Rattle.object_alloc.specs.Listed.{Named}
 use Rattle.object_alloc.specs.Reading.{rows_size}
+use Rattle.object_alloc.specs.declared.sizes.TheConstants.{HEAD_BYTES, RECORD_BYTES, OBJECTS_MAX}
 use Rattle.sim_machine.specs.declared.machine.Machine.{Machine}
 use Rattle.bbop_isa.specs.Forms.{Instruction}
 use Rattle.machine_model.specs.declared.Reply.{Reply}
@@ -32,7 +33,8 @@ file_of m = m.file.items
 pub record IsReady (m : Machine) : Type 0 where
   pub set : IsSetting m.geometry m.table (microprograms_of m.program)
   pub stage : length m.stage.items ≡ m.geometry.words
-  pub room : 14 + 24 * 256 + rows_size m.geometry ≤ vec_capacity m.file
+  pub room : HEAD_BYTES + RECORD_BYTES * OBJECTS_MAX + rows_size m.geometry
+      ≤ vec_capacity m.file
 
 -- its reply to an instruction, and the line of that reply
 abbrev pub reply_of : Machine → Instruction → Reply

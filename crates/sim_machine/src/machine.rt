@@ -29,7 +29,7 @@ use bbop_isa::Instr;
 use dram_model::{BeginNo, ChipFault, Dram, Geometry};
 use host_edge::{Failed, Sink};
 use machine_model::Reply;
-use object_alloc::{Image, Table, put_head};
+use object_alloc::{HEAD_BYTES, Image, OBJECTS_MAX, RECORD_BYTES, Table, put_head};
 use std::alloc::Global;
 use uprog_code::{Program, WALK_MAX};
 
@@ -59,9 +59,11 @@ pub enum StepFault {
 
 /// The bytes of an image file of 256 objects.
 fn file_size(g: Geometry) -> usize
-    ensures { result ≡ 14 + 24 * 256 + rows_size g }
+    ensures { result ≡ HEAD_BYTES + RECORD_BYTES * OBJECTS_MAX + rows_size g }
 {
-    14 + 24 * 256 + 8 * (usize::from(g.banks) * usize::from(g.rows) * usize::from(g.words))
+    HEAD_BYTES
+        + RECORD_BYTES * OBJECTS_MAX
+        + 8 * (usize::from(g.banks) * usize::from(g.rows) * usize::from(g.words))
 }
 
 /// One row of words.
@@ -78,7 +80,8 @@ fn make_stage(words: u16, alloc: Global) -> Result<Vec<u64>, StartNo>
 /// Room for an image file.
 fn make_file(g: Geometry, alloc: Global) -> Result<Vec<u8>, StartNo>
     ensures empty { IfOk result (λ file. file.items ≡ []) }
-    ensures room { IfOk result (λ file. 14 + 24 * 256 + rows_size g ≤ vec_capacity file) }
+    ensures room { IfOk result (λ file. HEAD_BYTES + RECORD_BYTES * OBJECTS_MAX + rows_size g
+        ≤ vec_capacity file) }
     ensures failed { IsErrOf result StartNo.ChipFault → ⊥ }
 {
     match Vec::with_capacity(alloc, file_size(g)) {

@@ -3,6 +3,8 @@
 ghost use Rattle.std.specs.Prelude.{◌≡◌, [], ◌∷◌};
 ghost use Rattle.simdram_cli.specs.Words.{all_differ, are_apart, command_of};
 
+use object_alloc::IMAGE_BYTES_MAX;
+
 /// The greatest length of each file, in bytes.
 pub const OPS_MAX: u64 = 65_536;
 
@@ -10,7 +12,7 @@ pub const PROG_MAX: u64 = 4_194_304;
 
 pub const SCRIPT_MAX: u64 = 16_777_216;
 
-pub const IMAGE_MAX: u64 = 67_115_022;
+pub const IMAGE_MAX: u64 = IMAGE_BYTES_MAX as u64;
 
 /// The files of `run`.
 #[derive(Clone, Copy)]
