@@ -13,6 +13,8 @@ use std::process::ExitCode;
 use std::{env, io};
 
 #[cfg(test)]
+mod compiled;
+#[cfg(test)]
 mod jobs;
 #[cfg(test)]
 mod migrated;

@@ -8,7 +8,8 @@ use Rattle.bbop_isa.specs.Forms.{Instruction}
 use Rattle.machine_model.specs.Operations.{Program}
 use Rattle.machine_model.specs.Opened.{Image}
 use Rattle.cli_model.specs.World.{World}
-use Rattle.cli_model.specs.Steps.{Step, Load, Take, Store, Refusal, Done, Stopped, Goes, loading}
+use Rattle.cli_model.specs.Steps.{Step, Load, Take, Store, Refusal, Reason, Done, Stopped, Goes}
+use Rattle.cli_model.specs.Steps.{loading}
 use Rattle.cli_model.specs.Status.{Tells, Says, reason_status, reason_line}
 use Rattle.cli_model.specs.Ends.{Stop, Ended, All, At, Ends, EndsSo, IsStopped, IsStoreOf, Stores}
 use Rattle.cli_model.specs.Ends.{done_steps}
@@ -65,102 +66,114 @@ not_refused_stored name step (x ∷ []) at rest other e (inr s) = s
 not_refused_stored name step (x ∷ y ∷ front) at rest other e s =
     let left : (y ∷ front) ++ at ∷ rest ≡ [] = cc in no_more (y ∷ front) at rest left
 
-abbrev first_of : RunNames → Program → List ℕ → Result (Unit {0}) Refusal → List Step
-first_of names program text read = loading names.ops.now OPS_MAX text read
-    (λ t. Take ∷ Store names.prog.now (program_bytes 2 program) ∷ [])
+abbrev first_of : (ops prog : List ℕ) → Program → Result (Unit {0}) Refusal → List ℕ → List Step
+first_of ops prog program read text =
+    loading ops OPS_MAX text read (λ t. Take ∷ Store prog (program_bytes 2 program) ∷ [])
 
-first_not_stored : (names : RunNames) (program : Program) (text : List ℕ)
+first_not_stored : (ops prog : List ℕ) (program : Program) (text : List ℕ)
     (read : Result (Unit {0}) Refusal) (front : List Step) (at : Step) (rest : List Step)
-    → front ++ at ∷ rest ≡ first_of names program text read → Stores names.prog.now front → ⊥
-first_not_stored names program text (Ok u) front at rest e s =
-    not_stored names.prog.now text (program_bytes 2 program) names.ops.now OPS_MAX front at rest e
-    s
-first_not_stored names program text (Err r) front at rest e s =
-    not_refused_stored names.prog.now _ front at rest (λ x. x) e s
+    → front ++ at ∷ rest ≡ first_of ops prog program read text → Stores prog front → ⊥
+first_not_stored ops prog program text (Ok u) front at rest e s =
+    not_stored prog text (program_bytes 2 program) ops OPS_MAX front at rest e s
+first_not_stored ops prog program text (Err r) front at rest e s =
+    not_refused_stored prog _ front at rest (λ x. x) e s
 
--- what comes behind the first steps of a run
-abbrev last_of : RunNames → Program → Texts → Result (Unit {0}) Refusal → List Step
-last_of names program texts (Ok u) =
-    loading names.script.now SCRIPT_MAX texts.script (script_in texts.script) (λ script.
-    loading names.image.now IMAGE_MAX texts.image (image_of texts.image) (λ i.
-    work_steps names.out.now program script i))
-last_of names program texts (Err r) = []
+-- what comes behind the store of PROG
+abbrev last_of : List Step → Result (Unit {0}) Refusal → List Step
+last_of rest (Ok u) = rest
+last_of rest (Err r) = []
 
-abbrev whole_of : RunNames → Program → Texts → Result (Unit {0}) Refusal → List Step
-whole_of names program texts read = loading names.ops.now OPS_MAX texts.ops read (λ t.
-    Take ∷ Store names.prog.now (program_bytes 2 program)
-    ∷ loading names.script.now SCRIPT_MAX texts.script (script_in texts.script) (λ script.
-    loading names.image.now IMAGE_MAX texts.image (image_of texts.image) (λ i.
-    work_steps names.out.now program script i)))
+-- OPS is compiled and PROG stored, and then there are other steps
+abbrev pub stored_first : (ops prog : List ℕ) → Program → List ℕ → List Step
+    → Result (Unit {0}) Refusal → List Step
+stored_first ops prog program text rest read =
+    loading ops OPS_MAX text read (λ t. Take ∷ Store prog (program_bytes 2 program) ∷ rest)
 
-whole_is : (names : RunNames) (program : Program) (texts : Texts)
+whole_is : (ops prog : List ℕ) (program : Program) (text : List ℕ) (rest : List Step)
     (read : Result (Unit {0}) Refusal)
-    → first_of names program texts.ops read ++ last_of names program texts read
-    ≡ whole_of names program texts read
-whole_is names program texts (Ok u) = refl
-whole_is names program texts (Err r) = refl
+    → first_of ops prog program read text ++ last_of rest read
+    ≡ stored_first ops prog program text rest read
+whole_is ops prog program text rest (Ok u) = refl
+whole_is ops prog program text rest (Err r) = refl
 
--- the end of a run, and that PROG was not stored or is compiled
-record Tail (names : RunNames) (program : Program) (texts : Texts) (done : ℕ) (old new : World)
-    (status : ℕ) : Type 0 where
-  ends : Ends (run_steps names program texts) done old new status
-  stop : Stop
-  is : ends.ended ≡ At stop
-  compiled : Stores names.prog.now stop.before → IsCompiled texts.ops program
+-- the end of a command that stopped, and that PROG was not stored or is compiled
+pub record Tail (prog : List ℕ) (program : Program) (text : List ℕ) (steps : List Step) (done : ℕ)
+    (old new : World) (status : ℕ) : Type 0 where
+  pub ends : Ends steps done old new status
+  pub stop : Stop
+  pub is : ends.ended ≡ At stop
+  pub compiled : Stores prog (done_steps steps ends.ended) → IsCompiled text program
 
-early_tail : (names : RunNames) (program : Program) (texts : Texts) (done : ℕ) (by : StopBy)
-    (old mid new : World) (status : ℕ)
-    → Goes (first_steps names program texts.ops) (Stopped (reason_of by)) old mid
-    → Says (reason_line (reason_of by)) mid new → status ≡ reason_status (reason_of by)
-    → Tail names program texts done old new status
-early_tail names program texts done by old mid new status g says answers =
-    let read = ops_in texts.ops in
-    let firsts = first_of names program texts.ops read in
-    let s = stop_ends firsts done (reason_of by) old mid new status g says answers in
-    let whole = end_more firsts (last_of names program texts read) done done s.0 old new status s.1
-    s.2 in
+stored_before : (prog : List ℕ) (steps : List Step) (ended : Ended) (stop : Stop)
+    → ended ≡ At stop → Stores prog (done_steps steps ended) → Stores prog stop.before
+stored_before prog steps ended stop e s =
+    subst (λ (x : Ended). Stores prog (done_steps steps x)) e s
+
+early_tail : (ops prog : List ℕ) (program : Program) (text : List ℕ) (rest : List Step) (done : ℕ)
+    (reason : Reason) (old mid new : World) (status : ℕ)
+    → Goes (first_steps ops prog program text) (Stopped reason) old mid
+    → Says (reason_line reason) mid new → status ≡ reason_status reason
+    → Tail prog program text (stored_first ops prog program text rest (ops_in text)) done old new
+    status
+early_tail ops prog program text rest done reason old mid new status g says answers =
+    let read = ops_in text in
+    let firsts = first_of ops prog program read text in
+    let steps = stored_first ops prog program text rest read in
+    let s = stop_ends firsts done reason old mid new status g says answers in
+    let whole = end_more firsts (last_of rest read) done done s.0 old new status s.1 s.2 in
     let so : IsStopped firsts s.0 old new status =
     subst (λ (x : Ended). EndsSo firsts done x old new status) s.2 s.1.so in
-    let more : Stop = record s.0 { behind = s.0.behind ++ last_of names program texts read } in
-    let moved : (f : Ends (run_steps names program texts) done old new status)
-    × (f.ended ≡ At more) =
+    let more : Stop = record s.0 { behind = s.0.behind ++ last_of rest read } in
+    let moved : (f : Ends steps done old new status) × (f.ended ≡ At more) =
     subst (λ (xs : List Step). (f : Ends xs done old new status) × (f.ended ≡ At more))
-    (whole_is names program texts read) whole in
+    (whole_is ops prog program text rest read) whole in
     record {
       ends = moved.0;
       stop = more;
       is = moved.1;
-      compiled = λ stored. absurd (first_not_stored names program texts.ops read s.0.before
-          s.0.failed s.0.behind so.place stored);
+      compiled = λ stored. absurd (first_not_stored ops prog program text read s.0.before
+          s.0.failed s.0.behind so.place
+          (stored_before prog steps moved.0.ended more moved.1 stored));
     }
 
-late_tail : (names : RunNames) (program : Program) (texts : Texts) (done : ℕ) (by : StopBy)
-    (old mid new : World) (status : ℕ) → IsCompiled texts.ops program
-    → Goes (run_steps names program texts) (Stopped (reason_of by)) old mid
-    → Says (reason_line (reason_of by)) mid new → status ≡ reason_status (reason_of by)
-    → Tail names program texts done old new status
-late_tail names program texts done by old mid new status compiled g says answers =
-    let s = stop_ends (run_steps names program texts) done (reason_of by) old mid new status g says
-    answers in
+late_tail : (prog : List ℕ) (program : Program) (text : List ℕ) (steps : List Step) (done : ℕ)
+    (reason : Reason) (old mid new : World) (status : ℕ) → IsCompiled text program
+    → Goes steps (Stopped reason) old mid → Says (reason_line reason) mid new
+    → status ≡ reason_status reason → Tail prog program text steps done old new status
+late_tail prog program text steps done reason old mid new status compiled g says answers =
+    let s = stop_ends steps done reason old mid new status g says answers in
     record { ends = s.1; stop = s.0; is = s.2; compiled = λ stored. compiled }
 
-tail_of : (names : RunNames) (program : Program) (texts : Texts) (done : ℕ) (by : StopBy)
-    (old mid new : World) (status : ℕ)
-    → StoppedEarly names program texts.ops (Stopped (reason_of by)) old mid
-    ⊎ (IsCompiled texts.ops program
-    × Goes (run_steps names program texts) (Stopped (reason_of by)) old mid)
-    → Says (reason_line (reason_of by)) mid new → status ≡ reason_status (reason_of by)
-    → Tail names program texts done old new status
-tail_of names program texts done by old mid new status (inl g) says answers =
-    early_tail names program texts done by old mid new status g says answers
-tail_of names program texts done by old mid new status (inr g) says answers =
-    late_tail names program texts done by old mid new status g.0 g.1 says answers
+-- how a command stopped that loads OPS, stores PROG and goes on
+pub tail_of : (ops prog : List ℕ) (program : Program) (text : List ℕ) (rest : List Step) (done : ℕ)
+    (reason : Reason) (old mid new : World) (status : ℕ)
+    → StoppedEarly ops prog program text (Stopped reason) old mid
+    ⊎ (IsCompiled text program
+    × Goes (stored_first ops prog program text rest (ops_in text)) (Stopped reason) old mid)
+    → Says (reason_line reason) mid new → status ≡ reason_status reason
+    → Tail prog program text (stored_first ops prog program text rest (ops_in text)) done old new
+    status
+tail_of ops prog program text rest done reason old mid new status (inl g) says answers =
+    early_tail ops prog program text rest done reason old mid new status g says answers
+tail_of ops prog program text rest done reason old mid new status (inr g) says answers =
+    late_tail prog program text (stored_first ops prog program text rest (ops_in text)) done reason
+    old mid new status g.0 g.1 says answers
 
-stored_before : (names : RunNames) (steps : List Step) (ended : Ended) (stop : Stop)
-    → ended ≡ At stop → Stores names.prog.now (done_steps steps ended)
-    → Stores names.prog.now stop.before
-stored_before names steps ended stop e s =
-    subst (λ (x : Ended). Stores names.prog.now (done_steps steps x)) e s
+-- one that is done stored PROG
+pub went_on : (ops prog : List ℕ) (program : Program) (text : List ℕ) (steps : List Step)
+    (old new : World)
+    → StoppedEarly ops prog program text Done old new
+    ⊎ (IsCompiled text program × Goes steps Done old new)
+    → IsCompiled text program × Goes steps Done old new
+went_on ops prog program text steps old new (inl early) = absurd early
+went_on ops prog program text steps old new (inr g) = g
+
+-- the steps of a run behind the store of PROG
+abbrev behind_prog : RunNames → Program → Texts → List Step
+behind_prog names program texts =
+    loading names.script.now SCRIPT_MAX texts.script (script_in texts.script) (λ script.
+    loading names.image.now IMAGE_MAX texts.image (image_of texts.image) (λ i.
+    work_steps names.out.now program script i))
 
 nothing_done : (ended : Ended) (stop : Stop) (program : Program) (texts : Texts) (chip : ChipView)
     → ended ≡ At stop → IsDoneBy ended program texts chip
@@ -175,18 +188,12 @@ done_by : (names : RunNames) (program : Program) (texts : Texts) (old mid new : 
 done_by names program texts old mid new refused status done compiled e is d =
     subst (λ (x : Ended). IsDoneBy x program texts new.chip) (sym is) (refused, d)
 
-compiled_of : (names : RunNames) (program : Program) (texts : Texts) (old new : World)
-    → StoppedEarly names program texts.ops Done old new
-    ⊎ (IsCompiled texts.ops program × Goes (run_steps names program texts) Done old new)
-    → IsCompiled texts.ops program × Goes (run_steps names program texts) Done old new
-compiled_of names program texts old new (inl early) = absurd early
-compiled_of names program texts old new (inr g) = g
-
 pub run_ends : (names : RunNames) (old mid new : World) (result : Result ℕ StopBy) (status : ℕ)
     → RunGoes names old mid result → Tells (end_of result) mid new → status ≡ answer_to result
     → RunEnds names old new status
 run_ends names old mid new (Ok refused) status g tells answers =
-    let both = compiled_of names g.program g.texts old mid g.goes in
+    let both = went_on names.ops.now names.prog.now g.program g.texts.ops
+    (run_steps names g.program g.texts) old mid g.goes in
     let rs = script_in g.texts.script in
     let ri = image_of g.texts.image in
     let d : DoneBy g.program rs ri new.chip refused =
@@ -204,13 +211,14 @@ run_ends names old mid new (Ok refused) status g tells answers =
 run_ends names old mid new (Err by) status g tells answers =
     let rs = script_in g.texts.script in
     let ri = image_of g.texts.image in
-    let t = tail_of names g.program g.texts (run_status g.program rs ri) by old mid new status
-    g.goes tells answers in
+    let t = tail_of names.ops.now names.prog.now g.program g.texts.ops
+    (behind_prog names g.program g.texts) (run_status g.program rs ri) (reason_of by) old mid new
+    status g.goes tells answers in
     record {
       texts = g.texts;
       program = g.program;
       read = g.read;
       ends = t.ends;
-      compiled = λ stored. t.compiled (stored_before names _ t.ends.ended t.stop t.is stored);
+      compiled = t.compiled;
       done = nothing_done t.ends.ended t.stop g.program g.texts new.chip t.is;
     }

@@ -94,7 +94,7 @@ text_before stored bytes (Some before) (Some after) name text apart t is =
 
 -- what is told after PROG was stored
 pub stored_program : (names : RunNames) (program : Program) (old new : FolderView)
-    → ProgramTaken names program old new
+    → ProgramTaken names.ops.now names.prog.now program old new
     → Told (λ before after. after ≡ with_file names.prog.now (program_bytes 2 program) before)
     old.holds new.holds
 stored_program names program old new taken =
@@ -116,7 +116,7 @@ no_texts names holds ops = record {
 
 -- a run that stopped before PROG was stored
 pub run_stopped : (names : RunNames) (stop : Stop) (old new : FolderView) (sink : SinkView)
-    (chip : ChipView) → ProgramStopped names (reason_of stop) old new
+    (chip : ChipView) → ProgramStopped names.ops.now names.prog.now (reason_of stop) old new
     → RunGoes names (world old sink chip) (world new sink chip) (Err stop)
 run_stopped names stop old new sink chip s = record {
   program = s.program;
@@ -130,20 +130,20 @@ run_stopped names stop old new sink chip s = record {
   done = tt;
 }
 
-goes_ops : (names : RunNames) (program : Program) (old mid : FolderView) (sink : SinkView)
+pub goes_ops : (ops prog : List ℕ) (program : Program) (old mid : FolderView) (sink : SinkView)
     (chip : ChipView) (rest : List Step) (end : End) (w : World)
-    → (t : ProgramTaken names program old mid) → Goes rest end (world mid sink chip) w
-    → Goes (loading names.ops.now OPS_MAX t.text (ops_in t.text) (λ _. Take
-    ∷ Store names.prog.now (program_bytes 2 program) ∷ rest)) end (world old sink chip) w
-goes_ops names program old mid sink chip rest end w t g =
-    rw t.accepted (goes_on (Load names.ops.now OPS_MAX t.text None ∷ Take
-    ∷ Store names.prog.now (program_bytes 2 program) ∷ []) rest end (world old sink chip)
+    → (t : ProgramTaken ops prog program old mid) → Goes rest end (world mid sink chip) w
+    → Goes (loading ops OPS_MAX t.text (ops_in t.text) (λ _. Take
+    ∷ Store prog (program_bytes 2 program) ∷ rest)) end (world old sink chip) w
+goes_ops ops prog program old mid sink chip rest end w t g =
+    rw t.accepted (goes_on (Load ops OPS_MAX t.text None ∷ Take
+    ∷ Store prog (program_bytes 2 program) ∷ []) rest end (world old sink chip)
     (world mid sink chip) w (t.goes sink chip) g)
 
-taken_text : (names : RunNames) (program : Program) (old mid : FolderView)
-    → (t : ProgramTaken names program old mid) → IsText old.holds names.ops.now t.text
-taken_text names program old mid t = elim (t.goes no_sink no_chip) [
-  | inl (next, (does, rest)) ↦ loaded_text names.ops.now OPS_MAX t.text
+pub taken_text : (ops prog : List ℕ) (program : Program) (old mid : FolderView)
+    → (t : ProgramTaken ops prog program old mid) → IsText old.holds ops t.text
+taken_text ops prog program old mid t = elim (t.goes no_sink no_chip) [
+  | inl (next, (does, rest)) ↦ loaded_text ops OPS_MAX t.text
       (world old no_sink no_chip) next does.1
   | inr fails ↦ absurd fails
 ]
@@ -151,21 +151,21 @@ taken_text names program old mid t = elim (t.goes no_sink no_chip) [
 -- a run that stopped at SCRIPT
 pub run_unread : (names : RunNames) (program : Program) (stop : Stop) (old mid new : FolderView)
     (sink : SinkView) (chip : ChipView) → AreOthers names
-    → (t : ProgramTaken names program old mid)
+    → (t : ProgramTaken names.ops.now names.prog.now program old mid)
     → NotRead script_in names.script.now SCRIPT_MAX (reason_of stop) mid new
     → RunGoes names (world old sink chip) (world new sink chip) (Err stop)
 run_unread names program stop old mid new sink chip apart t n = record {
   program = program;
   texts = record { ops = t.text; script = n.text; image = told_text old.holds names.image.now };
   read = record {
-    ops = taken_text names program old mid t;
+    ops = taken_text names.ops.now names.prog.now program old mid t;
     script = text_before names.prog.now (program_bytes 2 program) old.holds mid.holds
         names.script.now n.text apart.script (stored_program names program old mid t) n.is_text;
     image = told_is_text old.holds names.image.now;
   };
   goes = inr (
     t.compiled,
-    goes_ops names program old mid sink chip _ (Stopped (reason_of stop))
+    goes_ops names.ops.now names.prog.now program old mid sink chip _ (Stopped (reason_of stop))
         (world new sink chip) t (loading_stops names.script.now SCRIPT_MAX n.text (script_in n.text)
         _ (reason_of stop) (world mid sink chip) (world new sink chip) (n.fails sink chip)),
   );
@@ -182,7 +182,8 @@ done_by program script read image chip (Err stop) e d = tt
 -- a run that came to IMAGE
 pub run_worked : (names : RunNames) (program : Program) (script : List Instruction)
     (result : Result ℕ Stop) (old mid last : FolderView) (sink : SinkView) (chip : ChipView)
-    (new : World) → AreOthers names → (t : ProgramTaken names program old mid)
+    (new : World) → AreOthers names
+    → (t : ProgramTaken names.ops.now names.prog.now program old mid)
     → ReadAs script_in names.script.now SCRIPT_MAX script mid last
     → ImageWorked names program script (world last sink chip) new result
     → RunGoes names (world old sink chip) new result
@@ -194,7 +195,7 @@ run_worked names program script result old mid last sink chip new apart t s w =
       program = program;
       texts = record { ops = t.text; script = s.text; image = w.text };
       read = record {
-        ops = taken_text names program old mid t;
+        ops = taken_text names.ops.now names.prog.now program old mid t;
         script = text_before names.prog.now (program_bytes 2 program) old.holds mid.holds
             names.script.now s.text apart.script told
             (loaded_text names.script.now SCRIPT_MAX s.text (world mid sink chip)
@@ -205,7 +206,7 @@ run_worked names program script result old mid last sink chip new apart t s w =
       };
       goes = inr (
         t.compiled,
-        goes_ops names program old mid sink chip _ (end_of result) new t
+        goes_ops names.ops.now names.prog.now program old mid sink chip _ (end_of result) new t
             (loading_goes names.script.now SCRIPT_MAX s.text (script_in s.text) _ script
             (end_of result) (world mid sink chip) (world last sink chip) new s.value_is loaded
             w.goes),

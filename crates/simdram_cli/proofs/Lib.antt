@@ -8,6 +8,7 @@ pub mod Running
 pub mod Foreseen
 pub mod Loaded
 pub mod Migrating
+pub mod Compiling
 pub mod Promised
 pub mod Ended
 pub mod Promising

@@ -1,6 +1,6 @@
 -- How a migration goes and ends.
-use Rattle.std.proofs.Common.{◌≡◌, ℕ, ◌≤◌, List, [], ◌∷◌, ◌++◌, Option, Some}
-use Rattle.std.proofs.Common.{None, refl, sym, ◌∙◌, ap, subst, inl, inr, append-nil, take, drop}
+use Rattle.std.proofs.Common.{◌≡◌, ℕ, ◌≤◌, List, [], ◌∷◌, ◌++◌, Some}
+use Rattle.std.proofs.Common.{refl, sym, ◌∙◌, ap, subst, inl, inr, append-nil, take, drop}
 use Rattle.std.proofs.Common.{arith}
 use Rattle.std.proofs.lemmas.Grind.{common_steps}
 use Rattle.std.specs.Prelude.{Result, Ok, Err, IfOk, IfSome, length}
@@ -31,7 +31,7 @@ use Rattle.simdram_cli.specs.Ends.{answer_to}
 use Rattle.simdram_cli.specs.Run.{done_status}
 use Rattle.simdram_cli.specs.Migrate.{migrate_steps, migrated_line, MigrateEnds, Migrated}
 use Rattle.simdram_cli.specs.Migrate.{MigrateGoes}
-use Rattle.simdram_cli.proofs.Foreseen.{was_read, text_at}
+use Rattle.simdram_cli.proofs.Foreseen.{was_read, text_at, tell_both}
 use Rattle.simdram_cli.proofs.Joins.{told_text, told_is_text, loaded_text, loading_goes}
 use Rattle.simdram_cli.proofs.Joins.{loading_stops}
 use Rattle.simdram_cli.proofs.Loaded.{loaded_ends, load_is_step}
@@ -163,14 +163,6 @@ files_of names text read program before e = rw e refl
 
 same_ok : (read : Result Program Refusal) (a b : Program) → read ≡ Ok a → read ≡ Ok b → a ≡ b
 same_ok read a b e f = cc
-
-tell_both : (a b : Option Files) (R Q : Files → Files → Type 0) (P : Files → Type 0)
-    → Told R a b → IfSome a P
-    → ((before after : Files) → a ≡ Some before → P before → R before after → Q before after)
-    → Told Q a b
-tell_both None b R Q P t p h = tt
-tell_both (Some before) None R Q P t p h = absurd t
-tell_both (Some before) (Some after) R Q P t p h = h before after refl p t
 
 pub migrated : (names : MigrateNames) (old new : World) (status : ℕ)
     → (e : MigrateEnds names old new status)

@@ -28,7 +28,7 @@ use Rattle.simdram_cli.specs.Run.{Texts, run_steps, work_steps, line_steps, said
 use Rattle.simdram_cli.specs.Run.{tally_by, refused_by, done_status}
 use Rattle.simdram_cli.specs.Ends.{IsCompiled, IsRead, DoneBy, IsDoneBy, run_status, RunEnds}
 use Rattle.simdram_cli.specs.Headline.{IsJob, read_as, Headline}
-use Rattle.simdram_cli.proofs.Foreseen.{was_read, text_at, spells_at}
+use Rattle.simdram_cli.proofs.Foreseen.{was_read, text_at, spells_at, tell_both}
 use Rattle.simdram_cli.proofs.Running.{Apart}
 use Rattle.simdram_cli.proofs.Tallies.{some_words}
 use Rattle.simdram_cli.proofs.Promises.{job_of, IsDone, objects_right, rows_untouched}
@@ -219,14 +219,6 @@ stores_prog : (names : RunNames) (program : Program) (texts : Texts)
     ∷ Store names.prog.now (program_bytes 2 program) ∷ rest))
 stores_prog names program texts (Ok v) u rest e = inr (inr (inl refl))
 stores_prog names program texts (Err r) u rest e = absurd (cc)
-
-tell_both : (a b : Option Files) (R Q : Files → Files → Type 0) (P : Files → Type 0)
-    → Told R a b → IfSome a P
-    → ((before after : Files) → a ≡ Some before → P before → R before after → Q before after)
-    → Told Q a b
-tell_both None b R Q P t p h = tt
-tell_both (Some before) None R Q P t p h = absurd t
-tell_both (Some before) (Some after) R Q P t p h = h before after refl p t
 
 -- A run that was done keeps its promises
 pub run_promised : (names : RunNames) (old new : World) (status : ℕ) → Apart names

@@ -1,7 +1,7 @@
 -- What the top call promises, from how a command ends.
 use Rattle.std.proofs.Common.{◌≡◌, ◌⊎◌, inl, inr, arith, ℕ, Bool, true, false, cond, List, [], ◌∷◌}
 use Rattle.std.proofs.Common.{◌+◌, Option, Some, None, refl, subst}
-use Rattle.std.specs.Prelude.{Result, Ok, Err, ◌↔◌, ◌&&◌, not, bytes_eq, codes}
+use Rattle.std.specs.Prelude.{Result, Ok, Err, ◌↔◌, ◌&&◌, bytes_eq, codes}
 use denote.Ref.{Bor}
 use Rattle.bbop_isa.specs.Forms.{Instruction}
 use Rattle.machine_model.specs.Operations.{Program}
@@ -19,18 +19,21 @@ use Rattle.cli_model.proofs.Statuses.{OfSteps, OfRefusal, of_more, ends_so, all_
 use Rattle.built_forms.specs.Texts.{ops_in, unless_fault, script_in, image_of, image_found}
 use Rattle.built_forms.specs.Texts.{built_from, at_line, built_image, is_built_image, not_yet}
 use Rattle.simdram_cli.specs.declared.words.RunNames.{RunNames}
+use Rattle.simdram_cli.specs.declared.words.CompileNames.{CompileNames}
 use Rattle.simdram_cli.specs.declared.words.MigrateNames.{MigrateNames}
 use Rattle.simdram_cli.specs.declared.words.TheConstants.{OPS_MAX, SCRIPT_MAX, IMAGE_MAX, PROG_MAX}
 use Rattle.simdram_cli.specs.declared.words.Command.{Command}
-use Rattle.simdram_cli.specs.declared.words.Command.TheVariants.{Run, Show, Migrate}
+use Rattle.simdram_cli.specs.declared.words.Command.TheVariants.{Run, Compile, Show, Migrate}
 use Rattle.simdram_cli.specs.Words.{command_of, are_apart, IsApart}
 use Rattle.simdram_cli.specs.Reads.{refusal_of}
 use Rattle.simdram_cli.specs.Run.{Texts, run_steps, work_steps, line_steps, said_by, image_by}
 use Rattle.simdram_cli.specs.Run.{tally_by, refused_by}
 use Rattle.simdram_cli.specs.Ends.{run_status, status_on}
+use Rattle.simdram_cli.specs.Compile.{compile_steps}
 use Rattle.simdram_cli.specs.Show.{show_steps}
 use Rattle.simdram_cli.specs.Migrate.{migrate_steps}
 use Rattle.simdram_cli.specs.Programs.{prog_in, program_or_refusal}
+use Rattle.simdram_cli.proofs.Compiling.{compiled}
 use Rattle.simdram_cli.proofs.Migrating.{migrated}
 use Rattle.uprog_bin.specs.Reading.{program_in, ProgFault}
 use Rattle.simdram_cli.specs.Commands.{CanAnswer, CommandEnds, OnCommand, Promises}
@@ -38,16 +41,23 @@ use Rattle.simdram_cli.proofs.Running.{apart}
 use Rattle.simdram_cli.proofs.Promised.{run_promised}
 use Rattle.simdram_cli.proofs.Showing.{show_shown}
 
+-- the command on two files
+abbrev on_two : Bool → Bool → Bool → CompileNames → MigrateNames → Option Command
+on_two same compiles migrates c m = cond same None (cond compiles (Some (Compile c))
+    (cond migrates (Some (Migrate m)) None))
+
 picked : (b c : Bool) (r names : RunNames) → cond (b && c) (Some (Run r)) None ≡ Some (Run names)
     → (c ≡ true) × (r ≡ names)
 picked true true r names e = (refl, cc)
 picked true false r names e = absurd (cc)
 picked false c r names e = absurd (cc)
 
-not_migrated : (b : Bool) (m : MigrateNames) (names : RunNames)
-    → cond b (Some (Migrate m)) None ≡ Some (Run names) → ⊥
-not_migrated true m names e = cc
-not_migrated false m names e = cc
+not_on_two : (same compiles migrates : Bool) (c : CompileNames) (m : MigrateNames)
+    (names : RunNames) → on_two same compiles migrates c m ≡ Some (Run names) → ⊥
+not_on_two true compiles migrates c m names e = cc
+not_on_two false true migrates c m names e = cc
+not_on_two false false true c m names e = cc
+not_on_two false false false c m names e = cc
 
 not_run : (b : Bool) (ops : Bor (List ℕ)) (names : RunNames)
     → cond b (Some (Show ops)) None ≡ Some (Run names) → ⊥
@@ -63,7 +73,7 @@ run_apart : (words : List (Bor (List ℕ))) (names : RunNames)
 run_apart [] names e = absurd (cc)
 run_apart (a ∷ []) names e = absurd (cc)
 run_apart (a ∷ b ∷ []) names e = absurd (not_run (bytes_eq a.now (codes "show")) b names e)
-run_apart (a ∷ b ∷ c ∷ []) names e = absurd (not_migrated _ _ names e)
+run_apart (a ∷ b ∷ c ∷ []) names e = absurd (not_on_two _ _ _ _ _ names e)
 run_apart (a ∷ b ∷ c ∷ d ∷ []) names e = absurd (cc)
 run_apart (a ∷ b ∷ c ∷ d ∷ f ∷ []) names e = absurd (cc)
 run_apart (verb ∷ ops ∷ prog ∷ script ∷ image ∷ out ∷ []) names e =
@@ -89,12 +99,29 @@ not_runs : (b : Bool) (r : RunNames) (names : MigrateNames)
 not_runs true r names e = cc
 not_runs false r names e = cc
 
-picked_two : (b c : Bool) (m names : MigrateNames)
-    → cond (b && not c) (Some (Migrate m)) None ≡ Some (Migrate names)
-    → (c ≡ false) × (m ≡ names)
-picked_two true false m names e = (refl, cc)
-picked_two true true m names e = absurd (cc)
-picked_two false c m names e = absurd (cc)
+migrates_two : (same compiles migrates : Bool) (c : CompileNames) (m names : MigrateNames)
+    → on_two same compiles migrates c m ≡ Some (Migrate names) → (same ≡ false) × (m ≡ names)
+migrates_two true compiles migrates c m names e = absurd (cc)
+migrates_two false true migrates c m names e = absurd (cc)
+migrates_two false false true c m names e = (refl, cc)
+migrates_two false false false c m names e = absurd (cc)
+
+compiles_two : (same compiles migrates : Bool) (c names : CompileNames) (m : MigrateNames)
+    → on_two same compiles migrates c m ≡ Some (Compile names) → (same ≡ false) × (c ≡ names)
+compiles_two true compiles migrates c names m e = absurd (cc)
+compiles_two false true migrates c names m e = (refl, cc)
+compiles_two false false true c names m e = absurd (cc)
+compiles_two false false false c names m e = absurd (cc)
+
+not_shown_compiled : (b : Bool) (ops : Bor (List ℕ)) (names : CompileNames)
+    → cond b (Some (Show ops)) None ≡ Some (Compile names) → ⊥
+not_shown_compiled true ops names e = cc
+not_shown_compiled false ops names e = cc
+
+not_run_compiled : (b : Bool) (r : RunNames) (names : CompileNames)
+    → cond b (Some (Run r)) None ≡ Some (Compile names) → ⊥
+not_run_compiled true r names e = cc
+not_run_compiled false r names e = cc
 
 migrate_apart : (words : List (Bor (List ℕ))) (names : MigrateNames)
     → command_of words ≡ Some (Migrate names) → IsApart (Migrate names)
@@ -102,18 +129,35 @@ migrate_apart [] names e = absurd (cc)
 migrate_apart (a ∷ []) names e = absurd (cc)
 migrate_apart (a ∷ b ∷ []) names e = absurd (not_shown _ b names e)
 migrate_apart (verb ∷ old ∷ new ∷ []) names e =
-    let m : MigrateNames = record { old = old; new = new } in
-    let p = picked_two (bytes_eq verb.now (codes "migrate")) (bytes_eq old.now new.now) m names e in
+    let p = migrates_two (bytes_eq old.now new.now) (bytes_eq verb.now (codes "compile"))
+    (bytes_eq verb.now (codes "migrate")) (record { ops = old; prog = new })
+    (record { old = old; new = new }) names e in
     subst (λ (x : MigrateNames). bytes_eq x.old.now x.new.now ≡ false) p.1 p.0
 migrate_apart (a ∷ b ∷ c ∷ d ∷ []) names e = absurd (cc)
 migrate_apart (a ∷ b ∷ c ∷ d ∷ f ∷ []) names e = absurd (cc)
 migrate_apart (a ∷ b ∷ c ∷ d ∷ f ∷ g ∷ []) names e = absurd (not_runs _ _ names e)
 migrate_apart (a ∷ b ∷ c ∷ d ∷ f ∷ g ∷ i ∷ rest) names e = absurd (cc)
 
+compile_apart : (words : List (Bor (List ℕ))) (names : CompileNames)
+    → command_of words ≡ Some (Compile names) → IsApart (Compile names)
+compile_apart [] names e = absurd (cc)
+compile_apart (a ∷ []) names e = absurd (cc)
+compile_apart (a ∷ b ∷ []) names e = absurd (not_shown_compiled _ b names e)
+compile_apart (verb ∷ ops ∷ prog ∷ []) names e =
+    let p = compiles_two (bytes_eq ops.now prog.now) (bytes_eq verb.now (codes "compile"))
+    (bytes_eq verb.now (codes "migrate")) (record { ops = ops; prog = prog }) names
+    (record { old = ops; new = prog }) e in
+    subst (λ (x : CompileNames). bytes_eq x.ops.now x.prog.now ≡ false) p.1 p.0
+compile_apart (a ∷ b ∷ c ∷ d ∷ []) names e = absurd (cc)
+compile_apart (a ∷ b ∷ c ∷ d ∷ f ∷ []) names e = absurd (cc)
+compile_apart (a ∷ b ∷ c ∷ d ∷ f ∷ g ∷ []) names e = absurd (not_run_compiled _ _ names e)
+compile_apart (a ∷ b ∷ c ∷ d ∷ f ∷ g ∷ i ∷ rest) names e = absurd (cc)
+
 -- the files of a command are apart
 pub command_apart : (words : List (Bor (List ℕ))) (command : Command)
     → command_of words ≡ Some command → IsApart command
 command_apart words (Run names) e = run_apart words names e
+command_apart words (Compile names) e = compile_apart words names e
 command_apart words (Show name) e = tt
 command_apart words (Migrate names) e = migrate_apart words names e
 
@@ -187,6 +231,12 @@ run_of P names program texts g six seven nine =
       ),
     ))
 
+compile_of : (P : ℕ → Type 0) (names : CompileNames) (program : Program) (text : List ℕ) → Gives P
+    → OfSteps P (compile_steps names program text)
+compile_of P names program text g =
+    loading_of P names.ops.now OPS_MAX text (ops_in text) _ g.two g.eleven g.ten
+    (ops_of P (fault_in text) g.four) (λ t. (g.ten, (g.three, (g.three, tt))))
+
 show_of : (P : ℕ → Type 0) (name text : List ℕ) (ops : List Operation) → Gives P
     → OfSteps P (show_steps name text ops)
 show_of P name text ops g =
@@ -228,6 +278,11 @@ can_answer (Run names) old new status e =
     (run_of P names e.program e.texts
     (record { two = refl; three = refl; four = refl; ten = refl; eleven = refl }) refl refl refl)
     e.ends
+can_answer (Compile names) old new status e =
+    let P : ℕ → Type 0 = CanAnswer (Compile names) in
+    ends_so P (compile_steps names e.program e.text) 0 old new status refl
+    (compile_of P names e.program e.text
+    (record { two = refl; three = refl; four = refl; ten = refl; eleven = refl })) e.ends
 can_answer (Show name) old new status e =
     let P : ℕ → Type 0 = CanAnswer (Show name) in
     ends_so P (show_steps name.now e.text e.ops) 0 old new status refl
@@ -241,6 +296,8 @@ can_answer (Migrate names) old new status e =
 not_one : (command : Command) (status : ℕ) → CanAnswer command status → status ≡ 1 → ⊥
 not_one (Run names) status can e =
     let one : CanAnswer (Run names) 1 = subst (CanAnswer (Run names)) e can in cc
+not_one (Compile names) status can e =
+    let one : CanAnswer (Compile names) 1 = subst (CanAnswer (Compile names)) e can in cc
 not_one (Show name) status can e =
     let one : CanAnswer (Show name) 1 = subst (CanAnswer (Show name)) e can in cc
 not_one (Migrate names) status can e =
@@ -284,6 +341,9 @@ promises (Run names) old new status are e = λ is.
     (apart_from_done status is 6 (λ f. cc) (λ f. cc))
     (apart_from_done status is 7 (λ f. cc) (λ f. cc))
     (apart_from_done status is 9 (λ f. cc) (λ f. cc))) e.ends.so)
+promises (Compile names) old new status are e = λ is.
+    compiled names old new status e
+    (compile_of (λ s. s ≡ status → ⊥) names e.program e.text (gives_apart status (inl is)))
 promises (Show name) old new status are e = λ is.
     show_shown name.now old new status e
     (show_of (λ s. s ≡ status → ⊥) name.now e.text e.ops (gives_apart status (inl is)))

@@ -39,23 +39,24 @@ use Rattle.simdram_cli.proofs.Joins.{loading_stops, AreOthers, no_sink, no_chip}
 use Rattle.simdram_cli.proofs.Reading.{ops_accepted}
 use Rattle.simdram_cli.proofs.Tallies.{both}
 
-pub program_unread : (names : RunNames) (reason : Reason) (old new : FolderView)
-    → NotRead ops_in names.ops.now OPS_MAX reason old new → ProgramStopped names reason old new
-program_unread names reason old new n = record {
+pub program_unread : (ops_name prog_name : List ℕ) (reason : Reason) (old new : FolderView)
+    → NotRead ops_in ops_name OPS_MAX reason old new
+    → ProgramStopped ops_name prog_name reason old new
+program_unread ops_name prog_name reason old new n = record {
   program = [];
   text = n.text;
   is_text = n.is_text;
-  goes = λ sink chip. loading_stops names.ops.now OPS_MAX n.text (ops_in n.text) (λ _. Take
-      ∷ Store names.prog.now (program_bytes 2 []) ∷ []) reason (world old sink chip)
+  goes = λ sink chip. loading_stops ops_name OPS_MAX n.text (ops_in n.text) (λ _. Take
+      ∷ Store prog_name (program_bytes 2 []) ∷ []) reason (world old sink chip)
       (world new sink chip) (n.fails sink chip);
 }
 
 -- OPS was read, and PROG stored
-pub program_taken : (names : RunNames) (ops : List Operation) (program : Program)
-    (old mid new : FolderView) → OpsRead names.ops.now ops old mid
+pub program_taken : (ops_name prog_name : List ℕ) (ops : List Operation) (program : Program)
+    (old mid new : FolderView) → OpsRead ops_name ops old mid
     → IsProgram program → ImplementsAll program (map text_op ops)
-    → GoesToStore names.prog.now program Done mid new → ProgramTaken names program old new
-program_taken names ops program old mid new r legal implements g = record {
+    → GoesToStore prog_name program Done mid new → ProgramTaken ops_name prog_name program old new
+program_taken ops_name prog_name ops program old mid new r legal implements g = record {
   text = r.text;
   accepted = ops_accepted r.text r.is.accepted;
   compiled = record { ops = ops; is = r.is; legal = legal; implements = implements };
@@ -63,39 +64,41 @@ program_taken names ops program old mid new r legal implements g = record {
 }
 
 -- the answers of a call that stores PROG
-pub taken_by : {X : Type 0} (names : RunNames) (ops : List Operation) (program : X → Program)
+pub taken_by : {X : Type 0} (ops_name prog_name : List ℕ) (ops : List Operation)
+    (program : X → Program)
     (result : Result X Stop) (old mid new : FolderView)
-    → OpsRead names.ops.now ops old mid
+    → OpsRead ops_name ops old mid
     → IfOk result (λ p. IsProgram (program p))
     → IfOk result (λ p. ImplementsAll (program p) (map text_op ops))
-    → IfOk result (λ p. GoesToStore names.prog.now (program p) Done mid new)
-    → IfOk result (λ p. ProgramTaken names (program p) old new)
-taken_by names ops program (Ok p) old mid new r legal implements g =
-    program_taken names ops (program p) old mid new r legal implements g
-taken_by names ops program (Err stop) old mid new r legal implements g = tt
+    → IfOk result (λ p. GoesToStore prog_name (program p) Done mid new)
+    → IfOk result (λ p. ProgramTaken ops_name prog_name (program p) old new)
+taken_by ops_name prog_name ops program (Ok p) old mid new r legal implements g =
+    program_taken ops_name prog_name ops (program p) old mid new r legal implements g
+taken_by ops_name prog_name ops program (Err stop) old mid new r legal implements g = tt
 
 -- OPS was read, and PROG not stored
-pub program_unstored : (names : RunNames) (ops : List Operation) (reason : Reason)
-    (old mid new : FolderView) → OpsRead names.ops.now ops old mid
-    → StopsAtStore names.prog.now reason mid new → ProgramStopped names reason old new
-program_unstored names ops reason old mid new r g = record {
+pub program_unstored : (ops_name prog_name : List ℕ) (ops : List Operation) (reason : Reason)
+    (old mid new : FolderView) → OpsRead ops_name ops old mid
+    → StopsAtStore prog_name reason mid new → ProgramStopped ops_name prog_name reason old new
+program_unstored ops_name prog_name ops reason old mid new r g = record {
   program = g.0;
   text = r.text;
-  is_text = loaded_text names.ops.now OPS_MAX r.text (world old no_sink no_chip)
+  is_text = loaded_text ops_name OPS_MAX r.text (world old no_sink no_chip)
       (world mid no_sink no_chip) (r.loaded no_sink no_chip);
-  goes = λ sink chip. loading_goes names.ops.now OPS_MAX r.text (ops_in r.text) (λ _. Take
-      ∷ Store names.prog.now (program_bytes 2 g.0) ∷ []) tt (Stopped reason)
+  goes = λ sink chip. loading_goes ops_name OPS_MAX r.text (ops_in r.text) (λ _. Take
+      ∷ Store prog_name (program_bytes 2 g.0) ∷ []) tt (Stopped reason)
       (world old sink chip) (world mid sink chip) (world new sink chip)
       (ops_accepted r.text r.is.accepted) (r.loaded sink chip) (g.1 sink chip);
 }
 
-pub stopped_by : {X : Type 0} (names : RunNames) (ops : List Operation) (result : Result X Stop)
-    (old mid new : FolderView) → OpsRead names.ops.now ops old mid
-    → IfErr result (λ stop. StopsAtStore names.prog.now (reason_of stop) mid new)
-    → IfErr result (λ stop. ProgramStopped names (reason_of stop) old new)
-stopped_by names ops (Ok p) old mid new r g = tt
-stopped_by names ops (Err stop) old mid new r g =
-    program_unstored names ops (reason_of stop) old mid new r g
+pub stopped_by : {X : Type 0} (ops_name prog_name : List ℕ) (ops : List Operation)
+    (result : Result X Stop)
+    (old mid new : FolderView) → OpsRead ops_name ops old mid
+    → IfErr result (λ stop. StopsAtStore prog_name (reason_of stop) mid new)
+    → IfErr result (λ stop. ProgramStopped ops_name prog_name (reason_of stop) old new)
+stopped_by ops_name prog_name ops (Ok p) old mid new r g = tt
+stopped_by ops_name prog_name ops (Err stop) old mid new r g =
+    program_unstored ops_name prog_name ops (reason_of stop) old mid new r g
 
 -- IMAGE was not loaded
 pub image_unread : (names : RunNames) (program : Program) (script : List Instruction) (stop : Stop)

@@ -91,28 +91,30 @@ abbrev pub StopsAtStore : List ℕ → Reason → FolderView → FolderView → 
 StopsAtStore name reason old new =
     (program : Program) × GoesToStore name program (Stopped reason) old new
 
--- the first steps of a run, to the store of PROG
-abbrev pub first_steps : RunNames → Program → List ℕ → List Step
-first_steps names program text = loading names.ops.now OPS_MAX text (ops_in text)
-    (λ t. Take ∷ Store names.prog.now (program_bytes 2 program) ∷ [])
+-- the first steps, to the store of PROG
+abbrev pub first_steps : (ops prog : List ℕ) → Program → List ℕ → List Step
+first_steps ops prog program text = loading ops OPS_MAX text (ops_in text)
+    (λ t. Take ∷ Store prog (program_bytes 2 program) ∷ [])
 
 -- OPS was read and compiled, and PROG has the spelling of the program
-pub record ProgramTaken (names : RunNames) (program : Program) (old new : FolderView) : Type 0 where
-  pub text : List ℕ
-  pub accepted : ops_in text ≡ Ok tt
-  pub compiled : IsCompiled text program
-  pub goes : (sink : SinkView) (chip : ChipView) → Goes (Load names.ops.now OPS_MAX text None
-      ∷ Take ∷ Store names.prog.now (program_bytes 2 program) ∷ []) Done (world old sink chip)
-      (world new sink chip)
+pub record ProgramTaken (ops prog : List ℕ) (program : Program) (old new : FolderView) : Type 0
+  where
+    pub text : List ℕ
+    pub accepted : ops_in text ≡ Ok tt
+    pub compiled : IsCompiled text program
+    pub goes : (sink : SinkView) (chip : ChipView) → Goes (Load ops OPS_MAX text None
+        ∷ Take ∷ Store prog (program_bytes 2 program) ∷ []) Done (world old sink chip)
+        (world new sink chip)
 
--- a run stopped before PROG was stored
-pub record ProgramStopped (names : RunNames) (reason : Reason) (old new : FolderView) : Type 0 where
-  pub program : Program
-  pub text : List ℕ
-  pub is_text : IsText old.holds names.ops.now text
-  pub goes : (sink : SinkView) (chip : ChipView)
-      → Goes (first_steps names program text) (Stopped reason) (world old sink chip)
-      (world new sink chip)
+-- it stopped before PROG was stored
+pub record ProgramStopped (ops prog : List ℕ) (reason : Reason) (old new : FolderView) : Type 0
+  where
+    pub program : Program
+    pub text : List ℕ
+    pub is_text : IsText old.holds ops text
+    pub goes : (sink : SinkView) (chip : ChipView)
+        → Goes (first_steps ops prog program text) (Stopped reason) (world old sink chip)
+        (world new sink chip)
 
 -- IMAGE was loaded and the script done on it, as far as nothing failed
 pub record ImageWorked (names : RunNames) (program : Program) (script : List Instruction)
@@ -124,17 +126,17 @@ pub record ImageWorked (names : RunNames) (program : Program) (script : List Ins
   pub done : IfOk result (DoneOn program script (image_of text) new.chip)
 
 -- it stopped before PROG was stored
-abbrev pub StoppedEarly : RunNames → Program → List ℕ → End → World → World → Type 0
-StoppedEarly names program text Done old new = ⊥
-StoppedEarly names program text (Stopped reason) old new =
-    Goes (first_steps names program text) (Stopped reason) old new
+abbrev pub StoppedEarly : (ops prog : List ℕ) → Program → List ℕ → End → World → World → Type 0
+StoppedEarly ops prog program text Done old new = ⊥
+StoppedEarly ops prog program text (Stopped reason) old new =
+    Goes (first_steps ops prog program text) (Stopped reason) old new
 
 -- a run goes through its steps: it stopped before PROG was stored, or its program does the ops
 pub record RunGoes (names : RunNames) (old new : World) (result : Result ℕ Stop) : Type 0 where
   pub program : Program
   pub texts : Texts
   pub read : IsRead names texts old.files.holds
-  pub goes : StoppedEarly names program texts.ops (end_of result) old new
+  pub goes : StoppedEarly names.ops.now names.prog.now program texts.ops (end_of result) old new
       ⊎ (IsCompiled texts.ops program × Goes (run_steps names program texts) (end_of result) old
       new)
   pub done : IfOk result (DoneBy program (script_in texts.script) (image_of texts.image) new.chip)

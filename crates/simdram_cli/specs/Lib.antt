@@ -7,6 +7,7 @@ pub mod Run
 pub mod Works
 pub mod Ends
 pub mod Headline
+pub mod Compile
 pub mod Show
 pub mod Migrate
 pub mod Commands

@@ -1,6 +1,8 @@
 //! The top of the program: the words of a command, its exit statuses and last lines.
 #![tactic(auto)]
 
+mod compile;
+mod counted;
 mod load;
 mod migrate;
 mod perform;
@@ -14,5 +16,6 @@ mod work;
 pub use stop::{NotYet, Stop, status_of, tell};
 pub use top::{one_job, simdram};
 pub use words::{
-    Command, IMAGE_MAX, MigrateNames, OPS_MAX, PROG_MAX, RunNames, SCRIPT_MAX, command_of,
+    Command, CompileNames, IMAGE_MAX, MigrateNames, OPS_MAX, PROG_MAX, RunNames, SCRIPT_MAX,
+    command_of,
 };

@@ -76,19 +76,20 @@ fn write_program<'a, F: Folder>(
 }
 
 /// Loads OPS, and stores PROG.
-fn take_program<'a, F: Folder>(
-    names: &RunNames<'a>,
+pub(crate) fn take_program<'a, F: Folder>(
+    ops: &'a str,
+    prog: &'a str,
     files: &mut F,
     alloc: Global,
 ) -> Result<Program, Stop<'a>>
     ensures program { IfOk result (λ p. IsProgram (microprograms_of p)) }
-    ensures taken { IfOk result (λ p. ProgramTaken names.now (microprograms_of p) (F.view files.old)
-        (F.view files.new)) }
-    ensures stopped { IfErr result (λ stop. ProgramStopped names.now (reason_of stop)
+    ensures taken { IfOk result (λ p. ProgramTaken ops.now prog.now (microprograms_of p)
+        (F.view files.old) (F.view files.new)) }
+    ensures stopped { IfErr result (λ stop. ProgramStopped ops.now prog.now (reason_of stop)
         (F.view files.old) (F.view files.new)) }
 {
-    let ops = load_ops(names.ops, files, alloc)?;
-    write_program(&ops, names.prog, files, alloc)
+    let ops = load_ops(ops, files, alloc)?;
+    write_program(&ops, prog, files, alloc)
 }
 
 /// Why a run stops at an image that is not taken.
@@ -141,7 +142,7 @@ pub(crate) fn run<'a, F: Folder, S: Sink, D: Dram>(
     ensures goes { RunGoes names.now (world (F.view files.old) (S.view out.old) (D.view chip.old))
         (world (F.view files.new) (S.view out.new) (D.view chip.new)) result }
 {
-    let program = take_program(names, files, alloc)?;
+    let program = take_program(names.ops, names.prog, files, alloc)?;
     let script = load_script(names.script, files, alloc)?;
     work_on_image(program, &script, names, files, out, chip, alloc)
 }

@@ -6,6 +6,7 @@ ghost use Rattle.host_edge.specs.Views.{FolderView};
 ghost use Rattle.cli_model.specs.World.{world};
 ghost use Rattle.cli_model.specs.Status.{Says, Tells};
 ghost use Rattle.simdram_cli.specs.Commands.{CanAnswer, CommandEnds, OnCommand, Promises};
+ghost use Rattle.simdram_cli.specs.Compile.{CompileEnds};
 ghost use Rattle.simdram_cli.specs.Ends.{RunEnds, answer_to};
 ghost use Rattle.simdram_cli.specs.Headline.{OneJob};
 ghost use Rattle.simdram_cli.specs.Migrate.{MigrateEnds};
@@ -13,11 +14,12 @@ ghost use Rattle.simdram_cli.specs.Show.{ShowEnds};
 ghost use Rattle.simdram_cli.specs.Stops.{end_of};
 ghost use Rattle.simdram_cli.specs.Words.{IsApart, are_apart, command_of};
 
+use crate::compile::compile;
 use crate::migrate::migrate;
 use crate::run::run;
 use crate::show::show;
 use crate::stop::{Stop, status_of, tell};
-use crate::words::{Command, MigrateNames, RunNames, command_of};
+use crate::words::{Command, CompileNames, MigrateNames, RunNames, command_of};
 use dram_model::Dram;
 use host_edge::{Folder, Sink};
 use std::alloc::Global;
@@ -55,6 +57,21 @@ fn run_and_answer<F: Folder, S: Sink, D: Dram>(
         (world (F.view files.new) (S.view out.new) (D.view chip.new)) result }
 {
     let ended = run(names, files, out, chip, alloc);
+    answer(ended, out)
+}
+
+/// Compiles, and tells why it stopped if it did.
+fn compile_and_answer<F: Folder, S: Sink>(
+    names: &CompileNames<'_>,
+    files: &mut F,
+    out: &mut S,
+    alloc: Global,
+) -> u8
+    ensures { (chip : ChipView) → CompileEnds names.now
+        (world (F.view files.old) (S.view out.old) chip)
+        (world (F.view files.new) (S.view out.new) chip) result }
+{
+    let ended = compile(names, files, out, alloc);
     answer(ended, out)
 }
 
@@ -99,6 +116,7 @@ fn dispatch<F: Folder, S: Sink, D: Dram>(
 {
     match command {
         Command::Run(names) => run_and_answer(names, files, out, chip, alloc),
+        Command::Compile(names) => compile_and_answer(names, files, out, alloc),
         Command::Show(name) => show_and_answer(*name, files, out, alloc),
         Command::Migrate(names) => migrate_and_answer(names, files, out, alloc),
     }
@@ -106,9 +124,9 @@ fn dispatch<F: Folder, S: Sink, D: Dram>(
 
 /// Does the command that the words are, without the program's name: `run OPS PROG SCRIPT IMAGE OUT`
 /// compiles the operations of OPS, stores PROG, does SCRIPT on IMAGE with the program that PROG
-/// spells, puts the report and stores OUT; `show OPS` puts the canonical text of the operations of
-/// OPS; `migrate OLD NEW` stores the version 2 file of OLD's program as NEW. The answer is the exit
-/// status.
+/// spells, puts the report and stores OUT; `compile OPS PROG` stores PROG and puts how many entries
+/// it has; `show OPS` puts the canonical text of the operations of OPS; `migrate OLD NEW` stores
+/// the version 2 file of OLD's program as NEW. The answer is the exit status.
 pub fn simdram<F: Folder, S: Sink, D: Dram>(
     words: &[&str],
     files: &mut F,

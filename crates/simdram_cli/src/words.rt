@@ -1,7 +1,7 @@
 //! The words of a command.
 
 ghost use Rattle.std.specs.Prelude.{◌≡◌, [], ◌∷◌};
-ghost use Rattle.simdram_cli.specs.Words.{all_differ, are_apart, command_of};
+ghost use Rattle.simdram_cli.specs.Words.{all_differ, are_apart, command_of, command_on_two};
 
 use object_alloc::IMAGE_BYTES_MAX;
 
@@ -31,10 +31,18 @@ pub struct MigrateNames<'a> {
     pub new: &'a str,
 }
 
+/// The files of `compile`.
+#[derive(Clone, Copy)]
+pub struct CompileNames<'a> {
+    pub ops: &'a str,
+    pub prog: &'a str,
+}
+
 /// A command, with its words.
 #[derive(Clone, Copy)]
 pub enum Command<'a> {
     Run(RunNames<'a>),
+    Compile(CompileNames<'a>),
     Show(&'a str),
     Migrate(MigrateNames<'a>),
 }
@@ -51,6 +59,25 @@ fn are_apart(ops: &str, prog: &str, script: &str, image: &str, out: &str) -> boo
     ensures { result ≡ are_apart ops.now prog.now script.now image.now out.now }
 {
     all_differ(ops, prog, script, image) && all_differ(ops, prog, script, out)
+}
+
+/// The command on two files.
+fn command_on_two<'a>(verb: &str, first: &'a str, second: &'a str) -> Option<Command<'a>>
+    ensures { result ≡ command_on_two verb.now first.entry second.entry }
+{
+    if verb == "compile" {
+        Some(Command::Compile(CompileNames {
+            ops: first,
+            prog: second,
+        }))
+    } else if verb == "migrate" {
+        Some(Command::Migrate(MigrateNames {
+            old: first,
+            new: second,
+        }))
+    } else {
+        None
+    }
 }
 
 /// The command that the words are.
@@ -71,14 +98,11 @@ pub fn command_of<'a>(words: &[&'a str]) -> Option<Command<'a>>
                 None
             }
         }
-        [verb, old, new] => {
-            if *verb == "migrate" && old != new {
-                Some(Command::Migrate(MigrateNames {
-                    old: *old,
-                    new: *new,
-                }))
-            } else {
+        [verb, first, second] => {
+            if first == second {
                 None
+            } else {
+                command_on_two(*verb, *first, *second)
             }
         }
         [verb, ops] => {

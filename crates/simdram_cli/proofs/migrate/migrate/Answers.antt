@@ -49,19 +49,20 @@ returns-then-is_err-2 g c =
     let files = g.F.Folder.view c.load.new.files in
     let now = g.F.Folder.view c.store.new.self in
     let old = g.S.Sink.view c.args.out.now in
-    let new = g.S.Sink.view c.put_migrated.new.out in
+    let new = g.S.Sink.view c.put_counted.new.out in
     let there = at_ok c.store.result (sym c.is_err.ensures.value ∙ c.if-is_err.false)
     c.store.ensures.stored in
-    let rose = at_err c.put_migrated.result (sym c.is_err-2.ensures.value ∙ c.if-is_err-2.true)
-    c.put_migrated.ensures.failed in
+    let rose = at_err c.put_counted.result (sym c.is_err-2.ensures.value ∙ c.if-is_err-2.true)
+    c.put_counted.ensures.failed in
     λ chip. old_read c.args.names.now c.in_ok-bytes.bytes.items (Err stop.PutFailed) file
     (g.F.Folder.view c.args.files.now) files now old new chip c.in_ok-bytes.ensures.loaded
     (not_told c.args.names.now.new.now (program_bytes 2 file.programs)
     (migrated_line file.programs) files now old new chip
     (stored c.args.names.now.new.now _ files now old chip c.store.ensures.others
     (rw (c.deref.ensures.value, wrote, both.1) at there) c.store.ensures.counts)
-    (rw (entries_are c.migrate.result _ _ c.in-Ok.is both.0) at c.put_migrated.ensures.part)
-    c.put_migrated.ensures.counts rose) tt
+    (rw (c.from.ensures, entries_are c.migrate.result _ _ c.in-Ok.is both.0) at
+    c.put_counted.ensures.part)
+    c.put_counted.ensures.counts rose) tt
 
 pub returns : goal.returns
 returns g c =
@@ -73,16 +74,16 @@ returns g c =
     let files = g.F.Folder.view c.load.new.files in
     let now = g.F.Folder.view c.store.new.self in
     let old = g.S.Sink.view c.args.out.now in
-    let new = g.S.Sink.view c.put_migrated.new.out in
+    let new = g.S.Sink.view c.put_counted.new.out in
     let there = at_ok c.store.result (sym c.is_err.ensures.value ∙ c.if-is_err.false)
     c.store.ensures.stored in
-    let told = at_ok c.put_migrated.result (sym c.is_err-2.ensures.value ∙ c.if-is_err-2.false)
-    c.put_migrated.ensures.sent in
+    let told = at_ok c.put_counted.result (sym c.is_err-2.ensures.value ∙ c.if-is_err-2.false)
+    c.put_counted.ensures.sent in
     λ chip. old_read c.args.names.now c.in_ok-bytes.bytes.items (Ok 0) file
     (g.F.Folder.view c.args.files.now) files now old new chip c.in_ok-bytes.ensures.loaded
     (all_told c.args.names.now.new.now (program_bytes 2 file.programs)
     (migrated_line file.programs) files now old new chip
     (stored c.args.names.now.new.now _ files now old chip c.store.ensures.others
     (rw (c.deref.ensures.value, wrote, both.1) at there) c.store.ensures.counts)
-    (rw (entries_are c.migrate.result _ _ c.in-Ok.is both.0) at told)
-    c.put_migrated.ensures.counts) refl
+    (rw (c.from.ensures, entries_are c.migrate.result _ _ c.in-Ok.is both.0) at told)
+    c.put_counted.ensures.counts) refl

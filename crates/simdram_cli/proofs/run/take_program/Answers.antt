@@ -7,12 +7,14 @@ use Rattle.simdram_cli.proofs.run.take_program.Goals as goal
 pub returns-in_err-ops-clause-stopped : goal.returns-in_err-ops-clause-stopped
 returns-in_err-ops-clause-stopped g c =
     let p = err_from_is_err_and c.from_residual.result c.from_residual.ensures.1 in
-    rw (p.1, p.2) (program_unread c.args.names.now _ (g.F.Folder.view c.args.files.now)
-    (g.F.Folder.view c.load_ops.new.files) c.in_err-ops.ensures.not_read)
+    rw (p.1, p.2) (program_unread c.args.ops.now c.args.prog.now _
+    (g.F.Folder.view c.args.files.now) (g.F.Folder.view c.load_ops.new.files)
+    c.in_err-ops.ensures.not_read)
 
 pub returns-clause-taken : goal.returns-clause-taken
 returns-clause-taken g c =
-    taken_by c.args.names.now (operations c.in_ok-ops.ops) microprograms_of c.write_program.result
+    taken_by c.args.ops.now c.args.prog.now (operations c.in_ok-ops.ops) microprograms_of
+    c.write_program.result
     (g.F.Folder.view c.args.files.now) (g.F.Folder.view c.load_ops.new.files)
     (g.F.Folder.view c.write_program.new.files)
     c.in_ok-ops.ensures.read c.write_program.ensures.program c.write_program.ensures.implements
@@ -20,7 +22,7 @@ returns-clause-taken g c =
 
 pub returns-clause-stopped : goal.returns-clause-stopped
 returns-clause-stopped g c =
-    stopped_by c.args.names.now (operations c.in_ok-ops.ops) c.write_program.result
+    stopped_by c.args.ops.now c.args.prog.now (operations c.in_ok-ops.ops) c.write_program.result
     (g.F.Folder.view c.args.files.now) (g.F.Folder.view c.load_ops.new.files)
     (g.F.Folder.view c.write_program.new.files)
     c.in_ok-ops.ensures.read c.write_program.ensures.stops

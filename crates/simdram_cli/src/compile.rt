@@ -1,0 +1,30 @@
+//! The command `compile`.
+
+ghost use Rattle.dram_model.specs.View.{ChipView};
+ghost use Rattle.cli_model.specs.World.{world};
+ghost use Rattle.simdram_cli.specs.Compile.{CompileGoes};
+
+use crate::counted::put_counted;
+use crate::run::take_program;
+use crate::stop::Stop;
+use crate::words::CompileNames;
+use host_edge::{Folder, Sink};
+use std::alloc::Global;
+
+/// Compiles OPS, stores PROG, and puts how many entries it has. Nothing is refused.
+pub(crate) fn compile<'a, F: Folder, S: Sink>(
+    names: &CompileNames<'a>,
+    files: &mut F,
+    out: &mut S,
+    alloc: Global,
+) -> Result<u64, Stop<'a>>
+    ensures { (chip : ChipView) → CompileGoes names.now
+        (world (F.view files.old) (S.view out.old) chip)
+        (world (F.view files.new) (S.view out.new) chip) result }
+{
+    let program = take_program(names.ops, names.prog, files, alloc)?;
+    if put_counted(b"compiled ", program.entries.len(), out).is_err() {
+        return Err(Stop::PutFailed);
+    }
+    Ok(0)
+}
