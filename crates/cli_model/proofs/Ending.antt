@@ -6,7 +6,8 @@ use Rattle.host_edge.specs.Views.{Files, Told, RoseBy, AppendsPart}
 use Rattle.cli_model.specs.World.{World}
 use Rattle.cli_model.specs.Steps.{Step, Load, Take, Store, Open, Use, Put, Reason, CannotRead}
 use Rattle.cli_model.specs.Steps.{TooLong, Refused, NoMemory, CannotWrite, PutFailed, ChipFailed}
-use Rattle.cli_model.specs.Steps.{End, Done, Stopped, Goes, Fails}
+use Rattle.cli_model.specs.Steps.{End, Done, Stopped, Goes, Fails, Unopened}
+use Rattle.dram_model.specs.View.{ChipView, NotBegun}
 use Rattle.cli_model.specs.Stands.{files_after, sent_by, CountsOn, Stands}
 use Rattle.cli_model.specs.Status.{reason_status, reason_line, Says, Tells, end_status}
 use Rattle.cli_model.specs.Ends.{Stop, All, At, Causes, last_bytes, AppendsAfter, Sends}
@@ -222,10 +223,13 @@ done_foretold steps files (inl e) = sym e
 done_foretold steps files (inr (reason, e, is)) = absurd (cc)
 
 stop_foretold : (steps : List Step) (stop : Stop) (files : Files)
-    → Decided steps (Stopped stop.reason) files → IsForetold steps (At stop) files
-stop_foretold steps stop files (inl e) = inl (sym e)
-stop_foretold steps stop files (inr (reason, e, is)) =
-    let same : stop.reason ≡ reason = cc in inr (subst IsFault (sym same) is)
+    → Decided stop.before Done files → Decided steps (Stopped stop.reason) files
+    → IsForetold steps (At stop) files
+stop_foretold steps stop files before (inl e) =
+    (done_foretold stop.before files before, inl (sym e))
+stop_foretold steps stop files before (inr (reason, e, is)) =
+    let same : stop.reason ≡ reason = cc in
+    (done_foretold stop.before files before, inr (subst IsFault (sym same) is))
 
 says_counts : (line : List ℕ) (a b : World) → Says line a b → CountsOn a b
 says_counts line a b s = record {
@@ -241,6 +245,34 @@ says_counts line a b s = record {
 same_world : (steps : List Step) (a b c : World) → c ≡ b → Stands steps a b → Stands steps a c
 same_world steps a b c e s = subst (Stands steps a) (sym e) s
 
+-- want of memory leaves a chip that was not opened
+
+load_unopened : (name : List ℕ) (limit : ℕ) (text : List ℕ) (refusal : _) (reason : Reason)
+    (a b : World) → Fails (Load name limit text refusal) reason a b → b.chip ≡ a.chip
+load_unopened name limit text refusal (CannotRead told) a b f = f.1.chip
+load_unopened name limit text refusal (TooLong told) a b f = f.1.chip
+load_unopened name limit text refusal (Refused r) a b f = f.1.reads.chip
+load_unopened name limit text refusal NoMemory a b f = f.chip
+load_unopened name limit text refusal (CannotWrite told) a b f = elim f [ ]
+load_unopened name limit text refusal PutFailed a b f = elim f [ ]
+load_unopened name limit text refusal ChipFailed a b f = elim f [ ]
+
+fails_unopened : (step : Step) (reason : Reason) (a b : World) → Fails step reason a b
+    → reason ≡ NoMemory → Unopened a.chip b.chip
+fails_unopened (Load name limit text refusal) reason a b f e =
+    inl (load_unopened name limit text refusal reason a b f)
+fails_unopened Take reason a b f e = inl f.1.chip
+fails_unopened (Store name bytes) reason a b f e = inl f.1.chip
+fails_unopened Open reason a b (inl f) e = f.2
+fails_unopened Open reason a b (inr f) e = let no : ChipFailed ≡ NoMemory = sym f.0 ∙ e in
+    absurd (cc)
+fails_unopened Use reason a b f e = let no : ChipFailed ≡ NoMemory = sym f.0 ∙ e in absurd (cc)
+fails_unopened (Put bytes) reason a b f e = inl f.1.chip
+
+unopened_around : (a b c d : ChipView) → b ≡ a → Unopened b c → d ≡ c → Unopened a d
+unopened_around a b c d p (inl e) q = inl (q ∙ e ∙ p)
+unopened_around a b c d p (inr n) q = inr (subst NotBegun (sym q) n)
+
 -- the end of a command that was done, and of one that stopped
 pub all_ends : (steps : List Step) (done : ℕ) (a b c : World) (status : ℕ) → Goes steps Done a b
     → c ≡ b → status ≡ done → (e : Ends steps done a c status) × (e.ended ≡ All)
@@ -253,6 +285,7 @@ all_ends steps done a b c status g e answers =
           (λ files there. done_foretold steps files (files_decide steps Done a b files g there));
       counts = stands.counts;
       chip = λ off. ap (λ w. w.chip) e ∙ all_off steps a b g off;
+      unopened = λ off w. elim w [ ];
     } in
     (ends, refl)
 
@@ -278,9 +311,13 @@ stop_ends steps done reason a b c status g says answers =
       };
       foretold = if_told a.files.holds (IsForetold steps (At stop))
           (λ files there. stop_foretold steps stop files
+          (files_decide s.front Done a s.failing files s.goes there)
           (files_decide steps (Stopped reason) a b files g there));
       counts = more_counts a b c s.counts (says_counts _ b c says);
       chip = λ off. says.chip ∙ s.off off;
+      unopened = λ off w. unopened_around a.chip s.failing.chip b.chip c.chip
+          (all_off s.front a s.failing s.goes off)
+          (fails_unopened s.at reason s.failing b s.fails w) says.chip;
     } in
     (stop, ends, refl)
 

@@ -290,6 +290,7 @@ pub record StoppedAt (steps : List Step) (reason : Reason) (old new : World) : T
   pub rest : List Step
   pub parts : front ++ at ∷ rest ≡ steps
   pub failing : World
+  pub goes : Goes front Done old failing
   pub stands : Stands front old failing
   pub fails : Fails at reason failing new
   pub counts : CountsOn old new
@@ -306,6 +307,7 @@ stopped_at (step ∷ steps) reason a b (inl (mid, (d, g))) =
       rest = s.rest;
       parts = ap (λ xs. step ∷ xs) s.parts;
       failing = s.failing;
+      goes = inl (mid, (d, s.goes));
       stands = more_stand step s.front a mid s.failing d s.stands;
       fails = s.fails;
       counts = more_counts a mid b (does_count step a mid d) s.counts;
@@ -318,6 +320,7 @@ stopped_at (step ∷ steps) reason a b (inr f) = record {
   rest = steps;
   parts = refl;
   failing = a;
+  goes = refl;
   stands = none_stand a a refl;
   fails = f;
   counts = fails_count step reason a b f;

@@ -10,7 +10,7 @@ use Rattle.cli_model.specs.Steps.{CannotRead, TooLong, Refused, NoMemory, Cannot
 use Rattle.cli_model.specs.Steps.{ChipFailed, End, Stopped}
 use Rattle.cli_model.specs.Status.{reason_status}
 use Rattle.cli_model.specs.Ends.{Stop, Ended, All, At, Causes, IsStopped, EndsSo, Ends}
-use Rattle.cli_model.specs.Ends.{IsForetold, is_on_chip, begun_steps}
+use Rattle.cli_model.specs.Ends.{IsForetold, is_on_chip, begun_steps, done_steps, Wants}
 use Rattle.cli_model.specs.Foreseen.{foreseen, load_end, refused_or}
 
 -- the statuses that a step that fails can give have the property
@@ -131,8 +131,9 @@ foreseen_more (Put bytes ∷ xs) ys files reason e = foreseen_more xs ys files r
 foretold_more : (xs ys : List Step) (stop : Stop) (holds : Option Files)
     → IfSome holds (IsForetold xs (At stop)) → IfSome holds (IsForetold (xs ++ ys) (At stop))
 foretold_more xs ys stop None h = tt
-foretold_more xs ys stop (Some files) (inl e) = inl (foreseen_more xs ys files stop.reason e)
-foretold_more xs ys stop (Some files) (inr f) = inr f
+foretold_more xs ys stop (Some files) (before, inl e) =
+    (before, inl (foreseen_more xs ys files stop.reason e))
+foretold_more xs ys stop (Some files) (before, inr f) = (before, inr f)
 
 pub stopped_more : (xs ys : List Step) (stop : Stop) (a b : World) (status : ℕ)
     → IsStopped xs stop a b status
@@ -164,5 +165,7 @@ end_more xs ys done other stop a b status e is =
       counts = e.counts;
       chip = λ off. e.chip (subst (λ (x : Ended). list_any is_on_chip (begun_steps xs x)
           ≡ false) (sym is) off);
+      unopened = λ off w. e.unopened (subst (λ (x : Ended). list_any is_on_chip (done_steps xs x)
+          ≡ false) (sym is) off) (subst Wants (sym is) w);
     } in
     (whole, refl)

@@ -6,13 +6,13 @@ use Rattle.host_edge.specs.Views.{Files, Told, Rose, RoseBy, IsPrefix}
 use Rattle.cli_model.specs.World.{World}
 use Rattle.cli_model.specs.Steps.{Step, Load, Take, Store, Open, Use, Put, Reason, CannotRead}
 use Rattle.cli_model.specs.Steps.{TooLong, Refused, NoMemory, CannotWrite, PutFailed, ChipFailed}
-use Rattle.cli_model.specs.Steps.{Done, Stopped}
+use Rattle.cli_model.specs.Steps.{Done, Stopped, Unopened}
 use Rattle.cli_model.specs.Stands.{files_after, sent_by, CountsOn}
 use Rattle.cli_model.specs.Status.{reason_status, reason_line}
 use Rattle.cli_model.specs.Foreseen.{foreseen}
 
--- Where a command stopped: the steps before were done, this one failed for this reason, and those
--- behind were not begun
+-- Where a command stopped: the steps before, whose stores and lines stand; the one that failed, and
+-- for which reason; and those behind
 pub record Stop : Type 0 where
   pub before : List Step
   pub failed : Step
@@ -131,18 +131,25 @@ IsFault (CannotWrite name) = Unit {0}
 IsFault PutFailed = Unit {0}
 IsFault ChipFailed = Unit {0}
 
--- it ends as its files foretell, or by a fault
+-- the files let all steps before pass, and it ends as they foretell, or by a fault
 abbrev pub IsForetold : List Step → Ended → Files → Type 0
 IsForetold steps All files = foreseen steps files ≡ Done
-IsForetold steps (At stop) files =
-    (foreseen steps files ≡ Stopped stop.reason) ⊎ IsFault stop.reason
+IsForetold steps (At stop) files = (foreseen stop.before files ≡ Done)
+    × ((foreseen steps files ≡ Stopped stop.reason) ⊎ IsFault stop.reason)
 
--- A command of these steps ends with this status, and with `done` where all of them were done: the
--- first event decides. No count of faults falls, and the chip is as it was where no step on it was
--- begun
+-- it stopped for want of memory
+abbrev pub Wants : Ended → Type 0
+Wants All = ⊥
+Wants (At stop) = stop.reason ≡ NoMemory
+
+-- A command of these steps ends with this status, and with `done` where all of them were done. No
+-- count of faults falls. The chip is as it was where no step on it was begun, and where none was
+-- done, want of memory leaves it as it was or not begun
 pub record Ends (steps : List Step) (done : ℕ) (old new : World) (status : ℕ) : Type 0 where
   pub ended : Ended
   pub so : EndsSo steps done ended old new status
   pub foretold : IfSome old.files.holds (IsForetold steps ended)
   pub counts : CountsOn old new
   pub chip : list_any is_on_chip (begun_steps steps ended) ≡ false → new.chip ≡ old.chip
+  pub unopened : list_any is_on_chip (done_steps steps ended) ≡ false → Wants ended
+      → Unopened old.chip new.chip

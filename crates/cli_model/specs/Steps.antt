@@ -3,6 +3,7 @@ use Rattle.std.specs.Prelude.{◌≡◌, ◌⊎◌, ℕ, ◌+◌, ◌≤◌, Lis
 use Rattle.std.specs.Prelude.{None, Result, Ok, Err}
 use Rattle.host_edge.specs.Views.{Told, Rose, RoseBy, NoCountFalls, HasBytes, IsLonger, KeepsOthers}
 use Rattle.host_edge.specs.Views.{AppendsPart}
+use Rattle.dram_model.specs.View.{ChipView, NotBegun}
 use Rattle.cli_model.specs.World.{World, with_file}
 
 -- why a text is not accepted: the status, and the line that tells it
@@ -109,13 +110,17 @@ pub record Unstored (name : List ℕ) (old new : World) : Type 0 where
   pub sink : new.sink ≡ old.sink
   pub chip : new.chip ≡ old.chip
 
+-- the chip is as it was, or its last `begin` failed
+abbrev pub Unopened : ChipView → ChipView → Type 0
+Unopened old new = (new ≡ old) ⊎ NotBegun new
+
 -- the step failed for this reason
 abbrev pub Fails : Step → Reason → World → World → Type 0
 Fails (Load name limit text refusal) reason old new =
     LoadFails name limit text refusal reason old new
 Fails Take reason old new = (reason ≡ NoMemory) × ReadsOnly old new
 Fails (Store name bytes) reason old new = (reason ≡ CannotWrite name) × Unstored name old new
-Fails Open reason old new = ((reason ≡ NoMemory) × Used old new)
+Fails Open reason old new = ((reason ≡ NoMemory) × Used old new × Unopened old.chip new.chip)
     ⊎ ((reason ≡ ChipFailed) × Used old new × Rose old.chip.faults new.chip.faults)
 Fails Use reason old new =
     (reason ≡ ChipFailed) × Used old new × Rose old.chip.faults new.chip.faults

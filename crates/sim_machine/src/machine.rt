@@ -1,11 +1,11 @@
 //! The machine.
 
 ghost use Rattle.std.specs.Prelude.{◌≡◌, ◌+◌, ◌*◌, ◌<◌, ◌≤◌, ◌^◌, ◌++◌, [], length, OnOk, OnErr};
-ghost use Rattle.std.specs.Prelude.{IfOk, IsErrOf, true, vec_capacity};
+ghost use Rattle.std.specs.Prelude.{◌⊎◌, IfOk, IsErrOf, true, vec_capacity};
 ghost use Rattle.host_edge.specs.Views.{Told, Rose as SinkRose, AppendsPart};
 ghost use Rattle.dram_model.specs.Geometry.{is_geometry};
 ghost use Rattle.dram_model.specs.Chip.{Rose, Grew};
-ghost use Rattle.dram_model.specs.View.{HasBegun, Kept, Did, DidRead};
+ghost use Rattle.dram_model.specs.View.{HasBegun, Kept, Did, DidRead, NotBegun};
 ghost use Rattle.dram_model.specs.Elements.{FailedBelow};
 ghost use Rattle.uprog_code.specs.Shape.{microprograms_of};
 ghost use Rattle.object_alloc.specs.Reading.{rows_size};
@@ -101,6 +101,7 @@ fn begin<D: Dram>(g: Geometry, rows: &[u8], stage: &mut [u64], dram: &mut D) -> 
     ensures opened { OnOk result (Opened g rows.now (D.view dram.new)) }
     ensures failed { IsErrOf result StartNo.ChipFault
         → Rose (D.view dram.old).faults (D.view dram.new).faults }
+    ensures unopened { IsErrOf result StartNo.NoMemory → NotBegun (D.view dram.new) }
 {
     match dram.begin(g) {
         Ok(()) => {}
@@ -134,6 +135,8 @@ impl Machine {
         ensures table { IfOk result (λ machine. table_in machine ≡ image.entry.table.pairs) }
         ensures failed { IsErrOf result StartNo.ChipFault
             → Rose (D.view dram.old).faults (D.view dram.new).faults }
+        ensures unopened { IsErrOf result StartNo.NoMemory
+            → (D.view dram.new ≡ D.view dram.old) ⊎ NotBegun (D.view dram.new) }
     {
         let mut stage = make_stage(image.geometry.words, alloc)?;
         let file = make_file(image.geometry, alloc)?;

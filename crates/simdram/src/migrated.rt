@@ -127,3 +127,22 @@ fn migrations_fail(rt: HostRuntime) -> Result<(), Fail> {
     assert_eq!(rt; sink.bytes(), b"usage\n".as_slice());
     Ok(())
 }
+
+// A file of the greatest length, and of one byte more.
+#[test]
+fn migrations_have_a_limit(rt: HostRuntime) -> Result<(), Fail> {
+    let alloc = rt.alloc();
+    for (long, status, sent) in [
+        (4_194_304, 5, "program byte 0 magic\n"),
+        (4_194_305, 11, "too long old\n"),
+    ] {
+        let bytes = vec![in alloc; 0u8; long]?;
+        let mut files = folder(&bytes, alloc)?;
+        let mut out = MemSink::new(alloc);
+        let mut chip = Chip::new(alloc);
+        let answer = simdram(&WORDS, &mut files, &mut out, &mut chip, alloc);
+        assert_eq!(rt; (answer, out.bytes()), (status, sent.as_bytes()));
+        assert!(rt; files.file("new").is_none());
+    }
+    Ok(())
+}

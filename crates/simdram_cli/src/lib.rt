@@ -17,5 +17,5 @@ pub use stop::{NotYet, Stop, status_of, tell};
 pub use top::{one_job, simdram};
 pub use words::{
     Command, CompileNames, IMAGE_MAX, MigrateNames, OPS_MAX, PROG_MAX, RunNames, SCRIPT_MAX,
-    command_of,
+    command_of, limits,
 };

@@ -1,9 +1,11 @@
 //! The words of a command.
 
-ghost use Rattle.std.specs.Prelude.{◌≡◌, [], ◌∷◌};
+ghost use Rattle.std.specs.Prelude.{◌≡◌, ◌^◌, [], ◌∷◌};
 ghost use Rattle.simdram_cli.specs.Words.{all_differ, are_apart, command_of, command_on_two};
 
+use bit_rows::WIDTH_MAX;
 use object_alloc::IMAGE_BYTES_MAX;
+use uprog_code::WALK_MAX;
 
 /// The greatest length of each file, in bytes.
 pub const OPS_MAX: u64 = 65_536;
@@ -13,6 +15,16 @@ pub const PROG_MAX: u64 = 4_194_304;
 pub const SCRIPT_MAX: u64 = 16_777_216;
 
 pub const IMAGE_MAX: u64 = IMAGE_BYTES_MAX as u64;
+
+/// Shows the numbers of the limits that the definitions name.
+pub fn limits()
+    ensures ops { OPS_MAX ≡ 65_536 }
+    ensures prog { PROG_MAX ≡ 4_194_304 }
+    ensures script { SCRIPT_MAX ≡ 16_777_216 }
+    ensures image { IMAGE_MAX ≡ 67_115_022 }
+    ensures width { WIDTH_MAX ≡ 128 }
+    ensures walk { WALK_MAX ≡ 2 ^ 26 }
+{}
 
 /// The files of `run`.
 #[derive(Clone, Copy)]
