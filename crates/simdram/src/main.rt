@@ -17,6 +17,8 @@ mod compiled;
 #[cfg(test)]
 mod jobs;
 #[cfg(test)]
+mod machines;
+#[cfg(test)]
 mod migrated;
 #[cfg(test)]
 mod operations;
