@@ -128,21 +128,24 @@ fn migrations_fail(rt: HostRuntime) -> Result<(), Fail> {
     Ok(())
 }
 
+/// The status and what is sent where OLD is so many zeros.
+fn of_zeros(long: usize, alloc: Global) -> Result<(u8, MemSink), Fail> {
+    let bytes = vec![in alloc; 0u8; long]?;
+    let mut files = folder(&bytes, alloc)?;
+    let mut out = MemSink::new(alloc);
+    let mut chip = Chip::new(alloc);
+    let status = simdram(&WORDS, &mut files, &mut out, &mut chip, alloc);
+    Ok((status, out))
+}
+
 // A file of the greatest length, and of one byte more.
 #[test]
 fn migrations_have_a_limit(rt: HostRuntime) -> Result<(), Fail> {
-    let alloc = rt.alloc();
-    for (long, status, sent) in [
-        (4_194_304, 5, "program byte 0 magic\n"),
-        (4_194_305, 11, "too long old\n"),
-    ] {
-        let bytes = vec![in alloc; 0u8; long]?;
-        let mut files = folder(&bytes, alloc)?;
-        let mut out = MemSink::new(alloc);
-        let mut chip = Chip::new(alloc);
-        let answer = simdram(&WORDS, &mut files, &mut out, &mut chip, alloc);
-        assert_eq!(rt; (answer, out.bytes()), (status, sent.as_bytes()));
-        assert!(rt; files.file("new").is_none());
-    }
+    let (status, out) = of_zeros(4_194_304, rt.alloc())?;
+    assert_eq!(rt; status, 5);
+    assert_eq!(rt; out.bytes(), b"program byte 0 magic\n".as_slice());
+    let (status, out) = of_zeros(4_194_305, rt.alloc())?;
+    assert_eq!(rt; status, 11);
+    assert_eq!(rt; out.bytes(), b"too long old\n".as_slice());
     Ok(())
 }
