@@ -32,7 +32,7 @@ use Rattle.machine_model.specs.Columns.{object_size, segments, columns}
 use Rattle.machine_model.specs.Operations.{Operation}
 use Rattle.object_alloc.specs.Listed.{limit_of}
 use Rattle.machine_model.specs.Refusals.{object_named, nothing, dsts_in, srcs_in, is_one_of}
-use Rattle.machine_model.specs.Schedule.{Job}
+use Rattle.wave_model.specs.Schedule.{Job}
 use Rattle.machine_model.specs.Steps.{Held, table_of, numbers_named, base_for, computed, binding}
 use Rattle.machine_model.specs.Steps.{through}
 use Rattle.machine_model.specs.Agrees.{Agrees}

@@ -16,7 +16,7 @@ use Rattle.dram_model.specs.Elements.{number}
 use Rattle.object_alloc.specs.declared.table.Object.{Object}
 use Rattle.object_alloc.specs.Free.{has_row, is_free, are_free, free}
 use Rattle.dram_model.specs.Elements.{below}
-use Rattle.machine_model.specs.Schedule.{Job}
+use Rattle.wave_model.specs.Schedule.{Job}
 use Rattle.machine_model.specs.Steps.{through}
 
 map_both : {X Y Z : Type 0} (f : X → Z) (h : Y → X) (g : Y → Z) (ys : List Y)

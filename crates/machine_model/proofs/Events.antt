@@ -21,7 +21,7 @@ use Rattle.bbop_isa.specs.Forms.{Init, Bbop, Load, Fill, Print, Free, Order}
 use Rattle.machine_model.specs.declared.Why.{Why}
 use Rattle.machine_model.specs.Operations.{Operation, Operations}
 use Rattle.machine_model.specs.Refusals.{refusal}
-use Rattle.machine_model.specs.Schedule.{Job}
+use Rattle.wave_model.specs.Schedule.{Job}
 use Rattle.machine_model.specs.Steps.{job_of, job_events, own_events, events_of, through}
 use Rattle.machine_model.specs.Steps.{rowed, banks_after, table_after, if_done, times, counts_for}
 use Rattle.machine_model.specs.Steps.{reply_to, reply_by, binding, issues_at, bound_at}

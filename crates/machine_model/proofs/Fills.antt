@@ -29,7 +29,7 @@ use Rattle.machine_model.specs.Columns.{object_size, segments, columns}
 use Rattle.machine_model.proofs.Below.{below_run, below_same, below_length, through_in}
 use Rattle.machine_model.proofs.Below.{through_same, number_same}
 use Rattle.machine_model.proofs.Bbops.{has_from}
-use Rattle.machine_model.specs.Schedule.{Job}
+use Rattle.wave_model.specs.Schedule.{Job}
 use Rattle.machine_model.specs.Steps.{through, fill_events}
 
 -- row base + k takes bit k of the value, for n bits from bit a on

@@ -26,8 +26,8 @@ use Rattle.machine_model.specs.declared.Why.{Why}
 use Rattle.machine_model.specs.declared.Why.TheVariants as why
 use Rattle.machine_model.specs.Operations.{Operations}
 use Rattle.machine_model.specs.Refusals.{refusal, object_named, nothing, when}
-use Rattle.machine_model.specs.Schedule.{Job, Queues, queues, events_of_picks, IsWhole}
-use Rattle.machine_model.specs.Schedule.{picked, without_next}
+use Rattle.wave_model.specs.Schedule.{Job, Queues, queues, events_of_picks, IsWhole}
+use Rattle.wave_model.specs.Schedule.{picked, without_next}
 use Rattle.machine_model.specs.Steps.{job_of, job_events, own_events, if_done, table_after, tabled}
 use Rattle.machine_model.specs.Steps.{new_object}
 use Rattle.machine_model.specs.Script.{is_bbop, table_at_end, events_in_order}
@@ -37,7 +37,7 @@ use Rattle.machine_model.proofs.Facts.{first_none, when_none}
 use Rattle.machine_model.proofs.Makes.{few_banks}
 use Rattle.machine_model.proofs.Events.{in_order_steps}
 use Rattle.machine_model.proofs.Alike.{Alike, events_of-append}
-use Rattle.machine_model.proofs.Waves.{own_queue, no_events, live_at, live_none}
+use Rattle.wave_model.proofs.Waves.{own_queue, no_events, live_at, live_none}
 
 -- a bank sees its own commands
 row_own : (bank : ℕ) (cs : List Command)

@@ -14,7 +14,6 @@ pub mod Opened
 pub mod Kept
 pub mod KeptAll
 pub mod Events
-pub mod Waves
 pub mod Alike
 pub mod InOrder
 pub mod Pieces

@@ -13,7 +13,7 @@ use Rattle.bbop_isa.specs.Forms.{Instruction}
 use Rattle.bbop_isa.specs.Forms.{Init, Bbop, Load, Fill, Print, Free, Order}
 use Rattle.machine_model.specs.Operations.{Operations}
 use Rattle.machine_model.specs.Refusals.{refusal}
-use Rattle.machine_model.specs.Schedule.{Turn, Ahead, in_turn, whole_picks, events_of_picks}
+use Rattle.wave_model.specs.Schedule.{Turn, Ahead, in_turn, whole_picks, events_of_picks}
 use Rattle.machine_model.specs.Steps.{job_of, job_events, own_events, if_done, table_after}
 use Rattle.machine_model.specs.Script.{is_bbop, table_at_end, events_in_order}
 use Rattle.machine_model.specs.Pieces.{Piece, Wave, Alone, instrs_in, gathered, pieces_from, pieces}
@@ -22,7 +22,7 @@ use Rattle.machine_model.specs.Pieces.{events_of_pieces, script_events, AreBbops
 use Rattle.machine_model.specs.Laws.{FitsBanks, SeenInOrder, EventsAreSteps, CountedByReplies}
 use Rattle.machine_model.specs.Laws.{OneBankInOrder, PiecesAreScript, WaveIsCounted}
 use Rattle.machine_model.proofs.Events.{in_order_steps, in_order_counted}
-use Rattle.machine_model.proofs.Waves.{turns_whole}
+use Rattle.wave_model.proofs.Waves.{turns_whole}
 use Rattle.machine_model.proofs.Alike.{Alike, Alike-append, alike_after, alike_counted}
 use Rattle.machine_model.proofs.InOrder.{wave_in_order, jobs_fit, picks_alike, picks_same}
 use Rattle.machine_model.proofs.InOrder.{fits_after}

@@ -26,7 +26,7 @@ use Rattle.machine_model.specs.Operations.{Operation, Operations}
 use Rattle.object_alloc.specs.Listed.{limit_of}
 use Rattle.machine_model.specs.Refusals.{object_named, refusal, bbop_refusal, dsts_in, srcs_in}
 use Rattle.machine_model.specs.Refusals.{is_one_of}
-use Rattle.machine_model.specs.Schedule.{Job}
+use Rattle.wave_model.specs.Schedule.{Job}
 use Rattle.machine_model.specs.Steps.{Held, table_of, numbers_named, with_numbers, with_results}
 use Rattle.machine_model.specs.Steps.{new_numbers, dsts_of, srcs_of, computed, through, job_of}
 use Rattle.machine_model.specs.Steps.{worded, rowed, if_done}

@@ -1,9 +1,8 @@
 -- Laws of whole scripts.
-use Rattle.std.specs.Prelude.{◌≡◌, ℕ, ◌*◌, ◌<◌, ◌≤◌, List, map, flat_map, All}
+use Rattle.std.specs.Prelude.{◌≡◌, ℕ, ◌*◌, ◌<◌, ◌≤◌, List, flat_map, All}
 use Rattle.std.specs.List.{AllByRecursion}
 use Rattle.dram_model.specs.declared.geometry.Geometry.{Geometry}
 use Rattle.dram_model.specs.declared.dram.Counters.{Counters}
-use Rattle.dram_model.specs.Column.{run}
 use Rattle.dram_model.specs.Chip.{Banks, after, all_counted}
 use Rattle.dram_model.specs.Elements.{column_count}
 use Rattle.dram_model.specs.Events.{events_of as seen_by}
@@ -12,8 +11,7 @@ use Rattle.bbop_isa.specs.Forms.{Instruction}
 use Rattle.uprog_code.specs.Texts.{TextOp, ImplementsAll}
 use Rattle.machine_model.specs.Operations.{Program, Operations, operations_of, operations_in}
 use Rattle.machine_model.specs.Operations.{meaning_in}
-use Rattle.machine_model.specs.Schedule.{Queues, events_of_picks, IsWhole, whole_picks, Turn}
-use Rattle.machine_model.specs.Schedule.{in_turn}
+use Rattle.wave_model.specs.Schedule.{events_of_picks, IsWhole, Turn}
 use Rattle.machine_model.specs.Steps.{Held, table_of}
 use Rattle.machine_model.specs.Agrees.{Agrees, DoesAll, IsPlain}
 use Rattle.machine_model.specs.Script.{banks_at_end, words_at_end, events_in_order}
@@ -46,24 +44,11 @@ abbrev pub SameOperations : Type 0
 SameOperations = (p : Program) (t : List TextOp) → ImplementsAll p t
     → operations_of t p ≡ operations_in p
 
--- The picks of every order in force are a whole list
-abbrev pub PicksAreWhole : Type 0
-PicksAreWhole =
-    (turn : Turn) (banks : ℕ) (left : Queues)
-    → IsWhole banks (whole_picks in_turn banks turn left) left
-
 -- the banks hold each object of a table
 abbrev pub FitsBanks : Geometry → List Named → Type 0
 FitsBanks g table = All (λ named. named.1.count ≤ column_count g * g.banks) table
 
--- Each bank of a wave is left as its own queue alone leaves it, for every whole list of picks
-abbrev pub FollowsQueue : Type 0
-FollowsQueue =
-    (banks : ℕ) (picks : List ℕ) (left : Queues) (chip : Banks) (bank : ℕ)
-    → IsWhole banks picks left → bank < banks
-    → after (events_of_picks banks picks left) chip bank ≡ map (run (left bank)) (chip bank)
-
--- and so as the wave's bbops one after another leave it
+-- Each bank of a wave is left as the wave's bbops one after another leave it
 abbrev pub WaveIsSteps : Type 0
 WaveIsSteps =
     (g : Geometry) (operations : Operations) (table : List Named) (wave : List Instruction)

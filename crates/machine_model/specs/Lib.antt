@@ -2,7 +2,6 @@
 pub mod Columns
 pub mod Operations
 pub mod Refusals
-pub mod Schedule
 pub mod Steps
 pub mod Agrees
 pub mod Script

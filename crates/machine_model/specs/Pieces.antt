@@ -11,8 +11,8 @@ use Rattle.bbop_isa.specs.Forms.{Instruction}
 use Rattle.bbop_isa.specs.Forms.{Init, Bbop, Load, Fill, Print, Free, Order}
 use Rattle.machine_model.specs.Operations.{Operations}
 use Rattle.machine_model.specs.Refusals.{refusal}
-use Rattle.machine_model.specs.Schedule.{Job, Queues, queues, events_of_picks, whole_picks}
-use Rattle.machine_model.specs.Schedule.{state_behind, Turn, Ahead, Turning, Drawing, in_turn}
+use Rattle.wave_model.specs.Schedule.{Job, Queues, queues, events_of_picks, whole_picks}
+use Rattle.wave_model.specs.Schedule.{state_behind, Turn, Ahead, Turning, Drawing, in_turn}
 use Rattle.machine_model.specs.Steps.{job_of, own_events, if_done}
 use Rattle.machine_model.specs.Script.{is_bbop, table_at_end}
 

@@ -32,7 +32,7 @@ use Rattle.dram_model.specs.Elements.{padded_to, row_bits}
 use Rattle.machine_model.specs.Operations.{Operation, Operations}
 use Rattle.object_alloc.specs.Listed.{limit_of}
 use Rattle.machine_model.specs.Refusals.{refusal, object_named, dsts_in, srcs_in}
-use Rattle.machine_model.specs.Schedule.{Job}
+use Rattle.wave_model.specs.Schedule.{Job}
 
 -- an object with the numbers of its columns
 pub record Held : Type 0 where

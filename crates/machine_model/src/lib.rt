@@ -2,10 +2,9 @@
 //! report on it.
 #![tactic(auto)]
 
-ghost use Rattle.machine_model.specs.Laws.{CountedByReplies, EventsAreSteps, FollowsQueue};
-ghost use Rattle.machine_model.specs.Laws.{OneBankInOrder, PicksAreWhole, PiecesAreScript};
-ghost use Rattle.machine_model.specs.Laws.{RowsGiveWords, SameOperations, SeenInOrder};
-ghost use Rattle.machine_model.specs.Laws.{TextGivesWords, WaveIsCounted, WaveIsSteps};
+ghost use Rattle.machine_model.specs.Laws.{CountedByReplies, EventsAreSteps, OneBankInOrder};
+ghost use Rattle.machine_model.specs.Laws.{PiecesAreScript, RowsGiveWords, SameOperations};
+ghost use Rattle.machine_model.specs.Laws.{SeenInOrder, TextGivesWords, WaveIsCounted, WaveIsSteps};
 
 use uprog_code::{BadWalk, Counts};
 
@@ -43,10 +42,9 @@ pub fn rows_give_words()
     ensures same { SameOperations }
 {}
 
-/// In whatever order the banks of a wave take turns, each does its own commands in order.
+/// In whatever order the banks of a wave take turns, they are left as its bbops one after another
+/// leave them, and its replies count the commands.
 pub fn waves_are_steps()
-    ensures whole { PicksAreWhole }
-    ensures follows { FollowsQueue }
     ensures steps { WaveIsSteps }
     ensures counted { WaveIsCounted }
 {}

@@ -21,7 +21,7 @@ use Rattle.object_alloc.specs.Spelling.{IsObject}
 use Rattle.machine_model.specs.Columns.{segments}
 use Rattle.machine_model.specs.Operations.{Operations, operation_of}
 use Rattle.machine_model.specs.Refusals.{object_named, refusal}
-use Rattle.machine_model.specs.Schedule.{Job}
+use Rattle.wave_model.specs.Schedule.{Job}
 use Rattle.machine_model.specs.Steps.{job_events, bound_at, issues_at, times, events_of}
 use Rattle.machine_model.specs.Steps.{if_done}
 use Rattle.bbop_isa.specs.Forms.{Instruction}

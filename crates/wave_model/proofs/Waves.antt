@@ -12,10 +12,10 @@ use Rattle.dram_model.specs.Chip.{Event}
 use Rattle.dram_model.specs.Chip.Event.{Row}
 use Rattle.dram_model.specs.Events.{events_of, on_bank_all, row_events}
 use Rattle.dram_model.proofs.EventLaws.{projection, step-then-run}
-use Rattle.machine_model.specs.Schedule.{Queues, is_live, live, picked, without_next}
-use Rattle.machine_model.specs.Schedule.{events_of_picks, IsWhole, Picker, PicksLive, picks}
-use Rattle.machine_model.specs.Schedule.{total_left, Ahead, Turning, Drawing, in_turn}
-use Rattle.machine_model.specs.Laws.{FollowsQueue, PicksAreWhole}
+use Rattle.wave_model.specs.Schedule.{Queues, is_live, live, picked, without_next}
+use Rattle.wave_model.specs.Schedule.{events_of_picks, IsWhole, Picker, PicksLive, picks}
+use Rattle.wave_model.specs.Schedule.{total_left, Ahead, Turning, Drawing, in_turn}
+use Rattle.wave_model.specs.Laws.{FollowsQueue, PicksAreWhole}
 
 -- the bank is one of n from a on, and has commands left
 abbrev pub IsLiveIn : Queues → ℕ → ℕ → ℕ → Type 0
