@@ -38,12 +38,13 @@ StepAgrees g operations meaning instr =
     → Agrees g (banks_after g operations (table_of state) banks instr)
     (words_after g operations meaning state instr)
 
--- what every script has: an object and a bbop have a width from 1 to the greatest
+-- what every script has: an object has some element, and it and a bbop have a width from 1 to the
+-- greatest
 abbrev pub IsWidth : ℕ → Type 0
 IsWidth n = (0 < n) × (n ≤ WIDTH_MAX)
 
 abbrev pub IsPlain : Instruction → Type 0
-IsPlain (Init name count n) = IsWidth n
+IsPlain (Init name count n) = (0 < count) × IsWidth n
 IsPlain (Bbop op dst srcs count n) = IsWidth n
 IsPlain (Load name values) = Unit {0}
 IsPlain (Fill name value) = Unit {0}

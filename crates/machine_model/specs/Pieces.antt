@@ -50,6 +50,10 @@ pieces_from wave (instr ∷ script) =
 abbrev pub pieces : List Instruction → List Piece
 pieces script = pieces_from [] script
 
+-- an instruction by itself: a bbop is a wave of one
+abbrev pub piece_of : Instruction → Piece
+piece_of instr = if is_bbop instr then Wave (instr ∷ []) else Alone instr
+
 -- the jobs of the bbops of a wave that are not refused, in order, and the banks' queues
 abbrev pub jobs_of : Geometry → Operations → List Named → List Instruction → List Job
 jobs_of g operations table wave = map (job_of g operations table)

@@ -86,12 +86,16 @@ said_in_words g operations meaning state (instr ∷ script) =
     (λ name. take (object_named (table_of state) name).count (numbers_named state name))
     ∷ said_in_words g operations meaning (words_after g operations meaning state instr) script
 
--- the same, where the values are read from the banks' columns
+-- what is said of one instruction, where the values are read from the banks' columns
+abbrev pub said_by : Geometry → Operations → List Named → Banks → Instruction → Said
+said_by g operations table banks instr = said_of (reply_to g operations table instr) instr
+    (λ name. take (object_named table name).count (columns g banks (object_named table name)))
+
+-- the same of a script
 abbrev pub said_in_rows : Geometry → Operations → List Named → Banks → List Instruction → List Said
 said_in_rows g operations table banks [] = []
 said_in_rows g operations table banks (instr ∷ script) =
-    said_of (reply_to g operations table instr) instr
-    (λ name. take (object_named table name).count (columns g banks (object_named table name)))
+    said_by g operations table banks instr
     ∷ said_in_rows g operations (table_after g operations table instr)
     (banks_after g operations table banks instr) script
 

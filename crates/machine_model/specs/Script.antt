@@ -104,10 +104,16 @@ rows_printed g table (Fill name value) = 0
 rows_printed g table (Free name) = 0
 rows_printed g table (Order o) = 0
 
+-- the rows of one instruction, where it is done
+abbrev pub rows_if_done : (Geometry → List Named → Instruction → ℕ) → Geometry → Operations
+    → List Named → Instruction → ℕ
+rows_if_done rows g operations table instr =
+    if is_none (refusal g operations table instr) then rows g table instr else 0
+
 -- summed over the instructions that are done
 abbrev pub sum_done : (Geometry → List Named → Instruction → ℕ) → Geometry → Operations → List Named
     → List Instruction → ℕ
 sum_done rows g operations table [] = 0
 sum_done rows g operations table (instr ∷ script) =
-    (if is_none (refusal g operations table instr) then rows g table instr else 0)
+    rows_if_done rows g operations table instr
     + sum_done rows g operations (table_after g operations table instr) script
