@@ -17,3 +17,6 @@ pub mod Events
 pub mod Alike
 pub mod InOrder
 pub mod Pieces
+pub mod Tables
+pub mod Parts
+pub mod Cut

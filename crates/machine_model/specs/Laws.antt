@@ -1,23 +1,27 @@
 -- Laws of whole scripts.
-use Rattle.std.specs.Prelude.{◌≡◌, ℕ, ◌*◌, ◌<◌, ◌≤◌, List, flat_map, All}
+use Rattle.std.specs.Prelude.{◌≡◌, ℕ, ◌+◌, ◌*◌, ◌<◌, ◌≤◌, ◌||◌, false, List, ◌∷◌, ◌++◌, map}
+use Rattle.std.specs.Prelude.{flat_map, take, drop, All}
 use Rattle.std.specs.List.{AllByRecursion}
 use Rattle.dram_model.specs.declared.geometry.Geometry.{Geometry}
 use Rattle.dram_model.specs.declared.dram.Counters.{Counters}
 use Rattle.dram_model.specs.Chip.{Banks, after, all_counted}
 use Rattle.dram_model.specs.Elements.{column_count}
 use Rattle.dram_model.specs.Events.{events_of as seen_by}
-use Rattle.object_alloc.specs.Listed.{Named}
+use Rattle.object_alloc.specs.Listed.{Named, IsTable, limit_of}
+use Rattle.object_alloc.specs.Spelling.{IsObject}
 use Rattle.bbop_isa.specs.Forms.{Instruction}
 use Rattle.uprog_code.specs.Texts.{TextOp, ImplementsAll}
 use Rattle.machine_model.specs.Operations.{Program, Operations, operations_of, operations_in}
 use Rattle.machine_model.specs.Operations.{meaning_in}
 use Rattle.wave_model.specs.Schedule.{events_of_picks, IsWhole, Turn}
-use Rattle.machine_model.specs.Steps.{Held, table_of}
+use Rattle.machine_model.specs.Steps.{Held, table_of, reply_to}
 use Rattle.machine_model.specs.Agrees.{Agrees, DoesAll, IsPlain}
-use Rattle.machine_model.specs.Script.{banks_at_end, words_at_end, events_in_order}
-use Rattle.machine_model.specs.Script.{replies, sum_of, with_counts}
-use Rattle.machine_model.specs.Pieces.{AreBbops, IsPiece, instrs_in, pieces, wave_queues}
-use Rattle.machine_model.specs.Pieces.{events_of_pieces}
+use Rattle.machine_model.specs.Script.{table_at_end, banks_at_end, words_at_end, events_in_order}
+use Rattle.machine_model.specs.Script.{is_bbop, replies, sum_of, sum_done, with_counts}
+use Rattle.machine_model.specs.Script.{is_touched_by}
+use Rattle.machine_model.specs.Pieces.{Piece, Wave, Alone, AreBbops, IsPiece, instrs_in, pieces}
+use Rattle.machine_model.specs.Pieces.{wave_size, wave_queues, events_of_pieces, turn_at_end}
+use Rattle.machine_model.specs.Report.{said_in_rows, Answered}
 
 -- Where what is issued for each operation does what it means, the banks after a script hold what
 -- the word machine holds
@@ -43,6 +47,18 @@ TextGivesWords =
 abbrev pub SameOperations : Type 0
 SameOperations = (p : Program) (t : List TextOp) → ImplementsAll p t
     → operations_of t p ≡ operations_in p
+
+-- a table that a machine of this geometry may have
+pub record TableFits (g : Geometry) (table : List Named) : Type 0 where
+  pub listed : IsTable (limit_of g) table
+  pub objects : All (λ named. IsObject g named.1) table
+
+-- Behind every script it still is one
+abbrev pub TableStays : Type 0
+TableStays =
+    (g : Geometry) (operations : Operations) (table : List Named) (script : List Instruction)
+    → AllByRecursion IsPlain script → TableFits g table
+    → TableFits g (table_at_end g operations table script)
 
 -- the banks hold each object of a table
 abbrev pub FitsBanks : Geometry → List Named → Type 0
@@ -70,6 +86,69 @@ WaveIsCounted =
 abbrev pub PiecesAreScript : Type 0
 PiecesAreScript = (script : List Instruction) → AllByRecursion IsPiece (pieces script)
     × (flat_map instrs_in (pieces script) ≡ script)
+
+-- A script that begins with bbops begins with a wave of them, 16 at most, and each other with its
+-- first instruction alone
+pub record PiecesAreCut : Type 0 where
+  pub wave : (script : List Instruction) → 0 < wave_size script
+      → pieces script
+      ≡ Wave (take (wave_size script) script) ∷ pieces (drop (wave_size script) script)
+  pub alone : (instr : Instruction) (script : List Instruction) → is_bbop instr ≡ false
+      → pieces (instr ∷ script) ≡ Alone instr ∷ pieces script
+
+-- A script goes on where its first part ends
+pub record GoesOn (g : Geometry) (operations : Operations) (table : List Named)
+    (xs ys : List Instruction) : Type 0 where
+  pub tables : table_at_end g operations table (xs ++ ys)
+      ≡ table_at_end g operations (table_at_end g operations table xs) ys
+  pub answers : replies g operations table (xs ++ ys)
+      ≡ replies g operations table xs
+      ++ replies g operations (table_at_end g operations table xs) ys
+  pub states : (banks : Banks) → banks_at_end g operations table banks (xs ++ ys)
+      ≡ banks_at_end g operations (table_at_end g operations table xs)
+      (banks_at_end g operations table banks xs) ys
+  pub said : (banks : Banks) → said_in_rows g operations table banks (xs ++ ys)
+      ≡ said_in_rows g operations table banks xs
+      ++ said_in_rows g operations (table_at_end g operations table xs)
+      (banks_at_end g operations table banks xs) ys
+  pub rows : (rows : Geometry → List Named → Instruction → ℕ)
+      → sum_done rows g operations table (xs ++ ys)
+      ≡ sum_done rows g operations table xs
+      + sum_done rows g operations (table_at_end g operations table xs) ys
+  pub touched : (bank row : ℕ) → is_touched_by g operations table (xs ++ ys) bank row
+      ≡ (is_touched_by g operations table xs bank row
+      || is_touched_by g operations (table_at_end g operations table xs) ys bank row)
+
+-- and so do its pieces
+pub record PiecesGoOn (g : Geometry) (operations : Operations) (turn : Turn) (table : List Named)
+    (ps qs : List Piece) : Type 0 where
+  pub turns : turn_at_end g operations turn table (ps ++ qs)
+      ≡ turn_at_end g operations (turn_at_end g operations turn table ps)
+      (table_at_end g operations table (flat_map instrs_in ps)) qs
+  pub events : events_of_pieces g operations turn table (ps ++ qs)
+      ≡ events_of_pieces g operations turn table ps
+      ++ events_of_pieces g operations (turn_at_end g operations turn table ps)
+      (table_at_end g operations table (flat_map instrs_in ps)) qs
+
+abbrev pub ScriptsGoOn : Type 0
+ScriptsGoOn = (g : Geometry) (operations : Operations) (table : List Named)
+    (xs ys : List Instruction) → GoesOn g operations table xs ys
+
+abbrev pub AllPiecesGoOn : Type 0
+AllPiecesGoOn = (g : Geometry) (operations : Operations) (turn : Turn) (table : List Named)
+    (ps qs : List Piece) → PiecesGoOn g operations turn table ps qs
+
+-- A wave leaves the table, and is answered bbop by bbop
+pub record WaveIsAnswered (g : Geometry) (operations : Operations) (table : List Named)
+    (wave : List Instruction) : Type 0 where
+  pub tables : table_at_end g operations table wave ≡ table
+  pub answers : replies g operations table wave ≡ map (reply_to g operations table) wave
+  pub said : (banks : Banks) → said_in_rows g operations table banks wave
+      ≡ map Answered (replies g operations table wave)
+
+abbrev pub WavesAreAnswered : Type 0
+WavesAreAnswered = (g : Geometry) (operations : Operations) (table : List Named)
+    (wave : List Instruction) → AreBbops wave → WaveIsAnswered g operations table wave
 
 -- Under every order in force each bank sees the events of a script in the same order: that of its
 -- instructions

@@ -2,9 +2,11 @@
 //! report on it.
 #![tactic(auto)]
 
-ghost use Rattle.machine_model.specs.Laws.{CountedByReplies, EventsAreSteps, OneBankInOrder};
-ghost use Rattle.machine_model.specs.Laws.{PiecesAreScript, RowsGiveWords, SameOperations};
-ghost use Rattle.machine_model.specs.Laws.{SeenInOrder, TextGivesWords, WaveIsCounted, WaveIsSteps};
+ghost use Rattle.machine_model.specs.Laws.{AllPiecesGoOn, CountedByReplies, EventsAreSteps};
+ghost use Rattle.machine_model.specs.Laws.{OneBankInOrder, PiecesAreCut, PiecesAreScript};
+ghost use Rattle.machine_model.specs.Laws.{RowsGiveWords, SameOperations, ScriptsGoOn, SeenInOrder};
+ghost use Rattle.machine_model.specs.Laws.{TableStays, TextGivesWords, WaveIsCounted, WaveIsSteps};
+ghost use Rattle.machine_model.specs.Laws.{WavesAreAnswered};
 
 use uprog_code::{BadWalk, Counts};
 
@@ -40,6 +42,20 @@ pub fn rows_give_words()
     ensures rows { RowsGiveWords }
     ensures text { TextGivesWords }
     ensures same { SameOperations }
+{}
+
+/// The table stays a table of objects that the geometry can hold.
+pub fn tables_stay()
+    ensures stays { TableStays }
+{}
+
+/// A script and its pieces go on where a part of them ends; the pieces are cut from the front, and a
+/// wave is answered bbop by bbop.
+pub fn scripts_go_on()
+    ensures cut { PiecesAreCut }
+    ensures scripts { ScriptsGoOn }
+    ensures pieces { AllPiecesGoOn }
+    ensures waves { WavesAreAnswered }
 {}
 
 /// In whatever order the banks of a wave take turns, they are left as its bbops one after another
