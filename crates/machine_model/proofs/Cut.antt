@@ -83,7 +83,8 @@ cut x xs (instr ∷ script) zero e =
 cut x xs (instr ∷ script) (suc room) e =
     let not_full : eqb (length (x ∷ xs)) 16 ≡ false =
     ne_eqb (length (x ∷ xs)) 16 (λ same. absurd (omega arith)) in
-    let long : length (x ∷ (xs ++ instr ∷ [])) ≡ length (x ∷ xs) + 1 = simp length-append (omega arith) in
+    let long : length (x ∷ (xs ++ instr ∷ [])) ≡ length (x ∷ xs) + 1 =
+    simp length-append (omega arith) in
     rw not_full (room_case (is_bbop instr) x xs instr script (leading room script)
     (Wave (x ∷ xs) ∷ pieces_from (instr ∷ []) script)
     (pieces_from (x ∷ (xs ++ instr ∷ [])) script) refl

@@ -18,9 +18,10 @@ use Rattle.machine_model.specs.Steps.{Held, table_of, reply_to}
 use Rattle.machine_model.specs.Agrees.{Agrees, DoesAll, IsPlain}
 use Rattle.machine_model.specs.Script.{table_at_end, banks_at_end, words_at_end, events_in_order}
 use Rattle.machine_model.specs.Script.{is_bbop, replies, sum_of, sum_done, with_counts}
-use Rattle.machine_model.specs.Script.{is_touched_by}
+use Rattle.machine_model.specs.Script.{is_touched_by, counters_at_end}
 use Rattle.machine_model.specs.Pieces.{Piece, Wave, Alone, AreBbops, IsPiece, instrs_in, pieces}
-use Rattle.machine_model.specs.Pieces.{wave_size, wave_queues, events_of_pieces, turn_at_end}
+use Rattle.machine_model.specs.Pieces.{wave_size, wave_queues, piece_events, events_of_pieces}
+use Rattle.machine_model.specs.Pieces.{turn_at_end}
 use Rattle.machine_model.specs.Report.{said_in_rows, Answered}
 
 -- Where what is issued for each operation does what it means, the banks after a script hold what
@@ -167,14 +168,20 @@ EventsAreSteps =
     → after (events_of_pieces g operations turn table (pieces script)) chip
     ≡ banks_at_end g operations table chip script
 
--- and a script of bbops is counted by its replies, and has no host writes
+-- and are counted by the replies and the rows loaded; so are the events of one piece
 abbrev pub CountedByReplies : Type 0
 CountedByReplies =
     (g : Geometry) (operations : Operations) (turn : Turn) (table : List Named)
     (script : List Instruction) (k : Counters) → 0 < g.words → FitsBanks g table
-    → AreBbops script
     → all_counted (events_of_pieces g operations turn table (pieces script)) k
-    ≡ with_counts k (sum_of (replies g operations table script))
+    ≡ counters_at_end g operations table script k
+
+abbrev pub PieceIsCounted : Type 0
+PieceIsCounted =
+    (g : Geometry) (operations : Operations) (turn : Turn) (table : List Named) (piece : Piece)
+    (k : Counters) → 0 < g.words → FitsBanks g table → IsPiece piece
+    → all_counted (piece_events g operations turn table piece) k
+    ≡ counters_at_end g operations table (instrs_in piece) k
 
 -- On a chip of one bank every order gives the events of one instruction after another
 abbrev pub OneBankInOrder : Type 0

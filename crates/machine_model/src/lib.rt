@@ -3,7 +3,7 @@
 #![tactic(auto)]
 
 ghost use Rattle.machine_model.specs.Laws.{AllPiecesGoOn, CountedByReplies, EventsAreSteps};
-ghost use Rattle.machine_model.specs.Laws.{OneBankInOrder, PiecesAreCut, PiecesAreScript};
+ghost use Rattle.machine_model.specs.Laws.{OneBankInOrder, PieceIsCounted, PiecesAreCut, PiecesAreScript};
 ghost use Rattle.machine_model.specs.Laws.{RowsGiveWords, SameOperations, ScriptsGoOn, SeenInOrder};
 ghost use Rattle.machine_model.specs.Laws.{TableStays, TextGivesWords, WaveIsCounted, WaveIsSteps};
 ghost use Rattle.machine_model.specs.Laws.{WavesAreAnswered};
@@ -49,8 +49,8 @@ pub fn tables_stay()
     ensures stays { TableStays }
 {}
 
-/// A script and its pieces go on where a part of them ends; the pieces are cut from the front, and a
-/// wave is answered bbop by bbop.
+/// A script and its pieces go on where a part of them ends; the pieces are cut from the front, and
+/// a wave is answered bbop by bbop.
 pub fn scripts_go_on()
     ensures cut { PiecesAreCut }
     ensures scripts { ScriptsGoOn }
@@ -72,5 +72,6 @@ pub fn events_are_steps()
     ensures seen { SeenInOrder }
     ensures steps { EventsAreSteps }
     ensures counted { CountedByReplies }
+    ensures piece { PieceIsCounted }
     ensures one_bank { OneBankInOrder }
 {}
