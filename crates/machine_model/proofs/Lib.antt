@@ -20,3 +20,5 @@ pub mod Pieces
 pub mod Tables
 pub mod Parts
 pub mod Cut
+pub mod Grants
+pub mod Accepted

@@ -1,14 +1,14 @@
 -- The table stays a table of objects that the geometry can hold.
 use Rattle.std.proofs.Common.{◌≡◌, ℕ, ◌*◌, ◌<◌, ◌≤◌, false, not, ltb, leb, List, [], ◌∷◌}
 use Rattle.std.proofs.Common.{length, Option, Some, None, refl, arith}
-use Rattle.std.specs.Prelude.{is_none}
+use Rattle.std.specs.Prelude.{All, is_none}
 use Rattle.std.specs.Str.{bytes_eq}
 use Rattle.std.proofs.lemmas.Bool.Decides.{nat_tests}
 use Rattle.std.proofs.lemmas.List.Elements.{All-push, All-filter}
 use Rattle.dram_model.specs.declared.geometry.Geometry.{Geometry}
 use Rattle.dram_model.specs.Elements.{column_count}
 use Rattle.object_alloc.specs.Free.{free}
-use Rattle.object_alloc.specs.Listed.{Named, objects_of, has_name, limit_of}
+use Rattle.object_alloc.specs.Listed.{Named, IsTable, objects_of, has_name, limit_of}
 use Rattle.object_alloc.specs.Spelling.{IsObject}
 use Rattle.object_alloc.proofs.Tables.{IsTable-add, IsTable-without}
 use Rattle.bbop_isa.specs.Forms.{Instruction}
@@ -51,45 +51,71 @@ made g operations table name count n h =
       room = when_none _ _ room.0;
     }
 
-fits_tabled : (g : Geometry) (operations : Operations) (table : List Named) (instr : Instruction)
-    → IsPlain instr → TableFits g table → refusal g operations table instr ≡ None
-    → TableFits g (tabled g table instr)
-fits_tabled g operations table (Init name count n) plain t h =
-    let o = new_object g table count n in
+listed_tabled : (g : Geometry) (operations : Operations) (table : List Named)
+    (instr : Instruction) → IsPlain instr → IsTable (limit_of g) table
+    → refusal g operations table instr ≡ None → IsTable (limit_of g) (tabled g table instr)
+listed_tabled g operations table (Init name count n) plain t h =
     let m = made g operations table name count n h in
     let base = (base_free (limit_of g) (objects_of table) n m.room).1 in
-    record {
-      listed = IsTable-add (limit_of g) table name o t.listed m.few m.new plain.1.0 base;
-      objects = All-push (λ (named : Named). IsObject g named.1) table (name, o) t.objects (record {
-        wide = plain.1.0;
-        narrow = plain.1.1;
-        some = plain.0;
-        fits = m.fits;
-      });
-    }
-fits_tabled g operations table (Free name) plain t h = record {
-  listed = IsTable-without (limit_of g) table name t.listed;
-  objects = All-filter (λ (p : Named). not (bytes_eq p.0 name)) (λ (p : Named). IsObject g p.1)
-      table t.objects;
-}
-fits_tabled g operations table (Bbop op dst srcs count n) plain t h = t
-fits_tabled g operations table (Load name values) plain t h = t
-fits_tabled g operations table (Fill name value) plain t h = t
-fits_tabled g operations table (Print name) plain t h = t
-fits_tabled g operations table (Order o) plain t h = t
+    IsTable-add (limit_of g) table name (new_object g table count n) t m.few m.new plain.1.0 base
+listed_tabled g operations table (Free name) plain t h =
+    IsTable-without (limit_of g) table name t
+listed_tabled g operations table (Bbop op dst srcs count n) plain t h = t
+listed_tabled g operations table (Load name values) plain t h = t
+listed_tabled g operations table (Fill name value) plain t h = t
+listed_tabled g operations table (Print name) plain t h = t
+listed_tabled g operations table (Order o) plain t h = t
 
-fits_done : (r : Option Why) (g : Geometry) (new old : List Named)
-    → (r ≡ None → TableFits g new) → TableFits g old → TableFits g (if_done r new old)
-fits_done None g new old h t = h refl
-fits_done (Some reason) g new old h t = t
+-- what an image of the geometry may say of each object
+abbrev pub AreObjects : Geometry → List Named → Type 0
+AreObjects g table = All (λ named. IsObject g named.1) table
+
+objects_tabled : (g : Geometry) (operations : Operations) (table : List Named)
+    (instr : Instruction) → IsPlain instr → AreObjects g table
+    → refusal g operations table instr ≡ None → AreObjects g (tabled g table instr)
+objects_tabled g operations table (Init name count n) plain all h =
+    All-push (λ (named : Named). IsObject g named.1) table (name, new_object g table count n) all
+    (record {
+      wide = plain.1.0;
+      narrow = plain.1.1;
+      some = plain.0;
+      fits = (made g operations table name count n h).fits;
+    })
+objects_tabled g operations table (Free name) plain all h =
+    All-filter (λ (p : Named). not (bytes_eq p.0 name)) (λ (p : Named). IsObject g p.1) table all
+objects_tabled g operations table (Bbop op dst srcs count n) plain all h = all
+objects_tabled g operations table (Load name values) plain all h = all
+objects_tabled g operations table (Fill name value) plain all h = all
+objects_tabled g operations table (Print name) plain all h = all
+objects_tabled g operations table (Order o) plain all h = all
+
+kept_done : (P : List Named → Type 0) (r : Option Why) (new old : List Named)
+    → (r ≡ None → P new) → P old → P (if_done r new old)
+kept_done P None new old h t = h refl
+kept_done P (Some reason) new old h t = t
 
 -- behind one instruction
+pub listed_after : (g : Geometry) (operations : Operations) (table : List Named)
+    (instr : Instruction) → IsPlain instr → IsTable (limit_of g) table
+    → IsTable (limit_of g) (table_after g operations table instr)
+listed_after g operations table instr plain t =
+    kept_done (IsTable (limit_of g)) (refusal g operations table instr) (tabled g table instr)
+    table (listed_tabled g operations table instr plain t) t
+
+pub objects_after : (g : Geometry) (operations : Operations) (table : List Named)
+    (instr : Instruction) → IsPlain instr → AreObjects g table
+    → AreObjects g (table_after g operations table instr)
+objects_after g operations table instr plain all =
+    kept_done (AreObjects g) (refusal g operations table instr) (tabled g table instr) table
+    (objects_tabled g operations table instr plain all) all
+
 pub table_fits_after : (g : Geometry) (operations : Operations) (table : List Named)
     (instr : Instruction) → IsPlain instr → TableFits g table
     → TableFits g (table_after g operations table instr)
-table_fits_after g operations table instr plain t =
-    fits_done (refusal g operations table instr) g (tabled g table instr) table
-    (fits_tabled g operations table instr plain t) t
+table_fits_after g operations table instr plain t = record {
+  listed = listed_after g operations table instr plain t.listed;
+  objects = objects_after g operations table instr plain t.objects;
+}
 
 -- and behind a script
 pub table_stays : TableStays

@@ -1,20 +1,26 @@
 -- Laws of whole scripts.
 use Rattle.std.specs.Prelude.{◌≡◌, ℕ, ◌+◌, ◌*◌, ◌<◌, ◌≤◌, ◌||◌, false, List, ◌∷◌, ◌++◌, map}
-use Rattle.std.specs.Prelude.{flat_map, take, drop, All}
+use Rattle.std.specs.Prelude.{flat_map, take, drop, All, Some, None, Ok}
 use Rattle.std.specs.List.{AllByRecursion}
 use Rattle.dram_model.specs.declared.geometry.Geometry.{Geometry}
 use Rattle.dram_model.specs.declared.dram.Counters.{Counters}
-use Rattle.dram_model.specs.Chip.{Banks, after, all_counted}
+use Rattle.dram_model.specs.Chip.{Banks, after, all_counted, row_in}
 use Rattle.dram_model.specs.Elements.{column_count}
 use Rattle.dram_model.specs.Events.{events_of as seen_by}
 use Rattle.object_alloc.specs.Listed.{Named, IsTable, limit_of}
 use Rattle.object_alloc.specs.Spelling.{IsObject}
-use Rattle.bbop_isa.specs.Forms.{Instruction}
+use Rattle.bbop_isa.specs.Forms.{Instruction, Bbop}
+use Rattle.bbop_isa.specs.Script.{script_of}
+use Rattle.uprog_code.specs.Machine.{HasEnded}
+use Rattle.uprog_code.specs.Fits.{Fits}
+use Rattle.uprog_code.specs.Programs.{IsProgram}
 use Rattle.uprog_code.specs.Texts.{TextOp, ImplementsAll}
-use Rattle.machine_model.specs.Operations.{Program, Operations, operations_of, operations_in}
+use Rattle.machine_model.specs.Operations.{Program, Operation, Operations, operations_of}
+use Rattle.machine_model.specs.Operations.{operations_in}
+use Rattle.machine_model.specs.Refusals.{refusal}
 use Rattle.machine_model.specs.Operations.{meaning_in}
 use Rattle.wave_model.specs.Schedule.{events_of_picks, IsWhole, Turn}
-use Rattle.machine_model.specs.Steps.{Held, table_of, reply_to}
+use Rattle.machine_model.specs.Steps.{Held, table_of, reply_to, binding, job_of}
 use Rattle.machine_model.specs.Agrees.{Agrees, DoesAll, IsPlain}
 use Rattle.machine_model.specs.Script.{table_at_end, banks_at_end, words_at_end, events_in_order}
 use Rattle.machine_model.specs.Script.{is_bbop, replies, sum_of, sum_done, with_counts}
@@ -60,6 +66,35 @@ TableStays =
     (g : Geometry) (operations : Operations) (table : List Named) (script : List Instruction)
     → AllByRecursion IsPlain script → TableFits g table
     → TableFits g (table_at_end g operations table script)
+
+-- A bbop that is not refused: its walk ends, its binding fits in a bank, and there are its banks
+pub record IsGranted (g : Geometry) (operations : Operations) (table : List Named) (o : Operation)
+    (instr : Instruction) (names : List (List ℕ)) (n : ℕ) : Type 0 where
+  pub ends : HasEnded (o.trace n)
+  pub fits : Fits g.rows o.shape n (binding g table o.shape names n)
+  pub banks : (job_of g operations table instr).banks ≤ g.banks
+
+abbrev pub GrantsFit : Type 0
+GrantsFit =
+    (g : Geometry) (operations : Operations) (table : List Named) (o : Operation)
+    (op dst : List ℕ) (srcs : List (List ℕ)) (count n : ℕ) → 0 < g.words → TableFits g table
+    → operations op ≡ Some o → refusal g operations table (Bbop op dst srcs count n) ≡ None
+    → IsGranted g operations table o (Bbop op dst srcs count n) (dst ∷ srcs) n
+
+-- Whatever an accepted program does, a row that no done instruction of a script touches is as it
+-- was
+abbrev pub UntouchedStays : Type 0
+UntouchedStays =
+    (g : Geometry) (p : Program) (table : List Named) (script : List Instruction) (banks : Banks)
+    (bank row : ℕ) → IsProgram p → IsTable (limit_of g) table → AllByRecursion IsPlain script
+    → is_touched_by g (operations_in p) table script bank row ≡ false
+    → row_in row (banks_at_end g (operations_in p) table banks script bank)
+    ≡ row_in row (banks bank)
+
+-- What an accepted script says is plain
+abbrev pub AcceptedIsPlain : Type 0
+AcceptedIsPlain = (text : List ℕ) (script : List Instruction) → script_of text ≡ Ok script
+    → AllByRecursion IsPlain script
 
 -- the banks hold each object of a table
 abbrev pub FitsBanks : Geometry → List Named → Type 0

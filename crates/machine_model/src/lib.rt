@@ -2,11 +2,12 @@
 //! report on it.
 #![tactic(auto)]
 
-ghost use Rattle.machine_model.specs.Laws.{AllPiecesGoOn, CountedByReplies, EventsAreSteps};
-ghost use Rattle.machine_model.specs.Laws.{OneBankInOrder, PieceIsCounted, PiecesAreCut, PiecesAreScript};
+ghost use Rattle.machine_model.specs.Laws.{AcceptedIsPlain, AllPiecesGoOn, CountedByReplies};
+ghost use Rattle.machine_model.specs.Laws.{EventsAreSteps, GrantsFit, OneBankInOrder};
+ghost use Rattle.machine_model.specs.Laws.{PieceIsCounted, PiecesAreCut, PiecesAreScript};
 ghost use Rattle.machine_model.specs.Laws.{RowsGiveWords, SameOperations, ScriptsGoOn, SeenInOrder};
-ghost use Rattle.machine_model.specs.Laws.{TableStays, TextGivesWords, WaveIsCounted, WaveIsSteps};
-ghost use Rattle.machine_model.specs.Laws.{WavesAreAnswered};
+ghost use Rattle.machine_model.specs.Laws.{TableStays, TextGivesWords, UntouchedStays};
+ghost use Rattle.machine_model.specs.Laws.{WaveIsCounted, WaveIsSteps, WavesAreAnswered};
 
 use uprog_code::{BadWalk, Counts};
 
@@ -47,6 +48,18 @@ pub fn rows_give_words()
 /// The table stays a table of objects that the geometry can hold.
 pub fn tables_stay()
     ensures stays { TableStays }
+{}
+
+/// Whatever a program does that is accepted, it runs under bindings that fit, and the rows that no
+/// done instruction touches stay.
+pub fn accepted_programs_are_safe()
+    ensures grants { GrantsFit }
+    ensures untouched { UntouchedStays }
+{}
+
+/// What an accepted script says is plain.
+pub fn accepted_scripts_are_plain()
+    ensures plain { AcceptedIsPlain }
 {}
 
 /// A script and its pieces go on where a part of them ends; the pieces are cut from the front, and
