@@ -86,7 +86,8 @@ not_touched g state o names count n row good h (inr (inr spill)) =
     parts.1 in
     let among = among_from (limit_of g) 32 row spill.0 spill.1 in cc
 
-bbop_kept : (g : Geometry) (operations : Operations) (op dst : List ℕ) (srcs : List (List ℕ)) (count n : ℕ) (found : Option Operation)
+bbop_kept : (g : Geometry) (operations : Operations) (op dst : List ℕ) (srcs : List (List ℕ))
+    (count n : ℕ) (found : Option Operation)
     → operations op ≡ found → 0 < n → n ≤ WIDTH_MAX → KeepsAll operations
     → (banks : Banks) (state : List Held) (bank row : ℕ) → IsTable (limit_of g) (table_of state)
     → bbop_refusal g (table_of state) found (dst ∷ srcs) count n ≡ None
@@ -118,7 +119,8 @@ done_kept None new old touched bank row kept out = kept refl out
 done_kept (Some reason) new old touched bank row kept out = refl
 
 -- A row that a bbop does not touch is as it was
-pub bbop_rows_kept : (g : Geometry) (operations : Operations) (op dst : List ℕ) (srcs : List (List ℕ)) (count n : ℕ) → 0 < n → n ≤ WIDTH_MAX
+pub bbop_rows_kept : (g : Geometry) (operations : Operations) (op dst : List ℕ)
+    (srcs : List (List ℕ)) (count n : ℕ) → 0 < n → n ≤ WIDTH_MAX
     → KeepsAll operations → (banks : Banks) (state : List Held) (bank row : ℕ)
     → IsTable (limit_of g) (table_of state)
     → is_touched g operations (table_of state) (Bbop op dst srcs count n) bank row ≡ false

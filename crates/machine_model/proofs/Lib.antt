@@ -21,4 +21,5 @@ pub mod Tables
 pub mod Parts
 pub mod Cut
 pub mod Grants
+pub mod Bounds
 pub mod Accepted

@@ -1,9 +1,12 @@
 -- Laws of whole scripts.
-use Rattle.std.specs.Prelude.{◌≡◌, ℕ, ◌+◌, ◌*◌, ◌<◌, ◌≤◌, ◌||◌, false, List, ◌∷◌, ◌++◌, map}
-use Rattle.std.specs.Prelude.{flat_map, take, drop, All, Some, None, Ok}
+use Rattle.std.specs.Prelude.{◌≡◌, ℕ, ◌+◌, ◌*◌, ◌<◌, ◌≤◌, ◌||◌, true, false, List, ◌∷◌, ◌++◌, map}
+use Rattle.std.specs.Prelude.{length, flat_map, take, drop, All, Some, None, Ok}
 use Rattle.std.specs.List.{AllByRecursion}
 use Rattle.dram_model.specs.declared.geometry.Geometry.{Geometry}
 use Rattle.dram_model.specs.declared.dram.Counters.{Counters}
+use Rattle.dram_model.specs.Geometry.{is_geometry}
+use Rattle.bit_rows.specs.declared.TheConstants.{WIDTH_MAX}
+use Rattle.uprog_code.specs.declared.TheConstants.{WALK_MAX}
 use Rattle.dram_model.specs.Chip.{Banks, after, all_counted, row_in}
 use Rattle.dram_model.specs.Elements.{column_count}
 use Rattle.dram_model.specs.Events.{events_of as seen_by}
@@ -24,7 +27,7 @@ use Rattle.machine_model.specs.Steps.{Held, table_of, reply_to, binding, job_of}
 use Rattle.machine_model.specs.Agrees.{Agrees, DoesAll, IsPlain}
 use Rattle.machine_model.specs.Script.{table_at_end, banks_at_end, words_at_end, events_in_order}
 use Rattle.machine_model.specs.Script.{is_bbop, replies, sum_of, sum_done, with_counts}
-use Rattle.machine_model.specs.Script.{is_touched_by, counters_at_end}
+use Rattle.machine_model.specs.Script.{is_touched_by, counters_at_end, rows_loaded, rows_printed}
 use Rattle.machine_model.specs.Pieces.{Piece, Wave, Alone, AreBbops, IsPiece, instrs_in, pieces}
 use Rattle.machine_model.specs.Pieces.{wave_size, wave_queues, piece_events, events_of_pieces}
 use Rattle.machine_model.specs.Pieces.{turn_at_end}
@@ -80,6 +83,22 @@ GrantsFit =
     (op dst : List ℕ) (srcs : List (List ℕ)) (count n : ℕ) → 0 < g.words → TableFits g table
     → operations op ≡ Some o → refusal g operations table (Bbop op dst srcs count n) ≡ None
     → IsGranted g operations table o (Bbop op dst srcs count n) (dst ∷ srcs) n
+
+-- at most a whole walk in each of 16 banks for each instruction, and at most an object of the
+-- greatest width in each is loaded, or printed
+pub record AreFew (g : Geometry) (operations : Operations) (table : List Named)
+    (script : List Instruction) : Type 0 where
+  pub commands : (sum_of (replies g operations table script)).aap
+      + (sum_of (replies g operations table script)).ap ≤ length script * (16 * WALK_MAX)
+  pub loaded : sum_done rows_loaded g operations table script ≤ length script * (16 * WIDTH_MAX)
+  pub printed : sum_done rows_printed g operations table script ≤ length script * (16 * WIDTH_MAX)
+
+-- So few are the commands and the rows of every script
+abbrev pub WorkIsBounded : Type 0
+WorkIsBounded =
+    (g : Geometry) (p : Program) (table : List Named) (script : List Instruction)
+    → is_geometry g ≡ true → TableFits g table → AllByRecursion IsPlain script
+    → AreFew g (operations_in p) table script
 
 -- Whatever an accepted program does, a row that no done instruction of a script touches is as it
 -- was

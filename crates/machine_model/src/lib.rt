@@ -8,6 +8,7 @@ ghost use Rattle.machine_model.specs.Laws.{PieceIsCounted, PiecesAreCut, PiecesA
 ghost use Rattle.machine_model.specs.Laws.{RowsGiveWords, SameOperations, ScriptsGoOn, SeenInOrder};
 ghost use Rattle.machine_model.specs.Laws.{TableStays, TextGivesWords, UntouchedStays};
 ghost use Rattle.machine_model.specs.Laws.{WaveIsCounted, WaveIsSteps, WavesAreAnswered};
+ghost use Rattle.machine_model.specs.Laws.{WorkIsBounded};
 
 use uprog_code::{BadWalk, Counts};
 
@@ -51,10 +52,11 @@ pub fn tables_stay()
 {}
 
 /// Whatever a program does that is accepted, it runs under bindings that fit, and the rows that no
-/// done instruction touches stay.
+/// done instruction touches stay. How much it does is bounded.
 pub fn accepted_programs_are_safe()
     ensures grants { GrantsFit }
     ensures untouched { UntouchedStays }
+    ensures bounded { WorkIsBounded }
 {}
 
 /// What an accepted script says is plain.
