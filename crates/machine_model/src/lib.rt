@@ -3,12 +3,12 @@
 #![tactic(auto)]
 
 ghost use Rattle.machine_model.specs.Laws.{AcceptedIsPlain, AllPiecesGoOn, CountedByReplies};
-ghost use Rattle.machine_model.specs.Laws.{EventsAreSteps, GrantsFit, OneBankInOrder};
-ghost use Rattle.machine_model.specs.Laws.{PieceIsCounted, PiecesAreCut, PiecesAreScript};
-ghost use Rattle.machine_model.specs.Laws.{RowsGiveWords, SameOperations, ScriptsGoOn, SeenInOrder};
-ghost use Rattle.machine_model.specs.Laws.{TableStays, TextGivesWords, UntouchedStays};
-ghost use Rattle.machine_model.specs.Laws.{WaveIsCounted, WaveIsSteps, WavesAreAnswered};
-ghost use Rattle.machine_model.specs.Laws.{WorkIsBounded};
+ghost use Rattle.machine_model.specs.Laws.{EventsAreSteps, GrantsFit, ImageStays, OneBankInOrder};
+ghost use Rattle.machine_model.specs.Laws.{PieceIsCounted, PieceIsSteps, PiecesAreCut};
+ghost use Rattle.machine_model.specs.Laws.{PiecesAreScript, RowsGiveWords, SameOperations};
+ghost use Rattle.machine_model.specs.Laws.{ScriptsGoOn, SeenInOrder, TableStays, TextGivesWords};
+ghost use Rattle.machine_model.specs.Laws.{UntouchedStays, WaveIsCounted, WaveIsSteps};
+ghost use Rattle.machine_model.specs.Laws.{WavesAreAnswered, WorkIsBounded};
 
 use uprog_code::{BadWalk, Counts};
 
@@ -46,9 +46,11 @@ pub fn rows_give_words()
     ensures same { SameOperations }
 {}
 
-/// The table stays a table of objects that the geometry can hold.
+/// The table stays a table of objects that the geometry can hold, and an accepted script makes of
+/// an accepted image another one.
 pub fn tables_stay()
-    ensures stays { TableStays }
+    ensures tables { TableStays }
+    ensures images { ImageStays }
 {}
 
 /// Whatever a program does that is accepted, it runs under bindings that fit, and the rows that no
@@ -87,6 +89,7 @@ pub fn events_are_steps()
     ensures seen { SeenInOrder }
     ensures steps { EventsAreSteps }
     ensures counted { CountedByReplies }
-    ensures piece { PieceIsCounted }
+    ensures piece_steps { PieceIsSteps }
+    ensures piece_counted { PieceIsCounted }
     ensures one_bank { OneBankInOrder }
 {}
