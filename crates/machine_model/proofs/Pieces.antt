@@ -16,7 +16,8 @@ use Rattle.machine_model.specs.Operations.{Operations}
 use Rattle.machine_model.specs.Refusals.{refusal}
 use Rattle.wave_model.specs.Schedule.{Turn, Ahead, in_turn, whole_picks, events_of_picks}
 use Rattle.machine_model.specs.Steps.{job_of, job_events, own_events, if_done, table_after}
-use Rattle.machine_model.specs.Script.{is_bbop, table_at_end, banks_at_end, events_in_order, replies, sum_of}
+use Rattle.machine_model.specs.Script.{is_bbop, table_at_end, banks_at_end, events_in_order}
+use Rattle.machine_model.specs.Script.{replies, sum_of}
 use Rattle.machine_model.specs.Script.{with_counts, with_writes, counters_at_end, rows_loaded}
 use Rattle.machine_model.specs.Script.{rows_if_done, sum_done}
 use Rattle.machine_model.specs.Pieces.{Piece, Wave, Alone, instrs_in, gathered, pieces_from, pieces}
