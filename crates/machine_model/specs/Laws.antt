@@ -31,7 +31,7 @@ use Rattle.machine_model.specs.Script.{is_touched_by, counters_at_end, rows_load
 use Rattle.machine_model.specs.Pieces.{Piece, Wave, Alone, AreBbops, IsPiece, instrs_in, pieces}
 use Rattle.machine_model.specs.Pieces.{wave_size, wave_queues, piece_events, events_of_pieces}
 use Rattle.machine_model.specs.Pieces.{turn_at_end}
-use Rattle.machine_model.specs.Report.{said_in_rows, Answered}
+use Rattle.machine_model.specs.Report.{Said, Answered, said_in_rows, lines}
 use Rattle.machine_model.specs.Opened.{Image, opened, rows_of}
 
 -- Where what is issued for each operation does what it means, the banks after a script hold what
@@ -202,13 +202,20 @@ abbrev pub AllPiecesGoOn : Type 0
 AllPiecesGoOn = (g : Geometry) (operations : Operations) (turn : Turn) (table : List Named)
     (ps qs : List Piece) → PiecesGoOn g operations turn table ps qs
 
--- A wave leaves the table, and is answered bbop by bbop
+-- A wave leaves the table, is answered bbop by bbop, and no row is loaded or printed
 pub record WaveIsAnswered (g : Geometry) (operations : Operations) (table : List Named)
     (wave : List Instruction) : Type 0 where
   pub tables : table_at_end g operations table wave ≡ table
   pub answers : replies g operations table wave ≡ map (reply_to g operations table) wave
   pub said : (banks : Banks) → said_in_rows g operations table banks wave
       ≡ map Answered (replies g operations table wave)
+  pub loaded : sum_done rows_loaded g operations table wave ≡ 0
+  pub printed : sum_done rows_printed g operations table wave ≡ 0
+
+-- Lines go on with the number behind the last
+abbrev pub LinesGoOn : Type 0
+LinesGoOn = (number : ℕ) (xs ys : List Said)
+    → lines number (xs ++ ys) ≡ lines number xs ++ lines (number + length xs) ys
 
 abbrev pub WavesAreAnswered : Type 0
 WavesAreAnswered = (g : Geometry) (operations : Operations) (table : List Named)

@@ -3,12 +3,12 @@
 #![tactic(auto)]
 
 ghost use Rattle.machine_model.specs.Laws.{AcceptedIsPlain, AllPiecesGoOn, CountedByReplies};
-ghost use Rattle.machine_model.specs.Laws.{EventsAreSteps, GrantsFit, ImageStays, OneBankInOrder};
-ghost use Rattle.machine_model.specs.Laws.{PieceIsCounted, PieceIsSteps, PiecesAreCut};
-ghost use Rattle.machine_model.specs.Laws.{PiecesAreScript, RowsGiveWords, SameOperations};
-ghost use Rattle.machine_model.specs.Laws.{ScriptsGoOn, SeenInOrder, TableStays, TextGivesWords};
-ghost use Rattle.machine_model.specs.Laws.{UntouchedStays, WaveIsCounted, WaveIsSteps};
-ghost use Rattle.machine_model.specs.Laws.{WavesAreAnswered, WorkIsBounded};
+ghost use Rattle.machine_model.specs.Laws.{EventsAreSteps, GrantsFit, ImageStays, LinesGoOn};
+ghost use Rattle.machine_model.specs.Laws.{OneBankInOrder, PieceIsCounted, PieceIsSteps};
+ghost use Rattle.machine_model.specs.Laws.{PiecesAreCut, PiecesAreScript, RowsGiveWords};
+ghost use Rattle.machine_model.specs.Laws.{SameOperations, ScriptsGoOn, SeenInOrder, TableStays};
+ghost use Rattle.machine_model.specs.Laws.{TextGivesWords, UntouchedStays, WaveIsCounted};
+ghost use Rattle.machine_model.specs.Laws.{WaveIsSteps, WavesAreAnswered, WorkIsBounded};
 
 use uprog_code::{BadWalk, Counts};
 
@@ -73,6 +73,7 @@ pub fn scripts_go_on()
     ensures scripts { ScriptsGoOn }
     ensures pieces { AllPiecesGoOn }
     ensures waves { WavesAreAnswered }
+    ensures lines { LinesGoOn }
 {}
 
 /// In whatever order the banks of a wave take turns, they are left as its bbops one after another
