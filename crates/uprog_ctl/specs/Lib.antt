@@ -1,2 +1,3 @@
 -- What a controller does on a chip.
 pub mod Events
+pub mod Orders

@@ -3,5 +3,7 @@
 
 mod address;
 mod controller;
+mod pickers;
 
 pub use controller::{counters_rise_by_counts, run};
+pub use pickers::{Forward, Order, Picker, Seeded, Turns};
