@@ -90,7 +90,7 @@ impl Default for JobHead {
 /// The heads of the jobs' entries.
 pub(crate) fn heads_of<F: Fetch>(jobs: &[Job<'_, F>]) -> ArrayVec<JobHead, 16>
     requires { length jobs.now ≤ 16 }
-    ensures { AreHeads (bound_jobs F.shape F.code jobs.now) result.items }
+    ensures { AreHeads F.shape jobs.now result.items }
 {
     let mut heads = ArrayVec::new();
     for job in jobs {
@@ -161,7 +161,7 @@ fn next_cursor<F: Fetch>(
     walk: Walk,
 ) -> Option<Cursor>
     requires jobs { All (CanRun g) (bound_jobs F.shape F.code jobs.now) }
-    requires heads { AreHeads (bound_jobs F.shape F.code jobs.now) heads.now }
+    requires heads { AreHeads F.shape jobs.now heads.now }
     requires stands { StandsInFirst (drop at (bound_jobs F.shape F.code jobs.now)) walk }
     ensures bank { IfSome result (λ c. c.bank ≡ bank) }
     ensures next { MatchOption result
@@ -197,7 +197,7 @@ pub(crate) fn first_cursors<F: Fetch>(
 ) -> ArrayVec<Cursor, 16>
     requires few { g.banks ≤ 16 }
     requires jobs { All (CanRun g) (bound_jobs F.shape F.code jobs.now) }
-    requires heads { AreHeads (bound_jobs F.shape F.code jobs.now) heads.now }
+    requires heads { AreHeads F.shape jobs.now heads.now }
     ensures { AreAt g.banks g.rows (bound_jobs F.shape F.code jobs.now)
         (job_queues g.rows (bound_jobs F.shape F.code jobs.now)) result.items }
 {
@@ -220,10 +220,10 @@ pub(crate) fn go_on<F: Fetch>(
     k: usize,
 )
     requires jobs { All (CanRun g) (bound_jobs F.shape F.code jobs.now) }
-    requires heads { AreHeads (bound_jobs F.shape F.code jobs.now) heads.now }
+    requires heads { AreHeads F.shape jobs.now heads.now }
     requires k { k < length cursors.old.items }
-    requires at { (d : Cursor) → (cs : List Command) × IsAt g.rows (bound_jobs F.shape F.code jobs.now) cs
-        (slice_index_or cursors.old.items k d) }
+    requires stands { (d : Cursor) → StandsInFirst (drop (slice_index_or cursors.old.items k d).job
+        (bound_jobs F.shape F.code jobs.now)) (slice_index_or cursors.old.items k d).walk }
     ensures { MovesOn g.rows (bound_jobs F.shape F.code jobs.now) cursors.old.items k
         cursors.new.items }
 {
