@@ -48,7 +48,7 @@ other_left left b x ne = rw (ne_eqb b x ne) refl
 pub own_left : (left : Queues) (b : ℕ) → without_next b left b ≡ drop 1 (left b)
 own_left left b = rw (eq-eqb b b refl) refl
 
-alive : (cs : List Command) → 0 < length cs → not (eqb (length cs) 0) ≡ true
+pub alive : (cs : List Command) → 0 < length cs → not (eqb (length cs) 0) ≡ true
 alive cs h = elim (eqb_tells (length cs) 0) [
   | inl z ↦ absurd (omega (arith, z.1))
   | inr z ↦ rw z.0 refl
