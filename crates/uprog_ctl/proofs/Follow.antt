@@ -1,11 +1,15 @@
 -- The cursors of the live banks, as commands are done.
-use Rattle.std.proofs.Common.{◌≡◌, ℕ, zero, suc, ◌+◌, ◌<◌, ◌≤◌, ◌⊎◌, Bool, true, false, cond, eqb, not, List}
-use Rattle.std.proofs.Common.{[], ◌∷◌, ◌++◌, length, map, drop, get_or, set, refl, sym, ap, ◌∙◌, subst}
+use Rattle.std.proofs.Common.{◌≡◌, ℕ, zero, suc, ◌+◌, ◌<◌, ◌≤◌, ◌⊎◌, Bool, true, false, cond, eqb}
+use Rattle.std.proofs.Common.{not, List}
+use Rattle.std.proofs.Common.{[], ◌∷◌, ◌++◌, length, map, drop, get_or, set, refl, sym, ap, ◌∙◌}
+use Rattle.std.proofs.Common.{subst}
 use Rattle.std.proofs.Common.{arith, inl, inr, append-nil}
 use Rattle.std.specs.Prelude.{remove}
 use Rattle.std.proofs.lemmas.Bool.{cases_eq, cases_lt}
-use Rattle.std.proofs.lemmas.List.{map_push, map-set, set-get_or, get_or-map, get_or_push, length-map}
-use Rattle.std.proofs.lemmas.List.{get_or_append_left, get_or-set_same, get_or-set_other, length-set}
+use Rattle.std.proofs.lemmas.List.{map_push, map-set, set-get_or, get_or-map, get_or_push}
+use Rattle.std.proofs.lemmas.List.{length-map}
+use Rattle.std.proofs.lemmas.List.{get_or_append_left, get_or-set_same, get_or-set_other}
+use Rattle.std.proofs.lemmas.List.{length-set}
 use Rattle.std.proofs.lemmas.List.{length_push, get_or_default}
 use Rattle.std.proofs.lemmas.List.Edits.{length-remove, get_or-remove_below, get_or-remove_above}
 use Rattle.dram_model.specs.declared.address.Command.{Command}
@@ -95,7 +99,8 @@ module _ (banks rows : ℕ) (jobs : List BoundJob) (left : Queues) (cs : List Cu
       let here : without_next b' left c.bank ≡ left_behind rows jobs (get_or cs k c) =
       ap (without_next b' left) on.bank ∙ own_left left b' ∙ own_behind c in
       subst (λ (x : ℕ). AreAt banks rows jobs (without_next x left) new) (sym own)
-      (subst (λ (xs : List Cursor). AreAt banks rows jobs (without_next b' left) xs) (sym on.cursors)
+      (subst (λ (xs : List Cursor). AreAt banks rows jobs (without_next b' left) xs)
+      (sym on.cursors)
       (record {
         live = same_banks ∙ are.live ∙ sym (live_kept banks b' left more);
         each = λ i d l. elim (cases_eq i k) [

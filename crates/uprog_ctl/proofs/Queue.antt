@@ -1,5 +1,6 @@
 -- The queue of a bank, job by job.
-use Rattle.std.proofs.Common.{◌≡◌, ℕ, suc, ◌+◌, ◌<◌, ◌≤◌, Bool, true, false, cond, ltb, List, [], ◌∷◌}
+use Rattle.std.proofs.Common.{◌≡◌, ℕ, suc, ◌+◌, ◌<◌, ◌≤◌, Bool, true, false, cond, ltb, List, []}
+use Rattle.std.proofs.Common.{◌∷◌}
 use Rattle.std.proofs.Common.{◌++◌, length, map, drop, get_or, refl, sym, ap, ◌∙◌, subst, arith}
 use Rattle.std.specs.Prelude.{All, nat_lt, if◌then◌else◌}
 use Rattle.std.proofs.lemmas.Bool.{lt-ltb, le-ltb}
@@ -120,7 +121,7 @@ pub cursor_at : (g : Geometry) (all jobs : List BoundJob) (job : BoundJob) (i ba
       next = bound_command g.rows job.shape job.binding.n (bound_of job.binding)
           (issue_of found.issued);
       job = i;
-      walk = found.behind
+      walk = found.behind;
     } → IsAt g.rows all left c
 cursor_at g all jobs job i bank w left found c can lt here on finds is e =
     let first = found_left g.rows bank job jobs w found on finds in

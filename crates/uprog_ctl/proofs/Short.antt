@@ -1,7 +1,10 @@
 -- A wave has no more commands than its jobs' walks may take.
-use Rattle.std.proofs.Common.{◌≡◌, ℕ, zero, suc, ◌+◌, ◌*◌, ◌-◌, ◌<◌, ◌≤◌, Bool, true, false, List, []}
-use Rattle.std.proofs.Common.{◌∷◌, ◌++◌, length, map, Option, Some, None, sym, ap, ◌∙◌, subst, arith}
-use Rattle.std.specs.Prelude.{◌==◌, nat_lt, nat_le, if◌then◌else◌, slice_get, slice_index, slice_set}
+use Rattle.std.proofs.Common.{◌≡◌, ℕ, zero, suc, ◌+◌, ◌*◌, ◌-◌, ◌<◌, ◌≤◌, Bool, true, false, List}
+use Rattle.std.proofs.Common.{[]}
+use Rattle.std.proofs.Common.{◌∷◌, ◌++◌, length, map, Option, Some, None, sym, ap, ◌∙◌, subst}
+use Rattle.std.proofs.Common.{arith}
+use Rattle.std.specs.Prelude.{◌==◌, nat_lt, nat_le, if◌then◌else◌, slice_get, slice_index}
+use Rattle.std.specs.Prelude.{slice_set}
 use Rattle.std.specs.List.{range_with_len, sum_by}
 use Rattle.std.proofs.lemmas.List.{length-append, length-map}
 use Rattle.std.proofs.lemmas.List.Sums.{sum_by-cons}
@@ -12,8 +15,10 @@ use Rattle.uprog_code.specs.declared.code.Uop.TheVariants.{SubI, Bnez, Aap, Ap}
 use Rattle.uprog_code.specs.declared.walker.Why3.{Why3}
 use Rattle.uprog_code.specs.declared.walker.Why3.TheVariants.{Index, Register}
 use Rattle.uprog_code.specs.Shape.{Shape}
-use Rattle.uprog_code.specs.Machine.{Issue, Twice, Once, Trace, Ended, Stuck, onto, Next, act, act_at}
-use Rattle.uprog_code.specs.Machine.{issue, issued, issues_of, trace, start, command_at, all_in_range}
+use Rattle.uprog_code.specs.Machine.{Issue, Twice, Once, Trace, Ended, Stuck, onto, Next, act}
+use Rattle.uprog_code.specs.Machine.{act_at}
+use Rattle.uprog_code.specs.Machine.{issue, issued, issues_of, trace, start, command_at}
+use Rattle.uprog_code.specs.Machine.{all_in_range}
 use Rattle.uprog_code.specs.Bound.{bound, bound_command, bound_of}
 use Rattle.uprog_code.proofs.Steps.{trace_is}
 use Rattle.wave_model.specs.Schedule.{Queues, total_left}
@@ -91,8 +96,12 @@ job_short rows job =
     let all : length (issues_in job) ≤ 67108864 =
     subst (λ (t : Trace). length (issues_of t) ≤ 67108864)
     (trace_is job.shape job.code job.binding.n) one in
-    omega (arith, all, length-map (issues_in job)
-    (bound_command rows job.shape job.binding.n (bound_of job.binding)))
+    omega (
+      arith,
+      all,
+      length-map (issues_in job)
+          (bound_command rows job.shape job.binding.n (bound_of job.binding)),
+    )
 
 queue_short : (rows bank : ℕ) (jobs : List BoundJob)
     → length (job_queues rows jobs bank) ≤ length jobs * 67108864
@@ -100,9 +109,13 @@ queue_short rows bank [] = omega arith
 queue_short rows bank (job ∷ jobs) =
     let here : length (if nat_lt bank job.banks then commands_of rows job else []) ≤ 67108864 =
     own (nat_lt bank job.banks) in
-    omega (arith, here, queue_short rows bank jobs,
-    length-append (if nat_lt bank job.banks then commands_of rows job else [])
-    (job_queues rows jobs bank))
+    omega (
+      arith,
+      here,
+      queue_short rows bank jobs,
+      length-append (if nat_lt bank job.banks then commands_of rows job else [])
+          (job_queues rows jobs bank),
+    )
   where
     own : (t : Bool) → length (if t then commands_of rows job else []) ≤ 67108864
     own true = job_short rows job

@@ -1,6 +1,8 @@
 -- A wave on its way.
-use Rattle.std.proofs.Common.{◌≡◌, ◌≢◌, ℕ, zero, suc, ◌+◌, ◌<◌, ◌≤◌, ◌*◌, List, [], ◌∷◌, ◌++◌, length}
-use Rattle.std.proofs.Common.{map, drop, take, get_or, refl, sym, ap, ◌∙◌, subst, arith, append_assoc}
+use Rattle.std.proofs.Common.{◌≡◌, ◌≢◌, ℕ, zero, suc, ◌+◌, ◌<◌, ◌≤◌, ◌*◌, List, [], ◌∷◌, ◌++◌}
+use Rattle.std.proofs.Common.{length}
+use Rattle.std.proofs.Common.{map, drop, take, get_or, refl, sym, ap, ◌∙◌, subst, arith}
+use Rattle.std.proofs.Common.{append_assoc}
 use Rattle.std.proofs.Common.{append-nil, Some, inl, inr}
 use Rattle.std.specs.Prelude.{slice_get, slice_set, remove}
 use Rattle.std.specs.List.{sum_by}
@@ -38,8 +40,8 @@ pub less_work : (rows : ℕ) (jobs : List BoundJob) (cs : List Cursor) (k : ℕ)
     → work rows jobs new < work rows jobs cs
 less_work rows jobs cs k d new lt (inl on) =
     let c = on.0 in
-    let behind : length (left_behind rows jobs (get_or cs k c)) ≡ suc (length (left_behind rows jobs c))
-    = ap length on.1.at.left in
+    let behind : length (left_behind rows jobs (get_or cs k c))
+    ≡ suc (length (left_behind rows jobs c)) = ap length on.1.at.left in
     let set_sum = sum_by-set (work_of rows jobs) cs k c c lt in
     subst (λ (xs : List Cursor). work rows jobs xs < work rows jobs cs) (sym on.1.cursors)
     (omega (arith, behind, set_sum))
@@ -145,10 +147,20 @@ module _ {S : Type 0} (p : Picker S) (banks rows : ℕ) (jobs : List BoundJob) (
           events = so.events ∙ ap (λ es. so.done ++ es) (one_event d)
               ∙ sym (append_assoc so.done one rest);
           state = so.state ∙ pick.state;
-          aap = omega (arith, pick.total, so.aap, bound.0,
-              ap (λ (n : Counters). n.aap) counted);
-          ap = omega (arith, pick.total, so.ap, bound.1,
-              ap (λ (n : Counters). n.ap) counted);
+          aap = omega (
+            arith,
+            pick.total,
+            so.aap,
+            bound.0,
+            ap (λ (n : Counters). n.aap) counted,
+          );
+          ap = omega (
+            arith,
+            pick.total,
+            so.ap,
+            bound.1,
+            ap (λ (n : Counters). n.ap) counted,
+          );
         }
 
     -- the call for it failed
@@ -188,8 +200,7 @@ module _ {S : Type 0} (p : Picker S) (banks rows : ℕ) (jobs : List BoundJob) (
   all_over s now cs so none =
       let no_live : live banks so.left ≡ [] = sym so.at.live
       ∙ ap (λ (xs : List Cursor). map (λ (c : Cursor). c.bank) xs) (nil_from_length cs none) in
-      let end = no_pick p banks s so.left no_live in
-      (
+      let end = no_pick p banks s so.left no_live in (
         subst (λ es. Did es first now) (sym (so.events ∙ ap (λ es. so.done ++ es) end.events
             ∙ append-nil so.done)) so.did,
         sym (so.state ∙ end.state),

@@ -1,5 +1,6 @@
 -- A wave raises the counters by the counts of its jobs.
-use Rattle.std.proofs.Common.{◌≡◌, ℕ, ◌+◌, ◌*◌, ◌≤◌, Bool, cond, List, [], ◌∷◌, map, refl, sym, ap, ◌∙◌}
+use Rattle.std.proofs.Common.{◌≡◌, ℕ, ◌+◌, ◌*◌, ◌≤◌, Bool, cond, List, [], ◌∷◌, map, refl, sym, ap}
+use Rattle.std.proofs.Common.{◌∙◌}
 use Rattle.std.proofs.Common.{arith}
 use Rattle.std.specs.Prelude.{All, count_by, sum_by}
 use Rattle.std.proofs.lemmas.List.Sums.{sum_by-cons}
@@ -36,7 +37,8 @@ module _ (rows : ℕ) where
       (bound_command rows job.shape job.binding.n (bound_of job.binding)) same (issues_in job)
     where
       same : (i : Issue)
-          → is_aap (bound_command rows job.shape job.binding.n (bound_of job.binding) i) ≡ is_twice i
+          → is_aap (bound_command rows job.shape job.binding.n (bound_of job.binding) i)
+          ≡ is_twice i
       same (Twice x y) = refl
       same (Once x) = refl
 
@@ -69,8 +71,8 @@ module _ (rows : ℕ) where
       → all_counted (wave_events p g.banks s (job_queues rows jobs)) c ≡ risen (wave_counts jobs) c
   wave_risen p g s jobs c ok all =
       let qs = job_queues rows jobs in
-      let few = All-weaker (CanRun g) (λ (j : BoundJob). j.banks ≤ g.banks) (λ j h. h.banks) jobs all
-      in
+      let few = All-weaker (CanRun g) (λ (j : BoundJob). j.banks ≤ g.banks) (λ j h. h.banks) jobs
+      all in
       sums.wave_counts g.banks (whole_picks p g.banks s qs) (map (wave_job rows) jobs) c
       (picks_whole p g.banks (total_left g.banks qs) s qs ok refl)
       (All-map (λ (j : Job). j.banks ≤ g.banks) (wave_job rows) jobs few)

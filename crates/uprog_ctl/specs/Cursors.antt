@@ -52,11 +52,11 @@ left_behind rows jobs c = left_from rows c.bank (drop c.job jobs) c.walk
 
 -- the cursor of a bank that has these commands still to do
 pub record IsAt (rows : ℕ) (jobs : List BoundJob) (commands : List Command) (c : Cursor) : Type 0
-    where
-  pub left : commands ≡ c.next ∷ left_behind rows jobs c
-  pub job : c.job < length jobs
-  pub legal : is_legal rows c.next ≡ true
-  pub stands : StandsInFirst (drop c.job jobs) c.walk
+  where
+    pub left : commands ≡ c.next ∷ left_behind rows jobs c
+    pub job : c.job < length jobs
+    pub legal : is_legal rows c.next ≡ true
+    pub stands : StandsInFirst (drop c.job jobs) c.walk
 
 -- the heads of the jobs' entries, in order
 abbrev pub AreHeads : {F : Type 0} → (F → Shape) → List (Job F) → List JobHead → Type 0
@@ -64,10 +64,10 @@ AreHeads shape jobs heads = map (λ h. shape_of h.head) heads ≡ map (λ job. s
 
 -- one cursor for each bank that has commands left, upwards
 pub record AreAt (banks rows : ℕ) (jobs : List BoundJob) (left : Queues) (cs : List Cursor) : Type 0
-    where
-  pub live : map (λ c. c.bank) cs ≡ live_banks banks left
-  pub each : (i : ℕ) (d : Cursor) → i < length cs
-      → IsAt rows jobs (left (slice_index_or cs i d).bank) (slice_index_or cs i d)
+  where
+    pub live : map (λ c. c.bank) cs ≡ live_banks banks left
+    pub each : (i : ℕ) (d : Cursor) → i < length cs
+        → IsAt rows jobs (left (slice_index_or cs i d).bank) (slice_index_or cs i d)
 
 -- the bank of the k-th cursor goes on to its next command, or has none left
 pub record GoesOn (rows : ℕ) (jobs : List BoundJob) (old : List Cursor) (k : ℕ) (c : Cursor)

@@ -1,5 +1,6 @@
 -- Waves of microprograms on the banks of a chip.
-use Rattle.std.specs.Prelude.{◌≡◌, ◌≢◌, ℕ, ◌+◌, ◌*◌, ◌<◌, ◌≤◌, ◌++◌, nat_lt, if◌then◌else◌, List, []}
+use Rattle.std.specs.Prelude.{◌≡◌, ◌≢◌, ℕ, ◌+◌, ◌*◌, ◌<◌, ◌≤◌, ◌++◌, nat_lt, if◌then◌else◌, List}
+use Rattle.std.specs.Prelude.{[]}
 use Rattle.std.specs.Prelude.{◌∷◌, map, take, sum_by, slice_get, Some}
 use Rattle.bit_rows.specs.declared.TheConstants.{WIDTH_MAX}
 use Rattle.dram_model.specs.declared.address.Command.{Command}
@@ -73,7 +74,8 @@ wave_counts jobs = record {
 
 -- the events of the picks of a picker's state
 abbrev pub wave_events : {S : Type 0} → Picker S → ℕ → S → Queues → List Event
-wave_events picker banks state left = events_of_picks banks (whole_picks picker banks state left) left
+wave_events picker banks state left =
+    events_of_picks banks (whole_picks picker banks state left) left
 
 -- The call for an event failed: those before it are done, its bank is unsaid, and each other bank
 -- stands where the first commands of its own queue leave it

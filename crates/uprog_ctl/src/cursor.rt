@@ -167,7 +167,7 @@ fn next_cursor<F: Fetch>(
     ensures next { MatchOption result
         (left_from g.rows bank (drop at (bound_jobs F.shape F.code jobs.now)) walk ≡ [])
         (IsAt g.rows (bound_jobs F.shape F.code jobs.now)
-            (left_from g.rows bank (drop at (bound_jobs F.shape F.code jobs.now)) walk)) }
+        (left_from g.rows bank (drop at (bound_jobs F.shape F.code jobs.now)) walk)) }
 {
     let mut walk = walk;
     for i in at..jobs.len() {

@@ -78,7 +78,10 @@ live_beyond : (left : Queues) (b a n : ℕ) → b < a
     ≡ filter (is_live left) (range_with_len a n)
 live_beyond left b a zero h = refl
 live_beyond left b a (suc n) h =
-    rw (other_left left b a (λ e. absurd (omega (arith, e))), live_beyond left b (a + 1) n (omega arith)) refl
+    rw (
+      other_left left b a (λ e. absurd (omega (arith, e))),
+      live_beyond left b (a + 1) n (omega arith),
+    ) refl
 
 gone_case : (left : Queues) (a n k b : ℕ) (rest rest' : List ℕ) (t : Bool) → is_live left a ≡ t
     → ((k : ℕ) → k < length rest → IsLiveIn left (a + 1) n (get_or rest k 0))

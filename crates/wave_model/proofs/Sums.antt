@@ -62,8 +62,9 @@ fewer_counts p left b a (suc n) l m =
           let same : b ≡ a = omega arith in
           rw (eq-eqb b a same)
           (let here : count_by p (take 1 (left b)) + count_by p (drop 1 (left a))
-          ≡ count_by p (left a) = ap (λ x. count_by p (take 1 (left x)) + count_by p (drop 1 (left a)))
-          same ∙ count_first p (left a) in
+          ≡ count_by p (left a) =
+          ap (λ x. count_by p (take 1 (left x)) + count_by p (drop 1 (left a))) same
+          ∙ count_first p (left a) in
           omega (arith, here, same_counts p left b (a + 1) n (omega arith)))
     ])
 
@@ -90,9 +91,10 @@ with_both i j m n c = same_counters (c.aap + i + m) (c.aap + (i + m)) (c.ap + j 
 next_counted : (bank : ℕ) (cs : List Command) (c : Counters)
     → all_counted (row_events bank (take 1 cs)) c
     ≡ with_commands (count_by is_aap (take 1 cs)) (count_by is_ap (take 1 cs)) c
-next_counted bank [] c = same_counters c.aap (c.aap + 0) c.ap (c.ap + 0) c (omega arith) (omega arith)
-next_counted bank (Ap x ∷ cs) c = same_counters c.aap (c.aap + 0) (c.ap + 1) (c.ap + 1) c (omega arith)
+next_counted bank [] c = same_counters c.aap (c.aap + 0) c.ap (c.ap + 0) c (omega arith)
     (omega arith)
+next_counted bank (Ap x ∷ cs) c = same_counters c.aap (c.aap + 0) (c.ap + 1) (c.ap + 1) c
+    (omega arith) (omega arith)
 next_counted bank (Aap x y ∷ cs) c = same_counters (c.aap + 1) (c.aap + 1) c.ap (c.ap + 0) c
     (omega arith) (omega arith)
 

@@ -1,5 +1,6 @@
 -- A wave pick by pick.
-use Rattle.std.proofs.Common.{◌≡◌, ℕ, zero, suc, ◌+◌, ◌<◌, ◌≤◌, List, [], ◌∷◌, ◌++◌, length, get_or, take}
+use Rattle.std.proofs.Common.{◌≡◌, ℕ, zero, suc, ◌+◌, ◌<◌, ◌≤◌, List, [], ◌∷◌, ◌++◌, length, get_or}
+use Rattle.std.proofs.Common.{take}
 use Rattle.std.proofs.Common.{refl, sym, ◌∙◌, ap, subst, arith, map-id, cond}
 use Rattle.std.specs.List.{range_with_len, filter, sum_by}
 use Rattle.std.proofs.lemmas.List.Sums.{sum_by-cons}
@@ -48,7 +49,8 @@ module _ {S : Type 0} (p : Picker S) (banks : ℕ) where
     pub within : b < banks
     pub some : 0 < length (left b)
 
-  one_at : (s : S) (left : Queues) → p.choice s (length (live banks left)) < length (live banks left)
+  one_at : (s : S) (left : Queues)
+      → p.choice s (length (live banks left)) < length (live banks left)
       → OnePick s left (picked banks left (p.choice s (length (live banks left))))
       (p.next s (length (live banks left)))
   one_at s left lt =

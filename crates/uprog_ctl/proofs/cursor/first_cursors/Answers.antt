@@ -1,10 +1,10 @@
-use Rattle.std.proofs.Common.{◌≡◌, ℕ, ◌+◌, ◌≤◌, List, [], ◌++◌, ◌∷◌, length, subst, sym, ◌∙◌, arith, ap}
+use Rattle.std.proofs.Common.{◌≡◌, ◌+◌, List, [], ◌++◌, ◌∷◌, length, subst, sym, ◌∙◌, arith, ap}
 use Rattle.dram_model.specs.declared.address.Command.{Command}
 use Rattle.std.proofs.lemmas.List.{length_push}
 use Rattle.uprog_ctl.specs.declared.cursor.Cursor.{Cursor}
 use Rattle.arrayvec.specs.ArrayVec.{ArrayVec}
 use Rattle.uprog_ctl.specs.Waves.{bound_jobs, job_queues}
-use Rattle.uprog_ctl.specs.Cursors.{AreAt, IsAt, left_from}
+use Rattle.uprog_ctl.specs.Cursors.{AreAt, IsAt}
 use Rattle.uprog_ctl.proofs.Queue.{next_job, next_stands}
 use Rattle.uprog_ctl.proofs.Follow.{none_more, some_more}
 use Rattle.uprog_ctl.proofs.cursor.first_cursors.Goals as goal

@@ -1,4 +1,4 @@
-use Rattle.std.proofs.Common.{◌≡◌, ℕ, ◌+◌, ◌<◌, List, [], ◌∷◌, drop, true, sym, ap, ◌∙◌, subst, refl, arith}
+use Rattle.std.proofs.Common.{◌≡◌, ◌+◌, List, ◌∷◌, drop, true, sym, ap, ◌∙◌, subst}
 use Rattle.dram_model.specs.declared.address.Command.{Command}
 use Rattle.uprog_code.specs.Shape.{Shape, shape_of}
 use Rattle.uprog_code.specs.OneStep.{issue_of}
@@ -6,10 +6,9 @@ use Rattle.uprog_code.specs.Issued.{is_good}
 use Rattle.uprog_code.specs.Bound.{bound_command, bound_of}
 use Rattle.uprog_code.specs.Fits.{Fits}
 use Rattle.uprog_ctl.specs.declared.cursor.Cursor.{Cursor}
-use Rattle.uprog_ctl.specs.declared.cursor.Walk.{Walk}
 use Rattle.uprog_ctl.specs.declared.cursor.JobHead.{JobHead}
-use Rattle.uprog_ctl.specs.Waves.{BoundJob, bound_job, bound_jobs, CanRun, job_queues}
-use Rattle.uprog_ctl.specs.Cursors.{left_from, StandsInFirst, IsAt}
+use Rattle.uprog_ctl.specs.Waves.{BoundJob, bound_job, bound_jobs, job_queues}
+use Rattle.uprog_ctl.specs.Cursors.{left_from, StandsInFirst}
 use Rattle.uprog_ctl.proofs.Queue.{head_at, jobs_from, job_can_run, jobs_long, skip_left, done_left}
 use Rattle.uprog_ctl.proofs.Queue.{cursor_at, next_job, next_stands}
 use Rattle.uprog_ctl.proofs.cursor.next_cursor.Goals as goal
@@ -84,14 +83,14 @@ returns-in-Some-clause-next g c =
       bank = c.args.bank;
       next = c.command_of-next.result;
       job = c.loop-i.i;
-      walk = c.in-Some.found.behind
+      walk = c.in-Some.found.behind;
     }) can (jobs_long shape code c.args.jobs.now c.loop-i.i c.loop-i-test.true) here
     c.if-bank-job.true c.in-Some.ensures c.loop-i.invariant.left
     (ap (λ (k : Command). let d : Cursor = record {
       bank = c.args.bank;
       next = k;
       job = c.loop-i.i;
-      walk = c.in-Some.found.behind
+      walk = c.in-Some.found.behind;
     } in d) next)
 
 pub loop-i-preserved : goal.loop-i-preserved

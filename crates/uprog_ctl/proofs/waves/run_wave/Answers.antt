@@ -1,22 +1,21 @@
-use Rattle.std.proofs.Common.{◌≡◌, ℕ, ◌+◌, ◌<◌, ◌≤◌, List, [], ◌∷◌, length, map, get_or, refl, sym, ap}
+use Rattle.std.proofs.Common.{◌≡◌, ◌<◌, ◌≤◌, List, [], ◌∷◌, length, refl, sym, ap}
 use Rattle.std.proofs.Common.{◌∙◌, subst, arith, Result, Ok, Err, rules}
 use Rattle.std.specs.Prelude.{OnErr, slice_index_or}
 use Rattle.std.proofs.lemmas.List.{length-map}
-use Rattle.std.proofs.lemmas.Bool.Decides.{nat_tests}
 use Rattle.dram_model.specs.declared.address.Command.TheVariants.{Ap}
 use Rattle.dram_model.specs.declared.address.Addr.TheVariants.{B}
-use Rattle.dram_model.specs.declared.dram.Counters.{Counters}
 use Rattle.dram_model.specs.declared.geometry.Geometry.{Geometry}
-use Rattle.dram_model.specs.Chip.{Banks, Event}
+use Rattle.dram_model.specs.Chip.{Banks}
 use Rattle.dram_model.specs.Chip.Event.{Row}
 use Rattle.dram_model.specs.View.{Did, FailedIn}
 use Rattle.dram_model.proofs.EventLaws.{Kept-same, Kept-more}
 use Rattle.wave_model.specs.Schedule.{total_left, whole_picks}
 use Rattle.wave_model.proofs.Waves.{picks_whole, wave_banks}
 use Rattle.uprog_ctl.specs.declared.cursor.Cursor.{Cursor}
-use Rattle.uprog_ctl.specs.Waves.{BoundJob, bound_job, bound_jobs, job_queues}
+use Rattle.uprog_ctl.specs.Waves.{bound_job, bound_jobs, job_queues}
 use Rattle.uprog_ctl.specs.Cursors.{AreAt, MovesOn}
-use Rattle.uprog_ctl.proofs.Wave.{chosen_by, less_work, nothing_yet, bank_within, one_more, stopped, all_over}
+use Rattle.uprog_ctl.proofs.Wave.{chosen_by, less_work, nothing_yet, bank_within, one_more, stopped}
+use Rattle.uprog_ctl.proofs.Wave.{all_over}
 use Rattle.uprog_ctl.proofs.Short.{wave_short}
 use Rattle.uprog_ctl.proofs.WaveCounts.{wave_risen}
 use Rattle.uprog_ctl.proofs.waves.run_wave.Goals as goal
@@ -37,8 +36,8 @@ pub loop-g-init : goal.loop-g-init
 loop-g-init g c =
     let first = g.D.Dram.view c.args.dram.now in
     let jobs = bound_jobs g.F.Fetch.shape g.F.Fetch.code c.args.jobs.now in
-    let at : AreAt first.geometry.banks first.geometry.rows jobs (job_queues first.geometry.rows jobs)
-    c.first_cursors-cursors.result.items =
+    let at : AreAt first.geometry.banks first.geometry.rows jobs
+    (job_queues first.geometry.rows jobs) c.first_cursors-cursors.result.items =
     subst (λ (x : Geometry). AreAt x.banks x.rows jobs (job_queues x.rows jobs)
     c.first_cursors-cursors.result.items) c.geometry-g.ensures c.first_cursors-cursors.ensures in
     record {
@@ -67,7 +66,8 @@ do_command-requires-clause-bank g c =
     let within = bank_within rule first.geometry.banks first.geometry.rows jobs
     (g.P.Picker.state c.args.picker.now) (job_queues first.geometry.rows jobs) first s s'
     (g.D.Dram.view c.loop-g.dram) cs k c.loop-g.invariant.so ok it blank in
-    subst (λ (x : Geometry). (slice_index_or c.as_slice-in-loop-g.result.now k blank).bank < x.banks)
+    subst (λ (x : Geometry).
+    (slice_index_or c.as_slice-in-loop-g.result.now k blank).bank < x.banks)
     (sym c.loop-g.invariant.kept.geometry)
     (subst (λ (xs : List Cursor). (slice_index_or xs k blank).bank < first.geometry.banks)
     (sym c.as_slice-in-loop-g.ensures.value) within)
@@ -76,8 +76,11 @@ pub do_command-requires-clause-aap_room : goal.do_command-requires-clause-aap_ro
 do_command-requires-clause-aap_room g c =
     let first = g.D.Dram.view c.args.dram.now in
     let jobs = bound_jobs g.F.Fetch.shape g.F.Fetch.code c.args.jobs.now in
-    let few : length jobs ≤ 16 = omega (arith, c.requires.few_jobs,
-    length-map c.args.jobs.now (bound_job g.F.Fetch.shape g.F.Fetch.code)) in
+    let few : length jobs ≤ 16 = omega (
+      arith,
+      c.requires.few_jobs,
+      length-map c.args.jobs.now (bound_job g.F.Fetch.shape g.F.Fetch.code),
+    ) in
     let short = wave_short first.geometry.banks first.geometry.rows jobs c.requires.few_banks few in
     omega (arith, c.loop-g.invariant.so.aap, c.requires.aap_room, short)
 
@@ -85,8 +88,11 @@ pub do_command-requires-clause-ap_room : goal.do_command-requires-clause-ap_room
 do_command-requires-clause-ap_room g c =
     let first = g.D.Dram.view c.args.dram.now in
     let jobs = bound_jobs g.F.Fetch.shape g.F.Fetch.code c.args.jobs.now in
-    let few : length jobs ≤ 16 = omega (arith, c.requires.few_jobs,
-    length-map c.args.jobs.now (bound_job g.F.Fetch.shape g.F.Fetch.code)) in
+    let few : length jobs ≤ 16 = omega (
+      arith,
+      c.requires.few_jobs,
+      length-map c.args.jobs.now (bound_job g.F.Fetch.shape g.F.Fetch.code),
+    ) in
     let short = wave_short first.geometry.banks first.geometry.rows jobs c.requires.few_banks few in
     omega (arith, c.loop-g.invariant.so.ap, c.requires.ap_room, short)
 
@@ -132,8 +138,8 @@ loop-g-preserved g c =
     let some : 0 < length cs = search rules in
     let it = chosen_by rule s s' cs k c.pick.result c.len.result ok some c.from-k.ensures
     c.pick.ensures.choice c.pick.ensures.next c.len.ensures.value in
-    let did : Did (Row (slice_index_or cs k blank).bank (slice_index_or cs k blank).next ∷ []) now new
-    = subst (λ (xs : List Cursor). Did (Row (slice_index_or xs k blank).bank
+    let did : Did (Row (slice_index_or cs k blank).bank (slice_index_or cs k blank).next ∷ [])
+    now new = subst (λ (xs : List Cursor). Did (Row (slice_index_or xs k blank).bank
     (slice_index_or xs k blank).next ∷ []) now new) c.as_slice-in-loop-g.ensures.value done.did in
     let moves : MovesOn rows jobs cs k c.go_on.new.cursors.items =
     subst (λ (x : Geometry). MovesOn x.rows jobs cs k c.go_on.new.cursors.items) kept.shape
