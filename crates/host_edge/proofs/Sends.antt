@@ -1,7 +1,8 @@
 -- Bytes that are put piece by piece.
-use Rattle.std.specs.Prelude.{◌≡◌, ℕ, List, [], ◌++◌, Option, refl}
+use Rattle.std.proofs.Common.{◌≡◌, ℕ, List, [], ◌++◌, Option, refl}
 use Rattle.std.proofs.Common.{append_assoc, append-nil, sym, ◌∙◌, ap}
-use Rattle.host_edge.specs.Views.{Told, Told-trans, Told-map, AppendsPart}
+use Rattle.host_edge.specs.Views.{Told, AppendsPart}
+use Rattle.host_edge.proofs.Tells.{Told-trans, Told-map}
 
 -- the front of all was appended, and the rest was not
 abbrev pub AppendsUpTo : List ℕ → List ℕ → List ℕ → List ℕ → Type 0
