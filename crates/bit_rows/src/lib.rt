@@ -2,9 +2,11 @@
 #![tactic(auto)]
 
 pub mod bits;
+pub mod kernels;
 pub mod row;
 
-pub use bits::{bit_of, majority};
+pub use bits::{bit_of, bit_of_word, majority};
+pub use kernels::{sense3, settle3, store, store_not, turn};
 pub use no_memory::NoMemory;
 pub use row::Row;
 

@@ -1,24 +1,31 @@
-//! A row of a bank.
+//! A row of a bank: 64 columns in each word.
 
-ghost use Rattle.std.specs.Prelude.{◌≡◌, ℕ, ◌<◌, ◌*◌, length, replicate, slice_set, IfOk, List};
-ghost use Rattle.std.specs.Prelude.{Bool, false, not};
-ghost use Rattle.bit_rows.specs.Bits.{majority as majority_of, bit_in, bits_of_words};
+ghost use Rattle.std.specs.Prelude.{◌≡◌, ◌<◌, length, replicate, slice_set, IfOk, List};
+ghost use Rattle.std.specs.Prelude.{Bool, false};
+ghost use Rattle.bit_rows.specs.Bits.{bit_in};
 
 use crate::NoMemory;
-use crate::bits::{pack, sense3, store_not, unpack};
+use crate::bits::{bit_of_word, with_bit};
 use std::alloc::Global;
 use std::marker::Model;
 
 /// One bit for each column. Contracts see the list of the bits, that of column 0 first.
 #[derive(Debug, Drop)]
 pub struct Row {
-    bits: Vec<bool>,
+    columns: u32,
+    words: Vec<u64>,
 }
 
+// The last word may have bits past the last column, which are not seen.
 impl Model for Row {
+    ghost use Rattle.std.specs.Prelude.{◌≡◌, ◌/◌, ◌+◌, length, List, Bool};
+    ghost use Rattle.bit_rows.specs.Bits.{row_of_words};
+
     ghost Value = { List Bool };
 
-    ghost view = { λ r. r.bits.items };
+    ghost view = { λ r. row_of_words r.columns r.words.items };
+
+    ghost invariant = { λ r. length r.words.items ≡ (r.columns + 63) / 64 };
 }
 
 impl Row {
@@ -26,8 +33,8 @@ impl Row {
     pub fn zeros(columns: u32, alloc: Global) -> Result<Row, NoMemory>
         ensures { IfOk result (λ row. row ≡ replicate columns false) }
     {
-        let bits = vec![in alloc; false; columns as usize]?;
-        Ok(Row { bits })
+        let words = vec![in alloc; 0u64; (columns as usize + 63) / 64]?;
+        Ok(Row { columns, words })
     }
 
     /// The bit of a column.
@@ -35,7 +42,7 @@ impl Row {
         requires { c < length self.now }
         ensures { result ≡ bit_in self.now c }
     {
-        self.bits[c as usize]
+        bit_of_word(self.words[c as usize / 64], (c % 64) as u8)
     }
 
     /// Sets the bit of a column, and no other.
@@ -43,60 +50,7 @@ impl Row {
         requires { c < length self.old }
         ensures { self.new ≡ slice_set self.old c b }
     {
-        self.bits[c as usize] = b;
-    }
-
-    /// Makes every bit the same.
-    pub fn fill(&mut self, b: bool)
-        ensures { self.new ≡ replicate (length self.old) b }
-    {
-        self.bits.fill(b);
-    }
-
-    /// Takes the bits of words: column c is bit `c mod 64` of word `c / 64`.
-    pub fn set_words(&mut self, words: &[u64])
-        requires { length self.old ≡ 64 * length words.now }
-        ensures length { length self.new ≡ length self.old }
-        ensures bits { self.new ≡ bits_of_words words.now }
-    {
-        unpack(words, &mut self.bits);
-    }
-
-    /// Gives the bits as words.
-    pub fn get_words(&self, words: &mut [u64])
-        requires { length self.now ≡ 64 * length words.old }
-        ensures length { length words.new ≡ length words.old }
-        ensures bits { bits_of_words words.new ≡ self.now }
-    {
-        pack(&self.bits, words);
-    }
-
-    /// Sets the bit of each column to the majority of the three rows' bits.
-    pub fn set_majority(&mut self, a: &Row, b: &Row, c: &Row)
-        requires a_fits { length a.now ≡ length self.old }
-        requires b_fits { length b.now ≡ length self.old }
-        requires c_fits { length c.now ≡ length self.old }
-        ensures length { length self.new ≡ length self.old }
-        ensures bits { (k : ℕ) → k < length self.old
-            → bit_in self.new k ≡ majority_of (bit_in a.now k) (bit_in b.now k) (bit_in c.now k) }
-    {
-        sense3(&a.bits, &b.bits, &c.bits, &mut self.bits);
-    }
-
-    /// Takes the bits of another row.
-    pub fn copy_from(&mut self, src: &Row)
-        requires { length src.now ≡ length self.old }
-        ensures { self.new ≡ src.now }
-    {
-        self.bits.copy_from_slice(&src.bits);
-    }
-
-    /// Takes the complements of another row's bits.
-    pub fn copy_not_from(&mut self, src: &Row)
-        requires { length src.now ≡ length self.old }
-        ensures length { length self.new ≡ length self.old }
-        ensures bits { (k : ℕ) → k < length self.old → bit_in self.new k ≡ not (bit_in src.now k) }
-    {
-        store_not(&src.bits, &mut self.bits);
+        let i = c as usize / 64;
+        self.words[i] = with_bit(self.words[i], (c % 64) as u8, b);
     }
 }

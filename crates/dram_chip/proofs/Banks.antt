@@ -14,39 +14,37 @@ use Rattle.bit_rows.specs.Bits.{bit_in}
 use Rattle.dram_model.specs.declared.address.Cell.TheVariants.{D}
 use Rattle.dram_model.specs.Column.{Column, blank, drive, plain}
 use Rattle.dram_model.specs.Chip.{blank_banks, with_row, row_in}
-use Rattle.dram_chip.specs.Rows.{column_at, columns_of, row_of}
+use Rattle.dram_chip.specs.Rows.{column_at, columns_of}
 use Rattle.dram_chip.specs.ChipRows.{columns_in, banks_in, Fits, HasBanks}
 
 -- the same of each number of a range
-map-range-same : {A : Type 0} (f : ℕ → A) (v : A) (a n : ℕ) → ((k : ℕ) → f k ≡ v)
+map-range-same : {A : Type 0} (f : ℕ → A) (v : A) (a n : ℕ) → ((k : ℕ) → k < a + n → f k ≡ v)
     → map f (range_with_len a n) ≡ replicate n v
 map-range-same f v a zero h = refl
-map-range-same f v a (suc n) h = ap (λ x. x ∷ map f (range_with_len (a + 1) n)) (h a)
-    ∙ ap (λ xs. v ∷ xs) (map-range-same f v (a + 1) n h)
+map-range-same f v a (suc n) h = ap (λ x. x ∷ map f (range_with_len (a + 1) n)) (h a (omega arith))
+    ∙ ap (λ xs. v ∷ xs) (map-range-same f v (a + 1) n (λ k l. h k (omega arith)))
 
 map-range-step : {A : Type 0} (f g : ℕ → A) (s : A → A) (a n : ℕ)
     → ((k : ℕ) → k < a + n → f k ≡ s (g k)) → map f (range_with_len a n)
     ≡ map s (map g (range_with_len a n))
 map-range-step f g s a zero h = refl
 map-range-step f g s a (suc n) h = ap (λ x. x ∷ map f (range_with_len (a + 1) n))
-    (h a (omega arith)) ∙ ap (λ xs. s (g a) ∷ xs)
-    (map-range-step f g s (a + 1) n (λ k l. h k (omega arith)))
+    (h a (omega arith)) ∙ ap (λ xs. s (g a) ∷ xs) (map-range-step f g s (a + 1) n (λ k l.
+    h k (omega arith)))
 
 -- a bank whose columns have each taken a step
-pub columns-step : (old new : Bank) (s : Column → Column)
-    → columns_of new.cells ≡ columns_of old.cells
-    → ((c : ℕ) → c < columns_of old.cells → column_at new.cells c ≡ s (column_at old.cells c))
+pub columns-step : (old new : Bank) (s : Column → Column) → columns_of new ≡ columns_of old
+    → ((c : ℕ) → c < columns_of old → column_at new c ≡ s (column_at old c))
     → columns_in new ≡ map s (columns_in old)
 columns-step old new s e h =
-    ap (λ n. map (column_at new.cells) (range_with_len 0 n)) e
-    ∙ map-range-step (column_at new.cells) (column_at old.cells) s 0 (columns_of old.cells) (λ k l.
-    h k (omega arith))
+    ap (λ n. map (column_at new) (range_with_len 0 n)) e
+    ∙ map-range-step (column_at new) (column_at old) s 0 (columns_of old) (λ k l. h k (omega arith))
 
 -- a bank of zeros
-pub columns-blank : (bank : Bank) (n : ℕ) → columns_of bank.cells ≡ n
-    → ((c : ℕ) → column_at bank.cells c ≡ blank) → columns_in bank ≡ replicate n blank
-columns-blank bank n e h = ap (λ m. map (column_at bank.cells) (range_with_len 0 m)) e
-    ∙ map-range-same (column_at bank.cells) blank 0 n h
+pub columns-blank : (bank : Bank) (n : ℕ) → columns_of bank ≡ n
+    → ((c : ℕ) → c < n → column_at bank c ≡ blank) → columns_in bank ≡ replicate n blank
+columns-blank bank n e h = ap (λ m. map (column_at bank) (range_with_len 0 m)) e
+    ∙ map-range-same (column_at bank) blank 0 n (λ k l. h k (omega arith))
 
 -- a bank in place of another
 banks-at : (banks : List Bank) (i : ℕ) (d : Bank) → i < length banks
@@ -115,20 +113,18 @@ with-row-range : (row : ℕ) (bits : List Bool) (f g : ℕ → Column) (a : ℕ)
 with-row-range row [] f g a h = refl
 with-row-range row (b ∷ bs) f g a h =
     ap (λ x. x ∷ map f (range_with_len (a + 1) (length bs))) (h 0 a (omega arith) (omega arith))
-    ∙ ap (λ xs. drive (plain (D row)) b (g a)
-    ∷ xs) (with-row-range row bs f g (a + 1) (λ k j e l.
+    ∙ ap (λ xs. drive (plain (D row)) b (g a) ∷ xs) (with-row-range row bs f g (a + 1) (λ k j e l.
     h (suc k) j (omega arith) (omega arith)))
 
-pub columns-write : (old new : Bank) (row : ℕ) (bits : List Bool)
-    → length bits ≡ columns_of old.cells → columns_of new.cells ≡ columns_of old.cells
-    → ((c : ℕ) → c < columns_of old.cells → column_at new.cells c
-    ≡ drive (plain (D row)) (bit_in bits c) (column_at old.cells c))
-    → columns_in new ≡ with_row row bits (columns_in old)
+pub columns-write : (old new : Bank) (row : ℕ) (bits : List Bool) → length bits ≡ columns_of old
+    → columns_of new ≡ columns_of old
+    → ((c : ℕ) → c < columns_of old → column_at new c ≡ drive (plain (D row)) (bit_in bits c)
+    (column_at old c)) → columns_in new ≡ with_row row bits (columns_in old)
 columns-write old new row bits m e h =
-    ap (λ n. map (column_at new.cells) (range_with_len 0 n)) (e ∙ sym m)
-    ∙ with-row-range row bits (column_at new.cells) (column_at old.cells) 0 (λ k j a l. let same : j
-    ≡ k = omega arith in rw same (h k (omega arith)))
-    ∙ ap (λ n. with_row row bits (map (column_at old.cells) (range_with_len 0 n))) m
+    ap (λ n. map (column_at new) (range_with_len 0 n)) (e ∙ sym m)
+    ∙ with-row-range row bits (column_at new) (column_at old) 0 (λ k j a l. let same : j ≡ k =
+    omega arith in rw same (h k (omega arith)))
+    ∙ ap (λ n. with_row row bits (map (column_at old) (range_with_len 0 n))) m
 
 -- a row that the host reads
 row-again : (xs : List Bool) (row : ℕ) (f : ℕ → Column) (a : ℕ)
@@ -141,42 +137,43 @@ row-again (x ∷ xs) row f a h =
     ∙ ap (λ ys. x ∷ ys) (row-again xs row f (a + 1) (λ k j e l.
     h (suc k) j (omega arith) (omega arith)))
 
-pub columns-read : (bank : Bank) (row : ℕ) → length (row_of bank.cells (D row))
-    ≡ columns_of bank.cells → row_in row (columns_in bank) ≡ row_of bank.cells (D row)
-columns-read bank row e =
-    ap (λ n. row_in row (map (column_at bank.cells) (range_with_len 0 n))) (sym e)
-    ∙ row-again (row_of bank.cells (D row)) row (column_at bank.cells) 0 (λ k j a l. let same : j
-    ≡ k = omega arith in rw same refl)
+pub columns-read : (bank : Bank) (row : ℕ) (bits : List Bool) → length bits ≡ columns_of bank
+    → ((c : ℕ) → c < columns_of bank → column_at bank c (D row) ≡ bit_in bits c)
+    → row_in row (columns_in bank) ≡ bits
+columns-read bank row bits e h =
+    ap (λ n. row_in row (map (column_at bank) (range_with_len 0 n))) (sym e)
+    ∙ row-again bits row (column_at bank) 0 (λ k j a l. let same : j ≡ k =
+    omega arith in rw same (h k (omega arith)))
 
 -- a step of one bank of the list
 pub bank-took-step : (banks : List Bank) (i : ℕ) (old new : Bank) (s : Column → Column)
-    → i < length banks → old ≡ get_or banks i old → columns_of new.cells ≡ columns_of old.cells
-    → ((c : ℕ) → c < columns_of old.cells → column_at new.cells c ≡ s (column_at old.cells c))
-    → banks_in (set banks i new) ≡ (λ b. if i == b then map s (banks_in banks b)
-    else banks_in banks b)
+    → i < length banks → old ≡ get_or banks i old → columns_of new ≡ columns_of old
+    → ((c : ℕ) → c < columns_of old → column_at new c ≡ s (column_at old c))
+    → banks_in (set banks i new) ≡ (λ b. if i == b then map s (banks_in banks b) else banks_in
+    banks b)
 bank-took-step banks i old new s l v e h = banks-step banks i new old (map s) l
     (columns-step old new s e h ∙ ap (λ b. map s (columns_in b)) v)
 
 pub bank-took-row : (banks : List Bank) (i : ℕ) (old new : Bank) (row : ℕ) (bits : List Bool)
-    → i < length banks → old ≡ get_or banks i old → length bits ≡ columns_of old.cells
-    → columns_of new.cells ≡ columns_of old.cells
-    → ((c : ℕ) → c < columns_of old.cells → column_at new.cells c
-    ≡ drive (plain (D row)) (bit_in bits c) (column_at old.cells c))
-    → banks_in (set banks i new) ≡ (λ b. if i == b then with_row row bits (banks_in banks b)
-    else banks_in banks b)
+    → i < length banks → old ≡ get_or banks i old → length bits ≡ columns_of old
+    → columns_of new ≡ columns_of old
+    → ((c : ℕ) → c < columns_of old → column_at new c ≡ drive (plain (D row)) (bit_in bits c)
+    (column_at old c)) → banks_in (set banks i new)
+    ≡ (λ b. if i == b then with_row row bits (banks_in banks b) else banks_in banks b)
 bank-took-row banks i old new row bits l v m e h =
     banks-step banks i new old (with_row row bits) l (columns-write old new row bits m e h
     ∙ ap (λ b. with_row row bits (columns_in b)) v)
 
 pub bank-gave-row : (banks : List Bank) (i : ℕ) (bank : Bank) (row : ℕ) (bits : List Bool)
-    → i < length banks → bank ≡ get_or banks i bank → bits ≡ row_of bank.cells (D row)
-    → length bits ≡ columns_of bank.cells → bits ≡ row_in row (banks_in banks i)
-bank-gave-row banks i bank row bits l v e m =
-    e ∙ sym (columns-read bank row (ap length (sym e) ∙ m)) ∙ ap (λ b. row_in row (columns_in b)) v
+    → i < length banks → bank ≡ get_or banks i bank → length bits ≡ columns_of bank
+    → ((c : ℕ) → c < columns_of bank → column_at bank c (D row) ≡ bit_in bits c)
+    → bits ≡ row_in row (banks_in banks i)
+bank-gave-row banks i bank row bits l v m h =
+    sym (columns-read bank row bits m h) ∙ ap (λ b. row_in row (columns_in b)) v
     ∙ ap (row_in row) (sym (banks-at banks i bank l))
 
 -- a bank of the list is one of the geometry
 pub fits-at : (g : Geometry) (banks : List Bank) (i : ℕ) (bank : Bank) → HasBanks g banks
     → i < g.banks → bank ≡ get_or banks i bank → Fits g bank
-fits-at g banks i bank has l v = subst (Fits g) (sym v)
-    (All-get_or (Fits g) banks i bank (omega (arith, has.count)) has.each)
+fits-at g banks i bank has l v = subst (Fits g) (sym v) (All-get_or (Fits g) banks i bank
+    (omega (arith, has.count)) has.each)

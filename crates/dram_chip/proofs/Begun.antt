@@ -1,17 +1,15 @@
 -- A chip whose banks have their shape passes the test
-use Rattle.std.proofs.Common.{◌≡◌, ℕ, zero, suc, ◌<◌, ◌==◌, ◌&&◌, Bool, true, not, List, [], ◌∷◌}
+use Rattle.std.proofs.Common.{◌≡◌, ℕ, zero, suc, ◌+◌, ◌*◌, ◌<◌, ◌==◌, ◌&&◌, Bool, true, not, List}
+use Rattle.std.proofs.Common.{[], ◌∷◌}
 use Rattle.std.proofs.Common.{set, All, refl, sym, ◌∙◌, arith, length-set}
-use Rattle.std.proofs.lemmas.Bool.{and_from, and_parts, eq-eqb, lt-ltb}
+use Rattle.std.proofs.lemmas.Bool.{and_from, and_parts, eq-eqb}
 use Rattle.std.proofs.lemmas.List.Elements.{All-head, All-tail, All-set}
 use mathlib.Core.Bool.{beq}
-use Rattle.bit_rows.specs.Bits.{bit_in}
 use Rattle.dram_chip.specs.declared.bank.Bank.{Bank}
-use Rattle.dram_chip.specs.declared.cells.Cells.{Cells}
-use Rattle.dram_model.specs.declared.address.Cell.TheVariants.{T, Dcc, C, D}
 use Rattle.dram_model.specs.declared.geometry.Geometry.{Geometry}
-use Rattle.dram_chip.specs.Rows.{columns_of, rows_of, row_of, IsShaped}
+use Rattle.dram_chip.specs.Rows.{row_bit, HasConstants}
 use Rattle.dram_chip.specs.ChipRows.{Fits, HasBanks}
-use Rattle.dram_chip.specs.Begun.{all_below, is_even, are_even, are_constant, is_bank}
+use Rattle.dram_chip.specs.Begun.{all_below, are_constant, is_bank}
 use Rattle.dram_chip.specs.Begun.{are_banks, has_banks}
 use Rattle.dram_chip.specs.ChipWidth.{begun-banks}
 
@@ -25,32 +23,18 @@ below-all test (suc n) h = and_from (test n) (all_below test n) (h n (omega arit
 bit-same : (a b : Bool) → a ≡ b → beq a b ≡ true
 bit-same a b e = grind (arith, e)
 
-even-again : (cells : Cells) → IsShaped cells → are_even cells ≡ true
-even-again cells h = and_from _ _
-    (and_from _ _
-    (below-all (λ k. is_even cells (T k)) 4 (λ k l. eq-eqb _ _ (h.even (T k) (lt-ltb k 4 l))))
-    (below-all (λ k. is_even cells (Dcc k)) 2 (λ k l. eq-eqb _ _ (h.even (Dcc k)
-    (lt-ltb k 2 l)))))
-    (and_from _ _
-    (below-all (λ k. is_even cells (C k)) 2 (λ k l. eq-eqb _ _ (h.even (C k) (lt-ltb k 2 l))))
-    (below-all (λ k. is_even cells (D k)) (rows_of cells) (λ k l. eq-eqb _ _ (h.even (D k)
-    (lt-ltb k (rows_of cells) l)))))
-
-constant-again : (cells : Cells) → IsShaped cells → are_constant cells ≡ true
-constant-again cells h = below-all
-    (λ k. all_below (λ c. beq (bit_in (row_of cells (C k)) c) (not (k == 0))) (columns_of cells)) 2
-    (λ k l. below-all (λ c. beq (bit_in (row_of cells (C k)) c) (not (k == 0))) (columns_of cells)
-    (λ c m. bit-same _ _ (h.constant k c l m)))
+constant-again : (words : ℕ) (all : List ℕ) → HasConstants words all
+    → are_constant words all ≡ true
+constant-again words all h = below-all
+    (λ k. all_below (λ c. beq (row_bit words all (6 + k) c) (not (k == 0))) (64 * words)) 2
+    (λ k l. below-all (λ c. beq (row_bit words all (6 + k) c) (not (k == 0))) (64 * words)
+    (λ c m. bit-same _ _ (h k c l m)))
 
 bank-again : (g : Geometry) (bank : Bank) → Fits g bank → is_bank g bank ≡ true
-bank-again g bank h =
-    let shaped = h.ready.shaped in
-    and_from _ _
-    (and_from _ _ (and_from _ _ (and_from _ _ (eq-eqb _ _ shaped.t) (eq-eqb _ _ shaped.dcc))
-    (eq-eqb _ _ shaped.c))
-    (and_from _ _ (even-again bank.cells shaped) (constant-again bank.cells shaped)))
-    (and_from _ _ (eq-eqb _ _ h.ready.sensed)
-    (and_from _ _ (eq-eqb _ _ h.rows) (eq-eqb _ _ h.columns)))
+bank-again g bank h = and_from _ _
+    (and_from _ _ (eq-eqb _ _ h.ready.size)
+    (constant-again bank.words bank.all.items h.ready.constant))
+    (and_from _ _ (eq-eqb _ _ h.rows) (eq-eqb _ _ h.columns))
 
 all-again : (g : Geometry) (banks : List Bank) → All (Fits g) banks → are_banks g banks ≡ true
 unfolding are_banks

@@ -1,3 +1,4 @@
 pub mod Wordlines
+pub mod Cells
 pub mod Banks
 pub mod Begun

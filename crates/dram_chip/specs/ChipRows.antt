@@ -5,12 +5,11 @@ use Rattle.dram_chip.specs.declared.bank.Bank.{Bank}
 use Rattle.dram_model.specs.declared.geometry.Geometry.{Geometry}
 use Rattle.dram_model.specs.Column.{Column}
 use Rattle.dram_model.specs.Chip.{Banks}
-use Rattle.dram_chip.specs.Rows.{column_at, rows_of, columns_of}
-use Rattle.dram_chip.specs.BankRows.{IsReady}
+use Rattle.dram_chip.specs.Rows.{column_at, rows_of, columns_of, IsReady}
 
 -- the columns of a bank, in order
 abbrev pub columns_in : Bank → List Column
-columns_in bank = map (column_at bank.cells) (range_with_len 0 (columns_of bank.cells))
+columns_in bank = map (column_at bank) (range_with_len 0 (columns_of bank))
 
 abbrev pub banks_in : List Bank → Banks
 banks_in [] b = []
@@ -20,8 +19,8 @@ banks_in (bank ∷ banks) (suc b) = banks_in banks b
 -- a bank of this geometry
 pub record Fits (g : Geometry) (bank : Bank) : Type 0 where
   pub ready : IsReady bank
-  pub rows : rows_of bank.cells ≡ g.rows
-  pub columns : columns_of bank.cells ≡ 64 * g.words
+  pub rows : rows_of bank ≡ g.rows
+  pub columns : columns_of bank ≡ 64 * g.words
 
 -- every bank of this geometry is there
 pub record HasBanks (g : Geometry) (banks : List Bank) : Type 0 where

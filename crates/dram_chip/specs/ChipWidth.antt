@@ -1,22 +1,18 @@
 -- A chip that has begun has all its banks, and each bank all its columns.
-use Rattle.std.specs.Prelude.{◌≡◌, ℕ, ◌<◌, ◌*◌, ◌&&◌, ◌==◌, not, Bool, true, List, [], ◌∷◌, length}
+use Rattle.std.specs.Prelude.{◌≡◌, ℕ, ◌+◌, ◌<◌, ◌*◌, ◌&&◌, ◌==◌, not, Bool, true, List, [], ◌∷◌}
+use Rattle.std.specs.Prelude.{length}
 use Rattle.std.specs.Prelude.{zero, suc, All}
 use Rattle.std.proofs.Common.{◌∙◌, arith, inl, inr, subst}
-use Rattle.std.proofs.lemmas.Bool.{and_parts, eqb-true, ltb-true, cases_eq}
+use Rattle.std.proofs.lemmas.Bool.{and_parts, eqb-true, cases_eq}
 use Rattle.std.proofs.lemmas.List.Elements.{All-get_or, All-tail, All-cons, All-nil}
 use Rattle.std.proofs.lemmas.List.FromFn.{length-map-range_with_len}
 use mathlib.Core.Bool.{beq}
-use Rattle.bit_rows.specs.Bits.{bit_in}
 use Rattle.dram_chip.specs.declared.bank.Bank.{Bank}
-use Rattle.dram_chip.specs.declared.cells.Cells.{Cells}
 use Rattle.dram_chip.specs.declared.chip.Chip.{Chip}
-use Rattle.dram_model.specs.declared.address.Cell.{Cell}
-use Rattle.dram_model.specs.declared.address.Cell.TheVariants.{T, Dcc, C, D}
 use Rattle.dram_model.specs.declared.geometry.Geometry.{Geometry}
-use Rattle.dram_model.specs.Column.{is_cell}
-use Rattle.dram_chip.specs.Rows.{column_at, columns_of, rows_of, row_of}
+use Rattle.dram_chip.specs.Rows.{column_at, columns_of, rows_of, row_bit, HasConstants}
 use Rattle.dram_chip.specs.ChipRows.{Fits, HasBanks, banks_in}
-use Rattle.dram_chip.specs.Begun.{all_below, is_even, are_even, are_constant, are_counted, is_bank}
+use Rattle.dram_chip.specs.Begun.{all_below, are_constant, is_bank}
 use Rattle.dram_chip.specs.Begun.{are_banks, has_banks, has_begun}
 
 below-at : (test : ℕ → Bool) (n k : ℕ) → all_below test n ≡ true → k < n → test k ≡ true
@@ -30,47 +26,22 @@ below-at test (suc n) k h l = elim (cases_eq k n) [
 same-bit : (a b : Bool) → beq a b ≡ true → a ≡ b
 same-bit a b h = grind arith
 
-evens : (cells : Cells) → are_even cells ≡ true → (cell : Cell)
-    → is_cell (rows_of cells) cell ≡ true → is_even cells cell ≡ true
-evens cells h (T k) l =
-    below-at (λ j. is_even cells (T j)) 4 k (and_parts _ _ (and_parts _ _ h).0).0 (ltb-true k 4 l)
-evens cells h (Dcc k) l = below-at (λ j. is_even cells (Dcc j)) 2 k
-    (and_parts _ _ (and_parts _ _ h).0).1 (ltb-true k 2 l)
-evens cells h (C k) l =
-    below-at (λ j. is_even cells (C j)) 2 k (and_parts _ _ (and_parts _ _ h).1).0 (ltb-true k 2 l)
-evens cells h (D k) l = below-at (λ j. is_even cells (D j)) (rows_of cells) k
-    (and_parts _ _ (and_parts _ _ h).1).1 (ltb-true k (rows_of cells) l)
-
-constants : (cells : Cells) → are_constant cells ≡ true → (k c : ℕ) → k < 2 → c < columns_of cells
-    → bit_in (row_of cells (C k)) c ≡ not (k == 0)
-constants cells h k c l m = same-bit (bit_in (row_of cells (C k)) c) (not (k == 0))
-    (below-at (λ d. beq (bit_in (row_of cells (C k)) d) (not (k == 0))) (columns_of cells) c
-    (below-at (λ j. all_below (λ d. beq (bit_in (row_of cells (C j)) d) (not (j == 0)))
-    (columns_of cells)) 2 k h l) m)
+constants : (words : ℕ) (all : List ℕ) → are_constant words all ≡ true → HasConstants words all
+constants words all h k c l m = same-bit (row_bit words all (6 + k) c) (not (k == 0))
+    (below-at (λ d. beq (row_bit words all (6 + k) d) (not (k == 0))) (64 * words) c
+    (below-at (λ j. all_below (λ d. beq (row_bit words all (6 + j) d) (not (j == 0)))
+    (64 * words)) 2 k h l) m)
 
 fits : (g : Geometry) (bank : Bank) → is_bank g bank ≡ true → Fits g bank
 fits g bank h =
-    let shape = and_parts (are_counted bank.cells && (are_even bank.cells
-    && are_constant bank.cells)) _ h in
-    let counted = and_parts (are_counted bank.cells) _ shape.0 in
-    let filled = and_parts (are_even bank.cells) (are_constant bank.cells) counted.1 in
-    let twos = and_parts (length bank.cells.t.items == 4 && length bank.cells.dcc.items == 2)
-    (length bank.cells.c.items == 2) counted.0 in
-    let firsts = and_parts (length bank.cells.t.items == 4) (length bank.cells.dcc.items == 2)
-    twos.0 in
-    let sizes = and_parts (length bank.sensed == columns_of bank.cells) _ shape.1 in
-    let ends = and_parts (rows_of bank.cells == g.rows) (columns_of bank.cells == 64 * g.words)
-    sizes.1 in
+    let both = and_parts (length bank.all.items == bank.words * (8 + bank.rows)
+    && are_constant bank.words bank.all.items) _ h in
+    let shape = and_parts (length bank.all.items == bank.words * (8 + bank.rows)) _ both.0 in
+    let ends = and_parts (rows_of bank == g.rows) (columns_of bank == 64 * g.words) both.1 in
     record {
       ready = record {
-        shaped = record {
-          t = eqb-true _ _ firsts.0;
-          dcc = eqb-true _ _ firsts.1;
-          c = eqb-true _ _ twos.1;
-          even = λ cell l. eqb-true _ _ (evens bank.cells filled.0 cell l);
-          constant = constants bank.cells filled.1;
-        };
-        sensed = eqb-true _ _ sizes.0;
+        size = eqb-true _ _ shape.0;
+        constant = constants bank.words bank.all.items shape.1;
       };
       rows = eqb-true _ _ ends.0;
       columns = eqb-true _ _ ends.1;
@@ -93,7 +64,7 @@ begun-banks flag g banks h =
 width-at : (g : Geometry) (banks : List Bank) (b : ℕ) → b < length banks → All (Fits g) banks
     → length (banks_in banks b) ≡ 64 * g.words
 width-at g [] b l h = absurd (omega arith)
-width-at g (x ∷ xs) zero l h = length-map-range_with_len (column_at x.cells) 0 (columns_of x.cells)
+width-at g (x ∷ xs) zero l h = length-map-range_with_len (column_at x) 0 (columns_of x)
     ∙ (All-get_or (Fits g) (x ∷ xs) 0 x l h).columns
 width-at g (x ∷ xs) (suc b) l h = width-at g xs b (omega arith) (All-tail (Fits g) x xs h)
 

@@ -1,6 +1,5 @@
--- How a chip is kept: its banks as rows, one for each cell.
+-- How a chip is kept: the words of its rows, bank by bank.
 pub mod Rows
-pub mod BankRows
 pub mod ChipRows
 pub mod Begun
 pub mod Seen

@@ -1,39 +1,51 @@
--- A bank as it is kept: a row for each cell
-use Rattle.std.specs.Prelude.{◌≡◌, ℕ, ◌<◌, ◌==◌, Bool, true, false, not, List, [], slice_index_or}
-use Rattle.std.specs.Prelude.{length}
-use Rattle.dram_chip.specs.declared.cells.Cells.{Cells}
+-- A bank as it is kept: the words of all its rows, one row after another
+use Rattle.std.specs.Prelude.{◌≡◌, ℕ, ◌<◌, ◌+◌, ◌*◌, ◌/◌, ◌%◌, ◌==◌, Bool, true, false, not, ◌&&◌}
+use Rattle.std.specs.Prelude.{nat_lt, length, List}
+use Rattle.dram_chip.specs.declared.bank.Bank.{Bank}
 use Rattle.dram_model.specs.declared.address.Cell.{Cell}
 use Rattle.dram_model.specs.declared.address.Cell.TheVariants.{T, Dcc, C, D}
-use Rattle.bit_rows.specs.Bits.{bit_in}
-use Rattle.dram_model.specs.Column.{Column, is_cell}
+use Rattle.bit_rows.specs.Bits.{word_bit}
+use Rattle.dram_model.specs.Column.{Column}
 
--- the row of a cell
-abbrev pub row_of : Cells → Cell → List Bool
-row_of cells (T k) = slice_index_or cells.t.items k []
-row_of cells (Dcc k) = slice_index_or cells.dcc.items k []
-row_of cells (C k) = slice_index_or cells.c.items k []
-row_of cells (D k) = slice_index_or cells.d.items k []
+-- which row is a cell's. The DCC rows stand first: so the lines of an address that raises three
+-- stand in the order of their rows
+abbrev pub place : Cell → ℕ
+place (Dcc k) = k
+place (T k) = 2 + k
+place (C k) = 6 + k
+place (D k) = 8 + k
 
--- a column of the bank
-abbrev pub column_at : Cells → ℕ → Column
-column_at cells c (T k) = bit_in (row_of cells (T k)) c
-column_at cells c (Dcc k) = bit_in (row_of cells (Dcc k)) c
-column_at cells c (C k) = false
-column_at cells c (D k) = bit_in (row_of cells (D k)) c
+-- a cell that is kept: what stands at a C cell is not read
+abbrev pub is_kept : Cell → Bool
+is_kept (Dcc k) = nat_lt k 2
+is_kept (T k) = nat_lt k 4
+is_kept (C k) = false
+is_kept (D k) = true
 
 -- how many data rows the bank has, and how many columns
-abbrev pub rows_of : Cells → ℕ
-rows_of cells = length cells.d.items
+abbrev pub rows_of : Bank → ℕ
+rows_of bank = bank.rows
 
-abbrev pub columns_of : Cells → ℕ
-columns_of cells = length (row_of cells (C 0))
+abbrev pub columns_of : Bank → ℕ
+columns_of bank = 64 * bank.words
 
--- four T rows, two DCC rows, the two constants and the data rows, all of one length
-pub record IsShaped (cells : Cells) : Type 0 where
-  pub t : length cells.t.items ≡ 4
-  pub dcc : length cells.dcc.items ≡ 2
-  pub c : length cells.c.items ≡ 2
-  pub even : (cell : Cell) → is_cell (rows_of cells) cell ≡ true
-      → length (row_of cells cell) ≡ columns_of cells
-  pub constant : (k c : ℕ) → k < 2 → c < columns_of cells
-      → bit_in (row_of cells (C k)) c ≡ not (k == 0)
+-- the bit in row p at column c, where each row has so many words
+abbrev pub row_bit : ℕ → List ℕ → ℕ → ℕ → Bool
+row_bit words all p c = word_bit all (words * p + c / 64) (c % 64)
+
+-- a column of such rows
+abbrev pub column_in : ℕ → List ℕ → ℕ → Column
+column_in words all c = λ cell. is_kept cell && row_bit words all (place cell) c
+
+abbrev pub column_at : Bank → ℕ → Column
+column_at bank c = column_in bank.words bank.all.items c
+
+-- C0 has zeros, and C1 has ones
+abbrev pub HasConstants : ℕ → List ℕ → Type 0
+HasConstants words all = (k c : ℕ) → k < 2 → c < 64 * words
+    → row_bit words all (6 + k) c ≡ not (k == 0)
+
+-- all rows are there, and the constants have their bits
+pub record IsReady (bank : Bank) : Type 0 where
+  pub size : length bank.all.items ≡ bank.words * (8 + bank.rows)
+  pub constant : HasConstants bank.words bank.all.items

@@ -1,171 +1,216 @@
 //! One bank, and what a row command does to it.
 
-ghost use Rattle.std.specs.Prelude.{◌≡◌, ℕ, ◌<◌, ◌*◌, length, true, false, IfOk, OnOk, replicate};
-ghost use Rattle.std.specs.Prelude.{◌∷◌, ◌++◌, []};
+ghost use Rattle.std.specs.Prelude.{◌≡◌, ℕ, ◌<◌, ◌≤◌, ◌+◌, ◌*◌, ◌^◌, length, true, false, IfOk};
 ghost use Rattle.bit_rows.specs.Bits.{bit_in, bits_of_words};
-ghost use Rattle.dram_model.specs.Column.{is_first, is_in_range, sense as sense_of};
-ghost use Rattle.dram_model.specs.Column.{settle as settle_of, step, blank, drive, plain};
+ghost use Rattle.dram_model.specs.Column.{is_first, is_second, is_in_range, is_cell};
+ghost use Rattle.dram_model.specs.Column.{read as read_of, sense as sense_of, settle as settle_of};
+ghost use Rattle.dram_model.specs.Column.{step, blank, drive, plain};
 ghost use Rattle.dram_model.specs.declared.address.Cell.{Cell};
 ghost use Rattle.dram_model.specs.declared.address.Command.{Command};
-ghost use Rattle.dram_chip.specs.Rows.{row_of, column_at, IsShaped, rows_of, columns_of};
-ghost use Rattle.dram_chip.specs.BankRows.{IsReady};
+ghost use Rattle.dram_chip.specs.Rows.{place as place_of, is_kept, column_at, IsReady, rows_of};
+ghost use Rattle.dram_chip.specs.Rows.{columns_of};
 
-use crate::cells::{Cells, put};
-use bit_rows::Row;
-use dram_model::{Addr, Cell, Line, lines};
-use no_memory::{NoMemory, keep};
+use crate::b_group::b_lines;
+use crate::rows::{get_row, move_row, set_ones, set_row, settle_rows};
+use dram_model::{Addr, Cell, Line};
+use no_memory::NoMemory;
 use std::alloc::Global;
 
-/// The rows of a bank, and a row for what an activation senses.
+/// The rows that are no data rows: DCC0 and DCC1, T0 to T3, C0 and C1.
+const OTHER_ROWS: usize = 8;
+
+/// A bank: the words of its rows, one row after another.
 #[derive(Debug, Drop)]
 pub struct Bank {
-    pub cells: Cells,
-    pub sensed: Row,
+    rows: u16,
+    words: u16,
+    all: Vec<u64>,
 }
 
-/// Sets `sensed` to what an activation of `x` senses in each column: the row of its one line, or
-/// the majority of three.
-fn sense(cells: &Cells, x: Addr, sensed: &mut Row)
-    requires shaped { IsShaped cells.now }
-    requires fits { length sensed.old ≡ columns_of cells.now }
-    requires range { is_in_range (rows_of cells.now) x ≡ true }
-    requires first { is_first x ≡ true }
-    ensures length { length sensed.new ≡ length sensed.old }
-    ensures bits { (c : ℕ) → c < columns_of cells.now
-        → bit_in sensed.new c ≡ sense_of x (column_at cells.now c) }
+/// Which row is a cell's.
+fn place(cell: Cell) -> usize
+    requires { is_cell (2 ^ 16) cell ≡ true }
+    ensures { result ≡ place_of cell }
 {
-    let raised = lines(x);
-    match raised.as_slice() {
-        [a, b, c] => sensed.set_majority(cells.row(a.cell), cells.row(b.cell), cells.row(c.cell)),
-        [line, ..] => put(sensed, line.inverted, cells.row(line.cell)),
-        [] => {}
+    match cell {
+        Cell::Dcc(k) => k as usize,
+        Cell::T(k) => 2 + k as usize,
+        Cell::C(k) => 6 + k as usize,
+        Cell::D(k) => OTHER_ROWS + k as usize,
     }
 }
 
-/// Each line of `x` takes the row.
-fn settle(cells: &mut Cells, x: Addr, sensed: &Row)
-    requires shaped { IsShaped cells.old }
-    requires fits { length sensed.now ≡ columns_of cells.old }
-    requires range { is_in_range (rows_of cells.old) x ≡ true }
-    ensures shaped { IsShaped cells.new }
-    ensures rows { rows_of cells.new ≡ rows_of cells.old }
-    ensures columns { columns_of cells.new ≡ columns_of cells.old }
-    ensures settled { (c : ℕ) → c < columns_of cells.old
-        → column_at cells.new c ≡ settle_of x (bit_in sensed.now c) (column_at cells.old c) }
+/// The cell's d-wordline.
+fn line_of(cell: Cell) -> Line
+    ensures { result ≡ plain cell }
 {
-    let raised = lines(x);
-    for line in raised.as_slice() {
-        cells.store(*line, sensed);
+    Line {
+        cell,
+        inverted: false,
     }
-}
-
-/// Rows of zeros.
-fn zero_rows(n: u16, columns: u32, alloc: Global) -> Result<Vec<Row>, NoMemory>
-    ensures { IfOk result (λ rows. rows.items ≡ replicate n (replicate columns false)) }
-{
-    let mut rows = Vec::new(alloc);
-    for _i in 0..n {
-        keep(&mut rows, Row::zeros(columns, alloc)?)?;
-    }
-    Ok(rows)
-}
-
-/// C0 and C1: a row of zeros and a row of ones.
-fn constant_rows(columns: u32, alloc: Global) -> Result<Vec<Row>, NoMemory>
-    ensures { IfOk result (λ rows. rows.items ≡ replicate columns false ∷ replicate columns true
-        ∷ []) }
-{
-    let zeros = Row::zeros(columns, alloc)?;
-    let mut ones = Row::zeros(columns, alloc)?;
-    ones.fill(true);
-    let mut rows = Vec::new(alloc);
-    keep(&mut rows, zeros)?;
-    keep(&mut rows, ones)?;
-    Ok(rows)
 }
 
 impl Bank {
-    /// A bank of zeros, with this many data rows and columns.
-    pub fn new(rows: u16, columns: u32, alloc: Global) -> Result<Bank, NoMemory>
+    /// A bank of zeros, with this many data rows, and words in each.
+    pub fn new(rows: u16, words: u16, alloc: Global) -> Result<Bank, NoMemory>
         ensures ready { IfOk result IsReady }
-        ensures rows { IfOk result (λ bank. rows_of bank.cells ≡ rows) }
-        ensures columns { IfOk result (λ bank. columns_of bank.cells ≡ columns) }
-        ensures zeros { IfOk result (λ bank. (c : ℕ) → column_at bank.cells c ≡ blank) }
+        ensures rows { IfOk result (λ bank. rows_of bank ≡ rows) }
+        ensures columns { IfOk result (λ bank. columns_of bank ≡ 64 * words) }
+        ensures zeros { IfOk result (λ bank. (c : ℕ) → c < 64 * words → column_at bank c ≡ blank) }
     {
-        let t = zero_rows(4, columns, alloc)?;
-        let dcc = zero_rows(2, columns, alloc)?;
-        let c = constant_rows(columns, alloc)?;
-        let d = zero_rows(rows, columns, alloc)?;
-        let sensed = Row::zeros(columns, alloc)?;
-        Ok(Bank {
-            cells: Cells { t, dcc, c, d },
-            sensed,
-        })
+        let n = words as usize;
+        let mut all = vec![in alloc; 0u64; n * (OTHER_ROWS + rows as usize)]?;
+        set_ones(&mut all, 7 * n, n);
+        Ok(Bank { rows, words, all })
+    }
+
+    /// Where the row of a cell begins.
+    fn start(&self, cell: Cell) -> usize
+        requires ready { IsReady self.now }
+        requires cell { is_cell (rows_of self.now) cell ≡ true }
+        ensures start { result ≡ self.now.words * place_of cell }
+        ensures room { result + self.now.words ≤ length self.now.all.items }
+    {
+        self.words as usize * place(cell)
+    }
+
+    /// The line's cell takes what the other line reads.
+    fn drive(&mut self, line: Line, src: Line)
+        requires ready { IsReady self.old }
+        requires line { is_cell (rows_of self.old) line.cell ≡ true }
+        requires kept { is_kept line.cell ≡ true }
+        requires src { is_cell (rows_of self.old) src.cell ≡ true }
+        ensures ready { IsReady self.new }
+        ensures rows { rows_of self.new ≡ rows_of self.old }
+        ensures columns { columns_of self.new ≡ columns_of self.old }
+        ensures driven { (c : ℕ) → c < columns_of self.old
+            → column_at self.new c ≡ drive line (read_of (column_at self.old c) src)
+            (column_at self.old c) }
+    {
+        let from = self.start(src.cell);
+        let to = self.start(line.cell);
+        move_row(
+            &mut self.all,
+            self.words as usize,
+            from,
+            to,
+            line.inverted != src.inverted,
+        );
+    }
+
+    /// Activates `x`. Gives a line that reads what was sensed.
+    fn activate(&mut self, x: Addr) -> Line
+        requires ready { IsReady self.old }
+        requires range { is_in_range (rows_of self.old) x ≡ true }
+        requires first { is_first x ≡ true }
+        ensures ready { IsReady self.new }
+        ensures rows { rows_of self.new ≡ rows_of self.old }
+        ensures columns { columns_of self.new ≡ columns_of self.old }
+        ensures cell { is_cell (rows_of self.old) result.cell ≡ true }
+        ensures stepped { (c : ℕ) → c < columns_of self.old
+            → column_at self.new c ≡ step (Command.Ap x) (column_at self.old c) }
+        ensures sensed { (c : ℕ) → c < columns_of self.old → read_of (column_at self.new c) result
+            ≡ sense_of x (column_at self.old c) }
+    {
+        let group = match x {
+            Addr::D(k) => return line_of(Cell::D(k)),
+            Addr::C(k) => return line_of(Cell::C(k)),
+            Addr::B(k) => k,
+        };
+        let raised = b_lines(group);
+        let line = raised[0];
+        if raised.len() == 3 {
+            let p = self.start(line.cell);
+            let q = self.start(raised[1].cell);
+            let r = self.start(raised[2].cell);
+            settle_rows(&mut self.all, self.words as usize, p, q, r);
+        }
+        line
+    }
+
+    /// Each line of `y` takes what the other line reads. A constant keeps its bits.
+    fn settle(&mut self, y: Addr, src: Line)
+        requires ready { IsReady self.old }
+        requires range { is_in_range (rows_of self.old) y ≡ true }
+        requires src { is_cell (rows_of self.old) src.cell ≡ true }
+        ensures ready { IsReady self.new }
+        ensures rows { rows_of self.new ≡ rows_of self.old }
+        ensures columns { columns_of self.new ≡ columns_of self.old }
+        ensures settled { (c : ℕ) → c < columns_of self.old
+            → column_at self.new c ≡ settle_of y (read_of (column_at self.old c) src)
+            (column_at self.old c) }
+    {
+        let group = match y {
+            Addr::D(k) => {
+                self.drive(line_of(Cell::D(k)), src);
+                return;
+            }
+            Addr::C(_) => return,
+            Addr::B(k) => k,
+        };
+        let mut from = src;
+        for line in b_lines(group) {
+            self.drive(*line, from);
+            from = *line;
+        }
     }
 
     /// AP(x) in every column.
     pub fn ap(&mut self, x: Addr)
         requires ready { IsReady self.old }
-        requires range { is_in_range (rows_of self.old.cells) x ≡ true }
+        requires range { is_in_range (rows_of self.old) x ≡ true }
         requires first { is_first x ≡ true }
         ensures ready { IsReady self.new }
-        ensures rows { rows_of self.new.cells ≡ rows_of self.old.cells }
-        ensures columns { columns_of self.new.cells ≡ columns_of self.old.cells }
-        ensures stepped { (c : ℕ) → c < columns_of self.old.cells
-            → column_at self.new.cells c ≡ step (Command.Ap x) (column_at self.old.cells c) }
-        ensures sensed { (c : ℕ) → c < columns_of self.old.cells
-            → bit_in self.new.sensed c ≡ sense_of x (column_at self.old.cells c) }
+        ensures rows { rows_of self.new ≡ rows_of self.old }
+        ensures columns { columns_of self.new ≡ columns_of self.old }
+        ensures stepped { (c : ℕ) → c < columns_of self.old
+            → column_at self.new c ≡ step (Command.Ap x) (column_at self.old c) }
     {
-        sense(&self.cells, x, &mut self.sensed);
-        settle(&mut self.cells, x, &self.sensed);
+        let _line = self.activate(x);
     }
 
     /// AAP(x, y) in every column.
     pub fn aap(&mut self, x: Addr, y: Addr)
         requires ready { IsReady self.old }
-        requires range { is_in_range (rows_of self.old.cells) x ≡ true }
+        requires range { is_in_range (rows_of self.old) x ≡ true }
         requires first { is_first x ≡ true }
-        requires second_range { is_in_range (rows_of self.old.cells) y ≡ true }
+        requires second_range { is_in_range (rows_of self.old) y ≡ true }
         ensures ready { IsReady self.new }
-        ensures rows { rows_of self.new.cells ≡ rows_of self.old.cells }
-        ensures columns { columns_of self.new.cells ≡ columns_of self.old.cells }
-        ensures stepped { (c : ℕ) → c < columns_of self.old.cells
-            → column_at self.new.cells c ≡ step (Command.Aap x y) (column_at self.old.cells c) }
+        ensures rows { rows_of self.new ≡ rows_of self.old }
+        ensures columns { columns_of self.new ≡ columns_of self.old }
+        ensures stepped { (c : ℕ) → c < columns_of self.old
+            → column_at self.new c ≡ step (Command.Aap x y) (column_at self.old c) }
     {
-        self.ap(x);
-        settle(&mut self.cells, y, &self.sensed);
+        let line = self.activate(x);
+        self.settle(y, line);
     }
 
     /// Sets a data row to these words.
     pub fn write(&mut self, row: u16, words: &[u64])
         requires ready { IsReady self.old }
-        requires row { row < rows_of self.old.cells }
-        requires fits { columns_of self.old.cells ≡ 64 * length words.now }
+        requires row { row < rows_of self.old }
+        requires fits { columns_of self.old ≡ 64 * length words.now }
         ensures ready { IsReady self.new }
-        ensures rows { rows_of self.new.cells ≡ rows_of self.old.cells }
-        ensures columns { columns_of self.new.cells ≡ columns_of self.old.cells }
-        ensures written { (c : ℕ) → c < columns_of self.old.cells
-            → column_at self.new.cells c ≡ drive (plain (Cell.D row))
-            (bit_in (bits_of_words words.now) c) (column_at self.old.cells c) }
+        ensures rows { rows_of self.new ≡ rows_of self.old }
+        ensures columns { columns_of self.new ≡ columns_of self.old }
+        ensures written { (c : ℕ) → c < columns_of self.old
+            → column_at self.new c ≡ drive (plain (Cell.D row)) (bit_in (bits_of_words words.now) c)
+            (column_at self.old c) }
     {
-        self.sensed.set_words(words);
-        self.cells.store(
-            Line {
-                cell: Cell::D(row),
-                inverted: false,
-            },
-            &self.sensed,
-        );
+        let to = self.start(Cell::D(row));
+        set_row(&mut self.all, to, words);
     }
 
     /// Gives a data row as words.
     pub fn read(&self, row: u16, words: &mut [u64])
         requires ready { IsReady self.now }
-        requires row { row < rows_of self.now.cells }
-        requires fits { columns_of self.now.cells ≡ 64 * length words.old }
+        requires row { row < rows_of self.now }
+        requires fits { columns_of self.now ≡ 64 * length words.old }
         ensures length { length words.new ≡ length words.old }
-        ensures read { bits_of_words words.new ≡ row_of self.now.cells (Cell.D row) }
+        ensures read { (c : ℕ) → c < columns_of self.now → column_at self.now c (Cell.D row)
+            ≡ bit_in (bits_of_words words.new) c }
     {
-        self.cells.row(Cell::D(row)).get_words(words);
+        let from = self.start(Cell::D(row));
+        get_row(&self.all, from, words);
     }
 }

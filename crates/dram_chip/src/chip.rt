@@ -1,4 +1,4 @@
-//! A chip that keeps its banks as rows.
+//! A chip that keeps the words of its banks.
 
 ghost use Rattle.std.specs.Prelude.{◌≡◌, IfOk};
 ghost use Rattle.dram_model.specs.declared.geometry.Geometry.{Geometry};
@@ -57,7 +57,7 @@ fn make_banks(g: Geometry, alloc: Global) -> Result<Vec<Bank>, NoMemory>
 {
     let mut banks = Vec::new(alloc);
     for _i in 0..g.banks {
-        keep(&mut banks, Bank::new(g.rows, 64 * g.words as u32, alloc)?)?;
+        keep(&mut banks, Bank::new(g.rows, g.words, alloc)?)?;
     }
     Ok(banks)
 }

@@ -1,10 +1,11 @@
 //! DRAM chips: one that never fails, and one that fails at listed calls.
 #![tactic(auto)]
 
+mod b_group;
 mod bank;
-mod cells;
 mod chip;
 mod failing;
+mod rows;
 
 pub use chip::Chip;
 pub use dram_model::{

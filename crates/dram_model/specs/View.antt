@@ -3,7 +3,8 @@ use Rattle.std.specs.Prelude.{◌≡◌, ℕ, ◌+◌, ◌≤◌, Bool, true, fa
 use Rattle.std.specs.Prelude.{[], Option, Some, None}
 use Rattle.dram_model.specs.declared.geometry.Geometry.{Geometry}
 use Rattle.dram_model.specs.declared.dram.Counters.{Counters}
-use Rattle.dram_model.specs.Chip.{Banks, Event, after, all_counted, blank_banks, Rose, Grew}
+use Rattle.dram_model.specs.Chip.{Banks, Event, after, all_counted, blank_banks, Grew}
+use Rattle.fault_counts.specs.Counts.{Rose}
 use Rattle.dram_model.specs.Chip.{SameBut}
 
 -- What a chip shows: whether its last `begin` was Ok, its shape, the columns of its banks, its

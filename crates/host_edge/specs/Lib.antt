@@ -1,6 +1,4 @@
 -- What a folder and a sink show, and what their calls do to it.
 pub mod Views
-pub mod Turns
 pub mod Mem
 pub mod Disk
-pub mod Sends

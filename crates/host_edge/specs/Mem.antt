@@ -4,7 +4,7 @@ use Rattle.std.specs.Option.{option_map, option_map_or, is_none}
 use Rattle.std.specs.Str.{bytes_eq}
 use Rattle.std.specs.BTreeMap.{BTreeMap, get_by_text}
 use Rattle.host_edge.specs.Views.{Files, FolderView, SinkView}
-use Rattle.host_edge.specs.Turns.{Plan, plan_of}
+use Rattle.fault_counts.specs.Plans.{Plan, plan_of}
 use Rattle.host_edge.specs.declared.mem_folder.Kept.{Kept}
 use Rattle.host_edge.specs.declared.mem_folder.MemFolder.{MemFolder}
 use Rattle.host_edge.specs.declared.mem_sink.MemSink.{MemSink}
@@ -26,11 +26,11 @@ counts_for files name q = option_map_or (λ _. bytes_eq q name) (files name) (is
 
 -- the plan of a folder's calls: loads and stores count together
 abbrev pub folder_plan : MemFolder → Plan
-folder_plan folder = plan_of folder.turns
+folder_plan folder = plan_of folder.plan
 
 -- the plan of a sink's puts
 abbrev pub sink_plan : MemSink → Plan
-sink_plan sink = plan_of sink.turns
+sink_plan sink = plan_of sink.plan
 
 -- what a folder in memory shows
 abbrev pub folder_view : MemFolder → FolderView

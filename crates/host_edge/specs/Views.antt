@@ -1,6 +1,7 @@
 -- What a folder and a sink show at a moment, and how two such moments are related.
 use Rattle.std.specs.Prelude.{◌≡◌, ◌≢◌, ℕ, ◌+◌, ◌-◌, ◌^◌, ◌<◌, ◌≤◌, Bool, if◌then◌else◌, min, List}
 use Rattle.std.specs.Prelude.{◌++◌, length, Option, Some, None, IfSome}
+use Rattle.fault_counts.specs.Counts.{raised}
 
 -- the files that there are, by the bytes of their names
 abbrev pub Files : Type 0
@@ -25,18 +26,6 @@ abbrev pub Told : {A : Type 0} → (A → A → Type 0) → Option A → Option 
 Told R None new = Unit {0}
 Told R (Some old) None = ⊥
 Told R (Some old) (Some new) = R old new
-
--- a count, raised by n, which stands still at its last value
-abbrev pub raised : ℕ → ℕ → ℕ
-raised n count = min (count + n) (2 ^ 64 - 1)
-
--- a count rose by n or more, or stands at its last value
-abbrev pub RoseBy : ℕ → ℕ → ℕ → Type 0
-RoseBy n old new = raised n old ≤ new
-
--- a count rose
-abbrev pub Rose : ℕ → ℕ → Type 0
-Rose = RoseBy 1
 
 -- no count of a folder falls
 pub record NoCountFalls (old new : FolderView) : Type 0 where
@@ -83,22 +72,3 @@ IsPrefix p whole = (rest : List ℕ) × (p ++ rest ≡ whole)
 -- a prefix of the bytes was appended
 abbrev pub AppendsPart : List ℕ → List ℕ → List ℕ → Type 0
 AppendsPart bytes old new = (part : List ℕ) × (IsPrefix part bytes × (new ≡ old ++ part))
-
--- two steps make one
-pub Told-trans : {A : Type 0} {R S U : A → A → Type 0} (a b c : Option A)
-    → ((x y z : A) → R x y → S y z → U x z) → Told R a b → Told S b c → Told U a c
-Told-trans None b c join r s = tt
-Told-trans (Some x) None c join r s = absurd r
-Told-trans (Some x) (Some y) None join r s = absurd s
-Told-trans (Some x) (Some y) (Some z) join r s = join x y z r s
-
--- what follows for the values follows where they are told
-pub Told-map : {A : Type 0} {R S : A → A → Type 0} (a b : Option A) → ((x y : A) → R x y → S x y)
-    → Told R a b → Told S a b
-Told-map None b to r = tt
-Told-map (Some x) None to r = absurd r
-Told-map (Some x) (Some y) to r = to x y r
-
-pub Told-same : {A : Type 0} (R : A → A → Type 0) (a : Option A) → ((x : A) → R x x) → Told R a a
-Told-same R None same = tt
-Told-same R (Some x) same = same x

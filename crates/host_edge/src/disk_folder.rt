@@ -4,14 +4,15 @@ ghost use Rattle.std.specs.Prelude.{◌≡◌, ◌≢◌, ℕ, ◌+◌, ◌<◌,
 ghost use Rattle.std.specs.Prelude.{OnErr, IsErrOf, slice_index, take, position, IfSome};
 ghost use Rattle.std.specs.Str.{bytes_eq};
 ghost use Rattle.host_edge.specs.Disk.{place_of, counts_together, words_of, disk_view};
-ghost use Rattle.host_edge.specs.Views.{FolderView, Told, Rose, RoseBy, NoCountFalls};
+ghost use Rattle.host_edge.specs.Views.{FolderView, Told, NoCountFalls};
+ghost use Rattle.fault_counts.specs.Counts.{Rose, RoseBy, raised};
 ghost use Rattle.host_edge.specs.Views.{SameLoadFaults, CountsFault, HasBytes, IsLonger};
-ghost use Rattle.host_edge.specs.Views.{KeepsOthers, HasNoFaults, raised};
+ghost use Rattle.host_edge.specs.Views.{KeepsOthers, HasNoFaults};
 
 use crate::answer::{Failed, LoadNo};
-use crate::count::raised;
 use crate::folder::Folder;
 use crate::stream::{read_whole, write_whole};
+use fault_counts::raised;
 use std::alloc::Global;
 use std::fs;
 

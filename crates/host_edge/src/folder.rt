@@ -1,7 +1,8 @@
 //! Files by name, as a program relies on them.
 
 ghost use Rattle.std.specs.Prelude.{◌≡◌, ◌+◌, ◌≤◌, length, IfOk, OnOk, OnErr, IsErrOf};
-ghost use Rattle.host_edge.specs.Views.{FolderView, Told, Rose, RoseBy, NoCountFalls, HasBytes};
+ghost use Rattle.host_edge.specs.Views.{FolderView, Told, NoCountFalls, HasBytes};
+ghost use Rattle.fault_counts.specs.Counts.{Rose, RoseBy};
 ghost use Rattle.host_edge.specs.Views.{IsLonger, KeepsOthers};
 
 use crate::answer::{Failed, LoadNo};

@@ -2,7 +2,6 @@
 #![tactic(auto)]
 
 mod answer;
-mod count;
 mod disk_folder;
 mod folder;
 mod mem_folder;
@@ -10,7 +9,6 @@ mod mem_sink;
 mod sink;
 mod std_sink;
 mod stream;
-mod turns;
 
 pub use answer::{Failed, LoadNo};
 pub use disk_folder::DiskFolder;

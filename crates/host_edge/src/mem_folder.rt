@@ -6,16 +6,16 @@ ghost use Rattle.std.specs.Prelude.{IsErr};
 ghost use Rattle.std.specs.Option.{option_copied};
 ghost use Rattle.host_edge.specs.Mem.{files_of, faults_of, counts_for, is_absent, folder_view};
 ghost use Rattle.host_edge.specs.Mem.{folder_plan};
-ghost use Rattle.host_edge.specs.Turns.{is_due, next_call};
-ghost use Rattle.host_edge.specs.Views.{FolderView, Told, Rose, RoseBy, NoCountFalls};
+ghost use Rattle.fault_counts.specs.Plans.{is_due, next_call};
+ghost use Rattle.host_edge.specs.Views.{FolderView, Told, NoCountFalls};
+ghost use Rattle.fault_counts.specs.Counts.{Rose, RoseBy, raised};
 ghost use Rattle.host_edge.specs.Views.{SameLoadFaults, HasNoFaults, HasBytes, IsLonger};
-ghost use Rattle.host_edge.specs.Views.{KeepsOthers, SameFiles, CountsFault, raised};
+ghost use Rattle.host_edge.specs.Views.{KeepsOthers, SameFiles, CountsFault};
 
 use crate::NoMemory;
 use crate::answer::{Failed, LoadNo};
-use crate::count::raised;
 use crate::folder::Folder;
-use crate::turns::Turns;
+use fault_counts::{CallPlan, raised};
 use std::alloc::Global;
 use std::collections::BTreeMap;
 
@@ -37,7 +37,7 @@ pub struct MemFolder {
     other_load_faults: u64,
     store_faults: u64,
     taken: u64,
-    turns: Turns,
+    plan: CallPlan,
     alloc: Global,
 }
 
@@ -100,7 +100,7 @@ impl MemFolder {
             other_load_faults: 0,
             store_faults: 0,
             taken: 0,
-            turns: Turns::new(alloc),
+            plan: CallPlan::new(alloc),
             alloc,
         }
     }
@@ -138,7 +138,7 @@ impl MemFolder {
             }) }
         ensures unlisted { OnErr result (folder_plan self.new ≡ folder_plan self.old) }
     {
-        self.turns.fail_at(call)
+        self.plan.fail_at(call)
     }
 
     pub fn file(&self, name: &str) -> Option<&[u8]>
@@ -182,7 +182,7 @@ impl Folder for MemFolder {
         ensures no_store_fault { (folder_view self.new).store_faults
             ≡ (folder_view self.old).store_faults }
     {
-        let fails = self.turns.next();
+        let fails = self.plan.next();
         let bytes = match self.files.get(name) {
             Some(kept) if !fails => kept.bytes.as_slice(),
             _ => {
@@ -216,7 +216,7 @@ impl Folder for MemFolder {
         ensures no_load_fault { SameLoadFaults (folder_view self.old) (folder_view self.new) }
         ensures taken { (folder_view self.new).taken ≡ (folder_view self.old).taken }
     {
-        let fails = self.turns.next();
+        let fails = self.plan.next();
         if !fails && self.put_file(name, bytes).is_ok() {
             Ok(())
         } else {

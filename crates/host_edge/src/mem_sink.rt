@@ -2,14 +2,14 @@
 
 ghost use Rattle.std.specs.Prelude.{◌≡◌, ◌≤◌, ◌++◌, [], ◌∷◌, Some, IsErr, IsTrue, OnOk, OnErr};
 ghost use Rattle.host_edge.specs.Mem.{sink_view, sink_plan};
-ghost use Rattle.host_edge.specs.Turns.{is_due, next_call};
-ghost use Rattle.host_edge.specs.Views.{SinkView, Told, Rose, AppendsPart, raised};
+ghost use Rattle.fault_counts.specs.Plans.{is_due, next_call};
+ghost use Rattle.host_edge.specs.Views.{SinkView, Told, AppendsPart};
+ghost use Rattle.fault_counts.specs.Counts.{Rose, raised};
 
 use crate::NoMemory;
 use crate::answer::Failed;
-use crate::count::raised;
 use crate::sink::Sink;
-use crate::turns::Turns;
+use fault_counts::{CallPlan, raised};
 use std::alloc::Global;
 
 /// Keeps the bytes that it is sent. A put that is told to fail, or that finds no memory, keeps
@@ -18,7 +18,7 @@ use std::alloc::Global;
 pub struct MemSink {
     bytes: Vec<u8>,
     faults: u64,
-    turns: Turns,
+    plan: CallPlan,
 }
 
 impl MemSink {
@@ -29,7 +29,7 @@ impl MemSink {
         MemSink {
             bytes: Vec::new(alloc),
             faults: 0,
-            turns: Turns::new(alloc),
+            plan: CallPlan::new(alloc),
         }
     }
 
@@ -40,7 +40,7 @@ impl MemSink {
             ≡ record (sink_plan self.old) { failing = (sink_plan self.old).failing ++ call ∷ [] }) }
         ensures unlisted { OnErr result (sink_plan self.new ≡ sink_plan self.old) }
     {
-        self.turns.fail_at(call)
+        self.plan.fail_at(call)
     }
 
     pub fn bytes(&self) -> &[u8]
@@ -67,7 +67,7 @@ impl Sink for MemSink {
         ensures due { IsTrue (is_due (sink_plan self.old)) → IsErr result }
         ensures plan { sink_plan self.new ≡ next_call (sink_plan self.old) }
     {
-        let fails = self.turns.next();
+        let fails = self.plan.next();
         let kept = !fails && self.bytes.extend_from_slice(bytes).is_ok();
         if kept {
             Ok(())

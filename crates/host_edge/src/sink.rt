@@ -1,7 +1,8 @@
 //! A place for bytes, as a program relies on it.
 
 ghost use Rattle.std.specs.Prelude.{◌≡◌, ◌≤◌, ◌++◌, OnOk, OnErr};
-ghost use Rattle.host_edge.specs.Views.{SinkView, Told, Rose, AppendsPart};
+ghost use Rattle.host_edge.specs.Views.{SinkView, Told, AppendsPart};
+ghost use Rattle.fault_counts.specs.Counts.{Rose};
 
 use crate::answer::Failed;
 

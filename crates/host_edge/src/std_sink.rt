@@ -2,12 +2,13 @@
 
 ghost use Rattle.std.specs.Prelude.{◌≡◌, ◌≤◌, ◌++◌, OnOk, OnErr};
 ghost use Rattle.host_edge.specs.Disk.{std_view};
-ghost use Rattle.host_edge.specs.Views.{SinkView, Told, Rose, AppendsPart, raised};
+ghost use Rattle.host_edge.specs.Views.{SinkView, Told, AppendsPart};
+ghost use Rattle.fault_counts.specs.Counts.{Rose, raised};
 
 use crate::answer::Failed;
-use crate::count::raised;
 use crate::sink::Sink;
 use crate::stream::write_whole;
+use fault_counts::raised;
 use std::io::Write;
 
 /// Puts to a writer. It tells what the writer tells of its bytes, and standard output tells

@@ -1,6 +1,6 @@
 -- Columns of a stage.
 use Rattle.std.proofs.Common.{◌≡◌, ℕ, zero, suc, ◌+◌, ◌-◌, ◌*◌, ◌/◌, ◌%◌, ◌^◌, ◌<◌, ◌≤◌, Bool, true}
-use Rattle.std.proofs.Common.{false, List, [], ◌∷◌, ◌++◌, length, get_or, take, drop, map, refl}
+use Rattle.std.proofs.Common.{false, List, ◌∷◌, ◌++◌, length, get_or, take, drop, map, refl}
 use Rattle.std.proofs.Common.{sym, ap, ◌∙◌, arith, inl, inr, mul-le-mul_right, mul_comm, mul-add}
 use Rattle.std.specs.List.{range_with_len}
 use Rattle.std.proofs.Math.Nat.{pow-succ'}
@@ -10,8 +10,8 @@ use Rattle.std.proofs.lemmas.List.{drop-append-le, take-append-le}
 use Rattle.std.proofs.lemmas.List.FromFn.{length-range_with_len, get_or-range_with_len}
 use Rattle.std.proofs.lemmas.Bool.{cases_lt}
 use mir.Val.{bool_byte}
-use Rattle.bit_rows.specs.Bits.{bits, value, bit_number, bit_at, bit_in, bits_of_words}
-use Rattle.bit_rows.proofs.Words.{words-at, bits-at, bits-cons}
+use Rattle.bit_rows.specs.Bits.{value, bit_number, bit_at, bit_in, bits_of_words}
+use Rattle.bit_rows.proofs.Words.{words-at}
 use Rattle.dram_model.specs.declared.address.Cell.TheVariants.{D}
 use Rattle.dram_model.specs.Column.{Column, blank}
 use Rattle.dram_model.specs.Chip.{row_in}
@@ -151,24 +151,3 @@ columns_read words base n count stage columns e rows =
     ∙ sym (get_or-map (number base n) columns c blank 0 there))
 
 -- ---- transposing
-
-bits-of-value : (bs : List Bool) → bits (value bs) (length bs) ≡ bs
-unfolding bits
-bits-of-value [] = refl
-bits-of-value (b ∷ bs) =
-    let e : bit_number b + 2 * value bs ≡ 2 * value bs + bit_number b = omega arith in
-    ap (λ (v : ℕ). bits v (suc (length bs))) e ∙ bits-cons (value bs) (length bs) b
-    ∙ ap (λ (cs : List Bool). b ∷ cs) (bits-of-value bs)
-
--- the bits of the number that they spell
-pub bit-value : (f : ℕ → Bool) (n j : ℕ) → j < n
-    → bit_at (value (map f (range_with_len 0 n))) j ≡ f j
-bit-value f n j l =
-    let size : length (map f (range_with_len 0 n)) ≡ n = length-map (range_with_len 0 n) f
-    ∙ length-range_with_len 0 n in
-    let inside : j < length (range_with_len 0 n) = omega (arith, length-range_with_len 0 n) in
-    let at : get_or (range_with_len 0 n) j 0 ≡ j = get_or-range_with_len 0 n j 0 l ∙ omega arith in
-    sym (bits-at (value (map f (range_with_len 0 n))) (length (map f (range_with_len 0 n))) j
-    (omega (arith, size)))
-    ∙ ap (λ (bs : List Bool). bit_in bs j) (bits-of-value (map f (range_with_len 0 n)))
-    ∙ get_or-map f (range_with_len 0 n) j 0 false inside ∙ ap f at

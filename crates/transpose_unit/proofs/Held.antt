@@ -88,13 +88,6 @@ taken_before base v a (suc n) row s h = taken_before base v (a + 1) n row
     (drive (plain (D (base + a))) (bit_at v a) s) (omega arith)
     ∙ rw (ne_eqb (base + a) row (λ e. absurd (omega arith))) refl
 
-taken_past : (base v a n row : ℕ) (s : Column) → base + a + n ≤ row
-    → taken base v a n s (D row) ≡ s (D row)
-taken_past base v a zero row s h = refl
-taken_past base v a (suc n) row s h = taken_past base v (a + 1) n row
-    (drive (plain (D (base + a))) (bit_at v a) s) (omega arith)
-    ∙ rw (ne_eqb (base + a) row (λ e. absurd (omega arith))) refl
-
 taken_own : (base v a n k : ℕ) (s : Column) → a ≤ k → k < a + n
     → taken base v a n s (D (base + k)) ≡ bit_at v k
 taken_own base v a zero k s l h = absurd (omega arith)

@@ -1,3 +1,4 @@
+mod Exchanges
 mod Sets
 mod Events
 mod Columns

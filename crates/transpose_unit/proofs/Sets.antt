@@ -47,19 +47,6 @@ pub column_others : (words w k x : ℕ) (stage : List ℕ) (j v : ℕ) → w < w
 column_others words w k x stage j v l m ne = get_or-set_other stage (k * words + w) (j * words + v)
     x 0 (λ same. ne (grid_one words j v k w m l same).1)
 
--- a word of the transpose more
-pub transposed_more : (old m : List ℕ) (i word : ℕ) → i < length m
-    → ((j : ℕ) → j < 64 → bit_at word j ≡ bit_at (get_or old j 0) i)
-    → ((k j : ℕ) → k < i → j < 64 → bit_at (get_or m k 0) j ≡ bit_at (get_or old j 0) k)
-    → (k j : ℕ) → k < i + 1 → j < 64 → bit_at (get_or (set m i word) k 0) j
-    ≡ bit_at (get_or old j 0) k
-transposed_more old m i word l e h k j lt lj = elim (cases_lt k i) [
-  | inl less ↦ (let other : k ≢ i = λ same. absurd (omega arith) in
-      ap (λ x. bit_at x j) (get_or-set_other m i k word 0 other) ∙ h k j less lj)
-  | inr ge ↦ (let same : k ≡ i = omega arith in
-      rw same (ap (λ x. bit_at x j) (get_or-set_same m i word 0 l) ∙ e j lj))
-]
-
 -- a bit of 64 bits from a place on
 pub bit-part : (v a k n : ℕ) → k < n → bit_at (v / 2 ^ a % 2 ^ n) k ≡ bit_at v (a + k)
 bit-part v a k n l =

@@ -1,5 +1,6 @@
 -- Numbers in rows: the stage that holds the rows of one bank, and what the writes of an object
 -- leave.
 pub mod Stage
+pub mod Exchange
 pub mod Laws
 pub use Rattle.dram_model.specs.Elements

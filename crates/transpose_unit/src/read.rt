@@ -10,8 +10,7 @@ ghost use Rattle.dram_model.specs.Elements.{number, column_count};
 ghost use Rattle.transpose_unit.specs.Stage.{stage_rows, stage_row, stage_number};
 
 use crate::stage::stage_rows;
-use crate::transpose::word_bit;
-use bit_rows::{Value, WIDTH_MAX};
+use bit_rows::{Value, WIDTH_MAX, bit_of_word};
 use dram_model::{ChipFault, Dram, Geometry};
 
 /// That column's number, from a stage that `read_segment` filled with n rows.
@@ -26,7 +25,7 @@ pub fn read_column(stage: &[u64], n: u8, column: u32) -> Value
     let mut v: Value = 0;
     for k in (0..n).rev() {
         let at = usize::from(k) * words + word;
-        v = 2 * v + word_bit(stage[at], (column % 64) as u8) as Value;
+        v = 2 * v + bit_of_word(stage[at], (column % 64) as u8) as Value;
     }
     v
 }

@@ -29,9 +29,10 @@ loop-k-preserved c =
     ≡ bit_at (get_or stage (k * words + column / 64) 0) (column % 64) =
     ap (λ (j : ℕ). bit_at (get_or stage (j * words + column / 64) 0) (column % 64)) c.from.ensures
     in
-    let bit = c.word_bit.ensures ∙ at ∙ sym (stage_bit words k column stage (omega arith) inside) in
+    let bit = c.bit_of_word.ensures ∙ at ∙ sym (stage_bit words k column stage (omega arith) inside)
+    in
     let more = value_more (λ j. bit_in (bits_of_words (stage_row words stage j)) column) c.args.n
-    c.loop-k.k c.loop-k.v c.word_bit.result c.loop-k-test.true c.loop-k.auto.k bit h.small
+    c.loop-k.k c.loop-k.v c.bit_of_word.result c.loop-k-test.true c.loop-k.auto.k bit h.small
     h.value in
     record { small = more.0; value = more.1 }
 
@@ -47,7 +48,7 @@ overflow_add-v c = omega (
   arith,
   one-more c.args.n c.loop-k.k c.loop-k.v c.loop-k-test.true
       c.loop-k.auto.k c.requires.narrow c.loop-k.invariant.small,
-  byte-small c.word_bit.result,
+  byte-small c.bit_of_word.result,
 )
 
 pub overflow_mul-at : goal.overflow_mul-at

@@ -1,6 +1,6 @@
 use Rattle.std.proofs.Common.{◌≡◌, ◌∙◌, ◌<◌, ap, arith, Bool}
-use Rattle.bit_rows.specs.Bits.{bit_in}
 use Rattle.dram_model.specs.Column.{Column, settle as settle_of, sense as sense_of, step}
+use Rattle.dram_model.specs.Column.{read as read_of}
 use Rattle.dram_model.specs.declared.address.Addr.{Addr}
 use Rattle.dram_model.specs.declared.address.Command.TheVariants.{Ap, Aap}
 use Rattle.dram_chip.specs.Rows.{column_at, columns_of}
@@ -13,8 +13,10 @@ then-second x y v s t u e f g = g ∙ ap (settle_of y v) f ∙ ap (λ b. settle_
 
 pub returns-clause-stepped : goal.returns-clause-stepped
 returns-clause-stepped c = λ k h.
-    let below : k < columns_of c.ap.new.self.cells = omega (arith, c.ap.ensures.columns) in
-    then-second c.args.x c.args.y (bit_in c.ap.new.self.sensed k)
-    (column_at c.args.self.now.cells k) (column_at c.ap.new.self.cells k)
-    (column_at c.settle.new.cells k)
-    (c.ap.ensures.sensed k h) (c.ap.ensures.stepped k h) (c.settle.ensures.settled k below)
+    let below : k < columns_of c.activate-line.new.self =
+    omega (arith, c.activate-line.ensures.columns) in
+    then-second c.args.x c.args.y (read_of (column_at c.activate-line.new.self k)
+    c.activate-line.result) (column_at c.args.self.now k) (column_at c.activate-line.new.self k)
+    (column_at c.settle.new.self k)
+    (c.activate-line.ensures.sensed k h) (c.activate-line.ensures.stepped k h)
+    (c.settle.ensures.settled k below)

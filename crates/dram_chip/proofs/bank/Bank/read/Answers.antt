@@ -1,10 +1,11 @@
-use Rattle.std.proofs.Common.{◌∙◌, length, ap}
-use Rattle.std.proofs.lemmas.Bool.{lt-ltb}
-use Rattle.dram_model.specs.declared.address.Cell.TheVariants.{D}
-use Rattle.dram_chip.specs.Rows.{rows_of}
+use Rattle.std.proofs.Common.{◌≡◌, length, arith}
+use Rattle.dram_chip.proofs.Cells.{got-row}
 use Rattle.dram_chip.proofs.bank.Bank.read.Goals as goal
 
-pub get_words-requires : goal.get_words-requires
-get_words-requires c = ap length c.row.ensures
-    ∙ c.requires.ready.shaped.even (D c.args.row)
-    (lt-ltb c.args.row (rows_of c.args.self.now.cells) c.requires.row) ∙ c.requires.fits
+pub returns-clause-read : goal.returns-clause-read
+returns-clause-read c = λ k h.
+    let fits : length c.get_row.new.out ≡ c.args.self.now.words =
+    omega (arith, c.requires.fits, c.get_row.ensures.length) in
+    got-row c.args.self.now.words c.args.row k c.start-from.result c.args.self.now.all.items
+    c.deref.result.now c.get_row.new.out c.deref.ensures.value fits h c.start-from.ensures.start
+    (λ q r l. c.get_row.ensures.got q r (omega (arith, c.get_row.ensures.length)))

@@ -1,23 +1,22 @@
-use Rattle.std.proofs.Common.{◌∙◌, length, sym, ap}
-use Rattle.bit_rows.specs.Bits.{bit_in}
-use Rattle.bit_rows.proofs.Words.{length-words}
-use Rattle.dram_model.specs.declared.address.Cell.TheVariants.{D}
-use Rattle.dram_model.specs.Column.{drive, plain}
-use Rattle.dram_chip.specs.Rows.{column_at}
+use Rattle.std.proofs.Common.{◌≡◌, ◌∙◌, ap, length, arith}
+use Rattle.dram_chip.proofs.Cells.{ready-with, column-with, set-row, set-constants}
 use Rattle.dram_chip.proofs.bank.Bank.write.Goals as goal
 
-pub store-requires-clause-fits : goal.store-requires-clause-fits
-store-requires-clause-fits c = ap length c.set_words.ensures.bits ∙ length-words c.args.words.now
-    ∙ sym c.requires.fits
-
 pub returns-clause-ready : goal.returns-clause-ready
-returns-clause-ready c = record {
-  shaped = c.store.ensures.shaped;
-  sensed = ap length c.set_words.ensures.bits ∙ length-words c.args.words.now
-      ∙ sym c.requires.fits ∙ sym c.store.ensures.columns;
-}
+returns-clause-ready c =
+    let fits : length c.args.words.now ≡ c.args.self.now.words = omega (arith, c.requires.fits) in
+    ready-with c.args.self.now c.set_row.new.all c.requires.ready (c.set_row.ensures.length
+    ∙ ap length c.deref_mut.ensures.value)
+    (set-constants c.args.self.now.words c.args.row c.start-to.result c.args.self.now.all.items
+    c.deref_mut.result.now c.set_row.new.all c.args.words.now c.deref_mut.ensures.value fits
+    c.requires.ready.constant
+    c.start-to.ensures.start c.set_row.ensures.below c.set_row.ensures.above)
 
 pub returns-clause-written : goal.returns-clause-written
-returns-clause-written c = λ k h. c.store.ensures.driven k h
-    ∙ ap (λ row. drive (plain (D c.args.row)) (bit_in row k) (column_at c.args.self.now.cells k))
-    c.set_words.ensures.bits
+returns-clause-written c = λ k h.
+    let fits : length c.args.words.now ≡ c.args.self.now.words = omega (arith, c.requires.fits) in
+    column-with c.args.self.now c.set_row.new.all k (c.set_row.ensures.length
+    ∙ ap length c.deref_mut.ensures.value)
+    ∙ set-row c.args.self.now.words c.args.row k c.start-to.result c.args.self.now.all.items
+    c.deref_mut.result.now c.set_row.new.all c.args.words.now c.deref_mut.ensures.value fits h
+    c.start-to.ensures.start c.set_row.ensures.set c.set_row.ensures.below c.set_row.ensures.above

@@ -38,5 +38,5 @@ returns-clause-read c =
     fits-at _ _ c.args.bank c.index.result.now has c.requires.bank c.index.ensures in
     bank-gave-row c.args.self.now.banks.items c.args.bank c.index.result.now c.args.row
     (bits_of_words c.read.new.words) (omega (arith, has.count, c.requires.bank)) c.index.ensures
-    c.read.ensures.read (length-words c.read.new.words
-    ∙ ap (λ n. 64 * n) (c.read.ensures.length ∙ c.requires.words) ∙ sym fits.columns)
+    (length-words c.read.new.words ∙ ap (λ n. 64 * n) (c.read.ensures.length ∙ c.requires.words)
+    ∙ sym fits.columns) c.read.ensures.read

@@ -1,0 +1,102 @@
+//! Rows of equal length that stand one after another in a slice of words.
+
+ghost use Rattle.std.specs.Prelude.{◌≡◌, ℕ, ◌<◌, ◌+◌, ◌≤◌, ◌⊎◌, length, slice_index, true};
+ghost use Rattle.bit_rows.specs.Bits.{word_bit, flip_if, majority};
+
+use bit_rows::{settle3, store, store_not, turn};
+
+/// Copies each bit, or its complement.
+fn put(src: &[u64], dst: &mut [u64], inverted: bool)
+    requires { length src.now ≡ length dst.old }
+    ensures length { length dst.new ≡ length dst.old }
+    ensures bits { (q r : ℕ) → q < length dst.old → r < 64
+        → word_bit dst.new q r ≡ flip_if inverted (word_bit src.now q r) }
+{
+    if inverted {
+        store_not(src, dst);
+    } else {
+        store(src, dst);
+    }
+}
+
+/// The row of `n` words at `to` takes the row at `from`, or its complement. The two are one row, or
+/// apart.
+pub fn move_row(all: &mut [u64], n: usize, from: usize, to: usize, inverted: bool)
+    requires from { from + n ≤ length all.old }
+    requires to { to + n ≤ length all.old }
+    requires apart { (from ≡ to) ⊎ (from + n ≤ to) ⊎ (to + n ≤ from) }
+    ensures length { length all.new ≡ length all.old }
+    ensures moved { (q r : ℕ) → q < n → r < 64 → word_bit all.new (to + q) r
+        ≡ flip_if inverted (word_bit all.old (from + q) r) }
+    ensures below { (k : ℕ) → k < to → slice_index all.new k ≡ slice_index all.old k }
+    ensures above { (k : ℕ) → to + n ≤ k → slice_index all.new k ≡ slice_index all.old k }
+{
+    if from < to {
+        let (low, high) = all.split_at_mut(to);
+        put(&low[from..from + n], &mut high[..n], inverted);
+    } else if to < from {
+        let (low, high) = all.split_at_mut(from);
+        put(&high[..n], &mut low[to..to + n], inverted);
+    } else if inverted {
+        turn(&mut all[to..to + n]);
+    }
+}
+
+/// Each of the rows of `n` words at `a`, `b` and `c` takes their majority.
+pub fn settle_rows(all: &mut [u64], n: usize, a: usize, b: usize, c: usize)
+    requires a { a + n ≤ b }
+    requires b { b + n ≤ c }
+    requires c { c + n ≤ length all.old }
+    ensures length { length all.new ≡ length all.old }
+    ensures a { (q r : ℕ) → q < n → word_bit all.new (a + q) r
+        ≡ majority (word_bit all.old (a + q) r) (word_bit all.old (b + q) r)
+        (word_bit all.old (c + q) r) }
+    ensures b { (q r : ℕ) → q < n → word_bit all.new (b + q) r
+        ≡ majority (word_bit all.old (a + q) r) (word_bit all.old (b + q) r)
+        (word_bit all.old (c + q) r) }
+    ensures c { (q r : ℕ) → q < n → word_bit all.new (c + q) r
+        ≡ majority (word_bit all.old (a + q) r) (word_bit all.old (b + q) r)
+        (word_bit all.old (c + q) r) }
+    ensures others { (k : ℕ) → ((k < a) ⊎ (a + n ≤ k)) → ((k < b) ⊎ (b + n ≤ k))
+        → ((k < c) ⊎ (c + n ≤ k)) → slice_index all.new k ≡ slice_index all.old k }
+{
+    let (low, rest) = all.split_at_mut(b);
+    let (mid, high) = rest.split_at_mut(c - b);
+    settle3(&mut low[a..a + n], &mut mid[..n], &mut high[..n]);
+}
+
+/// The row of words at `to` takes these words.
+pub fn set_row(all: &mut [u64], to: usize, src: &[u64])
+    requires { to + length src.now ≤ length all.old }
+    ensures length { length all.new ≡ length all.old }
+    ensures set { (q r : ℕ) → q < length src.now → word_bit all.new (to + q) r
+        ≡ word_bit src.now q r }
+    ensures below { (k : ℕ) → k < to → slice_index all.new k ≡ slice_index all.old k }
+    ensures above { (k : ℕ) → to + length src.now ≤ k
+        → slice_index all.new k ≡ slice_index all.old k }
+{
+    store(src, &mut all[to..to + src.len()]);
+}
+
+/// Gives the words of the row at `from`.
+pub fn get_row(all: &[u64], from: usize, out: &mut [u64])
+    requires { from + length out.old ≤ length all.now }
+    ensures length { length out.new ≡ length out.old }
+    ensures got { (q r : ℕ) → q < length out.old → word_bit out.new q r
+        ≡ word_bit all.now (from + q) r }
+{
+    store(&all[from..from + out.len()], out);
+}
+
+/// Makes each bit of the row of `n` words at `to` a one.
+pub fn set_ones(all: &mut [u64], to: usize, n: usize)
+    requires { to + n ≤ length all.old }
+    ensures length { length all.new ≡ length all.old }
+    ensures ones { (q r : ℕ) → q < n → r < 64 → word_bit all.new (to + q) r ≡ true }
+    ensures below { (k : ℕ) → k < to → slice_index all.new k ≡ slice_index all.old k }
+    ensures above { (k : ℕ) → to + n ≤ k → slice_index all.new k ≡ slice_index all.old k }
+{
+    for i in to..to + n {
+        all[i] = u64::MAX;
+    }
+}

@@ -1,0 +1,3 @@
+-- Counts of faults, and calls some of which are to fail.
+pub mod Counts
+pub mod Plans
