@@ -11,3 +11,4 @@ pub mod Sound
 pub mod Renaming
 pub mod Checked
 pub mod Chosen
+pub mod Fixed
