@@ -1,12 +1,13 @@
 //! Majority graphs that grow.
 
 ghost use Rattle.std.specs.Prelude.{◌≡◌, ◌<◌, ◌≤◌, ℕ, Bool, IfOk, OnErr, Ok, true, false, length};
-ghost use Rattle.std.specs.Prelude.{◌+◌, ◌-◌, ◌^◌, [], ◌∷◌};
+ghost use Rattle.std.specs.Prelude.{◌+◌, ◌-◌, ◌^◌, ◌++◌, [], ◌∷◌};
 ghost use Rattle.bit_rows.specs.Bits.{majority};
 ghost use Rattle.mig_graph.specs.declared.Lit.{Lit};
 ghost use Rattle.mig_graph.specs.Literals.{complement, node_of, SameThree, IsAnyOrder, inversions};
 ghost use Rattle.mig_graph.specs.Literals.{NamesThree, node_value, IsLower};
 ghost use Rattle.mig_graph.specs.Graph.{node_at, size_of, value, values, IsGraph, GrewByOne};
+ghost use Rattle.mig_graph.specs.Graph.{IsFresh};
 
 use crate::nodes::{simple, sorted, store, turned};
 use crate::{Lit, NoMemory, Node};
@@ -80,6 +81,8 @@ impl Mig {
         ensures standing { (k : ℕ) → k < length self.old.nodes
             → SameThree (node_at self.old.nodes k) n → (result ≡ Ok (self.old.inputs + 1 + k))
             × (self.new ≡ self.old) }
+        ensures fresh { IfOk result (λ k. IsFresh self.old.nodes n → (k ≡ size_of self.old)
+            × (self.new.nodes ≡ self.old.nodes ++ n ∷ [])) }
         ensures inputs { self.new.inputs ≡ self.old.inputs }
         ensures grew { GrewByOne self.old self.new }
         ensures graph { IsGraph self.new.inputs self.new.nodes }
@@ -113,6 +116,10 @@ impl Mig {
             (node_of (complement a) (complement b) (complement c))
             → (result ≡ Ok (record { node = self.old.inputs + 1 + k; inverted = true }))
             × (self.new ≡ self.old) }
+        ensures fresh { IfOk result (λ l. IsFresh self.old.nodes (node_of a b c)
+            → inversions (node_of a b c) ≤ 1
+            → (l ≡ record { node = size_of self.old; inverted = false })
+            × (self.new.nodes ≡ self.old.nodes ++ node_of a b c ∷ [])) }
         ensures inputs { self.new.inputs ≡ self.old.inputs }
         ensures grew { GrewByOne self.old self.new }
         ensures kept { (bits : ℕ → Bool) (l : Lit) → l.node < size_of self.old

@@ -10,3 +10,5 @@ pub mod OnBanks
 pub mod Sound
 pub mod Renaming
 pub mod Checked
+pub mod Chosen
+pub mod Fixed

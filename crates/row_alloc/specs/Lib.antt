@@ -7,3 +7,5 @@ pub mod Numbering
 pub mod Symbolic
 pub mod Table
 pub mod Phases
+pub mod Order
+pub mod Known

@@ -6,7 +6,10 @@ ghost use Rattle.dram_model.specs.Column.{is_legal as is_legal_command};
 ghost use Rattle.mig_graph.specs.Graph.{Graph};
 ghost use Rattle.row_alloc.specs.declared.body.OutRow.{OutRow};
 ghost use Rattle.row_alloc.specs.declared.body.BodyCmd.{BodyCmd};
-ghost use Rattle.row_alloc.specs.Rows.{Rows, AreApart, bound};
+ghost use Rattle.row_alloc.specs.Rows.{Rows, AreApart, bound, out_at};
+ghost use Rattle.row_alloc.specs.declared.known.TheConstants.{NOT, AND, OR, XOR, ADD};
+ghost use Rattle.row_alloc.specs.Known.{Serves, plain, turned, not_graph, and_graph, or_graph};
+ghost use Rattle.row_alloc.specs.Known.{xor_graph, add_graph};
 ghost use Rattle.row_alloc.specs.Legal.{are_legal};
 ghost use Rattle.row_alloc.specs.Body.{FitBody};
 ghost use Rattle.row_alloc.specs.Numbering.{own_rows, AreBelow};
@@ -22,4 +25,22 @@ pub fn legal_bodies_are_legal_on_banks()
     ensures { (limit inputs outputs : ℕ) (rows : Rows) (cmds : List BodyCmd)
         → AreBelow limit rows inputs outputs → are_legal inputs outputs cmds ≡ true
         → list_all (is_legal_command limit) (map (bound rows) cmds) ≡ true }
+{}
+
+/// The known sequences for the bodies of `not`, `and`, `or`, `xor` and `add` serve, in whichever
+/// inputs' rows the outputs stand. Their numbers of commands are 2, 4, 4, 7 and 9.
+pub fn fixed_sequences_serve()
+    ensures inverts { (outs : List OutRow) → FitBody not_graph outs → length outs ≡ 1
+        → (out_at outs 0).lit ≡ turned 1 → Serves not_graph outs NOT }
+    ensures joins { (outs : List OutRow) → FitBody and_graph outs → length outs ≡ 1
+        → (out_at outs 0).lit ≡ plain 3 → Serves and_graph outs AND }
+    ensures either { (outs : List OutRow) → FitBody or_graph outs → length outs ≡ 1
+        → (out_at outs 0).lit ≡ plain 3 → Serves or_graph outs OR }
+    ensures differs { (outs : List OutRow) → FitBody xor_graph outs → length outs ≡ 1
+        → (out_at outs 0).lit ≡ plain 5 → Serves xor_graph outs XOR }
+    ensures adds { (outs : List OutRow) → FitBody add_graph outs → length outs ≡ 2
+        → (out_at outs 0).lit ≡ plain 6 → (out_at outs 1).lit ≡ plain 4
+        → Serves add_graph outs ADD }
+    ensures lengths { (length NOT ≡ 2) × (length AND ≡ 4) × (length OR ≡ 4) × (length XOR ≡ 7)
+        × (length ADD ≡ 9) }
 {}

@@ -7,8 +7,11 @@
 
 mod body;
 mod check;
+mod greedy;
+mod known;
 mod laws;
 mod legal;
+mod order;
 mod pieces;
 mod plain;
 mod sensing;
@@ -16,6 +19,7 @@ mod table;
 
 pub use body::{BodyCmd, BodyRef, OutRow};
 pub use check::check_body;
-pub use laws::{legal_bodies_are_legal_on_banks, rows_can_stand_apart};
+pub use greedy::greedy_body;
+pub use laws::{fixed_sequences_serve, legal_bodies_are_legal_on_banks, rows_can_stand_apart};
 pub use mig_graph::NoMemory;
 pub use plain::plain_body;

@@ -265,7 +265,7 @@ static ROOMS: [(u8, u8, &str); 2] = [
     (
         7,
         0,
-        "1 ok aap=129 ap=0\ntotal aap=129 ap=0 writes=64 reads=64 refused=0\n",
+        "1 ok aap=65 ap=8\ntotal aap=65 ap=8 writes=64 reads=64 refused=0\n",
     ),
 ];
 
@@ -324,7 +324,7 @@ fn counts_follow_the_reduced_graph(rt: HostRuntime) -> Result<(), Fail> {
     let ended = run(REDUCED, "bbop_f y, a, b, c, 64, 8", &image, alloc)?;
     assert_eq!(rt;
         ended.out.bytes(),
-        b"1 ok aap=80 ap=0\ntotal aap=80 ap=0 writes=128 reads=128 refused=0\n".as_slice()
+        b"1 ok aap=48 ap=0\ntotal aap=48 ap=0 writes=128 reads=128 refused=0\n".as_slice()
     );
     Ok(())
 }

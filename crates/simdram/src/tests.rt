@@ -64,15 +64,15 @@ static CASES: [Case; 11] = [
         ops: AND,
         script: JOB,
         status: 0,
-        report: "1 ok aap=6 ap=0\ntotal aap=6 ap=0 writes=64 reads=64 refused=0\n",
+        report: "1 ok aap=4 ap=0\ntotal aap=4 ap=0 writes=64 reads=64 refused=0\n",
     },
     // other names, and a result that is read again
     Case {
         ops: "# bits\nop and(l: word, r: word) -> both: word { both = and(l, r); }",
         script: "\n# twice\nbbop_and y, a, b, 4, 1\n\nbbop_and a, y, b, 4, 1",
         status: 0,
-        report: "1 ok aap=6 ap=0\n2 ok aap=6 ap=0\n\
-            total aap=12 ap=0 writes=64 reads=64 refused=0\n",
+        report: "1 ok aap=4 ap=0\n2 ok aap=4 ap=0\n\
+            total aap=8 ap=0 writes=64 reads=64 refused=0\n",
     },
     // each reply
     Case {
@@ -84,14 +84,14 @@ static CASES: [Case; 11] = [
         status: 8,
         report: "1 refused no_op\n2 refused arity\n3 refused arity\n4 refused no_object 0\n\
             5 refused no_object 2\n6 refused width 0\n7 refused size 0\n8 refused size 1\n\
-            9 refused overlap 1\n10 ok aap=6 ap=0\n\
-            total aap=6 ap=0 writes=64 reads=64 refused=9\n",
+            9 refused overlap 1\n10 ok aap=4 ap=0\n\
+            total aap=4 ap=0 writes=64 reads=64 refused=9\n",
     },
     Case {
         ops: BITS,
         script: "bbop_or y, a, b, 4, 1\nbbop_not y, a, 4, 1\n",
         status: 0,
-        report: "1 ok aap=6 ap=0\n2 ok aap=3 ap=0\ntotal aap=9 ap=0 writes=64 reads=64 refused=0\n",
+        report: "1 ok aap=4 ap=0\n2 ok aap=2 ap=0\ntotal aap=6 ap=0 writes=64 reads=64 refused=0\n",
     },
     Case {
         ops: AND,
@@ -162,7 +162,7 @@ fn first_job_writes_its_files(rt: HostRuntime) -> Result<(), Fail> {
     let mut out = MemSink::new(alloc);
     let mut chip = Chip::new(alloc);
     assert_eq!(rt; simdram(&WORDS, &mut files, &mut out, &mut chip, alloc), 0);
-    assert_eq!(rt; files.file("prog").map(|bytes| bytes.len()), Some(147));
+    assert_eq!(rt; files.file("prog").map(|bytes| bytes.len()), Some(131));
     let after = files.file("out").ok_or("no image")?;
     assert_eq!(rt; after.len(), 622);
     // 0x0C and 0x0A is 0x08, in row 2; all others below the spill group's 32 rows are as they were
@@ -303,7 +303,7 @@ static FAILINGS: [Failing; 11] = [
         put: 0,
         chip_call: 0,
         status: 3,
-        report: "1 ok aap=6 ap=0\ncannot write out\n",
+        report: "1 ok aap=4 ap=0\ncannot write out\n",
         prog_stored: true,
         out_stored: false,
     },
@@ -321,7 +321,7 @@ static FAILINGS: [Failing; 11] = [
         put: 2,
         chip_call: 0,
         status: 3,
-        report: "1 ok aap=6 ap=0\n",
+        report: "1 ok aap=4 ap=0\n",
         prog_stored: true,
         out_stored: true,
     },
@@ -346,18 +346,18 @@ static FAILINGS: [Failing; 11] = [
     Failing {
         folder_call: 0,
         put: 0,
-        chip_call: 135,
+        chip_call: 133,
         status: 9,
-        report: "1 ok aap=6 ap=0\nchip fault\n",
+        report: "1 ok aap=4 ap=0\nchip fault\n",
         prog_stored: true,
         out_stored: false,
     },
     Failing {
         folder_call: 0,
         put: 0,
-        chip_call: 136,
+        chip_call: 134,
         status: 0,
-        report: "1 ok aap=6 ap=0\ntotal aap=6 ap=0 writes=64 reads=64 refused=0\n",
+        report: "1 ok aap=4 ap=0\ntotal aap=4 ap=0 writes=64 reads=64 refused=0\n",
         prog_stored: true,
         out_stored: true,
     },

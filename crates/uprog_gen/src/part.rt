@@ -13,7 +13,7 @@ use crate::plan::{Plan, plan_of};
 use loop_ir::{Body, Place};
 use mig_graph::NoMemory;
 use no_memory::keep;
-use row_alloc::{BodyCmd, OutRow, plain_body};
+use row_alloc::{BodyCmd, OutRow, greedy_body};
 use std::alloc::Global;
 
 /// What is made of a body: its plan, its outputs' rows and its commands.
@@ -71,6 +71,6 @@ pub fn make_part(body: &Body, alloc: Global) -> Result<Made, NoMemory>
 {
     let plan = plan_of(body, alloc)?;
     let outs = out_rows(body, alloc)?;
-    let cmds = plain_body(&body.graph.mig, &outs, alloc)?;
+    let cmds = greedy_body(&body.graph.mig, &outs, alloc)?;
     Ok(Made { plan, outs, cmds })
 }

@@ -1,7 +1,7 @@
 -- add, sub, shl1, shr1 and abs.
 use Rattle.std.proofs.Common.{◌≡◌, ℕ, suc, ◌+◌, ◌-◌, ◌*◌, ◌^◌, ◌%◌, ◌/◌, ◌<◌, Bool, true, false}
 use Rattle.std.proofs.Common.{not, cond, List, [], ◌∷◌, refl, sym, ap, ◌∙◌, subst, arith}
-use Rattle.std.specs.Prelude.{nat_lt}
+use Rattle.std.specs.Prelude.{nat_lt, ◌&&◌, ◌||◌}
 use Rattle.bit_rows.specs.Bits.{majority}
 use Rattle.mig_graph.specs.Graph.{values_from}
 use Rattle.op_text.specs.declared.tree.Kind.TheVariants.{Word}
@@ -11,11 +11,11 @@ use Rattle.loop_ir.specs.declared.ir.Place.{Place}
 use Rattle.loop_ir.specs.Spots.{set_spot}
 use Rattle.loop_laws.specs.Turns.{Origin, Standing, Carried, turn}
 use Rattle.loop_laws.specs.Rooms.{placed_body}
-use Rattle.loop_laws.proofs.Same.{set_same, set_other}
+use Rattle.loop_laws.proofs.Same.{set_same}
 use Rattle.loop_laws.proofs.Steps.{steps_each}
 use Rattle.loop_laws.proofs.Placed.{AllBefore}
 use Rattle.word_lower.specs.Places.{scratch_bit}
-use Rattle.word_lower.specs.Programs.{target, first, second, third, plain, turned, shifted, added}
+use Rattle.word_lower.specs.Programs.{target, first, second, third, plain, shifted, added}
 use Rattle.word_lower.specs.Programs.{lessened, turned_by}
 use Rattle.word_lower.proofs.Setting.{bit, number, Slots, rooms_for, at, row, IsFree, AreSlots}
 use Rattle.word_lower.proofs.Setting.{Gives, DoesWords}
@@ -34,9 +34,10 @@ added_digit false true false = refl
 added_digit false false true = refl
 added_digit false false false = refl
 
+-- a borrow, as the complement of a carry
 pub lessened_digit : (x y c : Bool)
-    → bit (not (majority y (majority x (not y) c) (not (majority x y c)))) + 2
-    * bit (majority x (not y) c) ≡ bit x + bit (not y) + bit c
+    → bit (majority (not c) (majority (not x) y c) (majority x (not y) c)) + 2
+    * bit (not (majority (not x) y c)) ≡ bit x + bit (not y) + bit (not c)
 unfolding majority
 lessened_digit true true true = refl
 lessened_digit true true false = refl
@@ -47,22 +48,25 @@ lessened_digit false true false = refl
 lessened_digit false false true = refl
 lessened_digit false false false = refl
 
-abbrev unlike_bit : Bool → Bool → Bool
-unlike_bit x t = majority false (not (majority false x t)) (majority true x t)
-
-turned_digit : (x t c : Bool)
-    → bit (majority false (not (majority false (unlike_bit x t) c))
-    (majority true (unlike_bit x t) c)) + 2 * bit (majority false (unlike_bit x t) c)
-    ≡ bit (xor2 t x) + bit c
+turned_bit : (x c : Bool) → majority (not c) (majority false (not x) c)
+    (majority true x (majority false (not x) c)) ≡ xor2 c x
 unfolding majority
-turned_digit true true true = refl
-turned_digit true true false = refl
-turned_digit true false true = refl
-turned_digit true false false = refl
-turned_digit false true true = refl
-turned_digit false true false = refl
-turned_digit false false true = refl
-turned_digit false false false = refl
+turned_bit true true = refl
+turned_bit true false = refl
+turned_bit false true = refl
+turned_bit false false = refl
+
+turned_state : (x t c : Bool) → majority t c (majority true x (majority false (not x) c))
+    ≡ c || (t && x)
+unfolding majority
+turned_state true true true = refl
+turned_state true true false = refl
+turned_state true false true = refl
+turned_state true false false = refl
+turned_state false true true = refl
+turned_state false true false = refl
+turned_state false false true = refl
+turned_state false false false = refl
 
 module _ (n : ℕ) (m : Slots) (are : AreSlots n n n 1 m) where
   f : IsFree n n n m (scratch_bit m.free_bit) 1
@@ -114,14 +118,14 @@ module _ (n : ℕ) (m : Slots) (are : AreSlots n n n 1 m) where
       let b = placed_body (rooms_for op.Sub m)
       (lessened (first sub.Inner) (second sub.Inner) (third sub.Zero) (target sub.Inner)) in
       let p = row n (scratch_bit m.free_bit) 0 in
-      let start = set_spot before p true in
+      let start = set_spot before p false in
       let c = λ (i : ℕ). turn n 0 b three start i 1 in
       subst (Gives op.Sub n n n 1 m before) (sym (steps_each n b [] start))
       (carry_does op.Sub n m are sub.Inner (λ v. v) (upwards n 0) b.reads b.graph.inputs
-      b.graph.nodes (turned 6) (plain 4) three true before
+      b.graph.nodes (plain 6) (plain 4) three false before
       (a_read, (b_read, ((omega arith, λ i j li lj. refl), tt)))
       (sub_gives (λ i. start (row n m.a i)) (λ i. start (row n m.b i)) (λ i.
-      turn n 0 b three start (suc i) 0) c n (set_same before p true p refl)
+      turn n 0 b three start (suc i) 0) (λ i. not (c i)) n (ap not (set_same before p false p refl))
       (λ i lt. lessened_digit (start (row n m.a i)) (start (row n m.b i)) (c i))))
 
   pub shl1_does : DoesWords op.Shl1 Word n n 1 m
@@ -146,25 +150,21 @@ module _ (n : ℕ) (m : Slots) (are : AreSlots n n n 1 m) where
       let b = placed_body (rooms_for op.Abs m)
       (turned_by (first sub.Inner) (first sub.Top) (second sub.Zero) (target sub.Inner)) in
       let p = row n (scratch_bit m.free_bit) 0 in
-      let v = before (row n m.a (n - 1)) in
-      let start = set_spot before p v in
+      let start = set_spot before p false in
       let c = λ (i : ℕ). turn n 0 b three start i 1 in
       let y = λ (i : ℕ). turn n 0 b three start (suc i) 0 in
       let a = λ (i : ℕ). start (row n m.a i) in
-      let top : v ≡ a (n - 1) =
-      sym (set_other before p v (row n m.a (n - 1)) (λ e.
-      f.a.by (n - 1) 0 (omega arith) (omega arith) e)) in
       let e : n ≡ suc (n - 1) = omega arith in
       let gives : (k : ℕ) → k ≡ suc (n - 1) → k ≡ n
       → number y k ≡ cond (nat_lt (number a k) (2 ^ (n - 1))) (number a k)
       ((2 ^ k - number a k) % 2 ^ k) =
       λ k g h. subst (λ (k : ℕ). number y k ≡ cond (nat_lt (number a k) (2 ^ (n - 1))) (number a k)
       ((2 ^ k - number a k) % 2 ^ k)) (sym g)
-      (abs_gives a y c (n - 1) (set_same before p v p refl
-      ∙ top) (λ i lt. turned_digit (a i) (a (n - 1)) (c i))) in
+      (abs_gives a y c (n - 1) (set_same before p false p refl) (λ i lt. turned_bit (a i) (c i))
+      (λ i lt. turned_state (a i) (a (n - 1)) (c i))) in
       subst (Gives op.Abs n n n 1 m before) (sym (steps_each n b [] start))
       (carry_does op.Abs n m are sub.Inner (λ v. v) (upwards n 0) b.reads b.graph.inputs
-      b.graph.nodes (plain 9) (plain 7) three v before
+      b.graph.nodes (plain 7) (plain 6) three false before
       (a_read, (top_read, ((omega arith, λ i j li lj. refl), tt)))
       (gives n e refl))
 

@@ -49,8 +49,8 @@ module _ (o : WordOp) (n : ℕ) (m : Slots) (are : AreSlots n 1 n 0 m) (reads : 
             ∙ set_other bits (row n m.target 0) v q (λ e. out.target 0 (omega arith) e);
       }
 
-agreed_bit : (x y e : Bool) → majority false e
-    (majority true (majority false x y) (not (majority true x y))) ≡ e && not (xor2 x y)
+agreed_bit : (x y e : Bool) → majority e (not (majority true x y)) (majority x y (not e))
+    ≡ e && not (xor2 x y)
 unfolding majority
 agreed_bit true true true = refl
 agreed_bit true true false = refl
@@ -61,7 +61,8 @@ agreed_bit false true false = refl
 agreed_bit false false true = refl
 agreed_bit false false false = refl
 
-unlike_bit : (x y : Bool) → majority false (not (majority false x y)) (majority true x y) ≡ xor2 x y
+unlike_bit : (x y : Bool) → majority true (majority false (not x) y) (majority false x (not y))
+    ≡ xor2 x y
 unfolding majority
 unlike_bit true true = refl
 unlike_bit true false = refl
@@ -92,7 +93,7 @@ module _ (n : ℕ) (m : Slots) (are : AreSlots n 1 n 0 m) where
       let a = λ (i : ℕ). start (row n m.a i) in
       let c = λ (i : ℕ). start (row n m.b i) in
       subst (Gives op.Eq n 1 n 0 m before) (sym (steps_each n b [] start))
-      (state_does op.Eq n m are b.reads b.graph.inputs b.graph.nodes (plain 7) three true before
+      (state_does op.Eq n m are b.reads b.graph.inputs b.graph.nodes (plain 6) three true before
       (a_read, (b_read, ((omega arith, λ i j li lj. refl), tt)))
       (ap bit (same_gives a c e n (set_same before p true p refl)
       (λ i lt. agreed_bit (a i) (c i) (e i)))))

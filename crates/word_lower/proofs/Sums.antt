@@ -1,7 +1,7 @@
 -- Loops with a carry, as numbers.
 use Rattle.std.proofs.Common.{◌≡◌, ℕ, zero, suc, ◌+◌, ◌-◌, ◌*◌, ◌/◌, ◌^◌, ◌%◌, ◌<◌, ◌≤◌, Bool, true}
 use Rattle.std.proofs.Common.{false, not, cond, refl, sym, ap, ◌∙◌, ⊎_elim, arith, ◌⊎◌, inl, inr}
-use Rattle.std.specs.Prelude.{nat_lt, ◌==◌, ◌&&◌}
+use Rattle.std.specs.Prelude.{nat_lt, ◌==◌, ◌&&◌, ◌||◌}
 use Rattle.std.proofs.lemmas.Bool.{cases_eq, cases_Bool, eq-eqb, ne_eqb, lt-ltb}
 use Rattle.std.proofs.lemmas.Nat.{mod-mul-add}
 use Rattle.std.proofs.Math.Nat.{pow-suc}
@@ -169,34 +169,40 @@ abbrev pub xor2 : Bool → Bool → Bool
 xor2 true b = not b
 xor2 false b = b
 
--- the complement and one more, where the top bit is set
-pub abs_gives : (a y c : ℕ → Bool) (m : ℕ) → c 0 ≡ a m
-    → ((i : ℕ) → i < suc m → bit (y i) + 2 * bit (c (suc i)) ≡ bit (xor2 (a m) (a i)) + bit (c i))
+-- The complement and one more, where the top bit is set: all bits above the lowest that is set are
+-- inverted, and the state is whether there was one
+pub abs_gives : (a y d : ℕ → Bool) (m : ℕ) → d 0 ≡ false
+    → ((i : ℕ) → i < suc m → y i ≡ xor2 (d i) (a i))
+    → ((i : ℕ) → i < suc m → d (suc i) ≡ d i || (a m && a i))
     → number y (suc m) ≡ cond (nat_lt (number a (suc m)) (2 ^ m)) (number a (suc m))
     ((2 ^ suc m - number a (suc m)) % 2 ^ suc m)
-abs_gives a y c m start h = rw (top_half a m) (by (a m) start h)
+abs_gives a y d m start hy hd = rw (top_half a m) (by (a m) hd)
   where
-    by : (t : Bool) → c 0 ≡ t → ((i : ℕ) → i < suc m
-        → bit (y i) + 2 * bit (c (suc i)) ≡ bit (xor2 t (a i)) + bit (c i))
+    digit : (x d w e : Bool) → w ≡ xor2 d x → e ≡ d || (true && x)
+        → bit w + 2 * bit (not e) ≡ bit (not x) + bit (not d)
+    digit true true w e p q = rw (p, q) refl
+    digit true false w e p q = rw (p, q) refl
+    digit false true w e p q = rw (p, q) refl
+    digit false false w e p q = rw (p, q) refl
+
+    never : ((i : ℕ) → i < suc m → d (suc i) ≡ d i || (false && a i)) → (i : ℕ) → i ≤ suc m
+        → d i ≡ false
+    never k zero l = start
+    never k (suc i) l = k i (omega (arith, l)) ∙ rw (never k i (omega (arith, l))) refl
+
+    by : (t : Bool) → ((i : ℕ) → i < suc m → d (suc i) ≡ d i || (t && a i))
         → number y (suc m) ≡ cond (not t) (number a (suc m))
         ((2 ^ suc m - number a (suc m)) % 2 ^ suc m)
-    by true s k =
-        let e = carry_sum (λ i. bit (not (a i))) y c (suc m) k in
+    by true k =
+        let e = carry_sum (λ i. bit (not (a i))) y (λ i. not (d i)) (suc m)
+        (λ i l. digit (a i) (d i) (y i) (d (suc i)) (hy i l) (k i l)) in
         let f = value_not a (suc m) in
         let g = digits_one (λ i. not (a i)) (suc m) in
-        let z = ap bit s in
-        last_sum (number y (suc m)) (bit (c (suc m))) (2 ^ suc m) (2 ^ suc m - number a (suc m))
-        (value_below y (suc m)) (omega (arith, e, f, g, z))
-    by false s k =
-        let e = carry_sum (λ i. bit (a i)) y c (suc m) k in
-        let g = digits_one a (suc m) in
-        let z = ap bit s in
-        small (c (suc m)) (number y (suc m)) (number a (suc m)) (2 ^ suc m) (value_below a (suc m))
-        (omega (arith, e, g, z))
-      where
-        small : (c : Bool) (y a p : ℕ) → a < p → y + bit c * p ≡ a → y ≡ a
-        small true y a p lt e = absurd (omega (arith, e))
-        small false y a p lt e = omega (arith, e)
+        let z = ap (λ b. bit (not b)) start in
+        last_sum (number y (suc m)) (bit (not (d (suc m)))) (2 ^ suc m)
+        (2 ^ suc m - number a (suc m)) (value_below y (suc m)) (omega (arith, e, f, g, z))
+    by false k = value_same y a (suc m) (λ i l. hy i l
+        ∙ ap (λ b. xor2 b (a i)) (never k i (omega (arith, l))))
 
 pub shl1_gives : (a y c : ℕ → Bool) (n : ℕ) → c 0 ≡ false → ((i : ℕ) → i < n → y i ≡ c i)
     → ((i : ℕ) → i < n → c (suc i) ≡ a i) → number y n ≡ (2 * number a n) % 2 ^ n

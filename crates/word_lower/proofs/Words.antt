@@ -46,15 +46,16 @@ module _ (o : WordOp) (n : ℕ) (m : Slots) (are : AreSlots n n n 0 m) (reads : 
       nodes y xs bits are_read in
       record { gives = value_same _ _ n l.word ∙ gives; keeps = λ q out. l.rest q out.target }
 
-unlike_bit : (x y : Bool) → majority false (not (majority false x y)) (majority true x y) ≡ xor2 x y
+unlike_bit : (x y : Bool) → majority true (majority false (not x) y) (majority false x (not y))
+    ≡ xor2 x y
 unfolding majority
 unlike_bit true true = refl
 unlike_bit true false = refl
 unlike_bit false true = refl
 unlike_bit false false = refl
 
-chosen_bit : (x y s : Bool) → majority true (majority false x s) (majority false y (not s))
-    ≡ pick s x y
+chosen_bit : (x y s : Bool) → majority true (majority false x s)
+    (majority y (not s) (majority false x s)) ≡ pick s x y
 unfolding majority
 chosen_bit true true true = refl
 chosen_bit true true false = refl
@@ -320,10 +321,12 @@ pub if_else_bit_does : (n : ℕ) (m : Slots) → DoesBits op.IfElse n m
 unfolding values_from majority
 if_else_bit_does n m before = bit_does n m before op.IfElse
     (majority true (majority false (before (row n m.a 0)) (before (row n m.s 0)))
-    (majority false (before (row n m.b 0)) (not (before (row n m.s 0)))))
+    (majority (before (row n m.b 0)) (not (before (row n m.s 0)))
+    (majority false (before (row n m.a 0)) (before (row n m.s 0)))))
     (by (before (row n m.a 0)) (before (row n m.b 0)) (before (row n m.s 0)))
   where
-    by : (x y s : Bool) → bit (majority true (majority false x s) (majority false y (not s)))
+    by : (x y s : Bool)
+        → bit (majority true (majority false x s) (majority y (not s) (majority false x s)))
         ≡ operation op.IfElse 1 (bit x) (bit y) (bit s)
     by true true true = refl
     by true true false = refl
@@ -349,11 +352,11 @@ or_bit_does n m before = bit_does n m before op.Or
 pub xor_bit_does : (n : ℕ) (m : Slots) → DoesBits op.Xor n m
 unfolding values_from majority bits
 xor_bit_does n m before = bit_does n m before op.Xor
-    (majority false (not (majority false (before (row n m.a 0)) (before (row n m.b 0))))
-    (majority true (before (row n m.a 0)) (before (row n m.b 0))))
+    (majority true (majority false (not (before (row n m.a 0))) (before (row n m.b 0)))
+    (majority false (before (row n m.a 0)) (not (before (row n m.b 0)))))
     (by (before (row n m.a 0)) (before (row n m.b 0)))
   where
-    by : (x y : Bool) → bit (majority false (not (majority false x y)) (majority true x y))
+    by : (x y : Bool) → bit (majority true (majority false (not x) y) (majority false x (not y)))
         ≡ operation op.Xor 1 (bit x) (bit y) 0
     by true true = refl
     by true false = refl

@@ -73,14 +73,14 @@ without x y z = template (x ∷ y ∷ []) (node_of off (plain 1) (turned 2) ∷ 
 
 abbrev pub unlike : Mark → Mark → Mark → Marked
 unlike x y z = template (x ∷ y ∷ [])
-    (node_of off (plain 1) (plain 2) ∷ node_of up (plain 1) (plain 2)
-    ∷ node_of off (turned 3) (plain 4) ∷ [])
+    (node_of off (turned 1) (plain 2) ∷ node_of off (plain 1) (turned 2)
+    ∷ node_of up (plain 3) (plain 4) ∷ [])
     (plain 5 ∷ []) (z ∷ [])
 
 -- x where s is set, else y
 abbrev pub chosen : Mark → Mark → Mark → Mark → Marked
 chosen x y s z = template (x ∷ y ∷ s ∷ [])
-    (node_of off (plain 1) (plain 3) ∷ node_of off (plain 2) (turned 3)
+    (node_of off (plain 1) (plain 3) ∷ node_of (plain 2) (turned 3) (plain 4)
     ∷ node_of up (plain 4) (plain 5) ∷ [])
     (plain 6 ∷ []) (z ∷ [])
 
@@ -95,21 +95,19 @@ added x y c z = template (x ∷ y ∷ c ∷ [])
     ∷ node_of (plain 3) (turned 4) (plain 5) ∷ [])
     (plain 6 ∷ plain 4 ∷ []) (z ∷ c ∷ [])
 
--- x, the complement of y, and a carry
+-- x less y, with a borrow
 abbrev pub lessened : Mark → Mark → Mark → Mark → Marked
 lessened x y c z = template (x ∷ y ∷ c ∷ [])
-    (node_of (plain 1) (turned 2) (plain 3) ∷ node_of (plain 1) (plain 2) (plain 3)
-    ∷ node_of (plain 2) (plain 4) (turned 5) ∷ [])
-    (turned 6 ∷ plain 4 ∷ []) (z ∷ c ∷ [])
+    (node_of (turned 1) (plain 2) (plain 3) ∷ node_of (plain 1) (turned 2) (plain 3)
+    ∷ node_of (turned 3) (plain 4) (plain 5) ∷ [])
+    (plain 6 ∷ plain 4 ∷ []) (z ∷ c ∷ [])
 
--- x unlike t, and a carry
+-- x, inverted above the lowest bit that is set under t: the state is whether there was one
 abbrev pub turned_by : Mark → Mark → Mark → Mark → Marked
 turned_by x t c z = template (x ∷ t ∷ c ∷ [])
-    (node_of off (plain 1) (plain 2) ∷ node_of up (plain 1) (plain 2)
-    ∷ node_of off (turned 4) (plain 5)
-    ∷ node_of off (plain 6) (plain 3) ∷ node_of up (plain 6) (plain 3)
-    ∷ node_of off (turned 7) (plain 8) ∷ [])
-    (plain 9 ∷ plain 7 ∷ []) (z ∷ c ∷ [])
+    (node_of off (turned 1) (plain 3) ∷ node_of up (plain 1) (plain 4)
+    ∷ node_of (plain 2) (plain 3) (plain 5) ∷ node_of (turned 3) (plain 4) (plain 5) ∷ [])
+    (plain 7 ∷ plain 6 ∷ []) (z ∷ c ∷ [])
 
 -- the state is whether what was read of x is over what was read of y
 abbrev pub compared : Mark → Mark → Mark → Marked
@@ -119,9 +117,9 @@ compared x y g = template (x ∷ y ∷ g ∷ []) (node_of (plain 1) (turned 2) (
 -- the state is whether all that was read agrees
 abbrev pub agreed : Mark → Mark → Mark → Marked
 agreed x y e = template (x ∷ y ∷ e ∷ [])
-    (node_of off (plain 1) (plain 2) ∷ node_of up (plain 1) (plain 2)
-    ∷ node_of up (plain 4) (turned 5) ∷ node_of off (plain 3) (plain 6) ∷ [])
-    (plain 7 ∷ []) (e ∷ [])
+    (node_of up (plain 1) (plain 2) ∷ node_of (plain 1) (plain 2) (turned 3)
+    ∷ node_of (plain 3) (turned 4) (plain 5) ∷ [])
+    (plain 6 ∷ []) (e ∷ [])
 
 -- on every bit of a word, or on the one of a bit
 abbrev pub spread : Kind → (Sub → Marked) → List (StepOf Marked)
@@ -153,9 +151,9 @@ program o.Shr1 k = Single (constant off (second sub.Zero))
     ∷ Along (shifted (first sub.InnerDown) (second sub.Zero) (target sub.InnerDown)) ∷ []
 program o.Add k = Single (constant off (third sub.Zero))
     ∷ Along (added (first sub.Inner) (second sub.Inner) (third sub.Zero) (target sub.Inner)) ∷ []
-program o.Sub k = Single (constant up (third sub.Zero))
+program o.Sub k = Single (constant off (third sub.Zero))
     ∷ Along (lessened (first sub.Inner) (second sub.Inner) (third sub.Zero) (target sub.Inner)) ∷ []
-program o.Abs k = Single (moved (first sub.Top) (second sub.Zero))
+program o.Abs k = Single (constant off (second sub.Zero))
     ∷ Along (turned_by (first sub.Inner) (first sub.Top) (second sub.Zero) (target sub.Inner)) ∷ []
 program o.Relu k = Along (without (first sub.Inner) (first sub.Top) (target sub.Inner)) ∷ []
 program o.Min k =

@@ -11,7 +11,7 @@ ghost use Rattle.word_lower.specs.Shapes.{mark_of, marks, shape_body, line_step,
 ghost use Rattle.word_lower.specs.Shapes.{place_on, body_on, program_on, are_lower, are_below};
 
 use crate::graphs::made;
-use crate::literals::{N1, N6, OFF, ON, P1, P2, P3, P4, P5, P6, P7, P9};
+use crate::literals::{N1, OFF, ON, P1, P2, P3, P4, P5, P6, P7};
 use crate::shapes::{Line, Mark, Owner, Owners, Shape};
 use crate::templates::{
     ADDED, AGREED, BOTH, CHOSEN, COMPARED, EITHER, LESSENED, TURNED_BY, UNLIKE, WITHOUT,
@@ -92,10 +92,10 @@ fn body(shape: Shape, owners: Owners, alloc: Global) -> Result<Body, NoMemory>
         Shape::Chosen(x, y, s, z) => templated(&[x, y, s], &CHOSEN, &[P6], &[z], o, a),
         Shape::Shifted(x, c, z) => templated(&[x, c], &[], &[P2, P1], &[z, c], o, a),
         Shape::Added(x, y, c, z) => templated(&[x, y, c], &ADDED, &[P6, P4], &[z, c], o, a),
-        Shape::Lessened(x, y, c, z) => templated(&[x, y, c], &LESSENED, &[N6, P4], &[z, c], o, a),
-        Shape::TurnedBy(x, t, c, z) => templated(&[x, t, c], &TURNED_BY, &[P9, P7], &[z, c], o, a),
+        Shape::Lessened(x, y, c, z) => templated(&[x, y, c], &LESSENED, &[P6, P4], &[z, c], o, a),
+        Shape::TurnedBy(x, t, c, z) => templated(&[x, t, c], &TURNED_BY, &[P7, P6], &[z, c], o, a),
         Shape::Compared(x, y, g) => templated(&[x, y, g], &COMPARED, &[P4], &[g], o, a),
-        Shape::Agreed(x, y, e) => templated(&[x, y, e], &AGREED, &[P7], &[e], o, a),
+        Shape::Agreed(x, y, e) => templated(&[x, y, e], &AGREED, &[P6], &[e], o, a),
     }
 }
 

@@ -107,11 +107,8 @@ fn word_lines(op: WordOp) -> Lines
         WordOp::Shl1 => two(Shape::Off(Y_BIT), Shape::Shifted(X, Y_BIT, Z)),
         WordOp::Shr1 => two(Shape::Off(Y_BIT), Shape::Shifted(X_DOWN, Y_BIT, Z_DOWN)),
         WordOp::Add => two(Shape::Off(S_BIT), Shape::Added(X, Y, S_BIT, Z)),
-        WordOp::Sub => two(Shape::On(S_BIT), Shape::Lessened(X, Y, S_BIT, Z)),
-        WordOp::Abs => two(
-            Shape::Moved(X_TOP, Y_BIT),
-            Shape::TurnedBy(X, X_TOP, Y_BIT, Z),
-        ),
+        WordOp::Sub => two(Shape::Off(S_BIT), Shape::Lessened(X, Y, S_BIT, Z)),
+        WordOp::Abs => two(Shape::Off(Y_BIT), Shape::TurnedBy(X, X_TOP, Y_BIT, Z)),
         WordOp::Relu => one(Line::Each(Shape::Without(X, X_TOP, Z))),
         WordOp::Min => three(
             Shape::Off(S_BIT),

@@ -1,6 +1,6 @@
 //! The nodes of the templates, over the constant, the inputs and lower nodes.
 
-use crate::literals::{N2, N3, N4, N5, N7, OFF, ON, P1, P2, P3, P4, P5, P6, P8};
+use crate::literals::{N1, N2, N3, N4, OFF, ON, P1, P2, P3, P4, P5};
 use mig_graph::Node;
 
 pub const BOTH: [Node; 1] = [Node {
@@ -24,17 +24,17 @@ pub const WITHOUT: [Node; 1] = [Node {
 pub const UNLIKE: [Node; 3] = [
     Node {
         a: OFF,
-        b: P1,
-        c: P2,
-    },
-    Node {
-        a: ON,
-        b: P1,
+        b: N1,
         c: P2,
     },
     Node {
         a: OFF,
-        b: N3,
+        b: P1,
+        c: N2,
+    },
+    Node {
+        a: ON,
+        b: P3,
         c: P4,
     },
 ];
@@ -46,9 +46,9 @@ pub const CHOSEN: [Node; 3] = [
         c: P3,
     },
     Node {
-        a: OFF,
-        b: P2,
-        c: N3,
+        a: P2,
+        b: N3,
+        c: P4,
     },
     Node {
         a: ON,
@@ -77,52 +77,42 @@ pub const ADDED: [Node; 3] = [
 
 pub const LESSENED: [Node; 3] = [
     Node {
+        a: N1,
+        b: P2,
+        c: P3,
+    },
+    Node {
         a: P1,
         b: N2,
         c: P3,
     },
     Node {
-        a: P1,
-        b: P2,
-        c: P3,
-    },
-    Node {
-        a: P2,
+        a: N3,
         b: P4,
-        c: N5,
+        c: P5,
     },
 ];
 
-pub const TURNED_BY: [Node; 6] = [
+pub const TURNED_BY: [Node; 4] = [
     Node {
         a: OFF,
-        b: P1,
-        c: P2,
+        b: N1,
+        c: P3,
     },
     Node {
         a: ON,
         b: P1,
-        c: P2,
+        c: P4,
     },
     Node {
-        a: OFF,
-        b: N4,
+        a: P2,
+        b: P3,
         c: P5,
     },
     Node {
-        a: OFF,
-        b: P6,
-        c: P3,
-    },
-    Node {
-        a: ON,
-        b: P6,
-        c: P3,
-    },
-    Node {
-        a: OFF,
-        b: N7,
-        c: P8,
+        a: N3,
+        b: P4,
+        c: P5,
     },
 ];
 
@@ -132,25 +122,20 @@ pub const COMPARED: [Node; 1] = [Node {
     c: P3,
 }];
 
-pub const AGREED: [Node; 4] = [
-    Node {
-        a: OFF,
-        b: P1,
-        c: P2,
-    },
+pub const AGREED: [Node; 3] = [
     Node {
         a: ON,
         b: P1,
         c: P2,
     },
     Node {
-        a: ON,
-        b: P4,
-        c: N5,
+        a: P1,
+        b: P2,
+        c: N3,
     },
     Node {
-        a: OFF,
-        b: P3,
-        c: P6,
+        a: P3,
+        b: N4,
+        c: P5,
     },
 ];

@@ -1,6 +1,6 @@
 -- One step of a division.
 use Rattle.std.proofs.Common.{◌≡◌, ℕ, zero, suc, ◌+◌, ◌-◌, ◌*◌, ◌^◌, ◌<◌, Bool, true, false, List}
-use Rattle.std.proofs.Common.{[], ◌∷◌, map, refl, sym, ap, ◌∙◌, subst, arith}
+use Rattle.std.proofs.Common.{not, [], ◌∷◌, map, refl, sym, ap, ◌∙◌, subst, arith}
 use Rattle.std.specs.Prelude.{nat_lt}
 use Rattle.std.proofs.lemmas.Bool.{lt-ltb}
 use Rattle.bit_rows.specs.Bits.{majority}
@@ -86,8 +86,8 @@ module _ (n : ℕ) (m : Rows) (are : AreRows n 2 2 m) where
     pub at_g : new gp ≡ chosen
     pub compares : chosen ≡ nat_lt (number_at n old m.b n)
         (number (λ i. old (row n w (j + i))) (suc n) + 1)
-    pub borrow : Bool
-    pub less : number (λ i. new (row n w (j + i))) n + bit borrow * 2 ^ n + bit chosen
+    pub carry : Bool
+    pub less : number (λ i. new (row n w (j + i))) n + bit carry * 2 ^ n + bit chosen
         * number_at n old m.b n ≡ number (λ i. old (row n w (j + i))) n + 2 ^ n
     pub low : (v : ℕ) → v < j → new (row n w v) ≡ old (row n w v)
     pub rest : (q : Spot) → IsOther q → new q ≡ old q
@@ -137,14 +137,14 @@ module _ (n : ℕ) (m : Rows) (are : AreRows n 2 2 m) where
       let top = s2 (row n w (2 * n - 1 - o)) in
       let v = majority true top (s2 gp) in
       let s3 = set_spot s2 gp v in
-      let s4 = set_spot s3 cp true in
+      let s4 = set_spot s3 cp false in
       let new = after_many n o divide_body n s4 in
       let is = is_loop o lo in
       let t = loop_turns n o n divide_body zs is s4 in
       let at2 = λ (q : Spot) (ng : q ≡ gp → ⊥). l.rest q ng ∙ set_other old gp true q ng in
-      let at4 = λ (q : Spot) (ng : q ≡ gp → ⊥) (nc : q ≡ cp → ⊥). set_other s3 cp true q nc
+      let at4 = λ (q : Spot) (ng : q ≡ gp → ⊥) (nc : q ≡ cp → ⊥). set_other s3 cp false q nc
       ∙ set_other s2 gp v q ng ∙ at2 q ng in
-      let g4 : s4 gp ≡ v = set_other s3 cp true gp g_c ∙ set_same s2 gp v gp refl in
+      let g4 : s4 gp ≡ v = set_other s3 cp false gp g_c ∙ set_same s2 gp v gp refl in
       let x1 = λ (i : ℕ). s1 (row n w (n - 1 - o + i)) in
       let b1 = λ (i : ℕ). s1 (row n m.b i) in
       let x = λ (i : ℕ). old (row n w (n - 1 - o + i)) in
@@ -172,9 +172,10 @@ module _ (n : ℕ) (m : Rows) (are : AreRows n 2 2 m) where
       let b4 = λ (i : ℕ). s4 (row n m.b i) in
       let gb = λ (i : ℕ). majority false (b4 i) (s4 gp) in
       let y = λ (i : ℕ). turn n o divide_body zs s4 (suc i) 0 in
-      let carry = λ (i : ℕ). turn n o divide_body zs s4 i 1 in
-      let d = less_two x4 gb y carry n (λ i lt. lessened_digit (x4 i) (gb i) (carry i)) in
-      let one : bit (carry 0) ≡ 1 = ap bit (set_same s3 cp true cp refl) in
+      let borrow = λ (i : ℕ). turn n o divide_body zs s4 i 1 in
+      let carry = λ (i : ℕ). not (borrow i) in
+      let d = less_two x4 gb y carry n (λ i lt. lessened_digit (x4 i) (gb i) (borrow i)) in
+      let one : bit (carry 0) ≡ 1 = ap (λ b. bit (not b)) (set_same s3 cp false cp refl) in
       let gated = value_gated b4 (s4 gp) n in
       let vb4 : number b4 n ≡ number_at n old m.b n =
       value_same b4 (λ i. old (row n m.b i)) n
@@ -194,7 +195,7 @@ module _ (n : ℕ) (m : Rows) (are : AreRows n 2 2 m) where
         chosen = v;
         at_g = t.rest gp (λ j k lj lk e. apart_g o j k lk e) ∙ g4;
         compares = all;
-        borrow = carry n;
+        carry = carry n;
         less = ap (λ z. z + bit (carry n) * 2 ^ n + bit v * number_at n old m.b n) vy
             ∙ omega (arith, d, one, gated', vx4);
         low = λ u lu. t.rest (row n w u) (λ j k lj lk e. apart_low o u lu j k lk e)

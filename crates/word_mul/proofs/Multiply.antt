@@ -21,12 +21,11 @@ use Rattle.loop_laws.proofs.Loop.{loop_turns, loop_word}
 use Rattle.loop_laws.proofs.Steps.{steps_each, steps_nest, after_parts, after_outer}
 use Rattle.loop_laws.proofs.Placed.{loop_of}
 use Rattle.word_lower.specs.Places.{scratch_bit}
-use Rattle.word_lower.specs.Programs.{target, first, second, third, off, constant, moved}
+use Rattle.word_lower.specs.Programs.{target, first, second, third, off, constant, inverted}
 use Rattle.word_lower.proofs.Setting.{bit, number, at, row, number_at, SlotsApart}
 use Rattle.word_lower.proofs.Passes.{word_loop, upwards}
 use Rattle.word_lower.proofs.Sums.{value_same, value_below, value_false, sum_two, carry_sum}
 use Rattle.word_lower.proofs.Sums.{digits_one, last_sum}
-use Rattle.word_lower.proofs.Carries.{added_digit}
 use Rattle.word_lower.proofs.Lists.{ones_of_none, ones_of_more}
 use Rattle.word_mul.specs.Programs.{multiplied, counted}
 use Rattle.word_mul.specs.declared.rows.Rows.{Rows}
@@ -34,6 +33,19 @@ use Rattle.word_mul.specs.Places.{rooms_for}
 use Rattle.word_mul.proofs.Setting.{IsFree, AreRows, IsElsewhere, Gives, DoesNested, bit_free}
 use Rattle.word_mul.proofs.Setting.{bit_else}
 use Rattle.word_mul.proofs.Product.{value_split, value_gated, product_step, below_pow, few_ones}
+
+multiplied_digit : (t w c : Bool)
+    → bit (majority t (majority (not t) w c) (not (majority w c (not (majority (not t) w c)))))
+    + 2 * bit (majority w c (not (majority (not t) w c))) ≡ bit t + bit w + bit c
+unfolding majority
+multiplied_digit true true true = refl
+multiplied_digit true true false = refl
+multiplied_digit true false true = refl
+multiplied_digit true false false = refl
+multiplied_digit false true true = refl
+multiplied_digit false true false = refl
+multiplied_digit false false true = refl
+multiplied_digit false false false = refl
 
 -- an argument's rows are neither the target's nor the scratch bit's
 args_else : (n : ℕ) (m : Rows) (s : Slot) → SlotsApart n s n m.target n
@@ -115,7 +127,7 @@ module _ (n : ℕ) (m : Rows) (are : AreRows n 1 0 m) (bits : Spots) where
       let sums : number y r + bit (carry r) * 2 ^ r
       ≡ number ta r + number (λ j. majority false (a j) g) r + bit (carry 0) =
       sum_two ta (λ j. majority false (a j) g) y carry r
-      (λ j lj. added_digit (ta j) (majority false (a j) g) (carry j)) in
+      (λ j lj. multiplied_digit (ta j) (majority false (a j) g) (carry j)) in
       let gated = value_gated a g r in
       let none : bit (carry 0) ≡ 0 = ap bit (set_same old p false p refl) in
       let split : n ≡ o + r = omega arith in
@@ -222,13 +234,18 @@ mul_does n m are bits =
       keeps = i.rest;
     }
 
-counted_digit : (t c : Bool) → bit (majority false (not (majority false t c)) (majority true t c))
-    + 2 * bit (majority false t c) ≡ bit t + bit c
+-- the carry is held inverted
+counted_digit : (t c : Bool) → bit (majority (not c) (majority true (not t) c) (majority false t c))
+    + 2 * bit (not (majority true (not t) c)) ≡ bit t + bit (not c)
 unfolding majority
 counted_digit true true = refl
 counted_digit true false = refl
 counted_digit false true = refl
 counted_digit false false = refl
+
+twice : (b : Bool) → not (not b) ≡ b
+twice true = refl
+twice false = refl
 
 -- a sum that is small has no carry
 no_carry : (c : Bool) (y p s : ℕ) → s < p → y + bit c * p ≡ s → y ≡ s
@@ -247,7 +264,7 @@ module _ (n : ℕ) (m : Rows) (are : AreRows n 1 0 m) (bits : Spots) where
 
   abbrev count_parts : List (InnerOf Block)
   count_parts =
-      Alone (placed_body (rooms_for op.Bitcount m) (moved (first sub.Outer) (second sub.Zero)))
+      Alone (placed_body (rooms_for op.Bitcount m) (inverted (first sub.Outer) (second sub.Zero)))
       ∷ (Across All count_body ∷ [])
 
   abbrev ys : List Origin
@@ -275,23 +292,24 @@ module _ (n : ℕ) (m : Rows) (are : AreRows n 1 0 m) (bits : Spots) where
   unfolding values_from majority
   one_count o old lo i =
       let v = old (row n m.a o) in
-      let start = set_spot old cp v in
+      let start = set_spot old cp (not v) in
       let new = after_many n o count_body n start in
       let is = count_loop o in
       let t = loop_turns n o n count_body ys is start in
       let y = λ (j : ℕ). turn n o count_body ys start (suc j) 0 in
-      let carry = λ (j : ℕ). turn n o count_body ys start j 1 in
+      let held = λ (j : ℕ). turn n o count_body ys start j 1 in
+      let carry = λ (j : ℕ). not (held j) in
       let ta = λ (j : ℕ). start (row n m.target j) in
       let sums : number y n + bit (carry n) * 2 ^ n ≡ number ta n + bit (carry 0) =
-      carry_sum (λ j. bit (ta j)) y carry n (λ j lj. counted_digit (ta j) (carry j))
+      carry_sum (λ j. bit (ta j)) y carry n (λ j lj. counted_digit (ta j) (held j))
       ∙ ap (λ x. x + bit (carry 0)) (digits_one ta n) in
       let first : bit (carry 0) ≡ bit (bits (row n m.a o)) =
-      ap bit (set_same old cp v cp refl ∙ i.rest (row n m.a o)
+      ap bit (ap not (set_same old cp (not v) cp refl) ∙ twice v ∙ i.rest (row n m.a o)
       (args_else n m m.a are.a cf.a o lo)) in
       let word = value_same (λ j. new (row n m.target j)) y n
       (λ j lj. loop_word n o n count_body ys is start 0 (omega arith) (λ u w lu lw e.
       are.moves.by u w (omega arith) (omega arith) e) j lj) in
-      let stays : (q : Spot) → (q ≡ cp → ⊥) → start q ≡ old q = λ q ne. set_other old cp v q ne in
+      let stays : (q : Spot) → (q ≡ cp → ⊥) → start q ≡ old q = λ q ne. set_other old cp (not v) q ne in
       let was = value_same ta (λ j. old (row n m.target j)) n
       (λ j lj. stays (row n m.target j) (λ e. cf.target.by 0 j (omega arith) lj (sym e))) in
       let total : number y n + bit (carry n) * 2 ^ n

@@ -151,13 +151,13 @@ module _ (n : ℕ) (m : Rows) (are : AreRows n 2 2 m) (bits : Spots) where
       let lh : number h (suc o) < 2 ^ n = (let p = value_below h (suc o) in let q = pow_mono le in
       omega (arith, p, q)) in
       let y = number (λ k. new (row n win (j + k))) n in
-      let s = next st.chosen (x n) st.borrow y (number x (suc n)) (number x n) b (2 ^ n) r
+      let s = next st.chosen (x n) st.carry y (number x (suc n)) (number x n) b (2 ^ n) r
       (bit (bits (row n m.a j))) (number h (suc o)) up quot
       (st.compares ∙ ap (λ z. nat_lt z (number x (suc n) + 1)) vb)
       (value_below (λ k. new (row n win (j + k))) n)
       (value_below (λ v. bits (row n m.b v)) n)
       lh (bit_le (bits (row n m.a j))) i.small ex refl i.equation eh
-      (ap (λ z. y + bit st.borrow * 2 ^ n + bit st.chosen * z) (sym vb) ∙ st.less) in
+      (ap (λ z. y + bit st.carry * 2 ^ n + bit st.chosen * z) (sym vb) ∙ st.less) in
       record {
         equation = s.equation;
         small = s.small;

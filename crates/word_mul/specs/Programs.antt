@@ -13,7 +13,7 @@ use Rattle.loop_ir.specs.Plain.InnerOf.{Alone, Across}
 use Rattle.loop_ir.specs.Plain.StepOf.{Along, Nest}
 use Rattle.loop_laws.specs.Rooms.{Mark, Marked}
 use Rattle.word_lower.specs.Programs.{on, target, first, second, third, plain, turned, off, up}
-use Rattle.word_lower.specs.Programs.{template, constant, moved, joined, compared}
+use Rattle.word_lower.specs.Programs.{template, constant, moved, inverted, joined, compared}
 
 -- Owners of places: the target, then the arguments, then the bits of scratch, then the words of
 -- scratch
@@ -25,28 +25,28 @@ fifth s = on 5 s
 
 -- y, the bit of a product and a carry, into y
 abbrev pub multiplied_nodes : List Node
-multiplied_nodes = node_of off (plain 2) (plain 3) ∷ node_of (plain 1) (plain 5) (plain 4)
-    ∷ node_of (plain 1) (plain 5) (turned 4) ∷ node_of (plain 4) (turned 6) (plain 7) ∷ []
+multiplied_nodes = node_of off (plain 2) (plain 3) ∷ node_of (turned 1) (plain 5) (plain 4)
+    ∷ node_of (plain 5) (plain 4) (turned 6) ∷ node_of (plain 1) (plain 6) (turned 7) ∷ []
 
 abbrev pub multiplied : Mark → Mark → Mark → Mark → Marked
-multiplied y a b c = template (y ∷ a ∷ b ∷ c ∷ []) multiplied_nodes (plain 8 ∷ plain 6 ∷ []) (y ∷ c
+multiplied y a b c = template (y ∷ a ∷ b ∷ c ∷ []) multiplied_nodes (plain 8 ∷ plain 7 ∷ []) (y ∷ c
     ∷ [])
 
--- y and a carry, into y
+-- y and a carry, into y; the carry is held inverted
 abbrev pub counted_nodes : List Node
-counted_nodes = node_of off (plain 1) (plain 2) ∷ node_of up (plain 1) (plain 2)
-    ∷ node_of off (turned 3) (plain 4) ∷ []
+counted_nodes = node_of up (turned 1) (plain 2) ∷ node_of off (plain 1) (plain 2)
+    ∷ node_of (turned 2) (plain 3) (plain 4) ∷ []
 
 abbrev pub counted : Mark → Mark → Marked
 counted y c = template (y ∷ c ∷ []) counted_nodes (plain 5 ∷ plain 3 ∷ []) (y ∷ c ∷ [])
 
--- w, the complement of y where g is set, and a carry, into w
+-- w less y where g is set, with a borrow, into w
 abbrev pub divided_nodes : List Node
-divided_nodes = node_of off (plain 2) (plain 3) ∷ node_of (plain 1) (turned 5) (plain 4)
-    ∷ node_of (plain 1) (plain 5) (plain 4) ∷ node_of (plain 5) (plain 6) (turned 7) ∷ []
+divided_nodes = node_of off (plain 2) (plain 3) ∷ node_of (turned 1) (plain 5) (plain 4)
+    ∷ node_of (plain 1) (turned 5) (plain 4) ∷ node_of (turned 4) (plain 6) (plain 7) ∷ []
 
 abbrev pub divided : Mark → Mark → Mark → Mark → Marked
-divided w y g c = template (w ∷ y ∷ g ∷ c ∷ []) divided_nodes (turned 8 ∷ plain 6 ∷ []) (w ∷ c ∷ [])
+divided w y g c = template (w ∷ y ∷ g ∷ c ∷ []) divided_nodes (plain 8 ∷ plain 6 ∷ []) (w ∷ c ∷ [])
 
 -- One step of a long division. The window is the n + 1 rows of the dividend from the outer position
 -- down: the divisor is compared with it, and taken from it where it is not greater
@@ -55,7 +55,7 @@ division =
     Alone (constant up (third sub.Zero))
     ∷ Across All (compared (fifth sub.DownSum) (second sub.Inner) (third sub.Zero))
     ∷ Alone (joined up (fifth sub.DownPlusN) (third sub.Zero) (third sub.Zero))
-    ∷ Alone (constant up (fourth sub.Zero))
+    ∷ Alone (constant off (fourth sub.Zero))
     ∷ Across All (divided (fifth sub.DownSum) (second sub.Inner) (third sub.Zero) (fourth sub.Zero))
     ∷ []
 
@@ -73,7 +73,7 @@ nested o.Mul =
     (third sub.Zero)) ∷ []) ∷ []
 nested o.Bitcount =
     Along (constant off (target sub.Inner))
-    ∷ Nest (Alone (moved (first sub.Outer) (second sub.Zero))
+    ∷ Nest (Alone (inverted (first sub.Outer) (second sub.Zero))
     ∷ Across All (counted (target sub.Inner) (second sub.Zero)) ∷ []) ∷ []
 nested o.Div = dividend (Nest (division ++ Alone (moved (third sub.Zero) (target sub.OuterDown))
     ∷ []) ∷ [])
@@ -98,7 +98,7 @@ abbrev pub nested_total : WordOp → ℕ → ℕ
 nested_total o.Mul n = 11 * n ^ 2 + 13 * n
 nested_total o.Div n = 29 * n ^ 2 + 12 * n
 nested_total o.Rem n = 29 * n ^ 2 + 12 * n
-nested_total o.Bitcount n = 18 * n ^ 2 + 2 * n
+nested_total o.Bitcount n = 18 * n ^ 2 + 4 * n
 nested_total p n = 0
 
 abbrev pub statement_total : Statement → ℕ → ℕ

@@ -12,7 +12,7 @@ use crate::templates::{COUNTED, DIVIDED, MULTIPLIED};
 use loop_ir::{Body, Place};
 use mig_graph::{Lit, NoMemory, Node};
 use std::alloc::Global;
-use word_lower::literals::{N2, N8, ON, P1, P2, P3, P4, P5, P6, P8};
+use word_lower::literals::{N1, N2, ON, P1, P2, P3, P4, P5, P6, P7, P8};
 use word_lower::made;
 
 /// A body with such nodes over its reads, and such outputs.
@@ -51,6 +51,13 @@ pub fn moved(x: Place, z: Place, alloc: Global) -> Result<Body, NoMemory>
     ensures { IfOk result (λ b. IsBuilt (block_of b) (over (x ∷ []) [] (plain 1 ∷ []) (z ∷ []))) }
 {
     templated(&[x], &[], &[P1], &[z], alloc)
+}
+
+/// A row gets the complement of what another has.
+pub fn inverted(x: Place, z: Place, alloc: Global) -> Result<Body, NoMemory>
+    ensures { IfOk result (λ b. IsBuilt (block_of b) (over (x ∷ []) [] (turned 1 ∷ []) (z ∷ []))) }
+{
+    templated(&[x], &[], &[N1], &[z], alloc)
 }
 
 /// A state is set where a row is.
@@ -93,12 +100,12 @@ pub fn compared(x: Place, y: Place, g: Place, alloc: Global) -> Result<Body, NoM
 /// The bit of a product is added, with a carry.
 pub fn multiplied(y: Place, a: Place, b: Place, c: Place, alloc: Global) -> Result<Body, NoMemory>
     ensures { IfOk result (λ r. IsBuilt (block_of r)
-        (over (y ∷ a ∷ b ∷ c ∷ []) multiplied_nodes (plain 8 ∷ plain 6 ∷ []) (y ∷ c ∷ []))) }
+        (over (y ∷ a ∷ b ∷ c ∷ []) multiplied_nodes (plain 8 ∷ plain 7 ∷ []) (y ∷ c ∷ []))) }
 {
-    templated(&[y, a, b, c], &MULTIPLIED, &[P8, P6], &[y, c], alloc)
+    templated(&[y, a, b, c], &MULTIPLIED, &[P8, P7], &[y, c], alloc)
 }
 
-/// A carry is added.
+/// A carry is added, which is held inverted.
 pub fn counted(y: Place, c: Place, alloc: Global) -> Result<Body, NoMemory>
     ensures { IfOk result (λ b. IsBuilt (block_of b)
         (over (y ∷ c ∷ []) counted_nodes (plain 5 ∷ plain 3 ∷ []) (y ∷ c ∷ []))) }
@@ -106,10 +113,10 @@ pub fn counted(y: Place, c: Place, alloc: Global) -> Result<Body, NoMemory>
     templated(&[y, c], &COUNTED, &[P5, P3], &[y, c], alloc)
 }
 
-/// What y has is taken away where g is set, with a carry.
+/// What y has is taken away where g is set, with a borrow.
 pub fn divided(w: Place, y: Place, g: Place, c: Place, alloc: Global) -> Result<Body, NoMemory>
     ensures { IfOk result (λ b. IsBuilt (block_of b)
-        (over (w ∷ y ∷ g ∷ c ∷ []) divided_nodes (turned 8 ∷ plain 6 ∷ []) (w ∷ c ∷ []))) }
+        (over (w ∷ y ∷ g ∷ c ∷ []) divided_nodes (plain 8 ∷ plain 6 ∷ []) (w ∷ c ∷ []))) }
 {
-    templated(&[w, y, g, c], &DIVIDED, &[N8, P6], &[w, c], alloc)
+    templated(&[w, y, g, c], &DIVIDED, &[P8, P6], &[w, c], alloc)
 }

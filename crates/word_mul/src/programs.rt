@@ -8,7 +8,7 @@ ghost use Rattle.word_mul.specs.Programs.{division};
 ghost use Rattle.word_mul.specs.Places.{rooms_for, steps_for};
 ghost use Rattle.word_mul.specs.Bodies.{PartsBuilt, StepsBuilt};
 
-use crate::bodies::{compared, constant, counted, divided, moved, multiplied, raised};
+use crate::bodies::{compared, constant, counted, divided, inverted, moved, multiplied, raised};
 use crate::rows::{Rows, at, bit, words};
 use loop_ir::{Count, Inner, LoopProgram, Step, Sub};
 use mig_graph::NoMemory;
@@ -48,7 +48,7 @@ pub fn ones(m: Rows, alloc: Global) -> Result<LoopProgram, NoMemory>
 {
     let carry = at(bit(m.free_bit), Sub::Zero);
     let clear = constant(OFF, at(m.target, Sub::Inner), alloc)?;
-    let start = moved(at(m.a, Sub::Outer), carry, alloc)?;
+    let start = inverted(at(m.a, Sub::Outer), carry, alloc)?;
     let add = counted(at(m.target, Sub::Inner), carry, alloc)?;
     let parts = nest([Inner::Once(start), Inner::Each(Count::All, add)], alloc)?;
     whole([Step::Each(clear), Step::Nest(parts)], alloc)
@@ -64,15 +64,15 @@ fn division(m: Rows, alloc: Global) -> Result<Vec<Inner>, NoMemory>
     let window = at(words(m.free_word), Sub::DownSum);
     let top = at(words(m.free_word), Sub::DownPlusN);
     let divisor = at(m.b, Sub::Inner);
-    let (fits, carry) = (
+    let (fits, borrow) = (
         at(bit(m.free_bit), Sub::Zero),
         at(bit(m.free_bit + 1), Sub::Zero),
     );
     let yes = constant(ON, fits, alloc)?;
     let compare = compared(window, divisor, fits, alloc)?;
     let over = raised(top, fits, alloc)?;
-    let start = constant(ON, carry, alloc)?;
-    let take = divided(window, divisor, fits, carry, alloc)?;
+    let start = constant(OFF, borrow, alloc)?;
+    let take = divided(window, divisor, fits, borrow, alloc)?;
     nest(
         [
             Inner::Once(yes),

@@ -1,7 +1,7 @@
 //! The nodes of the bodies, over the constant, the inputs and lower nodes.
 
 use mig_graph::Node;
-use word_lower::literals::{N3, N4, N5, N6, N7, OFF, ON, P1, P2, P3, P4, P5, P6, P7};
+use word_lower::literals::{N1, N2, N4, N5, N6, N7, OFF, ON, P1, P2, P3, P4, P5, P6, P7};
 
 pub const MULTIPLIED: [Node; 4] = [
     Node {
@@ -10,36 +10,36 @@ pub const MULTIPLIED: [Node; 4] = [
         c: P3,
     },
     Node {
-        a: P1,
+        a: N1,
         b: P5,
         c: P4,
     },
     Node {
-        a: P1,
-        b: P5,
-        c: N4,
+        a: P5,
+        b: P4,
+        c: N6,
     },
     Node {
-        a: P4,
-        b: N6,
-        c: P7,
+        a: P1,
+        b: P6,
+        c: N7,
     },
 ];
 
 pub const COUNTED: [Node; 3] = [
     Node {
-        a: OFF,
-        b: P1,
-        c: P2,
-    },
-    Node {
         a: ON,
-        b: P1,
+        b: N1,
         c: P2,
     },
     Node {
         a: OFF,
-        b: N3,
+        b: P1,
+        c: P2,
+    },
+    Node {
+        a: N2,
+        b: P3,
         c: P4,
     },
 ];
@@ -51,18 +51,18 @@ pub const DIVIDED: [Node; 4] = [
         c: P3,
     },
     Node {
+        a: N1,
+        b: P5,
+        c: P4,
+    },
+    Node {
         a: P1,
         b: N5,
         c: P4,
     },
     Node {
-        a: P1,
-        b: P5,
-        c: P4,
-    },
-    Node {
-        a: P5,
+        a: N4,
         b: P6,
-        c: N7,
+        c: P7,
     },
 ];

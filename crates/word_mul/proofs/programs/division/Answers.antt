@@ -30,12 +30,12 @@ returns c =
       c.words-2.ensures,
       c.bit.ensures,
     ) at c.in_ok-over.ensures in
-    let start = rw (c.at-carry.ensures, c.bit-2.ensures) at c.in_ok-start.ensures in
+    let start = rw (c.at-borrow.ensures, c.bit-2.ensures) at c.in_ok-start.ensures in
     let take = rw (
       c.at-window.ensures,
       c.at-divisor.ensures,
       c.at-fits.ensures,
-      c.at-carry.ensures,
+      c.at-borrow.ensures,
       c.words.ensures,
       c.bit.ensures,
       c.bit-2.ensures,

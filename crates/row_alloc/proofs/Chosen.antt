@@ -1,0 +1,58 @@
+-- What the first of the known sequences that serves tells of the others
+use Rattle.std.proofs.Common.{◌≡◌, ℕ, zero, suc, ◌<◌, ◌≤◌, ◌&&◌, Bool, true, false, nat_le, List}
+use Rattle.std.proofs.Common.{[], ◌∷◌, length, get_or, refl, arith, inl, inr}
+use Rattle.std.specs.List.{list_all}
+use Rattle.std.proofs.lemmas.Bool.{cases_lt, and_parts, leb-true}
+use Rattle.std.proofs.lemmas.List.Folds.{list_all_at}
+use Rattle.mig_graph.specs.Graph.{Graph}
+use Rattle.row_alloc.specs.declared.body.BodyCmd.{BodyCmd}
+use Rattle.row_alloc.specs.declared.body.OutRow.{OutRow}
+use Rattle.row_alloc.specs.Known.{Serves, IsFirst, known, known_at}
+
+-- each is no longer than those behind it
+unfoldable rising : List (List BodyCmd) → Bool
+rising [] = true
+rising (s ∷ ss) = list_all (λ t. nat_le (length s) (length t)) ss && rising ss
+
+in_order : (s : List BodyCmd) (ss : List (List BodyCmd)) (k : ℕ) → list_all (λ t. nat_le (length s)
+    (length t)) ss ≡ true → k < length ss → length s ≤ length (get_or ss k [])
+in_order s ss k h l = by (nat_le (length s) (length (get_or ss k []))) refl
+  where
+    by : (b : Bool) → nat_le (length s) (length (get_or ss k [])) ≡ b
+        → length s ≤ length (get_or ss k [])
+    by true e = leb-true (length s) (length (get_or ss k [])) e
+    by false e = let g = list_all_at (λ t. nat_le (length s) (length t)) ss k [] l e in cc
+
+behind : (s : List BodyCmd) (ss : List (List BodyCmd)) → rising (s ∷ ss) ≡ true
+    → (list_all (λ t. nat_le (length s) (length t)) ss ≡ true) × (rising ss ≡ true)
+unfolding rising
+behind s ss h = and_parts (list_all (λ t. nat_le (length s) (length t)) ss) (rising ss) h
+
+later : (ss : List (List BodyCmd)) → rising ss ≡ true → (i k : ℕ) → i ≤ k → k < length ss
+    → length (get_or ss i []) ≤ length (get_or ss k [])
+later [] h i k b l = omega (arith, l)
+later (s ∷ ss) h zero zero b l = omega arith
+later (s ∷ ss) h zero (suc k) b l = in_order s ss k (behind s ss h).0 (omega (arith, l))
+later (s ∷ ss) h (suc i) zero b l = omega (arith, b)
+later (s ∷ ss) h (suc i) (suc k) b l = later ss (behind s ss h).1 i k (omega (arith, b))
+    (omega (arith, l))
+
+-- no known sequence that serves is shorter than the first
+pub first_least : (g : Graph) (outs : List OutRow) (i k : ℕ) → IsFirst g outs i → k < length known
+    → Serves g outs (known_at k) → length (known_at i) ≤ length (known_at k)
+unfolding rising
+first_least g outs i k first l s = elim (cases_lt k i) [
+  | inl b ↦ elim (first.before k b s) [ ]
+  | inr b ↦ later known refl i k b l
+]
+
+-- there is one first
+pub first_same : (g : Graph) (outs : List OutRow) (i k : ℕ) → IsFirst g outs i → IsFirst g outs k
+    → i ≡ k
+first_same g outs i k p q = elim (cases_lt i k) [
+  | inl b ↦ elim (q.before i b p.serves) [ ]
+  | inr b ↦ elim (cases_lt k i) [
+    | inl a ↦ elim (p.before k a q.serves) [ ]
+    | inr a ↦ omega (arith, a, b)
+  ]
+]

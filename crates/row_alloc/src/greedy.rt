@@ -1,0 +1,92 @@
+//! The body that keeps values in the designated rows.
+
+ghost use Rattle.std.specs.Prelude.{◌≡◌, ◌<◌, ◌≤◌, ◌+◌, ◌*◌, ◌↔◌, ℕ, length, false, IsTrue};
+ghost use Rattle.std.specs.Prelude.{IfOk, IfSome, IfNone, slice_index_or, map, []};
+ghost use Rattle.mig_graph.specs.Literals.{is_turned as turns};
+ghost use Rattle.row_alloc.specs.Rows.{out_at};
+ghost use Rattle.row_alloc.specs.Body.{FitBody, DoesBody, WritesLate};
+ghost use Rattle.row_alloc.specs.Length.{plain_length};
+ghost use Rattle.row_alloc.specs.Known.{Serves, IsFirst, known, known_at};
+
+use crate::body::{BodyCmd, OutRow};
+use crate::check::check_body;
+use crate::known::KNOWN;
+use crate::order::writes_late;
+use crate::plain::plain_body;
+use mig_graph::{Mig, NoMemory};
+use std::alloc::Global;
+
+/// Whether the commands may stand for the body.
+fn serves(m: &Mig, outs: &[OutRow], cmds: &[BodyCmd]) -> bool
+    requires fit { FitBody m.now outs.now }
+    ensures exact { IsTrue result ↔ Serves m.now outs.now cmds.now }
+    ensures does { IsTrue result → DoesBody m.now outs.now cmds.now }
+{
+    check_body(m, outs, cmds) && writes_late(outs, cmds)
+}
+
+/// The sequence of this number.
+fn nth(sequences: &[&'static [BodyCmd]], k: usize) -> &'static [BodyCmd]
+    requires { k < length sequences.now }
+    ensures { result.now ≡ slice_index_or (map (λ s. s.now) sequences.now) k [] }
+{
+    sequences[k]
+}
+
+/// The known sequence of this number.
+fn sequence(k: usize) -> &'static [BodyCmd]
+    requires { k < length known }
+    ensures { result.now ≡ known_at k }
+{
+    nth(&KNOWN, k)
+}
+
+/// The number of the first known sequence that may stand for the body.
+fn first_known(m: &Mig, outs: &[OutRow]) -> Option<usize>
+    requires fit { FitBody m.now outs.now }
+    ensures some { IfSome result (λ k. IsFirst m.now outs.now k) }
+    ensures does { IfSome result (λ k. DoesBody m.now outs.now (known_at k)) }
+    ensures none { IfNone result ((k : ℕ) → k < length known
+        → Serves m.now outs.now (known_at k) → ⊥) }
+{
+    for k in 0..KNOWN.len() {
+        if serves(m, outs, sequence(k)) {
+            return Some(k);
+        }
+    }
+    None
+}
+
+/// A copy of commands.
+fn copied(cmds: &[BodyCmd], alloc: Global) -> Result<Vec<BodyCmd>, NoMemory>
+    ensures { IfOk result (λ v. v.items ≡ cmds.now) }
+{
+    Ok(cmds.to_vec(alloc)?)
+}
+
+/// The commands that leave each output's value in its row, kept in the bitwise cells between the
+/// nodes where a known sequence does so.
+///
+/// The first sequence of the table that the symbolic run finds right stands for the body, and the
+/// plain body where there is none or the plain one is shorter. The B cells and the spill rows may
+/// hold anything at entry, and are left with anything. Only want of memory is an `Err`.
+pub fn greedy_body(m: &Mig, outs: &[OutRow], alloc: Global) -> Result<Vec<BodyCmd>, NoMemory>
+    requires fit { FitBody m.now outs.now }
+    ensures does { IfOk result (λ cmds. DoesBody m.now outs.now cmds.items) }
+    ensures late { IfOk result (λ cmds. WritesLate outs.now cmds.items) }
+    ensures few { IfOk result (λ cmds. length cmds.items ≤ plain_length m.now outs.now) }
+    ensures known { IfOk result (λ cmds. (k : ℕ) → IsFirst m.now outs.now k
+        → length (known_at k) ≤ plain_length m.now outs.now → cmds.items ≡ known_at k) }
+    ensures least { IfOk result (λ cmds. (k : ℕ) → k < length known
+        → Serves m.now outs.now (known_at k) → length cmds.items ≤ length (known_at k)) }
+    ensures count { IfOk result (λ cmds. length cmds.items
+        ≤ 4 * length m.now.nodes + 3 * length outs.now) }
+    ensures one { IfOk result (λ cmds. length m.now.nodes ≡ 0 → length outs.now ≡ 1
+        → turns (out_at outs.now 0).lit ≡ false → length cmds.items ≤ 1) }
+{
+    let plain = plain_body(m, outs, alloc)?;
+    match first_known(m, outs) {
+        Some(k) if sequence(k).len() <= plain.len() => copied(sequence(k), alloc),
+        _ => Ok(plain),
+    }
+}
