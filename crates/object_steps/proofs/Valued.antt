@@ -1,0 +1,165 @@
+-- The text of values, and the values of some banks.
+use Rattle.std.proofs.Common.{◌≡◌, ℕ, zero, suc, ◌+◌, ◌-◌, ◌*◌, ◌/◌, ◌<◌, ◌≤◌, List, [], ◌∷◌, ◌++◌}
+use Rattle.std.proofs.Common.{length, map, take, drop, refl, sym, ◌∙◌, ap, subst, arith, add-one}
+use Rattle.std.proofs.Common.{append_assoc, append-nil, length-append, inl, inr, Bool, true, false}
+use Rattle.std.specs.Prelude.{flat_map, codes, decimal, min, nat_le, if◌then◌else◌}
+use Rattle.std.specs.List.{range_with_len}
+use Rattle.std.proofs.Math.Nat.{suc-mul}
+use Rattle.std.proofs.Math.Seq.{take-append-add}
+use Rattle.std.proofs.lemmas.Bool.{cases_lt}
+use Rattle.std.proofs.lemmas.Grind.{flat_map-append, div_ceil_times}
+use Rattle.std.proofs.lemmas.List.{take-append-drop, map-append, length-map}
+use Rattle.std.proofs.lemmas.List.FromFn.{map-range_with_len_more, take-map-range_with_len}
+use Rattle.dram_model.specs.Column.{Column}
+use Rattle.dram_model.specs.Chip.{Banks}
+use Rattle.dram_model.specs.Elements.{below, number}
+use Rattle.transpose_unit.specs.Stage.{stage_rows}
+use Rattle.object_steps.specs.Lines.{values_text}
+
+text_joined : (xs ys : List ℕ) → values_text (xs ++ ys) ≡ values_text xs ++ values_text ys
+text_joined xs ys = flat_map-append (λ v. codes " " ++ decimal v) xs ys
+
+-- one more value
+pub values_more : (f : ℕ → ℕ) (k : ℕ) → values_text (map f (range_with_len 0 (k + 1)))
+    ≡ values_text (map f (range_with_len 0 k)) ++ (codes " " ++ decimal (f k))
+values_more f k =
+    ap values_text (map-range_with_len_more f 0 k k (omega arith))
+    ∙ text_joined (map f (range_with_len 0 k)) (f k ∷ [])
+    ∙ ap (λ xs. values_text (map f (range_with_len 0 k)) ++ xs)
+    (append-nil (codes " " ++ decimal (f k)))
+
+-- the first values, and the others
+pub values_split : (f : ℕ → ℕ) (k n : ℕ) → k ≤ n
+    → values_text (map f (range_with_len 0 k))
+    ++ values_text (drop k (map f (range_with_len 0 n)))
+    ≡ values_text (map f (range_with_len 0 n))
+values_split f k n l =
+    sym (text_joined (map f (range_with_len 0 k)) (drop k (map f (range_with_len 0 n))))
+    ∙ ap values_text (ap (λ xs. xs ++ drop k (map f (range_with_len 0 n)))
+    (sym (take-map-range_with_len f 0 n k l)) ∙ take-append-drop k (map f (range_with_len 0 n)))
+
+flat_suc : {X : Type 0} (E : ℕ → List X) (a n : ℕ) → flat_map E (range_with_len a (suc n))
+    ≡ flat_map E (range_with_len a n) ++ E (a + n)
+flat_suc E a zero = let e : a + 0 ≡ a = omega arith in append-nil (E a) ∙ ap E (sym e)
+flat_suc E a (suc n) =
+    let e : a + 1 + n ≡ a + suc n = omega arith in
+    ap (λ xs. E a ++ xs) (flat_suc E (a + 1) n)
+    ∙ sym (append_assoc (E a) (flat_map E (range_with_len (a + 1) n)) (E (a + 1 + n)))
+    ∙ ap (λ k. (E a ++ flat_map E (range_with_len (a + 1) n)) ++ E k) e
+
+below_more : (k : ℕ) (banks : Banks) → below (k + 1) banks ≡ below k banks ++ banks k
+below_more k banks =
+    let z : 0 + k ≡ k = omega arith in
+    ap (λ n. below n banks) (add-one k) ∙ flat_suc banks 0 k
+    ∙ ap (λ n. below k banks ++ banks n) z
+
+below_part : (k j : ℕ) (banks : Banks) → (rest : List Column)
+    × (below k banks ++ rest ≡ below (k + j) banks)
+below_part k zero banks = let z : k ≡ k + 0 = omega arith in (
+  [],
+  append-nil (below k banks) ∙ ap (λ n. below n banks) z,
+)
+below_part k (suc j) banks =
+    let so_far = below_part k j banks in
+    let e : k + j + 1 ≡ k + suc j = omega arith in (
+      so_far.0 ++ banks (k + j),
+      sym (append_assoc (below k banks) so_far.0 (banks (k + j)))
+          ∙ ap (λ xs. xs ++ banks (k + j)) so_far.1 ∙ sym (below_more (k + j) banks)
+          ∙ ap (λ n. below n banks) e,
+    )
+
+take_part : (n : ℕ) (xs ys : List ℕ) → (rest : List ℕ) × (take n xs ++ rest ≡ take n (xs ++ ys))
+take_part zero xs ys = ([], refl)
+take_part (suc n) [] ys = (take (suc n) ys, refl)
+take_part (suc n) (x ∷ xs) ys = let part = take_part n xs ys in (
+  part.0,
+  ap (λ zs. x ∷ zs) part.1,
+)
+
+-- the values of the first banks
+abbrev pub first_values : (base n count k : ℕ) → Banks → List ℕ
+first_values base n count k banks = take count (map (number base n) (below k banks))
+
+-- the text of the first banks' values is the front of all
+pub values_part : (base n count k all : ℕ) (banks : Banks) → k ≤ all → (rest : List ℕ)
+    × (values_text (first_values base n count k banks) ++ rest
+    ≡ values_text (first_values base n count all banks))
+values_part base n count k all banks l =
+    let f = number base n in
+    let e : k + (all - k) ≡ all = omega arith in
+    let more = below_part k (all - k) banks in
+    let part = take_part count (map f (below k banks)) (map f more.0) in
+    let whole : map f (below k banks) ++ map f more.0 ≡ map f (below all banks) =
+    sym (map-append f (below k banks) more.0) ∙ ap (map f) (more.1 ∙ ap (λ m. below m banks) e) in (
+      values_text part.0,
+      sym (text_joined (take count (map f (below k banks))) part.0)
+          ∙ ap values_text (part.1 ∙ ap (take count) whole),
+    )
+
+below_length : (columns k : ℕ) (banks : Banks)
+    → ((bank : ℕ) → bank < k → length (banks bank) ≡ columns)
+    → length (below k banks) ≡ k * columns
+below_length columns zero banks h = omega arith
+below_length columns (suc k) banks h =
+    let before = below_length columns k banks (λ bank l. h bank (omega arith)) in
+    let both = ap length (below_more k banks) ∙ length-append (below k banks) (banks k) in
+    let here = h k (omega arith) in
+    let e : k + 1 ≡ suc k = omega arith in
+    ap (λ n. length (below n banks)) (sym e) ∙ omega (arith, both, before, here, suc-mul k columns)
+
+take_all : (n : ℕ) (xs : List ℕ) → length xs ≤ n → take n xs ≡ xs
+take_all zero [] l = refl
+take_all zero (x ∷ xs) l = absurd (omega arith)
+take_all (suc n) [] l = refl
+take_all (suc n) (x ∷ xs) l = ap (λ ys. x ∷ ys) (take_all n xs (omega arith))
+
+take_min : (columns rest : ℕ) (xs : List ℕ) → length xs ≡ columns
+    → take (min columns rest) xs ≡ take rest xs
+take_min columns rest xs e = elim (cases_lt columns rest) [
+  | inl lt ↦ (let m : min columns rest ≡ columns = omega arith in
+      ap (λ n. take n xs) m ∙ take_all columns xs (omega arith)
+      ∙ sym (take_all rest xs (omega arith)))
+  | inr ge ↦ (let m : min columns rest ≡ rest = omega arith in ap (λ n. take n xs) m)
+]
+
+-- one more bank's values
+next_values : (base n count columns k here : ℕ) (banks : Banks) (f : ℕ → ℕ)
+    → ((bank : ℕ) → bank ≤ k → length (banks bank) ≡ columns) → k * columns ≤ count
+    → here ≡ min columns (count - k * columns)
+    → map f (range_with_len 0 columns) ≡ map (number base n) (banks k)
+    → first_values base n count (k + 1) banks
+    ≡ first_values base n count k banks ++ map f (range_with_len 0 here)
+next_values base n count columns k here banks f wide l e read =
+    let num = number base n in
+    let before = map num (below k banks) in
+    let own = map num (banks k) in
+    let long : length before ≡ k * columns =
+    length-map (below k banks) num ∙ below_length columns k banks (λ bank m.
+    wide bank (omega arith)) in
+    let size : length own ≡ columns = length-map (banks k) num ∙ wide k (omega arith) in
+    let split : count ≡ length before + (count - k * columns) = omega (arith, long) in
+    let less : min columns (count - k * columns) ≤ columns = omega arith in
+    let whole : map num (below (k + 1) banks) ≡ before ++ own =
+    ap (map num) (below_more k banks) ∙ map-append num (below k banks) (banks k) in
+    let kept : take count before ≡ before = take_all count before (omega (arith, long)) in
+    let first : take (min columns (count - k * columns)) (map f (range_with_len 0 columns))
+    ≡ map f (range_with_len 0 (min columns (count - k * columns))) =
+    take-map-range_with_len f 0 columns (min columns (count - k * columns)) less in
+    ap (take count) whole
+    ∙ ap (λ m. take m (before ++ own)) split
+    ∙ take-append-add before own (count - k * columns)
+    ∙ ap (λ xs. xs ++ take (count - k * columns) own) (sym kept)
+    ∙ ap (λ xs. take count before ++ xs) (sym (take_min columns (count - k * columns) own size)
+    ∙ ap (take (min columns (count - k * columns))) (sym read) ∙ first
+    ∙ ap (λ m. map f (range_with_len 0 m)) (sym e))
+
+pub next_text : (base n count columns k here : ℕ) (banks : Banks) (f : ℕ → ℕ)
+    → ((bank : ℕ) → bank ≤ k → length (banks bank) ≡ columns) → k * columns ≤ count
+    → here ≡ min columns (count - k * columns)
+    → map f (range_with_len 0 columns) ≡ map (number base n) (banks k)
+    → values_text (first_values base n count (k + 1) banks)
+    ≡ values_text (first_values base n count k banks)
+    ++ values_text (map f (range_with_len 0 here))
+next_text base n count columns k here banks f wide l e read =
+    ap values_text (next_values base n count columns k here banks f wide l e read)
+    ∙ text_joined (first_values base n count k banks) (map f (range_with_len 0 here))
