@@ -4,7 +4,12 @@ use Rattle.std.proofs.Common.{length, map, take, drop, refl, sym, ◌∙◌, ap,
 use Rattle.std.proofs.Common.{append_assoc, append-nil, length-append, inl, inr, Bool, true, false}
 use Rattle.std.specs.Prelude.{flat_map, codes, decimal, min, nat_le, if◌then◌else◌}
 use Rattle.std.specs.List.{range_with_len}
+use Rattle.std.proofs.Common.{mul_comm, mul-le-mul_right}
 use Rattle.std.proofs.Math.Nat.{suc-mul}
+use Rattle.std.proofs.lemmas.Nat.{div-mul-add}
+use Rattle.dram_model.specs.declared.geometry.Geometry.{Geometry}
+use Rattle.object_alloc.specs.declared.table.Object.{Object}
+use Rattle.machine_model.specs.Columns.{columns, segments}
 use Rattle.std.proofs.Math.Seq.{take-append-add}
 use Rattle.std.proofs.lemmas.Bool.{cases_lt}
 use Rattle.std.proofs.lemmas.Grind.{flat_map-append, div_ceil_times}
@@ -12,8 +17,8 @@ use Rattle.std.proofs.lemmas.List.{take-append-drop, map-append, length-map}
 use Rattle.std.proofs.lemmas.List.FromFn.{map-range_with_len_more, take-map-range_with_len}
 use Rattle.dram_model.specs.Column.{Column}
 use Rattle.dram_model.specs.Chip.{Banks}
-use Rattle.dram_model.specs.Elements.{below, number}
-use Rattle.transpose_unit.specs.Stage.{stage_rows}
+use Rattle.dram_model.specs.Elements.{below, column_count, number, segments_of}
+use Rattle.transpose_unit.specs.Stage.{stage_number, stage_rows}
 use Rattle.object_steps.specs.Lines.{values_text}
 
 text_joined : (xs ys : List ℕ) → values_text (xs ++ ys) ≡ values_text xs ++ values_text ys
@@ -153,7 +158,7 @@ next_values base n count columns k here banks f wide l e read =
     ∙ ap (take (min columns (count - k * columns))) (sym read) ∙ first
     ∙ ap (λ m. map f (range_with_len 0 m)) (sym e))
 
-pub next_text : (base n count columns k here : ℕ) (banks : Banks) (f : ℕ → ℕ)
+next_text : (base n count columns k here : ℕ) (banks : Banks) (f : ℕ → ℕ)
     → ((bank : ℕ) → bank ≤ k → length (banks bank) ≡ columns) → k * columns ≤ count
     → here ≡ min columns (count - k * columns)
     → map f (range_with_len 0 columns) ≡ map (number base n) (banks k)
@@ -163,3 +168,70 @@ pub next_text : (base n count columns k here : ℕ) (banks : Banks) (f : ℕ →
 next_text base n count columns k here banks f wide l e read =
     ap values_text (next_values base n count columns k here banks f wide l e read)
     ∙ text_joined (first_values base n count k banks) (map f (range_with_len 0 here))
+
+stage_some : (n : ℕ) → 0 < stage_rows n
+stage_some n = some (nat_le n 64) where
+  some : (low : Bool) → 0 < (if low then 64 else 128)
+  some true = omega arith
+  some false = omega arith
+
+-- the words of a row of a stage
+stage_words : (n words len : ℕ) → len ≡ stage_rows n * words → len / stage_rows n ≡ words
+stage_words n words len e =
+    let rest : len ≡ words * stage_rows n + 0 = omega (arith, e, mul_comm (stage_rows n) words) in
+    ap (λ m. m / stage_rows n) rest ∙ div-mul-add words (stage_rows n) 0 (stage_some n)
+
+-- the elements of a bank begin before the last
+bank_begins : (g : Geometry) (count bank : ℕ) → 0 < column_count g → bank < segments_of g count
+    → bank * column_count g ≤ count
+bank_begins g count bank some l =
+    let next : bank + 1 ≤ segments_of g count = omega arith in
+    let more : (bank + 1) * column_count g ≤ segments_of g count * column_count g =
+    mul-le-mul_right (column_count g) next in
+    let one : (bank + 1) * column_count g ≡ bank * column_count g + column_count g =
+    ap (λ m. m * column_count g) (add-one bank) ∙ suc-mul bank (column_count g) in
+    omega (arith, more, one, (div_ceil_times count (column_count g) some).1)
+
+-- the text of one more bank, from its stage
+pub bank_text : (g : Geometry) (o : Object) (bank here : ℕ) (start stage : List ℕ)
+    (first now : Banks) → 0 < g.words → bank < segments g o
+    → ((b : ℕ) → b ≤ bank → length (first b) ≡ column_count g)
+    → here ≡ min (column_count g) (o.count - bank * column_count g)
+    → length stage ≡ stage_rows o.width * g.words → now ≡ first
+    → map (stage_number g.words o.width stage) (range_with_len 0 (column_count g))
+    ≡ map (number o.base o.width) (now bank)
+    → (start ++ values_text (first_values o.base o.width o.count bank first))
+    ++ values_text (map (stage_number (length stage / stage_rows o.width) o.width stage)
+    (range_with_len 0 here))
+    ≡ start ++ values_text (first_values o.base o.width o.count (bank + 1) first)
+bank_text g o bank here start stage first now words inside wide e long same read =
+    let f = stage_number (length stage / stage_rows o.width) o.width stage in
+    let is : length stage / stage_rows o.width ≡ g.words =
+    stage_words o.width g.words (length stage) long in
+    let read' : map f (range_with_len 0 (column_count g))
+    ≡ map (number o.base o.width) (first bank) =
+    ap (λ w. map (stage_number w o.width stage) (range_with_len 0 (column_count g))) is ∙ read
+    ∙ ap (λ (banks : Banks). map (number o.base o.width) (banks bank)) same in
+    append_assoc start (values_text (first_values o.base o.width o.count bank first))
+    (values_text (map f (range_with_len 0 here)))
+    ∙ ap (λ xs. start ++ xs) (sym (next_text o.base o.width o.count (column_count g) bank here first
+    f wide (bank_begins g o.count bank (omega arith) inside) e read'))
+
+-- the text up to a bank is the front of all
+pub front_text : (g : Geometry) (o : Object) (bank : ℕ) (start : List ℕ) (first : Banks)
+    → bank ≤ segments g o → (rest : List ℕ)
+    × ((start ++ values_text (first_values o.base o.width o.count bank first)) ++ rest
+    ≡ start ++ values_text (take o.count (columns g first o)))
+front_text g o bank start first l =
+    let part = values_part o.base o.width o.count bank (segments g o) first l in (
+      part.0,
+      append_assoc start (values_text (first_values o.base o.width o.count bank first)) part.0
+          ∙ ap (λ xs. start ++ xs) part.1,
+    )
+
+-- rows of whole banks
+pub few_read : (bank n banks : ℕ) → bank < banks → (bank + 1) * n ≤ n * banks
+few_read bank n banks l =
+    let next : bank + 1 ≤ banks = omega arith in
+    let up : (bank + 1) * n ≤ banks * n = mul-le-mul_right n next in
+    omega (arith, up, mul_comm banks n)
