@@ -1,8 +1,8 @@
 -- Rows that take bits, one after another.
-use Rattle.std.proofs.Common.{◌≡◌, ◌≢◌, ℕ, zero, suc, ◌+◌, ◌*◌, ◌<◌, ◌≤◌, Bool, true, false, List}
-use Rattle.std.proofs.Common.{[], ◌∷◌, ◌++◌, map, cond, refl, sym, ◌∙◌, ap, arith, add-one}
+use Rattle.std.proofs.Common.{◌≡◌, ◌≢◌, ℕ, zero, suc, ◌+◌, ◌*◌, ◌<◌, Bool, true, false, List}
+use Rattle.std.proofs.Common.{[], ◌∷◌, ◌++◌, map, refl, sym, ◌∙◌, ap, arith, add-one}
 use Rattle.std.proofs.Common.{append_assoc, append-nil}
-use Rattle.std.specs.Prelude.{flat_map, nat_lt, ◌&&◌, Result, Ok, Err, OnErr}
+use Rattle.std.specs.Prelude.{flat_map, nat_lt, Result, Ok, Err, OnErr}
 use Rattle.std.specs.List.{range_with_len}
 use Rattle.std.proofs.Math.Nat.{suc-mul}
 use Rattle.std.proofs.lemmas.Bool.{ne_eqb}
@@ -16,7 +16,7 @@ use Rattle.dram_model.specs.Column.{is_legal}
 use Rattle.dram_model.specs.Chip.{Banks, Event, after, happens}
 use Rattle.dram_model.specs.Chip.Event.{Row}
 use Rattle.dram_model.specs.View.{ChipView, Did}
-use Rattle.dram_model.proofs.EventLaws.{Did-more, after-append}
+use Rattle.dram_model.proofs.EventLaws.{Did-more}
 use Rattle.object_alloc.specs.declared.table.Object.{Object}
 use Rattle.object_steps.specs.Objects.{filled_in}
 

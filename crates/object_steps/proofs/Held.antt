@@ -1,5 +1,5 @@
 -- Text that is put in pieces: what was put, and what is held back.
-use Rattle.std.proofs.Common.{◌≡◌, ℕ, List, [], ◌++◌, Option, Some, None, refl, sym, ◌∙◌, ap, subst}
+use Rattle.std.proofs.Common.{◌≡◌, ℕ, List, [], ◌++◌, Option, refl, sym, ◌∙◌, ap, subst}
 use Rattle.std.proofs.Common.{append_assoc, append-nil}
 use Rattle.host_edge.specs.Views.{Told, Told-trans, Told-map, Told-same, AppendsPart}
 use Rattle.host_edge.specs.Sends.{AppendsUpTo}

@@ -1,8 +1,8 @@
 -- How much an object's events raise the counters.
 use Rattle.std.proofs.Common.{◌≡◌, ℕ, zero, suc, ◌+◌, ◌*◌, ◌≤◌, List, [], ◌∷◌, length, map, arith}
-use Rattle.std.proofs.Common.{refl, ◌∙◌, length-append, mul-le-mul_left, mul-le-mul_right}
+use Rattle.std.proofs.Common.{refl, length-append, mul-le-mul_left, mul-le-mul_right}
 use Rattle.std.proofs.Math.Nat.{suc-mul}
-use Rattle.std.specs.Prelude.{flat_map, Option, Some, None}
+use Rattle.std.specs.Prelude.{flat_map}
 use Rattle.std.specs.List.{range_with_len}
 use Rattle.dram_model.specs.declared.address.Command.TheVariants.{Ap, Aap}
 use Rattle.dram_model.specs.declared.dram.Counters.{Counters}
@@ -18,6 +18,7 @@ use Rattle.std.proofs.lemmas.Grind.{div_ceil_times}
 use Rattle.dram_model.specs.declared.geometry.Geometry.{Geometry}
 use Rattle.dram_model.specs.Geometry.{is_geometry}
 use Rattle.dram_model.specs.Elements.{column_count, segments_of, write_events}
+use Rattle.dram_model.specs.View.{with_reads}
 use Rattle.object_alloc.specs.declared.table.Object.{Object}
 use Rattle.object_alloc.specs.Spelling.{IsObject}
 use Rattle.machine_model.specs.Columns.{segments}
@@ -92,3 +93,18 @@ pub loads_are : (g : Geometry) (o : Object) (values : List ℕ) → length value
     → write_events g o.base o.width values ≡ load_events g o values
 unfolding write_events
 loads_are g o values e = rw e refl
+
+-- reads of an object's rows
+pub few_reads : (g : Geometry) (o : Object) (old new : Counters) → is_geometry g ≡ true
+    → IsObject g o → new ≡ with_reads (o.width * segments g o) old → RisesAtMost (16 * 128) old new
+few_reads g o old new passes object e =
+    let banks = few_banks g o passes object in
+    let up : segments g o * o.width ≤ 16 * o.width = mul-le-mul_right o.width banks in
+    let most : o.width * segments g o ≤ 16 * 128 =
+    omega (arith, up, object.narrow, mul_comm (segments g o) o.width) in
+    rw e (record {
+      aap = omega arith;
+      ap = omega arith;
+      writes = omega arith;
+      reads = omega (arith, most);
+    })

@@ -1,6 +1,6 @@
 -- The text of values, and the values of some banks.
 use Rattle.std.proofs.Common.{◌≡◌, ℕ, zero, suc, ◌+◌, ◌-◌, ◌*◌, ◌/◌, ◌<◌, ◌≤◌, List, [], ◌∷◌, ◌++◌}
-use Rattle.std.proofs.Common.{length, map, take, drop, refl, sym, ◌∙◌, ap, subst, arith, add-one}
+use Rattle.std.proofs.Common.{length, map, take, drop, refl, sym, ◌∙◌, ap, arith, add-one}
 use Rattle.std.proofs.Common.{append_assoc, append-nil, length-append, inl, inr, Bool, true, false}
 use Rattle.std.specs.Prelude.{flat_map, codes, decimal, min, nat_le, if◌then◌else◌}
 use Rattle.std.specs.List.{range_with_len}
@@ -10,6 +10,9 @@ use Rattle.std.proofs.lemmas.Nat.{div-mul-add}
 use Rattle.dram_model.specs.declared.geometry.Geometry.{Geometry}
 use Rattle.object_alloc.specs.declared.table.Object.{Object}
 use Rattle.machine_model.specs.Columns.{columns, segments}
+use Rattle.object_alloc.specs.Listed.{Named}
+use Rattle.machine_model.specs.Operations.{Operations}
+use Rattle.machine_model.specs.Refusals.{is_absent, object_named}
 use Rattle.std.proofs.Math.Seq.{take-append-add}
 use Rattle.std.proofs.lemmas.Bool.{cases_lt}
 use Rattle.std.proofs.lemmas.Grind.{flat_map-append, div_ceil_times}
@@ -19,7 +22,7 @@ use Rattle.dram_model.specs.Column.{Column}
 use Rattle.dram_model.specs.Chip.{Banks}
 use Rattle.dram_model.specs.Elements.{below, column_count, number, segments_of}
 use Rattle.transpose_unit.specs.Stage.{stage_number, stage_rows}
-use Rattle.object_steps.specs.Lines.{values_text}
+use Rattle.object_steps.specs.Lines.{printed_line, values_text}
 
 text_joined : (xs ys : List ℕ) → values_text (xs ++ ys) ≡ values_text xs ++ values_text ys
 text_joined xs ys = flat_map-append (λ v. codes " " ++ decimal v) xs ys
@@ -235,3 +238,20 @@ few_read bank n banks l =
     let next : bank + 1 ≤ banks = omega arith in
     let up : (bank + 1) * n ≤ banks * n = mul-le-mul_right n next in
     omega (arith, up, mul_comm banks n)
+
+line_text : (before shown colon text last : List ℕ)
+    → (((before ++ shown) ++ colon) ++ text) ++ last ≡ (before ++ ((shown ++ colon) ++ text)) ++ last
+line_text before shown colon text last =
+    ap (λ xs. xs ++ last) (ap (λ xs. xs ++ text) (append_assoc before shown colon)
+    ∙ append_assoc before (shown ++ colon) text)
+
+-- the pieces of the line of an object that there is
+pub printed_is : (g : Geometry) (operations : Operations) (table : List Named) (banks : Banks)
+    (number : ℕ) (name shown head : List ℕ) (o : Object) → is_absent table name ≡ false
+    → o ≡ object_named table name
+    → head ≡ decimal number ++ codes " " ++ shown ++ codes ":"
+    → (head ++ values_text (take o.count (columns g banks o))) ++ codes "\n"
+    ≡ printed_line g operations table banks number name shown
+printed_is g operations table banks number name shown head o there e h =
+    rw (there, ← e, h) (line_text (decimal number ++ codes " ") shown (codes ":")
+    (values_text (take o.count (columns g banks o))) (codes "\n"))
