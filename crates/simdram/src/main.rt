@@ -13,7 +13,11 @@ use std::process::ExitCode;
 use std::{env, io};
 
 #[cfg(test)]
+mod accounts;
+#[cfg(test)]
 mod compiled;
+#[cfg(test)]
+mod empty_images;
 #[cfg(test)]
 mod jobs;
 #[cfg(test)]

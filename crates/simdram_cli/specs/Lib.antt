@@ -10,4 +10,6 @@ pub mod Headline
 pub mod Compile
 pub mod Show
 pub mod Migrate
+pub mod Accounts
+pub mod Init
 pub mod Commands

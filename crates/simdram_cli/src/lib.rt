@@ -1,8 +1,10 @@
 //! The top of the program: the words of a command, its exit statuses and last lines.
 #![tactic(auto)]
 
+mod account;
 mod compile;
 mod counted;
+mod init;
 mod load;
 mod migrate;
 mod perform;
@@ -16,6 +18,6 @@ mod work;
 pub use stop::{NotYet, Stop, status_of, tell};
 pub use top::{one_job, simdram};
 pub use words::{
-    Command, CompileNames, IMAGE_MAX, MigrateNames, OPS_MAX, PROG_MAX, RunNames, SCRIPT_MAX,
-    command_of, limits,
+    Command, CompileNames, CostNames, IMAGE_MAX, InitNames, MigrateNames, OPS_MAX, PROG_MAX,
+    RunNames, SCRIPT_MAX, command_of, limits,
 };
