@@ -1,7 +1,8 @@
 -- Text that is put in pieces: what was put, and what is held back.
 use Rattle.std.proofs.Common.{◌≡◌, ℕ, List, [], ◌++◌, Option, refl, sym, ◌∙◌, ap, subst}
 use Rattle.std.proofs.Common.{append_assoc, append-nil}
-use Rattle.host_edge.specs.Views.{Told, Told-trans, Told-map, Told-same, AppendsPart}
+use Rattle.host_edge.specs.Views.{Told, AppendsPart}
+use Rattle.host_edge.proofs.Tells.{Told-trans, Told-map, Told-same}
 use Rattle.host_edge.specs.Sends.{AppendsUpTo}
 
 -- nothing was put

@@ -5,7 +5,8 @@ ghost use Rattle.std.specs.Prelude.{take, length, codes, decimal, None, IfOk, On
 ghost use Rattle.std.specs.Prelude.{true};
 ghost use Rattle.dram_model.specs.Geometry.{is_geometry};
 ghost use Rattle.std.specs.List.{range_with_len};
-ghost use Rattle.host_edge.specs.Views.{Told, Rose as SinkRose, AppendsPart};
+ghost use Rattle.host_edge.specs.Views.{Told, AppendsPart};
+ghost use Rattle.fault_counts.specs.Counts.{Rose};
 ghost use Rattle.host_edge.specs.Sends.{AppendsUpTo};
 ghost use Rattle.dram_model.specs.Chip.{Grew};
 ghost use Rattle.dram_model.specs.View.{HasBegun, Kept, DidRead};
@@ -49,7 +50,7 @@ fn make_room<S: Sink>(text: &mut Piece, out: &mut S) -> Result<(), Failed>
     ensures room { OnOk result (length text.new.items + 41 < 4096) }
     ensures part { OnErr result (Told (AppendsPart text.old.items) (S.view out.old).sent
         (S.view out.new).sent) }
-    ensures failed { OnErr result (SinkRose (S.view out.old).faults (S.view out.new).faults) }
+    ensures failed { OnErr result (Rose (S.view out.old).faults (S.view out.new).faults) }
 {
     if text.len() + 41 >= 4096 {
         out.put(text.as_slice())?;
@@ -67,7 +68,7 @@ fn add_value<S: Sink>(text: &mut Piece, value: Value, out: &mut S) -> Result<(),
     ensures room { OnOk result (length text.new.items < 4096) }
     ensures part { OnErr result (Told (AppendsPart text.old.items) (S.view out.old).sent
         (S.view out.new).sent) }
-    ensures failed { OnErr result (SinkRose (S.view out.old).faults (S.view out.new).faults) }
+    ensures failed { OnErr result (Rose (S.view out.old).faults (S.view out.new).faults) }
 {
     make_room(text, out)?;
     add(text, b" ");
@@ -95,7 +96,7 @@ fn add_columns<S: Sink>(
     ensures part { OnErr result (Told (AppendsPart (text.old.items ++ values_text
         (map (stage_number (length stage.now / stage_rows n) n stage.now)
         (range_with_len 0 count)))) (S.view out.old).sent (S.view out.new).sent) }
-    ensures failed { OnErr result (SinkRose (S.view out.old).faults (S.view out.new).faults) }
+    ensures failed { OnErr result (Rose (S.view out.old).faults (S.view out.new).faults) }
 {
     for column in 0..count {
         add_value(text, read_column(stage, n, column), out)?;
@@ -146,7 +147,7 @@ fn add_values<D: Dram, S: Sink>(
         → FailedBelow (segments g o) (D.view dram.old) (D.view dram.new) }
     ensures untold { Grew (D.view dram.old).log (D.view dram.new).log [] }
     ensures write_fault { IsErrOf result StepFault.WriteFault
-        → SinkRose (S.view out.old).faults (S.view out.new).faults }
+        → Rose (S.view out.old).faults (S.view out.new).faults }
     ensures read { IsErrOf result StepFault.WriteFault
         → DidReadAtMost (o.width * segments g o) (D.view dram.old) (D.view dram.new) }
 {
@@ -221,7 +222,7 @@ pub fn print<D: Dram, S: Sink>(
         (segments g (object_named table.now.pairs name.now)) (D.view dram.old) (D.view dram.new) }
     ensures untold { Grew (D.view dram.old).log (D.view dram.new).log [] }
     ensures write_fault { IsErrOf result StepFault.WriteFault
-        → SinkRose (S.view out.old).faults (S.view out.new).faults }
+        → Rose (S.view out.old).faults (S.view out.new).faults }
     ensures read { IsErrOf result StepFault.WriteFault
         → DidReadAtMost (rows_printed g table.now.pairs (Print name.now)) (D.view dram.old)
         (D.view dram.new) }

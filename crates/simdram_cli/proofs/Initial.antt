@@ -4,7 +4,8 @@ use Rattle.std.proofs.Common.{append-nil, ◌++◌}
 use Rattle.std.specs.Prelude.{Result, Ok, Err}
 use Rattle.std.proofs.lemmas.Slice.Eq.{bytes_eq-Decides}
 use Rattle.dram_model.specs.View.{ChipView}
-use Rattle.host_edge.specs.Views.{Files, FolderView, SinkView, Told, Told-map}
+use Rattle.host_edge.specs.Views.{Files, FolderView, SinkView, Told}
+use Rattle.host_edge.proofs.Tells.{Told-map}
 use Rattle.machine_model.proofs.Places.{bytes_differ}
 use Rattle.cli_model.specs.World.{World, world}
 use Rattle.cli_model.specs.Steps.{NoMemory, CannotWrite, Done, Stopped, Goes, Stored, Unstored}
