@@ -3,7 +3,8 @@ use Rattle.std.proofs.Common.{◌≡◌, ℕ, ◌≤◌, List, [], ◌∷◌, �
 use Rattle.std.proofs.Common.{◌∙◌, ap, subst, inl, inr, arith, append_assoc, append-nil}
 use Rattle.std.specs.Prelude.{false}
 use Rattle.std.specs.List.{list_any}
-use Rattle.host_edge.specs.Views.{Files, FolderView, NoCountFalls, Told, RoseBy}
+use Rattle.host_edge.specs.Views.{Files, FolderView, NoCountFalls, Told}
+use Rattle.fault_counts.specs.Counts.{RoseBy}
 use Rattle.cli_model.specs.World.{World}
 use Rattle.cli_model.specs.Steps.{Step, Load, Take, Store, Open, Use, Put, Reason, CannotRead}
 use Rattle.cli_model.specs.Steps.{TooLong, Refused, NoMemory, CannotWrite, PutFailed, ChipFailed}

@@ -2,7 +2,8 @@
 use Rattle.std.specs.Prelude.{◌≡◌, ◌⊎◌, ℕ, ◌+◌, Bool, true, false, List, [], ◌∷◌, ◌++◌}
 use Rattle.std.specs.Prelude.{Some, IfSome}
 use Rattle.std.specs.List.{list_any}
-use Rattle.host_edge.specs.Views.{Files, Told, Rose, RoseBy, IsPrefix}
+use Rattle.host_edge.specs.Views.{Files, Told, IsPrefix}
+use Rattle.fault_counts.specs.Counts.{Rose, RoseBy}
 use Rattle.cli_model.specs.World.{World}
 use Rattle.cli_model.specs.Steps.{Step, Load, Take, Store, Open, Use, Put, Reason, CannotRead}
 use Rattle.cli_model.specs.Steps.{TooLong, Refused, NoMemory, CannotWrite, PutFailed, ChipFailed}

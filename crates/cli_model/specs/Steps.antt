@@ -1,7 +1,8 @@
 -- The steps of a command, and how it goes through them.
 use Rattle.std.specs.Prelude.{◌≡◌, ◌⊎◌, ℕ, ◌+◌, ◌≤◌, List, [], ◌∷◌, ◌++◌, length, Option, Some}
 use Rattle.std.specs.Prelude.{None, Result, Ok, Err}
-use Rattle.host_edge.specs.Views.{Told, Rose, RoseBy, NoCountFalls, HasBytes, IsLonger, KeepsOthers}
+use Rattle.host_edge.specs.Views.{Told, NoCountFalls, HasBytes, IsLonger, KeepsOthers}
+use Rattle.fault_counts.specs.Counts.{Rose, RoseBy}
 use Rattle.host_edge.specs.Views.{AppendsPart}
 use Rattle.dram_model.specs.View.{ChipView, NotBegun}
 use Rattle.cli_model.specs.World.{World, with_file}

@@ -1,6 +1,7 @@
 -- The gates as majorities
 use Rattle.std.proofs.Common.{◌≡◌, ℕ, Bool, true, false, not, ◌&&◌, ◌||◌, refl}
-use Rattle.bit_rows.specs.Bits.{majority, majority-false, majority-true}
+use Rattle.bit_rows.specs.Bits.{majority}
+use Rattle.bit_rows.proofs.Gates.{majority-false, majority-true}
 use Rattle.op_text.specs.Values.{majority as gate_majority}
 use Rattle.mig_graph.specs.declared.Lit.{Lit}
 use Rattle.mig_graph.specs.Graph.{Graph, value, values}

@@ -2,9 +2,10 @@
 
 ghost use Rattle.std.specs.Prelude.{◌≡◌, ◌+◌, ◌*◌, ◌<◌, ◌≤◌, ◌^◌, ◌++◌, [], length, OnOk, OnErr};
 ghost use Rattle.std.specs.Prelude.{◌⊎◌, IfOk, IsErrOf, true, vec_capacity};
-ghost use Rattle.host_edge.specs.Views.{Told, Rose as SinkRose, AppendsPart};
+ghost use Rattle.host_edge.specs.Views.{Told, AppendsPart};
+ghost use Rattle.fault_counts.specs.Counts.{Rose};
 ghost use Rattle.dram_model.specs.Geometry.{is_geometry};
-ghost use Rattle.dram_model.specs.Chip.{Rose, Grew};
+ghost use Rattle.dram_model.specs.Chip.{Grew};
 ghost use Rattle.dram_model.specs.View.{HasBegun, Kept, Did, DidRead, NotBegun};
 ghost use Rattle.dram_model.specs.Elements.{FailedBelow};
 ghost use Rattle.uprog_code.specs.Shape.{microprograms_of};
@@ -233,7 +234,7 @@ impl Machine {
         ensures done { IsErrOf result StepFault.WriteFault
             → Did (events_by self.old (view_of instr.now)) (D.view dram.old) (D.view dram.new) }
         ensures write_fault { IsErrOf result StepFault.WriteFault
-            → SinkRose (S.view out.old).faults (S.view out.new).faults }
+            → Rose (S.view out.old).faults (S.view out.new).faults }
         ensures part { IsErrOf result StepFault.WriteFault
             → Told (AppendsPart (line_of self.old number (view_of instr.now)))
             (S.view out.old).sent (S.view out.new).sent }
@@ -295,7 +296,7 @@ impl Machine {
             (S.view out.old).sent (S.view out.new).sent) }
         ensures part { OnErr result (Told (AppendsPart (total_line (D.view dram.now).counters
             refused)) (S.view out.old).sent (S.view out.new).sent) }
-        ensures rose { OnErr result (SinkRose (S.view out.old).faults (S.view out.new).faults) }
+        ensures rose { OnErr result (Rose (S.view out.old).faults (S.view out.new).faults) }
     {
         let text = total(dram.tally(), refused);
         out.put(text.as_slice())

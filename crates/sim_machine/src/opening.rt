@@ -1,7 +1,8 @@
 //! Giving a chip the rows of an image.
 
 ghost use Rattle.std.specs.Prelude.{◌≡◌, ◌+◌, ◌*◌, ◌<◌, ◌≤◌, ◌^◌, length, OnOk, OnErr, ◌∷◌, []};
-ghost use Rattle.dram_model.specs.Chip.{Event, Rose};
+ghost use Rattle.dram_model.specs.Chip.{Event};
+ghost use Rattle.fault_counts.specs.Counts.{Rose};
 ghost use Rattle.dram_model.specs.View.{HasBegun, Kept, Did};
 ghost use Rattle.object_alloc.specs.Bytes.{bits_of_bytes};
 ghost use Rattle.object_alloc.specs.Reading.{rows_size};

@@ -4,7 +4,8 @@ use Rattle.std.proofs.Common.{◌∙◌, ap, subst, inl, inr, append-nil}
 use Rattle.std.specs.Prelude.{Result, Ok, Err, IfOk, IfSome}
 use Rattle.std.proofs.lemmas.Slice.Eq.{bytes_eq-Decides}
 use Rattle.dram_model.specs.View.{ChipView}
-use Rattle.host_edge.specs.Views.{Files, FolderView, SinkView, Told, AppendsPart, Rose}
+use Rattle.host_edge.specs.Views.{Files, FolderView, SinkView, Told, AppendsPart}
+use Rattle.fault_counts.specs.Counts.{Rose}
 use Rattle.uprog_bin.specs.Spelling.{program_bytes}
 use Rattle.machine_model.specs.Operations.{Program}
 use Rattle.machine_model.proofs.Places.{bytes_differ}

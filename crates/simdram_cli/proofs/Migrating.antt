@@ -6,7 +6,8 @@ use Rattle.std.proofs.lemmas.Grind.{common_steps}
 use Rattle.std.specs.Prelude.{Result, Ok, Err, IfOk, IfSome, length}
 use Rattle.std.proofs.lemmas.Slice.Eq.{bytes_eq-Decides}
 use Rattle.dram_model.specs.View.{ChipView}
-use Rattle.host_edge.specs.Views.{Files, FolderView, SinkView, Told, AppendsPart, Rose}
+use Rattle.host_edge.specs.Views.{Files, FolderView, SinkView, Told, AppendsPart}
+use Rattle.fault_counts.specs.Counts.{Rose}
 use Rattle.uprog_code.specs.Programs.{IsProgram}
 use Rattle.uprog_bin.specs.Spelling.{HasVersion, program_bytes}
 use Rattle.uprog_bin.specs.Reading.{program_in, ProgFault}

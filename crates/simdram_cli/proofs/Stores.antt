@@ -5,7 +5,8 @@ use Rattle.std.specs.Prelude.{bytes_eq, IfSome, Result, Ok, Err, OnOk, OnErr, is
 use mathlib.Core.Path.{fun_ext}
 use Rattle.std.proofs.lemmas.Slice.Eq.{bytes_eq-Decides}
 use Rattle.dram_model.specs.View.{ChipView}
-use Rattle.host_edge.specs.Views.{Files, FolderView, SinkView, Told, Rose, NoCountFalls}
+use Rattle.host_edge.specs.Views.{Files, FolderView, SinkView, Told, NoCountFalls}
+use Rattle.fault_counts.specs.Counts.{Rose}
 use Rattle.host_edge.specs.Views.{KeepsOthers, HasBytes, AppendsPart}
 use Rattle.cli_model.specs.World.{World, world, with_file}
 use Rattle.cli_model.specs.Steps.{Take, Use, Store, Put, ReadsOnly, CannotWrite, PutFailed, Done}

@@ -2,7 +2,8 @@
 use Rattle.std.proofs.Common.{◌≡◌, ◌⊎◌, ℕ, ◌≤◌, List, ◌++◌, refl, inl, inr}
 use Rattle.std.specs.Prelude.{Result, Ok, Err, OnOk, OnErr}
 use Rattle.dram_model.specs.View.{ChipView}
-use Rattle.host_edge.specs.Views.{FolderView, SinkView, Told, Rose, AppendsPart}
+use Rattle.host_edge.specs.Views.{FolderView, SinkView, Told, AppendsPart}
+use Rattle.fault_counts.specs.Counts.{Rose}
 use Rattle.cli_model.specs.World.{world}
 use Rattle.cli_model.specs.Status.{Says}
 

@@ -1,7 +1,8 @@
 //! The line of a command that counts entries.
 
 ghost use Rattle.std.specs.Prelude.{◌≡◌, ◌≤◌, ◌++◌, codes, decimal, OnOk, OnErr};
-ghost use Rattle.host_edge.specs.Views.{Told, AppendsPart, Rose};
+ghost use Rattle.host_edge.specs.Views.{Told, AppendsPart};
+ghost use Rattle.fault_counts.specs.Counts.{Rose};
 
 use crate::stop::put_three;
 use host_edge::{Failed, Sink};

@@ -1,7 +1,8 @@
 //! Why a command stops, its exit status and its last line.
 
 ghost use Rattle.std.specs.Prelude.{OnOk, OnErr, ◌≡◌, ◌≤◌, ◌++◌, codes, decimal};
-ghost use Rattle.host_edge.specs.Views.{Told, AppendsPart, Rose};
+ghost use Rattle.host_edge.specs.Views.{Told, AppendsPart};
+ghost use Rattle.fault_counts.specs.Counts.{Rose};
 ghost use Rattle.cli_model.specs.Status.{reason_status, reason_line};
 ghost use Rattle.built_forms.specs.Texts.{kind_word, ops_refusal};
 ghost use Rattle.simdram_cli.specs.Programs.{prog_refusal, prog_word};
