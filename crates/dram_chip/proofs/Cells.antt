@@ -150,17 +150,6 @@ constants-stay n old new cell e h others = λ k c l m.
     ap (λ w. bit_at w (c % 64)) (others (n * (6 + k) + c / 64) (word-outside n (place cell) (6 + k)
     (c / 64) (not-constant cell k e l) (column-word n c m))) ∙ h k c l m
 
-pub constants-stay-three : (n : ℕ) (old new : List ℕ) (x y z : Cell) → is_kept x ≡ true
-    → is_kept y ≡ true → is_kept z ≡ true → HasConstants n old
-    → ((k : ℕ) → Outside n (place x) k → Outside n (place y) k → Outside n (place z) k
-    → get_or new k 0 ≡ get_or old k 0) → HasConstants n new
-constants-stay-three n old new x y z ex ey ez h others = λ k c l m.
-    ap (λ w. bit_at w (c % 64)) (others (n * (6 + k) + c / 64)
-    (word-outside n (place x) (6 + k) (c / 64) (not-constant x k ex l) (column-word n c m))
-    (word-outside n (place y) (6 + k) (c / 64) (not-constant y k ey l) (column-word n c m))
-    (word-outside n (place z) (6 + k) (c / 64) (not-constant z k ez l) (column-word n c m)))
-    ∙ h k c l m
-
 reads-cell : (cell : Cell) (inverted v : Bool) (s : Column) → is_kept cell ≡ true
     → read (drive (record { cell = cell; inverted = inverted }) v s) (record {
       cell =

@@ -1,2 +1,1 @@
-mod Tells
-mod Sends
+pub mod Tells

@@ -112,26 +112,23 @@ fn bits(rt: HostRuntime) {
     }
 }
 
-// Column c is bit c mod 64 of word c / 64.
 #[test]
 fn rows(rt: HostRuntime) -> Result<(), Fail> {
-    let mut row = Row::zeros(128, rt.alloc())?;
-    let mut words = [5; 2];
-    row.get_words(&mut words);
-    assert_eq!(rt; words, [0, 0]);
-    row.set_words(&[1, 1 << 63]);
+    let mut row = Row::zeros(130, rt.alloc())?;
+    row.set(0, true);
+    row.set(63, true);
     row.set(65, true);
-    let some = [
+    row.set(129, true);
+    row.set(63, false);
+    let around = [
         row.get(0),
         row.get(1),
+        row.get(62),
+        row.get(63),
         row.get(64),
-        row.get(65),
-        row.get(127),
     ];
-    assert_eq!(rt; some, [true, false, false, true, true]);
-    let mut turned = Row::zeros(128, rt.alloc())?;
-    turned.copy_not_from(&row);
-    turned.get_words(&mut words);
-    assert_eq!(rt; words, [u64::MAX - 1, (1 << 63) - 3]);
+    assert_eq!(rt; around, [true, false, false, false, false]);
+    let behind = [row.get(65), row.get(66), row.get(128), row.get(129)];
+    assert_eq!(rt; behind, [true, false, false, true]);
     Ok(())
 }

@@ -1,5 +1,5 @@
 use Rattle.host_edge.specs.Views.{Told}
-use Rattle.host_edge.proofs.Sends.{AppendsUpTo}
+use Rattle.host_edge.specs.Sends.{AppendsUpTo}
 use Rattle.host_edge.proofs.stream.write_whole.Given as goal
 
 abbrev pub invariant-loop : goal.invariant-loop
