@@ -2,7 +2,6 @@
 use Rattle.std.proofs.Common.{◌≡◌, ℕ, ◌+◌, ◌*◌, ◌<◌, ◌≤◌, Bool, true, false, List, [], ◌∷◌, ◌++◌}
 use Rattle.std.proofs.Common.{map, length, refl, arith}
 use Rattle.std.proofs.Math.Nat.{mul-le-mul_left}
-use Rattle.std.proofs.lemmas.Bool.{cond_both}
 use Rattle.op_text.specs.declared.tree.State.{State}
 use Rattle.op_text.specs.Language.{Block}
 use Rattle.op_text.specs.Scratch.{block_weight, block_ceiling}
@@ -10,9 +9,9 @@ use Rattle.loop_ir.specs.declared.ir.Place.{Place}
 use Rattle.loop_ir.specs.Plain.{Block as Body, StepOf}
 use Rattle.loop_ir.specs.Plain.StepOf.{Along}
 use Rattle.loop_ir.specs.Loops.{all_rounds}
-use Rattle.loop_ir.specs.Costs.{body_cost, is_copy, turn_cost, rounds_cost}
+use Rattle.loop_ir.specs.Costs.{turn_cost, rounds_cost}
 use Rattle.loop_ir.specs.Statements.{Slots}
-use Rattle.loop_laws.proofs.Costing.{total, total_is}
+use Rattle.loop_laws.proofs.Costing.{total, total_is, turn-most}
 use Rattle.block_lower.specs.Form.{place_of, constant, start, IsBlockBody}
 
 constant-cost : (v : Bool) (p : Place) → turn_cost (constant v p) ≡ 1
@@ -25,10 +24,6 @@ starts-total n slots down [] more = omega arith
 starts-total n slots down (s ∷ ss) more = let h = starts-total n slots down ss more in
     let c = constant-cost s.start (place_of down (slots s.name)) in omega (arith, h, c)
 
-turn-most : (b : Body) → 0 < length b.outs → turn_cost b ≤ body_cost b
-turn-most b l = cond_both (is_copy b) 1 (body_cost b) (λ c. c ≤ body_cost b) (λ e.
-    omega arith) (λ e. omega arith)
-
 pub program-cost : {slots : Slots} {b : Block} {body : Body} → IsBlockBody slots b body
     → 0 < length b.assigns → (n : ℕ)
     → rounds_cost (all_rounds n (map (start slots b.down) b.states ++ Along body ∷ []))
@@ -38,7 +33,7 @@ program-cost {slots = slots} {b = b} {body = body} is some n =
     let t = total_is n (map (start slots b.down) b.states ++ Along body ∷ []) in
     let s = starts-total n slots b.down b.states (Along body ∷ []) in
     let c : turn_cost body ≤ 4 * length body.graph.nodes + 3 * length b.assigns = let k =
-    turn-most body (omega (arith, m, some)) in omega (arith, k, m) in
+    turn-most body in omega (arith, k, m) in
     let e = mul-le-mul_left n c in
     omega (arith, t, s, e)
 

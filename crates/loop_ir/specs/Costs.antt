@@ -1,8 +1,12 @@
 -- How many commands and instructions a loop program may take.
-use Rattle.std.specs.Prelude.{ℕ, ◌+◌, ◌*◌, ◌==◌, ◌&&◌, Bool, not, if◌then◌else◌, List, [], ◌∷◌}
+use Rattle.std.specs.Prelude.{ℕ, ◌+◌, ◌*◌, ◌==◌, ◌&&◌, Bool, true, false, not, if◌then◌else◌}
+use Rattle.std.specs.Prelude.{List, [], ◌∷◌}
 use Rattle.std.specs.Prelude.{◌++◌, length, filter, sum_by}
 use Rattle.std.specs.List.{list_any, list_all}
-use Rattle.mig_graph.specs.Literals.{is_turned}
+use mathlib.Core.Bool.{beq}
+use Rattle.mig_graph.specs.declared.Lit.{Lit}
+use Rattle.mig_graph.specs.declared.Node.{Node}
+use Rattle.mig_graph.specs.Literals.{is_turned, node_of}
 use Rattle.mig_graph.specs.Outputs.{lit_at}
 use Rattle.loop_ir.specs.declared.ir.Sub.{Sub}
 use Rattle.loop_ir.specs.declared.ir.Sub.TheVariants.{Zero, Top, Inner as At_inner, InnerDown}
@@ -22,9 +26,61 @@ abbrev pub is_copy : Block → Bool
 is_copy b = (length b.graph.nodes == 0) && ((length b.outs == 1)
     && not (is_turned (lit_at b.outs 0)))
 
--- what one round may take: a copy is one command
+-- both are one literal
+abbrev pub same_lit : Lit → Lit → Bool
+same_lit x y = (x.node == y.node) && beq x.inverted y.inverted
+
+-- both have the same literals in the same order
+abbrev pub same_node : Node → Node → Bool
+same_node m n = same_lit m.a n.a && (same_lit m.b n.b && same_lit m.c n.c)
+
+abbrev pub same_lits : List Lit → List Lit → Bool
+same_lits [] [] = true
+same_lits [] (y ∷ ys) = false
+same_lits (x ∷ xs) [] = false
+same_lits (x ∷ xs) (y ∷ ys) = same_lit x y && same_lits xs ys
+
+abbrev pub same_nodes : List Node → List Node → Bool
+same_nodes [] [] = true
+same_nodes [] (n ∷ ns) = false
+same_nodes (m ∷ ms) [] = false
+same_nodes (m ∷ ms) (n ∷ ns) = same_node m n && same_nodes ms ns
+
+-- the body has so many inputs, these nodes and these outputs
+abbrev pub is_body : ℕ → List Node → List Lit → Block → Bool
+is_body inputs nodes outs b = (b.graph.inputs == inputs) && (same_nodes b.graph.nodes nodes
+    && same_lits b.outs outs)
+
+abbrev pub plain : ℕ → Lit
+plain k = record { node = k; inverted = false }
+
+abbrev pub turned : ℕ → Lit
+turned k = record { node = k; inverted = true }
+
+-- the complement, the and, the or and the parity of two inputs, and the sum of three with its carry
+abbrev pub is_not : Block → Bool
+is_not b = is_body 1 [] (turned 1 ∷ []) b
+
+abbrev pub is_and : Block → Bool
+is_and b = is_body 2 (node_of (plain 0) (plain 1) (plain 2) ∷ []) (plain 3 ∷ []) b
+
+abbrev pub is_or : Block → Bool
+is_or b = is_body 2 (node_of (turned 0) (plain 1) (plain 2) ∷ []) (plain 3 ∷ []) b
+
+abbrev pub is_xor : Block → Bool
+is_xor b = is_body 2
+    (node_of (plain 0) (turned 1) (plain 2) ∷ node_of (plain 0) (plain 1) (turned 2)
+    ∷ node_of (turned 0) (plain 3) (plain 4) ∷ []) (plain 5 ∷ []) b
+
+abbrev pub is_add : Block → Bool
+is_add b = is_body 3
+    (node_of (plain 1) (plain 2) (plain 3) ∷ node_of (plain 1) (plain 2) (turned 3)
+    ∷ node_of (plain 3) (turned 4) (plain 5) ∷ []) (plain 6 ∷ plain 4 ∷ []) b
+
+-- what one round may take: a copy is one command, and the bodies of five operations are fixed
 abbrev pub turn_cost : Block → ℕ
-turn_cost b = if is_copy b then 1 else body_cost b
+turn_cost b = if is_copy b then 1 else (if is_not b then 2 else (if is_and b then 4
+    else (if is_or b then 4 else (if is_xor b then 7 else (if is_add b then 9 else body_cost b)))))
 
 abbrev pub rounds_cost : List (RoundOf Block) → ℕ
 rounds_cost rs = sum_by (λ r. turn_cost r.part) rs

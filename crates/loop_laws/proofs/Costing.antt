@@ -1,16 +1,68 @@
 -- The totals of all rounds.
 use Rattle.std.proofs.Common.{◌≡◌, ℕ, zero, suc, ◌+◌, ◌-◌, ◌*◌, ◌≤◌, List, [], ◌∷◌, ◌++◌, refl, sym}
-use Rattle.std.proofs.Common.{ap, ◌∙◌, arith}
+use Rattle.std.proofs.Common.{ap, ◌∙◌, arith, Bool, true, false, not, cond, length}
+use Rattle.std.specs.Prelude.{◌==◌, ◌&&◌}
+use Rattle.std.proofs.lemmas.Bool.{and_parts, eqb-true}
 use Rattle.std.proofs.lemmas.List.Sums.{sum_by-cons, sum_by-append}
+use Rattle.mig_graph.specs.declared.Lit.{Lit}
+use Rattle.mig_graph.specs.declared.Node.{Node}
+use Rattle.mig_graph.specs.Literals.{is_turned}
+use Rattle.mig_graph.specs.Outputs.{lit_at}
 use Rattle.loop_ir.specs.declared.ir.Count.TheVariants.{All, Rest}
 use Rattle.loop_ir.specs.Plain.{Block, InnerOf, StepOf}
 use Rattle.loop_ir.specs.Plain.InnerOf.{Alone, Across}
 use Rattle.loop_ir.specs.Plain.StepOf.{Single, Along, Nest}
 use Rattle.loop_ir.specs.Loops.{RoundOf, round_at, one_round, rounds, inner_rounds, all_rounds}
-use Rattle.loop_ir.specs.Costs.{turn_cost, rounds_cost}
+use Rattle.loop_ir.specs.Costs.{body_cost, turn_cost, rounds_cost, same_lit, same_lits, same_node}
+use Rattle.loop_ir.specs.Costs.{same_nodes, is_body, is_copy, is_not, is_and, is_or, is_xor, is_add}
 use Rattle.loop_ir.specs.Like.{LikeParts, no_parts, alone, across, LikeSteps, no_steps, single}
 use Rattle.loop_ir.specs.Like.{along, nest}
 use Rattle.loop_laws.specs.Laws.{AlikeCostNoMore}
+
+nodes-long : (ms ns : List Node) → same_nodes ms ns ≡ true → length ms ≡ length ns
+nodes-long [] [] h = refl
+nodes-long [] (n ∷ ns) h = absurd cc
+nodes-long (m ∷ ms) [] h = absurd cc
+nodes-long (m ∷ ms) (n ∷ ns) h = let e = nodes-long ms ns
+    (and_parts (same_node m n) (same_nodes ms ns) h).1 in omega (arith, e)
+
+lits-long : (xs ys : List Lit) → same_lits xs ys ≡ true → length xs ≡ length ys
+lits-long [] [] h = refl
+lits-long [] (y ∷ ys) h = absurd cc
+lits-long (x ∷ xs) [] h = absurd cc
+lits-long (x ∷ xs) (y ∷ ys) h = let e = lits-long xs ys
+    (and_parts (same_lit x y) (same_lits xs ys) h).1 in omega (arith, e)
+
+-- what a body with such nodes and outputs costs if none of its rows is kept
+body-long : (i : ℕ) (nodes : List Node) (outs : List Lit) (b : Block)
+    → is_body i nodes outs b ≡ true → body_cost b ≡ 4 * length nodes + 3 * length outs
+body-long i nodes outs b h =
+    let p = and_parts (b.graph.inputs == i) (same_nodes b.graph.nodes nodes
+    && same_lits b.outs outs) h in
+    let q = and_parts (same_nodes b.graph.nodes nodes) (same_lits b.outs outs) p.1 in
+    omega (arith, nodes-long b.graph.nodes nodes q.0, lits-long b.outs outs q.1)
+
+copy-long : (b : Block) → is_copy b ≡ true → body_cost b ≡ 3
+copy-long b h =
+    let p = and_parts (length b.graph.nodes == 0) ((length b.outs == 1)
+    && not (is_turned (lit_at b.outs 0))) h in
+    let q = and_parts (length b.outs == 1) (not (is_turned (lit_at b.outs 0))) p.1 in
+    omega (arith, eqb-true (length b.graph.nodes) 0 p.0, eqb-true (length b.outs) 1 q.0)
+
+at-most : (c : Bool) (x y k : ℕ) → (c ≡ true → x ≤ k) → y ≤ k → cond c x y ≤ k
+at-most true x y k h l = h refl
+at-most false x y k h l = l
+
+-- no round takes more than its body's nodes and outputs allow
+pub turn-most : (b : Block) → turn_cost b ≤ body_cost b
+turn-most b =
+    at-most (is_copy b) 1 _ (body_cost b) (λ e. omega (arith, copy-long b e))
+    (at-most (is_not b) 2 _ (body_cost b) (λ e. omega (arith, body-long 1 _ _ b e))
+    (at-most (is_and b) 4 _ (body_cost b) (λ e. omega (arith, body-long 2 _ _ b e))
+    (at-most (is_or b) 4 _ (body_cost b) (λ e. omega (arith, body-long 2 _ _ b e))
+    (at-most (is_xor b) 7 _ (body_cost b) (λ e. omega (arith, body-long 2 _ _ b e))
+    (at-most (is_add b) 9 (body_cost b) (body_cost b) (λ e. omega (arith, body-long 3 _ _ b e))
+    (omega arith))))))
 
 -- a round more, and rounds after others
 pub cost_more : (r : RoundOf Block) (rs : List (RoundOf Block))

@@ -10,7 +10,7 @@ pub mod Pieces
 pub mod Operations
 pub mod Filled
 pub mod Statements
-pub mod Built
+pub mod Own
 pub mod LikeTemplates
 pub mod Append
 pub mod Owners

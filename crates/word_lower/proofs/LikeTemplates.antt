@@ -7,37 +7,19 @@ use Rattle.std.proofs.lemmas.List.{length-map}
 use Rattle.mig_graph.specs.declared.Lit.{Lit}
 use Rattle.mig_graph.specs.declared.Node.{Node}
 use Rattle.mig_graph.specs.Literals.{IsLower, is_turned}
-use Rattle.mig_graph.specs.Graph.{Graph, node_at, value}
+use Rattle.mig_graph.specs.Graph.{Graph, IsGraph}
 use Rattle.mig_graph.specs.Outputs.{lit_at}
 use Rattle.loop_ir.specs.declared.ir.Place.{Place}
 use Rattle.loop_ir.specs.Plain.{Block}
-use Rattle.loop_ir.specs.Costs.{body_cost, is_copy, turn_cost}
+use Rattle.loop_laws.specs.Forms.{IsMade}
 use Rattle.loop_ir.specs.Like.{IsLike}
 use Rattle.word_lower.specs.declared.shapes.Mark.{Mark}
 use Rattle.word_lower.specs.declared.shapes.Owners.{Owners}
 use Rattle.word_lower.specs.Programs.{template}
-use Rattle.word_lower.specs.Shapes.{mark_of, marks, place_on, body_on, are_lower, are_below}
+use Rattle.word_lower.specs.Shapes.{mark_of, marks, place_on, body_on, are_below}
 
 less_is : (a b : ℕ) → nat_lt a b ≡ true → a < b
 less_is a b e = grind arith
-
-pub all_lower : (k : ℕ) (nodes : List Node) → are_lower k nodes ≡ true → (j : ℕ) → j < length nodes
-    → IsLower (k + j) (node_at nodes j)
-all_lower k [] e j lt = absurd (omega arith)
-all_lower k (n ∷ ns) e zero lt =
-    let a = and_parts (nat_lt n.a.node k && (nat_lt n.b.node k && nat_lt n.c.node k))
-    (are_lower (k + 1) ns) e in
-    let b = and_parts (nat_lt n.a.node k) (nat_lt n.b.node k && nat_lt n.c.node k) a.0 in
-    let c = and_parts (nat_lt n.b.node k) (nat_lt n.c.node k) b.1 in
-    let x = less_is n.a.node k b.0 in
-    let y = less_is n.b.node k c.0 in
-    let z = less_is n.c.node k c.1 in
-    (omega arith, omega arith, omega arith)
-all_lower k (n ∷ ns) e (suc j) lt =
-    let a = and_parts (nat_lt n.a.node k && (nat_lt n.b.node k && nat_lt n.c.node k))
-    (are_lower (k + 1) ns) e in
-    let f : k + 1 + j ≡ k + suc j = omega arith in
-    subst (λ x. IsLower x (node_at ns j)) f (all_lower (k + 1) ns a.1 j (omega arith))
 
 pub all_below : (k : ℕ) (ls : List Lit) → are_below k ls ≡ true → (j : ℕ) → j < length ls
     → (lit_at ls j).node < k
@@ -51,58 +33,50 @@ twice_mapped : (o : Owners) (ms : List Mark) → map (λ m. place_on o (mark_of 
 twice_mapped o [] = refl
 twice_mapped o (m ∷ ms) = ap (λ ps. place_on o (mark_of m) ∷ ps) (twice_mapped o ms)
 
--- a body with no more nodes and the outputs of a copy costs no more
-pub turn_less : (b a : Block) → length b.graph.nodes ≤ length a.graph.nodes
-    → length b.outs ≡ length a.outs → 0 < length a.outs
-    → (length a.graph.nodes ≡ 0 → (j : ℕ) → j < length a.outs → lit_at b.outs j ≡ lit_at a.outs j)
-    → turn_cost b ≤ turn_cost a
-turn_less b a few same some bare = ⊎_elim
-    (λ (h : is_copy a ≡ true).
-    let p = and_parts (length a.graph.nodes == 0) ((length a.outs == 1)
-    && not (is_turned (lit_at a.outs 0))) h in
-    let q = and_parts (length a.outs == 1) (not (is_turned (lit_at a.outs 0))) p.1 in
-    let none : length a.graph.nodes ≡ 0 = eqb-true (length a.graph.nodes) 0 p.0 in
-    let one : length a.outs ≡ 1 = eqb-true (length a.outs) 1 q.0 in
-    let c : is_copy b ≡ true = and_from (length b.graph.nodes == 0) ((length b.outs == 1)
-    && not (is_turned (lit_at b.outs 0))) (eq-eqb (length b.graph.nodes) 0 (omega arith))
-    (and_from (length b.outs == 1) (not (is_turned (lit_at b.outs 0)))
-    (eq-eqb (length b.outs) 1 (omega arith)) (ap (λ l. not (is_turned l)) (bare none 0 some)
-    ∙ q.1)) in
-    let x : turn_cost a ≡ 1 = ap (λ z. cond z 1 (body_cost a)) h in
-    let y : turn_cost b ≡ 1 = ap (λ z. cond z 1 (body_cost b)) c in
-    omega (arith, x, y))
-    (λ (h : is_copy a ≡ false).
-    let x : turn_cost a ≡ body_cost a = ap (λ z. cond z 1 (body_cost a)) h in
-    let y : turn_cost b ≤ body_cost b = at_most (is_copy b) (body_cost b) (omega arith) in
-    omega (arith, x, y))
-    (cases_Bool (is_copy a))
-  where
-    at_most : (z : Bool) (k : ℕ) → 1 ≤ k → cond z 1 k ≤ k
-    at_most true k h = h
-    at_most false k h = omega arith
+-- a body is like itself
+pub like_self : (b : Block) → IsLike b b
+like_self b = record {
+  reads = refl;
+  writes = refl;
+  inputs = omega arith;
+  as_many = refl;
+  values = λ v j lj. refl;
+  nodes = omega arith;
+  cheap = omega arith;
+}
+
+abbrev pub block_of_parts : List Place → Graph → List Lit → List Place → Block
+block_of_parts reads g outs writes = record {
+  reads = reads;
+  graph = g;
+  outs = outs;
+  writes = writes;
+}
+
+pub block_eq : (reads writes rp wp : List Place) (g h : Graph) (outs lits : List Lit) → rp ≡ reads
+    → wp ≡ writes → g ≡ h → lits ≡ outs → block_of_parts rp g lits wp ≡ block_of_parts reads h outs
+    writes
+block_eq reads writes rp wp g h outs lits er ew eg el = rw (er, ew, eg, el) refl
 
 pub template_like : (o : Owners) (reads writes : List Mark) (nodes : List Node) (outs : List Lit)
     (rp wp : List Place) (g : Graph) (lits : List Lit)
     → rp ≡ map (λ m. place_on o (mark_of m)) reads → wp ≡ map (λ m. place_on o (mark_of m)) writes
-    → g.inputs ≡ length reads → length lits ≡ length outs
-    → ((bits : ℕ → Bool) (j : ℕ) → j < length outs
-    → value g bits (lit_at lits j) ≡ value (record { inputs = length reads; nodes = nodes })
-    bits (lit_at outs j))
-    → length g.nodes ≤ length nodes
-    → (length nodes ≡ 0 → (j : ℕ) → j < length outs → lit_at lits j ≡ lit_at outs j)
-    → 0 < length outs
+    → g ≡ record { inputs = length reads; nodes = nodes } → lits ≡ outs
     → IsLike (record { reads = rp; graph = g; outs = lits; writes = wp })
     (body_on o (template (marks reads) nodes outs (marks writes)))
-template_like o reads writes nodes outs rp wp g lits er ew inputs long same count bare some =
-    let e : length (marks reads) ≡ length reads = length-map reads mark_of in
-    record {
-      reads = er ∙ twice_mapped o reads;
-      writes = ew ∙ twice_mapped o writes;
-      inputs = omega (arith, inputs, e);
-      as_many = long;
-      values = λ v j lj. same v j lj ∙ ap (λ i.
-          value (record { inputs = i; nodes = nodes }) v (lit_at outs j)) (sym e);
-      nodes = count;
-      cheap = turn_less (record { reads = rp; graph = g; outs = lits; writes = wp })
-          (body_on o (template (marks reads) nodes outs (marks writes))) count long some bare;
-    }
+template_like o reads writes nodes outs rp wp g lits er ew eg el =
+    let whole = body_on o (template (marks reads) nodes outs (marks writes)) in
+    let n : length reads ≡ length (marks reads) = sym (length-map reads mark_of) in
+    subst (λ b. IsLike b whole) (sym (block_eq whole.reads whole.writes rp wp g whole.graph outs lits
+    (er ∙ twice_mapped o reads) (ew ∙ twice_mapped o writes)
+    (eg ∙ ap (λ (i : ℕ). record { inputs = i; nodes = nodes }) n) el)) (like_self whole)
+
+-- its graph is as `Mig` makes them, and its outputs name nodes of it
+pub template_made : (rp wp : List Place) (i : ℕ) (nodes : List Node) (outs : List Lit) (g : Graph)
+    (lits : List Lit) → IsGraph i nodes → ((j : ℕ) → j < length outs
+    → (lit_at outs j).node < i + 1 + length nodes) → g ≡ record { inputs = i; nodes = nodes }
+    → lits ≡ outs → IsMade (record { reads = rp; graph = g; outs = lits; writes = wp })
+template_made rp wp i nodes outs g lits graph named eg el = rw (eg, el) record {
+  graph = graph;
+  named = named;
+}

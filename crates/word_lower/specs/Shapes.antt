@@ -1,12 +1,15 @@
 -- The bodies of the code's shapes, and their places.
-use Rattle.std.specs.Prelude.{ℕ, zero, suc, ◌+◌, Bool, true, ◌&&◌, nat_lt, List, [], ◌∷◌, map}
-use Rattle.std.specs.Prelude.{Option, Some, None}
+use Rattle.std.specs.Prelude.{ℕ, zero, suc, ◌+◌, Bool, true, not, ◌&&◌, nat_lt, List, [], ◌∷◌}
+use Rattle.std.specs.Prelude.{map, Option, Some, None}
+use Rattle.std.specs.List.{list_any}
 use Rattle.mig_graph.specs.declared.Lit.{Lit}
 use Rattle.mig_graph.specs.declared.Node.{Node}
+use Rattle.mig_graph.specs.Literals.{inversions}
 use Rattle.loop_ir.specs.declared.ir.Place.{Place}
 use Rattle.loop_ir.specs.declared.names.Slot.{Slot}
 use Rattle.loop_ir.specs.Plain.{Block, StepOf, step_map}
 use Rattle.loop_ir.specs.Plain.StepOf.{Single, Along}
+use Rattle.loop_ir.specs.Costs.{same_node}
 use Rattle.loop_laws.specs.Rooms as rooms
 use Rattle.loop_laws.specs.Rooms.{Marked}
 use Rattle.word_lower.specs.declared.shapes.Owner.{Owner}
@@ -102,11 +105,15 @@ owners_of t args free = record {
   third = behind args free 2;
 }
 
--- each node reads lower nodes, where the first has the number k
-abbrev pub are_lower : ℕ → List Node → Bool
-are_lower k [] = true
-are_lower k (n ∷ ns) = (nat_lt n.a.node k && (nat_lt n.b.node k && nat_lt n.c.node k))
-    && are_lower (k + 1) ns
+-- the node reads three lower nodes in order, at most one of them inverted
+abbrev pub is_own : ℕ → Node → Bool
+is_own k n = nat_lt n.a.node n.b.node && (nat_lt n.b.node n.c.node && (nat_lt n.c.node k
+    && nat_lt (inversions n) 2))
+
+-- each node does so, where the first has the number k, and no two are the same
+abbrev pub are_own : ℕ → List Node → Bool
+are_own k [] = true
+are_own k (n ∷ ns) = is_own k n && (not (list_any (λ m. same_node n m) ns) && are_own (k + 1) ns)
 
 abbrev pub are_below : ℕ → List Lit → Bool
 are_below k [] = true

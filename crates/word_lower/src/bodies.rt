@@ -8,7 +8,7 @@ ghost use Rattle.loop_ir.specs.Plain.{Block, StepOf, AllParts, AllStep, step_map
 ghost use Rattle.loop_laws.specs.Forms.{IsMade};
 ghost use Rattle.word_lower.specs.Programs.{template};
 ghost use Rattle.word_lower.specs.Shapes.{mark_of, marks, shape_body, line_step, lines_steps};
-ghost use Rattle.word_lower.specs.Shapes.{place_on, body_on, program_on, are_lower, are_below};
+ghost use Rattle.word_lower.specs.Shapes.{place_on, body_on, program_on, are_own, are_below};
 
 use crate::graphs::made;
 use crate::literals::{N1, OFF, ON, P1, P2, P3, P4, P5, P6, P7};
@@ -61,7 +61,7 @@ fn templated(
     requires reads { length reads.now ≤ 3 }
     requires nodes { length nodes.now ≤ 6 }
     requires outs { 0 < length outs.now }
-    requires lower { are_lower (length reads.now + 1) nodes.now ≡ true }
+    requires own { are_own (length reads.now + 1) nodes.now ≡ true }
     requires named { are_below (length reads.now + 1 + length nodes.now) outs.now ≡ true }
     ensures like { IfOk result (λ b. IsLike (block_of b)
         (body_on owners (template (marks reads.now) nodes.now outs.now (marks writes.now)))) }

@@ -1,34 +1,24 @@
 -- Bodies that are built by a template are like it.
-use Rattle.std.proofs.Common.{◌≡◌, ℕ, ◌<◌, ◌≤◌, Bool, List, length, arith}
+use Rattle.std.proofs.Common.{◌≡◌, ℕ, ◌+◌, ◌<◌, List, length, sym, subst}
 use Rattle.mig_graph.specs.declared.Lit.{Lit}
 use Rattle.mig_graph.specs.declared.Node.{Node}
-use Rattle.mig_graph.specs.Graph.{Graph, IsGraph, value}
-use Rattle.mig_graph.specs.Outputs.{lit_at, AreNamed}
+use Rattle.mig_graph.specs.Graph.{Graph, IsGraph}
+use Rattle.mig_graph.specs.Outputs.{lit_at}
 use Rattle.loop_ir.specs.declared.ir.Place.{Place}
-use Rattle.word_lower.proofs.LikeTemplates.{turn_less}
+use Rattle.loop_ir.specs.Like.{IsLike}
+use Rattle.word_lower.proofs.LikeTemplates.{like_self, block_eq, template_made}
 use Rattle.word_mul.specs.Bodies.{over, IsBuilt}
 
 pub built : (reads writes rp wp : List Place) (nodes : List Node) (outs lits : List Lit) (g : Graph)
-    → rp ≡ reads → wp ≡ writes → g.inputs ≡ length reads → length lits ≡ length outs
-    → ((bits : ℕ → Bool) (j : ℕ) → j < length outs
-    → value g bits (lit_at lits j) ≡ value (record { inputs = length reads; nodes = nodes })
-    bits (lit_at outs j))
-    → length g.nodes ≤ length nodes
-    → (length nodes ≡ 0 → (j : ℕ) → j < length outs → lit_at lits j ≡ lit_at outs j)
-    → 0 < length outs → IsGraph g.inputs g.nodes → AreNamed g lits
+    → rp ≡ reads → wp ≡ writes → IsGraph (length reads) nodes
+    → ((j : ℕ) → j < length outs → (lit_at outs j).node < length reads + 1 + length nodes)
+    → g ≡ record { inputs = length reads; nodes = nodes } → lits ≡ outs
     → IsBuilt (record { reads = rp; graph = g; outs = lits; writes = wp })
     (over reads nodes outs writes)
-built reads writes rp wp nodes outs lits g er ew inputs long same count bare some graph named =
+built reads writes rp wp nodes outs lits g er ew graph named eg el =
+    let whole = over reads nodes outs writes in
     record {
-      like = record {
-        reads = er;
-        writes = ew;
-        inputs = omega (arith, inputs);
-        as_many = long;
-        values = same;
-        nodes = count;
-        cheap = turn_less (record { reads = rp; graph = g; outs = lits; writes = wp })
-            (over reads nodes outs writes) count long some bare;
-      };
-      made = record { graph = graph; named = named };
+      like = subst (λ b. IsLike b whole) (sym (block_eq reads writes rp wp g whole.graph outs lits
+          er ew eg el)) (like_self whole);
+      made = template_made rp wp (length reads) nodes outs g lits graph named eg el;
     }

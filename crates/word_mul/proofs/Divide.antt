@@ -22,7 +22,6 @@ use Rattle.word_lower.specs.Programs.{second, third, plain, compared}
 use Rattle.word_lower.proofs.Setting.{bit, number, row, number_at}
 use Rattle.word_lower.proofs.Passes.{state_loop}
 use Rattle.word_lower.proofs.Sums.{value_same, value_below, compare, less_two}
-use Rattle.word_lower.proofs.Carries.{lessened_digit}
 use Rattle.word_mul.specs.Programs.{fourth, fifth, divided, division}
 use Rattle.word_mul.specs.declared.rows.Rows.{Rows}
 use Rattle.word_mul.specs.Places.{rooms_for, scratch_word}
@@ -35,6 +34,20 @@ whole_compare : (t : Bool) (x b p : ℕ) → b < p
 unfolding majority
 whole_compare true x b p lt = sym (lt-ltb b (x + 1 * p + 1) (omega arith))
 whole_compare false x b p lt = let e : x + 1 ≡ x + 0 * p + 1 = omega arith in ap (nat_lt b) e
+
+-- a borrow, as the complement of a carry
+divided_digit : (x y c : Bool)
+    → bit (majority (not c) (majority (not x) c y) (majority x c (not y))) + 2
+    * bit (not (majority (not x) c y)) ≡ bit x + bit (not y) + bit (not c)
+unfolding majority
+divided_digit true true true = refl
+divided_digit true true false = refl
+divided_digit true false true = refl
+divided_digit true false false = refl
+divided_digit false true true = refl
+divided_digit false true false = refl
+divided_digit false false true = refl
+divided_digit false false false = refl
 
 module _ (n : ℕ) (m : Rows) (are : AreRows n 2 2 m) where
   abbrev pub w : Slot
@@ -174,7 +187,7 @@ module _ (n : ℕ) (m : Rows) (are : AreRows n 2 2 m) where
       let y = λ (i : ℕ). turn n o divide_body zs s4 (suc i) 0 in
       let borrow = λ (i : ℕ). turn n o divide_body zs s4 i 1 in
       let carry = λ (i : ℕ). not (borrow i) in
-      let d = less_two x4 gb y carry n (λ i lt. lessened_digit (x4 i) (gb i) (borrow i)) in
+      let d = less_two x4 gb y carry n (λ i lt. divided_digit (x4 i) (gb i) (borrow i)) in
       let one : bit (carry 0) ≡ 1 = ap (λ b. bit (not b)) (set_same s3 cp false cp refl) in
       let gated = value_gated b4 (s4 gp) n in
       let vb4 : number b4 n ≡ number_at n old m.b n =

@@ -35,8 +35,8 @@ use Rattle.word_mul.proofs.Setting.{bit_else}
 use Rattle.word_mul.proofs.Product.{value_split, value_gated, product_step, below_pow, few_ones}
 
 multiplied_digit : (t w c : Bool)
-    → bit (majority t (majority (not t) w c) (not (majority w c (not (majority (not t) w c)))))
-    + 2 * bit (majority w c (not (majority (not t) w c))) ≡ bit t + bit w + bit c
+    → bit (majority t (majority (not t) c w) (not (majority c w (not (majority (not t) c w)))))
+    + 2 * bit (majority c w (not (majority (not t) c w))) ≡ bit t + bit w + bit c
 unfolding majority
 multiplied_digit true true true = refl
 multiplied_digit true true false = refl

@@ -25,8 +25,8 @@ fifth s = on 5 s
 
 -- y, the bit of a product and a carry, into y
 abbrev pub multiplied_nodes : List Node
-multiplied_nodes = node_of off (plain 2) (plain 3) ∷ node_of (turned 1) (plain 5) (plain 4)
-    ∷ node_of (plain 5) (plain 4) (turned 6) ∷ node_of (plain 1) (plain 6) (turned 7) ∷ []
+multiplied_nodes = node_of off (plain 2) (plain 3) ∷ node_of (turned 1) (plain 4) (plain 5)
+    ∷ node_of (plain 4) (plain 5) (turned 6) ∷ node_of (plain 1) (plain 6) (turned 7) ∷ []
 
 abbrev pub multiplied : Mark → Mark → Mark → Mark → Marked
 multiplied y a b c = template (y ∷ a ∷ b ∷ c ∷ []) multiplied_nodes (plain 8 ∷ plain 7 ∷ []) (y ∷ c
@@ -42,8 +42,8 @@ counted y c = template (y ∷ c ∷ []) counted_nodes (plain 5 ∷ plain 3 ∷ [
 
 -- w less y where g is set, with a borrow, into w
 abbrev pub divided_nodes : List Node
-divided_nodes = node_of off (plain 2) (plain 3) ∷ node_of (turned 1) (plain 5) (plain 4)
-    ∷ node_of (plain 1) (turned 5) (plain 4) ∷ node_of (turned 4) (plain 6) (plain 7) ∷ []
+divided_nodes = node_of off (plain 2) (plain 3) ∷ node_of (turned 1) (plain 4) (plain 5)
+    ∷ node_of (plain 1) (plain 4) (turned 5) ∷ node_of (turned 4) (plain 6) (plain 7) ∷ []
 
 abbrev pub divided : Mark → Mark → Mark → Mark → Marked
 divided w y g c = template (w ∷ y ∷ g ∷ c ∷ []) divided_nodes (plain 8 ∷ plain 6 ∷ []) (w ∷ c ∷ [])
@@ -96,9 +96,9 @@ is_nested_statement (Visit block) = false
 -- the commands of its loop program at width n
 abbrev pub nested_total : WordOp → ℕ → ℕ
 nested_total o.Mul n = 11 * n ^ 2 + 13 * n
-nested_total o.Div n = 29 * n ^ 2 + 12 * n
-nested_total o.Rem n = 29 * n ^ 2 + 12 * n
-nested_total o.Bitcount n = 18 * n ^ 2 + 4 * n
+nested_total o.Div n = 29 * n ^ 2 + 9 * n
+nested_total o.Rem n = 29 * n ^ 2 + 9 * n
+nested_total o.Bitcount n = 18 * n ^ 2 + 3 * n
 nested_total p n = 0
 
 abbrev pub statement_total : Statement → ℕ → ℕ

@@ -5,7 +5,7 @@ ghost use Rattle.mig_graph.specs.Literals.{node_of};
 ghost use Rattle.loop_ir.specs.Plain.{block_of};
 ghost use Rattle.word_lower.specs.Programs.{plain, turned, up};
 ghost use Rattle.word_mul.specs.Programs.{multiplied_nodes, counted_nodes, divided_nodes};
-ghost use Rattle.word_lower.specs.Shapes.{are_lower, are_below};
+ghost use Rattle.word_lower.specs.Shapes.{are_own, are_below};
 ghost use Rattle.word_mul.specs.Bodies.{over, IsBuilt};
 
 use crate::templates::{COUNTED, DIVIDED, MULTIPLIED};
@@ -26,7 +26,7 @@ fn templated(
     requires reads { length reads.now ≤ 4 }
     requires nodes { length nodes.now ≤ 4 }
     requires outs { 0 < length outs.now }
-    requires lower { are_lower (length reads.now + 1) nodes.now ≡ true }
+    requires own { are_own (length reads.now + 1) nodes.now ≡ true }
     requires named { are_below (length reads.now + 1 + length nodes.now) outs.now ≡ true }
     ensures { IfOk result (λ b.
         IsBuilt (block_of b) (over reads.now nodes.now outs.now writes.now)) }

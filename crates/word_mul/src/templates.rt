@@ -11,12 +11,12 @@ pub const MULTIPLIED: [Node; 4] = [
     },
     Node {
         a: N1,
-        b: P5,
-        c: P4,
+        b: P4,
+        c: P5,
     },
     Node {
-        a: P5,
-        b: P4,
+        a: P4,
+        b: P5,
         c: N6,
     },
     Node {
@@ -52,13 +52,13 @@ pub const DIVIDED: [Node; 4] = [
     },
     Node {
         a: N1,
-        b: P5,
-        c: P4,
+        b: P4,
+        c: P5,
     },
     Node {
         a: P1,
-        b: N5,
-        c: P4,
+        b: P4,
+        c: N5,
     },
     Node {
         a: N4,

@@ -1,15 +1,22 @@
-use Rattle.word_lower.proofs.LikeTemplates.{all_lower, all_below, template_like}
+use Rattle.std.proofs.Common.{arith}
+use Rattle.word_lower.proofs.LikeTemplates.{all_below, template_like, template_made}
+use Rattle.word_lower.proofs.Own.{own_graph, own_sorted}
 use Rattle.word_lower.proofs.bodies.templated.Goals as goal
 
-pub made-requires-clause-lower : goal.made-requires-clause-lower
-made-requires-clause-lower c = all_lower _ c.args.nodes.now c.requires.lower
+pub made-requires-clause-graph : goal.made-requires-clause-graph
+made-requires-clause-graph c = own_graph _ c.args.nodes.now
+    (omega (arith, c.requires.reads, c.requires.nodes)) c.requires.own
 
-pub made-requires-clause-named : goal.made-requires-clause-named
-made-requires-clause-named c = all_below _ c.args.outs.now c.requires.named
+pub made-requires-clause-sorted : goal.made-requires-clause-sorted
+made-requires-clause-sorted c = own_sorted _ c.args.nodes.now c.requires.own
 
 pub returns-clause-like : goal.returns-clause-like
-returns-clause-like c =
-    let m = c.in_ok-made.ensures in
-    template_like c.args.owners c.args.reads.now c.args.writes.now c.args.nodes.now c.args.outs.now
-    _ _ _ _ c.in_ok-places.ensures c.in_ok-places-2.ensures m.inputs m.long m.value m.count
-    m.bare c.requires.outs
+returns-clause-like c = template_like c.args.owners c.args.reads.now c.args.writes.now
+    c.args.nodes.now c.args.outs.now _ _ _ _ c.in_ok-places.ensures c.in_ok-places-2.ensures
+    c.in_ok-made.ensures.graph c.in_ok-made.ensures.outs
+
+pub returns-clause-made : goal.returns-clause-made
+returns-clause-made c = template_made _ _ _ c.args.nodes.now c.args.outs.now _ _
+    (own_graph _ c.args.nodes.now (omega (arith, c.requires.reads, c.requires.nodes)) c.requires.own)
+    (all_below _ c.args.outs.now c.requires.named) c.in_ok-made.ensures.graph
+    c.in_ok-made.ensures.outs

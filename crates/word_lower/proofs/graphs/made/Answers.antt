@@ -1,15 +1,9 @@
-use Rattle.std.proofs.Common.{◌∙◌, ap, arith}
-use Rattle.bit_rows.specs.Bits.{flip_if}
-use Rattle.mig_graph.specs.Outputs.{lit_at}
-use Rattle.word_lower.proofs.Built.{turned_value}
+use Rattle.word_lower.proofs.Own.{grown}
 use Rattle.word_lower.proofs.graphs.made.Goals as goal
 
-pub returns-clause-value : goal.returns-clause-value
-returns-clause-value c =
-    λ bits j lt.
-    (let l = lit_at c.args.outs.now j in
-    let end = c.loop-l-test.false in
-    let stop = c.loop-l.auto.l-index-end in
-    turned_value c.in_ok-whole.whole.mig bits c.in_ok-whole.whole.outs.items l
-    (lit_at c.loop-l.lits.items j) (c.loop-l.invariant.each j (omega (arith, end, stop)))
-    ∙ ap (flip_if l.inverted) (c.in_ok-whole.ensures.value bits l.node (c.requires.named j lt)))
+pub loop-node-preserved : goal.loop-node-preserved
+loop-node-preserved c = record {
+  graph = grown c.args.inputs c.args.nodes.now c.loop-node.node-index c.loop-node.mig
+      c.maj.new.self c.requires.graph c.requires.sorted c.loop-node-test.true
+      c.loop-node.invariant.graph c.maj.ensures.inputs (λ f l. (c.in_ok-maj.ensures.fresh f l).1);
+}
