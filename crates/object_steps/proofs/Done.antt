@@ -1,11 +1,10 @@
 -- What an instruction comes to, where it is done and where it is refused.
-use Rattle.std.proofs.Common.{◌≡◌, ℕ, ◌+◌, ◌*◌, ◌<◌, ◌≤◌, Bool, true, false, List, [], Option, Some}
-use Rattle.std.proofs.Common.{None, length, map, refl, sym, ◌∙◌, ap, arith, nat_le, position, not}
-use Rattle.std.proofs.Common.{◌≢◌, ◌-◌, ◌∷◌, subst}
-use Rattle.std.specs.Prelude.{◌^◌, ◌==◌, unwrap_or}
-use Rattle.std.proofs.lemmas.Bool.{ne_eqb, eq-eqb}
+use Rattle.std.proofs.Common.{◌≡◌, ℕ, ◌+◌, ◌<◌, ◌≤◌, true, false, List, [], Option, Some}
+use Rattle.std.proofs.Common.{None, length, map, refl, sym, ◌∙◌, ap, arith, nat_le, position}
+use Rattle.std.proofs.Common.{◌-◌, ◌∷◌, subst}
+use Rattle.std.specs.Prelude.{◌^◌, unwrap_or}
+use Rattle.std.proofs.lemmas.Bool.{eq-eqb}
 use Rattle.dram_model.specs.declared.geometry.Geometry.{Geometry}
-use Rattle.dram_model.specs.declared.dram.Counters.{Counters}
 use Rattle.dram_model.specs.Chip.{Event}
 use Rattle.dram_model.specs.View.{ChipView, Did}
 use Rattle.dram_model.proofs.EventLaws.{Did-none}
@@ -17,16 +16,13 @@ use Rattle.object_alloc.proofs.Tables.{in_range}
 use Rattle.machine_model.proofs.Below.{base_free, row_within}
 use Rattle.object_alloc.specs.Free.{is_free}
 use Rattle.std.specs.Prelude.{is_none}
-use Rattle.bbop_isa.specs.Forms.{Fill, Load}
+use Rattle.bbop_isa.specs.Forms.{Load}
 use Rattle.machine_model.specs.declared.Why.{Why}
 use Rattle.machine_model.specs.declared.Why.TheVariants as why
-use Rattle.machine_model.specs.declared.Reply.{Reply}
 use Rattle.machine_model.specs.declared.Reply.TheVariants.{Done, Refused}
-use Rattle.machine_model.specs.Columns.{segments}
 use Rattle.machine_model.specs.Operations.{Operations}
-use Rattle.machine_model.specs.Refusals.{is_absent, object_named, refusal, at_place, first, when}
+use Rattle.machine_model.specs.Refusals.{is_absent, object_named, refusal, at_place, first}
 use Rattle.machine_model.specs.Steps.{if_done, new_object, reply_by}
-use Rattle.object_steps.specs.Objects.{RisesAtMost}
 use Rattle.object_steps.proofs.Refused.{alone, at_place-map}
 use Rattle.std.specs.Option.{option_map}
 
@@ -45,14 +41,6 @@ replies_done r told counts e f = rw (e, f) refl
 pub replies_refused : (r : Option Why) (reason : Why) (counts : Counts) → r ≡ Some reason
     → Refused reason ≡ reply_by r counts
 replies_refused r reason counts e = rw e refl
-
-pub same_counters : (n : ℕ) (counters : Counters) → RisesAtMost n counters counters
-same_counters n counters = record {
-  aap = omega arith;
-  ap = omega arith;
-  writes = omega arith;
-  reads = omega arith;
-}
 
 range_found : (n : ℕ) (values : List ℕ) (found : Option ℕ)
     → found ≡ position (λ v. nat_le (2 ^ n) v) values

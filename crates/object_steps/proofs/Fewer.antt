@@ -1,5 +1,5 @@
 -- Values of few bits.
-use Rattle.std.proofs.Common.{◌≡◌, ℕ, ◌+◌, ◌*◌, ◌/◌, ◌<◌, ◌≤◌, ◌^◌, Bool, true, false, not, refl, arith}
+use Rattle.std.proofs.Common.{◌≡◌, ℕ, ◌/◌, ◌<◌, ◌≤◌, ◌^◌, true, false, not, refl, arith}
 use Rattle.std.proofs.Common.{nat_le, nat_lt, nat_eq, inl, inr}
 use Rattle.std.proofs.Math.Nat.{div-eq_of_lt}
 use Rattle.std.proofs.Math.Pow.{pow_mono}
@@ -20,7 +20,10 @@ divides v m some = elim (cases_lt v m) [
 
 -- a value has a bit at or above bit n where it is not less than 2 ^ n
 pub has_more : (v n : ℕ) → not (nat_eq (v / 2 ^ n) 0) ≡ nat_le (2 ^ n) v
-has_more v n = let less : 0 ≤ n = omega arith in let one : 2 ^ 0 ≤ 2 ^ n = pow_mono less in divides v (2 ^ n) (omega arith)
+has_more v n =
+    let less : 0 ≤ n = omega arith in
+    let one : 2 ^ 0 ≤ 2 ^ n = pow_mono less in
+    divides v (2 ^ n) (omega arith)
 
 pub has_no_more : (v n : ℕ) → 128 ≤ n → v < 2 ^ 128 → nat_lt n 128 ≡ nat_le (2 ^ n) v
 has_no_more v n wide small =

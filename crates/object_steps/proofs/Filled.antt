@@ -1,7 +1,6 @@
 -- Rows that take bits, one after another.
 use Rattle.std.proofs.Common.{◌≡◌, ◌≢◌, ℕ, zero, suc, ◌+◌, ◌*◌, ◌<◌, Bool, true, false, List}
-use Rattle.std.proofs.Common.{[], ◌∷◌, ◌++◌, map, refl, sym, ◌∙◌, ap, arith, add-one}
-use Rattle.std.proofs.Common.{append_assoc, append-nil}
+use Rattle.std.proofs.Common.{[], ◌∷◌, map, refl, sym, ◌∙◌, arith, add-one}
 use Rattle.std.specs.Prelude.{flat_map, nat_lt, Result, Ok, Err, OnErr}
 use Rattle.std.specs.List.{range_with_len}
 use Rattle.std.proofs.Math.Nat.{suc-mul}
@@ -19,6 +18,7 @@ use Rattle.dram_model.specs.View.{ChipView, Did}
 use Rattle.dram_model.proofs.EventLaws.{Did-more}
 use Rattle.object_alloc.specs.declared.table.Object.{Object}
 use Rattle.object_steps.specs.Objects.{filled_in}
+use Rattle.object_steps.proofs.Valued.{flat_suc}
 
 pub on_err : {T E P : Type 0} (r : Result T E) → P → OnErr r P
 on_err (Ok x) p = tt
@@ -33,10 +33,6 @@ legal_by false rows row l = let e : nat_lt row rows ≡ true = grind (arith, nat
 pub is_given : (value k rows row : ℕ) (x : Addr) → x ≡ addr.C (bit_number (bit_at value k))
     → row < rows → is_legal rows (Aap x (addr.D row)) ≡ true
 is_given value k rows row x e l = rw e (legal_by (bit_at value k) rows row l)
-
-row_event : ℕ → ℕ → ℕ → ℕ → Event
-row_event base value bank k = Row bank (Aap (addr.C (bit_number (bit_at value k)))
-    (addr.D (base + k)))
 
 -- one more row
 pub next_row : (f : ℕ → Event) (k : ℕ) (event : Event) (a b c : ChipView) → event ≡ f k
@@ -58,15 +54,6 @@ pub filled_others : (o : Object) (value bank : ℕ) (banks : Banks) (b : ℕ) �
 filled_others o value bank banks b ne =
     rows_others (λ k. addr.C (bit_number (bit_at value k))) (λ k. addr.D (o.base + k)) bank 0
     o.width banks b ne
-
-flat_suc : (E : ℕ → List Event) (a n : ℕ) → flat_map E (range_with_len a (suc n))
-    ≡ flat_map E (range_with_len a n) ++ E (a + n)
-flat_suc E a zero = let e : a + 0 ≡ a = omega arith in append-nil (E a) ∙ ap E (sym e)
-flat_suc E a (suc n) =
-    let e : a + 1 + n ≡ a + suc n = omega arith in
-    ap (λ xs. E a ++ xs) (flat_suc E (a + 1) n)
-    ∙ sym (append_assoc (E a) (flat_map E (range_with_len (a + 1) n)) (E (a + 1 + n)))
-    ∙ ap (λ k. (E a ++ flat_map E (range_with_len (a + 1) n)) ++ E k) e
 
 -- one more bank
 pub next_bank : (E : ℕ → List Event) (k : ℕ) (a b c : ChipView)

@@ -1,5 +1,5 @@
 -- The first condition that holds.
-use Rattle.std.proofs.Common.{◌≡◌, ℕ, ◌+◌, ◌<◌, ◌≤◌, Bool, true, false, cond, not, List, [], ◌∷◌}
+use Rattle.std.proofs.Common.{◌≡◌, ℕ, ◌+◌, ◌<◌, Bool, true, false, cond, not, List, [], ◌∷◌}
 use Rattle.std.proofs.Common.{Option, Some, None, length, map, position, refl, sym, ◌∙◌, ap, arith}
 use Rattle.std.proofs.Common.{nat_le}
 use Rattle.std.specs.Prelude.{All, nat_lt, ◌^◌}

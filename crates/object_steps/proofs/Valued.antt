@@ -46,7 +46,8 @@ values_split f k n l =
     ∙ ap values_text (ap (λ xs. xs ++ drop k (map f (range_with_len 0 n)))
     (sym (take-map-range_with_len f 0 n k l)) ∙ take-append-drop k (map f (range_with_len 0 n)))
 
-flat_suc : {X : Type 0} (E : ℕ → List X) (a n : ℕ) → flat_map E (range_with_len a (suc n))
+-- one more of what a range gives
+pub flat_suc : {X : Type 0} (E : ℕ → List X) (a n : ℕ) → flat_map E (range_with_len a (suc n))
     ≡ flat_map E (range_with_len a n) ++ E (a + n)
 flat_suc E a zero = let e : a + 0 ≡ a = omega arith in append-nil (E a) ∙ ap E (sym e)
 flat_suc E a (suc n) =
@@ -240,7 +241,8 @@ few_read bank n banks l =
     omega (arith, up, mul_comm banks n)
 
 line_text : (before shown colon text last : List ℕ)
-    → (((before ++ shown) ++ colon) ++ text) ++ last ≡ (before ++ ((shown ++ colon) ++ text)) ++ last
+    → (((before ++ shown) ++ colon) ++ text) ++ last
+    ≡ (before ++ ((shown ++ colon) ++ text)) ++ last
 line_text before shown colon text last =
     ap (λ xs. xs ++ last) (ap (λ xs. xs ++ text) (append_assoc before shown colon)
     ∙ append_assoc before (shown ++ colon) text)

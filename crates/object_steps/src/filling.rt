@@ -1,7 +1,7 @@
 //! Rows of zeros and ones.
 
-ghost use Rattle.std.specs.Prelude.{◌≡◌, ℕ, ◌+◌, ◌*◌, ◌<◌, ◌≤◌, ◌^◌, None, IfOk, IfErr, OnOk, OnErr};
-ghost use Rattle.std.specs.Prelude.{Some, true};
+ghost use Rattle.std.specs.Prelude.{◌≡◌, ℕ, ◌+◌, ◌*◌, ◌<◌, ◌≤◌, ◌^◌, true, Some, None};
+ghost use Rattle.std.specs.Prelude.{IfOk, IfErr, OnOk, OnErr};
 ghost use Rattle.bit_rows.specs.Bits.{bit_at, bit_number};
 ghost use Rattle.dram_model.specs.declared.address.Addr.{Addr};
 ghost use Rattle.dram_model.specs.Geometry.{is_geometry};

@@ -15,4 +15,3 @@ pub use filling::{fill, segments};
 pub use listing::{free, trsp_init};
 pub use loading::load;
 pub use printing::print;
-pub use text::{add, add_number};

@@ -1,7 +1,7 @@
 //! Objects that are made and given back.
 
-ghost use Rattle.std.specs.Prelude.{◌≡◌, ℕ, ◌+◌, ◌*◌, ◌<◌, ◌≤◌, ◌^◌, None, IfOk, IfErr, OnOk, OnErr};
-ghost use Rattle.std.specs.Prelude.{Some, false, length};
+ghost use Rattle.std.specs.Prelude.{◌≡◌, ◌+◌, ◌*◌, ◌<◌, ◌≤◌, ◌^◌, false, length, Some};
+ghost use Rattle.std.specs.Prelude.{None, IfOk, IfErr, OnOk, OnErr};
 ghost use Rattle.dram_model.specs.declared.geometry.Geometry.{Geometry};
 ghost use Rattle.dram_model.specs.View.{HasBegun, Kept, Did};
 ghost use Rattle.dram_model.specs.Elements.{FailedBelow, column_count};

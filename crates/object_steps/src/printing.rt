@@ -3,11 +3,11 @@
 ghost use Rattle.std.specs.Prelude.{◌≡◌, ℕ, ◌+◌, ◌-◌, ◌*◌, ◌/◌, ◌<◌, ◌≤◌, ◌^◌, ◌++◌, [], min, map};
 ghost use Rattle.std.specs.Prelude.{take, length, codes, decimal, None, IfOk, OnOk, OnErr, IsErrOf};
 ghost use Rattle.std.specs.Prelude.{true};
-ghost use Rattle.dram_model.specs.Geometry.{is_geometry};
 ghost use Rattle.std.specs.List.{range_with_len};
 ghost use Rattle.host_edge.specs.Views.{Told, AppendsPart};
 ghost use Rattle.fault_counts.specs.Counts.{Rose};
 ghost use Rattle.host_edge.specs.Sends.{AppendsUpTo};
+ghost use Rattle.dram_model.specs.Geometry.{is_geometry};
 ghost use Rattle.dram_model.specs.Chip.{Grew};
 ghost use Rattle.dram_model.specs.View.{HasBegun, Kept, DidRead};
 ghost use Rattle.dram_model.specs.Elements.{FailedBelow, column_count};
@@ -39,20 +39,26 @@ use text_lex::Name;
 use transpose_unit::{read_column, read_segment, stage_rows};
 use uprog_code::Counts;
 
+/// The most bytes of a piece.
+const PIECE_BYTES: usize = 4096;
+
+/// The most bytes of a value and the blank before it.
+const VALUE_BYTES: usize = 41;
+
 /// A piece of a line. It is put before it is full, so that there is always room for the line's end.
-type Piece = ArrayVec<u8, 4096>;
+type Piece = ArrayVec<u8, PIECE_BYTES>;
 
 /// Puts what is held back, where there is no room for one more value.
 fn make_room<S: Sink>(text: &mut Piece, out: &mut S) -> Result<(), Failed>
     ensures counts { (S.view out.old).faults ≤ (S.view out.new).faults }
     ensures held { OnOk result (Told (AppendsUpTo text.new.items text.old.items)
         (S.view out.old).sent (S.view out.new).sent) }
-    ensures room { OnOk result (length text.new.items + 41 < 4096) }
+    ensures room { OnOk result (length text.new.items + VALUE_BYTES < PIECE_BYTES) }
     ensures part { OnErr result (Told (AppendsPart text.old.items) (S.view out.old).sent
         (S.view out.new).sent) }
     ensures failed { OnErr result (Rose (S.view out.old).faults (S.view out.new).faults) }
 {
-    if text.len() + 41 >= 4096 {
+    if text.len() + VALUE_BYTES >= PIECE_BYTES {
         out.put(text.as_slice())?;
         text.clear();
     }
@@ -65,7 +71,7 @@ fn add_value<S: Sink>(text: &mut Piece, value: Value, out: &mut S) -> Result<(),
     ensures held { OnOk result (Told (AppendsUpTo text.new.items
         (text.old.items ++ (codes " " ++ decimal value))) (S.view out.old).sent
         (S.view out.new).sent) }
-    ensures room { OnOk result (length text.new.items < 4096) }
+    ensures room { OnOk result (length text.new.items < PIECE_BYTES) }
     ensures part { OnErr result (Told (AppendsPart text.old.items) (S.view out.old).sent
         (S.view out.new).sent) }
     ensures failed { OnErr result (Rose (S.view out.old).faults (S.view out.new).faults) }
@@ -87,12 +93,12 @@ fn add_columns<S: Sink>(
     requires narrow { n ≤ WIDTH_MAX }
     requires stage { stage_rows n * (length stage.now / stage_rows n) ≡ length stage.now }
     requires columns { count ≤ 64 * (length stage.now / stage_rows n) }
-    requires room { length text.old.items < 4096 }
+    requires room { length text.old.items < PIECE_BYTES }
     ensures counts { (S.view out.old).faults ≤ (S.view out.new).faults }
     ensures held { OnOk result (Told (AppendsUpTo text.new.items (text.old.items ++ values_text
         (map (stage_number (length stage.now / stage_rows n) n stage.now)
         (range_with_len 0 count)))) (S.view out.old).sent (S.view out.new).sent) }
-    ensures room { OnOk result (length text.new.items < 4096) }
+    ensures room { OnOk result (length text.new.items < PIECE_BYTES) }
     ensures part { OnErr result (Told (AppendsPart (text.old.items ++ values_text
         (map (stage_number (length stage.now / stage_rows n) n stage.now)
         (range_with_len 0 count)))) (S.view out.old).sent (S.view out.new).sent) }
@@ -129,7 +135,7 @@ fn add_values<D: Dram, S: Sink>(
     requires object { IsObject g o }
     requires rows { end_of o ≤ limit_of g }
     requires stage { length stage.old ≡ stage_rows o.width * g.words }
-    requires room { length text.old.items < 4096 }
+    requires room { length text.old.items < PIECE_BYTES }
     requires reads { (D.view dram.old).counters.reads < 2 ^ 62 }
     ensures borrow { D.borrow dram.new ≡ D.borrow dram.old }
     ensures kept { Kept (D.view dram.old) (D.view dram.new) }
@@ -139,7 +145,7 @@ fn add_values<D: Dram, S: Sink>(
     ensures held { OnOk result (Told (AppendsUpTo text.new.items (text.old.items ++ values_text
         (take o.count (columns g (D.view dram.old).banks o)))) (S.view out.old).sent
         (S.view out.new).sent) }
-    ensures room { OnOk result (length text.new.items < 4096) }
+    ensures room { OnOk result (length text.new.items < PIECE_BYTES) }
     ensures part { OnErr result (Told (AppendsPart (text.old.items ++ values_text
         (take o.count (columns g (D.view dram.old).banks o)))) (S.view out.old).sent
         (S.view out.new).sent) }
@@ -168,7 +174,7 @@ fn add_values<D: Dram, S: Sink>(
 fn line_head(number: u32, shown: &Name) -> Piece
     ensures text { result.items
         ≡ decimal number ++ codes " " ++ shown.now ++ codes ":" }
-    ensures room { length result.items < 4096 }
+    ensures room { length result.items < PIECE_BYTES }
 {
     let mut text = ArrayVec::new();
     add_number(&mut text, Value::from(number));

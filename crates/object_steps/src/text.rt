@@ -7,7 +7,7 @@ use bit_rows::Value;
 use itoa::Buffer;
 
 /// Appends bytes that there is room for.
-pub fn add<const N: usize>(text: &mut ArrayVec<u8, N>, piece: &[u8])
+pub(crate) fn add<const N: usize>(text: &mut ArrayVec<u8, N>, piece: &[u8])
     requires { length text.old.items + length piece.now ≤ N }
     ensures text { text.new.items ≡ text.old.items ++ piece.now }
     ensures length { length text.new.items ≡ length text.old.items + length piece.now }
@@ -16,7 +16,7 @@ pub fn add<const N: usize>(text: &mut ArrayVec<u8, N>, piece: &[u8])
 }
 
 /// Appends a number in decimal.
-pub fn add_number<const N: usize>(text: &mut ArrayVec<u8, N>, number: Value)
+pub(crate) fn add_number<const N: usize>(text: &mut ArrayVec<u8, N>, number: Value)
     requires { length text.old.items + 40 ≤ N }
     ensures text { text.new.items ≡ text.old.items ++ decimal number }
     ensures length { length text.new.items ≤ length text.old.items + 40 }

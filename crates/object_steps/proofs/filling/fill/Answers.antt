@@ -7,7 +7,6 @@ use Rattle.machine_model.specs.Columns.{segments}
 use Rattle.machine_model.specs.Refusals.{refusal}
 use Rattle.machine_model.specs.Steps.{counts_for, fill_events, own_events}
 use Rattle.object_steps.proofs.Done.{did_all, did_nothing, replies_done, replies_refused}
-use Rattle.object_steps.proofs.Done.{same_counters}
 use Rattle.object_steps.proofs.Filled.{on_err}
 use Rattle.object_steps.proofs.filling.fill.Goals as goal
 

@@ -1,4 +1,5 @@
-use Rattle.std.proofs.Common.{◌+◌, ◌≡◌, ℕ, ◌++◌, ◌/◌, ◌≤◌, List, length, map, drop, ap, arith, subst, append_assoc, sym, ◌∙◌}
+use Rattle.std.proofs.Common.{◌≡◌, ℕ, ◌+◌, ◌/◌, ◌≤◌, ◌++◌, ◌∙◌, List, length, map, drop, ap}
+use Rattle.std.proofs.Common.{append_assoc, arith, subst, sym}
 use Rattle.std.specs.Prelude.{codes, decimal}
 use Rattle.std.specs.List.{range_with_len}
 use Rattle.host_edge.specs.Views.{Told, AppendsPart}

@@ -20,8 +20,8 @@ returns-in_err-add_values-clause-part g c = λ operations.
     on_err c.from_residual.result (subst (λ (xs : List ℕ). Told (AppendsPart xs) began.sent
     after.sent) (printed_is c.args.g operations c.args.table.now.pairs banks c.args.number
     c.args.name.now c.args.shown.now c.line_head-text.result.items o c.in-Ok.ensures.there
-    c.in-Ok.ensures.object c.line_head-text.ensures.text) (part_of_more front (codes "\n") began.sent
-    after.sent c.in_err-add_values.ensures.part))
+    c.in-Ok.ensures.object c.line_head-text.ensures.text) (part_of_more front (codes "\n")
+    began.sent after.sent c.in_err-add_values.ensures.part))
 
 pub returns-in-Ok-put-clause-rises : goal.returns-in-Ok-put-clause-rises
 returns-in-Ok-put-clause-rises g c =
