@@ -71,7 +71,8 @@ fn put_register(out: &mut Vec<u8>, word: &[u8], r: u8) -> Result<(), NoMemory>
 
 /// Appends a word with a register and a number.
 fn put_with_number(out: &mut Vec<u8>, word: &[u8], r: u8, k: u16) -> Result<(), NoMemory>
-    ensures { OnOk result (out.new.items ≡ out.old.items ++ (word.now ++ register_operand r ++ number_operand k)) }
+    ensures { OnOk result (out.new.items ≡ out.old.items
+        ++ (word.now ++ register_operand r ++ number_operand k)) }
 {
     put_register(out, word, r)?;
     put_number(out, b" ", u64::from(k))

@@ -47,7 +47,11 @@ cost_on prog width =
 -- `init`, where its numbers are a chip's
 abbrev pub init_on : (banks rows words : List ℕ) → Bor (List ℕ) → Option Command
 init_on banks rows words out =
-    let g : Geometry = record { banks = value_of banks; rows = value_of rows; words = value_of words } in
+    let g : Geometry = record {
+      banks = value_of banks;
+      rows = value_of rows;
+      words = value_of words;
+    } in
     if is_number banks && (is_number rows && (is_number words && is_geometry g))
     then Some (Init (record { geometry = g; out = out })) else None
 
