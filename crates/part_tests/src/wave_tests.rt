@@ -23,7 +23,7 @@ struct Last {
 
 impl Picker for Last {
     ghost use Rattle.std.specs.Prelude.{◌<◌, ℕ, Option};
-    ghost use Rattle.std.proofs.Common.{arith};
+    ghost use Rattle.std.proofs.Math.Numerals.{sub-suc-lt};
     ghost use Rattle.part_tests.specs.Waves.{last_live};
 
     ghost State = { Option ℕ };
@@ -39,7 +39,7 @@ impl Picker for Last {
         live - 1
     }
 
-    ghost picks_live = { λ state count some. Prim.search arith };
+    ghost picks_live = { λ state count some. sub-suc-lt count 0 some };
 }
 
 /// The row `result` takes the exclusive or of two rows before it, in the first banks.

@@ -3,7 +3,7 @@ use Rattle.std.specs.Prelude.{◌≡◌, ℕ, ◌<◌, ◌⊎◌, true, nat_lt, 
 use Rattle.std.specs.Prelude.{length, map, drop, remove, slice_set, slice_index_or}
 use Rattle.dram_model.specs.declared.address.Command.{Command}
 use Rattle.dram_model.specs.Column.{is_legal}
-use Rattle.uprog_code.specs.Machine.{Issue, Trace, issue, issues_of, HasEnded}
+use Rattle.uprog_code.specs.Machine.{Trace, issue, issues_of, HasEnded}
 use Rattle.uprog_code.specs.OneStep.{AreRegisters, issue_of}
 use Rattle.uprog_code.specs.Issued.{is_good}
 use Rattle.uprog_code.specs.Bound.{bound, bound_of}
