@@ -31,10 +31,10 @@ first_walk = record { pc = 0; regs = start; left = WALK_MAX }
 -- the head that stands beside a job is its entry's
 pub head_at : {F : Type 0} (shape : F → Shape) (jobs : List (Job F)) (heads : List JobHead) (i : ℕ)
     (job : Job F) (h : JobHead) → AreHeads shape jobs heads → i < length jobs
-    → job ≡ get_or jobs i job → h ≡ get_or heads i h → shape_of h.head ≡ shape job.entry.now
+    → job ≡ get_or jobs i job → h ≡ get_or heads i h → shape_of h.head ≡ shape job.entry
 head_at {F} shape jobs heads i job h are lt e f =
     let of_head : JobHead → Shape = λ x. shape_of x.head in
-    let of_job : Job F → Shape = λ x. shape x.entry.now in
+    let of_job : Job F → Shape = λ x. shape x.entry in
     let long : length heads ≡ length jobs = sym (length-map heads of_head) ∙ ap length are
     ∙ length-map jobs of_job in
     let lt' : i < length heads = omega (arith, long) in
@@ -46,7 +46,7 @@ pub heads_long : {F : Type 0} (shape : F → Shape) (jobs : List (Job F)) (heads
     → AreHeads shape jobs heads → length heads ≡ length jobs
 heads_long {F} shape jobs heads are =
     let of_head : JobHead → Shape = λ x. shape_of x.head in
-    let of_job : Job F → Shape = λ x. shape x.entry.now in
+    let of_job : Job F → Shape = λ x. shape x.entry in
     sym (length-map heads of_head) ∙ ap length are ∙ length-map jobs of_job
 
 -- the job of a number, as the first of those from it on

@@ -60,7 +60,7 @@ pub record IsAt (rows : ℕ) (jobs : List BoundJob) (commands : List Command) (c
 
 -- the heads of the jobs' entries, in order
 abbrev pub AreHeads : {F : Type 0} → (F → Shape) → List (Job F) → List JobHead → Type 0
-AreHeads shape jobs heads = map (λ h. shape_of h.head) heads ≡ map (λ job. shape job.entry.now) jobs
+AreHeads shape jobs heads = map (λ h. shape_of h.head) heads ≡ map (λ job. shape job.entry) jobs
 
 -- one cursor for each bank that has commands left, upwards
 pub record AreAt (banks rows : ℕ) (jobs : List BoundJob) (left : Queues) (cs : List Cursor) : Type 0

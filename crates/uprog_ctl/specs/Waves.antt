@@ -31,8 +31,8 @@ pub record BoundJob : Type 0 where
 -- a job of a wave, by what its entry means
 abbrev pub bound_job : {F : Type 0} → (F → Shape) → (F → List Uop) → Job F → BoundJob
 bound_job shape code job = record {
-  shape = shape job.entry.now;
-  code = code job.entry.now;
+  shape = shape job.entry;
+  code = code job.entry;
   binding = job.binding;
   banks = job.banks;
 }
