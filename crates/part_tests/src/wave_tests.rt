@@ -1,6 +1,6 @@
 //! Waves on two banks, under every order and one of the tests' own.
 
-ghost use Rattle.std.specs.Prelude.{◌≡◌, ℕ, ◌<◌, ◌≤◌, ◌^◌, List, All, length, OnOk};
+ghost use Rattle.std.specs.Prelude.{◌≡◌, ℕ, ◌<◌, ◌≤◌, ◌^◌, All, length, OnOk, IfOk};
 ghost use Rattle.dram_model.specs.View.{HasBegun, Kept};
 ghost use Rattle.uprog_code.specs.Shape.{shape_of};
 ghost use Rattle.uprog_ctl.specs.Waves.{bound_job, bound_jobs, CanRun};
@@ -23,7 +23,7 @@ struct Last {
 
 impl Picker for Last {
     ghost use Rattle.std.specs.Prelude.{◌<◌, ℕ, Option};
-    ghost use Rattle.std.proofs.Common.{arith};
+    ghost use Rattle.std.proofs.Math.Numerals.{sub-suc-lt};
     ghost use Rattle.part_tests.specs.Waves.{last_live};
 
     ghost State = { Option ℕ };
@@ -39,19 +39,23 @@ impl Picker for Last {
         live - 1
     }
 
-    ghost picks_live = { λ state count some. Prim.search arith };
+    ghost picks_live = { λ state count some. sub-suc-lt count 0 some };
 }
 
 /// The row `result` takes the exclusive or of two rows before it, in the first banks.
-fn xor_job(entry: &EntryCode, left: u16, right: u16, to: u16, banks: u16) -> Job<'_, EntryCode>
-    requires shape { shape_of entry.now.head ≡ xor_shape }
-    requires code { entry.now.code.items ≡ xor_code }
+fn xor_job(
+    left: u16,
+    right: u16,
+    to: u16,
+    banks: u16,
+    alloc: Global,
+) -> Result<Job<EntryCode>, Fail>
     requires left { left < to }
     requires right { right < to }
     requires to { to < 32 }
     requires banks { banks ≤ 2 }
-    ensures { CanRun two_banks (bound_job ⟦<EntryCode as Fetch>⟧.shape
-        ⟦<EntryCode as Fetch>⟧.code result) }
+    ensures { IfOk result (λ job. CanRun two_banks (bound_job ⟦<EntryCode as Fetch>⟧.shape
+        ⟦<EntryCode as Fetch>⟧.code job)) }
 {
     let mut sources = ArrayVec::new();
     sources.push(left);
@@ -63,11 +67,24 @@ fn xor_job(entry: &EntryCode, left: u16, right: u16, to: u16, banks: u16) -> Job
         sources,
         scratch: 3,
     };
-    Job {
+    let entry = xor_entry(alloc)?;
+    Ok(Job {
         entry,
         binding,
         banks,
-    }
+    })
+}
+
+/// Row 2 takes rows 0 and 1, row 3 rows 2 and 1 on bank 0 alone, and row 4 rows 3 and 2.
+fn three_jobs(alloc: Global) -> Result<[Job<EntryCode>; 3], Fail>
+    ensures { IfOk result (λ jobs. All (CanRun two_banks) (bound_jobs
+        ⟦<EntryCode as Fetch>⟧.shape ⟦<EntryCode as Fetch>⟧.code jobs)) }
+{
+    Ok([
+        xor_job(0, 1, 2, 2, alloc)?,
+        xor_job(2, 1, 3, 1, alloc)?,
+        xor_job(3, 2, 4, 2, alloc)?,
+    ])
 }
 
 const A: u64 = 0x0123_4567_89ab_cdef;
@@ -86,26 +103,21 @@ fn begun<D: Dram>(chip: &mut D) -> Result<(), Fail>
     Ok(())
 }
 
-/// Three jobs, the second on bank 0 alone: row 2 takes rows 0 and 1, row 3 rows 2 and 1, and row 4
-/// rows 3 and 2.
-fn run_three<D: Dram, P: Picker>(
+/// A wave on a chip that is ready.
+fn run_jobs<D: Dram, P: Picker>(
     chip: &mut D,
+    jobs: &[Job<EntryCode>],
     picker: &mut P,
-    entry: &EntryCode,
 ) -> Result<(), ChipFault>
     requires ready { IsReady (D.view chip.old) }
-    requires shape { shape_of entry.now.head ≡ xor_shape }
-    requires code { entry.now.code.items ≡ xor_code }
+    requires few { length jobs.now ≤ 16 }
+    requires run { All (CanRun two_banks) (bound_jobs ⟦<EntryCode as Fetch>⟧.shape
+        ⟦<EntryCode as Fetch>⟧.code jobs.now) }
     ensures kept { Kept (D.view chip.old) (D.view chip.new) }
     ensures reads { OnOk result ((D.view chip.new).counters.reads
         ≡ (D.view chip.old).counters.reads) }
 {
-    let jobs = [
-        xor_job(entry, 0, 1, 2, 2),
-        xor_job(entry, 2, 1, 3, 1),
-        xor_job(entry, 3, 2, 4, 2),
-    ];
-    run_wave(chip, &jobs, picker)
+    run_wave(chip, jobs, picker)
 }
 
 /// The word of a row after the three jobs, and the counters.
@@ -118,10 +130,10 @@ fn after_three<P: Picker>(
     requires bank { bank < 2 }
     requires row { row < 64 }
 {
-    let entry = xor_entry(alloc)?;
+    let jobs = three_jobs(alloc)?;
     let mut chip = Chip::new(alloc);
     begun(&mut chip)?;
-    run_three(&mut chip, picker, &entry)?;
+    run_jobs(&mut chip, &jobs, picker)?;
     let mut word = [0; 1];
     chip.read_row(bank, row, &mut word)?;
     Ok((word[0], chip.tally()))
@@ -165,8 +177,8 @@ fn no_jobs_do_nothing(rt: HostRuntime) -> Result<(), Fail> {
     let mut chip = Chip::new(rt.alloc());
     begun(&mut chip)?;
     let mut last = Last { first: None };
-    let jobs: [Job<'_, EntryCode>; 0] = [];
-    run_wave(&mut chip, &jobs, &mut last)?;
+    let jobs: [Job<EntryCode>; 0] = [];
+    run_jobs(&mut chip, &jobs, &mut last)?;
     assert_eq!(rt; last.first, None);
     assert_eq!(rt; chip.tally().aap, 0);
     Ok(())
@@ -175,11 +187,11 @@ fn no_jobs_do_nothing(rt: HostRuntime) -> Result<(), Fail> {
 /// The calls before the wave are the beginning and four writes.
 #[test]
 fn a_call_that_fails_ends_the_wave(rt: HostRuntime) -> Result<(), Fail> {
-    let entry = xor_entry(rt.alloc())?;
+    let jobs = three_jobs(rt.alloc())?;
     for command in 1..37u64 {
         let mut chip = FailingChip::new(rt.alloc(), [5 + command].to_vec(rt.alloc())?);
         begun(&mut chip)?;
-        let done = run_three(&mut chip, &mut Turns::new(), &entry);
+        let done = run_jobs(&mut chip, &jobs, &mut Turns::new());
         assert_eq!(rt; done.is_ok(), command > 35, "command {command}");
     }
     Ok(())

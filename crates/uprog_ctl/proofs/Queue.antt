@@ -1,18 +1,17 @@
 -- The queue of a bank, job by job.
-use Rattle.std.proofs.Common.{◌≡◌, ℕ, suc, ◌+◌, ◌<◌, ◌≤◌, Bool, true, false, cond, ltb, List, []}
+use Rattle.std.proofs.Common.{◌≡◌, ℕ, ◌+◌, ◌<◌, ◌≤◌, Bool, true, false, List, []}
 use Rattle.std.proofs.Common.{◌∷◌}
 use Rattle.std.proofs.Common.{◌++◌, length, map, drop, get_or, refl, sym, ap, ◌∙◌, subst, arith}
 use Rattle.std.specs.Prelude.{All, nat_lt, if◌then◌else◌}
 use Rattle.std.proofs.lemmas.Bool.{lt-ltb, le-ltb}
-use Rattle.std.proofs.lemmas.List.{drop_more, drop_all, get_or-map, length-map, map-append}
+use Rattle.std.proofs.lemmas.List.{drop_more, get_or-map, length-map}
 use Rattle.std.proofs.lemmas.List.Elements.{All-get_or, All-head, All-drop}
 use Rattle.dram_model.specs.declared.address.Command.{Command}
 use Rattle.dram_model.specs.declared.geometry.Geometry.{Geometry}
-use Rattle.dram_model.specs.Column.{is_legal}
 use Rattle.uprog_code.specs.declared.TheConstants.{WALK_MAX}
 use Rattle.uprog_code.specs.declared.code.Uop.{Uop}
 use Rattle.uprog_code.specs.Shape.{Shape, shape_of}
-use Rattle.uprog_code.specs.Machine.{Issue, Trace, issue, issues_of, trace, start, HasEnded}
+use Rattle.uprog_code.specs.Machine.{Issue, Trace, issues_of, start, HasEnded}
 use Rattle.uprog_code.specs.OneStep.{issue_of}
 use Rattle.uprog_code.specs.Bound.{bound, bound_command, bound_of}
 use Rattle.uprog_code.proofs.Kept.{command_legal}
@@ -22,7 +21,7 @@ use Rattle.uprog_ctl.specs.declared.cursor.JobHead.{JobHead}
 use Rattle.uprog_ctl.specs.declared.cursor.Walk.{Walk}
 use Rattle.uprog_ctl.specs.declared.cursor.Found.{Found}
 use Rattle.uprog_ctl.specs.declared.cursor.Cursor.{Cursor}
-use Rattle.uprog_ctl.specs.Waves.{BoundJob, bound_job, bound_jobs, CanRun, job_queues, commands_of}
+use Rattle.uprog_ctl.specs.Waves.{BoundJob, bound_job, bound_jobs, CanRun, job_queues}
 use Rattle.uprog_ctl.specs.Cursors.{rest_of, StandsIn, Finds, left_from, StandsInFirst, AreHeads}
 use Rattle.uprog_ctl.specs.Cursors.{IsAt}
 
@@ -32,10 +31,10 @@ first_walk = record { pc = 0; regs = start; left = WALK_MAX }
 -- the head that stands beside a job is its entry's
 pub head_at : {F : Type 0} (shape : F → Shape) (jobs : List (Job F)) (heads : List JobHead) (i : ℕ)
     (job : Job F) (h : JobHead) → AreHeads shape jobs heads → i < length jobs
-    → job ≡ get_or jobs i job → h ≡ get_or heads i h → shape_of h.head ≡ shape job.entry.now
+    → job ≡ get_or jobs i job → h ≡ get_or heads i h → shape_of h.head ≡ shape job.entry
 head_at {F} shape jobs heads i job h are lt e f =
     let of_head : JobHead → Shape = λ x. shape_of x.head in
-    let of_job : Job F → Shape = λ x. shape x.entry.now in
+    let of_job : Job F → Shape = λ x. shape x.entry in
     let long : length heads ≡ length jobs = sym (length-map heads of_head) ∙ ap length are
     ∙ length-map jobs of_job in
     let lt' : i < length heads = omega (arith, long) in
@@ -47,7 +46,7 @@ pub heads_long : {F : Type 0} (shape : F → Shape) (jobs : List (Job F)) (heads
     → AreHeads shape jobs heads → length heads ≡ length jobs
 heads_long {F} shape jobs heads are =
     let of_head : JobHead → Shape = λ x. shape_of x.head in
-    let of_job : Job F → Shape = λ x. shape x.entry.now in
+    let of_job : Job F → Shape = λ x. shape x.entry in
     sym (length-map heads of_head) ∙ ap length are ∙ length-map jobs of_job
 
 -- the job of a number, as the first of those from it on

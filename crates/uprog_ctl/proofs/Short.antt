@@ -1,7 +1,7 @@
 -- A wave has no more commands than its jobs' walks may take.
-use Rattle.std.proofs.Common.{◌≡◌, ℕ, zero, suc, ◌+◌, ◌*◌, ◌-◌, ◌<◌, ◌≤◌, Bool, true, false, List}
+use Rattle.std.proofs.Common.{ℕ, zero, suc, ◌+◌, ◌*◌, ◌-◌, ◌≤◌, Bool, true, false, List}
 use Rattle.std.proofs.Common.{[]}
-use Rattle.std.proofs.Common.{◌∷◌, ◌++◌, length, map, Option, Some, None, sym, ap, ◌∙◌, subst}
+use Rattle.std.proofs.Common.{◌∷◌, length, Option, Some, None, subst}
 use Rattle.std.proofs.Common.{arith}
 use Rattle.std.specs.Prelude.{◌==◌, nat_lt, nat_le, if◌then◌else◌, slice_get, slice_index}
 use Rattle.std.specs.Prelude.{slice_set}
@@ -12,17 +12,16 @@ use Rattle.uprog_code.specs.declared.TheConstants.{WALK_MAX}
 use Rattle.uprog_code.specs.declared.code.Uop.{Uop}
 use Rattle.uprog_code.specs.declared.code.Uop.TheVariants.{Done, SetI, SetN, SetT, Mov, Add, AddI}
 use Rattle.uprog_code.specs.declared.code.Uop.TheVariants.{SubI, Bnez, Aap, Ap}
-use Rattle.uprog_code.specs.declared.walker.Why3.{Why3}
 use Rattle.uprog_code.specs.declared.walker.Why3.TheVariants.{Index, Register}
 use Rattle.uprog_code.specs.Shape.{Shape}
 use Rattle.uprog_code.specs.Machine.{Issue, Twice, Once, Trace, Ended, Stuck, onto, Next, act}
 use Rattle.uprog_code.specs.Machine.{act_at}
-use Rattle.uprog_code.specs.Machine.{issue, issued, issues_of, trace, start, command_at}
+use Rattle.uprog_code.specs.Machine.{issue, issued, issues_of, start, command_at}
 use Rattle.uprog_code.specs.Machine.{all_in_range}
-use Rattle.uprog_code.specs.Bound.{bound, bound_command, bound_of}
+use Rattle.uprog_code.specs.Bound.{bound_command, bound_of}
 use Rattle.uprog_code.proofs.Steps.{trace_is}
 use Rattle.wave_model.specs.Schedule.{Queues, total_left}
-use Rattle.uprog_ctl.specs.Waves.{BoundJob, issues_in, commands_of, wave_job, job_queues}
+use Rattle.uprog_ctl.specs.Waves.{BoundJob, issues_in, commands_of, job_queues}
 
 -- the trace has at most so many commands
 abbrev IsShort : ℕ → Trace → Type 0

@@ -1,30 +1,28 @@
 -- A wave on its way.
-use Rattle.std.proofs.Common.{◌≡◌, ◌≢◌, ℕ, zero, suc, ◌+◌, ◌<◌, ◌≤◌, ◌*◌, List, [], ◌∷◌, ◌++◌}
+use Rattle.std.proofs.Common.{◌≡◌, ℕ, suc, ◌+◌, ◌<◌, ◌≤◌, List, [], ◌∷◌, ◌++◌}
 use Rattle.std.proofs.Common.{length}
-use Rattle.std.proofs.Common.{map, drop, take, get_or, refl, sym, ap, ◌∙◌, subst, arith}
+use Rattle.std.proofs.Common.{map, take, get_or, refl, sym, ap, ◌∙◌, subst, arith}
 use Rattle.std.proofs.Common.{append_assoc}
 use Rattle.std.proofs.Common.{append-nil, Some, inl, inr}
-use Rattle.std.specs.Prelude.{slice_get, slice_set, remove}
+use Rattle.std.specs.Prelude.{slice_get}
 use Rattle.std.specs.List.{sum_by}
 use Rattle.std.proofs.lemmas.List.{take_at, length-map, nil_from_length}
 use Rattle.std.proofs.lemmas.List.Sums.{sum_by-set, sum_by-remove}
 use Rattle.dram_model.specs.declared.address.Command.{Command}
 use Rattle.dram_model.specs.declared.dram.Counters.{Counters}
-use Rattle.dram_model.specs.Column.{Column, run}
-use Rattle.dram_model.specs.Chip.{Banks, Event, after, all_counted, Grew}
+use Rattle.dram_model.specs.Chip.{Banks, Event, after, Grew}
 use Rattle.dram_model.specs.Chip.Event.{Row}
 use Rattle.dram_model.specs.Events.{row_events}
 use Rattle.dram_model.specs.View.{ChipView, Did, FailedIn}
 use Rattle.dram_model.proofs.EventLaws.{Did-none, Did-more, Grew-more, counted-bound}
 use Rattle.wave_model.specs.Schedule.{Queues, live, Picker, PicksLive, total_left, without_next}
 use Rattle.wave_model.specs.Schedule.{state_behind, whole_picks}
-use Rattle.wave_model.proofs.Live.{live_apart}
 use Rattle.wave_model.proofs.Waves.{picks_whole}
-use Rattle.wave_model.proofs.Turning.{OnePick, one_pick, NoPick, no_pick}
+use Rattle.wave_model.proofs.Turning.{OnePick, one_pick, no_pick}
 use Rattle.wave_model.proofs.Prefixes.{wave_stops}
 use Rattle.uprog_ctl.specs.declared.cursor.Cursor.{Cursor}
 use Rattle.uprog_ctl.specs.Waves.{BoundJob, wave_events, StoppedAmong}
-use Rattle.uprog_ctl.specs.Cursors.{IsAt, AreAt, GoesOn, MovesOn, left_behind}
+use Rattle.uprog_ctl.specs.Cursors.{AreAt, MovesOn, left_behind}
 use Rattle.uprog_ctl.proofs.Follow.{kth_bank, moves_on}
 
 -- how much the cursors have still to do

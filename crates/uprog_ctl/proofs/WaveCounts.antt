@@ -1,7 +1,6 @@
 -- A wave raises the counters by the counts of its jobs.
 use Rattle.std.proofs.Common.{◌≡◌, ℕ, ◌+◌, ◌*◌, ◌≤◌, Bool, cond, List, [], ◌∷◌, map, refl, sym, ap}
 use Rattle.std.proofs.Common.{◌∙◌}
-use Rattle.std.proofs.Common.{arith}
 use Rattle.std.specs.Prelude.{All, count_by, sum_by}
 use Rattle.std.proofs.lemmas.List.Sums.{sum_by-cons}
 use Rattle.std.proofs.lemmas.List.Elements.{All-map, All-weaker}
@@ -9,10 +8,9 @@ use Rattle.dram_model.specs.declared.address.Command.{Command}
 use Rattle.dram_model.specs.declared.dram.Counters.{Counters}
 use Rattle.dram_model.specs.declared.geometry.Geometry.{Geometry}
 use Rattle.dram_model.specs.Chip.{all_counted}
-use Rattle.uprog_code.specs.Shape.{Shape}
 use Rattle.uprog_code.specs.Machine.{Issue, Twice, Once}
-use Rattle.uprog_code.specs.Count.{is_twice, is_once, counts_of}
-use Rattle.uprog_code.specs.Bound.{Bound, bound, bound_command, bound_of}
+use Rattle.uprog_code.specs.Count.{is_twice, is_once}
+use Rattle.uprog_code.specs.Bound.{bound_command, bound_of}
 use Rattle.wave_model.specs.Schedule.{Job, Picker, PicksLive, total_left, whole_picks}
 use Rattle.wave_model.specs.Laws.{is_aap, is_ap, with_commands}
 use Rattle.wave_model.proofs.Waves.{picks_whole}

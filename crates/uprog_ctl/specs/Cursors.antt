@@ -3,7 +3,7 @@ use Rattle.std.specs.Prelude.{◌≡◌, ℕ, ◌<◌, ◌⊎◌, true, nat_lt, 
 use Rattle.std.specs.Prelude.{length, map, drop, remove, slice_set, slice_index_or}
 use Rattle.dram_model.specs.declared.address.Command.{Command}
 use Rattle.dram_model.specs.Column.{is_legal}
-use Rattle.uprog_code.specs.Machine.{Issue, Trace, issue, issues_of, HasEnded}
+use Rattle.uprog_code.specs.Machine.{Trace, issue, issues_of, HasEnded}
 use Rattle.uprog_code.specs.OneStep.{AreRegisters, issue_of}
 use Rattle.uprog_code.specs.Issued.{is_good}
 use Rattle.uprog_code.specs.Bound.{bound, bound_of}
@@ -60,7 +60,7 @@ pub record IsAt (rows : ℕ) (jobs : List BoundJob) (commands : List Command) (c
 
 -- the heads of the jobs' entries, in order
 abbrev pub AreHeads : {F : Type 0} → (F → Shape) → List (Job F) → List JobHead → Type 0
-AreHeads shape jobs heads = map (λ h. shape_of h.head) heads ≡ map (λ job. shape job.entry.now) jobs
+AreHeads shape jobs heads = map (λ h. shape_of h.head) heads ≡ map (λ job. shape job.entry) jobs
 
 -- one cursor for each bank that has commands left, upwards
 pub record AreAt (banks rows : ℕ) (jobs : List BoundJob) (left : Queues) (cs : List Cursor) : Type 0

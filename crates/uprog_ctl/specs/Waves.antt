@@ -1,7 +1,6 @@
 -- Waves of microprograms on the banks of a chip.
-use Rattle.std.specs.Prelude.{◌≡◌, ◌≢◌, ℕ, ◌+◌, ◌*◌, ◌<◌, ◌≤◌, ◌++◌, nat_lt, if◌then◌else◌, List}
-use Rattle.std.specs.Prelude.{[]}
-use Rattle.std.specs.Prelude.{◌∷◌, map, take, sum_by, slice_get, Some}
+use Rattle.std.specs.Prelude.{◌≡◌, ◌≢◌, ℕ, ◌*◌, ◌<◌, ◌≤◌, List}
+use Rattle.std.specs.Prelude.{map, take, sum_by, slice_get, Some}
 use Rattle.bit_rows.specs.declared.TheConstants.{WIDTH_MAX}
 use Rattle.dram_model.specs.declared.address.Command.{Command}
 use Rattle.dram_model.specs.declared.geometry.Geometry.{Geometry}
@@ -33,8 +32,8 @@ pub record BoundJob : Type 0 where
 -- a job of a wave, by what its entry means
 abbrev pub bound_job : {F : Type 0} → (F → Shape) → (F → List Uop) → Job F → BoundJob
 bound_job shape code job = record {
-  shape = shape job.entry.now;
-  code = code job.entry.now;
+  shape = shape job.entry;
+  code = code job.entry;
   binding = job.binding;
   banks = job.banks;
 }

@@ -88,7 +88,7 @@ impl Default for JobHead {
 }
 
 /// The heads of the jobs' entries.
-pub(crate) fn heads_of<F: Fetch>(jobs: &[Job<'_, F>]) -> ArrayVec<JobHead, 16>
+pub(crate) fn heads_of<F: Fetch>(jobs: &[Job<F>]) -> ArrayVec<JobHead, 16>
     requires { length jobs.now ≤ 16 }
     ensures { AreHeads F.shape jobs.now result.items }
 {
@@ -112,9 +112,9 @@ fn issued_by(turn: Turn) -> Option<Issued>
 }
 
 /// The first row command from a place on; None where the microprogram ends before one.
-fn seek<F: Fetch>(job: &Job<'_, F>, head: &Head, g: Geometry, from: Walk) -> Option<Found>
+fn seek<F: Fetch>(job: &Job<F>, head: &Head, g: Geometry, from: Walk) -> Option<Found>
     requires run { CanRun g (bound_job F.shape F.code job.now) }
-    requires head { shape_of head.now ≡ F.shape job.now.entry.now }
+    requires head { shape_of head.now ≡ F.shape job.now.entry }
     requires stands { StandsIn (bound_job F.shape F.code job.now) from }
     ensures { MatchOption result
         (issues_of (rest_of (bound_job F.shape F.code job.now) from) ≡ [])
@@ -150,10 +150,10 @@ fn seek<F: Fetch>(job: &Job<'_, F>, head: &Head, g: Geometry, from: Walk) -> Opt
     None
 }
 
-/// A bank's next command, and where it stands then; None where it has done all jobs. It stands in
-/// the job of a number, at a place of its code.
+/// A bank's next command, and where it stands then; None where it has none left. The bank stands in
+/// the job of the number `at`, at a place of its code.
 fn next_cursor<F: Fetch>(
-    jobs: &[Job<'_, F>],
+    jobs: &[Job<F>],
     heads: &[JobHead],
     g: Geometry,
     bank: u16,
@@ -191,7 +191,7 @@ fn next_cursor<F: Fetch>(
 
 /// The banks that have commands left, upwards, each before its first one.
 pub(crate) fn first_cursors<F: Fetch>(
-    jobs: &[Job<'_, F>],
+    jobs: &[Job<F>],
     heads: &[JobHead],
     g: Geometry,
 ) -> ArrayVec<Cursor, 16>
@@ -213,7 +213,7 @@ pub(crate) fn first_cursors<F: Fetch>(
 /// The bank of the k-th cursor goes on behind its command; it is no longer among them where it has
 /// none left.
 pub(crate) fn go_on<F: Fetch>(
-    jobs: &[Job<'_, F>],
+    jobs: &[Job<F>],
     heads: &[JobHead],
     g: Geometry,
     cursors: &mut ArrayVec<Cursor, 16>,
