@@ -7,7 +7,7 @@ use Rattle.op_text.specs.Language.{Term, Named, Parity, Majority, Equation, Comp
 use Rattle.op_text.specs.Language.{Operation}
 use Rattle.op_text.specs.Values.{bits, op_value}
 use Rattle.op_text.specs.Meaning.{meaning}
-use Rattle.op_text.specs.Scratch.{scratch_bits, scratch_words, need, ceiling, low_ceiling, param}
+use Rattle.op_text.specs.Scratch.{scratch_bits, scratch_words, need, ceiling, param}
 use Rattle.op_text.specs.Scratch.{op_ceiling}
 
 -- an operation's values at a width, for each list of arguments
@@ -96,7 +96,7 @@ mac = record {
 }
 
 mac_means : (meaning mac 4 (3 ∷ 4 ∷ 9 ∷ []) ≡ 5) × (scratch_bits mac ≡ 1) × (scratch_words mac ≡ 1)
-    × (need mac 32 ≡ 33) × (ceiling mac 32 ≡ 12321)
+    × (need mac 32 ≡ 33) × (ceiling mac 32 ≡ 12033)
 unfolding bits
 mac_means = (refl, refl, refl, refl, refl)
 
@@ -122,6 +122,6 @@ unfolding bits
 sum_means = (refl, refl, refl, refl, refl)
 
 ceilings : (op_ceiling o.Div 8 ≡ 29 * 64 + 18 * 8)
-    × (low_ceiling mac 32 ≡ 11 * 1024 + 15 * 32 + 9 * 32 + 1)
+    × (ceiling mac 32 ≡ 11 * 1024 + 15 * 32 + 9 * 32 + 1)
 unfolding bits
 ceilings = (refl, refl)

@@ -35,16 +35,16 @@ words_inside p = 0
 
 -- the greatest number of commands of one statement at width n
 abbrev pub op_ceiling : WordOp → ℕ → ℕ
-op_ceiling o.Not n = 3 * n
-op_ceiling o.And n = 7 * n
-op_ceiling o.Or n = 7 * n
-op_ceiling o.Xor n = 15 * n
+op_ceiling o.Not n = 2 * n
+op_ceiling o.And n = 4 * n
+op_ceiling o.Or n = 4 * n
+op_ceiling o.Xor n = 7 * n
 op_ceiling o.Copy n = 3 * n
 op_ceiling o.Zero n = 3 * n
 op_ceiling o.Ones n = 3 * n
 op_ceiling o.Shl1 n = 6 * n + 1
 op_ceiling o.Shr1 n = 6 * n + 1
-op_ceiling o.Add n = 18 * n + 1
+op_ceiling o.Add n = 9 * n + 1
 op_ceiling o.Sub n = 18 * n + 1
 op_ceiling o.Mul n = 11 * n ^ 2 + 15 * n
 op_ceiling o.Div n = 29 * n ^ 2 + 18 * n
@@ -61,15 +61,6 @@ op_ceiling o.Bitcount n = 22 * n ^ 2 + 4 * n
 op_ceiling o.AndRed n = 7 * n + 1
 op_ceiling o.OrRed n = 7 * n + 1
 op_ceiling o.XorRed n = 15 * n + 1
-
--- the same with bodies that use the designated rows well
-abbrev pub low_op_ceiling : WordOp → ℕ → ℕ
-low_op_ceiling o.Not n = 2 * n
-low_op_ceiling o.And n = 4 * n
-low_op_ceiling o.Or n = 4 * n
-low_op_ceiling o.Xor n = 7 * n
-low_op_ceiling o.Add n = 9 * n + 1
-low_op_ceiling p n = op_ceiling p n
 
 abbrev pub param : List ℕ → Kind → Param
 param name k = record { name = name; kind = k }
@@ -161,6 +152,3 @@ body_ceiling f known n (s ∷ body) = statement_ceiling f known n s
 
 abbrev pub ceiling : Operation → ℕ → ℕ
 ceiling op n = body_ceiling op_ceiling op.params n op.body
-
-abbrev pub low_ceiling : Operation → ℕ → ℕ
-low_ceiling op n = body_ceiling low_op_ceiling op.params n op.body

@@ -33,3 +33,5 @@ pub mod LaidOut
 pub mod Entries
 pub mod Taken
 pub mod StageAt
+pub mod Fixed
+pub mod Refs

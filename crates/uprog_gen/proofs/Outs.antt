@@ -18,7 +18,9 @@ use Rattle.loop_ir.specs.Plain.{Block}
 use Rattle.loop_ir.specs.Spots.{nth_place}
 use Rattle.uprog_gen.specs.Parts.{IsOuts, IsPart}
 use Rattle.mig_graph.specs.Outputs.{lit_at}
-use Rattle.loop_ir.specs.Costs.{is_copy, turn_cost}
+use Rattle.loop_ir.specs.Costs.{is_copy, is_not, is_and, is_or, is_xor, is_add, turn_cost}
+use Rattle.uprog_gen.proofs.Fixed.{IsLeast, by_cases, body_is, not_few, and_few, or_few, xor_few}
+use Rattle.uprog_gen.proofs.Fixed.{add_few}
 use Rattle.uprog_gen.specs.Code.{IsPlanned, plan_of}
 use Rattle.uprog_gen.specs.declared.plan.Plan.{Plan}
 use Rattle.uprog_gen.proofs.Planned.{plans}
@@ -134,33 +136,45 @@ not_true : (c : Bool) → not c ≡ true → c ≡ false
 not_true true h = cc
 not_true false h = refl
 
-few_cmds : (b : Block) (outs : List OutRow) (k : ℕ) → IsOuts b (length b.outs) outs
-    → k ≤ 4 * length b.graph.nodes + 3 * length outs
+few_cmds : (b : Block) (outs : List OutRow) (k : ℕ) → FitBody b.graph outs
+    → IsOuts b (length b.outs) outs → k ≤ 4 * length b.graph.nodes + 3 * length outs
     → (length b.graph.nodes ≡ 0 → length outs ≡ 1 → is_turned (out_at outs 0).lit ≡ false → k ≤ 1)
-    → k ≤ turn_cost b
-few_cmds b outs k is few one = by (is_copy b) refl
+    → IsLeast b.graph outs k → k ≤ turn_cost b
+few_cmds b outs k fits is few one least =
+    by_cases (is_copy b) 1 _ k copied
+    (by_cases (is_not b) 2 _ k (λ e. let h = body_is 1 _ _ b e in
+    not_few b.graph b.outs outs k h.0 h.1 fits is.size is.lits least)
+    (by_cases (is_and b) 4 _ k (λ e. let h = body_is 2 _ _ b e in
+    and_few b.graph b.outs outs k h.0 h.1 fits is.size is.lits least)
+    (by_cases (is_or b) 4 _ k (λ e. let h = body_is 2 _ _ b e in
+    or_few b.graph b.outs outs k h.0 h.1 fits is.size is.lits least)
+    (by_cases (is_xor b) 7 _ k (λ e. let h = body_is 2 _ _ b e in
+    xor_few b.graph b.outs outs k h.0 h.1 fits is.size is.lits least)
+    (by_cases (is_add b) 9 _ k (λ e. let h = body_is 3 _ _ b e in
+    add_few b.graph b.outs outs k h.0 h.1 fits is.size is.lits least)
+    (omega (arith, few, is.size)))))))
   where
-    by : (c : Bool) → is_copy b ≡ c → k ≤ cond c 1 (4 * length b.graph.nodes + 3 * length b.outs)
-    by true e =
+    copied : is_copy b ≡ true → k ≤ 1
+    copied e =
         let h = and_parts (length b.graph.nodes == 0) ((length b.outs == 1)
         && not (is_turned (lit_at b.outs 0))) e in
         let g = and_parts (length b.outs == 1) (not (is_turned (lit_at b.outs 0))) h.1 in
         let l : length outs ≡ 1 = is.size ∙ eqb-true (length b.outs) 1 g.0 in
         one (eqb-true (length b.graph.nodes) 0 h.0) l (ap is_turned (is.lits 0 (omega (arith, l)))
         ∙ not_true (is_turned (lit_at b.outs 0)) g.1)
-    by false e = omega (arith, few, is.size)
 
 -- a body's plan, outputs and commands make a part
 pub is_part : (b : Block) (plan : Plan) (outs : List OutRow) (cmds : List BodyCmd) → IsSmall b
     → IsGraph b.graph.inputs b.graph.nodes → plan ≡ plan_of b → IsOuts b (length b.outs) outs
     → DoesBody b.graph outs cmds → length cmds ≤ 4 * length b.graph.nodes + 3 * length outs
     → (length b.graph.nodes ≡ 0 → length outs ≡ 1 → is_turned (out_at outs 0).lit ≡ false
-    → length cmds ≤ 1) → IsPart (record { block = b; plan = plan; outs = outs; cmds = cmds })
-is_part b plan outs cmds small graph e is does few one = record {
+    → length cmds ≤ 1) → IsLeast b.graph outs (length cmds)
+    → IsPart (record { block = b; plan = plan; outs = outs; cmds = cmds })
+is_part b plan outs cmds small graph e is does few one least = record {
   well = small.well;
   graph = graph;
   planned = subst (λ p. IsPlanned p b) (sym e) (plans b small.subs);
   outs = is;
   does = does;
-  few = few_cmds b outs (length cmds) is few one;
+  few = few_cmds b outs (length cmds) (fit b outs small is) is few one least;
 }

@@ -23,10 +23,10 @@ use Rattle.uprog_gen.specs.Code.{Part, block_of_part, blocks, code_uop, init, be
 use Rattle.uprog_gen.specs.Code.{befores, afters, counter, body_uops, once_code, turn_code}
 use Rattle.uprog_gen.specs.Code.{enter_code, loop_code, inner_list, outside, step_code}
 use Rattle.uprog_gen.specs.Code.{program_code}
-use Rattle.loop_ir.specs.Costs.{is_fixed, is_copy, body_cost, turn_cost, inner_cost, step_cost}
+use Rattle.loop_ir.specs.Costs.{is_fixed, body_cost, inner_cost, step_cost}
 use Rattle.loop_ir.specs.Costs.{code_cost}
+use Rattle.loop_laws.proofs.Costing.{turn-most}
 use Rattle.uprog_gen.specs.Parts.{IsPart}
-use Rattle.mig_graph.specs.Outputs.{lit_at}
 
 init_few : (u : Sub) (r : ℕ) → length (init u r) + length (before u r) + length (after u r) ≤ 2
 init_few Zero r = omega arith
@@ -68,24 +68,12 @@ enter_few plan count = omega (
   plan_few plan,
 )
 
-turn_body : (b : Block) → turn_cost b ≤ body_cost b
-turn_body b = by (is_copy b) refl
-  where
-    by : (c : Bool) → is_copy b ≡ c → cond c 1 (body_cost b) ≤ body_cost b
-    by true e =
-        let h = and_parts (length b.graph.nodes == 0) ((length b.outs == 1)
-        && not (is_turned (lit_at b.outs 0))) e in
-        let g = and_parts (length b.outs == 1) (not (is_turned (lit_at b.outs 0))) h.1 in
-        let l : length b.outs ≡ 1 = eqb-true (length b.outs) 1 g.0 in
-        omega (arith, l)
-    by false e = omega arith
-
 body_few : (p : Part) → IsPart p → length (body_uops p) ≤ body_cost p.block
 body_few p is = omega (
   arith,
   length-map p.cmds (code_uop p.plan p.block),
   is.few,
-  turn_body p.block,
+  turn-most p.block,
 )
 
 pub once_few : (p : Part) → IsPart p → length (once_code p) ≤ body_cost p.block + 6
