@@ -1,5 +1,5 @@
 -- How the store of an empty image goes and ends.
-use Rattle.std.proofs.Common.{◌≡◌, ℕ, List, [], ◌∷◌, Some, refl, ◌∙◌, ap, subst, inl, inr}
+use Rattle.std.proofs.Common.{◌≡◌, ℕ, List, [], refl, ◌∙◌, ap, subst, inl, inr}
 use Rattle.std.proofs.Common.{append-nil, ◌++◌}
 use Rattle.std.specs.Prelude.{Result, Ok, Err}
 use Rattle.std.proofs.lemmas.Slice.Eq.{bytes_eq-Decides}
@@ -8,7 +8,7 @@ use Rattle.host_edge.specs.Views.{Files, FolderView, SinkView, Told}
 use Rattle.host_edge.proofs.Tells.{Told-map}
 use Rattle.machine_model.proofs.Places.{bytes_differ}
 use Rattle.cli_model.specs.World.{World, world}
-use Rattle.cli_model.specs.Steps.{NoMemory, CannotWrite, Done, Stopped, Goes, Stored, Unstored}
+use Rattle.cli_model.specs.Steps.{CannotWrite, Done, Stopped, Goes, Stored, Unstored}
 use Rattle.cli_model.specs.Stands.{files_after}
 use Rattle.cli_model.specs.Status.{Tells}
 use Rattle.cli_model.specs.Ends.{Ended, Ends, EndsSo, IsAllDone}
@@ -21,10 +21,6 @@ use Rattle.simdram_cli.specs.Ends.{answer_to}
 use Rattle.simdram_cli.specs.Run.{done_status}
 use Rattle.simdram_cli.specs.Init.{InitGoes, Started, empty_image, init_steps}
 use Rattle.simdram_cli.proofs.Stores.{nothing_read}
-
-pub not_made : (names : InitNames) (files : FolderView) (sink : SinkView) (chip : ChipView)
-    → Goes (init_steps names) (Stopped NoMemory) (world files sink chip) (world files sink chip)
-not_made names files sink chip = inr (refl, nothing_read (world files sink chip))
 
 pub not_kept : (names : InitNames) (old new : FolderView) (sink : SinkView) (chip : ChipView)
     → Unstored names.out.now (world old sink chip) (world new sink chip)

@@ -1,7 +1,7 @@
 use Rattle.std.proofs.Common.{sym, ◌∙◌, refl}
 use Rattle.simdram_cli.specs.Init.{empty_image}
 use Rattle.simdram_cli.proofs.Stores.{stored, unstored, at_ok, at_err}
-use Rattle.simdram_cli.proofs.Initial.{not_made, not_kept, all_kept}
+use Rattle.simdram_cli.proofs.Initial.{not_kept, all_kept}
 use Rattle.simdram_cli.proofs.init.init.Goals as goal
 
 pub returns-then-is_err : goal.returns-then-is_err
