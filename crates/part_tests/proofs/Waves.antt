@@ -1,11 +1,10 @@
 -- The jobs of the tests' waves can run.
 use Rattle.std.proofs.Common.{◌≡◌, ℕ, ◌<◌, ◌≤◌, List, [], ◌∷◌, None, sym, subst, arith}
 use Rattle.arrayvec.specs.ArrayVec.{ArrayVec}
-use Rattle.uprog_code.specs.declared.binding.Binding.{Binding}
 use Rattle.uprog_code.specs.declared.code.Uop.{Uop}
 use Rattle.uprog_code.specs.Shape.{Shape}
 use Rattle.uprog_code.specs.Fits.{Fits}
-use Rattle.uprog_ctl.specs.Waves.{BoundJob, CanRun}
+use Rattle.uprog_ctl.specs.Waves.{CanRun}
 use Rattle.part_tests.specs.Xor.{xor_shape, xor_code}
 use Rattle.part_tests.specs.Waves.{two_banks}
 use Rattle.part_tests.proofs.Xor.{xor_is_legal, xor_ends}

@@ -23,6 +23,9 @@ struct Last {
 
 impl Picker for Last {
     ghost use Rattle.std.specs.Prelude.{◌<◌, ℕ, Option};
+    ghost use Rattle.std.specs.Prelude.{◌-◌};
+    ghost use Rattle.std.proofs.Common.{subst};
+    ghost use Rattle.std.proofs.Math.Nat.{sub-zero};
     ghost use Rattle.std.proofs.Math.Numerals.{sub-suc-lt};
     ghost use Rattle.part_tests.specs.Waves.{last_live};
 
@@ -39,7 +42,8 @@ impl Picker for Last {
         live - 1
     }
 
-    ghost picks_live = { λ state count some. sub-suc-lt count 0 some };
+    ghost picks_live = { λ state count some. subst (λ (n : ℕ). count - 1 < n) (sub-zero count)
+        (sub-suc-lt count 0 some) };
 }
 
 /// The row `result` takes the exclusive or of two rows before it, in the first banks.
