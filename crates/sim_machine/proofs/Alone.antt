@@ -1,5 +1,5 @@
 -- What comes of a bbop, which is a wave of one.
-use Rattle.std.proofs.Common.{◌≡◌, ℕ, zero, ◌≤◌, Bool, true, false, cond, List, [], ◌∷◌, ◌++◌, refl}
+use Rattle.std.proofs.Common.{◌≡◌, ℕ, ◌≤◌, Bool, true, false, cond, List, [], ◌∷◌, ◌++◌, refl}
 use Rattle.std.proofs.Common.{sym, ◌∙◌, ap, subst, append-nil, arith, map, get_or}
 use Rattle.std.specs.Prelude.{Err, is_none}
 use Rattle.std.specs.List.{AllByRecursion}

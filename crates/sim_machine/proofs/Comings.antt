@@ -1,20 +1,15 @@
 -- What follows from what comes of an instruction.
-use Rattle.std.proofs.Common.{◌≡◌, ℕ, false, ◌++◌, refl}
+use Rattle.std.proofs.Common.{◌≡◌, ℕ}
 use Rattle.std.specs.Prelude.{Result, Ok, Err, IfOk, OnOk, OnErr, IsErrOf}
-use Rattle.host_edge.specs.Views.{SinkView, Told, Rose, AppendsPart}
-use Rattle.dram_model.specs.Chip.{after, Grew}
+use Rattle.host_edge.specs.Views.{SinkView}
 use Rattle.dram_model.specs.View.{ChipView}
-use Rattle.dram_model.specs.Elements.{FailedBelow}
 use Rattle.bbop_isa.specs.Forms.{Instruction}
 use Rattle.machine_model.specs.declared.Reply.{Reply}
-use Rattle.machine_model.specs.Pieces.{piece_of}
 use Rattle.object_steps.specs.declared.fault.StepFault.{StepFault}
 use Rattle.object_steps.specs.declared.fault.StepFault.TheVariants.{ChipFault, WriteFault}
 use Rattle.sim_machine.specs.declared.machine.Machine.{Machine}
-use Rattle.sim_machine.specs.Machine.{banks_by, events_by, is_print, line_of, reads_by, reply_of}
-use Rattle.sim_machine.specs.Machine.{table_behind, table_in, turn_by_piece, turn_in}
+use Rattle.sim_machine.specs.Machine.{reply_of}
 use Rattle.sim_machine.specs.Outcome.{Comes, Stepped, StoppedByChip, StoppedBySink}
-use Rattle.sim_machine.specs.Steps.{DidAndRead}
 
 module _ (old new : Machine) (number : ℕ) (instr : Instruction) (chip chip' : ChipView)
     (sink sink' : SinkView)

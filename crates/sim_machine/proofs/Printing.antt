@@ -1,13 +1,13 @@
 -- What comes of a print.
 use Rattle.std.proofs.Common.{◌≡◌, ℕ, ◌≤◌, List, [], ◌++◌, refl, sym, ◌∙◌, ap, subst, append-nil}
-use Rattle.std.proofs.Common.{arith, append_assoc, None, Some}
+use Rattle.std.proofs.Common.{arith, None, Some}
 use Rattle.std.specs.Prelude.{Option, Err}
 use Rattle.host_edge.specs.Views.{SinkView, Told, Told-trans, Rose, AppendsPart}
-use Rattle.dram_model.specs.Chip.{Event, Grew, after, all_counted}
-use Rattle.dram_model.specs.View.{ChipView, DidRead, with_reads}
+use Rattle.dram_model.specs.Chip.{Grew, after}
+use Rattle.dram_model.specs.View.{ChipView, DidRead}
 use Rattle.dram_model.specs.Elements.{FailedBelow}
 use Rattle.uprog_code.specs.declared.walker.Counts.{Counts}
-use Rattle.bbop_isa.specs.Forms.{Instruction, Print}
+use Rattle.bbop_isa.specs.Forms.{Print}
 use Rattle.machine_model.specs.declared.Reply.{Reply}
 use Rattle.machine_model.specs.declared.Reply.TheVariants.{Done, Refused}
 use Rattle.machine_model.specs.declared.Why.{Why}

@@ -4,10 +4,8 @@ use Rattle.std.proofs.Common.{arith, add-zero, true, false, cond, Bool, [], â—Œâ
 use Rattle.std.proofs.lemmas.List.{length-map}
 use Rattle.std.proofs.Math.Nat.{mul-le-mul_right}
 use Rattle.std.specs.List.{AllByRecursion}
-use Rattle.bit_rows.specs.declared.TheConstants.{WIDTH_MAX}
 use Rattle.dram_model.specs.declared.geometry.Geometry.{Geometry}
 use Rattle.dram_model.specs.declared.dram.Counters.{Counters}
-use Rattle.dram_model.specs.Geometry.{is_geometry}
 use Rattle.dram_model.specs.Chip.{all_counted}
 use Rattle.dram_model.specs.View.{with_reads}
 use Rattle.uprog_code.specs.declared.TheConstants.{WALK_MAX}

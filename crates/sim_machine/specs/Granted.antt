@@ -1,8 +1,5 @@
 -- What a bbop is granted.
-use Rattle.std.specs.Prelude.{◌≡◌, ℕ, ◌+◌, ◌≤◌, List, [], ◌∷◌, All, flat_map, Ok, Some, true}
-use Rattle.std.specs.List.{range_with_len}
-use Rattle.dram_model.specs.Chip.{Event}
-use Rattle.uprog_code.specs.declared.binding.Binding.{Binding}
+use Rattle.std.specs.Prelude.{◌≡◌, ℕ, ◌+◌, ◌≤◌, List, ◌∷◌, Ok, Some}
 use Rattle.uprog_bin.specs.Opened.{Held, code_of}
 use Rattle.uprog_ctl.specs.declared.waves.Job.{Job as UprogJob}
 use Rattle.uprog_ctl.specs.Waves.{BoundJob, bound_job}
@@ -13,17 +10,11 @@ use Rattle.uprog_code.specs.Count.{walked}
 use Rattle.object_alloc.specs.Free.{free}
 use Rattle.object_alloc.specs.Listed.{Named, objects_of}
 use Rattle.dram_model.specs.declared.geometry.Geometry.{Geometry}
-use Rattle.dram_model.specs.Geometry.{is_geometry}
-use Rattle.uprog_code.specs.declared.walker.Counts.{Counts}
-use Rattle.uprog_code.specs.Count.{counts_of}
-use Rattle.object_alloc.specs.Listed.{Listing, IsTable, limit_of}
-use Rattle.object_alloc.specs.Spelling.{IsObject}
 use Rattle.machine_model.specs.Columns.{segments}
-use Rattle.machine_model.specs.Operations.{Operations, operation_of}
-use Rattle.machine_model.specs.Refusals.{object_named, refusal}
+use Rattle.machine_model.specs.Operations.{operation_of}
+use Rattle.machine_model.specs.Refusals.{object_named}
 use Rattle.wave_model.specs.Schedule.{Job}
-use Rattle.machine_model.specs.Steps.{job_events, bound_at, issues_at, times, events_of}
-use Rattle.machine_model.specs.Steps.{if_done}
+use Rattle.machine_model.specs.Steps.{bound_at}
 use Rattle.bbop_isa.specs.Forms.{Instruction}
 use Rattle.bbop_isa.specs.Forms as instruction
 use Rattle.sim_machine.specs.declared.refusal.Bbop.{Bbop}

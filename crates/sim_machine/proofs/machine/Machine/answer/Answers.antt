@@ -1,4 +1,4 @@
-use Rattle.std.proofs.Common.{◌≡◌, ◌∙◌, List, ℕ, ap, subst, sym}
+use Rattle.std.proofs.Common.{◌≡◌, ◌∙◌, ap, subst, sym}
 use Rattle.std.specs.Prelude.{IfOk, OnOk}
 use Rattle.dram_model.specs.View.{Did}
 use Rattle.bbop_isa.specs.Forms.{Instruction, Fill, Load, view_of}

@@ -1,4 +1,4 @@
-use Rattle.std.proofs.Common.{◌≡◌, ◌∙◌, List, ap, refl, subst, sym}
+use Rattle.std.proofs.Common.{◌∙◌, List, ap, refl, subst, sym}
 use Rattle.std.specs.Prelude.{All}
 use Rattle.object_alloc.specs.Listed.{Named, IsTable, limit_of, without}
 use Rattle.object_alloc.specs.Spelling.{IsObject}

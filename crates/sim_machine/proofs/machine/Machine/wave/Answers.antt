@@ -1,10 +1,8 @@
-use Rattle.std.proofs.Common.{◌≡◌, ◌*◌, ◌≤◌, ◌∙◌, length, map, arith, add-zero}
+use Rattle.std.proofs.Common.{map}
 use Rattle.bbop_isa.specs.Forms.{view_of}
-use Rattle.machine_model.specs.Pieces.{Wave}
-use Rattle.uprog_code.specs.declared.TheConstants.{WALK_MAX}
 use Rattle.sim_machine.specs.Machine.{geometry_of, program_of, turn_in}
 use Rattle.sim_machine.proofs.Alone.{jobs_below}
-use Rattle.sim_machine.proofs.Rising.{rises_less, wave_rises}
+use Rattle.sim_machine.proofs.Rising.{wave_rises}
 use Rattle.sim_machine.proofs.machine.Machine.wave.Goals as goal
 
 pub returns-in-Err-clause-chip_fault : goal.returns-in-Err-clause-chip_fault
