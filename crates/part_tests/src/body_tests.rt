@@ -7,7 +7,7 @@ ghost use Rattle.row_alloc.specs.Body.{FitBody};
 use crate::rows::play;
 use dram_chip::{Addr, Chip, Command, Dram, Geometry};
 use mig_graph::{Lit, Mig, NoMemory};
-use row_alloc::{BodyCmd, BodyRef, OutRow, check_body, plain_body};
+use row_alloc::{BodyCmd, BodyRef, OutRow, check_body, greedy_body, plain_body};
 use std::alloc::Global;
 use std::process::Abort;
 use std::test::Fail;
@@ -92,27 +92,26 @@ fn full_adder(rt: &impl Abort, alloc: Global) -> Result<(Mig, [OutRow; 2]), NoMe
     ))
 }
 
-// Sixty-four columns of bits, drawn by hand.
-#[test]
-fn a_body_adds_in_a_chip(rt: HostRuntime) -> Result<(), Fail> {
+/// Whether the commands add sixty-four columns of bits, drawn by hand, and leave all other rows.
+fn adds(rt: &impl Abort, cmds: &[BodyCmd], alloc: Global) -> Result<(), Fail> {
     let (a, b, c) = (
         0x9E37_79B9_7F4A_7C15u64,
         0xBF58_476D_1CE4_E5B9u64,
         0x94D0_49BB_1331_11EBu64,
     );
-    let (m, outs) = full_adder(&rt, rt.alloc())?;
-    let cmds = plain_body(&m, &outs, rt.alloc())?;
-    let mut commands = Vec::new(rt.alloc());
-    for cmd in &cmds {
+    let mut commands = Vec::new(alloc);
+    for cmd in cmds {
         commands.push(command_of(*cmd))?;
     }
-    assert!(rt; commands.len() <= 18);
-    let mut chip = Chip::new(rt.alloc());
+    let mut chip = Chip::new(alloc);
     chip.begin(SMALL)?;
     chip.write_row(0, 0, &[a])?;
     chip.write_row(0, 1, &[b])?;
     chip.write_row(0, 2, &[c])?;
     chip.write_row(0, 9, &[u64::MAX])?;
+    if commands.len() > 18 {
+        return Err("more commands than the plain body has")?;
+    }
     play(&mut chip, SMALL, 0, &commands)?;
     assert_eq!(rt; row_of(&mut chip, 0)?, a);
     assert_eq!(rt; row_of(&mut chip, 1)?, b);
@@ -120,6 +119,18 @@ fn a_body_adds_in_a_chip(rt: HostRuntime) -> Result<(), Fail> {
     assert_eq!(rt; row_of(&mut chip, 8)?, a ^ b ^ c);
     assert_eq!(rt; row_of(&mut chip, 9)?, u64::MAX);
     Ok(())
+}
+
+// The plain body has eighteen commands, and the one that keeps values in the bitwise cells nine.
+#[test]
+fn a_body_adds_in_a_chip(rt: HostRuntime) -> Result<(), Fail> {
+    let (m, outs) = full_adder(&rt, rt.alloc())?;
+    let plain = plain_body(&m, &outs, rt.alloc())?;
+    assert!(rt; plain.len() <= 18);
+    adds(&rt, &plain, rt.alloc())?;
+    let greedy = greedy_body(&m, &outs, rt.alloc())?;
+    assert_eq!(rt; greedy.len(), 9);
+    adds(&rt, &greedy, rt.alloc())
 }
 
 // Nine commands add one bit, and eight of them do not.

@@ -9,6 +9,7 @@ ghost use Rattle.row_alloc.specs.Length.{plain_length};
 ghost use Rattle.row_alloc.specs.Known.{Serves, IsFirst, known, known_at};
 
 use crate::body::{BodyCmd, OutRow};
+use crate::chain::chain;
 use crate::check::check_body;
 use crate::known::KNOWN;
 use crate::order::writes_late;
@@ -64,11 +65,33 @@ fn copied(cmds: &[BodyCmd], alloc: Global) -> Result<Vec<BodyCmd>, NoMemory>
     Ok(cmds.to_vec(alloc)?)
 }
 
+/// The commands from node to node, where they are right and no more than these.
+fn shorter(
+    m: &Mig,
+    outs: &[OutRow],
+    plain: Vec<BodyCmd>,
+    alloc: Global,
+) -> Result<Vec<BodyCmd>, NoMemory>
+    requires fit { FitBody m.now outs.now }
+    requires does { DoesBody m.now outs.now plain.items }
+    requires late { WritesLate outs.now plain.items }
+    ensures does { IfOk result (λ cmds. DoesBody m.now outs.now cmds.items) }
+    ensures late { IfOk result (λ cmds. WritesLate outs.now cmds.items) }
+    ensures few { IfOk result (λ cmds. length cmds.items ≤ length plain.items) }
+{
+    let cmds = chain(m, outs, alloc)?;
+    if cmds.len() <= plain.len() && serves(m, outs, &cmds) {
+        Ok(cmds)
+    } else {
+        Ok(plain)
+    }
+}
+
 /// The commands that leave each output's value in its row, kept in the bitwise cells between the
-/// nodes where a known sequence does so.
+/// nodes.
 ///
-/// The first sequence of the table that the symbolic run finds right stands for the body, and the
-/// plain body where there is none or the plain one is shorter. The B cells and the spill rows may
+/// The first sequence of the table that the symbolic run finds right stands for the body. Where there
+/// is none, the commands that go from node to node are tried, and else the plain body stands. The B cells and the spill rows may
 /// hold anything at entry, and are left with anything. Only want of memory is an `Err`.
 pub fn greedy_body(m: &Mig, outs: &[OutRow], alloc: Global) -> Result<Vec<BodyCmd>, NoMemory>
     requires fit { FitBody m.now outs.now }
@@ -87,6 +110,6 @@ pub fn greedy_body(m: &Mig, outs: &[OutRow], alloc: Global) -> Result<Vec<BodyCm
     let plain = plain_body(m, outs, alloc)?;
     match first_known(m, outs) {
         Some(k) if sequence(k).len() <= plain.len() => copied(sequence(k), alloc),
-        _ => Ok(plain),
+        _ => shorter(m, outs, plain, alloc),
     }
 }

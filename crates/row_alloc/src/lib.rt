@@ -6,6 +6,7 @@
 #![tactic(auto)]
 
 mod body;
+mod chain;
 mod check;
 mod greedy;
 mod known;

@@ -296,6 +296,66 @@ fn scratch_needs_a_row(rt: HostRuntime) -> Result<(), Fail> {
     Ok(())
 }
 
+/// Each word operation on words of 8 bits and a bit, the kind of its result, and its AAP and AP.
+static COUNTS: [(&str, &str, u32, u32); 26] = [
+    ("not(a)", "word", 16, 0),
+    ("and(a, b)", "word", 32, 0),
+    ("or(a, b)", "word", 32, 0),
+    ("xor(a, b)", "word", 40, 16),
+    ("copy(a)", "word", 8, 0),
+    ("zero()", "word", 8, 0),
+    ("ones()", "word", 8, 0),
+    ("shl1(a)", "word", 17, 0),
+    ("shr1(a)", "word", 17, 0),
+    ("add(a, b)", "word", 65, 8),
+    ("sub(a, b)", "word", 57, 0),
+    ("mul(a, b)", "word", 412, 0),
+    ("div(a, b)", "word", 968, 0),
+    ("rem(a, b)", "word", 968, 0),
+    ("abs(a)", "word", 73, 0),
+    ("relu(a)", "word", 32, 0),
+    ("min(a, b)", "word", 89, 0),
+    ("max(a, b)", "word", 89, 0),
+    ("eq(a, b)", "bit", 57, 0),
+    ("gt(a, b)", "bit", 33, 0),
+    ("ge(a, b)", "bit", 33, 0),
+    ("if_else(a, b, s)", "word", 56, 0),
+    ("bitcount(a)", "word", 472, 0),
+    ("and_red(a)", "bit", 33, 0),
+    ("or_red(a)", "bit", 33, 0),
+    ("xor_red(a)", "bit", 41, 16),
+];
+
+// One command more or less in a body changes the count.
+#[test]
+fn operations_have_their_counts(rt: HostRuntime) -> Result<(), Fail> {
+    let alloc = rt.alloc();
+    let object = |name: u8, width: u8| Object {
+        name,
+        width,
+        numbers: &[],
+    };
+    let objects = [
+        object(b'a', 8),
+        object(b'b', 8),
+        object(b's', 1),
+        object(b'y', 8),
+        object(b'z', 1),
+    ];
+    let image = image_of(&objects, 128, alloc)?;
+    for (call, kind, aap, ap) in COUNTS {
+        let ops = format!(in alloc;
+            "op f(a: word, b: word, s: bit) -> y: {kind} {{ y = {call}; }}")?;
+        let target = if kind == "word" { "y" } else { "z" };
+        let script = format!(in alloc; "bbop_f {target}, a, b, s, 64, 8")?;
+        let ended = run(&ops, &script, &image, alloc)?;
+        let report = format!(in alloc; "1 ok aap={aap} ap={ap}\ntotal aap={aap} ap={ap} \
+            writes=128 reads=128 refused=0\n")?;
+        assert_eq!(rt; ended.out.bytes(), report.as_bytes(), "{call}");
+    }
+    Ok(())
+}
+
 /// Three gates of which two majorities are left.
 const REDUCED: &str =
     "op f(a: word, b: word, c: word) -> y: word { serial up () { y = or(and(a, b), and(a, c)); } }";

@@ -24,34 +24,40 @@ returns-in-Some-clause-least c = IfOk-weaker c.copied.result _ _ (λ cmds e k l 
     c.copied.ensures
 
 pub returns-in_default-clause-known : goal.returns-in_default-clause-known
-returns-in_default-clause-known c = λ k first few. elim c.in_default.branch [
-  | in_default-via-in-Some+else-sequence-len w ↦
-      let e = first_same c.args.m.now c.args.outs.now w.in-Some.k k w.in-Some.ensures.some first in
-      let no : ⊥ = omega (
-        arith,
-        few,
-        w.if-sequence-len.false,
-        w.len.ensures,
-        c.in_ok-plain.plain.ok.0,
-        c.in_ok-plain.ensures.exact,
-        ap length w.sequence.ensures,
-        ap (λ i. length (known_at i)) e,
-      ) in
-      elim no [ ]
-  | in_default-via-in_default w ↦ elim (w.in_default.ensures.none k first.within first.serves) [ ]
-]
+returns-in_default-clause-known c = IfOk-weaker c.shorter.result _ _ (λ cmds short k first few.
+    elim c.in_default.branch [
+      | in_default-via-in-Some+else-sequence-len w ↦
+          let e = first_same c.args.m.now c.args.outs.now w.in-Some.k k w.in-Some.ensures.some
+          first in
+          let no : ⊥ = omega (
+            arith,
+            few,
+            w.if-sequence-len.false,
+            w.len.ensures,
+            c.in_ok-plain.plain.ok.0,
+            c.in_ok-plain.ensures.exact,
+            ap length w.sequence.ensures,
+            ap (λ i. length (known_at i)) e,
+          ) in
+          elim no [ ]
+      | in_default-via-in_default w ↦ elim (w.in_default.ensures.none k first.within first.serves)
+          [ ]
+    ]) c.shorter.ensures.few
 
 pub returns-in_default-clause-least : goal.returns-in_default-clause-least
-returns-in_default-clause-least c = λ k l s. elim c.in_default.branch [
-  | in_default-via-in-Some+else-sequence-len w ↦
-      let short = first_least c.args.m.now c.args.outs.now w.in-Some.k k w.in-Some.ensures.some l s
-      in omega (
-        arith,
-        short,
-        w.if-sequence-len.false,
-        w.len.ensures,
-        c.in_ok-plain.plain.ok.0,
-        ap length w.sequence.ensures,
-      )
-  | in_default-via-in_default w ↦ elim (w.in_default.ensures.none k l s) [ ]
-]
+returns-in_default-clause-least c = IfOk-weaker c.shorter.result _ _ (λ cmds short k l s.
+    elim c.in_default.branch [
+      | in_default-via-in-Some+else-sequence-len w ↦
+          let least = first_least c.args.m.now c.args.outs.now w.in-Some.k k w.in-Some.ensures.some
+          l s in
+          omega (
+            arith,
+            short,
+            least,
+            w.if-sequence-len.false,
+            w.len.ensures,
+            c.in_ok-plain.plain.ok.0,
+            ap length w.sequence.ensures,
+          )
+      | in_default-via-in_default w ↦ elim (w.in_default.ensures.none k l s) [ ]
+    ]) c.shorter.ensures.few
