@@ -6,7 +6,7 @@ ghost use Rattle.dram_model.specs.View.{HasBegun, Kept, Did};
 ghost use Rattle.uprog_ctl.specs.Events.{risen};
 ghost use Rattle.uprog_ctl.specs.Waves.{bound_jobs, job_queues, CanRun, wave_counts};
 ghost use Rattle.uprog_ctl.specs.Waves.{wave_events, StoppedAmong};
-ghost use Rattle.wave_model.specs.Schedule.{state_behind};
+ghost use Rattle.wave_model.specs.Schedule.{IsWhole, whole_picks, state_behind};
 
 use crate::controller::do_command;
 use crate::cursor::{first_cursors, go_on, heads_of};
@@ -60,6 +60,10 @@ pub fn run_wave<D: Dram, F: Fetch, P: Picker>(
     ensures did { OnOk result (Did (wave_events P.rule (D.view dram.old).geometry.banks
         (P.state picker.old) (job_queues (D.view dram.old).geometry.rows
         (bound_jobs F.shape F.code jobs.now))) (D.view dram.old) (D.view dram.new)) }
+    ensures whole { IsWhole (D.view dram.old).geometry.banks
+        (whole_picks P.rule (D.view dram.old).geometry.banks (P.state picker.old)
+        (job_queues (D.view dram.old).geometry.rows (bound_jobs F.shape F.code jobs.now)))
+        (job_queues (D.view dram.old).geometry.rows (bound_jobs F.shape F.code jobs.now)) }
     ensures state { OnOk result (P.state picker.new
         ≡ state_behind P.rule (D.view dram.old).geometry.banks (P.state picker.old)
         (job_queues (D.view dram.old).geometry.rows (bound_jobs F.shape F.code jobs.now))) }

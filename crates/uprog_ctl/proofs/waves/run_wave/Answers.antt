@@ -120,6 +120,15 @@ returns-in_err-do_command-clause-stopped g c =
     c.loop-g.invariant.so ok it blank new refl c.loop-g.invariant.kept.faults failed
     c.in_err-do_command.ensures.untold)
 
+pub returns-in_err-do_command-clause-whole : goal.returns-in_err-do_command-clause-whole
+returns-in_err-do_command-clause-whole g c =
+    let first = g.D.Dram.view c.args.dram.now in
+    let banks = first.geometry.banks in
+    let jobs = bound_jobs g.F.Fetch.shape g.F.Fetch.code c.args.jobs.now in
+    let qs = job_queues first.geometry.rows jobs in
+    picks_whole g.P.Picker.rule banks (total_left banks qs)
+    (g.P.Picker.state c.args.picker.now) qs g.met.P.Picker.picks_live refl
+
 pub loop-g-preserved : goal.loop-g-preserved
 loop-g-preserved g c =
     let first = g.D.Dram.view c.args.dram.now in
@@ -182,6 +191,15 @@ returns-clause-did g c =
     (g.P.Picker.state c.args.picker.now) (job_queues first.geometry.rows jobs) first
     (g.P.Picker.state c.loop-g.picker) (g.D.Dram.view c.loop-g.dram) c.loop-g.cursors.items
     c.loop-g.invariant.so none).0
+
+pub returns-clause-whole : goal.returns-clause-whole
+returns-clause-whole g c =
+    let first = g.D.Dram.view c.args.dram.now in
+    let banks = first.geometry.banks in
+    let jobs = bound_jobs g.F.Fetch.shape g.F.Fetch.code c.args.jobs.now in
+    let qs = job_queues first.geometry.rows jobs in
+    picks_whole g.P.Picker.rule banks (total_left banks qs)
+    (g.P.Picker.state c.args.picker.now) qs g.met.P.Picker.picks_live refl
 
 pub returns-clause-state : goal.returns-clause-state
 returns-clause-state g c =
