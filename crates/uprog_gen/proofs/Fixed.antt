@@ -77,7 +77,8 @@ body_is i nodes outs b h =
     let p = and_parts (b.graph.inputs == i) (same_nodes b.graph.nodes nodes
     && same_lits b.outs outs) h in
     let q = and_parts (same_nodes b.graph.nodes nodes) (same_lits b.outs outs) p.1 in (
-      graph-made b.graph i nodes (eqb-true b.graph.inputs i p.0) (all-nodes b.graph.nodes nodes q.0),
+      graph-made b.graph i nodes (eqb-true b.graph.inputs i p.0)
+          (all-nodes b.graph.nodes nodes q.0),
       all-lits b.outs outs q.1,
     )
 
