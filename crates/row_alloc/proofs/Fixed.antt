@@ -118,7 +118,8 @@ xor_serves = one_serves xor_graph (plain 5) XOR refl (split 6 XOR refl refl refl
 
 -- both outputs of an addition, in rows of their own or in inputs' rows that differ
 abbrev Ends : Option ℕ → Option ℕ → Type 0
-Ends s t = (symbols_after add_graph (out (plain 6) s ∷ out (plain 4) t ∷ []) ADD (D (own_output s 0))
+Ends s t =
+    (symbols_after add_graph (out (plain 6) s ∷ out (plain 4) t ∷ []) ADD (D (own_output s 0))
     ≡ Some (plain 6))
     × (symbols_after add_graph (out (plain 6) s ∷ out (plain 4) t ∷ []) ADD (D (own_output t 1))
     ≡ Some (plain 4))

@@ -90,9 +90,10 @@ fn shorter(
 /// The commands that leave each output's value in its row, kept in the bitwise cells between the
 /// nodes.
 ///
-/// The first sequence of the table that the symbolic run finds right stands for the body. Where there
-/// is none, the commands that go from node to node are tried, and else the plain body stands. The B cells and the spill rows may
-/// hold anything at entry, and are left with anything. Only want of memory is an `Err`.
+/// The first sequence of the table that the symbolic run finds right stands for the body. Where
+/// there is none, the commands that go from node to node are tried, and else the plain body stands.
+/// The B cells and the spill rows may hold anything at entry, and are left with anything. Only want
+/// of memory is an `Err`.
 pub fn greedy_body(m: &Mig, outs: &[OutRow], alloc: Global) -> Result<Vec<BodyCmd>, NoMemory>
     requires fit { FitBody m.now outs.now }
     ensures does { IfOk result (λ cmds. DoesBody m.now outs.now cmds.items) }

@@ -345,12 +345,15 @@ fn operations_have_their_counts(rt: HostRuntime) -> Result<(), Fail> {
     let image = image_of(&objects, 128, alloc)?;
     for (call, kind, aap, ap) in COUNTS {
         let ops = format!(in alloc;
-            "op f(a: word, b: word, s: bit) -> y: {kind} {{ y = {call}; }}")?;
+            "op f(a: word, b: word, s: bit) -> y: {kind} {{ y = {call}; }}"
+        )?;
         let target = if kind == "word" { "y" } else { "z" };
         let script = format!(in alloc; "bbop_f {target}, a, b, s, 64, 8")?;
         let ended = run(&ops, &script, &image, alloc)?;
-        let report = format!(in alloc; "1 ok aap={aap} ap={ap}\ntotal aap={aap} ap={ap} \
-            writes=128 reads=128 refused=0\n")?;
+        let report = format!(in alloc;
+            "1 ok aap={aap} ap={ap}\ntotal aap={aap} ap={ap} \
+            writes=128 reads=128 refused=0\n"
+        )?;
         assert_eq!(rt; ended.out.bytes(), report.as_bytes(), "{call}");
     }
     Ok(())

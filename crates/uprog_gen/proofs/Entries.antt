@@ -16,7 +16,6 @@ use Rattle.op_text.specs.Rules.{is_among, is_plain}
 use Rattle.op_text.specs.Language.{Statement, Operation, operation}
 use Rattle.op_text.specs.declared.tree.Op.{Op}
 use Rattle.op_text.specs.Spelling.{Each, is_good}
-use Rattle.op_text.specs.Meaning.{meaning}
 use Rattle.op_text.specs.Scratch.{ceiling}
 use Rattle.op_rules.specs.Meets.{Differ, OperationMeets, OpsMeet}
 use Rattle.op_rules.proofs.Few.{scratch_is_small}

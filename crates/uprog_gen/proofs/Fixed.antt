@@ -1,5 +1,5 @@
 -- The bodies whose numbers of commands are fixed
-use Rattle.std.proofs.Common.{◌≡◌, ℕ, ◌+◌, ◌<◌, ◌≤◌, Bool, true, false, cond, List, [], ◌∷◌, length}
+use Rattle.std.proofs.Common.{◌≡◌, ℕ, ◌<◌, ◌≤◌, Bool, true, false, cond, List, [], ◌∷◌, length}
 use Rattle.std.proofs.Common.{refl, sym, ap, ◌∙◌, subst, arith}
 use Rattle.std.specs.Prelude.{◌==◌, ◌&&◌}
 use Rattle.std.proofs.lemmas.Bool.{and_parts, eqb-true}
@@ -9,7 +9,6 @@ use Rattle.mig_graph.specs.declared.Node.{Node}
 use Rattle.mig_graph.specs.Graph.{Graph}
 use Rattle.mig_graph.specs.Outputs.{lit_at}
 use Rattle.row_alloc.specs.declared.body.OutRow.{OutRow}
-use Rattle.row_alloc.specs.declared.body.BodyCmd.{BodyCmd}
 use Rattle.row_alloc.specs.Rows.{out_at}
 use Rattle.row_alloc.specs.Body.{FitBody}
 use Rattle.row_alloc.specs.Known.{Serves, known, known_at, not_graph, and_graph, or_graph}
@@ -77,7 +76,8 @@ body_is i nodes outs b h =
     let p = and_parts (b.graph.inputs == i) (same_nodes b.graph.nodes nodes
     && same_lits b.outs outs) h in
     let q = and_parts (same_nodes b.graph.nodes nodes) (same_lits b.outs outs) p.1 in (
-      graph-made b.graph i nodes (eqb-true b.graph.inputs i p.0) (all-nodes b.graph.nodes nodes q.0),
+      graph-made b.graph i nodes (eqb-true b.graph.inputs i p.0)
+          (all-nodes b.graph.nodes nodes q.0),
       all-lits b.outs outs q.1,
     )
 

@@ -1,7 +1,7 @@
 -- The rows of a body's outputs, one after another.
 use Rattle.std.proofs.Common.{◌≡◌, ◌≢◌, ℕ, zero, suc, ◌+◌, ◌<◌, ◌≤◌, List, [], ◌∷◌, ◌++◌, length}
 use Rattle.std.proofs.Common.{Option, Some, None, refl, sym, ap, ◌∙◌, subst, ⊎_elim, arith}
-use Rattle.std.proofs.Common.{length-append, Bool, true, false, cond, ◌*◌}
+use Rattle.std.proofs.Common.{length-append, Bool, true, false, ◌*◌}
 use Rattle.std.proofs.lemmas.List.{get_or_append_left}
 use Rattle.std.specs.Prelude.{slice_index_or, IfSome, IfNone, not, ◌==◌, ◌&&◌}
 use Rattle.std.proofs.Math.Seq.{get_or-append_seam}

@@ -19,7 +19,7 @@ use Rattle.op_rules.specs.Meets.{names_of, Differ}
 use Rattle.op_rules.proofs.Names.{same_name, turned}
 use Rattle.loop_ir.specs.declared.names.NameMap.{NameMap}
 use Rattle.loop_ir.specs.Statements.{Slots, slots_of}
-use Rattle.uprog_gen.specs.Layout.{Lay, slot, own_slot, is_scratch, defined_lays}
+use Rattle.uprog_gen.specs.Layout.{Lay, own_slot, is_scratch, defined_lays}
 use Rattle.uprog_gen.specs.Layout.{found}
 use Rattle.uprog_gen.specs.Laying.{placed, Lays, states_defined, words_defined}
 use Rattle.uprog_gen.proofs.Lays.{by_bool, params_of, found_new, or_else}

@@ -1,8 +1,7 @@
 -- The rows that a part's commands name are rows of its body
 use Rattle.std.proofs.Common.{◌≡◌, ℕ, ◌<◌, ◌≤◌, ◌&&◌, Bool, true, false, List, length, get_or, refl}
-use Rattle.std.proofs.Common.{arith, subst, ◌∙◌, sym, ap}
+use Rattle.std.proofs.Common.{arith}
 use Rattle.std.specs.Prelude.{nat_lt}
-use Rattle.std.specs.List.{list_all}
 use Rattle.std.proofs.lemmas.Bool.{and_parts, and_from, lt-ltb}
 use Rattle.std.proofs.lemmas.List.Folds.{list_all_at}
 use Rattle.row_alloc.specs.declared.body.BodyRef.{BodyRef}

@@ -1,12 +1,11 @@
 -- Bodies that are built by a template are like it.
-use Rattle.std.proofs.Common.{◌≡◌, ℕ, zero, suc, ◌+◌, ◌<◌, ◌≤◌, Bool, true, false, not, cond, List}
-use Rattle.std.proofs.Common.{[], ◌∷◌, map, length, refl, sym, ap, ◌∙◌, subst, ⊎_elim, arith}
-use Rattle.std.specs.Prelude.{nat_lt, ◌&&◌, ◌==◌}
-use Rattle.std.proofs.lemmas.Bool.{and_parts, and_from, cases_Bool, eqb-true, eq-eqb}
+use Rattle.std.proofs.Common.{◌≡◌, ℕ, zero, suc, ◌+◌, ◌<◌, true, List}
+use Rattle.std.proofs.Common.{[], ◌∷◌, map, length, refl, sym, ap, ◌∙◌, subst, arith}
+use Rattle.std.specs.Prelude.{nat_lt}
+use Rattle.std.proofs.lemmas.Bool.{and_parts}
 use Rattle.std.proofs.lemmas.List.{length-map}
 use Rattle.mig_graph.specs.declared.Lit.{Lit}
 use Rattle.mig_graph.specs.declared.Node.{Node}
-use Rattle.mig_graph.specs.Literals.{IsLower, is_turned}
 use Rattle.mig_graph.specs.Graph.{Graph, IsGraph}
 use Rattle.mig_graph.specs.Outputs.{lit_at}
 use Rattle.loop_ir.specs.declared.ir.Place.{Place}
@@ -67,8 +66,8 @@ pub template_like : (o : Owners) (reads writes : List Mark) (nodes : List Node) 
 template_like o reads writes nodes outs rp wp g lits er ew eg el =
     let whole = body_on o (template (marks reads) nodes outs (marks writes)) in
     let n : length reads ≡ length (marks reads) = sym (length-map reads mark_of) in
-    subst (λ b. IsLike b whole) (sym (block_eq whole.reads whole.writes rp wp g whole.graph outs lits
-    (er ∙ twice_mapped o reads) (ew ∙ twice_mapped o writes)
+    subst (λ b. IsLike b whole) (sym (block_eq whole.reads whole.writes rp wp g whole.graph outs
+    lits (er ∙ twice_mapped o reads) (ew ∙ twice_mapped o writes)
     (eg ∙ ap (λ (i : ℕ). record { inputs = i; nodes = nodes }) n) el)) (like_self whole)
 
 -- its graph is as `Mig` makes them, and its outputs name nodes of it

@@ -1,7 +1,8 @@
 -- Templates whose nodes are as `Mig` keeps them.
-use Rattle.std.proofs.Common.{◌≡◌, ◌≢◌, ℕ, zero, suc, ◌+◌, ◌<◌, ◌≤◌, ◌^◌, Bool, true, false, not, List}
-use Rattle.std.proofs.Common.{[], ◌∷◌, ◌++◌, length, take, refl, sym, ap, ◌∙◌, subst, inl, arith}
-use Rattle.std.specs.Prelude.{nat_lt, ◌&&◌, ◌==◌}
+use Rattle.std.proofs.Common.{◌≡◌, ◌≢◌, ℕ, zero, suc, ◌+◌, ◌<◌, ◌≤◌, ◌^◌, Bool, true, false, not}
+use Rattle.std.proofs.Common.{List, [], ◌∷◌, ◌++◌, length, take, refl, sym, ap, ◌∙◌, subst, inl}
+use Rattle.std.proofs.Common.{arith}
+use Rattle.std.specs.Prelude.{nat_lt, ◌&&◌}
 use Rattle.std.specs.List.{list_any}
 use Rattle.std.proofs.lemmas.Bool.{and_parts, eq-eqb}
 use Rattle.std.proofs.lemmas.List.{take_more, get_or-take, length-take-le}
@@ -9,7 +10,7 @@ use Rattle.std.proofs.lemmas.List.Folds.{list_any_at}
 use mathlib.Core.Bool.{beq}
 use Rattle.mig_graph.specs.declared.Lit.{Lit}
 use Rattle.mig_graph.specs.declared.Node.{Node}
-use Rattle.mig_graph.specs.Literals.{IsLower, NamesThree, SameThree, inversions, node_of}
+use Rattle.mig_graph.specs.Literals.{SameThree, inversions}
 use Rattle.mig_graph.specs.Graph.{Graph, IsGraph, IsSorted, AreSorted, IsFresh, node_at, no_node}
 use Rattle.mig_graph.proofs.InOrder.{sorted-same, sorted-three}
 use Rattle.loop_ir.specs.Costs.{same_lit, same_node}

@@ -309,7 +309,8 @@ module _ (n : ℕ) (m : Rows) (are : AreRows n 1 0 m) (bits : Spots) where
       let word = value_same (λ j. new (row n m.target j)) y n
       (λ j lj. loop_word n o n count_body ys is start 0 (omega arith) (λ u w lu lw e.
       are.moves.by u w (omega arith) (omega arith) e) j lj) in
-      let stays : (q : Spot) → (q ≡ cp → ⊥) → start q ≡ old q = λ q ne. set_other old cp (not v) q ne in
+      let stays : (q : Spot) → (q ≡ cp → ⊥) → start q ≡ old q =
+      λ q ne. set_other old cp (not v) q ne in
       let was = value_same ta (λ j. old (row n m.target j)) n
       (λ j lj. stays (row n m.target j) (λ e. cf.target.by 0 j (omega arith) lj (sym e))) in
       let total : number y n + bit (carry n) * 2 ^ n

@@ -14,8 +14,8 @@ returns-in-Some-clause-does c = IfOk-weaker c.copied.result _ _ (λ cmds e. subs
 
 pub returns-in-Some-clause-known : goal.returns-in-Some-clause-known
 returns-in-Some-clause-known c = IfOk-weaker c.copied.result _ _ (λ cmds e k first few.
-    e ∙ c.sequence-in-Some.ensures ∙ ap known_at (first_same c.args.m.now c.args.outs.now c.in-Some.k
-    k c.in-Some.ensures.some first)) c.copied.ensures
+    e ∙ c.sequence-in-Some.ensures ∙ ap known_at (first_same c.args.m.now c.args.outs.now
+    c.in-Some.k k c.in-Some.ensures.some first)) c.copied.ensures
 
 pub returns-in-Some-clause-least : goal.returns-in-Some-clause-least
 returns-in-Some-clause-least c = IfOk-weaker c.copied.result _ _ (λ cmds e k l s.

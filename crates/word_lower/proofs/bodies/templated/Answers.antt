@@ -17,6 +17,7 @@ returns-clause-like c = template_like c.args.owners c.args.reads.now c.args.writ
 
 pub returns-clause-made : goal.returns-clause-made
 returns-clause-made c = template_made _ _ _ c.args.nodes.now c.args.outs.now _ _
-    (own_graph _ c.args.nodes.now (omega (arith, c.requires.reads, c.requires.nodes)) c.requires.own)
+    (own_graph _ c.args.nodes.now (omega (arith, c.requires.reads, c.requires.nodes))
+    c.requires.own)
     (all_below _ c.args.outs.now c.requires.named) c.in_ok-made.ensures.graph
     c.in_ok-made.ensures.outs

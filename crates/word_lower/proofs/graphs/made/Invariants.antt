@@ -1,5 +1,4 @@
 use Rattle.std.proofs.Common.{◌≡◌, take}
-use Rattle.mig_graph.specs.Graph.{Graph}
 use Rattle.word_lower.proofs.graphs.made.Given as goal
 
 -- the nodes so far
