@@ -1,7 +1,7 @@
 //! A wave: bbops that run on their banks at once.
 
-ghost use Rattle.std.specs.Prelude.{◌≡◌, ℕ, ◌+◌, ◌<◌, ◌≤◌, ◌^◌, ◌∷◌, [], ◌++◌, List, length, map, Some};
-ghost use Rattle.std.specs.Prelude.{None, true, IfOk, IfErr, OnOk, OnErr};
+ghost use Rattle.std.specs.Prelude.{◌≡◌, ℕ, ◌+◌, ◌<◌, ◌≤◌, ◌^◌, ◌∷◌, [], ◌++◌, List, length, map};
+ghost use Rattle.std.specs.Prelude.{Some, None, true, IfOk, IfErr, OnOk, OnErr};
 ghost use Rattle.std.specs.List.{AllByRecursion};
 ghost use Rattle.dram_model.specs.Chip.{Rose};
 ghost use Rattle.dram_model.specs.View.{HasBegun, Kept, Did};
