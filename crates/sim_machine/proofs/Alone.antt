@@ -83,7 +83,8 @@ module _ (old new : Machine) (number : ℕ) (instr : Instruction) (wave : List I
     (bbop : is_bbop instr ≡ true)
   where
     one_line : lines_of old number wave ≡ line_of old number chip.banks instr
-    one_line = ap (lines_of old number) is ∙ append-nil (line number (Answered (reply_of old instr)))
+    one_line = ap (lines_of old number) is
+        ∙ append-nil (line number (Answered (reply_of old instr)))
         ∙ ap (line number) (sym (said_answered (reply_of old instr) instr _
         (shows_none instr bbop)))
 

@@ -130,11 +130,11 @@ pub can_run : (g : Geometry) (table : List Named) (m : Microprogram) (dst : List
     → b.n ≡ n → bound_of b ≡ binding g table m.shape (dst ∷ srcs) n
     → walked (trace m.shape m.code n) ≡ Ok counts → banks ≤ g.banks
     → CanRun g (bound_job_of m b banks)
-can_run g table m dst srcs count n banks b counts legal some narrow listed allowed e f w l = record {
+can_run g table m dst srcs count n banks b counts legal some narrow listed all e f w l = record {
   legal = legal;
   some = rw e some;
   narrow = rw e narrow;
-  fits = binding_is_fit g table m dst srcs count n g.rows b.n (bound_of b) listed allowed f refl e;
+  fits = binding_is_fit g table m dst srcs count n g.rows b.n (bound_of b) listed all f refl e;
   ends = has_ended (trace m.shape m.code b.n) counts
       (ap (λ k. walked (trace m.shape m.code k)) e ∙ w);
   banks = l;

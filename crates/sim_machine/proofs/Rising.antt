@@ -1,5 +1,6 @@
 -- By how much the counters rise in a piece of a script.
-use Rattle.std.proofs.Common.{◌≡◌, ℕ, ◌+◌, ◌*◌, ◌<◌, ◌≤◌, List, length, map, refl, ◌∙◌, ap, subst, sym}
+use Rattle.std.proofs.Common.{◌≡◌, ℕ, ◌+◌, ◌*◌, ◌<◌, ◌≤◌, List, length, map, refl, ◌∙◌, ap, subst}
+use Rattle.std.proofs.Common.{sym}
 use Rattle.std.proofs.Common.{arith, add-zero, true, false, cond, Bool, [], ◌∷◌}
 use Rattle.std.proofs.lemmas.List.{length-map}
 use Rattle.std.proofs.Math.Nat.{mul-le-mul_right}

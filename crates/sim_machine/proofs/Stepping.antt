@@ -223,7 +223,8 @@ dropped p false e = absurd (cc)
 
 without_new : (table : List Named) (name : List ℕ) (o : Object) → has_name table name ≡ false
     → without (table ++ (name, o) ∷ []) name ≡ table
-without_new [] name o e = dropped (name, o) (bytes_eq name name) ((bytes_eq-Decides name name).1 refl)
+without_new [] name o e =
+    dropped (name, o) (bytes_eq name name) ((bytes_eq-Decides name name).1 refl)
 without_new (p ∷ table) name o e =
     let both = neither (bytes_eq p.0 name) (has_name table name) e in
     kept_first p (bytes_eq p.0 name) _ _ both.0 (without_new table name o both.1)

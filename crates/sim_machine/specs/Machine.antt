@@ -43,7 +43,7 @@ file_of m = m.file.items
 
 -- a machine that is open: its parts fit, and it has the memory that it needs
 pub record IsReady (m : Machine) : Type 0 where
-  pub lies : LiesOn m.geometry m.table
+  pub set : LiesOn m.geometry m.table
   pub stage : length m.stage.items ≡ 128 * m.geometry.words
   pub room : HEAD_BYTES + RECORD_BYTES * OBJECTS_MAX + rows_size m.geometry
       ≤ vec_capacity m.file

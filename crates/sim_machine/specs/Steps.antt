@@ -3,6 +3,7 @@ use Rattle.std.specs.Prelude.{◌≡◌, ℕ, ◌<◌, ◌^◌, List}
 use Rattle.dram_model.specs.declared.dram.Counters.{Counters}
 use Rattle.dram_model.specs.Chip.{Event, after, all_counted, Grew}
 use Rattle.dram_model.specs.View.{ChipView, with_reads}
+pub use Rattle.object_steps.specs.Objects.{RisesAtMost}
 
 -- exactly these events happened, in this order, and so many data rows were read
 pub record DidAndRead (events : List Event) (n : ℕ) (old new : ChipView) : Type 0 where

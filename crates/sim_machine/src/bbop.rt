@@ -10,8 +10,6 @@ ghost use Rattle.uprog_code.specs.Shape.{shape_of};
 ghost use Rattle.uprog_code.specs.Bound.{bound_of};
 ghost use Rattle.uprog_code.specs.Legal.{IsLegalCode};
 ghost use Rattle.uprog_ctl.specs.Waves.{CanRun, wave_job};
-ghost use Rattle.object_alloc.specs.Spelling.{IsObject};
-ghost use Rattle.machine_model.specs.Columns.{segments};
 ghost use Rattle.machine_model.specs.Operations.{operation_of, operations_in};
 ghost use Rattle.machine_model.specs.Refusals.{bbop_conditions, first, object_named, dsts_in};
 ghost use Rattle.machine_model.specs.Refusals.{refusal, srcs_in};
@@ -24,7 +22,8 @@ use arrayvec::ArrayVec;
 use bit_rows::WIDTH_MAX;
 use dram_model::Geometry;
 use machine_model::Why;
-use object_alloc::{Object, Table};
+use object_alloc::Table;
+use object_steps::segments;
 use text_lex::Name;
 use uprog_bin::{Entry, ProgView};
 use uprog_code::{Binding, Counts, Fetch, Head, Kind, WALK_MAX};
@@ -40,16 +39,6 @@ pub(crate) fn entry_named<'a>(prog: &ProgView<'a>, op: &Name) -> Option<Entry<'a
         Some(k) => Some(prog.entry(k)),
         None => None,
     }
-}
-
-/// How many banks an object's elements take.
-pub(crate) fn segments(g: Geometry, o: Object) -> u16
-    requires words { 0 < g.words }
-    requires object { IsObject g o }
-    ensures value { result ≡ segments g o }
-    ensures fits { result ≤ g.banks }
-{
-    o.count.div_ceil(64 * u32::from(g.words)) as u16
 }
 
 /// The first rows of the sources.

@@ -69,7 +69,7 @@ impl<'a> Machine<'a> {
         dram: &mut D,
         alloc: Global,
     ) -> Result<Machine<'a>, StartNo>
-        requires lies { LiesOn image.geometry image.table }
+        requires set { LiesOn image.geometry image.table }
         requires rows { length image.rows.now ≡ rows_size image.geometry }
         ensures borrow { D.borrow dram.new ≡ D.borrow dram.old }
         ensures faults { (D.view dram.old).faults ≤ (D.view dram.new).faults }
@@ -137,7 +137,9 @@ impl<'a> Machine<'a> {
 
         // Where the chip fails, the banks past those of every destination are as before, and
         // nothing is put. Where the sink fails, the wave was done.
-        ensures chip_fault { IsErrOf result StepFault.ChipFault → (k : ℕ)
+        ensures chip_fault { IsErrOf result StepFault.ChipFault
+            → Rose (D.view dram.old).faults (D.view dram.new).faults }
+        ensures others { IsErrOf result StepFault.ChipFault → (k : ℕ)
             → AllByRecursion (λ instr. banks_by self.old instr ≤ k) (map view_of instrs.now)
             → FailedBelow k (D.view dram.old) (D.view dram.new) }
         ensures unsent { IsErrOf result StepFault.ChipFault → S.view out.new ≡ S.view out.old }

@@ -1,8 +1,9 @@
 //! A wave: bbops that run on their banks at once.
 
-ghost use Rattle.std.specs.Prelude.{◌≡◌, ℕ, ◌+◌, ◌<◌, ◌≤◌, ◌^◌, ◌∷◌, [], ◌++◌, List, length, map, Some};
-ghost use Rattle.std.specs.Prelude.{None, true, IfOk, IfErr, OnOk, OnErr};
+ghost use Rattle.std.specs.Prelude.{◌≡◌, ℕ, ◌+◌, ◌<◌, ◌≤◌, ◌^◌, ◌∷◌, [], ◌++◌, List, length, map};
+ghost use Rattle.std.specs.Prelude.{Some, None, true, IfOk, IfErr, OnOk, OnErr};
 ghost use Rattle.std.specs.List.{AllByRecursion};
+ghost use Rattle.dram_model.specs.Chip.{Rose};
 ghost use Rattle.dram_model.specs.View.{HasBegun, Kept, Did};
 ghost use Rattle.dram_model.specs.Elements.{FailedBelow};
 ghost use Rattle.uprog_ctl.specs.Orders.{turn_of as state_of};
@@ -152,6 +153,7 @@ pub(crate) fn do_wave<D: Dram>(
         (operations_in setting.now.prog.now.programs) (state_of order.old)
         setting.now.table.now.pairs (Wave (map view_of instrs.now))) (D.view dram.old)
         (D.view dram.new)) }
+    ensures rose { OnErr result (Rose (D.view dram.old).faults (D.view dram.new).faults) }
     ensures failed { OnErr result ((k : ℕ) → AllByRecursion (λ job. job.banks ≤ k)
         (jobs_of setting.now.geometry (operations_in setting.now.prog.now.programs)
         setting.now.table.now.pairs (map view_of instrs.now))

@@ -55,3 +55,7 @@ returns-clause-did g c =
     c.requires.geometry
     (ap (λ (xs : List (Job Held)). map (wave_job s.geometry.rows) (map job_bound xs))
     c.as_slice.ensures.value ∙ c.plan_of-replies.ensures.jobs) c.in_ok-run_wave.ensures.did
+
+pub returns-in_err-run_wave-clause-rose : goal.returns-in_err-run_wave-clause-rose
+returns-in_err-run_wave-clause-rose g c =
+    on_err c.from_residual.result c.in_err-run_wave.ensures.stopped.rose

@@ -29,13 +29,13 @@ returns-in-Done-clause-ready g c =
     ∙ undone (geometry_of m) operations (table_in m) c.args.name.now c.args.count c.args.n
     c.in-Done.field-0 (sym c.in-Done.is ∙ c.in-Ok.ensures.reply operations) in
     record {
-      lies = record {
-        geometry = c.requires.ready.lies.geometry;
+      set = record {
+        geometry = c.requires.ready.set.geometry;
         limit = ap (λ t. t.limit) c.remove.ensures.rest ∙ c.trsp_init.ensures.lies.limit;
         listed = subst (λ (t : List Named). IsTable (limit_of (geometry_of m)) t) (sym same)
-            c.requires.ready.lies.listed;
+            c.requires.ready.set.listed;
         objects = subst (λ (t : List Named). All (λ (named : Named). IsObject (geometry_of m)
-            named.1) t) (sym same) c.requires.ready.lies.objects;
+            named.1) t) (sym same) c.requires.ready.set.objects;
       };
       stage = c.requires.ready.stage;
       room = c.requires.ready.room;

@@ -32,7 +32,7 @@ pub returns-clause-rises : goal.returns-clause-rises
 returns-clause-rises g c =
     let m = c.args.self.now in
     when_ok _ _ _ _ _ _ _ _ c.step_of.result (λ reply h. instr_rises (geometry_of m)
-    (program_of m) (turn_in m) m.table (view_of c.args.instr.now) _ _ c.requires.ready.lies
+    (program_of m) (turn_in m) m.table (view_of c.args.instr.now) _ _ c.requires.ready.set
     c.requires.plain h.did.counters)
     c.step_of.ensures.comes
 
