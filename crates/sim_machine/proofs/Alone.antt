@@ -6,8 +6,8 @@ use Rattle.std.specs.List.{AllByRecursion}
 use Rattle.host_edge.specs.Views.{SinkView, Told, AppendsPart}
 use Rattle.fault_counts.specs.Counts.{Rose}
 use Rattle.dram_model.specs.View.{ChipView, Did}
-use Rattle.dram_model.specs.Elements.{FailedBelow}
 use Rattle.wave_model.specs.Schedule.{Job}
+use Rattle.uprog_ctl.specs.Waves.{StoppedAmong}
 use Rattle.bbop_isa.specs.Forms.{Instruction}
 use Rattle.bbop_isa.specs.Forms.{Init, Bbop, Load, Fill, Print, Free, Order}
 use Rattle.machine_model.specs.declared.Reply.{Reply}
@@ -22,10 +22,11 @@ use Rattle.object_steps.specs.declared.fault.StepFault.{StepFault}
 use Rattle.object_steps.specs.declared.fault.StepFault.TheVariants.{ChipFault, WriteFault}
 use Rattle.sim_machine.specs.declared.machine.Machine.{Machine}
 use Rattle.sim_machine.specs.Machine.{banks_by, events_by, geometry_of, is_print, line_of, lines_of}
-use Rattle.sim_machine.specs.Machine.{operations_by, reads_by, reply_of, table_behind, table_in}
+use Rattle.sim_machine.specs.Machine.{operations_by, queues_by, reads_by, reply_of, table_behind, table_in}
 use Rattle.sim_machine.specs.Machine.{turn_by_piece, turn_in}
 use Rattle.sim_machine.specs.Outcome.{Comes, Stepped}
 use Rattle.sim_machine.specs.Steps.{DidAndRead}
+use Rattle.sim_machine.proofs.Waving.{stopped_below}
 use Rattle.sim_machine.proofs.Stepping.{did_only, if_same, no_part, reads_none, said_answered}
 
 shows_none : (instr : Instruction) → is_bbop instr ≡ true → is_print instr ≡ false
@@ -67,7 +68,7 @@ one_below true k f x xs h all = (h, all)
 one_below false k f x xs h all = all
 
 -- the jobs of a wave are in the banks that its bbops may change
-pub jobs_below : (m : Machine) (wave : List Instruction) (k : ℕ)
+jobs_below : (m : Machine) (wave : List Instruction) (k : ℕ)
     → AllByRecursion (λ instr. banks_by m instr ≤ k) wave
     → AllByRecursion (λ job. job.banks ≤ k)
     (jobs_of (geometry_of m) (operations_by m) (table_in m) wave)
@@ -96,6 +97,13 @@ module _ (old new : Machine) (number : ℕ) (instr : Instruction) (wave : List I
     did_alone did = subst (λ p. DidAndRead (events_by old p) (reads_by old instr) chip chip')
         same_piece (did_only _ _ chip chip' (reads_none old instr (shows_none instr bbop)) did)
 
+    stopped_alone : StoppedAmong (events_by old (Wave wave)) (queues_by old wave) chip chip'
+        → StoppedAmong (events_by old (piece_of instr)) (queues_by old (instr ∷ [])) chip chip'
+    stopped_alone stopped =
+        subst (λ (p : Piece). StoppedAmong (events_by old p) (queues_by old (instr ∷ [])) chip
+        chip') same_piece (subst (λ (xs : List Instruction). StoppedAmong
+        (events_by old (Wave wave)) (queues_by old xs) chip chip') is stopped)
+
     pub bbop_done : (replies : List Reply) (d : Reply) → table_in new ≡ table_in old
         → replies ≡ map (reply_of old) wave → turn_in new ≡ turn_by_piece old (Wave wave)
         → Did (events_by old (Wave wave)) chip chip'
@@ -110,29 +118,31 @@ module _ (old new : Machine) (number : ℕ) (instr : Instruction) (wave : List I
     }
 
     pub bbop_failed : (fault : StepFault) → table_in new ≡ table_in old
-        → (fault ≡ ChipFault → (k : ℕ) → AllByRecursion (λ i. banks_by old i ≤ k) wave
-        → FailedBelow k chip chip')
+        → (fault ≡ ChipFault
+        → StoppedAmong (events_by old (Wave wave)) (queues_by old wave) chip chip')
         → (fault ≡ ChipFault → sink' ≡ sink)
         → (fault ≡ WriteFault → Did (events_by old (Wave wave)) chip chip')
         → (fault ≡ WriteFault → Rose sink.faults sink'.faults)
         → (fault ≡ WriteFault
         → Told (AppendsPart (lines_of old number wave)) sink.sent sink'.sent)
         → Comes old new number instr chip chip' sink sink' (Err fault)
-    bbop_failed ChipFault table failed same did rose part = record {
+    bbop_failed ChipFault table stopped same did rose part = record {
       table = table;
-      failed = failed refl (banks_by old instr)
+      failed = stopped_below (geometry_of old).banks (turn_in old)
+          (jobs_of (geometry_of old) (operations_by old) (table_in old) wave) chip chip'
+          (banks_by old instr) (stopped refl) (jobs_below old wave (banks_by old instr)
           (subst (AllByRecursion (λ i. banks_by old i ≤ banks_by old instr)) (sym is)
-          (omega arith, tt));
+          (omega arith, tt)));
+      stopped = λ e. stopped_alone (stopped refl);
       unsent = λ e. same refl;
       part = subst (λ (s : SinkView). Told (AppendsPart (line_of old number chip.banks instr))
           sink.sent s.sent) (sym (same refl)) (no_part _ sink.sent);
     }
-    bbop_failed WriteFault table failed same did rose part =
+    bbop_failed WriteFault table stopped same did rose part =
         let all = did_alone (did refl) in record {
           table = table;
           did = λ e. all;
-          banks = all.banks;
-          log = all.log;
+          read = λ e. absurd (cc (e, shows_none instr bbop));
           rose = rose refl;
           part = subst (λ text. Told (AppendsPart text) sink.sent sink'.sent) one_line (part refl);
         }

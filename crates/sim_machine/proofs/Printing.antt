@@ -1,11 +1,8 @@
 -- What comes of a print.
 use Rattle.std.proofs.Common.{◌≡◌, ℕ, ◌≤◌, List, [], ◌++◌, refl, sym, ◌∙◌, ap, subst, append-nil}
-use Rattle.std.proofs.Common.{arith, None, Some}
-use Rattle.std.specs.Prelude.{Option, Err}
-use Rattle.host_edge.specs.Views.{SinkView, Told, AppendsPart}
-use Rattle.host_edge.proofs.Tells.{Told-trans}
-use Rattle.fault_counts.specs.Counts.{Rose}
-use Rattle.dram_model.specs.Chip.{Grew, after}
+use Rattle.std.proofs.Common.{arith, cond, None, Some}
+use Rattle.std.specs.Prelude.{Option, Err, is_none}
+use Rattle.host_edge.specs.Views.{SinkView, Told, Told-trans, Rose, AppendsPart}
 use Rattle.dram_model.specs.View.{ChipView, DidRead}
 use Rattle.dram_model.specs.Elements.{FailedBelow}
 use Rattle.uprog_code.specs.declared.walker.Counts.{Counts}
@@ -17,6 +14,7 @@ use Rattle.machine_model.specs.Pieces.{piece_of}
 use Rattle.machine_model.specs.Refusals.{refusal}
 use Rattle.machine_model.specs.Report.{line, said_of}
 use Rattle.machine_model.specs.Report.Said.{Answered, Printed}
+use Rattle.machine_model.specs.Script.{rows_printed}
 use Rattle.machine_model.specs.Steps.{if_done, reply_by}
 use Rattle.object_steps.specs.Lines.{DidReadAtMost, printed_line}
 use Rattle.object_steps.specs.declared.fault.StepFault.{StepFault}
@@ -38,6 +36,10 @@ unshown : (r : Option Why) (c : Counts) (w : Why) (text : List ℕ) → Refused 
     → if_done r text [] ≡ []
 unshown None c w text e = absurd (cc)
 unshown (Some why) c w text e = refl
+
+all_rows : (r : Option Why) (n : ℕ) → r ≡ None → cond (is_none r) n 0 ≡ n
+all_rows None n e = refl
+all_rows (Some why) n e = absurd (cc)
 
 refused_said : (name : List ℕ) (reply : Reply) (w : Why) (values : List ℕ → List ℕ)
     → reply ≡ Refused w → said_of reply (Print name) values ≡ Answered reply
@@ -120,8 +122,11 @@ module _ (old new : Machine) (number : ℕ) (name : List ℕ) (chip chip' : Chip
     print_unsent reply w between table e h did before first rose sent = record {
       table = table;
       did = λ p. absurd (cc);
-      banks = (did_read did).banks;
-      log = (did_read did).log;
+      read = λ p. record {
+        rows = reads_by old (Print name);
+        few = omega arith;
+        did = did;
+      };
       rose = omega (arith, before, rose);
       part = Told-trans {R = λ x y. y ≡ x ++ shown_line}
           {S = AppendsPart (line number (Answered reply))}
@@ -136,21 +141,21 @@ module _ (old new : Machine) (number : ℕ) (name : List ℕ) (chip chip' : Chip
         → refusal (geometry_of old) (operations_by old) (table_in old) (Print name) ≡ None
         → Told (AppendsPart shown_line) sink.sent sink'.sent
         → (fault ≡ ChipFault → FailedBelow (banks_by old (Print name)) chip chip')
-        → (fault ≡ WriteFault → Rose sink.faults sink'.faults) → (n : ℕ)
-        → (fault ≡ WriteFault → DidReadAtMost n chip chip')
+        → (fault ≡ WriteFault → Rose sink.faults sink'.faults)
+        → (fault ≡ WriteFault
+        → DidReadAtMost (rows_printed (geometry_of old) (table_in old) (Print name)) chip chip')
         → Comes old new number (Print name) chip chip' sink sink' (Err fault)
-    print_failed ChipFault table allowed part failed rose n read = record {
+    print_failed ChipFault table allowed part failed rose read = record {
       table = table;
       failed = failed refl;
+      stopped = λ p. absurd (cc);
       unsent = λ p. absurd (cc);
       part = subst (λ t. Told (AppendsPart t) sink.sent sink'.sent) (whole_line allowed) part;
     }
-    print_failed WriteFault table allowed part failed rose n read = record {
+    print_failed WriteFault table allowed part failed rose read = record {
       table = table;
       did = λ p. absurd (cc);
-      banks = (read refl).did.banks
-          ∙ ap (λ events. after events chip.banks) (sym none_else);
-      log = subst (λ events. Grew chip.log chip'.log events) (sym none_else) (read refl).did.log;
+      read = λ p. subst (λ n. DidReadAtMost n chip chip') (sym (all_rows _ _ allowed)) (read refl);
       rose = rose refl;
       part = subst (λ t. Told (AppendsPart t) sink.sent sink'.sent) (whole_line allowed) part;
     }

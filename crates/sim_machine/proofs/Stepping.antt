@@ -124,6 +124,7 @@ module _ (old new : Machine) (number : ℕ) (instr : Instruction) (chip chip' : 
     failed_alone table failed same = record {
       table = table;
       failed = failed;
+      stopped = λ e. absurd (cc (e, bbop));
       unsent = λ e. same;
       part = subst (λ (s : SinkView). Told (AppendsPart (line_of old number chip.banks instr))
           sink.sent s.sent) (sym same) (no_part _ sink.sent);
@@ -138,8 +139,7 @@ module _ (old new : Machine) (number : ℕ) (instr : Instruction) (chip chip' : 
         let all = did_piece did in record {
           table = table;
           did = λ p. all;
-          banks = all.banks;
-          log = all.log;
+          read = λ e. absurd (cc (e, print));
           rose = rose;
           part = subst (λ text. Told (AppendsPart text) sink.sent sink'.sent) (answered reply e)
               sent;

@@ -45,6 +45,16 @@ wave_turn g g' turn behind jobs granted e f h =
     h ∙ ap (λ (x : Geometry). state_behind in_turn x.banks turn (job_queues x.rows jobs)) e
     ∙ ap (λ js. state_behind in_turn g.banks turn (queues js)) f
 
+pub wave_stopped : (g g' : Geometry) (turn : Turn) (jobs : List BoundJob) (granted : List Job)
+    (old new : ChipView) → g' ≡ g → map (wave_job g.rows) jobs ≡ granted
+    → StoppedAmong (wave_events in_turn g'.banks turn (job_queues g'.rows jobs))
+    (job_queues g'.rows jobs) old new
+    → StoppedAmong (wave_events in_turn g.banks turn (queues granted)) (queues granted) old new
+wave_stopped g g' turn jobs granted old new e f h =
+    subst (λ js. StoppedAmong (wave_events in_turn g.banks turn (queues js)) (queues js) old new) f
+    (subst (λ (x : Geometry). StoppedAmong (wave_events in_turn x.banks turn
+    (job_queues x.rows jobs)) (job_queues x.rows jobs) old new) e h)
+
 -- events that are on other banks
 abbrev Misses : ℕ → List Event → Type 0
 Misses b events = AllByRecursion (λ e. bank_of e ≢ b) events
@@ -107,21 +117,16 @@ idle b k (job ∷ jobs) all l =
     all.0 l) ∙ idle b k jobs all.1 l
 
 -- where a call fails, the banks past those of every job are as they were
-pub stopped_below : (g g' : Geometry) (turn : Turn) (jobs : List BoundJob) (granted : List Job)
-    (old new : ChipView) (k : ℕ) → g' ≡ g → map (wave_job g.rows) jobs ≡ granted
-    → StoppedAmong (wave_events in_turn g'.banks turn (job_queues g'.rows jobs))
-    (job_queues g'.rows jobs) old new
-    → AllByRecursion (λ job. job.banks ≤ k) granted → FailedBelow k old new
-stopped_below g g' turn jobs granted old new k e f s all = record {
+pub stopped_below : (banks : ℕ) (turn : Turn) (jobs : List Job) (old new : ChipView) (k : ℕ)
+    → StoppedAmong (wave_events in_turn banks turn (queues jobs)) (queues jobs) old new
+    → AllByRecursion (λ job. job.banks ≤ k) jobs → FailedBelow k old new
+stopped_below banks turn jobs old new k s all = record {
   rose = s.rose;
   others = λ b l.
-      let js = map (wave_job g'.rows) jobs in
-      let same : js ≡ granted = ap (λ (x : Geometry). map (wave_job x.rows) jobs) e ∙ f in
-      let none : queues js b ≡ [] = ap (λ ks. queues ks b) same ∙ idle b k granted all l in
-      let events = wave_events in_turn g'.banks turn (job_queues g'.rows jobs) in
+      let events = wave_events in_turn banks turn (queues jobs) in
       let misses : AllByRecursion (λ (x : Event). bank_of x ≢ b) events =
-      misses_picks b g'.banks
-      (whole_picks in_turn g'.banks turn (queues js)) (queues js) none in
+      misses_picks b banks (whole_picks in_turn banks turn (queues jobs)) (queues jobs)
+      (idle b k jobs all l) in
       s.others b (λ same. misses_at b s.done s.bank s.command events misses s.failed (sym same))
       ∙ after_misses s.done events old.banks b misses;
 }

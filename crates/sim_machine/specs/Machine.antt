@@ -10,14 +10,14 @@ use Rattle.object_alloc.specs.declared.sizes.TheConstants.{HEAD_BYTES, RECORD_BY
 use Rattle.sim_machine.specs.declared.machine.Machine.{Machine}
 use Rattle.bbop_isa.specs.Forms.{Instruction}
 use Rattle.bbop_isa.specs.Forms.{Init, Bbop, Load, Fill, Print, Free, Order}
-use Rattle.wave_model.specs.Schedule.{Turn}
+use Rattle.wave_model.specs.Schedule.{Queues, Turn}
 use Rattle.uprog_ctl.specs.Orders.{turn_of}
 use Rattle.object_steps.specs.Objects.{LiesOn}
 use Rattle.machine_model.specs.declared.Reply.{Reply}
 use Rattle.machine_model.specs.Columns.{segments}
 use Rattle.machine_model.specs.Operations.{Operations, operations_in}
 use Rattle.machine_model.specs.Refusals.{object_named}
-use Rattle.machine_model.specs.Pieces.{Piece, piece_events, turn_behind}
+use Rattle.machine_model.specs.Pieces.{Piece, piece_events, turn_behind, wave_queues}
 use Rattle.machine_model.specs.Report.{Said, line, lines, said_by}
 use Rattle.machine_model.specs.Report.Said.{Answered}
 use Rattle.machine_model.specs.Script.{rows_if_done, rows_printed}
@@ -67,6 +67,10 @@ events_by m piece = piece_events (geometry_of m) (operations_by m) (turn_in m) (
 
 abbrev pub turn_by_piece : Machine → Piece → Turn
 turn_by_piece m piece = turn_behind (geometry_of m) (operations_by m) (turn_in m) (table_in m) piece
+
+-- the commands of each bank in a wave of bbops
+abbrev pub queues_by : Machine → List Instruction → Queues
+queues_by m wave = wave_queues (geometry_of m) (operations_by m) (table_in m) wave
 
 -- how many data rows are read for an instruction
 abbrev pub reads_by : Machine → Instruction → ℕ

@@ -1,18 +1,19 @@
--- What comes of one instruction.
-use Rattle.std.specs.Prelude.{◌≡◌, ℕ, false, ◌++◌, Result, Ok, Err}
-use Rattle.host_edge.specs.Views.{SinkView, Told, AppendsPart}
-use Rattle.fault_counts.specs.Counts.{Rose}
-use Rattle.dram_model.specs.Chip.{after, Grew}
+-- What comes of one instruction: the clauses of a step in one, for the proof of its parts.
+use Rattle.std.specs.Prelude.{◌≡◌, ℕ, true, false, [], ◌∷◌, ◌++◌, Result, Ok, Err}
+use Rattle.host_edge.specs.Views.{SinkView, Told, Rose, AppendsPart}
 use Rattle.dram_model.specs.View.{ChipView}
 use Rattle.dram_model.specs.Elements.{FailedBelow}
 use Rattle.bbop_isa.specs.Forms.{Instruction}
 use Rattle.machine_model.specs.declared.Reply.{Reply}
 use Rattle.machine_model.specs.Pieces.{piece_of}
+use Rattle.machine_model.specs.Script.{is_bbop}
+use Rattle.uprog_ctl.specs.Waves.{StoppedAmong}
+use Rattle.object_steps.specs.Lines.{DidReadAtMost}
 use Rattle.object_steps.specs.declared.fault.StepFault.{StepFault}
 use Rattle.object_steps.specs.declared.fault.StepFault.TheVariants.{ChipFault, WriteFault}
 use Rattle.sim_machine.specs.declared.machine.Machine.{Machine}
 use Rattle.sim_machine.specs.Machine.{table_in, turn_in, reply_of, table_behind, turn_by_piece}
-use Rattle.sim_machine.specs.Machine.{events_by, reads_by, banks_by, is_print, line_of}
+use Rattle.sim_machine.specs.Machine.{events_by, queues_by, reads_by, banks_by, is_print, line_of}
 use Rattle.sim_machine.specs.Steps.{DidAndRead}
 
 -- it was done, and its line was put
@@ -25,12 +26,14 @@ pub record Stepped (old new : Machine) (number : ℕ) (instr : Instruction) (chi
   pub sent : Told (λ before after. after ≡ before ++ line_of old number chip.banks instr)
       sink.sent sink'.sent
 
--- the chip failed: the banks past the destination's are as before, and of no line but a print's a
--- part was put
+-- the chip failed: the banks past the destination's are as before, each bank of a bbop but the one
+-- that failed has done the first of its commands, and of no line but a print's a part was put
 pub record StoppedByChip (old new : Machine) (number : ℕ) (instr : Instruction)
     (chip chip' : ChipView) (sink sink' : SinkView) : Type 0 where
   pub table : table_in new ≡ table_in old
   pub failed : FailedBelow (banks_by old instr) chip chip'
+  pub stopped : is_bbop instr ≡ true
+      → StoppedAmong (events_by old (piece_of instr)) (queues_by old (instr ∷ [])) chip chip'
   pub unsent : is_print instr ≡ false → sink' ≡ sink
   pub part : Told (AppendsPart (line_of old number chip.banks instr)) sink.sent sink'.sent
 
@@ -40,8 +43,7 @@ pub record StoppedBySink (old new : Machine) (number : ℕ) (instr : Instruction
   pub table : table_in new ≡ table_in old
   pub did : is_print instr ≡ false
       → DidAndRead (events_by old (piece_of instr)) (reads_by old instr) chip chip'
-  pub banks : chip'.banks ≡ after (events_by old (piece_of instr)) chip.banks
-  pub log : Grew chip.log chip'.log (events_by old (piece_of instr))
+  pub read : is_print instr ≡ true → DidReadAtMost (reads_by old instr) chip chip'
   pub rose : Rose sink.faults sink'.faults
   pub part : Told (AppendsPart (line_of old number chip.banks instr)) sink.sent sink'.sent
 

@@ -1,11 +1,11 @@
 //! The machine.
 
-ghost use Rattle.std.specs.Prelude.{◌≡◌, ℕ, ◌*◌, ◌<◌, ◌≤◌, ◌^◌, ◌++◌, [], false, length, map, OnOk};
+ghost use Rattle.std.specs.Prelude.{◌≡◌, ℕ, ◌*◌, ◌<◌, ◌≤◌, ◌^◌, ◌∷◌, ◌++◌, [], length, map};
+ghost use Rattle.std.specs.Prelude.{true, false, OnOk};
 ghost use Rattle.std.specs.Prelude.{OnErr, ◌⊎◌, IfOk, IsErrOf};
 ghost use Rattle.std.specs.List.{AllByRecursion};
-ghost use Rattle.host_edge.specs.Views.{Told, AppendsPart};
-ghost use Rattle.fault_counts.specs.Counts.{Rose};
-ghost use Rattle.dram_model.specs.Chip.{Grew, after};
+ghost use Rattle.host_edge.specs.Views.{Told, Rose as SinkRose, AppendsPart};
+ghost use Rattle.dram_model.specs.Chip.{Rose, Grew};
 ghost use Rattle.dram_model.specs.View.{HasBegun, Kept, Did, DidRead, NotBegun};
 ghost use Rattle.dram_model.specs.Elements.{FailedBelow};
 ghost use Rattle.object_alloc.specs.Reading.{rows_size};
@@ -15,12 +15,15 @@ ghost use Rattle.machine_model.specs.Agrees.{IsPlain};
 ghost use Rattle.machine_model.specs.Opened.{rows_of};
 ghost use Rattle.machine_model.specs.Pieces.{AreBbops, Wave, piece_of};
 ghost use Rattle.machine_model.specs.Report.{total_line};
+ghost use Rattle.machine_model.specs.Script.{is_bbop};
+ghost use Rattle.uprog_ctl.specs.Waves.{StoppedAmong};
 ghost use Rattle.wave_model.specs.Schedule.{Ahead};
+ghost use Rattle.object_steps.specs.Lines.{DidReadAtMost};
 ghost use Rattle.object_steps.specs.Objects.{LiesOn, RisesAtMost};
 ghost use Rattle.sim_machine.specs.Machine.{IsReady, banks_by, events_by, file_of, geometry_of};
-ghost use Rattle.sim_machine.specs.Machine.{is_print, line_of, lines_of, program_of, reads_by};
-ghost use Rattle.sim_machine.specs.Machine.{reply_of, table_behind, table_in, turn_by_piece};
-ghost use Rattle.sim_machine.specs.Machine.{turn_in};
+ghost use Rattle.sim_machine.specs.Machine.{is_print, line_of, lines_of, program_of, queues_by};
+ghost use Rattle.sim_machine.specs.Machine.{reads_by, reply_of, table_behind, table_in};
+ghost use Rattle.sim_machine.specs.Machine.{turn_by_piece, turn_in};
 ghost use Rattle.sim_machine.specs.Opening.{Opened};
 ghost use Rattle.sim_machine.specs.Steps.{DidAndRead, HasRoom};
 
@@ -135,19 +138,20 @@ impl<'a> Machine<'a> {
             ≡ before ++ lines_of self.old number (map view_of instrs.now))
             (S.view out.old).sent (S.view out.new).sent) }
 
-        // Where the chip fails, the banks past those of every destination are as before, and
-        // nothing is put. Where the sink fails, the wave was done.
+        // Where the chip fails, the commands before that one are done, each bank but that command's
+        // stands where a prefix of its queue leaves it, and nothing is put. Where the sink fails,
+        // the wave was done.
         ensures chip_fault { IsErrOf result StepFault.ChipFault
             → Rose (D.view dram.old).faults (D.view dram.new).faults }
-        ensures others { IsErrOf result StepFault.ChipFault → (k : ℕ)
-            → AllByRecursion (λ instr. banks_by self.old instr ≤ k) (map view_of instrs.now)
-            → FailedBelow k (D.view dram.old) (D.view dram.new) }
+        ensures stopped { IsErrOf result StepFault.ChipFault
+            → StoppedAmong (events_by self.old (Wave (map view_of instrs.now)))
+            (queues_by self.old (map view_of instrs.now)) (D.view dram.old) (D.view dram.new) }
         ensures unsent { IsErrOf result StepFault.ChipFault → S.view out.new ≡ S.view out.old }
         ensures done { IsErrOf result StepFault.WriteFault
             → Did (events_by self.old (Wave (map view_of instrs.now))) (D.view dram.old)
             (D.view dram.new) }
         ensures write_fault { IsErrOf result StepFault.WriteFault
-            → Rose (S.view out.old).faults (S.view out.new).faults }
+            → SinkRose (S.view out.old).faults (S.view out.new).faults }
         ensures part { IsErrOf result StepFault.WriteFault
             → Told (AppendsPart (lines_of self.old number (map view_of instrs.now)))
             (S.view out.old).sent (S.view out.new).sent }
@@ -200,12 +204,17 @@ impl<'a> Machine<'a> {
             (S.view out.old).sent (S.view out.new).sent) }
 
         // After a fault the table is as before. Where the chip fails, the banks past those of the
-        // destination are as before, and nothing is put but of a print, whose line goes out while
-        // its rows are read.
+        // destination are as before, each bank of a bbop but the one that failed stands where a
+        // prefix of its queue leaves it, and nothing is put but of a print, whose line goes out
+        // while its rows are read.
         ensures same_table { OnErr result (table_in self.new ≡ table_in self.old) }
         ensures chip_fault { IsErrOf result StepFault.ChipFault
             → FailedBelow (banks_by self.old (view_of instr.now)) (D.view dram.old)
             (D.view dram.new) }
+        ensures stopped { IsErrOf result StepFault.ChipFault
+            → is_bbop (view_of instr.now) ≡ true
+            → StoppedAmong (events_by self.old (piece_of (view_of instr.now)))
+            (queues_by self.old (view_of instr.now ∷ [])) (D.view dram.old) (D.view dram.new) }
         ensures unsent { IsErrOf result StepFault.ChipFault
             → is_print (view_of instr.now) ≡ false → S.view out.new ≡ S.view out.old }
         // Where the sink fails, all was done, but of a print perhaps not each row was read.
@@ -213,14 +222,12 @@ impl<'a> Machine<'a> {
             → is_print (view_of instr.now) ≡ false
             → DidAndRead (events_by self.old (piece_of (view_of instr.now)))
             (reads_by self.old (view_of instr.now)) (D.view dram.old) (D.view dram.new) }
-        ensures rows { IsErrOf result StepFault.WriteFault
-            → (D.view dram.new).banks
-            ≡ after (events_by self.old (piece_of (view_of instr.now))) (D.view dram.old).banks }
-        ensures log { IsErrOf result StepFault.WriteFault
-            → Grew (D.view dram.old).log (D.view dram.new).log
-            (events_by self.old (piece_of (view_of instr.now))) }
+        ensures read { IsErrOf result StepFault.WriteFault
+            → is_print (view_of instr.now) ≡ true
+            → DidReadAtMost (reads_by self.old (view_of instr.now)) (D.view dram.old)
+            (D.view dram.new) }
         ensures write_fault { IsErrOf result StepFault.WriteFault
-            → Rose (S.view out.old).faults (S.view out.new).faults }
+            → SinkRose (S.view out.old).faults (S.view out.new).faults }
         ensures part { OnErr result (Told (AppendsPart
             (line_of self.old number (D.view dram.old).banks (view_of instr.now)))
             (S.view out.old).sent (S.view out.new).sent) }
@@ -275,7 +282,7 @@ impl<'a> Machine<'a> {
             (S.view out.old).sent (S.view out.new).sent) }
         ensures part { OnErr result (Told (AppendsPart (total_line (D.view dram.now).counters
             refused)) (S.view out.old).sent (S.view out.new).sent) }
-        ensures rose { OnErr result (Rose (S.view out.old).faults (S.view out.new).faults) }
+        ensures rose { OnErr result (SinkRose (S.view out.old).faults (S.view out.new).faults) }
     {
         let text = total(dram.tally(), refused);
         out.put(text.as_slice())

@@ -3,15 +3,14 @@
 ghost use Rattle.std.specs.Prelude.{◌≡◌, ℕ, ◌+◌, ◌<◌, ◌≤◌, ◌^◌, ◌∷◌, [], ◌++◌, List, length, map};
 ghost use Rattle.std.specs.Prelude.{Some, None, true, IfOk, IfErr, OnOk, OnErr};
 ghost use Rattle.std.specs.List.{AllByRecursion};
-ghost use Rattle.dram_model.specs.Chip.{Rose};
 ghost use Rattle.dram_model.specs.View.{HasBegun, Kept, Did};
-ghost use Rattle.dram_model.specs.Elements.{FailedBelow};
 ghost use Rattle.uprog_ctl.specs.Orders.{turn_of as state_of};
-ghost use Rattle.uprog_ctl.specs.Waves.{CanRun, wave_job};
+ghost use Rattle.uprog_ctl.specs.Waves.{CanRun, StoppedAmong, wave_job};
 ghost use Rattle.bbop_isa.specs.Forms.{view_of};
 ghost use Rattle.machine_model.specs.Agrees.{IsPlain};
 ghost use Rattle.machine_model.specs.Operations.{operations_in};
 ghost use Rattle.machine_model.specs.Pieces.{AreBbops, Wave, jobs_of, piece_events, turn_behind};
+ghost use Rattle.machine_model.specs.Pieces.{wave_queues};
 ghost use Rattle.machine_model.specs.Refusals.{refusal};
 ghost use Rattle.machine_model.specs.Script.{is_bbop};
 ghost use Rattle.machine_model.specs.Steps.{counts_for, job_of, reply_to};
@@ -153,11 +152,12 @@ pub(crate) fn do_wave<D: Dram>(
         (operations_in setting.now.prog.now.programs) (state_of order.old)
         setting.now.table.now.pairs (Wave (map view_of instrs.now))) (D.view dram.old)
         (D.view dram.new)) }
-    ensures rose { OnErr result (Rose (D.view dram.old).faults (D.view dram.new).faults) }
-    ensures failed { OnErr result ((k : ℕ) → AllByRecursion (λ job. job.banks ≤ k)
-        (jobs_of setting.now.geometry (operations_in setting.now.prog.now.programs)
-        setting.now.table.now.pairs (map view_of instrs.now))
-        → FailedBelow k (D.view dram.old) (D.view dram.new)) }
+    ensures stopped { OnErr result (StoppedAmong (piece_events setting.now.geometry
+        (operations_in setting.now.prog.now.programs) (state_of order.old)
+        setting.now.table.now.pairs (Wave (map view_of instrs.now)))
+        (wave_queues setting.now.geometry (operations_in setting.now.prog.now.programs)
+        setting.now.table.now.pairs (map view_of instrs.now)) (D.view dram.old)
+        (D.view dram.new)) }
 {
     let Plan { replies, jobs } = plan_of(setting, instrs);
     run_wave(dram, jobs.as_slice(), order)?;

@@ -10,7 +10,7 @@ use Rattle.machine_model.specs.Operations.{operations_in}
 use Rattle.machine_model.specs.Pieces.{jobs_of}
 use Rattle.sim_machine.specs.Granted.{job_bound}
 use Rattle.sim_machine.proofs.Lines.{on_err}
-use Rattle.sim_machine.proofs.Waving.{can_run_there, stopped_below, wave_did, wave_turn}
+use Rattle.sim_machine.proofs.Waving.{can_run_there, wave_did, wave_stopped, wave_turn}
 use Rattle.sim_machine.proofs.waves.do_wave.Goals as goal
 
 pub run_wave-requires-clause-jobs : goal.run_wave-requires-clause-jobs
@@ -22,15 +22,15 @@ run_wave-requires-clause-jobs g c =
     (subst (λ (xs : List (Job Held)). AllByRecursion (CanRun here) (map job_bound xs))
     (sym c.as_slice.ensures.value) c.plan_of-replies.ensures.run))
 
-pub returns-in_err-run_wave-clause-failed : goal.returns-in_err-run_wave-clause-failed
-returns-in_err-run_wave-clause-failed g c =
+pub returns-in_err-run_wave-clause-stopped : goal.returns-in_err-run_wave-clause-stopped
+returns-in_err-run_wave-clause-stopped g c =
     let s = c.args.setting.now in
     let V = g.D.Dram.view in
-    let granted = jobs_of s.geometry (operations_in s.prog.now.programs) s.table.now.pairs
-    (map view_of c.args.instrs.now) in
-    on_err c.from_residual.result (λ k. stopped_below s.geometry (V c.args.dram.now).geometry
-    (turn_of c.args.order.now) (map job_bound c.as_slice.result.now) granted (V c.args.dram.now)
-    (V c.run_wave.new.dram) k c.requires.geometry
+    on_err c.from_residual.result (wave_stopped s.geometry (V c.args.dram.now).geometry
+    (turn_of c.args.order.now) (map job_bound c.as_slice.result.now)
+    (jobs_of s.geometry (operations_in s.prog.now.programs) s.table.now.pairs
+    (map view_of c.args.instrs.now)) (V c.args.dram.now) (V c.run_wave.new.dram)
+    c.requires.geometry
     (ap (λ (xs : List (Job Held)). map (wave_job s.geometry.rows) (map job_bound xs))
     c.as_slice.ensures.value ∙ c.plan_of-replies.ensures.jobs) c.in_err-run_wave.ensures.stopped)
 
@@ -55,7 +55,3 @@ returns-clause-did g c =
     c.requires.geometry
     (ap (λ (xs : List (Job Held)). map (wave_job s.geometry.rows) (map job_bound xs))
     c.as_slice.ensures.value ∙ c.plan_of-replies.ensures.jobs) c.in_ok-run_wave.ensures.did
-
-pub returns-in_err-run_wave-clause-rose : goal.returns-in_err-run_wave-clause-rose
-returns-in_err-run_wave-clause-rose g c =
-    on_err c.from_residual.result c.in_err-run_wave.ensures.stopped.rose

@@ -8,7 +8,7 @@ pub returns-in-Err-clause-comes : goal.returns-in-Err-clause-comes
 returns-in-Err-clause-comes g c =
     let is = ap (map view_of) c.from_ref.ensures.value in
     bbop_failed _ _ _ _ _ _ _ _ _ is c.requires.bbop c.in-Err.fault c.in-Err.ensures.table
-    (λ e. c.in-Err.ensures.others (ap Err e)) (λ e. c.in-Err.ensures.unsent (ap Err e))
+    (λ e. c.in-Err.ensures.stopped (ap Err e)) (λ e. c.in-Err.ensures.unsent (ap Err e))
     (λ e. c.in-Err.ensures.done (ap Err e)) (λ e. c.in-Err.ensures.write_fault (ap Err e))
     (λ e. c.in-Err.ensures.part (ap Err e))
 

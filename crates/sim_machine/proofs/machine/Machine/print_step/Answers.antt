@@ -9,7 +9,7 @@ returns-in-Err-clause-comes g c =
     let operations = operations_by c.args.self.now in
     print_failed _ _ _ _ _ _ _ _ c.in-Err.fault refl (c.in-Err.ensures.allowed operations)
     (c.in-Err.ensures.part operations) (λ e. c.in-Err.ensures.chip_fault (ap Err e))
-    (λ e. c.in-Err.ensures.write_fault (ap Err e)) _
+    (λ e. c.in-Err.ensures.write_fault (ap Err e))
     (λ e. c.in-Err.ensures.read (ap Err e))
 
 pub returns-in-Done-clause-comes : goal.returns-in-Done-clause-comes

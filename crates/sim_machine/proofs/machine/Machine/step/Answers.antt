@@ -45,6 +45,10 @@ pub returns-clause-chip_fault : goal.returns-clause-chip_fault
 returns-clause-chip_fault g c =
     when_chip _ _ _ _ _ _ _ _ c.step_of.result (λ h. h.failed) c.step_of.ensures.comes
 
+pub returns-clause-stopped : goal.returns-clause-stopped
+returns-clause-stopped g c =
+    when_chip _ _ _ _ _ _ _ _ c.step_of.result (λ h. h.stopped) c.step_of.ensures.comes
+
 pub returns-clause-unsent : goal.returns-clause-unsent
 returns-clause-unsent g c =
     when_chip _ _ _ _ _ _ _ _ c.step_of.result (λ h. h.unsent) c.step_of.ensures.comes
@@ -53,13 +57,9 @@ pub returns-clause-done : goal.returns-clause-done
 returns-clause-done g c =
     when_sink _ _ _ _ _ _ _ _ c.step_of.result (λ h. h.did) c.step_of.ensures.comes
 
-pub returns-clause-rows : goal.returns-clause-rows
-returns-clause-rows g c =
-    when_sink _ _ _ _ _ _ _ _ c.step_of.result (λ h. h.banks) c.step_of.ensures.comes
-
-pub returns-clause-log : goal.returns-clause-log
-returns-clause-log g c =
-    when_sink _ _ _ _ _ _ _ _ c.step_of.result (λ h. h.log) c.step_of.ensures.comes
+pub returns-clause-read : goal.returns-clause-read
+returns-clause-read g c =
+    when_sink _ _ _ _ _ _ _ _ c.step_of.result (λ h. h.read) c.step_of.ensures.comes
 
 pub returns-clause-write_fault : goal.returns-clause-write_fault
 returns-clause-write_fault g c =
