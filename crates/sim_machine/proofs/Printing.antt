@@ -2,7 +2,9 @@
 use Rattle.std.proofs.Common.{◌≡◌, ℕ, ◌≤◌, List, [], ◌++◌, refl, sym, ◌∙◌, ap, subst, append-nil}
 use Rattle.std.proofs.Common.{arith, cond, None, Some}
 use Rattle.std.specs.Prelude.{Option, Err, is_none}
-use Rattle.host_edge.specs.Views.{SinkView, Told, Told-trans, Rose, AppendsPart}
+use Rattle.host_edge.specs.Views.{SinkView, Told, AppendsPart}
+use Rattle.host_edge.proofs.Tells.{Told-trans}
+use Rattle.fault_counts.specs.Counts.{Rose}
 use Rattle.dram_model.specs.View.{ChipView, DidRead}
 use Rattle.dram_model.specs.Elements.{FailedBelow}
 use Rattle.uprog_code.specs.declared.walker.Counts.{Counts}

@@ -1,6 +1,7 @@
 -- What comes of one instruction: the clauses of a step in one, for the proof of its parts.
 use Rattle.std.specs.Prelude.{◌≡◌, ℕ, true, false, [], ◌∷◌, ◌++◌, Result, Ok, Err}
-use Rattle.host_edge.specs.Views.{SinkView, Told, Rose, AppendsPart}
+use Rattle.host_edge.specs.Views.{SinkView, Told, AppendsPart}
+use Rattle.fault_counts.specs.Counts.{Rose}
 use Rattle.dram_model.specs.View.{ChipView}
 use Rattle.dram_model.specs.Elements.{FailedBelow}
 use Rattle.bbop_isa.specs.Forms.{Instruction}

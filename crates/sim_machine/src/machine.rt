@@ -4,8 +4,9 @@ ghost use Rattle.std.specs.Prelude.{◌≡◌, ℕ, ◌*◌, ◌<◌, ◌≤◌,
 ghost use Rattle.std.specs.Prelude.{true, false, OnOk};
 ghost use Rattle.std.specs.Prelude.{OnErr, ◌⊎◌, IfOk, IsErrOf};
 ghost use Rattle.std.specs.List.{AllByRecursion};
-ghost use Rattle.host_edge.specs.Views.{Told, Rose as SinkRose, AppendsPart};
-ghost use Rattle.dram_model.specs.Chip.{Rose, Grew};
+ghost use Rattle.host_edge.specs.Views.{Told, AppendsPart};
+ghost use Rattle.fault_counts.specs.Counts.{Rose};
+ghost use Rattle.dram_model.specs.Chip.{Grew};
 ghost use Rattle.dram_model.specs.View.{HasBegun, Kept, Did, DidRead, NotBegun};
 ghost use Rattle.dram_model.specs.Elements.{FailedBelow};
 ghost use Rattle.object_alloc.specs.Reading.{rows_size};
@@ -151,7 +152,7 @@ impl<'a> Machine<'a> {
             → Did (events_by self.old (Wave (map view_of instrs.now))) (D.view dram.old)
             (D.view dram.new) }
         ensures write_fault { IsErrOf result StepFault.WriteFault
-            → SinkRose (S.view out.old).faults (S.view out.new).faults }
+            → Rose (S.view out.old).faults (S.view out.new).faults }
         ensures part { IsErrOf result StepFault.WriteFault
             → Told (AppendsPart (lines_of self.old number (map view_of instrs.now)))
             (S.view out.old).sent (S.view out.new).sent }
@@ -227,7 +228,7 @@ impl<'a> Machine<'a> {
             → DidReadAtMost (reads_by self.old (view_of instr.now)) (D.view dram.old)
             (D.view dram.new) }
         ensures write_fault { IsErrOf result StepFault.WriteFault
-            → SinkRose (S.view out.old).faults (S.view out.new).faults }
+            → Rose (S.view out.old).faults (S.view out.new).faults }
         ensures part { OnErr result (Told (AppendsPart
             (line_of self.old number (D.view dram.old).banks (view_of instr.now)))
             (S.view out.old).sent (S.view out.new).sent) }
@@ -282,7 +283,7 @@ impl<'a> Machine<'a> {
             (S.view out.old).sent (S.view out.new).sent) }
         ensures part { OnErr result (Told (AppendsPart (total_line (D.view dram.now).counters
             refused)) (S.view out.old).sent (S.view out.new).sent) }
-        ensures rose { OnErr result (SinkRose (S.view out.old).faults (S.view out.new).faults) }
+        ensures rose { OnErr result (Rose (S.view out.old).faults (S.view out.new).faults) }
     {
         let text = total(dram.tally(), refused);
         out.put(text.as_slice())
