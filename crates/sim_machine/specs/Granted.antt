@@ -1,4 +1,4 @@
--- What a bbop is granted.
+-- What a bbop is granted: what the parts of a wave come to, for its proof.
 use Rattle.std.specs.Prelude.{◌≡◌, ℕ, ◌+◌, ◌≤◌, List, ◌∷◌, Ok, Some}
 use Rattle.uprog_bin.specs.Opened.{Held, code_of}
 use Rattle.uprog_ctl.specs.declared.waves.Job.{Job as UprogJob}

@@ -1,4 +1,4 @@
--- The bytes of a chip's rows.
+-- The bytes of a chip's rows: what the reading of an image's part comes to, for its proof.
 use Rattle.std.specs.Prelude.{ℕ, ◌*◌, List, flat_map}
 use Rattle.std.specs.List.{range_with_len}
 use Rattle.dram_model.specs.declared.geometry.Geometry.{Geometry}

@@ -96,7 +96,8 @@ is_print (Fill name value) = false
 is_print (Free name) = false
 is_print (Order order) = false
 
--- a load, a fill and an order leave the table, and are said by their replies
+-- what a part of a step takes, for its proof: a load, a fill and an order leave the table, and are
+-- said by their replies
 abbrev pub leaves_table : Instruction → Bool
 leaves_table (Load name values) = true
 leaves_table (Fill name value) = true

@@ -1,4 +1,5 @@
--- What comes of one instruction: the clauses of a step in one, for the proof of its parts.
+-- What comes of one instruction: the clauses of a step as one, what its parts come to, for its
+-- proof.
 use Rattle.std.specs.Prelude.{◌≡◌, ℕ, true, false, [], ◌∷◌, ◌++◌, Result, Ok, Err}
 use Rattle.host_edge.specs.Views.{SinkView, Told, AppendsPart}
 use Rattle.fault_counts.specs.Counts.{Rose}

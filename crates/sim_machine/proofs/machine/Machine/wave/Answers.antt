@@ -1,4 +1,3 @@
-use Rattle.std.proofs.Common.{map}
 use Rattle.bbop_isa.specs.Forms.{view_of}
 use Rattle.sim_machine.specs.Machine.{geometry_of, program_of, turn_in}
 use Rattle.sim_machine.proofs.Rising.{wave_rises}
