@@ -11,7 +11,7 @@ use Rattle.built_forms.specs.Texts.{built_line}
 use Rattle.built_forms.specs.Answers.{IsBuilt}
 
 right_plain : (i : Instruction) → IsRight i → IsPlain i
-right_plain (Init name count n) r = (omega (arith, r.1.2), r.1.3)
+right_plain (Init name count n) r = (omega (arith, r.1.0), (omega (arith, r.1.2), r.1.3))
 right_plain (Bbop op dst srcs count n) r = (omega (arith, r.4.2), r.4.3)
 right_plain (Load name values) r = tt
 right_plain (Fill name v) r = tt

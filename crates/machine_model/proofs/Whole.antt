@@ -17,7 +17,7 @@ pub every_step : (g : Geometry) (operations : Operations) (meaning : List ℕ �
     → List ℕ) (instr : Instruction) → 0 < g.words → DoesAll operations meaning → IsPlain instr
     → StepAgrees g operations meaning instr
 every_step g operations meaning (Init name count n) words does plain =
-    init_agrees g operations meaning name count n plain.0 words
+    init_agrees g operations meaning name count n plain.1.0 words
 every_step g operations meaning (Bbop op dst srcs count n) words does plain =
     bbop_agrees g operations meaning op dst srcs count n plain.0 plain.1 does
 every_step g operations meaning (Load name values) words does plain =
