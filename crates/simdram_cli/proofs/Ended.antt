@@ -15,7 +15,7 @@ use Rattle.cli_model.specs.Ends.{Stop, Ended, All, At, Ends, EndsSo, IsStopped, 
 use Rattle.cli_model.specs.Ends.{done_steps}
 use Rattle.cli_model.proofs.Ending.{all_ends, stop_ends}
 use Rattle.cli_model.proofs.Statuses.{end_more}
-use Rattle.built_forms.specs.Texts.{ops_in, script_in, image_of}
+use Rattle.simdram_cli.specs.Inputs.{ops_in, script_in, image_of}
 use Rattle.simdram_cli.specs.declared.words.RunNames.{RunNames}
 use Rattle.simdram_cli.specs.declared.words.TheConstants.{OPS_MAX, SCRIPT_MAX, IMAGE_MAX}
 use Rattle.simdram_cli.specs.declared.stop.Stop.{Stop as StopBy}

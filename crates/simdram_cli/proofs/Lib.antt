@@ -1,6 +1,8 @@
 pub mod Bbops
 pub mod Joins
 pub mod Reading
+pub mod Scripts
+pub mod Sized
 pub mod Tallies
 pub mod Working
 pub mod Performing

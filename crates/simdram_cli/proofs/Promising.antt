@@ -12,12 +12,13 @@ use Rattle.op_text.specs.Language.{Operation}
 use Rattle.op_text.specs.Lines.{fault_in}
 use Rattle.object_alloc.specs.Reading.{ImageFault}
 use Rattle.object_alloc.specs.Reading.{Found, image_in}
-use Rattle.bbop_isa.specs.Lines.{lines_of}
+use Rattle.bbop_isa.specs.declared.instr.ScriptFault.{ScriptFault}
+use Rattle.bbop_isa.specs.Script.{script_of}
 use Rattle.cli_model.specs.World.{World}
 use Rattle.cli_model.specs.Steps.{Step, Use, Store, Put, Refusal, loading}
 use Rattle.cli_model.proofs.Statuses.{OfSteps, OfRefusal, of_more, ends_so, all_done}
-use Rattle.built_forms.specs.Texts.{ops_in, unless_fault, script_in, image_of, image_found}
-use Rattle.built_forms.specs.Texts.{built_from, at_line, built_image, is_built_image, not_yet}
+use Rattle.simdram_cli.specs.Inputs.{ops_in, unless_fault, script_in, script_or_refusal}
+use Rattle.simdram_cli.specs.Inputs.{image_of, image_or_refusal}
 use Rattle.simdram_cli.specs.declared.words.RunNames.{RunNames}
 use Rattle.simdram_cli.specs.declared.words.CompileNames.{CompileNames}
 use Rattle.simdram_cli.specs.declared.words.MigrateNames.{MigrateNames}
@@ -177,19 +178,14 @@ ops_of : (P : ℕ → Type 0) (fault : Option OpsFault) → P 4
 ops_of P None four = tt
 ops_of P (Some fault) four = four
 
-script_of : (P : ℕ → Type 0) (script : Result (List Instruction) ℕ) → P 6
-    → OfRefusal P (refusal_of (at_line script))
-script_of P (Ok script) six = tt
-script_of P (Err line) six = six
-
-built_of : (P : ℕ → Type 0) (b : Bool) (i : Image) → P 7
-    → OfRefusal P (refusal_of (cond b (Ok i) (Err (not_yet 7 (codes "image byte ") 0))))
-built_of P true i seven = tt
-built_of P false i seven = seven
+read_of : (P : ℕ → Type 0) (script : Result (List Instruction) ScriptFault) → P 6
+    → OfRefusal P (refusal_of (script_or_refusal script))
+read_of P (Ok script) six = tt
+read_of P (Err fault) six = six
 
 image_is : (P : ℕ → Type 0) (found : Result Found ImageFault) → P 7
-    → OfRefusal P (refusal_of (built_image found))
-image_is P (Ok found) seven = built_of P (is_built_image found) (image_found found) seven
+    → OfRefusal P (refusal_of (image_or_refusal found))
+image_is P (Ok found) seven = tt
 image_is P (Err fault) seven = seven
 
 lines_of_steps : (P : ℕ → Type 0) (number : ℕ) (said : List Said) → P 9 → P 3
@@ -224,7 +220,7 @@ run_of P names program texts g six seven nine =
       (
         g.three,
         loading_of P names.script.now SCRIPT_MAX texts.script (script_in texts.script) _ g.two
-            g.eleven g.ten (script_of P (built_from 1 (lines_of texts.script)) six) (λ script.
+            g.eleven g.ten (read_of P (script_of texts.script) six) (λ script.
             loading_of P names.image.now IMAGE_MAX texts.image (image_of texts.image) _ g.two
             g.eleven g.ten (image_is P (image_in texts.image) seven) (λ i.
             work_of P names.out.now program script i g.three nine g.ten)),

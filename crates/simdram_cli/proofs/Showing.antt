@@ -15,7 +15,7 @@ use Rattle.cli_model.specs.Status.{Tells}
 use Rattle.cli_model.specs.Ends.{Ended, All, EndsSo, IsAllDone}
 use Rattle.cli_model.specs.Ends.{IsForetold, done_steps}
 use Rattle.cli_model.proofs.Statuses.{OfSteps, all_done}
-use Rattle.built_forms.specs.Texts.{ops_in}
+use Rattle.simdram_cli.specs.Inputs.{ops_in}
 use Rattle.simdram_cli.specs.declared.words.TheConstants.{OPS_MAX}
 use Rattle.simdram_cli.specs.declared.stop.Stop.{Stop as StopBy}
 use Rattle.simdram_cli.specs.Reads.{NotRead, OpsRead}

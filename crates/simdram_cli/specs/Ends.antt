@@ -18,7 +18,7 @@ use Rattle.cli_model.specs.Steps.{Step, Load, Take, Store, Refusal, Reason, End,
 use Rattle.cli_model.specs.Steps.{Goes, loading}
 use Rattle.cli_model.specs.Status.{reason_status}
 use Rattle.cli_model.specs.Ends.{Ended, All, At, Ends, Stores, done_steps}
-use Rattle.built_forms.specs.Texts.{ops_in, script_in, image_of}
+use Rattle.simdram_cli.specs.Inputs.{ops_in, script_in, image_of}
 use Rattle.simdram_cli.specs.declared.words.RunNames.{RunNames}
 use Rattle.simdram_cli.specs.declared.words.TheConstants.{OPS_MAX, IMAGE_MAX}
 use Rattle.simdram_cli.specs.declared.stop.Stop.{Stop}

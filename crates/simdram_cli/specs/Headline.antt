@@ -28,7 +28,7 @@ use Rattle.machine_model.specs.Report.{report, said_in_words}
 use Rattle.machine_model.specs.Opened.{Image, row_writes, opened, rows_of, words_of}
 use Rattle.cli_model.specs.World.{World}
 use Rattle.cli_model.specs.Steps.{Refusal}
-use Rattle.built_forms.specs.Texts.{script_in, image_of}
+use Rattle.simdram_cli.specs.Inputs.{script_in, image_of}
 use Rattle.simdram_cli.specs.declared.words.RunNames.{RunNames}
 use Rattle.simdram_cli.specs.Run.{done_status}
 

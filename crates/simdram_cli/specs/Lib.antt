@@ -1,6 +1,7 @@
 -- The commands of the program, and what each of them promises.
 pub mod Words
 pub mod Programs
+pub mod Inputs
 pub mod Stops
 pub mod Reads
 pub mod Run

@@ -14,7 +14,7 @@ use Rattle.machine_model.specs.Report.{Said, said_in_rows, line, total_line}
 use Rattle.cli_model.specs.Steps.{Step, Take, Store, Open, Use, Put, loading}
 use Rattle.simdram_cli.specs.declared.words.RunNames.{RunNames}
 use Rattle.simdram_cli.specs.declared.words.TheConstants.{OPS_MAX, SCRIPT_MAX, IMAGE_MAX}
-use Rattle.built_forms.specs.Texts.{ops_in, script_in, image_of}
+use Rattle.simdram_cli.specs.Inputs.{ops_in, script_in, image_of}
 
 -- the texts that a run reads
 pub record Texts : Type 0 where

@@ -13,7 +13,7 @@ mod top;
 mod words;
 mod work;
 
-pub use stop::{NotYet, Stop, status_of, tell};
+pub use stop::{Stop, status_of, tell};
 pub use top::{one_job, simdram};
 pub use words::{
     Command, CompileNames, IMAGE_MAX, MigrateNames, OPS_MAX, PROG_MAX, RunNames, SCRIPT_MAX,

@@ -18,7 +18,7 @@ ghost use Rattle.cli_model.specs.World.{world};
 ghost use Rattle.cli_model.specs.Steps.{Goes, Open, Use, Store, Put};
 ghost use Rattle.sim_machine.specs.Granted.{IsSetting};
 ghost use Rattle.sim_machine.specs.Machine.{IsReady, geometry_of, program_of, table_in};
-ghost use Rattle.built_forms.specs.Texts.{image_found};
+ghost use Rattle.simdram_cli.specs.Inputs.{image_found};
 ghost use Rattle.simdram_cli.specs.Run.{work_steps};
 ghost use Rattle.simdram_cli.specs.Stops.{end_of};
 ghost use Rattle.simdram_cli.specs.Works.{OpenedOn, WorkDone};

@@ -13,7 +13,7 @@ ghost use Rattle.op_text.specs.Language.{operations};
 ghost use Rattle.op_text.specs.Spelling.{MeetRules};
 ghost use Rattle.uprog_code.specs.Programs.{IsProgram};
 ghost use Rattle.uprog_code.specs.Texts.{ImplementsAll, text_op};
-ghost use Rattle.built_forms.specs.Answers.{IsBuilt};
+ghost use Rattle.machine_model.specs.Agrees.{IsPlain};
 ghost use Rattle.simdram_cli.specs.Ends.{GoesToStore, ImageWorked, ProgramStopped, ProgramTaken};
 ghost use Rattle.simdram_cli.specs.Ends.{RunGoes, StopsAtStore};
 ghost use Rattle.simdram_cli.specs.Stops.{end_of, image_reason, reason_of};
@@ -21,13 +21,13 @@ ghost use Rattle.simdram_cli.specs.Words.{are_apart};
 
 use crate::load::{load, load_ops, load_script};
 use crate::perform::perform;
-use crate::stop::{NotYet, Stop};
+use crate::stop::Stop;
 use crate::words::{IMAGE_MAX, RunNames, SCRIPT_MAX};
 use bbop_isa::Instr;
 use bit_rows::NoMemory;
-use built_forms::{FormNo, read_built_image};
 use dram_model::Dram;
 use host_edge::{Folder, Sink};
+use object_alloc::{ImageNo, read_image};
 use op_text::Ops;
 use std::alloc::Global;
 use uprog_bin::encode;
@@ -92,13 +92,13 @@ pub(crate) fn take_program<'a, F: Folder>(
     write_program(&ops, prog, files, alloc)
 }
 
-/// Why a run stops at an image that is not taken.
-fn image_stop<'a>(no: FormNo) -> Stop<'a>
+/// Why a command stops at an image that is not read.
+fn image_stop<'a>(no: ImageNo) -> Stop<'a>
     ensures { reason_of result ≡ image_reason no }
 {
     match no {
-        FormNo::NotYet(at) => Stop::Refused(NotYet::Image(at)),
-        FormNo::NoMemory => Stop::NoMemory,
+        ImageNo::Fault(fault) => Stop::BadImage(fault),
+        ImageNo::NoMemory => Stop::NoMemory,
     }
 }
 
@@ -113,7 +113,7 @@ fn work_on_image<'a, F: Folder, S: Sink, D: Dram>(
     alloc: Global,
 ) -> Result<u64, Stop<'a>>
     requires program { IsProgram (microprograms_of program) }
-    requires built { AllByRecursion IsBuilt (map view_of script.now) }
+    requires plain { AllByRecursion IsPlain (map view_of script.now) }
     requires few { length script.now ≤ SCRIPT_MAX + 1 }
     ensures borrow { D.borrow chip.new ≡ D.borrow chip.old }
     ensures worked { ImageWorked names.now (microprograms_of program) (map view_of script.now)
@@ -121,7 +121,7 @@ fn work_on_image<'a, F: Folder, S: Sink, D: Dram>(
         (world (F.view files.new) (S.view out.new) (D.view chip.new)) result }
 {
     let bytes = load(names.image, IMAGE_MAX, files, alloc)?;
-    let image = match read_built_image(&bytes, alloc) {
+    let image = match read_image(&bytes, alloc) {
         Ok(image) => image,
         Err(no) => return Err(image_stop(no)),
     };

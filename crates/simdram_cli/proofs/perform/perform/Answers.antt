@@ -9,7 +9,7 @@ use Rattle.cli_model.specs.World.{world}
 use Rattle.cli_model.specs.Steps.{Done, Stopped}
 use Rattle.simdram_cli.specs.Stops.{reason_of}
 use Rattle.sim_machine.specs.Machine.{geometry_of, program_of, table_in}
-use Rattle.built_forms.specs.Texts.{image_found}
+use Rattle.simdram_cli.specs.Inputs.{image_found}
 use Rattle.simdram_cli.proofs.Tallies.{reads_same, played}
 use Rattle.simdram_cli.proofs.Performing.{Worked, last_are, lines_are, stopped_open, stopped_work}
 use Rattle.simdram_cli.proofs.Performing.{went_on, all_done}

@@ -4,7 +4,7 @@ use Rattle.uprog_code.specs.Shape.{microprograms_of}
 use Rattle.object_alloc.specs.Exact.{found_in}
 use Rattle.bbop_isa.specs.Forms.{view_of}
 use Rattle.cli_model.specs.World.{world}
-use Rattle.built_forms.specs.Texts.{image_found}
+use Rattle.simdram_cli.specs.Inputs.{image_found}
 use Rattle.simdram_cli.proofs.Running.{image_unread, image_not_read, image_worked, all_bbops}
 use Rattle.simdram_cli.proofs.Running.{all_plain, one_bank}
 use Rattle.simdram_cli.proofs.run.work_on_image.Goals as goal
