@@ -1,10 +1,10 @@
 -- The events of a script.
 use Rattle.std.proofs.Common.{◌≡◌, ℕ, zero, suc, ◌+◌, ◌*◌, List, [], ◌∷◌, Option, Some, None, Bool}
-use Rattle.std.proofs.Common.{true, false, refl, sym, ◌∙◌, ap, arith, append-nil, cond}
-use Rattle.std.specs.Prelude.{flat_map, count_by}
-use Rattle.std.proofs.Math.Nat.{suc-mul}
+use Rattle.std.proofs.Common.{true, false, map, refl, sym, ◌∙◌, ap, arith, append-nil, cond}
+use Rattle.std.specs.Prelude.{flat_map, count_by, is_none}
+use Rattle.std.proofs.Math.Nat.{suc-mul, mul-suc}
 use Rattle.std.proofs.lemmas.List.Sums.{sum_by-cons}
-use Rattle.std.specs.List.{range_with_len, AllByRecursion}
+use Rattle.std.specs.List.{range_with_len}
 use mathlib.Core.Path.{fun_ext}
 use Rattle.dram_model.specs.declared.geometry.Geometry.{Geometry}
 use Rattle.dram_model.specs.declared.dram.Counters.{Counters}
@@ -26,7 +26,18 @@ use Rattle.machine_model.specs.Steps.{job_of, job_events, own_events, events_of,
 use Rattle.machine_model.specs.Steps.{rowed, banks_after, table_after, if_done, times, counts_for}
 use Rattle.machine_model.specs.Steps.{reply_to, reply_by, binding, issues_at, bound_at}
 use Rattle.machine_model.specs.Script.{events_in_order, banks_at_end, replies, sum_of, counted_in}
-use Rattle.machine_model.specs.Script.{is_bbop, with_counts}
+use Rattle.machine_model.specs.Script.{with_counts, with_writes, counters_at_end, rows_loaded}
+use Rattle.machine_model.specs.Script.{rows_if_done, sum_done}
+use Rattle.machine_model.specs.Columns.{segments, object_size}
+use Rattle.machine_model.specs.Steps.{new_object, fill_events}
+use Rattle.machine_model.specs.Refusals.{object_named}
+use Rattle.object_alloc.specs.declared.table.Object.{Object}
+use Rattle.bit_rows.specs.Bits.{bit_at, bit_number}
+use Rattle.dram_model.specs.declared.address.Addr.{Addr}
+use Rattle.dram_model.specs.declared.address.Addr.TheVariants as addr
+use Rattle.dram_model.specs.declared.address.Command.TheVariants.{Aap}
+use Rattle.dram_model.specs.Chip.Event.{Row, Write}
+use Rattle.dram_model.specs.Elements.{padded_to, row_bits}
 use Rattle.bbop_isa.specs.Forms.{Instruction}
 use Rattle.machine_model.proofs.Fills.{through_bank}
 
@@ -137,53 +148,133 @@ bbop_counted g table (Some o) names n size k =
     banks_counted 0 size g.rows o.shape n (binding g table o.shape names n) (issues_of (o.trace n))
     k
 
--- the events of a bbop are counted by its counts
+-- counters of equal numbers
+counters_are : (k : Counters) (a b p q w x : ℕ) → a ≡ b → p ≡ q → w ≡ x
+    → record k { aap = a; ap = p; writes = w } ≡ record k { aap = b; ap = q; writes = x }
+counters_are k a b p q w x e f h = rw (e, f, h) refl
+
+aap_is : (k : Counters) (a : ℕ) → a ≡ k.aap → record k { aap = a } ≡ k
+aap_is k a e = rw e refl
+
+writes_is : (k : Counters) (w : ℕ) → w ≡ k.writes → record k { writes = w } ≡ k
+writes_is k w e = rw e refl
+
+none_done : (k : Counters)
+    → k ≡ with_writes 0 (with_counts k (record { aap = 0; ap = 0 }))
+none_done k = counters_are k _ _ _ _ _ _ (sym (add_none k.aap)) (sym (add_none k.ap))
+    (sym (add_none k.writes))
+
+next_is : (x n : ℕ) → x + 1 + n ≡ x + suc n
+next_is x n = omega arith
+
+bank_more : (x n size : ℕ) → x + n + n * size ≡ x + n * suc size
+bank_more x n size = rw (mul-suc n size) (omega arith)
+
+abbrev with_aaps : ℕ → Counters → Counters
+with_aaps n k = record k { aap = k.aap + n }
+
+-- rows filled: an AAP for each row of each bank
+row_filled : (bank a n : ℕ) (from to : ℕ → Addr) (k : Counters)
+    → all_counted (map (λ i. Row bank (Aap (from i) (to i))) (range_with_len a n)) k
+    ≡ with_aaps n k
+row_filled bank a zero from to k = sym (aap_is k _ (add_none k.aap))
+row_filled bank a (suc n) from to k =
+    row_filled bank (a + 1) n from to (record k { aap = k.aap + 1 })
+    ∙ ap (λ x. record k { aap = x }) (next_is k.aap n)
+
+rows_filled : (a size n : ℕ) (from to : ℕ → Addr) (k : Counters)
+    → all_counted (flat_map (λ bank. map (λ i. Row bank (Aap (from i) (to i)))
+    (range_with_len 0 n)) (range_with_len a size)) k ≡ with_aaps (n * size) k
+rows_filled a zero n from to k = sym (aap_is k _ (zero_times k.aap n))
+rows_filled a (suc size) n from to k =
+    all_counted-append (map (λ i. Row a (Aap (from i) (to i))) (range_with_len 0 n)) _ k
+    ∙ rows_filled (a + 1) size n from to _
+    ∙ ap (with_aaps (n * size)) (row_filled a 0 n from to k)
+    ∙ ap (λ x. record k { aap = x }) (bank_more k.aap n size)
+
+-- rows loaded: a write for each
+row_loaded : (bank a n : ℕ) (at : ℕ → ℕ) (bits : ℕ → List Bool) (k : Counters)
+    → all_counted (map (λ i. Write bank (at i) (bits i)) (range_with_len a n)) k
+    ≡ with_writes n k
+row_loaded bank a zero at bits k = sym (writes_is k _ (add_none k.writes))
+row_loaded bank a (suc n) at bits k =
+    row_loaded bank (a + 1) n at bits (record k { writes = k.writes + 1 })
+    ∙ ap (λ x. record k { writes = x }) (next_is k.writes n)
+
+rows_written : (a size n : ℕ) (at : ℕ → ℕ) (bits : ℕ → ℕ → List Bool) (k : Counters)
+    → all_counted (flat_map (λ bank. map (λ i. Write bank (at i) (bits bank i))
+    (range_with_len 0 n)) (range_with_len a size)) k ≡ with_writes (n * size) k
+rows_written a zero n at bits k = sym (writes_is k _ (zero_times k.writes n))
+rows_written a (suc size) n at bits k =
+    all_counted-append (map (λ i. Write a (at i) (bits a i)) (range_with_len 0 n)) _ k
+    ∙ rows_written (a + 1) size n at bits _
+    ∙ ap (with_writes (n * size)) (row_loaded a 0 n at (bits a) k)
+    ∙ ap (λ x. record k { writes = x }) (bank_more k.writes n size)
+
+fill_counted : (g : Geometry) (o : Object) (v : ℕ) (k : Counters)
+    → all_counted (fill_events g o v) k
+    ≡ with_writes 0 (with_counts k (record { aap = o.width * segments g o; ap = 0 }))
+fill_counted g o v k =
+    rows_filled 0 (segments g o) o.width (λ i. addr.C (bit_number (bit_at v i)))
+    (λ i. addr.D (o.base + i)) k
+    ∙ counters_are k _ _ _ _ _ _ refl (sym (add_none k.ap)) (sym (add_none k.writes))
+
+-- the events of an instruction that is done are counted by its counts and the rows that it loads
 pub done_counted : (g : Geometry) (operations : Operations) (table : List Named)
-    (instr : Instruction) (k : Counters) → is_bbop instr ≡ true
-    → all_counted (events_of g operations table instr) k
-    ≡ with_counts k (counts_for g operations table instr)
-done_counted g operations table (Bbop op dst srcs count n) k h =
+    (instr : Instruction) (k : Counters) → all_counted (events_of g operations table instr) k
+    ≡ with_writes (rows_loaded g table instr)
+    (with_counts k (counts_for g operations table instr))
+done_counted g operations table (Bbop op dst srcs count n) k =
     ap (λ es. all_counted es k) (append-nil (job_events
     (job_of g operations table (Bbop op dst srcs count n))))
     ∙ bbop_counted g table (operations op) (dst ∷ srcs) n _ k
-done_counted g operations table (Init name count n) k h = cc
-done_counted g operations table (Load name values) k h = cc
-done_counted g operations table (Fill name value) k h = cc
-done_counted g operations table (Print name) k h = cc
-done_counted g operations table (Free name) k h = cc
-done_counted g operations table (Order o) k h = cc
+    ∙ counters_are k _ _ _ _ _ _ refl refl (sym (add_none k.writes))
+done_counted g operations table (Init name count n) k =
+    fill_counted g (new_object g table count n) 0 k
+done_counted g operations table (Fill name value) k =
+    fill_counted g (object_named table name) value k
+done_counted g operations table (Load name values) k =
+    let o = object_named table name in
+    rows_written 0 (segments g o) o.width (λ i. o.base + i)
+    (row_bits g (padded_to (object_size g o) values)) k
+    ∙ counters_are k _ _ _ _ _ _ (sym (add_none k.aap)) (sym (add_none k.ap)) refl
+done_counted g operations table (Print name) k = none_done k
+done_counted g operations table (Free name) k = none_done k
+done_counted g operations table (Order o) k = none_done k
 
-reply_case : (r : Option Why) (es : List Event) (c : Counts) (k : Counters)
-    → all_counted es k ≡ with_counts k c → all_counted (if_done r es []) k
-    ≡ with_counts k (counted_in (reply_by r c))
-reply_case None es c k e = e
-reply_case (Some reason) es c k e = sym (plain_counts k _ _ (add_none k.aap) (add_none k.ap))
+reply_case : (r : Option Why) (es : List Event) (c : Counts) (n : ℕ) (k : Counters)
+    → all_counted es k ≡ with_writes n (with_counts k c) → all_counted (if_done r es []) k
+    ≡ with_writes (cond (is_none r) n 0) (with_counts k (counted_in (reply_by r c)))
+reply_case None es c n k e = e
+reply_case (Some reason) es c n k e = none_done k
 
 pub instr_counted : (g : Geometry) (operations : Operations) (table : List Named)
-    (instr : Instruction) (k : Counters) → is_bbop instr ≡ true
+    (instr : Instruction) (k : Counters)
     → all_counted (if_done (refusal g operations table instr) (events_of g operations table instr)
-    []) k ≡ with_counts k (counted_in (reply_to g operations table instr))
-instr_counted g operations table instr k h = reply_case (refusal g operations table instr)
-    (events_of g operations table instr) (counts_for g operations table instr) k
-    (done_counted g operations table instr k h)
+    []) k ≡ with_writes (rows_if_done rows_loaded g operations table instr)
+    (with_counts k (counted_in (reply_to g operations table instr)))
+instr_counted g operations table instr k = reply_case (refusal g operations table instr)
+    (events_of g operations table instr) (counts_for g operations table instr)
+    (rows_loaded g table instr) k (done_counted g operations table instr k)
 
 regroup : (x a b : ℕ) → x + a + b ≡ x + (a + b)
 regroup x a b = omega arith
 
--- and are counted by the replies
+-- One instruction after another, they are counted by the replies and the rows loaded
 pub in_order_counted : (g : Geometry) (operations : Operations) (table : List Named)
     (script : List Instruction) (k : Counters)
-    → AllByRecursion (λ instr. is_bbop instr ≡ true) script
     → all_counted (events_in_order g operations table script) k
-    ≡ with_counts k (sum_of (replies g operations table script))
-in_order_counted g operations table [] k h =
-    sym (plain_counts k _ _ (add_none k.aap) (add_none k.ap))
-in_order_counted g operations table (instr ∷ script) k h =
+    ≡ counters_at_end g operations table script k
+in_order_counted g operations table [] k = none_done k
+in_order_counted g operations table (instr ∷ script) k =
+    let table' = table_after g operations table instr in
     let first = counted_in (reply_to g operations table instr) in
-    let rest = sum_of (replies g operations (table_after g operations table instr) script) in
+    let rows = rows_if_done rows_loaded g operations table instr in
+    let rest = sum_of (replies g operations table' script) in
+    let more = sum_done rows_loaded g operations table' script in
     all_counted-append (if_done (refusal g operations table instr)
-    (events_of g operations table instr) [])
-    (events_in_order g operations (table_after g operations table instr) script) k
-    ∙ in_order_counted g operations (table_after g operations table instr) script _ h.1
-    ∙ ap (λ c. with_counts c rest) (instr_counted g operations table instr k h.0)
-    ∙ both_counts k _ _ _ _ (regroup k.aap first.aap rest.aap) (regroup k.ap first.ap rest.ap)
+    (events_of g operations table instr) []) (events_in_order g operations table' script) k
+    ∙ in_order_counted g operations table' script _
+    ∙ ap (λ c. with_writes more (with_counts c rest)) (instr_counted g operations table instr k)
+    ∙ counters_are k _ _ _ _ _ _ (regroup k.aap first.aap rest.aap)
+    (regroup k.ap first.ap rest.ap) (regroup k.writes rows more)

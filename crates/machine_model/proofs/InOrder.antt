@@ -184,7 +184,8 @@ found_fits g (p ∷ table) name h =
       found_case true more = h.0
       found_case false more = more
 
-job_fits : (g : Geometry) (operations : Operations) (table : List Named) (instr : Instruction)
+-- the banks of a job are there
+pub job_fits : (g : Geometry) (operations : Operations) (table : List Named) (instr : Instruction)
     → 0 < g.words → FitsBanks g table → (job_of g operations table instr).banks ≤ g.banks
 job_fits g operations table (Bbop op dst srcs count n) some h =
     few_banks (object_named table dst).count (column_count g) g.banks (omega arith)

@@ -23,7 +23,7 @@ use Rattle.object_alloc.specs.Listed.{limit_of}
 use Rattle.machine_model.specs.Refusals.{object_named, bbop_refusal, dsts_in}
 use Rattle.machine_model.specs.Steps.{Held, table_of, base_for, binding, through, job_of, if_done}
 use Rattle.machine_model.specs.Steps.{is_touched, banks_after, is_among, is_beside, dsts_of}
-use Rattle.machine_model.specs.Agrees.{DoesAll}
+use Rattle.machine_model.specs.Agrees.{KeepsAll}
 use Rattle.machine_model.proofs.Facts.{AreOperands, none, more, IsGood, good}
 use Rattle.machine_model.proofs.Bbops.{or_false, base_in, binding_fits, has_from}
 use Rattle.machine_model.proofs.Steps.{job_is}
@@ -86,9 +86,9 @@ not_touched g state o names count n row good h (inr (inr spill)) =
     parts.1 in
     let among = among_from (limit_of g) 32 row spill.0 spill.1 in cc
 
-bbop_kept : (g : Geometry) (operations : Operations) (meaning : List ℕ → ℕ → List ℕ
-    → List ℕ) (op dst : List ℕ) (srcs : List (List ℕ)) (count n : ℕ) (found : Option Operation)
-    → operations op ≡ found → 0 < n → n ≤ WIDTH_MAX → DoesAll operations meaning
+bbop_kept : (g : Geometry) (operations : Operations) (op dst : List ℕ) (srcs : List (List ℕ))
+    (count n : ℕ) (found : Option Operation)
+    → operations op ≡ found → 0 < n → n ≤ WIDTH_MAX → KeepsAll operations
     → (banks : Banks) (state : List Held) (bank row : ℕ) → IsTable (limit_of g) (table_of state)
     → bbop_refusal g (table_of state) found (dst ∷ srcs) count n ≡ None
     → (ltb bank (segments g (object_named (table_of state) dst))
@@ -96,9 +96,9 @@ bbop_kept : (g : Geometry) (operations : Operations) (meaning : List ℕ → ℕ
     (dsts_of found (dst ∷ srcs)) || is_beside g (table_of state) found n row)) ≡ false
     → row_in row (through (job_of g operations (table_of state) (Bbop op dst srcs count n)) banks
     bank) ≡ row_in row (banks bank)
-bbop_kept g operations meaning op dst srcs count n None e some few does banks state bank row t h
+bbop_kept g operations op dst srcs count n None e some few keeps banks state bank row t h
     out = cc
-bbop_kept g operations meaning op dst srcs count n (Some o) e some few does banks state bank row t h
+bbop_kept g operations op dst srcs count n (Some o) e some few keeps banks state bank row t h
     out =
     let names = dst ∷ srcs in
     let facts = good g (table_of state) o names count n h in
@@ -108,7 +108,7 @@ bbop_kept g operations meaning op dst srcs count n (Some o) e some few does bank
     ∙ stay_case row (run cs) (ltb bank (segments g (object_named (table_of state) dst)))
     (list_any (λ name. has_row (object_named (table_of state) name) row) (dsts_in o.shape names)
     || is_beside g (table_of state) (Some o) n row) (banks bank) out
-    (λ b s. (does op o e n some few).keeps.row g.rows (binding g (table_of state) o.shape names n) s
+    (λ b s. (keeps op o e n some few).row g.rows (binding g (table_of state) o.shape names n) s
     (binding_fits g state o names count n t facts) row
     (not_touched g state o names count n row facts b))
 
@@ -119,16 +119,16 @@ done_kept None new old touched bank row kept out = kept refl out
 done_kept (Some reason) new old touched bank row kept out = refl
 
 -- A row that a bbop does not touch is as it was
-pub bbop_rows_kept : (g : Geometry) (operations : Operations) (meaning : List ℕ → ℕ → List ℕ
-    → List ℕ) (op dst : List ℕ) (srcs : List (List ℕ)) (count n : ℕ) → 0 < n → n ≤ WIDTH_MAX
-    → DoesAll operations meaning → (banks : Banks) (state : List Held) (bank row : ℕ)
+pub bbop_rows_kept : (g : Geometry) (operations : Operations) (op dst : List ℕ)
+    (srcs : List (List ℕ)) (count n : ℕ) → 0 < n → n ≤ WIDTH_MAX
+    → KeepsAll operations → (banks : Banks) (state : List Held) (bank row : ℕ)
     → IsTable (limit_of g) (table_of state)
     → is_touched g operations (table_of state) (Bbop op dst srcs count n) bank row ≡ false
     → row_in row (banks_after g operations (table_of state) banks (Bbop op dst srcs count n) bank)
     ≡ row_in row (banks bank)
-bbop_rows_kept g operations meaning op dst srcs count n some few does banks state bank row t out =
+bbop_rows_kept g operations op dst srcs count n some few keeps banks state bank row t out =
     done_kept (bbop_refusal g (table_of state) (operations op) (dst ∷ srcs) count n)
     (through (job_of g operations (table_of state) (Bbop op dst srcs count n)) banks) banks _
     bank row
-    (λ h touched. bbop_kept g operations meaning op dst srcs count n (operations op) refl some few
-    does banks state bank row t h touched) out
+    (λ h touched. bbop_kept g operations op dst srcs count n (operations op) refl some few
+    keeps banks state bank row t h touched) out

@@ -1,6 +1,8 @@
 -- Rows that no done instruction of a script touches stay.
 use Rattle.std.proofs.Common.{◌≡◌, ℕ, zero, suc, ◌+◌, ◌<◌, ◌≤◌, Bool, true, false, ◌&&◌, ltb, List}
-use Rattle.std.proofs.Common.{[], ◌∷◌, map, refl, sym, ◌∙◌, ap, arith, inl, inr}
+use Rattle.std.proofs.Common.{[], ◌∷◌, map, Some, refl, sym, ◌∙◌, ap, subst, arith, inl, inr, cond}
+use Rattle.std.specs.Option.{option_map}
+use Rattle.std.specs.Str.{bytes_eq}
 use Rattle.std.specs.List.{AllByRecursion}
 use Rattle.std.proofs.lemmas.Bool.{cases_lt, ne_eqb}
 use Rattle.std.proofs.lemmas.Bool.Decides.{nat_tests}
@@ -18,12 +20,19 @@ use Rattle.bbop_isa.specs.Forms.{Init, Bbop, Load, Fill, Print, Free, Order}
 use Rattle.dram_model.specs.Elements.{column_count}
 use Rattle.machine_model.specs.Columns.{object_size, segments}
 use Rattle.dram_model.specs.Elements.{padded_to}
-use Rattle.machine_model.specs.Operations.{Operations}
+use Rattle.machine_model.specs.Operations.{Program, Operation, Operations, operation_of}
+use Rattle.machine_model.specs.Operations.{entry_named, operations_in}
 use Rattle.object_alloc.specs.Listed.{limit_of}
 use Rattle.machine_model.specs.Refusals.{object_named, refusal}
 use Rattle.machine_model.specs.Steps.{Held, table_of, new_object, through, is_touched, banks_after}
-use Rattle.machine_model.specs.Steps.{table_after, words_after, fill_events, load_events}
-use Rattle.machine_model.specs.Agrees.{Agrees, DoesAll, IsPlain}
+use Rattle.machine_model.specs.Steps.{table_after, fill_events, load_events}
+use Rattle.machine_model.specs.Agrees.{DoesAll, KeepsAll, IsPlain}
+use Rattle.machine_model.specs.Laws.{UntouchedStays}
+use Rattle.uprog_code.specs.Machine.{issues_of}
+use Rattle.uprog_code.specs.Implements.{Keeps}
+use Rattle.uprog_code.specs.Programs.{IsEntry, IsProgram}
+use Rattle.uprog_code.proofs.Kept.{legal_keeps}
+use Rattle.bit_rows.specs.declared.TheConstants.{WIDTH_MAX}
 use Rattle.machine_model.specs.Script.{is_touched_by, banks_at_end}
 use Rattle.machine_model.proofs.Kept.{stay_case, done_kept, bbop_rows_kept}
 use Rattle.machine_model.proofs.Bbops.{or_false}
@@ -31,8 +40,8 @@ use Rattle.machine_model.proofs.Steps.{idle}
 use Rattle.machine_model.proofs.Fills.{fill_commands, fill_keeps}
 use Rattle.machine_model.proofs.Makes.{filled}
 use Rattle.machine_model.proofs.Loads.{writes, each_inside, each_behind, all_writes, all_own, part}
-use Rattle.machine_model.proofs.Whole.{every_step}
-use Rattle.machine_model.proofs.Scripts.{table_step}
+use Rattle.machine_model.proofs.Places.{still, still_table}
+use Rattle.machine_model.proofs.Tables.{listed_after}
 
 filled_kept : (g : Geometry) (o : Object) (v : ℕ) (banks : Banks) (bank row : ℕ)
     → (ltb bank (segments g o) && has_row o row) ≡ false
@@ -80,56 +89,95 @@ loaded_kept g o vs banks bank row out =
           banks bank (all_own w o.base o.width nums) (omega arith))
     ]
 
-pub step_kept : (g : Geometry) (operations : Operations) (meaning : List ℕ → ℕ → List ℕ
-    → List ℕ) (instr : Instruction) → DoesAll operations meaning → IsPlain instr
+state_kept : (g : Geometry) (operations : Operations) (instr : Instruction)
+    → KeepsAll operations → IsPlain instr
     → (banks : Banks) (state : List Held) (bank row : ℕ) → IsTable (limit_of g) (table_of state)
     → is_touched g operations (table_of state) instr bank row ≡ false
     → row_in row (banks_after g operations (table_of state) banks instr bank)
     ≡ row_in row (banks bank)
-step_kept g operations meaning (Bbop op dst srcs count n) does plain banks state bank row t out =
-    bbop_rows_kept g operations meaning op dst srcs count n plain.0 plain.1 does banks state bank
+state_kept g operations (Bbop op dst srcs count n) keeps plain banks state bank row t out =
+    bbop_rows_kept g operations op dst srcs count n plain.0 plain.1 keeps banks state bank
     row t out
-step_kept g operations meaning (Init name count n) does plain banks state bank row t out =
+state_kept g operations (Init name count n) keeps plain banks state bank row t out =
     done_kept (refusal g operations (table_of state) (Init name count n)) _ banks _ bank row
     (λ h touched. filled_kept g (new_object g (table_of state) count n) 0 banks bank row
     touched) out
-step_kept g operations meaning (Fill name v) does plain banks state bank row t out =
+state_kept g operations (Fill name v) keeps plain banks state bank row t out =
     done_kept (refusal g operations (table_of state) (Fill name v)) _ banks _ bank row
     (λ h touched. filled_kept g (object_named (table_of state) name) v banks bank row touched)
     out
-step_kept g operations meaning (Load name vs) does plain banks state bank row t out =
+state_kept g operations (Load name vs) keeps plain banks state bank row t out =
     done_kept (refusal g operations (table_of state) (Load name vs)) _ banks _ bank row
     (λ h touched. loaded_kept g (object_named (table_of state) name) vs banks bank row touched)
     out
-step_kept g operations meaning (Print name) does plain banks state bank row t out =
+state_kept g operations (Print name) keeps plain banks state bank row t out =
     done_kept (refusal g operations (table_of state) (Print name)) _ banks _ bank row
     (λ h touched. ap (λ (x : Banks). row_in row (x bank)) (idle [] banks)) out
-step_kept g operations meaning (Free name) does plain banks state bank row t out =
+state_kept g operations (Free name) keeps plain banks state bank row t out =
     done_kept (refusal g operations (table_of state) (Free name)) _ banks _ bank row
     (λ h touched. ap (λ (x : Banks). row_in row (x bank)) (idle [] banks)) out
-step_kept g operations meaning (Order o) does plain banks state bank row t out =
+state_kept g operations (Order o) keeps plain banks state bank row t out =
     ap (λ (x : Banks). row_in row (x bank)) (idle [] banks)
 
--- A row that no done instruction of a script touches stays
-pub script_kept : (g : Geometry) (operations : Operations) (meaning : List ℕ → ℕ → List ℕ
-    → List ℕ) (script : List Instruction) → 0 < g.words → DoesAll operations meaning
-    → AllByRecursion IsPlain script → (banks : Banks) (state : List Held) → Agrees g banks state
-    → (bank row : ℕ)
-    → is_touched_by g operations (table_of state) script bank row ≡ false
-    → row_in row (banks_at_end g operations (table_of state) banks script bank)
-    ≡ row_in row (banks bank)
-script_kept g operations meaning [] words does plain banks state a bank row out = refl
-script_kept g operations meaning (instr ∷ script) words does plain banks state a bank row out =
-    let both = or_false (is_touched g operations (table_of state) instr bank row)
-    (is_touched_by g operations (table_after g operations (table_of state) instr) script bank
-    row) out in
-    let next = banks_after g operations (table_of state) banks instr in
-    let step : table_of (words_after g operations meaning state instr)
-    ≡ table_after g operations (table_of state) instr =
-    table_step g operations meaning state instr in
-    ap (λ (t : List Named). row_in row (banks_at_end g operations t next script bank)) (sym step)
-    ∙ script_kept g operations meaning script words does plain.1 next
-    (words_after g operations meaning state instr)
-    (every_step g operations meaning instr words does plain.0 banks state a) bank row
-    (ap (λ (t : List Named). is_touched_by g operations t script bank row) step ∙ both.1)
-    ∙ step_kept g operations meaning instr does plain.0 banks state bank row a.table both.0
+-- A row that a done instruction does not touch stays
+pub step_kept : (g : Geometry) (operations : Operations) (instr : Instruction)
+    → KeepsAll operations → IsPlain instr → (table : List Named) → IsTable (limit_of g) table
+    → (banks : Banks) (bank row : ℕ) → is_touched g operations table instr bank row ≡ false
+    → row_in row (banks_after g operations table banks instr bank) ≡ row_in row (banks bank)
+step_kept g operations instr keeps plain table t banks bank row out =
+    subst (λ (x : List Named). is_touched g operations x instr bank row ≡ false
+    → row_in row (banks_after g operations x banks instr bank) ≡ row_in row (banks bank))
+    (still_table table)
+    (state_kept g operations instr keeps plain banks (still table) bank row
+    (subst (IsTable (limit_of g)) (sym (still_table table)) t)) out
+
+-- and so does one that no done instruction of a script touches
+pub script_kept : (g : Geometry) (operations : Operations) (script : List Instruction)
+    → KeepsAll operations → AllByRecursion IsPlain script → (table : List Named)
+    → IsTable (limit_of g) table → (banks : Banks) (bank row : ℕ)
+    → is_touched_by g operations table script bank row ≡ false
+    → row_in row (banks_at_end g operations table banks script bank) ≡ row_in row (banks bank)
+script_kept g operations [] keeps plain table t banks bank row out = refl
+script_kept g operations (instr ∷ script) keeps plain table t banks bank row out =
+    let table' = table_after g operations table instr in
+    let both = or_false (is_touched g operations table instr bank row)
+    (is_touched_by g operations table' script bank row) out in
+    script_kept g operations script keeps plain.1 table'
+    (listed_after g operations table instr plain.0 t) (banks_after g operations table banks instr)
+    bank row both.1
+    ∙ step_kept g operations instr keeps plain.0 table t banks bank row both.0
+
+-- what does what it means keeps the other rows
+pub does_keep : (operations : Operations) (meaning : List ℕ → ℕ → List ℕ → List ℕ)
+    → DoesAll operations meaning → KeepsAll operations
+does_keep operations meaning does name o e n some few = (does name o e n some few).keeps
+
+abbrev pub KeepsRows : Operation → Type 0
+KeepsRows o = (n : ℕ) → 0 < n → n ≤ WIDTH_MAX → Keeps o.shape n (issues_of (o.trace n))
+
+-- what holds of each entry holds of the operation of a name
+pub entry_holds : (P : Operation → Type 0) (p : Program) (name : List ℕ) (o : Operation)
+    → AllByRecursion (λ e. P (operation_of e)) p → operations_in p name ≡ Some o → P o
+entry_holds P [] name o all is = cc
+entry_holds P (e ∷ p) name o all is =
+    named (bytes_eq e.name name) is (entry_holds P p name o all.1) where
+      named : (t : Bool)
+          → option_map operation_of (cond t (Some e) (entry_named p name)) ≡ Some o
+          → (option_map operation_of (entry_named p name) ≡ Some o → P o) → P o
+      named true is rest = let same : operation_of e ≡ o = cc in subst P same all.0
+      named false is rest = rest is
+
+entries_keep : (p : Program) → AllByRecursion IsEntry p
+    → AllByRecursion (λ e. KeepsRows (operation_of e)) p
+entries_keep [] all = tt
+entries_keep (e ∷ p) all =
+    (λ n some few. legal_keeps e.shape e.code all.0.code n, entries_keep p all.1)
+
+-- and so does every accepted program
+pub program_keeps : (p : Program) → IsProgram p → KeepsAll (operations_in p)
+program_keeps p good name o is =
+    entry_holds KeepsRows p name o (entries_keep p good.entries) is
+
+pub untouched_stays : UntouchedStays
+untouched_stays g p table script banks bank row good t plain out =
+    script_kept g (operations_in p) script (program_keeps p good) plain table t banks bank row out

@@ -17,3 +17,9 @@ pub mod Events
 pub mod Alike
 pub mod InOrder
 pub mod Pieces
+pub mod Tables
+pub mod Parts
+pub mod Cut
+pub mod Grants
+pub mod Bounds
+pub mod Accepted

@@ -128,3 +128,11 @@ pub object_at : (limit : ℕ) (state : List Held) (k : ℕ) (name : List ℕ)
     → object_named (table_of state) name ≡ (get_or state k no_one).object
 unfolding found_at
 object_at limit state k name t l e = (found_at state name k (names_differ limit state t) l e).object
+
+-- a state with this table, in which no object has a number
+abbrev pub still : List Named → List Held
+still table = map (λ p. record { name = p.0; object = p.1; numbers = [] }) table
+
+pub still_table : (table : List Named) → table_of (still table) ≡ table
+still_table [] = refl
+still_table (p ∷ table) = ap (λ rest. p ∷ rest) (still_table table)

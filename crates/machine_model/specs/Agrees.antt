@@ -5,6 +5,7 @@ use Rattle.dram_model.specs.Chip.{Banks}
 use Rattle.bit_rows.specs.declared.TheConstants.{WIDTH_MAX}
 use Rattle.machine_model.specs.Operations.{Does}
 use Rattle.uprog_code.specs.Machine.{issues_of}
+use Rattle.uprog_code.specs.Implements.{Keeps}
 use Rattle.object_alloc.specs.Listed.{IsTable}
 use Rattle.bbop_isa.specs.Forms.{Instruction}
 use Rattle.bbop_isa.specs.Forms.{Init, Bbop, Load, Fill, Print, Free, Order}
@@ -29,6 +30,11 @@ pub record Agrees (g : Geometry) (banks : Banks) (state : List Held) : Type 0 wh
 abbrev pub DoesAll : Operations → (List ℕ → ℕ → List ℕ → List ℕ) → Type 0
 DoesAll operations meaning = (name : List ℕ) (o : Operation) → operations name ≡ Some o → (n : ℕ)
     → 0 < n → n ≤ WIDTH_MAX → Does o.shape n (issues_of (o.trace n)) (meaning name n)
+
+-- what is issued for each operation leaves all rows that are not its own
+abbrev pub KeepsAll : Operations → Type 0
+KeepsAll operations = (name : List ℕ) (o : Operation) → operations name ≡ Some o → (n : ℕ)
+    → 0 < n → n ≤ WIDTH_MAX → Keeps o.shape n (issues_of (o.trace n))
 
 -- The step of the rows gives the word machine's step
 abbrev pub StepAgrees : Geometry → Operations → (List ℕ → ℕ → List ℕ → List ℕ) → Instruction

@@ -1,23 +1,37 @@
 -- Laws of whole scripts.
-use Rattle.std.specs.Prelude.{◌≡◌, ℕ, ◌*◌, ◌<◌, ◌≤◌, List, flat_map, All}
+use Rattle.std.specs.Prelude.{◌≡◌, ℕ, ◌+◌, ◌*◌, ◌<◌, ◌≤◌, ◌||◌, true, false, List, ◌∷◌, ◌++◌, map}
+use Rattle.std.specs.Prelude.{length, flat_map, take, drop, All, Some, None, Ok}
 use Rattle.std.specs.List.{AllByRecursion}
 use Rattle.dram_model.specs.declared.geometry.Geometry.{Geometry}
 use Rattle.dram_model.specs.declared.dram.Counters.{Counters}
-use Rattle.dram_model.specs.Chip.{Banks, after, all_counted}
+use Rattle.dram_model.specs.Geometry.{is_geometry}
+use Rattle.bit_rows.specs.declared.TheConstants.{WIDTH_MAX}
+use Rattle.uprog_code.specs.declared.TheConstants.{WALK_MAX}
+use Rattle.dram_model.specs.Chip.{Banks, after, all_counted, row_in}
 use Rattle.dram_model.specs.Elements.{column_count}
 use Rattle.dram_model.specs.Events.{events_of as seen_by}
-use Rattle.object_alloc.specs.Listed.{Named}
-use Rattle.bbop_isa.specs.Forms.{Instruction}
+use Rattle.object_alloc.specs.Listed.{Named, IsTable, limit_of}
+use Rattle.object_alloc.specs.Spelling.{IsObject}
+use Rattle.bbop_isa.specs.Forms.{Instruction, Bbop}
+use Rattle.bbop_isa.specs.Script.{script_of}
+use Rattle.uprog_code.specs.Machine.{HasEnded}
+use Rattle.uprog_code.specs.Fits.{Fits}
+use Rattle.uprog_code.specs.Programs.{IsProgram}
 use Rattle.uprog_code.specs.Texts.{TextOp, ImplementsAll}
-use Rattle.machine_model.specs.Operations.{Program, Operations, operations_of, operations_in}
+use Rattle.machine_model.specs.Operations.{Program, Operation, Operations, operations_of}
+use Rattle.machine_model.specs.Operations.{operations_in}
+use Rattle.machine_model.specs.Refusals.{refusal}
 use Rattle.machine_model.specs.Operations.{meaning_in}
 use Rattle.wave_model.specs.Schedule.{events_of_picks, IsWhole, Turn}
-use Rattle.machine_model.specs.Steps.{Held, table_of}
+use Rattle.machine_model.specs.Steps.{Held, table_of, reply_to, binding, job_of}
 use Rattle.machine_model.specs.Agrees.{Agrees, DoesAll, IsPlain}
-use Rattle.machine_model.specs.Script.{banks_at_end, words_at_end, events_in_order}
-use Rattle.machine_model.specs.Script.{replies, sum_of, with_counts}
-use Rattle.machine_model.specs.Pieces.{AreBbops, IsPiece, instrs_in, pieces, wave_queues}
-use Rattle.machine_model.specs.Pieces.{events_of_pieces}
+use Rattle.machine_model.specs.Script.{table_at_end, banks_at_end, words_at_end, events_in_order}
+use Rattle.machine_model.specs.Script.{is_bbop, replies, sum_of, sum_done, with_counts}
+use Rattle.machine_model.specs.Script.{is_touched_by, counters_at_end, rows_loaded, rows_printed}
+use Rattle.machine_model.specs.Pieces.{Piece, Wave, Alone, AreBbops, IsPiece, instrs_in, pieces}
+use Rattle.machine_model.specs.Pieces.{wave_size, wave_queues, piece_events, events_of_pieces}
+use Rattle.machine_model.specs.Pieces.{turn_at_end}
+use Rattle.machine_model.specs.Report.{said_in_rows, Answered}
 
 -- Where what is issued for each operation does what it means, the banks after a script hold what
 -- the word machine holds
@@ -43,6 +57,63 @@ TextGivesWords =
 abbrev pub SameOperations : Type 0
 SameOperations = (p : Program) (t : List TextOp) → ImplementsAll p t
     → operations_of t p ≡ operations_in p
+
+-- a table that a machine of this geometry may have
+pub record TableFits (g : Geometry) (table : List Named) : Type 0 where
+  pub listed : IsTable (limit_of g) table
+  pub objects : All (λ named. IsObject g named.1) table
+
+-- Behind every script it still is one
+abbrev pub TableStays : Type 0
+TableStays =
+    (g : Geometry) (operations : Operations) (table : List Named) (script : List Instruction)
+    → AllByRecursion IsPlain script → TableFits g table
+    → TableFits g (table_at_end g operations table script)
+
+-- A bbop that is not refused: its walk ends, its binding fits in a bank, and there are its banks
+pub record IsGranted (g : Geometry) (operations : Operations) (table : List Named) (o : Operation)
+    (instr : Instruction) (names : List (List ℕ)) (n : ℕ) : Type 0 where
+  pub ends : HasEnded (o.trace n)
+  pub fits : Fits g.rows o.shape n (binding g table o.shape names n)
+  pub banks : (job_of g operations table instr).banks ≤ g.banks
+
+abbrev pub GrantsFit : Type 0
+GrantsFit =
+    (g : Geometry) (operations : Operations) (table : List Named) (o : Operation)
+    (op dst : List ℕ) (srcs : List (List ℕ)) (count n : ℕ) → 0 < g.words → TableFits g table
+    → operations op ≡ Some o → refusal g operations table (Bbop op dst srcs count n) ≡ None
+    → IsGranted g operations table o (Bbop op dst srcs count n) (dst ∷ srcs) n
+
+-- at most a whole walk in each of 16 banks for each instruction, and at most an object of the
+-- greatest width in each is loaded, or printed
+pub record AreFew (g : Geometry) (operations : Operations) (table : List Named)
+    (script : List Instruction) : Type 0 where
+  pub commands : (sum_of (replies g operations table script)).aap
+      + (sum_of (replies g operations table script)).ap ≤ length script * (16 * WALK_MAX)
+  pub loaded : sum_done rows_loaded g operations table script ≤ length script * (16 * WIDTH_MAX)
+  pub printed : sum_done rows_printed g operations table script ≤ length script * (16 * WIDTH_MAX)
+
+-- So few are the commands and the rows of every script
+abbrev pub WorkIsBounded : Type 0
+WorkIsBounded =
+    (g : Geometry) (p : Program) (table : List Named) (script : List Instruction)
+    → is_geometry g ≡ true → TableFits g table → AllByRecursion IsPlain script
+    → AreFew g (operations_in p) table script
+
+-- Whatever an accepted program does, a row that no done instruction of a script touches is as it
+-- was
+abbrev pub UntouchedStays : Type 0
+UntouchedStays =
+    (g : Geometry) (p : Program) (table : List Named) (script : List Instruction) (banks : Banks)
+    (bank row : ℕ) → IsProgram p → IsTable (limit_of g) table → AllByRecursion IsPlain script
+    → is_touched_by g (operations_in p) table script bank row ≡ false
+    → row_in row (banks_at_end g (operations_in p) table banks script bank)
+    ≡ row_in row (banks bank)
+
+-- What an accepted script says is plain
+abbrev pub AcceptedIsPlain : Type 0
+AcceptedIsPlain = (text : List ℕ) (script : List Instruction) → script_of text ≡ Ok script
+    → AllByRecursion IsPlain script
 
 -- the banks hold each object of a table
 abbrev pub FitsBanks : Geometry → List Named → Type 0
@@ -71,6 +142,69 @@ abbrev pub PiecesAreScript : Type 0
 PiecesAreScript = (script : List Instruction) → AllByRecursion IsPiece (pieces script)
     × (flat_map instrs_in (pieces script) ≡ script)
 
+-- A script that begins with bbops begins with a wave of them, 16 at most, and each other with its
+-- first instruction alone
+pub record PiecesAreCut : Type 0 where
+  pub wave : (script : List Instruction) → 0 < wave_size script
+      → pieces script
+      ≡ Wave (take (wave_size script) script) ∷ pieces (drop (wave_size script) script)
+  pub alone : (instr : Instruction) (script : List Instruction) → is_bbop instr ≡ false
+      → pieces (instr ∷ script) ≡ Alone instr ∷ pieces script
+
+-- A script goes on where its first part ends
+pub record GoesOn (g : Geometry) (operations : Operations) (table : List Named)
+    (xs ys : List Instruction) : Type 0 where
+  pub tables : table_at_end g operations table (xs ++ ys)
+      ≡ table_at_end g operations (table_at_end g operations table xs) ys
+  pub answers : replies g operations table (xs ++ ys)
+      ≡ replies g operations table xs
+      ++ replies g operations (table_at_end g operations table xs) ys
+  pub states : (banks : Banks) → banks_at_end g operations table banks (xs ++ ys)
+      ≡ banks_at_end g operations (table_at_end g operations table xs)
+      (banks_at_end g operations table banks xs) ys
+  pub said : (banks : Banks) → said_in_rows g operations table banks (xs ++ ys)
+      ≡ said_in_rows g operations table banks xs
+      ++ said_in_rows g operations (table_at_end g operations table xs)
+      (banks_at_end g operations table banks xs) ys
+  pub rows : (rows : Geometry → List Named → Instruction → ℕ)
+      → sum_done rows g operations table (xs ++ ys)
+      ≡ sum_done rows g operations table xs
+      + sum_done rows g operations (table_at_end g operations table xs) ys
+  pub touched : (bank row : ℕ) → is_touched_by g operations table (xs ++ ys) bank row
+      ≡ (is_touched_by g operations table xs bank row
+      || is_touched_by g operations (table_at_end g operations table xs) ys bank row)
+
+-- and so do its pieces
+pub record PiecesGoOn (g : Geometry) (operations : Operations) (turn : Turn) (table : List Named)
+    (ps qs : List Piece) : Type 0 where
+  pub turns : turn_at_end g operations turn table (ps ++ qs)
+      ≡ turn_at_end g operations (turn_at_end g operations turn table ps)
+      (table_at_end g operations table (flat_map instrs_in ps)) qs
+  pub events : events_of_pieces g operations turn table (ps ++ qs)
+      ≡ events_of_pieces g operations turn table ps
+      ++ events_of_pieces g operations (turn_at_end g operations turn table ps)
+      (table_at_end g operations table (flat_map instrs_in ps)) qs
+
+abbrev pub ScriptsGoOn : Type 0
+ScriptsGoOn = (g : Geometry) (operations : Operations) (table : List Named)
+    (xs ys : List Instruction) → GoesOn g operations table xs ys
+
+abbrev pub AllPiecesGoOn : Type 0
+AllPiecesGoOn = (g : Geometry) (operations : Operations) (turn : Turn) (table : List Named)
+    (ps qs : List Piece) → PiecesGoOn g operations turn table ps qs
+
+-- A wave leaves the table, and is answered bbop by bbop
+pub record WaveIsAnswered (g : Geometry) (operations : Operations) (table : List Named)
+    (wave : List Instruction) : Type 0 where
+  pub tables : table_at_end g operations table wave ≡ table
+  pub answers : replies g operations table wave ≡ map (reply_to g operations table) wave
+  pub said : (banks : Banks) → said_in_rows g operations table banks wave
+      ≡ map Answered (replies g operations table wave)
+
+abbrev pub WavesAreAnswered : Type 0
+WavesAreAnswered = (g : Geometry) (operations : Operations) (table : List Named)
+    (wave : List Instruction) → AreBbops wave → WaveIsAnswered g operations table wave
+
 -- Under every order in force each bank sees the events of a script in the same order: that of its
 -- instructions
 abbrev pub SeenInOrder : Type 0
@@ -88,14 +222,20 @@ EventsAreSteps =
     → after (events_of_pieces g operations turn table (pieces script)) chip
     ≡ banks_at_end g operations table chip script
 
--- and a script of bbops is counted by its replies, and has no host writes
+-- and are counted by the replies and the rows loaded; so are the events of one piece
 abbrev pub CountedByReplies : Type 0
 CountedByReplies =
     (g : Geometry) (operations : Operations) (turn : Turn) (table : List Named)
     (script : List Instruction) (k : Counters) → 0 < g.words → FitsBanks g table
-    → AreBbops script
     → all_counted (events_of_pieces g operations turn table (pieces script)) k
-    ≡ with_counts k (sum_of (replies g operations table script))
+    ≡ counters_at_end g operations table script k
+
+abbrev pub PieceIsCounted : Type 0
+PieceIsCounted =
+    (g : Geometry) (operations : Operations) (turn : Turn) (table : List Named) (piece : Piece)
+    (k : Counters) → 0 < g.words → FitsBanks g table → IsPiece piece
+    → all_counted (piece_events g operations turn table piece) k
+    ≡ counters_at_end g operations table (instrs_in piece) k
 
 -- On a chip of one bank every order gives the events of one instruction after another
 abbrev pub OneBankInOrder : Type 0

@@ -1,7 +1,7 @@
 -- A script's events: its bbops in waves under the order in force, each other instruction alone.
-use Rattle.std.specs.Prelude.{◌≡◌, ◌<◌, ◌≤◌, ◌==◌, true, false, is_none, if◌then◌else◌, List, []}
-use Rattle.std.specs.Prelude.{◌∷◌, ◌++◌, map, filter, length}
-use Rattle.std.specs.List.{AllByRecursion}
+use Rattle.std.specs.Prelude.{◌≡◌, ℕ, ◌<◌, ◌≤◌, ◌==◌, min, true, false, is_none, if◌then◌else◌}
+use Rattle.std.specs.Prelude.{List, [], ◌∷◌, ◌++◌, map, filter, length}
+use Rattle.std.specs.List.{AllByRecursion, prefix_len}
 use Rattle.dram_model.specs.declared.geometry.Geometry.{Geometry}
 use Rattle.dram_model.specs.Chip.{Event}
 use Rattle.object_alloc.specs.Listed.{Named}
@@ -50,6 +50,10 @@ pieces_from wave (instr ∷ script) =
 abbrev pub pieces : List Instruction → List Piece
 pieces script = pieces_from [] script
 
+-- how many bbops the first wave of a script has: those that it begins with, 16 at most
+abbrev pub wave_size : List Instruction → ℕ
+wave_size script = min 16 (prefix_len is_bbop script)
+
 -- an instruction by itself: a bbop is a wave of one
 abbrev pub piece_of : Instruction → Piece
 piece_of instr = if is_bbop instr then Wave (instr ∷ []) else Alone instr
@@ -97,6 +101,13 @@ events_of_pieces g operations turn table [] = []
 events_of_pieces g operations turn table (piece ∷ rest) =
     piece_events g operations turn table piece
     ++ events_of_pieces g operations (turn_behind g operations turn table piece)
+    (table_at_end g operations table (instrs_in piece)) rest
+
+-- the order in force behind pieces
+abbrev pub turn_at_end : Geometry → Operations → Turn → List Named → List Piece → Turn
+turn_at_end g operations turn table [] = turn
+turn_at_end g operations turn table (piece ∷ rest) =
+    turn_at_end g operations (turn_behind g operations turn table piece)
     (table_at_end g operations table (instrs_in piece)) rest
 
 -- the events of a script: at first each pick is the first live bank

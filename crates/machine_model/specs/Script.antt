@@ -81,6 +81,10 @@ sum_of (reply ∷ rest) = plus (counted_in reply) (sum_of rest)
 abbrev pub with_counts : Counters → Counts → Counters
 with_counts k counts = record k { aap = k.aap + counts.aap; ap = k.ap + counts.ap }
 
+-- and after so many rows more that the host wrote
+abbrev pub with_writes : ℕ → Counters → Counters
+with_writes n k = record k { writes = k.writes + n }
+
 abbrev pub is_refused : Reply → Bool
 is_refused (Done counts) = false
 is_refused (Refused reason) = true
@@ -117,3 +121,11 @@ sum_done rows g operations table [] = 0
 sum_done rows g operations table (instr ∷ script) =
     rows_if_done rows g operations table instr
     + sum_done rows g operations (table_after g operations table instr) script
+
+-- a chip's counters after the instructions that are done: the row commands that the replies count,
+-- and a host write for each row that is loaded
+abbrev pub counters_at_end : Geometry → Operations → List Named → List Instruction → Counters
+    → Counters
+counters_at_end g operations table script k =
+    with_writes (sum_done rows_loaded g operations table script)
+    (with_counts k (sum_of (replies g operations table script)))

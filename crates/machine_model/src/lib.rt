@@ -2,9 +2,13 @@
 //! report on it.
 #![tactic(auto)]
 
-ghost use Rattle.machine_model.specs.Laws.{CountedByReplies, EventsAreSteps, OneBankInOrder};
-ghost use Rattle.machine_model.specs.Laws.{PiecesAreScript, RowsGiveWords, SameOperations};
-ghost use Rattle.machine_model.specs.Laws.{SeenInOrder, TextGivesWords, WaveIsCounted, WaveIsSteps};
+ghost use Rattle.machine_model.specs.Laws.{AcceptedIsPlain, AllPiecesGoOn, CountedByReplies};
+ghost use Rattle.machine_model.specs.Laws.{EventsAreSteps, GrantsFit, OneBankInOrder};
+ghost use Rattle.machine_model.specs.Laws.{PieceIsCounted, PiecesAreCut, PiecesAreScript};
+ghost use Rattle.machine_model.specs.Laws.{RowsGiveWords, SameOperations, ScriptsGoOn, SeenInOrder};
+ghost use Rattle.machine_model.specs.Laws.{TableStays, TextGivesWords, UntouchedStays};
+ghost use Rattle.machine_model.specs.Laws.{WaveIsCounted, WaveIsSteps, WavesAreAnswered};
+ghost use Rattle.machine_model.specs.Laws.{WorkIsBounded};
 
 use uprog_code::{BadWalk, Counts};
 
@@ -42,6 +46,33 @@ pub fn rows_give_words()
     ensures same { SameOperations }
 {}
 
+/// The table stays a table of objects that the geometry can hold.
+pub fn tables_stay()
+    ensures stays { TableStays }
+{}
+
+/// Whatever a program does that is accepted, it runs under bindings that fit, and the rows that no
+/// done instruction touches stay. How much it does is bounded.
+pub fn accepted_programs_are_safe()
+    ensures grants { GrantsFit }
+    ensures untouched { UntouchedStays }
+    ensures bounded { WorkIsBounded }
+{}
+
+/// What an accepted script says is plain.
+pub fn accepted_scripts_are_plain()
+    ensures plain { AcceptedIsPlain }
+{}
+
+/// A script and its pieces go on where a part of them ends; the pieces are cut from the front, and
+/// a wave is answered bbop by bbop.
+pub fn scripts_go_on()
+    ensures cut { PiecesAreCut }
+    ensures scripts { ScriptsGoOn }
+    ensures pieces { AllPiecesGoOn }
+    ensures waves { WavesAreAnswered }
+{}
+
 /// In whatever order the banks of a wave take turns, they are left as its bbops one after another
 /// leave them, and its replies count the commands.
 pub fn waves_are_steps()
@@ -56,5 +87,6 @@ pub fn events_are_steps()
     ensures seen { SeenInOrder }
     ensures steps { EventsAreSteps }
     ensures counted { CountedByReplies }
+    ensures piece { PieceIsCounted }
     ensures one_bank { OneBankInOrder }
 {}

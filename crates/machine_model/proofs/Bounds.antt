@@ -1,0 +1,288 @@
+-- How much an instruction does at most.
+use Rattle.std.proofs.Common.{◌≡◌, ℕ, zero, suc, ◌+◌, ◌*◌, ◌<◌, ◌≤◌, Bool, true, false, cond}
+use Rattle.std.proofs.Common.{eqb, leb, List, [], ◌∷◌, length, Option, Some, None, refl}
+use Rattle.std.proofs.Common.{arith, get_or}
+use Rattle.std.specs.Prelude.{count_by, slice_get, slice_index, slice_set, ◌-◌}
+use Rattle.std.specs.Option.{option_map, unwrap_or}
+use Rattle.std.specs.Str.{bytes_eq}
+use Rattle.std.specs.List.{find, AllByRecursion}
+use Rattle.std.proofs.Math.Nat.{mul-le-mul, suc-mul, mul-add}
+use Rattle.std.proofs.lemmas.Bool.Decides.{nat_tests}
+use Rattle.std.proofs.lemmas.List.Sums.{sum_by-cons}
+use Rattle.std.proofs.lemmas.List.Elements.{recursion_from_All}
+use Rattle.dram_model.specs.declared.geometry.Geometry.{Geometry}
+use Rattle.dram_model.specs.Geometry.{is_geometry}
+use Rattle.dram_model.specs.Elements.{column_count}
+use Rattle.bit_rows.specs.declared.TheConstants.{WIDTH_MAX}
+use Rattle.uprog_code.specs.declared.TheConstants.{WALK_MAX}
+use Rattle.uprog_code.specs.declared.walker.Counts.{Counts}
+use Rattle.uprog_code.specs.declared.code.Uop.{Uop}
+use Rattle.uprog_code.specs.declared.code.Uop.TheVariants.{Done, SetI, SetN, SetT, Mov, Add, AddI}
+use Rattle.uprog_code.specs.declared.code.Uop.TheVariants.{SubI, Bnez, Aap, Ap}
+use Rattle.uprog_code.specs.Shape.{Shape}
+use Rattle.uprog_code.specs.Machine.{Issue, Twice, Once, Trace, Ended, Stuck, Next, act, act_at}
+use Rattle.uprog_code.specs.Machine.{onto, issued, all_in_range, command_at, issue, start, trace}
+use Rattle.uprog_code.specs.Machine.{issues_of}
+use Rattle.uprog_code.specs.declared.walker.Why3.TheVariants.{Index, Register}
+use Rattle.uprog_code.specs.Count.{is_twice, is_once, counts_of}
+use Rattle.object_alloc.specs.declared.table.Object.{Object}
+use Rattle.object_alloc.specs.Listed.{Named}
+use Rattle.bbop_isa.specs.Forms.{Instruction}
+use Rattle.bbop_isa.specs.Forms.{Init, Bbop, Load, Fill, Print, Free, Order}
+use Rattle.machine_model.specs.declared.Why.{Why}
+use Rattle.machine_model.specs.Columns.{segments}
+use Rattle.machine_model.specs.Operations.{Program, Operation, Operations, operation_of}
+use Rattle.machine_model.specs.Operations.{operations_in}
+use Rattle.machine_model.specs.Refusals.{refusal, object_named, nothing}
+use Rattle.machine_model.specs.Steps.{counts_for, reply_to, reply_by, times, issues_at, table_after}
+use Rattle.machine_model.specs.Steps.{new_object}
+use Rattle.machine_model.specs.Agrees.{IsPlain}
+use Rattle.machine_model.specs.Script.{counted_in, rows_if_done, rows_loaded, rows_printed}
+use Rattle.machine_model.specs.Laws.{TableFits, AreFew, WorkIsBounded}
+use Rattle.machine_model.proofs.KeptAll.{entry_holds}
+use Rattle.machine_model.proofs.Makes.{few_banks}
+use Rattle.machine_model.proofs.Tables.{made, table_fits_after}
+
+-- a trace has no more commands than this
+abbrev pub IsShort : ℕ → Trace → Type 0
+IsShort most t = length (issues_of t) ≤ most
+
+onto_short : (c : Issue) (t : Trace) (most : ℕ) → IsShort most t
+    → IsShort (suc most) (onto (c ∷ []) t)
+onto_short c (Ended issues) most h = omega (arith, h)
+onto_short c (Stuck at why) most h = omega arith
+
+either_short : (b : Bool) (t u : Trace) (most : ℕ) → IsShort most t → IsShort most u
+    → IsShort most (cond b t u)
+either_short true t u most h k = h
+either_short false t u most h k = k
+
+module _ (shape : Shape) (n left : ℕ) (next : Next)
+    (short : (pc : ℕ) (regs : List ℕ) → IsShort left (next pc regs))
+  where
+    none_short : IsShort (suc left) (Ended [])
+    none_short = omega arith
+
+    more_short : (pc : ℕ) (regs : List ℕ) → IsShort (suc left) (next pc regs)
+    more_short pc regs = omega (arith, short pc regs)
+
+    issued_short : (c : Issue) (at : ℕ) (pc : ℕ) (regs : List ℕ)
+        → IsShort (suc left) (issued shape n c at (next pc regs))
+    issued_short c at pc regs =
+        either_short (all_in_range shape n c) (onto (c ∷ []) (next pc regs)) (Stuck at Index)
+        (suc left) (onto_short c (next pc regs) left (short pc regs)) none_short
+
+    act_short : (uop : Uop) (pc : ℕ) (regs : List ℕ)
+        → IsShort (suc left) (act shape n uop next pc regs)
+    act_short Done pc regs = none_short
+    act_short (SetI r k) pc regs = more_short (pc + 1) (slice_set regs r k)
+    act_short (SetN r) pc regs = more_short (pc + 1) (slice_set regs r n)
+    act_short (SetT r) pc regs = more_short (pc + 1) (slice_set regs r (n - 1))
+    act_short (Mov r s) pc regs = more_short (pc + 1) (slice_set regs r (slice_index regs s))
+    act_short (Add r s) pc regs =
+        let sum = slice_index regs r + slice_index regs s in
+        either_short (leb sum 1023) (next (pc + 1) (slice_set regs r sum)) (Stuck pc Register)
+        (suc left) (more_short (pc + 1) (slice_set regs r sum)) none_short
+    act_short (AddI r k) pc regs =
+        let sum = slice_index regs r + k in
+        either_short (leb sum 1023) (next (pc + 1) (slice_set regs r sum)) (Stuck pc Register)
+        (suc left) (more_short (pc + 1) (slice_set regs r sum)) none_short
+    act_short (SubI r k) pc regs =
+        let less = slice_index regs r - k in
+        either_short (leb k (slice_index regs r)) (next (pc + 1) (slice_set regs r less))
+        (Stuck pc Register) (suc left) (more_short (pc + 1) (slice_set regs r less)) none_short
+    act_short (Bnez r t) pc regs =
+        either_short (eqb (slice_index regs r) 0) (next (pc + 1) regs) (next t regs) (suc left)
+        (more_short (pc + 1) regs) (more_short t regs)
+    act_short (Aap x y) pc regs = issued_short (command_at regs (Twice x y)) pc (pc + 1) regs
+    act_short (Ap x) pc regs = issued_short (command_at regs (Once x)) pc (pc + 1) regs
+
+    at_short : (uop : Option Uop) (pc : ℕ) (regs : List ℕ)
+        → IsShort (suc left) (act_at shape n uop next pc regs)
+    at_short None pc regs = none_short
+    at_short (Some uop) pc regs = act_short uop pc regs
+
+walk_short : (shape : Shape) (code : List Uop) (n left pc : ℕ) (regs : List ℕ)
+    → IsShort left (issue shape code n left pc regs)
+unfolding issue
+walk_short shape code n zero pc regs = omega arith
+walk_short shape code n (suc left) pc regs =
+    at_short shape n left (issue shape code n left) (walk_short shape code n left)
+    (slice_get code pc) pc regs
+
+pub trace_short : (shape : Shape) (code : List Uop) (n : ℕ)
+    → IsShort WALK_MAX (trace shape code n)
+unfolding trace
+trace_short shape code n = walk_short shape code n WALK_MAX 0 start
+
+abbrev ShortWalks : Operation → Type 0
+ShortWalks o = (n : ℕ) → IsShort WALK_MAX (o.trace n)
+
+entries_short : (p : Program) → AllByRecursion (λ e. ShortWalks (operation_of e)) p
+entries_short [] = tt
+entries_short (e ∷ p) = (trace_short e.shape e.code, entries_short p)
+
+counts_short : (issues : List Issue)
+    → count_by is_twice issues + count_by is_once issues ≡ length issues
+counts_short [] = refl
+counts_short (Twice x y ∷ issues) =
+    let a = sum_by-cons (λ z. cond (is_twice z) 1 0) (Twice x y) issues in
+    let b = sum_by-cons (λ z. cond (is_once z) 1 0) (Twice x y) issues in
+    let rest = counts_short issues in
+    omega (arith, a, b, rest)
+counts_short (Once x ∷ issues) =
+    let a = sum_by-cons (λ z. cond (is_twice z) 1 0) (Once x) issues in
+    let b = sum_by-cons (λ z. cond (is_once z) 1 0) (Once x) issues in
+    let rest = counts_short issues in
+    omega (arith, a, b, rest)
+
+-- what holds of each object holds of that of a name
+pub object_holds : (P : Object → Type 0) (table : List Named) (name : List ℕ) → P nothing
+    → AllByRecursion (λ named. P named.1) table → P (object_named table name)
+object_holds P [] name none all = none
+object_holds P (p ∷ table) name none all =
+    named (bytes_eq p.0 name) (object_holds P table name none all.1) where
+      named : (t : Bool) → P (object_named table name)
+          → P (unwrap_or (option_map (λ (q : Named). q.1) (cond t (Some p)
+          (find (λ q. bytes_eq q.0 name) table))) nothing)
+      named true rest = all.0
+      named false rest = rest
+
+-- its rows, in all its banks
+abbrev FewRows : Geometry → Object → Type 0
+FewRows g o = (segments g o ≤ 16) × (o.width * segments g o ≤ 16 * WIDTH_MAX)
+
+few_rows : (g : Geometry) (o : Object) → 0 < g.words → g.banks ≤ 16 → o.width ≤ WIDTH_MAX
+    → o.count ≤ column_count g * g.banks → FewRows g o
+few_rows g o some few narrow fits =
+    let less : segments g o ≤ g.banks =
+    few_banks o.count (column_count g) g.banks (omega arith) fits in
+    let least : segments g o ≤ 16 = omega (arith, less, few) in
+    let all : o.width * segments g o ≤ WIDTH_MAX * 16 = mul-le-mul narrow least in
+    (least, omega (arith, all))
+
+named_few : (g : Geometry) (table : List Named) (name : List ℕ) → 0 < g.words → g.banks ≤ 16
+    → TableFits g table → FewRows g (object_named table name)
+named_few g table name some few t =
+    object_holds (FewRows g) table name
+    (few_rows g nothing some few (omega arith) (omega arith))
+    (recursion_from_All (λ (named : Named). FewRows g named.1) table (λ k d l.
+    let o = t.objects k d l in few_rows g (get_or table k d).1 some few o.narrow o.fits))
+
+-- these counts are at most so many
+abbrev pub SumsTo : ℕ → Counts → Type 0
+SumsTo most c = c.aap + c.ap ≤ most
+
+bbop_few : (operations : Operations) (op : List ℕ) (n size : ℕ) (found : Option Operation)
+    → operations op ≡ found
+    → ((o : Operation) → operations op ≡ Some o → ShortWalks o) → size ≤ 16
+    → SumsTo (16 * WALK_MAX) (times size (counts_of (issues_at found n)))
+bbop_few operations op n size None e short few =
+    let none : size * 0 ≡ 0 = omega arith in omega (arith, none)
+bbop_few operations op n size (Some o) e short few =
+    let issues = issues_of (o.trace n) in
+    let both = counts_short issues in
+    let most : count_by is_twice issues + count_by is_once issues ≤ WALK_MAX =
+    omega (arith, both, short o e n) in
+    let all : size * (count_by is_twice issues + count_by is_once issues) ≤ 16 * WALK_MAX =
+    mul-le-mul few most in
+    let parts = mul-add size (count_by is_twice issues) (count_by is_once issues) in
+    omega (arith, all, parts)
+
+fill_few : (rows : ℕ) → rows ≤ 16 * WIDTH_MAX
+    → SumsTo (16 * WALK_MAX) (record { aap = rows; ap = 0 })
+fill_few rows h = omega (arith, h)
+
+module _ (g : Geometry) (p : Program) (table : List Named) (some : 0 < g.words)
+    (few : g.banks ≤ 16) (t : TableFits g table)
+  where
+    counts_few : (instr : Instruction) → IsPlain instr
+        → refusal g (operations_in p) table instr ≡ None
+        → SumsTo (16 * WALK_MAX) (counts_for g (operations_in p) table instr)
+    counts_few (Init name count n) plain h =
+        let m = made g (operations_in p) table name count n h in
+        let rows = few_rows g (new_object g table count n) some few plain.1.1 m.fits in
+        fill_few _ rows.1
+    counts_few (Bbop op dst srcs count n) plain h =
+        bbop_few (operations_in p) op n (segments g (object_named table dst)) (operations_in p op)
+        refl (λ o e. entry_holds ShortWalks p op o (entries_short p) e)
+        (named_few g table dst some few t).0
+    counts_few (Fill name value) plain h = fill_few _ (named_few g table name some few t).1
+    counts_few (Load name values) plain h = omega arith
+    counts_few (Print name) plain h = omega arith
+    counts_few (Free name) plain h = omega arith
+    counts_few (Order o) plain h = omega arith
+
+    reply_few : (r : Option Why) (c : Counts) → (r ≡ None → SumsTo (16 * WALK_MAX) c)
+        → SumsTo (16 * WALK_MAX) (counted_in (reply_by r c))
+    reply_few None c h = h refl
+    reply_few (Some reason) c h = omega arith
+
+    -- the commands of one instruction
+    pub commands_few : (instr : Instruction) → IsPlain instr
+        → SumsTo (16 * WALK_MAX) (counted_in (reply_to g (operations_in p) table instr))
+    commands_few instr plain = reply_few (refusal g (operations_in p) table instr)
+        (counts_for g (operations_in p) table instr) (counts_few instr plain)
+
+    loaded_few : (instr : Instruction) → rows_loaded g table instr ≤ 16 * WIDTH_MAX
+    loaded_few (Load name values) = (named_few g table name some few t).1
+    loaded_few (Init name count n) = omega arith
+    loaded_few (Bbop op dst srcs count n) = omega arith
+    loaded_few (Fill name value) = omega arith
+    loaded_few (Print name) = omega arith
+    loaded_few (Free name) = omega arith
+    loaded_few (Order o) = omega arith
+
+    printed_few : (instr : Instruction) → rows_printed g table instr ≤ 16 * WIDTH_MAX
+    printed_few (Print name) = (named_few g table name some few t).1
+    printed_few (Load name values) = omega arith
+    printed_few (Init name count n) = omega arith
+    printed_few (Bbop op dst srcs count n) = omega arith
+    printed_few (Fill name value) = omega arith
+    printed_few (Free name) = omega arith
+    printed_few (Order o) = omega arith
+
+    if_few : (b : Bool) (n : ℕ) → n ≤ 16 * WIDTH_MAX → cond b n 0 ≤ 16 * WIDTH_MAX
+    if_few true n h = h
+    if_few false n h = omega arith
+
+    -- the rows that it loads and prints
+    pub rows_loaded_few : (instr : Instruction)
+        → rows_if_done rows_loaded g (operations_in p) table instr ≤ 16 * WIDTH_MAX
+    rows_loaded_few instr = if_few _ _ (loaded_few instr)
+
+    pub rows_printed_few : (instr : Instruction)
+        → rows_if_done rows_printed g (operations_in p) table instr ≤ 16 * WIDTH_MAX
+    rows_printed_few instr = if_few _ _ (printed_few instr)
+
+script_few : (g : Geometry) (p : Program) (table : List Named) (script : List Instruction)
+    → 0 < g.words → g.banks ≤ 16 → TableFits g table → AllByRecursion IsPlain script
+    → AreFew g (operations_in p) table script
+script_few g p table [] some few t plain =
+    record { commands = omega arith; loaded = omega arith; printed = omega arith }
+script_few g p table (instr ∷ script) some few t plain =
+    let operations = operations_in p in
+    let rest = script_few g p (table_after g operations table instr) script some few
+    (table_fits_after g operations table instr plain.0 t) plain.1 in
+    let commands = suc-mul (length script) (16 * WALK_MAX) in
+    let rows = suc-mul (length script) (16 * WIDTH_MAX) in
+    record {
+      commands = omega (
+        arith,
+        commands,
+        rest.commands,
+        commands_few g p table some few t instr plain.0,
+      );
+      loaded = omega (arith, rows, rest.loaded, rows_loaded_few g p table some few t instr);
+      printed = omega (arith, rows, rest.printed, rows_printed_few g p table some few t instr);
+    }
+
+-- what is said of a geometry
+pub geometry_parts : (g : Geometry) → is_geometry g ≡ true → (0 < g.words) × (0 < g.banks)
+    × (g.banks ≤ 16)
+geometry_parts g h = (grind (arith, nat_tests), grind (arith, nat_tests), grind (arith, nat_tests))
+
+pub work_is_bounded : WorkIsBounded
+work_is_bounded g p table script h t plain =
+    let parts = geometry_parts g h in
+    script_few g p table script parts.0 parts.2 t plain

@@ -1,0 +1,7 @@
+use Rattle.machine_model.proofs.Bounds.{work_is_bounded}
+use Rattle.machine_model.proofs.Grants.{grants_fit}
+use Rattle.machine_model.proofs.KeptAll.{untouched_stays}
+use Rattle.machine_model.proofs.accepted_programs_are_safe.Goals as goal
+
+pub returns : goal.returns
+returns c = record { grants = grants_fit; untouched = untouched_stays; bounded = work_is_bounded }
