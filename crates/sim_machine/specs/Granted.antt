@@ -10,12 +10,10 @@ use Rattle.uprog_code.specs.Machine.{trace}
 use Rattle.uprog_code.specs.Count.{walked}
 use Rattle.object_alloc.specs.Free.{free}
 use Rattle.object_alloc.specs.Listed.{Named, objects_of}
-use Rattle.std.specs.List.{AllByRecursion}
 use Rattle.dram_model.specs.declared.geometry.Geometry.{Geometry}
 use Rattle.dram_model.specs.Geometry.{is_geometry}
 use Rattle.uprog_code.specs.declared.walker.Counts.{Counts}
 use Rattle.uprog_code.specs.Count.{counts_of}
-use Rattle.uprog_code.specs.Legal.{IsLegalCode}
 use Rattle.object_alloc.specs.Listed.{Listing, IsTable, limit_of}
 use Rattle.object_alloc.specs.Spelling.{IsObject}
 use Rattle.machine_model.specs.Columns.{segments}
@@ -41,13 +39,12 @@ abbrev pub banks_events : ℕ → Microprogram → Binding → ℕ → List Even
 banks_events rows m b banks = flat_map (λ bank. trace_events bank rows m.shape m.code b)
     (range_with_len 0 banks)
 
--- a machine's table on a chip of this shape, and the program of its bbops
-pub record IsSetting (g : Geometry) (table : Listing) (program : List Microprogram) : Type 0 where
+-- a machine's table on a chip of this shape
+pub record IsSetting (g : Geometry) (table : Listing) : Type 0 where
   pub geometry : is_geometry g ≡ true
   pub limit : table.limit ≡ limit_of g
   pub listed : IsTable (limit_of g) table.pairs
   pub objects : All (λ named. IsObject g named.1) table.pairs
-  pub legal : AllByRecursion (λ m. IsLegalCode m.shape m.code) program
 
 -- the commands of a bbop that is granted, in each bank of its destination
 abbrev pub granted_job : Geometry → List Named → Microprogram → List ℕ → List (List ℕ) → ℕ → Job

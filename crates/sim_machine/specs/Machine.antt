@@ -2,7 +2,7 @@
 use Rattle.std.specs.Prelude.{◌≡◌, ℕ, ◌+◌, ◌*◌, ◌≤◌, List, length, vec_capacity}
 use Rattle.dram_model.specs.declared.geometry.Geometry.{Geometry}
 use Rattle.dram_model.specs.Chip.{Event}
-use Rattle.uprog_code.specs.Shape.{Microprogram, microprograms_of}
+use Rattle.uprog_code.specs.Shape.{Microprogram}
 use Rattle.object_alloc.specs.Listed.{Named}
 use Rattle.object_alloc.specs.Reading.{rows_size}
 use Rattle.object_alloc.specs.declared.sizes.TheConstants.{HEAD_BYTES, RECORD_BYTES, OBJECTS_MAX}
@@ -17,7 +17,7 @@ use Rattle.sim_machine.specs.Granted.{IsSetting, instr_events}
 
 -- the program that its bbops run, the shape of its chip, and its objects
 abbrev pub program_of : Machine → List Microprogram
-program_of m = microprograms_of m.program
+program_of m = m.prog.programs
 
 abbrev pub geometry_of : Machine → Geometry
 geometry_of m = m.geometry
@@ -31,7 +31,7 @@ file_of m = m.file.items
 
 -- a machine that is open: its parts fit, and it has the memory that it needs
 pub record IsReady (m : Machine) : Type 0 where
-  pub set : IsSetting m.geometry m.table (microprograms_of m.program)
+  pub set : IsSetting m.geometry m.table
   pub stage : length m.stage.items ≡ m.geometry.words
   pub room : HEAD_BYTES + RECORD_BYTES * OBJECTS_MAX + rows_size m.geometry
       ≤ vec_capacity m.file

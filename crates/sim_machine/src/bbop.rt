@@ -2,12 +2,13 @@
 
 ghost use Rattle.std.specs.Prelude.{◌≡◌, ◌+◌, ◌*◌, ◌<◌, ◌≤◌, ◌^◌, ◌∷◌, ℕ, List, length, map, Some};
 ghost use Rattle.std.specs.Prelude.{None, Ok, OnOk, OnErr, IfOk, IfSome, true};
+ghost use Rattle.uprog_bin.specs.Opened.{code_of, program_of};
 ghost use Rattle.std.specs.List.{find};
 ghost use Rattle.std.specs.Option.{option_map, option_to_list};
 ghost use Rattle.std.specs.Str.{bytes_eq};
 ghost use Rattle.dram_model.specs.View.{HasBegun, Kept, Did};
 ghost use Rattle.dram_model.specs.Elements.{FailedBelow};
-ghost use Rattle.uprog_code.specs.Shape.{shape_of, microprogram_of};
+ghost use Rattle.uprog_code.specs.Shape.{shape_of};
 ghost use Rattle.uprog_code.specs.Machine.{trace};
 ghost use Rattle.uprog_code.specs.Count.{walked};
 ghost use Rattle.uprog_code.specs.Bound.{bound_of};
@@ -31,20 +32,20 @@ use dram_model::{ChipFault, Dram, Geometry};
 use machine_model::{Reply, Why};
 use object_alloc::{Object, Table};
 use text_lex::Name;
-use uprog_code::{Binding, Counts, EntryCode, Head, Kind, WALK_MAX};
+use uprog_bin::{Entry, ProgView};
+use uprog_code::{Binding, Counts, Fetch, Head, Kind, WALK_MAX};
 use uprog_ctl::run;
 
 /// The entry of this name.
-pub(crate) fn entry_named<'a>(entries: &'a [EntryCode], op: &Name) -> Option<&'a EntryCode>
-    ensures value { option_map (λ e. microprogram_of e.now) result
-        ≡ find (λ m. bytes_eq m.name op.now) (map microprogram_of entries.now) }
+pub(crate) fn entry_named<'a>(prog: &ProgView<'a>, op: &Name) -> Option<Entry<'a>>
+    ensures value { option_map program_of result
+        ≡ find (λ m. bytes_eq m.name op.now) prog.now.programs }
+    ensures legal { IfSome result (λ e. IsLegalCode e.shape (code_of e)) }
 {
-    for entry in entries {
-        if entry.head.name == *op {
-            return Some(entry);
-        }
+    match prog.find(op) {
+        Some(k) => Some(prog.entry(k)),
+        None => None,
     }
-    None
 }
 
 /// How many banks an object's elements take.
@@ -83,7 +84,7 @@ fn second_base(table: &Table, head: &Head, srcs: &[Name]) -> Option<u16>
 }
 
 /// Where the operation's rows lie: those of its objects, and the scratch that it was granted.
-pub(crate) fn bind(table: &Table, head: &Head, bbop: &Bbop<'_>, scratch: u16) -> Binding
+fn bind_head(table: &Table, head: &Head, bbop: &Bbop<'_>, scratch: u16) -> Binding
     requires { length (srcs_in (shape_of head.now) (bbop.now.dst.now ∷ bbop.now.srcs.now))
         ≡ length head.now.sources.items }
     ensures width { result.n ≡ bbop.now.n }
@@ -108,10 +109,27 @@ pub(crate) fn bind(table: &Table, head: &Head, bbop: &Bbop<'_>, scratch: u16) ->
     }
 }
 
+/// Where the rows of an entry's operation lie.
+pub(crate) fn bind(table: &Table, entry: &Entry<'_>, bbop: &Bbop<'_>, scratch: u16) -> Binding
+    requires { length (srcs_in entry.now.shape (bbop.now.dst.now ∷ bbop.now.srcs.now))
+        ≡ length entry.now.shape.sources }
+    ensures width { result.n ≡ bbop.now.n }
+    ensures results { (bound_of result).results
+        ≡ map (λ name. (object_named table.now.pairs name).base)
+        (dsts_in entry.now.shape (bbop.now.dst.now ∷ bbop.now.srcs.now)) }
+    ensures sources { (bound_of result).sources
+        ≡ map (λ name. (object_named table.now.pairs name).base)
+        (srcs_in entry.now.shape (bbop.now.dst.now ∷ bbop.now.srcs.now)) }
+    ensures scratch { (bound_of result).scratch ≡ scratch }
+{
+    let head = entry.head();
+    bind_head(table, &head, bbop, scratch)
+}
+
 /// Runs the entry in the first banks, one after another.
 pub(crate) fn run_banks<D: Dram>(
     dram: &mut D,
-    entry: &EntryCode,
+    entry: &Entry<'_>,
     binding: &Binding,
     counts: Counts,
     banks: u16,
@@ -119,12 +137,12 @@ pub(crate) fn run_banks<D: Dram>(
     requires begun { HasBegun (D.view dram.old) }
     requires banks { banks ≤ (D.view dram.old).geometry.banks }
     requires few_banks { banks ≤ 16 }
-    requires legal { IsLegalCode (shape_of entry.now.head) entry.now.code.items }
+    requires legal { IsLegalCode entry.now.shape (code_of entry.now) }
     requires some { 0 < binding.now.n }
     requires narrow { binding.now.n ≤ WIDTH_MAX }
-    requires fits { Fits (D.view dram.old).geometry.rows (shape_of entry.now.head) binding.now.n
+    requires fits { Fits (D.view dram.old).geometry.rows entry.now.shape binding.now.n
         (bound_of binding.now) }
-    requires walks { walked (trace (shape_of entry.now.head) entry.now.code.items binding.now.n)
+    requires walks { walked (trace entry.now.shape (code_of entry.now) binding.now.n)
         ≡ Ok counts }
     requires few { counts.aap + counts.ap ≤ WALK_MAX }
     requires aap_room { (D.view dram.old).counters.aap < 2 ^ 62 }
@@ -132,7 +150,7 @@ pub(crate) fn run_banks<D: Dram>(
     ensures borrow { D.borrow dram.new ≡ D.borrow dram.old }
     ensures kept { Kept (D.view dram.old) (D.view dram.new) }
     ensures did { OnOk result (Did (banks_events (D.view dram.old).geometry.rows
-        (microprogram_of entry.now) binding.now banks) (D.view dram.old) (D.view dram.new)) }
+        (program_of entry.now) binding.now banks) (D.view dram.old) (D.view dram.new)) }
     ensures counters { OnOk result ((D.view dram.new).counters
         ≡ with_counts (D.view dram.old).counters (times banks counts)) }
     ensures failed { OnErr result (FailedBelow banks (D.view dram.old) (D.view dram.new)) }
@@ -160,39 +178,38 @@ fn times_counts(banks: u16, counts: Counts) -> Counts
 pub(crate) struct Setting<'a> {
     pub geometry: Geometry,
     pub table: &'a Table,
-    pub entries: &'a [EntryCode],
+    pub prog: &'a ProgView<'a>,
 }
 
 /// Runs a bbop that is granted.
 fn run_granted<D: Dram>(
     setting: &Setting<'_>,
-    entry: &EntryCode,
+    entry: &Entry<'_>,
     bbop: &Bbop<'_>,
     grant: Grant,
     dram: &mut D,
 ) -> Result<Reply, ChipFault>
     requires begun { HasBegun (D.view dram.old) }
     requires geometry { (D.view dram.old).geometry ≡ setting.now.geometry }
-    requires set { IsSetting setting.now.geometry setting.now.table.now
-        (map microprogram_of setting.now.entries.now) }
+    requires set { IsSetting setting.now.geometry setting.now.table.now }
     requires few { length bbop.now.srcs.now ≤ 5 }
-    requires legal { IsLegalCode (shape_of entry.now.head) entry.now.code.items }
+    requires legal { IsLegalCode entry.now.shape (code_of entry.now) }
     requires some { 0 < bbop.now.n }
     requires narrow { bbop.now.n ≤ WIDTH_MAX }
     requires allowed { first (bbop_conditions setting.now.table.now.limit
-        setting.now.table.now.pairs (operation_of (microprogram_of entry.now)) (bbop.now.dst.now
+        setting.now.table.now.pairs (operation_of (program_of entry.now)) (bbop.now.dst.now
         ∷ bbop.now.srcs.now) bbop.now.count bbop.now.n) ≡ None }
     requires granted { IsGranted setting.now.table.now.limit setting.now.table.now.pairs
-        (microprogram_of entry.now) bbop.now.n grant }
+        (program_of entry.now) bbop.now.n grant }
     requires aap_room { (D.view dram.old).counters.aap < 2 ^ 62 }
     requires ap_room { (D.view dram.old).counters.ap < 2 ^ 62 }
     ensures borrow { D.borrow dram.new ≡ D.borrow dram.old }
     ensures kept { Kept (D.view dram.old) (D.view dram.new) }
     ensures reply { IfOk result (λ reply. reply
         ≡ Reply.Done (granted_counts setting.now.geometry setting.now.table.now.pairs
-        (microprogram_of entry.now) bbop.now.dst.now bbop.now.n)) }
+        (program_of entry.now) bbop.now.dst.now bbop.now.n)) }
     ensures did { OnOk result (Did (granted_events setting.now.geometry setting.now.table.now.pairs
-        (microprogram_of entry.now) bbop.now.dst.now bbop.now.srcs.now bbop.now.n)
+        (program_of entry.now) bbop.now.dst.now bbop.now.srcs.now bbop.now.n)
         (D.view dram.old) (D.view dram.new)) }
     ensures aap_grows { OnOk result ((D.view dram.new).counters.aap
         ≤ (D.view dram.old).counters.aap + 16 * WALK_MAX) }
@@ -202,7 +219,7 @@ fn run_granted<D: Dram>(
         (object_named setting.now.table.now.pairs bbop.now.dst.now))
         (D.view dram.old) (D.view dram.new)) }
 {
-    let binding = bind(setting.table, &entry.head, bbop, grant.scratch);
+    let binding = bind(setting.table, entry, bbop, grant.scratch);
     let banks = segments(setting.geometry, object_named(setting.table, bbop.dst));
     run_banks(dram, entry, &binding, grant.counts, banks)?;
     Ok(Reply::Done(times_counts(banks, grant.counts)))
@@ -217,8 +234,7 @@ pub(crate) fn do_bbop<D: Dram>(
 ) -> Result<Reply, ChipFault>
     requires begun { HasBegun (D.view dram.old) }
     requires geometry { (D.view dram.old).geometry ≡ setting.now.geometry }
-    requires set { IsSetting setting.now.geometry setting.now.table.now
-        (map microprogram_of setting.now.entries.now) }
+    requires set { IsSetting setting.now.geometry setting.now.table.now }
     requires few { length bbop.now.srcs.now ≤ 5 }
     requires some { 0 < bbop.now.n }
     requires narrow { bbop.now.n ≤ WIDTH_MAX }
@@ -228,10 +244,10 @@ pub(crate) fn do_bbop<D: Dram>(
     ensures kept { Kept (D.view dram.old) (D.view dram.new) }
     ensures reply { IfOk result (λ reply. reply
         ≡ reply_to setting.now.geometry (operations_in
-        (map microprogram_of setting.now.entries.now)) setting.now.table.now.pairs
+        setting.now.prog.now.programs) setting.now.table.now.pairs
         (said_bbop op.now bbop.now)) }
     ensures did { OnOk result (Did (instr_events setting.now.geometry
-        (operations_in (map microprogram_of setting.now.entries.now)) setting.now.table.now.pairs
+        (operations_in setting.now.prog.now.programs) setting.now.table.now.pairs
         (said_bbop op.now bbop.now)) (D.view dram.old) (D.view dram.new)) }
     ensures aap_grows { OnOk result ((D.view dram.new).counters.aap
         ≤ (D.view dram.old).counters.aap + 16 * WALK_MAX) }
@@ -241,11 +257,11 @@ pub(crate) fn do_bbop<D: Dram>(
         (object_named setting.now.table.now.pairs bbop.now.dst.now))
         (D.view dram.old) (D.view dram.new)) }
 {
-    match entry_named(setting.entries, op) {
+    match entry_named(setting.prog, op) {
         None => Ok(Reply::Refused(Why::NoOp)),
-        Some(entry) => match allow(setting.table, entry, bbop) {
+        Some(entry) => match allow(setting.table, &entry, bbop) {
             Err(why) => Ok(Reply::Refused(why)),
-            Ok(grant) => run_granted(setting, entry, bbop, grant, dram),
+            Ok(grant) => run_granted(setting, &entry, bbop, grant, dram),
         },
     }
 }

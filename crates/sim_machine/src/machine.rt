@@ -7,7 +7,6 @@ ghost use Rattle.dram_model.specs.Geometry.{is_geometry};
 ghost use Rattle.dram_model.specs.Chip.{Rose, Grew};
 ghost use Rattle.dram_model.specs.View.{HasBegun, Kept, Did, DidRead, NotBegun};
 ghost use Rattle.dram_model.specs.Elements.{FailedBelow};
-ghost use Rattle.uprog_code.specs.Shape.{microprograms_of};
 ghost use Rattle.object_alloc.specs.Reading.{rows_size};
 ghost use Rattle.object_alloc.specs.Spelling.{image_bytes};
 ghost use Rattle.bbop_isa.specs.Forms.{view_of};
@@ -31,12 +30,13 @@ use host_edge::{Failed, Sink};
 use machine_model::Reply;
 use object_alloc::{HEAD_BYTES, Image, OBJECTS_MAX, RECORD_BYTES, Table, put_head};
 use std::alloc::Global;
-use uprog_code::{Program, WALK_MAX};
+use uprog_bin::ProgView;
+use uprog_code::WALK_MAX;
 
 /// A table of objects over a chip, and all memory that a script takes.
 #[derive(Drop)]
-pub struct Machine {
-    program: Program,
+pub struct Machine<'a> {
+    prog: ProgView<'a>,
     geometry: Geometry,
     table: Table,
     stage: Vec<u64>,
@@ -114,23 +114,23 @@ fn begin<D: Dram>(g: Geometry, rows: &[u8], stage: &mut [u64], dram: &mut D) -> 
     }
 }
 
-impl Machine {
+impl<'a> Machine<'a> {
     /// Takes all memory that a script needs, begins the chip and gives it the image's rows, bank by
     /// bank and rows upwards.
     pub fn open<D: Dram>(
-        program: Program,
+        prog: ProgView<'a>,
         image: Image<'_>,
         dram: &mut D,
         alloc: Global,
-    ) -> Result<Machine, StartNo>
-        requires set { IsSetting image.geometry image.table (microprograms_of program) }
+    ) -> Result<Machine<'a>, StartNo>
+        requires set { IsSetting image.geometry image.table }
         requires rows { length image.rows.now ≡ rows_size image.geometry }
         ensures borrow { D.borrow dram.new ≡ D.borrow dram.old }
         ensures faults { (D.view dram.old).faults ≤ (D.view dram.new).faults }
         ensures opened { OnOk result (Opened image.entry.geometry image.entry.rows.now
             (D.view dram.new)) }
         ensures ready { IfOk result IsReady }
-        ensures program { IfOk result (λ machine. program_of machine ≡ microprograms_of program) }
+        ensures program { IfOk result (λ machine. program_of machine ≡ prog.entry.programs) }
         ensures shape { IfOk result (λ machine. geometry_of machine ≡ image.entry.geometry) }
         ensures table { IfOk result (λ machine. table_in machine ≡ image.entry.table.pairs) }
         ensures failed { IsErrOf result StartNo.ChipFault
@@ -142,7 +142,7 @@ impl Machine {
         let file = make_file(image.geometry, alloc)?;
         begin(image.geometry, image.rows, &mut stage, dram)?;
         Ok(Machine {
-            program,
+            prog,
             geometry: image.geometry,
             table: image.table,
             stage,
@@ -190,7 +190,7 @@ impl Machine {
         let setting = Setting {
             geometry: self.geometry,
             table: &self.table,
-            entries: self.program.entries.as_slice(),
+            prog: &self.prog,
         };
         do_bbop(&setting, op, &bbop, dram)
     }

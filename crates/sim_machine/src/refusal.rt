@@ -5,7 +5,8 @@ ghost use Rattle.std.specs.Prelude.{◌||◌, [], List, Bool, Option, Some, None
 ghost use Rattle.std.specs.Prelude.{IfSome, IfOk, IfErr, OnOk};
 ghost use Rattle.std.specs.Option.{option_map, option_to_list};
 ghost use Rattle.std.specs.Str.{bytes_eq};
-ghost use Rattle.uprog_code.specs.Shape.{microprogram_of, need, shape_of, width, results};
+ghost use Rattle.uprog_code.specs.Shape.{need, shape_of, width, results};
+ghost use Rattle.uprog_bin.specs.Opened.{code_of, program_of};
 ghost use Rattle.uprog_code.specs.Legal.{IsLegalCode};
 ghost use Rattle.machine_model.specs.declared.Why.{Why};
 ghost use Rattle.sim_machine.specs.Granted.{IsGranted};
@@ -20,7 +21,8 @@ use bit_rows::WIDTH_MAX;
 use machine_model::Why;
 use object_alloc::{Object, Table};
 use text_lex::Name;
-use uprog_code::{Counts, EntryCode, Head, Kind, walk};
+use uprog_bin::Entry;
+use uprog_code::{Counts, Fetch, Head, Kind, walk};
 
 /// What is read of a name that no object has.
 const NOTHING: Object = Object {
@@ -261,21 +263,21 @@ pub(crate) struct Grant {
 }
 
 /// The row commands and the scratch of an operation at width n.
-fn granted(table: &Table, entry: &EntryCode, n: u8) -> Result<Grant, Why>
-    requires legal { IsLegalCode (shape_of entry.now.head) entry.now.code.items }
+fn granted(table: &Table, entry: &Entry<'_>, n: u8) -> Result<Grant, Why>
+    requires legal { IsLegalCode entry.now.shape (code_of entry.now) }
     requires some { 0 < n }
     requires narrow { n ≤ WIDTH_MAX }
     ensures refused { IfErr result (λ why. first
-        (grant_conditions table.now.limit table.now.pairs (operation_of (microprogram_of entry.now))
+        (grant_conditions table.now.limit table.now.pairs (operation_of (program_of entry.now))
         n) ≡ Some why) }
     ensures granted { IfOk result (IsGranted table.now.limit table.now.pairs
-        (microprogram_of entry.now) n) }
+        (program_of entry.now) n) }
 {
     let counts = match walk(entry, n) {
         Ok(counts) => counts,
         Err(walk) => return Err(Why::BadWalk(walk)),
     };
-    match table.find_rows(scratch_rows(&entry.head, n)) {
+    match table.find_rows(scratch_rows(&entry.head(), n)) {
         Some(scratch) => Ok(Grant { counts, scratch }),
         None => Err(Why::NoRows),
     }
@@ -283,24 +285,25 @@ fn granted(table: &Table, entry: &EntryCode, n: u8) -> Result<Grant, Why>
 
 /// What a bbop of this entry is granted, or the first condition that refuses it, in the order of
 /// the table.
-pub(crate) fn allow(table: &Table, entry: &EntryCode, bbop: &Bbop<'_>) -> Result<Grant, Why>
+pub(crate) fn allow(table: &Table, entry: &Entry<'_>, bbop: &Bbop<'_>) -> Result<Grant, Why>
     requires few { length bbop.now.srcs.now ≤ 5 }
-    requires legal { IsLegalCode (shape_of entry.now.head) entry.now.code.items }
+    requires legal { IsLegalCode entry.now.shape (code_of entry.now) }
     requires some { 0 < bbop.now.n }
     requires narrow { bbop.now.n ≤ WIDTH_MAX }
     ensures refused { IfErr result (λ why. first
-        (bbop_conditions table.now.limit table.now.pairs (operation_of (microprogram_of entry.now))
+        (bbop_conditions table.now.limit table.now.pairs (operation_of (program_of entry.now))
         (bbop.now.dst.now ∷ bbop.now.srcs.now) bbop.now.count bbop.now.n) ≡ Some why) }
     ensures allowed { OnOk result (first (bbop_conditions table.now.limit table.now.pairs
-        (operation_of (microprogram_of entry.now)) (bbop.now.dst.now ∷ bbop.now.srcs.now)
+        (operation_of (program_of entry.now)) (bbop.now.dst.now ∷ bbop.now.srcs.now)
         bbop.now.count bbop.now.n) ≡ None) }
     ensures granted { IfOk result (IsGranted table.now.limit table.now.pairs
-        (microprogram_of entry.now) bbop.now.n) }
+        (program_of entry.now) bbop.now.n) }
 {
-    if bbop.srcs.len() != other_kinds(&entry.head).len() {
+    let head = entry.head();
+    if bbop.srcs.len() != other_kinds(&head).len() {
         return Err(Why::Arity);
     }
-    if let Some(why) = operands_refusal(table, &entry.head, bbop) {
+    if let Some(why) = operands_refusal(table, &head, bbop) {
         return Err(why);
     }
     granted(table, entry, bbop.n)

@@ -4,7 +4,7 @@ use Rattle.dram_model.specs.declared.geometry.Geometry.{Geometry}
 use Rattle.dram_model.specs.View.{Did}
 use Rattle.dram_model.specs.Elements.{FailedBelow}
 use Rattle.dram_model.proofs.EventLaws.{Kept-more}
-use Rattle.uprog_code.specs.Shape.{microprogram_of}
+use Rattle.uprog_bin.specs.Opened.{program_of}
 use Rattle.uprog_code.specs.Machine.{trace, issues_of}
 use Rattle.uprog_ctl.specs.Events.{trace_events}
 use Rattle.uprog_ctl.proofs.Left.{others-stay}
@@ -19,7 +19,7 @@ on_err (Err e) p = p
 
 pub run-requires-clause-ends : goal.run-requires-clause-ends
 run-requires-clause-ends g c =
-    let m = microprogram_of c.args.entry.now in
+    let m = program_of c.args.entry.now in
     has_ended (trace m.shape m.code c.args.binding.now.n) c.args.counts c.requires.walks
 
 pub run-requires-clause-aap_room : goal.run-requires-clause-aap_room
@@ -38,7 +38,7 @@ run-requires-clause-ap_room g c =
 
 pub loop-bank-preserved : goal.loop-bank-preserved
 loop-bank-preserved g c =
-    let m = microprogram_of c.args.entry.now in
+    let m = program_of c.args.entry.now in
     let b = c.args.binding.now in
     let bank = c.loop-bank.bank in
     let first = g.D.Dram.view c.args.dram.now in

@@ -1,6 +1,6 @@
 use Rattle.std.proofs.Common.{◌≡◌, ℕ, ◌≤◌}
 use Rattle.dram_model.specs.View.{Kept, Did}
-use Rattle.uprog_code.specs.Shape.{microprogram_of}
+use Rattle.uprog_bin.specs.Opened.{program_of}
 use Rattle.machine_model.specs.Script.{with_counts}
 use Rattle.machine_model.specs.Steps.{times}
 use Rattle.sim_machine.specs.Granted.{banks_events}
@@ -15,7 +15,7 @@ invariant-loop-bank g l =
     record {
       borrow : D.borrow l.dram ≡ D.borrow l.initial.dram;
       kept : Kept first now;
-      did : Did (banks_events first.geometry.rows (microprogram_of l.entry) l.binding l.bank)
+      did : Did (banks_events first.geometry.rows (program_of l.entry) l.binding l.bank)
           first now;
       counters : now.counters ≡ with_counts first.counters (times l.bank l.fn.counts);
       others : (b : ℕ) → l.bank ≤ b → now.banks b ≡ first.banks b;
