@@ -4,10 +4,12 @@ pub mod Programs
 pub mod Inputs
 pub mod Stops
 pub mod Reads
+pub mod Job
 pub mod Run
 pub mod Works
 pub mod Ends
 pub mod Headline
+pub mod Exec
 pub mod Compile
 pub mod Show
 pub mod Migrate

@@ -7,7 +7,7 @@ use Rattle.machine_model.specs.Operations.{Program, operations_in}
 use Rattle.machine_model.specs.Opened.{Image, row_writes, opened}
 use Rattle.machine_model.specs.Pieces.{script_events}
 use Rattle.machine_model.specs.Script.{banks_at_end}
-use Rattle.simdram_cli.specs.Run.{opened_counters, tally_by, refused_by}
+use Rattle.simdram_cli.specs.Job.{opened_counters, tally_by, refused_by}
 
 -- the chip has begun and taken the rows of the image
 pub record OpenedOn (i : Image) (chip : ChipView) : Type 0 where

@@ -3,6 +3,8 @@
 
 mod compile;
 mod counted;
+mod exec;
+mod job;
 mod load;
 mod migrate;
 mod perform;
@@ -16,6 +18,6 @@ mod work;
 pub use stop::{Stop, status_of, tell};
 pub use top::{one_job, simdram};
 pub use words::{
-    Command, CompileNames, IMAGE_MAX, MigrateNames, OPS_MAX, PROG_MAX, RunNames, SCRIPT_MAX,
+    Command, CompileNames, ExecNames, IMAGE_MAX, MigrateNames, OPS_MAX, PROG_MAX, RunNames, SCRIPT_MAX,
     command_of, limits,
 };

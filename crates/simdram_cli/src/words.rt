@@ -2,6 +2,7 @@
 
 ghost use Rattle.std.specs.Prelude.{◌≡◌, ◌^◌, [], ◌∷◌};
 ghost use Rattle.simdram_cli.specs.Words.{all_differ, are_apart, command_of, command_on_two};
+ghost use Rattle.simdram_cli.specs.Words.{three_apart};
 
 use bit_rows::WIDTH_MAX;
 use object_alloc::IMAGE_BYTES_MAX;
@@ -36,6 +37,15 @@ pub struct RunNames<'a> {
     pub out: &'a str,
 }
 
+/// The files of `exec`.
+#[derive(Clone, Copy)]
+pub struct ExecNames<'a> {
+    pub prog: &'a str,
+    pub script: &'a str,
+    pub image: &'a str,
+    pub out: &'a str,
+}
+
 /// The files of `migrate`.
 #[derive(Clone, Copy)]
 pub struct MigrateNames<'a> {
@@ -54,6 +64,7 @@ pub struct CompileNames<'a> {
 #[derive(Clone, Copy)]
 pub enum Command<'a> {
     Run(RunNames<'a>),
+    Exec(ExecNames<'a>),
     Compile(CompileNames<'a>),
     Show(&'a str),
     Migrate(MigrateNames<'a>),
@@ -71,6 +82,13 @@ fn are_apart(ops: &str, prog: &str, script: &str, image: &str, out: &str) -> boo
     ensures { result ≡ are_apart ops.now prog.now script.now image.now out.now }
 {
     all_differ(ops, prog, script, image) && all_differ(ops, prog, script, out)
+}
+
+/// Whether the four files are apart, but for IMAGE and OUT.
+fn three_apart(prog: &str, script: &str, image: &str, out: &str) -> bool
+    ensures { result ≡ three_apart prog.now script.now image.now out.now }
+{
+    (prog != script && prog != image && prog != out) && (script != image && script != out)
 }
 
 /// The command on two files.
@@ -101,6 +119,18 @@ pub fn command_of<'a>(words: &[&'a str]) -> Option<Command<'a>>
             if *verb == "run" && are_apart(ops, prog, script, image, out) {
                 Some(Command::Run(RunNames {
                     ops: *ops,
+                    prog: *prog,
+                    script: *script,
+                    image: *image,
+                    out: *out,
+                }))
+            } else {
+                None
+            }
+        }
+        [verb, prog, script, image, out] => {
+            if *verb == "exec" && three_apart(prog, script, image, out) {
+                Some(Command::Exec(ExecNames {
                     prog: *prog,
                     script: *script,
                     image: *image,
