@@ -11,6 +11,9 @@ pub mod Foreseen
 pub mod Loaded
 pub mod Migrating
 pub mod Compiling
+pub mod Accounting
+pub mod Commanding
+pub mod Initial
 pub mod Promised
 pub mod Ended
 pub mod Promising

@@ -1,7 +1,7 @@
 -- What the top call promises, from how a command ends.
 use Rattle.std.proofs.Common.{◌≡◌, ◌⊎◌, inl, inr, arith, ℕ, Bool, true, false, cond, List, [], ◌∷◌}
 use Rattle.std.proofs.Common.{◌+◌, Option, Some, None, refl, subst}
-use Rattle.std.specs.Prelude.{Result, Ok, Err, ◌↔◌, ◌&&◌, bytes_eq, codes}
+use Rattle.std.specs.Prelude.{Result, Ok, Err, ◌↔◌, codes}
 use denote.Ref.{Bor}
 use Rattle.bbop_isa.specs.Forms.{Instruction}
 use Rattle.machine_model.specs.Operations.{Program}
@@ -25,7 +25,13 @@ use Rattle.simdram_cli.specs.declared.words.MigrateNames.{MigrateNames}
 use Rattle.simdram_cli.specs.declared.words.TheConstants.{OPS_MAX, SCRIPT_MAX, IMAGE_MAX, PROG_MAX}
 use Rattle.simdram_cli.specs.declared.words.Command.{Command}
 use Rattle.simdram_cli.specs.declared.words.Command.TheVariants.{Run, Compile, Show, Migrate}
-use Rattle.simdram_cli.specs.Words.{command_of, are_apart, IsApart}
+use Rattle.simdram_cli.specs.declared.words.Command.TheVariants.{Cost, List as ListOf, Init}
+use Rattle.simdram_cli.specs.declared.words.InitNames.{InitNames}
+use Rattle.simdram_cli.specs.declared.account.Account.{Account}
+use Rattle.simdram_cli.specs.declared.account.Account.TheVariants.{Listing, Costs}
+use Rattle.simdram_cli.specs.Words.{command_of, IsApart}
+use Rattle.simdram_cli.specs.Accounts.{account_steps}
+use Rattle.simdram_cli.specs.Init.{init_steps}
 use Rattle.simdram_cli.specs.Reads.{refusal_of}
 use Rattle.simdram_cli.specs.Run.{Texts, run_steps, work_steps, line_steps, said_by, image_by}
 use Rattle.simdram_cli.specs.Run.{tally_by, refused_by}
@@ -34,133 +40,16 @@ use Rattle.simdram_cli.specs.Compile.{compile_steps}
 use Rattle.simdram_cli.specs.Show.{show_steps}
 use Rattle.simdram_cli.specs.Migrate.{migrate_steps}
 use Rattle.simdram_cli.specs.Programs.{prog_in, program_or_refusal}
+use Rattle.simdram_cli.proofs.Accounting.{accounted}
+use Rattle.simdram_cli.proofs.Commanding.{command_right}
 use Rattle.simdram_cli.proofs.Compiling.{compiled}
+use Rattle.simdram_cli.proofs.Initial.{started}
 use Rattle.simdram_cli.proofs.Migrating.{migrated}
 use Rattle.uprog_bin.specs.Reading.{program_in, ProgFault}
 use Rattle.simdram_cli.specs.Commands.{CanAnswer, CommandEnds, OnCommand, Promises}
 use Rattle.simdram_cli.proofs.Running.{apart}
 use Rattle.simdram_cli.proofs.Promised.{run_promised}
 use Rattle.simdram_cli.proofs.Showing.{show_shown}
-
--- the command on two files
-abbrev on_two : Bool → Bool → Bool → CompileNames → MigrateNames → Option Command
-on_two same compiles migrates c m = cond same None (cond compiles (Some (Compile c))
-    (cond migrates (Some (Migrate m)) None))
-
-picked : (b c : Bool) (r names : RunNames) → cond (b && c) (Some (Run r)) None ≡ Some (Run names)
-    → (c ≡ true) × (r ≡ names)
-picked true true r names e = (refl, cc)
-picked true false r names e = absurd (cc)
-picked false c r names e = absurd (cc)
-
-not_on_two : (same compiles migrates : Bool) (c : CompileNames) (m : MigrateNames)
-    (names : RunNames) → on_two same compiles migrates c m ≡ Some (Run names) → ⊥
-not_on_two true compiles migrates c m names e = cc
-not_on_two false true migrates c m names e = cc
-not_on_two false false true c m names e = cc
-not_on_two false false false c m names e = cc
-
-not_run : (b : Bool) (ops : Bor (List ℕ)) (names : RunNames)
-    → cond b (Some (Show ops)) None ≡ Some (Run names) → ⊥
-not_run true ops names e = cc
-not_run false ops names e = cc
-
-abbrev AreApart : RunNames → Type 0
-AreApart names = IsApart (Run names)
-
--- the files of a run are apart
-run_apart : (words : List (Bor (List ℕ))) (names : RunNames)
-    → command_of words ≡ Some (Run names) → AreApart names
-run_apart [] names e = absurd (cc)
-run_apart (a ∷ []) names e = absurd (cc)
-run_apart (a ∷ b ∷ []) names e = absurd (not_run (bytes_eq a.now (codes "show")) b names e)
-run_apart (a ∷ b ∷ c ∷ []) names e = absurd (not_on_two _ _ _ _ _ names e)
-run_apart (a ∷ b ∷ c ∷ d ∷ []) names e = absurd (cc)
-run_apart (a ∷ b ∷ c ∷ d ∷ f ∷ []) names e = absurd (cc)
-run_apart (verb ∷ ops ∷ prog ∷ script ∷ image ∷ out ∷ []) names e =
-    let r : RunNames = record {
-      ops = ops;
-      prog = prog;
-      script = script;
-      image = image;
-      out = out;
-    } in
-    let p = picked (bytes_eq verb.now (codes "run"))
-    (are_apart ops.now prog.now script.now image.now out.now) r names e in
-    subst AreApart p.1 p.0
-run_apart (a ∷ b ∷ c ∷ d ∷ f ∷ h ∷ i ∷ rest) names e = absurd (cc)
-
-not_shown : (b : Bool) (ops : Bor (List ℕ)) (names : MigrateNames)
-    → cond b (Some (Show ops)) None ≡ Some (Migrate names) → ⊥
-not_shown true ops names e = cc
-not_shown false ops names e = cc
-
-not_runs : (b : Bool) (r : RunNames) (names : MigrateNames)
-    → cond b (Some (Run r)) None ≡ Some (Migrate names) → ⊥
-not_runs true r names e = cc
-not_runs false r names e = cc
-
-migrates_two : (same compiles migrates : Bool) (c : CompileNames) (m names : MigrateNames)
-    → on_two same compiles migrates c m ≡ Some (Migrate names) → (same ≡ false) × (m ≡ names)
-migrates_two true compiles migrates c m names e = absurd (cc)
-migrates_two false true migrates c m names e = absurd (cc)
-migrates_two false false true c m names e = (refl, cc)
-migrates_two false false false c m names e = absurd (cc)
-
-compiles_two : (same compiles migrates : Bool) (c names : CompileNames) (m : MigrateNames)
-    → on_two same compiles migrates c m ≡ Some (Compile names) → (same ≡ false) × (c ≡ names)
-compiles_two true compiles migrates c names m e = absurd (cc)
-compiles_two false true migrates c names m e = (refl, cc)
-compiles_two false false true c names m e = absurd (cc)
-compiles_two false false false c names m e = absurd (cc)
-
-not_shown_compiled : (b : Bool) (ops : Bor (List ℕ)) (names : CompileNames)
-    → cond b (Some (Show ops)) None ≡ Some (Compile names) → ⊥
-not_shown_compiled true ops names e = cc
-not_shown_compiled false ops names e = cc
-
-not_run_compiled : (b : Bool) (r : RunNames) (names : CompileNames)
-    → cond b (Some (Run r)) None ≡ Some (Compile names) → ⊥
-not_run_compiled true r names e = cc
-not_run_compiled false r names e = cc
-
-migrate_apart : (words : List (Bor (List ℕ))) (names : MigrateNames)
-    → command_of words ≡ Some (Migrate names) → IsApart (Migrate names)
-migrate_apart [] names e = absurd (cc)
-migrate_apart (a ∷ []) names e = absurd (cc)
-migrate_apart (a ∷ b ∷ []) names e = absurd (not_shown _ b names e)
-migrate_apart (verb ∷ old ∷ new ∷ []) names e =
-    let p = migrates_two (bytes_eq old.now new.now) (bytes_eq verb.now (codes "compile"))
-    (bytes_eq verb.now (codes "migrate")) (record { ops = old; prog = new })
-    (record { old = old; new = new }) names e in
-    subst (λ (x : MigrateNames). bytes_eq x.old.now x.new.now ≡ false) p.1 p.0
-migrate_apart (a ∷ b ∷ c ∷ d ∷ []) names e = absurd (cc)
-migrate_apart (a ∷ b ∷ c ∷ d ∷ f ∷ []) names e = absurd (cc)
-migrate_apart (a ∷ b ∷ c ∷ d ∷ f ∷ g ∷ []) names e = absurd (not_runs _ _ names e)
-migrate_apart (a ∷ b ∷ c ∷ d ∷ f ∷ g ∷ i ∷ rest) names e = absurd (cc)
-
-compile_apart : (words : List (Bor (List ℕ))) (names : CompileNames)
-    → command_of words ≡ Some (Compile names) → IsApart (Compile names)
-compile_apart [] names e = absurd (cc)
-compile_apart (a ∷ []) names e = absurd (cc)
-compile_apart (a ∷ b ∷ []) names e = absurd (not_shown_compiled _ b names e)
-compile_apart (verb ∷ ops ∷ prog ∷ []) names e =
-    let p = compiles_two (bytes_eq ops.now prog.now) (bytes_eq verb.now (codes "compile"))
-    (bytes_eq verb.now (codes "migrate")) (record { ops = ops; prog = prog }) names
-    (record { old = ops; new = prog }) e in
-    subst (λ (x : CompileNames). bytes_eq x.ops.now x.prog.now ≡ false) p.1 p.0
-compile_apart (a ∷ b ∷ c ∷ d ∷ []) names e = absurd (cc)
-compile_apart (a ∷ b ∷ c ∷ d ∷ f ∷ []) names e = absurd (cc)
-compile_apart (a ∷ b ∷ c ∷ d ∷ f ∷ g ∷ []) names e = absurd (not_run_compiled _ _ names e)
-compile_apart (a ∷ b ∷ c ∷ d ∷ f ∷ g ∷ i ∷ rest) names e = absurd (cc)
-
--- the files of a command are apart
-pub command_apart : (words : List (Bor (List ℕ))) (command : Command)
-    → command_of words ≡ Some command → IsApart command
-command_apart words (Run names) e = run_apart words names e
-command_apart words (Compile names) e = compile_apart words names e
-command_apart words (Show name) e = tt
-command_apart words (Migrate names) e = migrate_apart words names e
 
 -- the statuses that the steps of a run and of a show can give
 
@@ -258,11 +147,27 @@ found_of : (P : ℕ → Type 0) (found : Result (ℕ × Program) ProgFault) → 
 found_of P (Ok found) five = tt
 found_of P (Err fault) five = five
 
-migrate_of : (P : ℕ → Type 0) (names : MigrateNames) (text : List ℕ) → P 2 → P 3 → P 5 → P 10
-    → P 11 → OfSteps P (migrate_steps names text)
-migrate_of P names text two three five ten eleven =
-    loading_of P names.old.now PROG_MAX text (prog_in text) _ two eleven ten
-    (found_of P (program_in text) five) (λ program. (three, (three, tt)))
+record GivesOfProg (P : ℕ → Type 0) : Type 0 where
+  two : P 2
+  three : P 3
+  five : P 5
+  ten : P 10
+  eleven : P 11
+
+migrate_of : (P : ℕ → Type 0) (names : MigrateNames) (text : List ℕ) → GivesOfProg P
+    → OfSteps P (migrate_steps names text)
+migrate_of P names text g =
+    loading_of P names.old.now PROG_MAX text (prog_in text) _ g.two g.eleven g.ten
+    (found_of P (program_in text) g.five) (λ program. (g.three, (g.three, tt)))
+
+account_of_prog : (P : ℕ → Type 0) (name : List ℕ) (account : Account) (text : List ℕ)
+    → GivesOfProg P → OfSteps P (account_steps name account text)
+account_of_prog P name account text g =
+    loading_of P name PROG_MAX text (prog_in text) _ g.two g.eleven g.ten
+    (found_of P (program_in text) g.five) (λ program. (g.ten, (g.three, tt)))
+
+init_of : (P : ℕ → Type 0) (names : InitNames) → P 3 → P 10 → OfSteps P (init_steps names)
+init_of P names three ten = (ten, (three, tt))
 
 -- a command answers one of its statuses
 pub can_answer : (command : Command) (old new : World) (status : ℕ)
@@ -287,7 +192,22 @@ can_answer (Show name) old new status e =
 can_answer (Migrate names) old new status e =
     let P : ℕ → Type 0 = CanAnswer (Migrate names) in
     ends_so P (migrate_steps names e.text) 0 old new status refl
-    (migrate_of P names e.text refl refl refl refl refl) e.ends
+    (migrate_of P names e.text
+    (record { two = refl; three = refl; five = refl; ten = refl; eleven = refl })) e.ends
+can_answer (Cost names) old new status e =
+    let P : ℕ → Type 0 = CanAnswer (Cost names) in
+    let account = Costs names.width in
+    ends_so P (account_steps names.prog.now account e.text) 0 old new status refl
+    (account_of_prog P names.prog.now account e.text
+    (record { two = refl; three = refl; five = refl; ten = refl; eleven = refl })) e.ends
+can_answer (ListOf name) old new status e =
+    let P : ℕ → Type 0 = CanAnswer (ListOf name) in
+    ends_so P (account_steps name.now Listing e.text) 0 old new status refl
+    (account_of_prog P name.now Listing e.text
+    (record { two = refl; three = refl; five = refl; ten = refl; eleven = refl })) e.ends
+can_answer (Init names) old new status e =
+    let P : ℕ → Type 0 = CanAnswer (Init names) in
+    ends_so P (init_steps names) 0 old new status refl (init_of P names refl refl) e
 
 not_one : (command : Command) (status : ℕ) → CanAnswer command status → status ≡ 1 → ⊥
 not_one (Run names) status can e =
@@ -298,6 +218,12 @@ not_one (Show name) status can e =
     let one : CanAnswer (Show name) 1 = subst (CanAnswer (Show name)) e can in cc
 not_one (Migrate names) status can e =
     let one : CanAnswer (Migrate names) 1 = subst (CanAnswer (Migrate names)) e can in cc
+not_one (Cost names) status can e =
+    let one : CanAnswer (Cost names) 1 = subst (CanAnswer (Cost names)) e can in cc
+not_one (ListOf name) status can e =
+    let one : CanAnswer (ListOf name) 1 = subst (CanAnswer (ListOf name)) e can in cc
+not_one (Init names) status can e =
+    let one : CanAnswer (Init names) 1 = subst (CanAnswer (Init names)) e can in cc
 
 no_command : (words : List (Bor (List ℕ))) (o : Option Command) (status : ℕ) → command_of words ≡ o
     → OnCommand words (λ command. CanAnswer command status) → status ≡ 1
@@ -326,6 +252,15 @@ gives_apart status is = record {
   eleven = apart_from_done status is 11 (λ f. cc) (λ f. cc);
 }
 
+apart_of_prog : (status : ℕ) → (status ≡ 0) ⊎ (status ≡ 8) → GivesOfProg (λ s. s ≡ status → ⊥)
+apart_of_prog status is = record {
+  two = apart_from_done status is 2 (λ f. cc) (λ f. cc);
+  three = apart_from_done status is 3 (λ f. cc) (λ f. cc);
+  five = apart_from_done status is 5 (λ f. cc) (λ f. cc);
+  ten = apart_from_done status is 10 (λ f. cc) (λ f. cc);
+  eleven = apart_from_done status is 11 (λ f. cc) (λ f. cc);
+}
+
 -- a command keeps what it promises
 pub promises : (command : Command) (old new : World) (status : ℕ) → IsApart command
     → CommandEnds command old new status → Promises command old new status
@@ -344,11 +279,21 @@ promises (Show name) old new status are e = λ is.
     show_shown name.now old new status e
     (show_of (λ s. s ≡ status → ⊥) name.now e.text e.ops (gives_apart status (inl is)))
 promises (Migrate names) old new status are e = λ is.
-    let apart = apart_from_done status (inl is) in
     migrated names old new status e
-    (migrate_of (λ s. s ≡ status → ⊥) names e.text (apart 2 (λ f. cc) (λ f. cc))
-    (apart 3 (λ f. cc) (λ f. cc)) (apart 5 (λ f. cc) (λ f. cc)) (apart 10 (λ f. cc) (λ f. cc))
-    (apart 11 (λ f. cc) (λ f. cc)))
+    (migrate_of (λ s. s ≡ status → ⊥) names e.text (apart_of_prog status (inl is)))
+promises (Cost names) old new status are e = λ is.
+    let account = Costs names.width in
+    accounted names.prog.now account old new status e
+    (account_of_prog (λ s. s ≡ status → ⊥) names.prog.now account e.text
+    (apart_of_prog status (inl is)))
+promises (ListOf name) old new status are e = λ is.
+    accounted name.now Listing old new status e
+    (account_of_prog (λ s. s ≡ status → ⊥) name.now Listing e.text (apart_of_prog status (inl is)))
+promises (Init names) old new status are e = λ is.
+    let apart = apart_from_done status (inl is) in
+    started names old new status e
+    (init_of (λ s. s ≡ status → ⊥) names (apart 3 (λ f. cc) (λ f. cc)) (apart 10 (λ f. cc) (λ f.
+    cc)))
 
 -- the words are this command and no other
 pub on_command : (words : List (Bor (List ℕ))) (command : Command) (P : Command → Type 0)
@@ -377,4 +322,4 @@ pub keeps_promises : (words : List (Bor (List ℕ))) (command : Command) (old ne
     → OnCommand words (λ c. Promises c old new status)
 keeps_promises words command old new status e ends =
     on_command words command (λ c. Promises c old new status) e
-    (promises command old new status (command_apart words command e) ends)
+    (promises command old new status (command_right words command e).apart ends)

@@ -4,8 +4,11 @@ use Rattle.std.specs.List.{list_any}
 use denote.Ref.{Bor}
 use Rattle.host_edge.specs.Views.{Told}
 use Rattle.cli_model.specs.World.{World}
+use Rattle.cli_model.specs.Ends.{Ends}
 use Rattle.simdram_cli.specs.declared.words.Command.{Command}
 use Rattle.simdram_cli.specs.declared.words.Command.TheVariants.{Run, Exec, Compile, Show, Migrate}
+use Rattle.simdram_cli.specs.declared.words.Command.TheVariants.{Cost, List as ListOf, Init}
+use Rattle.simdram_cli.specs.declared.account.Account.TheVariants.{Listing, Costs}
 use Rattle.simdram_cli.specs.Words.{command_of}
 use Rattle.simdram_cli.specs.Ends.{RunEnds}
 use Rattle.simdram_cli.specs.Headline.{Headline}
@@ -13,6 +16,8 @@ use Rattle.simdram_cli.specs.Exec.{ExecEnds, Executed}
 use Rattle.simdram_cli.specs.Compile.{CompileEnds, Compiled}
 use Rattle.simdram_cli.specs.Show.{ShowEnds, Shown}
 use Rattle.simdram_cli.specs.Migrate.{MigrateEnds, Migrated}
+use Rattle.simdram_cli.specs.Accounts.{AccountEnds, Accounted}
+use Rattle.simdram_cli.specs.Init.{init_steps, Started}
 
 -- the statuses that a command can answer
 abbrev pub statuses : Command → List ℕ
@@ -21,6 +26,9 @@ statuses (Exec names) = 0 ∷ 2 ∷ 3 ∷ 5 ∷ 6 ∷ 7 ∷ 8 ∷ 9 ∷ 10 ∷ 1
 statuses (Compile names) = 0 ∷ 2 ∷ 3 ∷ 4 ∷ 10 ∷ 11 ∷ []
 statuses (Show name) = 0 ∷ 2 ∷ 3 ∷ 4 ∷ 10 ∷ 11 ∷ []
 statuses (Migrate names) = 0 ∷ 2 ∷ 3 ∷ 5 ∷ 10 ∷ 11 ∷ []
+statuses (Cost names) = 0 ∷ 2 ∷ 3 ∷ 5 ∷ 10 ∷ 11 ∷ []
+statuses (ListOf name) = 0 ∷ 2 ∷ 3 ∷ 5 ∷ 10 ∷ 11 ∷ []
+statuses (Init names) = 0 ∷ 3 ∷ 10 ∷ []
 
 abbrev pub CanAnswer : Command → ℕ → Type 0
 CanAnswer command status = list_any (λ s. s == status) (statuses command) ≡ true
@@ -32,6 +40,10 @@ CommandEnds (Exec names) old new status = ExecEnds names old new status
 CommandEnds (Compile names) old new status = CompileEnds names old new status
 CommandEnds (Show name) old new status = ShowEnds name.now old new status
 CommandEnds (Migrate names) old new status = MigrateEnds names old new status
+CommandEnds (Cost names) old new status =
+    AccountEnds names.prog.now (Costs names.width) old new status
+CommandEnds (ListOf name) old new status = AccountEnds name.now Listing old new status
+CommandEnds (Init names) old new status = Ends (init_steps names) 0 old new status
 
 -- what it promises when it ends as it should, where the folder tells its files
 abbrev pub Promises : Command → World → World → ℕ → Type 0
@@ -47,6 +59,14 @@ Promises (Show name) old new status = status ≡ 0
     → IfSome old.files.holds (λ before. Shown name.now before old new)
 Promises (Migrate names) old new status = status ≡ 0
     → Told (λ before after. Migrated names before after old new) old.files.holds new.files.holds
+Promises (Cost names) old new status = status ≡ 0
+    → Told (λ before after. Accounted names.prog.now (Costs names.width) before after old new)
+    old.files.holds new.files.holds
+Promises (ListOf name) old new status = status ≡ 0
+    → Told (λ before after. Accounted name.now Listing before after old new) old.files.holds
+    new.files.holds
+Promises (Init names) old new status = status ≡ 0
+    → Told (λ before after. Started names before after old new) old.files.holds new.files.holds
 
 -- where the words are a command
 abbrev pub OnCommand : List (Bor (List ℕ)) → (Command → Type 0) → Type 0

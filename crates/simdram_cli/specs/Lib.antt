@@ -13,4 +13,6 @@ pub mod Exec
 pub mod Compile
 pub mod Show
 pub mod Migrate
+pub mod Accounts
+pub mod Init
 pub mod Commands

@@ -1,11 +1,17 @@
 -- The words of a command.
 use Rattle.std.specs.Prelude.{◌≡◌, ℕ, Bool, true, false, not, ◌&&◌, List, [], ◌∷◌, Option, Some}
-use Rattle.std.specs.Prelude.{None}
+use Rattle.std.specs.Prelude.{None, ◌<◌, ◌≤◌, nat_le}
 use Rattle.std.specs.Prelude.{bytes_eq, codes, if◌then◌else◌}
+use Rattle.std.specs.Char.{is_ascii_digit}
 use Rattle.std.specs.List.{list_all}
+use Rattle.std.specs.Str.Parse.{digits_value}
 use denote.Ref.{Bor}
+use Rattle.bit_rows.specs.declared.TheConstants.{WIDTH_MAX}
+use Rattle.dram_model.specs.declared.geometry.Geometry.{Geometry}
+use Rattle.dram_model.specs.Geometry.{is_geometry}
 use Rattle.simdram_cli.specs.declared.words.Command.{Command}
 use Rattle.simdram_cli.specs.declared.words.Command.TheVariants.{Run, Exec, Compile, Show, Migrate}
+use Rattle.simdram_cli.specs.declared.words.Command.TheVariants.{Cost, List as ListOf, Init}
 
 -- no two are equal
 abbrev pub all_differ : List (List ℕ) → Bool
@@ -18,10 +24,9 @@ are_apart ops prog script image out = all_differ (ops ∷ prog ∷ script ∷ im
     && all_differ (ops ∷ prog ∷ script ∷ out ∷ [])
 
 -- and so are the four files of an execution
-abbrev pub three_apart : List ℕ → List ℕ → List ℕ → List ℕ → Bool
-three_apart prog script image out =
-    (not (bytes_eq prog script) && not (bytes_eq prog image) && not (bytes_eq prog out))
-    && (not (bytes_eq script image) && not (bytes_eq script out))
+abbrev pub inputs_apart : List ℕ → List ℕ → List ℕ → List ℕ → Bool
+inputs_apart prog script image out =
+    all_differ (prog ∷ script ∷ image ∷ []) && all_differ (prog ∷ script ∷ out ∷ [])
 
 -- the command on two files that are apart
 abbrev pub command_on_two : List ℕ → Bor (List ℕ) → Bor (List ℕ) → Option Command
@@ -30,27 +35,73 @@ command_on_two verb first second =
     else if bytes_eq verb (codes "migrate")
     then Some (Migrate (record { old = first; new = second })) else None
 
+-- a word that is decimal digits, and the number that they write, however many they are
+abbrev pub is_number : List ℕ → Bool
+is_number [] = false
+is_number (digit ∷ digits) = list_all is_ascii_digit (digit ∷ digits)
+
+abbrev pub value_of : List ℕ → ℕ
+value_of word = digits_value 10 word
+
+-- `cost`, where its number is a width
+abbrev pub cost_on : Bor (List ℕ) → List ℕ → Option Command
+cost_on prog width =
+    if is_number width && (nat_le 1 (value_of width) && nat_le (value_of width) WIDTH_MAX)
+    then Some (Cost (record { prog = prog; width = value_of width })) else None
+
+-- `init`, where its numbers are a chip's
+abbrev pub init_on : (banks rows words : List ℕ) → Bor (List ℕ) → Option Command
+init_on banks rows words out =
+    let g : Geometry = record { banks = value_of banks; rows = value_of rows; words = value_of words } in
+    if is_number banks && (is_number rows && (is_number words && is_geometry g))
+    then Some (Init (record { geometry = g; out = out })) else None
+
+-- the command on one file
+abbrev pub command_on_one : List ℕ → Bor (List ℕ) → Option Command
+command_on_one verb file =
+    if bytes_eq verb (codes "show") then Some (Show file)
+    else if bytes_eq verb (codes "list") then Some (ListOf file) else None
+
+-- the command of four words behind its own
+abbrev pub command_on_four : List ℕ → (first second third fourth : Bor (List ℕ)) → Option Command
+command_on_four verb first second third fourth =
+    if bytes_eq verb (codes "init") then init_on first.now second.now third.now fourth
+    else if bytes_eq verb (codes "exec")
+    && inputs_apart first.now second.now third.now fourth.now
+    then Some (Exec (record { prog = first; script = second; image = third; out = fourth }))
+    else None
+
 -- the command that the words are: `run OPS PROG SCRIPT IMAGE OUT`, `exec PROG SCRIPT IMAGE OUT`,
--- `compile OPS PROG`, `show OPS` or `migrate OLD NEW`
+-- `compile OPS PROG`, `show OPS`, `migrate OLD NEW`, `cost PROG N`, `list PROG` or
+-- `init BANKS ROWS WORDS OUT`
 abbrev pub command_of : List (Bor (List ℕ)) → Option Command
 command_of (verb ∷ ops ∷ prog ∷ script ∷ image ∷ out ∷ []) =
     if bytes_eq verb.now (codes "run") && are_apart ops.now prog.now script.now image.now out.now
     then Some (Run (record { ops = ops; prog = prog; script = script; image = image; out = out }))
     else None
-command_of (verb ∷ prog ∷ script ∷ image ∷ out ∷ []) =
-    if bytes_eq verb.now (codes "exec") && three_apart prog.now script.now image.now out.now
-    then Some (Exec (record { prog = prog; script = script; image = image; out = out })) else None
+command_of (verb ∷ first ∷ second ∷ third ∷ fourth ∷ []) =
+    command_on_four verb.now first second third fourth
 command_of (verb ∷ first ∷ second ∷ []) =
-    if bytes_eq first.now second.now then None else command_on_two verb.now first second
-command_of (verb ∷ ops ∷ []) = if bytes_eq verb.now (codes "show") then Some (Show ops) else None
+    if bytes_eq verb.now (codes "cost") then cost_on first second.now
+    else if bytes_eq first.now second.now then None else command_on_two verb.now first second
+command_of (verb ∷ file ∷ []) = command_on_one verb.now file
 command_of _ = None
 
 -- the files of a command are apart
 abbrev pub IsApart : Command → Type 0
 IsApart (Run names) = are_apart names.ops.now names.prog.now names.script.now names.image.now
     names.out.now ≡ true
-IsApart (Exec names) = three_apart names.prog.now names.script.now names.image.now names.out.now
+IsApart (Exec names) = inputs_apart names.prog.now names.script.now names.image.now names.out.now
     ≡ true
 IsApart (Compile names) = bytes_eq names.ops.now names.prog.now ≡ false
 IsApart (Show name) = Unit {0}
 IsApart (Migrate names) = bytes_eq names.old.now names.new.now ≡ false
+IsApart (Cost names) = Unit {0}
+IsApart (ListOf name) = Unit {0}
+IsApart (Init names) = Unit {0}
+
+-- the numbers of a command are a width, or a chip's
+abbrev pub HasNumbers : Command → Type 0
+HasNumbers (Cost names) = (0 < names.width) × (names.width ≤ WIDTH_MAX)
+HasNumbers (Init names) = is_geometry names.geometry ≡ true
+HasNumbers _ = Unit {0}

@@ -1,9 +1,11 @@
 //! The top of the program: the words of a command, its exit statuses and last lines.
 #![tactic(auto)]
 
+mod account;
 mod compile;
 mod counted;
 mod exec;
+mod init;
 mod job;
 mod load;
 mod migrate;
@@ -18,6 +20,6 @@ mod work;
 pub use stop::{Stop, status_of, tell};
 pub use top::{one_job, simdram};
 pub use words::{
-    Command, CompileNames, ExecNames, IMAGE_MAX, MigrateNames, OPS_MAX, PROG_MAX, RunNames, SCRIPT_MAX,
-    command_of, limits,
+    Command, CompileNames, CostNames, ExecNames, IMAGE_MAX, InitNames, MigrateNames, OPS_MAX,
+    PROG_MAX, RunNames, SCRIPT_MAX, command_of, limits,
 };

@@ -2,26 +2,34 @@
 
 ghost use Rattle.std.specs.Prelude.{◌≡◌, ◌↔◌, codes, true, None};
 ghost use Rattle.dram_model.specs.View.{ChipView};
+ghost use Rattle.dram_model.specs.Geometry.{is_geometry};
 ghost use Rattle.host_edge.specs.Views.{FolderView};
 ghost use Rattle.cli_model.specs.World.{world};
+ghost use Rattle.cli_model.specs.Ends.{Ends};
 ghost use Rattle.cli_model.specs.Status.{Says, Tells};
+ghost use Rattle.simdram_cli.specs.Accounts.{AccountEnds, IsAsked};
 ghost use Rattle.simdram_cli.specs.Commands.{CanAnswer, CommandEnds, OnCommand, Promises};
 ghost use Rattle.simdram_cli.specs.Compile.{CompileEnds};
 ghost use Rattle.simdram_cli.specs.Ends.{RunEnds, answer_to};
 ghost use Rattle.simdram_cli.specs.Exec.{ExecEnds};
 ghost use Rattle.simdram_cli.specs.Headline.{OneJob};
+ghost use Rattle.simdram_cli.specs.Init.{init_steps};
 ghost use Rattle.simdram_cli.specs.Migrate.{MigrateEnds};
 ghost use Rattle.simdram_cli.specs.Show.{ShowEnds};
 ghost use Rattle.simdram_cli.specs.Stops.{end_of};
-ghost use Rattle.simdram_cli.specs.Words.{IsApart, are_apart, command_of, three_apart};
+ghost use Rattle.simdram_cli.specs.Words.{HasNumbers, IsApart, are_apart, command_of};
 
+use crate::account::{Account, give_account};
 use crate::compile::compile;
 use crate::exec::exec;
+use crate::init::init;
 use crate::migrate::migrate;
 use crate::run::run;
 use crate::show::show;
 use crate::stop::{Stop, status_of, tell};
-use crate::words::{Command, CompileNames, ExecNames, MigrateNames, RunNames, command_of};
+use crate::words::{
+    Command, CompileNames, ExecNames, InitNames, MigrateNames, RunNames, command_of,
+};
 use dram_model::Dram;
 use host_edge::{Folder, Sink};
 use std::alloc::Global;
@@ -70,8 +78,6 @@ fn exec_and_answer<F: Folder, S: Sink, D: Dram>(
     chip: &mut D,
     alloc: Global,
 ) -> u8
-    requires apart { three_apart names.now.prog.now names.now.script.now names.now.image.now
-        names.now.out.now ≡ true }
     ensures borrow { D.borrow chip.new ≡ D.borrow chip.old }
     ensures ends { ExecEnds names.now
         (world (F.view files.old) (S.view out.old) (D.view chip.old))
@@ -121,6 +127,39 @@ fn migrate_and_answer<F: Folder, S: Sink>(
     answer(ended, out)
 }
 
+/// Gives an account of a program, and tells why it stopped if it did.
+fn account_and_answer<F: Folder, S: Sink>(
+    name: &str,
+    account: Account,
+    files: &mut F,
+    out: &mut S,
+    alloc: Global,
+) -> u8
+    requires { IsAsked account }
+    ensures { (chip : ChipView) → AccountEnds name.now account
+        (world (F.view files.old) (S.view out.old) chip)
+        (world (F.view files.new) (S.view out.new) chip) result }
+{
+    let ended = give_account(name, account, files, out, alloc);
+    answer(ended, out)
+}
+
+/// Stores an empty image, and tells why it stopped if it did.
+fn init_and_answer<F: Folder, S: Sink>(
+    names: &InitNames<'_>,
+    files: &mut F,
+    out: &mut S,
+    alloc: Global,
+) -> u8
+    requires { is_geometry names.now.geometry ≡ true }
+    ensures { (chip : ChipView) → Ends (init_steps names.now) 0
+        (world (F.view files.old) (S.view out.old) chip)
+        (world (F.view files.new) (S.view out.new) chip) result }
+{
+    let ended = init(names, files, alloc);
+    answer(ended, out)
+}
+
 /// Does a command.
 fn dispatch<F: Folder, S: Sink, D: Dram>(
     command: &Command<'_>,
@@ -130,6 +169,7 @@ fn dispatch<F: Folder, S: Sink, D: Dram>(
     alloc: Global,
 ) -> u8
     requires apart { IsApart command.now }
+    requires numbers { HasNumbers command.now }
     ensures borrow { D.borrow chip.new ≡ D.borrow chip.old }
     ensures ends { CommandEnds command.now
         (world (F.view files.old) (S.view out.old) (D.view chip.old))
@@ -141,15 +181,21 @@ fn dispatch<F: Folder, S: Sink, D: Dram>(
         Command::Compile(names) => compile_and_answer(names, files, out, alloc),
         Command::Show(name) => show_and_answer(*name, files, out, alloc),
         Command::Migrate(names) => migrate_and_answer(names, files, out, alloc),
+        Command::Cost(names) => {
+            account_and_answer(names.prog, Account::Costs(names.width), files, out, alloc)
+        }
+        Command::List(name) => account_and_answer(*name, Account::Listing, files, out, alloc),
+        Command::Init(names) => init_and_answer(names, files, out, alloc),
     }
 }
 
 /// Does the command that the words are, without the program's name: `run OPS PROG SCRIPT IMAGE OUT`
 /// compiles the operations of OPS, stores PROG, does SCRIPT on IMAGE with the program that PROG
 /// spells, puts the report and stores OUT; `exec PROG SCRIPT IMAGE OUT` does the same with the
-/// program of a file; `compile OPS PROG` stores PROG and puts how many entries
-/// it has; `show OPS` puts the canonical text of the operations of OPS; `migrate OLD NEW` stores
-/// the version 2 file of OLD's program as NEW. The answer is the exit status.
+/// program of a file; `compile OPS PROG` stores PROG and puts how many entries it has; `show OPS` puts the canonical text of the operations of OPS; `migrate OLD NEW` stores
+/// the version 2 file of OLD's program as NEW; `cost PROG N` puts what each entry of PROG's program
+/// costs at width N, and `list PROG` its listing; `init BANKS ROWS WORDS OUT` stores the image of
+/// such a chip without objects, whose rows are zeros. The answer is the exit status.
 pub fn simdram<F: Folder, S: Sink, D: Dram>(
     words: &[&str],
     files: &mut F,

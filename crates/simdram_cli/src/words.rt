@@ -1,11 +1,17 @@
 //! The words of a command.
 
-ghost use Rattle.std.specs.Prelude.{◌≡◌, ◌^◌, [], ◌∷◌};
-ghost use Rattle.simdram_cli.specs.Words.{all_differ, are_apart, command_of, command_on_two};
-ghost use Rattle.simdram_cli.specs.Words.{three_apart};
+ghost use Rattle.std.specs.Prelude.{◌≡◌, ◌<◌, ◌^◌, [], ◌∷◌, true};
+ghost use Rattle.std.specs.Char.{is_ascii_digit};
+ghost use Rattle.std.specs.List.{list_all};
+ghost use Rattle.std.specs.Option.{SomeIff};
+ghost use Rattle.simdram_cli.specs.Words.{all_differ, are_apart, command_of, command_on_four};
+ghost use Rattle.simdram_cli.specs.Words.{command_on_one, inputs_apart};
+ghost use Rattle.simdram_cli.specs.Words.{command_on_two, cost_on, init_on, is_number, value_of};
 
 use bit_rows::WIDTH_MAX;
+use dram_model::Geometry;
 use object_alloc::IMAGE_BYTES_MAX;
+use text_lex::number;
 use uprog_code::WALK_MAX;
 
 /// The greatest length of each file, in bytes.
@@ -60,6 +66,20 @@ pub struct CompileNames<'a> {
     pub prog: &'a str,
 }
 
+/// The file of `cost`, and the width.
+#[derive(Clone, Copy)]
+pub struct CostNames<'a> {
+    pub prog: &'a str,
+    pub width: u8,
+}
+
+/// The shape of the image of `init`, and its file.
+#[derive(Clone, Copy)]
+pub struct InitNames<'a> {
+    pub geometry: Geometry,
+    pub out: &'a str,
+}
+
 /// A command, with its words.
 #[derive(Clone, Copy)]
 pub enum Command<'a> {
@@ -68,6 +88,9 @@ pub enum Command<'a> {
     Compile(CompileNames<'a>),
     Show(&'a str),
     Migrate(MigrateNames<'a>),
+    Cost(CostNames<'a>),
+    List(&'a str),
+    Init(InitNames<'a>),
 }
 
 /// Whether no two of four names are equal.
@@ -84,11 +107,119 @@ fn are_apart(ops: &str, prog: &str, script: &str, image: &str, out: &str) -> boo
     all_differ(ops, prog, script, image) && all_differ(ops, prog, script, out)
 }
 
-/// Whether the four files are apart, but for IMAGE and OUT.
-fn three_apart(prog: &str, script: &str, image: &str, out: &str) -> bool
-    ensures { result ≡ three_apart prog.now script.now image.now out.now }
+/// Whether no two of three names are equal.
+fn three_differ(a: &str, b: &str, c: &str) -> bool
+    ensures { result ≡ all_differ (a.now ∷ b.now ∷ c.now ∷ []) }
 {
-    (prog != script && prog != image && prog != out) && (script != image && script != out)
+    (a != b && a != c) && b != c
+}
+
+/// Whether the four files of an execution are apart, but for IMAGE and OUT.
+fn inputs_apart(prog: &str, script: &str, image: &str, out: &str) -> bool
+    ensures { result ≡ inputs_apart prog.now script.now image.now out.now }
+{
+    three_differ(prog, script, image) && three_differ(prog, script, out)
+}
+
+fn are_digits(bytes: &[u8]) -> bool
+    ensures { result ≡ list_all is_ascii_digit bytes.now }
+{
+    bytes.iter().all(|byte| byte.is_ascii_digit())
+}
+
+/// Whether the word is decimal digits, at least one.
+fn is_number(word: &[u8]) -> bool
+    ensures { result ≡ is_number word.now }
+{
+    match word {
+        [] => false,
+        [_, ..] => are_digits(word),
+    }
+}
+
+/// The number that a word's digits write, however many they are, if it is below 2^16.
+fn number_of(word: &str) -> Option<u16>
+    ensures { SomeIff result ((is_number word.now ≡ true) × (value_of word.now < 2 ^ 16))
+        (value_of word.now) }
+{
+    let digits = word.as_bytes();
+    if !is_number(digits) {
+        return None;
+    }
+    match number(digits) {
+        Some(value) if value < 65_536 => Some(value as u16),
+        _ => None,
+    }
+}
+
+/// The command `cost`, if its number is a width.
+fn cost_on<'a>(prog: &'a str, width: &str) -> Option<Command<'a>>
+    ensures { result ≡ cost_on prog.entry width.now }
+{
+    match number_of(width) {
+        Some(n) if 1 <= n && n <= u16::from(WIDTH_MAX) => Some(Command::Cost(CostNames {
+            prog,
+            width: n as u8,
+        })),
+        _ => None,
+    }
+}
+
+/// The command `init`, if its numbers are a chip's.
+fn init_on<'a>(banks: &str, rows: &str, words: &str, out: &'a str) -> Option<Command<'a>>
+    ensures { result ≡ init_on banks.now rows.now words.now out.entry }
+{
+    let Some(banks) = number_of(banks) else {
+        return None;
+    };
+    let Some(rows) = number_of(rows) else {
+        return None;
+    };
+    let Some(words) = number_of(words) else {
+        return None;
+    };
+    let geometry = Geometry { banks, rows, words };
+    match geometry.check() {
+        Ok(()) => Some(Command::Init(InitNames { geometry, out })),
+        Err(_) => None,
+    }
+}
+
+/// The command of four words behind its own.
+fn command_on_four<'a>(
+    verb: &str,
+    first: &'a str,
+    second: &'a str,
+    third: &'a str,
+    fourth: &'a str,
+) -> Option<Command<'a>>
+    ensures { result ≡ command_on_four verb.now first.entry second.entry third.entry fourth.entry }
+{
+    if verb == "init" {
+        init_on(first, second, third, fourth)
+    } else if verb == "exec" && inputs_apart(first, second, third, fourth) {
+        Some(Command::Exec(ExecNames {
+            prog: first,
+            script: second,
+            image: third,
+            out: fourth,
+        }))
+    } else {
+        None
+    }
+}
+
+/// The command on one file.
+fn command_on_one<'a>(verb: &str, file: &'a str) -> Option<Command<'a>>
+    ensures { result ≡ command_on_one verb.now file.entry }
+{
+    if verb == "show" {
+        Some(Command::Show(file))
+    } else if verb == "list" {
+        Some(Command::List(file))
+    } else {
+        None
+    }
 }
 
 /// The command on two files.
@@ -128,32 +259,19 @@ pub fn command_of<'a>(words: &[&'a str]) -> Option<Command<'a>>
                 None
             }
         }
-        [verb, prog, script, image, out] => {
-            if *verb == "exec" && three_apart(prog, script, image, out) {
-                Some(Command::Exec(ExecNames {
-                    prog: *prog,
-                    script: *script,
-                    image: *image,
-                    out: *out,
-                }))
-            } else {
-                None
-            }
+        [verb, first, second, third, fourth] => {
+            command_on_four(*verb, *first, *second, *third, *fourth)
         }
         [verb, first, second] => {
-            if first == second {
+            if *verb == "cost" {
+                cost_on(*first, *second)
+            } else if first == second {
                 None
             } else {
                 command_on_two(*verb, *first, *second)
             }
         }
-        [verb, ops] => {
-            if *verb == "show" {
-                Some(Command::Show(*ops))
-            } else {
-                None
-            }
-        }
+        [verb, file] => command_on_one(*verb, *file),
         _ => None,
     }
 }

@@ -1,13 +1,14 @@
 use Rattle.std.proofs.Common.{sym, ◌∙◌}
 use Rattle.cli_model.specs.World.{world}
-use Rattle.simdram_cli.proofs.Promising.{command_apart, answers_one, usage_of, keeps_promises}
+use Rattle.simdram_cli.proofs.Commanding.{command_right}
+use Rattle.simdram_cli.proofs.Promising.{answers_one, usage_of, keeps_promises}
 use Rattle.simdram_cli.proofs.top.simdram.Goals as goal
 
 pub dispatch-requires : goal.dispatch-requires
-dispatch-requires g c = record {
-  apart = command_apart c.args.words.now c.in-Some.command
-      (sym c.command_of.ensures ∙ c.in-Some.is);
-}
+dispatch-requires g c =
+    let right = command_right c.args.words.now c.in-Some.command
+    (sym c.command_of.ensures ∙ c.in-Some.is) in
+    record { apart = right.apart; numbers = right.numbers }
 
 pub returns-in-Some-clause-usage : goal.returns-in-Some-clause-usage
 returns-in-Some-clause-usage g c =

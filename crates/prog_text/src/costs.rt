@@ -1,0 +1,79 @@
+//! What the entries of a program cost at a width.
+
+ghost use Rattle.std.specs.Prelude.{◌≡◌, ◌<◌, ◌≤◌, ◌++◌, codes, OnOk, IfOk};
+ghost use Rattle.uprog_code.specs.Legal.{IsLegalCode};
+ghost use Rattle.uprog_code.specs.Shape.{shape_of};
+ghost use Rattle.prog_text.specs.Costs.{cost_line, cost_text as text_of, costs, stuck_word};
+
+use crate::pieces::{put, put_number};
+use bit_rows::WIDTH_MAX;
+use no_memory::NoMemory;
+use std::alloc::Global;
+use uprog_bin::ProgView;
+use uprog_code::{BadWalk, Counts, Fetch, Head, Why3, walk};
+
+/// Why a walk is stuck, at the end of its line.
+fn stuck_word(why: Why3) -> &'static [u8]
+    ensures { result.now ≡ stuck_word why }
+{
+    match why {
+        Why3::Index => b"index",
+        Why3::Register => b"register",
+        Why3::Budget => b"budget",
+    }
+}
+
+/// Appends what a walk of an entry came to.
+fn put_walked(
+    out: &mut Vec<u8>,
+    head: &Head,
+    n: u8,
+    walked: Result<Counts, BadWalk>,
+) -> Result<(), NoMemory>
+    ensures { OnOk result (out.new.items ≡ out.old.items ++ text_of (shape_of head.now) n walked) }
+{
+    match walked {
+        Ok(counts) => {
+            let rows = u64::from(head.bits) + u64::from(n) * u64::from(head.words);
+            put_number(out, b" aap=", counts.aap)?;
+            put_number(out, b" ap=", counts.ap)?;
+            put_number(out, b" rows=", rows)
+        }
+        Err(stuck) => {
+            put_number(out, b" bad_walk ", u64::from(stuck.at))?;
+            put(out, b" ")?;
+            put(out, stuck_word(stuck.why))
+        }
+    }
+}
+
+/// Appends the line of an entry.
+fn put_cost<F: Fetch>(out: &mut Vec<u8>, entry: &F, n: u8) -> Result<(), NoMemory>
+    requires legal { IsLegalCode (F.shape entry.now) (F.code entry.now) }
+    requires some { 0 < n }
+    requires narrow { n ≤ WIDTH_MAX }
+    ensures { OnOk result (out.new.items ≡ out.old.items ++ cost_line n (record {
+      name = F.name entry.now;
+      shape = F.shape entry.now;
+      code = F.code entry.now;
+    })) }
+{
+    let head = entry.head();
+    put(out, head.name.bytes())?;
+    put_walked(out, &head, n, walk(entry, n))?;
+    put(out, b"\n")
+}
+
+/// What each entry of an accepted program file costs at a width, a line for each: its row commands
+/// of each kind and its rows of scratch, or where its walk is stuck.
+pub fn cost_text(prog: &ProgView<'_>, n: u8, alloc: Global) -> Result<Vec<u8>, NoMemory>
+    requires some { 0 < n }
+    requires narrow { n ≤ WIDTH_MAX }
+    ensures { IfOk result (λ text. text.items ≡ costs n prog.now.programs) }
+{
+    let mut out = Vec::new(alloc);
+    for k in 0..prog.entries() {
+        put_cost(&mut out, &prog.entry(k), n)?;
+    }
+    Ok(out)
+}

@@ -1,0 +1,134 @@
+-- What the words of a command say of its files and numbers.
+use Rattle.std.proofs.Common.{◌≡◌, ℕ, Bool, true, false, cond, List, [], ◌∷◌, Option, Some, None}
+use Rattle.std.proofs.Common.{refl, subst, nat_le}
+use Rattle.std.specs.Prelude.{◌&&◌, IfSome, bytes_eq, codes}
+use Rattle.std.proofs.lemmas.Bool.{leb-true}
+use denote.Ref.{Bor}
+use Rattle.bit_rows.specs.declared.TheConstants.{WIDTH_MAX}
+use Rattle.dram_model.specs.Geometry.{is_geometry}
+use Rattle.dram_model.specs.declared.geometry.Geometry.{Geometry}
+use Rattle.simdram_cli.specs.declared.words.Command.{Command}
+use Rattle.simdram_cli.specs.declared.words.Command.TheVariants.{Run, Exec, Compile, Show, Migrate}
+use Rattle.simdram_cli.specs.declared.words.Command.TheVariants.{Cost, List as ListOf, Init}
+use Rattle.simdram_cli.specs.Words.{HasNumbers, IsApart, are_apart, command_of, command_on_one}
+use Rattle.simdram_cli.specs.Words.{command_on_four, command_on_two, cost_on, init_on}
+use Rattle.simdram_cli.specs.Words.{inputs_apart, is_number, value_of}
+
+-- the files of a command are apart, and its numbers are in range
+pub record IsRight (command : Command) : Type 0 where
+  pub apart : IsApart command
+  pub numbers : HasNumbers command
+
+abbrev AreRight : Option Command → Type 0
+AreRight o = IfSome o IsRight
+
+second_holds : (a b : Bool) → a && b ≡ true → b ≡ true
+second_holds true b e = e
+second_holds false b e = absurd (cc)
+
+first_holds : (a b : Bool) → a && b ≡ true → a ≡ true
+first_holds true b e = refl
+first_holds false b e = absurd (cc)
+
+-- a command that a test lets pass
+if_so : (b : Bool) (command : Command) → (b ≡ true → IsRight command)
+    → AreRight (cond b (Some command) None)
+if_so true command right = right refl
+if_so false command right = tt
+
+-- one of two, by a test
+either : (b : Bool) (x y : Option Command) → AreRight x → (b ≡ false → AreRight y)
+    → AreRight (cond b x y)
+either true x y p q = p
+either false x y p q = q refl
+
+no_other : (b : Bool) (x : Option Command) → (b ≡ false → AreRight x) → AreRight (cond b None x)
+no_other b x p = either b None x tt p
+
+cost_right : (prog : Bor (List ℕ)) (width : List ℕ) → AreRight (cost_on prog width)
+cost_right prog width =
+    let low = nat_le 1 (value_of width) in
+    let high = nat_le (value_of width) WIDTH_MAX in
+    if_so (is_number width && (low && high)) (Cost (record { prog = prog; width = value_of width }))
+    (λ e. record {
+      apart = tt;
+      numbers = (
+        leb-true 1 (value_of width)
+            (first_holds low high (second_holds (is_number width) (low && high) e)),
+        leb-true (value_of width) WIDTH_MAX
+            (second_holds low high (second_holds (is_number width) (low && high) e)),
+      );
+    })
+
+init_right : (banks rows words : List ℕ) (out : Bor (List ℕ))
+    → AreRight (init_on banks rows words out)
+init_right banks rows words out =
+    let g : Geometry = record {
+      banks = value_of banks;
+      rows = value_of rows;
+      words = value_of words;
+    } in
+    let three = is_number words && is_geometry g in
+    let two = is_number rows && three in
+    if_so (is_number banks && two) (Init (record { geometry = g; out = out })) (λ e. record {
+      apart = tt;
+      numbers = second_holds (is_number words) (is_geometry g)
+          (second_holds (is_number rows) three (second_holds (is_number banks) two e));
+    })
+
+on_one_right : (verb : List ℕ) (file : Bor (List ℕ)) → AreRight (command_on_one verb file)
+on_one_right verb file =
+    either (bytes_eq verb (codes "show")) (Some (Show file)) _
+    (record { apart = tt; numbers = tt }) (λ other.
+    if_so (bytes_eq verb (codes "list")) (ListOf file) (λ e. record { apart = tt; numbers = tt }))
+
+on_two_right : (verb : List ℕ) (first second : Bor (List ℕ))
+    → bytes_eq first.now second.now ≡ false → AreRight (command_on_two verb first second)
+on_two_right verb first second apart =
+    either (bytes_eq verb (codes "compile")) (Some (Compile (record
+    { ops = first; prog = second }))) _ (record { apart = apart; numbers = tt }) (λ other.
+    if_so (bytes_eq verb (codes "migrate")) (Migrate (record { old = first; new = second }))
+    (λ e. record { apart = apart; numbers = tt }))
+
+on_four_right : (verb : List ℕ) (first second third fourth : Bor (List ℕ))
+    → AreRight (command_on_four verb first second third fourth)
+on_four_right verb first second third fourth =
+    let apart = inputs_apart first.now second.now third.now fourth.now in
+    either (bytes_eq verb (codes "init")) (init_on first.now second.now third.now fourth) _
+    (init_right first.now second.now third.now fourth) (λ other.
+    if_so (bytes_eq verb (codes "exec") && apart) (Exec (record
+    { prog = first; script = second; image = third; out = fourth })) (λ e. record {
+      apart = second_holds (bytes_eq verb (codes "exec")) apart e;
+      numbers = tt;
+    }))
+
+words_right : (words : List (Bor (List ℕ))) → AreRight (command_of words)
+words_right [] = tt
+words_right (a ∷ []) = tt
+words_right (verb ∷ file ∷ []) = on_one_right verb.now file
+words_right (verb ∷ first ∷ second ∷ []) =
+    either (bytes_eq verb.now (codes "cost")) (cost_on first second.now) _
+    (cost_right first second.now) (λ other.
+    no_other (bytes_eq first.now second.now) (command_on_two verb.now first second)
+    (on_two_right verb.now first second))
+words_right (a ∷ b ∷ c ∷ d ∷ []) = tt
+words_right (verb ∷ first ∷ second ∷ third ∷ fourth ∷ []) =
+    on_four_right verb.now first second third fourth
+words_right (verb ∷ ops ∷ prog ∷ script ∷ image ∷ out ∷ []) =
+    let apart = are_apart ops.now prog.now script.now image.now out.now in
+    if_so (bytes_eq verb.now (codes "run") && apart) (Run (record
+    { ops = ops; prog = prog; script = script; image = image; out = out })) (λ e. record {
+      apart = second_holds (bytes_eq verb.now (codes "run")) apart e;
+      numbers = tt;
+    })
+words_right (a ∷ b ∷ c ∷ d ∷ f ∷ h ∷ i ∷ rest) = tt
+
+right_one : (o : Option Command) (command : Command) → o ≡ Some command → AreRight o
+    → IsRight command
+right_one None command e right = absurd (cc)
+right_one (Some other) command e right = let same : other ≡ command = cc in subst IsRight same right
+
+-- the words are those of a command with such files and numbers
+pub command_right : (words : List (Bor (List ℕ))) (command : Command)
+    → command_of words ≡ Some command → IsRight command
+command_right words command e = right_one (command_of words) command e (words_right words)
