@@ -1,7 +1,7 @@
 -- How much an instruction does at most.
 use Rattle.std.proofs.Common.{◌≡◌, ℕ, zero, suc, ◌+◌, ◌*◌, ◌<◌, ◌≤◌, Bool, true, false, cond}
 use Rattle.std.proofs.Common.{eqb, leb, List, [], ◌∷◌, length, Option, Some, None, refl}
-use Rattle.std.proofs.Common.{arith, get_or}
+use Rattle.std.proofs.Common.{ap, arith, get_or}
 use Rattle.std.specs.Prelude.{count_by, slice_get, slice_index, slice_set, ◌-◌}
 use Rattle.std.specs.Option.{option_map, unwrap_or}
 use Rattle.std.specs.Str.{bytes_eq}
@@ -37,11 +37,17 @@ use Rattle.machine_model.specs.Refusals.{refusal, object_named, nothing}
 use Rattle.machine_model.specs.Steps.{counts_for, reply_to, reply_by, times, issues_at, table_after}
 use Rattle.machine_model.specs.Steps.{new_object}
 use Rattle.machine_model.specs.Agrees.{IsPlain}
-use Rattle.machine_model.specs.Script.{counted_in, rows_if_done, rows_loaded, rows_printed}
+use Rattle.machine_model.specs.Script.{is_bbop, counted_in, rows_if_done, rows_loaded}
+use Rattle.machine_model.specs.Script.{rows_printed}
 use Rattle.machine_model.specs.Laws.{TableFits, AreFew, WorkIsBounded}
 use Rattle.machine_model.proofs.KeptAll.{entry_holds}
 use Rattle.machine_model.proofs.Makes.{few_banks}
-use Rattle.machine_model.proofs.Tables.{made, table_fits_after}
+use Rattle.machine_model.proofs.Tables.{made, table_fits_after, fits_banks}
+use Rattle.machine_model.proofs.Pieces.{piece_counted}
+use Rattle.dram_model.specs.declared.dram.Counters.{Counters}
+use Rattle.dram_model.specs.Chip.{all_counted}
+use Rattle.wave_model.specs.Schedule.{Turn}
+use Rattle.machine_model.specs.Pieces.{Piece, IsPiece, instrs_in, piece_events}
 
 -- a trace has no more commands than this
 abbrev pub IsShort : ℕ → Trace → Type 0
@@ -193,6 +199,11 @@ fill_few : (rows : ℕ) → rows ≤ 16 * WIDTH_MAX
     → SumsTo (16 * WALK_MAX) (record { aap = rows; ap = 0 })
 fill_few rows h = omega (arith, h)
 
+reply_sums : (r : Option Why) (c : Counts) (most : ℕ) → (r ≡ None → SumsTo most c)
+    → SumsTo most (counted_in (reply_by r c))
+reply_sums None c most h = h refl
+reply_sums (Some reason) c most h = omega arith
+
 module _ (g : Geometry) (p : Program) (table : List Named) (some : 0 < g.words)
     (few : g.banks ≤ 16) (t : TableFits g table)
   where
@@ -213,16 +224,11 @@ module _ (g : Geometry) (p : Program) (table : List Named) (some : 0 < g.words)
     counts_few (Free name) plain h = omega arith
     counts_few (Order o) plain h = omega arith
 
-    reply_few : (r : Option Why) (c : Counts) → (r ≡ None → SumsTo (16 * WALK_MAX) c)
-        → SumsTo (16 * WALK_MAX) (counted_in (reply_by r c))
-    reply_few None c h = h refl
-    reply_few (Some reason) c h = omega arith
-
     -- the commands of one instruction
     pub commands_few : (instr : Instruction) → IsPlain instr
         → SumsTo (16 * WALK_MAX) (counted_in (reply_to g (operations_in p) table instr))
-    commands_few instr plain = reply_few (refusal g (operations_in p) table instr)
-        (counts_for g (operations_in p) table instr) (counts_few instr plain)
+    commands_few instr plain = reply_sums (refusal g (operations_in p) table instr)
+        (counts_for g (operations_in p) table instr) (16 * WALK_MAX) (counts_few instr plain)
 
     loaded_few : (instr : Instruction) → rows_loaded g table instr ≤ 16 * WIDTH_MAX
     loaded_few (Load name values) = (named_few g table name some few t).1
@@ -255,6 +261,30 @@ module _ (g : Geometry) (p : Program) (table : List Named) (some : 0 < g.words)
         → rows_if_done rows_printed g (operations_in p) table instr ≤ 16 * WIDTH_MAX
     rows_printed_few instr = if_few _ _ (printed_few instr)
 
+-- what a fill or a new object does, and what stays of the counters of a chip
+pub fills_few : (g : Geometry) (p : Program) (table : List Named) (instr : Instruction)
+    → 0 < g.words → g.banks ≤ 16 → TableFits g table → IsPlain instr → is_bbop instr ≡ false
+    → SumsTo (16 * WIDTH_MAX) (counted_in (reply_to g (operations_in p) table instr))
+fills_few g p table (Init name count n) some few t plain h =
+    reply_sums (refusal g (operations_in p) table (Init name count n)) _ (16 * WIDTH_MAX) (λ e.
+    let m = made g (operations_in p) table name count n e in
+    let rows = few_rows g (new_object g table count n) some few plain.1.1 m.fits in
+    omega (arith, rows.1))
+fills_few g p table (Fill name value) some few t plain h =
+    reply_sums (refusal g (operations_in p) table (Fill name value)) _ (16 * WIDTH_MAX) (λ e.
+    omega (arith, (named_few g table name some few t).1))
+fills_few g p table (Bbop op dst srcs count n) some few t plain h = cc
+fills_few g p table (Load name values) some few t plain h =
+    reply_sums (refusal g (operations_in p) table (Load name values)) _ (16 * WIDTH_MAX) (λ e.
+    omega arith)
+fills_few g p table (Print name) some few t plain h =
+    reply_sums (refusal g (operations_in p) table (Print name)) _ (16 * WIDTH_MAX) (λ e.
+    omega arith)
+fills_few g p table (Free name) some few t plain h =
+    reply_sums (refusal g (operations_in p) table (Free name)) _ (16 * WIDTH_MAX) (λ e.
+    omega arith)
+fills_few g p table (Order o) some few t plain h = omega arith
+
 script_few : (g : Geometry) (p : Program) (table : List Named) (script : List Instruction)
     → 0 < g.words → g.banks ≤ 16 → TableFits g table → AllByRecursion IsPlain script
     → AreFew g (operations_in p) table script
@@ -286,3 +316,26 @@ pub work_is_bounded : WorkIsBounded
 work_is_bounded g p table script h t plain =
     let parts = geometry_parts g h in
     script_few g p table script parts.0 parts.2 t plain
+
+-- how far the events of a piece raise a chip's counters: a bbop by a whole walk in each bank, and a
+-- row that is loaded by a write
+pub piece_rises : (g : Geometry) (p : Program) (turn : Turn) (table : List Named) (piece : Piece)
+    (k : Counters) → is_geometry g ≡ true → TableFits g table
+    → AllByRecursion IsPlain (instrs_in piece) → IsPiece piece
+    → let new = all_counted (piece_events g (operations_in p) turn table piece) k in
+    (new.aap ≤ k.aap + length (instrs_in piece) * (16 * WALK_MAX))
+    × (new.ap ≤ k.ap + length (instrs_in piece) * (16 * WALK_MAX))
+    × (new.writes ≤ k.writes + length (instrs_in piece) * (16 * WIDTH_MAX))
+    × (new.reads ≡ k.reads)
+piece_rises g p turn table piece k h t plain is =
+    let few = work_is_bounded g p table (instrs_in piece) h t plain in
+    let counted = piece_counted g (operations_in p) turn table piece k (geometry_parts g h).0
+    (fits_banks g table t) is in
+    let aap = ap (λ (c : Counters). c.aap) counted in
+    let ap' = ap (λ (c : Counters). c.ap) counted in
+    let writes = ap (λ (c : Counters). c.writes) counted in (
+      omega (arith, aap, few.commands),
+      omega (arith, ap', few.commands),
+      omega (arith, writes, few.loaded),
+      ap (λ (c : Counters). c.reads) counted,
+    )

@@ -22,4 +22,5 @@ pub mod Parts
 pub mod Cut
 pub mod Grants
 pub mod Bounds
+pub mod Images
 pub mod Accepted

@@ -1,7 +1,18 @@
 -- A script that goes on where its first part ends.
 use Rattle.std.proofs.Common.{◌≡◌, ℕ, ◌+◌, Bool, true, false, List, [], ◌∷◌, ◌++◌, map, refl, sym}
 use Rattle.std.proofs.Common.{◌∙◌, ap, arith, append_assoc}
-use Rattle.std.specs.Prelude.{◌||◌, flat_map}
+use Rattle.std.specs.Prelude.{◌||◌, flat_map, filter, is_none}
+use Rattle.std.specs.List.{AllByRecursion}
+use Rattle.std.proofs.lemmas.List.{map-append, length-map}
+use Rattle.std.proofs.lemmas.List.Elements.{filter-append}
+use Rattle.std.proofs.lemmas.List.Sums.{length-filter, count_by-le-length}
+use Rattle.machine_model.specs.Refusals.{refusal}
+use Rattle.machine_model.specs.Script.{rows_loaded, rows_printed, rows_if_done}
+use Rattle.machine_model.specs.Steps.{job_of}
+use Rattle.machine_model.specs.Pieces.{jobs_of}
+use Rattle.machine_model.specs.Report.{line, lines}
+use Rattle.machine_model.specs.Laws.{LinesGoOn}
+use Rattle.std.proofs.Common.{zero, suc, ◌≤◌, cond, length, take, drop}
 use Rattle.dram_model.specs.declared.geometry.Geometry.{Geometry}
 use Rattle.dram_model.specs.Chip.{Banks}
 use Rattle.object_alloc.specs.Listed.{Named}
@@ -119,7 +130,8 @@ pieces_go_on g operations turn table (p ∷ ps) qs =
           ∙ sym (append_assoc es _ _);
     }
 
-bbop_said : (reply : Reply) (instr : Instruction) (values : List ℕ → List ℕ)
+-- a bbop is said as it is answered
+pub bbop_said : (reply : Reply) (instr : Instruction) (values : List ℕ → List ℕ)
     → is_bbop instr ≡ true → said_of reply instr values ≡ Answered reply
 bbop_said (Done counts) (Bbop op dst srcs count n) values h = refl
 bbop_said (Refused reason) (Bbop op dst srcs count n) values h = refl
@@ -156,9 +168,86 @@ wave_said g operations table (x ∷ wave) banks h =
     (wave_said g operations (table_after g operations table x) wave
     (banks_after g operations table banks x) h.1))
 
+if_zero : (b : Bool) → ◌≡◌ {A = ℕ} (cond b 0 0) 0
+if_zero true = refl
+if_zero false = refl
+
+-- a bbop loads no row, and prints none
+pub bbop_loads : (g : Geometry) (operations : Operations) (table : List Named)
+    (instr : Instruction) → is_bbop instr ≡ true
+    → rows_if_done rows_loaded g operations table instr ≡ 0
+bbop_loads g operations table (Bbop op dst srcs count n) h =
+    if_zero (is_none (refusal g operations table (Bbop op dst srcs count n)))
+bbop_loads g operations table (Init name count n) h = cc
+bbop_loads g operations table (Load name values) h = cc
+bbop_loads g operations table (Fill name value) h = cc
+bbop_loads g operations table (Print name) h = cc
+bbop_loads g operations table (Free name) h = cc
+bbop_loads g operations table (Order o) h = cc
+
+pub bbop_prints : (g : Geometry) (operations : Operations) (table : List Named)
+    (instr : Instruction) → is_bbop instr ≡ true
+    → rows_if_done rows_printed g operations table instr ≡ 0
+bbop_prints g operations table (Bbop op dst srcs count n) h =
+    if_zero (is_none (refusal g operations table (Bbop op dst srcs count n)))
+bbop_prints g operations table (Init name count n) h = cc
+bbop_prints g operations table (Load name values) h = cc
+bbop_prints g operations table (Fill name value) h = cc
+bbop_prints g operations table (Print name) h = cc
+bbop_prints g operations table (Free name) h = cc
+bbop_prints g operations table (Order o) h = cc
+
+wave_rows : (rows : Geometry → List Named → Instruction → ℕ) (g : Geometry)
+    (operations : Operations) (table : List Named) (wave : List Instruction)
+    → ((t : List Named) (instr : Instruction) → is_bbop instr ≡ true
+    → rows_if_done rows g operations t instr ≡ 0)
+    → AreBbops wave → sum_done rows g operations table wave ≡ 0
+wave_rows rows g operations table [] none h = refl
+wave_rows rows g operations table (instr ∷ wave) none h =
+    let first = none table instr h.0 in
+    let rest = wave_rows rows g operations (table_after g operations table instr) wave none h.1 in
+    omega (arith, first, rest)
+
 pub waves_are_answered : WavesAreAnswered
 waves_are_answered g operations table wave h = record {
   tables = wave_table g operations table wave h;
   answers = wave_replies g operations table wave h;
   said = λ banks. wave_said g operations table wave banks h;
+  loaded = wave_rows rows_loaded g operations table wave (bbop_loads g operations) h;
+  printed = wave_rows rows_printed g operations table wave (bbop_prints g operations) h;
 }
+
+pub lines_go_on : LinesGoOn
+lines_go_on number [] ys =
+    let e : number ≡ number + 0 = omega arith in ap (λ k. lines k ys) e
+lines_go_on number (x ∷ xs) ys =
+    let e : number + 1 + length xs ≡ number + suc (length xs) = omega arith in
+    ap (λ rest. line number x ++ rest) (lines_go_on (number + 1) xs ys
+    ∙ ap (λ k. lines (number + 1) xs ++ lines k ys) e)
+    ∙ sym (append_assoc (line number x) (lines (number + 1) xs) _)
+
+-- what holds of each holds of the first and of the others
+pub all_parted : {X : Type 0} (P : X → Type 0) (k : ℕ) (xs : List X) → AllByRecursion P xs
+    → AllByRecursion P (take k xs) × AllByRecursion P (drop k xs)
+all_parted P zero xs h = (tt, h)
+all_parted P (suc k) [] h = (tt, tt)
+all_parted P (suc k) (x ∷ xs) h = let rest = all_parted P k xs h.1 in ((h.0, rest.0), rest.1)
+
+-- the jobs of a wave, bbop by bbop
+pub jobs_append : (g : Geometry) (operations : Operations) (table : List Named)
+    (xs ys : List Instruction) → jobs_of g operations table (xs ++ ys)
+    ≡ jobs_of g operations table xs ++ jobs_of g operations table ys
+jobs_append g operations table xs ys =
+    let granted : Instruction → Bool = λ instr. is_none (refusal g operations table instr) in
+    ap (map (job_of g operations table)) (filter-append granted xs ys)
+    ∙ map-append (job_of g operations table) (filter granted xs) (filter granted ys)
+
+pub few_jobs : (g : Geometry) (operations : Operations) (table : List Named)
+    (wave : List Instruction) → length (jobs_of g operations table wave) ≤ length wave
+few_jobs g operations table wave =
+    let granted : Instruction → Bool = λ instr. is_none (refusal g operations table instr) in
+    let same : length (jobs_of g operations table wave) ≡ length (filter granted wave) =
+    simp length-map refl in
+    let count = length-filter granted wave in
+    let few = count_by-le-length granted wave in
+    omega (arith, same, count, few)

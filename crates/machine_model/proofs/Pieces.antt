@@ -1,12 +1,12 @@
 -- A script in pieces beside its instructions one after another.
-use Rattle.std.proofs.Common.{◌≡◌, ℕ, ◌<◌, Bool, true, false, cond, eqb, List, [], ◌∷◌, ◌++◌}
+use Rattle.std.proofs.Common.{◌≡◌, ◌<◌, Bool, true, false, cond, eqb, List, [], ◌∷◌, ◌++◌}
 use Rattle.std.proofs.Common.{length, refl, sym, ◌∙◌, ap, subst}
 use Rattle.std.proofs.Common.{append_assoc, append-nil, length-append, ◌+◌, ◌≤◌, arith}
 use Rattle.std.proofs.lemmas.Bool.Decides.{nat_tests}
-use Rattle.std.specs.Prelude.{flat_map, All, is_none}
+use Rattle.std.specs.Prelude.{flat_map, All}
 use Rattle.std.specs.List.{AllByRecursion}
 use Rattle.dram_model.specs.declared.geometry.Geometry.{Geometry}
-use Rattle.dram_model.specs.Chip.{Event, all_counted}
+use Rattle.dram_model.specs.Chip.{Banks, Event, after, all_counted}
 use Rattle.dram_model.specs.declared.dram.Counters.{Counters}
 use Rattle.object_alloc.specs.Listed.{Named}
 use Rattle.object_alloc.specs.Spelling.{IsObject}
@@ -16,15 +16,16 @@ use Rattle.machine_model.specs.Operations.{Operations}
 use Rattle.machine_model.specs.Refusals.{refusal}
 use Rattle.wave_model.specs.Schedule.{Turn, Ahead, in_turn, whole_picks, events_of_picks}
 use Rattle.machine_model.specs.Steps.{job_of, job_events, own_events, if_done, table_after}
-use Rattle.machine_model.specs.Script.{is_bbop, table_at_end, events_in_order, replies, sum_of}
-use Rattle.machine_model.specs.Script.{with_counts, with_writes, counters_at_end, rows_loaded}
-use Rattle.machine_model.specs.Script.{rows_if_done, sum_done}
+use Rattle.machine_model.specs.Script.{is_bbop, table_at_end, banks_at_end, events_in_order}
+use Rattle.machine_model.specs.Script.{replies, sum_of}
+use Rattle.machine_model.specs.Script.{with_counts, with_writes, counters_at_end}
 use Rattle.machine_model.specs.Pieces.{Piece, Wave, Alone, instrs_in, gathered, pieces_from, pieces}
 use Rattle.machine_model.specs.Pieces.{jobs_of, wave_queues, piece_events, turn_behind}
 use Rattle.machine_model.specs.Pieces.{events_of_pieces, script_events, AreBbops, IsPiece}
 use Rattle.machine_model.specs.Laws.{FitsBanks, SeenInOrder, EventsAreSteps, CountedByReplies}
 use Rattle.machine_model.specs.Laws.{OneBankInOrder, PiecesAreScript, WaveIsCounted}
-use Rattle.machine_model.specs.Laws.{PieceIsCounted}
+use Rattle.machine_model.specs.Laws.{PieceIsCounted, PieceIsSteps}
+use Rattle.machine_model.proofs.Parts.{waves_are_answered}
 use Rattle.machine_model.proofs.Events.{in_order_steps, in_order_counted}
 use Rattle.wave_model.proofs.Waves.{turns_whole}
 use Rattle.machine_model.proofs.Alike.{Alike, Alike-append, alike_after, alike_counted}
@@ -179,12 +180,29 @@ seen_in_order g operations turn table script bank some f =
     script_is Alike (λ es bank. refl) Alike-append g operations (wave_alike g operations some)
     turn table script f bank
 
+-- pieces leave the banks as their instructions one after another do
+pub pieces_steps : (g : Geometry) (operations : Operations) (turn : Turn) (table : List Named)
+    (ps : List Piece) (chip : Banks) → 0 < g.words → FitsBanks g table
+    → AllByRecursion IsPiece ps → after (events_of_pieces g operations turn table ps) chip
+    ≡ banks_at_end g operations table chip (flat_map instrs_in ps)
+pieces_steps g operations turn table ps chip some f h =
+    alike_after (events_of_pieces g operations turn table ps)
+    (events_in_order g operations table (flat_map instrs_in ps))
+    (pieces_is Alike (λ es bank. refl) Alike-append g operations (wave_alike g operations some)
+    turn table ps f h) chip
+    ∙ in_order_steps g operations table (flat_map instrs_in ps) chip
+
 pub events_are_steps : EventsAreSteps
 events_are_steps g operations turn table script chip some f =
-    alike_after (events_of_pieces g operations turn table (pieces script))
-    (events_in_order g operations table script)
-    (λ bank. seen_in_order g operations turn table script bank some f) chip
-    ∙ in_order_steps g operations table script chip
+    let p = pieces_are_script script in
+    pieces_steps g operations turn table (pieces script) chip some f p.0
+    ∙ ap (banks_at_end g operations table chip) p.1
+
+pub piece_is_steps : PieceIsSteps
+piece_is_steps g operations turn table piece chip some f h =
+    ap (λ es. after es chip) (sym (append-nil (piece_events g operations turn table piece)))
+    ∙ pieces_steps g operations turn table (piece ∷ []) chip some f (h, tt)
+    ∙ ap (banks_at_end g operations table chip) (append-nil (instrs_in piece))
 
 -- pieces are counted by their replies and the rows that they load
 pub pieces_counted : (g : Geometry) (operations : Operations) (turn : Turn) (table : List Named)
@@ -210,33 +228,8 @@ piece_counted g operations turn table piece k some f h =
     ∙ pieces_counted g operations turn table (piece ∷ []) k some f (h, tt)
     ∙ ap (λ xs. counters_at_end g operations table xs k) (append-nil (instrs_in piece))
 
-if_zero : (b : Bool) → ◌≡◌ {A = ℕ} (cond b 0 0) 0
-if_zero true = refl
-if_zero false = refl
-
-bbop_loads : (g : Geometry) (operations : Operations) (table : List Named) (instr : Instruction)
-    → is_bbop instr ≡ true → rows_if_done rows_loaded g operations table instr ≡ 0
-bbop_loads g operations table (Bbop op dst srcs count n) h =
-    if_zero (is_none (refusal g operations table (Bbop op dst srcs count n)))
-bbop_loads g operations table (Init name count n) h = cc
-bbop_loads g operations table (Load name values) h = cc
-bbop_loads g operations table (Fill name value) h = cc
-bbop_loads g operations table (Print name) h = cc
-bbop_loads g operations table (Free name) h = cc
-bbop_loads g operations table (Order o) h = cc
-
 no_writes : (k : Counters) → with_writes 0 k ≡ k
 no_writes k = let e : k.writes + 0 ≡ k.writes = omega arith in rw e refl
-
--- a wave writes no row
-wave_loads : (g : Geometry) (operations : Operations) (table : List Named)
-    (wave : List Instruction) → AreBbops wave
-    → sum_done rows_loaded g operations table wave ≡ 0
-wave_loads g operations table [] h = refl
-wave_loads g operations table (instr ∷ wave) h =
-    let first = bbop_loads g operations table instr h.0 in
-    let rest = wave_loads g operations (table_after g operations table instr) wave h.1 in
-    omega (arith, first, rest)
 
 pub wave_counted : WaveIsCounted
 wave_counted g operations table wave ps k some f h w =
@@ -247,7 +240,7 @@ wave_counted g operations table wave ps k some f h w =
     ∙ ap (λ es. all_counted es k) (sym (wave_in_order g operations table wave h))
     ∙ in_order_counted g operations table wave k
     ∙ ap (λ n. with_writes n (with_counts k (sum_of (replies g operations table wave))))
-    (wave_loads g operations table wave h)
+    (waves_are_answered g operations table wave h).loaded
     ∙ no_writes (with_counts k (sum_of (replies g operations table wave)))
 
 wave_same : (g : Geometry) (operations : Operations) → g.banks ≡ 1 → 0 < g.words → (turn : Turn)

@@ -89,7 +89,8 @@ objects_tabled g operations table (Fill name value) plain all h = all
 objects_tabled g operations table (Print name) plain all h = all
 objects_tabled g operations table (Order o) plain all h = all
 
-kept_done : (P : List Named → Type 0) (r : Option Why) (new old : List Named)
+-- what holds of the table either way
+pub kept_done : (P : List Named → Type 0) (r : Option Why) (new old : List Named)
     → (r ≡ None → P new) → P old → P (if_done r new old)
 kept_done P None new old h t = h refl
 kept_done P (Some reason) new old h t = t

@@ -11,7 +11,7 @@ use Rattle.dram_model.specs.Chip.{Banks, after, all_counted, row_in}
 use Rattle.dram_model.specs.Elements.{column_count}
 use Rattle.dram_model.specs.Events.{events_of as seen_by}
 use Rattle.object_alloc.specs.Listed.{Named, IsTable, limit_of}
-use Rattle.object_alloc.specs.Spelling.{IsObject}
+use Rattle.object_alloc.specs.Spelling.{IsObject, IsImage}
 use Rattle.bbop_isa.specs.Forms.{Instruction, Bbop}
 use Rattle.bbop_isa.specs.Script.{script_of}
 use Rattle.uprog_code.specs.Machine.{HasEnded}
@@ -31,7 +31,8 @@ use Rattle.machine_model.specs.Script.{is_touched_by, counters_at_end, rows_load
 use Rattle.machine_model.specs.Pieces.{Piece, Wave, Alone, AreBbops, IsPiece, instrs_in, pieces}
 use Rattle.machine_model.specs.Pieces.{wave_size, wave_queues, piece_events, events_of_pieces}
 use Rattle.machine_model.specs.Pieces.{turn_at_end}
-use Rattle.machine_model.specs.Report.{said_in_rows, Answered}
+use Rattle.machine_model.specs.Report.{Said, Answered, said_in_rows, lines}
+use Rattle.machine_model.specs.Opened.{Image, opened, rows_of}
 
 -- Where what is issued for each operation does what it means, the banks after a script hold what
 -- the word machine holds
@@ -69,6 +70,14 @@ TableStays =
     (g : Geometry) (operations : Operations) (table : List Named) (script : List Instruction)
     → AllByRecursion IsPlain script → TableFits g table
     → TableFits g (table_at_end g operations table script)
+
+-- and so an accepted script leaves an image that is accepted as one
+abbrev pub ImageStays : Type 0
+ImageStays =
+    (i : Image) (operations : Operations) (text : List ℕ) (script : List Instruction)
+    → script_of text ≡ Ok script → IsImage i.geometry i.table i.rows
+    → IsImage i.geometry (table_at_end i.geometry operations i.table script)
+    (rows_of (banks_at_end i.geometry operations i.table (opened i) script))
 
 -- A bbop that is not refused: its walk ends, its binding fits in a bank, and there are its banks
 pub record IsGranted (g : Geometry) (operations : Operations) (table : List Named) (o : Operation)
@@ -193,13 +202,20 @@ abbrev pub AllPiecesGoOn : Type 0
 AllPiecesGoOn = (g : Geometry) (operations : Operations) (turn : Turn) (table : List Named)
     (ps qs : List Piece) → PiecesGoOn g operations turn table ps qs
 
--- A wave leaves the table, and is answered bbop by bbop
+-- A wave leaves the table, is answered bbop by bbop, and no row is loaded or printed
 pub record WaveIsAnswered (g : Geometry) (operations : Operations) (table : List Named)
     (wave : List Instruction) : Type 0 where
   pub tables : table_at_end g operations table wave ≡ table
   pub answers : replies g operations table wave ≡ map (reply_to g operations table) wave
   pub said : (banks : Banks) → said_in_rows g operations table banks wave
       ≡ map Answered (replies g operations table wave)
+  pub loaded : sum_done rows_loaded g operations table wave ≡ 0
+  pub printed : sum_done rows_printed g operations table wave ≡ 0
+
+-- Lines go on with the number behind the last
+abbrev pub LinesGoOn : Type 0
+LinesGoOn = (number : ℕ) (xs ys : List Said)
+    → lines number (xs ++ ys) ≡ lines number xs ++ lines (number + length xs) ys
 
 abbrev pub WavesAreAnswered : Type 0
 WavesAreAnswered = (g : Geometry) (operations : Operations) (table : List Named)
@@ -214,13 +230,21 @@ SeenInOrder =
     → seen_by bank (events_of_pieces g operations turn table (pieces script))
     ≡ seen_by bank (events_in_order g operations table script)
 
--- So a script's events leave the banks as its instructions one after another do
+-- So a script's events leave the banks as its instructions one after another do, and so do those of
+-- one piece
 abbrev pub EventsAreSteps : Type 0
 EventsAreSteps =
     (g : Geometry) (operations : Operations) (turn : Turn) (table : List Named)
     (script : List Instruction) (chip : Banks) → 0 < g.words → FitsBanks g table
     → after (events_of_pieces g operations turn table (pieces script)) chip
     ≡ banks_at_end g operations table chip script
+
+abbrev pub PieceIsSteps : Type 0
+PieceIsSteps =
+    (g : Geometry) (operations : Operations) (turn : Turn) (table : List Named) (piece : Piece)
+    (chip : Banks) → 0 < g.words → FitsBanks g table → IsPiece piece
+    → after (piece_events g operations turn table piece) chip
+    ≡ banks_at_end g operations table chip (instrs_in piece)
 
 -- and are counted by the replies and the rows loaded; so are the events of one piece
 abbrev pub CountedByReplies : Type 0

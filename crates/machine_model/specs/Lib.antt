@@ -7,5 +7,5 @@ pub mod Agrees
 pub mod Script
 pub mod Pieces
 pub mod Report
-pub mod Laws
 pub mod Opened
+pub mod Laws

@@ -3,12 +3,12 @@
 #![tactic(auto)]
 
 ghost use Rattle.machine_model.specs.Laws.{AcceptedIsPlain, AllPiecesGoOn, CountedByReplies};
-ghost use Rattle.machine_model.specs.Laws.{EventsAreSteps, GrantsFit, OneBankInOrder};
-ghost use Rattle.machine_model.specs.Laws.{PieceIsCounted, PiecesAreCut, PiecesAreScript};
-ghost use Rattle.machine_model.specs.Laws.{RowsGiveWords, SameOperations, ScriptsGoOn, SeenInOrder};
-ghost use Rattle.machine_model.specs.Laws.{TableStays, TextGivesWords, UntouchedStays};
-ghost use Rattle.machine_model.specs.Laws.{WaveIsCounted, WaveIsSteps, WavesAreAnswered};
-ghost use Rattle.machine_model.specs.Laws.{WorkIsBounded};
+ghost use Rattle.machine_model.specs.Laws.{EventsAreSteps, GrantsFit, ImageStays, LinesGoOn};
+ghost use Rattle.machine_model.specs.Laws.{OneBankInOrder, PieceIsCounted, PieceIsSteps};
+ghost use Rattle.machine_model.specs.Laws.{PiecesAreCut, PiecesAreScript, RowsGiveWords};
+ghost use Rattle.machine_model.specs.Laws.{SameOperations, ScriptsGoOn, SeenInOrder, TableStays};
+ghost use Rattle.machine_model.specs.Laws.{TextGivesWords, UntouchedStays, WaveIsCounted};
+ghost use Rattle.machine_model.specs.Laws.{WaveIsSteps, WavesAreAnswered, WorkIsBounded};
 
 use uprog_code::{BadWalk, Counts};
 
@@ -46,9 +46,11 @@ pub fn rows_give_words()
     ensures same { SameOperations }
 {}
 
-/// The table stays a table of objects that the geometry can hold.
+/// The table stays a table of objects that the geometry can hold, and an accepted script makes of
+/// an accepted image another one.
 pub fn tables_stay()
-    ensures stays { TableStays }
+    ensures tables { TableStays }
+    ensures images { ImageStays }
 {}
 
 /// Whatever a program does that is accepted, it runs under bindings that fit, and the rows that no
@@ -71,6 +73,7 @@ pub fn scripts_go_on()
     ensures scripts { ScriptsGoOn }
     ensures pieces { AllPiecesGoOn }
     ensures waves { WavesAreAnswered }
+    ensures lines { LinesGoOn }
 {}
 
 /// In whatever order the banks of a wave take turns, they are left as its bbops one after another
@@ -87,6 +90,7 @@ pub fn events_are_steps()
     ensures seen { SeenInOrder }
     ensures steps { EventsAreSteps }
     ensures counted { CountedByReplies }
-    ensures piece { PieceIsCounted }
+    ensures piece_steps { PieceIsSteps }
+    ensures piece_counted { PieceIsCounted }
     ensures one_bank { OneBankInOrder }
 {}

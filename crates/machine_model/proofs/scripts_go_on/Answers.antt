@@ -1,5 +1,6 @@
 use Rattle.machine_model.proofs.Cut.{pieces_are_cut}
 use Rattle.machine_model.proofs.Parts.{scripts_go_on, pieces_go_on, waves_are_answered}
+use Rattle.machine_model.proofs.Parts.{lines_go_on}
 use Rattle.machine_model.proofs.scripts_go_on.Goals as goal
 
 pub returns : goal.returns
@@ -8,4 +9,5 @@ returns c = record {
   scripts = scripts_go_on;
   pieces = pieces_go_on;
   waves = waves_are_answered;
+  lines = lines_go_on;
 }
