@@ -39,6 +39,13 @@ pub enum Reply {
     Refused(Why),
 }
 
+/// Done without a command.
+impl Default for Reply {
+    fn default() -> Self {
+        Reply::Done(Counts { aap: 0, ap: 0 })
+    }
+}
+
 /// The banks after a script hold what the word machine holds.
 pub fn rows_give_words()
     ensures rows { RowsGiveWords }

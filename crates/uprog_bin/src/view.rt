@@ -80,6 +80,16 @@ impl<'a> Model for Entry<'a> {
     } };
 }
 
+/// An entry of no code.
+impl<'a> Default for Entry<'a> {
+    fn default() -> Self {
+        Entry {
+            head: Listed::default().head,
+            code: &[],
+        }
+    }
+}
+
 impl<'a> ProgView<'a> {
     /// The program that the bytes spell, or the first field that is not whole or breaks its rule.
     pub fn open(bytes: &'a [u8]) -> Result<ProgView<'a>, ProgFault>

@@ -27,7 +27,7 @@ pub ended-onto : (cs : List Issue) (t : Trace) → HasEnded (onto cs t) → HasE
 ended-onto cs (Ended ds) h = tt
 ended-onto cs (Stuck at why) h = absurd h
 
-issues-onto : (cs : List Issue) (t : Trace) → HasEnded (onto cs t)
+pub issues-onto : (cs : List Issue) (t : Trace) → HasEnded (onto cs t)
     → issues_of (onto cs t) ≡ cs ++ issues_of t
 issues-onto cs (Ended ds) h = refl
 issues-onto cs (Stuck at why) h = absurd h

@@ -2,7 +2,7 @@
 
 ghost use Rattle.std.specs.Prelude.{◌≡◌, ℕ, List, ◌+◌, ◌<◌, ◌≤◌, ◌^◌, true, OnOk, OnErr, ◌∷◌, []};
 ghost use Rattle.dram_model.specs.Column.{is_legal};
-ghost use Rattle.dram_model.specs.Chip.{Event, all_counted};
+ghost use Rattle.dram_model.specs.Chip.{Event, all_counted, Grew};
 ghost use Rattle.dram_model.specs.View.{HasBegun, Kept, Did, FailedIn};
 ghost use Rattle.uprog_code.specs.Shape.{Shape, shape_of};
 ghost use Rattle.uprog_code.specs.Machine.{HasEnded, Issue, trace};
@@ -28,7 +28,7 @@ pub fn counters_rise_by_counts()
 {}
 
 /// One command on one bank.
-fn do_command<D: Dram>(dram: &mut D, bank: u16, command: Command) -> Result<(), ChipFault>
+pub(crate) fn do_command<D: Dram>(dram: &mut D, bank: u16, command: Command) -> Result<(), ChipFault>
     requires begun { HasBegun (D.view dram.old) }
     requires bank { bank < (D.view dram.old).geometry.banks }
     requires legal { is_legal (D.view dram.old).geometry.rows command ≡ true }
@@ -39,6 +39,7 @@ fn do_command<D: Dram>(dram: &mut D, bank: u16, command: Command) -> Result<(), 
     ensures did { OnOk result (Did (Event.Row bank command ∷ [])
         (D.view dram.old) (D.view dram.new)) }
     ensures failed { OnErr result (FailedIn bank (D.view dram.old) (D.view dram.new)) }
+    ensures untold { OnErr result (Grew (D.view dram.old).log (D.view dram.new).log []) }
 {
     match command {
         Command::Ap(x) => dram.ap(bank, x),

@@ -3,5 +3,10 @@
 
 mod address;
 mod controller;
+mod cursor;
+mod pickers;
+mod waves;
 
 pub use controller::{counters_rise_by_counts, run};
+pub use pickers::{Forward, Order, Picker, Seeded, Turns};
+pub use waves::{Job, run_wave};

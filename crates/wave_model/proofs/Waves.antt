@@ -137,7 +137,7 @@ one_less : (cs : List Command) → 0 < length cs → length (drop 1 cs) + 1 ≡ 
 one_less [] h = absurd (omega arith)
 one_less (c ∷ cs) h = omega arith
 
-left_less : (left : Queues) (b a n : ℕ) → a ≤ b → b < a + n → 0 < length (left b)
+pub left_less : (left : Queues) (b a n : ℕ) → a ≤ b → b < a + n → 0 < length (left b)
     → sum_by (λ x. length (without_next b left x)) (range_with_len a n) + 1
     ≡ sum_by (λ x. length (left x)) (range_with_len a n)
 left_less left b a zero l m h = absurd (omega arith)
@@ -156,7 +156,7 @@ left_less left b a (suc n) l m h =
           omega (arith, one_less (left a) long, left_same left b (a + 1) n (omega arith)))
     ])
 
-all_done : (left : Queues) (a n : ℕ) → sum_by (λ x. length (left x)) (range_with_len a n) ≡ 0
+pub all_done : (left : Queues) (a n : ℕ) → sum_by (λ x. length (left x)) (range_with_len a n) ≡ 0
     → filter (is_live left) (range_with_len a n) ≡ []
 all_done left a zero h = refl
 all_done left a (suc n) h =
@@ -167,7 +167,7 @@ all_done left a (suc n) h =
     let rest : sum_by (λ x. length (left x)) more ≡ 0 = omega arith in
     rw none (all_done left (a + 1) n rest)
 
-some_live : (left : Queues) (a n m : ℕ)
+pub some_live : (left : Queues) (a n m : ℕ)
     → sum_by (λ x. length (left x)) (range_with_len a n) ≡ suc m
     → 0 < length (filter (is_live left) (range_with_len a n))
 some_live left a zero m h = cc
@@ -193,7 +193,7 @@ picks_whole p banks (suc n) s left ok h =
     let less = left_less left b 0 banks at.0 at.1 at.2 in
     (lt, picks_whole p banks n (p.next s count) (without_next b left) ok (omega (arith, less)))
 
-turns_answer : PicksLive in_turn
+pub turns_answer : PicksLive in_turn
 turns_answer Ahead count h = h
 turns_answer (Turning t) count h = omega arith
 turns_answer (Drawing state) count h = omega arith

@@ -1,0 +1,69 @@
+//! Runs microprograms on several banks at once.
+
+ghost use Rattle.std.specs.Prelude.{◌≡◌, ℕ, ◌<◌, ◌≤◌, ◌^◌, length, map, All, OnOk, OnErr};
+ghost use Rattle.dram_model.specs.Column.{run};
+ghost use Rattle.dram_model.specs.View.{HasBegun, Kept, Did};
+ghost use Rattle.uprog_ctl.specs.Events.{risen};
+ghost use Rattle.uprog_ctl.specs.Waves.{bound_jobs, job_queues, CanRun, wave_counts};
+ghost use Rattle.uprog_ctl.specs.Waves.{wave_events, StoppedAmong};
+ghost use Rattle.wave_model.specs.Schedule.{state_behind};
+
+use crate::controller::do_command;
+use crate::cursor::{first_cursors, go_on, heads_of};
+use crate::pickers::Picker;
+use dram_model::{ChipFault, Dram};
+use uprog_code::{Binding, Fetch};
+
+/// A microprogram that runs on the first so many banks.
+#[derive(Debug, Drop)]
+pub struct Job<'a, F> {
+    pub entry: &'a F,
+    pub binding: Binding,
+    pub banks: u16,
+}
+
+/// Runs jobs as one wave: each bank does the jobs that it has, in order, and the picker chooses
+/// again before each command which of the banks that have commands left does its next one. A call
+/// that fails ends the wave: the commands before it are done.
+pub fn run_wave<D: Dram, F: Fetch, P: Picker>(
+    dram: &mut D,
+    jobs: &[Job<'_, F>],
+    picker: &mut P,
+) -> Result<(), ChipFault>
+    requires begun { HasBegun (D.view dram.old) }
+    requires few_jobs { length jobs.now ≤ 16 }
+    requires few_banks { (D.view dram.old).geometry.banks ≤ 16 }
+    requires jobs { All (CanRun (D.view dram.old).geometry)
+        (bound_jobs F.shape F.code jobs.now) }
+    requires aap_room { (D.view dram.old).counters.aap < 2 ^ 62 }
+    requires ap_room { (D.view dram.old).counters.ap < 2 ^ 62 }
+    ensures borrow { D.borrow dram.new ≡ D.borrow dram.old }
+    ensures kept { Kept (D.view dram.old) (D.view dram.new) }
+    ensures did { OnOk result (Did (wave_events P.rule (D.view dram.old).geometry.banks
+        (P.state picker.old) (job_queues (D.view dram.old).geometry.rows
+        (bound_jobs F.shape F.code jobs.now))) (D.view dram.old) (D.view dram.new)) }
+    ensures state { OnOk result (P.state picker.new
+        ≡ state_behind P.rule (D.view dram.old).geometry.banks (P.state picker.old)
+        (job_queues (D.view dram.old).geometry.rows (bound_jobs F.shape F.code jobs.now))) }
+    ensures alone { OnOk result ((bank : ℕ) → bank < (D.view dram.old).geometry.banks
+        → (D.view dram.new).banks bank ≡ map (run (job_queues (D.view dram.old).geometry.rows
+        (bound_jobs F.shape F.code jobs.now) bank)) ((D.view dram.old).banks bank)) }
+    ensures counters { OnOk result ((D.view dram.new).counters
+        ≡ risen (wave_counts (bound_jobs F.shape F.code jobs.now)) (D.view dram.old).counters) }
+    ensures stopped { OnErr result (StoppedAmong (wave_events P.rule
+        (D.view dram.old).geometry.banks (P.state picker.old)
+        (job_queues (D.view dram.old).geometry.rows (bound_jobs F.shape F.code jobs.now)))
+        (job_queues (D.view dram.old).geometry.rows (bound_jobs F.shape F.code jobs.now))
+        (D.view dram.old) (D.view dram.new)) }
+{
+    let g = dram.geometry();
+    let heads = heads_of(jobs);
+    let mut cursors = first_cursors(jobs, heads.as_slice(), g);
+    while !cursors.is_empty() {
+        let k = usize::from(picker.pick(cursors.len() as u16));
+        let cursor = cursors.as_slice()[k];
+        do_command(dram, cursor.bank, cursor.next)?;
+        go_on(jobs, heads.as_slice(), g, &mut cursors, k);
+    }
+    Ok(())
+}
