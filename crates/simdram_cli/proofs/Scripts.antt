@@ -1,65 +1,44 @@
--- What every accepted script has: plain instructions, and no more than lines.
+-- An accepted script has no more instructions than bytes and one.
 use Rattle.std.proofs.Common.{◌≡◌, ℕ, ◌+◌, ◌≤◌, List, [], ◌∷◌, length, Option, Some, None, refl}
-use Rattle.std.proofs.Common.{ap, arith, ◌==◌, Bool, true, false, cond}
-use Rattle.std.specs.Prelude.{Result, Ok, Err}
-use Rattle.std.specs.List.{AllByRecursion}
+use Rattle.std.proofs.Common.{arith, Bool, true, false, cond, subst}
+use Rattle.std.specs.Prelude.{Result, Ok, Err, ◌==◌}
 use Rattle.bbop_isa.specs.declared.instr.ScriptKind.{ScriptKind}
 use Rattle.bbop_isa.specs.declared.instr.ScriptFault.{ScriptFault}
-use Rattle.bbop_isa.specs.Forms.{Instruction, Init, Bbop, Load, Fill, Print, Free, Order, line_of}
-use Rattle.bbop_isa.specs.Laws.{IsRight}
+use Rattle.bbop_isa.specs.Forms.{Instruction, line_of}
 use Rattle.bbop_isa.specs.Lines.{begun, lines_of}
 use Rattle.bbop_isa.specs.Script.{after, go_on, script_from, script_of}
-use Rattle.bbop_isa.proofs.Meant.{lines_are}
-use Rattle.machine_model.specs.Agrees.{IsPlain}
 
-right_plain : (i : Instruction) → IsRight i → IsPlain i
-right_plain (Init name count n) r = (omega (arith, r.1.0), (omega (arith, r.1.2), r.1.3))
-right_plain (Bbop op dst srcs count n) r = (omega (arith, r.4.2), r.4.3)
-right_plain (Load name values) r = tt
-right_plain (Fill name v) r = tt
-right_plain (Print name) r = tt
-right_plain (Free name) r = tt
-right_plain (Order order) r = tt
-
-line_plain : (line : List ℕ) (i : Instruction) → line_of line ≡ Ok (Some i) → IsPlain i
-line_plain line i e = right_plain i ((lines_are line i).0 e).right
-
--- so many lines have so many plain instructions at most
-record ArePlain (lines : ℕ) (script : List Instruction) : Type 0 where
-  plain : AllByRecursion IsPlain script
-  few : length script ≤ lines
+abbrev AtMost : ℕ → Result (List Instruction) ScriptFault → Type 0
+AtMost n read = (script : List Instruction) → read ≡ Ok script → length script ≤ n
 
 behind : (i : Option Instruction) (rest : Result (List Instruction) ScriptFault) (lines : ℕ)
-    (script : List Instruction) → ((j : Instruction) → i ≡ Some j → IsPlain j)
-    → ((s : List Instruction) → rest ≡ Ok s → ArePlain lines s)
-    → after i rest ≡ Ok script → ArePlain (lines + 1) script
-behind i (Err fault) lines script one more e = absurd (cc)
-behind None (Ok s) lines script one more e =
-    let r = more s refl in
+    → AtMost lines rest → AtMost (lines + 1) (after i rest)
+behind i (Err fault) lines more script e = absurd (cc)
+behind None (Ok s) lines more script e =
+    let few = more s refl in
     let same : s ≡ script = cc in
-    rw (← same) (record { plain = r.plain; few = omega (arith, r.few) })
-behind (Some i) (Ok s) lines script one more e =
-    let r = more s refl in
+    subst (λ (t : List Instruction). length t ≤ lines + 1) same (omega (arith, few))
+behind (Some i) (Ok s) lines more script e =
+    let few = more s refl in
     let same : i ∷ s ≡ script = cc in
-    rw (← same) (record { plain = (one i refl, r.plain); few = omega (arith, r.few) })
+    subst (λ (t : List Instruction). length t ≤ lines + 1) same (omega (arith, few))
 
-line_goes : (number : ℕ) (line : List ℕ) (said : Result (Option Instruction) ScriptKind)
-    (rest : Result (List Instruction) ScriptFault) (lines : ℕ) (script : List Instruction)
-    → line_of line ≡ said → ((s : List Instruction) → rest ≡ Ok s → ArePlain lines s)
-    → go_on number said rest ≡ Ok script → ArePlain (lines + 1) script
-line_goes number line (Err kind) rest lines script said more e = absurd (cc)
-line_goes number line (Ok i) rest lines script said more e =
-    behind i rest lines script
-    (λ j is. line_plain line j (said ∙ ap (λ (o : Option Instruction). Ok o) is)) more e
+line_goes : (number : ℕ) (said : Result (Option Instruction) ScriptKind)
+    (rest : Result (List Instruction) ScriptFault) (lines : ℕ) → AtMost lines rest
+    → AtMost (lines + 1) (go_on number said rest)
+line_goes number (Err kind) rest lines more script e = absurd (cc)
+line_goes number (Ok i) rest lines more script e = behind i rest lines more script e
 
-lines_plain : (number : ℕ) (lines : List (List ℕ)) (script : List Instruction)
-    → script_from number lines ≡ Ok script → ArePlain (length lines) script
-lines_plain number [] script e =
-    let same : [] ≡ script = cc in rw (← same) (record { plain = tt; few = omega arith })
-lines_plain number (line ∷ lines) script e =
-    let r = line_goes number line (line_of line) (script_from (number + 1) lines) (length lines)
-    script refl (λ s is. lines_plain (number + 1) lines s is) e in
-    record { plain = r.plain; few = omega (arith, r.few) }
+lines_few : (number : ℕ) (lines : List (List ℕ))
+    → AtMost (length lines) (script_from number lines)
+lines_few number [] script e =
+    let none : List Instruction = [] in
+    let same : none ≡ script = cc in
+    subst (λ (t : List Instruction). length t ≤ 0) same (omega arith)
+lines_few number (line ∷ lines) script e =
+    let few = line_goes number (line_of line) (script_from (number + 1) lines) (length lines)
+    (lines_few (number + 1) lines) script e in
+    omega (arith, few)
 
 begun_long : (b : ℕ) (lines : List (List ℕ)) → length (begun b lines) ≤ length lines + 1
 begun_long b [] = omega arith
@@ -75,13 +54,8 @@ lines_long [] = omega arith
 lines_long (b ∷ bs) =
     let l = split_long (b == 10) b (length bs) (lines_of bs) (lines_long bs) in omega (arith, l)
 
--- an accepted script is plain, and has no more instructions than lines
-pub accepted_plain : (text : List ℕ) (script : List Instruction) → script_of text ≡ Ok script
-    → AllByRecursion IsPlain script
-accepted_plain text script e = (lines_plain 1 (lines_of text) script e).plain
-
 pub accepted_few : (text : List ℕ) (script : List Instruction) → script_of text ≡ Ok script
     → length script ≤ length text + 1
 accepted_few text script e =
-    let p = (lines_plain 1 (lines_of text) script e).few in
+    let p = lines_few 1 (lines_of text) script e in
     let l = lines_long text in omega (arith, p, l)

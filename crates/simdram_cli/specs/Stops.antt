@@ -4,6 +4,8 @@ use Rattle.cli_model.specs.Steps.{Reason, CannotRead, TooLong, Refused, NoMemory
 use Rattle.cli_model.specs.Steps.{CannotWrite, PutFailed, ChipFailed, End, Done, Stopped}
 use Rattle.object_alloc.specs.declared.fault.ImageNo.{ImageNo}
 use Rattle.object_alloc.specs.declared.fault.ImageNo.TheVariants as image_no
+use Rattle.sim_machine.specs.declared.machine.StepFault.{StepFault}
+use Rattle.sim_machine.specs.declared.machine.StepFault.TheVariants as step_fault
 use Rattle.simdram_cli.specs.Inputs.{ops_refusal, script_refusal, image_refusal}
 use Rattle.simdram_cli.specs.Programs.{prog_refusal}
 use Rattle.simdram_cli.specs.declared.stop.Stop.{Stop}
@@ -30,3 +32,8 @@ end_of (Err s) = Stopped (reason_of s)
 abbrev pub image_reason : ImageNo → Reason
 image_reason (image_no.Fault fault) = Refused (image_refusal fault)
 image_reason image_no.NoMemory = NoMemory
+
+-- and at an instruction that is not done
+abbrev pub fault_reason : StepFault → Reason
+fault_reason step_fault.ChipFault = ChipFailed
+fault_reason step_fault.WriteFault = PutFailed

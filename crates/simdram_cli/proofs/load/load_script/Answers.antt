@@ -6,7 +6,8 @@ use Rattle.simdram_cli.specs.Inputs.{script_in}
 use Rattle.simdram_cli.specs.declared.words.TheConstants.{SCRIPT_MAX}
 use Rattle.simdram_cli.proofs.Reading.{not_read, text_refused, text_unread, script_refused}
 use Rattle.simdram_cli.proofs.Reading.{script_accepted}
-use Rattle.simdram_cli.proofs.Scripts.{accepted_plain, accepted_few}
+use Rattle.machine_model.proofs.Accepted.{accepted_is_plain}
+use Rattle.simdram_cli.proofs.Scripts.{accepted_few}
 use Rattle.simdram_cli.proofs.load.load_script.Goals as goal
 
 pub returns-in_err-text-clause-not_read : goal.returns-in_err-text-clause-not_read
@@ -35,7 +36,7 @@ returns-clause-not_read g c =
 
 pub returns-in-Ok-clause-plain : goal.returns-in-Ok-clause-plain
 returns-in-Ok-clause-plain g c =
-    accepted_plain c.in_ok-text.text.items (map view_of c.in-Ok.script.items)
+    accepted_is_plain c.in_ok-text.text.items (map view_of c.in-Ok.script.items)
     (rw c.deref.ensures.value at c.in-Ok.ensures.accepted)
 
 pub returns-in-Ok-clause-few : goal.returns-in-Ok-clause-few
