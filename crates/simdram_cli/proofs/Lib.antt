@@ -1,10 +1,11 @@
-pub mod Bbops
 pub mod Joins
 pub mod Reading
 pub mod Scripts
 pub mod Sized
 pub mod Tallies
-pub mod Working
+pub mod Sending
+pub mod Piecewise
+pub mod Progress
 pub mod Performing
 pub mod Running
 pub mod Foreseen
