@@ -2,7 +2,6 @@
 
 ghost use Rattle.std.specs.Prelude.{◌≡◌, ◌+◌, ◌≤◌, length, map, IfOk};
 ghost use Rattle.std.specs.List.{AllByRecursion};
-ghost use Rattle.uprog_code.specs.Programs.{IsProgram};
 ghost use Rattle.bbop_isa.specs.Forms.{view_of};
 ghost use Rattle.machine_model.specs.Agrees.{IsPlain};
 ghost use Rattle.cli_model.specs.World.{world};
@@ -48,7 +47,6 @@ fn work_on_image<'a, F: Folder, S: Sink, D: Dram>(
     chip: &mut D,
     alloc: Global,
 ) -> Result<u64, Stop<'a>>
-    requires program { IsProgram prog.programs }
     requires plain { AllByRecursion IsPlain (map view_of script.now) }
     requires few { length script.now ≤ SCRIPT_MAX + 1 }
     ensures borrow { D.borrow chip.new ≡ D.borrow chip.old }
@@ -73,7 +71,6 @@ pub(crate) fn do_job<'a, F: Folder, S: Sink, D: Dram>(
     chip: &mut D,
     alloc: Global,
 ) -> Result<u64, Stop<'a>>
-    requires program { IsProgram prog.programs }
     ensures borrow { D.borrow chip.new ≡ D.borrow chip.old }
     ensures goes { JobGoes names.now prog.entry.programs
         (world (F.view files.old) (S.view out.old) (D.view chip.old))

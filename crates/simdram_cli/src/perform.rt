@@ -5,7 +5,6 @@ ghost use Rattle.std.specs.Prelude.{IfOk, OnOk};
 ghost use Rattle.std.specs.List.{AllByRecursion};
 ghost use Rattle.host_edge.specs.Views.{FolderView, SinkView};
 ghost use Rattle.dram_model.specs.View.{HasBegun, DidRead, with_reads};
-ghost use Rattle.uprog_code.specs.Programs.{IsProgram};
 ghost use Rattle.object_alloc.specs.Exact.{found_in};
 ghost use Rattle.object_alloc.specs.Reading.{rows_size};
 ghost use Rattle.object_alloc.specs.Spelling.{image_bytes};
@@ -106,7 +105,6 @@ pub(crate) fn perform<'a, F: Folder, S: Sink, D: Dram>(
     chip: &mut D,
     alloc: Global,
 ) -> Result<u64, Stop<'a>>
-    requires program { IsProgram prog.programs }
     requires set { IsSetting image.geometry image.table }
     requires rows { length image.rows.now ≡ rows_size image.geometry }
     requires plain { AllByRecursion IsPlain (map view_of script.now) }
