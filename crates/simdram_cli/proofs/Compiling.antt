@@ -21,7 +21,7 @@ use Rattle.simdram_cli.specs.declared.words.CompileNames.{CompileNames}
 use Rattle.simdram_cli.specs.declared.words.TheConstants.{OPS_MAX}
 use Rattle.simdram_cli.specs.declared.stop.Stop.{Stop as StopBy}
 use Rattle.simdram_cli.specs.Stops.{end_of, reason_of}
-use Rattle.simdram_cli.specs.Run.{done_status}
+use Rattle.simdram_cli.specs.Job.{done_status}
 use Rattle.simdram_cli.specs.Ends.{ProgramTaken, ProgramStopped, answer_to}
 use Rattle.simdram_cli.specs.Compile.{compile_steps, compiled_line, CompileEnds, CompileGoes}
 use Rattle.simdram_cli.specs.Compile.{Compiled}

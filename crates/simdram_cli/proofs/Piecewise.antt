@@ -220,7 +220,7 @@ count_both p xs ys = rw (← tally-is p (xs ++ ys), ← tally-is p xs, ← tally
 
 -- what is sent
 
-sent_more : (xs ys : List Step) → sent_by (xs ++ ys) ≡ sent_by xs ++ sent_by ys
+pub sent_more : (xs ys : List Step) → sent_by (xs ++ ys) ≡ sent_by xs ++ sent_by ys
 sent_more [] ys = refl
 sent_more (Load name limit text refusal ∷ xs) ys = sent_more xs ys
 sent_more (Take ∷ xs) ys = sent_more xs ys

@@ -15,7 +15,6 @@ use Rattle.uprog_code.specs.Programs.{IsProgram}
 use Rattle.uprog_code.specs.Texts.{ImplementsAll, text_op}
 use Rattle.machine_model.specs.Opened.{Image}
 use Rattle.machine_model.specs.Agrees.{IsPlain}
-use Rattle.machine_model.specs.Script.{is_bbop}
 use Rattle.cli_model.specs.World.{World, world}
 use Rattle.cli_model.specs.Steps.{Take, Store, Refusal, Reason, Refused, NoMemory, Done, Stopped}
 use Rattle.cli_model.specs.Steps.{Goes}
@@ -30,7 +29,8 @@ use Rattle.object_alloc.specs.declared.fault.ImageNo.TheVariants as no
 use Rattle.object_alloc.specs.Exact.{found_in}
 use Rattle.simdram_cli.specs.Stops.{end_of, image_reason, reason_of}
 use Rattle.simdram_cli.specs.Reads.{refusal_of, LoadedAs, NotLoaded, NotRead, OpsRead}
-use Rattle.simdram_cli.specs.Run.{work_steps}
+use Rattle.simdram_cli.specs.declared.job.JobNames.{JobNames}
+use Rattle.simdram_cli.specs.Job.{work_steps}
 use Rattle.simdram_cli.specs.Works.{WorkDone}
 use Rattle.simdram_cli.specs.Words.{are_apart, all_differ}
 use Rattle.simdram_cli.specs.Ends.{GoesToStore, StopsAtStore, ProgramTaken, ProgramStopped, DoneOn}
@@ -102,7 +102,7 @@ stopped_by ops_name prog_name ops (Err stop) old mid new r g =
     program_unstored ops_name prog_name ops (reason_of stop) old mid new r g
 
 -- IMAGE was not loaded
-pub image_unread : (names : RunNames) (program : Program) (script : List Instruction) (stop : Stop)
+pub image_unread : (names : JobNames) (program : Program) (script : List Instruction) (stop : Stop)
     (old new : FolderView) (sink : SinkView) (chip : ChipView)
     → NotLoaded names.image.now IMAGE_MAX (reason_of stop) old new
     → ImageWorked names program script (world old sink chip) (world new sink chip) (Err stop)
@@ -118,7 +118,7 @@ image_unread names program script stop old new sink chip n = record {
 }
 
 -- IMAGE is refused
-pub image_refused : (names : RunNames) (program : Program) (script : List Instruction) (stop : Stop)
+pub image_refused : (names : JobNames) (program : Program) (script : List Instruction) (stop : Stop)
     (text : List ℕ) (refusal : Refusal) (old new : FolderView) (sink : SinkView)
     (chip : ChipView) → LoadedAs names.image.now IMAGE_MAX text old new
     → image_of text ≡ Err refusal → reason_of stop ≡ Refused refusal
@@ -134,7 +134,7 @@ image_refused names program script stop text refusal old new sink chip loaded e 
 }
 
 -- there was no memory to read IMAGE
-pub image_no_memory : (names : RunNames) (program : Program) (script : List Instruction)
+pub image_no_memory : (names : JobNames) (program : Program) (script : List Instruction)
     (stop : Stop) (text : List ℕ) (old new : FolderView) (sink : SinkView) (chip : ChipView)
     → LoadedAs names.image.now IMAGE_MAX text old new
     → reason_of stop ≡ NoMemory → ImageWorked names program script (world old sink chip)
@@ -150,7 +150,7 @@ image_no_memory names program script stop text old new sink chip loaded f = reco
 }
 
 -- IMAGE is not read
-pub image_not_read : (names : RunNames) (program : Program) (script : List Instruction)
+pub image_not_read : (names : JobNames) (program : Program) (script : List Instruction)
     (stop : Stop) (why : ImageNo) (text : List ℕ) (old new : FolderView) (sink : SinkView)
     (chip : ChipView) → LoadedAs names.image.now IMAGE_MAX text old new
     → IsFault why (image_in text) → reason_of stop ≡ image_reason why
@@ -174,7 +174,7 @@ done_on program script i read chip (Ok refused) e is plain w = rw e (is, plain, 
 done_on program script i read chip (Err stop) e is plain w = tt
 
 -- IMAGE was read, and the script done on it
-pub image_worked : (names : RunNames) (program : Program) (script : List Instruction) (i : Image)
+pub image_worked : (names : JobNames) (program : Program) (script : List Instruction) (i : Image)
     (result : Result ℕ Stop) (text : List ℕ) (old mid : FolderView) (sink : SinkView)
     (chip : ChipView) (new : World) → LoadedAs names.image.now IMAGE_MAX text old mid
     → image_of text ≡ Ok i → IsImage i.geometry i.table i.rows → AllByRecursion IsPlain script
