@@ -1,6 +1,6 @@
 -- A wave beside its bbops one after another.
 use Rattle.std.proofs.Common.{◌≡◌, ℕ, zero, suc, ◌+◌, ◌*◌, ◌<◌, ◌≤◌, Bool, true, false, not, cond}
-use Rattle.std.proofs.Common.{ltb, leb, List, [], ◌∷◌, ◌++◌, length, map, Option, Some, None}
+use Rattle.std.proofs.Common.{ltb, List, [], ◌∷◌, ◌++◌, map, Option, Some, None}
 use Rattle.std.proofs.Common.{refl, sym, ◌∙◌, ap, arith, inl, inr, eq-eqb, append-nil}
 use Rattle.std.proofs.Common.{take, drop}
 use Rattle.std.specs.Prelude.{◌⊎◌, filter, flat_map, is_none}
@@ -18,14 +18,12 @@ use Rattle.dram_model.specs.Chip.Event.{Row}
 use Rattle.dram_model.specs.Elements.{column_count}
 use Rattle.dram_model.specs.Events.{events_of, row_events, on_bank_all}
 use Rattle.dram_model.proofs.EventLaws.{projection}
-use Rattle.object_alloc.specs.Free.{free}
-use Rattle.object_alloc.specs.Listed.{Named, limit_of, objects_of, has_name}
+use Rattle.object_alloc.specs.Listed.{Named}
 use Rattle.bbop_isa.specs.Forms.{Instruction}
 use Rattle.bbop_isa.specs.Forms.{Init, Bbop, Load, Fill, Print, Free, Order}
 use Rattle.machine_model.specs.declared.Why.{Why}
-use Rattle.machine_model.specs.declared.Why.TheVariants as why
 use Rattle.machine_model.specs.Operations.{Operations}
-use Rattle.machine_model.specs.Refusals.{refusal, object_named, nothing, when}
+use Rattle.machine_model.specs.Refusals.{refusal, object_named, nothing}
 use Rattle.wave_model.specs.Schedule.{Job, Queues, queues, events_of_picks, IsWhole}
 use Rattle.wave_model.specs.Schedule.{picked, without_next}
 use Rattle.machine_model.specs.Steps.{job_of, job_events, own_events, if_done, table_after, tabled}
@@ -33,8 +31,8 @@ use Rattle.machine_model.specs.Steps.{new_object}
 use Rattle.machine_model.specs.Script.{is_bbop, table_at_end, events_in_order}
 use Rattle.machine_model.specs.Pieces.{AreBbops, jobs_of, wave_queues}
 use Rattle.machine_model.specs.Laws.{FitsBanks, WaveIsSteps}
-use Rattle.machine_model.proofs.Facts.{first_none, when_none}
 use Rattle.machine_model.proofs.Makes.{few_banks}
+use Rattle.machine_model.proofs.Tables.{made}
 use Rattle.machine_model.proofs.Events.{in_order_steps}
 use Rattle.machine_model.proofs.Alike.{Alike, events_of-append}
 use Rattle.wave_model.proofs.Waves.{own_queue, no_events, live_at, live_none}
@@ -277,15 +275,8 @@ fits_tabled : (g : Geometry) (operations : Operations) (table : List Named) (ins
     → FitsBanks g table → refusal g operations table instr ≡ None
     → FitsBanks g (tabled g table instr)
 fits_tabled g operations table (Init name count n) f h =
-    let c4 = when (is_none (free (limit_of g) (objects_of table) n)) why.NoRows ∷ [] in
-    let c3 = when (ltb (column_count g * g.banks) count) why.TooLarge ∷ c4 in
-    let c2 = when (leb 256 (length table)) why.TableFull ∷ c3 in
-    let new = first_none (when (has_name table name) why.Exists) c2 h in
-    let full = first_none (when (leb 256 (length table)) why.TableFull) c3 new.1 in
-    let large = first_none (when (ltb (column_count g * g.banks) count) why.TooLarge) c4 full.1 in
-    let not_large : ltb (column_count g * g.banks) count ≡ false = when_none _ _ large.0 in
     All-push (λ named. named.1.count ≤ column_count g * g.banks) table
-    (name, new_object g table count n) f (grind (arith, nat_tests))
+    (name, new_object g table count n) f (made g operations table name count n h).fits
 fits_tabled g operations table (Free name) f h =
     All-filter (λ p. not (bytes_eq p.0 name))
     (λ named. named.1.count ≤ column_count g * g.banks) table f

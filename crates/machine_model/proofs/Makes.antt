@@ -1,7 +1,7 @@
 -- The steps of a fill and of a new object.
-use Rattle.std.proofs.Common.{◌≡◌, ℕ, ◌+◌, ◌*◌, ◌/◌, ◌%◌, ◌^◌, ◌<◌, ◌≤◌, false, ltb, leb, List, []}
+use Rattle.std.proofs.Common.{◌≡◌, ℕ, ◌+◌, ◌*◌, ◌/◌, ◌%◌, ◌^◌, ◌<◌, ◌≤◌, false, leb, List, []}
 use Rattle.std.proofs.Common.{◌∷◌, ◌++◌, length, get_or, sym, ◌∙◌, ap, subst, arith, inl, inr}
-use Rattle.std.specs.Prelude.{All, is_none, replicate}
+use Rattle.std.specs.Prelude.{All, replicate}
 use Rattle.std.specs.Int.{div_ceil}
 use Rattle.std.proofs.lemmas.Bool.{cases_lt}
 use Rattle.std.proofs.lemmas.Bool.Decides.{nat_tests}
@@ -12,8 +12,8 @@ use Rattle.std.proofs.Math.Nat.{mul-le-mul_left, div-le_of_le-mul}
 use Rattle.dram_model.specs.declared.geometry.Geometry.{Geometry}
 use Rattle.dram_model.specs.Chip.{Banks, after}
 use Rattle.object_alloc.specs.declared.table.Object.{Object}
-use Rattle.object_alloc.specs.Free.{free, AreApart}
-use Rattle.object_alloc.specs.Listed.{Named, IsTable, objects_of, has_name}
+use Rattle.object_alloc.specs.Free.{AreApart}
+use Rattle.object_alloc.specs.Listed.{Named, IsTable, objects_of}
 use Rattle.object_alloc.proofs.Tables.{IsTable-add}
 use Rattle.bbop_isa.specs.Forms.{Init, Fill}
 use Rattle.machine_model.specs.declared.Why.TheVariants as why
@@ -28,6 +28,7 @@ use Rattle.machine_model.specs.Agrees.{Agrees, StepAgrees}
 use Rattle.machine_model.proofs.Facts.{first_none, when_none, not_false}
 use Rattle.machine_model.proofs.Places.{no_one, entry_of, found}
 use Rattle.machine_model.proofs.Below.{base_free}
+use Rattle.machine_model.proofs.Tables.{made}
 use Rattle.machine_model.proofs.Bbops.{apart_places, not_free, if_not_true}
 use Rattle.machine_model.proofs.Fills.{fill_job, fill_is_job, fill_columns, fill_others}
 use Rattle.machine_model.proofs.Steps.{with_numbers_agrees, through_length, done_or_not, idle}
@@ -87,22 +88,10 @@ init_agrees g operations meaning name count n some words banks state a =
     let o = new_object g table count n in
     let h' : Held = record { name = name; object = o; numbers = replicate (object_size g o) 0 } in
     done_or_not g (refusal g operations table (Init name count n)) _ banks _ state (λ h.
-    let c4 = when (is_none (free (limit_of g) (objects_of table) n)) why.NoRows ∷ [] in
-    let c3 = when (ltb (column_count g * g.banks) count) why.TooLarge ∷ c4 in
-    let c2 = when (leb 256 (length table)) why.TableFull ∷ c3 in
-    let new = first_none (when (has_name table name) why.Exists) c2 h in
-    let full = first_none (when (leb 256 (length table)) why.TableFull) c3 new.1 in
-    let large = first_none (when (ltb (column_count g * g.banks) count) why.TooLarge) c4 full.1 in
-    let room = first_none (when (is_none (free (limit_of g) (objects_of table) n)) why.NoRows) []
-    large.1 in
-    let is_new : has_name table name ≡ false = when_none _ _ new.0 in
-    let not_full : leb 256 (length table) ≡ false = when_none _ _ full.0 in
-    let not_large : ltb (column_count g * g.banks) count ≡ false = when_none _ _ large.0 in
-    let has_room : is_none (free (limit_of g) (objects_of table) n) ≡ false =
-    when_none _ _ room.0 in
-    let base = (base_free (limit_of g) (objects_of table) n has_room).1 in
+    let m = made g operations table name count n h in
+    let base = (base_free (limit_of g) (objects_of table) n m.room).1 in
     let few : segments g o ≤ g.banks = few_banks count (column_count g) g.banks (omega arith)
-    (grind (arith, nat_tests)) in
+    m.fits in
     let apart : (k : ℕ) → k < length state → AreApart (get_or state k no_one).object o =
     λ k l row r. if_not_true _ (λ t.
     let rows : (o.base ≤ row) × (row < o.base + n) = grind (arith, nat_tests) in
@@ -116,8 +105,7 @@ init_agrees g operations meaning name count n some words banks state a =
       shaped = λ bank l. through_length (fill_job g o 0) banks bank ∙ a.shaped bank l;
       table = subst (λ (t : List Named). IsTable (limit_of g) t)
           (sym (map-append entry_of state (h' ∷ [])))
-          (IsTable-add (limit_of g) table name o a.table (grind (arith, nat_tests)) is_new some
-          base);
+          (IsTable-add (limit_of g) table name o a.table m.few m.new some base);
       within = All-push (λ (h : Held). segments g h.object ≤ g.banks) state h' a.within few;
       numbers = All-push (λ (h : Held). columns g (through (fill_job g o 0) banks) h.object
           ≡ h.numbers) state h'
