@@ -1,3 +1,4 @@
 pub mod Xor
 pub mod Dup
 pub mod Runs
+pub mod Waves

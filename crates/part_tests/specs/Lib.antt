@@ -1,3 +1,4 @@
 -- The operations of the tests.
 pub mod Xor
 pub mod Dup
+pub mod Waves

@@ -19,3 +19,5 @@ mod program_tests;
 mod rows;
 #[cfg(test)]
 mod walk_tests;
+#[cfg(test)]
+mod wave_tests;

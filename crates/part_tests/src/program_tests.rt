@@ -20,7 +20,7 @@ use uprog_code::{Binding, EntryCode, Fetch, Head, Kind, Program, RowRef, RowSpac
 use uprog_ctl::run;
 
 /// Banks of 64 columns.
-const SMALL: Geometry = Geometry {
+pub(crate) const SMALL: Geometry = Geometry {
     banks: 2,
     rows: 64,
     words: 1,
@@ -66,7 +66,7 @@ fn xor_code() -> [Uop; 8]
     ]
 }
 
-fn xor_entry(alloc: Global) -> Result<EntryCode, Fail>
+pub(crate) fn xor_entry(alloc: Global) -> Result<EntryCode, Fail>
     ensures shape { IfOk result (λ e. shape_of e.head ≡ xor_shape) }
     ensures code { IfOk result (λ e. e.code.items ≡ xor_code) }
 {

@@ -2,14 +2,19 @@
 use Rattle.std.proofs.Common.{◌≡◌, ℕ, Bool, true, false, cond, List}
 use Rattle.std.proofs.Common.{[], ◌∷◌, map, length, refl, sym, ◌∙◌, ap, subst, arith, Some}
 use Rattle.std.proofs.Common.{None}
-use Rattle.std.specs.Prelude.{All, Option, unwrap_or, flat_map, ◌||◌}
-use Rattle.std.specs.List.{range_with_len, find, AllByRecursion}
+use Rattle.std.specs.Prelude.{All, Option, Ok, unwrap_or, ◌||◌, ◌<◌, ◌≤◌}
+use Rattle.std.specs.List.{find}
 use Rattle.std.specs.Option.{option_map}
 use Rattle.std.specs.Str.{bytes_eq}
 use Rattle.std.proofs.lemmas.List.Elements.{All-head, All-tail}
 use Rattle.dram_model.specs.declared.geometry.Geometry.{Geometry}
-use Rattle.dram_model.specs.Chip.{Event}
-use Rattle.dram_model.specs.Events.{row_events}
+use Rattle.bit_rows.specs.declared.TheConstants.{WIDTH_MAX}
+use Rattle.dram_model.specs.declared.address.Command.{Command}
+use Rattle.wave_model.specs.Schedule.{Job}
+use Rattle.uprog_code.specs.declared.walker.Counts.{Counts}
+use Rattle.uprog_code.specs.Count.{walked}
+use Rattle.uprog_code.specs.Legal.{IsLegalCode}
+use Rattle.uprog_ctl.specs.Waves.{BoundJob, CanRun, wave_job}
 use Rattle.uprog_code.specs.declared.binding.Binding.{Binding}
 use Rattle.uprog_code.specs.Shape.{Microprogram, need, results}
 use Rattle.uprog_code.specs.Machine.{trace, issues_of}
@@ -28,7 +33,8 @@ use Rattle.machine_model.proofs.Facts.{AreOperands, none, more, good}
 use Rattle.op_text.specs.declared.tree.Kind.{Kind}
 use Rattle.machine_model.proofs.Bbops.{binding_fits, operand_at}
 use Rattle.sim_machine.specs.declared.refusal.Grant.{Grant}
-use Rattle.sim_machine.specs.Granted.{IsGranted, banks_events, granted_events}
+use Rattle.sim_machine.specs.Granted.{IsGranted, granted_job}
+use Rattle.sim_machine.proofs.Counting.{has_ended}
 
 -- a state with this table
 still : Named → Held
@@ -109,33 +115,48 @@ pub binding_is_fit : (g : Geometry) (table : List Named) (m : Microprogram) (dst
 binding_is_fit g table m dst srcs count n rows width b listed allowed e f h =
     rw (e, f, h) (fits_at g table (operation_of m) dst srcs count n listed allowed)
 
-abbrev ran : ℕ → Microprogram → ℕ → ℕ → Bound → List Event
-ran rows m k n b =
-    flat_map (λ bank. row_events bank (bound rows m.shape n b (issues_of (trace m.shape m.code n))))
-    (range_with_len 0 k)
+abbrev bound_job_of : Microprogram → Binding → ℕ → BoundJob
+bound_job_of m b banks = record {
+  shape = m.shape;
+  code = m.code;
+  binding = b;
+  banks = banks;
+}
 
-pub events_are : (g : Geometry) (table : List Named) (m : Microprogram) (dst : List ℕ)
-    (srcs : List (List ℕ)) (n rows : ℕ) (b : Binding) → rows ≡ g.rows → b.n ≡ n
+pub can_run : (g : Geometry) (table : List Named) (m : Microprogram) (dst : List ℕ)
+    (srcs : List (List ℕ)) (count n banks : ℕ) (b : Binding) (counts : Counts)
+    → IsLegalCode m.shape m.code → 0 < n → n ≤ WIDTH_MAX → IsTable (limit_of g) table
+    → first (bbop_conditions (limit_of g) table (operation_of m) (dst ∷ srcs) count n) ≡ None
+    → b.n ≡ n → bound_of b ≡ binding g table m.shape (dst ∷ srcs) n
+    → walked (trace m.shape m.code n) ≡ Ok counts → banks ≤ g.banks
+    → CanRun g (bound_job_of m b banks)
+can_run g table m dst srcs count n banks b counts legal some narrow listed allowed e f w l = record {
+  legal = legal;
+  some = rw e some;
+  narrow = rw e narrow;
+  fits = binding_is_fit g table m dst srcs count n g.rows b.n (bound_of b) listed allowed f refl e;
+  ends = has_ended (trace m.shape m.code b.n) counts
+      (ap (λ k. walked (trace m.shape m.code k)) e ∙ w);
+  banks = l;
+}
+
+abbrev job_with : List Command → ℕ → Job
+job_with commands banks = record { commands = commands; banks = banks }
+
+same_job : (a b : List Command) (k l : ℕ) → a ≡ b → k ≡ l
+    → job_with a k ≡ job_with b l
+same_job a b k l e f = rw (e, f) refl
+
+abbrev with_width : ℕ → Microprogram → ℕ → Bound → List Command
+with_width rows m w at = bound rows m.shape w at (issues_of (trace m.shape m.code w))
+
+pub job_is : (g : Geometry) (table : List Named) (m : Microprogram) (dst : List ℕ)
+    (srcs : List (List ℕ)) (n banks : ℕ) (b : Binding) → b.n ≡ n
     → bound_of b ≡ binding g table m.shape (dst ∷ srcs) n
-    → banks_events rows m b (segments g (object_named table dst))
-    ≡ granted_events g table m dst srcs n
-events_are g table m dst srcs n rows b e f h =
-    ap (λ r. ran r m (segments g (object_named table dst)) b.n (bound_of b)) e
-    ∙ ap (λ w. ran g.rows m (segments g (object_named table dst)) w (bound_of b)) f
-    ∙ ap (ran g.rows m (segments g (object_named table dst)) n) h
-
-found_case_of : {X : Type 0} (P : X → Type 0) (x m : X) (rest : Option X) (b : Bool)
-    → Some m ≡ cond b (Some x) rest → P x → (Some m ≡ rest → P m) → P m
-found_case_of P x m rest true e here there = subst P (sym same) here where
-  same : m ≡ x
-  same = cc
-found_case_of P x m rest false e here there = there e
-
-pub found_holds : {X : Type 0} (P : X → Type 0) (p : X → Bool) (xs : List X) (m : X)
-    → AllByRecursion P xs → Some m ≡ find p xs → P m
-found_holds P p [] m all e = absurd (cc)
-found_holds P p (x ∷ xs) m all e = found_case_of P x m (find p xs) (p x) e all.0 (λ f.
-    found_holds P p xs m all.1 f)
+    → banks ≡ segments g (object_named table dst)
+    → wave_job g.rows (bound_job_of m b banks) ≡ granted_job g table m dst srcs n
+job_is g table m dst srcs n banks b e f h = same_job _ _ _ _
+    (ap (λ w. with_width g.rows m w (bound_of b)) e ∙ ap (with_width g.rows m n) f) h
 
 -- as many sources as the operation has
 pub few_sources : (g : Geometry) (table : List Named) (o : Operation) (dst : List ℕ)

@@ -1,4 +1,11 @@
 pub mod Found
+pub mod Stepping
+pub mod Printing
+pub mod Alone
+pub mod Rising
+pub mod Comings
+pub mod Waving
+pub mod Lines
 pub mod Entries
 pub mod Rows
 pub mod Counting

@@ -1,5 +1,7 @@
 -- What the machine does to a chip, and what it shows of itself.
 pub mod Granted
 pub mod Opening
-pub mod Machine
 pub mod Image
+pub mod Machine
+pub mod Steps
+pub mod Outcome

@@ -1,19 +1,27 @@
 -- What a machine shows of itself.
-use Rattle.std.specs.Prelude.{◌≡◌, ℕ, ◌+◌, ◌*◌, ◌≤◌, List, length, vec_capacity}
+use Rattle.std.specs.Prelude.{◌≡◌, ℕ, ◌+◌, ◌*◌, ◌≤◌, Bool, true, false, List, length, map}
+use Rattle.std.specs.Prelude.{vec_capacity}
 use Rattle.dram_model.specs.declared.geometry.Geometry.{Geometry}
-use Rattle.dram_model.specs.Chip.{Event}
+use Rattle.dram_model.specs.Chip.{Banks, Event}
 use Rattle.uprog_code.specs.Shape.{Microprogram}
 use Rattle.object_alloc.specs.Listed.{Named}
 use Rattle.object_alloc.specs.Reading.{rows_size}
 use Rattle.object_alloc.specs.declared.sizes.TheConstants.{HEAD_BYTES, RECORD_BYTES, OBJECTS_MAX}
 use Rattle.sim_machine.specs.declared.machine.Machine.{Machine}
 use Rattle.bbop_isa.specs.Forms.{Instruction}
+use Rattle.bbop_isa.specs.Forms.{Init, Bbop, Load, Fill, Print, Free, Order}
+use Rattle.wave_model.specs.Schedule.{Turn}
+use Rattle.uprog_ctl.specs.Orders.{turn_of}
+use Rattle.object_steps.specs.Objects.{LiesOn}
 use Rattle.machine_model.specs.declared.Reply.{Reply}
-use Rattle.machine_model.specs.Operations.{operations_in}
-use Rattle.machine_model.specs.Report.{line}
+use Rattle.machine_model.specs.Columns.{segments}
+use Rattle.machine_model.specs.Operations.{Operations, operations_in}
+use Rattle.machine_model.specs.Refusals.{object_named}
+use Rattle.machine_model.specs.Pieces.{Piece, piece_events, turn_behind}
+use Rattle.machine_model.specs.Report.{Said, line, lines, said_by}
 use Rattle.machine_model.specs.Report.Said.{Answered}
-use Rattle.machine_model.specs.Steps.{reply_to, job_of}
-use Rattle.sim_machine.specs.Granted.{IsSetting, instr_events}
+use Rattle.machine_model.specs.Script.{rows_if_done, rows_printed}
+use Rattle.machine_model.specs.Steps.{new_object, reply_to, table_after}
 
 -- the program that its bbops run, the shape of its chip, and its objects
 abbrev pub program_of : Machine → List Microprogram
@@ -25,27 +33,78 @@ geometry_of m = m.geometry
 abbrev pub table_in : Machine → List Named
 table_in m = m.table.pairs
 
+-- the order in force, with its picker's state
+abbrev pub turn_in : Machine → Turn
+turn_in m = turn_of m.order
+
 -- the image file that was spelled last
 abbrev pub file_of : Machine → List ℕ
 file_of m = m.file.items
 
 -- a machine that is open: its parts fit, and it has the memory that it needs
 pub record IsReady (m : Machine) : Type 0 where
-  pub set : IsSetting m.geometry m.table
-  pub stage : length m.stage.items ≡ m.geometry.words
+  pub lies : LiesOn m.geometry m.table
+  pub stage : length m.stage.items ≡ 128 * m.geometry.words
   pub room : HEAD_BYTES + RECORD_BYTES * OBJECTS_MAX + rows_size m.geometry
       ≤ vec_capacity m.file
 
--- its reply to an instruction, and the line of that reply
+abbrev pub operations_by : Machine → Operations
+operations_by m = operations_in (program_of m)
+
+-- its reply to an instruction, what is said of it in its report, and the table behind it
 abbrev pub reply_of : Machine → Instruction → Reply
-reply_of m instr = reply_to (geometry_of m) (operations_in (program_of m)) (table_in m) instr
+reply_of m instr = reply_to (geometry_of m) (operations_by m) (table_in m) instr
 
-abbrev pub line_of : Machine → ℕ → Instruction → List ℕ
-line_of m number instr = line number (Answered (reply_of m instr))
+abbrev pub said_of_step : Machine → Banks → Instruction → Said
+said_of_step m banks instr = said_by (geometry_of m) (operations_by m) (table_in m) banks instr
 
--- the events of an instruction on its chip, and how many banks they are in
-abbrev pub events_by : Machine → Instruction → List Event
-events_by m instr = instr_events (geometry_of m) (operations_in (program_of m)) (table_in m) instr
+abbrev pub table_behind : Machine → Instruction → List Named
+table_behind m instr = table_after (geometry_of m) (operations_by m) (table_in m) instr
 
+-- the events of a piece of a script on its chip, and the order in force behind it
+abbrev pub events_by : Machine → Piece → List Event
+events_by m piece = piece_events (geometry_of m) (operations_by m) (turn_in m) (table_in m) piece
+
+abbrev pub turn_by_piece : Machine → Piece → Turn
+turn_by_piece m piece = turn_behind (geometry_of m) (operations_by m) (turn_in m) (table_in m) piece
+
+-- how many data rows are read for an instruction
+abbrev pub reads_by : Machine → Instruction → ℕ
+reads_by m instr = rows_if_done rows_printed (geometry_of m) (operations_by m) (table_in m) instr
+
+-- how many banks an instruction may change
 abbrev pub banks_by : Machine → Instruction → ℕ
-banks_by m instr = (job_of (geometry_of m) (operations_in (program_of m)) (table_in m) instr).banks
+banks_by m (Init name count n) =
+    segments (geometry_of m) (new_object (geometry_of m) (table_in m) count n)
+banks_by m (Bbop op dst srcs count n) = segments (geometry_of m) (object_named (table_in m) dst)
+banks_by m (Load name values) = segments (geometry_of m) (object_named (table_in m) name)
+banks_by m (Fill name value) = segments (geometry_of m) (object_named (table_in m) name)
+banks_by m (Print name) = segments (geometry_of m) (object_named (table_in m) name)
+banks_by m (Free name) = 0
+banks_by m (Order order) = 0
+
+abbrev pub is_print : Instruction → Bool
+is_print (Print name) = true
+is_print (Init name count n) = false
+is_print (Bbop op dst srcs count n) = false
+is_print (Load name values) = false
+is_print (Fill name value) = false
+is_print (Free name) = false
+is_print (Order order) = false
+
+-- a load, a fill and an order leave the table, and are said by their replies
+abbrev pub leaves_table : Instruction → Bool
+leaves_table (Load name values) = true
+leaves_table (Fill name value) = true
+leaves_table (Order order) = true
+leaves_table (Init name count n) = false
+leaves_table (Bbop op dst srcs count n) = false
+leaves_table (Print name) = false
+leaves_table (Free name) = false
+
+-- the line of an instruction, and the lines of a wave of bbops
+abbrev pub line_of : Machine → ℕ → Banks → Instruction → List ℕ
+line_of m number banks instr = line number (said_of_step m banks instr)
+
+abbrev pub lines_of : Machine → ℕ → List Instruction → List ℕ
+lines_of m number wave = lines number (map Answered (map (reply_of m) wave))

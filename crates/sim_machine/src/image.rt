@@ -79,7 +79,7 @@ fn read_bank<D: Dram>(
 }
 
 /// Reads every row of every bank, bank by bank and rows upwards, and appends their bytes.
-pub(crate) fn read_rows<D: Dram>(
+fn read_rows<D: Dram>(
     dram: &mut D,
     g: Geometry,
     stage: &mut [u64],
@@ -106,4 +106,32 @@ pub(crate) fn read_rows<D: Dram>(
         read_bank(dram, g, bank, stage, file)?;
     }
     Ok(())
+}
+
+/// Reads every row of every bank by the first words of a stage, and appends their bytes.
+pub(crate) fn read_image<D: Dram>(
+    dram: &mut D,
+    g: Geometry,
+    stage: &mut [u64],
+    file: &mut Vec<u8>,
+) -> Result<(), ChipFault>
+    requires begun { HasBegun (D.view dram.old) }
+    requires geometry { (D.view dram.old).geometry ≡ g }
+    requires banks { g.banks ≤ 16 }
+    requires words { length stage.old ≡ 128 * g.words }
+    requires small { g.rows * (8 * g.words) < 2 ^ 40 }
+    requires room { vec_len file.old + g.banks * (g.rows * (8 * g.words)) ≤ vec_capacity file.old }
+    requires reads { (D.view dram.old).counters.reads < 2 ^ 62 }
+    ensures borrow { D.borrow dram.new ≡ D.borrow dram.old }
+    ensures kept { Kept (D.view dram.old) (D.view dram.new) }
+    ensures stage { length stage.new ≡ length stage.old }
+    ensures did { OnOk result (DidRead (g.banks * g.rows) (D.view dram.old) (D.view dram.new)) }
+    ensures file { OnOk result (file.new.items
+        ≡ file.old.items ++ rows_bytes g (rows_of (D.view dram.old).banks)) }
+    ensures capacity { OnOk result (vec_capacity file.old ≤ vec_capacity file.new) }
+    ensures rose { OnErr result (Rose (D.view dram.old).faults (D.view dram.new).faults) }
+    ensures untold { Grew (D.view dram.old).log (D.view dram.new).log [] }
+{
+    let row = &mut stage[..usize::from(g.words)];
+    read_rows(dram, g, row, file)
 }

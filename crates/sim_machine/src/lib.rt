@@ -7,6 +7,9 @@ mod machine;
 mod opening;
 mod refusal;
 mod report;
+mod steps;
+mod waves;
 
-pub use machine::{Machine, StartNo, StepFault};
+pub use machine::{Machine, StartNo};
 pub use machine_model::{Reply, Why};
+pub use object_steps::StepFault;

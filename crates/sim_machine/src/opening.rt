@@ -1,15 +1,19 @@
-//! Giving a chip the rows of an image.
+//! Opening: memory, and a chip that is given the rows of an image.
 
 ghost use Rattle.std.specs.Prelude.{◌≡◌, ◌+◌, ◌*◌, ◌<◌, ◌≤◌, ◌^◌, length, OnOk, OnErr, ◌∷◌, []};
+ghost use Rattle.std.specs.Prelude.{IfOk, IsErrOf, true, vec_capacity};
+ghost use Rattle.dram_model.specs.Geometry.{is_geometry};
 ghost use Rattle.dram_model.specs.Chip.{Event, Rose};
-ghost use Rattle.dram_model.specs.View.{HasBegun, Kept, Did};
+ghost use Rattle.dram_model.specs.View.{HasBegun, Kept, Did, NotBegun};
 ghost use Rattle.object_alloc.specs.Bytes.{bits_of_bytes};
 ghost use Rattle.object_alloc.specs.Reading.{rows_size};
 ghost use Rattle.object_alloc.specs.Spelling.{row_at};
-ghost use Rattle.sim_machine.specs.Opening.{bank_writes, all_writes};
+ghost use Rattle.sim_machine.specs.Opening.{bank_writes, all_writes, Opened};
 
-use dram_model::{ChipFault, Dram, Geometry};
-use object_alloc::words_of_bytes;
+use crate::machine::StartNo;
+use dram_model::{BeginNo, ChipFault, Dram, Geometry};
+use object_alloc::{HEAD_BYTES, OBJECTS_MAX, RECORD_BYTES, words_of_bytes};
+use std::alloc::Global;
 
 /// Writes one row, given by its bytes.
 fn write_row<D: Dram>(
@@ -87,7 +91,7 @@ fn write_bank<D: Dram>(
 }
 
 /// Writes every row of every bank, bank by bank and rows upwards.
-pub(crate) fn write_rows<D: Dram>(
+fn write_rows<D: Dram>(
     dram: &mut D,
     g: Geometry,
     rows: &[u8],
@@ -110,4 +114,66 @@ pub(crate) fn write_rows<D: Dram>(
         write_bank(dram, g, bank, rows, stage)?;
     }
     Ok(())
+}
+
+/// The bytes of an image file of 256 objects.
+fn file_size(g: Geometry) -> usize
+    ensures { result ≡ HEAD_BYTES + RECORD_BYTES * OBJECTS_MAX + rows_size g }
+{
+    HEAD_BYTES
+        + RECORD_BYTES * OBJECTS_MAX
+        + 8 * (usize::from(g.banks) * usize::from(g.rows) * usize::from(g.words))
+}
+
+/// The words of one bank's rows of the widest object.
+pub(crate) fn make_stage(words: u16, alloc: Global) -> Result<Vec<u64>, StartNo>
+    ensures length { IfOk result (λ stage. length stage.items ≡ 128 * words) }
+    ensures failed { IsErrOf result StartNo.ChipFault → ⊥ }
+{
+    match vec![in alloc; 0u64; 128 * usize::from(words)] {
+        Ok(stage) => Ok(stage),
+        Err(_) => Err(StartNo::NoMemory),
+    }
+}
+
+/// Room for an image file.
+pub(crate) fn make_file(g: Geometry, alloc: Global) -> Result<Vec<u8>, StartNo>
+    ensures empty { IfOk result (λ file. file.items ≡ []) }
+    ensures room { IfOk result (λ file. HEAD_BYTES + RECORD_BYTES * OBJECTS_MAX + rows_size g
+        ≤ vec_capacity file) }
+    ensures failed { IsErrOf result StartNo.ChipFault → ⊥ }
+{
+    match Vec::with_capacity(alloc, file_size(g)) {
+        Ok(file) => Ok(file),
+        Err(_) => Err(StartNo::NoMemory),
+    }
+}
+
+/// Begins the chip, and writes the rows.
+pub(crate) fn begin<D: Dram>(
+    g: Geometry,
+    rows: &[u8],
+    stage: &mut [u64],
+    dram: &mut D,
+) -> Result<(), StartNo>
+    requires passes { is_geometry g ≡ true }
+    requires words { length stage.old ≡ g.words }
+    requires bytes { length rows.now ≡ rows_size g }
+    ensures borrow { D.borrow dram.new ≡ D.borrow dram.old }
+    ensures stage { length stage.new ≡ length stage.old }
+    ensures faults { (D.view dram.old).faults ≤ (D.view dram.new).faults }
+    ensures opened { OnOk result (Opened g rows.now (D.view dram.new)) }
+    ensures failed { IsErrOf result StartNo.ChipFault
+        → Rose (D.view dram.old).faults (D.view dram.new).faults }
+    ensures unopened { IsErrOf result StartNo.NoMemory → NotBegun (D.view dram.new) }
+{
+    match dram.begin(g) {
+        Ok(()) => {}
+        Err(BeginNo::Failed) => return Err(StartNo::ChipFault),
+        Err(BeginNo::NoMemory) => return Err(StartNo::NoMemory),
+    }
+    match write_rows(dram, g, rows, stage) {
+        Ok(()) => Ok(()),
+        Err(_) => Err(StartNo::ChipFault),
+    }
 }

@@ -1,11 +1,13 @@
 //! The lines of a report.
 
-ghost use Rattle.std.specs.Prelude.{◌≡◌, ◌+◌, ◌≤◌, ◌++◌, codes, decimal, length};
-ghost use Rattle.machine_model.specs.Report.{Said, at_number, walk_word, why_text, line};
+ghost use Rattle.std.specs.Prelude.{◌≡◌, ◌+◌, ◌≤◌, ◌++◌, codes, decimal, length, map, OnOk, OnErr};
+ghost use Rattle.host_edge.specs.Views.{Told, Rose as SinkRose, AppendsPart};
+ghost use Rattle.machine_model.specs.Report.{Said, at_number, walk_word, why_text, line, lines};
 ghost use Rattle.machine_model.specs.Report.{total_line};
 
 use arrayvec::ArrayVec;
 use dram_model::Counters;
+use host_edge::{Failed, Sink};
 use itoa::Buffer;
 use machine_model::{Reply, Why};
 use uprog_code::Why3;
@@ -87,11 +89,11 @@ fn add_why<const N: usize>(text: &mut ArrayVec<u8, N>, why: Why)
 }
 
 /// The line of a reply.
-pub(crate) fn reply_line(number: u32, reply: Reply) -> Line
+fn reply_line(number: u64, reply: Reply) -> Line
     ensures { result.items ≡ line number (Said.Answered reply) }
 {
     let mut text = ArrayVec::new();
-    add_number(&mut text, u64::from(number));
+    add_number(&mut text, number);
     add(&mut text, b" ");
     match reply {
         Reply::Done(counts) => {
@@ -107,6 +109,53 @@ pub(crate) fn reply_line(number: u32, reply: Reply) -> Line
     }
     add(&mut text, b"\n");
     text
+}
+
+/// Puts the line of a reply.
+fn put_line<S: Sink>(number: u64, reply: Reply, out: &mut S) -> Result<(), Failed>
+    ensures faults { (S.view out.old).faults ≤ (S.view out.new).faults }
+    ensures sent { OnOk result (Told (λ before after. after
+        ≡ before ++ line number (Said.Answered reply)) (S.view out.old).sent
+        (S.view out.new).sent) }
+    ensures part { OnErr result (Told (AppendsPart (line number (Said.Answered reply)))
+        (S.view out.old).sent (S.view out.new).sent) }
+    ensures rose { OnErr result (SinkRose (S.view out.old).faults (S.view out.new).faults) }
+{
+    let text = reply_line(number, reply);
+    out.put(text.as_slice())
+}
+
+/// Puts the line of one instruction's reply.
+pub(crate) fn put_reply<S: Sink>(number: u32, reply: Reply, out: &mut S) -> Result<(), Failed>
+    ensures faults { (S.view out.old).faults ≤ (S.view out.new).faults }
+    ensures sent { OnOk result (Told (λ before after. after
+        ≡ before ++ line number (Said.Answered reply)) (S.view out.old).sent
+        (S.view out.new).sent) }
+    ensures part { OnErr result (Told (AppendsPart (line number (Said.Answered reply)))
+        (S.view out.old).sent (S.view out.new).sent) }
+    ensures rose { OnErr result (SinkRose (S.view out.old).faults (S.view out.new).faults) }
+{
+    put_line(u64::from(number), reply, out)
+}
+
+/// Puts the lines of replies, of which the first has this number.
+pub(crate) fn put_lines<S: Sink>(number: u32, replies: &[Reply], out: &mut S) -> Result<(), Failed>
+    requires { length replies.now ≤ 16 }
+    ensures faults { (S.view out.old).faults ≤ (S.view out.new).faults }
+    ensures sent { OnOk result (Told (λ before after. after
+        ≡ before ++ lines number (map Said.Answered replies.now)) (S.view out.old).sent
+        (S.view out.new).sent) }
+    ensures part { OnErr result (Told (AppendsPart
+        (lines number (map Said.Answered replies.now))) (S.view out.old).sent
+        (S.view out.new).sent) }
+    ensures rose { OnErr result (SinkRose (S.view out.old).faults (S.view out.new).faults) }
+{
+    let mut next = u64::from(number);
+    for reply in replies {
+        put_line(next, *reply, out)?;
+        next += 1;
+    }
+    Ok(())
 }
 
 /// The line of the totals.

@@ -1,5 +1,6 @@
 -- One step on the way to the next row command.
-use Rattle.std.proofs.Common.{◌≡◌, ℕ, suc, ◌+◌, ◌<◌, List, [], ◌∷◌, ◌++◌, length, map, refl, sym, ap}
+use Rattle.std.proofs.Common.{◌≡◌, ℕ, suc, ◌<◌, List, [], ◌∷◌, ◌++◌, length, map, sym}
+use Rattle.std.proofs.Common.{ap}
 use Rattle.std.proofs.Common.{◌∙◌, subst, Ok, Some, Option, Result}
 use Rattle.std.specs.Prelude.{slice_get}
 use Rattle.std.specs.Option.{option_to_list}
@@ -10,7 +11,7 @@ use Rattle.uprog_code.specs.declared.registers.Turn.{Turn}
 use Rattle.uprog_code.specs.declared.registers.Turn.TheVariants.{Over, To}
 use Rattle.uprog_code.specs.declared.walker.Why3.{Why3}
 use Rattle.uprog_code.specs.Shape.{Shape}
-use Rattle.uprog_code.specs.Machine.{Next, Issue, Trace, act, issue, issues_of, HasEnded, onto}
+use Rattle.uprog_code.specs.Machine.{Next, Trace, act, issue, issues_of, HasEnded, onto}
 use Rattle.uprog_code.specs.OneStep.{turn_trace, issues_by, issue_of, next_place, HasOperands}
 use Rattle.uprog_code.specs.Legal.{IsLegalCode}
 use Rattle.uprog_code.specs.Issued.{AreGood}
@@ -47,8 +48,8 @@ stepped shape shape' code n all left pc q regs regs' uop turn res legal same e l
     let does' : (nx : Next) (p : ℕ) → act shape n uop nx p regs ≡ turn_trace res nx p regs' =
     λ nx p. ap (λ (s : Shape). act s n uop nx p regs) (sym same) ∙ does nx p in
     let more = not_last code pc uop turn res lt at legal.last over is ne in
-    let place = place_in (length code) pc uop turn res more (legal_operands shape code pc uop legal at)
-    jumps is in
+    let place = place_in (length code) pc uop turn res more
+    (legal_operands shape code pc uop legal at) jumps is in
     record {
       ended = ended-onto (issues_by turn) (next q regs') whole;
       issues = ap issues_of on ∙ issues-onto (issues_by turn) (next q regs') whole;

@@ -3,7 +3,7 @@ use Rattle.std.specs.Prelude.{◌≡◌, ℕ, ◌<◌, ◌⊎◌, true, nat_lt, 
 use Rattle.std.specs.Prelude.{length, map, drop, remove, slice_set, slice_index_or}
 use Rattle.dram_model.specs.declared.address.Command.{Command}
 use Rattle.dram_model.specs.Column.{is_legal}
-use Rattle.uprog_code.specs.Machine.{Issue, Trace, issue, issues_of, HasEnded}
+use Rattle.uprog_code.specs.Machine.{Trace, issue, issues_of, HasEnded}
 use Rattle.uprog_code.specs.OneStep.{AreRegisters, issue_of}
 use Rattle.uprog_code.specs.Issued.{is_good}
 use Rattle.uprog_code.specs.Bound.{bound, bound_of}
@@ -11,7 +11,8 @@ use Rattle.uprog_ctl.specs.declared.cursor.Walk.{Walk}
 use Rattle.uprog_ctl.specs.declared.cursor.Found.{Found}
 use Rattle.uprog_ctl.specs.declared.cursor.Cursor.{Cursor}
 use Rattle.uprog_ctl.specs.declared.cursor.JobHead.{JobHead}
-use Rattle.uprog_code.specs.Shape.{shape_of}
+use Rattle.uprog_code.specs.Shape.{Shape, shape_of}
+use Rattle.uprog_ctl.specs.declared.waves.Job.{Job}
 use Rattle.uprog_ctl.specs.Waves.{BoundJob, job_queues}
 use Rattle.wave_model.specs.Schedule.{Queues, live as live_banks}
 
@@ -51,22 +52,22 @@ left_behind rows jobs c = left_from rows c.bank (drop c.job jobs) c.walk
 
 -- the cursor of a bank that has these commands still to do
 pub record IsAt (rows : ℕ) (jobs : List BoundJob) (commands : List Command) (c : Cursor) : Type 0
-    where
-  pub left : commands ≡ c.next ∷ left_behind rows jobs c
-  pub job : c.job < length jobs
-  pub legal : is_legal rows c.next ≡ true
-  pub stands : StandsInFirst (drop c.job jobs) c.walk
+  where
+    pub left : commands ≡ c.next ∷ left_behind rows jobs c
+    pub job : c.job < length jobs
+    pub legal : is_legal rows c.next ≡ true
+    pub stands : StandsInFirst (drop c.job jobs) c.walk
 
 -- the heads of the jobs' entries, in order
-abbrev pub AreHeads : List BoundJob → List JobHead → Type 0
-AreHeads jobs heads = map (λ h. shape_of h.head) heads ≡ map (λ j. j.shape) jobs
+abbrev pub AreHeads : {F : Type 0} → (F → Shape) → List (Job F) → List JobHead → Type 0
+AreHeads shape jobs heads = map (λ h. shape_of h.head) heads ≡ map (λ job. shape job.entry) jobs
 
 -- one cursor for each bank that has commands left, upwards
 pub record AreAt (banks rows : ℕ) (jobs : List BoundJob) (left : Queues) (cs : List Cursor) : Type 0
-    where
-  pub live : map (λ c. c.bank) cs ≡ live_banks banks left
-  pub each : (i : ℕ) (d : Cursor) → i < length cs
-      → IsAt rows jobs (left (slice_index_or cs i d).bank) (slice_index_or cs i d)
+  where
+    pub live : map (λ c. c.bank) cs ≡ live_banks banks left
+    pub each : (i : ℕ) (d : Cursor) → i < length cs
+        → IsAt rows jobs (left (slice_index_or cs i d).bank) (slice_index_or cs i d)
 
 -- the bank of the k-th cursor goes on to its next command, or has none left
 pub record GoesOn (rows : ℕ) (jobs : List BoundJob) (old : List Cursor) (k : ℕ) (c : Cursor)

@@ -28,7 +28,11 @@ pub fn counters_rise_by_counts()
 {}
 
 /// One command on one bank.
-pub(crate) fn do_command<D: Dram>(dram: &mut D, bank: u16, command: Command) -> Result<(), ChipFault>
+pub(crate) fn do_command<D: Dram>(
+    dram: &mut D,
+    bank: u16,
+    command: Command,
+) -> Result<(), ChipFault>
     requires begun { HasBegun (D.view dram.old) }
     requires bank { bank < (D.view dram.old).geometry.banks }
     requires legal { is_legal (D.view dram.old).geometry.rows command ≡ true }

@@ -88,9 +88,9 @@ impl Default for JobHead {
 }
 
 /// The heads of the jobs' entries.
-pub(crate) fn heads_of<F: Fetch>(jobs: &[Job<'_, F>]) -> ArrayVec<JobHead, 16>
+pub(crate) fn heads_of<F: Fetch>(jobs: &[Job<F>]) -> ArrayVec<JobHead, 16>
     requires { length jobs.now ≤ 16 }
-    ensures { AreHeads (bound_jobs F.shape F.code jobs.now) result.items }
+    ensures { AreHeads F.shape jobs.now result.items }
 {
     let mut heads = ArrayVec::new();
     for job in jobs {
@@ -112,9 +112,9 @@ fn issued_by(turn: Turn) -> Option<Issued>
 }
 
 /// The first row command from a place on; None where the microprogram ends before one.
-fn seek<F: Fetch>(job: &Job<'_, F>, head: &Head, g: Geometry, from: Walk) -> Option<Found>
+fn seek<F: Fetch>(job: &Job<F>, head: &Head, g: Geometry, from: Walk) -> Option<Found>
     requires run { CanRun g (bound_job F.shape F.code job.now) }
-    requires head { shape_of head.now ≡ F.shape job.now.entry.now }
+    requires head { shape_of head.now ≡ F.shape job.now.entry }
     requires stands { StandsIn (bound_job F.shape F.code job.now) from }
     ensures { MatchOption result
         (issues_of (rest_of (bound_job F.shape F.code job.now) from) ≡ [])
@@ -150,10 +150,10 @@ fn seek<F: Fetch>(job: &Job<'_, F>, head: &Head, g: Geometry, from: Walk) -> Opt
     None
 }
 
-/// A bank's next command, and where it stands then; None where it has done all jobs. It stands in
-/// the job of a number, at a place of its code.
+/// A bank's next command, and where it stands then; None where it has none left. The bank stands in
+/// the job of the number `at`, at a place of its code.
 fn next_cursor<F: Fetch>(
-    jobs: &[Job<'_, F>],
+    jobs: &[Job<F>],
     heads: &[JobHead],
     g: Geometry,
     bank: u16,
@@ -161,13 +161,13 @@ fn next_cursor<F: Fetch>(
     walk: Walk,
 ) -> Option<Cursor>
     requires jobs { All (CanRun g) (bound_jobs F.shape F.code jobs.now) }
-    requires heads { AreHeads (bound_jobs F.shape F.code jobs.now) heads.now }
+    requires heads { AreHeads F.shape jobs.now heads.now }
     requires stands { StandsInFirst (drop at (bound_jobs F.shape F.code jobs.now)) walk }
     ensures bank { IfSome result (λ c. c.bank ≡ bank) }
     ensures next { MatchOption result
         (left_from g.rows bank (drop at (bound_jobs F.shape F.code jobs.now)) walk ≡ [])
         (IsAt g.rows (bound_jobs F.shape F.code jobs.now)
-            (left_from g.rows bank (drop at (bound_jobs F.shape F.code jobs.now)) walk)) }
+        (left_from g.rows bank (drop at (bound_jobs F.shape F.code jobs.now)) walk)) }
 {
     let mut walk = walk;
     for i in at..jobs.len() {
@@ -191,13 +191,13 @@ fn next_cursor<F: Fetch>(
 
 /// The banks that have commands left, upwards, each before its first one.
 pub(crate) fn first_cursors<F: Fetch>(
-    jobs: &[Job<'_, F>],
+    jobs: &[Job<F>],
     heads: &[JobHead],
     g: Geometry,
 ) -> ArrayVec<Cursor, 16>
     requires few { g.banks ≤ 16 }
     requires jobs { All (CanRun g) (bound_jobs F.shape F.code jobs.now) }
-    requires heads { AreHeads (bound_jobs F.shape F.code jobs.now) heads.now }
+    requires heads { AreHeads F.shape jobs.now heads.now }
     ensures { AreAt g.banks g.rows (bound_jobs F.shape F.code jobs.now)
         (job_queues g.rows (bound_jobs F.shape F.code jobs.now)) result.items }
 {
@@ -213,17 +213,17 @@ pub(crate) fn first_cursors<F: Fetch>(
 /// The bank of the k-th cursor goes on behind its command; it is no longer among them where it has
 /// none left.
 pub(crate) fn go_on<F: Fetch>(
-    jobs: &[Job<'_, F>],
+    jobs: &[Job<F>],
     heads: &[JobHead],
     g: Geometry,
     cursors: &mut ArrayVec<Cursor, 16>,
     k: usize,
 )
     requires jobs { All (CanRun g) (bound_jobs F.shape F.code jobs.now) }
-    requires heads { AreHeads (bound_jobs F.shape F.code jobs.now) heads.now }
+    requires heads { AreHeads F.shape jobs.now heads.now }
     requires k { k < length cursors.old.items }
-    requires at { (d : Cursor) → (cs : List Command) × IsAt g.rows (bound_jobs F.shape F.code jobs.now) cs
-        (slice_index_or cursors.old.items k d) }
+    requires stands { (d : Cursor) → StandsInFirst (drop (slice_index_or cursors.old.items k d).job
+        (bound_jobs F.shape F.code jobs.now)) (slice_index_or cursors.old.items k d).walk }
     ensures { MovesOn g.rows (bound_jobs F.shape F.code jobs.now) cursors.old.items k
         cursors.new.items }
 {

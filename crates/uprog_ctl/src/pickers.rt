@@ -55,9 +55,9 @@ impl Picker for Forward {
     }
 
     ghost picks_live = { elim [
-        Ahead ↦ λ count h. h
-        | Turning t ↦ λ count h. mod-lt t h
-        | Drawing s ↦ λ count h. mod-lt (mix_u64 s).0 h
+      | Ahead ↦ λ count h. h
+      | Turning t ↦ λ count h. mod-lt t h
+      | Drawing s ↦ λ count h. mod-lt (mix_u64 s).0 h
     ] };
 }
 
@@ -79,7 +79,9 @@ impl Turns {
 
 impl Picker for Turns {
     ghost use Rattle.std.specs.Prelude.{◌<◌};
-    ghost use Rattle.wave_model.specs.Schedule.{Turn, in_turn, Turning};
+    ghost use Rattle.std.proofs.Math.Nat.{mod-lt};
+    ghost use Rattle.rand_xoshiro.specs.SplitMix64.{mix_u64};
+    ghost use Rattle.wave_model.specs.Schedule.{Turn, in_turn, Ahead, Turning, Drawing};
 
     ghost State = { Turn };
 
@@ -93,7 +95,11 @@ impl Picker for Turns {
         choice
     }
 
-    ghost picks_live = { ⟦<Forward as Picker>⟧.picks_live };
+    ghost picks_live = { elim [
+      | Ahead ↦ λ count h. h
+      | Turning t ↦ λ count h. mod-lt t h
+      | Drawing s ↦ λ count h. mod-lt (mix_u64 s).0 h
+    ] };
 }
 
 /// Chooses by the words of the generator SplitMix64: the state is the generator's.
@@ -115,7 +121,9 @@ impl Seeded {
 
 impl Picker for Seeded {
     ghost use Rattle.std.specs.Prelude.{◌<◌};
-    ghost use Rattle.wave_model.specs.Schedule.{Turn, in_turn, Drawing};
+    ghost use Rattle.std.proofs.Math.Nat.{mod-lt};
+    ghost use Rattle.rand_xoshiro.specs.SplitMix64.{mix_u64};
+    ghost use Rattle.wave_model.specs.Schedule.{Turn, in_turn, Ahead, Turning, Drawing};
 
     ghost State = { Turn };
 
@@ -127,7 +135,11 @@ impl Picker for Seeded {
         (self.words.next_word() % u64::from(live)) as u16
     }
 
-    ghost picks_live = { ⟦<Forward as Picker>⟧.picks_live };
+    ghost picks_live = { elim [
+      | Ahead ↦ λ count h. h
+      | Turning t ↦ λ count h. mod-lt t h
+      | Drawing s ↦ λ count h. mod-lt (mix_u64 s).0 h
+    ] };
 }
 
 /// The order in force: one of the three, with its state.
@@ -140,7 +152,9 @@ pub enum Order {
 
 impl Picker for Order {
     ghost use Rattle.std.specs.Prelude.{◌<◌};
-    ghost use Rattle.wave_model.specs.Schedule.{Turn, in_turn};
+    ghost use Rattle.std.proofs.Math.Nat.{mod-lt};
+    ghost use Rattle.rand_xoshiro.specs.SplitMix64.{mix_u64};
+    ghost use Rattle.wave_model.specs.Schedule.{Turn, in_turn, Ahead, Turning, Drawing};
     ghost use Rattle.uprog_ctl.specs.Orders.{turn_of};
 
     ghost State = { Turn };
@@ -157,5 +171,9 @@ impl Picker for Order {
         }
     }
 
-    ghost picks_live = { ⟦<Forward as Picker>⟧.picks_live };
+    ghost picks_live = { elim [
+      | Ahead ↦ λ count h. h
+      | Turning t ↦ λ count h. mod-lt t h
+      | Drawing s ↦ λ count h. mod-lt (mix_u64 s).0 h
+    ] };
 }

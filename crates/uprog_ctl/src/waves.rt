@@ -11,15 +11,33 @@ ghost use Rattle.wave_model.specs.Schedule.{state_behind};
 use crate::controller::do_command;
 use crate::cursor::{first_cursors, go_on, heads_of};
 use crate::pickers::Picker;
+use arrayvec::ArrayVec;
 use dram_model::{ChipFault, Dram};
 use uprog_code::{Binding, Fetch};
 
 /// A microprogram that runs on the first so many banks.
 #[derive(Debug, Drop)]
-pub struct Job<'a, F> {
-    pub entry: &'a F,
+pub struct Job<F> {
+    pub entry: F,
     pub binding: Binding,
     pub banks: u16,
+}
+
+/// No commands, in no bank.
+impl<F: Default> Default for Job<F> {
+    fn default() -> Self {
+        Job {
+            entry: F::default(),
+            binding: Binding {
+                n: 0,
+                result: 0,
+                second: None,
+                sources: ArrayVec::new(),
+                scratch: 0,
+            },
+            banks: 0,
+        }
+    }
 }
 
 /// Runs jobs as one wave: each bank does the jobs that it has, in order, and the picker chooses
@@ -27,7 +45,7 @@ pub struct Job<'a, F> {
 /// that fails ends the wave: the commands before it are done.
 pub fn run_wave<D: Dram, F: Fetch, P: Picker>(
     dram: &mut D,
-    jobs: &[Job<'_, F>],
+    jobs: &[Job<F>],
     picker: &mut P,
 ) -> Result<(), ChipFault>
     requires begun { HasBegun (D.view dram.old) }

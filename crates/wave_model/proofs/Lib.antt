@@ -1,2 +1,5 @@
 pub mod Waves
 pub mod Live
+pub mod Turning
+pub mod Prefixes
+pub mod Sums

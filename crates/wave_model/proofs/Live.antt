@@ -1,11 +1,11 @@
 -- The live banks, before and after one of them does its next command.
-use Rattle.std.proofs.Common.{◌≡◌, ℕ, zero, suc, ◌+◌, ◌<◌, ◌≤◌, Bool, true, false, not, cond, eqb}
+use Rattle.std.proofs.Common.{◌≡◌, ℕ, zero, suc, ◌+◌, ◌<◌, Bool, true, false, not, cond, eqb}
 use Rattle.std.proofs.Common.{List, [], ◌∷◌, length, get_or, drop, refl, sym, ◌∙◌, ap, subst, inl}
 use Rattle.std.proofs.Common.{inr, arith, eq-eqb}
 use Rattle.std.specs.Prelude.{remove}
 use Rattle.std.specs.List.{range_with_len, filter}
 use Rattle.std.proofs.lemmas.Bool.{ne_eqb}
-use Rattle.std.proofs.lemmas.Bool.Decides.{eqb_tells, nat_tests}
+use Rattle.std.proofs.lemmas.Bool.Decides.{eqb_tells}
 use Rattle.std.proofs.lemmas.List.Elements.{filter_agree}
 use Rattle.dram_model.specs.declared.address.Command.{Command}
 use Rattle.wave_model.specs.Schedule.{Queues, is_live, live, without_next}
@@ -48,7 +48,7 @@ other_left left b x ne = rw (ne_eqb b x ne) refl
 pub own_left : (left : Queues) (b : ℕ) → without_next b left b ≡ drop 1 (left b)
 own_left left b = rw (eq-eqb b b refl) refl
 
-alive : (cs : List Command) → 0 < length cs → not (eqb (length cs) 0) ≡ true
+pub alive : (cs : List Command) → 0 < length cs → not (eqb (length cs) 0) ≡ true
 alive cs h = elim (eqb_tells (length cs) 0) [
   | inl z ↦ absurd (omega (arith, z.1))
   | inr z ↦ rw z.0 refl
@@ -78,7 +78,10 @@ live_beyond : (left : Queues) (b a n : ℕ) → b < a
     ≡ filter (is_live left) (range_with_len a n)
 live_beyond left b a zero h = refl
 live_beyond left b a (suc n) h =
-    rw (other_left left b a (λ e. absurd (omega (arith, e))), live_beyond left b (a + 1) n (omega arith)) refl
+    rw (
+      other_left left b a (λ e. absurd (omega (arith, e))),
+      live_beyond left b (a + 1) n (omega arith),
+    ) refl
 
 gone_case : (left : Queues) (a n k b : ℕ) (rest rest' : List ℕ) (t : Bool) → is_live left a ≡ t
     → ((k : ℕ) → k < length rest → IsLiveIn left (a + 1) n (get_or rest k 0))

@@ -109,7 +109,7 @@ no_events banks (p ∷ ps) left bank w h =
     (λ e. let lt : b < 0 + banks = at.1 in absurd (omega arith))
     ∙ no_events banks ps (without_next b left) bank w.1 h
 
-on_own : (bank : ℕ) (cs : List Command) (columns : List Column)
+pub on_own : (bank : ℕ) (cs : List Command) (columns : List Column)
     → on_bank_all (row_events bank cs) columns ≡ map (run cs) columns
 on_own bank [] columns = sym (map-id columns)
 on_own bank (c ∷ cs) columns = on_own bank cs _ ∙ step-then-run c cs columns

@@ -1,8 +1,13 @@
 -- Laws of waves.
-use Rattle.std.specs.Prelude.{◌≡◌, ℕ, ◌<◌, List, map}
+use Rattle.std.specs.Prelude.{◌≡◌, ℕ, ◌+◌, ◌*◌, ◌<◌, ◌≤◌, Bool, true, false, List, map, take, All}
+use Rattle.std.specs.Prelude.{sum_by, count_by}
+use Rattle.dram_model.specs.declared.address.Command.{Command}
+use Rattle.dram_model.specs.declared.address.Command.TheVariants.{Ap, Aap}
+use Rattle.dram_model.specs.declared.dram.Counters.{Counters}
 use Rattle.dram_model.specs.Column.{run}
-use Rattle.dram_model.specs.Chip.{Banks, after}
-use Rattle.wave_model.specs.Schedule.{Queues, events_of_picks, IsWhole, whole_picks, Turn, in_turn}
+use Rattle.dram_model.specs.Chip.{Banks, after, all_counted}
+use Rattle.wave_model.specs.Schedule.{Job, Queues, queues, events_of_picks, IsWhole, whole_picks}
+use Rattle.wave_model.specs.Schedule.{Turn, in_turn}
 
 -- The picks of every order in force are a whole list
 abbrev pub PicksAreWhole : Type 0
@@ -16,3 +21,34 @@ FollowsQueue =
     (banks : ℕ) (picks : List ℕ) (left : Queues) (chip : Banks) (bank : ℕ)
     → IsWhole banks picks left → bank < banks
     → after (events_of_picks banks picks left) chip bank ≡ map (run (left bank)) (chip bank)
+
+-- After the first k events of a whole list of picks each bank stands where the first commands of
+-- its own queue leave it
+abbrev pub StopsInItsQueue : Type 0
+StopsInItsQueue =
+    (banks : ℕ) (picks : List ℕ) (left : Queues) (chip : Banks) (bank k : ℕ)
+    → IsWhole banks picks left → bank < banks
+    → (m : ℕ) × (after (take k (events_of_picks banks picks left)) chip bank
+    ≡ map (run (take m (left bank))) (chip bank))
+
+abbrev pub is_aap : Command → Bool
+is_aap (Ap x) = false
+is_aap (Aap x y) = true
+
+abbrev pub is_ap : Command → Bool
+is_ap (Ap x) = true
+is_ap (Aap x y) = false
+
+-- so many more of each kind
+abbrev pub with_commands : ℕ → ℕ → Counters → Counters
+with_commands aap ap c = record c { aap = c.aap + aap; ap = c.ap + ap }
+
+-- The counters rise by the commands of each job, as often as it has banks, for every whole list of
+-- picks
+abbrev pub CountsAreSums : Type 0
+CountsAreSums =
+    (banks : ℕ) (picks : List ℕ) (jobs : List Job) (c : Counters)
+    → IsWhole banks picks (queues jobs) → All (λ job. job.banks ≤ banks) jobs
+    → all_counted (events_of_picks banks picks (queues jobs)) c
+    ≡ with_commands (sum_by (λ job. job.banks * count_by is_aap job.commands) jobs)
+    (sum_by (λ job. job.banks * count_by is_ap job.commands) jobs) c

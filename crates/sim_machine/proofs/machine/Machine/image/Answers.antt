@@ -5,7 +5,7 @@ use Rattle.sim_machine.proofs.machine.Machine.image.Goals as goal
 
 pub returns-clause-file : goal.returns-clause-file
 returns-clause-file g c =
-    on_ok_weaker c.read_rows.result
+    on_ok_weaker c.read_image.result
     (λ read. image_is c.args.self.now.geometry c.args.self.now.table.pairs
     (rows_of (g.D.Dram.view c.args.dram.now).banks) _ _ _ c.clear.ensures.items
-    c.put_head.ensures.items read) c.read_rows.ensures.file
+    c.put_head.ensures.items read) c.read_image.ensures.file

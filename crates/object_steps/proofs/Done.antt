@@ -1,0 +1,101 @@
+-- What an instruction comes to, where it is done and where it is refused.
+use Rattle.std.proofs.Common.{◌≡◌, ℕ, ◌+◌, ◌<◌, ◌≤◌, true, false, List, [], Option, Some}
+use Rattle.std.proofs.Common.{None, length, map, refl, sym, ◌∙◌, ap, arith, nat_le, position}
+use Rattle.std.proofs.Common.{◌-◌, ◌∷◌, subst}
+use Rattle.std.specs.Prelude.{◌^◌, unwrap_or}
+use Rattle.std.proofs.lemmas.Bool.{eq-eqb}
+use Rattle.dram_model.specs.declared.geometry.Geometry.{Geometry}
+use Rattle.dram_model.specs.Chip.{Event}
+use Rattle.dram_model.specs.View.{ChipView, Did}
+use Rattle.dram_model.proofs.EventLaws.{Did-none}
+use Rattle.uprog_code.specs.declared.walker.Counts.{Counts}
+use Rattle.object_alloc.specs.declared.table.Object.{Object}
+use Rattle.object_alloc.specs.Free.{are_free, free}
+use Rattle.object_alloc.specs.Listed.{Named, limit_of, objects_of}
+use Rattle.object_alloc.proofs.Tables.{in_range}
+use Rattle.machine_model.proofs.Below.{base_free, row_within}
+use Rattle.object_alloc.specs.Free.{is_free}
+use Rattle.std.specs.Prelude.{is_none}
+use Rattle.bbop_isa.specs.Forms.{Load}
+use Rattle.machine_model.specs.declared.Why.{Why}
+use Rattle.machine_model.specs.declared.Why.TheVariants as why
+use Rattle.machine_model.specs.declared.Reply.TheVariants.{Done, Refused}
+use Rattle.machine_model.specs.Operations.{Operations}
+use Rattle.machine_model.specs.Refusals.{is_absent, object_named, refusal, at_place, first}
+use Rattle.machine_model.specs.Steps.{if_done, new_object, reply_by}
+use Rattle.object_steps.proofs.Refused.{alone, at_place-map}
+use Rattle.std.specs.Option.{option_map}
+
+pub did_all : (r : Option Why) (events : List Event) (a b : ChipView) → r ≡ None → Did events a b
+    → Did (if_done r events []) a b
+did_all r events a b e did = rw e did
+
+pub did_nothing : (r : Option Why) (reason : Why) (events : List Event) (a : ChipView)
+    → r ≡ Some reason → Did (if_done r events []) a a
+did_nothing r reason events a e = rw e (Did-none a)
+
+pub replies_done : (r : Option Why) (told counts : Counts) → r ≡ None → told ≡ counts
+    → Done told ≡ reply_by r counts
+replies_done r told counts e f = rw (e, f) refl
+
+pub replies_refused : (r : Option Why) (reason : Why) (counts : Counts) → r ≡ Some reason
+    → Refused reason ≡ reply_by r counts
+replies_refused r reason counts e = rw e refl
+
+range_found : (n : ℕ) (values : List ℕ) (found : Option ℕ)
+    → found ≡ position (λ v. nat_le (2 ^ n) v) values
+    → first (at_place why.Range 1 (map (λ v. nat_le (2 ^ n) v) values) ∷ [])
+    ≡ option_map (λ i. why.Range (1 + i)) found
+range_found n values found e =
+    alone (at_place why.Range 1 (map (λ v. nat_le (2 ^ n) v) values))
+    ∙ at_place-map (λ k. why.Range k) 1 (λ v. nat_le (2 ^ n) v) values
+    ∙ ap (option_map (λ i. why.Range (1 + i))) (sym e)
+
+load_range : (g : Geometry) (operations : Operations) (table : List Named) (name values : List ℕ)
+    (o : Object) (found : Option ℕ) → is_absent table name ≡ false → o ≡ object_named table name
+    → length values ≡ o.count → found ≡ position (λ v. nat_le (2 ^ o.width) v) values
+    → refusal g operations table (Load name values) ≡ option_map (λ i. why.Range (1 + i)) found
+load_range g operations table name values o found there e same f =
+    rw (there, ← e, eq-eqb (length values) o.count same) (range_found o.width values found f)
+
+pub load_refused : (g : Geometry) (operations : Operations) (table : List Named)
+    (name values : List ℕ) (o : Object) (at place : ℕ) → is_absent table name ≡ false
+    → o ≡ object_named table name → length values ≡ o.count
+    → Some at ≡ position (λ v. nat_le (2 ^ o.width) v) values → place ≡ at + 1
+    → refusal g operations table (Load name values) ≡ Some (why.Range place)
+load_refused g operations table name values o at place there e same f h =
+    let next : 1 + at ≡ place = omega arith in
+    load_range g operations table name values o (Some at) there e same f
+    ∙ ap (λ k. Some (why.Range k)) next
+
+pub load_allowed : (g : Geometry) (operations : Operations) (table : List Named)
+    (name values : List ℕ) (o : Object) → is_absent table name ≡ false
+    → o ≡ object_named table name → length values ≡ o.count
+    → None ≡ position (λ v. nat_le (2 ^ o.width) v) values
+    → refusal g operations table (Load name values) ≡ None
+load_allowed g operations table name values o there e same f =
+    load_range g operations table name values o None there e same f
+
+-- where so many rows begin they are free
+pub found_free : (limit : ℕ) (objects : List Object) (k base : ℕ)
+    → free limit objects k ≡ Some base → are_free limit objects k base ≡ true
+found_free limit objects k base e =
+    subst (λ (found : Option ℕ). are_free limit objects k (unwrap_or found 0) ≡ true) e
+    (base_free limit objects k (ap is_none e)).1
+
+pub found_within : (limit : ℕ) (objects : List Object) (k base : ℕ) → 0 < k
+    → free limit objects k ≡ Some base → base + k ≤ limit
+found_within limit objects k base some e =
+    let last = row_within limit objects (base + k - 1) (in_range (is_free limit objects) base k
+    (base + k - 1) (found_free limit objects k base e) (omega arith) (omega arith)) in
+    omega (arith, last)
+
+pub is_new : (g : Geometry) (table : List Named) (count n base : ℕ)
+    → free (limit_of g) (objects_of table) n ≡ Some base
+    → (let o : Object = record { base = base; width = n; count = count } in o)
+    ≡ new_object g table count n
+is_new g table count n base e = rw e refl
+
+pub same_after : {X : Type 0} (r : Option Why) (reason : Why) (new old : X) → r ≡ Some reason
+    → old ≡ if_done r new old
+same_after r reason new old e = rw e refl

@@ -1,0 +1,72 @@
+-- The object that a name finds.
+use Rattle.std.proofs.Common.{◌≡◌, ℕ, Bool, true, false, cond, List, [], ◌∷◌, Option, Some, None}
+use Rattle.std.proofs.Common.{refl, sym, ◌∙◌, ap, subst}
+use Rattle.std.specs.Prelude.{All, is_some, unwrap_or, not, ◌||◌}
+use Rattle.std.specs.List.{find}
+use Rattle.std.specs.Option.{option_map}
+use Rattle.std.specs.Str.{bytes_eq}
+use Rattle.std.proofs.lemmas.List.Elements.{All-head, All-tail}
+use Rattle.object_alloc.specs.declared.table.Object.{Object}
+use Rattle.object_alloc.specs.Listed.{Named, has_name, look_up, without}
+use Rattle.machine_model.specs.Refusals.{is_absent, nothing, object_named}
+
+found_more : {X : Type 0} (f : Named → X) (p : Named) (rest : Option Named) (b r : Bool)
+    → is_some (option_map f rest) ≡ r → is_some (option_map f (cond b (Some p) rest)) ≡ (b || r)
+found_more f p rest true r e = refl
+found_more f p rest false r e = e
+
+-- a name is found where an object has it
+pub look_up-some : (pairs : List Named) (name : List ℕ)
+    → is_some (look_up pairs name) ≡ has_name pairs name
+look_up-some [] name = refl
+look_up-some (p ∷ pairs) name = found_more (λ q. q.1) p (find (λ q. bytes_eq q.0 name) pairs)
+    (bytes_eq p.0 name) (has_name pairs name) (look_up-some pairs name)
+
+pub has_found : (pairs : List Named) (name : List ℕ) (o : Object) → Some o ≡ look_up pairs name
+    → has_name pairs name ≡ true
+has_found pairs name o e = sym (look_up-some pairs name) ∙ ap is_some (sym e)
+
+pub has_none : (pairs : List Named) (name : List ℕ) → None ≡ look_up pairs name
+    → has_name pairs name ≡ false
+has_none pairs name e = sym (look_up-some pairs name) ∙ ap is_some (sym e)
+
+pub there : (pairs : List Named) (name : List ℕ) (o : Object) → Some o ≡ look_up pairs name
+    → is_absent pairs name ≡ false
+there pairs name o e = ap not (has_found pairs name o e)
+
+pub absent : (pairs : List Named) (name : List ℕ) → None ≡ look_up pairs name
+    → is_absent pairs name ≡ true
+absent pairs name e = ap not (has_none pairs name e)
+
+pub named_is : (pairs : List Named) (name : List ℕ) (o : Object) → Some o ≡ look_up pairs name
+    → o ≡ object_named pairs name
+named_is pairs name o e = ap (λ found. unwrap_or found nothing) e
+
+found_case : (P : Object → Type 0) (p : Named) (rest : Option Named) (o : Object) (b : Bool)
+    → Some o ≡ option_map (λ q. q.1) (cond b (Some p) rest) → P p.1
+    → (Some o ≡ option_map (λ q. q.1) rest → P o) → P o
+found_case P p rest o true e here more = subst P same here where
+  same : p.1 ≡ o
+  same = cc
+found_case P p rest o false e here more = more e
+
+-- what holds of every object holds of the one that is found
+pub found_holds : (P : Object → Type 0) (pairs : List Named) (name : List ℕ) (o : Object)
+    → Some o ≡ look_up pairs name → All (λ named. P named.1) pairs → P o
+found_holds P [] name o e all = absurd (cc)
+found_holds P (p ∷ pairs) name o e all =
+    found_case P p (find (λ q. bytes_eq q.0 name) pairs) o (bytes_eq p.0 name) e
+    (All-head (λ (named : Named). P named.1) p pairs all) (λ f.
+    found_holds P pairs name o f (All-tail (λ (named : Named). P named.1) p pairs all))
+
+without_case : (p : Named) (rest pairs : List Named) (b r : Bool) → (b || r) ≡ false
+    → (r ≡ false → rest ≡ pairs) → cond (not b) (p ∷ rest) rest ≡ p ∷ pairs
+without_case p rest pairs true r h same = cc
+without_case p rest pairs false r h same = ap (λ (xs : List Named). p ∷ xs) (same h)
+
+-- a name that no object has takes none away
+pub without_absent : (pairs : List Named) (name : List ℕ) → has_name pairs name ≡ false
+    → without pairs name ≡ pairs
+without_absent [] name h = refl
+without_absent (p ∷ pairs) name h = without_case p (without pairs name) pairs (bytes_eq p.0 name)
+    (has_name pairs name) h (without_absent pairs name)

@@ -1,0 +1,10 @@
+pub mod Found
+pub mod Refused
+pub mod Lying
+pub mod Making
+pub mod Done
+pub mod Fewer
+pub mod Held
+pub mod Valued
+pub mod Filled
+pub mod Rises

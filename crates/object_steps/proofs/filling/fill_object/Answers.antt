@@ -1,0 +1,66 @@
+use Rattle.std.specs.Prelude.{flat_map}
+use Rattle.std.specs.List.{range_with_len}
+use Rattle.std.proofs.lemmas.Bool.Decides.{nat_tests}
+use Rattle.bit_rows.specs.Bits.{bit_at, bit_number}
+use Rattle.dram_model.specs.declared.address.Command.TheVariants.{Aap}
+use Rattle.dram_model.specs.declared.address.Addr.TheVariants as addr
+use Rattle.dram_model.specs.Chip.Event.{Row}
+use Rattle.object_steps.proofs.Rises.{few_events, few_rows}
+use Rattle.std.proofs.Common.{◌≤◌, ◌≢◌, ◌∙◌, ◌*◌, ◌+◌, ap, arith}
+use Rattle.dram_model.specs.Chip.{Banks}
+use Rattle.dram_model.specs.Elements.{FailedBelow}
+use Rattle.dram_model.proofs.EventLaws.{Kept-more}
+use Rattle.machine_model.specs.Columns.{segments}
+use Rattle.object_steps.specs.Objects.{filled_in}
+use Rattle.object_steps.proofs.Filled.{next_bank, on_err, filled_others, one_times_more}
+use Rattle.object_steps.proofs.filling.fill_object.Goals as goal
+
+pub loop-bank-preserved : goal.loop-bank-preserved
+loop-bank-preserved g c =
+    let first = g.D.Dram.view c.args.dram.now in
+    let now = g.D.Dram.view c.loop-bank.dram in
+    let new = g.D.Dram.view c.fill_bank.new.dram in
+    let kept = c.loop-bank.invariant in
+    let bank = c.loop-bank.bank in
+    let did = c.in_ok-fill_bank.ensures.did in
+    record {
+      borrow = c.in_ok-fill_bank.ensures.borrow ∙ kept.borrow;
+      kept = Kept-more first now new kept.kept c.in_ok-fill_bank.ensures.kept;
+      aap = omega (
+        arith,
+        c.in_ok-fill_bank.ensures.aap,
+        kept.aap,
+        one_times_more c.loop-bank.bank c.args.o.width,
+      );
+      did = next_bank (filled_in c.args.o c.args.value) bank first now new kept.did did;
+      others = λ b l.
+          let ne : b ≢ c.loop-bank.bank = λ e. absurd (omega (arith, l, e)) in
+          ap (λ (banks : Banks). banks b) did.banks
+          ∙ filled_others c.args.o c.args.value bank now.banks b ne
+          ∙ kept.others b (omega (arith, l));
+    }
+
+pub returns-in_err-fill_bank-clause-failed : goal.returns-in_err-fill_bank-clause-failed
+returns-in_err-fill_bank-clause-failed g c =
+    let first = g.D.Dram.view c.args.dram.now in
+    let new = g.D.Dram.view c.fill_bank.new.dram in
+    let failed = c.in_err-fill_bank.ensures.failed in
+    let all : FailedBelow (segments c.args.g c.args.o) first new = record {
+      rose = omega (arith, c.loop-bank.invariant.kept.faults, failed.rose);
+      others = λ b l.
+          let ne : b ≢ c.loop-bank.bank = λ e. absurd (omega (arith, l, e)) in
+          failed.others b ne ∙ c.loop-bank.invariant.others b (omega (arith, l));
+    } in
+    on_err c.from_residual.result all
+
+pub returns-clause-rises : goal.returns-clause-rises
+returns-clause-rises g c =
+    let banks : c.args.g.banks ≤ 16 = grind (arith, nat_tests, c.requires.passes) in
+    let few : c.loop-bank.bank ≤ 16 =
+    omega (arith, banks, c.segments-bank-end.ensures.fits, c.loop-bank.auto.bank-end) in
+    few_events (16 * 128) (flat_map (filled_in c.args.o c.args.value)
+    (range_with_len 0 c.loop-bank.bank)) (g.D.Dram.view c.args.dram.now).counters
+    (g.D.Dram.view c.loop-bank.dram).counters c.loop-bank.invariant.did.counters
+    (few_rows c.loop-bank.bank c.args.o.width 128 (λ bank k.
+    Row bank (Aap (addr.C (bit_number (bit_at c.args.value k))) (addr.D (c.args.o.base + k)))) few
+    c.requires.object.narrow)

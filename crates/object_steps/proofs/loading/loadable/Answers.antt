@@ -1,0 +1,19 @@
+use Rattle.std.proofs.Common.{arith}
+use Rattle.object_steps.proofs.Done.{load_refused, load_allowed}
+use Rattle.object_steps.proofs.Refused.{all_small}
+use Rattle.object_steps.proofs.loading.loadable.Goals as goal
+
+pub returns-in-Some-clause-refused : goal.returns-in-Some-clause-refused
+returns-in-Some-clause-refused c = λ operations.
+    load_refused c.args.g operations c.args.table.now.pairs c.args.name.now c.args.values.now
+    c.in-Ok.o c.in-Some.at _ c.in-Ok.ensures.there c.in-Ok.ensures.object (omega arith)
+    c.in-Some.ensures.value (omega arith)
+
+pub returns-in-None-clause-small : goal.returns-in-None-clause-small
+returns-in-None-clause-small c =
+    all_small c.in-Ok.o.width c.args.values.now c.in-None.ensures.value
+
+pub returns-in-None-clause-allowed : goal.returns-in-None-clause-allowed
+returns-in-None-clause-allowed c = λ operations.
+    load_allowed c.args.g operations c.args.table.now.pairs c.args.name.now c.args.values.now
+    c.in-Ok.o c.in-Ok.ensures.there c.in-Ok.ensures.object (omega arith) c.in-None.ensures.value

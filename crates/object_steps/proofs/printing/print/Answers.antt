@@ -1,0 +1,70 @@
+use Rattle.std.proofs.Common.{◌≡◌, ◌++◌, ◌∙◌, List, ℕ, subst, take}
+use Rattle.std.specs.Prelude.{codes}
+use Rattle.host_edge.specs.Views.{Told, AppendsPart}
+use Rattle.machine_model.specs.Columns.{columns}
+use Rattle.object_steps.specs.Lines.{values_text}
+use Rattle.object_steps.proofs.Filled.{on_err}
+use Rattle.object_steps.proofs.Held.{more_held, part_of_more, then_all, then_part}
+use Rattle.object_steps.proofs.Rises.{few_reads}
+use Rattle.object_steps.proofs.Valued.{printed_is}
+use Rattle.object_steps.proofs.printing.print.Goals as goal
+
+pub returns-in_err-add_values-clause-part : goal.returns-in_err-add_values-clause-part
+returns-in_err-add_values-clause-part g c = λ operations.
+    let banks = (g.D.Dram.view c.args.dram.now).banks in
+    let began = g.S.Sink.view c.args.out.now in
+    let after = g.S.Sink.view c.add_values.new.out in
+    let o = c.in-Ok.o in
+    let front : List ℕ = c.line_head-text.result.items ++ values_text
+    (take o.count (columns c.args.g banks o)) in
+    on_err c.from_residual.result (subst (λ (xs : List ℕ). Told (AppendsPart xs) began.sent
+    after.sent) (printed_is c.args.g operations c.args.table.now.pairs banks c.args.number
+    c.args.name.now c.args.shown.now c.line_head-text.result.items o c.in-Ok.ensures.there
+    c.in-Ok.ensures.object c.line_head-text.ensures.text) (part_of_more front (codes "\n")
+    began.sent after.sent c.in_err-add_values.ensures.part))
+
+pub returns-in-Ok-put-clause-rises : goal.returns-in-Ok-put-clause-rises
+returns-in-Ok-put-clause-rises g c =
+    few_reads c.args.g c.in-Ok.o (g.D.Dram.view c.args.dram.now).counters
+    (g.D.Dram.view c.add_values.new.dram).counters c.requires.lies.geometry c.in-Ok.ensures.fits
+    c.in_ok-add_values.ensures.did.counters
+
+pub returns-in-Ok-put-clause-sent : goal.returns-in-Ok-put-clause-sent
+returns-in-Ok-put-clause-sent g c = λ operations.
+    let banks = (g.D.Dram.view c.args.dram.now).banks in
+    let began = g.S.Sink.view c.args.out.now in
+    let before = g.S.Sink.view c.add_values.new.out in
+    let after = g.S.Sink.view c.put.new.self in
+    let o = c.in-Ok.o in
+    let front : List ℕ = c.line_head-text.result.items ++ values_text
+    (take o.count (columns c.args.g banks o)) in
+    let held : List ℕ = c.add_values.new.text.items in
+    let last : List ℕ = c.as_slice.result.now in
+    let whole : last ≡ held ++ codes "\n" = c.as_slice.ensures.value ∙ c.add.ensures.text in
+    let all = printed_is c.args.g operations c.args.table.now.pairs banks c.args.number
+    c.args.name.now c.args.shown.now c.line_head-text.result.items o c.in-Ok.ensures.there
+    c.in-Ok.ensures.object c.line_head-text.ensures.text in
+    subst (λ (xs : List ℕ). Told (λ old new. new ≡ old ++ xs) began.sent after.sent) all
+    (then_all (front ++ codes "\n") last began.sent before.sent after.sent
+    (more_held front held (codes "\n") last began.sent before.sent whole
+    c.in_ok-add_values.ensures.held) c.in-Ok-put.ensures.sent)
+
+pub returns-in-Err-put-clause-part : goal.returns-in-Err-put-clause-part
+returns-in-Err-put-clause-part g c = λ operations.
+    let banks = (g.D.Dram.view c.args.dram.now).banks in
+    let began = g.S.Sink.view c.args.out.now in
+    let before = g.S.Sink.view c.add_values.new.out in
+    let after = g.S.Sink.view c.put.new.self in
+    let o = c.in-Ok.o in
+    let front : List ℕ = c.line_head-text.result.items ++ values_text
+    (take o.count (columns c.args.g banks o)) in
+    let held : List ℕ = c.add_values.new.text.items in
+    let last : List ℕ = c.as_slice.result.now in
+    let whole : last ≡ held ++ codes "\n" = c.as_slice.ensures.value ∙ c.add.ensures.text in
+    let all = printed_is c.args.g operations c.args.table.now.pairs banks c.args.number
+    c.args.name.now c.args.shown.now c.line_head-text.result.items o c.in-Ok.ensures.there
+    c.in-Ok.ensures.object c.line_head-text.ensures.text in
+    subst (λ (xs : List ℕ). Told (AppendsPart xs) began.sent after.sent) all
+    (then_part (front ++ codes "\n") last began.sent before.sent after.sent
+    (more_held front held (codes "\n") last began.sent before.sent whole
+    c.in_ok-add_values.ensures.held) c.in-Err-put.ensures.part)

@@ -1,0 +1,136 @@
+-- What comes of a bbop, which is a wave of one.
+use Rattle.std.proofs.Common.{◌≡◌, ℕ, ◌≤◌, Bool, true, false, cond, List, [], ◌∷◌, ◌++◌, refl}
+use Rattle.std.proofs.Common.{sym, ◌∙◌, ap, subst, append-nil, arith, map, get_or}
+use Rattle.std.specs.Prelude.{Err, is_none}
+use Rattle.std.specs.List.{AllByRecursion}
+use Rattle.host_edge.specs.Views.{SinkView, Told, Rose, AppendsPart}
+use Rattle.dram_model.specs.View.{ChipView, Did}
+use Rattle.dram_model.specs.Elements.{FailedBelow}
+use Rattle.wave_model.specs.Schedule.{Job}
+use Rattle.bbop_isa.specs.Forms.{Instruction}
+use Rattle.bbop_isa.specs.Forms.{Init, Bbop, Load, Fill, Print, Free, Order}
+use Rattle.machine_model.specs.declared.Reply.{Reply}
+use Rattle.machine_model.specs.Pieces.{Piece, Wave, jobs_of, piece_of}
+use Rattle.machine_model.specs.Pieces as piece
+use Rattle.machine_model.specs.Refusals.{refusal}
+use Rattle.machine_model.specs.Report.{line}
+use Rattle.machine_model.specs.Report.Said.{Answered}
+use Rattle.machine_model.specs.Script.{is_bbop}
+use Rattle.machine_model.specs.Steps.{job_of}
+use Rattle.object_steps.specs.declared.fault.StepFault.{StepFault}
+use Rattle.object_steps.specs.declared.fault.StepFault.TheVariants.{ChipFault, WriteFault}
+use Rattle.sim_machine.specs.declared.machine.Machine.{Machine}
+use Rattle.sim_machine.specs.Machine.{banks_by, events_by, geometry_of, is_print, line_of, lines_of}
+use Rattle.sim_machine.specs.Machine.{operations_by, reads_by, reply_of, table_behind, table_in}
+use Rattle.sim_machine.specs.Machine.{turn_by_piece, turn_in}
+use Rattle.sim_machine.specs.Outcome.{Comes, Stepped}
+use Rattle.sim_machine.specs.Steps.{DidAndRead}
+use Rattle.sim_machine.proofs.Stepping.{did_only, if_same, no_part, reads_none, said_answered}
+
+shows_none : (instr : Instruction) → is_bbop instr ≡ true → is_print instr ≡ false
+shows_none (Init name count n) e = absurd (cc)
+shows_none (Bbop op dst srcs count n) e = refl
+shows_none (Load name values) e = absurd (cc)
+shows_none (Fill name value) e = absurd (cc)
+shows_none (Print name) e = absurd (cc)
+shows_none (Free name) e = absurd (cc)
+shows_none (Order o) e = absurd (cc)
+
+keeps_table : (m : Machine) (instr : Instruction) → is_bbop instr ≡ true
+    → table_in m ≡ table_behind m instr
+keeps_table m (Init name count n) e = absurd (cc)
+keeps_table m (Bbop op dst srcs count n) e = sym (if_same _ (table_in m))
+keeps_table m (Load name values) e = absurd (cc)
+keeps_table m (Fill name value) e = absurd (cc)
+keeps_table m (Print name) e = absurd (cc)
+keeps_table m (Free name) e = absurd (cc)
+keeps_table m (Order o) e = absurd (cc)
+
+one_wave : (instr : Instruction) → is_bbop instr ≡ true → piece_of instr ≡ Wave (instr ∷ [])
+one_wave instr e = ap (λ b. cond b (Wave (instr ∷ [])) (piece.Alone instr)) e
+
+job_banks : (m : Machine) (instr : Instruction)
+    → (job_of (geometry_of m) (operations_by m) (table_in m) instr).banks ≤ banks_by m instr
+job_banks m (Init name count n) = omega arith
+job_banks m (Bbop op dst srcs count n) = omega arith
+job_banks m (Load name values) = omega arith
+job_banks m (Fill name value) = omega arith
+job_banks m (Print name) = omega arith
+job_banks m (Free name) = omega arith
+job_banks m (Order o) = omega arith
+
+one_below : (b : Bool) (k : ℕ) (f : Instruction → Job) (x : Instruction) (xs : List Instruction)
+    → (f x).banks ≤ k → AllByRecursion (λ job. job.banks ≤ k) (map f xs)
+    → AllByRecursion (λ job. job.banks ≤ k) (map f (cond b (x ∷ xs) xs))
+one_below true k f x xs h all = (h, all)
+one_below false k f x xs h all = all
+
+-- the jobs of a wave are in the banks that its bbops may change
+pub jobs_below : (m : Machine) (wave : List Instruction) (k : ℕ)
+    → AllByRecursion (λ instr. banks_by m instr ≤ k) wave
+    → AllByRecursion (λ job. job.banks ≤ k)
+    (jobs_of (geometry_of m) (operations_by m) (table_in m) wave)
+jobs_below m [] k all = tt
+jobs_below m (instr ∷ wave) k all =
+    let banks = job_banks m instr in
+    one_below (is_none (refusal (geometry_of m) (operations_by m) (table_in m) instr)) k
+    (job_of (geometry_of m) (operations_by m) (table_in m)) instr _
+    (omega (arith, all.0, banks)) (jobs_below m wave k all.1)
+
+module _ (old new : Machine) (number : ℕ) (instr : Instruction) (wave : List Instruction)
+    (chip chip' : ChipView) (sink sink' : SinkView) (is : wave ≡ instr ∷ [])
+    (bbop : is_bbop instr ≡ true)
+  where
+    one_line : lines_of old number wave ≡ line_of old number chip.banks instr
+    one_line = ap (lines_of old number) is ∙ append-nil (line number (Answered (reply_of old instr)))
+        ∙ ap (line number) (sym (said_answered (reply_of old instr) instr _
+        (shows_none instr bbop)))
+
+    same_piece : Wave wave ≡ piece_of instr
+    same_piece = ap Wave is ∙ sym (one_wave instr bbop)
+
+    did_alone : Did (events_by old (Wave wave)) chip chip'
+        → DidAndRead (events_by old (piece_of instr)) (reads_by old instr) chip chip'
+    did_alone did = subst (λ p. DidAndRead (events_by old p) (reads_by old instr) chip chip')
+        same_piece (did_only _ _ chip chip' (reads_none old instr (shows_none instr bbop)) did)
+
+    pub bbop_done : (replies : List Reply) (d : Reply) → table_in new ≡ table_in old
+        → replies ≡ map (reply_of old) wave → turn_in new ≡ turn_by_piece old (Wave wave)
+        → Did (events_by old (Wave wave)) chip chip'
+        → Told (λ x y. y ≡ x ++ lines_of old number wave) sink.sent sink'.sent
+        → Stepped old new number instr chip chip' sink sink' (get_or replies 0 d)
+    bbop_done replies d table e turn did sent = record {
+      answer = ap (λ (rs : List Reply). get_or rs 0 d) (e ∙ ap (map (reply_of old)) is);
+      table = table ∙ keeps_table old instr bbop;
+      turn = turn ∙ ap (turn_by_piece old) same_piece;
+      did = did_alone did;
+      sent = subst (λ text. Told (λ x y. y ≡ x ++ text) sink.sent sink'.sent) one_line sent;
+    }
+
+    pub bbop_failed : (fault : StepFault) → table_in new ≡ table_in old
+        → (fault ≡ ChipFault → (k : ℕ) → AllByRecursion (λ i. banks_by old i ≤ k) wave
+        → FailedBelow k chip chip')
+        → (fault ≡ ChipFault → sink' ≡ sink)
+        → (fault ≡ WriteFault → Did (events_by old (Wave wave)) chip chip')
+        → (fault ≡ WriteFault → Rose sink.faults sink'.faults)
+        → (fault ≡ WriteFault
+        → Told (AppendsPart (lines_of old number wave)) sink.sent sink'.sent)
+        → Comes old new number instr chip chip' sink sink' (Err fault)
+    bbop_failed ChipFault table failed same did rose part = record {
+      table = table;
+      failed = failed refl (banks_by old instr)
+          (subst (AllByRecursion (λ i. banks_by old i ≤ banks_by old instr)) (sym is)
+          (omega arith, tt));
+      unsent = λ e. same refl;
+      part = subst (λ (s : SinkView). Told (AppendsPart (line_of old number chip.banks instr))
+          sink.sent s.sent) (sym (same refl)) (no_part _ sink.sent);
+    }
+    bbop_failed WriteFault table failed same did rose part =
+        let all = did_alone (did refl) in record {
+          table = table;
+          did = λ e. all;
+          banks = all.banks;
+          log = all.log;
+          rose = rose refl;
+          part = subst (λ text. Told (AppendsPart text) sink.sent sink'.sent) one_line (part refl);
+        }

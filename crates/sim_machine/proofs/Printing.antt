@@ -1,0 +1,154 @@
+-- What comes of a print.
+use Rattle.std.proofs.Common.{◌≡◌, ℕ, ◌≤◌, List, [], ◌++◌, refl, sym, ◌∙◌, ap, subst, append-nil}
+use Rattle.std.proofs.Common.{arith, None, Some}
+use Rattle.std.specs.Prelude.{Option, Err}
+use Rattle.host_edge.specs.Views.{SinkView, Told, Told-trans, Rose, AppendsPart}
+use Rattle.dram_model.specs.Chip.{Grew, after}
+use Rattle.dram_model.specs.View.{ChipView, DidRead}
+use Rattle.dram_model.specs.Elements.{FailedBelow}
+use Rattle.uprog_code.specs.declared.walker.Counts.{Counts}
+use Rattle.bbop_isa.specs.Forms.{Print}
+use Rattle.machine_model.specs.declared.Reply.{Reply}
+use Rattle.machine_model.specs.declared.Reply.TheVariants.{Done, Refused}
+use Rattle.machine_model.specs.declared.Why.{Why}
+use Rattle.machine_model.specs.Pieces.{piece_of}
+use Rattle.machine_model.specs.Refusals.{refusal}
+use Rattle.machine_model.specs.Report.{line, said_of}
+use Rattle.machine_model.specs.Report.Said.{Answered, Printed}
+use Rattle.machine_model.specs.Steps.{if_done, reply_by}
+use Rattle.object_steps.specs.Lines.{DidReadAtMost, printed_line}
+use Rattle.object_steps.specs.declared.fault.StepFault.{StepFault}
+use Rattle.object_steps.specs.declared.fault.StepFault.TheVariants.{ChipFault, WriteFault}
+use Rattle.sim_machine.specs.declared.machine.Machine.{Machine}
+use Rattle.sim_machine.specs.Machine.{banks_by, events_by, geometry_of, line_of, operations_by}
+use Rattle.sim_machine.specs.Machine.{reads_by, reply_of, table_in, turn_in}
+use Rattle.sim_machine.specs.Outcome.{Comes, Stepped, StoppedBySink}
+use Rattle.sim_machine.specs.Steps.{DidAndRead}
+use Rattle.sim_machine.proofs.Stepping.{if_same, not_refused, print_table}
+
+shown : (number : ℕ) (name : List ℕ) (r : Option Why) (c : Counts) (values : List ℕ → List ℕ)
+    → r ≡ None → if_done r (line number (Printed name (values name))) []
+    ≡ line number (said_of (reply_by r c) (Print name) values)
+shown number name None c values e = refl
+shown number name (Some why) c values e = absurd (cc)
+
+unshown : (r : Option Why) (c : Counts) (w : Why) (text : List ℕ) → Refused w ≡ reply_by r c
+    → if_done r text [] ≡ []
+unshown None c w text e = absurd (cc)
+unshown (Some why) c w text e = refl
+
+refused_said : (name : List ℕ) (reply : Reply) (w : Why) (values : List ℕ → List ℕ)
+    → reply ≡ Refused w → said_of reply (Print name) values ≡ Answered reply
+refused_said name (Refused why) w values e = refl
+refused_said name (Done counts) w values e = absurd (cc)
+
+nothing_more : (x y : List ℕ) (text : List ℕ) → text ≡ [] → y ≡ x ++ text → y ≡ x
+nothing_more x y text e h = h ∙ ap (λ t. x ++ t) e ∙ append-nil x
+
+module _ (old new : Machine) (number : ℕ) (name : List ℕ) (chip chip' : ChipView)
+    (sink sink' : SinkView)
+  where
+    abbrev shown_line : List ℕ
+    shown_line = printed_line (geometry_of old) (operations_by old) (table_in old) chip.banks
+        number name name
+
+    none_else : events_by old (piece_of (Print name)) ≡ []
+    none_else = if_same (refusal (geometry_of old) (operations_by old) (table_in old) (Print name))
+        []
+
+    did_read : DidRead (reads_by old (Print name)) chip chip'
+        → DidAndRead (events_by old (piece_of (Print name))) (reads_by old (Print name)) chip chip'
+    did_read did = subst (λ events. DidAndRead events (reads_by old (Print name)) chip chip')
+        (sym none_else) (record { banks = did.banks; counters = did.counters; log = did.log })
+
+    whole_line : refusal (geometry_of old) (operations_by old) (table_in old) (Print name) ≡ None
+        → shown_line ≡ line_of old number chip.banks (Print name)
+    whole_line e = shown number name _ _ _ e
+
+    refused_line : (reply : Reply) (w : Why) → reply ≡ reply_of old (Print name)
+        → reply ≡ Refused w
+        → line number (Answered reply) ≡ line_of old number chip.banks (Print name)
+    refused_line reply w e h = ap (λ r. line number (Answered r)) e
+        ∙ ap (line number) (sym (refused_said name (reply_of old (Print name)) w _ (sym e ∙ h)))
+
+    pub print_done : (reply : Reply) (d : Counts) → table_in new ≡ table_in old
+        → turn_in new ≡ turn_in old → reply ≡ reply_of old (Print name) → reply ≡ Done d
+        → DidRead (reads_by old (Print name)) chip chip'
+        → Told (λ x y. y ≡ x ++ shown_line) sink.sent sink'.sent
+        → Stepped old new number (Print name) chip chip' sink sink' reply
+    print_done reply d table turn e h did sent = record {
+      answer = e;
+      table = table ∙ print_table old name;
+      turn = turn;
+      did = did_read did;
+      sent = subst (λ text. Told (λ x y. y ≡ x ++ text) sink.sent sink'.sent)
+          (whole_line (not_refused _ _ d (sym h ∙ e))) sent;
+    }
+
+    pub print_refused : (reply : Reply) (w : Why) (between : SinkView)
+        → table_in new ≡ table_in old
+        → turn_in new ≡ turn_in old → reply ≡ reply_of old (Print name) → reply ≡ Refused w
+        → DidRead (reads_by old (Print name)) chip chip'
+        → Told (λ x y. y ≡ x ++ shown_line) sink.sent between.sent
+        → Told (λ x y. y ≡ x ++ line number (Answered reply)) between.sent sink'.sent
+        → Stepped old new number (Print name) chip chip' sink sink' reply
+    print_refused reply w between table turn e h did first sent = record {
+      answer = e;
+      table = table ∙ print_table old name;
+      turn = turn;
+      did = did_read did;
+      sent = Told-trans {R = λ x y. y ≡ x ++ shown_line}
+          {S = λ x y. y ≡ x ++ line number (Answered reply)}
+          {U = λ x y. y ≡ x ++ line_of old number chip.banks (Print name)}
+          sink.sent between.sent sink'.sent
+          (λ x y z p q. q
+          ∙ ap (λ t. t ++ line number (Answered reply))
+          (nothing_more x y shown_line (unshown _ _ w _ (sym h ∙ e)) p)
+          ∙ ap (λ t. x ++ t) (refused_line reply w e h)) first sent;
+    }
+
+    pub print_unsent : (reply : Reply) (w : Why) (between : SinkView)
+        → table_in new ≡ table_in old → reply ≡ reply_of old (Print name) → reply ≡ Refused w
+        → DidRead (reads_by old (Print name)) chip chip'
+        → sink.faults ≤ between.faults
+        → Told (λ x y. y ≡ x ++ shown_line) sink.sent between.sent
+        → Rose between.faults sink'.faults
+        → Told (AppendsPart (line number (Answered reply))) between.sent sink'.sent
+        → StoppedBySink old new number (Print name) chip chip' sink sink'
+    print_unsent reply w between table e h did before first rose sent = record {
+      table = table;
+      did = λ p. absurd (cc);
+      banks = (did_read did).banks;
+      log = (did_read did).log;
+      rose = omega (arith, before, rose);
+      part = Told-trans {R = λ x y. y ≡ x ++ shown_line}
+          {S = AppendsPart (line number (Answered reply))}
+          {U = AppendsPart (line_of old number chip.banks (Print name))}
+          sink.sent between.sent sink'.sent
+          (λ x y z p q. subst (λ t. AppendsPart t x z) (refused_line reply w e h)
+          (subst (λ t. AppendsPart (line number (Answered reply)) t z)
+          (nothing_more x y shown_line (unshown _ _ w _ (sym h ∙ e)) p) q)) first sent;
+    }
+
+    pub print_failed : (fault : StepFault) → table_in new ≡ table_in old
+        → refusal (geometry_of old) (operations_by old) (table_in old) (Print name) ≡ None
+        → Told (AppendsPart shown_line) sink.sent sink'.sent
+        → (fault ≡ ChipFault → FailedBelow (banks_by old (Print name)) chip chip')
+        → (fault ≡ WriteFault → Rose sink.faults sink'.faults) → (n : ℕ)
+        → (fault ≡ WriteFault → DidReadAtMost n chip chip')
+        → Comes old new number (Print name) chip chip' sink sink' (Err fault)
+    print_failed ChipFault table allowed part failed rose n read = record {
+      table = table;
+      failed = failed refl;
+      unsent = λ p. absurd (cc);
+      part = subst (λ t. Told (AppendsPart t) sink.sent sink'.sent) (whole_line allowed) part;
+    }
+    print_failed WriteFault table allowed part failed rose n read = record {
+      table = table;
+      did = λ p. absurd (cc);
+      banks = (read refl).did.banks
+          ∙ ap (λ events. after events chip.banks) (sym none_else);
+      log = subst (λ events. Grew chip.log chip'.log events) (sym none_else) (read refl).did.log;
+      rose = rose refl;
+      part = subst (λ t. Told (AppendsPart t) sink.sent sink'.sent) (whole_line allowed) part;
+    }

@@ -1,0 +1,256 @@
+-- What comes of an instruction that no other stands beside.
+use Rattle.std.proofs.Common.{◌≡◌, ℕ, ◌+◌, Bool, true, false, cond, List, [], ◌∷◌, ◌++◌, refl, sym}
+use Rattle.std.proofs.Common.{◌∙◌, ap, subst, append-nil, add-zero, Some, None}
+use Rattle.std.specs.Prelude.{Option, not, ◌||◌}
+use Rattle.std.specs.Option.{is_some}
+use Rattle.std.specs.Str.{bytes_eq}
+use Rattle.std.proofs.lemmas.Slice.Eq.{bytes_eq-Decides}
+use Rattle.host_edge.specs.Views.{SinkView, Told, Told-same, Rose, AppendsPart}
+use Rattle.dram_model.specs.declared.dram.Counters.{Counters}
+use Rattle.dram_model.specs.Chip.{Event, Grew, all_counted}
+use Rattle.dram_model.specs.View.{ChipView, Did, with_reads}
+use Rattle.dram_model.specs.Elements.{FailedBelow}
+use Rattle.object_alloc.specs.declared.table.Object.{Object}
+use Rattle.object_alloc.specs.Listed.{Named, has_name, look_up, without}
+use Rattle.dram_model.specs.declared.geometry.Geometry.{Geometry}
+use Rattle.bbop_isa.specs.Forms.{Instruction}
+use Rattle.bbop_isa.specs.Forms.{Init, Bbop, Load, Fill, Print, Free, Order}
+use Rattle.machine_model.specs.declared.Reply.{Reply}
+use Rattle.machine_model.specs.declared.Reply.TheVariants.{Done, Refused}
+use Rattle.machine_model.specs.declared.Why.{Why}
+use Rattle.machine_model.specs.declared.Why.TheVariants as why
+use Rattle.uprog_code.specs.declared.walker.Counts.{Counts}
+use Rattle.machine_model.proofs.Tables.{made}
+use Rattle.machine_model.specs.Operations.{Operations}
+use Rattle.machine_model.specs.Pieces.{Piece, Alone, piece_of}
+use Rattle.machine_model.specs.Pieces as piece
+use Rattle.machine_model.specs.Refusals.{refusal}
+use Rattle.machine_model.specs.Report.{line, said_of}
+use Rattle.machine_model.specs.Report.Said.{Answered}
+use Rattle.machine_model.specs.Script.{is_bbop}
+use Rattle.machine_model.specs.Steps.{if_done, reply_by, reply_to, table_after}
+use Rattle.object_steps.specs.Objects.{events_alone}
+use Rattle.sim_machine.specs.declared.machine.Machine.{Machine}
+use Rattle.sim_machine.specs.Machine.{banks_by, events_by, geometry_of, is_print, line_of}
+use Rattle.sim_machine.specs.Machine.{operations_by, reads_by, reply_of, table_behind, table_in}
+use Rattle.sim_machine.specs.Machine.{leaves_table, turn_by_piece, turn_in}
+use Rattle.sim_machine.proofs.Found.{look_up-some}
+use Rattle.sim_machine.specs.Outcome.{Stepped, StoppedByChip, StoppedBySink}
+use Rattle.sim_machine.specs.Steps.{DidAndRead}
+
+-- a line that shows no values is that of the reply
+pub said_answered : (reply : Reply) (instr : Instruction) (values : List ℕ → List ℕ)
+    → is_print instr ≡ false → said_of reply instr values ≡ Answered reply
+said_answered (Refused why) instr values e = refl
+said_answered (Done counts) (Init name count n) values e = refl
+said_answered (Done counts) (Bbop op dst srcs count n) values e = refl
+said_answered (Done counts) (Load name loaded) values e = refl
+said_answered (Done counts) (Fill name value) values e = refl
+said_answered (Done counts) (Print name) values e = absurd (cc)
+said_answered (Done counts) (Free name) values e = refl
+said_answered (Done counts) (Order o) values e = refl
+
+either_none : (b : Bool) (n : ℕ) → n ≡ 0 → cond b n 0 ≡ 0
+either_none true n e = e
+either_none false n e = refl
+
+-- and only a print reads rows
+pub reads_none : (m : Machine) (instr : Instruction) → is_print instr ≡ false
+    → reads_by m instr ≡ 0
+reads_none m (Init name count n) e = either_none _ _ refl
+reads_none m (Bbop op dst srcs count n) e = either_none _ _ refl
+reads_none m (Load name loaded) e = either_none _ _ refl
+reads_none m (Fill name value) e = either_none _ _ refl
+reads_none m (Print name) e = absurd (cc)
+reads_none m (Free name) e = either_none _ _ refl
+reads_none m (Order o) e = refl
+
+no_reads : (c : Counters) → c ≡ with_reads 0 c
+no_reads c = let e : c.reads + 0 ≡ c.reads = add-zero c.reads in rw e refl
+
+-- nothing was read
+pub did_only : (events : List Event) (n : ℕ) (a b : ChipView) → n ≡ 0 → Did events a b
+    → DidAndRead events n a b
+did_only events n a b e did = record {
+  banks = did.banks;
+  counters = did.counters ∙ no_reads (all_counted events a.counters)
+      ∙ ap (λ k. with_reads k (all_counted events a.counters)) (sym e);
+  log = did.log;
+}
+
+-- a piece of one instruction
+pub alone : (instr : Instruction) → is_bbop instr ≡ false → piece_of instr ≡ Alone instr
+alone instr e = ap (λ b. cond b (piece.Wave (instr ∷ [])) (Alone instr)) e
+
+pub no_part : (bytes : List ℕ) (sent : Option (List ℕ)) → Told (AppendsPart bytes) sent sent
+no_part bytes sent = Told-same (AppendsPart bytes) sent (λ x. (
+  [],
+  ((bytes, refl), sym (append-nil x)),
+))
+
+module _ (old new : Machine) (number : ℕ) (instr : Instruction) (chip chip' : ChipView)
+    (sink sink' : SinkView) (print : is_print instr ≡ false) (bbop : is_bbop instr ≡ false)
+  where
+    did_piece : Did (events_alone (geometry_of old) (operations_by old) (table_in old) instr)
+        chip chip' → DidAndRead (events_by old (piece_of instr)) (reads_by old instr) chip chip'
+    did_piece did = subst (λ p. DidAndRead (events_by old p) (reads_by old instr) chip chip')
+        (sym (alone instr bbop)) (did_only _ _ chip chip' (reads_none old instr print) did)
+
+    answered : (reply : Reply) → reply ≡ reply_of old instr
+        → line number (Answered reply) ≡ line_of old number chip.banks instr
+    answered reply e = ap (λ r. line number (Answered r)) e
+        ∙ ap (line number) (sym (said_answered (reply_of old instr) instr _ print))
+
+    pub done_alone : (reply : Reply) → reply ≡ reply_of old instr
+        → table_in new ≡ table_behind old instr
+        → turn_in new ≡ turn_by_piece old (Alone instr)
+        → Did (events_alone (geometry_of old) (operations_by old) (table_in old) instr) chip chip'
+        → Told (λ x y. y ≡ x ++ line number (Answered reply)) sink.sent sink'.sent
+        → Stepped old new number instr chip chip' sink sink' reply
+    done_alone reply e table turn did sent = record {
+      answer = e;
+      table = table;
+      turn = turn ∙ ap (turn_by_piece old) (sym (alone instr bbop));
+      did = did_piece did;
+      sent = subst (λ text. Told (λ x y. y ≡ x ++ text) sink.sent sink'.sent) (answered reply e)
+          sent;
+    }
+
+    pub failed_alone : table_in new ≡ table_in old
+        → FailedBelow (banks_by old instr) chip chip' → sink' ≡ sink
+        → StoppedByChip old new number instr chip chip' sink sink'
+    failed_alone table failed same = record {
+      table = table;
+      failed = failed;
+      unsent = λ e. same;
+      part = subst (λ (s : SinkView). Told (AppendsPart (line_of old number chip.banks instr))
+          sink.sent s.sent) (sym same) (no_part _ sink.sent);
+    }
+
+    pub unsent_alone : (reply : Reply) → reply ≡ reply_of old instr → table_in new ≡ table_in old
+        → Did (events_alone (geometry_of old) (operations_by old) (table_in old) instr) chip chip'
+        → Rose sink.faults sink'.faults
+        → Told (AppendsPart (line number (Answered reply))) sink.sent sink'.sent
+        → StoppedBySink old new number instr chip chip' sink sink'
+    unsent_alone reply e table did rose sent =
+        let all = did_piece did in record {
+          table = table;
+          did = λ p. all;
+          banks = all.banks;
+          log = all.log;
+          rose = rose;
+          part = subst (λ text. Told (AppendsPart text) sink.sent sink'.sent) (answered reply e)
+              sent;
+        }
+
+-- a load, a fill and an order show no values, and are no bbops
+pub leaves : (instr : Instruction) → leaves_table instr ≡ true
+    → (is_print instr ≡ false) × (is_bbop instr ≡ false)
+leaves (Init name count n) e = absurd (cc)
+leaves (Bbop op dst srcs count n) e = absurd (cc)
+leaves (Load name loaded) e = (refl, refl)
+leaves (Fill name value) e = (refl, refl)
+leaves (Print name) e = absurd (cc)
+leaves (Free name) e = absurd (cc)
+leaves (Order o) e = (refl, refl)
+
+-- and neither leave other tables
+pub if_same : {S : Type 0} (r : Option Why) (x : S) → if_done r x x ≡ x
+if_same None x = refl
+if_same (Some why) x = refl
+
+pub same_table : (m : Machine) (instr : Instruction) → leaves_table instr ≡ true
+    → table_in m ≡ table_behind m instr
+same_table m (Init name count n) e = absurd (cc)
+same_table m (Bbop op dst srcs count n) e = absurd (cc)
+same_table m (Load name loaded) e = sym (if_same _ (table_in m))
+same_table m (Fill name value) e = sym (if_same _ (table_in m))
+same_table m (Print name) e = absurd (cc)
+same_table m (Free name) e = absurd (cc)
+same_table m (Order o) e = refl
+
+pub print_table : (m : Machine) (name : List ℕ) → table_in m ≡ table_behind m (Print name)
+print_table m name = sym (if_same _ (table_in m))
+
+pub grew_nothing : (log : Option (List Event)) → Grew log log []
+grew_nothing None = tt
+grew_nothing (Some events) = sym (append-nil events)
+
+pub nothing_done : (g : Geometry) (operations : Operations) (table : List Named) (name : List ℕ)
+    (chip : ChipView) → Did (events_alone g operations table (Free name)) chip chip
+nothing_done g operations table name chip = subst (λ events. Did events chip chip)
+    (sym (if_same (refusal g operations table (Free name)) [])) (record {
+      banks = refl;
+      counters = refl;
+      log = grew_nothing chip.log;
+    })
+
+-- what frees an object
+freed : (g : Geometry) (operations : Operations) (table : List Named) (name : List ℕ) (b : Bool)
+    → b ≡ has_name table name
+    → reply_by (cond (not b) (Some (why.NoObject 0)) None) (record { aap = 0; ap = 0 })
+    ≡ reply_to g operations table (Free name)
+freed g operations table name b e =
+    ap (λ t. reply_by (cond (not t) (Some (why.NoObject 0)) None) (record { aap = 0; ap = 0 })) e
+
+pub free_done : (g : Geometry) (operations : Operations) (table : List Named) (name : List ℕ)
+    (o : Object) → Some o ≡ look_up table name
+    → Done (record { aap = 0; ap = 0 }) ≡ reply_to g operations table (Free name)
+free_done g operations table name o e =
+    freed g operations table name true (ap is_some e ∙ look_up-some table name)
+
+pub free_refused : (g : Geometry) (operations : Operations) (table : List Named) (name : List ℕ)
+    → None ≡ look_up table name
+    → Refused (why.NoObject 0) ≡ reply_to g operations table (Free name)
+free_refused g operations table name e =
+    freed g operations table name false (ap is_some e ∙ look_up-some table name)
+
+-- an object that is taken away again
+neither : (a b : Bool) → (a || b) ≡ false → (a ≡ false) × (b ≡ false)
+neither true b e = absurd (cc)
+neither false b e = (refl, e)
+
+kept_first : (p : Named) (b : Bool) (xs ys : List Named) → b ≡ false → xs ≡ ys
+    → cond (not b) (p ∷ xs) xs ≡ p ∷ ys
+kept_first p true xs ys e h = absurd (cc)
+kept_first p false xs ys e h = ap (λ zs. p ∷ zs) h
+
+dropped : (p : Named) (b : Bool) → b ≡ true → cond (not b) (p ∷ []) [] ≡ []
+dropped p true e = refl
+dropped p false e = absurd (cc)
+
+without_new : (table : List Named) (name : List ℕ) (o : Object) → has_name table name ≡ false
+    → without (table ++ (name, o) ∷ []) name ≡ table
+without_new [] name o e = dropped (name, o) (bytes_eq name name) ((bytes_eq-Decides name name).1 refl)
+without_new (p ∷ table) name o e =
+    let both = neither (bytes_eq p.0 name) (has_name table name) e in
+    kept_first p (bytes_eq p.0 name) _ _ both.0 (without_new table name o both.1)
+
+pub not_refused : (r : Option Why) (c d : Counts) → Done d ≡ reply_by r c → r ≡ None
+not_refused None c d e = refl
+not_refused (Some why) c d e = absurd (cc)
+
+if_none : {S : Type 0} (r : Option Why) (x y : S) → r ≡ None → if_done r x y ≡ x
+if_none None x y e = refl
+if_none (Some why) x y e = absurd (cc)
+
+pub undone : (g : Geometry) (operations : Operations) (table : List Named) (name : List ℕ)
+    (count n : ℕ) (d : Counts) → Done d ≡ reply_to g operations table (Init name count n)
+    → without (table_after g operations table (Init name count n)) name ≡ table
+undone g operations table name count n d e =
+    let r = refusal g operations table (Init name count n) in
+    let none : r ≡ None = not_refused r _ d e in
+    ap (λ t. without t name) (if_none r _ table none)
+    ∙ without_new table name _ (made g operations table name count n none).new
+
+refused_table : (r : Option Why) (c : Counts) (w : Why) (x y : List Named)
+    → Refused w ≡ reply_by r c → if_done r x y ≡ y
+refused_table None c w x y e = absurd (cc)
+refused_table (Some why) c w x y e = refl
+
+-- and one that is refused
+pub refused_same : (g : Geometry) (operations : Operations) (table : List Named)
+    (instr : Instruction) (w : Why) → Refused w ≡ reply_to g operations table instr
+    → table_after g operations table instr ≡ table
+refused_same g operations table instr w e =
+    refused_table (refusal g operations table instr) _ w _ table e

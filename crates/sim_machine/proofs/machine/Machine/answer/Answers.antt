@@ -1,0 +1,43 @@
+use Rattle.std.proofs.Common.{◌≡◌, ◌∙◌, ap, subst, sym}
+use Rattle.std.specs.Prelude.{IfOk, OnOk}
+use Rattle.dram_model.specs.View.{Did}
+use Rattle.bbop_isa.specs.Forms.{Instruction, Fill, Load, view_of}
+use Rattle.object_steps.specs.Objects.{events_alone}
+use Rattle.sim_machine.specs.Machine.{geometry_of, operations_by, reply_of, table_in}
+use Rattle.sim_machine.proofs.machine.Machine.answer.Goals as goal
+
+pub returns-in-Load-clause-reply : goal.returns-in-Load-clause-reply
+returns-in-Load-clause-reply g c =
+    let m = c.args.self.now in
+    let is : view_of c.args.instr.now ≡ Load c.in-Load.name c.as_slice.result.now =
+    ap view_of c.in-Load.is ∙ ap (Load c.in-Load.name) (sym c.as_slice.ensures.value) in
+    subst (λ (i : Instruction). IfOk c.load.result (λ reply. reply ≡ reply_of m i)) (sym is)
+    (c.load.ensures.reply (operations_by m))
+
+pub returns-in-Load-clause-did : goal.returns-in-Load-clause-did
+returns-in-Load-clause-did g c =
+    let m = c.args.self.now in
+    let V = g.D.Dram.view in
+    let is : view_of c.args.instr.now ≡ Load c.in-Load.name c.as_slice.result.now =
+    ap view_of c.in-Load.is ∙ ap (Load c.in-Load.name) (sym c.as_slice.ensures.value) in
+    subst (λ (i : Instruction). OnOk c.load.result (Did (events_alone (geometry_of m)
+    (operations_by m) (table_in m) i) (V c.args.dram.now) (V c.load.new.dram))) (sym is)
+    (c.load.ensures.did (operations_by m))
+
+pub returns-in-Fill-clause-reply : goal.returns-in-Fill-clause-reply
+returns-in-Fill-clause-reply g c =
+    let m = c.args.self.now in
+    let is : view_of c.args.instr.now ≡ Fill c.in-Fill.name c.in-Fill.value =
+    ap view_of c.in-Fill.is in
+    subst (λ (i : Instruction). IfOk c.fill.result (λ reply. reply ≡ reply_of m i)) (sym is)
+    (c.fill.ensures.reply (operations_by m))
+
+pub returns-in-Fill-clause-did : goal.returns-in-Fill-clause-did
+returns-in-Fill-clause-did g c =
+    let m = c.args.self.now in
+    let V = g.D.Dram.view in
+    let is : view_of c.args.instr.now ≡ Fill c.in-Fill.name c.in-Fill.value =
+    ap view_of c.in-Fill.is in
+    subst (λ (i : Instruction). OnOk c.fill.result (Did (events_alone (geometry_of m)
+    (operations_by m) (table_in m) i) (V c.args.dram.now) (V c.fill.new.dram))) (sym is)
+    (c.fill.ensures.did (operations_by m))

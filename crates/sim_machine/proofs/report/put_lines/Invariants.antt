@@ -1,0 +1,15 @@
+use Rattle.std.proofs.Common.{◌≡◌, ◌+◌, ◌≤◌, ◌++◌, take}
+use Rattle.host_edge.specs.Views.{Told}
+use Rattle.sim_machine.proofs.Lines.{reply_lines}
+use Rattle.sim_machine.proofs.report.put_lines.Given as goal
+
+-- the lines so far were put
+abbrev pub invariant-loop-reply : goal.invariant-loop-reply
+invariant-loop-reply g l =
+    let S = g.S.Sink in
+    record {
+      next : l.next ≡ l.fn.number + l.reply-index;
+      faults : (S.view l.initial.out).faults ≤ (S.view l.out).faults;
+      sent : Told (λ x y. y ≡ x ++ reply_lines l.fn.number (take l.reply-index l.replies))
+          (S.view l.initial.out).sent (S.view l.out).sent;
+    }

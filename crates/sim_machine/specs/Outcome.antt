@@ -1,0 +1,54 @@
+-- What comes of one instruction.
+use Rattle.std.specs.Prelude.{◌≡◌, ℕ, false, ◌++◌, Result, Ok, Err}
+use Rattle.host_edge.specs.Views.{SinkView, Told, Rose, AppendsPart}
+use Rattle.dram_model.specs.Chip.{after, Grew}
+use Rattle.dram_model.specs.View.{ChipView}
+use Rattle.dram_model.specs.Elements.{FailedBelow}
+use Rattle.bbop_isa.specs.Forms.{Instruction}
+use Rattle.machine_model.specs.declared.Reply.{Reply}
+use Rattle.machine_model.specs.Pieces.{piece_of}
+use Rattle.object_steps.specs.declared.fault.StepFault.{StepFault}
+use Rattle.object_steps.specs.declared.fault.StepFault.TheVariants.{ChipFault, WriteFault}
+use Rattle.sim_machine.specs.declared.machine.Machine.{Machine}
+use Rattle.sim_machine.specs.Machine.{table_in, turn_in, reply_of, table_behind, turn_by_piece}
+use Rattle.sim_machine.specs.Machine.{events_by, reads_by, banks_by, is_print, line_of}
+use Rattle.sim_machine.specs.Steps.{DidAndRead}
+
+-- it was done, and its line was put
+pub record Stepped (old new : Machine) (number : ℕ) (instr : Instruction) (chip chip' : ChipView)
+    (sink sink' : SinkView) (reply : Reply) : Type 0 where
+  pub answer : reply ≡ reply_of old instr
+  pub table : table_in new ≡ table_behind old instr
+  pub turn : turn_in new ≡ turn_by_piece old (piece_of instr)
+  pub did : DidAndRead (events_by old (piece_of instr)) (reads_by old instr) chip chip'
+  pub sent : Told (λ before after. after ≡ before ++ line_of old number chip.banks instr)
+      sink.sent sink'.sent
+
+-- the chip failed: the banks past the destination's are as before, and of no line but a print's a
+-- part was put
+pub record StoppedByChip (old new : Machine) (number : ℕ) (instr : Instruction)
+    (chip chip' : ChipView) (sink sink' : SinkView) : Type 0 where
+  pub table : table_in new ≡ table_in old
+  pub failed : FailedBelow (banks_by old instr) chip chip'
+  pub unsent : is_print instr ≡ false → sink' ≡ sink
+  pub part : Told (AppendsPart (line_of old number chip.banks instr)) sink.sent sink'.sent
+
+-- the sink failed: all was done, but of a print perhaps not each row was read
+pub record StoppedBySink (old new : Machine) (number : ℕ) (instr : Instruction)
+    (chip chip' : ChipView) (sink sink' : SinkView) : Type 0 where
+  pub table : table_in new ≡ table_in old
+  pub did : is_print instr ≡ false
+      → DidAndRead (events_by old (piece_of instr)) (reads_by old instr) chip chip'
+  pub banks : chip'.banks ≡ after (events_by old (piece_of instr)) chip.banks
+  pub log : Grew chip.log chip'.log (events_by old (piece_of instr))
+  pub rose : Rose sink.faults sink'.faults
+  pub part : Told (AppendsPart (line_of old number chip.banks instr)) sink.sent sink'.sent
+
+abbrev pub Comes : Machine → Machine → ℕ → Instruction → ChipView → ChipView → SinkView → SinkView
+    → Result Reply StepFault → Type 0
+Comes old new number instr chip chip' sink sink' (Ok reply) =
+    Stepped old new number instr chip chip' sink sink' reply
+Comes old new number instr chip chip' sink sink' (Err ChipFault) =
+    StoppedByChip old new number instr chip chip' sink sink'
+Comes old new number instr chip chip' sink sink' (Err WriteFault) =
+    StoppedBySink old new number instr chip chip' sink sink'

@@ -1,0 +1,311 @@
+//! One instruction.
+
+ghost use Rattle.std.specs.Prelude.{◌≡◌, ℕ, ◌≤◌, true, length, IfOk, OnOk, OnErr};
+ghost use Rattle.host_edge.specs.Views.{Told, Rose as SinkRose};
+ghost use Rattle.dram_model.specs.View.{HasBegun, Kept, Did};
+ghost use Rattle.dram_model.specs.Elements.{FailedBelow};
+ghost use Rattle.bbop_isa.specs.Forms.{view_of, Init, Print, Free};
+ghost use Rattle.machine_model.specs.Agrees.{IsPlain};
+ghost use Rattle.machine_model.specs.Pieces.{Alone, turn_of};
+ghost use Rattle.uprog_ctl.specs.Orders.{turn_of as state_of};
+ghost use Rattle.dram_model.specs.declared.geometry.Geometry.{Geometry};
+ghost use Rattle.machine_model.specs.Operations.{Operations};
+ghost use Rattle.machine_model.specs.Script.{is_bbop};
+ghost use Rattle.machine_model.specs.Steps.{reply_to};
+ghost use Rattle.object_steps.specs.Objects.{events_alone};
+ghost use Rattle.sim_machine.specs.Machine.{IsReady, banks_by, geometry_of, leaves_table};
+ghost use Rattle.sim_machine.specs.Machine.{operations_by, program_of, reply_of, table_in};
+ghost use Rattle.sim_machine.specs.Machine.{turn_by_piece, turn_in};
+ghost use Rattle.sim_machine.specs.Outcome.{Comes};
+ghost use Rattle.sim_machine.specs.Steps.{HasRoom};
+
+use crate::machine::Machine;
+use crate::report::put_reply;
+use bbop_isa::{Instr, Order as Orders};
+use dram_model::{ChipFault, Dram};
+use host_edge::Sink;
+use machine_model::{Reply, Why};
+use object_alloc::Table;
+use object_steps::{StepFault, fill, free, load, print, trsp_init};
+use std::slice;
+use text_lex::Name;
+use uprog_code::Counts;
+use uprog_ctl::{Forward, Order, Seeded, Turns};
+
+/// A reply of no commands.
+const DONE: Reply = Reply::Done(Counts { aap: 0, ap: 0 });
+
+/// A new picker of the order that is given.
+fn picker_of(order: Orders) -> Order
+    ensures { state_of result ≡ turn_of order }
+{
+    match order {
+        Orders::Forward => Order::First(Forward::new()),
+        Orders::Turns => Order::Turns(Turns::new()),
+        Orders::Seed(seed) => Order::Seeded(Seeded::new(seed)),
+    }
+}
+
+/// What freeing an object comes to.
+fn free_reply(table: &Table, name: &Name) -> Reply
+    ensures { (g : Geometry) (operations : Operations) → result
+        ≡ reply_to g operations table.now.pairs (Free name.now) }
+{
+    match table.look_up(name) {
+        Some(_) => DONE,
+        None => Reply::Refused(Why::NoObject(0)),
+    }
+}
+
+impl<'a> Machine<'a> {
+    /// A bbop is a wave of one.
+    fn bbop_step<D: Dram, S: Sink>(
+        &mut self,
+        number: u32,
+        instr: &Instr,
+        dram: &mut D,
+        out: &mut S,
+    ) -> Result<Reply, StepFault>
+        requires ready { IsReady self.old }
+        requires begun { HasBegun (D.view dram.old) }
+        requires geometry { (D.view dram.old).geometry ≡ geometry_of self.old }
+        requires bbop { is_bbop (view_of instr.now) ≡ true }
+        requires plain { IsPlain (view_of instr.now) }
+        requires room { HasRoom (D.view dram.old).counters }
+        ensures borrow { D.borrow dram.new ≡ D.borrow dram.old }
+        ensures kept { Kept (D.view dram.old) (D.view dram.new) }
+        ensures sink_faults { (S.view out.old).faults ≤ (S.view out.new).faults }
+        ensures program { program_of self.new ≡ program_of self.old }
+        ensures shape { geometry_of self.new ≡ geometry_of self.old }
+        ensures ready { IsReady self.new }
+        ensures comes { Comes self.old self.new number (view_of instr.now) (D.view dram.old)
+            (D.view dram.new) (S.view out.old) (S.view out.new) result }
+    {
+        match self.wave(number, slice::from_ref(instr), dram, out) {
+            Ok(replies) => Ok(replies.as_slice()[0]),
+            Err(fault) => Err(fault),
+        }
+    }
+
+    /// An object is made, and taken away again where its line cannot be put.
+    fn init_step<D: Dram, S: Sink>(
+        &mut self,
+        number: u32,
+        name: &Name,
+        count: u32,
+        n: u8,
+        dram: &mut D,
+        out: &mut S,
+    ) -> Result<Reply, StepFault>
+        requires ready { IsReady self.old }
+        requires begun { HasBegun (D.view dram.old) }
+        requires geometry { (D.view dram.old).geometry ≡ geometry_of self.old }
+        requires plain { IsPlain (Init name.now count n) }
+        requires room { HasRoom (D.view dram.old).counters }
+        ensures borrow { D.borrow dram.new ≡ D.borrow dram.old }
+        ensures kept { Kept (D.view dram.old) (D.view dram.new) }
+        ensures sink_faults { (S.view out.old).faults ≤ (S.view out.new).faults }
+        ensures program { program_of self.new ≡ program_of self.old }
+        ensures shape { geometry_of self.new ≡ geometry_of self.old }
+        ensures ready { IsReady self.new }
+        ensures comes { Comes self.old self.new number (Init name.now count n) (D.view dram.old)
+            (D.view dram.new) (S.view out.old) (S.view out.new) result }
+    {
+        let reply = match trsp_init(self.geometry, &mut self.table, name, count, n, dram) {
+            Ok(reply) => reply,
+            Err(_) => return Err(StepFault::ChipFault),
+        };
+        match put_reply(number, reply, out) {
+            Ok(()) => Ok(reply),
+            Err(_) => {
+                if let Reply::Done(_) = reply {
+                    self.table.remove(name);
+                }
+                Err(StepFault::WriteFault)
+            }
+        }
+    }
+
+    /// What a load, a fill or an order comes to. None of them changes the table.
+    fn answer<D: Dram>(&mut self, instr: &Instr, dram: &mut D) -> Result<Reply, ChipFault>
+        requires ready { IsReady self.old }
+        requires begun { HasBegun (D.view dram.old) }
+        requires geometry { (D.view dram.old).geometry ≡ geometry_of self.old }
+        requires leaves { leaves_table (view_of instr.now) ≡ true }
+        requires room { HasRoom (D.view dram.old).counters }
+        ensures borrow { D.borrow dram.new ≡ D.borrow dram.old }
+        ensures kept { Kept (D.view dram.old) (D.view dram.new) }
+        ensures program { program_of self.new ≡ program_of self.old }
+        ensures shape { geometry_of self.new ≡ geometry_of self.old }
+        ensures ready { IsReady self.new }
+        ensures table { table_in self.new ≡ table_in self.old }
+        ensures reply { IfOk result (λ reply. reply ≡ reply_of self.old (view_of instr.now)) }
+        ensures turn { OnOk result (turn_in self.new
+            ≡ turn_by_piece self.old (Alone (view_of instr.now))) }
+        ensures did { OnOk result (Did (events_alone (geometry_of self.old)
+            (operations_by self.old) (table_in self.old) (view_of instr.now)) (D.view dram.old)
+            (D.view dram.new)) }
+        ensures failed { OnErr result (FailedBelow (banks_by self.old (view_of instr.now))
+            (D.view dram.old) (D.view dram.new)) }
+    {
+        let g = self.geometry;
+        match instr {
+            Instr::Load { name, values } => {
+                load(
+                    g,
+                    &self.table,
+                    name,
+                    values.as_slice(),
+                    &mut self.stage,
+                    dram,
+                )
+            }
+            Instr::Fill { name, value } => fill(g, &self.table, name, *value, dram),
+            Instr::Order(order) => {
+                self.order = picker_of(*order);
+                Ok(DONE)
+            }
+            _ => unreachable!(),
+        }
+    }
+
+    /// A load, a fill or an order.
+    fn reply_step<D: Dram, S: Sink>(
+        &mut self,
+        number: u32,
+        instr: &Instr,
+        dram: &mut D,
+        out: &mut S,
+    ) -> Result<Reply, StepFault>
+        requires ready { IsReady self.old }
+        requires begun { HasBegun (D.view dram.old) }
+        requires geometry { (D.view dram.old).geometry ≡ geometry_of self.old }
+        requires leaves { leaves_table (view_of instr.now) ≡ true }
+        requires room { HasRoom (D.view dram.old).counters }
+        ensures borrow { D.borrow dram.new ≡ D.borrow dram.old }
+        ensures kept { Kept (D.view dram.old) (D.view dram.new) }
+        ensures sink_faults { (S.view out.old).faults ≤ (S.view out.new).faults }
+        ensures program { program_of self.new ≡ program_of self.old }
+        ensures shape { geometry_of self.new ≡ geometry_of self.old }
+        ensures ready { IsReady self.new }
+        ensures comes { Comes self.old self.new number (view_of instr.now) (D.view dram.old)
+            (D.view dram.new) (S.view out.old) (S.view out.new) result }
+    {
+        let reply = match self.answer(instr, dram) {
+            Ok(reply) => reply,
+            Err(_) => return Err(StepFault::ChipFault),
+        };
+        match put_reply(number, reply, out) {
+            Ok(()) => Ok(reply),
+            Err(_) => Err(StepFault::WriteFault),
+        }
+    }
+
+    /// An object's values are shown under its own name.
+    fn print_step<D: Dram, S: Sink>(
+        &mut self,
+        number: u32,
+        name: &Name,
+        dram: &mut D,
+        out: &mut S,
+    ) -> Result<Reply, StepFault>
+        requires ready { IsReady self.old }
+        requires begun { HasBegun (D.view dram.old) }
+        requires geometry { (D.view dram.old).geometry ≡ geometry_of self.old }
+        requires room { HasRoom (D.view dram.old).counters }
+        ensures borrow { D.borrow dram.new ≡ D.borrow dram.old }
+        ensures kept { Kept (D.view dram.old) (D.view dram.new) }
+        ensures sink_faults { (S.view out.old).faults ≤ (S.view out.new).faults }
+        ensures program { program_of self.new ≡ program_of self.old }
+        ensures shape { geometry_of self.new ≡ geometry_of self.old }
+        ensures ready { IsReady self.new }
+        ensures comes { Comes self.old self.new number (Print name.now) (D.view dram.old)
+            (D.view dram.new) (S.view out.old) (S.view out.new) result }
+    {
+        let g = self.geometry;
+        let reply = match print(
+            g,
+            &self.table,
+            number,
+            name,
+            name,
+            &mut self.stage,
+            dram,
+            out,
+        ) {
+            Ok(reply) => reply,
+            Err(fault) => return Err(fault),
+        };
+        match reply {
+            Reply::Done(_) => Ok(reply),
+            Reply::Refused(_) => match put_reply(number, reply, out) {
+                Ok(()) => Ok(reply),
+                Err(_) => Err(StepFault::WriteFault),
+            },
+        }
+    }
+
+    /// An object leaves the table once the line is put.
+    fn free_step<D: Dram, S: Sink>(
+        &mut self,
+        number: u32,
+        name: &Name,
+        dram: &mut D,
+        out: &mut S,
+    ) -> Result<Reply, StepFault>
+        requires ready { IsReady self.old }
+        requires begun { HasBegun (D.view dram.old) }
+        requires geometry { (D.view dram.old).geometry ≡ geometry_of self.old }
+        requires room { HasRoom (D.view dram.old).counters }
+        ensures borrow { D.borrow dram.new ≡ D.borrow dram.old }
+        ensures kept { Kept (D.view dram.old) (D.view dram.new) }
+        ensures sink_faults { (S.view out.old).faults ≤ (S.view out.new).faults }
+        ensures program { program_of self.new ≡ program_of self.old }
+        ensures shape { geometry_of self.new ≡ geometry_of self.old }
+        ensures ready { IsReady self.new }
+        ensures comes { Comes self.old self.new number (Free name.now) (D.view dram.old)
+            (D.view dram.new) (S.view out.old) (S.view out.new) result }
+    {
+        let reply = free_reply(&self.table, name);
+        match put_reply(number, reply, out) {
+            Ok(()) => {
+                free(&mut self.table, name);
+                Ok(reply)
+            }
+            Err(_) => Err(StepFault::WriteFault),
+        }
+    }
+
+    /// One instruction.
+    pub(crate) fn step_of<D: Dram, S: Sink>(
+        &mut self,
+        number: u32,
+        instr: &Instr,
+        dram: &mut D,
+        out: &mut S,
+    ) -> Result<Reply, StepFault>
+        requires ready { IsReady self.old }
+        requires begun { HasBegun (D.view dram.old) }
+        requires geometry { (D.view dram.old).geometry ≡ geometry_of self.old }
+        requires plain { IsPlain (view_of instr.now) }
+        requires room { HasRoom (D.view dram.old).counters }
+        ensures borrow { D.borrow dram.new ≡ D.borrow dram.old }
+        ensures kept { Kept (D.view dram.old) (D.view dram.new) }
+        ensures sink_faults { (S.view out.old).faults ≤ (S.view out.new).faults }
+        ensures program { program_of self.new ≡ program_of self.old }
+        ensures shape { geometry_of self.new ≡ geometry_of self.old }
+        ensures ready { IsReady self.new }
+        ensures comes { Comes self.old self.new number (view_of instr.now) (D.view dram.old)
+            (D.view dram.new) (S.view out.old) (S.view out.new) result }
+    {
+        match instr {
+            Instr::Bbop { .. } => self.bbop_step(number, instr, dram, out),
+            Instr::Init { name, count, n } => self.init_step(number, name, *count, *n, dram, out),
+            Instr::Print { name } => self.print_step(number, name, dram, out),
+            Instr::Free { name } => self.free_step(number, name, dram, out),
+            Instr::Load { .. } | Instr::Fill { .. } | Instr::Order(_) => {
+                self.reply_step(number, instr, dram, out)
+            }
+        }
+    }
+}

@@ -1,0 +1,158 @@
+-- The queue of a bank, job by job.
+use Rattle.std.proofs.Common.{◌≡◌, ℕ, ◌+◌, ◌<◌, ◌≤◌, Bool, true, false, List, []}
+use Rattle.std.proofs.Common.{◌∷◌}
+use Rattle.std.proofs.Common.{◌++◌, length, map, drop, get_or, refl, sym, ap, ◌∙◌, subst, arith}
+use Rattle.std.specs.Prelude.{All, nat_lt, if◌then◌else◌}
+use Rattle.std.proofs.lemmas.Bool.{lt-ltb, le-ltb}
+use Rattle.std.proofs.lemmas.List.{drop_more, get_or-map, length-map}
+use Rattle.std.proofs.lemmas.List.Elements.{All-get_or, All-head, All-drop}
+use Rattle.dram_model.specs.declared.address.Command.{Command}
+use Rattle.dram_model.specs.declared.geometry.Geometry.{Geometry}
+use Rattle.uprog_code.specs.declared.TheConstants.{WALK_MAX}
+use Rattle.uprog_code.specs.declared.code.Uop.{Uop}
+use Rattle.uprog_code.specs.Shape.{Shape, shape_of}
+use Rattle.uprog_code.specs.Machine.{Issue, Trace, issues_of, start, HasEnded}
+use Rattle.uprog_code.specs.OneStep.{issue_of}
+use Rattle.uprog_code.specs.Bound.{bound, bound_command, bound_of}
+use Rattle.uprog_code.proofs.Kept.{command_legal}
+use Rattle.uprog_code.proofs.Steps.{trace_is, some_first, start_registers}
+use Rattle.uprog_ctl.specs.declared.waves.Job.{Job}
+use Rattle.uprog_ctl.specs.declared.cursor.JobHead.{JobHead}
+use Rattle.uprog_ctl.specs.declared.cursor.Walk.{Walk}
+use Rattle.uprog_ctl.specs.declared.cursor.Found.{Found}
+use Rattle.uprog_ctl.specs.declared.cursor.Cursor.{Cursor}
+use Rattle.uprog_ctl.specs.Waves.{BoundJob, bound_job, bound_jobs, CanRun, job_queues}
+use Rattle.uprog_ctl.specs.Cursors.{rest_of, StandsIn, Finds, left_from, StandsInFirst, AreHeads}
+use Rattle.uprog_ctl.specs.Cursors.{IsAt}
+
+abbrev pub first_walk : Walk
+first_walk = record { pc = 0; regs = start; left = WALK_MAX }
+
+-- the head that stands beside a job is its entry's
+pub head_at : {F : Type 0} (shape : F → Shape) (jobs : List (Job F)) (heads : List JobHead) (i : ℕ)
+    (job : Job F) (h : JobHead) → AreHeads shape jobs heads → i < length jobs
+    → job ≡ get_or jobs i job → h ≡ get_or heads i h → shape_of h.head ≡ shape job.entry
+head_at {F} shape jobs heads i job h are lt e f =
+    let of_head : JobHead → Shape = λ x. shape_of x.head in
+    let of_job : Job F → Shape = λ x. shape x.entry in
+    let long : length heads ≡ length jobs = sym (length-map heads of_head) ∙ ap length are
+    ∙ length-map jobs of_job in
+    let lt' : i < length heads = omega (arith, long) in
+    ap of_head f ∙ sym (get_or-map of_head heads i h (of_head h) lt')
+    ∙ ap (λ (xs : List Shape). get_or xs i (of_head h)) are
+    ∙ get_or-map of_job jobs i job (of_head h) lt ∙ ap of_job (sym e)
+
+pub heads_long : {F : Type 0} (shape : F → Shape) (jobs : List (Job F)) (heads : List JobHead)
+    → AreHeads shape jobs heads → length heads ≡ length jobs
+heads_long {F} shape jobs heads are =
+    let of_head : JobHead → Shape = λ x. shape_of x.head in
+    let of_job : Job F → Shape = λ x. shape x.entry in
+    sym (length-map heads of_head) ∙ ap length are ∙ length-map jobs of_job
+
+-- the job of a number, as the first of those from it on
+pub jobs_from : {F : Type 0} (shape : F → Shape) (code : F → List Uop) (jobs : List (Job F)) (i : ℕ)
+    (job : Job F) → i < length jobs → job ≡ get_or jobs i job
+    → drop i (bound_jobs shape code jobs)
+    ≡ bound_job shape code job ∷ drop (i + 1) (bound_jobs shape code jobs)
+jobs_from {F} shape code jobs i job lt e =
+    let f : Job F → BoundJob = bound_job shape code in
+    let lt' : i < length (map f jobs) = omega (arith, length-map jobs f) in
+    drop_more (map f jobs) i (f job) lt'
+    ∙ ap (λ (b : BoundJob). b ∷ drop (i + 1) (map f jobs))
+    (get_or-map f jobs i job (f job) lt ∙ ap f (sym e))
+
+pub job_can_run : {F : Type 0} (shape : F → Shape) (code : F → List Uop) (g : Geometry)
+    (jobs : List (Job F)) (i : ℕ) (job : Job F) → All (CanRun g) (bound_jobs shape code jobs)
+    → i < length jobs → job ≡ get_or jobs i job → CanRun g (bound_job shape code job)
+job_can_run {F} shape code g jobs i job all lt e =
+    let f : Job F → BoundJob = bound_job shape code in
+    let lt' : i < length (map f jobs) = omega (arith, length-map jobs f) in
+    subst (CanRun g) (get_or-map f jobs i job (f job) lt ∙ ap f (sym e))
+    (All-get_or (CanRun g) (map f jobs) i (f job) lt' all)
+
+-- a job that a chip can run can be started
+pub start_stands : (g : Geometry) (job : BoundJob) → CanRun g job → StandsIn job first_walk
+start_stands g job can = record {
+  place = some_first job.shape job.code can.legal;
+  registers = start_registers;
+  ended = subst HasEnded (sym (trace_is job.shape job.code job.binding.n)) can.ends;
+}
+
+pub start_left : (rows bank : ℕ) (jobs : List BoundJob)
+    → left_from rows bank jobs first_walk ≡ job_queues rows jobs bank
+start_left rows bank [] = refl
+start_left rows bank (job ∷ jobs) =
+    ap (λ (t : Trace). (if nat_lt bank job.banks
+    then bound rows job.shape job.binding.n (bound_of job.binding) (issues_of t) else [])
+    ++ job_queues rows jobs bank) (trace_is job.shape job.code job.binding.n)
+
+-- a job that isn't the bank's, and one that is done
+pub skip_left : (rows bank : ℕ) (job : BoundJob) (jobs : List BoundJob) (w : Walk)
+    → job.banks ≤ bank → left_from rows bank (job ∷ jobs) w ≡ job_queues rows jobs bank
+skip_left rows bank job jobs w h = rw (le-ltb bank job.banks h) refl
+
+pub done_left : (rows bank : ℕ) (job : BoundJob) (jobs : List BoundJob) (w : Walk)
+    → issues_of (rest_of job w) ≡ [] → left_from rows bank (job ∷ jobs) w
+    ≡ job_queues rows jobs bank
+done_left rows bank job jobs w e = rw e (none (nat_lt bank job.banks))
+  where
+    none : (t : Bool) → (if t then [] else []) ++ job_queues rows jobs bank
+        ≡ job_queues rows jobs bank
+    none true = refl
+    none false = refl
+
+-- the command that is found, and what is left behind it
+pub found_left : (rows bank : ℕ) (job : BoundJob) (jobs : List BoundJob) (w : Walk) (found : Found)
+    → bank < job.banks → Finds job w found
+    → left_from rows bank (job ∷ jobs) w
+    ≡ bound_command rows job.shape job.binding.n (bound_of job.binding) (issue_of found.issued)
+    ∷ left_from rows bank (job ∷ jobs) found.behind
+found_left rows bank job jobs w found lt finds = rw (lt-ltb bank job.banks lt)
+    (ap (λ (is : List Issue). bound rows job.shape job.binding.n (bound_of job.binding) is
+    ++ job_queues rows jobs bank) finds.first)
+
+pub cursor_at : (g : Geometry) (all jobs : List BoundJob) (job : BoundJob) (i bank : ℕ) (w : Walk)
+    (left : List Command) (found : Found) (c : Cursor) → CanRun g job → i < length all
+    → drop i all ≡ job ∷ jobs → bank < job.banks → Finds job w found
+    → left_from g.rows bank (drop i all) w ≡ left
+    → c ≡ record {
+      bank = bank;
+      next = bound_command g.rows job.shape job.binding.n (bound_of job.binding)
+          (issue_of found.issued);
+      job = i;
+      walk = found.behind;
+    } → IsAt g.rows all left c
+cursor_at g all jobs job i bank w left found c can lt here on finds is e =
+    let first = found_left g.rows bank job jobs w found on finds in
+    let what = sym is ∙ ap (λ (js : List BoundJob). left_from g.rows bank js w) here ∙ first
+    ∙ ap (λ (js : List BoundJob). bound_command g.rows job.shape job.binding.n
+    (bound_of job.binding) (issue_of found.issued) ∷ left_from g.rows bank js found.behind)
+    (sym here) in
+    subst (λ (d : Cursor). IsAt g.rows all left d) (sym e) (record {
+      left = what;
+      job = lt;
+      legal = command_legal g.rows job.shape job.binding.n (bound_of job.binding) can.fits can.some
+          (issue_of found.issued) finds.good;
+      stands = subst (λ (js : List BoundJob). StandsInFirst js found.behind) (sym here)
+          finds.stands;
+    })
+
+pub jobs_long : {F : Type 0} (shape : F → Shape) (code : F → List Uop) (jobs : List (Job F)) (i : ℕ)
+    → i < length jobs → i < length (bound_jobs shape code jobs)
+jobs_long {F} shape code jobs i lt =
+    let f : Job F → BoundJob = bound_job shape code in omega (arith, length-map jobs f)
+
+-- the next job begins at its start
+pub next_job : (rows bank : ℕ) (jobs : List BoundJob) (w : Walk) → w ≡ first_walk
+    → left_from rows bank jobs w ≡ job_queues rows jobs bank
+next_job rows bank jobs w e = ap (left_from rows bank jobs) e ∙ start_left rows bank jobs
+
+first_stands : (g : Geometry) (jobs : List BoundJob) → All (CanRun g) jobs
+    → StandsInFirst jobs first_walk
+first_stands g [] all = tt
+first_stands g (job ∷ jobs) all = start_stands g job (All-head (CanRun g) job jobs all)
+
+pub next_stands : (g : Geometry) (jobs : List BoundJob) (i : ℕ) (w : Walk) → All (CanRun g) jobs
+    → w ≡ first_walk → StandsInFirst (drop i jobs) w
+next_stands g jobs i w all e = subst (StandsInFirst (drop i jobs)) (sym e)
+    (first_stands g (drop i jobs) (All-drop (CanRun g) i jobs all))
