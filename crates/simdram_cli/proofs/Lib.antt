@@ -16,6 +16,7 @@ pub mod Accounting
 pub mod Commanding
 pub mod Initial
 pub mod Promised
+pub mod Executing
 pub mod Ended
 pub mod Promising
 pub mod OpenedRows

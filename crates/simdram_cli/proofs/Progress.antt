@@ -28,7 +28,8 @@ use Rattle.cli_model.specs.World.{World, world}
 use Rattle.cli_model.specs.Steps.{End, Done, Goes}
 use Rattle.sim_machine.specs.declared.machine.Machine.{Machine}
 use Rattle.sim_machine.specs.Machine.{IsReady, geometry_of, program_of, table_in, turn_in}
-use Rattle.sim_machine.specs.Steps.{DidAndRead, RisesAtMost}
+use Rattle.object_steps.specs.Objects.{RisesAtMost}
+use Rattle.sim_machine.specs.Steps.{DidAndRead}
 use Rattle.simdram_cli.specs.Job.{piece_steps, pieces_steps}
 use Rattle.simdram_cli.specs.Works.{PieceDone, next_piece}
 use Rattle.simdram_cli.proofs.Piecewise.{begins, count_both, did_more, front_is, goes_piece}
@@ -61,9 +62,9 @@ pub record Holds (g : Geometry) (table : List Named) : Type 0 where
 
 pub holds_of : (m : Machine) (g : Geometry) → geometry_of m ≡ g → IsReady m → Holds g (table_in m)
 holds_of m g e ready = subst (λ (x : Geometry). Holds x (table_in m)) e (record {
-  words = (geometry_parts (geometry_of m) ready.set.geometry).0;
+  words = (geometry_parts (geometry_of m) ready.lies.geometry).0;
   fits = fits_banks (geometry_of m) (table_in m)
-      (record { listed = ready.set.listed; objects = ready.set.objects });
+      (record { listed = ready.lies.listed; objects = ready.lies.objects });
 })
 
 -- what is left behind the first piece

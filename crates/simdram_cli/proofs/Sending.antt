@@ -8,15 +8,15 @@ use Rattle.dram_model.specs.Chip.{Banks, Event, all_counted}
 use Rattle.dram_model.specs.View.{ChipView, Did, with_reads}
 use Rattle.object_alloc.specs.Listed.{Named}
 use Rattle.bbop_isa.specs.Forms.{Instruction}
-use Rattle.machine_model.specs.declared.Reply.{Reply}
+use Rattle.std.specs.List.{AllByRecursion}
 use Rattle.machine_model.specs.Operations.{Operations}
 use Rattle.machine_model.specs.Pieces.{AreBbops, Wave}
 use Rattle.machine_model.specs.Report.{Said, Answered, line, lines, said_in_rows}
 use Rattle.machine_model.specs.Script.{rows_printed, sum_done}
 use Rattle.machine_model.specs.Steps.{reply_to}
 use Rattle.machine_model.proofs.Parts.{waves_are_answered}
-use Rattle.sim_machine.specs.declared.machine.StepFault.{StepFault}
-use Rattle.sim_machine.specs.declared.machine.StepFault.TheVariants as step_fault
+use Rattle.object_steps.specs.declared.fault.StepFault.{StepFault}
+use Rattle.object_steps.specs.declared.fault.StepFault.TheVariants as step_fault
 use Rattle.sim_machine.specs.Steps.{DidAndRead}
 use Rattle.cli_model.specs.World.{world}
 use Rattle.cli_model.specs.Steps.{Step, Use, Put, Print, Goes, Printed, PutFailed, ChipFailed, Done}
@@ -209,19 +209,14 @@ instr_failed step_fault.WriteFault false bytes files s t a b f =
 
 -- a wave's lines
 abbrev answers_of : Geometry → Operations → List Named → List Instruction → List Said
-answers_of g o table wave = map (λ instr. Answered (reply_to g o table instr)) wave
-
-answered_each : (f : Instruction → Reply) (wave : List Instruction)
-    → map Answered (map f wave) ≡ map (λ instr. Answered (f instr)) wave
-answered_each f [] = refl
-answered_each f (instr ∷ wave) = ap (λ rest. Answered (f instr) ∷ rest) (answered_each f wave)
+answers_of g o table wave = map Answered (map (reply_to g o table) wave)
 
 wave_said : (g : Geometry) (o : Operations) (table : List Named) (banks : Banks)
     (wave : List Instruction) → AreBbops wave
     → said_in_rows g o table banks wave ≡ answers_of g o table wave
 wave_said g o table banks wave bbops =
     let w = waves_are_answered g o table wave bbops in
-    w.said banks ∙ ap (map Answered) w.answers ∙ answered_each (reply_to g o table) wave
+    w.said banks ∙ ap (map Answered) w.answers
 
 answers_sent : (g : Geometry) (o : Operations) (table : List Named) (number : ℕ)
     (wave : List Instruction) (files : FolderView) (s t : SinkView) (a b : ChipView)
@@ -292,3 +287,16 @@ wave_did g o table wave events a b bbops did =
     }) where
       nothing_more : (k : Counters) → k ≡ with_reads 0 k
       nothing_more k = let e : k.reads ≡ k.reads + 0 = omega arith in rw (← e) refl
+
+looser : {X : Type 0} (f : X → ℕ) (more k : ℕ) (xs : List X) → AllByRecursion (λ x. f x ≤ k) xs
+    → AllByRecursion (λ x. f x ≤ more + k) xs
+looser f more k [] all = tt
+looser f more k (x ∷ xs) all = (omega (arith, all.0), looser f more k xs all.1)
+
+-- a number that no value of a list passes
+pub bound_of : {X : Type 0} (f : X → ℕ) (xs : List X)
+    → (k : ℕ) × AllByRecursion (λ x. f x ≤ k) xs
+bound_of f [] = (0, tt)
+bound_of f (x ∷ xs) =
+    let rest = bound_of f xs in
+    (f x + rest.0, (omega arith, looser f (f x) rest.0 xs rest.1))

@@ -4,8 +4,8 @@ use Rattle.cli_model.specs.Steps.{Reason, CannotRead, TooLong, Refused, NoMemory
 use Rattle.cli_model.specs.Steps.{CannotWrite, PutFailed, ChipFailed, End, Done, Stopped}
 use Rattle.object_alloc.specs.declared.fault.ImageNo.{ImageNo}
 use Rattle.object_alloc.specs.declared.fault.ImageNo.TheVariants as image_no
-use Rattle.sim_machine.specs.declared.machine.StepFault.{StepFault}
-use Rattle.sim_machine.specs.declared.machine.StepFault.TheVariants as step_fault
+use Rattle.object_steps.specs.declared.fault.StepFault.{StepFault}
+use Rattle.object_steps.specs.declared.fault.StepFault.TheVariants as step_fault
 use Rattle.simdram_cli.specs.Inputs.{ops_refusal, script_refusal, image_refusal}
 use Rattle.simdram_cli.specs.Programs.{prog_refusal}
 use Rattle.simdram_cli.specs.declared.stop.Stop.{Stop}

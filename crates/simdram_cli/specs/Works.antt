@@ -14,7 +14,8 @@ use Rattle.machine_model.specs.Script.{sum_done, table_at_end}
 use Rattle.sim_machine.specs.declared.machine.Machine.{Machine}
 use Rattle.sim_machine.specs.Machine.{IsReady, events_by, geometry_of, operations_by, table_in}
 use Rattle.sim_machine.specs.Machine.{turn_by_piece, turn_in}
-use Rattle.sim_machine.specs.Steps.{DidAndRead, RisesAtMost}
+use Rattle.object_steps.specs.Objects.{RisesAtMost}
+use Rattle.sim_machine.specs.Steps.{DidAndRead}
 use Rattle.simdram_cli.specs.Job.{opened_counters, tally_by, refused_by}
 
 -- the chip has begun and taken the rows of the image

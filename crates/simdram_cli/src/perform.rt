@@ -14,7 +14,8 @@ ghost use Rattle.machine_model.specs.Opened.{rows_of};
 ghost use Rattle.machine_model.specs.Report.{total_line};
 ghost use Rattle.cli_model.specs.World.{world};
 ghost use Rattle.cli_model.specs.Steps.{Goes, Open, Use, Store, Put};
-ghost use Rattle.sim_machine.specs.Machine.{IsReady, IsSetting, geometry_of, program_of};
+ghost use Rattle.object_steps.specs.Objects.{LiesOn};
+ghost use Rattle.sim_machine.specs.Machine.{IsReady, geometry_of, program_of};
 ghost use Rattle.sim_machine.specs.Machine.{table_in, turn_in};
 ghost use Rattle.wave_model.specs.Schedule.{Ahead};
 ghost use Rattle.simdram_cli.specs.Inputs.{image_found};
@@ -39,7 +40,7 @@ fn open<'a, 'p, D: Dram>(
     chip: &mut D,
     alloc: Global,
 ) -> Result<Machine<'p>, Stop<'a>>
-    requires set { IsSetting image.geometry image.table }
+    requires lies { LiesOn image.geometry image.table }
     requires rows { length image.rows.now ≡ rows_size image.geometry }
     ensures borrow { D.borrow chip.new ≡ D.borrow chip.old }
     ensures opened { OnOk result (OpenedOn (image_found (found_in image.entry)) (D.view chip.new)) }
@@ -105,7 +106,7 @@ pub(crate) fn perform<'a, F: Folder, S: Sink, D: Dram>(
     chip: &mut D,
     alloc: Global,
 ) -> Result<u64, Stop<'a>>
-    requires set { IsSetting image.geometry image.table }
+    requires lies { LiesOn image.geometry image.table }
     requires rows { length image.rows.now ≡ rows_size image.geometry }
     requires plain { AllByRecursion IsPlain (map view_of script.now) }
     requires few { length script.now ≤ 2 ^ 25 }

@@ -25,7 +25,7 @@ perform-requires g c =
     let rows = rows_in image.geometry image.rows.now in
     let is = c.in-Ok.ensures.spelled.0 in
     record {
-      set = record {
+      lies = record {
         geometry = is.geometry;
         limit = c.in-Ok.ensures.limit;
         listed = is.listed;
@@ -34,7 +34,7 @@ perform-requires g c =
       rows = rows_sized found (c.in-Ok.ensures.only image.geometry image.table.pairs rows is
           c.in-Ok.ensures.spelled.1);
       plain = c.requires.plain;
-      few = omega (arith, c.requires.few, length-map view_of c.args.script.now);
+      few = omega (arith, c.requires.few);
     }
 
 pub returns-in-Err-clause-worked : goal.returns-in-Err-clause-worked

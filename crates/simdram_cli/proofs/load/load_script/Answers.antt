@@ -43,9 +43,8 @@ pub returns-in-Ok-clause-few : goal.returns-in-Ok-clause-few
 returns-in-Ok-clause-few g c =
     let few = accepted_few c.in_ok-text.text.items (map view_of c.in-Ok.script.items)
     (rw c.deref.ensures.value at c.in-Ok.ensures.accepted) in
-    let size = length-map view_of c.in-Ok.script.items in
     let within = c.in_ok-text.ensures.within in
-    omega (arith, few, size, within)
+    omega (arith, rw length-map at few, within)
 
 pub returns-in-Ok-clause-read : goal.returns-in-Ok-clause-read
 returns-in-Ok-clause-read g c = record {

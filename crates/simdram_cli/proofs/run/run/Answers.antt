@@ -12,3 +12,6 @@ returns-in_err-file-clause-goes g c =
     rw (p.1, p.2) (run_stopped c.args.names.now _ (g.F.Folder.view c.args.files.now)
     (g.F.Folder.view c.take_program.new.files) (g.S.Sink.view c.args.out.now)
     (g.D.Dram.view c.args.chip.now) c.in_err-file.ensures.stopped)
+
+pub returns-clause-goes : goal.returns-clause-goes
+returns-clause-goes g c = ?

@@ -11,7 +11,8 @@ use Rattle.cli_model.specs.World.{World, world}
 use Rattle.cli_model.specs.Steps.{Goes, End}
 use Rattle.sim_machine.specs.Machine.{IsReady, geometry_of, operations_by, program_of, table_in}
 use Rattle.sim_machine.specs.Machine.{turn_in}
-use Rattle.sim_machine.specs.Steps.{DidAndRead, RisesAtMost}
+use Rattle.object_steps.specs.Objects.{RisesAtMost}
+use Rattle.sim_machine.specs.Steps.{DidAndRead}
 use Rattle.simdram_cli.specs.Job.{pieces_steps}
 use Rattle.uprog_code.specs.declared.TheConstants.{WALK_MAX}
 use Rattle.simdram_cli.proofs.work.work.Given as goal
