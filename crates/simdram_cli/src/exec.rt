@@ -1,9 +1,8 @@
 //! The command `exec`.
 
-ghost use Rattle.std.specs.Prelude.{◌≡◌, true};
+ghost use Rattle.std.specs.Prelude.{◌≡◌};
 ghost use Rattle.cli_model.specs.World.{world};
 ghost use Rattle.simdram_cli.specs.Exec.{ExecGoes};
-ghost use Rattle.simdram_cli.specs.Words.{three_apart};
 
 use crate::job::{JobNames, do_job};
 use crate::load::load;
