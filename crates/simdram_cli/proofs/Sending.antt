@@ -52,16 +52,27 @@ pub lines_sent : (number : ℕ) (said : Said) (rest : List Said) (files : Folder
     → s.faults ≤ t.faults
     → Goes (put_lines number (said ∷ rest)) Done (world files s chip) (world files t chip)
 lines_sent number said [] files s t chip told l =
-    inl (world files t chip, (sent (λ before after. after ≡ before ++ line number said) files s t
-    chip (subst (λ w. Told (λ before after. after ≡ before ++ w) s.sent t.sent)
-    (append-nil (line number said)) told) l, refl))
+    inl (
+      world files t chip,
+      (
+        sent (λ before after. after ≡ before ++ line number said) files s t
+            chip (subst (λ w. Told (λ before after. after ≡ before ++ w) s.sent t.sent)
+            (append-nil (line number said)) told) l,
+        refl,
+      ),
+    )
 lines_sent number said (next ∷ rest) files s t chip told l =
     let first = line number said in
     let mid = behind s first in
-    inl (world files mid chip, (sent (λ before after. after ≡ before ++ first) files s mid chip
-    (told_more s.sent first) (omega arith),
-    lines_sent (number + 1) next rest files mid t chip
-    (told_rest s.sent t.sent first (lines (number + 1) (next ∷ rest)) told) l))
+    inl (
+      world files mid chip,
+      (
+        sent (λ before after. after ≡ before ++ first) files s mid chip
+            (told_more s.sent first) (omega arith),
+        lines_sent (number + 1) next rest files mid t chip
+            (told_rest s.sent t.sent first (lines (number + 1) (next ∷ rest)) told) l,
+      ),
+    )
 
 -- a part of two texts is a part of the first, or has all of it and a part of the second
 parted : (p q a b : List ℕ) → p ++ q ≡ a ++ b
@@ -86,12 +97,12 @@ told_parted (Some old) (Some new) first rest (part, ((behind, is), e)) =
     elim (parted part behind first rest is) [
       | inl cut ↦ inl (part, (cut, e))
       | inr (more, all, left) ↦ inr (
-          more,
-          (
-            (behind, left),
-            e ∙ ap (λ w. old ++ w) all ∙ sym (append_assoc old first more),
-          ),
-        )
+        more,
+        (
+          (behind, left),
+          e ∙ ap (λ w. old ++ w) all ∙ sym (append_assoc old first more),
+        ),
+      )
     ]
 
 -- a part of the lines was sent, and then the sink failed
@@ -102,21 +113,25 @@ pub lines_cut : (number : ℕ) (said : Said) (rest : List Said) (files : FolderV
     → Goes (put_lines number (said ∷ rest)) (Stopped PutFailed) (world files s chip)
     (world files t chip)
 lines_cut number said [] files s t chip told l rose =
-    inr (refl, sent (AppendsPart (line number said)) files s t chip
-    (subst (λ w. Told (AppendsPart w) s.sent t.sent) (append-nil (line number said)) told) l, rose)
+    inr (
+      refl,
+      sent (AppendsPart (line number said)) files s t chip
+          (subst (λ w. Told (AppendsPart w) s.sent t.sent) (append-nil (line number said)) told) l,
+      rose,
+    )
 lines_cut number said (next ∷ rest) files s t chip told l rose =
     let first = line number said in
     let mid = behind s first in
     elim (told_parted s.sent t.sent first (lines (number + 1) (next ∷ rest)) told) [
       | inl cut ↦ inr (refl, sent (AppendsPart first) files s t chip cut l, rose)
       | inr more ↦ inl (
-          world files mid chip,
-          (
-            sent (λ before after. after ≡ before ++ first) files s mid chip
-                (told_more s.sent first) (omega arith),
-            lines_cut (number + 1) next rest files mid t chip more l rose,
-          ),
-        )
+        world files mid chip,
+        (
+          sent (λ before after. after ≡ before ++ first) files s mid chip
+              (told_more s.sent first) (omega arith),
+          lines_cut (number + 1) next rest files mid t chip more l rose,
+        ),
+      )
     ]
 
 -- a line is sent while the chip is read
@@ -131,8 +146,13 @@ pub print_done : (bytes : List ℕ) (files : FolderView) (s t : SinkView) (a b :
     → a.faults ≤ b.faults
     → Goes (Print bytes ∷ []) Done (world files s a) (world files t b)
 print_done bytes files s t a b told l m =
-    inl (world files t b, (printed (λ before after. after ≡ before ++ bytes) files s t a b told l m,
-    refl))
+    inl (
+      world files t b,
+      (
+        printed (λ before after. after ≡ before ++ bytes) files s t a b told l m,
+        refl,
+      ),
+    )
 
 pub print_unput : (bytes : List ℕ) (files : FolderView) (s t : SinkView) (a b : ChipView)
     → Told (AppendsPart bytes) s.sent t.sent → s.faults ≤ t.faults → a.faults ≤ b.faults
