@@ -5,7 +5,8 @@ use Rattle.std.specs.Prelude.{IfSome}
 use Rattle.std.proofs.lemmas.Bool.{lt-ltb, le-ltb}
 use Rattle.host_edge.specs.Views.{Files, Told}
 use Rattle.cli_model.specs.World.{World, with_file}
-use Rattle.cli_model.specs.Steps.{Step, Load, Take, Store, Open, Use, Put, Refusal, Reason}
+use Rattle.cli_model.specs.Steps.{Step, Load, Take, Store, Open, Use, Put, Print}
+use Rattle.cli_model.specs.Steps.{Refusal, Reason}
 use Rattle.cli_model.specs.Steps.{CannotRead, TooLong, Refused, NoMemory, CannotWrite, PutFailed}
 use Rattle.cli_model.specs.Steps.{ChipFailed, End, Done, Stopped, Goes, FailsBy, LoadFails}
 use Rattle.cli_model.specs.Steps.{Loaded}
@@ -96,6 +97,10 @@ step_fails Use steps (Stopped reason) a b files f e =
     inr (reason, refl, fault_of reason ChipFailed f.0 tt)
 step_fails (Put bytes) steps (Stopped reason) a b files f e =
     inr (reason, refl, fault_of reason PutFailed f.0 tt)
+step_fails (Print bytes) steps (Stopped reason) a b files (p, inl f) e =
+    inr (reason, refl, fault_of reason PutFailed f.0 tt)
+step_fails (Print bytes) steps (Stopped reason) a b files (p, inr f) e =
+    inr (reason, refl, fault_of reason ChipFailed f.0 tt)
 
 -- what is told before is told afterwards
 pub told_new : (R : Files → Files → Type 0) (old new : Option Files) (files : Files)
@@ -132,4 +137,7 @@ files_decide (Use ∷ steps) end a b files (inl (mid, (d, g))) e =
     (files_decide steps end mid b files g (ap (λ f. f.holds) d.files ∙ e))
 files_decide (Put bytes ∷ steps) end a b files (inl (mid, (d, g))) e =
     decided_by (Put bytes ∷ steps) steps end files files refl
+    (files_decide steps end mid b files g (ap (λ f. f.holds) d.files ∙ e))
+files_decide (Print bytes ∷ steps) end a b files (inl (mid, (d, g))) e =
+    decided_by (Print bytes ∷ steps) steps end files files refl
     (files_decide steps end mid b files g (ap (λ f. f.holds) d.files ∙ e))

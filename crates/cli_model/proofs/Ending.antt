@@ -2,17 +2,16 @@
 use Rattle.std.proofs.Common.{◌≡◌, ℕ, ◌+◌, ◌≤◌, List, [], ◌∷◌, ◌++◌, Option, Some, None, refl}
 use Rattle.std.proofs.Common.{sym, ◌∙◌, ap, subst, inl, inr, arith, append_assoc, append-nil}
 use Rattle.std.specs.Prelude.{IfSome}
-use Rattle.host_edge.specs.Views.{Files, Told, AppendsPart}
-use Rattle.fault_counts.specs.Counts.{RoseBy}
+use Rattle.host_edge.specs.Views.{Files, Told, Rose, RoseBy, AppendsPart, IsPrefix}
 use Rattle.cli_model.specs.World.{World}
-use Rattle.cli_model.specs.Steps.{Step, Load, Take, Store, Open, Use, Put, Reason, CannotRead}
-use Rattle.cli_model.specs.Steps.{TooLong, Refused, NoMemory, CannotWrite, PutFailed, ChipFailed}
+use Rattle.cli_model.specs.Steps.{Step, Load, Take, Store, Open, Use, Put, Print, Reason}
+use Rattle.cli_model.specs.Steps.{CannotRead, TooLong, Refused, NoMemory, CannotWrite, PutFailed, ChipFailed}
 use Rattle.cli_model.specs.Steps.{End, Done, Stopped, Goes, Fails, Unopened}
 use Rattle.dram_model.specs.View.{ChipView, NotBegun}
 use Rattle.cli_model.specs.Stands.{files_after, sent_by, CountsOn, Stands}
 use Rattle.cli_model.specs.Status.{reason_status, reason_line, Says, Tells, end_status}
-use Rattle.cli_model.specs.Ends.{Stop, All, At, Causes, last_bytes, AppendsAfter, Sends}
-use Rattle.cli_model.specs.Ends.{IsStoreOf, LeavesFiles, IsFault, IsForetold, Ends}
+use Rattle.cli_model.specs.Ends.{Stop, All, At, Causes, LastOfPrint, IsLast, AppendsAfter}
+use Rattle.cli_model.specs.Ends.{Sends, IsStoreOf, LeavesFiles, IsFault, IsForetold, Ends}
 use Rattle.cli_model.specs.Laws.{FirstDecides}
 use Rattle.cli_model.proofs.Causing.{Decided, files_decide}
 use Rattle.cli_model.proofs.Going.{within, more_counts, told_sent, all_stand}
@@ -41,6 +40,7 @@ fails_causes Open reason a b (inl f) = inl f.0
 fails_causes Open reason a b (inr f) = inr (f.0, f.2)
 fails_causes Use reason a b f = (f.0, f.2)
 fails_causes (Put bytes) reason a b f = (f.0, f.2)
+fails_causes (Print bytes) reason a b f = f.1
 
 -- a count that rose between two moments rose between moments around them
 around : (a b c d n : ℕ) → a ≤ b → RoseBy n b c → c ≤ d → RoseBy n a d
@@ -71,8 +71,15 @@ causes_around Open reason a b c d p q (inl f) = inl f
 causes_around Open reason a b c d p q (inr f) = inr (f.0, around _ _ _ _ 1 p.chip f.1 q.chip)
 causes_around Use reason a b c d p q f = (f.0, around _ _ _ _ 1 p.chip f.1 q.chip)
 causes_around (Put bytes) reason a b c d p q f = (f.0, around _ _ _ _ 1 p.sink f.1 q.sink)
+causes_around (Print bytes) reason a b c d p q (inl f) =
+    inl (f.0, around _ _ _ _ 1 p.sink f.1 q.sink)
+causes_around (Print bytes) reason a b c d p q (inr f) =
+    inr (f.0, around _ _ _ _ 1 p.chip f.1 q.chip)
 
 -- what was sent
+
+no_more_than : (a b c : ℕ) → a ≤ b → b ≤ c → a ≤ c
+no_more_than a b c p q = omega (arith, p, q)
 
 told_part : (certain last : List ℕ) (a b c : Option (List ℕ))
     → Told (λ x y. y ≡ x ++ certain) a b → Told (AppendsPart last) b c
@@ -140,34 +147,103 @@ load_sink name limit text refusal ChipFailed a b f = elim f [ ]
 
 put_sent : (certain bytes : List ℕ) (reason : Reason) (a b c d : World)
     → Told (λ x y. y ≡ x ++ certain) a.sink.sent b.sink.sent → a.sink.faults ≤ b.sink.faults
-    → Fails (Put bytes) reason b c → Says (reason_line reason) c d → Sends certain bytes a d
-put_sent certain bytes reason a b c d t l f s =
-    let says : Says [] c d = subst (λ (r : Reason). Says (reason_line r) c d) f.0 s in
+    → Rose b.sink.faults c.sink.faults → Told (AppendsPart bytes) b.sink.sent c.sink.sent
+    → reason ≡ PutFailed → Says (reason_line reason) c d → Sends certain bytes a d
+put_sent certain bytes reason a b c d t l rose part is s =
+    let says : Says [] c d = subst (λ (r : Reason). Says (reason_line r) c d) is s in
     inr (
-      around _ _ _ _ 1 l f.2 says.faults,
+      around _ _ _ _ 1 l rose says.faults,
       told_part certain bytes _ _ _ t
-          (told_then_same bytes _ _ _ f.1.sent (says_nothing c d says)),
+          (told_then_same bytes _ _ _ part (says_nothing c d says)),
+    )
+
+-- a line behind a part of another
+part_sent : (certain bytes : List ℕ) (a b c : Option (List ℕ))
+    → Told (λ x y. y ≡ x ++ certain) a b → Told (AppendsPart bytes) b c
+    → (part : List ℕ) × IsPrefix part bytes × Told (λ x y. y ≡ x ++ (certain ++ part)) a c
+part_sent certain bytes None b c p q = ([], (bytes, refl), tt)
+part_sent certain bytes (Some x) None c p q = absurd p
+part_sent certain bytes (Some x) (Some y) None p q = absurd q
+part_sent certain bytes (Some x) (Some y) (Some z) p (part, (is, e)) =
+    (part, is, e ∙ ap (λ w. w ++ part) p ∙ append_assoc x certain part)
+
+longer_part : (certain part line : List ℕ) (x y : List ℕ) → AppendsAfter (certain ++ part) line x y
+    → AppendsAfter certain (part ++ line) x y
+longer_part certain part line x y (more, ((rest, is), e)) = (
+  part ++ more,
+  (
+    (rest, append_assoc part more rest ∙ ap (λ w. part ++ w) is),
+    e ∙ ap (λ w. x ++ w) (append_assoc certain part more),
+  ),
+)
+
+told_longer : (certain part line : List ℕ) (a b : Option (List ℕ))
+    → Told (AppendsAfter (certain ++ part) line) a b
+    → Told (AppendsAfter certain (part ++ line)) a b
+told_longer certain part line None b t = tt
+told_longer certain part line (Some x) None t = absurd t
+told_longer certain part line (Some x) (Some y) t = longer_part certain part line x y t
+
+told_joined : (certain part line : List ℕ) (a b : Option (List ℕ))
+    → Told (λ x y. y ≡ x ++ ((certain ++ part) ++ line)) a b
+    → Told (λ x y. y ≡ x ++ (certain ++ (part ++ line))) a b
+told_joined certain part line None b t = tt
+told_joined certain part line (Some x) None t = absurd t
+told_joined certain part line (Some x) (Some y) t =
+    t ∙ ap (λ w. x ++ w) (append_assoc certain part line)
+
+print_sent : (certain bytes line : List ℕ) (a b c d : World)
+    → Told (λ x y. y ≡ x ++ certain) a.sink.sent b.sink.sent → a.sink.faults ≤ c.sink.faults
+    → Told (AppendsPart bytes) b.sink.sent c.sink.sent → Says line c d
+    → (part : List ℕ) × IsPrefix part bytes × Sends certain (part ++ line) a d
+print_sent certain bytes line a b c d t l p s =
+    let cut = part_sent certain bytes _ _ _ t p in (
+      cut.0,
+      cut.1,
+      elim (line_sent (certain ++ cut.0) line a c c d cut.2 l refl s)
+          as (λ _. Sends certain (cut.0 ++ line) a d) [
+            | inl whole ↦ inl (told_joined certain cut.0 line _ _ whole)
+            | inr (rose, told) ↦ inr (rose, told_longer certain cut.0 line _ _ told)
+          ],
     )
 
 stop_sent : (certain : List ℕ) (step : Step) (reason : Reason) (a b c d : World)
     → Told (λ x y. y ≡ x ++ certain) a.sink.sent b.sink.sent → a.sink.faults ≤ b.sink.faults
     → Fails step reason b c → Says (reason_line reason) c d
-    → Sends certain (last_bytes step reason) a d
-stop_sent certain (Load name limit text refusal) reason a b c d t l f s =
-    line_sent certain (reason_line reason) a b c d t l
-    (load_sink name limit text refusal reason b c f) s
+    → (last : List ℕ) × IsLast step reason last × Sends certain last a d
+stop_sent certain (Load name limit text refusal) reason a b c d t l f s = (
+  reason_line reason,
+  refl,
+  line_sent certain (reason_line reason) a b c d t l
+      (load_sink name limit text refusal reason b c f) s,
+)
 stop_sent certain Take reason a b c d t l f s =
-    line_sent certain (reason_line reason) a b c d t l f.1.sink s
+    (reason_line reason, refl, line_sent certain (reason_line reason) a b c d t l f.1.sink s)
 stop_sent certain (Store name bytes) reason a b c d t l f s =
-    line_sent certain (reason_line reason) a b c d t l f.1.sink s
+    (reason_line reason, refl, line_sent certain (reason_line reason) a b c d t l f.1.sink s)
 stop_sent certain Open reason a b c d t l (inl f) s =
-    line_sent certain (reason_line reason) a b c d t l f.1.sink s
+    (reason_line reason, refl, line_sent certain (reason_line reason) a b c d t l f.1.sink s)
 stop_sent certain Open reason a b c d t l (inr f) s =
-    line_sent certain (reason_line reason) a b c d t l f.1.sink s
+    (reason_line reason, refl, line_sent certain (reason_line reason) a b c d t l f.1.sink s)
 stop_sent certain Use reason a b c d t l f s =
-    line_sent certain (reason_line reason) a b c d t l f.1.sink s
+    (reason_line reason, refl, line_sent certain (reason_line reason) a b c d t l f.1.sink s)
 stop_sent certain (Put bytes) reason a b c d t l f s =
-    put_sent certain bytes reason a b c d t l f s
+    (bytes, refl, put_sent certain bytes reason a b c d t l f.2 f.1.sent f.0 s)
+stop_sent certain (Print bytes) reason a b c d t l (p, inl f) s = (
+  bytes,
+  subst (λ (r : Reason). LastOfPrint bytes r bytes) (sym f.0) refl,
+  put_sent certain bytes reason a b c d t l f.1 p.sent f.0 s,
+)
+stop_sent certain (Print bytes) reason a b c d t l (p, inr f) s =
+    let says : Says (reason_line ChipFailed) c d =
+    subst (λ (r : Reason). Says (reason_line r) c d) f.0 s in
+    let told = print_sent certain bytes (reason_line ChipFailed) a b c d t (no_more_than _ _ _ l p.faults)
+    p.sent says in (
+      told.0 ++ reason_line ChipFailed,
+      subst (λ (r : Reason). LastOfPrint bytes r (told.0 ++ reason_line ChipFailed)) (sym f.0)
+          (told.0, told.1, refl),
+      told.2,
+    )
 
 -- which files stand
 
@@ -200,6 +276,8 @@ fails_files Open reason a b (inl f) = told_kept Open _ _ (ap (λ k. k.holds) f.1
 fails_files Open reason a b (inr f) = told_kept Open _ _ (ap (λ k. k.holds) f.1.files)
 fails_files Use reason a b f = told_kept Use _ _ (ap (λ k. k.holds) f.1.files)
 fails_files (Put bytes) reason a b f = told_kept (Put bytes) _ _ (ap (λ k. k.holds) f.1.files)
+fails_files (Print bytes) reason a b f =
+    told_kept (Print bytes) _ _ (ap (λ k. k.holds) f.0.files)
 
 told_left : (stop : Stop) (a b c d : Option Files)
     → Told (λ x y. y ≡ files_after stop.before x) a b → Told (KeepsBut stop.failed) b c → d ≡ c
@@ -269,6 +347,10 @@ fails_unopened Open reason a b (inr f) e = let no : ChipFailed ≡ NoMemory = sy
     absurd (cc)
 fails_unopened Use reason a b f e = let no : ChipFailed ≡ NoMemory = sym f.0 ∙ e in absurd (cc)
 fails_unopened (Put bytes) reason a b f e = inl f.1.chip
+fails_unopened (Print bytes) reason a b (p, inl f) e =
+    let no : PutFailed ≡ NoMemory = sym f.0 ∙ e in absurd (cc)
+fails_unopened (Print bytes) reason a b (p, inr f) e =
+    let no : ChipFailed ≡ NoMemory = sym f.0 ∙ e in absurd (cc)
 
 unopened_around : (a b c d : ChipView) → b ≡ a → Unopened b c → d ≡ c → Unopened a d
 unopened_around a b c d p (inl e) q = inl (q ∙ e ∙ p)

@@ -6,10 +6,10 @@ use Rattle.std.specs.List.{list_any}
 use Rattle.host_edge.specs.Views.{Files, FolderView, NoCountFalls, Told}
 use Rattle.fault_counts.specs.Counts.{RoseBy}
 use Rattle.cli_model.specs.World.{World}
-use Rattle.cli_model.specs.Steps.{Step, Load, Take, Store, Open, Use, Put, Reason, CannotRead}
-use Rattle.cli_model.specs.Steps.{TooLong, Refused, NoMemory, CannotWrite, PutFailed, ChipFailed}
+use Rattle.cli_model.specs.Steps.{Step, Load, Take, Store, Open, Use, Put, Print, Reason}
+use Rattle.cli_model.specs.Steps.{CannotRead, TooLong, Refused, NoMemory, CannotWrite, PutFailed, ChipFailed}
 use Rattle.cli_model.specs.Steps.{End, Done, Stopped, Goes, Does, Fails, ReadsOnly, Stored, Used}
-use Rattle.cli_model.specs.Steps.{Sent, Unstored}
+use Rattle.cli_model.specs.Steps.{Sent, Printed, Unstored}
 use Rattle.cli_model.specs.Stands.{files_after, sent_by, CountsOn, Stands}
 use Rattle.cli_model.specs.Ends.{is_on_chip}
 
@@ -84,6 +84,13 @@ sent_count R a b s = record {
   chip = rw (ap (λ v. v.faults) s.chip) (omega arith);
 }
 
+pub printed_count : (R : List ℕ → List ℕ → Type 0) (a b : World) → Printed R a b → CountsOn a b
+printed_count R a b p = record {
+  files = rw p.files (no_falls a.files);
+  sink = p.faults;
+  chip = p.chip;
+}
+
 stored_count : (name bytes : List ℕ) (a b : World) → Stored name bytes a b → CountsOn a b
 stored_count name bytes a b s = record {
   files = s.counts;
@@ -105,6 +112,7 @@ does_count (Store name bytes) a b d = stored_count name bytes a b d
 does_count Open a b d = used_count a b d
 does_count Use a b d = used_count a b d
 does_count (Put bytes) a b d = sent_count _ a b d
+does_count (Print bytes) a b d = printed_count _ a b d
 
 load_fails_count : (name : List ℕ) (limit : ℕ) (text : List ℕ) (refusal : _) (reason : Reason)
     (a b : World) → Fails (Load name limit text refusal) reason a b → CountsOn a b
@@ -126,6 +134,7 @@ fails_count Open reason a b (inl f) = used_count a b f.1
 fails_count Open reason a b (inr f) = used_count a b f.1
 fails_count Use reason a b f = used_count a b f.1
 fails_count (Put bytes) reason a b f = sent_count _ a b f.1
+fails_count (Print bytes) reason a b f = printed_count _ a b f.0
 
 pub told_same : {A : Type 0} (a b : Option A) → b ≡ a → Told (λ x y. y ≡ x) a b
 told_same None b e = tt
@@ -185,6 +194,11 @@ one_stands (Put bytes) a b d = record {
   sent = rw append-nil d.sent;
   counts = does_count (Put bytes) a b d;
 }
+one_stands (Print bytes) a b d = record {
+  files = told_same _ _ (ap (λ f. f.holds) d.files);
+  sent = rw append-nil d.sent;
+  counts = does_count (Print bytes) a b d;
+}
 
 files_after-cons : (step : Step) (steps : List Step) (f : Files)
     → files_after (step ∷ steps) f ≡ files_after steps (files_after (step ∷ []) f)
@@ -194,6 +208,7 @@ files_after-cons (Store name bytes) steps f = refl
 files_after-cons Open steps f = refl
 files_after-cons Use steps f = refl
 files_after-cons (Put bytes) steps f = refl
+files_after-cons (Print bytes) steps f = refl
 
 sent_by-cons : (step : Step) (steps : List Step)
     → sent_by (step ∷ steps) ≡ sent_by (step ∷ []) ++ sent_by steps
@@ -203,6 +218,7 @@ sent_by-cons (Store name bytes) steps = refl
 sent_by-cons Open steps = refl
 sent_by-cons Use steps = refl
 sent_by-cons (Put bytes) steps = rw append-nil refl
+sent_by-cons (Print bytes) steps = rw append-nil refl
 
 told_files : (step : Step) (steps : List Step) (a b c : Option Files)
     → Told (λ x y. y ≡ files_after (step ∷ []) x) a b → Told (λ x y. y ≡ files_after steps x) b c
@@ -245,6 +261,7 @@ does_chip (Store name bytes) a b off d = d.chip
 does_chip Open a b off d = absurd (cc)
 does_chip Use a b off d = absurd (cc)
 does_chip (Put bytes) a b off d = d.chip
+does_chip (Print bytes) a b off d = absurd (cc)
 
 load_chip : (name : List ℕ) (limit : ℕ) (text : List ℕ) (refusal : _) (reason : Reason)
     (a b : World) → Fails (Load name limit text refusal) reason a b → b.chip ≡ a.chip
@@ -265,6 +282,7 @@ fails_chip (Store name bytes) reason a b off f = f.1.chip
 fails_chip Open reason a b off f = absurd (cc)
 fails_chip Use reason a b off f = absurd (cc)
 fails_chip (Put bytes) reason a b off f = f.1.chip
+fails_chip (Print bytes) reason a b off f = absurd (cc)
 
 -- the first step is off the chip, and so are the others
 first_off : (step : Step) (steps : List Step) → list_any is_on_chip (step ∷ steps) ≡ false
@@ -275,6 +293,7 @@ first_off (Store name bytes) steps off = (refl, off)
 first_off Open steps off = absurd (cc)
 first_off Use steps off = absurd (cc)
 first_off (Put bytes) steps off = (refl, off)
+first_off (Print bytes) steps off = absurd (cc)
 
 pub all_off : (steps : List Step) (a b : World) → Goes steps Done a b
     → list_any is_on_chip steps ≡ false → b.chip ≡ a.chip

@@ -5,8 +5,8 @@ use Rattle.std.specs.List.{list_any}
 use Rattle.host_edge.specs.Views.{Files, Told, IsPrefix}
 use Rattle.fault_counts.specs.Counts.{Rose, RoseBy}
 use Rattle.cli_model.specs.World.{World}
-use Rattle.cli_model.specs.Steps.{Step, Load, Take, Store, Open, Use, Put, Reason, CannotRead}
-use Rattle.cli_model.specs.Steps.{TooLong, Refused, NoMemory, CannotWrite, PutFailed, ChipFailed}
+use Rattle.cli_model.specs.Steps.{Step, Load, Take, Store, Open, Use, Put, Print, Reason}
+use Rattle.cli_model.specs.Steps.{CannotRead, TooLong, Refused, NoMemory, CannotWrite, PutFailed, ChipFailed}
 use Rattle.cli_model.specs.Steps.{Done, Stopped, Unopened}
 use Rattle.cli_model.specs.Stands.{files_after, sent_by, CountsOn}
 use Rattle.cli_model.specs.Status.{reason_status, reason_line}
@@ -43,15 +43,26 @@ Causes Open reason old new =
 Causes Use reason old new = (reason ≡ ChipFailed) × Rose old.chip.faults new.chip.faults
 Causes (Put bytes) reason old new =
     (reason ≡ PutFailed) × Rose old.sink.faults new.sink.faults
+Causes (Print bytes) reason old new =
+    ((reason ≡ PutFailed) × Rose old.sink.faults new.sink.faults)
+    ⊎ ((reason ≡ ChipFailed) × Rose old.chip.faults new.chip.faults)
+
+-- what is sent last of a line that is sent while the chip is read: the line, or the part of it that
+-- was sent before the chip failed, and then the line that tells this
+abbrev pub LastOfPrint : List ℕ → Reason → List ℕ → Type 0
+LastOfPrint bytes PutFailed last = last ≡ bytes
+LastOfPrint bytes reason last =
+    (part : List ℕ) × IsPrefix part bytes × (last ≡ part ++ reason_line reason)
 
 -- what is sent last: the line that tells why, or what could not be put
-abbrev pub last_bytes : Step → Reason → List ℕ
-last_bytes (Put bytes) reason = bytes
-last_bytes (Load name limit text refusal) reason = reason_line reason
-last_bytes Take reason = reason_line reason
-last_bytes (Store name bytes) reason = reason_line reason
-last_bytes Open reason = reason_line reason
-last_bytes Use reason = reason_line reason
+abbrev pub IsLast : Step → Reason → List ℕ → Type 0
+IsLast (Load name limit text refusal) reason last = last ≡ reason_line reason
+IsLast Take reason last = last ≡ reason_line reason
+IsLast (Store name bytes) reason last = last ≡ reason_line reason
+IsLast Open reason last = last ≡ reason_line reason
+IsLast Use reason last = last ≡ reason_line reason
+IsLast (Put bytes) reason last = last ≡ bytes
+IsLast (Print bytes) reason last = LastOfPrint bytes reason last
 
 -- a part of the last bytes came behind those that are certain
 abbrev pub AppendsAfter : (certain last : List ℕ) → List ℕ → List ℕ → Type 0
@@ -73,6 +84,7 @@ IsStoreOf name Take = ⊥
 IsStoreOf name Open = ⊥
 IsStoreOf name Use = ⊥
 IsStoreOf name (Put bytes) = ⊥
+IsStoreOf name (Print bytes) = ⊥
 
 -- some step stores the file of this name
 abbrev pub Stores : List ℕ → List Step → Type 0
@@ -92,6 +104,7 @@ is_on_chip (Store name bytes) = false
 is_on_chip Open = true
 is_on_chip Use = true
 is_on_chip (Put bytes) = false
+is_on_chip (Print bytes) = true
 
 -- the steps that were begun
 abbrev pub begun_steps : List Step → Ended → List Step
@@ -115,7 +128,8 @@ pub record IsStopped (steps : List Step) (stop : Stop) (old new : World) (status
   pub place : stop.before ++ stop.failed ∷ stop.behind ≡ steps
   pub answers : status ≡ reason_status stop.reason
   pub causes : Causes stop.failed stop.reason old new
-  pub sent : Sends (sent_by stop.before) (last_bytes stop.failed stop.reason) old new
+  pub sent : (last : List ℕ)
+      × IsLast stop.failed stop.reason last × Sends (sent_by stop.before) last old new
   pub files : Told (LeavesFiles stop) old.files.holds new.files.holds
 
 abbrev pub EndsSo : List Step → ℕ → Ended → World → World → ℕ → Type 0

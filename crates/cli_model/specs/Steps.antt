@@ -27,6 +27,8 @@ pub data Step : Type 0 where
   Use : Step
   -- these bytes are sent
   Put : List ℕ → Step
+  -- these bytes are sent while the chip is read
+  Print : List ℕ → Step
 
 -- a file is loaded; what its text is read as goes on, and a text that is refused ends the command
 abbrev pub loading : {A : Type 0} → (name : List ℕ) (limit : ℕ) (text : List ℕ) → Result A Refusal
@@ -83,6 +85,14 @@ pub record Sent (R : List ℕ → List ℕ → Type 0) (old new : World) : Type 
   pub faults : old.sink.faults ≤ new.sink.faults
   pub chip : new.chip ≡ old.chip
 
+-- the chip was used and bytes were sent, related so to what was sent before, and all else is as it
+-- was
+pub record Printed (R : List ℕ → List ℕ → Type 0) (old new : World) : Type 0 where
+  pub files : new.files ≡ old.files
+  pub sent : Told R old.sink.sent new.sink.sent
+  pub faults : old.sink.faults ≤ new.sink.faults
+  pub chip : old.chip.faults ≤ new.chip.faults
+
 -- the step was done
 abbrev pub Does : Step → World → World → Type 0
 Does (Load name limit text refusal) old new = (refusal ≡ None) × Loaded name limit text old new
@@ -91,6 +101,7 @@ Does (Store name bytes) old new = Stored name bytes old new
 Does Open old new = Used old new
 Does Use old new = Used old new
 Does (Put bytes) old new = Sent (λ before after. after ≡ before ++ bytes) old new
+Does (Print bytes) old new = Printed (λ before after. after ≡ before ++ bytes) old new
 
 -- the load of a file failed for this reason
 abbrev pub LoadFails : List ℕ → ℕ → List ℕ → Option Refusal → Reason → World → World → Type 0
@@ -127,6 +138,9 @@ Fails Use reason old new =
     (reason ≡ ChipFailed) × Used old new × Rose old.chip.faults new.chip.faults
 Fails (Put bytes) reason old new = (reason ≡ PutFailed) × Sent (AppendsPart bytes) old new
     × Rose old.sink.faults new.sink.faults
+Fails (Print bytes) reason old new = Printed (AppendsPart bytes) old new
+    × (((reason ≡ PutFailed) × Rose old.sink.faults new.sink.faults)
+    ⊎ ((reason ≡ ChipFailed) × Rose old.chip.faults new.chip.faults))
 
 abbrev pub FailsBy : Step → End → World → World → Type 0
 FailsBy step Done old new = ⊥

@@ -22,7 +22,7 @@ use Rattle.simdram_cli.specs.Programs.{prog_in, prog_refusal, program_or_refusal
 use Rattle.simdram_cli.specs.Reads.{LoadedAs, NotLoaded, refusal_of}
 use Rattle.simdram_cli.specs.Stops.{end_of, reason_of}
 use Rattle.simdram_cli.specs.Ends.{answer_to}
-use Rattle.simdram_cli.specs.Run.{done_status}
+use Rattle.simdram_cli.specs.Job.{done_status}
 use Rattle.simdram_cli.specs.Accounts.{AccountEnds, AccountGoes, Accounted, account_of}
 use Rattle.simdram_cli.specs.Accounts.{account_steps}
 use Rattle.simdram_cli.proofs.Foreseen.{was_read, text_at, tell_both}

@@ -8,10 +8,11 @@ use Rattle.bit_rows.specs.declared.TheConstants.{WIDTH_MAX}
 use Rattle.dram_model.specs.Geometry.{is_geometry}
 use Rattle.dram_model.specs.declared.geometry.Geometry.{Geometry}
 use Rattle.simdram_cli.specs.declared.words.Command.{Command}
-use Rattle.simdram_cli.specs.declared.words.Command.TheVariants.{Run, Compile, Show, Migrate}
+use Rattle.simdram_cli.specs.declared.words.Command.TheVariants.{Run, Exec, Compile, Show, Migrate}
 use Rattle.simdram_cli.specs.declared.words.Command.TheVariants.{Cost, List as ListOf, Init}
 use Rattle.simdram_cli.specs.Words.{HasNumbers, IsApart, are_apart, command_of, command_on_one}
-use Rattle.simdram_cli.specs.Words.{command_on_two, cost_on, init_on, is_number, value_of}
+use Rattle.simdram_cli.specs.Words.{command_on_four, command_on_two, cost_on, init_on}
+use Rattle.simdram_cli.specs.Words.{inputs_apart, is_number, value_of}
 
 -- the files of a command are apart, and its numbers are in range
 pub record IsRight (command : Command) : Type 0 where
@@ -89,6 +90,18 @@ on_two_right verb first second apart =
     if_so (bytes_eq verb (codes "migrate")) (Migrate (record { old = first; new = second }))
     (λ e. record { apart = apart; numbers = tt }))
 
+on_four_right : (verb : List ℕ) (first second third fourth : Bor (List ℕ))
+    → AreRight (command_on_four verb first second third fourth)
+on_four_right verb first second third fourth =
+    let apart = inputs_apart first.now second.now third.now fourth.now in
+    either (bytes_eq verb (codes "init")) (init_on first.now second.now third.now fourth) _
+    (init_right first.now second.now third.now fourth) (λ other.
+    if_so (bytes_eq verb (codes "exec") && apart) (Exec (record
+    { prog = first; script = second; image = third; out = fourth })) (λ e. record {
+      apart = second_holds (bytes_eq verb (codes "exec")) apart e;
+      numbers = tt;
+    }))
+
 words_right : (words : List (Bor (List ℕ))) → AreRight (command_of words)
 words_right [] = tt
 words_right (a ∷ []) = tt
@@ -99,9 +112,8 @@ words_right (verb ∷ first ∷ second ∷ []) =
     no_other (bytes_eq first.now second.now) (command_on_two verb.now first second)
     (on_two_right verb.now first second))
 words_right (a ∷ b ∷ c ∷ d ∷ []) = tt
-words_right (verb ∷ banks ∷ rows ∷ words ∷ out ∷ []) =
-    either (bytes_eq verb.now (codes "init")) (init_on banks.now rows.now words.now out) None
-    (init_right banks.now rows.now words.now out) (λ other. tt)
+words_right (verb ∷ first ∷ second ∷ third ∷ fourth ∷ []) =
+    on_four_right verb.now first second third fourth
 words_right (verb ∷ ops ∷ prog ∷ script ∷ image ∷ out ∷ []) =
     let apart = are_apart ops.now prog.now script.now image.now out.now in
     if_so (bytes_eq verb.now (codes "run") && apart) (Run (record

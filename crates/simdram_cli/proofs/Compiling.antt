@@ -17,12 +17,12 @@ use Rattle.cli_model.specs.Status.{Tells}
 use Rattle.cli_model.specs.Ends.{Ended, All, EndsSo, IsAllDone, IsForetold, Stores, done_steps}
 use Rattle.cli_model.proofs.Ending.{all_ends}
 use Rattle.cli_model.proofs.Statuses.{OfSteps, all_done}
-use Rattle.built_forms.specs.Texts.{ops_in}
+use Rattle.simdram_cli.specs.Inputs.{ops_in}
 use Rattle.simdram_cli.specs.declared.words.CompileNames.{CompileNames}
 use Rattle.simdram_cli.specs.declared.words.TheConstants.{OPS_MAX}
 use Rattle.simdram_cli.specs.declared.stop.Stop.{Stop as StopBy}
 use Rattle.simdram_cli.specs.Stops.{end_of, reason_of}
-use Rattle.simdram_cli.specs.Run.{done_status}
+use Rattle.simdram_cli.specs.Job.{done_status}
 use Rattle.simdram_cli.specs.Ends.{ProgramTaken, ProgramStopped, answer_to}
 use Rattle.simdram_cli.specs.Compile.{compile_steps, compiled_line, CompileEnds, CompileGoes}
 use Rattle.simdram_cli.specs.Compile.{Compiled}

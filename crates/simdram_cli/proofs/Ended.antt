@@ -15,18 +15,19 @@ use Rattle.cli_model.specs.Ends.{Stop, Ended, All, At, Ends, EndsSo, IsStopped, 
 use Rattle.cli_model.specs.Ends.{done_steps}
 use Rattle.cli_model.proofs.Ending.{all_ends, stop_ends}
 use Rattle.cli_model.proofs.Statuses.{end_more}
-use Rattle.built_forms.specs.Texts.{ops_in, script_in, image_of}
+use Rattle.simdram_cli.specs.Inputs.{ops_in, script_in, image_of}
 use Rattle.simdram_cli.specs.declared.words.RunNames.{RunNames}
-use Rattle.simdram_cli.specs.declared.words.TheConstants.{OPS_MAX, SCRIPT_MAX, IMAGE_MAX}
+use Rattle.simdram_cli.specs.declared.words.TheConstants.{OPS_MAX}
 use Rattle.simdram_cli.specs.declared.stop.Stop.{Stop as StopBy}
 use Rattle.simdram_cli.specs.Stops.{end_of, reason_of}
-use Rattle.simdram_cli.specs.Run.{Texts, done_status, run_steps, work_steps}
-use Rattle.simdram_cli.specs.Ends.{IsCompiled, DoneBy, run_status, StoppedEarly, first_steps}
+use Rattle.simdram_cli.specs.Job.{Texts, done_status, job_status, job_steps, status_by}
+use Rattle.simdram_cli.specs.Run.{job_names, run_steps}
+use Rattle.simdram_cli.specs.Ends.{IsCompiled, DoneBy, JobDone, StoppedEarly, first_steps}
 use Rattle.simdram_cli.specs.Ends.{IsDoneBy, RunGoes, RunEnds, answer_to}
 
 status_is : (program : Program) (rs : Result (List Instruction) Refusal) (ri : Result Image Refusal)
     (chip : ChipView) (refused : ℕ) → DoneBy program rs ri chip refused
-    → done_status refused ≡ run_status program rs ri
+    → done_status refused ≡ status_by program rs ri
 status_is program (Ok script) (Ok i) chip refused d = ap done_status d.2.refused_is
 status_is program (Ok script) (Err r) chip refused d = elim d [ ]
 status_is program (Err r) ri chip refused d = elim d [ ]
@@ -168,55 +169,51 @@ pub went_on : (ops prog : List ℕ) (program : Program) (text : List ℕ) (steps
 went_on ops prog program text steps old new (inl early) = absurd early
 went_on ops prog program text steps old new (inr g) = g
 
--- the steps of a run behind the store of PROG
-abbrev behind_prog : RunNames → Program → Texts → List Step
-behind_prog names program texts =
-    loading names.script.now SCRIPT_MAX texts.script (script_in texts.script) (λ script.
-    loading names.image.now IMAGE_MAX texts.image (image_of texts.image) (λ i.
-    work_steps names.out.now program script i))
-
-nothing_done : (ended : Ended) (stop : Stop) (program : Program) (texts : Texts) (chip : ChipView)
-    → ended ≡ At stop → IsDoneBy ended program texts chip
+pub nothing_done : (ended : Ended) (stop : Stop) (program : Program) (texts : Texts)
+    (chip : ChipView) → ended ≡ At stop → IsDoneBy ended program texts chip
 nothing_done ended stop program texts chip e =
     subst (λ (x : Ended). IsDoneBy x program texts chip) (sym e) tt
 
-done_by : (names : RunNames) (program : Program) (texts : Texts) (old mid new : World)
-    (refused status : ℕ) (done : ℕ) → IsCompiled texts.ops program
-    → (e : Ends (run_steps names program texts) done old new status) → e.ended ≡ All
-    → DoneBy program (script_in texts.script) (image_of texts.image) new.chip refused
-    → IsDoneBy e.ended program texts new.chip
-done_by names program texts old mid new refused status done compiled e is d =
-    subst (λ (x : Ended). IsDoneBy x program texts new.chip) (sym is) (refused, d)
+pub done_by : (ended : Ended) (program : Program) (texts : Texts) (chip : ChipView) (refused : ℕ)
+    → ended ≡ All → JobDone program texts chip refused → IsDoneBy ended program texts chip
+done_by ended program texts chip refused is d =
+    subst (λ (x : Ended). IsDoneBy x program texts chip) (sym is) (refused, d)
+
+-- the status of a job that is done
+pub job_status_is : (program : Program) (texts : Texts) (chip : ChipView) (refused : ℕ)
+    → JobDone program texts chip refused → done_status refused ≡ job_status program texts
+job_status_is program texts chip refused d =
+    status_is program (script_in texts.script) (image_of texts.image) chip refused d
 
 pub run_ends : (names : RunNames) (old mid new : World) (result : Result ℕ StopBy) (status : ℕ)
     → RunGoes names old mid result → Tells (end_of result) mid new → status ≡ answer_to result
     → RunEnds names old new status
 run_ends names old mid new (Ok refused) status g tells answers =
-    let both = went_on names.ops.now names.prog.now g.program g.texts.ops
-    (run_steps names g.program g.texts) old mid g.goes in
-    let rs = script_in g.texts.script in
-    let ri = image_of g.texts.image in
-    let d : DoneBy g.program rs ri new.chip refused =
-    subst (λ (w : World). DoneBy g.program rs ri w.chip refused) (sym tells) g.done in
-    let e = all_ends (run_steps names g.program g.texts) (run_status g.program rs ri) old mid new
-    status both.1 tells (answers ∙ status_is g.program rs ri new.chip refused d) in
+    let steps = run_steps names g.program g.ops g.texts in
+    let both = went_on names.ops.now names.prog.now g.program g.ops steps old mid g.goes in
+    let d : JobDone g.program g.texts new.chip refused =
+    subst (λ (w : World). JobDone g.program g.texts w.chip refused) (sym tells) g.done in
+    let e = all_ends steps (job_status g.program g.texts) old mid new status both.1 tells
+    (answers ∙ job_status_is g.program g.texts new.chip refused d) in
     record {
+      ops = g.ops;
       texts = g.texts;
       program = g.program;
+      is_text = g.is_text;
       read = g.read;
       ends = e.0;
       compiled = λ stored. both.0;
-      done = done_by names g.program g.texts old mid new refused status _ both.0 e.0 e.1 d;
+      done = done_by e.0.ended g.program g.texts new.chip refused e.1 d;
     }
 run_ends names old mid new (Err by) status g tells answers =
-    let rs = script_in g.texts.script in
-    let ri = image_of g.texts.image in
-    let t = tail_of names.ops.now names.prog.now g.program g.texts.ops
-    (behind_prog names g.program g.texts) (run_status g.program rs ri) (reason_of by) old mid new
-    status g.goes tells answers in
+    let t = tail_of names.ops.now names.prog.now g.program g.ops
+    (job_steps (job_names names) g.program g.texts) (job_status g.program g.texts) (reason_of by)
+    old mid new status g.goes tells answers in
     record {
+      ops = g.ops;
       texts = g.texts;
       program = g.program;
+      is_text = g.is_text;
       read = g.read;
       ends = t.ends;
       compiled = t.compiled;

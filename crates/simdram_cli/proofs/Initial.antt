@@ -18,7 +18,7 @@ use Rattle.simdram_cli.specs.declared.words.InitNames.{InitNames}
 use Rattle.simdram_cli.specs.declared.stop.Stop.{Stop}
 use Rattle.simdram_cli.specs.Stops.{end_of, reason_of}
 use Rattle.simdram_cli.specs.Ends.{answer_to}
-use Rattle.simdram_cli.specs.Run.{done_status}
+use Rattle.simdram_cli.specs.Job.{done_status}
 use Rattle.simdram_cli.specs.Init.{InitGoes, Started, empty_image, init_steps}
 use Rattle.simdram_cli.proofs.Stores.{nothing_read}
 

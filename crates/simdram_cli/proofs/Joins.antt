@@ -13,15 +13,17 @@ use Rattle.cli_model.specs.World.{World, world, with_file}
 use Rattle.cli_model.specs.Steps.{Step, Load, Take, Store, Refusal, Reason, End, Stopped, Goes}
 use Rattle.cli_model.specs.Steps.{Loaded, LoadFails, loading}
 use Rattle.cli_model.proofs.Going.{goes_on, all_stand}
-use Rattle.built_forms.specs.Texts.{ops_in, script_in, image_of}
+use Rattle.simdram_cli.specs.Inputs.{ops_in, script_in, image_of}
 use Rattle.simdram_cli.specs.declared.words.RunNames.{RunNames}
 use Rattle.simdram_cli.specs.declared.words.TheConstants.{OPS_MAX, SCRIPT_MAX}
 use Rattle.simdram_cli.specs.declared.stop.Stop.{Stop}
 use Rattle.simdram_cli.specs.Stops.{end_of, reason_of}
 use Rattle.simdram_cli.specs.Reads.{refusal_of, IsText, ReadAs, NotRead}
-use Rattle.simdram_cli.specs.Run.{Texts}
+use Rattle.simdram_cli.specs.declared.job.JobNames.{JobNames}
+use Rattle.simdram_cli.specs.Job.{Texts, job_steps}
+use Rattle.simdram_cli.specs.Run.{job_names}
 use Rattle.simdram_cli.specs.Ends.{ProgramTaken, ProgramStopped, DoneOn, DoneBy, ImageWorked}
-use Rattle.simdram_cli.specs.Ends.{RunGoes}
+use Rattle.simdram_cli.specs.Ends.{JobGoes, RunGoes}
 
 -- a sink and a chip that show nothing
 pub no_sink : SinkView
@@ -107,9 +109,8 @@ pub record AreOthers (names : RunNames) : Type 0 where
   pub script : bytes_eq names.script.now names.prog.now ≡ false
   pub image : bytes_eq names.image.now names.prog.now ≡ false
 
-abbrev pub no_texts : RunNames → Option Files → List ℕ → Texts
-no_texts names holds ops = record {
-  ops = ops;
+abbrev pub no_texts : JobNames → Option Files → Texts
+no_texts names holds = record {
   script = told_text holds names.script.now;
   image = told_text holds names.image.now;
 }
@@ -120,9 +121,10 @@ pub run_stopped : (names : RunNames) (stop : Stop) (old new : FolderView) (sink 
     → RunGoes names (world old sink chip) (world new sink chip) (Err stop)
 run_stopped names stop old new sink chip s = record {
   program = s.program;
-  texts = no_texts names old.holds s.text;
+  ops = s.text;
+  texts = no_texts (job_names names) old.holds;
+  is_text = s.is_text;
   read = record {
-    ops = s.is_text;
     script = told_is_text old.holds names.script.now;
     image = told_is_text old.holds names.image.now;
   };
@@ -148,27 +150,16 @@ taken_text ops prog program old mid t = elim (t.goes no_sink no_chip) [
   | inr fails ↦ absurd fails
 ]
 
--- a run that stopped at SCRIPT
-pub run_unread : (names : RunNames) (program : Program) (stop : Stop) (old mid new : FolderView)
-    (sink : SinkView) (chip : ChipView) → AreOthers names
-    → (t : ProgramTaken names.ops.now names.prog.now program old mid)
-    → NotRead script_in names.script.now SCRIPT_MAX (reason_of stop) mid new
-    → RunGoes names (world old sink chip) (world new sink chip) (Err stop)
-run_unread names program stop old mid new sink chip apart t n = record {
-  program = program;
-  texts = record { ops = t.text; script = n.text; image = told_text old.holds names.image.now };
-  read = record {
-    ops = taken_text names.ops.now names.prog.now program old mid t;
-    script = text_before names.prog.now (program_bytes 2 program) old.holds mid.holds
-        names.script.now n.text apart.script (stored_program names program old mid t) n.is_text;
-    image = told_is_text old.holds names.image.now;
-  };
-  goes = inr (
-    t.compiled,
-    goes_ops names.ops.now names.prog.now program old mid sink chip _ (Stopped (reason_of stop))
-        (world new sink chip) t (loading_stops names.script.now SCRIPT_MAX n.text (script_in n.text)
-        _ (reason_of stop) (world mid sink chip) (world new sink chip) (n.fails sink chip)),
-  );
+-- a job that stopped at SCRIPT
+pub job_unread : (names : JobNames) (program : Program) (stop : Stop) (old new : FolderView)
+    (sink : SinkView) (chip : ChipView)
+    → NotRead script_in names.script.now SCRIPT_MAX (reason_of stop) old new
+    → JobGoes names program (world old sink chip) (world new sink chip) (Err stop)
+job_unread names program stop old new sink chip n = record {
+  texts = record { script = n.text; image = told_text old.holds names.image.now };
+  read = record { script = n.is_text; image = told_is_text old.holds names.image.now };
+  goes = loading_stops names.script.now SCRIPT_MAX n.text (script_in n.text) _ (reason_of stop)
+      (world old sink chip) (world new sink chip) (n.fails sink chip);
   done = tt;
 }
 
@@ -179,38 +170,52 @@ done_by : (program : Program) (script : List Instruction) (read : Result (List I
 done_by program script read image chip (Ok refused) e d = rw e d
 done_by program script read image chip (Err stop) e d = tt
 
--- a run that came to IMAGE
-pub run_worked : (names : RunNames) (program : Program) (script : List Instruction)
-    (result : Result ℕ Stop) (old mid last : FolderView) (sink : SinkView) (chip : ChipView)
-    (new : World) → AreOthers names
-    → (t : ProgramTaken names.ops.now names.prog.now program old mid)
-    → ReadAs script_in names.script.now SCRIPT_MAX script mid last
+-- a job that came to IMAGE
+pub job_worked : (names : JobNames) (program : Program) (script : List Instruction)
+    (result : Result ℕ Stop) (old last : FolderView) (sink : SinkView) (chip : ChipView)
+    (new : World) → ReadAs script_in names.script.now SCRIPT_MAX script old last
     → ImageWorked names program script (world last sink chip) new result
-    → RunGoes names (world old sink chip) new result
-run_worked names program script result old mid last sink chip new apart t s w =
+    → JobGoes names program (world old sink chip) new result
+job_worked names program script result old last sink chip new s w =
     let loaded = s.loaded sink chip in
-    let same : last.holds ≡ mid.holds = loaded.reads.files in
+    let same : last.holds ≡ old.holds = loaded.reads.files in
+    record {
+      texts = record { script = s.text; image = w.text };
+      read = record {
+        script = loaded_text names.script.now SCRIPT_MAX s.text (world old sink chip)
+            (world last sink chip) loaded;
+        image = subst (λ (holds : Option Files). IsText holds names.image.now w.text) same
+            w.is_text;
+      };
+      goes = loading_goes names.script.now SCRIPT_MAX s.text (script_in s.text) _ script
+          (end_of result) (world old sink chip) (world last sink chip) new s.value_is loaded w.goes;
+      done = done_by program script (script_in s.text) (image_of w.text) new.chip result s.value_is
+          w.done;
+    }
+
+-- a run that came to its job
+pub run_went : (names : RunNames) (program : Program) (result : Result ℕ Stop)
+    (old mid : FolderView) (sink : SinkView) (chip : ChipView) (new : World) → AreOthers names
+    → (t : ProgramTaken names.ops.now names.prog.now program old mid)
+    → JobGoes (job_names names) program (world mid sink chip) new result
+    → RunGoes names (world old sink chip) new result
+run_went names program result old mid sink chip new apart t j =
     let told = stored_program names program old mid t in
     record {
       program = program;
-      texts = record { ops = t.text; script = s.text; image = w.text };
+      ops = t.text;
+      texts = j.texts;
+      is_text = taken_text names.ops.now names.prog.now program old mid t;
       read = record {
-        ops = taken_text names.ops.now names.prog.now program old mid t;
         script = text_before names.prog.now (program_bytes 2 program) old.holds mid.holds
-            names.script.now s.text apart.script told
-            (loaded_text names.script.now SCRIPT_MAX s.text (world mid sink chip)
-            (world last sink chip) loaded);
+            names.script.now j.texts.script apart.script told j.read.script;
         image = text_before names.prog.now (program_bytes 2 program) old.holds mid.holds
-            names.image.now w.text apart.image told
-            (subst (λ (holds : Option Files). IsText holds names.image.now w.text) same w.is_text);
+            names.image.now j.texts.image apart.image told j.read.image;
       };
       goes = inr (
         t.compiled,
-        goes_ops names.ops.now names.prog.now program old mid sink chip _ (end_of result) new t
-            (loading_goes names.script.now SCRIPT_MAX s.text (script_in s.text) _ script
-            (end_of result) (world mid sink chip) (world last sink chip) new s.value_is loaded
-            w.goes),
+        goes_ops names.ops.now names.prog.now program old mid sink chip
+            (job_steps (job_names names) program j.texts) (end_of result) new t j.goes,
       );
-      done = done_by program script (script_in s.text) (image_of w.text) new.chip result s.value_is
-          w.done;
+      done = j.done;
     }

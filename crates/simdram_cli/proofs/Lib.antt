@@ -1,8 +1,11 @@
-pub mod Bbops
 pub mod Joins
 pub mod Reading
+pub mod Scripts
+pub mod Sized
 pub mod Tallies
-pub mod Working
+pub mod Sending
+pub mod Piecewise
+pub mod Progress
 pub mod Performing
 pub mod Running
 pub mod Foreseen
@@ -13,6 +16,7 @@ pub mod Accounting
 pub mod Commanding
 pub mod Initial
 pub mod Promised
+pub mod Executing
 pub mod Ended
 pub mod Promising
 pub mod OpenedRows

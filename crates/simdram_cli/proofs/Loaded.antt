@@ -44,12 +44,19 @@ none_done : (steps : List Step) (ended : Ended) (stop : Stop) → ended ≡ At s
 none_done steps ended stop e none =
     subst (λ (x : Ended). done_steps steps x ≡ []) (sym e) none
 
+-- and where it stopped
+pub record StoppedEnds (P : Type 0) (steps : List Step) (done : ℕ) (old new : World) (status : ℕ)
+    : Type 0 where
+  pub whole : LoadedEnds P steps done old new status
+  pub stop : Stop
+  pub is : whole.ends.ended ≡ At stop
+
 early : {A : Type 0} (P : Type 0) (name : List ℕ) (limit : ℕ) (text : List ℕ)
     (read : Result A Refusal) (rest : A → List Step) (done : ℕ) (reason : Reason)
     (old mid new : World) (status : ℕ)
     → Goes (loading name limit text read (λ x. [])) (Stopped reason) old mid
     → Says (reason_line reason) mid new → status ≡ reason_status reason
-    → LoadedEnds P (loading name limit text read rest) done old new status
+    → StoppedEnds P (loading name limit text read rest) done old new status
 early P name limit text read rest done reason old mid new status g says answers =
     let firsts = loading name limit text read (λ x. []) in
     let steps = loading name limit text read rest in
@@ -62,9 +69,13 @@ early P name limit text read rest done reason old mid new status g says answers 
     subst (λ (xs : List Step). (f : Ends xs done old new status) × (f.ended ≡ At more))
     (whole_is name limit text read rest) whole in
     record {
-      ends = moved.0;
-      loaded = λ some. absurd (some (none_done steps moved.0.ended more moved.1
-          (first_only name limit text read s.0.before s.0.failed s.0.behind so.place)));
+      whole = record {
+        ends = moved.0;
+        loaded = λ some. absurd (some (none_done steps moved.0.ended more moved.1
+            (first_only name limit text read s.0.before s.0.failed s.0.behind so.place)));
+      };
+      stop = more;
+      is = moved.1;
     }
 
 late : (P : Type 0) (steps : List Step) (done : ℕ) (end : End) (old mid new : World) (status : ℕ)
@@ -87,9 +98,34 @@ pub loaded_ends : {A : Type 0} (P : Type 0) (name : List ℕ) (limit : ℕ) (tex
 loaded_ends P name limit text read rest done Done old mid new status (inl g) tells answers =
     absurd g
 loaded_ends P name limit text read rest done (Stopped reason) old mid new status (inl g) tells
-    answers = early P name limit text read rest done reason old mid new status g tells answers
+    answers =
+    (early P name limit text read rest done reason old mid new status g tells answers).whole
 loaded_ends P name limit text read rest done end old mid new status (inr g) tells answers =
     late P (loading name limit text read rest) done end old mid new status g.0 g.1 tells answers
+
+-- a command that stopped
+pub stopped_ends : {A : Type 0} (P : Type 0) (name : List ℕ) (limit : ℕ) (text : List ℕ)
+    (read : Result A Refusal) (rest : A → List Step) (done : ℕ) (reason : Reason)
+    (old mid new : World) (status : ℕ)
+    → StopsAtLoad name limit text read (Stopped reason) old mid
+    ⊎ (P × Goes (loading name limit text read rest) (Stopped reason) old mid)
+    → Says (reason_line reason) mid new → status ≡ reason_status reason
+    → StoppedEnds P (loading name limit text read rest) done old new status
+stopped_ends P name limit text read rest done reason old mid new status (inl g) says answers =
+    early P name limit text read rest done reason old mid new status g says answers
+stopped_ends P name limit text read rest done reason old mid new status (inr g) says answers =
+    let s = stop_ends (loading name limit text read rest) done reason old mid new status g.1 says
+    answers in
+    record { whole = record { ends = s.1; loaded = λ some. g.0 }; stop = s.0; is = s.2 }
+
+-- one that is done loaded its file
+pub went_through : {A : Type 0} (P : Type 0) (name : List ℕ) (limit : ℕ) (text : List ℕ)
+    (read : Result A Refusal) (rest : A → List Step) (old new : World)
+    → StopsAtLoad name limit text read Done old new
+    ⊎ (P × Goes (loading name limit text read rest) Done old new)
+    → P × Goes (loading name limit text read rest) Done old new
+went_through P name limit text read rest old new (inl g) = absurd g
+went_through P name limit text read rest old new (inr g) = g
 
 -- a load is a step
 pub load_is_step : {A : Type 0} (name : List ℕ) (limit : ℕ) (text : List ℕ)

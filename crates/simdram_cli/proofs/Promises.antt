@@ -12,8 +12,7 @@ use Rattle.object_alloc.specs.Spelling.{image_bytes, IsImage}
 use Rattle.bbop_isa.specs.Forms.{Instruction}
 use Rattle.machine_model.specs.Operations.{Program, Operations, operations_of, operations_in}
 use Rattle.machine_model.specs.Operations.{meaning_in}
-use Rattle.op_text.specs.Language.{Operation}
-use Rattle.uprog_code.specs.Texts.{ImplementsAll, text_op}
+use Rattle.uprog_code.specs.Texts.{TextOp, ImplementsAll}
 use Rattle.machine_model.specs.Opened.{Image, opened, words_of, rows_of}
 use Rattle.machine_model.specs.Columns.{columns}
 use Rattle.machine_model.specs.Steps.{Held, table_of, words_after}
@@ -26,17 +25,16 @@ use Rattle.machine_model.proofs.Texts.{same_operations, does_all}
 use Rattle.machine_model.proofs.Scripts.{table_step}
 use Rattle.machine_model.proofs.Whole.{every_step, rows_give_words}
 use Rattle.machine_model.proofs.Opened.{opened_agrees, report_same}
-use Rattle.machine_model.proofs.KeptAll.{script_kept}
-use Rattle.simdram_cli.specs.declared.words.RunNames.{RunNames}
-use Rattle.simdram_cli.specs.Run.{said_by, tally_by, refused_by}
+use Rattle.machine_model.proofs.KeptAll.{does_keep, script_kept}
+use Rattle.simdram_cli.specs.Job.{said_in, tally_by, refused_by}
 use Rattle.simdram_cli.specs.Works.{WorkDone}
 use Rattle.simdram_cli.specs.Headline.{Job, replies_of, state_after, ObjectsRight, RowsUntouched}
 use Rattle.simdram_cli.specs.Headline.{CommandsCounted, report_of, IsNoBadWalk}
 use Rattle.simdram_cli.proofs.NoWalks.{all_end, no_walks}
 use Rattle.simdram_cli.proofs.OpenedRows.{opened_rows}
 
-abbrev pub job_of : List Operation → List Instruction → Image → Program → Job
-job_of t script i program = record { ops = t; script = script; image = i; program = program }
+abbrev pub job_of : List TextOp → List Instruction → Image → Program → Job
+job_of t script i program = record { text = t; script = script; image = i; program = program }
 
 tables : (g : Geometry) (banks : Banks) (table : List Named)
     → table_of (map (λ (p : Named). record {
@@ -66,27 +64,27 @@ all_steps g o meaning (i ∷ script) words does plain =
     (every_step g o meaning i words does plain.0, all_steps g o meaning script words does plain.1)
 
 -- what is known of a job that was done
-pub record IsDone (t : List Operation) (script : List Instruction) (i : Image) (program : Program)
+pub record IsDone (t : List TextOp) (script : List Instruction) (i : Image) (program : Program)
     (chip : ChipView) (refused : ℕ) : Type 0 where
-  pub implements : ImplementsAll program (map text_op t)
+  pub implements : ImplementsAll program t
   pub image : IsImage i.geometry i.table i.rows
   pub words : 0 < i.geometry.words
   pub plain : AllByRecursion IsPlain script
   pub work : WorkDone program script i chip refused
 
-section_does : (t : List Operation) (program : Program) → ImplementsAll program (map text_op t)
-    → DoesAll (operations_in program) (meaning_in (map text_op t))
+section_does : (t : List TextOp) (program : Program) → ImplementsAll program t
+    → DoesAll (operations_in program) (meaning_in t)
 section_does t program implements =
-    subst (λ (o : Operations). DoesAll o (meaning_in (map text_op t)))
-    (same_operations program (map text_op t) implements)
-    (does_all program (map text_op t) implements)
+    subst (λ (o : Operations). DoesAll o (meaning_in t))
+    (same_operations program t implements)
+    (does_all program t implements)
 
-agrees_at_end : (t : List Operation) (script : List Instruction) (i : Image) (program : Program)
+agrees_at_end : (t : List TextOp) (script : List Instruction) (i : Image) (program : Program)
     (chip : ChipView) (refused : ℕ) → IsDone t script i program chip refused
     → Agrees i.geometry chip.banks (words_at_end i.geometry (operations_in program)
-    (meaning_in (map text_op t)) (words_of i) script)
+    (meaning_in t) (words_of i) script)
 agrees_at_end t script i program chip refused d =
-    let whole = rows_give_words i.geometry (operations_in program) (meaning_in (map text_op t))
+    let whole = rows_give_words i.geometry (operations_in program) (meaning_in t)
     script d.words (section_does t program d.implements) d.plain (opened i) (words_of i)
     (opened_agrees i d.words d.image) in
     let banks : banks_at_end i.geometry (operations_in program) (table_of (words_of i)) (opened i)
@@ -94,32 +92,32 @@ agrees_at_end t script i program chip refused d =
     ap (λ (table : List Named). banks_at_end i.geometry (operations_in program) table (opened i)
     script) (table_is i) ∙ sym d.work.banks in
     subst (λ (b : Banks). Agrees i.geometry b
-    (words_at_end i.geometry (operations_in program) (meaning_in (map text_op t)) (words_of i)
+    (words_at_end i.geometry (operations_in program) (meaning_in t) (words_of i)
     script)) banks whole
 
 -- the table at the end
-pub end_table : (t : List Operation) (script : List Instruction) (i : Image) (program : Program)
-    → ImplementsAll program (map text_op t)
+pub end_table : (t : List TextOp) (script : List Instruction) (i : Image) (program : Program)
+    → ImplementsAll program t
     → table_of (state_after (job_of t script i program))
     ≡ table_at_end i.geometry (operations_in program) i.table script
 end_table t script i program implements =
-    tables_end i.geometry (operations_of (map text_op t) program) (meaning_in (map text_op t))
+    tables_end i.geometry (operations_of t program) (meaning_in t)
     (words_of i) script
-    ∙ ap (λ (table : List Named). table_at_end i.geometry (operations_of (map text_op t) program)
+    ∙ ap (λ (table : List Named). table_at_end i.geometry (operations_of t program)
     table script) (table_is i)
     ∙ ap (λ (o : Operations). table_at_end i.geometry o i.table script)
-    (same_operations program (map text_op t) implements)
+    (same_operations program t implements)
 
-pub objects_right : (names : RunNames) (t : List Operation) (script : List Instruction) (i : Image)
+pub objects_right : (out : List ℕ) (t : List TextOp) (script : List Instruction) (i : Image)
     (program : Program) (chip : ChipView) (refused : ℕ) (after : Files)
     → IsDone t script i program chip refused
-    → after names.out.now
+    → after out
     ≡ Some (image_bytes i.geometry (table_at_end i.geometry (operations_in program) i.table
     script) (rows_of (banks_at_end i.geometry (operations_in program) i.table (opened i)
     script)))
-    → ObjectsRight names (job_of t script i program) after chip
-objects_right names t script i program chip refused after d out = record {
-  file = out
+    → ObjectsRight out (job_of t script i program) after chip
+objects_right out t script i program chip refused after d there = record {
+  file = there
       ∙ ap (λ (table : List Named). Some (image_bytes i.geometry table
       (rows_of (banks_at_end i.geometry (operations_in program) i.table (opened i) script))))
       (sym (end_table t script i program d.implements))
@@ -127,33 +125,29 @@ objects_right names t script i program chip refused after d out = record {
       (table_of (state_after (job_of t script i program))) (rows_of b))) (sym d.work.banks);
   numbers =
       (subst (λ (o : Operations). Agrees i.geometry chip.banks
-      (words_at_end i.geometry o (meaning_in (map text_op t)) (words_of i) script))
-      (sym (same_operations program (map text_op t) d.implements))
+      (words_at_end i.geometry o (meaning_in t) (words_of i) script))
+      (sym (same_operations program t d.implements))
       (agrees_at_end t script i program chip refused d)).numbers;
 }
 
-pub rows_untouched : (t : List Operation) (script : List Instruction) (i : Image)
+pub rows_untouched : (t : List TextOp) (script : List Instruction) (i : Image)
     (program : Program) (chip : ChipView) (refused : ℕ) → IsDone t script i program chip refused
     → RowsUntouched (job_of t script i program) chip
 rows_untouched t script i program chip refused d bank row b r out =
-    let same = same_operations program (map text_op t) d.implements in
-    let kept = script_kept i.geometry (operations_in program) (meaning_in (map text_op t)) script
-    d.words (section_does t program d.implements) d.plain (opened i) (words_of i)
-    (opened_agrees i d.words d.image) bank row
-    (ap (λ (table : List Named). is_touched_by i.geometry (operations_in program) table script bank
-    row) (table_is i)
-    ∙ ap (λ (o : Operations). is_touched_by i.geometry o i.table script bank row) (sym same)
-    ∙ out) in
+    let same = same_operations program t d.implements in
+    let keeps = does_keep (operations_in program) (meaning_in t)
+    (section_does t program d.implements) in
     ap (λ (x : Banks). row_in row (x bank)) d.work.banks
-    ∙ ap (λ (table : List Named). row_in row (banks_at_end i.geometry (operations_in program) table
-    (opened i) script bank)) (sym (table_is i))
-    ∙ kept ∙ opened_rows i bank row d.image b r
+    ∙ script_kept i.geometry (operations_in program) script keeps d.plain i.table d.image.listed
+    (opened i) bank row
+    (ap (λ (o : Operations). is_touched_by i.geometry o i.table script bank row) (sym same) ∙ out)
+    ∙ opened_rows i bank row d.image b r
 
-pub commands_counted : (t : List Operation) (script : List Instruction) (i : Image)
+pub commands_counted : (t : List TextOp) (script : List Instruction) (i : Image)
     (program : Program) (chip : ChipView) (refused : ℕ) → IsDone t script i program chip refused
     → CommandsCounted (job_of t script i program) chip
 commands_counted t script i program chip refused d =
-    let same = sym (same_operations program (map text_op t) d.implements) in
+    let same = sym (same_operations program t d.implements) in
     let all = i.geometry.banks * i.geometry.rows in
     record {
       aap = ap (λ k. k.aap) d.work.counters ∙ ap
@@ -169,40 +163,40 @@ commands_counted t script i program chip refused d =
     }
 
 -- the report by the rows is the report by the words
-pub report_is : (t : List Operation) (script : List Instruction) (i : Image) (program : Program)
+pub report_is : (t : List TextOp) (script : List Instruction) (i : Image) (program : Program)
     (chip : ChipView) (refused : ℕ) → IsDone t script i program chip refused
-    → lines 1 (said_by program script i) ++ total_line (tally_by program script i)
+    → lines 1 (said_in program script i) ++ total_line (tally_by program script i)
     (refused_by program script i) ≡ report_of (job_of t script i program) chip
 report_is t script i program chip refused d =
-    let same = same_operations program (map text_op t) d.implements in
+    let same = same_operations program t d.implements in
     let does = section_does t program d.implements in
-    let said : said_by program script i ≡ said_in_words i.geometry (operations_in program)
-    (meaning_in (map text_op t)) (words_of i) script =
+    let said : said_in program script i ≡ said_in_words i.geometry (operations_in program)
+    (meaning_in t) (words_of i) script =
     ap (λ (table : List Named). said_in_rows i.geometry (operations_in program) table (opened i)
     script) (sym (table_is i))
-    ∙ report_same i.geometry (operations_in program) (meaning_in (map text_op t)) script
-    (all_steps i.geometry (operations_in program) (meaning_in (map text_op t)) script d.words
+    ∙ report_same i.geometry (operations_in program) (meaning_in t) script
+    (all_steps i.geometry (operations_in program) (meaning_in t) script d.words
     does d.plain) (opened i) (words_of i) (opened_agrees i d.words d.image) in
     ap (λ s. lines 1 s ++ total_line (tally_by program script i) (refused_by program script i)) said
     ∙ ap (λ k. lines 1 (said_in_words i.geometry (operations_in program)
-    (meaning_in (map text_op t)) (words_of i) script)
+    (meaning_in t) (words_of i) script)
     ++ total_line k (refused_by program script i)) (sym d.work.counters)
-    ∙ ap (λ (o : Operations). lines 1 (said_in_words i.geometry o (meaning_in (map text_op t))
+    ∙ ap (λ (o : Operations). lines 1 (said_in_words i.geometry o (meaning_in t)
     (words_of i) script) ++ total_line chip.counters
     (count_by is_refused (replies i.geometry o i.table script))) (sym same)
 
-pub refusals_are : (t : List Operation) (script : List Instruction) (i : Image) (program : Program)
-    → ImplementsAll program (map text_op t)
+pub refusals_are : (t : List TextOp) (script : List Instruction) (i : Image) (program : Program)
+    → ImplementsAll program t
     → refused_by program script i ≡ count_by is_refused (replies_of (job_of t script i program))
 refusals_are t script i program implements = ap
     (λ (o : Operations). count_by is_refused (replies i.geometry o i.table script))
-    (sym (same_operations program (map text_op t) implements))
+    (sym (same_operations program t implements))
 
-pub no_bad_walks : (t : List Operation) (script : List Instruction) (i : Image) (program : Program)
-    → ImplementsAll program (map text_op t) → AllByRecursion IsPlain script
+pub no_bad_walks : (t : List TextOp) (script : List Instruction) (i : Image) (program : Program)
+    → ImplementsAll program t → AllByRecursion IsPlain script
     → AllByRecursion IsNoBadWalk (replies_of (job_of t script i program))
 no_bad_walks t script i program implements plain =
     subst (λ (o : Operations). AllByRecursion IsNoBadWalk (replies i.geometry o i.table script))
-    (sym (same_operations program (map text_op t) implements))
+    (sym (same_operations program t implements))
     (no_walks i.geometry (operations_in program) i.table script
-    (all_end program (map text_op t) implements) plain)
+    (all_end program t implements) plain)

@@ -1,29 +1,37 @@
 -- What the top call promises, from how a command ends.
 use Rattle.std.proofs.Common.{◌≡◌, ◌⊎◌, inl, inr, arith, ℕ, Bool, true, false, cond, List, [], ◌∷◌}
+use Rattle.std.proofs.Common.{length}
 use Rattle.std.proofs.Common.{◌+◌, Option, Some, None, refl, subst}
 use Rattle.std.specs.Prelude.{Result, Ok, Err, ◌↔◌, codes}
 use denote.Ref.{Bor}
 use Rattle.bbop_isa.specs.Forms.{Instruction}
-use Rattle.machine_model.specs.Operations.{Program}
-use Rattle.machine_model.specs.Opened.{Image}
-use Rattle.machine_model.specs.Report.{Said, total_line}
+use Rattle.machine_model.specs.Operations.{Program, Operations, operations_in}
+use Rattle.machine_model.specs.Opened.{Image, opened}
+use Rattle.dram_model.specs.declared.geometry.Geometry.{Geometry}
+use Rattle.dram_model.specs.Chip.{Banks}
+use Rattle.object_alloc.specs.Listed.{Named}
+use Rattle.machine_model.specs.Pieces.{Piece, Wave, Alone, instrs_in, pieces}
+use Rattle.machine_model.specs.Report.{Said, line, said_by, said_in_rows, total_line}
+use Rattle.machine_model.specs.Script.{banks_at_end, table_at_end}
+use Rattle.sim_machine.specs.Machine.{is_print}
 use Rattle.op_text.specs.declared.fault.OpsFault.{OpsFault}
 use Rattle.op_text.specs.Language.{Operation}
 use Rattle.op_text.specs.Lines.{fault_in}
 use Rattle.object_alloc.specs.Reading.{ImageFault}
 use Rattle.object_alloc.specs.Reading.{Found, image_in}
-use Rattle.bbop_isa.specs.Lines.{lines_of}
+use Rattle.bbop_isa.specs.declared.instr.ScriptFault.{ScriptFault}
+use Rattle.bbop_isa.specs.Script.{script_of}
 use Rattle.cli_model.specs.World.{World}
 use Rattle.cli_model.specs.Steps.{Step, Use, Store, Put, Refusal, loading}
 use Rattle.cli_model.proofs.Statuses.{OfSteps, OfRefusal, of_more, ends_so, all_done}
-use Rattle.built_forms.specs.Texts.{ops_in, unless_fault, script_in, image_of, image_found}
-use Rattle.built_forms.specs.Texts.{built_from, at_line, built_image, is_built_image, not_yet}
+use Rattle.simdram_cli.specs.Inputs.{ops_in, unless_fault, script_in, script_or_refusal}
+use Rattle.simdram_cli.specs.Inputs.{image_of, image_or_refusal}
 use Rattle.simdram_cli.specs.declared.words.RunNames.{RunNames}
 use Rattle.simdram_cli.specs.declared.words.CompileNames.{CompileNames}
 use Rattle.simdram_cli.specs.declared.words.MigrateNames.{MigrateNames}
 use Rattle.simdram_cli.specs.declared.words.TheConstants.{OPS_MAX, SCRIPT_MAX, IMAGE_MAX, PROG_MAX}
 use Rattle.simdram_cli.specs.declared.words.Command.{Command}
-use Rattle.simdram_cli.specs.declared.words.Command.TheVariants.{Run, Compile, Show, Migrate}
+use Rattle.simdram_cli.specs.declared.words.Command.TheVariants.{Run, Exec, Compile, Show, Migrate}
 use Rattle.simdram_cli.specs.declared.words.Command.TheVariants.{Cost, List as ListOf, Init}
 use Rattle.simdram_cli.specs.declared.words.InitNames.{InitNames}
 use Rattle.simdram_cli.specs.declared.account.Account.{Account}
@@ -32,9 +40,14 @@ use Rattle.simdram_cli.specs.Words.{command_of, IsApart}
 use Rattle.simdram_cli.specs.Accounts.{account_steps}
 use Rattle.simdram_cli.specs.Init.{init_steps}
 use Rattle.simdram_cli.specs.Reads.{refusal_of}
-use Rattle.simdram_cli.specs.Run.{Texts, run_steps, work_steps, line_steps, said_by, image_by}
-use Rattle.simdram_cli.specs.Run.{tally_by, refused_by}
-use Rattle.simdram_cli.specs.Ends.{run_status, status_on}
+use Rattle.simdram_cli.specs.declared.words.ExecNames.{ExecNames}
+use Rattle.simdram_cli.specs.declared.job.JobNames.{JobNames}
+use Rattle.simdram_cli.specs.Job.{Texts, image_by, instr_steps, job_status, job_steps}
+use Rattle.simdram_cli.specs.Job.{piece_steps, pieces_steps, put_lines, script_steps, status_by}
+use Rattle.simdram_cli.specs.Job.{status_on, work_steps}
+use Rattle.simdram_cli.specs.Run.{job_names, run_steps}
+use Rattle.simdram_cli.specs.Exec.{exec_names, exec_steps, status_with}
+use Rattle.simdram_cli.specs.Job.{tally_by, refused_by}
 use Rattle.simdram_cli.specs.Compile.{compile_steps}
 use Rattle.simdram_cli.specs.Show.{show_steps}
 use Rattle.simdram_cli.specs.Migrate.{migrate_steps}
@@ -47,6 +60,7 @@ use Rattle.simdram_cli.proofs.Migrating.{migrated}
 use Rattle.uprog_bin.specs.Reading.{program_in, ProgFault}
 use Rattle.simdram_cli.specs.Commands.{CanAnswer, CommandEnds, OnCommand, Promises}
 use Rattle.simdram_cli.proofs.Running.{apart}
+use Rattle.simdram_cli.proofs.Executing.{exec_promised}
 use Rattle.simdram_cli.proofs.Promised.{run_promised}
 use Rattle.simdram_cli.proofs.Showing.{show_shown}
 
@@ -66,36 +80,73 @@ ops_of : (P : ℕ → Type 0) (fault : Option OpsFault) → P 4
 ops_of P None four = tt
 ops_of P (Some fault) four = four
 
-script_of : (P : ℕ → Type 0) (script : Result (List Instruction) ℕ) → P 6
-    → OfRefusal P (refusal_of (at_line script))
-script_of P (Ok script) six = tt
-script_of P (Err line) six = six
-
-built_of : (P : ℕ → Type 0) (b : Bool) (i : Image) → P 7
-    → OfRefusal P (refusal_of (cond b (Ok i) (Err (not_yet 7 (codes "image byte ") 0))))
-built_of P true i seven = tt
-built_of P false i seven = seven
+read_of : (P : ℕ → Type 0) (script : Result (List Instruction) ScriptFault) → P 6
+    → OfRefusal P (refusal_of (script_or_refusal script))
+read_of P (Ok script) six = tt
+read_of P (Err fault) six = six
 
 image_is : (P : ℕ → Type 0) (found : Result Found ImageFault) → P 7
-    → OfRefusal P (refusal_of (built_image found))
-image_is P (Ok found) seven = built_of P (is_built_image found) (image_found found) seven
+    → OfRefusal P (refusal_of (image_or_refusal found))
+image_is P (Ok found) seven = tt
 image_is P (Err fault) seven = seven
 
-lines_of_steps : (P : ℕ → Type 0) (number : ℕ) (said : List Said) → P 9 → P 3
-    → OfSteps P (line_steps number said)
-lines_of_steps P number [] nine three = tt
-lines_of_steps P number (s ∷ said) nine three =
-    (nine, (three, lines_of_steps P (number + 1) said nine three))
+lines_of : (P : ℕ → Type 0) (number : ℕ) (said : List Said) → P 3
+    → OfSteps P (put_lines number said)
+lines_of P number [] three = tt
+lines_of P number (s ∷ said) three = (three, lines_of P (number + 1) said three)
+
+instr_of : (P : ℕ → Type 0) (prints : Bool) (bytes : List ℕ) → P 3 → P 9
+    → OfSteps P (instr_steps prints bytes)
+instr_of P true bytes three nine = ((three, nine), tt)
+instr_of P false bytes three nine = (nine, (three, tt))
+
+piece_of : (P : ℕ → Type 0) (g : Geometry) (o : Operations) (table : List Named) (banks : Banks)
+    (number : ℕ) (piece : Piece) → P 3 → P 9 → OfSteps P (piece_steps g o table banks number piece)
+piece_of P g o table banks number (Wave wave) three nine =
+    (nine, lines_of P number (said_in_rows g o table banks wave) three)
+piece_of P g o table banks number (Alone instr) three nine =
+    instr_of P (is_print instr) (line number (said_by g o table banks instr)) three nine
+
+pieces_of : (P : ℕ → Type 0) (g : Geometry) (o : Operations) (table : List Named) (banks : Banks)
+    (number : ℕ) (pieces : List Piece) → P 3 → P 9
+    → OfSteps P (pieces_steps g o table banks number pieces)
+pieces_of P g o table banks number [] three nine = tt
+pieces_of P g o table banks number (piece ∷ rest) three nine =
+    of_more P (piece_steps g o table banks number piece) _
+    (piece_of P g o table banks number piece three nine)
+    (pieces_of P g o (table_at_end g o table (instrs_in piece))
+    (banks_at_end g o table banks (instrs_in piece)) (number + length (instrs_in piece)) rest three
+    nine)
 
 work_of : (P : ℕ → Type 0) (out : List ℕ) (program : Program) (script : List Instruction)
     (i : Image) → P 3 → P 9 → P 10 → OfSteps P (work_steps out program script i)
 work_of P out program script i three nine ten = (
   (nine, ten),
-  of_more P (line_steps 1 (said_by program script i))
+  of_more P (script_steps program script i)
       (Use ∷ Store out (image_by program script i)
       ∷ Put (total_line (tally_by program script i) (refused_by program script i)) ∷ [])
-      (lines_of_steps P 1 (said_by program script i) nine three) (nine, (three, (three, tt))),
+      (pieces_of P i.geometry (operations_in program) i.table (opened i) 1 (pieces script) three
+      nine) (nine, (three, (three, tt))),
 )
+
+-- what the steps of a job can give
+record GivesOfJob (P : ℕ → Type 0) : Type 0 where
+  two : P 2
+  three : P 3
+  six : P 6
+  seven : P 7
+  nine : P 9
+  ten : P 10
+  eleven : P 11
+
+job_of_steps : (P : ℕ → Type 0) (names : JobNames) (program : Program) (texts : Texts)
+    → GivesOfJob P → OfSteps P (job_steps names program texts)
+job_of_steps P names program texts g =
+    loading_of P names.script.now SCRIPT_MAX texts.script (script_in texts.script) _ g.two g.eleven
+    g.ten (read_of P (script_of texts.script) g.six) (λ script.
+    loading_of P names.image.now IMAGE_MAX texts.image (image_of texts.image) _ g.two g.eleven g.ten
+    (image_is P (image_in texts.image) g.seven) (λ i.
+    work_of P names.out.now program script i g.three g.nine g.ten))
 
 record Gives (P : ℕ → Type 0) : Type 0 where
   two : P 2
@@ -104,19 +155,15 @@ record Gives (P : ℕ → Type 0) : Type 0 where
   ten : P 10
   eleven : P 11
 
-run_of : (P : ℕ → Type 0) (names : RunNames) (program : Program) (texts : Texts) → Gives P → P 6
-    → P 7 → P 9 → OfSteps P (run_steps names program texts)
-run_of P names program texts g six seven nine =
-    loading_of P names.ops.now OPS_MAX texts.ops (ops_in texts.ops) _ g.two g.eleven g.ten
-    (ops_of P (fault_in texts.ops) g.four) (λ t. (
+run_of : (P : ℕ → Type 0) (names : RunNames) (program : Program) (ops : List ℕ) (texts : Texts)
+    → Gives P → GivesOfJob P → OfSteps P (run_steps names program ops texts)
+run_of P names program ops texts g j =
+    loading_of P names.ops.now OPS_MAX ops (ops_in ops) _ g.two g.eleven g.ten
+    (ops_of P (fault_in ops) g.four) (λ t. (
       g.ten,
       (
         g.three,
-        loading_of P names.script.now SCRIPT_MAX texts.script (script_in texts.script) _ g.two
-            g.eleven g.ten (script_of P (built_from 1 (lines_of texts.script)) six) (λ script.
-            loading_of P names.image.now IMAGE_MAX texts.image (image_of texts.image) _ g.two
-            g.eleven g.ten (image_is P (image_in texts.image) seven) (λ i.
-            work_of P names.out.now program script i g.three nine g.ten)),
+        job_of_steps P (job_names names) program texts j,
       ),
     ))
 
@@ -142,9 +189,19 @@ status_so P program script (Ok i) zero eight = either_so P _ zero eight
 status_so P program script (Err r) zero eight = zero
 
 done_so : (P : ℕ → Type 0) (program : Program) (rs : Result (List Instruction) Refusal)
-    (ri : Result Image Refusal) → P 0 → P 8 → P (run_status program rs ri)
+    (ri : Result Image Refusal) → P 0 → P 8 → P (status_by program rs ri)
 done_so P program (Ok script) ri zero eight = status_so P program script ri zero eight
 done_so P program (Err r) ri zero eight = zero
+
+job_so : (P : ℕ → Type 0) (program : Program) (texts : Texts) → P 0 → P 8
+    → P (job_status program texts)
+job_so P program texts zero eight =
+    done_so P program (script_in texts.script) (image_of texts.image) zero eight
+
+with_so : (P : ℕ → Type 0) (read : Result Program Refusal) (texts : Texts) → P 0 → P 8
+    → P (status_with read texts)
+with_so P (Ok program) texts zero eight = job_so P program texts zero eight
+with_so P (Err r) texts zero eight = zero
 
 found_of : (P : ℕ → Type 0) (found : Result (ℕ × Program) ProgFault) → P 5
     → OfRefusal P (refusal_of (program_or_refusal found))
@@ -157,6 +214,13 @@ record GivesOfProg (P : ℕ → Type 0) : Type 0 where
   five : P 5
   ten : P 10
   eleven : P 11
+
+exec_of : (P : ℕ → Type 0) (names : ExecNames) (prog : List ℕ) (texts : Texts) → P 5
+    → GivesOfJob P → OfSteps P (exec_steps names prog texts)
+exec_of P names prog texts five j =
+    loading_of P names.prog.now PROG_MAX prog (prog_in prog) _ j.two j.eleven j.ten
+    (found_of P (program_in prog) five)
+    (λ program. job_of_steps P (exec_names names) program texts j)
 
 migrate_of : (P : ℕ → Type 0) (names : MigrateNames) (text : List ℕ) → GivesOfProg P
     → OfSteps P (migrate_steps names text)
@@ -178,11 +242,32 @@ pub can_answer : (command : Command) (old new : World) (status : ℕ)
     → CommandEnds command old new status → CanAnswer command status
 can_answer (Run names) old new status e =
     let P : ℕ → Type 0 = CanAnswer (Run names) in
-    ends_so P (run_steps names e.program e.texts) _ old new status
-    (done_so P e.program (script_in e.texts.script) (image_of e.texts.image) refl refl)
-    (run_of P names e.program e.texts
-    (record { two = refl; three = refl; four = refl; ten = refl; eleven = refl }) refl refl refl)
-    e.ends
+    let job : GivesOfJob P = record {
+      two = refl;
+      three = refl;
+      six = refl;
+      seven = refl;
+      nine = refl;
+      ten = refl;
+      eleven = refl;
+    } in
+    ends_so P (run_steps names e.program e.ops e.texts) _ old new status
+    (job_so P e.program e.texts refl refl)
+    (run_of P names e.program e.ops e.texts
+    (record { two = refl; three = refl; four = refl; ten = refl; eleven = refl }) job) e.ends
+can_answer (Exec names) old new status e =
+    let P : ℕ → Type 0 = CanAnswer (Exec names) in
+    let job : GivesOfJob P = record {
+      two = refl;
+      three = refl;
+      six = refl;
+      seven = refl;
+      nine = refl;
+      ten = refl;
+      eleven = refl;
+    } in
+    ends_so P (exec_steps names e.prog e.texts) _ old new status
+    (with_so P (prog_in e.prog) e.texts refl refl) (exec_of P names e.prog e.texts refl job) e.ends
 can_answer (Compile names) old new status e =
     let P : ℕ → Type 0 = CanAnswer (Compile names) in
     ends_so P (compile_steps names e.program e.text) 0 old new status refl
@@ -216,6 +301,8 @@ can_answer (Init names) old new status e =
 not_one : (command : Command) (status : ℕ) → CanAnswer command status → status ≡ 1 → ⊥
 not_one (Run names) status can e =
     let one : CanAnswer (Run names) 1 = subst (CanAnswer (Run names)) e can in cc
+not_one (Exec names) status can e =
+    let one : CanAnswer (Exec names) 1 = subst (CanAnswer (Exec names)) e can in cc
 not_one (Compile names) status can e =
     let one : CanAnswer (Compile names) 1 = subst (CanAnswer (Compile names)) e can in cc
 not_one (Show name) status can e =
@@ -265,17 +352,30 @@ apart_of_prog status is = record {
   eleven = apart_from_done status is 11 (λ f. cc) (λ f. cc);
 }
 
+apart_of_job : (status : ℕ) → (status ≡ 0) ⊎ (status ≡ 8) → GivesOfJob (λ s. s ≡ status → ⊥)
+apart_of_job status is = record {
+  two = apart_from_done status is 2 (λ f. cc) (λ f. cc);
+  three = apart_from_done status is 3 (λ f. cc) (λ f. cc);
+  six = apart_from_done status is 6 (λ f. cc) (λ f. cc);
+  seven = apart_from_done status is 7 (λ f. cc) (λ f. cc);
+  nine = apart_from_done status is 9 (λ f. cc) (λ f. cc);
+  ten = apart_from_done status is 10 (λ f. cc) (λ f. cc);
+  eleven = apart_from_done status is 11 (λ f. cc) (λ f. cc);
+}
+
 -- a command keeps what it promises
 pub promises : (command : Command) (old new : World) (status : ℕ) → IsApart command
     → CommandEnds command old new status → Promises command old new status
 promises (Run names) old new status are e = λ is.
-    let P : ℕ → Type 0 = λ s. s ≡ status → ⊥ in
     run_promised names old new status (apart names are) e
-    (all_done (run_steps names e.program e.texts) _ e.ends.ended old new status
-    (run_of P names e.program e.texts (gives_apart status is)
-    (apart_from_done status is 6 (λ f. cc) (λ f. cc))
-    (apart_from_done status is 7 (λ f. cc) (λ f. cc))
-    (apart_from_done status is 9 (λ f. cc) (λ f. cc))) e.ends.so)
+    (all_done (run_steps names e.program e.ops e.texts) _ e.ends.ended old new status
+    (run_of (λ s. s ≡ status → ⊥) names e.program e.ops e.texts (gives_apart status is)
+    (apart_of_job status is)) e.ends.so)
+promises (Exec names) old new status are e = λ is.
+    exec_promised names old new status e
+    (all_done (exec_steps names e.prog e.texts) _ e.ends.ended old new status
+    (exec_of (λ s. s ≡ status → ⊥) names e.prog e.texts
+    (apart_from_done status is 5 (λ f. cc) (λ f. cc)) (apart_of_job status is)) e.ends.so)
 promises (Compile names) old new status are e = λ is.
     compiled names old new status e
     (compile_of (λ s. s ≡ status → ⊥) names e.program e.text (gives_apart status (inl is)))

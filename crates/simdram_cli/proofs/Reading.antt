@@ -1,9 +1,10 @@
 -- Files that were loaded, and what they were read as.
 use Rattle.std.proofs.Common.{◌≡◌, ℕ, List, Some, None, ap}
-use Rattle.std.specs.Prelude.{Result, Ok, Err, codes}
+use Rattle.std.specs.Prelude.{Result, Ok, Err}
 use Rattle.host_edge.specs.Views.{FolderView}
-use Rattle.bbop_isa.specs.Lines.{lines_of}
+use Rattle.bbop_isa.specs.declared.instr.ScriptFault.{ScriptFault}
 use Rattle.bbop_isa.specs.Forms.{Instruction}
+use Rattle.bbop_isa.specs.Script.{script_of}
 use Rattle.cli_model.specs.World.{world}
 use Rattle.cli_model.specs.Steps.{Refusal, Reason, Refused, NoMemory}
 use Rattle.op_text.specs.declared.fault.OpsFault.{OpsFault}
@@ -11,8 +12,8 @@ use Rattle.op_text.specs.Language.{Operation}
 use Rattle.op_text.specs.Lines.{fault_in}
 use Rattle.op_text.specs.OpsOf.{IsOpsOf}
 use Rattle.simdram_cli.specs.declared.words.TheConstants.{OPS_MAX}
-use Rattle.built_forms.specs.Texts.{ops_in, ops_refusal, unless_fault, script_in, built_from}
-use Rattle.built_forms.specs.Texts.{at_line, not_yet}
+use Rattle.simdram_cli.specs.Inputs.{ops_in, ops_refusal, unless_fault, script_in}
+use Rattle.simdram_cli.specs.Inputs.{script_refusal, script_or_refusal}
 use Rattle.simdram_cli.specs.Reads.{refusal_of, LoadedAs, NotLoaded, NotRead, OpsRead}
 use Rattle.simdram_cli.proofs.Joins.{told_text, told_is_text, loaded_text, no_sink, no_chip}
 
@@ -57,9 +58,13 @@ ops_refused text fault e = ap unless_fault e
 pub ops_accepted : (text : List ℕ) → fault_in text ≡ None → ops_in text ≡ Ok tt
 ops_accepted text e = ap unless_fault e
 
-pub script_refused : (text : List ℕ) (line : ℕ) → built_from 1 (lines_of text) ≡ Err line
-    → script_in text ≡ Err (not_yet 6 (codes "script line ") line)
-script_refused text line e = ap {B = Result (List Instruction) Refusal} at_line e
+pub script_refused : (text : List ℕ) (fault : ScriptFault) → script_of text ≡ Err fault
+    → script_in text ≡ Err (script_refusal fault)
+script_refused text fault e = ap script_or_refusal e
+
+pub script_accepted : (text : List ℕ) (script : List Instruction) → script_of text ≡ Ok script
+    → script_in text ≡ Ok script
+script_accepted text script e = ap script_or_refusal e
 
 -- the ops of a text that is loaded
 pub ops_parsed : (name text : List ℕ) (ops : List Operation) (old new : FolderView)

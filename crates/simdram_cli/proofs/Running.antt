@@ -15,21 +15,22 @@ use Rattle.uprog_code.specs.Programs.{IsProgram}
 use Rattle.uprog_code.specs.Texts.{ImplementsAll, text_op}
 use Rattle.machine_model.specs.Opened.{Image}
 use Rattle.machine_model.specs.Agrees.{IsPlain}
-use Rattle.machine_model.specs.Script.{is_bbop}
 use Rattle.cli_model.specs.World.{World, world}
 use Rattle.cli_model.specs.Steps.{Take, Store, Refusal, Reason, Refused, NoMemory, Done, Stopped}
 use Rattle.cli_model.specs.Steps.{Goes}
-use Rattle.object_alloc.specs.Reading.{Found}
-use Rattle.built_forms.specs.Texts.{ops_in, image_of, is_built_image, not_yet}
+use Rattle.object_alloc.specs.Reading.{Found, ImageFault, IsFault, Answers, image_in}
+use Rattle.simdram_cli.specs.Inputs.{ops_in, image_of, image_found, image_or_refusal}
+use Rattle.simdram_cli.specs.Inputs.{image_refusal}
 use Rattle.simdram_cli.specs.declared.words.RunNames.{RunNames}
 use Rattle.simdram_cli.specs.declared.words.TheConstants.{OPS_MAX, IMAGE_MAX}
 use Rattle.simdram_cli.specs.declared.stop.Stop.{Stop}
-use Rattle.built_forms.specs.declared.scripts.FormNo.{FormNo}
-use Rattle.built_forms.specs.declared.scripts.FormNo.TheVariants as forms
-use Rattle.built_forms.specs.Answers.{IsBuilt, NoImage}
+use Rattle.object_alloc.specs.declared.fault.ImageNo.{ImageNo}
+use Rattle.object_alloc.specs.declared.fault.ImageNo.TheVariants as no
+use Rattle.object_alloc.specs.Exact.{found_in}
 use Rattle.simdram_cli.specs.Stops.{end_of, image_reason, reason_of}
 use Rattle.simdram_cli.specs.Reads.{refusal_of, LoadedAs, NotLoaded, NotRead, OpsRead}
-use Rattle.simdram_cli.specs.Run.{work_steps}
+use Rattle.simdram_cli.specs.declared.job.JobNames.{JobNames}
+use Rattle.simdram_cli.specs.Job.{work_steps}
 use Rattle.simdram_cli.specs.Works.{WorkDone}
 use Rattle.simdram_cli.specs.Words.{are_apart, all_differ}
 use Rattle.simdram_cli.specs.Ends.{GoesToStore, StopsAtStore, ProgramTaken, ProgramStopped, DoneOn}
@@ -101,7 +102,7 @@ stopped_by ops_name prog_name ops (Err stop) old mid new r g =
     program_unstored ops_name prog_name ops (reason_of stop) old mid new r g
 
 -- IMAGE was not loaded
-pub image_unread : (names : RunNames) (program : Program) (script : List Instruction) (stop : Stop)
+pub image_unread : (names : JobNames) (program : Program) (script : List Instruction) (stop : Stop)
     (old new : FolderView) (sink : SinkView) (chip : ChipView)
     → NotLoaded names.image.now IMAGE_MAX (reason_of stop) old new
     → ImageWorked names program script (world old sink chip) (world new sink chip) (Err stop)
@@ -117,7 +118,7 @@ image_unread names program script stop old new sink chip n = record {
 }
 
 -- IMAGE is refused
-pub image_refused : (names : RunNames) (program : Program) (script : List Instruction) (stop : Stop)
+pub image_refused : (names : JobNames) (program : Program) (script : List Instruction) (stop : Stop)
     (text : List ℕ) (refusal : Refusal) (old new : FolderView) (sink : SinkView)
     (chip : ChipView) → LoadedAs names.image.now IMAGE_MAX text old new
     → image_of text ≡ Err refusal → reason_of stop ≡ Refused refusal
@@ -133,7 +134,7 @@ image_refused names program script stop text refusal old new sink chip loaded e 
 }
 
 -- there was no memory to read IMAGE
-pub image_no_memory : (names : RunNames) (program : Program) (script : List Instruction)
+pub image_no_memory : (names : JobNames) (program : Program) (script : List Instruction)
     (stop : Stop) (text : List ℕ) (old new : FolderView) (sink : SinkView) (chip : ChipView)
     → LoadedAs names.image.now IMAGE_MAX text old new
     → reason_of stop ≡ NoMemory → ImageWorked names program script (world old sink chip)
@@ -148,17 +149,22 @@ image_no_memory names program script stop text old new sink chip loaded f = reco
   done = tt;
 }
 
--- IMAGE is not taken
-pub image_not_read : (names : RunNames) (program : Program) (script : List Instruction)
-    (stop : Stop) (no : FormNo) (text : List ℕ) (old new : FolderView) (sink : SinkView)
+-- IMAGE is not read
+pub image_not_read : (names : JobNames) (program : Program) (script : List Instruction)
+    (stop : Stop) (why : ImageNo) (text : List ℕ) (old new : FolderView) (sink : SinkView)
     (chip : ChipView) → LoadedAs names.image.now IMAGE_MAX text old new
-    → NoImage text no → reason_of stop ≡ image_reason no
+    → IsFault why (image_in text) → reason_of stop ≡ image_reason why
     → ImageWorked names program script (world old sink chip) (world new sink chip) (Err stop)
-image_not_read names program script stop (forms.NotYet at) text old new sink chip loaded e f =
-    image_refused names program script stop text (not_yet 7 (codes "image byte ") 0) old new sink
-    chip loaded e.0 (f ∙ ap (λ n. Refused (not_yet 7 (codes "image byte ") n)) e.1)
-image_not_read names program script stop forms.NoMemory text old new sink chip loaded e f =
+image_not_read names program script stop (no.Fault fault) text old new sink chip loaded e f =
+    image_refused names program script stop text (image_refusal fault) old new sink chip loaded
+    (ap image_or_refusal e) f
+image_not_read names program script stop no.NoMemory text old new sink chip loaded e f =
     image_no_memory names program script stop text old new sink chip loaded f
+
+-- IMAGE is read
+pub image_is : (text : List ℕ) (found : Found) → image_in text ≡ Ok found
+    → image_of text ≡ Ok (image_found found)
+image_is text found e = ap image_or_refusal e
 
 done_on : (program : Program) (script : List Instruction) (i : Image) (read : Result Image Refusal)
     (chip : ChipView) (result : Result ℕ Stop) → read ≡ Ok i → IsImage i.geometry i.table i.rows
@@ -168,7 +174,7 @@ done_on program script i read chip (Ok refused) e is plain w = rw e (is, plain, 
 done_on program script i read chip (Err stop) e is plain w = tt
 
 -- IMAGE was read, and the script done on it
-pub image_worked : (names : RunNames) (program : Program) (script : List Instruction) (i : Image)
+pub image_worked : (names : JobNames) (program : Program) (script : List Instruction) (i : Image)
     (result : Result ℕ Stop) (text : List ℕ) (old mid : FolderView) (sink : SinkView)
     (chip : ChipView) (new : World) → LoadedAs names.image.now IMAGE_MAX text old mid
     → image_of text ≡ Ok i → IsImage i.geometry i.table i.rows → AllByRecursion IsPlain script
@@ -185,21 +191,6 @@ image_worked names program script i result text old mid sink chip new loaded e i
           (world mid sink chip) new e (loaded sink chip) g;
       done = done_on program script i (image_of text) new.chip result e is plain w;
     }
-
--- an image that is built has one bank
-pub one_bank : (found : Found) → is_built_image found ≡ true → found.geometry.banks ≡ 1
-one_bank found e = eqb-true found.geometry.banks 1
-    (both (found.geometry.banks == 1) (found.geometry.words == 1) e).0
-
-pub all_bbops : (script : List Instruction) → AllByRecursion IsBuilt script
-    → AllByRecursion (λ i. is_bbop i ≡ true) script
-all_bbops [] all = tt
-all_bbops (i ∷ script) all = (all.0.0, all_bbops script all.1)
-
-pub all_plain : (script : List Instruction) → AllByRecursion IsBuilt script
-    → AllByRecursion IsPlain script
-all_plain [] all = tt
-all_plain (i ∷ script) all = (all.0.1, all_plain script all.1)
 
 not_true : (b : Bool) → not b ≡ true → b ≡ false
 not_true true e = absurd (cc)

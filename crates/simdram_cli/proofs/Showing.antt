@@ -16,13 +16,13 @@ use Rattle.cli_model.specs.Status.{Tells}
 use Rattle.cli_model.specs.Ends.{Ended, All, EndsSo, IsAllDone}
 use Rattle.cli_model.specs.Ends.{IsForetold, done_steps}
 use Rattle.cli_model.proofs.Statuses.{OfSteps, all_done}
-use Rattle.built_forms.specs.Texts.{ops_in}
+use Rattle.simdram_cli.specs.Inputs.{ops_in}
 use Rattle.simdram_cli.specs.declared.words.TheConstants.{OPS_MAX}
 use Rattle.simdram_cli.specs.declared.stop.Stop.{Stop as StopBy}
 use Rattle.simdram_cli.specs.Reads.{NotRead, OpsRead}
 use Rattle.simdram_cli.specs.Stops.{end_of, reason_of}
 use Rattle.simdram_cli.specs.Ends.{answer_to}
-use Rattle.simdram_cli.specs.Run.{done_status}
+use Rattle.simdram_cli.specs.Job.{done_status}
 use Rattle.simdram_cli.specs.Show.{show_steps, ShowGoes, ShowEnds, Shown}
 use Rattle.simdram_cli.proofs.Loaded.{loaded_ends, load_is_step}
 use Rattle.simdram_cli.proofs.Foreseen.{was_read, text_at, if_there, spells_at}

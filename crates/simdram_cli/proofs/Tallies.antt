@@ -3,30 +3,30 @@ use Rattle.std.proofs.Common.{◌≡◌, ℕ, zero, suc, ◌+◌, ◌*◌, List,
 use Rattle.std.proofs.Common.{None, refl, sym, ◌∙◌, ap, subst, arith, append-nil, add-zero}
 use Rattle.std.proofs.Common.{zero-add}
 use Rattle.std.proofs.Common.{true, ◌<◌}
-use Rattle.std.specs.Prelude.{All, Bool, false, ◌&&◌, IfSome, flat_map, nat_le}
+use Rattle.std.specs.Prelude.{Bool, false, ◌&&◌, IfSome, flat_map, nat_le}
 use Rattle.std.proofs.lemmas.Bool.{leb-true}
-use Rattle.std.specs.List.{range_with_len, AllByRecursion}
+use Rattle.std.specs.List.{range_with_len}
 use Rattle.std.proofs.Math.Nat.{suc-mul}
 use Rattle.dram_model.specs.declared.dram.Counters.{Counters}
-use Rattle.dram_model.specs.declared.address.Command.TheVariants.{Ap, Aap}
-use Rattle.dram_model.specs.Chip.{Event, after, counted, all_counted, Grew}
-use Rattle.dram_model.specs.Chip.Event.{Row, Write}
-use Rattle.dram_model.specs.View.{ChipView, Did, DidRead, with_reads}
+use Rattle.dram_model.specs.Chip.{Event, after, all_counted, Grew}
+use Rattle.dram_model.specs.Chip.Event.{Write}
+use Rattle.dram_model.specs.View.{ChipView, DidRead, with_reads}
 use Rattle.dram_model.proofs.EventLaws.{all_counted-append}
 use Rattle.dram_model.specs.declared.geometry.Geometry.{Geometry}
 use Rattle.dram_model.specs.Geometry.{is_geometry, is_between, fits_size}
-use Rattle.object_alloc.specs.Listed.{Listing}
-use Rattle.object_alloc.specs.Spelling.{IsObject, Rows}
-use Rattle.sim_machine.specs.Granted.{IsSetting}
+use Rattle.object_alloc.specs.Spelling.{IsImage, Rows}
 use Rattle.bbop_isa.specs.Forms.{Instruction}
+use Rattle.wave_model.specs.Schedule.{Ahead}
 use Rattle.machine_model.specs.Operations.{Program, operations_in}
 use Rattle.machine_model.specs.Opened.{Image, row_writes, opened}
-use Rattle.machine_model.specs.Script.{is_bbop, events_in_order, replies, sum_of}
-use Rattle.machine_model.proofs.Events.{in_order_steps, in_order_counted}
-use Rattle.machine_model.proofs.Pieces.{script_in_order}
-use Rattle.simdram_cli.specs.Run.{opened_counters, tally_by, refused_by}
+use Rattle.machine_model.specs.Pieces.{script_events}
+use Rattle.machine_model.specs.Script.{replies, rows_printed, sum_done, sum_of}
+use Rattle.machine_model.proofs.Pieces.{counted_by_replies, events_are_steps}
+use Rattle.machine_model.proofs.Tables.{fits_banks}
+use Rattle.sim_machine.specs.Steps.{DidAndRead}
+use Rattle.simdram_cli.specs.Job.{opened_counters, tally_by, refused_by}
 use Rattle.simdram_cli.specs.Works.{OpenedOn, WorkDone}
-use Rattle.simdram_cli.proofs.Bbops.{none_loaded, none_printed}
+use Rattle.simdram_cli.proofs.Progress.{Holds}
 
 pub both : (x y : Bool) → (x && y) ≡ true → (x ≡ true) × (y ≡ true)
 both true true e = (refl, refl)
@@ -73,19 +73,20 @@ opened_counted i = banks_counted i.rows i.geometry.rows 0 i.geometry.banks
 
 -- the counters after a script and the reading of all rows
 pub tally_is : (program : Program) (script : List Instruction) (i : Image)
-    → AllByRecursion (λ instr. is_bbop instr ≡ true) script
+    → Holds i.geometry i.table
     → with_reads (i.geometry.banks * i.geometry.rows)
-    (all_counted (events_in_order i.geometry (operations_in program) i.table script)
-    (opened_counters i.geometry)) ≡ tally_by program script i
-tally_is program script i bbops =
-    let loaded = none_loaded i.geometry (operations_in program) i.table script bbops in
-    let printed = none_printed i.geometry (operations_in program) i.table script bbops in
+    (with_reads (sum_done rows_printed i.geometry (operations_in program) i.table script)
+    (all_counted (script_events i.geometry (operations_in program) i.table script)
+    (opened_counters i.geometry))) ≡ tally_by program script i
+tally_is program script i holds =
     let all = i.geometry.banks * i.geometry.rows in
-    ap (with_reads all) (in_order_counted i.geometry (operations_in program) i.table script
-    (opened_counters i.geometry) bbops)
-    ∙ rw (loaded, printed, add-zero all)
-    (let sum = sum_of (replies i.geometry (operations_in program) i.table script) in
-    rw (zero-add sum.aap, zero-add sum.ap, zero-add all) refl)
+    let o = operations_in program in
+    let printed = sum_done rows_printed i.geometry o i.table script in
+    let sum = sum_of (replies i.geometry o i.table script) in
+    let turned : 0 + printed + all ≡ all + printed = omega arith in
+    ap (λ k. with_reads all (with_reads printed k)) (counted_by_replies i.geometry o Ahead i.table
+    script (opened_counters i.geometry) holds.words holds.fits)
+    ∙ rw (zero-add sum.aap, zero-add sum.ap, turned) refl
 
 log_is : (start : List Event) (a b c : Option (List Event)) (events : List Event)
     → Grew (Some []) a start → Grew a b events → Grew b c []
@@ -96,13 +97,6 @@ log_is start None (Some y) (Some z) events g h k = absurd h
 log_is start (Some x) (Some y) (Some z) events g h k = k ∙ append-nil y ∙ h
     ∙ ap (λ w. w ++ events) g
 
--- what an image and a script on one bank have
-pub record IsPlayed (script : List Instruction) (i : Image) : Type 0 where
-  pub bbops : AllByRecursion (λ instr. is_bbop instr ≡ true) script
-  pub one : i.geometry.banks ≡ 1
-  pub words : 0 < i.geometry.words
-  pub objects : All (λ named. IsObject i.geometry named.1) i.table
-
 pub some_words : (g : Geometry) → is_geometry g ≡ true → 0 < g.words
 some_words g e =
     let one = both (is_between 1 16 g.banks && is_between 64 1006 g.rows
@@ -112,44 +106,32 @@ some_words g e =
     let three = both (nat_le 1 g.words) (nat_le g.words 1024) two.1 in
     leb-true 1 g.words three.0
 
-pub played : (script : List Instruction) (i : Image) {listing : Listing} {program : Program}
-    → AllByRecursion (λ instr. is_bbop instr ≡ true) script → i.geometry.banks ≡ 1
-    → IsSetting i.geometry listing program → IsPlayed script (record i { table = listing.pairs })
-played script i bbops one set = record {
-  bbops = bbops;
-  one = one;
-  words = some_words i.geometry set.geometry;
-  objects = set.objects;
+-- the objects of an image that is accepted are in its banks
+pub image_holds : (i : Image) → IsImage i.geometry i.table i.rows → Holds i.geometry i.table
+image_holds i is = record {
+  words = some_words i.geometry is.geometry;
+  fits = fits_banks i.geometry i.table
+      (record { listed = is.listed; objects = is.objects });
 }
 
 -- a script that was done to its end
 pub work_done : (program : Program) (script : List Instruction) (i : Image) (a b c : ChipView)
-    (refused : ℕ) → IsPlayed script i → OpenedOn i a
-    → Did (events_in_order i.geometry (operations_in program) i.table script) a b
+    (refused : ℕ) → Holds i.geometry i.table → OpenedOn i a
+    → DidAndRead (script_events i.geometry (operations_in program) i.table script)
+    (sum_done rows_printed i.geometry (operations_in program) i.table script) a b
     → DidRead (i.geometry.banks * i.geometry.rows) b c → refused ≡ refused_by program script i
     → WorkDone program script i c refused
-work_done program script i a b c refused played start did read count =
+work_done program script i a b c refused holds start did read count =
     let o = operations_in program in
-    let events = events_in_order i.geometry o i.table script in
+    let events = script_events i.geometry o i.table script in
+    let printed = sum_done rows_printed i.geometry o i.table script in
     record {
       banks = read.banks ∙ did.banks ∙ ap (after events) start.banks
-          ∙ in_order_steps i.geometry o i.table script (opened i);
+          ∙ events_are_steps i.geometry o Ahead i.table script (opened i) holds.words holds.fits;
       counters = read.counters
           ∙ ap (with_reads (i.geometry.banks * i.geometry.rows)) (did.counters
-          ∙ ap (all_counted events) start.counters)
-          ∙ tally_is program script i played.bbops;
-      log = subst (λ (es : List Event). IfSome c.log (λ told. told ≡ row_writes i ++ es))
-          (sym (script_in_order i.geometry o i.table script played.one played.words played.objects))
-          (log_is (row_writes i) a.log b.log c.log events start.log did.log read.log);
+          ∙ ap (λ k. with_reads printed (all_counted events k)) start.counters)
+          ∙ tally_is program script i holds;
+      log = log_is (row_writes i) a.log b.log c.log events start.log did.log read.log;
       refused_is = count;
     }
-
-one_read : (event : Event) (k : Counters) → (counted event k).reads ≡ k.reads
-one_read (Row bank (Ap x)) k = refl
-one_read (Row bank (Aap x y)) k = refl
-one_read (Write bank row bits) k = refl
-
--- no event is a host read
-pub reads_same : (events : List Event) (k : Counters) → (all_counted events k).reads ≡ k.reads
-reads_same [] k = refl
-reads_same (event ∷ events) k = reads_same events (counted event k) ∙ one_read event k

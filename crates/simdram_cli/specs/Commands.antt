@@ -6,12 +6,13 @@ use Rattle.host_edge.specs.Views.{Told}
 use Rattle.cli_model.specs.World.{World}
 use Rattle.cli_model.specs.Ends.{Ends}
 use Rattle.simdram_cli.specs.declared.words.Command.{Command}
-use Rattle.simdram_cli.specs.declared.words.Command.TheVariants.{Run, Compile, Show, Migrate}
+use Rattle.simdram_cli.specs.declared.words.Command.TheVariants.{Run, Exec, Compile, Show, Migrate}
 use Rattle.simdram_cli.specs.declared.words.Command.TheVariants.{Cost, List as ListOf, Init}
 use Rattle.simdram_cli.specs.declared.account.Account.TheVariants.{Listing, Costs}
 use Rattle.simdram_cli.specs.Words.{command_of}
 use Rattle.simdram_cli.specs.Ends.{RunEnds}
 use Rattle.simdram_cli.specs.Headline.{Headline}
+use Rattle.simdram_cli.specs.Exec.{ExecEnds, Executed}
 use Rattle.simdram_cli.specs.Compile.{CompileEnds, Compiled}
 use Rattle.simdram_cli.specs.Show.{ShowEnds, Shown}
 use Rattle.simdram_cli.specs.Migrate.{MigrateEnds, Migrated}
@@ -21,6 +22,7 @@ use Rattle.simdram_cli.specs.Init.{init_steps, Started}
 -- the statuses that a command can answer
 abbrev pub statuses : Command → List ℕ
 statuses (Run names) = 0 ∷ 2 ∷ 3 ∷ 4 ∷ 6 ∷ 7 ∷ 8 ∷ 9 ∷ 10 ∷ 11 ∷ []
+statuses (Exec names) = 0 ∷ 2 ∷ 3 ∷ 5 ∷ 6 ∷ 7 ∷ 8 ∷ 9 ∷ 10 ∷ 11 ∷ []
 statuses (Compile names) = 0 ∷ 2 ∷ 3 ∷ 4 ∷ 10 ∷ 11 ∷ []
 statuses (Show name) = 0 ∷ 2 ∷ 3 ∷ 4 ∷ 10 ∷ 11 ∷ []
 statuses (Migrate names) = 0 ∷ 2 ∷ 3 ∷ 5 ∷ 10 ∷ 11 ∷ []
@@ -34,6 +36,7 @@ CanAnswer command status = list_any (λ s. s == status) (statuses command) ≡ t
 -- how it ends: it goes through its steps, and the first event decides
 abbrev pub CommandEnds : Command → World → World → ℕ → Type 0
 CommandEnds (Run names) old new status = RunEnds names old new status
+CommandEnds (Exec names) old new status = ExecEnds names old new status
 CommandEnds (Compile names) old new status = CompileEnds names old new status
 CommandEnds (Show name) old new status = ShowEnds name.now old new status
 CommandEnds (Migrate names) old new status = MigrateEnds names old new status
@@ -46,6 +49,9 @@ CommandEnds (Init names) old new status = Ends (init_steps names) 0 old new stat
 abbrev pub Promises : Command → World → World → ℕ → Type 0
 Promises (Run names) old new status = (status ≡ 0) ⊎ (status ≡ 8)
     → Told (λ before after. Headline names before after old new status) old.files.holds
+    new.files.holds
+Promises (Exec names) old new status = (status ≡ 0) ⊎ (status ≡ 8)
+    → Told (λ before after. Executed names before after old new status) old.files.holds
     new.files.holds
 Promises (Compile names) old new status = status ≡ 0
     → Told (λ before after. Compiled names before after old new) old.files.holds new.files.holds

@@ -10,7 +10,7 @@ use Rattle.machine_model.specs.Operations.{Program}
 use Rattle.cli_model.specs.World.{World}
 use Rattle.cli_model.specs.Steps.{Step, Take, Store, Put, Goes, loading}
 use Rattle.cli_model.specs.Ends.{Ends, Stores, done_steps}
-use Rattle.built_forms.specs.Texts.{ops_in}
+use Rattle.simdram_cli.specs.Inputs.{ops_in}
 use Rattle.simdram_cli.specs.declared.words.CompileNames.{CompileNames}
 use Rattle.simdram_cli.specs.declared.words.TheConstants.{OPS_MAX}
 use Rattle.simdram_cli.specs.declared.stop.Stop.{Stop}

@@ -1,4 +1,4 @@
--- How a run goes and ends.
+-- How a job and a run go and end.
 use Rattle.std.specs.Prelude.{◌≡◌, ◌⊎◌, map, ℕ, List, [], ◌∷◌, Option, None, Result, Ok, Err, IfOk}
 use Rattle.std.specs.List.{AllByRecursion}
 use Rattle.dram_model.specs.View.{ChipView}
@@ -18,13 +18,15 @@ use Rattle.cli_model.specs.Steps.{Step, Load, Take, Store, Refusal, Reason, End,
 use Rattle.cli_model.specs.Steps.{Goes, loading}
 use Rattle.cli_model.specs.Status.{reason_status}
 use Rattle.cli_model.specs.Ends.{Ended, All, At, Ends, Stores, done_steps}
-use Rattle.built_forms.specs.Texts.{ops_in, script_in, image_of}
 use Rattle.simdram_cli.specs.declared.words.RunNames.{RunNames}
+use Rattle.simdram_cli.specs.declared.job.JobNames.{JobNames}
 use Rattle.simdram_cli.specs.declared.words.TheConstants.{OPS_MAX, IMAGE_MAX}
 use Rattle.simdram_cli.specs.declared.stop.Stop.{Stop}
+use Rattle.simdram_cli.specs.Inputs.{ops_in, script_in, image_of}
 use Rattle.simdram_cli.specs.Stops.{end_of, reason_of}
 use Rattle.simdram_cli.specs.Reads.{IsText}
-use Rattle.simdram_cli.specs.Run.{Texts, run_steps, work_steps, refused_by, done_status}
+use Rattle.simdram_cli.specs.Job.{Texts, work_steps, job_steps, job_status, done_status}
+use Rattle.simdram_cli.specs.Run.{run_steps, job_names}
 use Rattle.simdram_cli.specs.Works.{WorkDone}
 
 -- the program is one that a file can hold, and does the ops that the text has
@@ -46,37 +48,31 @@ abbrev pub DoneBy : Program → Result (List Instruction) Refusal → Result Ima
 DoneBy program (Ok script) image chip refused = DoneOn program script image chip refused
 DoneBy program (Err refusal) image chip refused = ⊥
 
+abbrev pub JobDone : Program → Texts → ChipView → ℕ → Type 0
+JobDone program texts chip refused =
+    DoneBy program (script_in texts.script) (image_of texts.image) chip refused
+
 -- the texts are those of the files, where these are told
-pub record IsRead (names : RunNames) (texts : Texts) (holds : Option Files) : Type 0 where
-  pub ops : IsText holds names.ops.now texts.ops
+pub record IsRead (names : JobNames) (texts : Texts) (holds : Option Files) : Type 0 where
   pub script : IsText holds names.script.now texts.script
   pub image : IsText holds names.image.now texts.image
 
--- the status of a run that is done
-abbrev pub status_on : Program → List Instruction → Result Image Refusal → ℕ
-status_on program script (Ok i) = done_status (refused_by program script i)
-status_on program script (Err refusal) = 0
-
-abbrev pub run_status : Program → Result (List Instruction) Refusal → Result Image Refusal → ℕ
-run_status program (Ok script) image = status_on program script image
-run_status program (Err refusal) image = 0
-
--- what stands in the chip after a run that is done
+-- what stands in the chip after a job that is done
 abbrev pub IsDoneBy : Ended → Program → Texts → ChipView → Type 0
-IsDoneBy All program texts chip =
-    (refused : ℕ) × DoneBy program (script_in texts.script) (image_of texts.image) chip refused
+IsDoneBy All program texts chip = (refused : ℕ) × JobDone program texts chip refused
 IsDoneBy (At stop) program texts chip = Unit {0}
 
 -- A run on the files at entry: what it reads, the program that it makes, and how it ends. PROG is
 -- stored only with a program that does the ops of OPS
 pub record RunEnds (names : RunNames) (old new : World) (status : ℕ) : Type 0 where
+  pub ops : List ℕ
   pub texts : Texts
   pub program : Program
-  pub read : IsRead names texts old.files.holds
-  pub ends : Ends (run_steps names program texts)
-      (run_status program (script_in texts.script) (image_of texts.image)) old new status
-  pub compiled : Stores names.prog.now (done_steps (run_steps names program texts) ends.ended)
-      → IsCompiled texts.ops program
+  pub is_text : IsText old.files.holds names.ops.now ops
+  pub read : IsRead (job_names names) texts old.files.holds
+  pub ends : Ends (run_steps names program ops texts) (job_status program texts) old new status
+  pub compiled : Stores names.prog.now (done_steps (run_steps names program ops texts) ends.ended)
+      → IsCompiled ops program
   pub done : IsDoneBy ends.ended program texts new.chip
 
 -- what the parts of a run come to, for its proof
@@ -117,13 +113,21 @@ pub record ProgramStopped (ops prog : List ℕ) (reason : Reason) (old new : Fol
         (world new sink chip)
 
 -- IMAGE was loaded and the script done on it, as far as nothing failed
-pub record ImageWorked (names : RunNames) (program : Program) (script : List Instruction)
+pub record ImageWorked (names : JobNames) (program : Program) (script : List Instruction)
     (old new : World) (result : Result ℕ Stop) : Type 0 where
   pub text : List ℕ
   pub is_text : IsText old.files.holds names.image.now text
   pub goes : Goes (loading names.image.now IMAGE_MAX text (image_of text)
       (λ i. work_steps names.out.now program script i)) (end_of result) old new
   pub done : IfOk result (DoneOn program script (image_of text) new.chip)
+
+-- a job goes through its steps
+pub record JobGoes (names : JobNames) (program : Program) (old new : World)
+    (result : Result ℕ Stop) : Type 0 where
+  pub texts : Texts
+  pub read : IsRead names texts old.files.holds
+  pub goes : Goes (job_steps names program texts) (end_of result) old new
+  pub done : IfOk result (JobDone program texts new.chip)
 
 -- it stopped before PROG was stored
 abbrev pub StoppedEarly : (ops prog : List ℕ) → Program → List ℕ → End → World → World → Type 0
@@ -134,12 +138,13 @@ StoppedEarly ops prog program text (Stopped reason) old new =
 -- a run goes through its steps: it stopped before PROG was stored, or its program does the ops
 pub record RunGoes (names : RunNames) (old new : World) (result : Result ℕ Stop) : Type 0 where
   pub program : Program
+  pub ops : List ℕ
   pub texts : Texts
-  pub read : IsRead names texts old.files.holds
-  pub goes : StoppedEarly names.ops.now names.prog.now program texts.ops (end_of result) old new
-      ⊎ (IsCompiled texts.ops program × Goes (run_steps names program texts) (end_of result) old
-      new)
-  pub done : IfOk result (DoneBy program (script_in texts.script) (image_of texts.image) new.chip)
+  pub is_text : IsText old.files.holds names.ops.now ops
+  pub read : IsRead (job_names names) texts old.files.holds
+  pub goes : StoppedEarly names.ops.now names.prog.now program ops (end_of result) old new
+      ⊎ (IsCompiled ops program × Goes (run_steps names program ops texts) (end_of result) old new)
+  pub done : IfOk result (JobDone program texts new.chip)
 
 -- the status that a result is answered with
 abbrev pub answer_to : Result ℕ Stop → ℕ

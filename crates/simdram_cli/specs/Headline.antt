@@ -28,13 +28,13 @@ use Rattle.machine_model.specs.Report.{report, said_in_words}
 use Rattle.machine_model.specs.Opened.{Image, row_writes, opened, rows_of, words_of}
 use Rattle.cli_model.specs.World.{World}
 use Rattle.cli_model.specs.Steps.{Refusal}
-use Rattle.built_forms.specs.Texts.{script_in, image_of}
+use Rattle.simdram_cli.specs.Inputs.{script_in, image_of}
 use Rattle.simdram_cli.specs.declared.words.RunNames.{RunNames}
-use Rattle.simdram_cli.specs.Run.{done_status}
+use Rattle.simdram_cli.specs.Job.{done_status}
 
--- the ops of OPS, the instructions of SCRIPT and the image of IMAGE, and the program in PROG
+-- a script on an image, by the ops of a text, as far as a machine knows them, and with a program
 pub record Job : Type 0 where
-  pub ops : List Operation
+  pub text : List TextOp
   pub script : List Instruction
   pub image : Image
   pub program : Program
@@ -49,39 +49,37 @@ abbrev pub Spells : Option (List ℕ) → List Operation → Type 0
 Spells None ops = ⊥
 Spells (Some bytes) ops = IsOpsOf bytes ops
 
--- the job is that of the files at entry
+-- the job is that of the files at entry: the ops of OPS, the instructions of SCRIPT and the image of
+-- IMAGE
 pub record IsJob (names : RunNames) (before : Files) (job : Job) : Type 0 where
-  pub ops : Spells (before names.ops.now) job.ops
+  pub ops : List Operation
+  pub are : Spells (before names.ops.now) ops
+  pub text : job.text ≡ map text_op ops
   pub script : read_as script_in (before names.script.now) ≡ Some job.script
   pub image : read_as image_of (before names.image.now) ≡ Some job.image
 
--- the ops, as far as a machine knows them
-abbrev pub text_of : Job → List TextOp
-text_of job = map text_op job.ops
-
 abbrev pub operations : Job → Operations
-operations job = operations_of (text_of job) job.program
+operations job = operations_of job.text job.program
 
 abbrev pub replies_of : Job → List Reply
 replies_of job = replies job.image.geometry (operations job) job.image.table job.script
 
 -- the word machine's state after the script: the objects with their numbers
 abbrev pub state_after : Job → List Held
-state_after job = words_at_end job.image.geometry (operations job) (meaning_in (text_of job))
+state_after job = words_at_end job.image.geometry (operations job) (meaning_in job.text)
     (words_of job.image) job.script
 
 -- PROG is the spelling of a program, which implements the operations
 pub record ProgramWritten (names : RunNames) (job : Job) (after : Files) : Type 0 where
   pub file : after names.prog.now ≡ Some (program_bytes 2 job.program)
   pub legal : IsProgram job.program
-  pub implements : ImplementsAll job.program (text_of job)
+  pub implements : ImplementsAll job.program job.text
 
 -- OUT is the spelling of the word machine's table with the chip's rows, in which each object has
 -- exactly its numbers
-pub record ObjectsRight (names : RunNames) (job : Job) (after : Files) (chip : ChipView) : Type 0
+pub record ObjectsRight (out : List ℕ) (job : Job) (after : Files) (chip : ChipView) : Type 0
   where
-    pub file : after names.out.now ≡ Some (image_bytes job.image.geometry
-        (table_of (state_after job))
+    pub file : after out ≡ Some (image_bytes job.image.geometry (table_of (state_after job))
         (rows_of chip.banks))
     pub numbers : HoldsNumbers job.image.geometry chip.banks (state_after job)
 
@@ -109,7 +107,7 @@ pub record CommandsCounted (job : Job) (chip : ChipView) : Type 0 where
 -- what the word machine says of the script, and the line of the totals
 abbrev pub report_of : Job → ChipView → List ℕ
 report_of job chip =
-    report (said_in_words job.image.geometry (operations job) (meaning_in (text_of job))
+    report (said_in_words job.image.geometry (operations job) (meaning_in job.text)
     (words_of job.image) job.script) chip.counters (replies_of job)
 
 -- The report was sent, behind what was sent before
@@ -119,26 +117,25 @@ ReportSent job chip old new = Told (λ before after. after ≡ before ++ report_
 abbrev pub IsNoBadWalk : Reply → Type 0
 IsNoBadWalk reply = (walk : _) → reply ≢ Refused (why.BadWalk walk)
 
--- The status tells whether a reply is a refusal; no walk was stuck; and all files but PROG and OUT
--- are as at entry
-pub record RepliesExact (names : RunNames) (job : Job) (status : ℕ) (before after : Files) : Type 0
-  where
-    pub answers : status ≡ done_status (count_by is_refused (replies_of job))
-    pub walks : AllByRecursion IsNoBadWalk (replies_of job)
-    pub others : (other : List ℕ) → other ≢ names.prog.now → other ≢ names.out.now
-        → after other ≡ before other
+-- The status tells whether a reply is a refusal, and no walk was stuck
+pub record RepliesExact (job : Job) (status : ℕ) : Type 0 where
+  pub answers : status ≡ done_status (count_by is_refused (replies_of job))
+  pub walks : AllByRecursion IsNoBadWalk (replies_of job)
 
--- The headline: one job, that of the files at entry, and the six promises on it
+-- The headline: one job, that of the files at entry, and the six promises on it. All files but PROG
+-- and OUT are as at entry
 pub record Headline (names : RunNames) (before after : Files) (old new : World) (status : ℕ)
     : Type 0 where
   pub job : Job
   pub of_files : IsJob names before job
   pub program_written : ProgramWritten names job after
-  pub objects_right : ObjectsRight names job after new.chip
+  pub objects_right : ObjectsRight names.out.now job after new.chip
   pub rows_untouched : RowsUntouched job new.chip
   pub commands_counted : CommandsCounted job new.chip
   pub report_sent : ReportSent job new.chip old.sink.sent new.sink.sent
-  pub replies_exact : RepliesExact names job status before after
+  pub replies_exact : RepliesExact job status
+  pub others : (other : List ℕ) → other ≢ names.prog.now → other ≢ names.out.now
+      → after other ≡ before other
 
 -- there is one such job: the files determine it
 abbrev pub OneJob : Type 0

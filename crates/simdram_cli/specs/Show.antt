@@ -7,7 +7,7 @@ use Rattle.op_print.specs.Canonical.{canonical_text}
 use Rattle.cli_model.specs.World.{World}
 use Rattle.cli_model.specs.Steps.{Step, Take, Put, Goes, loading}
 use Rattle.cli_model.specs.Ends.{Ends, done_steps}
-use Rattle.built_forms.specs.Texts.{ops_in}
+use Rattle.simdram_cli.specs.Inputs.{ops_in}
 use Rattle.simdram_cli.specs.declared.words.TheConstants.{OPS_MAX}
 use Rattle.simdram_cli.specs.declared.stop.Stop.{Stop}
 use Rattle.simdram_cli.specs.Reads.{IsText, StopsAtLoad}

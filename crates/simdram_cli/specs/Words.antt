@@ -10,7 +10,7 @@ use Rattle.bit_rows.specs.declared.TheConstants.{WIDTH_MAX}
 use Rattle.dram_model.specs.declared.geometry.Geometry.{Geometry}
 use Rattle.dram_model.specs.Geometry.{is_geometry}
 use Rattle.simdram_cli.specs.declared.words.Command.{Command}
-use Rattle.simdram_cli.specs.declared.words.Command.TheVariants.{Run, Compile, Show, Migrate}
+use Rattle.simdram_cli.specs.declared.words.Command.TheVariants.{Run, Exec, Compile, Show, Migrate}
 use Rattle.simdram_cli.specs.declared.words.Command.TheVariants.{Cost, List as ListOf, Init}
 
 -- no two are equal
@@ -22,6 +22,11 @@ all_differ (name ∷ names) = list_all (λ other. not (bytes_eq name other)) nam
 abbrev pub are_apart : List ℕ → List ℕ → List ℕ → List ℕ → List ℕ → Bool
 are_apart ops prog script image out = all_differ (ops ∷ prog ∷ script ∷ image ∷ [])
     && all_differ (ops ∷ prog ∷ script ∷ out ∷ [])
+
+-- and so are the four files of an execution
+abbrev pub inputs_apart : List ℕ → List ℕ → List ℕ → List ℕ → Bool
+inputs_apart prog script image out =
+    all_differ (prog ∷ script ∷ image ∷ []) && all_differ (prog ∷ script ∷ out ∷ [])
 
 -- the command on two files that are apart
 abbrev pub command_on_two : List ℕ → Bor (List ℕ) → Bor (List ℕ) → Option Command
@@ -61,15 +66,25 @@ command_on_one verb file =
     if bytes_eq verb (codes "show") then Some (Show file)
     else if bytes_eq verb (codes "list") then Some (ListOf file) else None
 
--- the command that the words are: `run OPS PROG SCRIPT IMAGE OUT`, `compile OPS PROG`, `show OPS`,
--- `migrate OLD NEW`, `cost PROG N`, `list PROG` or `init BANKS ROWS WORDS OUT`
+-- the command of four words behind its own
+abbrev pub command_on_four : List ℕ → (first second third fourth : Bor (List ℕ)) → Option Command
+command_on_four verb first second third fourth =
+    if bytes_eq verb (codes "init") then init_on first.now second.now third.now fourth
+    else if bytes_eq verb (codes "exec")
+    && inputs_apart first.now second.now third.now fourth.now
+    then Some (Exec (record { prog = first; script = second; image = third; out = fourth }))
+    else None
+
+-- the command that the words are: `run OPS PROG SCRIPT IMAGE OUT`, `exec PROG SCRIPT IMAGE OUT`,
+-- `compile OPS PROG`, `show OPS`, `migrate OLD NEW`, `cost PROG N`, `list PROG` or
+-- `init BANKS ROWS WORDS OUT`
 abbrev pub command_of : List (Bor (List ℕ)) → Option Command
 command_of (verb ∷ ops ∷ prog ∷ script ∷ image ∷ out ∷ []) =
     if bytes_eq verb.now (codes "run") && are_apart ops.now prog.now script.now image.now out.now
     then Some (Run (record { ops = ops; prog = prog; script = script; image = image; out = out }))
     else None
-command_of (verb ∷ banks ∷ rows ∷ words ∷ out ∷ []) =
-    if bytes_eq verb.now (codes "init") then init_on banks.now rows.now words.now out else None
+command_of (verb ∷ first ∷ second ∷ third ∷ fourth ∷ []) =
+    command_on_four verb.now first second third fourth
 command_of (verb ∷ first ∷ second ∷ []) =
     if bytes_eq verb.now (codes "cost") then cost_on first second.now
     else if bytes_eq first.now second.now then None else command_on_two verb.now first second
@@ -80,6 +95,8 @@ command_of _ = None
 abbrev pub IsApart : Command → Type 0
 IsApart (Run names) = are_apart names.ops.now names.prog.now names.script.now names.image.now
     names.out.now ≡ true
+IsApart (Exec names) = inputs_apart names.prog.now names.script.now names.image.now names.out.now
+    ≡ true
 IsApart (Compile names) = bytes_eq names.ops.now names.prog.now ≡ false
 IsApart (Show name) = Unit {0}
 IsApart (Migrate names) = bytes_eq names.old.now names.new.now ≡ false

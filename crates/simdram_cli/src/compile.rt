@@ -22,7 +22,7 @@ pub(crate) fn compile<'a, F: Folder, S: Sink>(
         (world (F.view files.old) (S.view out.old) chip)
         (world (F.view files.new) (S.view out.new) chip) result }
 {
-    let program = take_program(names.ops, names.prog, files, alloc)?;
+    let (program, _) = take_program(names.ops, names.prog, files, alloc)?;
     if put_counted(b"compiled ", program.entries.len(), out).is_err() {
         return Err(Stop::PutFailed);
     }

@@ -4,7 +4,9 @@
 mod account;
 mod compile;
 mod counted;
+mod exec;
 mod init;
+mod job;
 mod load;
 mod migrate;
 mod perform;
@@ -15,9 +17,9 @@ mod top;
 mod words;
 mod work;
 
-pub use stop::{NotYet, Stop, status_of, tell};
+pub use stop::{Stop, status_of, tell};
 pub use top::{one_job, simdram};
 pub use words::{
-    Command, CompileNames, CostNames, IMAGE_MAX, InitNames, MigrateNames, OPS_MAX, PROG_MAX,
-    RunNames, SCRIPT_MAX, command_of, limits,
+    Command, CompileNames, CostNames, ExecNames, IMAGE_MAX, InitNames, MigrateNames, OPS_MAX,
+    PROG_MAX, RunNames, SCRIPT_MAX, command_of, limits,
 };

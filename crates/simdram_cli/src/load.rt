@@ -5,15 +5,14 @@ ghost use Rattle.std.specs.List.{AllByRecursion};
 ghost use Rattle.bbop_isa.specs.Forms.{view_of};
 ghost use Rattle.op_text.specs.Language.{operations};
 ghost use Rattle.op_text.specs.Spelling.{MeetRules};
-ghost use Rattle.built_forms.specs.Answers.{IsBuilt};
-ghost use Rattle.built_forms.specs.Texts.{ops_in, script_in};
+ghost use Rattle.machine_model.specs.Agrees.{IsPlain};
+ghost use Rattle.simdram_cli.specs.Inputs.{ops_in, script_in};
 ghost use Rattle.simdram_cli.specs.Reads.{LoadedAs, NotLoaded, NotRead, OpsRead, ReadAs};
 ghost use Rattle.simdram_cli.specs.Stops.{reason_of};
 
-use crate::stop::{NotYet, Stop};
+use crate::stop::Stop;
 use crate::words::{OPS_MAX, SCRIPT_MAX};
-use bbop_isa::Instr;
-use built_forms::{FormNo, read_script};
+use bbop_isa::{Instr, ScriptNo, parse_script};
 use host_edge::{Folder, LoadNo};
 use op_lang::parse_ops;
 use op_text::{Ops, OpsNo};
@@ -68,15 +67,15 @@ pub(crate) fn load_script<'a, F: Folder>(
 ) -> Result<Vec<Instr>, Stop<'a>>
     ensures read { IfOk result (λ script. ReadAs script_in name.now SCRIPT_MAX
         (map view_of script.items) (F.view files.old) (F.view files.new)) }
-    ensures built { IfOk result (λ script. AllByRecursion IsBuilt (map view_of script.items)) }
+    ensures plain { IfOk result (λ script. AllByRecursion IsPlain (map view_of script.items)) }
     ensures few { IfOk result (λ script. length script.items ≤ SCRIPT_MAX + 1) }
     ensures not_read { IfErr result (λ stop. NotRead script_in name.now SCRIPT_MAX (reason_of stop)
         (F.view files.old) (F.view files.new)) }
 {
     let text = load(name, SCRIPT_MAX, files, alloc)?;
-    match read_script(&text, alloc) {
+    match parse_script(&text, alloc) {
         Ok(script) => Ok(script),
-        Err(FormNo::NotYet(line)) => Err(Stop::Refused(NotYet::Script(line))),
-        Err(FormNo::NoMemory) => Err(Stop::NoMemory),
+        Err(ScriptNo::Fault(fault)) => Err(Stop::BadScript(fault)),
+        Err(ScriptNo::NoMemory) => Err(Stop::NoMemory),
     }
 }

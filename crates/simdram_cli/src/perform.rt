@@ -1,11 +1,10 @@
 //! A script is done on an image, on a chip.
 
-ghost use Rattle.std.specs.Prelude.{◌≡◌, ◌+◌, ◌*◌, ◌<◌, ◌≤◌, ◌^◌, ◌∷◌, [], length, map, true};
+ghost use Rattle.std.specs.Prelude.{◌≡◌, ◌+◌, ◌*◌, ◌<◌, ◌≤◌, ◌^◌, ◌∷◌, [], length, map};
 ghost use Rattle.std.specs.Prelude.{IfOk, OnOk};
 ghost use Rattle.std.specs.List.{AllByRecursion};
 ghost use Rattle.host_edge.specs.Views.{FolderView, SinkView};
 ghost use Rattle.dram_model.specs.View.{HasBegun, DidRead, with_reads};
-ghost use Rattle.uprog_code.specs.Shape.{microprograms_of};
 ghost use Rattle.object_alloc.specs.Exact.{found_in};
 ghost use Rattle.object_alloc.specs.Reading.{rows_size};
 ghost use Rattle.object_alloc.specs.Spelling.{image_bytes};
@@ -13,13 +12,14 @@ ghost use Rattle.bbop_isa.specs.Forms.{view_of};
 ghost use Rattle.machine_model.specs.Agrees.{IsPlain};
 ghost use Rattle.machine_model.specs.Opened.{rows_of};
 ghost use Rattle.machine_model.specs.Report.{total_line};
-ghost use Rattle.machine_model.specs.Script.{is_bbop};
 ghost use Rattle.cli_model.specs.World.{world};
 ghost use Rattle.cli_model.specs.Steps.{Goes, Open, Use, Store, Put};
-ghost use Rattle.sim_machine.specs.Granted.{IsSetting};
-ghost use Rattle.sim_machine.specs.Machine.{IsReady, geometry_of, program_of, table_in};
-ghost use Rattle.built_forms.specs.Texts.{image_found};
-ghost use Rattle.simdram_cli.specs.Run.{work_steps};
+ghost use Rattle.object_steps.specs.Objects.{LiesOn};
+ghost use Rattle.sim_machine.specs.Machine.{IsReady, geometry_of, program_of};
+ghost use Rattle.sim_machine.specs.Machine.{table_in, turn_in};
+ghost use Rattle.wave_model.specs.Schedule.{Ahead};
+ghost use Rattle.simdram_cli.specs.Inputs.{image_found};
+ghost use Rattle.simdram_cli.specs.Job.{work_steps};
 ghost use Rattle.simdram_cli.specs.Stops.{end_of};
 ghost use Rattle.simdram_cli.specs.Works.{OpenedOn, WorkDone};
 
@@ -31,27 +31,28 @@ use host_edge::{Folder, Sink};
 use object_alloc::Image;
 use sim_machine::{Machine, StartNo};
 use std::alloc::Global;
-use uprog_code::Program;
+use uprog_bin::ProgView;
 
 /// Opens the machine on an image.
-fn open<'a, D: Dram>(
-    program: Program,
+fn open<'a, 'p, D: Dram>(
+    prog: ProgView<'p>,
     image: Image<'_>,
     chip: &mut D,
     alloc: Global,
-) -> Result<Machine, Stop<'a>>
-    requires set { IsSetting image.geometry image.table (microprograms_of program) }
+) -> Result<Machine<'p>, Stop<'a>>
+    requires lies { LiesOn image.geometry image.table }
     requires rows { length image.rows.now ≡ rows_size image.geometry }
     ensures borrow { D.borrow chip.new ≡ D.borrow chip.old }
     ensures opened { OnOk result (OpenedOn (image_found (found_in image.entry)) (D.view chip.new)) }
     ensures ready { IfOk result IsReady }
-    ensures program { IfOk result (λ machine. program_of machine ≡ microprograms_of program) }
+    ensures program { IfOk result (λ machine. program_of machine ≡ prog.entry.programs) }
+    ensures turn { IfOk result (λ machine. turn_in machine ≡ Ahead) }
     ensures shape { IfOk result (λ machine. geometry_of machine ≡ image.entry.geometry) }
     ensures table { IfOk result (λ machine. table_in machine ≡ image.entry.table.pairs) }
     ensures goes { (files : FolderView) (sink : SinkView) → Goes (Open ∷ []) (end_of result)
         (world files sink (D.view chip.old)) (world files sink (D.view chip.new)) }
 {
-    match Machine::open(program, image, chip, alloc) {
+    match Machine::open(prog, image, chip, alloc) {
         Ok(machine) => Ok(machine),
         Err(StartNo::ChipFault) => Err(Stop::ChipFailed),
         Err(StartNo::NoMemory) => Err(Stop::NoMemory),
@@ -60,7 +61,7 @@ fn open<'a, D: Dram>(
 
 /// Stores the image of the chip, and puts the line of the totals.
 fn finish<'a, F: Folder, S: Sink, D: Dram>(
-    machine: &mut Machine,
+    machine: &mut Machine<'_>,
     refused: u64,
     name: &'a str,
     files: &mut F,
@@ -96,7 +97,7 @@ fn finish<'a, F: Folder, S: Sink, D: Dram>(
 /// Does a script on an image with the operations of a program; answers how many instructions were
 /// refused.
 pub(crate) fn perform<'a, F: Folder, S: Sink, D: Dram>(
-    program: Program,
+    prog: ProgView<'_>,
     script: &[Instr],
     image: Image<'_>,
     name: &'a str,
@@ -105,22 +106,19 @@ pub(crate) fn perform<'a, F: Folder, S: Sink, D: Dram>(
     chip: &mut D,
     alloc: Global,
 ) -> Result<u64, Stop<'a>>
-    requires set { IsSetting image.geometry image.table (microprograms_of program) }
+    requires lies { LiesOn image.geometry image.table }
     requires rows { length image.rows.now ≡ rows_size image.geometry }
-    // several banks wait for waves
-    requires one_bank { image.geometry.banks ≡ 1 }
-    requires bbops { AllByRecursion (λ i. is_bbop i ≡ true) (map view_of script.now) }
     requires plain { AllByRecursion IsPlain (map view_of script.now) }
     requires few { length script.now ≤ 2 ^ 25 }
     ensures borrow { D.borrow chip.new ≡ D.borrow chip.old }
-    ensures goes { Goes (work_steps name.now (microprograms_of program) (map view_of script.now)
+    ensures goes { Goes (work_steps name.now prog.entry.programs (map view_of script.now)
         (image_found (found_in image.entry))) (end_of result)
         (world (F.view files.old) (S.view out.old) (D.view chip.old))
         (world (F.view files.new) (S.view out.new) (D.view chip.new)) }
-    ensures done { IfOk result (WorkDone (microprograms_of program) (map view_of script.now)
+    ensures done { IfOk result (WorkDone prog.entry.programs (map view_of script.now)
         (image_found (found_in image.entry)) (D.view chip.new)) }
 {
-    let mut machine = open(program, image, chip, alloc)?;
+    let mut machine = open(prog, image, chip, alloc)?;
     let refused = work(&mut machine, script, chip, out)?;
     finish(&mut machine, refused, name, files, out, chip)?;
     Ok(refused)

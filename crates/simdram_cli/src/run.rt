@@ -1,36 +1,30 @@
 //! The command `run`.
 
-ghost use Rattle.std.specs.Prelude.{◌≡◌, ◌+◌, ◌*◌, ◌<◌, ◌≤◌, ◌^◌, ◌∷◌, [], length, map, true, IfOk};
-ghost use Rattle.std.specs.Prelude.{IfErr, OnOk};
-ghost use Rattle.std.specs.List.{AllByRecursion};
-ghost use Rattle.host_edge.specs.Views.{FolderView, SinkView, NoCountFalls};
-ghost use Rattle.uprog_code.specs.Shape.{microprograms_of};
-ghost use Rattle.uprog_bin.specs.Spelling.{program_bytes};
-ghost use Rattle.bbop_isa.specs.Forms.{view_of};
-ghost use Rattle.cli_model.specs.World.{world};
-ghost use Rattle.cli_model.specs.Steps.{Done};
-ghost use Rattle.op_text.specs.Language.{operations};
-ghost use Rattle.op_text.specs.Spelling.{MeetRules};
+ghost use Rattle.std.specs.Prelude.{◌≡◌, List, map, true, IfOk, IfErr};
+ghost use Rattle.uprog_code.specs.Shape.{Microprogram, microprograms_of};
 ghost use Rattle.uprog_code.specs.Programs.{IsProgram};
 ghost use Rattle.uprog_code.specs.Texts.{ImplementsAll, text_op};
-ghost use Rattle.built_forms.specs.Answers.{IsBuilt};
-ghost use Rattle.simdram_cli.specs.Ends.{GoesToStore, ImageWorked, ProgramStopped, ProgramTaken};
-ghost use Rattle.simdram_cli.specs.Ends.{RunGoes, StopsAtStore};
-ghost use Rattle.simdram_cli.specs.Stops.{end_of, image_reason, reason_of};
+ghost use Rattle.uprog_bin.specs.Opened.{IsProgramFile};
+ghost use Rattle.uprog_bin.specs.Spelling.{program_bytes};
+ghost use Rattle.op_text.specs.Language.{operations};
+ghost use Rattle.op_text.specs.Spelling.{MeetRules};
+ghost use Rattle.cli_model.specs.World.{world};
+ghost use Rattle.cli_model.specs.Steps.{Done};
+ghost use Rattle.simdram_cli.specs.Ends.{GoesToStore, ProgramStopped, ProgramTaken, RunGoes};
+ghost use Rattle.simdram_cli.specs.Ends.{StopsAtStore};
+ghost use Rattle.simdram_cli.specs.Stops.{reason_of};
 ghost use Rattle.simdram_cli.specs.Words.{are_apart};
 
-use crate::load::{load, load_ops, load_script};
-use crate::perform::perform;
-use crate::stop::{NotYet, Stop};
-use crate::words::{IMAGE_MAX, RunNames, SCRIPT_MAX};
-use bbop_isa::Instr;
+use crate::job::{JobNames, do_job};
+use crate::load::load_ops;
+use crate::stop::Stop;
+use crate::words::RunNames;
 use bit_rows::NoMemory;
-use built_forms::{FormNo, read_built_image};
 use dram_model::Dram;
 use host_edge::{Folder, Sink};
 use op_text::Ops;
 use std::alloc::Global;
-use uprog_bin::encode;
+use uprog_bin::{ProgView, encode};
 use uprog_code::Program;
 use uprog_gen::compile_ops;
 
@@ -50,18 +44,19 @@ fn compile(ops: &Ops, alloc: Global) -> Result<(Program, Vec<u8>), NoMemory>
     Ok((program, file))
 }
 
-/// Compiles ops, and stores PROG.
+/// Compiles ops, and stores PROG; answers the program, and the bytes that were stored.
 fn write_program<'a, F: Folder>(
     ops: &Ops,
     name: &'a str,
     files: &mut F,
     alloc: Global,
-) -> Result<Program, Stop<'a>>
+) -> Result<(Program, Vec<u8>), Stop<'a>>
     requires meets { MeetRules (operations ops.now) }
-    ensures implements { IfOk result (λ p. ImplementsAll (microprograms_of p)
+    ensures implements { IfOk result (λ made. ImplementsAll (microprograms_of made.0)
         (map text_op (operations ops.now))) }
-    ensures program { IfOk result (λ p. IsProgram (microprograms_of p)) }
-    ensures goes { IfOk result (λ p. GoesToStore name.now (microprograms_of p) Done
+    ensures program { IfOk result (λ made. IsProgram (microprograms_of made.0)) }
+    ensures file { IfOk result (λ made. made.1.items ≡ program_bytes 2 (microprograms_of made.0)) }
+    ensures goes { IfOk result (λ made. GoesToStore name.now (microprograms_of made.0) Done
         (F.view files.old) (F.view files.new)) }
     ensures stops { IfErr result (λ stop. StopsAtStore name.now (reason_of stop) (F.view files.old)
         (F.view files.new)) }
@@ -72,18 +67,19 @@ fn write_program<'a, F: Folder>(
     if files.store(name, &file).is_err() {
         return Err(Stop::CannotWrite(name));
     }
-    Ok(program)
+    Ok((program, file))
 }
 
-/// Loads OPS, and stores PROG.
+/// Loads OPS, and stores PROG; answers the program, and the bytes that were stored.
 pub(crate) fn take_program<'a, F: Folder>(
     ops: &'a str,
     prog: &'a str,
     files: &mut F,
     alloc: Global,
-) -> Result<Program, Stop<'a>>
-    ensures program { IfOk result (λ p. IsProgram (microprograms_of p)) }
-    ensures taken { IfOk result (λ p. ProgramTaken ops.now prog.now (microprograms_of p)
+) -> Result<(Program, Vec<u8>), Stop<'a>>
+    ensures program { IfOk result (λ made. IsProgram (microprograms_of made.0)) }
+    ensures file { IfOk result (λ made. made.1.items ≡ program_bytes 2 (microprograms_of made.0)) }
+    ensures taken { IfOk result (λ made. ProgramTaken ops.now prog.now (microprograms_of made.0)
         (F.view files.old) (F.view files.new)) }
     ensures stopped { IfErr result (λ stop. ProgramStopped ops.now prog.now (reason_of stop)
         (F.view files.old) (F.view files.new)) }
@@ -92,43 +88,21 @@ pub(crate) fn take_program<'a, F: Folder>(
     write_program(&ops, prog, files, alloc)
 }
 
-/// Why a run stops at an image that is not taken.
-fn image_stop<'a>(no: FormNo) -> Stop<'a>
-    ensures { reason_of result ≡ image_reason no }
+/// The program that a file holds, which was spelled from it.
+fn open_own(file: &[u8]) -> ProgView<'_>
+    requires { IsProgramFile file.now }
+    ensures program { IsProgram result.programs }
+    ensures spelled { (programs : List Microprogram) → IsProgram programs
+        → file.now ≡ program_bytes 2 programs → result.programs ≡ programs }
 {
-    match no {
-        FormNo::NotYet(at) => Stop::Refused(NotYet::Image(at)),
-        FormNo::NoMemory => Stop::NoMemory,
+    match ProgView::open(file) {
+        Ok(prog) => prog,
+        Err(_) => unreachable!(),
     }
 }
 
-/// Loads IMAGE, and does the script on it.
-fn work_on_image<'a, F: Folder, S: Sink, D: Dram>(
-    program: Program,
-    script: &[Instr],
-    names: &RunNames<'a>,
-    files: &mut F,
-    out: &mut S,
-    chip: &mut D,
-    alloc: Global,
-) -> Result<u64, Stop<'a>>
-    requires program { IsProgram (microprograms_of program) }
-    requires built { AllByRecursion IsBuilt (map view_of script.now) }
-    requires few { length script.now ≤ SCRIPT_MAX + 1 }
-    ensures borrow { D.borrow chip.new ≡ D.borrow chip.old }
-    ensures worked { ImageWorked names.now (microprograms_of program) (map view_of script.now)
-        (world (F.view files.old) (S.view out.old) (D.view chip.old))
-        (world (F.view files.new) (S.view out.new) (D.view chip.new)) result }
-{
-    let bytes = load(names.image, IMAGE_MAX, files, alloc)?;
-    let image = match read_built_image(&bytes, alloc) {
-        Ok(image) => image,
-        Err(no) => return Err(image_stop(no)),
-    };
-    perform(program, script, image, names.out, files, out, chip, alloc)
-}
-
-/// Compiles OPS, stores PROG, and does SCRIPT on IMAGE; answers how many instructions were refused.
+/// Compiles OPS, stores PROG, and does SCRIPT on IMAGE with the program that those bytes hold;
+/// answers how many instructions were refused.
 pub(crate) fn run<'a, F: Folder, S: Sink, D: Dram>(
     names: &RunNames<'a>,
     files: &mut F,
@@ -142,7 +116,11 @@ pub(crate) fn run<'a, F: Folder, S: Sink, D: Dram>(
     ensures goes { RunGoes names.now (world (F.view files.old) (S.view out.old) (D.view chip.old))
         (world (F.view files.new) (S.view out.new) (D.view chip.new)) result }
 {
-    let program = take_program(names.ops, names.prog, files, alloc)?;
-    let script = load_script(names.script, files, alloc)?;
-    work_on_image(program, &script, names, files, out, chip, alloc)
+    let (_, file) = take_program(names.ops, names.prog, files, alloc)?;
+    let job = JobNames {
+        script: names.script,
+        image: names.image,
+        out: names.out,
+    };
+    do_job(open_own(&file), &job, files, out, chip, alloc)
 }

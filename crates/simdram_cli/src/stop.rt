@@ -4,21 +4,17 @@ ghost use Rattle.std.specs.Prelude.{OnOk, OnErr, ◌≡◌, ◌≤◌, ◌++◌,
 ghost use Rattle.host_edge.specs.Views.{Told, AppendsPart};
 ghost use Rattle.fault_counts.specs.Counts.{Rose};
 ghost use Rattle.cli_model.specs.Status.{reason_status, reason_line};
-ghost use Rattle.built_forms.specs.Texts.{kind_word, ops_refusal};
+ghost use Rattle.simdram_cli.specs.Inputs.{kind_word, ops_refusal, script_word, script_refusal};
+ghost use Rattle.simdram_cli.specs.Inputs.{image_word, image_refusal};
 ghost use Rattle.simdram_cli.specs.Programs.{prog_refusal, prog_word};
-ghost use Rattle.simdram_cli.specs.Stops.{reason_of, refusal_by};
+ghost use Rattle.simdram_cli.specs.Stops.{reason_of};
 
+use bbop_isa::{ScriptFault, ScriptKind};
 use host_edge::{Failed, Sink};
 use itoa::Buffer;
+use object_alloc::{ImageFault, ImageKind};
 use op_text::{OpsFault, OpsKind};
 use uprog_bin::{ProgFault, ProgKind};
-
-/// A form that is not built yet, by its line or byte.
-#[derive(Clone, Copy, Debug, PartialEq, Eq)]
-pub enum NotYet {
-    Script(u32),
-    Image(u32),
-}
 
 /// Why a command stopped.
 #[derive(Clone, Copy, Debug)]
@@ -27,7 +23,8 @@ pub enum Stop<'a> {
     TooLong(&'a str),
     BadOps(OpsFault),
     BadProg(ProgFault),
-    Refused(NotYet),
+    BadScript(ScriptFault),
+    BadImage(ImageFault),
     NoMemory,
     CannotWrite(&'a str),
     PutFailed,
@@ -43,8 +40,8 @@ pub fn status_of(stop: Stop<'_>) -> u8
         Stop::CannotWrite(_) | Stop::PutFailed => 3,
         Stop::BadOps(_) => 4,
         Stop::BadProg(_) => 5,
-        Stop::Refused(NotYet::Script(_)) => 6,
-        Stop::Refused(NotYet::Image(_)) => 7,
+        Stop::BadScript(_) => 6,
+        Stop::BadImage(_) => 7,
         Stop::ChipFailed => 9,
         Stop::NoMemory => 10,
         Stop::TooLong(_) => 11,
@@ -69,35 +66,6 @@ pub(crate) fn put_three<S: Sink>(
     out.put(first)?;
     out.put(second)?;
     out.put(third)
-}
-
-/// Puts the line of a form that is not built.
-fn tell_not_yet<S: Sink>(what: &[u8], at: u32, out: &mut S) -> Result<(), Failed>
-    ensures counts { (S.view out.old).faults ≤ (S.view out.new).faults }
-    ensures sent { OnOk result (Told (λ before after. after
-        ≡ before ++ (what.now ++ decimal at ++ codes " not_yet\n")) (S.view out.old).sent
-        (S.view out.new).sent) }
-    ensures part { Told (AppendsPart (what.now ++ decimal at ++ codes " not_yet\n"))
-        (S.view out.old).sent (S.view out.new).sent }
-    ensures failed { OnErr result (Rose (S.view out.old).faults (S.view out.new).faults) }
-{
-    let mut buffer = Buffer::new();
-    put_three(what, buffer.format(at).as_bytes(), b" not_yet\n", out)
-}
-
-/// Puts the line of a form that is not built, in its file's words.
-fn tell_form<S: Sink>(form: NotYet, out: &mut S) -> Result<(), Failed>
-    ensures counts { (S.view out.old).faults ≤ (S.view out.new).faults }
-    ensures sent { OnOk result (Told (λ before after. after ≡ before ++ ((refusal_by form).line))
-        (S.view out.old).sent (S.view out.new).sent) }
-    ensures part { Told (AppendsPart (refusal_by form).line) (S.view out.old).sent
-        (S.view out.new).sent }
-    ensures failed { OnErr result (Rose (S.view out.old).faults (S.view out.new).faults) }
-{
-    match form {
-        NotYet::Script(at) => tell_not_yet(b"script line ", at, out),
-        NotYet::Image(at) => tell_not_yet(b"image byte ", at, out),
-    }
 }
 
 /// The end of the line of a text of operations that breaks this rule.
@@ -169,6 +137,69 @@ fn tell_prog<S: Sink>(fault: ProgFault, out: &mut S) -> Result<(), Failed>
     )
 }
 
+/// The end of the line of a script that breaks this rule.
+fn script_end(kind: ScriptKind) -> &'static [u8]
+    ensures { result.now ≡ codes " " ++ script_word kind ++ codes "\n" }
+{
+    match kind {
+        ScriptKind::Lex => b" lex\n",
+        ScriptKind::Syntax => b" syntax\n",
+        ScriptKind::BadName => b" bad_name\n",
+        ScriptKind::BadNumber => b" bad_number\n",
+    }
+}
+
+/// Puts the line of a script that breaks a rule.
+fn tell_script<S: Sink>(fault: ScriptFault, out: &mut S) -> Result<(), Failed>
+    ensures counts { (S.view out.old).faults ≤ (S.view out.new).faults }
+    ensures sent { OnOk result (Told (λ before after. after
+        ≡ before ++ ((script_refusal fault).line)) (S.view out.old).sent (S.view out.new).sent) }
+    ensures part { Told (AppendsPart (script_refusal fault).line) (S.view out.old).sent
+        (S.view out.new).sent }
+    ensures failed { OnErr result (Rose (S.view out.old).faults (S.view out.new).faults) }
+{
+    let mut buffer = Buffer::new();
+    put_three(
+        b"script line ",
+        buffer.format(fault.line).as_bytes(),
+        script_end(fault.kind),
+        out,
+    )
+}
+
+/// The end of the line of an image file that breaks this rule.
+fn image_end(kind: ImageKind) -> &'static [u8]
+    ensures { result.now ≡ codes " " ++ image_word kind ++ codes "\n" }
+{
+    match kind {
+        ImageKind::Short => b" short\n",
+        ImageKind::Magic => b" magic\n",
+        ImageKind::Version => b" version\n",
+        ImageKind::Geometry => b" geometry\n",
+        ImageKind::Object => b" object\n",
+        ImageKind::Overlap => b" overlap\n",
+        ImageKind::Rest => b" rest\n",
+    }
+}
+
+/// Puts the line of an image file that breaks a rule.
+fn tell_image<S: Sink>(fault: ImageFault, out: &mut S) -> Result<(), Failed>
+    ensures counts { (S.view out.old).faults ≤ (S.view out.new).faults }
+    ensures sent { OnOk result (Told (λ before after. after
+        ≡ before ++ ((image_refusal fault).line)) (S.view out.old).sent (S.view out.new).sent) }
+    ensures part { Told (AppendsPart (image_refusal fault).line) (S.view out.old).sent
+        (S.view out.new).sent }
+    ensures failed { OnErr result (Rose (S.view out.old).faults (S.view out.new).faults) }
+{
+    let mut buffer = Buffer::new();
+    put_three(
+        b"image byte ",
+        buffer.format(fault.at).as_bytes(),
+        image_end(fault.kind),
+        out,
+    )
+}
+
 /// Puts the last line. A sink that failed is told nothing.
 pub fn tell<S: Sink>(stop: Stop<'_>, out: &mut S) -> Result<(), Failed>
     ensures counts { (S.view out.old).faults ≤ (S.view out.new).faults }
@@ -185,7 +216,8 @@ pub fn tell<S: Sink>(stop: Stop<'_>, out: &mut S) -> Result<(), Failed>
         Stop::CannotWrite(name) => put_three(b"cannot write ", name.as_bytes(), b"\n", out),
         Stop::BadOps(fault) => tell_ops(fault, out),
         Stop::BadProg(fault) => tell_prog(fault, out),
-        Stop::Refused(form) => tell_form(form, out),
+        Stop::BadScript(fault) => tell_script(fault, out),
+        Stop::BadImage(fault) => tell_image(fault, out),
         Stop::NoMemory => put_three(b"no memory\n", b"", b"", out),
         Stop::ChipFailed => put_three(b"chip fault\n", b"", b"", out),
         Stop::PutFailed => put_three(b"", b"", b"", out),

@@ -11,6 +11,7 @@ ghost use Rattle.simdram_cli.specs.Accounts.{AccountEnds, IsAsked};
 ghost use Rattle.simdram_cli.specs.Commands.{CanAnswer, CommandEnds, OnCommand, Promises};
 ghost use Rattle.simdram_cli.specs.Compile.{CompileEnds};
 ghost use Rattle.simdram_cli.specs.Ends.{RunEnds, answer_to};
+ghost use Rattle.simdram_cli.specs.Exec.{ExecEnds};
 ghost use Rattle.simdram_cli.specs.Headline.{OneJob};
 ghost use Rattle.simdram_cli.specs.Init.{init_steps};
 ghost use Rattle.simdram_cli.specs.Migrate.{MigrateEnds};
@@ -20,12 +21,15 @@ ghost use Rattle.simdram_cli.specs.Words.{HasNumbers, IsApart, are_apart, comman
 
 use crate::account::{Account, give_account};
 use crate::compile::compile;
+use crate::exec::exec;
 use crate::init::init;
 use crate::migrate::migrate;
 use crate::run::run;
 use crate::show::show;
 use crate::stop::{Stop, status_of, tell};
-use crate::words::{Command, CompileNames, InitNames, MigrateNames, RunNames, command_of};
+use crate::words::{
+    Command, CompileNames, ExecNames, InitNames, MigrateNames, RunNames, command_of,
+};
 use dram_model::Dram;
 use host_edge::{Folder, Sink};
 use std::alloc::Global;
@@ -63,6 +67,23 @@ fn run_and_answer<F: Folder, S: Sink, D: Dram>(
         (world (F.view files.new) (S.view out.new) (D.view chip.new)) result }
 {
     let ended = run(names, files, out, chip, alloc);
+    answer(ended, out)
+}
+
+/// Executes, and tells why it stopped if it did.
+fn exec_and_answer<F: Folder, S: Sink, D: Dram>(
+    names: &ExecNames<'_>,
+    files: &mut F,
+    out: &mut S,
+    chip: &mut D,
+    alloc: Global,
+) -> u8
+    ensures borrow { D.borrow chip.new ≡ D.borrow chip.old }
+    ensures ends { ExecEnds names.now
+        (world (F.view files.old) (S.view out.old) (D.view chip.old))
+        (world (F.view files.new) (S.view out.new) (D.view chip.new)) result }
+{
+    let ended = exec(names, files, out, chip, alloc);
     answer(ended, out)
 }
 
@@ -156,6 +177,7 @@ fn dispatch<F: Folder, S: Sink, D: Dram>(
 {
     match command {
         Command::Run(names) => run_and_answer(names, files, out, chip, alloc),
+        Command::Exec(names) => exec_and_answer(names, files, out, chip, alloc),
         Command::Compile(names) => compile_and_answer(names, files, out, alloc),
         Command::Show(name) => show_and_answer(*name, files, out, alloc),
         Command::Migrate(names) => migrate_and_answer(names, files, out, alloc),
@@ -169,8 +191,8 @@ fn dispatch<F: Folder, S: Sink, D: Dram>(
 
 /// Does the command that the words are, without the program's name: `run OPS PROG SCRIPT IMAGE OUT`
 /// compiles the operations of OPS, stores PROG, does SCRIPT on IMAGE with the program that PROG
-/// spells, puts the report and stores OUT; `compile OPS PROG` stores PROG and puts how many entries
-/// it has; `show OPS` puts the canonical text of the operations of OPS; `migrate OLD NEW` stores
+/// spells, puts the report and stores OUT; `exec PROG SCRIPT IMAGE OUT` does the same with the
+/// program of a file; `compile OPS PROG` stores PROG and puts how many entries it has; `show OPS` puts the canonical text of the operations of OPS; `migrate OLD NEW` stores
 /// the version 2 file of OLD's program as NEW; `cost PROG N` puts what each entry of PROG's program
 /// costs at width N, and `list PROG` its listing; `init BANKS ROWS WORDS OUT` stores the image of
 /// such a chip without objects, whose rows are zeros. The answer is the exit status.
@@ -194,7 +216,8 @@ pub fn simdram<F: Folder, S: Sink, D: Dram>(
     ensures ends { OnCommand words.now (λ command. CommandEnds command
         (world (F.view files.old) (S.view out.old) (D.view chip.old))
         (world (F.view files.new) (S.view out.new) (D.view chip.new)) result) }
-    // What it promises: of a run that ends with 0 or 8, one job with six promises.
+    // What it promises: of a run that ends with 0 or 8, one job with six promises; of an execution
+    // that does, the same row by row, and by every text that its program does.
     ensures headline { OnCommand words.now (λ command. Promises command
         (world (F.view files.old) (S.view out.old) (D.view chip.old))
         (world (F.view files.new) (S.view out.new) (D.view chip.new)) result) }

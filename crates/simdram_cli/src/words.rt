@@ -4,7 +4,8 @@ ghost use Rattle.std.specs.Prelude.{◌≡◌, ◌<◌, ◌^◌, [], ◌∷◌, 
 ghost use Rattle.std.specs.Char.{is_ascii_digit};
 ghost use Rattle.std.specs.List.{list_all};
 ghost use Rattle.std.specs.Option.{SomeIff};
-ghost use Rattle.simdram_cli.specs.Words.{all_differ, are_apart, command_of, command_on_one};
+ghost use Rattle.simdram_cli.specs.Words.{all_differ, are_apart, command_of, command_on_four};
+ghost use Rattle.simdram_cli.specs.Words.{command_on_one, inputs_apart};
 ghost use Rattle.simdram_cli.specs.Words.{command_on_two, cost_on, init_on, is_number, value_of};
 
 use bit_rows::WIDTH_MAX;
@@ -36,6 +37,15 @@ pub fn limits()
 #[derive(Clone, Copy)]
 pub struct RunNames<'a> {
     pub ops: &'a str,
+    pub prog: &'a str,
+    pub script: &'a str,
+    pub image: &'a str,
+    pub out: &'a str,
+}
+
+/// The files of `exec`.
+#[derive(Clone, Copy)]
+pub struct ExecNames<'a> {
     pub prog: &'a str,
     pub script: &'a str,
     pub image: &'a str,
@@ -74,6 +84,7 @@ pub struct InitNames<'a> {
 #[derive(Clone, Copy)]
 pub enum Command<'a> {
     Run(RunNames<'a>),
+    Exec(ExecNames<'a>),
     Compile(CompileNames<'a>),
     Show(&'a str),
     Migrate(MigrateNames<'a>),
@@ -94,6 +105,20 @@ fn are_apart(ops: &str, prog: &str, script: &str, image: &str, out: &str) -> boo
     ensures { result ≡ are_apart ops.now prog.now script.now image.now out.now }
 {
     all_differ(ops, prog, script, image) && all_differ(ops, prog, script, out)
+}
+
+/// Whether no two of three names are equal.
+fn three_differ(a: &str, b: &str, c: &str) -> bool
+    ensures { result ≡ all_differ (a.now ∷ b.now ∷ c.now ∷ []) }
+{
+    (a != b && a != c) && b != c
+}
+
+/// Whether the four files of an execution are apart, but for IMAGE and OUT.
+fn inputs_apart(prog: &str, script: &str, image: &str, out: &str) -> bool
+    ensures { result ≡ inputs_apart prog.now script.now image.now out.now }
+{
+    three_differ(prog, script, image) && three_differ(prog, script, out)
 }
 
 fn are_digits(bytes: &[u8]) -> bool
@@ -160,6 +185,30 @@ fn init_on<'a>(banks: &str, rows: &str, words: &str, out: &'a str) -> Option<Com
     }
 }
 
+/// The command of four words behind its own.
+fn command_on_four<'a>(
+    verb: &str,
+    first: &'a str,
+    second: &'a str,
+    third: &'a str,
+    fourth: &'a str,
+) -> Option<Command<'a>>
+    ensures { result ≡ command_on_four verb.now first.entry second.entry third.entry fourth.entry }
+{
+    if verb == "init" {
+        init_on(first, second, third, fourth)
+    } else if verb == "exec" && inputs_apart(first, second, third, fourth) {
+        Some(Command::Exec(ExecNames {
+            prog: first,
+            script: second,
+            image: third,
+            out: fourth,
+        }))
+    } else {
+        None
+    }
+}
+
 /// The command on one file.
 fn command_on_one<'a>(verb: &str, file: &'a str) -> Option<Command<'a>>
     ensures { result ≡ command_on_one verb.now file.entry }
@@ -210,12 +259,8 @@ pub fn command_of<'a>(words: &[&'a str]) -> Option<Command<'a>>
                 None
             }
         }
-        [verb, banks, rows, words, out] => {
-            if *verb == "init" {
-                init_on(*banks, *rows, *words, *out)
-            } else {
-                None
-            }
+        [verb, first, second, third, fourth] => {
+            command_on_four(*verb, *first, *second, *third, *fourth)
         }
         [verb, first, second] => {
             if *verb == "cost" {

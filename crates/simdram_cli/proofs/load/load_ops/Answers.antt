@@ -1,5 +1,5 @@
 use Rattle.std.proofs.lemmas.Result.{err_from_is_err_and}
-use Rattle.built_forms.specs.Texts.{ops_in}
+use Rattle.simdram_cli.specs.Inputs.{ops_in}
 use Rattle.simdram_cli.specs.declared.words.TheConstants.{OPS_MAX}
 use Rattle.simdram_cli.proofs.Reading.{not_read, text_refused, text_unread, ops_refused, ops_parsed}
 use Rattle.simdram_cli.proofs.load.load_ops.Goals as goal

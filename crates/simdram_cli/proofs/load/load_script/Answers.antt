@@ -1,7 +1,13 @@
+use Rattle.std.proofs.Common.{arith, map}
+use Rattle.std.proofs.lemmas.List.{length-map}
 use Rattle.std.proofs.lemmas.Result.{err_from_is_err_and}
-use Rattle.built_forms.specs.Texts.{script_in}
+use Rattle.bbop_isa.specs.Forms.{view_of}
+use Rattle.simdram_cli.specs.Inputs.{script_in}
 use Rattle.simdram_cli.specs.declared.words.TheConstants.{SCRIPT_MAX}
 use Rattle.simdram_cli.proofs.Reading.{not_read, text_refused, text_unread, script_refused}
+use Rattle.simdram_cli.proofs.Reading.{script_accepted}
+use Rattle.machine_model.proofs.Accepted.{accepted_is_plain}
+use Rattle.simdram_cli.proofs.Scripts.{accepted_few}
 use Rattle.simdram_cli.proofs.load.load_script.Goals as goal
 
 pub returns-in_err-text-clause-not_read : goal.returns-in_err-text-clause-not_read
@@ -11,19 +17,39 @@ returns-in_err-text-clause-not_read g c =
     (g.F.Folder.view c.args.files.now) (g.F.Folder.view c.load.new.files)
     c.in_err-text.ensures.failed)
 
-pub returns-in-Err-NotYet-clause-not_read : goal.returns-in-Err-NotYet-clause-not_read
-returns-in-Err-NotYet-clause-not_read g c =
+pub returns-in-Err-Fault-clause-not_read : goal.returns-in-Err-Fault-clause-not_read
+returns-in-Err-Fault-clause-not_read g c =
     let refused = rw (
-      c.in-Err-NotYet.field-0-is,
+      c.in-Err-Fault.field-0-is,
       c.deref.ensures.value,
-    ) at c.in-Err-NotYet.ensures.refused in
+    ) at c.in-Err-Fault.ensures.refused in
     text_refused script_in c.args.name.now SCRIPT_MAX c.in_ok-text.text.items _
     (g.F.Folder.view c.args.files.now) (g.F.Folder.view c.load.new.files)
     c.in_ok-text.ensures.loaded
-    (script_refused c.in_ok-text.text.items c.in-Err-NotYet.line refused)
+    (script_refused c.in_ok-text.text.items c.in-Err-Fault.fault refused)
 
 pub returns-clause-not_read : goal.returns-clause-not_read
 returns-clause-not_read g c =
     text_unread script_in c.args.name.now SCRIPT_MAX c.in_ok-text.text.items
     (g.F.Folder.view c.args.files.now) (g.F.Folder.view c.load.new.files)
     c.in_ok-text.ensures.loaded
+
+pub returns-in-Ok-clause-plain : goal.returns-in-Ok-clause-plain
+returns-in-Ok-clause-plain g c =
+    accepted_is_plain c.in_ok-text.text.items (map view_of c.in-Ok.script.items)
+    (rw c.deref.ensures.value at c.in-Ok.ensures.accepted)
+
+pub returns-in-Ok-clause-few : goal.returns-in-Ok-clause-few
+returns-in-Ok-clause-few g c =
+    let few = accepted_few c.in_ok-text.text.items (map view_of c.in-Ok.script.items)
+    (rw c.deref.ensures.value at c.in-Ok.ensures.accepted) in
+    let within = c.in_ok-text.ensures.within in
+    omega (arith, rw length-map at few, within)
+
+pub returns-in-Ok-clause-read : goal.returns-in-Ok-clause-read
+returns-in-Ok-clause-read g c = record {
+  text = c.in_ok-text.text.items;
+  value_is = script_accepted c.in_ok-text.text.items (map view_of c.in-Ok.script.items)
+      (rw c.deref.ensures.value at c.in-Ok.ensures.accepted);
+  loaded = c.in_ok-text.ensures.loaded;
+}

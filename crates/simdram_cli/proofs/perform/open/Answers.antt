@@ -1,6 +1,6 @@
 use Rattle.std.proofs.Common.{◌∙◌}
 use Rattle.object_alloc.specs.Exact.{found_in}
-use Rattle.built_forms.specs.Texts.{image_found}
+use Rattle.simdram_cli.specs.Inputs.{image_found}
 use Rattle.simdram_cli.proofs.Tallies.{opened_counted}
 use Rattle.simdram_cli.proofs.perform.open.Goals as goal
 

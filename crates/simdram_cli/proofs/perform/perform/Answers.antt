@@ -1,18 +1,16 @@
-use Rattle.std.proofs.Common.{◌∙◌, ap, arith, map}
+use Rattle.std.proofs.Common.{◌≡◌, ◌*◌, ◌∙◌, ap, arith, map}
 use Rattle.std.proofs.lemmas.Result.{err_from_is_err_and}
-use Rattle.uprog_code.specs.Shape.{microprograms_of}
 use Rattle.object_alloc.specs.Exact.{found_in}
 use Rattle.bbop_isa.specs.Forms.{view_of}
-use Rattle.machine_model.specs.Operations.{operations_in}
-use Rattle.machine_model.specs.Script.{events_in_order}
 use Rattle.cli_model.specs.World.{world}
 use Rattle.cli_model.specs.Steps.{Done, Stopped}
+use Rattle.simdram_cli.specs.Inputs.{image_found}
 use Rattle.simdram_cli.specs.Stops.{reason_of}
-use Rattle.sim_machine.specs.Machine.{geometry_of, program_of, table_in}
-use Rattle.built_forms.specs.Texts.{image_found}
-use Rattle.simdram_cli.proofs.Tallies.{reads_same, played}
-use Rattle.simdram_cli.proofs.Performing.{Worked, last_are, lines_are, stopped_open, stopped_work}
-use Rattle.simdram_cli.proofs.Performing.{went_on, all_done}
+use Rattle.sim_machine.specs.Machine.{geometry_of, program_of, table_in, turn_in}
+use Rattle.simdram_cli.proofs.Performing.{Worked, all_done, last_are, lines_are, own_events}
+use Rattle.simdram_cli.proofs.Performing.{own_refused, own_table, stopped_open, stopped_work}
+use Rattle.simdram_cli.proofs.Performing.{went_on}
+use Rattle.simdram_cli.proofs.Progress.{holds_of}
 use Rattle.simdram_cli.proofs.perform.perform.Goals as goal
 
 pub returns-in_err-machine-clause-goes : goal.returns-in_err-machine-clause-goes
@@ -21,7 +19,7 @@ returns-in_err-machine-clause-goes g c =
     let i = image_found (found_in c.args.image) in
     let files = g.F.Folder.view c.args.files.now in
     let out = g.S.Sink.view c.args.out.now in
-    rw (p.1, p.2) (stopped_open c.args.name.now (microprograms_of c.args.program)
+    rw (p.1, p.2) (stopped_open c.args.name.now c.args.prog.programs
     (map view_of c.args.script.now) i _ (world files out (g.D.Dram.view c.args.chip.now))
     (world files out (g.D.Dram.view c.open.new.chip))
     (c.in_err-machine.ensures.goes files out))
@@ -35,31 +33,24 @@ returns-in_err-refused-clause-goes g c =
     let a = world files (g.S.Sink.view c.args.out.now) (g.D.Dram.view c.args.chip.now) in
     let b = world files (g.S.Sink.view c.args.out.now) (g.D.Dram.view c.open.new.chip) in
     let d = world files (g.S.Sink.view c.work.new.out) (g.D.Dram.view c.work.new.chip) in
-    rw (p.1, p.2) (stopped_work c.args.name.now (microprograms_of c.args.program)
+    rw (p.1, p.2) (stopped_work c.args.name.now c.args.prog.programs
     (map view_of c.args.script.now) i _ a b d
     (c.in_ok-machine.ensures.goes files (g.S.Sink.view c.args.out.now))
-    (lines_are (microprograms_of c.args.program) (map view_of c.args.script.now) i _ _ _
+    (lines_are c.args.prog.programs (map view_of c.args.script.now) i _ _ _
     (g.D.Dram.view c.open.new.chip).banks _ b d
     c.in_ok-machine.ensures.shape c.in_ok-machine.ensures.program c.in_ok-machine.ensures.table
     c.in_ok-machine.ensures.opened.banks (c.in_err-refused.ensures.goes files)))
-
-pub finish-requires-clause-reads : goal.finish-requires-clause-reads
-finish-requires-clause-reads g c =
-    let same = ap (λ k. k.reads) c.in_ok-refused.ensures.did.counters
-    ∙ reads_same (events_in_order (geometry_of c.in_ok-machine.machine)
-    (operations_in (program_of c.in_ok-machine.machine)) (table_in c.in_ok-machine.machine)
-    (map view_of c.args.script.now)) (g.D.Dram.view c.open.new.chip).counters
-    ∙ ap (λ k. k.reads) c.in_ok-machine.ensures.opened.counters in
-    omega (arith, same)
 
 pub returns-in_err-finish-clause-goes : goal.returns-in_err-finish-clause-goes
 returns-in_err-finish-clause-goes g c =
     let p = err_from_is_err_and c.from_residual-in_err-finish.result
     c.from_residual-in_err-finish.ensures.1 in
-    let program = microprograms_of c.args.program in
+    let program = c.args.prog.programs in
     let script = map view_of c.args.script.now in
     let i = image_found (found_in c.args.image) in
     let machine = c.in_ok-machine.machine in
+    let last = c.work.new.machine in
+    let opened = c.in_ok-machine.ensures in
     let files = g.F.Folder.view c.args.files.now in
     let start = g.D.Dram.view c.open.new.chip in
     let now = g.D.Dram.view c.work.new.chip in
@@ -68,32 +59,37 @@ returns-in_err-finish-clause-goes g c =
     let d = world files (g.S.Sink.view c.work.new.out) now in
     let e = world (g.F.Folder.view c.finish.new.files) (g.S.Sink.view c.finish.new.out)
     (g.D.Dram.view c.finish.new.chip) in
-    let worked : Worked program script i (geometry_of machine) (program_of machine)
-    (table_in machine) start now c.in_ok-refused.refused = record {
-      shape_is = c.in_ok-machine.ensures.shape;
-      program_is = c.in_ok-machine.ensures.program;
-      table_is = c.in_ok-machine.ensures.table;
-      played = played script i c.requires.bbops c.requires.one_bank c.requires.set;
-      opened_on = c.in_ok-machine.ensures.opened;
-      did = c.in_ok-refused.ensures.did;
-      refused_are = c.in_ok-refused.ensures.refused;
+    let worked : Worked program script i (geometry_of last) (table_in last) start now
+    c.in_ok-refused.refused = record {
+      shape_is = c.work.ensures.shape ∙ opened.shape;
+      table_is = own_table program script i (geometry_of machine) (program_of machine)
+          (table_in machine) (table_in last) opened.shape opened.program opened.table
+          c.in_ok-refused.ensures.table;
+      holds = rw opened.table at (holds_of machine i.geometry opened.shape opened.ready);
+      opened_on = opened.opened;
+      did = own_events program script i (geometry_of machine) (program_of machine)
+          (table_in machine) (turn_in machine) start now opened.shape opened.program opened.table
+          opened.turn c.in_ok-refused.ensures.did;
+      refused_is = own_refused program script i (geometry_of machine) (program_of machine)
+          (table_in machine) c.in_ok-refused.refused opened.shape opened.program opened.table
+          c.in_ok-refused.ensures.refused;
     } in
     rw (p.1, p.2) (went_on c.args.name.now program script i _ a b d e
-    (c.in_ok-machine.ensures.goes files (g.S.Sink.view c.args.out.now))
-    (lines_are program script i _ _ _ start.banks Done b d
-    c.in_ok-machine.ensures.shape c.in_ok-machine.ensures.program c.in_ok-machine.ensures.table
-    c.in_ok-machine.ensures.opened.banks (c.in_ok-refused.ensures.goes files))
-    (last_are program script i (geometry_of machine) (program_of machine)
-    (table_in machine) start now c.in_ok-refused.refused worked c.args.name.now
-    (Stopped (reason_of c.in_err-finish.field-0.0)) d e
-    (rw c.work.ensures.same at c.in_err-finish.ensures.goes)))
+    (opened.goes files (g.S.Sink.view c.args.out.now))
+    (lines_are program script i _ _ _ start.banks Done b d opened.shape opened.program opened.table
+    opened.opened.banks (c.in_ok-refused.ensures.goes files))
+    (last_are program script i (geometry_of last) (table_in last) start now
+    c.in_ok-refused.refused worked c.args.name.now (Stopped (reason_of c.in_err-finish.field-0.0))
+    d e c.in_err-finish.ensures.goes))
 
 pub returns-clause-goes : goal.returns-clause-goes
 returns-clause-goes g c =
-    let program = microprograms_of c.args.program in
+    let program = c.args.prog.programs in
     let script = map view_of c.args.script.now in
     let i = image_found (found_in c.args.image) in
     let machine = c.in_ok-machine.machine in
+    let last = c.work.new.machine in
+    let opened = c.in_ok-machine.ensures in
     let files = g.F.Folder.view c.args.files.now in
     let start = g.D.Dram.view c.open.new.chip in
     let now = g.D.Dram.view c.work.new.chip in
@@ -102,43 +98,58 @@ returns-clause-goes g c =
     let d = world files (g.S.Sink.view c.work.new.out) now in
     let e = world (g.F.Folder.view c.finish.new.files) (g.S.Sink.view c.finish.new.out)
     (g.D.Dram.view c.finish.new.chip) in
-    let worked : Worked program script i (geometry_of machine) (program_of machine)
-    (table_in machine) start now c.in_ok-refused.refused = record {
-      shape_is = c.in_ok-machine.ensures.shape;
-      program_is = c.in_ok-machine.ensures.program;
-      table_is = c.in_ok-machine.ensures.table;
-      played = played script i c.requires.bbops c.requires.one_bank c.requires.set;
-      opened_on = c.in_ok-machine.ensures.opened;
-      did = c.in_ok-refused.ensures.did;
-      refused_are = c.in_ok-refused.ensures.refused;
+    let worked : Worked program script i (geometry_of last) (table_in last) start now
+    c.in_ok-refused.refused = record {
+      shape_is = c.work.ensures.shape ∙ opened.shape;
+      table_is = own_table program script i (geometry_of machine) (program_of machine)
+          (table_in machine) (table_in last) opened.shape opened.program opened.table
+          c.in_ok-refused.ensures.table;
+      holds = rw opened.table at (holds_of machine i.geometry opened.shape opened.ready);
+      opened_on = opened.opened;
+      did = own_events program script i (geometry_of machine) (program_of machine)
+          (table_in machine) (turn_in machine) start now opened.shape opened.program opened.table
+          opened.turn c.in_ok-refused.ensures.did;
+      refused_is = own_refused program script i (geometry_of machine) (program_of machine)
+          (table_in machine) c.in_ok-refused.refused opened.shape opened.program opened.table
+          c.in_ok-refused.ensures.refused;
     } in
     went_on c.args.name.now program script i Done a b d e
-    (c.in_ok-machine.ensures.goes files (g.S.Sink.view c.args.out.now))
-    (lines_are program script i _ _ _ start.banks Done b d
-    c.in_ok-machine.ensures.shape c.in_ok-machine.ensures.program c.in_ok-machine.ensures.table
-    c.in_ok-machine.ensures.opened.banks (c.in_ok-refused.ensures.goes files))
-    (last_are program script i (geometry_of machine) (program_of machine)
-    (table_in machine) start now c.in_ok-refused.refused worked c.args.name.now Done d e
-    (rw c.work.ensures.same at c.in_ok-finish.ensures.goes))
+    (opened.goes files (g.S.Sink.view c.args.out.now))
+    (lines_are program script i _ _ _ start.banks Done b d opened.shape opened.program opened.table
+    opened.opened.banks (c.in_ok-refused.ensures.goes files))
+    (last_are program script i (geometry_of last) (table_in last) start now
+    c.in_ok-refused.refused worked c.args.name.now Done d e c.in_ok-finish.ensures.goes)
 
 pub returns-clause-done : goal.returns-clause-done
 returns-clause-done g c =
-    let program = microprograms_of c.args.program in
+    let program = c.args.prog.programs in
     let script = map view_of c.args.script.now in
     let i = image_found (found_in c.args.image) in
     let machine = c.in_ok-machine.machine in
+    let last = c.work.new.machine in
+    let opened = c.in_ok-machine.ensures in
+    let files = g.F.Folder.view c.args.files.now in
     let start = g.D.Dram.view c.open.new.chip in
     let now = g.D.Dram.view c.work.new.chip in
-    let worked : Worked program script i (geometry_of machine) (program_of machine)
-    (table_in machine) start now c.in_ok-refused.refused = record {
-      shape_is = c.in_ok-machine.ensures.shape;
-      program_is = c.in_ok-machine.ensures.program;
-      table_is = c.in_ok-machine.ensures.table;
-      played = played script i c.requires.bbops c.requires.one_bank c.requires.set;
-      opened_on = c.in_ok-machine.ensures.opened;
-      did = c.in_ok-refused.ensures.did;
-      refused_are = c.in_ok-refused.ensures.refused;
+    let a = world files (g.S.Sink.view c.args.out.now) (g.D.Dram.view c.args.chip.now) in
+    let b = world files (g.S.Sink.view c.args.out.now) start in
+    let d = world files (g.S.Sink.view c.work.new.out) now in
+    let e = world (g.F.Folder.view c.finish.new.files) (g.S.Sink.view c.finish.new.out)
+    (g.D.Dram.view c.finish.new.chip) in
+    let worked : Worked program script i (geometry_of last) (table_in last) start now
+    c.in_ok-refused.refused = record {
+      shape_is = c.work.ensures.shape ∙ opened.shape;
+      table_is = own_table program script i (geometry_of machine) (program_of machine)
+          (table_in machine) (table_in last) opened.shape opened.program opened.table
+          c.in_ok-refused.ensures.table;
+      holds = rw opened.table at (holds_of machine i.geometry opened.shape opened.ready);
+      opened_on = opened.opened;
+      did = own_events program script i (geometry_of machine) (program_of machine)
+          (table_in machine) (turn_in machine) start now opened.shape opened.program opened.table
+          opened.turn c.in_ok-refused.ensures.did;
+      refused_is = own_refused program script i (geometry_of machine) (program_of machine)
+          (table_in machine) c.in_ok-refused.refused opened.shape opened.program opened.table
+          c.in_ok-refused.ensures.refused;
     } in
-    all_done program script i (geometry_of machine) (program_of machine) (table_in machine) start
-    now c.in_ok-refused.refused worked (g.D.Dram.view c.finish.new.chip)
-    (rw c.work.ensures.same at c.in_ok-finish.ensures.did)
+    all_done program script i (geometry_of last) (table_in last) start now c.in_ok-refused.refused
+    worked (g.D.Dram.view c.finish.new.chip) c.in_ok-finish.ensures.did

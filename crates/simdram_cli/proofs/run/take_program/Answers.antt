@@ -13,7 +13,8 @@ returns-in_err-ops-clause-stopped g c =
 
 pub returns-clause-taken : goal.returns-clause-taken
 returns-clause-taken g c =
-    taken_by c.args.ops.now c.args.prog.now (operations c.in_ok-ops.ops) microprograms_of
+    taken_by c.args.ops.now c.args.prog.now (operations c.in_ok-ops.ops)
+    (λ made. microprograms_of made.0)
     c.write_program.result
     (g.F.Folder.view c.args.files.now) (g.F.Folder.view c.load_ops.new.files)
     (g.F.Folder.view c.write_program.new.files)

@@ -1,84 +1,93 @@
-use Rattle.std.proofs.Common.{◌+◌, ◌<◌, arith, length, ◌∙◌, map, drop}
-use Rattle.std.proofs.lemmas.Grind.{common_steps}
+use Rattle.std.proofs.Common.{◌≡◌, ◌+◌, ◌*◌, ◌<◌, ◌≤◌, arith, length, sym, ◌∙◌, ap, map, drop}
 use Rattle.std.proofs.lemmas.Result.{err_from_is_err_and}
-use Rattle.std.proofs.lemmas.List.{drop_all}
+use Rattle.std.proofs.lemmas.List.{drop_all, length-drop, length-map}
 use Rattle.bbop_isa.specs.Forms.{view_of}
-use Rattle.machine_model.specs.Operations.{operations_in}
 use Rattle.cli_model.specs.World.{world}
-use Rattle.dram_model.proofs.EventLaws.{Did-none, Kept-more}
-use Rattle.sim_machine.specs.Machine.{geometry_of, program_of, table_in}
-use Rattle.simdram_cli.proofs.Working.{rest_is, goes_line, stops_line, did_line, refused_line}
+use Rattle.dram_model.proofs.EventLaws.{Kept-more}
+use Rattle.sim_machine.specs.Machine.{geometry_of, operations_by, program_of, table_in, turn_in}
+use Rattle.simdram_cli.specs.Works.{next_piece}
+use Rattle.simdram_cli.proofs.Piecewise.{begins, did_none, stops_piece}
+use Rattle.simdram_cli.proofs.Progress.{did_goes, goes_goes, holds_of, left_is, plain_left}
+use Rattle.simdram_cli.proofs.Progress.{refused_goes, rises_more, step_of, table_goes}
 use Rattle.simdram_cli.proofs.work.work.Goals as goal
 
-pub loop-instr-preserved : goal.loop-instr-preserved
-loop-instr-preserved g c =
+pub pieces-preserved : goal.pieces-preserved
+pieces-preserved g c =
     let script = c.args.script.now in
-    let k = c.loop-instr.instr-index in
-    let inside : k < length script = omega arith in
-    let instr = view_of c.instr-item.result in
-    let rest = rest_is script k c.instr-item.result inside c.instr-item.is in
-    let bbops = rw rest at c.loop-instr.invariant.bbops in
-    let plain = rw rest at c.loop-instr.invariant.plain in
-    let same = c.loop-instr.invariant.same in
-    let did = rw same at c.in_ok-refused.ensures.did in
-    let one = rw same at c.in_ok-refused.ensures.refused in
+    let done = c.pieces.done in
+    let taken = c.in_ok-taken.taken in
+    let rest = map view_of (drop done script) in
+    let others = map view_of (drop (done + taken.instrs) script) in
+    let before = c.pieces.machine in
+    let after = c.work_piece.new.machine in
     let shape = geometry_of c.args.machine.now in
-    let operations = operations_in (program_of c.args.machine.now) in
-    let table = table_in c.args.machine.now in
-    let few = c.in_ok-refused.ensures.one in
-    let aap = c.in_ok-refused.ensures.aap_grows in
-    let ap2 = c.in_ok-refused.ensures.ap_grows in
+    let program = program_of c.args.machine.now in
+    let now = g.D.Dram.view c.pieces.chip in
+    let next = g.D.Dram.view c.work_piece.new.chip in
+    let start = g.D.Dram.view c.args.chip.now in
+    let size = length-drop done script in
+    let some : 0 < length rest = rw length-map (omega (arith, size)) in
+    let front = rw c.split_at.ensures.back at c.in_ok-taken.ensures.done in
+    let count = rw c.split_at.ensures.back at c.in_ok-taken.ensures.taken in
+    let left = left_is script done taken.instrs count in
+    let step = step_of before after shape program (next_piece rest) now next taken.refused
+    c.pieces.invariant.shape_is c.pieces.invariant.program front in
+    let holds = holds_of before shape c.pieces.invariant.shape_is c.pieces.invariant.ready in
+    let within = rw c.split_at.ensures.back at c.in_ok-taken.ensures.within in
     record {
-      number = grind (arith, common_steps);
-      same = c.work_line.ensures.same ∙ same;
-      borrow = c.work_line.ensures.borrow ∙ c.loop-instr.invariant.borrow;
-      kept = Kept-more (g.D.Dram.view c.args.chip.now)
-          (g.D.Dram.view c.loop-instr.chip) (g.D.Dram.view c.work_line.new.chip)
-          c.loop-instr.invariant.kept c.work_line.ensures.kept;
-      aap = omega (arith, aap, c.loop-instr.invariant.aap);
-      ap = omega (arith, ap2, c.loop-instr.invariant.ap);
-      few = omega (arith, few, c.loop-instr.invariant.few);
-      bbops = bbops.1;
-      plain = plain.1;
-      did = λ new more. c.loop-instr.invariant.did new
-          (rw rest (did_line shape operations table instr (map view_of (drop (k + 1) script)) _ _
-          new bbops.0 did more));
-      refused_so_far = refused_line shape operations table instr (map view_of (drop (k + 1) script))
-          c.loop-instr.refused c.in_ok-refused.field-0 _ bbops.0 one
-          (rw rest at c.loop-instr.invariant.refused_so_far);
-      goes = λ files end w more. c.loop-instr.invariant.goes files end w
-          (rw rest (goes_line shape operations table (g.D.Dram.view c.loop-instr.chip).banks
-          (g.D.Dram.view c.work_line.new.chip).banks (c.loop-instr.number + 1) instr
-          (map view_of (drop (k + 1) script)) end
-          (world files (g.S.Sink.view c.loop-instr.out) (g.D.Dram.view c.loop-instr.chip))
-          (world files (g.S.Sink.view c.work_line.new.out)
-          (g.D.Dram.view c.work_line.new.chip)) w bbops.0 did.banks
-          (rw same at (c.in_ok-refused.ensures.goes files)) more));
+      within = omega (arith, within, size);
+      few = omega (arith, c.in_ok-taken.ensures.few, c.pieces.invariant.few);
+      program = c.work_piece.ensures.program ∙ c.pieces.invariant.program;
+      shape_is = c.work_piece.ensures.shape ∙ c.pieces.invariant.shape_is;
+      ready = front.ready;
+      borrow = c.work_piece.ensures.borrow ∙ c.pieces.invariant.borrow;
+      kept = Kept-more start now next c.pieces.invariant.kept c.work_piece.ensures.kept;
+      rises = rises_more _ _ _ start.counters now.counters next.counters
+          c.pieces.invariant.rises front.rises (omega (arith, c.in_ok-taken.ensures.some));
+      plain = plain_left script done taken.instrs c.pieces.invariant.plain;
+      table_end = table_goes shape program (turn_in before) (turn_in after) (table_in before)
+          (table_in after) rest others now next taken.refused some left step _
+          c.pieces.invariant.table_end;
+      did = λ new more. c.pieces.invariant.did new (did_goes shape program (turn_in before)
+          (turn_in after) (table_in before) (table_in after) rest others now next taken.refused some
+          left step new more);
+      refused_so_far = refused_goes shape program (turn_in before) (turn_in after)
+          (table_in before) (table_in after) rest others now next taken.refused some left step
+          c.pieces.refused _ c.pieces.invariant.refused_so_far;
+      goes = λ files end w more. c.pieces.invariant.goes files end w (goes_goes shape program
+          (turn_in before) (turn_in after) (table_in before) (table_in after) rest others now next
+          taken.refused some left step done taken.instrs files (g.S.Sink.view c.pieces.out)
+          (g.S.Sink.view c.work_piece.new.out) end w count holds
+          (rw (
+            c.split_at.ensures.back,
+            c.pieces.invariant.shape_is,
+            c.pieces.invariant.program,
+          ) at (c.in_ok-taken.ensures.goes files)) more);
     }
 
-pub returns-in_err-refused-clause-goes : goal.returns-in_err-refused-clause-goes
-returns-in_err-refused-clause-goes g c files =
+pub returns-in_err-taken-clause-goes : goal.returns-in_err-taken-clause-goes
+returns-in_err-taken-clause-goes g c files =
     let script = c.args.script.now in
-    let k = c.loop-instr.instr-index in
-    let inside : k < length script = omega arith in
-    let instr = view_of c.instr-item.result in
-    let rest = rest_is script k c.instr-item.result inside c.instr-item.is in
-    let bbops = rw rest at c.loop-instr.invariant.bbops in
+    let done = c.pieces.done in
+    let rest = map view_of (drop done script) in
     let shape = geometry_of c.args.machine.now in
-    let operations = operations_in (program_of c.args.machine.now) in
-    let table = table_in c.args.machine.now in
+    let size = length-drop done script in
+    let some : 0 < length rest = rw length-map (omega (arith, size)) in
     let p = err_from_is_err_and c.from_residual.result c.from_residual.ensures.1 in
-    rw (p.1, p.2) (c.loop-instr.invariant.goes files _
-    (world files (g.S.Sink.view c.work_line.new.out) (g.D.Dram.view c.work_line.new.chip))
-    (rw rest (stops_line shape operations table (g.D.Dram.view c.loop-instr.chip).banks
-    (c.loop-instr.number + 1) instr (map view_of (drop (k + 1) script)) _
-    (world files (g.S.Sink.view c.loop-instr.out) (g.D.Dram.view c.loop-instr.chip))
-    (world files (g.S.Sink.view c.work_line.new.out) (g.D.Dram.view c.work_line.new.chip))
-    bbops.0
-    (rw c.loop-instr.invariant.same at (c.in_err-refused.ensures.goes files)))))
+    rw (p.1, p.2) (c.pieces.invariant.goes files _
+    (world files (g.S.Sink.view c.work_piece.new.out) (g.D.Dram.view c.work_piece.new.chip))
+    (rw (begins rest some) (stops_piece shape (operations_by c.args.machine.now)
+    (table_in c.pieces.machine) (g.D.Dram.view c.pieces.chip).banks (done + 1)
+    (next_piece rest) _ _ (world files (g.S.Sink.view c.pieces.out) (g.D.Dram.view c.pieces.chip))
+    (world files (g.S.Sink.view c.work_piece.new.out) (g.D.Dram.view c.work_piece.new.chip))
+    (rw (
+      c.split_at.ensures.back,
+      c.pieces.invariant.shape_is,
+      c.pieces.invariant.program,
+    ) at (c.in_err-taken.ensures.goes files)))))
 
 pub returns-clause-did : goal.returns-clause-did
 returns-clause-did g c =
-    let none = drop_all c.loop-instr.instr-index c.args.script.now (omega arith) in
-    let now = g.D.Dram.view c.loop-instr.chip in
-    (rw none at c.loop-instr.invariant.did) now (Did-none now)
+    let none = drop_all c.pieces.done c.args.script.now (omega arith) in
+    let now = g.D.Dram.view c.pieces.chip in
+    (rw none at c.pieces.invariant.did) now (did_none now)

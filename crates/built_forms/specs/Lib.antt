@@ -1,3 +1,0 @@
--- What the program takes today: its texts and images.
-pub mod Texts
-pub mod Answers

@@ -1,0 +1,322 @@
+-- Lines that are sent one after another.
+use Rattle.std.proofs.Common.{◌≡◌, ◌⊎◌, ℕ, ◌+◌, ◌≤◌, ◌<◌, List, [], ◌∷◌, ◌++◌, Option, Some, None, refl}
+use Rattle.std.proofs.Common.{Bool, true, false, map, length, sym, ◌∙◌, ap, subst, inl, inr, arith, append_assoc, append-nil}
+use Rattle.host_edge.specs.Views.{FolderView, SinkView, Told, Rose, IsPrefix, AppendsPart}
+use Rattle.dram_model.specs.declared.dram.Counters.{Counters}
+use Rattle.dram_model.specs.declared.geometry.Geometry.{Geometry}
+use Rattle.dram_model.specs.Chip.{Banks, Event, all_counted}
+use Rattle.dram_model.specs.View.{ChipView, Did, with_reads}
+use Rattle.object_alloc.specs.Listed.{Named}
+use Rattle.bbop_isa.specs.Forms.{Instruction}
+use Rattle.std.specs.List.{AllByRecursion}
+use Rattle.machine_model.specs.Operations.{Operations}
+use Rattle.machine_model.specs.Pieces.{AreBbops, Wave}
+use Rattle.machine_model.specs.Report.{Said, Answered, line, lines, said_in_rows}
+use Rattle.machine_model.specs.Script.{rows_printed, sum_done}
+use Rattle.machine_model.specs.Steps.{reply_to}
+use Rattle.machine_model.proofs.Parts.{waves_are_answered}
+use Rattle.object_steps.specs.declared.fault.StepFault.{StepFault}
+use Rattle.object_steps.specs.declared.fault.StepFault.TheVariants as step_fault
+use Rattle.sim_machine.specs.Steps.{DidAndRead}
+use Rattle.cli_model.specs.World.{world}
+use Rattle.cli_model.specs.Steps.{Step, Use, Put, Print, Goes, Printed, PutFailed, ChipFailed, Done}
+use Rattle.cli_model.specs.Steps.{Stopped}
+use Rattle.simdram_cli.specs.Job.{put_lines, instr_steps, piece_steps}
+use Rattle.simdram_cli.specs.Stops.{fault_reason}
+use Rattle.simdram_cli.proofs.Stores.{used, sent, line_done, line_unput}
+
+-- a sink that was sent these bytes, and counted no fault
+abbrev more_sent : Option (List ℕ) → List ℕ → Option (List ℕ)
+more_sent None bytes = None
+more_sent (Some old) bytes = Some (old ++ bytes)
+
+abbrev behind : SinkView → List ℕ → SinkView
+behind s bytes = record { sent = more_sent s.sent bytes; faults = s.faults }
+
+told_more : (o : Option (List ℕ)) (bytes : List ℕ)
+    → Told (λ before after. after ≡ before ++ bytes) o (more_sent o bytes)
+told_more None bytes = tt
+told_more (Some old) bytes = refl
+
+told_rest : (o b : Option (List ℕ)) (first rest : List ℕ)
+    → Told (λ before after. after ≡ before ++ (first ++ rest)) o b
+    → Told (λ before after. after ≡ before ++ rest) (more_sent o first) b
+told_rest None b first rest t = tt
+told_rest (Some old) None first rest t = absurd t
+told_rest (Some old) (Some new) first rest t = t ∙ sym (append_assoc old first rest)
+
+-- all lines were sent
+pub lines_sent : (number : ℕ) (said : Said) (rest : List Said) (files : FolderView)
+    (s t : SinkView) (chip : ChipView)
+    → Told (λ before after. after ≡ before ++ lines number (said ∷ rest)) s.sent t.sent
+    → s.faults ≤ t.faults
+    → Goes (put_lines number (said ∷ rest)) Done (world files s chip) (world files t chip)
+lines_sent number said [] files s t chip told l =
+    inl (
+      world files t chip,
+      (
+        sent (λ before after. after ≡ before ++ line number said) files s t
+            chip (subst (λ w. Told (λ before after. after ≡ before ++ w) s.sent t.sent)
+            (append-nil (line number said)) told) l,
+        refl,
+      ),
+    )
+lines_sent number said (next ∷ rest) files s t chip told l =
+    let first = line number said in
+    let mid = behind s first in
+    inl (
+      world files mid chip,
+      (
+        sent (λ before after. after ≡ before ++ first) files s mid chip
+            (told_more s.sent first) (omega arith),
+        lines_sent (number + 1) next rest files mid t chip
+            (told_rest s.sent t.sent first (lines (number + 1) (next ∷ rest)) told) l,
+      ),
+    )
+
+-- a part of two texts is a part of the first, or has all of it and a part of the second
+parted : (p q a b : List ℕ) → p ++ q ≡ a ++ b
+    → IsPrefix p a ⊎ ((more : List ℕ) × (p ≡ a ++ more) × (more ++ q ≡ b))
+parted [] q a b e = inl (a, refl)
+parted (x ∷ p) q [] b e = inr (x ∷ p, refl, e)
+parted (x ∷ p) q (y ∷ a) b e =
+    let head : x ≡ y = cc in
+    let tail : p ++ q ≡ a ++ b = cc in
+    elim (parted p q a b tail) [
+      | inl (rest, is) ↦ inl (rest, rw (head, is) refl)
+      | inr (more, is, left) ↦ inr (more, rw (head, is) refl, left)
+    ]
+
+-- where a part of lines was sent: the first line was cut, or it was sent and the others were cut
+told_parted : (o b : Option (List ℕ)) (first rest : List ℕ)
+    → Told (AppendsPart (first ++ rest)) o b
+    → Told (AppendsPart first) o b ⊎ Told (AppendsPart rest) (more_sent o first) b
+told_parted None b first rest t = inl tt
+told_parted (Some old) None first rest t = absurd t
+told_parted (Some old) (Some new) first rest (part, ((behind, is), e)) =
+    elim (parted part behind first rest is) [
+      | inl cut ↦ inl (part, (cut, e))
+      | inr (more, all, left) ↦ inr (
+        more,
+        (
+          (behind, left),
+          e ∙ ap (λ w. old ++ w) all ∙ sym (append_assoc old first more),
+        ),
+      )
+    ]
+
+-- a part of the lines was sent, and then the sink failed
+pub lines_cut : (number : ℕ) (said : Said) (rest : List Said) (files : FolderView)
+    (s t : SinkView) (chip : ChipView)
+    → Told (AppendsPart (lines number (said ∷ rest))) s.sent t.sent
+    → s.faults ≤ t.faults → Rose s.faults t.faults
+    → Goes (put_lines number (said ∷ rest)) (Stopped PutFailed) (world files s chip)
+    (world files t chip)
+lines_cut number said [] files s t chip told l rose =
+    inr (
+      refl,
+      sent (AppendsPart (line number said)) files s t chip
+          (subst (λ w. Told (AppendsPart w) s.sent t.sent) (append-nil (line number said)) told) l,
+      rose,
+    )
+lines_cut number said (next ∷ rest) files s t chip told l rose =
+    let first = line number said in
+    let mid = behind s first in
+    elim (told_parted s.sent t.sent first (lines (number + 1) (next ∷ rest)) told) [
+      | inl cut ↦ inr (refl, sent (AppendsPart first) files s t chip cut l, rose)
+      | inr more ↦ inl (
+        world files mid chip,
+        (
+          sent (λ before after. after ≡ before ++ first) files s mid chip
+              (told_more s.sent first) (omega arith),
+          lines_cut (number + 1) next rest files mid t chip more l rose,
+        ),
+      )
+    ]
+
+-- a line is sent while the chip is read
+
+printed : (R : List ℕ → List ℕ → Type 0) (files : FolderView) (s t : SinkView) (a b : ChipView)
+    → Told R s.sent t.sent → s.faults ≤ t.faults → a.faults ≤ b.faults
+    → Printed R (world files s a) (world files t b)
+printed R files s t a b told l m = record { files = refl; sent = told; faults = l; chip = m }
+
+pub print_done : (bytes : List ℕ) (files : FolderView) (s t : SinkView) (a b : ChipView)
+    → Told (λ before after. after ≡ before ++ bytes) s.sent t.sent → s.faults ≤ t.faults
+    → a.faults ≤ b.faults
+    → Goes (Print bytes ∷ []) Done (world files s a) (world files t b)
+print_done bytes files s t a b told l m =
+    inl (
+      world files t b,
+      (
+        printed (λ before after. after ≡ before ++ bytes) files s t a b told l m,
+        refl,
+      ),
+    )
+
+pub print_unput : (bytes : List ℕ) (files : FolderView) (s t : SinkView) (a b : ChipView)
+    → Told (AppendsPart bytes) s.sent t.sent → s.faults ≤ t.faults → a.faults ≤ b.faults
+    → Rose s.faults t.faults
+    → Goes (Print bytes ∷ []) (Stopped PutFailed) (world files s a) (world files t b)
+print_unput bytes files s t a b told l m rose =
+    inr (printed (AppendsPart bytes) files s t a b told l m, inl (refl, rose))
+
+pub print_unread : (bytes : List ℕ) (files : FolderView) (s t : SinkView) (a b : ChipView)
+    → Told (AppendsPart bytes) s.sent t.sent → s.faults ≤ t.faults → a.faults ≤ b.faults
+    → Rose a.faults b.faults
+    → Goes (Print bytes ∷ []) (Stopped ChipFailed) (world files s a) (world files t b)
+print_unread bytes files s t a b told l m rose =
+    inr (printed (AppendsPart bytes) files s t a b told l m, inr (refl, rose))
+
+-- a wave
+
+pub wave_done : (number : ℕ) (said : Said) (rest : List Said) (files : FolderView)
+    (s t : SinkView) (a b : ChipView) → a.faults ≤ b.faults
+    → Told (λ before after. after ≡ before ++ lines number (said ∷ rest)) s.sent t.sent
+    → s.faults ≤ t.faults
+    → Goes (Use ∷ put_lines number (said ∷ rest)) Done (world files s a) (world files t b)
+wave_done number said rest files s t a b m told l =
+    inl (world files s b, (used files s a b m, lines_sent number said rest files s t b told l))
+
+pub wave_unput : (number : ℕ) (said : Said) (rest : List Said) (files : FolderView)
+    (s t : SinkView) (a b : ChipView) → a.faults ≤ b.faults
+    → Told (AppendsPart (lines number (said ∷ rest))) s.sent t.sent
+    → s.faults ≤ t.faults → Rose s.faults t.faults
+    → Goes (Use ∷ put_lines number (said ∷ rest)) (Stopped PutFailed) (world files s a)
+    (world files t b)
+wave_unput number said rest files s t a b m told l rose =
+    inl (world files s b, (used files s a b m, lines_cut number said rest files s t b told l rose))
+
+-- the chip failed, and nothing was sent
+pub unused : (steps : List Step) (files : FolderView) (s t : SinkView) (a b : ChipView)
+    → a.faults ≤ b.faults → Rose a.faults b.faults → t ≡ s
+    → Goes (Use ∷ steps) (Stopped ChipFailed) (world files s a) (world files t b)
+unused steps files s t a b m rose e =
+    subst (λ (x : SinkView). Goes (Use ∷ steps) (Stopped ChipFailed) (world files s a)
+    (world files x b)) (sym e) (inr (refl, used files s a b m, rose))
+
+-- one instruction's line
+pub instr_done : (prints : Bool) (bytes : List ℕ) (files : FolderView) (s t : SinkView)
+    (a b : ChipView) → Told (λ before after. after ≡ before ++ bytes) s.sent t.sent
+    → s.faults ≤ t.faults → a.faults ≤ b.faults
+    → Goes (instr_steps prints bytes) Done (world files s a) (world files t b)
+instr_done true bytes files s t a b told l m = print_done bytes files s t a b told l m
+instr_done false bytes files s t a b told l m = line_done bytes files s t a b m told l
+
+-- what is known where an instruction was not done
+pub record Failed (fault : StepFault) (prints : Bool) (bytes : List ℕ) (s t : SinkView)
+    (a b : ChipView) : Type 0 where
+  pub sink : s.faults ≤ t.faults
+  pub chip : a.faults ≤ b.faults
+  pub chip_rose : fault ≡ step_fault.ChipFault → Rose a.faults b.faults
+  pub unsent : fault ≡ step_fault.ChipFault → prints ≡ false → t ≡ s
+  pub sink_rose : fault ≡ step_fault.WriteFault → Rose s.faults t.faults
+  pub part : fault ≡ step_fault.WriteFault → Told (AppendsPart bytes) s.sent t.sent
+  pub cut : prints ≡ true → Told (AppendsPart bytes) s.sent t.sent
+
+pub instr_failed : (fault : StepFault) (prints : Bool) (bytes : List ℕ) (files : FolderView)
+    (s t : SinkView) (a b : ChipView) → Failed fault prints bytes s t a b
+    → Goes (instr_steps prints bytes) (Stopped (fault_reason fault)) (world files s a)
+    (world files t b)
+instr_failed step_fault.ChipFault true bytes files s t a b f =
+    print_unread bytes files s t a b (f.cut refl) f.sink f.chip (f.chip_rose refl)
+instr_failed step_fault.WriteFault true bytes files s t a b f =
+    print_unput bytes files s t a b (f.cut refl) f.sink f.chip (f.sink_rose refl)
+instr_failed step_fault.ChipFault false bytes files s t a b f =
+    unused (Put bytes ∷ []) files s t a b f.chip (f.chip_rose refl) (f.unsent refl refl)
+instr_failed step_fault.WriteFault false bytes files s t a b f =
+    line_unput bytes files s t a b f.chip (f.part refl) f.sink (f.sink_rose refl)
+
+-- a wave's lines
+abbrev answers_of : Geometry → Operations → List Named → List Instruction → List Said
+answers_of g o table wave = map Answered (map (reply_to g o table) wave)
+
+wave_said : (g : Geometry) (o : Operations) (table : List Named) (banks : Banks)
+    (wave : List Instruction) → AreBbops wave
+    → said_in_rows g o table banks wave ≡ answers_of g o table wave
+wave_said g o table banks wave bbops =
+    let w = waves_are_answered g o table wave bbops in
+    w.said banks ∙ ap (map Answered) w.answers
+
+answers_sent : (g : Geometry) (o : Operations) (table : List Named) (number : ℕ)
+    (wave : List Instruction) (files : FolderView) (s t : SinkView) (a b : ChipView)
+    → 0 < length wave
+    → Told (λ before after. after ≡ before ++ lines number (answers_of g o table wave)) s.sent
+    t.sent → s.faults ≤ t.faults → a.faults ≤ b.faults
+    → Goes (Use ∷ put_lines number (answers_of g o table wave)) Done (world files s a)
+    (world files t b)
+answers_sent g o table number [] files s t a b some told l m = absurd (omega (arith, some))
+answers_sent g o table number (instr ∷ wave) files s t a b some told l m =
+    wave_done number (Answered (reply_to g o table instr)) (answers_of g o table wave) files s t a b
+    m told l
+
+pub wave_sent : (g : Geometry) (o : Operations) (table : List Named) (banks : Banks) (number : ℕ)
+    (wave : List Instruction) (files : FolderView) (s t : SinkView) (a b : ChipView)
+    → AreBbops wave → 0 < length wave
+    → Told (λ before after. after ≡ before ++ lines number (answers_of g o table wave)) s.sent
+    t.sent → s.faults ≤ t.faults → a.faults ≤ b.faults
+    → Goes (piece_steps g o table banks number (Wave wave)) Done (world files s a)
+    (world files t b)
+wave_sent g o table banks number wave files s t a b bbops some told l m =
+    rw (wave_said g o table banks wave bbops)
+    (answers_sent g o table number wave files s t a b some told l m)
+
+-- what is known where a wave was not done
+pub record WaveFailed (fault : StepFault) (bytes : List ℕ) (s t : SinkView) (a b : ChipView)
+    : Type 0 where
+  pub sink : s.faults ≤ t.faults
+  pub chip : a.faults ≤ b.faults
+  pub chip_rose : fault ≡ step_fault.ChipFault → Rose a.faults b.faults
+  pub unsent : fault ≡ step_fault.ChipFault → t ≡ s
+  pub sink_rose : fault ≡ step_fault.WriteFault → Rose s.faults t.faults
+  pub part : fault ≡ step_fault.WriteFault → Told (AppendsPart bytes) s.sent t.sent
+
+answers_cut : (fault : StepFault) (g : Geometry) (o : Operations) (table : List Named) (number : ℕ)
+    (wave : List Instruction) (files : FolderView) (s t : SinkView) (a b : ChipView)
+    → 0 < length wave
+    → WaveFailed fault (lines number (answers_of g o table wave)) s t a b
+    → Goes (Use ∷ put_lines number (answers_of g o table wave)) (Stopped (fault_reason fault))
+    (world files s a) (world files t b)
+answers_cut fault g o table number [] files s t a b some f = absurd (omega (arith, some))
+answers_cut step_fault.ChipFault g o table number (instr ∷ wave) files s t a b some f =
+    unused (put_lines number (answers_of g o table (instr ∷ wave))) files s t a b f.chip
+    (f.chip_rose refl) (f.unsent refl)
+answers_cut step_fault.WriteFault g o table number (instr ∷ wave) files s t a b some f =
+    wave_unput number (Answered (reply_to g o table instr)) (answers_of g o table wave) files s t a
+    b f.chip (f.part refl) f.sink (f.sink_rose refl)
+
+pub wave_failed : (fault : StepFault) (g : Geometry) (o : Operations) (table : List Named)
+    (banks : Banks) (number : ℕ) (wave : List Instruction) (files : FolderView) (s t : SinkView)
+    (a b : ChipView) → AreBbops wave → 0 < length wave
+    → WaveFailed fault (lines number (answers_of g o table wave)) s t a b
+    → Goes (piece_steps g o table banks number (Wave wave)) (Stopped (fault_reason fault))
+    (world files s a) (world files t b)
+wave_failed fault g o table banks number wave files s t a b bbops some f =
+    rw (wave_said g o table banks wave bbops)
+    (answers_cut fault g o table number wave files s t a b some f)
+
+-- a wave reads no row
+pub wave_did : (g : Geometry) (o : Operations) (table : List Named) (wave : List Instruction)
+    (events : List Event) (a b : ChipView) → AreBbops wave → Did events a b
+    → DidAndRead events (sum_done rows_printed g o table wave) a b
+wave_did g o table wave events a b bbops did =
+    rw (waves_are_answered g o table wave bbops).printed (record {
+      banks = did.banks;
+      counters = did.counters ∙ nothing_more (all_counted events a.counters);
+      log = did.log;
+    }) where
+      nothing_more : (k : Counters) → k ≡ with_reads 0 k
+      nothing_more k = let e : k.reads ≡ k.reads + 0 = omega arith in rw (← e) refl
+
+looser : {X : Type 0} (f : X → ℕ) (more k : ℕ) (xs : List X) → AllByRecursion (λ x. f x ≤ k) xs
+    → AllByRecursion (λ x. f x ≤ more + k) xs
+looser f more k [] all = tt
+looser f more k (x ∷ xs) all = (omega (arith, all.0), looser f more k xs all.1)
+
+-- a number that no value of a list passes
+pub bound_of : {X : Type 0} (f : X → ℕ) (xs : List X)
+    → (k : ℕ) × AllByRecursion (λ x. f x ≤ k) xs
+bound_of f [] = (0, tt)
+bound_of f (x ∷ xs) =
+    let rest = bound_of f xs in
+    (f x + rest.0, (omega arith, looser f (f x) rest.0 xs rest.1))

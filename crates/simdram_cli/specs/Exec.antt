@@ -1,0 +1,136 @@
+-- The command `exec`.
+use Rattle.std.specs.Prelude.{◌≡◌, ◌≢◌, ◌⊎◌, ℕ, ◌<◌, false, List, [], ◌∷◌, ◌++◌, Option, Some}
+use Rattle.std.specs.Prelude.{Result, Ok, Err, IfOk}
+use Rattle.host_edge.specs.Views.{Files, Told}
+use Rattle.dram_model.specs.Chip.{row_in}
+use Rattle.dram_model.specs.View.{ChipView}
+use Rattle.uprog_code.specs.Programs.{IsProgram}
+use Rattle.uprog_code.specs.Texts.{TextOp, ImplementsAll}
+use Rattle.uprog_bin.specs.Opened.{IsProgramFile}
+use Rattle.bbop_isa.specs.Forms.{Instruction}
+use Rattle.machine_model.specs.Operations.{Program, operations_in}
+use Rattle.machine_model.specs.Opened.{Image, opened}
+use Rattle.machine_model.specs.Script.{banks_at_end, is_touched_by, table_at_end}
+use Rattle.machine_model.specs.Steps.{is_touched}
+use Rattle.machine_model.specs.Report.{report}
+use Rattle.cli_model.specs.World.{World}
+use Rattle.cli_model.specs.Steps.{Step, Refusal, Goes, loading}
+use Rattle.cli_model.specs.Ends.{Ended, All, At, Ends, done_steps}
+use Rattle.simdram_cli.specs.declared.words.ExecNames.{ExecNames}
+use Rattle.simdram_cli.specs.declared.words.TheConstants.{PROG_MAX}
+use Rattle.simdram_cli.specs.declared.job.JobNames.{JobNames}
+use Rattle.simdram_cli.specs.declared.stop.Stop.{Stop}
+use Rattle.simdram_cli.specs.Inputs.{script_in, image_of}
+use Rattle.simdram_cli.specs.Programs.{prog_in}
+use Rattle.simdram_cli.specs.Reads.{IsText, StopsAtLoad}
+use Rattle.simdram_cli.specs.Stops.{end_of}
+use Rattle.simdram_cli.specs.Job.{Texts, said_in, replies_by, refused_by, done_status, image_by}
+use Rattle.simdram_cli.specs.Job.{job_steps, job_status}
+use Rattle.simdram_cli.specs.Works.{WorkDone}
+use Rattle.simdram_cli.specs.Ends.{IsRead, JobDone, IsDoneBy}
+use Rattle.simdram_cli.specs.Headline.{Job, read_as, ObjectsRight, RowsUntouched, CommandsCounted}
+use Rattle.simdram_cli.specs.Headline.{ReportSent, RepliesExact}
+
+-- the files of its job
+abbrev pub exec_names : ExecNames → JobNames
+exec_names names = record { script = names.script; image = names.image; out = names.out }
+
+-- PROG is loaded, and SCRIPT is done on IMAGE with its program
+abbrev pub exec_steps : ExecNames → List ℕ → Texts → List Step
+exec_steps names prog texts = loading names.prog.now PROG_MAX prog (prog_in prog)
+    (λ program. job_steps (exec_names names) program texts)
+
+abbrev pub status_with : Result Program Refusal → Texts → ℕ
+status_with (Ok program) texts = job_status program texts
+status_with (Err refusal) texts = 0
+
+abbrev pub IsDoneWith : Ended → Result Program Refusal → Texts → ChipView → Type 0
+IsDoneWith ended (Ok program) texts chip = IsDoneBy ended program texts chip
+IsDoneWith All (Err refusal) texts chip = ⊥
+IsDoneWith (At stop) (Err refusal) texts chip = Unit {0}
+
+abbrev pub IsDoneAs : Result Program Refusal → Texts → ChipView → ℕ → Type 0
+IsDoneAs (Ok program) texts chip refused = JobDone program texts chip refused
+IsDoneAs (Err refusal) texts chip refused = ⊥
+
+-- An execution on the files at entry: what it reads, a program file if it was loaded, and how it
+-- ends
+pub record ExecEnds (names : ExecNames) (old new : World) (status : ℕ) : Type 0 where
+  pub prog : List ℕ
+  pub texts : Texts
+  pub is_text : IsText old.files.holds names.prog.now prog
+  pub read : IsRead (exec_names names) texts old.files.holds
+  pub ends : Ends (exec_steps names prog texts) (status_with (prog_in prog) texts) old new status
+  pub file : (done_steps (exec_steps names prog texts) ends.ended ≡ [] → ⊥) → IsProgramFile prog
+  pub done : IsDoneWith ends.ended (prog_in prog) texts new.chip
+
+-- A row that no instruction touches that is done by a program is as it was in the image read
+abbrev pub RowsStay : Program → List Instruction → Image → ChipView → Type 0
+RowsStay program script i chip =
+    (bank row : ℕ) → bank < i.geometry.banks → row < i.geometry.rows
+    → is_touched_by i.geometry (operations_in program) i.table script bank row ≡ false
+    → row_in row (chip.banks bank) ≡ i.rows bank row
+
+-- Row by row, with the heads and the traces of the program's own entries: the chip's banks, its
+-- counters and its log; OUT, which has the table and these rows; the report; and the status
+pub record RowByRow (out : List ℕ) (program : Program) (script : List Instruction) (i : Image)
+    (after : Files) (old new : World) (status : ℕ) : Type 0 where
+  pub work : WorkDone program script i new.chip (refused_by program script i)
+  pub file : after out ≡ Some (image_by program script i)
+  pub stay : RowsStay program script i new.chip
+  pub sent : Told (λ x y. y ≡ x ++ report (said_in program script i) new.chip.counters
+      (replies_by program script i)) old.sink.sent new.sink.sent
+  pub answers : status ≡ done_status (refused_by program script i)
+
+-- Whatever the program does, no instruction of the script changes a row that it may not touch: each
+-- but those of its destinations, its granted scratch and the spill group, in the banks of the
+-- destination's segments. So its sources and all other objects stay
+abbrev pub StaysInside : Program → List Instruction → Image → Type 0
+StaysInside program script i =
+    (before : List Instruction) (instr : Instruction) (behind : List Instruction) (bank row : ℕ)
+    → before ++ instr ∷ behind ≡ script
+    → (let o = operations_in program in
+    is_touched i.geometry o (table_at_end i.geometry o i.table before) instr bank row ≡ false
+    → row_in row (banks_at_end i.geometry o i.table (opened i) (before ++ instr ∷ []) bank)
+    ≡ row_in row (banks_at_end i.geometry o i.table (opened i) before bank))
+
+-- By the ops of a text that the program does: the headline's promises
+pub record ByText (out : List ℕ) (job : Job) (after : Files) (old new : World) (status : ℕ)
+    : Type 0 where
+  pub objects_right : ObjectsRight out job after new.chip
+  pub rows_untouched : RowsUntouched job new.chip
+  pub commands_counted : CommandsCounted job new.chip
+  pub report_sent : ReportSent job new.chip old.sink.sent new.sink.sent
+  pub replies_exact : RepliesExact job status
+
+-- What it promises of every program file that is accepted, however it was made; and of each text
+-- that its program does. All files but OUT are as at entry
+pub record Executed (names : ExecNames) (before after : Files) (old new : World) (status : ℕ)
+    : Type 0 where
+  pub program : Program
+  pub script : List Instruction
+  pub image : Image
+  pub prog_is : read_as prog_in (before names.prog.now) ≡ Some program
+  pub script_is : read_as script_in (before names.script.now) ≡ Some script
+  pub image_is : read_as image_of (before names.image.now) ≡ Some image
+  pub legal : IsProgram program
+  pub row_by_row : RowByRow names.out.now program script image after old new status
+  pub stays_inside : StaysInside program script image
+  pub by_text : (t : List TextOp) → ImplementsAll program t
+      → ByText names.out.now (record {
+        text = t;
+        script = script;
+        image = image;
+        program = program;
+      }) after old new status
+  pub others : (other : List ℕ) → other ≢ names.out.now → after other ≡ before other
+
+-- what its parts come to, for its proof: it goes through its steps on the text of PROG
+pub record ExecGoes (names : ExecNames) (old new : World) (result : Result ℕ Stop) : Type 0 where
+  pub prog : List ℕ
+  pub texts : Texts
+  pub is_text : IsText old.files.holds names.prog.now prog
+  pub read : IsRead (exec_names names) texts old.files.holds
+  pub goes : StopsAtLoad names.prog.now PROG_MAX prog (prog_in prog) (end_of result) old new
+      ⊎ (IsProgramFile prog × Goes (exec_steps names prog texts) (end_of result) old new)
+  pub done : IfOk result (IsDoneAs (prog_in prog) texts new.chip)

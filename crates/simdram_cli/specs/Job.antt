@@ -1,0 +1,119 @@
+-- A job: SCRIPT is done on IMAGE with a program. What is said of it, what stands behind it, and its
+-- steps.
+use Rattle.std.specs.Prelude.{ℕ, ◌+◌, ◌*◌, Bool, true, false, List, [], ◌∷◌, ◌++◌, length, count_by}
+use Rattle.std.specs.Prelude.{nat_lt, if◌then◌else◌, Result, Ok, Err}
+use Rattle.dram_model.specs.declared.dram.Counters.{Counters}
+use Rattle.dram_model.specs.declared.geometry.Geometry.{Geometry}
+use Rattle.dram_model.specs.Chip.{Banks}
+use Rattle.object_alloc.specs.Listed.{Named}
+use Rattle.object_alloc.specs.Spelling.{image_bytes}
+use Rattle.bbop_isa.specs.Forms.{Instruction}
+use Rattle.machine_model.specs.declared.Reply.{Reply}
+use Rattle.machine_model.specs.Operations.{Program, Operations, operations_in}
+use Rattle.machine_model.specs.Opened.{Image, opened, rows_of}
+use Rattle.machine_model.specs.Script.{replies, table_at_end, banks_at_end, sum_of, sum_done}
+use Rattle.machine_model.specs.Script.{rows_loaded, rows_printed, is_refused}
+use Rattle.machine_model.specs.Pieces.{Piece, Wave, Alone, instrs_in, pieces}
+use Rattle.machine_model.specs.Report.{Said, said_by, said_in_rows, line, total_line}
+use Rattle.cli_model.specs.Steps.{Step, Store, Open, Use, Put, Print, Refusal, loading}
+use Rattle.sim_machine.specs.Machine.{is_print}
+use Rattle.simdram_cli.specs.declared.job.JobNames.{JobNames}
+use Rattle.simdram_cli.specs.declared.words.TheConstants.{SCRIPT_MAX, IMAGE_MAX}
+use Rattle.simdram_cli.specs.Inputs.{script_in, image_of}
+
+-- the texts of SCRIPT and IMAGE
+pub record Texts : Type 0 where
+  pub script : List ℕ
+  pub image : List ℕ
+
+-- what is said of a script by a program, and its replies
+abbrev pub said_in : Program → List Instruction → Image → List Said
+said_in program script i = said_in_rows i.geometry (operations_in program) i.table (opened i) script
+
+abbrev pub replies_by : Program → List Instruction → Image → List Reply
+replies_by program script i = replies i.geometry (operations_in program) i.table script
+
+-- the counters of a chip that has begun and has taken the rows of an image
+abbrev pub opened_counters : Geometry → Counters
+opened_counters g = record { aap = 0; ap = 0; writes = g.banks * g.rows; reads = 0 }
+
+-- each row of every bank is written at the opening and read for the image
+abbrev pub tally_by : Program → List Instruction → Image → Counters
+tally_by program script i =
+    let all = i.geometry.banks * i.geometry.rows in
+    record {
+      aap = (sum_of (replies_by program script i)).aap;
+      ap = (sum_of (replies_by program script i)).ap;
+      writes = all + sum_done rows_loaded i.geometry (operations_in program) i.table script;
+      reads = all + sum_done rows_printed i.geometry (operations_in program) i.table script;
+    }
+
+abbrev pub refused_by : Program → List Instruction → Image → ℕ
+refused_by program script i = count_by is_refused (replies_by program script i)
+
+-- 8 where an instruction was refused
+abbrev pub done_status : ℕ → ℕ
+done_status refused = if nat_lt 0 refused then 8 else 0
+
+-- the image after a script
+abbrev pub image_by : Program → List Instruction → Image → List ℕ
+image_by program script i =
+    image_bytes i.geometry (table_at_end i.geometry (operations_in program) i.table script)
+    (rows_of (banks_at_end i.geometry (operations_in program) i.table (opened i) script))
+
+-- lines are sent, the first of which has this number
+abbrev pub put_lines : ℕ → List Said → List Step
+put_lines number [] = []
+put_lines number (said ∷ rest) = Put (line number said) ∷ put_lines (number + 1) rest
+
+-- the line of a print is sent while the chip is read; each other instruction uses the chip, and
+-- then its line is sent
+abbrev pub instr_steps : Bool → List ℕ → List Step
+instr_steps prints bytes = if prints then Print bytes ∷ [] else Use ∷ Put bytes ∷ []
+
+-- a wave uses the chip, and then its lines are sent
+abbrev pub piece_steps : Geometry → Operations → List Named → Banks → ℕ → Piece → List Step
+piece_steps g operations table banks number (Wave wave) =
+    Use ∷ put_lines number (said_in_rows g operations table banks wave)
+piece_steps g operations table banks number (Alone instr) =
+    instr_steps (is_print instr) (line number (said_by g operations table banks instr))
+
+-- the steps of pieces, the first line of which has this number
+abbrev pub pieces_steps : Geometry → Operations → List Named → Banks → ℕ → List Piece → List Step
+pieces_steps g operations table banks number [] = []
+pieces_steps g operations table banks number (piece ∷ rest) =
+    piece_steps g operations table banks number piece
+    ++ pieces_steps g operations (table_at_end g operations table (instrs_in piece))
+    (banks_at_end g operations table banks (instrs_in piece)) (number + length (instrs_in piece))
+    rest
+
+-- a script goes by its pieces
+abbrev pub script_steps : Program → List Instruction → Image → List Step
+script_steps program script i =
+    pieces_steps i.geometry (operations_in program) i.table (opened i) 1 (pieces script)
+
+-- a script is done on an image, the image after it is stored, and the line of the totals is sent
+abbrev pub work_steps : List ℕ → Program → List Instruction → Image → List Step
+work_steps out program script i =
+    Open ∷ script_steps program script i
+    ++ (Use ∷ Store out (image_by program script i)
+    ∷ Put (total_line (tally_by program script i) (refused_by program script i)) ∷ [])
+
+-- SCRIPT and IMAGE are loaded, and SCRIPT is done on IMAGE
+abbrev pub job_steps : JobNames → Program → Texts → List Step
+job_steps names program texts =
+    loading names.script.now SCRIPT_MAX texts.script (script_in texts.script) (λ script.
+    loading names.image.now IMAGE_MAX texts.image (image_of texts.image) (λ i.
+    work_steps names.out.now program script i))
+
+-- the status of a job that is done
+abbrev pub status_on : Program → List Instruction → Result Image Refusal → ℕ
+status_on program script (Ok i) = done_status (refused_by program script i)
+status_on program script (Err refusal) = 0
+
+abbrev pub status_by : Program → Result (List Instruction) Refusal → Result Image Refusal → ℕ
+status_by program (Ok script) image = status_on program script image
+status_by program (Err refusal) image = 0
+
+abbrev pub job_status : Program → Texts → ℕ
+job_status program texts = status_by program (script_in texts.script) (image_of texts.image)

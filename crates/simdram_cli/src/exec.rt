@@ -1,0 +1,39 @@
+//! The command `exec`.
+
+ghost use Rattle.std.specs.Prelude.{◌≡◌};
+ghost use Rattle.cli_model.specs.World.{world};
+ghost use Rattle.simdram_cli.specs.Exec.{ExecGoes};
+
+use crate::job::{JobNames, do_job};
+use crate::load::load;
+use crate::stop::Stop;
+use crate::words::{ExecNames, PROG_MAX};
+use dram_model::Dram;
+use host_edge::{Folder, Sink};
+use std::alloc::Global;
+use uprog_bin::ProgView;
+
+/// Does SCRIPT on IMAGE with the program of PROG; answers how many instructions were refused.
+pub(crate) fn exec<'a, F: Folder, S: Sink, D: Dram>(
+    names: &ExecNames<'a>,
+    files: &mut F,
+    out: &mut S,
+    chip: &mut D,
+    alloc: Global,
+) -> Result<u64, Stop<'a>>
+    ensures borrow { D.borrow chip.new ≡ D.borrow chip.old }
+    ensures goes { ExecGoes names.now (world (F.view files.old) (S.view out.old) (D.view chip.old))
+        (world (F.view files.new) (S.view out.new) (D.view chip.new)) result }
+{
+    let bytes = load(names.prog, PROG_MAX, files, alloc)?;
+    let prog = match ProgView::open(&bytes) {
+        Ok(prog) => prog,
+        Err(fault) => return Err(Stop::BadProg(fault)),
+    };
+    let job = JobNames {
+        script: names.script,
+        image: names.image,
+        out: names.out,
+    };
+    do_job(prog, &job, files, out, chip, alloc)
+}
