@@ -9,7 +9,7 @@ use std::test::*;
 
 /// A program with two entries in version 2: `dup` of a word into two words, and `all`, of a bit and
 /// a word into a bit, which has an instruction of each kind and a row of each space.
-static TWO: [u8; 190] = [
+pub static TWO: [u8; 190] = [
     0x53, 0x44, 0x4D, 0x50, 0x02, 0x00, 0x02, 0x00, // magic, version 2, two entries
     0x03, 0x64, 0x75, 0x70, 0, 0, 0, 0, 0, 0, 0, 0, 0, 0, 0, 0, 0, // dup
     0x01, 0x71, 0x00, 0x00, 0x00, 0x00, 0x00, 0x00, 0x04, 0x00, // a word into two words
@@ -108,7 +108,7 @@ fn programs_are_told(rt: HostRuntime) -> Result<(), Fail> {
 }
 
 /// The file of an entry `xor` with three instructions.
-fn looped(code: [u8; 24]) -> [u8; 59] {
+pub fn looped(code: [u8; 24]) -> [u8; 59] {
     let mut file = [0u8; 59];
     file[..35].copy_from_slice(&XOR[..35]);
     file[33] = 3;

@@ -19,15 +19,19 @@ mod compiled;
 #[cfg(test)]
 mod empty_images;
 #[cfg(test)]
-mod jobs;
+mod executed;
 #[cfg(test)]
-mod machines;
+mod failing;
+#[cfg(test)]
+mod jobs;
 #[cfg(test)]
 mod migrated;
 #[cfg(test)]
 mod operations;
 #[cfg(test)]
 mod runs;
+#[cfg(test)]
+mod scripts;
 #[cfg(test)]
 mod shown;
 #[cfg(test)]

@@ -68,6 +68,11 @@ pub fn number_at(rows: &[u8], base: usize, width: u8, column: u32) -> Value {
     number
 }
 
+/// What was sent, as text.
+pub fn text(out: &MemSink) -> &str {
+    str::from_utf8(out.bytes()).unwrap_or("no text")
+}
+
 /// A run that ended: its status, and the folder and the sink behind it.
 #[derive(Drop)]
 pub struct Ended {

@@ -120,21 +120,21 @@ static CASES: [Case; 11] = [
     },
     Case {
         ops: AND,
-        script: "bbop_and y, a, b, 4, 1\n\nload a, 1\n",
+        script: "bbop_and y, a, b, 4, 1\n\nload a\n",
         status: 6,
-        report: "script line 3 not_yet\n",
+        report: "script line 3 syntax\n",
     },
     Case {
         ops: AND,
         script: "bbop_and y, a, b, 4, 129",
         status: 6,
-        report: "script line 1 not_yet\n",
+        report: "script line 1 bad_number\n",
     },
     Case {
         ops: AND,
         script: "bbop_and y, a, b, 0, 1",
         status: 6,
-        report: "script line 1 not_yet\n",
+        report: "script line 1 bad_number\n",
     },
 ];
 
@@ -245,7 +245,7 @@ fn files_that_cannot_be_read_are_told(rt: HostRuntime) -> Result<(), Fail> {
     let mut files = folder(AND, JOB, cut, alloc)?;
     let mut out = MemSink::new(alloc);
     assert_eq!(rt; simdram(&WORDS, &mut files, &mut out, &mut chip, alloc), 7);
-    assert_eq!(rt; out.bytes(), b"image byte 0 not_yet\n".as_slice());
+    assert_eq!(rt; out.bytes(), b"image byte 0 magic\n".as_slice());
     assert_eq!(rt; files.file("prog").is_some(), true);
     Ok(())
 }
