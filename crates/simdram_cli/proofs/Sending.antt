@@ -1,7 +1,8 @@
 -- Lines that are sent one after another.
 use Rattle.std.proofs.Common.{◌≡◌, ◌⊎◌, ℕ, ◌+◌, ◌≤◌, ◌<◌, List, [], ◌∷◌, ◌++◌, Option, Some, None, refl}
 use Rattle.std.proofs.Common.{Bool, true, false, map, length, sym, ◌∙◌, ap, subst, inl, inr, arith, append_assoc, append-nil}
-use Rattle.host_edge.specs.Views.{FolderView, SinkView, Told, Rose, IsPrefix, AppendsPart}
+use Rattle.host_edge.specs.Views.{FolderView, SinkView, Told, IsPrefix, AppendsPart}
+use Rattle.fault_counts.specs.Counts.{Rose}
 use Rattle.dram_model.specs.declared.dram.Counters.{Counters}
 use Rattle.dram_model.specs.declared.geometry.Geometry.{Geometry}
 use Rattle.dram_model.specs.Chip.{Banks, Event, all_counted}
