@@ -6,7 +6,8 @@ use Rattle.host_edge.specs.Views.{Files, Told, AppendsPart, IsPrefix}
 use Rattle.fault_counts.specs.Counts.{Rose, RoseBy}
 use Rattle.cli_model.specs.World.{World}
 use Rattle.cli_model.specs.Steps.{Step, Load, Take, Store, Open, Use, Put, Print, Reason}
-use Rattle.cli_model.specs.Steps.{CannotRead, TooLong, Refused, NoMemory, CannotWrite, PutFailed, ChipFailed}
+use Rattle.cli_model.specs.Steps.{CannotRead, TooLong, Refused, NoMemory, CannotWrite, PutFailed}
+use Rattle.cli_model.specs.Steps.{ChipFailed}
 use Rattle.cli_model.specs.Steps.{End, Done, Stopped, Goes, Fails, Unopened}
 use Rattle.dram_model.specs.View.{ChipView, NotBegun}
 use Rattle.cli_model.specs.Stands.{files_after, sent_by, CountsOn, Stands}
@@ -238,8 +239,8 @@ stop_sent certain (Print bytes) reason a b c d t l (p, inl f) s = (
 stop_sent certain (Print bytes) reason a b c d t l (p, inr f) s =
     let says : Says (reason_line ChipFailed) c d =
     subst (λ (r : Reason). Says (reason_line r) c d) f.0 s in
-    let told = print_sent certain bytes (reason_line ChipFailed) a b c d t (no_more_than _ _ _ l p.faults)
-    p.sent says in (
+    let told = print_sent certain bytes (reason_line ChipFailed) a b c d t
+        (no_more_than _ _ _ l p.faults) p.sent says in (
       told.0 ++ reason_line ChipFailed,
       subst (λ (r : Reason). LastOfPrint bytes r (told.0 ++ reason_line ChipFailed)) (sym f.0)
           (told.0, told.1, refl),

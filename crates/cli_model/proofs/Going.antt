@@ -7,7 +7,8 @@ use Rattle.host_edge.specs.Views.{Files, FolderView, NoCountFalls, Told}
 use Rattle.fault_counts.specs.Counts.{RoseBy}
 use Rattle.cli_model.specs.World.{World}
 use Rattle.cli_model.specs.Steps.{Step, Load, Take, Store, Open, Use, Put, Print, Reason}
-use Rattle.cli_model.specs.Steps.{CannotRead, TooLong, Refused, NoMemory, CannotWrite, PutFailed, ChipFailed}
+use Rattle.cli_model.specs.Steps.{CannotRead, TooLong, Refused, NoMemory, CannotWrite, PutFailed}
+use Rattle.cli_model.specs.Steps.{ChipFailed}
 use Rattle.cli_model.specs.Steps.{End, Done, Stopped, Goes, Does, Fails, ReadsOnly, Stored, Used}
 use Rattle.cli_model.specs.Steps.{Sent, Printed, Unstored}
 use Rattle.cli_model.specs.Stands.{files_after, sent_by, CountsOn, Stands}

@@ -6,7 +6,8 @@ use Rattle.host_edge.specs.Views.{Files, Told, IsPrefix}
 use Rattle.fault_counts.specs.Counts.{Rose, RoseBy}
 use Rattle.cli_model.specs.World.{World}
 use Rattle.cli_model.specs.Steps.{Step, Load, Take, Store, Open, Use, Put, Print, Reason}
-use Rattle.cli_model.specs.Steps.{CannotRead, TooLong, Refused, NoMemory, CannotWrite, PutFailed, ChipFailed}
+use Rattle.cli_model.specs.Steps.{CannotRead, TooLong, Refused, NoMemory, CannotWrite, PutFailed}
+use Rattle.cli_model.specs.Steps.{ChipFailed}
 use Rattle.cli_model.specs.Steps.{Done, Stopped, Unopened}
 use Rattle.cli_model.specs.Stands.{files_after, sent_by, CountsOn}
 use Rattle.cli_model.specs.Status.{reason_status, reason_line}

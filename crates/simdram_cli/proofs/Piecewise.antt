@@ -1,5 +1,6 @@
 -- Pieces of a script, one after another.
-use Rattle.std.proofs.Common.{◌≡◌, ℕ, zero, suc, ◌+◌, ◌*◌, ◌<◌, ◌≤◌, Bool, true, false, cond, List, []}
+use Rattle.std.proofs.Common.{◌≡◌, ℕ, zero, suc, ◌+◌, ◌*◌, ◌<◌, ◌≤◌, Bool, true, false, cond, List}
+use Rattle.std.proofs.Common.{[]}
 use Rattle.std.proofs.Common.{◌∷◌, ◌++◌, map, drop, take, length, refl, sym, ◌∙◌, ap, subst, arith}
 use Rattle.std.proofs.Common.{Option, Some, None, append_assoc, append-nil, inl, inr}
 use Rattle.std.specs.Prelude.{count_by, flat_map, min}
@@ -22,7 +23,8 @@ use Rattle.bbop_isa.specs.Forms.{Instruction, view_of}
 use Rattle.machine_model.specs.Agrees.{IsPlain}
 use Rattle.machine_model.specs.Operations.{Operations}
 use Rattle.machine_model.specs.Script.{is_bbop, banks_at_end, table_at_end}
-use Rattle.machine_model.specs.Pieces.{AreBbops, Piece, Wave, Alone, IsPiece, instrs_in, pieces, wave_size}
+use Rattle.machine_model.specs.Pieces.{AreBbops, Piece, Wave, Alone, IsPiece, instrs_in, pieces}
+use Rattle.machine_model.specs.Pieces.{wave_size}
 use Rattle.machine_model.specs.Report.{Said, said_by, said_in_rows, line, lines}
 use Rattle.machine_model.specs.Steps.{banks_after, table_after}
 use Rattle.machine_model.proofs.Cut.{alone_cut, wave_cut, wave_is_piece}
@@ -227,7 +229,8 @@ sent_more (Take ∷ xs) ys = sent_more xs ys
 sent_more (Store name bytes ∷ xs) ys = sent_more xs ys
 sent_more (Open ∷ xs) ys = sent_more xs ys
 sent_more (Use ∷ xs) ys = sent_more xs ys
-sent_more (Put bytes ∷ xs) ys = rw (sent_more xs ys) (sym (append_assoc bytes (sent_by xs) (sent_by ys)))
+sent_more (Put bytes ∷ xs) ys =
+    rw (sent_more xs ys) (sym (append_assoc bytes (sent_by xs) (sent_by ys)))
 sent_more (Print bytes ∷ xs) ys =
     rw (sent_more xs ys) (sym (append_assoc bytes (sent_by xs) (sent_by ys)))
 
