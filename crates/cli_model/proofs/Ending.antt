@@ -240,7 +240,7 @@ stop_sent certain (Print bytes) reason a b c d t l (p, inr f) s =
     let says : Says (reason_line ChipFailed) c d =
     subst (λ (r : Reason). Says (reason_line r) c d) f.0 s in
     let told = print_sent certain bytes (reason_line ChipFailed) a b c d t
-        (no_more_than _ _ _ l p.faults) p.sent says in (
+    (no_more_than _ _ _ l p.faults) p.sent says in (
       told.0 ++ reason_line ChipFailed,
       subst (λ (r : Reason). LastOfPrint bytes r (told.0 ++ reason_line ChipFailed)) (sym f.0)
           (told.0, told.1, refl),
