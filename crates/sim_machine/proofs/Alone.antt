@@ -21,7 +21,8 @@ use Rattle.object_steps.specs.declared.fault.StepFault.{StepFault}
 use Rattle.object_steps.specs.declared.fault.StepFault.TheVariants.{ChipFault, WriteFault}
 use Rattle.sim_machine.specs.declared.machine.Machine.{Machine}
 use Rattle.sim_machine.specs.Machine.{banks_by, events_by, geometry_of, is_print, line_of, lines_of}
-use Rattle.sim_machine.specs.Machine.{operations_by, queues_by, reads_by, reply_of, table_behind, table_in}
+use Rattle.sim_machine.specs.Machine.{operations_by, queues_by, reads_by}
+use Rattle.sim_machine.specs.Machine.{reply_of, table_behind, table_in}
 use Rattle.sim_machine.specs.Machine.{turn_by_piece, turn_in}
 use Rattle.sim_machine.specs.Outcome.{Comes, Stepped}
 use Rattle.sim_machine.specs.Steps.{DidAndRead}
