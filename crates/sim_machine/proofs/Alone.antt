@@ -3,8 +3,7 @@ use Rattle.std.proofs.Common.{◌≡◌, ℕ, ◌≤◌, Bool, true, false, cond
 use Rattle.std.proofs.Common.{sym, ◌∙◌, ap, subst, append-nil, arith, map, get_or}
 use Rattle.std.specs.Prelude.{Err, is_none}
 use Rattle.std.specs.List.{AllByRecursion}
-use Rattle.host_edge.specs.Views.{SinkView, Told, AppendsPart}
-use Rattle.fault_counts.specs.Counts.{Rose}
+use Rattle.host_edge.specs.Views.{SinkView, Told, Rose, AppendsPart}
 use Rattle.dram_model.specs.View.{ChipView, Did}
 use Rattle.wave_model.specs.Schedule.{Job}
 use Rattle.uprog_ctl.specs.Waves.{StoppedAmong}
@@ -22,8 +21,8 @@ use Rattle.object_steps.specs.declared.fault.StepFault.{StepFault}
 use Rattle.object_steps.specs.declared.fault.StepFault.TheVariants.{ChipFault, WriteFault}
 use Rattle.sim_machine.specs.declared.machine.Machine.{Machine}
 use Rattle.sim_machine.specs.Machine.{banks_by, events_by, geometry_of, is_print, line_of, lines_of}
-use Rattle.sim_machine.specs.Machine.{operations_by, queues_by, reads_by, reply_of, table_behind}
-use Rattle.sim_machine.specs.Machine.{table_in}
+use Rattle.sim_machine.specs.Machine.{operations_by, queues_by, reads_by}
+use Rattle.sim_machine.specs.Machine.{reply_of, table_behind, table_in}
 use Rattle.sim_machine.specs.Machine.{turn_by_piece, turn_in}
 use Rattle.sim_machine.specs.Outcome.{Comes, Stepped}
 use Rattle.sim_machine.specs.Steps.{DidAndRead}
