@@ -49,8 +49,8 @@ abbrev pub Spells : Option (List ℕ) → List Operation → Type 0
 Spells None ops = ⊥
 Spells (Some bytes) ops = IsOpsOf bytes ops
 
--- the job is that of the files at entry: the ops of OPS, the instructions of SCRIPT and the image of
--- IMAGE
+-- the job is that of the files at entry: the ops of OPS, the instructions of SCRIPT and the image
+-- of IMAGE
 pub record IsJob (names : RunNames) (before : Files) (job : Job) : Type 0 where
   pub ops : List Operation
   pub are : Spells (before names.ops.now) ops

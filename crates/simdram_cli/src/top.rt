@@ -192,10 +192,11 @@ fn dispatch<F: Folder, S: Sink, D: Dram>(
 /// Does the command that the words are, without the program's name: `run OPS PROG SCRIPT IMAGE OUT`
 /// compiles the operations of OPS, stores PROG, does SCRIPT on IMAGE with the program that PROG
 /// spells, puts the report and stores OUT; `exec PROG SCRIPT IMAGE OUT` does the same with the
-/// program of a file; `compile OPS PROG` stores PROG and puts how many entries it has; `show OPS` puts the canonical text of the operations of OPS; `migrate OLD NEW` stores
-/// the version 2 file of OLD's program as NEW; `cost PROG N` puts what each entry of PROG's program
-/// costs at width N, and `list PROG` its listing; `init BANKS ROWS WORDS OUT` stores the image of
-/// such a chip without objects, whose rows are zeros. The answer is the exit status.
+/// program of a file; `compile OPS PROG` stores PROG and puts how many entries it has; `show OPS`
+/// puts the canonical text of the operations of OPS; `migrate OLD NEW` stores the version 2 file of
+/// OLD's program as NEW; `cost PROG N` puts what each entry of PROG's program costs at width N, and
+/// `list PROG` its listing; `init BANKS ROWS WORDS OUT` stores the image of such a chip without
+/// objects, whose rows are zeros. The answer is the exit status.
 pub fn simdram<F: Folder, S: Sink, D: Dram>(
     words: &[&str],
     files: &mut F,
