@@ -3,7 +3,8 @@ use Rattle.std.proofs.Common.{◌≡◌, ℕ, ◌≤◌, Bool, true, false, cond
 use Rattle.std.proofs.Common.{sym, ◌∙◌, ap, subst, append-nil, arith, map, get_or}
 use Rattle.std.specs.Prelude.{Err, is_none}
 use Rattle.std.specs.List.{AllByRecursion}
-use Rattle.host_edge.specs.Views.{SinkView, Told, Rose, AppendsPart}
+use Rattle.host_edge.specs.Views.{SinkView, Told, AppendsPart}
+use Rattle.fault_counts.specs.Counts.{Rose}
 use Rattle.dram_model.specs.View.{ChipView, Did}
 use Rattle.wave_model.specs.Schedule.{Job}
 use Rattle.uprog_ctl.specs.Waves.{StoppedAmong}
