@@ -1,11 +1,7 @@
 -- How an execution goes and ends, and what it promises.
 use Rattle.std.proofs.Common.{◌≡◌, ◌⊎◌, ℕ, Bool, true, false, List, [], ◌∷◌, ◌++◌, Option, Some}
-<<<<<<< HEAD
 use Rattle.std.proofs.Common.{None}
 use Rattle.std.proofs.Common.{refl, sym, ◌∙◌, ap, subst, inl, inr, append-nil}
-=======
-use Rattle.std.proofs.Common.{None, refl, sym, ◌∙◌, ap, subst, inl, inr, append-nil}
->>>>>>> ff8d0ad36c0b41da50e18853311cd8fe6003a40c
 use Rattle.std.specs.Prelude.{Result, Ok, Err, IfOk, IfSome, ◌||◌, ◌≢◌}
 use Rattle.std.specs.List.{AllByRecursion}
 use Rattle.std.specs.Result.{result_ok}

@@ -1,11 +1,6 @@
 -- Pieces of a script, one after another.
-<<<<<<< HEAD
 use Rattle.std.proofs.Common.{◌≡◌, ℕ, zero, suc, ◌+◌, ◌*◌, ◌<◌, ◌≤◌, Bool, true, false, cond, List}
 use Rattle.std.proofs.Common.{[]}
-=======
-use Rattle.std.proofs.Common.{◌≡◌, ℕ, zero, suc, ◌+◌, ◌*◌, ◌<◌, ◌≤◌, Bool, true, false, cond}
-use Rattle.std.proofs.Common.{List, []}
->>>>>>> ff8d0ad36c0b41da50e18853311cd8fe6003a40c
 use Rattle.std.proofs.Common.{◌∷◌, ◌++◌, map, drop, take, length, refl, sym, ◌∙◌, ap, subst, arith}
 use Rattle.std.proofs.Common.{Option, Some, None, append_assoc, append-nil, inl, inr}
 use Rattle.std.specs.Prelude.{count_by, flat_map, min}

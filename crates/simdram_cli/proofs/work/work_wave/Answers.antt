@@ -4,8 +4,8 @@ use Rattle.std.proofs.lemmas.List.{length-map}
 use Rattle.bbop_isa.specs.Forms.{view_of}
 use Rattle.machine_model.specs.Script.{is_refused}
 use Rattle.machine_model.proofs.Parts.{waves_are_answered}
-use Rattle.sim_machine.specs.Machine.{banks_by, geometry_of, operations_by, table_in}
-use Rattle.simdram_cli.proofs.Sending.{bound_of, wave_did, wave_failed, wave_sent}
+use Rattle.sim_machine.specs.Machine.{geometry_of, operations_by, table_in}
+use Rattle.simdram_cli.proofs.Sending.{wave_did, wave_failed, wave_sent}
 use Rattle.simdram_cli.proofs.work.work_wave.Goals as goal
 
 pub returns-in-Ok-clause-done : goal.returns-in-Ok-clause-done
@@ -38,7 +38,6 @@ returns-in-Ok-clause-goes g c files =
 pub returns-in-Err-clause-goes : goal.returns-in-Err-clause-goes
 returns-in-Err-clause-goes g c files =
     let m = c.args.machine.now in
-    let bound = bound_of (banks_by m) (map view_of c.args.wave.now) in
     rw c.fault_stop.ensures (wave_failed c.in-Err.fault (geometry_of m) (operations_by m)
     (table_in m) (g.D.Dram.view c.args.chip.now).banks c.args.number (map view_of c.args.wave.now)
     files (g.S.Sink.view c.args.out.now) (g.S.Sink.view c.wave.new.out)
@@ -46,7 +45,7 @@ returns-in-Err-clause-goes g c files =
     (rw length-map c.requires.some) (record {
       sink = c.wave.ensures.sink_faults;
       chip = c.wave.ensures.kept.faults;
-      chip_rose = λ e. (c.in-Err.ensures.chip_fault (rw e refl) bound.0 bound.1).rose;
+      chip_rose = λ e. c.in-Err.ensures.chip_fault (rw e refl);
       unsent = λ e. c.in-Err.ensures.unsent (rw e refl);
       sink_rose = λ e. c.in-Err.ensures.write_fault (rw e refl);
       part = λ e. c.in-Err.ensures.part (rw e refl);
