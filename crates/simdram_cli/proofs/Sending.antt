@@ -310,16 +310,3 @@ wave_did g o table wave events a b bbops did =
     }) where
       nothing_more : (k : Counters) → k ≡ with_reads 0 k
       nothing_more k = let e : k.reads ≡ k.reads + 0 = omega arith in rw (← e) refl
-
-looser : {X : Type 0} (f : X → ℕ) (more k : ℕ) (xs : List X) → AllByRecursion (λ x. f x ≤ k) xs
-    → AllByRecursion (λ x. f x ≤ more + k) xs
-looser f more k [] all = tt
-looser f more k (x ∷ xs) all = (omega (arith, all.0), looser f more k xs all.1)
-
--- a number that no value of a list passes
-pub bound_of : {X : Type 0} (f : X → ℕ) (xs : List X)
-    → (k : ℕ) × AllByRecursion (λ x. f x ≤ k) xs
-bound_of f [] = (0, tt)
-bound_of f (x ∷ xs) =
-    let rest = bound_of f xs in
-    (f x + rest.0, (omega arith, looser f (f x) rest.0 xs rest.1))
