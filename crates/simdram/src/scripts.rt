@@ -244,7 +244,7 @@ fn scripts_are_done(rt: HostRuntime) -> Result<(), Fail> {
     Ok(())
 }
 
-/// One operation on sources a and b of width n into y, in a bank of so many rows, and what y prints.
+/// An operation on sources a and b of width n into y, in a bank of so many rows, and what y prints.
 struct Job {
     rows: u16,
     ops: &'static str,
