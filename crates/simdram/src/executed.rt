@@ -2,7 +2,7 @@
 
 use crate::accounts::{TWO, looped};
 use crate::migrated::XOR;
-use crate::runs::text;
+use crate::runs::{holds, text};
 use dram_chip::Chip;
 use host_edge::{MemFolder, MemSink};
 use simdram_cli::simdram;
@@ -180,14 +180,11 @@ fn programs_are_executed(rt: HostRuntime) -> Result<(), Fail> {
 fn check(rt: &impl Abort, case: &Case<'_>, alloc: Global) -> Result<(), Fail> {
     let (status, out, files) = exec(case, alloc)?;
     assert_eq!(rt; (text(&out), status), (case.report, case.status));
-    let program = files.file("prog").ok_or("no program")?;
-    assert!(rt; program == case.program);
-    match case.rows {
-        None => assert_eq!(rt; files.file("out"), None),
-        Some(rows) => {
-            let wanted = image(case.width, rows, alloc)?;
-            assert_eq!(rt; files.file("out"), Some(wanted.as_slice()));
-        }
+    assert!(rt; holds(&files, "prog", case.program));
+    assert_eq!(rt; files.file("out").is_some(), case.rows.is_some());
+    if let Some(rows) = case.rows {
+        let wanted = image(case.width, rows, alloc)?;
+        assert!(rt; holds(&files, "out", &wanted));
     }
     Ok(())
 }

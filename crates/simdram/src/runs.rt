@@ -73,6 +73,14 @@ pub fn text(out: &MemSink) -> &str {
     str::from_utf8(out.bytes()).unwrap_or("no text")
 }
 
+/// Whether a file has just these bytes.
+pub fn holds(files: &MemFolder, name: &str, wanted: &[u8]) -> bool {
+    match files.file(name) {
+        Some(bytes) => bytes.len() == wanted.len() && bytes.starts_with(wanted),
+        None => false,
+    }
+}
+
 /// A run that ended: its status, and the folder and the sink behind it.
 #[derive(Drop)]
 pub struct Ended {

@@ -1,6 +1,6 @@
 //! Scripts on images of `init`, with their whole reports.
 
-use crate::runs::text;
+use crate::runs::{holds, text};
 use dram_chip::Chip;
 use host_edge::{MemFolder, MemSink};
 use simdram_cli::simdram;
@@ -244,7 +244,7 @@ fn scripts_are_done(rt: HostRuntime) -> Result<(), Fail> {
     Ok(())
 }
 
-/// One operation on sources a and b of width n into y, in a bank of so many rows, and what y shows.
+/// An operation on sources a and b of width n into y, in a bank of so many rows, and what y prints.
 struct Job {
     rows: u16,
     ops: &'static str,
@@ -605,7 +605,7 @@ fn every_order_gives_one_answer(rt: HostRuntime) -> Result<(), Fail> {
         let mut files = folder(["2", "128", "1"], ADD, script.as_str(), alloc)?;
         let (status, out) = run_in(&mut files, alloc);
         assert_eq!(rt; (text(&out), status), (WAVE_REPORT, 0), "{order}");
-        assert_eq!(rt; files.file("out"), Some(wanted.as_slice()), "{order}");
+        assert!(rt; holds(&files, "out", &wanted), "{order}");
     }
     Ok(())
 }
