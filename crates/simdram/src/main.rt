@@ -25,6 +25,8 @@ mod failing;
 #[cfg(test)]
 mod jobs;
 #[cfg(test)]
+mod listening;
+#[cfg(test)]
 mod migrated;
 #[cfg(test)]
 mod operations;
