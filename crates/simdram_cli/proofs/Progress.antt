@@ -63,9 +63,9 @@ pub record Holds (g : Geometry) (table : List Named) : Type 0 where
 
 pub holds_of : (m : Machine) (g : Geometry) → geometry_of m ≡ g → IsReady m → Holds g (table_in m)
 holds_of m g e ready = subst (λ (x : Geometry). Holds x (table_in m)) e (record {
-  words = (geometry_parts (geometry_of m) ready.lies.geometry).0;
+  words = (geometry_parts (geometry_of m) ready.set.geometry).0;
   fits = fits_banks (geometry_of m) (table_in m)
-      (record { listed = ready.lies.listed; objects = ready.lies.objects });
+      (record { listed = ready.set.listed; objects = ready.set.objects });
 })
 
 -- what is left behind the first piece
