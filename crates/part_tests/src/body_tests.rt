@@ -54,6 +54,24 @@ fn row_of<D: Dram>(chip: &mut D, row: u16) -> Result<u64, Fail>
     Ok(word[0])
 }
 
+/// The adder's outputs: its graph has three inputs and three nodes, and they name nodes of it.
+fn adder_outputs(rt: &impl Abort, m: &Mig, sum: Lit, carry: Lit) -> [OutRow; 2]
+    ensures { FitBody m.now result }
+{
+    assert!(rt; m.inputs() == 3 && m.size() == 7);
+    assert!(rt; carry.node < m.size() && sum.node < m.size());
+    [
+        OutRow {
+            lit: sum,
+            same: None,
+        },
+        OutRow {
+            lit: carry,
+            same: Some(2),
+        },
+    ]
+}
+
 /// The full adder's graph, with the sum as its first output, and the carry in the row of the third
 /// input.
 fn full_adder(rt: &impl Abort, alloc: Global) -> Result<(Mig, [OutRow; 2]), NoMemory>
@@ -75,21 +93,8 @@ fn full_adder(rt: &impl Abort, alloc: Global) -> Result<(Mig, [OutRow; 2]), NoMe
         inverted: !carry.inverted,
     };
     let sum = m.maj(opposite, plain(3), part)?;
-    assert!(rt; m.inputs() == 3 && m.size() == 7);
-    assert!(rt; carry.node < m.size() && sum.node < m.size());
-    Ok((
-        m,
-        [
-            OutRow {
-                lit: sum,
-                same: None,
-            },
-            OutRow {
-                lit: carry,
-                same: Some(2),
-            },
-        ],
-    ))
+    let outs = adder_outputs(rt, &m, sum, carry);
+    Ok((m, outs))
 }
 
 /// Whether the commands add sixty-four columns of bits, drawn by hand, and leave all other rows.
