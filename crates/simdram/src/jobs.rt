@@ -3,6 +3,8 @@
 use crate::runs::{Object, image_of, number_at, run};
 use bit_rows::Value;
 use op_lang::parse_ops;
+use std::alloc::Global;
+use std::process::Abort;
 use std::test::*;
 use uprog_gen::compile_ops;
 
@@ -296,40 +298,193 @@ fn scratch_needs_a_row(rt: HostRuntime) -> Result<(), Fail> {
     Ok(())
 }
 
-/// Each word operation on words of 8 bits and a bit, the kind of its result, and its AAP and AP.
-static COUNTS: [(&str, &str, u32, u32); 26] = [
-    ("not(a)", "word", 16, 0),
-    ("and(a, b)", "word", 32, 0),
-    ("or(a, b)", "word", 32, 0),
-    ("xor(a, b)", "word", 40, 16),
-    ("copy(a)", "word", 8, 0),
-    ("zero()", "word", 8, 0),
-    ("ones()", "word", 8, 0),
-    ("shl1(a)", "word", 17, 0),
-    ("shr1(a)", "word", 17, 0),
-    ("add(a, b)", "word", 65, 8),
-    ("sub(a, b)", "word", 57, 0),
-    ("mul(a, b)", "word", 412, 0),
-    ("div(a, b)", "word", 968, 0),
-    ("rem(a, b)", "word", 968, 0),
-    ("abs(a)", "word", 73, 0),
-    ("relu(a)", "word", 32, 0),
-    ("min(a, b)", "word", 89, 0),
-    ("max(a, b)", "word", 89, 0),
-    ("eq(a, b)", "bit", 57, 0),
-    ("gt(a, b)", "bit", 33, 0),
-    ("ge(a, b)", "bit", 33, 0),
-    ("if_else(a, b, s)", "word", 56, 0),
-    ("bitcount(a)", "word", 472, 0),
-    ("and_red(a)", "bit", 33, 0),
-    ("or_red(a)", "bit", 33, 0),
-    ("xor_red(a)", "bit", 41, 16),
+/// An op of one operation on words of 8 bits and a bit, and its AAP and AP.
+struct Counted {
+    ops: &'static str,
+    is_word: bool,
+    aap: u32,
+    ap: u32,
+}
+
+static COUNTS: [Counted; 26] = [
+    Counted {
+        ops: "op f(a: word, b: word, s: bit) -> y: word { y = not(a); }",
+        is_word: true,
+        aap: 16,
+        ap: 0,
+    },
+    Counted {
+        ops: "op f(a: word, b: word, s: bit) -> y: word { y = and(a, b); }",
+        is_word: true,
+        aap: 32,
+        ap: 0,
+    },
+    Counted {
+        ops: "op f(a: word, b: word, s: bit) -> y: word { y = or(a, b); }",
+        is_word: true,
+        aap: 32,
+        ap: 0,
+    },
+    Counted {
+        ops: "op f(a: word, b: word, s: bit) -> y: word { y = xor(a, b); }",
+        is_word: true,
+        aap: 40,
+        ap: 16,
+    },
+    Counted {
+        ops: "op f(a: word, b: word, s: bit) -> y: word { y = copy(a); }",
+        is_word: true,
+        aap: 8,
+        ap: 0,
+    },
+    Counted {
+        ops: "op f(a: word, b: word, s: bit) -> y: word { y = zero(); }",
+        is_word: true,
+        aap: 8,
+        ap: 0,
+    },
+    Counted {
+        ops: "op f(a: word, b: word, s: bit) -> y: word { y = ones(); }",
+        is_word: true,
+        aap: 8,
+        ap: 0,
+    },
+    Counted {
+        ops: "op f(a: word, b: word, s: bit) -> y: word { y = shl1(a); }",
+        is_word: true,
+        aap: 17,
+        ap: 0,
+    },
+    Counted {
+        ops: "op f(a: word, b: word, s: bit) -> y: word { y = shr1(a); }",
+        is_word: true,
+        aap: 17,
+        ap: 0,
+    },
+    Counted {
+        ops: "op f(a: word, b: word, s: bit) -> y: word { y = add(a, b); }",
+        is_word: true,
+        aap: 65,
+        ap: 8,
+    },
+    Counted {
+        ops: "op f(a: word, b: word, s: bit) -> y: word { y = sub(a, b); }",
+        is_word: true,
+        aap: 57,
+        ap: 0,
+    },
+    Counted {
+        ops: "op f(a: word, b: word, s: bit) -> y: word { y = mul(a, b); }",
+        is_word: true,
+        aap: 412,
+        ap: 0,
+    },
+    Counted {
+        ops: "op f(a: word, b: word, s: bit) -> y: word { y = div(a, b); }",
+        is_word: true,
+        aap: 968,
+        ap: 0,
+    },
+    Counted {
+        ops: "op f(a: word, b: word, s: bit) -> y: word { y = rem(a, b); }",
+        is_word: true,
+        aap: 968,
+        ap: 0,
+    },
+    Counted {
+        ops: "op f(a: word, b: word, s: bit) -> y: word { y = abs(a); }",
+        is_word: true,
+        aap: 73,
+        ap: 0,
+    },
+    Counted {
+        ops: "op f(a: word, b: word, s: bit) -> y: word { y = relu(a); }",
+        is_word: true,
+        aap: 32,
+        ap: 0,
+    },
+    Counted {
+        ops: "op f(a: word, b: word, s: bit) -> y: word { y = min(a, b); }",
+        is_word: true,
+        aap: 89,
+        ap: 0,
+    },
+    Counted {
+        ops: "op f(a: word, b: word, s: bit) -> y: word { y = max(a, b); }",
+        is_word: true,
+        aap: 89,
+        ap: 0,
+    },
+    Counted {
+        ops: "op f(a: word, b: word, s: bit) -> y: bit { y = eq(a, b); }",
+        is_word: false,
+        aap: 57,
+        ap: 0,
+    },
+    Counted {
+        ops: "op f(a: word, b: word, s: bit) -> y: bit { y = gt(a, b); }",
+        is_word: false,
+        aap: 33,
+        ap: 0,
+    },
+    Counted {
+        ops: "op f(a: word, b: word, s: bit) -> y: bit { y = ge(a, b); }",
+        is_word: false,
+        aap: 33,
+        ap: 0,
+    },
+    Counted {
+        ops: "op f(a: word, b: word, s: bit) -> y: word { y = if_else(a, b, s); }",
+        is_word: true,
+        aap: 56,
+        ap: 0,
+    },
+    Counted {
+        ops: "op f(a: word, b: word, s: bit) -> y: word { y = bitcount(a); }",
+        is_word: true,
+        aap: 472,
+        ap: 0,
+    },
+    Counted {
+        ops: "op f(a: word, b: word, s: bit) -> y: bit { y = and_red(a); }",
+        is_word: false,
+        aap: 33,
+        ap: 0,
+    },
+    Counted {
+        ops: "op f(a: word, b: word, s: bit) -> y: bit { y = or_red(a); }",
+        is_word: false,
+        aap: 33,
+        ap: 0,
+    },
+    Counted {
+        ops: "op f(a: word, b: word, s: bit) -> y: bit { y = xor_red(a); }",
+        is_word: false,
+        aap: 41,
+        ap: 16,
+    },
 ];
+
+/// Whether a run of it counts so many commands.
+fn counts(rt: &impl Abort, case: &Counted, image: &[u8], alloc: Global) -> Result<(), Fail> {
+    let script = if case.is_word {
+        "bbop_f y, a, b, s, 64, 8"
+    } else {
+        "bbop_f z, a, b, s, 64, 8"
+    };
+    let ended = run(case.ops, script, image, alloc)?;
+    let (aap, ap) = (case.aap, case.ap);
+    let report = format!(in alloc;
+        "1 ok aap={aap} ap={ap}\ntotal aap={aap} ap={ap} \
+        writes=128 reads=128 refused=0\n"
+    )?;
+    assert_eq!(rt; ended.out.bytes(), report.as_bytes());
+    Ok(())
+}
 
 // One command more or less in a body changes the count.
 #[test]
 fn operations_have_their_counts(rt: HostRuntime) -> Result<(), Fail> {
-    let alloc = rt.alloc();
     let object = |name: u8, width: u8| Object {
         name,
         width,
@@ -342,19 +497,9 @@ fn operations_have_their_counts(rt: HostRuntime) -> Result<(), Fail> {
         object(b'y', 8),
         object(b'z', 1),
     ];
-    let image = image_of(&objects, 128, alloc)?;
-    for (call, kind, aap, ap) in COUNTS {
-        let ops = format!(in alloc;
-            "op f(a: word, b: word, s: bit) -> y: {kind} {{ y = {call}; }}"
-        )?;
-        let target = if kind == "word" { "y" } else { "z" };
-        let script = format!(in alloc; "bbop_f {target}, a, b, s, 64, 8")?;
-        let ended = run(&ops, &script, &image, alloc)?;
-        let report = format!(in alloc;
-            "1 ok aap={aap} ap={ap}\ntotal aap={aap} ap={ap} \
-            writes=128 reads=128 refused=0\n"
-        )?;
-        assert_eq!(rt; ended.out.bytes(), report.as_bytes(), "{call}");
+    let image = image_of(&objects, 128, rt.alloc())?;
+    for case in &COUNTS {
+        counts(&rt, case, &image, rt.alloc())?;
     }
     Ok(())
 }
