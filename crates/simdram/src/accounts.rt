@@ -6,6 +6,7 @@ use dram_chip::Chip;
 use host_edge::{MemFolder, MemSink};
 use simdram_cli::simdram;
 use std::alloc::Global;
+use std::process::Abort;
 use std::test::*;
 
 /// A program with two entries in version 2: `dup` of a word into two words, and `all`, of a bit and
@@ -80,31 +81,35 @@ fn answer(words: &[&str], prog: &[u8], alloc: Global) -> Result<(u8, MemSink), F
     Ok((status, out))
 }
 
+/// Whether a command on a file ends with 0 and sends this text.
+fn tells(
+    rt: &impl Abort,
+    words: &[&str],
+    prog: &[u8],
+    sent: &str,
+    alloc: Global,
+) -> Result<(), Fail> {
+    let (status, out) = answer(words, prog, alloc)?;
+    assert_eq!(rt; status, 0);
+    assert_eq!(rt; text(&out), sent);
+    Ok(())
+}
+
 #[test]
 fn programs_are_told(rt: HostRuntime) -> Result<(), Fail> {
     let empty = [0x53, 0x44, 0x4D, 0x50, 0x01, 0x00, 0x00, 0x00];
-    let cases: [(&[&str], &[u8], &str); 8] = [
-        (&["list", "prog"], &XOR, XOR_LISTED),
-        (&["list", "prog"], &TWO, TWO_LISTED),
-        (&["list", "prog"], &empty, ""),
-        (&["cost", "prog", "1"], &empty, ""),
-        (&["cost", "prog", "1"], &XOR, "xor aap=5 ap=2 rows=0\n"),
-        (&["cost", "prog", "128"], &XOR, "xor aap=5 ap=2 rows=0\n"),
-        (
-            &["cost", "prog", "0003"],
-            &TWO,
-            "dup aap=3 ap=0 rows=0\nall aap=2 ap=1 rows=10\n",
-        ),
-        (
-            &["cost", "prog", "8"],
-            &TWO,
-            "dup aap=3 ap=0 rows=0\nall aap=2 ap=1 rows=20\n",
-        ),
-    ];
-    for (words, prog, sent) in cases {
-        let (status, out) = answer(words, prog, rt.alloc())?;
-        assert_eq!(rt; (status, out.bytes()), (0, sent.as_bytes()));
-    }
+    let alloc = rt.alloc();
+    tells(&rt, &["list", "prog"], &XOR, XOR_LISTED, alloc)?;
+    tells(&rt, &["list", "prog"], &TWO, TWO_LISTED, alloc)?;
+    tells(&rt, &["list", "prog"], &empty, "", alloc)?;
+    tells(&rt, &["cost", "prog", "1"], &empty, "", alloc)?;
+    let cost = "xor aap=5 ap=2 rows=0\n";
+    tells(&rt, &["cost", "prog", "1"], &XOR, cost, alloc)?;
+    tells(&rt, &["cost", "prog", "128"], &XOR, cost, alloc)?;
+    let cost = "dup aap=3 ap=0 rows=0\nall aap=2 ap=1 rows=10\n";
+    tells(&rt, &["cost", "prog", "0003"], &TWO, cost, alloc)?;
+    let cost = "dup aap=3 ap=0 rows=0\nall aap=2 ap=1 rows=20\n";
+    tells(&rt, &["cost", "prog", "8"], &TWO, cost, alloc)?;
     Ok(())
 }
 
@@ -129,15 +134,15 @@ fn stuck_walks_are_told(rt: HostRuntime) -> Result<(), Fail> {
     let over = [
         1, 0, 0xFF, 3, 0, 0, 0, 0, 6, 0, 1, 0, 0, 0, 0, 0, 0, 0, 0, 0, 0, 0, 0, 0,
     ];
-    for (code, n, sent) in [
-        (forever, "1", "xor bad_walk 1 budget\n"),
-        (past, "1", "xor bad_walk 1 index\n"),
-        (past, "2", "xor aap=1 ap=0 rows=0\n"),
-        (over, "1", "xor bad_walk 1 register\n"),
-    ] {
-        let (status, out) = answer(&["cost", "prog", n], &looped(code), rt.alloc())?;
-        assert_eq!(rt; (status, out.bytes()), (0, sent.as_bytes()));
-    }
+    let alloc = rt.alloc();
+    let told = "xor bad_walk 1 budget\n";
+    tells(&rt, &["cost", "prog", "1"], &looped(forever), told, alloc)?;
+    let told = "xor bad_walk 1 index\n";
+    tells(&rt, &["cost", "prog", "1"], &looped(past), told, alloc)?;
+    let told = "xor aap=1 ap=0 rows=0\n";
+    tells(&rt, &["cost", "prog", "2"], &looped(past), told, alloc)?;
+    let told = "xor bad_walk 1 register\n";
+    tells(&rt, &["cost", "prog", "1"], &looped(over), told, alloc)?;
     Ok(())
 }
 
@@ -281,10 +286,8 @@ fn what_fails_is_told(rt: HostRuntime) -> Result<(), Fail> {
     let mut out = MemSink::new(alloc);
     let mut chip = Chip::new(alloc);
     let status = simdram(&["list", "prog"], &mut files, &mut out, &mut chip, alloc);
-    assert_eq!(rt;
-        (status, out.bytes()),
-        (2, b"cannot read prog\n".as_slice())
-    );
+    assert_eq!(rt; status, 2);
+    assert_eq!(rt; text(&out), "cannot read prog\n");
     files.put_file("prog", &XOR).ok().ok_or("memory")?;
     let mut failing = MemSink::new(alloc);
     failing.fail_at(1).ok().ok_or("memory")?;
@@ -295,6 +298,7 @@ fn what_fails_is_told(rt: HostRuntime) -> Result<(), Fail> {
         &mut chip,
         alloc,
     );
-    assert_eq!(rt; (status, failing.bytes()), (3, b"".as_slice()));
+    assert_eq!(rt; status, 3);
+    assert_eq!(rt; text(&failing), "");
     Ok(())
 }
