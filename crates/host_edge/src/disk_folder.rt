@@ -10,8 +10,9 @@ ghost use Rattle.host_edge.specs.Views.{SameLoadFaults, CountsFault, HasBytes, I
 ghost use Rattle.host_edge.specs.Views.{KeepsOthers, HasNoFaults};
 
 use crate::answer::{Failed, LoadNo};
+use crate::disk_file::set_file;
 use crate::folder::Folder;
-use crate::stream::{read_whole, write_whole};
+use crate::stream::read_whole;
 use fault_counts::raised;
 use std::alloc::Global;
 use std::fs;
@@ -130,11 +131,7 @@ impl Folder for DiskFolder<'_> {
         ensures taken { (disk_view self.new).taken ≡ (disk_view self.old).taken }
         ensures words { words_of self.new ≡ words_of self.old }
     {
-        let stored = match fs::create(&self.rt, name) {
-            Ok(mut file) => write_whole(&mut file, bytes),
-            Err(_) => false,
-        };
-        if stored {
+        if set_file(&self.rt, name, bytes) {
             Ok(())
         } else {
             self.store_faults = raised(self.store_faults, 1);

@@ -2,6 +2,7 @@
 #![tactic(auto)]
 
 mod answer;
+mod disk_file;
 mod disk_folder;
 mod folder;
 mod mem_folder;

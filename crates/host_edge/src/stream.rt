@@ -50,7 +50,7 @@ pub(crate) fn read_whole<R: Read>(
 {
     let mut bytes = Vec::new(alloc);
     let mut taken = 0;
-    let mut piece = [0u8; 4096];
+    let mut piece = [0u8; 65536];
     for _ in 0..u64::MAX {
         match reader.read(&mut piece) {
             Ok(0) => return (taken, Ok(bytes)),

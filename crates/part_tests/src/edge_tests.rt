@@ -3,6 +3,8 @@
 use host_edge::{DiskFolder, Failed, Folder, LoadNo, MemFolder, MemSink, Sink, StdSink};
 use std::alloc::AllocError;
 use std::fs;
+use std::fs::Permissions;
+use std::os::unix::fs::{PermissionsExt, symlink};
 use std::test::*;
 
 #[test]
@@ -25,6 +27,29 @@ fn what_is_stored_is_loaded(rt: HostRuntime) -> Result<(), AllocError> {
     assert_eq!(rt; folder.store("no/such/folder", b"x"), Err(Failed));
     assert!(rt; fs::remove_file(&rt, name).is_ok());
     Ok(())
+}
+
+#[test]
+fn a_stored_file_keeps_its_mode(rt: HostRuntime) {
+    let (name, link, alloc) = ("mode_test.bin", "mode_test.link", rt.alloc());
+    let words = [name, link];
+    assert!(rt; fs::write(&rt, name, b"old bytes").is_ok());
+    assert!(rt; fs::set_permissions(&rt, name, Permissions::from_mode(0o640)).is_ok());
+    assert!(rt; symlink(&rt, name, link).is_ok());
+    let mut folder = DiskFolder::new(rt, &words);
+    for (to, bytes) in [(name, b"new"), (link, b"by!")] {
+        assert_eq!(rt; folder.store(to, bytes), Ok(()));
+        let found = folder.load(name, 9, alloc);
+        assert!(rt; found.is_ok_and(|found| found.as_slice() == bytes.as_slice()));
+        let mode = fs::metadata(&rt, name).map(|found| found.permissions().mode() & 0o777);
+        assert!(rt; mode.is_ok_and(|mode| mode == 0o640));
+    }
+    let kept = fs::symlink_metadata(&rt, link).is_ok_and(|found| found.file_type().is_symlink());
+    assert!(rt; kept, "a link is written through");
+    for device in ["/dev/full", "."] {
+        assert_eq!(rt; folder.store(device, b"x"), Err(Failed), "{device}");
+    }
+    assert!(rt; fs::remove_file(&rt, link).is_ok() && fs::remove_file(&rt, name).is_ok());
 }
 
 #[test]
