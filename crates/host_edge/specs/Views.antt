@@ -1,5 +1,5 @@
 -- What a folder and a sink show at a moment, and how two such moments are related.
-use Rattle.std.specs.Prelude.{◌≡◌, ◌≢◌, ℕ, ◌+◌, ◌-◌, ◌^◌, ◌<◌, ◌≤◌, Bool, if◌then◌else◌, min, List}
+use Rattle.std.specs.Prelude.{◌≡◌, ◌≢◌, ℕ, ◌<◌, ◌≤◌, Bool, if◌then◌else◌, List}
 use Rattle.std.specs.Prelude.{◌++◌, length, Option, Some, None, IfSome}
 use Rattle.fault_counts.specs.Counts.{raised}
 

@@ -1,10 +1,8 @@
 //! A file of the file system, set as a whole.
 
 use crate::stream::write_whole;
-use std::alloc::Global;
 use std::fs;
 use std::fs::{OpenFile, OpenOptions, Permissions};
-use std::io;
 use std::io::ErrorKind;
 
 /// How many names beside a file are tried.
@@ -22,50 +20,30 @@ enum Beside {
 
 /// Sets the file to the bytes, and says whether it did. They are written beside the file, which
 /// they then replace with its mode, so that a crash or a full disk leaves the old file or the new
-/// one. What is no regular file, or is a link, is written in place, and so is a file in a folder
-/// where none can be made.
+/// one. What is no regular file is written in place, a link's file too.
 pub(crate) fn set_file(rt: &HostRuntime, name: &str, bytes: &[u8]) -> bool {
-    match OpenOptions::new().write(true).open(rt, name) {
-        Ok(mut file) => match kept_mode(rt, name) {
-            Some(mode) => match put_beside(rt, name, Some(mode), bytes) {
-                Beside::Moved => true,
-                Beside::Failed => false,
-                Beside::NotMade => overwrite(&mut file, bytes),
-            },
-            None => overwrite(&mut file, bytes),
-        },
-        Err(e) if e.kind() == ErrorKind::NotFound => make_file(rt, name, bytes),
-        Err(_) => false,
-    }
-}
-
-/// The mode of a regular file that is no link.
-fn kept_mode(rt: &HostRuntime, name: &str) -> Option<Permissions> {
     match fs::symlink_metadata(rt, name) {
-        Ok(found) if found.is_file() => Some(found.permissions()),
-        _ => None,
+        Ok(found) if found.is_file() => {
+            let may_write = OpenOptions::new().write(true).open(rt, name).is_ok();
+            may_write && replace(rt, name, Some(found.permissions()), bytes)
+        }
+        Err(e) if e.kind() == ErrorKind::NotFound => replace(rt, name, None, bytes),
+        _ => write_in_place(rt, name, bytes),
     }
 }
 
-/// Makes a file that does not stand. A link to nothing is followed.
-fn make_file(rt: &HostRuntime, name: &str, bytes: &[u8]) -> bool {
-    if fs::symlink_metadata(rt, name).is_ok() {
-        return match fs::create(rt, name) {
-            Ok(mut file) => write_whole(&mut file, bytes),
-            Err(_) => false,
-        };
-    }
-    match put_beside(rt, name, None, bytes) {
+/// Replaces a file, or makes it. Where no file can be made beside it, it is written in place.
+fn replace(rt: &HostRuntime, name: &str, mode: Option<Permissions>, bytes: &[u8]) -> bool {
+    match put_beside(rt, name, mode, bytes) {
         Beside::Moved => true,
-        Beside::Failed | Beside::NotMade => false,
+        Beside::Failed => false,
+        Beside::NotMade => write_in_place(rt, name, bytes),
     }
 }
 
-/// Writes an open file anew.
-fn overwrite(file: &mut fs::File, bytes: &[u8]) -> bool {
-    match file.metadata() {
-        Ok(found) if found.is_file() => file.set_len(0).is_ok() && write_whole(file, bytes),
-        Ok(_) => write_whole(file, bytes),
+fn write_in_place(rt: &HostRuntime, name: &str, bytes: &[u8]) -> bool {
+    match fs::create(rt, name) {
+        Ok(mut file) => write_whole(&mut file, bytes),
         Err(_) => false,
     }
 }
@@ -74,7 +52,7 @@ fn overwrite(file: &mut fs::File, bytes: &[u8]) -> bool {
 fn put_beside(rt: &HostRuntime, name: &str, mode: Option<Permissions>, bytes: &[u8]) -> Beside {
     for number in 0..NAMES {
         let Ok(beside) = format!(in rt.alloc(); "{name}.new{number}") else {
-            return Beside::Failed;
+            return Beside::NotMade;
         };
         match fs::File::create_new(rt, &beside) {
             Ok(mut file) => {
