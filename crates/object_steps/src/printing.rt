@@ -94,8 +94,8 @@ fn add_all<S: Sink>(values: &[Value], text: &mut Piece, out: &mut S) -> Result<(
         (S.view out.old).sent (S.view out.new).sent) }
     ensures failed { OnErr result (Rose (S.view out.old).faults (S.view out.new).faults) }
 {
-    for i in 0..values.len() {
-        add_value(text, values[i], out)?;
+    for value in values {
+        add_value(text, *value, out)?;
     }
     Ok(())
 }
