@@ -3,14 +3,18 @@
 
 Run it at the top of the repository:  python3 bench/speed.py [--times N] [JOB..]
 
-It builds the program (by ./simdram) and bench/baseline.c (by gcc -O3 -march=x86-64-v2), and runs both in turn. A job that
-the program refuses is shown with the line that says so. A script's part is the time of the run less that of a run with an
-empty script on the same image. Times are in milliseconds, least and middle; memory is the program's greatest, as a
-multiple of the image.
+It builds the program (by ./simdram, or takes the one that --program names) and bench/baseline.c (by gcc -O3
+-march=x86-64-v2), and runs both in turn. A job that the program refuses is shown with the line that says so. A script's
+part is the time of the run less that of a run with an empty script on the same image. Times are in milliseconds, least
+and middle of N (10); memory is the program's greatest, as a multiple of the image; the speed is that of the script's
+bytes, or of an image that is opened and stored. A last column says whether report and OUT were the same byte for byte.
+`--processor` takes processor time in place of elapsed time, for a machine that others use too, and `--table` prints the
+ratios as the table of README.md.
 """
 
 import argparse
 import dataclasses
+import filecmp
 import os
 import pathlib
 import statistics
@@ -20,9 +24,11 @@ import tempfile
 import time
 
 TOP = pathlib.Path(__file__).resolve().parent.parent
+PROCESSOR = False
 PROGRAM = TOP / "crates" / "simdram" / "out" / "simdram"
 MAC = "op mac(a: word, b: word, c: word) -> y: word { t = mul(a, b); y = add(t, c); }\n"
 ADD = "op add(a: word, b: word) -> y: word { y = add(a, b); }\n"
+LEAST = 0.005  # seconds of plain C below which a script's part is not shown
 ORDERS = ("order in", "order turns", "order seed 7")
 
 
@@ -65,16 +71,20 @@ def jobs():
               1000 * "bbop_mac y, a, b, c, 64, 32\n", 2.0)
 
 
-def image(geometry, objects):
+def write_image(path, geometry, objects):
+    """Writes an image and gives its size. It goes by pieces, as a child's peak memory begins at its parent's."""
     banks, rows, words = geometry
     table, base = b"", 0
     for name, width, count in objects:
         table += bytes([len(name)]) + name.encode().ljust(16, b"\0") + struct.pack("<BHI", width, base, count)
         base += width
-    head = b"SDMI" + struct.pack("<HHHHH", 1, banks, rows, words, len(objects))
     block = bytes(k * k % 251 for k in range(4096))
     size = 8 * banks * rows * words
-    return head + table + (block * (size // 4096 + 1))[:size]
+    with open(path, "wb") as file:
+        file.write(b"SDMI" + struct.pack("<HHHHH", 1, banks, rows, words, len(objects)) + table)
+        for start in range(0, size, len(block)):
+            file.write(block[:size - start])
+        return file.tell()
 
 
 def run(words, folder):
@@ -83,7 +93,7 @@ def run(words, folder):
         start = time.perf_counter()
         child = subprocess.Popen(words, cwd=folder, stdout=report, stderr=subprocess.DEVNULL)
         _, status, usage = os.wait4(child.pid, 0)
-        seconds = time.perf_counter() - start
+        seconds = usage.ru_utime + usage.ru_stime if PROCESSOR else time.perf_counter() - start
     child.returncode = os.waitstatus_to_exitcode(status)
     return seconds, 1024 * usage.ru_maxrss, child.returncode, (folder / "report").read_bytes()
 
@@ -108,72 +118,115 @@ class Times:
         self.peak = max(self.peak, memory)
         seconds, _, status, expected = run([baseline, "prog", "script", "image", "other"], folder)
         self.theirs.append(seconds)
-        stored = (folder / "out").read_bytes() == (folder / "other").read_bytes()
+        stored = filecmp.cmp(folder / "out", folder / "other", shallow=False)
         self.same = self.same and status == 0 and stored and report == expected
 
     def less(self, bare):
         """What is left without the least time of a bare run."""
         return Times([a - min(bare.ours) for a in self.ours], [a - min(bare.theirs) for a in self.theirs])
 
-    def line(self, name, reach, more):
+    def ratios(self):
         least = min(self.ours) / min(self.theirs)
-        middle = statistics.median(self.ours) / statistics.median(self.theirs)
+        return least, statistics.median(self.ours) / statistics.median(self.theirs)
+
+    def line(self, name, reach, more):
+        least, middle = self.ratios()
         figures = (min(self.ours), statistics.median(self.ours), min(self.theirs), statistics.median(self.theirs))
         shown = " ".join(f"{1000 * seconds:8.1f}" for seconds in figures)
         print(f"{name:18} {shown} {least:6.2f} {middle:6.2f} {reach or '':6} {more}", flush=True)
 
 
+def speed(size, seconds):
+    return f"{size / seconds / 1e6:.0f} MB/s" if size > 1 << 20 else ""
+
+
 def measured(job, baseline, times):
+    """Prints the job's lines; its times, and those of its script alone."""
     with tempfile.TemporaryDirectory() as name:
         folder = pathlib.Path(name)
-        data = image(job.geometry, job.objects)
+        size = write_image(folder / "image", job.geometry, job.objects)
         (folder / "ops").write_text(job.ops)
-        (folder / "image").write_bytes(data)
         whole, bare = Times(), Times()
         for _ in range(times):
             whole.add(folder, baseline, job.script)
             if whole.refused is not None:
                 print(f"{job.name:18} refused: {whole.refused}")
-                return
+                return None, None
             if job.script:
                 bare.add(folder, baseline, "")
-        memory = f"{whole.peak / len(data):7.1f}" if len(data) > 1 << 24 else 7 * " "
-        whole.line(job.name, job.whole, f"{memory}  {'same' if whole.same else 'DIFFERENT'}")
-        if job.script:
-            part = whole.less(bare)
-            speed = f"{len(job.script) / min(part.ours) / 1e6:.0f} MB/s" if len(job.script) > 1 << 20 else ""
-            part.line("  its script", job.part, f"{speed:>7}")
+        memory = f"{whole.peak / size:7.2f}" if size > 1 << 24 else 7 * " "
+        same = "same" if whole.same else "DIFFERENT"
+        if not job.script:
+            whole.line(job.name, job.whole, f"{memory}  {same}  {speed(size, min(whole.ours))}")
+            return whole, None
+        whole.line(job.name, job.whole, f"{memory}  {same}")
+        part = whole.less(bare)
+        if min(part.theirs) < LEAST:
+            return whole, None
+        part.line("  its script", job.part, f"{speed(len(job.script), min(part.ours)):>7}")
+        return whole, part
 
 
 def soaked(times):
-    """`soak` has no peer: it compiles and runs every word operation."""
+    """`soak` has no peer: it compiles and runs every word operation. Status 1 says that the words are no command."""
     with tempfile.TemporaryDirectory() as name:
         runs = [run([PROGRAM, "soak", "1"], pathlib.Path(name)) for _ in range(times)]
-        if runs[0][2] != 0:
-            print(f"{'soak':18} refused: {' '.join(runs[0][3].decode().splitlines()[-1:])}")
-        else:
-            seconds = [each[0] for each in runs]
-            print(f"{'soak':18} {1000 * min(seconds):8.1f} {1000 * statistics.median(seconds):8.1f}")
+    if runs[0][2] == 1:
+        print(f"{'soak':18} skipped: the program does not know it")
+    elif runs[0][2] != 0:
+        print(f"{'soak':18} refused: {' '.join(runs[0][3].decode().splitlines()[-1:])}")
+    else:
+        seconds = [each[0] for each in runs]
+        same = "same" if all(each[3] == runs[0][3] for each in runs) else "DIFFERENT"
+        print(f"{'soak':18} {1000 * min(seconds):8.1f} {1000 * statistics.median(seconds):8.1f}  {same}")
+
+
+def load_now():
+    return "load " + " ".join(f"{each:.1f}" for each in os.getloadavg())
+
+
+def table(rows):
+    print("\n| job | whole run, least | middle | its script, least | middle |\n| --- | --- | --- | --- | --- |")
+    for name, whole, part in rows:
+        ratios = whole.ratios() + (part.ratios() if part else ())
+        cells = [f"{ratio:.2f}" for ratio in ratios] + (4 - len(ratios)) * [""]
+        print(f"| {name} | {' | '.join(cells)} |")
 
 
 def main():
+    global PROGRAM, PROCESSOR
     parser = argparse.ArgumentParser(description=__doc__.splitlines()[0])
     parser.add_argument("--times", type=int, default=10)
+    parser.add_argument("--program", type=pathlib.Path, help="a built program, in place of this repository's")
+    parser.add_argument("--processor", action="store_true", help="processor time in place of elapsed time")
+    parser.add_argument("--table", action="store_true")
     parser.add_argument("jobs", nargs="*", metavar="JOB")
     asked = parser.parse_args()
-    subprocess.run([TOP / "simdram"], cwd=TOP, stdout=subprocess.DEVNULL, check=False)
+    PROCESSOR = asked.processor
+    if asked.program:
+        PROGRAM = asked.program.resolve()
+    else:
+        subprocess.run([TOP / "simdram"], cwd=TOP, stdout=subprocess.DEVNULL, check=False)
+    rows = []
     with tempfile.TemporaryDirectory() as name:
         baseline = pathlib.Path(name) / "baseline"
         source = TOP / "bench" / "baseline.c"
         subprocess.run(["gcc", "-O3", "-march=x86-64-v2", "-o", baseline, source], check=True)
+        print(f"{load_now()} at the start")
         print(f"{'':18} {'program':>17} {'plain C':>17} {'ratio':>13}")
         print(f"{'job':18} {'least':>8} {'middle':>8} {'least':>8} {'middle':>8}"
               f" {'least':>6} {'middle':>6} {'reach':>6} {'memory':>7}  bytes")
         for job in jobs():
             if not asked.jobs or job.name in asked.jobs:
-                measured(job, baseline, asked.times)
+                whole, part = measured(job, baseline, asked.times)
+                if whole:
+                    rows.append((job.name, whole, part))
         if not asked.jobs or "soak" in asked.jobs:
             soaked(asked.times)
+        print(f"{load_now()} at the end")
+    if asked.table:
+        table(rows)
 
 
-main()
+if __name__ == "__main__":
+    main()

@@ -1,4 +1,5 @@
 pub mod Parted
+mod Newlines
 pub mod Worded
 pub mod Gathered
 pub mod Checked

@@ -5,11 +5,13 @@ ghost use Rattle.std.specs.List.{prefix_len};
 ghost use Rattle.text_lex.specs.Bytes.{is_no_newline};
 ghost use Rattle.bbop_isa.specs.Lines.{lines_of};
 
+use memchr::memchr;
+
 fn line_len(text: &[u8]) -> usize
     ensures value { result ≡ prefix_len is_no_newline text.now }
     ensures within { result ≤ length text.now }
 {
-    text.iter().take_while(|b| **b != b'\n').count()
+    memchr(b'\n', text).unwrap_or(text.len())
 }
 
 /// The first line, and the text behind its newline, if it has one.

@@ -47,6 +47,7 @@ const NOT_DCC1: Line = Line {
 };
 
 /// The wordlines that an address of the bitwise group raises.
+#[inline(always)]
 pub fn b_lines(k: u8) -> &'static [Line]
     requires { k < 16 }
     ensures { result.now ≡ lines_of (Addr.B k) }

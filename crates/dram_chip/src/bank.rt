@@ -28,6 +28,7 @@ pub struct Bank {
 }
 
 /// Which row is a cell's.
+#[inline(always)]
 fn place(cell: Cell) -> usize
     requires { is_cell (2 ^ 16) cell ≡ true }
     ensures { result ≡ place_of cell }
@@ -41,6 +42,7 @@ fn place(cell: Cell) -> usize
 }
 
 /// The cell's d-wordline.
+#[inline(always)]
 fn line_of(cell: Cell) -> Line
     ensures { result ≡ plain cell }
 {
@@ -65,6 +67,7 @@ impl Bank {
     }
 
     /// Where the row of a cell begins.
+    #[inline(always)]
     fn start(&self, cell: Cell) -> usize
         requires ready { IsReady self.now }
         requires cell { is_cell (rows_of self.now) cell ≡ true }
@@ -75,6 +78,7 @@ impl Bank {
     }
 
     /// The line's cell takes what the other line reads.
+    #[inline(always)]
     fn drive(&mut self, line: Line, src: Line)
         requires ready { IsReady self.old }
         requires line { is_cell (rows_of self.old) line.cell ≡ true }
@@ -99,6 +103,7 @@ impl Bank {
     }
 
     /// Activates `x`. Gives a line that reads what was sensed.
+    #[inline(always)]
     fn activate(&mut self, x: Addr) -> Line
         requires ready { IsReady self.old }
         requires range { is_in_range (rows_of self.old) x ≡ true }
@@ -129,6 +134,7 @@ impl Bank {
     }
 
     /// Each line of `y` takes what the other line reads. A constant keeps its bits.
+    #[inline(always)]
     fn settle(&mut self, y: Addr, src: Line)
         requires ready { IsReady self.old }
         requires range { is_in_range (rows_of self.old) y ≡ true }
@@ -156,6 +162,7 @@ impl Bank {
     }
 
     /// AP(x) in every column.
+    #[inline(always)]
     pub fn ap(&mut self, x: Addr)
         requires ready { IsReady self.old }
         requires range { is_in_range (rows_of self.old) x ≡ true }
@@ -170,6 +177,7 @@ impl Bank {
     }
 
     /// AAP(x, y) in every column.
+    #[inline(always)]
     pub fn aap(&mut self, x: Addr, y: Addr)
         requires ready { IsReady self.old }
         requires range { is_in_range (rows_of self.old) x ≡ true }

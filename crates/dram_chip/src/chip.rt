@@ -86,12 +86,14 @@ impl Dram for Chip {
         }
     }
 
+    #[inline(always)]
     fn aap(&mut self, bank: u16, x: Addr, y: Addr) -> Result<(), ChipFault> {
         self.banks[bank as usize].aap(x, y);
         self.counters.aap += 1;
         Ok(())
     }
 
+    #[inline(always)]
     fn ap(&mut self, bank: u16, x: Addr) -> Result<(), ChipFault> {
         self.banks[bank as usize].ap(x);
         self.counters.ap += 1;

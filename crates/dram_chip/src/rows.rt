@@ -6,6 +6,7 @@ ghost use Rattle.bit_rows.specs.Bits.{word_bit, flip_if, majority};
 use bit_rows::{settle3, store, store_not, turn};
 
 /// Copies each bit, or its complement.
+#[inline(always)]
 fn put(src: &[u64], dst: &mut [u64], inverted: bool)
     requires { length src.now ≡ length dst.old }
     ensures length { length dst.new ≡ length dst.old }
@@ -21,6 +22,7 @@ fn put(src: &[u64], dst: &mut [u64], inverted: bool)
 
 /// The row of `n` words at `to` takes the row at `from`, or its complement. The two are one row, or
 /// apart.
+#[inline(always)]
 pub fn move_row(all: &mut [u64], n: usize, from: usize, to: usize, inverted: bool)
     requires from { from + n ≤ length all.old }
     requires to { to + n ≤ length all.old }
@@ -43,6 +45,7 @@ pub fn move_row(all: &mut [u64], n: usize, from: usize, to: usize, inverted: boo
 }
 
 /// Each of the rows of `n` words at `a`, `b` and `c` takes their majority.
+#[inline(always)]
 pub fn settle_rows(all: &mut [u64], n: usize, a: usize, b: usize, c: usize)
     requires a { a + n ≤ b }
     requires b { b + n ≤ c }

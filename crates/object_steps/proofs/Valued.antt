@@ -16,8 +16,11 @@ use Rattle.machine_model.specs.Refusals.{is_absent, object_named}
 use Rattle.std.proofs.Math.Seq.{take-append-add}
 use Rattle.std.proofs.lemmas.Bool.{cases_lt}
 use Rattle.std.proofs.lemmas.Grind.{flat_map-append, div_ceil_times}
-use Rattle.std.proofs.lemmas.List.{take-append-drop, map-append, length-map}
+use Rattle.std.proofs.Common.{get_or}
+use Rattle.std.proofs.lemmas.List.{take-append-drop, map-append, length-map, take_more, ext_get_or}
+use Rattle.std.proofs.lemmas.List.{get_or-take, get_or-drop, get_or-map, length-take, length-drop}
 use Rattle.std.proofs.lemmas.List.FromFn.{map-range_with_len_more, take-map-range_with_len}
+use Rattle.std.proofs.lemmas.List.FromFn.{length-range_with_len, get_or-range_with_len}
 use Rattle.dram_model.specs.Column.{Column}
 use Rattle.dram_model.specs.Chip.{Banks}
 use Rattle.dram_model.specs.Elements.{below, column_count, number, segments_of}
@@ -45,6 +48,63 @@ values_split f k n l =
     sym (text_joined (map f (range_with_len 0 k)) (drop k (map f (range_with_len 0 n))))
     ∙ ap values_text (ap (λ xs. xs ++ drop k (map f (range_with_len 0 n)))
     (sym (take-map-range_with_len f 0 n k l)) ∙ take-append-drop k (map f (range_with_len 0 n)))
+
+-- one more value of a list
+pub text_more : (values : List ℕ) (i v : ℕ) → i < length values → v ≡ get_or values i 0
+    → values_text (take (i + 1) values)
+    ≡ values_text (take i values) ++ (codes " " ++ decimal v)
+text_more values i v l e =
+    let piece : ℕ → List ℕ = λ x. codes " " ++ decimal x in
+    ap values_text (take_more values i 0 l) ∙ text_joined (take i values) (get_or values i 0 ∷ [])
+    ∙ ap (λ xs. values_text (take i values) ++ xs)
+    (append-nil (piece (get_or values i 0)) ∙ ap piece (sym e))
+
+-- the first values of a list, and the others
+pub text_split : (values : List ℕ) (i : ℕ) → values_text (take i values)
+    ++ values_text (drop i values) ≡ values_text values
+text_split values i = sym (text_joined (take i values) (drop i values))
+    ∙ ap values_text (take-append-drop i values)
+
+-- what a block of 64 columns adds to those before it
+pub block_text : (f : ℕ → ℕ) (count block here : ℕ) (numbers : List ℕ) → 64 * block < count
+    → length numbers ≡ 64 → here ≡ min 64 (count - 64 * block)
+    → ((c : ℕ) → c < 64 → get_or numbers c 0 ≡ f (64 * block + c))
+    → values_text (map f (range_with_len 0 (min count (64 * block))))
+    ++ values_text (take here numbers)
+    ≡ values_text (map f (range_with_len 0 (min count (64 * (block + 1)))))
+block_text f count block here numbers l size e is =
+    let k : ℕ = 64 * block in
+    let before : min count (64 * block) ≡ 64 * block = omega arith in
+    let after : min count (64 * (block + 1)) ≡ 64 * block + here = omega (arith, e) in
+    let few : here ≤ 64 = omega (arith, e) in
+    let all : List ℕ = map f (range_with_len 0 (64 * block + here)) in
+    let long : length (map f (range_with_len 0 (64 * block + here))) ≡ 64 * block + here =
+    length-map (range_with_len 0 (64 * block + here)) f
+    ∙ length-range_with_len 0 (64 * block + here) in
+    let front : length (take here numbers) ≡ here = omega (arith, size, length-take here numbers) in
+    let rest : length (drop (64 * block) (map f (range_with_len 0 (64 * block + here)))) ≡ here =
+    omega (
+      arith,
+      long,
+      length-drop (64 * block) (map f (range_with_len 0 (64 * block + here))),
+    ) in
+    let same : take here numbers
+    ≡ drop (64 * block) (map f (range_with_len 0 (64 * block + here))) =
+    ext_get_or 0 (take here numbers)
+    (drop (64 * block) (map f (range_with_len 0 (64 * block + here)))) (front ∙ sym rest) (λ c m.
+    let own : c < here = omega (arith, front) in
+    let inside : 64 * block + c < length (range_with_len 0 (64 * block + here)) =
+    omega (arith, length-range_with_len 0 (64 * block + here)) in
+    let lies : 64 * block + c < 64 * block + here = omega arith in
+    let at : get_or (range_with_len 0 (64 * block + here)) (64 * block + c) 0 ≡ 64 * block + c =
+    get_or-range_with_len 0 (64 * block + here) (64 * block + c) 0 lies ∙ omega arith in
+    get_or-take here numbers c 0 own ∙ is c (omega arith) ∙ ap f (sym at)
+    ∙ sym (get_or-map f (range_with_len 0 (64 * block + here)) (64 * block + c) 0 0 inside)
+    ∙ sym (get_or-drop (64 * block) (map f (range_with_len 0 (64 * block + here))) c 0)) in
+    ap (λ n. values_text (map f (range_with_len 0 n)) ++ values_text (take here numbers)) before
+    ∙ ap (λ xs. values_text (map f (range_with_len 0 (64 * block))) ++ values_text xs) same
+    ∙ values_split f (64 * block) (64 * block + here) (omega arith)
+    ∙ ap (λ n. values_text (map f (range_with_len 0 n))) (sym after)
 
 -- one more of what a range gives
 pub flat_suc : {X : Type 0} (E : ℕ → List X) (a n : ℕ) → flat_map E (range_with_len a (suc n))

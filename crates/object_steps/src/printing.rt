@@ -3,6 +3,7 @@
 ghost use Rattle.std.specs.Prelude.{◌≡◌, ℕ, ◌+◌, ◌-◌, ◌*◌, ◌/◌, ◌<◌, ◌≤◌, ◌^◌, ◌++◌, [], min, map};
 ghost use Rattle.std.specs.Prelude.{take, length, codes, decimal, None, IfOk, OnOk, OnErr, IsErrOf};
 ghost use Rattle.std.specs.Prelude.{true};
+ghost use Rattle.std.specs.Int.{div_ceil};
 ghost use Rattle.std.specs.List.{range_with_len};
 ghost use Rattle.host_edge.specs.Views.{Told, AppendsPart};
 ghost use Rattle.fault_counts.specs.Counts.{Rose};
@@ -36,7 +37,7 @@ use host_edge::{Failed, Sink};
 use machine_model::Reply;
 use object_alloc::{Object, Table};
 use text_lex::Name;
-use transpose_unit::{read_column, read_segment, stage_rows};
+use transpose_unit::{read_block, read_segment, stage_rows};
 use uprog_code::Counts;
 
 /// The most bytes of a piece.
@@ -82,7 +83,32 @@ fn add_value<S: Sink>(text: &mut Piece, value: Value, out: &mut S) -> Result<(),
     Ok(())
 }
 
-/// Appends the values of a stage's first columns.
+/// Appends values.
+fn add_all<S: Sink>(values: &[Value], text: &mut Piece, out: &mut S) -> Result<(), Failed>
+    requires room { length text.old.items < PIECE_BYTES }
+    ensures counts { (S.view out.old).faults ≤ (S.view out.new).faults }
+    ensures held { OnOk result (Told (AppendsUpTo text.new.items
+        (text.old.items ++ values_text values.now)) (S.view out.old).sent (S.view out.new).sent) }
+    ensures room { OnOk result (length text.new.items < PIECE_BYTES) }
+    ensures part { OnErr result (Told (AppendsPart (text.old.items ++ values_text values.now))
+        (S.view out.old).sent (S.view out.new).sent) }
+    ensures failed { OnErr result (Rose (S.view out.old).faults (S.view out.new).faults) }
+{
+    for value in values {
+        add_value(text, *value, out)?;
+    }
+    Ok(())
+}
+
+/// How many of so many columns are in the block of this number.
+fn columns_in(count: u32, block: u32) -> usize
+    requires { block < div_ceil count 64 }
+    ensures { result ≡ min 64 (count - 64 * block) }
+{
+    (count - 64 * block).min(64) as usize
+}
+
+/// Appends the values of a stage's first columns, in blocks of 64.
 fn add_columns<S: Sink>(
     stage: &[u64],
     n: u8,
@@ -104,8 +130,9 @@ fn add_columns<S: Sink>(
         (range_with_len 0 count)))) (S.view out.old).sent (S.view out.new).sent) }
     ensures failed { OnErr result (Rose (S.view out.old).faults (S.view out.new).faults) }
 {
-    for column in 0..count {
-        add_value(text, read_column(stage, n, column), out)?;
+    for block in 0..count.div_ceil(64) {
+        let numbers = read_block(stage, n, block);
+        add_all(&numbers[..columns_in(count, block)], text, out)?;
     }
     Ok(())
 }

@@ -6,7 +6,7 @@ use bit_rows::Value;
 use dram_chip::{Chip, Counters, Dram, Geometry};
 use std::alloc::Global;
 use std::test::Fail;
-use transpose_unit::{read_column, read_segment, transpose64, write_object};
+use transpose_unit::{read_block, read_column, read_segment, transpose64, write_object};
 
 /// Banks of 64 columns.
 const SMALL: Geometry = Geometry {
@@ -130,4 +130,26 @@ fn columns_of_a_stage_are_read(rt: HostRuntime) {
     tall[127] = 2;
     assert_eq!(rt; read_column(&tall, 128, 1), (1 << 127) + (1 << 64) + 1);
     assert_eq!(rt; read_column(&tall, 65, 1), (1 << 64) + 1);
+}
+
+// Row 3 is past the width.
+#[test]
+fn blocks_of_a_stage_are_read(rt: HostRuntime) {
+    let mut stage = [0; 128];
+    stage[1] = 0x8000_0000_0000_0001;
+    stage[2] = 1;
+    stage[5] = 1;
+    stage[7] = u64::MAX;
+    let first = read_block(&stage, 3, 0);
+    assert_eq!(rt; (first[0], first[1], first[63]), (2, 0, 0));
+    let second = read_block(&stage, 3, 1);
+    assert_eq!(rt; (second[0], second[62], second[63]), (5, 0, 1));
+    let mut tall = [0; 128];
+    tall[0] = 2;
+    tall[64] = 2;
+    tall[127] = 2;
+    let whole = read_block(&tall, 128, 0);
+    assert_eq!(rt; whole[1], (1 << 127) + (1 << 64) + 1);
+    let short = read_block(&tall, 65, 0);
+    assert_eq!(rt; short[1], (1 << 64) + 1);
 }

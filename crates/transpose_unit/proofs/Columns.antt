@@ -112,7 +112,7 @@ shifted h base a (suc n) = let next : base + (a + 1) ≡ base + a + 1 = omega ar
     ap (λ (bs : List Bool). h (base + a) ∷ bs) (shifted h base (a + 1) n
     ∙ ap (λ (i : ℕ). map h (range_with_len i n)) next)
 
-map-range : {X : Type 0} (f h : ℕ → X) (a n : ℕ) → ((k : ℕ) → a ≤ k → k < a + n → f k ≡ h k)
+pub map-range : {X : Type 0} (f h : ℕ → X) (a n : ℕ) → ((k : ℕ) → a ≤ k → k < a + n → f k ≡ h k)
     → map f (range_with_len a n) ≡ map h (range_with_len a n)
 map-range f h a zero e = refl
 map-range f h a (suc n) e = rw (

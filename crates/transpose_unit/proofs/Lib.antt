@@ -1,6 +1,7 @@
 mod Exchanges
 mod Sets
 mod Events
+mod Blocks
 mod Columns
 mod Segments
 pub mod Held

@@ -7,7 +7,7 @@ mod stage;
 mod transpose;
 mod write;
 
-pub use read::{read_column, read_segment};
+pub use read::{read_block, read_column, read_segment};
 pub use stage::stage_rows;
 pub use transpose::transpose64;
 pub use write::{write_object, writes_hold};

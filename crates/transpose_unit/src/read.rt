@@ -1,15 +1,16 @@
 //! Reading an object.
 
 ghost use Rattle.std.specs.Prelude.{◌≡◌, ℕ, ◌+◌, ◌*◌, ◌/◌, ◌<◌, ◌≤◌, ◌^◌, [], length, map, OnOk};
-ghost use Rattle.std.specs.Prelude.{OnErr};
+ghost use Rattle.std.specs.Prelude.{OnErr, ◌%◌, slice_index_or};
 ghost use Rattle.std.specs.List.{range_with_len};
-ghost use Rattle.bit_rows.specs.Bits.{bits_of_words};
+ghost use Rattle.bit_rows.specs.Bits.{bit_at, bits_of_words};
 ghost use Rattle.dram_model.specs.Chip.{Grew, row_in};
 ghost use Rattle.dram_model.specs.View.{HasBegun, Kept, DidRead, FailedIn};
 ghost use Rattle.dram_model.specs.Elements.{number, column_count};
 ghost use Rattle.transpose_unit.specs.Stage.{stage_rows, stage_row, stage_number};
 
 use crate::stage::stage_rows;
+use crate::transpose::transpose64;
 use bit_rows::{Value, WIDTH_MAX, bit_of_word};
 use dram_model::{ChipFault, Dram, Geometry};
 
@@ -28,6 +29,79 @@ pub fn read_column(stage: &[u64], n: u8, column: u32) -> Value
         v = 2 * v + bit_of_word(stage[at], (column % 64) as u8) as Value;
     }
     v
+}
+
+/// Word w of each of 64 rows of the stage, from row `first` on.
+fn rows_at(stage: &[u64], words: usize, w: usize, first: usize) -> [u64; 64]
+    requires word { w < words }
+    requires inside { first * words + 64 * words ≤ length stage.now }
+    requires small { first ≤ 64 }
+    ensures { (k : ℕ) → k < 64 → slice_index_or result k 0
+        ≡ slice_index_or stage.now ((first + k) * words + w) 0 }
+{
+    let mut block = [0; 64];
+    for k in 0..64 {
+        block[k] = stage[(first + k) * words + w];
+    }
+    block
+}
+
+/// The columns of word w: bit k of word c is what stands in row first + k.
+fn columns_at(stage: &[u64], words: usize, w: usize, first: usize) -> [u64; 64]
+    requires word { w < words }
+    requires inside { first * words + 64 * words ≤ length stage.now }
+    requires small { first ≤ 64 }
+    ensures { (k c : ℕ) → k < 64 → c < 64 → bit_at (slice_index_or result c 0) k
+        ≡ bit_at (slice_index_or stage.now ((first + k) * words + w) 0) c }
+{
+    let mut block = rows_at(stage, words, w, first);
+    transpose64(&mut block);
+    block
+}
+
+/// The columns of word w in the rows past 64, where the numbers have such bits.
+fn upper_columns(stage: &[u64], words: usize, w: usize, n: u8) -> [u64; 64]
+    requires word { w < words }
+    requires inside { length stage.now ≡ stage_rows n * words }
+    ensures { (k c : ℕ) → 64 + k < n → k < 64 → c < 64 → bit_at (slice_index_or result c 0) k
+        ≡ bit_at (slice_index_or stage.now ((64 + k) * words + w) 0) c }
+{
+    if n <= 64 {
+        [0; 64]
+    } else {
+        columns_at(stage, words, w, 64)
+    }
+}
+
+/// The number of n bits whose bits from 64 on are in the upper word.
+fn joined(lower: u64, upper: u64, n: u8) -> Value
+    requires { n ≤ WIDTH_MAX }
+    ensures { result ≡ (lower + 2 ^ 64 * upper) % 2 ^ n }
+{
+    let whole = Value::from(lower) + (Value::from(upper) << 64);
+    if n < WIDTH_MAX {
+        whole % (1 << n)
+    } else {
+        whole
+    }
+}
+
+/// The numbers of the 64 columns of word w, from a stage that `read_segment` filled with n rows.
+pub fn read_block(stage: &[u64], n: u8, w: u32) -> [Value; 64]
+    requires narrow { n ≤ WIDTH_MAX }
+    requires stage { stage_rows n * (length stage.now / stage_rows n) ≡ length stage.now }
+    requires word { w < length stage.now / stage_rows n }
+    ensures { (c : ℕ) → c < 64 → slice_index_or result c 0
+        ≡ stage_number (length stage.now / stage_rows n) n stage.now (64 * w + c) }
+{
+    let words = stage.len() / stage_rows(n);
+    let lower = columns_at(stage, words, w as usize, 0);
+    let upper = upper_columns(stage, words, w as usize, n);
+    let mut numbers = [0; 64];
+    for c in 0..64 {
+        numbers[c] = joined(lower[c], upper[c], n);
+    }
+    numbers
 }
 
 /// Reads n rows of a bank, from row `base` on, into the stage.

@@ -42,11 +42,14 @@ impl RawRow {
     }
 
     /// The number in the second and third byte.
+    #[inline(always)]
     fn operand(self) -> u16
         ensures { result ≡ operand_of self }
     {
         u16::from_le_bytes([self.which, self.index])
     }
+
+    #[inline(always)]
 
     fn row(self) -> RowRef
         ensures { result ≡ row_of self }
@@ -59,6 +62,8 @@ impl RawRow {
     }
 }
 
+#[inline(always)]
+
 fn space_of(number: u8) -> RowSpace
     ensures { result ≡ slice_index_or SPACES number RowSpace.Spill }
 {
@@ -70,6 +75,7 @@ fn space_of(number: u8) -> RowSpace
 
 impl Raw {
     /// The instruction's bytes.
+    #[inline(always)]
     pub(crate) fn new(field: &[u8]) -> Raw
         requires { length field.now ≡ 8 }
         ensures { result ≡ raw_of field.now }
@@ -206,6 +212,7 @@ fn ends_code(opcode: Opcode, last: bool) -> bool
 }
 
 /// The instruction that the bytes are.
+#[inline(always)]
 pub(crate) fn uop_as(opcode: Opcode, raw: Raw) -> Uop
     ensures { result ≡ uop_of_raw opcode raw }
 {

@@ -174,6 +174,8 @@ fn part(bytes: &[u8], at: usize, len: usize) -> &[u8]
     part
 }
 
+#[inline(always)]
+
 fn opcode_or_done(number: u8) -> Opcode
     ensures { result ≡ slice_index_or OPCODES number Opcode.Done }
 {
@@ -184,6 +186,7 @@ fn opcode_or_done(number: u8) -> Opcode
 }
 
 /// The instruction that eight bytes are.
+#[inline(always)]
 fn decoded(field: &[u8]) -> Uop
     requires { length field.now ≡ 8 }
     ensures { result ≡ uop_in field.now }
@@ -193,6 +196,7 @@ fn decoded(field: &[u8]) -> Uop
 }
 
 /// The instruction at a place of code.
+#[inline(always)]
 fn uop_at(code: &[u8], at: u16) -> Uop
     requires { at < length code.now / 8 }
     ensures { result ≡ uop_in (take 8 (drop (8 * at) code.now)) }
@@ -219,6 +223,7 @@ impl<'a> Fetch for Entry<'a> {
         (self.code.len() / INSTRUCTION_BYTES) as u16
     }
 
+    #[inline(always)]
     fn fetch(&self, at: u16) -> Uop {
         uop_at(self.code, at)
     }

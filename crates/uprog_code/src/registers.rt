@@ -44,6 +44,7 @@ pub enum Turn {
 
 impl Turn {
     /// Whether the code has ended.
+    #[inline(always)]
     pub fn is_over(self) -> bool
         ensures { IsTrue result ↔ self ≡ Turn.Over }
     {
@@ -54,6 +55,7 @@ impl Turn {
     }
 
     /// The place after an instruction at `pc`.
+    #[inline(always)]
     pub fn place_after(self, pc: u16) -> u16
         requires { pc < 65535 }
         ensures { result ≡ next_place self pc }
@@ -67,6 +69,7 @@ impl Turn {
 }
 
 /// Does one instruction at width n on the registers.
+#[inline(always)]
 pub fn step(uop: &Uop, head: &Head, n: u8, regs: &mut [u16]) -> Result<Turn, Why3>
     requires operands { (size : ℕ) × HasOperands size uop.now }
     requires width { n ≤ WIDTH_MAX }
@@ -135,6 +138,7 @@ pub fn step(uop: &Uop, head: &Head, n: u8, regs: &mut [u16]) -> Result<Turn, Why
 }
 
 /// Adds to a register, up to 1023.
+#[inline(always)]
 fn add(regs: &mut [u16], r: u8, k: u16) -> Result<Turn, Why3>
     requires r_in { r < 8 }
     requires k_small { k ≤ 1023 }
@@ -154,6 +158,7 @@ fn add(regs: &mut [u16], r: u8, k: u16) -> Result<Turn, Why3>
 }
 
 /// The row with the position that its register gives.
+#[inline(always)]
 fn placed(row: &RowRef, regs: &[u16]) -> Place
     requires { AreRegisters regs.now }
     ensures { row_of result ≡ row_at regs.now row.now }
@@ -169,6 +174,8 @@ fn placed(row: &RowRef, regs: &[u16]) -> Place
     }
 }
 
+#[inline(always)]
+
 fn value(regs: &[u16], r: u8) -> u16
     requires { AreRegisters regs.now }
     ensures { result ≡ slice_index regs.now r }
@@ -177,6 +184,7 @@ fn value(regs: &[u16], r: u8) -> u16
 }
 
 /// Whether the position lies within what the row belongs to.
+#[inline(always)]
 fn is_in_range(head: &Head, n: u8, row: &Place) -> bool
     requires { n ≤ WIDTH_MAX }
     ensures { result ≡ in_range (shape_of head.now) n (row_of row.now) }
@@ -195,6 +203,8 @@ fn is_in_range(head: &Head, n: u8, row: &Place) -> bool
     }
 }
 
+#[inline(always)]
+
 fn is_in_result(head: &Head, which: u8, n: u8, i: u16) -> bool
     ensures { result ≡ in_kind (slice_get (results (shape_of head.now)) which) n i }
 {
@@ -205,6 +215,8 @@ fn is_in_result(head: &Head, which: u8, n: u8, i: u16) -> bool
     }
 }
 
+#[inline(always)]
+
 fn is_in_source(sources: &[Kind], which: u8, n: u8, i: u16) -> bool
     ensures { result ≡ in_kind (slice_get sources.now which) n i }
 {
@@ -213,6 +225,8 @@ fn is_in_source(sources: &[Kind], which: u8, n: u8, i: u16) -> bool
         None => false,
     }
 }
+
+#[inline(always)]
 
 fn is_in_kind(kind: Kind, n: u8, i: u16) -> bool
     ensures { result ≡ in_kind (Some kind) n i }

@@ -11,6 +11,7 @@ use dram_model::{Addr, Command, Geometry};
 use uprog_code::{Binding, Head, Issued, Place, RowSpace};
 
 /// The row at a position of a source.
+#[inline(always)]
 fn source_row(sources: &[u16], which: u8, index: u16) -> u16
     requires which { which < length sources.now }
     requires room { slice_index sources.now which + index < 2 ^ 16 }
@@ -20,6 +21,7 @@ fn source_row(sources: &[u16], which: u8, index: u16) -> u16
 }
 
 /// The row at a position of a result.
+#[inline(always)]
 fn result_row(binding: &Binding, which: u8, index: u16) -> u16
     requires which { which < length (bound_of binding.now).results }
     requires room { slice_index (bound_of binding.now).results which + index < 2 ^ 16 }
@@ -32,6 +34,7 @@ fn result_row(binding: &Binding, which: u8, index: u16) -> u16
 }
 
 /// The address of a row under a binding, in a bank of so many data rows.
+#[inline(always)]
 fn address_of(place: &Place, head: &Head, rows: u16, binding: &Binding) -> Addr
     requires some { 0 < binding.now.n }
     requires fits { Fits rows (shape_of head.now) binding.now.n (bound_of binding.now) }
@@ -58,6 +61,7 @@ fn address_of(place: &Place, head: &Head, rows: u16, binding: &Binding) -> Addr
 }
 
 /// The command that is issued, bound.
+#[inline(always)]
 pub(crate) fn command_of(issued: &Issued, head: &Head, rows: u16, binding: &Binding) -> Command
     requires some { 0 < binding.now.n }
     requires fits { Fits rows (shape_of head.now) binding.now.n (bound_of binding.now) }

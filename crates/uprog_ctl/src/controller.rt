@@ -28,6 +28,7 @@ pub fn counters_rise_by_counts()
 {}
 
 /// One command on one bank.
+#[inline(always)]
 pub(crate) fn do_command<D: Dram>(
     dram: &mut D,
     bank: u16,

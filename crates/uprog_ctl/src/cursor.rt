@@ -102,6 +102,7 @@ pub(crate) fn heads_of<F: Fetch>(jobs: &[Job<F>]) -> ArrayVec<JobHead, 16>
 }
 
 /// The row command of a step, where it is one.
+#[inline(always)]
 fn issued_by(turn: Turn) -> Option<Issued>
     ensures { map issue_of (option_to_list result) ≡ issues_by turn }
 {
@@ -112,6 +113,7 @@ fn issued_by(turn: Turn) -> Option<Issued>
 }
 
 /// The first row command from a place on; None where the microprogram ends before one.
+#[inline(always)]
 fn seek<F: Fetch>(job: &Job<F>, head: &Head, g: Geometry, from: Walk) -> Option<Found>
     requires run { CanRun g (bound_job F.shape F.code job.now) }
     requires head { shape_of head.now ≡ F.shape job.now.entry }
@@ -152,6 +154,7 @@ fn seek<F: Fetch>(job: &Job<F>, head: &Head, g: Geometry, from: Walk) -> Option<
 
 /// A bank's next command, and where it stands then; None where it has none left. The bank stands in
 /// the job of the number `at`, at a place of its code.
+#[inline(always)]
 fn next_cursor<F: Fetch>(
     jobs: &[Job<F>],
     heads: &[JobHead],
@@ -212,6 +215,7 @@ pub(crate) fn first_cursors<F: Fetch>(
 
 /// The bank of the k-th cursor goes on behind its command; it is no longer among them where it has
 /// none left.
+#[inline(always)]
 pub(crate) fn go_on<F: Fetch>(
     jobs: &[Job<F>],
     heads: &[JobHead],

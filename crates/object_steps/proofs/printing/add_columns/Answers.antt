@@ -1,58 +1,68 @@
-use Rattle.std.proofs.Common.{◌≡◌, ℕ, ◌+◌, ◌/◌, ◌≤◌, ◌++◌, ◌∙◌, List, length, map, drop, ap}
-use Rattle.std.proofs.Common.{append_assoc, arith, subst, sym}
-use Rattle.std.specs.Prelude.{codes, decimal}
+use Rattle.std.proofs.Common.{◌≡◌, ℕ, ◌+◌, ◌*◌, ◌/◌, ◌<◌, ◌≤◌, ◌++◌, ◌∙◌, List, length, map, take, drop}
+use Rattle.std.proofs.Common.{append_assoc, arith, subst, sym, ap}
+use Rattle.std.specs.Prelude.{min}
 use Rattle.std.specs.List.{range_with_len}
 use Rattle.host_edge.specs.Views.{Told, AppendsPart}
 use Rattle.host_edge.specs.Sends.{AppendsUpTo}
 use Rattle.transpose_unit.specs.Stage.{stage_number, stage_rows}
 use Rattle.object_steps.specs.Lines.{values_text}
 use Rattle.object_steps.proofs.Filled.{on_err}
-use Rattle.object_steps.proofs.Held.{then_more, then_part, part_of_more}
-use Rattle.object_steps.proofs.Valued.{values_more, values_split}
+use Rattle.object_steps.proofs.Held.{then_more, then_cut, part_of_more}
+use Rattle.object_steps.proofs.Valued.{block_text, values_split}
 use Rattle.object_steps.proofs.printing.add_columns.Goals as goal
 
-pub loop-column-preserved : goal.loop-column-preserved
-loop-column-preserved g c =
+pub loop-block-preserved : goal.loop-block-preserved
+loop-block-preserved g c =
     let first = g.S.Sink.view c.args.out.now in
-    let now = g.S.Sink.view c.loop-column.out in
-    let new = g.S.Sink.view c.add_value.new.out in
-    let stage = c.args.stage.now in
+    let now = g.S.Sink.view c.loop-block.out in
+    let new = g.S.Sink.view c.add_all.new.out in
+    let stage : List ℕ = c.args.stage.now in
     let f : ℕ → ℕ = stage_number (length stage / stage_rows c.args.n) c.args.n stage in
-    let k : ℕ = c.loop-column.column in
-    let before : List ℕ = values_text (map f (range_with_len 0 k)) in
-    let piece : List ℕ = codes " " ++ decimal c.read_column.result in
-    let same : piece ≡ codes " " ++ decimal (f k) =
-    ap (λ (v : ℕ). codes " " ++ decimal v) c.read_column.ensures in
+    let block : ℕ = c.loop-block.block in
+    let count : ℕ = c.args.count in
+    let here : ℕ = c.columns_in.result in
+    let before : List ℕ = values_text (map f (range_with_len 0 (min count (64 * block)))) in
+    let piece : List ℕ = values_text (take here c.read_block-numbers.result) in
     let all : (c.args.text.now.items ++ before) ++ piece
-    ≡ c.args.text.now.items ++ values_text (map f (range_with_len 0 (k + 1))) =
+    ≡ c.args.text.now.items ++ values_text (map f (range_with_len 0
+    (min count (64 * (block + 1))))) =
     append_assoc c.args.text.now.items before piece
     ∙ ap (λ (xs : List ℕ). c.args.text.now.items ++ xs)
-    (ap (λ (xs : List ℕ). before ++ xs) same ∙ sym (values_more f k)) in
+    (block_text f count block here c.read_block-numbers.result (omega arith) (omega arith)
+    c.columns_in.ensures c.read_block-numbers.ensures) in
     record {
-      counts = omega (arith, c.loop-column.invariant.counts, c.in_ok-add_value.ensures.counts);
-      room = c.in_ok-add_value.ensures.room;
-      held = subst (λ (xs : List ℕ). Told (AppendsUpTo c.add_value.new.text.items xs) first.sent
-          new.sent) all (then_more (c.args.text.now.items ++ before) c.loop-column.text.items piece
-          c.add_value.new.text.items first.sent now.sent new.sent c.loop-column.invariant.held
-          c.in_ok-add_value.ensures.held);
+      counts = omega (arith, c.loop-block.invariant.counts, c.in_ok-add_all.ensures.counts);
+      room = c.in_ok-add_all.ensures.room;
+      held = subst (λ (xs : List ℕ). Told (AppendsUpTo c.add_all.new.text.items xs) first.sent
+          new.sent) all (then_more (c.args.text.now.items ++ before) c.loop-block.text.items piece
+          c.add_all.new.text.items first.sent now.sent new.sent c.loop-block.invariant.held
+          c.in_ok-add_all.ensures.held);
     }
 
-pub returns-in_err-add_value-clause-part : goal.returns-in_err-add_value-clause-part
-returns-in_err-add_value-clause-part g c =
+pub returns-in_err-add_all-clause-part : goal.returns-in_err-add_all-clause-part
+returns-in_err-add_all-clause-part g c =
     let first = g.S.Sink.view c.args.out.now in
-    let now = g.S.Sink.view c.loop-column.out in
-    let new = g.S.Sink.view c.add_value.new.out in
-    let stage = c.args.stage.now in
+    let now = g.S.Sink.view c.loop-block.out in
+    let new = g.S.Sink.view c.add_all.new.out in
+    let stage : List ℕ = c.args.stage.now in
     let f : ℕ → ℕ = stage_number (length stage / stage_rows c.args.n) c.args.n stage in
-    let k : ℕ = c.loop-column.column in
-    let before : List ℕ = values_text (map f (range_with_len 0 k)) in
-    let rest : List ℕ = values_text (drop k (map f (range_with_len 0 c.args.count))) in
-    let less : c.loop-column.column ≤ c.args.count = omega arith in
-    let all : (c.args.text.now.items ++ before) ++ rest
-    ≡ c.args.text.now.items ++ values_text (map f (range_with_len 0 c.args.count)) =
-    append_assoc c.args.text.now.items before rest
-    ∙ ap (λ (xs : List ℕ). c.args.text.now.items ++ xs) (values_split f k c.args.count less) in
+    let block : ℕ = c.loop-block.block in
+    let count : ℕ = c.args.count in
+    let here : ℕ = c.columns_in.result in
+    let k : ℕ = min count (64 * (block + 1)) in
+    let before : List ℕ = values_text (map f (range_with_len 0 (min count (64 * block)))) in
+    let piece : List ℕ = values_text (take here c.read_block-numbers.result) in
+    let rest : List ℕ = values_text (drop k (map f (range_with_len 0 count))) in
+    let less : min c.args.count (64 * (c.loop-block.block + 1)) ≤ c.args.count = omega arith in
+    let all : ((c.args.text.now.items ++ before) ++ piece) ++ rest
+    ≡ c.args.text.now.items ++ values_text (map f (range_with_len 0 count)) =
+    append_assoc (c.args.text.now.items ++ before) piece rest
+    ∙ append_assoc c.args.text.now.items before (piece ++ rest)
+    ∙ ap (λ (xs : List ℕ). c.args.text.now.items ++ xs) (sym (append_assoc before piece rest)
+    ∙ ap (λ (xs : List ℕ). xs ++ rest) (block_text f count block here c.read_block-numbers.result
+    (omega arith) (omega arith) c.columns_in.ensures c.read_block-numbers.ensures)
+    ∙ values_split f k count less) in
     on_err c.from_residual.result (subst (λ (xs : List ℕ). Told (AppendsPart xs) first.sent
-    new.sent) all (part_of_more (c.args.text.now.items ++ before) rest first.sent new.sent
-    (then_part (c.args.text.now.items ++ before) c.loop-column.text.items first.sent now.sent
-    new.sent c.loop-column.invariant.held c.in_err-add_value.ensures.part)))
+    new.sent) all (part_of_more ((c.args.text.now.items ++ before) ++ piece) rest first.sent new.sent
+    (then_cut (c.args.text.now.items ++ before) c.loop-block.text.items piece first.sent now.sent
+    new.sent c.loop-block.invariant.held c.in_err-add_all.ensures.part)))

@@ -1,4 +1,5 @@
-use Rattle.std.proofs.Common.{◌/◌, ◌<◌, ◌≤◌, ◌++◌, length, map}
+use Rattle.std.proofs.Common.{◌+◌, ◌*◌, ◌/◌, ◌<◌, ◌≤◌, ◌++◌, length, map}
+use Rattle.std.specs.Prelude.{min}
 use Rattle.std.specs.List.{range_with_len}
 use Rattle.host_edge.specs.Views.{Told}
 use Rattle.host_edge.specs.Sends.{AppendsUpTo}
@@ -6,9 +7,9 @@ use Rattle.transpose_unit.specs.Stage.{stage_number, stage_rows}
 use Rattle.object_steps.specs.Lines.{values_text}
 use Rattle.object_steps.proofs.printing.add_columns.Given as goal
 
--- the columns so far were appended
-abbrev pub invariant-loop-column : goal.invariant-loop-column
-invariant-loop-column g l =
+-- the columns of the blocks so far were appended
+abbrev pub invariant-loop-block : goal.invariant-loop-block
+invariant-loop-block g l =
     let S = g.S.Sink in
     let first = S.view l.initial.out in
     let now = S.view l.out in
@@ -17,5 +18,5 @@ invariant-loop-column g l =
       room : length l.text.items < 4096;
       held : Told (AppendsUpTo l.text.items (l.initial.text.items ++ values_text
           (map (stage_number (length l.stage / stage_rows l.n) l.n l.stage)
-          (range_with_len 0 l.column)))) first.sent now.sent;
+          (range_with_len 0 (min l.count (64 * l.block)))))) first.sent now.sent;
     }

@@ -1,0 +1,18 @@
+use Rattle.std.proofs.Common.{◌<◌, ◌≤◌, ◌++◌, length, take}
+use Rattle.host_edge.specs.Views.{Told}
+use Rattle.host_edge.specs.Sends.{AppendsUpTo}
+use Rattle.object_steps.specs.Lines.{values_text}
+use Rattle.object_steps.proofs.printing.add_all.Given as goal
+
+-- the values so far were appended
+abbrev pub invariant-loop-value : goal.invariant-loop-value
+invariant-loop-value g l =
+    let S = g.S.Sink in
+    let first = S.view l.initial.out in
+    let now = S.view l.out in
+    record {
+      counts : first.faults ≤ now.faults;
+      room : length l.text.items < 4096;
+      held : Told (AppendsUpTo l.text.items (l.initial.text.items
+          ++ values_text (take l.value-index l.values))) first.sent now.sent;
+    }
