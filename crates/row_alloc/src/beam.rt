@@ -21,7 +21,7 @@ const WIDTH: usize = 5;
 const MOST_STATES: usize = 7_000;
 
 /// A step of fewer states than this for each that goes on lets fewer go on.
-const FEW_STATES: usize = 60;
+const FEW_STATES: usize = 30;
 
 /// A state of the beam, with its commands so far, its estimate and the step that led to it.
 #[derive(Clone, Copy)]

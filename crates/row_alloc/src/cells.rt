@@ -48,10 +48,14 @@ fn lines_of(y: u8) -> Lines {
 pub fn holders(cells: &Cells, l: Lit) -> Lines {
     let mut found = raised(0, 0);
     for k in 0..6u8 {
-        if cells[k as usize] == Some(l) {
-            found.straight = found.straight.with(k);
-        } else if cells[k as usize] == Some(complement(l)) {
-            found.turned = found.turned.with(k);
+        if let Some(x) = cells[k as usize]
+            && x.node == l.node
+        {
+            if x.inverted == l.inverted {
+                found.straight = found.straight.with(k);
+            } else {
+                found.turned = found.turned.with(k);
+            }
         }
     }
     found

@@ -145,7 +145,7 @@ impl LineUp {
         after
     }
 
-    /// Whether the cells that lacked nothing still lack nothing, and the others can still be loaded.
+    /// Whether the cells that lacked nothing still lack nothing, and the others can be loaded.
     fn fits(&self, task: &Task, lacked: Set, s: &State) -> bool {
         let lacks = lacking(&self.want, &s.cells);
         if !lacks.minus(lacked).is_empty() {

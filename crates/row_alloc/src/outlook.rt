@@ -304,7 +304,8 @@ fn count_in(triple: Set, [a, b, c]: [Set; 3]) -> u32 {
     u32::from(a.meets(triple)) + u32::from(b.meets(triple)) + u32::from(c.meets(triple))
 }
 
-/// How many of the three literals stand in place in the best of the triples, or of their complements.
+/// How many of three literals, and how many of their complements, stand in place in the best of the
+/// triples.
 pub fn in_place(cells: &Cells, [a, b, c]: [Lit; 3]) -> [u32; 2] {
     let (a, b, c) = (holders(cells, a), holders(cells, b), holders(cells, c));
     let straight = [a.straight, b.straight, c.straight];
