@@ -7,6 +7,7 @@ that of the table.
 """
 
 import pathlib
+import random
 import subprocess
 import sys
 import tempfile
@@ -69,6 +70,22 @@ def greatest():
     return "\n".join(ops)
 
 
+def blocks():
+    """A text of 32 ops of 16 serial blocks of the greatest weight, 24: eight gates xor each."""
+    temporaries = "efghijklmnopqrs"
+    ops = []
+    for k in range(32):
+        body = []
+        for j in range(16):
+            names = "abcd" + temporaries[max(0, j - 3) : j]
+            leaves = random.Random(16 * k + j).choices(names, k=9)
+            pairs = [f"xor({x},{y})" for x, y in zip(leaves[0:8:2], leaves[1:8:2])]
+            value = f"xor(xor({pairs[0]},{pairs[1]}),xor({pairs[2]},xor({pairs[3]},{leaves[8]})))"
+            body.append(f"serial up () {{ {temporaries[j] if j < 15 else 'y'} = {value}; }}")
+        ops.append(f"op f{k}(a: word, b: word, c: word, d: word) -> y: word {{ {' '.join(body)} }}")
+    return "\n".join(ops)
+
+
 def compiled(folder, text):
     """What `compile` puts, and how long it takes in seconds."""
     (folder / "ops").write_text(text)
@@ -103,6 +120,9 @@ def main():
         said, seconds = compiled(folder, greatest())
         size = (folder / "prog").stat().st_size
         print(f"compiling 32 ops of 16 statements: {seconds:.3f} seconds, a program of {size} bytes; {said}")
+        said, seconds = compiled(folder, blocks())
+        size = (folder / "prog").stat().st_size
+        print(f"compiling 32 ops of 16 blocks: {seconds:.3f} seconds, a program of {size} bytes; {said}")
     return 1 if wrong else 0
 
 

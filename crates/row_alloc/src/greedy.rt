@@ -12,8 +12,8 @@ ghost use Rattle.row_alloc.specs.declared.body.BodyCmd.TheVariants.{Aap};
 ghost use Rattle.row_alloc.specs.Known.{Serves, IsFirst, known, known_at, WordBody, graph_in};
 ghost use Rattle.row_alloc.specs.Known.{outs_in, sequence_for};
 
+use crate::beam::beam_body;
 use crate::body::{BodyCmd, OutRow};
-use crate::chain::chain;
 use crate::check::check_body;
 use crate::known::KNOWN;
 use crate::order::writes_late;
@@ -69,7 +69,7 @@ fn copied(cmds: &[BodyCmd], alloc: Global) -> Result<Vec<BodyCmd>, NoMemory>
     Ok(cmds.to_vec(alloc)?)
 }
 
-/// The commands from node to node, where they are right and no more than these.
+/// The commands of the beam, where they are right and no more than these.
 fn shorter(
     m: &Mig,
     outs: &[OutRow],
@@ -83,7 +83,7 @@ fn shorter(
     ensures late { IfOk result (λ cmds. WritesLate outs.now cmds.items) }
     ensures few { IfOk result (λ cmds. length cmds.items ≤ length plain.items) }
 {
-    let cmds = chain(m, outs, alloc)?;
+    let cmds = beam_body(m, outs, alloc)?;
     if cmds.len() <= plain.len() && serves(m, outs, &cmds) {
         Ok(cmds)
     } else {
@@ -95,8 +95,8 @@ fn shorter(
 /// nodes.
 ///
 /// A copy stays one. Else the first sequence of the table that the symbolic run finds right stands
-/// for the body. Where
-/// there is none, the commands that go from node to node are tried, and else the plain body stands.
+/// for the body. Where there is none, the commands that a beam finds are tried, and else the plain
+/// body stands.
 /// The B cells and the spill rows may hold anything at entry, and are left with anything. Only want
 /// of memory is an `Err`.
 pub fn greedy_body(m: &Mig, outs: &[OutRow], alloc: Global) -> Result<Vec<BodyCmd>, NoMemory>

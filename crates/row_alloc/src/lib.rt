@@ -5,17 +5,22 @@
 //! bitwise cells.
 #![tactic(auto)]
 
+mod beam;
 mod body;
-mod chain;
+mod cells;
 mod check;
+mod estimate;
 mod greedy;
 mod known;
 mod laws;
 mod legal;
+mod moves;
 mod order;
+mod outlook;
 mod pieces;
 mod plain;
 mod sensing;
+mod set;
 mod table;
 
 pub use body::{BodyCmd, BodyRef, OutRow};

@@ -1,0 +1,388 @@
+//! A beam over the nodes of a body: a search for few commands in which values stay in the bitwise
+//! cells.
+//!
+//! A step makes one node or writes one output, and after each step the few states of the least
+//! estimate go on. Nothing is promised of the commands. They are taken where they are found right.
+
+use crate::body::{BodyCmd, OutRow};
+use crate::cells::lacking;
+use crate::estimate::{estimate, is_ready, points_of_nodes};
+use crate::moves::{Commands, LineUp, Way, turned, writes};
+use crate::outlook::{State, Task, in_place};
+use mig_graph::{Lit, Mig, NoMemory};
+use no_memory::keep;
+use std::alloc::Global;
+use std::mem;
+
+/// How many states go on from a step at most, beside one that needs no cell.
+const WIDTH: usize = 5;
+
+/// How many states are tried for a body, about.
+const MOST_STATES: usize = 7_000;
+
+/// A step of fewer states than this for each that goes on lets fewer go on.
+const FEW_STATES: usize = 30;
+
+/// A state of the beam, with its commands so far, its estimate and the step that led to it.
+#[derive(Clone, Copy)]
+struct Entry {
+    state: State,
+    spent: u32,
+    rank: u32,
+    from: Option<usize>,
+    cmds: Commands,
+}
+
+/// The best states after as many steps, and the best of those whose values all stand in rows, from
+/// which every node can be made.
+#[derive(Drop)]
+struct Bucket {
+    kept: Vec<Entry>,
+    safe: Option<Entry>,
+}
+
+impl Bucket {
+    fn new(alloc: Global) -> Bucket {
+        Bucket {
+            kept: Vec::new(alloc),
+            safe: None,
+        }
+    }
+
+    /// The place of the entry that a new one replaces: that of the same state, else the worst.
+    fn place_for(&self, new: &Entry, width: usize) -> usize {
+        let mut place = 0;
+        let mut rank = 0;
+        for (k, entry) in self.kept.iter().enumerate() {
+            if entry.state == new.state {
+                return k;
+            }
+            if entry.rank > rank {
+                place = k;
+                rank = entry.rank;
+            }
+        }
+        if self.kept.len() < usize::max(width, 1) {
+            self.kept.len()
+        } else {
+            place
+        }
+    }
+
+    /// Keeps the entry beside the best ones, where it is one that every node can be made from.
+    fn offer_safe(&mut self, task: &Task, new: Entry) {
+        let is_better = match &self.safe {
+            Some(old) => new.rank < old.rank,
+            None => true,
+        };
+        if is_better && task.is_safe(&new.state) {
+            self.safe = Some(new);
+        }
+    }
+
+    /// The safe entry, where no other is safe.
+    fn only_safe(&self, task: &Task) -> Option<Entry> {
+        for entry in &self.kept {
+            if task.is_safe(&entry.state) {
+                return None;
+            }
+        }
+        self.safe
+    }
+
+    /// The entry of the fewest commands.
+    fn best(&self) -> Option<Entry> {
+        let mut best = self.safe;
+        for entry in &self.kept {
+            match best {
+                Some(old) if old.spent <= entry.spent => {}
+                _ => best = Some(*entry),
+            }
+        }
+        best
+    }
+
+    /// Keeps the entry, where it is among the best.
+    fn offer(&mut self, task: &Task, new: Entry, width: usize) -> Result<(), NoMemory> {
+        let place = self.place_for(&new, width);
+        if place >= self.kept.len() {
+            return keep(&mut self.kept, new);
+        }
+        if new.rank < self.kept[place].rank {
+            let old = self.kept[place];
+            self.kept[place] = new;
+            self.offer_safe(task, old);
+        } else {
+            self.offer_safe(task, new);
+        }
+        Ok(())
+    }
+}
+
+/// The search: the entries that have gone on, the states after this step and the two next ones.
+#[derive(Drop)]
+struct Beam {
+    done: Vec<Entry>,
+    now: Bucket,
+    next: Bucket,
+    after: Bucket,
+    ways: Vec<Way>,
+    ends: Vec<Way>,
+    width: usize,
+    tried: usize,
+}
+
+/// A node that can be made, or its complement, and how many of its operands are not in place.
+#[derive(Clone, Copy)]
+struct Job {
+    node: u8,
+    operands: [Lit; 3],
+    sensed: Lit,
+    missing: u32,
+}
+
+fn job_of(task: &Task, s: &State, node: u8, inverted: bool) -> Option<Job> {
+    let operands = task.operands(node)?;
+    if !s.unmade.has(node) || !is_ready(task, s, operands) {
+        return None;
+    }
+    let [straight, complements] = in_place(&s.cells, operands);
+    let (operands, most) = if inverted {
+        (turned(operands), complements)
+    } else {
+        (operands, straight)
+    };
+    Some(Job {
+        node,
+        operands,
+        sensed: task.lit_of(node, inverted),
+        missing: 3u32.saturating_sub(most),
+    })
+}
+
+/// The nodes that can be made from a state.
+fn jobs(task: &Task, s: &State, alloc: Global) -> Result<Vec<Job>, NoMemory> {
+    let mut jobs = Vec::new(alloc);
+    for k in 0..64u8 {
+        if let Some(job) = job_of(task, s, k / 2, k % 2 == 1) {
+            keep(&mut jobs, job)?;
+        }
+    }
+    Ok(jobs)
+}
+
+impl Beam {
+    /// The state before any step.
+    fn new(task: &Task, alloc: Global) -> Result<Beam, NoMemory> {
+        let mut beam = Beam {
+            done: Vec::new(alloc),
+            now: Bucket::new(alloc),
+            next: Bucket::new(alloc),
+            after: Bucket::new(alloc),
+            ways: Vec::new(alloc),
+            ends: Vec::new(alloc),
+            width: WIDTH,
+            tried: 0,
+        };
+        let start = Entry {
+            state: task.start(),
+            spent: 0,
+            rank: 0,
+            from: None,
+            cmds: Commands::new(),
+        };
+        beam.now.offer(task, start, WIDTH)?;
+        Ok(beam)
+    }
+
+    /// Keeps a state that a step has led to, where it is among the best and loses no value.
+    fn consider(
+        &mut self,
+        task: &Task,
+        parent: &Entry,
+        at: usize,
+        nodes: u32,
+        way: &Way,
+    ) -> Result<(), NoMemory> {
+        self.tried = self.tried.saturating_add(1);
+        if task.loses(&parent.state.cells, &way.state) {
+            return Ok(());
+        }
+        let spent = parent.spent.saturating_add(way.cmds.len());
+        let points = estimate(task, &way.state, nodes);
+        let entry = Entry {
+            state: way.state,
+            spent,
+            rank: spent.saturating_mul(20).saturating_add(points),
+            from: Some(at),
+            cmds: way.cmds,
+        };
+        if way.state.left().saturating_add(1) == parent.state.left() {
+            self.next.offer(task, entry, self.width)
+        } else {
+            self.after.offer(task, entry, self.width)
+        }
+    }
+
+    /// Considers all ways that end a step.
+    fn consider_ends(
+        &mut self,
+        task: &Task,
+        parent: &Entry,
+        at: usize,
+        nodes: u32,
+    ) -> Result<(), NoMemory> {
+        for k in 0..self.ends.len() {
+            if k < self.ends.len() {
+                let way = self.ends[k];
+                self.consider(task, parent, at, nodes, &way)?;
+            }
+        }
+        Ok(())
+    }
+
+    /// Tries one line-up of a node.
+    fn try_line_up(
+        &mut self,
+        task: &Task,
+        parent: &Entry,
+        at: usize,
+        nodes: u32,
+        line_up: &LineUp,
+    ) -> Result<(), NoMemory> {
+        line_up.ways(task, &parent.state, &mut self.ways)?;
+        self.ends.clear();
+        for way in &self.ways {
+            line_up.end(task, way, &mut self.ends)?;
+        }
+        self.consider_ends(task, parent, at, nodes)
+    }
+
+    /// Tries the line-ups of a node that lack least, until so many states have been tried.
+    fn try_job(
+        &mut self,
+        task: &Task,
+        parent: &Entry,
+        at: usize,
+        job: &Job,
+        most: usize,
+    ) -> Result<(), NoMemory> {
+        let mut made = parent.state;
+        made.unmade = made.unmade.without(job.node);
+        let nodes = points_of_nodes(task, &made);
+        for number in 0..24u8 {
+            let line_up = LineUp::new(number, job.node, job.operands, job.sensed);
+            let missing = lacking(&line_up.want, &parent.state.cells).len();
+            if missing == job.missing && self.tried < most {
+                self.try_line_up(task, parent, at, nodes, &line_up)?;
+            }
+        }
+        Ok(())
+    }
+
+    /// Tries the nodes of which so many operands are not in place.
+    fn try_jobs(
+        &mut self,
+        task: &Task,
+        parent: &Entry,
+        at: usize,
+        jobs: &[Job],
+        missing: u32,
+        most: usize,
+    ) -> Result<(), NoMemory> {
+        for job in jobs {
+            if job.missing == missing {
+                self.try_job(task, parent, at, job, most)?;
+            }
+        }
+        Ok(())
+    }
+
+    /// Tries to write each output.
+    fn try_writes(&mut self, task: &Task, parent: &Entry, at: usize) -> Result<(), NoMemory> {
+        self.ends.clear();
+        for j in 0..8u8 {
+            writes(task, &parent.state, j, &mut self.ends)?;
+        }
+        let nodes = points_of_nodes(task, &parent.state);
+        self.consider_ends(task, parent, at, nodes)
+    }
+
+    /// Tries the steps from one state, of the nodes with the most operands in place first.
+    fn go_on(
+        &mut self,
+        task: &Task,
+        parent: &Entry,
+        share: usize,
+        alloc: Global,
+    ) -> Result<(), NoMemory> {
+        let at = self.done.len();
+        keep(&mut self.done, *parent)?;
+        self.try_writes(task, parent, at)?;
+        let jobs = jobs(task, &parent.state, alloc)?;
+        let most = self.tried.saturating_add(usize::max(share, 1));
+        for missing in 0..4u32 {
+            self.try_jobs(task, parent, at, &jobs, missing, most)?;
+        }
+        Ok(())
+    }
+
+    /// One step from each state that stands, within its share of the states that may be tried.
+    fn step(&mut self, task: &Task, left: usize, alloc: Global) -> Result<(), NoMemory> {
+        let now = mem::replace(&mut self.now, Bucket::new(alloc));
+        let states = MOST_STATES.saturating_sub(self.tried) / usize::max(left, 1);
+        self.width = usize::min(states / FEW_STATES, WIDTH);
+        let share = states / usize::max(now.kept.len(), 1);
+        for entry in &now.kept {
+            self.go_on(task, entry, share, alloc)?;
+        }
+        if let Some(entry) = now.only_safe(task) {
+            self.go_on(task, &entry, share, alloc)?;
+        }
+        self.now = mem::replace(&mut self.next, Bucket::new(alloc));
+        self.next = mem::replace(&mut self.after, Bucket::new(alloc));
+        Ok(())
+    }
+
+    /// The commands that led to an entry, the last one first.
+    fn commands_back(&self, last: &Entry, alloc: Global) -> Result<Vec<BodyCmd>, NoMemory> {
+        let mut cmds = Vec::new(alloc);
+        let mut entry = *last;
+        for _step in 0..64u8 {
+            push_back(&mut cmds, &entry.cmds)?;
+            match entry.from {
+                Some(k) if k < self.done.len() => entry = self.done[k],
+                _ => break,
+            }
+        }
+        Ok(cmds)
+    }
+}
+
+/// The commands, the last one first.
+fn push_back(cmds: &mut Vec<BodyCmd>, step: &Commands) -> Result<(), NoMemory> {
+    for back in 0..6u8 {
+        if let Some(cmd) = step.get(5 - back) {
+            keep(cmds, cmd)?;
+        }
+    }
+    Ok(())
+}
+
+/// Commands for the body, or none where the search finds none.
+pub fn beam_body(m: &Mig, outs: &[OutRow], alloc: Global) -> Result<Vec<BodyCmd>, NoMemory> {
+    let task = Task::new(m, outs, alloc)?;
+    let mut beam = Beam::new(&task, alloc)?;
+    let steps = task.start().left();
+    for done in 0..steps {
+        beam.step(&task, (steps - done) as usize, alloc)?;
+    }
+    match beam.now.best() {
+        Some(last) => {
+            let mut cmds = beam.commands_back(&last, alloc)?;
+            cmds.reverse();
+            Ok(cmds)
+        }
+        None => Ok(Vec::new(alloc)),
+    }
+}

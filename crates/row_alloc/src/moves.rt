@@ -1,0 +1,390 @@
+//! The ways to make one node, or to write one output.
+
+use crate::body::BodyCmd::{self, Aap, Ap};
+use crate::body::BodyRef::{B, Out, Spill};
+use crate::cells::{Cells, Fill, address_of, driven, holders, lacking, raises};
+use crate::outlook::{State, Task};
+use crate::set::Set;
+use mig_graph::{Lit, NoMemory, complement};
+use no_memory::keep;
+
+/// The most ways that are tried to bring the operands of a node in line.
+const MOST_WAYS: usize = 20;
+
+/// At most six commands.
+#[derive(Clone, Copy)]
+pub struct Commands {
+    list: [BodyCmd; 6],
+    count: u8,
+}
+
+impl Commands {
+    pub fn new() -> Commands {
+        Commands {
+            list: [Ap(B(0)); 6],
+            count: 0,
+        }
+    }
+
+    pub fn len(&self) -> u32 {
+        u32::from(self.count)
+    }
+
+    /// The command of this number.
+    pub fn get(&self, k: u8) -> Option<BodyCmd> {
+        if k < self.count && k < 6 {
+            Some(self.list[k as usize])
+        } else {
+            None
+        }
+    }
+
+    /// These commands and one more, where there is room.
+    pub fn then(&self, cmd: BodyCmd) -> Commands {
+        let mut all = *self;
+        if all.count < 6 {
+            all.list[all.count as usize] = cmd;
+            all.count += 1;
+        }
+        all
+    }
+}
+
+/// Some commands, and the state that they lead to.
+#[derive(Clone, Copy)]
+pub struct Way {
+    pub state: State,
+    pub cmds: Commands,
+    /// A value of the triple has been saved.
+    pub saved: bool,
+}
+
+impl Way {
+    /// No command yet.
+    pub fn from(state: State) -> Way {
+        Way {
+            state,
+            cmds: Commands::new(),
+            saved: false,
+        }
+    }
+
+    fn then(&self, state: State, cmd: BodyCmd) -> Way {
+        Way {
+            state,
+            cmds: self.cmds.then(cmd),
+            saved: self.saved,
+        }
+    }
+}
+
+/// One way to line up a node: what the cells of a triple should hold, and what is sensed then.
+#[derive(Clone, Copy)]
+pub struct LineUp {
+    pub node: u8,
+    pub triple: u8,
+    pub want: Cells,
+    pub sensed: Lit,
+}
+
+/// The three literals in the cells of B12 to B15.
+fn placed(triple: u8, [a, b, c]: [Lit; 3]) -> Cells {
+    let (a, b, c) = (Some(a), Some(b), Some(c));
+    match triple {
+        12 => [a, b, c, None, None, None],
+        13 => [None, a, b, c, None, None],
+        14 => [None, a, b, None, c, None],
+        _ => [a, None, None, b, None, c],
+    }
+}
+
+/// The six orders of three literals.
+fn ordered(order: u8, [a, b, c]: [Lit; 3]) -> [Lit; 3] {
+    match order {
+        0 => [a, b, c],
+        1 => [a, c, b],
+        2 => [b, a, c],
+        3 => [b, c, a],
+        4 => [c, a, b],
+        _ => [c, b, a],
+    }
+}
+
+/// The complements of three literals.
+pub fn turned([a, b, c]: [Lit; 3]) -> [Lit; 3] {
+    [complement(a), complement(b), complement(c)]
+}
+
+impl LineUp {
+    /// The line-up of this number below 24, for the node's literals or their complements.
+    pub fn new(number: u8, node: u8, operands: [Lit; 3], sensed: Lit) -> LineUp {
+        let triple = 12 + number / 6 % 4;
+        let want = placed(triple, ordered(number % 6, operands));
+        LineUp {
+            node,
+            triple,
+            want,
+            sensed,
+        }
+    }
+
+    /// What a cell should hold.
+    fn wanted_of(&self, k: u8) -> Option<Lit> {
+        self.want.get(k as usize).copied().flatten()
+    }
+
+    /// The state after the triple is activated.
+    fn activated(&self, s: &State) -> State {
+        let mut after = *s;
+        for k in 0..6u8 {
+            if self.want[k as usize] != None {
+                after.cells[k as usize] = Some(self.sensed);
+            }
+        }
+        after.unmade = s.unmade.without(self.node);
+        after
+    }
+
+    /// Whether the cells that lacked nothing still lack nothing, and the others can be loaded.
+    fn fits(&self, task: &Task, lacked: Set, s: &State) -> bool {
+        let lacks = lacking(&self.want, &s.cells);
+        if !lacks.minus(lacked).is_empty() {
+            return false;
+        }
+        for k in 0..6u8 {
+            if lacks.has(k)
+                && let Some(l) = self.want[k as usize]
+                && task.source(s, l).is_none()
+                && (k < 4 || task.source(s, complement(l)).is_none())
+            {
+                return false;
+            }
+        }
+        true
+    }
+
+    /// The ways that go on by a load of one cell.
+    fn load(
+        &self,
+        task: &Task,
+        way: &Way,
+        k: u8,
+        is_turned: bool,
+        l: Lit,
+        ways: &mut Vec<Way>,
+    ) -> Result<(), NoMemory> {
+        let Some(from) = task.source(&way.state, l) else {
+            return Ok(());
+        };
+        let lacked = lacking(&self.want, &way.state.cells);
+        let fill = Fill {
+            there: holders(&way.state.cells, l),
+            free: task.free_cells(&way.state).or(lacked),
+        };
+        for y in 0..16u8 {
+            if raises(y, k, is_turned) && fill.is_worth(y) {
+                let mut state = way.state;
+                state.cells = driven(&state.cells, y, l);
+                if self.fits(task, lacked, &state) {
+                    add(ways, way.then(state, Aap(from, B(y))))?;
+                }
+            }
+        }
+        Ok(())
+    }
+
+    /// The ways that go on by a load of this cell.
+    fn loads(&self, task: &Task, way: &Way, k: u8, ways: &mut Vec<Way>) -> Result<(), NoMemory> {
+        let Some(l) = self.wanted_of(k) else {
+            return Ok(());
+        };
+        self.load(task, way, k, false, l, ways)?;
+        if k > 3 {
+            self.load(task, way, k, true, complement(l), ways)?;
+        }
+        Ok(())
+    }
+
+    /// The ways that go on by a copy of one cell of the triple to cells outside of it.
+    fn save_in_cells(
+        &self,
+        task: &Task,
+        way: &Way,
+        from: u8,
+        l: Lit,
+        ways: &mut Vec<Way>,
+    ) -> Result<(), NoMemory> {
+        let fill = Fill {
+            there: holders(&way.state.cells, l),
+            free: task.free_cells(&way.state),
+        };
+        for y in 0..16u8 {
+            if fill.is_worth(y) {
+                let mut state = way.state;
+                state.cells = driven(&state.cells, y, l);
+                if lacking(&self.want, &state.cells).is_empty() {
+                    let mut next = way.then(state, Aap(B(from), B(y)));
+                    next.saved = true;
+                    add(ways, next)?;
+                }
+            }
+        }
+        Ok(())
+    }
+
+    /// The same, and the way that spills the value.
+    fn save(
+        &self,
+        task: &Task,
+        way: &Way,
+        k: u8,
+        inverted: bool,
+        ways: &mut Vec<Way>,
+    ) -> Result<(), NoMemory> {
+        let (Some(l), Some(from)) = (self.wanted_of(k), address_of(k, inverted)) else {
+            return Ok(());
+        };
+        let l = if inverted { complement(l) } else { l };
+        self.save_in_cells(task, way, from, l, ways)?;
+        if let Some(spill) = task.spill_of(l) {
+            let mut state = way.state;
+            state.spilled = state.spilled.with(spill);
+            let mut next = way.then(state, Aap(B(from), Spill(spill)));
+            next.saved = true;
+            add(ways, next)?;
+        }
+        Ok(())
+    }
+
+    /// The ways that go on by saving a value of the triple that its activation would lose.
+    fn saves(&self, task: &Task, way: &Way, ways: &mut Vec<Way>) -> Result<(), NoMemory> {
+        let after = self.activated(&way.state);
+        for k in 0..6u8 {
+            if let Some(l) = self.want[k as usize]
+                && task.is_lost(&after, l.node)
+            {
+                self.save(task, way, k, false, ways)?;
+                self.save(task, way, k, true, ways)?;
+            }
+        }
+        Ok(())
+    }
+
+    /// The ways that go on by one command, where the triple is not yet ready.
+    fn go_on(&self, task: &Task, way: &Way, ways: &mut Vec<Way>) -> Result<(), NoMemory> {
+        match lacking(&self.want, &way.state.cells).first() {
+            Some(k) => self.loads(task, way, k, ways),
+            None if !way.saved => self.saves(task, way, ways),
+            None => Ok(()),
+        }
+    }
+
+    /// The ways by which the operands are brought in line, and what leads to them.
+    pub fn ways(&self, task: &Task, s: &State, ways: &mut Vec<Way>) -> Result<(), NoMemory> {
+        ways.clear();
+        keep(ways, Way::from(*s))?;
+        for k in 0..MOST_WAYS {
+            if k >= ways.len() {
+                break;
+            }
+            let way = ways[k];
+            self.go_on(task, &way, ways)?;
+        }
+        Ok(())
+    }
+
+    /// The ways that end by the activation, alone or with an address that takes what is sensed.
+    fn end_in_cells(&self, task: &Task, way: &Way, ends: &mut Vec<Way>) -> Result<(), NoMemory> {
+        let after = self.activated(&way.state);
+        keep(ends, way.then(after, Ap(B(self.triple))))?;
+        let fill = Fill {
+            there: holders(&after.cells, self.sensed),
+            free: task.free_cells(&after),
+        };
+        for y in 0..16u8 {
+            if fill.is_worth(y) {
+                let mut state = after;
+                state.cells = driven(&state.cells, y, self.sensed);
+                keep(ends, way.then(state, Aap(B(self.triple), B(y))))?;
+            }
+        }
+        Ok(())
+    }
+
+    /// The ways that end by an activation that an output or the node's spill row takes.
+    fn end_in_rows(&self, task: &Task, way: &Way, ends: &mut Vec<Way>) -> Result<(), NoMemory> {
+        let after = self.activated(&way.state);
+        if let Some(spill) = task.spill_of(self.sensed) {
+            let mut state = after;
+            state.spilled = state.spilled.with(spill);
+            keep(ends, way.then(state, Aap(B(self.triple), Spill(spill))))?;
+        }
+        for j in 0..8u8 {
+            if after.unwritten.has(j) && task.output(j) == Some(self.sensed) {
+                let mut state = after;
+                state.unwritten = state.unwritten.without(j);
+                keep(ends, way.then(state, Aap(B(self.triple), Out(j))))?;
+            }
+        }
+        Ok(())
+    }
+
+    /// The ways that make the node, where its operands are in line.
+    pub fn end(&self, task: &Task, way: &Way, ends: &mut Vec<Way>) -> Result<(), NoMemory> {
+        if !lacking(&self.want, &way.state.cells).is_empty() {
+            return Ok(());
+        }
+        self.end_in_cells(task, way, ends)?;
+        self.end_in_rows(task, way, ends)
+    }
+}
+
+/// The ways that write an output whose complement stands somewhere, through a dual-contact cell.
+fn write_turned(
+    task: &Task,
+    s: &State,
+    j: u8,
+    l: Lit,
+    ends: &mut Vec<Way>,
+) -> Result<(), NoMemory> {
+    let Some(from) = task.source(s, l) else {
+        return Ok(());
+    };
+    for (y, cell) in [(5, 4), (7, 6), (8, 4), (9, 6)] {
+        let mut state = *s;
+        state.cells = driven(&state.cells, y, l);
+        let way = Way::from(*s).then(state, Aap(from, B(y)));
+        state.unwritten = state.unwritten.without(j);
+        keep(ends, way.then(state, Aap(B(cell), Out(j))))?;
+    }
+    Ok(())
+}
+
+/// The ways that write one output.
+pub fn writes(task: &Task, s: &State, j: u8, ends: &mut Vec<Way>) -> Result<(), NoMemory> {
+    let Some(l) = task.output(j) else {
+        return Ok(());
+    };
+    if !s.unwritten.has(j) || task.is_unmade(s, l.node) {
+        return Ok(());
+    }
+    let Some(from) = task.source(s, l) else {
+        return write_turned(task, s, j, complement(l), ends);
+    };
+    let mut state = *s;
+    state.unwritten = state.unwritten.without(j);
+    keep(ends, Way::from(*s).then(state, Aap(from, Out(j))))
+}
+
+/// Puts a way behind the others, where there is room and none has led to the same state.
+fn add(ways: &mut Vec<Way>, way: Way) -> Result<(), NoMemory> {
+    if ways.len() >= MOST_WAYS {
+        return Ok(());
+    }
+    for other in ways.iter() {
+        if other.state == way.state && other.saved == way.saved {
+            return Ok(());
+        }
+    }
+    keep(ways, way)
+}
