@@ -51,7 +51,7 @@ names_tabled g table (Fill name value) right all = all
 names_tabled g table (Print name) right all = all
 names_tabled g table (Order o) right all = all
 
-names_stay : (g : Geometry) (operations : Operations) (table : List Named)
+pub names_stay : (g : Geometry) (operations : Operations) (table : List Named)
     (script : List Instruction) → AllByRecursion IsRight script → HasNames table
     → HasNames (table_at_end g operations table script)
 names_stay g operations table [] right all = all

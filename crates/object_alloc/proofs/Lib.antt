@@ -1,12 +1,12 @@
 mod Bases
 pub mod Tables
 mod Least
-mod Records
+pub mod Records
 mod Objects
-mod Images
+pub mod Images
 mod Pieces
-mod Rows
-mod Exact
+pub mod Rows
+pub mod Exact
 mod ExactAnswers
 mod Bits
-mod Written
+pub mod Written

@@ -103,7 +103,7 @@ fn object_of(
 
 /// The geometry at a place.
 #[tactic(auto, unfolding(crate::specs::Reading::geometry_at))]
-fn geometry_of(bytes: &[u8], at: usize) -> Result<Geometry, ImageFault>
+pub fn read_geometry(bytes: &[u8], at: usize) -> Result<Geometry, ImageFault>
     requires small { length bytes.now < 2 ^ 32 }
     requires place { at ≤ length bytes.now }
     ensures gives { Gives (λ g. g) result (geometry_at at bytes.now) }
@@ -197,7 +197,7 @@ fn whole(bytes: &[u8], alloc: Global) -> Result<Image<'_>, ImageNo>
     ensures limit { IfOk result (λ i. i.table.limit ≡ limit_of i.geometry) }
 {
     opening_of(bytes)?;
-    let geometry = geometry_of(bytes, 6)?;
+    let geometry = read_geometry(bytes, 6)?;
     let table = table_of(bytes, 12, geometry, alloc)?;
     let start = HEAD_BYTES + RECORD_BYTES * usize::from(table.len());
     let rows = rows_of(geometry, bytes, start)?;
@@ -216,6 +216,7 @@ pub fn read_table(bytes: &[u8], at: u32, g: Geometry, alloc: Global) -> Result<T
     requires place { at ≤ length bytes.now }
     ensures exact { Answers (λ t. t.pairs) result (table_at g at bytes.now) }
     ensures limit { IfOk result (λ t. t.limit ≡ limit_of g) }
+    ensures within { IfOk result (λ t. at + 2 + 24 * length t.pairs ≤ length bytes.now) }
 {
     table_of(bytes, at as usize, g, alloc)
 }

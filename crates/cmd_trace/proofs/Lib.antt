@@ -1,0 +1,4 @@
+pub mod Tapes
+pub mod Checking
+pub mod Places
+pub mod Replaying

@@ -1,0 +1,454 @@
+-- A tape behind one event more: what it tells.
+use Rattle.std.proofs.Common.{◌≡◌, ℕ, zero, suc, ◌+◌, ◌*◌, ◌^◌, ◌<◌, ◌≤◌, Bool, true, false, ◌&&◌}
+use Rattle.std.proofs.Common.{cond, eqb, leb, List, [], ◌∷◌, ◌++◌, length, take, drop, Option}
+use Rattle.std.proofs.Common.{Some, None, refl, sym, ◌∙◌, ap, subst, arith, length-append}
+use Rattle.std.proofs.Common.{append_assoc, append-nil}
+use Rattle.std.specs.Prelude.{Result, Ok, Err, IfSome}
+use Rattle.std.specs.Str.{bytes_eq}
+use Rattle.std.proofs.lemmas.Bool.{eqb-true, eq-eqb}
+use Rattle.std.proofs.lemmas.Bool.Decides.{nat_tests}
+use Rattle.std.proofs.lemmas.List.Concat.{flat_map-append}
+use Rattle.std.proofs.lemmas.Slice.Eq.{bytes_eq-Decides}
+use Rattle.std.proofs.lemmas.List.{drop_all, drop_at, length-take}
+use Rattle.dram_model.specs.declared.dram.Counters.{Counters}
+use Rattle.dram_model.specs.declared.geometry.Geometry.{Geometry}
+use Rattle.dram_model.specs.Geometry.{is_geometry}
+use Rattle.dram_model.specs.Chip.{Event, Grew}
+use Rattle.dram_model.specs.Chip.Event.{Row, Write}
+use Rattle.dram_model.specs.View.{ChipView, HasBegun, Kept, Did, DidRead, FailedIn}
+use Rattle.bit_rows.specs.Bits.{bits_of_words}
+use Rattle.bit_rows.proofs.Words.{length-words}
+use Rattle.object_alloc.specs.Bytes.{bits_of_bytes, bytes_of_bits}
+use Rattle.object_alloc.proofs.Images.{bounds_of}
+use Rattle.file_fields.specs.Fields.{◌>>=◌, rule}
+use Rattle.file_fields.proofs.Held.{Holds, bytes_takes, bytes_again, bind_ok, ok_is}
+use Rattle.file_fields.proofs.Padded.{between_is}
+use Rattle.trace_model.specs.declared.TraceKind.{TraceKind}
+use Rattle.trace_model.specs.declared.TraceKind.TheVariants as kinds
+use Rattle.trace_model.specs.Spelling.{Head, Commands, Writes, event_bytes, event_head_bytes}
+use Rattle.trace_model.specs.Spelling.{events_bytes, IsEvent, trace_bytes, trace_head}
+use Rattle.object_alloc.specs.Listed.{Named}
+use Rattle.std.specs.Int.{to_le_bytes, w32}
+use Rattle.trace_model.specs.Reading.{TraceFault, bytes_at, head_at, head_in, is_legal_head, needed}
+use Rattle.trace_model.specs.Reading.{with_row, event_at, events_at}
+use Rattle.trace_model.proofs.Events.{event_again}
+use Rattle.trace_model.proofs.Files.{few_rows}
+use Rattle.cmd_trace.specs.declared.sizes.TheConstants.{HEAD_BYTES_MAX, TRACE_BYTES_MAX}
+use Rattle.cmd_trace.specs.Tape.{Tape, ends_at, events_on, events_read, is_whole, kept_in, kept_on}
+use Rattle.cmd_trace.specs.Tape.{log_on, marked, recorded}
+
+-- ---- bytes behind those that are read change nothing
+
+drop_longer : (at : ℕ) (bytes more : List ℕ) → at ≤ length bytes
+    → drop at (bytes ++ more) ≡ drop at bytes ++ more
+drop_longer zero bytes more l = refl
+drop_longer (suc at) [] more l = absurd (omega (arith, l))
+drop_longer (suc at) (b ∷ bytes) more l = drop_longer at bytes more (omega (arith, l))
+
+Holds_longer : (bytes : List ℕ) (at : ℕ) (text : List ℕ) (next : ℕ) (more : List ℕ)
+    → Holds bytes at text next → Holds (bytes ++ more) at text next
+Holds_longer bytes at text next more h = record {
+  parts = drop_longer at bytes more (omega (arith, h.ends, h.within))
+      ∙ ap (λ (t : List ℕ). t ++ more) h.parts
+      ∙ append_assoc text (drop next bytes) more
+      ∙ ap (λ (t : List ℕ). text ++ t) (sym (drop_longer next bytes more h.within));
+  ends = h.ends;
+  within = omega (arith, h.within, length-append bytes more);
+}
+
+bytes_longer : (len at : ℕ) (bytes more field : List ℕ) → bytes_at len at bytes ≡ Ok field
+    → bytes_at len at (bytes ++ more) ≡ Ok field
+bytes_longer len at bytes more field e =
+    let t = bytes_takes kinds.Short len at (at + len) bytes field e refl in
+    bytes_again kinds.Short len at (at + len) (bytes ++ more) field
+    (Holds_longer bytes at field (at + len) more t.0) t.1
+
+head_longer : (g : Geometry) (at : ℕ) (bytes more : List ℕ) (h : Head) → head_at g at bytes ≡ Ok h
+    → head_at g at (bytes ++ more) ≡ Ok h
+unfolding head_at
+head_longer g at bytes more h e =
+    let rest : List ℕ → Result Head TraceFault = λ field. needed (head_in g field) at kinds.Event
+    >>= λ head. rule (is_legal_head g head) at kinds.Legal >>= λ _. Ok head in
+    let a = bind_ok (bytes_at 8 at bytes) rest h e in
+    ap (λ (r : Result (List ℕ) TraceFault). r >>= rest) (bytes_longer 8 at bytes more a.0 a.1)
+    ∙ a.2
+
+row_longer : (g : Geometry) (h : Head) (at : ℕ) (bytes more : List ℕ) (out : Event × ℕ)
+    → with_row g h at bytes ≡ Ok out → with_row g h at (bytes ++ more) ≡ Ok out
+row_longer g (Commands bank command) at bytes more out e = e
+row_longer g (Writes bank row) at bytes more out e =
+    let rest : List ℕ → Result (Event × ℕ) TraceFault =
+    λ field. Ok (Write bank row (bits_of_bytes field), at + 8 + 8 * g.words) in
+    let a = bind_ok (bytes_at (8 * g.words) (at + 8) bytes) rest out e in
+    ap (λ (r : Result (List ℕ) TraceFault). r >>= rest)
+    (bytes_longer (8 * g.words) (at + 8) bytes more a.0 a.1) ∙ a.2
+
+event_longer : (g : Geometry) (at : ℕ) (bytes more : List ℕ) (out : Event × ℕ)
+    → event_at g at bytes ≡ Ok out → event_at g at (bytes ++ more) ≡ Ok out
+unfolding event_at
+event_longer g at bytes more out e =
+    let a = bind_ok (head_at g at bytes) (λ head. with_row g head at bytes) out e in
+    ap (λ (r : Result Head TraceFault). r >>= λ head. with_row g head at (bytes ++ more))
+    (head_longer g at bytes more a.0 a.1) ∙ row_longer g a.0 at bytes more out a.2
+
+-- no events, and one before others
+abbrev pub rest_of : ℕ → Geometry → List ℕ → Event × ℕ → Result (List Event × ℕ) TraceFault
+rest_of n g bytes first = events_at n g first.1 bytes >>= λ events.
+    Ok (first.0 ∷ events.0, events.1)
+
+pub none_is : (g : Geometry) (at : ℕ) (bytes : List ℕ) → events_at 0 g at bytes ≡ Ok ([], at)
+unfolding events_at
+none_is g at bytes = refl
+
+pub more_is : (n : ℕ) (g : Geometry) (at : ℕ) (bytes : List ℕ)
+    → events_at (suc n) g at bytes ≡ (event_at g at bytes >>= rest_of n g bytes)
+unfolding events_at
+more_is n g at bytes = refl
+
+abbrev pub behind : Event → List Event × ℕ → Result (List Event × ℕ) TraceFault
+behind first events = Ok (first ∷ events.0, events.1)
+
+-- one event more behind others
+pub events_snoc : (n : ℕ) (g : Geometry) (at : ℕ) (bytes more : List ℕ) (out : List Event × ℕ)
+    (event : Event) (next : ℕ) → events_at n g at bytes ≡ Ok out
+    → event_at g out.1 (bytes ++ more) ≡ Ok (event, next)
+    → events_at (suc n) g at (bytes ++ more) ≡ Ok (out.0 ++ event ∷ [], next)
+events_snoc zero g at bytes more out event next e f =
+    let none : List Event × ℕ = ([], at) in
+    let is : none ≡ out = ok_is {K = TraceKind} none out (sym (none_is g at bytes) ∙ e) in
+    let all = bytes ++ more in
+    subst (λ (x : List Event × ℕ). event_at g x.1 all ≡ Ok (event, next)
+    → events_at 1 g at all ≡ Ok (x.0 ++ event ∷ [], next)) is (λ h. more_is 0 g at all
+    ∙ ap (λ (r : Result (Event × ℕ) TraceFault). r >>= rest_of 0 g all) h
+    ∙ ap (λ (r : Result (List Event × ℕ) TraceFault). r >>= behind event) (none_is g next all)) f
+events_snoc (suc n) g at bytes more out event next e f =
+    let all = bytes ++ more in
+    let a = bind_ok (event_at g at bytes) (rest_of n g bytes) out (sym (more_is n g at bytes) ∙ e)
+    in
+    let b = bind_ok (events_at n g a.0.1 bytes) (behind a.0.0) out a.2 in
+    let whole : List Event × ℕ = (a.0.0 ∷ b.0.0, b.0.1) in
+    let same : whole ≡ out = ok_is {K = TraceKind} whole out b.2 in
+    subst (λ (x : List Event × ℕ). event_at g x.1 all ≡ Ok (event, next)
+    → events_at (suc (suc n)) g at all ≡ Ok (x.0 ++ event ∷ [], next)) same (λ h.
+    more_is (suc n) g at all
+    ∙ ap (λ (r : Result (Event × ℕ) TraceFault). r >>= rest_of (suc n) g all)
+    (event_longer g at bytes more a.0 a.1)
+    ∙ ap (λ (r : Result (List Event × ℕ) TraceFault). r >>= behind a.0.0)
+    (events_snoc n g a.0.1 bytes more b.0 event next b.1 h)) f
+
+-- each event takes eight bytes at least
+row_long : (g : Geometry) (h : Head) (at : ℕ) (bytes : List ℕ) (out : Event × ℕ)
+    → with_row g h at bytes ≡ Ok out → at + 8 ≤ out.1
+row_long g (Commands bank command) at bytes out e =
+    let one : Event × ℕ = (Row bank command, at + 8) in
+    subst (λ (x : Event × ℕ). at + 8 ≤ x.1) (ok_is {K = TraceKind} one out e) (omega arith)
+row_long g (Writes bank row) at bytes out e =
+    let rest : List ℕ → Result (Event × ℕ) TraceFault =
+    λ field. Ok (Write bank row (bits_of_bytes field), at + 8 + 8 * g.words) in
+    let a = bind_ok (bytes_at (8 * g.words) (at + 8) bytes) rest out e in
+    let one : Event × ℕ = (Write bank row (bits_of_bytes a.0), at + 8 + 8 * g.words) in
+    subst (λ (x : Event × ℕ). at + 8 ≤ x.1) (ok_is {K = TraceKind} one out a.2) (omega arith)
+
+event_long : (g : Geometry) (at : ℕ) (bytes : List ℕ) (out : Event × ℕ)
+    → event_at g at bytes ≡ Ok out → at + 8 ≤ out.1
+unfolding event_at
+event_long g at bytes out e =
+    let a = bind_ok (head_at g at bytes) (λ head. with_row g head at bytes) out e in
+    row_long g a.0 at bytes out a.2
+
+pub events_long : (n : ℕ) (g : Geometry) (at : ℕ) (bytes : List ℕ) (out : List Event × ℕ)
+    → events_at n g at bytes ≡ Ok out → at + 8 * n ≤ out.1
+unfolding events_at
+events_long zero g at bytes out e =
+    let none : List Event × ℕ = ([], at) in
+    subst (λ (x : List Event × ℕ). at + 0 ≤ x.1) (ok_is {K = TraceKind} none out e) (omega arith)
+events_long (suc n) g at bytes out e =
+    let rest : Event × ℕ → Result (List Event × ℕ) TraceFault = λ first.
+    events_at n g first.1 bytes >>= λ events. Ok (first.0 ∷ events.0, events.1) in
+    let a = bind_ok (event_at g at bytes) rest out e in
+    let b = bind_ok (events_at n g a.0.1 bytes)
+    (λ events. Ok (a.0.0 ∷ events.0, events.1)) out a.2 in
+    let all : List Event × ℕ = (a.0.0 ∷ b.0.0, b.0.1) in
+    let one = event_long g at bytes a.0 a.1 in
+    let more = events_long n g a.0.1 bytes b.0 b.1 in
+    subst (λ (x : List Event × ℕ). at + 8 * suc n ≤ x.1) (ok_is {K = TraceKind} all out b.2)
+    (omega (arith, one, more))
+
+-- ---- what is whole
+
+pub both : (a b : Bool) → (a && b) ≡ true → (a ≡ true) × (b ≡ true)
+both true b h = (refl, h)
+both false b h = absurd cc
+
+abbrev done : List Event × ℕ → Result (List Event × ℕ) TraceFault
+done x = Ok x
+
+ended : (size : ℕ) (r : Result (List Event × ℕ) TraceFault) → ends_at size r ≡ true
+    → r ≡ done (events_read r, size)
+ended size (Ok x) h = ap (λ (n : ℕ). done (x.0, n)) (eqb-true x.1 size h)
+ended size (Err f) h = absurd cc
+
+-- a tape that tells: its events, and that they are few
+pub record Tells (g : Geometry) (tape : Tape) : Type 0 where
+  pub shape : is_geometry g ≡ true
+  pub room : length tape.bytes ≤ TRACE_BYTES_MAX
+  pub read : events_at tape.count g HEAD_BYTES_MAX tape.bytes
+      ≡ Ok (events_on g tape, length tape.bytes)
+  pub spelled : kept_in tape ≡ events_bytes g (events_on g tape)
+
+at_most : (a b : ℕ) → leb a b ≡ true → a ≤ b
+at_most a b h = grind (arith, nat_tests)
+
+is-at_most : (a b : ℕ) → a ≤ b → leb a b ≡ true
+is-at_most a b h = grind (arith, nat_tests)
+
+whole_case : (g : Geometry) (tape : Tape) (told : Bool) → told ≡ true
+    → cond told (is_geometry g && leb (length tape.bytes) TRACE_BYTES_MAX
+    && ends_at (length tape.bytes) (events_at tape.count g HEAD_BYTES_MAX tape.bytes)
+    && bytes_eq (kept_in tape) (events_bytes g (events_on g tape))) true ≡ true
+    → Tells g tape
+whole_case g tape true t h =
+    let room = leb (length tape.bytes) TRACE_BYTES_MAX in
+    let ends = ends_at (length tape.bytes) (events_at tape.count g HEAD_BYTES_MAX tape.bytes) in
+    let same = bytes_eq (kept_in tape) (events_bytes g (events_on g tape)) in
+    let a = both (is_geometry g && room && ends) same h in
+    let b = both (is_geometry g && room) ends a.0 in
+    let c = both (is_geometry g) room b.0 in
+    record {
+      shape = c.0;
+      room = at_most (length tape.bytes) TRACE_BYTES_MAX c.1;
+      read = ended (length tape.bytes) (events_at tape.count g HEAD_BYTES_MAX tape.bytes) b.1;
+      spelled = (bytes_eq-Decides (kept_in tape) (events_bytes g (events_on g tape))).0 a.1;
+    }
+whole_case g tape false t h = absurd cc
+
+pub tells : (g : Geometry) (tape : Tape) → is_whole g tape ≡ true → tape.told ≡ true
+    → Tells g tape
+tells g tape h t = whole_case g tape tape.told t h
+
+-- its count
+pub few : (g : Geometry) (tape : Tape) → Tells g tape → tape.count < 2 ^ 31
+few g tape t =
+    let l = events_long tape.count g HEAD_BYTES_MAX tape.bytes _ t.read in
+    omega (arith, l, t.room)
+
+log_told : (g : Geometry) (tape : Tape) → tape.told ≡ true
+    → log_on g tape ≡ Some (events_on g tape)
+log_told g tape t = rw t refl
+
+grew_some : (a b : Option (List Event)) (x y es : List Event) → a ≡ Some x → b ≡ Some y
+    → y ≡ x ++ es → Grew a b es
+grew_some a b x y es e f h = rw (e, f) h
+
+-- behind an event: what was kept is whole again, and the log grew by it
+record Told (g : Geometry) (tape new : Tape) (event : Event) : Type 0 where
+  whole : is_whole g new ≡ true
+  grew : Grew (log_on g tape) (log_on g new) (event ∷ [])
+
+fits_told : (g : Geometry) (tape : Tape) (event : Event) → Tells g tape → tape.told ≡ true
+    → IsEvent g event
+    → leb (length tape.bytes + length (event_bytes g event)) TRACE_BYTES_MAX ≡ true
+    → Told g tape (record tape {
+      count = tape.count + 1;
+      bytes = tape.bytes ++ event_bytes g event;
+    }) event
+fits_told g tape event t told is fits =
+    let text = event_bytes g event in
+    let bytes = tape.bytes ++ text in
+    let old = events_on g tape in
+    let long = length-append tape.bytes text in
+    let one : tape.count + 1 ≡ suc tape.count = omega arith in
+    let held : Holds bytes (length tape.bytes) text (length bytes) = record {
+      parts = drop_at tape.bytes text (length tape.bytes) refl
+          ∙ sym (ap (λ (r : List ℕ). text ++ r) (drop_all (length bytes) bytes (omega arith))
+          ∙ append-nil text);
+      ends = long;
+      within = omega arith;
+    } in
+    let next : event_at g (length tape.bytes) bytes ≡ Ok (event, length bytes) =
+    event_again g (length tape.bytes) (length bytes) bytes event (few_rows g t.shape) is held in
+    let read : events_at (tape.count + 1) g HEAD_BYTES_MAX bytes
+    ≡ Ok (old ++ event ∷ [], length bytes) = ap (λ (n : ℕ). events_at n g HEAD_BYTES_MAX bytes) one
+    ∙ events_snoc tape.count g HEAD_BYTES_MAX tape.bytes text (old, length tape.bytes) event
+    (length bytes) t.read next in
+    let room : leb (length bytes) TRACE_BYTES_MAX ≡ true =
+    ap (λ (n : ℕ). leb n TRACE_BYTES_MAX) long ∙ fits in
+    let new : Tape = record tape { count = tape.count + 1; bytes = bytes } in
+    let few = events_long tape.count g HEAD_BYTES_MAX tape.bytes _ t.read in
+    let spelled : drop HEAD_BYTES_MAX bytes ≡ events_bytes g (old ++ event ∷ []) =
+    drop_longer HEAD_BYTES_MAX tape.bytes text (omega (arith, few))
+    ∙ ap (λ (xs : List ℕ). xs ++ text) t.spelled
+    ∙ sym (flat_map-append (event_bytes g) old (event ∷ [])
+    ∙ ap (λ (xs : List ℕ). events_bytes g old ++ xs) (append-nil text)) in
+    let same = (bytes_eq-Decides (drop HEAD_BYTES_MAX bytes)
+    (events_bytes g (old ++ event ∷ []))).1 spelled in
+    record {
+      whole = rw (told, t.shape, room, read, eq-eqb (length bytes) (length bytes) refl, same) refl;
+      grew = grew_some (log_on g tape) (log_on g new) old (old ++ event ∷ []) (event ∷ [])
+          (log_told g tape told)
+          (log_told g new told ∙ ap (λ r. Some (events_read r)) read) refl;
+    }
+
+told_case : (g : Geometry) (tape : Tape) (event : Event) (told fits : Bool) → tape.told ≡ told
+    → leb (length tape.bytes + length (event_bytes g event)) TRACE_BYTES_MAX ≡ fits
+    → is_whole g tape ≡ true → IsEvent g event
+    → Told g tape (cond (told && fits)
+    (record tape { count = tape.count + 1; bytes = tape.bytes ++ event_bytes g event })
+    (record tape { told = false })) event
+told_case g tape event true true t f h is = fits_told g tape event (tells g tape h t) t is f
+told_case g tape event true false t f h is = record { whole = refl; grew = tt }
+told_case g tape event false fits t f h is = record { whole = refl; grew = tt }
+
+kept_told : (g : Geometry) (tape : Tape) (event : Event) → is_whole g tape ≡ true
+    → IsEvent g event → Told g tape (kept_on tape (event_bytes g event)) event
+kept_told g tape event h is = told_case g tape event tape.told
+    (leb (length tape.bytes + length (event_bytes g event)) TRACE_BYTES_MAX) refl refl h is
+
+-- ---- what a recorder shows behind each call
+
+-- an event that was Ok
+pub record DidRecord (event : Event) (old new : ChipView) : Type 0 where
+  pub kept : Kept old new
+  pub did : Did (event ∷ []) old new
+
+pub did_recorded : (event : Event) (old new : ChipView) (tape after : Tape)
+    → HasBegun (recorded old tape) → IsEvent old.geometry event → Kept old new
+    → Did (event ∷ []) old new → after ≡ kept_on tape (event_bytes old.geometry event)
+    → DidRecord event (recorded old tape) (recorded new after)
+did_recorded event old new tape after h is kept did e =
+    let b = both old.begun (is_whole old.geometry tape) h in
+    let told = kept_told old.geometry tape event b.1 is in
+    let same = kept_on tape (event_bytes old.geometry event) in
+    subst (λ (t : Tape). DidRecord event (recorded old tape) (recorded new t)) (sym e) (record {
+      kept = record {
+        begun = rw (kept.begun, kept.geometry, b.0, b.1, told.whole) refl;
+        geometry = kept.geometry;
+        faults = kept.faults;
+      };
+      did = record {
+        banks = did.banks;
+        counters = did.counters;
+        log = subst (λ (g : Geometry). Grew (log_on old.geometry tape) (log_on g same)
+            (event ∷ [])) (sym kept.geometry) told.grew;
+      };
+    })
+
+told_same : (log : Option (List Event)) → Grew log log []
+told_same None = tt
+told_same (Some events) = sym (append-nil events)
+
+-- a call that keeps the tape
+pub same_log : (old new : ChipView) (tape : Tape) → Kept old new
+    → Grew (recorded old tape).log (recorded new tape).log []
+same_log old new tape kept =
+    subst (λ (g : Geometry). Grew (log_on old.geometry tape) (log_on g tape) [])
+    (sym kept.geometry) (told_same (log_on old.geometry tape))
+
+pub same_kept : (old new : ChipView) (tape : Tape) → Kept old new
+    → Kept (recorded old tape) (recorded new tape)
+same_kept old new tape kept = record {
+  begun = rw (kept.begun, kept.geometry) refl;
+  geometry = kept.geometry;
+  faults = kept.faults;
+}
+
+-- a mark
+pub marked_shows : (chip : ChipView) (tape new : Tape) (since : Counters) → HasBegun chip
+    → is_geometry chip.geometry ≡ true → new ≡ marked since tape
+    → length new.bytes ≡ HEAD_BYTES_MAX
+    → recorded chip new ≡ record chip { log = Some [] }
+marked_shows chip tape new since h is e l =
+    let told : new.told ≡ true = ap (λ (t : Tape). t.told) e in
+    let none : new.count ≡ 0 = ap (λ (t : Tape). t.count) e in
+    let read : events_at new.count chip.geometry HEAD_BYTES_MAX new.bytes
+    ≡ Ok ([], HEAD_BYTES_MAX) =
+    ap (λ (n : ℕ). events_at n chip.geometry HEAD_BYTES_MAX new.bytes) none
+    ∙ none_is chip.geometry HEAD_BYTES_MAX new.bytes in
+    let rest : drop HEAD_BYTES_MAX new.bytes ≡ [] =
+    drop_all HEAD_BYTES_MAX new.bytes (omega (arith, l)) in
+    rw (h, told, read, is, l, rest) refl
+
+-- what was kept is the spelling of the log
+pub spelled_log : (chip : ChipView) (tape : Tape) (kept : List ℕ) → HasBegun (recorded chip tape)
+    → kept ≡ kept_in tape
+    → IfSome (log_on chip.geometry tape) (λ events. kept ≡ events_bytes chip.geometry events)
+spelled_log chip tape kept h e = log_case tape.told refl where
+  log_case : (told : Bool) → tape.told ≡ told
+      → IfSome (cond told (Some (events_on chip.geometry tape)) None)
+      (λ events. kept ≡ events_bytes chip.geometry events)
+  log_case true t = e ∙ (tells chip.geometry tape
+      (both chip.begun (is_whole chip.geometry tape) h).1 t).spelled
+  log_case false t = tt
+
+-- what a recorder needs to keep an event
+pub few_kept : (chip : ChipView) (tape : Tape) (bank : ℕ) → HasBegun (recorded chip tape)
+    → bank < chip.geometry.banks → tape.told ≡ true → (bank < 256) × (tape.count < 2 ^ 31)
+few_kept chip tape bank h l t =
+    let g = chip.geometry in
+    let tells = tells g tape (both chip.begun (is_whole g tape) h).1 t in
+    let b = between_is 1 16 g.banks (bounds_of g tells.shape).banks in
+    (omega (arith, b.1, l), few g tape tells)
+
+-- an event that does not fit
+pub over_room : (tape : Tape) (text : List ℕ) → TRACE_BYTES_MAX < length tape.bytes + length text
+    → record tape { told = false } ≡ kept_on tape text
+over_room tape text l = over_case tape.told where
+  past : leb (length tape.bytes + length text) TRACE_BYTES_MAX ≡ false
+  past = grind (arith, nat_tests)
+
+  over_case : (told : Bool) → record tape { told = false }
+      ≡ cond (told && leb (length tape.bytes + length text) TRACE_BYTES_MAX)
+      (record tape { count = tape.count + 1; bytes = tape.bytes ++ text })
+      (record tape { told = false })
+  over_case true = rw past refl
+  over_case false = refl
+
+-- a row that the host wrote
+pub did_written : (bank row : ℕ) (words : List ℕ) (old new : ChipView) (tape after : Tape)
+    → HasBegun (recorded old tape) → bank < old.geometry.banks → row < old.geometry.rows
+    → length words ≡ old.geometry.words → Kept old new
+    → Did (Write bank row (bits_of_words words) ∷ []) old new
+    → after ≡ kept_on tape (event_head_bytes (Writes bank row)
+    ++ bytes_of_bits (8 * length words) (bits_of_words words))
+    → DidRecord (Write bank row (bits_of_words words)) (recorded old tape) (recorded new after)
+did_written bank row words old new tape after h l m n kept did e =
+    let long = length-words words in
+    did_recorded (Write bank row (bits_of_words words)) old new tape after h
+    (l, m, omega (arith, long, n)) kept did (e
+    ∙ ap (λ (k : ℕ). kept_on tape (event_head_bytes (Writes bank row)
+    ++ bytes_of_bits (8 * k) (bits_of_words words))) n)
+
+pub events_number : (n : ℕ) (g : Geometry) (at : ℕ) (bytes : List ℕ) (out : List Event × ℕ)
+    → events_at n g at bytes ≡ Ok out → length out.0 ≡ n
+events_number zero g at bytes out e =
+    let none : List Event × ℕ = ([], at) in
+    let is : none ≡ out = ok_is {K = TraceKind} none out (sym (none_is g at bytes) ∙ e) in
+    ap (λ (x : List Event × ℕ). length x.0) (sym is)
+events_number (suc n) g at bytes out e =
+    let a = bind_ok (event_at g at bytes) (rest_of n g bytes) out (sym (more_is n g at bytes) ∙ e)
+    in
+    let b = bind_ok (events_at n g a.0.1 bytes) (behind a.0.0) out a.2 in
+    let whole : List Event × ℕ = (a.0.0 ∷ b.0.0, b.0.1) in
+    let more = events_number n g a.0.1 bytes b.0 b.1 in
+    ap (λ (x : List Event × ℕ). length x.0) (sym (ok_is {K = TraceKind} whole out b.2))
+    ∙ ap suc more
+
+-- the file of the log
+pub file_of_log : (chip : ChipView) (tape : Tape) (file : List ℕ) (table : List Named)
+    → HasBegun (recorded chip tape) → tape.told ≡ true
+    → file ≡ (trace_head chip.geometry table ++ to_le_bytes w32 tape.count) ++ kept_in tape
+    → IfSome (log_on chip.geometry tape)
+    (λ events. file ≡ trace_bytes chip.geometry table events)
+unfolding trace_bytes
+file_of_log chip tape file table h t e =
+    let g = chip.geometry in
+    let whole = tells g tape (both chip.begun (is_whole g tape) h).1 t in
+    let events = events_on g tape in
+    let number : length events ≡ tape.count =
+    events_number tape.count g HEAD_BYTES_MAX tape.bytes (events, length tape.bytes) whole.read in
+    let head = trace_head g table in
+    let spelled : file ≡ head ++ (to_le_bytes w32 (length events) ++ events_bytes g events) =
+    e ∙ append_assoc head (to_le_bytes w32 tape.count) (kept_in tape)
+    ∙ ap (λ (n : ℕ). head ++ (to_le_bytes w32 n ++ kept_in tape)) (sym number)
+    ∙ ap (λ (xs : List ℕ). head ++ (to_le_bytes w32 (length events) ++ xs)) whole.spelled in
+    rw t spelled

@@ -1,0 +1,11 @@
+use Rattle.std.proofs.Common.{◌≡◌, ◌*◌, length, take}
+use Rattle.std.specs.List.{flat_map}
+use Rattle.object_alloc.specs.Spelling.{object_bytes}
+use Rattle.cmd_trace.specs.Places.{IsPut}
+use Rattle.cmd_trace.proofs.head.put_objects.Given as goal
+
+abbrev pub invariant-loop-k : goal.invariant-loop-k
+invariant-loop-k l = record {
+  put : IsPut l.at (flat_map object_bytes (take l.k l.table.pairs)) l.initial.out l.out;
+  len : length (flat_map object_bytes (take l.k l.table.pairs)) ≡ 24 * l.k;
+}

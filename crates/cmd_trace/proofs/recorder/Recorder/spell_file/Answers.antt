@@ -1,0 +1,16 @@
+use Rattle.std.proofs.Common.{◌≡◌, ◌∙◌, ◌++◌, ap}
+use Rattle.std.specs.Int.{to_le_bytes, w32}
+use Rattle.dram_model.specs.declared.geometry.Geometry.{Geometry}
+use Rattle.trace_model.specs.Spelling.{trace_head}
+use Rattle.cmd_trace.specs.Tape.{kept_in}
+use Rattle.cmd_trace.proofs.Tapes.{file_of_log}
+use Rattle.cmd_trace.proofs.recorder.Recorder.spell_file.Goals as goal
+
+pub returns-clause-file : goal.returns-clause-file
+returns-clause-file g c =
+    let tape = c.args.self.now.notes in
+    let table = c.args.table.now.pairs in
+    file_of_log (g.D.Dram.view c.args.self.now.dram.now) tape _ table c.requires.begun
+    c.requires.told (c.spell.ensures.file
+    ∙ ap (λ (x : Geometry). (trace_head x table ++ to_le_bytes w32 tape.count) ++ kept_in tape)
+    c.geometry-g.ensures)

@@ -1,0 +1,161 @@
+//! A chip whose row commands and writes are recorded.
+
+ghost use Rattle.std.specs.Prelude.{◌≡◌, ◌+◌, ◌*◌, ◌<◌, ◌≤◌, ◌^◌, [], length, true, false, Some};
+ghost use Rattle.std.specs.Prelude.{None, IfOk, IfSome, is_some};
+ghost use Rattle.dram_model.specs.Geometry.{is_geometry};
+ghost use Rattle.dram_model.specs.View.{HasBegun};
+ghost use Rattle.trace_model.specs.Spelling.{events_bytes, trace_bytes};
+ghost use Rattle.cmd_trace.specs.Tape.{file_on, log_on, recorded, size_since};
+
+use crate::notes::Notes;
+use dram_model::{Addr, BeginNo, ChipFault, Command, Counters, Dram, Geometry};
+use no_memory::NoMemory;
+use object_alloc::Table;
+use std::alloc::Global;
+
+/// A chip over another, which keeps what happens on it: from the mark on each row command and each
+/// row that the host wrote, in order, while all fit in 67,108,864 bytes. It tells them as its log.
+#[derive(Drop)]
+pub struct Recorder<'a, D: Dram> {
+    dram: &'a mut D,
+    notes: Notes,
+}
+
+impl<'a, D: Dram> Recorder<'a, D> {
+    /// A recorder that tells nothing yet. It takes the memory for all events and for the head of a
+    /// file.
+    pub fn new(dram: &'a mut D, alloc: Global) -> Result<Recorder<'a, D>, NoMemory>
+        ensures chip { IfOk result (λ r. r.dram.now ≡ dram.entry.now) }
+        ensures same_reference { IfOk result (λ r. r.dram.ghost_name ≡ dram.entry.ghost_name) }
+        ensures untold { IfOk result (λ r. r.notes.told ≡ false) }
+    {
+        let notes = Notes::new(alloc)?;
+        Ok(Recorder { dram, notes })
+    }
+
+    /// Tells an empty log from here on. The chip has begun.
+    pub fn mark(&mut self)
+        requires begun { HasBegun (D.view self.old.dram.now) }
+        requires shape { is_geometry (D.view self.old.dram.now).geometry ≡ true }
+        ensures same_reference { self.new.dram.ghost_name ≡ self.old.dram.ghost_name }
+        ensures chip { self.new.dram.now ≡ self.old.dram.now }
+        ensures shown { recorded (D.view self.new.dram.now) self.new.notes
+            ≡ record (D.view self.old.dram.now) { log = Some [] } }
+        ensures since { self.new.notes.since ≡ (D.view self.old.dram.now).counters }
+    {
+        let since = self.dram.tally();
+        self.notes.mark(since);
+    }
+
+    /// Whether the log is told: whether each event since the mark was kept.
+    pub fn is_told(&self) -> bool
+        ensures { result ≡ is_some (log_on (D.view self.now.dram.now).geometry self.now.notes) }
+    {
+        self.notes.is_told()
+    }
+
+    /// The events since the mark, as they are spelled in a trace file, where the log is told.
+    pub fn events(&self) -> &[u8]
+        requires { HasBegun (recorded (D.view self.now.dram.now) self.now.notes) }
+        ensures { IfSome (log_on (D.view self.now.dram.now).geometry self.now.notes) (λ events.
+            result.now ≡ events_bytes (D.view self.now.dram.now).geometry events) }
+    {
+        self.notes.kept()
+    }
+
+    /// Spells the trace file of the log so far, with these objects. It takes no memory.
+    pub fn spell_file(&mut self, table: &Table)
+        requires begun { HasBegun (recorded (D.view self.old.dram.now) self.old.notes) }
+        requires told { self.old.notes.told ≡ true }
+        ensures same_reference { self.new.dram.ghost_name ≡ self.old.dram.ghost_name }
+        ensures chip { self.new.dram.now ≡ self.old.dram.now }
+        ensures file { IfSome (log_on (D.view self.old.dram.now).geometry self.old.notes)
+            (λ events. file_on self.new.notes
+            ≡ trace_bytes (D.view self.old.dram.now).geometry table.now.pairs events) }
+    {
+        let g = self.dram.geometry();
+        self.notes.spell(g, table);
+    }
+
+    /// The trace file that was spelled last.
+    pub fn trace_file(&self) -> &[u8]
+        ensures { result.now ≡ file_on self.now.notes }
+    {
+        self.notes.file()
+    }
+
+    /// How many bytes all events since the mark take, by what the counters rose.
+    pub fn size(&self) -> u64
+        requires { HasBegun (recorded (D.view self.now.dram.now) self.now.notes) }
+        ensures { result ≡ size_since (D.view self.now.dram.now).geometry.words
+            self.now.notes.since (D.view self.now.dram.now).counters }
+    {
+        let words = self.dram.geometry().words;
+        size_of(words, self.notes.since(), self.dram.tally())
+    }
+}
+
+/// How many bytes events take by which the counters rose.
+fn size_of(words: u16, since: Counters, now: Counters) -> u64
+    ensures { result ≡ size_since words since now }
+{
+    let writes = now.writes.saturating_sub(since.writes);
+    let aap = now.aap.saturating_sub(since.aap);
+    let ap = now.ap.saturating_sub(since.ap);
+    let heads = u128::from(aap) + u128::from(ap) + u128::from(writes);
+    let rows = u128::from(words) * u128::from(writes);
+    let size = 8 * heads + 8 * rows;
+    if size > u128::from(u64::MAX) {
+        u64::MAX
+    } else {
+        size as u64
+    }
+}
+
+impl<'a, D: Dram> Dram for Recorder<'a, D> {
+    ghost use Rattle.cmd_trace.specs.Tape.{recorded};
+    ghost use Rattle.cmd_trace.specs.Widths.{has_begun_below};
+
+    ghost view = { λ s. recorded (D.view s.dram.now) s.notes };
+
+    ghost borrow = { λ s. s.dram.ghost_name };
+
+    ghost width = { λ s h. D.width s.dram.now (has_begun_below (D.view s.dram.now) s.notes h) };
+
+    fn begin(&mut self, g: Geometry) -> Result<(), BeginNo> {
+        self.notes.untell();
+        self.dram.begin(g)?;
+        self.mark();
+        Ok(())
+    }
+
+    fn aap(&mut self, bank: u16, x: Addr, y: Addr) -> Result<(), ChipFault> {
+        self.dram.aap(bank, x, y)?;
+        self.notes.keep_command(bank, Command::Aap(x, y));
+        Ok(())
+    }
+
+    fn ap(&mut self, bank: u16, x: Addr) -> Result<(), ChipFault> {
+        self.dram.ap(bank, x)?;
+        self.notes.keep_command(bank, Command::Ap(x));
+        Ok(())
+    }
+
+    fn write_row(&mut self, bank: u16, row: u16, words: &[u64]) -> Result<(), ChipFault> {
+        self.dram.write_row(bank, row, words)?;
+        self.notes.keep_write(bank, row, words);
+        Ok(())
+    }
+
+    fn read_row(&mut self, bank: u16, row: u16, out: &mut [u64]) -> Result<(), ChipFault> {
+        self.dram.read_row(bank, row, out)
+    }
+
+    fn geometry(&self) -> Geometry {
+        self.dram.geometry()
+    }
+
+    fn tally(&self) -> Counters {
+        self.dram.tally()
+    }
+}
