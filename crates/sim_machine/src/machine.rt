@@ -269,6 +269,13 @@ impl<'a> Machine<'a> {
         self.file.as_slice()
     }
 
+    /// The objects.
+    pub fn table(&self) -> &Table
+        ensures objects { result.now.pairs ≡ table_in self.now }
+    {
+        &self.table
+    }
+
     /// Puts the line of the totals: the chip's counters, and how many instructions were refused.
     pub fn put_total<D: Dram, S: Sink>(
         &self,

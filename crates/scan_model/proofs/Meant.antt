@@ -1,0 +1,137 @@
+-- The six operations of a scan, and a program that implements them.
+use Rattle.std.proofs.Common.{◌≡◌, ℕ, zero, suc, ◌+◌, ◌*◌, ◌/◌, ◌%◌, ◌^◌, ◌<◌, ◌==◌, Bool, true}
+use Rattle.std.proofs.Common.{false, not, ◌&&◌, List, [], ◌∷◌, Option, Some, None, refl, sym, ◌∙◌}
+use Rattle.std.proofs.Common.{ap, subst, arith}
+use Rattle.std.specs.Prelude.{codes, ◌||◌, nat_lt, nat_le}
+use Rattle.std.proofs.Math.Nat.{pow-succ'}
+use Rattle.std.proofs.lemmas.Bool.Decides.{nat_tests}
+use Rattle.bit_rows.specs.Bits as rows
+use Rattle.op_text.specs.declared.tree.Kind.{Kind}
+use Rattle.op_text.specs.declared.tree.Kind.TheVariants.{Word, Bit}
+use Rattle.op_text.specs.Values.{bit_number, value, bits}
+use Rattle.op_text.specs.declared.tree.WordOp.TheVariants as o
+use Rattle.op_text.specs.Meaning.{meaning}
+use Rattle.uprog_code.specs.Shape.{Shape, Microprogram}
+use Rattle.uprog_code.specs.Machine.{Trace, Ended, Stuck, HasEnded, trace}
+use Rattle.uprog_code.specs.Texts.{TextOp, ImplementsAll}
+use Rattle.machine_model.specs.Operations.{Program, operations_of, op_named, entry_named}
+use Rattle.machine_model.specs.Operations.{trace_of, meaning_in}
+use Rattle.machine_model.specs.Refusals.{walks_badly}
+use Rattle.machine_model.proofs.Texts.{Matched, both, matched}
+use Rattle.op_text.specs.Rules.{breach_of}
+use Rattle.op_text.specs.Spelling.{MeetRules}
+use Rattle.scan_model.specs.Operations.{of_two_sources, of_one_source, scan_operations, scan_text}
+use Rattle.scan_model.specs.Laws.{Offers, OffersScan, MeansScan}
+
+low_bit : (v : ℕ) → bit_number (v % 2 == 1) + 2 * (v / 2) ≡ v
+low_bit v = grind (arith, nat_tests)
+
+-- the number that its own bits spell
+value-bits : (n v : ℕ) → v < 2 ^ n → value (bits v n) ≡ v
+unfolding bits
+value-bits zero v l = omega arith
+value-bits (suc n) v l =
+    let half : v / 2 < 2 ^ n = omega (arith, pow-succ' 2 n) in
+    ap (λ (k : ℕ). bit_number (v % 2 == 1) + 2 * k) (value-bits n (v / 2) half) ∙ low_bit v
+
+bit_held : (b : Bool) → value (bits (bit_number b) 1) ≡ rows.bit_number b
+unfolding bits
+bit_held true = refl
+bit_held false = refl
+
+eq_means : (n a b : ℕ) → a < 2 ^ n → b < 2 ^ n
+    → meaning (of_two_sources (codes "s_eq") Word o.Eq) n (a ∷ b ∷ []) ≡ rows.bit_number (a == b)
+eq_means n a b l m = ap (λ x. value (bits (bit_number (x == value (bits b n))) 1))
+    (value-bits n a l) ∙ ap (λ y. value (bits (bit_number (a == y)) 1)) (value-bits n b m)
+    ∙ bit_held (a == b)
+
+gt_means : (n a b : ℕ) → a < 2 ^ n → b < 2 ^ n
+    → meaning (of_two_sources (codes "s_gt") Word o.Gt) n (a ∷ b ∷ [])
+    ≡ rows.bit_number (nat_lt b a)
+gt_means n a b l m = ap (λ x. value (bits (bit_number (nat_lt (value (bits b n)) x)) 1))
+    (value-bits n a l) ∙ ap (λ y. value (bits (bit_number (nat_lt y a)) 1)) (value-bits n b m)
+    ∙ bit_held (nat_lt b a)
+
+ge_means : (n a b : ℕ) → a < 2 ^ n → b < 2 ^ n
+    → meaning (of_two_sources (codes "s_ge") Word o.Ge) n (a ∷ b ∷ [])
+    ≡ rows.bit_number (nat_le b a)
+ge_means n a b l m = ap (λ x. value (bits (bit_number (nat_le (value (bits b n)) x)) 1))
+    (value-bits n a l) ∙ ap (λ y. value (bits (bit_number (nat_le y a)) 1)) (value-bits n b m)
+    ∙ bit_held (nat_le b a)
+
+not_means : (a : Bool) → meaning (of_one_source (codes "s_not") o.Not) 1 (rows.bit_number a ∷ [])
+    ≡ rows.bit_number (not a)
+unfolding bits
+not_means true = refl
+not_means false = refl
+
+and_means : (a b : Bool) → meaning (of_two_sources (codes "s_and") Bit o.And) 1
+    (rows.bit_number a ∷ rows.bit_number b ∷ []) ≡ rows.bit_number (a && b)
+unfolding bits
+and_means true true = refl
+and_means true false = refl
+and_means false true = refl
+and_means false false = refl
+
+or_means : (a b : Bool) → meaning (of_two_sources (codes "s_or") Bit o.Or) 1
+    (rows.bit_number a ∷ rows.bit_number b ∷ []) ≡ rows.bit_number (a || b)
+unfolding bits
+or_means true true = refl
+or_means true false = refl
+or_means false true = refl
+or_means false false = refl
+
+pub text_meets : MeetRules scan_operations
+unfolding breach_of
+text_meets = refl
+
+single : {x y : ℕ} → x ≡ y → x ∷ [] ≡ y ∷ []
+single e = ap (λ v. v ∷ []) e
+
+pub text_means : MeansScan (meaning_in scan_text)
+text_means = record {
+  equal = λ n a b l m. single (eq_means n a b l m);
+  greater =
+      λ n a b l m. single (gt_means n a b l m);
+  at_least = λ n a b l m. single (ge_means n a b l m);
+  negation = λ a. single (not_means a);
+  conjunction = λ a b. single (and_means a b);
+  disjunction = λ a b. single (or_means a b);
+}
+
+ended : (t : Trace) → HasEnded t → walks_badly t ≡ None
+ended (Ended issues) h = refl
+ended (Stuck at reason) h = absurd h
+
+-- an op of the text is there, with its shape, and its code ends
+offered : (p : Program) (name : List ℕ) (o : TextOp) (kinds : List Kind)
+    → op_named scan_text name ≡ Some o → o.shape.sources ≡ kinds → o.shape.result ≡ Bit
+    → o.shape.second ≡ None → (e : Option Microprogram) → entry_named p name ≡ e
+    → Matched e (Some o) → Offers (operations_of scan_text p) name kinds
+offered p name o kinds is sources result alone None found m = elim m [ ]
+offered p name o kinds is sources result alone (Some e) found (both _ _ d) = record {
+  operation = record { shape = o.shape; trace = trace_of (Some e) };
+  there = rw (is, found) refl;
+  sources = sources;
+  result = result;
+  one_result = alone;
+  walks = λ n l k. ended (trace e.shape e.code n)
+      (subst (λ (s : Shape). HasEnded (trace s e.code n)) (sym d.shape) (d.code.ends n l k));
+}
+
+pub text_offers : (p : Program) → ImplementsAll p scan_text
+    → OffersScan (operations_of scan_text p)
+text_offers p i = record {
+  equal = offered p (codes "s_eq") _ _ refl refl refl refl (entry_named p (codes "s_eq")) refl
+      (matched p scan_text (codes "s_eq") i);
+  greater = offered p (codes "s_gt") _ _ refl refl refl refl (entry_named p (codes "s_gt")) refl
+      (matched p scan_text (codes "s_gt") i);
+  at_least = offered p (codes "s_ge") _ _ refl refl refl refl (entry_named p (codes "s_ge")) refl
+      (matched p scan_text (codes "s_ge") i);
+  negation = offered p (codes "s_not") _ _ refl refl refl refl (entry_named p (codes "s_not"))
+      refl (matched p scan_text (codes "s_not") i);
+  conjunction = offered p (codes "s_and") _ _ refl refl refl refl (entry_named p (codes "s_and"))
+      refl (matched p scan_text (codes "s_and") i);
+  disjunction = offered p (codes "s_or") _ _ refl refl refl refl (entry_named p (codes "s_or"))
+      refl (matched p scan_text (codes "s_or") i);
+}

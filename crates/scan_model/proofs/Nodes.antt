@@ -1,0 +1,355 @@
+-- The instructions of one node.
+use Rattle.std.proofs.Common.{◌≡◌, ◌≢◌, ℕ, zero, suc, ◌+◌, ◌*◌, ◌^◌, ◌<◌, ◌≤◌, Bool, true, false}
+use Rattle.std.proofs.Common.{not, cond, List, [], ◌∷◌, ◌++◌, map, get_or, Some, None}
+use Rattle.std.proofs.Common.{refl, sym, ◌∙◌, ap, subst, arith}
+use Rattle.std.specs.Prelude.{replicate, codes}
+use Rattle.std.specs.List.{range_with_len}
+use Rattle.std.specs.Option.{unwrap_or}
+use Rattle.std.specs.Str.{bytes_eq}
+use Rattle.std.specs.Int.{div_ceil}
+use Rattle.std.proofs.lemmas.List.FromFn.{get_or-map-range_with_len}
+use Rattle.std.proofs.lemmas.List.{get_or-replicate}
+use Rattle.bit_rows.specs.Bits.{bit_number}
+use Rattle.bit_rows.specs.declared.TheConstants.{WIDTH_MAX}
+use Rattle.op_text.specs.declared.tree.Kind.{Kind}
+use Rattle.op_text.specs.declared.tree.Kind.TheVariants.{Word, Bit}
+use Rattle.dram_model.specs.declared.geometry.Geometry.{Geometry}
+use Rattle.dram_model.specs.Elements.{column_count}
+use Rattle.object_alloc.specs.declared.table.Object.{Object}
+use Rattle.bbop_isa.specs.Forms.{Bbop, Fill, Free}
+use Rattle.machine_model.specs.Columns.{object_size}
+use Rattle.machine_model.specs.Operations.{Operations}
+use Rattle.machine_model.specs.Refusals.{refusal, object_named}
+use Rattle.machine_model.specs.Steps.{Held, table_of, numbers_named, with_numbers, with_results}
+use Rattle.machine_model.specs.Steps.{computed, new_object, worded}
+use Rattle.scan_model.specs.declared.CmpOp.{CmpOp}
+use Rattle.scan_model.specs.declared.CmpOp.TheVariants as cmp
+use Rattle.scan_model.specs.Queries.{compared}
+use Rattle.scan_model.specs.Instructions.{op_for, sources_for, compare_with, join_one, join_two}
+use Rattle.scan_model.specs.Laws.{Offers, OffersScan, MeansScan, IsHeld, Leaves}
+use Rattle.scan_model.proofs.States.{lookup, at_append, at_last, absent_append, at_object}
+use Rattle.scan_model.proofs.States.{at_numbers, renumbered, with_last, dropped, dropped-append}
+use Rattle.scan_model.proofs.States.{dropped-between, dropped-other}
+use Rattle.scan_model.proofs.Goes.{Meaning, Goes, Allowed, one, next}
+use Rattle.scan_model.proofs.Refused.{IsUsed, init_allowed, fill_allowed, free_allowed}
+use Rattle.scan_model.proofs.Refused.{two_allowed, one_allowed}
+
+pub range_same : {X : Type 0} (f h : ℕ → X) (a n : ℕ) → ((e : ℕ) → a ≤ e → e < a + n → f e ≡ h e)
+    → map f (range_with_len a n) ≡ map h (range_with_len a n)
+range_same f h a zero same = refl
+range_same f h a (suc n) same = rw (
+  same a (omega arith) (omega arith),
+  range_same f h (a + 1) n (λ e l m. same e (omega (arith, l)) (omega (arith, m))),
+) refl
+
+pub range_alike : {X : Type 0} (f h : ℕ → X) (n : ℕ) → ((e : ℕ) → e < n → f e ≡ h e)
+    → map f (range_with_len 0 n) ≡ map h (range_with_len 0 n)
+range_alike f h n same = range_same f h 0 n (λ e l m. same e (omega (arith, m)))
+
+pub same_size : (g : Geometry) (o p : Object) → o.count ≡ p.count
+    → object_size g o ≡ object_size g p
+same_size g o p e = ap (λ count. column_count g * div_ceil count (column_count g)) e
+
+-- one bit a column
+abbrev pub marks : (ℕ → Bool) → ℕ → List ℕ
+marks f size = map (λ e. bit_number (f e)) (range_with_len 0 size)
+
+-- the one number that an operation of one result makes
+abbrev alone : Meaning → List ℕ → ℕ → List ℕ → ℕ
+alone meaning op n values = get_or (meaning op n values) 0 0
+
+first_of : {xs : List ℕ} {v : ℕ} → xs ≡ v ∷ [] → get_or xs 0 0 ≡ v
+first_of e = ap (λ xs. get_or xs 0 0) e
+
+one_result : (b : Bool) (h : Held) (numbers : List ℕ)
+    → record {
+      name = h.name;
+      object = h.object;
+      numbers =
+          unwrap_or (cond b (Some numbers) None) h.numbers;
+    } ≡ cond b (renumbered h numbers) h
+one_result true h numbers = refl
+one_result false h numbers = refl
+
+-- where there is one result, it is the destination's
+results_once : (s : List Held) (r numbers : List ℕ)
+    → with_results s (λ name. cond (bytes_eq name r) (Some numbers) None)
+    ≡ with_numbers s r numbers
+results_once [] r numbers = refl
+results_once (h ∷ s) r numbers = rw (
+  one_result (bytes_eq h.name r) h numbers,
+  results_once s r numbers,
+) refl
+
+-- what a bbop of one result makes
+bbop_worded : (g : Geometry) (operations : Operations) (meaning : Meaning) (s : List Held)
+    (op : List ℕ) (kinds : List Kind) (r : List ℕ) (srcs : List (List ℕ)) (count n : ℕ)
+    → Offers operations op kinds
+    → worded g operations meaning s (Bbop op r srcs count n)
+    ≡ with_numbers s r (computed (alone meaning op n) (map (numbers_named s) srcs)
+    (object_size g (object_named (table_of s) r)))
+bbop_worded g operations meaning s op kinds r srcs count n o =
+    rw (o.there, o.one_result) (results_once s r
+    (computed (alone meaning op n) (map (numbers_named s) srcs)
+    (object_size g (object_named (table_of s) r))))
+
+offers_for : (operations : Operations) → OffersScan operations → (op : CmpOp)
+    → Offers operations (op_for op) (Word ∷ Word ∷ [])
+offers_for operations o cmp.Eq = o.equal
+offers_for operations o cmp.Gt = o.greater
+offers_for operations o cmp.Ge = o.at_least
+offers_for operations o cmp.Lt = o.greater
+offers_for operations o cmp.Le = o.at_least
+
+two_values : (f : List ℕ → ℕ) (xs ys : List ℕ) (size : ℕ) (h : ℕ → Bool)
+    → ((e : ℕ) → e < size → f (get_or xs e 0 ∷ get_or ys e 0 ∷ []) ≡ bit_number (h e))
+    → computed f (xs ∷ ys ∷ []) size ≡ marks h size
+two_values f xs ys size h same = range_alike _ _ size same
+
+filled_at : (size v e : ℕ) → e < size → get_or (replicate size v) e 0 ≡ v
+filled_at size v e l = get_or-replicate size e v 0 l
+
+-- the comparison's numbers, column by column
+compare_values : (meaning : Meaning) (op : CmpOp) (n v size : ℕ) (xs cs : List ℕ)
+    → MeansScan meaning → ((e : ℕ) → get_or xs e 0 < 2 ^ n) → v < 2 ^ n → cs ≡ replicate size v
+    → (numbers : List ℕ → List ℕ) (name c : List ℕ) → numbers name ≡ xs → numbers c ≡ cs
+    → computed (alone meaning (op_for op) n) (map numbers (sources_for op name c)) size
+    ≡ marks (λ e. compared op (get_or xs e 0) v) size
+compare_values meaning cmp.Eq n v size xs cs means small l is numbers name c p q =
+    rw (p, q, is) (two_values (alone meaning (codes "s_eq") n) xs (replicate size v) size
+    (λ e. compared cmp.Eq (get_or xs e 0) v)
+    (λ e m. rw (filled_at size v e m) (first_of
+    (means.equal n (get_or xs e 0) v (small e) l))))
+compare_values meaning cmp.Gt n v size xs cs means small l is numbers name c p q =
+    rw (p, q, is) (two_values (alone meaning (codes "s_gt") n) xs (replicate size v) size
+    (λ e. compared cmp.Gt (get_or xs e 0) v)
+    (λ e m. rw (filled_at size v e m) (first_of
+    (means.greater n (get_or xs e 0) v (small e) l))))
+compare_values meaning cmp.Ge n v size xs cs means small l is numbers name c p q =
+    rw (p, q, is) (two_values (alone meaning (codes "s_ge") n) xs (replicate size v) size
+    (λ e. compared cmp.Ge (get_or xs e 0) v)
+    (λ e m. rw (filled_at size v e m) (first_of
+    (means.at_least n (get_or xs e 0) v (small e) l))))
+compare_values meaning cmp.Lt n v size xs cs means small l is numbers name c p q =
+    rw (p, q, is) (two_values (alone meaning (codes "s_gt") n) (replicate size v) xs size
+    (λ e. compared cmp.Lt (get_or xs e 0) v)
+    (λ e m. rw (filled_at size v e m) (first_of
+    (means.greater n v (get_or xs e 0) l (small e)))))
+compare_values meaning cmp.Le n v size xs cs means small l is numbers name c p q =
+    rw (p, q, is) (two_values (alone meaning (codes "s_ge") n) (replicate size v) xs size
+    (λ e. compared cmp.Le (get_or xs e 0) v)
+    (λ e m. rw (filled_at size v e m) (first_of
+    (means.at_least n v (get_or xs e 0) l (small e)))))
+
+-- a comparison's bbop is allowed
+compare_allowed : (g : Geometry) (operations : Operations) (s : List Held) (op : CmpOp)
+    (r name c : List ℕ) (count n : ℕ) → OffersScan operations → 0 < n → n ≤ WIDTH_MAX
+    → IsUsed s Bit count n r → IsUsed s Word count n name → IsUsed s Word count n c → name ≢ r
+    → c ≢ r → Allowed (refusal g operations (table_of s)
+    (Bbop (op_for op) r (sources_for op name c) count n))
+compare_allowed g operations s cmp.Eq r name c count n o some few u v w p q =
+    two_allowed g operations s _ r name c Word Word count n o.equal some few u v w p q
+compare_allowed g operations s cmp.Gt r name c count n o some few u v w p q =
+    two_allowed g operations s _ r name c Word Word count n o.greater some few u v w p q
+compare_allowed g operations s cmp.Ge r name c count n o some few u v w p q =
+    two_allowed g operations s _ r name c Word Word count n o.at_least some few u v w p q
+compare_allowed g operations s cmp.Lt r name c count n o some few u v w p q =
+    two_allowed g operations s _ r c name Word Word count n o.greater some few u w v q p
+compare_allowed g operations s cmp.Le r name c count n o some few u v w p q =
+    two_allowed g operations s _ r c name Word Word count n o.at_least some few u w v q p
+
+-- an object that there is has another name than one that there is not
+pub names_part : (s : List Held) (name other : List ℕ) (h : Held) → lookup s name ≡ Some h
+    → lookup s other ≡ None → name ≢ other
+names_part s name other h p q e = let f = ap (lookup s) e in cc
+
+-- the object that a comparison asks for
+pub record IsAsked (g : Geometry) (s : List Held) (count : ℕ) (name : List ℕ) (v : ℕ)
+    (h : Held) : Type 0 where
+  pub at : lookup s name ≡ Some h
+  pub held : IsHeld g h
+  pub counted : h.object.count ≡ count
+  pub small : v < 2 ^ h.object.width
+
+pub compare_goes : (g : Geometry) (operations : Operations) (meaning : Meaning) (s : List Held)
+    (c r name : List ℕ) (op : CmpOp) (v count : ℕ) (h : Held)
+    → OffersScan operations → MeansScan meaning → IsAsked g s count name v h → lookup s c ≡ None
+    → lookup s r ≡ None → c ≢ r
+    → Goes g operations meaning s (compare_with c r name op v count h.object.width)
+    (Leaves g s r count (λ e. compared op (get_or h.numbers e 0) v))
+compare_goes g operations meaning s c r name op v count h offers means asked no_c no_r differ =
+    let n = h.object.width in
+    let oc : Object = new_object g (table_of s) count n in
+    let c0 : Held = record { name = c; object = oc; numbers = replicate (object_size g oc) 0 } in
+    let s1 : List Held = s ++ c0 ∷ [] in
+    let c1 : Held = renumbered c0 (replicate (object_size g oc) v) in
+    let s2 : List Held = s ++ c1 ∷ [] in
+    let or : Object = new_object g (table_of s2) count 1 in
+    let r0 : Held = record { name = r; object = or; numbers = replicate (object_size g or) 0 } in
+    let s3 : List Held = s2 ++ r0 ∷ [] in
+    let r1 : Held = renumbered r0 (marks (λ e. compared op (get_or h.numbers e 0) v)
+    (object_size g or)) in
+    let s4 : List Held = s2 ++ r1 ∷ [] in
+    let fits : count ≤ column_count g * g.banks =
+    subst (λ k. k ≤ column_count g * g.banks) asked.counted asked.held.fits in
+    let c_in1 : lookup s1 c ≡ Some c0 = at_last s c0 no_c in
+    let filled : worded g operations meaning s1 (Fill c v) ≡ s2 =
+    ap (λ (o : Object). with_numbers s1 c (replicate (object_size g o) v))
+    (at_object s1 c c0 c_in1) ∙ with_last s c0 (replicate (object_size g oc) v) no_c in
+    let no_r2 : lookup s2 r ≡ None = absent_append s c1 r no_r differ in
+    let c_in3 : lookup s3 c ≡ Some c1 = at_append s2 (r0 ∷ []) c c1 (at_last s c1 no_c) in
+    let name_in3 : lookup s3 name ≡ Some h = at_append s2 (r0 ∷ []) name h
+    (at_append s (c1 ∷ []) name h asked.at) in
+    let r_in3 : lookup s3 r ≡ Some r0 = at_last s2 r0 no_r2 in
+    let sizes : object_size g oc ≡ object_size g or = same_size g oc or refl in
+    let values = compare_values meaning op n v (object_size g or) h.numbers
+    (replicate (object_size g oc) v) means asked.held.numbers_fit asked.small
+    (ap (λ k. replicate k v) sizes) (numbers_named s3) name c (at_numbers s3 name h name_in3)
+    (at_numbers s3 c c1 c_in3) in
+    let done : worded g operations meaning s3 (Bbop (op_for op) r (sources_for op name c) count n)
+    ≡ s4 =
+    bbop_worded g operations meaning s3 (op_for op) (Word ∷ Word ∷ []) r (sources_for op name c)
+    count n (offers_for operations offers op)
+    ∙ ap (λ (o : Object). with_numbers s3 r (computed (alone meaning (op_for op) n)
+    (map (numbers_named s3) (sources_for op name c)) (object_size g o)))
+    (at_object s3 r r0 r_in3)
+    ∙ ap (with_numbers s3 r) values ∙ with_last s2 r0 _ no_r2 in
+    let name_r : name ≢ r = names_part s name r h asked.at no_r in
+    let c_in4 : lookup s4 c ≡ Some c1 = at_append s2 (r1 ∷ []) c c1 (at_last s c1 no_c) in
+    next g operations meaning s s1 _ _ _ (init_allowed g operations s c count n no_c fits) refl
+    (next g operations meaning s1 s2 _ _ _ (fill_allowed g operations s1 c v c0 c_in1 asked.small)
+    filled
+    (next g operations meaning s2 s3 _ _ _ (init_allowed g operations s2 r count 1 no_r2 fits)
+    refl
+    (next g operations meaning s3 s4 _ _ _
+    (compare_allowed g operations s3 op r name c count n offers asked.held.wide asked.held.narrow
+    (record { held = r0; at = r_in3; wide = refl; counted = refl })
+    (record { held = h; at = name_in3; wide = refl; counted = asked.counted })
+    (record { held = c1; at = c_in3; wide = refl; counted = refl }) name_r differ) done
+    (one g operations meaning s4 (s ++ r1 ∷ []) (Free c) _
+    (free_allowed g operations s4 c c1 c_in4)
+    (dropped-between s c1 r1 no_c (λ e. differ (sym e)))
+    (record { object = or; counted = refl; narrow = refl; is = refl })))))
+
+-- an object that is 1 exactly where a test holds
+abbrev pub marked : Geometry → List ℕ → Object → (ℕ → Bool) → Held
+marked g name o f = record { name = name; object = o; numbers = marks f (object_size g o) }
+
+mark_at : (f : ℕ → Bool) (size other e : ℕ) → size ≡ other → e < size
+    → get_or (marks f other) e 0 ≡ bit_number (f e)
+mark_at f size other e is l = get_or-map-range_with_len (λ e. bit_number (f e)) 0 other e e 0
+    (omega (arith, is, l)) (omega arith)
+
+pub not_goes : (g : Geometry) (operations : Operations) (meaning : Meaning) (s : List Held)
+    (r a : List ℕ) (count : ℕ) (oa : Object) (fa : ℕ → Bool)
+    → OffersScan operations → MeansScan meaning → count ≤ column_count g * g.banks
+    → oa.count ≡ count → oa.width ≡ 1 → lookup s a ≡ None → lookup s r ≡ None → a ≢ r
+    → Goes g operations meaning (s ++ marked g a oa fa ∷ []) (join_one (codes "s_not") r a count)
+    (Leaves g s r count (λ e. not (fa e)))
+not_goes g operations meaning s r a count oa fa offers means fits counted narrow no_a no_r differ
+    =
+    let a1 : Held = marked g a oa fa in
+    let s1 : List Held = s ++ a1 ∷ [] in
+    let or : Object = new_object g (table_of s1) count 1 in
+    let r0 : Held = record { name = r; object = or; numbers = replicate (object_size g or) 0 } in
+    let s2 : List Held = s1 ++ r0 ∷ [] in
+    let r1 : Held = marked g r or (λ e. not (fa e)) in
+    let s3 : List Held = s1 ++ r1 ∷ [] in
+    let no_r1 : lookup s1 r ≡ None = absent_append s a1 r no_r differ in
+    let a_in1 : lookup s1 a ≡ Some a1 = at_last s a1 no_a in
+    let a_in2 : lookup s2 a ≡ Some a1 = at_append s1 (r0 ∷ []) a a1 a_in1 in
+    let a_in3 : lookup s3 a ≡ Some a1 = at_append s1 (r1 ∷ []) a a1 a_in1 in
+    let r_in2 : lookup s2 r ≡ Some r0 = at_last s1 r0 no_r1 in
+    let sizes : object_size g or ≡ object_size g oa = same_size g or oa (sym counted) in
+    let values : computed (alone meaning (codes "s_not") 1) (map (numbers_named s2) (a ∷ []))
+    (object_size g or) ≡ marks (λ e. not (fa e)) (object_size g or) =
+    rw (at_numbers s2 a a1 a_in2) (range_alike
+    (λ e. alone meaning (codes "s_not") 1 (get_or (marks fa (object_size g oa)) e 0 ∷ []))
+    (λ e. bit_number (not (fa e))) (object_size g or)
+    (λ e l. ap (λ x. alone meaning (codes "s_not") 1 (x ∷ []))
+    (mark_at fa (object_size g or) (object_size g oa) e sizes l)
+    ∙ first_of (means.negation (fa e)))) in
+    let done : worded g operations meaning s2 (Bbop (codes "s_not") r (a ∷ []) count 1) ≡ s3 =
+    bbop_worded g operations meaning s2 (codes "s_not") (Bit ∷ []) r (a ∷ []) count 1
+    offers.negation
+    ∙ ap (λ (o : Object). with_numbers s2 r (computed (alone meaning (codes "s_not") 1)
+    (map (numbers_named s2) (a ∷ [])) (object_size g o))) (at_object s2 r r0 r_in2)
+    ∙ ap (with_numbers s2 r) values ∙ with_last s1 r0 _ no_r1 in
+    next g operations meaning s1 s2 _ _ _ (init_allowed g operations s1 r count 1 no_r1 fits) refl
+    (next g operations meaning s2 s3 _ _ _
+    (one_allowed g operations s2 (codes "s_not") r a Bit count 1 offers.negation (omega arith)
+    (omega arith)
+    (record { held = r0; at = r_in2; wide = refl; counted = refl })
+    (record { held = a1; at = a_in2; wide = narrow; counted = counted }) differ) done
+    (one g operations meaning s3 (s ++ r1 ∷ []) (Free a) _
+    (free_allowed g operations s3 a a1 a_in3)
+    (dropped-between s a1 r1 no_a (λ e. differ (sym e)))
+    (record { object = or; counted = refl; narrow = refl; is = refl })))
+
+-- a join of two, whatever its operation
+pub two_goes : (g : Geometry) (operations : Operations) (meaning : Meaning) (op : List ℕ)
+    (join : Bool → Bool → Bool) (s : List Held) (r a b : List ℕ) (count : ℕ) (oa ob : Object)
+    (fa fb : ℕ → Bool)
+    → Offers operations op (Bit ∷ Bit ∷ []) → ((x y : Bool)
+    → meaning op 1 (bit_number x ∷ bit_number y ∷ []) ≡ bit_number (join x y) ∷ [])
+    → count ≤ column_count g * g.banks → oa.count ≡ count → oa.width ≡ 1 → ob.count ≡ count
+    → ob.width ≡ 1
+    → lookup s a ≡ None → lookup s b ≡ None → lookup s r ≡ None → a ≢ r → b ≢ r → a ≢ b
+    → Goes g operations meaning ((s ++ marked g a oa fa ∷ []) ++ marked g b ob fb ∷ [])
+    (join_two op r a b count) (Leaves g s r count (λ e. join (fa e) (fb e)))
+two_goes g operations meaning op join s r a b count oa ob fa fb offers means fits counted_a
+    narrow_a counted_b narrow_b no_a no_b no_r a_r b_r a_b =
+    let a1 : Held = marked g a oa fa in
+    let b1 : Held = marked g b ob fb in
+    let sa : List Held = s ++ a1 ∷ [] in
+    let s1 : List Held = sa ++ b1 ∷ [] in
+    let or : Object = new_object g (table_of s1) count 1 in
+    let r0 : Held = record { name = r; object = or; numbers = replicate (object_size g or) 0 } in
+    let s2 : List Held = s1 ++ r0 ∷ [] in
+    let holds : ℕ → Bool = λ e. join (fa e) (fb e) in
+    let r1 : Held = marked g r or holds in
+    let s3 : List Held = s1 ++ r1 ∷ [] in
+    let s4 : List Held = (s ++ b1 ∷ []) ++ r1 ∷ [] in
+    let no_rb : lookup sa r ≡ None = absent_append s a1 r no_r a_r in
+    let no_ba : lookup sa b ≡ None = absent_append s a1 b no_b a_b in
+    let no_r1 : lookup s1 r ≡ None = absent_append sa b1 r no_rb b_r in
+    let a_in1 : lookup s1 a ≡ Some a1 = at_append sa (b1 ∷ []) a a1 (at_last s a1 no_a) in
+    let b_in1 : lookup s1 b ≡ Some b1 = at_last sa b1 no_ba in
+    let a_in2 : lookup s2 a ≡ Some a1 = at_append s1 (r0 ∷ []) a a1 a_in1 in
+    let b_in2 : lookup s2 b ≡ Some b1 = at_append s1 (r0 ∷ []) b b1 b_in1 in
+    let a_in3 : lookup s3 a ≡ Some a1 = at_append s1 (r1 ∷ []) a a1 a_in1 in
+    let b_in4 : lookup s4 b ≡ Some b1 = at_append (s ++ b1 ∷ []) (r1 ∷ []) b b1
+    (at_last s b1 no_b) in
+    let r_in2 : lookup s2 r ≡ Some r0 = at_last s1 r0 no_r1 in
+    let sizes_a : object_size g or ≡ object_size g oa = same_size g or oa (sym counted_a) in
+    let sizes_b : object_size g or ≡ object_size g ob = same_size g or ob (sym counted_b) in
+    let values : computed (alone meaning op 1) (map (numbers_named s2) (a ∷ b ∷ []))
+    (object_size g or) ≡ marks holds (object_size g or) =
+    rw (at_numbers s2 a a1 a_in2, at_numbers s2 b b1 b_in2)
+    (two_values (alone meaning op 1) (marks fa (object_size g oa))
+    (marks fb (object_size g ob)) (object_size g or) holds
+    (λ e l. ap (λ x. alone meaning op 1 (x ∷ get_or (marks fb (object_size g ob)) e 0 ∷ []))
+    (mark_at fa (object_size g or) (object_size g oa) e sizes_a l)
+    ∙ ap (λ y. alone meaning op 1 (bit_number (fa e) ∷ y ∷ []))
+    (mark_at fb (object_size g or) (object_size g ob) e sizes_b l)
+    ∙ first_of (means (fa e) (fb e)))) in
+    let done : worded g operations meaning s2 (Bbop op r (a ∷ b ∷ []) count 1) ≡ s3 =
+    bbop_worded g operations meaning s2 op (Bit ∷ Bit ∷ []) r (a ∷ b ∷ []) count 1 offers
+    ∙ ap (λ (o : Object). with_numbers s2 r (computed (alone meaning op 1)
+    (map (numbers_named s2) (a ∷ b ∷ [])) (object_size g o))) (at_object s2 r r0 r_in2)
+    ∙ ap (with_numbers s2 r) values ∙ with_last s1 r0 _ no_r1 in
+    let freed : worded g operations meaning s3 (Free a) ≡ s4 =
+    dropped-append s1 (r1 ∷ []) a ∙ ap (λ front. front ++ dropped (r1 ∷ []) a)
+    (dropped-between s a1 b1 no_a (λ e. a_b (sym e)))
+    ∙ ap (λ back. (s ++ b1 ∷ []) ++ back) (dropped-other r1 a (λ e. a_r (sym e))) in
+    next g operations meaning s1 s2 _ _ _ (init_allowed g operations s1 r count 1 no_r1 fits) refl
+    (next g operations meaning s2 s3 _ _ _
+    (two_allowed g operations s2 op r a b Bit Bit count 1 offers (omega arith) (omega arith)
+    (record { held = r0; at = r_in2; wide = refl; counted = refl })
+    (record { held = a1; at = a_in2; wide = narrow_a; counted = counted_a })
+    (record { held = b1; at = b_in2; wide = narrow_b; counted = counted_b }) a_r b_r) done
+    (next g operations meaning s3 s4 _ _ _ (free_allowed g operations s3 a a1 a_in3) freed
+    (one g operations meaning s4 (s ++ r1 ∷ []) (Free b) _
+    (free_allowed g operations s4 b b1 b_in4)
+    (dropped-between s b1 r1 no_b (λ e. b_r (sym e)))
+    (record { object = or; counted = refl; narrow = refl; is = refl }))))

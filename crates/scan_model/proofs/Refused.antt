@@ -1,0 +1,162 @@
+-- An instruction of a scan is refused only for want of room.
+use Rattle.std.proofs.Common.{◌≡◌, ◌≢◌, ℕ, ◌*◌, ◌^◌, ◌<◌, ◌≤◌, Bool, true, false, not, eqb, ltb}
+use Rattle.std.proofs.Common.{leb, List, [], ◌∷◌, length, Option, Some, None, refl, ◌∙◌, ap, inl}
+use Rattle.std.proofs.Common.{inr, arith}
+use Rattle.std.specs.Prelude.{is_none}
+use Rattle.std.proofs.lemmas.Bool.Decides.{nat_tests}
+use Rattle.bit_rows.specs.declared.TheConstants.{WIDTH_MAX}
+use Rattle.op_text.specs.declared.tree.Kind.{Kind}
+use Rattle.op_text.specs.declared.tree.Kind.TheVariants.{Bit}
+use Rattle.dram_model.specs.declared.geometry.Geometry.{Geometry}
+use Rattle.dram_model.specs.Elements.{column_count}
+use Rattle.uprog_code.specs.Shape.{width, need}
+use Rattle.object_alloc.specs.Free.{free}
+use Rattle.object_alloc.specs.Listed.{objects_of, has_name, limit_of}
+use Rattle.bbop_isa.specs.Forms.{Init, Bbop, Fill, Free}
+use Rattle.machine_model.specs.declared.Why.{Why}
+use Rattle.machine_model.specs.declared.Why.TheVariants as why
+use Rattle.machine_model.specs.Operations.{Operations}
+use Rattle.machine_model.specs.Refusals.{first, when, object_named, is_absent, is_misfit}
+use Rattle.machine_model.specs.Refusals.{walks_badly, refusal}
+use Rattle.machine_model.specs.Steps.{Held, table_of}
+use Rattle.machine_model.proofs.Places.{bytes_differ}
+use Rattle.scan_model.specs.Laws.{Offers}
+use Rattle.scan_model.proofs.Goes.{Allowed, done, full}
+use Rattle.scan_model.proofs.States.{lookup, at_has, at_object, absent_has}
+
+when_full : (b c : Bool) → Allowed (first (when b why.TableFull ∷ when c why.NoRows ∷ []))
+when_full true c = full why.TableFull (inl refl)
+when_full false true = full why.NoRows (inr refl)
+when_full false false = done
+
+new_case : (a b c d : Bool) → a ≡ false → c ≡ false
+    → Allowed (first (when a why.Exists ∷ when b why.TableFull ∷ when c why.TooLarge
+    ∷ when d why.NoRows ∷ []))
+new_case true b c d e f = cc
+new_case false b true d e f = cc
+new_case false true false d e f = full why.TableFull (inl refl)
+new_case false false false d e f = when_full false d
+
+few : (a b : ℕ) → b ≤ a → ltb a b ≡ false
+few a b h = grind (arith, nat_tests)
+
+-- a new object of a name that no object has
+pub init_allowed : (g : Geometry) (operations : Operations) (s : List Held) (name : List ℕ)
+    (count n : ℕ) → lookup s name ≡ None → count ≤ column_count g * g.banks
+    → Allowed (refusal g operations (table_of s) (Init name count n))
+init_allowed g operations s name count n e l =
+    new_case (has_name (table_of s) name) (leb 256 (length (table_of s)))
+    (ltb (column_count g * g.banks) count) (is_none
+    (free (limit_of g) (objects_of (table_of s)) n)) (absent_has s name e)
+    (few (column_count g * g.banks) count l)
+
+fill_case : (a b : Bool) → a ≡ false → b ≡ false
+    → Allowed (first (when a (why.NoObject 0) ∷ when b (why.Range 1) ∷ []))
+fill_case true b e f = cc
+fill_case false true e f = cc
+fill_case false false e f = done
+
+present : (s : List Held) (name : List ℕ) (h : Held) → lookup s name ≡ Some h
+    → is_absent (table_of s) name ≡ false
+present s name h e = ap not (at_has s name h e)
+
+below : (a b : ℕ) → b < a → leb a b ≡ false
+below a b h = grind (arith, nat_tests)
+
+pub fill_allowed : (g : Geometry) (operations : Operations) (s : List Held) (name : List ℕ)
+    (v : ℕ) (h : Held) → lookup s name ≡ Some h → v < 2 ^ h.object.width
+    → Allowed (refusal g operations (table_of s) (Fill name v))
+fill_allowed g operations s name v h e l =
+    fill_case (is_absent (table_of s) name) (leb (2 ^ (object_named (table_of s) name).width) v)
+    (present s name h e)
+    (ap (λ o. leb (2 ^ o.width) v) (at_object s name h e) ∙ below (2 ^ h.object.width) v l)
+
+free_case : (a : Bool) → a ≡ false → Allowed (when a (why.NoObject 0))
+free_case true e = cc
+free_case false e = done
+
+pub free_allowed : (g : Geometry) (operations : Operations) (s : List Held) (name : List ℕ)
+    (h : Held) → lookup s name ≡ Some h → Allowed (refusal g operations (table_of s) (Free name))
+free_allowed g operations s name h e = free_case (is_absent (table_of s) name)
+    (present s name h e)
+
+granted : (r : Option Why) (b : Bool) → r ≡ None → Allowed (first (r ∷ when b why.NoRows ∷ []))
+granted None true e = full why.NoRows (inr refl)
+granted None false e = done
+granted (Some w) b e = cc
+
+-- an object that is there, as wide as its kind, and of the count
+pub record IsUsed (s : List Held) (kind : Kind) (count n : ℕ) (name : List ℕ) : Type 0 where
+  pub held : Held
+  pub at : lookup s name ≡ Some held
+  pub wide : held.object.width ≡ width kind n
+  pub counted : held.object.count ≡ count
+
+same_number : (a b : ℕ) → a ≡ b → eqb a b ≡ true
+same_number a b e = grind (arith, nat_tests)
+
+used_fits : (s : List Held) (kind : Kind) (count n : ℕ) (name : List ℕ)
+    → IsUsed s kind count n name → is_misfit n (kind, object_named (table_of s) name) ≡ false
+used_fits s kind count n name u = ap (λ o. not (eqb o.width (width kind n)))
+    (at_object s name u.held u.at) ∙ ap not (same_number _ _ u.wide)
+
+used_counts : (s : List Held) (kind : Kind) (count n : ℕ) (name : List ℕ)
+    → IsUsed s kind count n name → not (eqb (object_named (table_of s) name).count count) ≡ false
+used_counts s kind count n name u = ap (λ o. not (eqb o.count count))
+    (at_object s name u.held u.at) ∙ ap not (same_number _ _ u.counted)
+
+used_present : (s : List Held) (kind : Kind) (count n : ℕ) (name : List ℕ)
+    → IsUsed s kind count n name → is_absent (table_of s) name ≡ false
+used_present s kind count n name u = present s name u.held u.at
+
+-- a bbop of two sources
+pub two_allowed : (g : Geometry) (operations : Operations) (s : List Held) (op dst a b : List ℕ)
+    (j k : Kind) (count n : ℕ)
+    → (o : Offers operations op (j ∷ k ∷ [])) → 0 < n → n ≤ WIDTH_MAX
+    → IsUsed s Bit count n dst → IsUsed s j count n a → IsUsed s k count n b → a ≢ dst → b ≢ dst
+    → Allowed (refusal g operations (table_of s) (Bbop op dst (a ∷ b ∷ []) count n))
+two_allowed g operations s op dst a b j k count n o some few u v w ne mf =
+    rw (
+      o.there,
+      o.sources,
+      o.result,
+      o.one_result,
+      used_present s Bit count n dst u,
+      used_present s j count n a v,
+      used_present s k count n b w,
+      used_fits s Bit count n dst u,
+      used_fits s j count n a v,
+      used_fits s k count n b w,
+      used_counts s Bit count n dst u,
+      used_counts s j count n a v,
+      used_counts s k count n b w,
+      bytes_differ a dst ne,
+      bytes_differ b dst mf,
+    )
+    (granted (walks_badly (o.operation.trace n))
+    (is_none (free (limit_of g) (objects_of (table_of s)) (need o.operation.shape n)))
+    (o.walks n some few))
+
+-- a bbop of one source
+pub one_allowed : (g : Geometry) (operations : Operations) (s : List Held) (op dst a : List ℕ)
+    (j : Kind) (count n : ℕ)
+    → (o : Offers operations op (j ∷ [])) → 0 < n → n ≤ WIDTH_MAX
+    → IsUsed s Bit count n dst → IsUsed s j count n a → a ≢ dst
+    → Allowed (refusal g operations (table_of s) (Bbop op dst (a ∷ []) count n))
+one_allowed g operations s op dst a j count n o some few u v ne =
+    rw (
+      o.there,
+      o.sources,
+      o.result,
+      o.one_result,
+      used_present s Bit count n dst u,
+      used_present s j count n a v,
+      used_fits s Bit count n dst u,
+      used_fits s j count n a v,
+      used_counts s Bit count n dst u,
+      used_counts s j count n a v,
+      bytes_differ a dst ne,
+    )
+    (granted (walks_badly (o.operation.trace n))
+    (is_none (free (limit_of g) (objects_of (table_of s)) (need o.operation.shape n)))
+    (o.walks n some few))

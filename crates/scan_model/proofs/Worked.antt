@@ -1,0 +1,70 @@
+-- Worked values: queries, their nodes and instructions, names and faults.
+use Rattle.std.proofs.Common.{◌≡◌, ℕ, true, false, List, [], ◌∷◌, map, Some, None}
+use Rattle.std.proofs.Common.{refl}
+use Rattle.std.specs.Prelude.{codes}
+use Rattle.object_alloc.specs.Listed.{Named}
+use Rattle.bbop_isa.specs.Forms.{Init, Bbop, Fill, Free}
+use Rattle.scan_model.specs.declared.CmpOp.TheVariants as cmp
+use Rattle.scan_model.specs.declared.QueryKind.TheVariants as kind
+use Rattle.scan_model.specs.declared.ScanWhy.TheVariants as scan
+use Rattle.scan_model.specs.Queries.{Query, Compare, Negate, Both, Test, Not, And}
+use Rattle.scan_model.specs.Queries.{matches, nodes_of}
+use Rattle.scan_model.specs.Instructions.{script_from}
+use Rattle.scan_model.specs.Checks.{checked}
+use Rattle.scan_model.specs.Texts.{Start, breach_of, none_begun, Name, Opens, Closes}
+use Rattle.scan_model.specs.Texts.{Stranger}
+
+abbrev a : List ℕ
+a = codes "a"
+
+-- and(ge(a, 10), not(eq(a, 200)))
+abbrev query : Query
+query = Both (Compare cmp.Ge a 10) (Negate (Compare cmp.Eq a 200))
+
+values : map (λ v. matches query (λ name. v)) (5 ∷ 10 ∷ 200 ∷ 255 ∷ []) ≡ false ∷ true ∷ false
+    ∷ true ∷ []
+values = refl
+
+none_below : map (λ v. matches (Compare cmp.Lt a 0) (λ name. v)) (0 ∷ 5 ∷ []) ≡ false ∷ false ∷ []
+none_below = refl
+
+nodes : nodes_of query ≡ Test cmp.Ge a 10 ∷ Test cmp.Eq a 200 ∷ Not 1 ∷ And 0 2 ∷ []
+nodes = refl
+
+-- a table with an object a and one that is called scan_1
+abbrev table : List Named
+table = (a, record { base = 0; width = 8; count = 4 })
+    ∷ (codes "scan_1", record { base = 8; width = 1; count = 4 }) ∷ []
+
+-- names by number, in place of those that are free
+abbrev n : ℕ → List ℕ
+n k = 115 ∷ k ∷ []
+
+instructions : script_from table n 4 0 (nodes_of (Negate (Compare cmp.Le a 7)))
+    ≡ Init (n 0) 4 8 ∷ Fill (n 0) 7 ∷ Init (n 1) 4 1 ∷ Bbop (codes "s_ge") (n 1) (n 0 ∷ a ∷ []) 4
+    8 ∷ Free (n 0)
+    ∷ Init (n 2) 4 1 ∷ Bbop (codes "s_not") (n 2) (n 1 ∷ []) 4 1 ∷ Free (n 1) ∷ []
+instructions = refl
+
+range : checked table (nodes_of (Compare cmp.Eq a 256)) ≡ Some (scan.Range, 0)
+range = refl
+
+count : checked table (nodes_of (Both (Compare cmp.Eq a 1) (Compare cmp.Eq (codes "b") 1)))
+    ≡ Some (scan.NoObject, 1)
+count = refl
+
+-- eq(a)
+short : breach_of (Start ∷ []) none_begun ((0, Name (codes "eq")) ∷ (2, Opens) ∷ (3, Name a)
+    ∷ (4, Closes) ∷ []) ≡ Some (record { at = Some 4; kind = kind.Syntax })
+unfolding breach_of
+short = refl
+
+early : breach_of (Start ∷ []) none_begun ((0, Name (codes "not")) ∷ (3, Opens) ∷ [])
+    ≡ Some (record { at = None; kind = kind.Syntax })
+unfolding breach_of
+early = refl
+
+stranger : breach_of (Start ∷ []) none_begun ((0, Stranger) ∷ [])
+    ≡ Some (record { at = Some 0; kind = kind.Lex })
+unfolding breach_of
+stranger = refl

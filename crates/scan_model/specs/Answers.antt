@@ -1,0 +1,93 @@
+-- What a scan answers, in the words of the banks at its start.
+use Rattle.std.specs.Prelude.{◌≡◌, ℕ, ◌<◌, ◌≤◌, ◌==◌, List, [], ◌∷◌, ◌++◌, take, length, count_by}
+use Rattle.std.specs.Prelude.{All, Option, Some, None, slice_index}
+use Rattle.std.specs.List.{range_with_len, AllByRecursion}
+use Rattle.dram_model.specs.declared.geometry.Geometry.{Geometry}
+use Rattle.dram_model.specs.Elements.{column_count}
+use Rattle.dram_model.specs.Chip.{Banks}
+use Rattle.uprog_code.specs.declared.walker.Counts.{Counts}
+use Rattle.uprog_code.specs.Texts.{ImplementsAll}
+use Rattle.object_alloc.specs.declared.table.Object.{Object}
+use Rattle.object_alloc.specs.Listed.{Named, IsTable, limit_of}
+use Rattle.object_alloc.specs.Spelling.{IsObject}
+use Rattle.bbop_isa.specs.Forms.{Instruction}
+use Rattle.machine_model.specs.declared.Why.{Why}
+use Rattle.machine_model.specs.declared.Why.TheVariants as why
+use Rattle.machine_model.specs.Columns.{columns}
+use Rattle.machine_model.specs.Operations.{Program, Operations, operations_of}
+use Rattle.machine_model.specs.Refusals.{object_named}
+use Rattle.machine_model.specs.Script.{replies, sum_of, table_at_end, banks_at_end}
+use Rattle.scan_model.specs.declared.ScanWhy.{ScanWhy}
+use Rattle.scan_model.specs.declared.ScanWhy.TheVariants as scan
+use Rattle.scan_model.specs.Queries.{Query, matches, size, nodes_of}
+use Rattle.scan_model.specs.Names.{free_name}
+use Rattle.scan_model.specs.Instructions.{scan_script, count_of}
+use Rattle.scan_model.specs.Checks.{checked}
+use Rattle.scan_model.specs.Operations.{scan_text}
+use Rattle.scan_model.specs.Laws.{scan_refused}
+
+-- the numbers of an element in the banks' columns, by the objects' names
+abbrev pub element_in : Geometry → Banks → List Named → ℕ → List ℕ → ℕ
+element_in g banks table e name = slice_index (columns g banks (object_named table name)) e
+
+abbrev pub query_count : List Named → Query → ℕ
+query_count table q = count_of table (nodes_of q)
+
+abbrev pub query_script : List Named → Query → List Instruction
+query_script table q = scan_script table (nodes_of q)
+
+-- how many of the objects' elements a query holds of
+abbrev pub found_in : Geometry → Banks → List Named → Query → ℕ
+found_in g banks table q = count_by (λ e. matches q (element_in g banks table e))
+    (range_with_len 0 (query_count table q))
+
+-- how many elements were found of how many, by so many commands; or why it was refused, and at
+-- which comparison or node
+pub data Answer : Type 0 where
+  Found : (found of : ℕ) → Counts → Answer
+  Refused : ScanWhy → ℕ → Answer
+
+abbrev pub room_word : Why → ScanWhy
+room_word why.TableFull = scan.TableFull
+room_word w = scan.NoRows
+
+abbrev pub by_run : Option (Why × ℕ) → Answer → Answer
+by_run None found = found
+by_run (Some (w, k)) found = Refused (room_word w) k
+
+abbrev pub by_checks : Option (ScanWhy × ℕ) → Answer → Answer
+by_checks None run = run
+by_checks (Some (w, k)) run = Refused w k
+
+unfoldable pub answer : Geometry → Operations → Banks → List Named → Query → Answer
+answer g operations banks table q =
+    by_checks (checked table (nodes_of q))
+    (by_run (scan_refused g operations table q)
+    (Found (found_in g banks table q) (query_count table q)
+    (sum_of (replies g operations table (query_script table q)))))
+
+-- the last object of a scan that is done
+pub record LeavesOne (g : Geometry) (operations : Operations) (banks : Banks) (table : List Named)
+    (q : Query) : Type 0 where
+  pub object : Object
+  pub narrow : object.width ≡ 1
+  pub counted : object.count ≡ query_count table q
+  pub one_more : table_at_end g operations table (query_script table q) ≡ table
+      ++ (free_name table (size q), object) ∷ []
+  pub ones : count_by (λ v. v == 1) (take object.count
+      (columns g (banks_at_end g operations table banks (query_script table q)) object))
+      ≡ found_in g banks table q
+  pub kept : AllByRecursion (λ p. columns g (banks_at_end g operations table banks
+      (query_script table q)) p.1 ≡ columns g banks p.1) table
+
+-- The ones of the last object are the elements that the query holds of, and the columns of all
+-- other objects stay
+abbrev pub ScansAnswer : Type 0
+ScansAnswer =
+    (g : Geometry) (p : Program) (banks : Banks) (table : List Named) (q : Query) → 0 < g.words
+    → ImplementsAll p scan_text
+    → ((bank : ℕ) → bank < g.banks → length (banks bank) ≡ column_count g)
+    → IsTable (limit_of g) table → All (λ named. IsObject g named.1) table → size q ≤ 64
+    → checked table (nodes_of q) ≡ None → scan_refused g (operations_of scan_text p) table q
+    ≡ None
+    → LeavesOne g (operations_of scan_text p) banks table q

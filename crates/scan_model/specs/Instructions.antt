@@ -1,0 +1,66 @@
+-- The instructions of a query, node by node.
+use Rattle.std.specs.Prelude.{ℕ, ◌+◌, List, [], ◌∷◌, ◌++◌, codes}
+use Rattle.object_alloc.specs.Listed.{Named}
+use Rattle.bbop_isa.specs.Forms.{Instruction, Init, Bbop, Fill, Free}
+use Rattle.machine_model.specs.Refusals.{object_named}
+use Rattle.scan_model.specs.declared.CmpOp.{CmpOp}
+use Rattle.scan_model.specs.declared.CmpOp.TheVariants as cmp
+use Rattle.scan_model.specs.Queries.{Node, Test, Not, And, Or}
+use Rattle.scan_model.specs.Names.{free_name}
+
+-- less is greater with the sources turned
+abbrev pub op_for : CmpOp → List ℕ
+op_for cmp.Eq = codes "s_eq"
+op_for cmp.Gt = codes "s_gt"
+op_for cmp.Ge = codes "s_ge"
+op_for cmp.Lt = codes "s_gt"
+op_for cmp.Le = codes "s_ge"
+
+abbrev pub sources_for : CmpOp → List ℕ → List ℕ → List (List ℕ)
+sources_for cmp.Eq name c = name ∷ c ∷ []
+sources_for cmp.Gt name c = name ∷ c ∷ []
+sources_for cmp.Ge name c = name ∷ c ∷ []
+sources_for cmp.Lt name c = c ∷ name ∷ []
+sources_for cmp.Le name c = c ∷ name ∷ []
+
+-- an object of this name and width is filled with the number, and compared into the object r
+abbrev pub compare_with : (c r name : List ℕ) → CmpOp → (v count n : ℕ) → List Instruction
+compare_with c r name op v count n =
+    Init c count n ∷ Fill c v ∷ Init r count 1 ∷ Bbop (op_for op) r (sources_for op name c) count
+    n ∷ Free c ∷ []
+
+abbrev pub join_one : List ℕ → (r a : List ℕ) → ℕ → List Instruction
+join_one op r a count = Init r count 1 ∷ Bbop op r (a ∷ []) count 1 ∷ Free a ∷ []
+
+abbrev pub join_two : List ℕ → (r a b : List ℕ) → ℕ → List Instruction
+join_two op r a b count = Init r count 1 ∷ Bbop op r (a ∷ b ∷ []) count 1 ∷ Free a ∷ Free b ∷ []
+
+-- the name number 0 is that of the object to compare with, and the name k + 1 is that of the
+-- result of node k
+abbrev pub node_instructions : List Named → (ℕ → List ℕ) → ℕ → ℕ → Node → List Instruction
+node_instructions table names count k (Test op name v) =
+    compare_with (names 0) (names (k + 1)) name op v count (object_named table name).width
+node_instructions table names count k (Not a) =
+    join_one (codes "s_not") (names (k + 1)) (names (a + 1)) count
+node_instructions table names count k (And a b) =
+    join_two (codes "s_and") (names (k + 1)) (names (a + 1)) (names (b + 1)) count
+node_instructions table names count k (Or a b) =
+    join_two (codes "s_or") (names (k + 1)) (names (a + 1)) (names (b + 1)) count
+
+-- those of nodes, the first of which has this number
+abbrev pub script_from : List Named → (ℕ → List ℕ) → ℕ → ℕ → List Node → List Instruction
+script_from table names count k [] = []
+script_from table names count k (node ∷ nodes) = node_instructions table names count k node
+    ++ script_from table names count (k + 1) nodes
+
+-- the count of the first comparison's object
+abbrev pub count_of : List Named → List Node → ℕ
+count_of table [] = 0
+count_of table (Test op name v ∷ nodes) = (object_named table name).count
+count_of table (Not a ∷ nodes) = count_of table nodes
+count_of table (And a b ∷ nodes) = count_of table nodes
+count_of table (Or a b ∷ nodes) = count_of table nodes
+
+-- the instructions of a query on a table
+abbrev pub scan_script : List Named → List Node → List Instruction
+scan_script table nodes = script_from table (free_name table) (count_of table nodes) 0 nodes

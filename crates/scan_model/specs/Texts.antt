@@ -1,0 +1,172 @@
+-- The text of a query, token by token.
+use Rattle.std.specs.Prelude.{option_map, ℕ, ◌+◌, ◌^◌, nat_lt, nat_le, Bool, ◌&&◌, List, [], ◌∷◌}
+use Rattle.std.specs.Prelude.{◌++◌, map, Option, Some, None, Result, Ok, Err, bytes_eq, codes}
+use Rattle.std.specs.Prelude.{if◌then◌else◌}
+use Rattle.std.specs.Str.Parse.{digits_value}
+use Rattle.text_lex.specs.Lexical.{Item, Whole, Bad, items_of}
+use Rattle.text_lex.specs.Spelled.{fits_name}
+use Rattle.text_lex.specs.declared.token.TokenKind.{TokenKind}
+use Rattle.text_lex.specs.declared.token.TokenKind.TheVariants as kinds
+use Rattle.scan_model.specs.declared.CmpOp.{CmpOp}
+use Rattle.scan_model.specs.declared.CmpOp.TheVariants as cmp
+use Rattle.op_text.specs.Lines.{line_of}
+use Rattle.scan_model.specs.declared.QueryFault.{QueryFault}
+use Rattle.scan_model.specs.declared.QueryKind.{QueryKind}
+use Rattle.scan_model.specs.declared.QueryKind.TheVariants.{Lex, Syntax, BadName, BadNumber}
+use Rattle.scan_model.specs.declared.QueryKind.TheVariants.{TooMany}
+use Rattle.scan_model.specs.Queries.{Query, Compare, Negate, Both, Either}
+
+-- a token as a query sees it; a Stranger is a byte that starts no token
+pub data Word : Type 0 where
+  Name : List ℕ → Word
+  Number : ℕ → Word
+  Opens : Word
+  Closes : Word
+  Comma : Word
+  Other : Word
+  Stranger : Word
+
+abbrev pub symbol_of : List ℕ → Word
+symbol_of text = if bytes_eq text (codes "(") then Opens else
+    (if bytes_eq text (codes ")") then Closes else
+    (if bytes_eq text (codes ",") then Comma else Other))
+
+abbrev pub word_at : TokenKind → List ℕ → Word
+word_at kinds.Name text = Name text
+word_at kinds.Number text = Number (digits_value 10 text)
+word_at kinds.Symbol text = symbol_of text
+
+-- a word and its place
+abbrev pub Piece : Type 0
+Piece = ℕ × Word
+
+abbrev pub piece_of : Item → Piece
+piece_of (Whole t) = (t.start, word_at t.kind t.text)
+piece_of (Bad f) = (f.at, Stranger)
+
+-- what a query begins with
+pub data Lead : Type 0 where
+  Compares : CmpOp → Lead
+  Negates : Lead
+  Ands : Lead
+  Ors : Lead
+
+abbrev pub lead_text : Lead → List ℕ
+lead_text (Compares cmp.Eq) = codes "eq"
+lead_text (Compares cmp.Gt) = codes "gt"
+lead_text (Compares cmp.Ge) = codes "ge"
+lead_text (Compares cmp.Lt) = codes "lt"
+lead_text (Compares cmp.Le) = codes "le"
+lead_text Negates = codes "not"
+lead_text Ands = codes "and"
+lead_text Ors = codes "or"
+
+abbrev pub all_leads : List Lead
+all_leads = Compares cmp.Eq ∷ Compares cmp.Gt ∷ Compares cmp.Ge ∷ Compares cmp.Lt
+    ∷ Compares cmp.Le ∷ Negates ∷ Ands ∷ Ors ∷ []
+
+abbrev pub lead_among : List Lead → List ℕ → Option Lead
+lead_among [] text = None
+lead_among (lead ∷ leads) text = if bytes_eq text (lead_text lead) then Some lead else lead_among
+    leads text
+
+-- what the grammar asks for
+pub data Wanted : Type 0 where
+  Start : Wanted
+  Open : Wanted
+  Object : Wanted
+  Between : Wanted
+  Bound : Wanted
+  Close : Wanted
+
+-- a query, behind its first token
+abbrev pub behind : Lead → List Wanted
+behind (Compares op) = Open ∷ Object ∷ Between ∷ Bound ∷ Close ∷ []
+behind Negates = Open ∷ Start ∷ Close ∷ []
+behind Ands = Open ∷ Start ∷ Between ∷ Start ∷ Close ∷ []
+behind Ors = Open ∷ Start ∷ Between ∷ Start ∷ Close ∷ []
+
+-- how many nodes and comparisons have begun
+pub record Begun : Type 0 where
+  pub nodes : ℕ
+  pub tests : ℕ
+
+abbrev pub tests_in : Lead → ℕ
+tests_in (Compares op) = 1
+tests_in Negates = 0
+tests_in Ands = 0
+tests_in Ors = 0
+
+abbrev pub with_lead : Begun → Lead → Begun
+with_lead s lead = record { nodes = s.nodes + 1; tests = s.tests + tests_in lead }
+
+abbrev pub fits : Begun → Bool
+fits s = nat_le s.nodes 64 && nat_le s.tests 32
+
+abbrev pub Stepped : Type 0
+Stepped = Result (List Wanted × Begun) QueryKind
+
+abbrev pub started : Begun → Option Lead → Stepped
+started s None = Err Syntax
+started s (Some lead) = if fits (with_lead s lead) then Ok (behind lead, with_lead s lead) else
+    Err TooMany
+
+-- the next token, where this is wanted: what is wanted in its place, or the first rule that it
+-- breaks
+abbrev pub step : Wanted → Begun → Word → Stepped
+step w s Stranger = Err Lex
+step Start s (Name text) = started s (lead_among all_leads text)
+step Open s Opens = Ok ([], s)
+step Object s (Name text) = if fits_name text then Ok ([], s) else Err BadName
+step Between s Comma = Ok ([], s)
+step Bound s (Number v) = if nat_lt v (2 ^ 128) then Ok ([], s) else Err BadNumber
+step Close s Closes = Ok ([], s)
+step w s word = Err Syntax
+
+-- a rule that is broken, and the place of the token, or none at the end of the text
+pub record Breach : Type 0 where
+  pub at : Option ℕ
+  pub kind : QueryKind
+
+abbrev pub ended : List Wanted → Option Breach
+ended [] = None
+ended (w ∷ wanted) = Some (record { at = None; kind = Syntax })
+
+abbrev pub spare : Word → QueryKind
+spare Stranger = Lex
+spare word = Syntax
+
+abbrev pub after : Stepped → ℕ → (List Wanted → Begun → Option Breach) → Option Breach
+after (Ok r) at go = go r.0 r.1
+after (Err kind) at go = Some (record { at = Some at; kind = kind })
+
+-- the first token that breaks a rule
+unfoldable pub breach_of : List Wanted → Begun → List Piece → Option Breach
+breach_of wanted s [] = ended wanted
+breach_of [] s (p ∷ pieces) = Some (record { at = Some p.0; kind = spare p.1 })
+breach_of (w ∷ wanted) s (p ∷ pieces) = after (step w s p.1) p.0
+    (λ front t. breach_of (front ++ wanted) t pieces)
+
+abbrev pub none_begun : Begun
+none_begun = record { nodes = 0; tests = 0 }
+
+abbrev pub pieces_of : List ℕ → List Piece
+pieces_of text = map piece_of (items_of text)
+
+abbrev pub first_breach : List ℕ → Option Breach
+first_breach text = breach_of (Start ∷ []) none_begun (pieces_of text)
+
+-- the fault of a text by its line, as in operation texts, or none where it is accepted
+abbrev pub fault_in : List ℕ → Option QueryFault
+fault_in text = option_map (λ b. record { line = line_of text b.at; kind = b.kind })
+    (first_breach text)
+
+-- the tokens of a query, in front of others
+abbrev pub spelled : Query → List Word → List Word
+spelled (Compare op name v) rest = Name (lead_text (Compares op)) ∷ Opens ∷ Name name ∷ Comma
+    ∷ Number v ∷ Closes ∷ rest
+spelled (Negate a) rest = Name (codes "not") ∷ Opens ∷ spelled a (Closes ∷ rest)
+spelled (Both a b) rest = Name (codes "and") ∷ Opens
+    ∷ spelled a (Comma ∷ spelled b (Closes ∷ rest))
+spelled (Either a b) rest = Name (codes "or") ∷ Opens
+    ∷ spelled a (Comma ∷ spelled b (Closes ∷ rest))
