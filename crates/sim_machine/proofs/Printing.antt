@@ -1,6 +1,6 @@
 -- What comes of a print.
 use Rattle.std.proofs.Common.{◌≡◌, ℕ, ◌≤◌, List, [], ◌++◌, refl, sym, ◌∙◌, ap, subst, append-nil}
-use Rattle.std.proofs.Common.{arith, cond, None, Some}
+use Rattle.std.proofs.Common.{arith, cond, None, Some, not, true}
 use Rattle.std.specs.Prelude.{Option, Err, is_none}
 use Rattle.host_edge.specs.Views.{SinkView, Told, AppendsPart}
 use Rattle.host_edge.proofs.Tells.{Told-trans}
@@ -13,7 +13,12 @@ use Rattle.machine_model.specs.declared.Reply.{Reply}
 use Rattle.machine_model.specs.declared.Reply.TheVariants.{Done, Refused}
 use Rattle.machine_model.specs.declared.Why.{Why}
 use Rattle.machine_model.specs.Pieces.{piece_of}
-use Rattle.machine_model.specs.Refusals.{refusal}
+use Rattle.machine_model.specs.Refusals.{refusal, when}
+use Rattle.machine_model.specs.declared.Why.TheVariants as why
+use Rattle.machine_model.specs.Operations.{Operations}
+use Rattle.dram_model.specs.declared.geometry.Geometry.{Geometry}
+use Rattle.dram_model.specs.Chip.{Banks}
+use Rattle.object_alloc.specs.Listed.{Named, has_name}
 use Rattle.machine_model.specs.Report.{line, said_of}
 use Rattle.machine_model.specs.Report.Said.{Answered, Printed}
 use Rattle.machine_model.specs.Script.{rows_printed}
@@ -22,7 +27,8 @@ use Rattle.object_steps.specs.Lines.{DidReadAtMost, printed_line}
 use Rattle.object_steps.specs.declared.fault.StepFault.{StepFault}
 use Rattle.object_steps.specs.declared.fault.StepFault.TheVariants.{ChipFault, WriteFault}
 use Rattle.sim_machine.specs.declared.machine.Machine.{Machine}
-use Rattle.sim_machine.specs.Machine.{banks_by, events_by, geometry_of, line_of, operations_by}
+use Rattle.sim_machine.specs.Machine.{banks_by, events_by, geometry_of, line_of, line_shown}
+use Rattle.sim_machine.specs.Machine.{operations_by}
 use Rattle.sim_machine.specs.Machine.{reads_by, reply_of, table_in, turn_in}
 use Rattle.sim_machine.specs.Outcome.{Comes, Stepped, StoppedBySink}
 use Rattle.sim_machine.specs.Steps.{DidAndRead}
@@ -161,3 +167,21 @@ module _ (old new : Machine) (number : ℕ) (name : List ℕ) (chip chip' : Chip
       rose = rose refl;
       part = subst (λ t. Told (AppendsPart t) sink.sent sink'.sent) (whole_line allowed) part;
     }
+
+-- Of an object that stands, no print is refused
+pub stands_allowed : (g : Geometry) (operations : Operations) (table : List Named) (name : List ℕ)
+    → has_name table name ≡ true → refusal g operations table (Print name) ≡ None
+stands_allowed g operations table name h = ap (λ b. when (not b) (why.NoObject 0)) h
+
+pub all_rows_of : (m : Machine) (name : List ℕ) → has_name (table_in m) name ≡ true
+    → rows_printed (geometry_of m) (table_in m) (Print name) ≡ reads_by m (Print name)
+all_rows_of m name h = sym (all_rows _ (rows_printed (geometry_of m) (table_in m) (Print name))
+    (stands_allowed (geometry_of m) (operations_by m) (table_in m) name h))
+
+pub whole_line_shown : (m : Machine) (number : ℕ) (banks : Banks) (name shown : List ℕ)
+    → has_name (table_in m) name ≡ true
+    → printed_line (geometry_of m) (operations_by m) (table_in m) banks number name shown
+    ≡ line_shown m number banks name shown
+whole_line_shown m number banks name shown h =
+    ap (λ r. if_done r (line_shown m number banks name shown) [])
+    (stands_allowed (geometry_of m) (operations_by m) (table_in m) name h)

@@ -19,7 +19,8 @@ use Rattle.machine_model.specs.Operations.{Operations, operations_in}
 use Rattle.machine_model.specs.Refusals.{object_named}
 use Rattle.machine_model.specs.Pieces.{Piece, piece_events, turn_behind, wave_queues}
 use Rattle.machine_model.specs.Report.{Said, line, lines, said_by}
-use Rattle.machine_model.specs.Report.Said.{Answered}
+use Rattle.machine_model.specs.Report.Said.{Answered, Printed}
+use Rattle.object_steps.specs.Lines.{values_of}
 use Rattle.machine_model.specs.Script.{rows_if_done, rows_printed}
 use Rattle.machine_model.specs.Steps.{new_object, reply_to, table_after}
 
@@ -110,6 +111,11 @@ leaves_table (Free name) = false
 -- the line of an instruction, and the lines of a wave of bbops
 abbrev pub line_of : Machine → ℕ → Banks → Instruction → List ℕ
 line_of m number banks instr = line number (said_of_step m banks instr)
+
+-- the line of an object's values under another name
+abbrev pub line_shown : Machine → ℕ → Banks → (name shown : List ℕ) → List ℕ
+line_shown m number banks name shown =
+    line number (Printed shown (values_of (geometry_of m) banks (table_in m) name))
 
 abbrev pub lines_of : Machine → ℕ → List Instruction → List ℕ
 lines_of m number wave = lines number (map Answered (map (reply_of m) wave))

@@ -13,3 +13,4 @@ mod waves;
 pub use machine::{Machine, StartNo};
 pub use machine_model::{Reply, Why};
 pub use object_steps::StepFault;
+pub use report::put_reply;

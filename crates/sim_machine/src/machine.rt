@@ -9,12 +9,13 @@ ghost use Rattle.fault_counts.specs.Counts.{Rose};
 ghost use Rattle.dram_model.specs.Chip.{Grew};
 ghost use Rattle.dram_model.specs.View.{HasBegun, Kept, Did, DidRead, NotBegun};
 ghost use Rattle.dram_model.specs.Elements.{FailedBelow};
+ghost use Rattle.object_alloc.specs.Listed.{has_name};
 ghost use Rattle.object_alloc.specs.Reading.{rows_size};
 ghost use Rattle.object_alloc.specs.Spelling.{image_bytes};
-ghost use Rattle.bbop_isa.specs.Forms.{view_of};
+ghost use Rattle.bbop_isa.specs.Forms.{view_of, Load, Print};
 ghost use Rattle.machine_model.specs.Agrees.{IsPlain};
 ghost use Rattle.machine_model.specs.Opened.{rows_of};
-ghost use Rattle.machine_model.specs.Pieces.{AreBbops, Wave, piece_of};
+ghost use Rattle.machine_model.specs.Pieces.{Alone, AreBbops, Wave, piece_of};
 ghost use Rattle.machine_model.specs.Report.{total_line};
 ghost use Rattle.machine_model.specs.Script.{is_bbop};
 ghost use Rattle.uprog_ctl.specs.Waves.{StoppedAmong};
@@ -22,7 +23,8 @@ ghost use Rattle.wave_model.specs.Schedule.{Ahead};
 ghost use Rattle.object_steps.specs.Lines.{DidReadAtMost};
 ghost use Rattle.object_steps.specs.Objects.{LiesOn, RisesAtMost};
 ghost use Rattle.sim_machine.specs.Machine.{IsReady, banks_by, events_by, file_of, geometry_of};
-ghost use Rattle.sim_machine.specs.Machine.{is_print, line_of, lines_of, program_of, queues_by};
+ghost use Rattle.sim_machine.specs.Machine.{is_print, line_of, line_shown, lines_of, program_of};
+ghost use Rattle.sim_machine.specs.Machine.{queues_by};
 ghost use Rattle.sim_machine.specs.Machine.{reads_by, reply_of, table_behind, table_in};
 ghost use Rattle.sim_machine.specs.Machine.{turn_by_piece, turn_in};
 ghost use Rattle.sim_machine.specs.Opening.{Opened};
@@ -34,13 +36,15 @@ use crate::opening::{begin, make_file, make_stage};
 use crate::report::{put_lines, total};
 use crate::waves::do_wave;
 use arrayvec::ArrayVec;
+use bit_rows::{Value, WIDTH_MAX};
 use bbop_isa::Instr;
 use dram_model::{ChipFault, Dram, Geometry};
 use host_edge::{Failed, Sink};
 use machine_model::Reply;
 use object_alloc::{Image, Table, put_head};
-use object_steps::StepFault;
+use object_steps::{StepFault, load, print};
 use std::alloc::Global;
+use text_lex::Name;
 use uprog_bin::ProgView;
 use uprog_code::WALK_MAX;
 use uprog_ctl::{Forward, Order};
@@ -234,6 +238,105 @@ impl<'a> Machine<'a> {
             (S.view out.old).sent (S.view out.new).sent) }
     {
         self.step_of(number, instr, dram, out)
+    }
+
+    /// The objects.
+    pub fn table(&self) -> &Table
+        ensures objects { result.now.pairs ≡ table_in self.now }
+    {
+        &self.table
+    }
+
+    /// Puts the line of a `print` of an object that stands, under another name. It takes no memory.
+    pub fn print_as<D: Dram, S: Sink>(
+        &mut self,
+        number: u32,
+        name: &Name,
+        shown: &Name,
+        dram: &mut D,
+        out: &mut S,
+    ) -> Result<(), StepFault>
+        requires ready { IsReady self.old }
+        requires begun { HasBegun (D.view dram.old) }
+        requires geometry { (D.view dram.old).geometry ≡ geometry_of self.old }
+        requires stands { has_name (table_in self.old) name.now ≡ true }
+        requires room { (D.view dram.old).counters.reads < 2 ^ 62 }
+        ensures borrow { D.borrow dram.new ≡ D.borrow dram.old }
+        ensures kept { Kept (D.view dram.old) (D.view dram.new) }
+        ensures sink_faults { (S.view out.old).faults ≤ (S.view out.new).faults }
+        ensures program { program_of self.new ≡ program_of self.old }
+        ensures shape { geometry_of self.new ≡ geometry_of self.old }
+        ensures table { table_in self.new ≡ table_in self.old }
+        ensures turn { turn_in self.new ≡ turn_in self.old }
+        ensures ready { IsReady self.new }
+        ensures did { OnOk result (DidRead (reads_by self.old (Print name.now))
+            (D.view dram.old) (D.view dram.new)) }
+        ensures rises { OnOk result (RisesAtMost (16 * WIDTH_MAX) (D.view dram.old).counters
+            (D.view dram.new).counters) }
+        ensures sent { OnOk result (Told (λ before after. after ≡ before
+            ++ line_shown self.old number (D.view dram.old).banks name.now shown.now)
+            (S.view out.old).sent (S.view out.new).sent) }
+
+        // After a fault a prefix of the line was put, and nothing but reads happened on the chip,
+        // or a read failed.
+        ensures chip_fault { IsErrOf result StepFault.ChipFault
+            → FailedBelow (banks_by self.old (Print name.now)) (D.view dram.old)
+            (D.view dram.new) }
+        ensures untold { Grew (D.view dram.old).log (D.view dram.new).log [] }
+        ensures read { IsErrOf result StepFault.WriteFault
+            → DidReadAtMost (reads_by self.old (Print name.now)) (D.view dram.old)
+            (D.view dram.new) }
+        ensures write_fault { IsErrOf result StepFault.WriteFault
+            → Rose (S.view out.old).faults (S.view out.new).faults }
+        ensures part { OnErr result (Told (AppendsPart
+            (line_shown self.old number (D.view dram.old).banks name.now shown.now))
+            (S.view out.old).sent (S.view out.new).sent) }
+    {
+        let g = self.geometry;
+        let stage = &mut self.stage;
+        match print(g, &self.table, number, name, shown, stage, dram, out) {
+            Ok(_) => Ok(()),
+            Err(fault) => Err(fault),
+        }
+    }
+
+    /// Does a `load` of these values, and puts no line. It takes no memory.
+    pub fn load_into<D: Dram>(
+        &mut self,
+        name: &Name,
+        values: &[Value],
+        dram: &mut D,
+    ) -> Result<Reply, ChipFault>
+        requires ready { IsReady self.old }
+        requires begun { HasBegun (D.view dram.old) }
+        requires geometry { (D.view dram.old).geometry ≡ geometry_of self.old }
+        requires room { (D.view dram.old).counters.writes < 2 ^ 62 }
+        ensures borrow { D.borrow dram.new ≡ D.borrow dram.old }
+        ensures kept { Kept (D.view dram.old) (D.view dram.new) }
+        ensures program { program_of self.new ≡ program_of self.old }
+        ensures shape { geometry_of self.new ≡ geometry_of self.old }
+        ensures table { table_in self.new ≡ table_in self.old }
+        ensures turn { turn_in self.new ≡ turn_in self.old }
+        ensures ready { IsReady self.new }
+        ensures reply { IfOk result (λ reply. reply
+            ≡ reply_of self.old (Load name.now values.now)) }
+        ensures did { OnOk result (Did (events_by self.old (Alone (Load name.now values.now)))
+            (D.view dram.old) (D.view dram.new)) }
+        ensures rises { OnOk result (RisesAtMost (16 * WIDTH_MAX) (D.view dram.old).counters
+            (D.view dram.new).counters) }
+
+        // Where the chip fails, the banks past those of the object are as before.
+        ensures failed { OnErr result (FailedBelow (banks_by self.old (Load name.now values.now))
+            (D.view dram.old) (D.view dram.new)) }
+    {
+        load(
+            self.geometry,
+            &self.table,
+            name,
+            values,
+            &mut self.stage,
+            dram,
+        )
     }
 
     /// Reads every row of the chip, and spells the image file: the shape, the table and the rows.

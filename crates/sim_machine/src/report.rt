@@ -127,7 +127,7 @@ fn put_line<S: Sink>(number: u64, reply: Reply, out: &mut S) -> Result<(), Faile
 }
 
 /// Puts the line of one instruction's reply.
-pub(crate) fn put_reply<S: Sink>(number: u32, reply: Reply, out: &mut S) -> Result<(), Failed>
+pub fn put_reply<S: Sink>(number: u32, reply: Reply, out: &mut S) -> Result<(), Failed>
     ensures faults { (S.view out.old).faults ≤ (S.view out.new).faults }
     ensures sent { OnOk result (Told (λ before after. after
         ≡ before ++ line number (Said.Answered reply)) (S.view out.old).sent

@@ -1,0 +1,17 @@
+pub mod Numbers
+pub mod Votes
+pub mod Trios
+pub mod Flips
+pub mod Mends
+pub mod Commands
+pub mod Names
+pub mod Refused
+pub mod Runs
+pub mod Keeps
+pub mod Changes
+pub mod Alone
+pub mod Whole
+pub mod Texts
+pub mod Pieces
+pub mod Adding
+pub mod Worked

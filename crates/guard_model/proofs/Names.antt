@@ -1,0 +1,219 @@
+-- What is found under the name of a copy.
+use Rattle.std.proofs.Common.{◌≡◌, ℕ, Bool, true, false, not, ◌||◌, ◌&&◌, ◌+◌, cond, eqb, List, []}
+use Rattle.std.proofs.Common.{◌∷◌, map, Option, Some, None, refl, sym, ◌∙◌, ap}
+use Rattle.std.specs.List.{find}
+use Rattle.std.specs.Option.{option_map, unwrap_or}
+use Rattle.std.specs.Str.{bytes_eq}
+use Rattle.object_alloc.specs.declared.table.Object.{Object}
+use Rattle.object_alloc.specs.Listed.{Named, has_name}
+use Rattle.machine_model.specs.Refusals.{object_named, nothing, is_absent}
+use Rattle.machine_model.specs.Steps.{Held, table_of, numbers_named, with_numbers, with_results}
+use Rattle.machine_model.specs.Steps.{new_numbers}
+use Rattle.machine_model.proofs.Places.{same_bytes}
+use Rattle.guard_model.specs.Triples.{x_letter, y_letter, z_letter}
+use Rattle.guard_model.proofs.Trios.{Trio, copy, spread, alone}
+
+-- one of the three letters, with where its copies begin
+pub data Letter : ℕ → (Trio → ℕ) → Type 0 where
+  is_x : Letter x_letter (λ t. t.x)
+  is_y : Letter y_letter (λ t. t.y)
+  is_z : Letter z_letter (λ t. t.z)
+
+-- the trio of this name
+abbrev pub trio_named : List Trio → List ℕ → Option Trio
+trio_named ts name = find (λ (t : Trio). bytes_eq t.name name) ts
+
+-- what is found under a copy's name is the copy of the trio
+found_case : (c : ℕ) (base : Trio → ℕ) (t : Trio) (name : List ℕ) (b : Bool) (rest : Option Held)
+    (more : Option Trio) → rest ≡ option_map (λ u. copy c (base u) u) more
+    → cond b (Some (copy c (base t) t)) rest ≡ option_map (λ u. copy c (base u) u)
+    (cond b (Some t) more)
+found_case c base t name true rest more e = refl
+found_case c base t name false rest more e = e
+
+pub found_copy : (c : ℕ) (base : Trio → ℕ) (ts : List Trio) (name : List ℕ) → Letter c base → find
+    (λ (h : Held). bytes_eq h.name (c ∷ name)) (spread ts) ≡ option_map (λ u. copy c (base u) u)
+    (trio_named ts name)
+found_copy c base [] name l = refl
+found_copy c base (t ∷ ts) name is_x = found_case x_letter (λ t. t.x) t name
+    (bytes_eq t.name name) _ _ (found_copy x_letter (λ t. t.x) ts name is_x)
+found_copy c base (t ∷ ts) name is_y = found_case y_letter (λ t. t.y) t name
+    (bytes_eq t.name name) _ _ (found_copy y_letter (λ t. t.y) ts name is_y)
+found_copy c base (t ∷ ts) name is_z = found_case z_letter (λ t. t.z) t name
+    (bytes_eq t.name name) _ _ (found_copy z_letter (λ t. t.z) ts name is_z)
+
+alone_case : (t : Trio) (b : Bool) (rest : Option Held) (more : Option Trio) → rest
+    ≡ option_map alone more → cond b (Some (alone t)) rest ≡ option_map alone (cond b (Some t) more)
+alone_case t true rest more e = refl
+alone_case t false rest more e = e
+
+pub found_alone : (ts : List Trio) (name : List ℕ) → find (λ (h : Held). bytes_eq h.name name)
+    (map alone ts) ≡ option_map alone (trio_named ts name)
+found_alone [] name = refl
+found_alone (t ∷ ts) name = alone_case t (bytes_eq t.name name) _ _ (found_alone ts name)
+
+-- of a state its table's entry
+entry_case : (h : Held) (b : Bool) (rest : Option Named) (more : Option Held) → rest ≡ option_map
+    (λ h. (h.name, h.object)) more → cond b (Some (h.name, h.object)) rest ≡ option_map
+    (λ h. (h.name, h.object)) (cond b (Some h) more)
+entry_case h true rest more e = refl
+entry_case h false rest more e = e
+
+entry_found : (state : List Held) (name : List ℕ) → find (λ (p : Named). bytes_eq p.0 name)
+    (table_of state) ≡ option_map (λ h. (h.name, h.object))
+    (find (λ (h : Held). bytes_eq h.name name) state)
+entry_found [] name = refl
+entry_found (h ∷ state) name = entry_case h (bytes_eq h.name name) _ _ (entry_found state name)
+
+abbrev object_of : Option Held → Object
+object_of found = unwrap_or (option_map (λ (p : Named). p.1)
+    (option_map (λ (h : Held). (h.name, h.object)) found)) nothing
+
+object_is : (state : List Held) (name : List ℕ) → object_named (table_of state) name ≡ object_of
+    (find (λ (h : Held). bytes_eq h.name name) state)
+object_is state name = ap (λ (found : Option Named). unwrap_or
+    (option_map (λ p. p.1) found) nothing) (entry_found state name)
+
+-- any other table's object is as wide, has the same count
+pub record IsLike (table lone : List Named) (c : ℕ) : Type 0 where
+  pub absent : (name : List ℕ) → is_absent table (c ∷ name) ≡ is_absent lone name
+  pub wide : (name : List ℕ) → (object_named table (c ∷ name)).width
+      ≡ (object_named lone name).width
+  pub counted : (name : List ℕ) → (object_named table (c ∷ name)).count
+      ≡ (object_named lone name).count
+
+widths : (c : ℕ) (base : Trio → ℕ) (found : Option Trio)
+    → (object_of (option_map (λ u. copy c (base u) u) found)).width
+    ≡ (object_of (option_map alone found)).width
+widths c base None = refl
+widths c base (Some t) = refl
+
+counts : (c : ℕ) (base : Trio → ℕ) (found : Option Trio)
+    → (object_of (option_map (λ u. copy c (base u) u) found)).count
+    ≡ (object_of (option_map alone found)).count
+counts c base None = refl
+counts c base (Some t) = refl
+
+both_or : (b p q : Bool) → p ≡ q → (b || p) ≡ (b || q)
+both_or b p q e = ap (λ r. b || r) e
+
+pub has_copy : (c : ℕ) (base : Trio → ℕ) (ts : List Trio) (name : List ℕ) → Letter c base → has_name
+    (table_of (spread ts)) (c ∷ name) ≡ has_name (table_of (map alone ts)) name
+has_copy c base [] name l = refl
+has_copy c base (t ∷ ts) name is_x = both_or (bytes_eq t.name name) _ _
+    (has_copy x_letter (λ t. t.x) ts name is_x)
+has_copy c base (t ∷ ts) name is_y = both_or (bytes_eq t.name name) _ _
+    (has_copy y_letter (λ t. t.y) ts name is_y)
+has_copy c base (t ∷ ts) name is_z = both_or (bytes_eq t.name name) _ _
+    (has_copy z_letter (λ t. t.z) ts name is_z)
+
+pub copies_like : (c : ℕ) (base : Trio → ℕ) (ts : List Trio) → Letter c base → IsLike
+    (table_of (spread ts)) (table_of (map alone ts)) c
+copies_like c base ts l = record {
+  absent = λ name. ap not (has_copy c base ts name l);
+  wide = λ name.
+      ap (λ (o : Object). o.width) (object_is (spread ts) (c ∷ name) ∙ ap object_of
+      (found_copy c base ts name l)) ∙ widths c base (trio_named ts name)
+      ∙ sym (ap (λ (o : Object). o.width)
+      (object_is (map alone ts) name ∙ ap object_of (found_alone ts name)));
+  counted = λ name.
+      ap (λ (o : Object). o.count) (object_is (spread ts) (c ∷ name) ∙ ap object_of
+      (found_copy c base ts name l)) ∙ counts c base (trio_named ts name)
+      ∙ sym (ap (λ (o : Object). o.count)
+      (object_is (map alone ts) name ∙ ap object_of (found_alone ts name)));
+}
+
+abbrev numbers_in : Option Held → List ℕ
+numbers_in found = unwrap_or (option_map (λ h. h.numbers) found) []
+
+same_numbers : (c : ℕ) (base : Trio → ℕ) (found : Option Trio) → numbers_in
+    (option_map (λ u. copy c (base u) u) found) ≡ numbers_in (option_map alone found)
+same_numbers c base None = refl
+same_numbers c base (Some t) = refl
+
+-- the numbers of a copy are those of the one
+pub copy_numbers : (c : ℕ) (base : Trio → ℕ) (ts : List Trio) (name : List ℕ) → Letter c base
+    → numbers_named (spread ts) (c ∷ name) ≡ numbers_named (map alone ts) name
+copy_numbers c base ts name l = ap numbers_in (found_copy c base ts name l) ∙ same_numbers c base
+    (trio_named ts name) ∙ sym (ap numbers_in (found_alone ts name))
+
+-- other numbers under another name are not read
+other_case : (h : Held) (m n ns : List ℕ) (rest more : Option Held) (a b : Bool) → bytes_eq h.name m
+    ≡ a → bytes_eq h.name n ≡ b → (bytes_eq h.name m ≡ true → bytes_eq h.name n ≡ false)
+    → numbers_in rest ≡ numbers_in more
+    → numbers_in (cond (bytes_eq (cond a
+    (record { name = h.name; object = h.object; numbers = ns }) h).name n)
+    (Some (cond a (record { name = h.name; object = h.object; numbers = ns }) h)) rest) ≡ numbers_in
+    (cond b (Some h) more)
+other_case h m n ns rest more true true e f d r = let g = d e in cc
+other_case h m n ns rest more true false e f d r = rw f r
+other_case h m n ns rest more false true e f d r = rw f refl
+other_case h m n ns rest more false false e f d r = rw f r
+
+pub other_numbers : (state : List Held) (m n ns : List ℕ)
+    → ((k : List ℕ) → bytes_eq k m ≡ true → bytes_eq k n ≡ false) → numbers_named
+    (with_numbers state m ns) n ≡ numbers_named state n
+other_numbers [] m n ns d = refl
+other_numbers (h ∷ state) m n ns d = other_case h m n ns _ _ (bytes_eq h.name m)
+    (bytes_eq h.name n) refl refl (d h.name) (other_numbers state m n ns d)
+
+-- names under two letters differ
+pub letters_differ : (c d : ℕ) (m n : List ℕ) → eqb c d ≡ false → (k : List ℕ) → bytes_eq k (c ∷ m)
+    ≡ true → bytes_eq k (d ∷ n) ≡ false
+letters_differ c d m n e k h = rw (same_bytes k (c ∷ m) h, e) refl
+
+-- new numbers for the copies under one letter
+abbrev pub under : ℕ → (List ℕ → Option (List ℕ)) → List ℕ → Option (List ℕ)
+under c new [] = None
+under c new (d ∷ name) = cond (eqb d c) (new name) None
+
+under_none : (b : Bool) → ◌≡◌ {A = Option (List ℕ)} (cond b None None) None
+under_none true = refl
+under_none false = refl
+
+under_case : (b m : Bool) (v rest more : Option (List ℕ)) → rest ≡ cond b more None
+    → cond (b && m) v rest ≡ cond b (cond m v more) None
+under_case true true v rest more e = refl
+under_case true false v rest more e = e
+under_case false m v rest more e = e
+
+-- the results of the copies' destinations are those of the one's
+pub new_under : (result : ℕ → List ℕ) (c k : ℕ) (dsts : List (List ℕ)) (name : List ℕ)
+    → new_numbers result k (map (λ name. c ∷ name) dsts) name
+    ≡ under c (new_numbers result k dsts) name
+new_under result c k [] [] = refl
+new_under result c k [] (d ∷ name) = sym (under_none (eqb d c))
+new_under result c k (dst ∷ dsts) [] = new_under result c (k + 1) dsts []
+new_under result c k (dst ∷ dsts) (d ∷ name) =
+    under_case (eqb d c) (bytes_eq name dst) (Some (result k)) _ _
+    (new_under result c (k + 1) dsts (d ∷ name))
+
+abbrev pub given : (List ℕ → Option (List ℕ)) → Held → Held
+given new h = record {
+  name = h.name;
+  object = h.object;
+  numbers = unwrap_or (new h.name) h.numbers;
+}
+
+pub results_same : (state : List Held) (f g : List ℕ → Option (List ℕ))
+    → ((name : List ℕ) → f name ≡ g name) → with_results state f ≡ with_results state g
+results_same [] f g e = refl
+results_same (h ∷ state) f g e =
+    ap (λ v. record { name = h.name; object = h.object; numbers = unwrap_or v h.numbers }
+    ∷ with_results state f) (e h.name)
+    ∙ ap (λ r. given g h ∷ r) (results_same state f g e)
+
+given_case : (h : Held) (f : List ℕ → Option (List ℕ)) (name : List ℕ) (b : Bool)
+    (rest more : Option Held) → bytes_eq h.name name ≡ b → f name ≡ None
+    → numbers_in rest ≡ numbers_in more
+    → numbers_in (cond b (Some (given f h)) rest) ≡ numbers_in (cond b (Some h) more)
+given_case h f name true rest more t e r =
+    ap (λ v. unwrap_or v h.numbers) (ap f (same_bytes h.name name t) ∙ e)
+given_case h f name false rest more t e r = r
+
+-- where a name is given no new numbers, it has the old ones
+pub other_given : (state : List Held) (f : List ℕ → Option (List ℕ)) (name : List ℕ)
+    → f name ≡ None → numbers_named (with_results state f) name ≡ numbers_named state name
+other_given [] f name e = refl
+other_given (h ∷ state) f name e =
+    given_case h f name (bytes_eq h.name name) _ _ refl e (other_given state f name e)

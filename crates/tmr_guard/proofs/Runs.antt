@@ -1,0 +1,211 @@
+-- Plain instructions one after another.
+use Rattle.std.proofs.Common.{◌≡◌, ℕ, zero, suc, ◌+◌, Bool, true, false, cond, List, [], ◌∷◌}
+use Rattle.std.proofs.Common.{◌++◌}
+use Rattle.std.proofs.Common.{length, map, Option, Some, None, refl, sym, ◌∙◌, ap, subst, arith}
+use Rattle.std.proofs.Common.{append-nil}
+use Rattle.std.specs.Prelude.{is_none, flat_map, sum_by}
+use Rattle.std.specs.List.{range_with_len}
+use Rattle.std.proofs.lemmas.List.{map-append}
+use Rattle.dram_model.specs.declared.geometry.Geometry.{Geometry}
+use Rattle.dram_model.specs.declared.dram.Counters.{Counters}
+use Rattle.dram_model.specs.declared.address.Command.TheVariants.{Ap, Aap}
+use Rattle.dram_model.specs.Chip.{Event, after, all_counted, counted, Grew}
+use Rattle.dram_model.specs.Chip.Event.{Row, Write}
+use Rattle.dram_model.specs.View.{ChipView, Did, with_reads}
+use Rattle.dram_model.proofs.EventLaws.{after-append, all_counted-append, Grew-more}
+use Rattle.wave_model.specs.Schedule.{Turn, queues, state_behind, state_after, events_of_picks}
+use Rattle.wave_model.specs.Schedule.{picks, whole_picks, total_left, in_turn}
+use Rattle.object_alloc.specs.Listed.{Named}
+use Rattle.bbop_isa.specs.Forms.{Instruction, Init, Bbop, Load, Fill, Print, Free, Order}
+use Rattle.machine_model.specs.declared.Why.{Why}
+use Rattle.machine_model.specs.Operations.{Program, Operations, operations_in}
+use Rattle.machine_model.specs.Refusals.{refusal}
+use Rattle.machine_model.specs.Steps.{if_done, job_of, own_events, table_after, tabled}
+use Rattle.machine_model.specs.Script.{sum_done, rows_if_done, rows_printed, table_at_end}
+use Rattle.machine_model.specs.Pieces.{Piece, piece_of, piece_events, turn_behind, turn_at_end}
+use Rattle.machine_model.specs.Pieces.{events_of_pieces, wave_queues, instrs_in}
+use Rattle.machine_model.proofs.Parts.{pieces_go_on, rows_append, table_append}
+use Rattle.sim_machine.specs.Steps.{DidAndRead}
+use Rattle.guard_model.proofs.Pieces.{all_instrs}
+use Rattle.guard_model.proofs.Runs.{if_some}
+use Rattle.tmr_guard.specs.Steps.{Ran}
+
+-- Reads stand apart from events
+one_event : (event : Event) (n : ℕ) (k : Counters)
+    → counted event (with_reads n k) ≡ with_reads n (counted event k)
+one_event (Row bank (Ap x)) n k = refl
+one_event (Row bank (Aap x y)) n k = refl
+one_event (Write bank row bits) n k = refl
+
+reads_apart : (events : List Event) (n : ℕ) (k : Counters)
+    → all_counted events (with_reads n k) ≡ with_reads n (all_counted events k)
+reads_apart [] n k = refl
+reads_apart (event ∷ events) n k =
+    ap (all_counted events) (one_event event n k) ∙ reads_apart events n (counted event k)
+
+more_reads : (n m : ℕ) (k : Counters) → with_reads m (with_reads n k) ≡ with_reads (n + m) k
+more_reads n m k = let e : k.reads + n + m ≡ k.reads + (n + m) = omega arith in rw e refl
+
+pub did_more : (es fs : List Event) (n m : ℕ) (a b c : ChipView) → DidAndRead es n a b
+    → DidAndRead fs m b c → DidAndRead (es ++ fs) (n + m) a c
+did_more es fs n m a b c d e = record {
+  banks = e.banks ∙ ap (after fs) d.banks ∙ sym (after-append es fs a.banks);
+  counters = e.counters ∙ ap (λ k. with_reads m (all_counted fs k)) d.counters
+      ∙ ap (with_reads m) (reads_apart fs n (all_counted es a.counters))
+      ∙ more_reads n m (all_counted fs (all_counted es a.counters))
+      ∙ ap (with_reads (n + m)) (sym (all_counted-append es fs a.counters));
+  log = Grew-more a.log b.log c.log es fs d.log e.log;
+}
+
+grew_none : (log : Option (List Event)) → Grew log log []
+grew_none None = tt
+grew_none (Some events) = sym (append-nil events)
+
+no_reads : (k : Counters) → k ≡ with_reads 0 k
+no_reads k = let e : k.reads ≡ k.reads + 0 = omega arith in rw (← e) refl
+
+pub did_none : (a : ChipView) → DidAndRead [] 0 a a
+did_none a = record { banks = refl; counters = no_reads a.counters; log = grew_none a.log }
+
+pub did_and_none : (es : List Event) (a b : ChipView) → Did es a b → DidAndRead es 0 a b
+did_and_none es a b d = record {
+  banks = d.banks;
+  counters = d.counters ∙ no_reads (all_counted es a.counters);
+  log = d.log;
+}
+
+-- none
+pub ran_none : (g : Geometry) (p : Program) (turn : Turn) (table : List Named) (a : ChipView)
+    → Ran g p turn turn table table [] a a
+ran_none g p turn table a = record { tables = refl; turns = refl; did = did_none a }
+
+-- one
+plus_none : (n : ℕ) → n ≡ n + 0
+plus_none n = omega arith
+
+pub ran_one : (g : Geometry) (p : Program) (turn turn' : Turn) (table table' : List Named)
+    (instr : Instruction) (a b : ChipView)
+    → table' ≡ table_after g (operations_in p) table instr
+    → turn' ≡ turn_behind g (operations_in p) turn table (piece_of instr)
+    → DidAndRead (piece_events g (operations_in p) turn table (piece_of instr))
+    (rows_if_done rows_printed g (operations_in p) table instr) a b
+    → Ran g p turn turn' table table' (instr ∷ []) a b
+ran_one g p turn turn' table table' instr a b e f d = record {
+  tables = e;
+  turns = f;
+  did = subst (λ n. DidAndRead (piece_events g (operations_in p) turn table (piece_of instr)
+      ++ [])
+      n a b) (plus_none _)
+      (subst (λ es. DidAndRead es (rows_if_done rows_printed g (operations_in p) table instr) a b)
+      (sym (append-nil (piece_events g (operations_in p) turn table (piece_of instr)))) d);
+}
+
+-- some, and then others
+pub ran_more : (g : Geometry) (p : Program) (t t' t'' : Turn) (T T' T'' : List Named)
+    (xs ys : List Instruction) (a b c : ChipView) → Ran g p t t' T T' xs a b
+    → Ran g p t' t'' T' T'' ys b c → Ran g p t t'' T T'' (xs ++ ys) a c
+ran_more g p t t' t'' T T' T'' xs ys a b c h k =
+    let o = operations_in p in
+    let ps = map piece_of xs in
+    let qs = map piece_of ys in
+    let on = pieces_go_on g o t T ps qs in
+    let es = events_of_pieces g o t T ps in
+    let turn = turn_at_end g o t T ps in
+    let turns : turn_at_end g o t T (map piece_of (xs ++ ys)) ≡ turn_at_end g o t' T' qs =
+    ap (turn_at_end g o t T) (map-append piece_of xs ys) ∙ on.turns
+    ∙ ap (λ u. turn_at_end g o turn (table_at_end g o T u) qs) (all_instrs xs)
+    ∙ ap (λ v. turn_at_end g o v (table_at_end g o T xs) qs) (sym h.turns)
+    ∙ ap (λ v. turn_at_end g o t' v qs) (sym h.tables) in
+    let events : events_of_pieces g o t T (map piece_of (xs ++ ys))
+    ≡ es ++ events_of_pieces g o t' T' qs =
+    ap (events_of_pieces g o t T) (map-append piece_of xs ys) ∙ on.events
+    ∙ ap (λ u. es ++ events_of_pieces g o turn (table_at_end g o T u) qs) (all_instrs xs)
+    ∙ ap (λ v. es ++ events_of_pieces g o v (table_at_end g o T xs) qs) (sym h.turns)
+    ∙ ap (λ v. es ++ events_of_pieces g o t' v qs) (sym h.tables) in
+    let reads : sum_done rows_printed g o T (xs ++ ys)
+    ≡ sum_done rows_printed g o T xs + sum_done rows_printed g o T' ys =
+    rows_append g o rows_printed T xs ys
+    ∙ ap (λ v. sum_done rows_printed g o T xs + sum_done rows_printed g o v ys) (sym h.tables) in
+    record {
+      tables = k.tables ∙ ap (λ v. table_at_end g o v ys) h.tables
+          ∙ sym (table_append g o T xs ys);
+      turns = k.turns ∙ sym turns;
+      did = subst (λ fs. DidAndRead fs (sum_done rows_printed g o T (xs ++ ys)) a c) (sym events)
+          (subst (λ n. DidAndRead (es ++ events_of_pieces g o t' T' qs) n a c) (sym reads)
+          (did_more _ _ _ _ a b c h.did k.did));
+    }
+
+-- Nothing is left to do where no bank has a command
+no_work : (a n : ℕ) → sum_by (λ bank. length (queues [] bank)) (range_with_len a n) ≡ 0
+no_work a zero = refl
+no_work a (suc n) = no_work (a + 1) n
+
+turn_stays : (banks : ℕ) (turn : Turn) → state_behind in_turn banks turn (queues []) ≡ turn
+turn_stays banks turn = ap (λ n. state_after in_turn banks n turn (queues [])) (no_work 0 banks)
+
+no_picks : (banks : ℕ) (turn : Turn)
+    → events_of_picks banks (whole_picks in_turn banks turn (queues [])) (queues []) ≡ []
+no_picks banks turn = ap (λ n. events_of_picks banks (picks in_turn banks n turn (queues []))
+    (queues [])) (no_work 0 banks)
+
+if_refused : {X : Type 0} (r : Option Why) (w : Why) (x y : X) → r ≡ Some w
+    → cond (is_none r) x y ≡ y
+if_refused None w x y e = cc
+if_refused (Some v) w x y e = refl
+
+refused_queues : (g : Geometry) (o : Operations) (table : List Named) (instr : Instruction)
+    (w : Why) → refusal g o table instr ≡ Some w
+    → wave_queues g o table (instr ∷ []) ≡ queues []
+refused_queues g o table instr w e = ap (λ xs. queues (map (job_of g o table) xs))
+    (if_refused (refusal g o table instr) w (instr ∷ []) [] e)
+
+refused_turn : (g : Geometry) (o : Operations) (turn : Turn) (table : List Named)
+    (instr : Instruction) (w : Why) → refusal g o table instr ≡ Some w
+    → turn_behind g o turn table (piece_of instr) ≡ turn
+refused_turn g o turn table (Bbop op dst srcs count n) w e =
+    ap (state_behind in_turn g.banks turn)
+    (refused_queues g o table (Bbop op dst srcs count n) w e) ∙ turn_stays g.banks turn
+refused_turn g o turn table (Init name count n) w e = refl
+refused_turn g o turn table (Load name values) w e = refl
+refused_turn g o turn table (Fill name value) w e = refl
+refused_turn g o turn table (Print name) w e = refl
+refused_turn g o turn table (Free name) w e = refl
+refused_turn g o turn table (Order order) w e = cc
+
+none_own : (g : Geometry) (o : Operations) (table : List Named) (instr : Instruction) (w : Why)
+    → refusal g o table instr ≡ Some w
+    → if_done (refusal g o table instr) (own_events g table instr) [] ≡ []
+none_own g o table instr w e =
+    if_some (refusal g o table instr) w (own_events g table instr) [] e
+
+refused_events : (g : Geometry) (o : Operations) (turn : Turn) (table : List Named)
+    (instr : Instruction) (w : Why) → refusal g o table instr ≡ Some w
+    → piece_events g o turn table (piece_of instr) ≡ []
+refused_events g o turn table (Bbop op dst srcs count n) w e =
+    ap (λ left. events_of_picks g.banks (whole_picks in_turn g.banks turn left) left)
+    (refused_queues g o table (Bbop op dst srcs count n) w e) ∙ no_picks g.banks turn
+refused_events g o turn table (Init name count n) w e = none_own g o table (Init name count n) w e
+refused_events g o turn table (Load name values) w e = none_own g o table (Load name values) w e
+refused_events g o turn table (Fill name value) w e = none_own g o table (Fill name value) w e
+refused_events g o turn table (Print name) w e = none_own g o table (Print name) w e
+refused_events g o turn table (Free name) w e = none_own g o table (Free name) w e
+refused_events g o turn table (Order order) w e = cc
+
+-- one that is refused is none
+pub ran_refused : (g : Geometry) (p : Program) (t t' : Turn) (T T' : List Named)
+    (instr : Instruction) (w : Why) (a b : ChipView) → Ran g p t t' T T' (instr ∷ []) a b
+    → refusal g (operations_in p) T instr ≡ Some w → Ran g p t t' T T' [] a b
+ran_refused g p t t' T T' instr w a b h e =
+    let o = operations_in p in
+    let events : events_of_pieces g o t T (map piece_of (instr ∷ [])) ≡ [] =
+    append-nil (piece_events g o t T (piece_of instr)) ∙ refused_events g o t T instr w e in
+    let rows : rows_if_done rows_printed g o T instr ≡ 0 =
+    if_refused (refusal g o T instr) w (rows_printed g T instr) 0 e in
+    let reads : sum_done rows_printed g o T (instr ∷ []) ≡ 0 = omega (arith, rows) in
+    record {
+      tables = h.tables ∙ if_some (refusal g o T instr) w (tabled g T instr) T e;
+      turns = h.turns ∙ refused_turn g o t T instr w e;
+      did = subst (λ es. DidAndRead es 0 a b) events
+          (subst (λ n. DidAndRead (events_of_pieces g o t T (map piece_of (instr ∷ []))) n a b)
+          reads h.did);
+    }

@@ -1,0 +1,25 @@
+use Rattle.std.proofs.Common.{◌≡◌, ◌∙◌, subst}
+use Rattle.std.specs.Prelude.{IfOk, OnOk}
+use Rattle.dram_model.specs.View.{Did}
+use Rattle.sim_machine.specs.Machine.{geometry_of, table_in}
+use Rattle.guard_model.specs.Votes.{vote_count, vote_events}
+use Rattle.tmr_guard.specs.Steps.{machine_in}
+use Rattle.tmr_guard.proofs.guards.Guard.vote.Goals as goal
+
+pub returns-clause-count : goal.returns-clause-count
+returns-clause-count g c =
+    let m = machine_in c.args.self.now in
+    let e : c.geometry.result ≡ geometry_of m = c.geometry.ensures ∙ c.requires.geometry in
+    subst (λ x. IfOk c.vote_all.result (λ aap. aap ≡ vote_count x (table_in m))) e
+    (subst (λ t. IfOk c.vote_all.result (λ aap. aap ≡ vote_count c.geometry.result t))
+    c.table.ensures.objects c.vote_all.ensures.count)
+
+pub returns-clause-did : goal.returns-clause-did
+returns-clause-did g c =
+    let m = machine_in c.args.self.now in
+    let V = g.D.Dram.view in
+    let e : c.geometry.result ≡ geometry_of m = c.geometry.ensures ∙ c.requires.geometry in
+    subst (λ x. OnOk c.vote_all.result (Did (vote_events x (table_in m)) (V c.args.dram.now)
+    (V c.vote_all.new.dram))) e
+    (subst (λ t. OnOk c.vote_all.result (Did (vote_events c.geometry.result t)
+    (V c.args.dram.now) (V c.vote_all.new.dram))) c.table.ensures.objects c.vote_all.ensures.did)

@@ -1,0 +1,40 @@
+use Rattle.std.proofs.Common.{◌≡◌, ◌≤◌, ◌*◌, ◌∙◌, arith, subst}
+use Rattle.std.specs.Prelude.{flat_map}
+use Rattle.std.specs.List.{range_with_len}
+use Rattle.std.proofs.lemmas.Bool.Decides.{nat_tests}
+use Rattle.dram_model.specs.Events.{row_events}
+use Rattle.dram_model.specs.View.{Did}
+use Rattle.dram_model.proofs.EventLaws.{Kept-more}
+use Rattle.machine_model.specs.Columns.{segments}
+use Rattle.guard_model.specs.Votes.{votes}
+use Rattle.object_steps.proofs.Filled.{next_bank}
+use Rattle.tmr_guard.proofs.votes.vote_triple.Goals as goal
+
+pub loop-bank-preserved : goal.loop-bank-preserved
+loop-bank-preserved g c =
+    let first = g.D.Dram.view c.args.dram.now in
+    let now = g.D.Dram.view c.loop-bank.dram in
+    let new = g.D.Dram.view c.vote_bank.new.dram in
+    let kept = c.loop-bank.invariant in
+    record {
+      borrow = c.in_ok-vote_bank.ensures.borrow ∙ kept.borrow;
+      kept = Kept-more first now new kept.kept c.in_ok-vote_bank.ensures.kept;
+      aap = omega (arith, c.in_ok-vote_bank.ensures.aap, c.requires.object.narrow, kept.aap);
+      did = next_bank (λ bank. row_events bank
+          (votes c.args.x.base c.args.y.base c.args.z.base 0 c.args.x.width)) c.loop-bank.bank
+          first now new kept.did c.in_ok-vote_bank.ensures.did;
+    }
+
+pub returns-clause-did : goal.returns-clause-did
+returns-clause-did g c =
+    let V = g.D.Dram.view in
+    let e : c.loop-bank.bank ≡ segments c.args.g c.args.x =
+    omega (
+      arith,
+      c.loop-bank-test.false,
+      c.loop-bank.auto.bank-end,
+      c.segments-banks.ensures.value,
+    ) in
+    subst (λ n. Did (flat_map (λ bank. row_events bank
+    (votes c.args.x.base c.args.y.base c.args.z.base 0 c.args.x.width)) (range_with_len 0 n))
+    (V c.args.dram.now) (V c.loop-bank.dram)) e c.loop-bank.invariant.did

@@ -1,0 +1,3 @@
+-- Guarded objects on a chip.
+pub mod Reading
+pub mod Steps

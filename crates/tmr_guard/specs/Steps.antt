@@ -1,0 +1,127 @@
+-- What plain instructions do to a machine and its chip, for the proofs of guarded steps.
+use Rattle.std.specs.Prelude.{◌≡◌, ℕ, ◌*◌, ◌<◌, ◌^◌, ◌++◌, Bool, true, false, List, [], ◌∷◌}
+use Rattle.std.specs.Prelude.{map, None, Result, Ok, Err}
+use Rattle.host_edge.specs.Views.{SinkView, Told, AppendsPart}
+use Rattle.fault_counts.specs.Counts.{Rose}
+use Rattle.dram_model.specs.declared.geometry.Geometry.{Geometry}
+use Rattle.dram_model.specs.declared.dram.Counters.{Counters}
+use Rattle.dram_model.specs.Chip.{Banks, Event}
+use Rattle.dram_model.specs.View.{ChipView}
+use Rattle.wave_model.specs.Schedule.{Turn}
+use Rattle.object_alloc.specs.Listed.{Named}
+use Rattle.bbop_isa.specs.Forms.{Instruction}
+use Rattle.bbop_isa.specs.Forms.{Init, Bbop, Load, Fill, Print, Free, Order}
+use Rattle.machine_model.specs.declared.Reply.{Reply}
+use Rattle.uprog_code.specs.declared.TheConstants.{WALK_MAX}
+use Rattle.machine_model.specs.Operations.{Program, operations_in}
+use Rattle.machine_model.specs.Steps.{reply_to}
+use Rattle.object_steps.specs.Objects.{RisesAtMost}
+use Rattle.object_steps.specs.declared.fault.StepFault.{StepFault}
+use Rattle.object_steps.specs.declared.fault.StepFault.TheVariants.{ChipFault, WriteFault}
+use Rattle.machine_model.specs.Pieces.{piece_of, events_of_pieces, turn_at_end}
+use Rattle.machine_model.specs.Report.{line}
+use Rattle.machine_model.specs.Script.{table_at_end, sum_done, rows_printed}
+use Rattle.sim_machine.specs.declared.machine.Machine.{Machine}
+use Rattle.sim_machine.specs.Machine.{geometry_of, is_print, operations_by, program_of}
+use Rattle.sim_machine.specs.Machine.{table_in, turn_in}
+use Rattle.sim_machine.specs.Steps.{DidAndRead}
+use Rattle.guard_model.specs.Guarded.{guarded_reply, guarded_table, guarded_turn, guarded_events}
+use Rattle.guard_model.specs.Guarded.{guarded_reads, guarded_said_by, plain_script}
+use Rattle.tmr_guard.specs.declared.guards.Guard.{Guard}
+
+-- the machine that does a guard's plain instructions
+abbrev pub machine_in : Guard → Machine
+machine_in guard = guard.machine
+
+-- a sink that tells nothing and counts no fault
+abbrev pub unseen : SinkView
+unseen = record { sent = None; faults = 0 }
+
+abbrev pub is_load : Instruction → Bool
+is_load (Load name values) = true
+is_load (Init name count n) = false
+is_load (Bbop op dst srcs count n) = false
+is_load (Fill name value) = false
+is_load (Print name) = false
+is_load (Free name) = false
+is_load (Order order) = false
+
+-- a guard's reply to an instruction, its table, order in force and events, and the line
+abbrev pub reply_by : Machine → Instruction → Reply
+reply_by m instr = guarded_reply (geometry_of m) (operations_by m) (table_in m) instr
+
+abbrev pub table_by : Machine → Instruction → List Named
+table_by m instr = guarded_table (geometry_of m) (operations_by m) (table_in m) instr
+
+abbrev pub turn_by : Machine → Instruction → Turn
+turn_by m instr =
+    guarded_turn (geometry_of m) (operations_by m) (turn_in m) (table_in m) instr
+
+abbrev pub events_by : Machine → Instruction → List Event
+events_by m instr =
+    guarded_events (geometry_of m) (operations_by m) (turn_in m) (table_in m) instr
+
+abbrev pub reads_by : Machine → Instruction → ℕ
+reads_by m instr = guarded_reads (geometry_of m) (operations_by m) (table_in m) instr
+
+abbrev pub line_by : Machine → ℕ → Banks → Instruction → List ℕ
+line_by m number banks instr =
+    line number (guarded_said_by (geometry_of m) (operations_by m) (table_in m) banks instr)
+
+-- the plain script that it comes to
+abbrev pub script_by : Machine → Instruction → List Instruction
+script_by m instr = plain_script (geometry_of m) (operations_by m) (table_in m) instr
+
+-- these plain instructions of a program were done one after another, a bbop as a wave of one
+pub record Ran (g : Geometry) (p : Program) (turn turn' : Turn) (table table' : List Named)
+    (script : List Instruction) (chip chip' : ChipView) : Type 0 where
+  pub tables : table' ≡ table_at_end g (operations_in p) table script
+  pub turns : turn' ≡ turn_at_end g (operations_in p) turn table (map piece_of script)
+  pub did : DidAndRead (events_of_pieces g (operations_in p) turn table (map piece_of script))
+      (sum_done rows_printed g (operations_in p) table script) chip chip'
+
+-- so it was on a machine
+abbrev pub RanBy : Machine → Machine → List Instruction → ChipView → ChipView → Type 0
+RanBy old new script chip chip' = Ran (geometry_of old) (program_of old) (turn_in old)
+    (turn_in new) (table_in old) (table_in new) script chip chip'
+
+-- one of them was done, and this is its reply
+pub record One (g : Geometry) (p : Program) (turn turn' : Turn) (table table' : List Named)
+    (instr : Instruction) (reply : Reply) (chip chip' : ChipView) : Type 0 where
+  pub ran : Ran g p turn turn' table table' (instr ∷ []) chip chip'
+  pub answer : reply ≡ reply_to g (operations_in p) table instr
+
+abbrev pub DidOne : Machine → Machine → Instruction → Reply → ChipView → ChipView → Type 0
+DidOne old new instr reply chip chip' = One (geometry_of old) (program_of old) (turn_in old)
+    (turn_in new) (table_in old) (table_in new) instr reply chip chip'
+
+-- each counter is below 2^61
+pub record HasMoreRoom (counters : Counters) : Type 0 where
+  pub aap : counters.aap < 2 ^ 61
+  pub ap : counters.ap < 2 ^ 61
+  pub writes : counters.writes < 2 ^ 61
+  pub reads : counters.reads < 2 ^ 61
+
+-- a guarded instruction was done, and its line was put
+pub record Guarded (old new : Machine) (number : ℕ) (instr : Instruction) (chip chip' : ChipView)
+    (sink sink' : SinkView) (reply : Reply) : Type 0 where
+  pub answer : reply ≡ reply_by old instr
+  pub ran : RanBy old new (script_by old instr) chip chip'
+  pub rises : RisesAtMost (80 * WALK_MAX) chip.counters chip'.counters
+  pub sent : Told (λ before after. after ≡ before ++ line_by old number chip.banks instr)
+      sink.sent sink'.sent
+
+-- a count of faults rose, and of no line but a print's a part was put where that is the chip's
+pub record Broke (old : Machine) (number : ℕ) (instr : Instruction) (chip chip' : ChipView)
+    (sink sink' : SinkView) (fault : StepFault) : Type 0 where
+  pub chip_rose : fault ≡ ChipFault → Rose chip.faults chip'.faults
+  pub sink_rose : fault ≡ WriteFault → Rose sink.faults sink'.faults
+  pub unsent : fault ≡ ChipFault → is_print instr ≡ false → sink' ≡ sink
+  pub part : Told (AppendsPart (line_by old number chip.banks instr)) sink.sent sink'.sent
+
+abbrev pub Came : Machine → Machine → ℕ → Instruction → ChipView → ChipView → SinkView → SinkView
+    → Result Reply StepFault → Type 0
+Came old new number instr chip chip' sink sink' (Ok reply) =
+    Guarded old new number instr chip chip' sink sink' reply
+Came old new number instr chip chip' sink sink' (Err fault) =
+    Broke old number instr chip chip' sink sink' fault
