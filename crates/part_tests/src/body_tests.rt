@@ -13,7 +13,7 @@ use std::process::Abort;
 use std::test::Fail;
 
 /// One bank of 64 columns.
-const SMALL: Geometry = Geometry {
+pub(crate) const SMALL: Geometry = Geometry {
     banks: 1,
     rows: 64,
     words: 1,
@@ -40,7 +40,7 @@ fn command_of(cmd: BodyCmd) -> Command {
 }
 
 /// The word of a row.
-fn row_of<D: Dram>(chip: &mut D, row: u16) -> Result<u64, Fail>
+pub(crate) fn row_of<D: Dram>(chip: &mut D, row: u16) -> Result<u64, Fail>
     requires begun { HasBegun (D.view chip.old) }
     requires geometry { (D.view chip.old).geometry ≡ SMALL }
     requires row { row < 64 }

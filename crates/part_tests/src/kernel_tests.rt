@@ -4,7 +4,7 @@ use bit_rows::{bit_of_word, majority, sense3, settle3, store, store_not, turn};
 use std::test::*;
 
 /// Word n of the SplitMix64 generator with the seed 1.
-fn word(n: u64) -> u64 {
+pub(crate) fn word(n: u64) -> u64 {
     let x = n
         .wrapping_add(1)
         .wrapping_mul(0x9e37_79b9_7f4a_7c15)

@@ -12,6 +12,8 @@ mod decode_tests;
 #[cfg(test)]
 mod edge_tests;
 #[cfg(test)]
+mod graph_tests;
+#[cfg(test)]
 mod kernel_tests;
 #[cfg(test)]
 mod object_tests;
