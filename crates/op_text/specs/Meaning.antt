@@ -12,7 +12,7 @@ use Rattle.op_text.specs.Language.{Term, Nought, Unity, Named, Negation, Conjunc
 use Rattle.op_text.specs.Language.{Parity, Majority, Equation, Block, Statement, Compute, Visit}
 use Rattle.op_text.specs.Language.{Operation, result_names}
 use Rattle.op_text.specs.Values.{value, bits, differ, majority, op_value, second_value}
-use Rattle.op_text.specs.WordOps.{forms, filled, second_kind}
+use Rattle.op_text.specs.WordOps.{forms, filled, second_gives}
 
 -- the value of an expression, where its names have these values
 abbrev pub term_bit : (List ℕ → Bool) → Term → Bool
@@ -114,8 +114,7 @@ computed n p args =
 -- what the second target is given, where there is one
 abbrev pub second_computed : ℕ → WordOp → List Held → Held
 second_computed n p args =
-    holding n (unwrap_or (second_kind p) Word)
-    (second_value p (args_width n args) (map number args))
+    holding n (second_gives p) (second_value p (args_width n args) (map number args))
 
 -- the names, but the second target, if there is one, now has this value
 abbrev pub with_second : (List ℕ → Held) → Option (List ℕ) → Held → List ℕ → Held

@@ -31,7 +31,7 @@ use Rattle.op_text.specs.declared.grammar.Wanted.TheVariants.{Lets, LetName, Let
 use Rattle.op_text.specs.declared.grammar.Wanted.TheVariants.{More, NewTarget}
 use Rattle.op_text.specs.Grammar.{follow}
 use Rattle.op_text.specs.WordOps.{forms, op_named, lacks, is_begun, is_part, is_whole, filled}
-use Rattle.op_text.specs.WordOps.{same_kind, second_kind}
+use Rattle.op_text.specs.WordOps.{same_kind, second_kind, second_gives}
 
 -- the limits
 abbrev pub MAX_OPS : ℕ
@@ -270,9 +270,9 @@ no_more_arguments s =
     why.Kind (Ok s)
 
 -- a second target with its kind, if there is one
-abbrev pub second_of : Option (List ℕ) → Option Kind → List Param
-second_of (Some name) (Some k) = record { name = name; kind = k } ∷ []
-second_of name k = []
+abbrev pub second_of : Option (List ℕ) → WordOp → List Param
+second_of None p = []
+second_of (Some name) p = record { name = name; kind = second_gives p } ∷ []
 
 -- a result of another kind than this
 abbrev pub is_other_result : Scope → Param → Bool
@@ -297,7 +297,7 @@ gives_kind s target None = Err why.Kind
 gives_kind s None (Some k) = Ok s
 gives_kind s (Some target) (Some k) =
     defines_targets s (record { name = target; kind = k }
-    ∷ second_of s.word.second (second_kind s.word.operation))
+    ∷ second_of s.word.second s.word.operation)
 
 abbrev pub word_end : Scope → Result Scope OpsKind
 word_end s = gives_kind s s.naming (filled (forms s.word.operation) s.word.given)

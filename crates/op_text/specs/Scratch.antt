@@ -10,7 +10,7 @@ use Rattle.op_text.specs.Language.{Term, Nought, Unity, Named, Negation, Conjunc
 use Rattle.op_text.specs.Language.{Parity, Majority, Equation, Block, Statement, Compute, Visit}
 use Rattle.op_text.specs.Language.{Operation, result_names}
 use Rattle.op_text.specs.Rules.{is_among, kind_among, second_of}
-use Rattle.op_text.specs.WordOps.{forms, given_first, same_kind, second_kind}
+use Rattle.op_text.specs.WordOps.{forms, given_first, same_kind}
 use Rattle.op_text.specs.Meaning.{width}
 
 -- the internal scratch of one statement of an operation
@@ -88,7 +88,7 @@ word_names block = filter (λ n. not (is_among (state_names block) n))
 -- the names that a statement defines, results among them
 abbrev pub defines : List Param → Statement → List Param
 defines known (Compute target second p args) =
-    param target (result_kind known p args) ∷ second_of second (second_kind p)
+    param target (result_kind known p args) ∷ second_of second p
 defines known (Visit block) = map (λ n. param n Bit) (state_names block)
     ++ map (λ n. param n Word) (word_names block)
 

@@ -1,6 +1,6 @@
 -- The word operations: how they are spelled, what they take and give.
 use Rattle.std.specs.Prelude.{◌≡◌, ℕ, List, [], ◌∷◌, ◌++◌, Bool, true, false, Option, Some, None}
-use Rattle.std.specs.Prelude.{bytes_eq, codes, if◌then◌else◌}
+use Rattle.std.specs.Prelude.{bytes_eq, codes, unwrap_or, if◌then◌else◌}
 use Rattle.std.specs.List.{list_any}
 use Rattle.op_text.specs.declared.tree.Kind.{Kind}
 use Rattle.op_text.specs.declared.tree.Kind.TheVariants.{Word, Bit}
@@ -108,6 +108,10 @@ forms o.Divmod = words_to Word
 abbrev pub second_kind : WordOp → Option Kind
 second_kind o.Divmod = Some Word
 second_kind p = None
+
+-- the kind of a second target, a word where the operation has no second result
+abbrev pub second_gives : WordOp → Kind
+second_gives p = unwrap_or (second_kind p) Word
 
 abbrev pub same_kind : Kind → Kind → Bool
 same_kind Word Word = true
