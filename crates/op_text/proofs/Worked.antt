@@ -79,6 +79,10 @@ reductions : Gives o.AndRed 4 (one 15 ∷ one 14 ∷ []) (1 ∷ 0 ∷ [])
     × Gives o.OrRed 4 (one 0 ∷ one 8 ∷ []) (0 ∷ 1 ∷ [])
 reductions = (refl, refl)
 
+divmod_is_both : (n a b : ℕ) → (op_value o.Divmod n (two a b) ≡ op_value o.Div n (two a b))
+    × (second_value o.Divmod n (two a b) ≡ op_value o.Rem n (two a b))
+divmod_is_both n a b = (refl, refl)
+
 -- the numbers that two targets are given
 both_values : (map (second_value o.Divmod 8) (two 255 7 ∷ two 7 0 ∷ []) ≡ 3 ∷ 7 ∷ [])
     × Gives o.Divmod 8 (two 255 7 ∷ two 7 0 ∷ []) (36 ∷ 255 ∷ [])
