@@ -1,6 +1,6 @@
 use Rattle.std.proofs.Common.{[], ◌∷◌}
 use Rattle.op_text.specs.declared.grammar.Wanted.TheVariants as w
-use Rattle.op_lang.proofs.Taking.{exits, continues}
+use Rattle.op_lang.proofs.Taking.{exits}
 use Rattle.op_lang.proofs.parse.outcome.Goals as goal
 
 pub returns-in_err-mark-clause-moves : goal.returns-in_err-mark-clause-moves
