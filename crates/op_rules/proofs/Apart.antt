@@ -1,22 +1,26 @@
 -- No name of an op stands twice.
 use Rattle.std.proofs.Common.{◌≡◌, ℕ, Bool, true, false, not, List, [], ◌∷◌, ◌++◌, Option, Some}
+use Rattle.std.proofs.Common.{None, ap}
+use Rattle.std.specs.Option.{option_to_list}
 use Rattle.std.proofs.Common.{refl, sym, ◌∙◌, append_assoc, append-nil, bytes_eq, cond, subst}
 use Rattle.std.specs.List.{filter}
 use Rattle.op_text.specs.declared.tree.Kind.{Kind}
 use Rattle.op_text.specs.declared.tree.Kind.TheVariants.{Word, Bit}
 use Rattle.op_text.specs.declared.tree.Param.{Param}
-use Rattle.op_text.specs.Rules.{is_among, kind_among}
+use Rattle.op_text.specs.WordOps.{second_kind}
+use Rattle.op_text.specs.Rules.{is_among, kind_among, is_known}
 use Rattle.op_text.specs.Language.{Statement, Compute, Visit}
-use Rattle.op_text.specs.Scratch.{defines, body_defines, state_names, word_names}
+use Rattle.op_text.specs.Scratch.{kind_of, defines, body_defines, state_names, word_names}
 use Rattle.op_text.specs.Spelling.{Each}
 use Rattle.op_rules.specs.Meets.{IsNew, IsNewOf, Differ, Context, used, names_of, let_names}
-use Rattle.op_rules.specs.Meets.{targets, behind, at_start, StatementMeets, BodyMeets}
-use Rattle.op_rules.specs.Laws.{NamesStandOnce}
-use Rattle.op_rules.proofs.Names.{is_same, turned, new-left, new-append, each_map, each_both}
+use Rattle.op_rules.specs.Meets.{targets, behind, at_start, StatementMeets, BodyMeets, IsKnown}
+use Rattle.op_rules.specs.Laws.{NamesStandOnce, TargetsAreApart}
+use Rattle.op_rules.proofs.Names.{same_name, turned, new-left, new-append, each_map}
 use Rattle.op_rules.proofs.Names.{others_new, or_first, or_second, or_both}
 use Rattle.op_rules.proofs.Standing.{names-append}
-use Rattle.op_rules.proofs.Blocks.{block_names}
-use Rattle.op_rules.proofs.Ops.{each_append}
+use Rattle.op_rules.proofs.Blocks.{block_names, no_other, not_both}
+use Rattle.op_rules.proofs.Fitting.{known-among, found_each}
+use Rattle.op_rules.proofs.Ops.{each_append, second_facts}
 
 differ-append : (xs ys : List (List ℕ)) → Differ xs → Differ ys → Each (IsNew xs) ys
     → Differ (xs ++ ys)
@@ -67,19 +71,24 @@ pub record Apart (known : List (List ℕ)) (names : List (List ℕ)) : Type 0 wh
   pub differ : Differ names
   pub new : Each (IsNew known) names
 
-new_names : (names used : List (List ℕ)) (r : Param) (k : Kind) (ns : List (List ℕ))
-    → Each (IsNewOf (names ++ used) r k) ns → Each (IsNew names) ns
-new_names names used r k ns h = each_map (IsNewOf (names ++ used) r k) (IsNew names) (λ n f.
-    new-left names used n f.new) ns h
+new_names : (names lets : List (List ℕ)) (rs : List Param) (k : Kind) (ns : List (List ℕ))
+    → Each (IsNewOf (names ++ lets) rs k) ns → Each (IsNew names) ns
+new_names names lets rs k ns h = each_map (IsNewOf (names ++ lets) rs k) (IsNew names) (λ n f.
+    new-left names lets n f.new) ns h
 
 pub statement_apart : (st : Statement) (c : Context) → StatementMeets c st
     → Apart (names_of c.known) (names_of (defines c.known st))
-statement_apart (Compute target p args) c h =
+statement_apart (Compute target None p args) c h = record {
+  differ = (refl, tt);
+  new = (new-left (names_of c.known) c.lets target h.gives.new, tt);
+}
+statement_apart (Compute target (Some n) p args) c h =
+    let m = second_facts c target n (second_kind p) h.others in
     record {
-      differ = (refl, tt);
+      differ = (or_both (bytes_eq n target) false (turned n target ∙ m.other) refl, (refl, tt));
       new = (
         new-left (names_of c.known) c.lets target h.gives.new,
-        tt,
+        (new-left (names_of c.known) c.lets n m.gives.new, tt),
       );
     }
 statement_apart (Visit b) c h =
@@ -88,13 +97,13 @@ statement_apart (Visit b) c h =
     let other : Each (IsNew S) W = each_map (λ n. not (is_among S n) ≡ true) (IsNew S) (λ n k.
     not_true (is_among S n) k) W (filter_each (λ n. not (is_among S n)) (targets b)) in
     let words =
-    each_map (IsNewOf (used c ++ let_names b) c.result Word) (IsNew (names_of c.known)) (λ n f.
+    each_map (IsNewOf (used c ++ let_names b) c.results Word) (IsNew (names_of c.known)) (λ n f.
     new-left (names_of c.known) c.lets n (new-left (used c) (let_names b) n f.new)) W h.words in
     let a : Apart (names_of c.known) (S ++ W) = record {
       differ = differ-append S W h.states_differ
           (filter_differ (λ n. not (is_among S n)) (targets b) h.targets_differ) other;
       new = each_append (IsNew (names_of c.known)) S W
-          (new_names (names_of c.known) c.lets c.result Bit S h.states) words;
+          (new_names (names_of c.known) c.lets c.results Bit S h.states) words;
     } in
     subst (λ (l : List (List ℕ)). Apart (names_of c.known) l) (sym (block_names S W)) a
 
@@ -111,32 +120,35 @@ body_apart (st ∷ body) c d h =
     (body_defines (c.known ++ defines c.known st) body))
     (body_apart body (behind c st) more h.1)
 
-others_apart : (n : List ℕ) (ps : List Param) → IsNew (names_of ps) n
-    → Each (λ (p : Param). bytes_eq n p.name ≡ false) ps
-others_apart n [] h = tt
-others_apart n (p ∷ ps) h = (
-  turned n p.name ∙ or_first (bytes_eq p.name n) (is_among (names_of ps) n) h,
-  others_apart n ps (or_second (bytes_eq p.name n) (is_among (names_of ps) n) h),
-)
+-- a name that is known is among the names
+pub is_named : (known : List Param) (n : List ℕ) (k : Kind) → kind_among known n ≡ Some k
+    → is_among (names_of known) n ≡ true
+is_named known n k h = sym (known-among known n) ∙ ap is_known h
 
-skips : (b : Bool) (k : Kind) (x y : Option Kind) → b ≡ false → x ≡ y → cond b (Some k) x ≡ y
-skips true k x y e h = cc
-skips false k x y e h = h
+no_argument : (known : List Param) (n : List ℕ) → IsNew (names_of known) n
+    → (args : List (List ℕ)) → Each (IsKnown known) args → IsNew args n
+no_argument known n f [] h = refl
+no_argument known n f (a ∷ args) h =
+    or_both (bytes_eq a n) (is_among args n) (no_other (bytes_eq a n) (λ q.
+    not_both (is_among (names_of known) a) (is_named known a (kind_of known a) h.0)
+    (ap (is_among (names_of known)) (same_name a n q) ∙ f))) (no_argument known n f args h.1)
 
-takes : (b : Bool) (k : Kind) (x : Option Kind) → b ≡ true → cond b (Some k) x ≡ Some k
-takes true k x e = refl
-takes false k x e = cc
-
-found_each : (ps : List Param) → Differ (names_of ps)
-    → Each (λ (p : Param). kind_among ps p.name ≡ Some p.kind) ps
-found_each [] h = tt
-found_each (p ∷ ps) h = (
-  takes (bytes_eq p.name p.name) p.kind (kind_among ps p.name) (is_same p.name p.name refl),
-  each_both (λ (q : Param). bytes_eq p.name q.name ≡ false) (λ (q : Param). kind_among ps q.name
-      ≡ Some q.kind) (λ (q : Param). kind_among (p ∷ ps) q.name ≡ Some q.kind)
-      (λ q e f. skips (bytes_eq p.name q.name) p.kind (kind_among ps q.name) (Some q.kind) e f) ps
-      (others_apart p.name ps h.0) (found_each ps h.1),
-)
+pub targets_are_apart : TargetsAreApart
+targets_are_apart c target second p args h =
+    both second (statement_apart (Compute target second p args) c h)
+  where
+    both : (second : Option (List ℕ)) → Apart (names_of c.known) (names_of
+        (defines c.known (Compute target second p args)))
+        → Differ (target ∷ option_to_list second)
+        × Each (IsNew args) (target ∷ option_to_list second)
+    both None a = (a.differ, (no_argument c.known target a.new.0 args h.known, tt))
+    both (Some n) a = (
+      a.differ,
+      (
+        no_argument c.known target a.new.0 args h.known,
+        (no_argument c.known n a.new.1.0 args h.known, tt),
+      ),
+    )
 
 pub names_stand_once : NamesStandOnce
 names_stand_once op h =

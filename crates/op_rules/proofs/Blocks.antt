@@ -2,7 +2,7 @@
 use Rattle.std.proofs.Common.{◌≡◌, ℕ, ◌+◌, Bool, true, false, not, ◌||◌, ◌&&◌, nat_le, List, []}
 use Rattle.std.proofs.Common.{◌∷◌, ◌++◌, map, length, arith, None, refl, sym, ap, ◌∙◌, codes, subst}
 use Rattle.std.proofs.Common.{append_assoc, append-nil, bytes_eq, cond}
-use Rattle.std.specs.List.{filter, list_any}
+use Rattle.std.specs.List.{filter}
 use Rattle.text_lex.specs.Lexical.{Item}
 use Rattle.op_text.specs.declared.fault.OpsKind.TheVariants as why
 use Rattle.op_text.specs.declared.tree.Kind.{Kind}
@@ -11,8 +11,7 @@ use Rattle.op_text.specs.declared.tree.Param.{Param}
 use Rattle.op_text.specs.declared.grammar.Wanted.{Wanted}
 use Rattle.op_text.specs.declared.grammar.Wanted.TheVariants.{Stmts, Direction, Open, States, Begin}
 use Rattle.op_text.specs.declared.grammar.Wanted.TheVariants.{Lets}
-use Rattle.op_text.specs.WordOps.{same_kind}
-use Rattle.op_text.specs.Rules.{Scope, breach_of, is_among}
+use Rattle.op_text.specs.Rules.{Scope, breach_of, is_among, kind_among, is_known}
 use Rattle.op_text.specs.Language.{Block, Visit}
 use Rattle.op_text.specs.Scratch.{param, state_names, word_names}
 use Rattle.op_text.specs.Spelling.{items_spelled, direction_text, between_commas, in_turn}
@@ -20,7 +19,8 @@ use Rattle.op_text.specs.Spelling.{state_text, let_text, equation_text, statemen
 use Rattle.op_text.specs.Spelling.{HasStatement}
 use Rattle.op_rules.specs.Meets.{IsGood, IsNew, IsNewOf, IsNewLet, Context, used, names_of}
 use Rattle.op_rules.specs.Meets.{let_names}
-use Rattle.op_rules.proofs.Names.{is_same, same_name, turned, among-append, or_first, or_second}
+use Rattle.op_rules.proofs.Names.{same_name, among-append, or_first, or_second}
+use Rattle.op_rules.proofs.Fitting.{known-among, word_fits}
 use Rattle.op_rules.proofs.Names.{or_both, each_both, fresh-new, fresh-differ}
 use Rattle.op_rules.proofs.Tokens.{goes, name_lexeme, one_rule, le_no}
 use Rattle.op_rules.proofs.Standing.{Standing, given-at, standing-more, names-append, more_context}
@@ -54,20 +54,11 @@ target_new st u r s t d g e f k z h =
     cases false false true d f k h = cc
     cases false false false d f k h = refl
 
-is_word : (r b s : Bool) → s ≡ false → ((r && b) && not s) ≡ false → r ≡ true → b ≡ false
-is_word true true s z h q = let e = sym (ap not z) ∙ h in cc
-is_word true false s z h q = refl
-is_word false b s z h q = cc
-
-word_kind : (k : Kind) → same_kind k Bit ≡ false → Word ≡ k
-word_kind Word h = refl
-word_kind Bit h = cc
-
-no_other : (b : Bool) → (b ≡ true → ⊥) → b ≡ false
+pub no_other : (b : Bool) → (b ≡ true → ⊥) → b ≡ false
 no_other true f = absurd (f refl)
 no_other false f = refl
 
-not_both : (b : Bool) → b ≡ true → b ≡ false → ⊥
+pub not_both : (b : Bool) → b ≡ true → b ≡ false → ⊥
 not_both true g h = cc
 not_both false g h = cc
 
@@ -89,12 +80,6 @@ each_filter q P (n ∷ ns) h = chosen (q n) (λ e. h.0 e) (each_filter q P ns h.
         → Each P (cond (not b) (n ∷ filter (λ n. not (q n)) ns) (filter (λ n. not (q n)) ns))
     chosen true f r = r
     chosen false f r = (f refl, r)
-
-any_turned : (r : List ℕ) (names : List (List ℕ))
-    → list_any (λ n. bytes_eq r n) names ≡ is_among names r
-any_turned r [] = refl
-any_turned r (n ∷ names) = ap (λ b. b || list_any (λ n. bytes_eq r n) names) (turned r n)
-    ∙ ap (λ b. bytes_eq n r || b) (any_turned r names)
 
 names_of-param : (k : Kind) (ns : List (List ℕ)) → names_of (map (λ n. param n k) ns) ≡ ns
 names_of-param k [] = refl
@@ -123,75 +108,64 @@ pub or_left : (a b : Bool) → a ≡ true → (a || b) ≡ true
 or_left true b h = refl
 or_left false b h = cc
 
-or_grouped : (a b c : Bool) → ((a || b) || c) ≡ (a || (b || c))
-or_grouped true b c = refl
-or_grouped false b c = refl
+-- no let is a result
+pub lets_other : {stands : List (List ℕ)} {c : Context} → Standing stands c → (S T : List (List ℕ))
+    → Each (IsNew (stands ++ S)) T
+    → (n : List ℕ) → is_known (kind_among c.results n) ≡ true → IsNew T n
+lets_other {stands} {c} st S T h n q =
+    not_among (stands ++ S) T h n (among-append stands S n
+    ∙ or_left (is_among stands n) (is_among S n) (st.all n
+    ∙ or_true (is_among (used c) n) (is_known (kind_among c.results n)) q))
 
--- no let is the result
-pub lets_other : {stands : List (List ℕ)} {c : Context} {assigned : Bool}
-    → Standing stands c assigned → (S T : List (List ℕ)) → Each (IsNew (stands ++ S)) T
-    → IsNew T c.result.name
-lets_other {stands} {c} st S T h =
-    let r = c.result.name in
-    not_among (stands ++ S) T h r (among-append stands S r
-    ∙ or_left (is_among stands r) (is_among S r) (st.all r
-    ∙ or_true (is_among (used c) r) (bytes_eq r r) (is_same r r refl)))
-
-pub block_standing : {stands : List (List ℕ)} {c : Context} {assigned : Bool}
-    → Standing stands c assigned → (S T W : List (List ℕ)) → Each (IsNew (stands ++ S)) T
+pub block_standing : {stands : List (List ℕ)} {c : Context} → Standing stands c
+    → (S T W : List (List ℕ)) → Each (IsNew (stands ++ S)) T
     → Standing (((stands ++ S) ++ T) ++ W) (more_context c (map (λ n. param n Bit) S
-    ++ map (λ n. param n Word) W) T) ((assigned || list_any (λ n. bytes_eq c.result.name n) S)
-    || list_any (λ n. bytes_eq c.result.name n) W)
-block_standing {stands} {c} {assigned} st S T W h =
-    let r = c.result.name in
+    ++ map (λ n. param n Word) W) T)
+block_standing {stands} {c} st S T W h =
     let ds = map (λ n. param n Bit) S ++ map (λ n. param n Word) W in
     let e : (n : List ℕ) → is_among (names_of ds) n ≡ (is_among S n || is_among W n) =
     λ n. ap (λ l. is_among l n) (block_names S W) ∙ among-append S W n in
-    standing-more st ds T (((stands ++ S) ++ T) ++ W) _
+    standing-more st ds T (((stands ++ S) ++ T) ++ W)
     (λ n. among-append ((stands ++ S) ++ T) W n
     ∙ ap (λ x. x || is_among W n) (among-append (stands ++ S) T n
     ∙ ap (λ x. x || is_among T n) (among-append stands S n))
     ∙ turned_names (is_among stands n) (is_among S n) (is_among T n) (is_among W n)
     ∙ ap (λ x. is_among stands n || (x || is_among T n)) (sym (e n)))
     (lets_other st S T h)
-    (ap (λ x. (assigned || x) || list_any (λ n. bytes_eq r n) W) (any_turned r S)
-    ∙ ap (λ x. (assigned || is_among S r) || x) (any_turned r W)
-    ∙ or_grouped assigned (is_among S r) (is_among W r) ∙ ap (λ x. assigned || x) (sym (e r)))
 
-let_facts : {stands : List (List ℕ)} {c : Context} {assigned : Bool} → Standing stands c assigned
+let_facts : {stands : List (List ℕ)} {c : Context} → Standing stands c
     → (S : List (List ℕ)) (n : List ℕ) → IsGood n → IsNew (stands ++ S) n
-    → IsNewLet (used c ++ S) c.result n
+    → IsNewLet (used c ++ S) c.results n
 let_facts {stands} {c} st S n g h =
     let k = sym (among-append stands S n ∙ ap (λ x. x || is_among S n) (st.all n)) ∙ h in
-    let i = or_first (is_among (used c) n || bytes_eq c.result.name n) (is_among S n) k in
+    let r = is_known (kind_among c.results n) in
+    let i = or_first (is_among (used c) n || r) (is_among S n) k in
     record {
       good = g;
       new = among-append (used c) S n ∙ or_both (is_among (used c) n) (is_among S n)
-          (or_first (is_among (used c) n) (bytes_eq c.result.name n) i)
-          (or_second (is_among (used c) n || bytes_eq c.result.name n) (is_among S n) k);
-      other = or_second (is_among (used c) n) (bytes_eq c.result.name n) i;
+          (or_first (is_among (used c) n) r i)
+          (or_second (is_among (used c) n || r) (is_among S n) k);
+      other = sym (known-among c.results n) ∙ or_second (is_among (used c) n) r i;
     }
 
-target_facts : {stands : List (List ℕ)} {c : Context} {assigned : Bool} → Standing stands c assigned
+target_facts : {stands : List (List ℕ)} {c : Context} → Standing stands c
     → (ops : List (List ℕ)) (count : ℕ) (S T : List (List ℕ)) → Each (IsNew (stands ++ S)) T
     → (lets : ℕ) (done : List (List ℕ)) (weight : ℕ) (n : List ℕ)
-    → TargetFacts (in_lines (before_block ops stands c assigned count) ((stands ++ S) ++ T) S (S
+    → TargetFacts (in_lines (before_block ops stands c count) ((stands ++ S) ++ T) S (S
     ++ T) lets done weight) n
-    → is_among S n ≡ false → IsNewOf (used c ++ T) c.result Word n
-target_facts {stands} {c} {assigned} st ops count S T h lets done weight n f z =
-    let r = bytes_eq c.result.name n in
+    → is_among S n ≡ false → IsNewOf (used c ++ T) c.results Word n
+target_facts {stands} {c} st ops count S T h lets done weight n f z =
+    let o = kind_among c.results n in
     let e =
     among-append (stands ++ S) T n ∙ ap (λ x. x || is_among T n) (among-append stands S n
     ∙ ap (λ x. x || is_among S n) (st.all n)) in
-    let other : r ≡ true → is_among T n ≡ false =
-    λ q. ap (is_among T) (sym (same_name c.result.name n q)) ∙ lets_other st S T h in
     record {
       good = f.good;
       new = among-append (used c) T n ∙ target_new (is_among ((stands ++ S) ++ T) n)
-          (is_among (used c) n) r (is_among S n) (is_among T n) assigned (is_among done n) e
-          (given-at st n) other z f.free;
-      fits = λ q. word_kind c.result.kind (is_word r (same_kind c.result.kind Bit) (is_among S n) z
-          f.kind (is_same c.result.name n (sym q)));
+          (is_among (used c) n) (is_known o) (is_among S n) (is_among T n)
+          (is_known (kind_among c.known n)) (is_among done n) e
+          (given-at st n) (lets_other st S T h n) z f.free;
+      fits = word_fits o (is_among S n) z f.kind;
     }
 
 pub stands_move : (s : Scope) (a b : List (List ℕ)) → a ≡ b
@@ -210,15 +184,15 @@ known_moves s a b e wanted items h =
     subst (λ (x : List Param). breach_of wanted (record s { op = record s.op { defined = x } })
     items ≡ None) e h
 
-pub block_peels : (b : Block) (ops stands : List (List ℕ)) (c : Context) (assigned : Bool)
+pub block_peels : (b : Block) (ops stands : List (List ℕ)) (c : Context)
     (count : ℕ) (wanted : List Wanted) (rest : List (List ℕ))
-    → HasStatement (Visit b) → Standing stands c assigned
-    → breach_of (Stmts ∷ wanted) (at_statement ops stands c assigned count)
+    → HasStatement (Visit b) → Standing stands c
+    → breach_of (Stmts ∷ wanted) (at_statement ops stands c count)
     (items_spelled (statement_text (Visit b) rest)) ≡ None
     → BehindStatement (Visit b) ops c count wanted rest
 unfolding breach_of
-block_peels b ops stands c assigned count wanted rest n st h =
-    let here = before_block ops stands c assigned count in
+block_peels b ops stands c count wanted rest n st h =
+    let here = before_block ops stands c count in
     let S = state_names b in
     let T = let_names b in
     let W = word_names b in
@@ -232,12 +206,12 @@ block_peels b ops stands c assigned count wanted rest n st h =
     ∙ a.1 in
     let d' = stands_move here stands (stands ++ []) (sym (append-nil stands)) (States ∷ Begin ∷ Lets
     ∷ Stmts ∷ wanted) (items_spelled states) d in
-    let q = states_peel b.states ops stands c assigned count (Begin ∷ Lets ∷ Stmts
+    let q = states_peel b.states ops stands c count (Begin ∷ Lets ∷ Stmts
     ∷ wanted) (codes "{" ∷ lines) n.0 st d' in
     let l = lets_peel b.lets here (stands ++ S) S S 0 0 (Stmts ∷ wanted) assigns n.1 (omega arith)
     (omega arith) q.then in
     let new = fresh-new (stands ++ S) T l.fresh in
-    let P : List ℕ → Type 0 = λ n. is_among S n ≡ false → IsNewOf (used c ++ T) c.result Word n in
+    let P : List ℕ → Type 0 = λ n. is_among S n ≡ false → IsNewOf (used c ++ T) c.results Word n in
     let e =
     assigns_peel b.assigns here ((stands ++ S) ++ T) S (S ++ T) (0 + length b.lets) (0
     + weights b.lets) (Stmts ∷ wanted) rest P
@@ -253,23 +227,19 @@ block_peels b ops stands c assigned count wanted rest n st h =
         light = let i = g.light in omega arith;
         states = q.are;
         states_differ = fresh-differ [] S q.fresh;
-        lets = each_both IsGood (IsNew (stands ++ S)) (IsNewLet (used c ++ S) c.result) (λ n g k.
+        lets = each_both IsGood (IsNew (stands ++ S)) (IsNewLet (used c ++ S) c.results) (λ n g k.
             let_facts st S n g k) T l.good new;
         lets_differ = fresh-differ (stands ++ S) T l.fresh;
         lets_read = l.reads;
-        words = each_filter (is_among S) (IsNewOf (used c ++ T) c.result Word) (names_in b.assigns)
+        words = each_filter (is_among S) (IsNewOf (used c ++ T) c.results Word) (names_in b.assigns)
             g.are;
         targets_differ = fresh-differ [] (names_in b.assigns) g.fresh;
         values_read = g.reads;
       };
       few = le_no 16 count a.0;
       stands = ((stands ++ S) ++ T) ++ W;
-      assigned = (assigned || list_any (λ n. bytes_eq c.result.name n) S)
-          || list_any (λ n. bytes_eq c.result.name n) W;
       standing = block_standing st S T W new;
-      then = known_moves (at_statement ops (((stands ++ S) ++ T)
-          ++ W) c ((assigned || list_any (λ n. bytes_eq c.result.name n) S)
-          || list_any (λ n. bytes_eq c.result.name n) W) (count + 1)) _ _
+      then = known_moves (at_statement ops (((stands ++ S) ++ T) ++ W) c (count + 1)) _ _
           (append_assoc c.known (map (λ n. param n Bit) S) (map (λ n. param n Word) W)) (Stmts
           ∷ wanted) (items_spelled rest) g.then;
     }

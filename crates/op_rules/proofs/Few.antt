@@ -1,7 +1,7 @@
 -- The names of an op are few.
 use Rattle.std.proofs.Common.{◌≡◌, ℕ, ◌+◌, ◌*◌, ◌≤◌, length, lit≤, Bool, false, not, ◌&&◌, map}
-use Rattle.std.proofs.Common.{count_by, List, [], ◌∷◌, ◌++◌, refl, ap, ◌∙◌, bytes_eq, cond}
-use Rattle.std.proofs.Common.{zero-add, arith}
+use Rattle.std.proofs.Common.{count_by, List, [], ◌∷◌, ◌++◌, refl, ap, ◌∙◌, cond}
+use Rattle.std.proofs.Common.{zero-add, arith, Some, None}
 use Rattle.std.specs.List.{filter}
 use Rattle.std.proofs.lemmas.Bool.Decides.{nat_tests}
 use Rattle.std.proofs.lemmas.List.{length-map}
@@ -14,15 +14,15 @@ use Rattle.op_text.specs.declared.tree.WordOp.{WordOp}
 use Rattle.op_text.specs.declared.tree.WordOp.TheVariants as o
 use Rattle.op_text.specs.WordOps.{same_kind}
 use Rattle.op_text.specs.Rules.{is_among}
-use Rattle.op_text.specs.Language.{Statement, Compute, Visit, Equation}
+use Rattle.op_text.specs.Language.{Statement, Compute, Visit, Equation, result_names}
 use Rattle.op_text.specs.Scratch.{param, defines, body_defines, state_names, word_names}
 use Rattle.op_text.specs.Scratch.{bits_inside, words_inside, need_inside, greatest, scratch_names}
 use Rattle.op_rules.specs.Meets.{Context, behind, at_start, targets, StatementMeets, BodyMeets}
 use Rattle.op_rules.specs.Laws.{ScratchIsSmall}
 
--- a name of a kind, other than the result
-abbrev is_counted : Kind → List ℕ → Param → Bool
-is_counted k r = λ p. same_kind p.kind k && not (bytes_eq p.name r)
+-- a name of a kind, other than these
+abbrev is_counted : Kind → List (List ℕ) → Param → Bool
+is_counted k r = λ p. same_kind p.kind k && not (is_among r p.name)
 
 count-append : (p : Param → Bool) (xs ys : List Param)
     → count_by p (xs ++ ys) ≡ count_by p xs + count_by p ys
@@ -32,12 +32,12 @@ count-cons : {X : Type 0} (p : X → Bool) (x : X) (xs : List X)
     → count_by p (x ∷ xs) ≡ cond (p x) 1 0 + count_by p xs
 count-cons p x xs = sum_by-cons (λ y. cond (p y) 1 0) x xs
 
-none_counted : (j k : Kind) (r : List ℕ) → same_kind j k ≡ false → (ns : List (List ℕ))
+none_counted : (j k : Kind) (r : List (List ℕ)) → same_kind j k ≡ false → (ns : List (List ℕ))
     → count_by (is_counted k r) (map (λ n. param n j) ns) ≡ 0
 none_counted j k r e [] = refl
 none_counted j k r e (n ∷ ns) =
     count-cons (is_counted k r) (param n j) (map (λ n. param n j) ns)
-    ∙ ap (λ b. cond (b && not (bytes_eq n r)) 1 0
+    ∙ ap (λ b. cond (b && not (is_among r n)) 1 0
     + count_by (is_counted k r) (map (λ n. param n j) ns)) e
     ∙ zero-add _ ∙ none_counted j k r e ns
 
@@ -51,10 +51,14 @@ few_counted p j ns =
 filter_few : (q : List ℕ → Bool) (ns : List (List ℕ)) → length (filter q ns) ≤ length ns
 filter_few q ns = let e = length-filter q ns in let h = count_by-le-length q ns in omega arith
 
-statement_few : (k : Kind) (r : List ℕ) (st : Statement) (c : Context) → StatementMeets c st
+statement_few : (k : Kind) (r : List (List ℕ)) (st : Statement) (c : Context) → StatementMeets c st
     → count_by (is_counted k r) (defines c.known st) ≤ 8
-statement_few k r (Compute target p args) c h = let i =
-    count_by-le-length (is_counted k r) (defines c.known (Compute target p args)) in omega arith
+statement_few k r (Compute target None p args) c h = let i =
+    count_by-le-length (is_counted k r) (defines c.known (Compute target None p args)) in
+    omega arith
+statement_few k r (Compute target (Some n) p args) c h = let i =
+    count_by-le-length (is_counted k r) (defines c.known (Compute target (Some n) p args)) in
+    omega arith
 statement_few Bit r (Visit b) c h =
     let S = state_names b in
     let W = word_names b in
@@ -77,7 +81,7 @@ statement_few Word r (Visit b) c h =
     let i = h.few_assigns in
     omega arith
 
-body_few : (k : Kind) (r : List ℕ) (body : List Statement) (c : Context) → BodyMeets c body
+body_few : (k : Kind) (r : List (List ℕ)) (body : List Statement) (c : Context) → BodyMeets c body
     → count_by (is_counted k r) (body_defines c.known body) ≤ 8 * length body
 body_few k r [] c h = lit≤ tt
 body_few k r (st ∷ body) c h =
@@ -90,7 +94,7 @@ body_few k r (st ∷ body) c h =
 need_small : (f : WordOp → ℕ) (body : List Statement) → ((p : WordOp) → f p ≤ 2)
     → greatest (map (need_inside f) body) ≤ 2
 need_small f [] h = omega arith
-need_small f (Compute target p args ∷ body) h = let k = need_small f body h in let m = h p in
+need_small f (Compute target second p args ∷ body) h = let k = need_small f body h in let m = h p in
     grind (arith, nat_tests)
 need_small f (Visit b ∷ body) h = let k = need_small f body h in grind (arith, nat_tests)
 
@@ -106,7 +110,7 @@ pub scratch_is_small : ScratchIsSmall
 scratch_is_small op h =
     let l = h.few_statements in
     let names : (k : Kind) → scratch_names k op ≤ 128 = λ k. let b =
-    body_few k op.result.name op.body (at_start op) h.body in omega arith in
+    body_few k (result_names op) op.body (at_start op) h.body in omega arith in
     let b = names Bit in
     let w = names Word in
     let m = need_small bits_inside op.body few_bits in

@@ -1,6 +1,8 @@
 -- The head of an op: its name, its sources and its result.
 use Rattle.std.proofs.Common.{◌≡◌, ℕ, ◌+◌, ◌<◌, ◌≤◌, false, nat_le, List, [], ◌∷◌, ◌++◌, length}
-use Rattle.std.proofs.Common.{arith, Some, None, refl, sym, ◌∙◌, codes, append_assoc, append-nil}
+use Rattle.std.specs.Option.{option_to_list}
+use Rattle.std.proofs.Common.{arith, Option, Some, None, refl, sym, ◌∙◌, codes, append_assoc}
+use Rattle.std.proofs.Common.{append-nil}
 use Rattle.std.proofs.lemmas.List.{length-append}
 use Rattle.text_lex.specs.Lexical.{Item}
 use Rattle.op_text.specs.declared.fault.OpsKind.TheVariants as why
@@ -9,25 +11,30 @@ use Rattle.op_text.specs.declared.tree.Kind.TheVariants.{Word, Bit}
 use Rattle.op_text.specs.declared.tree.Param.{Param}
 use Rattle.op_text.specs.declared.grammar.Wanted.{Wanted}
 use Rattle.op_text.specs.declared.grammar.Wanted.TheVariants.{NewParam, ParamKind, Params}
-use Rattle.op_text.specs.declared.grammar.Wanted.TheVariants.{NewResult, ResultKind, Colon}
+use Rattle.op_text.specs.declared.grammar.Wanted.TheVariants.{NewResult, ResultKind, SecondResult}
+use Rattle.op_text.specs.declared.grammar.Wanted.TheVariants.{Begin, Colon}
 use Rattle.op_text.specs.Items.{spelling_of}
 use Rattle.op_text.specs.Rules.{Scope, breach_of, is_bad, is_among, new_word, new_block}
 use Rattle.op_text.specs.Scratch.{param}
 use Rattle.op_text.specs.Spelling.{items_spelled, kind_text, between_commas, behind_commas}
-use Rattle.op_text.specs.Spelling.{param_text, Each, HasParam}
+use Rattle.op_text.specs.Spelling.{behind_comma, param_text, Each, IfThere, HasParam}
 use Rattle.op_rules.specs.Meets.{IsGood, names_of}
 use Rattle.op_rules.proofs.Names.{AllFresh}
 use Rattle.op_rules.proofs.Tokens.{goes, name_lexeme, named, two_rules, three_rules, not_bad, le_no}
 
--- the scope among the sources of an op
-abbrev pub in_params : List (List ℕ) → List (List ℕ) → List Param → Scope
-in_params ops stands done = record {
+-- the scope in the head of an op, and behind it
+abbrev pub in_head : List (List ℕ) → List (List ℕ) → List Param → List Param → Scope
+in_head ops stands known given = record {
   ops = ops;
-  op = record { stands = stands; defined = done; result = None; assigned = false; statements = 0 };
+  op = record { stands = stands; defined = known; results = given; statements = 0 };
   word = new_word;
   block = new_block;
   naming = None;
 }
+
+-- the scope among the sources of an op
+abbrev pub in_params : List (List ℕ) → List (List ℕ) → List Param → Scope
+in_params ops stands done = in_head ops stands done []
 
 pub param_kind : (k : Kind) (ops stands : List (List ℕ)) (done : List Param) (n : List ℕ)
     (wanted : List Wanted) (rest : List (List ℕ))
@@ -75,6 +82,12 @@ pub record AllParams (ops stands : List (List ℕ)) (done ps : List Param) (want
   pub few : length done + length ps ≤ 4
   pub then : breach_of wanted (in_params ops (stands ++ names_of ps) (done ++ ps))
       (items_spelled rest) ≡ None
+
+pub results_move : (ops a b : List (List ℕ)) (done rs : List Param) → a ≡ b
+    → (wanted : List Wanted) (items : List Item)
+    → breach_of wanted (in_head ops a done rs) items ≡ None
+    → breach_of wanted (in_head ops b done rs) items ≡ None
+results_move ops a b done rs e wanted items h = rw (← e) h
 
 pub params_move : (ops a b : List (List ℕ)) (p q : List Param) → a ≡ b → p ≡ q
     → (wanted : List Wanted) (items : List Item) → breach_of wanted (in_params ops a p) items ≡ None
@@ -132,50 +145,69 @@ params_peel (p ∷ ps) ops wanted rest n h =
           (params_behind ps ops (p.name ∷ []) (p ∷ []) wanted rest n.1 (omega arith) a.then),
     )
 
--- the scope behind the head of an op
-abbrev pub in_body : List (List ℕ) → List (List ℕ) → List Param → Param → Scope
-in_body ops stands known result = record {
-  ops = ops;
-  op = record {
-    stands = stands;
-    defined = known;
-    result = Some result;
-    assigned = false;
-    statements = 0;
-  };
-  word = new_word;
-  block = new_block;
-  naming = None;
-}
-
-pub result_kind_moves : (k : Kind) (ops stands : List (List ℕ)) (done : List Param) (n : List ℕ)
-    (wanted : List Wanted) (rest : List (List ℕ))
+pub result_kind_moves : (k : Kind) (ops stands : List (List ℕ)) (done given : List Param)
+    (n : List ℕ) (wanted : List Wanted) (rest : List (List ℕ))
     → breach_of (Colon ∷ ResultKind ∷ wanted)
-    (record (in_params ops (stands ++ n ∷ []) done) { naming = Some n })
+    (record (in_head ops (stands ++ n ∷ []) done given) { naming = Some n })
     (items_spelled (codes ":" ∷ kind_text k ∷ rest))
-    ≡ breach_of wanted (in_body ops (stands ++ n ∷ []) done (param n k)) (items_spelled rest)
+    ≡ breach_of wanted (in_head ops (stands ++ n ∷ []) done (given ++ param n k ∷ []))
+    (items_spelled rest)
 unfolding breach_of
-result_kind_moves Word ops stands done n wanted rest = refl
-result_kind_moves Bit ops stands done n wanted rest = refl
+result_kind_moves Word ops stands done given n wanted rest = refl
+result_kind_moves Bit ops stands done given n wanted rest = refl
 
-pub result_peels : (ops stands : List (List ℕ)) (done : List Param) (p : Param)
+result_peels : (ops stands : List (List ℕ)) (done given : List Param) (p : Param)
     (wanted : List Wanted) (rest : List (List ℕ)) → HasParam p
-    → breach_of (NewResult ∷ Colon ∷ ResultKind ∷ wanted) (in_params ops stands done)
+    → breach_of (NewResult ∷ Colon ∷ ResultKind ∷ wanted) (in_head ops stands done given)
     (items_spelled (param_text p rest)) ≡ None
     → IsGood p.name × (is_among stands p.name ≡ false)
-    × (breach_of wanted (in_body ops (stands ++ p.name ∷ []) done p) (items_spelled rest)
-    ≡ None)
+    × (breach_of wanted (in_head ops (stands ++ p.name ∷ []) done (given ++ p ∷ []))
+    (items_spelled rest) ≡ None)
 unfolding breach_of
-result_peels ops stands done p wanted rest n h =
+result_peels ops stands done given p wanted rest n h =
     let more = codes ":" ∷ kind_text p.kind ∷ rest in
-    let s = in_params ops stands done in
+    let s = in_head ops stands done given in
     let g = sym (named NewResult (Colon ∷ ResultKind ∷ wanted) s p.name more n) ∙ h in
     let k =
     two_rules (is_bad (spelling_of p.name) p.name) (is_among stands p.name) why.BadName why.Twice
-    (record (in_params ops (stands ++ p.name ∷ []) done) { naming = Some p.name }) []
+    (record (in_head ops (stands ++ p.name ∷ []) done given) { naming = Some p.name }) []
     (name_lexeme p.name) (goes (Colon ∷ ResultKind ∷ wanted) more) g in (
       not_bad p.name k.0,
       k.1,
-      sym (result_kind_moves p.kind ops stands done p.name wanted rest)
-          ∙ k.2,
+      sym (result_kind_moves p.kind ops stands done given p.name wanted rest) ∙ k.2,
     )
+
+-- one result or two
+pub record AllResults (ops stands : List (List ℕ)) (done rs : List Param) (wanted : List Wanted)
+    (rest : List (List ℕ)) : Type 0 where
+  pub good : Each IsGood (names_of rs)
+  pub fresh : AllFresh stands (names_of rs)
+  pub then : breach_of wanted (in_head ops (stands ++ names_of rs) done rs) (items_spelled rest)
+      ≡ None
+
+-- the text of the results of an op, up to its body
+abbrev pub results_text : Param → Option Param → List (List ℕ) → List (List ℕ)
+results_text p second rest = param_text p (behind_comma param_text second (codes "{" ∷ rest))
+
+pub results_peel : (ops stands : List (List ℕ)) (done : List Param) (p : Param)
+    (second : Option Param) (wanted : List Wanted) (rest : List (List ℕ)) → HasParam p
+    → IfThere HasParam second
+    → breach_of (NewResult ∷ Colon ∷ ResultKind ∷ SecondResult ∷ wanted) (in_params ops stands done)
+    (items_spelled (results_text p second rest)) ≡ None
+    → AllResults ops stands done (p ∷ option_to_list second) wanted rest
+unfolding breach_of
+results_peel ops stands done p None wanted rest n m h =
+    let a = result_peels ops stands done [] p (SecondResult ∷ wanted) (codes "{" ∷ rest) n h in
+    record { good = (a.0, tt); fresh = (a.1, tt); then = a.2 }
+results_peel ops stands done p (Some q) wanted rest n m h =
+    let a = result_peels ops stands done [] p (SecondResult ∷ wanted)
+    (behind_comma param_text (Some q) (codes "{" ∷ rest)) n h in
+    let b = result_peels ops (stands ++ p.name ∷ []) done (p ∷ []) q (Begin ∷ wanted) (codes "{"
+    ∷ rest) m a.2 in
+    record {
+      good = (a.0, (b.0, tt));
+      fresh = (a.1, (b.1, tt));
+      then = results_move ops ((stands ++ p.name ∷ []) ++ q.name ∷ []) (stands ++ p.name ∷ q.name
+          ∷ []) done (p ∷ q ∷ []) (append_assoc stands (p.name ∷ []) (q.name ∷ [])) wanted
+          (items_spelled rest) b.2;
+    }

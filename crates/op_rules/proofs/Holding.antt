@@ -1,6 +1,7 @@
 -- Names hold bits of their kinds.
 use Rattle.std.proofs.Common.{◌≡◌, ℕ, zero, suc, ◌/◌, length, Bool, true, false, not, ◌||◌, cond}
-use Rattle.std.proofs.Common.{List, [], ◌∷◌, ◌++◌, map, fold, replicate, Some, refl, sym, ap, ◌∙◌}
+use Rattle.std.proofs.Common.{List, [], ◌∷◌, ◌++◌, map, fold, replicate, Some, None, Option, refl}
+use Rattle.std.proofs.Common.{sym, ap, ◌∙◌}
 use Rattle.std.proofs.Common.{subst, append_assoc, append-nil, bytes_eq, length-set, arith}
 use Rattle.std.specs.Option.{unwrap_or}
 use Rattle.std.specs.List.{filter, flat_map}
@@ -10,13 +11,14 @@ use Rattle.op_text.specs.declared.tree.Kind.TheVariants.{Word, Bit}
 use Rattle.op_text.specs.declared.tree.Param.{Param}
 use Rattle.op_text.specs.declared.tree.State.{State}
 use Rattle.op_text.specs.declared.tree.WordOp.{WordOp}
-use Rattle.op_text.specs.WordOps.{forms, filled}
+use Rattle.op_text.specs.WordOps.{forms, filled, second_kind}
 use Rattle.op_text.specs.Rules.{is_among, kind_among}
-use Rattle.op_text.specs.Language.{Equation, Block, Statement, Compute, Visit, Operation}
+use Rattle.op_text.specs.Language.{Equation, Block, Statement, Compute, Visit, Operation, results}
 use Rattle.op_text.specs.Values.{bits}
 use Rattle.op_text.specs.Meaning.{Held, width, holding, holds_nothing, changed, bit_written}
 use Rattle.op_text.specs.Meaning.{term_bit, assigned, visited, positions, with_blanks, with_states}
-use Rattle.op_text.specs.Meaning.{computed, after_statement, after_block, with_sources, after_body}
+use Rattle.op_text.specs.Meaning.{computed, second_computed, after_statement, after_block}
+use Rattle.op_text.specs.Meaning.{with_sources, after_body}
 use Rattle.op_text.specs.Scratch.{param, kind_of, result_kind, defines, body_defines, state_names}
 use Rattle.op_text.specs.Scratch.{word_names}
 use Rattle.op_text.specs.Spelling.{Each}
@@ -30,7 +32,7 @@ use Rattle.op_rules.proofs.Names.{each_map, each_both}
 use Rattle.op_rules.proofs.States.{state_names_of}
 use Rattle.op_rules.proofs.Lines.{names_in}
 use Rattle.op_rules.proofs.Blocks.{block_names, not_among}
-use Rattle.op_rules.proofs.Ops.{each_append}
+use Rattle.op_rules.proofs.Ops.{each_append, second_facts}
 use Rattle.op_rules.proofs.Apart.{statement_apart, filter_each, not_true}
 
 -- another name
@@ -94,8 +96,13 @@ no_target S (n ∷ ns) m g h = cases (bytes_eq n m) (is_among S n) refl refl h (
     cases false false e f k go = go (or_second (bytes_eq n m) _ k)
 
 pub others_stay : OthersStay
-others_stay known (Compute target p args) n names name h =
+others_stay known (Compute target None p args) n names name h =
     unchanged names target _ name (or_first (bytes_eq target name) false h)
+others_stay known (Compute target (Some second) p args) n names name h =
+    let more = is_among (second ∷ []) name in
+    unchanged (changed names target (computed n p (map names args))) second _ name
+    (or_first (bytes_eq second name) false (or_second (bytes_eq target name) more h))
+    ∙ unchanged names target _ name (or_first (bytes_eq target name) more h)
 others_stay known (Visit b) n names name h =
     let S = state_names b in
     let W = word_names b in
@@ -224,10 +231,11 @@ kinds_known n names known h (a ∷ args) k =
     (held_known n names known h a (kind_of known a) k.0).kind
     ∙ ap (λ l. kind_of known a ∷ l) (kinds_known n names known h args k.1)
 
-computed_held : (n : ℕ) (names : List ℕ → Held) (c : Context) (target : List ℕ) (p : WordOp)
-    (args : List (List ℕ)) → WordMeets c target p args → Each (Holds n names) c.known
+computed_held : (n : ℕ) (names : List ℕ → Held) (c : Context) (target : List ℕ)
+    (second : Option (List ℕ)) (p : WordOp) (args : List (List ℕ))
+    → WordMeets c target second p args → Each (Holds n names) c.known
     → IsHeld n (result_kind c.known p args) (computed n p (map names args))
-computed_held n names c target p args m h =
+computed_held n names c target second p args m h =
     let e = ap (λ l. unwrap_or (filled (forms p) l) Word)
     (kinds_known n names c.known h args m.known) ∙ ap (λ o. unwrap_or o Word) m.takes in
     subst (λ (k : Kind). IsHeld n k (computed n p (map names args))) e (holding_held n _ _)
@@ -291,12 +299,27 @@ block_hold n names b =
 defined_hold : (st : Statement) (c : Context) (n : ℕ) (names : List ℕ → Held) → StatementMeets c st
     → Each (Holds n names) c.known → Each (Holds n (after_statement n names st))
     (defines c.known st)
-defined_hold (Compute target p args) c n names m h =
+defined_hold (Compute target None p args) c n names m h =
     let v = computed n p (map names args) in (
       held_moves (changed names target v target) v
           (this names target v target (is_same target target refl))
-          (computed_held n names c target p args m h),
+          (computed_held n names c target None p args m h),
       tt,
+    )
+defined_hold (Compute target (Some second) p args) c n names m h =
+    let v = computed n p (map names args) in
+    let w = second_computed n p (map names args) in
+    let first = changed names target v in
+    let other = (second_facts c target second (second_kind p) m.others).other in (
+      held_moves (changed first second w target) v
+          (unchanged first second w target (turned second target ∙ other)
+          ∙ this names target v target (is_same target target refl))
+          (computed_held n names c target (Some second) p args m h),
+      (
+        held_moves (changed first second w second) w
+            (this first second w second (is_same second second refl)) (holding_held n _ _),
+        tt,
+      ),
     )
 defined_hold (Visit b) c n names m h = block_hold n names b
 
@@ -372,7 +395,7 @@ abbrev context_after : Context → List Statement → Context
 context_after c front = record {
   known = c.known ++ body_defines c.known front;
   lets = c.lets ++ flat_map lets_of front;
-  result = c.result;
+  results = c.results;
 }
 
 split : (front rest : List Statement) (c : Context) → BodyMeets c (front ++ rest)
@@ -401,6 +424,13 @@ parts_meet op front rest m e = split front rest (at_start op)
 pub statements_meet : StatementsMeet
 statements_meet op front rest s m e = (parts_meet op front (s ∷ rest) m e).1.0
 
+results_hold : (n : ℕ) (names : List ℕ → Held) (known : List Param) → Each (Holds n names) known
+    → (rs : List Param) → Each (λ (r : Param). kind_among known r.name ≡ Some r.kind) rs
+    → Each (Holds n names) rs
+results_hold n names known h [] e = tt
+results_hold n names known h (r ∷ rs) e =
+    (held_known n names known h r.name r.kind e.0, results_hold n names known h rs e.1)
+
 pub kinds_are_held : KindsAreHeld
 kinds_are_held op n values m l =
     let names = with_sources n holds_nothing op.params values in
@@ -410,7 +440,7 @@ kinds_are_held op n values m l =
     record {
       behind = λ front rest e. body_hold front (at_start op) n names
           (parts_meet op front rest m e).0 start;
-      result = held_known n (after_body n op.body names) ds
-          (right_half (Holds n (after_body n op.body names)) op.params ds h) op.result.name
-          op.result.kind m.result_given;
+      at_end = results_hold n (after_body n op.body names) ds
+          (right_half (Holds n (after_body n op.body names)) op.params ds h) (results op)
+          m.results_given;
     }

@@ -1,5 +1,6 @@
 pub mod Names
 pub mod Tokens
+pub mod Fitting
 pub mod Terms
 pub mod Standing
 pub mod Words

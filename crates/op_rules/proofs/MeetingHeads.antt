@@ -1,21 +1,24 @@
 -- The head of an op that meets the rules breaks none.
 use Rattle.std.proofs.Common.{◌≡◌, ℕ, ◌+◌, ◌<◌, ◌≤◌, false, nat_le, List, [], ◌∷◌, ◌++◌, length}
-use Rattle.std.proofs.Common.{arith, Some, None, sym, ◌∙◌, codes, append_assoc, append-nil}
+use Rattle.std.specs.Option.{option_to_list}
+use Rattle.std.proofs.Common.{arith, Option, Some, None, sym, ◌∙◌, codes, append_assoc, append-nil}
 use Rattle.std.proofs.lemmas.List.{length-append}
 use Rattle.op_text.specs.declared.fault.OpsKind.TheVariants as why
 use Rattle.op_text.specs.declared.tree.Param.{Param}
 use Rattle.op_text.specs.declared.grammar.Wanted.{Wanted}
 use Rattle.op_text.specs.declared.grammar.Wanted.TheVariants.{NewParam, ParamKind, Params}
-use Rattle.op_text.specs.declared.grammar.Wanted.TheVariants.{NewResult, ResultKind, Colon}
+use Rattle.op_text.specs.declared.grammar.Wanted.TheVariants.{NewResult, ResultKind, SecondResult}
+use Rattle.op_text.specs.declared.grammar.Wanted.TheVariants.{Begin, Colon}
 use Rattle.op_text.specs.Items.{spelling_of}
 use Rattle.op_text.specs.Rules.{breach_of, is_bad, is_among}
 use Rattle.op_text.specs.Spelling.{items_spelled, kind_text, between_commas, behind_commas}
-use Rattle.op_text.specs.Spelling.{param_text, Each}
+use Rattle.op_text.specs.Spelling.{behind_comma, param_text, Each}
 use Rattle.op_rules.specs.Meets.{IsGood, names_of}
 use Rattle.op_rules.proofs.Names.{AllFresh}
 use Rattle.op_rules.proofs.Tokens.{goes, name_lexeme, named}
 use Rattle.op_rules.proofs.Passing.{two_pass, three_pass, good_passes, good_fits, le_passes}
-use Rattle.op_rules.proofs.Heads.{in_params, in_body, param_kind, result_kind_moves, params_move}
+use Rattle.op_rules.proofs.Heads.{in_params, in_head, param_kind, result_kind_moves, params_move}
+use Rattle.op_rules.proofs.Heads.{results_move, results_text}
 
 param_back : (ops stands : List (List ℕ)) (done : List Param) (p : Param) (wanted : List Wanted)
     (rest : List (List ℕ)) → IsGood p.name → is_among stands p.name ≡ false → length done < 4
@@ -67,17 +70,38 @@ params_back (p ∷ ps) ops wanted rest k l g f h =
     param_back ops [] [] p (Params ∷ wanted) more g.0 f.0 (omega arith)
     (params_behind ps ops (p.name ∷ []) (p ∷ []) wanted rest g.1 f.1 (omega arith) h)
 
-pub result_back : (ops stands : List (List ℕ)) (done : List Param) (p : Param)
+result_back : (ops stands : List (List ℕ)) (done given : List Param) (p : Param)
     (wanted : List Wanted) (rest : List (List ℕ)) → IsGood p.name → is_among stands p.name ≡ false
-    → breach_of wanted (in_body ops (stands ++ p.name ∷ []) done p) (items_spelled rest) ≡ None
-    → breach_of (NewResult ∷ Colon ∷ ResultKind ∷ wanted) (in_params ops stands done)
+    → breach_of wanted (in_head ops (stands ++ p.name ∷ []) done (given ++ p ∷ []))
+    (items_spelled rest) ≡ None
+    → breach_of (NewResult ∷ Colon ∷ ResultKind ∷ wanted) (in_head ops stands done given)
     (items_spelled (param_text p rest)) ≡ None
 unfolding breach_of
-result_back ops stands done p wanted rest g f h =
+result_back ops stands done given p wanted rest g f h =
     let more = codes ":" ∷ kind_text p.kind ∷ rest in
-    let s = in_params ops stands done in
+    let s = in_head ops stands done given in
     named NewResult (Colon ∷ ResultKind ∷ wanted) s p.name more (good_fits p.name g)
     ∙ two_pass (is_bad (spelling_of p.name) p.name) (is_among stands p.name) why.BadName why.Twice
-    (record (in_params ops (stands ++ p.name ∷ []) done) { naming = Some p.name }) []
+    (record (in_head ops (stands ++ p.name ∷ []) done given) { naming = Some p.name }) []
     (name_lexeme p.name) (goes (Colon ∷ ResultKind ∷ wanted) more) (good_passes p.name g) f
-    ∙ result_kind_moves p.kind ops stands done p.name wanted rest ∙ h
+    ∙ result_kind_moves p.kind ops stands done given p.name wanted rest ∙ h
+
+pub results_back : (ops stands : List (List ℕ)) (done : List Param) (p : Param)
+    (second : Option Param) (wanted : List Wanted) (rest : List (List ℕ))
+    → Each IsGood (names_of (p ∷ option_to_list second))
+    → AllFresh stands (names_of (p ∷ option_to_list second))
+    → breach_of wanted (in_head ops (stands ++ names_of (p ∷ option_to_list second)) done (p
+    ∷ option_to_list second)) (items_spelled rest) ≡ None
+    → breach_of (NewResult ∷ Colon ∷ ResultKind ∷ SecondResult ∷ wanted) (in_params ops stands done)
+    (items_spelled (results_text p second rest)) ≡ None
+unfolding breach_of
+results_back ops stands done p None wanted rest g f h =
+    result_back ops stands done [] p (SecondResult ∷ wanted) (codes "{" ∷ rest) g.0 f.0 h
+results_back ops stands done p (Some q) wanted rest g f h =
+    result_back ops stands done [] p (SecondResult ∷ wanted)
+    (behind_comma param_text (Some q) (codes "{" ∷ rest)) g.0 f.0
+    (result_back ops (stands ++ p.name ∷ []) done (p ∷ []) q (Begin ∷ wanted) (codes "{"
+    ∷ rest) g.1.0 f.1.0
+    (results_move ops (stands ++ p.name ∷ q.name ∷ []) ((stands ++ p.name ∷ []) ++ q.name
+    ∷ []) done (p ∷ q ∷ []) (sym (append_assoc stands (p.name ∷ []) (q.name ∷ []))) wanted
+    (items_spelled rest) h))

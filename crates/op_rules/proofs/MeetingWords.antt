@@ -7,30 +7,37 @@ use Rattle.op_text.specs.declared.fault.OpsKind.TheVariants as why
 use Rattle.op_text.specs.declared.terminal.Terminal.TheVariants as t
 use Rattle.op_text.specs.declared.terminal.Spelling.TheVariants as sp
 use Rattle.op_text.specs.declared.tree.Kind.{Kind}
-use Rattle.op_text.specs.declared.tree.Kind.TheVariants.{Word, Bit}
+use Rattle.op_text.specs.declared.tree.Param.{Param}
 use Rattle.op_text.specs.declared.tree.WordOp.{WordOp}
+use Rattle.op_text.specs.declared.tree.WordOp.TheVariants as o
 use Rattle.op_text.specs.declared.grammar.Wanted.{Wanted}
 use Rattle.op_text.specs.declared.grammar.Wanted.TheVariants.{Stmts, Args, ArgName, MoreArgs}
-use Rattle.op_text.specs.declared.grammar.Wanted.TheVariants.{WordEnd}
+use Rattle.op_text.specs.declared.grammar.Wanted.TheVariants.{WordEnd, WordOpName, Open, Equals}
+use Rattle.op_text.specs.declared.grammar.Wanted.TheVariants.{SecondTarget, NewTarget}
 use Rattle.op_text.specs.Grammar.{statement}
 use Rattle.op_text.specs.Items.{opens, spelling_of}
 use Rattle.op_text.specs.WordOps.{Form, op_text, forms, filled, lacks, is_part, is_whole, is_begun}
-use Rattle.op_text.specs.WordOps.{same_kind}
+use Rattle.op_text.specs.WordOps.{same_kind, second_kind, second_gives}
 use Rattle.op_text.specs.Rules.{Scope, breach_of, step, after, with_rules, is_bad, is_among}
-use Rattle.op_text.specs.Rules.{kind_among, argument_of_kind, gives_kind, is_result, is_of_kind}
+use Rattle.op_text.specs.Rules.{kind_among, is_known, argument_of_kind, gives_kind, is_of_kind}
+use Rattle.op_text.specs.Rules.{is_taken_name, has_targets, is_other_result, second_of}
 use Rattle.text_lex.specs.Lexical.{Lexeme}
 use Rattle.op_text.specs.Language.{Statement, Compute}
-use Rattle.op_text.specs.Scratch.{kind_of, result_kind}
+use Rattle.op_text.specs.Scratch.{kind_of, result_kind, param, defines}
 use Rattle.op_text.specs.Spelling.{items_spelled, between_commas, behind_commas, name_text}
 use Rattle.op_text.specs.Spelling.{statement_text, Each}
-use Rattle.op_rules.specs.Meets.{Context, IsGood, IsKnown, WordMeets, used, behind}
-use Rattle.op_rules.proofs.Names.{same_name}
+use Rattle.op_rules.specs.Meets.{Context, IsGood, IsKnown, IsNew, WordMeets, SecondMeets, used}
+use Rattle.op_rules.specs.Meets.{behind, names_of}
+use Rattle.op_rules.proofs.Names.{or_both}
+use Rattle.op_rules.proofs.Fitting.{fits_same}
+use Rattle.op_rules.proofs.Ops.{second_facts}
 use Rattle.op_rules.proofs.Tokens.{Behind, goes, name_lexeme, named}
-use Rattle.op_rules.proofs.Passing.{one_pass, next_pass, three_pass, good_passes, good_fits}
+use Rattle.op_rules.proofs.Passing.{one_pass, next_pass, two_pass, three_pass, good_passes}
+use Rattle.op_rules.proofs.Passing.{good_fits}
 use Rattle.op_rules.proofs.Passing.{good_plain, le_passes}
 use Rattle.op_rules.proofs.Standing.{Standing, given-at}
 use Rattle.op_rules.proofs.Words.{at_statement, mark, with_given, given_moves, ended}
-use Rattle.op_rules.proofs.Words.{operation_moves, word_standing}
+use Rattle.op_rules.proofs.Words.{operation_goes, word_standing, target_end, in_word, targets_of}
 
 -- a form that is filled was begun by each part
 whole_begun : (xs ys all : List Kind) → is_whole (lacks (xs ++ ys) all) ≡ true
@@ -154,12 +161,13 @@ args_back (a ∷ args) s k wanted rest n g e h =
     ∙ args_behind args s (j ∷ []) k wanted rest n.1 g.1 e h
 
 end_back : (x : Option Kind) (k : Kind) (s : Scope) (target : List ℕ) (f : List Wanted) (u : Lexeme)
-    (go : Behind) → x ≡ Some k → (is_result s target && not (is_of_kind s.op.result k)) ≡ false
-    → after (with_rules (Some f) (gives_kind s (Some target) x)) u go ≡ go f (ended s target k)
+    (go : Behind) → x ≡ Some k → list_any (is_other_result s) (targets_of s target k) ≡ false
+    → after (with_rules (Some f) (gives_kind s (Some target) x)) u go
+    ≡ go f (ended s (targets_of s target k))
 end_back x k s target f u go e h =
     ap (λ y. after (with_rules (Some f) (gives_kind s (Some target) y)) u go) e
-    ∙ one_pass (is_result s target && not (is_of_kind s.op.result k)) why.Kind
-    (ended s target k) f u go h
+    ∙ one_pass (list_any (is_other_result s) (targets_of s target k)) why.Kind
+    (ended s (targets_of s target k)) f u go h
 
 -- a new name is not taken
 not_taken : (st a r d : Bool) → st ≡ (a || r) → (r ≡ true → a ≡ d) → a ≡ false
@@ -172,60 +180,111 @@ not_taken st a r d e f z = ap (λ x. x && not (r && not d)) (e ∙ ap (λ x. x |
     cases true true g = let e = g refl in cc
     cases true false g = refl
 
-fits_back : (r b : Bool) → (r ≡ true → b ≡ true) → (r && not b) ≡ false
-fits_back true b f = ap not (f refl)
-fits_back false b f = refl
+free_name : {stands : List (List ℕ)} {c : Context} → Standing stands c → (ops : List (List ℕ))
+    (count : ℕ) (n : List ℕ) → IsNew (used c) n
+    → is_taken_name (at_statement ops stands c count) n ≡ false
+free_name {stands} {c} st ops count n h =
+    not_taken (is_among stands n) (is_among (used c) n) (is_known (kind_among c.results n))
+    (is_known (kind_among c.known n)) (st.all n) (given-at st n) h
 
-pub kinds_same : (j k : Kind) → k ≡ j → same_kind j k ≡ true
-kinds_same Word Word e = refl
-kinds_same Bit Bit e = refl
-kinds_same Word Bit e = cc
-kinds_same Bit Word e = cc
+-- a second target that meets the rules breaks none
+second_back : {stands : List (List ℕ)} {c : Context} → Standing stands c → (ops : List (List ℕ))
+    (count : ℕ) (target : List ℕ) (second : Option (List ℕ)) (p : WordOp) (wanted : List Wanted)
+    (rest : List (List ℕ)) → SecondMeets c target second (second_kind p)
+    → breach_of wanted (in_word (record (at_statement ops stands c count) { naming = Some target })
+    second o.Not []) (items_spelled rest) ≡ None
+    → breach_of (SecondTarget ∷ wanted) (record (at_statement ops stands c count)
+    { naming = Some target }) (items_spelled (target_end second rest)) ≡ None
+unfolding breach_of
+second_back st ops count target None p wanted rest m h = h
+second_back {stands} {c} st ops count target (Some n) p wanted rest m h =
+    let f = second_facts c target n (second_kind p) m in
+    let s = record (at_statement ops stands c count) { naming = Some target } in
+    let more = codes "=" ∷ rest in
+    named NewTarget (Equals ∷ wanted) s n more (good_fits n f.gives.good)
+    ∙ two_pass (is_bad (spelling_of n) n) (bytes_eq target n || is_taken_name s n) why.BadName
+    why.Twice (in_word s (Some n) o.Not []) [] (name_lexeme n) (goes (Equals ∷ wanted) more)
+    (good_passes n f.gives.good)
+    (or_both (bytes_eq target n) (is_taken_name s n) f.other
+    (free_name st ops count n f.gives.new)) ∙ h
+
+has_second : (c : Context) (target : List ℕ) (second : Option (List ℕ)) (o : Option Kind)
+    → SecondMeets c target second o → has_targets second o ≡ true
+has_second c target None None m = refl
+has_second c target None (Some k) m = absurd m
+has_second c target (Some n) None m = absurd m
+has_second c target (Some n) (Some k) m = refl
+
+second_fits : (c : Context) (s : Scope) (target : List ℕ) (second : Option (List ℕ)) (p : WordOp)
+    → s.op.results ≡ c.results → SecondMeets c target second (second_kind p)
+    → list_any (is_other_result s) (second_of second p) ≡ false
+second_fits c s target None p e m = refl
+second_fits c s target (Some n) p e m =
+    let f = second_facts c target n (second_kind p) m in
+    or_both (is_other_result s (param n (second_gives p))) false
+    (ap (λ (l : List Param). is_known (kind_among l n)
+    && not (is_of_kind (kind_among l n) (second_gives p))) e
+    ∙ fits_same (kind_among c.results n) (second_gives p) f.gives.fits) refl
+
+operation_back : (p : WordOp) (s : Scope) (second : Option (List ℕ)) (wanted : List Wanted)
+    (rest : List (List ℕ)) → has_targets second (second_kind p) ≡ true
+    → breach_of wanted (in_word s second p []) (items_spelled rest) ≡ None
+    → breach_of (WordOpName ∷ Open ∷ wanted) (in_word s second o.Not [])
+    (items_spelled (op_text p ∷ codes "(" ∷ rest)) ≡ None
+unfolding breach_of
+operation_back p s second wanted rest t h =
+    operation_goes p (in_word s second o.Not []) (Open ∷ wanted) (codes "(" ∷ rest)
+    ∙ one_pass (not (has_targets second (second_kind p))) why.Kind (in_word s second p []) []
+    (name_lexeme (op_text p)) (goes (Open ∷ wanted) (codes "(" ∷ rest)) (ap not t) ∙ h
 
 -- Where what stands behind a statement breaks no rule, neither does the statement.
 abbrev pub Goes : Statement → List (List ℕ) → Context → ℕ → List Wanted → List (List ℕ) → Type 0
 Goes st ops c count wanted rest =
-    (stands : List (List ℕ)) (assigned : Bool) → Standing stands (behind c st) assigned
-    → breach_of (Stmts ∷ wanted) (at_statement ops stands (behind c st) assigned (count + 1))
+    (stands : List (List ℕ)) → Standing stands (behind c st)
+    → breach_of (Stmts ∷ wanted) (at_statement ops stands (behind c st) (count + 1))
     (items_spelled rest) ≡ None
 
-pub word_back : (target : List ℕ) (p : WordOp) (args : List (List ℕ)) (ops stands : List (List ℕ))
-    (c : Context) (assigned : Bool) (count : ℕ) (wanted : List Wanted) (rest : List (List ℕ))
-    → WordMeets c target p args → Each IsGood args → Standing stands c assigned → count < 16
-    → Goes (Compute target p args) ops c count wanted rest
-    → breach_of (Stmts ∷ wanted) (at_statement ops stands c assigned count)
-    (items_spelled (statement_text (Compute target p args) rest)) ≡ None
+pub word_back : (target : List ℕ) (second : Option (List ℕ)) (p : WordOp) (args : List (List ℕ))
+    (ops stands : List (List ℕ)) (c : Context) (count : ℕ) (wanted : List Wanted)
+    (rest : List (List ℕ))
+    → WordMeets c target second p args → Each IsGood args → Standing stands c → count < 16
+    → Goes (Compute target second p args) ops c count wanted rest
+    → breach_of (Stmts ∷ wanted) (at_statement ops stands c count)
+    (items_spelled (statement_text (Compute target second p args) rest)) ≡ None
 unfolding breach_of
-word_back target p args ops stands c assigned count wanted rest m g standing l go =
-    let s = at_statement ops stands c assigned count in
+word_back target second p args ops stands c count wanted rest m g standing l go =
+    let s = at_statement ops stands c count in
     let list = between_commas name_text args (codes ")" ∷ codes ";" ∷ rest) in
     let more = op_text p ∷ codes "(" ∷ list in
+    let text = target_end second more in
     let s1 : Scope = record s {
       op = record s.op { statements = count + 1 };
       naming = Some target;
     } in
-    let s2 : Scope = record s1 { word = record s1.word { operation = p } } in
     let given = map (kind_of c.known) args in
-    let s3 = with_given s2 given in
+    let s3 = in_word s1 second p given in
     let k = result_kind c.known p args in
     let plain = good_plain target m.gives.good in
-    let free = not_taken (is_among stands target) (is_among (used c) target)
-    (bytes_eq c.result.name target) assigned (standing.all target) (given-at standing target)
-    m.gives.new in
-    let fit = fits_back (bytes_eq c.result.name target) (same_kind c.result.kind k) (λ q.
-    kinds_same c.result.kind k (m.gives.fits (sym (same_name c.result.name target q)))) in
-    let last = go (stands ++ target ∷ []) (assigned || bytes_eq c.result.name target)
-    (word_standing standing target k) in
+    let ds = defines c.known (Compute target second p args) in
+    let last = go (stands ++ names_of ds) (word_standing standing ds) in
+    let fit = or_both (is_other_result s3 (param target k))
+    (list_any (is_other_result s3) (second_of second p))
+    (fits_same (kind_among c.results target) k m.gives.fits)
+    (second_fits c s3 target second p refl m.others) in
     let end = end_back (filled (forms p) given) k s3 target [] (mark (codes ";"))
     (goes (Stmts ∷ wanted) rest) m.takes fit ∙ last in
-    named Stmts wanted s target (codes "=" ∷ more) (good_fits target m.gives.good)
-    ∙ ap (λ n. after (step Stmts s (t.Name n) target (opens (items_spelled (codes "=" ∷ more))))
-    (name_lexeme target) (goes wanted (codes "=" ∷ more))) plain
-    ∙ three_pass (is_bad sp.Plain target) (is_among stands target
-    && not (bytes_eq c.result.name target && not assigned)) (nat_le 16 count) why.BadName
+    let arguments = args_back args (in_word s1 second p []) k (WordEnd ∷ Stmts ∷ wanted) (codes ";"
+    ∷ rest) m.known g m.takes end in
+    let operation = operation_back p s1 second (Args ∷ WordEnd ∷ Stmts ∷ wanted) list
+    (has_second c target second (second_kind p) m.others) arguments in
+    named Stmts wanted s target text (good_fits target m.gives.good)
+    ∙ ap (λ n. after (step Stmts s (t.Name n) target (opens (items_spelled text)))
+    (name_lexeme target) (goes wanted text)) plain
+    ∙ three_pass (is_bad sp.Plain target) (is_taken_name s target) (nat_le 16 count) why.BadName
     why.Twice why.TooMany
-    s1 (statement sp.Plain) (name_lexeme target) (goes wanted (codes "=" ∷ more))
+    s1 (statement sp.Plain) (name_lexeme target) (goes wanted text)
     (ap (λ n. is_bad n target) (sym plain)
-    ∙ good_passes target m.gives.good) free (le_passes 16 count l)
-    ∙ operation_moves p s1 (Args ∷ WordEnd ∷ Stmts ∷ wanted) list
-    ∙ args_back args s2 k (WordEnd ∷ Stmts ∷ wanted) (codes ";" ∷ rest) m.known g m.takes end
+    ∙ good_passes target m.gives.good) (free_name standing ops count target m.gives.new)
+    (le_passes 16 count l)
+    ∙ second_back standing ops (count + 1) target second p (WordOpName ∷ Open ∷ Args ∷ WordEnd
+    ∷ Stmts ∷ wanted) more m.others operation

@@ -1,7 +1,9 @@
 -- Ops that break no rule meet the rules.
 use Rattle.std.proofs.Common.{◌≡◌, ℕ, ◌+◌, ◌<◌, ◌≤◌, Bool, true, false, not, ◌||◌, nat_le, List, []}
 use Rattle.std.proofs.Common.{◌∷◌, ◌++◌, map, length, arith, Some, None, refl, sym, ap, ◌∙◌, codes}
-use Rattle.std.proofs.Common.{append_assoc, append-nil, bytes_eq, cond}
+use Rattle.std.proofs.Common.{append_assoc, append-nil, bytes_eq, cond, subst, Option}
+use Rattle.std.specs.List.{list_any}
+use Rattle.std.specs.Option.{unwrap_or}
 use Rattle.std.proofs.lemmas.List.{length-append}
 use Rattle.op_text.specs.declared.fault.OpsKind.TheVariants as why
 use Rattle.op_text.specs.declared.tree.Kind.{Kind}
@@ -10,82 +12,98 @@ use Rattle.op_text.specs.declared.tree.Param.{Param}
 use Rattle.op_text.specs.declared.grammar.Wanted.{Wanted}
 use Rattle.op_text.specs.declared.grammar.Wanted.TheVariants.{Ops, NewOp, Open, NewParam, ParamKind}
 use Rattle.op_text.specs.declared.grammar.Wanted.TheVariants.{Params, Arrow, NewResult, ResultKind}
-use Rattle.op_text.specs.declared.grammar.Wanted.TheVariants.{Colon, Begin, FirstStmt, Stmts}
+use Rattle.op_text.specs.declared.grammar.Wanted.TheVariants.{SecondResult, Colon, FirstStmt, Stmts}
 use Rattle.op_text.specs.Items.{spelling_of}
-use Rattle.op_text.specs.Rules.{Scope, breach_of, is_bad, is_among, kind_among}
-use Rattle.op_text.specs.Language.{Statement, Compute, Visit, Operation}
+use Rattle.op_text.specs.Rules.{Scope, breach_of, is_bad, is_among, kind_among, is_known}
+use Rattle.op_text.specs.Rules.{second_of}
+use Rattle.op_text.specs.Language.{Statement, Compute, Visit, Operation, results}
+use Rattle.op_text.specs.Language.{result_names}
+use Rattle.op_text.specs.declared.tree.WordOp.{WordOp}
 use Rattle.op_text.specs.Scratch.{param, defines, body_defines}
-use Rattle.op_text.specs.WordOps.{op_text}
+use Rattle.op_text.specs.WordOps.{op_text, second_kind}
 use Rattle.op_text.specs.Spelling.{items_spelled, between_commas, in_turn, name_text, param_text}
 use Rattle.op_text.specs.Spelling.{statement_text, operation_text, MeetRules, Each, HasStatement}
 use Rattle.op_text.specs.Spelling.{HasOperation}
 use Rattle.op_rules.specs.Meets.{IsNew, IsNewOf, Context, names_of, behind, StatementMeets}
-use Rattle.op_rules.specs.Meets.{BodyMeets, OperationMeets, OpsMeet, at_start}
+use Rattle.op_rules.specs.Meets.{BodyMeets, OperationMeets, OpsMeet, at_start, SecondMeets}
+use Rattle.op_rules.specs.Meets.{IsSecondTarget}
 use Rattle.op_rules.proofs.Names.{AllFresh, same_name, among-append, or_first, or_second}
-use Rattle.op_rules.proofs.Names.{fresh-differ}
+use Rattle.op_rules.proofs.Names.{fresh-new, fresh-differ}
+use Rattle.op_rules.proofs.Fitting.{known-among, Fits, found_each}
 use Rattle.op_rules.proofs.Tokens.{goes, name_lexeme, named, one_rule, two_rules, not_bad, le_no}
 use Rattle.op_rules.proofs.Tokens.{not_not}
 use Rattle.op_rules.proofs.Standing.{Standing, names-append}
 use Rattle.op_rules.proofs.Words.{at_statement, BehindStatement, word_peels, mark}
+use Rattle.op_rules.proofs.Words.{target_end}
 use Rattle.op_rules.proofs.Blocks.{block_peels}
-use Rattle.op_rules.proofs.Heads.{in_params, params_peel, result_peels}
+use Rattle.op_rules.proofs.Heads.{in_params, params_peel, results_text, results_peel}
 
-statement_peels : (st : Statement) (ops stands : List (List ℕ)) (c : Context) (assigned : Bool)
+statement_peels : (st : Statement) (ops stands : List (List ℕ)) (c : Context)
     (count : ℕ) (wanted : List Wanted) (rest : List (List ℕ)) → HasStatement st
-    → Standing stands c assigned
-    → breach_of (Stmts ∷ wanted) (at_statement ops stands c assigned count)
+    → Standing stands c
+    → breach_of (Stmts ∷ wanted) (at_statement ops stands c count)
     (items_spelled (statement_text st rest)) ≡ None → BehindStatement st ops c count wanted rest
-statement_peels (Compute target p args) ops stands c assigned count wanted rest n s h =
-    word_peels target p args ops stands c assigned count wanted rest n.0 n.1 s h
-statement_peels (Visit b) ops stands c assigned count wanted rest n s h =
-    block_peels b ops stands c assigned count wanted rest n s h
+statement_peels (Compute target second p args) ops stands c count wanted rest n s h =
+    word_peels target second p args ops stands c count wanted rest n s h
+statement_peels (Visit b) ops stands c count wanted rest n s h =
+    block_peels b ops stands c count wanted rest n s h
+
+-- all results can be read, and so are assigned
+abbrev pub AllGiven : List Param → List Param → Type 0
+AllGiven known rs = Each (λ (r : Param). is_among (names_of known) r.name ≡ true) rs
+
+all_given : (known rs : List Param)
+    → list_any (λ (r : Param). not (is_known (kind_among known r.name))) rs ≡ false
+    → AllGiven known rs
+all_given known [] h = tt
+all_given known (r ∷ rs) h =
+    let open_ = not (is_known (kind_among known r.name)) in
+    let more = list_any (λ (r : Param). not (is_known (kind_among known r.name))) rs in (
+      sym (known-among known r.name)
+          ∙ not_not (is_known (kind_among known r.name)) (or_first open_ more h),
+      all_given known rs (or_second open_ more h),
+    )
+
+pub given_moves : (a b rs : List Param) → a ≡ b → AllGiven a rs → AllGiven b rs
+given_moves a b rs e h = subst (λ (l : List Param). AllGiven l rs) e h
 
 -- a body, and the "}" behind it
 record WholeBody (body : List Statement) (ops : List (List ℕ)) (c : Context) (count : ℕ)
     (wanted : List Wanted) (rest : List (List ℕ)) : Type 0 where
   meets : BodyMeets c body
   few : count + length body ≤ 16
-  given : is_among (names_of (c.known ++ body_defines c.known body)) c.result.name ≡ true
+  given : AllGiven (c.known ++ body_defines c.known body) c.results
   then : breach_of wanted (in_params ops [] []) (items_spelled rest) ≡ None
 
-left_true : (a b : Bool) → (a || b) ≡ true → b ≡ false → a ≡ true
-left_true true b h g = refl
-left_true false b h g = absurd (not_both b h g)
-  where
-    not_both : (b : Bool) → b ≡ true → b ≡ false → ⊥
-    not_both true g h = cc
-    not_both false g h = cc
-
-body_peels : (body : List Statement) (ops stands : List (List ℕ)) (c : Context) (assigned : Bool)
+body_peels : (body : List Statement) (ops stands : List (List ℕ)) (c : Context)
     (count : ℕ) (wanted : List Wanted) (rest : List (List ℕ)) → Each HasStatement body
-    → Standing stands c assigned
-    → count ≤ 16 → breach_of (Stmts ∷ wanted) (at_statement ops stands c assigned count)
+    → Standing stands c
+    → count ≤ 16 → breach_of (Stmts ∷ wanted) (at_statement ops stands c count)
     (items_spelled (in_turn statement_text body (codes "}" ∷ rest))) ≡ None
     → WholeBody body ops c count wanted rest
 unfolding breach_of
-body_peels [] ops stands c assigned count wanted rest n s l h =
-    let k = one_rule (not assigned) why.NoResult (in_params ops [] []) [] (mark (codes "}"))
+body_peels [] ops stands c count wanted rest n s l h =
+    let k = one_rule (list_any (λ (r : Param). not (is_known (kind_among c.known r.name)))
+    c.results) why.NoResult (in_params ops [] []) [] (mark (codes "}"))
     (goes wanted rest) h in
-    let r = c.result.name in
-    let g = sym (among-append (names_of c.known) c.lets r) ∙ s.given ∙ not_not assigned k.0 in
     record {
       meets = tt;
       few = omega arith;
-      given = ap (λ l. is_among (names_of l) r) (append-nil c.known)
-          ∙ left_true (is_among (names_of c.known) r) (is_among c.lets r) g s.free;
+      given = given_moves c.known (c.known ++ []) c.results (sym (append-nil c.known))
+          (all_given c.known c.results k.0);
       then = k.1;
     }
-body_peels (st ∷ body) ops stands c assigned count wanted rest n s l h =
-    let p = statement_peels st ops stands c assigned count wanted
+body_peels (st ∷ body) ops stands c count wanted rest n s l h =
+    let p = statement_peels st ops stands c count wanted
     (in_turn statement_text body (codes "}" ∷ rest)) n.0 s h in
-    let q = body_peels body ops p.stands (behind c st) p.assigned (count + 1) wanted rest n.1
+    let q = body_peels body ops p.stands (behind c st) (count + 1) wanted rest n.1
     p.standing (let i = p.few in omega arith) p.then in
     record {
       meets = (p.meets, q.meets);
       few = let i = q.few in omega arith;
-      given = ap (λ l. is_among (names_of l) c.result.name)
-          (sym (append_assoc c.known (defines c.known st)
-          (body_defines (c.known ++ defines c.known st) body))) ∙ q.given;
+      given = given_moves _ (c.known ++ body_defines c.known (st ∷ body)) c.results
+          (append_assoc c.known (defines c.known st)
+          (body_defines (c.known ++ defines c.known st) body)) q.given;
       then = q.then;
     }
 
@@ -95,9 +113,9 @@ pub first_same : (st : Statement) (s : Scope) (wanted : List Wanted) (rest : Lis
     → breach_of (FirstStmt ∷ wanted) s (items_spelled (statement_text st rest))
     ≡ breach_of (Stmts ∷ wanted) s (items_spelled (statement_text st rest))
 unfolding breach_of
-first_same (Compute target p args) s wanted rest n =
-    let more = codes "=" ∷ op_text p ∷ codes "("
-    ∷ between_commas name_text args (codes ")" ∷ codes ";" ∷ rest) in
+first_same (Compute target second p args) s wanted rest n =
+    let more = target_end second (op_text p ∷ codes "("
+    ∷ between_commas name_text args (codes ")" ∷ codes ";" ∷ rest)) in
     named FirstStmt wanted s target more n.0 ∙ sym (named Stmts wanted s target more n.0)
 first_same (Visit b) s wanted rest n = refl
 
@@ -115,77 +133,86 @@ first_peels (st ∷ body) s wanted rest n h = (
   sym (first_same st s wanted (in_turn statement_text body (codes "}" ∷ rest)) n.0) ∙ h,
 )
 
--- the result is of its own kind wherever it is defined
-abbrev pub FitsResult : Param → Param → Type 0
-FitsResult r p = p.name ≡ r.name → p.kind ≡ r.kind
-
 pub each_append : {A : Type 0} (P : A → Type 0) (xs ys : List A) → Each P xs → Each P ys
     → Each P (xs ++ ys)
 each_append P [] ys g h = h
 each_append P (x ∷ xs) ys g h = (g.0, each_append P xs ys g.1 h)
 
-names_fit : (names : List (List ℕ)) (r : Param) (k : Kind) (ns : List (List ℕ))
-    → Each (IsNewOf names r k) ns → Each (FitsResult r) (map (λ n. param n k) ns)
-names_fit names r k [] h = tt
-names_fit names r k (n ∷ ns) h = (h.0.fits, names_fit names r k ns h.1)
+-- a name that is a result's is of the result's kind
+abbrev FitsResults : List Param → Param → Type 0
+FitsResults rs p = Fits (kind_among rs p.name) p.kind
+
+names_fit : (names : List (List ℕ)) (rs : List Param) (k : Kind) (ns : List (List ℕ))
+    → Each (IsNewOf names rs k) ns → Each (FitsResults rs) (map (λ n. param n k) ns)
+names_fit names rs k [] h = tt
+names_fit names rs k (n ∷ ns) h = (h.0.fits, names_fit names rs k ns h.1)
+
+-- a second target that stands is of its operation's second kind
+pub second_facts : (c : Context) (target name : List ℕ) (o : Option Kind)
+    → SecondMeets c target (Some name) o → IsSecondTarget c target (unwrap_or o Word) name
+second_facts c target name None m = absurd m
+second_facts c target name (Some k) m = m
+
+second_fits : (c : Context) (target : List ℕ) (second : Option (List ℕ)) (p : WordOp)
+    → SecondMeets c target second (second_kind p)
+    → Each (FitsResults c.results) (second_of second p)
+second_fits c target None p m = tt
+second_fits c target (Some n) p m = ((second_facts c target n (second_kind p) m).gives.fits, tt)
 
 statement_fits : (st : Statement) (c : Context) → StatementMeets c st
-    → Each (FitsResult c.result) (defines c.known st)
-statement_fits (Compute target p args) c h = (h.gives.fits, tt)
-statement_fits (Visit b) c h = each_append (FitsResult c.result) _ _
-    (names_fit _ c.result Bit _ h.states) (names_fit _ c.result Word _ h.words)
+    → Each (FitsResults c.results) (defines c.known st)
+statement_fits (Compute target second p args) c h =
+    (h.gives.fits, second_fits c target second p h.others)
+statement_fits (Visit b) c h = each_append (FitsResults c.results) _ _
+    (names_fit _ c.results Bit _ h.states) (names_fit _ c.results Word _ h.words)
 
 body_fits : (body : List Statement) (c : Context) → BodyMeets c body
-    → Each (FitsResult c.result) (body_defines c.known body)
+    → Each (FitsResults c.results) (body_defines c.known body)
 body_fits [] c h = tt
-body_fits (st ∷ body) c h = each_append (FitsResult c.result) (defines c.known st) _
+body_fits (st ∷ body) c h = each_append (FitsResults c.results) (defines c.known st) _
     (statement_fits st c h.0) (body_fits body (behind c st) h.1)
 
-found : (ps : List Param) (r : Param) → Each (FitsResult r) ps
+found : (ps rs : List Param) (r : Param) → Each (FitsResults rs) ps
+    → kind_among rs r.name ≡ Some r.kind
     → is_among (names_of ps) r.name ≡ true → kind_among ps r.name ≡ Some r.kind
-found [] r f h = cc
-found (p ∷ ps) r f h = cases (bytes_eq p.name r.name) refl h (λ g. found ps r f.1 g)
+found [] rs r f k h = cc
+found (p ∷ ps) rs r f k h = cases (bytes_eq p.name r.name) refl h (λ g. found ps rs r f.1 k g)
   where
     cases : (b : Bool) → bytes_eq p.name r.name ≡ b → (b || is_among (names_of ps) r.name) ≡ true
         → (is_among (names_of ps) r.name ≡ true → kind_among ps r.name ≡ Some r.kind)
         → cond b (Some p.kind) (kind_among ps r.name) ≡ Some r.kind
-    cases true e g k = ap Some (f.0 (same_name p.name r.name e))
-    cases false e g k = k g
+    cases true e g go = ap Some (sym (f.0 r.kind (ap (kind_among rs) (same_name p.name r.name e)
+        ∙ k)))
+    cases false e g go = go g
 
 right_true : (a b : Bool) → (a || b) ≡ true → a ≡ false → b ≡ true
 right_true true b h g = cc
 right_true false b h g = h
 
--- the result's kind, where a body that meets the rules gives it
-result_given : (op : Operation) → BodyMeets (at_start op) op.body
-    → IsNew (names_of op.params) op.result.name
-    → is_among (names_of (op.params ++ body_defines op.params op.body)) op.result.name ≡ true
-    → kind_among (body_defines op.params op.body) op.result.name ≡ Some op.result.kind
-result_given op m n h =
-    let ds = body_defines op.params op.body in
-    let r = op.result.name in
-    found ds op.result (body_fits op.body (at_start op) m)
-    (right_true (is_among (names_of op.params) r) (is_among (names_of ds) r)
-    (sym (among-append (names_of op.params) (names_of ds) r)
-    ∙ ap (λ l. is_among l r) (sym (names-append op.params ds)) ∙ h) n)
+-- the results' kinds, where a body that meets the rules gives them
+results_given : (params ds all rs : List Param) → Each (FitsResults all) ds
+    → Each (λ (r : Param). kind_among all r.name ≡ Some r.kind) rs
+    → Each (IsNew (names_of params)) (names_of rs) → AllGiven (params ++ ds) rs
+    → Each (λ (r : Param). kind_among ds r.name ≡ Some r.kind) rs
+results_given params ds all [] f k n h = tt
+results_given params ds all (r ∷ rs) f k n h = (
+  found ds all r f k.0
+      (right_true (is_among (names_of params) r.name) (is_among (names_of ds) r.name)
+      (sym (among-append (names_of params) (names_of ds) r.name)
+      ∙ ap (λ l. is_among l r.name) (sym (names-append params ds)) ∙ h.0) n.0),
+  results_given params ds all rs f k.1 n.1 h.1,
+)
 
-or_nothing : (a r : Bool) → (a || (r || false)) ≡ (a || r)
-or_nothing true r = refl
-or_nothing false true = refl
-or_nothing false false = refl
-
-pub start_standing : (op : Operation) → IsNew (names_of op.params) op.result.name
-    → Standing (names_of op.params ++ op.result.name ∷ []) (at_start op) false
-start_standing op h =
-    let e = append-nil (names_of op.params) in
-    record {
-      all = λ n.
-          among-append (names_of op.params) (op.result.name ∷ []) n
-          ∙ or_nothing (is_among (names_of op.params) n) (bytes_eq op.result.name n)
-          ∙ ap (λ l. is_among l n || bytes_eq op.result.name n) (sym e);
-      given = ap (λ l. is_among l op.result.name) e ∙ h;
-      free = refl;
-    }
+pub start_standing : (op : Operation)
+    → Standing (names_of op.params ++ result_names op) (at_start op)
+start_standing op = record {
+  all = λ n.
+      among-append (names_of op.params) (result_names op) n
+      ∙ ap (λ x. is_among (names_of op.params) n || x) (sym (known-among (results op) n))
+      ∙ ap (λ l. is_among l n || is_known (kind_among (results op) n))
+      (sym (append-nil (names_of op.params)));
+  free = λ n q. refl;
+}
 
 -- what stands behind an op
 record BehindOp (op : Operation) (ops : List (List ℕ)) (rest : List (List ℕ)) : Type 0 where
@@ -200,9 +227,9 @@ op_peels : (op : Operation) (ops : List (List ℕ)) (rest : List (List ℕ)) →
 unfolding breach_of
 op_peels op ops rest n h =
     let body = in_turn statement_text op.body (codes "}" ∷ rest) in
-    let head = codes "->" ∷ param_text op.result (codes "{" ∷ body) in
+    let head = codes "->" ∷ results_text op.result op.second body in
     let params = between_commas param_text op.params (codes ")" ∷ head) in
-    let first = NewResult ∷ Colon ∷ ResultKind ∷ Begin ∷ FirstStmt ∷ Ops ∷ [] in
+    let first = NewResult ∷ Colon ∷ ResultKind ∷ SecondResult ∷ FirstStmt ∷ Ops ∷ [] in
     let behind = Open ∷ NewParam ∷ Colon ∷ ParamKind ∷ Params ∷ Arrow ∷ first in
     let a = one_rule (nat_le 32 (length ops)) why.TooMany (in_params ops [] []) (NewOp
     ∷ behind) (name_lexeme (codes "op")) (goes [] (op.name ∷ codes "(" ∷ params)) h in
@@ -215,12 +242,15 @@ op_peels op ops rest n h =
     (in_params more [] []) [] (name_lexeme op.name) (goes behind (codes "(" ∷ params)) g in
     let p = params_peel op.params more (Arrow ∷ first) head n.params b.2 in
     let q = p.1 in
-    let r = result_peels more (names_of op.params) op.params op.result (Begin ∷ FirstStmt ∷ Ops
-    ∷ []) (codes "{" ∷ body) n.result q.then in
-    let f = first_peels op.body (at_statement more (names_of op.params ++ op.result.name
-    ∷ []) (at_start op) false 0) (Ops ∷ []) rest n.body r.2 in
-    let w = body_peels op.body more (names_of op.params ++ op.result.name ∷ []) (at_start op) false
-    0 (Ops ∷ []) rest n.body (start_standing op r.1) (omega arith) f.1 in
+    let r = results_peel more (names_of op.params) op.params op.result op.second (FirstStmt ∷ Ops
+    ∷ []) body n.result n.second q.then in
+    let new = fresh-new (names_of op.params) (result_names op) r.fresh in
+    let differ = fresh-differ (names_of op.params) (result_names op) r.fresh in
+    let stands = names_of op.params ++ result_names op in
+    let f = first_peels op.body (at_statement more stands (at_start op) 0) (Ops ∷ []) rest n.body
+    r.then in
+    let w = body_peels op.body more stands (at_start op) 0 (Ops ∷ []) rest n.body
+    (start_standing op) (omega arith) f.1 in
     record {
       meets = record {
         name = not_bad op.name (or_first (is_bad (spelling_of op.name) op.name)
@@ -231,12 +261,15 @@ op_peels op ops rest n h =
         few_params = let i = q.few in omega arith;
         params = q.good;
         params_differ = fresh-differ [] (names_of op.params) q.fresh;
-        result_good = r.0;
-        result_new = r.1;
+        results_good = r.good;
+        results_new = new;
+        results_differ = differ;
         has_body = f.0;
         few_statements = let i = w.few in omega arith;
         body = w.meets;
-        result_given = result_given op w.meets r.1 w.given;
+        results_given = results_given op.params (body_defines op.params op.body) (results op)
+            (results op) (body_fits op.body (at_start op) w.meets) (found_each (results op) differ)
+            new w.given;
       };
       few = le_no 32 (length ops) a.0;
       fresh = b.1;

@@ -1,7 +1,7 @@
 -- The states of a block.
 use Rattle.std.proofs.Common.{◌≡◌, ℕ, ◌+◌, ◌<◌, ◌≤◌, Bool, true, false, ◌||◌, ◌&&◌, nat_le, List}
 use Rattle.std.proofs.Common.{[], ◌∷◌, ◌++◌, map, length, arith, Some, None, refl, sym, ap, ◌∙◌}
-use Rattle.std.proofs.Common.{codes, subst, append_assoc, append-nil, bytes_eq, cond}
+use Rattle.std.proofs.Common.{codes, subst, append_assoc, append-nil, cond}
 use Rattle.std.proofs.lemmas.List.{length-append}
 use Rattle.op_text.specs.declared.terminal.Terminal.TheVariants as t
 use Rattle.text_lex.specs.Lexical.{Item}
@@ -12,16 +12,16 @@ use Rattle.op_text.specs.declared.grammar.Wanted.{Wanted}
 use Rattle.op_text.specs.declared.grammar.Wanted.TheVariants.{States, StateName, Start, MoreStates}
 use Rattle.op_text.specs.declared.grammar.Wanted.TheVariants.{Equals}
 use Rattle.op_text.specs.Items.{spelling_of}
-use Rattle.op_text.specs.WordOps.{same_kind}
 use Rattle.op_text.specs.Rules.{Scope, breach_of, is_bad, is_taken_state, is_among, step, after}
-use Rattle.op_text.specs.Rules.{with_rules, state_rules}
+use Rattle.op_text.specs.Rules.{with_rules, state_rules, kind_among, is_known, is_of_kind}
 use Rattle.op_text.specs.Spelling.{items_spelled, start_text, between_commas, behind_commas}
 use Rattle.op_text.specs.Spelling.{state_text, Each, HasState}
 use Rattle.op_rules.specs.Meets.{Context, IsNewOf, IsNew, used}
-use Rattle.op_rules.proofs.Names.{AllFresh, among-append, is_same}
+use Rattle.op_rules.proofs.Names.{AllFresh, among-append}
 use Rattle.op_rules.proofs.Tokens.{goes, name_lexeme, named, three_rules, not_bad, le_no}
 use Rattle.op_rules.proofs.Standing.{Standing, given-at}
-use Rattle.op_rules.proofs.Words.{at_statement, same_kinds}
+use Rattle.op_rules.proofs.Fitting.{of_known, fits_of}
+use Rattle.op_rules.proofs.Words.{at_statement}
 
 abbrev pub state_names_of : List State → List (List ℕ)
 state_names_of ss = map (λ (s : State). s.name) ss
@@ -56,8 +56,8 @@ state_new st a r b d m e f h = cases a r b d m f (sym (ap (cond (r && b) (d || m
     cases false false b d false f h = (refl, refl, λ q. cc)
 
 -- the context of a block, and the scope before it
-abbrev pub before_block : List (List ℕ) → List (List ℕ) → Context → Bool → ℕ → Scope
-before_block ops stands c assigned count = at_statement ops stands c assigned (count + 1)
+abbrev pub before_block : List (List ℕ) → List (List ℕ) → Context → ℕ → Scope
+before_block ops stands c count = at_statement ops stands c (count + 1)
 
 pub state_moves : (s : Scope) (stands done : List (List ℕ)) (n : List ℕ) (wanted : List Wanted)
     (items : List Item)
@@ -80,24 +80,21 @@ unfolding breach_of
 start_moves false s wanted rest = refl
 start_moves true s wanted rest = refl
 
-state_facts : (ops stands : List (List ℕ)) (c : Context) (assigned : Bool) (count : ℕ)
-    (done : List (List ℕ)) (n : List ℕ) → Standing stands c assigned
+state_facts : (ops stands : List (List ℕ)) (c : Context) (count : ℕ)
+    (done : List (List ℕ)) (n : List ℕ) → Standing stands c
     → is_bad (spelling_of n) n ≡ false
-    → is_taken_state (in_states (before_block ops stands c assigned count) stands done) n
+    → is_taken_state (in_states (before_block ops stands c count) stands done) n
     ≡ false
-    → IsNewOf (used c) c.result Bit n × IsNew done n
-state_facts ops stands c assigned count done n st g t =
-    let r = bytes_eq c.result.name n in
+    → IsNewOf (used c) c.results Bit n × IsNew done n
+state_facts ops stands c count done n st g t =
+    let o = kind_among c.results n in
+    let st' = is_among (stands ++ done) n in
+    let d = is_known (kind_among c.known n) in
     let k =
-    state_new (is_among (stands ++ done) n) (is_among (used c) n) r (same_kind c.result.kind Bit)
-    assigned (is_among done n)
-    (among-append stands done n ∙ ap (λ x. x || is_among done n) (st.all n)) (given-at st n) t in (
-      record {
-        good = not_bad n g;
-        new = k.0;
-        fits = λ q.
-            same_kinds c.result.kind Bit (k.2 (is_same c.result.name n (sym q)));
-      },
+    state_new st' (is_among (used c) n) (is_known o) (is_of_kind o Bit) d (is_among done n)
+    (among-append stands done n ∙ ap (λ x. x || is_among done n) (st.all n)) (given-at st n)
+    (ap (λ x. cond x (d || is_among done n) st') (sym (of_known o Bit)) ∙ t) in (
+      record { good = not_bad n g; new = k.0; fits = fits_of o Bit k.2 },
       k.1,
     )
 
@@ -105,16 +102,16 @@ state_facts ops stands c assigned count done n st g t =
 state_peels : (w : Wanted) (front : List Wanted)
     → ((s : Scope) (n : List ℕ) (o : Bool) → step w s (t.Name (spelling_of n)) n o
     ≡ with_rules (Some front) (state_rules s (spelling_of n) n))
-    → (ops stands : List (List ℕ)) (c : Context) (assigned : Bool) (count : ℕ)
+    → (ops stands : List (List ℕ)) (c : Context) (count : ℕ)
     (done : List (List ℕ)) (s : State) (wanted : List Wanted) (rest : List (List ℕ))
-    → HasState s → Standing stands c assigned
-    → breach_of (w ∷ wanted) (in_states (before_block ops stands c assigned count) stands done)
+    → HasState s → Standing stands c
+    → breach_of (w ∷ wanted) (in_states (before_block ops stands c count) stands done)
     (items_spelled (state_text s rest)) ≡ None
-    → IsNewOf (used c) c.result Bit s.name × IsNew done s.name × (length done < 8)
-    × (breach_of (front ++ wanted) (in_states (before_block ops stands c assigned count) stands
+    → IsNewOf (used c) c.results Bit s.name × IsNew done s.name × (length done < 8)
+    × (breach_of (front ++ wanted) (in_states (before_block ops stands c count) stands
     (done ++ s.name ∷ [])) (items_spelled (codes "=" ∷ start_text s.start ∷ rest)) ≡ None)
-state_peels w front same ops stands c assigned count done s wanted rest n st h =
-    let here = in_states (before_block ops stands c assigned count) stands done in
+state_peels w front same ops stands c count done s wanted rest n st h =
+    let here = in_states (before_block ops stands c count) stands done in
     let more = codes "=" ∷ start_text s.start ∷ rest in
     let g = sym (ap (λ x. after x (name_lexeme s.name) (goes wanted more)) (same here s.name _))
     ∙ sym (named w wanted here s.name more n) ∙ h in
@@ -126,21 +123,21 @@ state_peels w front same ops stands c assigned count done s wanted rest n st h =
       block = (in_states here stands (done ++ s.name ∷ [])).block;
     }) front (name_lexeme s.name)
     (goes wanted more) g in
-    let f = state_facts ops stands c assigned count done s.name st k.0 k.1 in (
+    let f = state_facts ops stands c count done s.name st k.0 k.1 in (
       f.0,
       f.1,
       le_no 8 (length done) k.2,
-      state_moves (before_block ops stands c assigned count)
+      state_moves (before_block ops stands c count)
           stands done s.name (front ++ wanted) (items_spelled more) k.3,
     )
 
-pub record AllStates (ops stands : List (List ℕ)) (c : Context) (assigned : Bool) (count : ℕ)
+pub record AllStates (ops stands : List (List ℕ)) (c : Context) (count : ℕ)
     (done : List (List ℕ)) (ss : List State) (wanted : List Wanted) (rest : List (List ℕ)) : Type 0
   where
-    pub are : Each (IsNewOf (used c) c.result Bit) (state_names_of ss)
+    pub are : Each (IsNewOf (used c) c.results Bit) (state_names_of ss)
     pub fresh : AllFresh done (state_names_of ss)
     pub few : length done + length ss ≤ 8
-    pub then : breach_of wanted (in_states (before_block ops stands c assigned count) stands (done
+    pub then : breach_of wanted (in_states (before_block ops stands c count) stands (done
         ++ state_names_of ss)) (items_spelled rest) ≡ None
 
 pub done_moves : (s : Scope) (stands a b : List (List ℕ)) → a ≡ b
@@ -153,29 +150,29 @@ done_moves s stands a b e wanted items h = subst
 length-more : (done : List (List ℕ)) (n : List ℕ) → length (done ++ n ∷ []) ≡ length done + 1
 length-more done n = length-append done (n ∷ [])
 
-states_behind : (ss : List State) (ops stands : List (List ℕ)) (c : Context) (assigned : Bool)
+states_behind : (ss : List State) (ops stands : List (List ℕ)) (c : Context)
     (count : ℕ) (done : List (List ℕ)) (wanted : List Wanted) (rest : List (List ℕ))
-    → Each HasState ss → Standing stands c assigned
+    → Each HasState ss → Standing stands c
     → length done ≤ 8
-    → breach_of (MoreStates ∷ wanted) (in_states (before_block ops stands c assigned count) stands
+    → breach_of (MoreStates ∷ wanted) (in_states (before_block ops stands c count) stands
     done) (items_spelled (behind_commas state_text ss (codes ")" ∷ rest))) ≡ None
-    → AllStates ops stands c assigned count done ss wanted rest
+    → AllStates ops stands c count done ss wanted rest
 unfolding breach_of
-states_behind [] ops stands c assigned count done wanted rest n st l h =
+states_behind [] ops stands c count done wanted rest n st l h =
     record {
       are = tt;
       fresh = tt;
       few = omega arith;
-      then = done_moves (before_block ops stands c assigned count) stands done (done
+      then = done_moves (before_block ops stands c count) stands done (done
           ++ []) (sym (append-nil done)) wanted (items_spelled rest) h;
     }
-states_behind (s ∷ ss) ops stands c assigned count done wanted rest n st l h =
+states_behind (s ∷ ss) ops stands c count done wanted rest n st l h =
     let more = behind_commas state_text ss (codes ")" ∷ rest) in
-    let here = before_block ops stands c assigned count in
-    let p = state_peels StateName [] (λ s n o. refl) ops stands c assigned count done s (Equals
+    let here = before_block ops stands c count in
+    let p = state_peels StateName [] (λ s n o. refl) ops stands c count done s (Equals
     ∷ Start ∷ MoreStates ∷ wanted) more n.0 st h in
     let e = length-more done s.name in
-    let q = states_behind ss ops stands c assigned count (done ++ s.name ∷ []) wanted rest n.1 st
+    let q = states_behind ss ops stands c count (done ++ s.name ∷ []) wanted rest n.1 st
     (let i = p.2 in omega arith)
     (sym (start_moves s.start (in_states here stands (done ++ s.name ∷ [])) (MoreStates
     ∷ wanted) more) ∙ p.3) in
@@ -187,21 +184,21 @@ states_behind (s ∷ ss) ops stands c assigned count done wanted rest n st l h =
           (append_assoc done (s.name ∷ []) (state_names_of ss)) wanted (items_spelled rest) q.then;
     }
 
-pub states_peel : (ss : List State) (ops stands : List (List ℕ)) (c : Context) (assigned : Bool)
+pub states_peel : (ss : List State) (ops stands : List (List ℕ)) (c : Context)
     (count : ℕ) (wanted : List Wanted) (rest : List (List ℕ)) → Each HasState ss
-    → Standing stands c assigned
-    → breach_of (States ∷ wanted) (in_states (before_block ops stands c assigned count) stands [])
+    → Standing stands c
+    → breach_of (States ∷ wanted) (in_states (before_block ops stands c count) stands [])
     (items_spelled (between_commas state_text ss (codes ")" ∷ rest))) ≡ None
-    → AllStates ops stands c assigned count [] ss wanted rest
+    → AllStates ops stands c count [] ss wanted rest
 unfolding breach_of
-states_peel [] ops stands c assigned count wanted rest n st h =
+states_peel [] ops stands c count wanted rest n st h =
     record { are = tt; fresh = tt; few = omega arith; then = h }
-states_peel (s ∷ ss) ops stands c assigned count wanted rest n st h =
+states_peel (s ∷ ss) ops stands c count wanted rest n st h =
     let more = behind_commas state_text ss (codes ")" ∷ rest) in
-    let here = before_block ops stands c assigned count in
+    let here = before_block ops stands c count in
     let p = state_peels States (Equals ∷ Start ∷ MoreStates ∷ []) (λ s n o. refl) ops stands c
-    assigned count [] s wanted more n.0 st h in
-    let q = states_behind ss ops stands c assigned count (s.name ∷ []) wanted rest n.1 st
+    count [] s wanted more n.0 st h in
+    let q = states_behind ss ops stands c count (s.name ∷ []) wanted rest n.1 st
     (omega arith) (sym (start_moves s.start (in_states here stands (s.name ∷ [])) (MoreStates
     ∷ wanted) more) ∙ p.3) in
     record {

@@ -1,5 +1,5 @@
 -- A word statement that breaks no rule meets the rules.
-use Rattle.std.proofs.Common.{◌≡◌, ℕ, ◌+◌, ◌<◌, Bool, true, false, not, ◌||◌, ◌&&◌, nat_le, List}
+use Rattle.std.proofs.Common.{◌≡◌, ℕ, ◌+◌, ◌<◌, Bool, true, false, not, ◌||◌, nat_le, List}
 use Rattle.std.proofs.Common.{[], ◌∷◌, ◌++◌, map, Option, Some, None, refl, sym, ap, ◌∙◌, codes}
 use Rattle.std.proofs.Common.{subst, append_assoc, append-nil, bytes_eq}
 use Rattle.std.specs.Option.{unwrap_or}
@@ -10,102 +10,160 @@ use Rattle.op_text.specs.declared.fault.OpsKind.TheVariants as why
 use Rattle.op_text.specs.declared.terminal.Spelling.{Spelling}
 use Rattle.op_text.specs.declared.terminal.Spelling.TheVariants as sp
 use Rattle.op_text.specs.declared.tree.Kind.{Kind}
-use Rattle.op_text.specs.declared.tree.Kind.TheVariants.{Word, Bit}
+use Rattle.op_text.specs.declared.tree.Kind.TheVariants.{Word}
 use Rattle.op_text.specs.declared.tree.Param.{Param}
 use Rattle.op_text.specs.declared.tree.WordOp.{WordOp}
 use Rattle.op_text.specs.declared.tree.WordOp.TheVariants as o
 use Rattle.op_text.specs.declared.grammar.Wanted.{Wanted}
 use Rattle.op_text.specs.declared.grammar.Wanted.TheVariants.{Stmts, WordOpName, Open, Args}
-use Rattle.op_text.specs.declared.grammar.Wanted.TheVariants.{ArgName, MoreArgs, WordEnd}
+use Rattle.op_text.specs.declared.grammar.Wanted.TheVariants.{ArgName, MoreArgs, WordEnd, Direction}
+use Rattle.op_text.specs.declared.grammar.Wanted.TheVariants.{SecondTarget, NewTarget, Equals}
 use Rattle.op_text.specs.Grammar.{statement}
 use Rattle.op_text.specs.Items.{spelling_of}
 use Rattle.op_text.specs.WordOps.{op_text, forms, filled, lacks, is_part, is_whole, is_begun}
-use Rattle.op_text.specs.WordOps.{given_first, first_of, same_kind}
-use Rattle.op_text.specs.Rules.{Scope, breach_of, after, with_rules, is_bad, stands_already}
-use Rattle.op_text.specs.Rules.{is_open_result, is_result, is_of_kind, is_among, kind_among}
-use Rattle.op_text.specs.Rules.{statement_rules, argument_of_kind, gives_kind, new_word, new_block}
+use Rattle.op_text.specs.WordOps.{given_first, first_of, second_kind}
+use Rattle.op_text.specs.Rules.{Scope, breach_of, after, with_rules, is_bad, is_taken_name}
+use Rattle.op_text.specs.Rules.{is_called, is_among, kind_among, is_known, has_targets, known_op}
+use Rattle.op_text.specs.Rules.{statement_rules, argument_of_kind, gives_kind, is_other_result}
+use Rattle.op_text.specs.Rules.{second_of, new_word, new_block}
 use Rattle.op_text.specs.Language.{Statement, Compute}
-use Rattle.op_text.specs.Scratch.{kind_of, result_kind, param}
-use Rattle.op_text.specs.Spelling.{items_spelled, between_commas, behind_commas, name_text}
-use Rattle.op_text.specs.Spelling.{statement_text, Each, IsName}
+use Rattle.op_text.specs.Scratch.{kind_of, result_kind, param, defines}
+use Rattle.op_text.specs.Spelling.{items_spelled, behind_comma, between_commas, behind_commas}
+use Rattle.op_text.specs.Spelling.{name_text, statement_text, Each, IfThere, IsName, HasStatement}
 use Rattle.op_text.proofs.Operations.{first_settles}
-use Rattle.op_rules.specs.Meets.{Context, IsKnown, StatementMeets, behind, used}
-use Rattle.op_rules.proofs.Names.{is_same, turned, among-append}
-use Rattle.op_rules.proofs.Tokens.{Behind, goes, name_lexeme, named, one_rule, next_rule}
-use Rattle.op_rules.proofs.Tokens.{three_rules, not_bad, le_no}
-use Rattle.op_rules.proofs.Standing.{Standing, given-at, standing-more, more_context, word_new}
+use Rattle.op_rules.specs.Meets.{Context, IsKnown, IsNew, SecondMeets, StatementMeets, behind, used}
+use Rattle.op_rules.specs.Meets.{names_of}
+use Rattle.op_rules.proofs.Names.{among-append, or_first, or_second}
+use Rattle.op_rules.proofs.Fitting.{same_fits}
+use Rattle.op_rules.proofs.Tokens.{Behind, goes, name_lexeme, named, one_rule, two_rules, next_rule}
+use Rattle.op_rules.proofs.Tokens.{three_rules, not_bad, not_not, le_no}
+use Rattle.op_rules.proofs.Standing.{Standing, given-at, standing-more, word_new, more_context}
 
 abbrev pub mark : List ℕ → Lexeme
 mark x = record { kind = kinds.Symbol; text = x; start = 0 }
 
--- the target of a word statement
+-- the tokens of a word statement behind its first target
+abbrev pub target_end : Option (List ℕ) → List (List ℕ) → List (List ℕ)
+target_end second rest = behind_comma name_text second (codes "=" ∷ rest)
+
+-- the first target of a word statement
 record BehindTarget (n : Spelling) (s : Scope) (target : List ℕ) (wanted : List Wanted)
     (rest : List (List ℕ)) : Type 0 where
   good : is_bad n target ≡ false
-  new : (stands_already s target && not (is_open_result s target)) ≡ false
+  new : is_taken_name s target ≡ false
   few : nat_le 16 s.op.statements ≡ false
-  then : breach_of (WordOpName ∷ Open ∷ Args ∷ WordEnd ∷ Stmts
+  then : breach_of (SecondTarget ∷ WordOpName ∷ Open ∷ Args ∷ WordEnd ∷ Stmts
       ∷ wanted) (record s {
         op = record s.op { statements = s.op.statements + 1 };
         naming = Some target;
       }) (items_spelled rest) ≡ None
 
-target_peels : (n : Spelling) (s : Scope) (target : List ℕ) (wanted : List Wanted)
-    (rest : List (List ℕ))
-    → after (with_rules (Some (statement n)) (statement_rules s n target)) (name_lexeme target)
-    (goes wanted (codes "=" ∷ rest)) ≡ None → BehindTarget n s target wanted rest
+-- no block goes on so
+no_block : (second : Option (List ℕ)) (s : Scope) (wanted : List Wanted) (rest : List (List ℕ))
+    → IfThere IsName second
+    → breach_of (Direction ∷ wanted) s (items_spelled (target_end second rest)) ≡ None → ⊥
 unfolding breach_of
-target_peels sp.Plain s target wanted rest h =
+no_block None s wanted rest n h = cc
+no_block (Some name) s wanted rest n h = cc
+
+target_peels : (n : Spelling) (s : Scope) (target : List ℕ) (second : Option (List ℕ))
+    (wanted : List Wanted) (rest : List (List ℕ)) → IfThere IsName second
+    → after (with_rules (Some (statement n)) (statement_rules s n target)) (name_lexeme target)
+    (goes wanted (target_end second rest)) ≡ None
+    → BehindTarget n s target wanted (target_end second rest)
+target_peels sp.Plain s target second wanted rest m h =
     let k =
-    three_rules (is_bad sp.Plain target) (stands_already s target && not (is_open_result s target))
+    three_rules (is_bad sp.Plain target) (is_taken_name s target)
     (nat_le 16 s.op.statements) why.BadName why.Twice why.TooMany
     (record s { op = record s.op { statements = s.op.statements + 1 }; naming = Some target })
-    (statement sp.Plain) (name_lexeme target) (goes wanted (codes "=" ∷ rest)) h in
+    (statement sp.Plain) (name_lexeme target) (goes wanted (target_end second rest)) h in
     record { good = k.0; new = k.1; few = k.2; then = k.3 }
-target_peels sp.Serial s target wanted rest h =
+target_peels sp.Serial s target second wanted rest m h =
     let k = one_rule (nat_le 16 s.op.statements) why.TooMany
     (record s { op = record s.op { statements = s.op.statements + 1 }; block = new_block })
-    (statement sp.Serial) (name_lexeme target) (goes wanted (codes "=" ∷ rest)) h in
-    let e = k.1 in cc
-target_peels sp.Op s target wanted rest h = cc
-target_peels sp.Word s target wanted rest h = cc
-target_peels sp.Bit s target wanted rest h = cc
-target_peels sp.Up s target wanted rest h = cc
-target_peels sp.Down s target wanted rest h = cc
-target_peels sp.Let s target wanted rest h = cc
+    (statement sp.Serial) (name_lexeme target) (goes wanted (target_end second rest)) h in
+    absurd (no_block second _ _ rest m k.1)
+target_peels sp.Op s target second wanted rest m h = cc
+target_peels sp.Word s target second wanted rest m h = cc
+target_peels sp.Bit s target second wanted rest m h = cc
+target_peels sp.Up s target second wanted rest m h = cc
+target_peels sp.Down s target second wanted rest m h = cc
+target_peels sp.Let s target second wanted rest m h = cc
+
+-- the scope in a word statement
+abbrev pub in_word : Scope → Option (List ℕ) → WordOp → List Kind → Scope
+in_word s second p given =
+    record s { word = record { second = second; operation = p; given = given } }
+
+-- what the rules say of a second target
+pub record SecondFacts (s : Scope) (n : List ℕ) : Type 0 where
+  pub good : is_bad (spelling_of n) n ≡ false
+  pub new : (is_called s.naming n || is_taken_name s n) ≡ false
+
+-- the second target of a word statement, if there is one
+second_peels : (second : Option (List ℕ)) (s : Scope) (wanted : List Wanted)
+    (rest : List (List ℕ)) → IfThere IsName second
+    → breach_of (SecondTarget ∷ wanted) (in_word s None o.Not [])
+    (items_spelled (target_end second rest)) ≡ None
+    → IfThere (SecondFacts s) second
+    × (breach_of wanted (in_word s second o.Not []) (items_spelled rest) ≡ None)
+unfolding breach_of
+second_peels None s wanted rest m h = (tt, h)
+second_peels (Some n) s wanted rest m h =
+    let more = codes "=" ∷ rest in
+    let s0 = in_word s None o.Not [] in
+    let g = sym (named NewTarget (Equals ∷ wanted) s0 n more m) ∙ h in
+    let k = two_rules (is_bad (spelling_of n) n) (is_called s.naming n || is_taken_name s n)
+    why.BadName why.Twice (in_word s (Some n) o.Not []) [] (name_lexeme n)
+    (goes (Equals ∷ wanted) more) g in
+    (record { good = k.0; new = k.1 }, k.2)
 
 -- the name of a word operation
-pub operation_moves : (p : WordOp) (s : Scope) (wanted : List Wanted) (rest : List (List ℕ))
-    → breach_of (WordOpName ∷ Open ∷ wanted) s (items_spelled (op_text p ∷ codes "(" ∷ rest))
-    ≡ breach_of wanted (record s { word = record s.word { operation = p } })
-    (items_spelled rest)
+pub operation_goes : (p : WordOp) (s : Scope) (wanted : List Wanted) (rest : List (List ℕ))
+    → breach_of (WordOpName ∷ wanted) s (items_spelled (op_text p ∷ rest))
+    ≡ after (with_rules (Some []) (known_op s (Some p))) (name_lexeme (op_text p))
+    (goes wanted rest)
 unfolding breach_of
-operation_moves o.Not s wanted rest = refl
-operation_moves o.And s wanted rest = refl
-operation_moves o.Or s wanted rest = refl
-operation_moves o.Xor s wanted rest = refl
-operation_moves o.Copy s wanted rest = refl
-operation_moves o.Zero s wanted rest = refl
-operation_moves o.Ones s wanted rest = refl
-operation_moves o.Shl1 s wanted rest = refl
-operation_moves o.Shr1 s wanted rest = refl
-operation_moves o.Add s wanted rest = refl
-operation_moves o.Sub s wanted rest = refl
-operation_moves o.Mul s wanted rest = refl
-operation_moves o.Div s wanted rest = refl
-operation_moves o.Rem s wanted rest = refl
-operation_moves o.Abs s wanted rest = refl
-operation_moves o.Relu s wanted rest = refl
-operation_moves o.Min s wanted rest = refl
-operation_moves o.Max s wanted rest = refl
-operation_moves o.Eq s wanted rest = refl
-operation_moves o.Gt s wanted rest = refl
-operation_moves o.Ge s wanted rest = refl
-operation_moves o.IfElse s wanted rest = refl
-operation_moves o.Bitcount s wanted rest = refl
-operation_moves o.AndRed s wanted rest = refl
-operation_moves o.OrRed s wanted rest = refl
-operation_moves o.XorRed s wanted rest = refl
+operation_goes o.Not s wanted rest = refl
+operation_goes o.And s wanted rest = refl
+operation_goes o.Or s wanted rest = refl
+operation_goes o.Xor s wanted rest = refl
+operation_goes o.Copy s wanted rest = refl
+operation_goes o.Zero s wanted rest = refl
+operation_goes o.Ones s wanted rest = refl
+operation_goes o.Shl1 s wanted rest = refl
+operation_goes o.Shr1 s wanted rest = refl
+operation_goes o.Add s wanted rest = refl
+operation_goes o.Sub s wanted rest = refl
+operation_goes o.Mul s wanted rest = refl
+operation_goes o.Div s wanted rest = refl
+operation_goes o.Rem s wanted rest = refl
+operation_goes o.Abs s wanted rest = refl
+operation_goes o.Relu s wanted rest = refl
+operation_goes o.Min s wanted rest = refl
+operation_goes o.Max s wanted rest = refl
+operation_goes o.Eq s wanted rest = refl
+operation_goes o.Gt s wanted rest = refl
+operation_goes o.Ge s wanted rest = refl
+operation_goes o.IfElse s wanted rest = refl
+operation_goes o.Bitcount s wanted rest = refl
+operation_goes o.AndRed s wanted rest = refl
+operation_goes o.OrRed s wanted rest = refl
+operation_goes o.XorRed s wanted rest = refl
+operation_goes o.Divmod s wanted rest = refl
+
+operation_peels : (p : WordOp) (s : Scope) (second : Option (List ℕ)) (wanted : List Wanted)
+    (rest : List (List ℕ))
+    → breach_of (WordOpName ∷ Open ∷ wanted) (in_word s second o.Not [])
+    (items_spelled (op_text p ∷ codes "(" ∷ rest)) ≡ None
+    → (has_targets second (second_kind p) ≡ true)
+    × (breach_of wanted (in_word s second p []) (items_spelled rest) ≡ None)
+unfolding breach_of
+operation_peels p s second wanted rest h =
+    let k = one_rule (not (has_targets second (second_kind p))) why.Kind (in_word s second p []) []
+    (name_lexeme (op_text p)) (goes (Open ∷ wanted) (codes "(" ∷ rest))
+    (sym (operation_goes p (in_word s second o.Not []) (Open ∷ wanted) (codes "(" ∷ rest)) ∙ h) in
+    (not_not (has_targets second (second_kind p)) k.0, k.1)
 
 abbrev pub with_given : Scope → List Kind → Scope
 with_given s given = record s { word = record s.word { given = given } }
@@ -187,14 +245,14 @@ args_peel (a ∷ args) s wanted rest n h =
     let r = args_behind args s (kind_of s.op.defined a ∷ []) wanted rest n.1 i.1 in
     record { known = (i.0, r.known); then = r.then }
 
+-- the targets with their kinds
+abbrev pub targets_of : Scope → List ℕ → Kind → List Param
+targets_of s target k = param target k ∷ second_of s.word.second s.word.operation
+
 -- the ";"
-abbrev pub ended : Scope → List ℕ → Kind → Scope
-ended s target k = record s {
-  op = record s.op {
-    stands = s.op.stands ++ target ∷ [];
-    defined = s.op.defined ++ param target k ∷ [];
-    assigned = s.op.assigned || is_result s target;
-  };
+abbrev pub ended : Scope → List Param → Scope
+ended s ds = record s {
+  op = record s.op { stands = s.op.stands ++ names_of ds; defined = s.op.defined ++ ds };
   word = new_word;
   naming = None;
 }
@@ -202,41 +260,23 @@ ended s target k = record s {
 end_peels : (x : Option Kind) (s : Scope) (target : List ℕ) (f : List Wanted) (u : Lexeme)
     (go : Behind) → after (with_rules (Some f) (gives_kind s (Some target) x)) u go ≡ None
     → (x ≡ Some (unwrap_or x Word))
-    × ((is_result s target && not (is_of_kind s.op.result (unwrap_or x Word))) ≡ false)
-    × (go f (ended s target (unwrap_or x Word)) ≡ None)
+    × (list_any (is_other_result s) (targets_of s target (unwrap_or x Word)) ≡ false)
+    × (go f (ended s (targets_of s target (unwrap_or x Word))) ≡ None)
 end_peels None s target f u go h = cc
 end_peels (Some k) s target f u go h =
-    let j = one_rule (is_result s target && not (is_of_kind s.op.result k)) why.Kind
-    (ended s target k) f u go h in (refl, j.0, j.1)
+    let j = one_rule (list_any (is_other_result s) (targets_of s target k)) why.Kind
+    (ended s (targets_of s target k)) f u go h in (refl, j.0, j.1)
 
 result_is : (known : List Param) (p : WordOp) (args : List (List ℕ))
     → given_first (forms p) (first_of (map (kind_of known) args)) ≡ result_kind known p args
 result_is known p [] = refl
 result_is known p (a ∷ args) = refl
 
-pub same_kinds : (a b : Kind) → same_kind a b ≡ true → b ≡ a
-same_kinds Word Word h = refl
-same_kinds Bit Bit h = refl
-same_kinds Word Bit h = cc
-same_kinds Bit Word h = cc
-
--- the result is given its own kind
-fits_kind : (a b : Bool) → (a && not b) ≡ false → a ≡ true → b ≡ true
-fits_kind true true h g = refl
-fits_kind true false h g = cc
-fits_kind false b h g = cc
-
 -- the scope between two statements
-abbrev pub at_statement : List (List ℕ) → List (List ℕ) → Context → Bool → ℕ → Scope
-at_statement ops stands c assigned count = record {
+abbrev pub at_statement : List (List ℕ) → List (List ℕ) → Context → ℕ → Scope
+at_statement ops stands c count = record {
   ops = ops;
-  op = record {
-    stands = stands;
-    defined = c.known;
-    result = Some c.result;
-    assigned = assigned;
-    statements = count;
-  };
+  op = record { stands = stands; defined = c.known; results = c.results; statements = count };
   word = new_word;
   block = new_block;
   naming = None;
@@ -248,31 +288,20 @@ pub record BehindStatement (st : Statement) (ops : List (List ℕ)) (c : Context
   pub meets : StatementMeets c st
   pub few : count < 16
   pub stands : List (List ℕ)
-  pub assigned : Bool
-  pub standing : Standing stands (behind c st) assigned
-  pub then : breach_of (Stmts ∷ wanted) (at_statement ops stands (behind c st) assigned (count + 1))
+  pub standing : Standing stands (behind c st)
+  pub then : breach_of (Stmts ∷ wanted) (at_statement ops stands (behind c st) (count + 1))
       (items_spelled rest) ≡ None
 
-or_nothing : (a b : Bool) → (a || (b || false)) ≡ (a || ((b || false) || false))
+or_nothing : (a b : Bool) → (a || b) ≡ (a || (b || false))
 or_nothing true b = refl
 or_nothing false true = refl
 or_nothing false false = refl
 
-or_false : (b : Bool) → b ≡ (b || false)
-or_false true = refl
-or_false false = refl
-
-pub word_standing : {stands : List (List ℕ)} {c : Context} {assigned : Bool}
-    → Standing stands c assigned → (target : List ℕ) (k : Kind)
-    → Standing (stands ++ target ∷ []) (more_context c (param target k ∷ []) []) (assigned
-    || bytes_eq c.result.name target)
-word_standing {stands} {c} {assigned} s target k =
-    standing-more s (param target k ∷ []) [] (stands ++ target ∷ []) (assigned
-    || bytes_eq c.result.name target)
-    (λ n. among-append stands (target ∷ []) n ∙ or_nothing (is_among stands n) (bytes_eq target n))
-    refl
-    (ap (λ x. assigned || x) (turned c.result.name target
-    ∙ or_false (bytes_eq target c.result.name)))
+pub word_standing : {stands : List (List ℕ)} {c : Context} → Standing stands c → (ds : List Param)
+    → Standing (stands ++ names_of ds) (more_context c ds [])
+word_standing {stands} {c} s ds = standing-more s ds [] (stands ++ names_of ds)
+    (λ n. among-append stands (names_of ds) n
+    ∙ or_nothing (is_among stands n) (is_among (names_of ds) n)) (λ n q. refl)
 
 -- the kind that was found is the one that the first argument settles
 settled : (known : List Param) (p : WordOp) (args : List (List ℕ)) (k : Kind)
@@ -281,57 +310,98 @@ settled known p args k h = sym (first_settles p (map (kind_of known) args) k h)
     ∙ result_is known p args
 
 ended_moves : (s : Scope) (target : List ℕ) (j k : Kind) → j ≡ k
-    → (wanted : List Wanted) (items : List Item) → breach_of wanted (ended s target j) items ≡ None
-    → breach_of wanted (ended s target k) items ≡ None
+    → (wanted : List Wanted) (items : List Item)
+    → breach_of wanted (ended s (targets_of s target j)) items ≡ None
+    → breach_of wanted (ended s (targets_of s target k)) items ≡ None
 ended_moves s target j k e wanted items h = subst
-    (λ (x : Kind). breach_of wanted (ended s target x) items ≡ None) e h
+    (λ (x : Kind). breach_of wanted (ended s (targets_of s target x)) items ≡ None) e h
 
-pub word_peels : (target : List ℕ) (p : WordOp) (args : List (List ℕ)) (ops stands : List (List ℕ))
-    (c : Context) (assigned : Bool) (count : ℕ) (wanted : List Wanted) (rest : List (List ℕ))
-    → IsName target → Each IsName args → Standing stands c assigned
-    → breach_of (Stmts ∷ wanted) (at_statement ops stands c assigned count)
-    (items_spelled (statement_text (Compute target p args) rest)) ≡ None
-    → BehindStatement (Compute target p args) ops c count wanted rest
+-- a target that the rules take is new
+target_new : {stands : List (List ℕ)} {c : Context} → Standing stands c → (ops : List (List ℕ))
+    (count : ℕ) (n : List ℕ) → is_taken_name (at_statement ops stands c count) n ≡ false
+    → IsNew (used c) n
+target_new {stands} {c} st ops count n h =
+    word_new (is_among stands n) (is_among (used c) n) (is_known (kind_among c.results n))
+    (is_known (kind_among c.known n)) (st.all n) (given-at st n) h
+
+-- a second target that breaks no rule meets the rules
+second_meets : {stands : List (List ℕ)} {c : Context} → Standing stands c → (ops : List (List ℕ))
+    (count : ℕ) (target : List ℕ) (second : Option (List ℕ)) (p : WordOp)
+    → has_targets second (second_kind p) ≡ true
+    → IfThere (SecondFacts (record (at_statement ops stands c count) { naming = Some target }))
+    second
+    → list_any (is_other_result (at_statement ops stands c count)) (second_of second p) ≡ false
+    → SecondMeets c target second (second_kind p)
+second_meets {stands} {c} st ops count target None p t f h = none (second_kind p) t
+  where
+    none : (o : Option Kind) → has_targets None o ≡ true → SecondMeets c target None o
+    none None t = tt
+    none (Some k) t = cc
+second_meets {stands} {c} st ops count target (Some n) p t f h = some (second_kind p) t h
+  where
+    some : (o : Option Kind) → has_targets (Some n) o ≡ true
+        → (is_other_result (at_statement ops stands c count) (param n (unwrap_or o Word)) || false)
+        ≡ false → SecondMeets c target (Some n) o
+    some None t h = cc
+    some (Some k) t h = record {
+      gives = record {
+        good = not_bad n f.good;
+        new = target_new st ops count n (or_second (bytes_eq target n)
+            (is_taken_name (at_statement ops stands c count) n) f.new);
+        fits = same_fits (kind_among c.results n) k
+            (or_first (is_other_result (at_statement ops stands c count) (param n k)) false h);
+      };
+      other = or_first (bytes_eq target n) (is_taken_name (at_statement ops stands c count) n)
+          f.new;
+    }
+
+pub word_peels : (target : List ℕ) (second : Option (List ℕ)) (p : WordOp) (args : List (List ℕ))
+    (ops stands : List (List ℕ)) (c : Context) (count : ℕ) (wanted : List Wanted)
+    (rest : List (List ℕ)) → HasStatement (Compute target second p args) → Standing stands c
+    → breach_of (Stmts ∷ wanted) (at_statement ops stands c count)
+    (items_spelled (statement_text (Compute target second p args) rest)) ≡ None
+    → BehindStatement (Compute target second p args) ops c count wanted rest
 unfolding breach_of
-word_peels target p args ops stands c assigned count wanted rest n m standing h =
-    let s = at_statement ops stands c assigned count in
-    let more = op_text p ∷ codes "(" ∷ between_commas name_text args (codes ")" ∷ codes ";"
-    ∷ rest) in
-    let t = target_peels (spelling_of target) s target wanted more
-    (sym (named Stmts wanted s target (codes "=" ∷ more) n) ∙ h) in
+word_peels target second p args ops stands c count wanted rest n standing h =
+    let s = at_statement ops stands c count in
+    let list = between_commas name_text args (codes ")" ∷ codes ";" ∷ rest) in
+    let more = op_text p ∷ codes "(" ∷ list in
+    let t = target_peels (spelling_of target) s target second wanted more n.1
+    (sym (named Stmts wanted s target (target_end second more) n.0) ∙ h) in
     let s1 : Scope = record s {
       op = record s.op { statements = count + 1 };
       naming = Some target;
     } in
-    let s2 : Scope = record s1 { word = record s1.word { operation = p } } in
-    let o = sym (operation_moves p s1 (Args ∷ WordEnd ∷ Stmts
-    ∷ wanted) (between_commas name_text args (codes ")" ∷ codes ";" ∷ rest))) ∙ t.then in
-    let a = args_peel args s2 (WordEnd ∷ Stmts ∷ wanted) (codes ";" ∷ rest) m o in
+    let b = second_peels second s1 (WordOpName ∷ Open ∷ Args ∷ WordEnd ∷ Stmts ∷ wanted) more n.1
+    t.then in
+    let o = operation_peels p s1 second (Args ∷ WordEnd ∷ Stmts ∷ wanted) list b.1 in
+    let s2 = in_word s1 second p [] in
+    let a = args_peel args s2 (WordEnd ∷ Stmts ∷ wanted) (codes ";" ∷ rest) n.2 o.1 in
     let given = map (kind_of c.known) args in
-    let s3 = with_given s2 given in
+    let s3 = in_word s1 second p given in
     let e = end_peels (filled (forms p) given) s3 target [] (mark (codes ";"))
     (goes (Stmts ∷ wanted) rest) a.then in
     let k = unwrap_or (filled (forms p) given) Word in
     let is = settled c.known p args k e.0 in
-    let new = word_new (is_among stands target) (is_among (used c) target)
-    (bytes_eq c.result.name target) assigned (standing.all target) (given-at standing target)
-    t.new in
+    let ds = defines c.known (Compute target second p args) in
     record {
       meets = record {
         known = a.known;
         takes = e.0 ∙ ap Some is;
         gives = record {
           good = not_bad target t.good;
-          new = new;
-          fits = λ q. sym is ∙ same_kinds c.result.kind k
-              (fits_kind (bytes_eq c.result.name target) (same_kind c.result.kind k) e.1
-              (is_same c.result.name target (sym q)));
+          new = target_new standing ops count target t.new;
+          fits = λ j q. same_fits (kind_among c.results target) k
+              (or_first (is_other_result s (param target k))
+              (list_any (is_other_result s) (second_of second p)) e.1) j q ∙ is;
         };
+        others = second_meets standing ops (count + 1) target second p o.0 b.0
+            (or_second (is_other_result s (param target k))
+            (list_any (is_other_result s) (second_of second p)) e.1);
       };
       few = le_no 16 count t.few;
-      stands = stands ++ target ∷ [];
-      assigned = assigned || bytes_eq c.result.name target;
-      standing = word_standing standing target (result_kind c.known p args);
+      stands = stands ++ names_of ds;
+      standing = word_standing standing ds;
       then = ended_moves s3 target k (result_kind c.known p args) is (Stmts
           ∷ wanted) (items_spelled rest) e.2;
     }

@@ -1,16 +1,18 @@
 -- The laws of the rules.
-use Rattle.std.specs.Prelude.{◌≡◌, ◌≤◌, ℕ, List, ◌∷◌, ◌++◌, Some, length, ◌↔◌}
+use Rattle.std.specs.Prelude.{◌≡◌, ◌≤◌, ℕ, List, ◌∷◌, ◌++◌, Option, Some, length, ◌↔◌}
 use Rattle.std.specs.List.{flat_map}
+use Rattle.std.specs.Option.{option_to_list}
 use Rattle.op_text.specs.declared.tree.Kind.{Kind}
 use Rattle.op_text.specs.declared.tree.Param.{Param}
-use Rattle.op_text.specs.Language.{Statement, Operation}
+use Rattle.op_text.specs.declared.tree.WordOp.{WordOp}
+use Rattle.op_text.specs.Language.{Statement, Operation, results}
 use Rattle.op_text.specs.Meaning.{Held, width, holds_nothing, after_statement, with_sources}
-use Rattle.op_text.specs.Meaning.{after_body, outcome}
+use Rattle.op_text.specs.Meaning.{after_body, after_op}
 use Rattle.op_text.specs.Rules.{kind_among}
 use Rattle.op_text.specs.Scratch.{defines, body_defines, scratch_names, scratch_bits, scratch_words}
 use Rattle.op_text.specs.Spelling.{Each, HasOperation, MeetRules}
 use Rattle.op_rules.specs.Meets.{IsNew, Differ, names_of, Context, lets_of, behind, StatementMeets}
-use Rattle.op_rules.specs.Meets.{OperationMeets, OpsMeet}
+use Rattle.op_rules.specs.Meets.{WordMeets, OperationMeets, OpsMeet}
 
 -- Ops meet the rules as trees exactly where their names are names and the tokens of their text
 -- break none.
@@ -23,7 +25,7 @@ MAX_NAMES = 128
 abbrev pub MAX_SCRATCH : ℕ
 MAX_SCRATCH = 130
 
--- so many names of a kind other than the result, and so many rows of scratch
+-- so many names of a kind other than the results, and so many rows of scratch
 pub record NeedsFew (op : Operation) : Type 0 where
   pub names : (k : Kind) → scratch_names k op ≤ MAX_NAMES
   pub bits : scratch_bits op ≤ MAX_SCRATCH
@@ -49,13 +51,19 @@ abbrev pub context_behind : Operation → List Statement → Context
 context_behind op front = record {
   known = op.params ++ body_defines op.params front;
   lets = flat_map lets_of front;
-  result = op.result;
+  results = results op;
 }
 
 -- Each statement of an op that meets the rules meets them where it stands.
 abbrev pub StatementsMeet : Type 0
 StatementsMeet = (op : Operation) (front rest : List Statement) (s : Statement) → OperationMeets op
     → op.body ≡ front ++ s ∷ rest → StatementMeets (context_behind op front) s
+
+-- The targets of a word statement differ, and none is an argument.
+abbrev pub TargetsAreApart : Type 0
+TargetsAreApart = (c : Context) (target : List ℕ) (second : Option (List ℕ)) (p : WordOp)
+    (args : List (List ℕ)) → WordMeets c target second p args
+    → Differ (target ∷ option_to_list second) × Each (IsNew args) (target ∷ option_to_list second)
 
 -- A statement leaves each name as it was that it does not define.
 abbrev pub OthersStay : Type 0
@@ -77,12 +85,12 @@ KindsAreKept = (c : Context) (s : Statement) (n : ℕ) (names : List ℕ → Hel
     → Each (Holds n names) c.known → Each (Holds n (after_statement n names s)) (behind c s).known
 
 -- Behind the first statements of an op the names that are then known hold bits of their kinds, and
--- behind all of them the result does.
+-- behind all of them the results do.
 pub record HoldsKinds (op : Operation) (n : ℕ) (values : List ℕ) : Type 0 where
   pub behind : (front rest : List Statement) → op.body ≡ front ++ rest
       → Each (Holds n (after_body n front (with_sources n holds_nothing op.params values)))
       (context_behind op front).known
-  pub result : IsHeld n op.result.kind (outcome op n values)
+  pub at_end : Each (Holds n (after_op op n values)) (results op)
 
 abbrev pub KindsAreHeld : Type 0
 KindsAreHeld = (op : Operation) (n : ℕ) (values : List ℕ) → OperationMeets op

@@ -1,12 +1,13 @@
 -- Which operations meet the rules.
 use Rattle.std.specs.Prelude.{◌≡◌, ◌≤◌, ℕ, Bool, true, false, ◌||◌, List, [], ◌∷◌, ◌++◌, map}
-use Rattle.std.specs.Prelude.{length, Some, bytes_eq, codes}
+use Rattle.std.specs.Prelude.{length, Option, Some, None, bytes_eq, codes}
 use Rattle.op_text.specs.declared.tree.Kind.{Kind}
 use Rattle.op_text.specs.declared.tree.Kind.TheVariants.{Word, Bit}
 use Rattle.op_text.specs.declared.tree.Param.{Param}
 use Rattle.op_text.specs.declared.tree.WordOp.{WordOp}
 use Rattle.op_text.specs.Language.{Equation, Block, Statement, Compute, Visit, Operation}
-use Rattle.op_text.specs.WordOps.{forms, filled}
+use Rattle.op_text.specs.Language.{results, result_names}
+use Rattle.op_text.specs.WordOps.{forms, filled, second_kind}
 use Rattle.op_text.specs.Rules.{is_among, kind_among, is_known, MAX_OPS, MAX_SOURCES}
 use Rattle.op_text.specs.Rules.{MAX_STATEMENTS, MAX_STATES, MAX_ASSIGNS, MAX_LETS, MAX_WEIGHT}
 use Rattle.op_text.specs.Scratch.{kind_of, result_kind, state_names, word_names, block_weight}
@@ -35,34 +36,47 @@ abbrev pub targets : Block → List (List ℕ)
 targets block = map (λ (e : Equation). e.name) block.assigns
 
 -- What stands before a statement: the names that can be read with their kinds, the lets of the
--- blocks before it, which cannot be read any more, and the op's result.
+-- blocks before it, which cannot be read any more, and the op's results.
 pub record Context : Type 0 where
   pub known : List Param
   pub lets : List (List ℕ)
-  pub result : Param
+  pub results : List Param
 
 -- the names that are used up
 abbrev pub used : Context → List (List ℕ)
 used c = names_of c.known ++ c.lets
 
--- A new name of a kind, beside those used up. The result's is new until it is given, once, its own
+-- A new name of a kind, beside those used up. A result's is new until it is given, once, its own
 -- kind.
-pub record IsNewOf (names : List (List ℕ)) (result : Param) (kind : Kind) (name : List ℕ) : Type 0
-  where
-    pub good : IsGood name
-    pub new : IsNew names name
-    pub fits : name ≡ result.name → kind ≡ result.kind
+pub record IsNewOf (names : List (List ℕ)) (results : List Param) (kind : Kind) (name : List ℕ) :
+    Type 0 where
+  pub good : IsGood name
+  pub new : IsNew names name
+  pub fits : (k : Kind) → kind_among results name ≡ Some k → k ≡ kind
 
 abbrev pub IsKnown : List Param → List ℕ → Type 0
 IsKnown known name = kind_among known name ≡ Some (kind_of known name)
 
--- "target = operation(arguments);"
-pub record WordMeets (c : Context) (target : List ℕ) (operation : WordOp) (args : List (List ℕ)) :
-    Type 0 where
+-- a second target: a new name of a kind, other than the first target
+pub record IsSecondTarget (c : Context) (target : List ℕ) (kind : Kind) (name : List ℕ) : Type 0
+  where
+    pub gives : IsNewOf (used c) c.results kind name
+    pub other : bytes_eq target name ≡ false
+
+-- there is a second target exactly where the operation has a second result, of this kind
+abbrev pub SecondMeets : Context → List ℕ → Option (List ℕ) → Option Kind → Type 0
+SecondMeets c target None None = Unit {0}
+SecondMeets c target (Some name) (Some kind) = IsSecondTarget c target kind name
+SecondMeets c target second kind = ⊥
+
+-- "target = operation(arguments);" or "target, second = operation(arguments);"
+pub record WordMeets (c : Context) (target : List ℕ) (second : Option (List ℕ)) (operation : WordOp)
+    (args : List (List ℕ)) : Type 0 where
   pub known : Each (IsKnown c.known) args
   pub takes : filled (forms operation) (map (kind_of c.known) args)
       ≡ Some (result_kind c.known operation args)
-  pub gives : IsNewOf (used c) c.result (result_kind c.known operation args) target
+  pub gives : IsNewOf (used c) c.results (result_kind c.known operation args) target
+  pub others : SecondMeets c target second (second_kind operation)
 
 -- the names that an expression in a block can read: those known, and these of the block
 abbrev pub can_read : List Param → List (List ℕ) → List ℕ → Bool
@@ -74,11 +88,11 @@ LetsRead known inside [] = Unit {0}
 LetsRead known inside (e ∷ lets) = TermMeets (can_read known inside) 0 e.value
     × LetsRead known (inside ++ e.name ∷ []) lets
 
--- a let's name is never the result's
-pub record IsNewLet (names : List (List ℕ)) (result : Param) (name : List ℕ) : Type 0 where
+-- a let's name is never a result's
+pub record IsNewLet (names : List (List ℕ)) (results : List Param) (name : List ℕ) : Type 0 where
   pub good : IsGood name
   pub new : IsNew names name
-  pub other : bytes_eq result.name name ≡ false
+  pub other : IsNew (names_of results) name
 
 -- a serial block: an assigned name is a state of the block, or a new word
 pub record BlockMeets (c : Context) (block : Block) : Type 0 where
@@ -87,22 +101,22 @@ pub record BlockMeets (c : Context) (block : Block) : Type 0 where
   pub has_assigns : 1 ≤ length block.assigns
   pub few_assigns : length block.assigns ≤ MAX_ASSIGNS
   pub light : block_weight block ≤ MAX_WEIGHT
-  pub states : Each (IsNewOf (used c) c.result Bit) (state_names block)
+  pub states : Each (IsNewOf (used c) c.results Bit) (state_names block)
   pub states_differ : Differ (state_names block)
-  pub lets : Each (IsNewLet (used c ++ state_names block) c.result) (let_names block)
+  pub lets : Each (IsNewLet (used c ++ state_names block) c.results) (let_names block)
   pub lets_differ : Differ (let_names block)
   pub lets_read : LetsRead c.known (state_names block) block.lets
-  pub words : Each (IsNewOf (used c ++ let_names block) c.result Word) (word_names block)
+  pub words : Each (IsNewOf (used c ++ let_names block) c.results Word) (word_names block)
   pub targets_differ : Differ (targets block)
   pub values_read : Each (λ (e : Equation). TermMeets
       (can_read c.known (state_names block ++ let_names block)) 0 e.value) block.assigns
 
 abbrev pub StatementMeets : Context → Statement → Type 0
-StatementMeets c (Compute target operation args) = WordMeets c target operation args
+StatementMeets c (Compute target second operation args) = WordMeets c target second operation args
 StatementMeets c (Visit block) = BlockMeets c block
 
 abbrev pub lets_of : Statement → List (List ℕ)
-lets_of (Compute target operation args) = []
+lets_of (Compute target second operation args) = []
 lets_of (Visit block) = let_names block
 
 -- what stands behind a statement
@@ -110,7 +124,7 @@ abbrev pub behind : Context → Statement → Context
 behind c s = record {
   known = c.known ++ defines c.known s;
   lets = c.lets ++ lets_of s;
-  result = c.result;
+  results = c.results;
 }
 
 -- each statement meets the rules where it stands
@@ -119,7 +133,7 @@ BodyMeets c [] = Unit {0}
 BodyMeets c (s ∷ body) = StatementMeets c s × BodyMeets (behind c s) body
 
 abbrev pub at_start : Operation → Context
-at_start op = record { known = op.params; lets = []; result = op.result }
+at_start op = record { known = op.params; lets = []; results = results op }
 
 pub record OperationMeets (op : Operation) : Type 0 where
   pub name : IsGood op.name
@@ -128,13 +142,14 @@ pub record OperationMeets (op : Operation) : Type 0 where
   pub few_params : length op.params ≤ MAX_SOURCES
   pub params : Each IsGood (names_of op.params)
   pub params_differ : Differ (names_of op.params)
-  pub result_good : IsGood op.result.name
-  pub result_new : IsNew (names_of op.params) op.result.name
+  pub results_good : Each IsGood (result_names op)
+  pub results_new : Each (IsNew (names_of op.params)) (result_names op)
+  pub results_differ : Differ (result_names op)
   pub has_body : 1 ≤ length op.body
   pub few_statements : length op.body ≤ MAX_STATEMENTS
   pub body : BodyMeets (at_start op) op.body
-  pub result_given : kind_among (body_defines op.params op.body) op.result.name
-      ≡ Some op.result.kind
+  pub results_given : Each (λ (r : Param). kind_among (body_defines op.params op.body) r.name
+      ≡ Some r.kind) (results op)
 
 pub record OpsMeet (all : List Operation) : Type 0 where
   pub few_ops : length all ≤ MAX_OPS

@@ -1,6 +1,7 @@
 //! Laws of the rules.
 
 ghost use Rattle.op_rules.specs.Laws.{KindsAreHeld, KindsAreKept, NamesStandOnce, OthersStay};
+ghost use Rattle.op_rules.specs.Laws.{TargetsAreApart};
 ghost use Rattle.op_rules.specs.Laws.{RulesAreExact, ScratchIsSmall, StatementsMeet};
 
 /// Ops meet the rules as trees exactly where the tokens of their text break none.
@@ -8,7 +9,7 @@ pub fn rules_are_exact()
     ensures { RulesAreExact }
 {}
 
-/// An op has at most 128 names of a kind beside its result, and needs at most 130 rows of scratch.
+/// An op has at most 128 names of a kind beside its results, and needs at most 130 rows of scratch.
 pub fn scratch_is_small()
     ensures { ScratchIsSmall }
 {}
@@ -21,6 +22,11 @@ pub fn names_stand_once()
 /// Each statement of an op that meets the rules meets them where it stands.
 pub fn statements_meet()
     ensures { StatementsMeet }
+{}
+
+/// The targets of a word statement differ, and none is an argument.
+pub fn targets_are_apart()
+    ensures { TargetsAreApart }
 {}
 
 /// A statement leaves each name as it was that it does not define.

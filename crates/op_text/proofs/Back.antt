@@ -18,11 +18,14 @@ use Rattle.op_text.specs.declared.grammar.Wanted.TheVariants.{States, StateName,
 use Rattle.op_text.specs.declared.grammar.Wanted.TheVariants.{Lets, LetName, LetEnd, AssignEnd}
 use Rattle.op_text.specs.declared.grammar.Wanted.TheVariants.{Assigns, Value, More, Open, Begin}
 use Rattle.op_text.specs.declared.grammar.Wanted.TheVariants.{Colon, Arrow, Equals}
+use Rattle.op_text.specs.declared.grammar.Wanted.TheVariants.{SecondResult, SecondTarget}
+use Rattle.op_text.specs.declared.grammar.Wanted.TheVariants.{NewTarget}
 use Rattle.op_text.specs.Grammar.{follow, statement, allowed, opens_terminal}
 use Rattle.op_text.specs.Trees.{Tree, Trees, Nought, Unity, Leaf, Call, Last, Then, ParamTree}
 use Rattle.op_text.specs.Trees.{StateTree, EquationTree, StatementTree, Compute, Visit, OpTree}
 use Rattle.op_text.specs.Trees.{is_serial, is_let, value_text, values_text, behind_commas}
-use Rattle.op_text.specs.Trees.{between_commas, in_turn, kind_word, direction_word, start_word}
+use Rattle.op_text.specs.Trees.{behind_comma, between_commas, in_turn, kind_word, direction_word}
+use Rattle.op_text.specs.Trees.{start_word}
 use Rattle.op_text.specs.Trees.{name_text, param_text, state_text, assign_text, let_text}
 use Rattle.op_text.specs.Trees.{statement_text, op_text, text_of}
 
@@ -184,6 +187,10 @@ takes_newparam _ o front h = cc
 takes_newresult : Takes Spelling (λ x. t.Name x) NewResult
 takes_newresult (t.Name r) o front h = (r, refl, some_is [] front h)
 takes_newresult _ o front h = cc
+
+takes_newtarget : Takes Spelling (λ x. t.Name x) NewTarget
+takes_newtarget (t.Name r) o front h = (r, refl, some_is [] front h)
+takes_newtarget _ o front h = cc
 
 takes_wordopname : Takes Spelling (λ x. t.Name x) WordOpName
 takes_wordopname (t.Name r) o front h = (r, refl, some_is [] front h)
@@ -468,27 +475,65 @@ statements_text ss rest = in_turn statement_text ss (t.Finishes ∷ rest)
 abbrev some_statements : Pair StatementTree (List StatementTree) → List Terminal → List Terminal
 some_statements p rest = statement_text p.first (statements_text p.second rest)
 
+-- what stands behind a word statement's first target, and behind an op's first result
+abbrev target_end : Option Spelling → List Terminal → List Terminal
+target_end o rest = behind_comma name_text o (t.Equals ∷ rest)
+
+abbrev result_end : Option ParamTree → List Terminal → List Terminal
+result_end o rest = behind_comma param_text o (t.Begins ∷ rest)
+
+second_target_back : (n : ℕ) → Reads (Option Spelling) target_end (SecondTarget ∷ []) n
+unfolding allowed
+second_target_back n [] ws end le few h = absurd (too_long SecondTarget ws end few h)
+second_target_back zero (u ∷ ts) ws end le few h = absurd (omega arith)
+second_target_back (suc n) (t.Equals ∷ ts) ws end le few h =
+    ending target_end t.Equals None ws ts end n (λ rest. refl) le h
+second_target_back (suc n) (t.Comma ∷ ts) ws end le few h =
+    behind target_end t.Comma (λ (p : Pair Spelling (Unit {0})). Some p.first) ws ts end n
+    (λ a rest. refl)
+    (both NewTarget (Equals ∷ []) n (single (λ x. t.Name x) NewTarget n takes_newtarget)
+    (single (λ (x : Unit {0}). t.Equals) Equals n takes_equals) ts ws end (omega (arith, le)) few h)
+second_target_back (suc n) (_ ∷ ts) ws end le few h = cc
+
+second_result_back : (n : ℕ) → Reads (Option ParamTree) result_end (SecondResult ∷ []) n
+unfolding allowed
+second_result_back n [] ws end le few h = absurd (too_long SecondResult ws end few h)
+second_result_back zero (u ∷ ts) ws end le few h = absurd (omega arith)
+second_result_back (suc n) (t.Begins ∷ ts) ws end le few h =
+    ending result_end t.Begins None ws ts end n (λ rest. refl) le h
+second_result_back (suc n) (t.Comma ∷ ts) ws end le few h =
+    behind result_end t.Comma
+    (λ (p : (Pair Spelling (Pair (Unit {0}) (Pair Kind (Unit {0}))))). Some (record
+    { name = p.first; kind = p.second.second.first })) ws ts end n (λ a rest. refl)
+    (both NewResult (Colon ∷ ResultKind ∷ Begin
+    ∷ []) n (single (λ x. t.Name x) NewResult n takes_newresult)
+    (both Colon (ResultKind ∷ Begin ∷ []) n
+    (single (λ (x : Unit {0}). t.Colon) Colon n takes_colon)
+    (both ResultKind (Begin ∷ []) n (single kind_word ResultKind n takes_resultkind)
+    (single (λ (x : Unit {0}). t.Begins) Begin n takes_begin))) ts ws end (omega (arith, le)) few h)
+second_result_back (suc n) (_ ∷ ts) ws end le few h = cc
+
 word_statement : (r : Spelling) → is_serial r ≡ false → (n : ℕ)
     → Reads (List StatementTree) statements_text (Stmts ∷ []) n
     → (ts : List Terminal) (ws end : List Wanted) → length ts ≤ n → length end ≤ length ws
-    → allowed (Equals ∷ WordOpName ∷ Open ∷ Args ∷ WordEnd ∷ Stmts ∷ ws) ts ≡ Some end
+    → allowed (SecondTarget ∷ WordOpName ∷ Open ∷ Args ∷ WordEnd ∷ Stmts ∷ ws) ts ≡ Some end
     → Split (Pair StatementTree (List StatementTree)) some_statements ws (t.Name r
     ∷ ts) end (suc n)
 word_statement r free n more ts ws end le few h =
     behind some_statements (t.Name r)
-    (λ (p : (Pair (Unit {0}) (Pair Spelling
+    (λ (p : (Pair (Option Spelling) (Pair Spelling
     (Pair (Unit {0}) (Pair (List Spelling) (Pair (Unit {0}) (List StatementTree))))))). record {
       first = Compute (record {
         target = r;
         free = free;
+        second = p.first;
         operation = p.second.first;
         args = p.second.second.second.first;
       });
       second = p.second.second.second.second.second;
     }) ws
     ts end n (λ a rest. refl)
-    (both Equals (WordOpName ∷ Open ∷ Args ∷ WordEnd ∷ Stmts
-    ∷ []) n (single (λ (x : Unit {0}). t.Equals) Equals n takes_equals)
+    (both SecondTarget (WordOpName ∷ Open ∷ Args ∷ WordEnd ∷ Stmts ∷ []) n (second_target_back n)
     (both WordOpName (Open ∷ Args ∷ WordEnd ∷ Stmts
     ∷ []) n (single (λ x. t.Name x) WordOpName n takes_wordopname)
     (both Open (Args ∷ WordEnd ∷ Stmts ∷ []) n
@@ -580,7 +625,7 @@ first_back (suc n) (_ ∷ ts) ws end le few h = cc
 abbrev op_tree : (Pair Spelling (Pair (Unit {0})
     (Pair Spelling (Pair (Unit {0}) (Pair Kind
     (Pair (List ParamTree) (Pair (Unit {0}) (Pair Spelling
-    (Pair (Unit {0}) (Pair Kind (Pair (Unit {0})
+    (Pair (Unit {0}) (Pair Kind (Pair (Option ParamTree)
     (Pair StatementTree (List StatementTree))))))))))))) → OpTree
 op_tree p = record {
   name = p.first;
@@ -594,6 +639,7 @@ op_tree p = record {
         name = p.second.second.second.second.second.second.second.first;
         kind = p.second.second.second.second.second.second.second.second.second.first;
       };
+  second = p.second.second.second.second.second.second.second.second.second.second.first;
   statement =
       p.second.second.second.second.second.second.second.second.second.second.second.first;
   statements =
@@ -603,29 +649,30 @@ op_tree p = record {
 op_back : (n : ℕ) (ts : List Terminal) (ws end : List Wanted) → length ts ≤ n
     → length end ≤ length ws
     → allowed (NewOp ∷ Open ∷ NewParam ∷ Colon ∷ ParamKind ∷ Params ∷ Arrow ∷ NewResult ∷ Colon
-    ∷ ResultKind ∷ Begin ∷ FirstStmt ∷ ws) ts ≡ Some end
+    ∷ ResultKind ∷ SecondResult ∷ FirstStmt ∷ ws) ts ≡ Some end
     → Split OpTree op_text ws (t.Name sp.Op ∷ ts) end n
 op_back n ts ws end le few h =
     after op_text (t.Name sp.Op) op_tree ws ts end n (λ a rest. refl)
     (both NewOp (Open ∷ NewParam ∷ Colon ∷ ParamKind ∷ Params ∷ Arrow ∷ NewResult ∷ Colon
-    ∷ ResultKind ∷ Begin ∷ FirstStmt ∷ []) n (single (λ x. t.Name x) NewOp n takes_newop)
+    ∷ ResultKind ∷ SecondResult ∷ FirstStmt ∷ []) n (single (λ x. t.Name x) NewOp n takes_newop)
     (both Open (NewParam ∷ Colon ∷ ParamKind ∷ Params ∷ Arrow ∷ NewResult ∷ Colon ∷ ResultKind
-    ∷ Begin ∷ FirstStmt ∷ []) n (single (λ (x : Unit {0}). t.Opens) Open n takes_open)
-    (both NewParam (Colon ∷ ParamKind ∷ Params ∷ Arrow ∷ NewResult ∷ Colon ∷ ResultKind ∷ Begin
-    ∷ FirstStmt ∷ []) n (single (λ x. t.Name x) NewParam n takes_newparam)
-    (both Colon (ParamKind ∷ Params ∷ Arrow ∷ NewResult ∷ Colon ∷ ResultKind ∷ Begin ∷ FirstStmt
-    ∷ []) n (single (λ (x : Unit {0}). t.Colon) Colon n takes_colon)
-    (both ParamKind (Params ∷ Arrow ∷ NewResult ∷ Colon ∷ ResultKind ∷ Begin ∷ FirstStmt
+    ∷ SecondResult ∷ FirstStmt ∷ []) n (single (λ (x : Unit {0}). t.Opens) Open n takes_open)
+    (both NewParam (Colon ∷ ParamKind ∷ Params ∷ Arrow ∷ NewResult ∷ Colon ∷ ResultKind
+    ∷ SecondResult ∷ FirstStmt ∷ []) n (single (λ x. t.Name x) NewParam n takes_newparam)
+    (both Colon (ParamKind ∷ Params ∷ Arrow ∷ NewResult ∷ Colon ∷ ResultKind ∷ SecondResult
+    ∷ FirstStmt ∷ []) n (single (λ (x : Unit {0}). t.Colon) Colon n takes_colon)
+    (both ParamKind (Params ∷ Arrow ∷ NewResult ∷ Colon ∷ ResultKind ∷ SecondResult ∷ FirstStmt
     ∷ []) n (single kind_word ParamKind n takes_paramkind)
-    (both Params (Arrow ∷ NewResult ∷ Colon ∷ ResultKind ∷ Begin ∷ FirstStmt
-    ∷ []) n (params_back n) (both Arrow (NewResult ∷ Colon ∷ ResultKind ∷ Begin ∷ FirstStmt
+    (both Params (Arrow ∷ NewResult ∷ Colon ∷ ResultKind ∷ SecondResult ∷ FirstStmt
+    ∷ []) n (params_back n) (both Arrow (NewResult ∷ Colon ∷ ResultKind ∷ SecondResult ∷ FirstStmt
     ∷ []) n (single (λ (x : Unit {0}). t.Arrow) Arrow n takes_arrow)
-    (both NewResult (Colon ∷ ResultKind ∷ Begin ∷ FirstStmt
+    (both NewResult (Colon ∷ ResultKind ∷ SecondResult ∷ FirstStmt
     ∷ []) n (single (λ x. t.Name x) NewResult n takes_newresult)
-    (both Colon (ResultKind ∷ Begin ∷ FirstStmt
+    (both Colon (ResultKind ∷ SecondResult ∷ FirstStmt
     ∷ []) n (single (λ (x : Unit {0}). t.Colon) Colon n takes_colon)
-    (both ResultKind (Begin ∷ FirstStmt ∷ []) n (single kind_word ResultKind n takes_resultkind)
-    (both Begin (FirstStmt ∷ []) n (single (λ (x : Unit {0}). t.Begins) Begin n takes_begin)
+    (both ResultKind (SecondResult ∷ FirstStmt
+    ∷ []) n (single kind_word ResultKind n takes_resultkind)
+    (both SecondResult (FirstStmt ∷ []) n (second_result_back n)
     (first_back n))))))))))) ts ws end le few h)
 
 abbrev pub IsText : List Terminal → Type 0

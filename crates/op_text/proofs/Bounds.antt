@@ -1,18 +1,21 @@
 -- Meanings are below 2 ^ n.
 use Rattle.std.proofs.Common.{◌≡◌, ℕ, zero, suc, ◌*◌, ◌^◌, ◌<◌, ◌/◌, length, arith, Bool, true}
 use Rattle.std.proofs.Common.{false, cond, List, [], ◌∷◌, map, fold, replicate, refl, ap, ◌∙◌}
+use Rattle.std.proofs.Common.{Option, Some, None}
+use Rattle.std.specs.List.{AllByRecursion}
 use Rattle.std.proofs.Common.{length-set, bytes_eq}
 use Rattle.std.proofs.lemmas.List.{length-replicate}
 use Rattle.op_text.specs.declared.tree.Kind.{Kind}
 use Rattle.op_text.specs.declared.tree.Kind.TheVariants.{Word, Bit}
 use Rattle.op_text.specs.declared.tree.Param.{Param}
 use Rattle.op_text.specs.declared.tree.State.{State}
-use Rattle.op_text.specs.Language.{Equation, Block, Statement, Compute, Visit}
+use Rattle.op_text.specs.Language.{Equation, Block, Statement, Compute, Visit, result_names}
 use Rattle.op_text.specs.Values.{value, bits}
 use Rattle.op_text.specs.Meaning.{Held, width, holding, holds_nothing, changed, bit_written}
 use Rattle.op_text.specs.Meaning.{assigned, visited, positions, with_blanks, with_states, computed}
-use Rattle.op_text.specs.Meaning.{after_statement, with_sources, after_body, outcome, term_bit}
-use Rattle.op_text.specs.Meaning.{MeaningFits}
+use Rattle.op_text.specs.Meaning.{after_statement, with_sources, after_body, after_op, term_bit}
+use Rattle.op_text.specs.Meaning.{number}
+use Rattle.op_text.specs.Meaning.{second_computed, with_second, MeaningFits}
 
 two_powers : (m : ℕ) → 2 ^ suc m ≡ 2 * 2 ^ m
 two_powers m = omega arith
@@ -78,10 +81,18 @@ visits_fit n block [] names h = h
 visits_fit n block (k ∷ ks) names h = visits_fit n block ks (visited block names k)
     (assigned_fit n k _ block.assigns names h)
 
+second_fits : (n : ℕ) (second : Option (List ℕ)) (names : List ℕ → Held) (v : Held)
+    → AllFit n names → Fits n v → AllFit n (with_second names second v)
+second_fits n None names v h f = h
+second_fits n (Some name) names v h f = changed_fit n names name v h f
+
 statement_fits : (n : ℕ) (s : Statement) (names : List ℕ → Held) → AllFit n names
     → AllFit n (after_statement n names s)
-statement_fits n (Compute target p args) names h =
-    changed_fit n names target (computed n p (map names args)) h (holding_fits n _ _)
+statement_fits n (Compute target second p args) names h =
+    second_fits n second (changed names target (computed n p (map names args)))
+    (second_computed n p (map names args))
+    (changed_fit n names target (computed n p (map names args)) h (holding_fits n _ _))
+    (holding_fits n _ _)
 statement_fits n (Visit block) names h =
     visits_fit n block (positions block.down n) _
     (states_fit n block.states _ (blanks_fit n block.assigns names h))
@@ -100,9 +111,14 @@ sources_fit n (p ∷ ps) (v ∷ values) names h =
     sources_fit n ps values (changed names p.name (holding n p.kind v))
     (changed_fit n names p.name _ h (holding_fits n p.kind v))
 
+numbers_fit : (n : ℕ) (held : List ℕ → Held) (names : List (List ℕ)) → AllFit n held
+    → AllByRecursion (λ (h : Held). number h < 2 ^ width n h.kind) (map held names)
+numbers_fit n held [] f = tt
+numbers_fit n held (name ∷ names) f =
+    let b = value_below (held name).bits in
+    let b' = rw (f name) at b in (b', numbers_fit n held names f)
+
 pub meaning_fits : MeaningFits
-meaning_fits op n values =
-    let h = body_fits n op.body (with_sources n holds_nothing op.params values)
-    (sources_fit n op.params values holds_nothing (λ name. refl)) op.result.name in
-    let b = value_below (outcome op n values).bits in
-    let b' = rw h at b in b'
+meaning_fits op n values = numbers_fit n (after_op op n values) (result_names op)
+    (body_fits n op.body (with_sources n holds_nothing op.params values)
+    (sources_fit n op.params values holds_nothing (λ name. refl)))

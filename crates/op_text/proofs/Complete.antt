@@ -15,6 +15,8 @@ use Rattle.op_text.specs.declared.grammar.Wanted.TheVariants.{States, StateName,
 use Rattle.op_text.specs.declared.grammar.Wanted.TheVariants.{Lets, LetName, LetEnd, AssignEnd}
 use Rattle.op_text.specs.declared.grammar.Wanted.TheVariants.{Assigns, Value, GateOpen, More, Open}
 use Rattle.op_text.specs.declared.grammar.Wanted.TheVariants.{Begin, Colon, Arrow, Equals}
+use Rattle.op_text.specs.declared.grammar.Wanted.TheVariants.{SecondResult, SecondTarget}
+use Rattle.op_text.specs.declared.grammar.Wanted.TheVariants.{NewTarget}
 use Rattle.op_text.specs.Grammar.{follow, statement, let_or_assign, allowed, opens_terminal}
 use Rattle.op_text.specs.Trees.{text_of, IsViable, IsTheGrammar}
 use Rattle.op_text.proofs.Forward.{text_runs}
@@ -33,6 +35,9 @@ flagless NewResult t.Zero o h = h
 flagless ResultKind t.Zero o h = h
 flagless FirstStmt t.Zero o h = h
 flagless Stmts t.Zero o h = h
+flagless SecondResult t.Zero o h = h
+flagless SecondTarget t.Zero o h = h
+flagless NewTarget t.Zero o h = h
 flagless WordOpName t.Zero o h = h
 flagless Args t.Zero o h = h
 flagless ArgName t.Zero o h = h
@@ -119,6 +124,9 @@ closing ResultKind = t.Name sp.Word ∷ []
 closing FirstStmt = t.Name sp.Plain ∷ t.Equals ∷ t.Name sp.Plain ∷ t.Opens ∷ t.Closes ∷ t.Semi
     ∷ t.Finishes ∷ []
 closing Stmts = t.Finishes ∷ []
+closing SecondResult = t.Begins ∷ []
+closing SecondTarget = t.Equals ∷ []
+closing NewTarget = t.Name sp.Plain ∷ []
 closing WordOpName = t.Name sp.Plain ∷ []
 closing Args = t.Closes ∷ []
 closing ArgName = t.Name sp.Plain ∷ []
@@ -222,6 +230,7 @@ keeps GateOpen ws t.Opens o h = loosen o ws h
 keeps NewOp ws (t.Name n) o h = loosen o ws h
 keeps NewParam ws (t.Name n) o h = loosen o ws h
 keeps NewResult ws (t.Name n) o h = loosen o ws h
+keeps NewTarget ws (t.Name n) o h = loosen o ws h
 keeps WordOpName ws (t.Name n) o h = loosen o ws h
 keeps ArgName ws (t.Name n) o h = loosen o ws h
 keeps StateName ws (t.Name n) o h = loosen o ws h
@@ -244,6 +253,10 @@ keeps Begin ws t.Begins o h = loosen o ws h
 keeps Colon ws t.Colon o h = loosen o ws h
 keeps Arrow ws t.Arrow o h = loosen o ws h
 keeps Equals ws t.Equals o h = loosen o ws h
+keeps SecondResult ws t.Begins o h = loosen o ws h
+keeps SecondTarget ws t.Equals o h = loosen o ws h
+keeps SecondResult ws t.Comma o h = h
+keeps SecondTarget ws t.Comma o h = h
 keeps Params ws t.Comma o h = h
 keeps Args ws (t.Name n) o h = h
 keeps MoreArgs ws t.Comma o h = h
@@ -269,6 +282,9 @@ last_flag NewResult ws t.Zero front s h = h
 last_flag ResultKind ws t.Zero front s h = h
 last_flag FirstStmt ws t.Zero front s h = h
 last_flag Stmts ws t.Zero front s h = h
+last_flag SecondResult ws t.Zero front s h = h
+last_flag SecondTarget ws t.Zero front s h = h
+last_flag NewTarget ws t.Zero front s h = h
 last_flag WordOpName ws t.Zero front s h = h
 last_flag Args ws t.Zero front s h = h
 last_flag ArgName ws t.Zero front s h = h

@@ -1,5 +1,5 @@
 -- The grammar's steps and the grammar's texts.
-use Rattle.std.proofs.Common.{◌≡◌, Bool, true, false, List, [], ◌∷◌, Some, refl, ◌∙◌}
+use Rattle.std.proofs.Common.{◌≡◌, Bool, true, false, List, [], ◌∷◌, Option, Some, None, refl, ◌∙◌}
 use Rattle.op_text.specs.declared.terminal.Terminal.{Terminal}
 use Rattle.op_text.specs.declared.terminal.Terminal.TheVariants as t
 use Rattle.op_text.specs.declared.terminal.Spelling.{Spelling}
@@ -14,11 +14,13 @@ use Rattle.op_text.specs.declared.grammar.Wanted.TheVariants.{WordEnd, Direction
 use Rattle.op_text.specs.declared.grammar.Wanted.TheVariants.{MoreStates, Start, Lets, LetEnd}
 use Rattle.op_text.specs.declared.grammar.Wanted.TheVariants.{AssignEnd, Assigns, Value, More, Open}
 use Rattle.op_text.specs.declared.grammar.Wanted.TheVariants.{Begin, Colon, Arrow, Equals}
+use Rattle.op_text.specs.declared.grammar.Wanted.TheVariants.{SecondResult, SecondTarget}
 use Rattle.op_text.specs.Grammar.{allowed, opens_terminal}
 use Rattle.op_text.specs.Trees.{Tree, Trees, Nought, Unity, Leaf, Call, Last, Then, ParamTree}
 use Rattle.op_text.specs.Trees.{StateTree, EquationTree, StatementTree, Compute, Visit, OpTree}
 use Rattle.op_text.specs.Trees.{is_serial, is_let, value_text, values_text, behind_commas}
-use Rattle.op_text.specs.Trees.{between_commas, in_turn, kind_word, direction_word, start_word}
+use Rattle.op_text.specs.Trees.{behind_comma, between_commas, in_turn, kind_word, direction_word}
+use Rattle.op_text.specs.Trees.{start_word}
 use Rattle.op_text.specs.Trees.{name_text, param_text, state_text, assign_text, let_text}
 use Rattle.op_text.specs.Trees.{statement_text, op_text, text_of}
 
@@ -136,17 +138,32 @@ direction_runs true ws rest = refl
 direction_runs false ws rest = refl
 
 target_runs : (n : Spelling) → is_serial n ≡ false → (ws : List Wanted) (rest : List Terminal)
-    → allowed (Stmts ∷ ws) (t.Name n ∷ rest) ≡ allowed (Equals ∷ WordOpName ∷ Open ∷ Args ∷ WordEnd
-    ∷ Stmts ∷ ws) rest
+    → allowed (Stmts ∷ ws) (t.Name n ∷ rest) ≡ allowed (SecondTarget ∷ WordOpName ∷ Open ∷ Args
+    ∷ WordEnd ∷ Stmts ∷ ws) rest
 unfolding allowed
 target_runs sp.Serial h ws rest = cc
 target_runs _ h ws rest = refl
 
+second_target_runs : (o : Option Spelling) (ws : List Wanted) (rest : List Terminal)
+    → allowed (SecondTarget ∷ ws) (behind_comma name_text o (t.Equals ∷ rest)) ≡ allowed ws rest
+unfolding allowed
+second_target_runs None ws rest = refl
+second_target_runs (Some n) ws rest = refl
+
+second_result_runs : (o : Option ParamTree) (ws : List Wanted) (rest : List Terminal)
+    → allowed (SecondResult ∷ ws) (behind_comma param_text o (t.Begins ∷ rest)) ≡ allowed ws rest
+unfolding allowed
+second_result_runs None ws rest = refl
+second_result_runs (Some p) ws rest = result_runs p (Begin ∷ ws) (t.Begins ∷ rest)
+
 statement_runs : (s : StatementTree) (ws : List Wanted) (rest : List Terminal)
     → allowed (Stmts ∷ ws) (statement_text s rest) ≡ allowed (Stmts ∷ ws) rest
 unfolding allowed
-statement_runs (Compute w) ws rest = target_runs w.target w.free ws (t.Equals ∷ t.Name w.operation
-    ∷ t.Opens ∷ between_commas name_text w.args (t.Closes ∷ t.Semi ∷ rest))
+statement_runs (Compute w) ws rest =
+    let d = t.Name w.operation ∷ t.Opens
+    ∷ between_commas name_text w.args (t.Closes ∷ t.Semi ∷ rest) in
+    target_runs w.target w.free ws (behind_comma name_text w.second (t.Equals ∷ d))
+    ∙ second_target_runs w.second (WordOpName ∷ Open ∷ Args ∷ WordEnd ∷ Stmts ∷ ws) d
     ∙ args_run w.args (WordEnd ∷ Stmts ∷ ws) (t.Semi ∷ rest)
 statement_runs (Visit b) ws rest =
     direction_runs b.down (Open ∷ States ∷ Begin ∷ Lets ∷ Stmts ∷ ws) (t.Opens
@@ -176,13 +193,16 @@ op_runs : (op : OpTree) (rest : List Terminal)
     → allowed (Ops ∷ []) (op_text op rest) ≡ allowed (Ops ∷ []) rest
 unfolding allowed
 op_runs op rest =
-    let d = t.Begins ∷ statement_text op.statement
+    let b = statement_text op.statement
     (in_turn statement_text op.statements (t.Finishes ∷ rest)) in
-    param_runs op.source (Params ∷ Arrow ∷ NewResult ∷ Colon ∷ ResultKind ∷ Begin ∷ FirstStmt ∷ Ops
-    ∷ []) (behind_commas param_text op.sources (t.Closes ∷ t.Arrow ∷ param_text op.result d))
-    ∙ params_run op.sources (Arrow ∷ NewResult ∷ Colon ∷ ResultKind ∷ Begin ∷ FirstStmt ∷ Ops
-    ∷ []) (t.Arrow ∷ param_text op.result d)
-    ∙ result_runs op.result (Begin ∷ FirstStmt ∷ Ops ∷ []) d
+    let d = behind_comma param_text op.second (t.Begins ∷ b) in
+    param_runs op.source (Params ∷ Arrow ∷ NewResult ∷ Colon ∷ ResultKind ∷ SecondResult
+    ∷ FirstStmt ∷ Ops ∷ []) (behind_commas param_text op.sources (t.Closes ∷ t.Arrow
+    ∷ param_text op.result d))
+    ∙ params_run op.sources (Arrow ∷ NewResult ∷ Colon ∷ ResultKind ∷ SecondResult ∷ FirstStmt
+    ∷ Ops ∷ []) (t.Arrow ∷ param_text op.result d)
+    ∙ result_runs op.result (SecondResult ∷ FirstStmt ∷ Ops ∷ []) d
+    ∙ second_result_runs op.second (FirstStmt ∷ Ops ∷ []) b
     ∙ first_statement op.statement (Ops ∷ [])
     (in_turn statement_text op.statements (t.Finishes ∷ rest))
     ∙ statement_runs op.statement (Ops ∷ []) (in_turn statement_text op.statements (t.Finishes

@@ -26,10 +26,13 @@ use Rattle.op_text.specs.declared.grammar.Wanted.TheVariants.{States, StateName,
 use Rattle.op_text.specs.declared.grammar.Wanted.TheVariants.{Lets, LetName, LetEnd, AssignEnd}
 use Rattle.op_text.specs.declared.grammar.Wanted.TheVariants.{Assigns, Value, GateOpen, More, Open}
 use Rattle.op_text.specs.declared.grammar.Wanted.TheVariants.{Begin, Colon, Arrow, Equals}
+use Rattle.op_text.specs.declared.grammar.Wanted.TheVariants.{SecondResult, SecondTarget}
+use Rattle.op_text.specs.declared.grammar.Wanted.TheVariants.{NewTarget}
 use Rattle.op_text.specs.Grammar.{follow, allowed, opens_terminal}
 use Rattle.op_text.specs.WordOps.{op_named, forms, filled}
 use Rattle.op_text.specs.Rules.{Scope, rules_at, unless, op_rules, source_rules, naming_rules}
-use Rattle.op_text.specs.Rules.{word_rules, statement_rules, known_op, argument_of_kind, gives_kind}
+use Rattle.op_text.specs.Rules.{word_rules, second_rules, statement_rules, known_op}
+use Rattle.op_text.specs.Rules.{argument_of_kind, gives_kind}
 use Rattle.op_text.specs.Rules.{state_rules, target_rules, let_or_target, gate_named, gate_rules}
 use Rattle.op_text.specs.Rules.{value_rules, comma_rules, close_rules, kind_among, with_rules}
 use Rattle.op_text.specs.Rules.{after, ends, breach_of, first_breach, nothing_yet}
@@ -54,7 +57,7 @@ unless_no false k r h g = g
 
 known_no : (s : Scope) (p : Option WordOp) → IsOther (known_op s p)
 known_no s None = Breaks _ refl
-known_no s (Some p) = Passes _
+known_no s (Some p) = unless_no _ why.Kind _ refl (Passes _)
 
 argument_no : (s : Scope) (k : Option Kind) → IsOther (argument_of_kind s k)
 argument_no s None = Breaks _ refl
@@ -93,6 +96,9 @@ naming_no s n text = unless_no _ BadName _ refl (unless_no _ Twice _ refl (Passe
 word_no : (s : Scope) (n : Spelling) (text : List ℕ) → IsOther (word_rules s n text)
 word_no s n text = unless_no _ BadName _ refl (unless_no _ Twice _ refl
     (unless_no _ TooMany _ refl (Passes _)))
+
+second_no : (s : Scope) (n : Spelling) (text : List ℕ) → IsOther (second_rules s n text)
+second_no s n text = unless_no _ BadName _ refl (unless_no _ Twice _ refl (Passes _))
 
 statement_no : (s : Scope) (n : Spelling) (text : List ℕ) → IsOther (statement_rules s n text)
 statement_no s sp.Serial text = unless_no _ TooMany _ refl (Passes _)
@@ -139,6 +145,7 @@ rules_no NewResult s (t.Name n) text o = naming_no s n text
 rules_no FirstStmt s (t.Name n) text o = statement_no s n text
 rules_no Stmts s (t.Name n) text o = statement_no s n text
 rules_no Stmts s t.Finishes text o = unless_no _ NoResult _ refl (Passes _)
+rules_no NewTarget s (t.Name n) text o = second_no s n text
 rules_no WordOpName s (t.Name n) text o = unless_no _ BadName _ refl (known_no s (op_named text))
 rules_no Args s (t.Name n) text o = unless_no _ BadName _ refl
     (argument_no s (kind_among s.op.defined text))
@@ -166,6 +173,9 @@ rules_no NewResult s t.Zero text o = Passes _
 rules_no ResultKind s t.Zero text o = Passes _
 rules_no FirstStmt s t.Zero text o = Passes _
 rules_no Stmts s t.Zero text o = Passes _
+rules_no SecondResult s t.Zero text o = Passes _
+rules_no SecondTarget s t.Zero text o = Passes _
+rules_no NewTarget s t.Zero text o = Passes _
 rules_no WordOpName s t.Zero text o = Passes _
 rules_no Args s t.Zero text o = Passes _
 rules_no ArgName s t.Zero text o = Passes _
@@ -203,6 +213,9 @@ unflag NewResult t.Zero o h = h
 unflag ResultKind t.Zero o h = h
 unflag FirstStmt t.Zero o h = h
 unflag Stmts t.Zero o h = h
+unflag SecondResult t.Zero o h = h
+unflag SecondTarget t.Zero o h = h
+unflag NewTarget t.Zero o h = h
 unflag WordOpName t.Zero o h = h
 unflag Args t.Zero o h = h
 unflag ArgName t.Zero o h = h

@@ -1,5 +1,5 @@
 -- No two lists of ops are spelled alike.
-use Rattle.std.proofs.Common.{◌≡◌, ℕ, Bool, true, false, List, [], ◌∷◌, Some, refl}
+use Rattle.std.proofs.Common.{◌≡◌, ℕ, Bool, true, false, List, [], ◌∷◌, Option, Some, None, refl}
 use Rattle.std.proofs.Common.{sym, ap, ◌∙◌, codes, arith}
 use Rattle.text_lex.specs.Spelled.{fits_name}
 use Rattle.op_text.specs.declared.tree.Kind.{Kind}
@@ -13,7 +13,8 @@ use Rattle.op_text.specs.Language.{Equation, Block, Compute, Visit, Operation}
 use Rattle.op_text.specs.Spelling.{IsShut, behind_commas, between_commas}
 use Rattle.op_text.specs.Spelling.{in_turn, kind_text, direction_text, start_text, name_text}
 use Rattle.op_text.specs.Spelling.{param_text, state_text, equation_text, let_text, statement_text}
-use Rattle.op_text.specs.Spelling.{operation_text, IsName, HasParam, HasState}
+use Rattle.op_text.specs.Spelling.{behind_comma, operation_text, IsName, HasParam, HasState}
+use Rattle.op_text.specs.Spelling.{IfThere}
 use Rattle.op_text.specs.Spelling.{HasEquation, HasStatement, HasOperation, Each, OpsSpelledOnce}
 use Rattle.op_text.proofs.Unique.{spelled_once}
 
@@ -77,6 +78,7 @@ op_is_named o.Bitcount = refl
 op_is_named o.AndRed = refl
 op_is_named o.OrRed = refl
 op_is_named o.XorRed = refl
+op_is_named o.Divmod = refl
 
 op_once : (p q : WordOp) → op_text p ≡ op_text q → p ≡ q
 op_once p q e = let s : Some p ≡ Some q = sym (op_is_named p) ∙ ap op_named e ∙ op_is_named q in cc
@@ -205,32 +207,54 @@ block_is : (b d : Block) → b.down ≡ d.down → b.states ≡ d.states → b.l
     → b.assigns ≡ d.assigns → b ≡ d
 block_is b d e f g h = rw (← e, ← f, ← g, ← h) refl
 
-compute_is : (m n : List ℕ) (p q : WordOp) (a b : List (List ℕ)) → m ≡ n → p ≡ q → a ≡ b
-    → Compute m p a ≡ Compute n q b
-compute_is m n p q a b e f g = rw (e, f, g) refl
+compute_is : (m n : List ℕ) (c d : Option (List ℕ)) (p q : WordOp) (a b : List (List ℕ)) → m ≡ n
+    → c ≡ d → p ≡ q → a ≡ b → Compute m c p a ≡ Compute n d q b
+compute_is m n c d p q a b e h f g = rw (e, h, f, g) refl
 
-no_direction : (down : Bool) → direction_text down ≡ codes "=" → ⊥
-no_direction true e = omega (arith, ap (λ x. first (x ∷ [])) e)
-no_direction false e = omega (arith, ap (λ x. first (x ∷ [])) e)
+-- a part behind a comma, up to a mark that is another
+comma_once : {A : Type 0} (spell : A → List (List ℕ) → List (List ℕ)) (ok : A → Type 0)
+    → Once spell ok → (end : List ℕ) → (codes "," ≡ end → ⊥) → (a b : Option A)
+    (x y : List (List ℕ)) → IfThere ok a → IfThere ok b
+    → behind_comma spell a (end ∷ x) ≡ behind_comma spell b (end ∷ y) → (a ≡ b) × (x ≡ y)
+comma_once spell ok once end other None None x y f g e = (refl, tails end end x y e)
+comma_once spell ok once end other None (Some b) x y f g e =
+    absurd (other (sym (heads end (codes ",") x (spell b (end ∷ y)) e)))
+comma_once spell ok once end other (Some a) None x y f g e =
+    absurd (other (heads (codes ",") end (spell a (end ∷ x)) y e))
+comma_once spell ok once end other (Some a) (Some b) x y f g e =
+    let h = once a b (end ∷ x) (end ∷ y) f g (tails (codes ",") (codes ",") _ _ e) in
+    (ap Some h.0, tails end end x y h.1)
+
+comma_equals : codes "," ≡ codes "=" → ⊥
+comma_equals e = omega (arith, ap (λ x. first (x ∷ [])) e)
+
+comma_begins : codes "," ≡ codes "{" → ⊥
+comma_begins e = omega (arith, ap (λ x. first (x ∷ [])) e)
+
+-- behind a word statement's first target stands a comma or "="
+no_target : (down : Bool) (c : Option (List ℕ)) (x y : List (List ℕ))
+    → behind_comma name_text c (codes "=" ∷ x) ≡ direction_text down ∷ y → ⊥
+no_target true None x y e = omega (arith, ap first e)
+no_target false None x y e = omega (arith, ap first e)
+no_target true (Some n) x y e = omega (arith, ap first e)
+no_target false (Some n) x y e = omega (arith, ap first e)
 
 statement_once : Once statement_text HasStatement
-statement_once (Compute m p a) (Compute n q b) x y f g e =
+statement_once (Compute m c p a) (Compute n d q b) x y f g e =
     let t1 = tails m n _ _ e in
-    let t2 = tails (codes "=") (codes "=") _ _ t1 in
-    let t3 = tails (op_text p) (op_text q) _ _ t2 in
+    let t2 = comma_once name_text IsName name_once (codes "=") comma_equals c d _ _ f.1 g.1 t1 in
+    let t3 = tails (op_text p) (op_text q) _ _ t2.1 in
     let t4 = tails (codes "(") (codes "(") _ _ t3 in
     let k = between_once name_text IsName name_once name_opens a b (codes ";" ∷ x) (codes ";"
-    ∷ y) f.1 g.1 t4 in (
-      compute_is m n p q a b (heads m n _ _ e) (op_once p q (heads (op_text p) (op_text q) _ _ t2))
-          k.0,
+    ∷ y) f.2 g.2 t4 in (
+      compute_is m n c d p q a b (heads m n _ _ e) t2.0
+          (op_once p q (heads (op_text p) (op_text q) _ _ t2.1)) k.0,
       tails (codes ";") (codes ";") x y k.1,
     )
-statement_once (Compute m p a) (Visit d) x y f g e =
-    absurd (no_direction d.down (sym (heads (codes "=") (direction_text d.down) _ _
-    (tails m (codes "serial") _ _ e))))
-statement_once (Visit b) (Compute n q a) x y f g e =
-    absurd (no_direction b.down (heads (direction_text b.down) (codes "=") _ _
-    (tails (codes "serial") n _ _ e)))
+statement_once (Compute m c p a) (Visit d) x y f g e =
+    absurd (no_target d.down c _ _ (tails m (codes "serial") _ _ e))
+statement_once (Visit b) (Compute n c q a) x y f g e =
+    absurd (no_target b.down c _ _ (sym (tails (codes "serial") n _ _ e)))
 statement_once (Visit b) (Visit d) x y f g e =
     let t1 = tails (codes "serial") (codes "serial") _ _ e in
     let t2 = tails (direction_text b.down) (direction_text d.down) _ _ t1 in
@@ -250,12 +274,13 @@ statement_once (Visit b) (Visit d) x y f g e =
     )
 
 statement_ends : (x : List (List ℕ)) → Ends statement_text HasStatement (codes "}" ∷ x)
-statement_ends x (Compute m p a) y f e = no_name m (codes "}") (heads m (codes "}") _ x e) f.0 refl
+statement_ends x (Compute m c p a) y f e =
+    no_name m (codes "}") (heads m (codes "}") _ x e) f.0 refl
 statement_ends x (Visit b) y f e = omega (arith, ap first e)
 
 operation_is : (a b : Operation) → a.name ≡ b.name → a.params ≡ b.params → a.result ≡ b.result
-    → a.body ≡ b.body → a ≡ b
-operation_is a b e f g h = rw (← e, ← f, ← g, ← h) refl
+    → a.second ≡ b.second → a.body ≡ b.body → a ≡ b
+operation_is a b e f g i h = rw (← e, ← f, ← g, ← i, ← h) refl
 
 operation_once : Once operation_text HasOperation
 operation_once a b x y f g e =
@@ -266,10 +291,11 @@ operation_once a b x y f g e =
     g.params t3 in
     let t4 = tails (codes "->") (codes "->") _ _ p.1 in
     let r = param_once a.result b.result _ _ f.result g.result t4 in
-    let t5 = tails (codes "{") (codes "{") _ _ r.1 in
+    let c = comma_once param_text HasParam param_once (codes "{") comma_begins a.second b.second _ _
+    f.second g.second r.1 in
     let s = turn_once statement_text HasStatement statement_once a.body b.body (codes "}"
-    ∷ x) (codes "}" ∷ y) (statement_ends x) (statement_ends y) f.body g.body t5 in (
-      operation_is a b (heads a.name b.name _ _ t1) p.0 r.0 s.0,
+    ∷ x) (codes "}" ∷ y) (statement_ends x) (statement_ends y) f.body g.body c.1 in (
+      operation_is a b (heads a.name b.name _ _ t1) p.0 r.0 c.0 s.0,
       tails (codes "}") (codes "}") x y s.1,
     )
 

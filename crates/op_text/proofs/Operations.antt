@@ -381,3 +381,4 @@ first_settles o.Eq kinds k h = settles (shapes.TwoWords Bit) kinds k h
 first_settles o.Gt kinds k h = settles (shapes.TwoWords Bit) kinds k h
 first_settles o.Ge kinds k h = settles (shapes.TwoWords Bit) kinds k h
 first_settles o.IfElse kinds k h = settles shapes.Choice kinds k h
+first_settles o.Divmod kinds k h = settles (shapes.TwoWords Word) kinds k h

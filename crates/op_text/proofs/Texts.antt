@@ -360,3 +360,132 @@ too_many_18 : Each (
     ++ codes "}") ∷ []) (at_line 18 TooMany)
 unfolding breach_of items_from front_of
 too_many_18 = refl
+
+-- two results and two targets
+accepted_two : Each (
+    codes "op dm(a: word, b: word) -> q: word, r: word { q, r = divmod(a, b); }" ∷
+    codes "op dm(a: word, b: word) -> q: word, r: word { r, q = divmod(a, a); }" ∷
+    codes "op f(a: word, b: word) -> y: word { y, t = divmod(a, b); }" ∷
+    codes "op f(a: word, b: word) -> y: word { t, y = divmod(a, b); }" ∷
+    codes "op f(a: word, b: word) -> y: word { t, u = divmod(a, b); y = add(u, t); }" ∷
+    codes "op f(a: word, b: word) -> y: word, e: bit { y = add(a, b); e = eq(y, b); }" ∷
+    codes "op f(a: word, b: word) -> e: bit, y: word { y = add(a, b); e = eq(y, b); }" ∷
+    codes "op f(a: word) -> y: word, z: word { serial up () { y = a; z = not(a); } }" ∷ []) None
+unfolding breach_of items_from front_of
+accepted_two = refl
+
+accepted_states : Each (
+    codes "op f(a: word) -> y: word, c: bit { serial up (c = 0) { y = a; c = or(c, a); } }" ∷
+    codes "op f(a: word) -> c: bit, y: word { serial up (c = 0) { y = a; c = or(c, a); } }" ∷
+    codes "op f(a: word) -> c: bit, d: bit { serial up (c = 0, d = 1) { d = a; } }" ∷
+    codes "op f(a: word) -> c: bit, d: bit { serial up (d = 1) { d = a; } c = copy(d); }" ∷ []) None
+unfolding breach_of items_from front_of
+accepted_states = refl
+
+twice_two_2 : Each (
+    codes "op f(a: word) -> q: word,\nq\n: word { q = copy(a); }" ∷
+    codes "op f(a: word) -> q: word,\na\n: word { q = copy(a); }" ∷ []) (at_line 2 Twice)
+unfolding breach_of items_from front_of
+twice_two_2 = refl
+
+twice_two_3 : Each (
+    codes "op f(a: word, b: word) -> q: word, r: word {\nq,\nq\n= divmod(a, b); }" ∷
+    codes "op f(a: word, b: word) -> q: word, r: word {\nt,\nt\n= divmod(a, b); }" ∷
+    codes "op f(a: word, b: word) -> q: word, r: word {\nq,\na\n= divmod(a, b); }" ∷
+    (codes "op f(a: word, b: word) -> q: word, r: word { q, r = divmod(a, b);\nt,\nr"
+    ++ codes "\n= divmod(a, b); }") ∷
+    (codes "op f(a: word, b: word) -> q: word, r: word { r = copy(a);\nq,\nr\n= divm"
+    ++ codes "od(a, b); }") ∷
+    (codes "op f(a: word, b: word) -> q: word, r: word { t = copy(a);\nq,\nt\n= divm"
+    ++ codes "od(a, b); }") ∷
+    (codes "op f(a: word, b: word) -> q: word, r: word { q, r = divmod(a, b);\nseria"
+    ++ codes "l up (s = 0) {\nr\n= a; } }") ∷
+    (codes "op f(a: word) -> q: word, c: bit { c = or_red(a);\nserial up (\nc\n= 0) "
+    ++ codes "{ q = a; } }") ∷
+    codes "op f(a: word) -> q: word, r: word {\nserial up (\nr\n= 0) { q = a; } }" ∷
+    (codes "op f(a: word, b: word) -> q: word, r: word { serial up () { let l = a; t"
+    ++ codes " = l; }\nq,\nl\n= divmod(a, b); }") ∷
+    (codes "op f(a: word, b: word) -> q: word, r: word { serial up (s = 0) { t = a; "
+    ++ codes "}\nq,\ns\n= divmod(a, b); }") ∷ []) (at_line 3 Twice)
+unfolding breach_of items_from front_of
+twice_two_3 = refl
+
+twice_first : Each (
+    (codes "op f(a: word, b: word) -> q: word, r: word { q = copy(a);\nq\n, r = divm"
+    ++ codes "od(a, b); }") ∷
+    (codes "op f(a: word, b: word) -> q: word, r: word { q, r = divmod(a, b);\nr\n, "
+    ++ codes "t = divmod(a, b); }") ∷ []) (at_line 2 Twice)
+unfolding breach_of items_from front_of
+twice_first = refl
+
+kind_end : Each (
+    codes "op f(a: word, b: word) -> q: word, r: bit {\nq, r = divmod(a, b)\n; }" ∷
+    codes "op f(a: word, b: word) -> q: bit, r: word {\nq, r = divmod(a, b)\n; }" ∷
+    codes "op f(a: word, b: word) -> y: bit {\nt, y = divmod(a, b)\n; }" ∷
+    (codes "op f(a: word, b: word) -> q: word, e: bit {\ne = add(a, b)\n; q = copy(a"
+    ++ codes "); }") ∷ []) (at_line 3 Kind)
+unfolding breach_of items_from front_of
+kind_end = refl
+
+kind_targets : Each (
+    codes "op f(a: word, b: word) -> q: word, r: word {\nx, y =\nadd\n(a, b); }" ∷
+    codes "op f(a: word, b: word) -> q: word, r: word {\nq =\ndivmod\n(a, b); }" ∷
+    codes "op f(a: word, b: word) -> q: word, r: word {\nq, r =\nzero\n(); }" ∷
+    (codes "op f(a: word) -> q: word, c: bit { q = copy(a);\nserial up () {\nc\n= a;"
+    ++ codes " } }") ∷ []) (at_line 3 Kind)
+unfolding breach_of items_from front_of
+kind_targets = refl
+
+kind_arguments : Each (
+    codes "op f(a: word, p: bit) -> q: word, r: word {\nq, r = divmod(a,\np); }" ∷
+    codes "op f(a: word, b: word) -> q: word, r: word {\nq, r = divmod(a\n); }" ∷
+    (codes "op f(a: word, b: word) -> q: word, r: word {\nq, r = divmod(a, b\n, a); "
+    ++ codes "}") ∷ []) (at_line 3 Kind)
+unfolding breach_of items_from front_of
+kind_arguments = refl
+
+unknown_two : Each (
+    codes "op f(a: word, b: word) -> q: word, r: word {\nq, r =\nfoo\n(a, b); }" ∷
+    codes "op f(a: word, b: word) -> q: word, r: word {\nq, r = divmod(\nq\n, b); }" ∷
+    (codes "op f(a: word, b: word) -> q: word, r: word { q = copy(a);\nt = add(a,\nr"
+    ++ codes "\n); r = copy(a); }") ∷ []) (at_line 3 Unknown)
+unfolding breach_of items_from front_of
+unknown_two = refl
+
+no_result_two : Each (
+    codes "op f(a: word, b: word) -> q: word, r: word {\nq = add(a, b);\n}" ∷
+    codes "op f(a: word, b: word) -> q: word, r: word {\nr = add(a, b);\n}" ∷
+    codes "op f(a: word, b: word) -> q: word, r: word {\nq, t = divmod(a, b);\n}" ∷
+    codes "op f(a: word, b: word) -> q: word, r: word {\nt, r = divmod(a, b);\n}" ∷
+    codes "op f(a: word, b: word) -> q: word, r: word {\nx, y = divmod(a, b);\n}" ∷
+    codes "op f(a: word) -> q: word, c: bit {\nserial up () { q = a; }\n}" ∷
+    codes "op f(a: word) -> q: word, c: bit {\nserial up (c = 0) { c = a; }\n}"
+    ∷ []) (at_line 3 NoResult)
+unfolding breach_of items_from front_of
+no_result_two = refl
+
+syntax_two : Each (
+    (codes "op f(a: word, b: word) -> q: word, r: word {\nq, r\n, t = divmod(a, b); "
+    ++ codes "}") ∷
+    codes "op f(a: word, b: word) -> q: word, r: word {\nq,\n= divmod(a, b); }" ∷
+    codes "op f(a: word, b: word) -> q: word, r: word {\nq,\n( t = divmod(a, b); }" ∷
+    (codes "op f(a: word, b: word) -> q: word, r: word {\nserial\n, q = divmod(a, b)"
+    ++ codes "; }") ∷
+    codes "op f(a: word)\n-> q: word, r: word\n, t: word { q = copy(a); }" ∷
+    codes "op f(a: word)\n-> q: word,\n{ q = copy(a); }" ∷
+    codes "op f(a: word)\n-> q: word, r:\n{ q = copy(a); }" ∷
+    (codes "op f(a: word, b: word) -> q: word, r: word {\nserial up () { t\n, u = a;"
+    ++ codes " } }") ∷
+    codes "op f(a: word, b: word) -> q: word, r: word {\n\nq," ∷ []) (at_line 3 Syntax)
+unfolding breach_of items_from front_of
+syntax_two = refl
+
+bad_name_two : Each (
+    codes "op f(a: word, b: word) -> q: word, r: word {\nq,\nword = divmod(a, b); }" ∷
+    (codes "op f(a: word, b: word) -> q: word, r: word {\nq,\nserial = divmod(a, b);"
+    ++ codes " }") ∷
+    (codes "op f(a: word, b: word) -> q: word, r: word {\nq,\nabcdefghijklmnopq = di"
+    ++ codes "vmod(a, b); }") ∷
+    codes "op f(a: word)\n-> q: word,\nlet: word { q = copy(a); }" ∷ []) (at_line 3 BadName)
+unfolding breach_of items_from front_of
+bad_name_two = refl

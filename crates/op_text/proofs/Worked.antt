@@ -1,11 +1,11 @@
 -- Worked values: word operations, whole operations, their scratch and their ceilings.
-use Rattle.std.proofs.Common.{◌≡◌, ℕ, ◌+◌, ◌*◌, false, List, [], ◌∷◌, map, codes, refl}
-use Rattle.op_text.specs.declared.tree.Kind.TheVariants.{Word}
+use Rattle.std.proofs.Common.{◌≡◌, ℕ, ◌+◌, ◌*◌, false, List, [], ◌∷◌, Some, None, map, codes, refl}
+use Rattle.op_text.specs.declared.tree.Kind.TheVariants.{Word, Bit}
 use Rattle.op_text.specs.declared.tree.WordOp.{WordOp}
 use Rattle.op_text.specs.declared.tree.WordOp.TheVariants as o
 use Rattle.op_text.specs.Language.{Term, Named, Parity, Majority, Equation, Compute, Visit}
 use Rattle.op_text.specs.Language.{Operation}
-use Rattle.op_text.specs.Values.{bits, op_value}
+use Rattle.op_text.specs.Values.{bits, op_value, second_value}
 use Rattle.op_text.specs.Meaning.{meaning}
 use Rattle.op_text.specs.Scratch.{scratch_bits, scratch_words, need, ceiling, param}
 use Rattle.op_text.specs.Scratch.{op_ceiling}
@@ -79,6 +79,15 @@ reductions : Gives o.AndRed 4 (one 15 ∷ one 14 ∷ []) (1 ∷ 0 ∷ [])
     × Gives o.OrRed 4 (one 0 ∷ one 8 ∷ []) (0 ∷ 1 ∷ [])
 reductions = (refl, refl)
 
+divmod_is_both : (n a b : ℕ) → (op_value o.Divmod n (two a b) ≡ op_value o.Div n (two a b))
+    × (second_value o.Divmod n (two a b) ≡ op_value o.Rem n (two a b))
+divmod_is_both n a b = (refl, refl)
+
+-- the numbers that two targets are given
+both_values : (map (second_value o.Divmod 8) (two 255 7 ∷ two 7 0 ∷ []) ≡ 3 ∷ 7 ∷ [])
+    × Gives o.Divmod 8 (two 255 7 ∷ two 7 0 ∷ []) (36 ∷ 255 ∷ [])
+both_values = (refl, refl)
+
 abbrev name : List ℕ → Term
 name n = Named n
 
@@ -91,12 +100,13 @@ mac = record {
   name = codes "mac";
   params = param (codes "a") Word ∷ param (codes "b") Word ∷ param (codes "c") Word ∷ [];
   result = param (codes "y") Word;
-  body = Compute (codes "t") o.Mul (codes "a" ∷ codes "b" ∷ [])
-      ∷ Compute (codes "y") o.Add (codes "t" ∷ codes "c" ∷ []) ∷ [];
+  second = None;
+  body = Compute (codes "t") None o.Mul (codes "a" ∷ codes "b" ∷ [])
+      ∷ Compute (codes "y") None o.Add (codes "t" ∷ codes "c" ∷ []) ∷ [];
 }
 
-mac_means : (meaning mac 4 (3 ∷ 4 ∷ 9 ∷ []) ≡ 5) × (scratch_bits mac ≡ 1) × (scratch_words mac ≡ 1)
-    × (need mac 32 ≡ 33) × (ceiling mac 32 ≡ 12033)
+mac_means : (meaning mac 4 (3 ∷ 4 ∷ 9 ∷ []) ≡ 5 ∷ []) × (scratch_bits mac ≡ 1)
+    × (scratch_words mac ≡ 1) × (need mac 32 ≡ 33) × (ceiling mac 32 ≡ 12033)
 unfolding bits
 mac_means = (refl, refl, refl, refl, refl)
 
@@ -106,6 +116,7 @@ sum = record {
   name = codes "sum";
   params = param (codes "a") Word ∷ param (codes "b") Word ∷ [];
   result = param (codes "y") Word;
+  second = None;
   body = Visit (record {
     down = false;
     states = record { name = codes "c"; start = false } ∷ [];
@@ -116,7 +127,7 @@ sum = record {
   }) ∷ [];
 }
 
-sum_means : (meaning sum 4 (9 ∷ 8 ∷ []) ≡ 1) × (meaning sum 4 (3 ∷ 4 ∷ []) ≡ 7)
+sum_means : (meaning sum 4 (9 ∷ 8 ∷ []) ≡ 1 ∷ []) × (meaning sum 4 (3 ∷ 4 ∷ []) ≡ 7 ∷ [])
     × (scratch_bits sum ≡ 1) × (scratch_words sum ≡ 0) × (ceiling sum 4 ≡ 4 * (4 * 7 + 3 * 2) + 1)
 unfolding bits
 sum_means = (refl, refl, refl, refl, refl)
@@ -125,3 +136,38 @@ ceilings : (op_ceiling o.Div 8 ≡ 29 * 64 + 18 * 8)
     × (ceiling mac 32 ≡ 11 * 1024 + 15 * 32 + 9 * 32 + 1)
 unfolding bits
 ceilings = (refl, refl)
+
+-- q, r = divmod(a, b);
+abbrev dm : Operation
+dm = record {
+  name = codes "dm";
+  params = param (codes "a") Word ∷ param (codes "b") Word ∷ [];
+  result = param (codes "q") Word;
+  second = Some (param (codes "r") Word);
+  body = Compute (codes "q") (Some (codes "r")) o.Divmod (codes "a" ∷ codes "b" ∷ []) ∷ [];
+}
+
+dm_means : (meaning dm 8 (255 ∷ 7 ∷ []) ≡ 36 ∷ 3 ∷ []) × (meaning dm 8 (7 ∷ 0 ∷ []) ≡ 255 ∷ 7 ∷ [])
+    × (scratch_bits dm ≡ 2) × (scratch_words dm ≡ 2) × (ceiling dm 8 ≡ 29 * 64 + 24 * 8)
+unfolding bits
+dm_means = (refl, refl, refl, refl, refl)
+
+-- h, t = divmod(a, b); q = add(h, t); e = eq(h, t);
+-- a word and a bit as results, and two targets that are none of them
+abbrev mixed : Operation
+mixed = record {
+  name = codes "mixed";
+  params = param (codes "a") Word ∷ param (codes "b") Word ∷ [];
+  result = param (codes "q") Word;
+  second = Some (param (codes "e") Bit);
+  body = Compute (codes "h") (Some (codes "t")) o.Divmod (codes "a" ∷ codes "b" ∷ [])
+      ∷ Compute (codes "q") None o.Add (codes "h" ∷ codes "t" ∷ [])
+      ∷ Compute (codes "e") None o.Eq (codes "h" ∷ codes "t" ∷ []) ∷ [];
+}
+
+mixed_means : (meaning mixed 4 (14 ∷ 4 ∷ []) ≡ 5 ∷ 0 ∷ [])
+    × (meaning mixed 4 (10 ∷ 4 ∷ []) ≡ 4 ∷ 1 ∷ []) × (scratch_bits mixed ≡ 2)
+    × (scratch_words mixed ≡ 4)
+    × (ceiling mixed 4 ≡ 29 * 16 + 24 * 4 + (9 * 4 + 1) + (19 * 4 + 1))
+unfolding bits
+mixed_means = (refl, refl, refl, refl, refl)

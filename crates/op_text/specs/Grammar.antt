@@ -11,6 +11,8 @@ use Rattle.op_text.specs.declared.grammar.Wanted.TheVariants.{States, StateName,
 use Rattle.op_text.specs.declared.grammar.Wanted.TheVariants.{Lets, LetName, LetEnd, AssignEnd}
 use Rattle.op_text.specs.declared.grammar.Wanted.TheVariants.{Assigns, Value, GateOpen, More, Open}
 use Rattle.op_text.specs.declared.grammar.Wanted.TheVariants.{Begin, Colon, Arrow, Equals}
+use Rattle.op_text.specs.declared.grammar.Wanted.TheVariants.{SecondResult, SecondTarget}
+use Rattle.op_text.specs.declared.grammar.Wanted.TheVariants.{NewTarget}
 use Rattle.op_text.specs.declared.terminal.Terminal.{Terminal}
 use Rattle.op_text.specs.declared.terminal.Terminal.TheVariants as t
 use Rattle.op_text.specs.declared.terminal.Spelling.{Spelling}
@@ -19,7 +21,7 @@ use Rattle.op_text.specs.declared.terminal.Spelling.TheVariants as sp
 -- a statement, behind its first token
 abbrev pub statement : Spelling → List Wanted
 statement sp.Serial = Direction ∷ Open ∷ States ∷ Begin ∷ Lets ∷ Stmts ∷ []
-statement n = Equals ∷ WordOpName ∷ Open ∷ Args ∷ WordEnd ∷ Stmts ∷ []
+statement n = SecondTarget ∷ WordOpName ∷ Open ∷ Args ∷ WordEnd ∷ Stmts ∷ []
 
 -- a line of a block, behind its first token
 abbrev pub let_or_assign : Spelling → List Wanted
@@ -28,7 +30,7 @@ let_or_assign n = Equals ∷ Value ∷ AssignEnd ∷ Assigns ∷ []
 
 abbrev pub op_word : Spelling → Option (List Wanted)
 op_word sp.Op = Some (NewOp ∷ Open ∷ NewParam ∷ Colon ∷ ParamKind ∷ Params ∷ Arrow ∷ NewResult
-    ∷ Colon ∷ ResultKind ∷ Begin ∷ FirstStmt ∷ Ops ∷ [])
+    ∷ Colon ∷ ResultKind ∷ SecondResult ∷ FirstStmt ∷ Ops ∷ [])
 op_word n = None
 
 abbrev pub kind_word : Spelling → Option (List Wanted)
@@ -52,9 +54,14 @@ follow Params t.Comma o = Some (NewParam ∷ Colon ∷ ParamKind ∷ Params ∷ 
 follow Params t.Closes o = Some []
 follow NewResult (t.Name n) o = Some []
 follow ResultKind (t.Name n) o = kind_word n
+follow SecondResult t.Comma o = Some (NewResult ∷ Colon ∷ ResultKind ∷ Begin ∷ [])
+follow SecondResult t.Begins o = Some []
 follow FirstStmt (t.Name n) o = Some (statement n)
 follow Stmts (t.Name n) o = Some (statement n)
 follow Stmts t.Finishes o = Some []
+follow SecondTarget t.Comma o = Some (NewTarget ∷ Equals ∷ [])
+follow SecondTarget t.Equals o = Some []
+follow NewTarget (t.Name n) o = Some []
 follow WordOpName (t.Name n) o = Some []
 follow Args (t.Name n) o = Some (MoreArgs ∷ [])
 follow Args t.Closes o = Some []

@@ -1,5 +1,6 @@
 -- Operations without where they lie in memory.
-use Rattle.std.specs.Prelude.{ℕ, Bool, List, map}
+use Rattle.std.specs.Prelude.{ℕ, Bool, List, ◌∷◌, map, Option}
+use Rattle.std.specs.Option.{option_to_list}
 use Rattle.op_text.specs.declared.tree.WordOp.{WordOp}
 use Rattle.op_text.specs.declared.tree.Param.{Param}
 use Rattle.op_text.specs.declared.tree.State.{State}
@@ -43,21 +44,23 @@ pub record Block : Type 0 where
   pub lets : List Equation
   pub assigns : List Equation
 
+-- a word statement has a target and maybe a second one, an operation and arguments
 pub data Statement : Type 0 where
-  Compute : List ℕ → WordOp → List (List ℕ) → Statement
+  Compute : List ℕ → Option (List ℕ) → WordOp → List (List ℕ) → Statement
   Visit : Block → Statement
 
 pub record Operation : Type 0 where
   pub name : List ℕ
   pub params : List Param
   pub result : Param
+  pub second : Option Param
   pub body : List Statement
 
 abbrev pub equation : Assign → Equation
 equation a = record { name = a.name; value = term a.value }
 
 abbrev pub statement : Stmt → Statement
-statement (Word dst p args) = Compute dst p args.items
+statement (Word dst second p args) = Compute dst second p args.items
 statement (Serial down states lets assigns) =
     Visit (record {
       down = down;
@@ -71,8 +74,16 @@ operation p = record {
   name = p.name;
   params = p.params.items;
   result = p.result;
+  second = p.second;
   body = map statement p.body.items;
 }
 
 abbrev pub operations : Ops → List Operation
 operations all = map operation all.ops.items
+
+-- the one or two results of an operation, and their names
+abbrev pub results : Operation → List Param
+results op = op.result ∷ option_to_list op.second
+
+abbrev pub result_names : Operation → List (List ℕ)
+result_names op = map (λ (p : Param). p.name) (results op)

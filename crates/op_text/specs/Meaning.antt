@@ -1,7 +1,8 @@
 -- What an operation means.
 use Rattle.std.specs.Prelude.{ℕ, ◌<◌, ◌^◌, zero, suc, Bool, true, false, not, ◌&&◌, ◌||◌, List, []}
 use Rattle.std.specs.Prelude.{◌∷◌, ◌++◌, map, fold, replicate, bytes_eq, slice_index_or, slice_set}
-use Rattle.std.specs.Prelude.{unwrap_or, if◌then◌else◌}
+use Rattle.std.specs.Prelude.{unwrap_or, Option, Some, None, if◌then◌else◌}
+use Rattle.std.specs.List.{AllByRecursion}
 use Rattle.op_text.specs.declared.tree.Kind.{Kind}
 use Rattle.op_text.specs.declared.tree.Kind.TheVariants.{Word, Bit}
 use Rattle.op_text.specs.declared.tree.Param.{Param}
@@ -9,9 +10,9 @@ use Rattle.op_text.specs.declared.tree.State.{State}
 use Rattle.op_text.specs.declared.tree.WordOp.{WordOp}
 use Rattle.op_text.specs.Language.{Term, Nought, Unity, Named, Negation, Conjunction, Disjunction}
 use Rattle.op_text.specs.Language.{Parity, Majority, Equation, Block, Statement, Compute, Visit}
-use Rattle.op_text.specs.Language.{Operation}
-use Rattle.op_text.specs.Values.{value, bits, differ, majority, op_value}
-use Rattle.op_text.specs.WordOps.{forms, filled}
+use Rattle.op_text.specs.Language.{Operation, result_names}
+use Rattle.op_text.specs.Values.{value, bits, differ, majority, op_value, second_value}
+use Rattle.op_text.specs.WordOps.{forms, filled, second_gives}
 
 -- the value of an expression, where its names have these values
 abbrev pub term_bit : (List ℕ → Bool) → Term → Bool
@@ -110,9 +111,20 @@ computed n p args =
     holding n (unwrap_or (filled (forms p) (map (λ h. h.kind) args)) Word)
     (op_value p (args_width n args) (map number args))
 
+-- what the second target is given, where there is one
+abbrev pub second_computed : ℕ → WordOp → List Held → Held
+second_computed n p args =
+    holding n (second_gives p) (second_value p (args_width n args) (map number args))
+
+-- the names, but the second target, if there is one, now has this value
+abbrev pub with_second : (List ℕ → Held) → Option (List ℕ) → Held → List ℕ → Held
+with_second names None h = names
+with_second names (Some name) h = changed names name h
+
 abbrev pub after_statement : ℕ → (List ℕ → Held) → Statement → List ℕ → Held
-after_statement n names (Compute target p args) =
-    changed names target (computed n p (map names args))
+after_statement n names (Compute target second p args) =
+    with_second (changed names target (computed n p (map names args))) second
+    (second_computed n p (map names args))
 after_statement n names (Visit block) = after_block n block names
 
 -- the sources
@@ -126,16 +138,20 @@ with_sources n names (p ∷ ps) (v ∷ values) = with_sources n
 abbrev pub after_body : ℕ → List Statement → (List ℕ → Held) → List ℕ → Held
 after_body n body names = fold (after_statement n) names body
 
--- what the result holds, from the sources' numbers
-abbrev pub outcome : Operation → ℕ → List ℕ → Held
-outcome op n values = after_body n op.body (with_sources n holds_nothing op.params values)
-    op.result.name
+-- what names hold behind an op, from the sources' numbers
+abbrev pub after_op : Operation → ℕ → List ℕ → List ℕ → Held
+after_op op n values = after_body n op.body (with_sources n holds_nothing op.params values)
 
--- the result's number
-abbrev pub meaning : Operation → ℕ → List ℕ → ℕ
-meaning op n values = number (outcome op n values)
+-- what the one or two results hold
+abbrev pub outcomes : Operation → ℕ → List ℕ → List Held
+outcomes op n values = map (after_op op n values) (result_names op)
 
--- A meaning is below 2 ^ n where the result is a word, and below 2 where it is a bit.
+-- the results' numbers
+abbrev pub meaning : Operation → ℕ → List ℕ → List ℕ
+meaning op n values = map number (outcomes op n values)
+
+-- Each number of a meaning is below 2 ^ n where the result is a word, and below 2 where it is a
+-- bit.
 abbrev pub MeaningFits : Type 0
 MeaningFits = (op : Operation) (n : ℕ) (values : List ℕ)
-    → meaning op n values < 2 ^ width n (outcome op n values).kind
+    → AllByRecursion (λ (h : Held). number h < 2 ^ width n h.kind) (outcomes op n values)

@@ -28,10 +28,10 @@ use Rattle.op_text.specs.declared.grammar.Wanted.TheVariants.{NewResult, ResultK
 use Rattle.op_text.specs.declared.grammar.Wanted.TheVariants.{Stmts, WordOpName, Args, ArgName}
 use Rattle.op_text.specs.declared.grammar.Wanted.TheVariants.{MoreArgs, WordEnd, States, StateName}
 use Rattle.op_text.specs.declared.grammar.Wanted.TheVariants.{Lets, LetName, LetEnd, Assigns, Value}
-use Rattle.op_text.specs.declared.grammar.Wanted.TheVariants.{More}
+use Rattle.op_text.specs.declared.grammar.Wanted.TheVariants.{More, NewTarget}
 use Rattle.op_text.specs.Grammar.{follow}
 use Rattle.op_text.specs.WordOps.{forms, op_named, lacks, is_begun, is_part, is_whole, filled}
-use Rattle.op_text.specs.WordOps.{same_kind}
+use Rattle.op_text.specs.WordOps.{same_kind, second_kind, second_gives}
 
 -- the limits
 abbrev pub MAX_OPS : ℕ
@@ -59,17 +59,17 @@ abbrev pub MAX_DEPTH : ℕ
 MAX_DEPTH = 32
 
 -- What stands before a token, within the op: each new name, the names that can be read with their
--- kinds (the sources alone while these are read), the result, whether it is assigned, and the
--- number of statements.
+-- kinds (the sources alone while these are read), the results, and the number of statements.
 pub record InOp : Type 0 where
   pub stands : List (List ℕ)
   pub defined : List Param
-  pub result : Option Param
-  pub assigned : Bool
+  pub results : List Param
   pub statements : ℕ
 
--- within a word statement: its operation and the kinds of the arguments so far
+-- within a word statement: its second target, if it has one, its operation and the kinds of the
+-- arguments so far
 pub record InWord : Type 0 where
+  pub second : Option (List ℕ)
   pub operation : WordOp
   pub given : List Kind
 
@@ -85,7 +85,7 @@ pub record InBlock : Type 0 where
   pub missing : List ℕ
 
 -- What stands before a token: the ops, what stands within the op, statement and block, and the
--- parameter, result, let or word statement's target that is being defined, if any.
+-- parameter, result, let or word statement's first target that is being defined, if any.
 pub record Scope : Type 0 where
   pub ops : List (List ℕ)
   pub op : InOp
@@ -94,10 +94,10 @@ pub record Scope : Type 0 where
   pub naming : Option (List ℕ)
 
 abbrev pub new_op : InOp
-new_op = record { stands = []; defined = []; result = None; assigned = false; statements = 0 }
+new_op = record { stands = []; defined = []; results = []; statements = 0 }
 
 abbrev pub new_word : InWord
-new_word = record { operation = o.Not; given = [] }
+new_word = record { second = None; operation = o.Not; given = [] }
 
 abbrev pub new_block : InBlock
 new_block = record { states = []; readable = []; lets = 0; targets = []; weight = 0; missing = [] }
@@ -131,22 +131,26 @@ is_bad n text = not (is_plain n && fits_name text)
 abbrev pub stands_already : Scope → List ℕ → Bool
 stands_already s text = is_among s.op.stands text
 
-abbrev pub is_called : Option Param → List ℕ → Bool
+abbrev pub is_called : Option (List ℕ) → List ℕ → Bool
 is_called None text = false
-is_called (Some p) text = bytes_eq p.name text
+is_called (Some name) text = bytes_eq name text
 
-abbrev pub is_of_kind : Option Param → Kind → Bool
+abbrev pub is_of_kind : Option Kind → Kind → Bool
 is_of_kind None k = false
-is_of_kind (Some p) k = same_kind p.kind k
+is_of_kind (Some j) k = same_kind j k
 
 abbrev pub is_result : Scope → List ℕ → Bool
-is_result s text = is_called s.op.result text
+is_result s text = is_known (kind_among s.op.results text)
 
 abbrev pub is_bit_result : Scope → List ℕ → Bool
-is_bit_result s text = is_result s text && is_of_kind s.op.result Bit
+is_bit_result s text = is_of_kind (kind_among s.op.results text) Bit
+
+-- a name that can be read; a result can be once it is assigned
+abbrev pub is_assigned : Scope → List ℕ → Bool
+is_assigned s text = is_known (kind_among s.op.defined text)
 
 abbrev pub is_open_result : Scope → List ℕ → Bool
-is_open_result s text = is_result s text && not s.op.assigned
+is_open_result s text = is_result s text && not (is_assigned s text)
 
 -- the name of an op
 abbrev pub op_rules : Scope → Spelling → List ℕ → Result Scope OpsKind
@@ -186,12 +190,12 @@ naming_rules s n text =
     (unless (stands_already s text) Twice
     (Ok (record s { op = record s.op { stands = s.op.stands ++ text ∷ [] }; naming = Some text })))
 
--- the named result has this kind
+-- the named result, which is the first or the second, has this kind
 abbrev pub result_of_kind : Scope → Option (List ℕ) → Kind → Scope
 result_of_kind s None k = s
 result_of_kind s (Some name) k =
     record s {
-      op = record s.op { result = Some (record { name = name; kind = k }) };
+      op = record s.op { results = s.op.results ++ record { name = name; kind = k } ∷ [] };
       naming = None;
     }
 
@@ -204,11 +208,15 @@ block_rules s =
     unless (nat_le MAX_STATEMENTS s.op.statements) TooMany
     (Ok (record s { op = record s.op { statements = s.op.statements + 1 }; block = new_block }))
 
--- the target of a word statement
+-- a target of a word statement that stands as another name than an open result
+abbrev pub is_taken_name : Scope → List ℕ → Bool
+is_taken_name s text = stands_already s text && not (is_open_result s text)
+
+-- the first target of a word statement
 abbrev pub word_rules : Scope → Spelling → List ℕ → Result Scope OpsKind
 word_rules s n text =
     unless (is_bad n text) BadName
-    (unless (stands_already s text && not (is_open_result s text)) Twice
+    (unless (is_taken_name s text) Twice
     (unless (nat_le MAX_STATEMENTS s.op.statements) TooMany
     (Ok (record s { op = record s.op { statements = s.op.statements + 1 }; naming = Some text }))))
 
@@ -216,9 +224,24 @@ abbrev pub statement_rules : Scope → Spelling → List ℕ → Result Scope Op
 statement_rules s sp.Serial text = block_rules s
 statement_rules s n text = word_rules s n text
 
+-- the second target of a word statement, which is not spelled as the first
+abbrev pub second_rules : Scope → Spelling → List ℕ → Result Scope OpsKind
+second_rules s n text =
+    unless (is_bad n text) BadName
+    (unless (is_called s.naming text || is_taken_name s text) Twice
+    (Ok (record s { word = record s.word { second = Some text } })))
+
+-- a second target stands exactly where the operation has a second result
+abbrev pub has_targets : Option (List ℕ) → Option Kind → Bool
+has_targets None None = true
+has_targets (Some name) (Some k) = true
+has_targets name k = false
+
 abbrev pub known_op : Scope → Option WordOp → Result Scope OpsKind
 known_op s None = Err Unknown
-known_op s (Some p) = Ok (record s { word = record s.word { operation = p } })
+known_op s (Some p) =
+    unless (not (has_targets s.word.second (second_kind p))) why.Kind
+    (Ok (record s { word = record s.word { operation = p } }))
 
 abbrev pub word_op_rules : Scope → Spelling → List ℕ → Result Scope OpsKind
 word_op_rules s n text = unless (is_bad n text) BadName (known_op s (op_named text))
@@ -246,29 +269,43 @@ no_more_arguments s =
     unless (not (list_any (λ f. is_whole (lacks s.word.given f.takes)) (forms s.word.operation)))
     why.Kind (Ok s)
 
--- the ";" of a word statement, whose target is now a name of the kind that its operation gives
-abbrev pub gives_kind : Scope → Option (List ℕ) → Option Kind → Result Scope OpsKind
-gives_kind s target None = Err why.Kind
-gives_kind s None (Some k) = Ok s
-gives_kind s (Some target) (Some k) =
-    unless (is_result s target && not (is_of_kind s.op.result k)) why.Kind
+-- a second target with its kind, if there is one
+abbrev pub second_of : Option (List ℕ) → WordOp → List Param
+second_of None p = []
+second_of (Some name) p = record { name = name; kind = second_gives p } ∷ []
+
+-- a result of another kind than this
+abbrev pub is_other_result : Scope → Param → Bool
+is_other_result s p =
+    is_result s p.name && not (is_of_kind (kind_among s.op.results p.name) p.kind)
+
+-- the ";" of a word statement, whose targets are now names of the kinds that its operation gives
+abbrev pub defines_targets : Scope → List Param → Result Scope OpsKind
+defines_targets s targets =
+    unless (list_any (is_other_result s) targets) why.Kind
     (Ok (record s {
       op = record s.op {
-        stands = s.op.stands ++ target ∷ [];
-        defined = s.op.defined ++ record { name = target; kind = k } ∷ [];
-        assigned = s.op.assigned || is_result s target;
+        stands = s.op.stands ++ map (λ p. p.name) targets;
+        defined = s.op.defined ++ targets;
       };
       word = new_word;
       naming = None;
     }))
 
+abbrev pub gives_kind : Scope → Option (List ℕ) → Option Kind → Result Scope OpsKind
+gives_kind s target None = Err why.Kind
+gives_kind s None (Some k) = Ok s
+gives_kind s (Some target) (Some k) =
+    defines_targets s (record { name = target; kind = k }
+    ∷ second_of s.word.second s.word.operation)
+
 abbrev pub word_end : Scope → Result Scope OpsKind
 word_end s = gives_kind s s.naming (filled (forms s.word.operation) s.word.given)
 
--- a state that is the bit result is no new name
+-- a state that is a bit result is no new name
 abbrev pub is_taken_state : Scope → List ℕ → Bool
 is_taken_state s text =
-    if is_bit_result s text then s.op.assigned || is_among s.block.states text
+    if is_bit_result s text then is_assigned s text || is_among s.block.states text
     else stands_already s text
 
 abbrev pub state_rules : Scope → Spelling → List ℕ → Result Scope OpsKind
@@ -306,7 +343,7 @@ abbrev pub let_end : Scope → Scope
 let_end s = let_ends s s.naming
 
 -- a serial target that is assigned already, or that stands as another name than a state of the
--- block or the open result
+-- block or an open result
 abbrev pub is_taken_target : Scope → List ℕ → Bool
 is_taken_target s text =
     is_among s.block.targets text || (stands_already s text && not (is_among s.block.states text)
@@ -324,9 +361,6 @@ abbrev pub let_or_target : Scope → Spelling → List ℕ → Result Scope OpsK
 let_or_target s sp.Let text = let_rules s
 let_or_target s n text = target_rules s n text
 
-abbrev pub is_result_among : Scope → List (List ℕ) → Bool
-is_result_among s names = list_any (λ n. is_result s n) names
-
 -- the "}" of a block: its states are bit names now, and its other targets are word names
 abbrev pub block_end : Scope → Scope
 block_end s =
@@ -336,7 +370,6 @@ block_end s =
         stands = s.op.stands ++ words;
         defined = s.op.defined ++ map (λ n. record { name = n; kind = Bit }) s.block.states
             ++ map (λ n. record { name = n; kind = Word }) words;
-        assigned = s.op.assigned || is_result_among s s.block.states || is_result_among s words;
       };
       block = new_block;
     }
@@ -395,6 +428,12 @@ close_rules s [] = Err why.Kind
 close_rules s (zero ∷ outer) = Ok (record s { block = record s.block { missing = outer } })
 close_rules s (suc n ∷ outer) = Err why.Kind
 
+-- the "}" of an op, all of whose results are assigned
+abbrev pub op_end : Scope → Result Scope OpsKind
+op_end s =
+    unless (list_any (λ (p : Param). not (is_assigned s p.name)) s.op.results) NoResult
+    (Ok (record s { op = new_op }))
+
 abbrev pub kind_of_word : Spelling → Kind
 kind_of_word sp.Word = Word
 kind_of_word n = Bit
@@ -410,8 +449,8 @@ rules_at NewResult s (t.Name n) text o = naming_rules s n text
 rules_at ResultKind s (t.Name n) text o = Ok (with_result s (kind_of_word n))
 rules_at FirstStmt s (t.Name n) text o = statement_rules s n text
 rules_at Stmts s (t.Name n) text o = statement_rules s n text
-rules_at Stmts s t.Finishes text o = unless (not s.op.assigned) NoResult
-    (Ok (record s { op = new_op }))
+rules_at Stmts s t.Finishes text o = op_end s
+rules_at NewTarget s (t.Name n) text o = second_rules s n text
 rules_at WordOpName s (t.Name n) text o = word_op_rules s n text
 rules_at Args s (t.Name n) text o = argument_rules s n text
 rules_at Args s t.Closes text o = no_more_arguments s

@@ -1,6 +1,6 @@
 -- The scratch that an operation needs, and how many commands it may take.
 use Rattle.std.specs.Prelude.{ℕ, ◌+◌, ◌*◌, ◌^◌, max, not, ◌&&◌, List, [], ◌∷◌, ◌++◌, length, map}
-use Rattle.std.specs.Prelude.{filter, count_by, sum, bytes_eq, unwrap_or, Some, None}
+use Rattle.std.specs.Prelude.{filter, count_by, sum, unwrap_or, Some, None}
 use Rattle.op_text.specs.declared.tree.Kind.{Kind}
 use Rattle.op_text.specs.declared.tree.Kind.TheVariants.{Word, Bit}
 use Rattle.op_text.specs.declared.tree.Param.{Param}
@@ -8,8 +8,8 @@ use Rattle.op_text.specs.declared.tree.WordOp.{WordOp}
 use Rattle.op_text.specs.declared.tree.WordOp.TheVariants as o
 use Rattle.op_text.specs.Language.{Term, Nought, Unity, Named, Negation, Conjunction, Disjunction}
 use Rattle.op_text.specs.Language.{Parity, Majority, Equation, Block, Statement, Compute, Visit}
-use Rattle.op_text.specs.Language.{Operation}
-use Rattle.op_text.specs.Rules.{is_among, kind_among}
+use Rattle.op_text.specs.Language.{Operation, result_names}
+use Rattle.op_text.specs.Rules.{is_among, kind_among, second_of}
 use Rattle.op_text.specs.WordOps.{forms, given_first, same_kind}
 use Rattle.op_text.specs.Meaning.{width}
 
@@ -26,11 +26,13 @@ bits_inside o.Abs = 1
 bits_inside o.Min = 1
 bits_inside o.Max = 1
 bits_inside o.Bitcount = 1
+bits_inside o.Divmod = 2
 bits_inside p = 0
 
 abbrev pub words_inside : WordOp → ℕ
 words_inside o.Div = 2
 words_inside o.Rem = 2
+words_inside o.Divmod = 2
 words_inside p = 0
 
 -- the greatest number of commands of one statement at width n
@@ -61,6 +63,7 @@ op_ceiling o.Bitcount n = 22 * n ^ 2 + 4 * n
 op_ceiling o.AndRed n = 7 * n + 1
 op_ceiling o.OrRed n = 7 * n + 1
 op_ceiling o.XorRed n = 15 * n + 1
+op_ceiling o.Divmod n = 29 * n ^ 2 + 24 * n
 
 abbrev pub param : List ℕ → Kind → Param
 param name k = record { name = name; kind = k }
@@ -69,7 +72,7 @@ param name k = record { name = name; kind = k }
 abbrev pub kind_of : List Param → List ℕ → Kind
 kind_of known name = unwrap_or (kind_among known name) Word
 
--- the kind of a word statement's result, which its first argument settles
+-- the kind of a word statement's first result, which its first argument settles
 abbrev pub result_kind : List Param → WordOp → List (List ℕ) → Kind
 result_kind known p [] = given_first (forms p) None
 result_kind known p (name ∷ names) = given_first (forms p) (Some (kind_of known name))
@@ -82,9 +85,10 @@ abbrev pub word_names : Block → List (List ℕ)
 word_names block = filter (λ n. not (is_among (state_names block) n))
     (map (λ (e : Equation). e.name) block.assigns)
 
--- the names that a statement defines, the result among them
+-- the names that a statement defines, results among them
 abbrev pub defines : List Param → Statement → List Param
-defines known (Compute target p args) = param target (result_kind known p args) ∷ []
+defines known (Compute target second p args) =
+    param target (result_kind known p args) ∷ second_of second p
 defines known (Visit block) = map (λ n. param n Bit) (state_names block)
     ++ map (λ n. param n Word) (word_names block)
 
@@ -94,17 +98,17 @@ body_defines known [] = []
 body_defines known (s ∷ body) = defines known s ++ body_defines (known ++ defines known s) body
 
 abbrev pub need_inside : (WordOp → ℕ) → Statement → ℕ
-need_inside f (Compute target p args) = f p
+need_inside f (Compute target second p args) = f p
 need_inside f (Visit block) = 0
 
 abbrev pub greatest : List ℕ → ℕ
 greatest [] = 0
 greatest (n ∷ ns) = max n (greatest ns)
 
--- the scratch rows: the names of a kind other than the result, and the largest need of a statement
+-- the scratch rows: the names of a kind other than the results, and the largest need of a statement
 abbrev pub scratch_names : Kind → Operation → ℕ
 scratch_names k op =
-    count_by (λ p. same_kind p.kind k && not (bytes_eq p.name op.result.name))
+    count_by (λ p. same_kind p.kind k && not (is_among (result_names op) p.name))
     (body_defines op.params op.body)
 
 abbrev pub scratch_bits : Operation → ℕ
@@ -142,7 +146,7 @@ names_width known n [] = n
 names_width known n (name ∷ names) = width n (kind_of known name)
 
 abbrev pub statement_ceiling : (WordOp → ℕ → ℕ) → List Param → ℕ → Statement → ℕ
-statement_ceiling f known n (Compute target p args) = f p (names_width known n args)
+statement_ceiling f known n (Compute target second p args) = f p (names_width known n args)
 statement_ceiling f known n (Visit block) = block_ceiling block n
 
 abbrev pub body_ceiling : (WordOp → ℕ → ℕ) → List Param → ℕ → List Statement → ℕ

@@ -1,6 +1,6 @@
 -- How values are spelled, and which values meet the rules.
 use Rattle.std.specs.Prelude.{◌≡◌, ◌+◌, ◌<◌, ◌≤◌, ℕ, Bool, true, false, ◌&&◌, List, [], ◌∷◌, map}
-use Rattle.std.specs.Prelude.{None, ◌↔◌, codes, length, if◌then◌else◌}
+use Rattle.std.specs.Prelude.{Option, Some, None, ◌↔◌, codes, length, if◌then◌else◌}
 use Rattle.text_lex.specs.Lexical.{Item, Whole, Bad, is_token}
 use Rattle.text_lex.specs.Spelled.{fits_name}
 use Rattle.text_lex.specs.declared.token.TokenKind.{TokenKind}
@@ -112,7 +112,8 @@ abbrev pub SpelledOnce : Type 0
 SpelledOnce = (a b : Term) (x y : List (List ℕ)) → HasNames a → HasNames b → IsShut x → IsShut y
     → term_text a x ≡ term_text b y → (a ≡ b) × (x ≡ y)
 
--- parts with a comma before each, parts with commas between them, and parts one after the other
+-- parts with a comma before each, parts with commas between them, a part that may be there, and
+-- parts one after the other
 abbrev pub behind_commas : {A : Type 0} → (A → List (List ℕ) → List (List ℕ)) → List A
     → List (List ℕ) → List (List ℕ)
 behind_commas text [] rest = rest
@@ -122,6 +123,11 @@ abbrev pub between_commas : {A : Type 0} → (A → List (List ℕ) → List (Li
     → List (List ℕ) → List (List ℕ)
 between_commas text [] rest = rest
 between_commas text (a ∷ more) rest = text a (behind_commas text more rest)
+
+abbrev pub behind_comma : {A : Type 0} → (A → List (List ℕ) → List (List ℕ)) → Option A
+    → List (List ℕ) → List (List ℕ)
+behind_comma text None rest = rest
+behind_comma text (Some a) rest = codes "," ∷ text a rest
 
 abbrev pub in_turn : {A : Type 0} → (A → List (List ℕ) → List (List ℕ)) → List A → List (List ℕ)
     → List (List ℕ)
@@ -156,9 +162,9 @@ abbrev pub let_text : Equation → List (List ℕ) → List (List ℕ)
 let_text e rest = codes "let" ∷ equation_text e rest
 
 abbrev pub statement_text : Statement → List (List ℕ) → List (List ℕ)
-statement_text (Compute target p args) rest =
-    target ∷ codes "=" ∷ op_text p ∷ codes "("
-    ∷ between_commas name_text args (codes ")" ∷ codes ";" ∷ rest)
+statement_text (Compute target second p args) rest =
+    target ∷ behind_comma name_text second (codes "=" ∷ op_text p ∷ codes "("
+    ∷ between_commas name_text args (codes ")" ∷ codes ";" ∷ rest))
 statement_text (Visit b) rest =
     codes "serial" ∷ direction_text b.down ∷ codes "("
     ∷ between_commas state_text b.states (codes ")" ∷ codes "{"
@@ -167,7 +173,8 @@ statement_text (Visit b) rest =
 abbrev pub operation_text : Operation → List (List ℕ) → List (List ℕ)
 operation_text o rest =
     codes "op" ∷ o.name ∷ codes "(" ∷ between_commas param_text o.params (codes ")" ∷ codes "->"
-    ∷ param_text o.result (codes "{" ∷ in_turn statement_text o.body (codes "}" ∷ rest)))
+    ∷ param_text o.result (behind_comma param_text o.second (codes "{"
+    ∷ in_turn statement_text o.body (codes "}" ∷ rest))))
 
 -- the tokens of a text of these ops
 abbrev pub operations_text : List Operation → List (List ℕ)
@@ -182,6 +189,11 @@ abbrev pub Each : {A : Type 0} → (A → Type 0) → List A → Type 0
 Each ok [] = Unit {0}
 Each ok (a ∷ more) = ok a × Each ok more
 
+-- what is there is such
+abbrev pub IfThere : {A : Type 0} → (A → Type 0) → Option A → Type 0
+IfThere ok None = Unit {0}
+IfThere ok (Some a) = ok a
+
 abbrev pub IsName : List ℕ → Type 0
 IsName name = fits_name name ≡ true
 
@@ -195,7 +207,8 @@ abbrev pub HasEquation : Equation → Type 0
 HasEquation e = IsName e.name × HasNames e.value
 
 abbrev pub HasStatement : Statement → Type 0
-HasStatement (Compute target p args) = IsName target × Each IsName args
+HasStatement (Compute target second p args) = IsName target × IfThere IsName second
+    × Each IsName args
 HasStatement (Visit b) = Each HasState b.states × Each HasEquation b.lets
     × Each HasEquation b.assigns
 
@@ -203,6 +216,7 @@ pub record HasOperation (op : Operation) : Type 0 where
   pub name : IsName op.name
   pub params : Each HasParam op.params
   pub result : HasParam op.result
+  pub second : IfThere HasParam op.second
   pub body : Each HasStatement op.body
 
 -- No two lists of ops are spelled alike.

@@ -56,6 +56,7 @@ is_let n = false
 pub record WordTree : Type 0 where
   pub target : Spelling
   pub free : is_serial target ≡ false
+  pub second : Option Spelling
   pub operation : Spelling
   pub args : List Spelling
 
@@ -76,6 +77,7 @@ pub record OpTree : Type 0 where
   pub source : ParamTree
   pub sources : List ParamTree
   pub result : ParamTree
+  pub second : Option ParamTree
   pub statement : StatementTree
   pub statements : List StatementTree
 
@@ -100,6 +102,12 @@ abbrev pub between_commas : {A : Type 0} → (A → List Terminal → List Termi
     → List Terminal → List Terminal
 between_commas text [] rest = rest
 between_commas text (a ∷ more) rest = text a (behind_commas text more rest)
+
+-- a part that may be there, with a comma before it
+abbrev pub behind_comma : {A : Type 0} → (A → List Terminal → List Terminal) → Option A
+    → List Terminal → List Terminal
+behind_comma text None rest = rest
+behind_comma text (Some a) rest = t.Comma ∷ text a rest
 
 -- parts one after the other
 abbrev pub in_turn : {A : Type 0} → (A → List Terminal → List Terminal) → List A → List Terminal
@@ -136,8 +144,8 @@ let_text e rest = t.Name sp.Let ∷ assign_text e rest
 
 abbrev pub statement_text : StatementTree → List Terminal → List Terminal
 statement_text (Compute w) rest =
-    t.Name w.target ∷ t.Equals ∷ t.Name w.operation ∷ t.Opens
-    ∷ between_commas name_text w.args (t.Closes ∷ t.Semi ∷ rest)
+    t.Name w.target ∷ behind_comma name_text w.second (t.Equals ∷ t.Name w.operation ∷ t.Opens
+    ∷ between_commas name_text w.args (t.Closes ∷ t.Semi ∷ rest))
 statement_text (Visit b) rest =
     t.Name sp.Serial ∷ direction_word b.down ∷ t.Opens
     ∷ between_commas state_text b.states (t.Closes ∷ t.Begins
@@ -148,8 +156,8 @@ abbrev pub op_text : OpTree → List Terminal → List Terminal
 op_text op rest =
     t.Name sp.Op ∷ t.Name op.name ∷ t.Opens ∷ param_text op.source
     (behind_commas param_text op.sources (t.Closes
-    ∷ t.Arrow ∷ param_text op.result (t.Begins
-    ∷ statement_text op.statement (in_turn statement_text op.statements (t.Finishes ∷ rest)))))
+    ∷ t.Arrow ∷ param_text op.result (behind_comma param_text op.second (t.Begins
+    ∷ statement_text op.statement (in_turn statement_text op.statements (t.Finishes ∷ rest))))))
 
 -- a text of the grammar
 abbrev pub text_of : List OpTree → List Terminal

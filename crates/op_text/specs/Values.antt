@@ -76,11 +76,17 @@ of_two o.Max n a b = max a b
 of_two o.Eq n a b = bit_number (a == b)
 of_two o.Gt n a b = bit_number (nat_lt b a)
 of_two o.Ge n a b = bit_number (nat_le b a)
+of_two o.Divmod n a b = if b == 0 then 2 ^ n - 1 else a / b
 of_two p n a b = 0
 
--- the value of an operation on numbers below 2 ^ n
+-- the value of an operation on numbers below 2 ^ n: of its first result
 abbrev pub op_value : WordOp → ℕ → List ℕ → ℕ
 op_value p n [] = of_none p n
 op_value p n (a ∷ []) = of_one p n a
 op_value p n (a ∷ b ∷ []) = of_two p n a b
 op_value p n (a ∷ b ∷ c ∷ more) = if c == 1 then a else b
+
+-- the value of the second result of an operation that has one
+abbrev pub second_value : WordOp → ℕ → List ℕ → ℕ
+second_value o.Divmod n args = op_value o.Rem n args
+second_value p n args = 0

@@ -1,6 +1,6 @@
 -- The word operations: how they are spelled, what they take and give.
 use Rattle.std.specs.Prelude.{◌≡◌, ℕ, List, [], ◌∷◌, ◌++◌, Bool, true, false, Option, Some, None}
-use Rattle.std.specs.Prelude.{bytes_eq, codes, if◌then◌else◌}
+use Rattle.std.specs.Prelude.{bytes_eq, codes, unwrap_or, if◌then◌else◌}
 use Rattle.std.specs.List.{list_any}
 use Rattle.op_text.specs.declared.tree.Kind.{Kind}
 use Rattle.op_text.specs.declared.tree.Kind.TheVariants.{Word, Bit}
@@ -36,6 +36,7 @@ op_text o.Bitcount = codes "bitcount"
 op_text o.AndRed = codes "and_red"
 op_text o.OrRed = codes "or_red"
 op_text o.XorRed = codes "xor_red"
+op_text o.Divmod = codes "divmod"
 
 -- all word operations, in the order of their table
 abbrev pub all_ops : List WordOp
@@ -43,7 +44,7 @@ all_ops =
     o.Not ∷ o.And ∷ o.Or ∷ o.Xor ∷ o.Copy ∷ o.Zero ∷ o.Ones ∷ o.Shl1 ∷ o.Shr1 ∷ o.Add ∷ o.Sub
     ∷ o.Mul ∷ o.Div ∷ o.Rem
     ∷ o.Abs ∷ o.Relu ∷ o.Min ∷ o.Max ∷ o.Eq ∷ o.Gt ∷ o.Ge ∷ o.IfElse ∷ o.Bitcount ∷ o.AndRed
-    ∷ o.OrRed ∷ o.XorRed ∷ []
+    ∷ o.OrRed ∷ o.XorRed ∷ o.Divmod ∷ []
 
 abbrev pub named_among : List WordOp → List ℕ → Option WordOp
 named_among [] text = None
@@ -53,7 +54,7 @@ named_among (p ∷ ops) text = if bytes_eq text (op_text p) then Some p else nam
 abbrev pub op_named : List ℕ → Option WordOp
 op_named text = named_among all_ops text
 
--- a form of an operation: the kinds of its arguments and of its result
+-- a form of an operation: the kinds of its arguments and of its first result
 pub record Form : Type 0 where
   pub takes : List Kind
   pub gives : Kind
@@ -101,6 +102,16 @@ forms o.Bitcount = word_to Word
 forms o.AndRed = word_to Bit
 forms o.OrRed = word_to Bit
 forms o.XorRed = word_to Bit
+forms o.Divmod = words_to Word
+
+-- the kind of the second result, if the operation has one
+abbrev pub second_kind : WordOp → Option Kind
+second_kind o.Divmod = Some Word
+second_kind p = None
+
+-- the kind of a second target, a word where the operation has no second result
+abbrev pub second_gives : WordOp → Kind
+second_gives p = unwrap_or (second_kind p) Word
 
 abbrev pub same_kind : Kind → Kind → Bool
 same_kind Word Word = true
@@ -181,4 +192,4 @@ abbrev pub ops_2 : List WordOp
 ops_2 = o.Abs ∷ o.Relu ∷ o.Min ∷ o.Max ∷ o.Eq ∷ o.Gt ∷ o.Ge ∷ []
 
 abbrev pub ops_3 : List WordOp
-ops_3 = o.IfElse ∷ o.Bitcount ∷ o.AndRed ∷ o.OrRed ∷ o.XorRed ∷ []
+ops_3 = o.IfElse ∷ o.Bitcount ∷ o.AndRed ∷ o.OrRed ∷ o.XorRed ∷ o.Divmod ∷ []

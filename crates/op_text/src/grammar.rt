@@ -12,9 +12,14 @@ pub enum Wanted {
     Params,
     NewResult,
     ResultKind,
+    /// Behind the first result: `,` or `{`.
+    SecondResult,
     FirstStmt,
     /// One more statement, or `}`.
     Stmts,
+    /// Behind a word statement's first target: `,` or `=`.
+    SecondTarget,
+    NewTarget,
     WordOpName,
     /// Behind `(`: an argument or `)`.
     Args,

@@ -2,7 +2,7 @@
 
 ghost use Rattle.std.specs.Prelude.{map};
 ghost use Rattle.op_text.specs.Language.{term, equation, statement, operation, operations};
-ghost use Rattle.op_text.specs.Spelling.{Each, IsName, HasNames, HasParam, HasState};
+ghost use Rattle.op_text.specs.Spelling.{Each, IfThere, IsName, HasNames, HasParam, HasState};
 ghost use Rattle.op_text.specs.Spelling.{HasEquation, HasStatement, HasOperation};
 
 use crate::tree::{Assign, Expr, Op, Ops, Param, State, Stmt};
@@ -66,12 +66,34 @@ fn see_assigns(assigns: &[Assign])
     }
 }
 
+fn see_second_target(second: &Option<Name>)
+    ensures { IfThere IsName second.now }
+{
+    if let Some(name) = second {
+        see_name(name);
+    }
+}
+
+fn see_second_result(second: &Option<Param>)
+    ensures { IfThere HasParam second.now }
+{
+    if let Some(param) = second {
+        see_name(&param.name);
+    }
+}
+
 fn see_statement(stmt: &Stmt)
     ensures { HasStatement (statement stmt.now) }
 {
     match stmt {
-        Stmt::Word { dst, args, .. } => {
+        Stmt::Word {
+            dst,
+            second,
+            args,
+            ..
+        } => {
             see_name(dst);
+            see_second_target(second);
             see_args(args);
         }
         Stmt::Serial {
@@ -101,6 +123,7 @@ fn see_op(op: &Op)
     see_name(&op.name);
     see_params(&op.params);
     see_name(&op.result.name);
+    see_second_result(&op.second);
     see_body(&op.body);
 }
 

@@ -53,6 +53,8 @@ pub enum WordOp {
     AndRed,
     OrRed,
     XorRed,
+    /// Quotient and remainder, to two targets.
+    Divmod,
 }
 
 #[derive(Debug, Drop)]
@@ -83,6 +85,8 @@ pub struct Assign {
 pub enum Stmt {
     Word {
         dst: Name,
+        /// The target of an operation's second result.
+        second: Option<Name>,
         op: WordOp,
         args: Vec<Name>,
     },
@@ -99,6 +103,7 @@ pub struct Op {
     pub name: Name,
     pub params: Vec<Param>,
     pub result: Param,
+    pub second: Option<Param>,
     pub body: Vec<Stmt>,
 }
 

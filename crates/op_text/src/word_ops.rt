@@ -3,7 +3,7 @@
 ghost use Rattle.std.specs.Prelude.{◌≡◌, ◌++◌, [], ◌∷◌, Some, None};
 ghost use Rattle.op_text.specs.WordOps.{named_among, op_named, ops_0, ops_1, ops_2, ops_3, forms};
 ghost use Rattle.op_text.specs.WordOps.{shape_forms, may_take, wants_more, has_all, filled};
-ghost use Rattle.op_text.specs.WordOps.{given_first, same_kind};
+ghost use Rattle.op_text.specs.WordOps.{given_first, same_kind, second_kind};
 ghost use Rattle.op_text.specs.declared.tree.Kind.TheVariants.{Word};
 
 use crate::tree::{Kind, WordOp};
@@ -98,6 +98,8 @@ fn op_3(name: &[u8]) -> Option<WordOp>
         Some(WordOp::OrRed)
     } else if name == b"xor_red".as_slice() {
         Some(WordOp::XorRed)
+    } else if name == b"divmod".as_slice() {
+        Some(WordOp::Divmod)
     } else {
         None
     }
@@ -148,7 +150,8 @@ fn shape_of(op: WordOp) -> Shape
         | WordOp::Div
         | WordOp::Rem
         | WordOp::Min
-        | WordOp::Max => Shape::TwoWords(Kind::Word),
+        | WordOp::Max
+        | WordOp::Divmod => Shape::TwoWords(Kind::Word),
         WordOp::Eq | WordOp::Gt | WordOp::Ge => Shape::TwoWords(Kind::Bit),
         WordOp::IfElse => Shape::Choice,
     }
@@ -352,5 +355,15 @@ fn given_alone(shape: Shape) -> Kind
     match shape {
         Shape::Nothing | Shape::OneOf | Shape::TwoOf | Shape::Choice => Kind::Word,
         Shape::OneWord(_) | Shape::TwoWords(_) => Kind::Word,
+    }
+}
+
+/// The kind of an operation's second result, if it has one.
+pub fn second_kind(op: WordOp) -> Option<Kind>
+    ensures { result ≡ second_kind op }
+{
+    match op {
+        WordOp::Divmod => Some(Kind::Word),
+        _ => None,
     }
 }
