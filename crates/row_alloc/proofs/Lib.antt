@@ -12,3 +12,4 @@ pub mod Renaming
 pub mod Checked
 pub mod Chosen
 pub mod Fixed
+pub mod First

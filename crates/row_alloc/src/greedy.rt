@@ -1,12 +1,16 @@
 //! The body that keeps values in the designated rows.
 
 ghost use Rattle.std.specs.Prelude.{◌≡◌, ◌<◌, ◌≤◌, ◌+◌, ◌*◌, ◌↔◌, ℕ, length, false, IsTrue};
-ghost use Rattle.std.specs.Prelude.{IfOk, IfSome, IfNone, slice_index_or, map, []};
+ghost use Rattle.std.specs.Prelude.{IfOk, IfSome, IfNone, slice_index_or, map, [], ◌∷◌};
 ghost use Rattle.mig_graph.specs.Literals.{is_turned as turns};
 ghost use Rattle.row_alloc.specs.Rows.{out_at};
 ghost use Rattle.row_alloc.specs.Body.{FitBody, DoesBody, WritesLate};
 ghost use Rattle.row_alloc.specs.Length.{plain_length};
-ghost use Rattle.row_alloc.specs.Known.{Serves, IsFirst, known, known_at};
+ghost use Rattle.row_alloc.specs.Phases.{source_of};
+ghost use Rattle.row_alloc.specs.declared.body.BodyRef.TheVariants.{Out};
+ghost use Rattle.row_alloc.specs.declared.body.BodyCmd.TheVariants.{Aap};
+ghost use Rattle.row_alloc.specs.Known.{Serves, IsFirst, known, known_at, WordBody, graph_in};
+ghost use Rattle.row_alloc.specs.Known.{outs_in, sequence_for};
 
 use crate::body::{BodyCmd, OutRow};
 use crate::chain::chain;
@@ -90,7 +94,8 @@ fn shorter(
 /// The commands that leave each output's value in its row, kept in the bitwise cells between the
 /// nodes.
 ///
-/// The first sequence of the table that the symbolic run finds right stands for the body. Where
+/// A copy stays one. Else the first sequence of the table that the symbolic run finds right stands
+/// for the body. Where
 /// there is none, the commands that go from node to node are tried, and else the plain body stands.
 /// The B cells and the spill rows may hold anything at entry, and are left with anything. Only want
 /// of memory is an `Err`.
@@ -107,8 +112,19 @@ pub fn greedy_body(m: &Mig, outs: &[OutRow], alloc: Global) -> Result<Vec<BodyCm
         ≤ 4 * length m.now.nodes + 3 * length outs.now) }
     ensures one { IfOk result (λ cmds. length m.now.nodes ≡ 0 → length outs.now ≡ 1
         → turns (out_at outs.now 0).lit ≡ false → length cmds.items ≤ 1) }
+    // A constant, or an input that is not inverted, is copied.
+    ensures copy { IfOk result (λ cmds. length m.now.nodes ≡ 0 → length outs.now ≡ 1
+        → turns (out_at outs.now 0).lit ≡ false → cmds.items
+        ≡ Aap (source_of m.now.inputs (out_at outs.now 0).lit) (Out 0) ∷ []) }
+    // A body of the word operations takes its own sequence.
+    ensures word { IfOk result (λ cmds. (b : WordBody) → m.now ≡ graph_in b
+        → map (λ o. o.lit) outs.now ≡ outs_in b → WritesLate outs.now (known_at (sequence_for b))
+        → cmds.items ≡ known_at (sequence_for b)) }
 {
     let plain = plain_body(m, outs, alloc)?;
+    if plain.len() <= 1 {
+        return Ok(plain);
+    }
     match first_known(m, outs) {
         Some(k) if sequence(k).len() <= plain.len() => copied(sequence(k), alloc),
         _ => shorter(m, outs, plain, alloc),

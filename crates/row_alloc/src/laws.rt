@@ -11,7 +11,9 @@ ghost use Rattle.row_alloc.specs.declared.known.TheConstants.{NOT, AND, OR, XOR,
 ghost use Rattle.row_alloc.specs.Known.{Serves, plain, turned, not_graph, and_graph, or_graph};
 ghost use Rattle.row_alloc.specs.Known.{xor_graph, add_graph};
 ghost use Rattle.row_alloc.specs.Legal.{are_legal};
-ghost use Rattle.row_alloc.specs.Body.{FitBody};
+ghost use Rattle.row_alloc.specs.Known.{WordBody, graph_in, outs_in, sequence_for, known_at};
+ghost use Rattle.row_alloc.specs.Known.{IsFirst};
+ghost use Rattle.row_alloc.specs.Body.{FitBody, WritesLate};
 ghost use Rattle.row_alloc.specs.Numbering.{own_rows, AreBelow};
 
 /// The rows of a body can stand apart: each at a number of its own.
@@ -43,4 +45,12 @@ pub fn fixed_sequences_serve()
         → Serves add_graph outs ADD }
     ensures lengths { (length NOT ≡ 2) × (length AND ≡ 4) × (length OR ≡ 4) × (length XOR ≡ 7)
         × (length ADD ≡ 9) }
+{}
+
+/// Each body of the word operations has a known sequence that is the first to serve it, in
+/// whichever inputs' rows the outputs stand, as long as the sequence writes them late there.
+pub fn word_bodies_have_sequences()
+    ensures { (b : WordBody) (outs : List OutRow) → FitBody (graph_in b) outs
+        → map (λ o. o.lit) outs ≡ outs_in b → WritesLate outs (known_at (sequence_for b))
+        → IsFirst (graph_in b) outs (sequence_for b) }
 {}

@@ -21,6 +21,9 @@ mod table;
 pub use body::{BodyCmd, BodyRef, OutRow};
 pub use check::check_body;
 pub use greedy::greedy_body;
-pub use laws::{fixed_sequences_serve, legal_bodies_are_legal_on_banks, rows_can_stand_apart};
+pub use laws::{
+    fixed_sequences_serve, legal_bodies_are_legal_on_banks, rows_can_stand_apart,
+    word_bodies_have_sequences,
+};
 pub use mig_graph::NoMemory;
 pub use plain::plain_body;

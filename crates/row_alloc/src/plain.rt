@@ -3,12 +3,15 @@
 //!
 //! So every input is read before any output is written, and an output may stand in an input's row.
 
-ghost use Rattle.std.specs.Prelude.{◌≡◌, ◌<◌, ◌≤◌, ◌+◌, ◌*◌, ℕ, List, length, false, IfOk, sum_by};
+ghost use Rattle.std.specs.Prelude.{◌≡◌, ◌<◌, ◌≤◌, ◌+◌, ◌*◌, ℕ, List, [], ◌∷◌, length, false};
+ghost use Rattle.std.specs.Prelude.{IfOk, sum_by};
 ghost use Rattle.mig_graph.specs.Literals.{is_turned as turns};
 ghost use Rattle.row_alloc.specs.Rows.{out_at};
 ghost use Rattle.row_alloc.specs.Body.{FitBody, DoesBody, WritesLate};
 ghost use Rattle.row_alloc.specs.Length.{output_length, plain_length};
-ghost use Rattle.row_alloc.specs.Phases.{Prepares};
+ghost use Rattle.row_alloc.specs.Phases.{Prepares, source_of};
+ghost use Rattle.row_alloc.specs.declared.body.BodyRef.TheVariants.{Out};
+ghost use Rattle.row_alloc.specs.declared.body.BodyCmd.TheVariants.{Aap};
 ghost use Rattle.row_alloc.specs.declared.body.OutRow.{OutRow};
 
 use crate::body::{BodyCmd, BodyRef, OutRow};
@@ -80,6 +83,8 @@ fn direct(m: &Mig, outs: &[OutRow], alloc: Global) -> Result<Vec<BodyCmd>, NoMem
     requires lit { turns (out_at outs.now 0).lit ≡ false }
     ensures does { IfOk result (λ cmds. DoesBody m.now outs.now cmds.items) }
     ensures count { IfOk result (λ cmds. length cmds.items ≡ 1) }
+    ensures only { IfOk result (λ cmds. cmds.items
+        ≡ Aap (source_of m.now.inputs (out_at outs.now 0).lit) (Out 0) ∷ []) }
 {
     let mut cmds = Vec::new(alloc);
     let from = source(outs[0].lit, m.inputs());
@@ -100,6 +105,9 @@ pub fn plain_body(m: &Mig, outs: &[OutRow], alloc: Global) -> Result<Vec<BodyCmd
         ≤ 4 * length m.now.nodes + 3 * length outs.now) }
     ensures one { IfOk result (λ cmds. length m.now.nodes ≡ 0 → length outs.now ≡ 1
         → turns (out_at outs.now 0).lit ≡ false → length cmds.items ≤ 1) }
+    ensures copy { IfOk result (λ cmds. length m.now.nodes ≡ 0 → length outs.now ≡ 1
+        → turns (out_at outs.now 0).lit ≡ false → cmds.items
+        ≡ Aap (source_of m.now.inputs (out_at outs.now 0).lit) (Out 0) ∷ []) }
 {
     if node_count(m) == 0 && outs.len() == 1 && !is_turned(outs[0].lit) {
         return direct(m, outs, alloc);

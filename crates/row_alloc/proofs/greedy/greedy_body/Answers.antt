@@ -1,8 +1,9 @@
 use Rattle.std.proofs.Common.{◌≡◌, ◌∙◌, ap, sym, arith, length, subst}
 use Rattle.std.proofs.lemmas.Result.{IfOk-weaker}
-use Rattle.row_alloc.specs.Known.{known_at}
+use Rattle.row_alloc.specs.Known.{known_at, sequence_for}
 use Rattle.row_alloc.specs.Body.{DoesBody}
 use Rattle.row_alloc.proofs.Chosen.{first_least, first_same}
+use Rattle.row_alloc.proofs.First.{word_first}
 use Rattle.row_alloc.proofs.greedy.greedy_body.Goals as goal
 use Rattle.row_alloc.proofs.greedy.greedy_body.Goals.{in_default-via-in-Some+else-sequence-len}
 use Rattle.row_alloc.proofs.greedy.greedy_body.Goals.{in_default-via-in_default}
@@ -33,7 +34,7 @@ returns-in_default-clause-known c = IfOk-weaker c.shorter.result _ _ (λ cmds sh
             arith,
             few,
             w.if-sequence-len.false,
-            w.len.ensures,
+            w.len-in-Some-1.ensures,
             c.in_ok-plain.plain.ok.0,
             c.in_ok-plain.ensures.exact,
             ap length w.sequence.ensures,
@@ -55,9 +56,19 @@ returns-in_default-clause-least c = IfOk-weaker c.shorter.result _ _ (λ cmds sh
             short,
             least,
             w.if-sequence-len.false,
-            w.len.ensures,
+            w.len-in-Some-1.ensures,
             c.in_ok-plain.plain.ok.0,
             ap length w.sequence.ensures,
           )
       | in_default-via-in_default w ↦ elim (w.in_default.ensures.none k l s) [ ]
     ]) c.shorter.ensures.few
+
+pub returns-in-Some-clause-word : goal.returns-in-Some-clause-word
+returns-in-Some-clause-word c = IfOk-weaker c.copied.result _ _ (λ cmds h b e l late.
+    let w = word_first c.args.m.now c.args.outs.now b e c.requires.fit l late in
+    h (sequence_for b) w.first w.short) (returns-in-Some-clause-known c)
+
+pub returns-in_default-clause-word : goal.returns-in_default-clause-word
+returns-in_default-clause-word c = IfOk-weaker c.shorter.result _ _ (λ cmds h b e l late.
+    let w = word_first c.args.m.now c.args.outs.now b e c.requires.fit l late in
+    h (sequence_for b) w.first w.short) (returns-in_default-clause-known c)

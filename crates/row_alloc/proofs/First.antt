@@ -1,0 +1,350 @@
+-- Which known sequence is the first that serves a body of a word operation
+use Rattle.std.proofs.Common.{◌≡◌, ◌≢◌, ℕ, zero, suc, ◌<◌, ◌≤◌, Bool, true, false, List, [], ◌∷◌}
+use Rattle.std.proofs.Common.{length, map, refl, sym, subst, ap, ◌∙◌, arith, Option, Some, None}
+use Rattle.std.proofs.Common.{inl, inr, not}
+use Rattle.std.specs.Prelude.{◌||◌, ◌&&◌, ◌==◌}
+use Rattle.std.proofs.lemmas.Bool.{and_parts, eqb-true, eq-eqb, cases_eq}
+use mathlib.Core.Bool.{beq}
+use Rattle.dram_model.specs.declared.address.Cell.TheVariants.{D}
+use Rattle.mig_graph.specs.declared.Lit.{Lit}
+use Rattle.mig_graph.specs.Graph.{Graph}
+use Rattle.row_alloc.specs.declared.body.BodyCmd.{BodyCmd}
+use Rattle.row_alloc.specs.declared.body.OutRow.{OutRow}
+use Rattle.row_alloc.specs.Rows.{out_at}
+use Rattle.row_alloc.specs.Legal.{are_legal}
+use Rattle.row_alloc.specs.Body.{FitBody, WritesLate}
+use Rattle.row_alloc.specs.Numbering.{own_output}
+use Rattle.row_alloc.specs.Length.{plain_length}
+use Rattle.row_alloc.specs.Symbolic.{symbols_after, IsChecked, sense_three, first_node, lit_eq}
+use Rattle.row_alloc.specs.Known.{Serves, IsFirst, known, known_at, WordBody, Inverted, Shifted}
+use Rattle.row_alloc.specs.Known.{Both, Either, Without, Unlike, Chosen, Compared, Agreed, Added}
+use Rattle.row_alloc.specs.Known.{Lessened, TurnedBy, Multiplied, Counted, Divided, graph_in}
+use Rattle.row_alloc.specs.Known.{outs_in, sequence_for}
+use Rattle.row_alloc.proofs.Booleans.{and-both}
+use Rattle.row_alloc.proofs.Sound.{lit-eq-true}
+
+abbrev out : Lit → Option ℕ → OutRow
+out l s = record { lit = l; same = s }
+
+-- the symbolic run's answer, as a test
+abbrev is_literal : Option Lit → Lit → Bool
+is_literal None l = false
+is_literal (Some m) l = lit_eq m l
+
+abbrev end_at : Graph → List OutRow → List BodyCmd → ℕ → Option Lit
+end_at g outs cmds j = symbols_after g outs cmds (D (own_output (out_at outs j).same j))
+
+-- each of the first outputs ends right
+abbrev ends_right : Graph → List OutRow → List BodyCmd → ℕ → Bool
+ends_right g outs cmds zero = true
+ends_right g outs cmds (suc j) = is_literal (end_at g outs cmds j) (out_at outs j).lit
+    && ends_right g outs cmds j
+
+abbrev passes : Graph → List OutRow → List BodyCmd → Bool
+passes g outs cmds = are_legal g.inputs (length outs) cmds && ends_right g outs cmds (length outs)
+
+-- none of the sequences before this one passes
+abbrev all_fail : Graph → List OutRow → ℕ → Bool
+all_fail g outs zero = true
+all_fail g outs (suc k) = all_fail g outs k && not (passes g outs (known_at k))
+
+abbrev is_first : Graph → List OutRow → ℕ → Bool
+is_first g outs k = all_fail g outs k && passes g outs (known_at k)
+
+is-literal : (o : Option Lit) (l : Lit) → is_literal o l ≡ true → o ≡ Some l
+is-literal None l h = absurd cc
+is-literal (Some m) l h = ap Some (lit-eq-true m l h)
+
+beq-self : (i : Bool) → beq i i ≡ true
+beq-self true = refl
+beq-self false = refl
+
+literal-is : (o : Option Lit) (l : Lit) → o ≡ Some l → is_literal o l ≡ true
+literal-is o l e = rw e (and-both (l.node == l.node) (beq l.inverted l.inverted)
+    (eq-eqb l.node l.node refl) (beq-self l.inverted))
+
+each_end : (g : Graph) (outs : List OutRow) (cmds : List BodyCmd) (m : ℕ)
+    → ends_right g outs cmds m ≡ true → (j : ℕ) → j < m
+    → end_at g outs cmds j ≡ Some (out_at outs j).lit
+each_end g outs cmds zero h j lj = absurd (omega (arith, lj))
+each_end g outs cmds (suc m) h j lj =
+    let p = and_parts (is_literal (end_at g outs cmds m) (out_at outs m).lit)
+    (ends_right g outs cmds m) h in
+    elim (cases_eq j m) [
+      | inl e ↦ subst (λ i. end_at g outs cmds i ≡ Some (out_at outs i).lit) (sym e)
+          (is-literal (end_at g outs cmds m) (out_at outs m).lit p.0)
+      | inr ne ↦ each_end g outs cmds m p.1 j (omega (arith, lj, ne))
+    ]
+
+all_ends : (g : Graph) (outs : List OutRow) (cmds : List BodyCmd) (m : ℕ)
+    → ((j : ℕ) → j < m → end_at g outs cmds j ≡ Some (out_at outs j).lit)
+    → ends_right g outs cmds m ≡ true
+all_ends g outs cmds zero h = refl
+all_ends g outs cmds (suc m) h = and-both (is_literal (end_at g outs cmds m) (out_at outs m).lit)
+    (ends_right g outs cmds m)
+    (literal-is (end_at g outs cmds m) (out_at outs m).lit (h m (omega arith)))
+    (all_ends g outs cmds m (λ j lj. h j (omega (arith, lj))))
+
+passed : (g : Graph) (outs : List OutRow) (cmds : List BodyCmd) → passes g outs cmds ≡ true
+    → IsChecked g outs cmds
+passed g outs cmds h =
+    let p = and_parts (are_legal g.inputs (length outs) cmds)
+    (ends_right g outs cmds (length outs)) h in
+    record { legal = p.0; ends = each_end g outs cmds (length outs) p.1 }
+
+must_pass : (g : Graph) (outs : List OutRow) (cmds : List BodyCmd) → IsChecked g outs cmds
+    → passes g outs cmds ≡ true
+must_pass g outs cmds c = and-both (are_legal g.inputs (length outs) cmds)
+    (ends_right g outs cmds (length outs)) c.legal (all_ends g outs cmds (length outs) c.ends)
+
+none_serves : (g : Graph) (outs : List OutRow) (k : ℕ) → all_fail g outs k ≡ true → (i : ℕ) → i < k
+    → Serves g outs (known_at i) → ⊥
+none_serves g outs zero h i l s = absurd (omega (arith, l))
+none_serves g outs (suc k) h i l s =
+    let p = and_parts (all_fail g outs k) (not (passes g outs (known_at k))) h in
+    elim (cases_eq i k) [
+      | inl e ↦ let t = must_pass g outs (known_at k)
+          (subst (λ j. IsChecked g outs (known_at j)) e s.checked) in
+          let f : not true ≡ true = sym (ap not t) ∙ p.1 in cc
+      | inr ne ↦ none_serves g outs k p.0 i (omega (arith, l, ne)) s
+    ]
+
+first : (g : Graph) (outs : List OutRow) (k : ℕ) → k < length known → is_first g outs k ≡ true
+    → WritesLate outs (known_at k) → IsFirst g outs k
+first g outs k within h late =
+    let p = and_parts (all_fail g outs k) (passes g outs (known_at k)) h in
+    record {
+      within = within;
+      serves = record { checked = passed g outs (known_at k) p.1; late = late };
+      before = none_serves g outs k p.0;
+    }
+
+-- wherever an output stands: in a row of its own, or in one of so many inputs' rows
+abbrev in_all : ℕ → (Option ℕ → Bool) → Bool
+in_all zero f = f None
+in_all (suc i) f = in_all i f && f (Some i)
+
+apart_in : (i : ℕ) (f : Option ℕ → Bool) → in_all i f ≡ true → f None ≡ true
+apart_in zero f h = h
+apart_in (suc i) f h = apart_in i f (and_parts (in_all i f) (f (Some i)) h).0
+
+shared_in : (i : ℕ) (f : Option ℕ → Bool) → in_all i f ≡ true → (k : ℕ) → k < i
+    → f (Some k) ≡ true
+shared_in zero f h k l = absurd (omega (arith, l))
+shared_in (suc i) f h k l =
+    let p = and_parts (in_all i f) (f (Some i)) h in
+    elim (cases_eq k i) [
+      | inl e ↦ subst (λ j. f (Some j) ≡ true) (sym e) p.1
+      | inr ne ↦ shared_in i f p.0 k (omega (arith, l, ne))
+    ]
+
+in_one : (i : ℕ) (f : Option ℕ → Bool) → in_all i f ≡ true → (s : Option ℕ)
+    → ((k : ℕ) → s ≡ Some k → k < i) → f s ≡ true
+in_one i f h None b = apart_in i f h
+in_one i f h (Some k) b = shared_in i f h k (b k refl)
+
+single : (l : Lit) (outs : List OutRow) → map (λ o. o.lit) outs ≡ l ∷ []
+    → outs ≡ out l (out_at outs 0).same ∷ []
+single l [] e = absurd cc
+single l (o ∷ []) e = let f : o.lit ≡ l = cc in rw (← f) refl
+single l (o ∷ p ∷ os) e = absurd cc
+
+double : (l m : Lit) (outs : List OutRow) → map (λ o. o.lit) outs ≡ l ∷ m ∷ []
+    → outs ≡ out l (out_at outs 0).same ∷ out m (out_at outs 1).same ∷ []
+double l m [] e = absurd cc
+double l m (o ∷ []) e = absurd cc
+double l m (o ∷ p ∷ []) e = let f : o.lit ≡ l = cc in let h : p.lit ≡ m = cc in
+    rw (← f, ← h) refl
+double l m (o ∷ p ∷ q ∷ os) e = absurd cc
+
+abbrev one_first : Graph → Lit → ℕ → Bool
+one_first g l k = in_all g.inputs (λ s. is_first g (out l s ∷ []) k)
+
+one : (g : Graph) (l : Lit) (k : ℕ) → one_first g l k ≡ true → k < length known
+    → (outs : List OutRow) → FitBody g outs → map (λ o. o.lit) outs ≡ l ∷ []
+    → WritesLate outs (known_at k) → IsFirst g outs k
+one g l k h within outs fit e late =
+    let s = (out_at outs 0).same in
+    let is = single l outs e in
+    let n = ap length is in
+    let t = in_one g.inputs (λ s. is_first g (out l s ∷ []) k) h s (λ j f.
+    fit.same 0 j (omega (arith, n)) f) in
+    subst (λ os. IsFirst g os k) (sym is)
+    (first g (out l s ∷ []) k within t (subst (λ os. WritesLate os (known_at k)) is late))
+
+-- both outputs name one row
+abbrev clash : Option ℕ → Option ℕ → Bool
+clash (Some a) (Some b) = a == b
+clash (Some a) None = false
+clash None t = false
+
+no_clash : (s t : Option ℕ) → ((k : ℕ) → s ≡ Some k → t ≢ Some k) → clash s t ≡ false
+no_clash (Some a) (Some b) h = by (a == b) refl
+  where
+    by : (c : Bool) → (a == b) ≡ c → (a == b) ≡ false
+    by true e = absurd (h a refl (ap Some (sym (eqb-true a b e))))
+    by false e = e
+no_clash (Some a) None h = refl
+no_clash None t h = refl
+
+-- where both may stand, but for places that are left out
+abbrev two_first : Graph → Lit → Lit → ℕ → (Option ℕ → Option ℕ → Bool) → Bool
+two_first g l m k out_of = in_all g.inputs (λ s. in_all g.inputs (λ t. clash s t || (out_of s t
+    || is_first g (out l s ∷ out m t ∷ []) k)))
+
+two : (g : Graph) (l m : Lit) (k : ℕ) (out_of : Option ℕ → Option ℕ → Bool)
+    → two_first g l m k out_of ≡ true → k < length known
+    → ((outs : List OutRow) → WritesLate outs (known_at k)
+    → out_of (out_at outs 0).same (out_at outs 1).same ≡ false)
+    → (outs : List OutRow) → FitBody g outs → map (λ o. o.lit) outs ≡ l ∷ m ∷ []
+    → WritesLate outs (known_at k) → IsFirst g outs k
+two g l m k out_of h within kept outs fit e late =
+    let s = (out_at outs 0).same in
+    let t = (out_at outs 1).same in
+    let is = double l m outs e in
+    let n = ap length is in
+    let f = λ (s t : Option ℕ). clash s t || (out_of s t || is_first g (out l s ∷ out m t ∷ []) k) in
+    let a = in_one g.inputs (λ s. in_all g.inputs (f s)) h s (λ j e.
+    fit.same 0 j (omega (arith, n)) e) in
+    let b = in_one g.inputs (f s) a t (λ j e. fit.same 1 j (omega (arith, n)) e) in
+    let c = no_clash s t (λ j x y. let z = fit.once 0 1 j (omega (arith, n)) (omega (arith, n)) x y
+    in absurd (omega (arith, z))) in
+    let d : is_first g (out l s ∷ out m t ∷ []) k ≡ true = rw (c, kept outs late) at b in
+    subst (λ os. IsFirst g os k) (sym is)
+    (first g (out l s ∷ out m t ∷ []) k within d
+    (subst (λ os. WritesLate os (known_at k)) is late))
+
+-- no places are left out
+abbrev nowhere : Option ℕ → Option ℕ → Bool
+nowhere s t = false
+
+-- the output stands in the row of input 0
+abbrev at_zero : Option ℕ → Bool
+at_zero None = false
+at_zero (Some zero) = true
+at_zero (Some (suc k)) = false
+
+not_at_zero : (s : Option ℕ) → (s ≡ Some 0 → ⊥) → at_zero s ≡ false
+not_at_zero None h = refl
+not_at_zero (Some zero) h = absurd (h refl)
+not_at_zero (Some (suc k)) h = refl
+
+-- each body's sequence is the first that serves it, where it writes the outputs late
+abbrev pub HasFirst : WordBody → Type 0
+HasFirst b = (outs : List OutRow) → FitBody (graph_in b) outs
+    → map (λ o. o.lit) outs ≡ outs_in b → WritesLate outs (known_at (sequence_for b))
+    → IsFirst (graph_in b) outs (sequence_for b)
+
+pub inverted_first : HasFirst Inverted
+unfolding sense_three first_node
+inverted_first = one (graph_in Inverted) _ 0 refl (omega arith)
+
+pub shifted_first : HasFirst Shifted
+unfolding sense_three first_node
+shifted_first = two (graph_in Shifted) _ _ 1 (λ s t. at_zero s) refl (omega arith) (λ outs late.
+    not_at_zero (out_at outs 0).same (λ e. late.late 0 1 0 0 (omega arith) (omega arith) e refl
+    refl))
+
+pub both_first : HasFirst Both
+unfolding sense_three first_node
+both_first = one (graph_in Both) _ 2 refl (omega arith)
+
+pub either_first : HasFirst Either
+unfolding sense_three first_node
+either_first = one (graph_in Either) _ 3 refl (omega arith)
+
+pub without_first : HasFirst Without
+unfolding sense_three first_node
+without_first = one (graph_in Without) _ 4 refl (omega arith)
+
+pub compared_first : HasFirst Compared
+unfolding sense_three first_node
+compared_first = one (graph_in Compared) _ 5 refl (omega arith)
+
+pub unlike_first : HasFirst Unlike
+unfolding sense_three first_node
+unlike_first = one (graph_in Unlike) _ 9 refl (omega arith)
+
+pub chosen_first : HasFirst Chosen
+unfolding sense_three first_node
+chosen_first = one (graph_in Chosen) _ 11 refl (omega arith)
+
+pub agreed_first : HasFirst Agreed
+unfolding sense_three first_node
+agreed_first = one (graph_in Agreed) _ 12 refl (omega arith)
+
+pub lessened_first : HasFirst Lessened
+unfolding sense_three first_node
+lessened_first = two (graph_in Lessened) _ _ 15 nowhere refl (omega arith) (λ outs late. refl)
+
+pub counted_first : HasFirst Counted
+unfolding sense_three first_node
+counted_first = two (graph_in Counted) _ _ 16 nowhere refl (omega arith) (λ outs late. refl)
+
+pub added_first : HasFirst Added
+unfolding sense_three first_node
+added_first = two (graph_in Added) _ _ 20 nowhere refl (omega arith) (λ outs late. refl)
+
+pub turned_first : HasFirst TurnedBy
+unfolding sense_three first_node
+turned_first = two (graph_in TurnedBy) _ _ 21 nowhere refl (omega arith) (λ outs late. refl)
+
+pub divided_first : HasFirst Divided
+unfolding sense_three first_node
+divided_first = two (graph_in Divided) _ _ 22 nowhere refl (omega arith) (λ outs late. refl)
+
+pub multiplied_first : HasFirst Multiplied
+unfolding sense_three first_node
+multiplied_first = two (graph_in Multiplied) _ _ 23 (λ s t. at_zero t) refl (omega arith) (λ outs
+    late. not_at_zero (out_at outs 1).same (λ e. late.late 7 8 1 0 (omega arith) (omega arith) e
+    refl refl))
+
+pub have_first : (b : WordBody) → HasFirst b
+have_first Inverted = inverted_first
+have_first Shifted = shifted_first
+have_first Both = both_first
+have_first Either = either_first
+have_first Without = without_first
+have_first Unlike = unlike_first
+have_first Chosen = chosen_first
+have_first Compared = compared_first
+have_first Agreed = agreed_first
+have_first Added = added_first
+have_first Lessened = lessened_first
+have_first TurnedBy = turned_first
+have_first Multiplied = multiplied_first
+have_first Counted = counted_first
+have_first Divided = divided_first
+
+abbrev IsShort : WordBody → List OutRow → Type 0
+IsShort b outs = length (known_at (sequence_for b)) ≤ plain_length (graph_in b) outs
+
+-- it is no longer than the plain body
+short : (b : WordBody) (outs : List OutRow) → map (λ o. o.lit) outs ≡ outs_in b → IsShort b outs
+short Inverted outs e = subst (IsShort Inverted) (sym (single _ outs e)) (omega arith)
+short Shifted outs e = subst (IsShort Shifted) (sym (double _ _ outs e)) (omega arith)
+short Both outs e = subst (IsShort Both) (sym (single _ outs e)) (omega arith)
+short Either outs e = subst (IsShort Either) (sym (single _ outs e)) (omega arith)
+short Without outs e = subst (IsShort Without) (sym (single _ outs e)) (omega arith)
+short Unlike outs e = subst (IsShort Unlike) (sym (single _ outs e)) (omega arith)
+short Chosen outs e = subst (IsShort Chosen) (sym (single _ outs e)) (omega arith)
+short Compared outs e = subst (IsShort Compared) (sym (single _ outs e)) (omega arith)
+short Agreed outs e = subst (IsShort Agreed) (sym (single _ outs e)) (omega arith)
+short Added outs e = subst (IsShort Added) (sym (double _ _ outs e)) (omega arith)
+short Lessened outs e = subst (IsShort Lessened) (sym (double _ _ outs e)) (omega arith)
+short TurnedBy outs e = subst (IsShort TurnedBy) (sym (double _ _ outs e)) (omega arith)
+short Multiplied outs e = subst (IsShort Multiplied) (sym (double _ _ outs e)) (omega arith)
+short Counted outs e = subst (IsShort Counted) (sym (double _ _ outs e)) (omega arith)
+short Divided outs e = subst (IsShort Divided) (sym (double _ _ outs e)) (omega arith)
+
+pub record IsWordFirst (g : Graph) (outs : List OutRow) (b : WordBody) : Type 0 where
+  pub first : IsFirst g outs (sequence_for b)
+  pub short : length (known_at (sequence_for b)) ≤ plain_length g outs
+
+pub word_first : (g : Graph) (outs : List OutRow) (b : WordBody) → g ≡ graph_in b → FitBody g outs
+    → map (λ o. o.lit) outs ≡ outs_in b → WritesLate outs (known_at (sequence_for b))
+    → IsWordFirst g outs b
+word_first g outs b e fit l late = subst (λ h. IsWordFirst h outs b) (sym e) record {
+  first = have_first b outs (subst (λ h. FitBody h outs) e fit) l late;
+  short = short b outs l;
+}
