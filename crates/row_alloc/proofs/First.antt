@@ -3,16 +3,20 @@ use Rattle.std.proofs.Common.{◌≡◌, ◌≢◌, ℕ, zero, suc, ◌<◌, ◌
 use Rattle.std.proofs.Common.{length, map, refl, sym, subst, ap, ◌∙◌, arith, Option, Some, None}
 use Rattle.std.proofs.Common.{inl, inr, not}
 use Rattle.std.specs.Prelude.{◌||◌, ◌&&◌, ◌==◌}
+use Rattle.std.specs.List.{list_all}
 use Rattle.std.proofs.lemmas.Bool.{and_parts, eqb-true, eq-eqb, cases_eq}
+use Rattle.std.proofs.lemmas.List.Folds.{list_all_at}
 use mathlib.Core.Bool.{beq}
 use Rattle.dram_model.specs.declared.address.Cell.TheVariants.{D}
 use Rattle.mig_graph.specs.declared.Lit.{Lit}
 use Rattle.mig_graph.specs.Graph.{Graph}
+use Rattle.row_alloc.specs.declared.body.BodyRef.{BodyRef}
+use Rattle.row_alloc.specs.declared.body.BodyRef.TheVariants.{In, Out}
 use Rattle.row_alloc.specs.declared.body.BodyCmd.{BodyCmd}
 use Rattle.row_alloc.specs.declared.body.OutRow.{OutRow}
 use Rattle.row_alloc.specs.Rows.{out_at}
 use Rattle.row_alloc.specs.Legal.{are_legal}
-use Rattle.row_alloc.specs.Body.{FitBody, WritesLate}
+use Rattle.row_alloc.specs.Body.{FitBody, WritesLate, read_by, written_by, command_at}
 use Rattle.row_alloc.specs.Numbering.{own_output}
 use Rattle.row_alloc.specs.Length.{plain_length}
 use Rattle.row_alloc.specs.Symbolic.{symbols_after, IsChecked, sense_three, first_node, lit_eq}
@@ -348,3 +352,89 @@ word_first g outs b e fit l late = subst (λ h. IsWordFirst h outs b) (sym e) re
   first = have_first b outs (subst (λ h. FitBody h outs) e fit) l late;
   short = short b outs l;
 }
+
+-- what stands first in one command and second in an earlier one, where f says of an output and an
+-- input that they may
+abbrev into : (ℕ → ℕ → Bool) → ℕ → BodyRef → Bool
+into f j (In k) = f j k
+into f j x = true
+
+abbrev allowed : (ℕ → ℕ → Bool) → BodyRef → BodyRef → Bool
+allowed f (Out j) x = into f j x
+allowed f y x = true
+
+-- of all commands, each with each later one
+abbrev is_clear : (ℕ → ℕ → Bool) → List BodyCmd → Bool
+is_clear f [] = true
+is_clear f (c ∷ cs) = list_all (λ d. allowed f (written_by c) (read_by d)) cs && is_clear f cs
+
+each_of : (g : BodyCmd → Bool) (cs : List BodyCmd) (i : ℕ) → list_all g cs ≡ true → i < length cs
+    → g (command_at cs i) ≡ true
+each_of g cs i h l = by (g (command_at cs i)) refl
+  where
+    by : (b : Bool) → g (command_at cs i) ≡ b → g (command_at cs i) ≡ true
+    by true e = e
+    by false e = let f = list_all_at g cs i _ l e in cc
+
+module _ (f : ℕ → ℕ → Bool) (outs : List OutRow) (kept : (j k : ℕ) → f j k ≡ true
+    → (out_at outs j).same ≡ Some k → ⊥) where
+  clear_late : (cs : List BodyCmd) → is_clear f cs ≡ true → (p q j k : ℕ) → p < q → q < length cs
+      → (out_at outs j).same ≡ Some k → written_by (command_at cs p) ≡ Out j
+      → read_by (command_at cs q) ≡ In k → ⊥
+  clear_late [] h p q j k lp lq s w r = omega (arith, lq)
+  clear_late (c ∷ cs) h p zero j k lp lq s w r = omega (arith, lp)
+  clear_late (c ∷ cs) h zero (suc q) j k lp lq s w r =
+      let t = and_parts (list_all (λ d. allowed f (written_by c) (read_by d)) cs) (is_clear f cs) h
+      in
+      let a = each_of (λ d. allowed f (written_by c) (read_by d)) cs q t.0 (omega (arith, lq)) in
+      let b : f j k ≡ true = sym (ap (λ x. allowed f x (In k)) w)
+      ∙ sym (ap (λ x. allowed f (written_by c) x) r) ∙ a in
+      kept j k b s
+  clear_late (c ∷ cs) h (suc p) (suc q) j k lp lq s w r =
+      let t = and_parts (list_all (λ d. allowed f (written_by c) (read_by d)) cs) (is_clear f cs) h
+      in
+      clear_late cs t.1 p q j k (omega (arith, lp)) (omega (arith, lq)) s w r
+
+-- where no output is written early
+never : (outs : List OutRow) (cs : List BodyCmd) → is_clear (λ j k. false) cs ≡ true
+    → WritesLate outs cs
+never outs cs h = record {
+  late = clear_late (λ j k. false) outs (λ j k e s. let z : false ≡ true = e in cc) cs h;
+}
+
+-- where this output alone is, which must not stand in the row of this input
+abbrev is_pair : ℕ → ℕ → ℕ → ℕ → Bool
+is_pair i l j k = (j == i) && (k == l)
+
+but_one : (i l : ℕ) (outs : List OutRow) (cs : List BodyCmd) → ((out_at outs i).same ≡ Some l → ⊥)
+    → is_clear (is_pair i l) cs ≡ true → WritesLate outs cs
+but_one i l outs cs kept h = record {
+  late = clear_late (is_pair i l) outs (λ j k e s.
+      let t = and_parts (j == i) (k == l) e in
+      kept (ap (λ x. (out_at outs x).same) (sym (eqb-true j i t.0)) ∙ s
+      ∙ ap Some (eqb-true k l t.1))) cs h;
+}
+
+-- the sequence reads no input whose row it has written
+abbrev pub KeepsInputs : WordBody → List OutRow → Type 0
+KeepsInputs Shifted outs = (out_at outs 0).same ≡ Some 0 → ⊥
+KeepsInputs Multiplied outs = (out_at outs 1).same ≡ Some 0 → ⊥
+KeepsInputs b outs = Unit {0}
+
+pub word_late : (b : WordBody) (outs : List OutRow) → KeepsInputs b outs
+    → WritesLate outs (known_at (sequence_for b))
+word_late Inverted outs h = never outs (known_at 0) refl
+word_late Shifted outs h = but_one 0 0 outs (known_at 1) h refl
+word_late Both outs h = never outs (known_at 2) refl
+word_late Either outs h = never outs (known_at 3) refl
+word_late Without outs h = never outs (known_at 4) refl
+word_late Unlike outs h = never outs (known_at 9) refl
+word_late Chosen outs h = never outs (known_at 11) refl
+word_late Compared outs h = never outs (known_at 5) refl
+word_late Agreed outs h = never outs (known_at 12) refl
+word_late Added outs h = never outs (known_at 20) refl
+word_late Lessened outs h = never outs (known_at 15) refl
+word_late TurnedBy outs h = never outs (known_at 21) refl
+word_late Multiplied outs h = but_one 1 0 outs (known_at 23) h refl
+word_late Counted outs h = never outs (known_at 16) refl
+word_late Divided outs h = never outs (known_at 22) refl

@@ -3,29 +3,25 @@ use Rattle.std.proofs.Common.{◌≡◌, ℕ, zero, suc, ◌+◌, ◌<◌, List,
 use Rattle.std.proofs.Common.{slice_index_or, Option, Some, None, refl, sym, ap, ◌∙◌, subst, arith}
 use Rattle.loop_ir.specs.declared.ir.Step.{Step}
 use Rattle.loop_ir.specs.Plain.{Block, StepOf, AllParts, AllStep, step_of}
-use Rattle.loop_ir.specs.Like.{LikeSteps, no_steps, single, along, nest}
 use Rattle.loop_laws.specs.Forms.{IsMade}
 use Rattle.word_lower.specs.declared.shapes.Owners.{Owners}
 use Rattle.word_lower.specs.declared.shapes.Line.{Line}
 use Rattle.word_lower.specs.Shapes.{lines_steps, program_on}
-
-like_append : {ss ts us vs : List (StepOf Block)} → LikeSteps ss ts → LikeSteps us vs
-    → LikeSteps (ss ++ us) (ts ++ vs)
-like_append no_steps h = h
-like_append (single is more) h = single is (like_append more h)
-like_append (along is more) h = along is (like_append more h)
-like_append (nest is more) h = nest is (like_append more h)
 
 step_last : (steps : List Step) (s : Step) → map step_of (steps ++ s ∷ []) ≡ map step_of steps
     ++ step_of s ∷ []
 step_last [] s = refl
 step_last (x ∷ xs) s = ap (λ ys. step_of x ∷ ys) (step_last xs s)
 
-pub like_push : (steps new : List Step) (s : Step) (ts us : List (StepOf Block))
-    → new ≡ steps ++ s ∷ [] → LikeSteps (map step_of steps) ts → LikeSteps (step_of s ∷ []) us
-    → LikeSteps (map step_of new) (ts ++ us)
-like_push steps new s ts us e h g = subst (λ x. LikeSteps x (ts ++ us)) (sym (ap (map step_of) e
-    ∙ step_last steps s)) (like_append h g)
+pub same_push : (steps new : List Step) (s : Step) (us : List (StepOf Block))
+    → new ≡ steps ++ s ∷ [] → step_of s ∷ [] ≡ us
+    → map step_of new ≡ map step_of steps ++ us
+same_push steps new s us e g = ap (map step_of) e ∙ step_last steps s
+    ∙ ap (λ l. map step_of steps ++ l) g
+
+pub same_none : (steps : List (StepOf Block)) → steps ≡ steps ++ []
+same_none [] = refl
+same_none (s ∷ ss) = ap (λ l. s ∷ l) (same_none ss)
 
 made_last : (ss : List (StepOf Block)) (s : StepOf Block) → AllParts IsMade ss → AllStep IsMade s
     → AllParts IsMade (ss ++ s ∷ [])

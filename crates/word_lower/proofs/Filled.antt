@@ -25,7 +25,7 @@ unfolding kind_in
 same_kinds j k e = sym (ap kind_in e)
 
 -- the kinds that fill a form
-filled_none : (ks : List Kind) (k : Kind) → filled (form [] Word ∷ []) ks ≡ Some k
+pub filled_none : (ks : List Kind) (k : Kind) → filled (form [] Word ∷ []) ks ≡ Some k
     → (ks ≡ []) × (k ≡ Word)
 filled_none [] k e = (refl, same_kinds Word k e)
 filled_none (x ∷ ks) k e = cc
@@ -50,7 +50,7 @@ filled_words g (Word ∷ (Word ∷ (y ∷ ks))) k e = cc
 filled_words g (Word ∷ (Bit ∷ (y ∷ ks))) k e = cc
 filled_words g (Bit ∷ (x ∷ (y ∷ ks))) k e = cc
 
-filled_one : (ks : List Kind) (k : Kind) → filled of_one ks ≡ Some k
+pub filled_one : (ks : List Kind) (k : Kind) → filled of_one ks ≡ Some k
     → ((ks ≡ Word ∷ []) × (k ≡ Word)) ⊎ ((ks ≡ Bit ∷ []) × (k ≡ Bit))
 filled_one [] k e = cc
 filled_one (Word ∷ []) k e = inl (refl, same_kinds Word k e)
@@ -58,7 +58,7 @@ filled_one (Bit ∷ []) k e = inr (refl, same_kinds Bit k e)
 filled_one (Word ∷ (x ∷ ks)) k e = cc
 filled_one (Bit ∷ (x ∷ ks)) k e = cc
 
-filled_two : (ks : List Kind) (k : Kind) → filled of_two ks ≡ Some k
+pub filled_two : (ks : List Kind) (k : Kind) → filled of_two ks ≡ Some k
     → ((ks ≡ Word ∷ Word ∷ []) × (k ≡ Word)) ⊎ ((ks ≡ Bit ∷ Bit ∷ []) × (k ≡ Bit))
 filled_two [] k e = cc
 filled_two (Word ∷ []) k e = cc
@@ -72,7 +72,7 @@ filled_two (Word ∷ (Bit ∷ (y ∷ ks))) k e = cc
 filled_two (Bit ∷ (Word ∷ (y ∷ ks))) k e = cc
 filled_two (Bit ∷ (Bit ∷ (y ∷ ks))) k e = cc
 
-filled_choice : (ks : List Kind) (k : Kind) → filled (forms op.IfElse) ks ≡ Some k
+pub filled_choice : (ks : List Kind) (k : Kind) → filled (forms op.IfElse) ks ≡ Some k
     → ((ks ≡ Word ∷ Word ∷ Bit ∷ []) × (k ≡ Word)) ⊎ ((ks ≡ Bit ∷ Bit ∷ Bit ∷ []) × (k ≡ Bit))
 filled_choice [] k e = cc
 filled_choice (Word ∷ []) k e = cc

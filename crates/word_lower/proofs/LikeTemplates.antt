@@ -1,4 +1,4 @@
--- Bodies that are built by a template are like it.
+-- Bodies that are built by a template are those of the template.
 use Rattle.std.proofs.Common.{◌≡◌, ℕ, zero, suc, ◌+◌, ◌<◌, true, List}
 use Rattle.std.proofs.Common.{[], ◌∷◌, map, length, refl, sym, ap, ◌∙◌, subst, arith}
 use Rattle.std.specs.Prelude.{nat_lt}
@@ -9,9 +9,12 @@ use Rattle.mig_graph.specs.declared.Node.{Node}
 use Rattle.mig_graph.specs.Graph.{Graph, IsGraph}
 use Rattle.mig_graph.specs.Outputs.{lit_at}
 use Rattle.loop_ir.specs.declared.ir.Place.{Place}
-use Rattle.loop_ir.specs.Plain.{Block}
+use Rattle.loop_ir.specs.Plain.{Block, InnerOf, StepOf}
+use Rattle.loop_ir.specs.Plain.InnerOf.{Alone, Across}
+use Rattle.loop_ir.specs.Plain.StepOf.{Single, Along, Nest}
 use Rattle.loop_laws.specs.Forms.{IsMade}
-use Rattle.loop_ir.specs.Like.{IsLike}
+use Rattle.loop_ir.specs.Like.{IsLike, LikeParts, no_parts, alone, across, LikeSteps, no_steps}
+use Rattle.loop_ir.specs.Like.{single, along, nest}
 use Rattle.word_lower.specs.declared.shapes.Mark.{Mark}
 use Rattle.word_lower.specs.declared.shapes.Owners.{Owners}
 use Rattle.word_lower.specs.Programs.{template}
@@ -44,6 +47,18 @@ like_self b = record {
   cheap = omega arith;
 }
 
+parts_self : (ps : List (InnerOf Block)) → LikeParts ps ps
+parts_self [] = no_parts
+parts_self (Alone b ∷ ps) = alone (like_self b) (parts_self ps)
+parts_self (Across c b ∷ ps) = across (like_self b) (parts_self ps)
+
+-- and so is a program
+pub steps_self : (ss : List (StepOf Block)) → LikeSteps ss ss
+steps_self [] = no_steps
+steps_self (Single b ∷ ss) = single (like_self b) (steps_self ss)
+steps_self (Along b ∷ ss) = along (like_self b) (steps_self ss)
+steps_self (Nest ps ∷ ss) = nest (parts_self ps) (steps_self ss)
+
 abbrev pub block_of_parts : List Place → Graph → List Lit → List Place → Block
 block_of_parts reads g outs writes = record {
   reads = reads;
@@ -57,18 +72,16 @@ pub block_eq : (reads writes rp wp : List Place) (g h : Graph) (outs lits : List
     writes
 block_eq reads writes rp wp g h outs lits er ew eg el = rw (er, ew, eg, el) refl
 
-pub template_like : (o : Owners) (reads writes : List Mark) (nodes : List Node) (outs : List Lit)
+pub template_same : (o : Owners) (reads writes : List Mark) (nodes : List Node) (outs : List Lit)
     (rp wp : List Place) (g : Graph) (lits : List Lit)
     → rp ≡ map (λ m. place_on o (mark_of m)) reads → wp ≡ map (λ m. place_on o (mark_of m)) writes
     → g ≡ record { inputs = length reads; nodes = nodes } → lits ≡ outs
-    → IsLike (record { reads = rp; graph = g; outs = lits; writes = wp })
-    (body_on o (template (marks reads) nodes outs (marks writes)))
-template_like o reads writes nodes outs rp wp g lits er ew eg el =
+    → block_of_parts rp g lits wp ≡ body_on o (template (marks reads) nodes outs (marks writes))
+template_same o reads writes nodes outs rp wp g lits er ew eg el =
     let whole = body_on o (template (marks reads) nodes outs (marks writes)) in
     let n : length reads ≡ length (marks reads) = sym (length-map reads mark_of) in
-    subst (λ b. IsLike b whole) (sym (block_eq whole.reads whole.writes rp wp g whole.graph outs
-    lits (er ∙ twice_mapped o reads) (ew ∙ twice_mapped o writes)
-    (eg ∙ ap (λ (i : ℕ). record { inputs = i; nodes = nodes }) n) el)) (like_self whole)
+    block_eq whole.reads whole.writes rp wp g whole.graph outs lits (er ∙ twice_mapped o reads)
+    (ew ∙ twice_mapped o writes) (eg ∙ ap (λ (i : ℕ). record { inputs = i; nodes = nodes }) n) el
 
 -- its graph is as `Mig` makes them, and its outputs name nodes of it
 pub template_made : (rp wp : List Place) (i : ℕ) (nodes : List Node) (outs : List Lit) (g : Graph)

@@ -3,7 +3,6 @@
 ghost use Rattle.std.specs.Prelude.{◌≡◌, ◌<◌, ◌≤◌, ◌+◌, ◌++◌, ◌∷◌, [], ℕ, List, length, map, IfOk};
 ghost use Rattle.std.specs.Prelude.{OnOk, Some, None, true};
 ghost use Rattle.loop_ir.specs.Plain.{block_of, step_of, steps_of};
-ghost use Rattle.loop_ir.specs.Like.{IsLike, LikeSteps};
 ghost use Rattle.loop_ir.specs.Plain.{Block, StepOf, AllParts, AllStep, step_map};
 ghost use Rattle.loop_laws.specs.Forms.{IsMade};
 ghost use Rattle.word_lower.specs.Programs.{template};
@@ -49,7 +48,7 @@ fn places(marks: &[Mark], owners: Owners, alloc: Global) -> Result<Vec<Place>, N
     Ok(all)
 }
 
-/// A body like the one of a template: its nodes over the reads, and its outputs.
+/// The body of a template: its nodes over the reads, and its outputs.
 fn templated(
     reads: &[Mark],
     nodes: &[Node],
@@ -63,8 +62,8 @@ fn templated(
     requires outs { 0 < length outs.now }
     requires own { are_own (length reads.now + 1) nodes.now ≡ true }
     requires named { are_below (length reads.now + 1 + length nodes.now) outs.now ≡ true }
-    ensures like { IfOk result (λ b. IsLike (block_of b)
-        (body_on owners (template (marks reads.now) nodes.now outs.now (marks writes.now)))) }
+    ensures same { IfOk result (λ b. block_of b
+        ≡ body_on owners (template (marks reads.now) nodes.now outs.now (marks writes.now))) }
     ensures made { IfOk result (λ b. IsMade (block_of b)) }
 {
     Ok(Body {
@@ -76,7 +75,7 @@ fn templated(
 
 /// The body of a shape.
 fn body(shape: Shape, owners: Owners, alloc: Global) -> Result<Body, NoMemory>
-    ensures like { IfOk result (λ b. IsLike (block_of b) (body_on owners (shape_body shape))) }
+    ensures same { IfOk result (λ b. block_of b ≡ body_on owners (shape_body shape)) }
     ensures made { IfOk result (λ b. IsMade (block_of b)) }
 {
     let (o, a) = (owners, alloc);
@@ -101,8 +100,8 @@ fn body(shape: Shape, owners: Owners, alloc: Global) -> Result<Body, NoMemory>
 
 /// The step of a line.
 fn step(line: Line, owners: Owners, alloc: Global) -> Result<Step, NoMemory>
-    ensures like { IfOk result (λ s. LikeSteps (step_of s
-        ∷ []) (program_on owners (line_step line ∷ []))) }
+    ensures same { IfOk result (λ s. step_of s ∷ []
+        ≡ program_on owners (line_step line ∷ [])) }
     ensures made { IfOk result (λ s. AllStep IsMade (step_of s)) }
 {
     match line {
@@ -118,10 +117,8 @@ fn add_step(
     owners: Owners,
     alloc: Global,
 ) -> Result<(), NoMemory>
-    ensures like { OnOk result ((ts : List (StepOf Block))
-        → LikeSteps (map step_of steps.old.items) ts
-        → LikeSteps (map step_of steps.new.items) (ts
-        ++ program_on owners (lines_steps (line ∷ [])))) }
+    ensures same { OnOk result (map step_of steps.new.items ≡ map step_of steps.old.items
+        ++ program_on owners (lines_steps (line ∷ []))) }
     ensures made { OnOk result (AllParts IsMade (map step_of steps.old.items)
         → AllParts IsMade (map step_of steps.new.items)) }
 {
@@ -141,8 +138,7 @@ pub fn program(
     owners: Owners,
     alloc: Global,
 ) -> Result<LoopProgram, NoMemory>
-    ensures like { IfOk result (λ p. LikeSteps (steps_of p)
-        (program_on owners (lines_steps lines.now))) }
+    ensures same { IfOk result (λ p. steps_of p ≡ program_on owners (lines_steps lines.now)) }
     ensures made { IfOk result (λ p. AllParts IsMade (steps_of p)) }
 {
     let mut steps = Vec::new(alloc);

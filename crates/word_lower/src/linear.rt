@@ -8,7 +8,7 @@ ghost use Rattle.loop_ir.specs.Statements.{slots_of, ComputeMeets, StatementMeet
 ghost use Rattle.loop_ir.specs.Lowered.{IsLowered};
 ghost use Rattle.word_lower.specs.Places.{AreAt, scratch_bit};
 ghost use Rattle.word_lower.specs.Programs.{is_linear, is_linear_statement};
-ghost use Rattle.word_lower.specs.Forms.{HasForm};
+ghost use Rattle.word_lower.specs.Forms.{HasForm, IsWritten};
 ghost use Rattle.word_lower.specs.Shapes.{behind, owners_of};
 
 use crate::bodies::program;
@@ -78,8 +78,10 @@ fn lower_word(
     requires placed { IsPlaced (slots_of names.now) names.now.free_bit names.now.free_word
         (Compute target.now op args.now) }
     requires linear { is_linear op ≡ true }
-    ensures { IfOk result (λ p. IsLowered (slots_of names.now) names.now.free_bit
+    ensures lowered { IfOk result (λ p. IsLowered (slots_of names.now) names.now.free_bit
         names.now.free_word (Compute target.now op args.now) (steps_of p)) }
+    ensures written { IfOk result (λ p. IsWritten (slots_of names.now) names.now.free_bit
+        (Compute target.now op args.now) (steps_of p)) }
 {
     let owners = owners(names, target, args);
     let p = program(&lines(op, owners.target.kind), owners, alloc)?;
@@ -98,6 +100,9 @@ pub fn lower_linear(s: &Stmt, names: &NameMap, alloc: Global) -> Result<LoopProg
         names.now.free_word (statement s.now) (steps_of p)) }
     // A block's steps are its states' starts and then its graph at each position.
     ensures form { IfOk result (λ p. HasForm (slots_of names.now) (statement s.now) (steps_of p)) }
+    // A word operation's are those of its written program.
+    ensures written { IfOk result (λ p. IsWritten (slots_of names.now) names.now.free_bit
+        (statement s.now) (steps_of p)) }
 {
     match s {
         Stmt::Word { dst, op, args } => lower_word(dst, *op, args, names, alloc),

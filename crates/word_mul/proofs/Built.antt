@@ -1,4 +1,4 @@
--- Bodies that are built by a template are like it.
+-- Bodies that are built by a template are those of the template.
 use Rattle.std.proofs.Common.{◌≡◌, ℕ, ◌+◌, ◌<◌, List, length, sym, subst}
 use Rattle.mig_graph.specs.declared.Lit.{Lit}
 use Rattle.mig_graph.specs.declared.Node.{Node}
@@ -17,8 +17,9 @@ pub built : (reads writes rp wp : List Place) (nodes : List Node) (outs lits : L
     (over reads nodes outs writes)
 built reads writes rp wp nodes outs lits g er ew graph named eg el =
     let whole = over reads nodes outs writes in
+    let same = block_eq reads writes rp wp g whole.graph outs lits er ew eg el in
     record {
-      like = subst (λ b. IsLike b whole) (sym (block_eq reads writes rp wp g whole.graph outs lits
-          er ew eg el)) (like_self whole);
+      same = same;
+      like = subst (λ b. IsLike b whole) (sym same) (like_self whole);
       made = template_made rp wp (length reads) nodes outs g lits graph named eg el;
     }

@@ -11,29 +11,42 @@ use Rattle.loop_laws.specs.Forms.{IsMade}
 use Rattle.word_mul.specs.Bodies.{IsBuilt, PartsBuilt, StepsBuilt}
 
 pub none_built : PartsBuilt [] []
-none_built = record { like = no_parts; made = tt }
+none_built = record { same = refl; like = no_parts; made = tt }
 
 pub once_built : (b a : Block) (ps qs : List (InnerOf Block)) → IsBuilt b a → PartsBuilt ps qs
     → PartsBuilt (Alone b ∷ ps) (Alone a ∷ qs)
-once_built b a ps qs h more = record { like = alone h.like more.like; made = (h.made, more.made) }
+once_built b a ps qs h more = record {
+  same = ap (λ x. Alone x ∷ ps) h.same ∙ ap (λ l. Alone a ∷ l) more.same;
+  like = alone h.like more.like;
+  made = (h.made, more.made);
+}
 
 pub each_built : (c : Count) (b a : Block) (ps qs : List (InnerOf Block)) → IsBuilt b a
     → PartsBuilt ps qs → PartsBuilt (Across c b ∷ ps) (Across c a ∷ qs)
 each_built c b a ps qs h more = record {
+  same = ap (λ x. Across c x ∷ ps) h.same ∙ ap (λ l. Across c a ∷ l) more.same;
   like = across h.like more.like;
   made = (h.made, more.made);
 }
 
 pub end_built : StepsBuilt [] []
-end_built = record { like = no_steps; made = tt }
+end_built = record { same = refl; like = no_steps; made = tt }
 
 pub along_built : (b a : Block) (ss ts : List (StepOf Block)) → IsBuilt b a → StepsBuilt ss ts
     → StepsBuilt (Along b ∷ ss) (Along a ∷ ts)
-along_built b a ss ts h more = record { like = along h.like more.like; made = (h.made, more.made) }
+along_built b a ss ts h more = record {
+  same = ap (λ x. Along x ∷ ss) h.same ∙ ap (λ l. Along a ∷ l) more.same;
+  like = along h.like more.like;
+  made = (h.made, more.made);
+}
 
 pub nest_built : (ps qs : List (InnerOf Block)) (ss ts : List (StepOf Block)) → PartsBuilt ps qs
     → StepsBuilt ss ts → StepsBuilt (Nest ps ∷ ss) (Nest qs ∷ ts)
-nest_built ps qs ss ts h more = record { like = nest h.like more.like; made = (h.made, more.made) }
+nest_built ps qs ss ts h more = record {
+  same = ap (λ x. Nest x ∷ ss) h.same ∙ ap (λ l. Nest qs ∷ l) more.same;
+  like = nest h.like more.like;
+  made = (h.made, more.made);
+}
 
 like_more : {ps qs : List (InnerOf Block)} → LikeParts ps qs → (rs ss : List (InnerOf Block))
     → LikeParts rs ss → LikeParts (ps ++ rs) (qs ++ ss)
@@ -59,6 +72,7 @@ pub more_built : (ps : List Inner) (p : Inner) (all : List Inner) (qs ss : List 
 more_built ps p all qs ss e h g =
     subst (λ rs. PartsBuilt rs (qs ++ ss)) (sym (ap (map inner_of) e ∙ map_more ps p))
     record {
+      same = ap (λ l. l ++ inner_of p ∷ []) h.same ∙ ap (λ l. qs ++ l) g.same;
       like = like_more h.like (inner_of p ∷ []) ss g.like;
       made = made_more (map inner_of ps) (inner_of p ∷ []) h.made g.made;
     }

@@ -36,7 +36,7 @@ use Rattle.word_lower.proofs.Statements.{written, holds, pieces, row_of, form_fi
 use Rattle.word_lower.proofs.Statements.{held_kinds, held_numbers, held_width, named_width, Places}
 use Rattle.word_lower.proofs.Statements.{places_of}
 use Rattle.word_mul.specs.declared.rows.Rows.{Rows}
-use Rattle.word_mul.specs.Places.{rooms_for, steps_for, rows_on}
+use Rattle.word_mul.specs.Places.{rooms_for, steps_for, rows_on, IsNestWritten}
 use Rattle.word_mul.specs.Programs.{nested, is_nested, is_nested_statement, nested_total}
 use Rattle.word_mul.specs.Programs.{statement_total}
 use Rattle.word_mul.specs.Bodies.{StepsBuilt}
@@ -289,3 +289,8 @@ module _ (slots : Slots) (free_bit free_word : ℕ) (s : Statement) (target : Li
         (few slots free_bit free_word target p args word_nested word_meets word_placed
         word_meets.gives.slot word_meets.gives.found found_args.list found_args.at steps
         (subst (λ m. StepsBuilt steps (steps_for p m)) m_is built) n)
+
+    pub statement_written : (steps : List (StepOf Block)) → StepsBuilt steps (steps_for p m)
+        → IsNestWritten slots free_bit free_word s steps
+    statement_written steps built = subst (λ x. IsNestWritten slots free_bit free_word x steps)
+        (sym e) (λ t ss found at. built.same ∙ ap (steps_for p) (on t ss found at))

@@ -1,5 +1,5 @@
 -- Bodies that are built.
-use Rattle.std.specs.Prelude.{List, length}
+use Rattle.std.specs.Prelude.{◌≡◌, List, length}
 use Rattle.mig_graph.specs.declared.Lit.{Lit}
 use Rattle.mig_graph.specs.declared.Node.{Node}
 use Rattle.loop_ir.specs.declared.ir.Sub.{Sub}
@@ -21,15 +21,18 @@ over reads nodes outs writes = record {
   writes = writes;
 }
 
--- like the other, with a graph such as `Mig` makes
+-- the other itself, with a graph such as `Mig` makes
 pub record IsBuilt (b a : Block) : Type 0 where
+  pub same : b ≡ a
   pub like : IsLike b a
   pub made : IsMade b
 
 pub record PartsBuilt (ps qs : List (InnerOf Block)) : Type 0 where
+  pub same : ps ≡ qs
   pub like : LikeParts ps qs
   pub made : AllInner IsMade ps
 
 pub record StepsBuilt (ss ts : List (StepOf Block)) : Type 0 where
+  pub same : ss ≡ ts
   pub like : LikeSteps ss ts
   pub made : AllParts IsMade ss

@@ -1,16 +1,18 @@
 -- The rooms of such a statement: as any word statement's, and two words of internal scratch as one
 -- room.
-use Rattle.std.specs.Prelude.{ℕ, zero, suc, true, List, [], ◌∷◌, ◌++◌, length, nat_lt}
+use Rattle.std.specs.Prelude.{◌≡◌, ℕ, zero, suc, true, List, [], ◌∷◌, ◌++◌, length, nat_lt, Some}
 use Rattle.std.specs.Prelude.{if◌then◌else◌}
 use Rattle.op_text.specs.declared.tree.Kind.TheVariants.{Word}
 use Rattle.op_text.specs.declared.tree.WordOp.{WordOp}
 use Rattle.op_text.specs.declared.tree.WordOp.TheVariants as o
+use Rattle.op_text.specs.Language.{Statement, Compute, Visit}
 use Rattle.op_text.specs.Scratch.{bits_inside, words_inside}
 use Rattle.loop_ir.specs.declared.ir.Space.TheVariants.{ScratchWord}
 use Rattle.loop_ir.specs.declared.names.Slot.{Slot}
 use Rattle.loop_ir.specs.Plain.{StepOf, Block}
+use Rattle.loop_ir.specs.Statements.{Slots}
 use Rattle.loop_laws.specs.Rooms.{Twice, Room, placed_steps}
-use Rattle.word_lower.specs.Places.{scratch_from, rooms_of}
+use Rattle.word_lower.specs.Places.{scratch_from, rooms_of, AreAt}
 use Rattle.word_lower.specs.Shapes.{behind}
 use Rattle.word_mul.specs.declared.rows.Rows.{Rows}
 use Rattle.word_mul.specs.Programs.{nested}
@@ -48,3 +50,11 @@ rows_on t ss free_bit free_word = record {
   free_bit = free_bit;
   free_word = free_word;
 }
+
+-- the operation's steps are its loop program's, node for node, at the places of the target, of the
+-- arguments and of its internal scratch
+abbrev pub IsNestWritten : Slots → ℕ → ℕ → Statement → List (StepOf Block) → Type 0
+IsNestWritten slots free_bit free_word (Compute target p args) steps = (t : Slot) (ss : List Slot)
+    → slots target ≡ Some t → AreAt slots args ss
+    → steps ≡ steps_for p (rows_on t ss free_bit free_word)
+IsNestWritten slots free_bit free_word (Visit block) steps = Unit {0}

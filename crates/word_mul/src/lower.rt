@@ -11,7 +11,7 @@ ghost use Rattle.loop_ir.specs.Statements.{slots_of, StatementMeets, IsPlaced};
 ghost use Rattle.loop_ir.specs.Lowered.{IsLowered};
 ghost use Rattle.word_lower.specs.Places.{AreAt};
 ghost use Rattle.word_lower.specs.Shapes.{behind};
-ghost use Rattle.word_mul.specs.Places.{rows_on, steps_for};
+ghost use Rattle.word_mul.specs.Places.{rows_on, steps_for, IsNestWritten};
 ghost use Rattle.word_mul.specs.Programs.{is_nested, is_nested_statement, statement_total};
 ghost use Rattle.word_mul.specs.Bodies.{StepsBuilt};
 
@@ -77,6 +77,9 @@ pub fn lower_nested(s: &Stmt, names: &NameMap, alloc: Global) -> Result<LoopProg
         names.now.free_word (statement s.now) (steps_of p)) }
     ensures few { IfOk result (λ p. (n : ℕ) → rounds_cost (all_rounds n (steps_of p))
         ≤ statement_total (statement s.now) n) }
+    // The steps are those of the written program.
+    ensures written { IfOk result (λ p. IsNestWritten (slots_of names.now) names.now.free_bit
+        names.now.free_word (statement s.now) (steps_of p)) }
 {
     match s {
         Stmt::Word { dst, op, args } => {

@@ -1,10 +1,12 @@
-use Rattle.word_lower.proofs.Append.{like_push, made_push}
+use Rattle.std.proofs.Common.{map}
+use Rattle.loop_ir.specs.Plain.{step_of}
+use Rattle.word_lower.proofs.Append.{same_push, same_none, made_push}
 use Rattle.word_lower.proofs.bodies.add_step.Goals as goal
 
-pub returns-in_ok-keep-in-Some-clause-like : goal.returns-in_ok-keep-in-Some-clause-like
-returns-in_ok-keep-in-Some-clause-like c =
-    λ ts h. rw c.in-Some.is (like_push c.args.steps.now.items c.keep.new.items.items
-    c.in_ok-s-in-Some.s ts _ c.in_ok-keep-in-Some.ensures h c.in_ok-s-in-Some.ensures.like)
+pub returns-in_ok-keep-in-Some-clause-same : goal.returns-in_ok-keep-in-Some-clause-same
+returns-in_ok-keep-in-Some-clause-same c =
+    rw c.in-Some.is (same_push c.args.steps.now.items c.keep.new.items.items
+    c.in_ok-s-in-Some.s _ c.in_ok-keep-in-Some.ensures c.in_ok-s-in-Some.ensures.same)
 
 pub returns-in_ok-keep-in-Some-clause-made : goal.returns-in_ok-keep-in-Some-clause-made
 returns-in_ok-keep-in-Some-clause-made c =

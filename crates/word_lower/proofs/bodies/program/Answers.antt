@@ -1,18 +1,20 @@
-use Rattle.std.proofs.Common.{map, sym, subst, None}
+use Rattle.std.proofs.Common.{slice_index_or, map, sym, ap, ◌++◌, ◌∷◌, [], ◌∙◌, refl, None}
 use Rattle.loop_ir.specs.Plain.{step_of}
-use Rattle.loop_ir.specs.Like.{LikeSteps, no_steps}
+use Rattle.word_lower.specs.Shapes.{lines_steps, program_on}
 use Rattle.word_lower.proofs.Append.{lines_more}
 use Rattle.word_lower.proofs.bodies.program.Goals as goal
 
 pub loop-line-init : goal.loop-line-init
-loop-line-init c = rw c.new-steps.ensures.items (record { like = no_steps; made = tt })
+loop-line-init c = rw c.new-steps.ensures.items (record { same = refl; made = tt })
 
 pub loop-line-preserved : goal.loop-line-preserved
 loop-line-preserved c =
     let so = c.loop-line.invariant in
     record {
-      like = subst (LikeSteps (map step_of c.add_step.new.steps.items))
-          (sym (lines_more c.args.owners c.args.lines.now c.loop-line.line-index None
-          c.loop-line-test.true)) (c.in_ok-add_step.ensures.like _ so.like);
+      same = c.in_ok-add_step.ensures.same
+          ∙ ap (λ l. l ++ program_on c.args.owners (lines_steps (slice_index_or
+          c.args.lines.now c.loop-line.line-index None ∷ []))) so.same
+          ∙ sym (lines_more c.args.owners c.args.lines.now c.loop-line.line-index None
+          c.loop-line-test.true);
       made = c.in_ok-add_step.ensures.made so.made;
     }

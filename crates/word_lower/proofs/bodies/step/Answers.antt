@@ -1,10 +1,11 @@
-use Rattle.loop_ir.specs.Like.{single, along, no_steps}
+use Rattle.std.proofs.Common.{ap, ◌∷◌, []}
+use Rattle.loop_ir.specs.Plain.StepOf.{Single, Along}
 use Rattle.word_lower.proofs.bodies.step.Goals as goal
 
-pub returns-in_ok-body-in-Once-clause-like : goal.returns-in_ok-body-in-Once-clause-like
-returns-in_ok-body-in-Once-clause-like c = rw c.in-Once.is
-    (single c.in_ok-body-in-Once.ensures.like no_steps)
+pub returns-in_ok-body-in-Once-clause-same : goal.returns-in_ok-body-in-Once-clause-same
+returns-in_ok-body-in-Once-clause-same c = rw c.in-Once.is
+    (ap (λ b. Single b ∷ []) c.in_ok-body-in-Once.ensures.same)
 
-pub returns-in_ok-body-in-Each-clause-like : goal.returns-in_ok-body-in-Each-clause-like
-returns-in_ok-body-in-Each-clause-like c = rw c.in-Each.is
-    (along c.in_ok-body-in-Each.ensures.like no_steps)
+pub returns-in_ok-body-in-Each-clause-same : goal.returns-in_ok-body-in-Each-clause-same
+returns-in_ok-body-in-Each-clause-same c = rw c.in-Each.is
+    (ap (λ b. Along b ∷ []) c.in_ok-body-in-Each.ensures.same)

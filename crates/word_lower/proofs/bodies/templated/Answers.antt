@@ -1,5 +1,5 @@
 use Rattle.std.proofs.Common.{arith}
-use Rattle.word_lower.proofs.LikeTemplates.{all_below, template_like, template_made}
+use Rattle.word_lower.proofs.LikeTemplates.{all_below, template_same, template_made}
 use Rattle.word_lower.proofs.Own.{own_graph, own_sorted}
 use Rattle.word_lower.proofs.bodies.templated.Goals as goal
 
@@ -10,8 +10,8 @@ made-requires-clause-graph c = own_graph _ c.args.nodes.now
 pub made-requires-clause-sorted : goal.made-requires-clause-sorted
 made-requires-clause-sorted c = own_sorted _ c.args.nodes.now c.requires.own
 
-pub returns-clause-like : goal.returns-clause-like
-returns-clause-like c = template_like c.args.owners c.args.reads.now c.args.writes.now
+pub returns-clause-same : goal.returns-clause-same
+returns-clause-same c = template_same c.args.owners c.args.reads.now c.args.writes.now
     c.args.nodes.now c.args.outs.now _ _ _ _ c.in_ok-places.ensures c.in_ok-places-2.ensures
     c.in_ok-made.ensures.graph c.in_ok-made.ensures.outs
 

@@ -4,6 +4,7 @@ use Rattle.loop_ir.specs.Plain.{steps_of}
 use Rattle.loop_ir.specs.Statements.{slots_of}
 use Rattle.word_lower.specs.Places.{AreAt}
 use Rattle.word_mul.proofs.Whole.{has_bits, statement_lowered, statement_few}
+use Rattle.word_mul.proofs.Whole.{statement_written}
 use Rattle.word_mul.proofs.lower.lower_nested.Goals as goal
 
 pub program-requires-clause-bits : goal.program-requires-clause-bits
@@ -30,6 +31,16 @@ returns-clause-few c =
     let n = c.args.names.now in
     let w = c.in-Word in
     statement_few (slots_of n) n.free_bit n.free_word (statement c.args.s.now) w.dst w.op
+    w.args.items (ap statement w.is) c.requires.nested c.requires.meets c.requires.placed
+    c.rows.result (λ t ss found at. c.rows.ensures t ss found
+    (subst (λ ns. AreAt (slots_of n) ns ss) (sym c.deref.ensures.value) at))
+    (steps_of c.in_ok-p-in-Word.p) c.in_ok-p-in-Word.ensures
+
+pub returns-clause-written : goal.returns-clause-written
+returns-clause-written c =
+    let n = c.args.names.now in
+    let w = c.in-Word in
+    statement_written (slots_of n) n.free_bit n.free_word (statement c.args.s.now) w.dst w.op
     w.args.items (ap statement w.is) c.requires.nested c.requires.meets c.requires.placed
     c.rows.result (λ t ss found at. c.rows.ensures t ss found
     (subst (λ ns. AreAt (slots_of n) ns ss) (sym c.deref.ensures.value) at))
