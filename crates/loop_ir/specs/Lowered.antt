@@ -80,7 +80,7 @@ args_width slots n (name ∷ names) = width n (kind_at (slots name))
 
 -- the greatest number of commands that the statement may take
 abbrev pub ceiling_of : Slots → Statement → ℕ → ℕ
-ceiling_of slots (Compute target p args) n = op_ceiling p (args_width slots n args)
+ceiling_of slots (Compute target second p args) n = op_ceiling p (args_width slots n args)
 ceiling_of slots (Visit block) n = block_ceiling block n
 
 -- A statement's loop program: well formed, such that code can be made of it over the statement's

@@ -2,6 +2,7 @@
 use Rattle.std.specs.Prelude.{◌≡◌, ◌⊎◌, ℕ, ◌+◌, ◌<◌, ◌≤◌, Bool, true, false, not, ◌||◌, List, []}
 use Rattle.std.specs.Prelude.{◌∷◌, ◌++◌, map, filter, length, Option, Some, None, is_some, bytes_eq}
 use Rattle.std.specs.List.{AllByRecursion}
+use Rattle.std.specs.Option.{option_to_list}
 use Rattle.indexmap.specs.IndexMap.{get}
 use Rattle.op_text.specs.declared.tree.Kind.{Kind}
 use Rattle.op_text.specs.declared.tree.Kind.TheVariants.{Word, Bit}
@@ -10,7 +11,7 @@ use Rattle.op_text.specs.Language.{Term, Nought, Unity, Named, Negation, Conjunc
 use Rattle.op_text.specs.Language.{Parity, Majority, Equation, Block, Statement, Compute, Visit}
 use Rattle.op_text.specs.Rules.{is_among, MAX_STATES, MAX_LETS, MAX_ASSIGNS, MAX_WEIGHT}
 use Rattle.op_text.specs.Spelling.{TermMeets}
-use Rattle.op_text.specs.WordOps.{forms, filled}
+use Rattle.op_text.specs.WordOps.{forms, filled, second_kind}
 use Rattle.op_text.specs.Scratch.{bits_inside, words_inside, need_inside, block_weight, state_names}
 use Rattle.op_text.specs.Scratch.{word_names}
 use Rattle.loop_ir.specs.declared.ir.Space.{Space}
@@ -67,12 +68,12 @@ block_reads b = filter (λ name. not (is_among (targets_of b.lets) name)) (equat
 
 -- the names that a statement reads as they stand before it: a block sets its states first
 abbrev pub read_names : Statement → List (List ℕ)
-read_names (Compute target p args) = args
+read_names (Compute target second p args) = args
 read_names (Visit b) = filter (λ name. not (is_among (state_names b) name)) (block_reads b)
 
 -- the names that it sets
 abbrev pub written_names : Statement → List (List ℕ)
-written_names (Compute target p args) = target ∷ []
+written_names (Compute target second p args) = target ∷ option_to_list second
 written_names (Visit b) = state_names b ++ word_names b
 
 -- its names other than its lets
@@ -105,16 +106,30 @@ HaveKinds slots [] (k ∷ ks) = ⊥
 HaveKinds slots (name ∷ names) [] = ⊥
 HaveKinds slots (name ∷ names) (k ∷ ks) = HasKind slots name k × HaveKinds slots names ks
 
+-- a second target has this kind, and is neither the first nor an argument
+pub record IsSecondTarget (slots : Slots) (target : List ℕ) (args : List (List ℕ)) (kind : Kind)
+    (name : List ℕ) : Type 0 where
+  pub gives : HasKind slots name kind
+  pub fresh : is_among args name ≡ false
+  pub other : bytes_eq target name ≡ false
+
+-- there is a second target exactly where the operation has a second result, of this kind
+abbrev pub SecondMeets : Slots → List ℕ → List (List ℕ) → Option (List ℕ) → Option Kind → Type 0
+SecondMeets slots target args None None = Unit {0}
+SecondMeets slots target args (Some name) (Some kind) = IsSecondTarget slots target args kind name
+SecondMeets slots target args second kind = ⊥
+
 -- A word statement meets the rules: its arguments have the kinds of a form of its operation, the
--- target has the kind that the form gives, and is no argument
-pub record ComputeMeets (slots : Slots) (target : List ℕ) (p : WordOp) (args : List (List ℕ)) : Type
-    0 where
+-- target has the kind that the form gives, and is no argument; and so with a second target
+pub record ComputeMeets (slots : Slots) (target : List ℕ) (second : Option (List ℕ)) (p : WordOp)
+    (args : List (List ℕ)) : Type 0 where
   pub kinds : List Kind
   pub kind : Kind
   pub have : HaveKinds slots args kinds
   pub form : filled (forms p) kinds ≡ Some kind
   pub gives : HasKind slots target kind
   pub fresh : is_among args target ≡ false
+  pub others : SecondMeets slots target args second (second_kind p)
 
 -- each let reads names that can be read, and earlier lets; the assignments read all of these
 abbrev pub LetsMeet : (List ℕ → Bool) → List Equation → List Equation → Type 0
@@ -148,5 +163,5 @@ pub record BlockMeets (slots : Slots) (b : Block) : Type 0 where
 
 -- the statement is one of an operation that meets the rules
 abbrev pub StatementMeets : Slots → Statement → Type 0
-StatementMeets slots (Compute target p args) = ComputeMeets slots target p args
+StatementMeets slots (Compute target second p args) = ComputeMeets slots target second p args
 StatementMeets slots (Visit b) = BlockMeets slots b

@@ -1,5 +1,7 @@
 -- When a program implements the operations of a text.
-use Rattle.std.specs.Prelude.{◌≡◌, ℕ, List, [], ◌∷◌, map, None}
+use Rattle.std.specs.Prelude.{◌≡◌, ℕ, List, [], ◌∷◌, map}
+use Rattle.std.specs.Option.{option_map}
+use Rattle.op_text.specs.declared.tree.Param.{Param}
 use Rattle.op_text.specs.Language.{Operation}
 use Rattle.op_text.specs.Meaning.{meaning}
 use Rattle.op_text.specs.Scratch.{scratch_bits, scratch_words, ceiling}
@@ -14,12 +16,12 @@ pub record TextOp : Type 0 where
   pub ceiling : ℕ → ℕ
   pub meaning : ℕ → List ℕ → List ℕ
 
--- the kinds of an op's sources and result (an op of the language has one), and its scratch
+-- the kinds of an op's sources and of its one or two results, and its scratch
 abbrev pub op_shape : Operation → Shape
 op_shape op = record {
   sources = map (λ p. p.kind) op.params;
   result = op.result.kind;
-  second = None;
+  second = option_map (λ (p : Param). p.kind) op.second;
   bits = scratch_bits op;
   words = scratch_words op;
 }
@@ -29,7 +31,7 @@ text_op op = record {
   name = op.name;
   shape = op_shape op;
   ceiling = ceiling op;
-  meaning = λ n values. meaning op n values ∷ [];
+  meaning = meaning op;
 }
 
 -- the entry is the op's, and its code does the op

@@ -251,6 +251,7 @@ op_lowers op.IfElse k t args free l e h =
       | inr f ↦ lower_3 op.IfElse t k free h Bit Bit Bit Bit args f.1 f.0 on_if_else_bit
     ]
 op_lowers op.Bitcount k t args free l e h = cc
+op_lowers op.Divmod k t args free l e h = cc
 op_lowers op.AndRed k t args free l e h = by_word op.AndRed t k free h Bit args e on_and_red
 op_lowers op.OrRed k t args free l e h = by_word op.OrRed t k free h Bit args e on_or_red
 op_lowers op.XorRed k t args free l e h = by_word op.XorRed t k free h Bit args e on_xor_red

@@ -1,15 +1,17 @@
 -- A loop program like an operation's one does the statement.
 use Rattle.std.proofs.Common.{◌≡◌, inl, inr, ℕ, zero, suc, ◌+◌, ◌*◌, ◌/◌, ◌<◌, ◌≤◌, Bool, true}
-use Rattle.std.proofs.Common.{false, List, [], ◌∷◌, map, length, Option, Some, None, refl, sym, ap}
+use Rattle.std.proofs.Common.{false, List, [], ◌∷◌, ◌++◌, map, length, Option, Some, None, refl, sym, ap}
 use Rattle.std.proofs.Common.{◌∙◌, subst, ⊎_elim, arith}
 use Rattle.std.specs.Prelude.{◌||◌, bytes_eq, unwrap_or, if◌then◌else◌}
+use Rattle.std.specs.Option.{option_to_list}
 use Rattle.std.proofs.lemmas.Nat.{div-mul-add}
 use Rattle.std.proofs.lemmas.Slice.Eq.{bytes_eq-Decides}
 use Rattle.op_text.specs.declared.tree.Kind.{Kind}
 use Rattle.op_text.specs.declared.tree.Kind.TheVariants.{Word, Bit}
 use Rattle.op_text.specs.declared.tree.WordOp.{WordOp}
 use Rattle.op_text.specs.Values.{bits, value, op_value}
-use Rattle.op_text.specs.WordOps.{forms, filled}
+use Rattle.op_text.specs.declared.tree.WordOp.TheVariants as op
+use Rattle.op_text.specs.WordOps.{forms, filled, second_kind}
 use Rattle.op_text.specs.Language.{Compute}
 use Rattle.op_text.specs.Rules.{is_among}
 use Rattle.op_text.specs.Meaning.{Held, width, number, args_width, computed, after_statement}
@@ -22,7 +24,7 @@ use Rattle.loop_ir.specs.Loops.{all_rounds}
 use Rattle.loop_ir.specs.Spots.{Spot, Spots, spot_in, after_rounds, IsOwn}
 use Rattle.loop_ir.specs.Like.{LikeSteps}
 use Rattle.loop_ir.specs.Statements.{Slots, holds_kind, statement_names, IsPlaced, HaveKinds}
-use Rattle.loop_ir.specs.Statements.{ComputeMeets}
+use Rattle.loop_ir.specs.Statements.{SecondMeets, ComputeMeets}
 use Rattle.loop_ir.specs.Lowered.{slot_spot, slot_bits, HoldsAt, Holds, IsStatementRow}
 use Rattle.loop_ir.specs.Lowered.{Does, IsLowered}
 use Rattle.loop_ir.specs.Lowered as l
@@ -147,23 +149,31 @@ kinds_at slots (n ∷ ns) (s ∷ ss) (k ∷ ks) at have =
     ap (λ x. x ∷ map (λ (s : Slot). s.kind) ss) (ap (λ (s : Slot). s.kind) e ∙ have.0.kind)
     ∙ ap (λ xs. k ∷ xs) (kinds_at slots ns ss ks at.1 have.1)
 
-module _ (slots : Slots) (free_bit free_word : ℕ) (target : List ℕ) (p : WordOp)
-    (args : List (List ℕ)) (meets : ComputeMeets slots target p args)
-    (placed : IsPlaced slots free_bit free_word (Compute target p args)) (t : Slot)
+among_behind : (second : Option (List ℕ)) (args : List (List ℕ)) (name : List ℕ)
+    → is_among args name ≡ true → is_among (option_to_list second ++ args) name ≡ true
+among_behind None args name e = e
+among_behind (Some x) args name e = or_right (bytes_eq x name) (is_among args name) e
+
+module _ (slots : Slots) (free_bit free_word : ℕ) (target : List ℕ)
+    (second : Option (List ℕ)) (p : WordOp) (args : List (List ℕ))
+    (meets : ComputeMeets slots target second p args)
+    (placed : IsPlaced slots free_bit free_word (Compute target second p args)) (t : Slot)
     (found : slots target ≡ Some t) (ss : List Slot) (at : AreAt slots args ss) where
-  pub among_target : is_among (statement_names (Compute target p args)) target ≡ true
-  among_target = or_left (bytes_eq target target) (is_among args target)
+  pub among_target : is_among (statement_names (Compute target second p args)) target ≡ true
+  among_target = or_left (bytes_eq target target) (is_among (option_to_list second ++ args) target)
       (same_name target target refl)
 
-  pub among_arg : (i : ℕ) → i < length args → is_among (statement_names (Compute target p args))
+  pub among_arg : (i : ℕ) → i < length args → is_among (statement_names (Compute target second p args))
       (name_at args i) ≡ true
-  among_arg i lt = or_right (bytes_eq target (name_at args i)) (is_among args (name_at args i))
-      (among_at args i lt)
+  among_arg i lt = or_right (bytes_eq target (name_at args i))
+      (is_among (option_to_list second ++ args) (name_at args i))
+      (among_behind second args (name_at args i) (among_at args i lt))
 
-  pub written : is_among (target ∷ []) target ≡ true
-  written = or_left (bytes_eq target target) false (same_name target target refl)
+  pub written : is_among (target ∷ option_to_list second) target ≡ true
+  written = or_left (bytes_eq target target) (is_among (option_to_list second) target)
+      (same_name target target refl)
 
-  pub holds : (name : List ℕ) (x : Slot) → is_among (statement_names (Compute target p args)) name
+  pub holds : (name : List ℕ) (x : Slot) → is_among (statement_names (Compute target second p args)) name
       ≡ true → slots name ≡ Some x → holds_kind x.space x.kind ≡ true
   holds name x a f = let h = placed.there name a in let e : h.0 ≡ x =
       same_slot h.0 x (sym h.1 ∙ f) in subst (λ (x : Slot). holds_kind x.space x.kind ≡ true) e h.2
@@ -184,7 +194,7 @@ module _ (slots : Slots) (free_bit free_word : ℕ) (target : List ℕ) (p : Wor
       }
 
   pub scratch_apart : (n j : ℕ) (name : List ℕ) (x : Slot) → j < bits_inside p
-      → is_among (statement_names (Compute target p args)) name ≡ true → slots name ≡ Some x
+      → is_among (statement_names (Compute target second p args)) name ≡ true → slots name ≡ Some x
       → AreApart n x (scratch_bit (free_bit + j))
   scratch_apart n j name x lj a f = record {
     by = λ u v lu lv e.
@@ -231,7 +241,7 @@ module _ (slots : Slots) (free_bit free_word : ℕ) (target : List ℕ) (p : Wor
   view_row : (n k v : ℕ) (q : Spot) (r : Room)
       → RoomView t ss (scratch_from free_bit (bits_inside p)) k r → v < extent n r.rows
       → q ≡ spot_in n r.space r.which v → IsStatementRow slots free_bit free_word
-      (Compute target p args) n q
+      (Compute target second p args) n q
   view_row n k v q r (is_target e f) lt g =
       let x : extent n r.rows ≡ width n t.kind = ap (λ (z : Room). extent n z.rows) f
       ∙ extent_is n t.kind in
@@ -273,16 +283,16 @@ module _ (slots : Slots) (free_bit free_word : ℕ) (target : List ℕ) (p : Wor
 
   pub row_of : (n : ℕ) (q : Spot)
       → IsOwned n (rooms_of t ss (scratch_from free_bit (bits_inside p))) q
-      → IsStatementRow slots free_bit free_word (Compute target p args) n q
+      → IsStatementRow slots free_bit free_word (Compute target second p args) n q
   row_of n q o =
       view_row n o.0 o.1 q (room_at (rooms_of t ss (scratch_from free_bit (bits_inside p))) o.0)
       (room_view t ss (scratch_from free_bit (bits_inside p)) o.0 o.2) o.3 o.4
 
   pub form : (k : Kind) → is_linear p ≡ true → Lowers p k t ss free_bit
-      → HasForm (IsStatementRow slots free_bit free_word (Compute target p args))
+      → HasForm (IsStatementRow slots free_bit free_word (Compute target second p args))
       (steps_on p k t ss free_bit)
   form k linear lowers =
-      marks_are_enough (IsStatementRow slots free_bit free_word (Compute target p args))
+      marks_are_enough (IsStatementRow slots free_bit free_word (Compute target second p args))
       (rooms_of t ss (scratch_from free_bit (bits_inside p))) (program p k)
       (λ n some most. rooms_apart n t ss (scratch_from free_bit (bits_inside p)) (pieces n))
       (λ n some most. row_of n) lowers.fit lowers.short
@@ -363,12 +373,12 @@ named_width n slots (name ∷ names) [] at = absurd at
 named_width n slots (name ∷ names) (s ∷ ss) at = ap (λ x. width n (l.kind_at x)) at.0
 
 module _ (slots : Slots) (free_bit free_word : ℕ) (target : List ℕ) (p : WordOp)
-    (args : List (List ℕ)) (linear : is_linear p ≡ true) (meets : ComputeMeets slots target p args)
-    (placed : IsPlaced slots free_bit free_word (Compute target p args)) (t : Slot)
+    (args : List (List ℕ)) (linear : is_linear p ≡ true) (meets : ComputeMeets slots target None p args)
+    (placed : IsPlaced slots free_bit free_word (Compute target None p args)) (t : Slot)
     (found : slots target ≡ Some t) (ss : List Slot) (at : AreAt slots args ss) where
   lowers : Lowers p t.kind t ss free_bit
   lowers = op_lowers p t.kind t ss free_bit linear
-      (form_filled slots free_bit free_word target p args meets placed t found ss at) refl
+      (form_filled slots free_bit free_word target None p args meets placed t found ss at) refl
 
   -- what the target holds after the statement
   answer : (n : ℕ) (held : List ℕ → Held) (before after : Spots)
@@ -381,7 +391,7 @@ module _ (slots : Slots) (free_bit free_word : ℕ) (target : List ℕ) (p : Wor
       let k : unwrap_or (filled (forms p) (map (λ (h : Held). h.kind) (map held args))) Word
       ≡ t.kind = ap (λ ks. unwrap_or (filled (forms p) ks) Word)
       (held_kinds n held before args ss a)
-      ∙ ap (λ x. unwrap_or x Word) (form_filled slots free_bit free_word target p args meets
+      ∙ ap (λ x. unwrap_or x Word) (form_filled slots free_bit free_word target None p args meets
       placed t found ss at) in
       let v : op_value p (args_width n (map held args)) (map number (map held args))
       ≡ op_value p (slots_width n ss) (map (λ s. value (slot_bits n before s)) ss) =
@@ -393,7 +403,7 @@ module _ (slots : Slots) (free_bit free_word : ℕ) (target : List ℕ) (p : Wor
       )
 
   does_op : (n : ℕ) → 0 < n → DoesOp p n t.kind t ss free_bit
-  does_op n some = lowers.does n some (pieces slots free_bit free_word target p args meets placed t
+  does_op n some = lowers.does n some (pieces slots free_bit free_word target None p args meets placed t
       found ss at n)
 
   module _ (steps : List (StepOf Block)) (like : LikeSteps steps (steps_on p t.kind t ss free_bit))
@@ -405,7 +415,7 @@ module _ (slots : Slots) (free_bit free_word : ℕ) (target : List ℕ) (p : Wor
           ≡ after_rounds n (all_rounds n (steps_on p t.kind t ss free_bit)) rows
       after_is n rows = alike_do_the_same steps (steps_on p t.kind t ss free_bit) like n rows
 
-      does : (n : ℕ) → 0 < n → Does slots free_bit free_word (Compute target p args) n steps
+      does : (n : ℕ) → 0 < n → Does slots free_bit free_word (Compute target None p args) n steps
       does n some = record {
         gives = λ held rows h name e.
             (let new = after_rounds n (all_rounds n steps) rows in
@@ -414,14 +424,14 @@ module _ (slots : Slots) (free_bit free_word : ℕ) (target : List ℕ) (p : Wor
             let g : slot_bits n new t ≡ bits (op_value p (slots_width n ss)
             (map (λ s. value (slot_bits n rows s)) ss)) (width n t.kind) =
             ap (λ (b : Spots). slot_bits n b t) (after_is n rows) ∙ (does_op n some).gives rows in
-            let one : HoldsAt n (Some t) (after_statement n held (Compute target p args) target)
+            let one : HoldsAt n (Some t) (after_statement n held (Compute target None p args) target)
             new =
             subst (λ (c : Bool). HoldsAt n (Some t) (if c then computed n p (map held args)
             else held target) new) (sym (same_name target target refl))
             (answer n held rows new h g) in
-            subst (λ x. Holds n slots (after_statement n held (Compute target p args)) new x) same
+            subst (λ x. Holds n slots (after_statement n held (Compute target None p args)) new x) same
             (subst (λ (x : Option Slot). HoldsAt n x
-            (after_statement n held (Compute target p args) target) new) (sym found) one));
+            (after_statement n held (Compute target None p args) target) new) (sym found) one));
         keeps = λ rows q out.
             ap (λ (b : Spots). b q) (after_is n rows)
             ∙ (does_op n some).keeps rows q (λ v lv e.
@@ -429,7 +439,7 @@ module _ (slots : Slots) (free_bit free_word : ℕ) (target : List ℕ) (p : Wor
               target,
               t,
               v,
-              written slots free_bit free_word target p args meets placed t
+              written slots free_bit free_word target None p args meets placed t
                   found ss at,
               found,
               lv,
@@ -442,12 +452,12 @@ module _ (slots : Slots) (free_bit free_word : ℕ) (target : List ℕ) (p : Wor
           only false e = cc
 
       pub lowered : AllParts IsMade steps → IsLowered slots free_bit free_word
-          (Compute target p args)
+          (Compute target None p args)
           steps
       lowered made =
-          let c = alike_compile (IsStatementRow slots free_bit free_word (Compute target p args))
+          let c = alike_compile (IsStatementRow slots free_bit free_word (Compute target None p args))
           steps (steps_on p t.kind t ss free_bit) like made
-          (form slots free_bit free_word target p args meets placed t found ss at t.kind linear
+          (form slots free_bit free_word target None p args meets placed t found ss at t.kind linear
           lowers) in
           record {
             well = c.0;
@@ -460,19 +470,33 @@ module _ (slots : Slots) (free_bit free_word : ℕ) (target : List ℕ) (p : Wor
                 omega (arith, a, b, w));
           }
 
+-- an operation that takes one pass has no second target
+pub alone : (slots : Slots) (target : List ℕ) (second : Option (List ℕ)) (args : List (List ℕ))
+    (p : WordOp) → is_linear p ≡ true → SecondMeets slots target args second (second_kind p)
+    → second ≡ None
+alone slots target None args p linear h = refl
+alone slots target (Some x) args op.Divmod linear h = cc
+alone slots target (Some x) args p linear h = absurd h
+
 -- a program like the one on the owners' places does the statement
-pub lowered_on : (slots : Slots) (free_bit free_word : ℕ) (target : List ℕ) (p : WordOp)
-    (args : List (List ℕ)) (linear : is_linear p ≡ true) (meets : ComputeMeets slots target p args)
-    (placed : IsPlaced slots free_bit free_word (Compute target p args)) (t : Slot)
+pub lowered_on : (slots : Slots) (free_bit free_word : ℕ) (target : List ℕ)
+    (second : Option (List ℕ)) (p : WordOp) (args : List (List ℕ)) (linear : is_linear p ≡ true)
+    (meets : ComputeMeets slots target second p args)
+    (placed : IsPlaced slots free_bit free_word (Compute target second p args)) (t : Slot)
     (found : slots target ≡ Some t) (ss : List Slot) (at : AreAt slots args ss)
     (steps : List (StepOf Block))
     → LikeSteps steps (program_on (owners_of t ss free_bit) (program p t.kind))
-    → AllParts IsMade steps → IsLowered slots free_bit free_word (Compute target p args) steps
-lowered_on slots free_bit free_word target p args linear meets placed t found ss at steps like
-    made =
-    lowered slots free_bit free_word target p args linear meets placed t found ss at steps
-    (subst (LikeSteps steps) (lowers slots free_bit free_word target p args linear meets placed
-    t found ss at).same like) made
+    → AllParts IsMade steps
+    → IsLowered slots free_bit free_word (Compute target second p args) steps
+lowered_on slots free_bit free_word target second p args linear meets placed t found ss at steps
+    like made =
+    let none = alone slots target second args p linear meets.others in
+    let m = subst (λ x. ComputeMeets slots target x p args) none meets in
+    let q = subst (λ x. IsPlaced slots free_bit free_word (Compute target x p args)) none placed in
+    subst (λ x. IsLowered slots free_bit free_word (Compute target x p args) steps) (sym none)
+    (lowered slots free_bit free_word target p args linear m q t found ss at steps
+    (subst (LikeSteps steps) (lowers slots free_bit free_word target p args linear m q t
+    found ss at).same like) made)
 
 -- the arguments have places
 pub record Places (slots : Slots) (names : List (List ℕ)) : Type 0 where

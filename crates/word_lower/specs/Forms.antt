@@ -11,13 +11,13 @@ use Rattle.word_lower.specs.Shapes.{owners_of, program_on}
 
 -- a block's steps are its states' starts and then its graph at each position
 abbrev pub HasForm : Slots → Statement → List (StepOf Block) → Type 0
-HasForm slots (Compute target p args) steps = Unit {0}
+HasForm slots (Compute target second p args) steps = Unit {0}
 HasForm slots (Visit block) steps = IsBlockProgram slots block steps
 
 -- a word operation's steps are its loop program's, node for node, at the places of the target, of
 -- the arguments and of the first free bit of scratch
 abbrev pub IsWritten : Slots → ℕ → Statement → List (StepOf Block) → Type 0
-IsWritten slots free_bit (Compute target p args) steps = (t : Slot) (ss : List Slot)
+IsWritten slots free_bit (Compute target second p args) steps = (t : Slot) (ss : List Slot)
     → slots target ≡ Some t → AreAt slots args ss
     → steps ≡ program_on (owners_of t ss free_bit) (program p t.kind)
 IsWritten slots free_bit (Visit block) steps = Unit {0}

@@ -185,9 +185,10 @@ is_linear o.Mul = false
 is_linear o.Div = false
 is_linear o.Rem = false
 is_linear o.Bitcount = false
+is_linear o.Divmod = false
 is_linear p = true
 
 -- the statement is a serial block, or one of these
 abbrev pub is_linear_statement : Statement → Bool
-is_linear_statement (Compute target p args) = is_linear p
+is_linear_statement (Compute target second p args) = is_linear p
 is_linear_statement (Visit block) = true

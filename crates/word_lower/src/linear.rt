@@ -66,22 +66,23 @@ fn owners(names: &NameMap, target: &Name, args: &[Name]) -> Owners
     }
 }
 
-/// The loop program of a word operation that takes one pass over a word.
+/// The loop program of a word operation that takes one pass over a word. It has no second target.
 fn lower_word(
     target: &Name,
+    _second: &Option<Name>,
     op: WordOp,
     args: &[Name],
     names: &NameMap,
     alloc: Global,
 ) -> Result<LoopProgram, NoMemory>
-    requires meets { ComputeMeets (slots_of names.now) target.now op args.now }
+    requires meets { ComputeMeets (slots_of names.now) target.now _second.now op args.now }
     requires placed { IsPlaced (slots_of names.now) names.now.free_bit names.now.free_word
-        (Compute target.now op args.now) }
+        (Compute target.now _second.now op args.now) }
     requires linear { is_linear op ≡ true }
     ensures lowered { IfOk result (λ p. IsLowered (slots_of names.now) names.now.free_bit
-        names.now.free_word (Compute target.now op args.now) (steps_of p)) }
+        names.now.free_word (Compute target.now _second.now op args.now) (steps_of p)) }
     ensures written { IfOk result (λ p. IsWritten (slots_of names.now) names.now.free_bit
-        (Compute target.now op args.now) (steps_of p)) }
+        (Compute target.now _second.now op args.now) (steps_of p)) }
 {
     let owners = owners(names, target, args);
     let p = program(&lines(op, owners.target.kind), owners, alloc)?;
@@ -105,7 +106,12 @@ pub fn lower_linear(s: &Stmt, names: &NameMap, alloc: Global) -> Result<LoopProg
         (statement s.now) (steps_of p)) }
 {
     match s {
-        Stmt::Word { dst, op, args } => lower_word(dst, *op, args, names, alloc),
+        Stmt::Word {
+            dst,
+            second,
+            op,
+            args,
+        } => lower_word(dst, second, *op, args, names, alloc),
         Stmt::Serial {
             down,
             states,
