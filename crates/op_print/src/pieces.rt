@@ -22,7 +22,7 @@ pub(crate) fn put_comma(out: &mut Vec<u8>) -> Result<(), NoMemory>
 }
 
 /// A word operation's name.
-pub(crate) fn op_name(op: WordOp) -> &'static [u8]
+pub fn op_name(op: WordOp) -> &'static [u8]
     ensures { result.now ≡ op_text op }
 {
     match op {

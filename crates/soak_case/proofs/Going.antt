@@ -1,0 +1,130 @@
+-- How the loops go on: the cases, the values of a source, and the sum of a bank.
+use Rattle.std.proofs.Common.{◌≡◌, ℕ, zero, suc, ◌+◌, ◌*◌, ◌/◌, ◌%◌, ◌^◌, ◌<◌, ◌≤◌, List, [], ◌∷◌, ◌++◌}
+use Rattle.std.proofs.Common.{length, map, take, drop, get_or, set, refl, sym, ap, ◌∙◌, arith, append_assoc}
+use Rattle.std.specs.Prelude.{sum_by, flat_map}
+use Rattle.std.specs.Prelude.{All}
+use Rattle.std.specs.List.{range_with_len, AllByRecursion}
+use Rattle.std.proofs.lemmas.List.Elements.{All-from_recursion}
+use Rattle.std.proofs.lemmas.List.Sums.{sum_by-append}
+use Rattle.std.proofs.Math.Nat.{add-mod, mod-eq_of_lt, mod-lt}
+use Rattle.std.proofs.Math.Pow.{pow-lt}
+use Rattle.std.proofs.Math.Seq.{take-suc-set, drop-cons}
+use Rattle.std.proofs.lemmas.Nat.{pow_pos}
+use Rattle.std.proofs.lemmas.Bool.Decides.{nat_tests}
+use Rattle.std.proofs.lemmas.List.FromFn.{map-range_with_len_more}
+use Rattle.transpose_unit.specs.Stage.{stage_rows}
+use Rattle.rand_xoshiro.specs.SplitMix64.{mix_u64}
+use Rattle.op_text.specs.declared.tree.Kind.{Kind}
+use Rattle.op_text.specs.declared.tree.Kind.TheVariants.{Word}
+use Rattle.op_text.specs.declared.tree.WordOp.{WordOp}
+use Rattle.op_text.specs.declared.tree.WordOp.TheVariants as o
+use Rattle.op_text.specs.WordOps.{all_ops}
+use Rattle.op_text.specs.Scratch.{param}
+use Rattle.soak_case.specs.declared.cases.Case.{Case}
+use Rattle.soak_case.specs.Cases.{at_widths, params_of, soak_cases}
+use Rattle.soak_case.specs.Words.{elements, value_at, values_of, word_at}
+
+-- the cases of one operation more
+pub cases_more : (items new : List Case) (i : ℕ) (op : WordOp) → i < 26 → op ≡ get_or all_ops i o.Not
+    → new ≡ items ++ at_widths op
+    → soak_cases ≡ items ++ flat_map at_widths (drop i all_ops)
+    → soak_cases ≡ new ++ flat_map at_widths (drop (i + 1) all_ops)
+cases_more items new i op l e n h =
+    let one : suc i ≡ i + 1 = omega arith in
+    h ∙ ap (λ (ops : List WordOp). items ++ flat_map at_widths ops) (drop-cons all_ops i o.Not l)
+    ∙ ap (λ (x : WordOp). items ++ (at_widths x ++ flat_map at_widths (drop (suc i) all_ops))) (sym e)
+    ∙ sym (append_assoc items (at_widths op) (flat_map at_widths (drop (suc i) all_ops)))
+    ∙ ap (λ (xs : List Case). xs ++ flat_map at_widths (drop (suc i) all_ops)) (sym n)
+    ∙ ap (λ k. new ++ flat_map at_widths (drop k all_ops)) one
+
+-- the bit that a width shifts out
+pub shifted : (b : ℕ) → b ≤ 64 → 1 * 2 ^ b % 2 ^ 128 ≡ 2 ^ b
+shifted b l =
+    let one : 1 * 2 ^ b ≡ 2 ^ b = omega arith in
+    let small : 2 ^ b < 2 ^ 128 = pow-lt {i = b} {j = 128} (omega arith) in
+    ap (λ x. x % 2 ^ 128) one ∙ mod-eq_of_lt small
+
+small_each : (state bits : ℕ) (is : List ℕ)
+    → AllByRecursion (λ v. v < 2 ^ bits) (map (value_at state bits) is)
+small_each state bits [] = tt
+small_each state bits (i ∷ is) = (mod-lt (word_at state i) (pow_pos bits), small_each state bits is)
+
+-- each value has so many bits
+pub values_small : (state bits : ℕ) → All (λ v. v < 2 ^ bits) (values_of state bits)
+values_small state bits = All-from_recursion (λ v. v < 2 ^ bits) (values_of state bits)
+    (small_each state bits (range_with_len 0 elements))
+
+-- one value more
+pub values_more : (values : List ℕ) (f : ℕ → ℕ) (i x : ℕ) → i < length values → x ≡ f i
+    → take i values ≡ map f (range_with_len 0 i)
+    → take (i + 1) (set values i x) ≡ map f (range_with_len 0 (i + 1))
+values_more values f i x l e h =
+    let one : i + 1 ≡ suc i = omega arith in
+    ap (λ n. take n (set values i x)) one ∙ take-suc-set values i x l ∙ ap (λ (front : List ℕ). front ++ x ∷ []) h
+    ∙ ap (λ y. map f (range_with_len 0 i) ++ y ∷ []) e
+    ∙ sym (map-range_with_len_more f 0 i i (omega arith))
+
+pub sum_cons : {X : Type 0} (f : X → ℕ) (x : X) (xs : List X)
+    → sum_by f (x ∷ xs) ≡ f x + sum_by f xs
+sum_cons f x xs =
+    let h : sum_by f (x ∷ xs) ≡ sum_by f (x ∷ []) + sum_by f xs = sum_by-append f (x ∷ []) xs in
+    let one : sum_by f (x ∷ []) ≡ 0 + f x = refl in omega (arith, h, one)
+
+sums_from : (f : ℕ → ℕ) (a n : ℕ)
+    → sum_by f (range_with_len a (suc n)) ≡ sum_by f (range_with_len a n) + f (a + n)
+sums_from f a zero = let e : f a ≡ f (a + 0) = ap f (omega arith) in omega (arith, e)
+sums_from f a (suc n) =
+    let rest = sums_from f (a + 1) n in
+    let e : f (a + 1 + n) ≡ f (a + suc n) = ap f (omega arith) in
+    let whole : sum_by f (range_with_len a (suc (suc n)))
+    ≡ f a + sum_by f (range_with_len (a + 1) (suc n)) =
+    sum_cons f a (range_with_len (a + 1) (suc n)) in
+    let part : sum_by f (range_with_len a (suc n)) ≡ f a + sum_by f (range_with_len (a + 1) n) =
+    sum_cons f a (range_with_len (a + 1) n) in omega (arith, rest, e, whole, part)
+
+sums_more : (f : ℕ → ℕ) (k : ℕ)
+    → sum_by f (range_with_len 0 (suc k)) ≡ sum_by f (range_with_len 0 k) + f k
+sums_more f k = let e : f (0 + k) ≡ f k = ap f (omega arith) in sums_from f 0 k
+    ∙ ap (λ x. sum_by f (range_with_len 0 k) + x) e
+
+-- one number more
+pub sum_more : (sum : ℕ) (f : ℕ → ℕ) (k all x : ℕ)
+    → all ≡ (sum + sum_by f (range_with_len 0 k)) % 2 ^ 64 → x ≡ f k % 2 ^ 64
+    → (all + x) % 2 ^ 64 ≡ (sum + sum_by f (range_with_len 0 (k + 1))) % 2 ^ 64
+sum_more sum f k all x h e =
+    let s : ℕ = sum_by f (range_with_len 0 k) in
+    let one : k + 1 ≡ suc k = omega arith in
+    let more : sum_by f (range_with_len 0 (k + 1)) ≡ s + f k =
+    ap (λ n. sum_by f (range_with_len 0 n)) one ∙ sums_more f k in
+    let whole : sum + (s + f k) ≡ sum + s + f k = omega arith in
+    ap (λ y. (y + x) % 2 ^ 64) h ∙ ap (λ y. ((sum + s) % 2 ^ 64 + y) % 2 ^ 64) e
+    ∙ sym (add-mod (sum + s) (f k) (2 ^ 64))
+    ∙ ap (λ y. y % 2 ^ 64) (sym whole)
+    ∙ ap (λ y. (sum + y) % 2 ^ 64) (sym more)
+
+-- the parameters of one kind more
+pub params_more : (ks : List Kind) (names : List (List ℕ)) (i : ℕ) (k : Kind) (name : List ℕ)
+    → i < length ks → i < length names → k ≡ get_or ks i Word → name ≡ get_or names i []
+    → params_of (take (suc i) ks) names ≡ params_of (take i ks) names ++ param name k ∷ []
+params_more [] names i k name l m e f = absurd (omega arith)
+params_more (j ∷ ks) [] i k name l m e f = absurd (omega arith)
+params_more (j ∷ ks) (n ∷ names) zero k name l m e f =
+    ap (λ x. param n x ∷ []) (sym e) ∙ ap (λ x. param x k ∷ []) (sym f)
+params_more (j ∷ ks) (n ∷ names) (suc i) k name l m e f =
+    ap (λ xs. param n j ∷ xs) (params_more ks names i k name (omega arith) (omega arith) e f)
+
+-- a word and the state behind it
+pub drawn_parts : (word next state before : ℕ) → (word, next) ≡ mix_u64 before → before ≡ state
+    → (word ≡ (mix_u64 state).0) × (next ≡ (mix_u64 state).1)
+drawn_parts word next state before e f = (
+  ap (λ (p : ℕ × ℕ). p.0) e ∙ ap (λ s. (mix_u64 s).0) f,
+  ap (λ (p : ℕ × ℕ). p.1) e ∙ ap (λ s. (mix_u64 s).1) f,
+)
+
+rows-low : (n : ℕ) → n ≤ 64 → stage_rows n ≡ 64
+rows-low n l = grind (arith, nat_tests)
+
+-- the words of a row of the stage
+pub two_words : (n : ℕ) (stage : List ℕ) → n ≤ 64 → length stage ≡ 128
+    → length stage / stage_rows n ≡ 2
+two_words n stage l e = rw (e, rows-low n l) refl

@@ -1,0 +1,63 @@
+-- A case's program in both banks.
+use Rattle.std.proofs.Common.{◌≡◌, ℕ, zero, suc, ◌*◌, ◌<◌, List, [], ◌∷◌, ◌++◌, ap, ◌∙◌}
+use Rattle.std.proofs.Common.{subst, arith, append-nil}
+use Rattle.std.specs.Prelude.{Result, Ok, Err, OnOk}
+use Rattle.dram_model.specs.Chip.{Event, Grew}
+use Rattle.dram_model.specs.View.{ChipView, Did, DidRead, with_reads}
+use Rattle.dram_model.proofs.EventLaws.{Grew-more}
+use Rattle.uprog_code.specs.declared.binding.Binding.{Binding}
+use Rattle.uprog_code.specs.Shape.{Microprogram}
+use Rattle.uprog_code.specs.Bound.{Bound, bound, bound_of}
+use Rattle.uprog_code.specs.Machine.{trace, issues_of}
+use Rattle.uprog_ctl.specs.Events.{risen}
+use Rattle.uprog_ctl.specs.Waves.{BoundJob, job_queues, wave_events}
+use Rattle.wave_model.specs.Schedule.{Queues, queues, in_turn, Ahead}
+use Rattle.soak_case.specs.declared.cases.Case.{Case}
+use Rattle.soak_case.specs.Layout.{case_queues, issues_at, layout, source_rows}
+use Rattle.soak_case.specs.Layout.{result_rows, source_writes}
+use Rattle.soak_case.specs.Cases.{source_kinds}
+use Rattle.soak_case.specs.Sums.{in_both_banks}
+use Rattle.soak_case.specs.Done.{CaseDone, WritesMore}
+
+abbrev job_of : Microprogram → Binding → BoundJob
+job_of m b = record { shape = m.shape; code = m.code; binding = b; banks = 2 }
+
+abbrev queues_at : Microprogram → ℕ → Bound → Queues
+queues_at m n b = queues (record {
+  commands = bound 512 m.shape n b (issues_of (trace m.shape m.code n));
+  banks = 2;
+} ∷ [])
+
+-- the queues of the one job of a case
+pub queues_are : (m : Microprogram) (b : Binding) (c : Case) → b.n ≡ c.n → bound_of b ≡ layout c
+    → job_queues 512 (job_of m b ∷ []) ≡ case_queues c m
+queues_are m b c e f = ap (λ n. queues_at m n (bound_of b)) e ∙ ap (λ l. queues_at m c.n l) f
+
+-- what one bank of it does
+pub own_queue : (m : Microprogram) (c : Case) (bank : ℕ) → bank < 2
+    → case_queues c m bank ≡ bound 512 m.shape c.n (layout c) (issues_at c m)
+own_queue m c zero l = append-nil (bound 512 m.shape c.n (layout c) (issues_at c m))
+own_queue m c (suc zero) l = append-nil (bound 512 m.shape c.n (layout c) (issues_at c m))
+own_queue m c (suc (suc bank)) l = absurd (omega arith)
+
+-- the parts of a case together
+pub case_done : (state : ℕ) (c : Case) (m : Microprogram) (a b d e : ChipView)
+    → Did (source_writes state 0 c.n (source_kinds c.op)) a b
+    → WritesMore (2 * source_rows c) a.counters b.counters
+    → Did (wave_events in_turn 2 Ahead (case_queues c m)) b d
+    → d.counters ≡ risen (in_both_banks c m) b.counters
+    → DidRead (2 * result_rows c) d e → CaseDone state c m a e
+case_done state c m a b d e wrote writes ran counts read =
+    let writes_are : List Event = source_writes state 0 c.n (source_kinds c.op) in
+    let wave : List Event = wave_events in_turn 2 Ahead (case_queues c m) in
+    record {
+      counters = read.counters ∙ ap (with_reads (2 * result_rows c))
+          (counts ∙ ap (risen (in_both_banks c m)) writes);
+      log = subst (Grew a.log e.log) (append-nil (writes_are ++ wave))
+          (Grew-more a.log d.log e.log (writes_are ++ wave) []
+          (Grew-more a.log b.log d.log writes_are wave wrote.log ran.log) read.log);
+    }
+
+pub on_ok : {T E P Q : Type 0} (r : Result T E) → OnOk r P → (P → Q) → OnOk r Q
+on_ok (Ok x) p f = f p
+on_ok (Err e) p f = tt
