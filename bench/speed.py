@@ -8,8 +8,8 @@ It builds the program (by ./simdram, or takes the one that --program names) and 
 part is the time of the run less that of a run with an empty script on the same image. Times are in milliseconds, least
 and middle of N (10); memory is the program's greatest, as a multiple of the image; the speed is that of the script's
 bytes, or of an image that is opened and stored. A last column says whether report and OUT were the same byte for byte.
-`--processor` takes processor time in place of elapsed time, for a machine that others use too, and `--table` prints the
-ratios as the table of README.md.
+`--clock processor` and `--clock user` take processor time, the second without the system's part, in place of elapsed
+time, for a machine that others use too; `--table` prints the ratios as the table of README.md.
 """
 
 import argparse
@@ -24,7 +24,7 @@ import tempfile
 import time
 
 TOP = pathlib.Path(__file__).resolve().parent.parent
-PROCESSOR = False
+CLOCK = "elapsed"
 PROGRAM = TOP / "crates" / "simdram" / "out" / "simdram"
 MAC = "op mac(a: word, b: word, c: word) -> y: word { t = mul(a, b); y = add(t, c); }\n"
 ADD = "op add(a: word, b: word) -> y: word { y = add(a, b); }\n"
@@ -93,7 +93,8 @@ def run(words, folder):
         start = time.perf_counter()
         child = subprocess.Popen(words, cwd=folder, stdout=report, stderr=subprocess.DEVNULL)
         _, status, usage = os.wait4(child.pid, 0)
-        seconds = usage.ru_utime + usage.ru_stime if PROCESSOR else time.perf_counter() - start
+        elapsed = time.perf_counter() - start
+    seconds = {"elapsed": elapsed, "processor": usage.ru_utime + usage.ru_stime, "user": usage.ru_utime}[CLOCK]
     child.returncode = os.waitstatus_to_exitcode(status)
     return seconds, 1024 * usage.ru_maxrss, child.returncode, (folder / "report").read_bytes()
 
@@ -194,15 +195,15 @@ def table(rows):
 
 
 def main():
-    global PROGRAM, PROCESSOR
+    global PROGRAM, CLOCK
     parser = argparse.ArgumentParser(description=__doc__.splitlines()[0])
     parser.add_argument("--times", type=int, default=10)
     parser.add_argument("--program", type=pathlib.Path, help="a built program, in place of this repository's")
-    parser.add_argument("--processor", action="store_true", help="processor time in place of elapsed time")
+    parser.add_argument("--clock", choices=("elapsed", "processor", "user"), default="elapsed")
     parser.add_argument("--table", action="store_true")
     parser.add_argument("jobs", nargs="*", metavar="JOB")
     asked = parser.parse_args()
-    PROCESSOR = asked.processor
+    CLOCK = asked.clock
     if asked.program:
         PROGRAM = asked.program.resolve()
     else:

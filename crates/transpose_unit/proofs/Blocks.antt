@@ -1,8 +1,6 @@
 -- The numbers of a block of columns.
-use Rattle.std.proofs.Common.{◌≡◌, ℕ, ◌+◌, ◌-◌, ◌*◌, ◌/◌, ◌%◌, ◌^◌, ◌<◌, ◌≤◌, Bool, List, length}
-use Rattle.std.proofs.Common.{get_or, sym, ap, ◌∙◌, arith, inl, inr, mul-le-mul_right, mul-add}
-use Rattle.std.proofs.Common.{mul_comm}
-use Rattle.std.specs.List.{range_with_len}
+use Rattle.std.proofs.Common.{◌≡◌, ℕ, ◌+◌, ◌-◌, ◌*◌, ◌/◌, ◌%◌, ◌^◌, ◌<◌, ◌≤◌, List, length}
+use Rattle.std.proofs.Common.{get_or, sym, ap, ◌∙◌, arith, inl, inr}
 use Rattle.std.proofs.lemmas.Bool.{cases_lt}
 use Rattle.bit_rows.specs.Bits.{value, bit_at, bit_in, bits_of_words}
 use Rattle.bit_rows.specs.declared.TheConstants.{WIDTH_MAX}

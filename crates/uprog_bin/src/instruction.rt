@@ -50,7 +50,6 @@ impl RawRow {
     }
 
     #[inline(always)]
-
     fn row(self) -> RowRef
         ensures { result ≡ row_of self }
     {
@@ -63,7 +62,6 @@ impl RawRow {
 }
 
 #[inline(always)]
-
 fn space_of(number: u8) -> RowSpace
     ensures { result ≡ slice_index_or SPACES number RowSpace.Spill }
 {

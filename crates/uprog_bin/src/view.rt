@@ -175,7 +175,6 @@ fn part(bytes: &[u8], at: usize, len: usize) -> &[u8]
 }
 
 #[inline(always)]
-
 fn opcode_or_done(number: u8) -> Opcode
     ensures { result ≡ slice_index_or OPCODES number Opcode.Done }
 {

@@ -175,7 +175,6 @@ fn placed(row: &RowRef, regs: &[u16]) -> Place
 }
 
 #[inline(always)]
-
 fn value(regs: &[u16], r: u8) -> u16
     requires { AreRegisters regs.now }
     ensures { result ≡ slice_index regs.now r }
@@ -204,7 +203,6 @@ fn is_in_range(head: &Head, n: u8, row: &Place) -> bool
 }
 
 #[inline(always)]
-
 fn is_in_result(head: &Head, which: u8, n: u8, i: u16) -> bool
     ensures { result ≡ in_kind (slice_get (results (shape_of head.now)) which) n i }
 {
@@ -216,7 +214,6 @@ fn is_in_result(head: &Head, which: u8, n: u8, i: u16) -> bool
 }
 
 #[inline(always)]
-
 fn is_in_source(sources: &[Kind], which: u8, n: u8, i: u16) -> bool
     ensures { result ≡ in_kind (slice_get sources.now which) n i }
 {
@@ -227,7 +224,6 @@ fn is_in_source(sources: &[Kind], which: u8, n: u8, i: u16) -> bool
 }
 
 #[inline(always)]
-
 fn is_in_kind(kind: Kind, n: u8, i: u16) -> bool
     ensures { result ≡ in_kind (Some kind) n i }
 {

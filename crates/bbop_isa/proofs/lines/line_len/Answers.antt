@@ -1,4 +1,4 @@
-use Rattle.std.proofs.Common.{◌∙◌, length}
+use Rattle.std.proofs.Common.{◌∙◌}
 use Rattle.bbop_isa.proofs.Newlines.{line_found}
 use Rattle.bbop_isa.proofs.lines.line_len.Goals as goal
 

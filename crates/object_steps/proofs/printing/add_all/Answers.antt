@@ -1,4 +1,4 @@
-use Rattle.std.proofs.Common.{◌≡◌, ℕ, ◌+◌, ◌≤◌, ◌++◌, ◌∙◌, List, length, take, drop, ap}
+use Rattle.std.proofs.Common.{◌≡◌, ℕ, ◌+◌, ◌++◌, ◌∙◌, List, take, drop, ap}
 use Rattle.std.proofs.Common.{append_assoc, arith, subst, sym, get_or, refl}
 use Rattle.std.specs.Prelude.{codes, decimal}
 use Rattle.host_edge.specs.Views.{Told, AppendsPart}

@@ -1,4 +1,4 @@
-use Rattle.std.proofs.Common.{◌≡◌, ℕ, ◌+◌, ◌*◌, ◌/◌, ◌<◌, ◌^◌, ◌∙◌, arith, get_or, length, List, subst}
+use Rattle.std.proofs.Common.{◌≡◌, ℕ, ◌+◌, ◌*◌, ◌/◌, ◌<◌, ◌∙◌, arith, get_or, length, List, subst}
 use Rattle.bit_rows.specs.Bits.{bit_at}
 use Rattle.transpose_unit.specs.Stage.{stage_rows}
 use Rattle.transpose_unit.proofs.Blocks.{two_words}
