@@ -23,6 +23,8 @@ mod executed;
 #[cfg(test)]
 mod failing;
 #[cfg(test)]
+mod greatest;
+#[cfg(test)]
 mod jobs;
 #[cfg(test)]
 mod listening;
