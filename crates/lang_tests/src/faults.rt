@@ -366,6 +366,85 @@ const LONG: [Long; 8] = [
     },
 ];
 
+/// Texts with a second result or a second target.
+const PAIRS: [(&[u8], Fault); 18] = [
+    (
+        b"op f(a: word, b: word) -> q: word, r: word { q, r = divmod(a, b); }",
+        None,
+    ),
+    // a word and a bit, each set by a statement of its own
+    (
+        b"op f(a: word) -> y: word, p: bit { y = not(a);\nserial up (p = 0) { t = a; p = and(a, p); } }",
+        None,
+    ),
+    // the second target is a name, and the second result is set by it or by a block
+    (
+        b"op f(a: word, b: word) -> y: word, z: word { z, t = divmod(a, b);\ny = add(z, t); }",
+        None,
+    ),
+    (
+        b"op f(a: word) -> y: word, z: word { serial up () { y = a; z = not(a); } }",
+        None,
+    ),
+    (
+        b"op f(a: word, b: word) -> y: word {\nq, q = divmod(a, b);\ny = copy(q); }",
+        Some((2, OpsKind::Twice)),
+    ),
+    (
+        b"op f(a: word, b: word) -> y: word {\nq, a = divmod(a, b);\ny = copy(q); }",
+        Some((2, OpsKind::Twice)),
+    ),
+    (
+        b"op f(a: word, b: word) -> y: word, z: word {\ny, z = divmod(a, b);\nt, z = divmod(a, b); }",
+        Some((3, OpsKind::Twice)),
+    ),
+    (
+        b"op f(a: word) -> y: word,\ny: word { y = not(a); }",
+        Some((2, OpsKind::Twice)),
+    ),
+    // the state is the second result, which a word statement assigned before
+    (
+        b"op f(a: word) -> y: word, p: bit { y = not(a); p = eq(a, y);\nserial up (p = 0) { t = a; } }",
+        Some((2, OpsKind::Twice)),
+    ),
+    (
+        b"op f(a: word, b: word) -> y: word {\nx, y = add(a, b); }",
+        Some((2, OpsKind::Kind)),
+    ),
+    (
+        b"op f(a: word, b: word) -> y: word {\nq = divmod(a, b);\ny = copy(q); }",
+        Some((2, OpsKind::Kind)),
+    ),
+    (
+        b"op f(a: word, b: word) -> y: word, p: bit {\ny, p = divmod(a, b)\n; }",
+        Some((3, OpsKind::Kind)),
+    ),
+    (
+        b"op f(a: word) -> y: word, p: bit { y = not(a); serial up () {\np = a; } }",
+        Some((2, OpsKind::Kind)),
+    ),
+    (
+        b"op f(a: word) -> y: word, z: word {\ny = not(a);\n}",
+        Some((3, OpsKind::NoResult)),
+    ),
+    (
+        b"op f(a: word) -> y: word, z: word {\nz = not(a);\n}",
+        Some((3, OpsKind::NoResult)),
+    ),
+    (
+        b"op f(a: word) -> y: word, z: word,\nw: word { y = not(a); }",
+        Some((1, OpsKind::Syntax)),
+    ),
+    (
+        b"op f(a: word, b: word) -> y: word { x, y,\nz = divmod(a, b); }",
+        Some((1, OpsKind::Syntax)),
+    ),
+    (
+        b"op f(a: word, b: word) -> y: word { x,\nbit = divmod(a, b); }",
+        Some((2, OpsKind::BadName)),
+    ),
+];
+
 /// The bytes, with a number of two digits for each `@`.
 fn put(text: &mut Vec<u8>, bytes: &[u8], number: u8) -> Result<(), AllocError> {
     for byte in bytes {
@@ -400,6 +479,13 @@ fn fault(rt: &(impl Abort + AllocGlobal), text: &[u8]) -> Fault {
 #[test]
 fn faults_are_told(rt: HostRuntime) {
     for (text, want) in TEXTS {
+        assert!(rt; fault(&rt, text) == want);
+    }
+}
+
+#[test]
+fn faults_of_pairs_are_told(rt: HostRuntime) {
+    for (text, want) in PAIRS {
         assert!(rt; fault(&rt, text) == want);
     }
 }

@@ -53,6 +53,17 @@ const ODD: &[u8] = b"op odd(a: bit) -> y: bit {
 }
 ";
 
+const PAIR: &[u8] = b"op dm(a: word, b: word) -> q: word, r: word {
+  q, r = divmod(a, b);
+}
+op both(a: word) -> y: word, p: bit {
+  y = not(a);
+  serial up (p = 0) {
+    p = xor(a, p);
+  }
+}
+";
+
 const WORDS: &[u8] = b"op words(a: word, b: word, p: bit) -> y: bit {
   t1 = not(a);
   t2 = and(a, b);
@@ -103,6 +114,7 @@ fn texts_are_written(rt: HostRuntime) -> Result<(), Fail> {
         (LOOSE, ODD),
         (ODD, ODD),
         (WORDS, WORDS),
+        (PAIR, PAIR),
     ] {
         let text = written(&rt, text)?;
         assert!(rt; text.as_slice() == want);

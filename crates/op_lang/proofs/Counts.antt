@@ -17,7 +17,7 @@ use Rattle.op_text.specs.declared.tree.Op.{Op}
 use Rattle.op_text.specs.declared.tree.WordOp.{WordOp}
 use Rattle.op_text.specs.declared.tree.WordOp.TheVariants as o
 use Rattle.op_text.specs.Language.{Equation, Statement, Compute, Visit, equation, statement}
-use Rattle.op_text.specs.Language.{operation}
+use Rattle.op_text.specs.Language.{operation, result_names}
 use Rattle.op_text.specs.Rules.{is_among, kind_among}
 use Rattle.op_text.specs.Scratch.{param, defines, body_defines, greatest, need_inside, bits_inside}
 use Rattle.op_text.specs.Scratch.{words_inside}
@@ -206,81 +206,81 @@ pub count-append : (p : Param → Bool) (xs ys : List Param)
     → count_by p (xs ++ ys) ≡ count_by p xs + count_by p ys
 count-append p xs ys = sum_by-append (λ x. cond (p x) 1 0) xs ys
 
-count-cons : {X : Type 0} (p : X → Bool) (x : X) (xs : List X)
+pub count-cons : {X : Type 0} (p : X → Bool) (x : X) (xs : List X)
     → count_by p (x ∷ xs) ≡ cond (p x) 1 0 + count_by p xs
 count-cons p x xs = sum_by-cons (λ y. cond (p y) 1 0) x xs
 
-count_bits : (r : List ℕ) (states : List State)
-    → count_by (is_counted Bit r) (map (λ m. param m Bit) (map (λ (s : State). s.name) states))
-    ≡ count_by (λ (s : State). not (bytes_eq s.name r)) states
-count_bits r [] = refl
-count_bits r (s ∷ states) =
-    count-cons (is_counted Bit r) (param s.name Bit)
+count_bits : (rs : List (List ℕ)) (states : List State)
+    → count_by (is_counted Bit rs) (map (λ m. param m Bit) (map (λ (s : State). s.name) states))
+    ≡ count_by (λ (s : State). not (is_among rs s.name)) states
+count_bits rs [] = refl
+count_bits rs (s ∷ states) =
+    count-cons (is_counted Bit rs) (param s.name Bit)
     (map (λ m. param m Bit) (map (λ (s : State). s.name) states))
-    ∙ ap (λ n. cond (not (bytes_eq s.name r)) 1 0 + n) (count_bits r states)
-    ∙ sym (count-cons (λ (s : State). not (bytes_eq s.name r)) s states)
+    ∙ ap (λ n. cond (not (is_among rs s.name)) 1 0 + n) (count_bits rs states)
+    ∙ sym (count-cons (λ (s : State). not (is_among rs s.name)) s states)
 
-no_words : (r : List ℕ) (ns : List (List ℕ)) → count_by (is_counted Bit r)
+no_words : (rs : List (List ℕ)) (ns : List (List ℕ)) → count_by (is_counted Bit rs)
     (map (λ m. param m Word) ns) ≡ 0
-no_words r [] = refl
-no_words r (n ∷ ns) = count-cons (is_counted Bit r) (param n Word) (map (λ m. param m Word) ns)
-    ∙ zero-add _ ∙ no_words r ns
+no_words rs [] = refl
+no_words rs (n ∷ ns) = count-cons (is_counted Bit rs) (param n Word) (map (λ m. param m Word) ns)
+    ∙ zero-add _ ∙ no_words rs ns
 
-no_bits : (r : List ℕ) (ns : List (List ℕ)) → count_by (is_counted Word r)
+no_bits : (rs : List (List ℕ)) (ns : List (List ℕ)) → count_by (is_counted Word rs)
     (map (λ m. param m Bit) ns) ≡ 0
-no_bits r [] = refl
-no_bits r (n ∷ ns) = count-cons (is_counted Word r) (param n Bit) (map (λ m. param m Bit) ns)
-    ∙ zero-add _ ∙ no_bits r ns
+no_bits rs [] = refl
+no_bits rs (n ∷ ns) = count-cons (is_counted Word rs) (param n Bit) (map (λ m. param m Bit) ns)
+    ∙ zero-add _ ∙ no_bits rs ns
 
-chosen_words : (b : Bool) (r m : List ℕ) (ms : List (List ℕ)) (n : ℕ)
-    → count_by (is_counted Word r) (map (λ j. param j Word) ms) ≡ n
-    → count_by (is_counted Word r) (map (λ j. param j Word) (cond b (m ∷ ms) ms))
-    ≡ cond (b && not (bytes_eq m r)) 1 0 + n
-chosen_words true r m ms n h = count-cons (is_counted Word r) (param m Word)
-    (map (λ j. param j Word) ms) ∙ ap (λ k. cond (not (bytes_eq m r)) 1 0 + k) h
-chosen_words false r m ms n h = h ∙ sym (zero-add n)
+chosen_words : (b : Bool) (rs : List (List ℕ)) (m : List ℕ) (ms : List (List ℕ)) (n : ℕ)
+    → count_by (is_counted Word rs) (map (λ j. param j Word) ms) ≡ n
+    → count_by (is_counted Word rs) (map (λ j. param j Word) (cond b (m ∷ ms) ms))
+    ≡ cond (b && not (is_among rs m)) 1 0 + n
+chosen_words true rs m ms n h = count-cons (is_counted Word rs) (param m Word)
+    (map (λ j. param j Word) ms) ∙ ap (λ k. cond (not (is_among rs m)) 1 0 + k) h
+chosen_words false rs m ms n h = h ∙ sym (zero-add n)
 
-abbrev pub is_fresh : List State → List ℕ → Assign → Bool
-is_fresh states r a = not (list_any (λ (s : State). bytes_eq s.name a.name) states)
-    && not (bytes_eq a.name r)
+abbrev pub is_fresh : List State → List (List ℕ) → Assign → Bool
+is_fresh states rs a = not (list_any (λ (s : State). bytes_eq s.name a.name) states)
+    && not (is_among rs a.name)
 
-count_targets : (r : List ℕ) (states : List State) (assigns : List Assign)
-    → count_by (is_counted Word r) (map (λ m.
+count_targets : (rs : List (List ℕ)) (states : List State) (assigns : List Assign)
+    → count_by (is_counted Word rs) (map (λ m.
     param m Word) (filter (λ m. not (is_among (map (λ (s : State). s.name) states) m))
     (map (λ (e : Equation). e.name) (map equation assigns))))
-    ≡ count_by (is_fresh states r) assigns
-count_targets r states [] = refl
-count_targets r states (a ∷ assigns) =
+    ≡ count_by (is_fresh states rs) assigns
+count_targets rs states [] = refl
+count_targets rs states (a ∷ assigns) =
     let q : List ℕ → Bool = λ m. not (is_among (map (λ (s : State). s.name) states) m) in
-    chosen_words (q a.name) r a.name (filter q
+    chosen_words (q a.name) rs a.name (filter q
     (map (λ (e : Equation). e.name) (map equation assigns)))
-    (count_by (is_fresh states r) assigns) (count_targets r states assigns)
-    ∙ ap (λ b. cond (not b && not (bytes_eq a.name r)) 1 0 + count_by (is_fresh states r) assigns)
+    (count_by (is_fresh states rs) assigns) (count_targets rs states assigns)
+    ∙ ap (λ b. cond (not b && not (is_among rs a.name)) 1 0 + count_by (is_fresh states rs) assigns)
     (any_state states a.name)
-    ∙ sym (count-cons (is_fresh states r) a assigns)
+    ∙ sym (count-cons (is_fresh states rs) a assigns)
 
-pub bits_counted : (r : List ℕ) (states : List State) (assigns : List Assign)
-    → count_by (λ (s : State). not (bytes_eq s.name r)) states
-    ≡ count_by (is_counted Bit r) (defined_in states assigns)
-bits_counted r states assigns =
+pub bits_counted : (rs : List (List ℕ)) (states : List State) (assigns : List Assign)
+    → count_by (λ (s : State). not (is_among rs s.name)) states
+    ≡ count_by (is_counted Bit rs) (defined_in states assigns)
+bits_counted rs states assigns =
     let ws = filter (λ m. not (is_among (map (λ (s : State). s.name) states) m))
     (map (λ (e : Equation). e.name) (map equation assigns)) in
-    let a = count-append (is_counted Bit r) (map (λ m.
+    let a = count-append (is_counted Bit rs) (map (λ m.
     param m Bit) (map (λ (s : State). s.name) states)) (map (λ m. param m Word) ws) in
-    let b = count_bits r states in
-    let d = no_words r ws in
+    let b = count_bits rs states in
+    let d = no_words rs ws in
     omega arith
 
-pub words_counted : (r : List ℕ) (states : List State) (assigns : List Assign)
-    → count_by (is_fresh states r) assigns ≡ count_by (is_counted Word r)
+pub words_counted : (rs : List (List ℕ)) (states : List State) (assigns : List Assign)
+    → count_by (is_fresh states rs) assigns ≡ count_by (is_counted Word rs)
     (defined_in states assigns)
-words_counted r states assigns =
+words_counted rs states assigns =
     let ws = filter (λ m. not (is_among (map (λ (s : State). s.name) states) m))
     (map (λ (e : Equation). e.name) (map equation assigns)) in
-    let a = count-append (is_counted Word r) (map (λ m.
+    let a = count-append (is_counted Word rs) (map (λ m.
     param m Bit) (map (λ (s : State). s.name) states)) (map (λ m. param m Word) ws) in
-    let b = no_bits r (map (λ (s : State). s.name) states) in
-    let d = count_targets r states assigns in
+    let b = no_bits rs (map (λ (s : State). s.name) states) in
+    let d = count_targets rs states assigns in
     omega arith
 
 pub names-snoc : (p : Param → Bool) (ps : List Param) (body front : List Stmt) (last : Stmt)
@@ -327,7 +327,7 @@ capped_more a b h = grind (arith, nat_tests)
 pub small_need : (f : WordOp → ℕ) (body : List Statement) → ((p : WordOp) → f p ≤ 2)
     → greatest (map (need_inside f) body) ≤ 2
 small_need f [] h = omega arith
-small_need f (Compute target p args ∷ body) h = let k = small_need f body h in let m = h p in
+small_need f (Compute target second p args ∷ body) h = let k = small_need f body h in let m = h p in
     grind (arith, nat_tests)
 small_need f (Visit b ∷ body) h = let k = small_need f body h in grind (arith, nat_tests)
 
@@ -358,6 +358,7 @@ few_bits o.Bitcount = lit≤ tt
 few_bits o.AndRed = lit≤ tt
 few_bits o.OrRed = lit≤ tt
 few_bits o.XorRed = lit≤ tt
+few_bits o.Divmod = lit≤ tt
 
 pub few_words : (p : WordOp) → words_inside p ≤ 2
 few_words o.Not = lit≤ tt
@@ -386,21 +387,27 @@ few_words o.Bitcount = lit≤ tt
 few_words o.AndRed = lit≤ tt
 few_words o.OrRed = lit≤ tt
 few_words o.XorRed = lit≤ tt
+few_words o.Divmod = lit≤ tt
 
 pub rows_of_kind : (k : Kind) (op : Op) (a b c : ℕ)
-    → a ≡ min (count_by (is_counted k op.result.name)
+    → a ≡ min (count_by (is_counted k (result_names (operation op)))
     (body_defines op.params.items (map statement op.body.items))) 65535
     → b ≡ greatest (map (need_of k) (map statement op.body.items)) → c ≡ min (a + b) 65535
     → c ≡ min (rows_needed k (operation op)) 65535
 rows_of_kind Bit op a b c f g h = h ∙ rw (f, g)
-    (capped_more (count_by (is_counted Bit op.result.name)
+    (capped_more (count_by (is_counted Bit (result_names (operation op)))
     (body_defines op.params.items (map statement op.body.items)))
     (greatest (map (need_inside bits_inside) (map statement op.body.items)))
     (small_need bits_inside (map statement op.body.items) few_bits))
 rows_of_kind Word op a b c f g h = h ∙ rw (
   f,
   g,
-) (capped_more (count_by (is_counted Word op.result.name)
+) (capped_more (count_by (is_counted Word (result_names (operation op)))
     (body_defines op.params.items (map statement op.body.items)))
     (greatest (map (need_inside words_inside) (map statement op.body.items)))
     (small_need words_inside (map statement op.body.items) few_words))
+
+-- the names of a word statement
+pub two_counted : (p : Param → Bool) (x : Param) (xs : List Param) (a b : ℕ)
+    → a ≡ count_by p (x ∷ []) → b ≡ count_by p xs → a + b ≡ count_by p (x ∷ xs)
+two_counted p x xs a b e f = let g = count-append p (x ∷ []) xs in omega arith

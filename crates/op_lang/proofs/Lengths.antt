@@ -1,12 +1,14 @@
 -- What is spelled has tokens.
-use Rattle.std.proofs.Common.{ℕ, ◌<◌, ◌≤◌, List, [], ◌∷◌, length, arith, codes}
+use Rattle.std.proofs.Common.{ℕ, ◌<◌, ◌≤◌, List, [], ◌∷◌, length, Option, Some, None, arith}
+use Rattle.std.proofs.Common.{codes}
 use Rattle.op_text.specs.declared.tree.Param.{Param}
 use Rattle.op_text.specs.declared.tree.State.{State}
 use Rattle.op_text.specs.Language.{Term, Nought, Unity, Named, Negation, Conjunction, Disjunction}
 use Rattle.op_text.specs.Language.{Parity, Majority, Equation, Statement, Compute, Visit, Operation}
 use Rattle.op_text.specs.Spelling.{term_text, behind_commas, between_commas, in_turn, name_text}
 use Rattle.op_text.specs.Spelling.{param_text, state_text, equation_text, let_text, statement_text}
-use Rattle.op_text.specs.Spelling.{operation_text}
+use Rattle.op_text.specs.Spelling.{operation_text, behind_comma}
+use Rattle.op_text.specs.WordOps.{op_text}
 
 pub term_longer : (t : Term) (rest : List (List ℕ)) → length rest < length (term_text t rest)
 term_longer Nought rest = omega arith
@@ -42,6 +44,12 @@ between_longer spell f [] rest = omega arith
 between_longer spell f (x ∷ xs) rest = let h = behind_longer spell f xs rest in
     let k = f x (behind_commas spell xs rest) in omega arith
 
+comma_longer : {A : Type 0} (spell : A → List (List ℕ) → List (List ℕ))
+    → ((x : A) (rest : List (List ℕ)) → length rest < length (spell x rest))
+    → (x : Option A) (rest : List (List ℕ)) → length rest ≤ length (behind_comma spell x rest)
+comma_longer spell f None rest = omega arith
+comma_longer spell f (Some x) rest = let k = f x rest in omega arith
+
 turn_longer : {A : Type 0} (spell : A → List (List ℕ) → List (List ℕ))
     → ((x : A) (rest : List (List ℕ)) → length rest < length (spell x rest))
     → (xs : List A) (rest : List (List ℕ)) → length rest ≤ length (in_turn spell xs rest)
@@ -63,8 +71,11 @@ let_longer e rest = let h = equation_longer e rest in omega arith
 
 pub statement_longer : (s : Statement) (rest : List (List ℕ))
     → length rest < length (statement_text s rest)
-statement_longer (Compute target p args) rest = let h =
-    between_longer name_text name_longer args (codes ")" ∷ codes ";" ∷ rest) in omega arith
+statement_longer (Compute target second p args) rest =
+    let h = between_longer name_text name_longer args (codes ")" ∷ codes ";" ∷ rest) in
+    let k = comma_longer name_text name_longer second (codes "=" ∷ op_text p ∷ codes "("
+    ∷ between_commas name_text args (codes ")" ∷ codes ";" ∷ rest)) in
+    omega arith
 statement_longer (Visit b) rest =
     let h = turn_longer equation_text equation_longer b.assigns (codes "}" ∷ rest) in
     let k = turn_longer let_text let_longer b.lets
@@ -76,7 +87,9 @@ statement_longer (Visit b) rest =
 pub operation_longer : (o : Operation) (rest : List (List ℕ))
     → length rest < length (operation_text o rest)
 operation_longer o rest =
+    let body = in_turn statement_text o.body (codes "}" ∷ rest) in
     let h = turn_longer statement_text statement_longer o.body (codes "}" ∷ rest) in
+    let m = comma_longer param_text param_longer o.second (codes "{" ∷ body) in
     let k = between_longer param_text param_longer o.params (codes ")" ∷ codes "->"
-    ∷ param_text o.result (codes "{" ∷ in_turn statement_text o.body (codes "}" ∷ rest))) in
+    ∷ param_text o.result (behind_comma param_text o.second (codes "{" ∷ body))) in
     omega arith

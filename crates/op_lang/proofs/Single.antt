@@ -25,6 +25,7 @@ use Rattle.op_text.specs.Spelling.{kind_text, direction_text, start_text}
 use Rattle.op_lang.specs.Reading.{Reading, breach, is_allowed, Took, left}
 use Rattle.op_lang.proofs.Taking.{took_moves, took_left}
 use Rattle.op_lang.specs.Pieces.{IsSpelled, is_mark, mark_text, is_name, is_name_or_end}
+use Rattle.op_lang.specs.Pieces.{is_second, behind_second, comma_or_end}
 use Rattle.op_lang.specs.Pieces.{behind_name, end_text, is_more, behind_comma_or_close}
 use Rattle.op_lang.specs.Pieces.{comma_or_close, is_kind, is_statement, is_named, is_finish}
 use Rattle.op_lang.specs.Pieces.{is_serial_word, is_let_word, kind_at, is_down, is_one, is_comma}
@@ -127,6 +128,9 @@ name_follows w.NewParam _ o text s s' m a r = cc
 name_follows w.NewResult (t.Name n) o text s s' m a r =
     (refl, fits (is_plain n) (fits_name text) _ _ s' r)
 name_follows w.NewResult _ o text s s' m a r = cc
+name_follows w.NewTarget (t.Name n) o text s s' m a r =
+    (refl, fits (is_plain n) (fits_name text) _ _ s' r)
+name_follows w.NewTarget _ o text s s' m a r = cc
 name_follows w.ArgName (t.Name n) o text s s' m a r =
     (refl, fits (is_plain n) (fits_name text) _ _ s' r)
 name_follows w.ArgName _ o text s s' m a r = cc
@@ -182,6 +186,18 @@ more_follows w.MoreStates t.Closes o text m a s = (refl, s)
 more_follows w.MoreStates _ o text m a s = cc
 more_follows _ u o text m a s = cc
 
+pub second_follows : (want : Wanted) (u : Terminal) (o : Bool) (text : List ℕ)
+    → is_second want ≡ true → is_allowed (follow want u o) ≡ true → IsSpelled u text
+    → (follow want u o ≡ Some (behind_second want (is_comma u)))
+    × (text ≡ comma_or_end want (is_comma u))
+second_follows w.SecondResult t.Comma o text m a s = (refl, s)
+second_follows w.SecondResult t.Begins o text m a s = (refl, s)
+second_follows w.SecondResult _ o text m a s = cc
+second_follows w.SecondTarget t.Comma o text m a s = (refl, s)
+second_follows w.SecondTarget t.Equals o text m a s = (refl, s)
+second_follows w.SecondTarget _ o text m a s = cc
+second_follows _ u o text m a s = cc
+
 pub kind_follows : (want : Wanted) (u : Terminal) (o : Bool) (text : List ℕ) → is_kind want ≡ true
     → is_allowed (follow want u o) ≡ true → IsSpelled u text
     → (follow want u o ≡ Some []) × (text ≡ kind_text (kind_at u))
@@ -213,7 +229,7 @@ start_follows _ o text a s = cc
 pub op_follows : (u : Terminal) (o : Bool) (text : List ℕ) → is_allowed (follow w.Ops u o) ≡ true
     → IsSpelled u text
     → (follow w.Ops u o ≡ Some (w.NewOp ∷ w.Open ∷ w.NewParam ∷ w.Colon ∷ w.ParamKind ∷ w.Params
-    ∷ w.Arrow ∷ w.NewResult ∷ w.Colon ∷ w.ResultKind ∷ w.Begin ∷ w.FirstStmt ∷ w.Ops ∷ []))
+    ∷ w.Arrow ∷ w.NewResult ∷ w.Colon ∷ w.ResultKind ∷ w.SecondResult ∷ w.FirstStmt ∷ w.Ops ∷ []))
     × (text ≡ codes "op")
 op_follows (t.Name sp.Op) o text a s = (refl, s)
 op_follows (t.Name _) o text a s = cc
@@ -353,6 +369,14 @@ more_took want old text u new m k more = took_moves want old text u new k
     (more_follows want u (opens new.items) text m k.allowed (took_spelled want old text u new k)).0
     more
 
+pub second_took : (want : Wanted) (old : Reading) (text : List ℕ) (u : Terminal) (new : Reading)
+    → is_second want ≡ true → Took want old text u new → (more : List Wanted)
+    → breach (want ∷ more) old ≡ breach (behind_second want (is_comma u) ++ more) new
+second_took want old text u new m k more = took_moves want old text u new k
+    (behind_second want (is_comma u))
+    (second_follows want u (opens new.items) text m k.allowed
+    (took_spelled want old text u new k)).0 more
+
 pub kind_took : (want : Wanted) (old : Reading) (text : List ℕ) (u : Terminal) (new : Reading)
     → is_kind want ≡ true → Took want old text u new → (more : List Wanted)
     → breach (want ∷ more) old ≡ breach (more) new
@@ -377,10 +401,10 @@ start_took old text u new k more = took_moves w.Start old text u new k []
 pub op_took : (old : Reading) (text : List ℕ) (u : Terminal) (new : Reading)
     → Took w.Ops old text u new → (more : List Wanted)
     → breach (w.Ops ∷ more) old ≡ breach (w.NewOp ∷ w.Open ∷ w.NewParam ∷ w.Colon ∷ w.ParamKind
-    ∷ w.Params ∷ w.Arrow ∷ w.NewResult ∷ w.Colon ∷ w.ResultKind ∷ w.Begin ∷ w.FirstStmt ∷ w.Ops
+    ∷ w.Params ∷ w.Arrow ∷ w.NewResult ∷ w.Colon ∷ w.ResultKind ∷ w.SecondResult ∷ w.FirstStmt ∷ w.Ops
     ∷ more) new
 op_took old text u new k more = took_moves w.Ops old text u new k (w.NewOp ∷ w.Open ∷ w.NewParam
-    ∷ w.Colon ∷ w.ParamKind ∷ w.Params ∷ w.Arrow ∷ w.NewResult ∷ w.Colon ∷ w.ResultKind ∷ w.Begin
+    ∷ w.Colon ∷ w.ParamKind ∷ w.Params ∷ w.Arrow ∷ w.NewResult ∷ w.Colon ∷ w.ResultKind ∷ w.SecondResult
     ∷ w.FirstStmt ∷ w.Ops ∷ []) (op_follows u (opens new.items) text k.allowed
     (took_spelled w.Ops old text u new k)).0 more
 

@@ -47,6 +47,7 @@ abbrev pub is_name : Wanted → Bool
 is_name w.NewOp = true
 is_name w.NewParam = true
 is_name w.NewResult = true
+is_name w.NewTarget = true
 is_name w.ArgName = true
 is_name w.StateName = true
 is_name w.LetName = true
@@ -96,6 +97,26 @@ abbrev pub comma_or_close : Bool → List ℕ
 comma_or_close true = codes ","
 comma_or_close false = codes ")"
 
+-- the symbols where a second result or a second target may stand
+abbrev pub is_second : Wanted → Bool
+is_second w.SecondResult = true
+is_second w.SecondTarget = true
+is_second wanted = false
+
+abbrev pub behind_second : Wanted → Bool → List Wanted
+behind_second w.SecondResult true = w.NewResult ∷ w.Colon ∷ w.ResultKind ∷ w.Begin ∷ []
+behind_second wanted true = w.NewTarget ∷ w.Equals ∷ []
+behind_second wanted false = []
+
+-- what ends the results or the targets where there is no second one
+abbrev pub end_of_one : Wanted → List ℕ
+end_of_one w.SecondResult = codes "{"
+end_of_one wanted = codes "="
+
+abbrev pub comma_or_end : Wanted → Bool → List ℕ
+comma_or_end wanted true = codes ","
+comma_or_end wanted false = end_of_one wanted
+
 abbrev pub is_kind : Wanted → Bool
 is_kind w.ParamKind = true
 is_kind w.ResultKind = true
@@ -141,8 +162,8 @@ is_comma u = false
 
 -- behind the first token of a statement
 abbrev pub behind_start : Start → List Wanted
-behind_start (start.Word name) = w.Equals ∷ w.WordOpName ∷ w.Open ∷ w.Args ∷ w.WordEnd ∷ w.Stmts
-    ∷ []
+behind_start (start.Word name) = w.SecondTarget ∷ w.WordOpName ∷ w.Open ∷ w.Args ∷ w.WordEnd
+    ∷ w.Stmts ∷ []
 behind_start start.Serial = w.Direction ∷ w.Open ∷ w.States ∷ w.Begin ∷ w.Lets ∷ w.Stmts ∷ []
 behind_start start.End = []
 

@@ -13,13 +13,12 @@ abbrev pub seen_op : code_op.InOp → InOp
 seen_op k = record {
   stands = k.stands.items;
   defined = k.defined.items;
-  result = k.result;
-  assigned = k.assigned;
+  results = k.results.items;
   statements = k.statements;
 }
 
 abbrev pub seen_word : code_word.InWord → InWord
-seen_word k = record { operation = k.operation; given = k.given.items }
+seen_word k = record { second = k.second; operation = k.operation; given = k.given.items }
 
 abbrev pub seen_block : code_block.InBlock → InBlock
 seen_block k =

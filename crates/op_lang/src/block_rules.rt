@@ -5,24 +5,17 @@ ghost use Rattle.op_text.specs.Rules as rules;
 ghost use Rattle.op_lang.specs.Seen.{seen, Judges};
 
 use crate::fault::Refused;
-use crate::names::{
-    define_all, good_name, is_among, is_called, is_called_by_one, is_of_kind, keep_all, others,
-};
+use crate::names::{define_all, good_name, is_among, keep_all, others};
+use crate::results::{is_assigned, is_bit_result, is_open_result};
 use crate::scope::{InBlock, Scope};
 use no_memory::keep;
 use op_text::{Kind, OpsKind, Spelling};
-
-fn is_bit_result(scope: &Scope, text: &[u8]) -> bool
-    ensures { result ≡ rules.is_bit_result (seen scope.now) text.now }
-{
-    is_called(&scope.op.result, text) && is_of_kind(&scope.op.result, Kind::Bit)
-}
 
 fn is_taken_state(scope: &Scope, text: &[u8]) -> bool
     ensures { result ≡ rules.is_taken_state (seen scope.now) text.now }
 {
     if is_bit_result(scope, text) {
-        scope.op.assigned || is_among(&scope.block.states, text)
+        is_assigned(scope, text) || is_among(&scope.block.states, text)
     } else {
         is_among(&scope.op.stands, text)
     }
@@ -77,7 +70,7 @@ fn is_taken_target(scope: &Scope, text: &[u8]) -> bool
     is_among(&scope.block.targets, text)
         || (is_among(&scope.op.stands, text)
             && !is_among(&scope.block.states, text)
-            && !(is_called(&scope.op.result, text) && !scope.op.assigned))
+            && !is_open_result(scope, text))
 }
 
 /// The target of an assignment.
@@ -121,12 +114,9 @@ pub(crate) fn block_end(scope: &mut Scope) -> Result<(), Refused>
     ensures { Judges (Ok (rules.block_end (seen scope.old))) result (seen scope.new) }
 {
     let words = others(&scope.block.targets, &scope.block.states, scope.alloc)?;
-    let assigned = is_called_by_one(&scope.op.result, &scope.block.states)
-        || is_called_by_one(&scope.op.result, &words);
     keep_all(&mut scope.op.stands, &words)?;
     define_all(&mut scope.op.defined, &scope.block.states, Kind::Bit)?;
     define_all(&mut scope.op.defined, &words, Kind::Word)?;
-    scope.op.assigned = scope.op.assigned || assigned;
     scope.block = InBlock::new(scope.alloc);
     Ok(())
 }

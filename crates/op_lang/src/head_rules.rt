@@ -1,15 +1,16 @@
 //! The rules at the tokens of an op's head, and at its end.
 
-ghost use Rattle.std.specs.Prelude.{◌≡◌, ◌++◌, [], ◌∷◌, ◌||◌, not, length, nat_le, Ok};
-ghost use Rattle.op_text.specs.declared.fault.OpsKind.TheVariants.{TooMany, NoResult};
+ghost use Rattle.std.specs.Prelude.{◌≡◌, length, nat_le, Ok};
+ghost use Rattle.op_text.specs.declared.fault.OpsKind.TheVariants.{TooMany};
 ghost use Rattle.op_text.specs.Rules as rules;
 ghost use Rattle.op_lang.specs.Seen.{seen, Judges};
 
 use crate::fault::Refused;
 use crate::names::{define, good_name, is_among};
+use crate::results::is_one_open;
 use crate::scope::{InOp, Scope};
 use no_memory::keep;
-use op_text::{Kind, OpsKind, Param, Spelling};
+use op_text::{Kind, OpsKind, Spelling};
 
 /// The word `op`.
 pub(crate) fn another_op(scope: &mut Scope) -> Result<(), Refused>
@@ -90,20 +91,16 @@ pub(crate) fn result_kind(scope: &mut Scope, kind: Kind) -> Result<(), Refused>
     let Some(name) = &scope.naming else {
         return Ok(());
     };
-    scope.op.result = Some(Param {
-        name: name.copied(),
-        kind,
-    });
+    define(&mut scope.op.results, name.copied(), kind)?;
     scope.naming = None;
     Ok(())
 }
 
 /// The `}` of an op.
 pub(crate) fn op_end(scope: &mut Scope) -> Result<(), Refused>
-    ensures { Judges (rules.unless (not (seen scope.old).op.assigned) NoResult
-        (Ok (record (seen scope.old) { op = rules.new_op }))) result (seen scope.new) }
+    ensures { Judges (rules.op_end (seen scope.old)) result (seen scope.new) }
 {
-    if !scope.op.assigned {
+    if is_one_open(scope) {
         return Err(Refused::Rule(OpsKind::NoResult));
     }
     scope.op = InOp::new(scope.alloc);

@@ -16,7 +16,7 @@ use crate::names::kind_of_word;
 use crate::scope::Scope;
 use crate::value_rules::{close, comma, name};
 use crate::word_rules::{
-    another_argument, argument, no_more_arguments, statement, word_end, word_op,
+    another_argument, argument, no_more_arguments, second_target, statement, word_end, word_op,
 };
 use op_text::{Spelling, Terminal, Wanted};
 
@@ -34,6 +34,7 @@ fn allows_name(wanted: Wanted, spelling: Spelling) -> bool
         | Wanted::NewResult
         | Wanted::FirstStmt
         | Wanted::Stmts
+        | Wanted::NewTarget
         | Wanted::WordOpName
         | Wanted::Args
         | Wanted::ArgName
@@ -66,7 +67,12 @@ fn allows_comma(wanted: Wanted) -> bool
 {
     matches!(
         wanted,
-        Wanted::Params | Wanted::MoreArgs | Wanted::MoreStates | Wanted::More
+        Wanted::Params
+            | Wanted::SecondResult
+            | Wanted::SecondTarget
+            | Wanted::MoreArgs
+            | Wanted::MoreStates
+            | Wanted::More
     )
 }
 
@@ -80,9 +86,9 @@ pub(crate) fn allows(wanted: Wanted, terminal: Terminal) -> bool
         Terminal::Comma => allows_comma(wanted),
         Terminal::Zero => matches!(wanted, Wanted::Start | Wanted::Value),
         Terminal::One => matches!(wanted, Wanted::Start | Wanted::Value),
-        Terminal::Equals => matches!(wanted, Wanted::Equals),
+        Terminal::Equals => matches!(wanted, Wanted::Equals | Wanted::SecondTarget),
         Terminal::Opens => matches!(wanted, Wanted::GateOpen | Wanted::Open),
-        Terminal::Begins => matches!(wanted, Wanted::Begin),
+        Terminal::Begins => matches!(wanted, Wanted::Begin | Wanted::SecondResult),
         Terminal::Finishes => matches!(wanted, Wanted::Stmts | Wanted::Assigns),
         Terminal::Semi => { matches!(wanted, Wanted::WordEnd | Wanted::LetEnd | Wanted::AssignEnd) }
         Terminal::Colon => matches!(wanted, Wanted::Colon),
@@ -116,6 +122,7 @@ fn judge_name(
         Wanted::ParamKind => source_kind(scope, kind_of_word(spelling)),
         Wanted::NewResult => new_name(scope, spelling, text),
         Wanted::ResultKind => result_kind(scope, kind_of_word(spelling)),
+        Wanted::NewTarget => second_target(scope, spelling, text),
         Wanted::WordOpName => word_op(scope, spelling, text),
         Wanted::Args => argument(scope, spelling, text),
         Wanted::ArgName => argument(scope, spelling, text),

@@ -10,6 +10,7 @@ mod names;
 mod parse;
 mod parser;
 mod pieces;
+mod results;
 mod scope;
 mod scratch;
 mod statements;

@@ -2,7 +2,6 @@
 
 ghost use Rattle.std.specs.Prelude.{◌≡◌, ◌++◌, [], ◌∷◌, map, filter, not, Some, None, OnOk, IfOk};
 ghost use Rattle.std.specs.Prelude.{if◌then◌else◌};
-ghost use Rattle.std.specs.List.{list_any};
 ghost use Rattle.op_text.specs.Rules.{is_among, is_bad, is_called, is_of_kind, kind_among};
 ghost use Rattle.op_text.specs.Rules.{kind_of_word};
 ghost use Rattle.op_text.specs.WordOps.{same_kind};
@@ -38,12 +37,12 @@ pub(crate) fn is_bad(spelling: Spelling, text: &[u8]) -> bool
     }
 }
 
-pub(crate) fn is_called(param: &Option<Param>, text: &[u8]) -> bool
-    ensures { result ≡ is_called param.now text.now }
+pub(crate) fn is_called(called: &Option<Name>, text: &[u8]) -> bool
+    ensures { result ≡ is_called called.now text.now }
 {
-    match param {
+    match called {
         None => false,
-        Some(param) => param.name.bytes() == text,
+        Some(name) => name.bytes() == text,
     }
 }
 
@@ -58,19 +57,13 @@ pub(crate) fn is_same_kind(a: Kind, b: Kind) -> bool
     }
 }
 
-pub(crate) fn is_of_kind(param: &Option<Param>, kind: Kind) -> bool
-    ensures { result ≡ is_of_kind param.now kind }
+pub(crate) fn is_of_kind(found: Option<Kind>, kind: Kind) -> bool
+    ensures { result ≡ is_of_kind found kind }
 {
-    match param {
+    match found {
         None => false,
-        Some(param) => is_same_kind(param.kind, kind),
+        Some(found) => is_same_kind(found, kind),
     }
-}
-
-pub(crate) fn is_called_by_one(param: &Option<Param>, names: &[Name]) -> bool
-    ensures { result ≡ list_any (λ n. is_called param.now n) names.now }
-{
-    names.iter().any(|n| is_called(param, n.bytes()))
 }
 
 /// The kind of a name that can be read.
@@ -128,6 +121,27 @@ pub(crate) fn define_all(
 {
     for name in names {
         define(defined, name.copied(), kind)?;
+    }
+    Ok(())
+}
+
+/// Adds the names of such, if there is memory.
+pub(crate) fn keep_names(names: &mut Vec<Name>, params: &[Param]) -> Result<(), NoMemory>
+    ensures { OnOk result (names.new.items ≡ names.old.items
+        ++ map (λ (p : Param). p.name) params.now) }
+{
+    for param in params {
+        keep(names, param.name.copied())?;
+    }
+    Ok(())
+}
+
+/// Adds names that can be read, with their kinds, if there is memory.
+pub(crate) fn define_params(defined: &mut Vec<Param>, params: &[Param]) -> Result<(), NoMemory>
+    ensures { OnOk result (defined.new.items ≡ defined.old.items ++ params.now) }
+{
+    for param in params {
+        define(defined, param.name.copied(), param.kind)?;
     }
     Ok(())
 }

@@ -4,7 +4,8 @@ ghost use Rattle.std.specs.Prelude.{◌≡◌, ◌<◌, ◌≤◌, ◌^◌, ◌=
 ghost use Rattle.std.specs.Prelude.{false, map, length, count_by};
 ghost use Rattle.op_text.specs.declared.grammar.Wanted.TheVariants as w;
 ghost use Rattle.op_text.specs.Language.{operation, operations};
-ghost use Rattle.op_text.specs.Spelling.{operation_text, between_commas, param_text, MeetRules};
+ghost use Rattle.op_text.specs.Spelling.{operation_text, between_commas, behind_comma, param_text};
+ghost use Rattle.op_text.specs.Spelling.{MeetRules};
 ghost use Rattle.op_text.specs.Lines.{line_at, line_of};
 ghost use Rattle.op_lang.specs.Tokens.{is_nil};
 ghost use Rattle.op_lang.specs.Reading.{Moves, MovesTo, left};
@@ -13,7 +14,7 @@ ghost use Rattle.op_lang.specs.Parsing.{ReadsOps, Parses};
 use crate::fault::ReadNo;
 use crate::lists::{param, sources};
 use crate::parser::Parser;
-use crate::pieces::{mark, name, op_word};
+use crate::pieces::{mark, name, op_word, second};
 use crate::statements::body;
 use op_text::{Op, Ops, OpsFault, OpsNo, Param, Wanted, names_are_names};
 use std::alloc::Global;
@@ -29,23 +30,36 @@ fn inputs(parser: &mut Parser<'_>, alloc: Global) -> Result<Vec<Param>, ReadNo>
     sources(parser, alloc)
 }
 
-/// The result of an op, between its marks.
-fn outcome(parser: &mut Parser<'_>) -> Result<Param, ReadNo>
-    ensures moves { Moves (w.Arrow ∷ w.NewResult ∷ w.Colon ∷ w.ResultKind ∷ w.Begin
-        ∷ []) parser.old result parser.new }
+/// The second result of an op, if there is one, with the brace behind it.
+fn second_outcome(parser: &mut Parser<'_>) -> Result<Option<Param>, ReadNo>
+    ensures moves { Moves (w.SecondResult ∷ []) parser.old result parser.new }
     ensures spells { IfOk result (λ p. left parser.old
-        ≡ codes "->" ∷ param_text p (codes "{" ∷ left parser.new)) }
+        ≡ behind_comma param_text p (codes "{" ∷ left parser.new)) }
+{
+    if second(parser, Wanted::SecondResult)? {
+        let result = param(parser, Wanted::NewResult, Wanted::ResultKind)?;
+        mark(parser, Wanted::Begin)?;
+        Ok(Some(result))
+    } else {
+        Ok(None)
+    }
+}
+
+/// The first result of an op, behind its mark.
+fn outcome(parser: &mut Parser<'_>) -> Result<Param, ReadNo>
+    ensures moves { Moves (w.Arrow ∷ w.NewResult ∷ w.Colon ∷ w.ResultKind ∷ []) parser.old result
+        parser.new }
+    ensures spells { IfOk result (λ p. left parser.old
+        ≡ codes "->" ∷ param_text p (left parser.new)) }
 {
     mark(parser, Wanted::Arrow)?;
-    let result = param(parser, Wanted::NewResult, Wanted::ResultKind)?;
-    mark(parser, Wanted::Begin)?;
-    Ok(result)
+    param(parser, Wanted::NewResult, Wanted::ResultKind)
 }
 
 /// An op behind its word.
 fn op_behind(parser: &mut Parser<'_>, alloc: Global) -> Result<Op, ReadNo>
     ensures moves { Moves (w.NewOp ∷ w.Open ∷ w.NewParam ∷ w.Colon ∷ w.ParamKind ∷ w.Params
-        ∷ w.Arrow ∷ w.NewResult ∷ w.Colon ∷ w.ResultKind ∷ w.Begin ∷ w.FirstStmt
+        ∷ w.Arrow ∷ w.NewResult ∷ w.Colon ∷ w.ResultKind ∷ w.SecondResult ∷ w.FirstStmt
         ∷ []) parser.old result parser.new }
     ensures spells { IfOk result (λ o. codes "op" ∷ left parser.old
         ≡ operation_text (operation o) (left parser.new)) }
@@ -53,11 +67,13 @@ fn op_behind(parser: &mut Parser<'_>, alloc: Global) -> Result<Op, ReadNo>
     let name = name(parser, Wanted::NewOp)?;
     let params = inputs(parser, alloc)?;
     let result = outcome(parser)?;
+    let second = second_outcome(parser)?;
     let body = body(parser, alloc)?;
     Ok(Op {
         name,
         params,
         result,
+        second,
         body,
     })
 }

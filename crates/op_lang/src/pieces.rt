@@ -11,7 +11,8 @@ ghost use Rattle.op_lang.specs.Pieces.{behind_name_or_end, name_or_end, is_more}
 ghost use Rattle.op_lang.specs.Pieces.{behind_comma_or_close, comma_or_close, is_kind, kind_at};
 ghost use Rattle.op_lang.specs.Pieces.{is_statement, is_named, is_finish, is_serial_word};
 ghost use Rattle.op_lang.specs.Pieces.{is_let_word, is_down, is_one, is_comma, behind_start};
-ghost use Rattle.op_lang.specs.Pieces.{start_spelled, behind_line, line_spelled};
+ghost use Rattle.op_lang.specs.Pieces.{start_spelled, behind_line, line_spelled, is_second};
+ghost use Rattle.op_lang.specs.Pieces.{behind_second, comma_or_end};
 
 use crate::fault::ReadNo;
 use crate::parser::Parser;
@@ -40,7 +41,7 @@ pub(crate) fn op_word(parser: &mut Parser<'_>) -> Result<(), ReadNo>
     requires { is_nil parser.old.items ≡ false }
     ensures moves { MovesTo (w.Ops ∷ []) parser.old result (λ x. w.NewOp ∷ w.Open ∷ w.NewParam
         ∷ w.Colon ∷ w.ParamKind ∷ w.Params ∷ w.Arrow ∷ w.NewResult ∷ w.Colon ∷ w.ResultKind
-        ∷ w.Begin ∷ w.FirstStmt ∷ w.Ops ∷ []) parser.new }
+        ∷ w.SecondResult ∷ w.FirstStmt ∷ w.Ops ∷ []) parser.new }
     ensures spells { OnOk result (left parser.old ≡ codes "op" ∷ left parser.new) }
 {
     parser.take(Wanted::Ops)?;
@@ -92,6 +93,16 @@ pub(crate) fn more(parser: &mut Parser<'_>, wanted: Wanted) -> Result<bool, Read
     ensures moves { MovesTo (wanted ∷ []) parser.old result (behind_comma_or_close wanted)
         parser.new }
     ensures spells { IfOk result (λ b. left parser.old ≡ comma_or_close b ∷ left parser.new) }
+{
+    let token = parser.take(wanted)?;
+    Ok(is_comma(token.terminal))
+}
+
+/// Whether a second result or a second target stands there.
+pub(crate) fn second(parser: &mut Parser<'_>, wanted: Wanted) -> Result<bool, ReadNo>
+    requires { is_second wanted ≡ true }
+    ensures moves { MovesTo (wanted ∷ []) parser.old result (behind_second wanted) parser.new }
+    ensures spells { IfOk result (λ b. left parser.old ≡ comma_or_end wanted b ∷ left parser.new) }
 {
     let token = parser.take(wanted)?;
     Ok(is_comma(token.terminal))

@@ -8,20 +8,20 @@ use op_text::{Kind, Param, WordOp};
 use std::alloc::Global;
 use text_lex::Name;
 
-/// Within an op: each new name, the names that can be read, the result once it is named, whether it
-/// is assigned, and the number of statements.
+/// Within an op: each new name, the names that can be read, the results that are named, and the
+/// number of statements.
 #[derive(Drop)]
 pub(crate) struct InOp {
     pub stands: Vec<Name>,
     pub defined: Vec<Param>,
-    pub result: Option<Param>,
-    pub assigned: bool,
+    pub results: Vec<Param>,
     pub statements: usize,
 }
 
-/// Within a word statement: its operation and the kinds of the arguments so far.
+/// Within a word statement: its second target, its operation and the kinds of the arguments so far.
 #[derive(Drop)]
 pub(crate) struct InWord {
+    pub second: Option<Name>,
     pub operation: WordOp,
     pub given: Vec<Kind>,
 }
@@ -57,8 +57,7 @@ impl InOp {
         InOp {
             stands: Vec::new(alloc),
             defined: Vec::new(alloc),
-            result: None,
-            assigned: false,
+            results: Vec::new(alloc),
             statements: 0,
         }
     }
@@ -69,6 +68,7 @@ impl InWord {
         ensures { seen_word result ≡ rules.new_word }
     {
         InWord {
+            second: None,
             operation: WordOp::Not,
             given: Vec::new(alloc),
         }

@@ -2,14 +2,16 @@
 
 ghost use Rattle.std.specs.Prelude.{◌≡◌, ℕ, ◌+◌, ◌*◌, ◌≤◌, ◌&&◌, [], ◌∷◌, min, map, not, count_by};
 ghost use Rattle.std.specs.Prelude.{bytes_eq, Option, Some, None, length};
-ghost use Rattle.op_text.specs.Language.{statement, operation};
+ghost use Rattle.op_text.specs.Language.{statement, operation, result_names};
 ghost use Rattle.std.specs.List.{list_any};
-ghost use Rattle.op_text.specs.Rules.{kind_among};
+ghost use Rattle.std.specs.Option.{option_to_list};
+ghost use Rattle.op_text.specs.Rules.{is_among, kind_among, second_of};
+ghost use Rattle.op_text.specs.WordOps.{second_gives};
 ghost use Rattle.op_text.specs.Scratch as scratch;
 ghost use Rattle.op_lang.specs.Counting.{known_after, is_counted, need_of, rows_needed, MOST};
 
 use crate::names::{is_same_kind, kind_of};
-use op_text::{Assign, Kind, Op, Param, State, Stmt, WordOp, given_first};
+use op_text::{Assign, Kind, Op, Param, State, Stmt, WordOp, given_first, second_kind};
 use text_lex::Name;
 
 /// The scratch rows that one statement or a whole op needs beside its words' rows: `bits` single
@@ -31,6 +33,28 @@ fn is_target(assigns: &[Assign], name: &[u8]) -> bool
     ensures { result ≡ list_any (λ a. bytes_eq a.name name.now) assigns.now }
 {
     assigns.iter().any(|a| a.name.bytes() == name)
+}
+
+/// The kind of a name that is a second target.
+fn kind_second(second: &Option<Name>, op: WordOp, name: &[u8]) -> Option<Kind>
+    ensures { result ≡ kind_among (second_of second.now op) name.now }
+{
+    match second {
+        Some(target) => {
+            if target.bytes() == name {
+                Some(second_gives(op))
+            } else {
+                None
+            }
+        }
+        None => None,
+    }
+}
+
+fn second_gives(op: WordOp) -> Kind
+    ensures { result ≡ second_gives op }
+{
+    second_kind(op).unwrap_or(Kind::Word)
 }
 
 /// The kind of a name that stands behind some statements.
@@ -55,11 +79,16 @@ fn kind_in(params: &[Param], before: &[Stmt], defining: &Stmt, name: &[u8]) -> O
         (statement defining.now)) name.now }
 {
     match defining {
-        Stmt::Word { dst, op, args } => {
+        Stmt::Word {
+            dst,
+            second,
+            op,
+            args,
+        } => {
             if dst.bytes() == name {
                 Some(kind_given(params, before, *op, args))
             } else {
-                None
+                kind_second(second, *op, name)
             }
         }
         Stmt::Serial {
@@ -78,7 +107,7 @@ fn kind_in(params: &[Param], before: &[Stmt], defining: &Stmt, name: &[u8]) -> O
     }
 }
 
-/// The kind of a word statement's result.
+/// The kind of a word statement's first result.
 #[cycle(kinds)]
 fn kind_given(params: &[Param], before: &[Stmt], op: WordOp, args: &[Name]) -> Kind
     ensures { result ≡ scratch.result_kind (known_after params.now (map statement before.now)) op
@@ -93,44 +122,89 @@ fn kind_given(params: &[Param], before: &[Stmt], op: WordOp, args: &[Name]) -> K
     }
 }
 
-fn count_states(states: &[State], outcome: &[u8]) -> usize
-    ensures { result ≡ count_by (λ s. not (bytes_eq s.name outcome.now)) states.now }
+fn is_result(op: &Op, name: &[u8]) -> bool
+    ensures { result ≡ is_among (result_names (operation op.now)) name.now }
 {
-    states.iter().filter(|s| s.name.bytes() != outcome).count()
+    op.result.name.bytes() == name || is_second(&op.second, name)
 }
 
-fn count_words(states: &[State], assigns: &[Assign], outcome: &[u8]) -> usize
-    ensures { result ≡ count_by (λ a. not (list_any (λ s. bytes_eq s.name a.name) states.now)
-        && not (bytes_eq a.name outcome.now)) assigns.now }
+fn is_second(second: &Option<Param>, name: &[u8]) -> bool
+    ensures { result ≡ is_among (map (λ (p : Param). p.name) (option_to_list second.now)) name.now }
 {
-    assigns
+    match second {
+        Some(param) => param.name.bytes() == name,
+        None => false,
+    }
+}
+
+fn count_states(states: &[State], op: &Op) -> usize
+    ensures { result
+        ≡ count_by (λ s. not (is_among (result_names (operation op.now)) s.name)) states.now }
+{
+    states
         .iter()
-        .filter(|a| !is_state(states, a.name.bytes()) && a.name.bytes() != outcome)
+        .filter(|s| !is_result(op, s.name.bytes()))
         .count()
 }
 
-/// How many names of a kind a statement defines, other than the result.
-fn count_in(params: &[Param], before: &[Stmt], defining: &Stmt, kind: Kind, outcome: &[u8]) -> usize
-    ensures { result ≡ count_by (is_counted kind outcome.now)
+fn count_words(states: &[State], assigns: &[Assign], op: &Op) -> usize
+    ensures { result ≡ count_by (λ a. not (list_any (λ s. bytes_eq s.name a.name) states.now)
+        && not (is_among (result_names (operation op.now)) a.name)) assigns.now }
+{
+    assigns
+        .iter()
+        .filter(|a| !is_state(states, a.name.bytes()) && !is_result(op, a.name.bytes()))
+        .count()
+}
+
+/// 1 for a name of this kind that is no result, and else 0.
+fn count_name(of: &Op, kind: Kind, name: &Name, given: Kind) -> usize
+    ensures value { result ≡ count_by (is_counted kind (result_names (operation of.now)))
+        (scratch.param name.now given ∷ []) }
+    ensures small { result ≤ 1 }
+{
+    if is_same_kind(given, kind) && !is_result(of, name.bytes()) {
+        1
+    } else {
+        0
+    }
+}
+
+fn count_second(of: &Op, kind: Kind, second: &Option<Name>, op: WordOp) -> usize
+    ensures value { result ≡ count_by (is_counted kind (result_names (operation of.now)))
+        (second_of second.now op) }
+    ensures small { result ≤ 1 }
+{
+    match second {
+        Some(name) => count_name(of, kind, name, second_gives(op)),
+        None => 0,
+    }
+}
+
+/// How many names of a kind a statement defines, other than the results.
+fn count_in(params: &[Param], before: &[Stmt], defining: &Stmt, kind: Kind, of: &Op) -> usize
+    ensures { result ≡ count_by (is_counted kind (result_names (operation of.now)))
         (scratch.defines (known_after params.now (map statement before.now))
         (statement defining.now)) }
 {
     match defining {
-        Stmt::Word { dst, op, args } => {
+        Stmt::Word {
+            dst,
+            second,
+            op,
+            args,
+        } => {
             let given = kind_given(params, before, *op, args);
-            if is_same_kind(given, kind) && dst.bytes() != outcome {
-                1
-            } else {
-                0
-            }
+            let first = count_name(of, kind, dst, given);
+            first + count_second(of, kind, second, *op)
         }
         Stmt::Serial {
             states,
             assigns,
             ..
         } => match kind {
-            Kind::Bit => count_states(states, outcome),
-            Kind::Word => count_words(states, assigns, outcome),
+            Kind::Bit => count_states(states, of),
+            Kind::Word => count_words(states, assigns, of),
         },
     }
 }
@@ -158,16 +232,16 @@ fn capped_product(n: u8, a: u16) -> u16
     }
 }
 
-/// How many names of a kind the statements define, other than the result.
-fn count_names(params: &[Param], body: &[Stmt], kind: Kind, outcome: &[u8]) -> u16
-    ensures { result ≡ min (count_by (is_counted kind outcome.now)
+/// How many names of a kind the statements define, other than the results.
+fn count_names(params: &[Param], body: &[Stmt], kind: Kind, of: &Op) -> u16
+    ensures { result ≡ min (count_by (is_counted kind (result_names (operation of.now)))
         (scratch.body_defines params.now (map statement body.now))) MOST }
 {
     match body {
         [] => 0,
         [front @ .., last] => capped_sum(
-            count_names(params, front, kind, outcome),
-            capped(count_in(params, front, last, kind, outcome)),
+            count_names(params, front, kind, of),
+            capped(count_in(params, front, last, kind, of)),
         ),
     }
 }
@@ -177,7 +251,7 @@ fn bits_inside(op: WordOp) -> u16
     ensures small { result ≤ 2 }
 {
     match op {
-        WordOp::Div | WordOp::Rem => 2,
+        WordOp::Div | WordOp::Rem | WordOp::Divmod => 2,
         WordOp::Shl1
         | WordOp::Shr1
         | WordOp::Add
@@ -196,7 +270,7 @@ fn words_inside(op: WordOp) -> u16
     ensures small { result ≤ 2 }
 {
     match op {
-        WordOp::Div | WordOp::Rem => 2,
+        WordOp::Div | WordOp::Rem | WordOp::Divmod => 2,
         _ => 0,
     }
 }
@@ -227,7 +301,7 @@ fn rows_of(op: &Op, kind: Kind) -> u16
     ensures { result ≡ min (rows_needed kind (operation op.now)) MOST }
 {
     capped_sum(
-        count_names(&op.params, &op.body, kind, op.result.name.bytes()),
+        count_names(&op.params, &op.body, kind, op),
         greatest_inside(kind, &op.body),
     )
 }

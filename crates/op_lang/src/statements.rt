@@ -6,7 +6,8 @@ ghost use Rattle.op_text.specs.declared.grammar.Wanted.TheVariants as w;
 ghost use Rattle.op_text.specs.WordOps.{op_text};
 ghost use Rattle.op_text.specs.Language.{equation, statement};
 ghost use Rattle.op_text.specs.Spelling.{in_turn, between_commas, equation_text, let_text};
-ghost use Rattle.op_text.specs.Spelling.{state_text, direction_text, statement_text};
+ghost use Rattle.op_text.specs.Spelling.{state_text, direction_text, statement_text, name_text};
+ghost use Rattle.op_text.specs.Spelling.{behind_comma};
 ghost use Rattle.op_lang.specs.Reading.{Moves, MovesTo, left};
 ghost use Rattle.op_lang.specs.Pieces.{is_statement, is_mark, mark_text};
 ghost use Rattle.op_lang.specs.Parts.{behind_statement, statement_or_end};
@@ -15,7 +16,7 @@ use crate::fault::ReadNo;
 use crate::lists::{arguments, states};
 use crate::parser::Parser;
 use crate::pieces::{
-    Start, direction, line_start, mark, name, name_or_end, statement_start, word_op,
+    Start, direction, line_start, mark, name, name_or_end, second, statement_start, word_op,
 };
 use crate::values::value;
 use op_text::{Assign, State, Stmt, Wanted, WordOp};
@@ -121,29 +122,49 @@ fn serial_block(parser: &mut Parser<'_>, alloc: Global) -> Result<Stmt, ReadNo>
     })
 }
 
-/// The operation of a word statement, between its marks.
+/// The second target of a word statement, if there is one, with the sign behind the targets.
+fn second_target(parser: &mut Parser<'_>) -> Result<Option<Name>, ReadNo>
+    ensures moves { Moves (w.SecondTarget ∷ []) parser.old result parser.new }
+    ensures spells { IfOk result (λ n. left parser.old
+        ≡ behind_comma name_text n (codes "=" ∷ left parser.new)) }
+{
+    if second(parser, Wanted::SecondTarget)? {
+        let target = name(parser, Wanted::NewTarget)?;
+        mark(parser, Wanted::Equals)?;
+        Ok(Some(target))
+    } else {
+        Ok(None)
+    }
+}
+
+/// The operation of a word statement, with the parenthesis behind it.
 fn operation(parser: &mut Parser<'_>) -> Result<WordOp, ReadNo>
-    ensures moves { Moves (w.Equals ∷ w.WordOpName ∷ w.Open ∷ []) parser.old result parser.new }
-    ensures spells { IfOk result (λ op. left parser.old ≡ codes "=" ∷ op_text op ∷ codes "("
+    ensures moves { Moves (w.WordOpName ∷ w.Open ∷ []) parser.old result parser.new }
+    ensures spells { IfOk result (λ op. left parser.old ≡ op_text op ∷ codes "("
         ∷ left parser.new) }
 {
-    mark(parser, Wanted::Equals)?;
     let op = word_op(parser)?;
     mark(parser, Wanted::Open)?;
     Ok(op)
 }
 
-/// A word statement behind its target.
+/// A word statement behind its first target.
 fn word_statement(parser: &mut Parser<'_>, dst: Name, alloc: Global) -> Result<Stmt, ReadNo>
-    ensures moves { Moves (w.Equals ∷ w.WordOpName ∷ w.Open ∷ w.Args ∷ w.WordEnd
+    ensures moves { Moves (w.SecondTarget ∷ w.WordOpName ∷ w.Open ∷ w.Args ∷ w.WordEnd
         ∷ []) parser.old result parser.new }
     ensures spells { IfOk result (λ s. dst ∷ left parser.old
         ≡ statement_text (statement s) (left parser.new)) }
 {
+    let second = second_target(parser)?;
     let op = operation(parser)?;
     let args = arguments(parser, alloc)?;
     mark(parser, Wanted::WordEnd)?;
-    Ok(Stmt::Word { dst, op, args })
+    Ok(Stmt::Word {
+        dst,
+        second,
+        op,
+        args,
+    })
 }
 
 /// A statement, or none at the brace behind the last.

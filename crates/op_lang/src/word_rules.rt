@@ -1,25 +1,28 @@
 //! The rules at the tokens of a word statement.
 
 ghost use Rattle.std.specs.Prelude.{◌≡◌, Some};
+ghost use Rattle.std.specs.Option.{option_to_list};
 ghost use Rattle.op_text.specs.Rules as rules;
 ghost use Rattle.op_lang.specs.Seen.{seen, Judges};
 
 use crate::fault::Refused;
-use crate::names::{define, good_name, is_among, is_bad, is_called, is_of_kind, kind_of};
+use crate::names::{define_params, good_name, is_bad, is_called, keep_names, kind_of};
+use crate::results::{is_one_other, is_taken_name};
 use crate::scope::{InBlock, InWord, Scope};
 use no_memory::keep;
-use op_text::{Kind, OpsKind, Spelling, filled, may_take, op_of, wants_more};
+use op_text::{
+    Kind, OpsKind, Param, Spelling, WordOp, filled, may_take, op_of, second_kind, wants_more,
+};
+use text_lex::Name;
 
-/// The target of a word statement.
+/// The first target of a word statement.
 pub(crate) fn word_target(scope: &mut Scope, spelling: Spelling, text: &[u8]) -> Result<(), Refused>
     ensures { Judges (rules.word_rules (seen scope.old) spelling text.now) result (seen scope.new) }
 {
     let Some(name) = good_name(spelling, text) else {
         return Err(Refused::Rule(OpsKind::BadName));
     };
-    if is_among(&scope.op.stands, text)
-        && (scope.op.assigned || !is_called(&scope.op.result, text))
-    {
+    if is_taken_name(scope, text) {
         return Err(Refused::Rule(OpsKind::Twice));
     }
     if scope.op.statements >= 16 {
@@ -42,6 +45,25 @@ pub(crate) fn block_start(scope: &mut Scope) -> Result<(), Refused>
     Ok(())
 }
 
+/// The second target of a word statement.
+pub(crate) fn second_target(
+    scope: &mut Scope,
+    spelling: Spelling,
+    text: &[u8],
+) -> Result<(), Refused>
+    ensures { Judges (rules.second_rules (seen scope.old) spelling text.now) result
+        (seen scope.new) }
+{
+    let Some(name) = good_name(spelling, text) else {
+        return Err(Refused::Rule(OpsKind::BadName));
+    };
+    if is_called(&scope.naming, text) || is_taken_name(scope, text) {
+        return Err(Refused::Rule(OpsKind::Twice));
+    }
+    scope.word.second = Some(name);
+    Ok(())
+}
+
 /// The first token of a statement.
 pub(crate) fn statement(scope: &mut Scope, spelling: Spelling, text: &[u8]) -> Result<(), Refused>
     ensures { Judges (rules.statement_rules (seen scope.old) spelling text.now) result
@@ -50,6 +72,18 @@ pub(crate) fn statement(scope: &mut Scope, spelling: Spelling, text: &[u8]) -> R
     match spelling {
         Spelling::Serial => block_start(scope),
         _ => word_target(scope, spelling, text),
+    }
+}
+
+/// A second target stands exactly where the operation has a second result.
+fn has_targets(second: &Option<Name>, kind: Option<Kind>) -> bool
+    ensures { result ≡ rules.has_targets second.now kind }
+{
+    match (second, kind) {
+        (None, None) => true,
+        (Some(_), Some(_)) => true,
+        (None, Some(_)) => false,
+        (Some(_), None) => false,
     }
 }
 
@@ -63,6 +97,9 @@ pub(crate) fn word_op(scope: &mut Scope, spelling: Spelling, text: &[u8]) -> Res
     let Some(op) = op_of(text) else {
         return Err(Refused::Rule(OpsKind::Unknown));
     };
+    if !has_targets(&scope.word.second, second_kind(op)) {
+        return Err(Refused::Rule(OpsKind::Kind));
+    }
     scope.word.operation = op;
     Ok(())
 }
@@ -110,6 +147,33 @@ pub(crate) fn no_more_arguments(scope: &mut Scope) -> Result<(), Refused>
     }
 }
 
+/// The second target with its kind, if there is one.
+fn second_of(second: &Option<Name>, op: WordOp) -> Option<Param>
+    ensures { option_to_list result ≡ rules.second_of second.now op }
+{
+    match second {
+        Some(name) => Some(Param {
+            name: name.copied(),
+            kind: second_kind(op).unwrap_or(Kind::Word),
+        }),
+        None => None,
+    }
+}
+
+/// Makes the targets names that can be read.
+fn define_targets(scope: &mut Scope, targets: &[Param]) -> Result<(), Refused>
+    ensures { Judges (rules.defines_targets (seen scope.old) targets.now) result (seen scope.new) }
+{
+    if is_one_other(scope, targets) {
+        return Err(Refused::Rule(OpsKind::Kind));
+    }
+    keep_names(&mut scope.op.stands, targets)?;
+    define_params(&mut scope.op.defined, targets)?;
+    scope.word = InWord::new(scope.alloc);
+    scope.naming = None;
+    Ok(())
+}
+
 fn gives_kind(scope: &mut Scope, kind: Kind) -> Result<(), Refused>
     ensures { Judges (rules.gives_kind (seen scope.old) (seen scope.old).naming (Some kind)) result
         (seen scope.new) }
@@ -117,16 +181,14 @@ fn gives_kind(scope: &mut Scope, kind: Kind) -> Result<(), Refused>
     let Some(target) = &scope.naming else {
         return Ok(());
     };
-    let is_result = is_called(&scope.op.result, target.bytes());
-    if is_result && !is_of_kind(&scope.op.result, kind) {
-        return Err(Refused::Rule(OpsKind::Kind));
+    let first = Param {
+        name: target.copied(),
+        kind,
+    };
+    match second_of(&scope.word.second, scope.word.operation) {
+        Some(second) => define_targets(scope, &[first, second]),
+        None => define_targets(scope, &[first]),
     }
-    keep(&mut scope.op.stands, target.copied())?;
-    define(&mut scope.op.defined, target.copied(), kind)?;
-    scope.op.assigned = scope.op.assigned || is_result;
-    scope.word = InWord::new(scope.alloc);
-    scope.naming = None;
-    Ok(())
 }
 
 /// The `;` of a word statement.

@@ -1,7 +1,8 @@
 -- The canonical text is read again.
 use Rattle.std.proofs.Common.{◌≡◌, ℕ, ◌+◌, Bool, true, false, not, ◌||◌, ◌&&◌, List, [], ◌∷◌, ◌++◌}
 use Rattle.std.proofs.Common.{length, map, refl, sym, ap, ◌∙◌, subst, codes, append_assoc}
-use Rattle.std.proofs.Common.{nat_le}
+use Rattle.std.proofs.Common.{nat_le, Option, Some, None}
+use Rattle.std.specs.Option.{option_to_list}
 use Rattle.std.specs.Char.{is_ascii_digit}
 use Rattle.std.specs.List.{flat_map}
 use Rattle.text_lex.specs.Bytes.{is_name_start}
@@ -18,7 +19,7 @@ use Rattle.op_text.specs.declared.tree.WordOp.TheVariants as o
 use Rattle.op_text.specs.WordOps.{op_text}
 use Rattle.op_text.specs.Language.{Term, Nought, Unity, Named, Negation, Conjunction, Disjunction}
 use Rattle.op_text.specs.Language.{Parity, Majority, Equation, Block, Compute, Visit, Operation}
-use Rattle.op_text.specs.Language.{operation}
+use Rattle.op_text.specs.Language.{operation, results}
 use Rattle.op_text.specs.Spelling.{bare, unplaced, items_spelled, kind_of_text, kind_text}
 use Rattle.op_text.specs.Spelling.{direction_text, start_text, behind_commas, between_commas}
 use Rattle.op_text.specs.Spelling.{in_turn, operations_text, HasNames, HasParam, HasState}
@@ -141,6 +142,7 @@ op_fits o.Bitcount = refl
 op_fits o.AndRed = refl
 op_fits o.OrRed = refl
 op_fits o.XorRed = refl
+op_fits o.Divmod = refl
 
 -- the same text, grouped otherwise
 grouped : {spells : List (List ℕ)} (a b rest : List ℕ) → Reads (a ++ (b ++ rest)) spells
@@ -238,6 +240,17 @@ list_read text spell ok part rest spells (a ∷ xs) h s r =
     (part (flat_map (behind_comma text) xs ++ rest) (behind_commas spell xs spells) a h.0
     (more_stop text xs rest s) (more_read text spell ok part rest spells xs h.1 s r))
 
+-- one part, or two with a comma between them
+pair_read : {A : Type 0} (text : A → List ℕ) (spell : A → List (List ℕ) → List (List ℕ)) (ok : A
+    → Type 0) → Part text spell ok → (rest : List ℕ) (spells : List (List ℕ)) (a : A)
+    (second : Option A) → ok a → tokens.IfThere ok second → stops kinds.Name rest ≡ true
+    → Reads rest spells → Reads (listed text (a ∷ option_to_list second) ++ rest)
+    (spell a (tokens.behind_comma spell second spells))
+pair_read text spell ok part rest spells a None h k s r =
+    list_read text spell ok part rest spells (a ∷ []) (h, tt) s r
+pair_read text spell ok part rest spells a (Some b) h k s r =
+    list_read text spell ok part rest spells (a ∷ b ∷ []) (h, (k, tt)) s r
+
 equation_reads : {rest : List ℕ} {spells : List (List ℕ)} (e : Equation) → HasEquation e
     → Reads rest spells → Reads (equation_text e ++ rest) (tokens.equation_text e spells)
 equation_reads {rest} e h r =
@@ -290,12 +303,18 @@ let_lines rest spells e h r = four_deep (let_text e) rest (let_reads e h (newlin
 assign_lines : Lines assign_line tokens.equation_text HasEquation
 assign_lines rest spells e h r = four_deep (equation_text e) rest (equation_reads e h (newline r))
 
-word_reads : {rest : List ℕ} {spells : List (List ℕ)} (target : List ℕ) (p : WordOp)
-    (args : List (List ℕ)) → IsName target → Each IsName args → Reads rest spells
-    → Reads (word_text target p args ++ rest) (tokens.statement_text (Compute target p args) spells)
-word_reads {rest} {spells} target p args h k r =
-    six target (codes " = ") (op_text p) (codes "(") (listed spelled args) (codes ");") rest
-    (name target h refl (blank (mark (codes "=") refl refl
+word_reads : {rest : List ℕ} {spells : List (List ℕ)} (target : List ℕ)
+    (second : Option (List ℕ)) (p : WordOp) (args : List (List ℕ)) → IsName target
+    → tokens.IfThere IsName second → Each IsName args → Reads rest spells
+    → Reads (word_text target second p args ++ rest)
+    (tokens.statement_text (Compute target second p args) spells)
+word_reads {rest} {spells} target second p args h i k r =
+    six (listed spelled (target ∷ option_to_list second)) (codes " = ") (op_text p) (codes "(")
+    (listed spelled args) (codes ");") rest
+    (pair_read spelled tokens.name_text IsName name_part
+    (32 ∷ 61 ∷ 32 ∷ (op_text p ++ (40 ∷ (listed spelled args ++ (41 ∷ 59 ∷ rest)))))
+    (codes "=" ∷ op_text p ∷ codes "(" ∷ between_commas tokens.name_text args
+    (codes ")" ∷ codes ";" ∷ spells)) target second h i refl (blank (mark (codes "=") refl refl
     (blank (name (op_text p) (op_fits p) refl (mark (codes "(") refl refl
     (list_read spelled tokens.name_text IsName name_part (41 ∷ 59 ∷ rest) (codes ")" ∷ codes ";"
     ∷ spells) args k refl (mark (codes ")") refl refl (mark (codes ";") refl refl r)))))))))
@@ -313,8 +332,9 @@ head_reads {rest} {spells} b h r =
     (mark (codes ")") refl refl (blank (mark (codes "{") refl refl r)))))))))
 
 statement_lines_read : Lines statement_lines tokens.statement_text HasStatement
-statement_lines_read rest spells (Compute target p args) h r =
-    two_deep (word_text target p args) rest (word_reads target p args h.0 h.1 (newline r))
+statement_lines_read rest spells (Compute target second p args) h r =
+    two_deep (word_text target second p args) rest
+    (word_reads target second p args h.0 h.1 h.2 (newline r))
 statement_lines_read rest spells (Visit b) h r =
     let lets = flat_map let_line b.lets in
     let assigns = flat_map assign_line b.assigns in
@@ -331,16 +351,19 @@ op_head_reads : {rest : List ℕ} {spells : List (List ℕ)} (p : Operation) →
     → Reads rest spells
     → Reads (op_head p ++ rest) (codes "op" ∷ p.name ∷ codes "("
     ∷ between_commas tokens.param_text p.params (codes ")" ∷ codes "->"
-    ∷ tokens.param_text p.result (codes "{" ∷ spells)))
+    ∷ tokens.param_text p.result (tokens.behind_comma tokens.param_text p.second
+    (codes "{" ∷ spells))))
 op_head_reads {rest} {spells} p h r =
     name (codes "op") refl refl (blank (six p.name (codes "(") (listed param_text p.params)
-    (codes ") -> ") (param_text p.result) (codes " {") rest
+    (codes ") -> ") (listed param_text (results p)) (codes " {") rest
     (name p.name h.name refl (mark (codes "(") refl refl
     (list_read param_text tokens.param_text HasParam param_part (41 ∷ 32 ∷ 45 ∷ 62 ∷ 32
-    ∷ (param_text p.result ++ (32 ∷ 123 ∷ rest))) (codes ")" ∷ codes "->"
-    ∷ tokens.param_text p.result (codes "{" ∷ spells)) p.params h.params refl
+    ∷ (listed param_text (results p) ++ (32 ∷ 123 ∷ rest))) (codes ")" ∷ codes "->"
+    ∷ tokens.param_text p.result (tokens.behind_comma tokens.param_text p.second
+    (codes "{" ∷ spells))) p.params h.params refl
     (mark (codes ")") refl refl (blank (mark (codes "->") refl refl
-    (blank (param_part (32 ∷ 123 ∷ rest) (codes "{" ∷ spells) p.result h.result refl
+    (blank (pair_read param_text tokens.param_text HasParam param_part (32 ∷ 123 ∷ rest)
+    (codes "{" ∷ spells) p.result p.second h.result h.second refl
     (blank (mark (codes "{") refl refl r))))))))))))
 
 op_lines_read : Lines op_lines tokens.operation_text HasOperation

@@ -23,6 +23,9 @@ use Rattle.op_text.specs.Language.{Term, Nought, Unity, Named, Negation, Conjunc
 use Rattle.op_text.specs.Language.{Parity, Majority, Equation, Block, Statement, Compute, Visit}
 use Rattle.op_text.specs.Language.{Operation, operation}
 use Rattle.op_text.specs.Spelling.{TermMeets, is_good, kind_text, direction_text, start_text, Each}
+use Rattle.op_text.specs.Spelling.{IfThere}
+use Rattle.std.specs.Option.{option_to_list}
+use Rattle.std.proofs.Common.{Option, Some, None}
 use Rattle.op_text.specs.Spelling.{IsName, HasParam, HasState, HasEquation, HasStatement}
 use Rattle.op_text.specs.Spelling.{HasOperation}
 use Rattle.op_rules.specs.Meets.{Context, LetsRead, WordMeets, BlockMeets, StatementMeets}
@@ -317,6 +320,7 @@ forms_few o.Bitcount = (omega arith, tt)
 forms_few o.AndRed = (omega arith, tt)
 forms_few o.OrRed = (omega arith, tt)
 forms_few o.XorRed = (omega arith, tt)
+forms_few o.Divmod = (omega arith, tt)
 
 op_short : (p : WordOp) → length (op_text p) ≤ 8
 op_short o.Not = omega arith
@@ -345,6 +349,7 @@ op_short o.Bitcount = omega arith
 op_short o.AndRed = omega arith
 op_short o.OrRed = omega arith
 op_short o.XorRed = omega arith
+op_short o.Divmod = omega arith
 
 names_short : (args : List (List ℕ)) → Each IsName args → Each (Short spelled 16) args
 names_short args h = each_short IsName spelled 16 name_short args h
@@ -353,25 +358,36 @@ length-map : {A B : Type 0} (f : A → B) (xs : List A) → length (map f xs) �
 length-map f [] = refl
 length-map f (x ∷ xs) = ap suc (length-map f xs)
 
-word_short : (c : Context) (target : List ℕ) (p : WordOp) (args : List (List ℕ))
-    → HasStatement (Compute target p args) → WordMeets c target p args
-    → length (statement_lines (Compute target p args)) ≤ 20500
-word_short c target p args h m =
+-- a second part, if there is one
+second_short : {A : Type 0} (ok : A → Type 0) (text : A → List ℕ) (c : ℕ) → ((a : A) → ok a
+    → Short text c a) → (second : Option A) → IfThere ok second
+    → length (flat_map (behind_comma text) (option_to_list second)) ≤ c + 2
+second_short ok text c f None k = omega arith
+second_short ok text c f (Some b) k = let h =
+    flat_short (behind_comma text) (c + 2) (b ∷ []) (behind_short text c (b ∷ []) (f b k, tt)) in
+    omega arith
+
+word_short : (c : Context) (target : List ℕ) (second : Option (List ℕ)) (p : WordOp)
+    (args : List (List ℕ)) → HasStatement (Compute target second p args)
+    → WordMeets c target second p args
+    → length (statement_lines (Compute target second p args)) ≤ 20500
+word_short c target second p args h m =
     let few = filled_few (forms p) (map (kind_of c.known) args) _ (forms_few p) m.takes in
     let list = listed spelled args in
     simp length-append (omega (
       arith,
       few,
       length-map (kind_of c.known) args,
-      listed_short spelled 16 args (names_short args h.1),
+      listed_short spelled 16 args (names_short args h.2),
       times (length args) 3 18 (omega (arith, few, length-map (kind_of c.known) args)),
       op_short p,
       name_short target h.0,
+      second_short IsName spelled 16 name_short second h.1,
     ))
 
 statement_short : (c : Context) (s : Statement) → HasStatement s → StatementMeets c s
     → Short statement_lines 20500 s
-statement_short c (Compute target p args) h m = word_short c target p args h m
+statement_short c (Compute target second p args) h m = word_short c target second p args h m
 statement_short c (Visit b) h m = block_short c b h m
 
 body_short : (c : Context) (body : List Statement) → Each HasStatement body → BodyMeets c body
@@ -383,7 +399,6 @@ body_short c (s ∷ body) h m =
 op_is_short : (op : Operation) → HasOperation op → OperationMeets op → Short op_lines 330000 op
 op_is_short op h m =
     let params = listed param_text op.params in
-    let result = param_text op.result in
     let body = flat_map statement_lines op.body in
     let last = line [] (codes "}") in
     simp length-append (omega (
@@ -394,6 +409,7 @@ op_is_short op h m =
       times (length op.params) 4 24 m.few_params,
       name_short op.result.name h.result,
       kind_short op.result.kind,
+      second_short HasParam param_text 22 param_short op.second h.second,
       flat_short statement_lines 20500 op.body (body_short _ op.body h.body m.body),
       times (length op.body) 16 20500 m.few_statements,
     ))

@@ -1,5 +1,6 @@
 -- Worked texts: what is written for these trees, byte for byte.
 use Rattle.std.proofs.Common.{◌≡◌, ℕ, true, false, List, [], ◌∷◌, ◌++◌, codes, refl}
+use Rattle.std.proofs.Common.{Some, None}
 use Rattle.op_text.specs.declared.tree.Kind.{Kind}
 use Rattle.op_text.specs.declared.tree.Kind.TheVariants.{Word, Bit}
 use Rattle.op_text.specs.declared.tree.Param.{Param}
@@ -31,7 +32,8 @@ mac = record {
   name = codes "mac";
   params = param a Word ∷ param b Word ∷ param c Word ∷ [];
   result = param y Word;
-  body = Compute (codes "t") o.Mul (a ∷ b ∷ []) ∷ Compute y o.Add (codes "t" ∷ c ∷ []) ∷ [];
+  second = None;
+  body = Compute (codes "t") None o.Mul (a ∷ b ∷ []) ∷ Compute y None o.Add (codes "t" ∷ c ∷ []) ∷ [];
 }
 
 abbrev sum : Operation
@@ -39,6 +41,7 @@ sum = record {
   name = codes "sum";
   params = param a Word ∷ param b Word ∷ [];
   result = param y Word;
+  second = None;
   body = Visit (record {
     down = false;
     states = record { name = c; start = false } ∷ [];
@@ -61,7 +64,8 @@ odd = record {
   name = codes "odd";
   params = param a Bit ∷ [];
   result = param y Bit;
-  body = Compute (codes "z") o.Zero []
+  second = None;
+  body = Compute (codes "z") None o.Zero []
       ∷ Visit (record {
         down = false;
         states = [];
@@ -81,6 +85,20 @@ odd_op : canonical_text (odd ∷ []) ≡
     ++ codes "    v = not(and(a, 1));\n  }\n"
     ++ codes "  serial down (y = 1, c = 0) {\n    y = or(0, v);\n  }\n}\n"
 odd_op = refl
+
+-- two results of one statement
+abbrev dm : Operation
+dm = record {
+  name = codes "dm";
+  params = param a Word ∷ param b Word ∷ [];
+  result = param (codes "q") Word;
+  second = Some (param (codes "r") Word);
+  body = Compute (codes "q") (Some (codes "r")) o.Divmod (a ∷ b ∷ []) ∷ [];
+}
+
+two_results : canonical_text (dm ∷ []) ≡
+    codes "op dm(a: word, b: word) -> q: word, r: word {\n  q, r = divmod(a, b);\n}\n"
+two_results = refl
 
 no_ops : canonical_text [] ≡ []
 no_ops = refl

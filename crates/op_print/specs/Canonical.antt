@@ -1,5 +1,6 @@
 -- The one canonical text of ops.
-use Rattle.std.specs.Prelude.{ℕ, List, [], ◌∷◌, ◌++◌, codes}
+use Rattle.std.specs.Prelude.{ℕ, List, [], ◌∷◌, ◌++◌, codes, Option}
+use Rattle.std.specs.Option.{option_to_list}
 use Rattle.std.specs.List.{flat_map}
 use Rattle.op_text.specs.declared.tree.WordOp.{WordOp}
 use Rattle.op_text.specs.declared.tree.Param.{Param}
@@ -8,7 +9,7 @@ use Rattle.op_text.specs.WordOps.{op_text}
 use Rattle.op_text.specs.Spelling.{kind_text, direction_text, start_text}
 use Rattle.op_text.specs.Language.{Term, Nought, Unity, Named, Negation, Conjunction, Disjunction}
 use Rattle.op_text.specs.Language.{Parity, Majority, Equation, Block, Statement, Compute, Visit}
-use Rattle.op_text.specs.Language.{Operation}
+use Rattle.op_text.specs.Language.{Operation, results}
 
 -- a comma, a blank and a part
 abbrev pub behind_comma : {A : Type 0} → (A → List ℕ) → A → List ℕ
@@ -48,9 +49,9 @@ equation_text e = e.name ++ codes " = " ++ value_text e.value ++ codes ";"
 abbrev pub let_text : Equation → List ℕ
 let_text e = codes "let " ++ equation_text e
 
-abbrev pub word_text : List ℕ → WordOp → List (List ℕ) → List ℕ
-word_text target p args = target ++ codes " = " ++ op_text p ++ codes "(" ++ listed spelled args
-    ++ codes ");"
+abbrev pub word_text : List ℕ → Option (List ℕ) → WordOp → List (List ℕ) → List ℕ
+word_text target second p args = listed spelled (target ∷ option_to_list second) ++ codes " = "
+    ++ op_text p ++ codes "(" ++ listed spelled args ++ codes ");"
 
 abbrev pub block_head : Block → List ℕ
 block_head b = codes "serial " ++ direction_text b.down ++ codes " (" ++ listed state_text b.states
@@ -58,7 +59,7 @@ block_head b = codes "serial " ++ direction_text b.down ++ codes " (" ++ listed 
 
 abbrev pub op_head : Operation → List ℕ
 op_head o = codes "op " ++ o.name ++ codes "(" ++ listed param_text o.params ++ codes ") -> "
-    ++ param_text o.result ++ codes " {"
+    ++ listed param_text (results o) ++ codes " {"
 
 -- a line: its indent, what stands on it, and a newline
 abbrev pub line : List ℕ → List ℕ → List ℕ
@@ -66,7 +67,8 @@ line indent text = indent ++ text ++ 10 ∷ []
 
 -- a statement stands two blanks deep, and the lines of a block four
 abbrev pub statement_lines : Statement → List ℕ
-statement_lines (Compute target p args) = line (codes "  ") (word_text target p args)
+statement_lines (Compute target second p args) =
+    line (codes "  ") (word_text target second p args)
 statement_lines (Visit b) =
     line (codes "  ") (block_head b) ++ flat_map (λ e. line (codes "    ") (let_text e)) b.lets
     ++ flat_map (λ e. line (codes "    ") (equation_text e)) b.assigns

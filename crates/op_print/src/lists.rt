@@ -1,6 +1,7 @@
 //! Lists with commas, written.
 
-ghost use Rattle.std.specs.Prelude.{◌≡◌, ◌++◌, OnOk};
+ghost use Rattle.std.specs.Prelude.{◌≡◌, ◌++◌, ◌∷◌, OnOk};
+ghost use Rattle.std.specs.Option.{option_to_list};
 ghost use Rattle.std.specs.List.{flat_map};
 ghost use Rattle.op_print.specs.Canonical.{listed, behind_comma, spelled, param_text, state_text};
 
@@ -27,6 +28,44 @@ fn put_more_params(out: &mut Vec<u8>, params: &[Param]) -> Result<(), NoMemory>
         put_param(out, param)?;
     }
     Ok(())
+}
+
+/// Writes an op's results, with a comma between two.
+pub(crate) fn put_results(
+    out: &mut Vec<u8>,
+    first: &Param,
+    second: &Option<Param>,
+) -> Result<(), NoMemory>
+    ensures { OnOk result (out.new.items
+        ≡ out.old.items ++ listed param_text (first.now ∷ option_to_list second.now)) }
+{
+    put_param(out, first)?;
+    match second {
+        Some(second) => {
+            put_comma(out)?;
+            put_param(out, second)
+        }
+        None => Ok(()),
+    }
+}
+
+/// Writes a word statement's targets, with a comma between two.
+pub(crate) fn put_targets(
+    out: &mut Vec<u8>,
+    first: &Name,
+    second: &Option<Name>,
+) -> Result<(), NoMemory>
+    ensures { OnOk result (out.new.items
+        ≡ out.old.items ++ listed spelled (first.now ∷ option_to_list second.now)) }
+{
+    put(out, first.bytes())?;
+    match second {
+        Some(second) => {
+            put_comma(out)?;
+            put(out, second.bytes())
+        }
+        None => Ok(()),
+    }
 }
 
 /// Writes parameters, with commas between them.

@@ -52,6 +52,7 @@ pub(crate) fn op_name(op: WordOp) -> &'static [u8]
         WordOp::AndRed => b"and_red",
         WordOp::OrRed => b"or_red",
         WordOp::XorRed => b"xor_red",
+        WordOp::Divmod => b"divmod",
     }
 }
 

@@ -6,7 +6,7 @@ ghost use Rattle.op_text.specs.Spelling.{MeetRules};
 ghost use Rattle.op_text.specs.OpsOf.{IsOpsOf};
 ghost use Rattle.op_print.specs.Canonical.{op_head, line, op_lines, canonical_text};
 
-use crate::lists::{put_param, put_params};
+use crate::lists::{put_params, put_results};
 use crate::pieces::put;
 use crate::statements::put_body;
 use no_memory::NoMemory;
@@ -24,7 +24,7 @@ fn put_head(out: &mut Vec<u8>, op: &Op) -> Result<(), NoMemory>
     put(out, b"(")?;
     put_params(out, &op.params)?;
     put(out, b") -> ")?;
-    put_param(out, &op.result)?;
+    put_results(out, &op.result, &op.second)?;
     put(out, b" {\n")
 }
 

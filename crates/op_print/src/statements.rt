@@ -7,7 +7,7 @@ ghost use Rattle.op_text.specs.Spelling.{direction_text};
 ghost use Rattle.op_print.specs.Canonical.{listed, state_text, equation_text, let_text, word_text};
 ghost use Rattle.op_print.specs.Canonical.{line, statement_lines};
 
-use crate::lists::{put_arguments, put_states};
+use crate::lists::{put_arguments, put_states, put_targets};
 use crate::pieces::{op_name, put};
 use crate::values::put_equation;
 use no_memory::NoMemory;
@@ -40,12 +40,18 @@ fn put_assigns(out: &mut Vec<u8>, assigns: &[Assign]) -> Result<(), NoMemory>
 }
 
 /// Writes the line of a word statement.
-fn put_word(out: &mut Vec<u8>, dst: &Name, op: WordOp, args: &[Name]) -> Result<(), NoMemory>
+fn put_word(
+    out: &mut Vec<u8>,
+    dst: &Name,
+    second: &Option<Name>,
+    op: WordOp,
+    args: &[Name],
+) -> Result<(), NoMemory>
     ensures { OnOk result (out.new.items
-        ≡ out.old.items ++ line (codes "  ") (word_text dst.now op args.now)) }
+        ≡ out.old.items ++ line (codes "  ") (word_text dst.now second.now op args.now)) }
 {
     put(out, b"  ")?;
-    put(out, dst.bytes())?;
+    put_targets(out, dst, second)?;
     put(out, b" = ")?;
     put(out, op_name(op))?;
     put(out, b"(")?;
@@ -74,7 +80,12 @@ fn put_statement(out: &mut Vec<u8>, stmt: &Stmt) -> Result<(), NoMemory>
         ≡ out.old.items ++ statement_lines (statement stmt.now)) }
 {
     match stmt {
-        Stmt::Word { dst, op, args } => put_word(out, dst, *op, args),
+        Stmt::Word {
+            dst,
+            second,
+            op,
+            args,
+        } => put_word(out, dst, second, *op, args),
         Stmt::Serial {
             down,
             states,

@@ -10,6 +10,6 @@ returns-in_err-op_word-clause-moves c = exits (w.Ops ∷ []) _ _ _ (λ o. w.Ops
 pub returns-clause-moves : goal.returns-clause-moves
 returns-clause-moves c =
     continues (w.Ops ∷ []) (w.NewOp ∷ w.Open ∷ w.NewParam ∷ w.Colon ∷ w.ParamKind ∷ w.Params
-    ∷ w.Arrow ∷ w.NewResult ∷ w.Colon ∷ w.ResultKind ∷ w.Begin ∷ w.FirstStmt ∷ []) (w.Ops
+    ∷ w.Arrow ∷ w.NewResult ∷ w.Colon ∷ w.ResultKind ∷ w.SecondResult ∷ w.FirstStmt ∷ []) (w.Ops
     ∷ []) c.args.parser.now c.op_word.new.parser c.op_behind.result c.op_behind.new.parser
     (λ more. c.in_ok-op_word.ensures.moves more) c.op_behind.ensures.moves

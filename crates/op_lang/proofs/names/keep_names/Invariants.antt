@@ -1,0 +1,7 @@
+use Rattle.std.proofs.Common.{◌≡◌, ◌++◌, map, take}
+use Rattle.op_text.specs.declared.tree.Param.{Param}
+use Rattle.op_lang.proofs.names.keep_names.Given as goal
+
+abbrev pub invariant-loop-param : goal.invariant-loop-param
+invariant-loop-param l = l.names.items ≡ l.initial.names.items
+    ++ map (λ (p : Param). p.name) (take l.param-index l.params)
