@@ -43,9 +43,9 @@ use Rattle.word_lower.proofs.Operations.{slots_width, steps_on, DoesOp, Lowers}
 use Rattle.word_lower.proofs.Filled.{op_lowers}
 
 -- rows that are one belong to one place
-record OnePlace (s t : Space) (w x : ℕ) : Type 0 where
-  space : s ≡ t
-  which : w ≡ x
+pub record OnePlace (s t : Space) (w x : ℕ) : Type 0 where
+  pub space : s ≡ t
+  pub which : w ≡ x
 
 pub space_is : (n : ℕ) (s : Space) (w v : ℕ) → (spot_in n s w v).space ≡ s
 space_is n Result w v = refl
@@ -64,7 +64,7 @@ same_which n ScratchWord w x u v Word Word lu lv hj hk e = let f : w * n + u ≡
 same_which n ScratchWord w x u v Bit k lu lv hj hk e = cc
 same_which n ScratchWord w x u v Word Bit lu lv hj hk e = cc
 
-one_place : (n : ℕ) (s t : Slot) (u v : ℕ) → u < width n s.kind → v < width n t.kind
+pub one_place : (n : ℕ) (s t : Slot) (u v : ℕ) → u < width n s.kind → v < width n t.kind
     → holds_kind s.space s.kind ≡ true → holds_kind t.space t.kind ≡ true
     → slot_spot n s u ≡ slot_spot n t v → OnePlace s.space t.space s.which t.which
 one_place n s t u v lu lv hs ht e =

@@ -53,7 +53,7 @@ pub record WordsClear (n : ℕ) (t : Slot) (args : List Slot) (free words : ℕ)
       (width n (slot_at args i).kind) (scratch_word free) (n * words)
 
 -- rooms behind which one more stands
-room_of_more : (rooms : List Room) (w : Room) (k : ℕ) → k < length (rooms ++ w ∷ [])
+pub room_of_more : (rooms : List Room) (w : Room) (k : ℕ) → k < length (rooms ++ w ∷ [])
     → ((k < length rooms) × (room_at (rooms ++ w ∷ []) k ≡ room_at rooms k))
     ⊎ ((k ≡ length rooms) × (room_at (rooms ++ w ∷ []) k ≡ w))
 room_of_more [] w zero lt = inr (refl, refl)

@@ -8,4 +8,7 @@ pub mod Parts
 pub mod Clear
 pub mod Nested
 pub mod Whole
+pub mod Both
+pub mod Targets
+pub mod Statements
 pub mod Sides

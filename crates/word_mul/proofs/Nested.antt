@@ -1,7 +1,8 @@
 -- Each nested operation's loop program gives its value, takes so many commands, and passes the
 -- tests.
 use Rattle.std.proofs.Common.{◌≡◌, ◌⊎◌, inl, ℕ, ◌+◌, ◌*◌, ◌^◌, ◌<◌, ◌≤◌, true, List, [], ◌∷◌, map}
-use Rattle.std.proofs.Common.{length, refl, sym, ap, ◌∙◌, subst, arith}
+use Rattle.std.proofs.Common.{length, Option, None, refl, sym, ap, ◌∙◌, subst, arith}
+use Rattle.std.specs.Prelude.{unwrap_or}
 use Rattle.std.proofs.Math.Nat.{pow-suc, pow-zero}
 use Rattle.op_text.specs.declared.tree.Kind.TheVariants.{Word}
 use Rattle.op_text.specs.declared.tree.WordOp.{WordOp}
@@ -45,37 +46,44 @@ pub record DoesOp (p : WordOp) (n : ℕ) (t : Slot) (args : List Slot) (free_bit
       → after q ≡ before q
 
 pub record Lowers (p : WordOp) (t : Slot) (args : List Slot) (free_bit free_word : ℕ) : Type 0 where
-  pub fit : steps_fit (rooms_for p (rows_on t args free_bit free_word)) (nested p) ≡ true
-  pub short : is_short (steps_for p (rows_on t args free_bit free_word)) ≡ true
+  pub fit : steps_fit (rooms_for p (rows_on t None args free_bit free_word)) (nested p) ≡ true
+  pub short : is_short (steps_for p (rows_on t None args free_bit free_word)) ≡ true
   pub apart : (n : ℕ) → 0 < n → Pieces n t args (scratch_from free_bit (bits_inside p))
       → WordsClear n t args free_word (words_inside p)
-      → RoomsApart n (rooms_for p (rows_on t args free_bit free_word))
-  pub owned : (n : ℕ) (q : Spot) → IsOwned n (rooms_for p (rows_on t args free_bit free_word)) q
+      → RoomsApart n (rooms_for p (rows_on t None args free_bit free_word))
+  pub owned : (n : ℕ) (q : Spot) → IsOwned n (rooms_for p (rows_on t None args free_bit free_word)) q
       → IsOwned n (rooms_of t args (scratch_from free_bit (bits_inside p))) q
       ⊎ ((v : ℕ) × (v < n * words_inside p) × (q ≡ spot_in n ScratchWord free_word v))
   pub does : (n : ℕ) → 0 < n → Pieces n t args (scratch_from free_bit (bits_inside p))
       → WordsClear n t args free_word (words_inside p) → (before : Spots)
       → DoesOp p n t args free_bit free_word before
-      (after_rounds n (all_rounds n (steps_for p (rows_on t args free_bit free_word))) before)
-  pub total : (n : ℕ) → rounds_cost (all_rounds n (steps_for p (rows_on t args free_bit free_word)))
+      (after_rounds n (all_rounds n (steps_for p (rows_on t None args free_bit free_word))) before)
+  pub total : (n : ℕ) → rounds_cost (all_rounds n (steps_for p (rows_on t None args free_bit free_word)))
       ≡ nested_total p n
   pub cheap : (n : ℕ) → nested_total p n ≤ op_ceiling p (slots_width n args)
 
-square : (n : ℕ) → n ^ 2 ≡ n * n
+pub square : (n : ℕ) → n ^ 2 ≡ n * n
 square n = let e : n ^ 2 ≡ n ^ 1 * n = pow-suc n 1 in let f : n ^ 1 ≡ n ^ 0 * n = pow-suc n 0 in
     let z : n ^ 0 ≡ 1 = pow-zero n in e ∙ ap (λ x. x * n) (f ∙ ap (λ x. x * n) z ∙ omega arith)
 
-turn : (n : ℕ) (s t : Slot) (k l : ℕ) → SlotsApart n s k t l → SlotsApart n t l s k
+pub turn : (n : ℕ) (s t : Slot) (k l : ℕ) → SlotsApart n s k t l → SlotsApart n t l s k
 turn n s t k l a = record { by = λ u v lu lv e. a.by v u lv lu (sym e) }
 
 -- a bit of scratch is free
-bit_is_free : (n : ℕ) (t a b : Slot) (args : List Slot) (free_bit free_word bits_free j : ℕ)
+bit_is_free : (n : ℕ) (t z a b : Slot) (args : List Slot) (free_bit free_word bits_free j : ℕ)
     → t.kind ≡ Word → a.kind ≡ Word → b.kind ≡ Word → (i k : ℕ) → i < length args → k < length args
     → slot_at args i ≡ a → slot_at args k ≡ b → j < bits_free
     → Pieces n t args (scratch_from free_bit bits_free)
-    → IsFree n (record { target = t; a = a; b = b; free_bit = free_bit; free_word = free_word })
+    → IsFree n (record {
+      target = t;
+      second = z;
+      a = a;
+      b = b;
+      free_bit = free_bit;
+      free_word = free_word;
+    })
     (scratch_bit (free_bit + j)) 1
-bit_is_free n t a b args free_bit free_word bits_free j kt ka kb i k li lk ea eb lj are =
+bit_is_free n t z a b args free_bit free_word bits_free j kt ka kb i k li lk ea eb lj are =
     let len = length_scratch free_bit bits_free in
     let is : slot_at (scratch_from free_bit bits_free) j ≡ scratch_bit (free_bit + j) =
     scratch_at free_bit bits_free j lj in
@@ -98,14 +106,14 @@ bit_is_free n t a b args free_bit free_word bits_free j kt ka kb i k li lk ea eb
     }
 
 -- from numbers to bits
-answer : (p : WordOp) (n : ℕ) (space : Space) (which : ℕ) (after : Spots) (x y : ℕ)
+pub answer : (p : WordOp) (n : ℕ) (space : Space) (which : ℕ) (after : Spots) (x y : ℕ)
     → number_at n after (slot space which Word) n ≡ x → x ≡ y
     → slot_bits n after (slot space which Word) ≡ bits y n
 answer p n space which after x y e f =
     sym (bits_of_number (λ v. after (row n (slot space which Word) v)) n)
     ∙ ap (λ z. bits z n) (e ∙ f)
 
-elsewhere : (n bits_free words : ℕ) (m : Rows) (q : Spot)
+pub elsewhere : (n bits_free words : ℕ) (m : Rows) (q : Spot)
     → ((v : ℕ) → v < n → q ≡ slot_spot n m.target v → ⊥)
     → ((j : ℕ) → j < bits_free → q ≡ spot_in n ScratchBit (m.free_bit + j) 0 → ⊥)
     → ((v : ℕ) → v < n * words → q ≡ spot_in n ScratchWord m.free_word v → ⊥)
@@ -123,20 +131,25 @@ module _ (x0 : Space) (y0 : ℕ) (x1 : Space) (y1 : ℕ) (x2 : Space) (y2 : ℕ)
     abbrev b : Slot
     b = slot x2 y2 Word
 
+    abbrev two_with : Option Slot → Rows
+    two_with second = rows_on t second (a ∷ b ∷ []) free_bit free_word
+
     abbrev two : Rows
-    two = rows_on t (a ∷ b ∷ []) free_bit free_word
+    two = two_with None
 
     abbrev one : Rows
-    one = rows_on t (a ∷ []) free_bit free_word
+    one = rows_on t None (a ∷ []) free_bit free_word
 
-    two_rows : (n bits_free words : ℕ) → Pieces n t (a ∷ b ∷ []) (scratch_from free_bit bits_free)
-        → WordsClear n t (a ∷ b ∷ []) free_word words → AreRows n bits_free words two
-    two_rows n bits_free words are clear = record {
+    pub two_rows : (second : Option Slot) (n bits_free words : ℕ)
+        → Pieces n t (a ∷ b ∷ []) (scratch_from free_bit bits_free)
+        → WordsClear n t (a ∷ b ∷ []) free_word words
+        → AreRows n bits_free words (two_with second)
+    two_rows second n bits_free words are clear = record {
       own = are.own;
       moves = record { by = moves_in n x0 y0 Word are.holds };
       a = are.given 0 (omega arith);
       b = are.given 1 (omega arith);
-      bit = λ j lj. bit_is_free n t a b (a ∷ b ∷ []) free_bit free_word bits_free j refl refl refl 0
+      bit = λ j lj. bit_is_free n t (unwrap_or second t) a b (a ∷ b ∷ []) free_bit free_word bits_free j refl refl refl 0
           1
           (omega arith) (omega arith) refl refl lj are;
       word = record {
@@ -153,7 +166,7 @@ module _ (x0 : Space) (y0 : ℕ) (x1 : Space) (y1 : ℕ) (x2 : Space) (y2 : ℕ)
       moves = record { by = moves_in n x0 y0 Word are.holds };
       a = are.given 0 (omega arith);
       b = are.given 0 (omega arith);
-      bit = λ j lj. bit_is_free n t a a (a ∷ []) free_bit free_word bits_free j refl refl refl 0 0
+      bit = λ j lj. bit_is_free n t t a a (a ∷ []) free_bit free_word bits_free j refl refl refl 0 0
           (omega arith) (omega arith) refl refl lj are;
       word = record {
         target = turn n t (scratch_word free_word) n (n * words) clear.target;
@@ -162,7 +175,7 @@ module _ (x0 : Space) (y0 : ℕ) (x1 : Space) (y1 : ℕ) (x2 : Space) (y2 : ℕ)
       };
     }
 
-    two_values : (p : WordOp) (n : ℕ) (before : Spots)
+    pub two_values : (p : WordOp) (n : ℕ) (before : Spots)
         → op_value p n (number_at n before a n ∷ number_at n before b n ∷ [])
         ≡ op_value p n (value (slot_bits n before a) ∷ value (slot_bits n before b) ∷ [])
     two_values p n before =
@@ -185,13 +198,13 @@ module _ (x0 : Space) (y0 : ℕ) (x1 : Space) (y1 : ℕ) (x2 : Space) (y2 : ℕ)
               wq);
         }
 
-    window_apart : (n : ℕ) → Pieces n t (a ∷ b ∷ []) (scratch_from free_bit 2)
+    pub window_apart : (n : ℕ) → Pieces n t (a ∷ b ∷ []) (scratch_from free_bit 2)
         → WordsClear n t (a ∷ b ∷ []) free_word 2 → RoomsApart n (rooms_for op.Div two)
     window_apart n are clear = rooms_more n (rooms_of t (a ∷ b ∷ []) (scratch_from free_bit 2)) _
         (rooms_apart n t (a ∷ b ∷ []) (scratch_from free_bit 2) are)
         (clear_rooms n t (a ∷ b ∷ []) free_bit 2 free_word clear) tt
 
-    window_owned : (n : ℕ) (q : Spot) → IsOwned n (rooms_for op.Div two) q
+    pub window_owned : (n : ℕ) (q : Spot) → IsOwned n (rooms_for op.Div two) q
         → IsOwned n (rooms_of t (a ∷ b ∷ []) (scratch_from free_bit 2)) q
         ⊎ ((v : ℕ) × (v < n * 2) × (q ≡ spot_in n ScratchWord free_word v))
     window_owned n q o = owned_more n (rooms_of t (a ∷ b ∷ []) (scratch_from free_bit 2)) _ q o
@@ -203,7 +216,7 @@ module _ (x0 : Space) (y0 : ℕ) (x1 : Space) (y1 : ℕ) (x2 : Space) (y2 : ℕ)
       apart = λ n some are clear. rooms_apart n t (a ∷ b ∷ []) (scratch_from free_bit 1) are;
       owned = λ n q o. inl o;
       does = λ n some are clear. does_two op.Mul n (λ x y.
-          refl) (mul_does n two (two_rows n 1 0 are clear));
+          refl) (mul_does n two (two_rows None n 1 0 are clear));
       total = λ n. (let e = total_is n (steps_for op.Mul two) in let s = square n in
           omega (arith, e, s));
       cheap = λ n. omega arith;
@@ -216,7 +229,7 @@ module _ (x0 : Space) (y0 : ℕ) (x1 : Space) (y1 : ℕ) (x2 : Space) (y2 : ℕ)
       apart = λ n some are clear. window_apart n are clear;
       owned = window_owned;
       does = λ n some are clear. does_two op.Div n (λ x y.
-          refl) (div_does n two (two_rows n 2 2 are clear));
+          refl) (div_does n two (two_rows None n 2 2 are clear));
       total = λ n. (let e = total_is n (steps_for op.Div two) in let s = square n in
           omega (arith, e, s));
       cheap = λ n. omega arith;
@@ -229,7 +242,7 @@ module _ (x0 : Space) (y0 : ℕ) (x1 : Space) (y1 : ℕ) (x2 : Space) (y2 : ℕ)
       apart = λ n some are clear. window_apart n are clear;
       owned = window_owned;
       does = λ n some are clear. does_two op.Rem n (λ x y.
-          refl) (rem_does n two (two_rows n 2 2 are clear));
+          refl) (rem_does n two (two_rows None n 2 2 are clear));
       total = λ n. (let e = total_is n (steps_for op.Rem two) in let s = square n in
           omega (arith, e, s));
       cheap = λ n. omega arith;

@@ -3,10 +3,11 @@ use Rattle.std.proofs.Common.{◌≡◌, List, [], ◌∷◌, ◌++◌, map, ref
 use Rattle.loop_ir.specs.declared.ir.Count.{Count}
 use Rattle.loop_ir.specs.declared.ir.Inner.{Inner}
 use Rattle.loop_ir.specs.declared.ir.Step.{Step}
-use Rattle.loop_ir.specs.Plain.{Block, InnerOf, StepOf, AllInner, inner_of, step_of}
+use Rattle.loop_ir.specs.Plain.{Block, InnerOf, StepOf, AllInner, AllParts, inner_of, step_of}
 use Rattle.loop_ir.specs.Plain.InnerOf.{Alone, Across}
-use Rattle.loop_ir.specs.Plain.StepOf.{Along, Nest}
-use Rattle.loop_ir.specs.Like.{LikeParts, no_parts, alone, across, no_steps, along, nest}
+use Rattle.loop_ir.specs.Plain.StepOf.{Single, Along, Nest}
+use Rattle.loop_ir.specs.Like.{LikeParts, no_parts, alone, across, LikeSteps, no_steps, single}
+use Rattle.loop_ir.specs.Like.{along, nest}
 use Rattle.loop_laws.specs.Forms.{IsMade}
 use Rattle.word_mul.specs.Bodies.{IsBuilt, PartsBuilt, StepsBuilt}
 
@@ -75,6 +76,35 @@ more_built ps p all qs ss e h g =
       same = ap (λ l. l ++ inner_of p ∷ []) h.same ∙ ap (λ l. qs ++ l) g.same;
       like = like_more h.like (inner_of p ∷ []) ss g.like;
       made = made_more (map inner_of ps) (inner_of p ∷ []) h.made g.made;
+    }
+
+like_steps_more : {ss ts : List (StepOf Block)} → LikeSteps ss ts → (us vs : List (StepOf Block))
+    → LikeSteps us vs → LikeSteps (ss ++ us) (ts ++ vs)
+like_steps_more no_steps us vs h = h
+like_steps_more (single b more) us vs h = single b (like_steps_more more us vs h)
+like_steps_more (along b more) us vs h = along b (like_steps_more more us vs h)
+like_steps_more (nest b more) us vs h = nest b (like_steps_more more us vs h)
+
+made_steps_more : (ss us : List (StepOf Block)) → AllParts IsMade ss → AllParts IsMade us
+    → AllParts IsMade (ss ++ us)
+made_steps_more [] us h g = g
+made_steps_more (s ∷ ss) us h g = (h.0, made_steps_more ss us h.1 g)
+
+map_step_more : (ss : List Step) (s : Step) → map step_of (ss ++ s ∷ []) ≡ map step_of ss
+    ++ step_of s ∷ []
+map_step_more [] s = refl
+map_step_more (x ∷ ss) s = ap (λ r. step_of x ∷ r) (map_step_more ss s)
+
+-- one step more
+pub step_built : (ss : List Step) (s : Step) (all : List Step) (ts us : List (StepOf Block))
+    → all ≡ ss ++ s ∷ [] → StepsBuilt (map step_of ss) ts → StepsBuilt (step_of s ∷ []) us
+    → StepsBuilt (map step_of all) (ts ++ us)
+step_built ss s all ts us e h g =
+    subst (λ rs. StepsBuilt rs (ts ++ us)) (sym (ap (map step_of) e ∙ map_step_more ss s))
+    record {
+      same = ap (λ l. l ++ step_of s ∷ []) h.same ∙ ap (λ l. ts ++ l) g.same;
+      like = like_steps_more h.like (step_of s ∷ []) us g.like;
+      made = made_steps_more (map step_of ss) (step_of s ∷ []) h.made g.made;
     }
 
 pub parts_as : (all ps : List Inner) (qs : List (InnerOf Block)) → all ≡ ps

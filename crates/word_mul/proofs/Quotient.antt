@@ -13,7 +13,8 @@ use Rattle.loop_ir.specs.declared.ir.Sub.TheVariants as sub
 use Rattle.loop_ir.specs.Plain.{Block, InnerOf}
 use Rattle.loop_ir.specs.Plain.InnerOf.{Alone}
 use Rattle.loop_ir.specs.Plain.StepOf.{Along, Nest}
-use Rattle.loop_ir.specs.Spots.{Spot, Spots, set_spot, spot_at, nth_place}
+use Rattle.loop_ir.specs.Loops.{all_rounds}
+use Rattle.loop_ir.specs.Spots.{Spot, Spots, after_rounds, set_spot, spot_at, nth_place}
 use Rattle.loop_laws.specs.Rooms.{placed_body}
 use Rattle.loop_laws.specs.Turns.{Standing, IsLoop, after_many}
 use Rattle.loop_laws.proofs.Same.{set_same, set_other}
@@ -25,10 +26,10 @@ use Rattle.word_lower.specs.Programs.{target, first, third, plain, off, constant
 use Rattle.word_lower.proofs.Setting.{bit, number, row, number_at}
 use Rattle.word_lower.proofs.Passes.{word_loop, upwards}
 use Rattle.word_lower.proofs.Sums.{value_same, value_below, value_false, value_low}
-use Rattle.word_mul.specs.Programs.{fifth}
+use Rattle.word_mul.specs.Programs.{fifth, sixth}
 use Rattle.word_mul.specs.declared.rows.Rows.{Rows}
-use Rattle.word_mul.specs.Places.{rooms_for, scratch_word}
-use Rattle.word_mul.proofs.Setting.{AreRows, IsElsewhere, Gives, DoesNested}
+use Rattle.word_mul.specs.Places.{rooms_for, steps_for, scratch_word}
+use Rattle.word_mul.proofs.Setting.{AreRows, IsSecond, IsElsewhere, Gives, Divided, DoesNested}
 use Rattle.word_mul.proofs.Divide.{w, gp, gf, cf, core, IsOther, w_moves, Stepped, step}
 
 -- what is left of the rows without a borrow is the whole difference
@@ -340,6 +341,28 @@ remainder_is a b q r e small = by (cases_eq b 0)
     by (inr nz) = let h : r < b = small (omega (arith, nz)) in
         rw (ne_eqb b 0 nz) (sym (mod-mul-add q b r h) ∙ ap (λ x. x % b) (sym e))
 
+-- what a division leaves: the remainder is in the window
+pub div_leaves : (n : ℕ) (m : Rows) (are : AreRows n 2 2 m) (bits : Spots)
+    → Divided n m (scratch_word m.free_word) (λ q. ⊥) bits
+    (after_outer n (all_parts n m are bits) n (ready n m are bits))
+div_leaves n m are bits =
+    let new = after_outer n (all_parts n m are bits) n (ready n m are bits) in
+    let e : 0 + n ≡ n = omega arith in
+    let i = all_quotients n m are bits n 0 e in
+    let zero_add = λ (k : ℕ). (let z : 0 + k ≡ k = omega arith in z) in
+    let word : number_at n new m.target n ≡ i.quot =
+    value_same (λ k. new (row n m.target k)) (λ k. new (row n m.target (0 + k))) n
+    (λ k lk. ap (λ x. new (row n m.target x)) (sym (zero_add k))) ∙ i.word in
+    let all = whole n m are bits i.quot new i.divides in
+    let small = less n m are bits i.quot new i.divides in
+    record {
+      quotient = word ∙ quotient_is (number_at n bits m.a n) (number_at n bits m.b n) i.quot
+          (number_at n new (scratch_word m.free_word) n) (2 ^ n) all small i.divides.none;
+      remainder = remainder_is (number_at n bits m.a n) (number_at n bits m.b n) i.quot
+          (number_at n new (scratch_word m.free_word) n) all small;
+      keeps = λ q out none. i.divides.rest q out;
+    }
+
 pub div_does : (n : ℕ) (m : Rows) → AreRows n 2 2 m → DoesNested op.Div n 2 2 m
 unfolding values_from
 div_does n m are bits =
@@ -348,21 +371,40 @@ div_does n m are bits =
     let parts = all_parts n m are bits in
     let s1 = copied n m are bits in
     let s2 = ready n m are bits in
-    let new = after_outer n parts n s2 in
-    let e : 0 + n ≡ n = omega arith in
-    let i = all_quotients n m are bits n 0 e in
-    let zero_add = λ (k : ℕ). (let z : 0 + k ≡ k = omega arith in z) in
-    let word : number_at n new m.target n ≡ i.quot =
-    value_same (λ k. new (row n m.target k)) (λ k. new (row n m.target (0 + k))) n
-    (λ k lk. ap (λ x. new (row n m.target x)) (sym (zero_add k))) ∙ i.word in
+    let d = div_leaves n m are bits in
     subst (Gives op.Div n 2 2 m bits) (sym (steps_each n b1 (Along b2 ∷ (Nest parts ∷ [])) bits
     ∙ steps_each n b2 (Nest parts ∷ []) s1 ∙ steps_nest n parts [] s2))
+    record { gives = d.quotient; keeps = λ q out. d.keeps q out (λ z. z) }
+
+-- and then the remainder is in the second target
+pub divmod_does : (n : ℕ) (m : Rows) → AreRows n 2 2 m → IsSecond n m → (bits : Spots)
+    → Divided n m m.second (λ q. (v : ℕ) × (v < n) × (q ≡ row n m.second v)) bits
+    (after_rounds n (all_rounds n (steps_for op.Divmod m)) bits)
+unfolding values_from
+divmod_does n m are has bits =
+    let b1 = copy_body n m are bits in
+    let b2 = clear_body n m are bits in
+    let parts = all_parts n m are bits in
+    let s1 = copied n m are bits in
+    let s2 = ready n m are bits in
+    let mid = after_outer n parts n s2 in
+    let b3 = placed_body (rooms_for op.Divmod m) (moved (fifth sub.Inner) (sixth sub.Inner)) in
+    let new = after_many n 0 b3 n mid in
+    let d = div_leaves n m are bits in
+    let l = word_loop n 0 m.second has.own has.moves sub.Inner (λ v. v) (upwards n 0) b3.reads 1 []
+    (plain 1) (Standing ∷ []) mid (
+      ((λ i j li lj h. has.word.by i j (omega arith) (omega arith) h), tt),
+      tt,
+    ) in
+    subst (Divided n m m.second (λ q. (v : ℕ) × (v < n) × (q ≡ row n m.second v)) bits)
+    (sym (steps_each n b1 (Along b2 ∷ (Nest parts ∷ (Along b3 ∷ []))) bits
+    ∙ steps_each n b2 (Nest parts ∷ (Along b3 ∷ [])) s1
+    ∙ steps_nest n parts (Along b3 ∷ []) s2 ∙ steps_each n b3 [] mid))
     record {
-      gives = word ∙ quotient_is (number_at n bits m.a n) (number_at n bits m.b n) i.quot
-          (number_at n new (scratch_word m.free_word) n) (2 ^ n)
-          (whole n m are bits i.quot new i.divides) (less n m are bits i.quot new i.divides)
-          i.divides.none;
-      keeps = i.divides.rest;
+      quotient = value_same (λ v. new (row n m.target v)) (λ v. mid (row n m.target v)) n
+          (λ v lv. l.rest (row n m.target v) (λ u lu e. has.target.by v u lv lu e)) ∙ d.quotient;
+      remainder = value_same _ _ n l.word ∙ d.remainder;
+      keeps = λ q out none. l.rest q (λ v lv e. none (v, lv, e)) ∙ d.keeps q out (λ z. z);
     }
 
 pub rem_does : (n : ℕ) (m : Rows) → AreRows n 2 2 m → DoesNested op.Rem n 2 2 m

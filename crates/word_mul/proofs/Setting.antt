@@ -31,6 +31,13 @@ pub record AreRows (n bits words : ℕ) (m : Rows) : Type 0 where
   pub bit : (j : ℕ) → j < bits → IsFree n m (scratch_bit (m.free_bit + j)) 1
   pub word : IsFree n m (scratch_word m.free_word) (n * words)
 
+-- a second target lies apart from the first and from the words of scratch
+pub record IsSecond (n : ℕ) (m : Rows) : Type 0 where
+  pub own : IsOwn m.second.space
+  pub moves : Moves n m.second n
+  pub target : SlotsApart n m.target n m.second n
+  pub word : SlotsApart n (scratch_word m.free_word) (n * 2) m.second n
+
 -- the row is none of the target or of the internal scratch
 pub record IsElsewhere (n bits words : ℕ) (m : Rows) (q : Spot) : Type 0 where
   pub target : (v : ℕ) → v < n → q ≡ row n m.target v → ⊥
@@ -42,6 +49,16 @@ pub record Gives (p : WordOp) (n bits words : ℕ) (m : Rows) (before after : Sp
   pub gives : number_at n after m.target n ≡ operation p n (number_at n before m.a n)
       (number_at n before m.b n)
   pub keeps : (q : Spot) → IsElsewhere n bits words m q → after q ≡ before q
+
+-- The target has the quotient, the place the remainder, and no other row has changed but the
+-- internal scratch and these others
+pub record Divided (n : ℕ) (m : Rows) (place : Slot) (others : Spot
+    → Type 0) (before after : Spots) : Type 0 where
+  pub quotient : number_at n after m.target n ≡ operation o.Div n (number_at n before m.a n)
+      (number_at n before m.b n)
+  pub remainder : number_at n after place n ≡ operation o.Rem n (number_at n before m.a n)
+      (number_at n before m.b n)
+  pub keeps : (q : Spot) → IsElsewhere n 2 2 m q → (others q → ⊥) → after q ≡ before q
 
 -- the operation's loop program does it, from every content
 abbrev pub DoesNested : WordOp → ℕ → ℕ → ℕ → Rows → Type 0

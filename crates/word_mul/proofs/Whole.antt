@@ -1,17 +1,18 @@
 -- A loop program that is built as a nested operation's one does the statement.
 use Rattle.std.proofs.Common.{◌≡◌, ◌⊎◌, inl, inr, ℕ, ◌+◌, ◌*◌, ◌<◌, ◌≤◌, Bool, true, false, List}
-use Rattle.std.proofs.Common.{[], ◌∷◌, map, Option, Some, refl, sym, ap, ◌∙◌, subst, arith}
+use Rattle.std.proofs.Common.{[], ◌∷◌, map, Option, Some, None, refl, sym, ap, ◌∙◌, subst, arith}
 use Rattle.std.specs.Prelude.{◌||◌, bytes_eq, unwrap_or, if◌then◌else◌}
 use Rattle.std.proofs.lemmas.Slice.Eq.{bytes_eq-Decides}
 use Rattle.op_text.specs.declared.tree.Kind.{Kind}
 use Rattle.op_text.specs.declared.tree.Kind.TheVariants.{Word}
 use Rattle.op_text.specs.declared.tree.WordOp.{WordOp}
 use Rattle.op_text.specs.declared.tree.WordOp.TheVariants as op
-use Rattle.op_text.specs.Values.{bits, value, op_value}
-use Rattle.op_text.specs.WordOps.{forms, filled}
-use Rattle.op_text.specs.Language.{Statement, Compute}
+use Rattle.op_text.specs.Values.{bits, value, op_value, second_value}
+use Rattle.op_text.specs.WordOps.{forms, filled, second_kind, second_gives}
+use Rattle.op_text.specs.Language.{Compute}
 use Rattle.op_text.specs.Rules.{is_among}
-use Rattle.op_text.specs.Meaning.{Held, width, number, args_width, computed, after_statement}
+use Rattle.op_text.specs.Meaning.{Held, width, number, args_width, computed, second_computed}
+use Rattle.op_text.specs.Meaning.{after_statement}
 use Rattle.op_text.specs.Scratch.{bits_inside, words_inside, op_ceiling}
 use Rattle.loop_ir.specs.declared.ir.Space.TheVariants.{ScratchWord}
 use Rattle.loop_ir.specs.declared.names.Slot.{Slot}
@@ -19,7 +20,7 @@ use Rattle.loop_ir.specs.Plain.{Block, StepOf}
 use Rattle.loop_ir.specs.Loops.{all_rounds}
 use Rattle.loop_ir.specs.Spots.{Spot, Spots, spot_in, after_rounds}
 use Rattle.loop_ir.specs.Costs.{rounds_cost}
-use Rattle.loop_ir.specs.Statements.{Slots, IsPlaced, ComputeMeets, StatementMeets}
+use Rattle.loop_ir.specs.Statements.{Slots, IsPlaced, SecondMeets, ComputeMeets}
 use Rattle.loop_ir.specs.Lowered.{slot_bits, HoldsAt, Holds, IsStatementRow, Does, IsLowered}
 use Rattle.loop_laws.specs.Rooms.{IsOwned}
 use Rattle.loop_laws.specs.Forms.{HasForm}
@@ -33,12 +34,9 @@ use Rattle.word_lower.proofs.Operations.{slots_width, slot}
 use Rattle.word_lower.proofs.Filled.{filled_word, filled_words, slot_is, one_slot, no_slots}
 use Rattle.word_lower.proofs.Statements.{name_at, at_place, same_name, among_target, among_arg}
 use Rattle.word_lower.proofs.Statements.{written, holds, pieces, row_of, form_filled, held_args}
-use Rattle.word_lower.proofs.Statements.{held_kinds, held_numbers, held_width, named_width, Places}
-use Rattle.word_lower.proofs.Statements.{places_of}
-use Rattle.word_mul.specs.declared.rows.Rows.{Rows}
-use Rattle.word_mul.specs.Places.{rooms_for, steps_for, rows_on, IsNestWritten}
-use Rattle.word_mul.specs.Programs.{nested, is_nested, is_nested_statement, nested_total}
-use Rattle.word_mul.specs.Programs.{statement_total}
+use Rattle.word_lower.proofs.Statements.{held_kinds, held_numbers, held_width, named_width}
+use Rattle.word_mul.specs.Places.{rooms_for, steps_for, rows_on}
+use Rattle.word_mul.specs.Programs.{nested, is_nested, nested_total}
 use Rattle.word_mul.specs.Bodies.{StepsBuilt}
 use Rattle.word_mul.proofs.Clear.{WordsClear, word_clear}
 use Rattle.word_mul.proofs.Nested.{DoesOp, Lowers, on_mul, on_div, on_rem, on_bitcount}
@@ -87,95 +85,79 @@ on_word p free_bit free_word t a et ea h =
 
 -- where the arguments fill a form of a nested operation, its program does it
 pub op_lowers : (p : WordOp) (k : Kind) (t : Slot) (args : List Slot) (free_bit free_word : ℕ)
-    → is_nested p ≡ true → filled (forms p) (map (λ (s : Slot). s.kind) args) ≡ Some k → t.kind ≡ k
+    → is_nested p ≡ true → second_kind p ≡ None
+    → filled (forms p) (map (λ (s : Slot). s.kind) args) ≡ Some k → t.kind ≡ k
     → Lowers p t args free_bit free_word
-op_lowers op.Mul k t args fb fw n e h = by_words op.Mul t k args fb fw h
+op_lowers op.Mul k t args fb fw n o e h = by_words op.Mul t k args fb fw h
     (filled_words Word (map (λ (s : Slot). s.kind) args) k e)
     (λ t a b et ea eb. on_words op.Mul fb fw t a b et ea eb
     (on_mul t.space t.which a.space a.which b.space b.which fb fw))
-op_lowers op.Div k t args fb fw n e h = by_words op.Div t k args fb fw h
+op_lowers op.Div k t args fb fw n o e h = by_words op.Div t k args fb fw h
     (filled_words Word (map (λ (s : Slot). s.kind) args) k e)
     (λ t a b et ea eb. on_words op.Div fb fw t a b et ea eb
     (on_div t.space t.which a.space a.which b.space b.which fb fw))
-op_lowers op.Rem k t args fb fw n e h = by_words op.Rem t k args fb fw h
+op_lowers op.Rem k t args fb fw n o e h = by_words op.Rem t k args fb fw h
     (filled_words Word (map (λ (s : Slot). s.kind) args) k e)
     (λ t a b et ea eb. on_words op.Rem fb fw t a b et ea eb
     (on_rem t.space t.which a.space a.which b.space b.which fb fw))
-op_lowers op.Bitcount k t args fb fw n e h = by_word op.Bitcount t k args fb fw h
+op_lowers op.Bitcount k t args fb fw n o e h = by_word op.Bitcount t k args fb fw h
     (filled_word Word (map (λ (s : Slot). s.kind) args) k e)
     (λ t a et ea. on_word op.Bitcount fb fw t a et ea
     (on_bitcount t.space t.which a.space a.which t.space t.which fb fw))
-op_lowers op.Not k t args fb fw n e h = cc
-op_lowers op.And k t args fb fw n e h = cc
-op_lowers op.Or k t args fb fw n e h = cc
-op_lowers op.Xor k t args fb fw n e h = cc
-op_lowers op.Copy k t args fb fw n e h = cc
-op_lowers op.Zero k t args fb fw n e h = cc
-op_lowers op.Ones k t args fb fw n e h = cc
-op_lowers op.Shl1 k t args fb fw n e h = cc
-op_lowers op.Shr1 k t args fb fw n e h = cc
-op_lowers op.Add k t args fb fw n e h = cc
-op_lowers op.Sub k t args fb fw n e h = cc
-op_lowers op.Abs k t args fb fw n e h = cc
-op_lowers op.Relu k t args fb fw n e h = cc
-op_lowers op.Min k t args fb fw n e h = cc
-op_lowers op.Max k t args fb fw n e h = cc
-op_lowers op.Eq k t args fb fw n e h = cc
-op_lowers op.Gt k t args fb fw n e h = cc
-op_lowers op.Ge k t args fb fw n e h = cc
-op_lowers op.IfElse k t args fb fw n e h = cc
-op_lowers op.AndRed k t args fb fw n e h = cc
-op_lowers op.OrRed k t args fb fw n e h = cc
-op_lowers op.XorRed k t args fb fw n e h = cc
+op_lowers op.Not k t args fb fw n o e h = cc
+op_lowers op.And k t args fb fw n o e h = cc
+op_lowers op.Or k t args fb fw n o e h = cc
+op_lowers op.Xor k t args fb fw n o e h = cc
+op_lowers op.Copy k t args fb fw n o e h = cc
+op_lowers op.Zero k t args fb fw n o e h = cc
+op_lowers op.Ones k t args fb fw n o e h = cc
+op_lowers op.Shl1 k t args fb fw n o e h = cc
+op_lowers op.Shr1 k t args fb fw n o e h = cc
+op_lowers op.Add k t args fb fw n o e h = cc
+op_lowers op.Sub k t args fb fw n o e h = cc
+op_lowers op.Abs k t args fb fw n o e h = cc
+op_lowers op.Relu k t args fb fw n o e h = cc
+op_lowers op.Min k t args fb fw n o e h = cc
+op_lowers op.Max k t args fb fw n o e h = cc
+op_lowers op.Eq k t args fb fw n o e h = cc
+op_lowers op.Gt k t args fb fw n o e h = cc
+op_lowers op.Ge k t args fb fw n o e h = cc
+op_lowers op.IfElse k t args fb fw n o e h = cc
+op_lowers op.AndRed k t args fb fw n o e h = cc
+op_lowers op.OrRed k t args fb fw n o e h = cc
+op_lowers op.XorRed k t args fb fw n o e h = cc
+op_lowers op.Divmod k t args fb fw n o e h = cc
 
-module _ (slots : Slots) (free_bit free_word : ℕ) (target : List ℕ) (p : WordOp)
-    (args : List (List ℕ)) (is : is_nested p ≡ true) (meets : ComputeMeets slots target p args)
-    (placed : IsPlaced slots free_bit free_word (Compute target p args)) (t : Slot)
+module _ (slots : Slots) (free_bit free_word : ℕ) (target : List ℕ) (second : Option (List ℕ))
+    (p : WordOp) (args : List (List ℕ)) (meets : ComputeMeets slots target second p args)
+    (placed : IsPlaced slots free_bit free_word (Compute target second p args)) (t : Slot)
     (found : slots target ≡ Some t) (ss : List Slot) (at : AreAt slots args ss) where
-  filled_form : filled (forms p) (map (λ (s : Slot). s.kind) ss) ≡ Some t.kind
-  filled_form = form_filled slots free_bit free_word target p args meets placed t found ss at
-
-  lowers : Lowers p t ss free_bit free_word
-  lowers = op_lowers p t.kind t ss free_bit free_word is filled_form refl
-
-  abbrev row : ℕ → Spot → Type 0
-  row = IsStatementRow slots free_bit free_word (Compute target p args)
-
-  clear : (n : ℕ) → WordsClear n t ss free_word (words_inside p)
+  pub clear : (n : ℕ) → WordsClear n t ss free_word (words_inside p)
   clear n = record {
     target =
-        (let a = among_target slots free_bit free_word target p args meets placed t found ss at in
+        (let a = among_target slots free_bit free_word target second p args meets placed t found ss at in
         word_clear n t free_word (words_inside p)
-        (holds slots free_bit free_word target p args meets placed t found ss at target t a
+        (holds slots free_bit free_word target second p args meets placed t found ss at target t a
         found) (λ e. placed.word target t a found e));
     given = λ i lt.
         (let h = at_place slots args ss i at lt in
-        let a = among_arg slots free_bit free_word target p args meets placed t found ss at i h.0 in
+        let a = among_arg slots free_bit free_word target second p args meets placed t found ss at i h.0 in
         word_clear n (slot_at ss i) free_word (words_inside p)
-        (holds slots free_bit free_word target p args meets placed t found ss at
+        (holds slots free_bit free_word target second p args meets placed t found ss at
         (name_at args i) (slot_at ss i) a h.1) (λ e.
         placed.word (name_at args i) (slot_at ss i) a h.1 e));
   }
 
-  owner_row : (n : ℕ) (q : Spot) → IsOwned n (rooms_of t ss (scratch_from free_bit (bits_inside p)))
-      q ⊎ ((v : ℕ) × (v < n * words_inside p) × (q ≡ spot_in n ScratchWord free_word v)) → row n q
-  owner_row n q (inl o) = row_of slots free_bit free_word target p args meets placed t found ss at n
-      q o
-  owner_row n q (inr o) = inr (inr o)
-
-  form : HasForm row (steps_for p (rows_on t ss free_bit free_word))
-  form = marks_are_enough row (rooms_for p (rows_on t ss free_bit free_word)) (nested p)
-      (λ n some most. lowers.apart n some (pieces slots free_bit free_word target p args meets
-      placed t found ss at n) (clear n))
-      (λ n some most q o. owner_row n q (lowers.owned n q o)) lowers.fit lowers.short
-
-  -- what the target holds after the statement
-  answer : (n : ℕ) (held : List ℕ → Held) (before after : Spots)
+module _ (slots : Slots) (p : WordOp) (args : List (List ℕ)) (ss : List Slot)
+    (at : AreAt slots args ss) (t : Slot) where
+  -- what a target holds after the statement
+  pub answer : (n : ℕ) (held : List ℕ → Held) (before after : Spots)
+      → filled (forms p) (map (λ (s : Slot). s.kind) ss) ≡ Some t.kind
       → ((name : List ℕ) → is_among args name ≡ true → Holds n slots held before name)
       → slot_bits n after t ≡ bits (op_value p (slots_width n ss)
       (map (λ s. value (slot_bits n before s)) ss)) (width n t.kind)
       → HoldsAt n (Some t) (computed n p (map held args)) after
-  answer n held before after h gives =
+  answer n held before after filled_form h gives =
       let a = held_args n slots held before args ss at h in
       let k : unwrap_or (filled (forms p) (map (λ (h : Held). h.kind) (map held args))) Word
       ≡ t.kind = ap (λ ks. unwrap_or (filled (forms p) ks) Word)
@@ -189,39 +171,91 @@ module _ (slots : Slots) (free_bit free_word : ℕ) (target : List ℕ) (p : Wor
             (width n x)) k ∙ ap (λ x. bits x (width n t.kind)) v ∙ sym gives,
       )
 
+  pub second_answer : (n : ℕ) (held : List ℕ → Held) (before after : Spots)
+      → second_gives p ≡ t.kind
+      → ((name : List ℕ) → is_among args name ≡ true → Holds n slots held before name)
+      → slot_bits n after t ≡ bits (second_value p (slots_width n ss)
+      (map (λ s. value (slot_bits n before s)) ss)) (width n t.kind)
+      → HoldsAt n (Some t) (second_computed n p (map held args)) after
+  second_answer n held before after k h gives =
+      let a = held_args n slots held before args ss at h in
+      let v : second_value p (args_width n (map held args)) (map number (map held args))
+      ≡ second_value p (slots_width n ss) (map (λ s. value (slot_bits n before s)) ss) =
+      ap (λ x. second_value p x (map number (map held args))) (held_width n held before args ss a)
+      ∙ ap (λ xs. second_value p (slots_width n ss) xs) (held_numbers n held before args ss a) in (
+        k,
+        ap (λ x. bits (second_value p (args_width n (map held args)) (map number (map held args)))
+            (width n x)) k ∙ ap (λ x. bits x (width n t.kind)) v ∙ sym gives,
+      )
+
+no_second : (slots : Slots) (target : List ℕ) (args : List (List ℕ)) (k : Option Kind)
+    → SecondMeets slots target args None k → k ≡ None
+no_second slots target args None h = refl
+no_second slots target args (Some k) h = absurd h
+
+module _ (slots : Slots) (free_bit free_word : ℕ) (target : List ℕ) (p : WordOp)
+    (args : List (List ℕ)) (is : is_nested p ≡ true) (meets : ComputeMeets slots target None p args)
+    (placed : IsPlaced slots free_bit free_word (Compute target None p args)) (t : Slot)
+    (found : slots target ≡ Some t) (ss : List Slot) (at : AreAt slots args ss) where
+  filled_form : filled (forms p) (map (λ (s : Slot). s.kind) ss) ≡ Some t.kind
+  filled_form = form_filled slots free_bit free_word target None p args meets placed t found ss at
+
+  lowers : Lowers p t ss free_bit free_word
+  lowers = op_lowers p t.kind t ss free_bit free_word is
+      (no_second slots target args (second_kind p) meets.others) filled_form refl
+
+  abbrev row : ℕ → Spot → Type 0
+  row = IsStatementRow slots free_bit free_word (Compute target None p args)
+
+  cleared : (n : ℕ) → WordsClear n t ss free_word (words_inside p)
+  cleared n = clear slots free_bit free_word target None p args meets placed t found ss at n
+
+  owner_row : (n : ℕ) (q : Spot) → IsOwned n (rooms_of t ss (scratch_from free_bit (bits_inside p)))
+      q ⊎ ((v : ℕ) × (v < n * words_inside p) × (q ≡ spot_in n ScratchWord free_word v)) → row n q
+  owner_row n q (inl o) = row_of slots free_bit free_word target None p args meets placed t found ss at n
+      q o
+  owner_row n q (inr o) = inr (inr o)
+
+  form : HasForm row (steps_for p (rows_on t None ss free_bit free_word))
+  form = marks_are_enough row (rooms_for p (rows_on t None ss free_bit free_word)) (nested p)
+      (λ n some most. lowers.apart n some (pieces slots free_bit free_word target None p args meets
+      placed t found ss at n) (cleared n))
+      (λ n some most q o. owner_row n q (lowers.owned n q o)) lowers.fit lowers.short
+
   module _ (steps : List (StepOf Block)) (built : StepsBuilt steps
-      (steps_for p (rows_on t ss free_bit free_word))) where
+      (steps_for p (rows_on t None ss free_bit free_word))) where
     after_is : (n : ℕ) (rows : Spots) → after_rounds n (all_rounds n steps) rows
-        ≡ after_rounds n (all_rounds n (steps_for p (rows_on t ss free_bit free_word))) rows
-    after_is n rows = alike_do_the_same steps (steps_for p (rows_on t ss free_bit free_word))
+        ≡ after_rounds n (all_rounds n (steps_for p (rows_on t None ss free_bit free_word))) rows
+    after_is n rows = alike_do_the_same steps (steps_for p (rows_on t None ss free_bit free_word))
         built.like n rows
 
     does_op : (n : ℕ) → 0 < n → (rows : Spots)
         → DoesOp p n t ss free_bit free_word rows (after_rounds n (all_rounds n steps) rows)
     does_op n some rows = subst (DoesOp p n t ss free_bit free_word rows) (sym (after_is n rows))
-        (lowers.does n some (pieces slots free_bit free_word target p args meets placed t found ss
-        at n) (clear n) rows)
+        (lowers.does n some (pieces slots free_bit free_word target None p args meets placed t found ss
+        at n) (cleared n) rows)
 
-    does : (n : ℕ) → 0 < n → Does slots free_bit free_word (Compute target p args) n steps
+    does : (n : ℕ) → 0 < n → Does slots free_bit free_word (Compute target None p args) n steps
     does n some = record {
       gives = λ held rows h name e.
           (let new = after_rounds n (all_rounds n steps) rows in
           let same : target ≡ name = (bytes_eq-Decides target name).0
           (only (bytes_eq target name) e) in
-          let one : HoldsAt n (Some t) (after_statement n held (Compute target p args) target) new =
+          let one : HoldsAt n (Some t) (after_statement n held (Compute target None p args) target) new =
           subst (λ (c : Bool). HoldsAt n (Some t) (if c then computed n p (map held args)
           else held target) new) (sym (same_name target target refl))
-          (answer n held rows new h (does_op n some rows).gives) in
-          subst (λ x. Holds n slots (after_statement n held (Compute target p args)) new x) same
+          (answer slots p args ss at t n held rows new filled_form h
+          (does_op n some rows).gives) in
+          subst (λ x. Holds n slots (after_statement n held (Compute target None p args)) new x) same
           (subst (λ (x : Option Slot). HoldsAt n x
-          (after_statement n held (Compute target p args) target) new) (sym found) one));
+          (after_statement n held (Compute target None p args) target) new) (sym found) one));
       keeps = λ rows q out. (does_op n some rows).keeps q
           (λ v lv e.
           out (inl (
             target,
             t,
             v,
-            written slots free_bit free_word target p args meets placed t
+            written slots free_bit free_word target None p args meets placed t
                 found ss at,
             found,
             lv,
@@ -236,12 +270,12 @@ module _ (slots : Slots) (free_bit free_word : ℕ) (target : List ℕ) (p : Wor
         only false e = cc
 
     pub few : (n : ℕ) → rounds_cost (all_rounds n steps) ≤ nested_total p n
-    few n = let a = alike_cost_no_more steps (steps_for p (rows_on t ss free_bit free_word))
+    few n = let a = alike_cost_no_more steps (steps_for p (rows_on t None ss free_bit free_word))
         built.like n in let b = lowers.total n in omega (arith, a, b)
 
-    pub lowered : IsLowered slots free_bit free_word (Compute target p args) steps
+    pub lowered : IsLowered slots free_bit free_word (Compute target None p args) steps
     lowered =
-        let c = alike_compile row steps (steps_for p (rows_on t ss free_bit free_word)) built.like
+        let c = alike_compile row steps (steps_for p (rows_on t None ss free_bit free_word)) built.like
         built.made form in
         record {
           well = c.0;
@@ -251,46 +285,3 @@ module _ (slots : Slots) (free_bit free_word : ℕ) (target : List ℕ) (p : Wor
               let w = ap (op_ceiling p) (named_width n slots args ss at) in omega (arith, a, b, w));
         }
 
--- a program that is built on the statement's rows does it
-module _ (slots : Slots) (free_bit free_word : ℕ) (s : Statement) (target : List ℕ) (p : WordOp)
-    (args : List (List ℕ)) (e : s ≡ Compute target p args) (nested_one : is_nested_statement s
-    ≡ true) (meets : StatementMeets slots s) (placed : IsPlaced slots free_bit free_word s) where
-  word_meets : ComputeMeets slots target p args
-  word_meets = subst (StatementMeets slots) e meets
-
-  word_placed : IsPlaced slots free_bit free_word (Compute target p args)
-  word_placed = subst (IsPlaced slots free_bit free_word) e placed
-
-  word_nested : is_nested p ≡ true
-  word_nested = subst (λ x. is_nested_statement x ≡ true) e nested_one
-
-  found_args : Places slots args
-  found_args = places_of slots args word_meets.kinds word_meets.have
-
-  module _ (m : Rows) (on : (t : Slot) (ss : List Slot) → slots target ≡ Some t
-      → AreAt slots args ss → m ≡ rows_on t ss free_bit free_word) where
-    m_is : m ≡ rows_on word_meets.gives.slot found_args.list free_bit free_word
-    m_is = on word_meets.gives.slot found_args.list word_meets.gives.found found_args.at
-
-    pub has_bits : m.free_bit + bits_inside p ≤ 256
-    has_bits = subst (λ (m : Rows). m.free_bit + bits_inside p ≤ 256) (sym m_is) word_placed.bits
-
-    pub statement_lowered : (steps : List (StepOf Block)) → StepsBuilt steps (steps_for p m)
-        → IsLowered slots free_bit free_word s steps
-    statement_lowered steps built = subst (λ x. IsLowered slots free_bit free_word x steps) (sym e)
-        (lowered slots free_bit free_word target p args word_nested word_meets word_placed
-        word_meets.gives.slot word_meets.gives.found found_args.list found_args.at steps
-        (subst (λ m. StepsBuilt steps (steps_for p m)) m_is built))
-
-    pub statement_few : (steps : List (StepOf Block)) → StepsBuilt steps (steps_for p m) → (n : ℕ)
-        → rounds_cost (all_rounds n steps) ≤ statement_total s n
-    statement_few steps built n = subst (λ x. rounds_cost (all_rounds n steps)
-        ≤ statement_total x n) (sym e)
-        (few slots free_bit free_word target p args word_nested word_meets word_placed
-        word_meets.gives.slot word_meets.gives.found found_args.list found_args.at steps
-        (subst (λ m. StepsBuilt steps (steps_for p m)) m_is built) n)
-
-    pub statement_written : (steps : List (StepOf Block)) → StepsBuilt steps (steps_for p m)
-        → IsNestWritten slots free_bit free_word s steps
-    statement_written steps built = subst (λ x. IsNestWritten slots free_bit free_word x steps)
-        (sym e) (λ t ss found at. built.same ∙ ap (steps_for p) (on t ss found at))

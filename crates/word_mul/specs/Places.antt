@@ -1,7 +1,8 @@
--- The rooms of such a statement: as any word statement's, and two words of internal scratch as one
--- room.
+-- The rooms of such a statement: as any word statement's, two words of internal scratch as one room,
+-- and a second target.
 use Rattle.std.specs.Prelude.{◌≡◌, ℕ, zero, suc, true, List, [], ◌∷◌, ◌++◌, length, nat_lt, Some}
-use Rattle.std.specs.Prelude.{if◌then◌else◌}
+use Rattle.std.specs.Prelude.{Option, unwrap_or, if◌then◌else◌}
+use Rattle.std.specs.Option.{option_to_list}
 use Rattle.op_text.specs.declared.tree.Kind.TheVariants.{Word}
 use Rattle.op_text.specs.declared.tree.WordOp.{WordOp}
 use Rattle.op_text.specs.declared.tree.WordOp.TheVariants as o
@@ -12,7 +13,7 @@ use Rattle.loop_ir.specs.declared.names.Slot.{Slot}
 use Rattle.loop_ir.specs.Plain.{StepOf, Block}
 use Rattle.loop_ir.specs.Statements.{Slots}
 use Rattle.loop_laws.specs.Rooms.{Twice, Room, placed_steps}
-use Rattle.word_lower.specs.Places.{scratch_from, rooms_of, AreAt}
+use Rattle.word_lower.specs.Places.{room_of, scratch_from, rooms_of, AreAt}
 use Rattle.word_lower.specs.Shapes.{behind}
 use Rattle.word_mul.specs.declared.rows.Rows.{Rows}
 use Rattle.word_mul.specs.Programs.{nested}
@@ -34,27 +35,34 @@ abbrev pub args_of : WordOp → Rows → List Slot
 args_of o.Bitcount m = m.a ∷ []
 args_of p m = m.a ∷ m.b ∷ []
 
+-- divmod has a second target
+abbrev pub second_rooms : WordOp → Rows → List Room
+second_rooms o.Divmod m = room_of true m.second ∷ []
+second_rooms p m = []
+
 abbrev pub rooms_for : WordOp → Rows → List Room
 rooms_for p m = rooms_of m.target (args_of p m) (scratch_from m.free_bit (bits_inside p))
-    ++ double_words m.free_word (words_inside p)
+    ++ (double_words m.free_word (words_inside p) ++ second_rooms p m)
 
 abbrev pub steps_for : WordOp → Rows → List (StepOf Block)
 steps_for p m = placed_steps (rooms_for p m) (nested p)
 
--- the places of a target and of arguments, of which a lone one stands for both
-abbrev pub rows_on : Slot → List Slot → ℕ → ℕ → Rows
-rows_on t ss free_bit free_word = record {
+-- the places of targets and of arguments, of which a lone one stands for both
+abbrev pub rows_on : Slot → Option Slot → List Slot → ℕ → ℕ → Rows
+rows_on t second ss free_bit free_word = record {
   target = t;
+  second = unwrap_or second t;
   a = behind ss free_bit 0;
   b = behind ss free_bit (if nat_lt 1 (length ss) then 1 else 0);
   free_bit = free_bit;
   free_word = free_word;
 }
 
--- the operation's steps are its loop program's, node for node, at the places of the target, of the
+-- the operation's steps are its loop program's, node for node, at the places of the targets, of the
 -- arguments and of its internal scratch
 abbrev pub IsNestWritten : Slots → ℕ → ℕ → Statement → List (StepOf Block) → Type 0
-IsNestWritten slots free_bit free_word (Compute target p args) steps = (t : Slot) (ss : List Slot)
-    → slots target ≡ Some t → AreAt slots args ss
-    → steps ≡ steps_for p (rows_on t ss free_bit free_word)
+IsNestWritten slots free_bit free_word (Compute target second p args) steps = (t : Slot)
+    (u : Option Slot) (ss : List Slot) → slots target ≡ Some t
+    → AreAt slots (option_to_list second) (option_to_list u) → AreAt slots args ss
+    → steps ≡ steps_for p (rows_on t u ss free_bit free_word)
 IsNestWritten slots free_bit free_word (Visit block) steps = Unit {0}

@@ -16,12 +16,15 @@ use Rattle.word_lower.specs.Programs.{on, target, first, second, third, plain, t
 use Rattle.word_lower.specs.Programs.{template, constant, moved, inverted, joined, compared}
 
 -- Owners of places: the target, then the arguments, then the bits of scratch, then the words of
--- scratch
+-- scratch, then a second target
 abbrev pub fourth : Sub → Mark
 fourth s = on 4 s
 
 abbrev pub fifth : Sub → Mark
 fifth s = on 5 s
+
+abbrev pub sixth : Sub → Mark
+sixth s = on 6 s
 
 -- y, the bit of a product and a carry, into y
 abbrev pub multiplied_nodes : List Node
@@ -64,6 +67,10 @@ abbrev pub dividend : List (StepOf Marked) → List (StepOf Marked)
 dividend more = Along (moved (first sub.Inner) (fifth sub.Inner))
     ∷ Along (constant off (fifth sub.NPlusInner)) ∷ more
 
+-- each step gives a bit of the quotient
+abbrev pub quotient : List (InnerOf Marked)
+quotient = division ++ Alone (moved (third sub.Zero) (target sub.OuterDown)) ∷ []
+
 -- The loop program of an operation
 abbrev pub nested : WordOp → List (StepOf Marked)
 nested o.Mul =
@@ -75,9 +82,9 @@ nested o.Bitcount =
     Along (constant off (target sub.Inner))
     ∷ Nest (Alone (inverted (first sub.Outer) (second sub.Zero))
     ∷ Across All (counted (target sub.Inner) (second sub.Zero)) ∷ []) ∷ []
-nested o.Div = dividend (Nest (division ++ Alone (moved (third sub.Zero) (target sub.OuterDown))
-    ∷ []) ∷ [])
+nested o.Div = dividend (Nest quotient ∷ [])
 nested o.Rem = dividend (Nest division ∷ Along (moved (fifth sub.Inner) (target sub.Inner)) ∷ [])
+nested o.Divmod = dividend (Nest quotient ∷ Along (moved (fifth sub.Inner) (sixth sub.Inner)) ∷ [])
 nested p = []
 
 -- the operations of which this is so
@@ -86,11 +93,12 @@ is_nested o.Mul = true
 is_nested o.Div = true
 is_nested o.Rem = true
 is_nested o.Bitcount = true
+is_nested o.Divmod = true
 is_nested p = false
 
 -- the statement is one of these
 abbrev pub is_nested_statement : Statement → Bool
-is_nested_statement (Compute target p args) = is_nested p
+is_nested_statement (Compute target second p args) = is_nested p
 is_nested_statement (Visit block) = false
 
 -- the commands of its loop program at width n
@@ -99,8 +107,9 @@ nested_total o.Mul n = 11 * n ^ 2 + 13 * n
 nested_total o.Div n = 29 * n ^ 2 + 9 * n
 nested_total o.Rem n = 29 * n ^ 2 + 9 * n
 nested_total o.Bitcount n = 18 * n ^ 2 + 3 * n
+nested_total o.Divmod n = 29 * n ^ 2 + 10 * n
 nested_total p n = 0
 
 abbrev pub statement_total : Statement → ℕ → ℕ
-statement_total (Compute target p args) n = nested_total p n
+statement_total (Compute target second p args) n = nested_total p n
 statement_total (Visit block) n = 0

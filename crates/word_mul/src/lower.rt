@@ -1,6 +1,8 @@
 //! The lowering of statements that take a pass for each position.
 
-ghost use Rattle.std.specs.Prelude.{◌≡◌, ◌≤◌, ◌<◌, ◌+◌, ℕ, List, length, IfOk, Some, true};
+ghost use Rattle.std.specs.Prelude.{◌≡◌, ◌≤◌, ◌<◌, ◌+◌, ℕ, List, length, IfOk, Option, Some, true};
+ghost use Rattle.std.specs.Prelude.{unwrap_or};
+ghost use Rattle.std.specs.Option.{option_to_list};
 ghost use Rattle.op_text.specs.Language.{statement};
 ghost use Rattle.op_text.specs.Scratch.{bits_inside};
 ghost use Rattle.loop_ir.specs.declared.names.Slot.{Slot};
@@ -15,7 +17,7 @@ ghost use Rattle.word_mul.specs.Places.{rows_on, steps_for, IsNestWritten};
 ghost use Rattle.word_mul.specs.Programs.{is_nested, is_nested_statement, statement_total};
 ghost use Rattle.word_mul.specs.Bodies.{StepsBuilt};
 
-use crate::programs::{ones, product, quotient, remainder};
+use crate::programs::{both, ones, product, quotient, remainder};
 use crate::rows::Rows;
 use loop_ir::{LoopProgram, NameMap, Slot};
 use mig_graph::NoMemory;
@@ -33,18 +35,33 @@ fn argument(names: &NameMap, args: &[Name], k: usize) -> Slot
     slot_of(names, &args[k])
 }
 
-/// The places of a statement's names.
-fn rows(names: &NameMap, target: &Name, args: &[Name]) -> Rows
-    requires { 0 < length args.now }
-    ensures { (t : Slot) (ss : List Slot) → slots_of names.now target.now ≡ Some t
-        → AreAt (slots_of names.now) args.now ss
-        → result ≡ rows_on t ss names.now.free_bit names.now.free_word }
+/// The place of a second target, or else of the target.
+fn second_slot(names: &NameMap, target: &Name, second: &Option<Name>) -> Slot
+    ensures { (t : Slot) (u : Option Slot) → slots_of names.now target.now ≡ Some t
+        → AreAt (slots_of names.now) (option_to_list second.now) (option_to_list u)
+        → result ≡ unwrap_or u t }
 {
-    let second = if args.len() > 1 { 1 } else { 0 };
+    match second {
+        Some(name) => slot_of(names, name),
+        None => slot_of(names, target),
+    }
+}
+
+/// The places of a statement's names.
+fn rows(names: &NameMap, target: &Name, second: &Option<Name>, args: &[Name]) -> Rows
+    requires { 0 < length args.now }
+    ensures { (t : Slot) (u : Option Slot) (ss : List Slot)
+        → slots_of names.now target.now ≡ Some t
+        → AreAt (slots_of names.now) (option_to_list second.now) (option_to_list u)
+        → AreAt (slots_of names.now) args.now ss
+        → result ≡ rows_on t u ss names.now.free_bit names.now.free_word }
+{
+    let last = if args.len() > 1 { 1 } else { 0 };
     Rows {
         target: slot_of(names, target),
+        second: second_slot(names, target, second),
         a: argument(names, args, 0),
-        b: argument(names, args, second),
+        b: argument(names, args, last),
         free_bit: names.free_bit,
         free_word: names.free_word,
     }
@@ -61,11 +78,12 @@ pub fn program(op: WordOp, m: Rows, alloc: Global) -> Result<LoopProgram, NoMemo
         WordOp::Div => quotient(m, alloc),
         WordOp::Rem => remainder(m, alloc),
         WordOp::Bitcount => ones(m, alloc),
+        WordOp::Divmod => both(m, alloc),
         _ => unreachable!(),
     }
 }
 
-/// The loop program of `mul`, `div`, `rem` or `bitcount`.
+/// The loop program of `mul`, `div`, `rem`, `bitcount` or `divmod`.
 ///
 /// Only want of memory is an `Err`.
 pub fn lower_nested(s: &Stmt, names: &NameMap, alloc: Global) -> Result<LoopProgram, NoMemory>
@@ -82,8 +100,13 @@ pub fn lower_nested(s: &Stmt, names: &NameMap, alloc: Global) -> Result<LoopProg
         names.now.free_word (statement s.now) (steps_of p)) }
 {
     match s {
-        Stmt::Word { dst, op, args } => {
-            let p = program(*op, rows(names, dst, args), alloc)?;
+        Stmt::Word {
+            dst,
+            second,
+            op,
+            args,
+        } => {
+            let p = program(*op, rows(names, dst, second, args), alloc)?;
             Ok(p)
         }
         Stmt::Serial { .. } => unreachable!(),

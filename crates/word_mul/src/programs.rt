@@ -109,6 +109,19 @@ pub fn quotient(m: Rows, alloc: Global) -> Result<LoopProgram, NoMemory>
     )
 }
 
+/// divmod: the quotient, and then what its steps leave in the window.
+pub fn both(m: Rows, alloc: Global) -> Result<LoopProgram, NoMemory>
+    requires { m.free_bit < 255 }
+    ensures { IfOk result (λ p. StepsBuilt (steps_of p) (steps_for o.Divmod m)) }
+{
+    let window = at(words(m.free_word), Sub::Inner);
+    let left = moved(window, at(m.second, Sub::Inner), alloc)?;
+    let p = quotient(m, alloc)?;
+    let mut steps = p.steps;
+    keep(&mut steps, Step::Each(left))?;
+    Ok(LoopProgram { steps })
+}
+
 /// rem: what the steps leave in the window.
 pub fn remainder(m: Rows, alloc: Global) -> Result<LoopProgram, NoMemory>
     requires { m.free_bit < 255 }

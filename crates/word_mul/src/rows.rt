@@ -9,10 +9,11 @@ use loop_ir::{Place, Slot, Space, Sub};
 use op_text::Kind;
 
 /// The places of a statement's names, and its first internal scratch. Where there is one argument,
-/// it stands for both.
+/// it stands for both, and so does a lone target.
 #[derive(Clone, Copy, PartialEq, Eq, Debug)]
 pub struct Rows {
     pub target: Slot,
+    pub second: Slot,
     pub a: Slot,
     pub b: Slot,
     pub free_bit: u8,

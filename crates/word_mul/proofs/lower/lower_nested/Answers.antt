@@ -3,26 +3,26 @@ use Rattle.op_text.specs.Language.{statement}
 use Rattle.loop_ir.specs.Plain.{steps_of}
 use Rattle.loop_ir.specs.Statements.{slots_of}
 use Rattle.word_lower.specs.Places.{AreAt}
-use Rattle.word_mul.proofs.Whole.{has_bits, statement_lowered, statement_few}
-use Rattle.word_mul.proofs.Whole.{statement_written}
+use Rattle.word_mul.proofs.Statements.{has_bits, statement_lowered, statement_few}
+use Rattle.word_mul.proofs.Statements.{statement_written}
 use Rattle.word_mul.proofs.lower.lower_nested.Goals as goal
 
 pub program-requires-clause-bits : goal.program-requires-clause-bits
 program-requires-clause-bits c =
     let n = c.args.names.now in
     let w = c.in-Word in
-    has_bits (slots_of n) n.free_bit n.free_word (statement c.args.s.now) w.dst w.op w.args.items
+    has_bits (slots_of n) n.free_bit n.free_word (statement c.args.s.now) w.dst w.second w.op w.args.items
     (ap statement w.is) c.requires.nested c.requires.meets c.requires.placed
-    c.rows.result (λ t ss found at. c.rows.ensures t ss found
+    c.rows.result (λ t u ss found near at. c.rows.ensures t u ss found near
     (subst (λ ns. AreAt (slots_of n) ns ss) (sym c.deref.ensures.value) at))
 
 pub returns-clause-lowered : goal.returns-clause-lowered
 returns-clause-lowered c =
     let n = c.args.names.now in
     let w = c.in-Word in
-    statement_lowered (slots_of n) n.free_bit n.free_word (statement c.args.s.now) w.dst w.op
+    statement_lowered (slots_of n) n.free_bit n.free_word (statement c.args.s.now) w.dst w.second w.op
     w.args.items (ap statement w.is) c.requires.nested c.requires.meets c.requires.placed
-    c.rows.result (λ t ss found at. c.rows.ensures t ss found
+    c.rows.result (λ t u ss found near at. c.rows.ensures t u ss found near
     (subst (λ ns. AreAt (slots_of n) ns ss) (sym c.deref.ensures.value) at))
     (steps_of c.in_ok-p-in-Word.p) c.in_ok-p-in-Word.ensures
 
@@ -30,9 +30,9 @@ pub returns-clause-few : goal.returns-clause-few
 returns-clause-few c =
     let n = c.args.names.now in
     let w = c.in-Word in
-    statement_few (slots_of n) n.free_bit n.free_word (statement c.args.s.now) w.dst w.op
+    statement_few (slots_of n) n.free_bit n.free_word (statement c.args.s.now) w.dst w.second w.op
     w.args.items (ap statement w.is) c.requires.nested c.requires.meets c.requires.placed
-    c.rows.result (λ t ss found at. c.rows.ensures t ss found
+    c.rows.result (λ t u ss found near at. c.rows.ensures t u ss found near
     (subst (λ ns. AreAt (slots_of n) ns ss) (sym c.deref.ensures.value) at))
     (steps_of c.in_ok-p-in-Word.p) c.in_ok-p-in-Word.ensures
 
@@ -40,8 +40,8 @@ pub returns-clause-written : goal.returns-clause-written
 returns-clause-written c =
     let n = c.args.names.now in
     let w = c.in-Word in
-    statement_written (slots_of n) n.free_bit n.free_word (statement c.args.s.now) w.dst w.op
+    statement_written (slots_of n) n.free_bit n.free_word (statement c.args.s.now) w.dst w.second w.op
     w.args.items (ap statement w.is) c.requires.nested c.requires.meets c.requires.placed
-    c.rows.result (λ t ss found at. c.rows.ensures t ss found
+    c.rows.result (λ t u ss found near at. c.rows.ensures t u ss found near
     (subst (λ ns. AreAt (slots_of n) ns ss) (sym c.deref.ensures.value) at))
     (steps_of c.in_ok-p-in-Word.p) c.in_ok-p-in-Word.ensures
