@@ -1,0 +1,4 @@
+pub mod Running
+pub mod Naming
+pub mod Counting
+pub mod Nodewise

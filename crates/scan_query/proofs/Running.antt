@@ -1,0 +1,321 @@
+-- Instructions that are done one after another.
+use Rattle.std.proofs.Common.{◌≡◌, ℕ, zero, suc, ◌+◌, ◌*◌, ◌≤◌, ◌^◌, Bool, true, false, cond}
+use Rattle.std.proofs.Common.{take, drop, List, [], ◌∷◌}
+use Rattle.std.proofs.Common.{◌++◌, map, length, length-append, Option, Some, None}
+use Rattle.std.proofs.Common.{refl, sym, ◌∙◌, ap, subst, arith, append-nil}
+use Rattle.std.specs.Prelude.{flat_map, is_none, slice_get}
+use Rattle.std.specs.List.{AllByRecursion}
+use Rattle.std.proofs.Math.Nat.{mul-le-mul_right}
+use Rattle.std.proofs.lemmas.List.{take-append-drop}
+use Rattle.std.proofs.lemmas.List.{map-append}
+use Rattle.dram_model.specs.View.{ChipView, Kept, Did, with_reads}
+use Rattle.dram_model.specs.declared.dram.Counters.{Counters}
+use Rattle.dram_model.proofs.EventLaws.{Did-none, Did-more, Kept-same, Kept-more}
+use Rattle.fault_counts.specs.Counts.{Rose}
+use Rattle.uprog_code.specs.declared.TheConstants.{WALK_MAX}
+use Rattle.dram_model.specs.Chip.{Event, all_counted}
+use Rattle.dram_model.specs.declared.geometry.Geometry.{Geometry}
+use Rattle.object_alloc.specs.Listed.{Named}
+use Rattle.uprog_code.specs.declared.walker.Counts.{Counts}
+use Rattle.bbop_isa.specs.Forms.{Instruction, Init, Bbop, Load, Fill, Print, Free, Order}
+use Rattle.machine_model.specs.declared.Why.{Why}
+use Rattle.machine_model.specs.declared.Reply.TheVariants.{Refused}
+use Rattle.machine_model.specs.Refusals.{refusal}
+use Rattle.machine_model.specs.Steps.{reply_by, counts_for}
+use Rattle.machine_model.specs.Pieces.{instrs_in, events_of_pieces, piece_of}
+use Rattle.machine_model.specs.Pieces.{turn_at_end}
+use Rattle.machine_model.specs.Operations.{Operations}
+use Rattle.machine_model.specs.Script.{table_at_end, is_bbop, is_refused}
+use Rattle.machine_model.proofs.Parts.{scripts_go_on, pieces_go_on}
+use Rattle.object_steps.specs.Objects.{RisesAtMost}
+use Rattle.sim_machine.specs.declared.machine.Machine.{Machine}
+use Rattle.sim_machine.specs.Machine.{IsReady, geometry_of, operations_by, program_of, table_in}
+use Rattle.sim_machine.specs.Machine.{turn_in, reply_of, table_behind, turn_by_piece, events_by}
+use Rattle.sim_machine.specs.Machine.{reads_by, is_print}
+use Rattle.sim_machine.specs.Steps.{DidAndRead, HasRoom}
+use Rattle.scan_model.specs.Checks.{refused_in, or_else}
+use Rattle.scan_model.proofs.Goes.{refused-append}
+use Rattle.scan_query.specs.Running.{Ran, AreBelow}
+use Rattle.scan_query.specs.Queries.{instructions_for}
+use Rattle.scan_model.specs.Queries.{Node, Test, Not, And, Or}
+
+-- single pieces hold the script
+holds_case : (b : Bool) (instr : Instruction) → is_bbop instr ≡ b
+    → instrs_in (piece_of instr) ≡ instr ∷ []
+holds_case true instr e = rw e refl
+holds_case false instr e = rw e refl
+
+pub holds_one : (instr : Instruction) → instrs_in (piece_of instr) ≡ instr ∷ []
+holds_one instr = holds_case (is_bbop instr) instr refl
+
+pub holds_all : (script : List Instruction) → flat_map instrs_in (map piece_of script) ≡ script
+holds_all [] = refl
+holds_all (instr ∷ script) = rw (holds_one instr) (ap (λ rest. instr ∷ rest) (holds_all script))
+
+rises_none : (k : Counters) → RisesAtMost 0 k k
+rises_none k = record {
+  aap = omega arith;
+  ap = omega arith;
+  writes = omega arith;
+  reads =
+      omega arith;
+}
+
+rises_more : (m n all : ℕ) (a b c : Counters) → RisesAtMost m a b → RisesAtMost n b c
+    → m + n ≡ all → RisesAtMost all a c
+rises_more m n all a b c p q e = record {
+  aap = omega (arith, p.aap, q.aap, e);
+  ap = omega (arith, p.ap, q.ap, e);
+  writes = omega (arith, p.writes, q.writes, e);
+  reads = omega (arith, p.reads, q.reads, e);
+}
+
+-- nothing is done
+pub ran_nothing : (m : Machine) (chip : ChipView) → IsReady m → Ran [] m m chip chip
+ran_nothing m chip ready = record {
+  program = refl;
+  shape = refl;
+  ready = ready;
+  kept = Kept-same chip;
+  allowed = refl;
+  table = refl;
+  turn = refl;
+  did = Did-none chip;
+  rises = rises_none chip.counters;
+}
+
+lengths : (xs ys : List Instruction) (n : ℕ) → length xs * n + length ys * n
+    ≡ length (xs ++ ys) * n
+lengths xs ys n = grind (arith, length-append)
+
+-- some instructions, and then others
+pub ran_then : (xs ys : List Instruction) (a b c : Machine) (s t u : ChipView) → Ran xs a b s t
+    → Ran ys b c t u → Ran (xs ++ ys) a c s u
+ran_then xs ys a b c s t u p q =
+    let g = geometry_of a in
+    let ops = operations_by a in
+    let scripts = scripts_go_on g ops (table_in a) xs ys in
+    let parts = pieces_go_on g ops (turn_in a) (table_in a) (map piece_of xs) (map piece_of ys) in
+    let allowed = rw (p.shape, p.program, p.table) at q.allowed in
+    let table = rw (p.shape, p.program, p.table) at q.table in
+    let turn = rw (p.shape, p.program, p.table, p.turn) at q.turn in
+    let did = rw (p.shape, p.program, p.table, p.turn) at q.did in
+    record {
+      program = q.program ∙ p.program;
+      shape = q.shape ∙ p.shape;
+      ready = q.ready;
+      kept = Kept-more s t u p.kept q.kept;
+      allowed = refused-append g ops (table_in a) xs ys
+          ∙ ap (λ r. or_else r (refused_in g ops (table_at_end g ops (table_in a) xs) ys))
+          p.allowed
+          ∙ allowed;
+      table = table ∙ sym scripts.tables;
+      turn = turn
+          ∙ ap (λ ts. turn_at_end g ops (turn_at_end g ops (turn_in a) (table_in a)
+          (map piece_of xs)) (table_at_end g ops (table_in a) ts) (map piece_of ys))
+          (sym (holds_all xs))
+          ∙ sym parts.turns
+          ∙ ap (turn_at_end g ops (turn_in a) (table_in a)) (sym (map-append piece_of xs ys));
+      did = subst (λ (es : List Event). Did es s u)
+          (ap (λ ts. events_of_pieces g ops (turn_in a) (table_in a) (map piece_of xs)
+          ++ events_of_pieces g ops (turn_at_end g ops (turn_in a) (table_in a)
+          (map piece_of xs)) (table_at_end g ops (table_in a) ts) (map piece_of ys))
+          (sym (holds_all xs))
+          ∙ sym parts.events
+          ∙ ap (events_of_pieces g ops (turn_in a) (table_in a))
+          (sym (map-append piece_of xs ys)))
+          (Did-more _ _ s t u p.did did);
+      rises = rises_more (length xs * (16 * WALK_MAX)) (length ys * (16 * WALK_MAX))
+          (length (xs ++ ys) * (16 * WALK_MAX)) s.counters t.counters u.counters p.rises q.rises
+          (lengths xs ys (16 * WALK_MAX));
+    }
+
+no_reads : (c : Counters) → with_reads 0 c ≡ c
+no_reads c = ap (λ k. let d : Counters = record c { reads = k } in d) (omega arith)
+
+if_none : (r : Option Why) → ◌≡◌ {A = ℕ} (cond (is_none r) 0 0) 0
+if_none None = refl
+if_none (Some w) = refl
+
+silent_reads : (m : Machine) (instr : Instruction) → is_print instr ≡ false → reads_by m instr ≡ 0
+silent_reads m (Init name count n) e = if_none
+    (refusal (geometry_of m) (operations_by m) (table_in m) (Init name count n))
+silent_reads m (Bbop op dst srcs count n) e =
+    if_none (refusal (geometry_of m) (operations_by m) (table_in m) (Bbop op dst srcs count n))
+silent_reads m (Load name values) e = if_none
+    (refusal (geometry_of m) (operations_by m) (table_in m) (Load name values))
+silent_reads m (Fill name value) e = if_none (refusal (geometry_of m) (operations_by m)
+    (table_in m) (Fill name value))
+silent_reads m (Print name) e = cc
+silent_reads m (Free name) e = if_none (refusal (geometry_of m) (operations_by m) (table_in m)
+    (Free name))
+silent_reads m (Order o) e = if_none (refusal (geometry_of m) (operations_by m) (table_in m)
+    (Order o))
+
+silent_did : (events : List Event) (n : ℕ) (s t : ChipView) → n ≡ 0 → DidAndRead events n s t
+    → Did events s t
+silent_did events n s t e d = record {
+  banks = d.banks;
+  counters = d.counters
+      ∙ ap (λ k. with_reads k (all_counted events s.counters)) e
+      ∙ no_reads (all_counted events s.counters);
+  log = d.log;
+}
+
+done_allowed : (r : Option Why) (counts : Counts) → is_refused (reply_by r counts) ≡ false
+    → or_else r None ≡ None
+done_allowed None counts e = refl
+done_allowed (Some w) counts e = cc
+
+refused_said : (r : Option Why) (counts : Counts) (why : Why) → Refused why ≡ reply_by r counts
+    → or_else r None ≡ Some why
+refused_said None counts why e = cc
+refused_said (Some w) counts why e = same w why e where
+  same : (w why : Why) → Refused why ≡ Refused w → Some w ≡ Some why
+  same w why e = cc
+
+-- one instruction was done
+pub ran_one : (instr : Instruction) (a b : Machine) (s t : ChipView)
+    → is_refused (reply_of a instr) ≡ false → is_print instr ≡ false
+    → program_of b ≡ program_of a → geometry_of b ≡ geometry_of a → IsReady b → Kept s t
+    → table_in b ≡ table_behind a instr → turn_in b ≡ turn_by_piece a (piece_of instr)
+    → DidAndRead (events_by a (piece_of instr)) (reads_by a instr) s t
+    → RisesAtMost (16 * WALK_MAX) s.counters t.counters
+    → Ran (instr ∷ []) a b s t
+ran_one instr a b s t done silent program shape ready kept table turn did rises = record {
+  program = program;
+  shape = shape;
+  ready = ready;
+  kept = kept;
+  allowed = done_allowed (refusal (geometry_of a) (operations_by a) (table_in a) instr)
+      (counts_for (geometry_of a) (operations_by a) (table_in a) instr) done;
+  table = table;
+  turn = turn;
+  did = subst (λ (es : List Event). Did es s t) (sym (append-nil (events_by a (piece_of instr))))
+      (silent_did (events_by a (piece_of instr)) (reads_by a instr) s t
+      (silent_reads a instr silent) did);
+  rises = subst (λ n. RisesAtMost n s.counters t.counters) (omega arith) rises;
+}
+
+pub refused_one : (instr : Instruction) (a : Machine) (why : Why) → Refused why ≡ reply_of a instr
+    → refused_in (geometry_of a) (operations_by a) (table_in a) (instr ∷ []) ≡ Some why
+refused_one instr a why e = refused_said (refusal (geometry_of a) (operations_by a) (table_in a)
+    instr) (counts_for (geometry_of a) (operations_by a) (table_in a) instr) why e
+
+-- a refusal behind instructions that were done
+pub refused_then : (xs ys : List Instruction) (a b : Machine) (s t : ChipView) (why : Why)
+    → Ran xs a b s t
+    → refused_in (geometry_of b) (operations_by b) (table_in b) ys ≡ Some why
+    → refused_in (geometry_of a) (operations_by a) (table_in a) (xs ++ ys) ≡ Some why
+refused_then xs ys a b s t why p e =
+    let g = geometry_of a in
+    let ops = operations_by a in
+    refused-append g ops (table_in a) xs ys
+    ∙ ap (λ r. or_else r (refused_in g ops (table_at_end g ops (table_in a) xs) ys)) p.allowed
+    ∙ (rw (p.shape, p.program, p.table) at e)
+
+refused_front : (g : Geometry) (ops : Operations) (table : List Named) (xs ys : List Instruction)
+    (why : Why)
+    → refused_in g ops table xs ≡ Some why → refused_in g ops table (xs ++ ys) ≡ Some why
+refused_front g ops table xs ys why e = refused-append g ops table xs ys
+    ∙ ap (λ r. or_else r (refused_in g ops (table_at_end g ops table xs) ys)) e
+
+-- a script's refusal is that of its first part
+pub refused_part : (script : List Instruction) (i : ℕ) (a : Machine) (why : Why)
+    → refused_in (geometry_of a) (operations_by a) (table_in a) (take i script) ≡ Some why
+    → refused_in (geometry_of a) (operations_by a) (table_in a) script ≡ Some why
+refused_part script i a why e =
+    ap (refused_in (geometry_of a) (operations_by a) (table_in a))
+    (sym (take-append-drop i script))
+    ∙ refused_front (geometry_of a) (operations_by a) (table_in a) (take i script) (drop i script)
+    why e
+
+pub plain_at : (P : Instruction → Type 0) (script : List Instruction) (i : ℕ)
+    (instr : Instruction) → AllByRecursion P script → slice_get script i ≡ Some instr → P instr
+plain_at P [] i instr all e = cc
+plain_at P (x ∷ script) zero instr all e = subst P (same x instr e) all.0 where
+  same : (x y : Instruction) → Some x ≡ Some y → x ≡ y
+  same x y e = cc
+plain_at P (x ∷ script) (suc i) instr all e = plain_at P script i instr all.1 e
+
+pub take_short : (script : List Instruction) (n : ℕ) → length script ≤ n → take n script ≡ script
+take_short [] zero l = refl
+take_short [] (suc n) l = refl
+take_short (x ∷ script) zero l = absurd (omega (arith, l))
+take_short (x ∷ script) (suc n) l = ap (λ rest. x ∷ rest) (take_short script n (omega (arith, l)))
+
+pub five_at_most : (names : ℕ → List ℕ) (count width k : ℕ) (node : Node)
+    → length (instructions_for names count width k node) ≤ 5
+five_at_most names count width k (Test op name v) = omega arith
+five_at_most names count width k (Not a) = omega arith
+five_at_most names count width k (And a b) = omega arith
+five_at_most names count width k (Or a b) = omega arith
+
+take_length : (script : List Instruction) (i : ℕ) → length (take i script) ≤ i
+take_length [] zero = omega arith
+take_length [] (suc i) = omega arith
+take_length (x ∷ script) zero = omega arith
+take_length (x ∷ script) (suc i) = let r = take_length script i in omega (arith, r)
+
+-- there is room for one instruction more
+pub still_room : (script : List Instruction) (i limit : ℕ) (a b : Machine) (s t : ChipView)
+    → Ran (take i script) a b s t → i ≤ 5
+    → AreBelow (2 ^ 61 + 2 ^ 60) s.counters → HasRoom t.counters
+still_room script i limit a b s t p l r =
+    let n = take_length script i in
+    let m : length (take i script) * (16 * WALK_MAX) ≤ 5 * (16 * WALK_MAX) =
+    mul-le-mul_right {m = length (take i script)} {n = 5} (16 * WALK_MAX)
+    (omega (arith, n, l)) in
+    record {
+      aap = omega (arith, p.rises.aap, r.aap, m);
+      ap = omega (arith, p.rises.ap, r.ap, m);
+      writes = omega (arith, p.rises.writes, r.writes, m);
+      reads = omega (arith, p.rises.reads, r.reads, m);
+    }
+
+pub rose_after : (a b c : ℕ) → a ≤ b → Rose b c → Rose a c
+rose_after a b c l r = grind (arith, l, r)
+
+pub at_front : (script : List Instruction) (i : ℕ) (instr : Instruction)
+    → slice_get script i ≡ Some instr → instr ∷ [] ≡ take 1 (drop i script)
+at_front [] i instr e = cc
+at_front (x ∷ script) zero instr e = ap (λ y. y ∷ []) (same x instr e) where
+  same : (x y : Instruction) → Some x ≡ Some y → y ≡ x
+  same x y e = cc
+at_front (x ∷ script) (suc i) instr e = at_front script i instr e
+
+pub at_end : (script : List Instruction) (i : ℕ) → slice_get script i ≡ None
+    → [] ≡ take 1 (drop i script)
+at_end [] zero e = refl
+at_end [] (suc i) e = refl
+at_end (x ∷ script) zero e = cc
+at_end (x ∷ script) (suc i) e = at_end script i e
+
+one_more : (script : List Instruction) (i : ℕ)
+    → take i script ++ take 1 (drop i script) ≡ take (suc i) script
+one_more [] zero = refl
+one_more [] (suc i) = refl
+one_more (x ∷ script) zero = refl
+one_more (x ∷ script) (suc i) = ap (λ rest. x ∷ rest) (one_more script i)
+
+pub take_one_more : (script : List Instruction) (i : ℕ)
+    → take i script ++ take 1 (drop i script) ≡ take (i + 1) script
+take_one_more script i = let next : suc i ≡ i + 1 = omega arith in one_more script i
+    ∙ ap (λ n. take n script) next
+
+-- one place more of a script was done
+pub took_one : (script : List Instruction) (i : ℕ) (a b c : Machine) (s t u : ChipView)
+    → Ran (take i script) a b s t → Ran (take 1 (drop i script)) b c t u
+    → Ran (take (i + 1) script) a c s u
+took_one script i a b c s t u p q = subst (λ xs. Ran xs a c s u) (take_one_more script i)
+    (ran_then (take i script) (take 1 (drop i script)) a b c s t u p q)
+
+-- or is refused
+pub refused_at : (script : List Instruction) (i : ℕ) (a b : Machine) (s t : ChipView) (why : Why)
+    → Ran (take i script) a b s t
+    → refused_in (geometry_of b) (operations_by b) (table_in b) (take 1 (drop i script))
+    ≡ Some why
+    → refused_in (geometry_of a) (operations_by a) (table_in a) script ≡ Some why
+refused_at script i a b s t why p e = refused_part script (i + 1) a why
+    (ap (refused_in (geometry_of a) (operations_by a) (table_in a)) (sym (take_one_more script i))
+    ∙ refused_then (take i script) (take 1 (drop i script)) a b s t why p e)

@@ -1,0 +1,37 @@
+use Rattle.std.proofs.Common.{◌≡◌, ◌∙◌, ◌<◌, ℕ, ap, arith, length, refl}
+use Rattle.dram_model.specs.declared.geometry.Geometry.{Geometry}
+use Rattle.dram_model.specs.Elements.{column_count}
+use Rattle.dram_model.proofs.EventLaws.{Kept-more, DidRead-more}
+use Rattle.scan_query.proofs.Counting.{banks_counted}
+use Rattle.scan_query.proofs.ones.ones_of.Goals as goal
+
+pub banks-preserved : goal.banks-preserved
+banks-preserved g c =
+    let view = g.D.Dram.view in
+    let start = view c.args.dram.now in
+    let now = view c.banks.dram in
+    let next = view c.ones_of_row.new.dram in
+    let k = c.banks.bank in
+    let within : k < c.args.g.banks = omega (
+      arith,
+      c.banks-test.true,
+      c.segments-bank-end.ensures.fits,
+      c.banks.auto.bank-end,
+    ) in
+    let shaped : (b : ℕ) → b < k → length (start.banks b) ≡ column_count c.args.g =
+    λ b l. g.met.D.Dram.width c.args.dram.now c.requires.begun b
+    (below_all b l within c.requires.geometry) ∙ ap column_count c.requires.geometry in
+    record {
+      borrow = c.in_ok-found.ensures.borrow ∙ c.banks.invariant.borrow;
+      kept = Kept-more start now next c.banks.invariant.kept c.in_ok-found.ensures.kept;
+      did = DidRead-more k 1 start now next c.banks.invariant.did c.in_ok-found.ensures.did;
+      few = omega (arith, c.banks.invariant.few, c.in_ok-found.ensures.few);
+      counted = banks_counted c.args.object.base (column_count c.args.g) c.args.object.count k
+          start.banks now.banks c.banks.found c.in_ok-found.field-0
+          _ c.banks.invariant.did.banks shaped c.banks.invariant.counted
+          (rw (c.from.ensures, c.from-columns.ensures) refl) c.in_ok-found.ensures.ones;
+    } where
+      below_all : (b : ℕ) → b < c.banks.bank → c.banks.bank < c.args.g.banks
+          → (g.D.Dram.view c.args.dram.now).geometry ≡ c.args.g
+          → b < (g.D.Dram.view c.args.dram.now).geometry.banks
+      below_all b l m e = let same = ap (λ (s : Geometry). s.banks) e in omega (arith, l, m, same)

@@ -1,0 +1,17 @@
+use Rattle.std.proofs.Common.{◌≡◌, ◌*◌, ◌≤◌, take, map}
+use Rattle.std.specs.Prelude.{count_by, ◌==◌}
+use Rattle.dram_model.specs.View.{DidRead, Kept}
+use Rattle.dram_model.specs.Elements.{number, below}
+use Rattle.scan_query.proofs.ones.ones_of.Given as goal
+
+abbrev pub invariant-banks : goal.invariant-banks
+invariant-banks g l =
+    let D = g.D.Dram in
+    record {
+      borrow : D.borrow l.dram ≡ D.borrow l.initial.dram;
+      kept : Kept (D.view l.initial.dram) (D.view l.dram);
+      did : DidRead l.bank (D.view l.initial.dram) (D.view l.dram);
+      few : l.found ≤ 65536 * l.bank;
+      counted : l.found ≡ count_by (λ v. v == 1) (take l.object.count
+          (map (number l.object.base 1) (below l.bank (D.view l.initial.dram).banks)));
+    }

@@ -1,0 +1,3 @@
+-- Scans: a query's nodes, and what is done for them.
+pub mod Queries
+pub mod Running

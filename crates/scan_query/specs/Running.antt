@@ -1,0 +1,67 @@
+-- What is done on a machine and its chip.
+use Rattle.std.specs.Prelude.{◌≡◌, ℕ, ◌*◌, ◌<◌, List, map, length, Option, Some, None}
+use Rattle.std.specs.Prelude.{Result, Ok, Err}
+use Rattle.dram_model.specs.View.{ChipView, Kept, Did}
+use Rattle.dram_model.specs.declared.dram.Counters.{Counters}
+use Rattle.dram_model.specs.declared.dram.ChipFault.{ChipFault}
+use Rattle.fault_counts.specs.Counts.{Rose}
+use Rattle.uprog_code.specs.declared.TheConstants.{WALK_MAX}
+use Rattle.bbop_isa.specs.Forms.{Instruction}
+use Rattle.machine_model.specs.declared.Why.{Why}
+use Rattle.machine_model.specs.Pieces.{events_of_pieces, piece_of, turn_at_end}
+use Rattle.machine_model.specs.Script.{table_at_end}
+use Rattle.object_steps.specs.Objects.{RisesAtMost}
+use Rattle.sim_machine.specs.declared.machine.Machine.{Machine}
+use Rattle.sim_machine.specs.Machine.{IsReady, geometry_of, operations_by, program_of, table_in}
+use Rattle.sim_machine.specs.Machine.{turn_in}
+use Rattle.scan_model.specs.Checks.{refused_in, refused_from}
+use Rattle.scan_model.specs.Instructions.{count_of, scan_script}
+use Rattle.scan_model.specs.Names.{free_name}
+use Rattle.scan_model.specs.Queries.{Node}
+
+-- each counter is below the limit
+pub record AreBelow (limit : ℕ) (counters : Counters) : Type 0 where
+  pub aap : counters.aap < limit
+  pub ap : counters.ap < limit
+  pub writes : counters.writes < limit
+  pub reads : counters.reads < limit
+
+-- the instructions were done one after another, and none was refused
+pub record Ran (script : List Instruction) (old new : Machine) (chip chip' : ChipView) : Type 0
+  where
+    pub program : program_of new ≡ program_of old
+    pub shape : geometry_of new ≡ geometry_of old
+    pub ready : IsReady new
+    pub kept : Kept chip chip'
+    pub allowed : refused_in (geometry_of old) (operations_by old) (table_in old) script ≡ None
+    pub table : table_in new
+        ≡ table_at_end (geometry_of old) (operations_by old) (table_in old) script
+    pub turn : turn_in new ≡ turn_at_end (geometry_of old) (operations_by old) (turn_in old)
+        (table_in old) (map piece_of script)
+    pub did : Did (events_of_pieces (geometry_of old) (operations_by old) (turn_in old)
+        (table_in old) (map piece_of script)) chip chip'
+    pub rises : RisesAtMost (length script * (16 * WALK_MAX)) chip.counters chip'.counters
+
+-- they were done, or one was refused, or the chip failed
+abbrev pub Runs : List Instruction → Machine → Machine → ChipView → ChipView
+    → Result (Option Why) ChipFault → Type 0
+Runs script old new chip chip' (Ok None) = Ran script old new chip chip'
+Runs script old new chip chip' (Ok (Some why)) =
+    refused_in (geometry_of old) (operations_by old) (table_in old) script ≡ Some why
+Runs script old new chip chip' (Err fault) = Rose chip.faults chip'.faults
+
+-- the first refused node of a query on a machine
+abbrev pub refused_node : Machine → List Node → Option (Why × ℕ)
+refused_node m nodes = refused_from (geometry_of m) (operations_by m) (table_in m) (table_in m)
+    (free_name (table_in m)) (count_of (table_in m) nodes) 0 nodes
+
+-- a query's nodes were done, or one was refused, or the chip failed
+pub record NodesRan (nodes : List Node) (old new : Machine) (chip chip' : ChipView) : Type 0 where
+  pub allowed : refused_node old nodes ≡ None
+  pub ran : Ran (scan_script (table_in old) nodes) old new chip chip'
+
+abbrev pub NodesRun : List Node → Machine → Machine → ChipView → ChipView
+    → Result (Option (Why × ℕ)) ChipFault → Type 0
+NodesRun nodes old new chip chip' (Ok None) = NodesRan nodes old new chip chip'
+NodesRun nodes old new chip chip' (Ok (Some refused)) = refused_node old nodes ≡ Some refused
+NodesRun nodes old new chip chip' (Err fault) = Rose chip.faults chip'.faults

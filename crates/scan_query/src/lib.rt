@@ -1,0 +1,16 @@
+//! Scans: texts of queries, and the elements that meet a query counted in the chip.
+#![tactic(auto)]
+
+mod checks;
+mod names;
+mod nodes;
+mod ones;
+mod ops;
+mod query;
+mod run;
+mod sink;
+mod steps;
+
+pub use ops::scan_ops;
+pub use query::{Node, Query, QueryNo, ScanReply};
+pub use scan_model::{CmpOp, QueryFault, QueryKind, ScanWhy};
