@@ -1,9 +1,9 @@
 -- Plain instructions one after another.
-use Rattle.std.proofs.Common.{◌≡◌, ℕ, zero, suc, ◌+◌, Bool, true, false, cond, List, [], ◌∷◌}
+use Rattle.std.proofs.Common.{◌≡◌, ℕ, zero, suc, ◌+◌, cond, List, [], ◌∷◌}
 use Rattle.std.proofs.Common.{◌++◌}
 use Rattle.std.proofs.Common.{length, map, Option, Some, None, refl, sym, ◌∙◌, ap, subst, arith}
 use Rattle.std.proofs.Common.{append-nil}
-use Rattle.std.specs.Prelude.{is_none, flat_map, sum_by}
+use Rattle.std.specs.Prelude.{is_none, sum_by}
 use Rattle.std.specs.List.{range_with_len}
 use Rattle.std.proofs.lemmas.List.{map-append}
 use Rattle.dram_model.specs.declared.geometry.Geometry.{Geometry}
@@ -14,7 +14,7 @@ use Rattle.dram_model.specs.Chip.Event.{Row, Write}
 use Rattle.dram_model.specs.View.{ChipView, Did, with_reads}
 use Rattle.dram_model.proofs.EventLaws.{after-append, all_counted-append, Grew-more}
 use Rattle.wave_model.specs.Schedule.{Turn, queues, state_behind, state_after, events_of_picks}
-use Rattle.wave_model.specs.Schedule.{picks, whole_picks, total_left, in_turn}
+use Rattle.wave_model.specs.Schedule.{picks, whole_picks, in_turn}
 use Rattle.object_alloc.specs.Listed.{Named}
 use Rattle.bbop_isa.specs.Forms.{Instruction, Init, Bbop, Load, Fill, Print, Free, Order}
 use Rattle.machine_model.specs.declared.Why.{Why}
@@ -22,8 +22,8 @@ use Rattle.machine_model.specs.Operations.{Program, Operations, operations_in}
 use Rattle.machine_model.specs.Refusals.{refusal}
 use Rattle.machine_model.specs.Steps.{if_done, job_of, own_events, table_after, tabled}
 use Rattle.machine_model.specs.Script.{sum_done, rows_if_done, rows_printed, table_at_end}
-use Rattle.machine_model.specs.Pieces.{Piece, piece_of, piece_events, turn_behind, turn_at_end}
-use Rattle.machine_model.specs.Pieces.{events_of_pieces, wave_queues, instrs_in}
+use Rattle.machine_model.specs.Pieces.{piece_of, piece_events, turn_behind, turn_at_end}
+use Rattle.machine_model.specs.Pieces.{events_of_pieces, wave_queues}
 use Rattle.machine_model.proofs.Parts.{pieces_go_on, rows_append, table_append}
 use Rattle.sim_machine.specs.Steps.{DidAndRead}
 use Rattle.guard_model.proofs.Pieces.{all_instrs}

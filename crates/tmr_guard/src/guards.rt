@@ -1,19 +1,80 @@
 //! A machine whose objects stand in three copies.
 
-ghost use Rattle.std.specs.Prelude.{◌≡◌, ◌*◌, ◌<◌, ◌≤◌, ◌^◌, [], None, IfOk, OnOk, OnErr};
+ghost use Rattle.std.specs.Prelude.{◌≡◌, ℕ, ◌+◌, ◌*◌, ◌<◌, ◌≤◌, ◌^◌, ◌∷◌, ◌++◌, [], true, false};
+ghost use Rattle.std.specs.Prelude.{None, IfOk, OnOk, OnErr, IsErrOf};
+ghost use Rattle.host_edge.specs.Views.{Told, AppendsPart};
 ghost use Rattle.fault_counts.specs.Counts.{Rose};
+ghost use Rattle.text_lex.specs.Spelled.{fits_name};
 ghost use Rattle.dram_model.specs.Chip.{Grew};
 ghost use Rattle.dram_model.specs.View.{HasBegun, Kept, Did, DidRead};
 ghost use Rattle.object_alloc.specs.Spelling.{image_bytes};
+ghost use Rattle.bbop_isa.specs.Forms.{view_of, Print};
+ghost use Rattle.machine_model.specs.Agrees.{IsPlain};
 ghost use Rattle.machine_model.specs.Opened.{rows_of};
-ghost use Rattle.sim_machine.specs.Machine.{IsReady, file_of, geometry_of, table_in};
+ghost use Rattle.machine_model.specs.Script.{counted_in, plus as sum};
+ghost use Rattle.object_steps.specs.Objects.{RisesAtMost};
+ghost use Rattle.sim_machine.specs.Machine.{IsReady, file_of, geometry_of, is_print, program_of};
+ghost use Rattle.sim_machine.specs.Machine.{table_in, turn_in};
+ghost use Rattle.sim_machine.specs.Steps.{DidAndRead, HasRoom};
+ghost use Rattle.guard_model.specs.Guarded.{on_copies, on_copy, plain_ones, removal};
+ghost use Rattle.guard_model.specs.Named.{has_long_name};
 ghost use Rattle.guard_model.specs.Triples.{first_stranger};
 ghost use Rattle.guard_model.specs.Votes.{vote_count, vote_events};
-ghost use Rattle.tmr_guard.specs.Steps.{machine_in};
+ghost use Rattle.tmr_guard.specs.Steps.{Came, DidOne, HasMoreRoom, RanBy, events_by, line_by};
+ghost use Rattle.tmr_guard.specs.Steps.{machine_in, reads_by, reply_by, script_by, table_by};
+ghost use Rattle.tmr_guard.specs.Steps.{turn_by};
 
+use crate::copies::{adds_name, copied, copy_name};
+use crate::dropped::Dropped;
 use crate::votes::vote_all;
+use bbop_isa::Instr;
 use dram_model::{ChipFault, Dram};
-use sim_machine::Machine;
+use guard_model::tables_stay_guarded;
+use host_edge::Sink;
+use machine_model::{Reply, Why, accepted_programs_are_safe};
+use sim_machine::{Machine, StepFault, put_reply};
+use text_lex::Name;
+use uprog_code::{Counts, WALK_MAX};
+
+/// A reply of no commands.
+const DONE: Reply = Reply::Done(Counts { aap: 0, ap: 0 });
+
+/// The commands of two replies.
+fn plus(a: Counts, b: Counts) -> Counts
+    requires aap { a.aap + b.aap < 2 ^ 64 }
+    requires ap { a.ap + b.ap < 2 ^ 64 }
+    ensures { result ≡ sum a b }
+{
+    Counts {
+        aap: a.aap + b.aap,
+        ap: a.ap + b.ap,
+    }
+}
+
+/// Does a plain instruction, and drops its line.
+fn done<D: Dram>(m: &mut Machine<'_>, instr: &Instr, dram: &mut D) -> Result<Reply, ChipFault>
+    requires ready { IsReady m.old }
+    requires begun { HasBegun (D.view dram.old) }
+    requires geometry { (D.view dram.old).geometry ≡ geometry_of m.old }
+    requires plain { IsPlain (view_of instr.now) }
+    requires room { HasRoom (D.view dram.old).counters }
+    ensures borrow { D.borrow dram.new ≡ D.borrow dram.old }
+    ensures kept { Kept (D.view dram.old) (D.view dram.new) }
+    ensures ready { IsReady m.new }
+    ensures program { program_of m.new ≡ program_of m.old }
+    ensures shape { geometry_of m.new ≡ geometry_of m.old }
+    ensures did { IfOk result (λ reply. DidOne m.old m.new (view_of instr.now) reply
+        (D.view dram.old) (D.view dram.new)) }
+    ensures rises { OnOk result (RisesAtMost (16 * WALK_MAX) (D.view dram.old).counters
+        (D.view dram.new).counters) }
+    ensures failed { OnErr result (Rose (D.view dram.old).faults (D.view dram.new).faults) }
+{
+    match m.step(0, instr, dram, &mut Dropped) {
+        Ok(reply) => Ok(reply),
+        Err(StepFault::ChipFault) => Err(ChipFault),
+        Err(StepFault::WriteFault) => unreachable!(),
+    }
+}
 
 /// A machine whose objects stand in three copies, under the letters x, y and z before a name.
 #[derive(Drop)]
@@ -35,6 +96,325 @@ impl<'a> Guard<'a> {
         ensures { result.now ≡ machine_in self.now }
     {
         &self.machine
+    }
+
+    /// The plain instruction on the copies under a letter.
+    fn plain<D: Dram>(
+        &mut self,
+        letter: u8,
+        instr: &Instr,
+        dram: &mut D,
+    ) -> Result<Reply, ChipFault>
+        requires ready { IsReady (machine_in self.old) }
+        requires begun { HasBegun (D.view dram.old) }
+        requires geometry { (D.view dram.old).geometry ≡ geometry_of (machine_in self.old) }
+        requires plain { IsPlain (view_of instr.now) }
+        requires letter { fits_name (letter ∷ []) ≡ true }
+        requires short { has_long_name (view_of instr.now) ≡ false }
+        requires room { HasRoom (D.view dram.old).counters }
+        ensures borrow { D.borrow dram.new ≡ D.borrow dram.old }
+        ensures kept { Kept (D.view dram.old) (D.view dram.new) }
+        ensures ready { IsReady (machine_in self.new) }
+        ensures program { program_of (machine_in self.new) ≡ program_of (machine_in self.old) }
+        ensures shape { geometry_of (machine_in self.new) ≡ geometry_of (machine_in self.old) }
+        ensures did { IfOk result (λ reply. DidOne (machine_in self.old) (machine_in self.new)
+            (on_copy letter (view_of instr.now)) reply (D.view dram.old) (D.view dram.new)) }
+        ensures few { IfOk result (λ reply. (counted_in reply).aap + (counted_in reply).ap
+            ≤ 16 * WALK_MAX) }
+        ensures rises { OnOk result (RisesAtMost (16 * WALK_MAX) (D.view dram.old).counters
+            (D.view dram.new).counters) }
+        ensures failed { OnErr result (Rose (D.view dram.old).faults (D.view dram.new).faults) }
+    {
+        accepted_programs_are_safe();
+        match instr {
+            Instr::Load { name, values } => {
+                let copy = copy_name(letter, name);
+                match self.machine.load_into(&copy, values.as_slice(), dram) {
+                    Ok(reply) => Ok(reply),
+                    Err(fault) => Err(fault),
+                }
+            }
+            _ => match done(&mut self.machine, &copied(letter, instr), dram) {
+                Ok(reply) => Ok(reply),
+                Err(fault) => Err(fault),
+            },
+        }
+    }
+
+    /// Takes the copy under a letter away again, where the instruction has added it.
+    fn take_back<D: Dram>(
+        &mut self,
+        letter: u8,
+        instr: &Instr,
+        dram: &mut D,
+    ) -> Result<(), ChipFault>
+        requires ready { IsReady (machine_in self.old) }
+        requires begun { HasBegun (D.view dram.old) }
+        requires geometry { (D.view dram.old).geometry ≡ geometry_of (machine_in self.old) }
+        requires letter { fits_name (letter ∷ []) ≡ true }
+        requires short { has_long_name (view_of instr.now) ≡ false }
+        requires room { HasRoom (D.view dram.old).counters }
+        ensures borrow { D.borrow dram.new ≡ D.borrow dram.old }
+        ensures kept { Kept (D.view dram.old) (D.view dram.new) }
+        ensures ready { IsReady (machine_in self.new) }
+        ensures program { program_of (machine_in self.new) ≡ program_of (machine_in self.old) }
+        ensures shape { geometry_of (machine_in self.new) ≡ geometry_of (machine_in self.old) }
+        ensures ran { OnOk result (RanBy (machine_in self.old) (machine_in self.new)
+            (removal (on_copy letter (view_of instr.now))) (D.view dram.old) (D.view dram.new)) }
+        ensures rises { OnOk result (RisesAtMost (16 * WALK_MAX) (D.view dram.old).counters
+            (D.view dram.new).counters) }
+        ensures failed { OnErr result (Rose (D.view dram.old).faults (D.view dram.new).faults) }
+    {
+        match instr {
+            Instr::Init { name, .. } => {
+                let free = Instr::Free {
+                    name: copy_name(letter, name),
+                };
+                match done(&mut self.machine, &free, dram) {
+                    Ok(_) => Ok(()),
+                    Err(fault) => Err(fault),
+                }
+            }
+            _ => Ok(()),
+        }
+    }
+
+    /// The plain instructions on the three copies in turn, up to the first that is refused.
+    fn on_three<D: Dram>(&mut self, instr: &Instr, dram: &mut D) -> Result<Reply, ChipFault>
+        requires ready { IsReady (machine_in self.old) }
+        requires begun { HasBegun (D.view dram.old) }
+        requires geometry { (D.view dram.old).geometry ≡ geometry_of (machine_in self.old) }
+        requires plain { IsPlain (view_of instr.now) }
+        requires short { has_long_name (view_of instr.now) ≡ false }
+        requires three { plain_ones (view_of instr.now) ≡ on_copies (view_of instr.now) }
+        requires room { HasMoreRoom (D.view dram.old).counters }
+        ensures borrow { D.borrow dram.new ≡ D.borrow dram.old }
+        ensures kept { Kept (D.view dram.old) (D.view dram.new) }
+        ensures ready { IsReady (machine_in self.new) }
+        ensures program { program_of (machine_in self.new) ≡ program_of (machine_in self.old) }
+        ensures shape { geometry_of (machine_in self.new) ≡ geometry_of (machine_in self.old) }
+        ensures reply { IfOk result (λ reply. reply
+            ≡ reply_by (machine_in self.old) (view_of instr.now)) }
+        ensures ran { OnOk result (RanBy (machine_in self.old) (machine_in self.new)
+            (script_by (machine_in self.old) (view_of instr.now)) (D.view dram.old)
+            (D.view dram.new)) }
+        ensures rises { OnOk result (RisesAtMost (80 * WALK_MAX) (D.view dram.old).counters
+            (D.view dram.new).counters) }
+        ensures failed { OnErr result (Rose (D.view dram.old).faults (D.view dram.new).faults) }
+    {
+        let x = match self.plain(b'x', instr, dram)? {
+            Reply::Done(counts) => counts,
+            Reply::Refused(why) => return Ok(Reply::Refused(why)),
+        };
+        let y = match self.plain(b'y', instr, dram)? {
+            Reply::Done(counts) => counts,
+            Reply::Refused(why) => {
+                self.take_back(b'x', instr, dram)?;
+                return Ok(Reply::Refused(why));
+            }
+        };
+        let z = match self.plain(b'z', instr, dram)? {
+            Reply::Done(counts) => counts,
+            Reply::Refused(why) => {
+                self.take_back(b'x', instr, dram)?;
+                self.take_back(b'y', instr, dram)?;
+                return Ok(Reply::Refused(why));
+            }
+        };
+        Ok(Reply::Done(plus(plus(x, y), z)))
+    }
+
+    /// What a guarded instruction but a print comes to.
+    fn reply_to<D: Dram>(&mut self, instr: &Instr, dram: &mut D) -> Result<Reply, ChipFault>
+        requires ready { IsReady (machine_in self.old) }
+        requires begun { HasBegun (D.view dram.old) }
+        requires geometry { (D.view dram.old).geometry ≡ geometry_of (machine_in self.old) }
+        requires plain { IsPlain (view_of instr.now) }
+        requires short { has_long_name (view_of instr.now) ≡ false }
+        requires silent { is_print (view_of instr.now) ≡ false }
+        requires room { HasMoreRoom (D.view dram.old).counters }
+        ensures borrow { D.borrow dram.new ≡ D.borrow dram.old }
+        ensures kept { Kept (D.view dram.old) (D.view dram.new) }
+        ensures ready { IsReady (machine_in self.new) }
+        ensures program { program_of (machine_in self.new) ≡ program_of (machine_in self.old) }
+        ensures shape { geometry_of (machine_in self.new) ≡ geometry_of (machine_in self.old) }
+        ensures reply { IfOk result (λ reply. reply
+            ≡ reply_by (machine_in self.old) (view_of instr.now)) }
+        ensures ran { OnOk result (RanBy (machine_in self.old) (machine_in self.new)
+            (script_by (machine_in self.old) (view_of instr.now)) (D.view dram.old)
+            (D.view dram.new)) }
+        ensures rises { OnOk result (RisesAtMost (80 * WALK_MAX) (D.view dram.old).counters
+            (D.view dram.new).counters) }
+        ensures failed { OnErr result (Rose (D.view dram.old).faults (D.view dram.new).faults) }
+    {
+        match instr {
+            Instr::Order(_) => match self.plain(b'x', instr, dram) {
+                Ok(reply) => Ok(reply),
+                Err(fault) => Err(fault),
+            },
+            _ => match self.on_three(instr, dram) {
+                Ok(reply) => Ok(reply),
+                Err(fault) => Err(fault),
+            },
+        }
+    }
+
+    /// A guarded instruction but a print, and its line.
+    fn reply_step<D: Dram, S: Sink>(
+        &mut self,
+        number: u32,
+        instr: &Instr,
+        dram: &mut D,
+        out: &mut S,
+    ) -> Result<Reply, StepFault>
+        requires ready { IsReady (machine_in self.old) }
+        requires begun { HasBegun (D.view dram.old) }
+        requires geometry { (D.view dram.old).geometry ≡ geometry_of (machine_in self.old) }
+        requires plain { IsPlain (view_of instr.now) }
+        requires short { has_long_name (view_of instr.now) ≡ false }
+        requires silent { is_print (view_of instr.now) ≡ false }
+        requires room { HasMoreRoom (D.view dram.old).counters }
+        ensures borrow { D.borrow dram.new ≡ D.borrow dram.old }
+        ensures kept { Kept (D.view dram.old) (D.view dram.new) }
+        ensures sink_faults { (S.view out.old).faults ≤ (S.view out.new).faults }
+        ensures ready { IsReady (machine_in self.new) }
+        ensures program { program_of (machine_in self.new) ≡ program_of (machine_in self.old) }
+        ensures shape { geometry_of (machine_in self.new) ≡ geometry_of (machine_in self.old) }
+        ensures came { Came (machine_in self.old) (machine_in self.new) number (view_of instr.now)
+            (D.view dram.old) (D.view dram.new) (S.view out.old) (S.view out.new) result }
+    {
+        let reply = match self.reply_to(instr, dram) {
+            Ok(reply) => reply,
+            Err(_) => return Err(StepFault::ChipFault),
+        };
+        match put_reply(number, reply, out) {
+            Ok(()) => Ok(reply),
+            Err(_) => Err(StepFault::WriteFault),
+        }
+    }
+
+    /// The x copy's values are shown under the guarded name.
+    fn print_step<D: Dram, S: Sink>(
+        &mut self,
+        number: u32,
+        name: &Name,
+        dram: &mut D,
+        out: &mut S,
+    ) -> Result<Reply, StepFault>
+        requires ready { IsReady (machine_in self.old) }
+        requires begun { HasBegun (D.view dram.old) }
+        requires geometry { (D.view dram.old).geometry ≡ geometry_of (machine_in self.old) }
+        requires short { has_long_name (Print name.now) ≡ false }
+        requires room { HasMoreRoom (D.view dram.old).counters }
+        ensures borrow { D.borrow dram.new ≡ D.borrow dram.old }
+        ensures kept { Kept (D.view dram.old) (D.view dram.new) }
+        ensures sink_faults { (S.view out.old).faults ≤ (S.view out.new).faults }
+        ensures ready { IsReady (machine_in self.new) }
+        ensures program { program_of (machine_in self.new) ≡ program_of (machine_in self.old) }
+        ensures shape { geometry_of (machine_in self.new) ≡ geometry_of (machine_in self.old) }
+        ensures came { Came (machine_in self.old) (machine_in self.new) number (Print name.now)
+            (D.view dram.old) (D.view dram.new) (S.view out.old) (S.view out.new) result }
+    {
+        let copy = copy_name(b'x', name);
+        match self.machine.table().look_up(&copy) {
+            Some(_) => match self.machine.print_as(number, &copy, name, dram, out) {
+                Ok(()) => Ok(DONE),
+                Err(fault) => Err(fault),
+            },
+            None => {
+                let reply = Reply::Refused(Why::NoObject(0));
+                match put_reply(number, reply, out) {
+                    Ok(()) => Ok(reply),
+                    Err(_) => Err(StepFault::WriteFault),
+                }
+            }
+        }
+    }
+
+    /// One guarded instruction.
+    fn step_of<D: Dram, S: Sink>(
+        &mut self,
+        number: u32,
+        instr: &Instr,
+        dram: &mut D,
+        out: &mut S,
+    ) -> Result<Reply, StepFault>
+        requires ready { IsReady (machine_in self.old) }
+        requires begun { HasBegun (D.view dram.old) }
+        requires geometry { (D.view dram.old).geometry ≡ geometry_of (machine_in self.old) }
+        requires plain { IsPlain (view_of instr.now) }
+        requires short { has_long_name (view_of instr.now) ≡ false }
+        requires room { HasMoreRoom (D.view dram.old).counters }
+        ensures borrow { D.borrow dram.new ≡ D.borrow dram.old }
+        ensures kept { Kept (D.view dram.old) (D.view dram.new) }
+        ensures sink_faults { (S.view out.old).faults ≤ (S.view out.new).faults }
+        ensures ready { IsReady (machine_in self.new) }
+        ensures program { program_of (machine_in self.new) ≡ program_of (machine_in self.old) }
+        ensures shape { geometry_of (machine_in self.new) ≡ geometry_of (machine_in self.old) }
+        ensures came { Came (machine_in self.old) (machine_in self.new) number (view_of instr.now)
+            (D.view dram.old) (D.view dram.new) (S.view out.old) (S.view out.new) result }
+    {
+        match instr {
+            Instr::Print { name } => self.print_step(number, name, dram, out),
+            _ => self.reply_step(number, instr, dram, out),
+        }
+    }
+
+    /// Does one guarded instruction: the plain one on the x, y and z copies in turn, and puts one
+    /// line. A `print` is of the x copy alone, and an `order` is done once. Where a plain
+    /// instruction is refused, that is the reply, and the copies that this instruction added are
+    /// taken away again. It takes no memory.
+    pub fn step<D: Dram, S: Sink>(
+        &mut self,
+        number: u32,
+        instr: &Instr,
+        dram: &mut D,
+        out: &mut S,
+    ) -> Result<Reply, StepFault>
+        requires ready { IsReady (machine_in self.old) }
+        requires begun { HasBegun (D.view dram.old) }
+        requires geometry { (D.view dram.old).geometry ≡ geometry_of (machine_in self.old) }
+        requires triples { first_stranger (table_in (machine_in self.old)) ≡ None }
+        requires plain { IsPlain (view_of instr.now) }
+        requires short { has_long_name (view_of instr.now) ≡ false }
+        requires room { HasMoreRoom (D.view dram.old).counters }
+        ensures borrow { D.borrow dram.new ≡ D.borrow dram.old }
+        ensures kept { Kept (D.view dram.old) (D.view dram.new) }
+        ensures sink_faults { (S.view out.old).faults ≤ (S.view out.new).faults }
+        ensures ready { IsReady (machine_in self.new) }
+        ensures program { program_of (machine_in self.new) ≡ program_of (machine_in self.old) }
+        ensures shape { geometry_of (machine_in self.new) ≡ geometry_of (machine_in self.old) }
+        ensures reply { IfOk result (λ reply. reply
+            ≡ reply_by (machine_in self.old) (view_of instr.now)) }
+        ensures table { OnOk result (table_in (machine_in self.new)
+            ≡ table_by (machine_in self.old) (view_of instr.now)) }
+        ensures triples { OnOk result (first_stranger (table_in (machine_in self.new)) ≡ None) }
+        ensures turn { OnOk result (turn_in (machine_in self.new)
+            ≡ turn_by (machine_in self.old) (view_of instr.now)) }
+        ensures did { OnOk result (DidAndRead (events_by (machine_in self.old)
+            (view_of instr.now)) (reads_by (machine_in self.old) (view_of instr.now))
+            (D.view dram.old) (D.view dram.new)) }
+        ensures rises { OnOk result (RisesAtMost (80 * WALK_MAX) (D.view dram.old).counters
+            (D.view dram.new).counters) }
+        ensures sent { OnOk result (Told (λ before after. after ≡ before
+            ++ line_by (machine_in self.old) number (D.view dram.old).banks (view_of instr.now))
+            (S.view out.old).sent (S.view out.new).sent) }
+
+        // After a fault nothing is said of the table. Of no line but a print's is a part put where
+        // the chip fails.
+        ensures chip_fault { IsErrOf result StepFault.ChipFault
+            → Rose (D.view dram.old).faults (D.view dram.new).faults }
+        ensures unsent { IsErrOf result StepFault.ChipFault
+            → is_print (view_of instr.now) ≡ false → S.view out.new ≡ S.view out.old }
+        ensures write_fault { IsErrOf result StepFault.WriteFault
+            → Rose (S.view out.old).faults (S.view out.new).faults }
+        ensures part { OnErr result (Told (AppendsPart
+            (line_by (machine_in self.old) number (D.view dram.old).banks (view_of instr.now)))
+            (S.view out.old).sent (S.view out.new).sent) }
+    {
+        tables_stay_guarded();
+        adds_name(instr);
+        self.step_of(number, instr, dram, out)
     }
 
     /// Every triple takes its majority, in the order of the table. The answer is how many AAP that

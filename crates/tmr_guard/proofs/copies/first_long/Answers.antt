@@ -1,4 +1,4 @@
-use Rattle.std.proofs.Common.{◌≡◌, ◌+◌, ◌∙◌, ap, sym}
+use Rattle.std.proofs.Common.{◌+◌, ◌∙◌, ap, sym}
 use Rattle.std.specs.Option.{option_map}
 use Rattle.bbop_isa.specs.Forms.{view_of}
 use Rattle.guard_model.specs.Named.{has_long_name}

@@ -1,0 +1,112 @@
+use Rattle.std.proofs.Common.{◌∙◌, subst}
+use Rattle.bbop_isa.specs.Forms.{view_of}
+use Rattle.machine_model.specs.declared.Reply.{Reply}
+use Rattle.sim_machine.specs.Machine.{geometry_of, program_of, table_in}
+use Rattle.guard_model.specs.Triples.{x_letter, y_letter, z_letter}
+use Rattle.guard_model.specs.Guarded.{on_copy}
+use Rattle.tmr_guard.specs.Steps.{DidOne, machine_in}
+use Rattle.tmr_guard.proofs.Exits.{exit_all, exit_first, exit_second, exit_third, moved_one}
+use Rattle.tmr_guard.proofs.Exits.{moved_ran}
+use Rattle.tmr_guard.proofs.guards.Guard.on_three.Goals as goal
+
+pub returns-in-Refused-clause-ran : goal.returns-in-Refused-clause-ran
+returns-in-Refused-clause-ran g c =
+    let V = g.D.Dram.view in
+    let m = machine_in c.args.self.now in
+    let m1 = machine_in c.plain.new.self in
+    let i = view_of c.args.instr.now in
+    let one = subst (λ (r : Reply). DidOne m m1 (on_copy x_letter i) r (V c.args.dram.now)
+    (V c.plain.new.dram)) c.in-Refused.is c.in_ok-counts.ensures.did in
+    (exit_first (geometry_of m) (program_of m) (table_in m) i (on_copy x_letter i)
+    (on_copy y_letter i) (on_copy z_letter i) c.requires.three _ _ _ c.in-Refused.why _ _ one).ran
+
+pub returns-in-Refused-2-clause-ran : goal.returns-in-Refused-2-clause-ran
+returns-in-Refused-2-clause-ran g c =
+    let V = g.D.Dram.view in
+    let m = machine_in c.args.self.now in
+    let m1 = machine_in c.plain.new.self in
+    let m2 = machine_in c.plain-2.new.self in
+    let i = view_of c.args.instr.now in
+    let shape1 = c.in_ok-counts.ensures.shape in
+    let program1 = c.in_ok-counts.ensures.program in
+    let shape2 = c.in_ok-counts-2.ensures.shape ∙ shape1 in
+    let program2 = c.in_ok-counts-2.ensures.program ∙ program1 in
+    let one = subst (λ (r : Reply). DidOne m m1 (on_copy x_letter i) r (V c.args.dram.now)
+    (V c.plain.new.dram)) c.in-Done.is c.in_ok-counts.ensures.did in
+    let two = moved_one (geometry_of m) (geometry_of m1) (program_of m) (program_of m1) _ _ _ _ _
+    _
+    _ _ shape1 program1 (subst (λ (r : Reply). DidOne m1 m2 (on_copy y_letter i) r
+    (V c.plain.new.dram) (V c.plain-2.new.dram)) c.in-Refused-2.is
+    c.in_ok-counts-2.ensures.did) in
+    let back = moved_ran (geometry_of m) (geometry_of m2) (program_of m) (program_of m2) _ _ _ _ _
+    _ _ shape2 program2 c.in_ok-take_back-in-Refused-2.ensures.ran in
+    (exit_second (geometry_of m) (program_of m) (table_in m) i (on_copy x_letter i)
+    (on_copy y_letter i) (on_copy z_letter i) c.requires.three _ _ _ _ _ _ _ c.in-Done.counts
+    c.in-Refused-2.why _ _ _ _ one two back).ran
+
+pub returns-in-Refused-3-clause-ran : goal.returns-in-Refused-3-clause-ran
+returns-in-Refused-3-clause-ran g c =
+    let V = g.D.Dram.view in
+    let m = machine_in c.args.self.now in
+    let m1 = machine_in c.plain.new.self in
+    let m2 = machine_in c.plain-2.new.self in
+    let m3 = machine_in c.plain-3.new.self in
+    let m4 = machine_in c.take_back-in-Refused-3.new.self in
+    let i = view_of c.args.instr.now in
+    let shape1 = c.in_ok-counts.ensures.shape in
+    let program1 = c.in_ok-counts.ensures.program in
+    let shape2 = c.in_ok-counts-2.ensures.shape ∙ shape1 in
+    let program2 = c.in_ok-counts-2.ensures.program ∙ program1 in
+    let shape3 = c.in_ok-counts-3.ensures.shape ∙ shape2 in
+    let program3 = c.in_ok-counts-3.ensures.program ∙ program2 in
+    let shape4 = c.in_ok-take_back-in-Refused-3.ensures.shape ∙ shape3 in
+    let program4 = c.in_ok-take_back-in-Refused-3.ensures.program ∙ program3 in
+    let one = subst (λ (r : Reply). DidOne m m1 (on_copy x_letter i) r (V c.args.dram.now)
+    (V c.plain.new.dram)) c.in-Done.is c.in_ok-counts.ensures.did in
+    let two = moved_one (geometry_of m) (geometry_of m1) (program_of m) (program_of m1) _ _ _ _ _
+    _
+    _ _ shape1 program1 (subst (λ (r : Reply). DidOne m1 m2 (on_copy y_letter i) r
+    (V c.plain.new.dram) (V c.plain-2.new.dram)) c.in-Done-2.is
+    c.in_ok-counts-2.ensures.did) in
+    let three = moved_one (geometry_of m) (geometry_of m2) (program_of m) (program_of m2) _ _ _ _
+    _
+    _ _ _ shape2 program2 (subst (λ (r : Reply). DidOne m2 m3 (on_copy z_letter i) r
+    (V c.plain-2.new.dram) (V c.plain-3.new.dram)) c.in-Refused-3.is
+    c.in_ok-counts-3.ensures.did) in
+    let back = moved_ran (geometry_of m) (geometry_of m3) (program_of m) (program_of m3) _ _ _ _ _
+    _ _ shape3 program3 c.in_ok-take_back-in-Refused-3.ensures.ran in
+    let again = moved_ran (geometry_of m) (geometry_of m4) (program_of m) (program_of m4) _ _ _ _
+    _
+    _ _ shape4 program4 c.in_ok-take_back-in-Refused-3-2.ensures.ran in
+    (exit_third (geometry_of m) (program_of m) (table_in m) i (on_copy x_letter i)
+    (on_copy y_letter i) (on_copy z_letter i) c.requires.three _ _ _ _ _ _ _ _ _ _ _
+    c.in-Done.counts c.in-Done-2.counts c.in-Refused-3.why _ _ _ _ _ _ one two three back
+    again).ran
+
+pub returns-clause-ran : goal.returns-clause-ran
+returns-clause-ran g c =
+    let V = g.D.Dram.view in
+    let m = machine_in c.args.self.now in
+    let m1 = machine_in c.plain.new.self in
+    let m2 = machine_in c.plain-2.new.self in
+    let m3 = machine_in c.plain-3.new.self in
+    let i = view_of c.args.instr.now in
+    let shape1 = c.in_ok-counts.ensures.shape in
+    let program1 = c.in_ok-counts.ensures.program in
+    let shape2 = c.in_ok-counts-2.ensures.shape ∙ shape1 in
+    let program2 = c.in_ok-counts-2.ensures.program ∙ program1 in
+    let one = subst (λ (r : Reply). DidOne m m1 (on_copy x_letter i) r (V c.args.dram.now)
+    (V c.plain.new.dram)) c.in-Done.is c.in_ok-counts.ensures.did in
+    let two = moved_one (geometry_of m) (geometry_of m1) (program_of m) (program_of m1) _ _ _ _ _
+    _
+    _ _ shape1 program1 (subst (λ (r : Reply). DidOne m1 m2 (on_copy y_letter i) r
+    (V c.plain.new.dram) (V c.plain-2.new.dram)) c.in-Done-2.is
+    c.in_ok-counts-2.ensures.did) in
+    let three = moved_one (geometry_of m) (geometry_of m2) (program_of m) (program_of m2) _ _ _ _
+    _
+    _ _ _ shape2 program2 (subst (λ (r : Reply). DidOne m2 m3 (on_copy z_letter i) r
+    (V c.plain-2.new.dram) (V c.plain-3.new.dram)) c.in-Done-3.is
+    c.in_ok-counts-3.ensures.did) in
+    (exit_all (geometry_of m) (program_of m) (table_in m) i (on_copy x_letter i)
+    (on_copy y_letter i) (on_copy z_letter i) c.requires.three _ _ _ _ _ _ _ c.in-Done.counts
+    c.in-Done-2.counts c.in-Done-3.counts _ _ _ _ one two three).ran

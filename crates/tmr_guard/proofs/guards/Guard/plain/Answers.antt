@@ -1,0 +1,23 @@
+use Rattle.std.proofs.Common.{subst}
+use Rattle.bbop_isa.specs.Forms.{Instruction, view_of}
+use Rattle.sim_machine.specs.Machine.{geometry_of, program_of}
+use Rattle.tmr_guard.specs.Steps.{DidOne, machine_in}
+use Rattle.tmr_guard.proofs.Bounded.{few_commands}
+use Rattle.tmr_guard.proofs.guards.Guard.plain.Goals as goal
+
+pub returns-in-Ok-done-clause-did : goal.returns-in-Ok-done-clause-did
+returns-in-Ok-done-clause-did g c =
+    let V = g.D.Dram.view in
+    subst (λ (i : Instruction). DidOne (machine_in c.args.self.now) c.done.new.m i
+    c.in-Ok-done.reply (V c.args.dram.now) (V c.done.new.dram)) c.copied.ensures
+    c.in-Ok-done.ensures.did
+
+pub returns-in-Ok-done-clause-few : goal.returns-in-Ok-done-clause-few
+returns-in-Ok-done-clause-few g c =
+    let m = machine_in c.args.self.now in
+    let V = g.D.Dram.view in
+    let one = subst (λ (i : Instruction). DidOne m c.done.new.m i
+    c.in-Ok-done.reply (V c.args.dram.now) (V c.done.new.dram)) c.copied.ensures
+    c.in-Ok-done.ensures.did in
+    few_commands (geometry_of m) (program_of m) m.table c.args.letter (view_of c.args.instr.now)
+    c.in-Ok-done.reply c.requires.ready.set c.requires.plain one.answer
