@@ -1,6 +1,6 @@
 -- A tape behind one event more: what it tells.
 use Rattle.std.proofs.Common.{◌≡◌, ℕ, zero, suc, ◌+◌, ◌*◌, ◌^◌, ◌<◌, ◌≤◌, Bool, true, false, ◌&&◌}
-use Rattle.std.proofs.Common.{cond, eqb, leb, List, [], ◌∷◌, ◌++◌, length, take, drop, Option}
+use Rattle.std.proofs.Common.{cond, leb, List, [], ◌∷◌, ◌++◌, length, drop, Option}
 use Rattle.std.proofs.Common.{Some, None, refl, sym, ◌∙◌, ap, subst, arith, length-append}
 use Rattle.std.proofs.Common.{append_assoc, append-nil}
 use Rattle.std.specs.Prelude.{Result, Ok, Err, IfSome}
@@ -9,13 +9,13 @@ use Rattle.std.proofs.lemmas.Bool.{eqb-true, eq-eqb}
 use Rattle.std.proofs.lemmas.Bool.Decides.{nat_tests}
 use Rattle.std.proofs.lemmas.List.Concat.{flat_map-append}
 use Rattle.std.proofs.lemmas.Slice.Eq.{bytes_eq-Decides}
-use Rattle.std.proofs.lemmas.List.{drop_all, drop_at, length-take}
+use Rattle.std.proofs.lemmas.List.{drop_all, drop_at}
 use Rattle.dram_model.specs.declared.dram.Counters.{Counters}
 use Rattle.dram_model.specs.declared.geometry.Geometry.{Geometry}
 use Rattle.dram_model.specs.Geometry.{is_geometry}
 use Rattle.dram_model.specs.Chip.{Event, Grew}
 use Rattle.dram_model.specs.Chip.Event.{Row, Write}
-use Rattle.dram_model.specs.View.{ChipView, HasBegun, Kept, Did, DidRead, FailedIn}
+use Rattle.dram_model.specs.View.{ChipView, HasBegun, Kept, Did}
 use Rattle.bit_rows.specs.Bits.{bits_of_words}
 use Rattle.bit_rows.proofs.Words.{length-words}
 use Rattle.object_alloc.specs.Bytes.{bits_of_bytes, bytes_of_bits}
