@@ -1,9 +1,8 @@
 -- Events that are done one after another.
-use Rattle.std.proofs.Common.{◌≡◌, ℕ, zero, suc, ◌+◌, ◌-◌, ◌*◌, ◌^◌, ◌<◌, ◌≤◌, true, false, eqb}
+use Rattle.std.proofs.Common.{◌≡◌, ℕ, suc, ◌+◌, ◌-◌, ◌<◌, ◌≤◌, true}
 use Rattle.std.proofs.Common.{List, [], ◌∷◌, ◌++◌, length, take, refl, sym, ◌∙◌, ap, subst, arith}
-use Rattle.std.proofs.Common.{append_assoc, append-nil, length-append}
+use Rattle.std.proofs.Common.{append-nil, length-append}
 use Rattle.std.specs.Prelude.{Result, Ok, Err, OnErr}
-use Rattle.std.proofs.lemmas.Bool.{eqb-true, eq-eqb}
 use Rattle.std.proofs.lemmas.List.{take_at}
 use Rattle.dram_model.specs.declared.geometry.Geometry.{Geometry}
 use Rattle.dram_model.specs.Chip.{Event, Grew}
@@ -12,8 +11,6 @@ use Rattle.dram_model.proofs.EventLaws.{Grew-more}
 use Rattle.fault_counts.specs.Counts.{Rose}
 use Rattle.cmd_trace.specs.Replaying.{StoppedIn}
 use Rattle.file_fields.specs.Fields.{◌>>=◌, IsBytes}
-use Rattle.file_fields.proofs.Held.{bind_ok, ok_is}
-use Rattle.trace_model.specs.declared.TraceKind.{TraceKind}
 use Rattle.trace_model.specs.Spelling.{IsEvent}
 use Rattle.trace_model.specs.Reading.{TraceFault, event_at, events_at}
 use Rattle.trace_model.proofs.Events.{event_takes}

@@ -1,21 +1,21 @@
 -- A tape behind one event more: what it tells.
 use Rattle.std.proofs.Common.{◌≡◌, ℕ, zero, suc, ◌+◌, ◌*◌, ◌^◌, ◌<◌, ◌≤◌, Bool, true, false, ◌&&◌}
-use Rattle.std.proofs.Common.{cond, eqb, leb, List, [], ◌∷◌, ◌++◌, length, take, drop, Option}
+use Rattle.std.proofs.Common.{cond, leb, List, [], ◌∷◌, ◌++◌, length, drop, Option}
 use Rattle.std.proofs.Common.{Some, None, refl, sym, ◌∙◌, ap, subst, arith, length-append}
 use Rattle.std.proofs.Common.{append_assoc, append-nil}
-use Rattle.std.specs.Prelude.{Result, Ok, Err, IfSome}
+use Rattle.std.specs.Prelude.{Result, Ok, Err, IfSome, is_some}
 use Rattle.std.specs.Str.{bytes_eq}
 use Rattle.std.proofs.lemmas.Bool.{eqb-true, eq-eqb}
 use Rattle.std.proofs.lemmas.Bool.Decides.{nat_tests}
 use Rattle.std.proofs.lemmas.List.Concat.{flat_map-append}
 use Rattle.std.proofs.lemmas.Slice.Eq.{bytes_eq-Decides}
-use Rattle.std.proofs.lemmas.List.{drop_all, drop_at, length-take}
+use Rattle.std.proofs.lemmas.List.{drop_all, drop_at}
 use Rattle.dram_model.specs.declared.dram.Counters.{Counters}
 use Rattle.dram_model.specs.declared.geometry.Geometry.{Geometry}
 use Rattle.dram_model.specs.Geometry.{is_geometry}
 use Rattle.dram_model.specs.Chip.{Event, Grew}
 use Rattle.dram_model.specs.Chip.Event.{Row, Write}
-use Rattle.dram_model.specs.View.{ChipView, HasBegun, Kept, Did, DidRead, FailedIn}
+use Rattle.dram_model.specs.View.{ChipView, HasBegun, Kept, Did}
 use Rattle.bit_rows.specs.Bits.{bits_of_words}
 use Rattle.bit_rows.proofs.Words.{length-words}
 use Rattle.object_alloc.specs.Bytes.{bits_of_bytes, bytes_of_bits}
@@ -433,15 +433,22 @@ events_number (suc n) g at bytes out e =
     ap (λ (x : List Event × ℕ). length x.0) (sym (ok_is {K = TraceKind} whole out b.2))
     ∙ ap suc more
 
+-- a log that is told
+is_told : (events : List Event) (told : Bool) → is_some (cond told (Some events) None) ≡ true
+    → told ≡ true
+is_told events true h = refl
+is_told events false h = h
+
 -- the file of the log
 pub file_of_log : (chip : ChipView) (tape : Tape) (file : List ℕ) (table : List Named)
-    → HasBegun (recorded chip tape) → tape.told ≡ true
+    → HasBegun (recorded chip tape) → is_some (log_on chip.geometry tape) ≡ true
     → file ≡ (trace_head chip.geometry table ++ to_le_bytes w32 tape.count) ++ kept_in tape
     → IfSome (log_on chip.geometry tape)
     (λ events. file ≡ trace_bytes chip.geometry table events)
 unfolding trace_bytes
-file_of_log chip tape file table h t e =
+file_of_log chip tape file table h log e =
     let g = chip.geometry in
+    let t = is_told (events_on g tape) tape.told log in
     let whole = tells g tape (both chip.begun (is_whole g tape) h).1 t in
     let events = events_on g tape in
     let number : length events ≡ tape.count =

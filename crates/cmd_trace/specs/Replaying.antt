@@ -1,5 +1,5 @@
 -- A replay that failed.
-use Rattle.std.specs.Prelude.{◌≡◌, ℕ, ◌<◌, List, length, take}
+use Rattle.std.specs.Prelude.{ℕ, ◌<◌, List, length, take}
 use Rattle.fault_counts.specs.Counts.{Rose}
 use Rattle.dram_model.specs.Chip.{Event, Grew}
 use Rattle.dram_model.specs.View.{ChipView}

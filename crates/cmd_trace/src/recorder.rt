@@ -35,7 +35,7 @@ impl<'a, D: Dram> Recorder<'a, D> {
 
     /// Tells an empty log from here on. The chip has begun.
     pub fn mark(&mut self)
-        requires begun { HasBegun (D.view self.old.dram.now) }
+        requires begun { HasBegun (recorded (D.view self.old.dram.now) self.old.notes) }
         requires shape { is_geometry (D.view self.old.dram.now).geometry ≡ true }
         ensures same_reference { self.new.dram.ghost_name ≡ self.old.dram.ghost_name }
         ensures chip { self.new.dram.now ≡ self.old.dram.now }
@@ -66,7 +66,8 @@ impl<'a, D: Dram> Recorder<'a, D> {
     /// Spells the trace file of the log so far, with these objects. It takes no memory.
     pub fn spell_file(&mut self, table: &Table)
         requires begun { HasBegun (recorded (D.view self.old.dram.now) self.old.notes) }
-        requires told { self.old.notes.told ≡ true }
+        requires told { is_some (log_on (D.view self.old.dram.now).geometry self.old.notes)
+            ≡ true }
         ensures same_reference { self.new.dram.ghost_name ≡ self.old.dram.ghost_name }
         ensures chip { self.new.dram.now ≡ self.old.dram.now }
         ensures file { IfSome (log_on (D.view self.old.dram.now).geometry self.old.notes)

@@ -1,6 +1,7 @@
 //! A trace done again on a chip.
 
-ghost use Rattle.std.specs.Prelude.{◌≡◌, ℕ, ◌+◌, ◌*◌, ◌<◌, ◌≤◌, ◌^◌, ◌∷◌, [], length, true, OnOk, OnErr};
+ghost use Rattle.std.specs.Prelude.{◌≡◌, ℕ, ◌+◌, ◌*◌, ◌<◌, ◌≤◌, ◌^◌, ◌∷◌, [], length, true, OnOk};
+ghost use Rattle.std.specs.Prelude.{OnErr};
 ghost use Rattle.dram_model.specs.Chip.{Grew};
 ghost use Rattle.dram_model.specs.View.{HasBegun, Kept, Did};
 ghost use Rattle.fault_counts.specs.Counts.{Rose};
@@ -27,7 +28,8 @@ fn do_event<D: Dram>(event: Found<'_>, stage: &mut [u64], dram: &mut D) -> Resul
     ensures borrow { D.borrow dram.new ≡ D.borrow dram.old }
     ensures kept { Kept (D.view dram.old) (D.view dram.new) }
     ensures stage { length stage.new ≡ length stage.old }
-    ensures did { OnOk result (Did (event_of event.entry ∷ []) (D.view dram.old) (D.view dram.new)) }
+    ensures did { OnOk result (Did (event_of event.entry ∷ []) (D.view dram.old)
+        (D.view dram.new)) }
     ensures rose { OnErr result (Rose (D.view dram.old).faults (D.view dram.new).faults) }
     ensures untold { OnErr result (Grew (D.view dram.old).log (D.view dram.new).log []) }
 {

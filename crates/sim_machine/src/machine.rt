@@ -365,6 +365,13 @@ impl<'a> Machine<'a> {
         read_image(dram, self.geometry, &mut self.stage, &mut self.file)
     }
 
+    /// The objects.
+    pub fn table(&self) -> &Table
+        ensures objects { result.now.pairs ≡ table_in self.now }
+    {
+        &self.table
+    }
+
     /// The image file that was spelled last.
     pub fn file(&self) -> &[u8]
         ensures { result.now ≡ file_of self.now }

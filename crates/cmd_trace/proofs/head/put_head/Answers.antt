@@ -1,4 +1,4 @@
-use Rattle.std.proofs.Common.{◌≡◌, ◌+◌, ◌*◌, List, ℕ, length, ap, subst, arith, ◌∙◌}
+use Rattle.std.proofs.Common.{◌+◌, ◌*◌, List, ℕ, length, ap, subst, arith, ◌∙◌}
 use Rattle.std.specs.Int.{to_le_bytes, w16, w32}
 use Rattle.cmd_trace.specs.Places.{IsPut}
 use Rattle.cmd_trace.proofs.Places.{head_put}

@@ -1,4 +1,4 @@
-use Rattle.std.proofs.Common.{◌≡◌, ◌+◌, ◌*◌, ◌≤◌, ◌++◌, List, ℕ, length, take, ap, sym, ◌∙◌, arith}
+use Rattle.std.proofs.Common.{◌≡◌, ◌+◌, ◌*◌, List, ℕ, length, take, ap, sym, ◌∙◌, arith}
 use Rattle.std.proofs.Common.{length-append, refl, subst}
 use Rattle.std.specs.List.{flat_map}
 use Rattle.object_alloc.specs.Listed.{Named}
@@ -31,7 +31,8 @@ loop-k-preserved c =
     ∙ (omega arith) in
     record {
       put = subst (λ (b : List ℕ). IsPut c.args.at b c.args.out.now c.put_at.new.out) (sym more)
-          (put_then c.args.at (c.args.at + 24 * c.from.result) front (object_bytes named) c.args.out.now k.out c.put_at.new.out
+          (put_then c.args.at (c.args.at + 24 * c.from.result) front
+          (object_bytes named) c.args.out.now k.out c.put_at.new.out
           (omega (arith, c.requires)) (omega (arith, k.invariant.len, c.from.ensures))
           k.invariant.put
           (subst (λ (b : List ℕ). IsPut (c.args.at + 24 * c.from.result) b k.out

@@ -1,6 +1,5 @@
-use Rattle.std.proofs.Common.{◌≡◌, ◌∷◌, ◌++◌, [], List, ℕ, ap, arith, subst, ◌∙◌, sym, length}
+use Rattle.std.proofs.Common.{◌≡◌, ◌∷◌, ◌++◌, [], List, ap, arith, subst, ◌∙◌, sym, length}
 use Rattle.std.proofs.Common.{append_assoc, append-nil, ◌+◌, ◌-◌}
-use Rattle.std.proofs.lemmas.Grind.{common_steps}
 use Rattle.dram_model.specs.declared.dram.Counters.{Counters}
 use Rattle.dram_model.specs.declared.geometry.Geometry.{Geometry}
 use Rattle.dram_model.specs.Chip.{Event}

@@ -1,4 +1,4 @@
-use Rattle.std.proofs.Common.{◌≡◌, ◌*◌, ◌∙◌, ◌++◌, ap, arith, length}
+use Rattle.std.proofs.Common.{◌*◌, ◌∙◌, ◌++◌, ap, arith, length}
 use Rattle.bit_rows.specs.Bits.{bits_of_words}
 use Rattle.object_alloc.specs.Bytes.{bytes_of_bits}
 use Rattle.object_alloc.proofs.Rows.{length-bytes_of_bits}

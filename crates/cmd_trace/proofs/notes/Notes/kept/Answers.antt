@@ -1,7 +1,7 @@
-use Rattle.std.proofs.Common.{◌∙◌, ap, List, ℕ, arith}
+use Rattle.std.proofs.Common.{◌∙◌, ap, arith}
 use Rattle.std.specs.Prelude.{drop}
 use Rattle.std.proofs.lemmas.List.{take_all, length-drop}
-use Rattle.cmd_trace.specs.Tape.{Tape, kept_in}
+use Rattle.cmd_trace.specs.Tape.{kept_in}
 use Rattle.cmd_trace.specs.declared.sizes.TheConstants.{HEAD_BYTES_MAX}
 use Rattle.cmd_trace.proofs.notes.Notes.kept.Goals as goal
 

@@ -1,4 +1,4 @@
-use Rattle.std.proofs.Common.{◌≡◌, ◌+◌, ◌*◌, ◌-◌, ◌≤◌, ◌++◌, ◌∙◌, List, ℕ, length, drop, ap, arith}
+use Rattle.std.proofs.Common.{◌≡◌, ◌+◌, ◌*◌, ◌-◌, ◌≤◌, ◌++◌, ◌∙◌, length, drop, ap, arith}
 use Rattle.std.proofs.Common.{sym}
 use Rattle.std.specs.Int.{to_le_bytes, w32}
 use Rattle.std.specs.Vec.{with_items}
@@ -20,7 +20,13 @@ returns-clause-file c =
     let room : HEAD_BYTES_MAX ≤ length old =
     omega (arith, c.self.invariant.1, ap length c.as_mut_slice.ensures.value) in
     let ends : HEAD_BYTES_MAX ≡ start + length head =
-    omega (arith, c.put_head.ensures.len, c.from.ensures, c.len.ensures.value, c.len.ensures.kept.few) in
+    omega (
+      arith,
+      c.put_head.ensures.len,
+      c.from.ensures,
+      c.len.ensures.value,
+      c.len.ensures.kept.few,
+    ) in
     let long = put_length start head old new (omega (arith, ends, room)) c.put_head.ensures.put in
     let items : (with_items bytes new).items ≡ new =
     with_items_is bytes new (long ∙ ap length c.as_mut_slice.ensures.value ∙ sym bytes.ok.0) in
@@ -41,7 +47,13 @@ returns-clause-kept c =
     let room : HEAD_BYTES_MAX ≤ length old =
     omega (arith, c.self.invariant.1, ap length c.as_mut_slice.ensures.value) in
     let ends : HEAD_BYTES_MAX ≡ start + length head =
-    omega (arith, c.put_head.ensures.len, c.from.ensures, c.len.ensures.value, c.len.ensures.kept.few) in
+    omega (
+      arith,
+      c.put_head.ensures.len,
+      c.from.ensures,
+      c.len.ensures.value,
+      c.len.ensures.kept.few,
+    ) in
     let long = put_length start head old new (omega (arith, ends, room)) c.put_head.ensures.put in
     let items : (with_items bytes new).items ≡ new =
     with_items_is bytes new (long ∙ ap length c.as_mut_slice.ensures.value ∙ sym bytes.ok.0) in

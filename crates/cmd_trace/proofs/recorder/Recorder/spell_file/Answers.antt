@@ -1,4 +1,4 @@
-use Rattle.std.proofs.Common.{◌≡◌, ◌∙◌, ◌++◌, ap}
+use Rattle.std.proofs.Common.{◌∙◌, ◌++◌, ap}
 use Rattle.std.specs.Int.{to_le_bytes, w32}
 use Rattle.dram_model.specs.declared.geometry.Geometry.{Geometry}
 use Rattle.trace_model.specs.Spelling.{trace_head}

@@ -1,6 +1,3 @@
-use Rattle.std.proofs.Common.{◌≡◌, ◌*◌, ◌∙◌, ◌++◌, ap, sym}
-use Rattle.dram_model.specs.Chip.Event.{Write}
-use Rattle.bit_rows.specs.Bits.{bits_of_words}
 use Rattle.cmd_trace.proofs.Tapes.{did_written, few_kept, same_kept}
 use Rattle.cmd_trace.proofs.recorder.RecorderDram.write_row.Goals as goal
 
