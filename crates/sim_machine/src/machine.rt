@@ -365,25 +365,11 @@ impl<'a> Machine<'a> {
         read_image(dram, self.geometry, &mut self.stage, &mut self.file)
     }
 
-    /// The objects.
-    pub fn table(&self) -> &Table
-        ensures objects { result.now.pairs ≡ table_in self.now }
-    {
-        &self.table
-    }
-
     /// The image file that was spelled last.
     pub fn file(&self) -> &[u8]
         ensures { result.now ≡ file_of self.now }
     {
         self.file.as_slice()
-    }
-
-    /// The objects.
-    pub fn table(&self) -> &Table
-        ensures objects { result.now.pairs ≡ table_in self.now }
-    {
-        &self.table
     }
 
     /// Puts the line of the totals: the chip's counters, and how many instructions were refused.
