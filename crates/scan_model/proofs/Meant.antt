@@ -39,34 +39,38 @@ unfolding bits
 bit_held true = refl
 bit_held false = refl
 
+single : {x y : ℕ} → x ≡ y → x ∷ [] ≡ y ∷ []
+single e = ap (λ v. v ∷ []) e
+
 eq_means : (n a b : ℕ) → a < 2 ^ n → b < 2 ^ n
-    → meaning (of_two_sources (codes "s_eq") Word o.Eq) n (a ∷ b ∷ []) ≡ rows.bit_number (a == b)
-eq_means n a b l m = ap (λ x. value (bits (bit_number (x == value (bits b n))) 1))
+    → meaning (of_two_sources (codes "s_eq") Word o.Eq) n (a ∷ b ∷ [])
+    ≡ rows.bit_number (a == b) ∷ []
+eq_means n a b l m = single (ap (λ x. value (bits (bit_number (x == value (bits b n))) 1))
     (value-bits n a l) ∙ ap (λ y. value (bits (bit_number (a == y)) 1)) (value-bits n b m)
-    ∙ bit_held (a == b)
+    ∙ bit_held (a == b))
 
 gt_means : (n a b : ℕ) → a < 2 ^ n → b < 2 ^ n
     → meaning (of_two_sources (codes "s_gt") Word o.Gt) n (a ∷ b ∷ [])
-    ≡ rows.bit_number (nat_lt b a)
-gt_means n a b l m = ap (λ x. value (bits (bit_number (nat_lt (value (bits b n)) x)) 1))
+    ≡ rows.bit_number (nat_lt b a) ∷ []
+gt_means n a b l m = single (ap (λ x. value (bits (bit_number (nat_lt (value (bits b n)) x)) 1))
     (value-bits n a l) ∙ ap (λ y. value (bits (bit_number (nat_lt y a)) 1)) (value-bits n b m)
-    ∙ bit_held (nat_lt b a)
+    ∙ bit_held (nat_lt b a))
 
 ge_means : (n a b : ℕ) → a < 2 ^ n → b < 2 ^ n
     → meaning (of_two_sources (codes "s_ge") Word o.Ge) n (a ∷ b ∷ [])
-    ≡ rows.bit_number (nat_le b a)
-ge_means n a b l m = ap (λ x. value (bits (bit_number (nat_le (value (bits b n)) x)) 1))
+    ≡ rows.bit_number (nat_le b a) ∷ []
+ge_means n a b l m = single (ap (λ x. value (bits (bit_number (nat_le (value (bits b n)) x)) 1))
     (value-bits n a l) ∙ ap (λ y. value (bits (bit_number (nat_le y a)) 1)) (value-bits n b m)
-    ∙ bit_held (nat_le b a)
+    ∙ bit_held (nat_le b a))
 
 not_means : (a : Bool) → meaning (of_one_source (codes "s_not") o.Not) 1 (rows.bit_number a ∷ [])
-    ≡ rows.bit_number (not a)
+    ≡ rows.bit_number (not a) ∷ []
 unfolding bits
 not_means true = refl
 not_means false = refl
 
 and_means : (a b : Bool) → meaning (of_two_sources (codes "s_and") Bit o.And) 1
-    (rows.bit_number a ∷ rows.bit_number b ∷ []) ≡ rows.bit_number (a && b)
+    (rows.bit_number a ∷ rows.bit_number b ∷ []) ≡ rows.bit_number (a && b) ∷ []
 unfolding bits
 and_means true true = refl
 and_means true false = refl
@@ -74,7 +78,7 @@ and_means false true = refl
 and_means false false = refl
 
 or_means : (a b : Bool) → meaning (of_two_sources (codes "s_or") Bit o.Or) 1
-    (rows.bit_number a ∷ rows.bit_number b ∷ []) ≡ rows.bit_number (a || b)
+    (rows.bit_number a ∷ rows.bit_number b ∷ []) ≡ rows.bit_number (a || b) ∷ []
 unfolding bits
 or_means true true = refl
 or_means true false = refl
@@ -85,18 +89,15 @@ pub text_meets : MeetRules scan_operations
 unfolding breach_of
 text_meets = refl
 
-single : {x y : ℕ} → x ≡ y → x ∷ [] ≡ y ∷ []
-single e = ap (λ v. v ∷ []) e
-
 pub text_means : MeansScan (meaning_in scan_text)
 text_means = record {
-  equal = λ n a b l m. single (eq_means n a b l m);
+  equal = λ n a b l m. eq_means n a b l m;
   greater =
-      λ n a b l m. single (gt_means n a b l m);
-  at_least = λ n a b l m. single (ge_means n a b l m);
-  negation = λ a. single (not_means a);
-  conjunction = λ a b. single (and_means a b);
-  disjunction = λ a b. single (or_means a b);
+      λ n a b l m. gt_means n a b l m;
+  at_least = λ n a b l m. ge_means n a b l m;
+  negation = λ a. not_means a;
+  conjunction = λ a b. and_means a b;
+  disjunction = λ a b. or_means a b;
 }
 
 ended : (t : Trace) → HasEnded t → walks_badly t ≡ None

@@ -1,5 +1,5 @@
 -- The operations that a scan's program has.
-use Rattle.std.specs.Prelude.{ℕ, List, [], ◌∷◌, map, codes}
+use Rattle.std.specs.Prelude.{ℕ, List, [], ◌∷◌, None, map, codes}
 use Rattle.op_text.specs.declared.tree.Kind.{Kind}
 use Rattle.op_text.specs.declared.tree.Kind.TheVariants.{Word, Bit}
 use Rattle.op_text.specs.declared.tree.WordOp.{WordOp}
@@ -14,7 +14,8 @@ of_two_sources name kind op = record {
   name = name;
   params = param (codes "a") kind ∷ param (codes "b") kind ∷ [];
   result = param (codes "y") Bit;
-  body = Compute (codes "y") op (codes "a" ∷ codes "b" ∷ []) ∷ [];
+  second = None;
+  body = Compute (codes "y") None op (codes "a" ∷ codes "b" ∷ []) ∷ [];
 }
 
 -- op NAME(a: bit) -> y: bit { y = OP(a); }
@@ -23,7 +24,8 @@ of_one_source name op = record {
   name = name;
   params = param (codes "a") Bit ∷ [];
   result = param (codes "y") Bit;
-  body = Compute (codes "y") op (codes "a" ∷ []) ∷ [];
+  second = None;
+  body = Compute (codes "y") None op (codes "a" ∷ []) ∷ [];
 }
 
 abbrev pub scan_operations : List Operation

@@ -42,6 +42,7 @@ fn of_two_sources(name: &[u8], kind: Kind, op: WordOp, alloc: Global) -> Result<
     let args = Vec::from_array(alloc, [named(b"a"), named(b"b")])?;
     let statement = Stmt::Word {
         dst: named(b"y"),
+        second: None,
         op,
         args,
     };
@@ -49,6 +50,7 @@ fn of_two_sources(name: &[u8], kind: Kind, op: WordOp, alloc: Global) -> Result<
         name: named(name),
         params,
         result: param(b"y", Kind::Bit),
+        second: None,
         body: Vec::from_array(alloc, [statement])?,
     })
 }
@@ -60,6 +62,7 @@ fn of_one_source(name: &[u8], op: WordOp, alloc: Global) -> Result<Op, NoMemory>
 {
     let statement = Stmt::Word {
         dst: named(b"y"),
+        second: None,
         op,
         args: Vec::from_array(alloc, [named(b"a")])?,
     };
@@ -67,6 +70,7 @@ fn of_one_source(name: &[u8], op: WordOp, alloc: Global) -> Result<Op, NoMemory>
         name: named(name),
         params: Vec::from_array(alloc, [param(b"a", Kind::Bit)])?,
         result: param(b"y", Kind::Bit),
+        second: None,
         body: Vec::from_array(alloc, [statement])?,
     })
 }
