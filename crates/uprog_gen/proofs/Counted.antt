@@ -1,15 +1,14 @@
 -- The commands of an operation whose statements are all word operations.
-use Rattle.std.proofs.Common.{◌≡◌, ℕ, suc, ◌+◌, ◌<◌, Bool, true, false, List, [], ◌∷◌, ◌++◌, map}
+use Rattle.std.proofs.Common.{◌≡◌, ℕ, ◌+◌, ◌<◌, Bool, true, false, List, [], ◌∷◌, ◌++◌}
 use Rattle.std.proofs.Common.{length, Some, refl, sym, ap, ◌∙◌, subst, arith}
 use Rattle.std.specs.List.{list_all}
-use Rattle.std.proofs.lemmas.Bool.{and_parts}
 use Rattle.op_text.specs.declared.tree.Kind.{Kind}
 use Rattle.op_text.specs.declared.tree.WordOp.{WordOp}
 use Rattle.op_text.specs.declared.tree.WordOp.TheVariants as op
-use Rattle.op_text.specs.WordOps.{forms, filled, word_to}
+use Rattle.op_text.specs.WordOps.{forms, filled}
 use Rattle.op_text.specs.Language.{Statement, Compute, Visit, Operation}
 use Rattle.op_text.specs.Meaning.{width}
-use Rattle.op_text.specs.Scratch.{defines, names_width}
+use Rattle.op_text.specs.Scratch.{names_width}
 use Rattle.op_text.specs.declared.tree.Param.{Param}
 use Rattle.op_rules.specs.Meets.{Context, behind, OperationMeets}
 use Rattle.loop_ir.specs.declared.names.Slot.{Slot}
@@ -22,7 +21,7 @@ use Rattle.word_lower.specs.Shapes.{owners_of}
 use Rattle.word_lower.proofs.Statements.{Places, places_of, among_target, among_arg, among_like}
 use Rattle.word_lower.proofs.Statements.{name_at, at_place}
 use Rattle.word_mul.specs.Programs.{is_nested}
-use Rattle.word_mul.specs.Places.{rows_on, steps_for}
+use Rattle.word_mul.specs.Places.{rows_on}
 use Rattle.uprog_gen.specs.Does.{joined}
 use Rattle.uprog_gen.specs.Layout.{IsLayout}
 use Rattle.uprog_gen.specs.Programs.{IsAsWritten, AreWritten}
@@ -34,7 +33,7 @@ use Rattle.uprog_gen.proofs.Stage.{Stage, next_stage}
 use Rattle.uprog_gen.proofs.Meant.{args_same}
 use Rattle.uprog_gen.proofs.Ready.{statement_meets, is_placed}
 use Rattle.uprog_gen.proofs.Summed.{rounds_sum, sum_append}
-use Rattle.uprog_gen.proofs.Exact.{FirstApart, is_shift, Linear, linear_settled, nested_settled}
+use Rattle.uprog_gen.proofs.Exact.{FirstApart, is_shift, linear_settled, nested_settled}
 use Rattle.uprog_gen.proofs.Exact.{linear_aaps, linear_aps, nested_aaps, nested_aps, op_width}
 use Rattle.uprog_gen.proofs.Exact.{first_width, width_is}
 

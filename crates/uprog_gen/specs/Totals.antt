@@ -8,7 +8,6 @@ use Rattle.op_text.specs.declared.tree.WordOp.{WordOp}
 use Rattle.op_text.specs.declared.tree.WordOp.TheVariants as o
 use Rattle.op_text.specs.Language.{Statement, Compute, Visit, Operation}
 use Rattle.op_text.specs.Scratch.{defines, names_width}
-use Rattle.uprog_code.specs.declared.walker.Counts.{Counts}
 use Rattle.uprog_code.specs.Machine.{trace, issues_of}
 use Rattle.uprog_code.specs.Count.{counts_of}
 use Rattle.uprog_code.specs.Shape.{Microprogram}
