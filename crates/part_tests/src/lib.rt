@@ -22,6 +22,8 @@ mod program_tests;
 #[cfg(test)]
 mod rows;
 #[cfg(test)]
+mod trace_tests;
+#[cfg(test)]
 mod walk_tests;
 #[cfg(test)]
 mod wave_tests;
