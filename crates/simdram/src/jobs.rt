@@ -504,6 +504,71 @@ fn operations_have_their_counts(rt: HostRuntime) -> Result<(), Fail> {
     Ok(())
 }
 
+/// A body over three words, the width of a run, and its AAP and AP.
+struct First {
+    ops: &'static str,
+    n: u8,
+    aap: u32,
+    ap: u32,
+}
+
+static FIRST: [First; 5] = [
+    First {
+        ops: "op f(a: word, b: word, c: word) -> y: word { y = not(a); }",
+        n: 1,
+        aap: 2,
+        ap: 0,
+    },
+    First {
+        ops: "op f(a: word, b: word, c: word) -> y: word { y = and(a, b); }",
+        n: 1,
+        aap: 4,
+        ap: 0,
+    },
+    First {
+        ops: "op f(a: word, b: word, c: word) -> y: word { y = or(a, b); }",
+        n: 1,
+        aap: 4,
+        ap: 0,
+    },
+    First {
+        ops: "op f(a: word, b: word, c: word) -> y: word { y = xor(a, b); }",
+        n: 1,
+        aap: 5,
+        ap: 2,
+    },
+    // 11 · 32 · 33 / 2 + 64 for the product, and 8 · 32 + 1 and 32 for the sum
+    First {
+        ops: "op f(a: word, b: word, c: word) -> y: word { t = mul(a, b); y = add(t, c); }",
+        n: 32,
+        aap: 6129,
+        ap: 32,
+    },
+];
+
+#[test]
+fn first_runs_have_their_counts(rt: HostRuntime) -> Result<(), Fail> {
+    let alloc = rt.alloc();
+    for case in &FIRST {
+        let word = |name: u8| Object {
+            name,
+            width: case.n,
+            numbers: &[],
+        };
+        let objects = [word(b'a'), word(b'b'), word(b'c'), word(b'y')];
+        let image = image_of(&objects, 256, alloc)?;
+        let script = format!(in alloc; "bbop_f y, a, b, c, 64, {}", case.n)?;
+        let ended = run(case.ops, &script, &image, alloc)?;
+        let (aap, ap) = (case.aap, case.ap);
+        let report = format!(in alloc;
+            "1 ok aap={aap} ap={ap}\ntotal aap={aap} ap={ap} \
+            writes=256 reads=256 refused=0\n"
+        )?;
+        assert_eq!(rt; ended.out.bytes(), report.as_bytes());
+    }
+    Ok(())
+}
+
 /// Three gates of which two majorities are left.
 const REDUCED: &str =
     "op f(a: word, b: word, c: word) -> y: word { serial up () { y = or(and(a, b), and(a, c)); } }";

@@ -23,14 +23,16 @@ use Rattle.uprog_code.specs.declared.code.EntryCode.{EntryCode}
 use Rattle.uprog_code.specs.declared.code.Head.{Head}
 use Rattle.uprog_code.specs.Shape.{Shape, Microprogram, shape_of, microprogram_of}
 use Rattle.uprog_code.specs.Machine.{trace, issues_of}
+use Rattle.uprog_code.specs.Count.{counts_of}
 use Rattle.uprog_code.specs.Legal.{IsLegalCode}
 use Rattle.uprog_code.specs.Programs.{IsEntry, IsProgram}
 use Rattle.uprog_code.specs.Implements.{Implements}
 use Rattle.uprog_code.specs.Texts.{op_shape, text_op, EntryDoes, ImplementsAll}
-use Rattle.loop_ir.specs.Plain.{StepOf, Block}
+use Rattle.loop_ir.specs.Plain.{StepOf, Block, AllParts}
 use Rattle.loop_ir.specs.Loops.{all_rounds}
 use Rattle.loop_ir.specs.Costs.{rounds_cost}
 use Rattle.loop_ir.specs.Statements.{Slots}
+use Rattle.uprog_gen.specs.Settled.{IsSettled, rounds_counts}
 use Rattle.uprog_gen.specs.Does.{DoesRounds, Means, joined, total}
 use Rattle.uprog_gen.specs.Layout.{IsLayout}
 use Rattle.uprog_gen.specs.Programs.{AreLowered, ceilings, HasParts, IsCompiled, AreCompiled}
@@ -108,6 +110,17 @@ pub entry_few : (head : Head) (ps : List (List (StepOf Block))) (entry : EntryCo
 entry_few head ps entry same does n some small =
     subst (λ (h : Head). length (issues_of (trace (shape_of h) entry.code.items n))
     ≤ rounds_cost (all_rounds n (joined ps))) (sym same) (does n some small).few
+
+-- and exactly those of the rounds, where all bodies are settled
+pub entry_exact : (head : Head) (ps : List (List (StepOf Block))) (entry : EntryCode)
+    → entry.head ≡ head → ((n : ℕ) → 0 < n → n ≤ WIDTH_MAX
+    → DoesRounds (shape_of head) n (joined ps) entry.code.items)
+    → (n : ℕ) → 0 < n → n ≤ WIDTH_MAX → AllParts IsSettled (joined ps)
+    → counts_of (issues_of (trace (microprogram_of entry).shape entry.code.items n))
+    ≡ rounds_counts (all_rounds n (joined ps))
+entry_exact head ps entry same does n some small settled =
+    subst (λ (h : Head). counts_of (issues_of (trace (shape_of h) entry.code.items n))
+    ≡ rounds_counts (all_rounds n (joined ps))) (sym same) ((does n some small).exact settled)
 
 pub if_ok_three : {T E : Type 0} (r : Result T E) (P Q R : T → Type 0) → IfOk r P → IfOk r Q
     → IfOk r R → IfOk r (λ v. P v × Q v × R v)

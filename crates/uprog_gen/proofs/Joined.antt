@@ -48,7 +48,7 @@ joined-append [] p = append-nil p
 joined-append (q ∷ ps) p = ap (λ l. q ++ l) (joined-append ps p)
     ∙ sym (append_assoc q (joined ps) p)
 
-all_rounds-append : (n : ℕ) (xs ys : Statement)
+pub all_rounds-append : (n : ℕ) (xs ys : Statement)
     → all_rounds n (xs ++ ys) ≡ all_rounds n xs ++ all_rounds n ys
 all_rounds-append n [] ys = refl
 all_rounds-append n (x ∷ xs) ys = ap (λ l. step_rounds n x ++ l) (all_rounds-append n xs ys)

@@ -12,6 +12,7 @@ pub mod Values
 pub mod Agree
 pub mod Planned
 pub mod Ranges
+pub mod Settled
 pub mod Top
 pub mod Outs
 pub mod Sizes
@@ -31,6 +32,9 @@ pub mod Meant
 pub mod Placed
 pub mod LaidOut
 pub mod Entries
+pub mod Summed
+pub mod Exact
+pub mod Counted
 pub mod Taken
 pub mod StageAt
 pub mod Fixed

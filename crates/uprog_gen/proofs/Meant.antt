@@ -314,7 +314,7 @@ module _ (op : Operation) (meets : OperationMeets op) (slots : Slots) (free_bit 
       )
 
   module _ (c : Context) (s : Statement) (rest : List Statement) (st : Stage op c (s ∷ rest)) where
-    args_same : (n : ℕ) (args : List (List ℕ)) → Each (IsKnown c.known) args
+    pub args_same : (n : ℕ) (args : List (List ℕ)) → Each (IsKnown c.known) args
         → args_width slots n args ≡ names_width c.known n args
     args_same n [] h = refl
     args_same n (a ∷ args) h =

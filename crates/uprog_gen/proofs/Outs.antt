@@ -1,7 +1,7 @@
 -- The rows of a body's outputs, one after another.
 use Rattle.std.proofs.Common.{◌≡◌, ◌≢◌, ℕ, zero, suc, ◌+◌, ◌<◌, ◌≤◌, List, [], ◌∷◌, ◌++◌, length}
 use Rattle.std.proofs.Common.{Option, Some, None, refl, sym, ap, ◌∙◌, subst, ⊎_elim, arith}
-use Rattle.std.proofs.Common.{length-append, Bool, true, false, ◌*◌}
+use Rattle.std.proofs.Common.{length-append, map, Bool, true, false, ◌*◌}
 use Rattle.std.proofs.lemmas.List.{get_or_append_left}
 use Rattle.std.specs.Prelude.{slice_index_or, IfSome, IfNone, not, ◌==◌, ◌&&◌}
 use Rattle.std.proofs.Math.Seq.{get_or-append_seam}
@@ -11,8 +11,12 @@ use Rattle.mig_graph.specs.Literals.{is_turned}
 use Rattle.mig_graph.specs.Graph.{size_of, IsGraph}
 use Rattle.row_alloc.specs.declared.body.OutRow.{OutRow}
 use Rattle.row_alloc.specs.Rows.{out_at}
-use Rattle.row_alloc.specs.Body.{FitBody, DoesBody}
+use Rattle.row_alloc.specs.Body.{FitBody, DoesBody, WritesLate}
+use Rattle.row_alloc.specs.declared.body.BodyRef.TheVariants.{Out}
 use Rattle.row_alloc.specs.declared.body.BodyCmd.{BodyCmd}
+use Rattle.row_alloc.specs.declared.body.BodyCmd.TheVariants.{Aap}
+use Rattle.row_alloc.specs.Phases.{source_of}
+use Rattle.row_alloc.specs.Known.{WordBody, graph_in, outs_in, sequence_for, known_at}
 use Rattle.loop_ir.specs.declared.ir.Place.{Place}
 use Rattle.loop_ir.specs.Plain.{Block}
 use Rattle.loop_ir.specs.Spots.{nth_place}
@@ -136,6 +140,30 @@ not_true : (c : Bool) → not c ≡ true → c ≡ false
 not_true true h = cc
 not_true false h = refl
 
+-- a copy's graph and output
+copied_one : (b : Block) (outs : List OutRow) → IsOuts b (length b.outs) outs → is_copy b ≡ true
+    → (length b.graph.nodes ≡ 0) × (length outs ≡ 1) × (is_turned (out_at outs 0).lit ≡ false)
+copied_one b outs is e =
+    let h = and_parts (length b.graph.nodes == 0) ((length b.outs == 1)
+    && not (is_turned (lit_at b.outs 0))) e in
+    let g = and_parts (length b.outs == 1) (not (is_turned (lit_at b.outs 0))) h.1 in
+    let l : length outs ≡ 1 = is.size ∙ eqb-true (length b.outs) 1 g.0 in (
+      eqb-true (length b.graph.nodes) 0 h.0,
+      l,
+      ap is_turned (is.lits 0 (omega (arith, l)))
+          ∙ not_true (is_turned (lit_at b.outs 0)) g.1,
+    )
+
+-- the literals of the outputs, in order
+lits_of : (ls : List Lit) (outs : List OutRow) → length outs ≡ length ls
+    → ((j : ℕ) → j < length outs → (out_at outs j).lit ≡ lit_at ls j) → map (λ o. o.lit) outs ≡ ls
+lits_of [] [] n h = refl
+lits_of [] (o ∷ outs) n h = absurd (omega (arith, n))
+lits_of (l ∷ ls) [] n h = absurd (omega (arith, n))
+lits_of (l ∷ ls) (o ∷ outs) n h =
+    ap (λ x. x ∷ map (λ (o : OutRow). o.lit) outs) (h 0 (omega arith))
+    ∙ ap (λ xs. l ∷ xs) (lits_of ls outs (omega (arith, n)) (λ j lt. h (suc j) (omega (arith, lt))))
+
 few_cmds : (b : Block) (outs : List OutRow) (k : ℕ) → FitBody b.graph outs
     → IsOuts b (length b.outs) outs → k ≤ 4 * length b.graph.nodes + 3 * length outs
     → (length b.graph.nodes ≡ 0 → length outs ≡ 1 → is_turned (out_at outs 0).lit ≡ false → k ≤ 1)
@@ -169,12 +197,22 @@ pub is_part : (b : Block) (plan : Plan) (outs : List OutRow) (cmds : List BodyCm
     → DoesBody b.graph outs cmds → length cmds ≤ 4 * length b.graph.nodes + 3 * length outs
     → (length b.graph.nodes ≡ 0 → length outs ≡ 1 → is_turned (out_at outs 0).lit ≡ false
     → length cmds ≤ 1) → IsLeast b.graph outs (length cmds)
+    → (length b.graph.nodes ≡ 0 → length outs ≡ 1 → is_turned (out_at outs 0).lit ≡ false
+    → cmds ≡ Aap (source_of b.graph.inputs (out_at outs 0).lit) (Out 0) ∷ [])
+    → ((w : WordBody) → b.graph ≡ graph_in w → map (λ o. o.lit) outs ≡ outs_in w
+    → WritesLate outs (known_at (sequence_for w)) → cmds ≡ known_at (sequence_for w))
     → IsPart (record { block = b; plan = plan; outs = outs; cmds = cmds })
-is_part b plan outs cmds small graph e is does few one least = record {
+is_part b plan outs cmds small graph e is does few one least copy word = record {
   well = small.well;
   graph = graph;
   planned = subst (λ p. IsPlanned p b) (sym e) (plans b small.subs);
   outs = is;
   does = does;
   few = few_cmds b outs (length cmds) (fit b outs small is) is few one least;
+  copy = λ c. let h = copied_one b outs is c in (
+    source_of b.graph.inputs (out_at outs 0).lit,
+    Out 0,
+    copy h.0 h.1 h.2,
+  );
+  word = λ w g o late. word w g (lits_of b.outs outs is.size is.lits ∙ o) late;
 }

@@ -12,7 +12,7 @@ use Rattle.loop_ir.specs.Statements.{Slots, StatementMeets, IsPlaced}
 use Rattle.loop_ir.specs.Lowered.{IsLowered}
 use Rattle.uprog_gen.specs.Layout.{IsLayout}
 use Rattle.word_lower.specs.Forms.{HasForm}
-use Rattle.uprog_gen.specs.Programs.{AreLowered, HaveForms}
+use Rattle.uprog_gen.specs.Programs.{AreLowered, HaveForms, IsAsWritten, AreWritten}
 use Rattle.uprog_gen.proofs.Stage.{Stage, first_stage, next_stage}
 use Rattle.uprog_gen.proofs.Ready.{statement_meets, is_placed}
 use Rattle.uprog_gen.proofs.LaidOut.{body_more}
@@ -90,3 +90,28 @@ forms_more slots items k x old new p lt e f h i =
     (sym (ap (map steps_of) f ∙ map-append steps_of old (p ∷ [])))
     (forms-append slots (take k (map statement items)) (map steps_of old) (statement x) (steps_of p)
     h i))
+
+written-append : (slots : Slots) (free_bit free_word : ℕ) (body : List Statement)
+    (ps : List (List (StepOf Block))) (s : Statement) (p : List (StepOf Block))
+    → AreWritten slots free_bit free_word body ps → IsAsWritten slots free_bit free_word s p
+    → AreWritten slots free_bit free_word (body ++ s ∷ []) (ps ++ p ∷ [])
+written-append slots free_bit free_word [] [] s p h i = (i, tt)
+written-append slots free_bit free_word [] (q ∷ ps) s p h i = absurd h
+written-append slots free_bit free_word (t ∷ body) [] s p h i = absurd h
+written-append slots free_bit free_word (t ∷ body) (q ∷ ps) s p h i =
+    (h.0, written-append slots free_bit free_word body ps s p h.1 i)
+
+pub written_more : (slots : Slots) (free_bit free_word : ℕ) (items : List Stmt) (k : ℕ) (x : Stmt)
+    (old new : List LoopProgram) (p : LoopProgram) → k < length items → x ≡ slice_index_or items k x
+    → new ≡ old ++ p ∷ []
+    → AreWritten slots free_bit free_word (take k (map statement items)) (map steps_of old)
+    → IsAsWritten slots free_bit free_word (statement x) (steps_of p)
+    → AreWritten slots free_bit free_word (take (k + 1) (map statement items))
+    (map steps_of new)
+written_more slots free_bit free_word items k x old new p lt e f h i =
+    subst (λ l. AreWritten slots free_bit free_word l (map steps_of new))
+    (sym (body_more items k x lt e))
+    (subst (AreWritten slots free_bit free_word (take k (map statement items) ++ statement x ∷ []))
+    (sym (ap (map steps_of) f ∙ map-append steps_of old (p ∷ [])))
+    (written-append slots free_bit free_word (take k (map statement items)) (map steps_of old)
+    (statement x) (steps_of p) h i))

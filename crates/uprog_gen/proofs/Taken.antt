@@ -16,7 +16,8 @@ use Rattle.uprog_code.specs.Machine.{trace, issues_of}
 use Rattle.uprog_code.specs.Shape.{Microprogram, microprogram_of}
 use Rattle.loop_ir.specs.declared.ir.LoopProgram.{LoopProgram}
 use Rattle.loop_ir.specs.declared.ir.Step.{Step}
-use Rattle.loop_ir.specs.Plain.{StepOf, Block, step_of, steps_of}
+use Rattle.uprog_code.specs.Count.{counts_of}
+use Rattle.loop_ir.specs.Plain.{StepOf, Block, AllParts, step_of, steps_of}
 use Rattle.loop_ir.specs.Plain.StepOf.{Along}
 use Rattle.loop_ir.specs.Loops.{all_rounds}
 use Rattle.loop_ir.specs.Costs.{rounds_cost}
@@ -24,7 +25,11 @@ use Rattle.loop_ir.specs.Statements.{Slots}
 use Rattle.block_lower.specs.Form.{IsBlockProgram, start}
 use Rattle.uprog_gen.specs.Does.{joined}
 use Rattle.uprog_gen.specs.Layout.{IsLayout}
-use Rattle.uprog_gen.specs.Programs.{AreLowered, HaveForms}
+use Rattle.uprog_gen.specs.Programs.{AreLowered, HaveForms, AreWritten}
+use Rattle.uprog_gen.specs.Totals.{AreExact}
+use Rattle.uprog_gen.specs.Settled.{IsSettled, rounds_counts}
+use Rattle.uprog_gen.proofs.Counted.{all_exactly}
+use Rattle.uprog_gen.proofs.Top.{both_counts}
 use Rattle.uprog_gen.specs.Graphs.{Graphed, IsGraphOf, AreGraphsOf, graphed_ceiling, IsGraphed}
 use Rattle.uprog_gen.specs.Graphs.{AreGraphed, step_graph, last_graph, statement_graph, graphs_in}
 use Rattle.uprog_gen.proofs.Stage.{Stage, first_stage, next_stage}
@@ -129,16 +134,24 @@ module _ (op : Operation) (meets : OperationMeets op) (slots : Slots) (free_bit 
 
   pub entry_graphed : (ps : List (List (StepOf Block)))
       → AreLowered slots free_bit free_word op.body ps → HaveForms slots op.body ps
-      → (e : Microprogram) → ((n : ℕ) → 0 < n → n ≤ WIDTH_MAX
+      → AreWritten slots free_bit free_word op.body ps → (e : Microprogram) → ((n : ℕ) → 0 < n → n ≤ WIDTH_MAX
       → length (issues_of (trace e.shape e.code n)) ≤ rounds_cost (all_rounds n (joined ps)))
+      → ((n : ℕ) → 0 < n → n ≤ WIDTH_MAX → AllParts IsSettled (joined ps)
+      → counts_of (issues_of (trace e.shape e.code n)) ≡ rounds_counts (all_rounds n (joined ps)))
       → IsGraphed e op (graphs_in op.body ps)
-  entry_graphed ps low h e few = record {
+  entry_graphed ps low h written e few exact = record {
     graphs = are_graphs slots op.body ps h;
     few = λ n some small. omega (
       arith,
       few n some small,
       few_rounds n some small op.body (at_start op) (first_stage op meets) ps low h,
     );
+    exact = record {
+      exact = λ words n some small.
+          (let all = all_exactly op meets slots free_bit free_word is op.body (at_start op)
+          (first_stage op meets) ps written words in
+          exact n some small all.settled ∙ both_counts (all.aaps n) (all.aps n));
+    };
   }
 
 -- one operation more
@@ -172,3 +185,12 @@ graphed_more items k x old new entry gs hs own lt e f g h i =
     ∙ ap (λ y. map operation (take k items) ++ operation y ∷ []) (sym e)))
     (graphed-append (map microprogram_of old) (map operation (take k items)) gs
     (microprogram_of entry) (operation x) own h i)))
+
+-- an entry for each operation, and each exact
+pub graphed_exact : (es : List Microprogram) (ops : List Operation) (gs : List Graphed)
+    → AreGraphed es ops gs → AreExact es ops
+graphed_exact [] [] [] h = tt
+graphed_exact [] [] (g ∷ gs) h = absurd h
+graphed_exact [] (op ∷ ops) gs h = absurd h
+graphed_exact (e ∷ es) [] gs h = absurd h
+graphed_exact (e ∷ es) (op ∷ ops) gs h = (h.3.exact, graphed_exact es ops h.1 h.4)

@@ -10,6 +10,8 @@ use Rattle.dram_model.specs.Column.{Column, run}
 use Rattle.uprog_code.specs.declared.code.Uop.{Uop}
 use Rattle.uprog_code.specs.declared.code.Uop.TheVariants.{Done}
 use Rattle.uprog_code.specs.Shape.{Shape, results}
+use Rattle.uprog_code.specs.declared.walker.Counts.{Counts}
+use Rattle.uprog_code.specs.Count.{counts_of}
 use Rattle.uprog_code.specs.Bound.{Bound, bound}
 use Rattle.uprog_code.specs.Machine.{Issue, Ended, trace, HasEnded, issues_of}
 use Rattle.loop_ir.specs.Loops.{rounds, RoundOf, round_at, one_round, positions, inner_rounds}
@@ -29,7 +31,9 @@ use Rattle.loop_ir.specs.Limits.{IsRound}
 use Rattle.uprog_gen.proofs.Rounds.{block_round}
 use Rattle.uprog_gen.specs.Parts.{IsPart}
 use Rattle.loop_ir.specs.Costs.{turn_cost, rounds_cost}
+use Rattle.uprog_gen.specs.Settled.{IsSettled, rounds_counts}
 use Rattle.uprog_gen.specs.Does.{DoesRounds}
+use Rattle.uprog_gen.proofs.Settled.{of_blocks, all_aaps, all_aps}
 use Rattle.uprog_gen.proofs.Agree.{AreRounds, IsMine, rounds_agree, rounds_keep}
 use Rattle.uprog_gen.proofs.Laid.{laid, value_among, bit_among, word_among}
 use Rattle.uprog_gen.proofs.Ranges.{commands_range}
@@ -169,20 +173,29 @@ module _ (rows : ℕ) (head : Shape) (n : ℕ) (b : Bound) (fits : Fits rows hea
       (inr (omega (arith, h.2), omega (arith, h.1, h.2))))
       m
 
+abbrev pub counts : ℕ → ℕ → Counts
+counts a b = record { aap = a; ap = b }
+
+pub both_counts : {a b c d : ℕ} → a ≡ c → b ≡ d → counts a b ≡ counts c d
+both_counts e f = rw (e, f) refl
+
 -- what holds of the trace's list holds of the code
 by_trace : (head : Shape) (n : ℕ) (ss : List (StepOf Part)) (code : List Uop) (cs : List Issue)
     → trace head code n ≡ Ended cs → length cs ≤ rounds_cost (all_rounds n (blocks ss))
+    → (AllParts IsSettled (blocks ss) → counts_of cs ≡ rounds_counts (all_rounds n (blocks ss)))
     → ((rows : ℕ) (b : Bound) (s : Column) → Fits rows head n b
     → Agree head n b (after_rounds n (all_rounds n (blocks ss)) (spots_in head n b s))
     (run (bound rows head n b cs) s))
     → ((rows : ℕ) (b : Bound) (s : Column) → Fits rows head n b → (q : ℕ)
     → (IsTouched rows head n b q → ⊥) → run (bound rows head n b cs) s (D q) ≡ s (D q))
     → DoesRounds head n (blocks ss) code
-by_trace head n ss code cs t few agrees keeps =
+by_trace head n ss code cs t few exact agrees keeps =
     let e : cs ≡ issues_of (trace head code n) = sym (ap issues_of t) in
     record {
       ends = subst HasEnded (sym t) tt;
       few = subst (λ (l : List Issue). length l ≤ rounds_cost (all_rounds n (blocks ss))) e few;
+      exact = λ settled. subst (λ (l : List Issue). counts_of l
+          ≡ rounds_counts (all_rounds n (blocks ss))) e (exact settled);
       agrees = λ rows b s fits. subst (λ (l : List Issue). Agree head n b
           (after_rounds n (all_rounds n (blocks ss)) (spots_in head n b s))
           (run (bound rows head n b l) s)) e (agrees rows b s fits);
@@ -203,6 +216,10 @@ program_does head n ss some small short parts is =
     by_trace head n ss (program_code ss 0 ++ Done ∷ []) (rounds_commands n rs) t
     (subst (λ (l : List (RoundOf Block)). length (rounds_commands n rs)
     ≤ rounds_cost l) (sym same) (few_commands head n rs parts'))
+    (λ settled. (let settled' = in_rounds (λ p. IsSettled p.block) n ss
+    (of_blocks IsSettled ss settled) in
+    both_counts (all_aaps n rs parts' settled') (all_aps n rs parts' settled')
+    ∙ ap rounds_counts (sym same)))
     (λ rows b s fits. subst (λ (l : List (RoundOf Block)). Agree head n b
     (after_rounds n l (spots_in head n b s))
     (run (bound rows head n b (rounds_commands n rs)) s)) (sym same)

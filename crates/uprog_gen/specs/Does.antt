@@ -9,22 +9,27 @@ use Rattle.op_text.specs.declared.tree.Kind.{Kind}
 use Rattle.uprog_code.specs.declared.code.Uop.{Uop}
 use Rattle.uprog_code.specs.Shape.{Shape, width, results}
 use Rattle.uprog_code.specs.Machine.{HasEnded, issues_of, trace}
+use Rattle.uprog_code.specs.Count.{counts_of}
 use Rattle.uprog_code.specs.Bound.{Bound, bound}
 use Rattle.uprog_code.specs.Fits.{Fits, IsTouched}
 use Rattle.loop_ir.specs.declared.ir.Space.{Space}
 use Rattle.loop_ir.specs.declared.ir.Space.TheVariants.{Result, Source}
-use Rattle.loop_ir.specs.Plain.{Block, StepOf}
+use Rattle.loop_ir.specs.Plain.{Block, StepOf, AllParts}
 use Rattle.loop_ir.specs.Loops.{all_rounds}
 use Rattle.loop_ir.specs.Spots.{Spots, after_rounds}
 use Rattle.loop_ir.specs.Costs.{rounds_cost}
+use Rattle.uprog_gen.specs.Settled.{IsSettled, rounds_counts}
 use Rattle.uprog_gen.specs.Where.{spots_in, Agree}
 
--- The code ends, takes no more commands than its rounds may, leaves the bits of the named rows as
--- the rounds do, and no other row changes but the spill rows
+-- The code ends, takes no more commands than its rounds may, and exactly theirs where all bodies
+-- are settled, leaves the bits of the named rows as the rounds do, and no other row changes but the
+-- spill rows
 pub record DoesRounds (head : Shape) (n : ℕ) (steps : List (StepOf Block)) (code : List Uop) : Type
     0 where
   pub ends : HasEnded (trace head code n)
   pub few : length (issues_of (trace head code n)) ≤ rounds_cost (all_rounds n steps)
+  pub exact : AllParts IsSettled steps
+      → counts_of (issues_of (trace head code n)) ≡ rounds_counts (all_rounds n steps)
   pub agrees : (rows : ℕ) (b : Bound) (s : Column) → Fits rows head n b
       → Agree head n b (after_rounds n (all_rounds n steps) (spots_in head n b s))
       (run (bound rows head n b (issues_of (trace head code n))) s)

@@ -16,6 +16,7 @@ use Rattle.uprog_code.specs.Shape.{Microprogram}
 use Rattle.loop_ir.specs.Plain.{Block as Body, StepOf}
 use Rattle.loop_ir.specs.Plain.StepOf.{Single, Along, Nest}
 use Rattle.block_lower.specs.Inputs.{block_inputs, name_at}
+use Rattle.uprog_gen.specs.Totals.{IsExact}
 
 -- a graph, and the literals of its outputs
 pub record Graphed : Type 0 where
@@ -62,11 +63,12 @@ graphed_ceiling known n (Visit b ∷ body) (g ∷ gs) =
     + graphed_ceiling (known ++ defines known (Visit b)) n body gs
 
 -- the graphs are those of the operation's blocks, and its entry takes no more commands than they
--- say
+-- say, and exactly those of its word operations where it has no block
 pub record IsGraphed (e : Microprogram) (op : Operation) (gs : List Graphed) : Type 0 where
   pub graphs : AreGraphsOf op.body gs
   pub few : (n : ℕ) → 0 < n → n ≤ WIDTH_MAX → length (issues_of (trace e.shape e.code n))
       ≤ graphed_ceiling op.params n op.body gs
+  pub exact : IsExact e op
 
 -- behind the graphs before stand the operation's
 abbrev pub AddsGraphs : Microprogram → Operation → List Graphed → List Graphed → Type 0

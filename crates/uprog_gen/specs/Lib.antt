@@ -10,3 +10,5 @@ pub mod Layout
 pub mod Programs
 pub mod Laying
 pub mod Graphs
+pub mod Totals
+pub mod Settled

@@ -1,5 +1,5 @@
 -- The loop programs of an operation's statements, and its entry.
-use Rattle.std.specs.Prelude.{◌≡◌, ◌≤◌, length, ℕ, List, [], ◌∷◌, ◌++◌}
+use Rattle.std.specs.Prelude.{◌≡◌, ◌≤◌, true, false, length, ℕ, List, [], ◌∷◌, ◌++◌}
 use Rattle.std.specs.List.{AllByRecursion}
 use Rattle.op_text.specs.declared.tree.Param.{Param}
 use Rattle.op_text.specs.Language.{Statement, Operation}
@@ -12,7 +12,9 @@ use Rattle.uprog_code.specs.Texts.{text_op, EntryDoes}
 use Rattle.loop_ir.specs.Plain.{StepOf, Block}
 use Rattle.loop_ir.specs.Statements.{Slots}
 use Rattle.loop_ir.specs.Lowered.{IsLowered}
-use Rattle.word_lower.specs.Forms.{HasForm}
+use Rattle.word_lower.specs.Forms.{HasForm, IsWritten}
+use Rattle.word_mul.specs.Programs.{is_nested_statement}
+use Rattle.word_mul.specs.Places.{IsNestWritten}
 
 -- each statement has a loop program that does it, with all names at these places
 abbrev pub AreLowered : Slots → ℕ → ℕ → List Statement → List (List (StepOf Block)) → Type 0
@@ -28,6 +30,19 @@ HaveForms slots [] [] = Unit {0}
 HaveForms slots [] (p ∷ ps) = ⊥
 HaveForms slots (s ∷ body) [] = ⊥
 HaveForms slots (s ∷ body) (p ∷ ps) = HasForm slots s p × HaveForms slots body ps
+
+-- the program of a word operation is its written one
+pub record IsAsWritten (slots : Slots) (free_bit free_word : ℕ) (s : Statement)
+    (p : List (StepOf Block)) : Type 0 where
+  pub nested : is_nested_statement s ≡ true → IsNestWritten slots free_bit free_word s p
+  pub linear : is_nested_statement s ≡ false → IsWritten slots free_bit s p
+
+abbrev pub AreWritten : Slots → ℕ → ℕ → List Statement → List (List (StepOf Block)) → Type 0
+AreWritten slots free_bit free_word [] [] = Unit {0}
+AreWritten slots free_bit free_word [] (p ∷ ps) = ⊥
+AreWritten slots free_bit free_word (s ∷ body) [] = ⊥
+AreWritten slots free_bit free_word (s ∷ body) (p ∷ ps) =
+    IsAsWritten slots free_bit free_word s p × AreWritten slots free_bit free_word body ps
 
 -- the ceiling of each statement, where these names are known
 abbrev pub ceilings : List Param → List Statement → List (ℕ → ℕ)

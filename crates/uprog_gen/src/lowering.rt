@@ -9,7 +9,7 @@ ghost use Rattle.loop_ir.specs.Lowered.{IsLowered};
 ghost use Rattle.uprog_gen.specs.Layout.{IsLayoutMap};
 ghost use Rattle.word_lower.specs.Forms.{HasForm};
 ghost use Rattle.word_mul.specs.Programs.{is_nested_statement};
-ghost use Rattle.uprog_gen.specs.Programs.{AreLowered, HaveForms};
+ghost use Rattle.uprog_gen.specs.Programs.{AreLowered, HaveForms, IsAsWritten, AreWritten};
 
 use crate::layout::lay_out;
 use crate::ops::Lowered;
@@ -44,6 +44,8 @@ fn lower_statement(s: &Stmt, names: &NameMap, alloc: Global) -> Result<LoopProgr
     ensures lowered { IfOk result (λ p. IsLowered (slots_of names.now) names.now.free_bit
         names.now.free_word (statement s.now) (steps_of p)) }
     ensures form { IfOk result (λ p. HasForm (slots_of names.now) (statement s.now) (steps_of p)) }
+    ensures written { IfOk result (λ p. IsAsWritten (slots_of names.now) names.now.free_bit
+        names.now.free_word (statement s.now) (steps_of p)) }
 {
     if is_nested(s) {
         lower_nested(s, names, alloc)
@@ -60,6 +62,9 @@ pub fn lower(op: &Op, alloc: Global) -> Result<Lowered, NoMemory>
         l.names.free_word (operation op.now).body (map steps_of l.programs.items)) }
     ensures forms { IfOk result (λ l. HaveForms (slots_of l.names) (operation op.now).body
         (map steps_of l.programs.items)) }
+    // A word operation's is its written program.
+    ensures written { IfOk result (λ l. AreWritten (slots_of l.names) l.names.free_bit
+        l.names.free_word (operation op.now).body (map steps_of l.programs.items)) }
 {
     let names = lay_out(op, alloc)?;
     let mut programs = Vec::new(alloc);

@@ -11,11 +11,14 @@ ghost use Rattle.uprog_code.specs.Shape.{shape_of, microprogram_of, microprogram
 ghost use Rattle.uprog_code.specs.Programs.{IsProgram};
 ghost use Rattle.uprog_code.specs.Machine.{trace, issues_of};
 ghost use Rattle.uprog_code.specs.Texts.{op_shape, text_op, ImplementsAll};
-ghost use Rattle.loop_ir.specs.Plain.{steps_of};
+ghost use Rattle.uprog_code.specs.Count.{counts_of};
+ghost use Rattle.loop_ir.specs.Plain.{steps_of, AllParts};
 ghost use Rattle.loop_ir.specs.Loops.{all_rounds};
 ghost use Rattle.loop_ir.specs.Costs.{rounds_cost};
 ghost use Rattle.loop_ir.specs.Statements.{slots_of};
 ghost use Rattle.uprog_gen.specs.Does.{joined};
+ghost use Rattle.uprog_gen.specs.Settled.{IsSettled, rounds_counts};
+ghost use Rattle.uprog_gen.specs.Totals.{AreExact};
 ghost use Rattle.uprog_gen.specs.Graphs.{graphed_of, AddsGraphs, AreGraphed};
 ghost use Rattle.uprog_gen.specs.Layout.{IsLayoutMap};
 ghost use Rattle.uprog_gen.specs.Programs.{AreLowered, IsCompiled, AreCompiled};
@@ -92,6 +95,10 @@ pub fn compile_lowered(op: &Op, lowered: &Lowered, alloc: Global) -> Result<Entr
     ensures few { IfOk result (λ entry. (n : ℕ) → 0 < n → n ≤ WIDTH_MAX
         → length (issues_of (trace (microprogram_of entry).shape entry.code.items n))
         ≤ rounds_cost (all_rounds n (joined (map steps_of lowered.now.programs.items)))) }
+    ensures exact { IfOk result (λ entry. (n : ℕ) → 0 < n → n ≤ WIDTH_MAX
+        → AllParts IsSettled (joined (map steps_of lowered.now.programs.items))
+        → counts_of (issues_of (trace (microprogram_of entry).shape entry.code.items n))
+        ≡ rounds_counts (all_rounds n (joined (map steps_of lowered.now.programs.items)))) }
 {
     compile_entry(head_of(op), &lowered.programs, alloc)
 }
@@ -147,6 +154,9 @@ pub fn compile_ops(ops: &Ops, alloc: Global) -> Result<Compiled, NoMemory>
     // The graphs are those of the blocks, and no entry takes more commands than they say.
     ensures graphs { IfOk result (λ c. AreGraphed (microprograms_of c.program) (operations ops.now)
         (map graphed_of c.graphs.items)) }
+    // An entry of word operations alone takes exactly their AAP and AP.
+    ensures exact { IfOk result (λ c. AreExact (microprograms_of c.program)
+        (operations ops.now)) }
 {
     ops_meet(ops);
     compile_each(&ops.ops, alloc)

@@ -2,6 +2,7 @@ use Rattle.std.proofs.Common.{refl}
 use Rattle.op_text.specs.Language.{operation}
 use Rattle.loop_ir.specs.Statements.{slots_of}
 use Rattle.uprog_gen.proofs.StageAt.{statement_ready, lowered_more, forms_more}
+use Rattle.uprog_gen.proofs.StageAt.{written_more}
 use Rattle.uprog_gen.proofs.lowering.lower.Goals as goal
 
 pub lower_statement-requires-clause-meets : goal.lower_statement-requires-clause-meets
@@ -33,4 +34,7 @@ loop-s-preserved c =
       forms_more (slots_of m) items c.loop-s.s-index c.s-item.result c.loop-s.programs.items
           c.keep.new.items.items p lt is c.in_ok-keep.ensures c.loop-s.invariant.1
           c.in_ok-program.ensures.form,
+      written_more (slots_of m) m.free_bit m.free_word items c.loop-s.s-index c.s-item.result
+          c.loop-s.programs.items c.keep.new.items.items p lt is c.in_ok-keep.ensures
+          c.loop-s.invariant.2 c.in_ok-program.ensures.written,
     )

@@ -6,7 +6,7 @@ use Rattle.loop_ir.specs.Statements.{slots_of}
 use Rattle.uprog_gen.specs.Programs.{HasParts}
 use Rattle.uprog_gen.proofs.Meant.{can_compile}
 use Rattle.uprog_gen.proofs.Entries.{lowered_length, entry_compiled, entry_few, if_ok_both}
-use Rattle.uprog_gen.proofs.Entries.{if_ok_three}
+use Rattle.uprog_gen.proofs.Entries.{if_ok_three, entry_exact}
 use Rattle.uprog_gen.proofs.ops.compile_lowered.Goals as goal
 
 pub compile_entry-requires-clause-can : goal.compile_entry-requires-clause-can
@@ -35,6 +35,13 @@ returns-clause-few c =
     let ps = map steps_of c.args.lowered.now.programs.items in
     let e = c.compile_entry.ensures in
     if_ok_both c.compile_entry.result _ _ _ (λ entry h does. entry_few c.head_of.result ps entry h
+    does) e.head (rw c.deref.ensures.value at e.does)
+
+pub returns-clause-exact : goal.returns-clause-exact
+returns-clause-exact c =
+    let ps = map steps_of c.args.lowered.now.programs.items in
+    let e = c.compile_entry.ensures in
+    if_ok_both c.compile_entry.result _ _ _ (λ entry h does. entry_exact c.head_of.result ps entry h
     does) e.head (rw c.deref.ensures.value at e.does)
 
 pub returns-clause-compiled : goal.returns-clause-compiled

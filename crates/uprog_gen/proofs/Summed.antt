@@ -1,0 +1,98 @@
+-- The sum over all rounds of what each body counts.
+use Rattle.std.proofs.Common.{◌≡◌, ℕ, zero, suc, ◌+◌, ◌-◌, ◌*◌, List, [], ◌∷◌, ◌++◌, refl, sym, ap}
+use Rattle.std.proofs.Common.{◌∙◌, arith}
+use Rattle.std.specs.Prelude.{sum_by}
+use Rattle.std.proofs.lemmas.List.Sums.{sum_by-cons, sum_by-append}
+use Rattle.loop_ir.specs.declared.ir.Count.TheVariants.{All, Rest}
+use Rattle.loop_ir.specs.Plain.{Block, InnerOf, StepOf}
+use Rattle.loop_ir.specs.Plain.InnerOf.{Alone, Across}
+use Rattle.loop_ir.specs.Plain.StepOf.{Single, Along, Nest}
+use Rattle.loop_ir.specs.Loops.{RoundOf, round_at, one_round, rounds, inner_rounds, all_rounds}
+
+abbrev pub rounds_sum : (Block → ℕ) → List (RoundOf Block) → ℕ
+rounds_sum f rs = sum_by (λ r. f r.part) rs
+
+-- twice the sum over the last outer positions of a nest
+abbrev pub nest_sum : (Block → ℕ) → ℕ → ℕ → List (InnerOf Block) → ℕ
+nest_sum f n count [] = 0
+nest_sum f n count (Alone b ∷ ps) = 2 * (count * f b) + nest_sum f n count ps
+nest_sum f n count (Across All b ∷ ps) = 2 * (count * (n * f b)) + nest_sum f n count ps
+nest_sum f n count (Across Rest b ∷ ps) = (count * count + count) * f b + nest_sum f n count ps
+
+-- twice the sum of all steps
+abbrev pub steps_sum : (Block → ℕ) → ℕ → List (StepOf Block) → ℕ
+steps_sum f n [] = 0
+steps_sum f n (Single b ∷ ss) = 2 * f b + steps_sum f n ss
+steps_sum f n (Along b ∷ ss) = 2 * (n * f b) + steps_sum f n ss
+steps_sum f n (Nest ps ∷ ss) = nest_sum f n n ps + steps_sum f n ss
+
+module _ (f : Block → ℕ) where
+  more : (r : RoundOf Block) (rs : List (RoundOf Block))
+      → rounds_sum f (r ∷ rs) ≡ f r.part + rounds_sum f rs
+  more r rs = sum_by-cons (λ (r : RoundOf Block). f r.part) r rs
+
+  pub sum_append : (rs ss : List (RoundOf Block))
+      → rounds_sum f (rs ++ ss) ≡ rounds_sum f rs + rounds_sum f ss
+  sum_append rs ss = sum_by-append (λ (r : RoundOf Block). f r.part) rs ss
+
+  sum_each : (b : Block) (o i count : ℕ) → rounds_sum f (rounds (λ j. one_round b j o) i count)
+      ≡ count * f b
+  sum_each b o i zero = omega arith
+  sum_each b o i (suc count) =
+      let e = sum_each b o (i + 1) count in
+      let a = more (round_at b i o) (rounds (λ j. one_round b j o) (i + 1) count) in
+      omega (arith, a, e)
+
+  abbrev inner_sum : ℕ → ℕ → List (InnerOf Block) → ℕ
+  inner_sum n left [] = 0
+  inner_sum n left (Alone b ∷ ps) = f b + inner_sum n left ps
+  inner_sum n left (Across All b ∷ ps) = n * f b + inner_sum n left ps
+  inner_sum n left (Across Rest b ∷ ps) = left * f b + inner_sum n left ps
+
+  inner_is : (n o left : ℕ) (ps : List (InnerOf Block)) → n - o ≡ left
+      → rounds_sum f (inner_rounds n o ps) ≡ inner_sum n left ps
+  inner_is n o left [] e = refl
+  inner_is n o left (Alone b ∷ ps) e = more (round_at b 0 o) (inner_rounds n o ps)
+      ∙ ap (λ x. f b + x) (inner_is n o left ps e)
+  inner_is n o left (Across All b ∷ ps) e = sum_append (rounds (λ i. one_round b i o) 0 n)
+      (inner_rounds n o ps) ∙ ap (λ x. x + rounds_sum f (inner_rounds n o ps)) (sum_each b o 0 n)
+      ∙ ap (λ x. n * f b + x) (inner_is n o left ps e)
+  inner_is n o left (Across Rest b ∷ ps) e = sum_append (rounds (λ i. one_round b i o) 0 (n - o))
+      (inner_rounds n o ps) ∙ ap (λ x. x + rounds_sum f (inner_rounds n o ps))
+      (sum_each b o 0 (n - o)) ∙ ap (λ x. x * f b + rounds_sum f (inner_rounds n o ps)) e
+      ∙ ap (λ x. left * f b + x) (inner_is n o left ps e)
+
+  one_more : (n count : ℕ) (ps : List (InnerOf Block))
+      → nest_sum f n (suc count) ps ≡ 2 * inner_sum n (suc count) ps + nest_sum f n count ps
+  one_more n count [] = refl
+  one_more n count (Alone b ∷ ps) = let e = one_more n count ps in omega (arith, e)
+  one_more n count (Across All b ∷ ps) = let e = one_more n count ps in omega (arith, e)
+  one_more n count (Across Rest b ∷ ps) = let e = one_more n count ps in omega (arith, e)
+
+  none : (n : ℕ) (ps : List (InnerOf Block)) → nest_sum f n 0 ps ≡ 0
+  none n [] = refl
+  none n (Alone b ∷ ps) = let e = none n ps in omega (arith, e)
+  none n (Across All b ∷ ps) = let e = none n ps in omega (arith, e)
+  none n (Across Rest b ∷ ps) = let e = none n ps in omega (arith, e)
+
+  nest_is : (n : ℕ) (ps : List (InnerOf Block)) (o count : ℕ) → n ≡ o + count
+      → 2 * rounds_sum f (rounds (λ o. inner_rounds n o ps) o count) ≡ nest_sum f n count ps
+  nest_is n ps o zero e = sym (none n ps)
+  nest_is n ps o (suc count) e =
+      let g = λ (o : ℕ). inner_rounds n o ps in
+      let h = nest_is n ps (o + 1) count (omega (arith, e)) in
+      let one = inner_is n o (suc count) ps (omega (arith, e)) in
+      let all = sum_append (g o) (rounds g (o + 1) count) in
+      omega (arith, all, one, h, one_more n count ps)
+
+  pub sum_is : (n : ℕ) (ss : List (StepOf Block))
+      → 2 * rounds_sum f (all_rounds n ss) ≡ steps_sum f n ss
+  sum_is n [] = refl
+  sum_is n (Single b ∷ ss) = let e = sum_is n ss in
+      let a = more (round_at b 0 0) (all_rounds n ss) in omega (arith, a, e)
+  sum_is n (Along b ∷ ss) = let e = sum_is n ss in
+      let a = sum_append (rounds (λ j. one_round b j 0) 0 n) (all_rounds n ss) in
+      let c = sum_each b 0 0 n in omega (arith, e, a, c)
+  sum_is n (Nest ps ∷ ss) = let e = sum_is n ss in
+      let a = sum_append (rounds (λ o. inner_rounds n o ps) 0 n) (all_rounds n ss) in
+      let c = nest_is n ps 0 n (omega arith) in omega (arith, e, a, c)

@@ -1,0 +1,70 @@
+-- Bodies whose commands are settled: copies, and the bodies of the word operations.
+-- Private contracts alone speak of this.
+use Rattle.std.specs.Prelude.{◌≡◌, ℕ, Bool, true, false, if◌then◌else◌, List, [], ◌∷◌, sum_by}
+use Rattle.std.specs.Prelude.{count_by, Option, Some, None}
+use Rattle.uprog_code.specs.declared.walker.Counts.{Counts}
+use Rattle.row_alloc.specs.declared.body.BodyCmd.{BodyCmd}
+use Rattle.row_alloc.specs.declared.body.BodyCmd.TheVariants.{Aap, Ap}
+use Rattle.row_alloc.specs.Known.{known_at, WordBody, Inverted, Shifted, Both, Either, Without}
+use Rattle.row_alloc.specs.Known.{Unlike, Chosen, Compared, Agreed, Added, Lessened, TurnedBy}
+use Rattle.row_alloc.specs.Known.{Multiplied, Counted, Divided, inputs_in, nodes_in, outs_in}
+use Rattle.row_alloc.specs.Known.{sequence_for}
+use Rattle.loop_ir.specs.Plain.{Block}
+use Rattle.loop_ir.specs.Loops.{RoundOf}
+use Rattle.loop_ir.specs.Spots.{nth_place}
+use Rattle.loop_ir.specs.Costs.{is_body, is_copy}
+
+abbrev pub is_aap : BodyCmd → Bool
+is_aap (Aap x y) = true
+is_aap (Ap x) = false
+
+abbrev pub is_ap : BodyCmd → Bool
+is_ap (Aap x y) = false
+is_ap (Ap x) = true
+
+abbrev pub is_word_body : WordBody → Block → Bool
+is_word_body w b = is_body (inputs_in w) (nodes_in w) (outs_in w) b
+
+abbrev pub word_among : List WordBody → Block → Option WordBody
+word_among [] b = None
+word_among (w ∷ ws) b = if is_word_body w b then Some w else word_among ws b
+
+-- which body of the word operations it is
+abbrev pub word_of : Block → Option WordBody
+word_of b = word_among (Inverted ∷ Shifted ∷ Both ∷ Either ∷ Without ∷ Unlike ∷ Chosen ∷ Compared
+    ∷ Agreed ∷ Added ∷ Lessened ∷ TurnedBy ∷ Multiplied ∷ Counted ∷ Divided ∷ []) b
+
+abbrev pub word_commands : Option WordBody → List BodyCmd
+word_commands None = []
+word_commands (Some w) = known_at (sequence_for w)
+
+-- how many commands of a kind a round takes, where a copy takes so many
+abbrev pub turn_count : (BodyCmd → Bool) → ℕ → Block → ℕ
+turn_count f copy b = if is_copy b then copy else count_by f (word_commands (word_of b))
+
+abbrev pub turn_aaps : Block → ℕ
+turn_aaps b = turn_count is_aap 1 b
+
+abbrev pub turn_aps : Block → ℕ
+turn_aps b = turn_count is_ap 0 b
+
+-- its sequence writes in the row of no input that it has still to read
+abbrev pub KeepsReads : WordBody → Block → Type 0
+KeepsReads Shifted b = nth_place b.reads 0 ≡ nth_place b.writes 0 → ⊥
+KeepsReads Multiplied b = nth_place b.reads 0 ≡ nth_place b.writes 1 → ⊥
+KeepsReads w b = Unit {0}
+
+abbrev pub IsSettledAs : Bool → Option WordBody → Block → Type 0
+IsSettledAs true o b = Unit {0}
+IsSettledAs false None b = ⊥
+IsSettledAs false (Some w) b = KeepsReads w b
+
+abbrev pub IsSettled : Block → Type 0
+IsSettled b = IsSettledAs (is_copy b) (word_of b) b
+
+-- the commands of all rounds
+abbrev pub rounds_counts : List (RoundOf Block) → Counts
+rounds_counts rs = record {
+  aap = sum_by (λ r. turn_aaps r.part) rs;
+  ap = sum_by (λ r. turn_aps r.part) rs;
+}

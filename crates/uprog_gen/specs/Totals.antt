@@ -1,0 +1,75 @@
+-- The commands of the word operations.
+use Rattle.std.specs.Prelude.{◌≡◌, ℕ, ◌+◌, ◌*◌, ◌/◌, ◌^◌, ◌<◌, ◌≤◌, Bool, true, false, List, []}
+use Rattle.std.specs.Prelude.{◌∷◌, ◌++◌}
+use Rattle.std.specs.List.{list_all}
+use Rattle.bit_rows.specs.declared.TheConstants.{WIDTH_MAX}
+use Rattle.op_text.specs.declared.tree.Param.{Param}
+use Rattle.op_text.specs.declared.tree.WordOp.{WordOp}
+use Rattle.op_text.specs.declared.tree.WordOp.TheVariants as o
+use Rattle.op_text.specs.Language.{Statement, Compute, Visit, Operation}
+use Rattle.op_text.specs.Scratch.{defines, names_width}
+use Rattle.uprog_code.specs.Machine.{trace, issues_of}
+use Rattle.uprog_code.specs.Count.{counts_of}
+use Rattle.uprog_code.specs.Shape.{Microprogram}
+
+-- how many AAP an operation takes on arguments of n bits
+abbrev pub op_aaps : WordOp → ℕ → ℕ
+op_aaps o.Not n = 2 * n
+op_aaps o.And n = 4 * n
+op_aaps o.Or n = 4 * n
+op_aaps o.Xor n = 5 * n
+op_aaps o.Copy n = n
+op_aaps o.Zero n = n
+op_aaps o.Ones n = n
+op_aaps o.Shl1 n = 2 * n + 1
+op_aaps o.Shr1 n = 2 * n + 1
+op_aaps o.Add n = 8 * n + 1
+op_aaps o.Sub n = 7 * n + 1
+op_aaps o.Mul n = 11 * (n * (n + 1) / 2) + 2 * n
+op_aaps o.Div n = 14 * n ^ 2 + 9 * n
+op_aaps o.Rem n = 14 * n ^ 2 + 9 * n
+op_aaps o.Abs n = 9 * n + 1
+op_aaps o.Relu n = 4 * n
+op_aaps o.Min n = 11 * n + 1
+op_aaps o.Max n = 11 * n + 1
+op_aaps o.Eq n = 7 * n + 1
+op_aaps o.Gt n = 4 * n + 1
+op_aaps o.Ge n = 4 * n + 1
+op_aaps o.IfElse n = 7 * n
+op_aaps o.Bitcount n = 7 * n ^ 2 + 3 * n
+op_aaps o.AndRed n = 4 * n + 1
+op_aaps o.OrRed n = 4 * n + 1
+op_aaps o.XorRed n = 5 * n + 1
+
+-- how many AP
+abbrev pub op_aps : WordOp → ℕ → ℕ
+op_aps o.Xor n = 2 * n
+op_aps o.XorRed n = 2 * n
+op_aps o.Add n = n
+op_aps p n = 0
+
+abbrev pub is_word : Statement → Bool
+is_word (Compute target p args) = true
+is_word (Visit b) = false
+
+-- the sum over the word operations of a body, where these names are known: on bits n is 1
+abbrev pub words_total : (WordOp → ℕ → ℕ) → List Param → ℕ → List Statement → ℕ
+words_total f known n [] = 0
+words_total f known n (Compute target p args ∷ body) = f p (names_width known n args)
+    + words_total f (known ++ defines known (Compute target p args)) n body
+words_total f known n (Visit b ∷ body) = words_total f (known ++ defines known (Visit b)) n body
+
+-- An operation of word operations alone takes at each width exactly the sum of their commands
+pub record IsExact (e : Microprogram) (op : Operation) : Type 0 where
+  pub exact : list_all is_word op.body ≡ true → (n : ℕ) → 0 < n → n ≤ WIDTH_MAX
+      → counts_of (issues_of (trace e.shape e.code n)) ≡ record {
+        aap = words_total op_aaps op.params n op.body;
+        ap = words_total op_aps op.params n op.body;
+      }
+
+-- and so each entry of a program
+abbrev pub AreExact : List Microprogram → List Operation → Type 0
+AreExact [] [] = Unit {0}
+AreExact [] (op ∷ ops) = ⊥
+AreExact (e ∷ es) [] = ⊥
+AreExact (e ∷ es) (op ∷ ops) = IsExact e op × AreExact es ops
