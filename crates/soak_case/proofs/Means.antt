@@ -1,5 +1,6 @@
 -- What the op of one statement means: the value of its operation.
-use Rattle.std.proofs.Common.{◌≡◌, ℕ, zero, suc, ◌+◌, ◌*◌, ◌-◌, ◌/◌, ◌%◌, ◌^◌, ◌==◌, ◌<◌, Bool, true}
+use Rattle.std.proofs.Common.{◌≡◌, ℕ, zero, suc, ◌+◌, ◌*◌, ◌-◌, ◌/◌, ◌%◌, ◌^◌, ◌==◌, ◌<◌, Bool}
+use Rattle.std.proofs.Common.{true}
 use Rattle.std.proofs.Common.{false, List, [], ◌∷◌, length, cond, refl, ap, ◌∙◌, arith, subst}
 use Rattle.std.specs.Prelude.{nat_le, nat_lt, ◌&&◌, ◌||◌}
 use Rattle.std.proofs.Math.Nat.{div-le_self, mod-le, mod-lt, pow-succ'}
@@ -9,7 +10,8 @@ use Rattle.std.proofs.lemmas.List.Sums.{count_by-le-length}
 use Rattle.op_text.specs.declared.tree.Kind.{Kind}
 use Rattle.op_text.specs.declared.tree.WordOp.{WordOp}
 use Rattle.op_text.specs.declared.tree.WordOp.TheVariants as o
-use Rattle.op_text.specs.Values.{bit_by_bit, bit_number, bits, both, differ, half, ones_of, op_value}
+use Rattle.op_text.specs.Values.{bit_by_bit, bit_number, bits, both, differ, half, ones_of}
+use Rattle.op_text.specs.Values.{op_value}
 use Rattle.op_text.specs.Values.{value}
 use Rattle.op_text.specs.Meaning.{meaning}
 use Rattle.uprog_code.specs.Shape.{width}

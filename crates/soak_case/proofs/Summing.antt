@@ -21,7 +21,8 @@ use Rattle.uprog_code.specs.Texts.{EntryDoes, op_shape, text_op}
 use Rattle.soak_case.specs.declared.cases.Case.{Case}
 use Rattle.soak_case.specs.Cases.{one_statement, source_kinds}
 use Rattle.soak_case.specs.Words.{behind, elements, sources_at, word_at}
-use Rattle.soak_case.specs.Layout.{FitsChip, bases_from, issues_at, layout, result_rows, source_rows}
+use Rattle.soak_case.specs.Layout.{FitsChip, bases_from, issues_at, layout, result_rows}
+use Rattle.soak_case.specs.Layout.{source_rows}
 use Rattle.soak_case.specs.Sums.{case_sum, case_value}
 use Rattle.soak_case.proofs.Fitting.{case_fits, kinds_are}
 use Rattle.soak_case.proofs.Means.{AreSmall, means}

@@ -1,6 +1,7 @@
 //! The op of a case.
 
-ghost use Rattle.std.specs.Prelude.{◌≡◌, ◌+◌, ◌<◌, ◌≤◌, [], ◌∷◌, ◌++◌, length, take, slice_get, true};
+ghost use Rattle.std.specs.Prelude.{◌≡◌, ◌+◌, ◌<◌, ◌≤◌, [], ◌∷◌, ◌++◌, length, take, slice_get};
+ghost use Rattle.std.specs.Prelude.{true};
 ghost use Rattle.std.specs.Prelude.{Some, IfOk};
 ghost use Rattle.text_lex.specs.Spelled.{fits_name};
 ghost use Rattle.op_text.specs.declared.tree.WordOp.{WordOp};
