@@ -1,6 +1,6 @@
 -- Names among others, and what a statement leaves of the others.
 use Rattle.std.proofs.Common.{◌≡◌, ℕ, Bool, true, false, not, ◌||◌, cond, List, [], ◌∷◌, ◌++◌, map}
-use Rattle.std.proofs.Common.{Some, refl, sym, ap, ◌∙◌, subst, bytes_eq, ◌⊎◌, inl, inr}
+use Rattle.std.proofs.Common.{Some, None, refl, sym, ap, ◌∙◌, subst, bytes_eq, ◌⊎◌, inl, inr}
 use Rattle.std.specs.Prelude.{fold}
 use Rattle.std.specs.List.{filter}
 use Rattle.op_text.specs.declared.tree.Kind.{Kind}
@@ -9,7 +9,7 @@ use Rattle.op_text.specs.Language.{Equation, Block, Statement, Compute, Visit}
 use Rattle.op_text.specs.Rules.{is_among, kind_among}
 use Rattle.op_text.specs.Meaning.{Held, changed, bit_written, term_bit, bit_read, with_lets}
 use Rattle.op_text.specs.Meaning.{assigned, visited, positions, with_blanks, with_states}
-use Rattle.op_text.specs.Meaning.{after_statement}
+use Rattle.op_text.specs.Meaning.{computed, after_statement}
 use Rattle.op_text.specs.Scratch.{param, state_names, word_names}
 use Rattle.op_text.specs.Spelling.{Each}
 use Rattle.op_rules.specs.Meets.{targets}
@@ -152,8 +152,14 @@ no_target b name s w =
 
 pub statement_other : (n : ℕ) (held : List ℕ → Held) (s : Statement) (name : List ℕ)
     → is_among (written_names s) name ≡ false → after_statement n held s name ≡ held name
-statement_other n held (Compute target p args) name h =
+statement_other n held (Compute target None p args) name h =
     changed_other held target name _ (or_first (bytes_eq target name) false h)
+statement_other n held (Compute target (Some x) p args) name h =
+    let rest = or_second (bytes_eq target name) (is_among (x ∷ []) name) h in
+    let first = computed n p (map held args) in
+    changed_other (changed held target first) x name _ (or_first (bytes_eq x name) false rest)
+    ∙ changed_other held target name first
+    (or_first (bytes_eq target name) (is_among (x ∷ []) name) h)
 statement_other n held (Visit b) name h =
     let e = sym (among-append (state_names b) (word_names b) name) ∙ h in
     let s = or_first (is_among (state_names b) name) (is_among (word_names b) name) e in

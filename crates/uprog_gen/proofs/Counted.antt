@@ -1,15 +1,14 @@
 -- The commands of an operation whose statements are all word operations.
-use Rattle.std.proofs.Common.{◌≡◌, ℕ, suc, ◌+◌, ◌<◌, Bool, true, false, List, [], ◌∷◌, ◌++◌, map}
-use Rattle.std.proofs.Common.{length, Some, refl, sym, ap, ◌∙◌, subst, arith}
+use Rattle.std.proofs.Common.{◌≡◌, ℕ, ◌+◌, ◌<◌, Bool, true, false, List, [], ◌∷◌, ◌++◌}
+use Rattle.std.proofs.Common.{length, Option, Some, refl, sym, ap, ◌∙◌, subst, arith}
 use Rattle.std.specs.List.{list_all}
-use Rattle.std.proofs.lemmas.Bool.{and_parts}
 use Rattle.op_text.specs.declared.tree.Kind.{Kind}
 use Rattle.op_text.specs.declared.tree.WordOp.{WordOp}
 use Rattle.op_text.specs.declared.tree.WordOp.TheVariants as op
-use Rattle.op_text.specs.WordOps.{forms, filled, word_to}
+use Rattle.op_text.specs.WordOps.{forms, filled, second_kind}
 use Rattle.op_text.specs.Language.{Statement, Compute, Visit, Operation}
 use Rattle.op_text.specs.Meaning.{width}
-use Rattle.op_text.specs.Scratch.{defines, names_width}
+use Rattle.op_text.specs.Scratch.{names_width}
 use Rattle.op_text.specs.declared.tree.Param.{Param}
 use Rattle.op_rules.specs.Meets.{Context, behind, OperationMeets}
 use Rattle.loop_ir.specs.declared.names.Slot.{Slot}
@@ -22,7 +21,8 @@ use Rattle.word_lower.specs.Shapes.{owners_of}
 use Rattle.word_lower.proofs.Statements.{Places, places_of, among_target, among_arg, among_like}
 use Rattle.word_lower.proofs.Statements.{name_at, at_place}
 use Rattle.word_mul.specs.Programs.{is_nested}
-use Rattle.word_mul.specs.Places.{rows_on, steps_for}
+use Rattle.word_mul.specs.Places.{rows_on}
+use Rattle.word_mul.proofs.Statements.{SecondPlace, second_place}
 use Rattle.uprog_gen.specs.Does.{joined}
 use Rattle.uprog_gen.specs.Layout.{IsLayout}
 use Rattle.uprog_gen.specs.Programs.{IsAsWritten, AreWritten}
@@ -34,7 +34,7 @@ use Rattle.uprog_gen.proofs.Stage.{Stage, next_stage}
 use Rattle.uprog_gen.proofs.Meant.{args_same}
 use Rattle.uprog_gen.proofs.Ready.{statement_meets, is_placed}
 use Rattle.uprog_gen.proofs.Summed.{rounds_sum, sum_append}
-use Rattle.uprog_gen.proofs.Exact.{FirstApart, is_shift, Linear, linear_settled, nested_settled}
+use Rattle.uprog_gen.proofs.Exact.{FirstApart, is_shift, linear_settled, nested_settled}
 use Rattle.uprog_gen.proofs.Exact.{linear_aaps, linear_aps, nested_aaps, nested_aps, op_width}
 use Rattle.uprog_gen.proofs.Exact.{first_width, width_is}
 
@@ -52,14 +52,17 @@ have_first slots n (a ∷ args) [] h = absurd h
 have_first slots n (a ∷ args) (k ∷ ks) h = ap (λ o. width n (kind_at o)) h.0.found
     ∙ ap (width n) h.0.kind
 
-module _ (slots : Slots) (free_bit free_word : ℕ) (target : List ℕ) (p : WordOp)
-    (args : List (List ℕ)) (meets : ComputeMeets slots target p args)
-    (placed : IsPlaced slots free_bit free_word (Compute target p args)) where
+module _ (slots : Slots) (free_bit free_word : ℕ) (target : List ℕ) (second : Option (List ℕ))
+    (p : WordOp) (args : List (List ℕ)) (meets : ComputeMeets slots target second p args)
+    (placed : IsPlaced slots free_bit free_word (Compute target second p args)) where
   abbrev t : Slot
   t = meets.gives.slot
 
   given : Places slots args
   given = places_of slots args meets.kinds meets.have
+
+  near : SecondPlace slots second
+  near = second_place slots target args second (second_kind p) meets.others
 
   -- the first argument is not the target
   first_apart : (ss : List Slot) → AreAt slots args ss → 0 < length ss
@@ -68,10 +71,10 @@ module _ (slots : Slots) (free_bit free_word : ℕ) (target : List ℕ) (p : Wor
   first_apart (s ∷ ss) at l = record {
     apart = λ e f.
         (let here = at_place slots args (s ∷ ss) 0 at l in
-        let among = among_arg slots free_bit free_word target p args meets placed t
+        let among = among_arg slots free_bit free_word target second p args meets placed t
         meets.gives.found (s ∷ ss) at 0 here.0 in
         let same = placed.differ (name_at args 0) target s t among
-        (among_target slots free_bit free_word target p args meets placed t meets.gives.found
+        (among_target slots free_bit free_word target second p args meets placed t meets.gives.found
         (s ∷ ss) at) here.1 meets.gives.found e f in
         let z : false ≡ true = sym meets.fresh ∙ among_like args 0 target here.0 same in
         absurd cc);
@@ -110,6 +113,7 @@ module _ (slots : Slots) (free_bit free_word : ℕ) (target : List ℕ) (p : Wor
       none op.AndRed e f = cc
       none op.OrRed e f = cc
       none op.XorRed e f = cc
+      none op.Divmod e f = cc
   some_given e [] f [] (s ∷ ss) h at = absurd at
   some_given e [] f (n ∷ names) ss h at = absurd h
   some_given e (k ∷ ks) f [] ss h at = absurd h
@@ -117,7 +121,7 @@ module _ (slots : Slots) (free_bit free_word : ℕ) (target : List ℕ) (p : Wor
   some_given e (k ∷ ks) f (n ∷ names) (s ∷ ss) h at = omega arith
 
   exactly : (steps : List (StepOf Block))
-      → IsAsWritten slots free_bit free_word (Compute target p args) steps
+      → IsAsWritten slots free_bit free_word (Compute target second p args) steps
       → IsExactly p (λ n. op_width p t.kind n) steps
   exactly steps w = by (is_nested p) refl
     where
@@ -148,11 +152,12 @@ module _ (slots : Slots) (free_bit free_word : ℕ) (target : List ℕ) (p : Wor
       wide op.AndRed k n e = cc
       wide op.OrRed k n e = cc
       wide op.XorRed k n e = cc
+      wide op.Divmod k n e = refl
 
       by : (b : Bool) → is_nested p ≡ b → IsExactly p (λ n. op_width p t.kind n) steps
       by true e =
-          let m = rows_on t given.list free_bit free_word in
-          let same = w.nested e t given.list meets.gives.found given.at in
+          let m = rows_on t near.place given.list free_bit free_word in
+          let same = w.nested e t near.place given.list meets.gives.found near.at given.at in
           subst (IsExactly p (λ n. op_width p t.kind n)) (sym same) record {
             settled = nested_settled p m e;
             aaps = λ n. nested_aaps p m n e ∙ ap (op_aaps p) (sym (wide p t.kind n e));
@@ -192,11 +197,11 @@ module _ (o : Operation) (meets : OperationMeets o) (slots : Slots) (free_bit fr
   all_exactly [] c st (q ∷ ps) w h = absurd w
   all_exactly (s ∷ rest) c st [] w h = absurd w
   all_exactly (Visit b ∷ rest) c st (q ∷ ps) w h = absurd (let z : false ≡ true = h in cc)
-  all_exactly (Compute target p args ∷ rest) c st (q ∷ ps) w h =
-      let s = Compute target p args in
+  all_exactly (Compute target second p args ∷ rest) c st (q ∷ ps) w h =
+      let s = Compute target second p args in
       let m = statement_meets o meets slots free_bit free_word is c s rest st in
       let placed = is_placed o meets slots free_bit free_word is c s rest st in
-      let one = exactly slots free_bit free_word target p args m placed q w.0 in
+      let one = exactly slots free_bit free_word target second p args m placed q w.0 in
       let more = all_exactly rest (behind c s) (next_stage o c s rest st) ps w.1 h in
       let wide = λ (n : ℕ). sym (args_same o meets slots free_bit free_word is c s rest st n args
       st.body.0.known) ∙ have_first slots n args m.kinds m.have

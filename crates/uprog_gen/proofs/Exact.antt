@@ -1,6 +1,6 @@
 -- Each word operation's loop program has settled bodies, and takes exactly the operation's commands.
-use Rattle.std.proofs.Common.{◌≡◌, inl, inr, ℕ, zero, suc, ◌+◌, ◌*◌, ◌/◌, ◌^◌, ◌<◌, Bool, true}
-use Rattle.std.proofs.Common.{false, cond, List, [], ◌∷◌, map, Some, refl, sym, ap, ◌∙◌, subst}
+use Rattle.std.proofs.Common.{◌≡◌, inl, inr, ℕ, zero, suc, ◌+◌, ◌*◌, ◌/◌, ◌^◌, Bool, true}
+use Rattle.std.proofs.Common.{false, cond, List, [], ◌∷◌, Some, refl, sym, ap, ◌∙◌}
 use Rattle.std.proofs.Common.{arith}
 use Rattle.std.proofs.Math.Nat.{pow-suc, pow-zero, mul-div_cancel_left}
 use Rattle.op_text.specs.declared.tree.Kind.{Kind}
@@ -75,6 +75,7 @@ linear_settled op.Bitcount k o e a = absurd cc
 linear_settled op.AndRed k o e a = (tt, (tt, tt))
 linear_settled op.OrRed k o e a = (tt, (tt, tt))
 linear_settled op.XorRed k o e a = (tt, (tt, tt))
+linear_settled op.Divmod k o e a = absurd cc
 
 pub nested_settled : (p : WordOp) (m : Rows) → is_nested p ≡ true
     → AllParts IsSettled (steps_for p m)
@@ -117,6 +118,7 @@ nested_settled op.Bitcount m e = (tt, ((tt, (tt, tt)), tt))
 nested_settled op.AndRed m e = absurd cc
 nested_settled op.OrRed m e = absurd cc
 nested_settled op.XorRed m e = absurd cc
+nested_settled op.Divmod m e = (tt, (tt, ((tt, (tt, (tt, (tt, (tt, (tt, tt)))))), (tt, tt))))
 
 square : (n : ℕ) → n ^ 2 ≡ n * n
 square n = let e : n ^ 2 ≡ n ^ 1 * n = pow-suc n 1 in let f : n ^ 1 ≡ n ^ 0 * n = pow-suc n 0 in
@@ -171,6 +173,7 @@ linear_aaps op.Bitcount k o n e = absurd cc
 linear_aaps op.AndRed k o n e = let h = sum_is turn_aaps n (Linear op.AndRed k o) in omega (arith, h)
 linear_aaps op.OrRed k o n e = let h = sum_is turn_aaps n (Linear op.OrRed k o) in omega (arith, h)
 linear_aaps op.XorRed k o n e = let h = sum_is turn_aaps n (Linear op.XorRed k o) in omega (arith, h)
+linear_aaps op.Divmod k o n e = absurd cc
 
 pub nested_aaps : (p : WordOp) (m : Rows) (n : ℕ) → is_nested p ≡ true
     → rounds_sum turn_aaps (all_rounds n (steps_for p m)) ≡ op_aaps p n
@@ -204,6 +207,8 @@ nested_aaps op.Bitcount m n e = let h = sum_is turn_aaps n (steps_for op.Bitcoun
 nested_aaps op.AndRed m n e = absurd cc
 nested_aaps op.OrRed m n e = absurd cc
 nested_aaps op.XorRed m n e = absurd cc
+nested_aaps op.Divmod m n e = let h = sum_is turn_aaps n (steps_for op.Divmod m) in
+    omega (arith, h, square n, triangle n)
 
 pub linear_aps : (p : WordOp) (k : Kind) (o : Owners) (n : ℕ) → is_nested p ≡ false
     → rounds_sum turn_aps (all_rounds n (Linear p k o)) ≡ op_aps p (op_width p k n)
@@ -239,6 +244,7 @@ linear_aps op.Bitcount k o n e = absurd cc
 linear_aps op.AndRed k o n e = let h = sum_is turn_aps n (Linear op.AndRed k o) in omega (arith, h)
 linear_aps op.OrRed k o n e = let h = sum_is turn_aps n (Linear op.OrRed k o) in omega (arith, h)
 linear_aps op.XorRed k o n e = let h = sum_is turn_aps n (Linear op.XorRed k o) in omega (arith, h)
+linear_aps op.Divmod k o n e = absurd cc
 
 pub nested_aps : (p : WordOp) (m : Rows) (n : ℕ) → is_nested p ≡ true
     → rounds_sum turn_aps (all_rounds n (steps_for p m)) ≡ op_aps p n
@@ -272,6 +278,8 @@ nested_aps op.Bitcount m n e = let h = sum_is turn_aps n (steps_for op.Bitcount 
 nested_aps op.AndRed m n e = absurd cc
 nested_aps op.OrRed m n e = absurd cc
 nested_aps op.XorRed m n e = absurd cc
+nested_aps op.Divmod m n e = let h = sum_is turn_aps n (steps_for op.Divmod m) in
+    omega (arith, h, square n, triangle n)
 
 -- the width of the arguments of these kinds
 abbrev pub first_width : ℕ → List Kind → ℕ
@@ -334,3 +342,4 @@ width_is op.Bitcount ks k n e = on_word ks [] n (filled_word Word ks k e).0
 width_is op.AndRed ks k n e = on_word ks [] n (filled_word Bit ks k e).0
 width_is op.OrRed ks k n e = on_word ks [] n (filled_word Bit ks k e).0
 width_is op.XorRed ks k n e = on_word ks [] n (filled_word Bit ks k e).0
+width_is op.Divmod ks k n e = on_word ks (Word ∷ []) n (filled_words Word ks k e).0

@@ -9,7 +9,7 @@ use Rattle.op_text.specs.declared.tree.Kind.{Kind}
 use Rattle.op_text.specs.declared.tree.Kind.TheVariants.{Word, Bit}
 use Rattle.op_text.specs.declared.tree.Param.{Param}
 use Rattle.op_text.specs.declared.tree.Stmt.{Stmt}
-use Rattle.op_text.specs.Language.{Statement, Compute, Visit, Operation, statement}
+use Rattle.op_text.specs.Language.{Statement, Compute, Visit, Operation, statement, result_names}
 use Rattle.op_text.specs.Rules.{kind_among}
 use Rattle.op_text.specs.Scratch.{defines, body_defines}
 use Rattle.op_rules.specs.Meets.{names_of, Differ, Context, behind, at_start, StatementMeets}
@@ -50,7 +50,7 @@ short_at c (y ∷ items) zero x h lt e = subst (λ (z : Stmt). IsShort (statemen
     (by (statement y) h.0)
   where
     by : (s : Statement) → StatementMeets c s → IsShort s
-    by (Compute target p args) m = tt
+    by (Compute target second p args) m = tt
     by (Visit b) m = (m.few_states, m.few_assigns)
 short_at c (y ∷ items) (suc k) x h lt e = short_at (behind c (statement y)) items k x h.1
     (omega arith) e
@@ -60,23 +60,20 @@ or_none None = refl
 or_none (Some x) = refl
 
 module _ (op : Operation) (meets : OperationMeets op) where
-  result : List ℕ
-  result = op.result.name
-
   -- the names of the first k statements, and what they make
   abbrev pub front : ℕ → List Param
   front k = body_defines op.params (take k op.body)
 
   abbrev first_lays : ℕ → List Lay
-  first_lays k = source_lays 0 op.params ++ defined_lays op.result.name 0 0 (front k)
+  first_lays k = source_lays 0 op.params ++ defined_lays (result_names op) 0 0 (front k)
 
   front_params : (k : ℕ) → params_of (first_lays k) ≡ op.params ++ front k
   front_params k =
       map-append (λ (l : Lay). record { name = l.name; kind = l.slot.kind })
-      (source_lays 0 op.params) (defined_lays op.result.name 0 0 (front k))
-      ∙ ap (λ l. l ++ params_of (defined_lays op.result.name 0 0 (front k)))
+      (source_lays 0 op.params) (defined_lays (result_names op) 0 0 (front k))
+      ∙ ap (λ l. l ++ params_of (defined_lays (result_names op) 0 0 (front k)))
       (source_params 0 op.params)
-      ∙ ap (λ l. op.params ++ l) (defined_params op.result.name 0 0 (front k))
+      ∙ ap (λ l. op.params ++ l) (defined_params (result_names op) 0 0 (front k))
 
   -- the rest
   abbrev back : ℕ → List Param
@@ -106,13 +103,13 @@ module _ (op : Operation) (meets : OperationMeets op) where
   laid_knows k m is name = ap kind_in (is.at name ∙ first_found k name)
       ∙ sym (found_kind (first_lays k) name) ∙ ap (λ ps. kind_among ps name) (front_params k)
 
-  few : (k : Kind) (j : ℕ) → count_by (is_scratch op.result.name k) (front j) ≤ 128
+  few : (k : Kind) (j : ℕ) → count_by (is_scratch (result_names op) k) (front j) ≤ 128
   few k j =
       omega (
         arith,
         (scratch_is_small op meets).names k,
-        ap (count_by (is_scratch op.result.name k)) (whole j),
-        sum_by-append (λ (q : Param). cond (is_scratch op.result.name k q) 1 0) (front j) (back j),
+        ap (count_by (is_scratch (result_names op) k)) (whole j),
+        sum_by-append (λ (q : Param). cond (is_scratch (result_names op) k q) 1 0) (front j) (back j),
       )
 
   pub laid_bits : (k : ℕ) (m : NameMap) → IsLaidTo op k m → m.free_bit ≤ 128
@@ -124,47 +121,47 @@ module _ (op : Operation) (meets : OperationMeets op) where
   -- one statement more
   pub laid_more : (k : ℕ) (s : Statement) (old new : NameMap)
       → take (k + 1) op.body ≡ take k op.body ++ s ∷ [] → IsLaidTo op k old
-      → Lays op.result.name (defines (op.params ++ front k) s) old new → IsLaidTo op (k + 1) new
+      → Lays (result_names op) (defines (op.params ++ front k) s) old new → IsLaidTo op (k + 1) new
   laid_more k s old new e is h =
       let d = defines (op.params ++ front k) s in
       let more : front (k + 1) ≡ front k ++ d =
       ap (body_defines op.params) e ∙ body_defines-append op.params (take k op.body) (s ∷ [])
       ∙ ap (λ l. front k ++ l) (append-nil d) in
-      let bits' : old.free_bit ≡ 0 + count_by (is_scratch op.result.name Bit) (front k) =
+      let bits' : old.free_bit ≡ 0 + count_by (is_scratch (result_names op) Bit) (front k) =
       omega (arith, is.bits) in
-      let words' : old.free_word ≡ 0 + count_by (is_scratch op.result.name Word) (front k) =
+      let words' : old.free_word ≡ 0 + count_by (is_scratch (result_names op) Word) (front k) =
       omega (arith, is.words) in
-      let b0 = 0 + count_by (is_scratch op.result.name Bit) (front k) in
-      let w0 = 0 + count_by (is_scratch op.result.name Word) (front k) in
+      let b0 = 0 + count_by (is_scratch (result_names op) Bit) (front k) in
+      let w0 = 0 + count_by (is_scratch (result_names op) Word) (front k) in
       record {
         at = λ n.
             h.at n
             ∙ placed_same (slots_of old) (placed (λ m. None) (first_lays k))
-            (defined_lays op.result.name old.free_bit old.free_word d) is.at n
+            (defined_lays (result_names op) old.free_bit old.free_word d) is.at n
             ∙ ap (λ b. placed (placed (λ m. None) (first_lays k))
-            (defined_lays op.result.name b old.free_word d) n) bits'
+            (defined_lays (result_names op) b old.free_word d) n) bits'
             ∙ ap (λ w. placed (placed (λ m. None) (first_lays k))
-            (defined_lays op.result.name b0 w d) n) words'
-            ∙ sym (placed-append (λ m. None) (first_lays k) (defined_lays op.result.name b0 w0 d) n)
+            (defined_lays (result_names op) b0 w d) n) words'
+            ∙ sym (placed-append (λ m. None) (first_lays k) (defined_lays (result_names op) b0 w0 d) n)
             ∙ ap (λ l. placed (λ m. None) l n)
-            (append_assoc (source_lays 0 op.params) (defined_lays op.result.name 0 0 (front k))
-            (defined_lays op.result.name b0 w0 d)
+            (append_assoc (source_lays 0 op.params) (defined_lays (result_names op) 0 0 (front k))
+            (defined_lays (result_names op) b0 w0 d)
             ∙ ap (λ l. source_lays 0 op.params
-            ++ l) (sym (defined_lays-append op.result.name 0 0 (front k) d)
-            ∙ ap (defined_lays op.result.name 0 0) (sym more)));
+            ++ l) (sym (defined_lays-append (result_names op) 0 0 (front k) d)
+            ∙ ap (defined_lays (result_names op) 0 0) (sym more)));
         bits = omega (
           arith,
           h.bits,
           is.bits,
-          ap (count_by (is_scratch op.result.name Bit)) more,
-          sum_by-append (λ (q : Param). cond (is_scratch op.result.name Bit q) 1 0) (front k) d,
+          ap (count_by (is_scratch (result_names op) Bit)) more,
+          sum_by-append (λ (q : Param). cond (is_scratch (result_names op) Bit q) 1 0) (front k) d,
         );
         words = omega (
           arith,
           h.words,
           is.words,
-          ap (count_by (is_scratch op.result.name Word)) more,
-          sum_by-append (λ (q : Param). cond (is_scratch op.result.name Word q) 1 0) (front k) d,
+          ap (count_by (is_scratch (result_names op) Word)) more,
+          sum_by-append (λ (q : Param). cond (is_scratch (result_names op) Word q) 1 0) (front k) d,
         );
       }
 
@@ -175,9 +172,9 @@ module _ (op : Operation) (meets : OperationMeets op) where
       ap (body_defines op.params) (take_all k op.body le) in
       record {
         at = λ name. is.at name ∙ first_found k name
-            ∙ ap (λ l. found (source_lays 0 op.params ++ defined_lays op.result.name 0 0 l) name) e;
-        bits = is.bits ∙ ap (count_by (is_scratch op.result.name Bit)) e;
-        words = is.words ∙ ap (count_by (is_scratch op.result.name Word)) e;
+            ∙ ap (λ l. found (source_lays 0 op.params ++ defined_lays (result_names op) 0 0 l) name) e;
+        bits = is.bits ∙ ap (count_by (is_scratch (result_names op) Bit)) e;
+        words = is.words ∙ ap (count_by (is_scratch (result_names op) Word)) e;
       }
 
 pub statement_short : (op : Operation) (items : List Stmt) (k : ℕ) (x : Stmt) → OperationMeets op

@@ -12,7 +12,7 @@ use Rattle.loop_ir.specs.declared.ir.Space.TheVariants.{Result}
 use Rattle.loop_ir.specs.declared.names.Slot.{Slot}
 use Rattle.uprog_gen.specs.Laying.{kind_in}
 use Rattle.uprog_gen.specs.Layout.{Lay, slot, source_lays, is_scratch, scratch_slot, own_slot}
-use Rattle.uprog_gen.specs.Layout.{defined_lays, found}
+use Rattle.uprog_gen.specs.Layout.{place_in, defined_lays, found}
 
 abbrev pub lay : List ℕ → Slot → Lay
 lay name x = record { name = name; slot = x }
@@ -107,24 +107,25 @@ found-append (l ∷ ls) ms name =
     (λ e. refl) (λ e. found-append ls ms name)
 
 -- the kinds
-own_kind : (result : List ℕ) (b w : ℕ) (p : Param) → (own_slot result b w p).kind ≡ p.kind
-own_kind result b w p = cases (bytes_eq p.name result) p.kind
+own_kind : (results : List (List ℕ)) (b w : ℕ) (p : Param) → (own_slot results b w p).kind ≡ p.kind
+own_kind results b w p = cases (is_among results p.name) (place_in results p.name) p.kind
   where
-    cases : (c : Bool) (k : Kind) → (cond c (slot Result 0 k) (scratch_slot b w k)).kind ≡ k
-    cases true k = refl
-    cases false Word = refl
-    cases false Bit = refl
+    cases : (c : Bool) (j : ℕ) (k : Kind)
+        → (cond c (slot Result j k) (scratch_slot b w k)).kind ≡ k
+    cases true j k = refl
+    cases false j Word = refl
+    cases false j Bit = refl
 
 pub source_params : (k : ℕ) (ps : List Param) → params_of (source_lays k ps) ≡ ps
 source_params k [] = refl
 source_params k (p ∷ ps) = ap (λ l. p ∷ l) (source_params (k + 1) ps)
 
-pub defined_params : (result : List ℕ) (b w : ℕ) (ps : List Param)
-    → params_of (defined_lays result b w ps) ≡ ps
-defined_params result b w [] = refl
-defined_params result b w (p ∷ ps) =
-    let b' = cond (is_scratch result Bit p) (b + 1) b in
-    let w' = cond (is_scratch result Word p) (w + 1) w in
-    ap (λ (k : Kind). record { name = p.name; kind = k } ∷ params_of (defined_lays result b' w' ps))
-    (own_kind result b w p)
-    ∙ ap (λ l. p ∷ l) (defined_params result b' w' ps)
+pub defined_params : (results : List (List ℕ)) (b w : ℕ) (ps : List Param)
+    → params_of (defined_lays results b w ps) ≡ ps
+defined_params results b w [] = refl
+defined_params results b w (p ∷ ps) =
+    let b' = cond (is_scratch results Bit p) (b + 1) b in
+    let w' = cond (is_scratch results Word p) (w + 1) w in
+    ap (λ (k : Kind). record { name = p.name; kind = k } ∷ params_of (defined_lays results b' w' ps))
+    (own_kind results b w p)
+    ∙ ap (λ l. p ∷ l) (defined_params results b' w' ps)

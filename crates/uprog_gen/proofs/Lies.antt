@@ -3,11 +3,12 @@ use Rattle.std.proofs.Common.{◌≡◌, ℕ, suc, ◌+◌, ◌<◌, ◌≤◌, 
 use Rattle.std.proofs.Common.{[], ◌∷◌, ◌++◌, map, Some, refl, sym, ap, ◌∙◌, arith, bytes_eq, ◌⊎◌}
 use Rattle.std.proofs.Common.{inl, inr}
 use Rattle.std.proofs.lemmas.List.Sums.{sum_by-cons}
-use Rattle.std.specs.Prelude.{slice_get, count_by}
+use Rattle.std.specs.Prelude.{◌||◌, slice_get, count_by}
 use Rattle.op_text.specs.declared.tree.Kind.{Kind}
 use Rattle.op_text.specs.declared.tree.Kind.TheVariants.{Word, Bit}
 use Rattle.op_text.specs.declared.tree.Param.{Param}
-use Rattle.op_text.specs.Language.{Operation}
+use Rattle.op_text.specs.Language.{Operation, result_names}
+use Rattle.op_text.specs.Rules.{is_among}
 use Rattle.op_text.specs.WordOps.{same_kind}
 use Rattle.op_text.specs.Scratch.{body_defines, scratch_names}
 use Rattle.op_text.specs.Spelling.{Each}
@@ -15,7 +16,7 @@ use Rattle.op_rules.proofs.Names.{same_name, each_map}
 use Rattle.op_rules.proofs.Ops.{each_append}
 use Rattle.loop_ir.specs.declared.ir.Space.TheVariants.{Result, Source, ScratchBit, ScratchWord}
 use Rattle.uprog_gen.specs.Layout.{Lay, slot, source_lays, is_scratch, scratch_slot, defined_lays}
-use Rattle.uprog_gen.specs.Layout.{lays}
+use Rattle.uprog_gen.specs.Layout.{place_in, lays}
 use Rattle.uprog_gen.proofs.Lays.{lay, IsShared, AreApartLays}
 
 abbrev pub kinds_of : List Param → List Kind
@@ -44,17 +45,35 @@ source_apart k (p ∷ ps) = (
   source_apart (k + 1) ps,
 )
 
--- a name that the body defines: the result, or one in the scratch of these bits and words
-abbrev pub IsDefinedLay : List ℕ → ℕ → ℕ → ℕ → ℕ → Lay → Type 0
-IsDefinedLay result b w bits words m =
-    ((m.slot.space ≡ Result) × (m.slot.which ≡ 0) × (m.name ≡ result))
-    ⊎ (((m.slot.space ≡ ScratchBit) × (m.slot.kind ≡ Bit) × (b ≤ m.slot.which)
-    × (m.slot.which < bits) × (bytes_eq m.name result ≡ false))
-    ⊎ ((m.slot.space ≡ ScratchWord) × (m.slot.kind ≡ Word) × (w ≤ m.slot.which)
-    × (m.slot.which < words) × (bytes_eq m.name result ≡ false)))
+-- two names at one place among others are one
+one_place : (r a b : List ℕ) (rs : List (List ℕ)) (x y : Bool) → bytes_eq r a ≡ x
+    → bytes_eq r b ≡ y → (x || is_among rs a) ≡ true → (y || is_among rs b) ≡ true
+    → cond x 0 (suc (place_in rs a)) ≡ cond y 0 (suc (place_in rs b))
+    → (is_among rs a ≡ true → is_among rs b ≡ true → place_in rs a ≡ place_in rs b → a ≡ b) → a ≡ b
+one_place r a b rs true true p q h g e more = sym (same_name r a p) ∙ same_name r b q
+one_place r a b rs true false p q h g e more = absurd (omega (arith, e))
+one_place r a b rs false true p q h g e more = absurd (omega (arith, e))
+one_place r a b rs false false p q h g e more = more h g (omega (arith, e))
 
-abbrev head : Bool → ℕ → ℕ → List ℕ → Kind → Lay
-head c b w name k = lay name (cond c (slot Result 0 k) (scratch_slot b w k))
+place_same : (rs : List (List ℕ)) (a b : List ℕ) → is_among rs a ≡ true → is_among rs b ≡ true
+    → place_in rs a ≡ place_in rs b → a ≡ b
+place_same [] a b h g e = absurd (cc)
+place_same (r ∷ rs) a b h g e = one_place r a b rs (bytes_eq r a) (bytes_eq r b) refl refl h g e
+    (place_same rs a b)
+
+-- a name that the body defines: a results, or one in the scratch of these bits and words
+abbrev pub IsDefinedLay : List (List ℕ) → ℕ → ℕ → ℕ → ℕ → Lay → Type 0
+IsDefinedLay results b w bits words m =
+    ((m.slot.space ≡ Result) × (m.slot.which ≡ place_in results m.name)
+    × (is_among results m.name ≡ true))
+    ⊎ (((m.slot.space ≡ ScratchBit) × (m.slot.kind ≡ Bit) × (b ≤ m.slot.which)
+    × (m.slot.which < bits) × (is_among results m.name ≡ false))
+    ⊎ ((m.slot.space ≡ ScratchWord) × (m.slot.kind ≡ Word) × (w ≤ m.slot.which)
+    × (m.slot.which < words) × (is_among results m.name ≡ false)))
+
+abbrev head : List (List ℕ) → Bool → ℕ → ℕ → List ℕ → Kind → Lay
+head results c b w name k = lay name (cond c (slot Result (place_in results name) k)
+    (scratch_slot b w k))
 
 abbrev next : Kind → Bool → ℕ → Kind → ℕ
 next j c b k = cond (same_kind k j && not c) (b + 1) b
@@ -67,81 +86,82 @@ next_more : (t : Bool) (b : ℕ) → b ≤ cond t (b + 1) b
 next_more true b = omega arith
 next_more false b = omega arith
 
-head_is : (c : Bool) (k : Kind) (name result : List ℕ) (b w bits words x y : ℕ)
-    → bytes_eq name result ≡ c → next Bit c b k + x ≤ bits → next Word c w k + y ≤ words
-    → IsDefinedLay result b w bits words (head c b w name k)
-head_is true k name result b w bits words x y e f g = inl (refl, refl, same_name name result e)
-head_is false Bit name result b w bits words x y e f g =
+head_is : (c : Bool) (k : Kind) (name : List ℕ) (results : List (List ℕ))
+    (b w bits words x y : ℕ) → is_among results name ≡ c → next Bit c b k + x ≤ bits → next Word c w k + y ≤ words
+    → IsDefinedLay results b w bits words (head results c b w name k)
+head_is true k name results b w bits words x y e f g = inl (refl, refl, e)
+head_is false Bit name results b w bits words x y e f g =
     inr (inl (refl, refl, omega arith, omega (arith, f), e))
-head_is false Word name result b w bits words x y e f g =
+head_is false Word name results b w bits words x y e f g =
     inr (inr (refl, refl, omega arith, omega (arith, g), e))
 
-head_apart : (c : Bool) (k : Kind) (name result : List ℕ) (b w bits words : ℕ) (m : Lay)
-    → bytes_eq name result ≡ c → IsDefinedLay result (next Bit c b k) (next Word c w k) bits words m
-    → IsShared (head c b w name k) m → name ≡ m.name
-head_apart true k name result b w bits words m e (inl h) s = same_name name result e ∙ sym h.2
-head_apart true k name result b w bits words m e (inr (inl h)) s = absurd (cc (s.0, h.0))
-head_apart true k name result b w bits words m e (inr (inr h)) s = absurd (cc (s.0, h.0))
-head_apart false Bit name result b w bits words m e (inl h) s = absurd (cc (s.0, h.0))
-head_apart false Bit name result b w bits words m e (inr (inl h)) s =
+head_apart : (c : Bool) (k : Kind) (name : List ℕ) (results : List (List ℕ))
+    (b w bits words : ℕ) (m : Lay) → is_among results name ≡ c → IsDefinedLay results (next Bit c b k) (next Word c w k) bits words m
+    → IsShared (head results c b w name k) m → name ≡ m.name
+head_apart true k name results b w bits words m e (inl h) s = place_same results name m.name e h.2
+    (s.1 ∙ h.1)
+head_apart true k name results b w bits words m e (inr (inl h)) s = absurd (cc (s.0, h.0))
+head_apart true k name results b w bits words m e (inr (inr h)) s = absurd (cc (s.0, h.0))
+head_apart false Bit name results b w bits words m e (inl h) s = absurd (cc (s.0, h.0))
+head_apart false Bit name results b w bits words m e (inr (inl h)) s =
     absurd (omega (arith, s.1, h.2))
-head_apart false Bit name result b w bits words m e (inr (inr h)) s = absurd (cc (s.0, h.0))
-head_apart false Word name result b w bits words m e (inl h) s = absurd (cc (s.0, h.0))
-head_apart false Word name result b w bits words m e (inr (inl h)) s = absurd (cc (s.0, h.0))
-head_apart false Word name result b w bits words m e (inr (inr h)) s =
+head_apart false Bit name results b w bits words m e (inr (inr h)) s = absurd (cc (s.0, h.0))
+head_apart false Word name results b w bits words m e (inl h) s = absurd (cc (s.0, h.0))
+head_apart false Word name results b w bits words m e (inr (inl h)) s = absurd (cc (s.0, h.0))
+head_apart false Word name results b w bits words m e (inr (inr h)) s =
     absurd (omega (arith, s.1, h.2))
 
 -- further on
-wider : (result : List ℕ) (b w b' w' bits words : ℕ) (m : Lay) → b ≤ b' → w ≤ w'
-    → IsDefinedLay result b' w' bits words m → IsDefinedLay result b w bits words m
-wider result b w b' w' bits words m f g (inl h) = inl h
-wider result b w b' w' bits words m f g (inr (inl h)) =
+wider : (results : List (List ℕ)) (b w b' w' bits words : ℕ) (m : Lay) → b ≤ b' → w ≤ w'
+    → IsDefinedLay results b' w' bits words m → IsDefinedLay results b w bits words m
+wider results b w b' w' bits words m f g (inl h) = inl h
+wider results b w b' w' bits words m f g (inr (inl h)) =
     inr (inl (h.0, h.1, omega (arith, f, h.2), h.3, h.4))
-wider result b w b' w' bits words m f g (inr (inr h)) =
+wider results b w b' w' bits words m f g (inr (inr h)) =
     inr (inr (h.0, h.1, omega (arith, g, h.2), h.3, h.4))
 
-module _ (result : List ℕ) (bits words : ℕ) where
+module _ (results : List (List ℕ)) (bits words : ℕ) where
   abbrev fits : Kind → List Param → ℕ → ℕ → Type 0
-  fits k ps b limit = b + count_by (is_scratch result k) ps ≤ limit
+  fits k ps b limit = b + count_by (is_scratch results k) ps ≤ limit
 
   fits_rest : (k : Kind) (p : Param) (ps : List Param) (b limit : ℕ) → fits k (p ∷ ps) b limit
-      → cond (is_scratch result k p) (b + 1) b + count_by (is_scratch result k) ps ≤ limit
+      → cond (is_scratch results k p) (b + 1) b + count_by (is_scratch results k) ps ≤ limit
   fits_rest k p ps b limit h = omega (
     arith,
     h,
-    next_count (is_scratch result k p) b (count_by (is_scratch result k) ps),
-    sum_by-cons (λ (q : Param). cond (is_scratch result k q) 1 0) p ps,
+    next_count (is_scratch results k p) b (count_by (is_scratch results k) ps),
+    sum_by-cons (λ (q : Param). cond (is_scratch results k q) 1 0) p ps,
   )
 
   pub defined_each : (b w : ℕ) (ps : List Param) → fits Bit ps b bits → fits Word ps w words
-      → Each (IsDefinedLay result b w bits words) (defined_lays result b w ps)
+      → Each (IsDefinedLay results b w bits words) (defined_lays results b w ps)
   defined_each b w [] f g = tt
   defined_each b w (p ∷ ps) f g =
-      let c = bytes_eq p.name result in
+      let c = is_among results p.name in
       let f' = fits_rest Bit p ps b bits f in
       let g' = fits_rest Word p ps w words g in
       let b' = next Bit c b p.kind in
       let w' = next Word c w p.kind in (
-        head_is c p.kind p.name result b w bits words (count_by (is_scratch result Bit) ps)
-            (count_by (is_scratch result Word) ps) refl f' g',
-        each_map (IsDefinedLay result b' w' bits words) (IsDefinedLay result b w bits words)
-            (λ m h. wider result b w b' w' bits words m (next_more (is_scratch result Bit p) b)
-            (next_more (is_scratch result Word p) w) h)
-            (defined_lays result b' w' ps) (defined_each b' w' ps f' g'),
+        head_is c p.kind p.name results b w bits words (count_by (is_scratch results Bit) ps)
+            (count_by (is_scratch results Word) ps) refl f' g',
+        each_map (IsDefinedLay results b' w' bits words) (IsDefinedLay results b w bits words)
+            (λ m h. wider results b w b' w' bits words m (next_more (is_scratch results Bit p) b)
+            (next_more (is_scratch results Word p) w) h)
+            (defined_lays results b' w' ps) (defined_each b' w' ps f' g'),
       )
 
   pub defined_apart : (b w : ℕ) (ps : List Param) → fits Bit ps b bits → fits Word ps w words
-      → AreApartLays (defined_lays result b w ps)
+      → AreApartLays (defined_lays results b w ps)
   defined_apart b w [] f g = tt
   defined_apart b w (p ∷ ps) f g =
-      let c = bytes_eq p.name result in
+      let c = is_among results p.name in
       let f' = fits_rest Bit p ps b bits f in
       let g' = fits_rest Word p ps w words g in
       let b' = next Bit c b p.kind in
       let w' = next Word c w p.kind in (
-        each_map (IsDefinedLay result b' w' bits words) (λ m. IsShared (head c b w p.name p.kind) m
-            → p.name ≡ m.name) (λ m h s. head_apart c p.kind p.name result b w bits words m refl h
-            s) (defined_lays result b' w' ps) (defined_each b' w' ps f' g'),
+        each_map (IsDefinedLay results b' w' bits words) (λ m. IsShared (head results c b w p.name p.kind) m
+            → p.name ≡ m.name) (λ m h s. head_apart c p.kind p.name results b w bits words m refl h
+            s) (defined_lays results b' w' ps) (defined_each b' w' ps f' g'),
         defined_apart b' w' ps f' g',
       )
 
@@ -157,7 +177,7 @@ apart-append (l ∷ ls) ms f g h = (
 abbrev pub LiesIn : Operation → Lay → Type 0
 LiesIn op m =
     ((m.slot.space ≡ Source) × (slice_get (kinds_of op.params) m.slot.which ≡ Some m.slot.kind))
-    ⊎ IsDefinedLay op.result.name 0 0 (scratch_names Bit op) (scratch_names Word op) m
+    ⊎ IsDefinedLay (result_names op) 0 0 (scratch_names Bit op) (scratch_names Word op) m
 
 module _ (op : Operation) where
   abbrev defined : List Param
@@ -167,11 +187,11 @@ module _ (op : Operation) where
   sources = source_lays 0 op.params
 
   abbrev own : List Lay
-  own = defined_lays op.result.name 0 0 defined
+  own = defined_lays (result_names op) 0 0 defined
 
-  pub own_each : Each (IsDefinedLay op.result.name 0 0 (scratch_names Bit op)
+  pub own_each : Each (IsDefinedLay (result_names op) 0 0 (scratch_names Bit op)
       (scratch_names Word op)) own
-  own_each = defined_each op.result.name (scratch_names Bit op) (scratch_names Word op) 0 0 defined
+  own_each = defined_each (result_names op) (scratch_names Bit op) (scratch_names Word op) 0 0 defined
       (omega arith) (omega arith)
 
   source_lies : (m : Lay) → IsSourceLay 0 op.params m → LiesIn op m
@@ -185,12 +205,12 @@ module _ (op : Operation) where
   all_lie =
       each_append (LiesIn op) sources own (each_map (IsSourceLay 0 op.params) (LiesIn op)
       source_lies sources (source_each 0 op.params))
-      (each_map (IsDefinedLay op.result.name 0 0 (scratch_names Bit op) (scratch_names Word op))
+      (each_map (IsDefinedLay (result_names op) 0 0 (scratch_names Bit op) (scratch_names Word op))
       (LiesIn op) (λ m h. inr h) own own_each)
 
   -- a source and another name
   other_space : (l m : Lay) → IsSourceLay 0 op.params l
-      → IsDefinedLay op.result.name 0 0 (scratch_names Bit op) (scratch_names Word op) m
+      → IsDefinedLay (result_names op) 0 0 (scratch_names Bit op) (scratch_names Word op) m
       → IsShared l m → l.name ≡ m.name
   other_space l m h (inl d) s = absurd (cc (s.0, h.1, d.0))
   other_space l m h (inr (inl d)) s = absurd (cc (s.0, h.1, d.0))
@@ -199,10 +219,10 @@ module _ (op : Operation) where
   pub all_apart : AreApartLays (lays op)
   all_apart =
       apart-append sources own (source_apart 0 op.params)
-      (defined_apart op.result.name (scratch_names Bit op) (scratch_names Word op) 0 0 defined
+      (defined_apart (result_names op) (scratch_names Bit op) (scratch_names Word op) 0 0 defined
       (omega arith) (omega arith))
       (each_map (IsSourceLay 0 op.params) (λ l. Each (λ m. IsShared l m → l.name ≡ m.name) own)
-      (λ l h. each_map (IsDefinedLay op.result.name 0 0 (scratch_names Bit op)
+      (λ l h. each_map (IsDefinedLay (result_names op) 0 0 (scratch_names Bit op)
       (scratch_names Word op)) (λ m. IsShared l m
       → l.name ≡ m.name) (λ m d s. other_space l m h d s) own own_each) sources
       (source_each 0 op.params))

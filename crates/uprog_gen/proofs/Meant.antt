@@ -1,6 +1,6 @@
 -- The loop programs of an operation's statements mean the operation, within its ceiling and its own
 -- rows.
-use Rattle.std.proofs.Common.{◌≡◌, ℕ, ◌+◌, ◌*◌, ◌<◌, ◌≤◌, Bool, true, false, cond, List, [], ◌∷◌}
+use Rattle.std.proofs.Common.{◌≡◌, ℕ, suc, ◌+◌, ◌*◌, ◌<◌, ◌≤◌, Bool, true, false, cond, List, [], ◌∷◌}
 use Rattle.std.proofs.Common.{◌++◌, map, Option, Some, None, refl, sym, ap, ◌∙◌, subst, arith}
 use Rattle.std.proofs.Common.{bytes_eq, inl, inr}
 use Rattle.std.specs.List.{range_with_len, AllByRecursion}
@@ -11,16 +11,16 @@ use Rattle.bit_rows.specs.declared.TheConstants.{WIDTH_MAX}
 use Rattle.bit_rows.specs.Bits.{value}
 use Rattle.op_text.specs.declared.tree.Kind.{Kind}
 use Rattle.op_text.specs.declared.tree.Param.{Param}
-use Rattle.op_text.specs.Language.{Statement, Compute, Visit, Operation}
+use Rattle.op_text.specs.Language.{Statement, Compute, Visit, Operation, results, result_names}
 use Rattle.op_text.specs.Rules.{is_among, kind_among}
 use Rattle.op_text.specs.Values as text
 use Rattle.op_text.specs.Meaning.{Held, width, holding, changed, with_sources, holds_nothing}
-use Rattle.op_text.specs.Meaning.{outcome, meaning}
+use Rattle.op_text.specs.Meaning.{number, after_op, meaning}
 use Rattle.op_text.specs.Scratch.{defines, body_defines, kind_of, names_width, op_ceiling}
 use Rattle.op_text.specs.Scratch.{statement_ceiling, body_ceiling, need_inside, bits_inside}
 use Rattle.op_text.specs.Scratch.{words_inside, scratch_bits, scratch_words}
 use Rattle.op_text.specs.Spelling.{Each}
-use Rattle.op_rules.specs.Meets.{names_of, Differ, IsKnown, Context, behind, at_start}
+use Rattle.op_rules.specs.Meets.{IsNew, names_of, Differ, IsKnown, Context, behind, at_start}
 use Rattle.op_rules.specs.Meets.{OperationMeets}
 use Rattle.op_rules.specs.Laws.{all_names}
 use Rattle.op_rules.proofs.Names.{same_name, is_same, or_first, or_second}
@@ -39,15 +39,15 @@ use Rattle.loop_ir.specs.Lowered.{HoldsAt, IsStatementRow, kind_at, args_width, 
 use Rattle.uprog_gen.specs.Where.{IsSpot}
 use Rattle.uprog_gen.specs.Does.{after_statements, spot_number, numbers_in, AreCheap, total}
 use Rattle.uprog_gen.specs.Does.{Means}
-use Rattle.uprog_gen.specs.Layout.{IsLayout, slot, source_lays, defined_lays, found}
+use Rattle.uprog_gen.specs.Layout.{IsLayout, slot, source_lays, place_in, defined_lays, found}
 use Rattle.uprog_gen.specs.Programs.{AreLowered, ceilings}
 use Rattle.uprog_gen.specs.Laying.{kind_in}
 use Rattle.uprog_gen.proofs.Lays.{lay, by_bool, some_is, found-append, or_else, found_kind}
 use Rattle.uprog_gen.proofs.Lays.{source_params}
 use Rattle.uprog_gen.proofs.Lies.{LiesIn, kinds_of}
-use Rattle.uprog_gen.proofs.Among.{changed_other}
+use Rattle.uprog_gen.proofs.Among.{changed_other, each_among, or_left, or_right}
 use Rattle.uprog_gen.proofs.Scene.{width_same, kind_known, known_among, kind_first, slot_there}
-use Rattle.uprog_gen.proofs.Scene.{slot_lies, slot_own, slot_spots, result_known}
+use Rattle.uprog_gen.proofs.Scene.{slot_lies, slot_own, slot_spots, results_known, shape_results}
 use Rattle.uprog_gen.proofs.Stage.{Stage, first_stage, next_stage, known_slot, bits_need}
 use Rattle.uprog_gen.proofs.Stage.{words_need}
 use Rattle.uprog_gen.proofs.Numbers.{value_same, bits_of_value}
@@ -151,6 +151,34 @@ lower_ceiling shape code low high meaning e does = record {
   keeps = does.keeps;
 }
 
+abbrev params_names : List Param → List (List ℕ)
+params_names ps = map (λ (p : Param). p.name) ps
+
+zero_on : (j : ℕ) → j ≡ 0 + j
+zero_on j = omega arith
+
+-- a later name has a place behind the first
+later : (w : ℕ) (x name : List ℕ) (names : List (List ℕ)) → is_among names x ≡ false
+    → is_among names name ≡ true
+    → w + place_in (x ∷ names) name ≡ w + 1 + place_in names name
+later w x name names new among =
+    by_bool (λ b. bytes_eq x name ≡ b → w + cond b 0 (suc (place_in names name))
+    ≡ w + 1 + place_in names name) (bytes_eq x name)
+    (λ s e. absurd (cc (
+      new,
+      among,
+      ap (is_among names) (same_name x name s),
+    ))) (λ s e. omega arith) refl
+
+-- what holds of each known name holds of each of these
+each_held : (known : List Param) (P : List ℕ → Type 0) (ps : List Param)
+    → Each (λ (r : Param). kind_among known r.name ≡ Some r.kind) ps
+    → ((name : List ℕ) → is_among (names_of known) name ≡ true → P name)
+    → Each (λ (r : Param). P r.name) ps
+each_held known P [] h f = tt
+each_held known P (p ∷ ps) h f =
+    (f p.name (known_among known p.name p.kind h.0), each_held known P ps h.1 f)
+
 module _ (op : Operation) (meets : OperationMeets op) (slots : Slots) (free_bit free_word : ℕ)
     (is : IsLayout op slots free_bit free_word) where
   source_slot : (name : List ℕ) → is_among (names_of op.params) name ≡ true
@@ -159,7 +187,7 @@ module _ (op : Operation) (meets : OperationMeets op) (slots : Slots) (free_bit 
       let k = kind_known op.params name h in
       let x = slot_there op meets slots free_bit free_word is name k.0
       (kind_first op.params (body_defines op.params op.body) name k.0 k.1) in
-      let own = defined_lays op.result.name 0 0 (body_defines op.params op.body) in (
+      let own = defined_lays (result_names op) 0 0 (body_defines op.params op.body) in (
         x.0,
         x.1,
         by (found (source_lays 0 op.params) name) refl k.0 k.1 x.0
@@ -169,7 +197,7 @@ module _ (op : Operation) (meets : OperationMeets op) (slots : Slots) (free_bit 
       by : (o : Option Slot) → found (source_lays 0 op.params) name ≡ o → (k : Kind)
           → kind_among op.params name ≡ Some k → (x : Slot)
           → or_else (found (source_lays 0 op.params) name)
-          (found (defined_lays op.result.name 0 0 (body_defines op.params op.body)) name) ≡ Some x
+          (found (defined_lays (result_names op) 0 0 (body_defines op.params op.body)) name) ≡ Some x
           → found (source_lays 0 op.params) name ≡ Some x
       by None e k h x f =
           absurd (cc (
@@ -179,7 +207,7 @@ module _ (op : Operation) (meets : OperationMeets op) (slots : Slots) (free_bit 
           ))
       by (Some y) e k h x f =
           e ∙ sym (ap (λ o.
-          or_else o (found (defined_lays op.result.name 0 0 (body_defines op.params op.body)) name))
+          or_else o (found (defined_lays (result_names op) 0 0 (body_defines op.params op.body)) name))
           e) ∙ f
 
   first_holds : (n : ℕ) (bits : Spots) → HoldsAll n slots
@@ -192,32 +220,75 @@ module _ (op : Operation) (meets : OperationMeets op) (slots : Slots) (free_bit 
       name) bits) (sym x.1) (sources_hold n 0 op.params holds_nothing bits meets.params_differ
       name x.0 x.2)
 
-  -- the result stands in its own rows
-  pub result_slot : slots op.result.name ≡ Some (slot Result 0 op.result.kind)
-  result_slot =
-      let x = slot_there op meets slots free_bit free_word is op.result.name op.result.kind
-      (result_known op meets slots free_bit free_word is) in
-      x.1 ∙ ap Some (by x.0 x.1 x.2 (slot_lies op meets slots free_bit free_word is op.result.name
-      x.0 x.1))
+  -- each result stands in its own rows
+  result_slot : (name : List ℕ) (k : Kind) → is_among (result_names op) name ≡ true
+      → kind_among (all_names op) name ≡ Some k
+      → slots name ≡ Some (slot Result (place_in (result_names op) name) k)
+  result_slot name k among known =
+      let x = slot_there op meets slots free_bit free_word is name k known in
+      x.1 ∙ ap Some (by x.0 x.1 x.2 (slot_lies op meets slots free_bit free_word is name x.0 x.1))
     where
-      by : (x : Slot) → slots op.result.name ≡ Some x → x.kind ≡ op.result.kind
-          → LiesIn op (lay op.result.name x) → x ≡ slot Result 0 op.result.kind
-      by x e k (inl h) =
-          absurd (subst IsOwn h.0 (slot_own op meets slots free_bit free_word is op.result.name x
-          meets.result_new e))
-      by x e k (inr (inl h)) = rw (← h.0, ← h.1, ← k) refl
-      by x e k (inr (inr (inl h))) = absurd (cc (h.4, is_same op.result.name op.result.name refl))
-      by x e k (inr (inr (inr h))) = absurd (cc (h.4, is_same op.result.name op.result.name refl))
+      by : (x : Slot) → slots name ≡ Some x → x.kind ≡ k → LiesIn op (lay name x)
+          → x ≡ slot Result (place_in (result_names op) name) k
+      by x e j (inl h) =
+          absurd (subst IsOwn h.0 (slot_own op meets slots free_bit free_word is name x
+          (each_among (IsNew (names_of op.params)) (result_names op) name meets.results_new among)
+          e))
+      by x e j (inr (inl h)) = rw (← h.0, ← h.1, ← j) refl
+      by x e j (inr (inr (inl h))) = absurd (cc (h.4, among))
+      by x e j (inr (inr (inr h))) = absurd (cc (h.4, among))
+
+  -- these stand in the results' rows from this one on
+  AreOwn : ℕ → List Param → Type 0
+  AreOwn w [] = Unit {0}
+  AreOwn w (p ∷ ps) = (slots p.name ≡ Some (slot Result w p.kind)) × AreOwn (w + 1) ps
+
+  own_from : (w : ℕ) (ps : List Param) → Differ (params_names ps)
+      → Each (λ (r : Param). kind_among (all_names op) r.name ≡ Some r.kind) ps
+      → ((name : List ℕ) (k : Kind) → is_among (params_names ps) name ≡ true
+      → kind_among (all_names op) name ≡ Some k
+      → slots name ≡ Some (slot Result (w + place_in (params_names ps) name) k)) → AreOwn w ps
+  unfolding AreOwn
+  own_from w [] differ known at = tt
+  own_from w (p ∷ ps) differ known at =
+      let names = params_names ps in
+      let same = is_same p.name p.name refl in
+      let first : w + place_in (p.name ∷ names) p.name ≡ w =
+      (let z : cond (bytes_eq p.name p.name) 0 (suc (place_in names p.name)) ≡ 0 =
+      ap (λ b. cond b 0 (suc (place_in names p.name))) same in omega (arith, z)) in (
+        at p.name p.kind (or_left (bytes_eq p.name p.name) (is_among names p.name) same) known.0
+            ∙ ap (λ j. Some (slot Result j p.kind)) first,
+        own_from (w + 1) ps differ.1 known.1 (λ name k among e.
+            at name k (or_right (bytes_eq p.name name) (is_among names name) among) e
+            ∙ ap (λ j. Some (slot Result j k)) (later w p.name name names differ.0 among)),
+      )
+
+  results_own : AreOwn 0 (results op)
+  results_own = own_from 0 (results op) meets.results_differ
+      (results_known op meets slots free_bit free_word is) (λ name k among e.
+      result_slot name k among e ∙ ap (λ j. Some (slot Result j k)) (zero_on
+      (place_in (result_names op) name)))
 
   -- so the last rounds leave the meaning there
-  result_means : (n : ℕ) (held : Held) (bits : Spots)
-      → HoldsAt n (Some (slot Result 0 op.result.kind)) held bits
-      → spot_number Result 0 (shape.width op.result.kind n) bits ≡ text.value held.bits
-  result_means n held bits h =
-      let all : ℕ → List Bool = λ w. map (λ i.
-      bits (record { space = Result; which = 0; index = i })) (range_with_len 0 w) in
-      ap (λ w. value (all w)) (sym (width_same op.result.kind n))
-      ∙ sym (value_same (all (width n op.result.kind))) ∙ ap text.value (sym h.1)
+  result_means : (n w : ℕ) (k : Kind) (held : Held) (bits : Spots)
+      → HoldsAt n (Some (slot Result w k)) held bits
+      → spot_number Result w (shape.width k n) bits ≡ text.value held.bits
+  result_means n w k held bits h =
+      let all : ℕ → List Bool = λ u. map (λ i.
+      bits (record { space = Result; which = w; index = i })) (range_with_len 0 u) in
+      ap (λ u. value (all u)) (sym (width_same k n))
+      ∙ sym (value_same (all (width n k))) ∙ ap text.value (sym h.1)
+
+  results_mean : (n w : ℕ) (held : List ℕ → Held) (bits : Spots) (ps : List Param) → AreOwn w ps
+      → Each (λ (r : Param). HoldsAt n (slots r.name) (held r.name) bits) ps
+      → numbers_in Result n (kinds_of ps) w bits ≡ map number (map held (params_names ps))
+  unfolding AreOwn
+  results_mean n w held bits [] own h = refl
+  results_mean n w held bits (p ∷ ps) own h =
+      ap (λ v. v ∷ numbers_in Result n (kinds_of ps) (w + 1) bits)
+      (result_means n w p.kind (held p.name) bits
+      (subst (λ (o : Option Slot). HoldsAt n o (held p.name) bits) own.0 h.0))
+      ∙ ap (λ l. number (held p.name) ∷ l) (results_mean n (w + 1) held bits ps own.1 h.1)
 
   row_more : (s : Statement) (n : ℕ) (q : Spot)
       → need_inside bits_inside s + free_bit ≤ scratch_bits op
@@ -265,8 +336,9 @@ module _ (op : Operation) (meets : OperationMeets op) (slots : Slots) (free_bit 
 
   pub ceiling_same : (c : Context) (s : Statement) (rest : List Statement) → Stage op c (s ∷ rest)
       → (n : ℕ) → ceiling_of slots s n ≡ statement_ceiling op_ceiling c.known n s
-  ceiling_same c (Compute target p args) rest st n =
-      ap (op_ceiling p) (args_same c (Compute target p args) rest st n args st.body.0.known)
+  ceiling_same c (Compute target second p args) rest st n =
+      ap (op_ceiling p) (args_same c (Compute target second p args) rest st n args
+      st.body.0.known)
   ceiling_same c (Visit b) rest st n = refl
 
   all_can : (rest : List Statement) (c : Context) → Stage op c rest
@@ -298,21 +370,20 @@ module _ (op : Operation) (meets : OperationMeets op) (slots : Slots) (free_bit 
 
   pub statements_mean : (ps : List (List (StepOf Block)))
       → AreLowered slots free_bit free_word op.body ps
-      → Means (op_shape op) ps (ceilings op.params op.body)
-      (λ n values. meaning op n values ∷ [])
+      → Means (op_shape op) ps (ceilings op.params op.body) (meaning op)
   statements_mean ps low = record {
     gives = λ n some small bits.
         let sources = numbers_in Source n (kinds_of op.params) 0 bits in
         let first = with_sources n holds_nothing op.params sources in
         let all = body_holds op meets slots free_bit free_word is op.body (at_start op)
         (first_stage op meets) ps low n some small first bits (first_holds n bits) in
-        let known = known_among (all_names op) op.result.name op.result.kind
-        (result_known op meets slots free_bit free_word is) in
         let last = after_statements n ps bits in
-        let h : HoldsAt n (slots op.result.name) (outcome op n sources) last =
-        all op.result.name known in
-        ap (λ v. v ∷ []) (result_means n (outcome op n sources) last
-        (subst (λ (o : Option Slot). HoldsAt n o (outcome op n sources) last) result_slot h));
+        let held = after_op op n sources in
+        let each = each_held (all_names op) (λ name. HoldsAt n (slots name) (held name) last)
+        (results op) (results_known op meets slots free_bit free_word is)
+        (λ name known. all name known) in
+        ap (λ l. numbers_in Result n l 0 last) (shape_results op)
+        ∙ results_mean n 0 held last (results op) results_own each;
     cheap = λ n some small. all_cheap n some small op.body (at_start op) (first_stage op meets) ps
         low;
   }

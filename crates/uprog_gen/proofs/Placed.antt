@@ -54,58 +54,58 @@ placed_found f (l ∷ ls) d n =
     (λ e h. ap (or_else (found ls n)) (changed_other f l.name n (Some l.slot) e))
     refl
 
-module _ (result : List ℕ) where
+module _ (results : List (List ℕ)) where
   abbrev bits_in : List Param → ℕ
-  bits_in ps = count_by (is_scratch result Bit) ps
+  bits_in ps = count_by (is_scratch results Bit) ps
 
   abbrev words_in : List Param → ℕ
-  words_in ps = count_by (is_scratch result Word) ps
+  words_in ps = count_by (is_scratch results Word) ps
 
   stepped : (t : Bool) (b x : ℕ) → cond t (b + 1) b + x ≡ b + (cond t 1 0 + x)
   stepped true b x = omega arith
   stepped false b x = omega arith
 
   pub defined_lays-append : (b w : ℕ) (ps qs : List Param)
-      → defined_lays result b w (ps ++ qs) ≡ defined_lays result b w ps
-      ++ defined_lays result (b + bits_in ps) (w + words_in ps) qs
+      → defined_lays results b w (ps ++ qs) ≡ defined_lays results b w ps
+      ++ defined_lays results (b + bits_in ps) (w + words_in ps) qs
   defined_lays-append b w [] qs =
       let e : b ≡ b + 0 = omega arith in
       let f : w ≡ w + 0 = omega arith in
-      ap (λ x. defined_lays result x w qs) e ∙ ap (λ y. defined_lays result (b + 0) y qs) f
+      ap (λ x. defined_lays results x w qs) e ∙ ap (λ y. defined_lays results (b + 0) y qs) f
   defined_lays-append b w (p ∷ ps) qs =
-      let b' = cond (is_scratch result Bit p) (b + 1) b in
-      let w' = cond (is_scratch result Word p) (w + 1) w in
+      let b' = cond (is_scratch results Bit p) (b + 1) b in
+      let w' = cond (is_scratch results Word p) (w + 1) w in
       let e : b' + bits_in ps ≡ b + bits_in (p ∷ ps) =
-      stepped (is_scratch result Bit p) b (bits_in ps)
-      ∙ ap (λ x. b + x) (sym (sum_by-cons (λ (q : Param). cond (is_scratch result Bit q) 1 0) p
+      stepped (is_scratch results Bit p) b (bits_in ps)
+      ∙ ap (λ x. b + x) (sym (sum_by-cons (λ (q : Param). cond (is_scratch results Bit q) 1 0) p
       ps)) in
       let f : w' + words_in ps ≡ w + words_in (p ∷ ps) =
-      stepped (is_scratch result Word p) w (words_in ps)
-      ∙ ap (λ x. w + x) (sym (sum_by-cons (λ (q : Param). cond (is_scratch result Word q) 1 0) p
+      stepped (is_scratch results Word p) w (words_in ps)
+      ∙ ap (λ x. w + x) (sym (sum_by-cons (λ (q : Param). cond (is_scratch results Word q) 1 0) p
       ps)) in
-      ap (λ (l : List Lay). record { name = p.name; slot = own_slot result b w p }
+      ap (λ (l : List Lay). record { name = p.name; slot = own_slot results b w p }
       ∷ l) (defined_lays-append b' w' ps qs
-      ∙ ap (λ x. defined_lays result b' w' ps ++ defined_lays result x (w' + words_in ps) qs) e
-      ∙ ap (λ y. defined_lays result b' w' ps
-      ++ defined_lays result (b + bits_in (p ∷ ps)) y qs) f)
+      ∙ ap (λ x. defined_lays results b' w' ps ++ defined_lays results x (w' + words_in ps) qs) e
+      ∙ ap (λ y. defined_lays results b' w' ps
+      ++ defined_lays results (b + bits_in (p ∷ ps)) y qs) f)
 
-  pub lays_none : (m : NameMap) → Lays result [] m m
+  pub lays_none : (m : NameMap) → Lays results [] m m
   lays_none m = record { at = λ n. refl; bits = omega arith; words = omega arith }
 
-  pub lays_then : (ps qs : List Param) (a b c : NameMap) → Lays result ps a b → Lays result qs b c
-      → Lays result (ps ++ qs) a c
+  pub lays_then : (ps qs : List Param) (a b c : NameMap) → Lays results ps a b → Lays results qs b c
+      → Lays results (ps ++ qs) a c
   lays_then ps qs a b c f g = record {
     at = λ n.
         g.at n
         ∙ placed_same (slots_of b) (placed (slots_of a)
-        (defined_lays result a.free_bit a.free_word ps))
-        (defined_lays result b.free_bit b.free_word qs) f.at n
-        ∙ ap (λ x. placed (placed (slots_of a) (defined_lays result a.free_bit a.free_word ps))
-        (defined_lays result x b.free_word qs) n) f.bits
-        ∙ ap (λ x. placed (placed (slots_of a) (defined_lays result a.free_bit a.free_word ps))
-        (defined_lays result (a.free_bit + bits_in ps) x qs) n) f.words
-        ∙ sym (placed-append (slots_of a) (defined_lays result a.free_bit a.free_word ps)
-        (defined_lays result (a.free_bit + bits_in ps) (a.free_word + words_in ps) qs) n)
+        (defined_lays results a.free_bit a.free_word ps))
+        (defined_lays results b.free_bit b.free_word qs) f.at n
+        ∙ ap (λ x. placed (placed (slots_of a) (defined_lays results a.free_bit a.free_word ps))
+        (defined_lays results x b.free_word qs) n) f.bits
+        ∙ ap (λ x. placed (placed (slots_of a) (defined_lays results a.free_bit a.free_word ps))
+        (defined_lays results (a.free_bit + bits_in ps) x qs) n) f.words
+        ∙ sym (placed-append (slots_of a) (defined_lays results a.free_bit a.free_word ps)
+        (defined_lays results (a.free_bit + bits_in ps) (a.free_word + words_in ps) qs) n)
         ∙ ap (λ l. placed (slots_of a) l n) (sym
         (defined_lays-append a.free_bit a.free_word ps qs));
     bits = omega (
@@ -113,14 +113,14 @@ module _ (result : List ℕ) where
       g.bits,
       f.bits,
       sum_by-append
-          (λ (q : Param). cond (is_scratch result Bit q) 1 0) ps qs,
+          (λ (q : Param). cond (is_scratch results Bit q) 1 0) ps qs,
     );
     words = omega (
       arith,
       g.words,
       f.words,
       sum_by-append
-          (λ (q : Param). cond (is_scratch result Word q) 1 0) ps qs,
+          (λ (q : Param). cond (is_scratch results Word q) 1 0) ps qs,
     );
   }
 
@@ -179,47 +179,47 @@ no_word states a h = ap (λ b. map (λ n. param n Word) (cond (not b) (a.name �
     (sym (any_names states a.name) ∙ h)
 
 -- how many rows of scratch one name takes
-pub one_name : (result : List ℕ) (k : Kind) (p : Param)
-    → count_by (is_scratch result k) (p ∷ []) ≤ 1
-one_name result k p = omega (arith, count_by-le-length (is_scratch result k) (p ∷ []))
+pub one_name : (results : List (List ℕ)) (k : Kind) (p : Param)
+    → count_by (is_scratch results k) (p ∷ []) ≤ 1
+one_name results k p = omega (arith, count_by-le-length (is_scratch results k) (p ∷ []))
 
-pub one_word : (result : List ℕ) (k : Kind) (states : List State) (a : Assign)
-    → count_by (is_scratch result k) (words_defined states (a ∷ [])) ≤ 1
-one_word result k states a = by (list_any (λ (s : State). bytes_eq s.name a.name) states) refl
+pub one_word : (results : List (List ℕ)) (k : Kind) (states : List State) (a : Assign)
+    → count_by (is_scratch results k) (words_defined states (a ∷ [])) ≤ 1
+one_word results k states a = by (list_any (λ (s : State). bytes_eq s.name a.name) states) refl
   where
     by : (b : Bool) → list_any (λ (s : State). bytes_eq s.name a.name) states ≡ b
-        → count_by (is_scratch result k) (words_defined states (a ∷ [])) ≤ 1
-    by true e = omega (arith, ap (count_by (is_scratch result k)) (no_word states a e))
+        → count_by (is_scratch results k) (words_defined states (a ∷ [])) ≤ 1
+    by true e = omega (arith, ap (count_by (is_scratch results k)) (no_word states a e))
     by false e = omega (
       arith,
-      ap (count_by (is_scratch result k)) (a_word states a e),
-      one_name result k (param a.name Word),
+      ap (count_by (is_scratch results k)) (a_word states a e),
+      one_name results k (param a.name Word),
     )
 
-no_bits : (result : List ℕ) (ns : List (List ℕ))
-    → count_by (is_scratch result Bit) (map (λ n. param n Word) ns) ≡ 0
-no_bits result [] = refl
-no_bits result (n ∷ ns) =
+no_bits : (results : List (List ℕ)) (ns : List (List ℕ))
+    → count_by (is_scratch results Bit) (map (λ n. param n Word) ns) ≡ 0
+no_bits results [] = refl
+no_bits results (n ∷ ns) =
     omega (
       arith,
-      sum_by-cons (λ (q : Param). cond (is_scratch result Bit q) 1 0) (param n Word)
+      sum_by-cons (λ (q : Param). cond (is_scratch results Bit q) 1 0) (param n Word)
           (map (λ m. param m Word) ns),
-      no_bits result ns,
+      no_bits results ns,
     )
 
-pub words_no_bits : (result : List ℕ) (states : List State) (assigns : List Assign)
-    → count_by (is_scratch result Bit) (words_defined states assigns) ≡ 0
-words_no_bits result states assigns = no_bits result
+pub words_no_bits : (results : List (List ℕ)) (states : List State) (assigns : List Assign)
+    → count_by (is_scratch results Bit) (words_defined states assigns) ≡ 0
+words_no_bits results states assigns = no_bits results
     (filter (is_word states) (map (λ (a : Assign). a.name) assigns))
 
-pub states_no_words : (result : List ℕ) (states : List State)
-    → count_by (is_scratch result Word) (states_defined states) ≡ 0
-states_no_words result [] = refl
-states_no_words result (s ∷ states) = omega (
+pub states_no_words : (results : List (List ℕ)) (states : List State)
+    → count_by (is_scratch results Word) (states_defined states) ≡ 0
+states_no_words results [] = refl
+states_no_words results (s ∷ states) = omega (
   arith,
-  sum_by-cons (λ (q : Param). cond (is_scratch result Word q) 1 0) (param s.name Bit)
+  sum_by-cons (λ (q : Param). cond (is_scratch results Word q) 1 0) (param s.name Bit)
       (states_defined states),
-  states_no_words result states,
+  states_no_words results states,
 )
 
 -- what a block defines
@@ -246,16 +246,16 @@ block_defined known down states lets assigns =
     ∙ ap (λ ns. map (λ n. param n Bit) (map (λ (s : State). s.name) states)
     ++ map (λ n. param n Word) (filter (is_word states) ns)) (sym (equation_names assigns))
 
-pub block_lays : (result : List ℕ) (down : Bool) (states : List State) (lets assigns : List Assign)
-    (old mid new : NameMap) → Lays result (states_defined states) old mid
-    → Lays result (words_defined states assigns) mid new
+pub block_lays : (results : List (List ℕ)) (down : Bool) (states : List State) (lets assigns : List Assign)
+    (old mid new : NameMap) → Lays results (states_defined states) old mid
+    → Lays results (words_defined states assigns) mid new
     → (known : List Param)
-    → Lays result (defines known (Visit (record {
+    → Lays results (defines known (Visit (record {
       down = down;
       states = states;
       lets = map equation lets;
       assigns = map equation assigns;
     }))) old new
-block_lays result down states lets assigns old mid new f g known =
-    subst (λ ps. Lays result ps old new) (block_defined known down states lets assigns)
-    (lays_then result (states_defined states) (words_defined states assigns) old mid new f g)
+block_lays results down states lets assigns old mid new f g known =
+    subst (λ ps. Lays results ps old new) (block_defined known down states lets assigns)
+    (lays_then results (states_defined states) (words_defined states assigns) old mid new f g)

@@ -2,7 +2,8 @@
 use Rattle.std.proofs.Common.{◌≡◌, ℕ, ◌+◌, ◌<◌, Bool, true, false, ◌||◌, cond, List, [], ◌∷◌, ◌++◌}
 use Rattle.std.proofs.Common.{map, Option, Some, None, refl, sym, ap, ◌∙◌, subst, arith, bytes_eq}
 use Rattle.std.proofs.Common.{◌⊎◌, inl, inr, ⊎_elim, append_assoc, append-nil}
-use Rattle.std.specs.Prelude.{is_some}
+use Rattle.std.specs.Prelude.{is_some, unwrap_or}
+use Rattle.std.specs.Option.{option_to_list}
 use Rattle.std.specs.List.{AllByRecursion}
 use Rattle.op_text.specs.declared.tree.Kind.{Kind}
 use Rattle.op_text.specs.declared.tree.Kind.TheVariants.{Word, Bit}
@@ -11,12 +12,14 @@ use Rattle.op_text.specs.declared.tree.WordOp.{WordOp}
 use Rattle.op_text.specs.Language.{Term, Nought, Unity, Named, Negation, Conjunction, Disjunction}
 use Rattle.op_text.specs.Language.{Parity, Majority, Equation, Block, Statement, Compute, Visit}
 use Rattle.op_text.specs.Language.{Operation}
-use Rattle.op_text.specs.Rules.{is_among, kind_among, is_known}
-use Rattle.op_text.specs.Scratch.{state_names, word_names, defines, body_defines, kind_of}
+use Rattle.op_text.specs.Rules.{is_among, kind_among, is_known, second_of}
+use Rattle.op_text.specs.WordOps.{second_kind, second_gives}
+use Rattle.op_text.specs.Scratch.{param, state_names, word_names, defines, body_defines, kind_of}
 use Rattle.op_text.specs.Scratch.{result_kind, scratch_names}
 use Rattle.op_text.specs.Spelling.{Each, TermMeets}
 use Rattle.op_rules.specs.Meets.{IsNewLet, IsNewOf, IsKnown, Differ, names_of, let_names, used}
 use Rattle.op_rules.specs.Meets.{can_read, LetsRead, Context, behind, OperationMeets}
+use Rattle.op_rules.specs.Meets as rules
 use Rattle.op_rules.specs.Laws.{all_names}
 use Rattle.op_rules.proofs.Names.{is_same, turned, new-left, new-right, new-append}
 use Rattle.op_rules.proofs.Standing.{names-append}
@@ -241,7 +244,7 @@ module _ (op : Operation) (meets : OperationMeets op) (slots : Slots) (free_bit 
       let_unplaced : (name : List ℕ) → is_among (let_names b) name ≡ true → slots name ≡ None
       let_unplaced name h =
           let m = st.body.0 in
-          let l = each_among (IsNewLet (used c ++ state_names b) c.result) (let_names b) name m.lets
+          let l = each_among (IsNewLet (used c ++ state_names b) c.results) (let_names b) name m.lets
           h
           in
           let more = body_defines (c.known ++ defines c.known (Visit b)) rest in
@@ -255,7 +258,7 @@ module _ (op : Operation) (meets : OperationMeets op) (slots : Slots) (free_bit 
           ≡ true). absurd (cc (
             h,
             new-right (used c) (let_names b) name
-                (each_among (IsNewOf (used c ++ let_names b) c.result Word) (word_names b) name
+                (each_among (IsNewOf (used c ++ let_names b) c.results Word) (word_names b) name
                 m.words
                 w).new,
           )))
@@ -327,35 +330,72 @@ module _ (op : Operation) (meets : OperationMeets op) (slots : Slots) (free_bit 
             fresh = word_unread;
           }
 
-  module _ (c : Context) (target : List ℕ) (p : WordOp) (args : List (List ℕ))
-      (rest : List Statement) (st : Stage op c (Compute target p args ∷ rest)) where
-    target_written : is_among (written_names (Compute target p args)) target ≡ true
-    target_written = or_left (bytes_eq target target) false (is_same target target refl)
-
-    target_kind : kind_among (defines c.known (Compute target p args)) target
-        ≡ Some (result_kind c.known p args)
-    target_kind = ap (λ b. cond b (Some (result_kind c.known p args)) None)
+  module _ (c : Context) (target : List ℕ) (second : Option (List ℕ)) (p : WordOp)
+      (args : List (List ℕ)) (rest : List Statement)
+      (st : Stage op c (Compute target second p args ∷ rest)) where
+    target_written : is_among (written_names (Compute target second p args)) target ≡ true
+    target_written = or_left (bytes_eq target target) (is_among (option_to_list second) target)
         (is_same target target refl)
 
-    target_fresh : is_among args target ≡ false
-    target_fresh =
-        ⊎_elim (λ (h : is_among args target ≡ true). absurd
-        (unknown c (Compute target p args) rest st target (kind_of c.known target)
-        target_written (each_among (IsKnown c.known) args target st.body.0.known h)))
-        (λ (h : is_among args target ≡ false). h) (tested (is_among args target))
+    target_kind : kind_among (defines c.known (Compute target second p args)) target
+        ≡ Some (result_kind c.known p args)
+    target_kind = ap (λ b. cond b (Some (result_kind c.known p args))
+        (kind_among (second_of second p) target)) (is_same target target refl)
 
-    compute_meets : ComputeMeets slots target p args
+    -- no target is an argument
+    target_fresh : (name : List ℕ)
+        → is_among (written_names (Compute target second p args)) name ≡ true
+        → is_among args name ≡ false
+    target_fresh name w =
+        ⊎_elim (λ (h : is_among args name ≡ true). absurd
+        (unknown c (Compute target second p args) rest st name (kind_of c.known name)
+        w (each_among (IsKnown c.known) args name st.body.0.known h)))
+        (λ (h : is_among args name ≡ false). h) (tested (is_among args name))
+
+    second_written : (x : List ℕ) → second ≡ Some x
+        → is_among (written_names (Compute target second p args)) x ≡ true
+    second_written x e = subst (λ (o : Option (List ℕ)). is_among (target ∷ option_to_list o) x
+        ≡ true) (sym e) (or_right (bytes_eq target x) (is_among (x ∷ []) x)
+        (or_left (bytes_eq x x) false (is_same x x refl)))
+
+    second_given : (x : List ℕ) (k : Kind) → second ≡ Some x → second_kind p ≡ Some k
+        → bytes_eq target x ≡ false
+        → kind_among (defines c.known (Compute target second p args)) x ≡ Some k
+    second_given x k e f other =
+        let r = result_kind c.known p args in
+        subst (λ (o : Option (List ℕ)). kind_among (param target r ∷ second_of o p) x ≡ Some k)
+        (sym e) (ap (λ b. cond b (Some r) (kind_among (second_of (Some x) p) x)) other
+        ∙ ap (λ b. cond b (Some (second_gives p)) None) (is_same x x refl)
+        ∙ ap (λ o. Some (unwrap_or o Word)) f)
+
+    second_meets : (o : Option (List ℕ)) (k : Option Kind) → second ≡ o → second_kind p ≡ k
+        → rules.SecondMeets c target o k → there.SecondMeets slots target args o k
+    second_meets None None e f h = tt
+    second_meets None (Some k) e f h = absurd h
+    second_meets (Some x) None e f h = absurd h
+    second_meets (Some x) (Some k) e f h =
+        let w = second_written x e in
+        record {
+          gives = of_new c (Compute target second p args) rest st x k w
+              (second_given x k e f h.other);
+          fresh = target_fresh x w;
+          other = h.other;
+        }
+
+    compute_meets : ComputeMeets slots target second p args
     compute_meets = record {
       kinds = map (kind_of c.known) args;
       kind = result_kind c.known p args;
-      have = args_have c (Compute target p args) rest st args st.body.0.known;
+      have = args_have c (Compute target second p args) rest st args st.body.0.known;
       form = st.body.0.takes;
-      gives = of_new c (Compute target p args) rest st target (result_kind c.known p args)
+      gives = of_new c (Compute target second p args) rest st target (result_kind c.known p args)
           target_written target_kind;
-      fresh = target_fresh;
+      fresh = target_fresh target target_written;
+      others = second_meets second (second_kind p) refl refl st.body.0.others;
     }
 
   pub statement_meets : (c : Context) (s : Statement) (rest : List Statement)
       → Stage op c (s ∷ rest) → there.StatementMeets slots s
-  statement_meets c (Compute target p args) rest st = compute_meets c target p args rest st
+  statement_meets c (Compute target second p args) rest st =
+      compute_meets c target second p args rest st
   statement_meets c (Visit b) rest st = block_meets c b rest st

@@ -1,19 +1,21 @@
 -- What is true of the names of an operation that meets the rules, where each has its place.
-use Rattle.std.proofs.Common.{◌≡◌, ℕ, ◌<◌, true, false, ◌||◌, cond, List, [], ◌∷◌, ◌++◌, Option}
+use Rattle.std.proofs.Common.{◌≡◌, ℕ, suc, ◌<◌, map, true, false, ◌||◌, cond, List, [], ◌∷◌, ◌++◌, Option}
 use Rattle.std.proofs.Common.{Some, None, refl, sym, ap, ◌∙◌, subst, arith, bytes_eq, inl, inr}
 use Rattle.std.proofs.lemmas.List.{map-append}
 use Rattle.std.proofs.lemmas.Nat.{mul-add-lt}
 use Rattle.std.specs.Prelude.{slice_get}
+use Rattle.std.specs.Option.{option_to_list, option_map}
 use Rattle.op_text.specs.declared.tree.Kind.{Kind}
 use Rattle.op_text.specs.declared.tree.Kind.TheVariants.{Word, Bit}
 use Rattle.op_text.specs.declared.tree.Param.{Param}
-use Rattle.op_text.specs.Language.{Operation}
+use Rattle.op_text.specs.Language.{Operation, results, result_names}
+use Rattle.op_text.specs.Spelling.{Each}
 use Rattle.op_text.specs.Rules.{is_among, kind_among}
 use Rattle.op_text.specs.Meaning.{width}
 use Rattle.op_text.specs.Scratch.{body_defines, scratch_names, scratch_words}
-use Rattle.op_rules.specs.Meets.{names_of, OperationMeets}
+use Rattle.op_rules.specs.Meets.{IsNew, names_of, OperationMeets}
 use Rattle.op_rules.specs.Laws.{all_names}
-use Rattle.op_rules.proofs.Names.{or_first, or_second}
+use Rattle.op_rules.proofs.Names.{same_name, or_first, or_second}
 use Rattle.uprog_code.specs.Shape as shape
 use Rattle.uprog_code.specs.Texts.{op_shape}
 use Rattle.loop_ir.specs.declared.ir.Space.{Space}
@@ -23,7 +25,8 @@ use Rattle.loop_ir.specs.Spots.{IsOwn, spot_in}
 use Rattle.loop_ir.specs.Statements.{Slots}
 use Rattle.loop_ir.specs.Lowered.{slot_spot}
 use Rattle.uprog_gen.specs.Where.{IsSpot, IsBelow}
-use Rattle.uprog_gen.specs.Layout.{Lay, IsLayout, source_lays, defined_lays, lays, found}
+use Rattle.uprog_gen.specs.Layout.{Lay, IsLayout, source_lays, place_in, defined_lays, lays}
+use Rattle.uprog_gen.specs.Layout.{found}
 use Rattle.uprog_gen.specs.Laying.{kind_in}
 use Rattle.uprog_gen.proofs.Lays.{lay, by_bool, params_of, found_each, found_apart, found_kind}
 use Rattle.uprog_gen.proofs.Lays.{found_new, found-append, or_else, source_params, defined_params}
@@ -72,7 +75,38 @@ kind_back : (o : Option Slot) (k : Kind) → kind_in o ≡ Some k → (x : Slot)
 kind_back None k h = absurd (cc)
 kind_back (Some x) k h = (x, refl, cc)
 
-defined_own : (op : Operation) (m : Lay) → IsDefinedLay op.result.name 0 0 (scratch_names Bit op)
+-- the kinds of results
+each_known : (params defined ps : List Param) → Each (IsNew (names_of params))
+    (map (λ (p : Param). p.name) ps)
+    → Each (λ (r : Param). kind_among defined r.name ≡ Some r.kind) ps
+    → Each (λ (r : Param). kind_among (params ++ defined) r.name ≡ Some r.kind) ps
+each_known params defined [] new given = tt
+each_known params defined (p ∷ ps) new given = (
+  kind_skip params defined p.name new.0 ∙ given.0,
+  each_known params defined ps new.1 given.1,
+)
+
+kind_at_place : (all ps : List Param) (name : List ℕ) (k : Kind)
+    → Each (λ (r : Param). kind_among all r.name ≡ Some r.kind) ps
+    → is_among (map (λ (p : Param). p.name) ps) name ≡ true → kind_among all name ≡ Some k
+    → slice_get (kinds_of ps) (place_in (map (λ (p : Param). p.name) ps) name) ≡ Some k
+kind_at_place all [] name k known h e = absurd (cc)
+kind_at_place all (p ∷ ps) name k known h e =
+    by_bool (λ b. (b || is_among (map (λ (p : Param). p.name) ps) name) ≡ true
+    → slice_get (kinds_of (p ∷ ps)) (cond b 0
+    (suc (place_in (map (λ (p : Param). p.name) ps) name))) ≡ Some k) (bytes_eq p.name name)
+    (λ s f. sym known.0 ∙ ap (kind_among all) (same_name p.name name s) ∙ e)
+    (λ s f. kind_at_place all ps name k known.1 f e) h
+
+second_kinds : (o : Option Param) → option_to_list (option_map (λ (p : Param). p.kind) o)
+    ≡ kinds_of (option_to_list o)
+second_kinds None = refl
+second_kinds (Some p) = refl
+
+pub shape_results : (op : Operation) → shape.results (op_shape op) ≡ kinds_of (results op)
+shape_results op = ap (λ l. op.result.kind ∷ l) (second_kinds op.second)
+
+defined_own : (op : Operation) (m : Lay) → IsDefinedLay (result_names op) 0 0 (scratch_names Bit op)
     (scratch_names Word op) m → IsOwn m.slot.space
 defined_own op m (inl h) = subst IsOwn (sym h.0) tt
 defined_own op m (inr (inl h)) = subst IsOwn (sym h.0) tt
@@ -83,11 +117,11 @@ module _ (op : Operation) (meets : OperationMeets op) (slots : Slots) (free_bit 
   all_params : params_of (lays op) ≡ all_names op
   all_params =
       map-append (λ (l : Lay). record { name = l.name; kind = l.slot.kind })
-      (source_lays 0 op.params) (defined_lays op.result.name 0 0
+      (source_lays 0 op.params) (defined_lays (result_names op) 0 0
       (body_defines op.params op.body))
-      ∙ ap (λ l. l ++ params_of (defined_lays op.result.name 0 0 (body_defines op.params op.body)))
+      ∙ ap (λ l. l ++ params_of (defined_lays (result_names op) 0 0 (body_defines op.params op.body)))
       (source_params 0 op.params)
-      ∙ ap (λ l. op.params ++ l) (defined_params op.result.name 0 0
+      ∙ ap (λ l. op.params ++ l) (defined_params (result_names op) 0 0
       (body_defines op.params op.body))
 
   all_kinds : (name : List ℕ) → kind_among (all_names op) name ≡ kind_in (slots name)
@@ -118,7 +152,7 @@ module _ (op : Operation) (meets : OperationMeets op) (slots : Slots) (free_bit 
   pub slot_own : (name : List ℕ) (x : Slot) → is_among (names_of op.params) name ≡ false
       → slots name ≡ Some x → IsOwn x.space
   slot_own name x h e =
-      let own = defined_lays op.result.name 0 0 (body_defines op.params op.body) in
+      let own = defined_lays (result_names op) 0 0 (body_defines op.params op.body) in
       let none : found (source_lays 0 op.params) name ≡ None =
       found_new (source_lays 0 op.params) name
       (ap (λ ps. is_among (names_of ps) name) (source_params 0 op.params) ∙ h) in
@@ -126,13 +160,14 @@ module _ (op : Operation) (meets : OperationMeets op) (slots : Slots) (free_bit 
       sym (ap (λ o. or_else o (found own name)) none)
       ∙ sym (found-append (source_lays 0 op.params) own name) ∙ sym (is.at name) ∙ e in
       defined_own op (lay name x) (found_each
-      (IsDefinedLay op.result.name 0 0 (scratch_names Bit op) (scratch_names Word op)) own name
+      (IsDefinedLay (result_names op) 0 0 (scratch_names Bit op) (scratch_names Word op)) own name
       x (own_each op) f)
 
-  -- the result has its own kind
-  pub result_known : kind_among (all_names op) op.result.name ≡ Some op.result.kind
-  result_known = kind_skip op.params (body_defines op.params op.body) op.result.name
-      meets.result_new ∙ meets.result_given
+  -- the results have their own kinds
+  pub results_known : Each (λ (r : Param). kind_among (all_names op) r.name ≡ Some r.kind)
+      (results op)
+  results_known = each_known op.params (body_defines op.params op.body) (results op)
+      meets.results_new meets.results_given
 
   some_kind : (a b : Kind) → Some a ≡ Some b → a ≡ b
   some_kind a b e = cc
@@ -161,14 +196,17 @@ module _ (op : Operation) (meets : OperationMeets op) (slots : Slots) (free_bit 
           let l : v < n = subst (λ (j : Kind). v < width n j) k lt in
           (refl, mul-add-lt x.which n v (scratch_words op) (omega (arith, h)) l)
 
-      of_result : x.which ≡ 0 → name ≡ op.result.name
+      of_result : x.which ≡ place_in (result_names op) name
+          → is_among (result_names op) name ≡ true
           → IsSpot (op_shape op) n (spot_in n Result x.which v)
       of_result w m =
-          let k : x.kind ≡ op.result.kind = some_kind x.kind op.result.kind
-          (sym (kind_of_slot name x e) ∙ ap (kind_among (all_names op)) m ∙ result_known) in
-          subst (λ (u : ℕ). IsSpot (op_shape op) n (spot_in n Result u v)) (sym w)
-          (subst (λ (l : ℕ). v < l) (width_same op.result.kind n)
-          (subst (λ (j : Kind). v < width n j) k lt))
+          let k : slice_get (shape.results (op_shape op)) x.which ≡ Some x.kind =
+          ap (λ l. slice_get l x.which) (shape_results op)
+          ∙ ap (slice_get (kinds_of (results op))) w
+          ∙ kind_at_place (all_names op) (results op) name x.kind results_known m
+          (kind_of_slot name x e) in
+          subst (λ (o : Option Kind). IsBelow o n v) (sym k)
+          (subst (λ (l : ℕ). v < l) (width_same x.kind n) lt)
 
       by : LiesIn op (lay name x) → IsSpot (op_shape op) n (slot_spot n x v)
       by (inl h) = at_space Source h.0 (in_source n v x h.1 lt)

@@ -1,23 +1,19 @@
 -- Where bodies are settled, so are the numbers of all commands.
-use Rattle.std.proofs.Common.{◌≡◌, ℕ, zero, suc, ◌+◌, ◌<◌, Bool, true, false, cond, List, [], ◌∷◌}
-use Rattle.std.proofs.Common.{◌++◌, map, length, refl, sym, ap, ◌∙◌, subst, arith, Option, Some}
+use Rattle.std.proofs.Common.{◌≡◌, ℕ, ◌+◌, Bool, true, false, cond, List, [], ◌∷◌}
+use Rattle.std.proofs.Common.{map, length, refl, sym, ap, ◌∙◌, subst, arith, Option, Some}
 use Rattle.std.proofs.Common.{None}
 use Rattle.std.specs.Prelude.{count_by, sum_by}
 use Rattle.std.specs.List.{AllByRecursion}
 use Rattle.std.proofs.lemmas.List.Sums.{sum_by-cons, sum_by-append}
 use Rattle.uprog_code.specs.Machine.{Issue}
 use Rattle.uprog_code.specs.Count.{is_twice, is_once}
-use Rattle.mig_graph.specs.declared.Lit.{Lit}
-use Rattle.mig_graph.specs.Outputs.{lit_at}
 use Rattle.row_alloc.specs.declared.body.BodyRef.{BodyRef}
 use Rattle.row_alloc.specs.declared.body.BodyCmd.{BodyCmd}
 use Rattle.row_alloc.specs.declared.body.BodyCmd.TheVariants.{Aap, Ap}
 use Rattle.row_alloc.specs.declared.body.OutRow.{OutRow}
-use Rattle.row_alloc.specs.Rows.{out_at}
-use Rattle.row_alloc.specs.Known.{known_at, WordBody, Inverted, Shifted, Both, Either, Without}
+use Rattle.row_alloc.specs.Known.{WordBody, Inverted, Shifted, Both, Either, Without}
 use Rattle.row_alloc.specs.Known.{Unlike, Chosen, Compared, Agreed, Added, Lessened, TurnedBy}
 use Rattle.row_alloc.specs.Known.{Multiplied, Counted, Divided, inputs_in, nodes_in, outs_in}
-use Rattle.row_alloc.specs.Known.{sequence_for}
 use Rattle.row_alloc.proofs.First.{KeepsInputs, word_late}
 use Rattle.loop_ir.specs.Plain.{Block, InnerOf, StepOf, inner_map, step_map, AllInner, AllStep}
 use Rattle.loop_ir.specs.Plain.{AllParts}

@@ -17,7 +17,8 @@ use Rattle.op_text.specs.Scratch.{greatest, need_inside, bits_inside, words_insi
 use Rattle.op_text.specs.Spelling.{Each, TermMeets}
 use Rattle.op_rules.specs.Meets.{IsNew, IsNewOf, IsKnown, names_of, let_names, targets, used}
 use Rattle.op_rules.specs.Meets.{can_read, LetsRead, Context, behind, at_start, StatementMeets}
-use Rattle.op_rules.specs.Meets.{BodyMeets, OperationMeets}
+use Rattle.op_rules.specs.Meets.{SecondMeets, BodyMeets, OperationMeets}
+use Rattle.op_text.specs.WordOps.{second_kind}
 use Rattle.op_rules.specs.Laws.{all_names}
 use Rattle.op_rules.proofs.Names.{same_name, new-left, new-right, new-append}
 use Rattle.op_rules.proofs.Standing.{names-append}
@@ -104,7 +105,8 @@ words_need op c s rest st = omega (
 -- what a statement sets is what it defines
 pub written_defined : (known : List Param) (s : Statement) (name : List ℕ)
     → is_among (names_of (defines known s)) name ≡ is_among (written_names s) name
-written_defined known (Compute target p args) name = refl
+written_defined known (Compute target None p args) name = refl
+written_defined known (Compute target (Some x) p args) name = refl
 written_defined known (Visit b) name = ap (λ l.
     is_among l name) (block_names (state_names b) (word_names b))
 
@@ -113,17 +115,33 @@ pub word_other : (b : Block) (name : List ℕ) → is_among (word_names b) name 
 word_other b name h = not-true (is_among (state_names b) name)
     (filter_among (λ n. not (is_among (state_names b) n)) (targets b) name h).1
 
+second_new : (c : Context) (target name : List ℕ) (k : Option Kind)
+    → SecondMeets c target (Some name) k → IsNew (used c) name
+second_new c target name None h = absurd h
+second_new c target name (Some k) h = h.gives.new
+
+first_new : (c : Context) (target name : List ℕ) → IsNew (used c) target
+    → bytes_eq target name ≡ true → IsNew (used c) name
+first_new c target name new f = subst (IsNew (used c)) (same_name target name f) new
+
 -- what it sets is new
 pub written_new : (c : Context) (s : Statement) (name : List ℕ) → StatementMeets c s
     → is_among (written_names s) name ≡ true → is_among (used c) name ≡ false
-written_new c (Compute target p args) name h e =
-    ⊎_elim (λ (f : bytes_eq target name ≡ true). subst (IsNew (used c)) (same_name target name f)
-    h.gives.new) (λ (f : false ≡ true). absurd (cc)) (or_split (bytes_eq target name) false e)
+written_new c (Compute target None p args) name h e =
+    ⊎_elim (λ (f : bytes_eq target name ≡ true). first_new c target name h.gives.new f)
+    (λ (f : false ≡ true). absurd (cc)) (or_split (bytes_eq target name) false e)
+written_new c (Compute target (Some x) p args) name h e =
+    ⊎_elim (λ (f : bytes_eq target name ≡ true). first_new c target name h.gives.new f)
+    (λ (g : is_among (x ∷ []) name ≡ true).
+    ⊎_elim (λ (f : bytes_eq x name ≡ true). first_new c x name
+    (second_new c target x (second_kind p) h.others) f)
+    (λ (f : false ≡ true). absurd (cc)) (or_split (bytes_eq x name) false g))
+    (or_split (bytes_eq target name) (is_among (x ∷ []) name) e)
 written_new c (Visit b) name h e =
     ⊎_elim (λ (f : is_among (state_names b) name
-    ≡ true). (each_among (IsNewOf (used c) c.result Bit) (state_names b) name h.states f).new)
+    ≡ true). (each_among (IsNewOf (used c) c.results Bit) (state_names b) name h.states f).new)
     (λ (f : is_among (word_names b) name ≡ true). new-left (used c) (let_names b) name
-    (each_among (IsNewOf (used c ++ let_names b) c.result Word) (word_names b) name h.words
+    (each_among (IsNewOf (used c ++ let_names b) c.results Word) (word_names b) name h.words
     f).new)
     (among_split (state_names b) (word_names b) name e)
 
@@ -232,7 +250,7 @@ block_stand c b name h e =
 -- what a statement reads is known
 pub read_known : (c : Context) (s : Statement) (name : List ℕ) → StatementMeets c s
     → is_among (read_names s) name ≡ true → (k : Kind) × (kind_among c.known name ≡ Some k)
-read_known c (Compute target p args) name h e =
+read_known c (Compute target second p args) name h e =
     (kind_of c.known name, each_among (IsKnown c.known) args name h.known e)
 read_known c (Visit b) name h e =
     let f = filter_among (λ n. not (is_among (state_names b) n)) (block_reads b) name e in

@@ -96,7 +96,7 @@ are_graphs : (slots : Slots) (body : List Statement) (ps : List (List (StepOf Bl
 are_graphs slots [] [] h = tt
 are_graphs slots [] (q ∷ ps) h = absurd h
 are_graphs slots (s ∷ body) [] h = absurd h
-are_graphs slots (Compute target p args ∷ body) (q ∷ ps) h = are_graphs slots body ps h.1
+are_graphs slots (Compute target second p args ∷ body) (q ∷ ps) h = are_graphs slots body ps h.1
 are_graphs slots (Visit b ∷ body) (q ∷ ps) h =
     subst (λ (gs : List Graphed). AreGraphsOf (Visit b ∷ body) (gs ++ graphs_in body ps))
     (sym (form_graph slots b q h.0)) (is_graph slots b q h.0, are_graphs slots body ps h.1)
@@ -111,8 +111,8 @@ module _ (op : Operation) (meets : OperationMeets op) (slots : Slots) (free_bit 
   few_rounds n some small [] c st [] low h = omega arith
   few_rounds n some small [] c st (q ∷ ps) low h = absurd low
   few_rounds n some small (s ∷ rest) c st [] low h = absurd low
-  few_rounds n some small (Compute target p args ∷ rest) c st (q ∷ ps) low h =
-      let s = Compute target p args in
+  few_rounds n some small (Compute target second p args ∷ rest) c st (q ∷ ps) low h =
+      let s = Compute target second p args in
       omega (
         arith,
         joined_cost n q ps,

@@ -45,7 +45,7 @@ pub record IsGraphOf (b : Block) (g : Graphed) : Type 0 where
 abbrev pub AreGraphsOf : List Statement → List Graphed → Type 0
 AreGraphsOf [] [] = Unit {0}
 AreGraphsOf [] (g ∷ gs) = ⊥
-AreGraphsOf (Compute target p args ∷ body) gs = AreGraphsOf body gs
+AreGraphsOf (Compute target second p args ∷ body) gs = AreGraphsOf body gs
 AreGraphsOf (Visit b ∷ body) [] = ⊥
 AreGraphsOf (Visit b ∷ body) (g ∷ gs) = IsGraphOf b g × AreGraphsOf body gs
 
@@ -54,9 +54,9 @@ AreGraphsOf (Visit b ∷ body) (g ∷ gs) = IsGraphOf b g × AreGraphsOf body gs
 -- assignment, and each state's start takes one
 abbrev pub graphed_ceiling : List Param → ℕ → List Statement → List Graphed → ℕ
 graphed_ceiling known n [] gs = 0
-graphed_ceiling known n (Compute target p args ∷ body) gs =
+graphed_ceiling known n (Compute target second p args ∷ body) gs =
     op_ceiling p (names_width known n args) + graphed_ceiling (known
-    ++ defines known (Compute target p args)) n body gs
+    ++ defines known (Compute target second p args)) n body gs
 graphed_ceiling known n (Visit b ∷ body) [] = 0
 graphed_ceiling known n (Visit b ∷ body) (g ∷ gs) =
     n * (4 * length g.graph.nodes + 3 * length b.assigns) + length b.states
@@ -96,7 +96,7 @@ last_graph (s ∷ t ∷ ss) = last_graph (t ∷ ss)
 
 -- that of a serial block's loop program, and none of a word statement's
 abbrev pub statement_graph : Statement → List (StepOf Body) → List Graphed
-statement_graph (Compute target p args) q = []
+statement_graph (Compute target second p args) q = []
 statement_graph (Visit b) q = last_graph q
 
 abbrev pub graphs_in : List Statement → List (List (StepOf Body)) → List Graphed

@@ -7,7 +7,7 @@ use Rattle.op_text.specs.declared.tree.Kind.TheVariants.{Word, Bit}
 use Rattle.op_text.specs.declared.tree.Param.{Param}
 use Rattle.op_text.specs.declared.tree.State.{State}
 use Rattle.op_text.specs.declared.tree.Assign.{Assign}
-use Rattle.op_text.specs.Language.{Statement, Compute, Visit, Operation}
+use Rattle.op_text.specs.Language.{Statement, Compute, Visit, Operation, result_names}
 use Rattle.op_text.specs.Meaning.{changed}
 use Rattle.op_text.specs.Rules.{is_among, kind_among, MAX_STATES, MAX_ASSIGNS}
 use Rattle.op_text.specs.Scratch.{param, body_defines}
@@ -22,11 +22,11 @@ placed slots [] = slots
 placed slots (l ∷ ls) = placed (changed slots l.name (Some l.slot)) ls
 
 -- these names have come to the next places
-pub record Lays (result : List ℕ) (ps : List Param) (old new : NameMap) : Type 0 where
+pub record Lays (results : List (List ℕ)) (ps : List Param) (old new : NameMap) : Type 0 where
   pub at : (name : List ℕ) → slots_of new name
-      ≡ placed (slots_of old) (defined_lays result old.free_bit old.free_word ps) name
-  pub bits : new.free_bit ≡ old.free_bit + count_by (is_scratch result Bit) ps
-  pub words : new.free_word ≡ old.free_word + count_by (is_scratch result Word) ps
+      ≡ placed (slots_of old) (defined_lays results old.free_bit old.free_word ps) name
+  pub bits : new.free_bit ≡ old.free_bit + count_by (is_scratch results Bit) ps
+  pub words : new.free_word ≡ old.free_word + count_by (is_scratch results Word) ps
 
 -- the sources have come to theirs
 pub record LaysSources (k : ℕ) (ps : List Param) (old new : NameMap) : Type 0 where
@@ -53,14 +53,14 @@ words_defined states assigns = map (λ n. param n Word)
 
 -- a statement that defines no more names than an operation's statement may
 abbrev pub IsShort : Statement → Type 0
-IsShort (Compute target p args) = Unit {0}
+IsShort (Compute target second p args) = Unit {0}
 IsShort (Visit b) = (length b.states ≤ MAX_STATES) × (length b.assigns ≤ MAX_ASSIGNS)
 
 -- the names of the first k statements have come to their places, and those of the sources
 pub record IsLaidTo (op : Operation) (k : ℕ) (m : NameMap) : Type 0 where
   pub at : (name : List ℕ) → slots_of m name ≡ placed (λ n. None) (source_lays 0 op.params
-      ++ defined_lays op.result.name 0 0 (body_defines op.params (take k op.body))) name
-  pub bits : m.free_bit ≡ count_by (is_scratch op.result.name Bit)
+      ++ defined_lays (result_names op) 0 0 (body_defines op.params (take k op.body))) name
+  pub bits : m.free_bit ≡ count_by (is_scratch (result_names op) Bit)
       (body_defines op.params (take k op.body))
-  pub words : m.free_word ≡ count_by (is_scratch op.result.name Word)
+  pub words : m.free_word ≡ count_by (is_scratch (result_names op) Word)
       (body_defines op.params (take k op.body))

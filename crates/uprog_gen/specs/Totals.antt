@@ -8,7 +8,6 @@ use Rattle.op_text.specs.declared.tree.WordOp.{WordOp}
 use Rattle.op_text.specs.declared.tree.WordOp.TheVariants as o
 use Rattle.op_text.specs.Language.{Statement, Compute, Visit, Operation}
 use Rattle.op_text.specs.Scratch.{defines, names_width}
-use Rattle.uprog_code.specs.declared.walker.Counts.{Counts}
 use Rattle.uprog_code.specs.Machine.{trace, issues_of}
 use Rattle.uprog_code.specs.Count.{counts_of}
 use Rattle.uprog_code.specs.Shape.{Microprogram}
@@ -41,6 +40,7 @@ op_aaps o.Bitcount n = 7 * n ^ 2 + 3 * n
 op_aaps o.AndRed n = 4 * n + 1
 op_aaps o.OrRed n = 4 * n + 1
 op_aaps o.XorRed n = 5 * n + 1
+op_aaps o.Divmod n = 14 * n ^ 2 + 10 * n
 
 -- how many AP
 abbrev pub op_aps : WordOp → ℕ → ℕ
@@ -50,14 +50,14 @@ op_aps o.Add n = n
 op_aps p n = 0
 
 abbrev pub is_word : Statement → Bool
-is_word (Compute target p args) = true
+is_word (Compute target second p args) = true
 is_word (Visit b) = false
 
 -- the sum over the word operations of a body, where these names are known: on bits n is 1
 abbrev pub words_total : (WordOp → ℕ → ℕ) → List Param → ℕ → List Statement → ℕ
 words_total f known n [] = 0
-words_total f known n (Compute target p args ∷ body) = f p (names_width known n args)
-    + words_total f (known ++ defines known (Compute target p args)) n body
+words_total f known n (Compute target second p args ∷ body) = f p (names_width known n args)
+    + words_total f (known ++ defines known (Compute target second p args)) n body
 words_total f known n (Visit b ∷ body) = words_total f (known ++ defines known (Visit b)) n body
 
 -- An operation of word operations alone takes at each width exactly the sum of their commands

@@ -29,7 +29,7 @@ fn is_nested(s: &Stmt) -> bool
         Stmt::Word { op, .. } => {
             matches!(
                 op,
-                WordOp::Mul | WordOp::Div | WordOp::Rem | WordOp::Bitcount
+                WordOp::Mul | WordOp::Div | WordOp::Rem | WordOp::Bitcount | WordOp::Divmod
             )
         }
         Stmt::Serial { .. } => false,

@@ -2,6 +2,8 @@
 
 ghost use Rattle.std.specs.Prelude.{◌≡◌, ℕ, ◌<◌, ◌≤◌, ◌++◌, ◌∷◌, [], map, length, OnOk, IfOk};
 ghost use Rattle.bit_rows.specs.declared.TheConstants.{WIDTH_MAX};
+ghost use Rattle.std.specs.Option.{option_map};
+ghost use Rattle.op_text.specs.declared.tree.Param.{Param as Parameter};
 ghost use Rattle.op_text.specs.Language.{operation, operations};
 ghost use Rattle.op_text.specs.Spelling.{Each, MeetRules};
 ghost use Rattle.op_rules.specs.Meets.{OperationMeets};
@@ -30,7 +32,7 @@ use mig_graph::{MigOuts, NoMemory};
 use no_memory::keep;
 use op_lang::scratch_of;
 use op_rules::ops_meet;
-use op_text::{Op, Ops};
+use op_text::{Kind, Op, Ops, Param};
 use std::alloc::Global;
 use uprog_code::{EntryCode, Head, Program};
 
@@ -49,6 +51,15 @@ pub struct Compiled {
     pub graphs: Vec<MigOuts>,
 }
 
+fn kind_of_second(second: &Option<Param>) -> Option<Kind>
+    ensures { result ≡ option_map (λ (p : Parameter). p.kind) second.now }
+{
+    match second {
+        Some(param) => Some(param.kind),
+        None => None,
+    }
+}
+
 /// What an operation is called, takes and gives, and its scratch.
 fn head_of(op: &Op) -> Head
     requires { OperationMeets (operation op.now) }
@@ -64,7 +75,7 @@ fn head_of(op: &Op) -> Head
         name: op.name.copied(),
         sources,
         result: op.result.kind,
-        second: None,
+        second: kind_of_second(&op.second),
         bits: scratch.bits as u8,
         words: scratch.words as u8,
     }

@@ -1,8 +1,7 @@
 -- The loop program of both results of a division gives them, takes so many commands, and passes the
 -- tests.
 use Rattle.std.proofs.Common.{◌≡◌, ◌⊎◌, inl, inr, ℕ, ◌+◌, ◌*◌, ◌<◌, ◌≤◌, true, List, [], ◌∷◌, ◌++◌}
-use Rattle.std.proofs.Common.{map, length, Some, refl, sym, ap, ◌∙◌, subst, arith}
-use Rattle.op_text.specs.declared.tree.Kind.{Kind}
+use Rattle.std.proofs.Common.{map, Some, refl, sym, ap, ◌∙◌, subst, arith}
 use Rattle.op_text.specs.declared.tree.Kind.TheVariants.{Word}
 use Rattle.op_text.specs.declared.tree.WordOp.TheVariants as op
 use Rattle.op_text.specs.Values.{bits, value, op_value, second_value}

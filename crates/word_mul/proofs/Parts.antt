@@ -5,7 +5,7 @@ use Rattle.loop_ir.specs.declared.ir.Inner.{Inner}
 use Rattle.loop_ir.specs.declared.ir.Step.{Step}
 use Rattle.loop_ir.specs.Plain.{Block, InnerOf, StepOf, AllInner, AllParts, inner_of, step_of}
 use Rattle.loop_ir.specs.Plain.InnerOf.{Alone, Across}
-use Rattle.loop_ir.specs.Plain.StepOf.{Single, Along, Nest}
+use Rattle.loop_ir.specs.Plain.StepOf.{Along, Nest}
 use Rattle.loop_ir.specs.Like.{LikeParts, no_parts, alone, across, LikeSteps, no_steps, single}
 use Rattle.loop_ir.specs.Like.{along, nest}
 use Rattle.loop_laws.specs.Forms.{IsMade}

@@ -23,11 +23,11 @@ use Rattle.word_mul.proofs.Whole.{lowered, few}
 use Rattle.word_mul.proofs.Targets.{both_lowered, both_few}
 
 -- a second target has a place
-record SecondPlace (slots : Slots) (second : Option (List ℕ)) : Type 0 where
-  place : Option Slot
-  at : AreAt slots (option_to_list second) (option_to_list place)
+pub record SecondPlace (slots : Slots) (second : Option (List ℕ)) : Type 0 where
+  pub place : Option Slot
+  pub at : AreAt slots (option_to_list second) (option_to_list place)
 
-second_place : (slots : Slots) (target : List ℕ) (args : List (List ℕ)) (second : Option (List ℕ))
+pub second_place : (slots : Slots) (target : List ℕ) (args : List (List ℕ)) (second : Option (List ℕ))
     (k : Option Kind) → SecondMeets slots target args second k → SecondPlace slots second
 second_place slots target args None k h = record { place = None; at = tt }
 second_place slots target args (Some name) None h = absurd h

@@ -1,6 +1,6 @@
 -- The loop program of both results of a division does a statement with two targets.
-use Rattle.std.proofs.Common.{◌≡◌, ◌⊎◌, inl, inr, ℕ, ◌+◌, ◌*◌, ◌<◌, ◌≤◌, Bool, true, false, List}
-use Rattle.std.proofs.Common.{[], ◌∷◌, map, Option, Some, None, refl, sym, ap, ◌∙◌, subst, arith}
+use Rattle.std.proofs.Common.{◌≡◌, ◌⊎◌, inl, inr, ℕ, ◌*◌, ◌<◌, ◌≤◌, Bool, true, false, List}
+use Rattle.std.proofs.Common.{[], ◌∷◌, map, Option, Some, refl, sym, ap, ◌∙◌, subst, arith}
 use Rattle.std.specs.Prelude.{◌||◌, bytes_eq, if◌then◌else◌}
 use Rattle.std.proofs.lemmas.Slice.Eq.{bytes_eq-Decides}
 use Rattle.op_text.specs.declared.tree.Kind.TheVariants.{Word}
@@ -26,7 +26,6 @@ use Rattle.loop_laws.proofs.EveryRound.{marks_are_enough}
 use Rattle.loop_laws.proofs.Compile.{alike_compile}
 use Rattle.word_lower.specs.Places.{rooms_of, scratch_from, AreAt}
 use Rattle.word_lower.proofs.Pieces.{AreApart}
-use Rattle.word_lower.proofs.Operations.{slots_width}
 use Rattle.word_lower.proofs.Filled.{filled_words}
 use Rattle.word_lower.proofs.Statements.{same_slot, same_name, one_place, among_target, written}
 use Rattle.word_lower.proofs.Statements.{holds, pieces, row_of, form_filled, named_width}

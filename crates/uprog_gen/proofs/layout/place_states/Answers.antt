@@ -2,6 +2,7 @@ use Rattle.std.proofs.Common.{[], ◌∷◌, take, sym, subst, arith}
 use Rattle.op_text.specs.declared.tree.Kind.TheVariants.{Bit}
 use Rattle.op_text.specs.declared.tree.Param.{Param}
 use Rattle.op_text.specs.Scratch.{param}
+use Rattle.op_text.specs.Language.{operation, result_names}
 use Rattle.uprog_gen.specs.Laying.{Lays, states_defined}
 use Rattle.uprog_gen.proofs.Placed.{lays_then, states_more, one_name, states_no_words}
 use Rattle.uprog_gen.proofs.layout.place_states.Goals as goal
@@ -10,7 +11,7 @@ pub loop-state-preserved : goal.loop-state-preserved
 loop-state-preserved c =
     let old = c.loop-state.invariant in
     let states = c.args.states.now in
-    let outcome = c.args.outcome.now in
+    let outcome = result_names (operation c.args.owner.now) in
     let k = c.loop-state.state-index in
     let s = c.state-item.result in
     let step = c.in_ok-place.ensures in

@@ -1,17 +1,18 @@
 use Rattle.std.proofs.Common.{◌∙◌, sym, subst}
 use Rattle.std.specs.Prelude.{OnOk}
+use Rattle.op_text.specs.Language.{operation, result_names}
 use Rattle.uprog_gen.specs.Laying.{Lays}
 use Rattle.uprog_gen.proofs.Placed.{lays_none, no_word, a_word}
 use Rattle.uprog_gen.proofs.layout.place_word.Goals as goal
 
 pub returns-then-is_state : goal.returns-then-is_state
 returns-then-is_state c =
-    subst (λ ps. Lays c.args.outcome.now ps c.args.names.now c.args.names.now)
+    subst (λ ps. Lays (result_names (operation c.args.owner.now)) ps c.args.names.now c.args.names.now)
     (sym (no_word c.args.states.now c.args.assign.now (sym c.is_state.ensures
-    ∙ c.if-is_state.true))) (lays_none c.args.outcome.now c.args.names.now)
+    ∙ c.if-is_state.true))) (lays_none (result_names (operation c.args.owner.now)) c.args.names.now)
 
 pub returns : goal.returns
 returns c =
-    subst (λ ps. OnOk c.place.result (Lays c.args.outcome.now ps c.args.names.now
+    subst (λ ps. OnOk c.place.result (Lays (result_names (operation c.args.owner.now)) ps c.args.names.now
     c.place.new.names)) (sym (a_word c.args.states.now c.args.assign.now (sym c.is_state.ensures
     ∙ c.if-is_state.false))) c.place.ensures

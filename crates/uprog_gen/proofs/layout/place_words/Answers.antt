@@ -1,5 +1,6 @@
 use Rattle.std.proofs.Common.{[], ◌∷◌, take, sym, subst, arith}
 use Rattle.op_text.specs.declared.tree.Kind.TheVariants.{Word}
+use Rattle.op_text.specs.Language.{operation, result_names}
 use Rattle.uprog_gen.specs.Laying.{Lays, words_defined}
 use Rattle.uprog_gen.proofs.Placed.{lays_then, words_more, one_word, words_no_bits}
 use Rattle.uprog_gen.proofs.layout.place_words.Goals as goal
@@ -9,7 +10,7 @@ loop-assign-preserved c =
     let old = c.loop-assign.invariant in
     let states = c.args.states.now in
     let assigns = c.args.assigns.now in
-    let outcome = c.args.outcome.now in
+    let outcome = result_names (operation c.args.owner.now) in
     let k = c.loop-assign.assign-index in
     let a = c.assign-item.result in
     let step = c.in_ok-place_word.ensures in

@@ -45,4 +45,4 @@ returns-clause-shape c =
     let sources : c.loop-param.sources.items ≡ map (λ (p : Param). p.kind) params =
     c.loop-param.invariant ∙ ap (map (λ (p : Param). p.kind))
     (take_all c.loop-param.param-index params all) in
-    rw (sources, bits, words) refl
+    rw (sources, bits, words, c.kind_of_second.ensures) refl

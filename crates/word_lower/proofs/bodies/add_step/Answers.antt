@@ -1,6 +1,4 @@
-use Rattle.std.proofs.Common.{map}
-use Rattle.loop_ir.specs.Plain.{step_of}
-use Rattle.word_lower.proofs.Append.{same_push, same_none, made_push}
+use Rattle.word_lower.proofs.Append.{same_push, made_push}
 use Rattle.word_lower.proofs.bodies.add_step.Goals as goal
 
 pub returns-in_ok-keep-in-Some-clause-same : goal.returns-in_ok-keep-in-Some-clause-same

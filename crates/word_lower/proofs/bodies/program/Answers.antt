@@ -1,5 +1,4 @@
-use Rattle.std.proofs.Common.{slice_index_or, map, sym, ap, ◌++◌, ◌∷◌, [], ◌∙◌, refl, None}
-use Rattle.loop_ir.specs.Plain.{step_of}
+use Rattle.std.proofs.Common.{slice_index_or, sym, ap, ◌++◌, ◌∷◌, [], ◌∙◌, refl, None}
 use Rattle.word_lower.specs.Shapes.{lines_steps, program_on}
 use Rattle.word_lower.proofs.Append.{lines_more}
 use Rattle.word_lower.proofs.bodies.program.Goals as goal

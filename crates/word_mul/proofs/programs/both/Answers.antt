@@ -1,7 +1,4 @@
-use Rattle.std.proofs.Common.{◌≡◌, ◌∷◌, [], List}
-use Rattle.loop_ir.specs.declared.ir.Step.{Step}
 use Rattle.loop_ir.specs.declared.ir.Step.TheVariants as step
-use Rattle.loop_ir.specs.Plain.{step_of}
 use Rattle.word_mul.proofs.Parts.{end_built, along_built, step_built}
 use Rattle.word_mul.proofs.programs.both.Goals as goal
 
