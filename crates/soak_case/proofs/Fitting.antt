@@ -78,6 +78,7 @@ kinds_are o.Bitcount = refl
 kinds_are o.AndRed = refl
 kinds_are o.OrRed = refl
 kinds_are o.XorRed = refl
+kinds_are o.Divmod = refl
 
 pub case_fits : (c : Case) → FitsChip c → Fits 512 (op_shape (one_statement c.op)) c.n (layout c)
 case_fits c f =

@@ -1,6 +1,8 @@
 -- How the loops go on: the cases, the values of a source, and the sum of a bank.
-use Rattle.std.proofs.Common.{◌≡◌, ℕ, zero, suc, ◌+◌, ◌*◌, ◌/◌, ◌%◌, ◌^◌, ◌<◌, ◌≤◌, List, [], ◌∷◌, ◌++◌}
-use Rattle.std.proofs.Common.{length, map, take, drop, get_or, set, refl, sym, ap, ◌∙◌, arith, append_assoc}
+use Rattle.std.proofs.Common.{◌≡◌, ℕ, zero, suc, ◌+◌, ◌*◌, ◌/◌, ◌%◌, ◌^◌, ◌<◌, ◌≤◌, List, [], ◌∷◌}
+use Rattle.std.proofs.Common.{◌++◌}
+use Rattle.std.proofs.Common.{length, map, take, drop, get_or, set, refl, sym, ap, ◌∙◌, arith}
+use Rattle.std.proofs.Common.{append_assoc}
 use Rattle.std.specs.Prelude.{sum_by, flat_map}
 use Rattle.std.specs.Prelude.{All}
 use Rattle.std.specs.List.{range_with_len, AllByRecursion}
@@ -18,24 +20,23 @@ use Rattle.op_text.specs.declared.tree.Kind.{Kind}
 use Rattle.op_text.specs.declared.tree.Kind.TheVariants.{Word}
 use Rattle.op_text.specs.declared.tree.WordOp.{WordOp}
 use Rattle.op_text.specs.declared.tree.WordOp.TheVariants as o
-use Rattle.op_text.specs.WordOps.{all_ops}
 use Rattle.op_text.specs.Scratch.{param}
 use Rattle.soak_case.specs.declared.cases.Case.{Case}
-use Rattle.soak_case.specs.Cases.{at_widths, params_of, soak_cases}
+use Rattle.soak_case.specs.Cases.{at_widths, params_of, single_ops, soak_cases}
 use Rattle.soak_case.specs.Words.{elements, value_at, values_of, word_at}
 
 -- the cases of one operation more
-pub cases_more : (items new : List Case) (i : ℕ) (op : WordOp) → i < 26 → op ≡ get_or all_ops i o.Not
+pub cases_more : (items new : List Case) (i : ℕ) (op : WordOp) → i < 26 → op ≡ get_or single_ops i o.Not
     → new ≡ items ++ at_widths op
-    → soak_cases ≡ items ++ flat_map at_widths (drop i all_ops)
-    → soak_cases ≡ new ++ flat_map at_widths (drop (i + 1) all_ops)
+    → soak_cases ≡ items ++ flat_map at_widths (drop i single_ops)
+    → soak_cases ≡ new ++ flat_map at_widths (drop (i + 1) single_ops)
 cases_more items new i op l e n h =
     let one : suc i ≡ i + 1 = omega arith in
-    h ∙ ap (λ (ops : List WordOp). items ++ flat_map at_widths ops) (drop-cons all_ops i o.Not l)
-    ∙ ap (λ (x : WordOp). items ++ (at_widths x ++ flat_map at_widths (drop (suc i) all_ops))) (sym e)
-    ∙ sym (append_assoc items (at_widths op) (flat_map at_widths (drop (suc i) all_ops)))
-    ∙ ap (λ (xs : List Case). xs ++ flat_map at_widths (drop (suc i) all_ops)) (sym n)
-    ∙ ap (λ k. new ++ flat_map at_widths (drop k all_ops)) one
+    h ∙ ap (λ (ops : List WordOp). items ++ flat_map at_widths ops) (drop-cons single_ops i o.Not l)
+    ∙ ap (λ (x : WordOp). items ++ (at_widths x ++ flat_map at_widths (drop (suc i) single_ops))) (sym e)
+    ∙ sym (append_assoc items (at_widths op) (flat_map at_widths (drop (suc i) single_ops)))
+    ∙ ap (λ (xs : List Case). xs ++ flat_map at_widths (drop (suc i) single_ops)) (sym n)
+    ∙ ap (λ k. new ++ flat_map at_widths (drop k single_ops)) one
 
 -- the bit that a width shifts out
 pub shifted : (b : ℕ) → b ≤ 64 → 1 * 2 ^ b % 2 ^ 128 ≡ 2 ^ b

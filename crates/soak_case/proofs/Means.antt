@@ -1,6 +1,7 @@
 -- What the op of one statement means: the value of its operation.
-use Rattle.std.proofs.Common.{◌≡◌, ℕ, zero, suc, ◌+◌, ◌*◌, ◌-◌, ◌/◌, ◌%◌, ◌^◌, ◌==◌, ◌<◌, Bool, true}
-use Rattle.std.proofs.Common.{false, List, [], ◌∷◌, length, cond, refl, ap, ◌∙◌, arith, subst}
+use Rattle.std.proofs.Common.{◌≡◌, ℕ, zero, suc, ◌+◌, ◌*◌, ◌-◌, ◌/◌, ◌%◌, ◌^◌, ◌==◌, ◌<◌, Bool}
+use Rattle.std.proofs.Common.{true}
+use Rattle.std.proofs.Common.{false, List, [], ◌∷◌, get_or, length, cond, refl, ap, ◌∙◌, arith, subst}
 use Rattle.std.specs.Prelude.{nat_le, nat_lt, ◌&&◌, ◌||◌}
 use Rattle.std.proofs.Math.Nat.{div-le_self, mod-le, mod-lt, pow-succ'}
 use Rattle.std.proofs.lemmas.Nat.{pow_pos}
@@ -9,7 +10,8 @@ use Rattle.std.proofs.lemmas.List.Sums.{count_by-le-length}
 use Rattle.op_text.specs.declared.tree.Kind.{Kind}
 use Rattle.op_text.specs.declared.tree.WordOp.{WordOp}
 use Rattle.op_text.specs.declared.tree.WordOp.TheVariants as o
-use Rattle.op_text.specs.Values.{bit_by_bit, bit_number, bits, both, differ, half, ones_of, op_value}
+use Rattle.op_text.specs.Values.{bit_by_bit, bit_number, bits, both, differ, half, ones_of}
+use Rattle.op_text.specs.Values.{op_value}
 use Rattle.op_text.specs.Values.{value}
 use Rattle.op_text.specs.Meaning.{meaning}
 use Rattle.uprog_code.specs.Shape.{width}
@@ -170,10 +172,19 @@ fits_result o.OrRed n (a ∷ []) s = below_bit (nat_lt 0 a)
 fits_result o.XorRed n [] s = absurd s
 fits_result o.XorRed n (a ∷ y ∷ ys) s = absurd s.1
 fits_result o.XorRed n (a ∷ []) s = mod-lt (ones_of n a) (omega arith)
+fits_result o.Divmod n [] s = absurd s
+fits_result o.Divmod n (a ∷ []) s = absurd s.1
+fits_result o.Divmod n (a ∷ b ∷ y ∷ ys) s = absurd s.1.1
+fits_result o.Divmod n (a ∷ b ∷ []) s = let p = pow_pos n in let d = div-le_self a b in let l = s.0 in
+    below_choice (b == 0) (2 ^ n - 1) (a / b) (2 ^ n) (omega (arith, p)) (omega (arith, d, l))
+
+-- the number of its one result
+abbrev pub meant : WordOp → ℕ → List ℕ → ℕ
+meant op n values = get_or (meaning (one_statement op) n values) 0 0
 
 -- the op of one statement means its operation's value
 pub means : (op : WordOp) (n : ℕ) (values : List ℕ) → AreSmall n (source_kinds op) values
-    → meaning (one_statement op) n values ≡ op_value op n (arguments op values)
+    → meant op n values ≡ op_value op n (arguments op values)
 means o.Not n [] s = absurd s
 means o.Not n (a ∷ y ∷ ys) s = absurd s.1
 means o.Not n (a ∷ []) s =
@@ -331,3 +342,10 @@ means o.XorRed n (a ∷ y ∷ ys) s = absurd s.1
 means o.XorRed n (a ∷ []) s =
     ap (λ v. value (bits (op_value o.XorRed n (v ∷ [])) 1)) (value-bits n a s.0)
     ∙ value-bits 1 (op_value o.XorRed n (a ∷ [])) (fits_result o.XorRed n (a ∷ []) s)
+means o.Divmod n [] s = absurd s
+means o.Divmod n (a ∷ []) s = absurd s.1
+means o.Divmod n (a ∷ b ∷ y ∷ ys) s = absurd s.1.1
+means o.Divmod n (a ∷ b ∷ []) s =
+    ap (λ v. value (bits (op_value o.Divmod n (v ∷ value (bits b n) ∷ [])) n)) (value-bits n a s.0)
+    ∙ ap (λ v. value (bits (op_value o.Divmod n (a ∷ v ∷ [])) n)) (value-bits n b s.1.0)
+    ∙ value-bits n (op_value o.Divmod n (a ∷ b ∷ [])) (fits_result o.Divmod n (a ∷ b ∷ []) s)

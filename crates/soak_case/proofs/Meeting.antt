@@ -1,557 +1,617 @@
--- The op of one statement meets the rules, whatever its operation is.
-use Rattle.std.proofs.Common.{[], ◌∷◌, refl, arith}
+-- The op of one statement meets the rules, whatever its operation with one result is.
+use Rattle.std.proofs.Common.{◌≡◌, [], ◌∷◌, refl, sym, ap, arith}
+use Rattle.std.specs.Prelude.{None, Some, unwrap_or}
+use Rattle.op_text.specs.declared.tree.Kind.{Kind}
 use Rattle.op_text.specs.declared.tree.WordOp.{WordOp}
 use Rattle.op_text.specs.declared.tree.WordOp.TheVariants as o
+use Rattle.op_text.specs.WordOps.{second_kind}
 use Rattle.op_rules.specs.Meets.{OperationMeets, OpsMeet}
 use Rattle.soak_case.specs.Cases.{one_statement}
 
-pub meets : (op : WordOp) → OperationMeets (one_statement op)
-meets o.Not = record {
+-- the result has one kind
+own : {j k : Kind} → Some j ≡ Some k → k ≡ j
+own {j} {k} e = sym (ap (λ x. unwrap_or x j) e)
+
+pub meets : (op : WordOp) → second_kind op ≡ None → OperationMeets (one_statement op)
+meets o.Not e = record {
   name = refl;
   not_reserved = refl;
   has_params = omega arith;
   few_params = omega arith;
   params = (refl, tt);
   params_differ = (refl, tt);
-  result_good = refl;
-  result_new = refl;
+  results_good = (refl, tt);
+  results_new = (refl, tt);
+  results_differ = (refl, tt);
   has_body = omega arith;
   few_statements = omega arith;
   body = (
     record {
       known = (refl, tt);
       takes = refl;
-      gives = record { good = refl; new = refl; fits = λ e. refl };
+      gives = record { good = refl; new = refl; fits = λ k e. own e };
+      others = tt;
     },
     tt,
   );
-  result_given = refl;
+  results_given = (refl, tt);
 }
-meets o.And = record {
+meets o.And e = record {
   name = refl;
   not_reserved = refl;
   has_params = omega arith;
   few_params = omega arith;
   params = (refl, (refl, tt));
   params_differ = (refl, (refl, tt));
-  result_good = refl;
-  result_new = refl;
+  results_good = (refl, tt);
+  results_new = (refl, tt);
+  results_differ = (refl, tt);
   has_body = omega arith;
   few_statements = omega arith;
   body = (
     record {
       known = (refl, (refl, tt));
       takes = refl;
-      gives = record { good = refl; new = refl; fits = λ e. refl };
+      gives = record { good = refl; new = refl; fits = λ k e. own e };
+      others = tt;
     },
     tt,
   );
-  result_given = refl;
+  results_given = (refl, tt);
 }
-meets o.Or = record {
+meets o.Or e = record {
   name = refl;
   not_reserved = refl;
   has_params = omega arith;
   few_params = omega arith;
   params = (refl, (refl, tt));
   params_differ = (refl, (refl, tt));
-  result_good = refl;
-  result_new = refl;
+  results_good = (refl, tt);
+  results_new = (refl, tt);
+  results_differ = (refl, tt);
   has_body = omega arith;
   few_statements = omega arith;
   body = (
     record {
       known = (refl, (refl, tt));
       takes = refl;
-      gives = record { good = refl; new = refl; fits = λ e. refl };
+      gives = record { good = refl; new = refl; fits = λ k e. own e };
+      others = tt;
     },
     tt,
   );
-  result_given = refl;
+  results_given = (refl, tt);
 }
-meets o.Xor = record {
+meets o.Xor e = record {
   name = refl;
   not_reserved = refl;
   has_params = omega arith;
   few_params = omega arith;
   params = (refl, (refl, tt));
   params_differ = (refl, (refl, tt));
-  result_good = refl;
-  result_new = refl;
+  results_good = (refl, tt);
+  results_new = (refl, tt);
+  results_differ = (refl, tt);
   has_body = omega arith;
   few_statements = omega arith;
   body = (
     record {
       known = (refl, (refl, tt));
       takes = refl;
-      gives = record { good = refl; new = refl; fits = λ e. refl };
+      gives = record { good = refl; new = refl; fits = λ k e. own e };
+      others = tt;
     },
     tt,
   );
-  result_given = refl;
+  results_given = (refl, tt);
 }
-meets o.Copy = record {
+meets o.Copy e = record {
   name = refl;
   not_reserved = refl;
   has_params = omega arith;
   few_params = omega arith;
   params = (refl, tt);
   params_differ = (refl, tt);
-  result_good = refl;
-  result_new = refl;
+  results_good = (refl, tt);
+  results_new = (refl, tt);
+  results_differ = (refl, tt);
   has_body = omega arith;
   few_statements = omega arith;
   body = (
     record {
       known = (refl, tt);
       takes = refl;
-      gives = record { good = refl; new = refl; fits = λ e. refl };
+      gives = record { good = refl; new = refl; fits = λ k e. own e };
+      others = tt;
     },
     tt,
   );
-  result_given = refl;
+  results_given = (refl, tt);
 }
-meets o.Zero = record {
+meets o.Zero e = record {
   name = refl;
   not_reserved = refl;
   has_params = omega arith;
   few_params = omega arith;
   params = (refl, tt);
   params_differ = (refl, tt);
-  result_good = refl;
-  result_new = refl;
+  results_good = (refl, tt);
+  results_new = (refl, tt);
+  results_differ = (refl, tt);
   has_body = omega arith;
   few_statements = omega arith;
   body = (
     record {
       known = tt;
       takes = refl;
-      gives = record { good = refl; new = refl; fits = λ e. refl };
+      gives = record { good = refl; new = refl; fits = λ k e. own e };
+      others = tt;
     },
     tt,
   );
-  result_given = refl;
+  results_given = (refl, tt);
 }
-meets o.Ones = record {
+meets o.Ones e = record {
   name = refl;
   not_reserved = refl;
   has_params = omega arith;
   few_params = omega arith;
   params = (refl, tt);
   params_differ = (refl, tt);
-  result_good = refl;
-  result_new = refl;
+  results_good = (refl, tt);
+  results_new = (refl, tt);
+  results_differ = (refl, tt);
   has_body = omega arith;
   few_statements = omega arith;
   body = (
     record {
       known = tt;
       takes = refl;
-      gives = record { good = refl; new = refl; fits = λ e. refl };
+      gives = record { good = refl; new = refl; fits = λ k e. own e };
+      others = tt;
     },
     tt,
   );
-  result_given = refl;
+  results_given = (refl, tt);
 }
-meets o.Shl1 = record {
+meets o.Shl1 e = record {
   name = refl;
   not_reserved = refl;
   has_params = omega arith;
   few_params = omega arith;
   params = (refl, tt);
   params_differ = (refl, tt);
-  result_good = refl;
-  result_new = refl;
+  results_good = (refl, tt);
+  results_new = (refl, tt);
+  results_differ = (refl, tt);
   has_body = omega arith;
   few_statements = omega arith;
   body = (
     record {
       known = (refl, tt);
       takes = refl;
-      gives = record { good = refl; new = refl; fits = λ e. refl };
+      gives = record { good = refl; new = refl; fits = λ k e. own e };
+      others = tt;
     },
     tt,
   );
-  result_given = refl;
+  results_given = (refl, tt);
 }
-meets o.Shr1 = record {
+meets o.Shr1 e = record {
   name = refl;
   not_reserved = refl;
   has_params = omega arith;
   few_params = omega arith;
   params = (refl, tt);
   params_differ = (refl, tt);
-  result_good = refl;
-  result_new = refl;
+  results_good = (refl, tt);
+  results_new = (refl, tt);
+  results_differ = (refl, tt);
   has_body = omega arith;
   few_statements = omega arith;
   body = (
     record {
       known = (refl, tt);
       takes = refl;
-      gives = record { good = refl; new = refl; fits = λ e. refl };
+      gives = record { good = refl; new = refl; fits = λ k e. own e };
+      others = tt;
     },
     tt,
   );
-  result_given = refl;
+  results_given = (refl, tt);
 }
-meets o.Add = record {
+meets o.Add e = record {
   name = refl;
   not_reserved = refl;
   has_params = omega arith;
   few_params = omega arith;
   params = (refl, (refl, tt));
   params_differ = (refl, (refl, tt));
-  result_good = refl;
-  result_new = refl;
+  results_good = (refl, tt);
+  results_new = (refl, tt);
+  results_differ = (refl, tt);
   has_body = omega arith;
   few_statements = omega arith;
   body = (
     record {
       known = (refl, (refl, tt));
       takes = refl;
-      gives = record { good = refl; new = refl; fits = λ e. refl };
+      gives = record { good = refl; new = refl; fits = λ k e. own e };
+      others = tt;
     },
     tt,
   );
-  result_given = refl;
+  results_given = (refl, tt);
 }
-meets o.Sub = record {
+meets o.Sub e = record {
   name = refl;
   not_reserved = refl;
   has_params = omega arith;
   few_params = omega arith;
   params = (refl, (refl, tt));
   params_differ = (refl, (refl, tt));
-  result_good = refl;
-  result_new = refl;
+  results_good = (refl, tt);
+  results_new = (refl, tt);
+  results_differ = (refl, tt);
   has_body = omega arith;
   few_statements = omega arith;
   body = (
     record {
       known = (refl, (refl, tt));
       takes = refl;
-      gives = record { good = refl; new = refl; fits = λ e. refl };
+      gives = record { good = refl; new = refl; fits = λ k e. own e };
+      others = tt;
     },
     tt,
   );
-  result_given = refl;
+  results_given = (refl, tt);
 }
-meets o.Mul = record {
+meets o.Mul e = record {
   name = refl;
   not_reserved = refl;
   has_params = omega arith;
   few_params = omega arith;
   params = (refl, (refl, tt));
   params_differ = (refl, (refl, tt));
-  result_good = refl;
-  result_new = refl;
+  results_good = (refl, tt);
+  results_new = (refl, tt);
+  results_differ = (refl, tt);
   has_body = omega arith;
   few_statements = omega arith;
   body = (
     record {
       known = (refl, (refl, tt));
       takes = refl;
-      gives = record { good = refl; new = refl; fits = λ e. refl };
+      gives = record { good = refl; new = refl; fits = λ k e. own e };
+      others = tt;
     },
     tt,
   );
-  result_given = refl;
+  results_given = (refl, tt);
 }
-meets o.Div = record {
+meets o.Div e = record {
   name = refl;
   not_reserved = refl;
   has_params = omega arith;
   few_params = omega arith;
   params = (refl, (refl, tt));
   params_differ = (refl, (refl, tt));
-  result_good = refl;
-  result_new = refl;
+  results_good = (refl, tt);
+  results_new = (refl, tt);
+  results_differ = (refl, tt);
   has_body = omega arith;
   few_statements = omega arith;
   body = (
     record {
       known = (refl, (refl, tt));
       takes = refl;
-      gives = record { good = refl; new = refl; fits = λ e. refl };
+      gives = record { good = refl; new = refl; fits = λ k e. own e };
+      others = tt;
     },
     tt,
   );
-  result_given = refl;
+  results_given = (refl, tt);
 }
-meets o.Rem = record {
+meets o.Rem e = record {
   name = refl;
   not_reserved = refl;
   has_params = omega arith;
   few_params = omega arith;
   params = (refl, (refl, tt));
   params_differ = (refl, (refl, tt));
-  result_good = refl;
-  result_new = refl;
+  results_good = (refl, tt);
+  results_new = (refl, tt);
+  results_differ = (refl, tt);
   has_body = omega arith;
   few_statements = omega arith;
   body = (
     record {
       known = (refl, (refl, tt));
       takes = refl;
-      gives = record { good = refl; new = refl; fits = λ e. refl };
+      gives = record { good = refl; new = refl; fits = λ k e. own e };
+      others = tt;
     },
     tt,
   );
-  result_given = refl;
+  results_given = (refl, tt);
 }
-meets o.Abs = record {
+meets o.Abs e = record {
   name = refl;
   not_reserved = refl;
   has_params = omega arith;
   few_params = omega arith;
   params = (refl, tt);
   params_differ = (refl, tt);
-  result_good = refl;
-  result_new = refl;
+  results_good = (refl, tt);
+  results_new = (refl, tt);
+  results_differ = (refl, tt);
   has_body = omega arith;
   few_statements = omega arith;
   body = (
     record {
       known = (refl, tt);
       takes = refl;
-      gives = record { good = refl; new = refl; fits = λ e. refl };
+      gives = record { good = refl; new = refl; fits = λ k e. own e };
+      others = tt;
     },
     tt,
   );
-  result_given = refl;
+  results_given = (refl, tt);
 }
-meets o.Relu = record {
+meets o.Relu e = record {
   name = refl;
   not_reserved = refl;
   has_params = omega arith;
   few_params = omega arith;
   params = (refl, tt);
   params_differ = (refl, tt);
-  result_good = refl;
-  result_new = refl;
+  results_good = (refl, tt);
+  results_new = (refl, tt);
+  results_differ = (refl, tt);
   has_body = omega arith;
   few_statements = omega arith;
   body = (
     record {
       known = (refl, tt);
       takes = refl;
-      gives = record { good = refl; new = refl; fits = λ e. refl };
+      gives = record { good = refl; new = refl; fits = λ k e. own e };
+      others = tt;
     },
     tt,
   );
-  result_given = refl;
+  results_given = (refl, tt);
 }
-meets o.Min = record {
+meets o.Min e = record {
   name = refl;
   not_reserved = refl;
   has_params = omega arith;
   few_params = omega arith;
   params = (refl, (refl, tt));
   params_differ = (refl, (refl, tt));
-  result_good = refl;
-  result_new = refl;
+  results_good = (refl, tt);
+  results_new = (refl, tt);
+  results_differ = (refl, tt);
   has_body = omega arith;
   few_statements = omega arith;
   body = (
     record {
       known = (refl, (refl, tt));
       takes = refl;
-      gives = record { good = refl; new = refl; fits = λ e. refl };
+      gives = record { good = refl; new = refl; fits = λ k e. own e };
+      others = tt;
     },
     tt,
   );
-  result_given = refl;
+  results_given = (refl, tt);
 }
-meets o.Max = record {
+meets o.Max e = record {
   name = refl;
   not_reserved = refl;
   has_params = omega arith;
   few_params = omega arith;
   params = (refl, (refl, tt));
   params_differ = (refl, (refl, tt));
-  result_good = refl;
-  result_new = refl;
+  results_good = (refl, tt);
+  results_new = (refl, tt);
+  results_differ = (refl, tt);
   has_body = omega arith;
   few_statements = omega arith;
   body = (
     record {
       known = (refl, (refl, tt));
       takes = refl;
-      gives = record { good = refl; new = refl; fits = λ e. refl };
+      gives = record { good = refl; new = refl; fits = λ k e. own e };
+      others = tt;
     },
     tt,
   );
-  result_given = refl;
+  results_given = (refl, tt);
 }
-meets o.Eq = record {
+meets o.Eq e = record {
   name = refl;
   not_reserved = refl;
   has_params = omega arith;
   few_params = omega arith;
   params = (refl, (refl, tt));
   params_differ = (refl, (refl, tt));
-  result_good = refl;
-  result_new = refl;
+  results_good = (refl, tt);
+  results_new = (refl, tt);
+  results_differ = (refl, tt);
   has_body = omega arith;
   few_statements = omega arith;
   body = (
     record {
       known = (refl, (refl, tt));
       takes = refl;
-      gives = record { good = refl; new = refl; fits = λ e. refl };
+      gives = record { good = refl; new = refl; fits = λ k e. own e };
+      others = tt;
     },
     tt,
   );
-  result_given = refl;
+  results_given = (refl, tt);
 }
-meets o.Gt = record {
+meets o.Gt e = record {
   name = refl;
   not_reserved = refl;
   has_params = omega arith;
   few_params = omega arith;
   params = (refl, (refl, tt));
   params_differ = (refl, (refl, tt));
-  result_good = refl;
-  result_new = refl;
+  results_good = (refl, tt);
+  results_new = (refl, tt);
+  results_differ = (refl, tt);
   has_body = omega arith;
   few_statements = omega arith;
   body = (
     record {
       known = (refl, (refl, tt));
       takes = refl;
-      gives = record { good = refl; new = refl; fits = λ e. refl };
+      gives = record { good = refl; new = refl; fits = λ k e. own e };
+      others = tt;
     },
     tt,
   );
-  result_given = refl;
+  results_given = (refl, tt);
 }
-meets o.Ge = record {
+meets o.Ge e = record {
   name = refl;
   not_reserved = refl;
   has_params = omega arith;
   few_params = omega arith;
   params = (refl, (refl, tt));
   params_differ = (refl, (refl, tt));
-  result_good = refl;
-  result_new = refl;
+  results_good = (refl, tt);
+  results_new = (refl, tt);
+  results_differ = (refl, tt);
   has_body = omega arith;
   few_statements = omega arith;
   body = (
     record {
       known = (refl, (refl, tt));
       takes = refl;
-      gives = record { good = refl; new = refl; fits = λ e. refl };
+      gives = record { good = refl; new = refl; fits = λ k e. own e };
+      others = tt;
     },
     tt,
   );
-  result_given = refl;
+  results_given = (refl, tt);
 }
-meets o.IfElse = record {
+meets o.IfElse e = record {
   name = refl;
   not_reserved = refl;
   has_params = omega arith;
   few_params = omega arith;
   params = (refl, (refl, (refl, tt)));
   params_differ = (refl, (refl, (refl, tt)));
-  result_good = refl;
-  result_new = refl;
+  results_good = (refl, tt);
+  results_new = (refl, tt);
+  results_differ = (refl, tt);
   has_body = omega arith;
   few_statements = omega arith;
   body = (
     record {
       known = (refl, (refl, (refl, tt)));
       takes = refl;
-      gives = record { good = refl; new = refl; fits = λ e. refl };
+      gives = record { good = refl; new = refl; fits = λ k e. own e };
+      others = tt;
     },
     tt,
   );
-  result_given = refl;
+  results_given = (refl, tt);
 }
-meets o.Bitcount = record {
+meets o.Bitcount e = record {
   name = refl;
   not_reserved = refl;
   has_params = omega arith;
   few_params = omega arith;
   params = (refl, tt);
   params_differ = (refl, tt);
-  result_good = refl;
-  result_new = refl;
+  results_good = (refl, tt);
+  results_new = (refl, tt);
+  results_differ = (refl, tt);
   has_body = omega arith;
   few_statements = omega arith;
   body = (
     record {
       known = (refl, tt);
       takes = refl;
-      gives = record { good = refl; new = refl; fits = λ e. refl };
+      gives = record { good = refl; new = refl; fits = λ k e. own e };
+      others = tt;
     },
     tt,
   );
-  result_given = refl;
+  results_given = (refl, tt);
 }
-meets o.AndRed = record {
+meets o.AndRed e = record {
   name = refl;
   not_reserved = refl;
   has_params = omega arith;
   few_params = omega arith;
   params = (refl, tt);
   params_differ = (refl, tt);
-  result_good = refl;
-  result_new = refl;
+  results_good = (refl, tt);
+  results_new = (refl, tt);
+  results_differ = (refl, tt);
   has_body = omega arith;
   few_statements = omega arith;
   body = (
     record {
       known = (refl, tt);
       takes = refl;
-      gives = record { good = refl; new = refl; fits = λ e. refl };
+      gives = record { good = refl; new = refl; fits = λ k e. own e };
+      others = tt;
     },
     tt,
   );
-  result_given = refl;
+  results_given = (refl, tt);
 }
-meets o.OrRed = record {
+meets o.OrRed e = record {
   name = refl;
   not_reserved = refl;
   has_params = omega arith;
   few_params = omega arith;
   params = (refl, tt);
   params_differ = (refl, tt);
-  result_good = refl;
-  result_new = refl;
+  results_good = (refl, tt);
+  results_new = (refl, tt);
+  results_differ = (refl, tt);
   has_body = omega arith;
   few_statements = omega arith;
   body = (
     record {
       known = (refl, tt);
       takes = refl;
-      gives = record { good = refl; new = refl; fits = λ e. refl };
+      gives = record { good = refl; new = refl; fits = λ k e. own e };
+      others = tt;
     },
     tt,
   );
-  result_given = refl;
+  results_given = (refl, tt);
 }
-meets o.XorRed = record {
+meets o.XorRed e = record {
   name = refl;
   not_reserved = refl;
   has_params = omega arith;
   few_params = omega arith;
   params = (refl, tt);
   params_differ = (refl, tt);
-  result_good = refl;
-  result_new = refl;
+  results_good = (refl, tt);
+  results_new = (refl, tt);
+  results_differ = (refl, tt);
   has_body = omega arith;
   few_statements = omega arith;
   body = (
     record {
       known = (refl, tt);
       takes = refl;
-      gives = record { good = refl; new = refl; fits = λ e. refl };
+      gives = record { good = refl; new = refl; fits = λ k e. own e };
+      others = tt;
     },
     tt,
   );
-  result_given = refl;
+  results_given = (refl, tt);
 }
+meets o.Divmod e = absurd (cc)
 
-pub ops_meet : (op : WordOp) → OpsMeet (one_statement op ∷ [])
-ops_meet op = record { few_ops = omega arith; differ = (refl, tt); each = (meets op, tt) }
+pub ops_meet : (op : WordOp) → second_kind op ≡ None → OpsMeet (one_statement op ∷ [])
+ops_meet op e = record { few_ops = omega arith; differ = (refl, tt); each = (meets op e, tt) }

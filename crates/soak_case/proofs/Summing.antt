@@ -12,7 +12,6 @@ use Rattle.dram_model.specs.Column.{Column, run}
 use Rattle.dram_model.specs.Chip.{Banks}
 use Rattle.dram_model.specs.Elements.{below, number}
 use Rattle.op_text.specs.declared.tree.Kind.{Kind}
-use Rattle.op_text.specs.Meaning.{meaning}
 use Rattle.uprog_code.specs.Shape.{Microprogram, Shape, width}
 use Rattle.uprog_code.specs.Machine.{trace, issues_of}
 use Rattle.uprog_code.specs.Bound.{bound}
@@ -21,10 +20,11 @@ use Rattle.uprog_code.specs.Texts.{EntryDoes, op_shape, text_op}
 use Rattle.soak_case.specs.declared.cases.Case.{Case}
 use Rattle.soak_case.specs.Cases.{one_statement, source_kinds}
 use Rattle.soak_case.specs.Words.{behind, elements, sources_at, word_at}
-use Rattle.soak_case.specs.Layout.{FitsChip, bases_from, issues_at, layout, result_rows, source_rows}
+use Rattle.soak_case.specs.Layout.{FitsChip, bases_from, issues_at, layout, result_rows}
+use Rattle.soak_case.specs.Layout.{source_rows}
 use Rattle.soak_case.specs.Sums.{case_sum, case_value}
 use Rattle.soak_case.proofs.Fitting.{case_fits, kinds_are}
-use Rattle.soak_case.proofs.Means.{AreSmall, means}
+use Rattle.soak_case.proofs.Means.{AreSmall, means, meant}
 
 map_twice : {A B C : Type 0} (g : B → C) (f : A → B) (xs : List A)
     → map g (map f xs) ≡ map (λ x. g (f x)) xs
@@ -61,7 +61,7 @@ column_value : (c : Case) (m : Microprogram) (s : Column) → FitsChip c
     → EntryDoes m (text_op (one_statement c.op))
     → number (source_rows c) (result_rows c)
     (run (bound 512 m.shape c.n (layout c) (issues_at c m)) s)
-    ≡ meaning (one_statement c.op) c.n
+    ≡ meant c.op c.n
     (numbers c.n (source_kinds c.op) (bases_from 0 c.n (source_kinds c.op)) s)
 column_value c m s f does =
     let shape : Shape = op_shape (one_statement c.op) in
@@ -70,13 +70,13 @@ column_value c m s f does =
     (case_fits c f) in
     let head : number (source_rows c) (result_rows c)
     (run (bound 512 shape c.n (layout c) (issues_of (trace shape m.code c.n))) s)
-    ≡ meaning (one_statement c.op) c.n (numbers c.n shape.sources (layout c).sources s) =
+    ≡ meant c.op c.n (numbers c.n shape.sources (layout c).sources s) =
     ap (λ (vs : List ℕ). get_or vs 0 0) gives in
     subst (λ (sh : Shape). number (source_rows c) (result_rows c)
     (run (bound 512 sh c.n (layout c) (issues_of (trace sh m.code c.n))) s)
-    ≡ meaning (one_statement c.op) c.n
+    ≡ meant c.op c.n
     (numbers c.n (source_kinds c.op) (bases_from 0 c.n (source_kinds c.op)) s)) (sym does.shape)
-    (head ∙ ap (λ (ks : List Kind). meaning (one_statement c.op) c.n
+    (head ∙ ap (λ (ks : List Kind). meant c.op c.n
     (numbers c.n ks (layout c).sources s)) (kinds_are c.op))
 
 pub sum_is : (state : ℕ) (c : Case) (m : Microprogram) (mid last : Banks) → FitsChip c
@@ -91,7 +91,7 @@ sum_is state c m mid last f does loaded ran =
     let kinds : List Kind = source_kinds c.op in
     let read : Column → ℕ = number (source_rows c) (result_rows c) in
     let held : Column → List ℕ = numbers c.n kinds (bases_from 0 c.n kinds) in
-    let mean : List ℕ → ℕ = meaning (one_statement c.op) c.n in
+    let mean : List ℕ → ℕ = meant c.op c.n in
     let range : List ℕ = range_with_len 0 elements in
     let numbers_are : map read (below 2 last) ≡ map (case_value state c) range =
     ap (map read) (below_run commands mid last ran)

@@ -1,12 +1,14 @@
--- The cases of a soak: each word operation at each width, and the op that it compiles.
-use Rattle.std.specs.Prelude.{ℕ, List, [], ◌∷◌, map, flat_map, length, take, codes}
+-- The cases of a soak: each word operation with one result at each width, and the op that it
+-- compiles.
+use Rattle.std.specs.Prelude.{ℕ, List, [], ◌∷◌, None, map, filter, flat_map, is_none, length, take}
+use Rattle.std.specs.Prelude.{codes}
 use Rattle.op_text.specs.declared.tree.Kind.{Kind}
 use Rattle.op_text.specs.declared.tree.Kind.TheVariants.{Word}
 use Rattle.op_text.specs.declared.tree.Param.{Param}
 use Rattle.op_text.specs.declared.tree.WordOp.{WordOp}
 use Rattle.op_text.specs.Language.{Compute, Operation}
 use Rattle.op_text.specs.Scratch.{param}
-use Rattle.op_text.specs.WordOps.{Form, form, forms, all_ops, op_text}
+use Rattle.op_text.specs.WordOps.{Form, form, forms, all_ops, op_text, second_kind}
 use Rattle.soak_case.specs.declared.cases.Case.{Case}
 
 abbrev pub widths : List ℕ
@@ -15,9 +17,13 @@ widths = 1 ∷ 8 ∷ 64 ∷ []
 abbrev pub at_widths : WordOp → List Case
 at_widths op = map (λ n. record { op = op; n = n }) widths
 
--- the word operations in the order of their table, each at each width
+-- the word operations with one result, in the order of their table
+abbrev pub single_ops : List WordOp
+single_ops = filter (λ op. is_none (second_kind op)) all_ops
+
+-- each of them at each width
 abbrev pub soak_cases : List Case
-soak_cases = flat_map at_widths all_ops
+soak_cases = flat_map at_widths single_ops
 
 abbrev pub first_form : List Form → Form
 first_form [] = form [] Word
@@ -57,5 +63,6 @@ one_statement op = record {
   name = op_text op;
   params = params_of (source_kinds op) source_names;
   result = param (codes "y") (result_kind op);
-  body = Compute (codes "y") op (arguments op source_names) ∷ [];
+  second = None;
+  body = Compute (codes "y") None op (arguments op source_names) ∷ [];
 }

@@ -24,7 +24,7 @@ impl Default for Case {
     }
 }
 
-/// The word operations in the order of their table.
+/// The word operations with one result, in the order of their table.
 const WORD_OPS: [WordOp; 26] = [
     WordOp::Not,
     WordOp::And,
@@ -112,6 +112,7 @@ pub(crate) fn sources_of(op: WordOp) -> &'static [Kind]
         | WordOp::Mul
         | WordOp::Div
         | WordOp::Rem
+        | WordOp::Divmod
         | WordOp::Min
         | WordOp::Max
         | WordOp::Eq
@@ -121,7 +122,7 @@ pub(crate) fn sources_of(op: WordOp) -> &'static [Kind]
     }
 }
 
-/// The kind of an operation's result.
+/// The kind of an operation's first result.
 pub(crate) fn result_of(op: WordOp) -> Kind
     ensures { result ≡ result_kind op }
 {

@@ -1,11 +1,13 @@
 //! The op of a case.
 
-ghost use Rattle.std.specs.Prelude.{◌≡◌, ◌+◌, ◌<◌, ◌≤◌, [], ◌∷◌, ◌++◌, length, take, slice_get, true};
-ghost use Rattle.std.specs.Prelude.{Some, IfOk};
+ghost use Rattle.std.specs.Prelude.{◌≡◌, ◌+◌, ◌<◌, ◌≤◌, [], ◌∷◌, ◌++◌, length, take, slice_get};
+ghost use Rattle.std.specs.Prelude.{true};
+ghost use Rattle.std.specs.Prelude.{Some, None, IfOk};
 ghost use Rattle.text_lex.specs.Spelled.{fits_name};
 ghost use Rattle.op_text.specs.declared.tree.WordOp.{WordOp};
 ghost use Rattle.op_text.specs.Language.{operations};
 ghost use Rattle.op_text.specs.Spelling.{MeetRules};
+ghost use Rattle.op_text.specs.WordOps.{second_kind};
 ghost use Rattle.soak_case.specs.Cases.{one_statement, params_of, source_names};
 
 use crate::cases::{arguments_of, result_of, sources_of};
@@ -77,6 +79,7 @@ pub fn one_statement(op: WordOp, alloc: Global) -> Result<Ops, NoMemory>
     let mut body = Vec::new(alloc);
     let statement = Stmt::Word {
         dst: named(b"y"),
+        second: None,
         op,
         args,
     };
@@ -89,15 +92,16 @@ pub fn one_statement(op: WordOp, alloc: Global) -> Result<Ops, NoMemory>
             name: named(b"y"),
             kind: result_of(op),
         },
+        second: None,
         body,
     };
     keep(&mut ops, whole)?;
     Ok(Ops { ops })
 }
 
-/// Shows that the op of one statement meets the rules, whatever its operation is.
+/// Shows that the op of one statement meets the rules, whatever its operation with one result is.
 pub fn one_statements_meet()
-    ensures { (op : WordOp) → MeetRules (one_statement op ∷ []) }
+    ensures { (op : WordOp) → second_kind op ≡ None → MeetRules (one_statement op ∷ []) }
 {
     rules_are_exact();
 }

@@ -1,5 +1,6 @@
 use Rattle.dram_model.specs.declared.geometry.Geometry.{Geometry}
-use Rattle.std.proofs.Common.{◌∷◌, ◌≡◌, ◌∙◌, ◌*◌, ◌<◌, ◌^◌, ◌+◌, suc, sym, ap, subst, arith, drop, get_or}
+use Rattle.std.proofs.Common.{◌∷◌, ◌≡◌, ◌∙◌, ◌*◌, ◌<◌, ◌^◌, ◌+◌, suc, sym, ap, subst, arith, drop}
+use Rattle.std.proofs.Common.{get_or}
 use Rattle.std.specs.Prelude.{All}
 use Rattle.std.proofs.Math.Seq.{drop-cons}
 use Rattle.std.proofs.lemmas.List.{drop_all}

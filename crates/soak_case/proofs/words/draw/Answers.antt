@@ -1,4 +1,5 @@
-use Rattle.std.proofs.Common.{◌≡◌, ◌%◌, ◌^◌, ◌+◌, ◌∙◌, ap, sym, refl, arith, length-set, subst, take, map}
+use Rattle.std.proofs.Common.{◌≡◌, ◌%◌, ◌^◌, ◌+◌, ◌∙◌, ap, sym, refl, arith, length-set, subst}
+use Rattle.std.proofs.Common.{take, map}
 use Rattle.std.proofs.Common.{suc}
 use Rattle.std.proofs.lemmas.List.{take_all}
 use Rattle.std.specs.List.{range_with_len}
