@@ -1,0 +1,19 @@
+-- What a scan on a machine answers, and of which nodes it is asked.
+use Rattle.std.specs.Prelude.{ℕ, Bool, true, false, List}
+use Rattle.scan_model.specs.Queries as model
+use Rattle.scan_model.specs.Answers.{Answer, Found, Refused}
+use Rattle.scan_query.specs.declared.query.ScanReply.{ScanReply}
+use Rattle.scan_query.specs.declared.query.ScanReply.TheVariants as reply
+use Rattle.scan_query.specs.Queries.{IsNodesOf}
+
+-- the nodes are those of a query
+abbrev pub IsScan : List model.Node → Type 0
+IsScan nodes = (t : model.Query) × IsNodesOf t nodes
+
+abbrev pub answer_of : ScanReply → Answer
+answer_of (reply.Done found of counts) = Found found of counts
+answer_of (reply.Refused why k) = Refused why k
+
+abbrev pub is_done : ScanReply → Bool
+is_done (reply.Done found of counts) = true
+is_done (reply.Refused why k) = false
