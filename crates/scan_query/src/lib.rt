@@ -12,6 +12,6 @@ mod sink;
 mod steps;
 
 pub use ops::scan_ops;
-pub use run::run_query;
 pub use query::{Node, Query, QueryNo, ScanReply};
+pub use run::run_query;
 pub use scan_model::{CmpOp, QueryFault, QueryKind, ScanWhy};

@@ -17,7 +17,7 @@ ghost use Rattle.scan_model.specs.Queries as model;
 ghost use Rattle.scan_model.specs.Answers.{answer, room_word};
 ghost use Rattle.scan_model.specs.Instructions.{count_of, scan_script};
 ghost use Rattle.scan_model.specs.Operations.{scan_text};
-ghost use Rattle.scan_query.specs.Answers.{IsScan, answer_of, is_done};
+ghost use Rattle.scan_query.specs.Answers.{CountersRose, GoesOn, IsScan, answer_of, is_done};
 ghost use Rattle.scan_query.specs.Queries.{IsNodesOf, node_of, nodes_in, sources_fit};
 ghost use Rattle.scan_query.specs.Running.{AreBelow, NodesRun};
 
@@ -115,6 +115,12 @@ pub fn run_query<D: Dram>(
         (pieces (scan_script (table_in machine.old) (nodes_in query.now))))
         (segments_of (geometry_of machine.old) (count_of (table_in machine.old)
         (nodes_in query.now))) (D.view dram.old) (D.view dram.new)) }
+    ensures counted { IfOk result (λ reply. CountersRose reply
+        (segments_of (geometry_of machine.old) (count_of (table_in machine.old)
+        (nodes_in query.now))) (D.view dram.old).counters (D.view dram.new).counters) }
+    ensures goes { IfOk result (λ reply. is_done reply ≡ true
+        → GoesOn (scan_script (table_in machine.old) (nodes_in query.now)) machine.old
+        machine.new) }
     ensures failed { OnErr result (Rose (D.view dram.old).faults (D.view dram.new).faults) }
 {
     let nodes = query.nodes.as_slice();
