@@ -2,3 +2,4 @@ pub mod Running
 pub mod Naming
 pub mod Counting
 pub mod Nodewise
+pub mod Answering

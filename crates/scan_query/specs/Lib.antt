@@ -1,3 +1,4 @@
 -- Scans: a query's nodes, and what is done for them.
 pub mod Queries
 pub mod Running
+pub mod Answers

@@ -1,22 +1,37 @@
 //! A query on a machine.
 
-ghost use Rattle.std.specs.Prelude.{◌≡◌, ◌<◌, ◌≤◌, ◌*◌, ◌^◌, length, map, None, IfOk, OnErr};
+ghost use Rattle.std.specs.Prelude.{◌≡◌, ◌<◌, ◌≤◌, ◌*◌, ◌++◌, ◌^◌, ◌∷◌, [], List, length, map};
+ghost use Rattle.std.specs.Prelude.{true, None, IfOk, OnErr};
 ghost use Rattle.std.specs.List.{AllByRecursion};
 ghost use Rattle.fault_counts.specs.Counts.{Rose};
 ghost use Rattle.dram_model.specs.View.{HasBegun, Kept};
+ghost use Rattle.dram_model.specs.Elements.{segments_of};
+ghost use Rattle.object_alloc.specs.Listed.{Named};
 ghost use Rattle.machine_model.specs.Agrees.{IsPlain};
-ghost use Rattle.sim_machine.specs.Machine.{IsReady, geometry_of, table_in};
-ghost use Rattle.scan_model.specs.Instructions.{scan_script};
-ghost use Rattle.scan_query.specs.Queries.{node_of, nodes_in, sources_fit};
+ghost use Rattle.machine_model.specs.Pieces.{events_of_pieces, pieces};
+ghost use Rattle.uprog_code.specs.Texts.{ImplementsAll};
+ghost use Rattle.sim_machine.specs.Machine.{IsReady, geometry_of, operations_by, program_of};
+ghost use Rattle.sim_machine.specs.Machine.{table_in, turn_in};
+ghost use Rattle.sim_machine.specs.Steps.{DidAndRead};
+ghost use Rattle.scan_model.specs.Queries as model;
+ghost use Rattle.scan_model.specs.Answers.{answer, room_word};
+ghost use Rattle.scan_model.specs.Instructions.{count_of, scan_script};
+ghost use Rattle.scan_model.specs.Operations.{scan_text};
+ghost use Rattle.scan_query.specs.Answers.{CountersRose, GoesOn, IsScan, answer_of, is_done};
+ghost use Rattle.scan_query.specs.Queries.{IsNodesOf, node_of, nodes_in, sources_fit};
 ghost use Rattle.scan_query.specs.Running.{AreBelow, NodesRun};
 
-use crate::checks::count_of;
+use crate::checks::{check, count_of};
 use crate::names::free_names;
 use crate::nodes::{Size, widths_of};
-use crate::query::Node;
+use crate::ones::ones_of;
+use crate::query::{Node, Query, ScanReply};
 use crate::steps::do_node;
 use dram_model::{ChipFault, Dram};
+use object_alloc::{Object, Table};
+use scan_model::ScanWhy;
 use sim_machine::{Machine, Why};
+use uprog_code::Counts;
 
 /// Does the instructions of a query's nodes; answers which was refused, and why, if one was.
 pub(crate) fn run_nodes<D: Dram>(
@@ -51,4 +66,81 @@ pub(crate) fn run_nodes<D: Dram>(
         k += 1;
     }
     Ok(None)
+}
+
+/// The last object of a table.
+fn last_object(table: &Table) -> Object
+    requires { 0 < length table.now.pairs }
+    ensures { (front : List Named) (last : Named) → table.now.pairs ≡ front ++ last ∷ []
+        → result ≡ last.1 }
+{
+    let (_, object) = table.at(table.len() - 1);
+    object
+}
+
+/// Why there was no room for an object of a node.
+fn room_word(why: Why) -> ScanWhy
+    ensures { result ≡ room_word why }
+{
+    match why {
+        Why::TableFull => ScanWhy::TableFull,
+        _ => ScanWhy::NoRows,
+    }
+}
+
+/// Counts the elements that meet a query: its instructions are done on the machine, and the host
+/// reads the last bit object alone. Their report lines are dropped. It takes no memory. After a
+/// refusal or a fault the machine is not used again.
+pub fn run_query<D: Dram>(
+    machine: &mut Machine<'_>,
+    query: &Query,
+    dram: &mut D,
+    stage: &mut [u64],
+) -> Result<ScanReply, ChipFault>
+    requires ready { IsReady machine.old }
+    requires begun { HasBegun (D.view dram.old) }
+    requires geometry { (D.view dram.old).geometry ≡ geometry_of machine.old }
+    requires program { ImplementsAll (program_of machine.old) scan_text }
+    requires query { IsScan (nodes_in query.now) }
+    requires stage { length stage.old ≡ 64 * (geometry_of machine.old).words }
+    requires room { AreBelow (2 ^ 61) (D.view dram.old).counters }
+    ensures borrow { D.borrow dram.new ≡ D.borrow dram.old }
+    ensures kept { Kept (D.view dram.old) (D.view dram.new) }
+    ensures answer { IfOk result (λ reply. (t : model.Query) → IsNodesOf t (nodes_in query.now)
+        → answer_of reply ≡ answer (geometry_of machine.old) (operations_by machine.old)
+        (D.view dram.old).banks (table_in machine.old) t) }
+    ensures did { IfOk result (λ reply. is_done reply ≡ true
+        → DidAndRead (events_of_pieces (geometry_of machine.old) (operations_by machine.old)
+        (turn_in machine.old) (table_in machine.old)
+        (pieces (scan_script (table_in machine.old) (nodes_in query.now))))
+        (segments_of (geometry_of machine.old) (count_of (table_in machine.old)
+        (nodes_in query.now))) (D.view dram.old) (D.view dram.new)) }
+    ensures counted { IfOk result (λ reply. CountersRose reply
+        (segments_of (geometry_of machine.old) (count_of (table_in machine.old)
+        (nodes_in query.now))) (D.view dram.old).counters (D.view dram.new).counters) }
+    ensures goes { IfOk result (λ reply. is_done reply ≡ true
+        → GoesOn (scan_script (table_in machine.old) (nodes_in query.now)) machine.old
+        machine.new) }
+    ensures failed { OnErr result (Rose (D.view dram.old).faults (D.view dram.new).faults) }
+{
+    let nodes = query.nodes.as_slice();
+    let count = count_of(machine.table(), nodes);
+    if let Some((why, k)) = check(machine.table(), count, nodes) {
+        return Ok(ScanReply::Refused(why, k));
+    }
+    let before = dram.tally();
+    if let Some((why, k)) = run_nodes(machine, nodes, dram)? {
+        return Ok(ScanReply::Refused(room_word(why), k));
+    }
+    let after = dram.tally();
+    let object = last_object(machine.table());
+    let found = ones_of(dram, dram.geometry(), object, stage)?;
+    Ok(ScanReply::Done {
+        found,
+        of: count,
+        counts: Counts {
+            aap: after.aap - before.aap,
+            ap: after.ap - before.ap,
+        },
+    })
 }

@@ -1,0 +1,381 @@
+use Rattle.std.proofs.Common.{◌≡◌, ◌∙◌, sym, ap, subst, arith, map, length, List}
+use Rattle.std.proofs.lemmas.List.{length-map}
+use Rattle.std.proofs.Common.{None, Some, Ok}
+use Rattle.std.proofs.Common.{◌-◌}
+use Rattle.std.specs.List.{AllByRecursion}
+use Rattle.dram_model.specs.declared.dram.Counters.{Counters}
+use Rattle.dram_model.specs.Elements.{segments_of}
+use Rattle.dram_model.specs.View.{DidRead}
+use Rattle.object_alloc.specs.Listed.{Named}
+use Rattle.uprog_code.specs.declared.walker.Counts.{Counts}
+use Rattle.machine_model.specs.Agrees.{IsPlain}
+use Rattle.scan_model.specs.Instructions.{count_of, scan_script}
+use Rattle.sim_machine.specs.Machine.{geometry_of, operations_by, table_in}
+use Rattle.scan_model.specs.Answers.{Refused}
+use Rattle.scan_model.specs.Checks.{checked}
+use Rattle.scan_model.specs.Names.{free_name}
+use Rattle.scan_model.specs.Queries.{Node, size}
+use Rattle.scan_query.specs.Queries.{node_of, nodes_in, sources_fit}
+use Rattle.scan_query.specs.Running.{NodesRan, NodesRun, refused_node}
+use Rattle.scan_query.proofs.Answering.{all_done, answer_checked, answer_done, answer_refused}
+use Rattle.scan_query.proofs.Answering.{check_says, counters_end, counts_behind, few_nodes, goes_on, last_is}
+use Rattle.scan_query.proofs.Answering.{leaves, ones_as, plain_nodes, reads_are, rises, room_left}
+use Rattle.scan_query.proofs.Answering.{shaped_as, some_left, sources_fit_all, table_left}
+use Rattle.scan_query.proofs.run.run_query.Goals as goal
+
+pub check-requires : goal.check-requires
+check-requires g c =
+    let few = few_nodes c.requires.query.0 (nodes_in c.args.query.now) c.requires.query.1 in
+    let same = ap length c.as_slice-nodes.ensures.value in
+    let many = length-map c.args.query.now.nodes.items node_of in
+    omega (arith, few, same, many)
+
+pub returns-in-Some-clause-answer : goal.returns-in-Some-clause-answer
+returns-in-Some-clause-answer g c q h =
+    let a = c.args.machine.now in
+    let s = g.D.Dram.view c.args.dram.now in
+    let nodes = nodes_in c.args.query.now in
+    let same = ap (map node_of) c.as_slice-nodes.ensures.value in
+    let checks : checked (table_in a) nodes ≡ Some (c.in-Some.why, c.in-Some.k) =
+    sym (check_says (table_in a)
+    c.table.result.now.pairs c.table-2.result.now.pairs nodes
+    (map node_of c.as_slice-nodes.result.now) c.count_of-count.result c.check.result
+    c.table.ensures.objects c.table-2.ensures.objects same c.count_of-count.ensures
+    c.check.ensures) ∙ c.in-Some.is in
+    answer_checked (geometry_of a) (operations_by a) s.banks (table_in a) q c.in-Some.why
+    c.in-Some.k (ap (checked (table_in a)) (sym h.nodes_are) ∙ checks)
+
+pub run_nodes-requires-clause-few : goal.run_nodes-requires-clause-few
+run_nodes-requires-clause-few g c =
+    let few = few_nodes c.requires.query.0 (nodes_in c.args.query.now) c.requires.query.1 in
+    let same = ap length c.as_slice-nodes.ensures.value in
+    let many = length-map c.args.query.now.nodes.items node_of in
+    omega (arith, few, same, many)
+
+pub run_nodes-requires-clause-sources : goal.run_nodes-requires-clause-sources
+run_nodes-requires-clause-sources g c =
+    subst (λ (ns : List Node). AllByRecursion (sources_fit 64) ns)
+    (sym (ap (map node_of) c.as_slice-nodes.ensures.value))
+    (sources_fit_all c.requires.query.0 (nodes_in c.args.query.now) c.requires.query.1)
+
+pub run_nodes-requires-clause-plain : goal.run_nodes-requires-clause-plain
+run_nodes-requires-clause-plain g c =
+    let a = c.args.machine.now in
+    let nodes = nodes_in c.args.query.now in
+    let same = ap (map node_of) c.as_slice-nodes.ensures.value in
+    let checks : checked (table_in a) nodes ≡ None = sym (check_says (table_in a)
+    c.table.result.now.pairs c.table-2.result.now.pairs nodes
+    (map node_of c.as_slice-nodes.result.now) c.count_of-count.result c.check.result
+    c.table.ensures.objects c.table-2.ensures.objects same c.count_of-count.ensures
+    c.check.ensures) ∙ c.in_default.is in
+    subst (λ (ns : List Node). AllByRecursion IsPlain (scan_script (table_in a) ns)) (sym same)
+    (plain_nodes a c.requires.query.0 nodes c.requires.ready c.requires.query.1 checks)
+
+pub returns-in-Some-2-clause-answer : goal.returns-in-Some-2-clause-answer
+returns-in-Some-2-clause-answer g c q h =
+    let a = c.args.machine.now in
+    let b = c.run_nodes.new.machine in
+    let s = g.D.Dram.view c.args.dram.now in
+    let t = g.D.Dram.view c.run_nodes.new.dram in
+    let nodes = nodes_in c.args.query.now in
+    let same = ap (map node_of) c.as_slice-nodes.ensures.value in
+    let checks : checked (table_in a) nodes ≡ None = sym (check_says (table_in a)
+    c.table.result.now.pairs c.table-2.result.now.pairs nodes
+    (map node_of c.as_slice-nodes.result.now) c.count_of-count.result c.check.result
+    c.table.ensures.objects c.table-2.ensures.objects same c.count_of-count.ensures
+    c.check.ensures) ∙ c.in_default.is in
+    let refused : refused_node a nodes ≡ Some (c.in-Some-2.why, c.in-Some-2.k) =
+    subst (λ (ns : List Node). refused_node a ns ≡ Some (c.in-Some-2.why, c.in-Some-2.k)) same
+    (subst (λ r. NodesRun (map node_of c.as_slice-nodes.result.now) a b s t (Ok r))
+    c.in-Some-2.is c.in_ok-why.ensures.runs) in
+    ap (λ w. Refused w c.in-Some-2.k) c.room_word.ensures
+    ∙ answer_refused (geometry_of a) (operations_by a) s.banks (table_in a) q c.in-Some-2.why
+    c.in-Some-2.k (ap (checked (table_in a)) (sym h.nodes_are) ∙ checks)
+    (ap (λ (ns : List Node). refused_node a ns) (sym h.nodes_are) ∙ refused)
+
+pub last_object-object-requires : goal.last_object-object-requires
+last_object-object-requires g c =
+    let a = c.args.machine.now in
+    let b = c.run_nodes.new.machine in
+    let s = g.D.Dram.view c.args.dram.now in
+    let t = g.D.Dram.view c.run_nodes.new.dram in
+    let nodes = nodes_in c.args.query.now in
+    let same = ap (map node_of) c.as_slice-nodes.ensures.value in
+    let ran : NodesRan nodes a b s t = subst (λ (ns : List Node). NodesRan ns a b s t) same
+    (subst (λ r. NodesRun (map node_of c.as_slice-nodes.result.now) a b s t (Ok r))
+    c.in_default-2.is c.in_ok-why.ensures.runs) in
+    let checks : checked (table_in a) nodes ≡ None = sym (check_says (table_in a)
+    c.table.result.now.pairs c.table-2.result.now.pairs nodes
+    (map node_of c.as_slice-nodes.result.now) c.count_of-count.result c.check.result
+    c.table.ensures.objects c.table-2.ensures.objects same c.count_of-count.ensures
+    c.check.ensures) ∙ c.in_default.is in
+    let q = c.requires.query.0 in
+    let h = c.requires.query.1 in
+    let l = leaves a b s t nodes q c.requires.ready (shaped_as (geometry_of a) s.geometry s.banks
+    c.requires.geometry (g.met.D.Dram.width c.args.dram.now c.requires.begun))
+    c.requires.program h checks ran in
+    let left = table_left a b s t nodes q h ran l in
+    some_left (table_in a) (free_name (table_in a) (size q), l.object) c.table-3.result.now.pairs
+    (c.table-3.ensures.objects ∙ left)
+
+pub ones_of-requires-clause-row : goal.ones_of-requires-clause-row
+ones_of-requires-clause-row g c =
+    let a = c.args.machine.now in
+    let b = c.run_nodes.new.machine in
+    let s = g.D.Dram.view c.args.dram.now in
+    let t = g.D.Dram.view c.run_nodes.new.dram in
+    let nodes = nodes_in c.args.query.now in
+    let same = ap (map node_of) c.as_slice-nodes.ensures.value in
+    let ran : NodesRan nodes a b s t = subst (λ (ns : List Node). NodesRan ns a b s t) same
+    (subst (λ r. NodesRun (map node_of c.as_slice-nodes.result.now) a b s t (Ok r))
+    c.in_default-2.is c.in_ok-why.ensures.runs) in
+    let checks : checked (table_in a) nodes ≡ None = sym (check_says (table_in a)
+    c.table.result.now.pairs c.table-2.result.now.pairs nodes
+    (map node_of c.as_slice-nodes.result.now) c.count_of-count.result c.check.result
+    c.table.ensures.objects c.table-2.ensures.objects same c.count_of-count.ensures
+    c.check.ensures) ∙ c.in_default.is in
+    let q = c.requires.query.0 in
+    let h = c.requires.query.1 in
+    let l = leaves a b s t nodes q c.requires.ready (shaped_as (geometry_of a) s.geometry s.banks
+    c.requires.geometry (g.met.D.Dram.width c.args.dram.now c.requires.begun))
+    c.requires.program h checks ran in
+    let left = table_left a b s t nodes q h ran l in
+    let shown = c.geometry.ensures ∙ c.in_ok-why.ensures.kept.geometry ∙ c.requires.geometry in
+    let object = c.last_object-object.ensures (table_in a)
+    (free_name (table_in a) (size q), l.object) (c.table-3.ensures.objects ∙ left) in
+    let last = last_is a b s t nodes q c.geometry.result c.last_object-object.result h ran l shown
+    object in
+    last.low
+
+pub ones_of-requires-clause-object : goal.ones_of-requires-clause-object
+ones_of-requires-clause-object g c =
+    let a = c.args.machine.now in
+    let b = c.run_nodes.new.machine in
+    let s = g.D.Dram.view c.args.dram.now in
+    let t = g.D.Dram.view c.run_nodes.new.dram in
+    let nodes = nodes_in c.args.query.now in
+    let same = ap (map node_of) c.as_slice-nodes.ensures.value in
+    let ran : NodesRan nodes a b s t = subst (λ (ns : List Node). NodesRan ns a b s t) same
+    (subst (λ r. NodesRun (map node_of c.as_slice-nodes.result.now) a b s t (Ok r))
+    c.in_default-2.is c.in_ok-why.ensures.runs) in
+    let checks : checked (table_in a) nodes ≡ None = sym (check_says (table_in a)
+    c.table.result.now.pairs c.table-2.result.now.pairs nodes
+    (map node_of c.as_slice-nodes.result.now) c.count_of-count.result c.check.result
+    c.table.ensures.objects c.table-2.ensures.objects same c.count_of-count.ensures
+    c.check.ensures) ∙ c.in_default.is in
+    let q = c.requires.query.0 in
+    let h = c.requires.query.1 in
+    let l = leaves a b s t nodes q c.requires.ready (shaped_as (geometry_of a) s.geometry s.banks
+    c.requires.geometry (g.met.D.Dram.width c.args.dram.now c.requires.begun))
+    c.requires.program h checks ran in
+    let left = table_left a b s t nodes q h ran l in
+    let shown = c.geometry.ensures ∙ c.in_ok-why.ensures.kept.geometry ∙ c.requires.geometry in
+    let object = c.last_object-object.ensures (table_in a)
+    (free_name (table_in a) (size q), l.object) (c.table-3.ensures.objects ∙ left) in
+    let last = last_is a b s t nodes q c.geometry.result c.last_object-object.result h ran l shown
+    object in
+    last.object
+
+pub ones_of-requires-clause-narrow : goal.ones_of-requires-clause-narrow
+ones_of-requires-clause-narrow g c =
+    let a = c.args.machine.now in
+    let b = c.run_nodes.new.machine in
+    let s = g.D.Dram.view c.args.dram.now in
+    let t = g.D.Dram.view c.run_nodes.new.dram in
+    let nodes = nodes_in c.args.query.now in
+    let same = ap (map node_of) c.as_slice-nodes.ensures.value in
+    let ran : NodesRan nodes a b s t = subst (λ (ns : List Node). NodesRan ns a b s t) same
+    (subst (λ r. NodesRun (map node_of c.as_slice-nodes.result.now) a b s t (Ok r))
+    c.in_default-2.is c.in_ok-why.ensures.runs) in
+    let checks : checked (table_in a) nodes ≡ None = sym (check_says (table_in a)
+    c.table.result.now.pairs c.table-2.result.now.pairs nodes
+    (map node_of c.as_slice-nodes.result.now) c.count_of-count.result c.check.result
+    c.table.ensures.objects c.table-2.ensures.objects same c.count_of-count.ensures
+    c.check.ensures) ∙ c.in_default.is in
+    let q = c.requires.query.0 in
+    let h = c.requires.query.1 in
+    let l = leaves a b s t nodes q c.requires.ready (shaped_as (geometry_of a) s.geometry s.banks
+    c.requires.geometry (g.met.D.Dram.width c.args.dram.now c.requires.begun))
+    c.requires.program h checks ran in
+    let left = table_left a b s t nodes q h ran l in
+    let shown = c.geometry.ensures ∙ c.in_ok-why.ensures.kept.geometry ∙ c.requires.geometry in
+    let object = c.last_object-object.ensures (table_in a)
+    (free_name (table_in a) (size q), l.object) (c.table-3.ensures.objects ∙ left) in
+    let last = last_is a b s t nodes q c.geometry.result c.last_object-object.result h ran l shown
+    object in
+    last.narrow
+
+pub ones_of-requires-clause-room : goal.ones_of-requires-clause-room
+ones_of-requires-clause-room g c =
+    let a = c.args.machine.now in
+    let b = c.run_nodes.new.machine in
+    let s = g.D.Dram.view c.args.dram.now in
+    let t = g.D.Dram.view c.run_nodes.new.dram in
+    let nodes = nodes_in c.args.query.now in
+    let same = ap (map node_of) c.as_slice-nodes.ensures.value in
+    let ran : NodesRan nodes a b s t = subst (λ (ns : List Node). NodesRan ns a b s t) same
+    (subst (λ r. NodesRun (map node_of c.as_slice-nodes.result.now) a b s t (Ok r))
+    c.in_default-2.is c.in_ok-why.ensures.runs) in
+    let few = few_nodes c.requires.query.0 nodes c.requires.query.1 in
+    let room = room_left a b s t nodes few ran c.requires.room in
+    let reads = room.reads in
+    omega (arith, reads)
+
+pub overflow_sub-result : goal.overflow_sub-result
+overflow_sub-result g c =
+    let a = c.args.machine.now in
+    let b = c.run_nodes.new.machine in
+    let s = g.D.Dram.view c.args.dram.now in
+    let t = g.D.Dram.view c.run_nodes.new.dram in
+    let nodes = nodes_in c.args.query.now in
+    let same = ap (map node_of) c.as_slice-nodes.ensures.value in
+    let ran : NodesRan nodes a b s t = subst (λ (ns : List Node). NodesRan ns a b s t) same
+    (subst (λ r. NodesRun (map node_of c.as_slice-nodes.result.now) a b s t (Ok r))
+    c.in_default-2.is c.in_ok-why.ensures.runs) in
+    let more = rises s.counters t.counters _ (counts_behind a b s t nodes c.requires.ready ran) in
+    let first = ap (λ (k : Counters). k.aap) c.tally-before.ensures in
+    let second = ap (λ (k : Counters). k.aap) c.tally-after.ensures in
+    let less = more.0 in
+    omega (arith, first, second, less)
+
+pub overflow_sub-result-2 : goal.overflow_sub-result-2
+overflow_sub-result-2 g c =
+    let a = c.args.machine.now in
+    let b = c.run_nodes.new.machine in
+    let s = g.D.Dram.view c.args.dram.now in
+    let t = g.D.Dram.view c.run_nodes.new.dram in
+    let nodes = nodes_in c.args.query.now in
+    let same = ap (map node_of) c.as_slice-nodes.ensures.value in
+    let ran : NodesRan nodes a b s t = subst (λ (ns : List Node). NodesRan ns a b s t) same
+    (subst (λ r. NodesRun (map node_of c.as_slice-nodes.result.now) a b s t (Ok r))
+    c.in_default-2.is c.in_ok-why.ensures.runs) in
+    let more = rises s.counters t.counters _ (counts_behind a b s t nodes c.requires.ready ran) in
+    let first = ap (λ (k : Counters). k.ap) c.tally-before.ensures in
+    let second = ap (λ (k : Counters). k.ap) c.tally-after.ensures in
+    let less = more.1 in
+    omega (arith, first, second, less)
+
+pub returns-clause-answer : goal.returns-clause-answer
+returns-clause-answer g c q h =
+    let a = c.args.machine.now in
+    let b = c.run_nodes.new.machine in
+    let s = g.D.Dram.view c.args.dram.now in
+    let t = g.D.Dram.view c.run_nodes.new.dram in
+    let nodes = nodes_in c.args.query.now in
+    let same = ap (map node_of) c.as_slice-nodes.ensures.value in
+    let ran : NodesRan nodes a b s t = subst (λ (ns : List Node). NodesRan ns a b s t) same
+    (subst (λ r. NodesRun (map node_of c.as_slice-nodes.result.now) a b s t (Ok r))
+    c.in_default-2.is c.in_ok-why.ensures.runs) in
+    let checks : checked (table_in a) nodes ≡ None = sym (check_says (table_in a)
+    c.table.result.now.pairs c.table-2.result.now.pairs nodes
+    (map node_of c.as_slice-nodes.result.now) c.count_of-count.result c.check.result
+    c.table.ensures.objects c.table-2.ensures.objects same c.count_of-count.ensures
+    c.check.ensures) ∙ c.in_default.is in
+    let l = leaves a b s t nodes q c.requires.ready (shaped_as (geometry_of a) s.geometry s.banks
+    c.requires.geometry (g.met.D.Dram.width c.args.dram.now c.requires.begun))
+    c.requires.program h checks ran in
+    let left = table_left a b s t nodes q h ran l in
+    let shown = c.geometry.ensures ∙ c.in_ok-why.ensures.kept.geometry ∙ c.requires.geometry in
+    let object = c.last_object-object.ensures (table_in a)
+    (free_name (table_in a) (size q), l.object) (c.table-3.ensures.objects ∙ left) in
+    let counts : Counts = record {
+      aap = c.tally-after.result.aap - c.tally-before.result.aap;
+      ap = c.tally-after.result.ap - c.tally-before.result.ap;
+    } in
+    answer_done a b s t nodes q c.in_ok-found.found c.count_of-count.result counts
+    c.requires.ready h checks ran l
+    (ones_as (geometry_of a) c.geometry.result t.banks c.last_object-object.result l.object
+    c.in_ok-found.found shown object c.in_ok-found.ensures.ones)
+    (c.count_of-count.ensures
+    ∙ ap (λ (p : List Named). count_of p (map node_of c.as_slice-nodes.result.now))
+    c.table.ensures.objects
+    ∙ ap (count_of (table_in a)) same)
+    (ap (λ (k : Counters). k.aap - c.tally-before.result.aap) c.tally-after.ensures
+    ∙ ap (λ (k : Counters). t.counters.aap - k.aap) c.tally-before.ensures)
+    (ap (λ (k : Counters). k.ap - c.tally-before.result.ap) c.tally-after.ensures
+    ∙ ap (λ (k : Counters). t.counters.ap - k.ap) c.tally-before.ensures)
+
+pub returns-clause-did : goal.returns-clause-did
+returns-clause-did g c done =
+    let a = c.args.machine.now in
+    let b = c.run_nodes.new.machine in
+    let s = g.D.Dram.view c.args.dram.now in
+    let t = g.D.Dram.view c.run_nodes.new.dram in
+    let nodes = nodes_in c.args.query.now in
+    let same = ap (map node_of) c.as_slice-nodes.ensures.value in
+    let ran : NodesRan nodes a b s t = subst (λ (ns : List Node). NodesRan ns a b s t) same
+    (subst (λ r. NodesRun (map node_of c.as_slice-nodes.result.now) a b s t (Ok r))
+    c.in_default-2.is c.in_ok-why.ensures.runs) in
+    let checks : checked (table_in a) nodes ≡ None = sym (check_says (table_in a)
+    c.table.result.now.pairs c.table-2.result.now.pairs nodes
+    (map node_of c.as_slice-nodes.result.now) c.count_of-count.result c.check.result
+    c.table.ensures.objects c.table-2.ensures.objects same c.count_of-count.ensures
+    c.check.ensures) ∙ c.in_default.is in
+    let q = c.requires.query.0 in
+    let h = c.requires.query.1 in
+    let l = leaves a b s t nodes q c.requires.ready (shaped_as (geometry_of a) s.geometry s.banks
+    c.requires.geometry (g.met.D.Dram.width c.args.dram.now c.requires.begun))
+    c.requires.program h checks ran in
+    let left = table_left a b s t nodes q h ran l in
+    let shown = c.geometry.ensures ∙ c.in_ok-why.ensures.kept.geometry ∙ c.requires.geometry in
+    let object = c.last_object-object.ensures (table_in a)
+    (free_name (table_in a) (size q), l.object) (c.table-3.ensures.objects ∙ left) in
+    let u = g.D.Dram.view c.ones_of.new.dram in
+    let n = segments_of (geometry_of a) (count_of (table_in a) nodes) in
+    all_done a b s t u nodes n ran
+    (subst (λ k. DidRead k t u)
+    (reads_are a s nodes q c.geometry.result c.last_object-object.result h l shown object)
+    c.in_ok-found.ensures.did)
+
+pub returns-clause-counted : goal.returns-clause-counted
+returns-clause-counted g c =
+    let a = c.args.machine.now in
+    let b = c.run_nodes.new.machine in
+    let s = g.D.Dram.view c.args.dram.now in
+    let t = g.D.Dram.view c.run_nodes.new.dram in
+    let nodes = nodes_in c.args.query.now in
+    let same = ap (map node_of) c.as_slice-nodes.ensures.value in
+    let ran : NodesRan nodes a b s t = subst (λ (ns : List Node). NodesRan ns a b s t) same
+    (subst (λ r. NodesRun (map node_of c.as_slice-nodes.result.now) a b s t (Ok r))
+    c.in_default-2.is c.in_ok-why.ensures.runs) in
+    let checks : checked (table_in a) nodes ≡ None = sym (check_says (table_in a)
+    c.table.result.now.pairs c.table-2.result.now.pairs nodes
+    (map node_of c.as_slice-nodes.result.now) c.count_of-count.result c.check.result
+    c.table.ensures.objects c.table-2.ensures.objects same c.count_of-count.ensures
+    c.check.ensures) ∙ c.in_default.is in
+    let q = c.requires.query.0 in
+    let h = c.requires.query.1 in
+    let l = leaves a b s t nodes q c.requires.ready (shaped_as (geometry_of a) s.geometry s.banks
+    c.requires.geometry (g.met.D.Dram.width c.args.dram.now c.requires.begun))
+    c.requires.program h checks ran in
+    let left = table_left a b s t nodes q h ran l in
+    let shown = c.geometry.ensures ∙ c.in_ok-why.ensures.kept.geometry ∙ c.requires.geometry in
+    let object = c.last_object-object.ensures (table_in a)
+    (free_name (table_in a) (size q), l.object) (c.table-3.ensures.objects ∙ left) in
+    let u = g.D.Dram.view c.ones_of.new.dram in
+    let n = segments_of (geometry_of a) (count_of (table_in a) nodes) in
+    let counts : Counts = record {
+      aap = c.tally-after.result.aap - c.tally-before.result.aap;
+      ap = c.tally-after.result.ap - c.tally-before.result.ap;
+    } in
+    counters_end a b s t u nodes n counts c.requires.ready ran
+    (subst (λ k. DidRead k t u)
+    (reads_are a s nodes q c.geometry.result c.last_object-object.result h l shown object)
+    c.in_ok-found.ensures.did)
+    (ap (λ (k : Counters). k.aap - c.tally-before.result.aap) c.tally-after.ensures
+    ∙ ap (λ (k : Counters). t.counters.aap - k.aap) c.tally-before.ensures)
+    (ap (λ (k : Counters). k.ap - c.tally-before.result.ap) c.tally-after.ensures
+    ∙ ap (λ (k : Counters). t.counters.ap - k.ap) c.tally-before.ensures)
+
+pub returns-clause-goes : goal.returns-clause-goes
+returns-clause-goes g c done =
+    let a = c.args.machine.now in
+    let b = c.run_nodes.new.machine in
+    let s = g.D.Dram.view c.args.dram.now in
+    let t = g.D.Dram.view c.run_nodes.new.dram in
+    let nodes = nodes_in c.args.query.now in
+    let same = ap (map node_of) c.as_slice-nodes.ensures.value in
+    let ran : NodesRan nodes a b s t = subst (λ (ns : List Node). NodesRan ns a b s t) same
+    (subst (λ r. NodesRun (map node_of c.as_slice-nodes.result.now) a b s t (Ok r))
+    c.in_default-2.is c.in_ok-why.ensures.runs) in
+    goes_on a b s t nodes ran

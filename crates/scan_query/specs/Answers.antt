@@ -1,0 +1,43 @@
+-- What a scan on a machine answers, and of which nodes it is asked.
+use Rattle.std.specs.Prelude.{◌≡◌, ℕ, Bool, true, false, List}
+use Rattle.dram_model.specs.declared.dram.Counters.{Counters}
+use Rattle.dram_model.specs.View.{with_reads}
+use Rattle.bbop_isa.specs.Forms.{Instruction}
+use Rattle.machine_model.specs.Pieces.{pieces, turn_at_end}
+use Rattle.machine_model.specs.Script.{table_at_end, with_counts}
+use Rattle.sim_machine.specs.declared.machine.Machine.{Machine}
+use Rattle.sim_machine.specs.Machine.{IsReady, geometry_of, operations_by, program_of, table_in}
+use Rattle.sim_machine.specs.Machine.{turn_in}
+use Rattle.scan_model.specs.Queries as model
+use Rattle.scan_model.specs.Answers.{Answer, Found, Refused}
+use Rattle.scan_query.specs.declared.query.ScanReply.{ScanReply}
+use Rattle.scan_query.specs.declared.query.ScanReply.TheVariants as reply
+use Rattle.scan_query.specs.Queries.{IsNodesOf}
+
+-- the nodes are those of a query
+abbrev pub IsScan : List model.Node → Type 0
+IsScan nodes = (t : model.Query) × IsNodesOf t nodes
+
+abbrev pub answer_of : ScanReply → Answer
+answer_of (reply.Done found of counts) = Found found of counts
+answer_of (reply.Refused why k) = Refused why k
+
+abbrev pub is_done : ScanReply → Bool
+is_done (reply.Done found of counts) = true
+is_done (reply.Refused why k) = false
+
+-- the chip's counters rose by the commands that are counted and by so many reads, where it is done
+abbrev pub CountersRose : ScanReply → ℕ → Counters → Counters → Type 0
+CountersRose (reply.Done found of counts) reads old new = new
+    ≡ with_reads reads (with_counts old counts)
+CountersRose (reply.Refused why k) reads old new = Unit {0}
+
+-- a machine goes on behind a script
+pub record GoesOn (script : List Instruction) (old new : Machine) : Type 0 where
+  pub ready : IsReady new
+  pub program : program_of new ≡ program_of old
+  pub shape : geometry_of new ≡ geometry_of old
+  pub table : table_in new
+      ≡ table_at_end (geometry_of old) (operations_by old) (table_in old) script
+  pub turn : turn_in new ≡ turn_at_end (geometry_of old) (operations_by old) (turn_in old)
+      (table_in old) (pieces script)
