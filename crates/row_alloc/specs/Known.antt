@@ -59,8 +59,8 @@ add_graph = record {
       ∷ node_of (plain 3) (turned 4) (plain 5) ∷ [];
 }
 
--- The bodies of the word operations: the complement, a shift by one, and, or, and-not, exclusive or,
--- choice, a comparison's step, agreement, addition, subtraction, the step of abs, and the inner
+-- The bodies of the word operations: the complement, a shift by one, and, or, and-not, exclusive
+-- or, choice, a comparison's step, agreement, addition, subtraction, the step of abs, and the inner
 -- bodies of mul, bitcount and div
 pub data WordBody : Type 0 where
   Inverted : WordBody
