@@ -18,7 +18,7 @@ PROGRAM = TOP / "simdram"
 WIDTHS = range(1, 129)
 SHOWN = (8, 16, 32, 64, 128)
 
-# name: (kinds of the arguments, kind of the result, AAP at n, AP at n, ceiling at n)
+# name: (kinds of the arguments, kinds of the results, AAP at n, AP at n, ceiling at n)
 OPERATIONS = {
     "not": ("w", "w", lambda n: 2 * n, lambda n: 0, lambda n: 2 * n),
     "and": ("ww", "w", lambda n: 4 * n, lambda n: 0, lambda n: 4 * n),
@@ -34,6 +34,7 @@ OPERATIONS = {
     "mul": ("ww", "w", lambda n: 11 * n * (n + 1) // 2 + 2 * n, lambda n: 0, lambda n: 11 * n * n + 15 * n),
     "div": ("ww", "w", lambda n: 14 * n * n + 9 * n, lambda n: 0, lambda n: 29 * n * n + 18 * n),
     "rem": ("ww", "w", lambda n: 14 * n * n + 9 * n, lambda n: 0, lambda n: 29 * n * n + 18 * n),
+    "divmod": ("ww", "ww", lambda n: 14 * n * n + 10 * n, lambda n: 0, lambda n: 29 * n * n + 24 * n),
     "abs": ("w", "w", lambda n: 9 * n + 1, lambda n: 0, lambda n: 34 * n + 1),
     "relu": ("w", "w", lambda n: 4 * n, lambda n: 0, lambda n: 7 * n),
     "min": ("ww", "w", lambda n: 11 * n + 1, lambda n: 0, lambda n: 22 * n + 1),
@@ -56,7 +57,10 @@ def op(name):
     sources = [(chr(ord("a") + k), t) for k, t in enumerate(takes or "w")]
     params = ", ".join(f"{s}: {kind[t]}" for s, t in sources)
     args = ", ".join(s for s, _ in sources[: len(takes)])
-    return f"op {name}({params}) -> y: {kind[gives]} {{ y = {name}({args}); }}\n"
+    results = list(zip("yz", gives))
+    targets = ", ".join(r for r, _ in results)
+    returns = ", ".join(f"{r}: {kind[t]}" for r, t in results)
+    return f"op {name}({params}) -> {returns} {{ {targets} = {name}({args}); }}\n"
 
 
 def greatest():

@@ -254,6 +254,56 @@ fn jobs_leave_their_numbers(rt: HostRuntime) -> Result<(), Fail> {
     Ok(())
 }
 
+/// Numbers a and b, their sum, and its carry.
+static SUMS: [[Value; 4]; 3] = [[200, 100, 44, 1], [255, 255, 254, 1], [3, 4, 7, 0]];
+
+#[test]
+fn results_are_a_word_and_a_bit(rt: HostRuntime) -> Result<(), Fail> {
+    let alloc = rt.alloc();
+    let ops = "op sc(a: word, b: word) -> y: word, c: bit { serial up (c = 0) { \
+        y = xor(xor(a, b), c); c = maj(a, b, c); } }";
+    let mut a = Vec::new(alloc);
+    let mut b = Vec::new(alloc);
+    for sum in &SUMS {
+        a.push(sum[0])?;
+        b.push(sum[1])?;
+    }
+    let objects = [
+        Object {
+            name: b'a',
+            width: 8,
+            numbers: &a,
+        },
+        Object {
+            name: b'b',
+            width: 8,
+            numbers: &b,
+        },
+        Object {
+            name: b'y',
+            width: 8,
+            numbers: &a,
+        },
+        Object {
+            name: b'c',
+            width: 1,
+            numbers: &[],
+        },
+    ];
+    let image = image_of(&objects, 704, alloc)?;
+    let ended = run(ops, "bbop_sc y, c, a, b, 64, 8", &image, alloc)?;
+    assert_eq!(rt; ended.status, 0);
+    let rows = ended.rows(4).ok_or("no rows")?;
+    for (column, sum) in (0..64u32).zip(SUMS.iter()) {
+        let found = (
+            number_at(rows, 16, 8, column),
+            number_at(rows, 24, 1, column),
+        );
+        assert_eq!(rt; found, (sum[2], sum[3]));
+    }
+    Ok(())
+}
+
 const ADD: &str = "op add(a: word, b: word) -> y: word { y = add(a, b); }";
 
 /// The widths of a fourth object beside a, b and y of width 8 in 32 rows, and what an `add`, which

@@ -184,6 +184,11 @@ static SLOW: [Operation; 3] = [
 /// group.
 const ROWS: u16 = 704;
 
+/// With two results: four objects of 128 rows.
+const PAIR_ROWS: u16 = 832;
+
+const DIVMOD: &str = "op f(a: word, b: word) -> y: word, z: word { y, z = divmod(a, b); }";
+
 /// All ones at width n, from 1 to 128.
 fn ones(n: u8) -> Value {
     Value::MAX
@@ -217,7 +222,7 @@ fn value(op: WordOp, n: u8, a: Value, b: Value, s: Value) -> Value {
         WordOp::Add => a.wrapping_add(b) & all,
         WordOp::Sub => a.wrapping_sub(b) & all,
         WordOp::Mul => a.wrapping_mul(b) & all,
-        WordOp::Div => a.checked_div(b).unwrap_or(all),
+        WordOp::Div | WordOp::Divmod => a.checked_div(b).unwrap_or(all),
         WordOp::Rem => a.checked_rem(b).unwrap_or(a),
         WordOp::Abs => {
             if a < half(n) {
@@ -334,6 +339,51 @@ fn all_are_right(
     for operation in operations {
         let right = right_columns(operation, n, alloc)?;
         assert_eq!(rt; (operation.name, n, right), (operation.name, n, 64));
+    }
+    Ok(())
+}
+
+/// How many of 64 columns have quotient and remainder of the numbers there, at one width.
+fn right_pairs(n: u8, alloc: Global) -> Result<u32, Fail> {
+    let a = numbers(n, 3, alloc)?;
+    let b = numbers(n, 5, alloc)?;
+    let word = |name: u8, numbers| Object {
+        name,
+        width: n,
+        numbers,
+    };
+    let objects = [
+        word(b'a', &a),
+        word(b'b', &b),
+        word(b'y', &b),
+        word(b'z', &a),
+    ];
+    let image = image_of(&objects, PAIR_ROWS, alloc)?;
+    let script = format!(in alloc; "bbop_f y, z, a, b, 64, {}", n)?;
+    let ended = run(DIVMOD, &script, &image, alloc)?;
+    if ended.status != 0 {
+        return Err("a refusal")?;
+    }
+    let rows = ended.rows(4).ok_or("no rows")?;
+    let quotients = usize::from(n).saturating_mul(2);
+    let remainders = usize::from(n).saturating_mul(3);
+    let mut right: u32 = 0;
+    for (column, (a, b)) in (0..64u32).zip(a.iter().zip(b.iter())) {
+        let quotient = number_at(rows, quotients, n, column);
+        let remainder = number_at(rows, remainders, n, column);
+        if quotient == value(WordOp::Div, n, *a, *b, 0)
+            && remainder == value(WordOp::Rem, n, *a, *b, 0)
+        {
+            right = right.saturating_add(1);
+        }
+    }
+    Ok(right)
+}
+
+#[test]
+fn divmod_has_both_values(rt: HostRuntime) -> Result<(), Fail> {
+    for n in [1, 2, 8, 31, 64, 65, 128] {
+        assert_eq!(rt; (n, right_pairs(n, rt.alloc())?), (n, 64));
     }
     Ok(())
 }

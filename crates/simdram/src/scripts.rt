@@ -15,6 +15,8 @@ const DIV: &str = "op div(a: word, b: word) -> y: word { y = div(a, b); }";
 
 const REM: &str = "op rem(a: word, b: word) -> y: word { y = rem(a, b); }";
 
+const DM: &str = "op dm(a: word, b: word) -> q: word, r: word { q, r = divmod(a, b); }";
+
 const ABS: &str = "op abs(a: word) -> y: word { y = abs(a); }";
 
 const RELU: &str = "op relu(a: word) -> y: word { y = relu(a); }";
@@ -32,7 +34,23 @@ struct Run {
     out: &'static [(usize, &'static [u8])],
 }
 
-static RUNS: [Run; 13] = [
+static RUNS: [Run; 14] = [
+    // two results, and the refusals of their names
+    Run {
+        shape: ["1", "128", "1"],
+        ops: DM,
+        script: "bbop_trsp_init a, 1, 8\nbbop_trsp_init b, 1, 8\nbbop_trsp_init q, 1, 8\n\
+            bbop_trsp_init r, 1, 8\nload a, 255\nload b, 7\nbbop_dm q, r, a, b, 1, 8\n\
+            print q\nprint r\nload a, 7\nload b, 0\nbbop_dm q, r, a, b, 1, 8\nprint q\n\
+            print r\nbbop_dm q, q, a, b, 1, 8\nbbop_dm q, r, a, q, 1, 8\nbbop_dm q, r, a, 1, 8\n",
+        status: 8,
+        report: "1 ok aap=8 ap=0\n2 ok aap=8 ap=0\n3 ok aap=8 ap=0\n4 ok aap=8 ap=0\n\
+            5 ok aap=0 ap=0\n6 ok aap=0 ap=0\n7 ok aap=976 ap=0\n8 q: 36\n9 r: 3\n\
+            10 ok aap=0 ap=0\n11 ok aap=0 ap=0\n12 ok aap=976 ap=0\n13 q: 255\n14 r: 7\n\
+            15 refused overlap 1\n16 refused overlap 3\n17 refused arity\n\
+            total aap=1984 ap=0 writes=160 reads=160 refused=3\n",
+        out: &[],
+    },
     Run {
         shape: ["1", "64", "1"],
         ops: ADD,
