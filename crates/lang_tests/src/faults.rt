@@ -374,7 +374,7 @@ const PAIRS: [(&[u8], Fault); 18] = [
     ),
     // a word and a bit, each set by a statement of its own
     (
-        b"op f(a: word) -> y: word, p: bit { y = not(a);\nserial up (p = 0) { t = a; p = and(a, p); } }",
+        b"op f(a: word) -> y: word, p: bit { y = not(a);\nserial up (p = 0) { p = and(a, p); } }",
         None,
     ),
     // the second target is a name, and the second result is set by it or by a block
@@ -395,8 +395,8 @@ const PAIRS: [(&[u8], Fault); 18] = [
         Some((2, OpsKind::Twice)),
     ),
     (
-        b"op f(a: word, b: word) -> y: word, z: word {\ny, z = divmod(a, b);\nt, z = divmod(a, b); }",
-        Some((3, OpsKind::Twice)),
+        b"op f(a: word) -> y: word, z: word { y, z = divmod(a, a);\nt, z = divmod(a, a); }",
+        Some((2, OpsKind::Twice)),
     ),
     (
         b"op f(a: word) -> y: word,\ny: word { y = not(a); }",
@@ -404,7 +404,7 @@ const PAIRS: [(&[u8], Fault); 18] = [
     ),
     // the state is the second result, which a word statement assigned before
     (
-        b"op f(a: word) -> y: word, p: bit { y = not(a); p = eq(a, y);\nserial up (p = 0) { t = a; } }",
+        b"op f(a: word) -> y: word, p: bit { p = eq(a, a);\nserial up (p = 0) { y = a; } }",
         Some((2, OpsKind::Twice)),
     ),
     (

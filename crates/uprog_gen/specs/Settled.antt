@@ -1,5 +1,5 @@
 -- Bodies whose commands are settled: copies, and the bodies of the word operations.
--- Private contracts alone speak of this.
+-- Only the compiler's own calls on one op speak of this.
 use Rattle.std.specs.Prelude.{◌≡◌, ℕ, Bool, true, false, if◌then◌else◌, List, [], ◌∷◌, sum_by}
 use Rattle.std.specs.Prelude.{count_by, Option, Some, None}
 use Rattle.uprog_code.specs.declared.walker.Counts.{Counts}
