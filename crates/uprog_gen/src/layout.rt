@@ -79,7 +79,8 @@ fn result_place(owner: &Op, name: &Name) -> u8
 fn place(names: &mut NameMap, owner: &Op, name: &Name, kind: Kind) -> Result<(), NoMemory>
     requires bits { names.old.free_bit < 255 }
     requires words { names.old.free_word < 255 }
-    ensures { OnOk result (Lays (result_names (operation owner.now)) (param name.now kind ∷ []) names.old names.new) }
+    ensures { OnOk result (Lays (result_names (operation owner.now))
+        (param name.now kind ∷ []) names.old names.new) }
 {
     if is_result(owner, name) {
         let slot = Slot {
@@ -123,7 +124,8 @@ fn is_state(states: &[State], name: &Name) -> bool
 fn place_states(names: &mut NameMap, owner: &Op, states: &[State]) -> Result<(), NoMemory>
     requires bits { names.old.free_bit + length states.now ≤ 255 }
     requires words { names.old.free_word < 255 }
-    ensures { OnOk result (Lays (result_names (operation owner.now)) (states_defined states.now) names.old names.new) }
+    ensures { OnOk result (Lays (result_names (operation owner.now))
+        (states_defined states.now) names.old names.new) }
 {
     for state in states {
         place(names, owner, &state.name, Kind::Bit)?;
@@ -140,7 +142,8 @@ fn place_word(
 ) -> Result<(), NoMemory>
     requires bits { names.old.free_bit < 255 }
     requires words { names.old.free_word < 255 }
-    ensures { OnOk result (Lays (result_names (operation owner.now)) (words_defined states.now (assign.now ∷ [])) names.old
+    ensures { OnOk result (Lays (result_names (operation owner.now))
+        (words_defined states.now (assign.now ∷ [])) names.old
         names.new) }
 {
     if is_state(states, &assign.name) {
@@ -158,7 +161,8 @@ fn place_words(
 ) -> Result<(), NoMemory>
     requires bits { names.old.free_bit < 255 }
     requires words { names.old.free_word + length assigns.now ≤ 255 }
-    ensures { OnOk result (Lays (result_names (operation owner.now)) (words_defined states.now assigns.now) names.old
+    ensures { OnOk result (Lays (result_names (operation owner.now))
+        (words_defined states.now assigns.now) names.old
         names.new) }
 {
     for assign in assigns {
@@ -197,7 +201,8 @@ fn place_second(
 ) -> Result<(), NoMemory>
     requires bits { names.old.free_bit < 255 }
     requires words { names.old.free_word < 255 }
-    ensures { OnOk result (Lays (result_names (operation owner.now)) (second_of second.now op)
+    ensures { OnOk result (Lays (result_names (operation owner.now))
+        (second_of second.now op)
         names.old names.new) }
 {
     match second {
@@ -212,7 +217,8 @@ fn place_statement(names: &mut NameMap, owner: &Op, stmt: &Stmt) -> Result<(), N
     requires words { names.old.free_word ≤ 128 }
     requires short { IsShort (statement stmt.now) }
     ensures { OnOk result ((known : List Parameter) → Knows known names.old
-        → Lays (result_names (operation owner.now)) (defines known (statement stmt.now)) names.old names.new) }
+        → Lays (result_names (operation owner.now))
+        (defines known (statement stmt.now)) names.old names.new) }
 {
     match stmt {
         Stmt::Word {
@@ -236,8 +242,8 @@ fn place_statement(names: &mut NameMap, owner: &Op, stmt: &Stmt) -> Result<(), N
     }
 }
 
-/// The places of the names of an operation: the parameters are the sources, each result stands in its
-/// own rows, and every other name that the body defines takes the next bit or word of scratch.
+/// The places of the names of an operation: the parameters are the sources, each result stands in
+/// its own rows, and every other name that the body defines takes the next bit or word of scratch.
 ///
 /// Only want of memory is an `Err`.
 pub fn lay_out(op: &Op, alloc: Global) -> Result<NameMap, NoMemory>
