@@ -1,4 +1,5 @@
--- Each word operation's loop program has settled bodies, and takes exactly the operation's commands.
+-- Each word operation's loop program has settled bodies, and takes exactly the operation's
+-- commands.
 use Rattle.std.proofs.Common.{◌≡◌, inl, inr, ℕ, zero, suc, ◌+◌, ◌*◌, ◌/◌, ◌^◌, Bool, true}
 use Rattle.std.proofs.Common.{false, cond, List, [], ◌∷◌, Some, refl, sym, ap, ◌∙◌}
 use Rattle.std.proofs.Common.{arith}
@@ -141,16 +142,21 @@ op_width p k n = cond (spreads p) (width n k) n
 
 pub linear_aaps : (p : WordOp) (k : Kind) (o : Owners) (n : ℕ) → is_nested p ≡ false
     → rounds_sum turn_aaps (all_rounds n (Linear p k o)) ≡ op_aaps p (op_width p k n)
-linear_aaps op.Not Word o n e = let h = sum_is turn_aaps n (Linear op.Not Word o) in omega (arith, h)
+linear_aaps op.Not Word o n e = let h = sum_is turn_aaps n (Linear op.Not Word o) in omega
+    (arith, h)
 linear_aaps op.Not Bit o n e = let h = sum_is turn_aaps n (Linear op.Not Bit o) in omega (arith, h)
-linear_aaps op.And Word o n e = let h = sum_is turn_aaps n (Linear op.And Word o) in omega (arith, h)
+linear_aaps op.And Word o n e = let h = sum_is turn_aaps n (Linear op.And Word o) in omega
+    (arith, h)
 linear_aaps op.And Bit o n e = let h = sum_is turn_aaps n (Linear op.And Bit o) in omega (arith, h)
 linear_aaps op.Or Word o n e = let h = sum_is turn_aaps n (Linear op.Or Word o) in omega (arith, h)
 linear_aaps op.Or Bit o n e = let h = sum_is turn_aaps n (Linear op.Or Bit o) in omega (arith, h)
-linear_aaps op.Xor Word o n e = let h = sum_is turn_aaps n (Linear op.Xor Word o) in omega (arith, h)
+linear_aaps op.Xor Word o n e = let h = sum_is turn_aaps n (Linear op.Xor Word o) in omega
+    (arith, h)
 linear_aaps op.Xor Bit o n e = let h = sum_is turn_aaps n (Linear op.Xor Bit o) in omega (arith, h)
-linear_aaps op.Copy Word o n e = let h = sum_is turn_aaps n (Linear op.Copy Word o) in omega (arith, h)
-linear_aaps op.Copy Bit o n e = let h = sum_is turn_aaps n (Linear op.Copy Bit o) in omega (arith, h)
+linear_aaps op.Copy Word o n e = let h = sum_is turn_aaps n (Linear op.Copy Word o) in omega
+    (arith, h)
+linear_aaps op.Copy Bit o n e = let h = sum_is turn_aaps n (Linear op.Copy Bit o) in omega
+    (arith, h)
 linear_aaps op.Zero k o n e = let h = sum_is turn_aaps n (Linear op.Zero k o) in omega (arith, h)
 linear_aaps op.Ones k o n e = let h = sum_is turn_aaps n (Linear op.Ones k o) in omega (arith, h)
 linear_aaps op.Shl1 k o n e = let h = sum_is turn_aaps n (Linear op.Shl1 k o) in omega (arith, h)
@@ -167,12 +173,16 @@ linear_aaps op.Max k o n e = let h = sum_is turn_aaps n (Linear op.Max k o) in o
 linear_aaps op.Eq k o n e = let h = sum_is turn_aaps n (Linear op.Eq k o) in omega (arith, h)
 linear_aaps op.Gt k o n e = let h = sum_is turn_aaps n (Linear op.Gt k o) in omega (arith, h)
 linear_aaps op.Ge k o n e = let h = sum_is turn_aaps n (Linear op.Ge k o) in omega (arith, h)
-linear_aaps op.IfElse Word o n e = let h = sum_is turn_aaps n (Linear op.IfElse Word o) in omega (arith, h)
-linear_aaps op.IfElse Bit o n e = let h = sum_is turn_aaps n (Linear op.IfElse Bit o) in omega (arith, h)
+linear_aaps op.IfElse Word o n e = let h = sum_is turn_aaps n (Linear op.IfElse Word o) in
+    omega (arith, h)
+linear_aaps op.IfElse Bit o n e = let h = sum_is turn_aaps n (Linear op.IfElse Bit o) in omega
+    (arith, h)
 linear_aaps op.Bitcount k o n e = absurd cc
-linear_aaps op.AndRed k o n e = let h = sum_is turn_aaps n (Linear op.AndRed k o) in omega (arith, h)
+linear_aaps op.AndRed k o n e = let h = sum_is turn_aaps n (Linear op.AndRed k o) in omega
+    (arith, h)
 linear_aaps op.OrRed k o n e = let h = sum_is turn_aaps n (Linear op.OrRed k o) in omega (arith, h)
-linear_aaps op.XorRed k o n e = let h = sum_is turn_aaps n (Linear op.XorRed k o) in omega (arith, h)
+linear_aaps op.XorRed k o n e = let h = sum_is turn_aaps n (Linear op.XorRed k o) in omega
+    (arith, h)
 linear_aaps op.Divmod k o n e = absurd cc
 
 pub nested_aaps : (p : WordOp) (m : Rows) (n : ℕ) → is_nested p ≡ true
@@ -220,7 +230,8 @@ linear_aps op.Or Word o n e = let h = sum_is turn_aps n (Linear op.Or Word o) in
 linear_aps op.Or Bit o n e = let h = sum_is turn_aps n (Linear op.Or Bit o) in omega (arith, h)
 linear_aps op.Xor Word o n e = let h = sum_is turn_aps n (Linear op.Xor Word o) in omega (arith, h)
 linear_aps op.Xor Bit o n e = let h = sum_is turn_aps n (Linear op.Xor Bit o) in omega (arith, h)
-linear_aps op.Copy Word o n e = let h = sum_is turn_aps n (Linear op.Copy Word o) in omega (arith, h)
+linear_aps op.Copy Word o n e = let h = sum_is turn_aps n (Linear op.Copy Word o) in omega
+    (arith, h)
 linear_aps op.Copy Bit o n e = let h = sum_is turn_aps n (Linear op.Copy Bit o) in omega (arith, h)
 linear_aps op.Zero k o n e = let h = sum_is turn_aps n (Linear op.Zero k o) in omega (arith, h)
 linear_aps op.Ones k o n e = let h = sum_is turn_aps n (Linear op.Ones k o) in omega (arith, h)
@@ -238,8 +249,10 @@ linear_aps op.Max k o n e = let h = sum_is turn_aps n (Linear op.Max k o) in ome
 linear_aps op.Eq k o n e = let h = sum_is turn_aps n (Linear op.Eq k o) in omega (arith, h)
 linear_aps op.Gt k o n e = let h = sum_is turn_aps n (Linear op.Gt k o) in omega (arith, h)
 linear_aps op.Ge k o n e = let h = sum_is turn_aps n (Linear op.Ge k o) in omega (arith, h)
-linear_aps op.IfElse Word o n e = let h = sum_is turn_aps n (Linear op.IfElse Word o) in omega (arith, h)
-linear_aps op.IfElse Bit o n e = let h = sum_is turn_aps n (Linear op.IfElse Bit o) in omega (arith, h)
+linear_aps op.IfElse Word o n e = let h = sum_is turn_aps n (Linear op.IfElse Word o) in omega
+    (arith, h)
+linear_aps op.IfElse Bit o n e = let h = sum_is turn_aps n (Linear op.IfElse Bit o) in omega
+    (arith, h)
 linear_aps op.Bitcount k o n e = absurd cc
 linear_aps op.AndRed k o n e = let h = sum_is turn_aps n (Linear op.AndRed k o) in omega (arith, h)
 linear_aps op.OrRed k o n e = let h = sum_is turn_aps n (Linear op.OrRed k o) in omega (arith, h)

@@ -109,7 +109,8 @@ module _ (op : Operation) (meets : OperationMeets op) where
         arith,
         (scratch_is_small op meets).names k,
         ap (count_by (is_scratch (result_names op) k)) (whole j),
-        sum_by-append (λ (q : Param). cond (is_scratch (result_names op) k q) 1 0) (front j) (back j),
+        sum_by-append (λ (q : Param). cond (is_scratch (result_names op) k q) 1 0) (front j)
+            (back j),
       )
 
   pub laid_bits : (k : ℕ) (m : NameMap) → IsLaidTo op k m → m.free_bit ≤ 128
@@ -142,7 +143,8 @@ module _ (op : Operation) (meets : OperationMeets op) where
             (defined_lays (result_names op) b old.free_word d) n) bits'
             ∙ ap (λ w. placed (placed (λ m. None) (first_lays k))
             (defined_lays (result_names op) b0 w d) n) words'
-            ∙ sym (placed-append (λ m. None) (first_lays k) (defined_lays (result_names op) b0 w0 d) n)
+            ∙ sym (placed-append (λ m. None) (first_lays k) (defined_lays (result_names op) b0
+            w0 d) n)
             ∙ ap (λ l. placed (λ m. None) l n)
             (append_assoc (source_lays 0 op.params) (defined_lays (result_names op) 0 0 (front k))
             (defined_lays (result_names op) b0 w0 d)
@@ -172,7 +174,8 @@ module _ (op : Operation) (meets : OperationMeets op) where
       ap (body_defines op.params) (take_all k op.body le) in
       record {
         at = λ name. is.at name ∙ first_found k name
-            ∙ ap (λ l. found (source_lays 0 op.params ++ defined_lays (result_names op) 0 0 l) name) e;
+            ∙ ap (λ l. found (source_lays 0 op.params ++ defined_lays (result_names op) 0 0 l)
+            name) e;
         bits = is.bits ∙ ap (count_by (is_scratch (result_names op) Bit)) e;
         words = is.words ∙ ap (count_by (is_scratch (result_names op) Word)) e;
       }

@@ -126,6 +126,7 @@ defined_params results b w [] = refl
 defined_params results b w (p ∷ ps) =
     let b' = cond (is_scratch results Bit p) (b + 1) b in
     let w' = cond (is_scratch results Word p) (w + 1) w in
-    ap (λ (k : Kind). record { name = p.name; kind = k } ∷ params_of (defined_lays results b' w' ps))
+    ap (λ (k : Kind). record { name = p.name; kind = k } ∷ params_of (defined_lays results b'
+    w' ps))
     (own_kind results b w p)
     ∙ ap (λ l. p ∷ l) (defined_params results b' w' ps)

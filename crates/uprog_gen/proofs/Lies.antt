@@ -87,7 +87,8 @@ next_more true b = omega arith
 next_more false b = omega arith
 
 head_is : (c : Bool) (k : Kind) (name : List ℕ) (results : List (List ℕ))
-    (b w bits words x y : ℕ) → is_among results name ≡ c → next Bit c b k + x ≤ bits → next Word c w k + y ≤ words
+    (b w bits words x y : ℕ) → is_among results name ≡ c → next Bit c b k + x ≤ bits → next
+    Word c w k + y ≤ words
     → IsDefinedLay results b w bits words (head results c b w name k)
 head_is true k name results b w bits words x y e f g = inl (refl, refl, e)
 head_is false Bit name results b w bits words x y e f g =
@@ -96,7 +97,8 @@ head_is false Word name results b w bits words x y e f g =
     inr (inr (refl, refl, omega arith, omega (arith, g), e))
 
 head_apart : (c : Bool) (k : Kind) (name : List ℕ) (results : List (List ℕ))
-    (b w bits words : ℕ) (m : Lay) → is_among results name ≡ c → IsDefinedLay results (next Bit c b k) (next Word c w k) bits words m
+    (b w bits words : ℕ) (m : Lay) → is_among results name ≡ c → IsDefinedLay results (next Bit
+    c b k) (next Word c w k) bits words m
     → IsShared (head results c b w name k) m → name ≡ m.name
 head_apart true k name results b w bits words m e (inl h) s = place_same results name m.name e h.2
     (s.1 ∙ h.1)
@@ -159,7 +161,8 @@ module _ (results : List (List ℕ)) (bits words : ℕ) where
       let g' = fits_rest Word p ps w words g in
       let b' = next Bit c b p.kind in
       let w' = next Word c w p.kind in (
-        each_map (IsDefinedLay results b' w' bits words) (λ m. IsShared (head results c b w p.name p.kind) m
+        each_map (IsDefinedLay results b' w' bits words) (λ m. IsShared (head results c b w
+            p.name p.kind) m
             → p.name ≡ m.name) (λ m h s. head_apart c p.kind p.name results b w bits words m refl h
             s) (defined_lays results b' w' ps) (defined_each b' w' ps f' g'),
         defined_apart b' w' ps f' g',
@@ -191,7 +194,8 @@ module _ (op : Operation) where
 
   pub own_each : Each (IsDefinedLay (result_names op) 0 0 (scratch_names Bit op)
       (scratch_names Word op)) own
-  own_each = defined_each (result_names op) (scratch_names Bit op) (scratch_names Word op) 0 0 defined
+  own_each = defined_each (result_names op) (scratch_names Bit op) (scratch_names Word op) 0 0
+      defined
       (omega arith) (omega arith)
 
   source_lies : (m : Lay) → IsSourceLay 0 op.params m → LiesIn op m

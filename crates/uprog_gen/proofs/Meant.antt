@@ -1,6 +1,7 @@
 -- The loop programs of an operation's statements mean the operation, within its ceiling and its own
 -- rows.
-use Rattle.std.proofs.Common.{◌≡◌, ℕ, suc, ◌+◌, ◌*◌, ◌<◌, ◌≤◌, Bool, true, false, cond, List, [], ◌∷◌}
+use Rattle.std.proofs.Common.{◌≡◌, ℕ, suc, ◌+◌, ◌*◌, ◌<◌, ◌≤◌, Bool, true, false, cond, List, []}
+use Rattle.std.proofs.Common.{◌∷◌}
 use Rattle.std.proofs.Common.{◌++◌, map, Option, Some, None, refl, sym, ap, ◌∙◌, subst, arith}
 use Rattle.std.proofs.Common.{bytes_eq, inl, inr}
 use Rattle.std.specs.List.{range_with_len, AllByRecursion}
@@ -197,7 +198,8 @@ module _ (op : Operation) (meets : OperationMeets op) (slots : Slots) (free_bit 
       by : (o : Option Slot) → found (source_lays 0 op.params) name ≡ o → (k : Kind)
           → kind_among op.params name ≡ Some k → (x : Slot)
           → or_else (found (source_lays 0 op.params) name)
-          (found (defined_lays (result_names op) 0 0 (body_defines op.params op.body)) name) ≡ Some x
+          (found (defined_lays (result_names op) 0 0 (body_defines op.params op.body)) name) ≡
+          Some x
           → found (source_lays 0 op.params) name ≡ Some x
       by None e k h x f =
           absurd (cc (
@@ -207,7 +209,8 @@ module _ (op : Operation) (meets : OperationMeets op) (slots : Slots) (free_bit 
           ))
       by (Some y) e k h x f =
           e ∙ sym (ap (λ o.
-          or_else o (found (defined_lays (result_names op) 0 0 (body_defines op.params op.body)) name))
+          or_else o (found (defined_lays (result_names op) 0 0 (body_defines op.params
+          op.body)) name))
           e) ∙ f
 
   first_holds : (n : ℕ) (bits : Spots) → HoldsAll n slots

@@ -246,7 +246,8 @@ block_defined known down states lets assigns =
     ∙ ap (λ ns. map (λ n. param n Bit) (map (λ (s : State). s.name) states)
     ++ map (λ n. param n Word) (filter (is_word states) ns)) (sym (equation_names assigns))
 
-pub block_lays : (results : List (List ℕ)) (down : Bool) (states : List State) (lets assigns : List Assign)
+pub block_lays : (results : List (List ℕ)) (down : Bool) (states : List State) (lets assigns :
+    List Assign)
     (old mid new : NameMap) → Lays results (states_defined states) old mid
     → Lays results (words_defined states assigns) mid new
     → (known : List Param)

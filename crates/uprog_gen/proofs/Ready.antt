@@ -244,7 +244,8 @@ module _ (op : Operation) (meets : OperationMeets op) (slots : Slots) (free_bit 
       let_unplaced : (name : List ℕ) → is_among (let_names b) name ≡ true → slots name ≡ None
       let_unplaced name h =
           let m = st.body.0 in
-          let l = each_among (IsNewLet (used c ++ state_names b) c.results) (let_names b) name m.lets
+          let l = each_among (IsNewLet (used c ++ state_names b) c.results) (let_names b) name
+          m.lets
           h
           in
           let more = body_defines (c.known ++ defines c.known (Visit b)) rest in

@@ -1,5 +1,6 @@
 -- What is true of the names of an operation that meets the rules, where each has its place.
-use Rattle.std.proofs.Common.{◌≡◌, ℕ, suc, ◌<◌, map, true, false, ◌||◌, cond, List, [], ◌∷◌, ◌++◌, Option}
+use Rattle.std.proofs.Common.{◌≡◌, ℕ, suc, ◌<◌, map, true, false, ◌||◌, cond, List, [], ◌∷◌}
+use Rattle.std.proofs.Common.{◌++◌, Option}
 use Rattle.std.proofs.Common.{Some, None, refl, sym, ap, ◌∙◌, subst, arith, bytes_eq, inl, inr}
 use Rattle.std.proofs.lemmas.List.{map-append}
 use Rattle.std.proofs.lemmas.Nat.{mul-add-lt}
@@ -119,7 +120,8 @@ module _ (op : Operation) (meets : OperationMeets op) (slots : Slots) (free_bit 
       map-append (λ (l : Lay). record { name = l.name; kind = l.slot.kind })
       (source_lays 0 op.params) (defined_lays (result_names op) 0 0
       (body_defines op.params op.body))
-      ∙ ap (λ l. l ++ params_of (defined_lays (result_names op) 0 0 (body_defines op.params op.body)))
+      ∙ ap (λ l. l ++ params_of (defined_lays (result_names op) 0 0 (body_defines op.params
+      op.body)))
       (source_params 0 op.params)
       ∙ ap (λ l. op.params ++ l) (defined_params (result_names op) 0 0
       (body_defines op.params op.body))

@@ -134,7 +134,8 @@ module _ (op : Operation) (meets : OperationMeets op) (slots : Slots) (free_bit 
 
   pub entry_graphed : (ps : List (List (StepOf Block)))
       → AreLowered slots free_bit free_word op.body ps → HaveForms slots op.body ps
-      → AreWritten slots free_bit free_word op.body ps → (e : Microprogram) → ((n : ℕ) → 0 < n → n ≤ WIDTH_MAX
+      → AreWritten slots free_bit free_word op.body ps → (e : Microprogram) → ((n : ℕ) → 0 < n
+      → n ≤ WIDTH_MAX
       → length (issues_of (trace e.shape e.code n)) ≤ rounds_cost (all_rounds n (joined ps)))
       → ((n : ℕ) → 0 < n → n ≤ WIDTH_MAX → AllParts IsSettled (joined ps)
       → counts_of (issues_of (trace e.shape e.code n)) ≡ rounds_counts (all_rounds n (joined ps)))

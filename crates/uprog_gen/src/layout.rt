@@ -79,8 +79,8 @@ fn result_place(owner: &Op, name: &Name) -> u8
 fn place(names: &mut NameMap, owner: &Op, name: &Name, kind: Kind) -> Result<(), NoMemory>
     requires bits { names.old.free_bit < 255 }
     requires words { names.old.free_word < 255 }
-    ensures { OnOk result (Lays (result_names (operation owner.now)) (param name.now kind ∷ [])
-        names.old names.new) }
+    ensures { OnOk result (Lays (result_names (operation owner.now))
+        (param name.now kind ∷ []) names.old names.new) }
 {
     if is_result(owner, name) {
         let slot = Slot {
@@ -124,8 +124,8 @@ fn is_state(states: &[State], name: &Name) -> bool
 fn place_states(names: &mut NameMap, owner: &Op, states: &[State]) -> Result<(), NoMemory>
     requires bits { names.old.free_bit + length states.now ≤ 255 }
     requires words { names.old.free_word < 255 }
-    ensures { OnOk result (Lays (result_names (operation owner.now)) (states_defined states.now)
-        names.old names.new) }
+    ensures { OnOk result (Lays (result_names (operation owner.now))
+        (states_defined states.now) names.old names.new) }
 {
     for state in states {
         place(names, owner, &state.name, Kind::Bit)?;
@@ -143,7 +143,8 @@ fn place_word(
     requires bits { names.old.free_bit < 255 }
     requires words { names.old.free_word < 255 }
     ensures { OnOk result (Lays (result_names (operation owner.now))
-        (words_defined states.now (assign.now ∷ [])) names.old names.new) }
+        (words_defined states.now (assign.now ∷ [])) names.old
+        names.new) }
 {
     if is_state(states, &assign.name) {
         return Ok(());
@@ -161,7 +162,8 @@ fn place_words(
     requires bits { names.old.free_bit < 255 }
     requires words { names.old.free_word + length assigns.now ≤ 255 }
     ensures { OnOk result (Lays (result_names (operation owner.now))
-        (words_defined states.now assigns.now) names.old names.new) }
+        (words_defined states.now assigns.now) names.old
+        names.new) }
 {
     for assign in assigns {
         place_word(names, owner, states, assign)?;
@@ -199,7 +201,8 @@ fn place_second(
 ) -> Result<(), NoMemory>
     requires bits { names.old.free_bit < 255 }
     requires words { names.old.free_word < 255 }
-    ensures { OnOk result (Lays (result_names (operation owner.now)) (second_of second.now op)
+    ensures { OnOk result (Lays (result_names (operation owner.now))
+        (second_of second.now op)
         names.old names.new) }
 {
     match second {
@@ -214,8 +217,8 @@ fn place_statement(names: &mut NameMap, owner: &Op, stmt: &Stmt) -> Result<(), N
     requires words { names.old.free_word ≤ 128 }
     requires short { IsShort (statement stmt.now) }
     ensures { OnOk result ((known : List Parameter) → Knows known names.old
-        → Lays (result_names (operation owner.now)) (defines known (statement stmt.now)) names.old
-        names.new) }
+        → Lays (result_names (operation owner.now))
+        (defines known (statement stmt.now)) names.old names.new) }
 {
     match stmt {
         Stmt::Word {

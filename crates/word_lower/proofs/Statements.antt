@@ -1,6 +1,7 @@
 -- A loop program like an operation's one does the statement.
 use Rattle.std.proofs.Common.{◌≡◌, inl, inr, ℕ, zero, suc, ◌+◌, ◌*◌, ◌/◌, ◌<◌, ◌≤◌, Bool, true}
-use Rattle.std.proofs.Common.{false, List, [], ◌∷◌, ◌++◌, map, length, Option, Some, None, refl, sym, ap}
+use Rattle.std.proofs.Common.{false, List, [], ◌∷◌, ◌++◌, map, length, Option, Some, None, refl}
+use Rattle.std.proofs.Common.{sym, ap}
 use Rattle.std.proofs.Common.{◌∙◌, subst, ⊎_elim, arith}
 use Rattle.std.specs.Prelude.{◌||◌, bytes_eq, unwrap_or, if◌then◌else◌}
 use Rattle.std.specs.Option.{option_to_list}
@@ -163,7 +164,8 @@ module _ (slots : Slots) (free_bit free_word : ℕ) (target : List ℕ)
   among_target = or_left (bytes_eq target target) (is_among (option_to_list second ++ args) target)
       (same_name target target refl)
 
-  pub among_arg : (i : ℕ) → i < length args → is_among (statement_names (Compute target second p args))
+  pub among_arg : (i : ℕ) → i < length args → is_among (statement_names (Compute target second
+      p args))
       (name_at args i) ≡ true
   among_arg i lt = or_right (bytes_eq target (name_at args i))
       (is_among (option_to_list second ++ args) (name_at args i))
@@ -173,7 +175,8 @@ module _ (slots : Slots) (free_bit free_word : ℕ) (target : List ℕ)
   written = or_left (bytes_eq target target) (is_among (option_to_list second) target)
       (same_name target target refl)
 
-  pub holds : (name : List ℕ) (x : Slot) → is_among (statement_names (Compute target second p args)) name
+  pub holds : (name : List ℕ) (x : Slot) → is_among (statement_names (Compute target second p
+      args)) name
       ≡ true → slots name ≡ Some x → holds_kind x.space x.kind ≡ true
   holds name x a f = let h = placed.there name a in let e : h.0 ≡ x =
       same_slot h.0 x (sym h.1 ∙ f) in subst (λ (x : Slot). holds_kind x.space x.kind ≡ true) e h.2
@@ -373,7 +376,8 @@ named_width n slots (name ∷ names) [] at = absurd at
 named_width n slots (name ∷ names) (s ∷ ss) at = ap (λ x. width n (l.kind_at x)) at.0
 
 module _ (slots : Slots) (free_bit free_word : ℕ) (target : List ℕ) (p : WordOp)
-    (args : List (List ℕ)) (linear : is_linear p ≡ true) (meets : ComputeMeets slots target None p args)
+    (args : List (List ℕ)) (linear : is_linear p ≡ true) (meets : ComputeMeets slots target
+        None p args)
     (placed : IsPlaced slots free_bit free_word (Compute target None p args)) (t : Slot)
     (found : slots target ≡ Some t) (ss : List Slot) (at : AreAt slots args ss) where
   lowers : Lowers p t.kind t ss free_bit
@@ -403,7 +407,8 @@ module _ (slots : Slots) (free_bit free_word : ℕ) (target : List ℕ) (p : Wor
       )
 
   does_op : (n : ℕ) → 0 < n → DoesOp p n t.kind t ss free_bit
-  does_op n some = lowers.does n some (pieces slots free_bit free_word target None p args meets placed t
+  does_op n some = lowers.does n some (pieces slots free_bit free_word target None p args meets
+      placed t
       found ss at n)
 
   module _ (steps : List (StepOf Block)) (like : LikeSteps steps (steps_on p t.kind t ss free_bit))
@@ -424,12 +429,14 @@ module _ (slots : Slots) (free_bit free_word : ℕ) (target : List ℕ) (p : Wor
             let g : slot_bits n new t ≡ bits (op_value p (slots_width n ss)
             (map (λ s. value (slot_bits n rows s)) ss)) (width n t.kind) =
             ap (λ (b : Spots). slot_bits n b t) (after_is n rows) ∙ (does_op n some).gives rows in
-            let one : HoldsAt n (Some t) (after_statement n held (Compute target None p args) target)
+            let one : HoldsAt n (Some t) (after_statement n held (Compute target None p args)
+            target)
             new =
             subst (λ (c : Bool). HoldsAt n (Some t) (if c then computed n p (map held args)
             else held target) new) (sym (same_name target target refl))
             (answer n held rows new h g) in
-            subst (λ x. Holds n slots (after_statement n held (Compute target None p args)) new x) same
+            subst (λ x. Holds n slots (after_statement n held (Compute target None p args)) new
+            x) same
             (subst (λ (x : Option Slot). HoldsAt n x
             (after_statement n held (Compute target None p args) target) new) (sym found) one));
         keeps = λ rows q out.
@@ -455,7 +462,8 @@ module _ (slots : Slots) (free_bit free_word : ℕ) (target : List ℕ) (p : Wor
           (Compute target None p args)
           steps
       lowered made =
-          let c = alike_compile (IsStatementRow slots free_bit free_word (Compute target None p args))
+          let c = alike_compile (IsStatementRow slots free_bit free_word (Compute target None p
+          args))
           steps (steps_on p t.kind t ss free_bit) like made
           (form slots free_bit free_word target None p args meets placed t found ss at t.kind linear
           lowers) in

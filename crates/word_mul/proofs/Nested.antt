@@ -51,14 +51,16 @@ pub record Lowers (p : WordOp) (t : Slot) (args : List Slot) (free_bit free_word
   pub apart : (n : ℕ) → 0 < n → Pieces n t args (scratch_from free_bit (bits_inside p))
       → WordsClear n t args free_word (words_inside p)
       → RoomsApart n (rooms_for p (rows_on t None args free_bit free_word))
-  pub owned : (n : ℕ) (q : Spot) → IsOwned n (rooms_for p (rows_on t None args free_bit free_word)) q
+  pub owned : (n : ℕ) (q : Spot) → IsOwned n (rooms_for p (rows_on t None args free_bit
+      free_word)) q
       → IsOwned n (rooms_of t args (scratch_from free_bit (bits_inside p))) q
       ⊎ ((v : ℕ) × (v < n * words_inside p) × (q ≡ spot_in n ScratchWord free_word v))
   pub does : (n : ℕ) → 0 < n → Pieces n t args (scratch_from free_bit (bits_inside p))
       → WordsClear n t args free_word (words_inside p) → (before : Spots)
       → DoesOp p n t args free_bit free_word before
       (after_rounds n (all_rounds n (steps_for p (rows_on t None args free_bit free_word))) before)
-  pub total : (n : ℕ) → rounds_cost (all_rounds n (steps_for p (rows_on t None args free_bit free_word)))
+  pub total : (n : ℕ) → rounds_cost (all_rounds n (steps_for p (rows_on t None args free_bit
+      free_word)))
       ≡ nested_total p n
   pub cheap : (n : ℕ) → nested_total p n ≤ op_ceiling p (slots_width n args)
 
@@ -149,7 +151,8 @@ module _ (x0 : Space) (y0 : ℕ) (x1 : Space) (y1 : ℕ) (x2 : Space) (y2 : ℕ)
       moves = record { by = moves_in n x0 y0 Word are.holds };
       a = are.given 0 (omega arith);
       b = are.given 1 (omega arith);
-      bit = λ j lj. bit_is_free n t (unwrap_or second t) a b (a ∷ b ∷ []) free_bit free_word bits_free j refl refl refl 0
+      bit = λ j lj. bit_is_free n t (unwrap_or second t) a b (a ∷ b ∷ []) free_bit free_word
+          bits_free j refl refl refl 0
           1
           (omega arith) (omega arith) refl refl lj are;
       word = record {

@@ -27,7 +27,8 @@ pub record SecondPlace (slots : Slots) (second : Option (List ℕ)) : Type 0 whe
   pub place : Option Slot
   pub at : AreAt slots (option_to_list second) (option_to_list place)
 
-pub second_place : (slots : Slots) (target : List ℕ) (args : List (List ℕ)) (second : Option (List ℕ))
+pub second_place : (slots : Slots) (target : List ℕ) (args : List (List ℕ)) (second : Option
+    (List ℕ))
     (k : Option Kind) → SecondMeets slots target args second k → SecondPlace slots second
 second_place slots target args None k h = record { place = None; at = tt }
 second_place slots target args (Some name) None h = absurd h
@@ -51,10 +52,11 @@ is_done : (slots : Slots) (free_bit free_word : ℕ) (target : List ℕ) (second
     → AreAt slots args ss → (steps : List (StepOf Block))
     → StepsBuilt steps (steps_for p (rows_on t u ss free_bit free_word))
     → IsDone slots free_bit free_word target second p args steps
-is_done slots fb fw target None p args is meets placed t found None near ss at steps built = record {
-  lowered = lowered slots fb fw target p args is meets placed t found ss at steps built;
-  few = few slots fb fw target p args is meets placed t found ss at steps built;
-}
+is_done slots fb fw target None p args is meets placed t found None near ss at steps built =
+    record {
+      lowered = lowered slots fb fw target p args is meets placed t found ss at steps built;
+      few = few slots fb fw target p args is meets placed t found ss at steps built;
+    }
 is_done slots fb fw target None p args is meets placed t found (Some u) near ss at steps built =
     absurd near
 is_done slots fb fw target (Some name) p args is meets placed t found None near ss at steps built =

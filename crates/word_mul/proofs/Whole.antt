@@ -135,13 +135,15 @@ module _ (slots : Slots) (free_bit free_word : ℕ) (target : List ℕ) (second 
   pub clear : (n : ℕ) → WordsClear n t ss free_word (words_inside p)
   clear n = record {
     target =
-        (let a = among_target slots free_bit free_word target second p args meets placed t found ss at in
+        (let a = among_target slots free_bit free_word target second p args meets placed t
+        found ss at in
         word_clear n t free_word (words_inside p)
         (holds slots free_bit free_word target second p args meets placed t found ss at target t a
         found) (λ e. placed.word target t a found e));
     given = λ i lt.
         (let h = at_place slots args ss i at lt in
-        let a = among_arg slots free_bit free_word target second p args meets placed t found ss at i h.0 in
+        let a = among_arg slots free_bit free_word target second p args meets placed t found ss
+        at i h.0 in
         word_clear n (slot_at ss i) free_word (words_inside p)
         (holds slots free_bit free_word target second p args meets placed t found ss at
         (name_at args i) (slot_at ss i) a h.1) (λ e.
@@ -212,7 +214,8 @@ module _ (slots : Slots) (free_bit free_word : ℕ) (target : List ℕ) (p : Wor
 
   owner_row : (n : ℕ) (q : Spot) → IsOwned n (rooms_of t ss (scratch_from free_bit (bits_inside p)))
       q ⊎ ((v : ℕ) × (v < n * words_inside p) × (q ≡ spot_in n ScratchWord free_word v)) → row n q
-  owner_row n q (inl o) = row_of slots free_bit free_word target None p args meets placed t found ss at n
+  owner_row n q (inl o) = row_of slots free_bit free_word target None p args meets placed t
+      found ss at n
       q o
   owner_row n q (inr o) = inr (inr o)
 
@@ -232,7 +235,8 @@ module _ (slots : Slots) (free_bit free_word : ℕ) (target : List ℕ) (p : Wor
     does_op : (n : ℕ) → 0 < n → (rows : Spots)
         → DoesOp p n t ss free_bit free_word rows (after_rounds n (all_rounds n steps) rows)
     does_op n some rows = subst (DoesOp p n t ss free_bit free_word rows) (sym (after_is n rows))
-        (lowers.does n some (pieces slots free_bit free_word target None p args meets placed t found ss
+        (lowers.does n some (pieces slots free_bit free_word target None p args meets placed t
+        found ss
         at n) (cleared n) rows)
 
     does : (n : ℕ) → 0 < n → Does slots free_bit free_word (Compute target None p args) n steps
@@ -241,12 +245,14 @@ module _ (slots : Slots) (free_bit free_word : ℕ) (target : List ℕ) (p : Wor
           (let new = after_rounds n (all_rounds n steps) rows in
           let same : target ≡ name = (bytes_eq-Decides target name).0
           (only (bytes_eq target name) e) in
-          let one : HoldsAt n (Some t) (after_statement n held (Compute target None p args) target) new =
+          let one : HoldsAt n (Some t) (after_statement n held (Compute target None p args)
+          target) new =
           subst (λ (c : Bool). HoldsAt n (Some t) (if c then computed n p (map held args)
           else held target) new) (sym (same_name target target refl))
           (answer slots p args ss at t n held rows new filled_form h
           (does_op n some rows).gives) in
-          subst (λ x. Holds n slots (after_statement n held (Compute target None p args)) new x) same
+          subst (λ x. Holds n slots (after_statement n held (Compute target None p args)) new
+          x) same
           (subst (λ (x : Option Slot). HoldsAt n x
           (after_statement n held (Compute target None p args) target) new) (sym found) one));
       keeps = λ rows q out. (does_op n some rows).keeps q
@@ -275,7 +281,8 @@ module _ (slots : Slots) (free_bit free_word : ℕ) (target : List ℕ) (p : Wor
 
     pub lowered : IsLowered slots free_bit free_word (Compute target None p args) steps
     lowered =
-        let c = alike_compile row steps (steps_for p (rows_on t None ss free_bit free_word)) built.like
+        let c = alike_compile row steps (steps_for p (rows_on t None ss free_bit free_word))
+        built.like
         built.made form in
         record {
           well = c.0;

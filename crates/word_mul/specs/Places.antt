@@ -1,5 +1,6 @@
 -- The rooms of such a statement: as any word statement's, two words of internal scratch as one
--- room, and a second target.
+-- room,
+-- and a second target.
 use Rattle.std.specs.Prelude.{◌≡◌, ℕ, zero, suc, true, List, [], ◌∷◌, ◌++◌, length, nat_lt, Some}
 use Rattle.std.specs.Prelude.{Option, unwrap_or, if◌then◌else◌}
 use Rattle.std.specs.Option.{option_to_list}

@@ -11,7 +11,8 @@ pub program-requires-clause-bits : goal.program-requires-clause-bits
 program-requires-clause-bits c =
     let n = c.args.names.now in
     let w = c.in-Word in
-    has_bits (slots_of n) n.free_bit n.free_word (statement c.args.s.now) w.dst w.second w.op w.args.items
+    has_bits (slots_of n) n.free_bit n.free_word (statement c.args.s.now) w.dst w.second w.op
+    w.args.items
     (ap statement w.is) c.requires.nested c.requires.meets c.requires.placed
     c.rows.result (λ t u ss found near at. c.rows.ensures t u ss found near
     (subst (λ ns. AreAt (slots_of n) ns ss) (sym c.deref.ensures.value) at))
@@ -20,7 +21,8 @@ pub returns-clause-lowered : goal.returns-clause-lowered
 returns-clause-lowered c =
     let n = c.args.names.now in
     let w = c.in-Word in
-    statement_lowered (slots_of n) n.free_bit n.free_word (statement c.args.s.now) w.dst w.second w.op
+    statement_lowered (slots_of n) n.free_bit n.free_word (statement c.args.s.now) w.dst
+    w.second w.op
     w.args.items (ap statement w.is) c.requires.nested c.requires.meets c.requires.placed
     c.rows.result (λ t u ss found near at. c.rows.ensures t u ss found near
     (subst (λ ns. AreAt (slots_of n) ns ss) (sym c.deref.ensures.value) at))
@@ -40,7 +42,8 @@ pub returns-clause-written : goal.returns-clause-written
 returns-clause-written c =
     let n = c.args.names.now in
     let w = c.in-Word in
-    statement_written (slots_of n) n.free_bit n.free_word (statement c.args.s.now) w.dst w.second w.op
+    statement_written (slots_of n) n.free_bit n.free_word (statement c.args.s.now) w.dst
+    w.second w.op
     w.args.items (ap statement w.is) c.requires.nested c.requires.meets c.requires.placed
     c.rows.result (λ t u ss found near at. c.rows.ensures t u ss found near
     (subst (λ ns. AreAt (slots_of n) ns ss) (sym c.deref.ensures.value) at))
