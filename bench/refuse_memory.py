@@ -4,8 +4,9 @@
 Run it at the top of the repository, after the program was built once:  python3 bench/refuse_memory.py [JOB..]
 
 The allocations are those of the C library, counted over the whole process; bench/refuse.c, which gcc builds, refuses one.
-Each run must end as with ample memory, or with status 10, `no memory` as all that was sent, and OUT as at entry. It prints
-how many runs ended in each of the two ways, and ends with 1 where one ended in another.
+Each run must end as with ample memory, or with status 10, `no memory` as all that was sent, and OUT as at entry; where the
+words of the command line could not be kept, nothing is sent. It prints how many runs ended in each way, and ends with 1
+where one ended in another.
 """
 
 import collections
@@ -80,6 +81,8 @@ def main():
                     ends["as with ample memory"] += 1
                 elif found == (10, b"no memory\n", b"as at entry"):
                     ends["no memory"] += 1
+                elif found == (10, b"", b"as at entry"):
+                    ends["no memory for the words of the command line"] += 1
                 else:
                     wrong += 1
                     print(f"{name}: allocation {refuse} of {calls} refused: status {found[0]}, sent {found[1][:80]!r}")
