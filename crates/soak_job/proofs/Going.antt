@@ -1,0 +1,253 @@
+-- How a soak goes through its steps.
+use Rattle.std.proofs.Common.{◌≡◌, ℕ, ◌≤◌, List, [], ◌∷◌, ◌++◌, refl, ap}
+use Rattle.std.proofs.Common.{◌∙◌}
+use Rattle.std.proofs.Common.{inl, inr, arith}
+use Rattle.std.specs.Prelude.{Result, Ok, Err, IfOk, Some}
+use Rattle.host_edge.specs.Views.{FolderView, SinkView, Told, AppendsPart}
+use Rattle.fault_counts.specs.Counts.{Rose}
+use Rattle.dram_model.specs.declared.dram.Counters.{Counters}
+use Rattle.dram_model.specs.View.{Began, ChipView, NotBegun}
+use Rattle.dram_model.proofs.EventLaws.{Did-none, Grew-more}
+use Rattle.uprog_code.specs.Shape.{Microprogram}
+use Rattle.cli_model.specs.World.{World, world}
+use Rattle.cli_model.specs.Steps.{ReadsOnly, Used, Sent}
+use Rattle.soak_case.specs.declared.cases.Case.{Case}
+use Rattle.soak_case.specs.Cases.{soak_cases, source_kinds}
+use Rattle.soak_case.specs.Words.{behind_all}
+use Rattle.soak_case.specs.Layout.{case_events, result_rows, soak_chip, source_rows}
+use Rattle.soak_case.specs.Sums.{case_line, last_line}
+use Rattle.soak_case.specs.Done.{CaseDone, IsFileOf, IsProgramOf, RisesLittle}
+use Rattle.soak_case.proofs.Going.{sum_cons}
+use Rattle.soak_job.specs.declared.job.SoakNo.{SoakNo}
+use Rattle.soak_job.specs.declared.job.SoakNo.TheVariants as no
+use Rattle.soak_job.specs.Steps.{cases_steps}
+use Rattle.soak_job.specs.Done.{CaseWent, CasesDone, CasesGo, SoakGoes, SoakLeft, cases_events}
+use Rattle.soak_job.specs.Done.{end_of}
+
+pub nothing_read : (w : World) → ReadsOnly w w
+nothing_read w = record {
+  files = refl;
+  counts = record {
+    load_faults = λ name. omega arith;
+    store_faults = omega arith;
+    taken = omega arith;
+  };
+  sink = refl;
+  chip = refl;
+}
+
+pub chip_used : (files : FolderView) (s : SinkView) (a b : ChipView) → a.faults ≤ b.faults
+    → Used (world files s a) (world files s b)
+chip_used files s a b l = record { files = refl; sink = refl; chip = l }
+
+pub bytes_sent : (R : List ℕ → List ℕ → Type 0) (files : FolderView) (s t : SinkView) (chip : ChipView)
+    → Told R s.sent t.sent → s.faults ≤ t.faults
+    → Sent R (world files s chip) (world files t chip)
+bytes_sent R files s t chip told l = record { files = refl; sent = told; faults = l; chip = refl }
+
+pub program_is : (c : Case) (bytes : List ℕ) → (f : IsFileOf c.op bytes) → IsProgramOf c f.program
+program_is c bytes f = record { legal = f.legal.entries.0; does = f.does }
+
+pub case_went : (state : ℕ) (c : Case) (m : Microprogram) (files : FolderView) (s t : SinkView)
+    (a b : ChipView) → IsProgramOf c m → a.faults ≤ b.faults
+    → Told (λ before after. after ≡ before ++ case_line state c m) s.sent t.sent
+    → s.faults ≤ t.faults → CaseDone state c m a b → RisesLittle a.counters b.counters
+    → CaseWent state c (world files s a) (world files t b)
+case_went state c m files s t a b is l told k done few = record {
+  program = m;
+  is = is;
+  does = λ rest end last g. inl (
+    world files s a,
+    (
+      nothing_read (world files s a),
+      inl (
+        world files s b,
+        (
+          chip_used files s a b l,
+          inl (
+            world files t b,
+            (
+              bytes_sent (λ before after. after ≡ before ++ case_line state c m) files s t b told k,
+              g,
+            ),
+          ),
+        ),
+      ),
+    ),
+  );
+  done = done;
+  few = few;
+}
+
+-- there was no memory for a case
+pub stops_at_take : (state : ℕ) (c : Case) (cs : List Case) (w : World)
+    → CasesGo state (c ∷ cs) w w (Err no.NoMemory)
+stops_at_take state c cs w = record {
+  programs = [];
+  are = tt;
+  goes = inr (refl, nothing_read w);
+  done = tt;
+}
+
+-- the chip failed in a case
+pub stops_at_use : (state : ℕ) (c : Case) (cs : List Case) (m : Microprogram) (files : FolderView)
+    (s : SinkView) (a b : ChipView) → IsProgramOf c m → a.faults ≤ b.faults → Rose a.faults b.faults
+    → CasesGo state (c ∷ cs) (world files s a) (world files s b) (Err no.ChipFailed)
+stops_at_use state c cs m files s a b is l rose = record {
+  programs = m ∷ [];
+  are = (is, tt);
+  goes = inl (
+    world files s a,
+    (nothing_read (world files s a), inr (refl, chip_used files s a b l, rose)),
+  );
+  done = tt;
+}
+
+-- the line of a case could not be put
+pub stops_at_put : (state : ℕ) (c : Case) (cs : List Case) (m : Microprogram) (files : FolderView)
+    (s t : SinkView) (a b : ChipView) → IsProgramOf c m → a.faults ≤ b.faults
+    → Told (AppendsPart (case_line state c m)) s.sent t.sent → s.faults ≤ t.faults
+    → Rose s.faults t.faults
+    → CasesGo state (c ∷ cs) (world files s a) (world files t b) (Err no.PutFailed)
+stops_at_put state c cs m files s t a b is l told k rose = record {
+  programs = m ∷ [];
+  are = (is, tt);
+  goes = inl (
+    world files s a,
+    (
+      nothing_read (world files s a),
+      inl (
+        world files s b,
+        (
+          chip_used files s a b l,
+          inr (refl, bytes_sent (AppendsPart (case_line state c m)) files s t b told k, rose),
+        ),
+      ),
+    ),
+  );
+  done = tt;
+}
+
+counters_same : (a b c d e f g h : ℕ) → a ≡ e → b ≡ f → c ≡ g → d ≡ h
+    → ◌≡◌ {A = Counters} (record { aap = a; ap = b; writes = c; reads = d })
+    (record { aap = e; ap = f; writes = g; reads = h })
+counters_same a b c d e f g h p q r s = rw (p, q, r, s) refl
+
+both_done : (state : ℕ) (c : Case) (cs : List Case) (m : Microprogram) (ms : List Microprogram)
+    (a b d : ChipView) → CaseDone state c m a b
+    → CasesDone (behind_all state (source_kinds c.op)) cs ms b d
+    → CasesDone state (c ∷ cs) (m ∷ ms) a d
+both_done state c cs m ms a b d one more =
+    let writes = sum_cons source_rows c cs in
+    let reads = sum_cons result_rows c cs in
+    let aap_is = ap (λ (k : Counters). k.aap) one.counters in
+    let ap_is = ap (λ (k : Counters). k.ap) one.counters in
+    let writes_are = ap (λ (k : Counters). k.writes) one.counters in
+    let reads_are = ap (λ (k : Counters). k.reads) one.counters in
+    record {
+      all = omega (arith, more.all);
+      counters = more.counters
+          ∙ counters_same _ _ _ _ _ _ _ _ (omega (arith, aap_is)) (omega (arith, ap_is))
+          (omega (arith, writes_are, writes)) (omega (arith, reads_are, reads));
+      log = Grew-more a.log b.log d.log (case_events state c m)
+          (cases_events (behind_all state (source_kinds c.op)) cs ms) one.log more.log;
+    }
+
+done_more : (state : ℕ) (c : Case) (cs : List Case) (m : Microprogram) (ms : List Microprogram)
+    (a b d : ChipView) (result : Result Unit SoakNo) → CaseDone state c m a b
+    → IfOk result (λ u. CasesDone (behind_all state (source_kinds c.op)) cs ms b d)
+    → IfOk result (λ u. CasesDone state (c ∷ cs) (m ∷ ms) a d)
+done_more state c cs m ms a b d (Ok u) one more = both_done state c cs m ms a b d one more
+done_more state c cs m ms a b d (Err why) one more = tt
+
+-- a case, and the others behind it
+pub goes_on : (state : ℕ) (c : Case) (cs : List Case) (old mid last : World)
+    (result : Result Unit SoakNo) → CaseWent state c old mid
+    → CasesGo (behind_all state (source_kinds c.op)) cs mid last result
+    → CasesGo state (c ∷ cs) old last result
+goes_on state c cs old mid last result one more = record {
+  programs = one.program ∷ more.programs;
+  are = (one.is, more.are);
+  goes = one.does (cases_steps (behind_all state (source_kinds c.op)) cs more.programs)
+      (end_of result) last more.goes;
+  done = done_more state c cs one.program more.programs old.chip mid.chip last.chip result one.done
+      more.done;
+}
+
+-- no case is left, and the last line was put
+pub all_told : (state : ℕ) (files : FolderView) (s t : SinkView) (chip : ChipView)
+    → Told (λ before after. after ≡ before ++ last_line) s.sent t.sent → s.faults ≤ t.faults
+    → CasesGo state [] (world files s chip) (world files t chip) (Ok tt)
+all_told state files s t chip told l = record {
+  programs = [];
+  are = tt;
+  goes = inl (
+    world files t chip,
+    (bytes_sent (λ before after. after ≡ before ++ last_line) files s t chip told l, refl),
+  );
+  done = record {
+    all = refl;
+    counters = counters_same _ _ _ _ _ _ _ _ (omega arith) (omega arith) (omega arith) (omega arith);
+    log = (Did-none chip).log;
+  };
+}
+
+pub not_told : (state : ℕ) (files : FolderView) (s t : SinkView) (chip : ChipView)
+    → Told (AppendsPart last_line) s.sent t.sent → s.faults ≤ t.faults → Rose s.faults t.faults
+    → CasesGo state [] (world files s chip) (world files t chip) (Err no.PutFailed)
+not_told state files s t chip told l rose = record {
+  programs = [];
+  are = tt;
+  goes = inr (refl, bytes_sent (AppendsPart last_line) files s t chip told l, rose);
+  done = tt;
+}
+
+left_of : (seed : ℕ) (ms : List Microprogram) (begun last : ChipView)
+    (result : Result Unit SoakNo) → Began soak_chip begun
+    → IfOk result (λ u. CasesDone seed soak_cases ms begun last)
+    → IfOk result (λ u. SoakLeft seed ms last)
+left_of seed ms begun last (Err why) began done = tt
+left_of seed ms begun last (Ok u) began done =
+    let aap_is = ap (λ (k : Counters). k.aap) began.counters in
+    let ap_is = ap (λ (k : Counters). k.ap) began.counters in
+    let writes_are = ap (λ (k : Counters). k.writes) began.counters in
+    let reads_are = ap (λ (k : Counters). k.reads) began.counters in
+    record {
+      all = done.all;
+      counters = done.counters ∙ counters_same _ _ _ _ _ _ _ _ (omega (arith, aap_is))
+          (omega (arith, ap_is)) (omega (arith, writes_are)) (omega (arith, reads_are));
+      log = Grew-more (Some []) begun.log last.log [] (cases_events seed soak_cases ms) began.log
+          done.log;
+    }
+
+-- the chip began, and the cases followed
+pub soak_goes : (seed : ℕ) (files : FolderView) (s : SinkView) (a b : ChipView) (last : World)
+    (result : Result Unit SoakNo) → Began soak_chip b → a.faults ≤ b.faults
+    → CasesGo seed soak_cases (world files s b) last result
+    → SoakGoes seed (world files s a) last result
+soak_goes seed files s a b last result began l go = record {
+  programs = go.programs;
+  are = go.are;
+  goes = inl (world files s b, (chip_used files s a b l, go.goes));
+  left = left_of seed go.programs b last.chip result began go.done;
+}
+
+pub soak_unopened : (seed : ℕ) (files : FolderView) (s : SinkView) (a b : ChipView)
+    → NotBegun b → a.faults ≤ b.faults
+    → SoakGoes seed (world files s a) (world files s b) (Err no.NoMemory)
+soak_unopened seed files s a b not l = record {
+  programs = [];
+  are = tt;
+  goes = inr (inl (refl, chip_used files s a b l, inr not));
+  left = tt;
+}
+
+pub soak_failed : (seed : ℕ) (files : FolderView) (s : SinkView) (a b : ChipView)
+    → a.faults ≤ b.faults → Rose a.faults b.faults
+    → SoakGoes seed (world files s a) (world files s b) (Err no.ChipFailed)
+soak_failed seed files s a b l rose = record {
+  programs = [];
+  are = tt;
+  goes = inr (inr (refl, chip_used files s a b l, rose));
+  left = tt;
+}

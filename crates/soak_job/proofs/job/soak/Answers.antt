@@ -1,0 +1,30 @@
+use Rattle.std.proofs.Common.{◌≡◌, List, sym, subst, ◌∙◌}
+use Rattle.std.specs.List.{AllByRecursion}
+use Rattle.cli_model.specs.World.{world}
+use Rattle.soak_case.specs.declared.cases.Case.{Case}
+use Rattle.soak_case.specs.Cases.{soak_cases}
+use Rattle.soak_job.specs.Done.{CanBeDone, CasesGo}
+use Rattle.soak_job.proofs.Fitting.{all_done}
+use Rattle.soak_job.proofs.Going.{soak_goes}
+use Rattle.soak_job.proofs.job.soak.Goals as goal
+
+pub soak_cases-requires-clause-can : goal.soak_cases-requires-clause-can
+soak_cases-requires-clause-can g c =
+    let same : c.as_slice.result.now ≡ soak_cases =
+    c.as_slice.ensures.value ∙ c.all_cases-cases.ensures in
+    subst (AllByRecursion CanBeDone) (sym same) all_done
+
+pub returns-clause-goes : goal.returns-clause-goes
+returns-clause-goes g c files =
+    let same : c.as_slice.result.now ≡ soak_cases =
+    c.as_slice.ensures.value ∙ c.all_cases-cases.ensures in
+    let begun = g.D.Dram.view c.begin.new.self in
+    let sink = g.S.Sink.view c.args.out.now in
+    let last = world files (g.S.Sink.view c.soak_cases.new.out) (g.D.Dram.view c.soak_cases.new.chip)
+    in
+    soak_goes c.args.seed files sink (g.D.Dram.view c.args.chip.now) begun last c.soak_cases.result
+    c.in-Ok.ensures.began c.begin.ensures.faults
+    (subst (λ (cs : List Case). CasesGo c.args.seed cs (world files sink begun) last
+    c.soak_cases.result) same
+    (subst (λ s. CasesGo s c.as_slice.result.now (world files sink begun) last c.soak_cases.result)
+    c.seed_from_u64-generator.ensures.same (c.soak_cases.ensures.goes files)))

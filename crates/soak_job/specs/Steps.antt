@@ -1,0 +1,27 @@
+-- The programs of a soak, and its steps.
+use Rattle.std.specs.Prelude.{ℕ, List, [], ◌∷◌}
+use Rattle.uprog_code.specs.Shape.{Microprogram}
+use Rattle.cli_model.specs.Steps.{Step, Take, Open, Use, Put}
+use Rattle.soak_case.specs.declared.cases.Case.{Case}
+use Rattle.soak_case.specs.Cases.{soak_cases, source_kinds}
+use Rattle.soak_case.specs.Done.{IsProgramOf}
+use Rattle.soak_case.specs.Words.{behind_all}
+use Rattle.soak_case.specs.Sums.{case_line, last_line}
+
+-- each is a program of its case; those of the last cases may be missing
+abbrev pub AreProgramsOf : List Case → List Microprogram → Type 0
+AreProgramsOf cs [] = Unit {0}
+AreProgramsOf [] (m ∷ ms) = ⊥
+AreProgramsOf (c ∷ cs) (m ∷ ms) = IsProgramOf c m × AreProgramsOf cs ms
+
+-- A case takes memory for its program, uses the chip, and sends its line; where no program was
+-- made, its memory was the last step. The generator goes on from case to case
+abbrev pub cases_steps : (state : ℕ) → List Case → List Microprogram → List Step
+cases_steps state [] ms = Put last_line ∷ []
+cases_steps state (c ∷ cs) [] = Take ∷ []
+cases_steps state (c ∷ cs) (m ∷ ms) = Take ∷ Use ∷ Put (case_line state c m)
+    ∷ cases_steps (behind_all state (source_kinds c.op)) cs ms
+
+-- the chip begins, and all cases follow, with the generator whose first state is the seed
+abbrev pub soak_steps : (seed : ℕ) → List Microprogram → List Step
+soak_steps seed programs = Open ∷ cases_steps seed soak_cases programs
