@@ -96,10 +96,10 @@ fn soak_cases<S: Sink, D: Dram>(
     Ok(())
 }
 
-/// Begins the chip, and does every word operation with one result at the widths 1, 8 and 64 on 256 elements of
-/// SplitMix64 words from the seed; puts a line for each case, and a last one. Each case compiles the
-/// op of one statement, encodes and opens its program, loads the sources, runs the program in both
-/// banks and reads the result back.
+/// Begins the chip, and does every word operation with one result at the widths 1, 8 and 64 on 256
+/// elements of SplitMix64 words from the seed; puts a line for each case, and a last one. Each case
+/// compiles the op of one statement, encodes and opens its program, loads the sources, runs the
+/// program in both banks and reads the result back.
 pub fn soak<S: Sink, D: Dram>(
     seed: u64,
     out: &mut S,
