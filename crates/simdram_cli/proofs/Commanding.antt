@@ -1,18 +1,18 @@
 -- What the words of a command say of its files and numbers.
 use Rattle.std.proofs.Common.{◌≡◌, ℕ, Bool, true, false, cond, List, [], ◌∷◌, Option, Some, None}
-use Rattle.std.proofs.Common.{refl, subst, nat_le}
+use Rattle.std.proofs.Common.{refl, subst, nat_le, nat_lt, ◌^◌}
 use Rattle.std.specs.Prelude.{◌&&◌, IfSome, bytes_eq, codes}
-use Rattle.std.proofs.lemmas.Bool.{leb-true}
+use Rattle.std.proofs.lemmas.Bool.{leb-true, ltb-true}
 use denote.Ref.{Bor}
 use Rattle.bit_rows.specs.declared.TheConstants.{WIDTH_MAX}
 use Rattle.dram_model.specs.Geometry.{is_geometry}
 use Rattle.dram_model.specs.declared.geometry.Geometry.{Geometry}
 use Rattle.simdram_cli.specs.declared.words.Command.{Command}
 use Rattle.simdram_cli.specs.declared.words.Command.TheVariants.{Run, Exec, Compile, Show, Migrate}
-use Rattle.simdram_cli.specs.declared.words.Command.TheVariants.{Cost, List as ListOf, Init}
+use Rattle.simdram_cli.specs.declared.words.Command.TheVariants.{Cost, List as ListOf, Init, Soak}
 use Rattle.simdram_cli.specs.Words.{HasNumbers, IsApart, are_apart, command_of, command_on_one}
 use Rattle.simdram_cli.specs.Words.{command_on_four, command_on_two, cost_on, init_on}
-use Rattle.simdram_cli.specs.Words.{inputs_apart, is_number, value_of}
+use Rattle.simdram_cli.specs.Words.{inputs_apart, is_number, soak_on, value_of}
 
 -- the files of a command are apart, and its numbers are in range
 pub record IsRight (command : Command) : Type 0 where
@@ -76,11 +76,22 @@ init_right banks rows words out =
           (second_holds (is_number rows) three (second_holds (is_number banks) two e));
     })
 
-on_one_right : (verb : List ℕ) (file : Bor (List ℕ)) → AreRight (command_on_one verb file)
-on_one_right verb file =
-    either (bytes_eq verb (codes "show")) (Some (Show file)) _
+soak_right : (seed : List ℕ) → AreRight (soak_on seed)
+soak_right seed =
+    let low = nat_lt (value_of seed) (2 ^ 64) in
+    if_so (is_number seed && low) (Soak (value_of seed)) (λ e. record {
+      apart = tt;
+      numbers = ltb-true (value_of seed) (2 ^ 64) (second_holds (is_number seed) low e);
+    })
+
+on_one_right : (verb : List ℕ) (word : Bor (List ℕ)) → AreRight (command_on_one verb word)
+on_one_right verb word =
+    either (bytes_eq verb (codes "show")) (Some (Show word)) _
     (record { apart = tt; numbers = tt }) (λ other.
-    if_so (bytes_eq verb (codes "list")) (ListOf file) (λ e. record { apart = tt; numbers = tt }))
+    either (bytes_eq verb (codes "list")) (Some (ListOf word)) _
+    (record { apart = tt; numbers = tt }) (λ neither.
+    either (bytes_eq verb (codes "soak")) (soak_on word.now) None (soak_right word.now)
+    (λ none. tt)))
 
 on_two_right : (verb : List ℕ) (first second : Bor (List ℕ))
     → bytes_eq first.now second.now ≡ false → AreRight (command_on_two verb first second)
@@ -105,7 +116,7 @@ on_four_right verb first second third fourth =
 words_right : (words : List (Bor (List ℕ))) → AreRight (command_of words)
 words_right [] = tt
 words_right (a ∷ []) = tt
-words_right (verb ∷ file ∷ []) = on_one_right verb.now file
+words_right (verb ∷ word ∷ []) = on_one_right verb.now word
 words_right (verb ∷ first ∷ second ∷ []) =
     either (bytes_eq verb.now (codes "cost")) (cost_on first second.now) _
     (cost_right first second.now) (λ other.

@@ -25,4 +25,5 @@ pub mod Promises
 pub mod Stores
 pub mod Telling
 pub mod Unique
+pub mod Soaking
 mod Showing

@@ -2,7 +2,7 @@
 use Rattle.std.proofs.Common.{◌≡◌, ◌⊎◌, inl, inr, arith, ℕ, Bool, true, false, cond, List, [], ◌∷◌}
 use Rattle.std.proofs.Common.{length}
 use Rattle.std.proofs.Common.{◌+◌, Option, Some, None, refl, subst}
-use Rattle.std.specs.Prelude.{Result, Ok, Err, ◌↔◌, codes}
+use Rattle.std.specs.Prelude.{Result, Ok, Err, ◌↔◌}
 use denote.Ref.{Bor}
 use Rattle.bbop_isa.specs.Forms.{Instruction}
 use Rattle.machine_model.specs.Operations.{Program, Operations, operations_in}
@@ -32,13 +32,14 @@ use Rattle.simdram_cli.specs.declared.words.MigrateNames.{MigrateNames}
 use Rattle.simdram_cli.specs.declared.words.TheConstants.{OPS_MAX, SCRIPT_MAX, IMAGE_MAX, PROG_MAX}
 use Rattle.simdram_cli.specs.declared.words.Command.{Command}
 use Rattle.simdram_cli.specs.declared.words.Command.TheVariants.{Run, Exec, Compile, Show, Migrate}
-use Rattle.simdram_cli.specs.declared.words.Command.TheVariants.{Cost, List as ListOf, Init}
+use Rattle.simdram_cli.specs.declared.words.Command.TheVariants.{Cost, List as ListOf, Init, Soak}
 use Rattle.simdram_cli.specs.declared.words.InitNames.{InitNames}
 use Rattle.simdram_cli.specs.declared.account.Account.{Account}
 use Rattle.simdram_cli.specs.declared.account.Account.TheVariants.{Listing, Costs}
 use Rattle.simdram_cli.specs.Words.{command_of, IsApart}
 use Rattle.simdram_cli.specs.Accounts.{account_steps}
 use Rattle.simdram_cli.specs.Init.{init_steps}
+use Rattle.soak_job.specs.Steps.{soak_steps}
 use Rattle.simdram_cli.specs.Reads.{refusal_of}
 use Rattle.simdram_cli.specs.declared.words.ExecNames.{ExecNames}
 use Rattle.simdram_cli.specs.declared.job.JobNames.{JobNames}
@@ -57,6 +58,7 @@ use Rattle.simdram_cli.proofs.Commanding.{command_right}
 use Rattle.simdram_cli.proofs.Compiling.{compiled}
 use Rattle.simdram_cli.proofs.Initial.{started}
 use Rattle.simdram_cli.proofs.Migrating.{migrated}
+use Rattle.simdram_cli.proofs.Soaking.{soak_of, soaked}
 use Rattle.uprog_bin.specs.Reading.{program_in, ProgFault}
 use Rattle.simdram_cli.specs.Commands.{CanAnswer, CommandEnds, OnCommand, Promises}
 use Rattle.simdram_cli.proofs.Running.{apart}
@@ -297,6 +299,10 @@ can_answer (ListOf name) old new status e =
 can_answer (Init names) old new status e =
     let P : ℕ → Type 0 = CanAnswer (Init names) in
     ends_so P (init_steps names) 0 old new status refl (init_of P names refl refl) e
+can_answer (Soak seed) old new status e =
+    let P : ℕ → Type 0 = CanAnswer (Soak seed) in
+    ends_so P (soak_steps seed e.programs) 0 old new status refl
+    (soak_of P seed e.programs refl refl refl) e.ends
 
 not_one : (command : Command) (status : ℕ) → CanAnswer command status → status ≡ 1 → ⊥
 not_one (Run names) status can e =
@@ -315,6 +321,8 @@ not_one (ListOf name) status can e =
     let one : CanAnswer (ListOf name) 1 = subst (CanAnswer (ListOf name)) e can in cc
 not_one (Init names) status can e =
     let one : CanAnswer (Init names) 1 = subst (CanAnswer (Init names)) e can in cc
+not_one (Soak seed) status can e =
+    let one : CanAnswer (Soak seed) 1 = subst (CanAnswer (Soak seed)) e can in cc
 
 no_command : (words : List (Bor (List ℕ))) (o : Option Command) (status : ℕ) → command_of words ≡ o
     → OnCommand words (λ command. CanAnswer command status) → status ≡ 1
@@ -398,6 +406,11 @@ promises (Init names) old new status are e = λ is.
     started names old new status e
     (init_of (λ s. s ≡ status → ⊥) names (apart 3 (λ f. cc) (λ f. cc)) (apart 10 (λ f. cc) (λ f.
     cc)))
+promises (Soak seed) old new status are e = λ is.
+    let apart = apart_from_done status (inl is) in
+    soaked seed old new status is e
+    (soak_of (λ s. s ≡ status → ⊥) seed e.programs (apart 3 (λ f. cc) (λ f. cc))
+    (apart 9 (λ f. cc) (λ f. cc)) (apart 10 (λ f. cc) (λ f. cc)))
 
 -- the words are this command and no other
 pub on_command : (words : List (Bor (List ℕ))) (command : Command) (P : Command → Type 0)

@@ -15,4 +15,5 @@ pub mod Show
 pub mod Migrate
 pub mod Accounts
 pub mod Init
+pub mod Soak
 pub mod Commands

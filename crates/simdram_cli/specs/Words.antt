@@ -1,6 +1,6 @@
 -- The words of a command.
 use Rattle.std.specs.Prelude.{◌≡◌, ℕ, Bool, true, false, not, ◌&&◌, List, [], ◌∷◌, Option, Some}
-use Rattle.std.specs.Prelude.{None, ◌<◌, ◌≤◌, nat_le}
+use Rattle.std.specs.Prelude.{None, ◌<◌, ◌≤◌, ◌^◌, nat_le, nat_lt}
 use Rattle.std.specs.Prelude.{bytes_eq, codes, if◌then◌else◌}
 use Rattle.std.specs.Char.{is_ascii_digit}
 use Rattle.std.specs.List.{list_all}
@@ -11,7 +11,7 @@ use Rattle.dram_model.specs.declared.geometry.Geometry.{Geometry}
 use Rattle.dram_model.specs.Geometry.{is_geometry}
 use Rattle.simdram_cli.specs.declared.words.Command.{Command}
 use Rattle.simdram_cli.specs.declared.words.Command.TheVariants.{Run, Exec, Compile, Show, Migrate}
-use Rattle.simdram_cli.specs.declared.words.Command.TheVariants.{Cost, List as ListOf, Init}
+use Rattle.simdram_cli.specs.declared.words.Command.TheVariants.{Cost, List as ListOf, Init, Soak}
 
 -- no two are equal
 abbrev pub all_differ : List (List ℕ) → Bool
@@ -60,11 +60,17 @@ init_on banks rows words out =
     if is_number banks && (is_number rows && (is_number words && is_geometry g))
     then Some (Init (record { geometry = g; out = out })) else None
 
--- the command on one file
+-- `soak`, where its number is below 2 ^ 64
+abbrev pub soak_on : List ℕ → Option Command
+soak_on seed =
+    if is_number seed && nat_lt (value_of seed) (2 ^ 64) then Some (Soak (value_of seed)) else None
+
+-- the command of one word behind its own
 abbrev pub command_on_one : List ℕ → Bor (List ℕ) → Option Command
-command_on_one verb file =
-    if bytes_eq verb (codes "show") then Some (Show file)
-    else if bytes_eq verb (codes "list") then Some (ListOf file) else None
+command_on_one verb word =
+    if bytes_eq verb (codes "show") then Some (Show word)
+    else if bytes_eq verb (codes "list") then Some (ListOf word)
+    else if bytes_eq verb (codes "soak") then soak_on word.now else None
 
 -- the command of four words behind its own
 abbrev pub command_on_four : List ℕ → (first second third fourth : Bor (List ℕ)) → Option Command
@@ -76,8 +82,8 @@ command_on_four verb first second third fourth =
     else None
 
 -- the command that the words are: `run OPS PROG SCRIPT IMAGE OUT`, `exec PROG SCRIPT IMAGE OUT`,
--- `compile OPS PROG`, `show OPS`, `migrate OLD NEW`, `cost PROG N`, `list PROG` or
--- `init BANKS ROWS WORDS OUT`
+-- `compile OPS PROG`, `show OPS`, `migrate OLD NEW`, `cost PROG N`, `list PROG`,
+-- `init BANKS ROWS WORDS OUT` or `soak SEED`
 abbrev pub command_of : List (Bor (List ℕ)) → Option Command
 command_of (verb ∷ ops ∷ prog ∷ script ∷ image ∷ out ∷ []) =
     if bytes_eq verb.now (codes "run") && are_apart ops.now prog.now script.now image.now out.now
@@ -88,7 +94,7 @@ command_of (verb ∷ first ∷ second ∷ third ∷ fourth ∷ []) =
 command_of (verb ∷ first ∷ second ∷ []) =
     if bytes_eq verb.now (codes "cost") then cost_on first second.now
     else if bytes_eq first.now second.now then None else command_on_two verb.now first second
-command_of (verb ∷ file ∷ []) = command_on_one verb.now file
+command_of (verb ∷ word ∷ []) = command_on_one verb.now word
 command_of _ = None
 
 -- the files of a command are apart
@@ -103,9 +109,11 @@ IsApart (Migrate names) = bytes_eq names.old.now names.new.now ≡ false
 IsApart (Cost names) = Unit {0}
 IsApart (ListOf name) = Unit {0}
 IsApart (Init names) = Unit {0}
+IsApart (Soak seed) = Unit {0}
 
--- the numbers of a command are a width, or a chip's
+-- the numbers of a command are a width, a chip's, or a seed
 abbrev pub HasNumbers : Command → Type 0
 HasNumbers (Cost names) = (0 < names.width) × (names.width ≤ WIDTH_MAX)
 HasNumbers (Init names) = is_geometry names.geometry ≡ true
+HasNumbers (Soak seed) = seed < 2 ^ 64
 HasNumbers _ = Unit {0}

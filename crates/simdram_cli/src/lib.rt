@@ -12,6 +12,7 @@ mod migrate;
 mod perform;
 mod run;
 mod show;
+mod soak;
 mod stop;
 mod top;
 mod words;

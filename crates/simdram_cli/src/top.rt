@@ -16,6 +16,7 @@ ghost use Rattle.simdram_cli.specs.Headline.{OneJob};
 ghost use Rattle.simdram_cli.specs.Init.{init_steps};
 ghost use Rattle.simdram_cli.specs.Migrate.{MigrateEnds};
 ghost use Rattle.simdram_cli.specs.Show.{ShowEnds};
+ghost use Rattle.simdram_cli.specs.Soak.{SoakEnds};
 ghost use Rattle.simdram_cli.specs.Stops.{end_of};
 ghost use Rattle.simdram_cli.specs.Words.{HasNumbers, IsApart, are_apart, command_of};
 
@@ -26,6 +27,7 @@ use crate::init::init;
 use crate::migrate::migrate;
 use crate::run::run;
 use crate::show::show;
+use crate::soak::soak;
 use crate::stop::{Stop, status_of, tell};
 use crate::words::{
     Command, CompileNames, ExecNames, InitNames, MigrateNames, RunNames, command_of,
@@ -160,6 +162,17 @@ fn init_and_answer<F: Folder, S: Sink>(
     answer(ended, out)
 }
 
+/// Does the large job of a seed, and tells why it stopped if it did.
+fn soak_and_answer<S: Sink, D: Dram>(seed: u64, out: &mut S, chip: &mut D, alloc: Global) -> u8
+    ensures borrow { D.borrow chip.new ≡ D.borrow chip.old }
+    ensures ends { (files : FolderView) → SoakEnds seed
+        (world files (S.view out.old) (D.view chip.old))
+        (world files (S.view out.new) (D.view chip.new)) result }
+{
+    let ended = soak(seed, out, chip, alloc);
+    answer(ended, out)
+}
+
 /// Does a command.
 fn dispatch<F: Folder, S: Sink, D: Dram>(
     command: &Command<'_>,
@@ -186,6 +199,7 @@ fn dispatch<F: Folder, S: Sink, D: Dram>(
         }
         Command::List(name) => account_and_answer(*name, Account::Listing, files, out, alloc),
         Command::Init(names) => init_and_answer(names, files, out, alloc),
+        Command::Soak(seed) => soak_and_answer(*seed, out, chip, alloc),
     }
 }
 
@@ -196,7 +210,9 @@ fn dispatch<F: Folder, S: Sink, D: Dram>(
 /// puts the canonical text of the operations of OPS; `migrate OLD NEW` stores the version 2 file of
 /// OLD's program as NEW; `cost PROG N` puts what each entry of PROG's program costs at width N, and
 /// `list PROG` its listing; `init BANKS ROWS WORDS OUT` stores the image of such a chip without
-/// objects, whose rows are zeros. The answer is the exit status.
+/// objects, whose rows are zeros; `soak SEED` does every word operation with one result at the
+/// widths 1, 8 and 64 on a generator's words, and puts a line for each with its row commands and
+/// the sum of its results. The answer is the exit status.
 pub fn simdram<F: Folder, S: Sink, D: Dram>(
     words: &[&str],
     files: &mut F,

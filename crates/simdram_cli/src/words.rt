@@ -6,7 +6,8 @@ ghost use Rattle.std.specs.List.{list_all};
 ghost use Rattle.std.specs.Option.{SomeIff};
 ghost use Rattle.simdram_cli.specs.Words.{all_differ, are_apart, command_of, command_on_four};
 ghost use Rattle.simdram_cli.specs.Words.{command_on_one, inputs_apart};
-ghost use Rattle.simdram_cli.specs.Words.{command_on_two, cost_on, init_on, is_number, value_of};
+ghost use Rattle.simdram_cli.specs.Words.{command_on_two, cost_on, init_on, is_number, soak_on};
+ghost use Rattle.simdram_cli.specs.Words.{value_of};
 
 use bit_rows::WIDTH_MAX;
 use dram_model::Geometry;
@@ -91,6 +92,7 @@ pub enum Command<'a> {
     Cost(CostNames<'a>),
     List(&'a str),
     Init(InitNames<'a>),
+    Soak(u64),
 }
 
 /// Whether no two of four names are equal.
@@ -165,6 +167,31 @@ fn cost_on<'a>(prog: &'a str, width: &str) -> Option<Command<'a>>
     }
 }
 
+/// The number that a word's digits write, however many they are, if it is below 2^64.
+fn seed_of(word: &str) -> Option<u64>
+    ensures { SomeIff result ((is_number word.now ≡ true) × (value_of word.now < 2 ^ 64))
+        (value_of word.now) }
+{
+    let digits = word.as_bytes();
+    if !is_number(digits) {
+        return None;
+    }
+    match number(digits) {
+        Some(value) if value <= u128::from(u64::MAX) => Some(value as u64),
+        _ => None,
+    }
+}
+
+/// The command `soak`, if its number is a seed.
+fn soak_on<'a>(seed: &str) -> Option<Command<'a>>
+    ensures { result ≡ soak_on seed.now }
+{
+    match seed_of(seed) {
+        Some(seed) => Some(Command::Soak(seed)),
+        None => None,
+    }
+}
+
 /// The command `init`, if its numbers are a chip's.
 fn init_on<'a>(banks: &str, rows: &str, words: &str, out: &'a str) -> Option<Command<'a>>
     ensures { result ≡ init_on banks.now rows.now words.now out.entry }
@@ -209,14 +236,16 @@ fn command_on_four<'a>(
     }
 }
 
-/// The command on one file.
-fn command_on_one<'a>(verb: &str, file: &'a str) -> Option<Command<'a>>
-    ensures { result ≡ command_on_one verb.now file.entry }
+/// The command of one word behind its own.
+fn command_on_one<'a>(verb: &str, word: &'a str) -> Option<Command<'a>>
+    ensures { result ≡ command_on_one verb.now word.entry }
 {
     if verb == "show" {
-        Some(Command::Show(file))
+        Some(Command::Show(word))
     } else if verb == "list" {
-        Some(Command::List(file))
+        Some(Command::List(word))
+    } else if verb == "soak" {
+        soak_on(word)
     } else {
         None
     }
@@ -271,7 +300,7 @@ pub fn command_of<'a>(words: &[&'a str]) -> Option<Command<'a>>
                 command_on_two(*verb, *first, *second)
             }
         }
-        [verb, file] => command_on_one(*verb, *file),
+        [verb, word] => command_on_one(*verb, *word),
         _ => None,
     }
 }

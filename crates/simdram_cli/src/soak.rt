@@ -1,0 +1,32 @@
+//! The command `soak`.
+
+ghost use Rattle.std.specs.Prelude.{◌≡◌};
+ghost use Rattle.cli_model.specs.World.{world};
+ghost use Rattle.host_edge.specs.Views.{FolderView};
+ghost use Rattle.simdram_cli.specs.Soak.{SoakWent};
+
+use crate::stop::Stop;
+use dram_model::Dram;
+use host_edge::Sink;
+use soak_job::SoakNo;
+use std::alloc::Global;
+
+/// Does the large job of a seed. Nothing is refused.
+pub(crate) fn soak<'a, S: Sink, D: Dram>(
+    seed: u64,
+    out: &mut S,
+    chip: &mut D,
+    alloc: Global,
+) -> Result<u64, Stop<'a>>
+    ensures borrow { D.borrow chip.new ≡ D.borrow chip.old }
+    ensures went { (files : FolderView) → SoakWent seed
+        (world files (S.view out.old) (D.view chip.old))
+        (world files (S.view out.new) (D.view chip.new)) result }
+{
+    match soak_job::soak(seed, out, chip, alloc) {
+        Ok(()) => Ok(0),
+        Err(SoakNo::NoMemory) => Err(Stop::NoMemory),
+        Err(SoakNo::ChipFailed) => Err(Stop::ChipFailed),
+        Err(SoakNo::PutFailed) => Err(Stop::PutFailed),
+    }
+}
