@@ -3,3 +3,4 @@ pub mod Naming
 pub mod Counting
 pub mod Nodewise
 pub mod Answering
+mod Taking

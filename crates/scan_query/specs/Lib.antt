@@ -2,3 +2,5 @@
 pub mod Queries
 pub mod Running
 pub mod Answers
+pub mod Digits
+pub mod Reading
