@@ -4,3 +4,4 @@ pub mod Counting
 pub mod Nodewise
 pub mod Answering
 mod Taking
+mod Spelling

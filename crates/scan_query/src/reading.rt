@@ -99,11 +99,13 @@ fn next<'a>(parser: &mut Parser<'a>) -> Result<Taken<'a>, Stop>
     ensures number { IfOk result (λ t. IsNumber t.word) }
 {
     match parser.lexer.next() {
-        Ok(Some(token)) => Ok(Taken {
-            word: word_of(token),
-            at: token.start,
-        }),
-        Ok(None) => Err(Stop::Breach(None, QueryKind::Syntax)),
+        Ok(found) => match found {
+            Some(token) => Ok(Taken {
+                word: word_of(token),
+                at: token.start,
+            }),
+            None => Err(Stop::Breach(None, QueryKind::Syntax)),
+        },
         Err(fault) => Err(Stop::Breach(Some(fault.at), QueryKind::Lex)),
     }
 }
