@@ -36,6 +36,8 @@ fn test(parser: &mut Parser<'_>, op: CmpOp, nodes: &mut Vec<Node>) -> Result<u8,
     ensures grown { OnOk result (parser.new.nodes + length nodes.old.items + 1
         ≡ parser.old.nodes + length nodes.new.items) }
     ensures limit { OnOk result (parser.new.nodes ≤ 64) }
+    ensures shorter { OnOk result (length (left (seen parser.new))
+        ≤ length (left (seen parser.old))) }
 {
     symbol(parser, Mark::Opens)?;
     let name = object(parser)?;
@@ -43,4 +45,78 @@ fn test(parser: &mut Parser<'_>, op: CmpOp, nodes: &mut Vec<Node>) -> Result<u8,
     let value = bound(parser)?;
     symbol(parser, Mark::Closes)?;
     push(nodes, Node::Cmp { op, name, value })
+}
+
+fn join_of(both: bool, a: u8, b: u8) -> Node
+    ensures { node_of result ≡ join_node both a b }
+{
+    if both {
+        Node::And(a, b)
+    } else {
+        Node::Or(a, b)
+    }
+}
+
+/// What stands behind `not`.
+#[cycle(queries)]
+fn negation(parser: &mut Parser<'_>, nodes: &mut Vec<Node>) -> Result<u8, Stop>
+    requires few { length nodes.old.items < parser.old.nodes }
+    requires limit { parser.old.nodes ≤ 64 }
+    ensures moves { Moves (model.behind model.Negates) (seen parser.old) result (seen parser.new) }
+    ensures reads { IfOk result (λ k. Reads (model.Name (codes "not") ∷ left (seen parser.old)) k
+        (seen parser.new) (map node_of nodes.old.items) (map node_of nodes.new.items)) }
+    ensures grown { OnOk result (parser.new.nodes + length nodes.old.items + 1
+        ≡ parser.old.nodes + length nodes.new.items) }
+    ensures limit { OnOk result (parser.new.nodes ≤ 64) }
+    ensures shorter { OnOk result (length (left (seen parser.new))
+        ≤ length (left (seen parser.old))) }
+{
+    symbol(parser, Mark::Opens)?;
+    let a = query(parser, nodes)?;
+    symbol(parser, Mark::Closes)?;
+    push(nodes, Node::Not(a))
+}
+
+/// What stands behind `and` or `or`.
+#[cycle(queries)]
+fn join(parser: &mut Parser<'_>, both: bool, nodes: &mut Vec<Node>) -> Result<u8, Stop>
+    requires few { length nodes.old.items < parser.old.nodes }
+    requires limit { parser.old.nodes ≤ 64 }
+    ensures moves { Moves (model.behind model.Ands) (seen parser.old) result (seen parser.new) }
+    ensures reads { IfOk result (λ k. Reads (model.Name (join_text both) ∷ left (seen parser.old)) k
+        (seen parser.new) (map node_of nodes.old.items) (map node_of nodes.new.items)) }
+    ensures grown { OnOk result (parser.new.nodes + length nodes.old.items + 1
+        ≡ parser.old.nodes + length nodes.new.items) }
+    ensures limit { OnOk result (parser.new.nodes ≤ 64) }
+    ensures shorter { OnOk result (length (left (seen parser.new))
+        ≤ length (left (seen parser.old))) }
+{
+    symbol(parser, Mark::Opens)?;
+    let a = query(parser, nodes)?;
+    symbol(parser, Mark::Comma)?;
+    let b = query(parser, nodes)?;
+    symbol(parser, Mark::Closes)?;
+    push(nodes, join_of(both, a, b))
+}
+
+/// A query, whose nodes are put behind the others; answers the place of its last.
+#[cycle(queries)]
+pub(crate) fn query(parser: &mut Parser<'_>, nodes: &mut Vec<Node>) -> Result<u8, Stop>
+    requires few { length nodes.old.items ≤ parser.old.nodes }
+    requires limit { parser.old.nodes ≤ 64 }
+    ensures moves { Moves (model.Start ∷ []) (seen parser.old) result (seen parser.new) }
+    ensures reads { IfOk result (λ k. Reads (left (seen parser.old)) k (seen parser.new)
+        (map node_of nodes.old.items) (map node_of nodes.new.items)) }
+    ensures grown { OnOk result (parser.new.nodes + length nodes.old.items
+        ≡ parser.old.nodes + length nodes.new.items) }
+    ensures limit { OnOk result (parser.new.nodes ≤ 64) }
+    ensures shorter { OnOk result (length (left (seen parser.new))
+        < length (left (seen parser.old))) }
+{
+    match begins(parser)? {
+        Lead::Compares(op) => test(parser, op, nodes),
+        Lead::Negates => negation(parser, nodes),
+        Lead::Ands => join(parser, true, nodes),
+        Lead::Ors => join(parser, false, nodes),
+    }
 }
