@@ -7,8 +7,8 @@ ghost use Rattle.scan_query.specs.declared.reading.Stop.TheVariants as stop;
 ghost use Rattle.scan_query.specs.Queries.{node_of};
 ghost use Rattle.scan_query.specs.Reading.{Moves, Reads, join_node, join_text, left, seen};
 
-use crate::query::Node;
 use crate::parser::Parser;
+use crate::query::Node;
 use crate::reading::{Lead, Mark, Stop, begins, bound, object, symbol};
 use scan_model::CmpOp;
 
