@@ -5,3 +5,4 @@ pub mod Nodewise
 pub mod Answering
 mod Taking
 mod Spelling
+mod Ending

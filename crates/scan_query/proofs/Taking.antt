@@ -1,12 +1,11 @@
 -- A query's token is taken.
 use Rattle.std.proofs.Common.{◌≡◌, ℕ, Bool, true, false, ◌&&◌, List, [], ◌∷◌, ◌++◌, Option, Some, None}
-use Rattle.std.proofs.Common.{Result, Ok, Err, cond, refl, sym, ap, ◌∙◌, subst, map}
-use Rattle.std.specs.Result.{IsErrAnd, IfErr, IfOk}
+use Rattle.std.proofs.Common.{Result, Ok, Err, cond, refl, sym, ap, ◌∙◌, subst}
+use Rattle.std.specs.Result.{IsErrAnd}
 use Rattle.std.specs.Char.{is_ascii_digit}
 use Rattle.std.specs.List.{AllByRecursion, AllPass}
 use Rattle.std.proofs.lemmas.Result.{err_from_is_err_and}
 use Rattle.std.proofs.lemmas.List.Sums.{AllPass-from_list_all}
-use Rattle.text_lex.specs.declared.token.LexFault.{LexFault}
 use Rattle.text_lex.specs.declared.token.TokenKind.{TokenKind}
 use Rattle.text_lex.specs.declared.token.TokenKind.TheVariants as kinds
 use Rattle.text_lex.specs.Lexical.{Item, Whole, Bad, IsRight, Lexeme, is_token}
@@ -16,12 +15,11 @@ use Rattle.scan_model.specs.Texts as model
 use Rattle.scan_query.specs.declared.reading.Mark.{Mark}
 use Rattle.scan_query.specs.declared.reading.Mark.TheVariants as mark
 use Rattle.scan_query.specs.declared.reading.Stop.{Stop}
-use Rattle.scan_query.specs.declared.reading.Stop.TheVariants as stop
 use Rattle.scan_query.specs.declared.reading.Word.{Word}
 use Rattle.scan_query.specs.declared.reading.Word.TheVariants as word
 use Rattle.scan_query.specs.Digits.{are_digits, is_written}
-use Rattle.scan_query.specs.Reading.{Fails, Moves, MovesTo, Reading, Took, breach, is_it}
-use Rattle.scan_query.specs.Reading.{lead_at, left, wanted_by, word_by, word_view}
+use Rattle.scan_query.specs.Reading.{Fails, MovesTo, Reading, Took, breach, is_it}
+use Rattle.scan_query.specs.Reading.{lead_at, wanted_by, word_by, word_view}
 
 pub fails_along : {a b : Option model.Breach} (e : Stop) → a ≡ b → Fails b e → Fails a e
 fails_along e h f = let P : Option model.Breach → Type 0 = λ x. Fails x e in subst P (sym h) f

@@ -4,3 +4,4 @@ pub mod Running
 pub mod Answers
 pub mod Digits
 pub mod Reading
+pub mod Parsing

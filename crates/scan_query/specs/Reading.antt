@@ -116,6 +116,15 @@ MovesTo front old (Err e) behind new = (wanted : List model.Wanted)
 abbrev pub Moves : {A : Type 0} → List model.Wanted → Reading → Result A Stop → Reading → Type 0
 Moves front old r new = MovesTo front old r (λ x. []) new
 
+-- no rule is broken, or this is the first token that breaks one
+abbrev pub Finds : {A : Type 0} → Option model.Breach → Result A Stop → Type 0
+Finds found (Ok x) = found ≡ None
+Finds found (Err e) = Fails found e
+
+-- a whole text, before anything is read
+abbrev pub start_of : List ℕ → Reading
+start_of text = record { begun = model.none_begun; pieces = model.pieces_of text }
+
 -- a token was taken
 pub record Took (word : model.Word) (at : ℕ) (old new : Reading) : Type 0 where
   pub pieces : old.pieces ≡ (at, word) ∷ new.pieces

@@ -2,6 +2,7 @@
 #![tactic(auto)]
 
 mod checks;
+mod lines;
 mod names;
 mod nodes;
 mod ones;
@@ -15,6 +16,7 @@ mod sink;
 mod steps;
 
 pub use ops::scan_ops;
+pub use parse::parse_query;
 pub use query::{Node, Query, QueryNo, ScanReply};
 pub use run::run_query;
 pub use scan_model::{CmpOp, QueryFault, QueryKind, ScanWhy};

@@ -1,16 +1,19 @@
 //! Queries, token by token.
 
 ghost use Rattle.std.specs.Prelude.{◌≡◌, ◌+◌, ◌<◌, ◌≤◌, [], ◌∷◌, ◌++◌, codes, length, map, IfOk, OnOk};
-ghost use Rattle.std.specs.Prelude.{IfErr};
+ghost use Rattle.std.specs.Prelude.{IfErr, ◌^◌};
 ghost use Rattle.scan_model.specs.Texts as model;
 ghost use Rattle.scan_query.specs.declared.reading.Stop.TheVariants as stop;
+ghost use Rattle.scan_query.specs.Parsing.{IsQueryOf, Parses};
 ghost use Rattle.scan_query.specs.Queries.{node_of};
-ghost use Rattle.scan_query.specs.Reading.{Moves, Reads, join_node, join_text, left, seen};
+ghost use Rattle.scan_query.specs.Reading.{Finds, Moves, Reads, join_node, join_text, left, seen};
 
+use crate::lines::line_of;
 use crate::parser::Parser;
-use crate::query::Node;
-use crate::reading::{Lead, Mark, Stop, begins, bound, object, symbol};
-use scan_model::CmpOp;
+use crate::query::{Node, Query, QueryNo};
+use crate::reading::{Lead, Mark, Stop, begins, bound, ends, object, start, symbol};
+use scan_model::{CmpOp, QueryFault, texts_spell_queries};
+use std::alloc::Global;
 
 /// Puts a node behind the others; answers its place.
 fn push(nodes: &mut Vec<Node>, node: Node) -> Result<u8, Stop>
@@ -118,5 +121,34 @@ pub(crate) fn query(parser: &mut Parser<'_>, nodes: &mut Vec<Node>) -> Result<u8
         Lead::Negates => negation(parser, nodes),
         Lead::Ands => join(parser, true, nodes),
         Lead::Ors => join(parser, false, nodes),
+    }
+}
+
+/// The nodes of a whole text.
+fn whole(text: &[u8], alloc: Global) -> Result<Vec<Node>, Stop>
+    ensures finds { Finds (model.first_breach text.now) result }
+    ensures nodes { IfOk result (λ v. IsQueryOf text.now (map node_of v.items)) }
+{
+    texts_spell_queries();
+    let mut parser = start(text);
+    let mut nodes = Vec::new(alloc);
+    query(&mut parser, &mut nodes)?;
+    ends(&mut parser)?;
+    Ok(nodes)
+}
+
+/// The query of a text, or the line and the kind of the first token that breaks a rule. Lines count
+/// from 1, and the end of the text is on the line of its last byte.
+pub fn parse_query(text: &[u8], alloc: Global) -> Result<Query, QueryNo>
+    requires { length text.now < 2 ^ 32 }
+    ensures { Parses text.now result }
+{
+    match whole(text, alloc) {
+        Ok(nodes) => Ok(Query { nodes }),
+        Err(Stop::Memory) => Err(QueryNo::NoMemory),
+        Err(Stop::Breach(at, kind)) => Err(QueryNo::Fault(QueryFault {
+            line: line_of(text, at),
+            kind,
+        })),
     }
 }

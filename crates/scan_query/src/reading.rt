@@ -7,14 +7,14 @@ ghost use Rattle.std.specs.List.{AllPass};
 ghost use Rattle.text_lex.specs.declared.token.TokenKind.TheVariants as kinds;
 ghost use Rattle.scan_model.specs.Texts as model;
 ghost use Rattle.scan_query.specs.declared.reading.Stop.TheVariants as stop;
-ghost use Rattle.scan_query.specs.Reading.{IsNumber, Moves, MovesTo, Takes};
+ghost use Rattle.scan_query.specs.Reading.{Finds, IsNumber, Moves, MovesTo, Takes, breach, start_of};
 ghost use Rattle.scan_query.specs.Reading.{begun_by, behind_lead, is_it, lead_at, lead_of, left, seen};
 ghost use Rattle.scan_query.specs.Reading.{wanted_by, word_by, word_view};
 
 use crate::parser::Parser;
 use scan_model::{CmpOp, QueryKind};
 use std::alloc::AllocFailed;
-use text_lex::{Name, Token, TokenKind, number};
+use text_lex::{Lexer, Name, Token, TokenKind, items_are_right, number};
 
 /// Why reading ends early.
 #[derive(Drop)]
@@ -65,6 +65,18 @@ pub(crate) enum Lead {
 pub(crate) struct Taken<'a> {
     pub word: Word<'a>,
     pub at: usize,
+}
+
+/// A parser at the start of a text.
+pub(crate) fn start(text: &[u8]) -> Parser<'_>
+    ensures { seen result ≡ start_of text.now }
+{
+    items_are_right();
+    Parser {
+        lexer: Lexer::new(text),
+        nodes: 0,
+        tests: 0,
+    }
 }
 
 fn symbol_of<'a>(text: &'a [u8]) -> Word<'a>
@@ -286,5 +298,19 @@ pub(crate) fn bound(parser: &mut Parser<'_>) -> Result<u128, Stop>
     match value_at(token.word) {
         Ok(value) => Ok(value),
         Err(kind) => Err(Stop::Breach(Some(token.at), kind)),
+    }
+}
+
+/// The end of the text.
+pub(crate) fn ends(parser: &mut Parser<'_>) -> Result<(), Stop>
+    ensures finds { Finds (breach [] (seen parser.old)) result }
+    ensures nothing { OnOk result (left (seen parser.old) ≡ []) }
+{
+    match parser.lexer.next() {
+        Ok(found) => match found {
+            Some(token) => Err(Stop::Breach(Some(token.start), QueryKind::Syntax)),
+            None => Ok(()),
+        },
+        Err(fault) => Err(Stop::Breach(Some(fault.at), QueryKind::Lex)),
     }
 }
