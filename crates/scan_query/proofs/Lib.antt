@@ -3,3 +3,6 @@ pub mod Naming
 pub mod Counting
 pub mod Nodewise
 pub mod Answering
+mod Taking
+mod Spelling
+mod Ending

@@ -2,3 +2,6 @@
 pub mod Queries
 pub mod Running
 pub mod Answers
+pub mod Digits
+pub mod Reading
+pub mod Parsing

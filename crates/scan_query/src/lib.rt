@@ -2,16 +2,21 @@
 #![tactic(auto)]
 
 mod checks;
+mod lines;
 mod names;
 mod nodes;
 mod ones;
 mod ops;
+mod parse;
+mod parser;
 mod query;
+mod reading;
 mod run;
 mod sink;
 mod steps;
 
 pub use ops::scan_ops;
+pub use parse::parse_query;
 pub use query::{Node, Query, QueryNo, ScanReply};
 pub use run::run_query;
 pub use scan_model::{CmpOp, QueryFault, QueryKind, ScanWhy};

@@ -39,6 +39,8 @@ mod scripts;
 #[cfg(test)]
 mod shown;
 #[cfg(test)]
+mod soaked;
+#[cfg(test)]
 mod tests;
 
 /// The status where the words cannot be read.

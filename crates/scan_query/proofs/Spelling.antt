@@ -1,0 +1,149 @@
+-- What is read spells a query.
+use Rattle.std.proofs.Common.{◌≡◌, ℕ, ◌+◌, Bool, true, false, List, [], ◌∷◌, ◌++◌, map, length}
+use Rattle.std.proofs.Common.{Result, Ok, Err, ap, ◌∙◌, arith, codes}
+use Rattle.std.proofs.Common.{append_assoc, length-append}
+use Rattle.std.specs.Result.{IfOk, OnOk}
+use Rattle.std.proofs.lemmas.List.{map-append, length-map}
+use Rattle.scan_model.specs.declared.CmpOp.{CmpOp}
+use Rattle.scan_model.specs.Queries.{Compare, Negate, Query, Test, nodes_from, last_from, size}
+use Rattle.scan_model.specs.Queries as query
+use Rattle.scan_model.specs.Texts as model
+use Rattle.scan_model.proofs.Trees.{size_is}
+use Rattle.scan_query.specs.declared.query.Node.{Node}
+use Rattle.scan_query.specs.declared.reading.Stop.{Stop}
+use Rattle.scan_query.specs.Queries.{node_of}
+use Rattle.scan_query.specs.Reading.{Reading, Reads, join_node, join_text, left}
+
+pub test_reads : (r : Result ℕ Stop) (op : CmpOp) (name : List ℕ) (v : ℕ)
+    (w0 w1 w2 w3 w4 : List model.Word) (new : Reading) (before after : List Node) (node : Node)
+    → w0 ≡ model.Opens ∷ w1 → w1 ≡ model.Name name ∷ w2 → w2 ≡ model.Comma ∷ w3
+    → w3 ≡ model.Number v ∷ w4 → w4 ≡ model.Closes ∷ left new
+    → IfOk r (λ k. k ≡ length before) → OnOk r (after ≡ before ++ node ∷ [])
+    → node_of node ≡ Test op name v
+    → IfOk r (λ k. Reads (model.Name (model.lead_text (model.Compares op)) ∷ w0) k new
+    (map node_of before) (map node_of after))
+test_reads (Err e) op name v w0 w1 w2 w3 w4 new before after node a b c d e' last nodes is = tt
+test_reads (Ok k) op name v w0 w1 w2 w3 w4 new before after node a b c d e last nodes is =
+    let many = length-map before node_of in
+    record {
+      tree = Compare op name v;
+      spelling = ap (λ ws. model.Name (model.lead_text (model.Compares op)) ∷ ws)
+          (a ∙ ap (λ ws. model.Opens ∷ ws) (b ∙ ap (λ ws. model.Name name ∷ ws)
+          (c ∙ ap (λ ws. model.Comma ∷ ws) (d ∙ ap (λ ws. model.Number v ∷ ws) e))));
+      nodes = ap (map node_of) nodes ∙ map-append node_of before (node ∷ [])
+          ∙ ap (λ n. map node_of before ++ n ∷ []) is;
+      last = omega (arith, last, many);
+    }
+
+-- a query in front of a mark, and one node more
+pub not_reads : (r : Result ℕ Stop) (k : ℕ) (w0 w1 w2 : List model.Word) (mid new : Reading)
+    (before during after : List Node) (node : Node) → w0 ≡ model.Opens ∷ w1
+    → Reads w1 k mid (map node_of before) (map node_of during)
+    → left mid ≡ model.Closes ∷ left new
+    → IfOk r (λ n. n ≡ length during) → OnOk r (after ≡ during ++ node ∷ [])
+    → node_of node ≡ query.Not k
+    → IfOk r (λ n. Reads (model.Name (codes "not") ∷ w0) n new (map node_of before)
+    (map node_of after))
+not_reads (Err e) k w0 w1 w2 mid new before during after node a h b last nodes is = tt
+not_reads (Ok n) k w0 w1 w2 mid new before during after node a h b last nodes is =
+    let many = length-map during node_of in
+    let all = ap length h.nodes in
+    let parts = length-append (map node_of before) (nodes_from (length (map node_of before))
+    h.tree) in
+    let sizes = size_is (length (map node_of before)) h.tree in
+    record {
+      tree = Negate h.tree;
+      spelling = ap (λ ws. model.Name (codes "not") ∷ ws) (a ∙ ap (λ ws. model.Opens ∷ ws)
+          (h.spelling ∙ ap (model.spelled h.tree) b));
+      nodes = ap (map node_of) nodes ∙ map-append node_of during (node ∷ [])
+          ∙ ap (λ n. map node_of during ++ n ∷ []) (is ∙ ap query.Not h.last)
+          ∙ ap (λ ns. ns ++ query.Not (last_from (length (map node_of before)) h.tree) ∷ [])
+          h.nodes
+          ∙ append_assoc (map node_of before) (nodes_from (length (map node_of before)) h.tree)
+          (query.Not (last_from (length (map node_of before)) h.tree) ∷ []);
+      last = omega (arith, last, many, all, parts, sizes);
+    }
+
+-- two queries in front of a comma and a mark, and one node more
+pub join_reads : (r : Result ℕ Stop) (both : Bool) (k j : ℕ) (w0 w1 w2 w3 : List model.Word)
+    (mid later new : Reading) (before during then after : List Node) (node : Node)
+    → w0 ≡ model.Opens ∷ w1
+    → Reads w1 k mid (map node_of before) (map node_of during)
+    → left mid ≡ model.Comma ∷ w3
+    → Reads w3 j later (map node_of during) (map node_of then)
+    → left later ≡ model.Closes ∷ left new
+    → IfOk r (λ n. n ≡ length then) → OnOk r (after ≡ then ++ node ∷ [])
+    → node_of node ≡ join_node both k j
+    → IfOk r (λ n. Reads (model.Name (join_text both) ∷ w0) n new (map node_of before)
+    (map node_of after))
+join_reads (Err e) both k j w0 w1 w2 w3 mid later new before during then after node a h b i d last nodes is = tt
+join_reads (Ok n) true k j w0 w1 w2 w3 mid later new before during then after node a h b i d last nodes is =
+    let start = length (map node_of before) in
+    let many = length-map then node_of in
+    let first = ap length h.nodes in
+    let parts = length-append (map node_of before) (nodes_from start h.tree) in
+    let sizes = size_is start h.tree in
+    let middle : length (map node_of during) ≡ start + size h.tree =
+    omega (arith, first, parts, sizes) in
+    let second = ap length i.nodes in
+    let parts' = length-append (map node_of during) (nodes_from (length (map node_of during))
+    i.tree) in
+    let sizes' = size_is (length (map node_of during)) i.tree in
+    let right : j ≡ last_from (start + size h.tree) i.tree = i.last
+    ∙ ap (λ x. last_from x i.tree) middle in
+    let node_is : node_of node ≡ query.And (last_from start h.tree)
+    (last_from (start + size h.tree) i.tree) = is ∙ ap (λ x. query.And x j) h.last
+    ∙ ap (query.And (last_from start h.tree)) right in
+    let back = nodes_from (start + size h.tree) i.tree in
+    let end = query.And (last_from start h.tree) (last_from (start + size h.tree) i.tree) in
+    record {
+      tree = query.Both h.tree i.tree;
+      spelling = ap (λ ws. model.Name (codes "and") ∷ ws) (a ∙ ap (λ ws. model.Opens ∷ ws)
+          (h.spelling ∙ ap (model.spelled h.tree) (b ∙ ap (λ ws. model.Comma ∷ ws)
+          (i.spelling ∙ ap (model.spelled i.tree) d))));
+      nodes = ap (map node_of) nodes ∙ map-append node_of then (node ∷ [])
+          ∙ ap (λ x. map node_of then ++ x ∷ []) node_is
+          ∙ ap (λ ns. ns ++ end ∷ []) (i.nodes
+          ∙ ap (λ x. map node_of during ++ nodes_from x i.tree) middle
+          ∙ ap (λ ns. ns ++ back) h.nodes
+          ∙ append_assoc (map node_of before) (nodes_from start h.tree) back)
+          ∙ append_assoc (map node_of before) (nodes_from start h.tree ++ back) (end ∷ [])
+          ∙ ap (λ ns. map node_of before ++ ns)
+          (append_assoc (nodes_from start h.tree) back (end ∷ []));
+      last = omega (arith, last, many, first, parts, sizes, second, parts', sizes');
+    }
+join_reads (Ok n) false k j w0 w1 w2 w3 mid later new before during then after node a h b i d last nodes is =
+    let start = length (map node_of before) in
+    let many = length-map then node_of in
+    let first = ap length h.nodes in
+    let parts = length-append (map node_of before) (nodes_from start h.tree) in
+    let sizes = size_is start h.tree in
+    let middle : length (map node_of during) ≡ start + size h.tree =
+    omega (arith, first, parts, sizes) in
+    let second = ap length i.nodes in
+    let parts' = length-append (map node_of during) (nodes_from (length (map node_of during))
+    i.tree) in
+    let sizes' = size_is (length (map node_of during)) i.tree in
+    let right : j ≡ last_from (start + size h.tree) i.tree = i.last
+    ∙ ap (λ x. last_from x i.tree) middle in
+    let node_is : node_of node ≡ query.Or (last_from start h.tree)
+    (last_from (start + size h.tree) i.tree) = is ∙ ap (λ x. query.Or x j) h.last
+    ∙ ap (query.Or (last_from start h.tree)) right in
+    let back = nodes_from (start + size h.tree) i.tree in
+    let end = query.Or (last_from start h.tree) (last_from (start + size h.tree) i.tree) in
+    record {
+      tree = query.Either h.tree i.tree;
+      spelling = ap (λ ws. model.Name (codes "or") ∷ ws) (a ∙ ap (λ ws. model.Opens ∷ ws)
+          (h.spelling ∙ ap (model.spelled h.tree) (b ∙ ap (λ ws. model.Comma ∷ ws)
+          (i.spelling ∙ ap (model.spelled i.tree) d))));
+      nodes = ap (map node_of) nodes ∙ map-append node_of then (node ∷ [])
+          ∙ ap (λ x. map node_of then ++ x ∷ []) node_is
+          ∙ ap (λ ns. ns ++ end ∷ []) (i.nodes
+          ∙ ap (λ x. map node_of during ++ nodes_from x i.tree) middle
+          ∙ ap (λ ns. ns ++ back) h.nodes
+          ∙ append_assoc (map node_of before) (nodes_from start h.tree) back)
+          ∙ append_assoc (map node_of before) (nodes_from start h.tree ++ back) (end ∷ [])
+          ∙ ap (λ ns. map node_of before ++ ns)
+          (append_assoc (nodes_from start h.tree) back (end ∷ []));
+      last = omega (arith, last, many, first, parts, sizes, second, parts', sizes');
+    }

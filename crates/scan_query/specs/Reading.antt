@@ -1,0 +1,154 @@
+-- What a function that reads a query's tokens answers.
+use Rattle.std.specs.Prelude.{◌≡◌, ℕ, Bool, true, false, List, [], ◌∷◌, ◌++◌, map, Option, Some}
+use Rattle.std.specs.Prelude.{None, Result, Ok, Err, codes, length}
+use Rattle.scan_model.specs.Queries.{Node, And, Or, Query, nodes_from, last_from}
+use Rattle.std.specs.Char.{is_ascii_digit}
+use Rattle.std.specs.List.{AllPass}
+use Rattle.std.specs.Str.Parse.{digits_value}
+use Rattle.scan_model.specs.Texts as model
+use Rattle.scan_model.specs.TextLaws.{words_of}
+use Rattle.scan_query.specs.declared.reading.Lead.{Lead}
+use Rattle.scan_query.specs.declared.reading.Lead.TheVariants as lead
+use Rattle.scan_query.specs.declared.reading.Mark.{Mark}
+use Rattle.scan_query.specs.declared.reading.Mark.TheVariants as mark
+use Rattle.scan_query.specs.declared.parser.Parser.{Parser}
+use Rattle.scan_query.specs.declared.reading.Stop.{Stop}
+use Rattle.scan_query.specs.declared.reading.Stop.TheVariants as stop
+use Rattle.scan_query.specs.declared.reading.Taken.{Taken}
+use Rattle.scan_query.specs.declared.reading.Word.{Word}
+use Rattle.scan_query.specs.declared.reading.Word.TheVariants as word
+
+abbrev pub word_view : Word → model.Word
+word_view (word.Name text) = model.Name text.now
+word_view (word.Number digits) = model.Number (digits_value 10 digits.now)
+word_view word.Opens = model.Opens
+word_view word.Closes = model.Closes
+word_view word.Comma = model.Comma
+word_view word.Other = model.Other
+
+abbrev pub IsNumber : Word → Type 0
+IsNumber (word.Name text) = Unit {0}
+IsNumber (word.Number digits) = AllPass is_ascii_digit digits.now
+IsNumber word.Opens = Unit {0}
+IsNumber word.Closes = Unit {0}
+IsNumber word.Comma = Unit {0}
+IsNumber word.Other = Unit {0}
+
+abbrev pub lead_of : Lead → model.Lead
+lead_of (lead.Compares op) = model.Compares op
+lead_of lead.Negates = model.Negates
+lead_of lead.Ands = model.Ands
+lead_of lead.Ors = model.Ors
+
+abbrev pub behind_lead : Lead → List model.Wanted
+behind_lead l = model.behind (lead_of l)
+
+abbrev pub lead_at : Word → Option model.Lead
+lead_at (word.Name text) = model.lead_among model.all_leads text.now
+lead_at (word.Number digits) = None
+lead_at word.Opens = None
+lead_at word.Closes = None
+lead_at word.Comma = None
+lead_at word.Other = None
+
+abbrev pub wanted_by : Mark → model.Wanted
+wanted_by mark.Opens = model.Open
+wanted_by mark.Closes = model.Close
+wanted_by mark.Comma = model.Between
+
+abbrev pub word_by : Mark → model.Word
+word_by mark.Opens = model.Opens
+word_by mark.Closes = model.Closes
+word_by mark.Comma = model.Comma
+
+abbrev pub is_it : Mark → Word → Bool
+is_it mark.Opens (word.Name text) = false
+is_it mark.Opens (word.Number digits) = false
+is_it mark.Opens word.Opens = true
+is_it mark.Opens word.Closes = false
+is_it mark.Opens word.Comma = false
+is_it mark.Opens word.Other = false
+is_it mark.Closes (word.Name text) = false
+is_it mark.Closes (word.Number digits) = false
+is_it mark.Closes word.Opens = false
+is_it mark.Closes word.Closes = true
+is_it mark.Closes word.Comma = false
+is_it mark.Closes word.Other = false
+is_it mark.Comma (word.Name text) = false
+is_it mark.Comma (word.Number digits) = false
+is_it mark.Comma word.Opens = false
+is_it mark.Comma word.Closes = false
+is_it mark.Comma word.Comma = true
+is_it mark.Comma word.Other = false
+
+-- what has begun, and the words that are left
+pub record Reading : Type 0 where
+  pub begun : model.Begun
+  pub pieces : List model.Piece
+
+abbrev pub begun_by : Parser → model.Begun
+begun_by p = record { nodes = p.nodes; tests = p.tests }
+
+abbrev pub seen : Parser → Reading
+seen p = record { begun = begun_by p; pieces = map model.piece_of p.lexer }
+
+abbrev pub left : Reading → List model.Word
+left r = words_of r.pieces
+
+-- the first token that breaks a rule, where all this is wanted
+abbrev pub breach : List model.Wanted → Reading → Option model.Breach
+breach wanted r = model.breach_of wanted r.begun r.pieces
+
+abbrev pub Fails : Option model.Breach → Stop → Type 0
+Fails found stop.Memory = Unit {0}
+Fails found (stop.Breach at kind) = found ≡ Some (record { at = at; kind = kind })
+
+-- Where front is wanted first, and whatever is wanted behind it, what was left is as good as what
+-- is left where behind x is wanted first; or one of the tokens breaks a rule, which is the answer.
+abbrev pub MovesTo : {A : Type 0} → List model.Wanted → Reading → Result A Stop
+    → (A → List model.Wanted) → Reading → Type 0
+MovesTo front old (Ok x) behind new = (wanted : List model.Wanted)
+    → breach (front ++ wanted) old ≡ breach (behind x ++ wanted) new
+MovesTo front old (Err e) behind new = (wanted : List model.Wanted)
+    → Fails (breach (front ++ wanted) old) e
+
+-- the same where all of front is read
+abbrev pub Moves : {A : Type 0} → List model.Wanted → Reading → Result A Stop → Reading → Type 0
+Moves front old r new = MovesTo front old r (λ x. []) new
+
+-- no rule is broken, or this is the first token that breaks one
+abbrev pub Finds : {A : Type 0} → Option model.Breach → Result A Stop → Type 0
+Finds found (Ok x) = found ≡ None
+Finds found (Err e) = Fails found e
+
+-- a whole text, before anything is read
+abbrev pub start_of : List ℕ → Reading
+start_of text = record { begun = model.none_begun; pieces = model.pieces_of text }
+
+-- a token was taken
+pub record Took (word : model.Word) (at : ℕ) (old new : Reading) : Type 0 where
+  pub pieces : old.pieces ≡ (at, word) ∷ new.pieces
+  pub begun : new.begun ≡ old.begun
+
+abbrev pub Takes : Reading → Result Taken Stop → Reading → Type 0
+Takes old (Ok t) new = Took (word_view t.word) t.at old new
+Takes old (Err e) new = (want : model.Wanted) (more : List model.Wanted)
+    → Fails (breach (want ∷ more) old) e
+
+-- These words, and those that are left, spell a query, whose nodes stand behind those before, the
+-- last at this place.
+pub record Reads (words : List model.Word) (k : ℕ) (new : Reading) (before after : List Node)
+    : Type 0 where
+  pub tree : Query
+  pub spelling : words ≡ model.spelled tree (left new)
+  pub nodes : after ≡ before ++ nodes_from (length before) tree
+  pub last : k ≡ last_from (length before) tree
+
+-- a join of two nodes, by which of the two it is
+abbrev pub join_node : Bool → ℕ → ℕ → Node
+join_node true a b = And a b
+join_node false a b = Or a b
+
+abbrev pub join_text : Bool → List ℕ
+join_text true = codes "and"
+join_text false = codes "or"
