@@ -1,6 +1,7 @@
 //! Queries, token by token.
 
-ghost use Rattle.std.specs.Prelude.{◌≡◌, ◌+◌, ◌<◌, ◌≤◌, [], ◌∷◌, ◌++◌, codes, length, map, IfOk, OnOk};
+ghost use Rattle.std.specs.Prelude.{◌≡◌, ◌+◌, ◌<◌, ◌≤◌, [], ◌∷◌};
+ghost use Rattle.std.specs.Prelude.{◌++◌, codes, length, map, IfOk, OnOk};
 ghost use Rattle.std.specs.Prelude.{IfErr, ◌^◌};
 ghost use Rattle.scan_model.specs.Texts as model;
 ghost use Rattle.scan_query.specs.declared.reading.Stop.TheVariants as stop;

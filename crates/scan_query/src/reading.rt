@@ -1,14 +1,17 @@
 //! The tokens of a query's text, one after another.
 
-ghost use Rattle.std.specs.Prelude.{◌≡◌, ◌+◌, ◌≤◌, [], ◌∷◌, map, length, OnOk, IfOk, option_map, true};
+ghost use Rattle.std.specs.Prelude.{◌≡◌, ◌+◌, ◌≤◌, [], ◌∷◌};
+ghost use Rattle.std.specs.Prelude.{map, length, OnOk, IfOk, option_map, true};
 ghost use Rattle.std.specs.Prelude.{IfErr, Ok, Err};
 ghost use Rattle.std.specs.Char.{is_ascii_digit};
 ghost use Rattle.std.specs.List.{AllPass};
 ghost use Rattle.text_lex.specs.declared.token.TokenKind.TheVariants as kinds;
 ghost use Rattle.scan_model.specs.Texts as model;
 ghost use Rattle.scan_query.specs.declared.reading.Stop.TheVariants as stop;
-ghost use Rattle.scan_query.specs.Reading.{Finds, IsNumber, Moves, MovesTo, Takes, breach, start_of};
-ghost use Rattle.scan_query.specs.Reading.{begun_by, behind_lead, is_it, lead_at, lead_of, left, seen};
+ghost use Rattle.scan_query.specs.Reading.{Finds, IsNumber, Moves};
+ghost use Rattle.scan_query.specs.Reading.{MovesTo, Takes, breach, start_of};
+ghost use Rattle.scan_query.specs.Reading.{begun_by, behind_lead, is_it};
+ghost use Rattle.scan_query.specs.Reading.{lead_at, lead_of, left, seen};
 ghost use Rattle.scan_query.specs.Reading.{wanted_by, word_by, word_view};
 
 use crate::parser::Parser;
