@@ -377,7 +377,7 @@ named_width n slots (name ∷ names) (s ∷ ss) at = ap (λ x. width n (l.kind_a
 
 module _ (slots : Slots) (free_bit free_word : ℕ) (target : List ℕ) (p : WordOp)
     (args : List (List ℕ)) (linear : is_linear p ≡ true) (meets : ComputeMeets slots target
-        None p args)
+    None p args)
     (placed : IsPlaced slots free_bit free_word (Compute target None p args)) (t : Slot)
     (found : slots target ≡ Some t) (ss : List Slot) (at : AreAt slots args ss) where
   lowers : Lowers p t.kind t ss free_bit

@@ -24,7 +24,7 @@ returns-clause-lowered c =
     (steps_self (steps_of c.in_ok-p.p)) in
     lowered_on slots names.free_bit names.free_word c.args.target.now c.args._second.now
     c.args.op c.args.args.now c.requires.linear meets c.requires.placed t meets.gives.found
-        ss.list ss.at
+    ss.list ss.at
     (steps_of c.in_ok-p.p) like c.in_ok-p.ensures.made
 
 pub returns-clause-written : goal.returns-clause-written

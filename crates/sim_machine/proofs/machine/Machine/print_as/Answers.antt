@@ -23,9 +23,9 @@ returns-in-Err-clause-read g c =
     let m = c.args.self.now in
     let V = g.D.Dram.view in
     λ e.
-        let f : c.in-Err.fault ≡ WriteFault = cc in
-        subst (λ n. DidReadAtMost n (V c.args.dram.now) (V c.print.new.dram))
-        (all_rows_of m c.args.name.now c.requires.stands) (c.in-Err.ensures.read (ap Err f))
+    let f : c.in-Err.fault ≡ WriteFault = cc in
+    subst (λ n. DidReadAtMost n (V c.args.dram.now) (V c.print.new.dram))
+    (all_rows_of m c.args.name.now c.requires.stands) (c.in-Err.ensures.read (ap Err f))
 
 pub returns-in-Err-clause-part : goal.returns-in-Err-clause-part
 returns-in-Err-clause-part g c =
