@@ -75,6 +75,9 @@ fn replayed(file: &[u8], alloc: Global) -> Result<(u64, u64, u64, u64), Fail> {
     }
     chip.begin(SMALL)?;
     replay_events(&trace, &mut chip)?;
+    if chip.tally().reads != 0 {
+        return Err("a replay read a row")?;
+    }
     let mut row = [0];
     chip.read_row(1, 3, &mut row)?;
     let tally = chip.tally();
