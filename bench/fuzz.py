@@ -22,13 +22,17 @@ import random
 import re
 import resource
 import shutil
-import struct
 import subprocess
 import sys
 import tempfile
 import time
 
 TOP = pathlib.Path(__file__).resolve().parent.parent
+sys.dont_write_bytecode = True
+sys.path.append(str(TOP / "tools"))
+
+from image import Image, Object  # noqa: E402
+
 PROGRAM = TOP / "crates" / "simdram" / "out" / "simdram"
 EXAMPLES = TOP / "examples"
 
@@ -176,10 +180,10 @@ class Maker:
         for name in self.dice.sample(["a", "b", "y", "z", "w"], self.dice.randrange(4)):
             width = self.dice.choice([1, 4, 8])
             if base + width <= rows - 32:
-                objects.append(struct.pack("<B16sBHI", len(name), name.encode(), width, base, self.dice.choice([1, 2, 64])))
+                objects.append(Object(name, width, base, self.dice.choice([1, 2, 64])))
                 base += width
         contents = self.dice.randbytes(8 * banks * rows * words)
-        image = b"SDMI" + struct.pack("<HHHHH", 1, banks, rows, words, len(objects)) + b"".join(objects) + contents
+        image = Image(banks, rows, words, objects, contents).file()
         return image if self.dice.random() < 0.7 else self.mutated(image)
 
     def program(self):

@@ -17,18 +17,14 @@ import sys
 import tempfile
 
 TOP = pathlib.Path(__file__).resolve().parent.parent
+sys.dont_write_bytecode = True
+sys.path.append(str(TOP / "tools"))
+
+from image import Image, make  # noqa: E402
+
 PROGRAM = TOP / "crates" / "simdram" / "out" / "simdram"
 MAC = "op mac(a: word, b: word, c: word) -> y: word { t = mul(a, b); y = add(t, c); }\n"
 RUN = ("run", "ops", "prog", "script", "image", "out")
-
-
-def image(banks, rows, words, table=b"", contents=b""):
-    head = b"SDMI" + b"".join(k.to_bytes(2, "little") for k in (1, banks, rows, words, len(table) // 24))
-    return head + table + contents.ljust(8 * banks * rows * words, b"\0")
-
-
-def record(name, base):
-    return bytes([1]) + name.ljust(16, b"\0") + b"\1" + base.to_bytes(2, "little") + (4).to_bytes(4, "little")
 
 
 def made(names, count, width):
@@ -37,11 +33,11 @@ def made(names, count, width):
 
 def jobs():
     """Of each job its name, operations, script and image."""
-    first = image(1, 64, 1, record(b"a", 0) + record(b"b", 1) + record(b"y", 2), b"\x0c\0\0\0\0\0\0\0\x0a")
+    first = make("1x64x1", ["a:1=0,0,1,1", "b:1=0,1,0,1", "y:1/4"]).file()
     yield "first", (TOP / "examples/and.ops").read_text(), "bbop_and y, a, b, 4, 1\n", first
-    yield "add", (TOP / "examples/add.ops").read_text(), (TOP / "examples/add.bbop").read_text(), image(1, 64, 1)
+    yield "add", (TOP / "examples/add.ops").read_text(), (TOP / "examples/add.bbop").read_text(), Image(1, 64, 1).file()
     mac = made("abcy", 500_000, 32) + "fill a, 3\nfill b, 5\nfill c, 7\nbbop_mac y, a, b, c, 500000, 32\n"
-    yield "64MiB", MAC, mac, image(8, 1006, 1024)
+    yield "64MiB", MAC, mac, Image(8, 1006, 1024).file()
 
 
 def run(files, refuse, shim):
