@@ -31,6 +31,7 @@ TOP = pathlib.Path(__file__).resolve().parent.parent
 sys.dont_write_bytecode = True
 sys.path.append(str(TOP / "tools"))
 
+from from_hex import bytes_in  # noqa: E402
 from image import Image, Object  # noqa: E402
 
 PROGRAM = TOP / "crates" / "simdram" / "out" / "simdram"
@@ -102,7 +103,7 @@ class Maker:
 
     def __init__(self, dice):
         self.dice = dice
-        self.programs = [(EXAMPLES / "xor.prog").read_bytes()]
+        self.programs = [bytes_in(EXAMPLES / "exec" / "xor.hex")]
         self.texts = [path.read_bytes() for path in sorted(EXAMPLES.rglob("*.ops"))]
         self.scripts = [path.read_bytes() for path in sorted(EXAMPLES.rglob("*.bbop"))]
 

@@ -34,8 +34,8 @@ def made(names, count, width):
 def jobs():
     """Of each job its name, operations, script and image."""
     first = make("1x64x1", ["a:1=0,0,1,1", "b:1=0,1,0,1", "y:1/4"]).file()
-    yield "first", (TOP / "examples/and.ops").read_text(), "bbop_and y, a, b, 4, 1\n", first
-    yield "add", (TOP / "examples/add.ops").read_text(), (TOP / "examples/add.bbop").read_text(), Image(1, 64, 1).file()
+    yield "first", (TOP / "examples/and/and.ops").read_text(), "bbop_and y, a, b, 4, 1\n", first
+    yield "add", (TOP / "examples/add/add.ops").read_text(), (TOP / "examples/add/add.bbop").read_text(), Image(1, 64, 1).file()
     mac = made("abcy", 500_000, 32) + "fill a, 3\nfill b, 5\nfill c, 7\nbbop_mac y, a, b, c, 500000, 32\n"
     yield "64MiB", MAC, mac, Image(8, 1006, 1024).file()
 

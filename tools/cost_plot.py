@@ -1,13 +1,14 @@
 #!/usr/bin/env python3
 """Draws how many row commands the entries of a program file take, over the width.
 
-    tools/cost_plot.py PROG OUT.svg [--ops NAME,NAME,..] [--to N] [--ceiling NAME=FORMULA ..]
+    tools/cost_plot.py PROG OUT.svg [--ops NAME,NAME,..] [--to N] [--ceiling NAME=FORMULA ..] [--unproved]
 
 A line an entry: its AAP and AP together on one bank, as `simdram cost` counts them, at n = 1 to N (64 where none is
 given). A FORMULA is of n, with whole numbers, `+`, `-`, `*`, `//` and brackets, such as `9*n+1` or `11*n*n+15*n`; it is
 drawn dashed in the entry's colour.
 
-It needs Python's standard library alone, and runs `./simdram` at the top of this repository.
+It needs Python's standard library alone, and runs `./simdram` at the top of this repository, or with --unproved
+`./simdram --unproved`.
 """
 
 import argparse
@@ -18,7 +19,7 @@ import pathlib
 import subprocess
 import sys
 
-PROGRAM = pathlib.Path(__file__).resolve().parent.parent / "simdram"
+PROGRAM = [str(pathlib.Path(__file__).resolve().parent.parent / "simdram")]
 COLOURS = ("#0072b2", "#d55e00", "#009e73", "#cc79a7", "#555555", "#e69f00", "#56b4e9")
 OPERATORS = {ast.Add: operator.add, ast.Sub: operator.sub, ast.Mult: operator.mul, ast.FloorDiv: operator.floordiv}
 WIDE, HIGH, LEFT, BELOW, LEGEND = 720, 420, 80, 50, 260
@@ -46,9 +47,9 @@ def value(formula, n):
         raise Fault(f"{formula} is no formula of n") from None
 
 
-def costs(path, n):
+def costs(program, path, n):
     """Of each entry at a width, in the order of the file, its AAP and AP together."""
-    ended = subprocess.run([PROGRAM, "cost", path, str(n)], capture_output=True, text=True, check=False)
+    ended = subprocess.run([*program, "cost", path, str(n)], capture_output=True, text=True, check=False)
     if ended.returncode:
         raise Fault(f"cost {path} {n} ended with {ended.returncode}: {ended.stdout.strip() or ended.stderr.strip()}")
     for line in ended.stdout.splitlines():
@@ -56,11 +57,11 @@ def costs(path, n):
         yield name, int(aap.removeprefix("aap=")) + int(ap.removeprefix("ap="))
 
 
-def curves(path, ops, last):
+def curves(program, path, ops, last):
     """Of each entry that is asked for its commands at n = 1 to `last`."""
     found = {}
     for n in range(1, last + 1):
-        for name, commands in costs(path, n):
+        for name, commands in costs(program, path, n):
             found.setdefault(name, []).append(commands)
     unknown = [name for name in ops if name not in found]
     if unknown:
@@ -120,6 +121,8 @@ def drawn(found, ceilings):
         if name in ceilings:
             yield line(ceilings[name], place, colour, stroke_dasharray="6 5")
         yield element("text", f"{name}: {values[-1]:,} at {last}", x=LEFT + WIDE + 16, y=34 + 22 * k, fill=colour)
+    if ceilings:
+        yield element("text", "dashed: the ceiling", x=LEFT + WIDE + 16, y=34 + 22 * len(found))
     yield "</svg>"
 
 
@@ -130,8 +133,9 @@ def main():
     parser.add_argument("--ops", default="", help="the entries to draw, NAME,NAME,..; all where none is given")
     parser.add_argument("--to", type=int, default=64, choices=range(1, 129), metavar="N", help="the greatest width")
     parser.add_argument("--ceiling", action="append", default=[], metavar="NAME=FORMULA")
+    parser.add_argument("--unproved", action="store_true", help="count by the program that is compiled without proofs")
     words = parser.parse_args()
-    found = curves(words.prog, [name for name in words.ops.split(",") if name], words.to)
+    found = curves(PROGRAM + ["--unproved"] * words.unproved, words.prog, [name for name in words.ops.split(",") if name], words.to)
     formulas = dict(ceiling.split("=", 1) for ceiling in words.ceiling if "=" in ceiling)
     if len(formulas) != len(words.ceiling) or not formulas.keys() <= found.keys():
         raise Fault("each --ceiling is NAME=FORMULA, of another entry that is drawn")

@@ -214,9 +214,10 @@ def table(done):
 PAGE = """<!DOCTYPE html>
 <html lang="en"><head><meta charset="utf-8"><title>NAME</title><style>
 body { font: 15px/1.4 system-ui, sans-serif; margin: 2rem; max-width: 60rem; color: #222; background: #fff; }
-h1 { font-size: 1.3rem; } button { font: inherit; padding: .2rem .8rem; margin-right: .4rem; }
+h1 { font-size: 1.3rem; } button { font: inherit; padding: .2rem .8rem; margin: 0 .4rem .4rem 0; }
 ol { font: 14px/1.6 ui-monospace, monospace; padding-left: 2.5rem; } li { padding: 0 .4rem; cursor: pointer; }
-li.now { background: #222; color: #fff; } .board { display: flex; gap: 2rem; flex-wrap: wrap; }
+li.now { background: #222; color: #fff; } li.now::marker { color: #222; } button.now { background: #222; color: #fff; }
+ol { margin-top: 1.9rem; } .board { display: flex; gap: 2rem; flex-wrap: wrap; align-items: flex-start; }
 table { border-collapse: collapse; font: 14px ui-monospace, monospace; } caption { text-align: left; padding: .3rem 0; }
 th { text-align: left; padding: .25rem .7rem; border: 1px solid #bbb; background: #f4f4f4; font-weight: 600; }
 td { padding: .25rem .7rem; border: 1px solid #bbb; min-width: 9rem; } td.new { outline: 3px solid #222; outline-offset: -3px; }
@@ -249,6 +250,7 @@ function fill(id, title, now, before) {
 function show() {
   const steps = parts[part].steps, step = steps[at], before = at ? steps[at - 1] : parts[part].start;
   document.getElementById("said").textContent = `command ${at + 1} of ${steps.length}, ${parts[part].said}`;
+  document.querySelectorAll("#parts button").forEach((button, k) => { button.className = k === part ? "now" : ""; });
   const list = document.getElementById("commands");
   list.replaceChildren(...steps.map((one, k) => {
     const item = element("li", one.text);

@@ -13,13 +13,14 @@ use Rattle.std.proofs.lemmas.List.{drop_all, drop_at}
 use Rattle.dram_model.specs.declared.dram.Counters.{Counters}
 use Rattle.dram_model.specs.declared.geometry.Geometry.{Geometry}
 use Rattle.dram_model.specs.Geometry.{is_geometry}
-use Rattle.dram_model.specs.Chip.{Event, Grew}
+use Rattle.dram_model.specs.Chip.{Event, Log, Grew, event_bits, log_bits, with_events}
 use Rattle.dram_model.specs.Chip.Event.{Row, Write}
 use Rattle.dram_model.specs.View.{ChipView, HasBegun, Kept, Did}
 use Rattle.bit_rows.specs.Bits.{bits_of_words}
 use Rattle.bit_rows.proofs.Words.{length-words}
 use Rattle.object_alloc.specs.Bytes.{bits_of_bytes, bytes_of_bits}
 use Rattle.object_alloc.proofs.Images.{bounds_of}
+use Rattle.object_alloc.proofs.Rows.{length-bits_of_bytes}
 use Rattle.file_fields.specs.Fields.{◌>>=◌, rule}
 use Rattle.file_fields.proofs.Held.{Holds, bytes_takes, bytes_again, bind_ok, ok_is}
 use Rattle.file_fields.proofs.Padded.{between_is}
@@ -32,10 +33,13 @@ use Rattle.std.specs.Int.{to_le_bytes, w32}
 use Rattle.trace_model.specs.Reading.{TraceFault, bytes_at, head_at, head_in, is_legal_head, needed}
 use Rattle.trace_model.specs.Reading.{with_row, event_at, events_at}
 use Rattle.trace_model.proofs.Events.{event_again}
+use Rattle.trace_model.proofs.Records.{event_length}
 use Rattle.trace_model.proofs.Files.{few_rows}
-use Rattle.cmd_trace.specs.declared.sizes.TheConstants.{HEAD_BYTES_MAX, TRACE_BYTES_MAX}
+use Rattle.dram_model.proofs.EventLaws.{Grew-none, log_bits-append}
+use Rattle.cmd_trace.specs.declared.sizes.TheConstants.{EVENTS_BYTES_MAX, HEAD_BYTES_MAX}
+use Rattle.cmd_trace.specs.declared.sizes.TheConstants.{TRACE_BYTES_MAX}
 use Rattle.cmd_trace.specs.Tape.{Tape, ends_at, events_on, events_read, is_whole, kept_in, kept_on}
-use Rattle.cmd_trace.specs.Tape.{log_on, marked, recorded}
+use Rattle.cmd_trace.specs.Tape.{empty_log, log_on, log_shown, marked, recorded}
 
 -- ---- bytes behind those that are read change nothing
 
@@ -174,6 +178,56 @@ events_long (suc n) g at bytes out e =
     subst (λ (x : List Event × ℕ). at + 8 * suc n ≤ x.1) (ok_is {K = TraceKind} all out b.2)
     (omega (arith, one, more))
 
+-- and eight bits of the log for each byte
+row_bits_are : (g : Geometry) (h : Head) (at : ℕ) (bytes : List ℕ) (out : Event × ℕ)
+    → with_row g h at bytes ≡ Ok out → 8 * at + event_bits out.0 ≡ 8 * out.1
+row_bits_are g (Commands bank command) at bytes out e =
+    let one : Event × ℕ = (Row bank command, at + 8) in
+    subst (λ (x : Event × ℕ). 8 * at + event_bits x.0 ≡ 8 * x.1) (ok_is {K = TraceKind} one out e)
+    (omega arith)
+row_bits_are g (Writes bank row) at bytes out e =
+    let rest : List ℕ → Result (Event × ℕ) TraceFault =
+    λ field. Ok (Write bank row (bits_of_bytes field), at + 8 + 8 * g.words) in
+    let a = bind_ok (bytes_at (8 * g.words) (at + 8) bytes) rest out e in
+    let one : Event × ℕ = (Write bank row (bits_of_bytes a.0), at + 8 + 8 * g.words) in
+    let t = bytes_takes kinds.Short (8 * g.words) (at + 8) (at + 8 + 8 * g.words) bytes a.0 a.1
+    refl in
+    let size = length-bits_of_bytes a.0 in
+    subst (λ (x : Event × ℕ). 8 * at + event_bits x.0 ≡ 8 * x.1)
+    (ok_is {K = TraceKind} one out a.2) (omega (arith, size, t.1))
+
+event_bits_are : (g : Geometry) (at : ℕ) (bytes : List ℕ) (out : Event × ℕ)
+    → event_at g at bytes ≡ Ok out → 8 * at + event_bits out.0 ≡ 8 * out.1
+unfolding event_at
+event_bits_are g at bytes out e =
+    let a = bind_ok (head_at g at bytes) (λ head. with_row g head at bytes) out e in
+    row_bits_are g a.0 at bytes out a.2
+
+pub log_bits_are : (n : ℕ) (g : Geometry) (at : ℕ) (bytes : List ℕ) (out : List Event × ℕ)
+    → events_at n g at bytes ≡ Ok out → 8 * at + log_bits out.0 ≡ 8 * out.1
+log_bits_are zero g at bytes out e =
+    let none : List Event × ℕ = ([], at) in
+    subst (λ (x : List Event × ℕ). 8 * at + log_bits x.0 ≡ 8 * x.1)
+    (ok_is {K = TraceKind} none out (sym (none_is g at bytes) ∙ e)) (omega arith)
+log_bits_are (suc n) g at bytes out e =
+    let a = bind_ok (event_at g at bytes) (rest_of n g bytes) out (sym (more_is n g at bytes) ∙ e)
+    in
+    let b = bind_ok (events_at n g a.0.1 bytes) (behind a.0.0) out a.2 in
+    let all : List Event × ℕ = (a.0.0 ∷ b.0.0, b.0.1) in
+    let one = event_bits_are g at bytes a.0 a.1 in
+    let more = log_bits_are n g a.0.1 bytes b.0 b.1 in
+    subst (λ (x : List Event × ℕ). 8 * at + log_bits x.0 ≡ 8 * x.1)
+    (ok_is {K = TraceKind} all out b.2) (omega (arith, one, more))
+
+-- an event takes eight bits of the log for each byte of its spelling
+event_bits_of : (g : Geometry) (event : Event) → IsEvent g event
+    → event_bits event ≡ 8 * length (event_bytes g event)
+event_bits_of g (Row bank command) is =
+    let l = event_length g (Row bank command) in omega (arith, l)
+event_bits_of g (Write bank row bits) is =
+    let l = event_length g (Write bank row bits) in
+    let size = is.2 in omega (arith, l, size)
+
 -- ---- what is whole
 
 pub both : (a b : Bool) → (a && b) ≡ true → (a ≡ true) × (b ≡ true)
@@ -232,18 +286,31 @@ few g tape t =
     let l = events_long tape.count g HEAD_BYTES_MAX tape.bytes _ t.read in
     omega (arith, l, t.room)
 
+abbrev shown : List Event → Log
+shown events = record { room = 8 * EVENTS_BYTES_MAX; events = events }
+
 log_told : (g : Geometry) (tape : Tape) → tape.told ≡ true
-    → log_on g tape ≡ Some (events_on g tape)
+    → log_shown g tape ≡ Some (shown (events_on g tape))
 log_told g tape t = rw t refl
 
-grew_some : (a b : Option (List Event)) (x y es : List Event) → a ≡ Some x → b ≡ Some y
+log_untold : (g : Geometry) (tape : Tape) → tape.told ≡ false → log_shown g tape ≡ None
+log_untold g tape t = rw t refl
+
+grew_some : (a b : Option Log) (x y es : List Event) → a ≡ Some (shown x) → b ≡ Some (shown y)
     → y ≡ x ++ es → Grew a b es
-grew_some a b x y es e f h = rw (e, f) h
+grew_some a b x y es e f h = rw (e, f) (ap shown h)
+
+grew_full : (a b : Option Log) (x es : List Event) → a ≡ Some (shown x) → b ≡ None
+    → 8 * EVENTS_BYTES_MAX < log_bits (x ++ es) → Grew a b es
+grew_full a b x es e f h = rw (e, f) h
+
+grew_never : (a b : Option Log) (es : List Event) → a ≡ None → b ≡ None → Grew a b es
+grew_never a b es e f = rw (e, f) tt
 
 -- behind an event: what was kept is whole again, and the log grew by it
 record Told (g : Geometry) (tape new : Tape) (event : Event) : Type 0 where
   whole : is_whole g new ≡ true
-  grew : Grew (log_on g tape) (log_on g new) (event ∷ [])
+  grew : Grew (log_shown g tape) (log_shown g new) (event ∷ [])
 
 fits_told : (g : Geometry) (tape : Tape) (event : Event) → Tells g tape → tape.told ≡ true
     → IsEvent g event
@@ -284,10 +351,22 @@ fits_told g tape event t told is fits =
     (events_bytes g (old ++ event ∷ []))).1 spelled in
     record {
       whole = rw (told, t.shape, room, read, eq-eqb (length bytes) (length bytes) refl, same) refl;
-      grew = grew_some (log_on g tape) (log_on g new) old (old ++ event ∷ []) (event ∷ [])
+      grew = grew_some (log_shown g tape) (log_shown g new) old (old ++ event ∷ []) (event ∷ [])
           (log_told g tape told)
-          (log_told g new told ∙ ap (λ r. Some (events_read r)) read) refl;
+          (log_told g new told ∙ ap (λ r. Some (shown (events_read r))) read) refl;
     }
+
+-- an event behind which the room is too small
+over : (g : Geometry) (tape : Tape) (event : Event) → Tells g tape → IsEvent g event
+    → leb (length tape.bytes + length (event_bytes g event)) TRACE_BYTES_MAX ≡ false
+    → 8 * EVENTS_BYTES_MAX < log_bits (events_on g tape ++ event ∷ [])
+over g tape event t is f =
+    let past : TRACE_BYTES_MAX < length tape.bytes + length (event_bytes g event) =
+    grind (arith, nat_tests) in
+    let all = log_bits_are tape.count g HEAD_BYTES_MAX tape.bytes _ t.read in
+    let one = event_bits_of g event is in
+    let sum = log_bits-append (events_on g tape) (event ∷ []) in
+    omega (arith, past, all, one, sum)
 
 told_case : (g : Geometry) (tape : Tape) (event : Event) (told fits : Bool) → tape.told ≡ told
     → leb (length tape.bytes + length (event_bytes g event)) TRACE_BYTES_MAX ≡ fits
@@ -296,8 +375,15 @@ told_case : (g : Geometry) (tape : Tape) (event : Event) (told fits : Bool) → 
     (record tape { count = tape.count + 1; bytes = tape.bytes ++ event_bytes g event })
     (record tape { told = false })) event
 told_case g tape event true true t f h is = fits_told g tape event (tells g tape h t) t is f
-told_case g tape event true false t f h is = record { whole = refl; grew = tt }
-told_case g tape event false fits t f h is = record { whole = refl; grew = tt }
+told_case g tape event true false t f h is = record {
+  whole = refl;
+  grew = grew_full (log_shown g tape) None (events_on g tape) (event ∷ [])
+      (log_told g tape t) refl (over g tape event (tells g tape h t) is f);
+}
+told_case g tape event false fits t f h is = record {
+  whole = refl;
+  grew = grew_never (log_shown g tape) None (event ∷ []) (log_untold g tape t) refl;
+}
 
 kept_told : (g : Geometry) (tape : Tape) (event : Event) → is_whole g tape ≡ true
     → IsEvent g event → Told g tape (kept_on tape (event_bytes g event)) event
@@ -328,21 +414,17 @@ did_recorded event old new tape after h is kept did e =
       did = record {
         banks = did.banks;
         counters = did.counters;
-        log = subst (λ (g : Geometry). Grew (log_on old.geometry tape) (log_on g same)
+        log = subst (λ (g : Geometry). Grew (log_shown old.geometry tape) (log_shown g same)
             (event ∷ [])) (sym kept.geometry) told.grew;
       };
     })
-
-told_same : (log : Option (List Event)) → Grew log log []
-told_same None = tt
-told_same (Some events) = sym (append-nil events)
 
 -- a call that keeps the tape
 pub same_log : (old new : ChipView) (tape : Tape) → Kept old new
     → Grew (recorded old tape).log (recorded new tape).log []
 same_log old new tape kept =
-    subst (λ (g : Geometry). Grew (log_on old.geometry tape) (log_on g tape) [])
-    (sym kept.geometry) (told_same (log_on old.geometry tape))
+    subst (λ (g : Geometry). Grew (log_shown old.geometry tape) (log_shown g tape) [])
+    (sym kept.geometry) (Grew-none (log_shown old.geometry tape))
 
 pub same_kept : (old new : ChipView) (tape : Tape) → Kept old new
     → Kept (recorded old tape) (recorded new tape)
@@ -356,7 +438,7 @@ same_kept old new tape kept = record {
 pub marked_shows : (chip : ChipView) (tape new : Tape) (since : Counters) → HasBegun chip
     → is_geometry chip.geometry ≡ true → new ≡ marked since tape
     → length new.bytes ≡ HEAD_BYTES_MAX
-    → recorded chip new ≡ record chip { log = Some [] }
+    → recorded chip new ≡ record chip { log = Some empty_log }
 marked_shows chip tape new since h is e l =
     let told : new.told ≡ true = ap (λ (t : Tape). t.told) e in
     let none : new.count ≡ 0 = ap (λ (t : Tape). t.count) e in

@@ -6,11 +6,12 @@ use Rattle.std.specs.Str.{bytes_eq}
 use Rattle.dram_model.specs.declared.dram.Counters.{Counters}
 use Rattle.dram_model.specs.declared.geometry.Geometry.{Geometry}
 use Rattle.dram_model.specs.Geometry.{is_geometry}
-use Rattle.dram_model.specs.Chip.{Event}
+use Rattle.dram_model.specs.Chip.{Event, Log}
 use Rattle.dram_model.specs.View.{ChipView}
 use Rattle.trace_model.specs.Spelling.{events_bytes}
 use Rattle.trace_model.specs.Reading.{TraceFault, events_at}
-use Rattle.cmd_trace.specs.declared.sizes.TheConstants.{HEAD_BYTES_MAX, TRACE_BYTES_MAX}
+use Rattle.cmd_trace.specs.declared.sizes.TheConstants.{EVENTS_BYTES_MAX, HEAD_BYTES_MAX}
+use Rattle.cmd_trace.specs.declared.sizes.TheConstants.{TRACE_BYTES_MAX}
 
 -- what was recorded: whether all events since the mark were kept, how many were, the counters at
 -- the mark, and the bytes: room for the head of a file, and then the events. The file that was
@@ -68,16 +69,25 @@ is_whole g tape = if tape.told
     && bytes_eq (kept_in tape) (events_bytes g (events_on g tape))
     else true
 
--- the log that is told: the events since the mark, where all were kept
+-- the events since the mark, where all were kept
 abbrev pub log_on : Geometry → Tape → Option (List Event)
 log_on g tape = if tape.told then Some (events_on g tape) else None
+
+-- a log without events, with the room that a recorder has, in bits
+abbrev pub empty_log : Log
+empty_log = record { room = 8 * EVENTS_BYTES_MAX; events = [] }
+
+-- the log that is told: these events, in this room
+abbrev pub log_shown : Geometry → Tape → Option Log
+log_shown g tape = if tape.told
+    then Some (record { room = 8 * EVENTS_BYTES_MAX; events = events_on g tape }) else None
 
 -- a recorder shows what its chip shows, but for the log. It has begun where the chip has and what
 -- was kept is whole, as each call leaves it
 abbrev pub recorded : ChipView → Tape → ChipView
 recorded chip tape = record chip {
   begun = chip.begun && is_whole chip.geometry tape;
-  log = log_on chip.geometry tape;
+  log = log_shown chip.geometry tape;
 }
 
 -- how many bytes all events take by what the counters rose: 8 for each command and write, and a row

@@ -5,7 +5,7 @@ ghost use Rattle.std.specs.Prelude.{None, IfOk, IfSome, is_some};
 ghost use Rattle.dram_model.specs.Geometry.{is_geometry};
 ghost use Rattle.dram_model.specs.View.{HasBegun};
 ghost use Rattle.trace_model.specs.Spelling.{events_bytes, trace_bytes};
-ghost use Rattle.cmd_trace.specs.Tape.{file_on, log_on, recorded, size_since};
+ghost use Rattle.cmd_trace.specs.Tape.{empty_log, file_on, log_on, recorded, size_since};
 
 use crate::notes::Notes;
 use dram_model::{Addr, BeginNo, ChipFault, Command, Counters, Dram, Geometry};
@@ -13,35 +13,50 @@ use no_memory::NoMemory;
 use object_alloc::Table;
 use std::alloc::Global;
 
-/// A chip over another, which keeps what happens on it: from the mark on each row command and each
-/// row that the host wrote, in order, while all fit in 67,108,864 bytes. It tells them as its log.
+/// The memory of a recorder: room for all events and for the head of a file.
 #[derive(Drop)]
-pub struct Recorder<'a, D: Dram> {
-    dram: &'a mut D,
+pub struct Room {
     notes: Notes,
 }
 
-impl<'a, D: Dram> Recorder<'a, D> {
-    /// A recorder that tells nothing yet. It takes the memory for all events and for the head of a
-    /// file.
-    pub fn new(dram: &'a mut D, alloc: Global) -> Result<Recorder<'a, D>, NoMemory>
-        ensures chip { IfOk result (λ r. r.dram.now ≡ dram.entry.now) }
-        ensures same_reference { IfOk result (λ r. r.dram.ghost_name ≡ dram.entry.ghost_name) }
-        ensures untold { IfOk result (λ r. r.notes.told ≡ false) }
-    {
+impl Room {
+    /// Takes all the memory that a recorder ever needs.
+    pub fn new(alloc: Global) -> Result<Room, NoMemory> {
         let notes = Notes::new(alloc)?;
-        Ok(Recorder { dram, notes })
+        Ok(Room { notes })
+    }
+}
+
+/// A chip over another, which keeps what happens on it: from the mark on each row command and each
+/// row that the host wrote, in order, while all fit in 67,108,864 bytes. It tells them as its log.
+/// Its memory is lent to it, so that what it did to the chip is known when it is let go.
+#[derive(Drop)]
+pub struct Recorder<'a, D: Dram> {
+    dram: &'a mut D,
+    notes: &'a mut Notes,
+}
+
+impl<'a, D: Dram> Recorder<'a, D> {
+    /// A recorder that tells nothing yet.
+    pub fn new(dram: &'a mut D, room: &'a mut Room) -> Recorder<'a, D>
+        ensures chip { result.dram.now ≡ dram.entry.now }
+        ensures same_reference { result.dram.ghost_name ≡ dram.entry.ghost_name }
+        ensures untold { result.notes.now.told ≡ false }
+    {
+        let notes = &mut room.notes;
+        notes.untell();
+        Recorder { dram, notes }
     }
 
     /// Tells an empty log from here on. The chip has begun.
     pub fn mark(&mut self)
-        requires begun { HasBegun (recorded (D.view self.old.dram.now) self.old.notes) }
+        requires begun { HasBegun (recorded (D.view self.old.dram.now) self.old.notes.now) }
         requires shape { is_geometry (D.view self.old.dram.now).geometry ≡ true }
         ensures same_reference { self.new.dram.ghost_name ≡ self.old.dram.ghost_name }
         ensures chip { self.new.dram.now ≡ self.old.dram.now }
-        ensures shown { recorded (D.view self.new.dram.now) self.new.notes
-            ≡ record (D.view self.old.dram.now) { log = Some [] } }
-        ensures since { self.new.notes.since ≡ (D.view self.old.dram.now).counters }
+        ensures shown { recorded (D.view self.new.dram.now) self.new.notes.now
+            ≡ record (D.view self.old.dram.now) { log = Some empty_log } }
+        ensures since { self.new.notes.now.since ≡ (D.view self.old.dram.now).counters }
     {
         let since = self.dram.tally();
         self.notes.mark(since);
@@ -49,15 +64,15 @@ impl<'a, D: Dram> Recorder<'a, D> {
 
     /// Whether the log is told: whether each event since the mark was kept.
     pub fn is_told(&self) -> bool
-        ensures { result ≡ is_some (log_on (D.view self.now.dram.now).geometry self.now.notes) }
+        ensures { result ≡ is_some (log_on (D.view self.now.dram.now).geometry self.now.notes.now) }
     {
         self.notes.is_told()
     }
 
     /// The events since the mark, as they are spelled in a trace file, where the log is told.
     pub fn events(&self) -> &[u8]
-        requires { HasBegun (recorded (D.view self.now.dram.now) self.now.notes) }
-        ensures { IfSome (log_on (D.view self.now.dram.now).geometry self.now.notes) (λ events.
+        requires { HasBegun (recorded (D.view self.now.dram.now) self.now.notes.now) }
+        ensures { IfSome (log_on (D.view self.now.dram.now).geometry self.now.notes.now) (λ events.
             result.now ≡ events_bytes (D.view self.now.dram.now).geometry events) }
     {
         self.notes.kept()
@@ -65,13 +80,13 @@ impl<'a, D: Dram> Recorder<'a, D> {
 
     /// Spells the trace file of the log so far, with these objects. It takes no memory.
     pub fn spell_file(&mut self, table: &Table)
-        requires begun { HasBegun (recorded (D.view self.old.dram.now) self.old.notes) }
-        requires told { is_some (log_on (D.view self.old.dram.now).geometry self.old.notes)
+        requires begun { HasBegun (recorded (D.view self.old.dram.now) self.old.notes.now) }
+        requires told { is_some (log_on (D.view self.old.dram.now).geometry self.old.notes.now)
             ≡ true }
         ensures same_reference { self.new.dram.ghost_name ≡ self.old.dram.ghost_name }
         ensures chip { self.new.dram.now ≡ self.old.dram.now }
-        ensures file { IfSome (log_on (D.view self.old.dram.now).geometry self.old.notes)
-            (λ events. file_on self.new.notes
+        ensures file { IfSome (log_on (D.view self.old.dram.now).geometry self.old.notes.now)
+            (λ events. file_on self.new.notes.now
             ≡ trace_bytes (D.view self.old.dram.now).geometry table.now.pairs events) }
     {
         let g = self.dram.geometry();
@@ -80,16 +95,16 @@ impl<'a, D: Dram> Recorder<'a, D> {
 
     /// The trace file that was spelled last.
     pub fn trace_file(&self) -> &[u8]
-        ensures { result.now ≡ file_on self.now.notes }
+        ensures { result.now ≡ file_on self.now.notes.now }
     {
         self.notes.file()
     }
 
     /// How many bytes all events since the mark take, by what the counters rose.
     pub fn size(&self) -> u64
-        requires { HasBegun (recorded (D.view self.now.dram.now) self.now.notes) }
+        requires { HasBegun (recorded (D.view self.now.dram.now) self.now.notes.now) }
         ensures { result ≡ size_since (D.view self.now.dram.now).geometry.words
-            self.now.notes.since (D.view self.now.dram.now).counters }
+            self.now.notes.now.since (D.view self.now.dram.now).counters }
     {
         let words = self.dram.geometry().words;
         size_of(words, self.notes.since(), self.dram.tally())
@@ -114,14 +129,15 @@ fn size_of(words: u16, since: Counters, now: Counters) -> u64
 }
 
 impl<'a, D: Dram> Dram for Recorder<'a, D> {
+    ghost use Rattle.std.specs.Prelude.{◌∷◌};
     ghost use Rattle.cmd_trace.specs.Tape.{recorded};
     ghost use Rattle.cmd_trace.specs.Widths.{has_begun_below};
 
-    ghost view = { λ s. recorded (D.view s.dram.now) s.notes };
+    ghost view = { λ s. recorded (D.view s.dram.now) s.notes.now };
 
-    ghost borrow = { λ s. s.dram.ghost_name };
+    ghost borrow = { λ s. s.dram.ghost_name ∷ D.borrow s.dram.now };
 
-    ghost width = { λ s h. D.width s.dram.now (has_begun_below (D.view s.dram.now) s.notes h) };
+    ghost width = { λ s h. D.width s.dram.now (has_begun_below (D.view s.dram.now) s.notes.now h) };
 
     fn begin(&mut self, g: Geometry) -> Result<(), BeginNo> {
         self.notes.untell();

@@ -63,12 +63,13 @@ fn make_banks(g: Geometry, alloc: Global) -> Result<Vec<Bank>, NoMemory>
 }
 
 impl Dram for Chip {
+    ghost use Rattle.std.specs.Prelude.{[]};
     ghost use Rattle.dram_chip.specs.Seen.{chip_view};
     ghost use Rattle.dram_chip.specs.ChipWidth.{chip_width};
 
     ghost view = { chip_view };
 
-    ghost borrow = { λ s. 0 };
+    ghost borrow = { λ s. [] };
 
     ghost width = { chip_width };
 

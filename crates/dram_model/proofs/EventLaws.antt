@@ -2,7 +2,7 @@
 use Rattle.std.specs.Prelude.{◌≡◌, ℕ, ◌+◌, ◌<◌, ◌≤◌, List, [], ◌∷◌, ◌++◌}
 use Rattle.std.specs.Prelude.{length, map, Option, Some, None, refl, take}
 use Rattle.std.proofs.Common.{sym, ◌∙◌, ap, arith, inl, inr, get_or, append_assoc, map-id}
-use Rattle.std.proofs.Common.{append-nil, add_assoc, add-zero}
+use Rattle.std.proofs.Common.{append-nil, add_assoc, add-zero, zero-add, subst}
 use Rattle.std.proofs.lemmas.List.{map_more}
 use Rattle.std.proofs.lemmas.Bool.{ne_eqb, eq-eqb}
 use Rattle.std.proofs.lemmas.Bool.Decides.{eqb_tells}
@@ -11,7 +11,7 @@ use Rattle.dram_model.specs.declared.address.Command.TheVariants.{Ap, Aap}
 use Rattle.dram_model.specs.declared.dram.Counters.{Counters}
 use Rattle.dram_model.specs.Column.{Column, step, run}
 use Rattle.dram_model.specs.Chip.{Banks, Event, bank_of, happens, after, counted}
-use Rattle.dram_model.specs.Chip.{all_counted, Grew}
+use Rattle.dram_model.specs.Chip.{Log, LogIs, all_counted, event_bits, log_bits, with_events, Grew}
 use Rattle.dram_model.specs.Chip.Event.{Row, Write}
 use Rattle.dram_model.specs.Events.{events_of, on_bank_all, row_events}
 use Rattle.dram_model.specs.View.{ChipView, Kept, Did, DidRead, with_reads}
@@ -26,13 +26,51 @@ pub all_counted-append : (es fs : List Event) (counters : Counters)
 all_counted-append [] fs counters = refl
 all_counted-append (e ∷ es) fs counters = all_counted-append es fs (counted e counters)
 
+-- what is more takes more room
+pub log_bits-append : (es fs : List Event) → log_bits (es ++ fs) ≡ log_bits es + log_bits fs
+log_bits-append [] fs = sym (zero-add (log_bits fs))
+log_bits-append (e ∷ es) fs = ap (λ n. event_bits e + n) (log_bits-append es fs)
+    ∙ sym (add_assoc (event_bits e) (log_bits es) (log_bits fs))
+
+with_events-more : (es fs : List Event) (log : Log)
+    → with_events fs (with_events es log) ≡ with_events (es ++ fs) log
+with_events-more es fs log = ap (λ (all : List Event). let l : Log = record log { events = all } in l)
+    (append_assoc log.events es fs)
+
+with_events-none : (log : Log) → log ≡ with_events [] log
+with_events-none log = ap (λ (all : List Event). let l : Log = record log { events = all } in l)
+    (sym (append-nil log.events))
+
+-- what does not fit still does not with more behind it
+full-more : (log : Log) (es fs : List Event) → log.room < log_bits (log.events ++ es)
+    → log.room < log_bits (log.events ++ (es ++ fs))
+full-more log es fs l =
+    let e = log_bits-append (log.events ++ es) fs in
+    let s : log_bits (log.events ++ es ++ fs) ≡ log_bits (log.events ++ (es ++ fs)) =
+    ap log_bits (append_assoc log.events es fs) in
+    omega (arith, l, e, s)
+
 -- two growths make one
-pub Grew-more : (a b c : Option (List Event)) (es fs : List Event) → Grew a b es → Grew b c fs
+pub Grew-more : (a b c : Option Log) (es fs : List Event) → Grew a b es → Grew b c fs
     → Grew a c (es ++ fs)
-Grew-more a b None es fs g h = tt
-Grew-more a None (Some z) es fs g h = absurd h
-Grew-more None (Some y) (Some z) es fs g h = absurd g
-Grew-more (Some x) (Some y) (Some z) es fs g h = h ∙ ap (λ w. w ++ fs) g ∙ append_assoc x es fs
+Grew-more None None None es fs g h = tt
+Grew-more None None (Some z) es fs g h = absurd h
+Grew-more None (Some y) c es fs g h = absurd g
+Grew-more (Some x) None None es fs g h = full-more x es fs g
+Grew-more (Some x) None (Some z) es fs g h = absurd h
+Grew-more (Some x) (Some y) None es fs g h =
+    let full : (with_events es x).room < log_bits ((with_events es x).events ++ fs) =
+    subst (λ (l : Log). l.room < log_bits (l.events ++ fs)) g h in
+    subst (λ (all : List Event). x.room < log_bits all) (append_assoc x.events es fs) full
+Grew-more (Some x) (Some y) (Some z) es fs g h =
+    h ∙ ap (with_events fs) g ∙ with_events-more es fs x
+
+-- a log that has these events has these and others behind them
+pub LogIs-more : (xs es : List Event) (a b : Option Log) → LogIs xs a → Grew a b es
+    → LogIs (xs ++ es) b
+LogIs-more xs es a None is g = tt
+LogIs-more xs es None (Some y) is g = absurd g
+LogIs-more xs es (Some x) (Some y) is g = ap (λ (l : Log). l.events) g ∙ ap (λ w. w ++ es) is
 
 -- each bank is left as its own events alone leave it, whatever stands between them
 pub projection : (events : List Event) (banks : Banks) (bank : ℕ)
@@ -68,7 +106,7 @@ counted-more bank commands i d start old new l e f =
     ∙ ap (counted (Row bank (get_or commands i d))) e)
 
 pub Grew-row : (bank : ℕ) (commands : List Command) (i : ℕ) (d : Command)
-    (start old new : Option (List Event)) → i < length commands
+    (start old new : Option Log) → i < length commands
     → Grew start old (row_events bank (take i commands))
     → Grew old new (Row bank (get_or commands i d) ∷ [])
     → Grew start new (row_events bank (take (i + 1) commands))
@@ -113,13 +151,13 @@ counted-bound (Write bank row bits ∷ events) counters = let h =
     counted-bound events (counted (Write bank row bits) counters) in
     (omega arith, omega arith, omega arith)
 
-told_same : (log : Option (List Event)) → Grew log log []
-told_same None = tt
-told_same (Some told) = sym (append-nil told)
+pub Grew-none : (log : Option Log) → Grew log log []
+Grew-none None = tt
+Grew-none (Some told) = with_events-none told
 
 -- no event
 pub Did-none : (chip : ChipView) → Did [] chip chip
-Did-none chip = record { banks = refl; counters = refl; log = told_same chip.log }
+Did-none chip = record { banks = refl; counters = refl; log = Grew-none chip.log }
 
 -- some events, and then others
 pub Did-more : (es fs : List Event) (a b c : ChipView) → Did es a b → Did fs b c
@@ -152,7 +190,7 @@ pub DidRead-none : (chip : ChipView) → DidRead 0 chip chip
 DidRead-none chip = record {
   banks = refl;
   counters = no_reads chip.counters;
-  log = told_same chip.log;
+  log = Grew-none chip.log;
 }
 
 pub DidRead-more : (m n : ℕ) (a b c : ChipView) → DidRead m a b → DidRead n b c

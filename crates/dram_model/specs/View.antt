@@ -1,9 +1,9 @@
 -- What a chip shows, and what calls on it do.
 use Rattle.std.specs.Prelude.{◌≡◌, ℕ, ◌+◌, ◌≤◌, Bool, true, false, List}
-use Rattle.std.specs.Prelude.{[], Option, Some, None}
+use Rattle.std.specs.Prelude.{[], Option, None}
 use Rattle.dram_model.specs.declared.geometry.Geometry.{Geometry}
 use Rattle.dram_model.specs.declared.dram.Counters.{Counters}
-use Rattle.dram_model.specs.Chip.{Banks, Event, after, all_counted, blank_banks, Grew}
+use Rattle.dram_model.specs.Chip.{Banks, Event, Log, LogIs, after, all_counted, blank_banks, Grew}
 use Rattle.fault_counts.specs.Counts.{Rose}
 use Rattle.dram_model.specs.Chip.{SameBut}
 
@@ -15,7 +15,7 @@ pub record ChipView : Type 0 where
   pub banks : Banks
   pub counters : Counters
   pub faults : ℕ
-  pub log : Option (List Event)
+  pub log : Option Log
 
 -- its last `begin` was Ok
 abbrev pub HasBegun : ChipView → Type 0
@@ -57,7 +57,7 @@ pub record Began (g : Geometry) (chip : ChipView) : Type 0 where
   pub geometry : chip.geometry ≡ g
   pub banks : chip.banks ≡ blank_banks g
   pub counters : chip.counters ≡ no_counts
-  pub log : Grew (Some []) chip.log []
+  pub log : LogIs [] chip.log
 
 -- the last `begin` failed: rows and counters are unsaid, and no log is told
 pub record NotBegun (chip : ChipView) : Type 0 where

@@ -242,8 +242,8 @@ is_beside g table None n row = false
 is_beside g table (Some operation) n row = is_among (base_for g table (need operation.shape n))
     (need operation.shape n) row || is_among (limit_of g) 32 row
 
--- the rows that an instruction that is done may change: its destination's, and of a bbop scratch
--- and the spill group
+-- the rows that an instruction that is done may change: its object's, and of a bbop those of its
+-- destinations, its scratch and the spill group
 abbrev pub touches : Geometry → Operations → List Named → Instruction → ℕ → ℕ → Bool
 touches g operations table (Init name count n) bank row =
     has_row_in g (new_object g table count n) bank row

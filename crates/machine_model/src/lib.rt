@@ -13,8 +13,8 @@ ghost use Rattle.machine_model.specs.Laws.{WaveIsSteps, WavesAreAnswered, WorkIs
 use uprog_code::{BadWalk, Counts};
 
 /// The first condition under which an instruction is refused.
-/// A place counts from 0 for the destination and from 1 for the first source, and in `load` and
-/// `fill` from 1 for the first value.
+/// A place counts the names from 0, a bbop's destinations before its sources, and in `load` and
+/// `fill` the values from 1.
 #[derive(Clone, Copy, PartialEq, Eq, Debug)]
 pub enum Why {
     NoOp,

@@ -1,9 +1,10 @@
 //! A chip under a recorder, and its trace done again on another.
 
-ghost use Rattle.std.specs.Prelude.{◌≤◌, length};
+ghost use Rattle.std.specs.Prelude.{◌≡◌, ◌≤◌, length};
+ghost use Rattle.dram_model.specs.View.{HasBegun, Kept};
 
-use cmd_trace::{Recorder, TraceView, replay_events};
-use dram_chip::{Addr, Chip, Dram, Geometry};
+use cmd_trace::{Recorder, Room, TraceView, replay_events};
+use dram_chip::{Addr, Chip, ChipFault, Dram, Geometry};
 use object_alloc::Table;
 use std::alloc::Global;
 use std::test::*;
@@ -14,17 +15,32 @@ const SMALL: Geometry = Geometry {
     words: 1,
 };
 
+/// Writes a row, and does two commands.
+fn act<D: Dram>(chip: &mut D) -> Result<(), ChipFault>
+    requires begun { HasBegun (D.view chip.old) }
+    requires banks { (D.view chip.old).geometry.banks ≡ 2 }
+    requires rows { (D.view chip.old).geometry.rows ≡ 64 }
+    requires words { (D.view chip.old).geometry.words ≡ 1 }
+    requires aap { (D.view chip.old).counters.aap ≤ 1 }
+    requires ap { (D.view chip.old).counters.ap ≤ 1 }
+    requires writes { (D.view chip.old).counters.writes ≤ 1 }
+    ensures { Kept (D.view chip.old) (D.view chip.new) }
+{
+    chip.write_row(1, 3, &[5])?;
+    chip.aap(1, Addr::D(3), Addr::B(8))?;
+    chip.ap(0, Addr::B(14))
+}
+
 /// What a recorder keeps of a write and of two commands behind its mark: its events, how many bytes
 /// they take, and its file.
 fn recorded(alloc: Global) -> Result<(Vec<u8>, u64, Vec<u8>), Fail> {
     let mut chip = Chip::new(alloc);
-    let mut recorder = Recorder::new(&mut chip, alloc)?;
+    let mut room = Room::new(alloc)?;
+    let mut recorder = Recorder::new(&mut chip, &mut room);
     recorder.begin(SMALL)?;
     recorder.write_row(0, 0, &[7])?;
     recorder.mark();
-    recorder.write_row(1, 3, &[5])?;
-    recorder.aap(1, Addr::D(3), Addr::B(8))?;
-    recorder.ap(0, Addr::B(14))?;
+    act(&mut recorder)?;
     let events = Vec::from_slice(alloc, recorder.events())?;
     let size = recorder.size();
     let table = Table::new(SMALL, alloc)?;

@@ -97,8 +97,10 @@ fn shorter(
 /// A copy stays one. Else the first sequence of the table that the symbolic run finds right stands
 /// for the body. Where there is none, the commands that a beam finds are tried, and else the plain
 /// body stands.
-/// The B cells and the spill rows may hold anything at entry, and are left with anything. Only want
-/// of memory is an `Err`.
+///
+/// The row of an input that is an output too is written after the last command that reads it. The
+/// B cells and the spill rows may hold anything at entry, and are left with anything. Only want of
+/// memory is an `Err`.
 pub fn greedy_body(m: &Mig, outs: &[OutRow], alloc: Global) -> Result<Vec<BodyCmd>, NoMemory>
     requires fit { FitBody m.now outs.now }
     ensures does { IfOk result (λ cmds. DoesBody m.now outs.now cmds.items) }

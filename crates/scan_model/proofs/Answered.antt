@@ -32,10 +32,10 @@ use Rattle.scan_model.specs.Answers.{ScansAnswer}
 use Rattle.scan_model.proofs.InRows.{scan_in_rows, ones_are_found, query_plain}
 
 -- the objects of a table with what the banks hold
-abbrev held_of : Geometry → Banks → Named → Held
+abbrev pub held_of : Geometry → Banks → Named → Held
 held_of g banks p = record { name = p.0; object = p.1; numbers = columns g banks p.1 }
 
-abbrev held_in : Geometry → Banks → List Named → List Held
+abbrev pub held_in : Geometry → Banks → List Named → List Held
 held_in g banks table = map (held_of g banks) table
 
 tables : (g : Geometry) (banks : Banks) (table : List Named)
@@ -55,7 +55,8 @@ element_case : (g : Geometry) (banks : Banks) (e : ℕ) (found : Option Named)
 element_case g banks e None = sym (no_number (below (segments g nothing) banks) e)
 element_case g banks e (Some p) = refl
 
-elements : (g : Geometry) (banks : Banks) (table : List Named) (e : ℕ) (name : List ℕ)
+-- an element's numbers, as the state knows them and as the banks hold them
+pub elements : (g : Geometry) (banks : Banks) (table : List Named) (e : ℕ) (name : List ℕ)
     → element (held_in g banks table) e name ≡ element_in g banks table e name
 elements g banks table e name =
     ap (λ (found : Option Held). get_or (unwrap_or (option_map (λ (h : Held). h.numbers) found)

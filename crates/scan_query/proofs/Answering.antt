@@ -389,3 +389,8 @@ counters_end a b s t u nodes n counts ready ran read aap ap' =
     ∙ ap (with_counts s.counters) (sym (difference s.counters t.counters
     (sum_of (replies (geometry_of a) (operations_by a) (table_in a)
     (scan_script (table_in a) nodes))) counts behind aap ap')))
+
+-- the checks do not pass and refuse
+pub not_both : (o : Option (ScanWhy × ℕ)) (found : ScanWhy × ℕ) → o ≡ Some found → o ≡ None → ⊥
+not_both (Some x) found e f = cc
+not_both None found e f = cc

@@ -1,8 +1,9 @@
 //! A query on a machine.
 
 ghost use Rattle.std.specs.Prelude.{◌≡◌, ◌<◌, ◌≤◌, ◌*◌, ◌++◌, ◌^◌, ◌∷◌, [], List, length, map};
-ghost use Rattle.std.specs.Prelude.{true, None, IfOk, OnErr};
+ghost use Rattle.std.specs.Prelude.{true, Some, None, IfOk, OnErr};
 ghost use Rattle.std.specs.List.{AllByRecursion};
+ghost use Rattle.std.specs.Result.{IsOkAnd};
 ghost use Rattle.fault_counts.specs.Counts.{Rose};
 ghost use Rattle.dram_model.specs.View.{HasBegun, Kept};
 ghost use Rattle.dram_model.specs.Elements.{segments_of};
@@ -15,6 +16,7 @@ ghost use Rattle.sim_machine.specs.Machine.{table_in, turn_in};
 ghost use Rattle.sim_machine.specs.Steps.{DidAndRead};
 ghost use Rattle.scan_model.specs.Queries as model;
 ghost use Rattle.scan_model.specs.Answers.{answer, room_word};
+ghost use Rattle.scan_model.specs.Checks.{checked};
 ghost use Rattle.scan_model.specs.Instructions.{count_of, scan_script};
 ghost use Rattle.scan_model.specs.Operations.{scan_text};
 ghost use Rattle.scan_query.specs.Answers.{CountersRose, GoesOn, IsScan, answer_of, is_done};
@@ -109,6 +111,9 @@ pub fn run_query<D: Dram>(
     ensures answer { IfOk result (λ reply. (t : model.Query) → IsNodesOf t (nodes_in query.now)
         → answer_of reply ≡ answer (geometry_of machine.old) (operations_by machine.old)
         (D.view dram.old).banks (table_in machine.old) t) }
+    // Where a check fails, it is refused, and the chip is as it was.
+    ensures unused { (found : _) → checked (table_in machine.old) (nodes_in query.now) ≡ Some found
+        → IsOkAnd result (λ reply. D.view dram.new ≡ D.view dram.old) }
     ensures did { IfOk result (λ reply. is_done reply ≡ true
         → DidAndRead (events_of_pieces (geometry_of machine.old) (operations_by machine.old)
         (turn_in machine.old) (table_in machine.old)

@@ -9,7 +9,8 @@ use Rattle.host_edge.specs.Views.{SinkView, Told, AppendsPart}
 use Rattle.host_edge.proofs.Tells.{Told-same}
 use Rattle.fault_counts.specs.Counts.{Rose}
 use Rattle.dram_model.specs.declared.dram.Counters.{Counters}
-use Rattle.dram_model.specs.Chip.{Event, Grew, all_counted}
+use Rattle.dram_model.specs.Chip.{Event, all_counted}
+use Rattle.dram_model.proofs.EventLaws.{Grew-none}
 use Rattle.dram_model.specs.View.{ChipView, Did, with_reads}
 use Rattle.dram_model.specs.Elements.{FailedBelow}
 use Rattle.object_alloc.specs.declared.table.Object.{Object}
@@ -174,17 +175,13 @@ same_table m (Order o) e = refl
 pub print_table : (m : Machine) (name : List ℕ) → table_in m ≡ table_behind m (Print name)
 print_table m name = sym (if_same _ (table_in m))
 
-pub grew_nothing : (log : Option (List Event)) → Grew log log []
-grew_nothing None = tt
-grew_nothing (Some events) = sym (append-nil events)
-
 pub nothing_done : (g : Geometry) (operations : Operations) (table : List Named) (name : List ℕ)
     (chip : ChipView) → Did (events_alone g operations table (Free name)) chip chip
 nothing_done g operations table name chip = subst (λ events. Did events chip chip)
     (sym (if_same (refusal g operations table (Free name)) [])) (record {
       banks = refl;
       counters = refl;
-      log = grew_nothing chip.log;
+      log = Grew-none chip.log;
     })
 
 -- what frees an object

@@ -1,8 +1,8 @@
 -- A chip that was opened: the writes of an image's rows.
-use Rattle.std.specs.Prelude.{◌≡◌, ℕ, List, [], map, flat_map, Some}
+use Rattle.std.specs.Prelude.{◌≡◌, ℕ, List, map, flat_map}
 use Rattle.std.specs.List.{range_with_len}
 use Rattle.dram_model.specs.declared.geometry.Geometry.{Geometry}
-use Rattle.dram_model.specs.Chip.{Event, after, all_counted, blank_banks, Grew}
+use Rattle.dram_model.specs.Chip.{Event, LogIs, after, all_counted, blank_banks}
 use Rattle.dram_model.specs.Chip.Event.{Write}
 use Rattle.dram_model.specs.View.{ChipView, HasBegun, no_counts}
 use Rattle.object_alloc.specs.Spelling.{rows_in}
@@ -22,4 +22,4 @@ pub record Opened (g : Geometry) (rows : List ℕ) (chip : ChipView) : Type 0 wh
   pub geometry : chip.geometry ≡ g
   pub banks : chip.banks ≡ after (all_writes g rows) (blank_banks g)
   pub counters : chip.counters ≡ all_counted (all_writes g rows) no_counts
-  pub log : Grew (Some []) chip.log (all_writes g rows)
+  pub log : LogIs (all_writes g rows) chip.log

@@ -41,7 +41,7 @@ use bit_rows::{Value, WIDTH_MAX};
 use dram_model::{ChipFault, Dram, Geometry};
 use host_edge::{Failed, Sink};
 use machine_model::Reply;
-use object_alloc::{Image, Table, put_head};
+use object_alloc::{Image, OBJECTS_MAX, Table, put_head};
 use object_steps::{StepFault, load, print};
 use std::alloc::Global;
 use text_lex::Name;
@@ -362,6 +362,33 @@ impl<'a> Machine<'a> {
     {
         self.file.clear();
         put_head(&mut self.file, self.geometry, &self.table);
+        read_image(dram, self.geometry, &mut self.stage, &mut self.file)
+    }
+
+    /// Reads every row of the chip, and spells the image file with these objects in place of the
+    /// machine's own. It takes no memory.
+    pub fn image_with<D: Dram>(&mut self, table: &Table, dram: &mut D) -> Result<(), ChipFault>
+        requires ready { IsReady self.old }
+        requires begun { HasBegun (D.view dram.old) }
+        requires geometry { (D.view dram.old).geometry ≡ geometry_of self.old }
+        requires room { (D.view dram.old).counters.reads < 2 ^ 62 }
+        ensures borrow { D.borrow dram.new ≡ D.borrow dram.old }
+        ensures kept { Kept (D.view dram.old) (D.view dram.new) }
+        ensures did { OnOk result (DidRead ((geometry_of self.old).banks
+            * (geometry_of self.old).rows) (D.view dram.old) (D.view dram.new)) }
+        ensures file { OnOk result (file_of self.new ≡ image_bytes (geometry_of self.old)
+            table.now.pairs (rows_of (D.view dram.old).banks)) }
+        ensures ready { OnOk result (IsReady self.new) }
+        ensures program { program_of self.new ≡ program_of self.old }
+        ensures shape { geometry_of self.new ≡ geometry_of self.old }
+        ensures table { table_in self.new ≡ table_in self.old }
+        ensures turn { turn_in self.new ≡ turn_in self.old }
+        ensures failed { OnErr result (Rose (D.view dram.old).faults (D.view dram.new).faults) }
+        ensures untold { Grew (D.view dram.old).log (D.view dram.new).log [] }
+    {
+        prove!(usize::from(table.len()) <= OBJECTS_MAX);
+        self.file.clear();
+        put_head(&mut self.file, self.geometry, table);
         read_image(dram, self.geometry, &mut self.stage, &mut self.file)
     }
 

@@ -231,12 +231,15 @@ fn changed_files_are_refused(rt: HostRuntime) -> Result<(), Fail> {
     Ok(())
 }
 
-// One byte less.
+// Cut to each length, the file ends within a field.
 #[test]
-fn a_shorter_file_is_refused(rt: HostRuntime) -> Result<(), Fail> {
-    let (status, out) = answer(&["list", "prog"], &XOR[..98], rt.alloc())?;
-    assert_eq!(rt; status, 5);
-    assert_eq!(rt; text(&out), "program byte 98 short\n");
+fn shorter_files_are_refused(rt: HostRuntime) -> Result<(), Fail> {
+    let alloc = rt.alloc();
+    for len in 0..99usize {
+        let (status, out) = answer(&["list", "prog"], &XOR[..len], alloc)?;
+        let line = format!(in alloc; "program byte {len} short\n")?;
+        assert_eq!(rt; (text(&out), status), (line.as_str(), 5));
+    }
     Ok(())
 }
 

@@ -3,6 +3,7 @@
 use dram_chip::Chip;
 use host_edge::{MemFolder, MemSink};
 use simdram_cli::simdram;
+use std::alloc::{AllocError, Global};
 use std::test::*;
 
 static WORDS: [&str; 3] = ["compile", "ops", "prog"];
@@ -78,5 +79,48 @@ fn texts_are_compiled(rt: HostRuntime) -> Result<(), Fail> {
             assert!(rt; case.ops.len() > 0 || prog.len() == 8);
         }
     }
+    Ok(())
+}
+
+/// A text of 32 ops of 16 statements, the most that there may be.
+fn greatest(alloc: Global) -> Result<String, AllocError> {
+    let mut text = String::new(alloc);
+    for k in 0..32u32 {
+        let head = format!(in alloc; "op f{k}(a: word, b: word) -> y: word {{ ")?;
+        text.push_str(head.as_str())?;
+        for j in 0..15u32 {
+            let statement = format!(in alloc; "t{j} = mul(a, b); ")?;
+            text.push_str(statement.as_str())?;
+        }
+        text.push_str("y = mul(a, b); }\n")?;
+    }
+    Ok(text)
+}
+
+/// What each of its entries costs at width 1: 13 AAP a product, a bit for the products and a row
+/// for each of 15 words.
+fn costs(alloc: Global) -> Result<String, AllocError> {
+    let mut text = String::new(alloc);
+    for k in 0..32u32 {
+        let line = format!(in alloc; "f{k} aap=208 ap=0 rows=16\n")?;
+        text.push_str(line.as_str())?;
+    }
+    Ok(text)
+}
+
+#[test]
+fn the_greatest_file_is_taken(rt: HostRuntime) -> Result<(), Fail> {
+    let alloc = rt.alloc();
+    let mut files = MemFolder::new(alloc);
+    let text = greatest(alloc)?;
+    files.put_file("ops", text.as_bytes()).ok().ok_or("memory")?;
+    let mut out = MemSink::new(alloc);
+    let mut chip = Chip::new(alloc);
+    assert_eq!(rt; simdram(&WORDS, &mut files, &mut out, &mut chip, alloc), 0);
+    assert_eq!(rt; out.bytes(), b"compiled 32\n".as_slice());
+    let mut out = MemSink::new(alloc);
+    let words = ["cost", "prog", "1"];
+    assert_eq!(rt; simdram(&words, &mut files, &mut out, &mut chip, alloc), 0);
+    assert_eq!(rt; out.bytes(), costs(alloc)?.as_bytes());
     Ok(())
 }

@@ -234,3 +234,28 @@ fn an_endless_program_is_refused(rt: HostRuntime) -> Result<(), Fail> {
         rt.alloc(),
     )
 }
+
+// Cut to each length, the image ends within a field. Nothing is stored.
+#[test]
+fn shorter_images_are_refused(rt: HostRuntime) -> Result<(), Fail> {
+    let alloc = rt.alloc();
+    let whole = image(1, BEFORE, alloc)?;
+    let mut chip = Chip::new(alloc);
+    for len in 0..598usize {
+        let mut files = MemFolder::new(alloc);
+        files.put_file("prog", &XOR).ok().ok_or("memory")?;
+        files
+            .put_file("script", XOR_LINE.as_bytes())
+            .ok()
+            .ok_or("memory")?;
+        let cut = whole.get(..len).ok_or("no image")?;
+        files.put_file("image", cut).ok().ok_or("memory")?;
+        let mut out = MemSink::new(alloc);
+        let words = ["exec", "prog", "script", "image", "out"];
+        let status = simdram(&words, &mut files, &mut out, &mut chip, alloc);
+        let line = format!(in alloc; "image byte {len} short\n")?;
+        assert_eq!(rt; (text(&out), status), (line.as_str(), 7));
+        assert_eq!(rt; files.file("out"), None);
+    }
+    Ok(())
+}

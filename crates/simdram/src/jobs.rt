@@ -19,7 +19,7 @@ struct Job {
     y: &'static [Value],
 }
 
-static JOBS: [Job; 21] = [
+static JOBS: [Job; 29] = [
     Job {
         ops: "op carry(a: word, b: word) -> c: bit { serial up (c = 0) { c = maj(a, b, c); } }",
         script: "bbop_carry y, a, b, 64, 8",
@@ -217,6 +217,82 @@ static JOBS: [Job; 21] = [
         b: &[],
         y_width: 128,
         y: &[128, 2],
+    },
+    // a state that begins with 1, from the high bits down: which zeros lead
+    Job {
+        ops: "op lead(a: word, b: word) -> y: word { serial down (s = 1) { \
+            y = and(not(a), s); s = and(not(a), s); } }",
+        script: "bbop_lead y, a, b, 64, 8",
+        n: 8,
+        a: &[200, 5, 0],
+        b: &[],
+        y_width: 8,
+        y: &[0, 248, 255],
+    },
+    // a state that no position changes
+    Job {
+        ops: "op flip(a: word, b: word) -> y: word { serial up (s = 1) { y = xor(a, s); } }",
+        script: "bbop_flip y, a, b, 64, 8",
+        n: 8,
+        a: &[200, 0],
+        b: &[],
+        y_width: 8,
+        y: &[55, 255],
+    },
+    // the operations on bits
+    Job {
+        ops: "op n(a: bit, b: bit) -> y: bit { y = not(a); }",
+        script: "bbop_n y, a, b, 64, 1",
+        n: 1,
+        a: &[0, 0, 1, 1],
+        b: &[0, 1, 0, 1],
+        y_width: 1,
+        y: &[1, 1, 0, 0],
+    },
+    Job {
+        ops: "op a(a: bit, b: bit) -> y: bit { y = and(a, b); }",
+        script: "bbop_a y, a, b, 64, 1",
+        n: 1,
+        a: &[0, 0, 1, 1],
+        b: &[0, 1, 0, 1],
+        y_width: 1,
+        y: &[0, 0, 0, 1],
+    },
+    Job {
+        ops: "op o(a: bit, b: bit) -> y: bit { y = or(a, b); }",
+        script: "bbop_o y, a, b, 64, 1",
+        n: 1,
+        a: &[0, 0, 1, 1],
+        b: &[0, 1, 0, 1],
+        y_width: 1,
+        y: &[0, 1, 1, 1],
+    },
+    Job {
+        ops: "op x(a: bit, b: bit) -> y: bit { y = xor(a, b); }",
+        script: "bbop_x y, a, b, 64, 1",
+        n: 1,
+        a: &[0, 0, 1, 1],
+        b: &[0, 1, 0, 1],
+        y_width: 1,
+        y: &[0, 1, 1, 0],
+    },
+    Job {
+        ops: "op c(a: bit, b: bit) -> y: bit { y = copy(b); }",
+        script: "bbop_c y, a, b, 64, 1",
+        n: 1,
+        a: &[0, 0, 1, 1],
+        b: &[0, 1, 0, 1],
+        y_width: 1,
+        y: &[0, 1, 0, 1],
+    },
+    Job {
+        ops: "op i(a: bit, b: bit) -> y: bit { t = not(b); y = if_else(a, t, b); }",
+        script: "bbop_i y, a, b, 64, 1",
+        n: 1,
+        a: &[0, 0, 1, 1],
+        b: &[0, 1, 0, 1],
+        y_width: 1,
+        y: &[1, 0, 1, 1],
     },
 ];
 
@@ -550,6 +626,61 @@ fn operations_have_their_counts(rt: HostRuntime) -> Result<(), Fail> {
     let image = image_of(&objects, 128, rt.alloc())?;
     for case in &COUNTS {
         counts(&rt, case, &image, rt.alloc())?;
+    }
+    Ok(())
+}
+
+/// Serial blocks from the lowest bit on over words a, b and x, whose graphs no word operation has,
+/// and how many AAP each takes at 8 bits: those of its known sequence at each position, and one for
+/// a state.
+static BLOCKS: [(&str, u32); 9] = [
+    ("() { y = not(and(a, b)); }", 40),
+    ("() { y = not(or(a, b)); }", 40),
+    ("() { y = and(a, or(b, x)); }", 48),
+    ("() { y = or(and(a, b), not(or(a, b))); }", 56),
+    (
+        "() { let p = or(a, b); let q = maj(not(p), a, b); y = maj(not(q), p, x); }",
+        56,
+    ),
+    (
+        "() { let m = maj(not(a), b, x); let k = maj(a, not(b), m); y = maj(not(x), k, m); }",
+        56,
+    ),
+    (
+        "(c = 0) { let p = or(a, c); let q = maj(not(p), a, c); y = and(not(q), p); c = q; }",
+        65,
+    ),
+    (
+        "(c = 0) { let m = maj(not(a), b, c); let q = maj(not(m), b, c); \
+         y = maj(not(q), a, m); c = q; }",
+        65,
+    ),
+    (
+        "(c = 1) { let m = maj(not(a), b, c); let q = maj(a, not(b), c); \
+         y = maj(not(m), c, not(q)); c = q; }",
+        65,
+    ),
+];
+
+#[test]
+fn blocks_have_their_counts(rt: HostRuntime) -> Result<(), Fail> {
+    let alloc = rt.alloc();
+    let word = |name: u8| Object {
+        name,
+        width: 8,
+        numbers: &[],
+    };
+    let objects = [word(b'a'), word(b'b'), word(b'x'), word(b'y')];
+    let image = image_of(&objects, 128, alloc)?;
+    for (block, aap) in BLOCKS {
+        let ops = format!(in alloc;
+            "op f(a: word, b: word, x: word) -> y: word {{ serial up {block} }}"
+        )?;
+        let ended = run(ops.as_str(), "bbop_f y, a, b, x, 64, 8", &image, alloc)?;
+        let report = format!(in alloc;
+            "1 ok aap={aap} ap=0\ntotal aap={aap} ap=0 writes=128 reads=128 refused=0\n"
+        )?;
+        assert_eq!(rt; ended.out.bytes(), report.as_bytes(), "{block}");
     }
     Ok(())
 }

@@ -54,12 +54,13 @@ impl Listening {
 }
 
 impl Dram for Listening {
+    ghost use Rattle.std.specs.Prelude.{[]};
     ghost use Rattle.dram_chip.specs.ChipWidth.{chip_width};
     ghost use Rattle.dram_chip.specs.Seen.{chip_view};
 
     ghost view = { λ s. chip_view s.chip };
 
-    ghost borrow = { λ s. 0 };
+    ghost borrow = { λ s. [] };
 
     ghost width = { λ s. chip_width s.chip };
 
@@ -100,8 +101,8 @@ impl Dram for Listening {
 
 const ADD: &str = "op add(a: word, b: word) -> y: word { y = add(a, b); }";
 
-/// The job of `examples/banks.bbop`: three additions on two banks, as one wave, of which each reads
-/// what the one before it gives.
+/// The job of `examples/banks/banks.bbop`: three additions on two banks, as one wave, of which each
+/// reads what the one before it gives.
 const JOB: &str = "bbop_trsp_init a, 70, 8\nbbop_trsp_init b, 70, 8\nbbop_trsp_init t, 70, 8\n\
     bbop_trsp_init u, 70, 8\nbbop_trsp_init v, 70, 8\nfill a, 1\nfill b, 2\n\
     bbop_add t, a, b, 70, 8\nbbop_add u, t, a, 70, 8\nbbop_add v, u, t, 70, 8\nprint v\n";

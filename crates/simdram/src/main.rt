@@ -35,6 +35,8 @@ mod operations;
 #[cfg(test)]
 mod runs;
 #[cfg(test)]
+mod scanned;
+#[cfg(test)]
 mod scripts;
 #[cfg(test)]
 mod shown;

@@ -260,7 +260,8 @@ fn text_of(operation: &Operation, alloc: Global) -> Result<String, AllocError> {
     )
 }
 
-/// 64 numbers below 2^n: corners first, then words of a generator.
+/// 64 numbers below 2^n: corners first, then words of a generator. The corners of two seeds meet in
+/// several pairs, a number over 0 and 0 by the seeds 3 and 5 among them.
 fn numbers(n: u8, seed: u64, alloc: Global) -> Result<Vec<Value>, AllocError> {
     let all = ones(n);
     let corners = [0, 1, all, half(n), all / 2, all ^ 1, 7, 200];
@@ -270,7 +271,8 @@ fn numbers(n: u8, seed: u64, alloc: Global) -> Result<Vec<Value>, AllocError> {
         word = word
             .wrapping_mul(6_364_136_223_846_793_005)
             .wrapping_add(1_442_695_040_888_963_407);
-        let corner = corners.get((k.wrapping_mul(seed) % 8) as usize).copied();
+        let place = k.wrapping_mul(seed).wrapping_add(k / 8) % 8;
+        let corner = corners.get(place as usize).copied();
         let number = if k < 24 {
             corner.unwrap_or(0)
         } else {

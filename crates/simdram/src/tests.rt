@@ -163,6 +163,9 @@ fn first_job_writes_its_files(rt: HostRuntime) -> Result<(), Fail> {
     let mut chip = Chip::new(alloc);
     assert_eq!(rt; simdram(&WORDS, &mut files, &mut out, &mut chip, alloc), 0);
     assert_eq!(rt; files.file("prog").map(|bytes| bytes.len()), Some(131));
+    assert_eq!(rt; files.file("ops"), Some(AND.as_bytes()));
+    assert_eq!(rt; files.file("script"), Some(JOB.as_bytes()));
+    assert_eq!(rt; files.file("image"), Some(before.as_slice()));
     let after = files.file("out").ok_or("no image")?;
     assert_eq!(rt; after.len(), 622);
     // 0x0C and 0x0A is 0x08, in row 2; all others below the spill group's 32 rows are as they were
@@ -250,22 +253,20 @@ fn files_that_cannot_be_read_are_told(rt: HostRuntime) -> Result<(), Fail> {
     Ok(())
 }
 
-/// A run with one call that fails: a call of the folder, a put, or a call of the chip.
+/// A run with one call that fails, of the folder or of the sink.
 struct Failing {
     folder_call: u64,
     put: u64,
-    chip_call: u64,
     status: u8,
     report: &'static str,
     prog_stored: bool,
     out_stored: bool,
 }
 
-static FAILINGS: [Failing; 11] = [
+static FAILINGS: [Failing; 7] = [
     Failing {
         folder_call: 1,
         put: 0,
-        chip_call: 0,
         status: 2,
         report: "cannot read ops\n",
         prog_stored: false,
@@ -274,7 +275,6 @@ static FAILINGS: [Failing; 11] = [
     Failing {
         folder_call: 2,
         put: 0,
-        chip_call: 0,
         status: 3,
         report: "cannot write prog\n",
         prog_stored: false,
@@ -283,7 +283,6 @@ static FAILINGS: [Failing; 11] = [
     Failing {
         folder_call: 3,
         put: 0,
-        chip_call: 0,
         status: 2,
         report: "cannot read script\n",
         prog_stored: true,
@@ -292,7 +291,6 @@ static FAILINGS: [Failing; 11] = [
     Failing {
         folder_call: 4,
         put: 0,
-        chip_call: 0,
         status: 2,
         report: "cannot read image\n",
         prog_stored: true,
@@ -301,7 +299,6 @@ static FAILINGS: [Failing; 11] = [
     Failing {
         folder_call: 5,
         put: 0,
-        chip_call: 0,
         status: 3,
         report: "1 ok aap=4 ap=0\ncannot write out\n",
         prog_stored: true,
@@ -310,7 +307,6 @@ static FAILINGS: [Failing; 11] = [
     Failing {
         folder_call: 0,
         put: 1,
-        chip_call: 0,
         status: 3,
         report: "",
         prog_stored: true,
@@ -319,45 +315,8 @@ static FAILINGS: [Failing; 11] = [
     Failing {
         folder_call: 0,
         put: 2,
-        chip_call: 0,
         status: 3,
         report: "1 ok aap=4 ap=0\n",
-        prog_stored: true,
-        out_stored: true,
-    },
-    Failing {
-        folder_call: 0,
-        put: 0,
-        chip_call: 1,
-        status: 9,
-        report: "chip fault\n",
-        prog_stored: true,
-        out_stored: false,
-    },
-    Failing {
-        folder_call: 0,
-        put: 0,
-        chip_call: 69,
-        status: 9,
-        report: "chip fault\n",
-        prog_stored: true,
-        out_stored: false,
-    },
-    Failing {
-        folder_call: 0,
-        put: 0,
-        chip_call: 133,
-        status: 9,
-        report: "1 ok aap=4 ap=0\nchip fault\n",
-        prog_stored: true,
-        out_stored: false,
-    },
-    Failing {
-        folder_call: 0,
-        put: 0,
-        chip_call: 134,
-        status: 0,
-        report: "1 ok aap=4 ap=0\ntotal aap=4 ap=0 writes=64 reads=64 refused=0\n",
         prog_stored: true,
         out_stored: true,
     },
@@ -372,12 +331,49 @@ fn one_failing_call_is_told(rt: HostRuntime) -> Result<(), Fail> {
         files.fail_at(case.folder_call).ok().ok_or("memory")?;
         let mut out = MemSink::new(alloc);
         out.fail_at(case.put).ok().ok_or("memory")?;
-        let mut chip = FailingChip::new(alloc, vec![in alloc; case.chip_call]?);
+        let mut chip = Chip::new(alloc);
         let status = simdram(&WORDS, &mut files, &mut out, &mut chip, alloc);
         assert_eq!(rt; status, case.status);
         assert_eq!(rt; out.bytes(), case.report.as_bytes());
         assert_eq!(rt; files.file("prog").is_some(), case.prog_stored);
         assert_eq!(rt; files.file("out").is_some(), case.out_stored);
+    }
+    Ok(())
+}
+
+/// What is sent where one call of the chip fails, its status, and whether OUT is stored: 65 calls
+/// open the chip, 4 do the bbop, and 64 read the rows; there is no call 134.
+fn ended_by(chip_call: u64) -> (&'static str, u8, bool) {
+    if chip_call <= 69 {
+        ("chip fault\n", 9, false)
+    } else if chip_call <= 133 {
+        ("1 ok aap=4 ap=0\nchip fault\n", 9, false)
+    } else {
+        (
+            "1 ok aap=4 ap=0\ntotal aap=4 ap=0 writes=64 reads=64 refused=0\n",
+            0,
+            true,
+        )
+    }
+}
+
+#[test]
+fn each_call_of_the_chip_may_fail(rt: HostRuntime) -> Result<(), Fail> {
+    let alloc = rt.alloc();
+    let image = image(alloc)?;
+    for chip_call in 1..135u64 {
+        let mut files = folder(AND, JOB, &image, alloc)?;
+        let mut out = MemSink::new(alloc);
+        let mut chip = FailingChip::new(alloc, vec![in alloc; chip_call]?);
+        let status = simdram(&WORDS, &mut files, &mut out, &mut chip, alloc);
+        let (report, wanted, stored) = ended_by(chip_call);
+        assert_eq!(rt;
+            (out.bytes(), status),
+            (report.as_bytes(), wanted),
+            "call {chip_call}"
+        );
+        assert!(rt; files.file("prog").is_some());
+        assert_eq!(rt; files.file("out").is_some(), stored);
     }
     Ok(())
 }

@@ -10,6 +10,7 @@ use Rattle.dram_model.specs.declared.geometry.Geometry.{Geometry}
 use Rattle.simdram_cli.specs.declared.words.Command.{Command}
 use Rattle.simdram_cli.specs.declared.words.Command.TheVariants.{Run, Exec, Compile, Show, Migrate}
 use Rattle.simdram_cli.specs.declared.words.Command.TheVariants.{Cost, List as ListOf, Init, Soak}
+use Rattle.simdram_cli.specs.declared.words.Command.TheVariants.{Scan}
 use Rattle.simdram_cli.specs.Words.{HasNumbers, IsApart, are_apart, command_of, command_on_one}
 use Rattle.simdram_cli.specs.Words.{command_on_four, command_on_two, cost_on, init_on}
 use Rattle.simdram_cli.specs.Words.{inputs_apart, is_number, soak_on, value_of}
@@ -98,8 +99,10 @@ on_two_right : (verb : List ℕ) (first second : Bor (List ℕ))
 on_two_right verb first second apart =
     either (bytes_eq verb (codes "compile")) (Some (Compile (record
     { ops = first; prog = second }))) _ (record { apart = apart; numbers = tt }) (λ other.
-    if_so (bytes_eq verb (codes "migrate")) (Migrate (record { old = first; new = second }))
-    (λ e. record { apart = apart; numbers = tt }))
+    either (bytes_eq verb (codes "migrate")) (Some (Migrate (record { old = first; new = second })))
+    _ (record { apart = apart; numbers = tt }) (λ neither.
+    if_so (bytes_eq verb (codes "scan")) (Scan (record { query = first; image = second }))
+    (λ e. record { apart = apart; numbers = tt })))
 
 on_four_right : (verb : List ℕ) (first second third fourth : Bor (List ℕ))
     → AreRight (command_on_four verb first second third fourth)

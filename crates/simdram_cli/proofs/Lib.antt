@@ -2,6 +2,7 @@ pub mod Joins
 pub mod Reading
 pub mod Scripts
 pub mod Sized
+pub mod Accepting
 pub mod Tallies
 pub mod Sending
 pub mod Piecewise
@@ -19,6 +20,7 @@ pub mod Promised
 pub mod Executing
 pub mod Ended
 pub mod Promising
+pub mod Completing
 pub mod OpenedRows
 pub mod NoWalks
 pub mod Promises
@@ -26,4 +28,5 @@ pub mod Stores
 pub mod Telling
 pub mod Unique
 pub mod Soaking
+pub mod Scanning
 mod Showing

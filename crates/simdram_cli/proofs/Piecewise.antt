@@ -13,10 +13,11 @@ use Rattle.std.proofs.lemmas.List.Recursion.{is_count_by}
 use Rattle.dram_model.specs.declared.dram.Counters.{Counters}
 use Rattle.dram_model.specs.declared.address.Command.TheVariants.{Ap, Aap}
 use Rattle.dram_model.specs.declared.geometry.Geometry.{Geometry}
-use Rattle.dram_model.specs.Chip.{Banks, Event, Grew, after, counted, all_counted}
+use Rattle.dram_model.specs.Chip.{Banks, Event, after, counted, all_counted}
 use Rattle.dram_model.specs.Chip.Event.{Row, Write}
 use Rattle.dram_model.specs.View.{ChipView, with_reads}
 use Rattle.dram_model.proofs.EventLaws.{after-append, all_counted-append, Grew-more}
+use Rattle.dram_model.proofs.EventLaws.{Grew-none}
 use Rattle.object_alloc.specs.Listed.{Named}
 use Rattle.bbop_isa.specs.declared.instr.Instr.{Instr}
 use Rattle.bbop_isa.specs.Forms.{Instruction, view_of}
@@ -185,15 +186,11 @@ did_more es fs n m a b c d e = record {
   log = Grew-more a.log b.log c.log es fs d.log e.log;
 }
 
-grew_none : (log : Option (List Event)) → Grew log log []
-grew_none None = tt
-grew_none (Some events) = sym (append-nil events)
-
 pub did_none : (a : ChipView) → DidAndRead [] 0 a a
 did_none a = record {
   banks = refl;
   counters = let e : a.counters.reads ≡ a.counters.reads + 0 = omega arith in rw (← e) refl;
-  log = grew_none a.log;
+  log = Grew-none a.log;
 }
 
 tally : {X : Type 0} (p : X → Bool) → List X → ℕ

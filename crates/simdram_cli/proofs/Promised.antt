@@ -328,6 +328,7 @@ headline_of names program ops texts refused status old new before after apart co
             ∙ at_own names.prog.now (program_bytes 2 program) before;
         legal = compiled.legal;
         implements = compiled.implements;
+        taken = compiled.taken;
       };
       objects_right = objects_right names.out.now t script i program new.chip refused after d
           (ap (λ (x : Files). x names.out.now) files

@@ -29,10 +29,13 @@ use Rattle.simdram_cli.specs.Inputs.{image_of, image_or_refusal}
 use Rattle.simdram_cli.specs.declared.words.RunNames.{RunNames}
 use Rattle.simdram_cli.specs.declared.words.CompileNames.{CompileNames}
 use Rattle.simdram_cli.specs.declared.words.MigrateNames.{MigrateNames}
+use Rattle.simdram_cli.specs.declared.words.ScanNames.{ScanNames}
 use Rattle.simdram_cli.specs.declared.words.TheConstants.{OPS_MAX, SCRIPT_MAX, IMAGE_MAX, PROG_MAX}
+use Rattle.simdram_cli.specs.declared.words.TheConstants.{QUERY_MAX}
 use Rattle.simdram_cli.specs.declared.words.Command.{Command}
 use Rattle.simdram_cli.specs.declared.words.Command.TheVariants.{Run, Exec, Compile, Show, Migrate}
 use Rattle.simdram_cli.specs.declared.words.Command.TheVariants.{Cost, List as ListOf, Init, Soak}
+use Rattle.simdram_cli.specs.declared.words.Command.TheVariants.{Scan}
 use Rattle.simdram_cli.specs.declared.words.InitNames.{InitNames}
 use Rattle.simdram_cli.specs.declared.account.Account.{Account}
 use Rattle.simdram_cli.specs.declared.account.Account.TheVariants.{Listing, Costs}
@@ -59,6 +62,16 @@ use Rattle.simdram_cli.proofs.Compiling.{compiled}
 use Rattle.simdram_cli.proofs.Initial.{started}
 use Rattle.simdram_cli.proofs.Migrating.{migrated}
 use Rattle.simdram_cli.proofs.Soaking.{soak_of, soaked}
+use Rattle.simdram_cli.proofs.Scanning.{scanned}
+use Rattle.simdram_cli.specs.Queries.{query_in, unless_broken}
+use Rattle.simdram_cli.specs.Scan.{ScanTexts, answer_on, made_steps, put_steps, refusal_on}
+use Rattle.simdram_cli.specs.Scan.{scan_status, scan_steps, use_steps, why_not}
+use Rattle.scan_model.specs.declared.QueryFault.{QueryFault}
+use Rattle.scan_model.specs.declared.ScanWhy.{ScanWhy}
+use Rattle.scan_model.specs.Answers.{Answer, Found as FoundOf, Refused as NotFound}
+use Rattle.scan_model.specs.Checks.{checked}
+use Rattle.scan_model.specs.Queries.{Query, nodes_of}
+use Rattle.scan_model.specs.Texts.{fault_in as query_fault}
 use Rattle.uprog_bin.specs.Reading.{program_in, ProgFault}
 use Rattle.simdram_cli.specs.Commands.{CanAnswer, CommandEnds, OnCommand, Promises}
 use Rattle.simdram_cli.proofs.Running.{apart}
@@ -77,17 +90,17 @@ loading_of P name limit text (Ok x) rest two eleven ten one more =
 loading_of P name limit text (Err r) rest two eleven ten one more =
     ((two, eleven, ten, one), tt)
 
-ops_of : (P : ℕ → Type 0) (fault : Option OpsFault) → P 4
+pub ops_of : (P : ℕ → Type 0) (fault : Option OpsFault) → P 4
     → OfRefusal P (refusal_of (unless_fault fault))
 ops_of P None four = tt
 ops_of P (Some fault) four = four
 
-read_of : (P : ℕ → Type 0) (script : Result (List Instruction) ScriptFault) → P 6
+pub read_of : (P : ℕ → Type 0) (script : Result (List Instruction) ScriptFault) → P 6
     → OfRefusal P (refusal_of (script_or_refusal script))
 read_of P (Ok script) six = tt
 read_of P (Err fault) six = six
 
-image_is : (P : ℕ → Type 0) (found : Result Found ImageFault) → P 7
+pub image_is : (P : ℕ → Type 0) (found : Result Found ImageFault) → P 7
     → OfRefusal P (refusal_of (image_or_refusal found))
 image_is P (Ok found) seven = tt
 image_is P (Err fault) seven = seven
@@ -109,7 +122,7 @@ piece_of P g o table banks number (Wave wave) three nine =
 piece_of P g o table banks number (Alone instr) three nine =
     instr_of P (is_print instr) (line number (said_by g o table banks instr)) three nine
 
-pieces_of : (P : ℕ → Type 0) (g : Geometry) (o : Operations) (table : List Named) (banks : Banks)
+pub pieces_of : (P : ℕ → Type 0) (g : Geometry) (o : Operations) (table : List Named) (banks : Banks)
     (number : ℕ) (pieces : List Piece) → P 3 → P 9
     → OfSteps P (pieces_steps g o table banks number pieces)
 pieces_of P g o table banks number [] three nine = tt
@@ -120,7 +133,7 @@ pieces_of P g o table banks number (piece ∷ rest) three nine =
     (banks_at_end g o table banks (instrs_in piece)) (number + length (instrs_in piece)) rest three
     nine)
 
-work_of : (P : ℕ → Type 0) (out : List ℕ) (program : Program) (script : List Instruction)
+pub work_of : (P : ℕ → Type 0) (out : List ℕ) (program : Program) (script : List Instruction)
     (i : Image) → P 3 → P 9 → P 10 → OfSteps P (work_steps out program script i)
 work_of P out program script i three nine ten = (
   (nine, ten),
@@ -195,17 +208,17 @@ done_so : (P : ℕ → Type 0) (program : Program) (rs : Result (List Instructio
 done_so P program (Ok script) ri zero eight = status_so P program script ri zero eight
 done_so P program (Err r) ri zero eight = zero
 
-job_so : (P : ℕ → Type 0) (program : Program) (texts : Texts) → P 0 → P 8
+pub job_so : (P : ℕ → Type 0) (program : Program) (texts : Texts) → P 0 → P 8
     → P (job_status program texts)
 job_so P program texts zero eight =
     done_so P program (script_in texts.script) (image_of texts.image) zero eight
 
-with_so : (P : ℕ → Type 0) (read : Result Program Refusal) (texts : Texts) → P 0 → P 8
+pub with_so : (P : ℕ → Type 0) (read : Result Program Refusal) (texts : Texts) → P 0 → P 8
     → P (status_with read texts)
 with_so P (Ok program) texts zero eight = job_so P program texts zero eight
 with_so P (Err r) texts zero eight = zero
 
-found_of : (P : ℕ → Type 0) (found : Result (ℕ × Program) ProgFault) → P 5
+pub found_of : (P : ℕ → Type 0) (found : Result (ℕ × Program) ProgFault) → P 5
     → OfRefusal P (refusal_of (program_or_refusal found))
 found_of P (Ok found) five = tt
 found_of P (Err fault) five = five
@@ -236,8 +249,61 @@ account_of_prog P name account text g =
     loading_of P name PROG_MAX text (prog_in text) _ g.two g.eleven g.ten
     (found_of P (program_in text) g.five) (λ program. (g.ten, (g.three, tt)))
 
-init_of : (P : ℕ → Type 0) (names : InitNames) → P 3 → P 10 → OfSteps P (init_steps names)
+pub init_of : (P : ℕ → Type 0) (names : InitNames) → P 3 → P 10 → OfSteps P (init_steps names)
 init_of P names three ten = (ten, (three, tt))
+
+-- the statuses that the steps of a scan can give
+record GivesOfScan (P : ℕ → Type 0) : Type 0 where
+  two : P 2
+  three : P 3
+  seven : P 7
+  nine : P 9
+  ten : P 10
+  eleven : P 11
+  fifteen : P 15
+
+pub broken_of : (P : ℕ → Type 0) (fault : Option QueryFault) → P 15
+    → OfRefusal P (refusal_of (unless_broken fault))
+broken_of P None fifteen = tt
+broken_of P (Some fault) fifteen = fifteen
+
+pub use_of : (P : ℕ → Type 0) (fault : Option (ScanWhy × ℕ)) → P 9 → OfSteps P (use_steps fault)
+use_of P None nine = (nine, tt)
+use_of P (Some fault) nine = tt
+
+pub put_of : (P : ℕ → Type 0) (a : Answer) → P 3 → OfSteps P (put_steps a)
+put_of P (FoundOf found of counts) three = (three, tt)
+put_of P (NotFound why k) three = tt
+
+pub made_of : (P : ℕ → Type 0) (made : Option Program) (q : Query) (i : Image) → P 3 → P 9 → P 10
+    → OfSteps P (made_steps made q i)
+made_of P None q i three nine ten = (ten, tt)
+made_of P (Some program) q i three nine ten = (
+  ten,
+  (
+    (nine, ten),
+    of_more P (use_steps (checked i.table (nodes_of q))) (put_steps (answer_on program q i))
+        (use_of P (checked i.table (nodes_of q)) nine) (put_of P (answer_on program q i) three),
+  ),
+)
+
+scan_of : (P : ℕ → Type 0) (names : ScanNames) (texts : ScanTexts) (made : Option Program)
+    (q : Query) → GivesOfScan P → OfSteps P (scan_steps names texts made q)
+scan_of P names texts made q g =
+    loading_of P names.query.now QUERY_MAX texts.query (query_in texts.query) _ g.two g.eleven g.ten
+    (broken_of P (query_fault texts.query) g.fifteen) (λ t.
+    loading_of P names.image.now IMAGE_MAX texts.image (image_of texts.image) _ g.two g.eleven g.ten
+    (image_is P (image_in texts.image) g.seven) (λ i. made_of P made q i g.three g.nine g.ten))
+
+answer_so : (P : ℕ → Type 0) (a : Answer) → P 0 → P 16 → P (scan_status (why_not a))
+answer_so P (FoundOf found of counts) zero sixteen = zero
+answer_so P (NotFound why k) zero sixteen = sixteen
+
+pub scan_so : (P : ℕ → Type 0) (made : Option Program) (q : Query) (image : Result Image Refusal)
+    → P 0 → P 16 → P (scan_status (refusal_on made q image))
+scan_so P (Some program) q (Ok i) zero sixteen = answer_so P (answer_on program q i) zero sixteen
+scan_so P (Some program) q (Err r) zero sixteen = zero
+scan_so P None q image zero sixteen = zero
 
 -- a command answers one of its statuses
 pub can_answer : (command : Command) (old new : World) (status : ℕ)
@@ -303,6 +369,20 @@ can_answer (Soak seed) old new status e =
     let P : ℕ → Type 0 = CanAnswer (Soak seed) in
     ends_so P (soak_steps seed e.programs) 0 old new status refl
     (soak_of P seed e.programs refl refl refl) e.ends
+can_answer (Scan names) old new status e =
+    let P : ℕ → Type 0 = CanAnswer (Scan names) in
+    let gives : GivesOfScan P = record {
+      two = refl;
+      three = refl;
+      seven = refl;
+      nine = refl;
+      ten = refl;
+      eleven = refl;
+      fifteen = refl;
+    } in
+    ends_so P (scan_steps names e.texts e.made e.query) _ old e.told status
+    (scan_so P e.made e.query (image_of e.texts.image) refl refl)
+    (scan_of P names e.texts e.made e.query gives) e.ends
 
 not_one : (command : Command) (status : ℕ) → CanAnswer command status → status ≡ 1 → ⊥
 not_one (Run names) status can e =
@@ -323,6 +403,8 @@ not_one (Init names) status can e =
     let one : CanAnswer (Init names) 1 = subst (CanAnswer (Init names)) e can in cc
 not_one (Soak seed) status can e =
     let one : CanAnswer (Soak seed) 1 = subst (CanAnswer (Soak seed)) e can in cc
+not_one (Scan names) status can e =
+    let one : CanAnswer (Scan names) 1 = subst (CanAnswer (Scan names)) e can in cc
 
 no_command : (words : List (Bor (List ℕ))) (o : Option Command) (status : ℕ) → command_of words ≡ o
     → OnCommand words (λ command. CanAnswer command status) → status ≡ 1
@@ -371,6 +453,17 @@ apart_of_job status is = record {
   eleven = apart_from_done status is 11 (λ f. cc) (λ f. cc);
 }
 
+apart_of_scan : (status : ℕ) → (status ≡ 0) ⊎ (status ≡ 8) → GivesOfScan (λ s. s ≡ status → ⊥)
+apart_of_scan status is = record {
+  two = apart_from_done status is 2 (λ f. cc) (λ f. cc);
+  three = apart_from_done status is 3 (λ f. cc) (λ f. cc);
+  seven = apart_from_done status is 7 (λ f. cc) (λ f. cc);
+  nine = apart_from_done status is 9 (λ f. cc) (λ f. cc);
+  ten = apart_from_done status is 10 (λ f. cc) (λ f. cc);
+  eleven = apart_from_done status is 11 (λ f. cc) (λ f. cc);
+  fifteen = apart_from_done status is 15 (λ f. cc) (λ f. cc);
+}
+
 -- a command keeps what it promises
 pub promises : (command : Command) (old new : World) (status : ℕ) → IsApart command
     → CommandEnds command old new status → Promises command old new status
@@ -411,6 +504,9 @@ promises (Soak seed) old new status are e = λ is.
     soaked seed old new status is e
     (soak_of (λ s. s ≡ status → ⊥) seed e.programs (apart 3 (λ f. cc) (λ f. cc))
     (apart 9 (λ f. cc) (λ f. cc)) (apart 10 (λ f. cc) (λ f. cc)))
+promises (Scan names) old new status are e = λ is.
+    scanned names old new status is e
+    (scan_of (λ s. s ≡ status → ⊥) names e.texts e.made e.query (apart_of_scan status (inl is)))
 
 -- the words are this command and no other
 pub on_command : (words : List (Bor (List ℕ))) (command : Command) (P : Command → Type 0)

@@ -19,6 +19,7 @@ use Rattle.cli_model.specs.World.{World, world}
 use Rattle.cli_model.specs.Steps.{Take, Store, Refusal, Reason, Refused, NoMemory, Done, Stopped}
 use Rattle.cli_model.specs.Steps.{Goes}
 use Rattle.object_alloc.specs.Reading.{Found, ImageFault, IsFault, Answers, image_in}
+use Rattle.simdram_cli.specs.Accepted.{IsTaken}
 use Rattle.simdram_cli.specs.Inputs.{ops_in, image_of, image_found, image_or_refusal}
 use Rattle.simdram_cli.specs.Inputs.{image_refusal}
 use Rattle.simdram_cli.specs.declared.words.RunNames.{RunNames}
@@ -56,11 +57,18 @@ program_unread ops_name prog_name reason old new n = record {
 pub program_taken : (ops_name prog_name : List ℕ) (ops : List Operation) (program : Program)
     (old mid new : FolderView) → OpsRead ops_name ops old mid
     → IsProgram program → ImplementsAll program (map text_op ops)
+    → IsTaken (program_bytes 2 program) program
     → GoesToStore prog_name program Done mid new → ProgramTaken ops_name prog_name program old new
-program_taken ops_name prog_name ops program old mid new r legal implements g = record {
+program_taken ops_name prog_name ops program old mid new r legal implements taken g = record {
   text = r.text;
   accepted = ops_accepted r.text r.is.accepted;
-  compiled = record { ops = ops; is = r.is; legal = legal; implements = implements };
+  compiled = record {
+    ops = ops;
+    is = r.is;
+    legal = legal;
+    implements = implements;
+    taken = taken;
+  };
   goes = λ sink chip. inl (world mid sink chip, ((refl, r.loaded sink chip), g sink chip));
 }
 
@@ -71,11 +79,12 @@ pub taken_by : {X : Type 0} (ops_name prog_name : List ℕ) (ops : List Operatio
     → OpsRead ops_name ops old mid
     → IfOk result (λ p. IsProgram (program p))
     → IfOk result (λ p. ImplementsAll (program p) (map text_op ops))
+    → IfOk result (λ p. IsTaken (program_bytes 2 (program p)) (program p))
     → IfOk result (λ p. GoesToStore prog_name (program p) Done mid new)
     → IfOk result (λ p. ProgramTaken ops_name prog_name (program p) old new)
-taken_by ops_name prog_name ops program (Ok p) old mid new r legal implements g =
-    program_taken ops_name prog_name ops (program p) old mid new r legal implements g
-taken_by ops_name prog_name ops program (Err stop) old mid new r legal implements g = tt
+taken_by ops_name prog_name ops program (Ok p) old mid new r legal implements taken g =
+    program_taken ops_name prog_name ops (program p) old mid new r legal implements taken g
+taken_by ops_name prog_name ops program (Err stop) old mid new r legal implements taken g = tt
 
 -- OPS was read, and PROG not stored
 pub program_unstored : (ops_name prog_name : List ℕ) (ops : List Operation) (reason : Reason)

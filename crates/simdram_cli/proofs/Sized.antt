@@ -97,7 +97,7 @@ head_size start m is = omega (
   name_size m.name is.name,
 )
 
-directory_small : (ms : List Microprogram) (start : ℕ) → AllByRecursion IsEntry ms
+pub directory_small : (ms : List Microprogram) (start : ℕ) → AllByRecursion IsEntry ms
     → length (directory_bytes start ms) ≤ 27 * length ms
 directory_small [] start are = omega arith
 directory_small (m ∷ ms) start are = omega (

@@ -8,7 +8,8 @@ use Rattle.std.proofs.lemmas.Bool.{leb-true}
 use Rattle.std.specs.List.{range_with_len}
 use Rattle.std.proofs.Math.Nat.{suc-mul}
 use Rattle.dram_model.specs.declared.dram.Counters.{Counters}
-use Rattle.dram_model.specs.Chip.{Event, after, all_counted, Grew}
+use Rattle.dram_model.specs.Chip.{Event, Log, LogIs, after, all_counted, Grew}
+use Rattle.dram_model.proofs.EventLaws.{LogIs-more}
 use Rattle.dram_model.specs.Chip.Event.{Write}
 use Rattle.dram_model.specs.View.{ChipView, DidRead, with_reads}
 use Rattle.dram_model.proofs.EventLaws.{all_counted-append}
@@ -88,14 +89,11 @@ tally_is program script i holds =
     script (opened_counters i.geometry) holds.words holds.fits)
     ∙ rw (zero-add sum.aap, zero-add sum.ap, turned) refl
 
-log_is : (start : List Event) (a b c : Option (List Event)) (events : List Event)
-    → Grew (Some []) a start → Grew a b events → Grew b c []
-    → IfSome c (λ told. told ≡ start ++ events)
-log_is start a b None events g h k = tt
-log_is start a None (Some z) events g h k = absurd k
-log_is start None (Some y) (Some z) events g h k = absurd h
-log_is start (Some x) (Some y) (Some z) events g h k = k ∙ append-nil y ∙ h
-    ∙ ap (λ w. w ++ events) g
+log_is : (start : List Event) (a b c : Option Log) (events : List Event) → LogIs start a
+    → Grew a b events → Grew b c [] → LogIs (start ++ events) c
+log_is start a b c events is g h = subst (λ (all : List Event). LogIs all c)
+    (append-nil (start ++ events))
+    (LogIs-more (start ++ events) [] b c (LogIs-more start events a b is g) h)
 
 pub some_words : (g : Geometry) → is_geometry g ≡ true → 0 < g.words
 some_words g e =

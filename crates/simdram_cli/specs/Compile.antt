@@ -10,6 +10,7 @@ use Rattle.machine_model.specs.Operations.{Program}
 use Rattle.cli_model.specs.World.{World}
 use Rattle.cli_model.specs.Steps.{Step, Take, Store, Put, Goes, loading}
 use Rattle.cli_model.specs.Ends.{Ends, Stores, done_steps}
+use Rattle.simdram_cli.specs.Accepted.{IsTaken}
 use Rattle.simdram_cli.specs.Inputs.{ops_in}
 use Rattle.simdram_cli.specs.declared.words.CompileNames.{CompileNames}
 use Rattle.simdram_cli.specs.declared.words.TheConstants.{OPS_MAX}
@@ -38,14 +39,16 @@ pub record CompileEnds (names : CompileNames) (old new : World) (status : ℕ) :
   pub compiled : Stores names.prog.now (done_steps (compile_steps names program text) ends.ended)
       → IsCompiled text program
 
--- PROG is the version 2 file of a program that a file can hold and that implements the ops of OPS;
--- all other files are as at entry, and how many entries it has was sent
+-- PROG is the version 2 file of a program that a file can hold and that implements the ops of OPS,
+-- and each command that loads a program file takes it; all other files are as at entry, and how
+-- many entries it has was sent
 pub record Compiled (names : CompileNames) (before after : Files) (old new : World) : Type 0 where
   pub ops : List Operation
   pub program : Program
   pub are : Spells (before names.ops.now) ops
   pub legal : IsProgram program
   pub implements : ImplementsAll program (map text_op ops)
+  pub taken : IsTaken (program_bytes 2 program) program
   pub is : after names.prog.now ≡ Some (program_bytes 2 program)
   pub others : (other : List ℕ) → other ≢ names.prog.now → after other ≡ before other
   pub sent : Told (λ x y. y ≡ x ++ compiled_line program) old.sink.sent new.sink.sent

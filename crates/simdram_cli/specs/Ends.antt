@@ -22,6 +22,7 @@ use Rattle.simdram_cli.specs.declared.words.RunNames.{RunNames}
 use Rattle.simdram_cli.specs.declared.job.JobNames.{JobNames}
 use Rattle.simdram_cli.specs.declared.words.TheConstants.{OPS_MAX, IMAGE_MAX}
 use Rattle.simdram_cli.specs.declared.stop.Stop.{Stop}
+use Rattle.simdram_cli.specs.Accepted.{IsTaken}
 use Rattle.simdram_cli.specs.Inputs.{ops_in, script_in, image_of}
 use Rattle.simdram_cli.specs.Stops.{end_of, reason_of}
 use Rattle.simdram_cli.specs.Reads.{IsText}
@@ -29,12 +30,14 @@ use Rattle.simdram_cli.specs.Job.{Texts, work_steps, job_steps, job_status, done
 use Rattle.simdram_cli.specs.Run.{run_steps, job_names}
 use Rattle.simdram_cli.specs.Works.{WorkDone}
 
--- the program is one that a file can hold, and does the ops that the text has
+-- the program is one that a file can hold, and does the ops that the text has; and each command
+-- that loads a program file takes its file
 pub record IsCompiled (text : List ℕ) (program : Program) : Type 0 where
   pub ops : List Operation
   pub is : IsOpsOf text ops
   pub legal : IsProgram program
   pub implements : ImplementsAll program (map text_op ops)
+  pub taken : IsTaken (program_bytes 2 program) program
 
 -- the script was done on the image that was read
 abbrev pub DoneOn : Program → List Instruction → Result Image Refusal → ChipView → ℕ → Type 0

@@ -83,8 +83,8 @@ pub record RowByRow (out : List ℕ) (program : Program) (script : List Instruct
   pub answers : status ≡ done_status (refused_by program script i)
 
 -- Whatever the program does, no instruction of the script changes a row that it may not touch: each
--- but those of its destinations, its granted scratch and the spill group, in the banks of the
--- destination's segments. So its sources and all other objects stay
+-- but those of its one or two destinations, its granted scratch and the spill group, in the banks
+-- of the destinations' segments. So its sources and all other objects stay
 abbrev pub StaysInside : Program → List Instruction → Image → Type 0
 StaysInside program script i =
     (before : List Instruction) (instr : Instruction) (behind : List Instruction) (bank row : ℕ)

@@ -4,7 +4,7 @@ use Rattle.std.specs.Prelude.{None, Result, IfSome, count_by}
 use Rattle.std.specs.List.{AllByRecursion}
 use Rattle.std.specs.Result.{result_ok}
 use Rattle.host_edge.specs.Views.{Files, Told}
-use Rattle.dram_model.specs.Chip.{row_in}
+use Rattle.dram_model.specs.Chip.{LogIs, row_in}
 use Rattle.dram_model.specs.View.{ChipView}
 use Rattle.object_alloc.specs.Spelling.{image_bytes}
 use Rattle.uprog_bin.specs.Spelling.{program_bytes}
@@ -28,6 +28,7 @@ use Rattle.machine_model.specs.Report.{report, said_in_words}
 use Rattle.machine_model.specs.Opened.{Image, row_writes, opened, rows_of, words_of}
 use Rattle.cli_model.specs.World.{World}
 use Rattle.cli_model.specs.Steps.{Refusal}
+use Rattle.simdram_cli.specs.Accepted.{IsTaken}
 use Rattle.simdram_cli.specs.Inputs.{script_in, image_of}
 use Rattle.simdram_cli.specs.declared.words.RunNames.{RunNames}
 use Rattle.simdram_cli.specs.Job.{done_status}
@@ -69,11 +70,13 @@ abbrev pub state_after : Job → List Held
 state_after job = words_at_end job.image.geometry (operations job) (meaning_in job.text)
     (words_of job.image) job.script
 
--- PROG is the spelling of a program, which implements the operations
+-- PROG is the spelling of a program, which implements the operations; and each command that loads
+-- a program file takes it
 pub record ProgramWritten (names : RunNames) (job : Job) (after : Files) : Type 0 where
   pub file : after names.prog.now ≡ Some (program_bytes 2 job.program)
   pub legal : IsProgram job.program
   pub implements : ImplementsAll job.program job.text
+  pub taken : IsTaken (program_bytes 2 job.program) job.program
 
 -- OUT is the spelling of the word machine's table with the chip's rows, in which each object has
 -- exactly its numbers
@@ -101,8 +104,9 @@ pub record CommandsCounted (job : Job) (chip : ChipView) : Type 0 where
       + sum_done rows_printed job.image.geometry (operations job) job.image.table job.script
   pub banks : chip.banks ≡ banks_at_end job.image.geometry (operations_in job.program)
       job.image.table (opened job.image) job.script
-  pub log : IfSome chip.log (λ told. told ≡ row_writes job.image
+  pub log : LogIs (row_writes job.image
       ++ script_events job.image.geometry (operations_in job.program) job.image.table job.script)
+      chip.log
 
 -- what the word machine says of the script, and the line of the totals
 abbrev pub report_of : Job → ChipView → List ℕ

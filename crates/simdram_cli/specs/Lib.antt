@@ -1,7 +1,9 @@
 -- The commands of the program, and what each of them promises.
 pub mod Words
 pub mod Programs
+pub mod Accepted
 pub mod Inputs
+pub mod Queries
 pub mod Stops
 pub mod Reads
 pub mod Job
@@ -16,4 +18,6 @@ pub mod Migrate
 pub mod Accounts
 pub mod Init
 pub mod Soak
+pub mod Scan
 pub mod Commands
+pub mod Complete

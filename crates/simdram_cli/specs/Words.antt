@@ -12,6 +12,7 @@ use Rattle.dram_model.specs.Geometry.{is_geometry}
 use Rattle.simdram_cli.specs.declared.words.Command.{Command}
 use Rattle.simdram_cli.specs.declared.words.Command.TheVariants.{Run, Exec, Compile, Show, Migrate}
 use Rattle.simdram_cli.specs.declared.words.Command.TheVariants.{Cost, List as ListOf, Init, Soak}
+use Rattle.simdram_cli.specs.declared.words.Command.TheVariants.{Scan}
 
 -- no two are equal
 abbrev pub all_differ : List (List ℕ) → Bool
@@ -33,7 +34,9 @@ abbrev pub command_on_two : List ℕ → Bor (List ℕ) → Bor (List ℕ) → O
 command_on_two verb first second =
     if bytes_eq verb (codes "compile") then Some (Compile (record { ops = first; prog = second }))
     else if bytes_eq verb (codes "migrate")
-    then Some (Migrate (record { old = first; new = second })) else None
+    then Some (Migrate (record { old = first; new = second }))
+    else if bytes_eq verb (codes "scan") then Some (Scan (record { query = first; image = second }))
+    else None
 
 -- a word that is decimal digits, and the number that they write, however many they are
 abbrev pub is_number : List ℕ → Bool
@@ -83,7 +86,7 @@ command_on_four verb first second third fourth =
 
 -- the command that the words are: `run OPS PROG SCRIPT IMAGE OUT`, `exec PROG SCRIPT IMAGE OUT`,
 -- `compile OPS PROG`, `show OPS`, `migrate OLD NEW`, `cost PROG N`, `list PROG`,
--- `init BANKS ROWS WORDS OUT` or `soak SEED`
+-- `init BANKS ROWS WORDS OUT`, `soak SEED` or `scan QUERY IMAGE`
 abbrev pub command_of : List (Bor (List ℕ)) → Option Command
 command_of (verb ∷ ops ∷ prog ∷ script ∷ image ∷ out ∷ []) =
     if bytes_eq verb.now (codes "run") && are_apart ops.now prog.now script.now image.now out.now
@@ -110,6 +113,7 @@ IsApart (Cost names) = Unit {0}
 IsApart (ListOf name) = Unit {0}
 IsApart (Init names) = Unit {0}
 IsApart (Soak seed) = Unit {0}
+IsApart (Scan names) = bytes_eq names.query.now names.image.now ≡ false
 
 -- the numbers of a command are a width, a chip's, or a seed
 abbrev pub HasNumbers : Command → Type 0

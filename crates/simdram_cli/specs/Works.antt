@@ -2,7 +2,7 @@
 -- whole of it was.
 use Rattle.std.specs.Prelude.{◌≡◌, ℕ, ◌*◌, List, [], ◌∷◌, ◌++◌, take, Some, IfSome, count_by}
 use Rattle.std.specs.Prelude.{if◌then◌else◌}
-use Rattle.dram_model.specs.Chip.{Grew}
+use Rattle.dram_model.specs.Chip.{LogIs}
 use Rattle.dram_model.specs.View.{ChipView, HasBegun}
 use Rattle.uprog_code.specs.declared.TheConstants.{WALK_MAX}
 use Rattle.bbop_isa.specs.Forms.{Instruction}
@@ -24,7 +24,7 @@ pub record OpenedOn (i : Image) (chip : ChipView) : Type 0 where
   pub geometry : chip.geometry ≡ i.geometry
   pub banks : chip.banks ≡ opened i
   pub counters : chip.counters ≡ opened_counters i.geometry
-  pub log : Grew (Some []) chip.log (row_writes i)
+  pub log : LogIs (row_writes i) chip.log
 
 -- The script was done on the image, row by row, with so many instructions refused: the banks are
 -- what the program's commands leave, the counters count them, and a log that is told has the
@@ -33,8 +33,8 @@ pub record WorkDone (program : Program) (script : List Instruction) (i : Image) 
     (refused : ℕ) : Type 0 where
   pub banks : chip.banks ≡ banks_at_end i.geometry (operations_in program) i.table (opened i) script
   pub counters : chip.counters ≡ tally_by program script i
-  pub log : IfSome chip.log (λ told. told ≡ row_writes i
-      ++ script_events i.geometry (operations_in program) i.table script)
+  pub log : LogIs (row_writes i
+      ++ script_events i.geometry (operations_in program) i.table script) chip.log
   pub refused_is : refused ≡ refused_by program script i
 
 -- what the parts of a script come to, for its proof

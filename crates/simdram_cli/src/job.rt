@@ -28,7 +28,7 @@ pub(crate) struct JobNames<'a> {
 }
 
 /// Why a command stops at an image that is not read.
-fn image_stop<'a>(no: ImageNo) -> Stop<'a>
+pub(crate) fn image_stop<'a>(no: ImageNo) -> Stop<'a>
     ensures { reason_of result ≡ image_reason no }
 {
     match no {

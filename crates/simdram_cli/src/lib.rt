@@ -11,6 +11,7 @@ mod load;
 mod migrate;
 mod perform;
 mod run;
+mod scan;
 mod show;
 mod soak;
 mod stop;
@@ -22,5 +23,5 @@ pub use stop::{Stop, status_of, tell};
 pub use top::{one_job, simdram};
 pub use words::{
     Command, CompileNames, CostNames, ExecNames, IMAGE_MAX, InitNames, MigrateNames, OPS_MAX,
-    PROG_MAX, RunNames, SCRIPT_MAX, command_of, limits,
+    PROG_MAX, QUERY_MAX, RunNames, SCRIPT_MAX, ScanNames, command_of, limits,
 };

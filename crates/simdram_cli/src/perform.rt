@@ -34,7 +34,7 @@ use std::alloc::Global;
 use uprog_bin::ProgView;
 
 /// Opens the machine on an image.
-fn open<'a, 'p, D: Dram>(
+pub(crate) fn open<'a, 'p, D: Dram>(
     prog: ProgView<'p>,
     image: Image<'_>,
     chip: &mut D,

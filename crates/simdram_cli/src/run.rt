@@ -10,6 +10,7 @@ ghost use Rattle.op_text.specs.Language.{operations};
 ghost use Rattle.op_text.specs.Spelling.{MeetRules};
 ghost use Rattle.cli_model.specs.World.{world};
 ghost use Rattle.cli_model.specs.Steps.{Done};
+ghost use Rattle.simdram_cli.specs.Accepted.{IsTaken};
 ghost use Rattle.simdram_cli.specs.Ends.{GoesToStore, ProgramStopped, ProgramTaken, RunGoes};
 ghost use Rattle.simdram_cli.specs.Ends.{StopsAtStore};
 ghost use Rattle.simdram_cli.specs.Stops.{reason_of};
@@ -22,6 +23,7 @@ use crate::words::RunNames;
 use bit_rows::NoMemory;
 use dram_model::Dram;
 use host_edge::{Folder, Sink};
+use op_rules::ops_meet;
 use op_text::Ops;
 use std::alloc::Global;
 use uprog_bin::{ProgView, encode};
@@ -29,13 +31,16 @@ use uprog_code::Program;
 use uprog_gen::compile_ops;
 
 /// The program of ops and its file, where there is memory.
-fn compile(ops: &Ops, alloc: Global) -> Result<(Program, Vec<u8>), NoMemory>
+pub(crate) fn compile(ops: &Ops, alloc: Global) -> Result<(Program, Vec<u8>), NoMemory>
     requires meets { MeetRules (operations ops.now) }
     ensures implements { IfOk result (λ made. ImplementsAll (microprograms_of made.0)
         (map text_op (operations ops.now))) }
     ensures program { IfOk result (λ made. IsProgram (microprograms_of made.0)) }
+    ensures taken { IfOk result (λ made. IsTaken (program_bytes 2 (microprograms_of made.0))
+        (microprograms_of made.0)) }
     ensures file { IfOk result (λ made. made.1.items ≡ program_bytes 2 (microprograms_of made.0)) }
 {
+    ops_meet(ops);
     let Ok(compiled) = compile_ops(ops, alloc) else {
         return Err(NoMemory);
     };
@@ -55,6 +60,8 @@ fn write_program<'a, F: Folder>(
     ensures implements { IfOk result (λ made. ImplementsAll (microprograms_of made.0)
         (map text_op (operations ops.now))) }
     ensures program { IfOk result (λ made. IsProgram (microprograms_of made.0)) }
+    ensures taken { IfOk result (λ made. IsTaken (program_bytes 2 (microprograms_of made.0))
+        (microprograms_of made.0)) }
     ensures file { IfOk result (λ made. made.1.items ≡ program_bytes 2 (microprograms_of made.0)) }
     ensures goes { IfOk result (λ made. GoesToStore name.now (microprograms_of made.0) Done
         (F.view files.old) (F.view files.new)) }
@@ -89,7 +96,7 @@ pub(crate) fn take_program<'a, F: Folder>(
 }
 
 /// The program that a file holds, which was spelled from it.
-fn open_own(file: &[u8]) -> ProgView<'_>
+pub(crate) fn open_own(file: &[u8]) -> ProgView<'_>
     requires { IsProgramFile file.now }
     ensures program { IsProgram result.programs }
     ensures spelled { (programs : List Microprogram) → IsProgram programs

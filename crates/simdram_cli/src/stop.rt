@@ -7,6 +7,7 @@ ghost use Rattle.cli_model.specs.Status.{reason_status, reason_line};
 ghost use Rattle.simdram_cli.specs.Inputs.{kind_word, ops_refusal, script_word, script_refusal};
 ghost use Rattle.simdram_cli.specs.Inputs.{image_word, image_refusal};
 ghost use Rattle.simdram_cli.specs.Programs.{prog_refusal, prog_word};
+ghost use Rattle.simdram_cli.specs.Queries.{query_refusal, query_word, scan_refusal, scan_word};
 ghost use Rattle.simdram_cli.specs.Stops.{reason_of};
 
 use bbop_isa::{ScriptFault, ScriptKind};
@@ -14,6 +15,7 @@ use host_edge::{Failed, Sink};
 use itoa::Buffer;
 use object_alloc::{ImageFault, ImageKind};
 use op_text::{OpsFault, OpsKind};
+use scan_model::{QueryFault, QueryKind, ScanWhy};
 use uprog_bin::{ProgFault, ProgKind};
 
 /// Why a command stopped.
@@ -25,6 +27,8 @@ pub enum Stop<'a> {
     BadProg(ProgFault),
     BadScript(ScriptFault),
     BadImage(ImageFault),
+    BadQuery(QueryFault),
+    ScanRefused(ScanWhy, u8),
     NoMemory,
     CannotWrite(&'a str),
     PutFailed,
@@ -45,6 +49,8 @@ pub fn status_of(stop: Stop<'_>) -> u8
         Stop::ChipFailed => 9,
         Stop::NoMemory => 10,
         Stop::TooLong(_) => 11,
+        Stop::BadQuery(_) => 15,
+        Stop::ScanRefused(_, _) => 16,
     }
 }
 
@@ -200,6 +206,68 @@ fn tell_image<S: Sink>(fault: ImageFault, out: &mut S) -> Result<(), Failed>
     )
 }
 
+/// The end of the line of a query text that breaks this rule.
+fn query_end(kind: QueryKind) -> &'static [u8]
+    ensures { result.now ≡ codes " " ++ query_word kind ++ codes "\n" }
+{
+    match kind {
+        QueryKind::Lex => b" lex\n",
+        QueryKind::Syntax => b" syntax\n",
+        QueryKind::BadName => b" bad_name\n",
+        QueryKind::BadNumber => b" bad_number\n",
+        QueryKind::TooMany => b" too_many\n",
+    }
+}
+
+/// Puts the line of a query text that breaks a rule.
+fn tell_query<S: Sink>(fault: QueryFault, out: &mut S) -> Result<(), Failed>
+    ensures counts { (S.view out.old).faults ≤ (S.view out.new).faults }
+    ensures sent { OnOk result (Told (λ before after. after
+        ≡ before ++ ((query_refusal fault).line)) (S.view out.old).sent (S.view out.new).sent) }
+    ensures part { Told (AppendsPart (query_refusal fault).line) (S.view out.old).sent
+        (S.view out.new).sent }
+    ensures failed { OnErr result (Rose (S.view out.old).faults (S.view out.new).faults) }
+{
+    let mut buffer = Buffer::new();
+    put_three(
+        b"query line ",
+        buffer.format(fault.line).as_bytes(),
+        query_end(fault.kind),
+        out,
+    )
+}
+
+/// The front of the line of a query that is refused.
+fn refused_front(why: ScanWhy) -> &'static [u8]
+    ensures { result.now ≡ codes "query refused " ++ scan_word why ++ codes " " }
+{
+    match why {
+        ScanWhy::NoObject => b"query refused no_object ",
+        ScanWhy::Count => b"query refused count ",
+        ScanWhy::Range => b"query refused range ",
+        ScanWhy::TableFull => b"query refused table_full ",
+        ScanWhy::NoRows => b"query refused no_rows ",
+    }
+}
+
+/// Puts the line of a query that is refused.
+fn tell_scan<S: Sink>(why: ScanWhy, k: u8, out: &mut S) -> Result<(), Failed>
+    ensures counts { (S.view out.old).faults ≤ (S.view out.new).faults }
+    ensures sent { OnOk result (Told (λ before after. after
+        ≡ before ++ ((scan_refusal why k).line)) (S.view out.old).sent (S.view out.new).sent) }
+    ensures part { Told (AppendsPart (scan_refusal why k).line) (S.view out.old).sent
+        (S.view out.new).sent }
+    ensures failed { OnErr result (Rose (S.view out.old).faults (S.view out.new).faults) }
+{
+    let mut buffer = Buffer::new();
+    put_three(
+        refused_front(why),
+        buffer.format(k).as_bytes(),
+        b"\n",
+        out,
+    )
+}
+
 /// Puts the last line. A sink that failed is told nothing.
 pub fn tell<S: Sink>(stop: Stop<'_>, out: &mut S) -> Result<(), Failed>
     ensures counts { (S.view out.old).faults ≤ (S.view out.new).faults }
@@ -218,6 +286,8 @@ pub fn tell<S: Sink>(stop: Stop<'_>, out: &mut S) -> Result<(), Failed>
         Stop::BadProg(fault) => tell_prog(fault, out),
         Stop::BadScript(fault) => tell_script(fault, out),
         Stop::BadImage(fault) => tell_image(fault, out),
+        Stop::BadQuery(fault) => tell_query(fault, out),
+        Stop::ScanRefused(why, k) => tell_scan(why, k, out),
         Stop::NoMemory => put_three(b"no memory\n", b"", b"", out),
         Stop::ChipFailed => put_three(b"chip fault\n", b"", b"", out),
         Stop::PutFailed => put_three(b"", b"", b"", out),

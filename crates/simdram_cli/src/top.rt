@@ -10,11 +10,13 @@ ghost use Rattle.cli_model.specs.Status.{Says, Tells};
 ghost use Rattle.simdram_cli.specs.Accounts.{AccountEnds, IsAsked};
 ghost use Rattle.simdram_cli.specs.Commands.{CanAnswer, CommandEnds, OnCommand, Promises};
 ghost use Rattle.simdram_cli.specs.Compile.{CompileEnds};
+ghost use Rattle.simdram_cli.specs.Complete.{Completes, Spares};
 ghost use Rattle.simdram_cli.specs.Ends.{RunEnds, answer_to};
 ghost use Rattle.simdram_cli.specs.Exec.{ExecEnds};
 ghost use Rattle.simdram_cli.specs.Headline.{OneJob};
 ghost use Rattle.simdram_cli.specs.Init.{init_steps};
 ghost use Rattle.simdram_cli.specs.Migrate.{MigrateEnds};
+ghost use Rattle.simdram_cli.specs.Scan.{ScanEnds};
 ghost use Rattle.simdram_cli.specs.Show.{ShowEnds};
 ghost use Rattle.simdram_cli.specs.Soak.{SoakEnds};
 ghost use Rattle.simdram_cli.specs.Stops.{end_of};
@@ -26,11 +28,12 @@ use crate::exec::exec;
 use crate::init::init;
 use crate::migrate::migrate;
 use crate::run::run;
+use crate::scan::scan;
 use crate::show::show;
 use crate::soak::soak;
 use crate::stop::{Stop, status_of, tell};
 use crate::words::{
-    Command, CompileNames, ExecNames, InitNames, MigrateNames, RunNames, command_of,
+    Command, CompileNames, ExecNames, InitNames, MigrateNames, RunNames, ScanNames, command_of,
 };
 use dram_model::Dram;
 use host_edge::{Folder, Sink};
@@ -173,6 +176,23 @@ fn soak_and_answer<S: Sink, D: Dram>(seed: u64, out: &mut S, chip: &mut D, alloc
     answer(ended, out)
 }
 
+/// Scans, and tells why it stopped or is refused.
+fn scan_and_answer<F: Folder, S: Sink, D: Dram>(
+    names: &ScanNames<'_>,
+    files: &mut F,
+    out: &mut S,
+    chip: &mut D,
+    alloc: Global,
+) -> u8
+    ensures borrow { D.borrow chip.new ≡ D.borrow chip.old }
+    ensures ends { ScanEnds names.now
+        (world (F.view files.old) (S.view out.old) (D.view chip.old))
+        (world (F.view files.new) (S.view out.new) (D.view chip.new)) result }
+{
+    let ended = scan(names, files, out, chip, alloc);
+    answer(ended, out)
+}
+
 /// Does a command.
 fn dispatch<F: Folder, S: Sink, D: Dram>(
     command: &Command<'_>,
@@ -200,6 +220,7 @@ fn dispatch<F: Folder, S: Sink, D: Dram>(
         Command::List(name) => account_and_answer(*name, Account::Listing, files, out, alloc),
         Command::Init(names) => init_and_answer(names, files, out, alloc),
         Command::Soak(seed) => soak_and_answer(*seed, out, chip, alloc),
+        Command::Scan(names) => scan_and_answer(names, files, out, chip, alloc),
     }
 }
 
@@ -212,7 +233,8 @@ fn dispatch<F: Folder, S: Sink, D: Dram>(
 /// `list PROG` its listing; `init BANKS ROWS WORDS OUT` stores the image of such a chip without
 /// objects, whose rows are zeros; `soak SEED` does every word operation with one result at the
 /// widths 1, 8 and 64 on a generator's words, and puts a line for each with its row commands and
-/// the sum of its results. The answer is the exit status.
+/// the sum of its results; `scan QUERY IMAGE` puts how many elements of IMAGE meet QUERY, by
+/// comparisons in the chip. The answer is the exit status.
 pub fn simdram<F: Folder, S: Sink, D: Dram>(
     words: &[&str],
     files: &mut F,
@@ -231,6 +253,15 @@ pub fn simdram<F: Folder, S: Sink, D: Dram>(
     // It goes through its steps, and its first event decides the status, what is sent and which
     // files stand.
     ensures ends { OnCommand words.now (λ command. CommandEnds command
+        (world (F.view files.old) (S.view out.old) (D.view chip.old))
+        (world (F.view files.new) (S.view out.new) (D.view chip.new)) result) }
+    // Where its files are there and accepted and no count of faults rises, it is done, or memory
+    // was wanting.
+    ensures complete { OnCommand words.now (λ command. Completes command
+        (world (F.view files.old) (S.view out.old) (D.view chip.old))
+        (world (F.view files.new) (S.view out.new) (D.view chip.new)) result) }
+    // Want of memory comes before anything is sent and before the chip has begun.
+    ensures memory { OnCommand words.now (λ command. Spares command
         (world (F.view files.old) (S.view out.old) (D.view chip.old))
         (world (F.view files.new) (S.view out.new) (D.view chip.new)) result) }
     // What it promises: of a run that ends with 0 or 8, one job with six promises; of an execution

@@ -22,6 +22,8 @@ pub const PROG_MAX: u64 = 4_194_304;
 
 pub const SCRIPT_MAX: u64 = 16_777_216;
 
+pub const QUERY_MAX: u64 = 65_536;
+
 pub const IMAGE_MAX: u64 = IMAGE_BYTES_MAX as u64;
 
 /// Shows the numbers of the limits that the definitions name.
@@ -29,6 +31,7 @@ pub fn limits()
     ensures ops { OPS_MAX ≡ 65_536 }
     ensures prog { PROG_MAX ≡ 4_194_304 }
     ensures script { SCRIPT_MAX ≡ 16_777_216 }
+    ensures query { QUERY_MAX ≡ 65_536 }
     ensures image { IMAGE_MAX ≡ 67_115_022 }
     ensures width { WIDTH_MAX ≡ 128 }
     ensures walk { WALK_MAX ≡ 2 ^ 26 }
@@ -81,6 +84,13 @@ pub struct InitNames<'a> {
     pub out: &'a str,
 }
 
+/// The files of `scan`.
+#[derive(Clone, Copy)]
+pub struct ScanNames<'a> {
+    pub query: &'a str,
+    pub image: &'a str,
+}
+
 /// A command, with its words.
 #[derive(Clone, Copy)]
 pub enum Command<'a> {
@@ -93,6 +103,7 @@ pub enum Command<'a> {
     List(&'a str),
     Init(InitNames<'a>),
     Soak(u64),
+    Scan(ScanNames<'a>),
 }
 
 /// Whether no two of four names are equal.
@@ -264,6 +275,11 @@ fn command_on_two<'a>(verb: &str, first: &'a str, second: &'a str) -> Option<Com
         Some(Command::Migrate(MigrateNames {
             old: first,
             new: second,
+        }))
+    } else if verb == "scan" {
+        Some(Command::Scan(ScanNames {
+            query: first,
+            image: second,
         }))
     } else {
         None

@@ -7,7 +7,7 @@ use Rattle.host_edge.specs.Views.{FolderView, SinkView, Told, AppendsPart}
 use Rattle.fault_counts.specs.Counts.{Rose}
 use Rattle.dram_model.specs.declared.dram.Counters.{Counters}
 use Rattle.dram_model.specs.View.{Began, ChipView, NotBegun}
-use Rattle.dram_model.proofs.EventLaws.{Did-none, Grew-more}
+use Rattle.dram_model.proofs.EventLaws.{Did-none, Grew-more, LogIs-more}
 use Rattle.uprog_code.specs.Shape.{Microprogram}
 use Rattle.cli_model.specs.World.{World, world}
 use Rattle.cli_model.specs.Steps.{ReadsOnly, Used, Sent}
@@ -216,8 +216,7 @@ left_of seed ms begun last (Ok u) began done =
       all = done.all;
       counters = done.counters ∙ counters_same _ _ _ _ _ _ _ _ (omega (arith, aap_is))
           (omega (arith, ap_is)) (omega (arith, writes_are)) (omega (arith, reads_are));
-      log = Grew-more (Some []) begun.log last.log [] (cases_events seed soak_cases ms) began.log
-          done.log;
+      log = LogIs-more [] (cases_events seed soak_cases ms) begun.log last.log began.log done.log;
     }
 
 -- the chip began, and the cases followed

@@ -1,7 +1,7 @@
 -- What a soak leaves on the chip.
 use Rattle.std.specs.Prelude.{◌≡◌, ℕ, ◌+◌, ◌*◌, List, [], ◌∷◌, ◌++◌, Result, Ok, Err}
-use Rattle.std.specs.Prelude.{Some, None, IfOk, length, sum_by}
-use Rattle.dram_model.specs.Chip.{Event, Grew}
+use Rattle.std.specs.Prelude.{None, IfOk, length, sum_by}
+use Rattle.dram_model.specs.Chip.{Event, Grew, LogIs}
 use Rattle.dram_model.specs.View.{ChipView}
 use Rattle.op_text.specs.WordOps.{second_kind}
 use Rattle.uprog_code.specs.Shape.{Microprogram}
@@ -66,7 +66,7 @@ pub record SoakLeft (seed : ℕ) (ms : List Microprogram) (chip : ChipView) : Ty
     writes = 2 * sum_by source_rows soak_cases;
     reads = 2 * sum_by result_rows soak_cases;
   }
-  pub log : Grew (Some []) chip.log (cases_events seed soak_cases ms)
+  pub log : LogIs (cases_events seed soak_cases ms) chip.log
 
 -- What a soak comes to: the programs of its cases, the steps that it goes through, and what it
 -- leaves on the chip where it is done

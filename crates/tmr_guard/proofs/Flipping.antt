@@ -1,8 +1,9 @@
 -- A read, one bit inverted, and a write.
-use Rattle.std.proofs.Common.{◌≡◌, List, Bool, ◌∙◌, ap, Result, Ok, Err}
+use Rattle.std.proofs.Common.{◌≡◌, ℕ, List, [], ◌∷◌, Bool, ◌∙◌, ap, subst, Result, Ok, Err}
 use Rattle.std.specs.Prelude.{OnOk}
-use Rattle.dram_model.specs.Chip.{Event, after}
-use Rattle.dram_model.specs.View.{ChipView, Did}
+use Rattle.dram_model.specs.Chip.{Event, Grew, after}
+use Rattle.dram_model.specs.View.{ChipView, Did, DidRead}
+use Rattle.dram_model.proofs.EventLaws.{Did-more, Grew-more}
 use Rattle.dram_model.specs.Chip.{Banks, happens, row_in}
 use Rattle.dram_model.specs.Chip.Event.{Write}
 use Rattle.guard_model.specs.declared.Flip.{Flip}
@@ -22,3 +23,24 @@ pub banks_of : {T E : Type 0} (r : Result T E) (es : List Event) (a b : ChipView
     → OnOk r (Did es a b) → after es a.banks ≡ banks → OnOk r (b.banks ≡ banks)
 banks_of (Ok x) es a b banks d e = d.banks ∙ e
 banks_of (Err x) es a b banks d e = tt
+
+-- the log of a read and a write
+pub log_of : {T E : Type 0} (r : Result T E) (bank row : ℕ) (bits other : List Bool)
+    (a b c : ChipView) → DidRead 1 a b → OnOk r (Did (Write bank row bits ∷ []) b c)
+    → bits ≡ other → OnOk r (Grew a.log c.log (Write bank row other ∷ []))
+log_of (Ok x) bank row bits other a b c read wrote e =
+    subst (λ (all : List Bool). Grew a.log c.log (Write bank row all ∷ [])) e
+    (Grew-more a.log b.log c.log [] (Write bank row bits ∷ []) read.log wrote.log)
+log_of (Err x) bank row bits other a b c read wrote e = tt
+
+-- six events, one after another, the last of which may have failed
+pub six_did : {T E : Type 0} (r : Result T E) (e f g h i j : Event)
+    (a b c d k m n : ChipView) → Did (e ∷ []) a b → Did (f ∷ []) b c → Did (g ∷ []) c d
+    → Did (h ∷ []) d k → Did (i ∷ []) k m → OnOk r (Did (j ∷ []) m n)
+    → OnOk r (Did (e ∷ f ∷ g ∷ h ∷ i ∷ j ∷ []) a n)
+six_did (Ok x) e f g h i j a b c d k m n one two three four five six =
+    Did-more (e ∷ []) (f ∷ g ∷ h ∷ i ∷ j ∷ []) a b n one
+    (Did-more (f ∷ []) (g ∷ h ∷ i ∷ j ∷ []) b c n two
+    (Did-more (g ∷ []) (h ∷ i ∷ j ∷ []) c d n three
+    (Did-more (h ∷ []) (i ∷ j ∷ []) d k n four (Did-more (i ∷ []) (j ∷ []) k m n five six))))
+six_did (Err x) e f g h i j a b c d k m n one two three four five six = tt

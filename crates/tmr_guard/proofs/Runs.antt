@@ -9,10 +9,10 @@ use Rattle.std.proofs.lemmas.List.{map-append}
 use Rattle.dram_model.specs.declared.geometry.Geometry.{Geometry}
 use Rattle.dram_model.specs.declared.dram.Counters.{Counters}
 use Rattle.dram_model.specs.declared.address.Command.TheVariants.{Ap, Aap}
-use Rattle.dram_model.specs.Chip.{Event, after, all_counted, counted, Grew}
+use Rattle.dram_model.specs.Chip.{Event, after, all_counted, counted}
 use Rattle.dram_model.specs.Chip.Event.{Row, Write}
 use Rattle.dram_model.specs.View.{ChipView, Did, with_reads}
-use Rattle.dram_model.proofs.EventLaws.{after-append, all_counted-append, Grew-more}
+use Rattle.dram_model.proofs.EventLaws.{after-append, all_counted-append, Grew-more, Grew-none}
 use Rattle.wave_model.specs.Schedule.{Turn, queues, state_behind, state_after, events_of_picks}
 use Rattle.wave_model.specs.Schedule.{picks, whole_picks, in_turn}
 use Rattle.object_alloc.specs.Listed.{Named}
@@ -57,15 +57,11 @@ did_more es fs n m a b c d e = record {
   log = Grew-more a.log b.log c.log es fs d.log e.log;
 }
 
-grew_none : (log : Option (List Event)) → Grew log log []
-grew_none None = tt
-grew_none (Some events) = sym (append-nil events)
-
 no_reads : (k : Counters) → k ≡ with_reads 0 k
 no_reads k = let e : k.reads ≡ k.reads + 0 = omega arith in rw (← e) refl
 
 pub did_none : (a : ChipView) → DidAndRead [] 0 a a
-did_none a = record { banks = refl; counters = no_reads a.counters; log = grew_none a.log }
+did_none a = record { banks = refl; counters = no_reads a.counters; log = Grew-none a.log }
 
 pub did_and_none : (es : List Event) (a b : ChipView) → Did es a b → DidAndRead es 0 a b
 did_and_none es a b d = record {

@@ -19,7 +19,7 @@ use Rattle.scan_query.specs.Queries.{node_of, nodes_in, sources_fit}
 use Rattle.scan_query.specs.Running.{NodesRan, NodesRun, refused_node}
 use Rattle.scan_query.proofs.Answering.{all_done, answer_checked, answer_done, answer_refused}
 use Rattle.scan_query.proofs.Answering.{check_says, counters_end, counts_behind, few_nodes, goes_on, last_is}
-use Rattle.scan_query.proofs.Answering.{leaves, ones_as, plain_nodes, reads_are, rises, room_left}
+use Rattle.scan_query.proofs.Answering.{leaves, not_both, ones_as, plain_nodes, reads_are, rises, room_left}
 use Rattle.scan_query.proofs.Answering.{shaped_as, some_left, sources_fit_all, table_left}
 use Rattle.scan_query.proofs.run.run_query.Goals as goal
 
@@ -379,3 +379,51 @@ returns-clause-goes g c done =
     (subst (λ r. NodesRun (map node_of c.as_slice-nodes.result.now) a b s t (Ok r))
     c.in_default-2.is c.in_ok-why.ensures.runs) in
     goes_on a b s t nodes ran
+
+pub returns-in-Some-2-clause-unused : goal.returns-in-Some-2-clause-unused
+returns-in-Some-2-clause-unused g c found refused =
+    let a = c.args.machine.now in
+    let nodes = nodes_in c.args.query.now in
+    let same = ap (map node_of) c.as_slice-nodes.ensures.value in
+    let checks : checked (table_in a) nodes ≡ None = sym (check_says (table_in a)
+    c.table.result.now.pairs c.table-2.result.now.pairs nodes
+    (map node_of c.as_slice-nodes.result.now) c.count_of-count.result c.check.result
+    c.table.ensures.objects c.table-2.ensures.objects same c.count_of-count.ensures
+    c.check.ensures) ∙ c.in_default.is in
+    absurd (not_both (checked (table_in a) nodes) found refused checks)
+
+pub returns-clause-unused : goal.returns-clause-unused
+returns-clause-unused g c found refused =
+    let a = c.args.machine.now in
+    let nodes = nodes_in c.args.query.now in
+    let same = ap (map node_of) c.as_slice-nodes.ensures.value in
+    let checks : checked (table_in a) nodes ≡ None = sym (check_says (table_in a)
+    c.table.result.now.pairs c.table-2.result.now.pairs nodes
+    (map node_of c.as_slice-nodes.result.now) c.count_of-count.result c.check.result
+    c.table.ensures.objects c.table-2.ensures.objects same c.count_of-count.ensures
+    c.check.ensures) ∙ c.in_default.is in
+    absurd (not_both (checked (table_in a) nodes) found refused checks)
+
+pub returns-in_err-why-clause-unused : goal.returns-in_err-why-clause-unused
+returns-in_err-why-clause-unused g c found refused =
+    let a = c.args.machine.now in
+    let nodes = nodes_in c.args.query.now in
+    let same = ap (map node_of) c.as_slice-nodes.ensures.value in
+    let checks : checked (table_in a) nodes ≡ None = sym (check_says (table_in a)
+    c.table.result.now.pairs c.table-2.result.now.pairs nodes
+    (map node_of c.as_slice-nodes.result.now) c.count_of-count.result c.check.result
+    c.table.ensures.objects c.table-2.ensures.objects same c.count_of-count.ensures
+    c.check.ensures) ∙ c.in_default.is in
+    absurd (not_both (checked (table_in a) nodes) found refused checks)
+
+pub returns-in_err-found-clause-unused : goal.returns-in_err-found-clause-unused
+returns-in_err-found-clause-unused g c found refused =
+    let a = c.args.machine.now in
+    let nodes = nodes_in c.args.query.now in
+    let same = ap (map node_of) c.as_slice-nodes.ensures.value in
+    let checks : checked (table_in a) nodes ≡ None = sym (check_says (table_in a)
+    c.table.result.now.pairs c.table-2.result.now.pairs nodes
+    (map node_of c.as_slice-nodes.result.now) c.count_of-count.result c.check.result
+    c.table.ensures.objects c.table-2.ensures.objects same c.count_of-count.ensures
+    c.check.ensures) ∙ c.in_default.is in
+    absurd (not_both (checked (table_in a) nodes) found refused checks)

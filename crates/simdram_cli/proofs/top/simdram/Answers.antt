@@ -1,6 +1,7 @@
 use Rattle.std.proofs.Common.{sym, ◌∙◌}
 use Rattle.cli_model.specs.World.{world}
 use Rattle.simdram_cli.proofs.Commanding.{command_right}
+use Rattle.simdram_cli.proofs.Completing.{completes_on, spares_on}
 use Rattle.simdram_cli.proofs.Promising.{answers_one, usage_of, keeps_promises}
 use Rattle.simdram_cli.proofs.top.simdram.Goals as goal
 
@@ -31,6 +32,24 @@ returns-in-Some-clause-no_other g c =
 pub returns-in-Some-clause-headline : goal.returns-in-Some-clause-headline
 returns-in-Some-clause-headline g c =
     keeps_promises c.args.words.now c.in-Some.command
+    (world (g.F.Folder.view c.args.files.now) (g.S.Sink.view c.args.out.now)
+    (g.D.Dram.view c.args.chip.now))
+    (world (g.F.Folder.view c.dispatch.new.files) (g.S.Sink.view c.dispatch.new.out)
+    (g.D.Dram.view c.dispatch.new.chip))
+    c.dispatch.result (sym c.command_of.ensures ∙ c.in-Some.is) c.dispatch.ensures.ends
+
+pub returns-in-Some-clause-complete : goal.returns-in-Some-clause-complete
+returns-in-Some-clause-complete g c =
+    completes_on c.args.words.now c.in-Some.command
+    (world (g.F.Folder.view c.args.files.now) (g.S.Sink.view c.args.out.now)
+    (g.D.Dram.view c.args.chip.now))
+    (world (g.F.Folder.view c.dispatch.new.files) (g.S.Sink.view c.dispatch.new.out)
+    (g.D.Dram.view c.dispatch.new.chip))
+    c.dispatch.result (sym c.command_of.ensures ∙ c.in-Some.is) c.dispatch.ensures.ends
+
+pub returns-in-Some-clause-memory : goal.returns-in-Some-clause-memory
+returns-in-Some-clause-memory g c =
+    spares_on c.args.words.now c.in-Some.command
     (world (g.F.Folder.view c.args.files.now) (g.S.Sink.view c.args.out.now)
     (g.D.Dram.view c.args.chip.now))
     (world (g.F.Folder.view c.dispatch.new.files) (g.S.Sink.view c.dispatch.new.out)

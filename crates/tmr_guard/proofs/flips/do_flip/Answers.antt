@@ -1,4 +1,6 @@
-use Rattle.tmr_guard.proofs.Flipping.{banks_of, flip_done}
+use Rattle.std.proofs.Common.{◌∙◌, ap}
+use Rattle.guard_model.specs.Flips.{with_bit_inverted}
+use Rattle.tmr_guard.proofs.Flipping.{banks_of, flip_done, log_of}
 use Rattle.tmr_guard.proofs.flips.do_flip.Goals as goal
 
 pub returns-clause-banks : goal.returns-clause-banks
@@ -10,3 +12,11 @@ returns-clause-banks g c =
     let b = c.in_ok-read_row.ensures.did.banks in
     let e = flip_done c.args.f.now (V c.args.dram.now).banks _ _ _ b r i in
     banks_of c.write_row.result _ _ _ _ h e
+
+pub returns-clause-log : goal.returns-clause-log
+returns-clause-log g c =
+    let V = g.D.Dram.view in
+    let f = c.args.f.now in
+    log_of c.write_row.result f.bank f.row _ _ (V c.args.dram.now) _ (V c.write_row.new.self)
+    c.in_ok-read_row.ensures.did c.write_row.ensures.did (c.invert_column.ensures.bits
+    ∙ ap (with_bit_inverted f.column) c.in_ok-read_row.ensures.read)

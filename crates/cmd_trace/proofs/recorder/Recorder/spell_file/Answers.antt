@@ -8,7 +8,7 @@ use Rattle.cmd_trace.proofs.recorder.Recorder.spell_file.Goals as goal
 
 pub returns-clause-file : goal.returns-clause-file
 returns-clause-file g c =
-    let tape = c.args.self.now.notes in
+    let tape = c.args.self.now.notes.now in
     let table = c.args.table.now.pairs in
     file_of_log (g.D.Dram.view c.args.self.now.dram.now) tape _ table c.requires.begun
     c.requires.told (c.spell.ensures.file

@@ -5,22 +5,22 @@ use Rattle.cmd_trace.proofs.recorder.RecorderDram.ap.Goals as goal
 
 pub keep_command-requires : goal.keep_command-requires
 keep_command-requires g c = few_kept (g.D.Dram.view c.args.self.now.dram.now)
-    c.args.self.now.notes c.args.bank c.requires.begun c.requires.bank
+    c.args.self.now.notes.now c.args.bank c.requires.begun c.requires.bank
 
 pub returns-clause-kept : goal.returns-clause-kept
 returns-clause-kept g c = (did_recorded (Row c.args.bank (Ap c.args.x))
     (g.D.Dram.view c.args.self.now.dram.now) (g.D.Dram.view c.ap.new.self)
-    c.args.self.now.notes c.keep_command.new.self c.requires.begun
+    c.args.self.now.notes.now c.keep_command.new.self c.requires.begun
     (c.requires.bank, c.requires.legal) c.in_ok-ap.ensures.kept c.in_ok-ap.ensures.did
     c.keep_command.ensures).kept
 
 pub returns-clause-did : goal.returns-clause-did
 returns-clause-did g c = (did_recorded (Row c.args.bank (Ap c.args.x))
     (g.D.Dram.view c.args.self.now.dram.now) (g.D.Dram.view c.ap.new.self)
-    c.args.self.now.notes c.keep_command.new.self c.requires.begun
+    c.args.self.now.notes.now c.keep_command.new.self c.requires.begun
     (c.requires.bank, c.requires.legal) c.in_ok-ap.ensures.kept c.in_ok-ap.ensures.did
     c.keep_command.ensures).did
 
 pub returns-in_err-ap-clause-kept : goal.returns-in_err-ap-clause-kept
 returns-in_err-ap-clause-kept g c = same_kept (g.D.Dram.view c.args.self.now.dram.now)
-    (g.D.Dram.view c.ap.new.self) c.args.self.now.notes c.in_err-ap.ensures.kept
+    (g.D.Dram.view c.ap.new.self) c.args.self.now.notes.now c.in_err-ap.ensures.kept

@@ -1,0 +1,106 @@
+-- One instruction with the flips and the vote before it.
+use Rattle.std.proofs.Common.{◌≡◌, ℕ, ◌+◌, ◌<◌, Bool, true, false, cond, List, ◌++◌, length}
+use Rattle.std.proofs.Common.{refl, sym, ◌∙◌, ap, subst, append_assoc}
+use mir.Val.{bool_byte}
+use Rattle.dram_model.specs.declared.dram.Counters.{Counters}
+use Rattle.dram_model.specs.declared.geometry.Geometry.{Geometry}
+use Rattle.dram_model.specs.Chip.{Event, Grew}
+use Rattle.dram_model.specs.View.{ChipView, Did, with_reads}
+use Rattle.dram_model.proofs.EventLaws.{Grew-more}
+use Rattle.object_alloc.specs.Listed.{Named}
+use Rattle.bbop_isa.specs.Forms.{Instruction}
+use Rattle.machine_model.specs.declared.Reply.{Reply}
+use Rattle.machine_model.specs.Laws.{FitsBanks}
+use Rattle.machine_model.specs.Operations.{Operations}
+use Rattle.machine_model.specs.Script.{counters_at_end, is_refused}
+use Rattle.machine_model.proofs.Bounds.{geometry_parts}
+use Rattle.machine_model.proofs.Tables.{fits_banks}
+use Rattle.sim_machine.specs.declared.machine.Machine.{Machine}
+use Rattle.sim_machine.specs.Machine.{IsReady, geometry_of, operations_by, table_in, turn_in}
+use Rattle.sim_machine.specs.Steps.{DidAndRead}
+use Rattle.guard_model.specs.declared.Flip.{Flip}
+use Rattle.guard_model.specs.Flips.{all_flipped}
+use Rattle.guard_model.specs.Votes.{vote_count, vote_events, voted}
+use Rattle.guard_model.specs.Guarded.{guarded_events, guarded_reads, guarded_rows, plain_script}
+use Rattle.guard_model.proofs.Commands.{vote_is_counted, vote_is_events}
+use Rattle.guard_model.proofs.Pieces.{step_is_counted, step_is_events}
+use Rattle.tmr_guard.specs.Steps.{events_by, reads_by, reply_by, table_by, turn_by}
+use Rattle.guard_job.specs.Events.{flip_events}
+use Rattle.guard_job.specs.Parts.{InstrDone, Mended, after_flips, mended_tally}
+use Rattle.guard_job.proofs.Tallies.{count_one}
+
+-- flips, and then a vote
+pub mended_by : (g : Geometry) (now : List Flip) (table : List Named) (n : ℕ) (a b c : ChipView)
+    → b.banks ≡ all_flipped now a.banks → b.counters ≡ after_flips n a.counters
+    → Grew a.log b.log (flip_events now a.banks) → n ≡ length now
+    → Did (vote_events g table) b c → Mended g now table a c
+mended_by g now table n a b c banks counters log count did = record {
+  banks = did.banks ∙ vote_is_events g table b.banks ∙ ap (voted g table) banks;
+  counters = did.counters ∙ vote_is_counted g table b.counters
+      ∙ ap (λ (k : Counters). let d : Counters = record k { aap = k.aap + vote_count g table } in d)
+      counters
+      ∙ ap (λ (m : ℕ). mended_tally m (vote_count g table) a.counters) count;
+  log = Grew-more a.log b.log c.log (flip_events now a.banks) (vote_events g table) log did.log;
+}
+
+-- the banks of a machine that is ready hold its objects
+pub record Holds (m : Machine) : Type 0 where
+  pub words : 0 < (geometry_of m).words
+  pub fits : FitsBanks (geometry_of m) (table_in m)
+
+pub holds_of : (m : Machine) → IsReady m → Holds m
+holds_of m ready = record {
+  words = (geometry_parts (geometry_of m) ready.set.geometry).0;
+  fits = fits_banks (geometry_of m) (table_in m)
+      (record { listed = ready.set.listed; objects = ready.set.objects });
+}
+
+-- a test as a number
+as_number : (b : Bool) → bool_byte b ≡ cond b 1 0
+as_number true = refl
+as_number false = refl
+
+pub byte_is : (n : ℕ) (told is : Bool) → n ≡ bool_byte told → told ≡ is → n ≡ cond is 1 0
+byte_is n told is e f = e ∙ as_number told ∙ ap (λ (b : Bool). cond b 1 0) f
+
+-- what a guarded step of a machine says
+pub record Stepped (m : Machine) (instr : Instruction) (n : Machine) (a b : ChipView)
+    (reply : Reply) : Type 0 where
+  pub tables : table_in n ≡ table_by m instr
+  pub turns : turn_in n ≡ turn_by m instr
+  pub did : DidAndRead (events_by m instr) (reads_by m instr) a b
+  pub answer : reply ≡ reply_by m instr
+
+abbrev instr_counters : Geometry → Operations → List Named → Instruction → Counters → Counters
+instr_counters g o table instr k = with_reads (guarded_reads g o table instr)
+    (counters_at_end g o table (plain_script g o table instr) k)
+
+pub done_by : (m n : Machine) (now : List Flip) (instr : Instruction) (a b c : ChipView)
+    (votes refused : ℕ) (reply : Reply) → Holds m
+    → Mended (geometry_of m) now (table_in m) a b → Stepped m instr n b c reply
+    → votes ≡ vote_count (geometry_of m) (table_in m) → refused ≡ cond (is_refused reply) 1 0
+    → InstrDone (geometry_of m) (operations_by m) now instr (turn_in m) (turn_in n) (table_in m)
+    (table_in n) a c votes refused
+done_by m n now instr a b c votes refused reply holds mended step votes_are refused_is =
+    let g = geometry_of m in
+    let o = operations_by m in
+    let table = table_in m in
+    let own = guarded_events g o (turn_in m) table instr in
+    let joined = Grew-more a.log b.log c.log (flip_events now a.banks ++ vote_events g table) own
+    mended.log step.did.log in
+    record {
+      tables = step.tables;
+      turns = step.turns;
+      banks = step.did.banks
+          ∙ step_is_events g o (turn_in m) table instr b.banks holds.words holds.fits
+          ∙ ap (λ bs. guarded_rows g o table bs instr) mended.banks;
+      counters = step.did.counters
+          ∙ ap (with_reads (guarded_reads g o table instr))
+          (step_is_counted g o (turn_in m) table instr b.counters holds.words holds.fits)
+          ∙ ap (instr_counters g o table instr) mended.counters;
+      log = subst (λ (es : List Event). Grew a.log c.log es)
+          (append_assoc (flip_events now a.banks) (vote_events g table) own) joined;
+      votes_are = votes_are;
+      refused_is = refused_is ∙ ap (λ (r : Reply). cond (is_refused r) 1 0) step.answer
+          ∙ sym (count_one is_refused (reply_by m instr));
+    }

@@ -1,0 +1,127 @@
+-- The end of a guarded script, and its steps one by one.
+use Rattle.std.proofs.Common.{◌≡◌, ℕ, ◌+◌, ◌<◌, ◌≤◌, List, [], ◌∷◌, length, map, drop, get_or}
+use Rattle.std.proofs.Common.{sym, ◌∙◌, ap, subst, arith}
+use Rattle.std.specs.Prelude.{Err}
+use Rattle.std.specs.List.{AllByRecursion}
+use Rattle.std.proofs.lemmas.List.{drop-drop, drop_more}
+use Rattle.dram_model.specs.declared.geometry.Geometry.{Geometry}
+use Rattle.dram_model.specs.declared.dram.Counters.{Counters}
+use Rattle.dram_model.specs.Chip.{Banks}
+use Rattle.dram_model.specs.View.{ChipView}
+use Rattle.object_alloc.specs.Listed.{Named}
+use Rattle.bbop_isa.specs.declared.instr.Instr.{Instr}
+use Rattle.bbop_isa.specs.Forms.{Instruction, view_of}
+use Rattle.machine_model.specs.Operations.{Operations}
+use Rattle.machine_model.specs.Report.{line}
+use Rattle.machine_model.proofs.Parts.{all_parted}
+use Rattle.object_steps.specs.declared.fault.StepFault.{StepFault}
+use Rattle.object_steps.specs.Objects.{RisesAtMost}
+use Rattle.cli_model.specs.World.{World}
+use Rattle.cli_model.specs.Steps.{Use, Goes}
+use Rattle.sim_machine.specs.Machine.{is_print}
+use Rattle.guard_model.specs.declared.Flip.{Flip}
+use Rattle.guard_model.specs.Flips.{all_flipped, due}
+use Rattle.guard_model.specs.FlipText.{AreSorted, IsFlip}
+use Rattle.guard_model.specs.Votes.{voted}
+use Rattle.guard_model.specs.Guarded.{guarded_rows, guarded_said_by}
+use Rattle.guard_model.specs.Guarded.{guarded_table, guarded_tally, mended}
+use Rattle.guard_job.specs.Steps.{end_by, guarded_steps, line_steps}
+use Rattle.guard_job.specs.Parts.{IsCell, Mended}
+use Rattle.guard_job.proofs.Due.{all_due, behind, cells_of, lasts_of}
+use Rattle.guard_job.proofs.Sending.{stops_by}
+use Rattle.guard_job.proofs.Tallies.{tally_ends}
+
+-- the first of what is left, and the others
+pub left_is : (script : List Instr) (done : ℕ) (d : Instr) → done < length script
+    → map view_of (drop done script)
+    ≡ view_of (get_or script done d) ∷ map view_of (drop (done + 1) script)
+left_is script done d l = ap (map view_of) (drop_more script done d l)
+
+-- what holds of all that is left
+pub others_of : (P : Instruction → Type 0) (i : Instruction) (left others : List Instruction)
+    → left ≡ i ∷ others → AllByRecursion P left → AllByRecursion P others
+others_of P i left others e all =
+    let both : AllByRecursion P (i ∷ others) = subst (AllByRecursion P) e all in both.1
+
+pub first_of : (P : Instruction → Type 0) (i : Instruction) (left others : List Instruction)
+    → left ≡ i ∷ others → AllByRecursion P left → P i
+first_of P i left others e all =
+    let both : AllByRecursion P (i ∷ others) = subst (AllByRecursion P) e all in both.0
+
+-- what holds of all flips that are left
+pub flips_behind : (P : Flip → Type 0) (n at : ℕ) (flips : List Flip)
+    → AllByRecursion P (drop at flips) → AllByRecursion P (drop (at + n) flips)
+flips_behind P n at flips all = subst (AllByRecursion P) (drop-drop n at flips)
+    (all_parted P n (drop at flips) all).1
+
+-- a script whose first instruction was not done
+pub stops_here : (X : Type 0) (fault : StepFault) (g : Geometry) (o : Operations)
+    (flips now : List Flip) (k : ℕ) (table : List Named) (banks : Banks) (instr : Instruction)
+    (others left : List Instruction) (a b : World) → left ≡ instr ∷ others
+    → due k now ≡ due k flips
+    → Goes (Use ∷ line_steps (is_print instr) (line k (guarded_said_by g o table
+    (mended g now k table banks) instr))) (end_by {X = X} (Err fault)) a b
+    → Goes (guarded_steps g o flips k table banks left) (end_by {X = X} (Err fault)) a b
+stops_here X fault g o flips now k table banks instr others left a b e same go =
+    let here = subst (λ (ds : List Flip). Goes (Use ∷ line_steps (is_print instr)
+    (line k (guarded_said_by g o table (voted g table (all_flipped ds banks)) instr)))
+    (end_by {X = X} (Err fault)) a b) same go in
+    subst (λ (script : List Instruction). Goes (guarded_steps g o flips k table banks script)
+    (end_by {X = X} (Err fault)) a b) (sym e)
+    (stops_by X fault (Use ∷ line_steps (is_print instr) (line k (guarded_said_by g o table
+    (mended g flips k table banks) instr))) (guarded_steps g o flips (k + 1)
+    (guarded_table g o table instr)
+    (guarded_rows g o table (mended g flips k table banks) instr) others) a b here)
+
+-- all flips that are left come before the end
+pub all_here : (g : Geometry) (instrs done : ℕ) (left : List Flip) → instrs ≤ done
+    → AllByRecursion (IsFlip g instrs) left → AreSorted (done + 1) left
+    → due (done + 1) left ≡ left
+all_here g instrs done left l cells sorted =
+    all_due (done + 1) left sorted (lower instrs done left l (lasts_of g instrs left cells))
+  where
+    lower : (instrs done : ℕ) (flips : List Flip) → instrs ≤ done
+        → AllByRecursion (λ (f : Flip). f.before ≤ instrs + 1) flips
+        → AllByRecursion (λ (f : Flip). f.before ≤ done + 1) flips
+    lower instrs done [] l all = tt
+    lower instrs done (f ∷ flips) l all = (omega (arith, l, all.0), lower instrs done flips l all.1)
+
+pub mended_moved : (h g : Geometry) (now flips : List Flip) (table : List Named) (a b : ChipView)
+    → h ≡ g → now ≡ flips → Mended h now table a b → Mended g flips table a b
+mended_moved h g now flips table a b e f m =
+    subst (λ (x : Geometry). Mended x flips table a b) e
+    (subst (λ (x : List Flip). Mended h x table a b) f m)
+
+pub cells_on : (g h : Geometry) (instrs : ℕ) (flips : List Flip) → h ≡ g
+    → AllByRecursion (IsFlip g instrs) flips → AllByRecursion (IsCell h) flips
+cells_on g h instrs flips e cells = subst (λ (x : Geometry). AllByRecursion (IsCell x) flips)
+    (sym e) (cells_of g instrs flips cells)
+
+-- the counters at the end
+pub tally_last : (g : Geometry) (o : Operations) (left : List Flip) (table : List Named)
+    (a b : ChipView) → Mended g left table a b
+    → b.counters ≡ guarded_tally g o table [] left a.counters
+tally_last g o left table a b m = m.counters ∙ sym (tally_ends g o table left a.counters)
+
+-- the flips behind those that are due
+pub next_flips : (k n at : ℕ) (flips : List Flip) → AreSorted k (drop at flips)
+    → n ≡ length (due k (drop at flips)) → (AreSorted (k + 1) (drop (at + n) flips))
+    × ((j : ℕ) → k < j → due j (drop (at + n) flips) ≡ due j (drop at flips))
+next_flips k n at flips sorted count =
+    let left = drop at flips in
+    let b = behind k left sorted in
+    let e : drop (length (due k left)) left ≡ drop (at + n) flips =
+    ap (λ (m : ℕ). drop m left) (sym count) ∙ drop-drop n at flips in (
+      subst (AreSorted (k + 1)) e b.sorted,
+      λ j l. ap (due j) (sym e) ∙ b.later j l,
+    )
+
+-- counters that rise further
+pub rises_more : (n m all : ℕ) (a b c : Counters) → RisesAtMost n a b → RisesAtMost m b c
+    → n + m ≤ all → RisesAtMost all a c
+rises_more n m all a b c p q l = record {
+  aap = omega (arith, p.aap, q.aap, l);
+  ap = omega (arith, p.ap, q.ap, l);
+  writes = omega (arith, p.writes, q.writes, l);
+  reads = omega (arith, p.reads, q.reads, l);
+}

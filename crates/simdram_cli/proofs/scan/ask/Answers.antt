@@ -1,0 +1,77 @@
+use Rattle.std.proofs.Common.{List, sym, subst}
+use Rattle.std.proofs.lemmas.Result.{err_from_is_err_and}
+use Rattle.uprog_code.specs.Shape.{Microprogram}
+use Rattle.uprog_code.specs.Texts.{ImplementsAll}
+use Rattle.object_alloc.specs.Exact.{found_in}
+use Rattle.scan_model.specs.Operations.{scan_text}
+use Rattle.scan_query.specs.Queries.{nodes_in}
+use Rattle.sim_machine.specs.Machine.{geometry_of, table_in}
+use Rattle.cli_model.specs.World.{world}
+use Rattle.simdram_cli.specs.Inputs.{image_found}
+use Rattle.simdram_cli.proofs.Scanning.{RanOn, asked_done, asked_failed, answer_moves, no_stage}
+use Rattle.simdram_cli.proofs.Scanning.{not_opened, room_opened}
+use Rattle.simdram_cli.proofs.scan.ask.Goals as goal
+
+pub run_query-requires-clause-program : goal.run_query-requires-clause-program
+run_query-requires-clause-program g c =
+    subst (λ (p : List Microprogram). ImplementsAll p scan_text)
+    (sym c.in_ok-machine.ensures.program) c.requires.does.implements
+
+pub run_query-requires-clause-room : goal.run_query-requires-clause-room
+run_query-requires-clause-room g c =
+    room_opened (image_found (found_in c.args.image)) (g.D.Dram.view c.open.new.chip)
+    c.requires.lies.geometry c.in_ok-machine.ensures.opened
+
+pub returns-in_default-clause-goes : goal.returns-in_default-clause-goes
+returns-in_default-clause-goes g c files sink t h =
+    no_stage c.args.prog.programs t (image_found (found_in c.args.image))
+    (world files sink (g.D.Dram.view c.args.chip.now))
+
+pub returns-in_err-machine-clause-goes : goal.returns-in_err-machine-clause-goes
+returns-in_err-machine-clause-goes g c files sink t h =
+    let p = err_from_is_err_and c.from_residual.result c.from_residual.ensures.1 in
+    rw (p.1, p.2) (not_opened c.args.prog.programs t (image_found (found_in c.args.image)) _
+    (world files sink (g.D.Dram.view c.args.chip.now))
+    (world files sink (g.D.Dram.view c.open.new.chip)) (c.in_err-machine.ensures.goes files sink))
+
+pub returns-in-Ok-run_query-clause-goes : goal.returns-in-Ok-run_query-clause-goes
+returns-in-Ok-run_query-clause-goes g c files sink t h =
+    let program = c.args.prog.programs in
+    let i = image_found (found_in c.args.image) in
+    let machine = c.in_ok-machine.machine in
+    let nodes = nodes_in c.args.query.now in
+    let before = g.D.Dram.view c.args.chip.now in
+    let old = g.D.Dram.view c.open.new.chip in
+    let new = g.D.Dram.view c.run_query.new.dram in
+    let opened = c.in_ok-machine.ensures in
+    let ran : RanOn program t i nodes (table_in machine) old new = record {
+      table_is = opened.table;
+      nodes_are = h;
+      opened_on = opened.opened;
+      faults = c.run_query.ensures.kept.faults;
+    } in
+    asked_done program t i nodes (table_in machine) files sink before old new c.run_query.result
+    c.in-Ok-run_query.reply (geometry_of machine) ran (opened.goes files sink) c.in-Ok-run_query.is opened.shape
+    (answer_moves program machine.prog.programs t i (geometry_of machine) old.banks
+    (table_in machine) _ opened.shape opened.program opened.opened.banks opened.table
+    (c.in-Ok-run_query.ensures.answer t h)) c.in-Ok-run_query.ensures.counted c.run_query.ensures.unused
+
+pub returns-clause-goes : goal.returns-clause-goes
+returns-clause-goes g c files sink t h =
+    let program = c.args.prog.programs in
+    let i = image_found (found_in c.args.image) in
+    let machine = c.in_ok-machine.machine in
+    let nodes = nodes_in c.args.query.now in
+    let before = g.D.Dram.view c.args.chip.now in
+    let old = g.D.Dram.view c.open.new.chip in
+    let new = g.D.Dram.view c.run_query.new.dram in
+    let opened = c.in_ok-machine.ensures in
+    let ran : RanOn program t i nodes (table_in machine) old new = record {
+      table_is = opened.table;
+      nodes_are = h;
+      opened_on = opened.opened;
+      faults = c.run_query.ensures.kept.faults;
+    } in
+    asked_failed program t i nodes (table_in machine) files sink before old new c.run_query.result
+    _ ran (opened.goes files sink) c.in-Err.is c.in-Err.ensures.failed
+    c.run_query.ensures.unused

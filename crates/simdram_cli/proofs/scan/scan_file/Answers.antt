@@ -1,0 +1,10 @@
+use Rattle.uprog_code.specs.Shape.{microprograms_of}
+use Rattle.op_text.specs.Language.{operations}
+use Rattle.simdram_cli.proofs.Scanning.{scan_file_is}
+use Rattle.simdram_cli.proofs.scan.scan_file.Goals as goal
+
+pub returns : goal.returns
+returns c =
+    scan_file_is c.in_ok-file.file.items (microprograms_of c.in_ok-file.field-0-0)
+    (operations c.in_ok-ops.ops) c.in_ok-file.ensures.program c.in_ok-file.ensures.implements
+    c.in_ok-ops.ensures.ops c.in_ok-file.ensures.file

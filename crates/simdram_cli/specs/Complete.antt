@@ -1,0 +1,114 @@
+-- A command is done where its files are there and accepted and nothing fails, or memory is wanting;
+-- and what stands where it is.
+use Rattle.std.specs.Prelude.{◌≡◌, ◌≢◌, ◌≤◌, ◌==◌, ℕ, true, List, [], ◌∷◌, length, codes}
+use Rattle.std.specs.Prelude.{Option, Some, None, Result, Ok}
+use Rattle.std.specs.List.{list_any}
+use Rattle.fault_counts.specs.Counts.{Rose}
+use Rattle.host_edge.specs.Views.{Files, Told}
+use Rattle.cli_model.specs.World.{World}
+use Rattle.cli_model.specs.Steps.{Refusal, Unopened}
+use Rattle.cli_model.specs.Ends.{Sends}
+use Rattle.simdram_cli.specs.declared.words.TheConstants.{OPS_MAX, PROG_MAX, SCRIPT_MAX, IMAGE_MAX}
+use Rattle.simdram_cli.specs.declared.words.TheConstants.{QUERY_MAX}
+use Rattle.simdram_cli.specs.declared.words.Command.{Command}
+use Rattle.simdram_cli.specs.declared.words.Command.TheVariants.{Run, Exec, Compile, Show, Migrate}
+use Rattle.simdram_cli.specs.declared.words.Command.TheVariants.{Cost, List as ListOf, Init, Soak}
+use Rattle.simdram_cli.specs.declared.words.Command.TheVariants.{Scan}
+use Rattle.simdram_cli.specs.Inputs.{ops_in, script_in, image_of}
+use Rattle.simdram_cli.specs.Programs.{prog_in}
+use Rattle.simdram_cli.specs.Queries.{query_in}
+
+-- the file of a name in a folder that tells its files
+abbrev pub file_in : Option Files → List ℕ → Option (List ℕ)
+file_in None name = None
+file_in (Some files) name = files name
+
+-- the file is there, is not longer than its limit, and its text is accepted
+pub record IsGood {A : Type 0} (read : List ℕ → Result A Refusal) (limit : ℕ)
+    (file : Option (List ℕ)) : Type 0 where
+  pub text : List ℕ
+  pub there : file ≡ Some text
+  pub within : length text ≤ limit
+  pub value : A
+  pub accepted : read text ≡ Ok value
+
+-- the kinds of files
+abbrev pub IsOps : Option (List ℕ) → Type 0
+IsOps file = IsGood ops_in OPS_MAX file
+
+abbrev pub IsProg : Option (List ℕ) → Type 0
+IsProg file = IsGood prog_in PROG_MAX file
+
+abbrev pub IsScript : Option (List ℕ) → Type 0
+IsScript file = IsGood script_in SCRIPT_MAX file
+
+abbrev pub IsImageFile : Option (List ℕ) → Type 0
+IsImageFile file = IsGood image_of IMAGE_MAX file
+
+abbrev pub IsQueryFile : Option (List ℕ) → Type 0
+IsQueryFile file = IsGood query_in QUERY_MAX file
+
+-- each file that the command loads is good
+abbrev pub AreGood : Command → (List ℕ → Option (List ℕ)) → Type 0
+AreGood (Run names) file = IsOps (file names.ops.now) × IsScript (file names.script.now)
+    × IsImageFile (file names.image.now)
+AreGood (Exec names) file = IsProg (file names.prog.now) × IsScript (file names.script.now)
+    × IsImageFile (file names.image.now)
+AreGood (Compile names) file = IsOps (file names.ops.now)
+AreGood (Show name) file = IsOps (file name.now)
+AreGood (Migrate names) file = IsProg (file names.old.now)
+AreGood (Cost names) file = IsProg (file names.prog.now)
+AreGood (ListOf name) file = IsProg (file name.now)
+AreGood (Init names) file = Unit {0}
+AreGood (Soak seed) file = Unit {0}
+AreGood (Scan names) file = IsQueryFile (file names.query.now) × IsImageFile (file names.image.now)
+
+-- no count of faults rose: none of the folder, of the sink and of the chip
+pub record NothingFailed (old new : World) : Type 0 where
+  pub loads : (name : List ℕ) → Rose (old.files.load_faults name) (new.files.load_faults name)
+      → ⊥
+  pub stores : Rose old.files.store_faults new.files.store_faults → ⊥
+  pub puts : Rose old.sink.faults new.sink.faults → ⊥
+  pub chip : Rose old.chip.faults new.chip.faults → ⊥
+
+-- the statuses of the command where it is done
+abbrev pub done_statuses : Command → List ℕ
+done_statuses (Run names) = 0 ∷ 8 ∷ []
+done_statuses (Exec names) = 0 ∷ 8 ∷ []
+done_statuses (Compile names) = 0 ∷ []
+done_statuses (Show name) = 0 ∷ []
+done_statuses (Migrate names) = 0 ∷ []
+done_statuses (Cost names) = 0 ∷ []
+done_statuses (ListOf name) = 0 ∷ []
+done_statuses (Init names) = 0 ∷ []
+done_statuses (Soak seed) = 0 ∷ []
+done_statuses (Scan names) = 0 ∷ 16 ∷ []
+
+-- Where its files are good and nothing failed, the command is done, or answers 10
+abbrev pub Completes : Command → World → World → ℕ → Type 0
+Completes command old new status =
+    AreGood command (file_in old.files.holds) → NothingFailed old new
+    → list_any (λ s. s == status) (10 ∷ done_statuses command) ≡ true
+
+-- Where memory was wanting, its line was sent and nothing before it; all files but this one are as
+-- at entry; and the chip is, or has not begun
+pub record IsSpared (but : Option (List ℕ)) (old new : World) : Type 0 where
+  pub sent : Sends [] (codes "no memory\n") old new
+  pub files : Told (λ before after. (name : List ℕ) → but ≢ Some name → after name ≡ before name)
+      old.files.holds new.files.holds
+  pub chip : Unopened old.chip new.chip
+
+-- Want of memory comes before anything is sent and before the chip has begun, and OUT is as at
+-- entry: a run may have stored PROG, and no other file changes. A soak takes memory for each case,
+-- and stores nothing
+abbrev pub Spares : Command → World → World → ℕ → Type 0
+Spares (Run names) old new status = status ≡ 10 → IsSpared (Some names.prog.now) old new
+Spares (Exec names) old new status = status ≡ 10 → IsSpared None old new
+Spares (Compile names) old new status = status ≡ 10 → IsSpared None old new
+Spares (Show name) old new status = status ≡ 10 → IsSpared None old new
+Spares (Migrate names) old new status = status ≡ 10 → IsSpared None old new
+Spares (Cost names) old new status = status ≡ 10 → IsSpared None old new
+Spares (ListOf name) old new status = status ≡ 10 → IsSpared None old new
+Spares (Init names) old new status = status ≡ 10 → IsSpared None old new
+Spares (Soak seed) old new status = status ≡ 10 → new.files ≡ old.files
+Spares (Scan names) old new status = status ≡ 10 → IsSpared None old new

@@ -1,0 +1,238 @@
+-- The command `scan`.
+use Rattle.std.specs.Prelude.{◌≡◌, ◌⊎◌, ℕ, ◌*◌, List, [], ◌∷◌, ◌++◌, Option, Some, None, Result}
+use Rattle.std.specs.Prelude.{Ok, Err, IfSome, count_by, codes, decimal}
+use Rattle.std.specs.List.{range_with_len}
+use Rattle.host_edge.specs.Views.{Files, FolderView, Told}
+use Rattle.dram_model.specs.declared.dram.Counters.{Counters}
+use Rattle.dram_model.specs.declared.geometry.Geometry.{Geometry}
+use Rattle.dram_model.specs.Elements.{segments_of}
+use Rattle.dram_model.specs.View.{ChipView}
+use Rattle.uprog_code.specs.declared.walker.Counts.{Counts}
+use Rattle.uprog_code.specs.Programs.{IsProgram}
+use Rattle.uprog_code.specs.Texts.{ImplementsAll}
+use Rattle.uprog_bin.specs.Spelling.{program_bytes}
+use Rattle.machine_model.specs.Opened.{Image, opened, words_of}
+use Rattle.machine_model.specs.Operations.{Program, operations_in}
+use Rattle.machine_model.specs.Script.{replies, sum_of}
+use Rattle.scan_model.specs.declared.ScanWhy.{ScanWhy}
+use Rattle.scan_model.specs.Answers.{Answer, Found, Refused as NotFound, answer, query_count}
+use Rattle.scan_model.specs.Answers.{query_script}
+use Rattle.scan_model.specs.Checks.{checked}
+use Rattle.scan_model.specs.Laws.{element}
+use Rattle.scan_model.specs.Operations.{scan_text}
+use Rattle.scan_model.specs.Queries.{Node, Query, matches, nodes_of}
+use Rattle.scan_query.specs.Answers.{answer_of}
+use Rattle.scan_query.specs.Queries.{IsNodesOf}
+use Rattle.scan_query.specs.declared.query.ScanReply.{ScanReply}
+use Rattle.cli_model.specs.World.{World}
+use Rattle.cli_model.specs.Steps.{Step, Take, Open, Use, Put, Refusal, Refused, Done, Stopped, Goes}
+use Rattle.cli_model.specs.Steps.{loading}
+use Rattle.cli_model.specs.Status.{Says}
+use Rattle.cli_model.specs.Ends.{Ended, All, At, Ends}
+use Rattle.simdram_cli.specs.declared.words.ScanNames.{ScanNames}
+use Rattle.simdram_cli.specs.declared.words.TheConstants.{IMAGE_MAX, QUERY_MAX}
+use Rattle.simdram_cli.specs.declared.stop.Stop.{Stop}
+use Rattle.simdram_cli.specs.Headline.{read_as}
+use Rattle.simdram_cli.specs.Inputs.{image_of}
+use Rattle.simdram_cli.specs.Queries.{Asks, AsksIn, query_in, scan_refusal}
+use Rattle.simdram_cli.specs.Reads.{IsText, LoadedAs}
+use Rattle.simdram_cli.specs.Stops.{reason_of}
+use Rattle.simdram_cli.specs.Works.{OpenedOn}
+
+-- the texts of QUERY and IMAGE
+pub record ScanTexts : Type 0 where
+  pub query : List ℕ
+  pub image : List ℕ
+
+-- they are those of the files, where these are told
+pub record AreRead (names : ScanNames) (texts : ScanTexts) (holds : Option Files) : Type 0 where
+  pub query : IsText holds names.query.now texts.query
+  pub image : IsText holds names.image.now texts.image
+
+-- the program is one that a file can hold, and does the six operations of scans
+pub record DoesScans (program : Program) : Type 0 where
+  pub legal : IsProgram program
+  pub implements : ImplementsAll program scan_text
+
+-- what a scan answers of a query on an image, with a program's operations
+abbrev pub answer_on : Program → Query → Image → Answer
+answer_on program q i = answer i.geometry (operations_in program) (opened i) i.table q
+
+-- the row commands of the query's instructions
+abbrev pub scan_counts : Program → Query → Image → Counts
+scan_counts program q i =
+    sum_of (replies i.geometry (operations_in program) i.table (query_script i.table q))
+
+-- the number of elements of the image that the query holds of, among as many as its objects have:
+-- on the image's numbers alone
+abbrev pub number_found : Query → Image → ℕ
+number_found q i = count_by (λ e. matches q (element (words_of i) e))
+    (range_with_len 0 (query_count i.table q))
+
+-- the line of a scan
+abbrev pub count_line : (found of : ℕ) → Counts → List ℕ
+count_line found of counts = codes "count " ++ decimal found ++ codes " of " ++ decimal of
+    ++ codes " aap=" ++ decimal counts.aap ++ codes " ap=" ++ decimal counts.ap ++ codes "\n"
+
+-- why a scan is refused, if it is
+abbrev pub why_not : Answer → Option Refusal
+why_not (Found found of counts) = None
+why_not (NotFound why k) = Some (scan_refusal why k)
+
+-- a query whose comparisons are at fault does not use the chip
+abbrev pub use_steps : Option (ScanWhy × ℕ) → List Step
+use_steps (Some fault) = []
+use_steps None = Use ∷ []
+
+abbrev pub put_steps : Answer → List Step
+put_steps (Found found of counts) = Put (count_line found of counts) ∷ []
+put_steps (NotFound why k) = []
+
+-- Memory is taken, for a program too; the chip begins with the image; the query's instructions are
+-- done, and how many elements were found is sent. Where no program was made, its memory was the
+-- last step
+abbrev pub made_steps : Option Program → Query → Image → List Step
+made_steps None q i = Take ∷ []
+made_steps (Some program) q i = Take ∷ Open ∷ (use_steps (checked i.table (nodes_of q))
+    ++ put_steps (answer_on program q i))
+
+abbrev pub image_steps : List ℕ → List ℕ → Option Program → Query → List Step
+image_steps name text made q =
+    loading name IMAGE_MAX text (image_of text) (λ i. made_steps made q i)
+
+-- QUERY and IMAGE are loaded, and the query is done on the image
+abbrev pub scan_steps : ScanNames → ScanTexts → Option Program → Query → List Step
+scan_steps names texts made q =
+    loading names.query.now QUERY_MAX texts.query (query_in texts.query) (λ t.
+    image_steps names.image.now texts.image made q)
+
+-- why a scan that went through its steps is refused, if it is
+abbrev pub refusal_on : Option Program → Query → Result Image Refusal → Option Refusal
+refusal_on (Some program) q (Ok i) = why_not (answer_on program q i)
+refusal_on (Some program) q (Err refusal) = None
+refusal_on None q image = None
+
+abbrev pub scan_status : Option Refusal → ℕ
+scan_status None = 0
+scan_status (Some refusal) = refusal.status
+
+-- the counters after a scan: each row of every bank was written at the opening, and of the last
+-- object, whose width is 1, one row was read for each segment
+abbrev pub scan_counters : Geometry → (of : ℕ) → Counts → Counters
+scan_counters g of counts = record {
+  aap = counts.aap;
+  ap = counts.ap;
+  writes = g.banks * g.rows;
+  reads = segments_of g of;
+}
+
+-- What the chip shows then: the image alone, where a comparison is at fault; and its counters,
+-- where elements were counted
+pub record ScanLeft (program : Program) (q : Query) (i : Image) (chip : ChipView) : Type 0 where
+  pub unused : (fault : ScanWhy × ℕ) → checked i.table (nodes_of q) ≡ Some fault → OpenedOn i chip
+  pub counted : (found of : ℕ) (counts : Counts) → answer_on program q i ≡ Found found of counts
+      → chip.counters ≡ scan_counters i.geometry of counts
+
+abbrev pub LeftBy : Option Program → Query → Result Image Refusal → ChipView → Type 0
+LeftBy (Some program) q (Ok i) chip = ScanLeft program q i chip
+LeftBy (Some program) q (Err refusal) chip = ⊥
+LeftBy None q image chip = ⊥
+
+abbrev pub IsLeft : Ended → Option Program → Query → Result Image Refusal → ChipView → Type 0
+IsLeft All made q image chip = LeftBy made q image chip
+IsLeft (At stop) made q image chip = Unit {0}
+
+-- where the steps were done and the query is refused, the line that tells why comes last; a failure
+-- to send it is dropped
+abbrev pub TellsLast : Ended → Option Refusal → World → World → Type 0
+TellsLast All (Some refusal) old new = Says refusal.line old new
+TellsLast All None old new = new ≡ old
+TellsLast (At stop) refusal old new = new ≡ old
+
+-- A scan of the files at entry: what it reads, the one query of an accepted text, a program that
+-- does the operations of scans if one was made, and how it ends. No file changes
+pub record ScanEnds (names : ScanNames) (old new : World) (status : ℕ) : Type 0 where
+  pub texts : ScanTexts
+  pub query : Query
+  pub made : Option Program
+  pub read : AreRead names texts old.files.holds
+  pub asks : query_in texts.query ≡ Ok tt → Asks texts.query query
+  pub does : IfSome made DoesScans
+  pub told : World
+  pub ends : Ends (scan_steps names texts made query)
+      (scan_status (refusal_on made query (image_of texts.image))) old told status
+  pub last : TellsLast ends.ended (refusal_on made query (image_of texts.image)) told new
+  pub left : IsLeft ends.ended made query (image_of texts.image) new.chip
+  pub files : new.files.holds ≡ old.files.holds
+
+-- What was sent is how many elements of IMAGE the query of QUERY holds of, of how many, by how many
+-- row commands. Each object that the query names is there, all have that many elements, and each
+-- bound is below 2 ^ width; the chip's counters tell the same commands; and no file changed
+pub record Scanned (names : ScanNames) (before : Files) (old new : World) : Type 0 where
+  pub query : Query
+  pub image : Image
+  pub program : Program
+  pub query_is : AsksIn (before names.query.now) query
+  pub image_is : read_as image_of (before names.image.now) ≡ Some image
+  pub does : DoesScans program
+  pub fits : checked image.table (nodes_of query) ≡ None
+  pub sent : Told (λ x y. y ≡ x ++ count_line (number_found query image)
+      (query_count image.table query) (scan_counts program query image)) old.sink.sent new.sink.sent
+  pub counters : new.chip.counters ≡ scan_counters image.geometry
+      (query_count image.table query) (scan_counts program query image)
+  pub files : new.files.holds ≡ old.files.holds
+
+-- what its parts come to, for its proof
+
+-- QUERY was loaded, and its text is one of a query with these nodes
+pub record QueryRead (name : List ℕ) (nodes : List Node) (old new : FolderView) : Type 0 where
+  pub text : List ℕ
+  pub loaded : LoadedAs name QUERY_MAX text old new
+  pub accepted : query_in text ≡ Ok tt
+  pub tree : Query
+  pub asks : Asks text tree
+  pub nodes_are : IsNodesOf tree nodes
+
+-- the file of a program that does the operations of scans
+pub record IsScanFile (bytes : List ℕ) : Type 0 where
+  pub program : Program
+  pub does : DoesScans program
+  pub spelled : bytes ≡ program_bytes 2 program
+
+-- the chip has begun, and the query was answered
+abbrev pub AnswerGoes : Program → Query → Image → Result ScanReply Stop → World → World → Type 0
+AnswerGoes program q i (Ok reply) old new = (answer_of reply ≡ answer_on program q i)
+    × Goes (Take ∷ Open ∷ use_steps (checked i.table (nodes_of q))) Done old new
+    × ScanLeft program q i new.chip
+AnswerGoes program q i (Err stop) old new =
+    Goes (Take ∷ Open ∷ use_steps (checked i.table (nodes_of q))) (Stopped (reason_of stop)) old new
+
+-- the steps were done, and it is not refused; or they were done, and it is; or one failed
+abbrev pub Went : List Step → Option Refusal → (ChipView → Type 0) → Result ℕ Stop → World → World
+    → Type 0
+Went steps refusal left (Ok refused) old new =
+    (refused ≡ 0) × (refusal ≡ None) × Goes steps Done old new × left new.chip
+Went steps refusal left (Err stop) old new = Goes steps (Stopped (reason_of stop)) old new
+    ⊎ ((told : Refusal) × (refusal ≡ Some told) × (reason_of stop ≡ Refused told)
+    × Goes steps Done old new × left new.chip)
+
+-- IMAGE was loaded, and the query was done on it
+pub record ImageScanned (name : List ℕ) (q : Query) (old new : World) (result : Result ℕ Stop)
+    : Type 0 where
+  pub text : List ℕ
+  pub is_text : IsText old.files.holds name text
+  pub made : Option Program
+  pub does : IfSome made DoesScans
+  pub went : Went (image_steps name text made q) (refusal_on made q (image_of text))
+      (LeftBy made q (image_of text)) result old new
+
+pub record ScanGoes (names : ScanNames) (old new : World) (result : Result ℕ Stop) : Type 0 where
+  pub texts : ScanTexts
+  pub query : Query
+  pub made : Option Program
+  pub read : AreRead names texts old.files.holds
+  pub asks : query_in texts.query ≡ Ok tt → Asks texts.query query
+  pub does : IfSome made DoesScans
+  pub went : Went (scan_steps names texts made query)
+      (refusal_on made query (image_of texts.image)) (LeftBy made query (image_of texts.image))
+      result old new
