@@ -46,8 +46,8 @@ pub record Mended (g : Geometry) (now : List Flip) (table : List Named) (a b : C
     pub log : Grew a.log b.log (flip_events now a.banks ++ vote_events g table)
 
 -- and then an instruction was done
-pub record InstrDone (g : Geometry) (operations : Operations) (now : List Flip) (instr : Instruction)
-    (turn turn' : Turn) (table table' : List Named) (a b : ChipView) (votes refused : ℕ) : Type 0
+pub record InstrDone (g : Geometry) (operations : Operations) (now : List Flip)
+    (instr : Instruction) (turn turn' : Turn) (table table' : List Named) (a b : ChipView) (votes refused : ℕ) : Type 0
   where
     pub tables : table' ≡ guarded_table g operations table instr
     pub turns : turn' ≡ guarded_turn g operations turn table instr

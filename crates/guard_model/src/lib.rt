@@ -72,7 +72,7 @@ pub fn guarded_steps_are_events()
 {}
 
 /// Where at most one copy is hit in a column, the votes leave each number as it was before the
-/// flips; so a guarded script gives the word machine's numbers, whatever flips.
+/// flips; so a guarded script gives the numbers of the guarded word machine, which knows no flips.
 pub fn guarded_gives_words()
     ensures mend { VotesMend }
     ensures words { GuardedGivesWords }
