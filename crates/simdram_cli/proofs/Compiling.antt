@@ -152,6 +152,7 @@ compiled names old new status e of =
           names.ops.now was.bytes e.text there e.is_text was.there) c.is;
       legal = c.legal;
       implements = c.implements;
+      exact = c.exact;
       taken = c.taken;
       is = ap (λ (f : Files). f names.prog.now) now
           ∙ rw ((bytes_eq-Decides names.prog.now names.prog.now).1 refl) refl;

@@ -7,6 +7,7 @@ use Rattle.std.proofs.lemmas.Slice.Eq.{bytes_eq-Decides}
 use Rattle.dram_model.specs.View.{ChipView}
 use Rattle.host_edge.specs.Views.{FolderView, SinkView}
 use Rattle.uprog_bin.specs.Spelling.{program_bytes}
+use Rattle.uprog_gen.specs.Totals.{AreExact}
 use Rattle.bbop_isa.specs.Forms.{Instruction}
 use Rattle.object_alloc.specs.Spelling.{IsImage}
 use Rattle.machine_model.specs.Operations.{Program}
@@ -56,10 +57,10 @@ program_unread ops_name prog_name reason old new n = record {
 -- OPS was read, and PROG stored
 pub program_taken : (ops_name prog_name : List ℕ) (ops : List Operation) (program : Program)
     (old mid new : FolderView) → OpsRead ops_name ops old mid
-    → IsProgram program → ImplementsAll program (map text_op ops)
+    → IsProgram program → ImplementsAll program (map text_op ops) → AreExact program ops
     → IsTaken (program_bytes 2 program) program
     → GoesToStore prog_name program Done mid new → ProgramTaken ops_name prog_name program old new
-program_taken ops_name prog_name ops program old mid new r legal implements taken g = record {
+program_taken ops_name prog_name ops program old mid new r legal implements exact taken g = record {
   text = r.text;
   accepted = ops_accepted r.text r.is.accepted;
   compiled = record {
@@ -67,6 +68,7 @@ program_taken ops_name prog_name ops program old mid new r legal implements take
     is = r.is;
     legal = legal;
     implements = implements;
+    exact = exact;
     taken = taken;
   };
   goes = λ sink chip. inl (world mid sink chip, ((refl, r.loaded sink chip), g sink chip));
@@ -79,12 +81,13 @@ pub taken_by : {X : Type 0} (ops_name prog_name : List ℕ) (ops : List Operatio
     → OpsRead ops_name ops old mid
     → IfOk result (λ p. IsProgram (program p))
     → IfOk result (λ p. ImplementsAll (program p) (map text_op ops))
+    → IfOk result (λ p. AreExact (program p) ops)
     → IfOk result (λ p. IsTaken (program_bytes 2 (program p)) (program p))
     → IfOk result (λ p. GoesToStore prog_name (program p) Done mid new)
     → IfOk result (λ p. ProgramTaken ops_name prog_name (program p) old new)
-taken_by ops_name prog_name ops program (Ok p) old mid new r legal implements taken g =
-    program_taken ops_name prog_name ops (program p) old mid new r legal implements taken g
-taken_by ops_name prog_name ops program (Err stop) old mid new r legal implements taken g = tt
+taken_by ops_name prog_name ops program (Ok p) old mid new r legal implements exact taken g =
+    program_taken ops_name prog_name ops (program p) old mid new r legal implements exact taken g
+taken_by ops_name prog_name ops program (Err stop) old mid new r legal implements exact taken g = tt
 
 -- OPS was read, and PROG not stored
 pub program_unstored : (ops_name prog_name : List ℕ) (ops : List Operation) (reason : Reason)

@@ -12,7 +12,8 @@ use Rattle.std.proofs.lemmas.Nat.{mul-le}
 use mathlib.Core.Path.{fun_ext}
 use Rattle.dram_model.specs.declared.dram.Counters.{Counters}
 use Rattle.dram_model.specs.declared.geometry.Geometry.{Geometry}
-use Rattle.dram_model.specs.Chip.{Banks}
+use Rattle.dram_model.specs.Chip.{Banks, after}
+use Rattle.dram_model.proofs.EventLaws.{LogIs-more}
 use Rattle.dram_model.specs.Elements.{segments_of}
 use Rattle.dram_model.specs.Geometry.{is_geometry, is_between, fits_size}
 use Rattle.dram_model.specs.View.{ChipView, Kept, with_reads}
@@ -28,24 +29,30 @@ use Rattle.uprog_code.specs.declared.walker.Counts.{Counts}
 use Rattle.uprog_code.specs.Programs.{IsProgram}
 use Rattle.uprog_code.specs.Texts.{ImplementsAll, text_op}
 use Rattle.uprog_bin.specs.Spelling.{program_bytes}
+use Rattle.uprog_gen.specs.Totals.{AreExact}
 use Rattle.machine_model.specs.declared.Why.{Why}
-use Rattle.machine_model.specs.Opened.{Image, opened, words_of}
+use Rattle.bbop_isa.specs.Forms.{Instruction}
+use Rattle.wave_model.specs.Schedule.{Turn, Ahead}
+use Rattle.machine_model.specs.Opened.{Image, opened, row_writes, words_of}
 use Rattle.machine_model.specs.Operations.{Program, Operations, operations_in}
+use Rattle.machine_model.specs.Pieces.{events_of_pieces, pieces, script_events}
 use Rattle.machine_model.specs.Script.{replies, sum_of, with_counts}
+use Rattle.machine_model.proofs.Pieces.{events_are_steps}
+use Rattle.sim_machine.specs.Steps.{DidAndRead}
 use Rattle.scan_model.specs.declared.CmpOp.TheVariants as cmp
 use Rattle.scan_model.specs.declared.QueryFault.{QueryFault}
 use Rattle.scan_model.specs.declared.ScanWhy.{ScanWhy}
 use Rattle.scan_model.specs.Answers.{Answer, Found, Refused as NotFound, answer, by_checks, by_run}
 use Rattle.scan_model.specs.Answers.{element_in, found_in, query_count, query_script, room_word}
 use Rattle.scan_model.specs.Checks.{checked}
-use Rattle.scan_model.specs.Instructions.{count_of}
+use Rattle.scan_model.specs.Instructions.{count_of, scan_script}
 use Rattle.scan_model.specs.Laws.{element, scan_refused}
 use Rattle.scan_model.specs.Operations.{scan_operations, scan_text}
 use Rattle.scan_model.specs.Queries.{Compare, Node, Query, matches, nodes_of}
 use Rattle.scan_model.specs.Texts.{Breach, fault_in, first_breach, pieces_of}
 use Rattle.scan_model.proofs.Answered.{elements}
 use Rattle.scan_model.proofs.Parsed.{accepted}
-use Rattle.scan_query.specs.Answers.{CountersRose, answer_of}
+use Rattle.scan_query.specs.Answers.{CountersRose, answer_of, is_done}
 use Rattle.scan_query.specs.Parsing.{IsQueryOf}
 use Rattle.scan_query.specs.Queries.{IsNodesOf}
 use Rattle.scan_query.specs.Running.{AreBelow}
@@ -74,7 +81,7 @@ use Rattle.simdram_cli.specs.Queries.{Asks, AsksIn, query_in, query_refusal, sca
 use Rattle.simdram_cli.specs.Queries.{unless_broken}
 use Rattle.simdram_cli.specs.Reads.{IsText, LoadedAs, NotLoaded, NotRead, refusal_of}
 use Rattle.simdram_cli.specs.Scan.{AnswerGoes, AreRead, DoesScans, ImageScanned, IsLeft, IsScanFile}
-use Rattle.simdram_cli.specs.Scan.{LeftBy, QueryRead, ScanEnds, ScanGoes, ScanLeft, ScanTexts}
+use Rattle.simdram_cli.specs.Scan.{LeftBy, QueryDone, QueryRead, ScanEnds, ScanGoes, ScanLeft, ScanTexts}
 use Rattle.simdram_cli.specs.Scan.{Scanned, TellsLast, Went, answer_on, count_line, image_steps}
 use Rattle.simdram_cli.specs.Scan.{made_steps, number_found, put_steps, refusal_on, scan_counters}
 use Rattle.simdram_cli.specs.Scan.{scan_counts, scan_status, scan_steps, use_steps, why_not}
@@ -83,6 +90,7 @@ use Rattle.simdram_cli.specs.Works.{OpenedOn}
 use Rattle.simdram_cli.proofs.Foreseen.{if_there, text_at, was_read}
 use Rattle.simdram_cli.proofs.Joins.{loaded_text, loading_goes, loading_stops, told_is_text}
 use Rattle.simdram_cli.proofs.Joins.{told_text}
+use Rattle.simdram_cli.proofs.Progress.{Holds}
 use Rattle.simdram_cli.proofs.Stores.{nothing_read, sent, used}
 use Rattle.simdram_cli.proofs.Tallies.{both}
 
@@ -131,14 +139,15 @@ query_refused text fault e = ap unless_broken e
 -- the program
 
 pub scan_file_is : (bytes : List ℕ) (program : Program) (ops : List Operation) → IsProgram program
-    → ImplementsAll program (map text_op ops) → ops ≡ scan_operations
+    → ImplementsAll program (map text_op ops) → AreExact program ops → ops ≡ scan_operations
     → bytes ≡ program_bytes 2 program → IsScanFile bytes
-scan_file_is bytes program ops legal implements same spelled = record {
+scan_file_is bytes program ops legal implements exact same spelled = record {
   program = program;
   does = record {
     legal = legal;
     implements = subst (λ (xs : List Operation). ImplementsAll program (map text_op xs)) same
         implements;
+    exact = subst (AreExact program) same exact;
   };
   spelled = spelled;
 }
@@ -152,9 +161,13 @@ scan_file_opens bytes programs f opens =
 
 -- what an answer says of the image
 
+record PassesRun (o : Option (Why × ℕ)) (a : Answer) (found of : ℕ) (counts : Counts) : Type 0 where
+  none : o ≡ None
+  is : a ≡ Found found of counts
+
 run_found : (o : Option (Why × ℕ)) (a : Answer) (found of : ℕ) (counts : Counts)
-    → by_run o a ≡ Found found of counts → a ≡ Found found of counts
-run_found None a found of counts e = e
+    → by_run o a ≡ Found found of counts → PassesRun o a found of counts
+run_found None a found of counts e = record { none = refl; is = e }
 run_found (Some (w, k)) a found of counts e = absurd (cc)
 
 record PassesChecks (o : Option (ScanWhy × ℕ)) (a : Answer) (found of : ℕ) (counts : Counts)
@@ -170,6 +183,7 @@ checks_found (Some (w, k)) a found of counts e = absurd (cc)
 record FoundOn (program : Program) (q : Query) (i : Image) (found of : ℕ) (counts : Counts) : Type 0
   where
     fits : checked i.table (nodes_of q) ≡ None
+    room : scan_refused i.geometry (operations_in program) i.table q ≡ None
     found_is : found ≡ found_in i.geometry (opened i) i.table q
     of_is : of ≡ query_count i.table q
     counts_are : counts ≡ scan_counts program q i
@@ -186,8 +200,15 @@ found_on program q i found of counts e =
     let whole = Found (found_in i.geometry (opened i) i.table q) (query_count i.table q)
     (scan_counts program q i) in
     let checks = checks_found (checked i.table (nodes_of q)) (by_run ran whole) found of counts e in
-    let same = same_found _ _ _ _ _ _ (run_found ran whole found of counts checks.is) in
-    record { fits = checks.none; found_is = same.0; of_is = same.1; counts_are = same.2 }
+    let run = run_found ran whole found of counts checks.is in
+    let same = same_found _ _ _ _ _ _ run.is in
+    record {
+      fits = checks.none;
+      room = run.none;
+      found_is = same.0;
+      of_is = same.1;
+      counts_are = same.2;
+    }
 
 number_is : (q : Query) (i : Image)
     → found_in i.geometry (opened i) i.table q ≡ number_found q i
@@ -301,6 +322,48 @@ counted_done program q i nodes table old new (reply.Done f n c) found of counts 
     (with_counts (opened_counters i.geometry) k)) (sym same.2)
     ∙ from_opened i.geometry of counts
 
+done_reply : (said : ScanReply) (found of : ℕ) (counts : Counts)
+    → answer_of said ≡ Found found of counts → is_done said ≡ true
+done_reply (reply.Done f n c) found of counts e = refl
+done_reply (reply.Refused why k) found of counts e = absurd (cc)
+
+-- the events of the query's instructions, on the image's table
+own_events : (program p : Program) (i : Image) (shape : Geometry) (table : List Named) (turn : Turn)
+    (script own : List Instruction) (reads : ℕ) (a b : ChipView) → shape ≡ i.geometry
+    → p ≡ program → table ≡ i.table → turn ≡ Ahead → script ≡ own
+    → DidAndRead (events_of_pieces shape (operations_in p) turn table (pieces script)) reads a b
+    → DidAndRead (script_events i.geometry (operations_in program) i.table own) reads a b
+own_events program p i shape table turn script own reads a b e f t o s did =
+    rw (e, f, t, o, s) at did
+
+own_script : (program : Program) (q : Query) (i : Image) (nodes : List Node) (table : List Named)
+    (old new : ChipView) → RanOn program q i nodes table old new
+    → scan_script table nodes ≡ query_script i.table q
+own_script program q i nodes table old new r =
+    ap (λ (t : List Named). scan_script t nodes) r.table_is
+    ∙ ap (scan_script i.table) r.nodes_are.nodes_are
+
+-- what the instructions of a query leave, on a machine that was opened on the image
+pub query_done : (program p : Program) (q : Query) (i : Image) (nodes : List Node)
+    (shape : Geometry) (table : List Named) (turn : Turn) (reads : ℕ) (old new : ChipView)
+    → RanOn program q i nodes table old new → Holds i.geometry i.table → shape ≡ i.geometry
+    → p ≡ program → turn ≡ Ahead
+    → DidAndRead (events_of_pieces shape (operations_in p) turn table
+    (pieces (scan_script table nodes))) reads old new
+    → QueryDone program q i new
+query_done program p q i nodes shape table turn reads old new ran holds e f o ran_events =
+    let script = query_script i.table q in
+    let events = script_events i.geometry (operations_in program) i.table script in
+    let did : DidAndRead events reads old new =
+    own_events program p i shape table turn (scan_script table nodes) script reads old new e f
+    ran.table_is o (own_script program q i nodes table old new ran) ran_events in
+    record {
+      banks = did.banks ∙ ap (after events) ran.opened_on.banks
+          ∙ events_are_steps i.geometry (operations_in program) Ahead i.table script (opened i)
+          holds.words holds.fits;
+      log = LogIs-more (row_writes i) events old.log new.log ran.opened_on.log did.log;
+    }
+
 pub asked_done : {E : Type 0} (program : Program) (q : Query) (i : Image) (nodes : List Node)
     (table : List Named) (files : FolderView) (sink : SinkView) (before old new : ChipView)
     (r : Result ScanReply E) (said : ScanReply) (g : Geometry)
@@ -309,9 +372,10 @@ pub asked_done : {E : Type 0} (program : Program) (q : Query) (i : Image) (nodes
     → g ≡ i.geometry → answer_of said ≡ answer_on program q i
     → CountersRose said (segments_of g (count_of table nodes)) old.counters new.counters
     → ((found : ScanWhy × ℕ) → checked table nodes ≡ Some found → IsOkAnd r (λ said. new ≡ old))
+    → (is_done said ≡ true → QueryDone program q i new)
     → AnswerGoes program q i (Ok said) (world files sink before) (world files sink new)
 asked_done program q i nodes table files sink before old new r said g ran opens is shape says rose
-    unused =
+    unused did =
     let o = checked i.table (nodes_of q) in
     let stays : (fault : ScanWhy × ℕ) → o ≡ Some fault → new ≡ old = λ fault some.
     ok_and r said (new ≡ old) is (unused fault
@@ -324,6 +388,7 @@ asked_done program q i nodes table files sink before old new r said g ran opens 
         unused = λ fault some. subst (OpenedOn i) (sym (stays fault some)) ran.opened_on;
         counted = λ found of counts e. counted_done program q i nodes table old new said found of
             counts g ran shape (found_on program q i found of counts e).of_is (says ∙ e) rose;
+        worked = λ found of counts e. did (done_reply said found of counts (says ∙ e));
       },
     )
 
@@ -919,6 +984,8 @@ scanned names old new status is e of =
       image_is = ap (read_as image_of) image_at ∙ ap result_ok w.image_is;
       does = some_does e.made w.program w.made_is e.does;
       fits = f.fits;
+      room = f.room;
+      work = w.left.worked c.found c.of c.counts c.is;
       sent = subst (λ (bytes : List ℕ). Told (λ x y. y ≡ x ++ bytes) old.sink.sent new.sink.sent)
           sends (subst (λ (v : World). Told (λ x y. y ≡ x ++ sent_by steps) old.sink.sent
           v.sink.sent) (sym same) so.sent);

@@ -6,6 +6,7 @@ use Rattle.op_text.specs.Language.{Operation}
 use Rattle.uprog_code.specs.Programs.{IsProgram}
 use Rattle.uprog_code.specs.Texts.{ImplementsAll, text_op}
 use Rattle.uprog_bin.specs.Spelling.{program_bytes}
+use Rattle.uprog_gen.specs.Totals.{AreExact}
 use Rattle.machine_model.specs.Operations.{Program}
 use Rattle.cli_model.specs.World.{World}
 use Rattle.cli_model.specs.Steps.{Step, Take, Store, Put, Goes, loading}
@@ -39,15 +40,17 @@ pub record CompileEnds (names : CompileNames) (old new : World) (status : ℕ) :
   pub compiled : Stores names.prog.now (done_steps (compile_steps names program text) ends.ended)
       → IsCompiled text program
 
--- PROG is the version 2 file of a program that a file can hold and that implements the ops of OPS,
--- and each command that loads a program file takes it; all other files are as at entry, and how
--- many entries it has was sent
+-- PROG is the version 2 file of a program that a file can hold and that implements the ops of OPS.
+-- An op of word operations alone takes exactly the sum of their row commands at each width, and each
+-- command that loads a program file takes PROG; all other files are as at entry, and how many
+-- entries it has was sent
 pub record Compiled (names : CompileNames) (before after : Files) (old new : World) : Type 0 where
   pub ops : List Operation
   pub program : Program
   pub are : Spells (before names.ops.now) ops
   pub legal : IsProgram program
   pub implements : ImplementsAll program (map text_op ops)
+  pub exact : AreExact program ops
   pub taken : IsTaken (program_bytes 2 program) program
   pub is : after names.prog.now ≡ Some (program_bytes 2 program)
   pub others : (other : List ℕ) → other ≢ names.prog.now → after other ≡ before other

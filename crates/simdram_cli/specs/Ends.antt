@@ -5,6 +5,7 @@ use Rattle.dram_model.specs.View.{ChipView}
 use Rattle.host_edge.specs.Views.{Files, FolderView, SinkView}
 use Rattle.object_alloc.specs.Spelling.{IsImage}
 use Rattle.uprog_bin.specs.Spelling.{program_bytes}
+use Rattle.uprog_gen.specs.Totals.{AreExact}
 use Rattle.bbop_isa.specs.Forms.{Instruction}
 use Rattle.machine_model.specs.Operations.{Program}
 use Rattle.op_text.specs.Language.{Operation}
@@ -37,6 +38,7 @@ pub record IsCompiled (text : List ℕ) (program : Program) : Type 0 where
   pub is : IsOpsOf text ops
   pub legal : IsProgram program
   pub implements : ImplementsAll program (map text_op ops)
+  pub exact : AreExact program ops
   pub taken : IsTaken (program_bytes 2 program) program
 
 -- the script was done on the image that was read

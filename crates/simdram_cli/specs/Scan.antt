@@ -5,21 +5,24 @@ use Rattle.std.specs.List.{range_with_len}
 use Rattle.host_edge.specs.Views.{Files, FolderView, Told}
 use Rattle.dram_model.specs.declared.dram.Counters.{Counters}
 use Rattle.dram_model.specs.declared.geometry.Geometry.{Geometry}
+use Rattle.dram_model.specs.Chip.{LogIs}
 use Rattle.dram_model.specs.Elements.{segments_of}
 use Rattle.dram_model.specs.View.{ChipView}
 use Rattle.uprog_code.specs.declared.walker.Counts.{Counts}
 use Rattle.uprog_code.specs.Programs.{IsProgram}
 use Rattle.uprog_code.specs.Texts.{ImplementsAll}
 use Rattle.uprog_bin.specs.Spelling.{program_bytes}
-use Rattle.machine_model.specs.Opened.{Image, opened, words_of}
+use Rattle.uprog_gen.specs.Totals.{AreExact}
+use Rattle.machine_model.specs.Opened.{Image, opened, row_writes, words_of}
 use Rattle.machine_model.specs.Operations.{Program, operations_in}
-use Rattle.machine_model.specs.Script.{replies, sum_of}
+use Rattle.machine_model.specs.Pieces.{script_events}
+use Rattle.machine_model.specs.Script.{banks_at_end, replies, sum_of}
 use Rattle.scan_model.specs.declared.ScanWhy.{ScanWhy}
 use Rattle.scan_model.specs.Answers.{Answer, Found, Refused as NotFound, answer, query_count}
 use Rattle.scan_model.specs.Answers.{query_script}
 use Rattle.scan_model.specs.Checks.{checked}
-use Rattle.scan_model.specs.Laws.{element}
-use Rattle.scan_model.specs.Operations.{scan_text}
+use Rattle.scan_model.specs.Laws.{element, scan_refused}
+use Rattle.scan_model.specs.Operations.{scan_operations, scan_text}
 use Rattle.scan_model.specs.Queries.{Node, Query, matches, nodes_of}
 use Rattle.scan_query.specs.Answers.{answer_of}
 use Rattle.scan_query.specs.Queries.{IsNodesOf}
@@ -49,10 +52,12 @@ pub record AreRead (names : ScanNames) (texts : ScanTexts) (holds : Option Files
   pub query : IsText holds names.query.now texts.query
   pub image : IsText holds names.image.now texts.image
 
--- the program is one that a file can hold, and does the six operations of scans
+-- the program is one that a file can hold, and does the six operations of scans by exactly the row
+-- commands of their word operations
 pub record DoesScans (program : Program) : Type 0 where
   pub legal : IsProgram program
   pub implements : ImplementsAll program scan_text
+  pub exact : AreExact program scan_operations
 
 -- what a scan answers of a query on an image, with a program's operations
 abbrev pub answer_on : Program → Query → Image → Answer
@@ -126,12 +131,23 @@ scan_counters g of counts = record {
   reads = segments_of g of;
 }
 
--- What the chip shows then: the image alone, where a comparison is at fault; and its counters,
--- where elements were counted
+-- The query's instructions were done on the image, and nothing else: the banks are what the
+-- program's commands leave, and a log that is told has the image's writes and then the
+-- instructions' events
+pub record QueryDone (program : Program) (q : Query) (i : Image) (chip : ChipView) : Type 0 where
+  pub banks : chip.banks ≡ banks_at_end i.geometry (operations_in program) i.table (opened i)
+      (query_script i.table q)
+  pub log : LogIs (row_writes i ++ script_events i.geometry (operations_in program) i.table
+      (query_script i.table q)) chip.log
+
+-- What the chip shows then: the image alone, where a comparison is at fault; and what the query's
+-- instructions leave, with its counters, where elements were counted
 pub record ScanLeft (program : Program) (q : Query) (i : Image) (chip : ChipView) : Type 0 where
   pub unused : (fault : ScanWhy × ℕ) → checked i.table (nodes_of q) ≡ Some fault → OpenedOn i chip
   pub counted : (found of : ℕ) (counts : Counts) → answer_on program q i ≡ Found found of counts
       → chip.counters ≡ scan_counters i.geometry of counts
+  pub worked : (found of : ℕ) (counts : Counts) → answer_on program q i ≡ Found found of counts
+      → QueryDone program q i chip
 
 abbrev pub LeftBy : Option Program → Query → Result Image Refusal → ChipView → Type 0
 LeftBy (Some program) q (Ok i) chip = ScanLeft program q i chip
@@ -167,7 +183,8 @@ pub record ScanEnds (names : ScanNames) (old new : World) (status : ℕ) : Type 
 
 -- What was sent is how many elements of IMAGE the query of QUERY holds of, of how many, by how many
 -- row commands. Each object that the query names is there, all have that many elements, and each
--- bound is below 2 ^ width; the chip's counters tell the same commands; and no file changed
+-- bound is below 2 ^ width; there was room for each of its instructions; the chip did these on the
+-- image and no others, and its counters tell the same commands; and no file changed
 pub record Scanned (names : ScanNames) (before : Files) (old new : World) : Type 0 where
   pub query : Query
   pub image : Image
@@ -176,6 +193,8 @@ pub record Scanned (names : ScanNames) (before : Files) (old new : World) : Type
   pub image_is : read_as image_of (before names.image.now) ≡ Some image
   pub does : DoesScans program
   pub fits : checked image.table (nodes_of query) ≡ None
+  pub room : scan_refused image.geometry (operations_in program) image.table query ≡ None
+  pub work : QueryDone program query image new.chip
   pub sent : Told (λ x y. y ≡ x ++ count_line (number_found query image)
       (query_count image.table query) (scan_counts program query image)) old.sink.sent new.sink.sent
   pub counters : new.chip.counters ≡ scan_counters image.geometry

@@ -4,6 +4,7 @@ ghost use Rattle.std.specs.Prelude.{◌≡◌, List, map, true, IfOk, IfErr};
 ghost use Rattle.uprog_code.specs.Shape.{Microprogram, microprograms_of};
 ghost use Rattle.uprog_code.specs.Programs.{IsProgram};
 ghost use Rattle.uprog_code.specs.Texts.{ImplementsAll, text_op};
+ghost use Rattle.uprog_gen.specs.Totals.{AreExact};
 ghost use Rattle.uprog_bin.specs.Opened.{IsProgramFile};
 ghost use Rattle.uprog_bin.specs.Spelling.{program_bytes};
 ghost use Rattle.op_text.specs.Language.{operations};
@@ -36,6 +37,8 @@ pub(crate) fn compile(ops: &Ops, alloc: Global) -> Result<(Program, Vec<u8>), No
     ensures implements { IfOk result (λ made. ImplementsAll (microprograms_of made.0)
         (map text_op (operations ops.now))) }
     ensures program { IfOk result (λ made. IsProgram (microprograms_of made.0)) }
+    ensures exact { IfOk result (λ made. AreExact (microprograms_of made.0)
+        (operations ops.now)) }
     ensures taken { IfOk result (λ made. IsTaken (program_bytes 2 (microprograms_of made.0))
         (microprograms_of made.0)) }
     ensures file { IfOk result (λ made. made.1.items ≡ program_bytes 2 (microprograms_of made.0)) }
@@ -60,6 +63,8 @@ fn write_program<'a, F: Folder>(
     ensures implements { IfOk result (λ made. ImplementsAll (microprograms_of made.0)
         (map text_op (operations ops.now))) }
     ensures program { IfOk result (λ made. IsProgram (microprograms_of made.0)) }
+    ensures exact { IfOk result (λ made. AreExact (microprograms_of made.0)
+        (operations ops.now)) }
     ensures taken { IfOk result (λ made. IsTaken (program_bytes 2 (microprograms_of made.0))
         (microprograms_of made.0)) }
     ensures file { IfOk result (λ made. made.1.items ≡ program_bytes 2 (microprograms_of made.0)) }

@@ -19,7 +19,7 @@ returns-clause-taken g c =
     (g.F.Folder.view c.args.files.now) (g.F.Folder.view c.load_ops.new.files)
     (g.F.Folder.view c.write_program.new.files)
     c.in_ok-ops.ensures.read c.write_program.ensures.program c.write_program.ensures.implements
-    c.write_program.ensures.taken c.write_program.ensures.goes
+    c.write_program.ensures.exact c.write_program.ensures.taken c.write_program.ensures.goes
 
 pub returns-clause-stopped : goal.returns-clause-stopped
 returns-clause-stopped g c =

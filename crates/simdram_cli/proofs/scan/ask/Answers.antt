@@ -5,11 +5,12 @@ use Rattle.uprog_code.specs.Texts.{ImplementsAll}
 use Rattle.object_alloc.specs.Exact.{found_in}
 use Rattle.scan_model.specs.Operations.{scan_text}
 use Rattle.scan_query.specs.Queries.{nodes_in}
-use Rattle.sim_machine.specs.Machine.{geometry_of, table_in}
+use Rattle.sim_machine.specs.Machine.{geometry_of, program_of, table_in, turn_in}
 use Rattle.cli_model.specs.World.{world}
 use Rattle.simdram_cli.specs.Inputs.{image_found}
 use Rattle.simdram_cli.proofs.Scanning.{RanOn, asked_done, asked_failed, answer_moves, no_stage}
-use Rattle.simdram_cli.proofs.Scanning.{not_opened, room_opened}
+use Rattle.simdram_cli.proofs.Scanning.{not_opened, query_done, room_opened}
+use Rattle.simdram_cli.proofs.Progress.{holds_of}
 use Rattle.simdram_cli.proofs.scan.ask.Goals as goal
 
 pub run_query-requires-clause-program : goal.run_query-requires-clause-program
@@ -55,6 +56,9 @@ returns-in-Ok-run_query-clause-goes g c files sink t h =
     (answer_moves program machine.prog.programs t i (geometry_of machine) old.banks
     (table_in machine) _ opened.shape opened.program opened.opened.banks opened.table
     (c.in-Ok-run_query.ensures.answer t h)) c.in-Ok-run_query.ensures.counted c.run_query.ensures.unused
+    (λ is. query_done program (program_of machine) t i nodes (geometry_of machine) (table_in machine)
+    (turn_in machine) _ old new ran (rw opened.table at (holds_of machine i.geometry opened.shape
+    opened.ready)) opened.shape opened.program opened.turn (c.in-Ok-run_query.ensures.did is))
 
 pub returns-clause-goes : goal.returns-clause-goes
 returns-clause-goes g c files sink t h =

@@ -7,4 +7,4 @@ pub returns : goal.returns
 returns c =
     scan_file_is c.in_ok-file.file.items (microprograms_of c.in_ok-file.field-0-0)
     (operations c.in_ok-ops.ops) c.in_ok-file.ensures.program c.in_ok-file.ensures.implements
-    c.in_ok-ops.ensures.ops c.in_ok-file.ensures.file
+    c.in_ok-file.ensures.exact c.in_ok-ops.ensures.ops c.in_ok-file.ensures.file
