@@ -22,6 +22,7 @@ import random
 import re
 import resource
 import shutil
+import struct
 import subprocess
 import sys
 import tempfile
@@ -60,6 +61,13 @@ LAST = {
     9: rb"chip fault",
     10: rb"no memory",
     11: rb"too long \S+",
+    12: rb"trace full",
+    13: rb"trace byte \d+ (short|magic|version|geometry|object|overlap|event|legal|rest)",
+    14: rb"geometry differs",
+    15: rb"query line \d+ (lex|syntax|bad_name|bad_number|too_many)",
+    16: rb"query refused (no_object|count|range|table_full|no_rows) \d+",
+    17: rb"guard (name|table) \d+",
+    18: rb"flips line \d+ (lex|syntax|number)",
 }
 
 
@@ -76,6 +84,7 @@ class Command:
 
 
 REPORT = rb"(" + DONE + rb"|" + PRINTED + rb"|" + REFUSED + rb")"
+VOTES = rb"vote aap=\d+ flips=\d+"
 TOTAL = rb"total aap=\d+ ap=\d+ writes=\d+ reads=\d+ refused=\d+"
 COMMANDS = [
     Command(("run", "ops", "prog", "script", "image", "out"), ("ops", "script", "image"), ("prog", "out"),
@@ -88,12 +97,21 @@ COMMANDS = [
     Command(("list", "prog"), ("prog",), (), frozenset({0, 2, 5, 11}), rb"(" + ENTRY + rb"|" + INSTRUCTION + rb")", INSTRUCTION),
     Command(("migrate", "prog", "new"), ("prog",), ("new",), frozenset({0, 2, 5, 11}), rb"", rb"migrated \d+"),
     Command(("init", "B", "R", "W", "out"), (), ("out",), frozenset({0, 1}), rb"", rb""),
+    Command(("scan", "query", "image"), ("query", "image"), (), frozenset({0, 2, 7, 11, 15, 16}), rb"",
+            rb"count \d+ of \d+ aap=\d+ ap=\d+"),
+    Command(("trace", "prog", "script", "image", "out", "trace"), ("prog", "script", "image"), ("out", "trace"),
+            frozenset({0, 2, 5, 6, 7, 8, 11}), REPORT, TOTAL),
+    Command(("replay", "trace", "image", "out"), ("trace", "image"), ("out",), frozenset({0, 2, 7, 11, 13, 14}), rb"",
+            rb"replay aap=\d+ ap=\d+ writes=\d+ reads=\d+"),
+    Command(("guard", "ops", "prog", "script", "image", "flips", "out"), ("ops", "script", "triples", "flips"),
+            ("prog", "out"), frozenset({0, 2, 4, 6, 7, 8, 11, 17, 18}), rb"(" + REPORT + rb"|" + VOTES + rb")", TOTAL),
 ]
 
 WORD_OPERATIONS = ("not and or xor copy zero ones shl1 shr1 add sub mul div rem abs relu min max eq gt ge if_else bitcount "
                    "and_red or_red xor_red divmod").split()
 GATES = {"not": 1, "and": 2, "or": 2, "xor": 2, "maj": 3}
 TOKENS = ("op word bit serial up down let ( ) { } , ; : = -> 0 1 2 a b c t y _ x9 " + "n" * 17 + " # @ \n").split(" ")
+QUERY_TOKENS = "eq ne lt le gt ge and or not ( ) , a b y 0 3 8 200 256 # @ \n".split(" ")
 SCRIPT_TOKENS = ("bbop_trsp_init bbop_add bbop_f bbop_ load fill print free order in turns seed , 0 1 2 8 64 128 129 "
                  "340282366920938463463374607431768211456 a b y @ # \n").split(" ")
 
@@ -104,6 +122,7 @@ class Maker:
     def __init__(self, dice):
         self.dice = dice
         self.programs = [bytes_in(EXAMPLES / "exec" / "xor.hex")]
+        self.traces = []
         self.texts = [path.read_bytes() for path in sorted(EXAMPLES.rglob("*.ops"))]
         self.scripts = [path.read_bytes() for path in sorted(EXAMPLES.rglob("*.bbop"))]
 
@@ -175,17 +194,81 @@ class Maker:
             return " ".join(self.dice.choice(SCRIPT_TOKENS) for _ in range(self.dice.randrange(30))).encode()
         return self.mutated(self.dice.choice(self.scripts))
 
-    def image(self):
-        banks, rows, words = self.dice.choice([(1, 64, 1), (2, 128, 1), (1, 128, 2), (3, 70, 1)])
+    def shape(self):
+        return self.dice.choice([(1, 64, 1), (2, 128, 1), (1, 128, 2), (3, 70, 1)])
+
+    def image_of(self, copies):
+        """An image whose objects stand in so many copies, named by the letters in front."""
+        banks, rows, words = self.shape()
         objects, base = [], 0
         for name in self.dice.sample(["a", "b", "y", "z", "w"], self.dice.randrange(4)):
-            width = self.dice.choice([1, 4, 8])
-            if base + width <= rows - 32:
-                objects.append(Object(name, width, base, self.dice.choice([1, 2, 64])))
-                base += width
+            width, count = self.dice.choice([1, 4, 8]), self.dice.choice([1, 2, 64])
+            if base + len(copies) * width <= rows - 32:
+                for k, letter in enumerate(copies):
+                    objects.append(Object(letter + name, width, base + k * width, count))
+                base += len(copies) * width
         contents = self.dice.randbytes(8 * banks * rows * words)
         image = Image(banks, rows, words, objects, contents).file()
         return image if self.dice.random() < 0.7 else self.mutated(image)
+
+    def image(self):
+        return self.image_of([""])
+
+    def triples(self):
+        return self.image_of("xyz") if self.dice.random() < 0.9 else self.image()
+
+    def comparison(self):
+        word = self.dice.choice(["eq", "ne", "lt", "le", "gt", "ge"])
+        return f"{word}({self.dice.choice('abyzw')}, {self.dice.choice([0, 1, 3, 15, 16, 200, 255, 256])})"
+
+    def condition(self, depth):
+        kind = self.dice.random()
+        if depth == 0 or kind < 0.4:
+            return self.comparison()
+        if kind < 0.6:
+            return f"not({self.condition(depth - 1)})"
+        return f"{self.dice.choice(['and', 'or'])}({self.condition(depth - 1)}, {self.condition(depth - 1)})"
+
+    def query(self):
+        kind = self.dice.random()
+        if kind < 0.7:
+            return self.condition(self.dice.randrange(4)).encode()
+        if kind < 0.9:
+            return " ".join(self.dice.choice(QUERY_TOKENS) for _ in range(self.dice.randrange(20))).encode()
+        return self.mutated(self.condition(3).encode())
+
+    def flips(self):
+        lines, before = [], 1
+        for _ in range(self.dice.randrange(5)):
+            before += self.dice.randrange(3)
+            lines.append(f"{before} {self.dice.randrange(2)} {self.dice.randrange(64)} {self.dice.randrange(64)}")
+        text = "\n".join(lines).encode()
+        return text if self.dice.random() < 0.8 else self.mutated(text)
+
+    def event(self, banks, rows, words):
+        """An event of a trace, which breaks a rule now and then."""
+        def address(group, number):
+            return struct.pack("<BH", group, number)
+
+        bank, kind = self.dice.randrange(banks), self.dice.randrange(3)
+        row = address(2, self.dice.randrange(rows))
+        if kind == 2:
+            return bytes([2, bank]) + row + bytes(3) + self.dice.randbytes(8 * words)
+        sources = [row, address(0, self.dice.randrange(16)), address(1, self.dice.randrange(2))]
+        targets = [row, address(0, self.dice.randrange(12))]
+        if kind == 1:
+            return bytes([1, bank]) + self.dice.choice(sources) + bytes(3)
+        return bytes([0, bank]) + self.dice.choice(sources) + self.dice.choice(targets)
+
+    def trace(self):
+        if self.traces and self.dice.random() < 0.4:
+            trace = self.dice.choice(self.traces)
+        else:
+            banks, rows, words = self.shape()
+            events = [self.event(banks, rows, words) for _ in range(self.dice.randrange(12))]
+            head = b"SDMT" + struct.pack("<5H", 1, banks, rows, words, 0)
+            trace = head + struct.pack("<I", len(events)) + b"".join(events)
+        return trace if self.dice.random() < 0.7 else self.mutated(trace)
 
     def program(self):
         program = self.dice.choice(self.programs)
@@ -217,7 +300,8 @@ class Maker:
         return self.dice.choice(["0", "1", "8", "64", "128", "129", "007", "-1", "", "x", "18446744073709551616", "1006"])
 
 
-MADE = {"ops": Maker.text, "script": Maker.script, "image": Maker.image, "prog": Maker.program}
+MADE = {"ops": Maker.text, "script": Maker.script, "image": Maker.image, "prog": Maker.program, "query": Maker.query,
+        "flips": Maker.flips, "trace": Maker.trace}
 
 
 def limit():
@@ -229,7 +313,9 @@ def limit():
 def fill(folder, command, maker):
     """Makes the files that the command loads; one of 50 is not there."""
     for name in command.loads:
-        if maker.dice.random() < 0.98:
+        if maker.dice.random() < 0.98 and name == "triples":
+            (folder / "image").write_bytes(maker.triples())
+        elif maker.dice.random() < 0.98:
             (folder / name).write_bytes(MADE[name](maker))
     for name in command.stores:
         if maker.dice.random() < 0.2:
@@ -259,11 +345,11 @@ def file_fault(command, status, before, after):
         if name not in command.stores:
             if before.get(name) != after.get(name):
                 return f"{name} was changed"
-        elif name == "prog" and command.words[0] == "run" and status in (2, 6, 7, 11):
+        elif name == "prog" and command.words[0] in ("run", "guard") and status in (2, 6, 7, 11, 17, 18):
             continue
         elif not done and before.get(name) != after.get(name):
             return f"{name} was stored"
-        elif done and after.get(name, b"")[:4] not in (b"SDMI", b"SDMP"):
+        elif done and after.get(name, b"")[:4] not in (b"SDMI", b"SDMP", b"SDMT"):
             return f"{name} was not stored whole"
     return None
 
@@ -293,12 +379,14 @@ def call(folder, command, maker):
 
 
 def remember(folder, command, maker):
-    """Keeps a program that was compiled, to be mutated in later cases."""
-    path = folder / "prog"
-    if command.words[0] in ("run", "compile") and path.exists() and path.stat().st_size < 20_000:
-        program = path.read_bytes()
-        if program[:4] == b"SDMP" and len(maker.programs) < 64:
-            maker.programs.append(program)
+    """Keeps a program that was compiled and a trace, to be used and mutated in later cases."""
+    kept = {"run": ("prog", maker.programs), "compile": ("prog", maker.programs), "trace": ("trace", maker.traces)}
+    name, files = kept.get(command.words[0], (None, []))
+    path = folder / str(name)
+    if name and path.exists() and path.stat().st_size < 20_000:
+        data = path.read_bytes()
+        if data[:4] in (b"SDMP", b"SDMT") and len(files) < 64:
+            files.append(data)
 
 
 def main():
