@@ -144,12 +144,12 @@ static FAULTS: [(usize, u8, &str); 24] = [
     (6, 0, "trace byte 6 geometry\n"),
     (8, 63, "trace byte 8 geometry\n"),
     (10, 0, "trace byte 10 geometry\n"),
-    // no name, no width, and a base in the last 32 rows
+    // no name, no width, a base in the last 32 rows, and b under the name a
     (14, 0, "trace byte 14 object\n"),
     (31, 0, "trace byte 31 object\n"),
     (32, 32, "trace byte 32 object\n"),
-    // b under the name a, and b in the row of a
-    (39, b'a', "trace byte 38 overlap\n"),
+    (39, b'a', "trace byte 39 object\n"),
+    // b in the row of a
     (56, 2, "trace byte 56 overlap\n"),
     // a kind, a bank, a group, a number, and bytes without a name
     (66, 3, "trace byte 66 event\n"),
