@@ -81,11 +81,10 @@ use Rattle.simdram_cli.proofs.Running.{Apart, apart}
 use Rattle.simdram_cli.proofs.Soaking.{soak_of}
 use Rattle.simdram_cli.specs.declared.words.ReplayNames.{ReplayNames}
 use Rattle.simdram_cli.specs.declared.words.TheConstants.{TRACE_MAX}
-use Rattle.simdram_cli.specs.Replay.{AreTexts, ReplayTexts, events_steps, on_image_steps}
+use Rattle.simdram_cli.specs.Replay.{AreTexts, ReplayTexts, on_image_steps}
 use Rattle.simdram_cli.specs.Replay.{replay_steps}
 use Rattle.simdram_cli.specs.Traces.{geometry_differs, if_same, image_for, same_geometry, trace_in}
 use Rattle.simdram_cli.proofs.Promising.{same_is, trace_is}
-use Rattle.dram_model.specs.declared.geometry.Geometry.{Geometry}
 use Rattle.trace_model.specs.Reading.{trace_in as trace_read}
 use Rattle.trace_model.specs.Spelling.{Trace}
 use Rattle.cli_model.specs.Steps.{End}

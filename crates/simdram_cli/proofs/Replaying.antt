@@ -1,8 +1,8 @@
 -- How a replay goes and ends, and what it promises.
-use Rattle.std.proofs.Common.{◌≡◌, ◌⊎◌, ℕ, ◌+◌, ◌*◌, ◌<◌, ◌≤◌, ◌^◌, Bool, true, false, cond, List, []}
+use Rattle.std.proofs.Common.{◌≡◌, ℕ, ◌+◌, ◌*◌, ◌<◌, ◌≤◌, ◌^◌, Bool, true, false, cond, List, []}
 use Rattle.std.proofs.Common.{◌∷◌, ◌++◌, Option, Some, None, refl, sym, ◌∙◌, ap, subst, inl, inr}
 use Rattle.std.proofs.Common.{arith, append-nil, zero-add}
-use Rattle.std.specs.Prelude.{Result, Ok, Err, IfOk, IfSome, ◌≢◌, ◌==◌, ◌&&◌, count_by}
+use Rattle.std.specs.Prelude.{Result, Ok, Err, IfOk, IfSome, ◌≢◌, ◌==◌, ◌&&◌, count_by, not}
 use Rattle.std.specs.Result.{result_ok}
 use Rattle.std.proofs.lemmas.Bool.{eqb-true, eq-eqb}
 use Rattle.std.proofs.lemmas.List.Sums.{sum_by-cons}
@@ -19,9 +19,11 @@ use Rattle.object_alloc.specs.declared.fault.ImageNo.TheVariants as no
 use Rattle.object_alloc.specs.Listed.{Named}
 use Rattle.object_alloc.specs.Reading.{image_in, IsFault}
 use Rattle.object_alloc.specs.Spelling.{image_bytes}
+use Rattle.uprog_bin.specs.Opened.{IsProgramFile}
+use Rattle.uprog_bin.specs.Spelling.{program_bytes}
 use Rattle.machine_model.specs.Opened.{Image, row_writes, rows_of}
 use Rattle.machine_model.proofs.Places.{bytes_differ}
-use Rattle.trace_model.specs.Reading.{TraceFault, trace_in as trace_read}
+use Rattle.trace_model.specs.Reading.{trace_in as trace_read}
 use Rattle.trace_model.specs.Spelling.{IsTrace, Trace, bytes_of_trace}
 use Rattle.cmd_trace.specs.declared.fault.TraceNo.{TraceNo}
 use Rattle.cmd_trace.specs.declared.fault.TraceNo.TheVariants as trace_no
@@ -42,7 +44,7 @@ use Rattle.simdram_cli.specs.declared.stop.Stop.{Stop}
 use Rattle.simdram_cli.specs.declared.stop.Stop.TheVariants as stop
 use Rattle.simdram_cli.specs.Headline.{read_as}
 use Rattle.simdram_cli.specs.Ends.{answer_to}
-use Rattle.simdram_cli.specs.Inputs.{image_of, image_or_refusal, image_refusal}
+use Rattle.simdram_cli.specs.Inputs.{image_of, image_or_refusal}
 use Rattle.simdram_cli.specs.Job.{done_status, opened_counters}
 use Rattle.simdram_cli.specs.Reads.{IsText, LoadedAs, NotLoaded, refusal_of}
 use Rattle.simdram_cli.specs.Replay.{AreTexts, DoneByTrace, DoneOnImage, EventsDone, ImageReplayed}
@@ -51,7 +53,7 @@ use Rattle.simdram_cli.specs.Replay.{events_steps, image_replayed, is_aap, is_ap
 use Rattle.simdram_cli.specs.Replay.{on_image_steps, replay_counters, replay_line, replay_steps}
 use Rattle.simdram_cli.specs.Stops.{end_of, image_reason, reason_of, trace_reason}
 use Rattle.simdram_cli.specs.Traces.{geometry_differs, if_same, image_for, same_geometry, trace_in}
-use Rattle.simdram_cli.specs.Traces.{trace_or_refusal, trace_refusal}
+use Rattle.simdram_cli.specs.Traces.{trace_or_refusal}
 use Rattle.simdram_cli.specs.Works.{OpenedOn}
 use Rattle.simdram_cli.proofs.Foreseen.{tell_both, text_at, was_read}
 use Rattle.simdram_cli.proofs.Joins.{loaded_text, loading_goes, loading_stops, told_is_text}
@@ -67,16 +69,42 @@ geometry_same g h e =
     subst (λ (x : Geometry). same_geometry g x ≡ true) e
     (rw (eq-eqb g.banks g.banks refl, eq-eqb g.rows g.rows refl, eq-eqb g.words g.words refl) refl)
 
-geometry_of_fields : (g h : Geometry) → g.banks ≡ h.banks → g.rows ≡ h.rows → g.words ≡ h.words
-    → g ≡ h
-geometry_of_fields g h b r w = rw (← b, ← r, ← w) refl
+of_fields : (b c r s w v : ℕ) → b ≡ c → r ≡ s → w ≡ v
+    → ◌≡◌ {A = Geometry} (record { banks = b; rows = r; words = w })
+    (record { banks = c; rows = s; words = v })
+of_fields b c r s w v e f g = rw (e, f, g) refl
 
 pub geometry_is : (g h : Geometry) → same_geometry g h ≡ true → g ≡ h
 geometry_is g h e =
-    let two = both (g.banks == h.banks && g.rows == h.rows) (g.words == h.words) e in
-    let one = both (g.banks == h.banks) (g.rows == h.rows) two.0 in
-    geometry_of_fields g h (eqb-true g.banks h.banks one.0) (eqb-true g.rows h.rows one.1)
-    (eqb-true g.words h.words two.1)
+    let two = both (g.banks == h.banks) (g.rows == h.rows && g.words == h.words) e in
+    let one = both (g.rows == h.rows) (g.words == h.words) two.1 in
+    of_fields g.banks h.banks g.rows h.rows g.words h.words (eqb-true g.banks h.banks two.0)
+    (eqb-true g.rows h.rows one.0) (eqb-true g.words h.words one.1)
+
+-- by the test whether they differ
+
+pub same_at : (differ same : Bool) → differ ≡ not same → differ ≡ false → same ≡ true
+same_at differ true e f = refl
+same_at differ false e f = absurd (cc)
+
+pub differs_at : (differ same : Bool) → differ ≡ not same → differ ≡ true → same ≡ false
+differs_at differ true e f = absurd (cc)
+differs_at differ false e f = refl
+
+-- the file of a program without entries
+
+no_program_bytes : program_bytes 2 [] ≡ 83 ∷ 68 ∷ 77 ∷ 80 ∷ 2 ∷ 0 ∷ 0 ∷ 0 ∷ []
+unfolding program_bytes
+no_program_bytes = refl
+
+pub no_program : IsProgramFile (83 ∷ 68 ∷ 77 ∷ 80 ∷ 2 ∷ 0 ∷ 0 ∷ 0 ∷ [])
+no_program = record {
+  version = 2;
+  programs = [];
+  is = record { few = omega arith; entries = tt; names = λ i j d l m. absurd (omega (arith, m)) };
+  has = inr refl;
+  spelled = sym no_program_bytes;
+}
 
 -- the counters of events
 
@@ -104,7 +132,9 @@ same_counts a b p q w v r e f g = rw (e, f, g) refl
 
 pub events_counted : (events : List Event) (k : Counters)
     → all_counted events k ≡ with_all k events
-events_counted [] k = refl
+events_counted [] k =
+    same_counts k.aap (k.aap + 0) k.ap (k.ap + 0) k.writes (k.writes + 0) k.reads (omega arith)
+    (omega arith) (omega arith)
 events_counted (Row bank (Ap x) ∷ events) k =
     let event : Event = Row bank (Ap x) in
     events_counted events (counted event k)

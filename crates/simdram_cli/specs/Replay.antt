@@ -1,6 +1,6 @@
 -- The command `replay`.
 use Rattle.std.specs.Prelude.{◌≡◌, ◌≢◌, ℕ, ◌+◌, ◌*◌, Bool, true, false, List, [], ◌∷◌, ◌++◌}
-use Rattle.std.specs.Prelude.{Some, Result, Ok, Err, IfOk, count_by, codes, decimal}
+use Rattle.std.specs.Prelude.{Option, Some, Result, Ok, Err, IfOk, count_by, codes, decimal}
 use Rattle.dram_model.specs.declared.address.Command.TheVariants.{Ap, Aap}
 use Rattle.dram_model.specs.declared.dram.Counters.{Counters}
 use Rattle.dram_model.specs.Chip.{Event, LogIs}

@@ -39,7 +39,7 @@ abbrev pub trace_in : List ℕ → Result Trace Refusal
 trace_in bytes = trace_or_refusal (trace_read bytes)
 
 abbrev pub same_geometry : Geometry → Geometry → Bool
-same_geometry g h = (g.banks == h.banks && g.rows == h.rows) && g.words == h.words
+same_geometry g h = g.banks == h.banks && (g.rows == h.rows && g.words == h.words)
 
 -- an image of another geometry than the trace's is refused
 abbrev pub geometry_differs : Refusal

@@ -28,6 +28,7 @@ use host_edge::{Folder, Sink};
 use object_alloc::{Image, read_image};
 use sim_machine::Machine;
 use std::alloc::Global;
+use uprog_bin::ProgView;
 
 /// The file of a program without entries, since a replay runs none.
 const NO_PROGRAM: &[u8] = b"SDMP\x02\x00\x00\x00";
@@ -58,12 +59,13 @@ fn replay_line(counters: Counters) -> Line
 
 /// Opens a machine on an image, does a trace's events on its chip, and reads all rows into the file
 /// of the trace's objects.
-fn replay_rows<'a, D: Dram>(
+fn replay_rows<'a, 'p, D: Dram>(
+    prog: ProgView<'p>,
     trace: &TraceView<'_>,
     image: Image<'_>,
     chip: &mut D,
     alloc: Global,
-) -> Result<Machine<'static>, Stop<'a>>
+) -> Result<Machine<'p>, Stop<'a>>
     requires lies { LiesOn image.geometry image.table }
     requires rows { length image.rows.now ≡ rows_size image.geometry }
     requires same { image.geometry ≡ trace.now.geometry }
@@ -76,7 +78,7 @@ fn replay_rows<'a, D: Dram>(
     ensures goes { (files : FolderView) (sink : SinkView) → Goes (Open ∷ Use ∷ Use ∷ [])
         (end_of result) (world files sink (D.view chip.old)) (world files sink (D.view chip.new)) }
 {
-    let mut machine = open(open_own(NO_PROGRAM), image, chip, alloc)?;
+    let mut machine = open(prog, image, chip, alloc)?;
     if replay_events(trace, chip).is_err() {
         return Err(Stop::ChipFailed);
     }
@@ -130,7 +132,8 @@ fn replay_on<'a, F: Folder, S: Sink, D: Dram>(
     ensures done { OnOk result (EventsDone trace.now (image_found (found_in image.entry))
         (D.view chip.new)) }
 {
-    let machine = replay_rows(trace, image, chip, alloc)?;
+    let prog = open_own(NO_PROGRAM);
+    let machine = replay_rows(prog, trace, image, chip, alloc)?;
     finish(machine.file(), chip.tally(), name, files, out)?;
     Ok(0)
 }

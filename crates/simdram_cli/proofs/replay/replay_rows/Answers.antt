@@ -16,6 +16,14 @@ returns-in_err-machine-clause-goes g c files sink =
     rw (p.1, p.2) (rows_unopened _ (world files sink (g.D.Dram.view c.args.chip.now))
     (world files sink (g.D.Dram.view c.open.new.chip)) (c.in_err-machine.ensures.goes files sink))
 
+pub image_with-requires-clause-room : goal.image_with-requires-clause-room
+image_with-requires-clause-room g c =
+    reads_still c.args.trace.now.events (image_found (found_in c.args.image))
+    (g.D.Dram.view c.open.new.chip) (g.D.Dram.view c.replay_events.new.dram)
+    c.in_ok-machine.ensures.opened
+    (at_ok c.replay_events.result (sym c.is_err.ensures.value ∙ c.if-is_err.false)
+    c.replay_events.ensures.did)
+
 pub returns-then-is_err-clause-goes : goal.returns-then-is_err-clause-goes
 returns-then-is_err-clause-goes g c files sink =
     let before = g.D.Dram.view c.args.chip.now in
