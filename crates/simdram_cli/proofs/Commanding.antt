@@ -11,9 +11,11 @@ use Rattle.simdram_cli.specs.declared.words.Command.{Command}
 use Rattle.simdram_cli.specs.declared.words.Command.TheVariants.{Run, Exec, Compile, Show, Migrate}
 use Rattle.simdram_cli.specs.declared.words.Command.TheVariants.{Cost, List as ListOf, Init, Soak}
 use Rattle.simdram_cli.specs.declared.words.Command.TheVariants.{Scan}
+use Rattle.simdram_cli.specs.declared.words.Command.TheVariants.{Replay}
 use Rattle.simdram_cli.specs.Words.{HasNumbers, IsApart, are_apart, command_of, command_on_one}
 use Rattle.simdram_cli.specs.Words.{command_on_four, command_on_two, cost_on, init_on}
 use Rattle.simdram_cli.specs.Words.{inputs_apart, is_number, soak_on, value_of}
+use Rattle.simdram_cli.specs.Words.{command_on_three, trace_apart}
 
 -- the files of a command are apart, and its numbers are in range
 pub record IsRight (command : Command) : Type 0 where
@@ -104,6 +106,16 @@ on_two_right verb first second apart =
     if_so (bytes_eq verb (codes "scan")) (Scan (record { query = first; image = second }))
     (λ e. record { apart = apart; numbers = tt })))
 
+on_three_right : (verb : List ℕ) (first second third : Bor (List ℕ))
+    → AreRight (command_on_three verb first second third)
+on_three_right verb first second third =
+    let apart = trace_apart first.now second.now third.now in
+    if_so (bytes_eq verb (codes "replay") && apart) (Replay (record
+    { trace = first; image = second; out = third })) (λ e. record {
+      apart = second_holds (bytes_eq verb (codes "replay")) apart e;
+      numbers = tt;
+    })
+
 on_four_right : (verb : List ℕ) (first second third fourth : Bor (List ℕ))
     → AreRight (command_on_four verb first second third fourth)
 on_four_right verb first second third fourth =
@@ -125,7 +137,8 @@ words_right (verb ∷ first ∷ second ∷ []) =
     (cost_right first second.now) (λ other.
     no_other (bytes_eq first.now second.now) (command_on_two verb.now first second)
     (on_two_right verb.now first second))
-words_right (a ∷ b ∷ c ∷ d ∷ []) = tt
+words_right (verb ∷ first ∷ second ∷ third ∷ []) =
+    on_three_right verb.now first second third
 words_right (verb ∷ first ∷ second ∷ third ∷ fourth ∷ []) =
     on_four_right verb.now first second third fourth
 words_right (verb ∷ ops ∷ prog ∷ script ∷ image ∷ out ∷ []) =

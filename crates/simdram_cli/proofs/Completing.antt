@@ -45,6 +45,7 @@ use Rattle.simdram_cli.specs.declared.words.Command.{Command}
 use Rattle.simdram_cli.specs.declared.words.Command.TheVariants.{Run, Exec, Compile, Show, Migrate}
 use Rattle.simdram_cli.specs.declared.words.Command.TheVariants.{Cost, List as ListOf, Init, Soak}
 use Rattle.simdram_cli.specs.declared.words.Command.TheVariants.{Scan}
+use Rattle.simdram_cli.specs.declared.words.Command.TheVariants.{Replay}
 use Rattle.simdram_cli.specs.declared.words.ScanNames.{ScanNames}
 use Rattle.simdram_cli.specs.declared.words.TheConstants.{QUERY_MAX}
 use Rattle.scan_model.specs.Checks.{checked}
@@ -78,6 +79,15 @@ use Rattle.simdram_cli.proofs.Promising.{found_of, image_is, init_of, job_so, on
 use Rattle.simdram_cli.proofs.Promising.{pieces_of, read_of, with_so, work_of}
 use Rattle.simdram_cli.proofs.Running.{Apart, apart}
 use Rattle.simdram_cli.proofs.Soaking.{soak_of}
+use Rattle.simdram_cli.specs.declared.words.ReplayNames.{ReplayNames}
+use Rattle.simdram_cli.specs.declared.words.TheConstants.{TRACE_MAX}
+use Rattle.simdram_cli.specs.Replay.{AreTexts, ReplayTexts, on_image_steps}
+use Rattle.simdram_cli.specs.Replay.{replay_steps}
+use Rattle.simdram_cli.specs.Traces.{geometry_differs, if_same, image_for, same_geometry, trace_in}
+use Rattle.simdram_cli.proofs.Promising.{same_is, trace_is}
+use Rattle.trace_model.specs.Reading.{trace_in as trace_read}
+use Rattle.trace_model.specs.Spelling.{Trace}
+use Rattle.cli_model.specs.Steps.{End}
 
 -- where nothing failed and the files foretell no end, a step fails for want of memory alone
 
@@ -283,6 +293,91 @@ scan_passes names texts made q (Some files) good read =
     loads_none_done (made_steps made q i) files
     (made_of (λ s. s ≡ 2 → ⊥) made q i (λ e. cc) (λ e. cc) (λ e. cc))))
 
+-- A command that its files foretell to be refused with one status, where they do not let it be done.
+-- So it is done or so refused, or answers 10
+
+refused_fault : (steps : List Step) (files : Files) (refusal : Refusal) (reason : Reason)
+    → foreseen steps files ≡ Stopped (Refused refusal)
+    → (foreseen steps files ≡ Stopped reason) ⊎ IsFault reason
+    → (reason ≡ Refused refusal) ⊎ IsFault reason
+refused_fault steps files refusal reason e (inl f) =
+    let same : Stopped reason ≡ Stopped (Refused refusal) = sym f ∙ e in
+    inl (cc)
+refused_fault steps files refusal reason e (inr f) = inr f
+
+refused_stop : (steps : List Step) (stop : Stop) (refusal : Refusal) (files : Files) (a b : World)
+    (status : ℕ) → foreseen steps files ≡ Stopped (Refused refusal)
+    → IsForetold steps (At stop) files → IsStopped steps stop a b status → NothingFailed a b
+    → (status ≡ refusal.status) ⊎ (status ≡ 10)
+refused_stop steps stop refusal files a b status e told s n =
+    either_so (refused_fault steps files refusal stop.reason e told.1)
+  where
+    either_so : (stop.reason ≡ Refused refusal) ⊎ IsFault stop.reason
+        → (status ≡ refusal.status) ⊎ (status ≡ 10)
+    either_so (inl f) = inl (s.answers ∙ ap reason_status f)
+    either_so (inr f) =
+        inr (s.answers ∙ step_wants stop.failed stop.reason a b s.causes f n)
+
+refused_end : (steps : List Step) (done : ℕ) (ended : Ended) (refusal : Refusal) (files : Files)
+    (a b : World) (status : ℕ) → foreseen steps files ≡ Stopped (Refused refusal)
+    → IsForetold steps ended files → EndsSo steps done ended a b status → NothingFailed a b
+    → (status ≡ refusal.status) ⊎ (status ≡ 10)
+refused_end steps done All refusal files a b status e told s n = absurd (cc)
+refused_end steps done (At stop) refusal files a b status e told s n =
+    refused_stop steps stop refusal files a b status e told s n
+
+-- the files let the steps be done, or one is refused for this reason
+abbrev DoneOr : Refusal → List Step → Option Files → Type 0
+DoneOr refusal steps None = ⊥
+DoneOr refusal steps (Some files) = (foreseen steps files ≡ Done)
+    ⊎ (foreseen steps files ≡ Stopped (Refused refusal))
+
+done_or : (steps : List Step) (done : ℕ) (ended : Ended) (refusal : Refusal)
+    (holds : Option Files) (a b : World) (status : ℕ) → holds ≡ a.files.holds
+    → DoneOr refusal steps holds → IfSome holds (IsForetold steps ended)
+    → EndsSo steps done ended a b status → NothingFailed a b
+    → (status ≡ done) ⊎ ((status ≡ refusal.status) ⊎ (status ≡ 10))
+done_or steps done ended refusal None a b status is d told s n = absurd d
+done_or steps done ended refusal (Some files) a b status is (inr e) told s n =
+    inr (refused_end steps done ended refusal files a b status e told s n)
+done_or steps done ended refusal (Some files) a b status is (inl e) told s n =
+    either_so (end_completes steps done ended a b status
+    (subst (λ (h : Option Files). Passes h steps) is e)
+    (subst (λ (h : Option Files). IfSome h (IsForetold steps ended)) is told) s n)
+  where
+    either_so : (status ≡ done) ⊎ (status ≡ 10)
+        → (status ≡ done) ⊎ ((status ≡ refusal.status) ⊎ (status ≡ 10))
+    either_so (inl f) = inl f
+    either_so (inr f) = inr (inr f)
+
+completes_or : (P : ℕ → Type 0) (steps : List Step) (done : ℕ) (refusal : Refusal) (a b : World)
+    (status : ℕ) → Ends steps done a b status → DoneOr refusal steps a.files.holds
+    → NothingFailed a b → P done → P refusal.status → P 10 → P status
+completes_or P steps done refusal a b status e d n one other ten =
+    either_so (done_or steps done e.ended refusal a.files.holds a b status refl d e.foretold e.so n)
+  where
+    either_so : (status ≡ done) ⊎ ((status ≡ refusal.status) ⊎ (status ≡ 10)) → P status
+    either_so (inl f) = subst P (sym f) one
+    either_so (inr (inl f)) = subst P (sym f) other
+    either_so (inr (inr f)) = subst P (sym f) ten
+
+-- what is foreseen behind a file that was loaded
+abbrev foreseen_by : {B : Type 0} → Result B Refusal → (B → List Step) → Files → End
+foreseen_by (Ok x) rest files = foreseen (rest x) files
+foreseen_by (Err r) rest files = Stopped (Refused r)
+
+-- a good file ends a load as what is read of its text says
+good_ends : {A B : Type 0} (name : List ℕ) (limit : ℕ) (text : List ℕ)
+    (read : List ℕ → Result A Refusal) (value : Result B Refusal) (rest : B → List Step)
+    (end : End) (files : Files) → IsGood read limit (files name)
+    → IfSome (files name) (λ b. b ≡ text)
+    → foreseen_by value rest files ≡ end
+    → foreseen (loading name limit text value rest) files ≡ end
+good_ends name limit text read (Ok x) rest end files good is more =
+    rw (good.there, le-ltb limit (length good.text) good.within) more
+good_ends name limit text read (Err r) rest end files good is more =
+    rw (good.there, le-ltb limit (length good.text) good.within) more
+
 -- a line that is told last changes no file and no chip, and no count of faults falls
 record IsAfter (told new : World) : Type 0 where
   files : new.files ≡ told.files
@@ -321,6 +416,54 @@ told_same : (steps : List Step) (done : ℕ) (ended : Ended) (refusal : Option R
 told_same steps done All refusal old told new status so apart ten tells =
     absurd (apart (sym so.answers ∙ ten))
 told_same steps done (At stop) refusal old told new status so apart ten tells = tells
+
+either_image : (names : ReplayNames) (t : Trace) (i : Image) (text : List ℕ) (files : Files)
+    (b : Bool) → same_geometry i.geometry t.geometry ≡ b → image_of text ≡ Ok i
+    → IsImageFile (files names.image.now) → IfSome (files names.image.now) (λ x. x ≡ text)
+    → (foreseen (on_image_steps names t text) files ≡ Done)
+    ⊎ (foreseen (on_image_steps names t text) files ≡ Stopped (Refused geometry_differs))
+either_image names t i text files true e is good has =
+    let read : image_for t.geometry text ≡ Ok i = ap (if_same t.geometry) is ∙ rw e refl in
+    inl (good_ends names.image.now IMAGE_MAX text image_of (image_for t.geometry text) _ Done files
+    good has (rw read refl))
+either_image names t i text files false e is good has =
+    let read : image_for t.geometry text ≡ Err geometry_differs =
+    ap (if_same t.geometry) is ∙ rw e refl in
+    inr (good_ends names.image.now IMAGE_MAX text image_of (image_for t.geometry text) _
+    (Stopped (Refused geometry_differs)) files good has (rw read refl))
+
+image_either : (names : ReplayNames) (t : Trace) (text : List ℕ) (files : Files)
+    → IsImageFile (files names.image.now) → IfSome (files names.image.now) (λ x. x ≡ text)
+    → (foreseen (on_image_steps names t text) files ≡ Done)
+    ⊎ (foreseen (on_image_steps names t text) files ≡ Stopped (Refused geometry_differs))
+image_either names t text files good has =
+    let i = good.value in
+    either_image names t i text files (same_geometry i.geometry t.geometry) refl
+    (ap image_of (sym (same_text (files names.image.now) good.text text good.there has))
+    ∙ good.accepted) good has
+
+replay_passes : (names : ReplayNames) (texts : ReplayTexts) (holds : Option Files)
+    → AreGood (Replay names) (file_in holds) → AreTexts names texts holds
+    → DoneOr geometry_differs (replay_steps names texts) holds
+replay_passes names texts None good read = no_file trace_in TRACE_MAX good.0
+replay_passes names texts (Some files) good read =
+    let t = good.0.value in
+    let accepted : trace_in texts.trace ≡ Ok t =
+    ap trace_in (sym (same_text (files names.trace.now) good.0.text texts.trace good.0.there
+    read.trace)) ∙ good.0.accepted in
+    either_so t accepted (image_either names t texts.image files good.1 read.image)
+  where
+    either_so : (t : Trace) → trace_in texts.trace ≡ Ok t
+        → (foreseen (on_image_steps names t texts.image) files ≡ Done)
+        ⊎ (foreseen (on_image_steps names t texts.image) files
+        ≡ Stopped (Refused geometry_differs))
+        → DoneOr geometry_differs (replay_steps names texts) (Some files)
+    either_so t e (inl f) =
+        inl (good_ends names.trace.now TRACE_MAX texts.trace trace_in (trace_in texts.trace) _ Done
+        files good.0 read.trace (rw e f))
+    either_so t e (inr f) =
+        inr (good_ends names.trace.now TRACE_MAX texts.trace trace_in (trace_in texts.trace) _
+        (Stopped (Refused geometry_differs)) files good.0 read.trace (rw e f))
 
 abbrev IsOneOf : List ℕ → ℕ → Type 0
 IsOneOf statuses status = list_any (λ s. s == status) statuses ≡ true
@@ -371,6 +514,9 @@ completes (Scan names) old new status are e = λ good n.
     e.ends (scan_passes names e.texts e.made e.query old.files.holds good e.read)
     (still_nothing old e.told new (last_after e.ends.ended refusal e.told new e.last) n)
     (scan_so P e.made e.query (image_of e.texts.image) refl refl) refl
+completes (Replay names) old new status are e = λ good n.
+    completes_or (IsOneOf (10 ∷ 0 ∷ 14 ∷ [])) (replay_steps names e.texts) 0 geometry_differs old
+    new status e.ends (replay_passes names e.texts old.files.holds good e.read) n refl refl refl
 
 -- where memory is taken
 
@@ -650,6 +796,16 @@ scan_first names texts made q =
     loading_first None names.image.now IMAGE_MAX texts.image (image_of texts.image) _
     (image_is (λ s. s ≡ 10 → ⊥) (image_in texts.image) (λ e. cc)) (λ i. made_first made q i))
 
+replay_first : (names : ReplayNames) (texts : ReplayTexts)
+    → TakesFirst None (replay_steps names texts)
+replay_first names texts =
+    let P : ℕ → Type 0 = λ s. s ≡ 10 → ⊥ in
+    loading_first None names.trace.now TRACE_MAX texts.trace (trace_in texts.trace) _
+    (trace_is P (trace_read texts.trace) (λ e. cc)) (λ t.
+    loading_first None names.image.now IMAGE_MAX texts.image (image_for t.geometry texts.image) _
+    (same_is P t.geometry (image_in texts.image) (λ e. cc) (λ e. cc)) (λ i.
+    ((λ e. cc), ((λ e. cc), ((λ e. cc), ((λ e. cc), tt))))))
+
 -- what want of memory leaves
 pub spares : (command : Command) (old new : World) (status : ℕ)
     → CommandEnds command old new status → Spares command old new status
@@ -695,6 +851,9 @@ spares (Scan names) old new status e = λ ten.
     apart ten e.last))
     (spares_by None steps (scan_status refusal) old e.told status e.ends
     (scan_first names e.texts e.made e.query) apart ten)
+spares (Replay names) old new status e =
+    spares_by None (replay_steps names e.texts) 0 old new status e.ends
+    (replay_first names e.texts) (λ f. cc)
 
 -- on the words of a command
 

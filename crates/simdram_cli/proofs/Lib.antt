@@ -29,4 +29,5 @@ pub mod Telling
 pub mod Unique
 pub mod Soaking
 pub mod Scanning
+pub mod Replaying
 mod Showing

@@ -25,17 +25,25 @@ use Rattle.cli_model.specs.World.{World}
 use Rattle.cli_model.specs.Steps.{Step, Use, Store, Put, Refusal, loading}
 use Rattle.cli_model.proofs.Statuses.{OfSteps, OfRefusal, of_more, ends_so, all_done}
 use Rattle.simdram_cli.specs.Inputs.{ops_in, unless_fault, script_in, script_or_refusal}
-use Rattle.simdram_cli.specs.Inputs.{image_of, image_or_refusal}
+use Rattle.simdram_cli.specs.Inputs.{image_found, image_of, image_or_refusal}
 use Rattle.simdram_cli.specs.declared.words.RunNames.{RunNames}
 use Rattle.simdram_cli.specs.declared.words.CompileNames.{CompileNames}
 use Rattle.simdram_cli.specs.declared.words.MigrateNames.{MigrateNames}
 use Rattle.simdram_cli.specs.declared.words.ScanNames.{ScanNames}
 use Rattle.simdram_cli.specs.declared.words.TheConstants.{OPS_MAX, SCRIPT_MAX, IMAGE_MAX, PROG_MAX}
 use Rattle.simdram_cli.specs.declared.words.TheConstants.{QUERY_MAX}
+use Rattle.simdram_cli.specs.declared.words.ReplayNames.{ReplayNames}
+use Rattle.simdram_cli.specs.declared.words.TheConstants.{TRACE_MAX}
+use Rattle.simdram_cli.specs.Replay.{ReplayTexts, replay_steps}
+use Rattle.simdram_cli.specs.Traces.{geometry_differs, if_same, image_for, same_geometry, trace_in}
+use Rattle.simdram_cli.specs.Traces.{trace_or_refusal}
+use Rattle.trace_model.specs.Reading.{TraceFault, trace_in as trace_read}
+use Rattle.trace_model.specs.Spelling.{Trace}
 use Rattle.simdram_cli.specs.declared.words.Command.{Command}
 use Rattle.simdram_cli.specs.declared.words.Command.TheVariants.{Run, Exec, Compile, Show, Migrate}
 use Rattle.simdram_cli.specs.declared.words.Command.TheVariants.{Cost, List as ListOf, Init, Soak}
 use Rattle.simdram_cli.specs.declared.words.Command.TheVariants.{Scan}
+use Rattle.simdram_cli.specs.declared.words.Command.TheVariants.{Replay}
 use Rattle.simdram_cli.specs.declared.words.InitNames.{InitNames}
 use Rattle.simdram_cli.specs.declared.account.Account.{Account}
 use Rattle.simdram_cli.specs.declared.account.Account.TheVariants.{Listing, Costs}
@@ -63,6 +71,7 @@ use Rattle.simdram_cli.proofs.Initial.{started}
 use Rattle.simdram_cli.proofs.Migrating.{migrated}
 use Rattle.simdram_cli.proofs.Soaking.{soak_of, soaked}
 use Rattle.simdram_cli.proofs.Scanning.{scanned}
+use Rattle.simdram_cli.proofs.Replaying.{replayed_by}
 use Rattle.simdram_cli.specs.Queries.{query_in, unless_broken}
 use Rattle.simdram_cli.specs.Scan.{ScanTexts, answer_on, made_steps, put_steps, refusal_on}
 use Rattle.simdram_cli.specs.Scan.{scan_status, scan_steps, use_steps, why_not}
@@ -305,6 +314,44 @@ scan_so P (Some program) q (Ok i) zero sixteen = answer_so P (answer_on program 
 scan_so P (Some program) q (Err r) zero sixteen = zero
 scan_so P None q image zero sixteen = zero
 
+-- the statuses that the steps of a replay can give
+record GivesOfReplay (P : ℕ → Type 0) : Type 0 where
+  two : P 2
+  three : P 3
+  seven : P 7
+  nine : P 9
+  ten : P 10
+  eleven : P 11
+  thirteen : P 13
+  fourteen : P 14
+
+pub trace_is : (P : ℕ → Type 0) (read : Result Trace TraceFault) → P 13
+    → OfRefusal P (refusal_of (trace_or_refusal read))
+trace_is P (Ok t) thirteen = tt
+trace_is P (Err fault) thirteen = thirteen
+
+same_if : (P : ℕ → Type 0) (b : Bool) (i : Image) → P 14
+    → OfRefusal P (refusal_of (cond b (Ok i) (Err geometry_differs)))
+same_if P true i fourteen = tt
+same_if P false i fourteen = fourteen
+
+pub same_is : (P : ℕ → Type 0) (g : Geometry) (found : Result Found ImageFault) → P 7 → P 14
+    → OfRefusal P (refusal_of (if_same g (image_or_refusal found)))
+same_is P g (Ok found) seven fourteen =
+    same_if P (same_geometry found.geometry g) (image_found found) fourteen
+same_is P g (Err fault) seven fourteen = seven
+
+replay_of : (P : ℕ → Type 0) (names : ReplayNames) (texts : ReplayTexts) → GivesOfReplay P
+    → OfSteps P (replay_steps names texts)
+replay_of P names texts g =
+    loading_of P names.trace.now TRACE_MAX texts.trace (trace_in texts.trace) _ g.two g.eleven g.ten
+    (trace_is P (trace_read texts.trace) g.thirteen) (λ t.
+    loading_of P names.image.now IMAGE_MAX texts.image (image_for t.geometry texts.image) _ g.two
+    g.eleven g.ten (same_is P t.geometry (image_in texts.image) g.seven g.fourteen) (λ i. (
+      (g.nine, g.ten),
+      (g.nine, (g.nine, (g.three, (g.three, tt)))),
+    )))
+
 -- a command answers one of its statuses
 pub can_answer : (command : Command) (old new : World) (status : ℕ)
     → CommandEnds command old new status → CanAnswer command status
@@ -383,6 +430,20 @@ can_answer (Scan names) old new status e =
     ends_so P (scan_steps names e.texts e.made e.query) _ old e.told status
     (scan_so P e.made e.query (image_of e.texts.image) refl refl)
     (scan_of P names e.texts e.made e.query gives) e.ends
+can_answer (Replay names) old new status e =
+    let P : ℕ → Type 0 = CanAnswer (Replay names) in
+    let gives : GivesOfReplay P = record {
+      two = refl;
+      three = refl;
+      seven = refl;
+      nine = refl;
+      ten = refl;
+      eleven = refl;
+      thirteen = refl;
+      fourteen = refl;
+    } in
+    ends_so P (replay_steps names e.texts) 0 old new status refl (replay_of P names e.texts gives)
+    e.ends
 
 not_one : (command : Command) (status : ℕ) → CanAnswer command status → status ≡ 1 → ⊥
 not_one (Run names) status can e =
@@ -405,6 +466,8 @@ not_one (Soak seed) status can e =
     let one : CanAnswer (Soak seed) 1 = subst (CanAnswer (Soak seed)) e can in cc
 not_one (Scan names) status can e =
     let one : CanAnswer (Scan names) 1 = subst (CanAnswer (Scan names)) e can in cc
+not_one (Replay names) status can e =
+    let one : CanAnswer (Replay names) 1 = subst (CanAnswer (Replay names)) e can in cc
 
 no_command : (words : List (Bor (List ℕ))) (o : Option Command) (status : ℕ) → command_of words ≡ o
     → OnCommand words (λ command. CanAnswer command status) → status ≡ 1
@@ -464,6 +527,19 @@ apart_of_scan status is = record {
   fifteen = apart_from_done status is 15 (λ f. cc) (λ f. cc);
 }
 
+apart_of_replay : (status : ℕ) → (status ≡ 0) ⊎ (status ≡ 8)
+    → GivesOfReplay (λ s. s ≡ status → ⊥)
+apart_of_replay status is = record {
+  two = apart_from_done status is 2 (λ f. cc) (λ f. cc);
+  three = apart_from_done status is 3 (λ f. cc) (λ f. cc);
+  seven = apart_from_done status is 7 (λ f. cc) (λ f. cc);
+  nine = apart_from_done status is 9 (λ f. cc) (λ f. cc);
+  ten = apart_from_done status is 10 (λ f. cc) (λ f. cc);
+  eleven = apart_from_done status is 11 (λ f. cc) (λ f. cc);
+  thirteen = apart_from_done status is 13 (λ f. cc) (λ f. cc);
+  fourteen = apart_from_done status is 14 (λ f. cc) (λ f. cc);
+}
+
 -- a command keeps what it promises
 pub promises : (command : Command) (old new : World) (status : ℕ) → IsApart command
     → CommandEnds command old new status → Promises command old new status
@@ -507,6 +583,9 @@ promises (Soak seed) old new status are e = λ is.
 promises (Scan names) old new status are e = λ is.
     scanned names old new status is e
     (scan_of (λ s. s ≡ status → ⊥) names e.texts e.made e.query (apart_of_scan status (inl is)))
+promises (Replay names) old new status are e = λ is.
+    replayed_by names old new status e
+    (replay_of (λ s. s ≡ status → ⊥) names e.texts (apart_of_replay status (inl is)))
 
 -- the words are this command and no other
 pub on_command : (words : List (Bor (List ℕ))) (command : Command) (P : Command → Type 0)

@@ -89,7 +89,7 @@ tally_is program script i holds =
     script (opened_counters i.geometry) holds.words holds.fits)
     ∙ rw (zero-add sum.aap, zero-add sum.ap, turned) refl
 
-log_is : (start : List Event) (a b c : Option Log) (events : List Event) → LogIs start a
+pub log_is : (start : List Event) (a b c : Option Log) (events : List Event) → LogIs start a
     → Grew a b events → Grew b c [] → LogIs (start ++ events) c
 log_is start a b c events is g h = subst (λ (all : List Event). LogIs all c)
     (append-nil (start ++ events))

@@ -9,6 +9,9 @@ use Rattle.object_steps.specs.declared.fault.StepFault.TheVariants as step_fault
 use Rattle.simdram_cli.specs.Inputs.{ops_refusal, script_refusal, image_refusal}
 use Rattle.simdram_cli.specs.Programs.{prog_refusal}
 use Rattle.simdram_cli.specs.Queries.{query_refusal, scan_refusal}
+use Rattle.cmd_trace.specs.declared.fault.TraceNo.{TraceNo}
+use Rattle.cmd_trace.specs.declared.fault.TraceNo.TheVariants as trace_no
+use Rattle.simdram_cli.specs.Traces.{geometry_differs, trace_refusal}
 use Rattle.simdram_cli.specs.declared.stop.Stop.{Stop}
 use Rattle.simdram_cli.specs.declared.stop.Stop.TheVariants as stop
 
@@ -21,6 +24,8 @@ reason_of (stop.BadScript fault) = Refused (script_refusal fault)
 reason_of (stop.BadImage fault) = Refused (image_refusal fault)
 reason_of (stop.BadQuery fault) = Refused (query_refusal fault)
 reason_of (stop.ScanRefused why k) = Refused (scan_refusal why k)
+reason_of (stop.BadTrace fault) = Refused (trace_refusal fault)
+reason_of stop.GeometryDiffers = Refused geometry_differs
 reason_of stop.NoMemory = NoMemory
 reason_of (stop.CannotWrite name) = CannotWrite name.now
 reason_of stop.PutFailed = PutFailed
@@ -35,6 +40,11 @@ end_of (Err s) = Stopped (reason_of s)
 abbrev pub image_reason : ImageNo → Reason
 image_reason (image_no.Fault fault) = Refused (image_refusal fault)
 image_reason image_no.NoMemory = NoMemory
+
+-- and at a trace
+abbrev pub trace_reason : TraceNo → Reason
+trace_reason (trace_no.Fault fault) = Refused (trace_refusal fault)
+trace_reason trace_no.NoMemory = NoMemory
 
 -- and at an instruction that is not done
 abbrev pub fault_reason : StepFault → Reason

@@ -13,6 +13,7 @@ use Rattle.simdram_cli.specs.declared.words.Command.{Command}
 use Rattle.simdram_cli.specs.declared.words.Command.TheVariants.{Run, Exec, Compile, Show, Migrate}
 use Rattle.simdram_cli.specs.declared.words.Command.TheVariants.{Cost, List as ListOf, Init, Soak}
 use Rattle.simdram_cli.specs.declared.words.Command.TheVariants.{Scan}
+use Rattle.simdram_cli.specs.declared.words.Command.TheVariants.{Replay}
 
 -- no two are equal
 abbrev pub all_differ : List (List ℕ) → Bool
@@ -28,6 +29,10 @@ are_apart ops prog script image out = all_differ (ops ∷ prog ∷ script ∷ im
 abbrev pub inputs_apart : List ℕ → List ℕ → List ℕ → List ℕ → Bool
 inputs_apart prog script image out =
     all_differ (prog ∷ script ∷ image ∷ []) && all_differ (prog ∷ script ∷ out ∷ [])
+
+-- and the three files of a replay
+abbrev pub trace_apart : List ℕ → List ℕ → List ℕ → Bool
+trace_apart trace image out = not (bytes_eq trace image) && not (bytes_eq trace out)
 
 -- the command on two files that are apart
 abbrev pub command_on_two : List ℕ → Bor (List ℕ) → Bor (List ℕ) → Option Command
@@ -75,6 +80,12 @@ command_on_one verb word =
     else if bytes_eq verb (codes "list") then Some (ListOf word)
     else if bytes_eq verb (codes "soak") then soak_on word.now else None
 
+-- the command of three words behind its own
+abbrev pub command_on_three : List ℕ → (first second third : Bor (List ℕ)) → Option Command
+command_on_three verb first second third =
+    if bytes_eq verb (codes "replay") && trace_apart first.now second.now third.now
+    then Some (Replay (record { trace = first; image = second; out = third })) else None
+
 -- the command of four words behind its own
 abbrev pub command_on_four : List ℕ → (first second third fourth : Bor (List ℕ)) → Option Command
 command_on_four verb first second third fourth =
@@ -86,7 +97,7 @@ command_on_four verb first second third fourth =
 
 -- the command that the words are: `run OPS PROG SCRIPT IMAGE OUT`, `exec PROG SCRIPT IMAGE OUT`,
 -- `compile OPS PROG`, `show OPS`, `migrate OLD NEW`, `cost PROG N`, `list PROG`,
--- `init BANKS ROWS WORDS OUT`, `soak SEED` or `scan QUERY IMAGE`
+-- `init BANKS ROWS WORDS OUT`, `soak SEED`, `scan QUERY IMAGE` or `replay TRACE IMAGE OUT`
 abbrev pub command_of : List (Bor (List ℕ)) → Option Command
 command_of (verb ∷ ops ∷ prog ∷ script ∷ image ∷ out ∷ []) =
     if bytes_eq verb.now (codes "run") && are_apart ops.now prog.now script.now image.now out.now
@@ -94,6 +105,8 @@ command_of (verb ∷ ops ∷ prog ∷ script ∷ image ∷ out ∷ []) =
     else None
 command_of (verb ∷ first ∷ second ∷ third ∷ fourth ∷ []) =
     command_on_four verb.now first second third fourth
+command_of (verb ∷ first ∷ second ∷ third ∷ []) =
+    command_on_three verb.now first second third
 command_of (verb ∷ first ∷ second ∷ []) =
     if bytes_eq verb.now (codes "cost") then cost_on first second.now
     else if bytes_eq first.now second.now then None else command_on_two verb.now first second
@@ -114,6 +127,7 @@ IsApart (ListOf name) = Unit {0}
 IsApart (Init names) = Unit {0}
 IsApart (Soak seed) = Unit {0}
 IsApart (Scan names) = bytes_eq names.query.now names.image.now ≡ false
+IsApart (Replay names) = trace_apart names.trace.now names.image.now names.out.now ≡ true
 
 -- the numbers of a command are a width, a chip's, or a seed
 abbrev pub HasNumbers : Command → Type 0

@@ -7,9 +7,11 @@ mod counted;
 mod exec;
 mod init;
 mod job;
+mod lines;
 mod load;
 mod migrate;
 mod perform;
+mod replay;
 mod run;
 mod scan;
 mod show;
@@ -23,5 +25,6 @@ pub use stop::{Stop, status_of, tell};
 pub use top::{one_job, simdram};
 pub use words::{
     Command, CompileNames, CostNames, ExecNames, IMAGE_MAX, InitNames, MigrateNames, OPS_MAX,
-    PROG_MAX, QUERY_MAX, RunNames, SCRIPT_MAX, ScanNames, command_of, limits,
+    PROG_MAX, QUERY_MAX, ReplayNames, RunNames, SCRIPT_MAX, ScanNames, TRACE_MAX, command_of,
+    limits,
 };

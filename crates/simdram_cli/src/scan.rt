@@ -18,6 +18,7 @@ ghost use Rattle.simdram_cli.specs.Scan.{QueryRead, ScanGoes, Went, count_line, 
 ghost use Rattle.simdram_cli.specs.Stops.{reason_of};
 
 use crate::job::image_stop;
+use crate::lines::{Line, add, add_number};
 use crate::load::load;
 use crate::perform::open;
 use crate::run::{compile, open_own};
@@ -27,15 +28,11 @@ use arrayvec::ArrayVec;
 use bit_rows::NoMemory;
 use dram_model::Dram;
 use host_edge::{Folder, Sink};
-use itoa::Buffer;
 use object_alloc::{Image, read_image};
 use scan_query::{Query, QueryNo, ScanReply, parse_query, run_query, scan_ops};
 use std::alloc::Global;
 use uprog_bin::ProgView;
 use uprog_code::Counts;
-
-/// A line.
-type Line = ArrayVec<u8, 128>;
 
 /// Loads QUERY, with its query.
 fn load_query<'a, F: Folder>(
@@ -99,27 +96,6 @@ fn ask<'a, D: Dram>(
         Ok(reply) => Ok(reply),
         Err(_) => Err(Stop::ChipFailed),
     }
-}
-
-/// Appends bytes that there is room for.
-fn add(text: &mut Line, piece: &[u8])
-    requires { length text.old.items + length piece.now ≤ 128 }
-    ensures text { text.new.items ≡ text.old.items ++ piece.now }
-    ensures length { length text.new.items ≡ length text.old.items + length piece.now }
-{
-    text.try_extend_from_slice(piece).unwrap()
-}
-
-/// Appends a word of at most 8 bytes and a number.
-fn add_number(text: &mut Line, word: &[u8], number: u64)
-    requires room { length text.old.items + 28 ≤ 128 }
-    requires word { length word.now ≤ 8 }
-    ensures text { text.new.items ≡ text.old.items ++ (word.now ++ decimal number) }
-    ensures length { length text.new.items ≤ length text.old.items + 28 }
-{
-    let mut buffer = Buffer::new();
-    add(text, word);
-    add(text, buffer.format(number).as_bytes());
 }
 
 /// The line of how many elements were found.

@@ -9,6 +9,7 @@ ghost use Rattle.simdram_cli.specs.Inputs.{image_word, image_refusal};
 ghost use Rattle.simdram_cli.specs.Programs.{prog_refusal, prog_word};
 ghost use Rattle.simdram_cli.specs.Queries.{query_refusal, query_word, scan_refusal, scan_word};
 ghost use Rattle.simdram_cli.specs.Stops.{reason_of};
+ghost use Rattle.simdram_cli.specs.Traces.{trace_refusal, trace_word};
 
 use bbop_isa::{ScriptFault, ScriptKind};
 use host_edge::{Failed, Sink};
@@ -16,6 +17,7 @@ use itoa::Buffer;
 use object_alloc::{ImageFault, ImageKind};
 use op_text::{OpsFault, OpsKind};
 use scan_model::{QueryFault, QueryKind, ScanWhy};
+use trace_model::{TraceFault, TraceKind};
 use uprog_bin::{ProgFault, ProgKind};
 
 /// Why a command stopped.
@@ -29,6 +31,8 @@ pub enum Stop<'a> {
     BadImage(ImageFault),
     BadQuery(QueryFault),
     ScanRefused(ScanWhy, u8),
+    BadTrace(TraceFault),
+    GeometryDiffers,
     NoMemory,
     CannotWrite(&'a str),
     PutFailed,
@@ -49,6 +53,8 @@ pub fn status_of(stop: Stop<'_>) -> u8
         Stop::ChipFailed => 9,
         Stop::NoMemory => 10,
         Stop::TooLong(_) => 11,
+        Stop::BadTrace(_) => 13,
+        Stop::GeometryDiffers => 14,
         Stop::BadQuery(_) => 15,
         Stop::ScanRefused(_, _) => 16,
     }
@@ -268,6 +274,41 @@ fn tell_scan<S: Sink>(why: ScanWhy, k: u8, out: &mut S) -> Result<(), Failed>
     )
 }
 
+/// The end of the line of a trace file that breaks this rule.
+fn trace_end(kind: TraceKind) -> &'static [u8]
+    ensures { result.now ≡ codes " " ++ trace_word kind ++ codes "\n" }
+{
+    match kind {
+        TraceKind::Short => b" short\n",
+        TraceKind::Magic => b" magic\n",
+        TraceKind::Version => b" version\n",
+        TraceKind::Geometry => b" geometry\n",
+        TraceKind::Object => b" object\n",
+        TraceKind::Overlap => b" overlap\n",
+        TraceKind::Event => b" event\n",
+        TraceKind::Legal => b" legal\n",
+        TraceKind::Rest => b" rest\n",
+    }
+}
+
+/// Puts the line of a trace file that breaks a rule.
+fn tell_trace<S: Sink>(fault: TraceFault, out: &mut S) -> Result<(), Failed>
+    ensures counts { (S.view out.old).faults ≤ (S.view out.new).faults }
+    ensures sent { OnOk result (Told (λ before after. after
+        ≡ before ++ ((trace_refusal fault).line)) (S.view out.old).sent (S.view out.new).sent) }
+    ensures part { Told (AppendsPart (trace_refusal fault).line) (S.view out.old).sent
+        (S.view out.new).sent }
+    ensures failed { OnErr result (Rose (S.view out.old).faults (S.view out.new).faults) }
+{
+    let mut buffer = Buffer::new();
+    put_three(
+        b"trace byte ",
+        buffer.format(fault.at).as_bytes(),
+        trace_end(fault.kind),
+        out,
+    )
+}
+
 /// Puts the last line. A sink that failed is told nothing.
 pub fn tell<S: Sink>(stop: Stop<'_>, out: &mut S) -> Result<(), Failed>
     ensures counts { (S.view out.old).faults ≤ (S.view out.new).faults }
@@ -288,6 +329,8 @@ pub fn tell<S: Sink>(stop: Stop<'_>, out: &mut S) -> Result<(), Failed>
         Stop::BadImage(fault) => tell_image(fault, out),
         Stop::BadQuery(fault) => tell_query(fault, out),
         Stop::ScanRefused(why, k) => tell_scan(why, k, out),
+        Stop::BadTrace(fault) => tell_trace(fault, out),
+        Stop::GeometryDiffers => put_three(b"geometry differs\n", b"", b"", out),
         Stop::NoMemory => put_three(b"no memory\n", b"", b"", out),
         Stop::ChipFailed => put_three(b"chip fault\n", b"", b"", out),
         Stop::PutFailed => put_three(b"", b"", b"", out),

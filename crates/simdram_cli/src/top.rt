@@ -16,6 +16,7 @@ ghost use Rattle.simdram_cli.specs.Exec.{ExecEnds};
 ghost use Rattle.simdram_cli.specs.Headline.{OneJob};
 ghost use Rattle.simdram_cli.specs.Init.{init_steps};
 ghost use Rattle.simdram_cli.specs.Migrate.{MigrateEnds};
+ghost use Rattle.simdram_cli.specs.Replay.{ReplayEnds};
 ghost use Rattle.simdram_cli.specs.Scan.{ScanEnds};
 ghost use Rattle.simdram_cli.specs.Show.{ShowEnds};
 ghost use Rattle.simdram_cli.specs.Soak.{SoakEnds};
@@ -27,13 +28,15 @@ use crate::compile::compile;
 use crate::exec::exec;
 use crate::init::init;
 use crate::migrate::migrate;
+use crate::replay::replay;
 use crate::run::run;
 use crate::scan::scan;
 use crate::show::show;
 use crate::soak::soak;
 use crate::stop::{Stop, status_of, tell};
 use crate::words::{
-    Command, CompileNames, ExecNames, InitNames, MigrateNames, RunNames, ScanNames, command_of,
+    Command, CompileNames, ExecNames, InitNames, MigrateNames, ReplayNames, RunNames, ScanNames,
+    command_of,
 };
 use dram_model::Dram;
 use host_edge::{Folder, Sink};
@@ -193,6 +196,23 @@ fn scan_and_answer<F: Folder, S: Sink, D: Dram>(
     answer(ended, out)
 }
 
+/// Replays, and tells why it stopped if it did.
+fn replay_and_answer<F: Folder, S: Sink, D: Dram>(
+    names: &ReplayNames<'_>,
+    files: &mut F,
+    out: &mut S,
+    chip: &mut D,
+    alloc: Global,
+) -> u8
+    ensures borrow { D.borrow chip.new ≡ D.borrow chip.old }
+    ensures ends { ReplayEnds names.now
+        (world (F.view files.old) (S.view out.old) (D.view chip.old))
+        (world (F.view files.new) (S.view out.new) (D.view chip.new)) result }
+{
+    let ended = replay(names, files, out, chip, alloc);
+    answer(ended, out)
+}
+
 /// Does a command.
 fn dispatch<F: Folder, S: Sink, D: Dram>(
     command: &Command<'_>,
@@ -221,6 +241,7 @@ fn dispatch<F: Folder, S: Sink, D: Dram>(
         Command::Init(names) => init_and_answer(names, files, out, alloc),
         Command::Soak(seed) => soak_and_answer(*seed, out, chip, alloc),
         Command::Scan(names) => scan_and_answer(names, files, out, chip, alloc),
+        Command::Replay(names) => replay_and_answer(names, files, out, chip, alloc),
     }
 }
 
@@ -234,7 +255,9 @@ fn dispatch<F: Folder, S: Sink, D: Dram>(
 /// objects, whose rows are zeros; `soak SEED` does every word operation with one result at the
 /// widths 1, 8 and 64 on a generator's words, and puts a line for each with its row commands and
 /// the sum of its results; `scan QUERY IMAGE` puts how many elements of IMAGE meet QUERY, by
-/// comparisons in the chip. The answer is the exit status.
+/// comparisons in the chip; `replay TRACE IMAGE OUT` does the events of TRACE on IMAGE's rows, stores
+/// them with the objects of TRACE as OUT, and puts how many commands the chip did. The answer is
+/// the exit status.
 pub fn simdram<F: Folder, S: Sink, D: Dram>(
     words: &[&str],
     files: &mut F,

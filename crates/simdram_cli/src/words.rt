@@ -8,8 +8,10 @@ ghost use Rattle.simdram_cli.specs.Words.{all_differ, are_apart, command_of, com
 ghost use Rattle.simdram_cli.specs.Words.{command_on_one, inputs_apart};
 ghost use Rattle.simdram_cli.specs.Words.{command_on_two, cost_on, init_on, is_number, soak_on};
 ghost use Rattle.simdram_cli.specs.Words.{value_of};
+ghost use Rattle.simdram_cli.specs.Words.{command_on_three, trace_apart};
 
 use bit_rows::WIDTH_MAX;
+use cmd_trace::TRACE_BYTES_MAX;
 use dram_model::Geometry;
 use object_alloc::IMAGE_BYTES_MAX;
 use text_lex::number;
@@ -26,6 +28,8 @@ pub const QUERY_MAX: u64 = 65_536;
 
 pub const IMAGE_MAX: u64 = IMAGE_BYTES_MAX as u64;
 
+pub const TRACE_MAX: u64 = TRACE_BYTES_MAX as u64;
+
 /// Shows the numbers of the limits that the definitions name.
 pub fn limits()
     ensures ops { OPS_MAX ≡ 65_536 }
@@ -33,6 +37,7 @@ pub fn limits()
     ensures script { SCRIPT_MAX ≡ 16_777_216 }
     ensures query { QUERY_MAX ≡ 65_536 }
     ensures image { IMAGE_MAX ≡ 67_115_022 }
+    ensures trace { TRACE_MAX ≡ 67_115_026 }
     ensures width { WIDTH_MAX ≡ 128 }
     ensures walk { WALK_MAX ≡ 2 ^ 26 }
 {}
@@ -91,6 +96,14 @@ pub struct ScanNames<'a> {
     pub image: &'a str,
 }
 
+/// The files of `replay`.
+#[derive(Clone, Copy)]
+pub struct ReplayNames<'a> {
+    pub trace: &'a str,
+    pub image: &'a str,
+    pub out: &'a str,
+}
+
 /// A command, with its words.
 #[derive(Clone, Copy)]
 pub enum Command<'a> {
@@ -104,6 +117,7 @@ pub enum Command<'a> {
     Init(InitNames<'a>),
     Soak(u64),
     Scan(ScanNames<'a>),
+    Replay(ReplayNames<'a>),
 }
 
 /// Whether no two of four names are equal.
@@ -132,6 +146,13 @@ fn inputs_apart(prog: &str, script: &str, image: &str, out: &str) -> bool
     ensures { result ≡ inputs_apart prog.now script.now image.now out.now }
 {
     three_differ(prog, script, image) && three_differ(prog, script, out)
+}
+
+/// Whether the three files of a replay are apart, but for IMAGE and OUT.
+fn trace_apart(trace: &str, image: &str, out: &str) -> bool
+    ensures { result ≡ trace_apart trace.now image.now out.now }
+{
+    trace != image && trace != out
 }
 
 fn are_digits(bytes: &[u8]) -> bool
@@ -286,6 +307,26 @@ fn command_on_two<'a>(verb: &str, first: &'a str, second: &'a str) -> Option<Com
     }
 }
 
+/// The command of three words behind its own.
+fn command_on_three<'a>(
+    verb: &str,
+    first: &'a str,
+    second: &'a str,
+    third: &'a str,
+) -> Option<Command<'a>>
+    ensures { result ≡ command_on_three verb.now first.entry second.entry third.entry }
+{
+    if verb == "replay" && trace_apart(first, second, third) {
+        Some(Command::Replay(ReplayNames {
+            trace: first,
+            image: second,
+            out: third,
+        }))
+    } else {
+        None
+    }
+}
+
 /// The command that the words are.
 pub fn command_of<'a>(words: &[&'a str]) -> Option<Command<'a>>
     ensures { result ≡ command_of words.now }
@@ -307,6 +348,7 @@ pub fn command_of<'a>(words: &[&'a str]) -> Option<Command<'a>>
         [verb, first, second, third, fourth] => {
             command_on_four(*verb, *first, *second, *third, *fourth)
         }
+        [verb, first, second, third] => command_on_three(*verb, *first, *second, *third),
         [verb, first, second] => {
             if *verb == "cost" {
                 cost_on(*first, *second)
