@@ -29,4 +29,6 @@ pub mod Telling
 pub mod Unique
 pub mod Soaking
 pub mod Scanning
+pub mod Tracing
+pub mod Traced
 mod Showing

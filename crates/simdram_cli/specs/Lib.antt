@@ -19,5 +19,6 @@ pub mod Accounts
 pub mod Init
 pub mod Soak
 pub mod Scan
+pub mod Tracing
 pub mod Commands
 pub mod Complete

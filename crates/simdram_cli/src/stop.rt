@@ -29,6 +29,7 @@ pub enum Stop<'a> {
     BadImage(ImageFault),
     BadQuery(QueryFault),
     ScanRefused(ScanWhy, u8),
+    TraceFull,
     NoMemory,
     CannotWrite(&'a str),
     PutFailed,
@@ -49,6 +50,7 @@ pub fn status_of(stop: Stop<'_>) -> u8
         Stop::ChipFailed => 9,
         Stop::NoMemory => 10,
         Stop::TooLong(_) => 11,
+        Stop::TraceFull => 12,
         Stop::BadQuery(_) => 15,
         Stop::ScanRefused(_, _) => 16,
     }
@@ -288,6 +290,7 @@ pub fn tell<S: Sink>(stop: Stop<'_>, out: &mut S) -> Result<(), Failed>
         Stop::BadImage(fault) => tell_image(fault, out),
         Stop::BadQuery(fault) => tell_query(fault, out),
         Stop::ScanRefused(why, k) => tell_scan(why, k, out),
+        Stop::TraceFull => put_three(b"trace full\n", b"", b"", out),
         Stop::NoMemory => put_three(b"no memory\n", b"", b"", out),
         Stop::ChipFailed => put_three(b"chip fault\n", b"", b"", out),
         Stop::PutFailed => put_three(b"", b"", b"", out),

@@ -8,6 +8,7 @@ ghost use Rattle.simdram_cli.specs.Words.{all_differ, are_apart, command_of, com
 ghost use Rattle.simdram_cli.specs.Words.{command_on_one, inputs_apart};
 ghost use Rattle.simdram_cli.specs.Words.{command_on_two, cost_on, init_on, is_number, soak_on};
 ghost use Rattle.simdram_cli.specs.Words.{value_of};
+ghost use Rattle.simdram_cli.specs.Words.{traced_apart, trace_on};
 
 use bit_rows::WIDTH_MAX;
 use dram_model::Geometry;
@@ -91,6 +92,16 @@ pub struct ScanNames<'a> {
     pub image: &'a str,
 }
 
+/// The files of `trace`.
+#[derive(Clone, Copy)]
+pub struct TraceNames<'a> {
+    pub prog: &'a str,
+    pub script: &'a str,
+    pub image: &'a str,
+    pub out: &'a str,
+    pub trace: &'a str,
+}
+
 /// A command, with its words.
 #[derive(Clone, Copy)]
 pub enum Command<'a> {
@@ -104,6 +115,7 @@ pub enum Command<'a> {
     Init(InitNames<'a>),
     Soak(u64),
     Scan(ScanNames<'a>),
+    Trace(TraceNames<'a>),
 }
 
 /// Whether no two of four names are equal.
@@ -132,6 +144,24 @@ fn inputs_apart(prog: &str, script: &str, image: &str, out: &str) -> bool
     ensures { result ≡ inputs_apart prog.now script.now image.now out.now }
 {
     three_differ(prog, script, image) && three_differ(prog, script, out)
+}
+
+/// Whether the five files of a recorded execution are apart, but for IMAGE and OUT.
+fn traced_apart(names: TraceNames<'_>) -> bool
+    ensures { result ≡ traced_apart names.entry }
+{
+    are_apart(names.prog, names.script, names.trace, names.image, names.out)
+}
+
+/// The command on the five files of a recorded execution.
+fn trace_on<'a>(verb: &str, names: TraceNames<'a>) -> Option<Command<'a>>
+    ensures { result ≡ trace_on verb.now names.entry }
+{
+    if verb == "trace" && traced_apart(names) {
+        Some(Command::Trace(names))
+    } else {
+        None
+    }
 }
 
 fn are_digits(bytes: &[u8]) -> bool
@@ -301,7 +331,16 @@ pub fn command_of<'a>(words: &[&'a str]) -> Option<Command<'a>>
                     out: *out,
                 }))
             } else {
-                None
+                trace_on(
+                    *verb,
+                    TraceNames {
+                        prog: *ops,
+                        script: *prog,
+                        image: *script,
+                        out: *image,
+                        trace: *out,
+                    },
+                )
             }
         }
         [verb, first, second, third, fourth] => {

@@ -1,21 +1,19 @@
 -- The log of a recorder, where it is told.
-use Rattle.std.proofs.Common.{◌≡◌, ℕ, ◌+◌, ◌*◌, ◌<◌, ◌≤◌, Bool, true, false, cond, leb, List, []}
-use Rattle.std.proofs.Common.{◌∷◌, ◌++◌, length, Option, Some, None, refl, sym, ◌∙◌, ap, subst}
+use Rattle.std.proofs.Common.{◌≡◌, ℕ, ◌*◌, ◌<◌, ◌≤◌, Bool, true, false, cond, leb, List, []}
+use Rattle.std.proofs.Common.{◌∷◌, Option, Some, None, refl, sym, ◌∙◌, ap, subst}
 use Rattle.std.proofs.Common.{arith}
-use Rattle.std.specs.Prelude.{IfSome, is_some, ◌&&◌}
+use Rattle.std.specs.Prelude.{IfSome, is_some}
 use Rattle.std.specs.List.{AllByRecursion}
 use Rattle.std.proofs.lemmas.Bool.Decides.{nat_tests}
 use Rattle.dram_model.specs.declared.geometry.Geometry.{Geometry}
-use Rattle.dram_model.specs.Elements.{column_count}
-use Rattle.dram_model.specs.Chip.{Event, Log, Grew, event_bits, log_bits, with_events}
+use Rattle.dram_model.specs.Chip.{Event, Log, Grew, event_bits, log_bits}
 use Rattle.dram_model.specs.Chip.Event.{Row, Write}
-use Rattle.dram_model.specs.View.{ChipView, HasBegun}
+use Rattle.dram_model.specs.View.{ChipView}
 use Rattle.object_alloc.specs.Listed.{Named}
 use Rattle.trace_model.specs.Recorder.{event_size, events_size, told}
 use Rattle.trace_model.specs.Spelling.{IsEvent, trace_bytes}
 use Rattle.cmd_trace.specs.declared.sizes.TheConstants.{EVENTS_BYTES_MAX, HEAD_BYTES_MAX}
-use Rattle.cmd_trace.specs.declared.sizes.TheConstants.{TRACE_BYTES_MAX}
-use Rattle.cmd_trace.specs.Tape.{Tape, empty_log, events_on, is_whole, log_on, log_shown, recorded}
+use Rattle.cmd_trace.specs.Tape.{Tape, empty_log, events_on, is_whole, log_on}
 use Rattle.cmd_trace.proofs.Tapes.{both, log_bits_are, tells}
 use Rattle.trace_job.specs.Telling.{Saw, Spelled, TellsWhatFits, all_fit}
 
