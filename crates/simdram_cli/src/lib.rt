@@ -16,6 +16,7 @@ mod show;
 mod soak;
 mod stop;
 mod top;
+mod trace;
 mod words;
 mod work;
 
@@ -23,5 +24,5 @@ pub use stop::{Stop, status_of, tell};
 pub use top::{one_job, simdram};
 pub use words::{
     Command, CompileNames, CostNames, ExecNames, IMAGE_MAX, InitNames, MigrateNames, OPS_MAX,
-    PROG_MAX, QUERY_MAX, RunNames, SCRIPT_MAX, ScanNames, command_of, limits,
+    PROG_MAX, QUERY_MAX, RunNames, SCRIPT_MAX, ScanNames, TraceNames, command_of, limits,
 };
