@@ -44,6 +44,8 @@ mod shown;
 mod soaked;
 #[cfg(test)]
 mod tests;
+#[cfg(test)]
+mod tracing;
 
 /// The status where the words cannot be read.
 const UNREAD: u8 = 1;

@@ -217,7 +217,7 @@ pub turned : (x y : List ℕ) → bytes_eq x y ≡ false → bytes_eq y x ≡ fa
 turned x y f = same_back x y (bytes_eq y x) refl f
 
 -- the first of four names differs from the others, and the second from the last two
-record Differ (a b c d : List ℕ) : Type 0 where
+pub record Differ (a b c d : List ℕ) : Type 0 where
   pub ab : bytes_eq a b ≡ false
   pub ac : bytes_eq a c ≡ false
   pub ad : bytes_eq a d ≡ false

@@ -14,7 +14,7 @@ use Rattle.dram_model.specs.View.{ChipView, DidRead, HasBegun, Kept, with_reads}
 use Rattle.dram_model.proofs.EventLaws.{Grew-more}
 use Rattle.object_alloc.specs.declared.fault.ImageNo.{ImageNo}
 use Rattle.object_alloc.specs.declared.fault.ImageNo.TheVariants as no
-use Rattle.object_alloc.specs.Listed.{Named}
+use Rattle.object_alloc.specs.Listed.{Listing, Named}
 use Rattle.object_alloc.specs.Reading.{IsFault, image_in}
 use Rattle.object_alloc.specs.Spelling.{image_bytes, IsImage}
 use Rattle.uprog_code.specs.Programs.{IsProgram}
@@ -35,6 +35,7 @@ use Rattle.machine_model.proofs.Pieces.{events_are_steps}
 use Rattle.sim_machine.specs.declared.machine.Machine.{Machine}
 use Rattle.sim_machine.specs.Machine.{geometry_of, is_print, program_of, table_in, turn_in}
 use Rattle.sim_machine.specs.Steps.{DidAndRead}
+use Rattle.object_steps.specs.Objects.{LiesOn}
 use Rattle.trace_model.specs.Replay.{script_trace}
 use Rattle.trace_model.specs.Spelling.{IsEvent, bytes_of_trace, trace_bytes}
 use Rattle.trace_model.proofs.Legal.{events_are_legal}
@@ -59,7 +60,7 @@ use Rattle.simdram_cli.specs.Reads.{LoadedAs, NotLoaded, NotRead, ReadAs, IsText
 use Rattle.simdram_cli.specs.Stops.{end_of, image_reason, reason_of, trace_full}
 use Rattle.simdram_cli.specs.Job.{Texts, image_by, instr_steps, opened_counters, piece_steps}
 use Rattle.simdram_cli.specs.Job.{pieces_steps, put_lines, refused_by, script_steps, tally_by}
-use Rattle.simdram_cli.specs.Works.{WorkDone}
+use Rattle.simdram_cli.specs.Works.{OpenedOn, WorkDone}
 use Rattle.simdram_cli.specs.Ends.{DoneBy, DoneOn, IsRead, JobDone}
 use Rattle.simdram_cli.specs.Exec.{IsDoneAs, exec_names}
 use Rattle.simdram_cli.specs.Tracing.{Came, ImageTraced, JobTraced, ScriptTraced, TraceGoes}
@@ -90,6 +91,21 @@ pub image_stored : (name bytes : List ℕ) (f g : FolderView) (s : SinkView) (a 
     → Goes (Use ∷ Store name bytes ∷ []) Done (world f s a) (world g s b)
 image_stored name bytes f g s a b l t =
     inl (world f s b, (used f s a b l, inl (world g s b, (t, refl))))
+
+pub work_stopped : (m : Machine) (banks : Banks) (script : List Instruction) (name : List ℕ)
+    (reason : Reason) (a b : World) → Goes (steps_on m banks script) (Stopped reason) a b
+    → Goes (steps_on m banks script ++ (Use ∷ Store name (image_on m banks script) ∷ []))
+    (Stopped reason) a b
+work_stopped m banks script name reason a b g =
+    stops (steps_on m banks script) (Use ∷ Store name (image_on m banks script) ∷ []) reason a b g
+
+pub then_image : (m : Machine) (banks : Banks) (script : List Instruction) (name : List ℕ)
+    (end : End) (a b c : World) → Goes (steps_on m banks script) Done a b
+    → Goes (Use ∷ Store name (image_on m banks script) ∷ []) end b c
+    → Goes (steps_on m banks script ++ (Use ∷ Store name (image_on m banks script) ∷ [])) end a c
+then_image m banks script name end a b c g h =
+    goes_on (steps_on m banks script) (Use ∷ Store name (image_on m banks script) ∷ []) end a b c g
+    h
 
 pub image_is_on : (m n : Machine) (script : List Instruction) (a b : ChipView)
     → geometry_of n ≡ geometry_of m
@@ -743,3 +759,44 @@ trace_went names program result text old mid sink chip new loads f same j =
             (λ view refused. done_as (prog_in text) program j.texts view refused is) j.came,
       );
     }
+
+-- a recorder stands on the chip that it was given
+pub same_name : (a b : ℕ) (xs ys : List ℕ) → a ∷ xs ≡ b ∷ ys → a ≡ b
+same_name a b xs ys e = cc
+
+-- what is let go is what was lent
+pub moved : {D : Type 0} (view : D → ChipView) (x y : D) (P : ChipView → Type 0) → x ≡ y
+    → P (view y) → P (view x)
+moved view x y P e p = subst (λ (d : _). P (view d)) (sym e) p
+
+-- a machine that was opened, and a recorder's view of its chip at the mark
+pub started_at : (program : Program) (i : Image) (m : Machine) (old from : ChipView)
+    → from ≡ record old { log = Some empty_log } → OpenedOn i old → geometry_of m ≡ i.geometry
+    → program_of m ≡ program → table_in m ≡ i.table → turn_in m ≡ Ahead → Holds i.geometry i.table
+    → Started program i m from
+started_at program i m old from e o shape p t turn holds = record {
+  shape_is = shape;
+  program_is = p;
+  table_is = t;
+  turn_is = turn;
+  holds = holds;
+  banks = ap (λ (v : ChipView). v.banks) e ∙ o.banks;
+  counters = ap (λ (v : ChipView). v.counters) e ∙ o.counters;
+  geometry = ap (λ (v : ChipView). v.geometry) e ∙ o.geometry;
+}
+
+pub table_fits : (g : Geometry) (table : Listing) → LiesOn g table → TableFits g table.pairs
+table_fits g table lies = record { listed = lies.listed; objects = lies.objects }
+
+-- where the file was not spelled, not all fit
+pub not_all : (g : Geometry) (program : Program) (script : List Instruction) (i : Image)
+    (table : List Named) (file : List ℕ) (all : Bool) → g ≡ i.geometry → all ≡ false
+    → Spelled g table (script_trace program i script).events file all
+    → fits program script i ≡ false
+not_all g program script i table file all e none spelled =
+    ap (λ (x : Geometry). all_fit x (script_trace program i script).events) (sym e)
+    ∙ sym spelled.all_is ∙ none
+
+pub all_spelled : (g : Geometry) (table : List Named) (events : List Event) (file : List ℕ)
+    (all : Bool) → all ≡ true → Spelled g table events file all → Spelled g table events file true
+all_spelled g table events file all e s = subst (Spelled g table events file) e s

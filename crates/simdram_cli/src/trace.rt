@@ -93,8 +93,8 @@ fn finish_trace<'a, F: Folder, S: Sink, D: Dram>(
     out: &mut S,
     chip: &D,
 ) -> Result<(), Stop<'a>>
-    requires begun { HasBegun (D.view chip.now) }
-    ensures goes { (view : ChipView) → Goes (Store name.now trace.now
+    requires { HasBegun (D.view chip.now) }
+    ensures { (view : ChipView) → Goes (Store name.now trace.now
         ∷ Put (total_line (D.view chip.now).counters refused) ∷ []) (end_of result)
         (world (F.view files.old) (S.view out.old) view)
         (world (F.view files.new) (S.view out.new) view) }
