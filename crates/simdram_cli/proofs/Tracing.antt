@@ -33,7 +33,8 @@ use Rattle.machine_model.specs.Script.{banks_at_end, is_refused, replies, rows_p
 use Rattle.machine_model.specs.Script.{table_at_end}
 use Rattle.machine_model.proofs.Pieces.{events_are_steps}
 use Rattle.sim_machine.specs.declared.machine.Machine.{Machine}
-use Rattle.sim_machine.specs.Machine.{geometry_of, is_print, program_of, table_in, turn_in}
+use Rattle.sim_machine.specs.Machine.{IsReady, geometry_of, is_print, program_of, table_in}
+use Rattle.sim_machine.specs.Machine.{turn_in}
 use Rattle.sim_machine.specs.Steps.{DidAndRead}
 use Rattle.object_steps.specs.Objects.{LiesOn}
 use Rattle.trace_model.specs.Replay.{script_trace}
@@ -63,14 +64,15 @@ use Rattle.simdram_cli.specs.Job.{pieces_steps, put_lines, refused_by, script_st
 use Rattle.simdram_cli.specs.Works.{OpenedOn, WorkDone}
 use Rattle.simdram_cli.specs.Ends.{DoneBy, DoneOn, IsRead, JobDone}
 use Rattle.simdram_cli.specs.Exec.{IsDoneAs, exec_names}
-use Rattle.simdram_cli.specs.Tracing.{Came, ImageTraced, JobTraced, ScriptTraced, TraceGoes}
-use Rattle.simdram_cli.specs.Tracing.{events_on, exec_of, fits, full_by, full_on, full_with, image_on}
-use Rattle.simdram_cli.specs.Tracing.{last_steps, reads_on, recorded_steps, steps_on, traced_steps}
+use Rattle.simdram_cli.specs.Tracing.{Came, ImageTraced, JobTraced, OpensOn, ScriptRecorded}
+use Rattle.simdram_cli.specs.Tracing.{ScriptTraced, TraceGoes, events_on, exec_of, fits, full_by}
+use Rattle.simdram_cli.specs.Tracing.{full_on, full_with, image_on, reads_on, recorded_steps}
+use Rattle.simdram_cli.specs.Tracing.{steps_on, store_steps, total_steps, traced_steps}
 use Rattle.simdram_cli.specs.Tracing.{unless_fits, unlogged}
 use Rattle.simdram_cli.proofs.Joins.{loaded_text, loading_goes, loading_stops, no_texts}
 use Rattle.simdram_cli.proofs.Joins.{told_is_text, told_text}
 use Rattle.simdram_cli.proofs.Migrating.{prog_is}
-use Rattle.simdram_cli.proofs.Progress.{Holds}
+use Rattle.simdram_cli.proofs.Progress.{Holds, holds_of}
 use Rattle.simdram_cli.proofs.Stores.{nothing_read, sent, used}
 use Rattle.simdram_cli.proofs.Tallies.{tally_is}
 
@@ -144,34 +146,6 @@ did_all m script g a b c e did read =
     ((geometry_of m).banks * (geometry_of m).rows) a b c did
     (subst (λ (x : Geometry). DidRead (x.banks * x.rows) b c) e read)
 
--- the trace is stored, and the line of the totals is sent
-
-pub trace_unstored : (name bytes total : List ℕ) (a b : World) → Unstored name a b
-    → Goes (Store name bytes ∷ Put total ∷ []) (Stopped (CannotWrite name)) a b
-trace_unstored name bytes total a b u = inr (refl, u)
-
-pub total_unput : (name bytes total : List ℕ) (f g : FolderView) (s t : SinkView) (k : ChipView)
-    → Stored name bytes (world f s k) (world g s k) → Told (AppendsPart total) s.sent t.sent
-    → s.faults ≤ t.faults → Rose s.faults t.faults
-    → Goes (Store name bytes ∷ Put total ∷ []) (Stopped PutFailed) (world f s k) (world g t k)
-total_unput name bytes total f g s t k u p n r =
-    inl (world g s k, (u, inr (refl, sent (AppendsPart total) g s t k p n, r)))
-
-pub trace_stored : (name bytes total : List ℕ) (f g : FolderView) (s t : SinkView) (k : ChipView)
-    → Stored name bytes (world f s k) (world g s k)
-    → Told (λ before after. after ≡ before ++ total) s.sent t.sent → s.faults ≤ t.faults
-    → Goes (Store name bytes ∷ Put total ∷ []) Done (world f s k) (world g t k)
-trace_stored name bytes total f g s t k u p n = inl (
-  world g s k,
-  (
-    u,
-    inl (
-      world g t k,
-      (sent (λ before after. after ≡ before ++ total) g s t k p n, refl),
-    ),
-  ),
-)
-
 -- the steps behind the opening
 
 pub late_more : (xs ys : List Step) → AllByRecursion IsLate xs → AllByRecursion IsLate ys
@@ -203,17 +177,17 @@ pieces_late g o table banks number (piece ∷ rest) =
     (pieces_late g o (table_at_end g o table (instrs_in piece))
     (banks_at_end g o table banks (instrs_in piece)) (number + length (instrs_in piece)) rest)
 
-last_late : (all : Bool) (name : List ℕ) (program : Program) (script : List Instruction)
-    (i : Image) → AllByRecursion IsLate (last_steps all name program script i)
-last_late true name program script i = (tt, (tt, tt))
-last_late false name program script i = tt
+store_late : (all : Bool) (name : List ℕ) (program : Program) (script : List Instruction)
+    (i : Image) → AllByRecursion IsLate (store_steps all name program script i)
+store_late true name program script i = (tt, tt)
+store_late false name program script i = tt
 
 all_late : (names : TraceNames) (program : Program) (script : List Instruction) (i : Image)
     → AllByRecursion IsLate (recorded_steps names program script i)
 all_late names program script i =
     late_more (script_steps program script i) _
     (pieces_late i.geometry (operations_in program) i.table (opened i) 1 (pieces script))
-    (tt, (tt, last_late (fits program script i) names.trace.now program script i))
+    (tt, (tt, store_late (fits program script i) names.trace.now program script i))
 
 instr_begins : (prints : Bool) (bytes : List ℕ) (rest : List Step)
     → BeginOnChip (instr_steps prints bytes ++ rest)
@@ -308,70 +282,41 @@ first_are names program script i m start s =
 
 all_are : (names : TraceNames) (program : Program) (script : List Instruction) (i : Image)
     → first_steps names program script i
-    ++ last_steps (fits program script i) names.trace.now program script i
+    ++ store_steps (fits program script i) names.trace.now program script i
     ≡ recorded_steps names program script i
 all_are names program script i = append_assoc (script_steps program script i) _ _
 
--- what was done over a recorder was done on its chip: memory was taken, the chip was opened, and
--- then it went so
+-- what was done over a recorder was done on its chip
 below : (names : TraceNames) (program : Program) (script : List Instruction) (i : Image)
-    (end : End) (files : FolderView) (sink : SinkView) (before old new : ChipView) (from : ChipView)
-    (to : World) → Goes (Open ∷ []) Done (world files sink before) (world files sink old)
+    (end : End) (files : FolderView) (sink : SinkView) (old new from : ChipView) (to : World)
     → old.faults ≡ from.faults → new.faults ≡ to.chip.faults
     → Goes (recorded_steps names program script i) end (world files sink from) to
-    → Goes (traced_steps names program script i) end (world files sink before)
+    → Goes (recorded_steps names program script i) end (world files sink old)
     (world to.files to.sink new)
-below names program script i end files sink before old new from to opens p q g =
-    let a = world files sink before in
-    inl (
-      a,
-      (
-        nothing_read a,
-        goes_on (Open ∷ []) (recorded_steps names program script i) end a (world files sink old)
-            (world to.files to.sink new) opens
-            (steps_are_below (recorded_steps names program script i) end (world files sink from) to
-            old new (all_late names program script i)
-            (pieces_begin i.geometry (operations_in program) i.table (opened i) 1 (pieces script)
-            _) p q g),
-      ),
-    )
-
--- no memory for the recorder, and none or a fault at the opening
-pub no_room : (names : TraceNames) (program : Program) (script : List Instruction) (i : Image)
-    (w : World) → ScriptTraced names program script i w w (Err stop.NoMemory)
-no_room names program script i w = inl (inr (refl, nothing_read w))
-
-pub not_opened : (names : TraceNames) (program : Program) (script : List Instruction) (i : Image)
-    (why : Stop) (a b : World) → Goes (Open ∷ []) (Stopped (reason_of why)) a b
-    → ScriptTraced names program script i a b (Err why)
-not_opened names program script i why a b g = inl (inl (
-  a,
-  (
-    nothing_read a,
-    stops (Open ∷ []) (recorded_steps names program script i) (reason_of why) a b g,
-  ),
-))
+below names program script i end files sink old new from to p q g =
+    steps_are_below (recorded_steps names program script i) end (world files sink from) to old new
+    (all_late names program script i)
+    (pieces_begin i.geometry (operations_in program) i.table (opened i) 1 (pieces script) _) p q g
 
 -- it stopped before OUT was stored
 pub first_failed : (names : TraceNames) (program : Program) (script : List Instruction) (i : Image)
-    (why : Stop) (m : Machine) (files : FolderView) (sink : SinkView) (before old new : ChipView)
-    (from : ChipView) (to : World)
-    → Goes (Open ∷ []) Done (world files sink before) (world files sink old)
-    → Started program i m from → old.faults ≡ from.faults → new.faults ≡ to.chip.faults
+    (why : Stop) (m : Machine) (files : FolderView) (sink : SinkView) (old new from : ChipView)
+    (to : World) → Started program i m from → old.faults ≡ from.faults
+    → new.faults ≡ to.chip.faults
     → Goes (steps_on m from.banks script
     ++ (Use ∷ Store names.out.now (image_on m from.banks script) ∷ [])) (Stopped (reason_of why))
     (world files sink from) to
-    → ScriptTraced names program script i (world files sink before)
-    (world to.files to.sink new) (Err why)
-first_failed names program script i why m files sink before old new from to opens s p q g =
+    → ScriptRecorded names program script i (world files sink old) (world to.files to.sink new)
+    (Err why)
+first_failed names program script i why m files sink old new from to s p q g =
     let end = Stopped (reason_of why) in
     let first = subst (λ (xs : List Step). Goes xs end (world files sink from) to)
     (first_are names program script i m from s) g in
-    inl (below names program script i end files sink before old new from to opens p q
+    inl (below names program script i end files sink old new from to p q
     (subst (λ (xs : List Step). Goes xs end (world files sink from) to)
     (all_are names program script i)
     (stops (first_steps names program script i)
-    (last_steps (fits program script i) names.trace.now program script i) (reason_of why)
+    (store_steps (fits program script i) names.trace.now program script i) (reason_of why)
     (world files sink from) to first)))
 
 -- what the chip shows when the script was done
@@ -405,7 +350,7 @@ left_by program script i m from last new refused s did banks counters count =
     }
 
 -- the recorder saw the script's events
-pub saw_script : (program : Program) (script : List Instruction) (i : Image) (m : Machine)
+saw_script : (program : Program) (script : List Instruction) (i : Image) (m : Machine)
     (from last : ChipView) (tape : Tape) → IsProgram program → is_geometry i.geometry ≡ true
     → TableFits i.geometry i.table → AllByRecursion IsPlain script → Started program i m from
     → HasBegun from → Kept from (recorded last tape) → from.log ≡ Some empty_log
@@ -430,134 +375,279 @@ record SpelledBy (program : Program) (script : List Instruction) (i : Image) (fi
   is : file ≡ bytes_of_trace (script_trace program i script)
 
 spelled_by : (program : Program) (script : List Instruction) (i : Image) (g : Geometry)
-    (table : List Named) (file : List ℕ) → g ≡ i.geometry
-    → table ≡ table_at_end i.geometry (operations_in program) i.table script
-    → Spelled g table (script_trace program i script).events file true
+    (table : List Named) (file : List ℕ) (all : Bool) → g ≡ i.geometry
+    → table ≡ table_at_end i.geometry (operations_in program) i.table script → all ≡ true
+    → Spelled g table (script_trace program i script).events file all
     → SpelledBy program script i file
-spelled_by program script i g table file e t spelled =
+spelled_by program script i g table file all e t true_is spelled =
     let events = (script_trace program i script).events in
     record {
-      all = ap (λ (x : Geometry). all_fit x events) (sym e) ∙ sym spelled.all_is;
-      is = spelled.file_is refl
+      all = ap (λ (x : Geometry). all_fit x events) (sym e) ∙ sym spelled.all_is ∙ true_is;
+      is = spelled.file_is true_is
           ∙ ap (λ (x : Geometry). trace_bytes x table events) e
           ∙ ap (λ (x : List Named). trace_bytes i.geometry x events) t;
     }
 
--- what stands behind the store of OUT
-pub record FirstDone (names : TraceNames) (program : Program) (script : List Instruction) (i : Image)
-    (m : Machine) (files : FolderView) (sink : SinkView) (before old from last : ChipView)
-    (mid : World) (refused : ℕ) : Type 0 where
-  pub opens : Goes (Open ∷ []) Done (world files sink before) (world files sink old)
-  pub started : Started program i m from
-  pub faults : old.faults ≡ from.faults
+-- where it was not, they do not all fit
+not_all : (g : Geometry) (program : Program) (script : List Instruction) (i : Image)
+    (table : List Named) (file : List ℕ) (all : Bool) → g ≡ i.geometry → all ≡ false
+    → Spelled g table (script_trace program i script).events file all
+    → fits program script i ≡ false
+not_all g program script i table file all e none spelled =
+    ap (λ (x : Geometry). all_fit x (script_trace program i script).events) (sym e)
+    ∙ sym spelled.all_is ∙ none
+
+own_table : (program : Program) (script : List Instruction) (i : Image) (m : Machine)
+    (from : ChipView) → Started program i m from
+    → table_at_end (geometry_of m) (operations_in (program_of m)) (table_in m) script
+    ≡ table_at_end i.geometry (operations_in program) i.table script
+own_table program script i m from s = rw (s.shape_is, s.program_is, s.table_is) refl
+
+pub started_at : (program : Program) (i : Image) (m : Machine) (old from : ChipView)
+    → OpensOn program i m old → IsReady m → from ≡ record old { log = Some empty_log }
+    → Started program i m from
+started_at program i m old from o ready e = record {
+  shape_is = o.shape_is;
+  program_is = o.program_is;
+  table_is = o.table_is;
+  turn_is = o.turn_is;
+  holds = rw o.table_is at (holds_of m i.geometry o.shape_is ready);
+  banks = ap (λ (v : ChipView). v.banks) e ∙ o.opened_on.banks;
+  counters = ap (λ (v : ChipView). v.counters) e ∙ o.opened_on.counters;
+  geometry = ap (λ (v : ChipView). v.geometry) e ∙ o.opened_on.geometry;
+}
+
+-- a machine that was opened on the image, a recorder's view of its chip from the mark on, and what
+-- it came to where OUT was stored: the view of the chip then, and the recorder's tape
+pub record FirstDone (names : TraceNames) (script : List Instruction) (m : Machine)
+    (files : FolderView) (sink : SinkView) (old from last : ChipView) (tape : Tape)
+    (after : FolderView) (sent : SinkView) (refused : ℕ) : Type 0 where
+  pub ready : IsReady m
+  pub plain : AllByRecursion IsPlain script
+  pub same : from ≡ record old { log = Some empty_log }
+  pub kept : Kept from (recorded last tape)
   pub goes : Goes (steps_on m from.banks script
       ++ (Use ∷ Store names.out.now (image_on m from.banks script) ∷ [])) Done
-      (world files sink from) mid
-  pub chip : mid.chip ≡ last
-  pub did : DidAndRead (events_on m script) (reads_on m script) from last
+      (world files sink from) (world after sent (recorded last tape))
+  pub did : DidAndRead (events_on m script) (reads_on m script) from (recorded last tape)
   pub count : refused ≡ count_by is_refused (replies (geometry_of m) (operations_in (program_of m))
       (table_in m) script)
 
--- all steps, where the last of them go so
-went_all : (names : TraceNames) (program : Program) (script : List Instruction) (i : Image)
-    (m : Machine) (files : FolderView) (sink : SinkView) (before old from last : ChipView)
-    (mid : World) (refused : ℕ) (end : End) (to : World) (new : ChipView)
-    → FirstDone names program script i m files sink before old from last mid refused
-    → new.faults ≡ to.chip.faults
-    → Goes (last_steps (fits program script i) names.trace.now program script i) end mid to
-    → Goes (traced_steps names program script i) end (world files sink before)
-    (world to.files to.sink new)
-went_all names program script i m files sink before old from last mid refused end to new d q g =
-    let a = world files sink from in
-    let first = subst (λ (xs : List Step). Goes xs Done a mid)
-    (first_are names program script i m from d.started) d.goes in
-    below names program script i end files sink before old new from to d.opens d.faults q
-    (subst (λ (xs : List Step). Goes xs end a to) (all_are names program script i)
-    (goes_on (first_steps names program script i)
-    (last_steps (fits program script i) names.trace.now program script i) end a mid to first g))
+module _ (names : TraceNames) (script : List Instruction) (m : Machine) (files : FolderView)
+    (sink : SinkView) (old from last : ChipView) (tape : Tape) (after : FolderView)
+    (sent : SinkView) (refused : ℕ)
+    (d : FirstDone names script m files sink old from last tape after sent refused)
+    (program : Program) (i : Image) (o : OpensOn program i m old) where
+  begun_at : Started program i m from
+  begun_at = started_at program i m old from o d.ready d.same
 
--- too many events
-pub was_full : (names : TraceNames) (program : Program) (script : List Instruction) (i : Image)
-    (m : Machine) (files : FolderView) (sink : SinkView) (before old from last new : ChipView)
-    (mid : World) (refused : ℕ)
-    → FirstDone names program script i m files sink before old from last mid refused
-    → new.faults ≡ last.faults → new.banks ≡ last.banks → new.counters ≡ last.counters
-    → fits program script i ≡ false
-    → ScriptTraced names program script i (world files sink before)
-    (world mid.files mid.sink new) (Err stop.TraceFull)
-was_full names program script i m files sink before old from last new mid refused d q banks counters
-    none =
-    inr (
-      trace_full,
-      ap unless_fits none,
-      refl,
-      went_all names program script i m files sink before old from last mid refused Done mid new d
-          (q ∙ ap (λ (v : ChipView). v.faults) (sym d.chip))
-          (subst (λ (b : Bool). Goes (last_steps b names.trace.now program script i) Done mid mid)
-          (sym none) refl),
-      (
-        refused,
-        left_by program script i m from last new refused d.started d.did banks counters d.count,
-      ),
-    )
+  what_saw : Saw last tape (script_trace program i script).events
+  what_saw = saw_script program script i m from last tape o.legal o.shape o.fits d.plain begun_at
+      (ap (λ (v : ChipView). v.begun) d.same ∙ o.opened_on.begun) d.kept
+      (ap (λ (v : ChipView). v.log) d.same) d.did
 
--- the last steps are those of the trace
-last_are : (names : TraceNames) (program : Program) (script : List Instruction) (i : Image)
-    (bytes : List ℕ) (k : Counters) (refused : ℕ) (end : End) (a b : World)
-    → SpelledBy program script i bytes → k ≡ tally_by program script i
-    → refused ≡ refused_by program script i
-    → Goes (Store names.trace.now bytes ∷ Put (total_line k refused) ∷ []) end a b
-    → Goes (last_steps (fits program script i) names.trace.now program script i) end a b
-last_are names program script i bytes k refused end a b s e f g =
-    subst (λ (x : Bool). Goes (last_steps x names.trace.now program script i) end a b) (sym s.all)
-    (subst (λ (x : List ℕ). Goes (Store names.trace.now x
-    ∷ Put (total_line (tally_by program script i) (refused_by program script i)) ∷ []) end a b) s.is
-    (subst (λ (x : Counters). Goes (Store names.trace.now bytes
-    ∷ Put (total_line x (refused_by program script i)) ∷ []) end a b) e
-    (subst (λ (x : ℕ). Goes (Store names.trace.now bytes ∷ Put (total_line k x) ∷ []) end a b) f
-    g)))
+  own_shape : last.geometry ≡ i.geometry
+  own_shape = d.kept.geometry ∙ begun_at.geometry
 
-module _ (names : TraceNames) (program : Program) (script : List Instruction) (i : Image)
-    (m : Machine) (files : FolderView) (sink : SinkView) (before old from last new : ChipView)
-    (mid : World) (refused : ℕ)
-    (d : FirstDone names program script i m files sink before old from last mid refused)
-    (banks : new.banks ≡ last.banks) (counters : new.counters ≡ last.counters) where
-  own_left : WorkDone program script i (unlogged new) refused
+  own_left : WorkDone program script i (unlogged last) refused
   own_left =
-      left_by program script i m from last new refused d.started d.did banks counters d.count
+      left_by program script i m from (recorded last tape) last refused begun_at d.did refl refl
+      d.count
 
-  -- the trace is not stored, or the line of the totals is not sent
-  pub last_failed : (why : Stop) (bytes : List ℕ) (g : Geometry) (table : List Named) (to : World)
-      → new.faults ≡ to.chip.faults → g ≡ i.geometry
-      → table ≡ table_at_end i.geometry (operations_in program) i.table script
-      → Spelled g table (script_trace program i script).events bytes true
-      → Goes (Store names.trace.now bytes ∷ Put (total_line last.counters refused) ∷ [])
-      (Stopped (reason_of why)) mid to
-      → ScriptTraced names program script i (world files sink before)
-      (world to.files to.sink new) (Err why)
-  last_failed why bytes g table to q e t spelled goes =
-      let end = Stopped (reason_of why) in
-      inl (went_all names program script i m files sink before old from last mid refused end to new
-      d q (last_are names program script i bytes last.counters refused end mid to
-      (spelled_by program script i g table bytes e t spelled) (sym counters ∙ own_left.counters)
-      own_left.refused_is goes))
+  -- all steps over the chip, where the store of the trace goes so
+  went_all : (end : End) (to : World) → last.faults ≡ to.chip.faults
+      → Goes (store_steps (fits program script i) names.trace.now program script i) end
+      (world after sent (recorded last tape)) to
+      → Goes (recorded_steps names program script i) end (world files sink old)
+      (world to.files to.sink last)
+  went_all end to q g =
+      let a = world files sink from in
+      let mid = world after sent (recorded last tape) in
+      let first = subst (λ (xs : List Step). Goes xs Done a mid)
+      (first_are names program script i m from begun_at) d.goes in
+      below names program script i end files sink old last from to
+      (sym (ap (λ (v : ChipView). v.faults) d.same)) q
+      (subst (λ (xs : List Step). Goes xs end a to) (all_are names program script i)
+      (goes_on (first_steps names program script i)
+      (store_steps (fits program script i) names.trace.now program script i) end a mid to first g))
 
-  -- it is done
-  pub last_done : (bytes : List ℕ) (g : Geometry) (table : List Named) (to : World)
-      → new.faults ≡ to.chip.faults → g ≡ i.geometry
-      → table ≡ table_at_end i.geometry (operations_in program) i.table script
-      → Spelled g table (script_trace program i script).events bytes true
-      → Goes (Store names.trace.now bytes ∷ Put (total_line last.counters refused) ∷ []) Done mid to
-      → ScriptTraced names program script i (world files sink before)
-      (world to.files to.sink new) (Ok refused)
-  last_done bytes g table to q e t spelled goes =
-      let s = spelled_by program script i g table bytes e t spelled in (
+  -- too many events
+  pub was_full : (table : List Named) (file : List ℕ) (all : Bool) → all ≡ false
+      → ((events : List Event) → Saw last tape events
+      → Spelled last.geometry table events file all)
+      → ScriptRecorded names program script i (world files sink old) (world after sent last)
+      (Err stop.TraceFull)
+  was_full table file all e spelled =
+      let mid = world after sent (recorded last tape) in
+      let none = not_all last.geometry program script i table file all own_shape e
+      (spelled (script_trace program i script).events what_saw) in
+      inr (
+        trace_full,
+        ap unless_fits none,
+        refl,
+        went_all Done mid refl
+            (subst (λ (b : Bool). Goes (store_steps b names.trace.now program script i) Done mid
+            mid) (sym none) refl),
+        (refused, own_left),
+      )
+
+  -- the file of all events was spelled
+  own_spelled : (table : List Named) (file : List ℕ) (all : Bool) → all ≡ true
+      → table ≡ table_at_end (geometry_of m) (operations_in (program_of m)) (table_in m) script
+      → ((events : List Event) → Saw last tape events
+      → Spelled last.geometry table events file all)
+      → SpelledBy program script i file
+  own_spelled table file all e t spelled =
+      spelled_by program script i last.geometry table file all own_shape
+      (t ∙ own_table program script i m from begun_at) e
+      (spelled (script_trace program i script).events what_saw)
+
+  store_goes : (file : List ℕ) (end : End) (a b : World) → SpelledBy program script i file
+      → Goes (Store names.trace.now file ∷ []) end a b
+      → Goes (store_steps (fits program script i) names.trace.now program script i) end a b
+  store_goes file end a b s g =
+      subst (λ (x : Bool). Goes (store_steps x names.trace.now program script i) end a b)
+      (sym s.all)
+      (subst (λ (bytes : List ℕ). Goes (Store names.trace.now bytes ∷ []) end a b) s.is g)
+
+  -- and not stored, or stored
+  pub trace_unstored : (table : List Named) (file : List ℕ) (all : Bool) (new : FolderView)
+      (why : Stop) → all ≡ true
+      → table ≡ table_at_end (geometry_of m) (operations_in (program_of m)) (table_in m) script
+      → ((events : List Event) → Saw last tape events
+      → Spelled last.geometry table events file all) → reason_of why ≡ CannotWrite names.trace.now
+      → ((view : ChipView) → Unstored names.trace.now (world after sent view) (world new sent view))
+      → ScriptRecorded names program script i (world files sink old) (world new sent last) (Err why)
+  trace_unstored table file all new why e t spelled is u =
+      let s = own_spelled table file all e t spelled in
+      inl (went_all (Stopped (reason_of why)) (world new sent (recorded last tape)) refl
+      (store_goes file (Stopped (reason_of why)) (world after sent (recorded last tape))
+      (world new sent (recorded last tape)) s (inr (is, u (recorded last tape)))))
+
+  pub trace_stored : (table : List Named) (file : List ℕ) (all : Bool) (new : FolderView)
+      → all ≡ true
+      → table ≡ table_at_end (geometry_of m) (operations_in (program_of m)) (table_in m) script
+      → ((events : List Event) → Saw last tape events
+      → Spelled last.geometry table events file all)
+      → ((view : ChipView) → Stored names.trace.now file (world after sent view)
+      (world new sent view))
+      → ScriptRecorded names program script i (world files sink old) (world new sent last)
+      (Ok refused)
+  trace_stored table file all new e t spelled u =
+      let s = own_spelled table file all e t spelled in
+      let end = world new sent (recorded last tape) in (
         ap unless_fits s.all,
-        went_all names program script i m files sink before old from last mid refused Done to new d
-            q (last_are names program script i bytes last.counters refused Done mid to s
-            (sym counters ∙ own_left.counters) own_left.refused_is goes),
+        went_all Done end refl (store_goes file Done (world after sent (recorded last tape)) end s
+            (inl (end, (u (recorded last tape), refl)))),
         own_left,
       )
+
+-- no memory for the recorder, and none or a fault at the opening
+pub no_room : (names : TraceNames) (program : Program) (script : List Instruction) (i : Image)
+    (w : World) → ScriptTraced names program script i w w (Err stop.NoMemory)
+no_room names program script i w = inl (inr (refl, nothing_read w))
+
+pub not_opened : (names : TraceNames) (program : Program) (script : List Instruction) (i : Image)
+    (why : Stop) (a b : World) → Goes (Open ∷ []) (Stopped (reason_of why)) a b
+    → ScriptTraced names program script i a b (Err why)
+not_opened names program script i why a b g = inl (inl (
+  a,
+  (nothing_read a, stops (Open ∷ []) _ (reason_of why) a b g),
+))
+
+-- from the opening on
+from_open : (names : TraceNames) (program : Program) (script : List Instruction) (i : Image)
+    (end : End) (a b c : World) → Goes (Open ∷ []) Done a b
+    → Goes (recorded_steps names program script i
+    ++ total_steps (fits program script i) program script i) end b c
+    → Goes (traced_steps names program script i) end a c
+from_open names program script i end a b c g h = inl (
+  a,
+  (
+    nothing_read a,
+    goes_on (Open ∷ []) (recorded_steps names program script i
+        ++ total_steps (fits program script i) program script i) end a b c g h,
+  ),
+)
+
+fits_not : (b : Bool) (told : Refusal) → unless_fits b ≡ Some told → b ≡ false
+fits_not true told e = absurd (cc)
+fits_not false told e = refl
+
+fits_so : (b : Bool) → unless_fits b ≡ None → b ≡ true
+fits_so true e = refl
+fits_so false e = absurd (cc)
+
+-- the script was not done, or its trace is full or was not stored
+pub not_recorded : (names : TraceNames) (program : Program) (script : List Instruction) (i : Image)
+    (why : Stop) (a b c : World) → Goes (Open ∷ []) Done a b
+    → ScriptRecorded names program script i b c (Err why)
+    → ScriptTraced names program script i a c (Err why)
+not_recorded names program script i why a b c g (inl h) =
+    inl (from_open names program script i (Stopped (reason_of why)) a b c g
+    (stops (recorded_steps names program script i)
+    (total_steps (fits program script i) program script i) (reason_of why) b c h))
+not_recorded names program script i why a b c g (inr w) =
+    inr (
+      w.0,
+      w.1,
+      w.2,
+      from_open names program script i Done a b c g
+          (goes_on (recorded_steps names program script i)
+          (total_steps (fits program script i) program script i) Done b c c w.3
+          (subst (λ (x : Bool). Goes (total_steps x program script i) Done c c)
+          (sym (fits_not (fits program script i) w.0 w.1)) refl)),
+      w.4,
+    )
+
+total_goes : (program : Program) (script : List Instruction) (i : Image) (k : Counters)
+    (refused : ℕ) (end : End) (a b : World) → fits program script i ≡ true
+    → k ≡ tally_by program script i → refused ≡ refused_by program script i
+    → Goes (Put (total_line k refused) ∷ []) end a b
+    → Goes (total_steps (fits program script i) program script i) end a b
+total_goes program script i k refused end a b all e f g =
+    subst (λ (x : Bool). Goes (total_steps x program script i) end a b) (sym all)
+    (subst (λ (x : Counters). Goes (Put (total_line x (refused_by program script i)) ∷ []) end a b)
+    e (subst (λ (n : ℕ). Goes (Put (total_line k n) ∷ []) end a b) f g))
+
+-- the line of the totals is not sent, or is
+pub total_unsent : (names : TraceNames) (program : Program) (script : List Instruction) (i : Image)
+    (refused : ℕ) (a b : World) (files : FolderView) (s t : SinkView) (chip : ChipView)
+    → Goes (Open ∷ []) Done a b
+    → ScriptRecorded names program script i b (world files s chip) (Ok refused)
+    → Told (AppendsPart (total_line chip.counters refused)) s.sent t.sent → s.faults ≤ t.faults
+    → Rose s.faults t.faults
+    → ScriptTraced names program script i a (world files t chip) (Err stop.PutFailed)
+total_unsent names program script i refused a b files s t chip g w p n r =
+    let mid = world files s chip in
+    let end = world files t chip in
+    inl (from_open names program script i (Stopped PutFailed) a b end g
+    (goes_on (recorded_steps names program script i)
+    (total_steps (fits program script i) program script i) (Stopped PutFailed) b mid end w.1
+    (total_goes program script i chip.counters refused (Stopped PutFailed) mid end
+    (fits_so (fits program script i) w.0) w.2.counters w.2.refused_is
+    (inr (refl, sent (AppendsPart (total_line chip.counters refused)) files s t chip p n, r)))))
+
+pub total_sent : (names : TraceNames) (program : Program) (script : List Instruction) (i : Image)
+    (refused : ℕ) (a b : World) (files : FolderView) (s t : SinkView) (chip : ChipView)
+    → Goes (Open ∷ []) Done a b
+    → ScriptRecorded names program script i b (world files s chip) (Ok refused)
+    → Told (λ before after. after ≡ before ++ total_line chip.counters refused) s.sent t.sent
+    → s.faults ≤ t.faults
+    → ScriptTraced names program script i a (world files t chip) (Ok refused)
+total_sent names program script i refused a b files s t chip g w p n =
+    let mid = world files s chip in
+    let end = world files t chip in
+    let line = total_line chip.counters refused in (
+      w.0,
+      from_open names program script i Done a b end g
+          (goes_on (recorded_steps names program script i)
+          (total_steps (fits program script i) program script i) Done b mid end w.1
+          (total_goes program script i chip.counters refused Done mid end
+          (fits_so (fits program script i) w.0) w.2.counters w.2.refused_is
+          (inl (end, (sent (λ before after. after ≡ before ++ line) files s t chip p n, refl))))),
+      w.2,
+    )
 
 -- files that are loaded before
 
@@ -769,34 +859,6 @@ pub moved : {D : Type 0} (view : D → ChipView) (x y : D) (P : ChipView → Typ
     → P (view y) → P (view x)
 moved view x y P e p = subst (λ (d : _). P (view d)) (sym e) p
 
--- a machine that was opened, and a recorder's view of its chip at the mark
-pub started_at : (program : Program) (i : Image) (m : Machine) (old from : ChipView)
-    → from ≡ record old { log = Some empty_log } → OpenedOn i old → geometry_of m ≡ i.geometry
-    → program_of m ≡ program → table_in m ≡ i.table → turn_in m ≡ Ahead → Holds i.geometry i.table
-    → Started program i m from
-started_at program i m old from e o shape p t turn holds = record {
-  shape_is = shape;
-  program_is = p;
-  table_is = t;
-  turn_is = turn;
-  holds = holds;
-  banks = ap (λ (v : ChipView). v.banks) e ∙ o.banks;
-  counters = ap (λ (v : ChipView). v.counters) e ∙ o.counters;
-  geometry = ap (λ (v : ChipView). v.geometry) e ∙ o.geometry;
-}
-
+-- the table of an image fits its shape
 pub table_fits : (g : Geometry) (table : Listing) → LiesOn g table → TableFits g table.pairs
 table_fits g table lies = record { listed = lies.listed; objects = lies.objects }
-
--- where the file was not spelled, not all fit
-pub not_all : (g : Geometry) (program : Program) (script : List Instruction) (i : Image)
-    (table : List Named) (file : List ℕ) (all : Bool) → g ≡ i.geometry → all ≡ false
-    → Spelled g table (script_trace program i script).events file all
-    → fits program script i ≡ false
-not_all g program script i table file all e none spelled =
-    ap (λ (x : Geometry). all_fit x (script_trace program i script).events) (sym e)
-    ∙ sym spelled.all_is ∙ none
-
-pub all_spelled : (g : Geometry) (table : List Named) (events : List Event) (file : List ℕ)
-    (all : Bool) → all ≡ true → Spelled g table events file all → Spelled g table events file true
-all_spelled g table events file all e s = subst (Spelled g table events file) e s

@@ -3,17 +3,21 @@ use Rattle.std.specs.Prelude.{◌≡◌, ◌≢◌, ◌⊎◌, ℕ, ◌+◌, ◌
 use Rattle.std.specs.Prelude.{Option, Some, None, Result, Ok, Err}
 use Rattle.host_edge.specs.Views.{Files}
 use Rattle.dram_model.specs.Chip.{Banks, Event, after}
+use Rattle.dram_model.specs.Geometry.{is_geometry}
 use Rattle.dram_model.specs.View.{ChipView}
 use Rattle.object_alloc.specs.Spelling.{image_bytes}
+use Rattle.uprog_code.specs.Programs.{IsProgram}
 use Rattle.uprog_bin.specs.Opened.{IsProgramFile}
 use Rattle.bbop_isa.specs.Forms.{Instruction}
+use Rattle.wave_model.specs.Schedule.{Ahead}
+use Rattle.machine_model.specs.Laws.{TableFits}
 use Rattle.machine_model.specs.Opened.{Image, rows_of}
 use Rattle.machine_model.specs.Operations.{Program}
 use Rattle.machine_model.specs.Pieces.{events_of_pieces, pieces}
 use Rattle.machine_model.specs.Report.{total_line}
 use Rattle.machine_model.specs.Script.{rows_printed, sum_done, table_at_end}
 use Rattle.sim_machine.specs.declared.machine.Machine.{Machine}
-use Rattle.sim_machine.specs.Machine.{geometry_of, operations_by, table_in, turn_in}
+use Rattle.sim_machine.specs.Machine.{geometry_of, operations_by, program_of, table_in, turn_in}
 use Rattle.trace_model.specs.Reading.{trace_in}
 use Rattle.trace_model.specs.Replay.{replayed, script_trace}
 use Rattle.trace_model.specs.Spelling.{Trace, bytes_of_trace}
@@ -31,7 +35,7 @@ use Rattle.simdram_cli.specs.Programs.{prog_in}
 use Rattle.simdram_cli.specs.Reads.{IsText, StopsAtLoad}
 use Rattle.simdram_cli.specs.Stops.{end_of, reason_of, trace_full}
 use Rattle.simdram_cli.specs.Job.{Texts, image_by, pieces_steps, refused_by, script_steps, tally_by}
-use Rattle.simdram_cli.specs.Works.{WorkDone}
+use Rattle.simdram_cli.specs.Works.{OpenedOn, WorkDone}
 use Rattle.simdram_cli.specs.Ends.{DoneOn, IsRead, JobDone}
 use Rattle.simdram_cli.specs.Exec.{Executed, IsDoneAs, IsDoneWith, exec_names, status_with}
 use Rattle.simdram_cli.specs.Scan.{TellsLast}
@@ -49,23 +53,29 @@ exec_of names = record {
 abbrev pub fits : Program → List Instruction → Image → Bool
 fits program script i = all_fit i.geometry (script_trace program i script).events
 
--- TRACE is stored and the line of the totals is sent, where all events fit
-abbrev pub last_steps : Bool → List ℕ → Program → List Instruction → Image → List Step
-last_steps true trace program script i =
-    Store trace (bytes_of_trace (script_trace program i script))
-    ∷ Put (total_line (tally_by program script i) (refused_by program script i)) ∷ []
-last_steps false trace program script i = []
+-- TRACE is stored, and the line of the totals is sent, where all events fit
+abbrev pub store_steps : Bool → List ℕ → Program → List Instruction → Image → List Step
+store_steps true trace program script i =
+    Store trace (bytes_of_trace (script_trace program i script)) ∷ []
+store_steps false trace program script i = []
+
+abbrev pub total_steps : Bool → Program → List Instruction → Image → List Step
+total_steps true program script i =
+    Put (total_line (tally_by program script i) (refused_by program script i)) ∷ []
+total_steps false program script i = []
 
 -- the script is done on the opened chip, and the image after it is stored; and then TRACE is
 abbrev pub recorded_steps : TraceNames → Program → List Instruction → Image → List Step
 recorded_steps names program script i =
     script_steps program script i
     ++ (Use ∷ Store names.out.now (image_by program script i)
-    ∷ last_steps (fits program script i) names.trace.now program script i)
+    ∷ store_steps (fits program script i) names.trace.now program script i)
 
 -- memory is taken for a recorder, and the chip begins with the image
 abbrev pub traced_steps : TraceNames → Program → List Instruction → Image → List Step
-traced_steps names program script i = Take ∷ Open ∷ recorded_steps names program script i
+traced_steps names program script i =
+    Take ∷ Open ∷ (recorded_steps names program script i
+    ++ total_steps (fits program script i) program script i)
 
 abbrev pub traced_image_steps : TraceNames → Program → List Instruction → List ℕ → List Step
 traced_image_steps names program script text =
@@ -179,7 +189,25 @@ Came steps full done (Err stop) old new = Goes steps (Stopped (reason_of stop)) 
     ⊎ ((told : Refusal) × (full ≡ Some told) × (reason_of stop ≡ Refused told)
     × Goes steps Done old new × ((refused : ℕ) × done (unlogged new.chip) refused))
 
--- the script was done on the image
+-- A machine was opened on an image with an accepted program, and so was its chip
+pub record OpensOn (program : Program) (i : Image) (m : Machine) (chip : ChipView) : Type 0 where
+  pub legal : IsProgram program
+  pub shape : is_geometry i.geometry ≡ true
+  pub fits : TableFits i.geometry i.table
+  pub shape_is : geometry_of m ≡ i.geometry
+  pub program_is : program_of m ≡ program
+  pub table_is : table_in m ≡ i.table
+  pub turn_is : turn_in m ≡ Ahead
+  pub opened_on : OpenedOn i chip
+
+-- the script was done on its chip
+abbrev pub ScriptRecorded : TraceNames → Program → List Instruction → Image → World → World
+    → Result ℕ Stop → Type 0
+ScriptRecorded names program script i old new result =
+    Came (recorded_steps names program script i) (unless_fits (fits program script i))
+    (WorkDone program script i) result old new
+
+-- and was done on the image, from the opening on
 abbrev pub ScriptTraced : TraceNames → Program → List Instruction → Image → World → World
     → Result ℕ Stop → Type 0
 ScriptTraced names program script i old new result =

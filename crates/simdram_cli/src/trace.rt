@@ -1,26 +1,28 @@
 //! The command `trace`.
 
 ghost use Rattle.std.specs.Prelude.{◌≡◌, ◌+◌, ◌*◌, ◌<◌, ◌≤◌, ◌^◌, ◌++◌, ◌∷◌, [], length, map};
-ghost use Rattle.std.specs.Prelude.{IfOk, count_by};
+ghost use Rattle.std.specs.Prelude.{IfOk, OnOk, count_by};
 ghost use Rattle.std.specs.List.{AllByRecursion};
 ghost use Rattle.host_edge.specs.Views.{FolderView};
-ghost use Rattle.dram_model.specs.View.{ChipView, HasBegun, Kept};
+ghost use Rattle.dram_model.specs.View.{HasBegun, Kept};
 ghost use Rattle.object_alloc.specs.Exact.{found_in};
 ghost use Rattle.object_alloc.specs.Reading.{rows_size};
 ghost use Rattle.object_steps.specs.Objects.{LiesOn};
 ghost use Rattle.uprog_code.specs.Programs.{IsProgram};
 ghost use Rattle.bbop_isa.specs.Forms.{view_of};
 ghost use Rattle.machine_model.specs.Agrees.{IsPlain};
-ghost use Rattle.machine_model.specs.Report.{total_line};
+ghost use Rattle.machine_model.specs.Opened.{Image as ImageOf};
+ghost use Rattle.machine_model.specs.Operations.{Program};
 ghost use Rattle.machine_model.specs.Script.{is_refused, replies, table_at_end};
 ghost use Rattle.cli_model.specs.World.{world};
-ghost use Rattle.cli_model.specs.Steps.{Goes, Put, Store, Use};
+ghost use Rattle.cli_model.specs.Steps.{Goes, Store, Use};
 ghost use Rattle.sim_machine.specs.Machine.{IsReady, geometry_of, operations_by, table_in};
 ghost use Rattle.sim_machine.specs.Steps.{DidAndRead};
 ghost use Rattle.simdram_cli.specs.Inputs.{image_found};
 ghost use Rattle.simdram_cli.specs.Stops.{end_of};
-ghost use Rattle.simdram_cli.specs.Tracing.{ImageTraced, JobTraced, ScriptTraced, TraceGoes};
-ghost use Rattle.simdram_cli.specs.Tracing.{events_on, image_on, reads_on, steps_on};
+ghost use Rattle.simdram_cli.specs.Tracing.{ImageTraced, JobTraced, OpensOn, ScriptRecorded};
+ghost use Rattle.simdram_cli.specs.Tracing.{ScriptTraced, TraceGoes, events_on, image_on, reads_on};
+ghost use Rattle.simdram_cli.specs.Tracing.{steps_on};
 
 use crate::job::image_stop;
 use crate::load::{load, load_script};
@@ -83,32 +85,48 @@ fn work_to_image<'a, F: Folder, S: Sink, D: Dram>(
     Ok(refused)
 }
 
-/// Stores a trace file, and puts the line of the totals.
-fn finish_trace<'a, F: Folder, S: Sink, D: Dram>(
-    machine: &Machine<'_>,
-    refused: u64,
-    name: &'a str,
-    trace: &[u8],
+/// Does a script over a recorder on the chip, stores the image after it, and then the trace of what
+/// the recorder saw, where it kept all; answers how many instructions were refused.
+fn record_script<'a, F: Folder, S: Sink, D: Dram>(
+    machine: &mut Machine<'_>,
+    script: &[Instr],
+    names: &TraceNames<'a>,
     files: &mut F,
     out: &mut S,
-    chip: &D,
-) -> Result<(), Stop<'a>>
-    requires { HasBegun (D.view chip.now) }
-    ensures { (view : ChipView) → Goes (Store name.now trace.now
-        ∷ Put (total_line (D.view chip.now).counters refused) ∷ []) (end_of result)
-        (world (F.view files.old) (S.view out.old) view)
-        (world (F.view files.new) (S.view out.new) view) }
+    chip: &mut D,
+    room: &mut Room,
+) -> Result<u64, Stop<'a>>
+    requires ready { IsReady machine.old }
+    requires begun { HasBegun (D.view chip.old) }
+    requires geometry { (D.view chip.old).geometry ≡ geometry_of machine.old }
+    requires plain { AllByRecursion IsPlain (map view_of script.now) }
+    requires few { length script.now ≤ 2 ^ 25 }
+    requires aap_none { (D.view chip.old).counters.aap ≡ 0 }
+    requires ap_none { (D.view chip.old).counters.ap ≡ 0 }
+    requires few_writes { (D.view chip.old).counters.writes ≤ 2 ^ 60 }
+    requires reads_none { (D.view chip.old).counters.reads ≡ 0 }
+    ensures borrow { D.borrow chip.new ≡ D.borrow chip.old }
+    ensures begun { OnOk result (HasBegun (D.view chip.new)) }
+    ensures recorded { (program : Program) (i : ImageOf)
+        → OpensOn program i machine.old (D.view chip.old)
+        → ScriptRecorded names.now program (map view_of script.now) i
+        (world (F.view files.old) (S.view out.old) (D.view chip.old))
+        (world (F.view files.new) (S.view out.new) (D.view chip.new)) result }
 {
-    if files.store(name, trace).is_err() {
-        return Err(Stop::CannotWrite(name));
+    let mut recorder = Recorder::new(chip, room);
+    recorder.mark();
+    let refused = work_to_image(machine, script, names.out, files, out, &mut recorder)?;
+    if !spell_trace(&mut recorder, machine.table()) {
+        return Err(Stop::TraceFull);
     }
-    if machine.put_total(refused, chip, out).is_err() {
-        return Err(Stop::PutFailed);
+    if files.store(names.trace, recorder.trace_file()).is_err() {
+        return Err(Stop::CannotWrite(names.trace));
     }
-    Ok(())
+    Ok(refused)
 }
 
-/// Does a script on an image over a recorder, and stores the trace of what it saw.
+/// Does a script on an image over a recorder, stores the trace of what it saw, and puts the line of
+/// the totals.
 fn trace_script<'a, F: Folder, S: Sink, D: Dram>(
     prog: ProgView<'_>,
     script: &[Instr],
@@ -134,14 +152,10 @@ fn trace_script<'a, F: Folder, S: Sink, D: Dram>(
         return Err(Stop::NoMemory);
     };
     let mut machine = open(prog, image, chip, alloc)?;
-    let mut recorder = Recorder::new(chip, &mut room);
-    recorder.mark();
-    let refused = work_to_image(&mut machine, script, names.out, files, out, &mut recorder)?;
-    if !spell_trace(&mut recorder, machine.table()) {
-        return Err(Stop::TraceFull);
+    let refused = record_script(&mut machine, script, names, files, out, chip, &mut room)?;
+    if machine.put_total(refused, chip, out).is_err() {
+        return Err(Stop::PutFailed);
     }
-    let trace = recorder.trace_file();
-    finish_trace(&machine, refused, names.trace, trace, files, out, &recorder)?;
     Ok(refused)
 }
 
