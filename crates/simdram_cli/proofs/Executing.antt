@@ -186,7 +186,7 @@ exec_ends names old mid new (Err by) status g tells answers =
 
 -- what it promises
 
-rows_stay : (program : Program) (script : List Instruction) (i : Image) (chip : ChipView)
+pub rows_stay : (program : Program) (script : List Instruction) (i : Image) (chip : ChipView)
     (refused : ℕ) → IsProgram program → RowsDone script i program chip refused
     → RowsStay program script i chip
 rows_stay program script i chip refused legal d bank row b r out =
@@ -211,7 +211,7 @@ or_none : (b : Bool) → b ≡ false → (b || false) ≡ false
 or_none true e = e
 or_none false e = refl
 
-stays_inside : (program : Program) (script : List Instruction) (i : Image) (chip : ChipView)
+pub stays_inside : (program : Program) (script : List Instruction) (i : Image) (chip : ChipView)
     (refused : ℕ) → IsProgram program → RowsDone script i program chip refused
     → StaysInside program script i
 stays_inside program script i chip refused legal d before instr behind bank row e out =
@@ -273,7 +273,7 @@ file_program prog program f e =
     let same : f.programs ≡ program = cc in
     subst IsProgram same f.is
 
-by_text : (out : List ℕ) (script : List Instruction) (i : Image) (program : Program)
+pub by_text : (out : List ℕ) (script : List Instruction) (i : Image) (program : Program)
     (refused status : ℕ) (old new : World) (after : Files)
     → RowsDone script i program new.chip refused
     → status ≡ done_status (refused_by program script i)
@@ -295,7 +295,7 @@ by_text out script i program refused status old new after rows answers file sent
     }
 
 -- with its own count of the refused
-own_count : (script : List Instruction) (i : Image) (program : Program) (chip : ChipView)
+pub own_count : (script : List Instruction) (i : Image) (program : Program) (chip : ChipView)
     (refused : ℕ) → RowsDone script i program chip refused
     → RowsDone script i program chip (refused_by program script i)
 own_count script i program chip refused d = record {

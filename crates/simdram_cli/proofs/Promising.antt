@@ -1,7 +1,7 @@
 -- What the top call promises, from how a command ends.
 use Rattle.std.proofs.Common.{◌≡◌, ◌⊎◌, inl, inr, arith, ℕ, Bool, true, false, cond, List, [], ◌∷◌}
 use Rattle.std.proofs.Common.{length}
-use Rattle.std.proofs.Common.{◌+◌, Option, Some, None, refl, subst}
+use Rattle.std.proofs.Common.{◌+◌, ◌++◌, Option, Some, None, refl, subst}
 use Rattle.std.specs.Prelude.{Result, Ok, Err, ◌↔◌}
 use denote.Ref.{Bor}
 use Rattle.bbop_isa.specs.Forms.{Instruction}
@@ -38,8 +38,9 @@ use Rattle.simdram_cli.specs.declared.words.Command.TheVariants.{Cost, List as L
 use Rattle.simdram_cli.specs.declared.words.Command.TheVariants.{Scan}
 use Rattle.simdram_cli.specs.declared.words.Command.TheVariants.{Trace}
 use Rattle.simdram_cli.specs.declared.words.TraceNames.{TraceNames}
-use Rattle.simdram_cli.specs.Tracing.{fits, full_by, full_on, full_with, last_steps, recorded_steps}
-use Rattle.simdram_cli.specs.Tracing.{status_or, trace_steps, traced_steps, unless_fits}
+use Rattle.simdram_cli.specs.Tracing.{fits, full_by, full_on, full_with, recorded_steps, status_or}
+use Rattle.simdram_cli.specs.Tracing.{store_steps, total_steps, trace_steps, traced_steps}
+use Rattle.simdram_cli.specs.Tracing.{unless_fits}
 use Rattle.simdram_cli.proofs.Traced.{traced}
 use Rattle.simdram_cli.specs.declared.words.InitNames.{InitNames}
 use Rattle.simdram_cli.specs.declared.account.Account.{Account}
@@ -310,21 +311,31 @@ scan_so P (Some program) q (Ok i) zero sixteen = answer_so P (answer_on program 
 scan_so P (Some program) q (Err r) zero sixteen = zero
 scan_so P None q image zero sixteen = zero
 
-last_of : (P : ℕ → Type 0) (all : Bool) (name : List ℕ) (program : Program)
+store_of : (P : ℕ → Type 0) (all : Bool) (name : List ℕ) (program : Program)
     (script : List Instruction) (i : Image) → P 3
-    → OfSteps P (last_steps all name program script i)
-last_of P true name program script i three = (three, (three, tt))
-last_of P false name program script i three = tt
+    → OfSteps P (store_steps all name program script i)
+store_of P true name program script i three = (three, tt)
+store_of P false name program script i three = tt
 
+total_of : (P : ℕ → Type 0) (all : Bool) (program : Program) (script : List Instruction) (i : Image)
+    → P 3 → OfSteps P (total_steps all program script i)
+total_of P true program script i three = (three, tt)
+total_of P false program script i three = tt
+
+-- behind the opening
 pub recorded_of : (P : ℕ → Type 0) (names : TraceNames) (program : Program)
     (script : List Instruction) (i : Image) → P 3 → P 9
-    → OfSteps P (recorded_steps names program script i)
+    → OfSteps P (recorded_steps names program script i
+    ++ total_steps (fits program script i) program script i)
 recorded_of P names program script i three nine =
-    of_more P (script_steps program script i)
+    of_more P (recorded_steps names program script i)
+    (total_steps (fits program script i) program script i)
+    (of_more P (script_steps program script i)
     (Use ∷ Store names.out.now (image_by program script i)
-    ∷ last_steps (fits program script i) names.trace.now program script i)
+    ∷ store_steps (fits program script i) names.trace.now program script i)
     (pieces_of P i.geometry (operations_in program) i.table (opened i) 1 (pieces script) three nine)
-    (nine, (three, last_of P (fits program script i) names.trace.now program script i three))
+    (nine, (three, store_of P (fits program script i) names.trace.now program script i three)))
+    (total_of P (fits program script i) program script i three)
 
 pub traced_of : (P : ℕ → Type 0) (names : TraceNames) (program : Program)
     (script : List Instruction) (i : Image) → P 3 → P 9 → P 10

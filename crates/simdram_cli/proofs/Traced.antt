@@ -50,8 +50,9 @@ use Rattle.simdram_cli.specs.Ends.{answer_to}
 use Rattle.simdram_cli.specs.Exec.{IsDoneAs, IsDoneWith, exec_names, exec_steps, status_with}
 use Rattle.simdram_cli.specs.Scan.{TellsLast}
 use Rattle.simdram_cli.specs.Tracing.{Came, TraceEnds, TraceGoes, Traced, exec_of, fits, full_with}
-use Rattle.simdram_cli.specs.Tracing.{last_steps, recorded_steps, status_or, trace_steps}
-use Rattle.simdram_cli.specs.Tracing.{traced_image_steps, traced_job_steps, traced_steps}
+use Rattle.simdram_cli.specs.Tracing.{recorded_steps, status_or, store_steps, total_steps}
+use Rattle.simdram_cli.specs.Tracing.{trace_steps, traced_image_steps, traced_job_steps}
+use Rattle.simdram_cli.specs.Tracing.{traced_steps}
 use Rattle.simdram_cli.specs.Tracing.{unless_fits, unlogged, unlogged_world}
 use Rattle.simdram_cli.proofs.Executing.{done_read, done_with, executed, file_program, has_run}
 use Rattle.simdram_cli.proofs.Executing.{none_with, status_read, with_done}
@@ -285,20 +286,49 @@ full_read : (read : Result Program Refusal) (texts : Texts) (program : Program)
     → full_with read texts ≡ unless_fits (fits program script i)
 full_read read texts program script i e f k = rw (e, f, k) refl
 
--- what its last steps come to in files and bytes
+-- what its steps come to in files and bytes
+recorded_files : (names : TraceNames) (program : Program) (script : List Instruction) (i : Image)
+    (files : Files) → fits program script i ≡ true
+    → files_after (recorded_steps names program script i) files
+    ≡ with_file names.trace.now (bytes_of_trace (script_trace program i script))
+    (with_file names.out.now (image_by program script i) files)
+recorded_files names program script i files all =
+    let last = Use ∷ Store names.out.now (image_by program script i)
+    ∷ store_steps (fits program script i) names.trace.now program script i in
+    files_more (script_steps program script i) last files
+    ∙ ap (files_after last) (pieces_files i.geometry (operations_in program) i.table (opened i) 1
+    (pieces script) files)
+    ∙ ap (λ (b : Bool). files_after (store_steps b names.trace.now program script i)
+    (with_file names.out.now (image_by program script i) files)) all
+
 traced_files : (names : TraceNames) (program : Program) (script : List Instruction) (i : Image)
     (files : Files) → fits program script i ≡ true
     → files_after (traced_steps names program script i) files
     ≡ with_file names.trace.now (bytes_of_trace (script_trace program i script))
     (with_file names.out.now (image_by program script i) files)
 traced_files names program script i files all =
+    files_more (recorded_steps names program script i)
+    (total_steps (fits program script i) program script i) files
+    ∙ ap (λ (b : Bool). files_after (total_steps b program script i)
+    (files_after (recorded_steps names program script i) files)) all
+    ∙ recorded_files names program script i files all
+
+stores_quiet : (all : Bool) (name : List ℕ) (program : Program) (script : List Instruction)
+    (i : Image) → sent_by (store_steps all name program script i) ≡ []
+stores_quiet true name program script i = refl
+stores_quiet false name program script i = refl
+
+recorded_sent : (names : TraceNames) (program : Program) (script : List Instruction) (i : Image)
+    → sent_by (recorded_steps names program script i) ≡ lines 1 (said_in program script i)
+recorded_sent names program script i =
+    let said = lines 1 (said_in program script i) in
     let last = Use ∷ Store names.out.now (image_by program script i)
-    ∷ last_steps (fits program script i) names.trace.now program script i in
-    files_more (script_steps program script i) last files
-    ∙ ap (files_after last) (pieces_files i.geometry (operations_in program) i.table (opened i) 1
-    (pieces script) files)
-    ∙ ap (λ (b : Bool). files_after (last_steps b names.trace.now program script i)
-    (with_file names.out.now (image_by program script i) files)) all
+    ∷ store_steps (fits program script i) names.trace.now program script i in
+    sent_more (script_steps program script i) last
+    ∙ ap (λ w. w ++ sent_by last) (sent_script i.geometry (operations_in program) i.table
+    (opened i) script)
+    ∙ ap (λ w. said ++ w) (stores_quiet (fits program script i) names.trace.now program script i)
+    ∙ append-nil said
 
 traced_sent : (names : TraceNames) (program : Program) (script : List Instruction) (i : Image)
     → fits program script i ≡ true → sent_by (traced_steps names program script i)
@@ -306,13 +336,11 @@ traced_sent : (names : TraceNames) (program : Program) (script : List Instructio
     ++ total_line (tally_by program script i) (refused_by program script i)
 traced_sent names program script i all =
     let total = total_line (tally_by program script i) (refused_by program script i) in
-    let last = Use ∷ Store names.out.now (image_by program script i)
-    ∷ last_steps (fits program script i) names.trace.now program script i in
-    sent_more (script_steps program script i) last
-    ∙ ap (λ w. w ++ sent_by last) (sent_script i.geometry (operations_in program) i.table
-    (opened i) script)
+    let last = total_steps (fits program script i) program script i in
+    sent_more (recorded_steps names program script i) last
+    ∙ ap (λ w. w ++ sent_by last) (recorded_sent names program script i)
     ∙ ap (λ (b : Bool). lines 1 (said_in program script i)
-    ++ sent_by (last_steps b names.trace.now program script i)) all
+    ++ sent_by (total_steps b program script i)) all
     ∙ ap (λ w. lines 1 (said_in program script i) ++ w) (append-nil total)
 
 script_accepted : (r : Result (List Instruction) ScriptFault) (script : List Instruction)
