@@ -45,6 +45,8 @@ mod soaked;
 #[cfg(test)]
 mod tests;
 #[cfg(test)]
+mod tracing;
+#[cfg(test)]
 mod traced;
 
 /// The status where the words cannot be read.

@@ -11,11 +11,14 @@ use Rattle.simdram_cli.specs.declared.words.Command.{Command}
 use Rattle.simdram_cli.specs.declared.words.Command.TheVariants.{Run, Exec, Compile, Show, Migrate}
 use Rattle.simdram_cli.specs.declared.words.Command.TheVariants.{Cost, List as ListOf, Init, Soak}
 use Rattle.simdram_cli.specs.declared.words.Command.TheVariants.{Scan}
+use Rattle.simdram_cli.specs.declared.words.Command.TheVariants.{Trace}
+use Rattle.simdram_cli.specs.declared.words.TraceNames.{TraceNames}
 use Rattle.simdram_cli.specs.declared.words.Command.TheVariants.{Replay}
 use Rattle.simdram_cli.specs.Words.{HasNumbers, IsApart, are_apart, command_of, command_on_one}
 use Rattle.simdram_cli.specs.Words.{command_on_four, command_on_two, cost_on, init_on}
 use Rattle.simdram_cli.specs.Words.{inputs_apart, is_number, soak_on, value_of}
-use Rattle.simdram_cli.specs.Words.{command_on_three, trace_apart}
+use Rattle.simdram_cli.specs.Words.{traced_apart, trace_on}
+use Rattle.simdram_cli.specs.Words.{command_on_three, replay_apart}
 
 -- the files of a command are apart, and its numbers are in range
 pub record IsRight (command : Command) : Type 0 where
@@ -38,6 +41,12 @@ if_so : (b : Bool) (command : Command) → (b ≡ true → IsRight command)
     → AreRight (cond b (Some command) None)
 if_so true command right = right refl
 if_so false command right = tt
+
+-- or another
+if_or : (b : Bool) (command : Command) (o : Option Command) → (b ≡ true → IsRight command)
+    → AreRight o → AreRight (cond b (Some command) o)
+if_or true command o right other = right refl
+if_or false command o right other = other
 
 -- one of two, by a test
 either : (b : Bool) (x y : Option Command) → AreRight x → (b ≡ false → AreRight y)
@@ -109,7 +118,7 @@ on_two_right verb first second apart =
 on_three_right : (verb : List ℕ) (first second third : Bor (List ℕ))
     → AreRight (command_on_three verb first second third)
 on_three_right verb first second third =
-    let apart = trace_apart first.now second.now third.now in
+    let apart = replay_apart first.now second.now third.now in
     if_so (bytes_eq verb (codes "replay") && apart) (Replay (record
     { trace = first; image = second; out = third })) (λ e. record {
       apart = second_holds (bytes_eq verb (codes "replay")) apart e;
@@ -128,6 +137,13 @@ on_four_right verb first second third fourth =
       numbers = tt;
     }))
 
+trace_right : (verb : List ℕ) (names : TraceNames) → AreRight (trace_on verb names)
+trace_right verb names =
+    if_so (bytes_eq verb (codes "trace") && traced_apart names) (Trace names) (λ e. record {
+      apart = second_holds (bytes_eq verb (codes "trace")) (traced_apart names) e;
+      numbers = tt;
+    })
+
 words_right : (words : List (Bor (List ℕ))) → AreRight (command_of words)
 words_right [] = tt
 words_right (a ∷ []) = tt
@@ -143,11 +159,14 @@ words_right (verb ∷ first ∷ second ∷ third ∷ fourth ∷ []) =
     on_four_right verb.now first second third fourth
 words_right (verb ∷ ops ∷ prog ∷ script ∷ image ∷ out ∷ []) =
     let apart = are_apart ops.now prog.now script.now image.now out.now in
-    if_so (bytes_eq verb.now (codes "run") && apart) (Run (record
-    { ops = ops; prog = prog; script = script; image = image; out = out })) (λ e. record {
+    let traced : TraceNames =
+    record { prog = ops; script = prog; image = script; out = image; trace = out } in
+    if_or (bytes_eq verb.now (codes "run") && apart) (Run (record
+    { ops = ops; prog = prog; script = script; image = image; out = out })) (trace_on verb.now traced)
+    (λ e. record {
       apart = second_holds (bytes_eq verb.now (codes "run")) apart e;
       numbers = tt;
-    })
+    }) (trace_right verb.now traced)
 words_right (a ∷ b ∷ c ∷ d ∷ f ∷ h ∷ i ∷ rest) = tt
 
 right_one : (o : Option Command) (command : Command) → o ≡ Some command → AreRight o

@@ -45,6 +45,11 @@ use Rattle.simdram_cli.specs.declared.words.Command.{Command}
 use Rattle.simdram_cli.specs.declared.words.Command.TheVariants.{Run, Exec, Compile, Show, Migrate}
 use Rattle.simdram_cli.specs.declared.words.Command.TheVariants.{Cost, List as ListOf, Init, Soak}
 use Rattle.simdram_cli.specs.declared.words.Command.TheVariants.{Scan}
+use Rattle.simdram_cli.specs.declared.words.Command.TheVariants.{Trace}
+use Rattle.simdram_cli.specs.declared.words.TraceNames.{TraceNames}
+use Rattle.simdram_cli.specs.Tracing.{exec_of, full_with, status_or, trace_steps, traced_image_steps}
+use Rattle.simdram_cli.specs.Tracing.{traced_job_steps, traced_steps}
+use Rattle.simdram_cli.proofs.Promising.{full_so, recorded_of, traced_of}
 use Rattle.simdram_cli.specs.declared.words.Command.TheVariants.{Replay}
 use Rattle.simdram_cli.specs.declared.words.ScanNames.{ScanNames}
 use Rattle.simdram_cli.specs.declared.words.TheConstants.{QUERY_MAX}
@@ -293,6 +298,22 @@ scan_passes names texts made q (Some files) good read =
     loads_none_done (made_steps made q i) files
     (made_of (λ s. s ≡ 2 → ⊥) made q i (λ e. cc) (λ e. cc) (λ e. cc))))
 
+trace_passes : (names : TraceNames) (prog : List ℕ) (texts : Texts) (holds : Option Files)
+    → AreGood (Trace names) (file_in holds) → IsText holds names.prog.now prog
+    → IsRead (exec_names (exec_of names)) texts holds
+    → Passes holds (trace_steps names prog texts)
+trace_passes names prog texts None good is read = no_file prog_in PROG_MAX good.0
+trace_passes names prog texts (Some files) good is read =
+    good_loads names.prog.now PROG_MAX prog prog_in
+    (λ program. traced_job_steps names program texts) files good.0 is (λ program.
+    good_loads names.script.now SCRIPT_MAX texts.script script_in
+    (λ script. traced_image_steps names program script texts.image) files good.1 read.script
+    (λ script.
+    good_loads names.image.now IMAGE_MAX texts.image image_of
+    (λ i. traced_steps names program script i) files good.2 read.image (λ i.
+    loads_none_done (traced_steps names program script i) files
+    (traced_of (λ s. s ≡ 2 → ⊥) names program script i (λ e. cc) (λ e. cc) (λ e. cc)))))
+
 -- A command that its files foretell to be refused with one status, where they do not let it be done.
 -- So it is done or so refused, or answers 10
 
@@ -514,6 +535,15 @@ completes (Scan names) old new status are e = λ good n.
     e.ends (scan_passes names e.texts e.made e.query old.files.holds good e.read)
     (still_nothing old e.told new (last_after e.ends.ended refusal e.told new e.last) n)
     (scan_so P e.made e.query (image_of e.texts.image) refl refl) refl
+completes (Trace names) old new status are e = λ good n.
+    let P = IsOneOf (10 ∷ 0 ∷ 8 ∷ 12 ∷ []) in
+    let full = full_with (prog_in e.prog) e.texts in
+    completes_by P (trace_steps names e.prog e.texts)
+    (status_or full (status_with (prog_in e.prog) e.texts)) old e.told status e.ends
+    (trace_passes names e.prog e.texts old.files.holds good e.is_text e.read)
+    (still_nothing old e.told new (last_after e.ends.ended full e.told new e.last) n)
+    (full_so P (prog_in e.prog) e.texts (status_with (prog_in e.prog) e.texts)
+    (with_so P (prog_in e.prog) e.texts refl refl) refl) refl
 completes (Replay names) old new status are e = λ good n.
     completes_or (IsOneOf (10 ∷ 0 ∷ 14 ∷ [])) (replay_steps names e.texts) 0 geometry_differs old
     new status e.ends (replay_passes names e.texts old.files.holds good e.read) n refl refl refl
@@ -796,6 +826,16 @@ scan_first names texts made q =
     loading_first None names.image.now IMAGE_MAX texts.image (image_of texts.image) _
     (image_is (λ s. s ≡ 10 → ⊥) (image_in texts.image) (λ e. cc)) (λ i. made_first made q i))
 
+trace_first : (names : TraceNames) (prog : List ℕ) (texts : Texts)
+    → TakesFirst None (trace_steps names prog texts)
+trace_first names prog texts =
+    prog_first None names.prog.now prog _ (λ program.
+    loading_first None names.script.now SCRIPT_MAX texts.script (script_in texts.script) _
+    (read_of (λ s. s ≡ 10 → ⊥) (script_of texts.script) (λ e. cc)) (λ script.
+    loading_first None names.image.now IMAGE_MAX texts.image (image_of texts.image) _
+    (image_is (λ s. s ≡ 10 → ⊥) (image_in texts.image) (λ e. cc)) (λ i.
+    recorded_of (λ s. s ≡ 10 → ⊥) names program script i (λ e. cc) (λ e. cc))))
+
 replay_first : (names : ReplayNames) (texts : ReplayTexts)
     → TakesFirst None (replay_steps names texts)
 replay_first names texts =
@@ -851,6 +891,17 @@ spares (Scan names) old new status e = λ ten.
     apart ten e.last))
     (spares_by None steps (scan_status refusal) old e.told status e.ends
     (scan_first names e.texts e.made e.query) apart ten)
+spares (Trace names) old new status e = λ ten.
+    let steps = trace_steps names e.prog e.texts in
+    let full = full_with (prog_in e.prog) e.texts in
+    let done = status_or full (status_with (prog_in e.prog) e.texts) in
+    let apart = full_so (λ s. s ≡ 10 → ⊥) (prog_in e.prog) e.texts
+    (status_with (prog_in e.prog) e.texts)
+    (with_so (λ s. s ≡ 10 → ⊥) (prog_in e.prog) e.texts (λ f. cc) (λ f. cc)) (λ f. cc) in
+    subst (λ (w : World). IsSpared None old w)
+    (sym (told_same steps done e.ends.ended full old e.told new status e.ends.so apart ten e.last))
+    (spares_by None steps done old e.told status e.ends (trace_first names e.prog e.texts) apart
+    ten)
 spares (Replay names) old new status e =
     spares_by None (replay_steps names e.texts) 0 old new status e.ends
     (replay_first names e.texts) (λ f. cc)

@@ -133,18 +133,18 @@ exec_went names program result text old mid sink chip new loads f same j =
     }
 
 -- the status and the end of one that is done
-with_done : (read : Result Program Refusal) (texts : Texts) (chip : ChipView) (refused : ℕ)
+pub with_done : (read : Result Program Refusal) (texts : Texts) (chip : ChipView) (refused : ℕ)
     → IsDoneAs read texts chip refused → done_status refused ≡ status_with read texts
 with_done (Ok program) texts chip refused d = job_status_is program texts chip refused d
 with_done (Err r) texts chip refused d = absurd d
 
-done_with : (ended : Ended) (read : Result Program Refusal) (texts : Texts) (chip : ChipView)
+pub done_with : (ended : Ended) (read : Result Program Refusal) (texts : Texts) (chip : ChipView)
     (refused : ℕ) → ended ≡ All → IsDoneAs read texts chip refused
     → IsDoneWith ended read texts chip
 done_with ended (Ok program) texts chip refused is d = done_by ended program texts chip refused is d
 done_with ended (Err r) texts chip refused is d = absurd d
 
-none_with : (ended : Ended) (stop : Stop) (read : Result Program Refusal) (texts : Texts)
+pub none_with : (ended : Ended) (stop : Stop) (read : Result Program Refusal) (texts : Texts)
     (chip : ChipView) → ended ≡ At stop → IsDoneWith ended read texts chip
 none_with ended stop (Ok program) texts chip is = nothing_done ended stop program texts chip is
 none_with ended stop (Err r) texts chip is =
@@ -186,7 +186,7 @@ exec_ends names old mid new (Err by) status g tells answers =
 
 -- what it promises
 
-rows_stay : (program : Program) (script : List Instruction) (i : Image) (chip : ChipView)
+pub rows_stay : (program : Program) (script : List Instruction) (i : Image) (chip : ChipView)
     (refused : ℕ) → IsProgram program → RowsDone script i program chip refused
     → RowsStay program script i chip
 rows_stay program script i chip refused legal d bank row b r out =
@@ -211,7 +211,7 @@ or_none : (b : Bool) → b ≡ false → (b || false) ≡ false
 or_none true e = e
 or_none false e = refl
 
-stays_inside : (program : Program) (script : List Instruction) (i : Image) (chip : ChipView)
+pub stays_inside : (program : Program) (script : List Instruction) (i : Image) (chip : ChipView)
     (refused : ℕ) → IsProgram program → RowsDone script i program chip refused
     → StaysInside program script i
 stays_inside program script i chip refused legal d before instr behind bank row e out =
@@ -229,14 +229,14 @@ stays_inside program script i chip refused legal d before instr behind bank row 
     (or_none (is_touched i.geometry o table instr bank row) out)
 
 -- what an execution that is done has read
-record HasRun (names : ExecNames) (prog : List ℕ) (texts : Texts) (before : Files) : Type 0 where
-  program : Program
-  prog_is : prog_in prog ≡ Ok program
-  job : JobRead (exec_names names) program texts before
-  prog_at : before names.prog.now ≡ Some prog
-  script_at : before names.script.now ≡ Some texts.script
-  image_at : before names.image.now ≡ Some texts.image
-  steps_are : exec_steps names prog texts
+pub record HasRun (names : ExecNames) (prog : List ℕ) (texts : Texts) (before : Files) : Type 0 where
+  pub program : Program
+  pub prog_is : prog_in prog ≡ Ok program
+  pub job : JobRead (exec_names names) program texts before
+  pub prog_at : before names.prog.now ≡ Some prog
+  pub script_at : before names.script.now ≡ Some texts.script
+  pub image_at : before names.image.now ≡ Some texts.image
+  pub steps_are : exec_steps names prog texts
       ≡ Load names.prog.now PROG_MAX prog None ∷ job_steps (exec_names names) program texts
 
 prog_read : (names : ExecNames) (prog : List ℕ) (read : Result Program Refusal)
@@ -245,7 +245,7 @@ prog_read : (names : ExecNames) (prog : List ℕ) (read : Result Program Refusal
     ≡ Load names.prog.now PROG_MAX prog None ∷ rest program
 prog_read names prog read rest program e = rw e refl
 
-has_run : (names : ExecNames) (prog : List ℕ) (texts : Texts) (holds : Option Files)
+pub has_run : (names : ExecNames) (prog : List ℕ) (texts : Texts) (holds : Option Files)
     (before : Files) → holds ≡ Some before → IsText holds names.prog.now prog
     → IsRead (exec_names names) texts holds
     → IsForetold (exec_steps names prog texts) All before → HasRun names prog texts before
@@ -265,7 +265,7 @@ has_run names prog texts holds before there is_text read foretold =
       steps_are = prog_read names prog (prog_in prog) rest one.value one.is;
     }
 
-file_program : (prog : List ℕ) (program : Program) → IsProgramFile prog
+pub file_program : (prog : List ℕ) (program : Program) → IsProgramFile prog
     → prog_in prog ≡ Ok program → IsProgram program
 file_program prog program f e =
     let found : Result Program Refusal = Ok f.programs in
@@ -273,7 +273,7 @@ file_program prog program f e =
     let same : f.programs ≡ program = cc in
     subst IsProgram same f.is
 
-by_text : (out : List ℕ) (script : List Instruction) (i : Image) (program : Program)
+pub by_text : (out : List ℕ) (script : List Instruction) (i : Image) (program : Program)
     (refused status : ℕ) (old new : World) (after : Files)
     → RowsDone script i program new.chip refused
     → status ≡ done_status (refused_by program script i)
@@ -295,7 +295,7 @@ by_text out script i program refused status old new after rows answers file sent
     }
 
 -- with its own count of the refused
-own_count : (script : List Instruction) (i : Image) (program : Program) (chip : ChipView)
+pub own_count : (script : List Instruction) (i : Image) (program : Program) (chip : ChipView)
     (refused : ℕ) → RowsDone script i program chip refused
     → RowsDone script i program chip (refused_by program script i)
 own_count script i program chip refused d = record {
@@ -309,7 +309,7 @@ own_count script i program chip refused d = record {
   };
 }
 
-executed : (names : ExecNames) (prog : List ℕ) (texts : Texts) (refused status : ℕ)
+abbrev pub executed : (names : ExecNames) (prog : List ℕ) (texts : Texts) (refused status : ℕ)
     (old new : World) (before after : Files) → (h : HasRun names prog texts before)
     → IsProgram h.program
     → RowsDone h.job.script h.job.image h.program new.chip refused
@@ -351,11 +351,11 @@ executed names prog texts refused status old new before after h legal rows answe
           (bytes_differ other names.out.now differs);
     }
 
-done_read : (read : Result Program Refusal) (texts : Texts) (chip : ChipView) (program : Program)
+pub done_read : (read : Result Program Refusal) (texts : Texts) (chip : ChipView) (program : Program)
     → read ≡ Ok program → IsDoneWith All read texts chip → IsDoneBy All program texts chip
 done_read read texts chip program e d = rw e at d
 
-status_read : (read : Result Program Refusal) (texts : Texts) (program : Program)
+pub status_read : (read : Result Program Refusal) (texts : Texts) (program : Program)
     → read ≡ Ok program → status_with read texts ≡ job_status program texts
 status_read read texts program e = rw e refl
 

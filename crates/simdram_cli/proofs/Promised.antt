@@ -52,7 +52,7 @@ use Rattle.simdram_cli.proofs.Promises.{commands_counted, report_is, refusals_ar
 
 -- the files that a script's steps leave
 
-files_more : (xs ys : List Step) (f : Files)
+pub files_more : (xs ys : List Step) (f : Files)
     → files_after (xs ++ ys) f ≡ files_after ys (files_after xs f)
 files_more [] ys f = refl
 files_more (Load name limit text refusal ∷ xs) ys f = files_more xs ys f
@@ -80,7 +80,7 @@ piece_files g o table banks number (Wave wave) f =
 piece_files g o table banks number (Alone instr) f =
     instr_files (is_print instr) (line number (said_by g o table banks instr)) f
 
-pieces_files : (g : Geometry) (o : Operations) (table : List Named) (banks : Banks) (number : ℕ)
+pub pieces_files : (g : Geometry) (o : Operations) (table : List Named) (banks : Banks) (number : ℕ)
     (pieces : List Piece) (f : Files)
     → files_after (pieces_steps g o table banks number pieces) f ≡ f
 pieces_files g o table banks number [] f = refl

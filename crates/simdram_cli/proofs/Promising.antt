@@ -1,7 +1,7 @@
 -- What the top call promises, from how a command ends.
 use Rattle.std.proofs.Common.{◌≡◌, ◌⊎◌, inl, inr, arith, ℕ, Bool, true, false, cond, List, [], ◌∷◌}
 use Rattle.std.proofs.Common.{length}
-use Rattle.std.proofs.Common.{◌+◌, Option, Some, None, refl, subst}
+use Rattle.std.proofs.Common.{◌+◌, ◌++◌, Option, Some, None, refl, subst}
 use Rattle.std.specs.Prelude.{Result, Ok, Err, ◌↔◌}
 use denote.Ref.{Bor}
 use Rattle.bbop_isa.specs.Forms.{Instruction}
@@ -43,6 +43,12 @@ use Rattle.simdram_cli.specs.declared.words.Command.{Command}
 use Rattle.simdram_cli.specs.declared.words.Command.TheVariants.{Run, Exec, Compile, Show, Migrate}
 use Rattle.simdram_cli.specs.declared.words.Command.TheVariants.{Cost, List as ListOf, Init, Soak}
 use Rattle.simdram_cli.specs.declared.words.Command.TheVariants.{Scan}
+use Rattle.simdram_cli.specs.declared.words.Command.TheVariants.{Trace}
+use Rattle.simdram_cli.specs.declared.words.TraceNames.{TraceNames}
+use Rattle.simdram_cli.specs.Tracing.{fits, full_by, full_on, full_with, recorded_steps, status_or}
+use Rattle.simdram_cli.specs.Tracing.{store_steps, total_steps, trace_steps, traced_steps}
+use Rattle.simdram_cli.specs.Tracing.{unless_fits}
+use Rattle.simdram_cli.proofs.Traced.{traced}
 use Rattle.simdram_cli.specs.declared.words.Command.TheVariants.{Replay}
 use Rattle.simdram_cli.specs.declared.words.InitNames.{InitNames}
 use Rattle.simdram_cli.specs.declared.account.Account.{Account}
@@ -314,6 +320,74 @@ scan_so P (Some program) q (Ok i) zero sixteen = answer_so P (answer_on program 
 scan_so P (Some program) q (Err r) zero sixteen = zero
 scan_so P None q image zero sixteen = zero
 
+store_of : (P : ℕ → Type 0) (all : Bool) (name : List ℕ) (program : Program)
+    (script : List Instruction) (i : Image) → P 3
+    → OfSteps P (store_steps all name program script i)
+store_of P true name program script i three = (three, tt)
+store_of P false name program script i three = tt
+
+total_of : (P : ℕ → Type 0) (all : Bool) (program : Program) (script : List Instruction) (i : Image)
+    → P 3 → OfSteps P (total_steps all program script i)
+total_of P true program script i three = (three, tt)
+total_of P false program script i three = tt
+
+-- behind the opening
+pub recorded_of : (P : ℕ → Type 0) (names : TraceNames) (program : Program)
+    (script : List Instruction) (i : Image) → P 3 → P 9
+    → OfSteps P (recorded_steps names program script i
+    ++ total_steps (fits program script i) program script i)
+recorded_of P names program script i three nine =
+    of_more P (recorded_steps names program script i)
+    (total_steps (fits program script i) program script i)
+    (of_more P (script_steps program script i)
+    (Use ∷ Store names.out.now (image_by program script i)
+    ∷ store_steps (fits program script i) names.trace.now program script i)
+    (pieces_of P i.geometry (operations_in program) i.table (opened i) 1 (pieces script) three nine)
+    (nine, (three, store_of P (fits program script i) names.trace.now program script i three)))
+    (total_of P (fits program script i) program script i three)
+
+pub traced_of : (P : ℕ → Type 0) (names : TraceNames) (program : Program)
+    (script : List Instruction) (i : Image) → P 3 → P 9 → P 10
+    → OfSteps P (traced_steps names program script i)
+traced_of P names program script i three nine ten =
+    (ten, ((nine, ten), recorded_of P names program script i three nine))
+
+trace_of : (P : ℕ → Type 0) (names : TraceNames) (prog : List ℕ) (texts : Texts) → P 5
+    → GivesOfJob P → OfSteps P (trace_steps names prog texts)
+trace_of P names prog texts five j =
+    loading_of P names.prog.now PROG_MAX prog (prog_in prog) _ j.two j.eleven j.ten
+    (found_of P (program_in prog) five) (λ program.
+    loading_of P names.script.now SCRIPT_MAX texts.script (script_in texts.script) _ j.two j.eleven
+    j.ten (read_of P (script_of texts.script) j.six) (λ script.
+    loading_of P names.image.now IMAGE_MAX texts.image (image_of texts.image) _ j.two j.eleven j.ten
+    (image_is P (image_in texts.image) j.seven) (λ i.
+    traced_of P names program script i j.three j.nine j.ten)))
+
+or_full : (P : ℕ → Type 0) (all : Bool) (done : ℕ) → P done → P 12
+    → P (status_or (unless_fits all) done)
+or_full P true done own twelve = own
+or_full P false done own twelve = twelve
+
+full_on_so : (P : ℕ → Type 0) (program : Program) (script : List Instruction)
+    (image : Result Image Refusal) (done : ℕ) → P done → P 12
+    → P (status_or (full_on program script image) done)
+full_on_so P program script (Ok i) done own twelve =
+    or_full P (fits program script i) done own twelve
+full_on_so P program script (Err r) done own twelve = own
+
+full_by_so : (P : ℕ → Type 0) (program : Program) (script : Result (List Instruction) Refusal)
+    (image : Result Image Refusal) (done : ℕ) → P done → P 12
+    → P (status_or (full_by program script image) done)
+full_by_so P program (Ok script) image done own twelve =
+    full_on_so P program script image done own twelve
+full_by_so P program (Err r) image done own twelve = own
+
+pub full_so : (P : ℕ → Type 0) (read : Result Program Refusal) (texts : Texts) (done : ℕ) → P done
+    → P 12 → P (status_or (full_with read texts) done)
+full_so P (Ok program) texts done own twelve =
+    full_by_so P program (script_in texts.script) (image_of texts.image) done own twelve
+full_so P (Err r) texts done own twelve = own
+
 -- the statuses that the steps of a replay can give
 record GivesOfReplay (P : ℕ → Type 0) : Type 0 where
   two : P 2
@@ -430,6 +504,21 @@ can_answer (Scan names) old new status e =
     ends_so P (scan_steps names e.texts e.made e.query) _ old e.told status
     (scan_so P e.made e.query (image_of e.texts.image) refl refl)
     (scan_of P names e.texts e.made e.query gives) e.ends
+can_answer (Trace names) old new status e =
+    let P : ℕ → Type 0 = CanAnswer (Trace names) in
+    let job : GivesOfJob P = record {
+      two = refl;
+      three = refl;
+      six = refl;
+      seven = refl;
+      nine = refl;
+      ten = refl;
+      eleven = refl;
+    } in
+    ends_so P (trace_steps names e.prog e.texts) _ old e.told status
+    (full_so P (prog_in e.prog) e.texts (status_with (prog_in e.prog) e.texts)
+    (with_so P (prog_in e.prog) e.texts refl refl) refl) (trace_of P names e.prog e.texts refl job)
+    e.ends
 can_answer (Replay names) old new status e =
     let P : ℕ → Type 0 = CanAnswer (Replay names) in
     let gives : GivesOfReplay P = record {
@@ -466,6 +555,8 @@ not_one (Soak seed) status can e =
     let one : CanAnswer (Soak seed) 1 = subst (CanAnswer (Soak seed)) e can in cc
 not_one (Scan names) status can e =
     let one : CanAnswer (Scan names) 1 = subst (CanAnswer (Scan names)) e can in cc
+not_one (Trace names) status can e =
+    let one : CanAnswer (Trace names) 1 = subst (CanAnswer (Trace names)) e can in cc
 not_one (Replay names) status can e =
     let one : CanAnswer (Replay names) 1 = subst (CanAnswer (Replay names)) e can in cc
 
@@ -583,6 +674,11 @@ promises (Soak seed) old new status are e = λ is.
 promises (Scan names) old new status are e = λ is.
     scanned names old new status is e
     (scan_of (λ s. s ≡ status → ⊥) names e.texts e.made e.query (apart_of_scan status (inl is)))
+promises (Trace names) old new status are e = λ is.
+    traced names old new status are is e
+    (all_done (trace_steps names e.prog e.texts) _ e.ends.ended old e.told status
+    (trace_of (λ s. s ≡ status → ⊥) names e.prog e.texts
+    (apart_from_done status is 5 (λ f. cc) (λ f. cc)) (apart_of_job status is)) e.ends.so)
 promises (Replay names) old new status are e = λ is.
     replayed_by names old new status e
     (replay_of (λ s. s ≡ status → ⊥) names e.texts (apart_of_replay status (inl is)))

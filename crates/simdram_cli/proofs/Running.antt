@@ -216,11 +216,11 @@ same_back x y true e f =
     cc
 same_back x y false e f = e
 
-turned : (x y : List ℕ) → bytes_eq x y ≡ false → bytes_eq y x ≡ false
+pub turned : (x y : List ℕ) → bytes_eq x y ≡ false → bytes_eq y x ≡ false
 turned x y f = same_back x y (bytes_eq y x) refl f
 
 -- the first of four names differs from the others, and the second from the last two
-record Differ (a b c d : List ℕ) : Type 0 where
+pub record Differ (a b c d : List ℕ) : Type 0 where
   pub ab : bytes_eq a b ≡ false
   pub ac : bytes_eq a c ≡ false
   pub ad : bytes_eq a d ≡ false
@@ -228,7 +228,7 @@ record Differ (a b c d : List ℕ) : Type 0 where
   pub bd : bytes_eq b d ≡ false
   pub cd : bytes_eq c d ≡ false
 
-four_differ : (a b c d : List ℕ) → all_differ (a ∷ b ∷ c ∷ d ∷ []) ≡ true → Differ a b c d
+pub four_differ : (a b c d : List ℕ) → all_differ (a ∷ b ∷ c ∷ d ∷ []) ≡ true → Differ a b c d
 four_differ a b c d e =
     let first = both (list_all (λ other. not (bytes_eq a other)) (b ∷ c ∷ d ∷ []))
     (all_differ (b ∷ c ∷ d ∷ [])) e in

@@ -771,18 +771,18 @@ left_none : (ended : Ended) (at : StopAt) (made : Option Program) (q : Query)
 left_none ended at made q image chip is =
     subst (λ (x : Ended). IsLeft x made q image chip) (sym is) tt
 
-last_same : (ended : Ended) (at : StopAt) (refusal : Option Refusal) (w : World) → ended ≡ At at
+pub last_same : (ended : Ended) (at : StopAt) (refusal : Option Refusal) (w : World) → ended ≡ At at
     → TellsLast ended refusal w w
 last_same ended at refusal w is =
     subst (λ (x : Ended). TellsLast x refusal w w) (sym is) refl
 
-last_nothing : (ended : Ended) (refusal : Option Refusal) (old new : World) → ended ≡ All
+pub last_nothing : (ended : Ended) (refusal : Option Refusal) (old new : World) → ended ≡ All
     → refusal ≡ None → new ≡ old → TellsLast ended refusal old new
 last_nothing ended refusal old new is none same =
     subst (λ (x : Ended). TellsLast x refusal old new) (sym is)
     (subst (λ (r : Option Refusal). TellsLast All r old new) (sym none) same)
 
-last_told : (ended : Ended) (refusal : Option Refusal) (told : Refusal) (old new : World)
+pub last_told : (ended : Ended) (refusal : Option Refusal) (told : Refusal) (old new : World)
     → ended ≡ All → refusal ≡ Some told → Says told.line old new → TellsLast ended refusal old new
 last_told ended refusal told old new is some says =
     subst (λ (x : Ended). TellsLast x refusal old new) (sym is)

@@ -9,6 +9,7 @@ use Rattle.simdram_cli.specs.declared.words.Command.{Command}
 use Rattle.simdram_cli.specs.declared.words.Command.TheVariants.{Run, Exec, Compile, Show, Migrate}
 use Rattle.simdram_cli.specs.declared.words.Command.TheVariants.{Cost, List as ListOf, Init, Soak}
 use Rattle.simdram_cli.specs.declared.words.Command.TheVariants.{Scan}
+use Rattle.simdram_cli.specs.declared.words.Command.TheVariants.{Trace}
 use Rattle.simdram_cli.specs.declared.words.Command.TheVariants.{Replay}
 use Rattle.simdram_cli.specs.declared.account.Account.TheVariants.{Listing, Costs}
 use Rattle.simdram_cli.specs.Words.{command_of}
@@ -22,6 +23,7 @@ use Rattle.simdram_cli.specs.Accounts.{AccountEnds, Accounted}
 use Rattle.simdram_cli.specs.Init.{init_steps, Started}
 use Rattle.simdram_cli.specs.Soak.{SoakEnds, Soaked}
 use Rattle.simdram_cli.specs.Scan.{ScanEnds, Scanned}
+use Rattle.simdram_cli.specs.Tracing.{TraceEnds, Traced}
 use Rattle.simdram_cli.specs.Replay.{ReplayEnds, Replayed}
 
 -- the statuses that a command can answer
@@ -36,6 +38,7 @@ statuses (ListOf name) = 0 ∷ 2 ∷ 3 ∷ 5 ∷ 10 ∷ 11 ∷ []
 statuses (Init names) = 0 ∷ 3 ∷ 10 ∷ []
 statuses (Soak seed) = 0 ∷ 3 ∷ 9 ∷ 10 ∷ []
 statuses (Scan names) = 0 ∷ 2 ∷ 3 ∷ 7 ∷ 9 ∷ 10 ∷ 11 ∷ 15 ∷ 16 ∷ []
+statuses (Trace names) = 0 ∷ 2 ∷ 3 ∷ 5 ∷ 6 ∷ 7 ∷ 8 ∷ 9 ∷ 10 ∷ 11 ∷ 12 ∷ []
 statuses (Replay names) = 0 ∷ 2 ∷ 3 ∷ 7 ∷ 9 ∷ 10 ∷ 11 ∷ 13 ∷ 14 ∷ []
 
 abbrev pub CanAnswer : Command → ℕ → Type 0
@@ -54,6 +57,7 @@ CommandEnds (ListOf name) old new status = AccountEnds name.now Listing old new 
 CommandEnds (Init names) old new status = Ends (init_steps names) 0 old new status
 CommandEnds (Soak seed) old new status = SoakEnds seed old new status
 CommandEnds (Scan names) old new status = ScanEnds names old new status
+CommandEnds (Trace names) old new status = TraceEnds names old new status
 CommandEnds (Replay names) old new status = ReplayEnds names old new status
 
 -- what it promises when it ends as it should, where the folder tells its files; a soak touches
@@ -82,6 +86,9 @@ Promises (Init names) old new status = status ≡ 0
 Promises (Soak seed) old new status = status ≡ 0 → Soaked seed old new
 Promises (Scan names) old new status = status ≡ 0
     → IfSome old.files.holds (λ before. Scanned names before old new)
+Promises (Trace names) old new status = (status ≡ 0) ⊎ (status ≡ 8)
+    → Told (λ before after. Traced names before after old new status) old.files.holds
+    new.files.holds
 Promises (Replay names) old new status = status ≡ 0
     → Told (λ before after. Replayed names before after old new) old.files.holds new.files.holds
 

@@ -15,6 +15,7 @@ use Rattle.simdram_cli.specs.declared.words.Command.{Command}
 use Rattle.simdram_cli.specs.declared.words.Command.TheVariants.{Run, Exec, Compile, Show, Migrate}
 use Rattle.simdram_cli.specs.declared.words.Command.TheVariants.{Cost, List as ListOf, Init, Soak}
 use Rattle.simdram_cli.specs.declared.words.Command.TheVariants.{Scan}
+use Rattle.simdram_cli.specs.declared.words.Command.TheVariants.{Trace}
 use Rattle.simdram_cli.specs.declared.words.Command.TheVariants.{Replay}
 use Rattle.simdram_cli.specs.Inputs.{ops_in, script_in, image_of}
 use Rattle.simdram_cli.specs.Programs.{prog_in}
@@ -68,6 +69,8 @@ AreGood (ListOf name) file = IsProg (file name.now)
 AreGood (Init names) file = Unit {0}
 AreGood (Soak seed) file = Unit {0}
 AreGood (Scan names) file = IsQueryFile (file names.query.now) × IsImageFile (file names.image.now)
+AreGood (Trace names) file = IsProg (file names.prog.now) × IsScript (file names.script.now)
+    × IsImageFile (file names.image.now)
 AreGood (Replay names) file =
     IsTraceFile (file names.trace.now) × IsImageFile (file names.image.now)
 
@@ -91,6 +94,7 @@ done_statuses (ListOf name) = 0 ∷ []
 done_statuses (Init names) = 0 ∷ []
 done_statuses (Soak seed) = 0 ∷ []
 done_statuses (Scan names) = 0 ∷ 16 ∷ []
+done_statuses (Trace names) = 0 ∷ 8 ∷ 12 ∷ []
 done_statuses (Replay names) = 0 ∷ 14 ∷ []
 
 -- Where its files are good and nothing failed, the command is done, or answers 10
@@ -121,4 +125,5 @@ Spares (ListOf name) old new status = status ≡ 10 → IsSpared None old new
 Spares (Init names) old new status = status ≡ 10 → IsSpared None old new
 Spares (Soak seed) old new status = status ≡ 10 → new.files ≡ old.files
 Spares (Scan names) old new status = status ≡ 10 → IsSpared None old new
+Spares (Trace names) old new status = status ≡ 10 → IsSpared None old new
 Spares (Replay names) old new status = status ≡ 10 → IsSpared None old new

@@ -20,6 +20,7 @@ pub mod Accounts
 pub mod Init
 pub mod Soak
 pub mod Scan
+pub mod Tracing
 pub mod Replay
 pub mod Commands
 pub mod Complete

@@ -1,6 +1,6 @@
 -- What a stop of the program says.
-use Rattle.std.specs.Prelude.{Result, Ok, Err}
-use Rattle.cli_model.specs.Steps.{Reason, CannotRead, TooLong, Refused, NoMemory}
+use Rattle.std.specs.Prelude.{Result, Ok, Err, codes}
+use Rattle.cli_model.specs.Steps.{Refusal, Reason, CannotRead, TooLong, Refused, NoMemory}
 use Rattle.cli_model.specs.Steps.{CannotWrite, PutFailed, ChipFailed, End, Done, Stopped}
 use Rattle.object_alloc.specs.declared.fault.ImageNo.{ImageNo}
 use Rattle.object_alloc.specs.declared.fault.ImageNo.TheVariants as image_no
@@ -15,6 +15,10 @@ use Rattle.simdram_cli.specs.Traces.{geometry_differs, trace_refusal}
 use Rattle.simdram_cli.specs.declared.stop.Stop.{Stop}
 use Rattle.simdram_cli.specs.declared.stop.Stop.TheVariants as stop
 
+-- a recorder had no room for all events of a script
+abbrev pub trace_full : Refusal
+trace_full = record { status = 12; line = codes "trace full\n" }
+
 abbrev pub reason_of : Stop → Reason
 reason_of (stop.CannotRead name) = CannotRead name.now
 reason_of (stop.TooLong name) = TooLong name.now
@@ -24,6 +28,7 @@ reason_of (stop.BadScript fault) = Refused (script_refusal fault)
 reason_of (stop.BadImage fault) = Refused (image_refusal fault)
 reason_of (stop.BadQuery fault) = Refused (query_refusal fault)
 reason_of (stop.ScanRefused why k) = Refused (scan_refusal why k)
+reason_of stop.TraceFull = Refused trace_full
 reason_of (stop.BadTrace fault) = Refused (trace_refusal fault)
 reason_of stop.GeometryDiffers = Refused geometry_differs
 reason_of stop.NoMemory = NoMemory

@@ -13,6 +13,8 @@ use Rattle.simdram_cli.specs.declared.words.Command.{Command}
 use Rattle.simdram_cli.specs.declared.words.Command.TheVariants.{Run, Exec, Compile, Show, Migrate}
 use Rattle.simdram_cli.specs.declared.words.Command.TheVariants.{Cost, List as ListOf, Init, Soak}
 use Rattle.simdram_cli.specs.declared.words.Command.TheVariants.{Scan}
+use Rattle.simdram_cli.specs.declared.words.Command.TheVariants.{Trace}
+use Rattle.simdram_cli.specs.declared.words.TraceNames.{TraceNames}
 use Rattle.simdram_cli.specs.declared.words.Command.TheVariants.{Replay}
 
 -- no two are equal
@@ -30,9 +32,19 @@ abbrev pub inputs_apart : List ℕ → List ℕ → List ℕ → List ℕ → Bo
 inputs_apart prog script image out =
     all_differ (prog ∷ script ∷ image ∷ []) && all_differ (prog ∷ script ∷ out ∷ [])
 
+-- and so are the five files of a recorded execution
+abbrev pub traced_apart : TraceNames → Bool
+traced_apart names = are_apart names.prog.now names.script.now names.trace.now names.image.now
+    names.out.now
+
+-- the command on its files
+abbrev pub trace_on : List ℕ → TraceNames → Option Command
+trace_on verb names =
+    if bytes_eq verb (codes "trace") && traced_apart names then Some (Trace names) else None
+
 -- and the three files of a replay
-abbrev pub trace_apart : List ℕ → List ℕ → List ℕ → Bool
-trace_apart trace image out = not (bytes_eq trace image) && not (bytes_eq trace out)
+abbrev pub replay_apart : List ℕ → List ℕ → List ℕ → Bool
+replay_apart trace image out = not (bytes_eq trace image) && not (bytes_eq trace out)
 
 -- the command on two files that are apart
 abbrev pub command_on_two : List ℕ → Bor (List ℕ) → Bor (List ℕ) → Option Command
@@ -83,7 +95,7 @@ command_on_one verb word =
 -- the command of three words behind its own
 abbrev pub command_on_three : List ℕ → (first second third : Bor (List ℕ)) → Option Command
 command_on_three verb first second third =
-    if bytes_eq verb (codes "replay") && trace_apart first.now second.now third.now
+    if bytes_eq verb (codes "replay") && replay_apart first.now second.now third.now
     then Some (Replay (record { trace = first; image = second; out = third })) else None
 
 -- the command of four words behind its own
@@ -97,12 +109,14 @@ command_on_four verb first second third fourth =
 
 -- the command that the words are: `run OPS PROG SCRIPT IMAGE OUT`, `exec PROG SCRIPT IMAGE OUT`,
 -- `compile OPS PROG`, `show OPS`, `migrate OLD NEW`, `cost PROG N`, `list PROG`,
--- `init BANKS ROWS WORDS OUT`, `soak SEED`, `scan QUERY IMAGE` or `replay TRACE IMAGE OUT`
+-- `init BANKS ROWS WORDS OUT`, `soak SEED`, `scan QUERY IMAGE`,
+-- `trace PROG SCRIPT IMAGE OUT TRACE` or `replay TRACE IMAGE OUT`
 abbrev pub command_of : List (Bor (List ℕ)) → Option Command
 command_of (verb ∷ ops ∷ prog ∷ script ∷ image ∷ out ∷ []) =
     if bytes_eq verb.now (codes "run") && are_apart ops.now prog.now script.now image.now out.now
     then Some (Run (record { ops = ops; prog = prog; script = script; image = image; out = out }))
-    else None
+    else trace_on verb.now
+    (record { prog = ops; script = prog; image = script; out = image; trace = out })
 command_of (verb ∷ first ∷ second ∷ third ∷ fourth ∷ []) =
     command_on_four verb.now first second third fourth
 command_of (verb ∷ first ∷ second ∷ third ∷ []) =
@@ -127,7 +141,8 @@ IsApart (ListOf name) = Unit {0}
 IsApart (Init names) = Unit {0}
 IsApart (Soak seed) = Unit {0}
 IsApart (Scan names) = bytes_eq names.query.now names.image.now ≡ false
-IsApart (Replay names) = trace_apart names.trace.now names.image.now names.out.now ≡ true
+IsApart (Trace names) = traced_apart names ≡ true
+IsApart (Replay names) = replay_apart names.trace.now names.image.now names.out.now ≡ true
 
 -- the numbers of a command are a width, a chip's, or a seed
 abbrev pub HasNumbers : Command → Type 0

@@ -18,6 +18,7 @@ mod show;
 mod soak;
 mod stop;
 mod top;
+mod trace;
 mod words;
 mod work;
 
@@ -25,6 +26,6 @@ pub use stop::{Stop, status_of, tell};
 pub use top::{one_job, simdram};
 pub use words::{
     Command, CompileNames, CostNames, ExecNames, IMAGE_MAX, InitNames, MigrateNames, OPS_MAX,
-    PROG_MAX, QUERY_MAX, ReplayNames, RunNames, SCRIPT_MAX, ScanNames, TRACE_MAX, command_of,
-    limits,
+    PROG_MAX, QUERY_MAX, ReplayNames, RunNames, SCRIPT_MAX, ScanNames, TRACE_MAX, TraceNames,
+    command_of, limits,
 };

@@ -21,6 +21,7 @@ ghost use Rattle.simdram_cli.specs.Scan.{ScanEnds};
 ghost use Rattle.simdram_cli.specs.Show.{ShowEnds};
 ghost use Rattle.simdram_cli.specs.Soak.{SoakEnds};
 ghost use Rattle.simdram_cli.specs.Stops.{end_of};
+ghost use Rattle.simdram_cli.specs.Tracing.{TraceEnds};
 ghost use Rattle.simdram_cli.specs.Words.{HasNumbers, IsApart, are_apart, command_of};
 
 use crate::account::{Account, give_account};
@@ -34,9 +35,10 @@ use crate::scan::scan;
 use crate::show::show;
 use crate::soak::soak;
 use crate::stop::{Stop, status_of, tell};
+use crate::trace::trace;
 use crate::words::{
     Command, CompileNames, ExecNames, InitNames, MigrateNames, ReplayNames, RunNames, ScanNames,
-    command_of,
+    TraceNames, command_of,
 };
 use dram_model::Dram;
 use host_edge::{Folder, Sink};
@@ -196,6 +198,23 @@ fn scan_and_answer<F: Folder, S: Sink, D: Dram>(
     answer(ended, out)
 }
 
+/// Executes over a recorder, and tells why it stopped or that the trace is full.
+fn trace_and_answer<F: Folder, S: Sink, D: Dram>(
+    names: &TraceNames<'_>,
+    files: &mut F,
+    out: &mut S,
+    chip: &mut D,
+    alloc: Global,
+) -> u8
+    ensures borrow { D.borrow chip.new ≡ D.borrow chip.old }
+    ensures ends { TraceEnds names.now
+        (world (F.view files.old) (S.view out.old) (D.view chip.old))
+        (world (F.view files.new) (S.view out.new) (D.view chip.new)) result }
+{
+    let ended = trace(names, files, out, chip, alloc);
+    answer(ended, out)
+}
+
 /// Replays, and tells why it stopped if it did.
 fn replay_and_answer<F: Folder, S: Sink, D: Dram>(
     names: &ReplayNames<'_>,
@@ -241,6 +260,7 @@ fn dispatch<F: Folder, S: Sink, D: Dram>(
         Command::Init(names) => init_and_answer(names, files, out, alloc),
         Command::Soak(seed) => soak_and_answer(*seed, out, chip, alloc),
         Command::Scan(names) => scan_and_answer(names, files, out, chip, alloc),
+        Command::Trace(names) => trace_and_answer(names, files, out, chip, alloc),
         Command::Replay(names) => replay_and_answer(names, files, out, chip, alloc),
     }
 }
@@ -255,9 +275,10 @@ fn dispatch<F: Folder, S: Sink, D: Dram>(
 /// objects, whose rows are zeros; `soak SEED` does every word operation with one result at the
 /// widths 1, 8 and 64 on a generator's words, and puts a line for each with its row commands and
 /// the sum of its results; `scan QUERY IMAGE` puts how many elements of IMAGE meet QUERY, by
-/// comparisons in the chip; `replay TRACE IMAGE OUT` does the events of TRACE on IMAGE's rows, stores
-/// them with the objects of TRACE as OUT, and puts how many commands the chip did. The answer is
-/// the exit status.
+/// comparisons in the chip; `trace PROG SCRIPT IMAGE OUT TRACE` does what `exec` does, and stores the
+/// events of the script as TRACE; `replay TRACE IMAGE OUT` does the events of TRACE on IMAGE's rows,
+/// stores them with the objects of TRACE as OUT, and puts how many commands the chip did. The answer
+/// is the exit status.
 pub fn simdram<F: Folder, S: Sink, D: Dram>(
     words: &[&str],
     files: &mut F,

@@ -8,7 +8,8 @@ ghost use Rattle.simdram_cli.specs.Words.{all_differ, are_apart, command_of, com
 ghost use Rattle.simdram_cli.specs.Words.{command_on_one, inputs_apart};
 ghost use Rattle.simdram_cli.specs.Words.{command_on_two, cost_on, init_on, is_number, soak_on};
 ghost use Rattle.simdram_cli.specs.Words.{value_of};
-ghost use Rattle.simdram_cli.specs.Words.{command_on_three, trace_apart};
+ghost use Rattle.simdram_cli.specs.Words.{traced_apart, trace_on};
+ghost use Rattle.simdram_cli.specs.Words.{command_on_three, replay_apart};
 
 use bit_rows::WIDTH_MAX;
 use cmd_trace::TRACE_BYTES_MAX;
@@ -96,6 +97,16 @@ pub struct ScanNames<'a> {
     pub image: &'a str,
 }
 
+/// The files of `trace`.
+#[derive(Clone, Copy)]
+pub struct TraceNames<'a> {
+    pub prog: &'a str,
+    pub script: &'a str,
+    pub image: &'a str,
+    pub out: &'a str,
+    pub trace: &'a str,
+}
+
 /// The files of `replay`.
 #[derive(Clone, Copy)]
 pub struct ReplayNames<'a> {
@@ -117,6 +128,7 @@ pub enum Command<'a> {
     Init(InitNames<'a>),
     Soak(u64),
     Scan(ScanNames<'a>),
+    Trace(TraceNames<'a>),
     Replay(ReplayNames<'a>),
 }
 
@@ -148,9 +160,27 @@ fn inputs_apart(prog: &str, script: &str, image: &str, out: &str) -> bool
     three_differ(prog, script, image) && three_differ(prog, script, out)
 }
 
+/// Whether the five files of a recorded execution are apart, but for IMAGE and OUT.
+fn traced_apart(names: TraceNames<'_>) -> bool
+    ensures { result ≡ traced_apart names.entry }
+{
+    are_apart(names.prog, names.script, names.trace, names.image, names.out)
+}
+
+/// The command on the five files of a recorded execution.
+fn trace_on<'a>(verb: &str, names: TraceNames<'a>) -> Option<Command<'a>>
+    ensures { result ≡ trace_on verb.now names.entry }
+{
+    if verb == "trace" && traced_apart(names) {
+        Some(Command::Trace(names))
+    } else {
+        None
+    }
+}
+
 /// Whether the three files of a replay are apart, but for IMAGE and OUT.
-fn trace_apart(trace: &str, image: &str, out: &str) -> bool
-    ensures { result ≡ trace_apart trace.now image.now out.now }
+fn replay_apart(trace: &str, image: &str, out: &str) -> bool
+    ensures { result ≡ replay_apart trace.now image.now out.now }
 {
     trace != image && trace != out
 }
@@ -316,7 +346,7 @@ fn command_on_three<'a>(
 ) -> Option<Command<'a>>
     ensures { result ≡ command_on_three verb.now first.entry second.entry third.entry }
 {
-    if verb == "replay" && trace_apart(first, second, third) {
+    if verb == "replay" && replay_apart(first, second, third) {
         Some(Command::Replay(ReplayNames {
             trace: first,
             image: second,
@@ -342,7 +372,16 @@ pub fn command_of<'a>(words: &[&'a str]) -> Option<Command<'a>>
                     out: *out,
                 }))
             } else {
-                None
+                trace_on(
+                    *verb,
+                    TraceNames {
+                        prog: *ops,
+                        script: *prog,
+                        image: *script,
+                        out: *image,
+                        trace: *out,
+                    },
+                )
             }
         }
         [verb, first, second, third, fourth] => {

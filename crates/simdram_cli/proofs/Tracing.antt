@@ -1,0 +1,864 @@
+-- The parts of a recorded execution.
+use Rattle.std.proofs.Common.{◌≡◌, ◌⊎◌, ℕ, ◌+◌, ◌*◌, ◌≤◌, Bool, true, false, List, [], ◌∷◌, ◌++◌}
+use Rattle.std.proofs.Common.{Option, Some, None, refl, sym, ◌∙◌, ap, subst, inl, inr, length}
+use Rattle.std.proofs.Common.{append-nil, append_assoc, add_assoc}
+use Rattle.std.specs.Prelude.{Result, Ok, Err, count_by}
+use Rattle.std.specs.List.{AllByRecursion}
+use Rattle.fault_counts.specs.Counts.{Rose}
+use Rattle.host_edge.specs.Views.{AppendsPart, Files, FolderView, SinkView, Told}
+use Rattle.dram_model.specs.declared.dram.Counters.{Counters}
+use Rattle.dram_model.specs.declared.geometry.Geometry.{Geometry}
+use Rattle.dram_model.specs.Geometry.{is_geometry}
+use Rattle.dram_model.specs.Chip.{Banks, Event, Grew, after, all_counted}
+use Rattle.dram_model.specs.View.{ChipView, DidRead, HasBegun, Kept, with_reads}
+use Rattle.dram_model.proofs.EventLaws.{Grew-more}
+use Rattle.object_alloc.specs.declared.fault.ImageNo.{ImageNo}
+use Rattle.object_alloc.specs.declared.fault.ImageNo.TheVariants as no
+use Rattle.object_alloc.specs.Listed.{Listing, Named}
+use Rattle.object_alloc.specs.Reading.{IsFault, image_in}
+use Rattle.object_alloc.specs.Spelling.{image_bytes, IsImage}
+use Rattle.uprog_code.specs.Programs.{IsProgram}
+use Rattle.uprog_bin.specs.Opened.{IsProgramFile}
+use Rattle.uprog_bin.specs.Reading.{program_in, ProgFault}
+use Rattle.bbop_isa.specs.Forms.{Instruction}
+use Rattle.wave_model.specs.Schedule.{Ahead}
+use Rattle.machine_model.specs.Agrees.{IsPlain}
+use Rattle.machine_model.specs.Laws.{TableFits}
+use Rattle.machine_model.specs.Opened.{Image, opened, rows_of}
+use Rattle.machine_model.specs.Operations.{Program, Operations, operations_in}
+use Rattle.machine_model.specs.Pieces.{Piece, Wave, Alone, instrs_in, pieces, script_events}
+use Rattle.machine_model.specs.Pieces.{events_of_pieces}
+use Rattle.machine_model.specs.Report.{Said, line, said_by, said_in_rows, total_line}
+use Rattle.machine_model.specs.Script.{banks_at_end, is_refused, replies, rows_printed, sum_done}
+use Rattle.machine_model.specs.Script.{table_at_end}
+use Rattle.machine_model.proofs.Pieces.{events_are_steps}
+use Rattle.sim_machine.specs.declared.machine.Machine.{Machine}
+use Rattle.sim_machine.specs.Machine.{IsReady, geometry_of, is_print, program_of, table_in}
+use Rattle.sim_machine.specs.Machine.{turn_in}
+use Rattle.sim_machine.specs.Steps.{DidAndRead}
+use Rattle.object_steps.specs.Objects.{LiesOn}
+use Rattle.trace_model.specs.Replay.{script_trace}
+use Rattle.trace_model.specs.Spelling.{IsEvent, bytes_of_trace, trace_bytes}
+use Rattle.trace_model.proofs.Legal.{events_are_legal}
+use Rattle.cmd_trace.specs.Tape.{Tape, empty_log, recorded}
+use Rattle.cmd_trace.specs.Widths.{has_begun_below}
+use Rattle.trace_job.specs.Below.{BeginOnChip, IsLate}
+use Rattle.trace_job.specs.Telling.{Saw, Spelled, all_fit}
+use Rattle.trace_job.proofs.Going.{steps_are_below}
+use Rattle.cli_model.specs.World.{World, world}
+use Rattle.cli_model.specs.Steps.{Step, Take, Open, Use, Store, Put, Print, Refusal, Reason, Refused}
+use Rattle.cli_model.specs.Steps.{NoMemory, CannotWrite, PutFailed, ChipFailed, End, Done, Stopped}
+use Rattle.cli_model.specs.Steps.{Goes, Loaded, Stored, Unstored, loading}
+use Rattle.cli_model.proofs.Going.{goes_on, stops}
+use Rattle.simdram_cli.specs.declared.words.ExecNames.{ExecNames}
+use Rattle.simdram_cli.specs.declared.words.TraceNames.{TraceNames}
+use Rattle.simdram_cli.specs.declared.words.TheConstants.{PROG_MAX, SCRIPT_MAX, IMAGE_MAX}
+use Rattle.simdram_cli.specs.declared.stop.Stop.{Stop}
+use Rattle.simdram_cli.specs.declared.stop.Stop.TheVariants as stop
+use Rattle.simdram_cli.specs.Inputs.{image_of, image_or_refusal, image_refusal, script_in}
+use Rattle.simdram_cli.specs.Programs.{prog_in, prog_refusal, program_or_refusal}
+use Rattle.simdram_cli.specs.Reads.{LoadedAs, NotLoaded, NotRead, ReadAs, IsText, refusal_of}
+use Rattle.simdram_cli.specs.Stops.{end_of, image_reason, reason_of, trace_full}
+use Rattle.simdram_cli.specs.Job.{Texts, image_by, instr_steps, opened_counters, piece_steps}
+use Rattle.simdram_cli.specs.Job.{pieces_steps, put_lines, refused_by, script_steps, tally_by}
+use Rattle.simdram_cli.specs.Works.{OpenedOn, WorkDone}
+use Rattle.simdram_cli.specs.Ends.{DoneBy, DoneOn, IsRead, JobDone}
+use Rattle.simdram_cli.specs.Exec.{IsDoneAs, exec_names}
+use Rattle.simdram_cli.specs.Tracing.{Came, ImageTraced, JobTraced, OpensOn, ScriptRecorded}
+use Rattle.simdram_cli.specs.Tracing.{ScriptTraced, TraceGoes, events_on, exec_of, fits, full_by}
+use Rattle.simdram_cli.specs.Tracing.{full_on, full_with, image_on, reads_on, recorded_steps}
+use Rattle.simdram_cli.specs.Tracing.{steps_on, store_steps, total_steps, traced_steps}
+use Rattle.simdram_cli.specs.Tracing.{unless_fits, unlogged}
+use Rattle.simdram_cli.proofs.Joins.{loaded_text, loading_goes, loading_stops, no_texts}
+use Rattle.simdram_cli.proofs.Joins.{told_is_text, told_text}
+use Rattle.simdram_cli.proofs.Migrating.{prog_is}
+use Rattle.simdram_cli.proofs.Progress.{Holds, holds_of}
+use Rattle.simdram_cli.proofs.Stores.{nothing_read, sent, used}
+use Rattle.simdram_cli.proofs.Tallies.{tally_is}
+
+-- a script is done, and the image after it stored
+
+pub image_failed : (name bytes : List ℕ) (f : FolderView) (s : SinkView) (a b : ChipView)
+    → a.faults ≤ b.faults → Rose a.faults b.faults
+    → Goes (Use ∷ Store name bytes ∷ []) (Stopped ChipFailed) (world f s a) (world f s b)
+image_failed name bytes f s a b l r = inr (refl, used f s a b l, r)
+
+pub image_unstored : (name bytes : List ℕ) (f g : FolderView) (s : SinkView) (a b : ChipView)
+    → a.faults ≤ b.faults → Unstored name (world f s b) (world g s b)
+    → Goes (Use ∷ Store name bytes ∷ []) (Stopped (CannotWrite name)) (world f s a) (world g s b)
+image_unstored name bytes f g s a b l u = inl (world f s b, (used f s a b l, inr (refl, u)))
+
+pub image_stored : (name bytes : List ℕ) (f g : FolderView) (s : SinkView) (a b : ChipView)
+    → a.faults ≤ b.faults → Stored name bytes (world f s b) (world g s b)
+    → Goes (Use ∷ Store name bytes ∷ []) Done (world f s a) (world g s b)
+image_stored name bytes f g s a b l t =
+    inl (world f s b, (used f s a b l, inl (world g s b, (t, refl))))
+
+pub work_stopped : (m : Machine) (banks : Banks) (script : List Instruction) (name : List ℕ)
+    (reason : Reason) (a b : World) → Goes (steps_on m banks script) (Stopped reason) a b
+    → Goes (steps_on m banks script ++ (Use ∷ Store name (image_on m banks script) ∷ []))
+    (Stopped reason) a b
+work_stopped m banks script name reason a b g =
+    stops (steps_on m banks script) (Use ∷ Store name (image_on m banks script) ∷ []) reason a b g
+
+pub then_image : (m : Machine) (banks : Banks) (script : List Instruction) (name : List ℕ)
+    (end : End) (a b c : World) → Goes (steps_on m banks script) Done a b
+    → Goes (Use ∷ Store name (image_on m banks script) ∷ []) end b c
+    → Goes (steps_on m banks script ++ (Use ∷ Store name (image_on m banks script) ∷ [])) end a c
+then_image m banks script name end a b c g h =
+    goes_on (steps_on m banks script) (Use ∷ Store name (image_on m banks script) ∷ []) end a b c g
+    h
+
+pub image_is_on : (m n : Machine) (script : List Instruction) (a b : ChipView)
+    → geometry_of n ≡ geometry_of m
+    → table_in n ≡ table_at_end (geometry_of m) (operations_in (program_of m)) (table_in m) script
+    → b.banks ≡ after (events_on m script) a.banks
+    → image_bytes (geometry_of n) (table_in n) (rows_of b.banks) ≡ image_on m a.banks script
+image_is_on m n script a b e t s =
+    ap (λ (g : Geometry). image_bytes g (table_in n) (rows_of b.banks)) e
+    ∙ ap (λ (x : List Named). image_bytes (geometry_of m) x (rows_of b.banks)) t
+    ∙ ap (λ (x : Banks). image_bytes (geometry_of m) (table_at_end (geometry_of m)
+    (operations_in (program_of m)) (table_in m) script) (rows_of x)) s
+
+reads_twice : (m n : ℕ) (k : Counters) → with_reads n (with_reads m k) ≡ with_reads (m + n) k
+reads_twice m n k = ap (λ (r : ℕ). let c : Counters = record k { reads = r } in c)
+    (add_assoc k.reads m n)
+
+-- rows are read behind what was done
+pub did_read_more : (events : List Event) (m n : ℕ) (a b c : ChipView) → DidAndRead events m a b
+    → DidRead n b c → DidAndRead events (m + n) a c
+did_read_more events m n a b c did read = record {
+  banks = read.banks ∙ did.banks;
+  counters = read.counters ∙ ap (with_reads n) did.counters
+      ∙ reads_twice m n (all_counted events a.counters);
+  log = subst (Grew a.log c.log) (append-nil events)
+      (Grew-more a.log b.log c.log events [] did.log read.log);
+}
+
+pub did_all : (m : Machine) (script : List Instruction) (g : Geometry) (a b c : ChipView)
+    → g ≡ geometry_of m
+    → DidAndRead (events_on m script) (sum_done rows_printed (geometry_of m)
+    (operations_in (program_of m)) (table_in m) script) a b
+    → DidRead (g.banks * g.rows) b c → DidAndRead (events_on m script) (reads_on m script) a c
+did_all m script g a b c e did read =
+    did_read_more (events_on m script) (sum_done rows_printed (geometry_of m)
+    (operations_in (program_of m)) (table_in m) script)
+    ((geometry_of m).banks * (geometry_of m).rows) a b c did
+    (subst (λ (x : Geometry). DidRead (x.banks * x.rows) b c) e read)
+
+-- the steps behind the opening
+
+pub late_more : (xs ys : List Step) → AllByRecursion IsLate xs → AllByRecursion IsLate ys
+    → AllByRecursion IsLate (xs ++ ys)
+late_more [] ys h k = k
+late_more (x ∷ xs) ys h k = (h.0, late_more xs ys h.1 k)
+
+lines_late : (number : ℕ) (said : List Said) → AllByRecursion IsLate (put_lines number said)
+lines_late number [] = tt
+lines_late number (s ∷ said) = (tt, lines_late (number + 1) said)
+
+instr_late : (prints : Bool) (bytes : List ℕ) → AllByRecursion IsLate (instr_steps prints bytes)
+instr_late true bytes = (tt, tt)
+instr_late false bytes = (tt, (tt, tt))
+
+piece_late : (g : Geometry) (o : Operations) (table : List Named) (banks : Banks) (number : ℕ)
+    (piece : Piece) → AllByRecursion IsLate (piece_steps g o table banks number piece)
+piece_late g o table banks number (Wave wave) =
+    (tt, lines_late number (said_in_rows g o table banks wave))
+piece_late g o table banks number (Alone instr) =
+    instr_late (is_print instr) (line number (said_by g o table banks instr))
+
+pub pieces_late : (g : Geometry) (o : Operations) (table : List Named) (banks : Banks) (number : ℕ)
+    (pieces : List Piece) → AllByRecursion IsLate (pieces_steps g o table banks number pieces)
+pieces_late g o table banks number [] = tt
+pieces_late g o table banks number (piece ∷ rest) =
+    late_more (piece_steps g o table banks number piece) _
+    (piece_late g o table banks number piece)
+    (pieces_late g o (table_at_end g o table (instrs_in piece))
+    (banks_at_end g o table banks (instrs_in piece)) (number + length (instrs_in piece)) rest)
+
+store_late : (all : Bool) (name : List ℕ) (program : Program) (script : List Instruction)
+    (i : Image) → AllByRecursion IsLate (store_steps all name program script i)
+store_late true name program script i = (tt, tt)
+store_late false name program script i = tt
+
+all_late : (names : TraceNames) (program : Program) (script : List Instruction) (i : Image)
+    → AllByRecursion IsLate (recorded_steps names program script i)
+all_late names program script i =
+    late_more (script_steps program script i) _
+    (pieces_late i.geometry (operations_in program) i.table (opened i) 1 (pieces script))
+    (tt, (tt, store_late (fits program script i) names.trace.now program script i))
+
+instr_begins : (prints : Bool) (bytes : List ℕ) (rest : List Step)
+    → BeginOnChip (instr_steps prints bytes ++ rest)
+instr_begins true bytes rest = refl
+instr_begins false bytes rest = refl
+
+piece_begins : (g : Geometry) (o : Operations) (table : List Named) (banks : Banks) (number : ℕ)
+    (piece : Piece) (rest : List Step)
+    → BeginOnChip (piece_steps g o table banks number piece ++ rest)
+piece_begins g o table banks number (Wave wave) rest = refl
+piece_begins g o table banks number (Alone instr) rest =
+    instr_begins (is_print instr) (line number (said_by g o table banks instr)) rest
+
+-- the first of them uses the chip: that of a script, or without one the reading of the image
+pieces_begin : (g : Geometry) (o : Operations) (table : List Named) (banks : Banks) (number : ℕ)
+    (pieces : List Piece) (rest : List Step)
+    → BeginOnChip (pieces_steps g o table banks number pieces ++ (Use ∷ rest))
+pieces_begin g o table banks number [] rest = refl
+pieces_begin g o table banks number (piece ∷ pieces) rest =
+    let others = pieces_steps g o (table_at_end g o table (instrs_in piece))
+    (banks_at_end g o table banks (instrs_in piece)) (number + length (instrs_in piece)) pieces in
+    subst BeginOnChip (sym (append_assoc (piece_steps g o table banks number piece) others
+    (Use ∷ rest)))
+    (piece_begins g o table banks number piece (others ++ (Use ∷ rest)))
+
+-- a machine that was opened on an image with a program, and the view of its chip
+pub record Started (program : Program) (i : Image) (m : Machine) (start : ChipView) : Type 0 where
+  pub shape_is : geometry_of m ≡ i.geometry
+  pub program_is : program_of m ≡ program
+  pub table_is : table_in m ≡ i.table
+  pub turn_is : turn_in m ≡ Ahead
+  pub holds : Holds i.geometry i.table
+  pub banks : start.banks ≡ opened i
+  pub counters : start.counters ≡ opened_counters i.geometry
+  pub geometry : start.geometry ≡ i.geometry
+
+own_lines : (program : Program) (script : List Instruction) (i : Image) (shape : Geometry)
+    (p : Program) (table : List Named) (banks : Banks) → shape ≡ i.geometry → p ≡ program
+    → table ≡ i.table → banks ≡ opened i
+    → pieces_steps shape (operations_in p) table banks 1 (pieces script)
+    ≡ script_steps program script i
+own_lines program script i shape p table banks e f t s = rw (e, f, t, s) refl
+
+own_events : (program : Program) (script : List Instruction) (i : Image) (m : Machine)
+    (start : ChipView) → Started program i m start
+    → events_on m script ≡ script_events i.geometry (operations_in program) i.table script
+own_events program script i m start s = rw (s.shape_is, s.program_is, s.table_is, s.turn_is) refl
+
+own_reads : (program : Program) (script : List Instruction) (i : Image) (m : Machine)
+    (start : ChipView) → Started program i m start
+    → reads_on m script ≡ sum_done rows_printed i.geometry (operations_in program) i.table script
+    + i.geometry.banks * i.geometry.rows
+own_reads program script i m start s = rw (s.shape_is, s.program_is, s.table_is) refl
+
+own_image : (program : Program) (script : List Instruction) (i : Image) (m : Machine)
+    (start : ChipView) → Started program i m start
+    → image_on m start.banks script ≡ image_by program script i
+own_image program script i m start s =
+    let o = operations_in program in
+    let same : table_at_end (geometry_of m) (operations_in (program_of m)) (table_in m) script
+    ≡ table_at_end i.geometry o i.table script =
+    rw (s.shape_is, s.program_is, s.table_is) refl in
+    let banks : after (events_on m script) start.banks
+    ≡ banks_at_end i.geometry o i.table (opened i) script =
+    ap (λ (es : List Event). after es start.banks) (own_events program script i m start s)
+    ∙ ap (after (script_events i.geometry o i.table script)) s.banks
+    ∙ events_are_steps i.geometry o Ahead i.table script (opened i) s.holds.words s.holds.fits in
+    ap (λ (g : Geometry). image_bytes g (table_at_end (geometry_of m)
+    (operations_in (program_of m)) (table_in m) script)
+    (rows_of (after (events_on m script) start.banks))) s.shape_is
+    ∙ ap (λ (t : List Named). image_bytes i.geometry t
+    (rows_of (after (events_on m script) start.banks))) same
+    ∙ ap (λ (b : Banks). image_bytes i.geometry (table_at_end i.geometry o i.table script)
+    (rows_of b)) banks
+
+-- the steps to the store of the image
+abbrev pub first_steps : TraceNames → Program → List Instruction → Image → List Step
+first_steps names program script i =
+    script_steps program script i ++ (Use ∷ Store names.out.now (image_by program script i) ∷ [])
+
+first_are : (names : TraceNames) (program : Program) (script : List Instruction) (i : Image)
+    (m : Machine) (start : ChipView) → Started program i m start
+    → steps_on m start.banks script
+    ++ (Use ∷ Store names.out.now (image_on m start.banks script) ∷ [])
+    ≡ first_steps names program script i
+first_are names program script i m start s =
+    ap (λ (xs : List Step). xs ++ (Use ∷ Store names.out.now (image_on m start.banks script) ∷ []))
+    (own_lines program script i (geometry_of m) (program_of m) (table_in m) start.banks s.shape_is
+    s.program_is s.table_is s.banks)
+    ∙ ap (λ (bytes : List ℕ). script_steps program script i
+    ++ (Use ∷ Store names.out.now bytes ∷ [])) (own_image program script i m start s)
+
+all_are : (names : TraceNames) (program : Program) (script : List Instruction) (i : Image)
+    → first_steps names program script i
+    ++ store_steps (fits program script i) names.trace.now program script i
+    ≡ recorded_steps names program script i
+all_are names program script i = append_assoc (script_steps program script i) _ _
+
+-- what was done over a recorder was done on its chip
+below : (names : TraceNames) (program : Program) (script : List Instruction) (i : Image)
+    (end : End) (files : FolderView) (sink : SinkView) (old new from : ChipView) (to : World)
+    → old.faults ≡ from.faults → new.faults ≡ to.chip.faults
+    → Goes (recorded_steps names program script i) end (world files sink from) to
+    → Goes (recorded_steps names program script i) end (world files sink old)
+    (world to.files to.sink new)
+below names program script i end files sink old new from to p q g =
+    steps_are_below (recorded_steps names program script i) end (world files sink from) to old new
+    (all_late names program script i)
+    (pieces_begin i.geometry (operations_in program) i.table (opened i) 1 (pieces script) _) p q g
+
+-- it stopped before OUT was stored
+pub first_failed : (names : TraceNames) (program : Program) (script : List Instruction) (i : Image)
+    (why : Stop) (m : Machine) (files : FolderView) (sink : SinkView) (old new from : ChipView)
+    (to : World) → Started program i m from → old.faults ≡ from.faults
+    → new.faults ≡ to.chip.faults
+    → Goes (steps_on m from.banks script
+    ++ (Use ∷ Store names.out.now (image_on m from.banks script) ∷ [])) (Stopped (reason_of why))
+    (world files sink from) to
+    → ScriptRecorded names program script i (world files sink old) (world to.files to.sink new)
+    (Err why)
+first_failed names program script i why m files sink old new from to s p q g =
+    let end = Stopped (reason_of why) in
+    let first = subst (λ (xs : List Step). Goes xs end (world files sink from) to)
+    (first_are names program script i m from s) g in
+    inl (below names program script i end files sink old new from to p q
+    (subst (λ (xs : List Step). Goes xs end (world files sink from) to)
+    (all_are names program script i)
+    (stops (first_steps names program script i)
+    (store_steps (fits program script i) names.trace.now program script i) (reason_of why)
+    (world files sink from) to first)))
+
+-- what the chip shows when the script was done
+left_by : (program : Program) (script : List Instruction) (i : Image) (m : Machine)
+    (from last new : ChipView) (refused : ℕ) → Started program i m from
+    → DidAndRead (events_on m script) (reads_on m script) from last
+    → new.banks ≡ last.banks → new.counters ≡ last.counters
+    → refused ≡ count_by is_refused (replies (geometry_of m) (operations_in (program_of m))
+    (table_in m) script)
+    → WorkDone program script i (unlogged new) refused
+left_by program script i m from last new refused s did banks counters count =
+    let o = operations_in program in
+    let events = script_events i.geometry o i.table script in
+    let printed = sum_done rows_printed i.geometry o i.table script in
+    let all = i.geometry.banks * i.geometry.rows in
+    let own : DidAndRead events (printed + all) from last =
+    subst (λ (es : List Event). DidAndRead es (printed + all) from last)
+    (own_events program script i m from s)
+    (subst (λ (n : ℕ). DidAndRead (events_on m script) n from last)
+    (own_reads program script i m from s) did) in
+    record {
+      banks = banks ∙ own.banks ∙ ap (after events) s.banks
+          ∙ events_are_steps i.geometry o Ahead i.table script (opened i) s.holds.words
+          s.holds.fits;
+      counters = counters ∙ own.counters
+          ∙ ap (λ k. with_reads (printed + all) (all_counted events k)) s.counters
+          ∙ sym (reads_twice printed all (all_counted events (opened_counters i.geometry)))
+          ∙ tally_is program script i s.holds;
+      log = tt;
+      refused_is = count ∙ rw (s.shape_is, s.program_is, s.table_is) refl;
+    }
+
+-- the recorder saw the script's events
+saw_script : (program : Program) (script : List Instruction) (i : Image) (m : Machine)
+    (from last : ChipView) (tape : Tape) → IsProgram program → is_geometry i.geometry ≡ true
+    → TableFits i.geometry i.table → AllByRecursion IsPlain script → Started program i m from
+    → HasBegun from → Kept from (recorded last tape) → from.log ≡ Some empty_log
+    → DidAndRead (events_on m script) (reads_on m script) from (recorded last tape)
+    → Saw last tape (script_trace program i script).events
+saw_script program script i m from last tape legal shape table plain s begun kept log did =
+    let events = script_events i.geometry (operations_in program) i.table script in
+    let same : last.geometry ≡ i.geometry = kept.geometry ∙ s.geometry in
+    record {
+      begun = kept.begun ∙ begun;
+      legal = subst (λ (g : Geometry). AllByRecursion (IsEvent g) events) (sym same)
+          (events_are_legal i.geometry program Ahead i.table script shape legal table plain);
+      grew = subst (λ (l : _). Grew l (recorded last tape).log events) log
+          (subst (Grew from.log (recorded last tape).log) (own_events program script i m from s)
+          did.log);
+    }
+
+-- where the file of what it saw was spelled, all events fit, and it is the trace's
+record SpelledBy (program : Program) (script : List Instruction) (i : Image) (file : List ℕ)
+    : Type 0 where
+  all : fits program script i ≡ true
+  is : file ≡ bytes_of_trace (script_trace program i script)
+
+spelled_by : (program : Program) (script : List Instruction) (i : Image) (g : Geometry)
+    (table : List Named) (file : List ℕ) (all : Bool) → g ≡ i.geometry
+    → table ≡ table_at_end i.geometry (operations_in program) i.table script → all ≡ true
+    → Spelled g table (script_trace program i script).events file all
+    → SpelledBy program script i file
+spelled_by program script i g table file all e t true_is spelled =
+    let events = (script_trace program i script).events in
+    record {
+      all = ap (λ (x : Geometry). all_fit x events) (sym e) ∙ sym spelled.all_is ∙ true_is;
+      is = spelled.file_is true_is
+          ∙ ap (λ (x : Geometry). trace_bytes x table events) e
+          ∙ ap (λ (x : List Named). trace_bytes i.geometry x events) t;
+    }
+
+-- where it was not, they do not all fit
+not_all : (g : Geometry) (program : Program) (script : List Instruction) (i : Image)
+    (table : List Named) (file : List ℕ) (all : Bool) → g ≡ i.geometry → all ≡ false
+    → Spelled g table (script_trace program i script).events file all
+    → fits program script i ≡ false
+not_all g program script i table file all e none spelled =
+    ap (λ (x : Geometry). all_fit x (script_trace program i script).events) (sym e)
+    ∙ sym spelled.all_is ∙ none
+
+own_table : (program : Program) (script : List Instruction) (i : Image) (m : Machine)
+    (from : ChipView) → Started program i m from
+    → table_at_end (geometry_of m) (operations_in (program_of m)) (table_in m) script
+    ≡ table_at_end i.geometry (operations_in program) i.table script
+own_table program script i m from s = rw (s.shape_is, s.program_is, s.table_is) refl
+
+pub started_at : (program : Program) (i : Image) (m : Machine) (old from : ChipView)
+    → OpensOn program i m old → IsReady m → from ≡ record old { log = Some empty_log }
+    → Started program i m from
+started_at program i m old from o ready e = record {
+  shape_is = o.shape_is;
+  program_is = o.program_is;
+  table_is = o.table_is;
+  turn_is = o.turn_is;
+  holds = rw o.table_is at (holds_of m i.geometry o.shape_is ready);
+  banks = ap (λ (v : ChipView). v.banks) e ∙ o.opened_on.banks;
+  counters = ap (λ (v : ChipView). v.counters) e ∙ o.opened_on.counters;
+  geometry = ap (λ (v : ChipView). v.geometry) e ∙ o.opened_on.geometry;
+}
+
+-- a machine that was opened on the image, a recorder's view of its chip from the mark on, and what
+-- it came to where OUT was stored: the view of the chip then, and the recorder's tape
+pub record FirstDone (names : TraceNames) (script : List Instruction) (m : Machine)
+    (files : FolderView) (sink : SinkView) (old from last : ChipView) (tape : Tape)
+    (after : FolderView) (sent : SinkView) (refused : ℕ) : Type 0 where
+  pub ready : IsReady m
+  pub plain : AllByRecursion IsPlain script
+  pub same : from ≡ record old { log = Some empty_log }
+  pub kept : Kept from (recorded last tape)
+  pub goes : Goes (steps_on m from.banks script
+      ++ (Use ∷ Store names.out.now (image_on m from.banks script) ∷ [])) Done
+      (world files sink from) (world after sent (recorded last tape))
+  pub did : DidAndRead (events_on m script) (reads_on m script) from (recorded last tape)
+  pub count : refused ≡ count_by is_refused (replies (geometry_of m) (operations_in (program_of m))
+      (table_in m) script)
+
+module _ (names : TraceNames) (script : List Instruction) (m : Machine) (files : FolderView)
+    (sink : SinkView) (old from last : ChipView) (tape : Tape) (after : FolderView)
+    (sent : SinkView) (refused : ℕ)
+    (d : FirstDone names script m files sink old from last tape after sent refused)
+    (program : Program) (i : Image) (o : OpensOn program i m old) where
+  begun_at : Started program i m from
+  begun_at = started_at program i m old from o d.ready d.same
+
+  what_saw : Saw last tape (script_trace program i script).events
+  what_saw = saw_script program script i m from last tape o.legal o.shape o.fits d.plain begun_at
+      (ap (λ (v : ChipView). v.begun) d.same ∙ o.opened_on.begun) d.kept
+      (ap (λ (v : ChipView). v.log) d.same) d.did
+
+  own_shape : last.geometry ≡ i.geometry
+  own_shape = d.kept.geometry ∙ begun_at.geometry
+
+  own_left : WorkDone program script i (unlogged last) refused
+  own_left =
+      left_by program script i m from (recorded last tape) last refused begun_at d.did refl refl
+      d.count
+
+  -- all steps over the chip, where the store of the trace goes so
+  went_all : (end : End) (to : World) → last.faults ≡ to.chip.faults
+      → Goes (store_steps (fits program script i) names.trace.now program script i) end
+      (world after sent (recorded last tape)) to
+      → Goes (recorded_steps names program script i) end (world files sink old)
+      (world to.files to.sink last)
+  went_all end to q g =
+      let a = world files sink from in
+      let mid = world after sent (recorded last tape) in
+      let first = subst (λ (xs : List Step). Goes xs Done a mid)
+      (first_are names program script i m from begun_at) d.goes in
+      below names program script i end files sink old last from to
+      (sym (ap (λ (v : ChipView). v.faults) d.same)) q
+      (subst (λ (xs : List Step). Goes xs end a to) (all_are names program script i)
+      (goes_on (first_steps names program script i)
+      (store_steps (fits program script i) names.trace.now program script i) end a mid to first g))
+
+  -- too many events
+  pub was_full : (table : List Named) (file : List ℕ) (all : Bool) → all ≡ false
+      → ((events : List Event) → Saw last tape events
+      → Spelled last.geometry table events file all)
+      → ScriptRecorded names program script i (world files sink old) (world after sent last)
+      (Err stop.TraceFull)
+  was_full table file all e spelled =
+      let mid = world after sent (recorded last tape) in
+      let none = not_all last.geometry program script i table file all own_shape e
+      (spelled (script_trace program i script).events what_saw) in
+      inr (
+        trace_full,
+        ap unless_fits none,
+        refl,
+        went_all Done mid refl
+            (subst (λ (b : Bool). Goes (store_steps b names.trace.now program script i) Done mid
+            mid) (sym none) refl),
+        (refused, own_left),
+      )
+
+  -- the file of all events was spelled
+  own_spelled : (table : List Named) (file : List ℕ) (all : Bool) → all ≡ true
+      → table ≡ table_at_end (geometry_of m) (operations_in (program_of m)) (table_in m) script
+      → ((events : List Event) → Saw last tape events
+      → Spelled last.geometry table events file all)
+      → SpelledBy program script i file
+  own_spelled table file all e t spelled =
+      spelled_by program script i last.geometry table file all own_shape
+      (t ∙ own_table program script i m from begun_at) e
+      (spelled (script_trace program i script).events what_saw)
+
+  store_goes : (file : List ℕ) (end : End) (a b : World) → SpelledBy program script i file
+      → Goes (Store names.trace.now file ∷ []) end a b
+      → Goes (store_steps (fits program script i) names.trace.now program script i) end a b
+  store_goes file end a b s g =
+      subst (λ (x : Bool). Goes (store_steps x names.trace.now program script i) end a b)
+      (sym s.all)
+      (subst (λ (bytes : List ℕ). Goes (Store names.trace.now bytes ∷ []) end a b) s.is g)
+
+  -- and not stored, or stored
+  pub trace_unstored : (table : List Named) (file : List ℕ) (all : Bool) (new : FolderView)
+      (why : Stop) → all ≡ true
+      → table ≡ table_at_end (geometry_of m) (operations_in (program_of m)) (table_in m) script
+      → ((events : List Event) → Saw last tape events
+      → Spelled last.geometry table events file all) → reason_of why ≡ CannotWrite names.trace.now
+      → ((view : ChipView) → Unstored names.trace.now (world after sent view) (world new sent view))
+      → ScriptRecorded names program script i (world files sink old) (world new sent last) (Err why)
+  trace_unstored table file all new why e t spelled is u =
+      let s = own_spelled table file all e t spelled in
+      inl (went_all (Stopped (reason_of why)) (world new sent (recorded last tape)) refl
+      (store_goes file (Stopped (reason_of why)) (world after sent (recorded last tape))
+      (world new sent (recorded last tape)) s (inr (is, u (recorded last tape)))))
+
+  pub trace_stored : (table : List Named) (file : List ℕ) (all : Bool) (new : FolderView)
+      → all ≡ true
+      → table ≡ table_at_end (geometry_of m) (operations_in (program_of m)) (table_in m) script
+      → ((events : List Event) → Saw last tape events
+      → Spelled last.geometry table events file all)
+      → ((view : ChipView) → Stored names.trace.now file (world after sent view)
+      (world new sent view))
+      → ScriptRecorded names program script i (world files sink old) (world new sent last)
+      (Ok refused)
+  trace_stored table file all new e t spelled u =
+      let s = own_spelled table file all e t spelled in
+      let end = world new sent (recorded last tape) in (
+        ap unless_fits s.all,
+        went_all Done end refl (store_goes file Done (world after sent (recorded last tape)) end s
+            (inl (end, (u (recorded last tape), refl)))),
+        own_left,
+      )
+
+-- no memory for the recorder, and none or a fault at the opening
+pub no_room : (names : TraceNames) (program : Program) (script : List Instruction) (i : Image)
+    (w : World) → ScriptTraced names program script i w w (Err stop.NoMemory)
+no_room names program script i w = inl (inr (refl, nothing_read w))
+
+pub not_opened : (names : TraceNames) (program : Program) (script : List Instruction) (i : Image)
+    (why : Stop) (a b : World) → Goes (Open ∷ []) (Stopped (reason_of why)) a b
+    → ScriptTraced names program script i a b (Err why)
+not_opened names program script i why a b g = inl (inl (
+  a,
+  (nothing_read a, stops (Open ∷ []) _ (reason_of why) a b g),
+))
+
+-- from the opening on
+from_open : (names : TraceNames) (program : Program) (script : List Instruction) (i : Image)
+    (end : End) (a b c : World) → Goes (Open ∷ []) Done a b
+    → Goes (recorded_steps names program script i
+    ++ total_steps (fits program script i) program script i) end b c
+    → Goes (traced_steps names program script i) end a c
+from_open names program script i end a b c g h = inl (
+  a,
+  (
+    nothing_read a,
+    goes_on (Open ∷ []) (recorded_steps names program script i
+        ++ total_steps (fits program script i) program script i) end a b c g h,
+  ),
+)
+
+fits_not : (b : Bool) (told : Refusal) → unless_fits b ≡ Some told → b ≡ false
+fits_not true told e = absurd (cc)
+fits_not false told e = refl
+
+fits_so : (b : Bool) → unless_fits b ≡ None → b ≡ true
+fits_so true e = refl
+fits_so false e = absurd (cc)
+
+-- the script was not done, or its trace is full or was not stored
+pub not_recorded : (names : TraceNames) (program : Program) (script : List Instruction) (i : Image)
+    (why : Stop) (a b c : World) → Goes (Open ∷ []) Done a b
+    → ScriptRecorded names program script i b c (Err why)
+    → ScriptTraced names program script i a c (Err why)
+not_recorded names program script i why a b c g (inl h) =
+    inl (from_open names program script i (Stopped (reason_of why)) a b c g
+    (stops (recorded_steps names program script i)
+    (total_steps (fits program script i) program script i) (reason_of why) b c h))
+not_recorded names program script i why a b c g (inr w) =
+    inr (
+      w.0,
+      w.1,
+      w.2,
+      from_open names program script i Done a b c g
+          (goes_on (recorded_steps names program script i)
+          (total_steps (fits program script i) program script i) Done b c c w.3
+          (subst (λ (x : Bool). Goes (total_steps x program script i) Done c c)
+          (sym (fits_not (fits program script i) w.0 w.1)) refl)),
+      w.4,
+    )
+
+total_goes : (program : Program) (script : List Instruction) (i : Image) (k : Counters)
+    (refused : ℕ) (end : End) (a b : World) → fits program script i ≡ true
+    → k ≡ tally_by program script i → refused ≡ refused_by program script i
+    → Goes (Put (total_line k refused) ∷ []) end a b
+    → Goes (total_steps (fits program script i) program script i) end a b
+total_goes program script i k refused end a b all e f g =
+    subst (λ (x : Bool). Goes (total_steps x program script i) end a b) (sym all)
+    (subst (λ (x : Counters). Goes (Put (total_line x (refused_by program script i)) ∷ []) end a b)
+    e (subst (λ (n : ℕ). Goes (Put (total_line k n) ∷ []) end a b) f g))
+
+-- the line of the totals is not sent, or is
+pub total_unsent : (names : TraceNames) (program : Program) (script : List Instruction) (i : Image)
+    (refused : ℕ) (a b : World) (files : FolderView) (s t : SinkView) (chip : ChipView)
+    → Goes (Open ∷ []) Done a b
+    → ScriptRecorded names program script i b (world files s chip) (Ok refused)
+    → Told (AppendsPart (total_line chip.counters refused)) s.sent t.sent → s.faults ≤ t.faults
+    → Rose s.faults t.faults
+    → ScriptTraced names program script i a (world files t chip) (Err stop.PutFailed)
+total_unsent names program script i refused a b files s t chip g w p n r =
+    let mid = world files s chip in
+    let end = world files t chip in
+    inl (from_open names program script i (Stopped PutFailed) a b end g
+    (goes_on (recorded_steps names program script i)
+    (total_steps (fits program script i) program script i) (Stopped PutFailed) b mid end w.1
+    (total_goes program script i chip.counters refused (Stopped PutFailed) mid end
+    (fits_so (fits program script i) w.0) w.2.counters w.2.refused_is
+    (inr (refl, sent (AppendsPart (total_line chip.counters refused)) files s t chip p n, r)))))
+
+pub total_sent : (names : TraceNames) (program : Program) (script : List Instruction) (i : Image)
+    (refused : ℕ) (a b : World) (files : FolderView) (s t : SinkView) (chip : ChipView)
+    → Goes (Open ∷ []) Done a b
+    → ScriptRecorded names program script i b (world files s chip) (Ok refused)
+    → Told (λ before after. after ≡ before ++ total_line chip.counters refused) s.sent t.sent
+    → s.faults ≤ t.faults
+    → ScriptTraced names program script i a (world files t chip) (Ok refused)
+total_sent names program script i refused a b files s t chip g w p n =
+    let mid = world files s chip in
+    let end = world files t chip in
+    let line = total_line chip.counters refused in (
+      w.0,
+      from_open names program script i Done a b end g
+          (goes_on (recorded_steps names program script i)
+          (total_steps (fits program script i) program script i) Done b mid end w.1
+          (total_goes program script i chip.counters refused Done mid end
+          (fits_so (fits program script i) w.0) w.2.counters w.2.refused_is
+          (inl (end, (sent (λ before after. after ≡ before ++ line) files s t chip p n, refl))))),
+      w.2,
+    )
+
+-- files that are loaded before
+
+came_on : {A : Type 0} (name : List ℕ) (limit : ℕ) (text : List ℕ) (read : Result A Refusal)
+    (rest : A → List Step) (value : A) (full full' : Option Refusal)
+    (done done' : ChipView → ℕ → Type 0) (result : Result ℕ Stop) (a b c : World) → read ≡ Ok value
+    → Loaded name limit text a b → full' ≡ full
+    → ((chip : ChipView) (refused : ℕ) → done chip refused → done' chip refused)
+    → Came (rest value) full done result b c
+    → Came (loading name limit text read rest) full' done' result a c
+came_on name limit text read rest value full full' done done' (Ok refused) a b c e l f more w = (
+  f ∙ w.0,
+  loading_goes name limit text read rest value Done a b c e l w.1,
+  more (unlogged c.chip) refused w.2,
+)
+came_on name limit text read rest value full full' done done' (Err why) a b c e l f more (inl g) =
+    inl (loading_goes name limit text read rest value (Stopped (reason_of why)) a b c e l g)
+came_on name limit text read rest value full full' done done' (Err why) a b c e l f more (inr w) =
+    inr (
+      w.0,
+      f ∙ w.1,
+      w.2,
+      loading_goes name limit text read rest value Done a b c e l w.3,
+      (w.4.0, more (unlogged c.chip) w.4.0 w.4.1),
+    )
+
+-- IMAGE was not loaded, or is not read, or the script was done on it
+pub image_not_loaded : (names : TraceNames) (program : Program) (script : List Instruction)
+    (why : Stop) (old new : FolderView) (sink : SinkView) (chip : ChipView)
+    → NotLoaded names.image.now IMAGE_MAX (reason_of why) old new
+    → ImageTraced names program script (world old sink chip) (world new sink chip) (Err why)
+image_not_loaded names program script why old new sink chip n =
+    let text = told_text old.holds names.image.now in
+    record {
+      text = text;
+      is_text = told_is_text old.holds names.image.now;
+      came = inl (loading_stops names.image.now IMAGE_MAX text (image_of text) _ (reason_of why)
+          (world old sink chip) (world new sink chip)
+          (n text (refusal_of (image_of text)) sink chip));
+    }
+
+pub image_no_image : (names : TraceNames) (program : Program) (script : List Instruction)
+    (why : Stop) (fault : ImageNo) (text : List ℕ) (old new : FolderView) (sink : SinkView)
+    (chip : ChipView) → LoadedAs names.image.now IMAGE_MAX text old new
+    → IsFault fault (image_in text) → reason_of why ≡ image_reason fault
+    → ImageTraced names program script (world old sink chip) (world new sink chip) (Err why)
+image_no_image names program script why (no.Fault fault) text old new sink chip loaded e f =
+    record {
+      text = text;
+      is_text = loaded_text names.image.now IMAGE_MAX text (world old sink chip)
+          (world new sink chip) (loaded sink chip);
+      came = inl (loading_stops names.image.now IMAGE_MAX text (image_of text) _ (reason_of why)
+          (world old sink chip) (world new sink chip)
+          (rw f (ap (λ r. refusal_of (image_or_refusal r)) e, loaded sink chip)));
+    }
+image_no_image names program script why no.NoMemory text old new sink chip loaded e f = record {
+  text = text;
+  is_text = loaded_text names.image.now IMAGE_MAX text (world old sink chip)
+      (world new sink chip) (loaded sink chip);
+  came = inl (loading_stops names.image.now IMAGE_MAX text (image_of text) _ (reason_of why)
+      (world old sink chip) (world new sink chip) (rw f (loaded sink chip).reads));
+}
+
+done_on : (program : Program) (script : List Instruction) (i : Image) (read : Result Image Refusal)
+    (chip : ChipView) (refused : ℕ) → read ≡ Ok i → IsImage i.geometry i.table i.rows
+    → AllByRecursion IsPlain script → WorkDone program script i chip refused
+    → DoneOn program script read chip refused
+done_on program script i read chip refused e is plain w = rw e (is, plain, w)
+
+pub image_traced : (names : TraceNames) (program : Program) (script : List Instruction) (i : Image)
+    (result : Result ℕ Stop) (text : List ℕ) (old mid : FolderView) (sink : SinkView)
+    (chip : ChipView) (new : World) → LoadedAs names.image.now IMAGE_MAX text old mid
+    → image_of text ≡ Ok i → IsImage i.geometry i.table i.rows → AllByRecursion IsPlain script
+    → ScriptTraced names program script i (world mid sink chip) new result
+    → ImageTraced names program script (world old sink chip) new result
+image_traced names program script i result text old mid sink chip new loaded e is plain came =
+    record {
+      text = text;
+      is_text = loaded_text names.image.now IMAGE_MAX text (world old sink chip)
+          (world mid sink chip) (loaded sink chip);
+      came = came_on names.image.now IMAGE_MAX text (image_of text)
+          (λ x. traced_steps names program script x) i (unless_fits (fits program script i))
+          (full_on program script (image_of text)) (WorkDone program script i)
+          (DoneOn program script (image_of text)) result (world old sink chip)
+          (world mid sink chip) new e (loaded sink chip) (ap (full_on program script) e)
+          (λ view refused. done_on program script i (image_of text) view refused e is plain) came;
+    }
+
+-- SCRIPT was not read, or was done on the image
+pub script_not_read : (names : TraceNames) (program : Program) (why : Stop) (old new : FolderView)
+    (sink : SinkView) (chip : ChipView)
+    → NotRead script_in names.script.now SCRIPT_MAX (reason_of why) old new
+    → JobTraced names program (world old sink chip) (world new sink chip) (Err why)
+script_not_read names program why old new sink chip n = record {
+  texts = record { script = n.text; image = told_text old.holds names.image.now };
+  read = record { script = n.is_text; image = told_is_text old.holds names.image.now };
+  came = inl (loading_stops names.script.now SCRIPT_MAX n.text (script_in n.text) _ (reason_of why)
+      (world old sink chip) (world new sink chip) (n.fails sink chip));
+}
+
+done_by : (program : Program) (script : List Instruction) (read : Result (List Instruction) Refusal)
+    (image : Result Image Refusal) (chip : ChipView) (refused : ℕ) → read ≡ Ok script
+    → DoneOn program script image chip refused → DoneBy program read image chip refused
+done_by program script read image chip refused e d = rw e d
+
+pub job_traced : (names : TraceNames) (program : Program) (script : List Instruction)
+    (result : Result ℕ Stop) (old last : FolderView) (sink : SinkView) (chip : ChipView)
+    (new : World) → ReadAs script_in names.script.now SCRIPT_MAX script old last
+    → ImageTraced names program script (world last sink chip) new result
+    → JobTraced names program (world old sink chip) new result
+job_traced names program script result old last sink chip new s w =
+    let loaded = s.loaded sink chip in
+    let same : last.holds ≡ old.holds = loaded.reads.files in
+    record {
+      texts = record { script = s.text; image = w.text };
+      read = record {
+        script = loaded_text names.script.now SCRIPT_MAX s.text (world old sink chip)
+            (world last sink chip) loaded;
+        image = subst (λ (holds : Option Files). IsText holds names.image.now w.text) same
+            w.is_text;
+      };
+      came = came_on names.script.now SCRIPT_MAX s.text (script_in s.text) _ script
+          (full_on program script (image_of w.text))
+          (full_by program (script_in s.text) (image_of w.text))
+          (DoneOn program script (image_of w.text))
+          (DoneBy program (script_in s.text) (image_of w.text)) result (world old sink chip)
+          (world last sink chip) new s.value_is loaded
+          (ap (λ r. full_by program r (image_of w.text)) s.value_is)
+          (λ view refused. done_by program script (script_in s.text) (image_of w.text) view refused
+          s.value_is) w.came;
+    }
+
+-- PROG was not loaded, or is no program file, or it came to its job
+pub prog_not_loaded : (names : TraceNames) (why : Stop) (old new : FolderView) (sink : SinkView)
+    (chip : ChipView) → NotLoaded names.prog.now PROG_MAX (reason_of why) old new
+    → TraceGoes names (world old sink chip) (world new sink chip) (Err why)
+prog_not_loaded names why old new sink chip n =
+    let text = told_text old.holds names.prog.now in
+    record {
+      prog = text;
+      texts = no_texts (exec_names (exec_of names)) old.holds;
+      is_text = told_is_text old.holds names.prog.now;
+      read = record {
+        script = told_is_text old.holds names.script.now;
+        image = told_is_text old.holds names.image.now;
+      };
+      went = inl (loading_stops names.prog.now PROG_MAX text (prog_in text) (λ x. [])
+          (reason_of why) (world old sink chip) (world new sink chip)
+          (n text (refusal_of (prog_in text)) sink chip));
+    }
+
+pub prog_no_program : (names : TraceNames) (why : Stop) (text : List ℕ) (fault : ProgFault)
+    (old new : FolderView) (sink : SinkView) (chip : ChipView)
+    → LoadedAs names.prog.now PROG_MAX text old new → program_in text ≡ Err fault
+    → reason_of why ≡ Refused (prog_refusal fault)
+    → TraceGoes names (world old sink chip) (world new sink chip) (Err why)
+prog_no_program names why text fault old new sink chip loaded e f = record {
+  prog = text;
+  texts = no_texts (exec_names (exec_of names)) old.holds;
+  is_text = loaded_text names.prog.now PROG_MAX text (world old sink chip) (world new sink chip)
+      (loaded sink chip);
+  read = record {
+    script = told_is_text old.holds names.script.now;
+    image = told_is_text old.holds names.image.now;
+  };
+  went = inl (loading_stops names.prog.now PROG_MAX text (prog_in text) (λ x. [])
+      (reason_of why) (world old sink chip) (world new sink chip)
+      (rw f (ap (λ r. refusal_of (program_or_refusal r)) e, loaded sink chip)));
+}
+
+done_as : (read : Result Program Refusal) (program : Program) (texts : Texts) (chip : ChipView)
+    (refused : ℕ) → read ≡ Ok program → JobDone program texts chip refused
+    → IsDoneAs read texts chip refused
+done_as read program texts chip refused e d = rw e d
+
+pub trace_went : (names : TraceNames) (program : Program) (result : Result ℕ Stop)
+    (text : List ℕ) (old mid : FolderView) (sink : SinkView) (chip : ChipView) (new : World)
+    → LoadedAs names.prog.now PROG_MAX text old mid → (f : IsProgramFile text)
+    → f.programs ≡ program → JobTraced names program (world mid sink chip) new result
+    → TraceGoes names (world old sink chip) new result
+trace_went names program result text old mid sink chip new loads f same j =
+    let loaded = loads sink chip in
+    let held : mid.holds ≡ old.holds = loaded.reads.files in
+    let is : prog_in text ≡ Ok program =
+    prog_is text f ∙ ap (λ (p : Program). Ok p) same in
+    record {
+      prog = text;
+      texts = j.texts;
+      is_text = loaded_text names.prog.now PROG_MAX text (world old sink chip)
+          (world mid sink chip) loaded;
+      read = subst (IsRead (exec_names (exec_of names)) j.texts) held j.read;
+      went = inr (
+        f,
+        came_on names.prog.now PROG_MAX text (prog_in text) _ program
+            (full_by program (script_in j.texts.script) (image_of j.texts.image))
+            (full_with (prog_in text) j.texts) (JobDone program j.texts)
+            (IsDoneAs (prog_in text) j.texts) result (world old sink chip) (world mid sink chip)
+            new is loaded (ap (λ r. full_with r j.texts) is)
+            (λ view refused. done_as (prog_in text) program j.texts view refused is) j.came,
+      );
+    }
+
+-- a recorder stands on the chip that it was given
+pub same_name : (a b : ℕ) (xs ys : List ℕ) → a ∷ xs ≡ b ∷ ys → a ≡ b
+same_name a b xs ys e = cc
+
+-- what is let go is what was lent
+pub moved : {D : Type 0} (view : D → ChipView) (x y : D) (P : ChipView → Type 0) → x ≡ y
+    → P (view y) → P (view x)
+moved view x y P e p = subst (λ (d : _). P (view d)) (sym e) p
+
+-- the table of an image fits its shape
+pub table_fits : (g : Geometry) (table : Listing) → LiesOn g table → TableFits g table.pairs
+table_fits g table lies = record { listed = lies.listed; objects = lies.objects }

@@ -1,0 +1,243 @@
+-- The command `trace`.
+use Rattle.std.specs.Prelude.{◌≡◌, ◌≢◌, ◌⊎◌, ℕ, ◌+◌, ◌*◌, Bool, true, false, List, [], ◌∷◌, ◌++◌}
+use Rattle.std.specs.Prelude.{Option, Some, None, Result, Ok, Err}
+use Rattle.host_edge.specs.Views.{Files}
+use Rattle.dram_model.specs.Chip.{Banks, Event, after}
+use Rattle.dram_model.specs.Geometry.{is_geometry}
+use Rattle.dram_model.specs.View.{ChipView}
+use Rattle.object_alloc.specs.Spelling.{image_bytes}
+use Rattle.uprog_code.specs.Programs.{IsProgram}
+use Rattle.uprog_bin.specs.Opened.{IsProgramFile}
+use Rattle.bbop_isa.specs.Forms.{Instruction}
+use Rattle.wave_model.specs.Schedule.{Ahead}
+use Rattle.machine_model.specs.Laws.{TableFits}
+use Rattle.machine_model.specs.Opened.{Image, rows_of}
+use Rattle.machine_model.specs.Operations.{Program}
+use Rattle.machine_model.specs.Pieces.{events_of_pieces, pieces}
+use Rattle.machine_model.specs.Report.{total_line}
+use Rattle.machine_model.specs.Script.{rows_printed, sum_done, table_at_end}
+use Rattle.sim_machine.specs.declared.machine.Machine.{Machine}
+use Rattle.sim_machine.specs.Machine.{geometry_of, operations_by, program_of, table_in, turn_in}
+use Rattle.trace_model.specs.Reading.{trace_in}
+use Rattle.trace_model.specs.Replay.{replayed, script_trace}
+use Rattle.trace_model.specs.Spelling.{Trace, bytes_of_trace}
+use Rattle.trace_job.specs.Telling.{all_fit}
+use Rattle.cli_model.specs.World.{World, with_file}
+use Rattle.cli_model.specs.Steps.{Step, Take, Open, Use, Store, Put, Refusal, Refused, Done, Stopped}
+use Rattle.cli_model.specs.Steps.{Goes, loading}
+use Rattle.cli_model.specs.Ends.{Ended, Ends, done_steps}
+use Rattle.simdram_cli.specs.declared.words.ExecNames.{ExecNames}
+use Rattle.simdram_cli.specs.declared.words.TraceNames.{TraceNames}
+use Rattle.simdram_cli.specs.declared.words.TheConstants.{PROG_MAX, SCRIPT_MAX, IMAGE_MAX}
+use Rattle.simdram_cli.specs.declared.stop.Stop.{Stop}
+use Rattle.simdram_cli.specs.Inputs.{script_in, image_of}
+use Rattle.simdram_cli.specs.Programs.{prog_in}
+use Rattle.simdram_cli.specs.Reads.{IsText, StopsAtLoad}
+use Rattle.simdram_cli.specs.Stops.{end_of, reason_of, trace_full}
+use Rattle.simdram_cli.specs.Job.{Texts, image_by, pieces_steps, refused_by, script_steps, tally_by}
+use Rattle.simdram_cli.specs.Works.{OpenedOn, WorkDone}
+use Rattle.simdram_cli.specs.Ends.{DoneOn, IsRead, JobDone}
+use Rattle.simdram_cli.specs.Exec.{Executed, IsDoneAs, IsDoneWith, exec_names, status_with}
+use Rattle.simdram_cli.specs.Scan.{TellsLast}
+
+-- an execution on the same files, without TRACE
+abbrev pub exec_of : TraceNames → ExecNames
+exec_of names = record {
+  prog = names.prog;
+  script = names.script;
+  image = names.image;
+  out = names.out;
+}
+
+-- whether all events of a script fit in a recorder
+abbrev pub fits : Program → List Instruction → Image → Bool
+fits program script i = all_fit i.geometry (script_trace program i script).events
+
+-- TRACE is stored, and the line of the totals is sent, where all events fit
+abbrev pub store_steps : Bool → List ℕ → Program → List Instruction → Image → List Step
+store_steps true trace program script i =
+    Store trace (bytes_of_trace (script_trace program i script)) ∷ []
+store_steps false trace program script i = []
+
+abbrev pub total_steps : Bool → Program → List Instruction → Image → List Step
+total_steps true program script i =
+    Put (total_line (tally_by program script i) (refused_by program script i)) ∷ []
+total_steps false program script i = []
+
+-- the script is done on the opened chip, and the image after it is stored; and then TRACE is
+abbrev pub recorded_steps : TraceNames → Program → List Instruction → Image → List Step
+recorded_steps names program script i =
+    script_steps program script i
+    ++ (Use ∷ Store names.out.now (image_by program script i)
+    ∷ store_steps (fits program script i) names.trace.now program script i)
+
+-- memory is taken for a recorder, and the chip begins with the image
+abbrev pub traced_steps : TraceNames → Program → List Instruction → Image → List Step
+traced_steps names program script i =
+    Take ∷ Open ∷ (recorded_steps names program script i
+    ++ total_steps (fits program script i) program script i)
+
+abbrev pub traced_image_steps : TraceNames → Program → List Instruction → List ℕ → List Step
+traced_image_steps names program script text =
+    loading names.image.now IMAGE_MAX text (image_of text)
+    (λ i. traced_steps names program script i)
+
+abbrev pub traced_job_steps : TraceNames → Program → Texts → List Step
+traced_job_steps names program texts =
+    loading names.script.now SCRIPT_MAX texts.script (script_in texts.script)
+    (λ script. traced_image_steps names program script texts.image)
+
+-- PROG, SCRIPT and IMAGE are loaded, and the script is done on the image over a recorder
+abbrev pub trace_steps : TraceNames → List ℕ → Texts → List Step
+trace_steps names prog texts = loading names.prog.now PROG_MAX prog (prog_in prog)
+    (λ program. traced_job_steps names program texts)
+
+-- why a trace is not stored whose steps were done, if it is not
+abbrev pub unless_fits : Bool → Option Refusal
+unless_fits true = None
+unless_fits false = Some trace_full
+
+abbrev pub full_on : Program → List Instruction → Result Image Refusal → Option Refusal
+full_on program script (Ok i) = unless_fits (fits program script i)
+full_on program script (Err refusal) = None
+
+abbrev pub full_by : Program → Result (List Instruction) Refusal → Result Image Refusal
+    → Option Refusal
+full_by program (Ok script) image = full_on program script image
+full_by program (Err refusal) image = None
+
+abbrev pub full_with : Result Program Refusal → Texts → Option Refusal
+full_with (Ok program) texts = full_by program (script_in texts.script) (image_of texts.image)
+full_with (Err refusal) texts = None
+
+-- the status of one whose steps were done: an execution's where all events fit
+abbrev pub status_or : Option Refusal → ℕ → ℕ
+status_or None done = done
+status_or (Some refusal) done = refusal.status
+
+-- what a chip shows but for its log
+abbrev pub unlogged : ChipView → ChipView
+unlogged chip = record chip { log = None }
+
+abbrev pub unlogged_world : World → World
+unlogged_world w = record w { chip = unlogged w.chip }
+
+-- A recorded execution of the files at entry: what it reads, a program file if it was loaded, and
+-- how it ends. Where the steps were done and the events do not all fit, the line that tells it
+-- comes last
+pub record TraceEnds (names : TraceNames) (old new : World) (status : ℕ) : Type 0 where
+  pub prog : List ℕ
+  pub texts : Texts
+  pub is_text : IsText old.files.holds names.prog.now prog
+  pub read : IsRead (exec_names (exec_of names)) texts old.files.holds
+  pub told : World
+  pub ends : Ends (trace_steps names prog texts) (status_or (full_with (prog_in prog) texts)
+      (status_with (prog_in prog) texts)) old told status
+  pub last : TellsLast ends.ended (full_with (prog_in prog) texts) told new
+  pub file : (done_steps (trace_steps names prog texts) ends.ended ≡ [] → ⊥) → IsProgramFile prog
+  pub done : IsDoneWith ends.ended (prog_in prog) texts (unlogged new.chip)
+
+-- the trace of an execution that was done
+abbrev pub trace_of : {names : ExecNames} {before between : Files} {old new : World} {status : ℕ}
+    → Executed names before between old new status → Trace
+trace_of e = script_trace e.program e.image e.script
+
+-- What it promises. All that an execution does, of the files as they were before TRACE was stored,
+-- but for the chip's own log. TRACE is the spelling of one trace: IMAGE's geometry, the table after
+-- the script, and the events of the instructions that are done, in order, each wave under the order
+-- in force. It is accepted as that trace, and OUT has the trace's objects and the rows that these
+-- events leave from IMAGE's. All files but OUT and TRACE are as at entry
+pub record Traced (names : TraceNames) (before after : Files) (old new : World) (status : ℕ)
+    : Type 0 where
+  pub between : Files
+  pub executed : Executed (exec_of names) before between old (unlogged_world new) status
+  pub stored : after ≡ with_file names.trace.now (bytes_of_trace (trace_of executed)) between
+  pub fit : all_fit executed.image.geometry (trace_of executed).events ≡ true
+  pub accepted : trace_in (bytes_of_trace (trace_of executed)) ≡ Ok (trace_of executed)
+  pub replays : after names.out.now ≡ Some (image_bytes executed.image.geometry
+      (trace_of executed).table (rows_of (replayed (trace_of executed).events executed.image)))
+  pub others : (other : List ℕ) → other ≢ names.out.now → other ≢ names.trace.now
+      → after other ≡ before other
+
+-- what its parts come to, for its proof
+
+-- a script on a machine: its steps, its events, the image after it, and how many rows are read
+abbrev pub steps_on : Machine → Banks → List Instruction → List Step
+steps_on m banks script =
+    pieces_steps (geometry_of m) (operations_by m) (table_in m) banks 1 (pieces script)
+
+abbrev pub events_on : Machine → List Instruction → List Event
+events_on m script =
+    events_of_pieces (geometry_of m) (operations_by m) (turn_in m) (table_in m) (pieces script)
+
+abbrev pub image_on : Machine → Banks → List Instruction → List ℕ
+image_on m banks script =
+    image_bytes (geometry_of m) (table_at_end (geometry_of m) (operations_by m) (table_in m) script)
+    (rows_of (after (events_on m script) banks))
+
+abbrev pub reads_on : Machine → List Instruction → ℕ
+reads_on m script =
+    sum_done rows_printed (geometry_of m) (operations_by m) (table_in m) script
+    + (geometry_of m).banks * (geometry_of m).rows
+
+-- the steps were done and all events fit; or they were done, and the events do not; or one failed
+abbrev pub Came : List Step → Option Refusal → (ChipView → ℕ → Type 0) → Result ℕ Stop → World
+    → World → Type 0
+Came steps full done (Ok refused) old new =
+    (full ≡ None) × Goes steps Done old new × done (unlogged new.chip) refused
+Came steps full done (Err stop) old new = Goes steps (Stopped (reason_of stop)) old new
+    ⊎ ((told : Refusal) × (full ≡ Some told) × (reason_of stop ≡ Refused told)
+    × Goes steps Done old new × ((refused : ℕ) × done (unlogged new.chip) refused))
+
+-- A machine was opened on an image with an accepted program, and so was its chip
+pub record OpensOn (program : Program) (i : Image) (m : Machine) (chip : ChipView) : Type 0 where
+  pub legal : IsProgram program
+  pub shape : is_geometry i.geometry ≡ true
+  pub fits : TableFits i.geometry i.table
+  pub shape_is : geometry_of m ≡ i.geometry
+  pub program_is : program_of m ≡ program
+  pub table_is : table_in m ≡ i.table
+  pub turn_is : turn_in m ≡ Ahead
+  pub opened_on : OpenedOn i chip
+
+-- the script was done on its chip
+abbrev pub ScriptRecorded : TraceNames → Program → List Instruction → Image → World → World
+    → Result ℕ Stop → Type 0
+ScriptRecorded names program script i old new result =
+    Came (recorded_steps names program script i) (unless_fits (fits program script i))
+    (WorkDone program script i) result old new
+
+-- and was done on the image, from the opening on
+abbrev pub ScriptTraced : TraceNames → Program → List Instruction → Image → World → World
+    → Result ℕ Stop → Type 0
+ScriptTraced names program script i old new result =
+    Came (traced_steps names program script i) (unless_fits (fits program script i))
+    (WorkDone program script i) result old new
+
+-- IMAGE was loaded, and the script done on it
+pub record ImageTraced (names : TraceNames) (program : Program) (script : List Instruction)
+    (old new : World) (result : Result ℕ Stop) : Type 0 where
+  pub text : List ℕ
+  pub is_text : IsText old.files.holds names.image.now text
+  pub came : Came (traced_image_steps names program script text)
+      (full_on program script (image_of text)) (DoneOn program script (image_of text)) result
+      old new
+
+-- and SCRIPT
+pub record JobTraced (names : TraceNames) (program : Program) (old new : World)
+    (result : Result ℕ Stop) : Type 0 where
+  pub texts : Texts
+  pub read : IsRead (exec_names (exec_of names)) texts old.files.holds
+  pub came : Came (traced_job_steps names program texts)
+      (full_by program (script_in texts.script) (image_of texts.image)) (JobDone program texts)
+      result old new
+
+-- it stopped at PROG, or came on with its program
+pub record TraceGoes (names : TraceNames) (old new : World) (result : Result ℕ Stop) : Type 0 where
+  pub prog : List ℕ
+  pub texts : Texts
+  pub is_text : IsText old.files.holds names.prog.now prog
+  pub read : IsRead (exec_names (exec_of names)) texts old.files.holds
+  pub went : StopsAtLoad names.prog.now PROG_MAX prog (prog_in prog) (end_of result) old new
+      ⊎ (IsProgramFile prog × Came (trace_steps names prog texts)
+      (full_with (prog_in prog) texts) (IsDoneAs (prog_in prog) texts) result old new)

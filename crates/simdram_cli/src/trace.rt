@@ -1,0 +1,227 @@
+//! The command `trace`.
+
+ghost use Rattle.std.specs.Prelude.{◌≡◌, ◌+◌, ◌*◌, ◌<◌, ◌≤◌, ◌^◌, ◌++◌, ◌∷◌, [], length, map};
+ghost use Rattle.std.specs.Prelude.{IfOk, OnOk, count_by};
+ghost use Rattle.std.specs.List.{AllByRecursion};
+ghost use Rattle.host_edge.specs.Views.{FolderView};
+ghost use Rattle.dram_model.specs.View.{HasBegun, Kept};
+ghost use Rattle.object_alloc.specs.Exact.{found_in};
+ghost use Rattle.object_alloc.specs.Reading.{rows_size};
+ghost use Rattle.object_steps.specs.Objects.{LiesOn};
+ghost use Rattle.uprog_code.specs.Programs.{IsProgram};
+ghost use Rattle.bbop_isa.specs.Forms.{view_of};
+ghost use Rattle.machine_model.specs.Agrees.{IsPlain};
+ghost use Rattle.machine_model.specs.Opened.{Image as ImageOf};
+ghost use Rattle.machine_model.specs.Operations.{Program};
+ghost use Rattle.machine_model.specs.Script.{is_refused, replies, table_at_end};
+ghost use Rattle.cli_model.specs.World.{world};
+ghost use Rattle.cli_model.specs.Steps.{Goes, Store, Use};
+ghost use Rattle.sim_machine.specs.Machine.{IsReady, geometry_of, operations_by, table_in};
+ghost use Rattle.sim_machine.specs.Steps.{DidAndRead};
+ghost use Rattle.simdram_cli.specs.Inputs.{image_found};
+ghost use Rattle.simdram_cli.specs.Stops.{end_of};
+ghost use Rattle.simdram_cli.specs.Tracing.{ImageTraced, JobTraced, OpensOn, ScriptRecorded};
+ghost use Rattle.simdram_cli.specs.Tracing.{ScriptTraced, TraceGoes, events_on, image_on, reads_on};
+ghost use Rattle.simdram_cli.specs.Tracing.{steps_on};
+
+use crate::job::image_stop;
+use crate::load::{load, load_script};
+use crate::perform::open;
+use crate::stop::Stop;
+use crate::words::{IMAGE_MAX, PROG_MAX, SCRIPT_MAX, TraceNames};
+use crate::work::work;
+use bbop_isa::Instr;
+use cmd_trace::{Recorder, Room};
+use dram_model::Dram;
+use host_edge::{Folder, Sink};
+use object_alloc::{Image, read_image};
+use sim_machine::Machine;
+use std::alloc::Global;
+use trace_job::spell_trace;
+use uprog_bin::ProgView;
+
+/// Does a script, and stores the image after it; answers how many instructions were refused.
+fn work_to_image<'a, F: Folder, S: Sink, D: Dram>(
+    machine: &mut Machine<'_>,
+    script: &[Instr],
+    name: &'a str,
+    files: &mut F,
+    out: &mut S,
+    chip: &mut D,
+) -> Result<u64, Stop<'a>>
+    requires ready { IsReady machine.old }
+    requires begun { HasBegun (D.view chip.old) }
+    requires geometry { (D.view chip.old).geometry ≡ geometry_of machine.old }
+    requires plain { AllByRecursion IsPlain (map view_of script.now) }
+    requires few { length script.now ≤ 2 ^ 25 }
+    requires aap_none { (D.view chip.old).counters.aap ≡ 0 }
+    requires ap_none { (D.view chip.old).counters.ap ≡ 0 }
+    requires few_writes { (D.view chip.old).counters.writes ≤ 2 ^ 60 }
+    requires reads_none { (D.view chip.old).counters.reads ≡ 0 }
+    ensures borrow { D.borrow chip.new ≡ D.borrow chip.old }
+    ensures kept { Kept (D.view chip.old) (D.view chip.new) }
+    ensures table { IfOk result (λ refused. table_in machine.new ≡ table_at_end
+        (geometry_of machine.old) (operations_by machine.old) (table_in machine.old)
+        (map view_of script.now)) }
+    ensures did { IfOk result (λ refused. DidAndRead
+        (events_on machine.old (map view_of script.now))
+        (reads_on machine.old (map view_of script.now)) (D.view chip.old) (D.view chip.new)) }
+    ensures refused { IfOk result (λ refused. refused
+        ≡ count_by is_refused (replies (geometry_of machine.old) (operations_by machine.old)
+        (table_in machine.old) (map view_of script.now))) }
+    ensures goes { Goes (steps_on machine.old (D.view chip.old).banks (map view_of script.now)
+        ++ (Use ∷ Store name.now (image_on machine.old (D.view chip.old).banks
+        (map view_of script.now)) ∷ [])) (end_of result)
+        (world (F.view files.old) (S.view out.old) (D.view chip.old))
+        (world (F.view files.new) (S.view out.new) (D.view chip.new)) }
+{
+    let refused = work(machine, script, chip, out)?;
+    if machine.image(chip).is_err() {
+        return Err(Stop::ChipFailed);
+    }
+    if files.store(name, machine.file()).is_err() {
+        return Err(Stop::CannotWrite(name));
+    }
+    Ok(refused)
+}
+
+/// Does a script over a recorder on the chip, stores the image after it, and then the trace of what
+/// the recorder saw, where it kept all; answers how many instructions were refused.
+fn record_script<'a, F: Folder, S: Sink, D: Dram>(
+    machine: &mut Machine<'_>,
+    script: &[Instr],
+    names: &TraceNames<'a>,
+    files: &mut F,
+    out: &mut S,
+    chip: &mut D,
+    room: &mut Room,
+) -> Result<u64, Stop<'a>>
+    requires ready { IsReady machine.old }
+    requires begun { HasBegun (D.view chip.old) }
+    requires geometry { (D.view chip.old).geometry ≡ geometry_of machine.old }
+    requires plain { AllByRecursion IsPlain (map view_of script.now) }
+    requires few { length script.now ≤ 2 ^ 25 }
+    requires aap_none { (D.view chip.old).counters.aap ≡ 0 }
+    requires ap_none { (D.view chip.old).counters.ap ≡ 0 }
+    requires few_writes { (D.view chip.old).counters.writes ≤ 2 ^ 60 }
+    requires reads_none { (D.view chip.old).counters.reads ≡ 0 }
+    ensures borrow { D.borrow chip.new ≡ D.borrow chip.old }
+    ensures begun { OnOk result (HasBegun (D.view chip.new)) }
+    ensures recorded { (program : Program) (i : ImageOf)
+        → OpensOn program i machine.old (D.view chip.old)
+        → ScriptRecorded names.now program (map view_of script.now) i
+        (world (F.view files.old) (S.view out.old) (D.view chip.old))
+        (world (F.view files.new) (S.view out.new) (D.view chip.new)) result }
+{
+    let mut recorder = Recorder::new(chip, room);
+    recorder.mark();
+    let refused = work_to_image(machine, script, names.out, files, out, &mut recorder)?;
+    if !spell_trace(&mut recorder, machine.table()) {
+        return Err(Stop::TraceFull);
+    }
+    if files.store(names.trace, recorder.trace_file()).is_err() {
+        return Err(Stop::CannotWrite(names.trace));
+    }
+    Ok(refused)
+}
+
+/// Does a script on an image over a recorder, stores the trace of what it saw, and puts the line of
+/// the totals.
+fn trace_script<'a, F: Folder, S: Sink, D: Dram>(
+    prog: ProgView<'_>,
+    script: &[Instr],
+    image: Image<'_>,
+    names: &TraceNames<'a>,
+    files: &mut F,
+    out: &mut S,
+    chip: &mut D,
+    alloc: Global,
+) -> Result<u64, Stop<'a>>
+    requires legal { IsProgram prog.programs }
+    requires lies { LiesOn image.geometry image.table }
+    requires rows { length image.rows.now ≡ rows_size image.geometry }
+    requires plain { AllByRecursion IsPlain (map view_of script.now) }
+    requires few { length script.now ≤ 2 ^ 25 }
+    ensures borrow { D.borrow chip.new ≡ D.borrow chip.old }
+    ensures traced { ScriptTraced names.now prog.entry.programs (map view_of script.now)
+        (image_found (found_in image.entry))
+        (world (F.view files.old) (S.view out.old) (D.view chip.old))
+        (world (F.view files.new) (S.view out.new) (D.view chip.new)) result }
+{
+    let Ok(mut room) = Room::new(alloc) else {
+        return Err(Stop::NoMemory);
+    };
+    let mut machine = open(prog, image, chip, alloc)?;
+    let refused = record_script(&mut machine, script, names, files, out, chip, &mut room)?;
+    if machine.put_total(refused, chip, out).is_err() {
+        return Err(Stop::PutFailed);
+    }
+    Ok(refused)
+}
+
+/// Loads IMAGE, and does the script on it over a recorder.
+fn trace_image<'a, F: Folder, S: Sink, D: Dram>(
+    prog: ProgView<'_>,
+    script: &[Instr],
+    names: &TraceNames<'a>,
+    files: &mut F,
+    out: &mut S,
+    chip: &mut D,
+    alloc: Global,
+) -> Result<u64, Stop<'a>>
+    requires legal { IsProgram prog.programs }
+    requires plain { AllByRecursion IsPlain (map view_of script.now) }
+    requires few { length script.now ≤ SCRIPT_MAX + 1 }
+    ensures borrow { D.borrow chip.new ≡ D.borrow chip.old }
+    ensures traced { ImageTraced names.now prog.entry.programs (map view_of script.now)
+        (world (F.view files.old) (S.view out.old) (D.view chip.old))
+        (world (F.view files.new) (S.view out.new) (D.view chip.new)) result }
+{
+    let bytes = load(names.image, IMAGE_MAX, files, alloc)?;
+    let image = match read_image(&bytes, alloc) {
+        Ok(image) => image,
+        Err(no) => return Err(image_stop(no)),
+    };
+    trace_script(prog, script, image, names, files, out, chip, alloc)
+}
+
+/// Loads SCRIPT, and does it on IMAGE over a recorder.
+fn trace_with<'a, F: Folder, S: Sink, D: Dram>(
+    prog: ProgView<'_>,
+    names: &TraceNames<'a>,
+    files: &mut F,
+    out: &mut S,
+    chip: &mut D,
+    alloc: Global,
+) -> Result<u64, Stop<'a>>
+    requires legal { IsProgram prog.programs }
+    ensures borrow { D.borrow chip.new ≡ D.borrow chip.old }
+    ensures traced { JobTraced names.now prog.entry.programs
+        (world (F.view files.old) (S.view out.old) (D.view chip.old))
+        (world (F.view files.new) (S.view out.new) (D.view chip.new)) result }
+{
+    let script = load_script(names.script, files, alloc)?;
+    trace_image(prog, &script, names, files, out, chip, alloc)
+}
+
+/// Does SCRIPT on IMAGE with the program of PROG, and stores the trace of its events; answers how
+/// many instructions were refused.
+pub(crate) fn trace<'a, F: Folder, S: Sink, D: Dram>(
+    names: &TraceNames<'a>,
+    files: &mut F,
+    out: &mut S,
+    chip: &mut D,
+    alloc: Global,
+) -> Result<u64, Stop<'a>>
+    ensures borrow { D.borrow chip.new ≡ D.borrow chip.old }
+    ensures goes { TraceGoes names.now
+        (world (F.view files.old) (S.view out.old) (D.view chip.old))
+        (world (F.view files.new) (S.view out.new) (D.view chip.new)) result }
+{
+    let bytes = load(names.prog, PROG_MAX, files, alloc)?;
+    let prog = match ProgView::open(&bytes) {
+        Ok(prog) => prog,
+        Err(fault) => return Err(Stop::BadProg(fault)),
+    };
+    trace_with(prog, names, files, out, chip, alloc)
+}
