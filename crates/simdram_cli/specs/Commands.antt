@@ -9,6 +9,7 @@ use Rattle.simdram_cli.specs.declared.words.Command.{Command}
 use Rattle.simdram_cli.specs.declared.words.Command.TheVariants.{Run, Exec, Compile, Show, Migrate}
 use Rattle.simdram_cli.specs.declared.words.Command.TheVariants.{Cost, List as ListOf, Init, Soak}
 use Rattle.simdram_cli.specs.declared.words.Command.TheVariants.{Scan}
+use Rattle.simdram_cli.specs.declared.words.Command.TheVariants.{Guard}
 use Rattle.simdram_cli.specs.declared.account.Account.TheVariants.{Listing, Costs}
 use Rattle.simdram_cli.specs.Words.{command_of}
 use Rattle.simdram_cli.specs.Ends.{RunEnds}
@@ -21,6 +22,7 @@ use Rattle.simdram_cli.specs.Accounts.{AccountEnds, Accounted}
 use Rattle.simdram_cli.specs.Init.{init_steps, Started}
 use Rattle.simdram_cli.specs.Soak.{SoakEnds, Soaked}
 use Rattle.simdram_cli.specs.Scan.{ScanEnds, Scanned}
+use Rattle.simdram_cli.specs.Guard.{GuardEnds, Guarded}
 
 -- the statuses that a command can answer
 abbrev pub statuses : Command → List ℕ
@@ -34,6 +36,8 @@ statuses (ListOf name) = 0 ∷ 2 ∷ 3 ∷ 5 ∷ 10 ∷ 11 ∷ []
 statuses (Init names) = 0 ∷ 3 ∷ 10 ∷ []
 statuses (Soak seed) = 0 ∷ 3 ∷ 9 ∷ 10 ∷ []
 statuses (Scan names) = 0 ∷ 2 ∷ 3 ∷ 7 ∷ 9 ∷ 10 ∷ 11 ∷ 15 ∷ 16 ∷ []
+statuses (Guard names) =
+    0 ∷ 2 ∷ 3 ∷ 4 ∷ 6 ∷ 7 ∷ 8 ∷ 9 ∷ 10 ∷ 11 ∷ 17 ∷ 18 ∷ []
 
 abbrev pub CanAnswer : Command → ℕ → Type 0
 CanAnswer command status = list_any (λ s. s == status) (statuses command) ≡ true
@@ -51,6 +55,7 @@ CommandEnds (ListOf name) old new status = AccountEnds name.now Listing old new 
 CommandEnds (Init names) old new status = Ends (init_steps names) 0 old new status
 CommandEnds (Soak seed) old new status = SoakEnds seed old new status
 CommandEnds (Scan names) old new status = ScanEnds names old new status
+CommandEnds (Guard names) old new status = GuardEnds names old new status
 
 -- what it promises when it ends as it should, where the folder tells its files; a soak touches
 -- none, and promises it in any folder
@@ -78,6 +83,9 @@ Promises (Init names) old new status = status ≡ 0
 Promises (Soak seed) old new status = status ≡ 0 → Soaked seed old new
 Promises (Scan names) old new status = status ≡ 0
     → IfSome old.files.holds (λ before. Scanned names before old new)
+Promises (Guard names) old new status = (status ≡ 0) ⊎ (status ≡ 8)
+    → Told (λ before after. Guarded names before after old new status) old.files.holds
+    new.files.holds
 
 -- where the words are a command
 abbrev pub OnCommand : List (Bor (List ℕ)) → (Command → Type 0) → Type 0

@@ -4,6 +4,7 @@ pub mod Programs
 pub mod Accepted
 pub mod Inputs
 pub mod Queries
+pub mod Flips
 pub mod Stops
 pub mod Reads
 pub mod Job
@@ -19,5 +20,6 @@ pub mod Accounts
 pub mod Init
 pub mod Soak
 pub mod Scan
+pub mod Guard
 pub mod Commands
 pub mod Complete

@@ -9,6 +9,7 @@ use Rattle.object_steps.specs.declared.fault.StepFault.TheVariants as step_fault
 use Rattle.simdram_cli.specs.Inputs.{ops_refusal, script_refusal, image_refusal}
 use Rattle.simdram_cli.specs.Programs.{prog_refusal}
 use Rattle.simdram_cli.specs.Queries.{query_refusal, scan_refusal}
+use Rattle.simdram_cli.specs.Flips.{flips_refusal, name_refusal, table_refusal}
 use Rattle.simdram_cli.specs.declared.stop.Stop.{Stop}
 use Rattle.simdram_cli.specs.declared.stop.Stop.TheVariants as stop
 
@@ -21,6 +22,9 @@ reason_of (stop.BadScript fault) = Refused (script_refusal fault)
 reason_of (stop.BadImage fault) = Refused (image_refusal fault)
 reason_of (stop.BadQuery fault) = Refused (query_refusal fault)
 reason_of (stop.ScanRefused why k) = Refused (scan_refusal why k)
+reason_of (stop.GuardName k) = Refused (name_refusal k)
+reason_of (stop.GuardTable k) = Refused (table_refusal k)
+reason_of (stop.BadFlips fault) = Refused (flips_refusal fault)
 reason_of stop.NoMemory = NoMemory
 reason_of (stop.CannotWrite name) = CannotWrite name.now
 reason_of stop.PutFailed = PutFailed

@@ -13,6 +13,8 @@ use Rattle.simdram_cli.specs.declared.words.Command.{Command}
 use Rattle.simdram_cli.specs.declared.words.Command.TheVariants.{Run, Exec, Compile, Show, Migrate}
 use Rattle.simdram_cli.specs.declared.words.Command.TheVariants.{Cost, List as ListOf, Init, Soak}
 use Rattle.simdram_cli.specs.declared.words.Command.TheVariants.{Scan}
+use Rattle.simdram_cli.specs.declared.words.Command.TheVariants.{Guard}
+use Rattle.simdram_cli.specs.declared.words.GuardNames.{GuardNames}
 
 -- no two are equal
 abbrev pub all_differ : List (List ℕ) → Bool
@@ -28,6 +30,18 @@ are_apart ops prog script image out = all_differ (ops ∷ prog ∷ script ∷ im
 abbrev pub inputs_apart : List ℕ → List ℕ → List ℕ → List ℕ → Bool
 inputs_apart prog script image out =
     all_differ (prog ∷ script ∷ image ∷ []) && all_differ (prog ∷ script ∷ out ∷ [])
+
+-- and so are the six files of a guarded run
+abbrev pub guard_apart : GuardNames → Bool
+guard_apart names =
+    let inputs = λ (last : List ℕ). all_differ (names.ops.now ∷ names.prog.now ∷ names.script.now
+    ∷ names.flips.now ∷ last ∷ []) in
+    inputs names.image.now && inputs names.out.now
+
+-- the command on six files
+abbrev pub guard_on : List ℕ → GuardNames → Option Command
+guard_on verb names =
+    if bytes_eq verb (codes "guard") && guard_apart names then Some (Guard names) else None
 
 -- the command on two files that are apart
 abbrev pub command_on_two : List ℕ → Bor (List ℕ) → Bor (List ℕ) → Option Command
@@ -86,8 +100,18 @@ command_on_four verb first second third fourth =
 
 -- the command that the words are: `run OPS PROG SCRIPT IMAGE OUT`, `exec PROG SCRIPT IMAGE OUT`,
 -- `compile OPS PROG`, `show OPS`, `migrate OLD NEW`, `cost PROG N`, `list PROG`,
--- `init BANKS ROWS WORDS OUT`, `soak SEED` or `scan QUERY IMAGE`
+-- `init BANKS ROWS WORDS OUT`, `soak SEED`, `scan QUERY IMAGE` or
+-- `guard OPS PROG SCRIPT IMAGE FLIPS OUT`
 abbrev pub command_of : List (Bor (List ℕ)) → Option Command
+command_of (verb ∷ ops ∷ prog ∷ script ∷ image ∷ flips ∷ out ∷ []) =
+    guard_on verb.now (record {
+      ops = ops;
+      prog = prog;
+      script = script;
+      image = image;
+      flips = flips;
+      out = out;
+    })
 command_of (verb ∷ ops ∷ prog ∷ script ∷ image ∷ out ∷ []) =
     if bytes_eq verb.now (codes "run") && are_apart ops.now prog.now script.now image.now out.now
     then Some (Run (record { ops = ops; prog = prog; script = script; image = image; out = out }))
@@ -114,6 +138,7 @@ IsApart (ListOf name) = Unit {0}
 IsApart (Init names) = Unit {0}
 IsApart (Soak seed) = Unit {0}
 IsApart (Scan names) = bytes_eq names.query.now names.image.now ≡ false
+IsApart (Guard names) = guard_apart names ≡ true
 
 -- the numbers of a command are a width, a chip's, or a seed
 abbrev pub HasNumbers : Command → Type 0

@@ -5,6 +5,7 @@ mod account;
 mod compile;
 mod counted;
 mod exec;
+mod guard;
 mod init;
 mod job;
 mod load;
@@ -25,3 +26,4 @@ pub use words::{
     Command, CompileNames, CostNames, ExecNames, IMAGE_MAX, InitNames, MigrateNames, OPS_MAX,
     PROG_MAX, QUERY_MAX, RunNames, SCRIPT_MAX, ScanNames, command_of, limits,
 };
+pub use words::{FLIPS_MAX, GuardNames};

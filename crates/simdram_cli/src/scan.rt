@@ -35,7 +35,7 @@ use uprog_bin::ProgView;
 use uprog_code::Counts;
 
 /// A line.
-type Line = ArrayVec<u8, 128>;
+pub(crate) type Line = ArrayVec<u8, 128>;
 
 /// Loads QUERY, with its query.
 fn load_query<'a, F: Folder>(
@@ -102,7 +102,7 @@ fn ask<'a, D: Dram>(
 }
 
 /// Appends bytes that there is room for.
-fn add(text: &mut Line, piece: &[u8])
+pub(crate) fn add(text: &mut Line, piece: &[u8])
     requires { length text.old.items + length piece.now ≤ 128 }
     ensures text { text.new.items ≡ text.old.items ++ piece.now }
     ensures length { length text.new.items ≡ length text.old.items + length piece.now }
@@ -111,7 +111,7 @@ fn add(text: &mut Line, piece: &[u8])
 }
 
 /// Appends a word of at most 8 bytes and a number.
-fn add_number(text: &mut Line, word: &[u8], number: u64)
+pub(crate) fn add_number(text: &mut Line, word: &[u8], number: u64)
     requires room { length text.old.items + 28 ≤ 128 }
     requires word { length word.now ≤ 8 }
     ensures text { text.new.items ≡ text.old.items ++ (word.now ++ decimal number) }

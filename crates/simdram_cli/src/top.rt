@@ -13,6 +13,7 @@ ghost use Rattle.simdram_cli.specs.Compile.{CompileEnds};
 ghost use Rattle.simdram_cli.specs.Complete.{Completes, Spares};
 ghost use Rattle.simdram_cli.specs.Ends.{RunEnds, answer_to};
 ghost use Rattle.simdram_cli.specs.Exec.{ExecEnds};
+ghost use Rattle.simdram_cli.specs.Guard.{GuardEnds};
 ghost use Rattle.simdram_cli.specs.Headline.{OneJob};
 ghost use Rattle.simdram_cli.specs.Init.{init_steps};
 ghost use Rattle.simdram_cli.specs.Migrate.{MigrateEnds};
@@ -21,10 +22,12 @@ ghost use Rattle.simdram_cli.specs.Show.{ShowEnds};
 ghost use Rattle.simdram_cli.specs.Soak.{SoakEnds};
 ghost use Rattle.simdram_cli.specs.Stops.{end_of};
 ghost use Rattle.simdram_cli.specs.Words.{HasNumbers, IsApart, are_apart, command_of};
+ghost use Rattle.simdram_cli.specs.Words.{guard_apart};
 
 use crate::account::{Account, give_account};
 use crate::compile::compile;
 use crate::exec::exec;
+use crate::guard::guard;
 use crate::init::init;
 use crate::migrate::migrate;
 use crate::run::run;
@@ -35,6 +38,7 @@ use crate::stop::{Stop, status_of, tell};
 use crate::words::{
     Command, CompileNames, ExecNames, InitNames, MigrateNames, RunNames, ScanNames, command_of,
 };
+use crate::words::GuardNames;
 use dram_model::Dram;
 use host_edge::{Folder, Sink};
 use std::alloc::Global;
@@ -193,6 +197,24 @@ fn scan_and_answer<F: Folder, S: Sink, D: Dram>(
     answer(ended, out)
 }
 
+/// Runs guarded, and tells why it stopped if it did.
+fn guard_and_answer<F: Folder, S: Sink, D: Dram>(
+    names: &GuardNames<'_>,
+    files: &mut F,
+    out: &mut S,
+    chip: &mut D,
+    alloc: Global,
+) -> u8
+    requires apart { guard_apart names.now ≡ true }
+    ensures borrow { D.borrow chip.new ≡ D.borrow chip.old }
+    ensures ends { GuardEnds names.now
+        (world (F.view files.old) (S.view out.old) (D.view chip.old))
+        (world (F.view files.new) (S.view out.new) (D.view chip.new)) result }
+{
+    let ended = guard(names, files, out, chip, alloc);
+    answer(ended, out)
+}
+
 /// Does a command.
 fn dispatch<F: Folder, S: Sink, D: Dram>(
     command: &Command<'_>,
@@ -221,6 +243,7 @@ fn dispatch<F: Folder, S: Sink, D: Dram>(
         Command::Init(names) => init_and_answer(names, files, out, alloc),
         Command::Soak(seed) => soak_and_answer(*seed, out, chip, alloc),
         Command::Scan(names) => scan_and_answer(names, files, out, chip, alloc),
+        Command::Guard(names) => guard_and_answer(names, files, out, chip, alloc),
     }
 }
 
@@ -234,7 +257,9 @@ fn dispatch<F: Folder, S: Sink, D: Dram>(
 /// objects, whose rows are zeros; `soak SEED` does every word operation with one result at the
 /// widths 1, 8 and 64 on a generator's words, and puts a line for each with its row commands and
 /// the sum of its results; `scan QUERY IMAGE` puts how many elements of IMAGE meet QUERY, by
-/// comparisons in the chip. The answer is the exit status.
+/// comparisons in the chip; `guard OPS PROG SCRIPT IMAGE FLIPS OUT` runs with each object in three
+/// copies, inverts the cells that FLIPS names, and votes before each instruction and after the
+/// last. The answer is the exit status.
 pub fn simdram<F: Folder, S: Sink, D: Dram>(
     words: &[&str],
     files: &mut F,
