@@ -11,9 +11,12 @@ use Rattle.simdram_cli.specs.declared.words.Command.{Command}
 use Rattle.simdram_cli.specs.declared.words.Command.TheVariants.{Run, Exec, Compile, Show, Migrate}
 use Rattle.simdram_cli.specs.declared.words.Command.TheVariants.{Cost, List as ListOf, Init, Soak}
 use Rattle.simdram_cli.specs.declared.words.Command.TheVariants.{Scan}
+use Rattle.simdram_cli.specs.declared.words.Command.TheVariants.{Guard}
+use Rattle.simdram_cli.specs.declared.words.GuardNames.{GuardNames}
 use Rattle.simdram_cli.specs.Words.{HasNumbers, IsApart, are_apart, command_of, command_on_one}
 use Rattle.simdram_cli.specs.Words.{command_on_four, command_on_two, cost_on, init_on}
 use Rattle.simdram_cli.specs.Words.{inputs_apart, is_number, soak_on, value_of}
+use Rattle.simdram_cli.specs.Words.{guard_apart, guard_on}
 
 -- the files of a command are apart, and its numbers are in range
 pub record IsRight (command : Command) : Type 0 where
@@ -116,6 +119,13 @@ on_four_right verb first second third fourth =
       numbers = tt;
     }))
 
+guard_right : (verb : List ℕ) (names : GuardNames) → AreRight (guard_on verb names)
+guard_right verb names =
+    if_so (bytes_eq verb (codes "guard") && guard_apart names) (Guard names) (λ e. record {
+      apart = second_holds (bytes_eq verb (codes "guard")) (guard_apart names) e;
+      numbers = tt;
+    })
+
 words_right : (words : List (Bor (List ℕ))) → AreRight (command_of words)
 words_right [] = tt
 words_right (a ∷ []) = tt
@@ -135,7 +145,16 @@ words_right (verb ∷ ops ∷ prog ∷ script ∷ image ∷ out ∷ []) =
       apart = second_holds (bytes_eq verb.now (codes "run")) apart e;
       numbers = tt;
     })
-words_right (a ∷ b ∷ c ∷ d ∷ f ∷ h ∷ i ∷ rest) = tt
+words_right (verb ∷ ops ∷ prog ∷ script ∷ image ∷ flips ∷ out ∷ []) =
+    guard_right verb.now (record {
+      ops = ops;
+      prog = prog;
+      script = script;
+      image = image;
+      flips = flips;
+      out = out;
+    })
+words_right (a ∷ b ∷ c ∷ d ∷ f ∷ h ∷ i ∷ j ∷ rest) = tt
 
 right_one : (o : Option Command) (command : Command) → o ≡ Some command → AreRight o
     → IsRight command

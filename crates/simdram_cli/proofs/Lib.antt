@@ -29,4 +29,7 @@ pub mod Telling
 pub mod Unique
 pub mod Soaking
 pub mod Scanning
+pub mod Guarding
+pub mod GuardSteps
+pub mod GuardPromised
 mod Showing

@@ -36,6 +36,11 @@ use Rattle.simdram_cli.specs.declared.words.Command.{Command}
 use Rattle.simdram_cli.specs.declared.words.Command.TheVariants.{Run, Exec, Compile, Show, Migrate}
 use Rattle.simdram_cli.specs.declared.words.Command.TheVariants.{Cost, List as ListOf, Init, Soak}
 use Rattle.simdram_cli.specs.declared.words.Command.TheVariants.{Scan}
+use Rattle.simdram_cli.specs.declared.words.Command.TheVariants.{Guard}
+use Rattle.simdram_cli.specs.Guard.{guard_steps, job_of_texts}
+use Rattle.simdram_cli.proofs.GuardPromised.{guard_promised}
+use Rattle.simdram_cli.proofs.GuardSteps.{GivesOfGuard, guard_of, guard_so}
+use Rattle.simdram_cli.proofs.Guarding.{apart as guard_files_apart}
 use Rattle.simdram_cli.specs.declared.words.InitNames.{InitNames}
 use Rattle.simdram_cli.specs.declared.account.Account.{Account}
 use Rattle.simdram_cli.specs.declared.account.Account.TheVariants.{Listing, Costs}
@@ -383,6 +388,23 @@ can_answer (Scan names) old new status e =
     ends_so P (scan_steps names e.texts e.made e.query) _ old e.told status
     (scan_so P e.made e.query (image_of e.texts.image) refl refl)
     (scan_of P names e.texts e.made e.query gives) e.ends
+can_answer (Guard names) old new status e =
+    let P : ℕ → Type 0 = CanAnswer (Guard names) in
+    let gives : GivesOfGuard P = record {
+      two = refl;
+      three = refl;
+      four = refl;
+      six = refl;
+      seven = refl;
+      nine = refl;
+      ten = refl;
+      eleven = refl;
+      seventeen = refl;
+      eighteen = refl;
+    } in
+    ends_so P (guard_steps names e.program e.ops e.texts) _ old new status
+    (guard_so P (job_of_texts e.program e.texts) refl refl)
+    (guard_of P names e.program e.ops e.texts gives) e.ends
 
 not_one : (command : Command) (status : ℕ) → CanAnswer command status → status ≡ 1 → ⊥
 not_one (Run names) status can e =
@@ -405,6 +427,8 @@ not_one (Soak seed) status can e =
     let one : CanAnswer (Soak seed) 1 = subst (CanAnswer (Soak seed)) e can in cc
 not_one (Scan names) status can e =
     let one : CanAnswer (Scan names) 1 = subst (CanAnswer (Scan names)) e can in cc
+not_one (Guard names) status can e =
+    let one : CanAnswer (Guard names) 1 = subst (CanAnswer (Guard names)) e can in cc
 
 no_command : (words : List (Bor (List ℕ))) (o : Option Command) (status : ℕ) → command_of words ≡ o
     → OnCommand words (λ command. CanAnswer command status) → status ≡ 1
@@ -464,6 +488,20 @@ apart_of_scan status is = record {
   fifteen = apart_from_done status is 15 (λ f. cc) (λ f. cc);
 }
 
+apart_of_guard : (status : ℕ) → (status ≡ 0) ⊎ (status ≡ 8) → GivesOfGuard (λ s. s ≡ status → ⊥)
+apart_of_guard status is = record {
+  two = apart_from_done status is 2 (λ f. cc) (λ f. cc);
+  three = apart_from_done status is 3 (λ f. cc) (λ f. cc);
+  four = apart_from_done status is 4 (λ f. cc) (λ f. cc);
+  six = apart_from_done status is 6 (λ f. cc) (λ f. cc);
+  seven = apart_from_done status is 7 (λ f. cc) (λ f. cc);
+  nine = apart_from_done status is 9 (λ f. cc) (λ f. cc);
+  ten = apart_from_done status is 10 (λ f. cc) (λ f. cc);
+  eleven = apart_from_done status is 11 (λ f. cc) (λ f. cc);
+  seventeen = apart_from_done status is 17 (λ f. cc) (λ f. cc);
+  eighteen = apart_from_done status is 18 (λ f. cc) (λ f. cc);
+}
+
 -- a command keeps what it promises
 pub promises : (command : Command) (old new : World) (status : ℕ) → IsApart command
     → CommandEnds command old new status → Promises command old new status
@@ -507,6 +545,11 @@ promises (Soak seed) old new status are e = λ is.
 promises (Scan names) old new status are e = λ is.
     scanned names old new status is e
     (scan_of (λ s. s ≡ status → ⊥) names e.texts e.made e.query (apart_of_scan status (inl is)))
+promises (Guard names) old new status are e = λ is.
+    guard_promised names old new status (guard_files_apart names are) e
+    (all_done (guard_steps names e.program e.ops e.texts) _ e.ends.ended old new status
+    (guard_of (λ s. s ≡ status → ⊥) names e.program e.ops e.texts (apart_of_guard status is))
+    e.ends.so)
 
 -- the words are this command and no other
 pub on_command : (words : List (Bor (List ℕ))) (command : Command) (P : Command → Type 0)

@@ -201,7 +201,7 @@ image_worked names program script i result text old mid sink chip new loaded e i
       done = done_on program script i (image_of text) new.chip result e is plain w;
     }
 
-not_true : (b : Bool) → not b ≡ true → b ≡ false
+pub not_true : (b : Bool) → not b ≡ true → b ≡ false
 not_true true e = absurd (cc)
 not_true false e = refl
 
@@ -213,7 +213,7 @@ same_back x y true e f =
     cc
 same_back x y false e f = e
 
-turned : (x y : List ℕ) → bytes_eq x y ≡ false → bytes_eq y x ≡ false
+pub turned : (x y : List ℕ) → bytes_eq x y ≡ false → bytes_eq y x ≡ false
 turned x y f = same_back x y (bytes_eq y x) refl f
 
 -- the first of four names differs from the others, and the second from the last two
