@@ -103,8 +103,7 @@ fn one_damaged_copy_is_mended(rt: HostRuntime) -> Result<(), Fail> {
 
 /// What is sent of the sum, where so many flips are done among its instructions.
 fn sum_sent(flips: u64, alloc: Global) -> Result<String, Fail> {
-    let sent = format!(
-        in alloc;
+    let sent = format!(in alloc;
         "1 ok aap=6 ap=0\n2 ok aap=6 ap=0\n3 ok aap=6 ap=0\n4 ok aap=0 ap=0\n5 ok aap=0 ap=0\n\
         6 ok aap=51 ap=6\n7 c: 1 2 3 0\nvote aap=216 flips={}\n\
         total aap=285 ap=6 writes={} reads={} refused=0\n",
@@ -183,7 +182,10 @@ fn copies_are_added_whole_or_not(rt: HostRuntime) -> Result<(), Fail> {
     let sent = "1 ok aap=24 ap=0\n2 refused no_rows\n3 refused no_object 0\n4 a: 0 0 0 0\n\
         vote aap=192 flips=0\ntotal aap=224 ap=0 writes=64 reads=72 refused=2\n";
     assert_eq!(rt; (text(&out), ended), (sent, 8));
-    assert_eq!(rt; files.file("out").map(<[u8]>::len), Some(14 + 24 * 3 + 8 * 64));
+    assert_eq!(rt;
+        files.file("out").map(<[u8]>::len),
+        Some(14 + 24 * 3 + 8 * 64)
+    );
     // of 256 objects 255 are 85 triples, so the 86th is refused at its second copy
     let mut files = folder_of("", ["1", "1006", "1"], alloc)?;
     let script = many_objects(86, alloc)?;
@@ -192,7 +194,10 @@ fn copies_are_added_whole_or_not(rt: HostRuntime) -> Result<(), Fail> {
         vote aap=23454 flips=0\ntotal aap=23713 ap=0 writes=1006 reads=1006 refused=1\n";
     assert!(rt; text(&out).ends_with(last), "{}", text(&out));
     assert_eq!(rt; ended, 8);
-    assert_eq!(rt; files.file("out").map(<[u8]>::len), Some(14 + 24 * 255 + 8 * 1006));
+    assert_eq!(rt;
+        files.file("out").map(<[u8]>::len),
+        Some(14 + 24 * 255 + 8 * 1006)
+    );
     Ok(())
 }
 
@@ -238,9 +243,15 @@ fn faulty_flips_are_told(rt: HostRuntime) -> Result<(), Fail> {
         ("1 1 0 0", "flips line 1 number\n"),
         ("1 0 64 0", "flips line 1 number\n"),
         ("1 0 0 64", "flips line 1 number\n"),
-        ("4 9999999999999999999999999999999999999999999 0 0", "flips line 1 number\n"),
+        (
+            "4 9999999999999999999999999999999999999999999 0 0",
+            "flips line 1 number\n",
+        ),
         ("2 0 0 0\n1 0 0 0\n", "flips line 2 number\n"),
-        ("# none\n\n4 0 63 63 # last\n4 0 0 0\n3 0 0 0", "flips line 5 number\n"),
+        (
+            "# none\n\n4 0 63 63 # last\n4 0 0 0\n3 0 0 0",
+            "flips line 5 number\n",
+        ),
     ] {
         let (ended, out) = guard(&mut files, PRINTED, flips, alloc)?;
         assert_eq!(rt; (text(&out), ended), (sent, 18), "{flips}");
@@ -259,7 +270,11 @@ fn strangers_are_told(rt: HostRuntime) -> Result<(), Fail> {
         ("bbop_trsp_init a, 4, 2", 17, "guard table 0\n"),
         ("bbop_trsp_init x1, 4, 2", 17, "guard table 0\n"),
         ("bbop_trsp_init xa, 4, 2", 17, "guard table 1\n"),
-        ("bbop_trsp_init xa, 4, 2\nbbop_trsp_init ya, 4, 2", 17, "guard table 2\n"),
+        (
+            "bbop_trsp_init xa, 4, 2\nbbop_trsp_init ya, 4, 2",
+            17,
+            "guard table 2\n",
+        ),
         (
             "bbop_trsp_init xa, 4, 2\nbbop_trsp_init ya, 4, 3\nbbop_trsp_init za, 4, 2",
             17,
@@ -341,8 +356,7 @@ fn segments_are_voted_in_each_bank(rt: HostRuntime) -> Result<(), Fail> {
         sent.push_str("1 ok aap=18 ap=0\n2 ok aap=0 ap=0\n")?;
         sent.push_str(printed.as_str().strip_suffix(" 5").ok_or("printed")?)?;
         sent.push_str(last)?;
-        let totals = format!(
-            in alloc;
+        let totals = format!(in alloc;
             "vote aap=108 flips={}\ntotal aap=126 ap=0 writes={} reads={} refused=0\n",
             times,
             146 + times,
@@ -361,7 +375,10 @@ fn guarded_runs_tell_what_fails(rt: HostRuntime) -> Result<(), Fail> {
     // the lines of the votes and of the totals are puts of their own
     for (put_call, sent) in [
         (4u64, "1 ok aap=6 ap=0\n2 ok aap=0 ap=0\n3 a: 0 1 2 3\n"),
-        (5, "1 ok aap=6 ap=0\n2 ok aap=0 ap=0\n3 a: 0 1 2 3\nvote aap=36 flips=0\n"),
+        (
+            5,
+            "1 ok aap=6 ap=0\n2 ok aap=0 ap=0\n3 a: 0 1 2 3\nvote aap=36 flips=0\n",
+        ),
     ] {
         let (ended, out) = guard_failing(&mut files, PRINTED, "", put_call, 0, alloc)?;
         assert_eq!(rt; (text(&out), ended), (sent, 3), "{put_call}");

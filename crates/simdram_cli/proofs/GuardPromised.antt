@@ -218,8 +218,11 @@ pub short_read : (read : Result (List Instruction) Refusal) (script : List Instr
     → with_short_names read ≡ Ok script → ShortRead read script
 short_read (Ok one) script e =
     let both = short_by (first_long_name one) one script e in
-    record { is = ap (λ (x : List Instruction). Ok x) both.0; short = ap first_long_name
-        (sym both.0) ∙ both.1 }
+    record {
+      is = ap (λ (x : List Instruction). Ok x) both.0;
+      short = ap first_long_name
+          (sym both.0) ∙ both.1;
+    }
 short_read (Err r) script e = absurd (cc)
 
 pub record TripleRead (read : Result Image Refusal) (i : Image) : Type 0 where
@@ -235,8 +238,11 @@ pub triple_read : (read : Result Image Refusal) (i : Image) → in_triples read 
     → TripleRead read i
 triple_read (Ok one) i e =
     let both = triple_by (first_stranger one.table) one i e in
-    record { is = ap (λ (x : Image). Ok x) both.0; triples = ap (λ (x : Image). first_stranger
-        x.table) (sym both.0) ∙ both.1 }
+    record {
+      is = ap (λ (x : Image). Ok x) both.0;
+      triples = ap (λ (x : Image). first_stranger
+          x.table) (sym both.0) ∙ both.1;
+    }
 triple_read (Err r) i e = absurd (cc)
 
 script_by : (read : Result (List Instruction) ScriptFault) (script : List Instruction)

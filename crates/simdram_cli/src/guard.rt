@@ -136,7 +136,11 @@ fn put_totals<'a, S: Sink, D: Dram>(
     if out.put(votes.as_slice()).is_err() {
         return Err(Stop::PutFailed);
     }
-    if guard.machine().put_total(outcome.refused, chip, out).is_err() {
+    if guard
+        .machine()
+        .put_total(outcome.refused, chip, out)
+        .is_err()
+    {
         return Err(Stop::PutFailed);
     }
     Ok(())
@@ -224,7 +228,15 @@ fn work_guarded<'a, F: Folder, S: Sink, D: Dram>(
         Ok(outcome) => outcome,
         Err(fault) => return Err(fault_stop(fault)),
     };
-    finish_guarded(&mut guard, outcome, plan.flips.len(), name, files, out, chip)?;
+    finish_guarded(
+        &mut guard,
+        outcome,
+        plan.flips.len(),
+        name,
+        files,
+        out,
+        chip,
+    )?;
     Ok(outcome.refused)
 }
 
@@ -263,7 +275,9 @@ fn work_on_flips<'a, F: Folder, S: Sink, D: Dram>(
         script,
         flips: &flips,
     };
-    work_guarded(prog, plan, image, &mut stage, names.out, files, out, chip, alloc)
+    work_guarded(
+        prog, plan, image, &mut stage, names.out, files, out, chip, alloc,
+    )
 }
 
 /// Loads IMAGE, whose objects stand in three copies, and FLIPS, and does the script on it.

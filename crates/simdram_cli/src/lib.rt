@@ -23,7 +23,7 @@ mod work;
 pub use stop::{Stop, status_of, tell};
 pub use top::{one_job, simdram};
 pub use words::{
-    Command, CompileNames, CostNames, ExecNames, IMAGE_MAX, InitNames, MigrateNames, OPS_MAX,
-    PROG_MAX, QUERY_MAX, RunNames, SCRIPT_MAX, ScanNames, command_of, limits,
+    Command, CompileNames, CostNames, ExecNames, FLIPS_MAX, GuardNames, IMAGE_MAX, InitNames,
+    MigrateNames, OPS_MAX, PROG_MAX, QUERY_MAX, RunNames, SCRIPT_MAX, ScanNames, command_of,
+    limits,
 };
-pub use words::{FLIPS_MAX, GuardNames};

@@ -267,12 +267,7 @@ fn tell_scan<S: Sink>(why: ScanWhy, k: u8, out: &mut S) -> Result<(), Failed>
     ensures failed { OnErr result (Rose (S.view out.old).faults (S.view out.new).faults) }
 {
     let mut buffer = Buffer::new();
-    put_three(
-        refused_front(why),
-        buffer.format(k).as_bytes(),
-        b"\n",
-        out,
-    )
+    put_three(refused_front(why), buffer.format(k).as_bytes(), b"\n", out)
 }
 
 /// Puts the line of an instruction that names an object of more than 15 bytes.

@@ -36,9 +36,9 @@ use crate::show::show;
 use crate::soak::soak;
 use crate::stop::{Stop, status_of, tell};
 use crate::words::{
-    Command, CompileNames, ExecNames, InitNames, MigrateNames, RunNames, ScanNames, command_of,
+    Command, CompileNames, ExecNames, GuardNames, InitNames, MigrateNames, RunNames, ScanNames,
+    command_of,
 };
-use crate::words::GuardNames;
 use dram_model::Dram;
 use host_edge::{Folder, Sink};
 use std::alloc::Global;

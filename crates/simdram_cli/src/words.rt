@@ -147,8 +147,13 @@ fn five_differ(a: &str, b: &str, c: &str, d: &str, e: &str) -> bool
 fn guard_apart(names: &GuardNames<'_>) -> bool
     ensures { result ≡ guard_apart names.now }
 {
-    five_differ(names.ops, names.prog, names.script, names.flips, names.image)
-        && five_differ(names.ops, names.prog, names.script, names.flips, names.out)
+    five_differ(
+        names.ops,
+        names.prog,
+        names.script,
+        names.flips,
+        names.image,
+    ) && five_differ(names.ops, names.prog, names.script, names.flips, names.out)
 }
 
 /// Whether no two of three names are equal.
