@@ -14,8 +14,13 @@ use Rattle.uprog_bin.specs.Spelling.{program_bytes}
 use Rattle.uprog_code.specs.Texts.{TextOp, ImplementsAll, text_op}
 use Rattle.bbop_isa.specs.declared.instr.ScriptFault.{ScriptFault}
 use Rattle.bbop_isa.specs.Forms.{Instruction}
+use Rattle.bbop_isa.specs.Forms.{Init, Bbop, Load as ByLoad, Fill, Print as ByPrint, Free, Order}
 use Rattle.bbop_isa.specs.Script.{script_of}
-use Rattle.machine_model.specs.Agrees.{Agrees, HoldsNumbers}
+use Rattle.machine_model.specs.Agrees.{Agrees, IsPlain}
+use Rattle.machine_model.specs.declared.Reply.{Reply}
+use Rattle.machine_model.specs.declared.Reply.TheVariants.{Done as ByDone, Refused}
+use Rattle.machine_model.specs.Script.{plus, replies}
+use Rattle.uprog_code.specs.declared.walker.Counts.{Counts}
 use Rattle.machine_model.specs.Operations.{Program, Operations, meaning_in, operations_in}
 use Rattle.machine_model.specs.Operations.{operations_of}
 use Rattle.machine_model.specs.Opened.{Image, opened, rows_of, words_of}
@@ -26,7 +31,7 @@ use Rattle.machine_model.proofs.Texts.{same_operations}
 use Rattle.op_text.specs.Language.{Operation}
 use Rattle.op_text.specs.OpsOf.{IsOpsOf}
 use Rattle.guard_model.specs.declared.Flip.{Flip}
-use Rattle.guard_model.specs.Guarded.{guarded_replies, guarded_rows, guarded_rows_at_end}
+use Rattle.guard_model.specs.Guarded.{guarded_replies, guarded_rows, guarded_rows_at_end, joined, plain_ones}
 use Rattle.guard_model.specs.Guarded.{guarded_said_by, guarded_said_in_rows}
 use Rattle.guard_model.specs.Guarded.{guarded_said_in_words, guarded_table, guarded_table_at_end}
 use Rattle.guard_model.specs.Guarded.{guarded_words, guarded_words_at_end, lone_words_at_end}
@@ -58,12 +63,13 @@ use Rattle.simdram_cli.specs.Guard.{job_of_flips, job_of_texts, last_steps, oper
 use Rattle.simdram_cli.specs.Guard.{refused_of, replies_by, replies_of, run_names, said_by}
 use Rattle.simdram_cli.specs.Guard.{said_of, state_by, table_at_last, tally_of, votes_of}
 use Rattle.simdram_cli.specs.Guard.{work_steps}
-use Rattle.simdram_cli.specs.Headline.{IsJob, read_as}
+use Rattle.simdram_cli.specs.Headline.{IsJob, IsNoBadWalk, read_as}
 use Rattle.simdram_cli.specs.Inputs.{image_of, ops_in, script_in, script_or_refusal}
 use Rattle.simdram_cli.specs.Job.{done_status}
 use Rattle.simdram_cli.specs.Reads.{IsText}
 use Rattle.simdram_cli.proofs.Foreseen.{spells_at, tell_both, text_at, was_read}
 use Rattle.simdram_cli.proofs.Guarding.{Apart}
+use Rattle.simdram_cli.proofs.NoWalks.{AllEnd, all_end, no_walks}
 use Rattle.simdram_cli.proofs.Promised.{at_other, at_own}
 use Rattle.simdram_cli.proofs.Promises.{table_is}
 
@@ -255,6 +261,33 @@ names_of : (text : List ℕ) (script : List Instruction) → script_in text ≡ 
     → AllByRecursion HasName script
 names_of text script e = accepted_has_names text script (script_by (script_of text) script e)
 
+-- no walk is stuck
+
+joined_walks : (counts : Counts) (rs : List Reply) → AllByRecursion IsNoBadWalk rs
+    → IsNoBadWalk (joined counts rs)
+joined_walks counts [] all walk e = absurd (cc)
+joined_walks counts (ByDone more ∷ rs) all = joined_walks (plus counts more) rs all.1
+joined_walks counts (Refused reason ∷ rs) all = all.0
+
+ones_plain : (instr : Instruction) → IsPlain instr → AllByRecursion IsPlain (plain_ones instr)
+ones_plain (Init name count n) plain = (plain, (plain, (plain, tt)))
+ones_plain (Bbop op dst srcs count n) plain = (plain, (plain, (plain, tt)))
+ones_plain (ByLoad name values) plain = (tt, (tt, (tt, tt)))
+ones_plain (Fill name value) plain = (tt, (tt, (tt, tt)))
+ones_plain (ByPrint name) plain = (tt, tt)
+ones_plain (Free name) plain = (tt, (tt, (tt, tt)))
+ones_plain (Order order) plain = (tt, tt)
+
+walks_all : (g : Geometry) (o : Operations) (table : List Named) (script : List Instruction)
+    → AllEnd o → AllByRecursion IsPlain script
+    → AllByRecursion IsNoBadWalk (guarded_replies g o table script)
+walks_all g o table [] ends plain = tt
+walks_all g o table (instr ∷ script) ends plain = (
+  joined_walks (record { aap = 0; ap = 0 }) (replies g o table (plain_ones instr))
+      (no_walks g o table (plain_ones instr) ends (ones_plain instr plain.0)),
+  walks_all g o (guarded_table g o table instr) script ends plain.1,
+)
+
 -- what is said in words
 
 tables_end : (g : Geometry) (o : Operations) (meaning : List ℕ → ℕ → List ℕ → List ℕ)
@@ -370,6 +403,9 @@ in_words : (t : List TextOp) (out : List ℕ) (job : GuardJob) (after : Files) (
     → GuardedWords t job old new
 in_words t out job after old new status implements d = record {
   replies = replies_same t job implements;
+  walks = subst (AllByRecursion IsNoBadWalk) (replies_same t job implements)
+      (walks_all job.image.geometry (operations_in job.program) job.image.table job.script
+      (all_end job.program t implements) d.done.plain);
   table = table_same t job implements;
   triples = triples_end job.image.geometry (operations_in job.program) job.image.table job.script
       d.names d.triples;

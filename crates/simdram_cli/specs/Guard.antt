@@ -40,7 +40,7 @@ use Rattle.simdram_cli.specs.declared.words.TheConstants.{FLIPS_MAX, IMAGE_MAX, 
 use Rattle.simdram_cli.specs.declared.stop.Stop.{Stop}
 use Rattle.simdram_cli.specs.Ends.{IsCompiled, StoppedEarly}
 use Rattle.simdram_cli.specs.Flips.{flips_in, guarded_image_of, guarded_script_in}
-use Rattle.simdram_cli.specs.Headline.{IsJob, Job, ProgramWritten, read_as}
+use Rattle.simdram_cli.specs.Headline.{IsJob, IsNoBadWalk, Job, ProgramWritten, read_as}
 use Rattle.simdram_cli.specs.Inputs.{ops_in}
 use Rattle.simdram_cli.specs.Job.{done_status, opened_counters}
 use Rattle.simdram_cli.specs.Reads.{IsText}
@@ -279,9 +279,10 @@ pub record Mended (t : List TextOp) (job : GuardJob) (old new : World) : Type 0 
       (first_copies (words_of job.image)) (replies_by t job) job.script)
 
 -- By the ops of a text that the program does: the replies and the table are the guarded word
--- machine's, whatever the flips are; and what is damaged so is mended
+-- machine's, whatever the flips are, and no walk was stuck; and what is damaged so is mended
 pub record GuardedWords (t : List TextOp) (job : GuardJob) (old new : World) : Type 0 where
   pub replies : replies_of job ≡ replies_by t job
+  pub walks : AllByRecursion IsNoBadWalk (replies_by t job)
   pub table : table_at_last job ≡ table_of (state_by t job)
   pub triples : first_stranger (table_at_last job) ≡ None
   pub mended : IsMendable t job → Mended t job old new
