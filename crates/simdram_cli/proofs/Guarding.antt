@@ -1,11 +1,12 @@
 -- How a guarded run goes and ends.
 use Rattle.std.proofs.Common.{◌≡◌, ◌⊎◌, ℕ, ◌+◌, ◌*◌, ◌≤◌, Bool, true, false, cond, List, [], ◌∷◌}
 use Rattle.std.proofs.Common.{◌++◌, length, Option, Some, None, refl, sym, ◌∙◌, ap, subst, inl, inr}
-use Rattle.std.proofs.Common.{append-nil, arith}
+use Rattle.std.proofs.Common.{append-nil, arith, map}
 use Rattle.std.specs.Prelude.{Result, Ok, Err, IfOk, bytes_eq, count_by, not, position}
 use Rattle.std.specs.List.{AllByRecursion, list_all, position_from}
 use Rattle.std.specs.Option.{option_map}
 use Rattle.std.proofs.lemmas.Iterator.Adapters.{position_from-zero}
+use Rattle.std.proofs.lemmas.List.{length-map}
 use Rattle.dram_model.specs.declared.dram.Counters.{Counters}
 use Rattle.dram_model.specs.declared.geometry.Geometry.{Geometry}
 use Rattle.dram_model.specs.Chip.{Banks, Event, Grew, Log, LogIs}
@@ -21,7 +22,8 @@ use Rattle.object_alloc.specs.Spelling.{IsImage, image_bytes}
 use Rattle.object_steps.specs.declared.fault.StepFault.{StepFault}
 use Rattle.object_steps.specs.declared.fault.StepFault.TheVariants as step_fault
 use Rattle.uprog_bin.specs.Spelling.{program_bytes}
-use Rattle.bbop_isa.specs.Forms.{Instruction}
+use Rattle.bbop_isa.specs.declared.instr.Instr.{Instr}
+use Rattle.bbop_isa.specs.Forms.{Instruction, view_of}
 use Rattle.bbop_isa.specs.Lines.{lines_of}
 use Rattle.bbop_isa.specs.Words.{words_in}
 use Rattle.text_lex.specs.Lexical.{items_of}
@@ -251,14 +253,14 @@ log_is : (i : Image) (events : List Event) (a b : Option Log) → LogIs (row_wri
 log_is i events a b is grew = LogIs-more (row_writes i) events a b is grew
 
 pub worked : (job : GuardJob) (shape : Geometry) (p : Program) (table : List Named) (turn : Turn)
-    (last : List Named) (start now : ChipView) (votes refused : ℕ)
-    → (b : Begins job shape p table turn start)
+    (own : Geometry) (last : List Named) (start now : ChipView) (votes refused : ℕ)
+    → (b : Begins job shape p table turn start) → own ≡ shape
     → Did shape p table turn job.flips job.script last start now votes refused
-    → Worked job shape last now votes refused
-worked job shape p table turn last start now votes refused b d =
+    → Worked job own last now votes refused
+worked job shape p table turn own last start now votes refused b e d =
     let on = b.opened_on in
     record {
-      shape_is = b.shape_is;
+      shape_is = e ∙ b.shape_is;
       table_is = rw (b.shape_is, b.program_is, b.table_is) at d.table_is;
       banks = rw (b.shape_is, b.program_is, b.table_is, on.banks) at d.banks;
       counters = rw (b.shape_is, b.program_is, b.table_is, on.counters) at d.counters;
@@ -430,6 +432,23 @@ flips_unread names program script i stop old new sink chip n = record {
   done = tt;
 }
 
+-- so it is read for a script as the code keeps it
+
+pub unread_mapped : (g : Geometry) (name : List ℕ) (script : List Instr) (reason : Reason)
+    (old new : FolderView)
+    → NotRead (flips_in g (length script)) name FLIPS_MAX reason old new
+    → NotRead (flips_in g (length (map view_of script))) name FLIPS_MAX reason old new
+unread_mapped g name script reason old new n =
+    subst (λ (k : ℕ). NotRead (flips_in g k) name FLIPS_MAX reason old new)
+    (sym (length-map script view_of)) n
+
+pub read_mapped : (g : Geometry) (name : List ℕ) (script : List Instr) (flips : List Flip)
+    (old new : FolderView) → ReadAs (flips_in g (length script)) name FLIPS_MAX flips old new
+    → ReadAs (flips_in g (length (map view_of script))) name FLIPS_MAX flips old new
+read_mapped g name script flips old new r =
+    subst (λ (k : ℕ). ReadAs (flips_in g k) name FLIPS_MAX flips old new)
+    (sym (length-map script view_of)) r
+
 -- there was no memory for the stage
 pub no_stage : (names : GuardNames) (program : Program) (script : List Instruction) (i : Image)
     (stop : Stop) (flips : List Flip) (old new : FolderView) (sink : SinkView) (chip : ChipView)
@@ -458,25 +477,31 @@ done_on program script i flips read chip (Ok refused) e is plain d =
 done_on program script i flips read chip (Err stop) e is plain d = tt
 
 pub flips_worked : (names : GuardNames) (program : Program) (script : List Instruction) (i : Image)
-    (flips : List Flip) (result : Result ℕ Stop) (old mid : FolderView) (sink : SinkView)
+    (flips given : List Flip) (result : Result ℕ Stop) (old mid : FolderView) (sink : SinkView)
     (chip : ChipView) (new : World) → IsImage i.geometry i.table i.rows
     → AllByRecursion IsPlain script
     → ReadAs (flips_in i.geometry (length script)) names.flips.now FLIPS_MAX flips old mid
-    → Goes (work_steps names.out.now (guard_job program script i flips)) (end_of result)
+    → given ≡ flips
+    → Goes (work_steps names.out.now (guard_job program script i given)) (end_of result)
     (world mid sink chip) new
-    → IfOk result (GuardDone (guard_job program script i flips) new.chip)
+    → IfOk result (GuardDone (guard_job program script i given) new.chip)
     → FlipsWorked names program script i (world old sink chip) new result
-flips_worked names program script i flips result old mid sink chip new is plain r g d = record {
-  text = r.text;
-  is_text = loaded_text names.flips.now FLIPS_MAX r.text (world old sink chip)
-      (world mid sink chip) (r.loaded sink chip);
-  goes = loading_goes names.flips.now FLIPS_MAX r.text
-      (flips_in i.geometry (length script) r.text) _ flips (end_of result)
-      (world old sink chip) (world mid sink chip) new r.value_is (r.loaded sink chip)
-      (inl (world mid sink chip, (nothing_read (world mid sink chip), g)));
-  done = done_on program script i flips (flips_in i.geometry (length script) r.text) new.chip
-      result r.value_is is plain d;
-}
+flips_worked names program script i flips given result old mid sink chip new is plain r e g d =
+    let own = subst (λ (xs : List Flip). Goes (work_steps names.out.now
+    (guard_job program script i xs)) (end_of result) (world mid sink chip) new) e g in
+    let done = subst (λ (xs : List Flip). IfOk result (GuardDone (guard_job program script i xs)
+    new.chip)) e d in
+    record {
+      text = r.text;
+      is_text = loaded_text names.flips.now FLIPS_MAX r.text (world old sink chip)
+          (world mid sink chip) (r.loaded sink chip);
+      goes = loading_goes names.flips.now FLIPS_MAX r.text
+          (flips_in i.geometry (length script) r.text) _ flips (end_of result)
+          (world old sink chip) (world mid sink chip) new r.value_is (r.loaded sink chip)
+          (inl (world mid sink chip, (nothing_read (world mid sink chip), own)));
+      done = done_on program script i flips (flips_in i.geometry (length script) r.text) new.chip
+          result r.value_is is plain done;
+    }
 
 -- IMAGE
 

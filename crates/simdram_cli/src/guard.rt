@@ -215,11 +215,11 @@ fn work_guarded<'a, F: Folder, S: Sink, D: Dram>(
     requires stage { image.geometry.words ≤ length stage.old }
     ensures borrow { D.borrow chip.new ≡ D.borrow chip.old }
     ensures goes { Goes (work_steps name.now (job_on prog.entry.programs
-        (map view_of plan.script.now) (image_found (found_in image.entry)) plan.flips.now))
+        (map view_of plan.entry.script.now) (image_found (found_in image.entry)) plan.entry.flips.now))
         (end_of result) (world (F.view files.old) (S.view out.old) (D.view chip.old))
         (world (F.view files.new) (S.view out.new) (D.view chip.new)) }
     ensures done { IfOk result (GuardDone (job_on prog.entry.programs
-        (map view_of plan.script.now) (image_found (found_in image.entry)) plan.flips.now)
+        (map view_of plan.entry.script.now) (image_found (found_in image.entry)) plan.entry.flips.now)
         (D.view chip.new)) }
 {
     let machine = open(prog, image, chip, alloc)?;
@@ -304,10 +304,10 @@ fn guard_image<'a, F: Folder, S: Sink, D: Dram>(
         Ok(image) => image,
         Err(no) => return Err(image_stop(no)),
     };
-    if let Some(k) = first_stranger(&image.table) {
-        return Err(Stop::GuardTable(k));
+    match first_stranger(&image.table) {
+        Some(k) => Err(Stop::GuardTable(k)),
+        None => work_on_flips(prog, script, image, names, files, out, chip, alloc),
     }
-    work_on_flips(prog, script, image, names, files, out, chip, alloc)
 }
 
 /// Does SCRIPT on IMAGE with FLIPS and a program; answers how many instructions were refused.
