@@ -335,10 +335,10 @@ load_17 : {A : Type 0} (name : List ℕ) (limit : ℕ) (text : List ℕ) (read :
     → ((value : A) → read ≡ Ok value → EndsOr17 (foreseen (rest value) files))
     → ((r : Refusal) → read ≡ Err r → r.status ≡ 17)
     → EndsOr17 (foreseen (loading name limit text read rest) files)
-load_17 name limit text (Ok value) rest files there within more no =
+load_17 name limit text (Ok value) rest files there within more refused =
     rw (there, le-ltb limit (length text) within) (more value refl)
-load_17 name limit text (Err r) rest files there within more no =
-    rw (there, le-ltb limit (length text) within) (no r refl)
+load_17 name limit text (Err r) rest files there within more refused =
+    rw (there, le-ltb limit (length text) within) (refused r refl)
 
 -- a good file, with the text that was read
 record GoodAt {A : Type 0} (read : List ℕ → Result A Refusal) (limit : ℕ)

@@ -119,10 +119,11 @@ work_sent : (out : List ℕ) (job : GuardJob) → sent_by (work_steps out job)
     (replies_of job)
 work_sent out job =
     let total = total_line (tally_of job) (refused_of job) in
+    let votes = vote_line (votes_of job) (length job.flips) in
     script_sent job.image.geometry (operations_in job.program) job.flips 1 job.image.table
     (opened job.image) job.script (last_steps out job)
-    ∙ ap (λ w. lines 1 (said_of job) ++ (vote_line (votes_of job) (length job.flips) ++ w))
-    (append-nil total)
+    ∙ ap (λ w. lines 1 (said_of job) ++ (votes ++ w)) (append-nil total)
+    ∙ sym (append_assoc (lines 1 (said_of job)) votes total)
 
 work_files : (out : List ℕ) (job : GuardJob) (f : Files) → files_after (work_steps out job) f
     ≡ with_file out (image_at_last job) f
@@ -265,7 +266,7 @@ names_of text script e = accepted_has_names text script (script_by (script_of te
 
 joined_walks : (counts : Counts) (rs : List Reply) → AllByRecursion IsNoBadWalk rs
     → IsNoBadWalk (joined counts rs)
-joined_walks counts [] all walk e = absurd (cc)
+joined_walks counts [] all = λ walk e. cc
 joined_walks counts (ByDone more ∷ rs) all = joined_walks (plus counts more) rs all.1
 joined_walks counts (Refused reason ∷ rs) all = all.0
 
