@@ -25,6 +25,8 @@ mod failing;
 #[cfg(test)]
 mod greatest;
 #[cfg(test)]
+mod guarded;
+#[cfg(test)]
 mod jobs;
 #[cfg(test)]
 mod listening;

@@ -14,11 +14,14 @@ use Rattle.simdram_cli.specs.declared.words.Command.TheVariants.{Scan}
 use Rattle.simdram_cli.specs.declared.words.Command.TheVariants.{Trace}
 use Rattle.simdram_cli.specs.declared.words.TraceNames.{TraceNames}
 use Rattle.simdram_cli.specs.declared.words.Command.TheVariants.{Replay}
+use Rattle.simdram_cli.specs.declared.words.Command.TheVariants.{Guard}
+use Rattle.simdram_cli.specs.declared.words.GuardNames.{GuardNames}
 use Rattle.simdram_cli.specs.Words.{HasNumbers, IsApart, are_apart, command_of, command_on_one}
 use Rattle.simdram_cli.specs.Words.{command_on_four, command_on_two, cost_on, init_on}
 use Rattle.simdram_cli.specs.Words.{inputs_apart, is_number, soak_on, value_of}
 use Rattle.simdram_cli.specs.Words.{traced_apart, trace_on}
 use Rattle.simdram_cli.specs.Words.{command_on_three, replay_apart}
+use Rattle.simdram_cli.specs.Words.{guard_apart, guard_on}
 
 -- the files of a command are apart, and its numbers are in range
 pub record IsRight (command : Command) : Type 0 where
@@ -144,6 +147,13 @@ trace_right verb names =
       numbers = tt;
     })
 
+guard_right : (verb : List ℕ) (names : GuardNames) → AreRight (guard_on verb names)
+guard_right verb names =
+    if_so (bytes_eq verb (codes "guard") && guard_apart names) (Guard names) (λ e. record {
+      apart = second_holds (bytes_eq verb (codes "guard")) (guard_apart names) e;
+      numbers = tt;
+    })
+
 words_right : (words : List (Bor (List ℕ))) → AreRight (command_of words)
 words_right [] = tt
 words_right (a ∷ []) = tt
@@ -167,7 +177,16 @@ words_right (verb ∷ ops ∷ prog ∷ script ∷ image ∷ out ∷ []) =
       apart = second_holds (bytes_eq verb.now (codes "run")) apart e;
       numbers = tt;
     }) (trace_right verb.now traced)
-words_right (a ∷ b ∷ c ∷ d ∷ f ∷ h ∷ i ∷ rest) = tt
+words_right (verb ∷ ops ∷ prog ∷ script ∷ image ∷ flips ∷ out ∷ []) =
+    guard_right verb.now (record {
+      ops = ops;
+      prog = prog;
+      script = script;
+      image = image;
+      flips = flips;
+      out = out;
+    })
+words_right (a ∷ b ∷ c ∷ d ∷ f ∷ h ∷ i ∷ j ∷ rest) = tt
 
 right_one : (o : Option Command) (command : Command) → o ≡ Some command → AreRight o
     → IsRight command

@@ -51,6 +51,23 @@ use Rattle.simdram_cli.specs.Tracing.{exec_of, full_with, status_or, trace_steps
 use Rattle.simdram_cli.specs.Tracing.{traced_job_steps, traced_steps}
 use Rattle.simdram_cli.proofs.Promising.{full_so, recorded_of, traced_of}
 use Rattle.simdram_cli.specs.declared.words.Command.TheVariants.{Replay}
+use Rattle.simdram_cli.specs.declared.words.Command.TheVariants.{Guard}
+use Rattle.simdram_cli.specs.declared.words.GuardNames.{GuardNames}
+use Rattle.simdram_cli.specs.declared.words.TheConstants.{FLIPS_MAX}
+use Rattle.simdram_cli.specs.Flips.{flips_in, guarded_image_of, guarded_script_in, in_triples}
+use Rattle.simdram_cli.specs.Flips.{name_refusal, table_refusal, unless_some, with_short_names}
+use Rattle.simdram_cli.specs.Guard.{AreTexts, GuardTexts, flips_steps, guard_job, guard_job_steps}
+use Rattle.simdram_cli.specs.Guard.{guard_status, guard_steps, image_steps, job_of_texts}
+use Rattle.simdram_cli.specs.Guard.{work_steps as guard_work}
+use Rattle.simdram_cli.specs.Complete.{IsFlipsFile}
+use Rattle.cli_model.specs.Steps.{End}
+use Rattle.cli_model.specs.Foreseen.{refused_or}
+use Rattle.guard_model.specs.FlipText.{flips_of}
+use Rattle.guard_model.specs.Named.{first_long_name}
+use Rattle.guard_model.specs.Triples.{first_stranger}
+use Rattle.simdram_cli.proofs.GuardPromised.{short_read, triple_read}
+use Rattle.simdram_cli.proofs.GuardSteps.{flips_are, guard_so, opened_are, short_of, triples_of}
+use Rattle.simdram_cli.proofs.Guarding.{AreOthers, apart as guard_files_apart}
 use Rattle.simdram_cli.specs.declared.words.ScanNames.{ScanNames}
 use Rattle.simdram_cli.specs.declared.words.TheConstants.{QUERY_MAX}
 use Rattle.scan_model.specs.Checks.{checked}
@@ -399,6 +416,205 @@ good_ends name limit text read (Ok x) rest end files good is more =
 good_ends name limit text read (Err r) rest end files good is more =
     rw (good.there, le-ltb limit (length good.text) good.within) more
 
+-- the files foretell no end, or a refusal with status 17
+abbrev EndsOr17 : End → Type 0
+EndsOr17 Done = Unit {0}
+EndsOr17 (Stopped reason) = reason_status reason ≡ 17
+
+foretold_17 : (steps : List Step) (files : Files) (stop : Stop) → EndsOr17 (foreseen steps files)
+    → (foreseen steps files ≡ Stopped stop.reason) ⊎ IsFault stop.reason
+    → (reason_status stop.reason ≡ 17) ⊎ IsFault stop.reason
+foretold_17 steps files stop so (inl f) = inl (subst EndsOr17 f so)
+foretold_17 steps files stop so (inr f) = inr f
+
+stop_17 : (P : ℕ → Type 0) (stop : Stop) (a b : World) (status : ℕ) → status
+    ≡ reason_status stop.reason → Causes stop.failed stop.reason a b → NothingFailed a b → P 10
+    → P 17 → (reason_status stop.reason ≡ 17) ⊎ IsFault stop.reason → P status
+stop_17 P stop a b status answers c n ten seventeen (inl e) =
+    subst P (sym (answers ∙ e)) seventeen
+stop_17 P stop a b status answers c n ten seventeen (inr f) =
+    subst P (sym (answers ∙ step_wants stop.failed stop.reason a b c f n)) ten
+
+-- so the command is done, or answers 10 or 17
+ended_17 : (P : ℕ → Type 0) (steps : List Step) (done : ℕ) (ended : Ended) (a b : World)
+    (status : ℕ) (files : Files) → EndsOr17 (foreseen steps files) → IsForetold steps ended files
+    → EndsSo steps done ended a b status → NothingFailed a b → P done → P 10 → P 17 → P status
+ended_17 P steps done All a b status files so told s n d ten seventeen =
+    subst P (sym s.answers) d
+ended_17 P steps done (At stop) a b status files so told s n d ten seventeen =
+    stop_17 P stop a b status s.answers s.causes n ten seventeen
+    (foretold_17 steps files stop so told.1)
+
+-- a load of a file that is there, whose text is refused with 17 alone
+load_17 : {A : Type 0} (name : List ℕ) (limit : ℕ) (text : List ℕ) (read : Result A Refusal)
+    (rest : A → List Step) (files : Files) → files name ≡ Some text → length text ≤ limit
+    → ((value : A) → read ≡ Ok value → EndsOr17 (foreseen (rest value) files))
+    → ((r : Refusal) → read ≡ Err r → r.status ≡ 17)
+    → EndsOr17 (foreseen (loading name limit text read rest) files)
+load_17 name limit text (Ok value) rest files there within more refused =
+    rw (there, le-ltb limit (length text) within) (more value refl)
+load_17 name limit text (Err r) rest files there within more refused =
+    rw (there, le-ltb limit (length text) within) (refused r refl)
+
+-- a good file, with the text that was read
+record GoodAt {A : Type 0} (read : List ℕ → Result A Refusal) (limit : ℕ)
+    (file : Option (List ℕ)) (text : List ℕ) (value : A) : Type 0 where
+  there : file ≡ Some text
+  within : length text ≤ limit
+  accepted : read text ≡ Ok value
+
+good_at : {A : Type 0} (read : List ℕ → Result A Refusal) (limit : ℕ) (file : Option (List ℕ))
+    (text : List ℕ) → (good : IsGood read limit file) → IfSome file (λ b. b ≡ text)
+    → GoodAt read limit file text good.value
+good_at read limit file text good is =
+    let same = same_text file good.text text good.there is in
+    record {
+      there = good.there ∙ ap (λ x. Some x) same;
+      within = subst (λ (x : List ℕ). length x ≤ limit) same good.within;
+      accepted = ap read (sym same) ∙ good.accepted;
+    }
+
+same_read : {A : Type 0} (read : Result A Refusal) (a b : A) → read ≡ Ok a → read ≡ Ok b → a ≡ b
+same_read {A = A} read a b e f =
+    let g : ◌≡◌ {A = Result A Refusal} (Ok a) (Ok b) = sym e ∙ f in cc
+
+-- an accepted script is refused for a long name alone, and an accepted image for a stranger
+
+name_17 : (o : Option ℕ) (script : List Instruction) (r : Refusal)
+    → unless_some name_refusal o script ≡ Err r → r.status ≡ 17
+name_17 None script r e = absurd (cc)
+name_17 (Some k) script r e =
+    let same : name_refusal k ≡ r = cc in ap (λ (x : Refusal). x.status) (sym same)
+
+script_17 : (read : Result (List Instruction) Refusal) (script : List Instruction) (r : Refusal)
+    → read ≡ Ok script → with_short_names read ≡ Err r → r.status ≡ 17
+script_17 read script r e f =
+    name_17 (first_long_name script) script r (ap with_short_names (sym e) ∙ f)
+
+table_17 : (o : Option ℕ) (i : Image) (r : Refusal)
+    → unless_some table_refusal o i ≡ Err r → r.status ≡ 17
+table_17 None i r e = absurd (cc)
+table_17 (Some k) i r e =
+    let same : table_refusal k ≡ r = cc in ap (λ (x : Refusal). x.status) (sym same)
+
+image_17 : (read : Result Image Refusal) (i : Image) (r : Refusal) → read ≡ Ok i
+    → in_triples read ≡ Err r → r.status ≡ 17
+image_17 read i r e f = table_17 (first_stranger i.table) i r (ap in_triples (sym e) ∙ f)
+
+none_17 : {A : Type 0} (read : Result A Refusal) (value : A) (r : Refusal) → read ≡ Ok value
+    → read ≡ Err r → r.status ≡ 17
+none_17 read value r e f = absurd (cc)
+
+done_17 : (end : End) → end ≡ Done → EndsOr17 end
+done_17 end e = subst EndsOr17 (sym e) tt
+
+guard_job_17 : (names : GuardNames) (program : Program) (texts : GuardTexts) (files : Files)
+    → (script : IsScript (files names.script.now)) → (image : IsImageFile (files names.image.now))
+    → IsFlipsFile image.value.geometry (length script.value) (files names.flips.now)
+    → IfSome (files names.script.now) (λ b. b ≡ texts.script)
+    → IfSome (files names.image.now) (λ b. b ≡ texts.image)
+    → IfSome (files names.flips.now) (λ b. b ≡ texts.flips)
+    → EndsOr17 (foreseen (guard_job_steps names program texts) files)
+guard_job_17 names program texts files script image flips is_script is_image is_flips =
+    let s = good_at script_in SCRIPT_MAX (files names.script.now) texts.script script is_script in
+    let i = good_at image_of IMAGE_MAX (files names.image.now) texts.image image is_image in
+    let f = good_at (flips_in image.value.geometry (length script.value)) FLIPS_MAX
+    (files names.flips.now) texts.flips flips is_flips in
+    load_17 names.script.now SCRIPT_MAX texts.script (guarded_script_in texts.script)
+    (λ x. image_steps names program x texts.image texts.flips) files s.there s.within (λ x e.
+    let x_is = same_read (script_in texts.script) script.value x s.accepted
+    (short_read (script_in texts.script) x e).is in
+    load_17 names.image.now IMAGE_MAX texts.image (guarded_image_of texts.image)
+    (λ y. flips_steps names program x y texts.flips) files i.there i.within (λ y d.
+    let y_is = same_read (image_of texts.image) image.value y i.accepted
+    (triple_read (image_of texts.image) y d).is in
+    let read : flips_in y.geometry (length x) texts.flips ≡ Ok flips.value =
+    subst (λ (g : Image). flips_in g.geometry (length x) texts.flips ≡ Ok flips.value) y_is
+    (subst (λ (xs : List Instruction). flips_in image.value.geometry (length xs) texts.flips
+    ≡ Ok flips.value) x_is f.accepted) in
+    load_17 names.flips.now FLIPS_MAX texts.flips (flips_in y.geometry (length x) texts.flips)
+    (λ z. Take ∷ guard_work names.out.now (guard_job program x y z)) files f.there f.within (λ z c.
+    done_17 _ (loads_none_done (Take ∷ guard_work names.out.now (guard_job program x y z)) files (
+      (λ n. cc),
+      (
+        ((λ n. cc), (λ n. cc)),
+        opened_are (λ n. n ≡ 2 → ⊥) names.out.now (guard_job program x y z) (λ n. cc) (λ n. cc),
+      ),
+    ))) (λ r c. none_17 _ flips.value r read c))
+    (λ r d. image_17 (image_of texts.image) image.value r i.accepted d))
+    (λ r e. script_17 (script_in texts.script) script.value r s.accepted e)
+
+guard_17 : (names : GuardNames) (program : Program) (ops : List ℕ) (texts : GuardTexts)
+    (files : Files) → AreOthers names → AreGood (Guard names) (λ name. files name)
+    → IfSome (files names.ops.now) (λ b. b ≡ ops)
+    → IfSome (files names.script.now) (λ b. b ≡ texts.script)
+    → IfSome (files names.image.now) (λ b. b ≡ texts.image)
+    → IfSome (files names.flips.now) (λ b. b ≡ texts.flips)
+    → EndsOr17 (foreseen (guard_steps names program ops texts) files)
+guard_17 names program ops texts files apart good is_ops is_script is_image is_flips =
+    let bytes = program_bytes 2 program in
+    let stored = with_file names.prog.now bytes files in
+    let script = at_other names.script.now names.prog.now bytes files apart.script in
+    let image = at_other names.image.now names.prog.now bytes files apart.image in
+    let flips = at_other names.flips.now names.prog.now bytes files apart.flips in
+    let o = good_at ops_in OPS_MAX (files names.ops.now) ops good.0 is_ops in
+    load_17 names.ops.now OPS_MAX ops (ops_in ops) (λ t. Take ∷ Store names.prog.now bytes
+    ∷ guard_job_steps names program texts) files o.there o.within (λ t e.
+    guard_job_moved names program texts files stored (sym script) (sym image) (sym flips) good.1
+    good.2 good.3 is_script is_image is_flips)
+    (λ r e. none_17 (ops_in ops) good.0.value r o.accepted e)
+  where
+    moved : (P : Option (List ℕ) → Type 0) (a b : Option (List ℕ)) → a ≡ b → P a → P b
+    moved P a b e p = subst P e p
+
+    guard_job_moved : (names : GuardNames) (program : Program) (texts : GuardTexts)
+        (files other : Files) → files names.script.now ≡ other names.script.now
+        → files names.image.now ≡ other names.image.now
+        → files names.flips.now ≡ other names.flips.now
+        → (script : IsScript (files names.script.now))
+        → (image : IsImageFile (files names.image.now))
+        → IsFlipsFile image.value.geometry (length script.value) (files names.flips.now)
+        → IfSome (files names.script.now) (λ b. b ≡ texts.script)
+        → IfSome (files names.image.now) (λ b. b ≡ texts.image)
+        → IfSome (files names.flips.now) (λ b. b ≡ texts.flips)
+        → EndsOr17 (foreseen (guard_job_steps names program texts) other)
+    guard_job_moved names program texts files other e f g script image flips is_script is_image
+        is_flips =
+        let s : IsScript (other names.script.now) = record {
+          text = script.text;
+          there = sym e ∙ script.there;
+          within = script.within;
+          value = script.value;
+          accepted = script.accepted;
+        } in
+        let i : IsImageFile (other names.image.now) = record {
+          text = image.text;
+          there = sym f ∙ image.there;
+          within = image.within;
+          value = image.value;
+          accepted = image.accepted;
+        } in
+        guard_job_17 names program texts other s i
+        (moved (IsFlipsFile image.value.geometry (length script.value)) _ _ g flips)
+        (moved (λ o. IfSome o (λ b. b ≡ texts.script)) _ _ e is_script)
+        (moved (λ o. IfSome o (λ b. b ≡ texts.image)) _ _ f is_image)
+        (moved (λ o. IfSome o (λ b. b ≡ texts.flips)) _ _ g is_flips)
+
+guard_completes : (P : ℕ → Type 0) (names : GuardNames) (program : Program) (ops : List ℕ)
+    (texts : GuardTexts) (done : ℕ) (ended : Ended) (holds : Option Files) (a b : World)
+    (status : ℕ) → AreOthers names → AreGood (Guard names) (file_in holds)
+    → IsText holds names.ops.now ops → AreTexts names texts holds
+    → IfSome holds (IsForetold (guard_steps names program ops texts) ended)
+    → EndsSo (guard_steps names program ops texts) done ended a b status → NothingFailed a b
+    → P done → P 10 → P 17 → P status
+guard_completes P names program ops texts done ended None a b status apart good is read told so n d
+    ten seventeen = no_file ops_in OPS_MAX good.0
+guard_completes P names program ops texts done ended (Some files) a b status apart good is read told
+    so n d ten seventeen =
+    ended_17 P (guard_steps names program ops texts) done ended a b status files
+    (guard_17 names program ops texts files apart good is read.script read.image read.flips) told so
+    n d ten seventeen
+
 -- a line that is told last changes no file and no chip, and no count of faults falls
 record IsAfter (told new : World) : Type 0 where
   files : new.files ≡ told.files
@@ -547,6 +763,12 @@ completes (Trace names) old new status are e = λ good n.
 completes (Replay names) old new status are e = λ good n.
     completes_or (IsOneOf (10 ∷ 0 ∷ 14 ∷ [])) (replay_steps names e.texts) 0 geometry_differs old
     new status e.ends (replay_passes names e.texts old.files.holds good e.read) n refl refl refl
+completes (Guard names) old new status are e = λ good n.
+    let P = IsOneOf (10 ∷ 0 ∷ 8 ∷ 17 ∷ []) in
+    let job = job_of_texts e.program e.texts in
+    guard_completes P names e.program e.ops e.texts (guard_status job) e.ends.ended old.files.holds
+    old new status (guard_files_apart names are).others good e.is_text e.read e.ends.foretold
+    e.ends.so n (guard_so P job refl refl) refl refl
 
 -- where memory is taken
 
@@ -846,6 +1068,22 @@ replay_first names texts =
     (same_is P t.geometry (image_in texts.image) (λ e. cc) (λ e. cc)) (λ i.
     ((λ e. cc), ((λ e. cc), ((λ e. cc), ((λ e. cc), tt))))))
 
+guard_first : (but : Option (List ℕ)) (names : GuardNames) (program : Program)
+    (texts : GuardTexts) → TakesFirst but (guard_job_steps names program texts)
+guard_first but names program texts =
+    let P : ℕ → Type 0 = λ s. s ≡ 10 → ⊥ in
+    loading_first but names.script.now SCRIPT_MAX texts.script (guarded_script_in texts.script)
+    (λ script. image_steps names program script texts.image texts.flips)
+    (short_of P (script_of texts.script) (λ e. cc) (λ e. cc)) (λ script.
+    loading_first but names.image.now IMAGE_MAX texts.image (guarded_image_of texts.image)
+    (λ i. flips_steps names program script i texts.flips)
+    (triples_of P (image_in texts.image) (λ e. cc) (λ e. cc)) (λ i.
+    loading_first but names.flips.now FLIPS_MAX texts.flips
+    (flips_in i.geometry (length script) texts.flips)
+    (λ flips. Take ∷ guard_work names.out.now (guard_job program script i flips))
+    (flips_are P (flips_of i.geometry (length script) texts.flips) (λ e. cc)) (λ flips.
+    opened_are P names.out.now (guard_job program script i flips) (λ e. cc) (λ e. cc))))
+
 -- what want of memory leaves
 pub spares : (command : Command) (old new : World) (status : ℕ)
     → CommandEnds command old new status → Spares command old new status
@@ -905,6 +1143,15 @@ spares (Trace names) old new status e = λ ten.
 spares (Replay names) old new status e =
     spares_by None (replay_steps names e.texts) 0 old new status e.ends
     (replay_first names e.texts) (λ f. cc)
+spares (Guard names) old new status e =
+    let but = Some names.prog.now in
+    spares_by but (guard_steps names e.program e.ops e.texts)
+    (guard_status (job_of_texts e.program e.texts)) old new status e.ends
+    (ops_first but names.ops.now e.ops (Take
+    ∷ Store names.prog.now (program_bytes 2 e.program)
+    ∷ guard_job_steps names e.program e.texts)
+    (inl (refl, guard_first but names e.program e.texts)))
+    (guard_so (λ s. s ≡ 10 → ⊥) (job_of_texts e.program e.texts) (λ f. cc) (λ f. cc))
 
 -- on the words of a command
 

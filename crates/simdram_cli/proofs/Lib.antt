@@ -32,4 +32,7 @@ pub mod Scanning
 pub mod Tracing
 pub mod Traced
 pub mod Replaying
+pub mod Guarding
+pub mod GuardSteps
+pub mod GuardPromised
 mod Showing

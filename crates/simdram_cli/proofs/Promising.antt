@@ -50,6 +50,11 @@ use Rattle.simdram_cli.specs.Tracing.{store_steps, total_steps, trace_steps, tra
 use Rattle.simdram_cli.specs.Tracing.{unless_fits}
 use Rattle.simdram_cli.proofs.Traced.{traced}
 use Rattle.simdram_cli.specs.declared.words.Command.TheVariants.{Replay}
+use Rattle.simdram_cli.specs.declared.words.Command.TheVariants.{Guard}
+use Rattle.simdram_cli.specs.Guard.{guard_steps, job_of_texts}
+use Rattle.simdram_cli.proofs.GuardPromised.{guard_promised}
+use Rattle.simdram_cli.proofs.GuardSteps.{GivesOfGuard, guard_of, guard_so}
+use Rattle.simdram_cli.proofs.Guarding.{apart as guard_files_apart}
 use Rattle.simdram_cli.specs.declared.words.InitNames.{InitNames}
 use Rattle.simdram_cli.specs.declared.account.Account.{Account}
 use Rattle.simdram_cli.specs.declared.account.Account.TheVariants.{Listing, Costs}
@@ -533,6 +538,23 @@ can_answer (Replay names) old new status e =
     } in
     ends_so P (replay_steps names e.texts) 0 old new status refl (replay_of P names e.texts gives)
     e.ends
+can_answer (Guard names) old new status e =
+    let P : ℕ → Type 0 = CanAnswer (Guard names) in
+    let gives : GivesOfGuard P = record {
+      two = refl;
+      three = refl;
+      four = refl;
+      six = refl;
+      seven = refl;
+      nine = refl;
+      ten = refl;
+      eleven = refl;
+      seventeen = refl;
+      eighteen = refl;
+    } in
+    ends_so P (guard_steps names e.program e.ops e.texts) _ old new status
+    (guard_so P (job_of_texts e.program e.texts) refl refl)
+    (guard_of P names e.program e.ops e.texts gives) e.ends
 
 not_one : (command : Command) (status : ℕ) → CanAnswer command status → status ≡ 1 → ⊥
 not_one (Run names) status can e =
@@ -559,6 +581,8 @@ not_one (Trace names) status can e =
     let one : CanAnswer (Trace names) 1 = subst (CanAnswer (Trace names)) e can in cc
 not_one (Replay names) status can e =
     let one : CanAnswer (Replay names) 1 = subst (CanAnswer (Replay names)) e can in cc
+not_one (Guard names) status can e =
+    let one : CanAnswer (Guard names) 1 = subst (CanAnswer (Guard names)) e can in cc
 
 no_command : (words : List (Bor (List ℕ))) (o : Option Command) (status : ℕ) → command_of words ≡ o
     → OnCommand words (λ command. CanAnswer command status) → status ≡ 1
@@ -631,6 +655,20 @@ apart_of_replay status is = record {
   fourteen = apart_from_done status is 14 (λ f. cc) (λ f. cc);
 }
 
+apart_of_guard : (status : ℕ) → (status ≡ 0) ⊎ (status ≡ 8) → GivesOfGuard (λ s. s ≡ status → ⊥)
+apart_of_guard status is = record {
+  two = apart_from_done status is 2 (λ f. cc) (λ f. cc);
+  three = apart_from_done status is 3 (λ f. cc) (λ f. cc);
+  four = apart_from_done status is 4 (λ f. cc) (λ f. cc);
+  six = apart_from_done status is 6 (λ f. cc) (λ f. cc);
+  seven = apart_from_done status is 7 (λ f. cc) (λ f. cc);
+  nine = apart_from_done status is 9 (λ f. cc) (λ f. cc);
+  ten = apart_from_done status is 10 (λ f. cc) (λ f. cc);
+  eleven = apart_from_done status is 11 (λ f. cc) (λ f. cc);
+  seventeen = apart_from_done status is 17 (λ f. cc) (λ f. cc);
+  eighteen = apart_from_done status is 18 (λ f. cc) (λ f. cc);
+}
+
 -- a command keeps what it promises
 pub promises : (command : Command) (old new : World) (status : ℕ) → IsApart command
     → CommandEnds command old new status → Promises command old new status
@@ -682,6 +720,11 @@ promises (Trace names) old new status are e = λ is.
 promises (Replay names) old new status are e = λ is.
     replayed_by names old new status e
     (replay_of (λ s. s ≡ status → ⊥) names e.texts (apart_of_replay status (inl is)))
+promises (Guard names) old new status are e = λ is.
+    guard_promised names old new status (guard_files_apart names are) e
+    (all_done (guard_steps names e.program e.ops e.texts) _ e.ends.ended old new status
+    (guard_of (λ s. s ≡ status → ⊥) names e.program e.ops e.texts (apart_of_guard status is))
+    e.ends.so)
 
 -- the words are this command and no other
 pub on_command : (words : List (Bor (List ℕ))) (command : Command) (P : Command → Type 0)

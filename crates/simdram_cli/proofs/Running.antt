@@ -204,7 +204,7 @@ image_worked names program script i result text old mid sink chip new loaded e i
       done = done_on program script i (image_of text) new.chip result e is plain w;
     }
 
-not_true : (b : Bool) → not b ≡ true → b ≡ false
+pub not_true : (b : Bool) → not b ≡ true → b ≡ false
 not_true true e = absurd (cc)
 not_true false e = refl
 

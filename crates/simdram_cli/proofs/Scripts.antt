@@ -49,7 +49,7 @@ split_long : (newline : Bool) (b n : ℕ) (lines : List (List ℕ)) → length l
 split_long true b n lines l = omega (arith, l)
 split_long false b n lines l = let m = begun_long b lines in omega (arith, l, m)
 
-lines_long : (text : List ℕ) → length (lines_of text) ≤ length text + 1
+pub lines_long : (text : List ℕ) → length (lines_of text) ≤ length text + 1
 lines_long [] = omega arith
 lines_long (b ∷ bs) =
     let l = split_long (b == 10) b (length bs) (lines_of bs) (lines_long bs) in omega (arith, l)

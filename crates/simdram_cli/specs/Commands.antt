@@ -11,6 +11,7 @@ use Rattle.simdram_cli.specs.declared.words.Command.TheVariants.{Cost, List as L
 use Rattle.simdram_cli.specs.declared.words.Command.TheVariants.{Scan}
 use Rattle.simdram_cli.specs.declared.words.Command.TheVariants.{Trace}
 use Rattle.simdram_cli.specs.declared.words.Command.TheVariants.{Replay}
+use Rattle.simdram_cli.specs.declared.words.Command.TheVariants.{Guard}
 use Rattle.simdram_cli.specs.declared.account.Account.TheVariants.{Listing, Costs}
 use Rattle.simdram_cli.specs.Words.{command_of}
 use Rattle.simdram_cli.specs.Ends.{RunEnds}
@@ -25,6 +26,7 @@ use Rattle.simdram_cli.specs.Soak.{SoakEnds, Soaked}
 use Rattle.simdram_cli.specs.Scan.{ScanEnds, Scanned}
 use Rattle.simdram_cli.specs.Tracing.{TraceEnds, Traced}
 use Rattle.simdram_cli.specs.Replay.{ReplayEnds, Replayed}
+use Rattle.simdram_cli.specs.Guard.{GuardEnds, Guarded}
 
 -- the statuses that a command can answer
 abbrev pub statuses : Command → List ℕ
@@ -40,6 +42,8 @@ statuses (Soak seed) = 0 ∷ 3 ∷ 9 ∷ 10 ∷ []
 statuses (Scan names) = 0 ∷ 2 ∷ 3 ∷ 7 ∷ 9 ∷ 10 ∷ 11 ∷ 15 ∷ 16 ∷ []
 statuses (Trace names) = 0 ∷ 2 ∷ 3 ∷ 5 ∷ 6 ∷ 7 ∷ 8 ∷ 9 ∷ 10 ∷ 11 ∷ 12 ∷ []
 statuses (Replay names) = 0 ∷ 2 ∷ 3 ∷ 7 ∷ 9 ∷ 10 ∷ 11 ∷ 13 ∷ 14 ∷ []
+statuses (Guard names) =
+    0 ∷ 2 ∷ 3 ∷ 4 ∷ 6 ∷ 7 ∷ 8 ∷ 9 ∷ 10 ∷ 11 ∷ 17 ∷ 18 ∷ []
 
 abbrev pub CanAnswer : Command → ℕ → Type 0
 CanAnswer command status = list_any (λ s. s == status) (statuses command) ≡ true
@@ -59,6 +63,7 @@ CommandEnds (Soak seed) old new status = SoakEnds seed old new status
 CommandEnds (Scan names) old new status = ScanEnds names old new status
 CommandEnds (Trace names) old new status = TraceEnds names old new status
 CommandEnds (Replay names) old new status = ReplayEnds names old new status
+CommandEnds (Guard names) old new status = GuardEnds names old new status
 
 -- what it promises when it ends as it should, where the folder tells its files; a soak touches
 -- none, and promises it in any folder
@@ -91,6 +96,9 @@ Promises (Trace names) old new status = (status ≡ 0) ⊎ (status ≡ 8)
     new.files.holds
 Promises (Replay names) old new status = status ≡ 0
     → Told (λ before after. Replayed names before after old new) old.files.holds new.files.holds
+Promises (Guard names) old new status = (status ≡ 0) ⊎ (status ≡ 8)
+    → Told (λ before after. Guarded names before after old new status) old.files.holds
+    new.files.holds
 
 -- where the words are a command
 abbrev pub OnCommand : List (Bor (List ℕ)) → (Command → Type 0) → Type 0

@@ -4,6 +4,7 @@ use Rattle.std.specs.Prelude.{◌≡◌, ◌≢◌, ◌≤◌, ◌==◌, ℕ, tr
 use Rattle.std.specs.Prelude.{Option, Some, None, Result, Ok}
 use Rattle.std.specs.List.{list_any}
 use Rattle.fault_counts.specs.Counts.{Rose}
+use Rattle.dram_model.specs.declared.geometry.Geometry.{Geometry}
 use Rattle.host_edge.specs.Views.{Files, Told}
 use Rattle.cli_model.specs.World.{World}
 use Rattle.cli_model.specs.Steps.{Refusal, Unopened}
@@ -11,12 +12,15 @@ use Rattle.cli_model.specs.Ends.{Sends}
 use Rattle.simdram_cli.specs.declared.words.TheConstants.{OPS_MAX, PROG_MAX, SCRIPT_MAX, IMAGE_MAX}
 use Rattle.simdram_cli.specs.declared.words.TheConstants.{QUERY_MAX}
 use Rattle.simdram_cli.specs.declared.words.TheConstants.{TRACE_MAX}
+use Rattle.simdram_cli.specs.declared.words.TheConstants.{FLIPS_MAX}
 use Rattle.simdram_cli.specs.declared.words.Command.{Command}
 use Rattle.simdram_cli.specs.declared.words.Command.TheVariants.{Run, Exec, Compile, Show, Migrate}
 use Rattle.simdram_cli.specs.declared.words.Command.TheVariants.{Cost, List as ListOf, Init, Soak}
 use Rattle.simdram_cli.specs.declared.words.Command.TheVariants.{Scan}
 use Rattle.simdram_cli.specs.declared.words.Command.TheVariants.{Trace}
 use Rattle.simdram_cli.specs.declared.words.Command.TheVariants.{Replay}
+use Rattle.simdram_cli.specs.declared.words.Command.TheVariants.{Guard}
+use Rattle.simdram_cli.specs.Flips.{flips_in}
 use Rattle.simdram_cli.specs.Inputs.{ops_in, script_in, image_of}
 use Rattle.simdram_cli.specs.Programs.{prog_in}
 use Rattle.simdram_cli.specs.Queries.{query_in}
@@ -55,6 +59,10 @@ IsQueryFile file = IsGood query_in QUERY_MAX file
 abbrev pub IsTraceFile : Option (List ℕ) → Type 0
 IsTraceFile file = IsGood trace_in TRACE_MAX file
 
+-- its flips are those of such an image, among so many instructions
+abbrev pub IsFlipsFile : Geometry → ℕ → Option (List ℕ) → Type 0
+IsFlipsFile g instrs file = IsGood (flips_in g instrs) FLIPS_MAX file
+
 -- each file that the command loads is good
 abbrev pub AreGood : Command → (List ℕ → Option (List ℕ)) → Type 0
 AreGood (Run names) file = IsOps (file names.ops.now) × IsScript (file names.script.now)
@@ -73,6 +81,9 @@ AreGood (Trace names) file = IsProg (file names.prog.now) × IsScript (file name
     × IsImageFile (file names.image.now)
 AreGood (Replay names) file =
     IsTraceFile (file names.trace.now) × IsImageFile (file names.image.now)
+AreGood (Guard names) file = IsOps (file names.ops.now)
+    × (script : IsScript (file names.script.now)) × (image : IsImageFile (file names.image.now))
+    × IsFlipsFile image.value.geometry (length script.value) (file names.flips.now)
 
 -- no count of faults rose: none of the folder, of the sink and of the chip
 pub record NothingFailed (old new : World) : Type 0 where
@@ -96,6 +107,7 @@ done_statuses (Soak seed) = 0 ∷ []
 done_statuses (Scan names) = 0 ∷ 16 ∷ []
 done_statuses (Trace names) = 0 ∷ 8 ∷ 12 ∷ []
 done_statuses (Replay names) = 0 ∷ 14 ∷ []
+done_statuses (Guard names) = 0 ∷ 8 ∷ 17 ∷ []
 
 -- Where its files are good and nothing failed, the command is done, or answers 10
 abbrev pub Completes : Command → World → World → ℕ → Type 0
@@ -127,3 +139,4 @@ Spares (Soak seed) old new status = status ≡ 10 → new.files ≡ old.files
 Spares (Scan names) old new status = status ≡ 10 → IsSpared None old new
 Spares (Trace names) old new status = status ≡ 10 → IsSpared None old new
 Spares (Replay names) old new status = status ≡ 10 → IsSpared None old new
+Spares (Guard names) old new status = status ≡ 10 → IsSpared (Some names.prog.now) old new

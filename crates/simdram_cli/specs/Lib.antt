@@ -5,6 +5,7 @@ pub mod Accepted
 pub mod Inputs
 pub mod Queries
 pub mod Traces
+pub mod Flips
 pub mod Stops
 pub mod Reads
 pub mod Job
@@ -22,5 +23,6 @@ pub mod Soak
 pub mod Scan
 pub mod Tracing
 pub mod Replay
+pub mod Guard
 pub mod Commands
 pub mod Complete

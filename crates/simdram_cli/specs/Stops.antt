@@ -12,6 +12,7 @@ use Rattle.simdram_cli.specs.Queries.{query_refusal, scan_refusal}
 use Rattle.cmd_trace.specs.declared.fault.TraceNo.{TraceNo}
 use Rattle.cmd_trace.specs.declared.fault.TraceNo.TheVariants as trace_no
 use Rattle.simdram_cli.specs.Traces.{geometry_differs, trace_refusal}
+use Rattle.simdram_cli.specs.Flips.{flips_refusal, name_refusal, table_refusal}
 use Rattle.simdram_cli.specs.declared.stop.Stop.{Stop}
 use Rattle.simdram_cli.specs.declared.stop.Stop.TheVariants as stop
 
@@ -31,6 +32,9 @@ reason_of (stop.ScanRefused why k) = Refused (scan_refusal why k)
 reason_of stop.TraceFull = Refused trace_full
 reason_of (stop.BadTrace fault) = Refused (trace_refusal fault)
 reason_of stop.GeometryDiffers = Refused geometry_differs
+reason_of (stop.GuardName k) = Refused (name_refusal k)
+reason_of (stop.GuardTable k) = Refused (table_refusal k)
+reason_of (stop.BadFlips fault) = Refused (flips_refusal fault)
 reason_of stop.NoMemory = NoMemory
 reason_of (stop.CannotWrite name) = CannotWrite name.now
 reason_of stop.PutFailed = PutFailed

@@ -16,6 +16,8 @@ use Rattle.simdram_cli.specs.declared.words.Command.TheVariants.{Scan}
 use Rattle.simdram_cli.specs.declared.words.Command.TheVariants.{Trace}
 use Rattle.simdram_cli.specs.declared.words.TraceNames.{TraceNames}
 use Rattle.simdram_cli.specs.declared.words.Command.TheVariants.{Replay}
+use Rattle.simdram_cli.specs.declared.words.Command.TheVariants.{Guard}
+use Rattle.simdram_cli.specs.declared.words.GuardNames.{GuardNames}
 
 -- no two are equal
 abbrev pub all_differ : List (List ℕ) → Bool
@@ -45,6 +47,18 @@ trace_on verb names =
 -- and the three files of a replay
 abbrev pub replay_apart : List ℕ → List ℕ → List ℕ → Bool
 replay_apart trace image out = not (bytes_eq trace image) && not (bytes_eq trace out)
+
+-- and so are the six files of a guarded run
+abbrev pub guard_apart : GuardNames → Bool
+guard_apart names =
+    let inputs = λ (last : List ℕ). all_differ (names.ops.now ∷ names.prog.now ∷ names.script.now
+    ∷ names.flips.now ∷ last ∷ []) in
+    inputs names.image.now && inputs names.out.now
+
+-- the command on six files
+abbrev pub guard_on : List ℕ → GuardNames → Option Command
+guard_on verb names =
+    if bytes_eq verb (codes "guard") && guard_apart names then Some (Guard names) else None
 
 -- the command on two files that are apart
 abbrev pub command_on_two : List ℕ → Bor (List ℕ) → Bor (List ℕ) → Option Command
@@ -110,8 +124,18 @@ command_on_four verb first second third fourth =
 -- the command that the words are: `run OPS PROG SCRIPT IMAGE OUT`, `exec PROG SCRIPT IMAGE OUT`,
 -- `compile OPS PROG`, `show OPS`, `migrate OLD NEW`, `cost PROG N`, `list PROG`,
 -- `init BANKS ROWS WORDS OUT`, `soak SEED`, `scan QUERY IMAGE`,
--- `trace PROG SCRIPT IMAGE OUT TRACE` or `replay TRACE IMAGE OUT`
+-- `trace PROG SCRIPT IMAGE OUT TRACE`, `replay TRACE IMAGE OUT` or
+-- `guard OPS PROG SCRIPT IMAGE FLIPS OUT`
 abbrev pub command_of : List (Bor (List ℕ)) → Option Command
+command_of (verb ∷ ops ∷ prog ∷ script ∷ image ∷ flips ∷ out ∷ []) =
+    guard_on verb.now (record {
+      ops = ops;
+      prog = prog;
+      script = script;
+      image = image;
+      flips = flips;
+      out = out;
+    })
 command_of (verb ∷ ops ∷ prog ∷ script ∷ image ∷ out ∷ []) =
     if bytes_eq verb.now (codes "run") && are_apart ops.now prog.now script.now image.now out.now
     then Some (Run (record { ops = ops; prog = prog; script = script; image = image; out = out }))
@@ -143,6 +167,7 @@ IsApart (Soak seed) = Unit {0}
 IsApart (Scan names) = bytes_eq names.query.now names.image.now ≡ false
 IsApart (Trace names) = traced_apart names ≡ true
 IsApart (Replay names) = replay_apart names.trace.now names.image.now names.out.now ≡ true
+IsApart (Guard names) = guard_apart names ≡ true
 
 -- the numbers of a command are a width, a chip's, or a seed
 abbrev pub HasNumbers : Command → Type 0

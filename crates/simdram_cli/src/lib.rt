@@ -5,6 +5,7 @@ mod account;
 mod compile;
 mod counted;
 mod exec;
+mod guard;
 mod init;
 mod job;
 mod lines;
@@ -25,7 +26,7 @@ mod work;
 pub use stop::{Stop, status_of, tell};
 pub use top::{one_job, simdram};
 pub use words::{
-    Command, CompileNames, CostNames, ExecNames, IMAGE_MAX, InitNames, MigrateNames, OPS_MAX,
-    PROG_MAX, QUERY_MAX, ReplayNames, RunNames, SCRIPT_MAX, ScanNames, TRACE_MAX, TraceNames,
-    command_of, limits,
+    Command, CompileNames, CostNames, ExecNames, FLIPS_MAX, GuardNames, IMAGE_MAX, InitNames,
+    MigrateNames, OPS_MAX, PROG_MAX, QUERY_MAX, ReplayNames, RunNames, SCRIPT_MAX, ScanNames,
+    TRACE_MAX, TraceNames, command_of, limits,
 };

@@ -8,10 +8,12 @@ ghost use Rattle.simdram_cli.specs.Inputs.{kind_word, ops_refusal, script_word, 
 ghost use Rattle.simdram_cli.specs.Inputs.{image_word, image_refusal};
 ghost use Rattle.simdram_cli.specs.Programs.{prog_refusal, prog_word};
 ghost use Rattle.simdram_cli.specs.Queries.{query_refusal, query_word, scan_refusal, scan_word};
+ghost use Rattle.simdram_cli.specs.Flips.{flips_refusal, flips_word, name_refusal, table_refusal};
 ghost use Rattle.simdram_cli.specs.Stops.{reason_of};
 ghost use Rattle.simdram_cli.specs.Traces.{trace_refusal, trace_word};
 
 use bbop_isa::{ScriptFault, ScriptKind};
+use guard_model::{FlipsFault, FlipsKind};
 use host_edge::{Failed, Sink};
 use itoa::Buffer;
 use object_alloc::{ImageFault, ImageKind};
@@ -34,6 +36,9 @@ pub enum Stop<'a> {
     TraceFull,
     BadTrace(TraceFault),
     GeometryDiffers,
+    GuardName(u32),
+    GuardTable(u16),
+    BadFlips(FlipsFault),
     NoMemory,
     CannotWrite(&'a str),
     PutFailed,
@@ -59,6 +64,8 @@ pub fn status_of(stop: Stop<'_>) -> u8
         Stop::GeometryDiffers => 14,
         Stop::BadQuery(_) => 15,
         Stop::ScanRefused(_, _) => 16,
+        Stop::GuardName(_) | Stop::GuardTable(_) => 17,
+        Stop::BadFlips(_) => 18,
     }
 }
 
@@ -268,10 +275,60 @@ fn tell_scan<S: Sink>(why: ScanWhy, k: u8, out: &mut S) -> Result<(), Failed>
     ensures failed { OnErr result (Rose (S.view out.old).faults (S.view out.new).faults) }
 {
     let mut buffer = Buffer::new();
+    put_three(refused_front(why), buffer.format(k).as_bytes(), b"\n", out)
+}
+
+/// Puts the line of an instruction that names an object of more than 15 bytes.
+fn tell_name<S: Sink>(k: u32, out: &mut S) -> Result<(), Failed>
+    ensures counts { (S.view out.old).faults ≤ (S.view out.new).faults }
+    ensures sent { OnOk result (Told (λ before after. after ≡ before ++ ((name_refusal k).line))
+        (S.view out.old).sent (S.view out.new).sent) }
+    ensures part { Told (AppendsPart (name_refusal k).line) (S.view out.old).sent
+        (S.view out.new).sent }
+    ensures failed { OnErr result (Rose (S.view out.old).faults (S.view out.new).faults) }
+{
+    let mut buffer = Buffer::new();
+    put_three(b"guard name ", buffer.format(k).as_bytes(), b"\n", out)
+}
+
+/// Puts the line of a table whose objects do not stand in three copies.
+fn tell_table<S: Sink>(k: u16, out: &mut S) -> Result<(), Failed>
+    ensures counts { (S.view out.old).faults ≤ (S.view out.new).faults }
+    ensures sent { OnOk result (Told (λ before after. after ≡ before ++ ((table_refusal k).line))
+        (S.view out.old).sent (S.view out.new).sent) }
+    ensures part { Told (AppendsPart (table_refusal k).line) (S.view out.old).sent
+        (S.view out.new).sent }
+    ensures failed { OnErr result (Rose (S.view out.old).faults (S.view out.new).faults) }
+{
+    let mut buffer = Buffer::new();
+    put_three(b"guard table ", buffer.format(k).as_bytes(), b"\n", out)
+}
+
+/// The end of the line of a text of flips that breaks this rule.
+fn flips_end(kind: FlipsKind) -> &'static [u8]
+    ensures { result.now ≡ codes " " ++ flips_word kind ++ codes "\n" }
+{
+    match kind {
+        FlipsKind::Lex => b" lex\n",
+        FlipsKind::Syntax => b" syntax\n",
+        FlipsKind::Number => b" number\n",
+    }
+}
+
+/// Puts the line of a text of flips that breaks a rule.
+fn tell_flips<S: Sink>(fault: FlipsFault, out: &mut S) -> Result<(), Failed>
+    ensures counts { (S.view out.old).faults ≤ (S.view out.new).faults }
+    ensures sent { OnOk result (Told (λ before after. after
+        ≡ before ++ ((flips_refusal fault).line)) (S.view out.old).sent (S.view out.new).sent) }
+    ensures part { Told (AppendsPart (flips_refusal fault).line) (S.view out.old).sent
+        (S.view out.new).sent }
+    ensures failed { OnErr result (Rose (S.view out.old).faults (S.view out.new).faults) }
+{
+    let mut buffer = Buffer::new();
     put_three(
-        refused_front(why),
-        buffer.format(k).as_bytes(),
-        b"\n",
+        b"flips line ",
+        buffer.format(fault.line).as_bytes(),
+        flips_end(fault.kind),
         out,
     )
 }
@@ -334,6 +391,9 @@ pub fn tell<S: Sink>(stop: Stop<'_>, out: &mut S) -> Result<(), Failed>
         Stop::TraceFull => put_three(b"trace full\n", b"", b"", out),
         Stop::BadTrace(fault) => tell_trace(fault, out),
         Stop::GeometryDiffers => put_three(b"geometry differs\n", b"", b"", out),
+        Stop::GuardName(k) => tell_name(k, out),
+        Stop::GuardTable(k) => tell_table(k, out),
+        Stop::BadFlips(fault) => tell_flips(fault, out),
         Stop::NoMemory => put_three(b"no memory\n", b"", b"", out),
         Stop::ChipFailed => put_three(b"chip fault\n", b"", b"", out),
         Stop::PutFailed => put_three(b"", b"", b"", out),

@@ -13,6 +13,7 @@ ghost use Rattle.simdram_cli.specs.Compile.{CompileEnds};
 ghost use Rattle.simdram_cli.specs.Complete.{Completes, Spares};
 ghost use Rattle.simdram_cli.specs.Ends.{RunEnds, answer_to};
 ghost use Rattle.simdram_cli.specs.Exec.{ExecEnds};
+ghost use Rattle.simdram_cli.specs.Guard.{GuardEnds};
 ghost use Rattle.simdram_cli.specs.Headline.{OneJob};
 ghost use Rattle.simdram_cli.specs.Init.{init_steps};
 ghost use Rattle.simdram_cli.specs.Migrate.{MigrateEnds};
@@ -23,10 +24,12 @@ ghost use Rattle.simdram_cli.specs.Soak.{SoakEnds};
 ghost use Rattle.simdram_cli.specs.Stops.{end_of};
 ghost use Rattle.simdram_cli.specs.Tracing.{TraceEnds};
 ghost use Rattle.simdram_cli.specs.Words.{HasNumbers, IsApart, are_apart, command_of};
+ghost use Rattle.simdram_cli.specs.Words.{guard_apart};
 
 use crate::account::{Account, give_account};
 use crate::compile::compile;
 use crate::exec::exec;
+use crate::guard::guard;
 use crate::init::init;
 use crate::migrate::migrate;
 use crate::replay::replay;
@@ -37,8 +40,8 @@ use crate::soak::soak;
 use crate::stop::{Stop, status_of, tell};
 use crate::trace::trace;
 use crate::words::{
-    Command, CompileNames, ExecNames, InitNames, MigrateNames, ReplayNames, RunNames, ScanNames,
-    TraceNames, command_of,
+    Command, CompileNames, ExecNames, GuardNames, InitNames, MigrateNames, ReplayNames, RunNames,
+    ScanNames, TraceNames, command_of,
 };
 use dram_model::Dram;
 use host_edge::{Folder, Sink};
@@ -232,6 +235,24 @@ fn replay_and_answer<F: Folder, S: Sink, D: Dram>(
     answer(ended, out)
 }
 
+/// Runs guarded, and tells why it stopped if it did.
+fn guard_and_answer<F: Folder, S: Sink, D: Dram>(
+    names: &GuardNames<'_>,
+    files: &mut F,
+    out: &mut S,
+    chip: &mut D,
+    alloc: Global,
+) -> u8
+    requires apart { guard_apart names.now ≡ true }
+    ensures borrow { D.borrow chip.new ≡ D.borrow chip.old }
+    ensures ends { GuardEnds names.now
+        (world (F.view files.old) (S.view out.old) (D.view chip.old))
+        (world (F.view files.new) (S.view out.new) (D.view chip.new)) result }
+{
+    let ended = guard(names, files, out, chip, alloc);
+    answer(ended, out)
+}
+
 /// Does a command.
 fn dispatch<F: Folder, S: Sink, D: Dram>(
     command: &Command<'_>,
@@ -262,6 +283,7 @@ fn dispatch<F: Folder, S: Sink, D: Dram>(
         Command::Scan(names) => scan_and_answer(names, files, out, chip, alloc),
         Command::Trace(names) => trace_and_answer(names, files, out, chip, alloc),
         Command::Replay(names) => replay_and_answer(names, files, out, chip, alloc),
+        Command::Guard(names) => guard_and_answer(names, files, out, chip, alloc),
     }
 }
 
@@ -277,8 +299,10 @@ fn dispatch<F: Folder, S: Sink, D: Dram>(
 /// the sum of its results; `scan QUERY IMAGE` puts how many elements of IMAGE meet QUERY, by
 /// comparisons in the chip; `trace PROG SCRIPT IMAGE OUT TRACE` does what `exec` does, and stores the
 /// events of the script as TRACE; `replay TRACE IMAGE OUT` does the events of TRACE on IMAGE's rows,
-/// stores them with the objects of TRACE as OUT, and puts how many commands the chip did. The answer
-/// is the exit status.
+/// stores them with the objects of TRACE as OUT, and puts how many commands the chip did;
+/// `guard OPS PROG SCRIPT IMAGE FLIPS OUT` runs with each object in three copies, inverts the cells
+/// that FLIPS names, and votes before each instruction and after the last. The answer is the exit
+/// status.
 pub fn simdram<F: Folder, S: Sink, D: Dram>(
     words: &[&str],
     files: &mut F,

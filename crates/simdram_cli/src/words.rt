@@ -10,6 +10,7 @@ ghost use Rattle.simdram_cli.specs.Words.{command_on_two, cost_on, init_on, is_n
 ghost use Rattle.simdram_cli.specs.Words.{value_of};
 ghost use Rattle.simdram_cli.specs.Words.{traced_apart, trace_on};
 ghost use Rattle.simdram_cli.specs.Words.{command_on_three, replay_apart};
+ghost use Rattle.simdram_cli.specs.Words.{guard_apart, guard_on};
 
 use bit_rows::WIDTH_MAX;
 use cmd_trace::TRACE_BYTES_MAX;
@@ -27,6 +28,8 @@ pub const SCRIPT_MAX: u64 = 16_777_216;
 
 pub const QUERY_MAX: u64 = 65_536;
 
+pub const FLIPS_MAX: u64 = 1_048_576;
+
 pub const IMAGE_MAX: u64 = IMAGE_BYTES_MAX as u64;
 
 pub const TRACE_MAX: u64 = TRACE_BYTES_MAX as u64;
@@ -37,6 +40,7 @@ pub fn limits()
     ensures prog { PROG_MAX ≡ 4_194_304 }
     ensures script { SCRIPT_MAX ≡ 16_777_216 }
     ensures query { QUERY_MAX ≡ 65_536 }
+    ensures flips { FLIPS_MAX ≡ 1_048_576 }
     ensures image { IMAGE_MAX ≡ 67_115_022 }
     ensures trace { TRACE_MAX ≡ 67_115_026 }
     ensures width { WIDTH_MAX ≡ 128 }
@@ -115,6 +119,17 @@ pub struct ReplayNames<'a> {
     pub out: &'a str,
 }
 
+/// The files of `guard`.
+#[derive(Clone, Copy)]
+pub struct GuardNames<'a> {
+    pub ops: &'a str,
+    pub prog: &'a str,
+    pub script: &'a str,
+    pub image: &'a str,
+    pub flips: &'a str,
+    pub out: &'a str,
+}
+
 /// A command, with its words.
 #[derive(Clone, Copy)]
 pub enum Command<'a> {
@@ -130,6 +145,7 @@ pub enum Command<'a> {
     Scan(ScanNames<'a>),
     Trace(TraceNames<'a>),
     Replay(ReplayNames<'a>),
+    Guard(GuardNames<'a>),
 }
 
 /// Whether no two of four names are equal.
@@ -144,6 +160,26 @@ fn are_apart(ops: &str, prog: &str, script: &str, image: &str, out: &str) -> boo
     ensures { result ≡ are_apart ops.now prog.now script.now image.now out.now }
 {
     all_differ(ops, prog, script, image) && all_differ(ops, prog, script, out)
+}
+
+/// Whether no two of five names are equal.
+fn five_differ(a: &str, b: &str, c: &str, d: &str, e: &str) -> bool
+    ensures { result ≡ all_differ (a.now ∷ b.now ∷ c.now ∷ d.now ∷ e.now ∷ []) }
+{
+    (a != b && a != c && a != d && a != e) && all_differ(b, c, d, e)
+}
+
+/// Whether the six files of a guarded run are apart, but for IMAGE and OUT.
+fn guard_apart(names: &GuardNames<'_>) -> bool
+    ensures { result ≡ guard_apart names.now }
+{
+    five_differ(
+        names.ops,
+        names.prog,
+        names.script,
+        names.flips,
+        names.image,
+    ) && five_differ(names.ops, names.prog, names.script, names.flips, names.out)
 }
 
 /// Whether no two of three names are equal.
@@ -357,11 +393,33 @@ fn command_on_three<'a>(
     }
 }
 
+/// The command on six files.
+fn guard_on<'a>(verb: &str, names: GuardNames<'a>) -> Option<Command<'a>>
+    ensures { result ≡ guard_on verb.now names.entry }
+{
+    if verb == "guard" && guard_apart(&names) {
+        Some(Command::Guard(names))
+    } else {
+        None
+    }
+}
+
 /// The command that the words are.
 pub fn command_of<'a>(words: &[&'a str]) -> Option<Command<'a>>
     ensures { result ≡ command_of words.now }
 {
     match words {
+        [verb, ops, prog, script, image, flips, out] => {
+            let names = GuardNames {
+                ops: *ops,
+                prog: *prog,
+                script: *script,
+                image: *image,
+                flips: *flips,
+                out: *out,
+            };
+            guard_on(*verb, names)
+        }
         [verb, ops, prog, script, image, out] => {
             if *verb == "run" && are_apart(ops, prog, script, image, out) {
                 Some(Command::Run(RunNames {

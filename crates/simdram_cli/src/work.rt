@@ -61,7 +61,7 @@ fn refusals(replies: &[Reply]) -> u64
 }
 
 /// Why a command stops at an instruction.
-fn fault_stop<'a>(fault: StepFault) -> Stop<'a>
+pub(crate) fn fault_stop<'a>(fault: StepFault) -> Stop<'a>
     ensures { reason_of result ≡ fault_reason fault }
 {
     match fault {

@@ -1,0 +1,572 @@
+-- A guarded run that ends with 0 or 8 keeps its promises.
+use Rattle.std.proofs.Common.{◌≡◌, ℕ, ◌+◌, Bool, true, false, List, [], ◌∷◌, ◌++◌, length, map}
+use Rattle.std.proofs.Common.{Option, Some, None, refl, sym, ◌∙◌, ap, subst, inl, inr, append-nil}
+use Rattle.std.proofs.Common.{append_assoc}
+use Rattle.std.specs.Prelude.{Result, Ok, Err, ◌≢◌, IfSome}
+use Rattle.std.specs.List.{AllByRecursion}
+use Rattle.std.specs.Result.{result_ok}
+use Rattle.dram_model.specs.declared.geometry.Geometry.{Geometry}
+use Rattle.dram_model.specs.Chip.{Banks}
+use Rattle.host_edge.specs.Views.{Files, Told}
+use Rattle.object_alloc.specs.Listed.{Named}
+use Rattle.object_alloc.specs.Spelling.{image_bytes}
+use Rattle.uprog_bin.specs.Spelling.{program_bytes}
+use Rattle.uprog_code.specs.Texts.{TextOp, ImplementsAll, text_op}
+use Rattle.bbop_isa.specs.declared.instr.ScriptFault.{ScriptFault}
+use Rattle.bbop_isa.specs.Forms.{Instruction}
+use Rattle.bbop_isa.specs.Forms.{Init, Bbop, Load as ByLoad, Fill, Print as ByPrint, Free, Order}
+use Rattle.bbop_isa.specs.Script.{script_of}
+use Rattle.machine_model.specs.Agrees.{Agrees, IsPlain}
+use Rattle.machine_model.specs.declared.Reply.{Reply}
+use Rattle.machine_model.specs.declared.Reply.TheVariants.{Done as ByDone, Refused}
+use Rattle.machine_model.specs.Script.{plus, replies}
+use Rattle.uprog_code.specs.declared.walker.Counts.{Counts}
+use Rattle.machine_model.specs.Operations.{Program, Operations, meaning_in, operations_in}
+use Rattle.machine_model.specs.Operations.{operations_of}
+use Rattle.machine_model.specs.Opened.{Image, opened, rows_of, words_of}
+use Rattle.machine_model.specs.Report.{Said, line, lines, total_line}
+use Rattle.machine_model.specs.Steps.{Held, table_of}
+use Rattle.machine_model.proofs.Places.{bytes_differ}
+use Rattle.machine_model.proofs.Texts.{same_operations}
+use Rattle.op_text.specs.Language.{Operation}
+use Rattle.op_text.specs.OpsOf.{IsOpsOf}
+use Rattle.guard_model.specs.declared.Flip.{Flip}
+use Rattle.guard_model.specs.Guarded.{guarded_replies, guarded_rows, guarded_rows_at_end, joined, plain_ones}
+use Rattle.guard_model.specs.Guarded.{guarded_said_by, guarded_said_in_rows}
+use Rattle.guard_model.specs.Guarded.{guarded_said_in_words, guarded_table, guarded_table_at_end}
+use Rattle.guard_model.specs.Guarded.{guarded_words, guarded_words_at_end, lone_words_at_end}
+use Rattle.guard_model.specs.Guarded.{mended}
+use Rattle.guard_model.specs.Laws.{HasName, IsGuarded}
+use Rattle.guard_model.specs.Named.{first_long_name}
+use Rattle.guard_model.specs.Report.{guarded_report, vote_line}
+use Rattle.guard_model.specs.Triples.{first_copies, first_stranger, unplaced}
+use Rattle.guard_model.proofs.Adding.{accepted_has_names}
+use Rattle.guard_model.proofs.Whole.{guarded_table_is, guarded_text, triples_kept}
+use Rattle.guard_job.specs.Steps.{guarded_steps, line_steps}
+use Rattle.cli_model.specs.World.{World, with_file}
+use Rattle.cli_model.specs.Steps.{Step, Load, Take, Store, Open, Use, Put, Print, Refusal, loading}
+use Rattle.cli_model.specs.Steps.{Done}
+use Rattle.cli_model.specs.Stands.{files_after, sent_by}
+use Rattle.cli_model.specs.Foreseen.{foreseen}
+use Rattle.cli_model.specs.Ends.{Ended, All, EndsSo, IsAllDone, IsForetold, Stores, done_steps}
+use Rattle.sim_machine.specs.Machine.{is_print}
+use Rattle.simdram_cli.specs.declared.words.GuardNames.{GuardNames}
+use Rattle.simdram_cli.specs.declared.words.TheConstants.{FLIPS_MAX, IMAGE_MAX, OPS_MAX, SCRIPT_MAX}
+use Rattle.simdram_cli.specs.Ends.{IsCompiled}
+use Rattle.simdram_cli.specs.Flips.{flips_in, guarded_image_of, guarded_script_in, in_triples}
+use Rattle.simdram_cli.specs.Flips.{table_refusal, name_refusal, unless_some, with_short_names}
+use Rattle.simdram_cli.specs.Guard.{AreTexts, GuardDoneBy, GuardDoneOn, GuardEnds, GuardJob}
+use Rattle.simdram_cli.specs.Guard.{GuardTexts, Guarded, GuardedRows, GuardedWords, IsGuardDone}
+use Rattle.simdram_cli.specs.Guard.{IsMendable, Mended, guard_job, guard_job_steps, guard_status}
+use Rattle.simdram_cli.specs.Guard.{guard_steps, image_at_last, image_steps, flips_steps, job_by}
+use Rattle.simdram_cli.specs.Guard.{job_of_flips, job_of_texts, last_steps, operations_by}
+use Rattle.simdram_cli.specs.Guard.{refused_of, replies_by, replies_of, run_names, said_by}
+use Rattle.simdram_cli.specs.Guard.{said_of, state_by, table_at_last, tally_of, votes_of}
+use Rattle.simdram_cli.specs.Guard.{work_steps}
+use Rattle.simdram_cli.specs.Headline.{IsJob, IsNoBadWalk, read_as}
+use Rattle.simdram_cli.specs.Inputs.{image_of, ops_in, script_in, script_or_refusal}
+use Rattle.simdram_cli.specs.Job.{done_status}
+use Rattle.simdram_cli.specs.Reads.{IsText}
+use Rattle.simdram_cli.proofs.Foreseen.{spells_at, tell_both, text_at, was_read}
+use Rattle.simdram_cli.proofs.Guarding.{Apart}
+use Rattle.simdram_cli.proofs.NoWalks.{AllEnd, all_end, no_walks}
+use Rattle.simdram_cli.proofs.Promised.{at_other, at_own}
+use Rattle.simdram_cli.proofs.Promises.{table_is}
+
+-- what the steps send and store
+
+line_sent : (prints : Bool) (bytes : List ℕ) (rest more : List Step)
+    → sent_by (((Use ∷ line_steps prints bytes) ++ rest) ++ more)
+    ≡ bytes ++ sent_by (rest ++ more)
+line_sent true bytes rest more = refl
+line_sent false bytes rest more = refl
+
+script_sent : (g : Geometry) (o : Operations) (flips : List Flip) (k : ℕ) (table : List Named)
+    (banks : Banks) (script : List Instruction) (more : List Step)
+    → sent_by (guarded_steps g o flips k table banks script ++ more)
+    ≡ lines k (guarded_said_in_rows g o flips k table banks script) ++ sent_by more
+script_sent g o flips k table banks [] more = refl
+script_sent g o flips k table banks (instr ∷ script) more =
+    let now = mended g flips k table banks in
+    let bytes = line k (guarded_said_by g o table now instr) in
+    let next = guarded_table g o table instr in
+    let rows = guarded_rows g o table now instr in
+    line_sent (is_print instr) bytes (guarded_steps g o flips (k + 1) next rows script) more
+    ∙ ap (λ w. bytes ++ w) (script_sent g o flips (k + 1) next rows script more)
+    ∙ sym (append_assoc bytes (lines (k + 1)
+    (guarded_said_in_rows g o flips (k + 1) next rows script)) (sent_by more))
+
+line_files : (prints : Bool) (bytes : List ℕ) (rest more : List Step) (f : Files)
+    → files_after (((Use ∷ line_steps prints bytes) ++ rest) ++ more) f
+    ≡ files_after (rest ++ more) f
+line_files true bytes rest more f = refl
+line_files false bytes rest more f = refl
+
+script_files : (g : Geometry) (o : Operations) (flips : List Flip) (k : ℕ) (table : List Named)
+    (banks : Banks) (script : List Instruction) (more : List Step) (f : Files)
+    → files_after (guarded_steps g o flips k table banks script ++ more) f ≡ files_after more f
+script_files g o flips k table banks [] more f = refl
+script_files g o flips k table banks (instr ∷ script) more f =
+    let now = mended g flips k table banks in
+    let next = guarded_table g o table instr in
+    let rows = guarded_rows g o table now instr in
+    line_files (is_print instr) (line k (guarded_said_by g o table now instr))
+    (guarded_steps g o flips (k + 1) next rows script) more f
+    ∙ script_files g o flips (k + 1) next rows script more f
+
+work_sent : (out : List ℕ) (job : GuardJob) → sent_by (work_steps out job)
+    ≡ guarded_report (said_of job) (votes_of job) (length job.flips) (tally_of job)
+    (replies_of job)
+work_sent out job =
+    let total = total_line (tally_of job) (refused_of job) in
+    let votes = vote_line (votes_of job) (length job.flips) in
+    script_sent job.image.geometry (operations_in job.program) job.flips 1 job.image.table
+    (opened job.image) job.script (last_steps out job)
+    ∙ ap (λ w. lines 1 (said_of job) ++ (votes ++ w)) (append-nil total)
+    ∙ sym (append_assoc (lines 1 (said_of job)) votes total)
+
+work_files : (out : List ℕ) (job : GuardJob) (f : Files) → files_after (work_steps out job) f
+    ≡ with_file out (image_at_last job) f
+work_files out job f = script_files job.image.geometry (operations_in job.program) job.flips 1
+    job.image.table (opened job.image) job.script (last_steps out job) f
+
+-- the image at the end, with these banks
+abbrev image_spelled : GuardJob → Banks → List ℕ
+image_spelled job banks = image_bytes job.image.geometry (table_at_last job) (rows_of banks)
+
+-- what a job that is done has read
+record JobRead (names : GuardNames) (program : Program) (texts : GuardTexts) (files : Files)
+    : Type 0 where
+  script : List Instruction
+  image : Image
+  flips : List Flip
+  script_is : guarded_script_in texts.script ≡ Ok script
+  image_is : guarded_image_of texts.image ≡ Ok image
+  flips_is : flips_in image.geometry (length script) texts.flips ≡ Ok flips
+  script_text : List ℕ
+  image_text : List ℕ
+  flips_text : List ℕ
+  script_there : files names.script.now ≡ Some script_text
+  image_there : files names.image.now ≡ Some image_text
+  flips_there : files names.flips.now ≡ Some flips_text
+
+job_read : (names : GuardNames) (program : Program) (texts : GuardTexts) (files : Files)
+    → foreseen (guard_job_steps names program texts) files ≡ Done
+    → JobRead names program texts files
+job_read names program texts files foretold =
+    let one = was_read names.script.now SCRIPT_MAX texts.script (guarded_script_in texts.script)
+    (λ script. image_steps names program script texts.image texts.flips) files foretold in
+    let two = was_read names.image.now IMAGE_MAX texts.image (guarded_image_of texts.image)
+    (λ i. flips_steps names program one.value i texts.flips) files one.goes_on in
+    let three = was_read names.flips.now FLIPS_MAX texts.flips
+    (flips_in two.value.geometry (length one.value) texts.flips)
+    (λ flips. Take ∷ work_steps names.out.now (guard_job program one.value two.value flips)) files
+    two.goes_on in
+    record {
+      script = one.value;
+      image = two.value;
+      flips = three.value;
+      script_is = one.is;
+      image_is = two.is;
+      flips_is = three.is;
+      script_text = one.bytes;
+      image_text = two.bytes;
+      flips_text = three.bytes;
+      script_there = one.there;
+      image_there = two.there;
+      flips_there = three.there;
+    }
+
+abbrev job_in : {names : GuardNames} {program : Program} {texts : GuardTexts} {files : Files}
+    → JobRead names program texts files → GuardJob
+job_in {program = program} j = guard_job program j.script j.image j.flips
+
+loaded_is : {A : Type 0} (name : List ℕ) (limit : ℕ) (text : List ℕ) (read : Result A Refusal)
+    (rest : A → List Step) (value : A) → read ≡ Ok value
+    → loading name limit text read rest ≡ Load name limit text None ∷ rest value
+loaded_is name limit text read rest value e = rw e refl
+
+steps_are : (names : GuardNames) (program : Program) (texts : GuardTexts) (files : Files)
+    → (j : JobRead names program texts files) → guard_job_steps names program texts
+    ≡ Load names.script.now SCRIPT_MAX texts.script None
+    ∷ Load names.image.now IMAGE_MAX texts.image None
+    ∷ Load names.flips.now FLIPS_MAX texts.flips None ∷ Take
+    ∷ work_steps names.out.now (guard_job program j.script j.image j.flips)
+steps_are names program texts files j =
+    loaded_is names.script.now SCRIPT_MAX texts.script (guarded_script_in texts.script)
+    (λ script. image_steps names program script texts.image texts.flips) j.script j.script_is
+    ∙ ap (λ (xs : List Step). Load names.script.now SCRIPT_MAX texts.script None ∷ xs)
+    (loaded_is names.image.now IMAGE_MAX texts.image (guarded_image_of texts.image)
+    (λ i. flips_steps names program j.script i texts.flips) j.image j.image_is
+    ∙ ap (λ (xs : List Step). Load names.image.now IMAGE_MAX texts.image None ∷ xs)
+    (loaded_is names.flips.now FLIPS_MAX texts.flips
+    (flips_in j.image.geometry (length j.script) texts.flips)
+    (λ flips. Take ∷ work_steps names.out.now (guard_job program j.script j.image flips)) j.flips
+    j.flips_is))
+
+job_is : (names : GuardNames) (program : Program) (texts : GuardTexts) (files : Files)
+    → (j : JobRead names program texts files)
+    → job_of_texts program texts ≡ Some (guard_job program j.script j.image j.flips)
+job_is names program texts files j = rw (j.script_is, j.image_is, j.flips_is) refl
+
+-- what an accepted script and an accepted image are
+
+pub record ShortRead (read : Result (List Instruction) Refusal) (script : List Instruction) : Type 0
+  where
+    pub is : read ≡ Ok script
+    pub short : first_long_name script ≡ None
+
+short_by : (o : Option ℕ) (one script : List Instruction)
+    → unless_some name_refusal o one ≡ Ok script → (one ≡ script) × (o ≡ None)
+short_by None one script e = (cc, refl)
+short_by (Some k) one script e = absurd (cc)
+
+pub short_read : (read : Result (List Instruction) Refusal) (script : List Instruction)
+    → with_short_names read ≡ Ok script → ShortRead read script
+short_read (Ok one) script e =
+    let both = short_by (first_long_name one) one script e in
+    record {
+      is = ap (λ (x : List Instruction). Ok x) both.0;
+      short = ap first_long_name
+          (sym both.0) ∙ both.1;
+    }
+short_read (Err r) script e = absurd (cc)
+
+pub record TripleRead (read : Result Image Refusal) (i : Image) : Type 0 where
+  pub is : read ≡ Ok i
+  pub triples : first_stranger i.table ≡ None
+
+triple_by : (o : Option ℕ) (one i : Image) → unless_some table_refusal o one ≡ Ok i
+    → (one ≡ i) × (o ≡ None)
+triple_by None one i e = (cc, refl)
+triple_by (Some k) one i e = absurd (cc)
+
+pub triple_read : (read : Result Image Refusal) (i : Image) → in_triples read ≡ Ok i
+    → TripleRead read i
+triple_read (Ok one) i e =
+    let both = triple_by (first_stranger one.table) one i e in
+    record {
+      is = ap (λ (x : Image). Ok x) both.0;
+      triples = ap (λ (x : Image). first_stranger
+          x.table) (sym both.0) ∙ both.1;
+    }
+triple_read (Err r) i e = absurd (cc)
+
+script_by : (read : Result (List Instruction) ScriptFault) (script : List Instruction)
+    → script_or_refusal read ≡ Ok script → read ≡ Ok script
+script_by (Ok one) script e = let same : one ≡ script = cc in ap (λ (x : List Instruction). Ok x)
+    same
+script_by (Err fault) script e = absurd (cc)
+
+names_of : (text : List ℕ) (script : List Instruction) → script_in text ≡ Ok script
+    → AllByRecursion HasName script
+names_of text script e = accepted_has_names text script (script_by (script_of text) script e)
+
+-- no walk is stuck
+
+joined_walks : (counts : Counts) (rs : List Reply) → AllByRecursion IsNoBadWalk rs
+    → IsNoBadWalk (joined counts rs)
+joined_walks counts [] all = λ walk e. cc
+joined_walks counts (ByDone more ∷ rs) all = joined_walks (plus counts more) rs all.1
+joined_walks counts (Refused reason ∷ rs) all = all.0
+
+ones_plain : (instr : Instruction) → IsPlain instr → AllByRecursion IsPlain (plain_ones instr)
+ones_plain (Init name count n) plain = (plain, (plain, (plain, tt)))
+ones_plain (Bbop op dst srcs count n) plain = (plain, (plain, (plain, tt)))
+ones_plain (ByLoad name values) plain = (tt, (tt, (tt, tt)))
+ones_plain (Fill name value) plain = (tt, (tt, (tt, tt)))
+ones_plain (ByPrint name) plain = (tt, tt)
+ones_plain (Free name) plain = (tt, (tt, (tt, tt)))
+ones_plain (Order order) plain = (tt, tt)
+
+walks_all : (g : Geometry) (o : Operations) (table : List Named) (script : List Instruction)
+    → AllEnd o → AllByRecursion IsPlain script
+    → AllByRecursion IsNoBadWalk (guarded_replies g o table script)
+walks_all g o table [] ends plain = tt
+walks_all g o table (instr ∷ script) ends plain = (
+  joined_walks (record { aap = 0; ap = 0 }) (replies g o table (plain_ones instr))
+      (no_walks g o table (plain_ones instr) ends (ones_plain instr plain.0)),
+  walks_all g o (guarded_table g o table instr) script ends plain.1,
+)
+
+-- what is said in words
+
+tables_end : (g : Geometry) (o : Operations) (meaning : List ℕ → ℕ → List ℕ → List ℕ)
+    (state : List Held) (script : List Instruction)
+    → table_of (guarded_words_at_end g o meaning state script)
+    ≡ guarded_table_at_end g o (table_of state) script
+tables_end g o meaning state [] = refl
+tables_end g o meaning state (instr ∷ script) =
+    tables_end g o meaning (guarded_words g o meaning state instr) script
+    ∙ ap (λ (t : List Named). guarded_table_at_end g o t script)
+    (guarded_table_is g o meaning state instr)
+
+triples_end : (g : Geometry) (o : Operations) (table : List Named) (script : List Instruction)
+    → AllByRecursion HasName script → first_stranger table ≡ None
+    → first_stranger (guarded_table_at_end g o table script) ≡ None
+triples_end g o table [] names none = none
+triples_end g o table (instr ∷ script) names none =
+    triples_end g o (guarded_table g o table instr) script names.1
+    (triples_kept g o table instr names.0 none)
+
+module _ (t : List TextOp) (job : GuardJob) (implements : ImplementsAll job.program t) where
+  same : operations_of t job.program ≡ operations_in job.program
+  same = same_operations job.program t implements
+
+  replies_same : replies_of job ≡ replies_by t job
+  replies_same = ap (λ (o : Operations). guarded_replies job.image.geometry o job.image.table
+      job.script) (sym same)
+
+  table_same : table_at_last job ≡ table_of (state_by t job)
+  table_same =
+      ap (λ (o : Operations). guarded_table_at_end job.image.geometry o job.image.table job.script)
+      (sym same)
+      ∙ ap (λ (table : List Named). guarded_table_at_end job.image.geometry (operations_by t job)
+      table job.script) (sym (table_is job.image))
+      ∙ sym (tables_end job.image.geometry (operations_by t job) (meaning_in t)
+      (words_of job.image) job.script)
+
+  said_same : guarded_said_in_rows job.image.geometry (operations_by t job) job.flips 1
+      (table_of (words_of job.image)) (opened job.image) job.script ≡ said_by t job
+      → said_of job ≡ said_by t job
+  said_same e =
+      ap (λ (o : Operations). guarded_said_in_rows job.image.geometry o job.flips 1
+      job.image.table (opened job.image) job.script) (sym same)
+      ∙ ap (λ (table : List Named). guarded_said_in_rows job.image.geometry (operations_by t job)
+      job.flips 1 table (opened job.image) job.script) (sym (table_is job.image)) ∙ e
+
+  banks_same : (banks : Banks)
+      → banks ≡ guarded_rows_at_end job.image.geometry (operations_in job.program) job.flips 1
+      job.image.table (opened job.image) job.script
+      → guarded_rows_at_end job.image.geometry (operations_by t job) job.flips 1
+      (table_of (words_of job.image)) (opened job.image) job.script ≡ banks
+  banks_same banks e =
+      ap (λ (table : List Named). guarded_rows_at_end job.image.geometry (operations_by t job)
+      job.flips 1 table (opened job.image) job.script) (table_is job.image)
+      ∙ ap (λ (o : Operations). guarded_rows_at_end job.image.geometry o job.flips 1
+      job.image.table (opened job.image) job.script) same
+      ∙ sym e
+
+  alone_same : map unplaced (first_copies (state_by t job))
+      ≡ map unplaced (lone_words_at_end job.image.geometry (operations_by t job) (meaning_in t)
+      (first_copies (words_of job.image)) (guarded_replies job.image.geometry
+      (operations_by t job) (table_of (words_of job.image)) job.script) job.script)
+      → map unplaced (first_copies (state_by t job))
+      ≡ map unplaced (lone_words_at_end job.image.geometry (operations_by t job) (meaning_in t)
+      (first_copies (words_of job.image)) (replies_by t job) job.script)
+  alone_same e = e
+      ∙ ap (λ (table : List Named). map unplaced (lone_words_at_end job.image.geometry
+      (operations_by t job) (meaning_in t) (first_copies (words_of job.image))
+      (guarded_replies job.image.geometry (operations_by t job) table job.script) job.script))
+      (table_is job.image)
+
+  report_same : (old new : World) → said_of job ≡ said_by t job
+      → Told (λ x y. y ≡ x ++ guarded_report (said_of job) (votes_of job) (length job.flips)
+      new.chip.counters (replies_of job)) old.sink.sent new.sink.sent
+      → Told (λ x y. y ≡ x ++ guarded_report (said_by t job) (votes_of job) (length job.flips)
+      new.chip.counters (replies_by t job)) old.sink.sent new.sink.sent
+  report_same old new e told =
+      subst (λ (bytes : List ℕ). Told (λ x y. y ≡ x ++ bytes) old.sink.sent new.sink.sent)
+      (ap (λ s. guarded_report s (votes_of job) (length job.flips) new.chip.counters
+      (replies_of job)) e
+      ∙ ap (guarded_report (said_by t job) (votes_of job) (length job.flips) new.chip.counters)
+      replies_same) told
+
+-- what is known of a job that was done
+record IsDone (out : List ℕ) (job : GuardJob) (after : Files) (old new : World) (status : ℕ)
+    : Type 0 where
+  refused : ℕ
+  done : GuardDoneOn job new.chip refused
+  names : AllByRecursion HasName job.script
+  triples : first_stranger job.image.table ≡ None
+  rows : GuardedRows out job after old new status
+
+mends : (t : List TextOp) (out : List ℕ) (job : GuardJob) (after : Files) (old new : World)
+    (status : ℕ) → ImplementsAll job.program t → IsDone out job after old new status
+    → IsMendable t job → Mended t job old new
+mends t out job after old new status implements d m =
+    let g : IsGuarded job.image.geometry (operations_by t job) (meaning_in t) job.flips 1
+    (opened job.image) (words_of job.image) job.script =
+    guarded_text job.program t job.image job.flips job.script d.done.image implements d.done.plain
+    d.names d.triples m.equal m.single in
+    let agrees : Agrees job.image.geometry new.chip.banks (state_by t job) =
+    subst (λ (b : Banks). Agrees job.image.geometry b (state_by t job))
+    (banks_same t job implements new.chip.banks d.rows.banks) g.agrees in
+    record {
+      sent = report_same t job implements old new (said_same t job implements g.said) d.rows.sent;
+      numbers = agrees.numbers;
+      equal = g.equal;
+      alone = alone_same t job implements g.alone;
+    }
+
+in_words : (t : List TextOp) (out : List ℕ) (job : GuardJob) (after : Files) (old new : World)
+    (status : ℕ) → ImplementsAll job.program t → IsDone out job after old new status
+    → GuardedWords t job old new
+in_words t out job after old new status implements d = record {
+  replies = replies_same t job implements;
+  walks = subst (AllByRecursion IsNoBadWalk) (replies_same t job implements)
+      (walks_all job.image.geometry (operations_in job.program) job.image.table job.script
+      (all_end job.program t implements) d.done.plain);
+  table = table_same t job implements;
+  triples = triples_end job.image.geometry (operations_in job.program) job.image.table job.script
+      d.names d.triples;
+  mended = mends t out job after old new status implements d;
+}
+
+-- what a guarded run that is done has read: its texts are those of the files at entry
+record HasRead (names : GuardNames) (program : Program) (ops : List ℕ) (texts : GuardTexts)
+    (before : Files) : Type 0 where
+  job : JobRead names program texts (with_file names.prog.now (program_bytes 2 program) before)
+  ops_at : before names.ops.now ≡ Some ops
+  script_at : before names.script.now ≡ Some texts.script
+  image_at : before names.image.now ≡ Some texts.image
+  flips_at : before names.flips.now ≡ Some texts.flips
+  steps : guard_steps names program ops texts
+      ≡ Load names.ops.now OPS_MAX ops None ∷ Take
+      ∷ Store names.prog.now (program_bytes 2 program) ∷ guard_job_steps names program texts
+
+has_read : (names : GuardNames) (program : Program) (ops : List ℕ) (texts : GuardTexts)
+    (holds : Option Files) (before : Files) → Apart names → holds ≡ Some before
+    → IsText holds names.ops.now ops → AreTexts names texts holds
+    → foreseen (guard_steps names program ops texts) before ≡ Done
+    → HasRead names program ops texts before
+has_read names program ops texts holds before apart there is_text read foretold =
+    let bytes = program_bytes 2 program in
+    let stored = with_file names.prog.now bytes before in
+    let rest = λ (t : Unit {0}). Take ∷ Store names.prog.now bytes
+    ∷ guard_job_steps names program texts in
+    let one = was_read names.ops.now OPS_MAX ops (ops_in ops) rest before foretold in
+    let j = job_read names program texts stored one.goes_on in
+    record {
+      job = j;
+      ops_at = text_at holds before names.ops.now one.bytes ops there is_text one.there;
+      script_at = text_at holds before names.script.now j.script_text texts.script there
+          read.script
+          (sym (at_other names.script.now names.prog.now bytes before apart.others.script)
+          ∙ j.script_there);
+      image_at = text_at holds before names.image.now j.image_text texts.image there read.image
+          (sym (at_other names.image.now names.prog.now bytes before apart.others.image)
+          ∙ j.image_there);
+      flips_at = text_at holds before names.flips.now j.flips_text texts.flips there read.flips
+          (sym (at_other names.flips.now names.prog.now bytes before apart.others.flips)
+          ∙ j.flips_there);
+      steps = loaded_is names.ops.now OPS_MAX ops (ops_in ops) rest one.value one.is;
+    }
+
+kept_other : (names : GuardNames) (program : Program) (bytes : List ℕ) (before after : Files)
+    → after ≡ with_file names.out.now bytes (with_file names.prog.now (program_bytes 2 program)
+    before)
+    → (other : List ℕ) → other ≢ names.prog.now → other ≢ names.out.now → after other ≡ before other
+kept_other names program bytes before after e other p o =
+    ap (λ (f : Files). f other) e ∙ at_other other names.out.now bytes
+    (with_file names.prog.now (program_bytes 2 program) before)
+    (bytes_differ other names.out.now o)
+    ∙ at_other other names.prog.now (program_bytes 2 program) before
+    (bytes_differ other names.prog.now p)
+
+guarded_of : (names : GuardNames) (program : Program) (ops : List ℕ) (texts : GuardTexts)
+    (refused status : ℕ) (old new : World) (before after : Files) → Apart names
+    → (compiled : IsCompiled ops program) → (h : HasRead names program ops texts before)
+    → GuardDoneOn (job_in h.job) new.chip refused
+    → status ≡ done_status (refused_of (job_in h.job))
+    → after ≡ with_file names.out.now (image_at_last (job_in h.job))
+    (with_file names.prog.now (program_bytes 2 program) before)
+    → Told (λ x y. y ≡ x ++ guarded_report (said_of (job_in h.job)) (votes_of (job_in h.job))
+    (length h.job.flips) (tally_of (job_in h.job)) (replies_of (job_in h.job))) old.sink.sent
+    new.sink.sent
+    → Guarded names before after old new status
+guarded_of names program ops texts refused status old new before after apart compiled h d s files
+    sent =
+    let text = map text_op compiled.ops in
+    let job = job_in h.job in
+    let stored = with_file names.prog.now (program_bytes 2 program) before in
+    let short = short_read (script_in texts.script) h.job.script h.job.script_is in
+    let triple = triple_read (image_of texts.image) h.job.image h.job.image_is in
+    let rows : GuardedRows names.out.now job after old new status = record {
+      banks = d.done.banks;
+      counters = d.done.counters;
+      log = d.done.log;
+      file = ap (λ (x : Files). x names.out.now) files
+          ∙ at_own names.out.now (image_at_last job) stored
+          ∙ ap (λ (b : Banks). Some (image_spelled job b)) (sym d.done.banks);
+      sent = subst (λ k. Told (λ x y. y ≡ x ++ guarded_report (said_of job) (votes_of job)
+          (length job.flips) k (replies_of job)) old.sink.sent new.sink.sent)
+          (sym d.done.counters) sent;
+      answers = s;
+    } in
+    let done : IsDone names.out.now job after old new status = record {
+      refused = refused;
+      done = d;
+      names = names_of texts.script h.job.script short.is;
+      triples = triple.triples;
+      rows = rows;
+    } in
+    record {
+      text = text;
+      job = job;
+      of_files = record {
+        ops = compiled.ops;
+        are = spells_at (before names.ops.now) ops compiled.ops h.ops_at compiled.is;
+        text = refl;
+        script = ap (read_as script_in) h.script_at ∙ ap result_ok short.is;
+        image = ap (read_as image_of) h.image_at ∙ ap result_ok triple.is;
+      };
+      short = short.short;
+      triples = triple.triples;
+      flips_are = ap (read_as (flips_in h.job.image.geometry (length h.job.script))) h.flips_at
+          ∙ ap result_ok h.job.flips_is;
+      program_written = record {
+        file = ap (λ (x : Files). x names.prog.now) files
+            ∙ at_other names.prog.now names.out.now (image_at_last job) stored apart.prog_out
+            ∙ at_own names.prog.now (program_bytes 2 program) before;
+        legal = compiled.legal;
+        implements = compiled.implements;
+        taken = compiled.taken;
+      };
+      rows = rows;
+      words = λ t implements. in_words t names.out.now job after old new status implements done;
+      others = kept_other names program (image_at_last job) before after files;
+    }
+
+stores_prog : (names : GuardNames) (program : Program) (ops : List ℕ)
+    (ro : Result (Unit {0}) Refusal) (u : Unit {0}) (rest : List Step) → ro ≡ Ok u
+    → Stores names.prog.now (loading names.ops.now OPS_MAX ops ro (λ t. Take
+    ∷ Store names.prog.now (program_bytes 2 program) ∷ rest))
+stores_prog names program ops (Ok v) u rest e = inr (inr (inl refl))
+stores_prog names program ops (Err r) u rest e = absurd (cc)
+
+-- A guarded run that was done keeps its promises
+pub guard_promised : (names : GuardNames) (old new : World) (status : ℕ) → Apart names
+    → (e : GuardEnds names old new status) → e.ends.ended ≡ All
+    → Told (λ before after. Guarded names before after old new status) old.files.holds
+    new.files.holds
+guard_promised names old new status apart e done =
+    let steps = guard_steps names e.program e.ops e.texts in
+    let read = job_of_texts e.program e.texts in
+    let so : IsAllDone steps (guard_status read) old new status =
+    subst (λ (x : Ended). EndsSo steps (guard_status read) x old new status) done e.ends.so in
+    let told : IfSome old.files.holds (IsForetold steps All) =
+    subst (λ (x : Ended). IfSome old.files.holds (IsForetold steps x)) done e.ends.foretold in
+    let work : IsGuardDone All read new.chip =
+    subst (λ (x : Ended). IsGuardDone x read new.chip) done e.done in
+    tell_both old.files.holds new.files.holds (λ before after. after ≡ files_after steps before)
+    (λ before after. Guarded names before after old new status) (IsForetold steps All) so.files
+    told (λ before after there foretold files.
+    let stored = with_file names.prog.now (program_bytes 2 e.program) before in
+    let h = has_read names e.program e.ops e.texts old.files.holds before apart there e.is_text
+    e.read foretold in
+    let one = was_read names.ops.now OPS_MAX e.ops (ops_in e.ops) _ before foretold in
+    let compiled = e.compiled (subst (λ (x : Ended). Stores names.prog.now (done_steps steps x))
+    (sym done) (stores_prog names e.program e.ops (ops_in e.ops) one.value _ one.is)) in
+    let own = job_is names e.program e.texts stored h.job in
+    let all = h.steps
+    ∙ ap (λ (xs : List Step). Load names.ops.now OPS_MAX e.ops None ∷ Take
+    ∷ Store names.prog.now (program_bytes 2 e.program) ∷ xs)
+    (steps_are names e.program e.texts stored h.job) in
+    guarded_of names e.program e.ops e.texts work.0 status old new before after apart compiled h
+    (subst (λ (x : Option GuardJob). GuardDoneBy x new.chip work.0) own work.1)
+    (so.answers ∙ ap guard_status own)
+    (files ∙ ap (λ xs. files_after xs before) all
+    ∙ work_files names.out.now (job_in h.job) stored)
+    (subst (λ (bytes : List ℕ). Told (λ x y. y ≡ x ++ bytes) old.sink.sent new.sink.sent)
+    (ap sent_by all ∙ work_sent names.out.now (job_in h.job)) so.sent))
