@@ -208,8 +208,11 @@ pub not_opened : (program : Program) (q : Query) (i : Image) (why : Stop) (a b :
     → Goes (Open ∷ []) (Stopped (reason_of why)) a b → AnswerGoes program q i (Err why) a b
 not_opened program q i why a b g = inl (
   a,
-  (nothing_read a, stops (Open ∷ []) (use_steps (checked i.table (nodes_of q))) (reason_of why) a b
-      g),
+  (
+    nothing_read a,
+    stops (Open ∷ []) (use_steps (checked i.table (nodes_of q))) (reason_of why) a b
+        g,
+  ),
 )
 
 -- the chip is used where no comparison is at fault
@@ -315,8 +318,7 @@ asked_done program q i nodes table files sink before old new r said g ran opens 
     let o = checked i.table (nodes_of q) in
     let stays : (fault : ScanWhy × ℕ) → o ≡ Some fault → new ≡ old = λ fault some.
     ok_and r said (new ≡ old) is (unused fault
-    (sym (checks_are program q i nodes table old new ran) ∙ some)) in
-    (
+    (sym (checks_are program q i nodes table old new ran) ∙ some)) in (
       says,
       taken_open o Done (world files sink before) (world files sink old) (world files sink new) opens
           (use_done o files sink old new ran.faults stays),
@@ -500,8 +502,7 @@ went_on name text program q i (Ok refused) a b c new loaded is front left w =
     let steps : Goes (image_steps name text (Some program) q) Done a new =
     loading_goes name IMAGE_MAX text (image_of text) (λ x. made_steps (Some program) q x) i Done
     a b new is loaded (goes_on (Take ∷ Open ∷ use_steps (checked i.table (nodes_of q)))
-    (put_steps (answer_on program q i)) Done b c new front w.2) in
-    (
+    (put_steps (answer_on program q i)) Done b c new front w.2) in (
       w.0,
       ap (refusal_on (Some program) q) is ∙ w.1,
       steps,

@@ -35,11 +35,7 @@ use uprog_bin::ProgView;
 use uprog_code::Counts;
 
 /// Loads QUERY, with its query.
-fn load_query<'a, F: Folder>(
-    name: &'a str,
-    files: &mut F,
-    alloc: Global,
-) -> Result<Query, Stop<'a>>
+fn load_query<'a, F: Folder>(name: &'a str, files: &mut F, alloc: Global) -> Result<Query, Stop<'a>>
     ensures read { IfOk result (λ query. QueryRead name.now (nodes_in query) (F.view files.old)
         (F.view files.new)) }
     ensures not_read { IfErr result (λ stop. NotRead query_in name.now QUERY_MAX (reason_of stop)

@@ -266,12 +266,7 @@ fn tell_scan<S: Sink>(why: ScanWhy, k: u8, out: &mut S) -> Result<(), Failed>
     ensures failed { OnErr result (Rose (S.view out.old).faults (S.view out.new).faults) }
 {
     let mut buffer = Buffer::new();
-    put_three(
-        refused_front(why),
-        buffer.format(k).as_bytes(),
-        b"\n",
-        out,
-    )
+    put_three(refused_front(why), buffer.format(k).as_bytes(), b"\n", out)
 }
 
 /// The end of the line of a trace file that breaks this rule.
