@@ -2,7 +2,7 @@
 use Rattle.std.proofs.Common.{◌≡◌, ℕ, ◌+◌, ◌*◌, ◌<◌, ◌≤◌, ◌^◌, Bool, true, false, cond, List, []}
 use Rattle.std.proofs.Common.{◌∷◌, ◌++◌, Option, Some, None, refl, sym, ◌∙◌, ap, subst, inl, inr}
 use Rattle.std.proofs.Common.{arith, append-nil, zero-add}
-use Rattle.std.specs.Prelude.{Result, Ok, Err, IfOk, IfSome, ◌≢◌, ◌==◌, ◌&&◌, count_by, not}
+use Rattle.std.specs.Prelude.{Result, Ok, Err, IfOk, IfSome, ◌==◌, ◌&&◌, count_by, not}
 use Rattle.std.specs.Result.{result_ok}
 use Rattle.std.proofs.lemmas.Bool.{eqb-true, eq-eqb}
 use Rattle.std.proofs.lemmas.List.Sums.{sum_by-cons}
@@ -28,9 +28,9 @@ use Rattle.trace_model.specs.Spelling.{IsTrace, Trace, bytes_of_trace}
 use Rattle.cmd_trace.specs.declared.fault.TraceNo.{TraceNo}
 use Rattle.cmd_trace.specs.declared.fault.TraceNo.TheVariants as trace_no
 use Rattle.cmd_trace.specs.Opened.{IsFault as IsTraceFault}
-use Rattle.cli_model.specs.World.{World, world, with_file}
-use Rattle.cli_model.specs.Steps.{Step, Load, Store, Open, Use, Put, Refusal, Reason, Refused}
-use Rattle.cli_model.specs.Steps.{NoMemory, CannotWrite, PutFailed, ChipFailed, End, Done, Stopped}
+use Rattle.cli_model.specs.World.{World, world}
+use Rattle.cli_model.specs.Steps.{Load, Store, Open, Use, Put, Refusal, Reason, Refused}
+use Rattle.cli_model.specs.Steps.{CannotWrite, PutFailed, ChipFailed, End, Done, Stopped}
 use Rattle.cli_model.specs.Steps.{Goes, Loaded, LoadFails, Stored, Unstored, loading}
 use Rattle.cli_model.specs.Stands.{files_after, sent_by}
 use Rattle.cli_model.specs.Status.{Tells}
@@ -47,7 +47,7 @@ use Rattle.simdram_cli.specs.Ends.{answer_to}
 use Rattle.simdram_cli.specs.Inputs.{image_of, image_or_refusal}
 use Rattle.simdram_cli.specs.Job.{done_status, opened_counters}
 use Rattle.simdram_cli.specs.Reads.{IsText, LoadedAs, NotLoaded, refusal_of}
-use Rattle.simdram_cli.specs.Replay.{AreTexts, DoneByTrace, DoneOnImage, EventsDone, ImageReplayed}
+use Rattle.simdram_cli.specs.Replay.{DoneByTrace, DoneOnImage, EventsDone, ImageReplayed}
 use Rattle.simdram_cli.specs.Replay.{IsReplayed, ReplayEnds, ReplayGoes, ReplayTexts, Replayed}
 use Rattle.simdram_cli.specs.Replay.{events_steps, image_replayed, is_aap, is_ap, is_write}
 use Rattle.simdram_cli.specs.Replay.{on_image_steps, replay_counters, replay_line, replay_steps}

@@ -1,4 +1,3 @@
-use Rattle.std.proofs.Common.{arith}
 use Rattle.std.proofs.lemmas.Result.{err_from_is_err_and}
 use Rattle.cli_model.specs.World.{world}
 use Rattle.simdram_cli.proofs.Replaying.{replay_unread, replay_went, trace_not_read}

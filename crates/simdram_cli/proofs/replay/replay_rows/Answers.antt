@@ -1,4 +1,4 @@
-use Rattle.std.proofs.Common.{sym, ◌∙◌, arith, inr, refl}
+use Rattle.std.proofs.Common.{sym, ◌∙◌}
 use Rattle.std.proofs.lemmas.Result.{err_from_is_err_and}
 use Rattle.object_alloc.specs.Exact.{found_in}
 use Rattle.sim_machine.specs.Machine.{geometry_of}
@@ -6,7 +6,6 @@ use Rattle.cli_model.specs.World.{world}
 use Rattle.simdram_cli.specs.Inputs.{image_found}
 use Rattle.simdram_cli.proofs.Replaying.{events_done, events_failed, file_is, reads_failed}
 use Rattle.simdram_cli.proofs.Replaying.{reads_still, rows_read, rows_unopened}
-use Rattle.simdram_cli.proofs.Scanning.{room_opened}
 use Rattle.simdram_cli.proofs.Stores.{at_err, at_ok}
 use Rattle.simdram_cli.proofs.replay.replay_rows.Goals as goal
 
