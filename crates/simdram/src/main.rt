@@ -47,9 +47,9 @@ mod soaked;
 #[cfg(test)]
 mod tests;
 #[cfg(test)]
-mod tracing;
-#[cfg(test)]
 mod traced;
+#[cfg(test)]
+mod tracing;
 
 /// The status where the words cannot be read.
 const UNREAD: u8 = 1;

@@ -256,7 +256,10 @@ fn a_trace_may_be_full(rt: HostRuntime) -> Result<(), Fail> {
     assert_eq!(rt; made, 0);
     let (status, _) = answer(&TRACE, &mut files, alloc);
     assert_eq!(rt; status, 0);
-    assert_eq!(rt; files.file("traced").map(|bytes| bytes.len()), Some(66 + 67_108_864));
+    assert_eq!(rt;
+        files.file("traced").map(|bytes| bytes.len()),
+        Some(66 + 67_108_864)
+    );
     let first = files.file("out").ok_or("no image")?.to_vec(alloc)?;
     // one AAP more
     script.push_str("fill c, 0\n")?;

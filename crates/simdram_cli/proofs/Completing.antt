@@ -1,8 +1,8 @@
 -- A command is done where its files are good and nothing failed, or memory was wanting; and what
 -- stands where it was.
-use Rattle.std.proofs.Common.{◌≡◌, ◌⊎◌, ◌≤◌, ℕ, Bool, true, false, cond, List, [], ◌∷◌, ◌++◌}
+use Rattle.std.proofs.Common.{◌≡◌, ◌⊎◌, ◌≤◌, ℕ, true, false, List, [], ◌∷◌, ◌++◌}
 use Rattle.std.proofs.Common.{Option, Some, None, refl, sym, ◌∙◌, ap, subst, inl, inr, arith, length}
-use Rattle.std.specs.Prelude.{Result, Ok, Err, IfSome, ◌≢◌, nat_lt, bytes_eq, codes, ◌==◌}
+use Rattle.std.specs.Prelude.{Result, Ok, Err, IfSome, ◌≢◌, codes, ◌==◌}
 use Rattle.std.specs.List.{list_any}
 use Rattle.std.proofs.lemmas.Bool.{le-ltb}
 use denote.Ref.{Bor}
@@ -27,7 +27,7 @@ use Rattle.cli_model.specs.Steps.{Reason, CannotRead, TooLong, Refused, NoMemory
 use Rattle.cli_model.specs.Steps.{PutFailed, ChipFailed, Done, Stopped, Unopened}
 use Rattle.cli_model.specs.Status.{reason_status, reason_line}
 use Rattle.cli_model.specs.Stands.{files_after, sent_by}
-use Rattle.cli_model.specs.Foreseen.{foreseen, load_end}
+use Rattle.cli_model.specs.Foreseen.{foreseen}
 use Rattle.cli_model.specs.Ends.{Stop, Ended, All, At, Causes, Ends, EndsSo, IsStopped, IsForetold}
 use Rattle.cli_model.specs.Ends.{IsFault, IsLast, IsStoreOf, LeavesFiles, Sends, Wants, done_steps}
 use Rattle.cli_model.specs.Ends.{is_on_chip}
@@ -39,7 +39,6 @@ use Rattle.simdram_cli.specs.declared.words.RunNames.{RunNames}
 use Rattle.simdram_cli.specs.declared.words.ExecNames.{ExecNames}
 use Rattle.simdram_cli.specs.declared.words.CompileNames.{CompileNames}
 use Rattle.simdram_cli.specs.declared.words.MigrateNames.{MigrateNames}
-use Rattle.simdram_cli.specs.declared.words.InitNames.{InitNames}
 use Rattle.simdram_cli.specs.declared.words.TheConstants.{OPS_MAX, PROG_MAX, SCRIPT_MAX, IMAGE_MAX}
 use Rattle.simdram_cli.specs.declared.words.Command.{Command}
 use Rattle.simdram_cli.specs.declared.words.Command.TheVariants.{Run, Exec, Compile, Show, Migrate}
@@ -77,7 +76,7 @@ use Rattle.simdram_cli.specs.Queries.{query_in}
 use Rattle.simdram_cli.specs.Scan.{AreRead, ScanTexts, TellsLast, answer_on, made_steps, put_steps}
 use Rattle.simdram_cli.specs.Scan.{refusal_on, scan_status, scan_steps, use_steps}
 use Rattle.simdram_cli.proofs.Promising.{broken_of, made_of, put_of, scan_so, use_of}
-use Rattle.simdram_cli.specs.Accounts.{account_of, account_steps}
+use Rattle.simdram_cli.specs.Accounts.{account_steps}
 use Rattle.simdram_cli.specs.Commands.{CommandEnds, OnCommand}
 use Rattle.simdram_cli.specs.Compile.{compile_steps}
 use Rattle.simdram_cli.specs.Complete.{AreGood, Completes, file_in, IsGood, IsImageFile, IsOps}
@@ -88,7 +87,7 @@ use Rattle.simdram_cli.specs.Init.{init_steps}
 use Rattle.simdram_cli.specs.Inputs.{ops_in, script_in, image_of}
 use Rattle.simdram_cli.specs.Job.{Texts, image_by, job_status, job_steps, refused_by, script_steps}
 use Rattle.simdram_cli.specs.Job.{tally_by, work_steps}
-use Rattle.simdram_cli.specs.Migrate.{migrate_steps, migrated_line}
+use Rattle.simdram_cli.specs.Migrate.{migrate_steps}
 use Rattle.simdram_cli.specs.Programs.{prog_in}
 use Rattle.simdram_cli.specs.Reads.{IsText, refusal_of}
 use Rattle.simdram_cli.specs.Run.{job_names, run_steps}

@@ -1,14 +1,13 @@
 -- How an execution goes and ends, and what it promises.
-use Rattle.std.proofs.Common.{◌≡◌, ◌⊎◌, ℕ, Bool, true, false, List, [], ◌∷◌, ◌++◌, Option, Some}
+use Rattle.std.proofs.Common.{◌≡◌, ℕ, Bool, true, false, List, [], ◌∷◌, ◌++◌, Option, Some}
 use Rattle.std.proofs.Common.{None}
-use Rattle.std.proofs.Common.{refl, sym, ◌∙◌, ap, subst, inl, inr, append-nil}
-use Rattle.std.specs.Prelude.{Result, Ok, Err, IfOk, IfSome, ◌||◌, ◌≢◌}
+use Rattle.std.proofs.Common.{refl, sym, ◌∙◌, ap, subst, inl, inr}
+use Rattle.std.specs.Prelude.{Result, Ok, Err, IfOk, IfSome, ◌||◌}
 use Rattle.std.specs.List.{AllByRecursion}
 use Rattle.std.specs.Result.{result_ok}
 use Rattle.dram_model.specs.Chip.{Banks, row_in}
 use Rattle.dram_model.specs.View.{ChipView}
 use Rattle.host_edge.specs.Views.{Files, FolderView, SinkView, Told}
-use Rattle.object_alloc.specs.Listed.{Named}
 use Rattle.uprog_code.specs.Programs.{IsProgram}
 use Rattle.uprog_code.specs.Texts.{TextOp, ImplementsAll}
 use Rattle.uprog_bin.specs.Opened.{IsProgramFile}
@@ -18,21 +17,20 @@ use Rattle.machine_model.specs.Agrees.{IsPlain}
 use Rattle.machine_model.specs.Operations.{Program, operations_in}
 use Rattle.machine_model.specs.Opened.{Image, opened}
 use Rattle.machine_model.specs.Report.{lines, total_line}
-use Rattle.machine_model.specs.Script.{banks_at_end, is_touched_by, table_at_end}
+use Rattle.machine_model.specs.Script.{banks_at_end, table_at_end}
 use Rattle.machine_model.specs.Steps.{is_touched}
 use Rattle.machine_model.proofs.KeptAll.{untouched_stays}
 use Rattle.machine_model.proofs.Parts.{scripts_go_on}
 use Rattle.machine_model.proofs.Places.{bytes_differ}
 use Rattle.machine_model.proofs.Tables.{table_stays}
 use Rattle.cli_model.specs.World.{World, world, with_file}
-use Rattle.cli_model.specs.Steps.{Step, Load, Refusal, Refused, Goes, loading}
+use Rattle.cli_model.specs.Steps.{Step, Load, Refusal, Refused, loading}
 use Rattle.cli_model.specs.Stands.{files_after, sent_by}
 use Rattle.cli_model.specs.Status.{Tells}
 use Rattle.cli_model.specs.Ends.{Ended, All, At, Stop, EndsSo, IsAllDone, IsForetold, done_steps}
 use Rattle.cli_model.proofs.Ending.{all_ends}
 use Rattle.simdram_cli.specs.declared.words.ExecNames.{ExecNames}
 use Rattle.simdram_cli.specs.declared.words.TheConstants.{PROG_MAX}
-use Rattle.simdram_cli.specs.declared.job.JobNames.{JobNames}
 use Rattle.simdram_cli.specs.declared.stop.Stop.{Stop as StopBy}
 use Rattle.simdram_cli.specs.Inputs.{script_in, image_of}
 use Rattle.simdram_cli.specs.Programs.{prog_in, prog_refusal, program_or_refusal}
@@ -42,7 +40,7 @@ use Rattle.simdram_cli.specs.Job.{Texts, done_status, image_by, job_status, job_
 use Rattle.simdram_cli.specs.Job.{said_in, tally_by}
 use Rattle.simdram_cli.specs.Ends.{IsDoneBy, IsRead, JobDone, JobGoes, answer_to}
 use Rattle.simdram_cli.specs.Exec.{ByText, ExecEnds, ExecGoes, Executed, IsDoneAs, IsDoneWith}
-use Rattle.simdram_cli.specs.Exec.{RowByRow, RowsStay, StaysInside, exec_names, exec_steps}
+use Rattle.simdram_cli.specs.Exec.{RowsStay, StaysInside, exec_names, exec_steps}
 use Rattle.simdram_cli.specs.Exec.{status_with}
 use Rattle.simdram_cli.specs.Headline.{read_as}
 use Rattle.simdram_cli.proofs.Ended.{done_by, job_status_is, nothing_done}

@@ -1,5 +1,5 @@
 -- How a recorded execution ends, and what it promises.
-use Rattle.std.proofs.Common.{◌≡◌, ◌⊎◌, ℕ, ◌+◌, ◌*◌, ◌<◌, ◌≤◌, ◌^◌, Bool, true, false, cond, leb, List}
+use Rattle.std.proofs.Common.{◌≡◌, ◌⊎◌, ℕ, ◌*◌, ◌<◌, ◌≤◌, ◌^◌, Bool, true, false, cond, leb, List}
 use Rattle.std.proofs.Common.{[], ◌∷◌, ◌++◌, Option, Some, None, refl, sym, ◌∙◌, ap, subst, inl, inr}
 use Rattle.std.proofs.Common.{arith, append-nil, length}
 use Rattle.std.specs.Prelude.{Result, Ok, Err, IfSome, ◌≢◌, bytes_eq, nat_lt}
@@ -8,7 +8,6 @@ use Rattle.std.proofs.lemmas.Bool.{leb-true}
 use Rattle.host_edge.specs.Views.{Files, Told}
 use Rattle.dram_model.specs.Chip.{Banks}
 use Rattle.object_alloc.specs.Spelling.{image_bytes}
-use Rattle.uprog_code.specs.Programs.{IsProgram}
 use Rattle.uprog_bin.specs.Opened.{IsProgramFile}
 use Rattle.bbop_isa.specs.declared.instr.ScriptFault.{ScriptFault}
 use Rattle.bbop_isa.specs.Forms.{Instruction}
@@ -21,13 +20,12 @@ use Rattle.machine_model.specs.Script.{table_at_end}
 use Rattle.machine_model.proofs.Places.{bytes_differ}
 use Rattle.trace_model.specs.Recorder.{events_size}
 use Rattle.trace_model.specs.Replay.{script_trace}
-use Rattle.trace_model.specs.Spelling.{Trace, bytes_of_trace}
+use Rattle.trace_model.specs.Spelling.{bytes_of_trace}
 use Rattle.trace_model.proofs.Files.{files_are_exact}
 use Rattle.trace_model.proofs.Records.{fitting_are_few}
 use Rattle.trace_model.proofs.Scripts.{replay_is_script, script_is_trace}
 use Rattle.cmd_trace.specs.declared.sizes.TheConstants.{EVENTS_BYTES_MAX}
 use Rattle.trace_job.specs.Below.{IsLate}
-use Rattle.trace_job.specs.Telling.{all_fit}
 use Rattle.cli_model.specs.World.{World, with_file}
 use Rattle.cli_model.specs.Steps.{Step, Load, Take, Store, Open, Use, Put, Print, Refusal, Reason}
 use Rattle.cli_model.specs.Steps.{Refused, TooLong, End, Done, Stopped, Goes, loading}

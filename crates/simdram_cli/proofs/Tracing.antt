@@ -1,5 +1,5 @@
 -- The parts of a recorded execution.
-use Rattle.std.proofs.Common.{◌≡◌, ◌⊎◌, ℕ, ◌+◌, ◌*◌, ◌≤◌, Bool, true, false, List, [], ◌∷◌, ◌++◌}
+use Rattle.std.proofs.Common.{◌≡◌, ℕ, ◌+◌, ◌*◌, ◌≤◌, Bool, true, false, List, [], ◌∷◌, ◌++◌}
 use Rattle.std.proofs.Common.{Option, Some, None, refl, sym, ◌∙◌, ap, subst, inl, inr, length}
 use Rattle.std.proofs.Common.{append-nil, append_assoc, add_assoc}
 use Rattle.std.specs.Prelude.{Result, Ok, Err, count_by}
@@ -27,7 +27,6 @@ use Rattle.machine_model.specs.Laws.{TableFits}
 use Rattle.machine_model.specs.Opened.{Image, opened, rows_of}
 use Rattle.machine_model.specs.Operations.{Program, Operations, operations_in}
 use Rattle.machine_model.specs.Pieces.{Piece, Wave, Alone, instrs_in, pieces, script_events}
-use Rattle.machine_model.specs.Pieces.{events_of_pieces}
 use Rattle.machine_model.specs.Report.{Said, line, said_by, said_in_rows, total_line}
 use Rattle.machine_model.specs.Script.{banks_at_end, is_refused, replies, rows_printed, sum_done}
 use Rattle.machine_model.specs.Script.{table_at_end}
@@ -41,27 +40,25 @@ use Rattle.trace_model.specs.Replay.{script_trace}
 use Rattle.trace_model.specs.Spelling.{IsEvent, bytes_of_trace, trace_bytes}
 use Rattle.trace_model.proofs.Legal.{events_are_legal}
 use Rattle.cmd_trace.specs.Tape.{Tape, empty_log, recorded}
-use Rattle.cmd_trace.specs.Widths.{has_begun_below}
 use Rattle.trace_job.specs.Below.{BeginOnChip, IsLate}
 use Rattle.trace_job.specs.Telling.{Saw, Spelled, all_fit}
 use Rattle.trace_job.proofs.Going.{steps_are_below}
 use Rattle.cli_model.specs.World.{World, world}
-use Rattle.cli_model.specs.Steps.{Step, Take, Open, Use, Store, Put, Print, Refusal, Reason, Refused}
-use Rattle.cli_model.specs.Steps.{NoMemory, CannotWrite, PutFailed, ChipFailed, End, Done, Stopped}
+use Rattle.cli_model.specs.Steps.{Step, Open, Use, Store, Put, Refusal, Reason, Refused}
+use Rattle.cli_model.specs.Steps.{CannotWrite, PutFailed, ChipFailed, End, Done, Stopped}
 use Rattle.cli_model.specs.Steps.{Goes, Loaded, Stored, Unstored, loading}
 use Rattle.cli_model.proofs.Going.{goes_on, stops}
-use Rattle.simdram_cli.specs.declared.words.ExecNames.{ExecNames}
 use Rattle.simdram_cli.specs.declared.words.TraceNames.{TraceNames}
 use Rattle.simdram_cli.specs.declared.words.TheConstants.{PROG_MAX, SCRIPT_MAX, IMAGE_MAX}
 use Rattle.simdram_cli.specs.declared.stop.Stop.{Stop}
 use Rattle.simdram_cli.specs.declared.stop.Stop.TheVariants as stop
-use Rattle.simdram_cli.specs.Inputs.{image_of, image_or_refusal, image_refusal, script_in}
+use Rattle.simdram_cli.specs.Inputs.{image_of, image_or_refusal, script_in}
 use Rattle.simdram_cli.specs.Programs.{prog_in, prog_refusal, program_or_refusal}
 use Rattle.simdram_cli.specs.Reads.{LoadedAs, NotLoaded, NotRead, ReadAs, IsText, refusal_of}
-use Rattle.simdram_cli.specs.Stops.{end_of, image_reason, reason_of, trace_full}
+use Rattle.simdram_cli.specs.Stops.{image_reason, reason_of, trace_full}
 use Rattle.simdram_cli.specs.Job.{Texts, image_by, instr_steps, opened_counters, piece_steps}
 use Rattle.simdram_cli.specs.Job.{pieces_steps, put_lines, refused_by, script_steps, tally_by}
-use Rattle.simdram_cli.specs.Works.{OpenedOn, WorkDone}
+use Rattle.simdram_cli.specs.Works.{WorkDone}
 use Rattle.simdram_cli.specs.Ends.{DoneBy, DoneOn, IsRead, JobDone}
 use Rattle.simdram_cli.specs.Exec.{IsDoneAs, exec_names}
 use Rattle.simdram_cli.specs.Tracing.{Came, ImageTraced, JobTraced, OpensOn, ScriptRecorded}

@@ -25,7 +25,7 @@ use Rattle.trace_job.specs.Telling.{all_fit}
 use Rattle.cli_model.specs.World.{World, with_file}
 use Rattle.cli_model.specs.Steps.{Step, Take, Open, Use, Store, Put, Refusal, Refused, Done, Stopped}
 use Rattle.cli_model.specs.Steps.{Goes, loading}
-use Rattle.cli_model.specs.Ends.{Ended, Ends, done_steps}
+use Rattle.cli_model.specs.Ends.{Ends, done_steps}
 use Rattle.simdram_cli.specs.declared.words.ExecNames.{ExecNames}
 use Rattle.simdram_cli.specs.declared.words.TraceNames.{TraceNames}
 use Rattle.simdram_cli.specs.declared.words.TheConstants.{PROG_MAX, SCRIPT_MAX, IMAGE_MAX}

@@ -31,10 +31,10 @@ ghost use Rattle.simdram_cli.specs.Stops.{end_of, reason_of};
 ghost use Rattle.simdram_cli.specs.Words.{guard_apart};
 
 use crate::job::image_stop;
+use crate::lines::{Line, add, add_number};
 use crate::load::{load, load_script};
 use crate::perform::open;
 use crate::run::{open_own, take_program};
-use crate::lines::{Line, add, add_number};
 use crate::stop::Stop;
 use crate::words::{FLIPS_MAX, GuardNames, IMAGE_MAX, SCRIPT_MAX};
 use crate::work::fault_stop;

@@ -200,7 +200,13 @@ fn inputs_apart(prog: &str, script: &str, image: &str, out: &str) -> bool
 fn traced_apart(names: TraceNames<'_>) -> bool
     ensures { result ≡ traced_apart names.entry }
 {
-    are_apart(names.prog, names.script, names.trace, names.image, names.out)
+    are_apart(
+        names.prog,
+        names.script,
+        names.trace,
+        names.image,
+        names.out,
+    )
 }
 
 /// The command on the five files of a recorded execution.

@@ -1,4 +1,4 @@
-use Rattle.std.proofs.Common.{◌≡◌, rules, sym, ◌∙◌, ap, refl, subst, map}
+use Rattle.std.proofs.Common.{◌≡◌, rules, sym, ◌∙◌, ap, refl, map}
 use Rattle.std.specs.Prelude.{Ok, Err, Some}
 use Rattle.std.proofs.lemmas.Result.{err_from_is_err_and}
 use Rattle.bbop_isa.specs.Forms.{view_of}

@@ -6,7 +6,7 @@ use Rattle.cli_model.specs.World.{world}
 use Rattle.simdram_cli.specs.Inputs.{image_found}
 use Rattle.simdram_cli.specs.Tracing.{OpensOn}
 use Rattle.simdram_cli.proofs.Stores.{at_err, at_ok}
-use Rattle.simdram_cli.proofs.Tracing.{no_room, not_opened, not_recorded, table_fits, total_sent}
+use Rattle.simdram_cli.proofs.Tracing.{not_opened, not_recorded, table_fits, total_sent}
 use Rattle.simdram_cli.proofs.Tracing.{total_unsent}
 use Rattle.simdram_cli.proofs.trace.trace_script.Goals as goal
 
