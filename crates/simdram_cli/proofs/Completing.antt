@@ -60,7 +60,6 @@ use Rattle.simdram_cli.specs.Guard.{guard_status, guard_steps, image_steps, job_
 use Rattle.simdram_cli.specs.Guard.{work_steps as guard_work}
 use Rattle.simdram_cli.specs.Complete.{IsFlipsFile}
 use Rattle.cli_model.specs.Steps.{End}
-use Rattle.cli_model.specs.Foreseen.{refused_or}
 use Rattle.guard_model.specs.FlipText.{flips_of}
 use Rattle.guard_model.specs.Named.{first_long_name}
 use Rattle.guard_model.specs.Triples.{first_stranger}

@@ -24,16 +24,14 @@ use Rattle.uprog_code.specs.declared.walker.Counts.{Counts}
 use Rattle.machine_model.specs.Operations.{Program, Operations, meaning_in, operations_in}
 use Rattle.machine_model.specs.Operations.{operations_of}
 use Rattle.machine_model.specs.Opened.{Image, opened, rows_of, words_of}
-use Rattle.machine_model.specs.Report.{Said, line, lines, total_line}
+use Rattle.machine_model.specs.Report.{line, lines, total_line}
 use Rattle.machine_model.specs.Steps.{Held, table_of}
 use Rattle.machine_model.proofs.Places.{bytes_differ}
 use Rattle.machine_model.proofs.Texts.{same_operations}
-use Rattle.op_text.specs.Language.{Operation}
-use Rattle.op_text.specs.OpsOf.{IsOpsOf}
 use Rattle.guard_model.specs.declared.Flip.{Flip}
 use Rattle.guard_model.specs.Guarded.{guarded_replies, guarded_rows, guarded_rows_at_end, joined, plain_ones}
 use Rattle.guard_model.specs.Guarded.{guarded_said_by, guarded_said_in_rows}
-use Rattle.guard_model.specs.Guarded.{guarded_said_in_words, guarded_table, guarded_table_at_end}
+use Rattle.guard_model.specs.Guarded.{guarded_table, guarded_table_at_end}
 use Rattle.guard_model.specs.Guarded.{guarded_words, guarded_words_at_end, lone_words_at_end}
 use Rattle.guard_model.specs.Guarded.{mended}
 use Rattle.guard_model.specs.Laws.{HasName, IsGuarded}
@@ -44,7 +42,7 @@ use Rattle.guard_model.proofs.Adding.{accepted_has_names}
 use Rattle.guard_model.proofs.Whole.{guarded_table_is, guarded_text, triples_kept}
 use Rattle.guard_job.specs.Steps.{guarded_steps, line_steps}
 use Rattle.cli_model.specs.World.{World, with_file}
-use Rattle.cli_model.specs.Steps.{Step, Load, Take, Store, Open, Use, Put, Print, Refusal, loading}
+use Rattle.cli_model.specs.Steps.{Step, Load, Take, Store, Use, Refusal, loading}
 use Rattle.cli_model.specs.Steps.{Done}
 use Rattle.cli_model.specs.Stands.{files_after, sent_by}
 use Rattle.cli_model.specs.Foreseen.{foreseen}
@@ -58,12 +56,12 @@ use Rattle.simdram_cli.specs.Flips.{table_refusal, name_refusal, unless_some, wi
 use Rattle.simdram_cli.specs.Guard.{AreTexts, GuardDoneBy, GuardDoneOn, GuardEnds, GuardJob}
 use Rattle.simdram_cli.specs.Guard.{GuardTexts, Guarded, GuardedRows, GuardedWords, IsGuardDone}
 use Rattle.simdram_cli.specs.Guard.{IsMendable, Mended, guard_job, guard_job_steps, guard_status}
-use Rattle.simdram_cli.specs.Guard.{guard_steps, image_at_last, image_steps, flips_steps, job_by}
-use Rattle.simdram_cli.specs.Guard.{job_of_flips, job_of_texts, last_steps, operations_by}
-use Rattle.simdram_cli.specs.Guard.{refused_of, replies_by, replies_of, run_names, said_by}
+use Rattle.simdram_cli.specs.Guard.{guard_steps, image_at_last, image_steps, flips_steps}
+use Rattle.simdram_cli.specs.Guard.{job_of_texts, last_steps, operations_by}
+use Rattle.simdram_cli.specs.Guard.{refused_of, replies_by, replies_of, said_by}
 use Rattle.simdram_cli.specs.Guard.{said_of, state_by, table_at_last, tally_of, votes_of}
 use Rattle.simdram_cli.specs.Guard.{work_steps}
-use Rattle.simdram_cli.specs.Headline.{IsJob, IsNoBadWalk, read_as}
+use Rattle.simdram_cli.specs.Headline.{IsNoBadWalk, read_as}
 use Rattle.simdram_cli.specs.Inputs.{image_of, ops_in, script_in, script_or_refusal}
 use Rattle.simdram_cli.specs.Job.{done_status}
 use Rattle.simdram_cli.specs.Reads.{IsText}

@@ -1,5 +1,5 @@
 -- The statuses that the steps of a guarded run can give.
-use Rattle.std.proofs.Common.{◌≡◌, ℕ, ◌+◌, Bool, true, false, cond, List, [], ◌∷◌, ◌++◌, Option, Some}
+use Rattle.std.proofs.Common.{ℕ, ◌+◌, Bool, true, false, cond, List, [], ◌∷◌, ◌++◌, Option, Some}
 use Rattle.std.proofs.Common.{None, length}
 use Rattle.std.specs.Prelude.{Result, Ok, Err}
 use Rattle.dram_model.specs.declared.geometry.Geometry.{Geometry}
@@ -23,7 +23,7 @@ use Rattle.guard_model.specs.Named.{first_long_name}
 use Rattle.guard_model.specs.Triples.{first_stranger}
 use Rattle.guard_job.specs.Steps.{guarded_steps, line_steps}
 use Rattle.sim_machine.specs.Machine.{is_print}
-use Rattle.cli_model.specs.Steps.{Step, Take, Store, Open, Use, Refusal, loading}
+use Rattle.cli_model.specs.Steps.{Step, Take, Store, Use, Refusal, loading}
 use Rattle.cli_model.proofs.Statuses.{OfRefusal, OfSteps, of_more}
 use Rattle.simdram_cli.specs.declared.words.GuardNames.{GuardNames}
 use Rattle.simdram_cli.specs.declared.words.TheConstants.{FLIPS_MAX, IMAGE_MAX, OPS_MAX, SCRIPT_MAX}
@@ -31,10 +31,9 @@ use Rattle.simdram_cli.specs.Flips.{flips_in, flips_or_refusal, guarded_image_of
 use Rattle.simdram_cli.specs.Flips.{guarded_script_in, in_triples, name_refusal, table_refusal}
 use Rattle.simdram_cli.specs.Flips.{unless_some, with_short_names}
 use Rattle.simdram_cli.specs.Guard.{GuardJob, GuardTexts, flips_steps, guard_job, guard_job_steps}
-use Rattle.simdram_cli.specs.Guard.{guard_status, guard_steps, image_steps, job_of_texts}
-use Rattle.simdram_cli.specs.Guard.{last_steps, refused_of, work_steps}
+use Rattle.simdram_cli.specs.Guard.{guard_status, guard_steps, image_steps}
+use Rattle.simdram_cli.specs.Guard.{last_steps, work_steps}
 use Rattle.simdram_cli.specs.Inputs.{image_or_refusal, ops_in, script_or_refusal, unless_fault}
-use Rattle.simdram_cli.specs.Job.{done_status}
 use Rattle.simdram_cli.specs.Reads.{refusal_of}
 
 -- the statuses

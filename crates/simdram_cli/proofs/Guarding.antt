@@ -1,5 +1,5 @@
 -- How a guarded run goes and ends.
-use Rattle.std.proofs.Common.{◌≡◌, ◌⊎◌, ℕ, ◌+◌, ◌*◌, ◌≤◌, Bool, true, false, cond, List, [], ◌∷◌}
+use Rattle.std.proofs.Common.{◌≡◌, ℕ, ◌+◌, ◌*◌, ◌≤◌, Bool, true, false, cond, List, [], ◌∷◌}
 use Rattle.std.proofs.Common.{◌++◌, length, Option, Some, None, refl, sym, ◌∙◌, ap, subst, inl, inr}
 use Rattle.std.proofs.Common.{append-nil, arith, map}
 use Rattle.std.specs.Prelude.{Result, Ok, Err, IfOk, bytes_eq, count_by, not, position}
@@ -44,11 +44,10 @@ use Rattle.guard_model.specs.Report.{vote_line}
 use Rattle.guard_model.specs.Triples.{first_stranger}
 use Rattle.guard_job.specs.Events.{run_events}
 use Rattle.guard_job.specs.Steps.{end_by, guarded_steps}
-use Rattle.cli_model.specs.World.{World, world, with_file}
-use Rattle.cli_model.specs.Steps.{Step, Load, Take, Store, Open, Use, Put, Refusal, Reason}
+use Rattle.cli_model.specs.World.{World, world}
+use Rattle.cli_model.specs.Steps.{Step, Store, Open, Use, Put, Refusal, Reason}
 use Rattle.cli_model.specs.Steps.{CannotRead, TooLong, Refused, NoMemory, CannotWrite, PutFailed}
 use Rattle.cli_model.specs.Steps.{ChipFailed, End, Done, Stopped, Goes, LoadFails, Stored, Unstored}
-use Rattle.cli_model.specs.Steps.{loading}
 use Rattle.cli_model.specs.Status.{Tells}
 use Rattle.cli_model.specs.Ends.{Ended, All, At, Stop as StopAt}
 use Rattle.cli_model.proofs.Going.{goes_on, stops}
@@ -60,17 +59,17 @@ use Rattle.simdram_cli.specs.Ends.{ProgramStopped, ProgramTaken, answer_to}
 use Rattle.simdram_cli.specs.Flips.{flips_in, flips_or_refusal, flips_refusal, guarded_image_of}
 use Rattle.simdram_cli.specs.Flips.{guarded_script_in, in_triples, name_refusal, table_refusal}
 use Rattle.simdram_cli.specs.Flips.{unless_some, with_short_names}
-use Rattle.simdram_cli.specs.Guard.{AreTexts, FlipsWorked, GuardDone, GuardDoneBy, GuardDoneOn}
+use Rattle.simdram_cli.specs.Guard.{FlipsWorked, GuardDone, GuardDoneBy}
 use Rattle.simdram_cli.specs.Guard.{GuardEnds, GuardGoes, GuardImageWorked, GuardJob, GuardJobGoes}
 use Rattle.simdram_cli.specs.Guard.{GuardTexts, IsGuardDone, banks_at_last, events_of, flips_steps}
 use Rattle.simdram_cli.specs.Guard.{guard_job, guard_job_steps, guard_status, guard_steps}
 use Rattle.simdram_cli.specs.Guard.{image_at_last, image_steps, job_of_flips, job_of_image}
 use Rattle.simdram_cli.specs.Guard.{job_of_texts, last_steps, refused_of, run_names}
 use Rattle.simdram_cli.specs.Guard.{table_at_last, tally_of, votes_of, work_steps}
-use Rattle.simdram_cli.specs.Inputs.{image_found, image_of, image_or_refusal, image_refusal}
+use Rattle.simdram_cli.specs.Inputs.{image_found, image_or_refusal, image_refusal}
 use Rattle.simdram_cli.specs.Inputs.{script_in}
 use Rattle.simdram_cli.specs.Job.{done_status, opened_counters}
-use Rattle.simdram_cli.specs.Reads.{IsText, LoadedAs, NotLoaded, NotRead, ReadAs, refusal_of}
+use Rattle.simdram_cli.specs.Reads.{IsText, LoadedAs, NotRead, ReadAs, refusal_of}
 use Rattle.simdram_cli.specs.Stops.{end_of, fault_reason, image_reason, reason_of}
 use Rattle.simdram_cli.specs.Words.{all_differ, guard_apart}
 use Rattle.simdram_cli.specs.Works.{OpenedOn}

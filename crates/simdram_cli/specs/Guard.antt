@@ -4,7 +4,6 @@ use Rattle.std.specs.Prelude.{Option, Some, None, Result, Ok, Err, IfOk}
 use Rattle.std.specs.List.{AllByRecursion}
 use Rattle.host_edge.specs.Views.{Files, Told}
 use Rattle.dram_model.specs.declared.dram.Counters.{Counters}
-use Rattle.dram_model.specs.declared.geometry.Geometry.{Geometry}
 use Rattle.dram_model.specs.Chip.{Banks, Event, LogIs}
 use Rattle.dram_model.specs.View.{ChipView, with_reads}
 use Rattle.object_alloc.specs.Listed.{Named}

@@ -10,7 +10,7 @@ use Rattle.cli_model.specs.Steps.{Done, Stopped}
 use Rattle.simdram_cli.specs.Guard.{guard_job}
 use Rattle.simdram_cli.specs.Inputs.{image_found}
 use Rattle.simdram_cli.specs.Stops.{reason_of}
-use Rattle.simdram_cli.proofs.Guarding.{Begins, Did, Worked, all_done, last_are, script_are}
+use Rattle.simdram_cli.proofs.Guarding.{Begins, Worked, all_done, last_are, script_are}
 use Rattle.simdram_cli.proofs.Guarding.{stopped_open, stopped_work, worked, worked_on}
 use Rattle.simdram_cli.proofs.guard.work_guarded.Goals as goal
 
