@@ -293,8 +293,8 @@ scan_passes names texts made q (Some files) good read =
     loads_none_done (made_steps made q i) files
     (made_of (λ s. s ≡ 2 → ⊥) made q i (λ e. cc) (λ e. cc) (λ e. cc))))
 
--- A command that its files foretell to be refused with one status, where they do not let it be done.
--- So it is done or so refused, or answers 10
+-- A command that its files foretell to be done, or to be refused for one reason: so it ends, or
+-- answers 10
 
 refused_fault : (steps : List Step) (files : Files) (refusal : Refusal) (reason : Reason)
     → foreseen steps files ≡ Stopped (Refused refusal)

@@ -65,7 +65,8 @@ abbrev pub replay_line : Counters → List ℕ
 replay_line k = codes "replay aap=" ++ decimal k.aap ++ codes " ap=" ++ decimal k.ap
     ++ codes " writes=" ++ decimal k.writes ++ codes " reads=" ++ decimal k.reads ++ codes "\n"
 
--- the file of the trace's geometry and objects, with the rows that its events leave from the image's
+-- the image of the trace's geometry and objects, with the rows that its events leave from those of
+-- the image read
 abbrev pub image_replayed : Trace → Image → List ℕ
 image_replayed t i = image_bytes t.geometry t.table (rows_of (replayed t.events i))
 

@@ -255,9 +255,9 @@ fn dispatch<F: Folder, S: Sink, D: Dram>(
 /// objects, whose rows are zeros; `soak SEED` does every word operation with one result at the
 /// widths 1, 8 and 64 on a generator's words, and puts a line for each with its row commands and
 /// the sum of its results; `scan QUERY IMAGE` puts how many elements of IMAGE meet QUERY, by
-/// comparisons in the chip; `replay TRACE IMAGE OUT` does the events of TRACE on IMAGE's rows, stores
-/// them with the objects of TRACE as OUT, and puts how many commands the chip did. The answer is
-/// the exit status.
+/// comparisons in the chip; `replay TRACE IMAGE OUT` does the events of TRACE on IMAGE's rows,
+/// stores them with the objects of TRACE as OUT, and puts how many commands the chip did. The
+/// answer is the exit status.
 pub fn simdram<F: Folder, S: Sink, D: Dram>(
     words: &[&str],
     files: &mut F,
