@@ -47,7 +47,8 @@ pub record Mended (g : Geometry) (now : List Flip) (table : List Named) (a b : C
 
 -- and then an instruction was done
 pub record InstrDone (g : Geometry) (operations : Operations) (now : List Flip)
-    (instr : Instruction) (turn turn' : Turn) (table table' : List Named) (a b : ChipView) (votes refused : ℕ) : Type 0
+    (instr : Instruction) (turn turn' : Turn) (table table' : List Named) (a b : ChipView)
+    (votes refused : ℕ) : Type 0
   where
     pub tables : table' ≡ guarded_table g operations table instr
     pub turns : turn' ≡ guarded_turn g operations turn table instr

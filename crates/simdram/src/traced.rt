@@ -28,8 +28,8 @@ fn image(rows: u8, alloc: Global) -> Result<Vec<u8>, AllocError> {
     Ok(bytes)
 }
 
-/// Eight events: row 1 is set to 0x09, T0 takes row 0, T1 takes row 1 and T2 takes C0; their majority
-/// settles in them, row 2 takes T0, and row 3 the complement of row 0 by way of DCC0.
+/// Eight events: row 1 is set to 0x09, T0 takes row 0, T1 takes row 1 and T2 takes C0; their
+/// majority settles in them, row 2 takes T0, and row 3 the complement of row 0 by way of DCC0.
 static EVENTS: [&[u8]; 9] = [
     b"\x02\x00\x02\x01\x00\x00\x00\x00",
     b"\x09\0\0\0\0\0\0\0",

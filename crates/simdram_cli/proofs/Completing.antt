@@ -1,6 +1,6 @@
 -- A command is done where its files are good and nothing failed, or memory was wanting; and what
 -- stands where it was.
-use Rattle.std.proofs.Common.{◌≡◌, ◌⊎◌, ◌≤◌, ℕ, true, false, List, [], ◌∷◌, ◌++◌}
+use Rattle.std.proofs.Common.{◌≡◌, ◌⊎◌, ◌≤◌, ℕ, Bool, true, false, List, [], ◌∷◌, ◌++◌}
 use Rattle.std.proofs.Common.{Option, Some, None, refl, sym, ◌∙◌, ap, subst, inl, inr, arith, length}
 use Rattle.std.specs.Prelude.{Result, Ok, Err, IfSome, ◌≢◌, codes, ◌==◌}
 use Rattle.std.specs.List.{list_any}
@@ -55,11 +55,10 @@ use Rattle.simdram_cli.specs.declared.words.GuardNames.{GuardNames}
 use Rattle.simdram_cli.specs.declared.words.TheConstants.{FLIPS_MAX}
 use Rattle.simdram_cli.specs.Flips.{flips_in, guarded_image_of, guarded_script_in, in_triples}
 use Rattle.simdram_cli.specs.Flips.{name_refusal, table_refusal, unless_some, with_short_names}
-use Rattle.simdram_cli.specs.Guard.{AreTexts, GuardTexts, flips_steps, guard_job, guard_job_steps}
+use Rattle.simdram_cli.specs.Guard.{AreGuardTexts, GuardTexts, flips_steps, guard_job, guard_job_steps}
 use Rattle.simdram_cli.specs.Guard.{guard_status, guard_steps, image_steps, job_of_texts}
 use Rattle.simdram_cli.specs.Guard.{work_steps as guard_work}
 use Rattle.simdram_cli.specs.Complete.{IsFlipsFile}
-use Rattle.cli_model.specs.Steps.{End}
 use Rattle.guard_model.specs.FlipText.{flips_of}
 use Rattle.guard_model.specs.Named.{first_long_name}
 use Rattle.guard_model.specs.Triples.{first_stranger}
@@ -101,12 +100,12 @@ use Rattle.simdram_cli.proofs.Running.{Apart, apart}
 use Rattle.simdram_cli.proofs.Soaking.{soak_of}
 use Rattle.simdram_cli.specs.declared.words.ReplayNames.{ReplayNames}
 use Rattle.simdram_cli.specs.declared.words.TheConstants.{TRACE_MAX}
-use Rattle.simdram_cli.specs.Replay.{AreTexts, ReplayTexts, on_image_steps}
+use Rattle.simdram_cli.specs.Replay.{AreReplayTexts, ReplayTexts, on_image_steps}
 use Rattle.simdram_cli.specs.Replay.{replay_steps}
 use Rattle.simdram_cli.specs.Traces.{geometry_differs, if_same, image_for, same_geometry, trace_in}
 use Rattle.simdram_cli.proofs.Promising.{same_is, trace_is}
 use Rattle.trace_model.specs.Reading.{trace_in as trace_read}
-use Rattle.trace_model.specs.Spelling.{Trace}
+use Rattle.trace_model.specs.Spelling.{Trace as EventTrace}
 use Rattle.cli_model.specs.Steps.{End}
 
 -- where nothing failed and the files foretell no end, a step fails for want of memory alone
@@ -329,8 +328,8 @@ trace_passes names prog texts (Some files) good is read =
     loads_none_done (traced_steps names program script i) files
     (traced_of (λ s. s ≡ 2 → ⊥) names program script i (λ e. cc) (λ e. cc) (λ e. cc)))))
 
--- A command that its files foretell to be refused with one status, where they do not let it be done.
--- So it is done or so refused, or answers 10
+-- A command that its files foretell to be done, or to be refused for one reason: so it ends, or
+-- answers 10
 
 refused_fault : (steps : List Step) (files : Files) (refusal : Refusal) (reason : Reason)
     → foreseen steps files ≡ Stopped (Refused refusal)
@@ -601,7 +600,7 @@ guard_17 names program ops texts files apart good is_ops is_script is_image is_f
 guard_completes : (P : ℕ → Type 0) (names : GuardNames) (program : Program) (ops : List ℕ)
     (texts : GuardTexts) (done : ℕ) (ended : Ended) (holds : Option Files) (a b : World)
     (status : ℕ) → AreOthers names → AreGood (Guard names) (file_in holds)
-    → IsText holds names.ops.now ops → AreTexts names texts holds
+    → IsText holds names.ops.now ops → AreGuardTexts names texts holds
     → IfSome holds (IsForetold (guard_steps names program ops texts) ended)
     → EndsSo (guard_steps names program ops texts) done ended a b status → NothingFailed a b
     → P done → P 10 → P 17 → P status
@@ -652,7 +651,7 @@ told_same steps done All refusal old told new status so apart ten tells =
     absurd (apart (sym so.answers ∙ ten))
 told_same steps done (At stop) refusal old told new status so apart ten tells = tells
 
-either_image : (names : ReplayNames) (t : Trace) (i : Image) (text : List ℕ) (files : Files)
+either_image : (names : ReplayNames) (t : EventTrace) (i : Image) (text : List ℕ) (files : Files)
     (b : Bool) → same_geometry i.geometry t.geometry ≡ b → image_of text ≡ Ok i
     → IsImageFile (files names.image.now) → IfSome (files names.image.now) (λ x. x ≡ text)
     → (foreseen (on_image_steps names t text) files ≡ Done)
@@ -667,7 +666,7 @@ either_image names t i text files false e is good has =
     inr (good_ends names.image.now IMAGE_MAX text image_of (image_for t.geometry text) _
     (Stopped (Refused geometry_differs)) files good has (rw read refl))
 
-image_either : (names : ReplayNames) (t : Trace) (text : List ℕ) (files : Files)
+image_either : (names : ReplayNames) (t : EventTrace) (text : List ℕ) (files : Files)
     → IsImageFile (files names.image.now) → IfSome (files names.image.now) (λ x. x ≡ text)
     → (foreseen (on_image_steps names t text) files ≡ Done)
     ⊎ (foreseen (on_image_steps names t text) files ≡ Stopped (Refused geometry_differs))
@@ -678,7 +677,7 @@ image_either names t text files good has =
     ∙ good.accepted) good has
 
 replay_passes : (names : ReplayNames) (texts : ReplayTexts) (holds : Option Files)
-    → AreGood (Replay names) (file_in holds) → AreTexts names texts holds
+    → AreGood (Replay names) (file_in holds) → AreReplayTexts names texts holds
     → DoneOr geometry_differs (replay_steps names texts) holds
 replay_passes names texts None good read = no_file trace_in TRACE_MAX good.0
 replay_passes names texts (Some files) good read =
@@ -688,7 +687,7 @@ replay_passes names texts (Some files) good read =
     read.trace)) ∙ good.0.accepted in
     either_so t accepted (image_either names t texts.image files good.1 read.image)
   where
-    either_so : (t : Trace) → trace_in texts.trace ≡ Ok t
+    either_so : (t : EventTrace) → trace_in texts.trace ≡ Ok t
         → (foreseen (on_image_steps names t texts.image) files ≡ Done)
         ⊎ (foreseen (on_image_steps names t texts.image) files
         ≡ Stopped (Refused geometry_differs))

@@ -53,7 +53,7 @@ use Rattle.simdram_cli.specs.declared.words.TheConstants.{FLIPS_MAX, IMAGE_MAX, 
 use Rattle.simdram_cli.specs.Ends.{IsCompiled}
 use Rattle.simdram_cli.specs.Flips.{flips_in, guarded_image_of, guarded_script_in, in_triples}
 use Rattle.simdram_cli.specs.Flips.{table_refusal, name_refusal, unless_some, with_short_names}
-use Rattle.simdram_cli.specs.Guard.{AreTexts, GuardDoneBy, GuardDoneOn, GuardEnds, GuardJob}
+use Rattle.simdram_cli.specs.Guard.{AreGuardTexts, GuardDoneBy, GuardDoneOn, GuardEnds, GuardJob}
 use Rattle.simdram_cli.specs.Guard.{GuardTexts, Guarded, GuardedRows, GuardedWords, IsGuardDone}
 use Rattle.simdram_cli.specs.Guard.{IsMendable, Mended, guard_job, guard_job_steps, guard_status}
 use Rattle.simdram_cli.specs.Guard.{guard_steps, image_at_last, image_steps, flips_steps}
@@ -425,7 +425,7 @@ record HasRead (names : GuardNames) (program : Program) (ops : List ℕ) (texts 
 
 has_read : (names : GuardNames) (program : Program) (ops : List ℕ) (texts : GuardTexts)
     (holds : Option Files) (before : Files) → Apart names → holds ≡ Some before
-    → IsText holds names.ops.now ops → AreTexts names texts holds
+    → IsText holds names.ops.now ops → AreGuardTexts names texts holds
     → foreseen (guard_steps names program ops texts) before ≡ Done
     → HasRead names program ops texts before
 has_read names program ops texts holds before apart there is_text read foretold =

@@ -38,7 +38,7 @@ use Rattle.simdram_cli.specs.Replay.{ReplayTexts, replay_steps}
 use Rattle.simdram_cli.specs.Traces.{geometry_differs, if_same, image_for, same_geometry, trace_in}
 use Rattle.simdram_cli.specs.Traces.{trace_or_refusal}
 use Rattle.trace_model.specs.Reading.{TraceFault, trace_in as trace_read}
-use Rattle.trace_model.specs.Spelling.{Trace}
+use Rattle.trace_model.specs.Spelling.{Trace as EventTrace}
 use Rattle.simdram_cli.specs.declared.words.Command.{Command}
 use Rattle.simdram_cli.specs.declared.words.Command.TheVariants.{Run, Exec, Compile, Show, Migrate}
 use Rattle.simdram_cli.specs.declared.words.Command.TheVariants.{Cost, List as ListOf, Init, Soak}
@@ -404,7 +404,7 @@ record GivesOfReplay (P : ℕ → Type 0) : Type 0 where
   thirteen : P 13
   fourteen : P 14
 
-pub trace_is : (P : ℕ → Type 0) (read : Result Trace TraceFault) → P 13
+pub trace_is : (P : ℕ → Type 0) (read : Result EventTrace TraceFault) → P 13
     → OfRefusal P (refusal_of (trace_or_refusal read))
 trace_is P (Ok t) thirteen = tt
 trace_is P (Err fault) thirteen = thirteen

@@ -41,8 +41,8 @@ pub record CompileEnds (names : CompileNames) (old new : World) (status : ℕ) :
       → IsCompiled text program
 
 -- PROG is the version 2 file of a program that a file can hold and that implements the ops of OPS.
--- An op of word operations alone takes exactly the sum of their row commands at each width, and each
--- command that loads a program file takes PROG; all other files are as at entry, and how many
+-- An op of word operations alone takes exactly the sum of their row commands at each width, and
+-- each command that loads a program file takes PROG; all other files are as at entry, and how many
 -- entries it has was sent
 pub record Compiled (names : CompileNames) (before after : Files) (old new : World) : Type 0 where
   pub ops : List Operation

@@ -196,7 +196,7 @@ IsGuardDone All job chip = (refused : ℕ) × GuardDoneBy job chip refused
 IsGuardDone (At stop) job chip = Unit {0}
 
 -- the texts are those of the files, where these are told
-pub record AreTexts (names : GuardNames) (texts : GuardTexts) (holds : Option Files) : Type 0 where
+pub record AreGuardTexts (names : GuardNames) (texts : GuardTexts) (holds : Option Files) : Type 0 where
   pub script : IsText holds names.script.now texts.script
   pub image : IsText holds names.image.now texts.image
   pub flips : IsText holds names.flips.now texts.flips
@@ -208,7 +208,7 @@ pub record GuardEnds (names : GuardNames) (old new : World) (status : ℕ) : Typ
   pub texts : GuardTexts
   pub program : Program
   pub is_text : IsText old.files.holds names.ops.now ops
-  pub read : AreTexts names texts old.files.holds
+  pub read : AreGuardTexts names texts old.files.holds
   pub ends : Ends (guard_steps names program ops texts) (guard_status (job_of_texts program texts))
       old new status
   pub compiled : Stores names.prog.now (done_steps (guard_steps names program ops texts) ends.ended)
@@ -330,7 +330,7 @@ pub record GuardImageWorked (names : GuardNames) (program : Program) (script : L
 pub record GuardJobGoes (names : GuardNames) (program : Program) (old new : World)
     (result : Result ℕ Stop) : Type 0 where
   pub texts : GuardTexts
-  pub read : AreTexts names texts old.files.holds
+  pub read : AreGuardTexts names texts old.files.holds
   pub goes : Goes (guard_job_steps names program texts) (end_of result) old new
   pub done : IfOk result (GuardDoneBy (job_of_texts program texts) new.chip)
 
@@ -341,7 +341,7 @@ pub record GuardGoes (names : GuardNames) (old new : World) (result : Result ℕ
   pub ops : List ℕ
   pub texts : GuardTexts
   pub is_text : IsText old.files.holds names.ops.now ops
-  pub read : AreTexts names texts old.files.holds
+  pub read : AreGuardTexts names texts old.files.holds
   pub goes : StoppedEarly names.ops.now names.prog.now program ops (end_of result) old new
       ⊎ (IsCompiled ops program
       × Goes (guard_steps names program ops texts) (end_of result) old new)

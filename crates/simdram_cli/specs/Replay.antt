@@ -29,7 +29,7 @@ pub record ReplayTexts : Type 0 where
   pub image : List ℕ
 
 -- they are those of the files, where these are told
-pub record AreTexts (names : ReplayNames) (texts : ReplayTexts) (holds : Option Files) : Type 0
+pub record AreReplayTexts (names : ReplayNames) (texts : ReplayTexts) (holds : Option Files) : Type 0
   where
     pub trace : IsText holds names.trace.now texts.trace
     pub image : IsText holds names.image.now texts.image
@@ -65,7 +65,8 @@ abbrev pub replay_line : Counters → List ℕ
 replay_line k = codes "replay aap=" ++ decimal k.aap ++ codes " ap=" ++ decimal k.ap
     ++ codes " writes=" ++ decimal k.writes ++ codes " reads=" ++ decimal k.reads ++ codes "\n"
 
--- the file of the trace's geometry and objects, with the rows that its events leave from the image's
+-- the image of the trace's geometry and objects, with the rows that its events leave from those of
+-- the image read
 abbrev pub image_replayed : Trace → Image → List ℕ
 image_replayed t i = image_bytes t.geometry t.table (rows_of (replayed t.events i))
 
@@ -111,7 +112,7 @@ IsReplayed (At stop) texts chip = Unit {0}
 -- A replay of the files at entry: what it reads, how it ends, and what the chip shows then
 pub record ReplayEnds (names : ReplayNames) (old new : World) (status : ℕ) : Type 0 where
   pub texts : ReplayTexts
-  pub read : AreTexts names texts old.files.holds
+  pub read : AreReplayTexts names texts old.files.holds
   pub ends : Ends (replay_steps names texts) 0 old new status
   pub done : IsReplayed ends.ended texts new.chip
 
@@ -146,7 +147,7 @@ pub record ImageReplayed (names : ReplayNames) (t : Trace) (old new : World)
 pub record ReplayGoes (names : ReplayNames) (old new : World) (result : Result ℕ Stop) : Type 0
   where
     pub texts : ReplayTexts
-    pub read : AreTexts names texts old.files.holds
+    pub read : AreReplayTexts names texts old.files.holds
     pub goes : Goes (replay_steps names texts) (end_of result) old new
     pub nothing : IfOk result (λ refused. refused ≡ 0)
     pub done : IfOk result (λ refused. DoneByTrace (trace_in texts.trace) texts new.chip)

@@ -23,8 +23,8 @@ use Rattle.trace_model.specs.Replay.{replayed, script_trace}
 use Rattle.trace_model.specs.Spelling.{Trace, bytes_of_trace}
 use Rattle.trace_job.specs.Telling.{all_fit}
 use Rattle.cli_model.specs.World.{World, with_file}
-use Rattle.cli_model.specs.Steps.{Step, Take, Open, Use, Store, Put, Refusal, Refused, Done, Stopped}
-use Rattle.cli_model.specs.Steps.{Goes, loading}
+use Rattle.cli_model.specs.Steps.{Step, Take, Open, Use, Store, Put, Refusal, Refused, Done}
+use Rattle.cli_model.specs.Steps.{Stopped, Goes, loading}
 use Rattle.cli_model.specs.Ends.{Ends, done_steps}
 use Rattle.simdram_cli.specs.declared.words.ExecNames.{ExecNames}
 use Rattle.simdram_cli.specs.declared.words.TraceNames.{TraceNames}

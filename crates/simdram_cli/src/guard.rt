@@ -215,12 +215,13 @@ fn work_guarded<'a, F: Folder, S: Sink, D: Dram>(
     requires stage { image.geometry.words ≤ length stage.old }
     ensures borrow { D.borrow chip.new ≡ D.borrow chip.old }
     ensures goes { Goes (work_steps name.now (job_on prog.entry.programs
-        (map view_of plan.entry.script.now) (image_found (found_in image.entry)) plan.entry.flips.now))
-        (end_of result) (world (F.view files.old) (S.view out.old) (D.view chip.old))
+        (map view_of plan.entry.script.now) (image_found (found_in image.entry))
+        plan.entry.flips.now)) (end_of result)
+        (world (F.view files.old) (S.view out.old) (D.view chip.old))
         (world (F.view files.new) (S.view out.new) (D.view chip.new)) }
     ensures done { IfOk result (GuardDone (job_on prog.entry.programs
-        (map view_of plan.entry.script.now) (image_found (found_in image.entry)) plan.entry.flips.now)
-        (D.view chip.new)) }
+        (map view_of plan.entry.script.now) (image_found (found_in image.entry))
+        plan.entry.flips.now) (D.view chip.new)) }
 {
     let machine = open(prog, image, chip, alloc)?;
     let mut guard = Guard::new(machine);

@@ -29,7 +29,8 @@ returns-then-is_err-2 g c chip =
     not_put c.args.name.now c.args.file.now (replay_line c.args.counters) files now out
     (g.S.Sink.view c.put.new.self) chip
     (stored c.args.name.now c.args.file.now files now out chip c.store.ensures.others there
-    c.store.ensures.counts) (rw (c.as_slice.ensures.value, c.replay_line-line.ensures) at part) c.put.ensures.counts rose
+    c.store.ensures.counts)
+    (rw (c.as_slice.ensures.value, c.replay_line-line.ensures) at part) c.put.ensures.counts rose
 
 pub returns : goal.returns
 returns g c chip =
@@ -43,4 +44,5 @@ returns g c chip =
     all_put c.args.name.now c.args.file.now (replay_line c.args.counters) files now out
     (g.S.Sink.view c.put.new.self) chip
     (stored c.args.name.now c.args.file.now files now out chip c.store.ensures.others there
-    c.store.ensures.counts) (rw (c.as_slice.ensures.value, c.replay_line-line.ensures) at whole) c.put.ensures.counts
+    c.store.ensures.counts)
+    (rw (c.as_slice.ensures.value, c.replay_line-line.ensures) at whole) c.put.ensures.counts
