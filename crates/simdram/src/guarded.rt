@@ -108,8 +108,8 @@ fn sum_sent(flips: u64, alloc: Global) -> Result<String, Fail> {
         6 ok aap=51 ap=6\n7 c: 1 2 3 0\nvote aap=216 flips={}\n\
         total aap=285 ap=6 writes={} reads={} refused=0\n",
         flips,
-        76 + flips,
-        66 + flips,
+        flips.wrapping_add(76),
+        flips.wrapping_add(66),
     )?;
     Ok(sent)
 }
@@ -359,8 +359,8 @@ fn segments_are_voted_in_each_bank(rt: HostRuntime) -> Result<(), Fail> {
         let totals = format!(in alloc;
             "vote aap=108 flips={}\ntotal aap=126 ap=0 writes={} reads={} refused=0\n",
             times,
-            146 + times,
-            134 + times,
+            times.wrapping_add(146),
+            times.wrapping_add(134),
         )?;
         sent.push_str(totals.as_str())?;
         assert_eq!(rt; (text(&out), ended), (sent.as_str(), 0), "{flips}");
