@@ -5,7 +5,8 @@ use Rattle.std.specs.List.{AllByRecursion}
 use Rattle.dram_model.specs.View.{ChipView}
 use Rattle.fault_counts.specs.Counts.{Rose}
 use Rattle.cli_model.specs.World.{World}
-use Rattle.cli_model.specs.Steps.{Step, Load, Take, Store, Open, Use, Put, Print, End, Done, Stopped}
+use Rattle.cli_model.specs.Steps.{Step, Load, Take, Store, Open, Use, Put, Print, End, Done}
+use Rattle.cli_model.specs.Steps.{Stopped}
 use Rattle.cli_model.specs.Steps.{Goes, Used, Sent, Printed, Stored}
 use Rattle.cli_model.specs.Steps.{Unstored}
 use Rattle.trace_job.specs.Below.{IsLate, with_chip, StepsAreBelow}
