@@ -1,0 +1,2 @@
+-- What two commands promise together.
+pub mod Replays

@@ -1,0 +1,9 @@
+//! What two commands of the program promise together.
+#![tactic(auto)]
+
+ghost use Rattle.cli_laws.specs.Replays.{TracesReplay};
+
+/// A replay of what an execution recorded, on the image that it read, writes the image that it wrote.
+pub fn traces_replay()
+    ensures { TracesReplay }
+{}
