@@ -3,7 +3,7 @@
 
 ghost use Rattle.cli_laws.specs.Replays.{TracesReplay};
 
-/// A replay of what an execution recorded, on the image that it read, writes the image that it wrote.
+/// A replay of what an execution recorded, on the image that it read, writes the same image.
 pub fn traces_replay()
     ensures { TracesReplay }
 {}
