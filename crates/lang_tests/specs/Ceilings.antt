@@ -1,6 +1,5 @@
 -- The ceilings of the word operations, as numbers worked out by hand.
-use Rattle.std.specs.Prelude.{◌≡◌, ℕ, List, [], ◌∷◌}
-use Rattle.std.specs.List.{AllByRecursion}
+use Rattle.std.specs.Prelude.{◌≡◌, ℕ, List, [], ◌∷◌, map}
 use Rattle.op_text.specs.declared.tree.WordOp.{WordOp}
 use Rattle.op_text.specs.declared.tree.WordOp.TheVariants as o
 use Rattle.op_text.specs.Scratch.{op_ceiling}
@@ -25,7 +24,7 @@ by_hand =
     ∷ most o.AndRed 57 225 ∷ most o.OrRed 57 225 ∷ most o.XorRed 121 481
     ∷ most o.Divmod 2048 30464 ∷ []
 
--- the ceilings are these numbers
+-- the ceilings at each of the two widths are these numbers
 abbrev pub CeilingsByHand : Type 0
-CeilingsByHand = AllByRecursion
-    (λ most. (op_ceiling most.op 8 ≡ most.at_8) × (op_ceiling most.op 32 ≡ most.at_32)) by_hand
+CeilingsByHand = (map (λ m. op_ceiling m.op 8) by_hand ≡ map (λ m. m.at_8) by_hand)
+    × (map (λ m. op_ceiling m.op 32) by_hand ≡ map (λ m. m.at_32) by_hand)

@@ -1,35 +1,5 @@
--- each side is the same number
 use Rattle.std.proofs.Common.{refl}
 use Rattle.lang_tests.proofs.ceilings.ceilings_by_hand.Goals as goal
 
 pub returns : goal.returns
-returns c = (
-  (refl, refl),
-  (refl, refl),
-  (refl, refl),
-  (refl, refl),
-  (refl, refl),
-  (refl, refl),
-  (refl, refl),
-  (refl, refl),
-  (refl, refl),
-  (refl, refl),
-  (refl, refl),
-  (refl, refl),
-  (refl, refl),
-  (refl, refl),
-  (refl, refl),
-  (refl, refl),
-  (refl, refl),
-  (refl, refl),
-  (refl, refl),
-  (refl, refl),
-  (refl, refl),
-  (refl, refl),
-  (refl, refl),
-  (refl, refl),
-  (refl, refl),
-  (refl, refl),
-  (refl, refl),
-  tt,
-)
+returns c = (refl, refl)
