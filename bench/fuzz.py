@@ -301,7 +301,7 @@ class Maker:
 
 
 MADE = {"ops": Maker.text, "script": Maker.script, "image": Maker.image, "prog": Maker.program, "query": Maker.query,
-        "flips": Maker.flips, "trace": Maker.trace}
+        "flips": Maker.flips, "trace": Maker.trace, "triples": Maker.triples}
 
 
 def limit():
@@ -313,10 +313,9 @@ def limit():
 def fill(folder, command, maker):
     """Makes the files that the command loads; one of 50 is not there."""
     for name in command.loads:
-        if maker.dice.random() < 0.98 and name == "triples":
-            (folder / "image").write_bytes(maker.triples())
-        elif maker.dice.random() < 0.98:
-            (folder / name).write_bytes(MADE[name](maker))
+        if maker.dice.random() < 0.98:
+            file = "image" if name == "triples" else name
+            (folder / file).write_bytes(MADE[name](maker))
     for name in command.stores:
         if maker.dice.random() < 0.2:
             (folder / name).write_bytes(b"as before")
