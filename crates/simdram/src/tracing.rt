@@ -86,18 +86,28 @@ fn a_trace_holds_the_events(rt: HostRuntime) -> Result<(), Fail> {
     let (status, out) = answer(&TRACE, &mut files, alloc);
     assert_eq!(rt; (text(&out), status), (XOR_REPORT, 0));
     let wanted = xor_trace(alloc)?;
-    assert_eq!(rt; wanted.len(), 146);
     assert!(rt; holds(&files, "traced", &wanted));
     let stored = files.file("traced").ok_or("no trace")?;
-    assert_eq!(rt; stored.get(90..98), Some(XOR_EVENTS[0].as_slice()));
+    assert_eq!(rt; stored.len(), 146);
+    let first = b"\x00\x00\x02\x00\x00\x00\x08\x00";
+    assert_eq!(rt; stored.get(90..98), Some(first.as_slice()));
     let view = TraceView::open(stored, alloc).ok().ok_or("no trace")?;
     assert_eq!(rt; view.geometry().rows, 64);
     assert_eq!(rt; view.table().len(), 3);
+    Ok(())
+}
+
+#[test]
+fn an_execution_leaves_the_same_image(rt: HostRuntime) -> Result<(), Fail> {
+    let alloc = rt.alloc();
+    let image = image_of(&OBJECTS, 64, alloc)?;
+    let mut files = folder(XOR_LINE, &image, alloc)?;
+    let (status, _) = answer(&TRACE, &mut files, alloc);
     let exec = ["exec", "prog", "script", "image", "other"];
-    let (same, other) = answer(&exec, &mut files, alloc);
-    assert_eq!(rt; (text(&other), same), (XOR_REPORT, 0));
-    let image_after = files.file("other").ok_or("no image")?.to_vec(alloc)?;
-    assert!(rt; holds(&files, "out", &image_after));
+    let (same, out) = answer(&exec, &mut files, alloc);
+    assert_eq!(rt; (text(&out), same), (XOR_REPORT, status));
+    let wanted = files.file("other").ok_or("no image")?;
+    assert!(rt; holds(&files, "out", wanted));
     Ok(())
 }
 
@@ -206,23 +216,26 @@ fn one_failing_store_ends_it(rt: HostRuntime) -> Result<(), Fail> {
     Ok(())
 }
 
+/// Words of which two that may not be one are equal.
+static EQUAL: [&[&str]; 9] = [
+    &["trace", "image", "script", "image", "out", "traced"],
+    &["trace", "script", "script", "image", "out", "traced"],
+    &["trace", "prog", "script", "image", "prog", "traced"],
+    &["trace", "prog", "script", "image", "script", "traced"],
+    &["trace", "prog", "image", "image", "out", "traced"],
+    &["trace", "prog", "script", "image", "out", "prog"],
+    &["trace", "prog", "script", "image", "out", "script"],
+    &["trace", "prog", "script", "image", "out", "image"],
+    &["trace", "prog", "script", "image", "out", "out"],
+];
+
 #[test]
 fn equal_words_are_refused(rt: HostRuntime) -> Result<(), Fail> {
     let alloc = rt.alloc();
     let image = image_of(&OBJECTS, 64, alloc)?;
-    for words in [
-        ["trace", "image", "script", "image", "out", "traced"],
-        ["trace", "script", "script", "image", "out", "traced"],
-        ["trace", "prog", "script", "image", "prog", "traced"],
-        ["trace", "prog", "script", "image", "script", "traced"],
-        ["trace", "prog", "image", "image", "out", "traced"],
-        ["trace", "prog", "script", "image", "out", "prog"],
-        ["trace", "prog", "script", "image", "out", "script"],
-        ["trace", "prog", "script", "image", "out", "image"],
-        ["trace", "prog", "script", "image", "out", "out"],
-    ] {
+    for words in EQUAL {
         let mut files = folder(XOR_LINE, &image, alloc)?;
-        let (status, out) = answer(&words, &mut files, alloc);
+        let (status, out) = answer(words, &mut files, alloc);
         assert_eq!(rt; (text(&out), status), ("usage\n", 1));
         assert!(rt; holds(&files, "image", &image));
     }
@@ -246,32 +259,38 @@ fn filling(alloc: Global) -> Result<String, AllocError> {
     Ok(script)
 }
 
-#[test]
-fn a_trace_may_be_full(rt: HostRuntime) -> Result<(), Fail> {
-    let alloc = rt.alloc();
-    let mut script = filling(alloc)?;
-    let mut files = folder(&script, b"", alloc)?;
+/// The status of `trace` with a script on a chip of one bank of 192 rows of 1024 words, what it
+/// sends, and the folder behind it.
+fn trace_large(script: &str, alloc: Global) -> Result<(u8, MemSink, MemFolder), Fail> {
+    let mut files = folder(script, b"", alloc)?;
     let init = ["init", "1", "192", "1024", "image"];
     let (made, _) = answer(&init, &mut files, alloc);
-    assert_eq!(rt; made, 0);
-    let (status, _) = answer(&TRACE, &mut files, alloc);
+    if made != 0 {
+        return Err("no image")?;
+    }
+    let (status, out) = answer(&TRACE, &mut files, alloc);
+    Ok((status, out, files))
+}
+
+#[test]
+fn events_may_take_the_whole_room(rt: HostRuntime) -> Result<(), Fail> {
+    let alloc = rt.alloc();
+    let (status, _, files) = trace_large(&filling(alloc)?, alloc)?;
     assert_eq!(rt; status, 0);
-    assert_eq!(rt;
-        files.file("traced").map(|bytes| bytes.len()),
-        Some(66 + 67_108_864)
-    );
-    let first = files.file("out").ok_or("no image")?.to_vec(alloc)?;
-    // one AAP more
+    let long = files.file("traced").map(|bytes| bytes.len());
+    assert_eq!(rt; long, Some(66 + 67_108_864));
+    Ok(())
+}
+
+#[test]
+fn one_event_more_is_too_many(rt: HostRuntime) -> Result<(), Fail> {
+    let alloc = rt.alloc();
+    let mut script = filling(alloc)?;
     script.push_str("fill c, 0\n")?;
-    files
-        .put_file("script", script.as_bytes())
-        .ok()
-        .ok_or("memory")?;
-    let words = ["trace", "prog", "script", "image", "out", "full"];
-    let (status, out) = answer(&words, &mut files, alloc);
+    let (status, out, files) = trace_large(&script, alloc)?;
     assert_eq!(rt; status, 12);
     assert!(rt; text(&out).ends_with("200 ok aap=1 ap=0\ntrace full\n"));
-    assert_eq!(rt; files.file("full"), None);
-    assert!(rt; !holds(&files, "out", &first));
+    assert!(rt; files.file("out").is_some());
+    assert_eq!(rt; files.file("traced"), None);
     Ok(())
 }
