@@ -1,8 +1,8 @@
 -- The ceilings of the word operations, as numbers worked out by hand.
 use Rattle.std.specs.Prelude.{◌≡◌, ℕ, List, [], ◌∷◌, map}
-use Rattle.op_text.specs.declared.tree.WordOp.{WordOp}
-use Rattle.op_text.specs.declared.tree.WordOp.TheVariants as o
-use Rattle.op_text.specs.Scratch.{op_ceiling}
+use Rattle.op_text.specs.declared.word_ops.WordOp.{WordOp}
+use Rattle.op_text.specs.declared.word_ops.WordOp.TheVariants as o
+use Rattle.op_text.specs.Costs.{op_ceiling}
 
 -- the most commands of a statement of an operation at widths 8 and 32
 pub record Most : Type 0 where

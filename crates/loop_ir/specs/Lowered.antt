@@ -8,7 +8,8 @@ use Rattle.op_text.specs.declared.tree.Kind.TheVariants.{Word}
 use Rattle.op_text.specs.Language.{Statement, Compute, Visit}
 use Rattle.op_text.specs.Rules.{is_among}
 use Rattle.op_text.specs.Meaning.{Held, width, after_statement}
-use Rattle.op_text.specs.Scratch.{bits_inside, words_inside, need_inside, op_ceiling, block_ceiling}
+use Rattle.op_text.specs.Scratch.{bits_inside, words_inside, need_inside, block_ceiling}
+use Rattle.op_text.specs.Costs.{op_ceiling}
 use Rattle.loop_ir.specs.declared.ir.Space.TheVariants.{ScratchBit, ScratchWord}
 use Rattle.loop_ir.specs.declared.names.Slot.{Slot}
 use Rattle.loop_ir.specs.Plain.{StepOf, Block}

@@ -17,7 +17,7 @@ use Rattle.op_text.specs.declared.grammar.Wanted.TheVariants.{SecondResult, Colo
 use Rattle.op_text.specs.Items.{spelling_of}
 use Rattle.op_text.specs.Rules.{Scope, breach_of, is_bad, is_among, kind_among, is_known}
 use Rattle.op_text.specs.WordOps.{second_kind}
-use Rattle.op_text.specs.declared.tree.WordOp.{WordOp}
+use Rattle.op_text.specs.declared.word_ops.WordOp.{WordOp}
 use Rattle.op_text.specs.Language.{results, result_names}
 use Rattle.op_text.specs.Language.{Term, Nought, Unity, Named, Negation, Conjunction, Disjunction}
 use Rattle.op_text.specs.Language.{Parity, Majority, Equation, Statement, Compute, Visit, Operation}

@@ -18,7 +18,7 @@ use Rattle.op_text.specs.Rules.{Scope, breach_of, is_bad, is_among, kind_among, 
 use Rattle.op_text.specs.Rules.{second_of}
 use Rattle.op_text.specs.Language.{Statement, Compute, Visit, Operation, results}
 use Rattle.op_text.specs.Language.{result_names}
-use Rattle.op_text.specs.declared.tree.WordOp.{WordOp}
+use Rattle.op_text.specs.declared.word_ops.WordOp.{WordOp}
 use Rattle.op_text.specs.Scratch.{param, defines, body_defines}
 use Rattle.op_text.specs.WordOps.{op_text, second_kind}
 use Rattle.op_text.specs.Spelling.{items_spelled, between_commas, in_turn, name_text, param_text}

@@ -4,7 +4,7 @@ use Rattle.std.specs.Prelude.{length, Option, Some, None, bytes_eq, codes}
 use Rattle.op_text.specs.declared.tree.Kind.{Kind}
 use Rattle.op_text.specs.declared.tree.Kind.TheVariants.{Word, Bit}
 use Rattle.op_text.specs.declared.tree.Param.{Param}
-use Rattle.op_text.specs.declared.tree.WordOp.{WordOp}
+use Rattle.op_text.specs.declared.word_ops.WordOp.{WordOp}
 use Rattle.op_text.specs.Language.{Equation, Block, Statement, Compute, Visit, Operation}
 use Rattle.op_text.specs.Language.{results, result_names}
 use Rattle.op_text.specs.WordOps.{forms, filled, second_kind}

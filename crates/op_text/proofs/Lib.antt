@@ -5,6 +5,7 @@ pub mod Back
 pub mod Complete
 pub mod Steps
 pub mod Link
+pub mod Rows
 pub mod Operations
 pub mod Accepted
 pub mod Places

@@ -6,8 +6,7 @@ use Rattle.op_text.specs.declared.tree.Kind.{Kind}
 use Rattle.op_text.specs.declared.tree.Kind.TheVariants.{Word, Bit}
 use Rattle.op_text.specs.declared.tree.Param.{Param}
 use Rattle.op_text.specs.declared.tree.State.{State}
-use Rattle.op_text.specs.declared.tree.WordOp.{WordOp}
-use Rattle.op_text.specs.declared.tree.WordOp.TheVariants as o
+use Rattle.op_text.specs.declared.word_ops.WordOp.{WordOp}
 use Rattle.op_text.specs.WordOps.{op_text, op_named}
 use Rattle.op_text.specs.Language.{Equation, Block, Compute, Visit, Operation}
 use Rattle.op_text.specs.Spelling.{IsShut, behind_commas, between_commas}
@@ -16,6 +15,7 @@ use Rattle.op_text.specs.Spelling.{param_text, state_text, equation_text, let_te
 use Rattle.op_text.specs.Spelling.{behind_comma, operation_text, IsName, HasParam, HasState}
 use Rattle.op_text.specs.Spelling.{IfThere}
 use Rattle.op_text.specs.Spelling.{HasEquation, HasStatement, HasOperation, Each, OpsSpelledOnce}
+use Rattle.op_text.proofs.Rows.{is_op, same_op, every}
 use Rattle.op_text.proofs.Unique.{spelled_once}
 
 -- the first byte of the first token, and of the second
@@ -51,34 +51,17 @@ start_once false false e = refl
 start_once true false e = absurd (omega (arith, ap (λ x. first (x ∷ [])) e))
 start_once false true e = absurd (omega (arith, ap (λ x. first (x ∷ [])) e))
 
+abbrev names : Option WordOp → WordOp → Bool
+names None p = false
+names (Some q) p = is_op q p
+
+names_one : (r : Option WordOp) (p : WordOp) → names r p ≡ true → r ≡ Some p
+names_one None p h = cc
+names_one (Some q) p h = ap (λ x. Some x) (same_op q p h)
+
 op_is_named : (p : WordOp) → op_named (op_text p) ≡ Some p
-op_is_named o.Not = refl
-op_is_named o.And = refl
-op_is_named o.Or = refl
-op_is_named o.Xor = refl
-op_is_named o.Copy = refl
-op_is_named o.Zero = refl
-op_is_named o.Ones = refl
-op_is_named o.Shl1 = refl
-op_is_named o.Shr1 = refl
-op_is_named o.Add = refl
-op_is_named o.Sub = refl
-op_is_named o.Mul = refl
-op_is_named o.Div = refl
-op_is_named o.Rem = refl
-op_is_named o.Abs = refl
-op_is_named o.Relu = refl
-op_is_named o.Min = refl
-op_is_named o.Max = refl
-op_is_named o.Eq = refl
-op_is_named o.Gt = refl
-op_is_named o.Ge = refl
-op_is_named o.IfElse = refl
-op_is_named o.Bitcount = refl
-op_is_named o.AndRed = refl
-op_is_named o.OrRed = refl
-op_is_named o.XorRed = refl
-op_is_named o.Divmod = refl
+op_is_named p =
+    names_one (op_named (op_text p)) p (every (λ q. names (op_named (op_text q)) q) refl p)
 
 op_once : (p q : WordOp) → op_text p ≡ op_text q → p ≡ q
 op_once p q e = let s : Some p ≡ Some q = sym (op_is_named p) ∙ ap op_named e ∙ op_is_named q in cc

@@ -1,36 +1,12 @@
 -- Word operations.
-use Rattle.std.proofs.Common.{◌≡◌, ℕ, ◌≤◌, length, arith, Bool, true, false, List, [], ◌∷◌, ◌++◌}
-use Rattle.std.proofs.Common.{Option, Some, None, refl, sym, ap, ◌∙◌, bytes_eq, cond}
+use Rattle.std.proofs.Common.{◌≡◌, ◌≤◌, length, arith, false, List, [], ◌∷◌, ◌++◌}
+use Rattle.std.proofs.Common.{Some, None, refl, sym, ap, ◌∙◌}
 use Rattle.op_text.specs.declared.tree.Kind.{Kind}
 use Rattle.op_text.specs.declared.tree.Kind.TheVariants.{Word, Bit}
-use Rattle.op_text.specs.declared.tree.WordOp.{WordOp}
-use Rattle.op_text.specs.declared.tree.WordOp.TheVariants as o
 use Rattle.op_text.specs.declared.word_ops.Shape.{Shape}
 use Rattle.op_text.specs.declared.word_ops.Shape.TheVariants as shapes
-use Rattle.op_text.specs.WordOps.{Form, named_among, op_text, lacks, shape_forms, may_take}
+use Rattle.op_text.specs.WordOps.{Form, row_of, lacks, shape_forms, may_take}
 use Rattle.op_text.specs.WordOps.{wants_more, filled, given_first, first_of, FirstSettles}
-
-or_some : (b : Bool) (p q : WordOp) (x y : Option WordOp) → (x ≡ Some q → y ≡ Some q)
-    → cond b (Some p) x ≡ Some q → cond b (Some p) y ≡ Some q
-or_some true p q x y k h = h
-or_some false p q x y k h = k h
-
-or_none : (b : Bool) (p : WordOp) (x y z : Option WordOp) → (x ≡ None → y ≡ z)
-    → cond b (Some p) x ≡ None → cond b (Some p) y ≡ z
-or_none true p x y z k h = cc
-or_none false p x y z k h = k h
-
-pub found : (xs ys : List WordOp) (text : List ℕ) (q : WordOp) → named_among xs text ≡ Some q
-    → named_among (xs ++ ys) text ≡ Some q
-found [] ys text q h = cc
-found (p ∷ xs) ys text q h = or_some (bytes_eq text (op_text p)) p q (named_among xs text)
-    (named_among (xs ++ ys) text) (found xs ys text q) h
-
-pub not_found : (xs ys : List WordOp) (text : List ℕ) → named_among xs text ≡ None
-    → named_among (xs ++ ys) text ≡ named_among ys text
-not_found [] ys text h = refl
-not_found (p ∷ xs) ys text h = or_none (bytes_eq text (op_text p)) p (named_among xs text)
-    (named_among (xs ++ ys) text) (named_among ys text) (not_found xs ys text) h
 
 nothing_lacks : (more : List Kind) (k : Kind) → lacks (more ++ k ∷ []) [] ≡ None
 nothing_lacks [] k = refl
@@ -355,30 +331,4 @@ settles shapes.Choice (Bit ∷ Bit ∷ Word ∷ a ∷ more) k h = cc
 settles shapes.Choice (Bit ∷ Bit ∷ Bit ∷ a ∷ more) k h = cc
 
 pub first_settles : FirstSettles
-first_settles o.Not kinds k h = settles shapes.OneOf kinds k h
-first_settles o.Copy kinds k h = settles shapes.OneOf kinds k h
-first_settles o.And kinds k h = settles shapes.TwoOf kinds k h
-first_settles o.Or kinds k h = settles shapes.TwoOf kinds k h
-first_settles o.Xor kinds k h = settles shapes.TwoOf kinds k h
-first_settles o.Zero kinds k h = settles shapes.Nothing kinds k h
-first_settles o.Ones kinds k h = settles shapes.Nothing kinds k h
-first_settles o.Shl1 kinds k h = settles (shapes.OneWord Word) kinds k h
-first_settles o.Shr1 kinds k h = settles (shapes.OneWord Word) kinds k h
-first_settles o.Abs kinds k h = settles (shapes.OneWord Word) kinds k h
-first_settles o.Relu kinds k h = settles (shapes.OneWord Word) kinds k h
-first_settles o.Bitcount kinds k h = settles (shapes.OneWord Word) kinds k h
-first_settles o.AndRed kinds k h = settles (shapes.OneWord Bit) kinds k h
-first_settles o.OrRed kinds k h = settles (shapes.OneWord Bit) kinds k h
-first_settles o.XorRed kinds k h = settles (shapes.OneWord Bit) kinds k h
-first_settles o.Add kinds k h = settles (shapes.TwoWords Word) kinds k h
-first_settles o.Sub kinds k h = settles (shapes.TwoWords Word) kinds k h
-first_settles o.Mul kinds k h = settles (shapes.TwoWords Word) kinds k h
-first_settles o.Div kinds k h = settles (shapes.TwoWords Word) kinds k h
-first_settles o.Rem kinds k h = settles (shapes.TwoWords Word) kinds k h
-first_settles o.Min kinds k h = settles (shapes.TwoWords Word) kinds k h
-first_settles o.Max kinds k h = settles (shapes.TwoWords Word) kinds k h
-first_settles o.Eq kinds k h = settles (shapes.TwoWords Bit) kinds k h
-first_settles o.Gt kinds k h = settles (shapes.TwoWords Bit) kinds k h
-first_settles o.Ge kinds k h = settles (shapes.TwoWords Bit) kinds k h
-first_settles o.IfElse kinds k h = settles shapes.Choice kinds k h
-first_settles o.Divmod kinds k h = settles (shapes.TwoWords Word) kinds k h
+first_settles p kinds k h = settles (row_of p).shape kinds k h

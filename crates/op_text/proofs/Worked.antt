@@ -1,14 +1,14 @@
 -- Worked values: word operations, whole operations, their scratch and their ceilings.
 use Rattle.std.proofs.Common.{◌≡◌, ℕ, ◌+◌, ◌*◌, false, List, [], ◌∷◌, Some, None, map, codes, refl}
 use Rattle.op_text.specs.declared.tree.Kind.TheVariants.{Word, Bit}
-use Rattle.op_text.specs.declared.tree.WordOp.{WordOp}
-use Rattle.op_text.specs.declared.tree.WordOp.TheVariants as o
+use Rattle.op_text.specs.declared.word_ops.WordOp.{WordOp}
+use Rattle.op_text.specs.declared.word_ops.WordOp.TheVariants as o
 use Rattle.op_text.specs.Language.{Term, Named, Parity, Majority, Equation, Compute, Visit}
 use Rattle.op_text.specs.Language.{Operation}
 use Rattle.op_text.specs.Values.{bits, op_value, second_value}
 use Rattle.op_text.specs.Meaning.{meaning}
 use Rattle.op_text.specs.Scratch.{scratch_bits, scratch_words, need, ceiling, param}
-use Rattle.op_text.specs.Scratch.{op_ceiling}
+use Rattle.op_text.specs.Costs.{op_ceiling}
 
 -- an operation's values at a width, for each list of arguments
 abbrev Gives : WordOp → ℕ → List (List ℕ) → List ℕ → Type 0

@@ -1,7 +1,7 @@
 -- Operations without where they lie in memory.
 use Rattle.std.specs.Prelude.{ℕ, Bool, List, ◌∷◌, map, Option}
 use Rattle.std.specs.Option.{option_to_list}
-use Rattle.op_text.specs.declared.tree.WordOp.{WordOp}
+use Rattle.op_text.specs.declared.word_ops.WordOp.{WordOp}
 use Rattle.op_text.specs.declared.tree.Param.{Param}
 use Rattle.op_text.specs.declared.tree.State.{State}
 use Rattle.op_text.specs.declared.tree.Assign.{Assign}

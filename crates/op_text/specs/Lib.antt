@@ -6,6 +6,7 @@ pub mod Lines
 pub mod Language
 pub mod Values
 pub mod Meaning
+pub mod Costs
 pub mod Scratch
 pub mod Trees
 pub mod Spelling

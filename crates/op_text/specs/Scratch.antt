@@ -1,69 +1,24 @@
 -- The scratch that an operation needs, and how many commands it may take.
-use Rattle.std.specs.Prelude.{ℕ, ◌+◌, ◌*◌, ◌^◌, max, not, ◌&&◌, List, [], ◌∷◌, ◌++◌, length, map}
+use Rattle.std.specs.Prelude.{ℕ, ◌+◌, ◌*◌, max, not, ◌&&◌, List, [], ◌∷◌, ◌++◌, length, map}
 use Rattle.std.specs.Prelude.{filter, count_by, sum, unwrap_or, Some, None}
 use Rattle.op_text.specs.declared.tree.Kind.{Kind}
 use Rattle.op_text.specs.declared.tree.Kind.TheVariants.{Word, Bit}
 use Rattle.op_text.specs.declared.tree.Param.{Param}
-use Rattle.op_text.specs.declared.tree.WordOp.{WordOp}
-use Rattle.op_text.specs.declared.tree.WordOp.TheVariants as o
+use Rattle.op_text.specs.declared.word_ops.WordOp.{WordOp}
 use Rattle.op_text.specs.Language.{Term, Nought, Unity, Named, Negation, Conjunction, Disjunction}
 use Rattle.op_text.specs.Language.{Parity, Majority, Equation, Block, Statement, Compute, Visit}
 use Rattle.op_text.specs.Language.{Operation, result_names}
 use Rattle.op_text.specs.Rules.{is_among, kind_among, second_of}
-use Rattle.op_text.specs.WordOps.{forms, given_first, same_kind}
+use Rattle.op_text.specs.WordOps.{row_of, forms, given_first, same_kind}
+use Rattle.op_text.specs.Costs.{op_ceiling}
 use Rattle.op_text.specs.Meaning.{width}
 
 -- the internal scratch of one statement of an operation
 abbrev pub bits_inside : WordOp → ℕ
-bits_inside o.Shl1 = 1
-bits_inside o.Shr1 = 1
-bits_inside o.Add = 1
-bits_inside o.Sub = 1
-bits_inside o.Mul = 1
-bits_inside o.Div = 2
-bits_inside o.Rem = 2
-bits_inside o.Abs = 1
-bits_inside o.Min = 1
-bits_inside o.Max = 1
-bits_inside o.Bitcount = 1
-bits_inside o.Divmod = 2
-bits_inside p = 0
+bits_inside p = (row_of p).bits
 
 abbrev pub words_inside : WordOp → ℕ
-words_inside o.Div = 2
-words_inside o.Rem = 2
-words_inside o.Divmod = 2
-words_inside p = 0
-
--- the greatest number of commands of one statement at width n
-abbrev pub op_ceiling : WordOp → ℕ → ℕ
-op_ceiling o.Not n = 2 * n
-op_ceiling o.And n = 4 * n
-op_ceiling o.Or n = 4 * n
-op_ceiling o.Xor n = 7 * n
-op_ceiling o.Copy n = 3 * n
-op_ceiling o.Zero n = 3 * n
-op_ceiling o.Ones n = 3 * n
-op_ceiling o.Shl1 n = 6 * n + 1
-op_ceiling o.Shr1 n = 6 * n + 1
-op_ceiling o.Add n = 9 * n + 1
-op_ceiling o.Sub n = 18 * n + 1
-op_ceiling o.Mul n = 11 * n ^ 2 + 15 * n
-op_ceiling o.Div n = 29 * n ^ 2 + 18 * n
-op_ceiling o.Rem n = 29 * n ^ 2 + 18 * n
-op_ceiling o.Abs n = 34 * n + 1
-op_ceiling o.Relu n = 7 * n
-op_ceiling o.Min n = 22 * n + 1
-op_ceiling o.Max n = 22 * n + 1
-op_ceiling o.Eq n = 19 * n + 1
-op_ceiling o.Gt n = 7 * n + 1
-op_ceiling o.Ge n = 7 * n + 1
-op_ceiling o.IfElse n = 15 * n
-op_ceiling o.Bitcount n = 22 * n ^ 2 + 4 * n
-op_ceiling o.AndRed n = 7 * n + 1
-op_ceiling o.OrRed n = 7 * n + 1
-op_ceiling o.XorRed n = 15 * n + 1
-op_ceiling o.Divmod n = 29 * n ^ 2 + 24 * n
+words_inside p = (row_of p).words
 
 abbrev pub param : List ℕ → Kind → Param
 param name k = record { name = name; kind = k }

@@ -2,8 +2,8 @@
 use Rattle.std.specs.Prelude.{ℕ, zero, suc, ◌+◌, ◌-◌, ◌*◌, ◌/◌, ◌%◌, ◌^◌, ◌==◌, nat_lt, nat_le, min}
 use Rattle.std.specs.Prelude.{max, Bool, true, false, not, ◌&&◌, ◌||◌, List, [], ◌∷◌, count_by}
 use Rattle.std.specs.Prelude.{if◌then◌else◌}
-use Rattle.op_text.specs.declared.tree.WordOp.{WordOp}
-use Rattle.op_text.specs.declared.tree.WordOp.TheVariants as o
+use Rattle.op_text.specs.declared.word_ops.WordOp.{WordOp}
+use Rattle.op_text.specs.declared.word_ops.WordOp.TheVariants as o
 
 -- a bit as a number
 abbrev pub bit_number : Bool → ℕ

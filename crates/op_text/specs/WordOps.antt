@@ -1,58 +1,71 @@
 -- The word operations: how they are spelled, what they take and give.
 use Rattle.std.specs.Prelude.{◌≡◌, ℕ, List, [], ◌∷◌, ◌++◌, Bool, true, false, Option, Some, None}
-use Rattle.std.specs.Prelude.{bytes_eq, codes, unwrap_or, if◌then◌else◌}
+use Rattle.std.specs.Prelude.{bytes_eq, map, unwrap_or, slice_index_or, if◌then◌else◌}
 use Rattle.std.specs.List.{list_any}
 use Rattle.op_text.specs.declared.tree.Kind.{Kind}
 use Rattle.op_text.specs.declared.tree.Kind.TheVariants.{Word, Bit}
-use Rattle.op_text.specs.declared.tree.WordOp.{WordOp}
-use Rattle.op_text.specs.declared.tree.WordOp.TheVariants as o
+use Rattle.op_text.specs.declared.word_ops.WordOp.{WordOp}
+use Rattle.op_text.specs.declared.word_ops.WordOp.TheVariants as o
+use Rattle.op_text.specs.declared.word_ops.TheConstants.{WORD_OPS}
+use Rattle.op_text.specs.declared.word_ops.WordRow.{WordRow}
 use Rattle.op_text.specs.declared.word_ops.Shape.{Shape}
 use Rattle.op_text.specs.declared.word_ops.Shape.TheVariants as shapes
 
+-- an operation's place in the table
+abbrev pub number : WordOp → ℕ
+number o.Not = 0
+number o.And = 1
+number o.Or = 2
+number o.Xor = 3
+number o.Copy = 4
+number o.Zero = 5
+number o.Ones = 6
+number o.Shl1 = 7
+number o.Shr1 = 8
+number o.Add = 9
+number o.Sub = 10
+number o.Mul = 11
+number o.Div = 12
+number o.Rem = 13
+number o.Abs = 14
+number o.Relu = 15
+number o.Min = 16
+number o.Max = 17
+number o.Eq = 18
+number o.Gt = 19
+number o.Ge = 20
+number o.IfElse = 21
+number o.Bitcount = 22
+number o.AndRed = 23
+number o.OrRed = 24
+number o.XorRed = 25
+number o.Divmod = 26
+
+-- the rows of the table, each with its name
+abbrev pub word_rows : List (List ℕ × WordRow)
+word_rows = map (λ r. (r.0.now, r.1)) WORD_OPS
+
+abbrev pub row_at : ℕ → List ℕ × WordRow
+row_at k = slice_index_or word_rows k
+    ([], record { op = o.Not; shape = shapes.Nothing; second = None; bits = 0; words = 0 })
+
+abbrev pub row_of : WordOp → WordRow
+row_of p = (row_at (number p)).1
+
 abbrev pub op_text : WordOp → List ℕ
-op_text o.Not = codes "not"
-op_text o.And = codes "and"
-op_text o.Or = codes "or"
-op_text o.Xor = codes "xor"
-op_text o.Copy = codes "copy"
-op_text o.Zero = codes "zero"
-op_text o.Ones = codes "ones"
-op_text o.Shl1 = codes "shl1"
-op_text o.Shr1 = codes "shr1"
-op_text o.Add = codes "add"
-op_text o.Sub = codes "sub"
-op_text o.Mul = codes "mul"
-op_text o.Div = codes "div"
-op_text o.Rem = codes "rem"
-op_text o.Abs = codes "abs"
-op_text o.Relu = codes "relu"
-op_text o.Min = codes "min"
-op_text o.Max = codes "max"
-op_text o.Eq = codes "eq"
-op_text o.Gt = codes "gt"
-op_text o.Ge = codes "ge"
-op_text o.IfElse = codes "if_else"
-op_text o.Bitcount = codes "bitcount"
-op_text o.AndRed = codes "and_red"
-op_text o.OrRed = codes "or_red"
-op_text o.XorRed = codes "xor_red"
-op_text o.Divmod = codes "divmod"
+op_text p = (row_at (number p)).0
 
--- all word operations, in the order of their table
+-- all word operations, in the order of the table
 abbrev pub all_ops : List WordOp
-all_ops =
-    o.Not ∷ o.And ∷ o.Or ∷ o.Xor ∷ o.Copy ∷ o.Zero ∷ o.Ones ∷ o.Shl1 ∷ o.Shr1 ∷ o.Add ∷ o.Sub
-    ∷ o.Mul ∷ o.Div ∷ o.Rem
-    ∷ o.Abs ∷ o.Relu ∷ o.Min ∷ o.Max ∷ o.Eq ∷ o.Gt ∷ o.Ge ∷ o.IfElse ∷ o.Bitcount ∷ o.AndRed
-    ∷ o.OrRed ∷ o.XorRed ∷ o.Divmod ∷ []
+all_ops = map (λ r. r.1.op) word_rows
 
-abbrev pub named_among : List WordOp → List ℕ → Option WordOp
-named_among [] text = None
-named_among (p ∷ ops) text = if bytes_eq text (op_text p) then Some p else named_among ops text
+abbrev pub first_named : List (List ℕ × WordRow) → List ℕ → Option WordOp
+first_named [] text = None
+first_named (r ∷ rows) text = if bytes_eq r.0 text then Some r.1.op else first_named rows text
 
 -- the word operation that a name names
 abbrev pub op_named : List ℕ → Option WordOp
-op_named text = named_among all_ops text
+op_named text = first_named word_rows text
 
 -- a form of an operation: the kinds of its arguments and of its first result
 pub record Form : Type 0 where
@@ -74,40 +87,23 @@ word_to k = form (Word ∷ []) k ∷ []
 abbrev pub words_to : Kind → List Form
 words_to k = form (Word ∷ Word ∷ []) k ∷ []
 
+-- the forms of each shape
+abbrev pub shape_forms : Shape → List Form
+shape_forms shapes.Nothing = form [] Word ∷ []
+shape_forms shapes.OneOf = of_one
+shape_forms shapes.TwoOf = of_two
+shape_forms (shapes.OneWord k) = word_to k
+shape_forms (shapes.TwoWords k) = words_to k
+shape_forms shapes.Choice = form (Word ∷ Word ∷ Bit ∷ []) Word ∷ form (Bit ∷ Bit ∷ Bit ∷ []) Bit
+    ∷ []
+
 -- the forms of each operation
 abbrev pub forms : WordOp → List Form
-forms o.Not = of_one
-forms o.And = of_two
-forms o.Or = of_two
-forms o.Xor = of_two
-forms o.Copy = of_one
-forms o.Zero = form [] Word ∷ []
-forms o.Ones = form [] Word ∷ []
-forms o.Shl1 = word_to Word
-forms o.Shr1 = word_to Word
-forms o.Add = words_to Word
-forms o.Sub = words_to Word
-forms o.Mul = words_to Word
-forms o.Div = words_to Word
-forms o.Rem = words_to Word
-forms o.Abs = word_to Word
-forms o.Relu = word_to Word
-forms o.Min = words_to Word
-forms o.Max = words_to Word
-forms o.Eq = words_to Bit
-forms o.Gt = words_to Bit
-forms o.Ge = words_to Bit
-forms o.IfElse = form (Word ∷ Word ∷ Bit ∷ []) Word ∷ form (Bit ∷ Bit ∷ Bit ∷ []) Bit ∷ []
-forms o.Bitcount = word_to Word
-forms o.AndRed = word_to Bit
-forms o.OrRed = word_to Bit
-forms o.XorRed = word_to Bit
-forms o.Divmod = words_to Word
+forms p = shape_forms (row_of p).shape
 
 -- the kind of the second result, if the operation has one
 abbrev pub second_kind : WordOp → Option Kind
-second_kind o.Divmod = Some Word
-second_kind p = None
+second_kind p = (row_of p).second
 
 -- the kind of a second target, a word where the operation has no second result
 abbrev pub second_gives : WordOp → Kind
@@ -172,24 +168,3 @@ wants_more fs given = list_any (λ f. is_part (lacks given f.takes)) fs
 
 abbrev pub has_all : List Form → List Kind → Bool
 has_all fs given = list_any (λ f. is_whole (lacks given f.takes)) fs
-
-abbrev pub shape_forms : Shape → List Form
-shape_forms shapes.Nothing = form [] Word ∷ []
-shape_forms shapes.OneOf = of_one
-shape_forms shapes.TwoOf = of_two
-shape_forms (shapes.OneWord k) = word_to k
-shape_forms (shapes.TwoWords k) = words_to k
-shape_forms shapes.Choice = form (Word ∷ Word ∷ Bit ∷ []) Word ∷ form (Bit ∷ Bit ∷ Bit ∷ []) Bit
-    ∷ []
-
-abbrev pub ops_0 : List WordOp
-ops_0 = o.Not ∷ o.And ∷ o.Or ∷ o.Xor ∷ o.Copy ∷ o.Zero ∷ o.Ones ∷ []
-
-abbrev pub ops_1 : List WordOp
-ops_1 = o.Shl1 ∷ o.Shr1 ∷ o.Add ∷ o.Sub ∷ o.Mul ∷ o.Div ∷ o.Rem ∷ []
-
-abbrev pub ops_2 : List WordOp
-ops_2 = o.Abs ∷ o.Relu ∷ o.Min ∷ o.Max ∷ o.Eq ∷ o.Gt ∷ o.Ge ∷ []
-
-abbrev pub ops_3 : List WordOp
-ops_3 = o.IfElse ∷ o.Bitcount ∷ o.AndRed ∷ o.OrRed ∷ o.XorRed ∷ o.Divmod ∷ []

@@ -2,6 +2,7 @@
 
 ghost use Rattle.std.specs.Prelude.{◌≡◌};
 
+use crate::word_ops::WordOp;
 use text_lex::Name;
 
 /// What a name holds: a word of n bits, one bit in each row, or one bit.
@@ -23,38 +24,6 @@ impl Default for Kind {
 pub struct Param {
     pub name: Name,
     pub kind: Kind,
-}
-
-#[derive(Clone, Copy, Debug, PartialEq, Eq)]
-pub enum WordOp {
-    Not,
-    And,
-    Or,
-    Xor,
-    Copy,
-    Zero,
-    Ones,
-    Shl1,
-    Shr1,
-    Add,
-    Sub,
-    Mul,
-    Div,
-    Rem,
-    Abs,
-    Relu,
-    Min,
-    Max,
-    Eq,
-    Gt,
-    Ge,
-    IfElse,
-    Bitcount,
-    AndRed,
-    OrRed,
-    XorRed,
-    /// Quotient and remainder, to two targets.
-    Divmod,
 }
 
 #[derive(Debug, Drop)]

@@ -1,125 +1,149 @@
-//! The word operations: how they are spelled and what they take.
+//! The word operations: how they are spelled, what they take and give, and the scratch that they need.
 
-ghost use Rattle.std.specs.Prelude.{◌≡◌, ◌++◌, [], ◌∷◌, Some, None};
-ghost use Rattle.op_text.specs.WordOps.{named_among, op_named, ops_0, ops_1, ops_2, ops_3, forms};
+ghost use Rattle.std.specs.Prelude.{◌≡◌, [], ◌∷◌, Some, None, map};
+ghost use Rattle.op_text.specs.WordOps.{op_named, op_text, row_of, first_named, forms};
 ghost use Rattle.op_text.specs.WordOps.{shape_forms, may_take, wants_more, has_all, filled};
 ghost use Rattle.op_text.specs.WordOps.{given_first, same_kind, second_kind};
+ghost use Rattle.op_text.specs.Scratch.{bits_inside, words_inside};
 ghost use Rattle.op_text.specs.declared.tree.Kind.TheVariants.{Word};
 
-use crate::tree::{Kind, WordOp};
+use crate::tree::Kind;
+use crate::tree::Kind::{Bit, Word};
+use Shape::{Choice, Nothing, OneOf, OneWord, TwoOf, TwoWords};
 
-/// What an operation takes.
+/// The word operations. Each has a row in [`WORD_OPS`].
+#[derive(Clone, Copy, Debug, PartialEq, Eq)]
+pub enum WordOp {
+    Not,
+    And,
+    Or,
+    Xor,
+    Copy,
+    Zero,
+    Ones,
+    Shl1,
+    Shr1,
+    Add,
+    Sub,
+    Mul,
+    Div,
+    Rem,
+    Abs,
+    Relu,
+    Min,
+    Max,
+    Eq,
+    Gt,
+    Ge,
+    IfElse,
+    Bitcount,
+    AndRed,
+    OrRed,
+    XorRed,
+    /// Quotient and remainder, to two targets.
+    Divmod,
+}
+
+/// What an operation takes and gives.
 #[derive(Clone, Copy, Debug)]
-pub(crate) enum Shape {
+pub enum Shape {
+    /// No argument; it gives a word.
     Nothing,
+    /// A word, and it gives a word; or a bit, and it gives a bit.
     OneOf,
+    /// Two words, and it gives a word; or two bits, and it gives a bit.
     TwoOf,
+    /// A word; it gives this kind.
     OneWord(Kind),
+    /// Two words; the first result is of this kind.
     TwoWords(Kind),
+    /// Two words or two bits, and a bit that chooses between them.
     Choice,
 }
 
-fn op_0(name: &[u8]) -> Option<WordOp>
-    ensures { result ≡ named_among ops_0 name.now }
-{
-    if name == b"not".as_slice() {
-        Some(WordOp::Not)
-    } else if name == b"and".as_slice() {
-        Some(WordOp::And)
-    } else if name == b"or".as_slice() {
-        Some(WordOp::Or)
-    } else if name == b"xor".as_slice() {
-        Some(WordOp::Xor)
-    } else if name == b"copy".as_slice() {
-        Some(WordOp::Copy)
-    } else if name == b"zero".as_slice() {
-        Some(WordOp::Zero)
-    } else if name == b"ones".as_slice() {
-        Some(WordOp::Ones)
-    } else {
-        None
-    }
+/// What the table has of an operation.
+#[derive(Clone, Copy, Debug)]
+pub struct WordRow {
+    pub op: WordOp,
+    pub shape: Shape,
+    /// The kind of a second result.
+    pub second: Option<Kind>,
+    /// Internal scratch, in single rows.
+    pub bits: u16,
+    /// Internal scratch, in groups of as many rows as a word has bits.
+    pub words: u16,
 }
 
-fn op_1(name: &[u8]) -> Option<WordOp>
-    ensures { result ≡ named_among ops_1 name.now }
-{
-    if name == b"shl1".as_slice() {
-        Some(WordOp::Shl1)
-    } else if name == b"shr1".as_slice() {
-        Some(WordOp::Shr1)
-    } else if name == b"add".as_slice() {
-        Some(WordOp::Add)
-    } else if name == b"sub".as_slice() {
-        Some(WordOp::Sub)
-    } else if name == b"mul".as_slice() {
-        Some(WordOp::Mul)
-    } else if name == b"div".as_slice() {
-        Some(WordOp::Div)
-    } else if name == b"rem".as_slice() {
-        Some(WordOp::Rem)
-    } else {
-        None
-    }
+// the fields of a row on one line
+macro_rules! row {
+    ($op:ident, $shape:expr, $second:expr, $bits:literal, $words:literal) => {
+        WordRow {
+            op: WordOp::$op,
+            shape: $shape,
+            second: $second,
+            bits: $bits,
+            words: $words,
+        }
+    };
 }
 
-fn op_2(name: &[u8]) -> Option<WordOp>
-    ensures { result ≡ named_among ops_2 name.now }
+/// The table of word operations: the name of each, and its row, in the order of the variants.
+pub const WORD_OPS: [(&[u8], WordRow); 27] = [
+    (b"not", row!(Not, OneOf, None, 0, 0)),
+    (b"and", row!(And, TwoOf, None, 0, 0)),
+    (b"or", row!(Or, TwoOf, None, 0, 0)),
+    (b"xor", row!(Xor, TwoOf, None, 0, 0)),
+    (b"copy", row!(Copy, OneOf, None, 0, 0)),
+    (b"zero", row!(Zero, Nothing, None, 0, 0)),
+    (b"ones", row!(Ones, Nothing, None, 0, 0)),
+    (b"shl1", row!(Shl1, OneWord(Word), None, 1, 0)),
+    (b"shr1", row!(Shr1, OneWord(Word), None, 1, 0)),
+    (b"add", row!(Add, TwoWords(Word), None, 1, 0)),
+    (b"sub", row!(Sub, TwoWords(Word), None, 1, 0)),
+    (b"mul", row!(Mul, TwoWords(Word), None, 1, 0)),
+    (b"div", row!(Div, TwoWords(Word), None, 2, 2)),
+    (b"rem", row!(Rem, TwoWords(Word), None, 2, 2)),
+    (b"abs", row!(Abs, OneWord(Word), None, 1, 0)),
+    (b"relu", row!(Relu, OneWord(Word), None, 0, 0)),
+    (b"min", row!(Min, TwoWords(Word), None, 1, 0)),
+    (b"max", row!(Max, TwoWords(Word), None, 1, 0)),
+    (b"eq", row!(Eq, TwoWords(Bit), None, 0, 0)),
+    (b"gt", row!(Gt, TwoWords(Bit), None, 0, 0)),
+    (b"ge", row!(Ge, TwoWords(Bit), None, 0, 0)),
+    (b"if_else", row!(IfElse, Choice, None, 0, 0)),
+    (b"bitcount", row!(Bitcount, OneWord(Word), None, 1, 0)),
+    (b"and_red", row!(AndRed, OneWord(Bit), None, 0, 0)),
+    (b"or_red", row!(OrRed, OneWord(Bit), None, 0, 0)),
+    (b"xor_red", row!(XorRed, OneWord(Bit), None, 0, 0)),
+    (b"divmod", row!(Divmod, TwoWords(Word), Some(Word), 2, 2)),
+];
+
+fn row_of(op: WordOp) -> WordRow
+    ensures { result ≡ row_of op }
 {
-    if name == b"abs".as_slice() {
-        Some(WordOp::Abs)
-    } else if name == b"relu".as_slice() {
-        Some(WordOp::Relu)
-    } else if name == b"min".as_slice() {
-        Some(WordOp::Min)
-    } else if name == b"max".as_slice() {
-        Some(WordOp::Max)
-    } else if name == b"eq".as_slice() {
-        Some(WordOp::Eq)
-    } else if name == b"gt".as_slice() {
-        Some(WordOp::Gt)
-    } else if name == b"ge".as_slice() {
-        Some(WordOp::Ge)
-    } else {
-        None
-    }
+    WORD_OPS[op as usize].1
 }
 
-fn op_3(name: &[u8]) -> Option<WordOp>
-    ensures { result ≡ named_among ops_3 name.now }
+/// A word operation's name.
+pub fn op_name(op: WordOp) -> &'static [u8]
+    ensures { result.now ≡ op_text op }
 {
-    if name == b"if_else".as_slice() {
-        Some(WordOp::IfElse)
-    } else if name == b"bitcount".as_slice() {
-        Some(WordOp::Bitcount)
-    } else if name == b"and_red".as_slice() {
-        Some(WordOp::AndRed)
-    } else if name == b"or_red".as_slice() {
-        Some(WordOp::OrRed)
-    } else if name == b"xor_red".as_slice() {
-        Some(WordOp::XorRed)
-    } else if name == b"divmod".as_slice() {
-        Some(WordOp::Divmod)
-    } else {
-        None
-    }
+    WORD_OPS[op as usize].0
 }
 
-fn op_low(name: &[u8]) -> Option<WordOp>
-    ensures { result ≡ named_among (ops_0 ++ ops_1) name.now }
+/// The operation of the first row that has this name.
+fn op_in(rows: &[(&[u8], WordRow)], name: &[u8]) -> Option<WordOp>
+    ensures { result ≡ first_named (map (λ r. (r.0.now, r.1)) rows.now) name.now }
 {
-    match op_0(name) {
-        Some(op) => Some(op),
-        None => op_1(name),
-    }
-}
-
-fn op_high(name: &[u8]) -> Option<WordOp>
-    ensures { result ≡ named_among (ops_2 ++ ops_3) name.now }
-{
-    match op_2(name) {
-        Some(op) => Some(op),
-        None => op_3(name),
+    match rows {
+        [] => None,
+        [(text, row), rest @ ..] => {
+            if *text == name {
+                Some(row.op)
+            } else {
+                op_in(rest, name)
+            }
+        }
     }
 }
 
@@ -127,34 +151,13 @@ fn op_high(name: &[u8]) -> Option<WordOp>
 pub fn op_of(name: &[u8]) -> Option<WordOp>
     ensures { result ≡ op_named name.now }
 {
-    match op_low(name) {
-        Some(op) => Some(op),
-        None => op_high(name),
-    }
+    op_in(&WORD_OPS, name)
 }
 
 fn shape_of(op: WordOp) -> Shape
     ensures { shape_forms result ≡ forms op }
 {
-    match op {
-        WordOp::Not | WordOp::Copy => Shape::OneOf,
-        WordOp::And | WordOp::Or | WordOp::Xor => Shape::TwoOf,
-        WordOp::Zero | WordOp::Ones => Shape::Nothing,
-        WordOp::Shl1 | WordOp::Shr1 | WordOp::Abs | WordOp::Relu | WordOp::Bitcount => {
-            Shape::OneWord(Kind::Word)
-        }
-        WordOp::AndRed | WordOp::OrRed | WordOp::XorRed => Shape::OneWord(Kind::Bit),
-        WordOp::Add
-        | WordOp::Sub
-        | WordOp::Mul
-        | WordOp::Div
-        | WordOp::Rem
-        | WordOp::Min
-        | WordOp::Max
-        | WordOp::Divmod => Shape::TwoWords(Kind::Word),
-        WordOp::Eq | WordOp::Gt | WordOp::Ge => Shape::TwoWords(Kind::Bit),
-        WordOp::IfElse => Shape::Choice,
-    }
+    row_of(op).shape
 }
 
 fn is_word(kind: Kind) -> bool
@@ -362,8 +365,19 @@ fn given_alone(shape: Shape) -> Kind
 pub fn second_kind(op: WordOp) -> Option<Kind>
     ensures { result ≡ second_kind op }
 {
-    match op {
-        WordOp::Divmod => Some(Kind::Word),
-        _ => None,
-    }
+    row_of(op).second
+}
+
+/// The single rows of scratch that an operation needs inside.
+pub fn bits_inside(op: WordOp) -> u16
+    ensures { result ≡ bits_inside op }
+{
+    row_of(op).bits
+}
+
+/// The words of scratch that an operation needs inside.
+pub fn words_inside(op: WordOp) -> u16
+    ensures { result ≡ words_inside op }
+{
+    row_of(op).words
 }

@@ -9,7 +9,7 @@ use Rattle.bit_rows.specs.Bits as rows
 use Rattle.op_text.specs.declared.tree.Kind.{Kind}
 use Rattle.op_text.specs.declared.tree.Kind.TheVariants.{Word, Bit}
 use Rattle.op_text.specs.Values.{bit_number, value, bits}
-use Rattle.op_text.specs.declared.tree.WordOp.TheVariants as o
+use Rattle.op_text.specs.declared.word_ops.WordOp.TheVariants as o
 use Rattle.op_text.specs.Meaning.{meaning}
 use Rattle.uprog_code.specs.Shape.{Shape, Microprogram}
 use Rattle.uprog_code.specs.Machine.{Trace, Ended, Stuck, HasEnded, trace}

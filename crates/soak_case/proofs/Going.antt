@@ -18,8 +18,8 @@ use Rattle.transpose_unit.specs.Stage.{stage_rows}
 use Rattle.rand_xoshiro.specs.SplitMix64.{mix_u64}
 use Rattle.op_text.specs.declared.tree.Kind.{Kind}
 use Rattle.op_text.specs.declared.tree.Kind.TheVariants.{Word}
-use Rattle.op_text.specs.declared.tree.WordOp.{WordOp}
-use Rattle.op_text.specs.declared.tree.WordOp.TheVariants as o
+use Rattle.op_text.specs.declared.word_ops.WordOp.{WordOp}
+use Rattle.op_text.specs.declared.word_ops.WordOp.TheVariants as o
 use Rattle.op_text.specs.Scratch.{param}
 use Rattle.soak_case.specs.declared.cases.Case.{Case}
 use Rattle.soak_case.specs.Cases.{at_widths, params_of, single_ops, soak_cases}

@@ -4,7 +4,7 @@ ghost use Rattle.std.specs.Prelude.{◌≡◌, ◌+◌, ◌<◌, ◌≤◌, [], 
 ghost use Rattle.std.specs.Prelude.{true};
 ghost use Rattle.std.specs.Prelude.{Some, None, IfOk};
 ghost use Rattle.text_lex.specs.Spelled.{fits_name};
-ghost use Rattle.op_text.specs.declared.tree.WordOp.{WordOp};
+ghost use Rattle.op_text.specs.declared.word_ops.WordOp.{WordOp};
 ghost use Rattle.op_text.specs.Language.{operations};
 ghost use Rattle.op_text.specs.Spelling.{MeetRules};
 ghost use Rattle.op_text.specs.WordOps.{second_kind};

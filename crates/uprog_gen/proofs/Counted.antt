@@ -3,8 +3,8 @@ use Rattle.std.proofs.Common.{◌≡◌, ℕ, ◌+◌, ◌<◌, Bool, true, fals
 use Rattle.std.proofs.Common.{length, Option, Some, refl, sym, ap, ◌∙◌, subst, arith}
 use Rattle.std.specs.List.{list_all}
 use Rattle.op_text.specs.declared.tree.Kind.{Kind}
-use Rattle.op_text.specs.declared.tree.WordOp.{WordOp}
-use Rattle.op_text.specs.declared.tree.WordOp.TheVariants as op
+use Rattle.op_text.specs.declared.word_ops.WordOp.{WordOp}
+use Rattle.op_text.specs.declared.word_ops.WordOp.TheVariants as op
 use Rattle.op_text.specs.WordOps.{forms, filled, second_kind}
 use Rattle.op_text.specs.Language.{Statement, Compute, Visit, Operation}
 use Rattle.op_text.specs.Meaning.{width}
@@ -26,7 +26,8 @@ use Rattle.word_mul.proofs.Statements.{SecondPlace, second_place}
 use Rattle.uprog_gen.specs.Does.{joined}
 use Rattle.uprog_gen.specs.Layout.{IsLayout}
 use Rattle.uprog_gen.specs.Programs.{IsAsWritten, AreWritten}
-use Rattle.uprog_gen.specs.Totals.{op_aaps, op_aps, is_word, words_total}
+use Rattle.uprog_gen.specs.Totals.{is_word, words_total}
+use Rattle.op_text.specs.Costs.{op_aaps, op_aps}
 use Rattle.uprog_gen.specs.Settled.{turn_aaps, turn_aps, IsSettled}
 use Rattle.uprog_gen.proofs.Emitted.{parts_both}
 use Rattle.uprog_gen.proofs.Joined.{all_rounds-append}

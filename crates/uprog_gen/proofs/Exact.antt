@@ -6,8 +6,8 @@ use Rattle.std.proofs.Common.{arith}
 use Rattle.std.proofs.Math.Nat.{pow-suc, pow-zero, mul-div_cancel_left}
 use Rattle.op_text.specs.declared.tree.Kind.{Kind}
 use Rattle.op_text.specs.declared.tree.Kind.TheVariants.{Word, Bit}
-use Rattle.op_text.specs.declared.tree.WordOp.{WordOp}
-use Rattle.op_text.specs.declared.tree.WordOp.TheVariants as op
+use Rattle.op_text.specs.declared.word_ops.WordOp.{WordOp}
+use Rattle.op_text.specs.declared.word_ops.WordOp.TheVariants as op
 use Rattle.op_text.specs.WordOps.{forms, filled}
 use Rattle.op_text.specs.Meaning.{width}
 use Rattle.loop_ir.specs.declared.ir.Sub.{Sub}
@@ -23,7 +23,7 @@ use Rattle.word_lower.proofs.Filled.{filled_choice}
 use Rattle.word_mul.specs.declared.rows.Rows.{Rows}
 use Rattle.word_mul.specs.Programs.{is_nested}
 use Rattle.word_mul.specs.Places.{steps_for}
-use Rattle.uprog_gen.specs.Totals.{op_aaps, op_aps}
+use Rattle.op_text.specs.Costs.{op_aaps, op_aps}
 use Rattle.uprog_gen.specs.Settled.{turn_aaps, turn_aps, IsSettled}
 use Rattle.uprog_gen.proofs.Summed.{rounds_sum, sum_is}
 

@@ -17,7 +17,8 @@ use Rattle.op_text.specs.Rules.{is_among, kind_among}
 use Rattle.op_text.specs.Values as text
 use Rattle.op_text.specs.Meaning.{Held, width, holding, changed, with_sources, holds_nothing}
 use Rattle.op_text.specs.Meaning.{number, after_op, meaning}
-use Rattle.op_text.specs.Scratch.{defines, body_defines, kind_of, names_width, op_ceiling}
+use Rattle.op_text.specs.Scratch.{defines, body_defines, kind_of, names_width}
+use Rattle.op_text.specs.Costs.{op_ceiling}
 use Rattle.op_text.specs.Scratch.{statement_ceiling, body_ceiling, need_inside, bits_inside}
 use Rattle.op_text.specs.Scratch.{words_inside, scratch_bits, scratch_words}
 use Rattle.op_text.specs.Spelling.{Each}

@@ -8,7 +8,7 @@ use Rattle.std.specs.List.{AllByRecursion}
 use Rattle.op_text.specs.declared.tree.Kind.{Kind}
 use Rattle.op_text.specs.declared.tree.Kind.TheVariants.{Word, Bit}
 use Rattle.op_text.specs.declared.tree.Param.{Param}
-use Rattle.op_text.specs.declared.tree.WordOp.{WordOp}
+use Rattle.op_text.specs.declared.word_ops.WordOp.{WordOp}
 use Rattle.op_text.specs.Language.{Term, Nought, Unity, Named, Negation, Conjunction, Disjunction}
 use Rattle.op_text.specs.Language.{Parity, Majority, Equation, Block, Statement, Compute, Visit}
 use Rattle.op_text.specs.Language.{Operation}

@@ -5,7 +5,8 @@ use Rattle.bit_rows.specs.declared.TheConstants.{WIDTH_MAX}
 use Rattle.op_text.specs.declared.tree.Param.{Param}
 use Rattle.op_text.specs.Language.{Equation, Block, Statement, Compute, Visit, Operation}
 use Rattle.op_text.specs.Meaning.{term_bit, with_lets}
-use Rattle.op_text.specs.Scratch.{defines, names_width, op_ceiling, block_weight}
+use Rattle.op_text.specs.Scratch.{defines, names_width, block_weight}
+use Rattle.op_text.specs.Costs.{op_ceiling}
 use Rattle.mig_graph.specs.declared.Lit.{Lit}
 use Rattle.mig_graph.specs.declared.MigOuts.{MigOuts}
 use Rattle.mig_graph.specs.Graph.{Graph, IsGraph, value}

@@ -3,7 +3,8 @@ use Rattle.std.specs.Prelude.{◌≡◌, ◌≤◌, true, false, length, ℕ, Li
 use Rattle.std.specs.List.{AllByRecursion}
 use Rattle.op_text.specs.declared.tree.Param.{Param}
 use Rattle.op_text.specs.Language.{Statement, Operation}
-use Rattle.op_text.specs.Scratch.{defines, op_ceiling, statement_ceiling}
+use Rattle.op_text.specs.Scratch.{defines, statement_ceiling}
+use Rattle.op_text.specs.Costs.{op_ceiling}
 use Rattle.uprog_code.specs.declared.code.Uop.{Uop}
 use Rattle.uprog_code.specs.declared.code.Uop.TheVariants.{Done}
 use Rattle.uprog_code.specs.Shape.{Microprogram}

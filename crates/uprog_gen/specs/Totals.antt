@@ -1,53 +1,15 @@
--- The commands of the word operations.
-use Rattle.std.specs.Prelude.{◌≡◌, ℕ, ◌+◌, ◌*◌, ◌/◌, ◌^◌, ◌<◌, ◌≤◌, Bool, true, false, List, []}
+-- The commands of operations of word operations alone.
+use Rattle.std.specs.Prelude.{◌≡◌, ℕ, ◌+◌, ◌<◌, ◌≤◌, Bool, true, false, List, []}
 use Rattle.std.specs.Prelude.{◌∷◌, ◌++◌}
 use Rattle.std.specs.List.{list_all}
 use Rattle.bit_rows.specs.declared.TheConstants.{WIDTH_MAX}
 use Rattle.op_text.specs.declared.tree.Param.{Param}
-use Rattle.op_text.specs.declared.tree.WordOp.{WordOp}
-use Rattle.op_text.specs.declared.tree.WordOp.TheVariants as o
+use Rattle.op_text.specs.declared.word_ops.WordOp.{WordOp}
 use Rattle.op_text.specs.Language.{Statement, Compute, Visit, Operation}
 use Rattle.op_text.specs.Scratch.{defines, names_width}
 use Rattle.uprog_code.specs.Machine.{trace, issues_of}
 use Rattle.uprog_code.specs.Count.{counts_of}
 use Rattle.uprog_code.specs.Shape.{Microprogram}
-
--- how many AAP an operation takes on arguments of n bits
-abbrev pub op_aaps : WordOp → ℕ → ℕ
-op_aaps o.Not n = 2 * n
-op_aaps o.And n = 4 * n
-op_aaps o.Or n = 4 * n
-op_aaps o.Xor n = 5 * n
-op_aaps o.Copy n = n
-op_aaps o.Zero n = n
-op_aaps o.Ones n = n
-op_aaps o.Shl1 n = 2 * n + 1
-op_aaps o.Shr1 n = 2 * n + 1
-op_aaps o.Add n = 8 * n + 1
-op_aaps o.Sub n = 7 * n + 1
-op_aaps o.Mul n = 11 * (n * (n + 1) / 2) + 2 * n
-op_aaps o.Div n = 14 * n ^ 2 + 9 * n
-op_aaps o.Rem n = 14 * n ^ 2 + 9 * n
-op_aaps o.Abs n = 9 * n + 1
-op_aaps o.Relu n = 4 * n
-op_aaps o.Min n = 11 * n + 1
-op_aaps o.Max n = 11 * n + 1
-op_aaps o.Eq n = 7 * n + 1
-op_aaps o.Gt n = 4 * n + 1
-op_aaps o.Ge n = 4 * n + 1
-op_aaps o.IfElse n = 7 * n
-op_aaps o.Bitcount n = 7 * n ^ 2 + 3 * n
-op_aaps o.AndRed n = 4 * n + 1
-op_aaps o.OrRed n = 4 * n + 1
-op_aaps o.XorRed n = 5 * n + 1
-op_aaps o.Divmod n = 14 * n ^ 2 + 10 * n
-
--- how many AP
-abbrev pub op_aps : WordOp → ℕ → ℕ
-op_aps o.Xor n = 2 * n
-op_aps o.XorRed n = 2 * n
-op_aps o.Add n = n
-op_aps p n = 0
 
 abbrev pub is_word : Statement → Bool
 is_word (Compute target second p args) = true

@@ -3,8 +3,8 @@ use Rattle.std.proofs.Common.{◌≡◌, ◌⊎◌, inl, inr, ℕ, true, List, [
 use Rattle.std.proofs.Common.{refl, sym, ap, ◌∙◌, subst}
 use Rattle.op_text.specs.declared.tree.Kind.{Kind}
 use Rattle.op_text.specs.declared.tree.Kind.TheVariants.{Word, Bit}
-use Rattle.op_text.specs.declared.tree.WordOp.{WordOp}
-use Rattle.op_text.specs.declared.tree.WordOp.TheVariants as op
+use Rattle.op_text.specs.declared.word_ops.WordOp.{WordOp}
+use Rattle.op_text.specs.declared.word_ops.WordOp.TheVariants as op
 use Rattle.op_text.specs.WordOps.{form, forms, filled, of_one, of_two, word_to, words_to}
 use Rattle.loop_ir.specs.declared.ir.Space.{Space}
 use Rattle.loop_ir.specs.declared.names.Slot.{Slot}

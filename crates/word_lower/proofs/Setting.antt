@@ -3,8 +3,8 @@ use Rattle.std.specs.Prelude.{◌≡◌, ℕ, zero, suc, ◌+◌, ◌*◌, ◌^�
 use Rattle.std.specs.Prelude.{if◌then◌else◌}
 use Rattle.op_text.specs.declared.tree.Kind.{Kind}
 use Rattle.op_text.specs.declared.tree.Kind.TheVariants.{Bit}
-use Rattle.op_text.specs.declared.tree.WordOp.{WordOp}
-use Rattle.op_text.specs.declared.tree.WordOp.TheVariants as o
+use Rattle.op_text.specs.declared.word_ops.WordOp.{WordOp}
+use Rattle.op_text.specs.declared.word_ops.WordOp.TheVariants as o
 use Rattle.op_text.specs.Values.{bit_number, of_none, of_one, of_two}
 use Rattle.op_text.specs.Scratch.{bits_inside}
 use Rattle.loop_ir.specs.declared.ir.Sub.{Sub}

@@ -5,11 +5,12 @@ use Rattle.std.proofs.Common.{length, Option, None, refl, sym, ap, ◌∙◌, su
 use Rattle.std.specs.Prelude.{unwrap_or}
 use Rattle.std.proofs.Math.Nat.{pow-suc, pow-zero}
 use Rattle.op_text.specs.declared.tree.Kind.TheVariants.{Word}
-use Rattle.op_text.specs.declared.tree.WordOp.{WordOp}
-use Rattle.op_text.specs.declared.tree.WordOp.TheVariants as op
+use Rattle.op_text.specs.declared.word_ops.WordOp.{WordOp}
+use Rattle.op_text.specs.declared.word_ops.WordOp.TheVariants as op
 use Rattle.op_text.specs.Values.{bits, value, op_value}
 use Rattle.op_text.specs.Meaning.{width}
-use Rattle.op_text.specs.Scratch.{bits_inside, words_inside, op_ceiling}
+use Rattle.op_text.specs.Scratch.{bits_inside, words_inside}
+use Rattle.op_text.specs.Costs.{op_ceiling}
 use Rattle.loop_ir.specs.declared.ir.Space.{Space}
 use Rattle.loop_ir.specs.declared.ir.Space.TheVariants.{ScratchBit, ScratchWord}
 use Rattle.loop_ir.specs.declared.names.Slot.{Slot}

@@ -5,15 +5,16 @@ use Rattle.std.specs.Prelude.{◌||◌, bytes_eq, unwrap_or, if◌then◌else◌
 use Rattle.std.proofs.lemmas.Slice.Eq.{bytes_eq-Decides}
 use Rattle.op_text.specs.declared.tree.Kind.{Kind}
 use Rattle.op_text.specs.declared.tree.Kind.TheVariants.{Word}
-use Rattle.op_text.specs.declared.tree.WordOp.{WordOp}
-use Rattle.op_text.specs.declared.tree.WordOp.TheVariants as op
+use Rattle.op_text.specs.declared.word_ops.WordOp.{WordOp}
+use Rattle.op_text.specs.declared.word_ops.WordOp.TheVariants as op
 use Rattle.op_text.specs.Values.{bits, value, op_value, second_value}
 use Rattle.op_text.specs.WordOps.{forms, filled, second_kind, second_gives}
 use Rattle.op_text.specs.Language.{Compute}
 use Rattle.op_text.specs.Rules.{is_among}
 use Rattle.op_text.specs.Meaning.{Held, width, number, args_width, computed, second_computed}
 use Rattle.op_text.specs.Meaning.{after_statement}
-use Rattle.op_text.specs.Scratch.{bits_inside, words_inside, op_ceiling}
+use Rattle.op_text.specs.Scratch.{bits_inside, words_inside}
+use Rattle.op_text.specs.Costs.{op_ceiling}
 use Rattle.loop_ir.specs.declared.ir.Space.TheVariants.{ScratchWord}
 use Rattle.loop_ir.specs.declared.names.Slot.{Slot}
 use Rattle.loop_ir.specs.Plain.{Block, StepOf}

@@ -1,7 +1,7 @@
 //! The loop programs.
 
 ghost use Rattle.std.specs.Prelude.{◌≡◌, ◌<◌, ◌++◌, ◌∷◌, [], map, IfOk, OnOk};
-ghost use Rattle.op_text.specs.declared.tree.WordOp.TheVariants as o;
+ghost use Rattle.op_text.specs.declared.word_ops.WordOp.TheVariants as o;
 ghost use Rattle.loop_ir.specs.Plain.{inner_of, inner_map, steps_of};
 ghost use Rattle.loop_laws.specs.Rooms.{placed_body};
 ghost use Rattle.word_mul.specs.Programs.{division};

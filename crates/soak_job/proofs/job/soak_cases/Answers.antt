@@ -8,7 +8,7 @@ use Rattle.std.proofs.lemmas.List.{drop_all}
 use Rattle.host_edge.specs.Views.{FolderView}
 use Rattle.dram_model.proofs.EventLaws.{Kept-more}
 use Rattle.cli_model.specs.World.{world}
-use Rattle.op_text.specs.declared.tree.WordOp.TheVariants as o
+use Rattle.op_text.specs.declared.word_ops.WordOp.TheVariants as o
 use Rattle.soak_case.specs.declared.cases.Case.{Case}
 use Rattle.soak_job.specs.Done.{CanBeDone, CasesGo}
 use Rattle.soak_job.proofs.Making.{at_err, at_ok}

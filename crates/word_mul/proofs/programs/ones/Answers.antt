@@ -1,6 +1,6 @@
 use Rattle.std.proofs.Common.{◌≡◌, ◌∷◌, []}
 use Rattle.std.proofs.lemmas.Result.{IfOk-weaker}
-use Rattle.op_text.specs.declared.tree.WordOp.TheVariants as o
+use Rattle.op_text.specs.declared.word_ops.WordOp.TheVariants as o
 use Rattle.loop_ir.specs.declared.ir.Count.TheVariants.{All}
 use Rattle.loop_ir.specs.declared.ir.Inner.TheVariants as inner
 use Rattle.loop_ir.specs.declared.ir.Step.TheVariants as step

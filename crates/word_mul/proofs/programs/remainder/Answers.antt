@@ -1,6 +1,6 @@
 use Rattle.std.proofs.Common.{◌≡◌, ◌∷◌, [], List}
 use Rattle.std.proofs.lemmas.Result.{IfOk-weaker}
-use Rattle.op_text.specs.declared.tree.WordOp.TheVariants as o
+use Rattle.op_text.specs.declared.word_ops.WordOp.TheVariants as o
 use Rattle.loop_ir.specs.declared.ir.Step.{Step}
 use Rattle.loop_ir.specs.declared.ir.Step.TheVariants as step
 use Rattle.loop_ir.specs.declared.ir.LoopProgram.{LoopProgram}
