@@ -15,7 +15,7 @@ use Rattle.op_text.specs.Spelling.{param_text, state_text, equation_text, let_te
 use Rattle.op_text.specs.Spelling.{behind_comma, operation_text, IsName, HasParam, HasState}
 use Rattle.op_text.specs.Spelling.{IfThere}
 use Rattle.op_text.specs.Spelling.{HasEquation, HasStatement, HasOperation, Each, OpsSpelledOnce}
-use Rattle.op_text.proofs.Rows.{is_op, same_op, every}
+use Rattle.op_text.proofs.Rows.{op_is_named}
 use Rattle.op_text.proofs.Unique.{spelled_once}
 
 -- the first byte of the first token, and of the second
@@ -50,18 +50,6 @@ start_once true true e = refl
 start_once false false e = refl
 start_once true false e = absurd (omega (arith, ap (λ x. first (x ∷ [])) e))
 start_once false true e = absurd (omega (arith, ap (λ x. first (x ∷ [])) e))
-
-abbrev names : Option WordOp → WordOp → Bool
-names None p = false
-names (Some q) p = is_op q p
-
-names_one : (r : Option WordOp) (p : WordOp) → names r p ≡ true → r ≡ Some p
-names_one None p h = cc
-names_one (Some q) p h = ap (λ x. Some x) (same_op q p h)
-
-op_is_named : (p : WordOp) → op_named (op_text p) ≡ Some p
-op_is_named p =
-    names_one (op_named (op_text p)) p (every (λ q. names (op_named (op_text q)) q) refl p)
 
 op_once : (p q : WordOp) → op_text p ≡ op_text q → p ≡ q
 op_once p q e = let s : Some p ≡ Some q = sym (op_is_named p) ∙ ap op_named e ∙ op_is_named q in cc

@@ -1,12 +1,13 @@
 -- What holds of each row of the table holds of each word operation.
 use Rattle.std.proofs.Common.{◌≡◌, ℕ, zero, suc, Bool, true, false, ◌&&◌, List, [], ◌∷◌, refl, sym}
-use Rattle.std.proofs.Common.{ap, ◌∙◌, eqb, slice_index_or}
+use Rattle.std.proofs.Common.{ap, ◌∙◌, eqb, slice_index_or, Option, Some, None, bytes_eq, cond}
 use Rattle.std.specs.List.{list_all}
 use Rattle.std.proofs.lemmas.Bool.{eqb-true}
+use Rattle.std.proofs.lemmas.Slice.Eq.{bytes_eq-Decides}
 use Rattle.op_text.specs.declared.word_ops.WordOp.{WordOp}
 use Rattle.op_text.specs.declared.word_ops.WordOp.TheVariants as o
 use Rattle.op_text.specs.declared.word_ops.WordRow.{WordRow}
-use Rattle.op_text.specs.WordOps.{number, row_at, row_of, word_rows}
+use Rattle.op_text.specs.WordOps.{number, row_at, row_of, word_rows, op_text, op_named, first_named}
 
 pub row_is_own : (p : WordOp) → (row_of p).op ≡ p
 row_is_own o.Not = refl
@@ -66,3 +67,42 @@ pub every : (f : WordOp → Bool) → list_all (λ r. f r.1.op) word_rows ≡ tr
     → f p ≡ true
 every f h p = ap f (sym (row_is_own p))
     ∙ passes f word_rows (number p) _ h (left_of (f o.Not) _ h)
+
+abbrev names : Option WordOp → WordOp → Bool
+names None p = false
+names (Some q) p = is_op q p
+
+names_one : (r : Option WordOp) (p : WordOp) → names r p ≡ true → r ≡ Some p
+names_one None p h = cc
+names_one (Some q) p h = ap (λ x. Some x) (same_op q p h)
+
+pub op_is_named : (p : WordOp) → op_named (op_text p) ≡ Some p
+op_is_named p =
+    names_one (op_named (op_text p)) p (every (λ q. names (op_named (op_text q)) q) refl p)
+
+same_bytes : (m n : List ℕ) → bytes_eq m n ≡ true → m ≡ n
+same_bytes m n h = (bytes_eq-Decides m n).0 h
+
+-- a row's name is that of its operation
+abbrev names_its_op : List ℕ × WordRow → Bool
+names_its_op r = bytes_eq r.0 (op_text r.1.op)
+
+row_spelled : (r : List ℕ × WordRow) (rows : List (List ℕ × WordRow)) (text : List ℕ) (p : WordOp)
+    (b : Bool) → bytes_eq r.0 text ≡ b → names_its_op r ≡ true
+    → (first_named rows text ≡ Some p → text ≡ op_text p)
+    → cond b (Some r.1.op) (first_named rows text) ≡ Some p → text ≡ op_text p
+row_spelled r rows text p true e n k h =
+    let q : r.1.op ≡ p = cc in
+    sym (same_bytes r.0 text e) ∙ same_bytes r.0 (op_text r.1.op) n ∙ ap op_text q
+row_spelled r rows text p false e n k h = k h
+
+first_spelled : (rows : List (List ℕ × WordRow)) (text : List ℕ) (p : WordOp)
+    → list_all names_its_op rows ≡ true → first_named rows text ≡ Some p → text ≡ op_text p
+first_spelled [] text p a h = cc
+first_spelled (r ∷ rows) text p a h =
+    row_spelled r rows text p (bytes_eq r.0 text) refl
+    (left_of (names_its_op r) (list_all names_its_op rows) a)
+    (first_spelled rows text p (right_of (names_its_op r) (list_all names_its_op rows) a)) h
+
+pub op_spelled : (text : List ℕ) (p : WordOp) → op_named text ≡ Some p → text ≡ op_text p
+op_spelled text p h = first_spelled word_rows text p refl h
