@@ -332,62 +332,10 @@ small_need f (Compute target second p args ∷ body) h = let k = small_need f bo
 small_need f (Visit b ∷ body) h = let k = small_need f body h in grind (arith, nat_tests)
 
 pub few_bits : (p : WordOp) → bits_inside p ≤ 2
-few_bits o.Not = lit≤ tt
-few_bits o.And = lit≤ tt
-few_bits o.Or = lit≤ tt
-few_bits o.Xor = lit≤ tt
-few_bits o.Copy = lit≤ tt
-few_bits o.Zero = lit≤ tt
-few_bits o.Ones = lit≤ tt
-few_bits o.Shl1 = lit≤ tt
-few_bits o.Shr1 = lit≤ tt
-few_bits o.Add = lit≤ tt
-few_bits o.Sub = lit≤ tt
-few_bits o.Mul = lit≤ tt
-few_bits o.Div = lit≤ tt
-few_bits o.Rem = lit≤ tt
-few_bits o.Abs = lit≤ tt
-few_bits o.Relu = lit≤ tt
-few_bits o.Min = lit≤ tt
-few_bits o.Max = lit≤ tt
-few_bits o.Eq = lit≤ tt
-few_bits o.Gt = lit≤ tt
-few_bits o.Ge = lit≤ tt
-few_bits o.IfElse = lit≤ tt
-few_bits o.Bitcount = lit≤ tt
-few_bits o.AndRed = lit≤ tt
-few_bits o.OrRed = lit≤ tt
-few_bits o.XorRed = lit≤ tt
-few_bits o.Divmod = lit≤ tt
+few_bits p = leb-true (bits_inside p) 2 (every (λ q. leb (bits_inside q) 2) refl p)
 
 pub few_words : (p : WordOp) → words_inside p ≤ 2
-few_words o.Not = lit≤ tt
-few_words o.And = lit≤ tt
-few_words o.Or = lit≤ tt
-few_words o.Xor = lit≤ tt
-few_words o.Copy = lit≤ tt
-few_words o.Zero = lit≤ tt
-few_words o.Ones = lit≤ tt
-few_words o.Shl1 = lit≤ tt
-few_words o.Shr1 = lit≤ tt
-few_words o.Add = lit≤ tt
-few_words o.Sub = lit≤ tt
-few_words o.Mul = lit≤ tt
-few_words o.Div = lit≤ tt
-few_words o.Rem = lit≤ tt
-few_words o.Abs = lit≤ tt
-few_words o.Relu = lit≤ tt
-few_words o.Min = lit≤ tt
-few_words o.Max = lit≤ tt
-few_words o.Eq = lit≤ tt
-few_words o.Gt = lit≤ tt
-few_words o.Ge = lit≤ tt
-few_words o.IfElse = lit≤ tt
-few_words o.Bitcount = lit≤ tt
-few_words o.AndRed = lit≤ tt
-few_words o.OrRed = lit≤ tt
-few_words o.XorRed = lit≤ tt
-few_words o.Divmod = lit≤ tt
+few_words p = leb-true (words_inside p) 2 (every (λ q. leb (words_inside q) 2) refl p)
 
 pub rows_of_kind : (k : Kind) (op : Op) (a b c : ℕ)
     → a ≡ min (count_by (is_counted k (result_names (operation op)))

@@ -235,21 +235,6 @@ op_follows (t.Name sp.Op) o text a s = (refl, s)
 op_follows (t.Name _) o text a s = cc
 op_follows _ o text a s = cc
 
-named_spelled : (ops : List WordOp) (text : List ℕ) (p q : WordOp) (b : Bool)
-    → bytes_eq text (op_text q) ≡ b → (named_among ops text ≡ Some p → text ≡ op_text p)
-    → cond b (Some q) (named_among ops text) ≡ Some p → text ≡ op_text p
-named_spelled ops text p q true e k h = let s : q ≡ p = cc in same text (op_text q) e ∙ ap op_text s
-named_spelled ops text p q false e k h = k h
-
-among_spelled : (ops : List WordOp) (text : List ℕ) (p : WordOp) → named_among ops text ≡ Some p
-    → text ≡ op_text p
-among_spelled [] text p h = cc
-among_spelled (q ∷ ops) text p h = named_spelled ops text p q (bytes_eq text (op_text q)) refl
-    (among_spelled ops text p) h
-
-pub op_spelled : (text : List ℕ) (p : WordOp) → op_named text ≡ Some p → text ≡ op_text p
-op_spelled text p h = among_spelled all_ops text p h
-
 op_known : (b : Bool) (k : OpsKind) (s s' : Scope) (x : Option WordOp)
     → unless b k (known_op s x) ≡ Ok s' → x ≡ None → ⊥
 op_known true k s s' x h e = cc

@@ -11,7 +11,9 @@ ghost use Rattle.op_text.specs.Scratch as scratch;
 ghost use Rattle.op_lang.specs.Counting.{known_after, is_counted, need_of, rows_needed, MOST};
 
 use crate::names::{is_same_kind, kind_of};
-use op_text::{Assign, Kind, Op, Param, State, Stmt, WordOp, given_first, second_kind};
+use op_text::{
+    Assign, Kind, Op, Param, State, Stmt, WordOp, bits_inside, given_first, second_kind, words_inside,
+};
 use text_lex::Name;
 
 /// The scratch rows that one statement or a whole op needs beside its words' rows: `bits` single
@@ -243,35 +245,6 @@ fn count_names(params: &[Param], body: &[Stmt], kind: Kind, of: &Op) -> u16
             count_names(params, front, kind, of),
             capped(count_in(params, front, last, kind, of)),
         ),
-    }
-}
-
-fn bits_inside(op: WordOp) -> u16
-    ensures value { result ≡ scratch.bits_inside op }
-    ensures small { result ≤ 2 }
-{
-    match op {
-        WordOp::Div | WordOp::Rem | WordOp::Divmod => 2,
-        WordOp::Shl1
-        | WordOp::Shr1
-        | WordOp::Add
-        | WordOp::Sub
-        | WordOp::Mul
-        | WordOp::Abs
-        | WordOp::Min
-        | WordOp::Max
-        | WordOp::Bitcount => 1,
-        _ => 0,
-    }
-}
-
-fn words_inside(op: WordOp) -> u16
-    ensures value { result ≡ scratch.words_inside op }
-    ensures small { result ≤ 2 }
-{
-    match op {
-        WordOp::Div | WordOp::Rem | WordOp::Divmod => 2,
-        _ => 0,
     }
 }
 

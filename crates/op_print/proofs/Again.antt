@@ -116,33 +116,7 @@ start_reads false s r = digit (codes "0") refl refl s r
 start_reads true s r = digit (codes "1") refl refl s r
 
 op_fits : (p : WordOp) → fits_name (op_text p) ≡ true
-op_fits o.Not = refl
-op_fits o.And = refl
-op_fits o.Or = refl
-op_fits o.Xor = refl
-op_fits o.Copy = refl
-op_fits o.Zero = refl
-op_fits o.Ones = refl
-op_fits o.Shl1 = refl
-op_fits o.Shr1 = refl
-op_fits o.Add = refl
-op_fits o.Sub = refl
-op_fits o.Mul = refl
-op_fits o.Div = refl
-op_fits o.Rem = refl
-op_fits o.Abs = refl
-op_fits o.Relu = refl
-op_fits o.Min = refl
-op_fits o.Max = refl
-op_fits o.Eq = refl
-op_fits o.Gt = refl
-op_fits o.Ge = refl
-op_fits o.IfElse = refl
-op_fits o.Bitcount = refl
-op_fits o.AndRed = refl
-op_fits o.OrRed = refl
-op_fits o.XorRed = refl
-op_fits o.Divmod = refl
+op_fits p = every (λ q. fits_name (op_text q)) refl p
 
 -- the same text, grouped otherwise
 grouped : {spells : List (List ℕ)} (a b rest : List ℕ) → Reads (a ++ (b ++ rest)) spells

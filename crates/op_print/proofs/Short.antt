@@ -293,63 +293,19 @@ filled_few (f ∷ fs) given k h e = at (is_whole (lacks given f.takes)) refl
     at true i r g = omega (arith, h.0, lacks_none given f.takes i)
     at false i r g = r g
 
+shape_few : (s : Shape) → Each HasFew (shape_forms s)
+shape_few shapes.Nothing = (omega arith, tt)
+shape_few shapes.OneOf = (omega arith, (omega arith, tt))
+shape_few shapes.TwoOf = (omega arith, (omega arith, tt))
+shape_few (shapes.OneWord k) = (omega arith, tt)
+shape_few (shapes.TwoWords k) = (omega arith, tt)
+shape_few shapes.Choice = (omega arith, (omega arith, tt))
+
 forms_few : (p : WordOp) → Each HasFew (forms p)
-forms_few o.Not = (omega arith, (omega arith, tt))
-forms_few o.And = (omega arith, (omega arith, tt))
-forms_few o.Or = (omega arith, (omega arith, tt))
-forms_few o.Xor = (omega arith, (omega arith, tt))
-forms_few o.Copy = (omega arith, (omega arith, tt))
-forms_few o.Zero = (omega arith, tt)
-forms_few o.Ones = (omega arith, tt)
-forms_few o.Shl1 = (omega arith, tt)
-forms_few o.Shr1 = (omega arith, tt)
-forms_few o.Add = (omega arith, tt)
-forms_few o.Sub = (omega arith, tt)
-forms_few o.Mul = (omega arith, tt)
-forms_few o.Div = (omega arith, tt)
-forms_few o.Rem = (omega arith, tt)
-forms_few o.Abs = (omega arith, tt)
-forms_few o.Relu = (omega arith, tt)
-forms_few o.Min = (omega arith, tt)
-forms_few o.Max = (omega arith, tt)
-forms_few o.Eq = (omega arith, tt)
-forms_few o.Gt = (omega arith, tt)
-forms_few o.Ge = (omega arith, tt)
-forms_few o.IfElse = (omega arith, (omega arith, tt))
-forms_few o.Bitcount = (omega arith, tt)
-forms_few o.AndRed = (omega arith, tt)
-forms_few o.OrRed = (omega arith, tt)
-forms_few o.XorRed = (omega arith, tt)
-forms_few o.Divmod = (omega arith, tt)
+forms_few p = shape_few (row_of p).shape
 
 op_short : (p : WordOp) → length (op_text p) ≤ 8
-op_short o.Not = omega arith
-op_short o.And = omega arith
-op_short o.Or = omega arith
-op_short o.Xor = omega arith
-op_short o.Copy = omega arith
-op_short o.Zero = omega arith
-op_short o.Ones = omega arith
-op_short o.Shl1 = omega arith
-op_short o.Shr1 = omega arith
-op_short o.Add = omega arith
-op_short o.Sub = omega arith
-op_short o.Mul = omega arith
-op_short o.Div = omega arith
-op_short o.Rem = omega arith
-op_short o.Abs = omega arith
-op_short o.Relu = omega arith
-op_short o.Min = omega arith
-op_short o.Max = omega arith
-op_short o.Eq = omega arith
-op_short o.Gt = omega arith
-op_short o.Ge = omega arith
-op_short o.IfElse = omega arith
-op_short o.Bitcount = omega arith
-op_short o.AndRed = omega arith
-op_short o.OrRed = omega arith
-op_short o.XorRed = omega arith
-op_short o.Divmod = omega arith
+op_short p = leb-true (length (op_text p)) 8 (every (λ q. leb (length (op_text q)) 8) refl p)
 
 names_short : (args : List (List ℕ)) → Each IsName args → Each (Short spelled 16) args
 names_short args h = each_short IsName spelled 16 name_short args h

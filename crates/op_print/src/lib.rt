@@ -9,5 +9,4 @@ mod statements;
 mod values;
 
 pub use laws::{printing_is_undone, tokens_spell_ops};
-pub use pieces::op_name;
 pub use print::print_ops;

@@ -8,7 +8,7 @@ ghost use Rattle.op_print.specs.Canonical.{listed, state_text, equation_text, le
 ghost use Rattle.op_print.specs.Canonical.{line, statement_lines};
 
 use crate::lists::{put_arguments, put_states, put_targets};
-use crate::pieces::{op_name, put};
+use crate::pieces::put;
 use crate::values::put_equation;
 use no_memory::NoMemory;
 use op_text::{Assign, State, Stmt, WordOp};

@@ -118,39 +118,20 @@ second_peels (Some n) s wanted rest m h =
     (goes (Equals ∷ wanted) more) g in
     (record { good = k.0; new = k.1 }, k.2)
 
+name_is_good : (p : WordOp) → is_bad (spelling_of (op_text p)) (op_text p) ≡ false
+name_is_good p = not_true _ (every (λ q. not (is_bad (spelling_of (op_text q)) (op_text q))) refl p)
+
 -- the name of a word operation
 pub operation_goes : (p : WordOp) (s : Scope) (wanted : List Wanted) (rest : List (List ℕ))
     → breach_of (WordOpName ∷ wanted) s (items_spelled (op_text p ∷ rest))
     ≡ after (with_rules (Some []) (known_op s (Some p))) (name_lexeme (op_text p))
     (goes wanted rest)
 unfolding breach_of
-operation_goes o.Not s wanted rest = refl
-operation_goes o.And s wanted rest = refl
-operation_goes o.Or s wanted rest = refl
-operation_goes o.Xor s wanted rest = refl
-operation_goes o.Copy s wanted rest = refl
-operation_goes o.Zero s wanted rest = refl
-operation_goes o.Ones s wanted rest = refl
-operation_goes o.Shl1 s wanted rest = refl
-operation_goes o.Shr1 s wanted rest = refl
-operation_goes o.Add s wanted rest = refl
-operation_goes o.Sub s wanted rest = refl
-operation_goes o.Mul s wanted rest = refl
-operation_goes o.Div s wanted rest = refl
-operation_goes o.Rem s wanted rest = refl
-operation_goes o.Abs s wanted rest = refl
-operation_goes o.Relu s wanted rest = refl
-operation_goes o.Min s wanted rest = refl
-operation_goes o.Max s wanted rest = refl
-operation_goes o.Eq s wanted rest = refl
-operation_goes o.Gt s wanted rest = refl
-operation_goes o.Ge s wanted rest = refl
-operation_goes o.IfElse s wanted rest = refl
-operation_goes o.Bitcount s wanted rest = refl
-operation_goes o.AndRed s wanted rest = refl
-operation_goes o.OrRed s wanted rest = refl
-operation_goes o.XorRed s wanted rest = refl
-operation_goes o.Divmod s wanted rest = refl
+operation_goes p s wanted rest =
+    named WordOpName wanted s (op_text p) rest (every (λ q. fits_name (op_text q)) refl p)
+    ∙ ap (λ x. after (with_rules (Some []) x) (name_lexeme (op_text p)) (goes wanted rest))
+    (ap (λ b. unless b why.BadName (known_op s (op_named (op_text p)))) (name_is_good p)
+    ∙ ap (known_op s) (op_is_named p))
 
 operation_peels : (p : WordOp) (s : Scope) (second : Option (List ℕ)) (wanted : List Wanted)
     (rest : List (List ℕ))

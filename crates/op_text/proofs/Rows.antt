@@ -11,32 +11,7 @@ use Rattle.op_text.specs.WordOps.{number, row_at, row_of, word_rows, op_text, op
 
 pub row_is_own : (p : WordOp) → (row_of p).op ≡ p
 row_is_own o.Not = refl
-row_is_own o.And = refl
-row_is_own o.Or = refl
-row_is_own o.Xor = refl
-row_is_own o.Copy = refl
-row_is_own o.Zero = refl
-row_is_own o.Ones = refl
-row_is_own o.Shl1 = refl
-row_is_own o.Shr1 = refl
-row_is_own o.Add = refl
-row_is_own o.Sub = refl
-row_is_own o.Mul = refl
-row_is_own o.Div = refl
-row_is_own o.Rem = refl
-row_is_own o.Abs = refl
-row_is_own o.Relu = refl
-row_is_own o.Min = refl
-row_is_own o.Max = refl
-row_is_own o.Eq = refl
-row_is_own o.Gt = refl
-row_is_own o.Ge = refl
-row_is_own o.IfElse = refl
-row_is_own o.Bitcount = refl
-row_is_own o.AndRed = refl
-row_is_own o.OrRed = refl
-row_is_own o.XorRed = refl
-row_is_own o.Divmod = refl
+row_is_own p = refl
 
 -- whether two operations are one
 abbrev pub is_op : WordOp → WordOp → Bool
