@@ -332,10 +332,12 @@ small_need f (Compute target second p args ∷ body) h = let k = small_need f bo
 small_need f (Visit b ∷ body) h = let k = small_need f body h in grind (arith, nat_tests)
 
 pub few_bits : (p : WordOp) → bits_inside p ≤ 2
-few_bits p = leb-true (bits_inside p) 2 (every (λ q. leb (bits_inside q) 2) refl p)
+few_bits o.Not = lit≤ tt
+few_bits p = lit≤ tt
 
 pub few_words : (p : WordOp) → words_inside p ≤ 2
-few_words p = leb-true (words_inside p) 2 (every (λ q. leb (words_inside q) 2) refl p)
+few_words o.Not = lit≤ tt
+few_words p = lit≤ tt
 
 pub rows_of_kind : (k : Kind) (op : Op) (a b c : ℕ)
     → a ≡ min (count_by (is_counted k (result_names (operation op)))

@@ -18,7 +18,7 @@ use Rattle.op_text.specs.declared.gate.Gate.{Gate}
 use Rattle.op_text.specs.declared.gate.Gate.TheVariants as gates
 use Rattle.op_text.specs.Items.{terminal_of, opens}
 use Rattle.op_text.specs.Grammar.{follow}
-use Rattle.op_text.specs.WordOps.{op_text, op_named, named_among, all_ops}
+use Rattle.op_text.specs.WordOps.{op_named}
 use Rattle.op_text.specs.Rules.{Scope, rules_at, unless, is_plain, is_bad, known_op, gate_named}
 use Rattle.op_text.specs.Rules.{comma_rules, close_rules}
 use Rattle.op_text.specs.Spelling.{kind_text, direction_text, start_text}

@@ -12,7 +12,8 @@ ghost use Rattle.op_lang.specs.Counting.{known_after, is_counted, need_of, rows_
 
 use crate::names::{is_same_kind, kind_of};
 use op_text::{
-    Assign, Kind, Op, Param, State, Stmt, WordOp, bits_inside, given_first, second_kind, words_inside,
+    Assign, Kind, Op, Param, State, Stmt, WordOp, bits_inside, given_first, second_kind,
+    words_inside,
 };
 use text_lex::Name;
 

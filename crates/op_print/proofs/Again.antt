@@ -116,7 +116,8 @@ start_reads false s r = digit (codes "0") refl refl s r
 start_reads true s r = digit (codes "1") refl refl s r
 
 op_fits : (p : WordOp) → fits_name (op_text p) ≡ true
-op_fits p = every (λ q. fits_name (op_text q)) refl p
+op_fits o.Not = refl
+op_fits p = refl
 
 -- the same text, grouped otherwise
 grouped : {spells : List (List ℕ)} (a b rest : List ℕ) → Reads (a ++ (b ++ rest)) spells

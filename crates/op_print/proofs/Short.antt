@@ -17,7 +17,9 @@ use Rattle.op_text.specs.declared.tree.Param.{Param}
 use Rattle.op_text.specs.declared.tree.State.{State}
 use Rattle.op_text.specs.declared.word_ops.WordOp.{WordOp}
 use Rattle.op_text.specs.declared.word_ops.WordOp.TheVariants as o
-use Rattle.op_text.specs.WordOps.{Form, op_text, forms, filled, lacks, is_whole, same_kind}
+use Rattle.op_text.specs.declared.word_ops.Shape.{Shape}
+use Rattle.op_text.specs.declared.word_ops.Shape.TheVariants as shapes
+use Rattle.op_text.specs.WordOps.{Form, row_of, shape_forms, op_text, forms, filled, lacks, is_whole, same_kind}
 use Rattle.op_text.specs.Scratch.{term_weight, kind_of}
 use Rattle.op_text.specs.Language.{Term, Nought, Unity, Named, Negation, Conjunction, Disjunction}
 use Rattle.op_text.specs.Language.{Parity, Majority, Equation, Block, Statement, Compute, Visit}
@@ -293,19 +295,18 @@ filled_few (f ∷ fs) given k h e = at (is_whole (lacks given f.takes)) refl
     at true i r g = omega (arith, h.0, lacks_none given f.takes i)
     at false i r g = r g
 
-shape_few : (s : Shape) → Each HasFew (shape_forms s)
-shape_few shapes.Nothing = (omega arith, tt)
-shape_few shapes.OneOf = (omega arith, (omega arith, tt))
-shape_few shapes.TwoOf = (omega arith, (omega arith, tt))
-shape_few (shapes.OneWord k) = (omega arith, tt)
-shape_few (shapes.TwoWords k) = (omega arith, tt)
-shape_few shapes.Choice = (omega arith, (omega arith, tt))
-
 forms_few : (p : WordOp) → Each HasFew (forms p)
-forms_few p = shape_few (row_of p).shape
+forms_few p = of (row_of p).shape
+  where
+    of : (s : Shape) → Each HasFew (shape_forms s)
+    of shapes.OneOf = (omega arith, (omega arith, tt))
+    of shapes.TwoOf = (omega arith, (omega arith, tt))
+    of shapes.Choice = (omega arith, (omega arith, tt))
+    of s = (omega arith, tt)
 
 op_short : (p : WordOp) → length (op_text p) ≤ 8
-op_short p = leb-true (length (op_text p)) 8 (every (λ q. leb (length (op_text q)) 8) refl p)
+op_short o.Not = omega arith
+op_short p = omega arith
 
 names_short : (args : List (List ℕ)) → Each IsName args → Each (Short spelled 16) args
 names_short args h = each_short IsName spelled 16 name_short args h

@@ -11,7 +11,7 @@ use crate::lists::{put_arguments, put_states, put_targets};
 use crate::pieces::put;
 use crate::values::put_equation;
 use no_memory::NoMemory;
-use op_text::{Assign, State, Stmt, WordOp};
+use op_text::{Assign, State, Stmt, WordOp, op_name};
 use text_lex::Name;
 
 fn put_lets(out: &mut Vec<u8>, lets: &[Assign]) -> Result<(), NoMemory>

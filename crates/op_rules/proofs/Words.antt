@@ -118,20 +118,14 @@ second_peels (Some n) s wanted rest m h =
     (goes (Equals ∷ wanted) more) g in
     (record { good = k.0; new = k.1 }, k.2)
 
-name_is_good : (p : WordOp) → is_bad (spelling_of (op_text p)) (op_text p) ≡ false
-name_is_good p = not_true _ (every (λ q. not (is_bad (spelling_of (op_text q)) (op_text q))) refl p)
-
 -- the name of a word operation
 pub operation_goes : (p : WordOp) (s : Scope) (wanted : List Wanted) (rest : List (List ℕ))
     → breach_of (WordOpName ∷ wanted) s (items_spelled (op_text p ∷ rest))
     ≡ after (with_rules (Some []) (known_op s (Some p))) (name_lexeme (op_text p))
     (goes wanted rest)
 unfolding breach_of
-operation_goes p s wanted rest =
-    named WordOpName wanted s (op_text p) rest (every (λ q. fits_name (op_text q)) refl p)
-    ∙ ap (λ x. after (with_rules (Some []) x) (name_lexeme (op_text p)) (goes wanted rest))
-    (ap (λ b. unless b why.BadName (known_op s (op_named (op_text p)))) (name_is_good p)
-    ∙ ap (known_op s) (op_is_named p))
+operation_goes o.Not s wanted rest = refl
+operation_goes p s wanted rest = refl
 
 operation_peels : (p : WordOp) (s : Scope) (second : Option (List ℕ)) (wanted : List Wanted)
     (rest : List (List ℕ))

@@ -1,7 +1,8 @@
 use Rattle.std.proofs.Common.{[], ◌∷◌, ◌∙◌, sym, ap}
 use Rattle.op_text.specs.declared.grammar.Wanted.TheVariants as w
 use Rattle.op_lang.proofs.Taking.{exits, took_left}
-use Rattle.op_lang.proofs.Single.{word_op_took, word_op_follows, op_spelled}
+use Rattle.op_text.proofs.Rows.{op_spelled}
+use Rattle.op_lang.proofs.Single.{word_op_took, word_op_follows}
 use Rattle.op_lang.specs.Reading.{left}
 use Rattle.op_lang.proofs.pieces.word_op.Goals as goal
 
