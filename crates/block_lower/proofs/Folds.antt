@@ -6,7 +6,7 @@ use Rattle.std.proofs.lemmas.Bool.{or_cases, or_parts, cond-true, cond-false}
 use Rattle.op_text.specs.declared.tree.Kind.TheVariants.{Word, Bit}
 use Rattle.op_text.specs.declared.tree.State.{State}
 use Rattle.op_text.specs.Language.{Equation}
-use Rattle.op_text.specs.Meaning.{Held, term_bit, changed, bit_written, assigned, with_blanks}
+use Rattle.op_text.specs.Meaning.{NameValue, term_bit, changed, bit_written, assigned, with_blanks}
 use Rattle.op_text.specs.Meaning.{with_states, upwards, downwards, positions}
 use Rattle.op_text.specs.Rules.{is_among}
 use Rattle.loop_ir.specs.Statements.{AreDistinct, targets_of}
@@ -14,11 +14,11 @@ use Rattle.block_lower.specs.Inputs.{name_at}
 use Rattle.block_lower.proofs.Names.{name-true, name-same, name-other, cases_name, among-is}
 use Rattle.block_lower.proofs.Rows.{position}
 
-pub changed-same : (names : List ℕ → Held) (name : List ℕ) (v : Held) (x : List ℕ) → x ≡ name
+pub changed-same : (names : List ℕ → NameValue) (name : List ℕ) (v : NameValue) (x : List ℕ) → x ≡ name
     → changed names name v x ≡ v
 changed-same names name v x e = cond-true (bytes_eq x name) v (names x) (name-same x name e)
 
-pub changed-other : (names : List ℕ → Held) (name : List ℕ) (v : Held) (x : List ℕ) → (x ≡ name → ⊥)
+pub changed-other : (names : List ℕ → NameValue) (name : List ℕ) (v : NameValue) (x : List ℕ) → (x ≡ name → ⊥)
     → changed names name v x ≡ names x
 changed-other names name v x ne = cond-false (bytes_eq x name) v (names x) (name-other x name ne)
 
@@ -30,7 +30,7 @@ in-tail : (y x : List ℕ) (ys : List (List ℕ)) → is_among (y ∷ ys) x ≡ 
 in-tail y x ys f = (or_parts (bytes_eq y x) (is_among ys x) f).1
 
 pub assigned-other : (r : List ℕ → Bool) (p : ℕ) (names : List ℕ
-    → Held) (es : List Equation) (x : List ℕ) → is_among (targets_of es) x ≡ false
+    → NameValue) (es : List Equation) (x : List ℕ) → is_among (targets_of es) x ≡ false
     → assigned r p names es x ≡ names x
 assigned-other r p names [] x f = refl
 assigned-other r p names (e ∷ es) x f =
@@ -45,7 +45,7 @@ equation_at d (suc k) (e ∷ es) = equation_at d k es
 
 -- the target of an assignment has its value written
 pub assigned-at : (r : List ℕ → Bool) (p : ℕ) (names : List ℕ
-    → Held) (es : List Equation) (d : Equation) (j : ℕ) → AreDistinct (targets_of es)
+    → NameValue) (es : List Equation) (d : Equation) (j : ℕ) → AreDistinct (targets_of es)
     → j < length es → assigned r p names es (name_at (targets_of es) j)
     ≡ bit_written p (names (name_at (targets_of es) j)) (term_bit r (equation_at d j es).value)
 assigned-at r p names [] d j once l = absurd (omega arith)
@@ -58,7 +58,7 @@ assigned-at r p names (e ∷ es) d (suc j) once l =
     let x = name_at (targets_of es) j in
     let other : x ≡ e.name → ⊥ = λ h. later h in
     assigned-at r p (changed names e.name v) es d j once.1 (omega arith)
-    ∙ ap (λ (h : Held). bit_written p h (term_bit r (equation_at d j es).value))
+    ∙ ap (λ (h : NameValue). bit_written p h (term_bit r (equation_at d j es).value))
     (changed-other names e.name v x other)
   where
     later : name_at (targets_of es) j ≡ e.name → ⊥
@@ -70,17 +70,17 @@ assigned-at r p names (e ∷ es) d (suc j) once l =
         below (e ∷ es) zero l = omega arith
         below (e ∷ es) (suc j) l = let h = below es j (omega arith) in omega (arith, h)
 
-abbrev pub blank : ℕ → Held
+abbrev pub blank : ℕ → NameValue
 blank n = record { kind = Word; bits = replicate n false }
 
-pub blanks-other : (n : ℕ) (names : List ℕ → Held) (es : List Equation) (x : List ℕ)
+pub blanks-other : (n : ℕ) (names : List ℕ → NameValue) (es : List Equation) (x : List ℕ)
     → is_among (targets_of es) x ≡ false → with_blanks n names es x ≡ names x
 blanks-other n names [] x f = refl
 blanks-other n names (e ∷ es) x f = blanks-other n (changed names e.name (blank n)) es x
     (in-tail e.name x (targets_of es) f) ∙ changed-other names e.name (blank n) x
     (not-head e.name x (targets_of es) f)
 
-pub blanks-at : (n : ℕ) (names : List ℕ → Held) (es : List Equation) (x : List ℕ)
+pub blanks-at : (n : ℕ) (names : List ℕ → NameValue) (es : List Equation) (x : List ℕ)
     → (is_among (targets_of es) x ≡ true) ⊎ (names x ≡ blank n) → with_blanks n names es x ≡ blank n
 blanks-at n names [] x (inl e) = absurd (cc)
 blanks-at n names [] x (inr e) = e
@@ -100,11 +100,11 @@ blanks-at n names (e ∷ es) x h = blanks-at n (changed names e.name (blank n)) 
 abbrev pub names_of : List State → List (List ℕ)
 names_of ss = map (λ (s : State). s.name) ss
 
-pub states-other : (names : List ℕ → Held) (ss : List State) (x : List ℕ)
+pub states-other : (names : List ℕ → NameValue) (ss : List State) (x : List ℕ)
     → is_among (names_of ss) x ≡ false → with_states names ss x ≡ names x
 states-other names [] x f = refl
 states-other names (s ∷ ss) x f =
-    let v : Held = record { kind = Bit; bits = s.start ∷ [] } in
+    let v : NameValue = record { kind = Bit; bits = s.start ∷ [] } in
     states-other (changed names s.name v) ss x (in-tail s.name x (names_of ss) f)
     ∙ changed-other names s.name v x (not-head s.name x (names_of ss) f)
 

@@ -6,7 +6,7 @@ use Rattle.std.proofs.lemmas.List.{length-replicate}
 use Rattle.mig_graph.specs.Graph.{values_from}
 use Rattle.op_text.specs.declared.tree.State.{State}
 use Rattle.op_text.specs.Language.{Block, Visit}
-use Rattle.op_text.specs.Meaning.{Held, changed, with_states, with_blanks}
+use Rattle.op_text.specs.Meaning.{NameValue, changed, with_states, with_blanks}
 use Rattle.op_text.specs.Rules.{is_among}
 use Rattle.op_text.specs.Scratch.{state_names}
 use Rattle.loop_ir.specs.declared.ir.Place.{Place}
@@ -94,7 +94,7 @@ started-rest {slots = slots} {b = b} g n lt down (s ∷ ss) all bits q out =
 -- names and rows get the same starts
 states-match : {slots : Slots} {fb fw : ℕ} {b : Block} → Given slots fb fw b → (n : ℕ) → 0 < n
     → (down : Bool) (ss : List State) → AreStates b ss
-    → (names : List ℕ → Held) (bits : Spots) (x : List ℕ) → is_among (state_names b) x ≡ true
+    → (names : List ℕ → NameValue) (bits : Spots) (x : List ℕ) → is_among (state_names b) x ≡ true
     → (is_among (names_of ss) x ≡ true) ⊎ (names x ≡ one_bit (bits (row n slots x 0)))
     → with_states names ss x ≡ one_bit (started n slots down ss bits (row n slots x 0))
 states-match g n lt down [] all names bits x e (inl m) = absurd (cc)
@@ -123,17 +123,17 @@ states-match {slots = slots} {b = b} g n lt down (s ∷ ss) all names bits x e m
     ])
 
 pub begins : {slots : Slots} {fb fw : ℕ} {b : Block} → Given slots fb fw b → (n : ℕ) → 0 < n
-    → (old : List ℕ → Held) (before : Spots) → Stands slots b n old before 0
+    → (old : List ℕ → NameValue) (before : Spots) → Stands slots b n old before 0
     (with_states (with_blanks n old b.assigns) b.states) (started n slots b.down b.states before)
 begins {slots = slots} {b = b} g n lt old before =
     let blanked = with_blanks n old b.assigns in
     record {
       states = λ x e. states-match g n lt b.down b.states (λ y h. h) blanked before x e (inl e);
       kinds = λ x e. let w = word-target b x e in
-          ap (λ (h : Held). h.kind) (states-other blanked b.states x w.1
+          ap (λ (h : NameValue). h.kind) (states-other blanked b.states x w.1
           ∙ blanks-at n old b.assigns x (inl w.0));
       long = λ x e. let w = word-target b x e in
-          ap (λ (h : Held). length h.bits) (states-other blanked b.states x w.1
+          ap (λ (h : NameValue). length h.bits) (states-other blanked b.states x w.1
           ∙ blanks-at n old b.assigns x (inl w.0)) ∙ length-replicate n false;
       words = λ x e j l. absurd (omega arith);
       reads = λ x e. let r = read-is g x e in states-other blanked b.states x r.0

@@ -7,7 +7,7 @@ use Rattle.std.proofs.lemmas.List.{length-set, get_or-set_same, get_or-set_other
 use Rattle.op_text.specs.declared.tree.Kind.{Kind}
 use Rattle.op_text.specs.declared.tree.Kind.TheVariants.{Word, Bit}
 use Rattle.op_text.specs.Language.{Equation, Block, Visit, Nought}
-use Rattle.op_text.specs.Meaning.{Held, term_bit, with_lets, bit_read, bit_written, visited, width}
+use Rattle.op_text.specs.Meaning.{NameValue, term_bit, with_lets, bit_read, bit_written, visited, width}
 use Rattle.op_text.specs.Rules.{is_among}
 use Rattle.op_text.specs.Scratch.{state_names, word_names}
 use Rattle.loop_ir.specs.Plain.{Block as Body}
@@ -27,7 +27,7 @@ use Rattle.block_lower.proofs.Folds.{equation_at, assigned-other, assigned-at, p
 use Rattle.block_lower.proofs.Round.{targets-long, target-among, target-named, equation-got}
 use Rattle.block_lower.proofs.Round.{read-row, round-at, round-other, round-rest}
 
-abbrev pub one_bit : Bool → Held
+abbrev pub one_bit : Bool → NameValue
 one_bit v = record { kind = Bit; bits = v ∷ [] }
 
 -- the row of a state, or row v of a name
@@ -37,7 +37,7 @@ row n slots x v = slot_spot n (slot_or (slots x)) v
 -- after i positions: the states' rows hold their bits, the assigned words' rows theirs at the
 -- positions done, the names that are read as they stand are as before, and so are all other rows
 pub record Stands (slots : Slots) (b : Block) (n : ℕ) (old : List ℕ
-    → Held) (before : Spots) (i : ℕ) (held : List ℕ → Held) (bits : Spots) : Type 0 where
+    → NameValue) (before : Spots) (i : ℕ) (held : List ℕ → NameValue) (bits : Spots) : Type 0 where
   pub states : (x : List ℕ) → is_among (state_names b) x ≡ true
       → held x ≡ one_bit (bits (row n slots x 0))
   pub kinds : (x : List ℕ) → is_among (word_names b) x ≡ true → (held x).kind ≡ Word
@@ -49,7 +49,7 @@ pub record Stands (slots : Slots) (b : Block) (n : ℕ) (old : List ℕ
   pub rest : (q : Spot) → (IsRowOf n slots (written_names (Visit b)) q → ⊥) → bits q ≡ before q
 
 -- the rows of the names that are read hold their bits
-abbrev pub AreRead : Slots → Block → ℕ → (List ℕ → Held) → Spots → Type 0
+abbrev pub AreRead : Slots → Block → ℕ → (List ℕ → NameValue) → Spots → Type 0
 AreRead slots b n old before = (x : List ℕ) → is_among (read_names (Visit b)) x ≡ true → (p : ℕ)
     → p < n → bit_read p (old x) ≡ before (named_row n slots p x)
 
@@ -90,7 +90,7 @@ read-apart {slots = slots} {b = b} g n p x lt e r =
 
 -- what is read at a position is what the names hold there
 pub reads-held : {slots : Slots} {fb fw : ℕ} {b : Block} {n i : ℕ} {old held : List ℕ
-    → Held} {before bits : Spots} → Given slots fb fw b → AreRead slots b n old before
+    → NameValue} {before bits : Spots} → Given slots fb fw b → AreRead slots b n old before
     → Stands slots b n old before i held bits → (p : ℕ) (x : List ℕ) → p < n
     → is_among (block_inputs b) x ≡ true → bits (named_row n slots p x) ≡ bit_read p (held x)
 reads-held {slots = slots} {b = b} {n = n} {bits = bits} g all st p x lt e = elim (input-is b x e) [
@@ -109,13 +109,13 @@ none = record { name = []; value = Nought }
 
 -- the value that an assigned name gets, and its row
 record Set (slots : Slots) (b : Block) (body : Body) (n i : ℕ) (held : List ℕ
-    → Held) (bits : Spots) (x : List ℕ) : Type 0 where
+    → NameValue) (bits : Spots) (x : List ℕ) : Type 0 where
   v : Bool
   name : visited b held (position b.down n i) x ≡ bit_written (position b.down n i) (held x) v
   there : after_round n (round_at body i 0) bits (named_row n slots (position b.down n i) x) ≡ v
 
 set-target : {slots : Slots} {fb fw : ℕ} {b : Block} {body : Body} {n i : ℕ} {old held : List ℕ
-    → Held} {before bits : Spots} → Given slots fb fw b → IsBlockBody slots b body
+    → NameValue} {before bits : Spots} → Given slots fb fw b → IsBlockBody slots b body
     → AreRead slots b n old before → Stands slots b n old before i held bits → i < n
     → (j : ℕ) → j < length b.assigns → Set slots b body n i held bits
     (name_at (targets_of b.assigns) j)
@@ -135,7 +135,7 @@ set-target {b = b} {body = body} {n = n} {i = i} {held = held} {bits = bits} g i
     }
 
 set-named : {slots : Slots} {fb fw : ℕ} {b : Block} {body : Body} {n i : ℕ} {old held : List ℕ
-    → Held} {before bits : Spots} → Given slots fb fw b → IsBlockBody slots b body
+    → NameValue} {before bits : Spots} → Given slots fb fw b → IsBlockBody slots b body
     → AreRead slots b n old before → Stands slots b n old before i held bits → i < n
     → (x : List ℕ) → is_among (targets_of b.assigns) x ≡ true → Set slots b body n i held bits x
 set-named {slots = slots} {b = b} {body = body} {n = n} {i = i} {held = held} {bits = bits} g is all
@@ -166,7 +166,7 @@ zero-below n Word l = l
 zero-below n Bit l = omega arith
 
 one-visit : {slots : Slots} {fb fw : ℕ} {b : Block} {body : Body} {n i : ℕ} {old held : List ℕ
-    → Held} {before bits : Spots} → Given slots fb fw b → IsBlockBody slots b body
+    → NameValue} {before bits : Spots} → Given slots fb fw b → IsBlockBody slots b body
     → AreRead slots b n old before → Stands slots b n old before i held bits → i < n
     → Stands slots b n old before (i + 1) (visited b held (position b.down n i))
     (after_round n (round_at body i 0) bits)
@@ -187,15 +187,15 @@ one-visit {slots = slots} {b = b} {body = body} {n = n} {i = i} {old = old} {hel
             (zero-below n (slot_or (slots x)).kind (omega arith)) (λ t q. cc)))
       ];
       kinds = λ x e. let s = set-named g is all st lt x (word-target b x e).0 in
-          ap (λ (h : Held). h.kind) s.name ∙ st.kinds x e;
+          ap (λ (h : NameValue). h.kind) s.name ∙ st.kinds x e;
       long = λ x e. let s = set-named g is all st lt x (word-target b x e).0 in
-          ap (λ (h : Held). length h.bits) s.name
+          ap (λ (h : NameValue). length h.bits) s.name
           ∙ ap length (word-set p (held x).kind (held x).bits s.v (st.kinds x e))
           ∙ length-set (held x).bits p s.v ∙ st.long x e;
       words = λ x e j l.
           let s = set-named g is all st lt x (word-target b x e).0 in
           let long = st.long x e in
-          let is-set = ap (λ (h : Held). h.bits) s.name
+          let is-set = ap (λ (h : NameValue). h.bits) s.name
           ∙ word-set p (held x).kind (held x).bits s.v (st.kinds x e) in
           elim (cases_eq j i) [
             | inl same ↦ subst (λ y. slice_index_or (visited b held p x).bits (position b.down n y)
@@ -221,9 +221,9 @@ one-visit {slots = slots} {b = b} {body = body} {n = n} {i = i} {old = old} {hel
 
 -- all positions from the i-th on
 pub all-visits : {slots : Slots} {fb fw : ℕ} {b : Block} {body : Body} {n : ℕ} {old : List ℕ
-    → Held} {before : Spots} → Given slots fb fw b → IsBlockBody slots b body
+    → NameValue} {before : Spots} → Given slots fb fw b → IsBlockBody slots b body
     → AreRead slots b n old before → (count i : ℕ) → i + count ≡ n
-    → (held : List ℕ → Held) (bits : Spots) → Stands slots b n old before i held bits
+    → (held : List ℕ → NameValue) (bits : Spots) → Stands slots b n old before i held bits
     → Stands slots b n old before n (fold (visited b) held (positions_from b.down n i count))
     (after_rounds n (rounds (λ j. one_round body j 0) i count) bits)
 all-visits {slots = slots} {b = b} {n = n} {old = old} {before = before} g is all zero i e held bits

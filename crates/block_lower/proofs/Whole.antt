@@ -3,7 +3,7 @@ use Rattle.std.proofs.Common.{◌≡◌, ℕ, ◌+◌, ◌*◌, ◌<◌, ◌≤�
 use Rattle.std.proofs.Common.{length, sym, ap, ◌∙◌, subst, arith, inl}
 use Rattle.std.proofs.lemmas.List.{append-nil}
 use Rattle.op_text.specs.Language.{Block, Visit}
-use Rattle.op_text.specs.Meaning.{Held, visited, with_blanks, with_states, after_statement}
+use Rattle.op_text.specs.Meaning.{NameValue, visited, with_blanks, with_states, after_statement}
 use Rattle.op_text.specs.Rules.{is_among}
 use Rattle.loop_ir.specs.Plain.{Block as Body, StepOf}
 use Rattle.loop_ir.specs.Plain.StepOf.{Along}
@@ -31,7 +31,7 @@ after-all slots b body n bits =
     (append-nil (rounds (λ j. one_round body j 0) 0 n))
 
 block-gives : {slots : Slots} {fb fw : ℕ} {b : Block} {body : Body} → Given slots fb fw b
-    → IsBlockBody slots b body → (n : ℕ) → 0 < n → (held : List ℕ → Held) (bits : Spots)
+    → IsBlockBody slots b body → (n : ℕ) → 0 < n → (held : List ℕ → NameValue) (bits : Spots)
     → ((x : List ℕ) → is_among (read_names (Visit b)) x ≡ true → Holds n slots held bits x)
     → (x : List ℕ) → is_among (written_names (Visit b)) x ≡ true
     → Holds n slots (after_statement n held (Visit b))

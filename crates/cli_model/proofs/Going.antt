@@ -9,7 +9,7 @@ use Rattle.cli_model.specs.World.{World}
 use Rattle.cli_model.specs.Steps.{Step, Load, Take, Store, Open, Use, Put, Print, Reason}
 use Rattle.cli_model.specs.Steps.{CannotRead, TooLong, Refused, NoMemory, CannotWrite, PutFailed}
 use Rattle.cli_model.specs.Steps.{ChipFailed}
-use Rattle.cli_model.specs.Steps.{End, Done, Stopped, Goes, Does, Fails, ReadsOnly, Stored, Used}
+use Rattle.cli_model.specs.Steps.{End, Done, Stopped, Goes, StepDone, Fails, ReadsOnly, Stored, Used}
 use Rattle.cli_model.specs.Steps.{Sent, Printed, Unstored}
 use Rattle.cli_model.specs.Stands.{files_after, sent_by, CountsOn, Stands}
 use Rattle.cli_model.specs.Ends.{is_on_chip}
@@ -106,7 +106,7 @@ unstored_count name a b s = record {
   chip = rw (ap (λ v. v.faults) s.chip) (omega arith);
 }
 
-pub does_count : (step : Step) (a b : World) → Does step a b → CountsOn a b
+pub does_count : (step : Step) (a b : World) → StepDone step a b → CountsOn a b
 does_count (Load name limit text refusal) a b d = reads_count a b d.1.reads
 does_count Take a b d = reads_count a b d
 does_count (Store name bytes) a b d = stored_count name bytes a b d
@@ -162,7 +162,7 @@ told_unsent (Some x) b e = subst (λ o. Told (λ x y. y ≡ x ++ []) (Some x) o)
     (sym (append-nil x))
 
 -- what stands after one step
-pub one_stands : (step : Step) (a b : World) → Does step a b → Stands (step ∷ []) a b
+pub one_stands : (step : Step) (a b : World) → StepDone step a b → Stands (step ∷ []) a b
 one_stands (Load name limit text refusal) a b d =
     record {
       files = told_same _ _ d.1.reads.files;
@@ -230,7 +230,7 @@ told_files step steps (Some x) (Some y) None p q = absurd q
 told_files step steps (Some x) (Some y) (Some z) p q = q ∙ ap (files_after steps) p
     ∙ sym (files_after-cons step steps x)
 
-pub more_stand : (step : Step) (steps : List Step) (a b c : World) → Does step a b
+pub more_stand : (step : Step) (steps : List Step) (a b c : World) → StepDone step a b
     → Stands steps b c → Stands (step ∷ steps) a c
 more_stand step steps a b c d s =
     let one = one_stands step a b d in
@@ -255,7 +255,7 @@ all_stand (step ∷ steps) a b (inl (mid, (d, g))) =
 all_stand (step ∷ steps) a b (inr f) = elim f [ ]
 
 -- a step that is not on the chip leaves it
-does_chip : (step : Step) (a b : World) → is_on_chip step ≡ false → Does step a b → b.chip ≡ a.chip
+does_chip : (step : Step) (a b : World) → is_on_chip step ≡ false → StepDone step a b → b.chip ≡ a.chip
 does_chip (Load name limit text refusal) a b off d = d.1.reads.chip
 does_chip Take a b off d = d.chip
 does_chip (Store name bytes) a b off d = d.chip

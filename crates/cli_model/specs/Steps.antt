@@ -94,14 +94,14 @@ pub record Printed (R : List ℕ → List ℕ → Type 0) (old new : World) : Ty
   pub chip : old.chip.faults ≤ new.chip.faults
 
 -- the step was done
-abbrev pub Does : Step → World → World → Type 0
-Does (Load name limit text refusal) old new = (refusal ≡ None) × Loaded name limit text old new
-Does Take old new = ReadsOnly old new
-Does (Store name bytes) old new = Stored name bytes old new
-Does Open old new = Used old new
-Does Use old new = Used old new
-Does (Put bytes) old new = Sent (λ before after. after ≡ before ++ bytes) old new
-Does (Print bytes) old new = Printed (λ before after. after ≡ before ++ bytes) old new
+abbrev pub StepDone : Step → World → World → Type 0
+StepDone (Load name limit text refusal) old new = (refusal ≡ None) × Loaded name limit text old new
+StepDone Take old new = ReadsOnly old new
+StepDone (Store name bytes) old new = Stored name bytes old new
+StepDone Open old new = Used old new
+StepDone Use old new = Used old new
+StepDone (Put bytes) old new = Sent (λ before after. after ≡ before ++ bytes) old new
+StepDone (Print bytes) old new = Printed (λ before after. after ≡ before ++ bytes) old new
 
 -- the load of a file failed for this reason
 abbrev pub LoadFails : List ℕ → ℕ → List ℕ → Option Refusal → Reason → World → World → Type 0
@@ -154,5 +154,5 @@ EndsHere (Stopped reason) old new = ⊥
 -- ends it
 abbrev pub Goes : List Step → End → World → World → Type 0
 Goes [] end old new = EndsHere end old new
-Goes (step ∷ steps) end old new = ((mid : World) × (Does step old mid × Goes steps end mid new))
+Goes (step ∷ steps) end old new = ((mid : World) × (StepDone step old mid × Goes steps end mid new))
     ⊎ FailsBy step end old new

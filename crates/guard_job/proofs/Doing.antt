@@ -11,7 +11,7 @@ use Rattle.object_alloc.specs.Listed.{Named}
 use Rattle.bbop_isa.specs.Forms.{Instruction}
 use Rattle.machine_model.specs.declared.Reply.{Reply}
 use Rattle.machine_model.specs.Laws.{FitsBanks}
-use Rattle.machine_model.specs.Operations.{Operations}
+use Rattle.machine_model.specs.Routines.{Routines}
 use Rattle.machine_model.specs.Script.{counters_at_end, is_refused}
 use Rattle.machine_model.proofs.Bounds.{geometry_parts}
 use Rattle.machine_model.proofs.Tables.{fits_banks}
@@ -71,7 +71,7 @@ pub record Stepped (m : Machine) (instr : Instruction) (n : Machine) (a b : Chip
   pub did : DidAndRead (events_by m instr) (reads_by m instr) a b
   pub answer : reply ≡ reply_by m instr
 
-abbrev instr_counters : Geometry → Operations → List Named → Instruction → Counters → Counters
+abbrev instr_counters : Geometry → Routines → List Named → Instruction → Counters → Counters
 instr_counters g o table instr k = with_reads (guarded_reads g o table instr)
     (counters_at_end g o table (plain_script g o table instr) k)
 

@@ -11,7 +11,7 @@ use Rattle.dram_model.specs.View.{ChipView}
 use Rattle.object_alloc.specs.Listed.{Named}
 use Rattle.bbop_isa.specs.declared.instr.Instr.{Instr}
 use Rattle.bbop_isa.specs.Forms.{Instruction, view_of}
-use Rattle.machine_model.specs.Operations.{Operations}
+use Rattle.machine_model.specs.Routines.{Routines}
 use Rattle.machine_model.specs.Report.{line}
 use Rattle.machine_model.proofs.Parts.{all_parted}
 use Rattle.object_steps.specs.declared.fault.StepFault.{StepFault}
@@ -55,7 +55,7 @@ flips_behind P n at flips all = subst (AllByRecursion P) (drop-drop n at flips)
     (all_parted P n (drop at flips) all).1
 
 -- a script whose first instruction was not done
-pub stops_here : (X : Type 0) (fault : StepFault) (g : Geometry) (o : Operations)
+pub stops_here : (X : Type 0) (fault : StepFault) (g : Geometry) (o : Routines)
     (flips now : List Flip) (k : ℕ) (table : List Named) (banks : Banks) (instr : Instruction)
     (others left : List Instruction) (a b : World) → left ≡ instr ∷ others
     → due k now ≡ due k flips
@@ -98,7 +98,7 @@ cells_on g h instrs flips e cells = subst (λ (x : Geometry). AllByRecursion (Is
     (sym e) (cells_of g instrs flips cells)
 
 -- the counters at the end
-pub tally_last : (g : Geometry) (o : Operations) (left : List Flip) (table : List Named)
+pub tally_last : (g : Geometry) (o : Routines) (left : List Flip) (table : List Named)
     (a b : ChipView) → Mended g left table a b
     → b.counters ≡ guarded_tally g o table [] left a.counters
 tally_last g o left table a b m = m.counters ∙ sym (tally_ends g o table left a.counters)

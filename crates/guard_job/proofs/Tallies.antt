@@ -8,7 +8,7 @@ use Rattle.dram_model.specs.declared.geometry.Geometry.{Geometry}
 use Rattle.uprog_code.specs.declared.walker.Counts.{Counts}
 use Rattle.object_alloc.specs.Listed.{Named}
 use Rattle.bbop_isa.specs.Forms.{Instruction}
-use Rattle.machine_model.specs.Operations.{Operations}
+use Rattle.machine_model.specs.Routines.{Routines}
 use Rattle.machine_model.specs.Script.{replies, rows_loaded, rows_printed, sum_of}
 use Rattle.machine_model.proofs.Parts.{scripts_go_on, sum_append}
 use Rattle.guard_model.specs.declared.Flip.{Flip}
@@ -34,7 +34,7 @@ alike x y e f g h =
     record { aap = y.aap; ap = y.ap; writes = y.writes; reads = n } in k) h
 
 -- over one instruction, before which so many flips are done
-pub tally_goes_on : (g : Geometry) (operations : Operations) (table : List Named)
+pub tally_goes_on : (g : Geometry) (operations : Routines) (table : List Named)
     (instr : Instruction) (script : List Instruction) (flips later : List Flip) (n : ℕ)
     (k : Counters) → length flips ≡ n + length later
     → guarded_tally g operations table (instr ∷ script) flips k
@@ -57,7 +57,7 @@ tally_goes_on g operations table instr script flips later n k e =
     (omega (arith, printed, e))
 
 -- at the end
-pub tally_ends : (g : Geometry) (operations : Operations) (table : List Named) (flips : List Flip)
+pub tally_ends : (g : Geometry) (operations : Routines) (table : List Named) (flips : List Flip)
     (k : Counters) → guarded_tally g operations table [] flips k
     ≡ mended_tally (length flips) (vote_count g table) k
 tally_ends g operations table flips k =

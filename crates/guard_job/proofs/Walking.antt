@@ -10,7 +10,7 @@ use Rattle.dram_model.proofs.EventLaws.{Grew-more}
 use Rattle.object_alloc.specs.Listed.{Named}
 use Rattle.bbop_isa.specs.Forms.{Instruction}
 use Rattle.wave_model.specs.Schedule.{Turn}
-use Rattle.machine_model.specs.Operations.{Program, Operations, operations_in}
+use Rattle.machine_model.specs.Routines.{Program, Routines, routines_in}
 use Rattle.machine_model.specs.Report.{line}
 use Rattle.machine_model.specs.Script.{is_refused}
 use Rattle.cli_model.specs.World.{World, world}
@@ -28,7 +28,7 @@ use Rattle.guard_job.specs.Steps.{guarded_steps, line_steps}
 use Rattle.guard_job.specs.Parts.{InstrDone}
 use Rattle.guard_job.proofs.Tallies.{count_more, tally_goes_on}
 
-module _ (g : Geometry) (operations : Operations) (flips : List Flip) (k : ℕ) (instr : Instruction)
+module _ (g : Geometry) (operations : Routines) (flips : List Flip) (k : ℕ) (instr : Instruction)
     (others : List Instruction) (turn turn' : Turn) (table table' : List Named) (a b : ChipView)
     (votes refused : ℕ)
     (d : InstrDone g operations (due k flips) instr turn turn' table table' a b votes refused)
@@ -121,17 +121,17 @@ module _ (g : Geometry) (operations : Operations) (flips : List Flip) (k : ℕ) 
 pub moved : (h g : Geometry) (q p : Program) (now flips : List Flip) (instr : Instruction)
     (turn turn' : Turn) (table table' : List Named) (a b : ChipView) (votes refused : ℕ) → h ≡ g
     → q ≡ p → now ≡ flips
-    → InstrDone h (operations_in q) now instr turn turn' table table' a b votes refused
-    → InstrDone g (operations_in p) flips instr turn turn' table table' a b votes refused
+    → InstrDone h (routines_in q) now instr turn turn' table table' a b votes refused
+    → InstrDone g (routines_in p) flips instr turn turn' table table' a b votes refused
 moved h g q p now flips instr turn turn' table table' a b votes refused e f s d =
-    subst (λ (x : Geometry). InstrDone x (operations_in p) flips instr turn turn' table table' a b
+    subst (λ (x : Geometry). InstrDone x (routines_in p) flips instr turn turn' table table' a b
     votes refused) e
-    (subst (λ (x : Program). InstrDone h (operations_in x) flips instr turn turn' table table' a b
+    (subst (λ (x : Program). InstrDone h (routines_in x) flips instr turn turn' table table' a b
     votes refused) f
-    (subst (λ (x : List Flip). InstrDone h (operations_in q) x instr turn turn' table table' a b
+    (subst (λ (x : List Flip). InstrDone h (routines_in q) x instr turn turn' table table' a b
     votes refused) s d))
 
-abbrev pub one_steps : Geometry → Operations → List Flip → ℕ → List Named → Banks → Instruction
+abbrev pub one_steps : Geometry → Routines → List Flip → ℕ → List Named → Banks → Instruction
     → List Step
 one_steps g o due_now k table banks instr = Use ∷ line_steps (is_print instr)
     (line k (guarded_said_by g o table (voted g table (all_flipped due_now banks)) instr))
@@ -139,10 +139,10 @@ one_steps g o due_now k table banks instr = Use ∷ line_steps (is_print instr)
 pub line_moved : (h g : Geometry) (q p : Program) (now flips : List Flip) (k : ℕ)
     (table : List Named) (banks : Banks) (instr : Instruction) (end : End) (a b : World) → h ≡ g
     → q ≡ p → now ≡ flips
-    → Goes (one_steps h (operations_in q) now k table banks instr) end a b
-    → Goes (one_steps g (operations_in p) flips k table banks instr) end a b
+    → Goes (one_steps h (routines_in q) now k table banks instr) end a b
+    → Goes (one_steps g (routines_in p) flips k table banks instr) end a b
 line_moved h g q p now flips k table banks instr end a b e f s d =
-    subst (λ (x : Geometry). Goes (one_steps x (operations_in p) flips k table banks instr) end a b)
-    e (subst (λ (x : Program). Goes (one_steps h (operations_in x) flips k table banks instr) end a
-    b) f (subst (λ (x : List Flip). Goes (one_steps h (operations_in q) x k table banks instr) end
+    subst (λ (x : Geometry). Goes (one_steps x (routines_in p) flips k table banks instr) end a b)
+    e (subst (λ (x : Program). Goes (one_steps h (routines_in x) flips k table banks instr) end a
+    b) f (subst (λ (x : List Flip). Goes (one_steps h (routines_in q) x k table banks instr) end
     a b) s d))

@@ -6,7 +6,7 @@ use Rattle.dram_model.specs.Chip.Event.{Write}
 use Rattle.object_alloc.specs.Listed.{Named}
 use Rattle.bbop_isa.specs.Forms.{Instruction}
 use Rattle.wave_model.specs.Schedule.{Turn}
-use Rattle.machine_model.specs.Operations.{Operations}
+use Rattle.machine_model.specs.Routines.{Routines}
 use Rattle.guard_model.specs.declared.Flip.{Flip}
 use Rattle.guard_model.specs.Flips.{due, flipped, with_bit_inverted}
 use Rattle.guard_model.specs.Votes.{vote_events}
@@ -21,7 +21,7 @@ flip_events (f ∷ flips) banks =
     ∷ flip_events flips (flipped f banks)
 
 -- flips, the votes, and an instruction's own commands under the order in force
-abbrev pub instr_events : Geometry → Operations → List Flip → Turn → List Named → Banks
+abbrev pub instr_events : Geometry → Routines → List Flip → Turn → List Named → Banks
     → Instruction → List Event
 instr_events g operations now turn table banks instr =
     flip_events now banks
@@ -29,7 +29,7 @@ instr_events g operations now turn table banks instr =
 
 -- so it goes for each instruction, of which the first has number k; and after the last the flips
 -- and votes once more
-abbrev pub run_events : Geometry → Operations → List Flip → ℕ → Turn → List Named → Banks
+abbrev pub run_events : Geometry → Routines → List Flip → ℕ → Turn → List Named → Banks
     → List Instruction → List Event
 run_events g operations flips k turn table banks [] =
     flip_events (due k flips) banks ++ vote_events g table

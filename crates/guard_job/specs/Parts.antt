@@ -7,7 +7,7 @@ use Rattle.dram_model.specs.View.{ChipView, with_reads}
 use Rattle.object_alloc.specs.Listed.{Named}
 use Rattle.bbop_isa.specs.Forms.{Instruction}
 use Rattle.wave_model.specs.Schedule.{Turn}
-use Rattle.machine_model.specs.Operations.{Operations}
+use Rattle.machine_model.specs.Routines.{Routines}
 use Rattle.machine_model.specs.Script.{counters_at_end, is_refused}
 use Rattle.guard_model.specs.declared.Flip.{Flip}
 use Rattle.guard_model.specs.Flips.{all_flipped}
@@ -32,7 +32,7 @@ mended_tally n votes k =
     record { aap = k.aap + votes; ap = k.ap; writes = k.writes + n; reads = k.reads + n }
 
 -- and then an instruction
-abbrev pub instr_tally : Geometry → Operations → List Named → ℕ → Instruction → Counters → Counters
+abbrev pub instr_tally : Geometry → Routines → List Named → ℕ → Instruction → Counters → Counters
 instr_tally g operations table n instr k =
     with_reads (guarded_reads g operations table instr)
     (counters_at_end g operations table (plain_script g operations table instr)
@@ -46,7 +46,7 @@ pub record Mended (g : Geometry) (now : List Flip) (table : List Named) (a b : C
     pub log : Grew a.log b.log (flip_events now a.banks ++ vote_events g table)
 
 -- and then an instruction was done
-pub record InstrDone (g : Geometry) (operations : Operations) (now : List Flip)
+pub record InstrDone (g : Geometry) (operations : Routines) (now : List Flip)
     (instr : Instruction) (turn turn' : Turn) (table table' : List Named) (a b : ChipView)
     (votes refused : ℕ) : Type 0
   where

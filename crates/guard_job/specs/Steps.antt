@@ -5,7 +5,7 @@ use Rattle.dram_model.specs.declared.geometry.Geometry.{Geometry}
 use Rattle.dram_model.specs.Chip.{Banks}
 use Rattle.object_alloc.specs.Listed.{Named}
 use Rattle.bbop_isa.specs.Forms.{Instruction}
-use Rattle.machine_model.specs.Operations.{Operations}
+use Rattle.machine_model.specs.Routines.{Routines}
 use Rattle.machine_model.specs.Report.{line}
 use Rattle.object_steps.specs.declared.fault.StepFault.{StepFault}
 use Rattle.object_steps.specs.declared.fault.StepFault.TheVariants.{ChipFault, WriteFault}
@@ -21,7 +21,7 @@ line_steps prints bytes = if prints then Print bytes ∷ [] else Use ∷ Put byt
 
 -- for each instruction, of which the first has number k, the flips and votes use the chip, and it
 -- is done; after the last the flips and votes use the chip once more
-abbrev pub guarded_steps : Geometry → Operations → List Flip → ℕ → List Named → Banks
+abbrev pub guarded_steps : Geometry → Routines → List Flip → ℕ → List Named → Banks
     → List Instruction → List Step
 guarded_steps g operations flips k table banks [] = Use ∷ []
 guarded_steps g operations flips k table banks (instr ∷ script) =

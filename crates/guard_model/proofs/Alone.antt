@@ -2,7 +2,7 @@
 use Rattle.std.proofs.Common.{◌≡◌, ℕ, Bool, true, false, not, cond, List, [], ◌∷◌, ◌++◌, map}
 use Rattle.std.proofs.Common.{Option, Some, refl, sym, ◌∙◌, ap}
 use Rattle.std.specs.Prelude.{replicate, filter, slice_index}
-use Rattle.machine_model.specs.Operations.{Operations}
+use Rattle.machine_model.specs.Routines.{Routines}
 use Rattle.std.specs.Option.{option_map, unwrap_or}
 use Rattle.std.specs.Str.{bytes_eq}
 use Rattle.std.proofs.lemmas.List.{map-append}
@@ -107,7 +107,7 @@ without_unplaced [] name = refl
 without_unplaced (h ∷ state) name = gone_case h (not (bytes_eq h.name name)) _ _
     (without_unplaced state name)
 
-step_unplaced : (g : Geometry) (operations : Operations) (meaning : List ℕ → ℕ → List ℕ → List ℕ)
+step_unplaced : (g : Geometry) (operations : Routines) (meaning : List ℕ → ℕ → List ℕ → List ℕ)
     (state : List Held) (instr : Instruction) → map unplaced
     (worded g operations meaning state instr) ≡ map unplaced
     (worded g operations meaning (map unplaced state) instr)
@@ -146,7 +146,7 @@ step_unplaced g operations meaning state (Free name) = without_unplaced state na
     (without_unplaced (map unplaced state) name)
 step_unplaced g operations meaning state (Order o) = sym (twice state)
 
-same_step : (g : Geometry) (operations : Operations) (meaning : List ℕ → ℕ → List ℕ → List ℕ)
+same_step : (g : Geometry) (operations : Routines) (meaning : List ℕ → ℕ → List ℕ → List ℕ)
     (s t : List Held) (instr : Instruction) → map unplaced s ≡ map unplaced t → map unplaced
     (worded g operations meaning s instr) ≡ map unplaced (worded g operations meaning t instr)
 same_step g operations meaning s t instr e = step_unplaced g operations meaning s instr ∙ ap
@@ -159,7 +159,7 @@ same_case true s t u v e f = e
 same_case false s t u v e f = f
 
 -- runs from states that differ in places alone
-pub same_runs : (g : Geometry) (operations : Operations) (meaning : List ℕ → ℕ → List ℕ → List ℕ)
+pub same_runs : (g : Geometry) (operations : Routines) (meaning : List ℕ → ℕ → List ℕ → List ℕ)
     (all : List Reply) (script : List Instruction) (s t : List Held) → map unplaced s
     ≡ map unplaced t
     → map unplaced (lone_words_at_end g operations meaning s all script) ≡ map unplaced

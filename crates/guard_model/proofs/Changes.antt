@@ -17,7 +17,7 @@ use Rattle.bbop_isa.specs.declared.instr.Order.{Order as Orders}
 use Rattle.machine_model.specs.declared.Why.{Why}
 use Rattle.machine_model.specs.declared.Why.TheVariants as why
 use Rattle.machine_model.specs.Columns.{object_size}
-use Rattle.machine_model.specs.Operations.{Operations}
+use Rattle.machine_model.specs.Routines.{Routines}
 use Rattle.machine_model.specs.Refusals.{refusal, when}
 use Rattle.machine_model.specs.Steps.{Held, table_of, new_object, base_for, worded, tabled}
 use Rattle.machine_model.specs.Script.{words_at_end, is_refused, replies}
@@ -38,7 +38,7 @@ cond_same : {X : Type 0} (b : Bool) (x : X) → cond b x x ≡ x
 cond_same true x = refl
 cond_same false x = refl
 
-print_words : (g : Geometry) (operations : Operations) (meaning : List ℕ → ℕ → List ℕ → List ℕ)
+print_words : (g : Geometry) (operations : Routines) (meaning : List ℕ → ℕ → List ℕ → List ℕ)
     (state : List Held) (name : List ℕ) (r : Option Why) → refusal g operations (table_of state)
     (Print name) ≡ r → words_at_end g operations meaning state
     (script_for g operations (table_of state) (Print name ∷ [])) ≡ state
@@ -51,7 +51,7 @@ print_words g operations meaning state name (Some w) e = ap
     (words_at_end g operations meaning state)
     (script_refused g operations (table_of state) (Print name) [] w e)
 
-print_script : (g : Geometry) (operations : Operations) (table : List Named) (name : List ℕ)
+print_script : (g : Geometry) (operations : Routines) (table : List Named) (name : List ℕ)
     (r : Option Why) → refusal g operations table (Print name) ≡ r
     → (script_for g operations table (Print name ∷ []) ≡ Print name ∷ []) ⊎
     (script_for g operations table (Print name ∷ []) ≡ [])
@@ -60,7 +60,7 @@ print_script g operations table name None e = inl
 print_script g operations table name (Some w) e = inr
     (script_refused g operations table (Print name) [] w e)
 
-pub print_step : (g : Geometry) (operations : Operations) (meaning : List ℕ → ℕ → List ℕ → List ℕ)
+pub print_step : (g : Geometry) (operations : Routines) (meaning : List ℕ → ℕ → List ℕ → List ℕ)
     (ts : List Trio) (name : List ℕ) → HaveNames ts → IsStep g operations meaning ts (Print name)
 print_step g operations meaning ts name have = record {
   trios = ts;
@@ -75,7 +75,7 @@ print_step g operations meaning ts name have = record {
       (map alone ts)));
 }
 
-pub order_step : (g : Geometry) (operations : Operations) (meaning : List ℕ → ℕ → List ℕ → List ℕ)
+pub order_step : (g : Geometry) (operations : Routines) (meaning : List ℕ → ℕ → List ℕ → List ℕ)
     (ts : List Trio) (o : Orders) → HaveNames ts → IsStep g operations meaning ts (Order o)
 order_step g operations meaning ts o have =
     record {
@@ -183,7 +183,7 @@ named_gone [] name h = tt
 named_gone (t ∷ ts) name h = named_case t (trios_without ts name) (not (bytes_eq t.name name)) h.0
     (named_gone ts name h.1)
 
-pub free_step : (g : Geometry) (operations : Operations) (meaning : List ℕ → ℕ → List ℕ → List ℕ)
+pub free_step : (g : Geometry) (operations : Routines) (meaning : List ℕ → ℕ → List ℕ → List ℕ)
     (ts : List Trio) (name : List ℕ) → HaveNames ts → IsStep g operations meaning ts (Free name)
 free_step g operations meaning ts name have =
     let table = table_of (spread ts) in
@@ -265,11 +265,11 @@ last_gone : (state : List Held) (h : Held) → has_name (table_of state) h.name 
 last_gone state h new = filter_append (keep h.name) state (h ∷ []) ∙ rw
     (none_gone state h.name new, bytes_same h.name h.name refl) (append-nil state)
 
-free_done : (g : Geometry) (operations : Operations) (table : List Named) (name : List ℕ)
+free_done : (g : Geometry) (operations : Routines) (table : List Named) (name : List ℕ)
     → has_name table name ≡ true → refusal g operations table (Free name) ≡ None
 free_done g operations table name h = ap (λ b. when (not b) (why.NoObject 0)) h
 
-refused_step : (g : Geometry) (operations : Operations) (meaning : List ℕ → ℕ → List ℕ → List ℕ)
+refused_step : (g : Geometry) (operations : Routines) (meaning : List ℕ → ℕ → List ℕ → List ℕ)
     (ts : List Trio) (instr : Instruction) (script : List Instruction) → plain_script g operations
     (table_of (spread ts)) instr ≡ script
     → is_refused (guarded_reply g operations (table_of (spread ts)) instr) ≡ true
@@ -285,7 +285,7 @@ refused_step g operations meaning ts instr script is reply words have add = reco
       (worded g operations meaning (map alone ts) instr))) (sym reply);
 }
 
-is_new : (g : Geometry) (operations : Operations) (table : List Named) (name : List ℕ) (count n : ℕ)
+is_new : (g : Geometry) (operations : Routines) (table : List Named) (name : List ℕ) (count n : ℕ)
     → refusal g operations table (Init name count n) ≡ None → has_name table name ≡ false
 is_new g operations table name count n h =
     let rest = when (nat_le 256 (length table)) why.TableFull ∷ when
@@ -320,19 +320,19 @@ abbrev made_both : Geometry → List Trio → List ℕ → ℕ → ℕ → List 
 made_both g ts name count n = tabled g (made g ts x_letter name count n)
     (Init (y_letter ∷ name) count n)
 
-new_x : (g : Geometry) (operations : Operations) (ts : List Trio) (name : List ℕ) (count n : ℕ)
+new_x : (g : Geometry) (operations : Routines) (ts : List Trio) (name : List ℕ) (count n : ℕ)
     → refusal g operations (table_of (spread ts)) (Init (x_letter ∷ name) count n) ≡ None → has_name
     (table_of (spread ts)) (x_letter ∷ name) ≡ false
 new_x g operations ts name count n e = is_new g operations (table_of (spread ts))
     (x_letter ∷ name) count n e
 
-new_y : (g : Geometry) (operations : Operations) (ts : List Trio) (name : List ℕ) (count n : ℕ)
+new_y : (g : Geometry) (operations : Routines) (ts : List Trio) (name : List ℕ) (count n : ℕ)
     → refusal g operations (table_of (spread ts)) (Init (x_letter ∷ name) count n) ≡ None → has_name
     (table_of (spread ts)) (y_letter ∷ name) ≡ false
 new_y g operations ts name count n e = has_copy y_letter (λ t. t.y) ts name is_y ∙ sym
     (has_copy x_letter (λ t. t.x) ts name is_x) ∙ new_x g operations ts name count n e
 
-init_third : (g : Geometry) (operations : Operations) (meaning : List ℕ → ℕ → List ℕ → List ℕ)
+init_third : (g : Geometry) (operations : Routines) (meaning : List ℕ → ℕ → List ℕ → List ℕ)
     (ts : List Trio) (name : List ℕ) (count n : ℕ) (r : Option Why)
     → refusal g operations (table_of (spread ts)) (Init (x_letter ∷ name) count n) ≡ None
     → refusal g operations (made g ts x_letter name count n) (Init (y_letter ∷ name) count n) ≡ None
@@ -416,7 +416,7 @@ init_third g operations meaning ts name count n (Some w) e1 e2 e3 have fits =
     (words_all g operations meaning state script d ∙ ap (filter (keep (y_letter ∷ name))) gone_x
     ∙ last_gone state h2 (new_y g operations ts name count n e1)) have refl
 
-init_second : (g : Geometry) (operations : Operations) (meaning : List ℕ → ℕ → List ℕ → List ℕ)
+init_second : (g : Geometry) (operations : Routines) (meaning : List ℕ → ℕ → List ℕ → List ℕ)
     (ts : List Trio) (name : List ℕ) (count n : ℕ) (r : Option Why)
     → refusal g operations (table_of (spread ts)) (Init (x_letter ∷ name) count n) ≡ None
     → refusal g operations (made g ts x_letter name count n) (Init (y_letter ∷ name) count n) ≡ r
@@ -452,7 +452,7 @@ init_second g operations meaning ts name count n (Some w) e1 e2 have fits =
     (words_all g operations meaning state script d ∙ last_gone state h1
     (new_x g operations ts name count n e1)) have refl
 
-init_first : (g : Geometry) (operations : Operations) (meaning : List ℕ → ℕ → List ℕ → List ℕ)
+init_first : (g : Geometry) (operations : Routines) (meaning : List ℕ → ℕ → List ℕ → List ℕ)
     (ts : List Trio) (name : List ℕ) (count n : ℕ) (r : Option Why)
     → refusal g operations (table_of (spread ts)) (Init (x_letter ∷ name) count n) ≡ r
     → HaveNames ts → fits_name name ≡ true → IsStep g operations meaning ts (Init name count n)
@@ -469,7 +469,7 @@ init_first g operations meaning ts name count n (Some w) e1 have fits =
     (ap is_refused (reply_first g operations table a rest none_yet w e1)) refl have refl
 
 -- Every guarded step takes trios to trios
-pub step : (g : Geometry) (operations : Operations) (meaning : List ℕ → ℕ → List ℕ → List ℕ)
+pub step : (g : Geometry) (operations : Routines) (meaning : List ℕ → ℕ → List ℕ → List ℕ)
     (ts : List Trio) (instr : Instruction) → HaveNames ts → HasName instr
     → IsStep g operations meaning ts instr
 step g operations meaning ts (Init name count n) have fits =

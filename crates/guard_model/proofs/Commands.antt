@@ -8,12 +8,12 @@ use Rattle.dram_model.specs.Events.{row_events}
 use Rattle.dram_model.proofs.EventLaws.{after-append, all_counted-append}
 use Rattle.machine_model.specs.Columns.{segments}
 use Rattle.machine_model.specs.Steps.{job_events, through}
-use Rattle.wave_model.specs.Schedule.{Job}
+use Rattle.wave_model.specs.Schedule.{WaveJob}
 use Rattle.machine_model.proofs.Fills.{through_bank}
 use Rattle.guard_model.specs.Votes.{votes, vote_job, vote_events, vote_count}
 use Rattle.guard_model.specs.Laws.{VoteIsEvents, VoteIsCounted}
 
-job_is_through : (job : Job) (banks : Banks) → after (job_events job) banks ≡ through job banks
+job_is_through : (job : WaveJob) (banks : Banks) → after (job_events job) banks ≡ through job banks
 job_is_through job banks = fun_ext (through_bank job.commands job.banks banks)
 
 pub vote_is_events : VoteIsEvents

@@ -10,7 +10,7 @@ use Rattle.bbop_isa.specs.Forms.{Instruction, Bbop, Load, Fill}
 use Rattle.machine_model.specs.declared.Why.{Why}
 use Rattle.machine_model.specs.Columns.{object_size}
 use Rattle.dram_model.specs.Elements.{padded_to}
-use Rattle.machine_model.specs.Operations.{Operations}
+use Rattle.machine_model.specs.Routines.{Routines}
 use Rattle.machine_model.specs.Refusals.{refusal, object_named}
 use Rattle.machine_model.specs.Steps.{Held, table_of, numbers_named, with_numbers, computed, worded}
 use Rattle.machine_model.specs.Steps.{tabled, with_results, new_numbers, dsts_of, srcs_of}
@@ -30,7 +30,7 @@ use Rattle.guard_model.proofs.Runs.{script_refused, reply_done, reply_first, non
 
 -- what a guarded instruction makes of trios: trios again, and of the one copy what the word machine
 -- makes of it
-pub record IsStep (g : Geometry) (operations : Operations) (meaning : List ℕ → ℕ → List ℕ → List ℕ)
+pub record IsStep (g : Geometry) (operations : Routines) (meaning : List ℕ → ℕ → List ℕ → List ℕ)
     (ts : List Trio) (instr : Instruction) : Type 0 where
   pub trios : List Trio
   pub words : guarded_words g operations meaning (spread ts) instr ≡ spread trios
@@ -44,7 +44,7 @@ pub record IsStep (g : Geometry) (operations : Operations) (meaning : List ℕ �
       (worded g operations meaning (map alone ts) instr))
 
 -- three plain instructions that are refused alike
-pub three_alike : (g : Geometry) (operations : Operations) (meaning : List ℕ → ℕ → List ℕ → List ℕ)
+pub three_alike : (g : Geometry) (operations : Routines) (meaning : List ℕ → ℕ → List ℕ → List ℕ)
     (ts : List Trio) (instr a b c : Instruction) (r : Option Why) (after : List Trio)
     → plain_ones instr ≡ a ∷ b ∷ c ∷ []
     → refusal g operations (table_of (spread ts)) a ≡ r
@@ -230,7 +230,7 @@ sources : (ts : List Trio) (state : List Held) (c : ℕ) (names : List (List ℕ
 sources ts state c [] h = refl
 sources ts state c (name ∷ names) h = rw (h.1 name, sources ts state c names h) refl
 
-pub load_step : (g : Geometry) (operations : Operations) (meaning : List ℕ → ℕ → List ℕ → List ℕ)
+pub load_step : (g : Geometry) (operations : Routines) (meaning : List ℕ → ℕ → List ℕ → List ℕ)
     (ts : List Trio) (name values : List ℕ) → HaveNames ts → IsStep g operations meaning ts
     (Load name values)
 load_step g operations meaning ts name values have =
@@ -251,7 +251,7 @@ load_step g operations meaning ts name values have =
     (λ s c base l h. ap (λ k. padded_to k values) (sizes g ts s c base name l h.0)))
     have (named_with ts name ns have) (alone_with ts name ns)
 
-pub fill_step : (g : Geometry) (operations : Operations) (meaning : List ℕ → ℕ → List ℕ → List ℕ)
+pub fill_step : (g : Geometry) (operations : Routines) (meaning : List ℕ → ℕ → List ℕ → List ℕ)
     (ts : List Trio) (name : List ℕ) (value : ℕ) → HaveNames ts → IsStep g operations meaning ts
     (Fill name value)
 fill_step g operations meaning ts name value have =
@@ -357,7 +357,7 @@ three_given ts dsts results names result is are =
 abbrev all_results : (List ℕ → List ℕ) → List (List ℕ) → ℕ → ℕ → List ℕ
 all_results meaning values size k = computed (λ vs. slice_index (meaning vs) k) values size
 
-pub bbop_step : (g : Geometry) (operations : Operations) (meaning : List ℕ → ℕ → List ℕ → List ℕ)
+pub bbop_step : (g : Geometry) (operations : Routines) (meaning : List ℕ → ℕ → List ℕ → List ℕ)
     (ts : List Trio) (op dst : List ℕ) (srcs : List (List ℕ)) (count n : ℕ) → HaveNames ts
     → IsStep g operations meaning ts (Bbop op dst srcs count n)
 bbop_step g operations meaning ts op dst srcs count n have =

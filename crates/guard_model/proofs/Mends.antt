@@ -13,7 +13,7 @@ use Rattle.object_alloc.specs.declared.table.Object.{Object}
 use Rattle.object_alloc.specs.Listed.{Named}
 use Rattle.machine_model.specs.Columns.{segments, columns}
 use Rattle.machine_model.specs.Steps.{Held, table_of, through}
-use Rattle.wave_model.specs.Schedule.{Job}
+use Rattle.wave_model.specs.Schedule.{WaveJob}
 use Rattle.machine_model.specs.Agrees.{Agrees, HoldsNumbers}
 use Rattle.machine_model.proofs.Below.{through_in, through_same, number_same}
 use Rattle.machine_model.proofs.Steps.{through_length}
@@ -46,7 +46,7 @@ Mended g old now t =
     × (map (number t.y t.width) (now bank) ≡ map (number t.x t.width) (old bank))
     × (map (number t.z t.width) (now bank) ≡ map (number t.x t.width) (old bank))
 
-abbrev job : Geometry → Trio → Job
+abbrev job : Geometry → Trio → WaveJob
 job g t = vote_job g (place t t.x) (place t t.y) (place t t.z)
 
 -- the vote of t leaves an object that has none of its rows

@@ -12,7 +12,7 @@ use Rattle.object_alloc.specs.Listed.{Named, limit_of}
 use Rattle.bbop_isa.specs.Forms.{Load, Fill, Print, Free}
 use Rattle.machine_model.specs.declared.Why.{Why}
 use Rattle.machine_model.specs.declared.Why.TheVariants as why
-use Rattle.machine_model.specs.Operations.{Operation, Operations}
+use Rattle.machine_model.specs.Routines.{Routine, Routines}
 use Rattle.machine_model.specs.Refusals.{first, when, at_place, object_named, is_absent, is_misfit}
 use Rattle.machine_model.specs.Refusals.{refusal, bbop_refusal, bbop_conditions, operand_conditions}
 use Rattle.machine_model.specs.Refusals.{grant_conditions, is_one_of, repeats}
@@ -100,7 +100,7 @@ long c [] = refl
 long c (name ∷ names) = ap suc (long c names)
 
 -- the conditions on a bbop of copies, on the operands by the lone table
-abbrev pub mixed_conditions : Geometry → List Named → List Named → Operation → List (List ℕ) → ℕ
+abbrev pub mixed_conditions : Geometry → List Named → List Named → Routine → List (List ℕ) → ℕ
     → ℕ → List (Option Why)
 mixed_conditions g table lone o names count n =
     when (not (eqb (length names) (length (results o.shape ++ o.shape.sources)))) why.Arity
@@ -111,7 +111,7 @@ five : {X : Type 0} (a b c d e p q r s t : X) (rest : List X) → a ≡ p → b 
     → e ≡ t → a ∷ b ∷ c ∷ d ∷ e ∷ rest ≡ p ∷ q ∷ r ∷ s ∷ t ∷ rest
 five a b c d e p q r s t rest f g h i j = rw (f, g, h, i, j) refl
 
-mixed : (g : Geometry) (table lone : List Named) (c : ℕ) → IsLike table lone c → (o : Operation)
+mixed : (g : Geometry) (table lone : List Named) (c : ℕ) → IsLike table lone c → (o : Routine)
     (names : List (List ℕ)) (count n : ℕ)
     → bbop_conditions (limit_of g) table o (named c names) count n
     ≡ mixed_conditions g table lone o names count n
@@ -125,14 +125,14 @@ mixed g table lone c like o names count n =
     (ap (at_place why.Size 0) (sizes table lone c count like names))
     (ap (at_place why.Overlap 0) (overlaps (length (results o.shape)) c names))
 
-abbrev pub mixed_refusal : Geometry → List Named → List Named → Option Operation → List (List ℕ)
+abbrev pub mixed_refusal : Geometry → List Named → List Named → Option Routine → List (List ℕ)
     → ℕ → ℕ → Option Why
 mixed_refusal g table lone None names count n = Some why.NoOp
 mixed_refusal g table lone (Some o) names count n =
     first (mixed_conditions g table lone o names count n)
 
 pub bbop_like : (g : Geometry) (table lone : List Named) (c : ℕ) → IsLike table lone c
-    → (found : Option Operation) (names : List (List ℕ)) (count n : ℕ)
+    → (found : Option Routine) (names : List (List ℕ)) (count n : ℕ)
     → bbop_refusal g table found (named c names) count n
     ≡ mixed_refusal g table lone found names count n
 bbop_like g table lone c like None names count n = refl
@@ -140,12 +140,12 @@ bbop_like g table lone c like (Some o) names count n = ap first
     (mixed g table lone c like o names count n)
 
 -- the destinations and the sources among the copies' names
-pub dsts_like : (c : ℕ) (found : Option Operation) (names : List (List ℕ))
+pub dsts_like : (c : ℕ) (found : Option Routine) (names : List (List ℕ))
     → dsts_of found (named c names) ≡ named c (dsts_of found names)
 dsts_like c None names = refl
 dsts_like c (Some o) names = taken (length (results o.shape)) c names
 
-pub srcs_like : (c : ℕ) (found : Option Operation) (names : List (List ℕ))
+pub srcs_like : (c : ℕ) (found : Option Routine) (names : List (List ℕ))
     → srcs_of found (named c names) ≡ named c (srcs_of found names)
 srcs_like c None names = refl
 srcs_like c (Some o) names = dropped (length (results o.shape)) c names
@@ -159,7 +159,7 @@ load_same : (a b : Bool) (v w m n : ℕ) (values : List ℕ) → a ≡ b → v �
     → load_by a v m values ≡ load_by b w n values
 load_same a b v w m n values e f h = rw (e, f, h) refl
 
-pub load_like : (g : Geometry) (operations : Operations) (table lone : List Named) (c : ℕ)
+pub load_like : (g : Geometry) (operations : Routines) (table lone : List Named) (c : ℕ)
     → IsLike table lone c → (name values : List ℕ) → refusal g operations table
     (Load (c ∷ name) values) ≡ refusal g operations lone (Load name values)
 load_like g operations table lone c like name values = load_same _ _ _ _ _ _ values
@@ -172,19 +172,19 @@ fill_by absent width value = first
 fill_same : (a b : Bool) (v w value : ℕ) → a ≡ b → v ≡ w → fill_by a v value ≡ fill_by b w value
 fill_same a b v w value e f = rw (e, f) refl
 
-pub fill_like : (g : Geometry) (operations : Operations) (table lone : List Named) (c : ℕ)
+pub fill_like : (g : Geometry) (operations : Routines) (table lone : List Named) (c : ℕ)
     → IsLike table lone c → (name : List ℕ) (value : ℕ) → refusal g operations table
     (Fill (c ∷ name) value) ≡ refusal g operations lone (Fill name value)
 fill_like g operations table lone c like name value = fill_same _ _ _ _ value (like.absent name)
     (like.wide name)
 
-pub print_like : (g : Geometry) (operations : Operations) (table lone : List Named) (c : ℕ)
+pub print_like : (g : Geometry) (operations : Routines) (table lone : List Named) (c : ℕ)
     → IsLike table lone c → (name : List ℕ) → refusal g operations table (Print (c ∷ name))
     ≡ refusal g operations lone (Print name)
 print_like g operations table lone c like name = ap (λ b. when b (why.NoObject 0))
     (like.absent name)
 
-pub free_like : (g : Geometry) (operations : Operations) (table lone : List Named) (c : ℕ)
+pub free_like : (g : Geometry) (operations : Routines) (table lone : List Named) (c : ℕ)
     → IsLike table lone c → (name : List ℕ) → refusal g operations table (Free (c ∷ name))
     ≡ refusal g operations lone (Free name)
 free_like g operations table lone c like name = ap (λ b. when b (why.NoObject 0)) (like.absent name)

@@ -9,7 +9,7 @@ use Rattle.bbop_isa.specs.Forms.{Instruction}
 use Rattle.machine_model.specs.declared.Why.{Why}
 use Rattle.machine_model.specs.declared.Reply.{Reply}
 use Rattle.machine_model.specs.declared.Reply.TheVariants.{Refused}
-use Rattle.machine_model.specs.Operations.{Operations}
+use Rattle.machine_model.specs.Routines.{Routines}
 use Rattle.machine_model.specs.Refusals.{refusal}
 use Rattle.machine_model.specs.Steps.{Held, table_of, worded, words_after, tabled, table_after}
 use Rattle.machine_model.specs.Steps.{if_done, reply_by, counts_for}
@@ -26,12 +26,12 @@ if_some None w x y e = cc
 if_some (Some v) w x y e = refl
 
 -- all of them are done
-abbrev pub AllDone : Geometry → Operations → List Named → List Instruction → Type 0
+abbrev pub AllDone : Geometry → Routines → List Named → List Instruction → Type 0
 AllDone g operations table [] = Unit {0}
 AllDone g operations table (i ∷ rest) = (refusal g operations table i ≡ None) × AllDone g operations
     (tabled g table i) rest
 
-pub done_all : (g : Geometry) (operations : Operations) (table : List Named)
+pub done_all : (g : Geometry) (operations : Routines) (table : List Named)
     (script : List Instruction) → AllDone g operations table script
     → done_ones g operations table script ≡ script
 done_all g operations table [] d = refl
@@ -51,7 +51,7 @@ pub joined_first : (r : Option Why) (w : Why) (k c : Counts) (rest : List Reply)
 joined_first None w k c rest e = cc
 joined_first (Some v) w k c rest e = let f : v ≡ w = cc in ap (λ u. Reply.Refused u) f
 
-pub reply_done : (g : Geometry) (operations : Operations) (table : List Named)
+pub reply_done : (g : Geometry) (operations : Routines) (table : List Named)
     (script : List Instruction) (c : Counts) → AllDone g operations table script → is_refused
     (joined c (replies g operations table script)) ≡ false
 reply_done g operations table [] c d = refl
@@ -64,7 +64,7 @@ reply_done g operations table (i ∷ rest) c d =
     ∙ reply_done g operations (tabled g table i) rest _ d.1
 
 -- one more that is done before it
-pub reply_more : (g : Geometry) (operations : Operations) (table : List Named) (i : Instruction)
+pub reply_more : (g : Geometry) (operations : Routines) (table : List Named) (i : Instruction)
     (rest : List Instruction) (c : Counts) → refusal g operations table i ≡ None
     → joined c (replies g operations table (i ∷ rest)) ≡ joined
     (plus c (counts_for g operations table i)) (replies g operations (tabled g table i) rest)
@@ -74,20 +74,20 @@ reply_more g operations table i rest c e =
     ∙ ap (λ t. joined (plus c (counts_for g operations table i)) (replies g operations t rest))
     (if_none (refusal g operations table i) (tabled g table i) table e)
 
-pub done_more : (g : Geometry) (operations : Operations) (table : List Named) (i : Instruction)
+pub done_more : (g : Geometry) (operations : Routines) (table : List Named) (i : Instruction)
     (rest : List Instruction) → refusal g operations table i ≡ None
     → done_ones g operations table (i ∷ rest) ≡ i ∷ done_ones g operations (tabled g table i) rest
 done_more g operations table i rest e =
     if_none (refusal g operations table i) _ _ e ∙ ap (λ t. i ∷ done_ones g operations t rest)
     (if_none (refusal g operations table i) (tabled g table i) table e)
 
-pub reply_first : (g : Geometry) (operations : Operations) (table : List Named) (i : Instruction)
+pub reply_first : (g : Geometry) (operations : Routines) (table : List Named) (i : Instruction)
     (rest : List Instruction) (c : Counts) (w : Why) → refusal g operations table i ≡ Some w
     → joined c (replies g operations table (i ∷ rest)) ≡ Refused w
 reply_first g operations table i rest c w e = joined_first (refusal g operations table i) w
     (counts_for g operations table i) c _ e
 
-pub done_first : (g : Geometry) (operations : Operations) (table : List Named) (i : Instruction)
+pub done_first : (g : Geometry) (operations : Routines) (table : List Named) (i : Instruction)
     (rest : List Instruction) (w : Why) → refusal g operations table i ≡ Some w
     → done_ones g operations table (i ∷ rest) ≡ []
 done_first g operations table i rest w e = if_some (refusal g operations table i) w _ [] e
@@ -99,12 +99,12 @@ none_yet = record { aap = 0; ap = 0 }
 abbrev pub script_by : Bool → List Instruction → List Instruction
 script_by refused done = cond refused (done ++ flat_map removal done) done
 
-abbrev pub script_for : Geometry → Operations → List Named → List Instruction → List Instruction
+abbrev pub script_for : Geometry → Routines → List Named → List Instruction → List Instruction
 script_for g operations table script = script_by
     (is_refused (joined none_yet (replies g operations table script)))
     (done_ones g operations table script)
 
-pub script_done : (g : Geometry) (operations : Operations) (table : List Named)
+pub script_done : (g : Geometry) (operations : Routines) (table : List Named)
     (script : List Instruction) → AllDone g operations table script
     → script_for g operations table script ≡ script
 script_done g operations table script d = ap
@@ -115,7 +115,7 @@ empty_script : (b : Bool) → script_by b [] ≡ []
 empty_script true = refl
 empty_script false = refl
 
-pub script_refused : (g : Geometry) (operations : Operations) (table : List Named) (i : Instruction)
+pub script_refused : (g : Geometry) (operations : Routines) (table : List Named) (i : Instruction)
     (rest : List Instruction) (w : Why) → refusal g operations table i ≡ Some w
     → script_for g operations table (i ∷ rest) ≡ []
 script_refused g operations table i rest w e = ap
@@ -123,13 +123,13 @@ script_refused g operations table i rest w e = ap
     (done_first g operations table i rest w e) ∙ empty_script _
 
 -- the words, where all are done
-abbrev pub all_worded : Geometry → Operations → (List ℕ → ℕ → List ℕ → List ℕ) → List Held
+abbrev pub all_worded : Geometry → Routines → (List ℕ → ℕ → List ℕ → List ℕ) → List Held
     → List Instruction → List Held
 all_worded g operations meaning state [] = state
 all_worded g operations meaning state (i ∷ rest) = all_worded g operations meaning
     (worded g operations meaning state i) rest
 
-pub table_worded : (g : Geometry) (operations : Operations) (meaning : List ℕ → ℕ → List ℕ → List ℕ)
+pub table_worded : (g : Geometry) (operations : Routines) (meaning : List ℕ → ℕ → List ℕ → List ℕ)
     (state : List Held) (i : Instruction) → refusal g operations (table_of state) i ≡ None
     → table_of (worded g operations meaning state i) ≡ tabled g (table_of state) i
 table_worded g operations meaning state i e =
@@ -138,7 +138,7 @@ table_worded g operations meaning state i e =
     ∙ if_none (refusal g operations (table_of state) i) (tabled g (table_of state) i)
     (table_of state) e
 
-pub words_all : (g : Geometry) (operations : Operations) (meaning : List ℕ → ℕ → List ℕ → List ℕ)
+pub words_all : (g : Geometry) (operations : Routines) (meaning : List ℕ → ℕ → List ℕ → List ℕ)
     (state : List Held) (script : List Instruction) → AllDone g operations (table_of state) script
     → words_at_end g operations meaning state script ≡ all_worded g operations meaning state script
 words_all g operations meaning state [] d = refl
@@ -151,7 +151,7 @@ words_all g operations meaning state (i ∷ rest) d =
     (sym (table_worded g operations meaning state i d.0)) d.1)
 
 -- the table of a whole script goes its own way
-pub table_steps : (g : Geometry) (operations : Operations) (meaning : List ℕ → ℕ → List ℕ → List ℕ)
+pub table_steps : (g : Geometry) (operations : Routines) (meaning : List ℕ → ℕ → List ℕ → List ℕ)
     (state : List Held) (script : List Instruction) → table_of
     (words_at_end g operations meaning state script) ≡ table_at_end g operations
     (table_of state) script

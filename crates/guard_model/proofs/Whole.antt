@@ -13,7 +13,7 @@ use Rattle.machine_model.specs.declared.Why.TheVariants as why
 use Rattle.machine_model.specs.declared.Reply.{Reply}
 use Rattle.machine_model.specs.declared.Reply.TheVariants.{Done, Refused}
 use Rattle.machine_model.specs.Columns.{columns}
-use Rattle.machine_model.specs.Operations.{Operations}
+use Rattle.machine_model.specs.Routines.{Routines}
 use Rattle.machine_model.specs.Refusals.{refusal, object_named, is_absent, when}
 use Rattle.machine_model.specs.Steps.{Held, table_of, numbers_named, table_after, worded, if_done}
 use Rattle.machine_model.specs.Steps.{reply_by}
@@ -22,7 +22,7 @@ use Rattle.machine_model.specs.Agrees.{Agrees, DoesAll, IsPlain}
 use Rattle.machine_model.specs.Report.{Said, said_of}
 use Rattle.machine_model.proofs.Whole.{rows_give_words}
 use Rattle.machine_model.specs.Opened.{Image, opened, words_of}
-use Rattle.machine_model.specs.Operations.{operations_of, meaning_in}
+use Rattle.machine_model.specs.Routines.{routines_of, meaning_in}
 use Rattle.machine_model.proofs.Opened.{opened_agrees}
 use Rattle.machine_model.proofs.Texts.{does_all}
 use Rattle.dram_model.specs.Geometry.{is_geometry}
@@ -71,7 +71,7 @@ done_case : (r : Option Why) (i : Instruction) (rest : List Instruction) → IsP
 done_case None i rest h k = (h, k)
 done_case (Some w) i rest h k = tt
 
-done_plain : (g : Geometry) (operations : Operations) (table : List Named)
+done_plain : (g : Geometry) (operations : Routines) (table : List Named)
     (script : List Instruction) → AllByRecursion IsPlain script → AllByRecursion IsPlain
     (done_ones g operations table script)
 done_plain g operations table [] h = tt
@@ -102,14 +102,14 @@ script_plain : (b : Bool) (done : List Instruction) → AllByRecursion IsPlain d
 script_plain true done h = both_plain done (flat_map removal done) h (removals_plain done)
 script_plain false done h = h
 
-all_plain : (g : Geometry) (operations : Operations) (table : List Named) (instr : Instruction)
+all_plain : (g : Geometry) (operations : Routines) (table : List Named) (instr : Instruction)
     → IsPlain instr → AllByRecursion IsPlain (plain_script g operations table instr)
 all_plain g operations table instr h = script_plain
     (is_refused (guarded_reply g operations table instr)) _
     (done_plain g operations table (plain_ones instr) (ones_plain instr h))
 
 -- The step of the rows gives the guarded word machine's step
-pub guarded_agrees : (g : Geometry) (operations : Operations)
+pub guarded_agrees : (g : Geometry) (operations : Routines)
     (meaning : List ℕ → ℕ → List ℕ → List ℕ) (instr : Instruction) → 0 < g.words
     → DoesAll operations meaning → IsPlain instr → (banks : Banks) (state : List Held)
     → Agrees g banks state
@@ -121,7 +121,7 @@ guarded_agrees g operations meaning instr words does plain banks state a =
     (all_plain g operations (table_of state) instr plain) banks state a
 
 -- its table goes its own way
-pub guarded_table_is : (g : Geometry) (operations : Operations)
+pub guarded_table_is : (g : Geometry) (operations : Routines)
     (meaning : List ℕ → ℕ → List ℕ → List ℕ) (state : List Held) (instr : Instruction) → table_of
     (guarded_words g operations meaning state instr) ≡ guarded_table g operations
     (table_of state) instr
@@ -149,7 +149,7 @@ other_said : (reply : Reply) (instr : Instruction) (xs ys : List ℕ → List �
 other_said (Done c) instr xs ys e = e c
 other_said (Refused reason) instr xs ys e = refl
 
-said_same : (g : Geometry) (operations : Operations) (banks : Banks) (state : List Held)
+said_same : (g : Geometry) (operations : Routines) (banks : Banks) (state : List Held)
     (instr : Instruction) → Agrees g banks state
     → said_of (guarded_reply g operations (table_of state) instr) instr
     (λ name. take (object_named (table_of state) (x_letter ∷ name)).count
@@ -181,7 +181,7 @@ cons_same : {X : Type 0} (a b : X) (r s : List X) → a ≡ b → r ≡ s → a 
 cons_same a b r s e f = rw (e, f) refl
 
 -- A whole script of trios
-spread_guarded : (g : Geometry) (operations : Operations) (meaning : List ℕ → ℕ → List ℕ → List ℕ)
+spread_guarded : (g : Geometry) (operations : Routines) (meaning : List ℕ → ℕ → List ℕ → List ℕ)
     (flips : List Flip) (k : ℕ) (script : List Instruction)
     → 0 < g.words → DoesAll operations meaning → AllByRecursion IsPlain script
     → AllByRecursion HasName script
@@ -268,7 +268,7 @@ bare_equal (x ∷ []) = tt
 bare_equal (x ∷ y ∷ []) = tt
 bare_equal (x ∷ y ∷ z ∷ rest) = (refl, refl, bare_equal rest)
 
-kept_from : (g : Geometry) (operations : Operations) (ts : List Trio) (instr : Instruction)
+kept_from : (g : Geometry) (operations : Routines) (ts : List Trio) (instr : Instruction)
     → HaveNames ts → HasName instr → first_stranger
     (guarded_table g operations (table_of (spread ts)) instr) ≡ None
 kept_from g operations ts instr have name =
@@ -279,7 +279,7 @@ kept_from g operations ts instr have name =
     ap first_stranger e ∙ no_stranger st.trios 0 st.named
 
 -- So it is with tables
-on_table : (g : Geometry) (operations : Operations) (table : List Named) (P : List Named → Type 0)
+on_table : (g : Geometry) (operations : Routines) (table : List Named) (P : List Named → Type 0)
     → first_stranger table ≡ None → ((ts : List Trio) → HaveNames ts → P (table_of (spread ts)))
     → P table
 on_table g operations table P triples h =
@@ -325,8 +325,8 @@ held_table i (p ∷ table) = ap (λ r. p ∷ r) (held_table i table)
 pub guarded_text : GuardedTextGivesWords
 guarded_text p t i flips script good does plain names triples equal one =
     let table = held_table i i.table in
-    guarded_gives_words i.geometry (operations_of t p) (meaning_in t) flips 1 script
+    guarded_gives_words i.geometry (routines_of t p) (meaning_in t) flips 1 script
     (words_pos i.geometry good.geometry) (does_all p t does) plain names (opened i) (words_of i)
     (opened_agrees i (words_pos i.geometry good.geometry) good)
     (ap first_stranger table ∙ triples) equal
-    (subst (λ st. Single i.geometry (operations_of t p) flips 1 st script) (sym table) one)
+    (subst (λ st. Single i.geometry (routines_of t p) flips 1 st script) (sym table) one)

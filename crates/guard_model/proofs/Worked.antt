@@ -5,7 +5,7 @@ use Rattle.dram_model.specs.declared.geometry.Geometry.{Geometry}
 use Rattle.dram_model.specs.declared.dram.Counters.{Counters}
 use Rattle.object_alloc.specs.Free.{free}
 use Rattle.bbop_isa.specs.Forms.{Instruction, Init, Load, Print}
-use Rattle.machine_model.specs.Operations.{Operations}
+use Rattle.machine_model.specs.Routines.{Routines}
 use Rattle.guard_model.specs.declared.Flip.{Flip}
 use Rattle.bit_rows.specs.Bits.{majority}
 use Rattle.dram_model.specs.Chip.{blank_banks}
@@ -17,7 +17,7 @@ use Rattle.guard_model.specs.Guarded.{guarded_said_in_rows}
 abbrev small : Geometry
 small = record { banks = 1; rows = 64; words = 1 }
 
-abbrev none : Operations
+abbrev none : Routines
 none name = None
 
 abbrev script : List Instruction

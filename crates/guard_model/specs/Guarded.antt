@@ -13,7 +13,7 @@ use Rattle.wave_model.specs.Schedule.{Turn}
 use Rattle.machine_model.specs.declared.Reply.{Reply}
 use Rattle.machine_model.specs.declared.Reply.TheVariants.{Done, Refused}
 use Rattle.machine_model.specs.Columns.{columns}
-use Rattle.machine_model.specs.Operations.{Operations}
+use Rattle.machine_model.specs.Routines.{Routines}
 use Rattle.machine_model.specs.Refusals.{refusal, object_named}
 use Rattle.machine_model.specs.Steps.{Held, table_of, numbers_named, worded, table_after, if_done}
 use Rattle.machine_model.specs.Script.{replies, table_at_end, words_at_end, banks_at_end, plus}
@@ -57,12 +57,12 @@ joined counts [] = Done counts
 joined counts (Done more ∷ rest) = joined (plus counts more) rest
 joined counts (Refused reason ∷ rest) = Refused reason
 
-abbrev pub guarded_reply : Geometry → Operations → List Named → Instruction → Reply
+abbrev pub guarded_reply : Geometry → Routines → List Named → Instruction → Reply
 guarded_reply g operations table instr =
     joined (record { aap = 0; ap = 0 }) (replies g operations table (plain_ones instr))
 
 -- those before the first that is refused
-abbrev pub done_ones : Geometry → Operations → List Named → List Instruction → List Instruction
+abbrev pub done_ones : Geometry → Routines → List Named → List Instruction → List Instruction
 done_ones g operations table [] = []
 done_ones g operations table (instr ∷ rest) = if_done (refusal g operations table instr)
     (instr ∷ done_ones g operations (table_after g operations table instr) rest) []
@@ -89,53 +89,53 @@ removal (Order order) = []
 
 -- the plain script that a guarded instruction comes to: those that are done, and, where one is
 -- refused, the removal of the copies that they added
-abbrev pub plain_script : Geometry → Operations → List Named → Instruction → List Instruction
+abbrev pub plain_script : Geometry → Routines → List Named → Instruction → List Instruction
 plain_script g operations table instr =
     let done = done_ones g operations table (plain_ones instr) in
     if is_refused (guarded_reply g operations table instr)
     then done ++ flat_map removal done else done
 
 -- the step of the table, of the guarded word machine, and of the rows
-abbrev pub guarded_table : Geometry → Operations → List Named → Instruction → List Named
+abbrev pub guarded_table : Geometry → Routines → List Named → Instruction → List Named
 guarded_table g operations table instr =
     table_at_end g operations table (plain_script g operations table instr)
 
-abbrev pub guarded_words : Geometry → Operations → (List ℕ → ℕ → List ℕ → List ℕ) → List Held
+abbrev pub guarded_words : Geometry → Routines → (List ℕ → ℕ → List ℕ → List ℕ) → List Held
     → Instruction → List Held
 guarded_words g operations meaning state instr =
     words_at_end g operations meaning state (plain_script g operations (table_of state) instr)
 
-abbrev pub guarded_rows : Geometry → Operations → List Named → Banks → Instruction → Banks
+abbrev pub guarded_rows : Geometry → Routines → List Named → Banks → Instruction → Banks
 guarded_rows g operations table banks instr =
     banks_at_end g operations table banks (plain_script g operations table instr)
 
 -- its pieces are its plain instructions one by one, a bbop as a wave of one; their events under
 -- the order in force, and the order behind them
-abbrev pub guarded_pieces : Geometry → Operations → List Named → Instruction → List Piece
+abbrev pub guarded_pieces : Geometry → Routines → List Named → Instruction → List Piece
 guarded_pieces g operations table instr = map piece_of (plain_script g operations table instr)
 
-abbrev pub guarded_events : Geometry → Operations → Turn → List Named → Instruction → List Event
+abbrev pub guarded_events : Geometry → Routines → Turn → List Named → Instruction → List Event
 guarded_events g operations turn table instr =
     events_of_pieces g operations turn table (guarded_pieces g operations table instr)
 
-abbrev pub guarded_turn : Geometry → Operations → Turn → List Named → Instruction → Turn
+abbrev pub guarded_turn : Geometry → Routines → Turn → List Named → Instruction → Turn
 guarded_turn g operations turn table instr =
     turn_at_end g operations turn table (guarded_pieces g operations table instr)
 
 -- the rows that it reads
-abbrev pub guarded_reads : Geometry → Operations → List Named → Instruction → ℕ
+abbrev pub guarded_reads : Geometry → Routines → List Named → Instruction → ℕ
 guarded_reads g operations table instr =
     sum_done rows_printed g operations table (plain_script g operations table instr)
 
 -- what is said of it, where the values of its first copies are these
-abbrev pub guarded_said : Geometry → Operations → List Named → (List ℕ → List ℕ) → Instruction
+abbrev pub guarded_said : Geometry → Routines → List Named → (List ℕ → List ℕ) → Instruction
     → Said
 guarded_said g operations table values instr =
     said_of (guarded_reply g operations table instr) instr
     (λ name. take (object_named table (x_letter ∷ name)).count (values (x_letter ∷ name)))
 
 -- where they are read from the banks' columns
-abbrev pub guarded_said_by : Geometry → Operations → List Named → Banks → Instruction → Said
+abbrev pub guarded_said_by : Geometry → Routines → List Named → Banks → Instruction → Said
 guarded_said_by g operations table banks instr =
     guarded_said g operations table (λ name. columns g banks (object_named table name)) instr
 
@@ -145,20 +145,20 @@ mended g flips k table banks = voted g table (all_flipped (due k flips) banks)
 
 -- Whole scripts, of which the first instruction has number k
 
-abbrev pub guarded_replies : Geometry → Operations → List Named → List Instruction → List Reply
+abbrev pub guarded_replies : Geometry → Routines → List Named → List Instruction → List Reply
 guarded_replies g operations table [] = []
 guarded_replies g operations table (instr ∷ script) =
     guarded_reply g operations table instr
     ∷ guarded_replies g operations (guarded_table g operations table instr) script
 
-abbrev pub guarded_table_at_end : Geometry → Operations → List Named → List Instruction
+abbrev pub guarded_table_at_end : Geometry → Routines → List Named → List Instruction
     → List Named
 guarded_table_at_end g operations table [] = table
 guarded_table_at_end g operations table (instr ∷ script) =
     guarded_table_at_end g operations (guarded_table g operations table instr) script
 
 -- the plain script that a guarded script comes to: the chip's counters count it
-abbrev pub whole_script : Geometry → Operations → List Named → List Instruction
+abbrev pub whole_script : Geometry → Routines → List Named → List Instruction
     → List Instruction
 whole_script g operations table [] = []
 whole_script g operations table (instr ∷ script) =
@@ -166,14 +166,14 @@ whole_script g operations table (instr ∷ script) =
     ++ whole_script g operations (guarded_table g operations table instr) script
 
 -- the commands of all votes, one before each instruction and one after the last
-abbrev pub votes_at_end : Geometry → Operations → List Named → List Instruction → ℕ
+abbrev pub votes_at_end : Geometry → Routines → List Named → List Instruction → ℕ
 votes_at_end g operations table [] = vote_count g table
 votes_at_end g operations table (instr ∷ script) =
     vote_count g table + votes_at_end g operations (guarded_table g operations table instr) script
 
 -- the counters: the plain instructions that are done, the votes, and a read and a write for each
 -- flip
-abbrev pub guarded_tally : Geometry → Operations → List Named → List Instruction → List Flip
+abbrev pub guarded_tally : Geometry → Routines → List Named → List Instruction → List Flip
     → Counters → Counters
 guarded_tally g operations table script flips k =
     let plain = whole_script g operations table script in
@@ -182,7 +182,7 @@ guarded_tally g operations table script flips k =
     (with_writes (length flips) (with_counts (counters_at_end g operations table plain k) votes))
 
 -- without flips and votes
-abbrev pub guarded_words_at_end : Geometry → Operations → (List ℕ → ℕ → List ℕ → List ℕ)
+abbrev pub guarded_words_at_end : Geometry → Routines → (List ℕ → ℕ → List ℕ → List ℕ)
     → List Held → List Instruction → List Held
 guarded_words_at_end g operations meaning state [] = state
 guarded_words_at_end g operations meaning state (instr ∷ script) =
@@ -191,7 +191,7 @@ guarded_words_at_end g operations meaning state (instr ∷ script) =
 
 -- for each instruction the flips, the votes and its own commands; and after the last the flips and
 -- votes once more
-abbrev pub guarded_rows_at_end : Geometry → Operations → List Flip → ℕ → List Named → Banks
+abbrev pub guarded_rows_at_end : Geometry → Routines → List Flip → ℕ → List Named → Banks
     → List Instruction → Banks
 guarded_rows_at_end g operations flips k table banks [] = mended g flips k table banks
 guarded_rows_at_end g operations flips k table banks (instr ∷ script) =
@@ -199,7 +199,7 @@ guarded_rows_at_end g operations flips k table banks (instr ∷ script) =
     (guarded_rows g operations table (mended g flips k table banks) instr) script
 
 -- between two votes the flips hit at most one copy in each column
-abbrev pub Single : Geometry → Operations → List Flip → ℕ → List Named → List Instruction
+abbrev pub Single : Geometry → Routines → List Flip → ℕ → List Named → List Instruction
     → Type 0
 Single g operations flips k table [] = AtMostOne (due k flips) table
 Single g operations flips k table (instr ∷ script) =
@@ -207,7 +207,7 @@ Single g operations flips k table (instr ∷ script) =
     × Single g operations flips (k + 1) (guarded_table g operations table instr) script
 
 -- what the guarded word machine says of a script
-abbrev pub guarded_said_in_words : Geometry → Operations → (List ℕ → ℕ → List ℕ → List ℕ)
+abbrev pub guarded_said_in_words : Geometry → Routines → (List ℕ → ℕ → List ℕ → List ℕ)
     → List Held → List Instruction → List Said
 guarded_said_in_words g operations meaning state [] = []
 guarded_said_in_words g operations meaning state (instr ∷ script) =
@@ -216,7 +216,7 @@ guarded_said_in_words g operations meaning state (instr ∷ script) =
     script
 
 -- the same, where the values are read from the banks' columns
-abbrev pub guarded_said_in_rows : Geometry → Operations → List Flip → ℕ → List Named → Banks
+abbrev pub guarded_said_in_rows : Geometry → Routines → List Flip → ℕ → List Named → Banks
     → List Instruction → List Said
 guarded_said_in_rows g operations flips k table banks [] = []
 guarded_said_in_rows g operations flips k table banks (instr ∷ script) =
@@ -226,7 +226,7 @@ guarded_said_in_rows g operations flips k table banks (instr ∷ script) =
     (guarded_rows g operations table now instr) script
 
 -- the word machine on one copy, where these are the replies
-abbrev pub lone_words_at_end : Geometry → Operations → (List ℕ → ℕ → List ℕ → List ℕ)
+abbrev pub lone_words_at_end : Geometry → Routines → (List ℕ → ℕ → List ℕ → List ℕ)
     → List Held → List Reply → List Instruction → List Held
 lone_words_at_end g operations meaning state [] script = state
 lone_words_at_end g operations meaning state (reply ∷ rest) [] = state

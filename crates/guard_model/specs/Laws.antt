@@ -17,7 +17,7 @@ use Rattle.text_lex.specs.Spelled.{fits_name}
 use Rattle.object_alloc.specs.Spelling.{IsImage}
 use Rattle.uprog_code.specs.Texts.{TextOp, ImplementsAll}
 use Rattle.wave_model.specs.Schedule.{Turn}
-use Rattle.machine_model.specs.Operations.{Program, Operations, operations_of, meaning_in}
+use Rattle.machine_model.specs.Routines.{Program, Routines, routines_of, meaning_in}
 use Rattle.machine_model.specs.Opened.{Image, opened, words_of}
 use Rattle.machine_model.specs.Steps.{Held, table_of}
 use Rattle.machine_model.specs.Agrees.{Agrees, DoesAll, IsPlain}
@@ -61,14 +61,14 @@ FlipIsWrite = (f : Flip) (banks : Banks)
 -- instructions one after another do, and are counted by their replies
 abbrev pub StepIsEvents : Type 0
 StepIsEvents =
-    (g : Geometry) (operations : Operations) (turn : Turn) (table : List Named)
+    (g : Geometry) (operations : Routines) (turn : Turn) (table : List Named)
     (instr : Instruction) (banks : Banks) → 0 < g.words → FitsBanks g table
     → after (guarded_events g operations turn table instr) banks
     ≡ guarded_rows g operations table banks instr
 
 abbrev pub StepIsCounted : Type 0
 StepIsCounted =
-    (g : Geometry) (operations : Operations) (turn : Turn) (table : List Named)
+    (g : Geometry) (operations : Routines) (turn : Turn) (table : List Named)
     (instr : Instruction) (k : Counters) → 0 < g.words → FitsBanks g table
     → all_counted (guarded_events g operations turn table instr) k
     ≡ counters_at_end g operations table (plain_script g operations table instr) k
@@ -91,14 +91,14 @@ AcceptedHasNames = (text : List ℕ) (script : List Instruction) → script_of t
 -- a guarded instruction keeps the table one of triples
 abbrev pub TriplesKept : Type 0
 TriplesKept =
-    (g : Geometry) (operations : Operations) (table : List Named) (instr : Instruction)
+    (g : Geometry) (operations : Routines) (table : List Named) (instr : Instruction)
     → HasName instr → first_stranger table ≡ None
     → first_stranger (guarded_table g operations table instr) ≡ None
 
 -- one that is refused leaves the table
 abbrev pub RefusedStays : Type 0
 RefusedStays =
-    (g : Geometry) (operations : Operations) (table : List Named) (instr : Instruction)
+    (g : Geometry) (operations : Routines) (table : List Named) (instr : Instruction)
     → HasName instr → first_stranger table ≡ None
     → is_refused (guarded_reply g operations table instr) ≡ true
     → guarded_table g operations table instr ≡ table
@@ -106,7 +106,7 @@ RefusedStays =
 -- and one that adds no object does all of its plain instructions or none
 abbrev pub AllOrNone : Type 0
 AllOrNone =
-    (g : Geometry) (operations : Operations) (table : List Named) (instr : Instruction)
+    (g : Geometry) (operations : Routines) (table : List Named) (instr : Instruction)
     → adds instr ≡ false → HasName instr → first_stranger table ≡ None
     → (plain_script g operations table instr ≡ plain_ones instr)
     ⊎ (plain_script g operations table instr ≡ [])
@@ -123,7 +123,7 @@ VotesMend =
 -- what a guarded run comes to: the banks hold what the guarded word machine holds without flips
 -- and votes, the copies are equal, the values printed are its values, and each copy holds what the
 -- word machine holds of one
-pub record IsGuarded (g : Geometry) (operations : Operations)
+pub record IsGuarded (g : Geometry) (operations : Routines)
     (meaning : List ℕ → ℕ → List ℕ → List ℕ) (flips : List Flip) (k : ℕ) (banks : Banks)
     (state : List Held) (script : List Instruction) : Type 0 where
   pub agrees : Agrees g (guarded_rows_at_end g operations flips k (table_of state) banks script)
@@ -140,7 +140,7 @@ pub record IsGuarded (g : Geometry) (operations : Operations)
 
 abbrev pub GuardedGivesWords : Type 0
 GuardedGivesWords =
-    (g : Geometry) (operations : Operations) (meaning : List ℕ → ℕ → List ℕ → List ℕ)
+    (g : Geometry) (operations : Routines) (meaning : List ℕ → ℕ → List ℕ → List ℕ)
     (flips : List Flip) (k : ℕ) (script : List Instruction)
     → 0 < g.words → DoesAll operations meaning → AllByRecursion IsPlain script
     → AllByRecursion HasName script
@@ -156,8 +156,8 @@ GuardedTextGivesWords =
     → IsImage i.geometry i.table i.rows → ImplementsAll p t → AllByRecursion IsPlain script
     → AllByRecursion HasName script
     → first_stranger i.table ≡ None → EqualCopies (words_of i)
-    → Single i.geometry (operations_of t p) flips 1 i.table script
-    → IsGuarded i.geometry (operations_of t p) (meaning_in t) flips 1 (opened i) (words_of i)
+    → Single i.geometry (routines_of t p) flips 1 i.table script
+    → IsGuarded i.geometry (routines_of t p) (meaning_in t) flips 1 (opened i) (words_of i)
     script
 
 -- the flips of a text are flips of the chip, in order

@@ -10,7 +10,7 @@ use Rattle.object_alloc.specs.declared.table.Object.{Object}
 use Rattle.object_alloc.specs.Listed.{Named}
 use Rattle.machine_model.specs.Columns.{segments}
 use Rattle.machine_model.specs.Steps.{job_events, through}
-use Rattle.wave_model.specs.Schedule.{Job}
+use Rattle.wave_model.specs.Schedule.{WaveJob}
 
 -- the vote of three rows
 abbrev pub row_vote : ℕ → ℕ → ℕ → List Command
@@ -22,7 +22,7 @@ abbrev pub votes : ℕ → ℕ → ℕ → ℕ → ℕ → List Command
 votes x y z from n = flat_map (λ k. row_vote (x + k) (y + k) (z + k)) (range_with_len from n)
 
 -- the vote of three copies, in each bank of their segments
-abbrev pub vote_job : Geometry → Object → Object → Object → Job
+abbrev pub vote_job : Geometry → Object → Object → Object → WaveJob
 vote_job g x y z = record { commands = votes x.base y.base z.base 0 x.width; banks = segments g x }
 
 -- every triple of a table is voted, in its order

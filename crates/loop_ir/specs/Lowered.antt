@@ -7,7 +7,7 @@ use Rattle.op_text.specs.declared.tree.Kind.{Kind}
 use Rattle.op_text.specs.declared.tree.Kind.TheVariants.{Word}
 use Rattle.op_text.specs.Language.{Statement, Compute, Visit}
 use Rattle.op_text.specs.Rules.{is_among}
-use Rattle.op_text.specs.Meaning.{Held, width, after_statement}
+use Rattle.op_text.specs.Meaning.{NameValue, width, after_statement}
 use Rattle.op_text.specs.Scratch.{bits_inside, words_inside, need_inside, block_ceiling}
 use Rattle.op_text.specs.Costs.{op_ceiling}
 use Rattle.loop_ir.specs.declared.ir.Space.TheVariants.{ScratchBit, ScratchWord}
@@ -29,11 +29,11 @@ abbrev pub slot_bits : ℕ → Spots → Slot → List Bool
 slot_bits n bits x = map (λ v. bits (slot_spot n x v)) (range_with_len 0 (width n x.kind))
 
 -- the rows at the place have the name's bits
-abbrev pub HoldsAt : ℕ → Option Slot → Held → Spots → Type 0
+abbrev pub HoldsAt : ℕ → Option Slot → NameValue → Spots → Type 0
 HoldsAt n None held bits = ⊥
 HoldsAt n (Some x) held bits = (held.kind ≡ x.kind) × (held.bits ≡ slot_bits n bits x)
 
-abbrev pub Holds : ℕ → Slots → (List ℕ → Held) → Spots → List ℕ → Type 0
+abbrev pub Holds : ℕ → Slots → (List ℕ → NameValue) → Spots → List ℕ → Type 0
 Holds n slots held bits name = HoldsAt n (slots name) (held name) bits
 
 -- the row is one of a name's
@@ -62,7 +62,7 @@ IsStatementRow slots free_bit free_word s n q = IsRowOf n slots (statement_names
 -- internal scratch
 pub record Does (slots : Slots) (free_bit free_word : ℕ) (s : Statement) (n : ℕ)
     (steps : List (StepOf Block)) : Type 0 where
-  pub gives : (held : List ℕ → Held) (bits : Spots)
+  pub gives : (held : List ℕ → NameValue) (bits : Spots)
       → ((name : List ℕ) → is_among (read_names s) name ≡ true → Holds n slots held bits name)
       → (name : List ℕ) → is_among (written_names s) name ≡ true
       → Holds n slots (after_statement n held s) (after_rounds n (all_rounds n steps) bits) name

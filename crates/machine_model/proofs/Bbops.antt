@@ -19,7 +19,7 @@ use Rattle.op_text.specs.declared.tree.Kind.{Kind}
 use Rattle.uprog_code.specs.Bound.{bound}
 use Rattle.uprog_code.specs.Implements.{numbers}
 use Rattle.uprog_code.specs.Shape.{need, results}
-use Rattle.machine_model.specs.Operations.{Does}
+use Rattle.machine_model.specs.Routines.{Performs}
 use Rattle.uprog_code.specs.Fits.{Fits, AreBelow, ranges, IsInSome, ArePairwiseApart, IsTouched}
 use Rattle.uprog_code.specs.Fits.{AreApart as RangesApart}
 use Rattle.uprog_code.specs.Machine.{issues_of}
@@ -29,10 +29,10 @@ use Rattle.object_alloc.specs.Free.{has_row, is_free, are_free, free, end_of, Ar
 use Rattle.object_alloc.specs.Listed.{Named, IsTable, objects_of, has_name}
 use Rattle.dram_model.specs.Elements.{column_count, below}
 use Rattle.machine_model.specs.Columns.{object_size, segments, columns}
-use Rattle.machine_model.specs.Operations.{Operation}
+use Rattle.machine_model.specs.Routines.{Routine}
 use Rattle.object_alloc.specs.Listed.{limit_of}
 use Rattle.machine_model.specs.Refusals.{object_named, nothing, dsts_in, srcs_in, is_one_of}
-use Rattle.wave_model.specs.Schedule.{Job}
+use Rattle.wave_model.specs.Schedule.{WaveJob}
 use Rattle.machine_model.specs.Steps.{Held, table_of, numbers_named, base_for, computed, binding}
 use Rattle.machine_model.specs.Steps.{through}
 use Rattle.machine_model.specs.Agrees.{Agrees}
@@ -242,7 +242,7 @@ scratch_within limit objects (suc k) h =
     omega (arith, last)
 
 -- The binding of a bbop that is not refused fits
-pub binding_fits : (g : Geometry) (state : List Held) (o : Operation) (names : List (List ℕ))
+pub binding_fits : (g : Geometry) (state : List Held) (o : Routine) (names : List (List ℕ))
     (count n : ℕ) → IsTable (limit_of g) (table_of state)
     → IsGood g (table_of state) o names count n
     → Fits g.rows o.shape n (binding g (table_of state) o.shape names n)
@@ -351,7 +351,7 @@ index_map f [] k l = absurd (omega arith)
 index_map f (x ∷ names) zero l = refl
 index_map f (x ∷ names) (suc k) l = index_map f names k (omega arith)
 
-abbrev pub bbop_job : Geometry → List Held → Operation → List (List ℕ) → ℕ → Object → Job
+abbrev pub bbop_job : Geometry → List Held → Routine → List (List ℕ) → ℕ → Object → WaveJob
 bbop_job g state o names n first = record {
   commands =
       bound g.rows o.shape n (binding g (table_of state) o.shape names n) (issues_of (o.trace n));
@@ -360,10 +360,10 @@ bbop_job g state o names n first = record {
 
 -- Each destination's columns hold the numbers of its result, made of the sources' numbers, each at
 -- its place
-pub bbop_numbers : (g : Geometry) (banks : Banks) (state : List Held) (o : Operation)
-    (names : List (List ℕ)) (first : Object) (count n : ℕ) (meaning : List ℕ → List ℕ) (job : Job)
+pub bbop_numbers : (g : Geometry) (banks : Banks) (state : List Held) (o : Routine)
+    (names : List (List ℕ)) (first : Object) (count n : ℕ) (meaning : List ℕ → List ℕ) (job : WaveJob)
     → Agrees g banks state → IsGood g (table_of state) o names count n → first.count ≡ count
-    → Does o.shape n (issues_of (o.trace n)) meaning
+    → Performs o.shape n (issues_of (o.trace n)) meaning
     → job ≡ bbop_job g state o names n first → (k : ℕ) → k < length (dsts_in o.shape names)
     → columns g (through job banks) (object_named (table_of state)
     (get_or (dsts_in o.shape names) k []))
@@ -448,7 +448,7 @@ no_result g state count n k row t l has (kind ∷ kinds) (name ∷ names) (more 
     (is_one_of names (get_or state k no_one).name) h).1 r
 
 -- a row of another object is no row of the results, the scratch or the spill group
-untouched : (g : Geometry) (state : List Held) (o : Operation) (names : List (List ℕ))
+untouched : (g : Geometry) (state : List Held) (o : Routine) (names : List (List ℕ))
     (count n k row : ℕ) → IsTable (limit_of g) (table_of state)
     → IsGood g (table_of state) o names count n → k < length state
     → is_one_of (dsts_in o.shape names) (get_or state k no_one).name ≡ false
@@ -470,10 +470,10 @@ untouched g state o names count n k row t good l ne x y (inr (inr spill)) =
     omega (arith, ends_within (limit_of g) state t k no_one l, spill.0, y)
 
 -- The columns of every other object stay
-pub bbop_others : (g : Geometry) (banks : Banks) (state : List Held) (o : Operation)
-    (names : List (List ℕ)) (first : Object) (count n : ℕ) (meaning : List ℕ → List ℕ) (job : Job)
+pub bbop_others : (g : Geometry) (banks : Banks) (state : List Held) (o : Routine)
+    (names : List (List ℕ)) (first : Object) (count n : ℕ) (meaning : List ℕ → List ℕ) (job : WaveJob)
     → Agrees g banks state → IsGood g (table_of state) o names count n
-    → Does o.shape n (issues_of (o.trace n)) meaning → job ≡ bbop_job g state o names n first
+    → Performs o.shape n (issues_of (o.trace n)) meaning → job ≡ bbop_job g state o names n first
     → (k : ℕ) → k < length state → is_one_of (dsts_in o.shape names) (get_or state k no_one).name
     ≡ false
     → columns g (through job banks) (get_or state k no_one).object

@@ -16,7 +16,7 @@ use Rattle.dram_model.specs.Elements.{number}
 use Rattle.object_alloc.specs.declared.table.Object.{Object}
 use Rattle.object_alloc.specs.Free.{has_row, is_free, are_free, free}
 use Rattle.dram_model.specs.Elements.{below}
-use Rattle.wave_model.specs.Schedule.{Job}
+use Rattle.wave_model.specs.Schedule.{WaveJob}
 use Rattle.machine_model.specs.Steps.{through}
 
 map_both : {X Y Z : Type 0} (f : X → Z) (h : Y → X) (g : Y → Z) (ys : List Y)
@@ -71,7 +71,7 @@ pub below_length : (w k : ℕ) (banks : Banks) → ((b : ℕ) → b < k → leng
 below_length w k banks e = range_length w banks 0 k (λ b l m. e b (omega arith))
 
 -- a bank of the job
-pub through_in : (job : Job) (banks : Banks) (b : ℕ) → b < job.banks
+pub through_in : (job : WaveJob) (banks : Banks) (b : ℕ) → b < job.banks
     → through job banks b ≡ map (run job.commands) (banks b)
 through_in job banks b h = rw (lt-ltb b job.banks h) refl
 
@@ -81,7 +81,7 @@ same_case f h true columns e = map_both f h f columns e
 same_case f h false columns e = refl
 
 -- what the job leaves in each column it leaves in each bank
-pub through_same : {X : Type 0} (f : Column → X) (job : Job) (banks : Banks) (b : ℕ)
+pub through_same : {X : Type 0} (f : Column → X) (job : WaveJob) (banks : Banks) (b : ℕ)
     → ((s : Column) → f (run job.commands s) ≡ f s) → map f (through job banks b) ≡ map f (banks b)
 through_same f job banks b e = same_case f (run job.commands) (ltb b job.banks) (banks b) e
 

@@ -20,19 +20,19 @@ use Rattle.uprog_code.specs.declared.code.Uop.{Uop}
 use Rattle.uprog_code.specs.declared.code.Uop.TheVariants.{Done, SetI, SetN, SetT, Mov, Add, AddI}
 use Rattle.uprog_code.specs.declared.code.Uop.TheVariants.{SubI, Bnez, Aap, Ap}
 use Rattle.uprog_code.specs.Shape.{Shape}
-use Rattle.uprog_code.specs.Machine.{Issue, Twice, Once, Trace, Ended, Stuck, Next, act, act_at}
+use Rattle.uprog_code.specs.Machine.{Issue, IssueAap, IssueAp, Trace, Ended, Stuck, Next, act, act_at}
 use Rattle.uprog_code.specs.Machine.{onto, issued, all_in_range, command_at, issue, start, trace}
 use Rattle.uprog_code.specs.Machine.{issues_of}
 use Rattle.uprog_code.specs.declared.walker.Why3.TheVariants.{Index, Register}
-use Rattle.uprog_code.specs.Count.{is_twice, is_once, counts_of}
+use Rattle.uprog_code.specs.Count.{issues_aap, issues_ap, counts_of}
 use Rattle.object_alloc.specs.declared.table.Object.{Object}
 use Rattle.object_alloc.specs.Listed.{Named}
 use Rattle.bbop_isa.specs.Forms.{Instruction}
 use Rattle.bbop_isa.specs.Forms.{Init, Bbop, Load, Fill, Print, Free, Order}
 use Rattle.machine_model.specs.declared.Why.{Why}
 use Rattle.machine_model.specs.Columns.{segments}
-use Rattle.machine_model.specs.Operations.{Program, Operation, Operations, operation_of}
-use Rattle.machine_model.specs.Operations.{operations_in}
+use Rattle.machine_model.specs.Routines.{Program, Routine, Routines, routine_of}
+use Rattle.machine_model.specs.Routines.{routines_in}
 use Rattle.machine_model.specs.Refusals.{refusal, object_named, nothing}
 use Rattle.machine_model.specs.Steps.{counts_for, reply_to, reply_by, times, issues_at, table_after}
 use Rattle.machine_model.specs.Steps.{new_object}
@@ -100,8 +100,8 @@ module _ (shape : Shape) (n left : ℕ) (next : Next)
     act_short (Bnez r t) pc regs =
         either_short (eqb (slice_index regs r) 0) (next (pc + 1) regs) (next t regs) (suc left)
         (more_short (pc + 1) regs) (more_short t regs)
-    act_short (Aap x y) pc regs = issued_short (command_at regs (Twice x y)) pc (pc + 1) regs
-    act_short (Ap x) pc regs = issued_short (command_at regs (Once x)) pc (pc + 1) regs
+    act_short (Aap x y) pc regs = issued_short (command_at regs (IssueAap x y)) pc (pc + 1) regs
+    act_short (Ap x) pc regs = issued_short (command_at regs (IssueAp x)) pc (pc + 1) regs
 
     at_short : (uop : Option Uop) (pc : ℕ) (regs : List ℕ)
         → IsShort (suc left) (act_at shape n uop next pc regs)
@@ -121,24 +121,24 @@ pub trace_short : (shape : Shape) (code : List Uop) (n : ℕ)
 unfolding trace
 trace_short shape code n = walk_short shape code n WALK_MAX 0 start
 
-abbrev ShortWalks : Operation → Type 0
+abbrev ShortWalks : Routine → Type 0
 ShortWalks o = (n : ℕ) → IsShort WALK_MAX (o.trace n)
 
-entries_short : (p : Program) → AllByRecursion (λ e. ShortWalks (operation_of e)) p
+entries_short : (p : Program) → AllByRecursion (λ e. ShortWalks (routine_of e)) p
 entries_short [] = tt
 entries_short (e ∷ p) = (trace_short e.shape e.code, entries_short p)
 
 counts_short : (issues : List Issue)
-    → count_by is_twice issues + count_by is_once issues ≡ length issues
+    → count_by issues_aap issues + count_by issues_ap issues ≡ length issues
 counts_short [] = refl
-counts_short (Twice x y ∷ issues) =
-    let a = sum_by-cons (λ z. cond (is_twice z) 1 0) (Twice x y) issues in
-    let b = sum_by-cons (λ z. cond (is_once z) 1 0) (Twice x y) issues in
+counts_short (IssueAap x y ∷ issues) =
+    let a = sum_by-cons (λ z. cond (issues_aap z) 1 0) (IssueAap x y) issues in
+    let b = sum_by-cons (λ z. cond (issues_ap z) 1 0) (IssueAap x y) issues in
     let rest = counts_short issues in
     omega (arith, a, b, rest)
-counts_short (Once x ∷ issues) =
-    let a = sum_by-cons (λ z. cond (is_twice z) 1 0) (Once x) issues in
-    let b = sum_by-cons (λ z. cond (is_once z) 1 0) (Once x) issues in
+counts_short (IssueAp x ∷ issues) =
+    let a = sum_by-cons (λ z. cond (issues_aap z) 1 0) (IssueAp x) issues in
+    let b = sum_by-cons (λ z. cond (issues_ap z) 1 0) (IssueAp x) issues in
     let rest = counts_short issues in
     omega (arith, a, b, rest)
 
@@ -179,20 +179,20 @@ named_few g table name some few t =
 abbrev pub SumsTo : ℕ → Counts → Type 0
 SumsTo most c = c.aap + c.ap ≤ most
 
-bbop_few : (operations : Operations) (op : List ℕ) (n size : ℕ) (found : Option Operation)
+bbop_few : (operations : Routines) (op : List ℕ) (n size : ℕ) (found : Option Routine)
     → operations op ≡ found
-    → ((o : Operation) → operations op ≡ Some o → ShortWalks o) → size ≤ 16
+    → ((o : Routine) → operations op ≡ Some o → ShortWalks o) → size ≤ 16
     → SumsTo (16 * WALK_MAX) (times size (counts_of (issues_at found n)))
 bbop_few operations op n size None e short few =
     let none : size * 0 ≡ 0 = omega arith in omega (arith, none)
 bbop_few operations op n size (Some o) e short few =
     let issues = issues_of (o.trace n) in
     let both = counts_short issues in
-    let most : count_by is_twice issues + count_by is_once issues ≤ WALK_MAX =
+    let most : count_by issues_aap issues + count_by issues_ap issues ≤ WALK_MAX =
     omega (arith, both, short o e n) in
-    let all : size * (count_by is_twice issues + count_by is_once issues) ≤ 16 * WALK_MAX =
+    let all : size * (count_by issues_aap issues + count_by issues_ap issues) ≤ 16 * WALK_MAX =
     mul-le-mul few most in
-    let parts = mul-add size (count_by is_twice issues) (count_by is_once issues) in
+    let parts = mul-add size (count_by issues_aap issues) (count_by issues_ap issues) in
     omega (arith, all, parts)
 
 fill_few : (rows : ℕ) → rows ≤ 16 * WIDTH_MAX
@@ -208,14 +208,14 @@ module _ (g : Geometry) (p : Program) (table : List Named) (some : 0 < g.words)
     (few : g.banks ≤ 16) (t : TableFits g table)
   where
     counts_few : (instr : Instruction) → IsPlain instr
-        → refusal g (operations_in p) table instr ≡ None
-        → SumsTo (16 * WALK_MAX) (counts_for g (operations_in p) table instr)
+        → refusal g (routines_in p) table instr ≡ None
+        → SumsTo (16 * WALK_MAX) (counts_for g (routines_in p) table instr)
     counts_few (Init name count n) plain h =
-        let m = made g (operations_in p) table name count n h in
+        let m = made g (routines_in p) table name count n h in
         let rows = few_rows g (new_object g table count n) some few plain.1.1 m.fits in
         fill_few _ rows.1
     counts_few (Bbop op dst srcs count n) plain h =
-        bbop_few (operations_in p) op n (segments g (object_named table dst)) (operations_in p op)
+        bbop_few (routines_in p) op n (segments g (object_named table dst)) (routines_in p op)
         refl (λ o e. entry_holds ShortWalks p op o (entries_short p) e)
         (named_few g table dst some few t).0
     counts_few (Fill name value) plain h = fill_few _ (named_few g table name some few t).1
@@ -226,9 +226,9 @@ module _ (g : Geometry) (p : Program) (table : List Named) (some : 0 < g.words)
 
     -- the commands of one instruction
     pub commands_few : (instr : Instruction) → IsPlain instr
-        → SumsTo (16 * WALK_MAX) (counted_in (reply_to g (operations_in p) table instr))
-    commands_few instr plain = reply_sums (refusal g (operations_in p) table instr)
-        (counts_for g (operations_in p) table instr) (16 * WALK_MAX) (counts_few instr plain)
+        → SumsTo (16 * WALK_MAX) (counted_in (reply_to g (routines_in p) table instr))
+    commands_few instr plain = reply_sums (refusal g (routines_in p) table instr)
+        (counts_for g (routines_in p) table instr) (16 * WALK_MAX) (counts_few instr plain)
 
     loaded_few : (instr : Instruction) → rows_loaded g table instr ≤ 16 * WIDTH_MAX
     loaded_few (Load name values) = (named_few g table name some few t).1
@@ -254,44 +254,44 @@ module _ (g : Geometry) (p : Program) (table : List Named) (some : 0 < g.words)
 
     -- the rows that it loads and prints
     pub rows_loaded_few : (instr : Instruction)
-        → rows_if_done rows_loaded g (operations_in p) table instr ≤ 16 * WIDTH_MAX
+        → rows_if_done rows_loaded g (routines_in p) table instr ≤ 16 * WIDTH_MAX
     rows_loaded_few instr = if_few _ _ (loaded_few instr)
 
     pub rows_printed_few : (instr : Instruction)
-        → rows_if_done rows_printed g (operations_in p) table instr ≤ 16 * WIDTH_MAX
+        → rows_if_done rows_printed g (routines_in p) table instr ≤ 16 * WIDTH_MAX
     rows_printed_few instr = if_few _ _ (printed_few instr)
 
 -- what a fill or a new object does, and what stays of the counters of a chip
 pub fills_few : (g : Geometry) (p : Program) (table : List Named) (instr : Instruction)
     → 0 < g.words → g.banks ≤ 16 → TableFits g table → IsPlain instr → is_bbop instr ≡ false
-    → SumsTo (16 * WIDTH_MAX) (counted_in (reply_to g (operations_in p) table instr))
+    → SumsTo (16 * WIDTH_MAX) (counted_in (reply_to g (routines_in p) table instr))
 fills_few g p table (Init name count n) some few t plain h =
-    reply_sums (refusal g (operations_in p) table (Init name count n)) _ (16 * WIDTH_MAX) (λ e.
-    let m = made g (operations_in p) table name count n e in
+    reply_sums (refusal g (routines_in p) table (Init name count n)) _ (16 * WIDTH_MAX) (λ e.
+    let m = made g (routines_in p) table name count n e in
     let rows = few_rows g (new_object g table count n) some few plain.1.1 m.fits in
     omega (arith, rows.1))
 fills_few g p table (Fill name value) some few t plain h =
-    reply_sums (refusal g (operations_in p) table (Fill name value)) _ (16 * WIDTH_MAX) (λ e.
+    reply_sums (refusal g (routines_in p) table (Fill name value)) _ (16 * WIDTH_MAX) (λ e.
     omega (arith, (named_few g table name some few t).1))
 fills_few g p table (Bbop op dst srcs count n) some few t plain h = cc
 fills_few g p table (Load name values) some few t plain h =
-    reply_sums (refusal g (operations_in p) table (Load name values)) _ (16 * WIDTH_MAX) (λ e.
+    reply_sums (refusal g (routines_in p) table (Load name values)) _ (16 * WIDTH_MAX) (λ e.
     omega arith)
 fills_few g p table (Print name) some few t plain h =
-    reply_sums (refusal g (operations_in p) table (Print name)) _ (16 * WIDTH_MAX) (λ e.
+    reply_sums (refusal g (routines_in p) table (Print name)) _ (16 * WIDTH_MAX) (λ e.
     omega arith)
 fills_few g p table (Free name) some few t plain h =
-    reply_sums (refusal g (operations_in p) table (Free name)) _ (16 * WIDTH_MAX) (λ e.
+    reply_sums (refusal g (routines_in p) table (Free name)) _ (16 * WIDTH_MAX) (λ e.
     omega arith)
 fills_few g p table (Order o) some few t plain h = omega arith
 
 script_few : (g : Geometry) (p : Program) (table : List Named) (script : List Instruction)
     → 0 < g.words → g.banks ≤ 16 → TableFits g table → AllByRecursion IsPlain script
-    → AreFew g (operations_in p) table script
+    → AreFew g (routines_in p) table script
 script_few g p table [] some few t plain =
     record { commands = omega arith; loaded = omega arith; printed = omega arith }
 script_few g p table (instr ∷ script) some few t plain =
-    let operations = operations_in p in
+    let operations = routines_in p in
     let rest = script_few g p (table_after g operations table instr) script some few
     (table_fits_after g operations table instr plain.0 t) plain.1 in
     let commands = suc-mul (length script) (16 * WALK_MAX) in
@@ -322,14 +322,14 @@ work_is_bounded g p table script h t plain =
 pub piece_rises : (g : Geometry) (p : Program) (turn : Turn) (table : List Named) (piece : Piece)
     (k : Counters) → is_geometry g ≡ true → TableFits g table
     → AllByRecursion IsPlain (instrs_in piece) → IsPiece piece
-    → let new = all_counted (piece_events g (operations_in p) turn table piece) k in
+    → let new = all_counted (piece_events g (routines_in p) turn table piece) k in
     (new.aap ≤ k.aap + length (instrs_in piece) * (16 * WALK_MAX))
     × (new.ap ≤ k.ap + length (instrs_in piece) * (16 * WALK_MAX))
     × (new.writes ≤ k.writes + length (instrs_in piece) * (16 * WIDTH_MAX))
     × (new.reads ≡ k.reads)
 piece_rises g p turn table piece k h t plain is =
     let few = work_is_bounded g p table (instrs_in piece) h t plain in
-    let counted = piece_counted g (operations_in p) turn table piece k (geometry_parts g h).0
+    let counted = piece_counted g (routines_in p) turn table piece k (geometry_parts g h).0
     (fits_banks g table t) is in
     let aap = ap (λ (c : Counters). c.aap) counted in
     let ap' = ap (λ (c : Counters). c.ap) counted in

@@ -13,15 +13,15 @@ use Rattle.dram_model.specs.Events.{row_events}
 use Rattle.dram_model.proofs.EventLaws.{after-append, all_counted-append}
 use Rattle.uprog_code.specs.declared.walker.Counts.{Counts}
 use Rattle.uprog_code.specs.Shape.{Shape}
-use Rattle.uprog_code.specs.Machine.{Issue, Twice, Once, issues_of}
+use Rattle.uprog_code.specs.Machine.{Issue, IssueAap, IssueAp, issues_of}
 use Rattle.uprog_code.specs.Bound.{Bound, bound}
-use Rattle.uprog_code.specs.Count.{counts_of, is_twice, is_once}
+use Rattle.uprog_code.specs.Count.{counts_of, issues_aap, issues_ap}
 use Rattle.object_alloc.specs.Listed.{Named}
 use Rattle.bbop_isa.specs.Forms.{Init, Bbop, Load, Fill, Print, Free, Order}
 use Rattle.machine_model.specs.declared.Why.{Why}
-use Rattle.machine_model.specs.Operations.{Operation, Operations}
+use Rattle.machine_model.specs.Routines.{Routine, Routines}
 use Rattle.machine_model.specs.Refusals.{refusal}
-use Rattle.wave_model.specs.Schedule.{Job}
+use Rattle.wave_model.specs.Schedule.{WaveJob}
 use Rattle.machine_model.specs.Steps.{job_of, job_events, own_events, events_of, through}
 use Rattle.machine_model.specs.Steps.{rowed, banks_after, table_after, if_done, times, counts_for}
 use Rattle.machine_model.specs.Steps.{reply_to, reply_by, binding, issues_at, bound_at}
@@ -41,10 +41,10 @@ use Rattle.dram_model.specs.Elements.{padded_to, row_bits}
 use Rattle.bbop_isa.specs.Forms.{Instruction}
 use Rattle.machine_model.proofs.Fills.{through_bank}
 
-job_is_through : (job : Job) (banks : Banks) → after (job_events job) banks ≡ through job banks
+job_is_through : (job : WaveJob) (banks : Banks) → after (job_events job) banks ≡ through job banks
 job_is_through job banks = fun_ext (through_bank job.commands job.banks banks)
 
-pub events_are_rows : (g : Geometry) (operations : Operations) (table : List Named) (banks : Banks)
+pub events_are_rows : (g : Geometry) (operations : Routines) (table : List Named) (banks : Banks)
     (instr : Instruction) → after (events_of g operations table instr) banks
     ≡ rowed g operations table banks instr
 events_are_rows g operations table banks instr =
@@ -56,7 +56,7 @@ done_events : (r : Option Why) (es : List Event) (new banks : Banks) → after e
 done_events None es new banks e = e
 done_events (Some reason) es new banks e = refl
 
-pub instr_events : (g : Geometry) (operations : Operations) (table : List Named) (banks : Banks)
+pub instr_events : (g : Geometry) (operations : Routines) (table : List Named) (banks : Banks)
     (instr : Instruction)
     → after (if_done (refusal g operations table instr) (events_of g operations table instr) [])
     banks ≡ banks_after g operations table banks instr
@@ -65,7 +65,7 @@ instr_events g operations table banks instr =
     (rowed g operations table banks instr) banks (events_are_rows g operations table banks instr)
 
 -- one instruction after another, the events leave the banks as the steps do
-pub in_order_steps : (g : Geometry) (operations : Operations) (table : List Named)
+pub in_order_steps : (g : Geometry) (operations : Routines) (table : List Named)
     (script : List Instruction) (banks : Banks)
     → after (events_in_order g operations table script) banks
     ≡ banks_at_end g operations table banks script
@@ -99,14 +99,14 @@ pub row_counted : (bank rows : ℕ) (shape : Shape) (n : ℕ) (b : Bound) (issue
     (k : Counters) → all_counted (row_events bank (bound rows shape n b issues)) k
     ≡ with_counts k (counts_of issues)
 row_counted bank rows shape n b [] k = sym (plain_counts k _ _ (add_none k.aap) (add_none k.ap))
-row_counted bank rows shape n b (Twice x y ∷ issues) k =
+row_counted bank rows shape n b (IssueAap x y ∷ issues) k =
     row_counted bank rows shape n b issues (record k { aap = k.aap + 1 })
-    ∙ both_counts k _ _ _ _ (one_counted k.aap is_twice (Twice x y) issues refl)
-    (none_counted k.ap is_once (Twice x y) issues refl)
-row_counted bank rows shape n b (Once x ∷ issues) k =
+    ∙ both_counts k _ _ _ _ (one_counted k.aap issues_aap (IssueAap x y) issues refl)
+    (none_counted k.ap issues_ap (IssueAap x y) issues refl)
+row_counted bank rows shape n b (IssueAp x ∷ issues) k =
     row_counted bank rows shape n b issues (record k { ap = k.ap + 1 })
-    ∙ both_counts k _ _ _ _ (none_counted k.aap is_twice (Once x) issues refl)
-    (one_counted k.ap is_once (Once x) issues refl)
+    ∙ both_counts k _ _ _ _ (none_counted k.aap issues_aap (IssueAp x) issues refl)
+    (one_counted k.ap issues_ap (IssueAp x) issues refl)
 
 add_zero_times : (x c : ℕ) → x + 0 * c ≡ x
 add_zero_times x c = omega arith
@@ -119,16 +119,16 @@ banks_counted : (a size rows : ℕ) (shape : Shape) (n : ℕ) (b : Bound) (issue
     all_counted (flat_map (λ bank. row_events bank (bound rows shape n b issues))
     (range_with_len a size)) k ≡ with_counts k (times size (counts_of issues))
 banks_counted a zero rows shape n b issues k =
-    sym (plain_counts k _ _ (add_zero_times k.aap (count_by is_twice issues))
-    (add_zero_times k.ap (count_by is_once issues)))
+    sym (plain_counts k _ _ (add_zero_times k.aap (count_by issues_aap issues))
+    (add_zero_times k.ap (count_by issues_ap issues)))
 banks_counted a (suc size) rows shape n b issues k =
     all_counted-append (row_events a (bound rows shape n b issues)) _ k
     ∙ banks_counted (a + 1) size rows shape n b issues
     (all_counted (row_events a (bound rows shape n b issues)) k)
     ∙ ap (λ c. with_counts c (times size (counts_of issues)))
     (row_counted a rows shape n b issues k)
-    ∙ both_counts k _ _ _ _ (one_more k.aap size (count_by is_twice issues))
-    (one_more k.ap size (count_by is_once issues))
+    ∙ both_counts k _ _ _ _ (one_more k.aap size (count_by issues_aap issues))
+    (one_more k.ap size (count_by issues_ap issues))
 
 idle_counted : (a size : ℕ) (k : Counters)
     → all_counted (flat_map (λ bank. row_events bank []) (range_with_len a size)) k ≡ k
@@ -138,7 +138,7 @@ idle_counted a (suc size) k = idle_counted (a + 1) size k
 zero_times : (x c : ℕ) → x + c * 0 ≡ x
 zero_times x c = omega arith
 
-bbop_counted : (g : Geometry) (table : List Named) (o : Option Operation) (names : List (List ℕ))
+bbop_counted : (g : Geometry) (table : List Named) (o : Option Routine) (names : List (List ℕ))
     (n size : ℕ) (k : Counters) →
     all_counted (job_events (record { commands = bound_at g table o names n; banks = size })) k
     ≡ with_counts k (times size (counts_of (issues_at o n)))
@@ -220,7 +220,7 @@ fill_counted g o v k =
     ∙ counters_are k _ _ _ _ _ _ refl (sym (add_none k.ap)) (sym (add_none k.writes))
 
 -- the events of an instruction that is done are counted by its counts and the rows that it loads
-pub done_counted : (g : Geometry) (operations : Operations) (table : List Named)
+pub done_counted : (g : Geometry) (operations : Routines) (table : List Named)
     (instr : Instruction) (k : Counters) → all_counted (events_of g operations table instr) k
     ≡ with_writes (rows_loaded g table instr)
     (with_counts k (counts_for g operations table instr))
@@ -248,7 +248,7 @@ reply_case : (r : Option Why) (es : List Event) (c : Counts) (n : ℕ) (k : Coun
 reply_case None es c n k e = e
 reply_case (Some reason) es c n k e = none_done k
 
-pub instr_counted : (g : Geometry) (operations : Operations) (table : List Named)
+pub instr_counted : (g : Geometry) (operations : Routines) (table : List Named)
     (instr : Instruction) (k : Counters)
     → all_counted (if_done (refusal g operations table instr) (events_of g operations table instr)
     []) k ≡ with_writes (rows_if_done rows_loaded g operations table instr)
@@ -261,7 +261,7 @@ regroup : (x a b : ℕ) → x + a + b ≡ x + (a + b)
 regroup x a b = omega arith
 
 -- One instruction after another, they are counted by the replies and the rows loaded
-pub in_order_counted : (g : Geometry) (operations : Operations) (table : List Named)
+pub in_order_counted : (g : Geometry) (operations : Routines) (table : List Named)
     (script : List Instruction) (k : Counters)
     → all_counted (events_in_order g operations table script) k
     ≡ counters_at_end g operations table script k

@@ -13,7 +13,7 @@ use Rattle.object_alloc.specs.Free.{free}
 use Rattle.object_alloc.specs.Listed.{Named, objects_of, has_name}
 use Rattle.machine_model.specs.declared.Why.{Why}
 use Rattle.machine_model.specs.declared.Why.TheVariants as why
-use Rattle.machine_model.specs.Operations.{Operation}
+use Rattle.machine_model.specs.Routines.{Routine}
 use Rattle.object_alloc.specs.Listed.{limit_of}
 use Rattle.machine_model.specs.Refusals.{first, when, at_place, object_named, is_absent, is_misfit}
 use Rattle.machine_model.specs.Refusals.{walks_badly, bbop_conditions, dsts_in, srcs_in, is_one_of}
@@ -120,7 +120,7 @@ lengths (suc m) (x ∷ names) k e = let r = lengths m names k (omega arith) in
     (omega (arith, r.0), r.1, ap (λ l. x ∷ l) r.2)
 
 -- what is known of a bbop that is not refused
-pub record IsGood (g : Geometry) (table : List Named) (o : Operation) (names : List (List ℕ))
+pub record IsGood (g : Geometry) (table : List Named) (o : Routine) (names : List (List ℕ))
     (count n : ℕ) : Type 0 where
   pub destinations : AreOperands table count n (results o.shape) (dsts_in o.shape names)
   pub sources : AreOperands table count n o.shape.sources (srcs_in o.shape names)
@@ -129,7 +129,7 @@ pub record IsGood (g : Geometry) (table : List Named) (o : Operation) (names : L
   pub walks : walks_badly (o.trace n) ≡ None
   pub room : is_none (free (limit_of g) (objects_of table) (need o.shape n)) ≡ false
 
-pub good : (g : Geometry) (table : List Named) (o : Operation) (names : List (List ℕ)) (count n : ℕ)
+pub good : (g : Geometry) (table : List Named) (o : Routine) (names : List (List ℕ)) (count n : ℕ)
     → first (bbop_conditions (limit_of g) table o names count n) ≡ None
     → IsGood g table o names count n
 good g table o names count n h =

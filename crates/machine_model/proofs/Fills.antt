@@ -29,7 +29,7 @@ use Rattle.machine_model.specs.Columns.{object_size, segments, columns}
 use Rattle.machine_model.proofs.Below.{below_run, below_same, below_length, through_in}
 use Rattle.machine_model.proofs.Below.{through_same, number_same}
 use Rattle.machine_model.proofs.Bbops.{has_from}
-use Rattle.wave_model.specs.Schedule.{Job}
+use Rattle.wave_model.specs.Schedule.{WaveJob}
 use Rattle.machine_model.specs.Steps.{through, fill_events}
 
 -- row base + k takes bit k of the value, for n bits from bit a on
@@ -37,7 +37,7 @@ abbrev pub fill_commands : ℕ → ℕ → ℕ → ℕ → List Command
 fill_commands base v a n = map (λ k. Aap (addr.C (bit_number (bit_at v k))) (addr.D (base + k)))
     (range_with_len a n)
 
-abbrev pub fill_job : Geometry → Object → ℕ → Job
+abbrev pub fill_job : Geometry → Object → ℕ → WaveJob
 fill_job g o v = record { commands = fill_commands o.base v 0 o.width; banks = segments g o }
 
 bit_back : (b : Bool) → not (eqb (bit_number b) 0) ≡ b

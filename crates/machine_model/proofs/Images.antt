@@ -17,7 +17,7 @@ use Rattle.object_alloc.specs.Spelling.{IsImage, Rows}
 use Rattle.bbop_isa.specs.Forms.{Instruction}
 use Rattle.bbop_isa.specs.Forms.{Init, Bbop, Load, Fill, Print, Free, Order}
 use Rattle.bbop_isa.specs.Laws.{IsRight}
-use Rattle.machine_model.specs.Operations.{Operations}
+use Rattle.machine_model.specs.Routines.{Routines}
 use Rattle.machine_model.specs.Refusals.{refusal}
 use Rattle.machine_model.specs.Steps.{new_object, tabled, table_after}
 use Rattle.machine_model.specs.Script.{table_at_end, banks_at_end, events_in_order}
@@ -51,7 +51,7 @@ names_tabled g table (Fill name value) right all = all
 names_tabled g table (Print name) right all = all
 names_tabled g table (Order o) right all = all
 
-pub names_stay : (g : Geometry) (operations : Operations) (table : List Named)
+pub names_stay : (g : Geometry) (operations : Routines) (table : List Named)
     (script : List Instruction) → AllByRecursion IsRight script → HasNames table
     → HasNames (table_at_end g operations table script)
 names_stay g operations table [] right all = all
@@ -61,7 +61,7 @@ names_stay g operations table (instr ∷ script) right all =
     (λ e. names_tabled g table instr right.0 all) all)
 
 -- no instruction changes how many columns a bank has
-pub end_length : (g : Geometry) (operations : Operations) (table : List Named)
+pub end_length : (g : Geometry) (operations : Routines) (table : List Named)
     (script : List Instruction) (banks : Banks) (bank : ℕ)
     → length (banks_at_end g operations table banks script bank) ≡ length (banks bank)
 end_length g operations table script banks bank =

@@ -22,9 +22,9 @@ use Rattle.object_alloc.specs.Listed.{Named}
 use Rattle.bbop_isa.specs.Forms.{Instruction}
 use Rattle.bbop_isa.specs.Forms.{Init, Bbop, Load, Fill, Print, Free, Order}
 use Rattle.machine_model.specs.declared.Why.{Why}
-use Rattle.machine_model.specs.Operations.{Operations}
+use Rattle.machine_model.specs.Routines.{Routines}
 use Rattle.machine_model.specs.Refusals.{refusal, object_named, nothing}
-use Rattle.wave_model.specs.Schedule.{Job, Queues, queues, events_of_picks, IsWhole}
+use Rattle.wave_model.specs.Schedule.{WaveJob, Queues, queues, events_of_picks, IsWhole}
 use Rattle.wave_model.specs.Schedule.{picked, without_next}
 use Rattle.machine_model.specs.Steps.{job_of, job_events, own_events, if_done, table_after, tabled}
 use Rattle.machine_model.specs.Steps.{new_object}
@@ -83,7 +83,7 @@ range_own bank cs a (suc n) l m =
           ∙ append-nil (events_of bank (row_events bank cs)) ∙ row_own bank cs
     ]
 
-job_seen : (job : Job) (bank : ℕ) → events_of bank (job_events job)
+job_seen : (job : WaveJob) (bank : ℕ) → events_of bank (job_events job)
     ≡ row_events bank (cond (ltb bank job.banks) job.commands [])
 job_seen job bank = elim (cases_lt bank job.banks) [
   | inl l ↦ range_own bank job.commands 0 job.banks (omega arith) (omega arith)
@@ -94,7 +94,7 @@ job_seen job bank = elim (cases_lt bank job.banks) [
 ]
 
 -- jobs one after another: each bank sees its queue
-pub jobs_seen : (jobs : List Job) (bank : ℕ)
+pub jobs_seen : (jobs : List WaveJob) (bank : ℕ)
     → events_of bank (flat_map job_events jobs) ≡ row_events bank (queues jobs bank)
 jobs_seen [] bank = refl
 jobs_seen (job ∷ jobs) bank =
@@ -109,7 +109,7 @@ if_same : {S : Type 0} (r : Option Why) (x : S) → if_done r x x ≡ x
 if_same None x = refl
 if_same (Some reason) x = refl
 
-pub bbop_table : (g : Geometry) (operations : Operations) (table : List Named)
+pub bbop_table : (g : Geometry) (operations : Routines) (table : List Named)
     (instr : Instruction) → is_bbop instr ≡ true → table_after g operations table instr ≡ table
 bbop_table g operations table (Bbop op dst srcs count n) h =
     if_same (refusal g operations table (Bbop op dst srcs count n)) table
@@ -130,7 +130,7 @@ bbop_own g table (Print name) h = cc
 bbop_own g table (Free name) h = cc
 bbop_own g table (Order o) h = cc
 
-one_case : (g : Geometry) (operations : Operations) (table : List Named) (instr : Instruction)
+one_case : (g : Geometry) (operations : Routines) (table : List Named) (instr : Instruction)
     (wave : List Instruction) (own : List Event) (r : Option Why) → own ≡ []
     → if_done r (job_events (job_of g operations table instr) ++ own) []
     ++ flat_map job_events (jobs_of g operations table wave)
@@ -144,7 +144,7 @@ one_case g operations table instr wave own None e =
 one_case g operations table instr wave own (Some reason) e = refl
 
 -- bbops one after another are their jobs one after another
-pub wave_in_order : (g : Geometry) (operations : Operations) (table : List Named)
+pub wave_in_order : (g : Geometry) (operations : Routines) (table : List Named)
     (wave : List Instruction) → AreBbops wave
     → events_in_order g operations table wave
     ≡ flat_map job_events (jobs_of g operations table wave)
@@ -183,7 +183,7 @@ found_fits g (p ∷ table) name h =
       found_case false more = more
 
 -- the banks of a job are there
-pub job_fits : (g : Geometry) (operations : Operations) (table : List Named) (instr : Instruction)
+pub job_fits : (g : Geometry) (operations : Routines) (table : List Named) (instr : Instruction)
     → 0 < g.words → FitsBanks g table → (job_of g operations table instr).banks ≤ g.banks
 job_fits g operations table (Bbop op dst srcs count n) some h =
     few_banks (object_named table dst).count (column_count g) g.banks (omega arith)
@@ -196,14 +196,14 @@ job_fits g operations table (Print name) some h = omega arith
 job_fits g operations table (Free name) some h = omega arith
 job_fits g operations table (Order o) some h = omega arith
 
-pub jobs_fit : (g : Geometry) (operations : Operations) (table : List Named)
+pub jobs_fit : (g : Geometry) (operations : Routines) (table : List Named)
     (instrs : List Instruction) → 0 < g.words → FitsBanks g table
     → AllByRecursion (λ job. job.banks ≤ g.banks) (map (job_of g operations table) instrs)
 jobs_fit g operations table [] some h = tt
 jobs_fit g operations table (instr ∷ instrs) some h =
     (job_fits g operations table instr some h, jobs_fit g operations table instrs some h)
 
-queue_none : (jobs : List Job) (banks bank : ℕ) → AllByRecursion (λ job. job.banks ≤ banks) jobs
+queue_none : (jobs : List WaveJob) (banks bank : ℕ) → AllByRecursion (λ job. job.banks ≤ banks) jobs
     → banks ≤ bank → queues jobs bank ≡ []
 queue_none [] banks bank h l = refl
 queue_none (job ∷ jobs) banks bank h l =
@@ -211,7 +211,7 @@ queue_none (job ∷ jobs) banks bank h l =
     rw past (queue_none jobs banks bank h.1 l)
 
 -- under any whole list of picks each bank sees the jobs in their order
-pub picks_alike : (banks : ℕ) (ps : List ℕ) (jobs : List Job)
+pub picks_alike : (banks : ℕ) (ps : List ℕ) (jobs : List WaveJob)
     → AllByRecursion (λ job. job.banks ≤ banks) jobs → IsWhole banks ps (queues jobs)
     → Alike (events_of_picks banks ps (queues jobs)) (flat_map job_events jobs)
 picks_alike banks ps jobs h w bank = elim (cases_lt bank banks) [
@@ -248,7 +248,7 @@ only_job cs zero h = refl
 only_job cs (suc zero) h = append-nil (row_events 0 cs)
 only_job cs (suc (suc n)) h = absurd (omega arith)
 
-only_jobs : (jobs : List Job) (banks : ℕ) → banks ≡ 1
+only_jobs : (jobs : List WaveJob) (banks : ℕ) → banks ≡ 1
     → AllByRecursion (λ job. job.banks ≤ banks) jobs
     → flat_map job_events jobs ≡ row_events 0 (queues jobs 0)
 only_jobs [] banks one h = refl
@@ -260,7 +260,7 @@ only_jobs (job ∷ jobs) banks one h =
     ∙ sym (map-append (λ c. Row 0 c) own (queues jobs 0))
 
 -- on one bank the picks' events are those of the jobs one after another
-pub picks_same : (banks : ℕ) (ps : List ℕ) (jobs : List Job) → banks ≡ 1
+pub picks_same : (banks : ℕ) (ps : List ℕ) (jobs : List WaveJob) → banks ≡ 1
     → AllByRecursion (λ job. job.banks ≤ banks) jobs → IsWhole banks ps (queues jobs)
     → events_of_picks banks ps (queues jobs) ≡ flat_map job_events jobs
 picks_same banks ps jobs one h w = only_queue banks ps (queues jobs) one w
@@ -271,7 +271,7 @@ fits_done : (r : Option Why) (g : Geometry) (new old : List Named)
 fits_done None g new old h k = h refl
 fits_done (Some reason) g new old h k = k
 
-fits_tabled : (g : Geometry) (operations : Operations) (table : List Named) (instr : Instruction)
+fits_tabled : (g : Geometry) (operations : Routines) (table : List Named) (instr : Instruction)
     → FitsBanks g table → refusal g operations table instr ≡ None
     → FitsBanks g (tabled g table instr)
 fits_tabled g operations table (Init name count n) f h =
@@ -287,7 +287,7 @@ fits_tabled g operations table (Print name) f h = f
 fits_tabled g operations table (Order o) f h = f
 
 -- a table that fits stays so
-pub fits_after : (g : Geometry) (operations : Operations) (table : List Named)
+pub fits_after : (g : Geometry) (operations : Routines) (table : List Named)
     (instrs : List Instruction) → FitsBanks g table
     → FitsBanks g (table_at_end g operations table instrs)
 fits_after g operations table [] f = f

@@ -18,7 +18,7 @@ use Rattle.object_alloc.specs.Listed.{IsTable}
 use Rattle.bbop_isa.specs.Forms.{Bbop}
 use Rattle.machine_model.specs.declared.Why.{Why}
 use Rattle.machine_model.specs.Columns.{segments}
-use Rattle.machine_model.specs.Operations.{Operation, Operations}
+use Rattle.machine_model.specs.Routines.{Routine, Routines}
 use Rattle.object_alloc.specs.Listed.{limit_of}
 use Rattle.machine_model.specs.Refusals.{object_named, bbop_refusal, dsts_in}
 use Rattle.machine_model.specs.Steps.{Held, table_of, base_for, binding, through, job_of, if_done}
@@ -61,7 +61,7 @@ no_result_row state count n row (kind ∷ kinds) (name ∷ names) (more _ _ _ _ 
     (or_false (has_row (object_named (table_of state) name) row)
     (list_any (λ name. has_row (object_named (table_of state) name) row) names) h).1 r
 
-not_touched : (g : Geometry) (state : List Held) (o : Operation) (names : List (List ℕ))
+not_touched : (g : Geometry) (state : List Held) (o : Routine) (names : List (List ℕ))
     (count n row : ℕ) → IsGood g (table_of state) o names count n
     → (list_any (λ name. has_row (object_named (table_of state) name) row) (dsts_in o.shape names)
     || is_beside g (table_of state) (Some o) n row) ≡ false
@@ -86,8 +86,8 @@ not_touched g state o names count n row good h (inr (inr spill)) =
     parts.1 in
     let among = among_from (limit_of g) 32 row spill.0 spill.1 in cc
 
-bbop_kept : (g : Geometry) (operations : Operations) (op dst : List ℕ) (srcs : List (List ℕ))
-    (count n : ℕ) (found : Option Operation)
+bbop_kept : (g : Geometry) (operations : Routines) (op dst : List ℕ) (srcs : List (List ℕ))
+    (count n : ℕ) (found : Option Routine)
     → operations op ≡ found → 0 < n → n ≤ WIDTH_MAX → KeepsAll operations
     → (banks : Banks) (state : List Held) (bank row : ℕ) → IsTable (limit_of g) (table_of state)
     → bbop_refusal g (table_of state) found (dst ∷ srcs) count n ≡ None
@@ -119,7 +119,7 @@ done_kept None new old touched bank row kept out = kept refl out
 done_kept (Some reason) new old touched bank row kept out = refl
 
 -- A row that a bbop does not touch is as it was
-pub bbop_rows_kept : (g : Geometry) (operations : Operations) (op dst : List ℕ)
+pub bbop_rows_kept : (g : Geometry) (operations : Routines) (op dst : List ℕ)
     (srcs : List (List ℕ)) (count n : ℕ) → 0 < n → n ≤ WIDTH_MAX
     → KeepsAll operations → (banks : Banks) (state : List Held) (bank row : ℕ)
     → IsTable (limit_of g) (table_of state)

@@ -20,8 +20,8 @@ use Rattle.bbop_isa.specs.Forms.{Init, Bbop, Load, Fill, Print, Free, Order}
 use Rattle.dram_model.specs.Elements.{column_count}
 use Rattle.machine_model.specs.Columns.{object_size, segments}
 use Rattle.dram_model.specs.Elements.{padded_to}
-use Rattle.machine_model.specs.Operations.{Program, Operation, Operations, operation_of}
-use Rattle.machine_model.specs.Operations.{entry_named, operations_in}
+use Rattle.machine_model.specs.Routines.{Program, Routine, Routines, routine_of}
+use Rattle.machine_model.specs.Routines.{entry_named, routines_in}
 use Rattle.object_alloc.specs.Listed.{limit_of}
 use Rattle.machine_model.specs.Refusals.{object_named, refusal}
 use Rattle.machine_model.specs.Steps.{Held, table_of, new_object, through, is_touched, banks_after}
@@ -89,7 +89,7 @@ loaded_kept g o vs banks bank row out =
           banks bank (all_own w o.base o.width nums) (omega arith))
     ]
 
-state_kept : (g : Geometry) (operations : Operations) (instr : Instruction)
+state_kept : (g : Geometry) (operations : Routines) (instr : Instruction)
     → KeepsAll operations → IsPlain instr
     → (banks : Banks) (state : List Held) (bank row : ℕ) → IsTable (limit_of g) (table_of state)
     → is_touched g operations (table_of state) instr bank row ≡ false
@@ -120,7 +120,7 @@ state_kept g operations (Order o) keeps plain banks state bank row t out =
     ap (λ (x : Banks). row_in row (x bank)) (idle [] banks)
 
 -- A row that a done instruction does not touch stays
-pub step_kept : (g : Geometry) (operations : Operations) (instr : Instruction)
+pub step_kept : (g : Geometry) (operations : Routines) (instr : Instruction)
     → KeepsAll operations → IsPlain instr → (table : List Named) → IsTable (limit_of g) table
     → (banks : Banks) (bank row : ℕ) → is_touched g operations table instr bank row ≡ false
     → row_in row (banks_after g operations table banks instr bank) ≡ row_in row (banks bank)
@@ -132,7 +132,7 @@ step_kept g operations instr keeps plain table t banks bank row out =
     (subst (IsTable (limit_of g)) (sym (still_table table)) t)) out
 
 -- and so does one that no done instruction of a script touches
-pub script_kept : (g : Geometry) (operations : Operations) (script : List Instruction)
+pub script_kept : (g : Geometry) (operations : Routines) (script : List Instruction)
     → KeepsAll operations → AllByRecursion IsPlain script → (table : List Named)
     → IsTable (limit_of g) table → (banks : Banks) (bank row : ℕ)
     → is_touched_by g operations table script bank row ≡ false
@@ -148,36 +148,36 @@ script_kept g operations (instr ∷ script) keeps plain table t banks bank row o
     ∙ step_kept g operations instr keeps plain.0 table t banks bank row both.0
 
 -- what does what it means keeps the other rows
-pub does_keep : (operations : Operations) (meaning : List ℕ → ℕ → List ℕ → List ℕ)
+pub does_keep : (operations : Routines) (meaning : List ℕ → ℕ → List ℕ → List ℕ)
     → DoesAll operations meaning → KeepsAll operations
 does_keep operations meaning does name o e n some few = (does name o e n some few).keeps
 
-abbrev pub KeepsRows : Operation → Type 0
+abbrev pub KeepsRows : Routine → Type 0
 KeepsRows o = (n : ℕ) → 0 < n → n ≤ WIDTH_MAX → Keeps o.shape n (issues_of (o.trace n))
 
 -- what holds of each entry holds of the operation of a name
-pub entry_holds : (P : Operation → Type 0) (p : Program) (name : List ℕ) (o : Operation)
-    → AllByRecursion (λ e. P (operation_of e)) p → operations_in p name ≡ Some o → P o
+pub entry_holds : (P : Routine → Type 0) (p : Program) (name : List ℕ) (o : Routine)
+    → AllByRecursion (λ e. P (routine_of e)) p → routines_in p name ≡ Some o → P o
 entry_holds P [] name o all is = cc
 entry_holds P (e ∷ p) name o all is =
     named (bytes_eq e.name name) is (entry_holds P p name o all.1) where
       named : (t : Bool)
-          → option_map operation_of (cond t (Some e) (entry_named p name)) ≡ Some o
-          → (option_map operation_of (entry_named p name) ≡ Some o → P o) → P o
-      named true is rest = let same : operation_of e ≡ o = cc in subst P same all.0
+          → option_map routine_of (cond t (Some e) (entry_named p name)) ≡ Some o
+          → (option_map routine_of (entry_named p name) ≡ Some o → P o) → P o
+      named true is rest = let same : routine_of e ≡ o = cc in subst P same all.0
       named false is rest = rest is
 
 entries_keep : (p : Program) → AllByRecursion IsEntry p
-    → AllByRecursion (λ e. KeepsRows (operation_of e)) p
+    → AllByRecursion (λ e. KeepsRows (routine_of e)) p
 entries_keep [] all = tt
 entries_keep (e ∷ p) all =
     (λ n some few. legal_keeps e.shape e.code all.0.code n, entries_keep p all.1)
 
 -- and so does every accepted program
-pub program_keeps : (p : Program) → IsProgram p → KeepsAll (operations_in p)
+pub program_keeps : (p : Program) → IsProgram p → KeepsAll (routines_in p)
 program_keeps p good name o is =
     entry_holds KeepsRows p name o (entries_keep p good.entries) is
 
 pub untouched_stays : UntouchedStays
 untouched_stays g p table script banks bank row good t plain out =
-    script_kept g (operations_in p) script (program_keeps p good) plain table t banks bank row out
+    script_kept g (routines_in p) script (program_keeps p good) plain table t banks bank row out

@@ -24,7 +24,7 @@ use Rattle.machine_model.specs.declared.Why.TheVariants as why
 use Rattle.dram_model.specs.Elements.{column_count}
 use Rattle.machine_model.specs.Columns.{object_size, segments}
 use Rattle.dram_model.specs.Elements.{padded_to}
-use Rattle.machine_model.specs.Operations.{Operations}
+use Rattle.machine_model.specs.Routines.{Routines}
 use Rattle.object_alloc.specs.Listed.{limit_of}
 use Rattle.machine_model.specs.Refusals.{object_named, is_absent, refusal, when, at_place}
 use Rattle.machine_model.specs.Steps.{table_of, load_events, with_numbers}
@@ -108,7 +108,7 @@ padded_length : (size : ℕ) (vs : List ℕ) → length vs ≤ size → length (
 padded_length size vs h = length-append vs (replicate (size - length vs) 0)
     ∙ omega (arith, h, length-replicate {A = ℕ} (size - length vs) 0)
 
-pub load_agrees : (g : Geometry) (operations : Operations) (meaning : List ℕ → ℕ → List ℕ
+pub load_agrees : (g : Geometry) (operations : Routines) (meaning : List ℕ → ℕ → List ℕ
     → List ℕ) (name : List ℕ) (vs : _) → 0 < g.words
     → StepAgrees g operations meaning (Load name vs)
 load_agrees g operations meaning name vs words banks state a =

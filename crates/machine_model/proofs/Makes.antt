@@ -19,7 +19,7 @@ use Rattle.bbop_isa.specs.Forms.{Init, Fill}
 use Rattle.machine_model.specs.declared.Why.TheVariants as why
 use Rattle.dram_model.specs.Elements.{column_count}
 use Rattle.machine_model.specs.Columns.{object_size, segments, columns}
-use Rattle.machine_model.specs.Operations.{Operations}
+use Rattle.machine_model.specs.Routines.{Routines}
 use Rattle.object_alloc.specs.Listed.{limit_of}
 use Rattle.machine_model.specs.Refusals.{object_named, is_absent, refusal, when}
 use Rattle.machine_model.specs.Steps.{Held, table_of, new_object, through, fill_events}
@@ -39,7 +39,7 @@ pub filled : (g : Geometry) (o : Object) (v : ℕ) (banks : Banks)
     ≡ through (fill_job g o v) banks
 filled g o v banks = ap (after (fill_events g o v)) (idle [] banks) ∙ fill_is_job g o v banks
 
-pub fill_agrees : (g : Geometry) (operations : Operations) (meaning : List ℕ → ℕ → List ℕ
+pub fill_agrees : (g : Geometry) (operations : Routines) (meaning : List ℕ → ℕ → List ℕ
     → List ℕ) (name : List ℕ) (v : ℕ) → StepAgrees g operations meaning (Fill name v)
 fill_agrees g operations meaning name v banks state a =
     let table = table_of state in
@@ -80,7 +80,7 @@ all_places : {X : Type 0} (P : X → Type 0) (xs : List X) (e : X)
     → ((k : ℕ) → k < length xs → P (get_or xs k e)) → All P xs
 all_places P xs e h k d l = subst P (any_default xs k e d l) (h k l)
 
-pub init_agrees : (g : Geometry) (operations : Operations) (meaning : List ℕ → ℕ → List ℕ
+pub init_agrees : (g : Geometry) (operations : Routines) (meaning : List ℕ → ℕ → List ℕ
     → List ℕ) (name : List ℕ) (count n : ℕ) → 0 < n → 0 < g.words
     → StepAgrees g operations meaning (Init name count n)
 init_agrees g operations meaning name count n some words banks state a =

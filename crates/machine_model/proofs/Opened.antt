@@ -17,7 +17,7 @@ use Rattle.machine_model.specs.declared.Why.{Why}
 use Rattle.machine_model.specs.declared.Why.TheVariants as why
 use Rattle.dram_model.specs.Elements.{column_count}
 use Rattle.machine_model.specs.Columns.{segments, columns}
-use Rattle.machine_model.specs.Operations.{Operations}
+use Rattle.machine_model.specs.Routines.{Routines}
 use Rattle.object_alloc.specs.Listed.{limit_of}
 use Rattle.machine_model.specs.Refusals.{refusal, object_named, is_absent, when}
 use Rattle.machine_model.specs.Steps.{Held, table_of, numbers_named, reply_by, reply_to}
@@ -111,7 +111,7 @@ other_case None counts instr xs ys e = e counts
 other_case (Some reason) counts instr xs ys e = refl
 
 -- what is said of an instruction is the same by the numbers and by the columns
-said_same : (g : Geometry) (operations : Operations) (banks : Banks) (state : List Held)
+said_same : (g : Geometry) (operations : Routines) (banks : Banks) (state : List Held)
     (instr : Instruction) → Agrees g banks state
     → said_of (reply_to g operations (table_of state) instr) instr
     (λ name. take (object_named (table_of state) name).count
@@ -136,7 +136,7 @@ said_same g operations banks state (Free name) a =
 said_same g operations banks state (Order o) a = refl
 
 -- The report by the rows is the report by the words
-pub report_same : (g : Geometry) (operations : Operations) (meaning : List ℕ → ℕ → List ℕ
+pub report_same : (g : Geometry) (operations : Routines) (meaning : List ℕ → ℕ → List ℕ
     → List ℕ) (script : List Instruction) → AllByRecursion (StepAgrees g operations meaning) script
     → (banks : Banks) (state : List Held) → Agrees g banks state
     → said_in_rows g operations (table_of state) banks script

@@ -20,7 +20,7 @@ use Rattle.bbop_isa.specs.Forms.{Instruction}
 use Rattle.bbop_isa.specs.Forms.{Init, Bbop, Load, Fill, Print, Free, Order}
 use Rattle.machine_model.specs.declared.Reply.{Reply}
 use Rattle.machine_model.specs.declared.Reply.TheVariants.{Done, Refused}
-use Rattle.machine_model.specs.Operations.{Operations}
+use Rattle.machine_model.specs.Routines.{Routines}
 use Rattle.machine_model.specs.Steps.{table_after, banks_after, is_touched, reply_to}
 use Rattle.machine_model.specs.Script.{is_bbop, table_at_end, banks_at_end, replies, sum_of, plus}
 use Rattle.machine_model.specs.Script.{sum_done, is_touched_by, counted_in}
@@ -31,7 +31,7 @@ use Rattle.machine_model.specs.Laws.{ScriptsGoOn, AllPiecesGoOn}
 use Rattle.machine_model.specs.Laws.{WavesAreAnswered}
 use Rattle.machine_model.proofs.InOrder.{bbop_table}
 
-module _ (g : Geometry) (operations : Operations) where
+module _ (g : Geometry) (operations : Routines) where
   pub table_append : (table : List Named) (xs ys : List Instruction)
       → table_at_end g operations table (xs ++ ys)
       ≡ table_at_end g operations (table_at_end g operations table xs) ys
@@ -142,14 +142,14 @@ bbop_said reply (Print name) values h = cc
 bbop_said reply (Free name) values h = cc
 bbop_said reply (Order o) values h = cc
 
-wave_table : (g : Geometry) (operations : Operations) (table : List Named)
+wave_table : (g : Geometry) (operations : Routines) (table : List Named)
     (wave : List Instruction) → AreBbops wave → table_at_end g operations table wave ≡ table
 wave_table g operations table [] h = refl
 wave_table g operations table (x ∷ wave) h =
     ap (λ t. table_at_end g operations t wave) (bbop_table g operations table x h.0)
     ∙ wave_table g operations table wave h.1
 
-wave_replies : (g : Geometry) (operations : Operations) (table : List Named)
+wave_replies : (g : Geometry) (operations : Routines) (table : List Named)
     (wave : List Instruction) → AreBbops wave
     → replies g operations table wave ≡ map (reply_to g operations table) wave
 wave_replies g operations table [] h = refl
@@ -158,7 +158,7 @@ wave_replies g operations table (x ∷ wave) h =
     (ap (λ t. replies g operations t wave) (bbop_table g operations table x h.0)
     ∙ wave_replies g operations table wave h.1)
 
-wave_said : (g : Geometry) (operations : Operations) (table : List Named)
+wave_said : (g : Geometry) (operations : Routines) (table : List Named)
     (wave : List Instruction) (banks : Banks) → AreBbops wave
     → said_in_rows g operations table banks wave ≡ map Answered (replies g operations table wave)
 wave_said g operations table [] banks h = refl
@@ -173,7 +173,7 @@ if_zero true = refl
 if_zero false = refl
 
 -- a bbop loads no row, and prints none
-pub bbop_loads : (g : Geometry) (operations : Operations) (table : List Named)
+pub bbop_loads : (g : Geometry) (operations : Routines) (table : List Named)
     (instr : Instruction) → is_bbop instr ≡ true
     → rows_if_done rows_loaded g operations table instr ≡ 0
 bbop_loads g operations table (Bbop op dst srcs count n) h =
@@ -185,7 +185,7 @@ bbop_loads g operations table (Print name) h = cc
 bbop_loads g operations table (Free name) h = cc
 bbop_loads g operations table (Order o) h = cc
 
-pub bbop_prints : (g : Geometry) (operations : Operations) (table : List Named)
+pub bbop_prints : (g : Geometry) (operations : Routines) (table : List Named)
     (instr : Instruction) → is_bbop instr ≡ true
     → rows_if_done rows_printed g operations table instr ≡ 0
 bbop_prints g operations table (Bbop op dst srcs count n) h =
@@ -198,7 +198,7 @@ bbop_prints g operations table (Free name) h = cc
 bbop_prints g operations table (Order o) h = cc
 
 wave_rows : (rows : Geometry → List Named → Instruction → ℕ) (g : Geometry)
-    (operations : Operations) (table : List Named) (wave : List Instruction)
+    (operations : Routines) (table : List Named) (wave : List Instruction)
     → ((t : List Named) (instr : Instruction) → is_bbop instr ≡ true
     → rows_if_done rows g operations t instr ≡ 0)
     → AreBbops wave → sum_done rows g operations table wave ≡ 0
@@ -234,7 +234,7 @@ all_parted P (suc k) [] h = (tt, tt)
 all_parted P (suc k) (x ∷ xs) h = let rest = all_parted P k xs h.1 in ((h.0, rest.0), rest.1)
 
 -- the jobs of a wave, bbop by bbop
-pub jobs_append : (g : Geometry) (operations : Operations) (table : List Named)
+pub jobs_append : (g : Geometry) (operations : Routines) (table : List Named)
     (xs ys : List Instruction) → jobs_of g operations table (xs ++ ys)
     ≡ jobs_of g operations table xs ++ jobs_of g operations table ys
 jobs_append g operations table xs ys =
@@ -242,7 +242,7 @@ jobs_append g operations table xs ys =
     ap (map (job_of g operations table)) (filter-append granted xs ys)
     ∙ map-append (job_of g operations table) (filter granted xs) (filter granted ys)
 
-pub few_jobs : (g : Geometry) (operations : Operations) (table : List Named)
+pub few_jobs : (g : Geometry) (operations : Routines) (table : List Named)
     (wave : List Instruction) → length (jobs_of g operations table wave) ≤ length wave
 few_jobs g operations table wave =
     let granted : Instruction → Bool = λ instr. is_none (refusal g operations table instr) in

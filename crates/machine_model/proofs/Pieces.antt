@@ -12,7 +12,7 @@ use Rattle.object_alloc.specs.Listed.{Named}
 use Rattle.object_alloc.specs.Spelling.{IsObject}
 use Rattle.bbop_isa.specs.Forms.{Instruction}
 use Rattle.bbop_isa.specs.Forms.{Init, Bbop, Load, Fill, Print, Free, Order}
-use Rattle.machine_model.specs.Operations.{Operations}
+use Rattle.machine_model.specs.Routines.{Routines}
 use Rattle.machine_model.specs.Refusals.{refusal}
 use Rattle.wave_model.specs.Schedule.{Turn, Ahead, in_turn, whole_picks, events_of_picks}
 use Rattle.machine_model.specs.Steps.{job_of, job_events, own_events, if_done, table_after}
@@ -91,7 +91,7 @@ pieces_are wave (instr ∷ script) h l =
 pub pieces_are_script : PiecesAreScript
 pieces_are_script script = pieces_are [] script tt (omega arith)
 
-order_append : (g : Geometry) (operations : Operations) (table : List Named)
+order_append : (g : Geometry) (operations : Routines) (table : List Named)
     (xs ys : List Instruction) → events_in_order g operations table (xs ++ ys)
     ≡ events_in_order g operations table xs
     ++ events_in_order g operations (table_at_end g operations table xs) ys
@@ -102,7 +102,7 @@ order_append g operations table (x ∷ xs) ys =
     ap (λ es. one ++ es) (order_append g operations (table_after g operations table x) xs ys)
     ∙ sym (append_assoc one _ _)
 
-no_job : (g : Geometry) (operations : Operations) (table : List Named) (instr : Instruction)
+no_job : (g : Geometry) (operations : Routines) (table : List Named) (instr : Instruction)
     → is_bbop instr ≡ false → job_events (job_of g operations table instr) ≡ []
 no_job g operations table (Bbop op dst srcs count n) h = cc
 no_job g operations table (Init name count n) h = refl
@@ -112,7 +112,7 @@ no_job g operations table (Print name) h = refl
 no_job g operations table (Free name) h = refl
 no_job g operations table (Order o) h = refl
 
-alone_same : (g : Geometry) (operations : Operations) (table : List Named) (instr : Instruction)
+alone_same : (g : Geometry) (operations : Routines) (table : List Named) (instr : Instruction)
     → is_bbop instr ≡ false
     → if_done (refusal g operations table instr) (own_events g table instr) []
     ≡ events_in_order g operations table (instr ∷ [])
@@ -125,7 +125,7 @@ alone_same g operations table instr h =
 -- a relation that the events of each piece have to its instructions' events in order
 module _ (R : List Event → List Event → Type 0) (same : (es : List Event) → R es es)
     (both : (a b c d : List Event) → R a b → R c d → R (a ++ c) (b ++ d))
-    (g : Geometry) (operations : Operations)
+    (g : Geometry) (operations : Routines)
     (wave_is : (turn : Turn) (table : List Named) (wave : List Instruction) → FitsBanks g table
     → AreBbops wave → R (piece_events g operations turn table (Wave wave))
     (events_in_order g operations table wave))
@@ -163,7 +163,7 @@ module _ (R : List Event → List Event → Type 0) (same : (es : List Event) �
         (pieces script))
         (events_in_order g operations table s)) p.1 (pieces_is turn table (pieces script) f p.0)
 
-wave_alike : (g : Geometry) (operations : Operations) → 0 < g.words → (turn : Turn)
+wave_alike : (g : Geometry) (operations : Routines) → 0 < g.words → (turn : Turn)
     (table : List Named) (wave : List Instruction) → FitsBanks g table → AreBbops wave
     → Alike (piece_events g operations turn table (Wave wave))
     (events_in_order g operations table wave)
@@ -181,7 +181,7 @@ seen_in_order g operations turn table script bank some f =
     turn table script f bank
 
 -- pieces leave the banks as their instructions one after another do
-pub pieces_steps : (g : Geometry) (operations : Operations) (turn : Turn) (table : List Named)
+pub pieces_steps : (g : Geometry) (operations : Routines) (turn : Turn) (table : List Named)
     (ps : List Piece) (chip : Banks) → 0 < g.words → FitsBanks g table
     → AllByRecursion IsPiece ps → after (events_of_pieces g operations turn table ps) chip
     ≡ banks_at_end g operations table chip (flat_map instrs_in ps)
@@ -205,7 +205,7 @@ piece_is_steps g operations turn table piece chip some f h =
     ∙ ap (banks_at_end g operations table chip) (append-nil (instrs_in piece))
 
 -- pieces are counted by their replies and the rows that they load
-pub pieces_counted : (g : Geometry) (operations : Operations) (turn : Turn) (table : List Named)
+pub pieces_counted : (g : Geometry) (operations : Routines) (turn : Turn) (table : List Named)
     (ps : List Piece) (k : Counters) → 0 < g.words → FitsBanks g table → AllByRecursion IsPiece ps
     → all_counted (events_of_pieces g operations turn table ps) k
     ≡ counters_at_end g operations table (flat_map instrs_in ps) k
@@ -243,7 +243,7 @@ wave_counted g operations table wave ps k some f h w =
     (waves_are_answered g operations table wave h).loaded
     ∙ no_writes (with_counts k (sum_of (replies g operations table wave)))
 
-wave_same : (g : Geometry) (operations : Operations) → g.banks ≡ 1 → 0 < g.words → (turn : Turn)
+wave_same : (g : Geometry) (operations : Routines) → g.banks ≡ 1 → 0 < g.words → (turn : Turn)
     (table : List Named) (wave : List Instruction) → FitsBanks g table → AreBbops wave
     → piece_events g operations turn table (Wave wave) ≡ events_in_order g operations table wave
 wave_same g operations one some turn table wave f h =
@@ -263,7 +263,7 @@ one_bank g operations turn table script one some f =
     table script f
 
 -- on a chip of one bank a script has the events of its instructions one after another
-pub script_in_order : (g : Geometry) (operations : Operations) (table : List Named)
+pub script_in_order : (g : Geometry) (operations : Routines) (table : List Named)
     (script : List Instruction) → g.banks ≡ 1 → 0 < g.words
     → All (λ named. IsObject g named.1) table
     → script_events g operations table script ≡ events_in_order g operations table script

@@ -10,7 +10,7 @@ use Rattle.object_alloc.specs.Listed.{Named}
 use Rattle.bbop_isa.specs.Forms.{Instruction}
 use Rattle.bbop_isa.specs.Forms.{Init, Bbop, Load, Fill, Print, Free, Order}
 use Rattle.machine_model.specs.declared.Why.{Why}
-use Rattle.machine_model.specs.Operations.{Operations}
+use Rattle.machine_model.specs.Routines.{Routines}
 use Rattle.machine_model.specs.Refusals.{refusal, object_named}
 use Rattle.machine_model.specs.Columns.{object_size}
 use Rattle.machine_model.specs.Steps.{Held, table_of, new_numbers, computed, numbers_named, srcs_of}
@@ -21,7 +21,7 @@ use Rattle.machine_model.specs.Script.{words_at_end, banks_at_end}
 use Rattle.machine_model.proofs.Places.{entry_of}
 use Rattle.machine_model.proofs.Steps.{table_kept, table_with, table_without}
 
-tabled_is : (g : Geometry) (operations : Operations) (meaning : List ℕ → ℕ → List ℕ
+tabled_is : (g : Geometry) (operations : Routines) (meaning : List ℕ → ℕ → List ℕ
     → List ℕ) (state : List Held) (instr : Instruction)
     → table_of (worded g operations meaning state instr) ≡ tabled g (table_of state) instr
 tabled_is g operations meaning state (Init name count n) = map-append entry_of state _
@@ -41,7 +41,7 @@ done_table None new old t e = e
 done_table (Some reason) new old t e = refl
 
 -- the word machine's table goes its own way
-pub table_step : (g : Geometry) (operations : Operations) (meaning : List ℕ → ℕ → List ℕ
+pub table_step : (g : Geometry) (operations : Routines) (meaning : List ℕ → ℕ → List ℕ
     → List ℕ) (state : List Held) (instr : Instruction)
     → table_of (words_after g operations meaning state instr)
     ≡ table_after g operations (table_of state) instr
@@ -51,7 +51,7 @@ table_step g operations meaning state instr =
     (tabled_is g operations meaning state instr)
 
 -- The banks after a script hold what the word machine holds
-pub script_agrees : (g : Geometry) (operations : Operations) (meaning : List ℕ → ℕ → List ℕ
+pub script_agrees : (g : Geometry) (operations : Routines) (meaning : List ℕ → ℕ → List ℕ
     → List ℕ) (script : List Instruction) → AllByRecursion (StepAgrees g operations meaning) script
     → (banks : Banks) (state : List Held) → Agrees g banks state
     → Agrees g (banks_at_end g operations (table_of state) banks script)

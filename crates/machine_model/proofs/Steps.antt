@@ -22,11 +22,11 @@ use Rattle.bbop_isa.specs.declared.instr.Order.{Order as Orders}
 use Rattle.machine_model.specs.declared.Why.{Why}
 use Rattle.dram_model.specs.Elements.{column_count}
 use Rattle.machine_model.specs.Columns.{object_size, segments, columns}
-use Rattle.machine_model.specs.Operations.{Operation, Operations}
+use Rattle.machine_model.specs.Routines.{Routine, Routines}
 use Rattle.object_alloc.specs.Listed.{limit_of}
 use Rattle.machine_model.specs.Refusals.{object_named, refusal, bbop_refusal, dsts_in, srcs_in}
 use Rattle.machine_model.specs.Refusals.{is_one_of}
-use Rattle.wave_model.specs.Schedule.{Job}
+use Rattle.wave_model.specs.Schedule.{WaveJob}
 use Rattle.machine_model.specs.Steps.{Held, table_of, numbers_named, with_numbers, with_results}
 use Rattle.machine_model.specs.Steps.{new_numbers, dsts_of, srcs_of, computed, through, job_of}
 use Rattle.machine_model.specs.Steps.{worded, rowed, if_done}
@@ -198,20 +198,20 @@ length_case : (t : Bool) (f : Column → Column) (columns : List Column)
 length_case true f columns = simp length-map
 length_case false f columns = refl
 
-pub through_length : (job : Job) (banks : Banks) (bank : ℕ)
+pub through_length : (job : WaveJob) (banks : Banks) (bank : ℕ)
     → length (through job banks bank) ≡ length (banks bank)
 through_length job banks bank = length_case (ltb bank job.banks) (run job.commands) (banks bank)
 
 -- the job of a bbop whose operation there is
-pub job_is : (g : Geometry) (operations : Operations) (op dst : List ℕ) (srcs : List (List ℕ))
-    (count n : ℕ) (o : Operation) → operations op ≡ Some o → (state : List Held)
+pub job_is : (g : Geometry) (operations : Routines) (op dst : List ℕ) (srcs : List (List ℕ))
+    (count n : ℕ) (o : Routine) → operations op ≡ Some o → (state : List Held)
     → job_of g operations (table_of state) (Bbop op dst srcs count n)
     ≡ bbop_job g state o (dst ∷ srcs) n (object_named (table_of state) dst)
 job_is g operations op dst srcs count n o e state = rw e refl
 
 -- A bbop that is done
-bbop_done : (g : Geometry) (operations : Operations) (meaning : List ℕ → ℕ → List ℕ
-    → List ℕ) (op dst : List ℕ) (srcs : List (List ℕ)) (count n : ℕ) (found : Option Operation)
+bbop_done : (g : Geometry) (operations : Routines) (meaning : List ℕ → ℕ → List ℕ
+    → List ℕ) (op dst : List ℕ) (srcs : List (List ℕ)) (count n : ℕ) (found : Option Routine)
     → operations op ≡ found → 0 < n → n ≤ WIDTH_MAX → DoesAll operations meaning
     → (banks : Banks) (state : List Held) → Agrees g banks state
     → bbop_refusal g (table_of state) found (dst ∷ srcs) count n ≡ None
@@ -230,7 +230,7 @@ bbop_done g operations meaning op dst srcs count n (Some o) e some few does bank
     (omega arith) facts.destinations).1 in
     let result : ℕ → List ℕ = λ k. computed (λ vs. slice_index (meaning op n vs) k)
     (map (numbers_named state) (srcs_in o.shape names)) (object_size g first) in
-    subst (λ (f : Option Operation). Agrees g (through job banks)
+    subst (λ (f : Option Routine). Agrees g (through job banks)
     (with_results state (new_numbers (λ k.
     computed (λ vs. slice_index (meaning op n vs) k)
     (map (numbers_named state) (srcs_of f names)) (object_size g first)) 0 (dsts_of f names))))
@@ -246,7 +246,7 @@ done_or_not g None new old s t done kept = done refl
 done_or_not g (Some reason) new old s t done kept = kept
 
 -- The step of the rows is the word machine's at a bbop
-pub bbop_agrees : (g : Geometry) (operations : Operations) (meaning : List ℕ → ℕ → List ℕ
+pub bbop_agrees : (g : Geometry) (operations : Routines) (meaning : List ℕ → ℕ → List ℕ
     → List ℕ) (op dst : List ℕ) (srcs : List (List ℕ)) (count n : ℕ) → 0 < n → n ≤ WIDTH_MAX
     → DoesAll operations meaning → StepAgrees g operations meaning (Bbop op dst srcs count n)
 bbop_agrees g operations meaning op dst srcs count n some few does banks state a =
@@ -263,13 +263,13 @@ pub idle : (cs : List Command) (banks : Banks) → through (record { commands = 
     ≡ banks
 idle cs banks = fun_ext (λ b. rw (below_none b) refl)
 
-pub print_agrees : (g : Geometry) (operations : Operations) (meaning : List ℕ → ℕ → List ℕ
+pub print_agrees : (g : Geometry) (operations : Routines) (meaning : List ℕ → ℕ → List ℕ
     → List ℕ) (name : List ℕ) → StepAgrees g operations meaning (Print name)
 print_agrees g operations meaning name banks state a =
     done_or_not g (refusal g operations (table_of state) (Print name)) _ banks state state (λ e.
     subst (λ (b : Banks). Agrees g b state) (sym (idle [] banks)) a) a
 
-pub order_agrees : (g : Geometry) (operations : Operations) (meaning : List ℕ → ℕ → List ℕ
+pub order_agrees : (g : Geometry) (operations : Routines) (meaning : List ℕ → ℕ → List ℕ
     → List ℕ) (o : Orders) → StepAgrees g operations meaning (Order o)
 order_agrees g operations meaning o banks state a =
     subst (λ (b : Banks). Agrees g b state) (sym (idle [] banks)) a
@@ -285,7 +285,7 @@ table_without [] name = refl
 table_without (h ∷ state) name = filter_case (not (bytes_eq h.name name)) h _ _
     (table_without state name)
 
-pub free_agrees : (g : Geometry) (operations : Operations) (meaning : List ℕ → ℕ → List ℕ
+pub free_agrees : (g : Geometry) (operations : Routines) (meaning : List ℕ → ℕ → List ℕ
     → List ℕ) (name : List ℕ) → StepAgrees g operations meaning (Free name)
 free_agrees g operations meaning name banks state a =
     done_or_not g (refusal g operations (table_of state) (Free name)) _ banks _ state (λ e.

@@ -15,7 +15,7 @@ use Rattle.bbop_isa.specs.Forms.{Instruction}
 use Rattle.bbop_isa.specs.Forms.{Init, Bbop, Load, Fill, Print, Free, Order}
 use Rattle.machine_model.specs.declared.Why.{Why}
 use Rattle.machine_model.specs.declared.Why.TheVariants as why
-use Rattle.machine_model.specs.Operations.{Operations}
+use Rattle.machine_model.specs.Routines.{Routines}
 use Rattle.machine_model.specs.Refusals.{refusal, when}
 use Rattle.machine_model.specs.Steps.{new_object, tabled, table_after, if_done}
 use Rattle.machine_model.specs.Agrees.{IsPlain}
@@ -30,7 +30,7 @@ pub record IsMade (g : Geometry) (table : List Named) (name : List ℕ) (count n
   pub fits : count ≤ column_count g * g.banks
   pub room : is_none (free (limit_of g) (objects_of table) n) ≡ false
 
-pub made : (g : Geometry) (operations : Operations) (table : List Named) (name : List ℕ)
+pub made : (g : Geometry) (operations : Routines) (table : List Named) (name : List ℕ)
     (count n : ℕ) → refusal g operations table (Init name count n) ≡ None
     → IsMade g table name count n
 made g operations table name count n h =
@@ -51,7 +51,7 @@ made g operations table name count n h =
       room = when_none _ _ room.0;
     }
 
-listed_tabled : (g : Geometry) (operations : Operations) (table : List Named)
+listed_tabled : (g : Geometry) (operations : Routines) (table : List Named)
     (instr : Instruction) → IsPlain instr → IsTable (limit_of g) table
     → refusal g operations table instr ≡ None → IsTable (limit_of g) (tabled g table instr)
 listed_tabled g operations table (Init name count n) plain t h =
@@ -70,7 +70,7 @@ listed_tabled g operations table (Order o) plain t h = t
 abbrev pub AreObjects : Geometry → List Named → Type 0
 AreObjects g table = All (λ named. IsObject g named.1) table
 
-objects_tabled : (g : Geometry) (operations : Operations) (table : List Named)
+objects_tabled : (g : Geometry) (operations : Routines) (table : List Named)
     (instr : Instruction) → IsPlain instr → AreObjects g table
     → refusal g operations table instr ≡ None → AreObjects g (tabled g table instr)
 objects_tabled g operations table (Init name count n) plain all h =
@@ -96,21 +96,21 @@ kept_done P None new old h t = h refl
 kept_done P (Some reason) new old h t = t
 
 -- behind one instruction
-pub listed_after : (g : Geometry) (operations : Operations) (table : List Named)
+pub listed_after : (g : Geometry) (operations : Routines) (table : List Named)
     (instr : Instruction) → IsPlain instr → IsTable (limit_of g) table
     → IsTable (limit_of g) (table_after g operations table instr)
 listed_after g operations table instr plain t =
     kept_done (IsTable (limit_of g)) (refusal g operations table instr) (tabled g table instr)
     table (listed_tabled g operations table instr plain t) t
 
-pub objects_after : (g : Geometry) (operations : Operations) (table : List Named)
+pub objects_after : (g : Geometry) (operations : Routines) (table : List Named)
     (instr : Instruction) → IsPlain instr → AreObjects g table
     → AreObjects g (table_after g operations table instr)
 objects_after g operations table instr plain all =
     kept_done (AreObjects g) (refusal g operations table instr) (tabled g table instr) table
     (objects_tabled g operations table instr plain all) all
 
-pub table_fits_after : (g : Geometry) (operations : Operations) (table : List Named)
+pub table_fits_after : (g : Geometry) (operations : Routines) (table : List Named)
     (instr : Instruction) → IsPlain instr → TableFits g table
     → TableFits g (table_after g operations table instr)
 table_fits_after g operations table instr plain t = record {

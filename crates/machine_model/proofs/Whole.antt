@@ -4,7 +4,7 @@ use Rattle.std.specs.List.{AllByRecursion}
 use Rattle.dram_model.specs.declared.geometry.Geometry.{Geometry}
 use Rattle.bbop_isa.specs.Forms.{Instruction}
 use Rattle.bbop_isa.specs.Forms.{Init, Bbop, Load, Fill, Print, Free, Order}
-use Rattle.machine_model.specs.Operations.{Operations, operations_of, meaning_in}
+use Rattle.machine_model.specs.Routines.{Routines, routines_of, meaning_in}
 use Rattle.machine_model.specs.Agrees.{StepAgrees, DoesAll, IsPlain}
 use Rattle.machine_model.specs.Laws.{RowsGiveWords, TextGivesWords}
 use Rattle.machine_model.proofs.Steps.{bbop_agrees, print_agrees, free_agrees, order_agrees}
@@ -13,7 +13,7 @@ use Rattle.machine_model.proofs.Loaded.{load_agrees}
 use Rattle.machine_model.proofs.Scripts.{script_agrees}
 use Rattle.machine_model.proofs.Texts.{does_all}
 
-pub every_step : (g : Geometry) (operations : Operations) (meaning : List ℕ → ℕ → List ℕ
+pub every_step : (g : Geometry) (operations : Routines) (meaning : List ℕ → ℕ → List ℕ
     → List ℕ) (instr : Instruction) → 0 < g.words → DoesAll operations meaning → IsPlain instr
     → StepAgrees g operations meaning instr
 every_step g operations meaning (Init name count n) words does plain =
@@ -29,7 +29,7 @@ every_step g operations meaning (Print name) words does plain =
 every_step g operations meaning (Free name) words does plain = free_agrees g operations meaning name
 every_step g operations meaning (Order o) words does plain = order_agrees g operations meaning o
 
-every_steps : (g : Geometry) (operations : Operations) (meaning : List ℕ → ℕ → List ℕ
+every_steps : (g : Geometry) (operations : Routines) (meaning : List ℕ → ℕ → List ℕ
     → List ℕ) (script : List Instruction) → 0 < g.words → DoesAll operations meaning
     → AllByRecursion IsPlain script → AllByRecursion (StepAgrees g operations meaning) script
 every_steps g operations meaning [] words does plain = tt
@@ -45,4 +45,4 @@ rows_give_words g operations meaning script words does plain =
 
 pub text_gives_words : TextGivesWords
 text_gives_words g p t script words i plain =
-    rows_give_words g (operations_of t p) (meaning_in t) script words (does_all p t i) plain
+    rows_give_words g (routines_of t p) (meaning_in t) script words (does_all p t i) plain

@@ -18,10 +18,10 @@ use Rattle.uprog_code.specs.Machine.{HasEnded}
 use Rattle.uprog_code.specs.Fits.{Fits}
 use Rattle.uprog_code.specs.Programs.{IsProgram}
 use Rattle.uprog_code.specs.Texts.{TextOp, ImplementsAll}
-use Rattle.machine_model.specs.Operations.{Program, Operation, Operations, operations_of}
-use Rattle.machine_model.specs.Operations.{operations_in}
+use Rattle.machine_model.specs.Routines.{Program, Routine, Routines, routines_of}
+use Rattle.machine_model.specs.Routines.{routines_in}
 use Rattle.machine_model.specs.Refusals.{refusal}
-use Rattle.machine_model.specs.Operations.{meaning_in}
+use Rattle.machine_model.specs.Routines.{meaning_in}
 use Rattle.wave_model.specs.Schedule.{events_of_picks, IsWhole, Turn}
 use Rattle.machine_model.specs.Steps.{Held, table_of, reply_to, binding, job_of}
 use Rattle.machine_model.specs.Agrees.{Agrees, DoesAll, IsPlain}
@@ -38,7 +38,7 @@ use Rattle.machine_model.specs.Opened.{Image, opened, rows_of}
 -- the word machine holds
 abbrev pub RowsGiveWords : Type 0
 RowsGiveWords =
-    (g : Geometry) (operations : Operations) (meaning : List ℕ → ℕ → List ℕ
+    (g : Geometry) (operations : Routines) (meaning : List ℕ → ℕ → List ℕ
     → List ℕ) (script : List Instruction) → 0 < g.words → DoesAll operations meaning
     → AllByRecursion IsPlain script
     → (banks : Banks) (state : List Held) → Agrees g banks state
@@ -51,13 +51,13 @@ TextGivesWords =
     (g : Geometry) (p : Program) (t : List TextOp) (script : List Instruction) → 0 < g.words
     → ImplementsAll p t → AllByRecursion IsPlain script
     → (banks : Banks) (state : List Held) → Agrees g banks state
-    → Agrees g (banks_at_end g (operations_of t p) (table_of state) banks script)
-    (words_at_end g (operations_of t p) (meaning_in t) state script)
+    → Agrees g (banks_at_end g (routines_of t p) (table_of state) banks script)
+    (words_at_end g (routines_of t p) (meaning_in t) state script)
 
 -- and its operations are the program's own
 abbrev pub SameOperations : Type 0
 SameOperations = (p : Program) (t : List TextOp) → ImplementsAll p t
-    → operations_of t p ≡ operations_in p
+    → routines_of t p ≡ routines_in p
 
 -- a table that a machine of this geometry may have
 pub record TableFits (g : Geometry) (table : List Named) : Type 0 where
@@ -67,20 +67,20 @@ pub record TableFits (g : Geometry) (table : List Named) : Type 0 where
 -- Behind every script it still is one
 abbrev pub TableStays : Type 0
 TableStays =
-    (g : Geometry) (operations : Operations) (table : List Named) (script : List Instruction)
+    (g : Geometry) (operations : Routines) (table : List Named) (script : List Instruction)
     → AllByRecursion IsPlain script → TableFits g table
     → TableFits g (table_at_end g operations table script)
 
 -- and so an accepted script leaves an image that is accepted as one
 abbrev pub ImageStays : Type 0
 ImageStays =
-    (i : Image) (operations : Operations) (text : List ℕ) (script : List Instruction)
+    (i : Image) (operations : Routines) (text : List ℕ) (script : List Instruction)
     → script_of text ≡ Ok script → IsImage i.geometry i.table i.rows
     → IsImage i.geometry (table_at_end i.geometry operations i.table script)
     (rows_of (banks_at_end i.geometry operations i.table (opened i) script))
 
 -- A bbop that is not refused: its walk ends, its binding fits in a bank, and there are its banks
-pub record IsGranted (g : Geometry) (operations : Operations) (table : List Named) (o : Operation)
+pub record IsGranted (g : Geometry) (operations : Routines) (table : List Named) (o : Routine)
     (instr : Instruction) (names : List (List ℕ)) (n : ℕ) : Type 0 where
   pub ends : HasEnded (o.trace n)
   pub fits : Fits g.rows o.shape n (binding g table o.shape names n)
@@ -88,14 +88,14 @@ pub record IsGranted (g : Geometry) (operations : Operations) (table : List Name
 
 abbrev pub GrantsFit : Type 0
 GrantsFit =
-    (g : Geometry) (operations : Operations) (table : List Named) (o : Operation)
+    (g : Geometry) (operations : Routines) (table : List Named) (o : Routine)
     (op dst : List ℕ) (srcs : List (List ℕ)) (count n : ℕ) → 0 < g.words → TableFits g table
     → operations op ≡ Some o → refusal g operations table (Bbop op dst srcs count n) ≡ None
     → IsGranted g operations table o (Bbop op dst srcs count n) (dst ∷ srcs) n
 
 -- at most a whole walk in each of 16 banks for each instruction, and at most an object of the
 -- greatest width in each is loaded, or printed
-pub record AreFew (g : Geometry) (operations : Operations) (table : List Named)
+pub record AreFew (g : Geometry) (operations : Routines) (table : List Named)
     (script : List Instruction) : Type 0 where
   pub commands : (sum_of (replies g operations table script)).aap
       + (sum_of (replies g operations table script)).ap ≤ length script * (16 * WALK_MAX)
@@ -107,7 +107,7 @@ abbrev pub WorkIsBounded : Type 0
 WorkIsBounded =
     (g : Geometry) (p : Program) (table : List Named) (script : List Instruction)
     → is_geometry g ≡ true → TableFits g table → AllByRecursion IsPlain script
-    → AreFew g (operations_in p) table script
+    → AreFew g (routines_in p) table script
 
 -- Whatever an accepted program does, a row that no done instruction of a script touches is as it
 -- was
@@ -115,8 +115,8 @@ abbrev pub UntouchedStays : Type 0
 UntouchedStays =
     (g : Geometry) (p : Program) (table : List Named) (script : List Instruction) (banks : Banks)
     (bank row : ℕ) → IsProgram p → IsTable (limit_of g) table → AllByRecursion IsPlain script
-    → is_touched_by g (operations_in p) table script bank row ≡ false
-    → row_in row (banks_at_end g (operations_in p) table banks script bank)
+    → is_touched_by g (routines_in p) table script bank row ≡ false
+    → row_in row (banks_at_end g (routines_in p) table banks script bank)
     ≡ row_in row (banks bank)
 
 -- What an accepted script says is plain
@@ -131,7 +131,7 @@ FitsBanks g table = All (λ named. named.1.count ≤ column_count g * g.banks) t
 -- Each bank of a wave is left as the wave's bbops one after another leave it
 abbrev pub WaveIsSteps : Type 0
 WaveIsSteps =
-    (g : Geometry) (operations : Operations) (table : List Named) (wave : List Instruction)
+    (g : Geometry) (operations : Routines) (table : List Named) (wave : List Instruction)
     (picks : List ℕ) (chip : Banks) (bank : ℕ) → AreBbops wave
     → IsWhole g.banks picks (wave_queues g operations table wave) → bank < g.banks
     → after (events_of_picks g.banks picks (wave_queues g operations table wave)) chip bank
@@ -140,7 +140,7 @@ WaveIsSteps =
 -- and is counted by its replies
 abbrev pub WaveIsCounted : Type 0
 WaveIsCounted =
-    (g : Geometry) (operations : Operations) (table : List Named) (wave : List Instruction)
+    (g : Geometry) (operations : Routines) (table : List Named) (wave : List Instruction)
     (picks : List ℕ) (k : Counters) → 0 < g.words → FitsBanks g table → AreBbops wave
     → IsWhole g.banks picks (wave_queues g operations table wave)
     → all_counted (events_of_picks g.banks picks (wave_queues g operations table wave)) k
@@ -161,7 +161,7 @@ pub record PiecesAreCut : Type 0 where
       → pieces (instr ∷ script) ≡ Alone instr ∷ pieces script
 
 -- A script goes on where its first part ends
-pub record GoesOn (g : Geometry) (operations : Operations) (table : List Named)
+pub record GoesOn (g : Geometry) (operations : Routines) (table : List Named)
     (xs ys : List Instruction) : Type 0 where
   pub tables : table_at_end g operations table (xs ++ ys)
       ≡ table_at_end g operations (table_at_end g operations table xs) ys
@@ -184,7 +184,7 @@ pub record GoesOn (g : Geometry) (operations : Operations) (table : List Named)
       || is_touched_by g operations (table_at_end g operations table xs) ys bank row)
 
 -- and so do its pieces
-pub record PiecesGoOn (g : Geometry) (operations : Operations) (turn : Turn) (table : List Named)
+pub record PiecesGoOn (g : Geometry) (operations : Routines) (turn : Turn) (table : List Named)
     (ps qs : List Piece) : Type 0 where
   pub turns : turn_at_end g operations turn table (ps ++ qs)
       ≡ turn_at_end g operations (turn_at_end g operations turn table ps)
@@ -195,15 +195,15 @@ pub record PiecesGoOn (g : Geometry) (operations : Operations) (turn : Turn) (ta
       (table_at_end g operations table (flat_map instrs_in ps)) qs
 
 abbrev pub ScriptsGoOn : Type 0
-ScriptsGoOn = (g : Geometry) (operations : Operations) (table : List Named)
+ScriptsGoOn = (g : Geometry) (operations : Routines) (table : List Named)
     (xs ys : List Instruction) → GoesOn g operations table xs ys
 
 abbrev pub AllPiecesGoOn : Type 0
-AllPiecesGoOn = (g : Geometry) (operations : Operations) (turn : Turn) (table : List Named)
+AllPiecesGoOn = (g : Geometry) (operations : Routines) (turn : Turn) (table : List Named)
     (ps qs : List Piece) → PiecesGoOn g operations turn table ps qs
 
 -- A wave leaves the table, is answered bbop by bbop, and no row is loaded or printed
-pub record WaveIsAnswered (g : Geometry) (operations : Operations) (table : List Named)
+pub record WaveIsAnswered (g : Geometry) (operations : Routines) (table : List Named)
     (wave : List Instruction) : Type 0 where
   pub tables : table_at_end g operations table wave ≡ table
   pub answers : replies g operations table wave ≡ map (reply_to g operations table) wave
@@ -218,14 +218,14 @@ LinesGoOn = (number : ℕ) (xs ys : List Said)
     → lines number (xs ++ ys) ≡ lines number xs ++ lines (number + length xs) ys
 
 abbrev pub WavesAreAnswered : Type 0
-WavesAreAnswered = (g : Geometry) (operations : Operations) (table : List Named)
+WavesAreAnswered = (g : Geometry) (operations : Routines) (table : List Named)
     (wave : List Instruction) → AreBbops wave → WaveIsAnswered g operations table wave
 
 -- Under every order in force each bank sees the events of a script in the same order: that of its
 -- instructions
 abbrev pub SeenInOrder : Type 0
 SeenInOrder =
-    (g : Geometry) (operations : Operations) (turn : Turn) (table : List Named)
+    (g : Geometry) (operations : Routines) (turn : Turn) (table : List Named)
     (script : List Instruction) (bank : ℕ) → 0 < g.words → FitsBanks g table
     → seen_by bank (events_of_pieces g operations turn table (pieces script))
     ≡ seen_by bank (events_in_order g operations table script)
@@ -234,14 +234,14 @@ SeenInOrder =
 -- one piece
 abbrev pub EventsAreSteps : Type 0
 EventsAreSteps =
-    (g : Geometry) (operations : Operations) (turn : Turn) (table : List Named)
+    (g : Geometry) (operations : Routines) (turn : Turn) (table : List Named)
     (script : List Instruction) (chip : Banks) → 0 < g.words → FitsBanks g table
     → after (events_of_pieces g operations turn table (pieces script)) chip
     ≡ banks_at_end g operations table chip script
 
 abbrev pub PieceIsSteps : Type 0
 PieceIsSteps =
-    (g : Geometry) (operations : Operations) (turn : Turn) (table : List Named) (piece : Piece)
+    (g : Geometry) (operations : Routines) (turn : Turn) (table : List Named) (piece : Piece)
     (chip : Banks) → 0 < g.words → FitsBanks g table → IsPiece piece
     → after (piece_events g operations turn table piece) chip
     ≡ banks_at_end g operations table chip (instrs_in piece)
@@ -249,14 +249,14 @@ PieceIsSteps =
 -- and are counted by the replies and the rows loaded; so are the events of one piece
 abbrev pub CountedByReplies : Type 0
 CountedByReplies =
-    (g : Geometry) (operations : Operations) (turn : Turn) (table : List Named)
+    (g : Geometry) (operations : Routines) (turn : Turn) (table : List Named)
     (script : List Instruction) (k : Counters) → 0 < g.words → FitsBanks g table
     → all_counted (events_of_pieces g operations turn table (pieces script)) k
     ≡ counters_at_end g operations table script k
 
 abbrev pub PieceIsCounted : Type 0
 PieceIsCounted =
-    (g : Geometry) (operations : Operations) (turn : Turn) (table : List Named) (piece : Piece)
+    (g : Geometry) (operations : Routines) (turn : Turn) (table : List Named) (piece : Piece)
     (k : Counters) → 0 < g.words → FitsBanks g table → IsPiece piece
     → all_counted (piece_events g operations turn table piece) k
     ≡ counters_at_end g operations table (instrs_in piece) k
@@ -264,7 +264,7 @@ PieceIsCounted =
 -- On a chip of one bank every order gives the events of one instruction after another
 abbrev pub OneBankInOrder : Type 0
 OneBankInOrder =
-    (g : Geometry) (operations : Operations) (turn : Turn) (table : List Named)
+    (g : Geometry) (operations : Routines) (turn : Turn) (table : List Named)
     (script : List Instruction) → g.banks ≡ 1 → 0 < g.words → FitsBanks g table
     → events_of_pieces g operations turn table (pieces script)
     ≡ events_in_order g operations table script

@@ -1,6 +1,6 @@
 -- The word machine: what an instruction comes to in numbers and in rows, and the report.
 pub mod Columns
-pub mod Operations
+pub mod Routines
 pub mod Refusals
 pub mod Steps
 pub mod Agrees

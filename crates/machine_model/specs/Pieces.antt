@@ -9,9 +9,9 @@ use Rattle.bbop_isa.specs.declared.instr.Order.{Order as Orders}
 use Rattle.bbop_isa.specs.declared.instr.Order.TheVariants.{Forward, Turns, Seed}
 use Rattle.bbop_isa.specs.Forms.{Instruction}
 use Rattle.bbop_isa.specs.Forms.{Init, Bbop, Load, Fill, Print, Free, Order}
-use Rattle.machine_model.specs.Operations.{Operations}
+use Rattle.machine_model.specs.Routines.{Routines}
 use Rattle.machine_model.specs.Refusals.{refusal}
-use Rattle.wave_model.specs.Schedule.{Job, Queues, queues, events_of_picks, whole_picks}
+use Rattle.wave_model.specs.Schedule.{WaveJob, Queues, queues, events_of_picks, whole_picks}
 use Rattle.wave_model.specs.Schedule.{state_behind, Turn, Ahead, Turning, Drawing, in_turn}
 use Rattle.machine_model.specs.Steps.{job_of, own_events, if_done}
 use Rattle.machine_model.specs.Script.{is_bbop, table_at_end}
@@ -59,15 +59,15 @@ abbrev pub piece_of : Instruction → Piece
 piece_of instr = if is_bbop instr then Wave (instr ∷ []) else Alone instr
 
 -- the jobs of the bbops of a wave that are not refused, in order, and the banks' queues
-abbrev pub jobs_of : Geometry → Operations → List Named → List Instruction → List Job
+abbrev pub jobs_of : Geometry → Routines → List Named → List Instruction → List WaveJob
 jobs_of g operations table wave = map (job_of g operations table)
     (filter (λ instr. is_none (refusal g operations table instr)) wave)
 
-abbrev pub wave_queues : Geometry → Operations → List Named → List Instruction → Queues
+abbrev pub wave_queues : Geometry → Routines → List Named → List Instruction → Queues
 wave_queues g operations table wave = queues (jobs_of g operations table wave)
 
 -- the events of a piece
-abbrev pub piece_events : Geometry → Operations → Turn → List Named → Piece → List Event
+abbrev pub piece_events : Geometry → Routines → Turn → List Named → Piece → List Event
 piece_events g operations turn table (Wave wave) =
     let left = wave_queues g operations table wave in
     events_of_picks g.banks (whole_picks in_turn g.banks turn left) left
@@ -90,13 +90,13 @@ turn_by turn (Print name) = turn
 turn_by turn (Free name) = turn
 
 -- the order in force behind a piece
-abbrev pub turn_behind : Geometry → Operations → Turn → List Named → Piece → Turn
+abbrev pub turn_behind : Geometry → Routines → Turn → List Named → Piece → Turn
 turn_behind g operations turn table (Wave wave) =
     state_behind in_turn g.banks turn (wave_queues g operations table wave)
 turn_behind g operations turn table (Alone instr) = turn_by turn instr
 
 -- the events of pieces: the order in force and the table go on from piece to piece
-abbrev pub events_of_pieces : Geometry → Operations → Turn → List Named → List Piece → List Event
+abbrev pub events_of_pieces : Geometry → Routines → Turn → List Named → List Piece → List Event
 events_of_pieces g operations turn table [] = []
 events_of_pieces g operations turn table (piece ∷ rest) =
     piece_events g operations turn table piece
@@ -104,12 +104,12 @@ events_of_pieces g operations turn table (piece ∷ rest) =
     (table_at_end g operations table (instrs_in piece)) rest
 
 -- the order in force behind pieces
-abbrev pub turn_at_end : Geometry → Operations → Turn → List Named → List Piece → Turn
+abbrev pub turn_at_end : Geometry → Routines → Turn → List Named → List Piece → Turn
 turn_at_end g operations turn table [] = turn
 turn_at_end g operations turn table (piece ∷ rest) =
     turn_at_end g operations (turn_behind g operations turn table piece)
     (table_at_end g operations table (instrs_in piece)) rest
 
 -- the events of a script: at first each pick is the first live bank
-abbrev pub script_events : Geometry → Operations → List Named → List Instruction → List Event
+abbrev pub script_events : Geometry → Routines → List Named → List Instruction → List Event
 script_events g operations table script = events_of_pieces g operations Ahead table (pieces script)

@@ -17,7 +17,7 @@ use Rattle.bbop_isa.specs.Forms.{Init, Bbop, Load, Fill, Print, Free, Order}
 use Rattle.machine_model.specs.declared.Why.{Why}
 use Rattle.machine_model.specs.declared.Why.TheVariants as why
 use Rattle.dram_model.specs.Elements.{column_count}
-use Rattle.machine_model.specs.Operations.{Operation, Operations}
+use Rattle.machine_model.specs.Routines.{Routine, Routines}
 
 -- the first condition that holds
 abbrev pub first : List (Option Why) → Option Why
@@ -79,28 +79,28 @@ operand_conditions table shape names count n =
     ∷ []
 
 -- the conditions on its walk and its scratch, where objects lie below the limit
-abbrev pub grant_conditions : ℕ → List Named → Operation → ℕ → List (Option Why)
+abbrev pub grant_conditions : ℕ → List Named → Routine → ℕ → List (Option Why)
 grant_conditions limit table operation n =
     walks_badly (operation.trace n)
     ∷ when (is_none (free limit (objects_of table) (need operation.shape n))) why.NoRows
     ∷ []
 
 -- the conditions on a bbop of an operation that there is
-abbrev pub bbop_conditions : ℕ → List Named → Operation → List (List ℕ) → ℕ → ℕ → List (Option Why)
+abbrev pub bbop_conditions : ℕ → List Named → Routine → List (List ℕ) → ℕ → ℕ → List (Option Why)
 bbop_conditions limit table operation names count n =
     when (not (length names == length (results operation.shape ++ operation.shape.sources)))
     why.Arity
     ∷ operand_conditions table operation.shape names count n
     ++ grant_conditions limit table operation n
 
-abbrev pub bbop_refusal : Geometry → List Named → Option Operation → List (List ℕ) → ℕ → ℕ
+abbrev pub bbop_refusal : Geometry → List Named → Option Routine → List (List ℕ) → ℕ → ℕ
     → Option Why
 bbop_refusal g table None names count n = Some why.NoOp
 bbop_refusal g table (Some operation) names count n =
     first (bbop_conditions (limit_of g) table operation names count n)
 
 -- why the instruction is refused, if it is
-abbrev pub refusal : Geometry → Operations → List Named → Instruction → Option Why
+abbrev pub refusal : Geometry → Routines → List Named → Instruction → Option Why
 refusal g operations table (Init name count n) =
     first (when (has_name table name) why.Exists
     ∷ when (nat_le 256 (length table)) why.TableFull

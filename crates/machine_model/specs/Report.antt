@@ -11,7 +11,7 @@ use Rattle.machine_model.specs.declared.Reply.{Reply}
 use Rattle.machine_model.specs.declared.Reply.TheVariants.{Done, Refused}
 use Rattle.machine_model.specs.declared.Why.{Why}
 use Rattle.machine_model.specs.declared.Why.TheVariants as why
-use Rattle.machine_model.specs.Operations.{Operations}
+use Rattle.machine_model.specs.Routines.{Routines}
 use Rattle.machine_model.specs.Refusals.{object_named}
 use Rattle.dram_model.specs.Chip.{Banks}
 use Rattle.machine_model.specs.Columns.{columns}
@@ -78,7 +78,7 @@ lines number [] = []
 lines number (said ∷ rest) = line number said ++ lines (number + 1) rest
 
 -- what the word machine says of a script
-abbrev pub said_in_words : Geometry → Operations → (List ℕ → ℕ → List ℕ → List ℕ) → List Held
+abbrev pub said_in_words : Geometry → Routines → (List ℕ → ℕ → List ℕ → List ℕ) → List Held
     → List Instruction → List Said
 said_in_words g operations meaning state [] = []
 said_in_words g operations meaning state (instr ∷ script) =
@@ -87,12 +87,12 @@ said_in_words g operations meaning state (instr ∷ script) =
     ∷ said_in_words g operations meaning (words_after g operations meaning state instr) script
 
 -- what is said of one instruction, where the values are read from the banks' columns
-abbrev pub said_by : Geometry → Operations → List Named → Banks → Instruction → Said
+abbrev pub said_by : Geometry → Routines → List Named → Banks → Instruction → Said
 said_by g operations table banks instr = said_of (reply_to g operations table instr) instr
     (λ name. take (object_named table name).count (columns g banks (object_named table name)))
 
 -- the same of a script
-abbrev pub said_in_rows : Geometry → Operations → List Named → Banks → List Instruction → List Said
+abbrev pub said_in_rows : Geometry → Routines → List Named → Banks → List Instruction → List Said
 said_in_rows g operations table banks [] = []
 said_in_rows g operations table banks (instr ∷ script) =
     said_by g operations table banks instr

@@ -11,7 +11,7 @@ use Rattle.bbop_isa.specs.Forms.{Init, Bbop, Load, Fill, Print, Free, Order}
 use Rattle.machine_model.specs.declared.Reply.{Reply}
 use Rattle.machine_model.specs.declared.Reply.TheVariants.{Done, Refused}
 use Rattle.machine_model.specs.Columns.{segments}
-use Rattle.machine_model.specs.Operations.{Operations}
+use Rattle.machine_model.specs.Routines.{Routines}
 use Rattle.machine_model.specs.Refusals.{refusal, object_named}
 use Rattle.machine_model.specs.Steps.{Held, words_after, table_after, banks_after, reply_to}
 use Rattle.machine_model.specs.Steps.{events_of, if_done, is_touched}
@@ -26,40 +26,40 @@ is_bbop (Free name) = false
 is_bbop (Order o) = false
 
 -- the replies, in order: they depend on the table alone
-abbrev pub replies : Geometry → Operations → List Named → List Instruction → List Reply
+abbrev pub replies : Geometry → Routines → List Named → List Instruction → List Reply
 replies g operations table [] = []
 replies g operations table (instr ∷ script) =
     reply_to g operations table instr ∷ replies g operations (table_after g operations table instr)
     script
 
-abbrev pub table_at_end : Geometry → Operations → List Named → List Instruction → List Named
+abbrev pub table_at_end : Geometry → Routines → List Named → List Instruction → List Named
 table_at_end g operations table [] = table
 table_at_end g operations table (instr ∷ script) =
     table_at_end g operations (table_after g operations table instr) script
 
 -- the word machine's state
-abbrev pub words_at_end : Geometry → Operations → (List ℕ → ℕ → List ℕ → List ℕ) → List Held
+abbrev pub words_at_end : Geometry → Routines → (List ℕ → ℕ → List ℕ → List ℕ) → List Held
     → List Instruction → List Held
 words_at_end g operations meaning state [] = state
 words_at_end g operations meaning state (instr ∷ script) =
     words_at_end g operations meaning (words_after g operations meaning state instr) script
 
 -- the banks
-abbrev pub banks_at_end : Geometry → Operations → List Named → Banks → List Instruction → Banks
+abbrev pub banks_at_end : Geometry → Routines → List Named → Banks → List Instruction → Banks
 banks_at_end g operations table banks [] = banks
 banks_at_end g operations table banks (instr ∷ script) =
     banks_at_end g operations (table_after g operations table instr)
     (banks_after g operations table banks instr) script
 
 -- some instruction that is done may change the row
-abbrev pub is_touched_by : Geometry → Operations → List Named → List Instruction → ℕ → ℕ → Bool
+abbrev pub is_touched_by : Geometry → Routines → List Named → List Instruction → ℕ → ℕ → Bool
 is_touched_by g operations table [] bank row = false
 is_touched_by g operations table (instr ∷ script) bank row =
     is_touched g operations table instr bank row
     || is_touched_by g operations (table_after g operations table instr) script bank row
 
 -- the events of the instructions that are done, one instruction after another, bank by bank
-abbrev pub events_in_order : Geometry → Operations → List Named → List Instruction → List Event
+abbrev pub events_in_order : Geometry → Routines → List Named → List Instruction → List Event
 events_in_order g operations table [] = []
 events_in_order g operations table (instr ∷ script) =
     if_done (refusal g operations table instr) (events_of g operations table instr) []
@@ -109,13 +109,13 @@ rows_printed g table (Free name) = 0
 rows_printed g table (Order o) = 0
 
 -- the rows of one instruction, where it is done
-abbrev pub rows_if_done : (Geometry → List Named → Instruction → ℕ) → Geometry → Operations
+abbrev pub rows_if_done : (Geometry → List Named → Instruction → ℕ) → Geometry → Routines
     → List Named → Instruction → ℕ
 rows_if_done rows g operations table instr =
     if is_none (refusal g operations table instr) then rows g table instr else 0
 
 -- summed over the instructions that are done
-abbrev pub sum_done : (Geometry → List Named → Instruction → ℕ) → Geometry → Operations → List Named
+abbrev pub sum_done : (Geometry → List Named → Instruction → ℕ) → Geometry → Routines → List Named
     → List Instruction → ℕ
 sum_done rows g operations table [] = 0
 sum_done rows g operations table (instr ∷ script) =
@@ -124,7 +124,7 @@ sum_done rows g operations table (instr ∷ script) =
 
 -- a chip's counters after the instructions that are done: the row commands that the replies count,
 -- and a host write for each row that is loaded
-abbrev pub counters_at_end : Geometry → Operations → List Named → List Instruction → Counters
+abbrev pub counters_at_end : Geometry → Routines → List Named → List Instruction → Counters
     → Counters
 counters_at_end g operations table script k =
     with_writes (sum_done rows_loaded g operations table script)

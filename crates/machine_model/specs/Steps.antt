@@ -29,10 +29,10 @@ use Rattle.machine_model.specs.declared.Reply.TheVariants.{Done, Refused}
 use Rattle.machine_model.specs.declared.Why.{Why}
 use Rattle.machine_model.specs.Columns.{each_row, object_size, segments}
 use Rattle.dram_model.specs.Elements.{padded_to, row_bits}
-use Rattle.machine_model.specs.Operations.{Operation, Operations}
+use Rattle.machine_model.specs.Routines.{Routine, Routines}
 use Rattle.object_alloc.specs.Listed.{limit_of}
 use Rattle.machine_model.specs.Refusals.{refusal, object_named, dsts_in, srcs_in}
-use Rattle.wave_model.specs.Schedule.{Job}
+use Rattle.wave_model.specs.Schedule.{WaveJob}
 
 -- an object with the numbers of its columns
 pub record Held : Type 0 where
@@ -66,11 +66,11 @@ computed meaning sources size = map (λ e. meaning (map (λ numbers. slice_index
     (range_with_len 0 size)
 
 -- the names of the destinations and of the sources, where there is the operation
-abbrev pub dsts_of : Option Operation → List (List ℕ) → List (List ℕ)
+abbrev pub dsts_of : Option Routine → List (List ℕ) → List (List ℕ)
 dsts_of None names = []
 dsts_of (Some operation) names = dsts_in operation.shape names
 
-abbrev pub srcs_of : Option Operation → List (List ℕ) → List (List ℕ)
+abbrev pub srcs_of : Option Routine → List (List ℕ) → List (List ℕ)
 srcs_of None names = []
 srcs_of (Some operation) names = srcs_in operation.shape names
 
@@ -89,7 +89,7 @@ with_results state new = map (λ (h : Held). record {
 }) state
 
 -- what an instruction that is done makes of the numbers
-abbrev pub worded : Geometry → Operations → (List ℕ → ℕ → List ℕ → List ℕ) → List Held → Instruction
+abbrev pub worded : Geometry → Routines → (List ℕ → ℕ → List ℕ → List ℕ) → List Held → Instruction
     → List Held
 worded g operations meaning state (Init name count n) =
     let o = new_object g (table_of state) count n in
@@ -113,7 +113,7 @@ abbrev pub if_done : {S : Type 0} → Option Why → S → S → S
 if_done None done refused = done
 if_done (Some reason) done refused = refused
 
-abbrev pub words_after : Geometry → Operations → (List ℕ → ℕ → List ℕ → List ℕ) → List Held
+abbrev pub words_after : Geometry → Routines → (List ℕ → ℕ → List ℕ → List ℕ) → List Held
     → Instruction → List Held
 words_after g operations meaning state instr =
     if_done (refusal g operations (table_of state) instr) (worded g operations meaning state instr)
@@ -129,7 +129,7 @@ tabled g table (Fill name value) = table
 tabled g table (Print name) = table
 tabled g table (Order order) = table
 
-abbrev pub table_after : Geometry → Operations → List Named → Instruction → List Named
+abbrev pub table_after : Geometry → Routines → List Named → Instruction → List Named
 table_after g operations table instr = if_done (refusal g operations table instr)
     (tabled g table instr) table
 
@@ -141,17 +141,17 @@ binding g table shape names n = record {
   scratch = base_for g table (need shape n);
 }
 
-abbrev pub issues_at : Option Operation → ℕ → List Issue
+abbrev pub issues_at : Option Routine → ℕ → List Issue
 issues_at None n = []
 issues_at (Some operation) n = issues_of (operation.trace n)
 
-abbrev pub bound_at : Geometry → List Named → Option Operation → List (List ℕ) → ℕ → List Command
+abbrev pub bound_at : Geometry → List Named → Option Routine → List (List ℕ) → ℕ → List Command
 bound_at g table None names n = []
 bound_at g table (Some operation) names n = bound g.rows operation.shape n
     (binding g table operation.shape names n) (issues_of (operation.trace n))
 
 -- the commands of a bbop in one bank, and how many banks do them
-abbrev pub job_of : Geometry → Operations → List Named → Instruction → Job
+abbrev pub job_of : Geometry → Routines → List Named → Instruction → WaveJob
 job_of g operations table (Bbop op dst srcs count n) = record {
   commands = bound_at g table (operations op) (dst ∷ srcs) n;
   banks = segments g (object_named table dst);
@@ -183,25 +183,25 @@ own_events g table (Free name) = []
 own_events g table (Order order) = []
 
 -- the events of a job, bank by bank
-abbrev pub job_events : Job → List Event
+abbrev pub job_events : WaveJob → List Event
 job_events job = flat_map (λ bank. row_events bank job.commands) (range_with_len 0 job.banks)
 
 -- the events of an instruction that is done
-abbrev pub events_of : Geometry → Operations → List Named → Instruction → List Event
+abbrev pub events_of : Geometry → Routines → List Named → Instruction → List Event
 events_of g operations table instr = job_events (job_of g operations table instr)
     ++ own_events g table instr
 
 -- each column of the first banks goes through the commands, and the other banks stay
-abbrev pub through : Job → Banks → Banks
+abbrev pub through : WaveJob → Banks → Banks
 through job banks = λ bank. if nat_lt bank job.banks then map (run job.commands) (banks bank)
     else banks bank
 
 -- the banks after an instruction that is done
-abbrev pub rowed : Geometry → Operations → List Named → Banks → Instruction → Banks
+abbrev pub rowed : Geometry → Routines → List Named → Banks → Instruction → Banks
 rowed g operations table banks instr = after (own_events g table instr)
     (through (job_of g operations table instr) banks)
 
-abbrev pub banks_after : Geometry → Operations → List Named → Banks → Instruction → Banks
+abbrev pub banks_after : Geometry → Routines → List Named → Banks → Instruction → Banks
 banks_after g operations table banks instr = if_done (refusal g operations table instr)
     (rowed g operations table banks instr) banks
 
@@ -209,7 +209,7 @@ banks_after g operations table banks instr = if_done (refusal g operations table
 abbrev pub times : ℕ → Counts → Counts
 times k c = record { aap = k * c.aap; ap = k * c.ap }
 
-abbrev pub counts_for : Geometry → Operations → List Named → Instruction → Counts
+abbrev pub counts_for : Geometry → Routines → List Named → Instruction → Counts
 counts_for g operations table (Init name count n) =
     record { aap = n * segments g (new_object g table count n); ap = 0 }
 counts_for g operations table (Bbop op dst srcs count n) =
@@ -226,7 +226,7 @@ reply_by None counts = Done counts
 reply_by (Some reason) counts = Refused reason
 
 -- the reply: the first condition that holds, or the counts
-abbrev pub reply_to : Geometry → Operations → List Named → Instruction → Reply
+abbrev pub reply_to : Geometry → Routines → List Named → Instruction → Reply
 reply_to g operations table instr = reply_by (refusal g operations table instr)
     (counts_for g operations table instr)
 
@@ -237,14 +237,14 @@ has_row_in g o bank row = nat_lt bank (segments g o) && has_row o row
 abbrev pub is_among : ℕ → ℕ → ℕ → Bool
 is_among base size row = nat_le base row && nat_lt row (base + size)
 
-abbrev pub is_beside : Geometry → List Named → Option Operation → ℕ → ℕ → Bool
+abbrev pub is_beside : Geometry → List Named → Option Routine → ℕ → ℕ → Bool
 is_beside g table None n row = false
 is_beside g table (Some operation) n row = is_among (base_for g table (need operation.shape n))
     (need operation.shape n) row || is_among (limit_of g) 32 row
 
 -- the rows that an instruction that is done may change: its object's, and of a bbop those of its
 -- destinations, its scratch and the spill group
-abbrev pub touches : Geometry → Operations → List Named → Instruction → ℕ → ℕ → Bool
+abbrev pub touches : Geometry → Routines → List Named → Instruction → ℕ → ℕ → Bool
 touches g operations table (Init name count n) bank row =
     has_row_in g (new_object g table count n) bank row
 touches g operations table (Bbop op dst srcs count n) bank row =
@@ -259,6 +259,6 @@ touches g operations table (Print name) bank row = false
 touches g operations table (Free name) bank row = false
 touches g operations table (Order order) bank row = false
 
-abbrev pub is_touched : Geometry → Operations → List Named → Instruction → ℕ → ℕ → Bool
+abbrev pub is_touched : Geometry → Routines → List Named → Instruction → ℕ → ℕ → Bool
 is_touched g operations table instr bank row =
     if_done (refusal g operations table instr) (touches g operations table instr bank row) false

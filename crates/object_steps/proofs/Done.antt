@@ -20,7 +20,7 @@ use Rattle.bbop_isa.specs.Forms.{Load}
 use Rattle.machine_model.specs.declared.Why.{Why}
 use Rattle.machine_model.specs.declared.Why.TheVariants as why
 use Rattle.machine_model.specs.declared.Reply.TheVariants.{Done, Refused}
-use Rattle.machine_model.specs.Operations.{Operations}
+use Rattle.machine_model.specs.Routines.{Routines}
 use Rattle.machine_model.specs.Refusals.{is_absent, object_named, refusal, at_place, first}
 use Rattle.machine_model.specs.Steps.{if_done, new_object, reply_by}
 use Rattle.object_steps.proofs.Refused.{alone, at_place-map}
@@ -51,14 +51,14 @@ range_found n values found e =
     ∙ at_place-map (λ k. why.Range k) 1 (λ v. nat_le (2 ^ n) v) values
     ∙ ap (option_map (λ i. why.Range (1 + i))) (sym e)
 
-load_range : (g : Geometry) (operations : Operations) (table : List Named) (name values : List ℕ)
+load_range : (g : Geometry) (operations : Routines) (table : List Named) (name values : List ℕ)
     (o : Object) (found : Option ℕ) → is_absent table name ≡ false → o ≡ object_named table name
     → length values ≡ o.count → found ≡ position (λ v. nat_le (2 ^ o.width) v) values
     → refusal g operations table (Load name values) ≡ option_map (λ i. why.Range (1 + i)) found
 load_range g operations table name values o found there e same f =
     rw (there, ← e, eq-eqb (length values) o.count same) (range_found o.width values found f)
 
-pub load_refused : (g : Geometry) (operations : Operations) (table : List Named)
+pub load_refused : (g : Geometry) (operations : Routines) (table : List Named)
     (name values : List ℕ) (o : Object) (at place : ℕ) → is_absent table name ≡ false
     → o ≡ object_named table name → length values ≡ o.count
     → Some at ≡ position (λ v. nat_le (2 ^ o.width) v) values → place ≡ at + 1
@@ -68,7 +68,7 @@ load_refused g operations table name values o at place there e same f h =
     load_range g operations table name values o (Some at) there e same f
     ∙ ap (λ k. Some (why.Range k)) next
 
-pub load_allowed : (g : Geometry) (operations : Operations) (table : List Named)
+pub load_allowed : (g : Geometry) (operations : Routines) (table : List Named)
     (name values : List ℕ) (o : Object) → is_absent table name ≡ false
     → o ≡ object_named table name → length values ≡ o.count
     → None ≡ position (λ v. nat_le (2 ^ o.width) v) values

@@ -10,7 +10,7 @@ use Rattle.object_alloc.specs.Free.{free}
 use Rattle.object_alloc.specs.Listed.{Named, has_name, limit_of, look_up, objects_of}
 use Rattle.bbop_isa.specs.Forms.{Init}
 use Rattle.machine_model.specs.declared.Why.TheVariants as why
-use Rattle.machine_model.specs.Operations.{Operations}
+use Rattle.machine_model.specs.Routines.{Routines}
 use Rattle.machine_model.specs.Refusals.{refusal}
 use Rattle.object_steps.proofs.Found.{look_up-some}
 
@@ -19,19 +19,19 @@ pub tells : (pairs : List Named) (name : List ℕ) (found : Option Object) (told
 tells pairs name found told is e f h =
     sym (look_up-some pairs name) ∙ ap is_some (sym e) ∙ sym f ∙ h
 
-pub exists : (g : Geometry) (operations : Operations) (table : List Named) (name : List ℕ)
+pub exists : (g : Geometry) (operations : Routines) (table : List Named) (name : List ℕ)
     (count n : ℕ) → has_name table name ≡ true
     → refusal g operations table (Init name count n) ≡ Some why.Exists
 exists g operations table name count n old = rw old refl
 
-pub is_full : (g : Geometry) (operations : Operations) (table : List Named) (name : List ℕ)
+pub is_full : (g : Geometry) (operations : Routines) (table : List Named) (name : List ℕ)
     (count n : ℕ) → has_name table name ≡ false → 256 ≤ length table
     → refusal g operations table (Init name count n) ≡ Some why.TableFull
 is_full g operations table name count n new many =
     let full : nat_le 256 (length table) ≡ true = grind (arith, nat_tests) in
     rw (new, full) refl
 
-pub too_large : (g : Geometry) (operations : Operations) (table : List Named) (name : List ℕ)
+pub too_large : (g : Geometry) (operations : Routines) (table : List Named) (name : List ℕ)
     (count n : ℕ) → has_name table name ≡ false → length table < 256
     → column_count g * g.banks < count
     → refusal g operations table (Init name count n) ≡ Some why.TooLarge
@@ -40,7 +40,7 @@ too_large g operations table name count n new few more =
     let large : nat_lt (column_count g * g.banks) count ≡ true = grind (arith, nat_tests) in
     rw (new, room, large) refl
 
-pub no_rows : (g : Geometry) (operations : Operations) (table : List Named) (name : List ℕ)
+pub no_rows : (g : Geometry) (operations : Routines) (table : List Named) (name : List ℕ)
     (count n : ℕ) → has_name table name ≡ false → length table < 256
     → count ≤ column_count g * g.banks → free (limit_of g) (objects_of table) n ≡ None
     → refusal g operations table (Init name count n) ≡ Some why.NoRows
@@ -49,7 +49,7 @@ no_rows g operations table name count n new few fits none =
     let small : nat_lt (column_count g * g.banks) count ≡ false = grind (arith, nat_tests) in
     rw (new, room, small, none) refl
 
-pub may_be_made : (g : Geometry) (operations : Operations) (table : List Named) (name : List ℕ)
+pub may_be_made : (g : Geometry) (operations : Routines) (table : List Named) (name : List ℕ)
     (count n base : ℕ) → has_name table name ≡ false → length table < 256
     → count ≤ column_count g * g.banks → free (limit_of g) (objects_of table) n ≡ Some base
     → refusal g operations table (Init name count n) ≡ None

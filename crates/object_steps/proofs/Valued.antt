@@ -11,7 +11,7 @@ use Rattle.dram_model.specs.declared.geometry.Geometry.{Geometry}
 use Rattle.object_alloc.specs.declared.table.Object.{Object}
 use Rattle.machine_model.specs.Columns.{columns, segments}
 use Rattle.object_alloc.specs.Listed.{Named}
-use Rattle.machine_model.specs.Operations.{Operations}
+use Rattle.machine_model.specs.Routines.{Routines}
 use Rattle.machine_model.specs.Refusals.{is_absent, object_named}
 use Rattle.std.proofs.Math.Seq.{take-append-add}
 use Rattle.std.proofs.lemmas.Bool.{cases_lt}
@@ -308,7 +308,7 @@ line_text before shown colon text last =
     ∙ append_assoc before (shown ++ colon) text)
 
 -- the pieces of the line of an object that there is
-pub printed_is : (g : Geometry) (operations : Operations) (table : List Named) (banks : Banks)
+pub printed_is : (g : Geometry) (operations : Routines) (table : List Named) (banks : Banks)
     (number : ℕ) (name shown head : List ℕ) (o : Object) → is_absent table name ≡ false
     → o ≡ object_named table name
     → head ≡ decimal number ++ codes " " ++ shown ++ codes ":"

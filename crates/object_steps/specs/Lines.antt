@@ -6,7 +6,7 @@ use Rattle.dram_model.specs.View.{ChipView, DidRead}
 use Rattle.object_alloc.specs.Listed.{Named}
 use Rattle.bbop_isa.specs.Forms.{Print}
 use Rattle.machine_model.specs.Columns.{columns}
-use Rattle.machine_model.specs.Operations.{Operations}
+use Rattle.machine_model.specs.Routines.{Routines}
 use Rattle.machine_model.specs.Refusals.{refusal, object_named}
 use Rattle.machine_model.specs.Report.{line}
 use Rattle.machine_model.specs.Report.Said.{Printed}
@@ -22,7 +22,7 @@ values_of g banks table name =
     let o = object_named table name in take o.count (columns g banks o)
 
 -- the line that shows an object's values under a name: none where there is no object
-abbrev pub printed_line : Geometry → Operations → List Named → Banks → ℕ → (name shown : List ℕ)
+abbrev pub printed_line : Geometry → Routines → List Named → Banks → ℕ → (name shown : List ℕ)
     → List ℕ
 printed_line g operations table banks number name shown =
     if_done (refusal g operations table (Print name))

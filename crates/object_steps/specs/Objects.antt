@@ -13,7 +13,7 @@ use Rattle.object_alloc.specs.declared.table.Object.{Object}
 use Rattle.object_alloc.specs.Listed.{Listing, Named, IsTable, limit_of}
 use Rattle.object_alloc.specs.Spelling.{IsObject}
 use Rattle.bbop_isa.specs.Forms.{Instruction}
-use Rattle.machine_model.specs.Operations.{Operations}
+use Rattle.machine_model.specs.Routines.{Routines}
 use Rattle.machine_model.specs.Refusals.{refusal}
 use Rattle.machine_model.specs.Steps.{own_events, if_done}
 
@@ -25,7 +25,7 @@ pub record LiesOn (g : Geometry) (table : Listing) : Type 0 where
   pub objects : All (λ named. IsObject g named.1) table.pairs
 
 -- the events of an instruction that no other stands beside: none where it is refused
-abbrev pub events_alone : Geometry → Operations → List Named → Instruction → List Event
+abbrev pub events_alone : Geometry → Routines → List Named → Instruction → List Event
 events_alone g operations table instr =
     if_done (refusal g operations table instr) (own_events g table instr) []
 

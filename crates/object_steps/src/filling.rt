@@ -12,7 +12,7 @@ ghost use Rattle.object_alloc.specs.Listed.{limit_of};
 ghost use Rattle.object_alloc.specs.Spelling.{IsObject};
 ghost use Rattle.bbop_isa.specs.Forms.{Fill};
 ghost use Rattle.machine_model.specs.Columns.{segments};
-ghost use Rattle.machine_model.specs.Operations.{Operations};
+ghost use Rattle.machine_model.specs.Routines.{Routines};
 ghost use Rattle.machine_model.specs.Refusals.{object_named, refusal};
 ghost use Rattle.machine_model.specs.Steps.{fill_events, reply_to};
 ghost use Rattle.object_steps.specs.Objects.{LiesOn, RisesAtMost, events_alone, filled_in};
@@ -115,9 +115,9 @@ fn fillable(g: Geometry, table: &Table, name: &Name, value: Value) -> Result<Obj
     ensures object { IfOk result (λ o. o ≡ object_named table.now.pairs name.now) }
     ensures fits { IfOk result (IsObject g) }
     ensures rows { IfOk result (λ o. end_of o ≤ limit_of g) }
-    ensures allowed { (operations : Operations) → OnOk result
+    ensures allowed { (operations : Routines) → OnOk result
         (refusal g operations table.now.pairs (Fill name.now value) ≡ None) }
-    ensures refused { (operations : Operations) → IfErr result (λ why.
+    ensures refused { (operations : Routines) → IfErr result (λ why.
         refusal g operations table.now.pairs (Fill name.now value) ≡ Some why) }
 {
     match found(g, table, name) {
@@ -147,16 +147,16 @@ pub fn fill<D: Dram>(
     requires room { (D.view dram.old).counters.aap < 2 ^ 62 }
     ensures borrow { D.borrow dram.new ≡ D.borrow dram.old }
     ensures kept { Kept (D.view dram.old) (D.view dram.new) }
-    ensures reply { (operations : Operations) → IfOk result (λ reply. reply
+    ensures reply { (operations : Routines) → IfOk result (λ reply. reply
         ≡ reply_to g operations table.now.pairs (Fill name.now value)) }
-    ensures did { (operations : Operations) → OnOk result
+    ensures did { (operations : Routines) → OnOk result
         (Did (events_alone g operations table.now.pairs (Fill name.now value)) (D.view dram.old)
         (D.view dram.new)) }
     ensures rises { OnOk result (RisesAtMost (16 * WIDTH_MAX) (D.view dram.old).counters
         (D.view dram.new).counters) }
 
     // Where a call fails, the instruction is not refused, and no bank past the object's is changed.
-    ensures allowed { (operations : Operations) → OnErr result
+    ensures allowed { (operations : Routines) → OnErr result
         (refusal g operations table.now.pairs (Fill name.now value) ≡ None) }
     ensures failed { OnErr result (FailedBelow (segments g (object_named table.now.pairs name.now))
         (D.view dram.old) (D.view dram.new)) }

@@ -10,7 +10,7 @@ ghost use Rattle.object_alloc.specs.Listed.{has_name, limit_of, objects_of};
 ghost use Rattle.bbop_isa.specs.Forms.{Init, Free};
 ghost use Rattle.machine_model.specs.Agrees.{IsPlain};
 ghost use Rattle.machine_model.specs.Columns.{segments};
-ghost use Rattle.machine_model.specs.Operations.{Operations};
+ghost use Rattle.machine_model.specs.Routines.{Routines};
 ghost use Rattle.machine_model.specs.Refusals.{refusal};
 ghost use Rattle.machine_model.specs.Steps.{new_object, reply_to, table_after};
 ghost use Rattle.object_steps.specs.Objects.{LiesOn, RisesAtMost, events_alone};
@@ -38,9 +38,9 @@ fn place(g: Geometry, table: &Table, name: &Name, count: u32, n: u8) -> Result<u
     ensures new { OnOk result (has_name table.now.pairs name.now ≡ false) }
     ensures few { OnOk result (length table.now.pairs < 256) }
     ensures fits { OnOk result (count ≤ column_count g * g.banks) }
-    ensures allowed { (operations : Operations) → OnOk result
+    ensures allowed { (operations : Routines) → OnOk result
         (refusal g operations table.now.pairs (Init name.now count n) ≡ None) }
-    ensures refused { (operations : Operations) → IfErr result (λ why.
+    ensures refused { (operations : Routines) → IfErr result (λ why.
         refusal g operations table.now.pairs (Init name.now count n) ≡ Some why) }
 {
     if table.look_up(name).is_some() {
@@ -75,12 +75,12 @@ pub fn trsp_init<D: Dram>(
     requires room { (D.view dram.old).counters.aap < 2 ^ 62 }
     ensures borrow { D.borrow dram.new ≡ D.borrow dram.old }
     ensures kept { Kept (D.view dram.old) (D.view dram.new) }
-    ensures reply { (operations : Operations) → IfOk result (λ reply. reply
+    ensures reply { (operations : Routines) → IfOk result (λ reply. reply
         ≡ reply_to g operations table.old.pairs (Init name.now count n)) }
-    ensures table { (operations : Operations) → OnOk result (table.new.pairs
+    ensures table { (operations : Routines) → OnOk result (table.new.pairs
         ≡ table_after g operations table.old.pairs (Init name.now count n)) }
     ensures lies { LiesOn g table.new }
-    ensures did { (operations : Operations) → OnOk result
+    ensures did { (operations : Routines) → OnOk result
         (Did (events_alone g operations table.old.pairs (Init name.now count n)) (D.view dram.old)
         (D.view dram.new)) }
     ensures rises { OnOk result (RisesAtMost (16 * WIDTH_MAX) (D.view dram.old).counters
@@ -88,7 +88,7 @@ pub fn trsp_init<D: Dram>(
 
     // Where a call fails, the instruction is not refused, no bank past the new object's is changed,
     // and the table is as before.
-    ensures allowed { (operations : Operations) → OnErr result
+    ensures allowed { (operations : Routines) → OnErr result
         (refusal g operations table.old.pairs (Init name.now count n) ≡ None) }
     ensures failed { OnErr result (FailedBelow (segments g (new_object g table.old.pairs count n))
         (D.view dram.old) (D.view dram.new)) }
@@ -111,9 +111,9 @@ pub fn trsp_init<D: Dram>(
 
 /// `free NAME`: the object is no longer in the table. Its rows keep what they hold.
 pub fn free(table: &mut Table, name: &Name) -> Reply
-    ensures reply { (g : Geometry) (operations : Operations) → result
+    ensures reply { (g : Geometry) (operations : Routines) → result
         ≡ reply_to g operations table.old.pairs (Free name.now) }
-    ensures table { (g : Geometry) (operations : Operations) → table.new.pairs
+    ensures table { (g : Geometry) (operations : Routines) → table.new.pairs
         ≡ table_after g operations table.old.pairs (Free name.now) }
     ensures lies { (g : Geometry) → LiesOn g table.old → LiesOn g table.new }
 {

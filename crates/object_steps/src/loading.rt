@@ -9,7 +9,7 @@ ghost use Rattle.object_alloc.specs.Listed.{limit_of};
 ghost use Rattle.object_alloc.specs.Spelling.{IsObject};
 ghost use Rattle.bbop_isa.specs.Forms.{Load};
 ghost use Rattle.machine_model.specs.Columns.{segments};
-ghost use Rattle.machine_model.specs.Operations.{Operations};
+ghost use Rattle.machine_model.specs.Routines.{Routines};
 ghost use Rattle.machine_model.specs.Refusals.{object_named, refusal};
 ghost use Rattle.machine_model.specs.Steps.{reply_to};
 ghost use Rattle.object_steps.specs.Objects.{LiesOn, RisesAtMost, events_alone};
@@ -46,9 +46,9 @@ fn loadable(g: Geometry, table: &Table, name: &Name, values: &[Value]) -> Result
     ensures rows { IfOk result (λ o. end_of o ≤ limit_of g) }
     ensures count { IfOk result (λ o. length values.now ≡ o.count) }
     ensures small { IfOk result (λ o. All (λ v. v < 2 ^ o.width) values.now) }
-    ensures allowed { (operations : Operations) → OnOk result
+    ensures allowed { (operations : Routines) → OnOk result
         (refusal g operations table.now.pairs (Load name.now values.now) ≡ None) }
-    ensures refused { (operations : Operations) → IfErr result (λ why.
+    ensures refused { (operations : Routines) → IfErr result (λ why.
         refusal g operations table.now.pairs (Load name.now values.now) ≡ Some why) }
 {
     let o = match found(g, table, name) {
@@ -82,16 +82,16 @@ pub fn load<D: Dram>(
     ensures borrow { D.borrow dram.new ≡ D.borrow dram.old }
     ensures kept { Kept (D.view dram.old) (D.view dram.new) }
     ensures stage { length stage.new ≡ length stage.old }
-    ensures reply { (operations : Operations) → IfOk result (λ reply. reply
+    ensures reply { (operations : Routines) → IfOk result (λ reply. reply
         ≡ reply_to g operations table.now.pairs (Load name.now values.now)) }
-    ensures did { (operations : Operations) → OnOk result
+    ensures did { (operations : Routines) → OnOk result
         (Did (events_alone g operations table.now.pairs (Load name.now values.now))
         (D.view dram.old) (D.view dram.new)) }
     ensures rises { OnOk result (RisesAtMost (16 * WIDTH_MAX) (D.view dram.old).counters
         (D.view dram.new).counters) }
 
     // Where a call fails, the instruction is not refused, and no bank past the object's is changed.
-    ensures allowed { (operations : Operations) → OnErr result
+    ensures allowed { (operations : Routines) → OnErr result
         (refusal g operations table.now.pairs (Load name.now values.now) ≡ None) }
     ensures failed { OnErr result (FailedBelow (segments g (object_named table.now.pairs name.now))
         (D.view dram.old) (D.view dram.new)) }

@@ -18,7 +18,7 @@ ghost use Rattle.object_alloc.specs.Spelling.{IsObject};
 ghost use Rattle.transpose_unit.specs.Stage.{stage_rows, stage_number};
 ghost use Rattle.bbop_isa.specs.Forms.{Print};
 ghost use Rattle.machine_model.specs.Columns.{columns, segments};
-ghost use Rattle.machine_model.specs.Operations.{Operations};
+ghost use Rattle.machine_model.specs.Routines.{Routines};
 ghost use Rattle.machine_model.specs.Refusals.{object_named, refusal};
 ghost use Rattle.machine_model.specs.Script.{rows_if_done, rows_printed};
 ghost use Rattle.machine_model.specs.Steps.{reply_to};
@@ -233,22 +233,22 @@ pub fn print<D: Dram, S: Sink>(
     ensures kept { Kept (D.view dram.old) (D.view dram.new) }
     ensures stage { length stage.new ≡ length stage.old }
     ensures sink_faults { (S.view out.old).faults ≤ (S.view out.new).faults }
-    ensures reply { (operations : Operations) → IfOk result (λ reply. reply
+    ensures reply { (operations : Routines) → IfOk result (λ reply. reply
         ≡ reply_to g operations table.now.pairs (Print name.now)) }
-    ensures did { (operations : Operations) → OnOk result
+    ensures did { (operations : Routines) → OnOk result
         (DidRead (rows_if_done rows_printed g operations table.now.pairs (Print name.now))
         (D.view dram.old) (D.view dram.new)) }
     ensures rises { OnOk result (RisesAtMost (16 * WIDTH_MAX) (D.view dram.old).counters
         (D.view dram.new).counters) }
-    ensures sent { (operations : Operations) → OnOk result (Told (λ before after. after
+    ensures sent { (operations : Routines) → OnOk result (Told (λ before after. after
         ≡ before ++ printed_line g operations table.now.pairs (D.view dram.old).banks number
         name.now shown.now) (S.view out.old).sent (S.view out.new).sent) }
 
     // Where a call fails, the instruction is not refused, a prefix of its line was put, and nothing
     // but reads happened on the chip, or a read failed.
-    ensures allowed { (operations : Operations) → OnErr result
+    ensures allowed { (operations : Routines) → OnErr result
         (refusal g operations table.now.pairs (Print name.now) ≡ None) }
-    ensures part { (operations : Operations) → OnErr result (Told (AppendsPart
+    ensures part { (operations : Routines) → OnErr result (Told (AppendsPart
         (printed_line g operations table.now.pairs (D.view dram.old).banks number name.now
         shown.now)) (S.view out.old).sent (S.view out.new).sent) }
     ensures chip_fault { IsErrOf result StepFault.ChipFault → FailedBelow

@@ -17,9 +17,9 @@ use Rattle.op_text.specs.declared.tree.Param.{Param}
 use Rattle.op_text.specs.declared.tree.State.{State}
 use Rattle.op_text.specs.declared.word_ops.WordOp.{WordOp}
 use Rattle.op_text.specs.declared.word_ops.WordOp.TheVariants as o
-use Rattle.op_text.specs.declared.word_ops.Shape.{Shape}
-use Rattle.op_text.specs.declared.word_ops.Shape.TheVariants as shapes
-use Rattle.op_text.specs.WordOps.{Form, row_of, shape_forms, op_text, forms, filled, lacks, is_whole, same_kind}
+use Rattle.op_text.specs.declared.word_ops.Signature.{Signature}
+use Rattle.op_text.specs.declared.word_ops.Signature.TheVariants as signs
+use Rattle.op_text.specs.WordOps.{Form, row_of, signature_forms, op_text, forms, filled, lacks, is_whole, same_kind}
 use Rattle.op_text.specs.Scratch.{term_weight, kind_of}
 use Rattle.op_text.specs.Language.{Term, Nought, Unity, Named, Negation, Conjunction, Disjunction}
 use Rattle.op_text.specs.Language.{Parity, Majority, Equation, Block, Statement, Compute, Visit}
@@ -296,12 +296,12 @@ filled_few (f ∷ fs) given k h e = at (is_whole (lacks given f.takes)) refl
     at false i r g = r g
 
 forms_few : (p : WordOp) → Each HasFew (forms p)
-forms_few p = of (row_of p).shape
+forms_few p = of (row_of p).signature
   where
-    of : (s : Shape) → Each HasFew (shape_forms s)
-    of shapes.OneOf = (omega arith, (omega arith, tt))
-    of shapes.TwoOf = (omega arith, (omega arith, tt))
-    of shapes.Choice = (omega arith, (omega arith, tt))
+    of : (s : Signature) → Each HasFew (signature_forms s)
+    of signs.OneOf = (omega arith, (omega arith, tt))
+    of signs.TwoOf = (omega arith, (omega arith, tt))
+    of signs.Choice = (omega arith, (omega arith, tt))
     of s = (omega arith, tt)
 
 op_short : (p : WordOp) → length (op_text p) ≤ 8

@@ -15,7 +15,7 @@ use Rattle.op_text.specs.WordOps.{forms, filled, second_kind}
 use Rattle.op_text.specs.Rules.{is_among, kind_among}
 use Rattle.op_text.specs.Language.{Equation, Block, Statement, Compute, Visit, Operation, results}
 use Rattle.op_text.specs.Values.{bits}
-use Rattle.op_text.specs.Meaning.{Held, width, holding, holds_nothing, changed, bit_written}
+use Rattle.op_text.specs.Meaning.{NameValue, width, holding, holds_nothing, changed, bit_written}
 use Rattle.op_text.specs.Meaning.{term_bit, assigned, visited, positions, with_blanks, with_states}
 use Rattle.op_text.specs.Meaning.{computed, second_computed, after_statement, after_block}
 use Rattle.op_text.specs.Meaning.{with_sources, after_body}
@@ -44,7 +44,7 @@ this : {V : Type 0} (names : List ℕ → V) (name : List ℕ) (v : V) (m : List
     → bytes_eq name m ≡ true → changed names name v m ≡ v
 this names name v m h = ap (λ b. cond b v (names m)) (turned m name ∙ h)
 
-blanks_other : (n : ℕ) (es : List Equation) (names : List ℕ → Held) (m : List ℕ)
+blanks_other : (n : ℕ) (es : List Equation) (names : List ℕ → NameValue) (m : List ℕ)
     → IsNew (names_in es) m → with_blanks n names es m ≡ names m
 blanks_other n [] names m h = refl
 blanks_other n (e ∷ es) names m h =
@@ -52,7 +52,7 @@ blanks_other n (e ∷ es) names m h =
     (or_second (bytes_eq e.name m) (is_among (names_in es) m) h)
     ∙ unchanged names e.name _ m (or_first (bytes_eq e.name m) (is_among (names_in es) m) h)
 
-states_other : (ss : List State) (names : List ℕ → Held) (m : List ℕ) → IsNew (state_names_of ss) m
+states_other : (ss : List State) (names : List ℕ → NameValue) (m : List ℕ) → IsNew (state_names_of ss) m
     → with_states names ss m ≡ names m
 states_other [] names m h = refl
 states_other (s ∷ ss) names m h =
@@ -61,14 +61,14 @@ states_other (s ∷ ss) names m h =
     ∙ unchanged names s.name _ m (or_first (bytes_eq s.name m) (is_among (state_names_of ss) m) h)
 
 assigned_other : (r : List ℕ → Bool) (i : ℕ) (es : List Equation) (names : List ℕ
-    → Held) (m : List ℕ) → IsNew (names_in es) m → assigned r i names es m ≡ names m
+    → NameValue) (m : List ℕ) → IsNew (names_in es) m → assigned r i names es m ≡ names m
 assigned_other r i [] names m h = refl
 assigned_other r i (e ∷ es) names m h =
     assigned_other r i es (changed names e.name (bit_written i (names e.name) (term_bit r e.value)))
     m (or_second (bytes_eq e.name m) (is_among (names_in es) m) h)
     ∙ unchanged names e.name _ m (or_first (bytes_eq e.name m) (is_among (names_in es) m) h)
 
-visits_other : (block : Block) (ks : List ℕ) (names : List ℕ → Held) (m : List ℕ)
+visits_other : (block : Block) (ks : List ℕ) (names : List ℕ → NameValue) (m : List ℕ)
     → IsNew (names_in block.assigns) m → fold (visited block) names ks m ≡ names m
 visits_other block [] names m h = refl
 visits_other block (k ∷ ks) names m h = visits_other block ks (visited block names k) m h
@@ -114,8 +114,8 @@ others_stay known (Visit b) n names name h =
     ∙ blanks_other n b.assigns names name t
 
 -- what a name holds is of a kind
-pub held_moves : {n : ℕ} {k : Kind} (g h : Held) → g ≡ h → IsHeld n k h → IsHeld n k g
-held_moves {n} {k} g h e i = subst (λ (x : Held). IsHeld n k x) (sym e) i
+pub held_moves : {n : ℕ} {k : Kind} (g h : NameValue) → g ≡ h → IsHeld n k h → IsHeld n k g
+held_moves {n} {k} g h e i = subst (λ (x : NameValue). IsHeld n k x) (sym e) i
 
 length-bits : (v n : ℕ) → length (bits v n) ≡ n
 unfolding bits
@@ -133,7 +133,7 @@ written_held n i Bit Bit bs b h = record { kind = refl; size = refl }
 written_held n i Word Bit bs b h = let e = h.kind in cc
 written_held n i Bit Word bs b h = let e = h.kind in cc
 
-changed_held : (n : ℕ) (k : Kind) (names : List ℕ → Held) (name : List ℕ) (v : Held) (m : List ℕ)
+changed_held : (n : ℕ) (k : Kind) (names : List ℕ → NameValue) (name : List ℕ) (v : NameValue) (m : List ℕ)
     → (m ≡ name → IsHeld n k v) → IsHeld n k (names m) → IsHeld n k (changed names name v m)
 changed_held n k names name v m f g = cases (bytes_eq m name) (λ e. f (same_name m name e))
   where
@@ -142,7 +142,7 @@ changed_held n k names name v m f g = cases (bytes_eq m name) (λ e. f (same_nam
     cases false h = g
 
 assigned_held : (n i : ℕ) (k : Kind) (r : List ℕ → Bool) (es : List Equation) (names : List ℕ
-    → Held) (m : List ℕ) → IsHeld n k (names m) → IsHeld n k (assigned r i names es m)
+    → NameValue) (m : List ℕ) → IsHeld n k (names m) → IsHeld n k (assigned r i names es m)
 assigned_held n i k r [] names m h = h
 assigned_held n i k r (e ∷ es) names m h =
     let v = bit_written i (names e.name) (term_bit r e.value) in
@@ -151,27 +151,27 @@ assigned_held n i k r (e ∷ es) names m h =
     (names e.name).bits (term_bit r e.value)
     (held_moves (names e.name) (names m) (ap names (sym q)) h)) h)
 
-visits_held : (n : ℕ) (k : Kind) (block : Block) (ks : List ℕ) (names : List ℕ → Held) (m : List ℕ)
+visits_held : (n : ℕ) (k : Kind) (block : Block) (ks : List ℕ) (names : List ℕ → NameValue) (m : List ℕ)
     → IsHeld n k (names m) → IsHeld n k (fold (visited block) names ks m)
 visits_held n k block [] names m h = h
 visits_held n k block (i ∷ ks) names m h = visits_held n k block ks (visited block names i) m
     (assigned_held n i k _ block.assigns names m h)
 
-states_keep : (n : ℕ) (ss : List State) (names : List ℕ → Held) (m : List ℕ)
+states_keep : (n : ℕ) (ss : List State) (names : List ℕ → NameValue) (m : List ℕ)
     → IsHeld n Bit (names m) → IsHeld n Bit (with_states names ss m)
 states_keep n [] names m h = h
 states_keep n (s ∷ ss) names m h = states_keep n ss
     (changed names s.name (record { kind = Bit; bits = s.start ∷ [] })) m
     (changed_held n Bit names s.name _ m (λ q. record { kind = refl; size = refl }) h)
 
-states_held : (n : ℕ) (ss : List State) (names : List ℕ → Held) (m : List ℕ)
+states_held : (n : ℕ) (ss : List State) (names : List ℕ → NameValue) (m : List ℕ)
     → is_among (state_names_of ss) m ≡ true → IsHeld n Bit (with_states names ss m)
 states_held n [] names m h = cc
 states_held n (s ∷ ss) names m h = cases (bytes_eq s.name m) refl h (λ names g.
     states_held n ss names m g)
   where
     cases : (b : Bool) → bytes_eq s.name m ≡ b → (b || is_among (state_names_of ss) m) ≡ true
-        → ((names : List ℕ → Held) → is_among (state_names_of ss) m ≡ true
+        → ((names : List ℕ → NameValue) → is_among (state_names_of ss) m ≡ true
         → IsHeld n Bit (with_states names ss m))
         → IsHeld n Bit (with_states (changed names s.name
         (record { kind = Bit; bits = s.start ∷ [] })) ss m)
@@ -181,7 +181,7 @@ states_held n (s ∷ ss) names m h = cases (bytes_eq s.name m) refl h (λ names 
         (record { kind = refl; size = refl }))
     cases false e g go = go _ g
 
-blanks_keep : (n : ℕ) (es : List Equation) (names : List ℕ → Held) (m : List ℕ)
+blanks_keep : (n : ℕ) (es : List Equation) (names : List ℕ → NameValue) (m : List ℕ)
     → IsHeld n Word (names m) → IsHeld n Word (with_blanks n names es m)
 blanks_keep n [] names m h = h
 blanks_keep n (e ∷ es) names m h =
@@ -189,14 +189,14 @@ blanks_keep n (e ∷ es) names m h =
     (changed_held n Word names e.name _ m (λ q.
     record { kind = refl; size = length-replicate n false }) h)
 
-blanks_held : (n : ℕ) (es : List Equation) (names : List ℕ → Held) (m : List ℕ)
+blanks_held : (n : ℕ) (es : List Equation) (names : List ℕ → NameValue) (m : List ℕ)
     → is_among (names_in es) m ≡ true → IsHeld n Word (with_blanks n names es m)
 blanks_held n [] names m h = cc
 blanks_held n (e ∷ es) names m h = cases (bytes_eq e.name m) refl h (λ names g.
     blanks_held n es names m g)
   where
     cases : (b : Bool) → bytes_eq e.name m ≡ b → (b || is_among (names_in es) m) ≡ true
-        → ((names : List ℕ → Held) → is_among (names_in es) m ≡ true
+        → ((names : List ℕ → NameValue) → is_among (names_in es) m ≡ true
         → IsHeld n Word (with_blanks n names es m))
         → IsHeld n Word (with_blanks n (changed names e.name
         (record { kind = Word; bits = replicate n false })) es m)
@@ -207,7 +207,7 @@ blanks_held n (e ∷ es) names m h = cases (bytes_eq e.name m) refl h (λ names 
     cases false q g go = go _ g
 
 -- a name that is known holds what is said of it
-held_known : (n : ℕ) (names : List ℕ → Held) (known : List Param) → Each (Holds n names) known
+held_known : (n : ℕ) (names : List ℕ → NameValue) (known : List Param) → Each (Holds n names) known
     → (a : List ℕ) (k : Kind) → kind_among known a ≡ Some k → IsHeld n k (names a)
 held_known n names [] h a k e = cc
 held_known n names (p ∷ known) h a k e = cases (bytes_eq p.name a) refl e (λ g.
@@ -222,16 +222,16 @@ held_known n names (p ∷ known) h a k e = cases (bytes_eq p.name a) refl e (λ 
         (held_moves (names a) (names p.name) (ap names (sym (same_name p.name a q))) h.0)
     cases false q g go = go g
 
-kinds_known : (n : ℕ) (names : List ℕ → Held) (known : List Param) → Each (Holds n names) known
+kinds_known : (n : ℕ) (names : List ℕ → NameValue) (known : List Param) → Each (Holds n names) known
     → (args : List (List ℕ)) → Each (IsKnown known) args
-    → map (λ (h : Held). h.kind) (map names args) ≡ map (kind_of known) args
+    → map (λ (h : NameValue). h.kind) (map names args) ≡ map (kind_of known) args
 kinds_known n names known h [] k = refl
 kinds_known n names known h (a ∷ args) k =
-    ap (λ j. j ∷ map (λ (h : Held). h.kind) (map names args))
+    ap (λ j. j ∷ map (λ (h : NameValue). h.kind) (map names args))
     (held_known n names known h a (kind_of known a) k.0).kind
     ∙ ap (λ l. kind_of known a ∷ l) (kinds_known n names known h args k.1)
 
-computed_held : (n : ℕ) (names : List ℕ → Held) (c : Context) (target : List ℕ)
+computed_held : (n : ℕ) (names : List ℕ → NameValue) (c : Context) (target : List ℕ)
     (second : Option (List ℕ)) (p : WordOp) (args : List (List ℕ))
     → WordMeets c target second p args → Each (Holds n names) c.known
     → IsHeld n (result_kind c.known p args) (computed n p (map names args))
@@ -241,7 +241,7 @@ computed_held n names c target second p args m h =
     subst (λ (k : Kind). IsHeld n k (computed n p (map names args))) e (holding_held n _ _)
 
 -- each of some names, as parameters of a kind
-params_hold : (n : ℕ) (names : List ℕ → Held) (k : Kind) (ns : List (List ℕ))
+params_hold : (n : ℕ) (names : List ℕ → NameValue) (k : Kind) (ns : List (List ℕ))
     → Each (λ m. IsHeld n k (names m)) ns → Each (Holds n names) (map (λ m. param m k) ns)
 params_hold n names k [] h = tt
 params_hold n names k (m ∷ ns) h = (h.0, params_hold n names k ns h.1)
@@ -270,7 +270,7 @@ each_kept q P (n ∷ ns) h = cases (q n) (each_kept q P ns h.1)
     cases true r = (h.0, r)
     cases false r = r
 
-block_hold : (n : ℕ) (names : List ℕ → Held) (b : Block)
+block_hold : (n : ℕ) (names : List ℕ → NameValue) (b : Block)
     → Each (Holds n (after_block n b names)) (map (λ m. param m Bit) (state_names b)
     ++ map (λ m. param m Word) (word_names b))
 block_hold n names b =
@@ -296,7 +296,7 @@ block_hold n names b =
     ≡ true) (targets b) (each_self (targets b)))
     (filter_each (λ m. not (is_among S m)) (targets b))))
 
-defined_hold : (st : Statement) (c : Context) (n : ℕ) (names : List ℕ → Held) → StatementMeets c st
+defined_hold : (st : Statement) (c : Context) (n : ℕ) (names : List ℕ → NameValue) → StatementMeets c st
     → Each (Holds n names) c.known → Each (Holds n (after_statement n names st))
     (defines c.known st)
 defined_hold (Compute target None p args) c n names m h =
@@ -324,7 +324,7 @@ defined_hold (Compute target (Some second) p args) c n names m h =
 defined_hold (Visit b) c n names m h = block_hold n names b
 
 -- what is known stays as it is
-known_stay : (n : ℕ) (names after : List ℕ → Held) (ps : List Param)
+known_stay : (n : ℕ) (names after : List ℕ → NameValue) (ps : List Param)
     → Each (λ (p : Param). after p.name ≡ names p.name) ps → Each (Holds n names) ps
     → Each (Holds n after) ps
 known_stay n names after [] e h = tt
@@ -351,7 +351,7 @@ kinds_are_kept c st n names m h =
     (each_param (λ a. after_statement n names st a ≡ names a) c.known same) h)
     (defined_hold st c n names m h)
 
-body_hold : (body : List Statement) (c : Context) (n : ℕ) (names : List ℕ → Held) → BodyMeets c body
+body_hold : (body : List Statement) (c : Context) (n : ℕ) (names : List ℕ → NameValue) → BodyMeets c body
     → Each (Holds n names) c.known → Each (Holds n (after_body n body names)) (c.known
     ++ body_defines c.known body)
 body_hold [] c n names m h = subst (λ (l : List Param). Each (Holds n names) l)
@@ -364,7 +364,7 @@ body_hold (st ∷ body) c n names m h =
     (kinds_are_kept c st n names m.0 h))
 
 -- the sources
-sources_other : (n : ℕ) (ps : List Param) (values : List ℕ) (names : List ℕ → Held) (m : List ℕ)
+sources_other : (n : ℕ) (ps : List Param) (values : List ℕ) (names : List ℕ → NameValue) (m : List ℕ)
     → IsNew (names_of ps) m → with_sources n names ps values m ≡ names m
 sources_other n [] values names m h = refl
 sources_other n (p ∷ ps) [] names m h = refl
@@ -373,7 +373,7 @@ sources_other n (p ∷ ps) (v ∷ values) names m h =
     (or_second (bytes_eq p.name m) (is_among (names_of ps) m) h)
     ∙ unchanged names p.name _ m (or_first (bytes_eq p.name m) (is_among (names_of ps) m) h)
 
-sources_hold : (n : ℕ) (ps : List Param) (values : List ℕ) (names : List ℕ → Held)
+sources_hold : (n : ℕ) (ps : List Param) (values : List ℕ) (names : List ℕ → NameValue)
     → Differ (names_of ps) → length values ≡ length ps
     → Each (Holds n (with_sources n names ps values)) ps
 sources_hold n [] values names d l = tt
@@ -424,7 +424,7 @@ parts_meet op front rest m e = split front rest (at_start op)
 pub statements_meet : StatementsMeet
 statements_meet op front rest s m e = (parts_meet op front (s ∷ rest) m e).1.0
 
-results_hold : (n : ℕ) (names : List ℕ → Held) (known : List Param) → Each (Holds n names) known
+results_hold : (n : ℕ) (names : List ℕ → NameValue) (known : List Param) → Each (Holds n names) known
     → (rs : List Param) → Each (λ (r : Param). kind_among known r.name ≡ Some r.kind) rs
     → Each (Holds n names) rs
 results_hold n names known h [] e = tt

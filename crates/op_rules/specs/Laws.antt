@@ -6,7 +6,7 @@ use Rattle.op_text.specs.declared.tree.Kind.{Kind}
 use Rattle.op_text.specs.declared.tree.Param.{Param}
 use Rattle.op_text.specs.declared.word_ops.WordOp.{WordOp}
 use Rattle.op_text.specs.Language.{Statement, Operation, results}
-use Rattle.op_text.specs.Meaning.{Held, width, holds_nothing, after_statement, with_sources}
+use Rattle.op_text.specs.Meaning.{NameValue, width, holds_nothing, after_statement, with_sources}
 use Rattle.op_text.specs.Meaning.{after_body, after_op}
 use Rattle.op_text.specs.Rules.{kind_among}
 use Rattle.op_text.specs.Scratch.{defines, body_defines, scratch_names, scratch_bits, scratch_words}
@@ -67,21 +67,23 @@ TargetsAreApart = (c : Context) (target : List ℕ) (second : Option (List ℕ))
 
 -- A statement leaves each name as it was that it does not define.
 abbrev pub OthersStay : Type 0
-OthersStay = (known : List Param) (s : Statement) (n : ℕ) (names : List ℕ → Held) (name : List ℕ)
+OthersStay = (known : List Param) (s : Statement) (n : ℕ) (names : List ℕ → NameValue)
+    (name : List ℕ)
     → IsNew (names_of (defines known s)) name → after_statement n names s name ≡ names name
 
 -- bits of a kind, as many as it has at width n
-pub record IsHeld (n : ℕ) (k : Kind) (h : Held) : Type 0 where
+pub record IsHeld (n : ℕ) (k : Kind) (h : NameValue) : Type 0 where
   pub kind : h.kind ≡ k
   pub size : length h.bits ≡ width n k
 
-abbrev pub Holds : ℕ → (List ℕ → Held) → Param → Type 0
+abbrev pub Holds : ℕ → (List ℕ → NameValue) → Param → Type 0
 Holds n names p = IsHeld n p.kind (names p.name)
 
 -- Where the names known hold bits of their kinds, they and the names defined do so behind a
 -- statement.
 abbrev pub KindsAreKept : Type 0
-KindsAreKept = (c : Context) (s : Statement) (n : ℕ) (names : List ℕ → Held) → StatementMeets c s
+KindsAreKept = (c : Context) (s : Statement) (n : ℕ) (names : List ℕ → NameValue)
+    → StatementMeets c s
     → Each (Holds n names) c.known → Each (Holds n (after_statement n names s)) (behind c s).known
 
 -- Behind the first statements of an op the names that are then known hold bits of their kinds, and

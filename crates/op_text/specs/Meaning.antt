@@ -26,7 +26,7 @@ term_bit r (Parity a b) = differ (term_bit r a) (term_bit r b)
 term_bit r (Majority a b c) = majority (term_bit r a) (term_bit r b) (term_bit r c)
 
 -- what a name holds: n bits for a word, the lowest first, and one for a bit
-pub record Held : Type 0 where
+pub record NameValue : Type 0 where
   pub kind : Kind
   pub bits : List Bool
 
@@ -34,14 +34,14 @@ abbrev pub width : ℕ → Kind → ℕ
 width n Word = n
 width n Bit = 1
 
-abbrev pub holding : ℕ → Kind → ℕ → Held
+abbrev pub holding : ℕ → Kind → ℕ → NameValue
 holding n k v = record { kind = k; bits = bits v (width n k) }
 
-abbrev pub number : Held → ℕ
+abbrev pub number : NameValue → ℕ
 number h = value h.bits
 
 -- before anything is set each name holds the bit 0
-abbrev pub holds_nothing : List ℕ → Held
+abbrev pub holds_nothing : List ℕ → NameValue
 holds_nothing name = record { kind = Bit; bits = false ∷ [] }
 
 -- the names, but this one now has another value
@@ -49,13 +49,13 @@ abbrev pub changed : {V : Type 0} → (List ℕ → V) → List ℕ → V → Li
 changed names name v = λ n. if bytes_eq n name then v else names n
 
 -- the bit that is read at a position
-abbrev pub bit_read : ℕ → Held → Bool
+abbrev pub bit_read : ℕ → NameValue → Bool
 bit_read i h = elim h.kind [
   | Word ↦ slice_index_or h.bits i false
   | Bit ↦ slice_index_or h.bits 0 false
 ]
 
-abbrev pub bit_written : ℕ → Held → Bool → Held
+abbrev pub bit_written : ℕ → NameValue → Bool → NameValue
 bit_written i h b = record h { bits = elim h.kind [ Word ↦ slice_set h.bits i b | Bit ↦ b ∷ [] ] }
 
 -- each let names its expression's value, for those behind it
@@ -64,13 +64,14 @@ with_lets r [] = r
 with_lets r (e ∷ es) = with_lets (changed r e.name (term_bit r e.value)) es
 
 -- the assigned names, where all right sides are valued on r
-abbrev pub assigned : (List ℕ → Bool) → ℕ → (List ℕ → Held) → List Equation → List ℕ → Held
+abbrev pub assigned : (List ℕ → Bool) → ℕ → (List ℕ → NameValue) → List Equation → List ℕ
+    → NameValue
 assigned r i names [] = names
 assigned r i names (e ∷ es) =
     assigned r i (changed names e.name (bit_written i (names e.name) (term_bit r e.value))) es
 
 -- one position of a block
-abbrev pub visited : Block → (List ℕ → Held) → ℕ → List ℕ → Held
+abbrev pub visited : Block → (List ℕ → NameValue) → ℕ → List ℕ → NameValue
 visited block names i = assigned (with_lets (λ n. bit_read i (names n)) block.lets) i names
     block.assigns
 
@@ -86,64 +87,64 @@ abbrev pub positions : Bool → ℕ → List ℕ
 positions down n = if down then downwards n else upwards n
 
 -- before the first position: the assigned words are blank, and the states have their starts
-abbrev pub with_blanks : ℕ → (List ℕ → Held) → List Equation → List ℕ → Held
+abbrev pub with_blanks : ℕ → (List ℕ → NameValue) → List Equation → List ℕ → NameValue
 with_blanks n names [] = names
 with_blanks n names (e ∷ es) =
     with_blanks n (changed names e.name (record { kind = Word; bits = replicate n false })) es
 
-abbrev pub with_states : (List ℕ → Held) → List State → List ℕ → Held
+abbrev pub with_states : (List ℕ → NameValue) → List State → List ℕ → NameValue
 with_states names [] = names
 with_states names (s ∷ ss) =
     with_states (changed names s.name (record { kind = Bit; bits = s.start ∷ [] })) ss
 
-abbrev pub after_block : ℕ → Block → (List ℕ → Held) → List ℕ → Held
+abbrev pub after_block : ℕ → Block → (List ℕ → NameValue) → List ℕ → NameValue
 after_block n block names =
     fold (visited block) (with_states (with_blanks n names block.assigns) block.states)
     (positions block.down n)
 
 -- the width of an operation's arguments, which are all words or all bits but for the third
-abbrev pub args_width : ℕ → List Held → ℕ
+abbrev pub args_width : ℕ → List NameValue → ℕ
 args_width n [] = n
 args_width n (h ∷ hs) = width n h.kind
 
-abbrev pub computed : ℕ → WordOp → List Held → Held
+abbrev pub computed : ℕ → WordOp → List NameValue → NameValue
 computed n p args =
     holding n (unwrap_or (filled (forms p) (map (λ h. h.kind) args)) Word)
     (op_value p (args_width n args) (map number args))
 
 -- what the second target is given, where there is one
-abbrev pub second_computed : ℕ → WordOp → List Held → Held
+abbrev pub second_computed : ℕ → WordOp → List NameValue → NameValue
 second_computed n p args =
     holding n (second_gives p) (second_value p (args_width n args) (map number args))
 
 -- the names, but the second target, if there is one, now has this value
-abbrev pub with_second : (List ℕ → Held) → Option (List ℕ) → Held → List ℕ → Held
+abbrev pub with_second : (List ℕ → NameValue) → Option (List ℕ) → NameValue → List ℕ → NameValue
 with_second names None h = names
 with_second names (Some name) h = changed names name h
 
-abbrev pub after_statement : ℕ → (List ℕ → Held) → Statement → List ℕ → Held
+abbrev pub after_statement : ℕ → (List ℕ → NameValue) → Statement → List ℕ → NameValue
 after_statement n names (Compute target second p args) =
     with_second (changed names target (computed n p (map names args))) second
     (second_computed n p (map names args))
 after_statement n names (Visit block) = after_block n block names
 
 -- the sources
-abbrev pub with_sources : ℕ → (List ℕ → Held) → List Param → List ℕ → List ℕ → Held
+abbrev pub with_sources : ℕ → (List ℕ → NameValue) → List Param → List ℕ → List ℕ → NameValue
 with_sources n names [] values = names
 with_sources n names (p ∷ ps) [] = names
 with_sources n names (p ∷ ps) (v ∷ values) = with_sources n
     (changed names p.name (holding n p.kind v)) ps values
 
 -- the names behind these statements
-abbrev pub after_body : ℕ → List Statement → (List ℕ → Held) → List ℕ → Held
+abbrev pub after_body : ℕ → List Statement → (List ℕ → NameValue) → List ℕ → NameValue
 after_body n body names = fold (after_statement n) names body
 
 -- what names hold behind an op, from the sources' numbers
-abbrev pub after_op : Operation → ℕ → List ℕ → List ℕ → Held
+abbrev pub after_op : Operation → ℕ → List ℕ → List ℕ → NameValue
 after_op op n values = after_body n op.body (with_sources n holds_nothing op.params values)
 
 -- what the one or two results hold
-abbrev pub outcomes : Operation → ℕ → List ℕ → List Held
+abbrev pub outcomes : Operation → ℕ → List ℕ → List NameValue
 outcomes op n values = map (after_op op n values) (result_names op)
 
 -- the results' numbers
@@ -154,4 +155,4 @@ meaning op n values = map number (outcomes op n values)
 -- bit.
 abbrev pub MeaningFits : Type 0
 MeaningFits = (op : Operation) (n : ℕ) (values : List ℕ)
-    → AllByRecursion (λ (h : Held). number h < 2 ^ width n h.kind) (outcomes op n values)
+    → AllByRecursion (λ (h : NameValue). number h < 2 ^ width n h.kind) (outcomes op n values)

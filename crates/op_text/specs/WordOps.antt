@@ -8,8 +8,8 @@ use Rattle.op_text.specs.declared.word_ops.WordOp.{WordOp}
 use Rattle.op_text.specs.declared.word_ops.WordOp.TheVariants as o
 use Rattle.op_text.specs.declared.word_ops.TheConstants.{WORD_OPS}
 use Rattle.op_text.specs.declared.word_ops.WordRow.{WordRow}
-use Rattle.op_text.specs.declared.word_ops.Shape.{Shape}
-use Rattle.op_text.specs.declared.word_ops.Shape.TheVariants as shapes
+use Rattle.op_text.specs.declared.word_ops.Signature.{Signature}
+use Rattle.op_text.specs.declared.word_ops.Signature.TheVariants as signs
 
 -- an operation's place in the table
 abbrev pub number : WordOp → ℕ
@@ -47,7 +47,7 @@ word_rows = map (λ r. (r.0.now, r.1)) WORD_OPS
 
 abbrev pub row_at : ℕ → List ℕ × WordRow
 row_at k = slice_index_or word_rows k
-    ([], record { op = o.Not; shape = shapes.Nothing; second = None; bits = 0; words = 0 })
+    ([], record { op = o.Not; signature = signs.Nothing; second = None; bits = 0; words = 0 })
 
 abbrev pub row_of : WordOp → WordRow
 row_of p = (row_at (number p)).1
@@ -87,19 +87,19 @@ word_to k = form (Word ∷ []) k ∷ []
 abbrev pub words_to : Kind → List Form
 words_to k = form (Word ∷ Word ∷ []) k ∷ []
 
--- the forms of each shape
-abbrev pub shape_forms : Shape → List Form
-shape_forms shapes.Nothing = form [] Word ∷ []
-shape_forms shapes.OneOf = of_one
-shape_forms shapes.TwoOf = of_two
-shape_forms (shapes.OneWord k) = word_to k
-shape_forms (shapes.TwoWords k) = words_to k
-shape_forms shapes.Choice = form (Word ∷ Word ∷ Bit ∷ []) Word ∷ form (Bit ∷ Bit ∷ Bit ∷ []) Bit
+-- the forms of each signature
+abbrev pub signature_forms : Signature → List Form
+signature_forms signs.Nothing = form [] Word ∷ []
+signature_forms signs.OneOf = of_one
+signature_forms signs.TwoOf = of_two
+signature_forms (signs.OneWord k) = word_to k
+signature_forms (signs.TwoWords k) = words_to k
+signature_forms signs.Choice = form (Word ∷ Word ∷ Bit ∷ []) Word ∷ form (Bit ∷ Bit ∷ Bit ∷ []) Bit
     ∷ []
 
 -- the forms of each operation
 abbrev pub forms : WordOp → List Form
-forms p = shape_forms (row_of p).shape
+forms p = signature_forms (row_of p).signature
 
 -- the kind of the second result, if the operation has one
 abbrev pub second_kind : WordOp → Option Kind

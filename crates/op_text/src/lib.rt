@@ -22,6 +22,6 @@ pub use names::names_are_names;
 pub use terminal::{Spelling, Terminal, spelling_of, terminal_of};
 pub use tree::{Assign, Expr, Kind, Op, Ops, Param, State, Stmt};
 pub use word_ops::{
-    Shape, WORD_OPS, WordOp, WordRow, bits_inside, filled, given_first, may_take, op_name, op_of,
-    second_kind, wants_more, words_inside,
+    Signature, WORD_OPS, WordOp, WordRow, bits_inside, filled, given_first, may_take, op_name,
+    op_of, second_kind, wants_more, words_inside,
 };

@@ -1,15 +1,15 @@
-//! The word operations: how they are spelled, what they take and give, and the scratch that they need.
+//! The table of word operations: names, what they take and give, and the scratch that they need.
 
 ghost use Rattle.std.specs.Prelude.{◌≡◌, [], ◌∷◌, Some, None, map};
 ghost use Rattle.op_text.specs.WordOps.{op_named, op_text, row_of, first_named, forms};
-ghost use Rattle.op_text.specs.WordOps.{shape_forms, may_take, wants_more, has_all, filled};
+ghost use Rattle.op_text.specs.WordOps.{signature_forms, may_take, wants_more, has_all, filled};
 ghost use Rattle.op_text.specs.WordOps.{given_first, same_kind, second_kind};
 ghost use Rattle.op_text.specs.Scratch.{bits_inside, words_inside};
 ghost use Rattle.op_text.specs.declared.tree.Kind.TheVariants.{Word};
 
 use crate::tree::Kind;
 use crate::tree::Kind::{Bit, Word};
-use Shape::{Choice, Nothing, OneOf, OneWord, TwoOf, TwoWords};
+use Signature::{Choice, Nothing, OneOf, OneWord, TwoOf, TwoWords};
 
 /// The word operations. Each has a row in [`WORD_OPS`].
 #[derive(Clone, Copy, Debug, PartialEq, Eq)]
@@ -46,7 +46,7 @@ pub enum WordOp {
 
 /// What an operation takes and gives.
 #[derive(Clone, Copy, Debug)]
-pub enum Shape {
+pub enum Signature {
     /// No argument; it gives a word.
     Nothing,
     /// A word, and it gives a word; or a bit, and it gives a bit.
@@ -65,7 +65,7 @@ pub enum Shape {
 #[derive(Clone, Copy, Debug)]
 pub struct WordRow {
     pub op: WordOp,
-    pub shape: Shape,
+    pub signature: Signature,
     /// The kind of a second result.
     pub second: Option<Kind>,
     /// Internal scratch, in single rows.
@@ -76,10 +76,10 @@ pub struct WordRow {
 
 // the fields of a row on one line
 macro_rules! row {
-    ($op:ident, $shape:expr, $second:expr, $bits:literal, $words:literal) => {
+    ($op:ident, $signature:expr, $second:expr, $bits:literal, $words:literal) => {
         WordRow {
             op: WordOp::$op,
-            shape: $shape,
+            signature: $signature,
             second: $second,
             bits: $bits,
             words: $words,
@@ -154,10 +154,10 @@ pub fn op_of(name: &[u8]) -> Option<WordOp>
     op_in(&WORD_OPS, name)
 }
 
-fn shape_of(op: WordOp) -> Shape
-    ensures { shape_forms result ≡ forms op }
+fn signature_of(op: WordOp) -> Signature
+    ensures { signature_forms result ≡ forms op }
 {
-    row_of(op).shape
+    row_of(op).signature
 }
 
 fn is_word(kind: Kind) -> bool
@@ -178,33 +178,33 @@ fn is_same(a: Kind, b: Kind) -> bool
     }
 }
 
-fn may_begin(shape: Shape, kind: Kind) -> bool
-    ensures { result ≡ may_take (shape_forms shape) [] kind }
+fn may_begin(signature: Signature, kind: Kind) -> bool
+    ensures { result ≡ may_take (signature_forms signature) [] kind }
 {
-    match shape {
-        Shape::Nothing => false,
-        Shape::OneWord(_) => is_word(kind),
-        Shape::TwoWords(_) => is_word(kind),
+    match signature {
+        Signature::Nothing => false,
+        Signature::OneWord(_) => is_word(kind),
+        Signature::TwoWords(_) => is_word(kind),
         _ => true,
     }
 }
 
-fn may_be_second(shape: Shape, first: Kind, kind: Kind) -> bool
-    ensures { result ≡ may_take (shape_forms shape) (first ∷ []) kind }
+fn may_be_second(signature: Signature, first: Kind, kind: Kind) -> bool
+    ensures { result ≡ may_take (signature_forms signature) (first ∷ []) kind }
 {
-    match shape {
-        Shape::TwoOf => is_same(first, kind),
-        Shape::TwoWords(_) => is_word(first) && is_word(kind),
-        Shape::Choice => is_same(first, kind),
+    match signature {
+        Signature::TwoOf => is_same(first, kind),
+        Signature::TwoWords(_) => is_word(first) && is_word(kind),
+        Signature::Choice => is_same(first, kind),
         _ => false,
     }
 }
 
-fn may_be_third(shape: Shape, first: Kind, second: Kind, kind: Kind) -> bool
-    ensures { result ≡ may_take (shape_forms shape) (first ∷ second ∷ []) kind }
+fn may_be_third(signature: Signature, first: Kind, second: Kind, kind: Kind) -> bool
+    ensures { result ≡ may_take (signature_forms signature) (first ∷ second ∷ []) kind }
 {
-    match shape {
-        Shape::Choice => is_same(first, second) && !is_word(kind),
+    match signature {
+        Signature::Choice => is_same(first, second) && !is_word(kind),
         _ => false,
     }
 }
@@ -213,40 +213,40 @@ fn may_be_third(shape: Shape, first: Kind, second: Kind, kind: Kind) -> bool
 pub fn may_take(op: WordOp, given: &[Kind], kind: Kind) -> bool
     ensures { result ≡ may_take (forms op) given.now kind }
 {
-    let shape = shape_of(op);
+    let signature = signature_of(op);
     match given {
-        [] => may_begin(shape, kind),
-        [first] => may_be_second(shape, *first, kind),
-        [first, second] => may_be_third(shape, *first, *second, kind),
+        [] => may_begin(signature, kind),
+        [first] => may_be_second(signature, *first, kind),
+        [first, second] => may_be_third(signature, *first, *second, kind),
         _ => false,
     }
 }
 
-fn goes_on_one(shape: Shape, first: Kind) -> bool
-    ensures { result ≡ wants_more (shape_forms shape) (first ∷ []) }
+fn goes_on_one(signature: Signature, first: Kind) -> bool
+    ensures { result ≡ wants_more (signature_forms signature) (first ∷ []) }
 {
-    match shape {
-        Shape::TwoOf => true,
-        Shape::TwoWords(_) => is_word(first),
-        Shape::Choice => true,
+    match signature {
+        Signature::TwoOf => true,
+        Signature::TwoWords(_) => is_word(first),
+        Signature::Choice => true,
         _ => false,
     }
 }
 
-fn goes_on_two(shape: Shape, first: Kind, second: Kind) -> bool
-    ensures { result ≡ wants_more (shape_forms shape) (first ∷ second ∷ []) }
+fn goes_on_two(signature: Signature, first: Kind, second: Kind) -> bool
+    ensures { result ≡ wants_more (signature_forms signature) (first ∷ second ∷ []) }
 {
-    match shape {
-        Shape::Choice => is_same(first, second),
+    match signature {
+        Signature::Choice => is_same(first, second),
         _ => false,
     }
 }
 
-fn takes_some(shape: Shape) -> bool
-    ensures { result ≡ wants_more (shape_forms shape) [] }
+fn takes_some(signature: Signature) -> bool
+    ensures { result ≡ wants_more (signature_forms signature) [] }
 {
-    match shape {
-        Shape::Nothing => false,
+    match signature {
+        Signature::Nothing => false,
         _ => true,
     }
 }
@@ -255,35 +255,35 @@ fn takes_some(shape: Shape) -> bool
 pub fn wants_more(op: WordOp, given: &[Kind]) -> bool
     ensures { result ≡ wants_more (forms op) given.now }
 {
-    let shape = shape_of(op);
+    let signature = signature_of(op);
     match given {
-        [] => takes_some(shape),
-        [first] => goes_on_one(shape, *first),
-        [first, second] => goes_on_two(shape, *first, *second),
+        [] => takes_some(signature),
+        [first] => goes_on_one(signature, *first),
+        [first, second] => goes_on_two(signature, *first, *second),
         _ => false,
     }
 }
 
-fn given_one(shape: Shape, first: Kind) -> Option<Kind>
-    ensures { result ≡ filled (shape_forms shape) (first ∷ []) }
+fn given_one(signature: Signature, first: Kind) -> Option<Kind>
+    ensures { result ≡ filled (signature_forms signature) (first ∷ []) }
 {
-    match shape {
-        Shape::OneOf => Some(first),
-        Shape::OneWord(kind) => if is_word(first) { Some(kind) } else { None },
+    match signature {
+        Signature::OneOf => Some(first),
+        Signature::OneWord(kind) => if is_word(first) { Some(kind) } else { None },
         _ => None,
     }
 }
 
-fn given_two(shape: Shape, first: Kind, second: Kind) -> Option<Kind>
-    ensures { result ≡ filled (shape_forms shape) (first ∷ second ∷ []) }
+fn given_two(signature: Signature, first: Kind, second: Kind) -> Option<Kind>
+    ensures { result ≡ filled (signature_forms signature) (first ∷ second ∷ []) }
 {
-    match shape {
-        Shape::TwoOf => if is_same(first, second) {
+    match signature {
+        Signature::TwoOf => if is_same(first, second) {
             Some(first)
         } else {
             None
         },
-        Shape::TwoWords(kind) => if is_word(first) && is_word(second) {
+        Signature::TwoWords(kind) => if is_word(first) && is_word(second) {
             Some(kind)
         } else {
             None
@@ -292,11 +292,11 @@ fn given_two(shape: Shape, first: Kind, second: Kind) -> Option<Kind>
     }
 }
 
-fn given_three(shape: Shape, first: Kind, second: Kind, third: Kind) -> Option<Kind>
-    ensures { result ≡ filled (shape_forms shape) (first ∷ second ∷ third ∷ []) }
+fn given_three(signature: Signature, first: Kind, second: Kind, third: Kind) -> Option<Kind>
+    ensures { result ≡ filled (signature_forms signature) (first ∷ second ∷ third ∷ []) }
 {
-    match shape {
-        Shape::Choice => if is_same(first, second) && !is_word(third) {
+    match signature {
+        Signature::Choice => if is_same(first, second) && !is_word(third) {
             Some(first)
         } else {
             None
@@ -305,11 +305,11 @@ fn given_three(shape: Shape, first: Kind, second: Kind, third: Kind) -> Option<K
     }
 }
 
-fn given_none(shape: Shape) -> Option<Kind>
-    ensures { result ≡ filled (shape_forms shape) [] }
+fn given_none(signature: Signature) -> Option<Kind>
+    ensures { result ≡ filled (signature_forms signature) [] }
 {
-    match shape {
-        Shape::Nothing => Some(Kind::Word),
+    match signature {
+        Signature::Nothing => Some(Kind::Word),
         _ => None,
     }
 }
@@ -318,12 +318,12 @@ fn given_none(shape: Shape) -> Option<Kind>
 pub fn filled(op: WordOp, given: &[Kind]) -> Option<Kind>
     ensures { result ≡ filled (forms op) given.now }
 {
-    let shape = shape_of(op);
+    let signature = signature_of(op);
     match given {
-        [] => given_none(shape),
-        [first] => given_one(shape, *first),
-        [first, second] => given_two(shape, *first, *second),
-        [first, second, third] => given_three(shape, *first, *second, *third),
+        [] => given_none(signature),
+        [first] => given_one(signature, *first),
+        [first, second] => given_two(signature, *first, *second),
+        [first, second, third] => given_three(signature, *first, *second, *third),
         _ => None,
     }
 }
@@ -332,32 +332,32 @@ pub fn filled(op: WordOp, given: &[Kind]) -> Option<Kind>
 pub fn given_first(op: WordOp, first: Option<Kind>) -> Kind
     ensures { result ≡ given_first (forms op) first }
 {
-    let shape = shape_of(op);
+    let signature = signature_of(op);
     match first {
-        None => given_alone(shape),
-        Some(first) => given_behind(shape, first),
+        None => given_alone(signature),
+        Some(first) => given_behind(signature, first),
     }
 }
 
-fn given_behind(shape: Shape, first: Kind) -> Kind
-    ensures { result ≡ given_first (shape_forms shape) (Some first) }
+fn given_behind(signature: Signature, first: Kind) -> Kind
+    ensures { result ≡ given_first (signature_forms signature) (Some first) }
 {
-    match shape {
-        Shape::Nothing => Kind::Word,
-        Shape::OneOf => first,
-        Shape::TwoOf => first,
-        Shape::Choice => first,
-        Shape::OneWord(kind) => if is_word(first) { kind } else { Kind::Word },
-        Shape::TwoWords(kind) => if is_word(first) { kind } else { Kind::Word },
+    match signature {
+        Signature::Nothing => Kind::Word,
+        Signature::OneOf => first,
+        Signature::TwoOf => first,
+        Signature::Choice => first,
+        Signature::OneWord(kind) => if is_word(first) { kind } else { Kind::Word },
+        Signature::TwoWords(kind) => if is_word(first) { kind } else { Kind::Word },
     }
 }
 
-fn given_alone(shape: Shape) -> Kind
-    ensures { result ≡ given_first (shape_forms shape) None }
+fn given_alone(signature: Signature) -> Kind
+    ensures { result ≡ given_first (signature_forms signature) None }
 {
-    match shape {
-        Shape::Nothing | Shape::OneOf | Shape::TwoOf | Shape::Choice => Kind::Word,
-        Shape::OneWord(_) | Shape::TwoWords(_) => Kind::Word,
+    match signature {
+        Signature::Nothing | Signature::OneOf | Signature::TwoOf | Signature::Choice => Kind::Word,
+        Signature::OneWord(_) | Signature::TwoWords(_) => Kind::Word,
     }
 }
 

@@ -134,14 +134,14 @@ struct Beam {
 
 /// A node that can be made, or its complement, and how many of its operands are not in place.
 #[derive(Clone, Copy)]
-struct Job {
+struct Candidate {
     node: u8,
     operands: [Lit; 3],
     sensed: Lit,
     missing: u32,
 }
 
-fn job_of(task: &Task, s: &State, node: u8, inverted: bool) -> Option<Job> {
+fn candidate_of(task: &Task, s: &State, node: u8, inverted: bool) -> Option<Candidate> {
     let operands = task.operands(node)?;
     if !s.unmade.has(node) || !is_ready(task, s, operands) {
         return None;
@@ -152,7 +152,7 @@ fn job_of(task: &Task, s: &State, node: u8, inverted: bool) -> Option<Job> {
     } else {
         (operands, straight)
     };
-    Some(Job {
+    Some(Candidate {
         node,
         operands,
         sensed: task.lit_of(node, inverted),
@@ -161,14 +161,14 @@ fn job_of(task: &Task, s: &State, node: u8, inverted: bool) -> Option<Job> {
 }
 
 /// The nodes that can be made from a state.
-fn jobs(task: &Task, s: &State, alloc: Global) -> Result<Vec<Job>, NoMemory> {
-    let mut jobs = Vec::new(alloc);
+fn candidates(task: &Task, s: &State, alloc: Global) -> Result<Vec<Candidate>, NoMemory> {
+    let mut candidates = Vec::new(alloc);
     for k in 0..64u8 {
-        if let Some(job) = job_of(task, s, k / 2, k % 2 == 1) {
-            keep(&mut jobs, job)?;
+        if let Some(candidate) = candidate_of(task, s, k / 2, k % 2 == 1) {
+            keep(&mut candidates, candidate)?;
         }
     }
-    Ok(jobs)
+    Ok(candidates)
 }
 
 impl Beam {
@@ -264,16 +264,16 @@ impl Beam {
         task: &Task,
         parent: &Entry,
         at: usize,
-        job: &Job,
+        candidate: &Candidate,
         most: usize,
     ) -> Result<(), NoMemory> {
         let mut made = parent.state;
-        made.unmade = made.unmade.without(job.node);
+        made.unmade = made.unmade.without(candidate.node);
         let nodes = points_of_nodes(task, &made);
         for number in 0..24u8 {
-            let line_up = LineUp::new(number, job.node, job.operands, job.sensed);
+            let line_up = LineUp::new(number, candidate.node, candidate.operands, candidate.sensed);
             let missing = lacking(&line_up.want, &parent.state.cells).len();
-            if missing == job.missing && self.tried < most {
+            if missing == candidate.missing && self.tried < most {
                 self.try_line_up(task, parent, at, nodes, &line_up)?;
             }
         }
@@ -286,13 +286,13 @@ impl Beam {
         task: &Task,
         parent: &Entry,
         at: usize,
-        jobs: &[Job],
+        candidates: &[Candidate],
         missing: u32,
         most: usize,
     ) -> Result<(), NoMemory> {
-        for job in jobs {
-            if job.missing == missing {
-                self.try_job(task, parent, at, job, most)?;
+        for candidate in candidates {
+            if candidate.missing == missing {
+                self.try_job(task, parent, at, candidate, most)?;
             }
         }
         Ok(())
@@ -319,10 +319,10 @@ impl Beam {
         let at = self.done.len();
         keep(&mut self.done, *parent)?;
         self.try_writes(task, parent, at)?;
-        let jobs = jobs(task, &parent.state, alloc)?;
+        let candidates = candidates(task, &parent.state, alloc)?;
         let most = self.tried.saturating_add(usize::max(share, 1));
         for missing in 0..4u32 {
-            self.try_jobs(task, parent, at, &jobs, missing, most)?;
+            self.try_jobs(task, parent, at, &candidates, missing, most)?;
         }
         Ok(())
     }

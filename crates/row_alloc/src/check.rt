@@ -14,7 +14,7 @@ ghost use Rattle.row_alloc.specs.Table.{symbols_of, is_kept};
 use crate::body::{BodyCmd, BodyRef, OutRow};
 use crate::legal::all_legal;
 use crate::sensing::sense;
-use crate::table::Table;
+use crate::table::CellLiterals;
 use dram_model::{Addr, lines};
 use mig_graph::{Lit, Mig};
 
@@ -50,7 +50,7 @@ fn own_row(outs: &[OutRow], j: u8) -> u16
 }
 
 /// What an address senses; its cells take it.
-fn activate(m: &Mig, table: &mut Table, x: Addr) -> Option<Lit>
+fn activate(m: &Mig, table: &mut CellLiterals, x: Addr) -> Option<Lit>
     requires address { is_address x ≡ true }
     requires kept { list_all (λ line. is_kept line.cell) (lines_of x) ≡ true }
     ensures value { result ≡ sym_sense m.now x (symbols_of table.old) }
@@ -64,7 +64,7 @@ fn activate(m: &Mig, table: &mut Table, x: Addr) -> Option<Lit>
 }
 
 /// One command.
-fn step(m: &Mig, outs: &[OutRow], table: &mut Table, cmd: BodyCmd)
+fn step(m: &Mig, outs: &[OutRow], table: &mut CellLiterals, cmd: BodyCmd)
     requires fit { FitBody m.now outs.now }
     requires legal { is_legal_cmd m.now.inputs (length outs.now) cmd ≡ true }
     ensures { symbols_of table.new ≡ sym_step m.now (bound (own_rows outs.now) cmd)
@@ -83,7 +83,7 @@ fn step(m: &Mig, outs: &[OutRow], table: &mut Table, cmd: BodyCmd)
 }
 
 /// All commands, in order.
-fn follow(m: &Mig, outs: &[OutRow], table: &mut Table, cmds: &[BodyCmd])
+fn follow(m: &Mig, outs: &[OutRow], table: &mut CellLiterals, cmds: &[BodyCmd])
     requires fit { FitBody m.now outs.now }
     requires legal { are_legal m.now.inputs (length outs.now) cmds.now ≡ true }
     ensures { symbols_of table.new ≡ sym_run m.now (map (bound (own_rows outs.now)) cmds.now)
@@ -95,7 +95,7 @@ fn follow(m: &Mig, outs: &[OutRow], table: &mut Table, cmds: &[BodyCmd])
 }
 
 /// Whether each output's cell holds its literal.
-fn ends_right(outs: &[OutRow], inputs: u8, table: &Table) -> bool
+fn ends_right(outs: &[OutRow], inputs: u8, table: &CellLiterals) -> bool
     requires outs { length outs.now ≤ 8 }
     requires inputs { inputs ≤ 80 }
     requires same { (j k : ℕ) → j < length outs.now → (out_at outs.now j).same ≡ Some k
@@ -125,7 +125,7 @@ pub fn check_body(m: &Mig, outs: &[OutRow], cmds: &[BodyCmd]) -> bool
     if !all_legal(cmds, inputs, outs.len() as u8) {
         return false;
     }
-    let mut table = Table::new(inputs);
+    let mut table = CellLiterals::new(inputs);
     follow(m, outs, &mut table, cmds);
     ends_right(outs, inputs, &table)
 }

@@ -13,21 +13,21 @@ use mig_graph::{Lit, complement};
 /// What each cell holds: a literal or nothing. The data rows are a body's own: 80 for inputs, 8 for
 /// outputs and 32 to spill.
 #[derive(Drop)]
-pub struct Table {
+pub struct CellLiterals {
     pub t: [Option<Lit>; 4],
     pub dcc: [Option<Lit>; 2],
     pub d: [Option<Lit>; 120],
 }
 
-impl Table {
+impl CellLiterals {
     /// Each input in its own row, and nothing else.
-    pub fn new(inputs: u8) -> Table
+    pub fn new(inputs: u8) -> CellLiterals
         requires { inputs ≤ 80 }
         ensures { symbols_of result ≡ at_start inputs }
     {
         let mut d = [None; 120];
         fill_inputs(&mut d, inputs);
-        Table {
+        CellLiterals {
             t: [None; 4],
             dcc: [None; 2],
             d,

@@ -14,7 +14,7 @@ use Rattle.dram_model.specs.Elements.{number, below, column_count}
 use Rattle.object_alloc.specs.Listed.{Named, IsTable, limit_of}
 use Rattle.object_alloc.specs.Spelling.{IsObject}
 use Rattle.machine_model.specs.Columns.{segments, columns, object_size}
-use Rattle.machine_model.specs.Operations.{Operations, operations_of}
+use Rattle.machine_model.specs.Routines.{Routines, routines_of}
 use Rattle.machine_model.specs.Refusals.{nothing}
 use Rattle.machine_model.specs.Steps.{Held, table_of}
 use Rattle.machine_model.specs.Agrees.{Agrees, IsPlain}
@@ -94,7 +94,7 @@ others : (g : Geometry) (banks new : Banks) (table : List Named)
 others g banks new [] h = tt
 others g banks new (p ∷ table) h = (h.0, others g banks new table h.1)
 
-leaves : (g : Geometry) (operations : Operations) (banks : Banks) (table : List Named) (q : Query)
+leaves : (g : Geometry) (operations : Routines) (banks : Banks) (table : List Named) (q : Query)
     → 0 < g.words → FoundInRows g operations banks (held_in g banks table) q
     → LeavesOne g operations banks table q
 leaves g operations banks table q words f =
@@ -137,10 +137,10 @@ scans_answer g p banks table q words i shaped t all small checks none =
       within = within g banks table words all;
       numbers = numbers g banks table;
     } in
-    leaves g (operations_of scan_text p) banks table q words
+    leaves g (routines_of scan_text p) banks table q words
     (scan_in_rows g p banks state q words i (objects g banks table all) agrees small
     (ap (λ (s : List Named). checked s (nodes_of q)) same
-    ∙ checks) (ap (λ (s : List Named). scan_refused g (operations_of scan_text p) s q) same
+    ∙ checks) (ap (λ (s : List Named). scan_refused g (routines_of scan_text p) s q) same
     ∙ none))
 
 pub scan_is_plain : ScanIsPlain

@@ -8,7 +8,7 @@ use Rattle.dram_model.specs.declared.geometry.Geometry.{Geometry}
 use Rattle.object_alloc.specs.Listed.{Named}
 use Rattle.bbop_isa.specs.Forms.{Instruction}
 use Rattle.machine_model.specs.declared.Why.{Why}
-use Rattle.machine_model.specs.Operations.{Operations}
+use Rattle.machine_model.specs.Routines.{Routines}
 use Rattle.machine_model.specs.Refusals.{refusal}
 use Rattle.machine_model.specs.Steps.{table_after}
 use Rattle.machine_model.specs.Script.{sum_done, rows_loaded, rows_printed}
@@ -32,7 +32,7 @@ both_none None m n e f = rw (e, f) refl
 both_none (Some w) m n e f = omega (arith, f)
 
 none_moved : (rows : Geometry → List Named → Instruction
-    → ℕ) (g : Geometry) (operations : Operations) (table : List Named) (script : List Instruction)
+    → ℕ) (g : Geometry) (operations : Routines) (table : List Named) (script : List Instruction)
     → AllByRecursion (Moves rows) script → sum_done rows g operations table script ≡ 0
 none_moved rows g operations table [] a = refl
 none_moved rows g operations table (instr ∷ script) a =

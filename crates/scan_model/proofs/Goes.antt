@@ -6,7 +6,7 @@ use Rattle.dram_model.specs.declared.geometry.Geometry.{Geometry}
 use Rattle.object_alloc.specs.Listed.{Named}
 use Rattle.bbop_isa.specs.Forms.{Instruction}
 use Rattle.machine_model.specs.declared.Why.{Why}
-use Rattle.machine_model.specs.Operations.{Operations}
+use Rattle.machine_model.specs.Routines.{Routines}
 use Rattle.machine_model.specs.Refusals.{refusal}
 use Rattle.machine_model.specs.Steps.{Held, table_of, words_after, table_after, worded}
 use Rattle.machine_model.specs.Script.{words_at_end, table_at_end}
@@ -17,7 +17,7 @@ use Rattle.scan_model.specs.Laws.{IsRoom}
 abbrev pub Meaning : Type 0
 Meaning = List ℕ → ℕ → List ℕ → List ℕ
 
-pub words-append : (g : Geometry) (operations : Operations) (meaning : Meaning) (s : List Held)
+pub words-append : (g : Geometry) (operations : Routines) (meaning : Meaning) (s : List Held)
     (xs ys : List Instruction)
     → words_at_end g operations meaning s (xs ++ ys) ≡ words_at_end g operations meaning
     (words_at_end g operations meaning s xs) ys
@@ -29,7 +29,7 @@ or_else_assoc : (a b c : Option Why) → or_else (or_else a b) c ≡ or_else a (
 or_else_assoc None b c = refl
 or_else_assoc (Some w) b c = refl
 
-pub refused-append : (g : Geometry) (operations : Operations) (table : List Named)
+pub refused-append : (g : Geometry) (operations : Routines) (table : List Named)
     (xs ys : List Instruction)
     → refused_in g operations table (xs ++ ys) ≡ or_else (refused_in g operations table xs)
     (refused_in g operations (table_at_end g operations table xs) ys)
@@ -41,7 +41,7 @@ refused-append g operations table (x ∷ xs) ys =
     (refused_in g operations (table_after g operations table x) xs) _)
 
 -- the table at the end is that of the words
-pub table_end : (g : Geometry) (operations : Operations) (meaning : Meaning) (s : List Held)
+pub table_end : (g : Geometry) (operations : Routines) (meaning : Meaning) (s : List Held)
     (xs : List Instruction)
     → table_of (words_at_end g operations meaning s xs) ≡ table_at_end g operations (table_of s)
     xs
@@ -50,7 +50,7 @@ table_end g operations meaning s (x ∷ xs) =
     table_end g operations meaning (words_after g operations meaning s x) xs
     ∙ ap (λ t. table_at_end g operations t xs) (table_step g operations meaning s x)
 
-pub data Goes (g : Geometry) (operations : Operations) (meaning : Meaning) (s : List Held)
+pub data Goes (g : Geometry) (operations : Routines) (meaning : Meaning) (s : List Held)
     (xs : List Instruction) (P : List Held → Type 0) : Type 0 where
   ends : refused_in g operations (table_of s) xs ≡ None
       → P (words_at_end g operations meaning s xs) → Goes g operations meaning s xs P
@@ -58,7 +58,7 @@ pub data Goes (g : Geometry) (operations : Operations) (meaning : Meaning) (s : 
       → Goes g operations meaning s xs P
 
 -- one after the other
-pub then : (g : Geometry) (operations : Operations) (meaning : Meaning) (s : List Held)
+pub then : (g : Geometry) (operations : Routines) (meaning : Meaning) (s : List Held)
     (xs ys : List Instruction) (P Q : List Held → Type 0)
     → Goes g operations meaning s xs P → ((t : List Held) → P t
     → Goes g operations meaning t ys Q) → Goes g operations meaning s (xs ++ ys) Q
@@ -88,7 +88,7 @@ pub data Allowed : Option Why → Type 0 where
   full : (w : Why) → IsRoom w → Allowed (Some w)
 
 -- one instruction
-one_case : (g : Geometry) (operations : Operations) (meaning : Meaning) (s new : List Held)
+one_case : (g : Geometry) (operations : Routines) (meaning : Meaning) (s new : List Held)
     (x : Instruction) (P : List Held → Type 0) (r : Option Why)
     → refusal g operations (table_of s) x ≡ r → Allowed r → worded g operations meaning s x ≡ new
     → P new → Goes g operations meaning s (x ∷ []) P
@@ -96,7 +96,7 @@ one_case g operations meaning s new x P None e a is p =
     ends (rw e refl) (subst P (sym (rw e is)) p)
 one_case g operations meaning s new x P (Some w) e (full _ room) is p = stops w (rw e refl) room
 
-pub one : (g : Geometry) (operations : Operations) (meaning : Meaning) (s new : List Held)
+pub one : (g : Geometry) (operations : Routines) (meaning : Meaning) (s new : List Held)
     (x : Instruction) (P : List Held → Type 0)
     → Allowed (refusal g operations (table_of s) x) → worded g operations meaning s x ≡ new
     → P new → Goes g operations meaning s (x ∷ []) P
@@ -104,7 +104,7 @@ one g operations meaning s new x P a is p = one_case g operations meaning s new 
     (refusal g operations (table_of s) x) refl a is p
 
 -- one instruction, and then others
-pub next : (g : Geometry) (operations : Operations) (meaning : Meaning) (s new : List Held)
+pub next : (g : Geometry) (operations : Routines) (meaning : Meaning) (s new : List Held)
     (x : Instruction) (xs : List Instruction) (Q : List Held → Type 0)
     → Allowed (refusal g operations (table_of s) x) → worded g operations meaning s x ≡ new
     → Goes g operations meaning new xs Q → Goes g operations meaning s (x ∷ xs) Q

@@ -19,7 +19,7 @@ use Rattle.object_alloc.specs.declared.table.Object.{Object}
 use Rattle.object_alloc.specs.Listed.{Named}
 use Rattle.object_alloc.specs.Spelling.{IsObject}
 use Rattle.machine_model.specs.Columns.{segments, columns}
-use Rattle.machine_model.specs.Operations.{operations_of, meaning_in}
+use Rattle.machine_model.specs.Routines.{routines_of, meaning_in}
 use Rattle.machine_model.specs.Refusals.{object_named}
 use Rattle.machine_model.specs.Steps.{Held, table_of}
 use Rattle.machine_model.specs.Agrees.{Agrees, IsPlain, IsWidth}
@@ -155,7 +155,7 @@ query_plain g banks state q objects numbers e =
 
 pub scan_in_rows : ScanInRows
 scan_in_rows g p banks state q words i objects a small checks none =
-    let operations = operations_of scan_text p in
+    let operations = routines_of scan_text p in
     let script = scan_script (table_of state) (nodes_of q) in
     let few : length state ≤ 256 = simp length-map at a.table.few in
     let scans = scan_in_words g operations (meaning_in scan_text) state q (text_offers p i)

@@ -14,8 +14,8 @@ use Rattle.op_text.specs.Meaning.{meaning}
 use Rattle.uprog_code.specs.Shape.{Shape, Microprogram}
 use Rattle.uprog_code.specs.Machine.{Trace, Ended, Stuck, HasEnded, trace}
 use Rattle.uprog_code.specs.Texts.{TextOp, ImplementsAll}
-use Rattle.machine_model.specs.Operations.{Program, operations_of, op_named, entry_named}
-use Rattle.machine_model.specs.Operations.{trace_of, meaning_in}
+use Rattle.machine_model.specs.Routines.{Program, routines_of, text_op_named, entry_named}
+use Rattle.machine_model.specs.Routines.{trace_of, meaning_in}
 use Rattle.machine_model.specs.Refusals.{walks_badly}
 use Rattle.machine_model.proofs.Texts.{Matched, both, matched}
 use Rattle.op_text.specs.Rules.{breach_of}
@@ -106,9 +106,9 @@ ended (Stuck at reason) h = absurd h
 
 -- an op of the text is there, with its shape, and its code ends
 offered : (p : Program) (name : List ℕ) (o : TextOp) (kinds : List Kind)
-    → op_named scan_text name ≡ Some o → o.shape.sources ≡ kinds → o.shape.result ≡ Bit
+    → text_op_named scan_text name ≡ Some o → o.shape.sources ≡ kinds → o.shape.result ≡ Bit
     → o.shape.second ≡ None → (e : Option Microprogram) → entry_named p name ≡ e
-    → Matched e (Some o) → Offers (operations_of scan_text p) name kinds
+    → Matched e (Some o) → Offers (routines_of scan_text p) name kinds
 offered p name o kinds is sources result alone None found m = elim m [ ]
 offered p name o kinds is sources result alone (Some e) found (both _ _ d) = record {
   operation = record { shape = o.shape; trace = trace_of (Some e) };
@@ -121,7 +121,7 @@ offered p name o kinds is sources result alone (Some e) found (both _ _ d) = rec
 }
 
 pub text_offers : (p : Program) → ImplementsAll p scan_text
-    → OffersScan (operations_of scan_text p)
+    → OffersScan (routines_of scan_text p)
 text_offers p i = record {
   equal = offered p (codes "s_eq") _ _ refl refl refl refl (entry_named p (codes "s_eq")) refl
       (matched p scan_text (codes "s_eq") i);

@@ -18,7 +18,7 @@ use Rattle.dram_model.specs.Elements.{column_count}
 use Rattle.object_alloc.specs.declared.table.Object.{Object}
 use Rattle.bbop_isa.specs.Forms.{Bbop, Fill, Free}
 use Rattle.machine_model.specs.Columns.{object_size}
-use Rattle.machine_model.specs.Operations.{Operations}
+use Rattle.machine_model.specs.Routines.{Routines}
 use Rattle.machine_model.specs.Refusals.{refusal, object_named}
 use Rattle.machine_model.specs.Steps.{Held, table_of, numbers_named, with_numbers, with_results}
 use Rattle.machine_model.specs.Steps.{computed, new_object, worded}
@@ -82,7 +82,7 @@ results_once (h ∷ s) r numbers = rw (
 ) refl
 
 -- what a bbop of one result makes
-bbop_worded : (g : Geometry) (operations : Operations) (meaning : Meaning) (s : List Held)
+bbop_worded : (g : Geometry) (operations : Routines) (meaning : Meaning) (s : List Held)
     (op : List ℕ) (kinds : List Kind) (r : List ℕ) (srcs : List (List ℕ)) (count n : ℕ)
     → Offers operations op kinds
     → worded g operations meaning s (Bbop op r srcs count n)
@@ -93,7 +93,7 @@ bbop_worded g operations meaning s op kinds r srcs count n o =
     (computed (alone meaning op n) (map (numbers_named s) srcs)
     (object_size g (object_named (table_of s) r))))
 
-offers_for : (operations : Operations) → OffersScan operations → (op : CmpOp)
+offers_for : (operations : Routines) → OffersScan operations → (op : CmpOp)
     → Offers operations (op_for op) (Word ∷ Word ∷ [])
 offers_for operations o cmp.Eq = o.equal
 offers_for operations o cmp.Gt = o.greater
@@ -142,7 +142,7 @@ compare_values meaning cmp.Le n v size xs cs means small l is numbers name c p q
     (means.at_least n v (get_or xs e 0) l (small e)))))
 
 -- a comparison's bbop is allowed
-compare_allowed : (g : Geometry) (operations : Operations) (s : List Held) (op : CmpOp)
+compare_allowed : (g : Geometry) (operations : Routines) (s : List Held) (op : CmpOp)
     (r name c : List ℕ) (count n : ℕ) → OffersScan operations → 0 < n → n ≤ WIDTH_MAX
     → IsUsed s Bit count n r → IsUsed s Word count n name → IsUsed s Word count n c → name ≢ r
     → c ≢ r → Allowed (refusal g operations (table_of s)
@@ -171,7 +171,7 @@ pub record IsAsked (g : Geometry) (s : List Held) (count : ℕ) (name : List ℕ
   pub counted : h.object.count ≡ count
   pub small : v < 2 ^ h.object.width
 
-pub compare_goes : (g : Geometry) (operations : Operations) (meaning : Meaning) (s : List Held)
+pub compare_goes : (g : Geometry) (operations : Routines) (meaning : Meaning) (s : List Held)
     (c r name : List ℕ) (op : CmpOp) (v count : ℕ) (h : Held)
     → OffersScan operations → MeansScan meaning → IsAsked g s count name v h → lookup s c ≡ None
     → lookup s r ≡ None → c ≢ r
@@ -240,7 +240,7 @@ mark_at : (f : ℕ → Bool) (size other e : ℕ) → size ≡ other → e < siz
 mark_at f size other e is l = get_or-map-range_with_len (λ e. bit_number (f e)) 0 other e e 0
     (omega (arith, is, l)) (omega arith)
 
-pub not_goes : (g : Geometry) (operations : Operations) (meaning : Meaning) (s : List Held)
+pub not_goes : (g : Geometry) (operations : Routines) (meaning : Meaning) (s : List Held)
     (r a : List ℕ) (count : ℕ) (oa : Object) (fa : ℕ → Bool)
     → OffersScan operations → MeansScan meaning → count ≤ column_count g * g.banks
     → oa.count ≡ count → oa.width ≡ 1 → lookup s a ≡ None → lookup s r ≡ None → a ≢ r
@@ -287,7 +287,7 @@ not_goes g operations meaning s r a count oa fa offers means fits counted narrow
     (record { object = or; counted = refl; narrow = refl; is = refl })))
 
 -- a join of two, whatever its operation
-pub two_goes : (g : Geometry) (operations : Operations) (meaning : Meaning) (op : List ℕ)
+pub two_goes : (g : Geometry) (operations : Routines) (meaning : Meaning) (op : List ℕ)
     (join : Bool → Bool → Bool) (s : List Held) (r a b : List ℕ) (count : ℕ) (oa ob : Object)
     (fa fb : ℕ → Bool)
     → Offers operations op (Bit ∷ Bit ∷ []) → ((x y : Bool)

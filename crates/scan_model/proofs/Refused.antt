@@ -15,7 +15,7 @@ use Rattle.object_alloc.specs.Listed.{objects_of, has_name, limit_of}
 use Rattle.bbop_isa.specs.Forms.{Init, Bbop, Fill, Free}
 use Rattle.machine_model.specs.declared.Why.{Why}
 use Rattle.machine_model.specs.declared.Why.TheVariants as why
-use Rattle.machine_model.specs.Operations.{Operations}
+use Rattle.machine_model.specs.Routines.{Routines}
 use Rattle.machine_model.specs.Refusals.{first, when, object_named, is_absent, is_misfit}
 use Rattle.machine_model.specs.Refusals.{walks_badly, refusal}
 use Rattle.machine_model.specs.Steps.{Held, table_of}
@@ -41,7 +41,7 @@ few : (a b : ℕ) → b ≤ a → ltb a b ≡ false
 few a b h = grind (arith, nat_tests)
 
 -- a new object of a name that no object has
-pub init_allowed : (g : Geometry) (operations : Operations) (s : List Held) (name : List ℕ)
+pub init_allowed : (g : Geometry) (operations : Routines) (s : List Held) (name : List ℕ)
     (count n : ℕ) → lookup s name ≡ None → count ≤ column_count g * g.banks
     → Allowed (refusal g operations (table_of s) (Init name count n))
 init_allowed g operations s name count n e l =
@@ -63,7 +63,7 @@ present s name h e = ap not (at_has s name h e)
 below : (a b : ℕ) → b < a → leb a b ≡ false
 below a b h = grind (arith, nat_tests)
 
-pub fill_allowed : (g : Geometry) (operations : Operations) (s : List Held) (name : List ℕ)
+pub fill_allowed : (g : Geometry) (operations : Routines) (s : List Held) (name : List ℕ)
     (v : ℕ) (h : Held) → lookup s name ≡ Some h → v < 2 ^ h.object.width
     → Allowed (refusal g operations (table_of s) (Fill name v))
 fill_allowed g operations s name v h e l =
@@ -75,7 +75,7 @@ free_case : (a : Bool) → a ≡ false → Allowed (when a (why.NoObject 0))
 free_case true e = cc
 free_case false e = done
 
-pub free_allowed : (g : Geometry) (operations : Operations) (s : List Held) (name : List ℕ)
+pub free_allowed : (g : Geometry) (operations : Routines) (s : List Held) (name : List ℕ)
     (h : Held) → lookup s name ≡ Some h → Allowed (refusal g operations (table_of s) (Free name))
 free_allowed g operations s name h e = free_case (is_absent (table_of s) name)
     (present s name h e)
@@ -110,7 +110,7 @@ used_present : (s : List Held) (kind : Kind) (count n : ℕ) (name : List ℕ)
 used_present s kind count n name u = present s name u.held u.at
 
 -- a bbop of two sources
-pub two_allowed : (g : Geometry) (operations : Operations) (s : List Held) (op dst a b : List ℕ)
+pub two_allowed : (g : Geometry) (operations : Routines) (s : List Held) (op dst a b : List ℕ)
     (j k : Kind) (count n : ℕ)
     → (o : Offers operations op (j ∷ k ∷ [])) → 0 < n → n ≤ WIDTH_MAX
     → IsUsed s Bit count n dst → IsUsed s j count n a → IsUsed s k count n b → a ≢ dst → b ≢ dst
@@ -138,7 +138,7 @@ two_allowed g operations s op dst a b j k count n o some few u v w ne mf =
     (o.walks n some few))
 
 -- a bbop of one source
-pub one_allowed : (g : Geometry) (operations : Operations) (s : List Held) (op dst a : List ℕ)
+pub one_allowed : (g : Geometry) (operations : Routines) (s : List Held) (op dst a : List ℕ)
     (j : Kind) (count n : ℕ)
     → (o : Offers operations op (j ∷ [])) → 0 < n → n ≤ WIDTH_MAX
     → IsUsed s Bit count n dst → IsUsed s j count n a → a ≢ dst

@@ -10,7 +10,7 @@ use Rattle.dram_model.specs.declared.geometry.Geometry.{Geometry}
 use Rattle.dram_model.specs.Elements.{column_count}
 use Rattle.object_alloc.specs.declared.table.Object.{Object}
 use Rattle.bbop_isa.specs.Forms.{Instruction}
-use Rattle.machine_model.specs.Operations.{Operations}
+use Rattle.machine_model.specs.Routines.{Routines}
 use Rattle.machine_model.specs.Steps.{Held, table_of}
 use Rattle.scan_model.specs.declared.CmpOp.{CmpOp}
 use Rattle.scan_model.specs.Queries.{Query, Compare, Negate, Both, Either, Node, Test, Not, And}
@@ -63,7 +63,7 @@ asked_some g start count (Negate q) a = asked_some g start count q a
 asked_some g start count (Both p q) a = asked_some g start count p a.0
 asked_some g start count (Either p q) a = asked_some g start count p a.0
 
-module _ (g : Geometry) (operations : Operations) (meaning : Meaning) (start : List Held)
+module _ (g : Geometry) (operations : Routines) (meaning : Meaning) (start : List Held)
     (names : ℕ → List ℕ) (count limit : ℕ) where
   abbrev pub script : ℕ → List Node → List Instruction
   script k nodes = script_from (table_of start) names count k nodes

@@ -9,7 +9,7 @@ use Rattle.std.proofs.lemmas.List.{length-map}
 use Rattle.dram_model.specs.declared.geometry.Geometry.{Geometry}
 use Rattle.object_alloc.specs.Listed.{Named, has_name}
 use Rattle.machine_model.specs.declared.Why.{Why}
-use Rattle.machine_model.specs.Operations.{Operations}
+use Rattle.machine_model.specs.Routines.{Routines}
 use Rattle.machine_model.specs.Refusals.{object_named}
 use Rattle.machine_model.specs.Steps.{Held, table_of}
 use Rattle.machine_model.specs.Script.{table_at_end}
@@ -106,7 +106,7 @@ by_nodes_case : (a rest : Option Why) (k : ℕ) (later : Option (Why × ℕ))
 by_nodes_case None rest k later e = e
 by_nodes_case (Some w) rest k later e = refl
 
-pub by_nodes : (g : Geometry) (operations : Operations) (start table : List Named) (names : ℕ
+pub by_nodes : (g : Geometry) (operations : Routines) (start table : List Named) (names : ℕ
     → List ℕ) (count k : ℕ) (nodes : List Node)
     → refused_in g operations table (script_from start names count k nodes)
     ≡ option_map (λ p. p.0) (refused_from g operations start table names count k nodes)

@@ -14,7 +14,7 @@ use Rattle.bbop_isa.specs.Forms.{Instruction}
 use Rattle.machine_model.specs.declared.Why.{Why}
 use Rattle.machine_model.specs.declared.Why.TheVariants as why
 use Rattle.machine_model.specs.Columns.{columns}
-use Rattle.machine_model.specs.Operations.{Program, Operations, operations_of}
+use Rattle.machine_model.specs.Routines.{Program, Routines, routines_of}
 use Rattle.machine_model.specs.Refusals.{object_named}
 use Rattle.machine_model.specs.Script.{replies, sum_of, table_at_end, banks_at_end}
 use Rattle.scan_model.specs.declared.ScanWhy.{ScanWhy}
@@ -59,7 +59,7 @@ abbrev pub by_checks : Option (ScanWhy × ℕ) → Answer → Answer
 by_checks None run = run
 by_checks (Some (w, k)) run = Refused w k
 
-unfoldable pub answer : Geometry → Operations → Banks → List Named → Query → Answer
+unfoldable pub answer : Geometry → Routines → Banks → List Named → Query → Answer
 answer g operations banks table q =
     by_checks (checked table (nodes_of q))
     (by_run (scan_refused g operations table q)
@@ -67,7 +67,7 @@ answer g operations banks table q =
     (sum_of (replies g operations table (query_script table q)))))
 
 -- the last object of a scan that is done
-pub record LeavesOne (g : Geometry) (operations : Operations) (banks : Banks) (table : List Named)
+pub record LeavesOne (g : Geometry) (operations : Routines) (banks : Banks) (table : List Named)
     (q : Query) : Type 0 where
   pub object : Object
   pub narrow : object.width ≡ 1
@@ -88,6 +88,6 @@ ScansAnswer =
     → ImplementsAll p scan_text
     → ((bank : ℕ) → bank < g.banks → length (banks bank) ≡ column_count g)
     → IsTable (limit_of g) table → All (λ named. IsObject g named.1) table → size q ≤ 64
-    → checked table (nodes_of q) ≡ None → scan_refused g (operations_of scan_text p) table q
+    → checked table (nodes_of q) ≡ None → scan_refused g (routines_of scan_text p) table q
     ≡ None
-    → LeavesOne g (operations_of scan_text p) banks table q
+    → LeavesOne g (routines_of scan_text p) banks table q

@@ -5,7 +5,7 @@ use Rattle.dram_model.specs.declared.geometry.Geometry.{Geometry}
 use Rattle.object_alloc.specs.Listed.{Named}
 use Rattle.bbop_isa.specs.Forms.{Instruction}
 use Rattle.machine_model.specs.declared.Why.{Why}
-use Rattle.machine_model.specs.Operations.{Operations}
+use Rattle.machine_model.specs.Routines.{Routines}
 use Rattle.machine_model.specs.Refusals.{object_named, is_absent, refusal}
 use Rattle.machine_model.specs.Steps.{table_after}
 use Rattle.machine_model.specs.Script.{table_at_end}
@@ -43,7 +43,7 @@ abbrev pub or_else : Option Why → Option Why → Option Why
 or_else (Some reason) later = Some reason
 or_else None later = later
 
-abbrev pub refused_in : Geometry → Operations → List Named → List Instruction → Option Why
+abbrev pub refused_in : Geometry → Routines → List Named → List Instruction → Option Why
 refused_in g operations table [] = None
 refused_in g operations table (instr ∷ script) =
     or_else (refusal g operations table instr)
@@ -51,7 +51,7 @@ refused_in g operations table (instr ∷ script) =
 
 -- the first node one of whose instructions is refused; the query was asked of the table start,
 -- and goes on from the other
-abbrev pub refused_from : Geometry → Operations → (start table : List Named) → (ℕ → List ℕ) → ℕ
+abbrev pub refused_from : Geometry → Routines → (start table : List Named) → (ℕ → List ℕ) → ℕ
     → ℕ → List Node → Option (Why × ℕ)
 refused_from g operations start table names count k [] = None
 refused_from g operations start table names count k (node ∷ nodes) =

@@ -15,8 +15,8 @@ use Rattle.object_alloc.specs.Listed.{Named, has_name}
 use Rattle.machine_model.specs.declared.Why.{Why}
 use Rattle.machine_model.specs.declared.Why.TheVariants as why
 use Rattle.machine_model.specs.Columns.{object_size, columns}
-use Rattle.machine_model.specs.Operations.{Operation, Operations, Program, operations_of}
-use Rattle.machine_model.specs.Operations.{meaning_in}
+use Rattle.machine_model.specs.Routines.{Routine, Routines, Program, routines_of}
+use Rattle.machine_model.specs.Routines.{meaning_in}
 use Rattle.uprog_code.specs.Texts.{ImplementsAll}
 use Rattle.object_alloc.specs.Spelling.{IsObject}
 use Rattle.machine_model.specs.Refusals.{walks_badly}
@@ -38,15 +38,15 @@ abbrev pub element : List Held → ℕ → List ℕ → ℕ
 element state e name = slice_index (numbers_named state name) e
 
 -- the operation is there, takes these kinds and gives a bit, and its walk ends at each width
-pub record Offers (operations : Operations) (name : List ℕ) (kinds : List Kind) : Type 0 where
-  pub operation : Operation
+pub record Offers (operations : Routines) (name : List ℕ) (kinds : List Kind) : Type 0 where
+  pub operation : Routine
   pub there : operations name ≡ Some operation
   pub sources : operation.shape.sources ≡ kinds
   pub result : operation.shape.result ≡ Bit
   pub one_result : operation.shape.second ≡ None
   pub walks : (n : ℕ) → 0 < n → n ≤ WIDTH_MAX → walks_badly (operation.trace n) ≡ None
 
-pub record OffersScan (operations : Operations) : Type 0 where
+pub record OffersScan (operations : Routines) : Type 0 where
   pub equal : Offers operations (codes "s_eq") (Word ∷ Word ∷ [])
   pub greater : Offers operations (codes "s_gt") (Word ∷ Word ∷ [])
   pub at_least : Offers operations (codes "s_ge") (Word ∷ Word ∷ [])
@@ -96,12 +96,12 @@ abbrev pub IsRoom : Why → Type 0
 IsRoom w = (w ≡ why.TableFull) ⊎ (w ≡ why.NoRows)
 
 -- the query's first refused node, on this table
-abbrev pub scan_refused : Geometry → Operations → List Named → Query → Option (Why × ℕ)
+abbrev pub scan_refused : Geometry → Routines → List Named → Query → Option (Why × ℕ)
 scan_refused g operations table q = refused_from g operations table table (free_name table)
     (count_of table (nodes_of q)) 0 (nodes_of q)
 
 -- what holds of a query on a state that passes the checks
-pub record Scans (g : Geometry) (operations : Operations) (meaning : List ℕ → ℕ → List ℕ
+pub record Scans (g : Geometry) (operations : Routines) (meaning : List ℕ → ℕ → List ℕ
     → List ℕ) (state : List Held) (q : Query) : Type 0 where
   pub counts : scan_refused g operations (table_of state) q ≡ None →
       Leaves g state (free_name (table_of state) (size q))
@@ -115,7 +115,7 @@ pub record Scans (g : Geometry) (operations : Operations) (meaning : List ℕ �
 -- is as it was; and an instruction is refused only for want of room
 abbrev pub ScanInWords : Type 0
 ScanInWords =
-    (g : Geometry) (operations : Operations) (meaning : List ℕ → ℕ → List ℕ
+    (g : Geometry) (operations : Routines) (meaning : List ℕ → ℕ → List ℕ
     → List ℕ) (state : List Held) (q : Query)
     → OffersScan operations → MeansScan meaning → AllByRecursion (IsHeld g) state
     → length state ≤ 256 → size q ≤ 64 → checked (table_of state) (nodes_of q) ≡ None
@@ -141,10 +141,10 @@ NamesAreCounted = (table : List Named) (i : ℕ) → i < length table + 65
 pub record TextScans : Type 0 where
   pub meets : MeetRules scan_operations
   pub means : MeansScan (meaning_in scan_text)
-  pub offers : (p : Program) → ImplementsAll p scan_text → OffersScan (operations_of scan_text p)
+  pub offers : (p : Program) → ImplementsAll p scan_text → OffersScan (routines_of scan_text p)
 
 -- one object more, and the columns of all
-pub record FoundInRows (g : Geometry) (operations : Operations) (banks : Banks)
+pub record FoundInRows (g : Geometry) (operations : Routines) (banks : Banks)
     (state : List Held) (q : Query) : Type 0 where
   pub object : Object
   pub counted : object.count ≡ count_of (table_of state) (nodes_of q)
@@ -170,8 +170,8 @@ ScanInRows =
     → ImplementsAll p scan_text
     → AllByRecursion (λ h. IsObject g h.object) state → Agrees g banks state → size q ≤ 64
     → checked (table_of state) (nodes_of q) ≡ None
-    → scan_refused g (operations_of scan_text p) (table_of state) q ≡ None
-    → FoundInRows g (operations_of scan_text p) banks state q
+    → scan_refused g (routines_of scan_text p) (table_of state) q ≡ None
+    → FoundInRows g (routines_of scan_text p) banks state q
 
 -- the ones among the first numbers of the last object are the elements that the query holds of
 abbrev pub OnesAreFound : Type 0
@@ -187,9 +187,9 @@ ScanIsPlain = (g : Geometry) (table : List Named) (q : Query)
 
 -- A query's instructions load no row and print none
 pub record NothingIsMoved : Type 0 where
-  pub loads : (g : Geometry) (operations : Operations) (start table : List Named)
+  pub loads : (g : Geometry) (operations : Routines) (start table : List Named)
       (nodes : List Node) → sum_done rows_loaded g operations table (scan_script start nodes) ≡ 0
-  pub prints : (g : Geometry) (operations : Operations) (start table : List Named)
+  pub prints : (g : Geometry) (operations : Routines) (start table : List Named)
       (nodes : List Node) → sum_done rows_printed g operations table (scan_script start nodes) ≡ 0
 
 -- and no two bbops stand side by side: each is a wave of its own

@@ -22,7 +22,7 @@ use Rattle.machine_model.specs.declared.Why.{Why}
 use Rattle.machine_model.specs.Agrees.{IsPlain}
 use Rattle.machine_model.specs.Columns.{columns, segments}
 use Rattle.machine_model.specs.Laws.{FitsBanks}
-use Rattle.machine_model.specs.Operations.{Operations}
+use Rattle.machine_model.specs.Routines.{Routines}
 use Rattle.machine_model.specs.Pieces.{Piece, events_of_pieces, pieces, piece_of, turn_at_end}
 use Rattle.machine_model.specs.Script.{banks_at_end, replies, sum_of, table_at_end, with_counts}
 use Rattle.machine_model.specs.Script.{with_writes}
@@ -91,7 +91,7 @@ plain_nodes m t nodes ready h e =
     (ap (checked (table_in m)) (sym h.nodes_are) ∙ e))
 
 -- the answers
-pub answer_checked : (g : Geometry) (ops : Operations) (banks : Banks) (table : List Named)
+pub answer_checked : (g : Geometry) (ops : Routines) (banks : Banks) (table : List Named)
     (t : Query) (why : ScanWhy) (k : ℕ) → checked table (nodes_of t) ≡ Some (why, k)
     → Refused why k ≡ answer g ops banks table t
 unfolding answer
@@ -99,7 +99,7 @@ answer_checked g ops banks table t why k e = sym (ap (λ r. by_checks r
     (by_run (scan_refused g ops table t) (Found (found_in g banks table t) (query_count table t)
     (sum_of (replies g ops table (query_script table t)))))) e)
 
-pub answer_refused : (g : Geometry) (ops : Operations) (banks : Banks) (table : List Named)
+pub answer_refused : (g : Geometry) (ops : Routines) (banks : Banks) (table : List Named)
     (t : Query) (why : Why) (k : ℕ) → checked table (nodes_of t) ≡ None
     → scan_refused g ops table t ≡ Some (why, k)
     → Refused (room_word why) k ≡ answer g ops banks table t
@@ -110,7 +110,7 @@ answer_refused g ops banks table t why k e f = sym (ap (λ r. by_checks r
     ∙ ap (λ r. by_run r (Found (found_in g banks table t) (query_count table t)
     (sum_of (replies g ops table (query_script table t))))) f)
 
-pub answer_found : (g : Geometry) (ops : Operations) (banks : Banks) (table : List Named)
+pub answer_found : (g : Geometry) (ops : Routines) (banks : Banks) (table : List Named)
     (t : Query) → checked table (nodes_of t) ≡ None → scan_refused g ops table t ≡ None
     → Found (found_in g banks table t) (query_count table t)
     (sum_of (replies g ops table (query_script table t))) ≡ answer g ops banks table t
@@ -125,7 +125,7 @@ no_writes : (c : Counters) → with_writes 0 c ≡ c
 no_writes c = ap (λ k. let d : Counters = record c { writes = k } in d) (omega arith)
 
 -- the counters rise by the replies
-pub counts_risen : (g : Geometry) (ops : Operations) (turn : Turn) (table : List Named)
+pub counts_risen : (g : Geometry) (ops : Routines) (turn : Turn) (table : List Named)
     (nodes : List Node) (k new : Counters) → 0 < g.words → FitsBanks g table
     → new ≡ all_counted (events_of_pieces g ops turn table (map piece_of (scan_script table nodes))) k
     → new ≡ with_counts k (sum_of (replies g ops table (scan_script table nodes)))
@@ -145,10 +145,10 @@ pub leaves_one : (m : Machine) (banks : Banks) (t : Query) → IsReady m
 leaves_one m banks t ready shaped impl small checks none =
     let g = geometry_of m in
     let same = same_operations (program_of m) scan_text impl in
-    subst (λ (ops : Operations). LeavesOne g ops banks (table_in m) t) same
+    subst (λ (ops : Routines). LeavesOne g ops banks (table_in m) t) same
     (scans_answer g (program_of m) banks (table_in m) t (geometry_parts g ready.set.geometry).0 impl
     shaped ready.set.listed ready.set.objects small checks
-    (subst (λ (ops : Operations). scan_refused g ops (table_in m) t ≡ None) (sym same) none))
+    (subst (λ (ops : Routines). scan_refused g ops (table_in m) t ≡ None) (sym same) none))
 
 all_last : {X : Type 0} (P : X → Type 0) (front : List X) (x : X) → All P (front ++ x ∷ []) → P x
 all_last P [] x all = all 0 x (omega arith)

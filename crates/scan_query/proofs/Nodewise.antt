@@ -13,7 +13,7 @@ use Rattle.uprog_code.specs.declared.TheConstants.{WALK_MAX}
 use Rattle.object_alloc.specs.Listed.{Named}
 use Rattle.bbop_isa.specs.Forms.{Instruction}
 use Rattle.machine_model.specs.declared.Why.{Why}
-use Rattle.machine_model.specs.Operations.{Operations}
+use Rattle.machine_model.specs.Routines.{Routines}
 use Rattle.machine_model.specs.Script.{table_at_end}
 use Rattle.sim_machine.specs.declared.machine.Machine.{Machine}
 use Rattle.sim_machine.specs.Machine.{geometry_of, operations_by, table_in}
@@ -136,7 +136,7 @@ script_length start names count k (node ∷ nodes) =
     omega (arith, a, b, c)
 
 -- a node that is done leaves the refusals of those behind it
-pub allowed_on : (g : Geometry) (ops : Operations) (start table : List Named) (names : ℕ
+pub allowed_on : (g : Geometry) (ops : Routines) (start table : List Named) (names : ℕ
     → List ℕ) (count k : ℕ) (node : Node) (nodes : List Node)
     → refused_in g ops table (node_instructions start names count k node) ≡ None
     → refused_from g ops start table names count k (node ∷ nodes)
@@ -147,7 +147,7 @@ allowed_on g ops start table names count k node nodes e =
     (table_at_end g ops table (node_instructions start names count k node)) names count
     (k + 1) nodes)) e
 
-pub refused_on : (g : Geometry) (ops : Operations) (start table : List Named) (names : ℕ
+pub refused_on : (g : Geometry) (ops : Routines) (start table : List Named) (names : ℕ
     → List ℕ) (count k : ℕ) (node : Node) (nodes : List Node) (why : Why)
     → refused_in g ops table (node_instructions start names count k node) ≡ Some why
     → refused_from g ops start table names count k (node ∷ nodes) ≡ Some (why, k)

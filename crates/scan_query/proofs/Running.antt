@@ -24,7 +24,7 @@ use Rattle.machine_model.specs.Refusals.{refusal}
 use Rattle.machine_model.specs.Steps.{reply_by, counts_for}
 use Rattle.machine_model.specs.Pieces.{instrs_in, events_of_pieces, piece_of}
 use Rattle.machine_model.specs.Pieces.{turn_at_end}
-use Rattle.machine_model.specs.Operations.{Operations}
+use Rattle.machine_model.specs.Routines.{Routines}
 use Rattle.machine_model.specs.Script.{table_at_end, is_bbop, is_refused}
 use Rattle.machine_model.proofs.Parts.{scripts_go_on, pieces_go_on}
 use Rattle.object_steps.specs.Objects.{RisesAtMost}
@@ -214,7 +214,7 @@ refused_then xs ys a b s t why p e =
     ∙ ap (λ r. or_else r (refused_in g ops (table_at_end g ops (table_in a) xs) ys)) p.allowed
     ∙ (rw (p.shape, p.program, p.table) at e)
 
-refused_front : (g : Geometry) (ops : Operations) (table : List Named) (xs ys : List Instruction)
+refused_front : (g : Geometry) (ops : Routines) (table : List Named) (xs ys : List Instruction)
     (why : Why)
     → refused_in g ops table xs ≡ Some why → refused_in g ops table (xs ++ ys) ≡ Some why
 refused_front g ops table xs ys why e = refused-append g ops table xs ys

@@ -6,7 +6,7 @@ use Rattle.std.specs.List.{AllByRecursion}
 use Rattle.host_edge.specs.Views.{SinkView, Told, AppendsPart}
 use Rattle.fault_counts.specs.Counts.{Rose}
 use Rattle.dram_model.specs.View.{ChipView, Did}
-use Rattle.wave_model.specs.Schedule.{Job}
+use Rattle.wave_model.specs.Schedule.{WaveJob}
 use Rattle.uprog_ctl.specs.Waves.{StoppedAmong}
 use Rattle.bbop_isa.specs.Forms.{Instruction}
 use Rattle.bbop_isa.specs.Forms.{Init, Bbop, Load, Fill, Print, Free, Order}
@@ -62,7 +62,7 @@ job_banks m (Print name) = omega arith
 job_banks m (Free name) = omega arith
 job_banks m (Order o) = omega arith
 
-one_below : (b : Bool) (k : ℕ) (f : Instruction → Job) (x : Instruction) (xs : List Instruction)
+one_below : (b : Bool) (k : ℕ) (f : Instruction → WaveJob) (x : Instruction) (xs : List Instruction)
     → (f x).banks ≤ k → AllByRecursion (λ job. job.banks ≤ k) (map f xs)
     → AllByRecursion (λ job. job.banks ≤ k) (map f (cond b (x ∷ xs) xs))
 one_below true k f x xs h all = (h, all)

@@ -10,7 +10,7 @@ use Rattle.std.proofs.lemmas.List.Elements.{All-head, All-tail}
 use Rattle.dram_model.specs.declared.geometry.Geometry.{Geometry}
 use Rattle.bit_rows.specs.declared.TheConstants.{WIDTH_MAX}
 use Rattle.dram_model.specs.declared.address.Command.{Command}
-use Rattle.wave_model.specs.Schedule.{Job}
+use Rattle.wave_model.specs.Schedule.{WaveJob}
 use Rattle.uprog_code.specs.declared.walker.Counts.{Counts}
 use Rattle.uprog_code.specs.Count.{walked}
 use Rattle.uprog_code.specs.Legal.{IsLegalCode}
@@ -25,7 +25,7 @@ use Rattle.object_alloc.specs.Free.{free}
 use Rattle.object_alloc.specs.Listed.{Named, IsTable, limit_of, has_name, objects_of}
 use Rattle.object_alloc.specs.Spelling.{IsObject}
 use Rattle.machine_model.specs.Columns.{segments}
-use Rattle.machine_model.specs.Operations.{Operation, operation_of}
+use Rattle.machine_model.specs.Routines.{Routine, routine_of}
 use Rattle.machine_model.specs.Refusals.{nothing, object_named, first, bbop_conditions}
 use Rattle.machine_model.specs.Refusals.{dsts_in, srcs_in}
 use Rattle.machine_model.specs.Steps.{Held, table_of, base_for, binding}
@@ -46,7 +46,7 @@ still_table : (table : List Named)
 still_table [] = refl
 still_table (p ∷ table) = ap (λ rest. p ∷ rest) (still_table table)
 
-pub fits_at : (g : Geometry) (table : List Named) (o : Operation) (dst : List ℕ)
+pub fits_at : (g : Geometry) (table : List Named) (o : Routine) (dst : List ℕ)
     (srcs : List (List ℕ)) (count n : ℕ) → IsTable (limit_of g) table
     → first (bbop_conditions (limit_of g) table o (dst ∷ srcs) count n) ≡ None
     → Fits g.rows o.shape n (binding g table o.shape (dst ∷ srcs) n)
@@ -78,7 +78,7 @@ found_object P (p ∷ table) name h all =
     (All-head (λ (named : Named). P named.1) p table all) (λ e.
     found_object P table name e (All-tail (λ (named : Named). P named.1) p table all))
 
-pub object_fits : (g : Geometry) (table : List Named) (o : Operation) (dst : List ℕ)
+pub object_fits : (g : Geometry) (table : List Named) (o : Routine) (dst : List ℕ)
     (srcs : List (List ℕ)) (count n : ℕ) → All (λ named. IsObject g named.1) table
     → first (bbop_conditions (limit_of g) table o (dst ∷ srcs) count n) ≡ None
     → IsObject g (object_named table dst)
@@ -109,11 +109,11 @@ bound_is g limit table m dst srcs n b grant l e f h i =
 
 pub binding_is_fit : (g : Geometry) (table : List Named) (m : Microprogram) (dst : List ℕ)
     (srcs : List (List ℕ)) (count n rows width : ℕ) (b : Bound) → IsTable (limit_of g) table
-    → first (bbop_conditions (limit_of g) table (operation_of m) (dst ∷ srcs) count n) ≡ None
+    → first (bbop_conditions (limit_of g) table (routine_of m) (dst ∷ srcs) count n) ≡ None
     → b ≡ binding g table m.shape (dst ∷ srcs) n → rows ≡ g.rows → width ≡ n
     → Fits rows m.shape width b
 binding_is_fit g table m dst srcs count n rows width b listed allowed e f h =
-    rw (e, f, h) (fits_at g table (operation_of m) dst srcs count n listed allowed)
+    rw (e, f, h) (fits_at g table (routine_of m) dst srcs count n listed allowed)
 
 abbrev bound_job_of : Microprogram → Binding → ℕ → BoundJob
 bound_job_of m b banks = record {
@@ -126,7 +126,7 @@ bound_job_of m b banks = record {
 pub can_run : (g : Geometry) (table : List Named) (m : Microprogram) (dst : List ℕ)
     (srcs : List (List ℕ)) (count n banks : ℕ) (b : Binding) (counts : Counts)
     → IsLegalCode m.shape m.code → 0 < n → n ≤ WIDTH_MAX → IsTable (limit_of g) table
-    → first (bbop_conditions (limit_of g) table (operation_of m) (dst ∷ srcs) count n) ≡ None
+    → first (bbop_conditions (limit_of g) table (routine_of m) (dst ∷ srcs) count n) ≡ None
     → b.n ≡ n → bound_of b ≡ binding g table m.shape (dst ∷ srcs) n
     → walked (trace m.shape m.code n) ≡ Ok counts → banks ≤ g.banks
     → CanRun g (bound_job_of m b banks)
@@ -140,7 +140,7 @@ can_run g table m dst srcs count n banks b counts legal some narrow listed all e
   banks = l;
 }
 
-abbrev job_with : List Command → ℕ → Job
+abbrev job_with : List Command → ℕ → WaveJob
 job_with commands banks = record { commands = commands; banks = banks }
 
 same_job : (a b : List Command) (k l : ℕ) → a ≡ b → k ≡ l
@@ -159,7 +159,7 @@ job_is g table m dst srcs n banks b e f h = same_job _ _ _ _
     (ap (λ w. with_width g.rows m w (bound_of b)) e ∙ ap (with_width g.rows m n) f) h
 
 -- as many sources as the operation has
-pub few_sources : (g : Geometry) (table : List Named) (o : Operation) (dst : List ℕ)
+pub few_sources : (g : Geometry) (table : List Named) (o : Routine) (dst : List ℕ)
     (srcs : List (List ℕ)) (count n : ℕ)
     → first (bbop_conditions (limit_of g) table o (dst ∷ srcs) count n) ≡ None
     → length (srcs_in o.shape (dst ∷ srcs)) ≡ length o.shape.sources

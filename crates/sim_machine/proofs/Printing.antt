@@ -15,7 +15,7 @@ use Rattle.machine_model.specs.declared.Why.{Why}
 use Rattle.machine_model.specs.Pieces.{piece_of}
 use Rattle.machine_model.specs.Refusals.{refusal, when}
 use Rattle.machine_model.specs.declared.Why.TheVariants as why
-use Rattle.machine_model.specs.Operations.{Operations}
+use Rattle.machine_model.specs.Routines.{Routines}
 use Rattle.dram_model.specs.declared.geometry.Geometry.{Geometry}
 use Rattle.dram_model.specs.Chip.{Banks}
 use Rattle.object_alloc.specs.Listed.{Named, has_name}
@@ -169,7 +169,7 @@ module _ (old new : Machine) (number : ℕ) (name : List ℕ) (chip chip' : Chip
     }
 
 -- Of an object that stands, no print is refused
-pub stands_allowed : (g : Geometry) (operations : Operations) (table : List Named) (name : List ℕ)
+pub stands_allowed : (g : Geometry) (operations : Routines) (table : List Named) (name : List ℕ)
     → has_name table name ≡ true → refusal g operations table (Print name) ≡ None
 stands_allowed g operations table name h = ap (λ b. when (not b) (why.NoObject 0)) h
 

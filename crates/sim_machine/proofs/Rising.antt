@@ -15,7 +15,7 @@ use Rattle.wave_model.specs.Schedule.{Turn}
 use Rattle.bbop_isa.specs.Forms.{Instruction}
 use Rattle.machine_model.specs.Agrees.{IsPlain}
 use Rattle.machine_model.specs.Laws.{AreFew, TableFits}
-use Rattle.machine_model.specs.Operations.{Program, Operations, operations_in}
+use Rattle.machine_model.specs.Routines.{Program, Routines, routines_in}
 use Rattle.machine_model.specs.Pieces.{AreBbops, IsPiece, Piece, Wave, instrs_in, piece_of}
 use Rattle.machine_model.specs.Pieces as piece
 use Rattle.machine_model.specs.Pieces.{piece_events}
@@ -26,7 +26,7 @@ use Rattle.machine_model.proofs.Pieces.{piece_counted}
 use Rattle.machine_model.proofs.Tables.{fits_banks}
 use Rattle.object_steps.specs.Objects.{LiesOn, RisesAtMost}
 
-few_rise : (g : Geometry) (operations : Operations) (table : List Named)
+few_rise : (g : Geometry) (operations : Routines) (table : List Named)
     (script : List Instruction) (k : Counters) (n : ℕ) → AreFew g operations table script
     → n ≤ sum_done rows_printed g operations table script
     → RisesAtMost (length script * (16 * WALK_MAX)) k
@@ -42,12 +42,12 @@ few_rise g operations table script k n few h = record {
 pub piece_rises : (g : Geometry) (p : Program) (turn : Turn) (table : Listing) (piece : Piece)
     (k l : Counters) (n : ℕ) → LiesOn g table → IsPiece piece
     → AllByRecursion IsPlain (instrs_in piece)
-    → n ≤ sum_done rows_printed g (operations_in p) table.pairs (instrs_in piece)
-    → l ≡ with_reads n (all_counted (piece_events g (operations_in p) turn table.pairs piece) k)
+    → n ≤ sum_done rows_printed g (routines_in p) table.pairs (instrs_in piece)
+    → l ≡ with_reads n (all_counted (piece_events g (routines_in p) turn table.pairs piece) k)
     → RisesAtMost (length (instrs_in piece) * (16 * WALK_MAX)) k l
 piece_rises g p turn table piece k l n lies is plain h e =
     let fits : TableFits g table.pairs = record { listed = lies.listed; objects = lies.objects } in
-    let operations = operations_in p in
+    let operations = routines_in p in
     let counted = piece_counted g operations turn table.pairs piece k
     (geometry_parts g lies.geometry).0 (fits_banks g table.pairs fits) is in
     subst (RisesAtMost (length (instrs_in piece) * (16 * WALK_MAX)) k)
@@ -70,7 +70,7 @@ pub wave_rises : {X : Type 0} (g : Geometry) (p : Program) (turn : Turn) (table 
     (f : X → Instruction) (xs : List X) (k l : Counters) → LiesOn g table
     → AreBbops (map f xs) → 0 < length xs → length xs ≤ 16
     → AllByRecursion IsPlain (map f xs)
-    → l ≡ all_counted (piece_events g (operations_in p) turn table.pairs (Wave (map f xs))) k
+    → l ≡ all_counted (piece_events g (routines_in p) turn table.pairs (Wave (map f xs))) k
     → RisesAtMost (256 * WALK_MAX) k l
 wave_rises g p turn table f xs k l lies bbops some few plain e =
     let long : length (map f xs) ≡ length xs = length-map xs f in
@@ -89,18 +89,18 @@ one_piece instr false e = (e, refl)
 
 pub instr_rises : (g : Geometry) (p : Program) (turn : Turn) (table : Listing)
     (instr : Instruction) (k l : Counters) → LiesOn g table → IsPlain instr
-    → l ≡ with_reads (rows_if_done rows_printed g (operations_in p) table.pairs instr)
-    (all_counted (piece_events g (operations_in p) turn table.pairs (piece_of instr)) k)
+    → l ≡ with_reads (rows_if_done rows_printed g (routines_in p) table.pairs instr)
+    (all_counted (piece_events g (routines_in p) turn table.pairs (piece_of instr)) k)
     → RisesAtMost (16 * WALK_MAX) k l
 instr_rises g p turn table instr k l lies plain e =
     let of = one_piece instr (is_bbop instr) refl in
-    let reads = rows_if_done rows_printed g (operations_in p) table.pairs instr in
-    let few : reads ≤ sum_done rows_printed g (operations_in p) table.pairs (instr ∷ []) =
+    let reads = rows_if_done rows_printed g (routines_in p) table.pairs instr in
+    let few : reads ≤ sum_done rows_printed g (routines_in p) table.pairs (instr ∷ []) =
     omega arith in
     let rise = piece_rises g p turn table (piece_of instr) k l reads lies of.0
     (subst (AllByRecursion IsPlain) (sym of.1) (plain, tt))
     (subst (λ (xs : List Instruction). reads
-    ≤ sum_done rows_printed g (operations_in p) table.pairs xs) (sym of.1) few) e in
+    ≤ sum_done rows_printed g (routines_in p) table.pairs xs) (sym of.1) few) e in
     let one = subst (λ (xs : List Instruction). RisesAtMost (length xs * (16 * WALK_MAX)) k l)
     of.1 rise in
     rises_less _ (16 * WALK_MAX) k l (omega arith) one

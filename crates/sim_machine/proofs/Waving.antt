@@ -12,7 +12,7 @@ use Rattle.dram_model.specs.Events.{row_events}
 use Rattle.dram_model.specs.View.{ChipView, Did}
 use Rattle.dram_model.specs.Elements.{FailedBelow}
 use Rattle.uprog_ctl.specs.Waves.{BoundJob, CanRun, StoppedAmong, job_queues, wave_events, wave_job}
-use Rattle.wave_model.specs.Schedule.{Job, Queues, Turn, events_of_picks, in_turn, picked, queues}
+use Rattle.wave_model.specs.Schedule.{WaveJob, Queues, Turn, events_of_picks, in_turn, picked, queues}
 use Rattle.wave_model.specs.Schedule.{state_behind, whole_picks, without_next}
 
 -- what holds of all holds of one
@@ -28,7 +28,7 @@ can_run_there g g' jobs e all =
     subst (λ (x : Geometry). AllByRecursion (CanRun x) jobs) (sym e) all
 
 -- the jobs are those of the bbops
-pub wave_did : (g g' : Geometry) (turn : Turn) (jobs : List BoundJob) (granted : List Job)
+pub wave_did : (g g' : Geometry) (turn : Turn) (jobs : List BoundJob) (granted : List WaveJob)
     (old new : ChipView) → g' ≡ g → map (wave_job g.rows) jobs ≡ granted
     → Did (wave_events in_turn g'.banks turn (job_queues g'.rows jobs)) old new
     → Did (wave_events in_turn g.banks turn (queues granted)) old new
@@ -37,7 +37,7 @@ wave_did g g' turn jobs granted old new e f h =
     (subst (λ (x : Geometry). Did (wave_events in_turn x.banks turn (job_queues x.rows jobs))
     old new) e h)
 
-pub wave_turn : (g g' : Geometry) (turn behind : Turn) (jobs : List BoundJob) (granted : List Job)
+pub wave_turn : (g g' : Geometry) (turn behind : Turn) (jobs : List BoundJob) (granted : List WaveJob)
     → g' ≡ g → map (wave_job g.rows) jobs ≡ granted
     → behind ≡ state_behind in_turn g'.banks turn (job_queues g'.rows jobs)
     → behind ≡ state_behind in_turn g.banks turn (queues granted)
@@ -45,7 +45,7 @@ wave_turn g g' turn behind jobs granted e f h =
     h ∙ ap (λ (x : Geometry). state_behind in_turn x.banks turn (job_queues x.rows jobs)) e
     ∙ ap (λ js. state_behind in_turn g.banks turn (queues js)) f
 
-pub wave_stopped : (g g' : Geometry) (turn : Turn) (jobs : List BoundJob) (granted : List Job)
+pub wave_stopped : (g g' : Geometry) (turn : Turn) (jobs : List BoundJob) (granted : List WaveJob)
     (old new : ChipView) → g' ≡ g → map (wave_job g.rows) jobs ≡ granted
     → StoppedAmong (wave_events in_turn g'.banks turn (job_queues g'.rows jobs))
     (job_queues g'.rows jobs) old new
@@ -109,7 +109,7 @@ none_past : (t : Bool) (b k banks : ℕ) (cs : List Command) → nat_lt b banks 
 none_past true b k banks cs e h l = absurd (grind (arith, e, h, l))
 none_past false b k banks cs e h l = refl
 
-idle : (b k : ℕ) (jobs : List Job) → AllByRecursion (λ job. job.banks ≤ k) jobs → k ≤ b
+idle : (b k : ℕ) (jobs : List WaveJob) → AllByRecursion (λ job. job.banks ≤ k) jobs → k ≤ b
     → queues jobs b ≡ []
 idle b k [] all l = refl
 idle b k (job ∷ jobs) all l =
@@ -117,7 +117,7 @@ idle b k (job ∷ jobs) all l =
     all.0 l) ∙ idle b k jobs all.1 l
 
 -- where a call fails, the banks past those of every job are as they were
-pub stopped_below : (banks : ℕ) (turn : Turn) (jobs : List Job) (old new : ChipView) (k : ℕ)
+pub stopped_below : (banks : ℕ) (turn : Turn) (jobs : List WaveJob) (old new : ChipView) (k : ℕ)
     → StoppedAmong (wave_events in_turn banks turn (queues jobs)) (queues jobs) old new
     → AllByRecursion (λ job. job.banks ≤ k) jobs → FailedBelow k old new
 stopped_below banks turn jobs old new k s all = record {

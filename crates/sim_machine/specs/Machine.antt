@@ -15,7 +15,7 @@ use Rattle.uprog_ctl.specs.Orders.{turn_of}
 use Rattle.object_steps.specs.Objects.{LiesOn}
 use Rattle.machine_model.specs.declared.Reply.{Reply}
 use Rattle.machine_model.specs.Columns.{segments}
-use Rattle.machine_model.specs.Operations.{Operations, operations_in}
+use Rattle.machine_model.specs.Routines.{Routines, routines_in}
 use Rattle.machine_model.specs.Refusals.{object_named}
 use Rattle.machine_model.specs.Pieces.{Piece, piece_events, turn_behind, wave_queues}
 use Rattle.machine_model.specs.Report.{Said, line, lines, said_by}
@@ -49,8 +49,8 @@ pub record IsReady (m : Machine) : Type 0 where
   pub room : HEAD_BYTES + RECORD_BYTES * OBJECTS_MAX + rows_size m.geometry
       ≤ vec_capacity m.file
 
-abbrev pub operations_by : Machine → Operations
-operations_by m = operations_in (program_of m)
+abbrev pub operations_by : Machine → Routines
+operations_by m = routines_in (program_of m)
 
 -- its reply to an instruction, what is said of it in its report, and the table behind it
 abbrev pub reply_of : Machine → Instruction → Reply

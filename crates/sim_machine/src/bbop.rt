@@ -10,7 +10,7 @@ ghost use Rattle.uprog_code.specs.Shape.{shape_of};
 ghost use Rattle.uprog_code.specs.Bound.{bound_of};
 ghost use Rattle.uprog_code.specs.Legal.{IsLegalCode};
 ghost use Rattle.uprog_ctl.specs.Waves.{CanRun, wave_job};
-ghost use Rattle.machine_model.specs.Operations.{operation_of, operations_in};
+ghost use Rattle.machine_model.specs.Routines.{routine_of, routines_in};
 ghost use Rattle.machine_model.specs.Refusals.{bbop_conditions, first, object_named, dsts_in};
 ghost use Rattle.machine_model.specs.Refusals.{refusal, srcs_in};
 ghost use Rattle.machine_model.specs.Steps.{counts_for, job_of, times};
@@ -142,7 +142,7 @@ fn job_for<'p>(
     requires some { 0 < bbop.now.n }
     requires narrow { bbop.now.n ≤ WIDTH_MAX }
     requires allowed { first (bbop_conditions setting.now.table.now.limit
-        setting.now.table.now.pairs (operation_of (program_of found)) (bbop.now.dst.now
+        setting.now.table.now.pairs (routine_of (program_of found)) (bbop.now.dst.now
         ∷ bbop.now.srcs.now) bbop.now.count bbop.now.n) ≡ None }
     requires granted { IsGranted setting.now.table.now.limit setting.now.table.now.pairs
         (program_of found) bbop.now.n grant }
@@ -178,17 +178,17 @@ pub(crate) fn grant<'p>(
     requires some { 0 < bbop.now.n }
     requires narrow { bbop.now.n ≤ WIDTH_MAX }
     ensures refused { IfErr result (λ why. refusal setting.now.geometry
-        (operations_in setting.now.prog.now.programs) setting.now.table.now.pairs
+        (routines_in setting.now.prog.now.programs) setting.now.table.now.pairs
         (said_bbop op.now bbop.now) ≡ Some why) }
     ensures allowed { OnOk result (refusal setting.now.geometry
-        (operations_in setting.now.prog.now.programs) setting.now.table.now.pairs
+        (routines_in setting.now.prog.now.programs) setting.now.table.now.pairs
         (said_bbop op.now bbop.now) ≡ None) }
     ensures counts { IfOk result (λ granted. granted.counts
-        ≡ counts_for setting.now.geometry (operations_in setting.now.prog.now.programs)
+        ≡ counts_for setting.now.geometry (routines_in setting.now.prog.now.programs)
         setting.now.table.now.pairs (said_bbop op.now bbop.now)) }
     ensures job { IfOk result (λ granted. wave_job setting.now.geometry.rows
         (job_bound granted.job)
-        ≡ job_of setting.now.geometry (operations_in setting.now.prog.now.programs)
+        ≡ job_of setting.now.geometry (routines_in setting.now.prog.now.programs)
         setting.now.table.now.pairs (said_bbop op.now bbop.now)) }
     ensures runs { IfOk result (λ granted. CanRun setting.now.geometry
         (job_bound granted.job)) }

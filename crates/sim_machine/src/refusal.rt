@@ -10,7 +10,7 @@ ghost use Rattle.uprog_bin.specs.Opened.{code_of, program_of};
 ghost use Rattle.uprog_code.specs.Legal.{IsLegalCode};
 ghost use Rattle.machine_model.specs.declared.Why.{Why};
 ghost use Rattle.sim_machine.specs.Granted.{IsGranted};
-ghost use Rattle.machine_model.specs.Operations.{operation_of};
+ghost use Rattle.machine_model.specs.Routines.{routine_of};
 ghost use Rattle.machine_model.specs.Refusals.{object_named, is_absent, is_misfit, at_place, first};
 ghost use Rattle.machine_model.specs.Refusals.{operand_conditions, grant_conditions};
 ghost use Rattle.machine_model.specs.Refusals.{bbop_conditions, dsts_in, srcs_in, is_one_of};
@@ -268,7 +268,7 @@ fn granted(table: &Table, entry: &Entry<'_>, n: u8) -> Result<Grant, Why>
     requires some { 0 < n }
     requires narrow { n ≤ WIDTH_MAX }
     ensures refused { IfErr result (λ why. first
-        (grant_conditions table.now.limit table.now.pairs (operation_of (program_of entry.now))
+        (grant_conditions table.now.limit table.now.pairs (routine_of (program_of entry.now))
         n) ≡ Some why) }
     ensures granted { IfOk result (IsGranted table.now.limit table.now.pairs
         (program_of entry.now) n) }
@@ -291,10 +291,10 @@ pub(crate) fn allow(table: &Table, entry: &Entry<'_>, bbop: &Bbop<'_>) -> Result
     requires some { 0 < bbop.now.n }
     requires narrow { bbop.now.n ≤ WIDTH_MAX }
     ensures refused { IfErr result (λ why. first
-        (bbop_conditions table.now.limit table.now.pairs (operation_of (program_of entry.now))
+        (bbop_conditions table.now.limit table.now.pairs (routine_of (program_of entry.now))
         (bbop.now.dst.now ∷ bbop.now.srcs.now) bbop.now.count bbop.now.n) ≡ Some why) }
     ensures allowed { OnOk result (first (bbop_conditions table.now.limit table.now.pairs
-        (operation_of (program_of entry.now)) (bbop.now.dst.now ∷ bbop.now.srcs.now)
+        (routine_of (program_of entry.now)) (bbop.now.dst.now ∷ bbop.now.srcs.now)
         bbop.now.count bbop.now.n) ≡ None) }
     ensures granted { IfOk result (IsGranted table.now.limit table.now.pairs
         (program_of entry.now) bbop.now.n) }

@@ -10,7 +10,7 @@ ghost use Rattle.machine_model.specs.Agrees.{IsPlain};
 ghost use Rattle.machine_model.specs.Pieces.{Alone, turn_of};
 ghost use Rattle.uprog_ctl.specs.Orders.{turn_of as state_of};
 ghost use Rattle.dram_model.specs.declared.geometry.Geometry.{Geometry};
-ghost use Rattle.machine_model.specs.Operations.{Operations};
+ghost use Rattle.machine_model.specs.Routines.{Routines};
 ghost use Rattle.machine_model.specs.Script.{is_bbop};
 ghost use Rattle.machine_model.specs.Steps.{reply_to};
 ghost use Rattle.object_steps.specs.Objects.{events_alone};
@@ -49,7 +49,7 @@ fn picker_of(order: Orders) -> Order
 
 /// What freeing an object comes to.
 fn free_reply(table: &Table, name: &Name) -> Reply
-    ensures { (g : Geometry) (operations : Operations) → result
+    ensures { (g : Geometry) (operations : Routines) → result
         ≡ reply_to g operations table.now.pairs (Free name.now) }
 {
     match table.look_up(name) {

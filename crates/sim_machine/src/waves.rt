@@ -8,7 +8,7 @@ ghost use Rattle.uprog_ctl.specs.Orders.{turn_of as state_of};
 ghost use Rattle.uprog_ctl.specs.Waves.{CanRun, StoppedAmong, wave_job};
 ghost use Rattle.bbop_isa.specs.Forms.{view_of};
 ghost use Rattle.machine_model.specs.Agrees.{IsPlain};
-ghost use Rattle.machine_model.specs.Operations.{operations_in};
+ghost use Rattle.machine_model.specs.Routines.{routines_in};
 ghost use Rattle.machine_model.specs.Pieces.{AreBbops, Wave, jobs_of, piece_events, turn_behind};
 ghost use Rattle.machine_model.specs.Pieces.{wave_queues};
 ghost use Rattle.machine_model.specs.Refusals.{refusal};
@@ -32,17 +32,17 @@ fn grant_instr<'p>(setting: &Setting<'_, 'p>, instr: &Instr) -> Result<Granted<'
     requires bbop { is_bbop (view_of instr.now) ≡ true }
     requires plain { IsPlain (view_of instr.now) }
     ensures refused { IfErr result (λ why. refusal setting.now.geometry
-        (operations_in setting.now.prog.now.programs) setting.now.table.now.pairs
+        (routines_in setting.now.prog.now.programs) setting.now.table.now.pairs
         (view_of instr.now) ≡ Some why) }
     ensures allowed { OnOk result (refusal setting.now.geometry
-        (operations_in setting.now.prog.now.programs) setting.now.table.now.pairs
+        (routines_in setting.now.prog.now.programs) setting.now.table.now.pairs
         (view_of instr.now) ≡ None) }
     ensures counts { IfOk result (λ granted. granted.counts
-        ≡ counts_for setting.now.geometry (operations_in setting.now.prog.now.programs)
+        ≡ counts_for setting.now.geometry (routines_in setting.now.prog.now.programs)
         setting.now.table.now.pairs (view_of instr.now)) }
     ensures job { IfOk result (λ granted. wave_job setting.now.geometry.rows
         (job_bound granted.job)
-        ≡ job_of setting.now.geometry (operations_in setting.now.prog.now.programs)
+        ≡ job_of setting.now.geometry (routines_in setting.now.prog.now.programs)
         setting.now.table.now.pairs (view_of instr.now)) }
     ensures runs { IfOk result (λ granted. CanRun setting.now.geometry
         (job_bound granted.job)) }
@@ -81,11 +81,11 @@ fn add_bbop<'p>(plan: &mut Plan<'p>, setting: &Setting<'_, 'p>, instr: &Instr)
     requires replies_room { length plan.old.replies.items < 16 }
     requires jobs_room { length plan.old.jobs.items < 16 }
     ensures replies { plan.new.replies.items ≡ plan.old.replies.items
-        ++ reply_to setting.now.geometry (operations_in setting.now.prog.now.programs)
+        ++ reply_to setting.now.geometry (routines_in setting.now.prog.now.programs)
         setting.now.table.now.pairs (view_of instr.now) ∷ [] }
     ensures jobs { map (wave_job setting.now.geometry.rows) (map job_bound plan.new.jobs.items)
         ≡ map (wave_job setting.now.geometry.rows) (map job_bound plan.old.jobs.items)
-        ++ jobs_of setting.now.geometry (operations_in setting.now.prog.now.programs)
+        ++ jobs_of setting.now.geometry (routines_in setting.now.prog.now.programs)
         setting.now.table.now.pairs (view_of instr.now ∷ []) }
     ensures run { AllByRecursion (CanRun setting.now.geometry) (map job_bound plan.old.jobs.items)
         → AllByRecursion (CanRun setting.now.geometry) (map job_bound plan.new.jobs.items) }
@@ -107,10 +107,10 @@ fn plan_of<'p>(setting: &Setting<'_, 'p>, instrs: &[Instr]) -> Plan<'p>
     requires bbops { AreBbops (map view_of instrs.now) }
     requires plain { AllByRecursion IsPlain (map view_of instrs.now) }
     ensures replies { result.replies.items ≡ map (reply_to setting.now.geometry
-        (operations_in setting.now.prog.now.programs) setting.now.table.now.pairs)
+        (routines_in setting.now.prog.now.programs) setting.now.table.now.pairs)
         (map view_of instrs.now) }
     ensures jobs { map (wave_job setting.now.geometry.rows) (map job_bound result.jobs.items)
-        ≡ jobs_of setting.now.geometry (operations_in setting.now.prog.now.programs)
+        ≡ jobs_of setting.now.geometry (routines_in setting.now.prog.now.programs)
         setting.now.table.now.pairs (map view_of instrs.now) }
     ensures run { AllByRecursion (CanRun setting.now.geometry) (map job_bound result.jobs.items) }
     ensures few { length result.jobs.items ≤ 16 }
@@ -143,19 +143,19 @@ pub(crate) fn do_wave<D: Dram>(
     ensures borrow { D.borrow dram.new ≡ D.borrow dram.old }
     ensures kept { Kept (D.view dram.old) (D.view dram.new) }
     ensures replies { IfOk result (λ replies. replies.items ≡ map (reply_to setting.now.geometry
-        (operations_in setting.now.prog.now.programs) setting.now.table.now.pairs)
+        (routines_in setting.now.prog.now.programs) setting.now.table.now.pairs)
         (map view_of instrs.now)) }
     ensures turn { OnOk result (state_of order.new ≡ turn_behind setting.now.geometry
-        (operations_in setting.now.prog.now.programs) (state_of order.old)
+        (routines_in setting.now.prog.now.programs) (state_of order.old)
         setting.now.table.now.pairs (Wave (map view_of instrs.now))) }
     ensures did { OnOk result (Did (piece_events setting.now.geometry
-        (operations_in setting.now.prog.now.programs) (state_of order.old)
+        (routines_in setting.now.prog.now.programs) (state_of order.old)
         setting.now.table.now.pairs (Wave (map view_of instrs.now))) (D.view dram.old)
         (D.view dram.new)) }
     ensures stopped { OnErr result (StoppedAmong (piece_events setting.now.geometry
-        (operations_in setting.now.prog.now.programs) (state_of order.old)
+        (routines_in setting.now.prog.now.programs) (state_of order.old)
         setting.now.table.now.pairs (Wave (map view_of instrs.now)))
-        (wave_queues setting.now.geometry (operations_in setting.now.prog.now.programs)
+        (wave_queues setting.now.geometry (routines_in setting.now.prog.now.programs)
         setting.now.table.now.pairs (map view_of instrs.now)) (D.view dram.old)
         (D.view dram.new)) }
 {

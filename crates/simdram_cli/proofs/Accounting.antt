@@ -8,7 +8,7 @@ use Rattle.uprog_code.specs.Programs.{IsProgram}
 use Rattle.uprog_bin.specs.Spelling.{HasVersion, program_bytes}
 use Rattle.uprog_bin.specs.Reading.{program_in, ProgFault}
 use Rattle.uprog_bin.specs.Opened.{File, IsProgramFile}
-use Rattle.machine_model.specs.Operations.{Program}
+use Rattle.machine_model.specs.Routines.{Program}
 use Rattle.cli_model.specs.World.{World, world}
 use Rattle.cli_model.specs.Steps.{Take, Put, Refusal, Refused, Done, Stopped, Goes, loading}
 use Rattle.cli_model.specs.Stands.{files_after, sent_by}

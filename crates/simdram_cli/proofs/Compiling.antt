@@ -7,7 +7,7 @@ use Rattle.dram_model.specs.View.{ChipView}
 use Rattle.host_edge.specs.Views.{Files, FolderView, SinkView, Told, AppendsPart}
 use Rattle.fault_counts.specs.Counts.{Rose}
 use Rattle.uprog_bin.specs.Spelling.{program_bytes}
-use Rattle.machine_model.specs.Operations.{Program}
+use Rattle.machine_model.specs.Routines.{Program}
 use Rattle.machine_model.proofs.Places.{bytes_differ}
 use Rattle.cli_model.specs.World.{World, world, with_file}
 use Rattle.cli_model.specs.Steps.{Step, Take, Store, Put, Refusal, PutFailed, Done, Stopped, Goes}

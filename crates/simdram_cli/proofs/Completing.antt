@@ -11,7 +11,7 @@ use Rattle.dram_model.specs.View.{ChipView}
 use Rattle.fault_counts.specs.Counts.{Rose}
 use Rattle.bbop_isa.specs.Forms.{Instruction}
 use Rattle.uprog_bin.specs.Spelling.{program_bytes}
-use Rattle.machine_model.specs.Operations.{Program, operations_in}
+use Rattle.machine_model.specs.Routines.{Program, routines_in}
 use Rattle.machine_model.specs.Opened.{Image, opened}
 use Rattle.machine_model.specs.Pieces.{pieces}
 use Rattle.machine_model.specs.Report.{total_line}
@@ -1003,7 +1003,7 @@ work_first but out program script i =
     of_more P (script_steps program script i)
     (Use ∷ Store out (image_by program script i)
     ∷ Put (total_line (tally_by program script i) (refused_by program script i)) ∷ [])
-    (pieces_of P i.geometry (operations_in program) i.table (opened i) 1 (pieces script)
+    (pieces_of P i.geometry (routines_in program) i.table (opened i) 1 (pieces script)
     (λ e. cc) (λ e. cc)) ((λ e. cc), ((λ e. cc), ((λ e. cc), tt)))
 
 job_first : (but : Option (List ℕ)) (names : JobNames) (program : Program) (texts : Texts)

@@ -14,7 +14,7 @@ use Rattle.uprog_bin.specs.Opened.{IsProgramFile}
 use Rattle.uprog_bin.specs.Reading.{program_in, ProgFault}
 use Rattle.bbop_isa.specs.Forms.{Instruction}
 use Rattle.machine_model.specs.Agrees.{IsPlain}
-use Rattle.machine_model.specs.Operations.{Program, operations_in}
+use Rattle.machine_model.specs.Routines.{Program, routines_in}
 use Rattle.machine_model.specs.Opened.{Image, opened}
 use Rattle.machine_model.specs.Report.{lines, total_line}
 use Rattle.machine_model.specs.Script.{banks_at_end, table_at_end}
@@ -213,7 +213,7 @@ pub stays_inside : (program : Program) (script : List Instruction) (i : Image) (
     (refused : ℕ) → IsProgram program → RowsDone script i program chip refused
     → StaysInside program script i
 stays_inside program script i chip refused legal d before instr behind bank row e out =
-    let o = operations_in program in
+    let o = routines_in program in
     let plain = parts_plain before instr behind
     (subst (AllByRecursion IsPlain) (sym e) d.plain) in
     let table = table_at_end i.geometry o i.table before in

@@ -21,8 +21,8 @@ use Rattle.machine_model.specs.declared.Reply.{Reply}
 use Rattle.machine_model.specs.declared.Reply.TheVariants.{Done as ByDone, Refused}
 use Rattle.machine_model.specs.Script.{plus, replies}
 use Rattle.uprog_code.specs.declared.walker.Counts.{Counts}
-use Rattle.machine_model.specs.Operations.{Program, Operations, meaning_in, operations_in}
-use Rattle.machine_model.specs.Operations.{operations_of}
+use Rattle.machine_model.specs.Routines.{Program, Routines, meaning_in, routines_in}
+use Rattle.machine_model.specs.Routines.{routines_of}
 use Rattle.machine_model.specs.Opened.{Image, opened, rows_of, words_of}
 use Rattle.machine_model.specs.Report.{line, lines, total_line}
 use Rattle.machine_model.specs.Steps.{Held, table_of}
@@ -79,7 +79,7 @@ line_sent : (prints : Bool) (bytes : List ℕ) (rest more : List Step)
 line_sent true bytes rest more = refl
 line_sent false bytes rest more = refl
 
-script_sent : (g : Geometry) (o : Operations) (flips : List Flip) (k : ℕ) (table : List Named)
+script_sent : (g : Geometry) (o : Routines) (flips : List Flip) (k : ℕ) (table : List Named)
     (banks : Banks) (script : List Instruction) (more : List Step)
     → sent_by (guarded_steps g o flips k table banks script ++ more)
     ≡ lines k (guarded_said_in_rows g o flips k table banks script) ++ sent_by more
@@ -100,7 +100,7 @@ line_files : (prints : Bool) (bytes : List ℕ) (rest more : List Step) (f : Fil
 line_files true bytes rest more f = refl
 line_files false bytes rest more f = refl
 
-script_files : (g : Geometry) (o : Operations) (flips : List Flip) (k : ℕ) (table : List Named)
+script_files : (g : Geometry) (o : Routines) (flips : List Flip) (k : ℕ) (table : List Named)
     (banks : Banks) (script : List Instruction) (more : List Step) (f : Files)
     → files_after (guarded_steps g o flips k table banks script ++ more) f ≡ files_after more f
 script_files g o flips k table banks [] more f = refl
@@ -118,14 +118,14 @@ work_sent : (out : List ℕ) (job : GuardJob) → sent_by (work_steps out job)
 work_sent out job =
     let total = total_line (tally_of job) (refused_of job) in
     let votes = vote_line (votes_of job) (length job.flips) in
-    script_sent job.image.geometry (operations_in job.program) job.flips 1 job.image.table
+    script_sent job.image.geometry (routines_in job.program) job.flips 1 job.image.table
     (opened job.image) job.script (last_steps out job)
     ∙ ap (λ w. lines 1 (said_of job) ++ (votes ++ w)) (append-nil total)
     ∙ sym (append_assoc (lines 1 (said_of job)) votes total)
 
 work_files : (out : List ℕ) (job : GuardJob) (f : Files) → files_after (work_steps out job) f
     ≡ with_file out (image_at_last job) f
-work_files out job f = script_files job.image.geometry (operations_in job.program) job.flips 1
+work_files out job f = script_files job.image.geometry (routines_in job.program) job.flips 1
     job.image.table (opened job.image) job.script (last_steps out job) f
 
 -- the image at the end, with these banks
@@ -277,7 +277,7 @@ ones_plain (ByPrint name) plain = (tt, tt)
 ones_plain (Free name) plain = (tt, (tt, (tt, tt)))
 ones_plain (Order order) plain = (tt, tt)
 
-walks_all : (g : Geometry) (o : Operations) (table : List Named) (script : List Instruction)
+walks_all : (g : Geometry) (o : Routines) (table : List Named) (script : List Instruction)
     → AllEnd o → AllByRecursion IsPlain script
     → AllByRecursion IsNoBadWalk (guarded_replies g o table script)
 walks_all g o table [] ends plain = tt
@@ -289,7 +289,7 @@ walks_all g o table (instr ∷ script) ends plain = (
 
 -- what is said in words
 
-tables_end : (g : Geometry) (o : Operations) (meaning : List ℕ → ℕ → List ℕ → List ℕ)
+tables_end : (g : Geometry) (o : Routines) (meaning : List ℕ → ℕ → List ℕ → List ℕ)
     (state : List Held) (script : List Instruction)
     → table_of (guarded_words_at_end g o meaning state script)
     ≡ guarded_table_at_end g o (table_of state) script
@@ -299,7 +299,7 @@ tables_end g o meaning state (instr ∷ script) =
     ∙ ap (λ (t : List Named). guarded_table_at_end g o t script)
     (guarded_table_is g o meaning state instr)
 
-triples_end : (g : Geometry) (o : Operations) (table : List Named) (script : List Instruction)
+triples_end : (g : Geometry) (o : Routines) (table : List Named) (script : List Instruction)
     → AllByRecursion HasName script → first_stranger table ≡ None
     → first_stranger (guarded_table_at_end g o table script) ≡ None
 triples_end g o table [] names none = none
@@ -308,16 +308,16 @@ triples_end g o table (instr ∷ script) names none =
     (triples_kept g o table instr names.0 none)
 
 module _ (t : List TextOp) (job : GuardJob) (implements : ImplementsAll job.program t) where
-  same : operations_of t job.program ≡ operations_in job.program
+  same : routines_of t job.program ≡ routines_in job.program
   same = same_operations job.program t implements
 
   replies_same : replies_of job ≡ replies_by t job
-  replies_same = ap (λ (o : Operations). guarded_replies job.image.geometry o job.image.table
+  replies_same = ap (λ (o : Routines). guarded_replies job.image.geometry o job.image.table
       job.script) (sym same)
 
   table_same : table_at_last job ≡ table_of (state_by t job)
   table_same =
-      ap (λ (o : Operations). guarded_table_at_end job.image.geometry o job.image.table job.script)
+      ap (λ (o : Routines). guarded_table_at_end job.image.geometry o job.image.table job.script)
       (sym same)
       ∙ ap (λ (table : List Named). guarded_table_at_end job.image.geometry (operations_by t job)
       table job.script) (sym (table_is job.image))
@@ -328,20 +328,20 @@ module _ (t : List TextOp) (job : GuardJob) (implements : ImplementsAll job.prog
       (table_of (words_of job.image)) (opened job.image) job.script ≡ said_by t job
       → said_of job ≡ said_by t job
   said_same e =
-      ap (λ (o : Operations). guarded_said_in_rows job.image.geometry o job.flips 1
+      ap (λ (o : Routines). guarded_said_in_rows job.image.geometry o job.flips 1
       job.image.table (opened job.image) job.script) (sym same)
       ∙ ap (λ (table : List Named). guarded_said_in_rows job.image.geometry (operations_by t job)
       job.flips 1 table (opened job.image) job.script) (sym (table_is job.image)) ∙ e
 
   banks_same : (banks : Banks)
-      → banks ≡ guarded_rows_at_end job.image.geometry (operations_in job.program) job.flips 1
+      → banks ≡ guarded_rows_at_end job.image.geometry (routines_in job.program) job.flips 1
       job.image.table (opened job.image) job.script
       → guarded_rows_at_end job.image.geometry (operations_by t job) job.flips 1
       (table_of (words_of job.image)) (opened job.image) job.script ≡ banks
   banks_same banks e =
       ap (λ (table : List Named). guarded_rows_at_end job.image.geometry (operations_by t job)
       job.flips 1 table (opened job.image) job.script) (table_is job.image)
-      ∙ ap (λ (o : Operations). guarded_rows_at_end job.image.geometry o job.flips 1
+      ∙ ap (λ (o : Routines). guarded_rows_at_end job.image.geometry o job.flips 1
       job.image.table (opened job.image) job.script) same
       ∙ sym e
 
@@ -403,10 +403,10 @@ in_words : (t : List TextOp) (out : List ℕ) (job : GuardJob) (after : Files) (
 in_words t out job after old new status implements d = record {
   replies = replies_same t job implements;
   walks = subst (AllByRecursion IsNoBadWalk) (replies_same t job implements)
-      (walks_all job.image.geometry (operations_in job.program) job.image.table job.script
+      (walks_all job.image.geometry (routines_in job.program) job.image.table job.script
       (all_end job.program t implements) d.done.plain);
   table = table_same t job implements;
-  triples = triples_end job.image.geometry (operations_in job.program) job.image.table job.script
+  triples = triples_end job.image.geometry (routines_in job.program) job.image.table job.script
       d.names d.triples;
   mended = mends t out job after old new status implements d;
 }

@@ -13,7 +13,7 @@ use Rattle.bbop_isa.specs.declared.instr.ScriptFault.{ScriptFault}
 use Rattle.bbop_isa.specs.Forms.{Instruction}
 use Rattle.bbop_isa.specs.Script.{script_of}
 use Rattle.machine_model.specs.Opened.{Image, opened}
-use Rattle.machine_model.specs.Operations.{Program, Operations, operations_in}
+use Rattle.machine_model.specs.Routines.{Program, Routines, routines_in}
 use Rattle.machine_model.specs.Report.{line}
 use Rattle.guard_model.specs.declared.Flip.{Flip}
 use Rattle.guard_model.specs.declared.FlipsFault.{FlipsFault}
@@ -84,7 +84,7 @@ line_are : (P : ℕ → Type 0) (prints : Bool) (bytes : List ℕ) → P 3 → P
 line_are P true bytes three nine = ((three, nine), tt)
 line_are P false bytes three nine = (nine, (three, tt))
 
-script_are : (P : ℕ → Type 0) (g : Geometry) (o : Operations) (flips : List Flip) (k : ℕ)
+script_are : (P : ℕ → Type 0) (g : Geometry) (o : Routines) (flips : List Flip) (k : ℕ)
     (table : List Named) (banks : Banks) (script : List Instruction) → P 3 → P 9
     → OfSteps P (guarded_steps g o flips k table banks script)
 script_are P g o flips k table banks [] three nine = (nine, tt)
@@ -100,12 +100,12 @@ script_are P g o flips k table banks (instr ∷ script) three nine =
 
 -- the steps behind the opening
 pub opened_are : (P : ℕ → Type 0) (out : List ℕ) (job : GuardJob) → P 3 → P 9
-    → OfSteps P (guarded_steps job.image.geometry (operations_in job.program) job.flips 1
+    → OfSteps P (guarded_steps job.image.geometry (routines_in job.program) job.flips 1
     job.image.table (opened job.image) job.script ++ last_steps out job)
 opened_are P out job three nine =
-    of_more P (guarded_steps job.image.geometry (operations_in job.program) job.flips 1
+    of_more P (guarded_steps job.image.geometry (routines_in job.program) job.flips 1
     job.image.table (opened job.image) job.script) (last_steps out job)
-    (script_are P job.image.geometry (operations_in job.program) job.flips 1 job.image.table
+    (script_are P job.image.geometry (routines_in job.program) job.flips 1 job.image.table
     (opened job.image) job.script three nine) (nine, (three, (three, (three, tt))))
 
 load_of : (P : ℕ → Type 0) {A : Type 0} (name : List ℕ) (limit : ℕ) (text : List ℕ)

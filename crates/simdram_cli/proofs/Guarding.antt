@@ -30,7 +30,7 @@ use Rattle.text_lex.specs.Lexical.{items_of}
 use Rattle.wave_model.specs.Schedule.{Turn, Ahead}
 use Rattle.machine_model.specs.Agrees.{IsPlain}
 use Rattle.machine_model.specs.Opened.{Image, opened, row_writes, rows_of}
-use Rattle.machine_model.specs.Operations.{Program, operations_in}
+use Rattle.machine_model.specs.Routines.{Program, routines_in}
 use Rattle.machine_model.specs.Report.{total_line}
 use Rattle.machine_model.specs.Script.{is_refused}
 use Rattle.guard_model.specs.declared.Flip.{Flip}
@@ -217,7 +217,7 @@ pub record Worked (job : GuardJob) (shape : Geometry) (table : List Named) (now 
   pub shape_is : shape ≡ job.image.geometry
   pub table_is : table ≡ table_at_last job
   pub banks : now.banks ≡ banks_at_last job
-  pub counters : now.counters ≡ guarded_tally job.image.geometry (operations_in job.program)
+  pub counters : now.counters ≡ guarded_tally job.image.geometry (routines_in job.program)
       job.image.table job.script job.flips (opened_counters job.image.geometry)
   pub log : LogIs (events_of job) now.log
   pub votes_is : votes ≡ votes_of job
@@ -236,16 +236,16 @@ pub record Begins (job : GuardJob) (shape : Geometry) (p : Program) (table : Lis
 pub record Did (shape : Geometry) (p : Program) (table : List Named) (turn : Turn)
     (flips : List Flip) (script : List Instruction) (last : List Named) (start now : ChipView)
     (votes refused : ℕ) : Type 0 where
-  pub table_is : last ≡ guarded_table_at_end shape (operations_in p) table script
+  pub table_is : last ≡ guarded_table_at_end shape (routines_in p) table script
   pub banks : now.banks
-      ≡ guarded_rows_at_end shape (operations_in p) flips 1 table start.banks script
+      ≡ guarded_rows_at_end shape (routines_in p) flips 1 table start.banks script
   pub counters : now.counters
-      ≡ guarded_tally shape (operations_in p) table script flips start.counters
+      ≡ guarded_tally shape (routines_in p) table script flips start.counters
   pub log : Grew start.log now.log
-      (run_events shape (operations_in p) flips 1 turn table start.banks script)
-  pub votes_is : votes ≡ votes_at_end shape (operations_in p) table script
+      (run_events shape (routines_in p) flips 1 turn table start.banks script)
+  pub votes_is : votes ≡ votes_at_end shape (routines_in p) table script
   pub refused_is : refused
-      ≡ count_by is_refused (guarded_replies shape (operations_in p) table script)
+      ≡ count_by is_refused (guarded_replies shape (routines_in p) table script)
 
 log_is : (i : Image) (events : List Event) (a b : Option Log) → LogIs (row_writes i) a
     → Grew a b events → LogIs (row_writes i ++ events) b
@@ -321,8 +321,8 @@ module _ (job : GuardJob) (shape : Geometry) (table : List Named) (now : ChipVie
 pub script_are : (job : GuardJob) (shape : Geometry) (p : Program) (table : List Named)
     (turn : Turn) (start : ChipView) (end : End) (a b : World)
     → (k : Begins job shape p table turn start)
-    → Goes (guarded_steps shape (operations_in p) job.flips 1 table start.banks job.script) end a b
-    → Goes (guarded_steps job.image.geometry (operations_in job.program) job.flips 1
+    → Goes (guarded_steps shape (routines_in p) job.flips 1 table start.banks job.script) end a b
+    → Goes (guarded_steps job.image.geometry (routines_in job.program) job.flips 1
     job.image.table (opened job.image) job.script) end a b
 script_are job shape p table turn start end a b k g =
     rw (k.shape_is, k.program_is, k.table_is, k.opened_on.banks) at g
@@ -331,7 +331,7 @@ script_are job shape p table turn start end a b k g =
 pub stopped_open : (name : List ℕ) (job : GuardJob) (reason : Reason) (a b : World)
     → Goes (Open ∷ []) (Stopped reason) a b → Goes (work_steps name job) (Stopped reason) a b
 stopped_open name job reason a b g = stops (Open ∷ []) (guarded_steps job.image.geometry
-    (operations_in job.program) job.flips 1 job.image.table (opened job.image) job.script
+    (routines_in job.program) job.flips 1 job.image.table (opened job.image) job.script
     ++ last_steps name job) reason a b g
 
 fault_end : (X : Type 0) (fault : StepFault) (reason : Reason) → reason ≡ fault_reason fault
@@ -341,11 +341,11 @@ fault_end X step_fault.WriteFault reason e = ap Stopped (sym e)
 
 pub stopped_work : (X : Type 0) (name : List ℕ) (job : GuardJob) (fault : StepFault)
     (reason : Reason) (a b c : World) → reason ≡ fault_reason fault → Goes (Open ∷ []) Done a b
-    → Goes (guarded_steps job.image.geometry (operations_in job.program) job.flips 1
+    → Goes (guarded_steps job.image.geometry (routines_in job.program) job.flips 1
     job.image.table (opened job.image) job.script) (end_by {X = X} (Err fault)) b c
     → Goes (work_steps name job) (Stopped reason) a c
 stopped_work X name job fault reason a b c e g h =
-    let steps = guarded_steps job.image.geometry (operations_in job.program) job.flips 1
+    let steps = guarded_steps job.image.geometry (routines_in job.program) job.flips 1
     job.image.table (opened job.image) job.script in
     goes_on (Open ∷ []) (steps ++ last_steps name job) (Stopped reason) a b c g
     (stops steps (last_steps name job) reason b c
@@ -353,11 +353,11 @@ stopped_work X name job fault reason a b c e g h =
 
 pub worked_on : (name : List ℕ) (job : GuardJob) (end : End) (a b c d : World)
     → Goes (Open ∷ []) Done a b
-    → Goes (guarded_steps job.image.geometry (operations_in job.program) job.flips 1
+    → Goes (guarded_steps job.image.geometry (routines_in job.program) job.flips 1
     job.image.table (opened job.image) job.script) Done b c
     → Goes (last_steps name job) end c d → Goes (work_steps name job) end a d
 worked_on name job end a b c d g h k =
-    let steps = guarded_steps job.image.geometry (operations_in job.program) job.flips 1
+    let steps = guarded_steps job.image.geometry (routines_in job.program) job.flips 1
     job.image.table (opened job.image) job.script in
     goes_on (Open ∷ []) (steps ++ last_steps name job) end a b d g
     (goes_on steps (last_steps name job) end b c d h k)

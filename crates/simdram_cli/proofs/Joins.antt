@@ -7,7 +7,7 @@ use Rattle.dram_model.specs.View.{ChipView, no_counts}
 use Rattle.host_edge.specs.Views.{Files, FolderView, SinkView, Told}
 use Rattle.uprog_bin.specs.Spelling.{program_bytes}
 use Rattle.bbop_isa.specs.Forms.{Instruction}
-use Rattle.machine_model.specs.Operations.{Program}
+use Rattle.machine_model.specs.Routines.{Program}
 use Rattle.machine_model.specs.Opened.{Image}
 use Rattle.cli_model.specs.World.{World, world, with_file}
 use Rattle.cli_model.specs.Steps.{Step, Load, Take, Store, Refusal, Reason, End, Stopped, Goes}

@@ -15,8 +15,8 @@ use Rattle.bbop_isa.specs.Forms.{Instruction}
 use Rattle.bbop_isa.specs.Forms.{Init, Bbop, Load, Fill, Print, Free, Order}
 use Rattle.machine_model.specs.declared.Why.{Why}
 use Rattle.machine_model.specs.declared.Why.TheVariants as why
-use Rattle.machine_model.specs.Operations.{Program, Operation, Operations, operations_in}
-use Rattle.machine_model.specs.Operations.{operation_of, entry_named}
+use Rattle.machine_model.specs.Routines.{Program, Routine, Routines, routines_in}
+use Rattle.machine_model.specs.Routines.{routine_of, entry_named}
 use Rattle.uprog_code.specs.Texts.{TextOp, ImplementsAll}
 use Rattle.machine_model.specs.Refusals.{first, when, at_place, walks_badly, object_named}
 use Rattle.machine_model.specs.Refusals.{is_absent, is_misfit, bbop_conditions, bbop_refusal}
@@ -58,7 +58,7 @@ ended_not : (t : Trace) → HasEnded t → NotWalk (walks_badly t)
 ended_not (Ended issues) h walk e = cc
 ended_not (Stuck at reason) h walk e = elim h [ ]
 
-bbop_not : (g : Geometry) (table : List Named) (o : Operation) (names : List (List ℕ))
+bbop_not : (g : Geometry) (table : List Named) (o : Routine) (names : List (List ℕ))
     (count n : ℕ) → HasEnded (o.trace n)
     → NotWalk (first (bbop_conditions (limit_of g) table o names count n))
 bbop_not g table o names count n ended =
@@ -92,18 +92,18 @@ bbop_not g table o names count n ended =
       ),
     )
 
-abbrev pub AllEnd : Operations → Type 0
-AllEnd operations = (name : List ℕ) (o : Operation) → operations name ≡ Some o → (n : ℕ) → 0 < n
+abbrev pub AllEnd : Routines → Type 0
+AllEnd operations = (name : List ℕ) (o : Routine) → operations name ≡ Some o → (n : ℕ) → 0 < n
     → n ≤ WIDTH_MAX → HasEnded (o.trace n)
 
-named_not : (g : Geometry) (table : List Named) (r : Option Operation) (names : List (List ℕ))
-    (count n : ℕ) → ((o : Operation) → r ≡ Some o → HasEnded (o.trace n))
+named_not : (g : Geometry) (table : List Named) (r : Option Routine) (names : List (List ℕ))
+    (count n : ℕ) → ((o : Routine) → r ≡ Some o → HasEnded (o.trace n))
     → NotWalk (bbop_refusal g table r names count n)
 named_not g table None names count n ends walk e = cc
 named_not g table (Some o) names count n ends walk e =
     bbop_not g table o names count n (ends o refl) walk e
 
-refusal_not : (g : Geometry) (operations : Operations) (table : List Named) (i : Instruction)
+refusal_not : (g : Geometry) (operations : Routines) (table : List Named) (i : Instruction)
     → AllEnd operations → IsPlain i → NotWalk (refusal g operations table i)
 refusal_not g operations table (Bbop op dst srcs count n) ends plain =
     named_not g table (operations op) (dst ∷ srcs) count n
@@ -162,7 +162,7 @@ reply_not : (r : Option Why) (counts : _) → NotWalk r → IsNoBadWalk (reply_b
 reply_not None counts n walk e = cc
 reply_not (Some reason) counts n walk e = n walk (cc)
 
-pub no_walks : (g : Geometry) (operations : Operations) (table : List Named)
+pub no_walks : (g : Geometry) (operations : Routines) (table : List Named)
     (script : List Instruction) → AllEnd operations → AllByRecursion IsPlain script
     → AllByRecursion IsNoBadWalk (replies g operations table script)
 no_walks g operations table [] ends plain = tt
@@ -171,15 +171,15 @@ no_walks g operations table (i ∷ script) ends plain = (
   no_walks g operations (table_after g operations table i) script ends plain.1,
 )
 
-ends_case : (x : Option Microprogram) (y : Option TextOp) (o : Operation) (n : ℕ) → Matched x y
-    → option_map operation_of x ≡ Some o → 0 < n → n ≤ WIDTH_MAX → HasEnded (o.trace n)
+ends_case : (x : Option Microprogram) (y : Option TextOp) (o : Routine) (n : ℕ) → Matched x y
+    → option_map routine_of x ≡ Some o → 0 < n → n ≤ WIDTH_MAX → HasEnded (o.trace n)
 ends_case None y o n m e l k = cc
 ends_case (Some entry) None o n m e l k = elim m [ ]
 ends_case (Some entry) (Some op) o n (both _ _ does) e l k =
-    let is : operation_of entry ≡ o = cc in
-    subst (λ (q : Operation). HasEnded (q.trace n)) is
+    let is : routine_of entry ≡ o = cc in
+    subst (λ (q : Routine). HasEnded (q.trace n)) is
     (subst (λ (s : _). HasEnded (trace s entry.code n)) (sym does.shape) (does.code.ends n l k))
 
 -- every walk of a program that implements a text ends
-pub all_end : (p : Program) (t : List TextOp) → ImplementsAll p t → AllEnd (operations_in p)
+pub all_end : (p : Program) (t : List TextOp) → ImplementsAll p t → AllEnd (routines_in p)
 all_end p t i name o e n l k = ends_case (entry_named p name) _ o n (matched p t name i) e l k

@@ -8,7 +8,7 @@ use Rattle.object_alloc.specs.Listed.{Named}
 use Rattle.object_alloc.specs.Spelling.{image_bytes}
 use Rattle.bbop_isa.specs.Forms.{Instruction}
 use Rattle.wave_model.specs.Schedule.{Turn, Ahead}
-use Rattle.machine_model.specs.Operations.{Program, operations_in}
+use Rattle.machine_model.specs.Routines.{Program, routines_in}
 use Rattle.machine_model.specs.Opened.{Image, opened, rows_of}
 use Rattle.machine_model.specs.Pieces.{events_of_pieces, pieces, script_events}
 use Rattle.std.specs.Prelude.{count_by}
@@ -34,21 +34,21 @@ last_steps name program script i = Use ∷ Store name (image_by program script i
 pub own_events : (program : Program) (script : List Instruction) (i : Image) (shape : Geometry)
     (p : Program) (table : List Named) (turn : Turn) (a b : ChipView) → shape ≡ i.geometry
     → p ≡ program → table ≡ i.table → turn ≡ Ahead
-    → DidAndRead (events_of_pieces shape (operations_in p) turn table (pieces script))
-    (sum_done rows_printed shape (operations_in p) table script) a b
-    → DidAndRead (script_events i.geometry (operations_in program) i.table script)
-    (sum_done rows_printed i.geometry (operations_in program) i.table script) a b
+    → DidAndRead (events_of_pieces shape (routines_in p) turn table (pieces script))
+    (sum_done rows_printed shape (routines_in p) table script) a b
+    → DidAndRead (script_events i.geometry (routines_in program) i.table script)
+    (sum_done rows_printed i.geometry (routines_in program) i.table script) a b
 own_events program script i shape p table turn a b e f t o did = rw (e, f, t, o) at did
 
 -- what stands before the end of a job, with a machine of this shape and table
 pub record Worked (program : Program) (script : List Instruction) (i : Image) (shape : Geometry)
     (table : List Named) (start now : ChipView) (refused : ℕ) : Type 0 where
   pub shape_is : shape ≡ i.geometry
-  pub table_is : table ≡ table_at_end i.geometry (operations_in program) i.table script
+  pub table_is : table ≡ table_at_end i.geometry (routines_in program) i.table script
   pub holds : Holds i.geometry i.table
   pub opened_on : OpenedOn i start
-  pub did : DidAndRead (script_events i.geometry (operations_in program) i.table script)
-      (sum_done rows_printed i.geometry (operations_in program) i.table script) start now
+  pub did : DidAndRead (script_events i.geometry (routines_in program) i.table script)
+      (sum_done rows_printed i.geometry (routines_in program) i.table script) start now
   pub refused_is : refused ≡ refused_by program script i
 
 module _ (program : Program) (script : List Instruction) (i : Image) (shape : Geometry)
@@ -56,7 +56,7 @@ module _ (program : Program) (script : List Instruction) (i : Image) (shape : Ge
     (w : Worked program script i shape table start now refused) where
   own_image : image_bytes shape table (rows_of now.banks) ≡ image_by program script i
   own_image =
-      let o = operations_in program in
+      let o = routines_in program in
       let events = script_events i.geometry o i.table script in
       let banks : now.banks ≡ banks_at_end i.geometry o i.table (opened i) script =
       w.did.banks ∙ ap (after events) w.opened_on.banks
@@ -68,7 +68,7 @@ module _ (program : Program) (script : List Instruction) (i : Image) (shape : Ge
 
   own_tally : with_reads (shape.banks * shape.rows) now.counters ≡ tally_by program script i
   own_tally =
-      let o = operations_in program in
+      let o = routines_in program in
       let events = script_events i.geometry o i.table script in
       let printed = sum_done rows_printed i.geometry o i.table script in
       ap (λ (s : Geometry). with_reads (s.banks * s.rows) now.counters) w.shape_is
@@ -103,7 +103,7 @@ module _ (program : Program) (script : List Instruction) (i : Image) (shape : Ge
 pub lines_are : (program : Program) (script : List Instruction) (i : Image) (shape : Geometry)
     (p : Program) (table : List Named) (banks : Banks) (end : End) (a b : World)
     → shape ≡ i.geometry → p ≡ program → table ≡ i.table → banks ≡ opened i
-    → Goes (pieces_steps shape (operations_in p) table banks 1 (pieces script)) end a b
+    → Goes (pieces_steps shape (routines_in p) table banks 1 (pieces script)) end a b
     → Goes (script_steps program script i) end a b
 lines_are program script i shape p table banks end a b e f t s g = rw (e, f, t, s) at g
 
@@ -139,13 +139,13 @@ went_on name program script i end a b c d g h k =
 -- the table behind a script, and how many instructions were refused
 pub own_table : (program : Program) (script : List Instruction) (i : Image) (shape : Geometry)
     (p : Program) (table last : List Named) → shape ≡ i.geometry → p ≡ program → table ≡ i.table
-    → last ≡ table_at_end shape (operations_in p) table script
-    → last ≡ table_at_end i.geometry (operations_in program) i.table script
+    → last ≡ table_at_end shape (routines_in p) table script
+    → last ≡ table_at_end i.geometry (routines_in program) i.table script
 own_table program script i shape p table last e f t is = rw (e, f, t) at is
 
 pub own_refused : (program : Program) (script : List Instruction) (i : Image) (shape : Geometry)
     (p : Program) (table : List Named) (refused : ℕ) → shape ≡ i.geometry → p ≡ program
     → table ≡ i.table
-    → refused ≡ count_by is_refused (replies shape (operations_in p) table script)
+    → refused ≡ count_by is_refused (replies shape (routines_in p) table script)
     → refused ≡ refused_by program script i
 own_refused program script i shape p table refused e f t is = rw (e, f, t) at is

@@ -22,7 +22,7 @@ use Rattle.object_alloc.specs.Listed.{Named}
 use Rattle.bbop_isa.specs.declared.instr.Instr.{Instr}
 use Rattle.bbop_isa.specs.Forms.{Instruction, view_of}
 use Rattle.machine_model.specs.Agrees.{IsPlain}
-use Rattle.machine_model.specs.Operations.{Operations}
+use Rattle.machine_model.specs.Routines.{Routines}
 use Rattle.machine_model.specs.Script.{is_bbop, banks_at_end, table_at_end}
 use Rattle.machine_model.specs.Pieces.{AreBbops, Piece, Wave, Alone, IsPiece, instrs_in, pieces}
 use Rattle.machine_model.specs.Pieces.{wave_size}
@@ -141,7 +141,7 @@ front_is script some =
     ∙ sym whole ∙ (pieces_are_script script).1
 
 -- one piece's steps, and then the others'
-pub goes_piece : (g : Geometry) (o : Operations) (table next_table : List Named)
+pub goes_piece : (g : Geometry) (o : Routines) (table next_table : List Named)
     (banks next : Banks) (number : ℕ) (piece : Piece) (rest : List Piece) (end : End)
     (a b w : World) → next_table ≡ table_at_end g o table (instrs_in piece)
     → next ≡ banks_at_end g o table banks (instrs_in piece)
@@ -151,7 +151,7 @@ pub goes_piece : (g : Geometry) (o : Operations) (table next_table : List Named)
 goes_piece g o table next_table banks next number piece rest end a b w e f one more =
     goes_on (piece_steps g o table banks number piece) _ end a b w one (rw (← e, ← f) more)
 
-pub stops_piece : (g : Geometry) (o : Operations) (table : List Named) (banks : Banks)
+pub stops_piece : (g : Geometry) (o : Routines) (table : List Named) (banks : Banks)
     (number : ℕ) (piece : Piece) (rest : List Piece) (reason : Reason) (a b : World)
     → Goes (piece_steps g o table banks number piece) (Stopped reason) a b
     → Goes (pieces_steps g o table banks number (piece ∷ rest)) (Stopped reason) a b
@@ -240,7 +240,7 @@ sent_instr : (prints : Bool) (bytes : List ℕ) → sent_by (instr_steps prints 
 sent_instr true bytes = append-nil bytes
 sent_instr false bytes = append-nil bytes
 
-sent_piece : (g : Geometry) (o : Operations) (table : List Named) (banks : Banks) (number : ℕ)
+sent_piece : (g : Geometry) (o : Routines) (table : List Named) (banks : Banks) (number : ℕ)
     (piece : Piece) → sent_by (piece_steps g o table banks number piece)
     ≡ lines number (said_in_rows g o table banks (instrs_in piece))
 sent_piece g o table banks number (Wave wave) =
@@ -249,13 +249,13 @@ sent_piece g o table banks number (Alone instr) =
     let bytes = line number (said_by g o table banks instr) in
     sent_instr (is_print instr) bytes ∙ sym (append-nil bytes)
 
-said_count : (g : Geometry) (o : Operations) (table : List Named) (banks : Banks)
+said_count : (g : Geometry) (o : Routines) (table : List Named) (banks : Banks)
     (script : List Instruction) → length (said_in_rows g o table banks script) ≡ length script
 said_count g o table banks [] = refl
 said_count g o table banks (instr ∷ script) = ap suc (said_count g o (table_after g o table instr)
     (banks_after g o table banks instr) script)
 
-sent_pieces : (g : Geometry) (o : Operations) (table : List Named) (banks : Banks) (number : ℕ)
+sent_pieces : (g : Geometry) (o : Routines) (table : List Named) (banks : Banks) (number : ℕ)
     (pieces : List Piece) → sent_by (pieces_steps g o table banks number pieces)
     ≡ lines number (said_in_rows g o table banks (flat_map instrs_in pieces))
 sent_pieces g o table banks number [] = refl
@@ -278,7 +278,7 @@ sent_pieces g o table banks number (piece ∷ rest) =
     ∙ ap (lines number) (sym ((scripts_go_on g o table front others).said banks))
 
 -- the steps of a script send its lines
-pub sent_script : (g : Geometry) (o : Operations) (table : List Named) (banks : Banks)
+pub sent_script : (g : Geometry) (o : Routines) (table : List Named) (banks : Banks)
     (script : List Instruction) → sent_by (pieces_steps g o table banks 1 (pieces script))
     ≡ lines 1 (said_in_rows g o table banks script)
 sent_script g o table banks script =

@@ -15,7 +15,7 @@ use Rattle.bbop_isa.specs.declared.instr.Instr.{Instr}
 use Rattle.bbop_isa.specs.Forms.{Instruction, view_of}
 use Rattle.wave_model.specs.Schedule.{Turn}
 use Rattle.machine_model.specs.Agrees.{IsPlain}
-use Rattle.machine_model.specs.Operations.{Program, operations_in}
+use Rattle.machine_model.specs.Routines.{Program, routines_in}
 use Rattle.machine_model.specs.Laws.{FitsBanks}
 use Rattle.machine_model.specs.Pieces.{Piece, instrs_in, pieces, piece_events, turn_behind}
 use Rattle.machine_model.specs.Pieces.{events_of_pieces}
@@ -39,11 +39,11 @@ use Rattle.simdram_cli.proofs.Piecewise.{piece_is}
 -- a piece that was done with a program on a chip of a shape
 pub record Step (g : Geometry) (p : Program) (turn next_turn : Turn) (table next_table : List Named)
     (piece : Piece) (a b : ChipView) (refused : ℕ) : Type 0 where
-  pub turn_is : next_turn ≡ turn_behind g (operations_in p) turn table piece
-  pub table_is : next_table ≡ table_at_end g (operations_in p) table (instrs_in piece)
-  pub did : DidAndRead (piece_events g (operations_in p) turn table piece)
-      (sum_done rows_printed g (operations_in p) table (instrs_in piece)) a b
-  pub refused_is : refused ≡ count_by is_refused (replies g (operations_in p) table
+  pub turn_is : next_turn ≡ turn_behind g (routines_in p) turn table piece
+  pub table_is : next_table ≡ table_at_end g (routines_in p) table (instrs_in piece)
+  pub did : DidAndRead (piece_events g (routines_in p) turn table piece)
+      (sum_done rows_printed g (routines_in p) table (instrs_in piece)) a b
+  pub refused_is : refused ≡ count_by is_refused (replies g (routines_in p) table
       (instrs_in piece))
 
 pub step_of : (m n : Machine) (g : Geometry) (p : Program) (piece : Piece) (a b : ChipView)
@@ -97,70 +97,70 @@ module _ (g : Geometry) (p : Program) (turn next_turn : Turn) (table next_table 
   whole : front ++ others ≡ rest
   whole = ap (λ x. front ++ x) left ∙ front_is rest some
 
-  pub table_goes : (end : List Named) → table_at_end g (operations_in p) table rest ≡ end
-      → table_at_end g (operations_in p) next_table others ≡ end
+  pub table_goes : (end : List Named) → table_at_end g (routines_in p) table rest ≡ end
+      → table_at_end g (routines_in p) next_table others ≡ end
   table_goes end e =
-      ap (λ (t : List Named). table_at_end g (operations_in p) t others) step.table_is
-      ∙ sym (scripts_go_on g (operations_in p) table front others).tables
-      ∙ ap (table_at_end g (operations_in p) table) whole ∙ e
+      ap (λ (t : List Named). table_at_end g (routines_in p) t others) step.table_is
+      ∙ sym (scripts_go_on g (routines_in p) table front others).tables
+      ∙ ap (table_at_end g (routines_in p) table) whole ∙ e
 
   pieces_are : pieces rest ≡ next_piece rest ∷ pieces others
   pieces_are = begins rest some ∙ ap (λ x. next_piece rest ∷ pieces x) (sym left)
 
-  sum_is : sum_done rows_printed g (operations_in p) table rest
-      ≡ sum_done rows_printed g (operations_in p) table front
-      + sum_done rows_printed g (operations_in p) next_table others
+  sum_is : sum_done rows_printed g (routines_in p) table rest
+      ≡ sum_done rows_printed g (routines_in p) table front
+      + sum_done rows_printed g (routines_in p) next_table others
   sum_is =
-      ap (sum_done rows_printed g (operations_in p) table) (sym whole)
-      ∙ (scripts_go_on g (operations_in p) table front others).rows rows_printed
-      ∙ ap (λ (t : List Named). sum_done rows_printed g (operations_in p) table front
-      + sum_done rows_printed g (operations_in p) t others) (sym step.table_is)
+      ap (sum_done rows_printed g (routines_in p) table) (sym whole)
+      ∙ (scripts_go_on g (routines_in p) table front others).rows rows_printed
+      ∙ ap (λ (t : List Named). sum_done rows_printed g (routines_in p) table front
+      + sum_done rows_printed g (routines_in p) t others) (sym step.table_is)
 
-  events_are : events_of_pieces g (operations_in p) turn table (pieces rest)
-      ≡ piece_events g (operations_in p) turn table (next_piece rest)
-      ++ events_of_pieces g (operations_in p) next_turn next_table (pieces others)
+  events_are : events_of_pieces g (routines_in p) turn table (pieces rest)
+      ≡ piece_events g (routines_in p) turn table (next_piece rest)
+      ++ events_of_pieces g (routines_in p) next_turn next_table (pieces others)
   events_are =
-      ap (events_of_pieces g (operations_in p) turn table) pieces_are
+      ap (events_of_pieces g (routines_in p) turn table) pieces_are
       ∙ rw (step.turn_is, step.table_is) refl
 
   pub did_goes : (new : ChipView)
-      → DidAndRead (events_of_pieces g (operations_in p) next_turn next_table (pieces others))
-      (sum_done rows_printed g (operations_in p) next_table others) b new
-      → DidAndRead (events_of_pieces g (operations_in p) turn table (pieces rest))
-      (sum_done rows_printed g (operations_in p) table rest) a new
+      → DidAndRead (events_of_pieces g (routines_in p) next_turn next_table (pieces others))
+      (sum_done rows_printed g (routines_in p) next_table others) b new
+      → DidAndRead (events_of_pieces g (routines_in p) turn table (pieces rest))
+      (sum_done rows_printed g (routines_in p) table rest) a new
   did_goes new more =
       let both = did_more _ _ _ _ a b new step.did more in
       rw (events_are, sum_is) both
 
   pub refused_goes : (before total : ℕ)
-      → before + count_by is_refused (replies g (operations_in p) table rest) ≡ total
-      → before + refused + count_by is_refused (replies g (operations_in p) next_table others)
+      → before + count_by is_refused (replies g (routines_in p) table rest) ≡ total
+      → before + refused + count_by is_refused (replies g (routines_in p) next_table others)
       ≡ total
   refused_goes before total e =
-      let parts = ap (λ x. count_by is_refused (replies g (operations_in p) table x)) (sym whole)
-      ∙ ap (count_by is_refused) (scripts_go_on g (operations_in p) table front others).answers
-      ∙ count_both is_refused (replies g (operations_in p) table front)
-      (replies g (operations_in p) (table_at_end g (operations_in p) table front) others)
-      ∙ ap (λ (t : List Named). count_by is_refused (replies g (operations_in p) table front)
-      + count_by is_refused (replies g (operations_in p) t others)) (sym step.table_is) in
+      let parts = ap (λ x. count_by is_refused (replies g (routines_in p) table x)) (sym whole)
+      ∙ ap (count_by is_refused) (scripts_go_on g (routines_in p) table front others).answers
+      ∙ count_both is_refused (replies g (routines_in p) table front)
+      (replies g (routines_in p) (table_at_end g (routines_in p) table front) others)
+      ∙ ap (λ (t : List Named). count_by is_refused (replies g (routines_in p) table front)
+      + count_by is_refused (replies g (routines_in p) t others)) (sym step.table_is) in
       omega (arith, e, parts, step.refused_is)
 
-  banks_are : Holds g table → b.banks ≡ banks_at_end g (operations_in p) table a.banks front
-  banks_are holds = step.did.banks ∙ piece_is_steps g (operations_in p) turn table
+  banks_are : Holds g table → b.banks ≡ banks_at_end g (routines_in p) table a.banks front
+  banks_are holds = step.did.banks ∙ piece_is_steps g (routines_in p) turn table
       (next_piece rest) a.banks holds.words holds.fits (piece_is rest some)
 
   pub goes_goes : (number taken : ℕ) (files : FolderView) (s t : SinkView) (end : End) (w : World)
       → taken ≡ length (instrs_in (next_piece rest)) → Holds g table
-      → Goes (piece_steps g (operations_in p) table a.banks (number + 1) (next_piece rest)) Done
+      → Goes (piece_steps g (routines_in p) table a.banks (number + 1) (next_piece rest)) Done
       (world files s a) (world files t b)
-      → Goes (pieces_steps g (operations_in p) next_table b.banks
+      → Goes (pieces_steps g (routines_in p) next_table b.banks
       (number + taken + 1) (pieces others)) end (world files t b) w
-      → Goes (pieces_steps g (operations_in p) table a.banks (number + 1) (pieces rest)) end
+      → Goes (pieces_steps g (routines_in p) table a.banks (number + 1) (pieces rest)) end
       (world files s a) w
   goes_goes number taken files s t end w size holds one more =
       let place : number + taken + 1 ≡ number + 1 + length (instrs_in (next_piece rest)) =
       omega (arith, size) in
-      rw pieces_are (goes_piece g (operations_in p) table next_table a.banks b.banks (number + 1)
+      rw pieces_are (goes_piece g (routines_in p) table next_table a.banks b.banks (number + 1)
       (next_piece rest) (pieces others) end (world files s a) (world files t b) w step.table_is
       (banks_are holds) one (rw place at more))
 

@@ -15,7 +15,7 @@ use Rattle.uprog_bin.specs.Spelling.{program_bytes}
 use Rattle.uprog_code.specs.Texts.{TextOp, ImplementsAll, text_op}
 use Rattle.bbop_isa.specs.Forms.{Instruction}
 use Rattle.machine_model.specs.Agrees.{IsPlain}
-use Rattle.machine_model.specs.Operations.{Program, Operations, operations_in}
+use Rattle.machine_model.specs.Routines.{Program, Routines, routines_in}
 use Rattle.op_text.specs.Language.{Operation}
 use Rattle.op_text.specs.OpsOf.{IsOpsOf}
 use Rattle.machine_model.specs.Opened.{Image, opened}
@@ -42,7 +42,7 @@ use Rattle.simdram_cli.specs.Job.{script_steps, status_by, tally_by, work_steps}
 use Rattle.simdram_cli.specs.Run.{job_names, run_steps}
 use Rattle.simdram_cli.specs.Works.{WorkDone}
 use Rattle.simdram_cli.specs.Ends.{IsCompiled, IsRead, DoneBy, IsDoneBy, JobDone, RunEnds}
-use Rattle.simdram_cli.specs.Headline.{IsJob, read_as, Headline, RepliesExact}
+use Rattle.simdram_cli.specs.Headline.{IsRunJob, read_as, Headline, RepliesExact}
 use Rattle.simdram_cli.proofs.Foreseen.{was_read, text_at, spells_at, tell_both}
 use Rattle.simdram_cli.proofs.Piecewise.{sent_more, sent_script}
 use Rattle.simdram_cli.proofs.Running.{Apart}
@@ -73,14 +73,14 @@ instr_files : (prints : Bool) (bytes : List ℕ) (f : Files)
 instr_files true bytes f = refl
 instr_files false bytes f = refl
 
-piece_files : (g : Geometry) (o : Operations) (table : List Named) (banks : Banks) (number : ℕ)
+piece_files : (g : Geometry) (o : Routines) (table : List Named) (banks : Banks) (number : ℕ)
     (piece : Piece) (f : Files) → files_after (piece_steps g o table banks number piece) f ≡ f
 piece_files g o table banks number (Wave wave) f =
     lines_files number (said_in_rows g o table banks wave) f
 piece_files g o table banks number (Alone instr) f =
     instr_files (is_print instr) (line number (said_by g o table banks instr)) f
 
-pub pieces_files : (g : Geometry) (o : Operations) (table : List Named) (banks : Banks) (number : ℕ)
+pub pieces_files : (g : Geometry) (o : Routines) (table : List Named) (banks : Banks) (number : ℕ)
     (pieces : List Piece) (f : Files)
     → files_after (pieces_steps g o table banks number pieces) f ≡ f
 pieces_files g o table banks number [] f = refl
@@ -99,7 +99,7 @@ work_files out program script i f =
     let last = Use ∷ Store out (image_by program script i)
     ∷ Put (total_line (tally_by program script i) (refused_by program script i)) ∷ [] in
     files_more (script_steps program script i) last f
-    ∙ ap (files_after last) (pieces_files i.geometry (operations_in program) i.table (opened i) 1
+    ∙ ap (files_after last) (pieces_files i.geometry (routines_in program) i.table (opened i) 1
     (pieces script) f)
 
 pub work_sent : (out : List ℕ) (program : Program) (script : List Instruction) (i : Image)
@@ -109,7 +109,7 @@ work_sent out program script i =
     let total = total_line (tally_by program script i) (refused_by program script i) in
     sent_more (script_steps program script i) (Use ∷ Store out (image_by program script i)
     ∷ Put total ∷ [])
-    ∙ ap (λ w. w ++ (total ++ [])) (sent_script i.geometry (operations_in program) i.table
+    ∙ ap (λ w. w ++ (total ++ [])) (sent_script i.geometry (routines_in program) i.table
     (opened i) script)
     ∙ ap (λ w. lines 1 (said_in program script i) ++ w) (append-nil total)
 
@@ -243,7 +243,7 @@ has_read names program ops texts holds before apart there is_text read foretold 
 job_is : (names : RunNames) (ops : List ℕ) (texts : Texts) (t : List Operation)
     (program : Program) (before : Files) → (h : HasRead names program ops texts before)
     → IsOpsOf ops t
-    → IsJob names before (job_of (map text_op t) h.job.script h.job.image program)
+    → IsRunJob names before (job_of (map text_op t) h.job.script h.job.image program)
 job_is names ops texts t program before h e = record {
   ops = t;
   are = spells_at (before names.ops.now) ops t h.ops_at e;

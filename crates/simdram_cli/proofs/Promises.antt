@@ -10,8 +10,8 @@ use Rattle.dram_model.specs.View.{ChipView}
 use Rattle.object_alloc.specs.Listed.{Named}
 use Rattle.object_alloc.specs.Spelling.{image_bytes, IsImage}
 use Rattle.bbop_isa.specs.Forms.{Instruction}
-use Rattle.machine_model.specs.Operations.{Program, Operations, operations_of, operations_in}
-use Rattle.machine_model.specs.Operations.{meaning_in}
+use Rattle.machine_model.specs.Routines.{Program, Routines, routines_of, routines_in}
+use Rattle.machine_model.specs.Routines.{meaning_in}
 use Rattle.uprog_code.specs.Texts.{TextOp, ImplementsAll}
 use Rattle.machine_model.specs.Opened.{Image, opened, words_of, rows_of}
 use Rattle.machine_model.specs.Columns.{columns}
@@ -26,14 +26,14 @@ use Rattle.machine_model.proofs.Scripts.{table_step}
 use Rattle.machine_model.proofs.Whole.{every_step, rows_give_words}
 use Rattle.machine_model.proofs.Opened.{opened_agrees, report_same}
 use Rattle.machine_model.proofs.KeptAll.{does_keep, script_kept}
-use Rattle.simdram_cli.specs.Job.{said_in, tally_by, refused_by}
+use Rattle.simdram_cli.specs.RunJob.{said_in, tally_by, refused_by}
 use Rattle.simdram_cli.specs.Works.{WorkDone}
-use Rattle.simdram_cli.specs.Headline.{Job, replies_of, state_after, ObjectsRight, RowsUntouched}
+use Rattle.simdram_cli.specs.Headline.{RunJob, replies_of, state_after, ObjectsRight, RowsUntouched}
 use Rattle.simdram_cli.specs.Headline.{CommandsCounted, report_of, IsNoBadWalk}
 use Rattle.simdram_cli.proofs.NoWalks.{all_end, no_walks}
 use Rattle.simdram_cli.proofs.OpenedRows.{opened_rows}
 
-abbrev pub job_of : List TextOp → List Instruction → Image → Program → Job
+abbrev pub job_of : List TextOp → List Instruction → Image → Program → RunJob
 job_of t script i program = record { text = t; script = script; image = i; program = program }
 
 tables : (g : Geometry) (banks : Banks) (table : List Named)
@@ -48,7 +48,7 @@ tables g banks (p ∷ table) = ap (λ rest. p ∷ rest) (tables g banks table)
 pub table_is : (i : Image) → table_of (words_of i) ≡ i.table
 table_is i = tables i.geometry (opened i) i.table
 
-tables_end : (g : Geometry) (o : Operations) (meaning : List ℕ → ℕ → List ℕ
+tables_end : (g : Geometry) (o : Routines) (meaning : List ℕ → ℕ → List ℕ
     → List ℕ) (state : List Held) (script : List Instruction)
     → table_of (words_at_end g o meaning state script) ≡ table_at_end g o (table_of state) script
 tables_end g o meaning state [] = refl
@@ -56,7 +56,7 @@ tables_end g o meaning state (i ∷ script) =
     tables_end g o meaning (words_after g o meaning state i) script
     ∙ ap (λ t. table_at_end g o t script) (table_step g o meaning state i)
 
-all_steps : (g : Geometry) (o : Operations) (meaning : List ℕ → ℕ → List ℕ
+all_steps : (g : Geometry) (o : Routines) (meaning : List ℕ → ℕ → List ℕ
     → List ℕ) (script : List Instruction) → 0 < g.words → DoesAll o meaning
     → AllByRecursion IsPlain script → AllByRecursion (StepAgrees g o meaning) script
 all_steps g o meaning [] words does plain = tt
@@ -73,58 +73,58 @@ pub record IsDone (t : List TextOp) (script : List Instruction) (i : Image) (pro
   pub work : WorkDone program script i chip refused
 
 section_does : (t : List TextOp) (program : Program) → ImplementsAll program t
-    → DoesAll (operations_in program) (meaning_in t)
+    → DoesAll (routines_in program) (meaning_in t)
 section_does t program implements =
-    subst (λ (o : Operations). DoesAll o (meaning_in t))
+    subst (λ (o : Routines). DoesAll o (meaning_in t))
     (same_operations program t implements)
     (does_all program t implements)
 
 agrees_at_end : (t : List TextOp) (script : List Instruction) (i : Image) (program : Program)
     (chip : ChipView) (refused : ℕ) → IsDone t script i program chip refused
-    → Agrees i.geometry chip.banks (words_at_end i.geometry (operations_in program)
+    → Agrees i.geometry chip.banks (words_at_end i.geometry (routines_in program)
     (meaning_in t) (words_of i) script)
 agrees_at_end t script i program chip refused d =
-    let whole = rows_give_words i.geometry (operations_in program) (meaning_in t)
+    let whole = rows_give_words i.geometry (routines_in program) (meaning_in t)
     script d.words (section_does t program d.implements) d.plain (opened i) (words_of i)
     (opened_agrees i d.words d.image) in
-    let banks : banks_at_end i.geometry (operations_in program) (table_of (words_of i)) (opened i)
+    let banks : banks_at_end i.geometry (routines_in program) (table_of (words_of i)) (opened i)
     script ≡ chip.banks =
-    ap (λ (table : List Named). banks_at_end i.geometry (operations_in program) table (opened i)
+    ap (λ (table : List Named). banks_at_end i.geometry (routines_in program) table (opened i)
     script) (table_is i) ∙ sym d.work.banks in
     subst (λ (b : Banks). Agrees i.geometry b
-    (words_at_end i.geometry (operations_in program) (meaning_in t) (words_of i)
+    (words_at_end i.geometry (routines_in program) (meaning_in t) (words_of i)
     script)) banks whole
 
 -- the table at the end
 pub end_table : (t : List TextOp) (script : List Instruction) (i : Image) (program : Program)
     → ImplementsAll program t
     → table_of (state_after (job_of t script i program))
-    ≡ table_at_end i.geometry (operations_in program) i.table script
+    ≡ table_at_end i.geometry (routines_in program) i.table script
 end_table t script i program implements =
-    tables_end i.geometry (operations_of t program) (meaning_in t)
+    tables_end i.geometry (routines_of t program) (meaning_in t)
     (words_of i) script
-    ∙ ap (λ (table : List Named). table_at_end i.geometry (operations_of t program)
+    ∙ ap (λ (table : List Named). table_at_end i.geometry (routines_of t program)
     table script) (table_is i)
-    ∙ ap (λ (o : Operations). table_at_end i.geometry o i.table script)
+    ∙ ap (λ (o : Routines). table_at_end i.geometry o i.table script)
     (same_operations program t implements)
 
 pub objects_right : (out : List ℕ) (t : List TextOp) (script : List Instruction) (i : Image)
     (program : Program) (chip : ChipView) (refused : ℕ) (after : Files)
     → IsDone t script i program chip refused
     → after out
-    ≡ Some (image_bytes i.geometry (table_at_end i.geometry (operations_in program) i.table
-    script) (rows_of (banks_at_end i.geometry (operations_in program) i.table (opened i)
+    ≡ Some (image_bytes i.geometry (table_at_end i.geometry (routines_in program) i.table
+    script) (rows_of (banks_at_end i.geometry (routines_in program) i.table (opened i)
     script)))
     → ObjectsRight out (job_of t script i program) after chip
 objects_right out t script i program chip refused after d there = record {
   file = there
       ∙ ap (λ (table : List Named). Some (image_bytes i.geometry table
-      (rows_of (banks_at_end i.geometry (operations_in program) i.table (opened i) script))))
+      (rows_of (banks_at_end i.geometry (routines_in program) i.table (opened i) script))))
       (sym (end_table t script i program d.implements))
       ∙ ap (λ (b : Banks). Some (image_bytes i.geometry
       (table_of (state_after (job_of t script i program))) (rows_of b))) (sym d.work.banks);
   numbers =
-      (subst (λ (o : Operations). Agrees i.geometry chip.banks
+      (subst (λ (o : Routines). Agrees i.geometry chip.banks
       (words_at_end i.geometry o (meaning_in t) (words_of i) script))
       (sym (same_operations program t d.implements))
       (agrees_at_end t script i program chip refused d)).numbers;
@@ -135,12 +135,12 @@ pub rows_untouched : (t : List TextOp) (script : List Instruction) (i : Image)
     → RowsUntouched (job_of t script i program) chip
 rows_untouched t script i program chip refused d bank row b r out =
     let same = same_operations program t d.implements in
-    let keeps = does_keep (operations_in program) (meaning_in t)
+    let keeps = does_keep (routines_in program) (meaning_in t)
     (section_does t program d.implements) in
     ap (λ (x : Banks). row_in row (x bank)) d.work.banks
-    ∙ script_kept i.geometry (operations_in program) script keeps d.plain i.table d.image.listed
+    ∙ script_kept i.geometry (routines_in program) script keeps d.plain i.table d.image.listed
     (opened i) bank row
-    (ap (λ (o : Operations). is_touched_by i.geometry o i.table script bank row) (sym same) ∙ out)
+    (ap (λ (o : Routines). is_touched_by i.geometry o i.table script bank row) (sym same) ∙ out)
     ∙ opened_rows i bank row d.image b r
 
 pub commands_counted : (t : List TextOp) (script : List Instruction) (i : Image)
@@ -151,13 +151,13 @@ commands_counted t script i program chip refused d =
     let all = i.geometry.banks * i.geometry.rows in
     record {
       aap = ap (λ k. k.aap) d.work.counters ∙ ap
-          (λ (o : Operations). (sum_of (replies i.geometry o i.table script)).aap) same;
+          (λ (o : Routines). (sum_of (replies i.geometry o i.table script)).aap) same;
       ap = ap (λ k. k.ap) d.work.counters ∙ ap
-          (λ (o : Operations). (sum_of (replies i.geometry o i.table script)).ap) same;
+          (λ (o : Routines). (sum_of (replies i.geometry o i.table script)).ap) same;
       writes = ap (λ k. k.writes) d.work.counters
-          ∙ ap (λ (o : Operations). all + sum_done rows_loaded i.geometry o i.table script) same;
+          ∙ ap (λ (o : Routines). all + sum_done rows_loaded i.geometry o i.table script) same;
       reads = ap (λ k. k.reads) d.work.counters
-          ∙ ap (λ (o : Operations). all + sum_done rows_printed i.geometry o i.table script) same;
+          ∙ ap (λ (o : Routines). all + sum_done rows_printed i.geometry o i.table script) same;
       banks = d.work.banks;
       log = d.work.log;
     }
@@ -170,18 +170,18 @@ pub report_is : (t : List TextOp) (script : List Instruction) (i : Image) (progr
 report_is t script i program chip refused d =
     let same = same_operations program t d.implements in
     let does = section_does t program d.implements in
-    let said : said_in program script i ≡ said_in_words i.geometry (operations_in program)
+    let said : said_in program script i ≡ said_in_words i.geometry (routines_in program)
     (meaning_in t) (words_of i) script =
-    ap (λ (table : List Named). said_in_rows i.geometry (operations_in program) table (opened i)
+    ap (λ (table : List Named). said_in_rows i.geometry (routines_in program) table (opened i)
     script) (sym (table_is i))
-    ∙ report_same i.geometry (operations_in program) (meaning_in t) script
-    (all_steps i.geometry (operations_in program) (meaning_in t) script d.words
+    ∙ report_same i.geometry (routines_in program) (meaning_in t) script
+    (all_steps i.geometry (routines_in program) (meaning_in t) script d.words
     does d.plain) (opened i) (words_of i) (opened_agrees i d.words d.image) in
     ap (λ s. lines 1 s ++ total_line (tally_by program script i) (refused_by program script i)) said
-    ∙ ap (λ k. lines 1 (said_in_words i.geometry (operations_in program)
+    ∙ ap (λ k. lines 1 (said_in_words i.geometry (routines_in program)
     (meaning_in t) (words_of i) script)
     ++ total_line k (refused_by program script i)) (sym d.work.counters)
-    ∙ ap (λ (o : Operations). lines 1 (said_in_words i.geometry o (meaning_in t)
+    ∙ ap (λ (o : Routines). lines 1 (said_in_words i.geometry o (meaning_in t)
     (words_of i) script) ++ total_line chip.counters
     (count_by is_refused (replies i.geometry o i.table script))) (sym same)
 
@@ -189,14 +189,14 @@ pub refusals_are : (t : List TextOp) (script : List Instruction) (i : Image) (pr
     → ImplementsAll program t
     → refused_by program script i ≡ count_by is_refused (replies_of (job_of t script i program))
 refusals_are t script i program implements = ap
-    (λ (o : Operations). count_by is_refused (replies i.geometry o i.table script))
+    (λ (o : Routines). count_by is_refused (replies i.geometry o i.table script))
     (sym (same_operations program t implements))
 
 pub no_bad_walks : (t : List TextOp) (script : List Instruction) (i : Image) (program : Program)
     → ImplementsAll program t → AllByRecursion IsPlain script
     → AllByRecursion IsNoBadWalk (replies_of (job_of t script i program))
 no_bad_walks t script i program implements plain =
-    subst (λ (o : Operations). AllByRecursion IsNoBadWalk (replies i.geometry o i.table script))
+    subst (λ (o : Routines). AllByRecursion IsNoBadWalk (replies i.geometry o i.table script))
     (sym (same_operations program t implements))
-    (no_walks i.geometry (operations_in program) i.table script
+    (no_walks i.geometry (routines_in program) i.table script
     (all_end program t implements) plain)

@@ -5,7 +5,7 @@ use Rattle.std.proofs.Common.{◌+◌, ◌++◌, Option, Some, None, refl, subst
 use Rattle.std.specs.Prelude.{Result, Ok, Err, ◌↔◌}
 use denote.Ref.{Bor}
 use Rattle.bbop_isa.specs.Forms.{Instruction}
-use Rattle.machine_model.specs.Operations.{Program, Operations, operations_in}
+use Rattle.machine_model.specs.Routines.{Program, Routines, routines_in}
 use Rattle.machine_model.specs.Opened.{Image, opened}
 use Rattle.dram_model.specs.declared.geometry.Geometry.{Geometry}
 use Rattle.dram_model.specs.Chip.{Banks}
@@ -135,14 +135,14 @@ instr_of : (P : ℕ → Type 0) (prints : Bool) (bytes : List ℕ) → P 3 → P
 instr_of P true bytes three nine = ((three, nine), tt)
 instr_of P false bytes three nine = (nine, (three, tt))
 
-piece_of : (P : ℕ → Type 0) (g : Geometry) (o : Operations) (table : List Named) (banks : Banks)
+piece_of : (P : ℕ → Type 0) (g : Geometry) (o : Routines) (table : List Named) (banks : Banks)
     (number : ℕ) (piece : Piece) → P 3 → P 9 → OfSteps P (piece_steps g o table banks number piece)
 piece_of P g o table banks number (Wave wave) three nine =
     (nine, lines_of P number (said_in_rows g o table banks wave) three)
 piece_of P g o table banks number (Alone instr) three nine =
     instr_of P (is_print instr) (line number (said_by g o table banks instr)) three nine
 
-pub pieces_of : (P : ℕ → Type 0) (g : Geometry) (o : Operations) (table : List Named) (banks : Banks)
+pub pieces_of : (P : ℕ → Type 0) (g : Geometry) (o : Routines) (table : List Named) (banks : Banks)
     (number : ℕ) (pieces : List Piece) → P 3 → P 9
     → OfSteps P (pieces_steps g o table banks number pieces)
 pieces_of P g o table banks number [] three nine = tt
@@ -160,7 +160,7 @@ work_of P out program script i three nine ten = (
   of_more P (script_steps program script i)
       (Use ∷ Store out (image_by program script i)
       ∷ Put (total_line (tally_by program script i) (refused_by program script i)) ∷ [])
-      (pieces_of P i.geometry (operations_in program) i.table (opened i) 1 (pieces script) three
+      (pieces_of P i.geometry (routines_in program) i.table (opened i) 1 (pieces script) three
       nine) (nine, (three, (three, tt))),
 )
 
@@ -347,7 +347,7 @@ recorded_of P names program script i three nine =
     (of_more P (script_steps program script i)
     (Use ∷ Store names.out.now (image_by program script i)
     ∷ store_steps (fits program script i) names.trace.now program script i)
-    (pieces_of P i.geometry (operations_in program) i.table (opened i) 1 (pieces script) three nine)
+    (pieces_of P i.geometry (routines_in program) i.table (opened i) 1 (pieces script) three nine)
     (nine, (three, store_of P (fits program script i) names.trace.now program script i three)))
     (total_of P (fits program script i) program script i three)
 

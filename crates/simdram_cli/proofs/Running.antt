@@ -10,7 +10,7 @@ use Rattle.uprog_bin.specs.Spelling.{program_bytes}
 use Rattle.uprog_gen.specs.Totals.{AreExact}
 use Rattle.bbop_isa.specs.Forms.{Instruction}
 use Rattle.object_alloc.specs.Spelling.{IsImage}
-use Rattle.machine_model.specs.Operations.{Program}
+use Rattle.machine_model.specs.Routines.{Program}
 use Rattle.op_text.specs.Language.{Operation}
 use Rattle.uprog_code.specs.Programs.{IsProgram}
 use Rattle.uprog_code.specs.Texts.{ImplementsAll, text_op}

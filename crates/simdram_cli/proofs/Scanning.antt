@@ -34,7 +34,7 @@ use Rattle.machine_model.specs.declared.Why.{Why}
 use Rattle.bbop_isa.specs.Forms.{Instruction}
 use Rattle.wave_model.specs.Schedule.{Turn, Ahead}
 use Rattle.machine_model.specs.Opened.{Image, opened, row_writes, words_of}
-use Rattle.machine_model.specs.Operations.{Program, Operations, operations_in}
+use Rattle.machine_model.specs.Routines.{Program, Routines, routines_in}
 use Rattle.machine_model.specs.Pieces.{events_of_pieces, pieces, script_events}
 use Rattle.machine_model.specs.Script.{replies, sum_of, with_counts}
 use Rattle.machine_model.proofs.Pieces.{events_are_steps}
@@ -61,7 +61,7 @@ use Rattle.scan_query.specs.declared.query.ScanReply.TheVariants as reply
 use Rattle.cli_model.specs.World.{World, world}
 use Rattle.cli_model.specs.Steps.{Step, Load, Take, Store, Open, Use, Put, Print, Refusal, Reason}
 use Rattle.cli_model.specs.Steps.{CannotRead, TooLong, Refused, NoMemory, CannotWrite, PutFailed}
-use Rattle.cli_model.specs.Steps.{ChipFailed, End, Done, Stopped, Goes, Does, Fails, Loaded}
+use Rattle.cli_model.specs.Steps.{ChipFailed, End, Done, Stopped, Goes, StepDone, Fails, Loaded}
 use Rattle.cli_model.specs.Steps.{loading}
 use Rattle.cli_model.specs.Stands.{sent_by}
 use Rattle.cli_model.specs.Status.{Says, Tells, reason_line, reason_status}
@@ -183,7 +183,7 @@ checks_found (Some (w, k)) a found of counts e = absurd (cc)
 record FoundOn (program : Program) (q : Query) (i : Image) (found of : ℕ) (counts : Counts) : Type 0
   where
     fits : checked i.table (nodes_of q) ≡ None
-    room : scan_refused i.geometry (operations_in program) i.table q ≡ None
+    room : scan_refused i.geometry (routines_in program) i.table q ≡ None
     found_is : found ≡ found_in i.geometry (opened i) i.table q
     of_is : of ≡ query_count i.table q
     counts_are : counts ≡ scan_counts program q i
@@ -196,7 +196,7 @@ found_on : (program : Program) (q : Query) (i : Image) (found of : ℕ) (counts 
     → answer_on program q i ≡ Found found of counts → FoundOn program q i found of counts
 unfolding answer
 found_on program q i found of counts e =
-    let ran = scan_refused i.geometry (operations_in program) i.table q in
+    let ran = scan_refused i.geometry (routines_in program) i.table q in
     let whole = Found (found_in i.geometry (opened i) i.table q) (query_count i.table q)
     (scan_counts program q i) in
     let checks = checks_found (checked i.table (nodes_of q)) (by_run ran whole) found of counts e in
@@ -334,8 +334,8 @@ done_reply (reply.Refused why k) found of counts e = absurd (cc)
 own_events : (program p : Program) (i : Image) (shape : Geometry) (table : List Named) (turn : Turn)
     (script own : List Instruction) (reads : ℕ) (a b : ChipView) → shape ≡ i.geometry
     → p ≡ program → table ≡ i.table → turn ≡ Ahead → script ≡ own
-    → DidAndRead (events_of_pieces shape (operations_in p) turn table (pieces script)) reads a b
-    → DidAndRead (script_events i.geometry (operations_in program) i.table own) reads a b
+    → DidAndRead (events_of_pieces shape (routines_in p) turn table (pieces script)) reads a b
+    → DidAndRead (script_events i.geometry (routines_in program) i.table own) reads a b
 own_events program p i shape table turn script own reads a b e f t o s did =
     rw (e, f, t, o, s) at did
 
@@ -351,18 +351,18 @@ pub query_done : (program p : Program) (q : Query) (i : Image) (nodes : List Nod
     (shape : Geometry) (table : List Named) (turn : Turn) (reads : ℕ) (old new : ChipView)
     → RanOn program q i nodes table old new → Holds i.geometry i.table → shape ≡ i.geometry
     → p ≡ program → turn ≡ Ahead
-    → DidAndRead (events_of_pieces shape (operations_in p) turn table
+    → DidAndRead (events_of_pieces shape (routines_in p) turn table
     (pieces (scan_script table nodes))) reads old new
     → QueryDone program q i new
 query_done program p q i nodes shape table turn reads old new ran holds e f o ran_events =
     let script = query_script i.table q in
-    let events = script_events i.geometry (operations_in program) i.table script in
+    let events = script_events i.geometry (routines_in program) i.table script in
     let did : DidAndRead events reads old new =
     own_events program p i shape table turn (scan_script table nodes) script reads old new e f
     ran.table_is o (own_script program q i nodes table old new ran) ran_events in
     record {
       banks = did.banks ∙ ap (after events) ran.opened_on.banks
-          ∙ events_are_steps i.geometry (operations_in program) Ahead i.table script (opened i)
+          ∙ events_are_steps i.geometry (routines_in program) Ahead i.table script (opened i)
           holds.words holds.fits;
       log = LogIs-more (row_writes i) events old.log new.log ran.opened_on.log did.log;
     }
@@ -397,12 +397,12 @@ asked_done program q i nodes table files sink before old new r said g ran opens 
 -- the answer, as a machine that was opened on the image has it
 pub answer_moves : (program p : Program) (q : Query) (i : Image) (g : Geometry) (banks : Banks)
     (table : List Named) (a : Answer) → g ≡ i.geometry → p ≡ program → banks ≡ opened i
-    → table ≡ i.table → a ≡ answer g (operations_in p) banks table q → a ≡ answer_on program q i
+    → table ≡ i.table → a ≡ answer g (routines_in p) banks table q → a ≡ answer_on program q i
 answer_moves program p q i g banks table a shape same there listed e =
-    e ∙ ap (λ (x : Geometry). answer x (operations_in p) banks table q) shape
-    ∙ ap (λ (x : Program). answer i.geometry (operations_in x) banks table q) same
-    ∙ ap (λ (x : Banks). answer i.geometry (operations_in program) x table q) there
-    ∙ ap (λ (x : List Named). answer i.geometry (operations_in program) (opened i) x q) listed
+    e ∙ ap (λ (x : Geometry). answer x (routines_in p) banks table q) shape
+    ∙ ap (λ (x : Program). answer i.geometry (routines_in x) banks table q) same
+    ∙ ap (λ (x : Banks). answer i.geometry (routines_in program) x table q) there
+    ∙ ap (λ (x : List Named). answer i.geometry (routines_in program) (opened i) x q) listed
 
 -- the counters of an opened chip are far from their ends
 
@@ -693,7 +693,7 @@ abbrev StoreNone : List Step → Type 0
 StoreNone [] = Unit {0}
 StoreNone (step ∷ steps) = IsNoStore step × StoreNone steps
 
-does_keep : (step : Step) (a b : World) → IsNoStore step → Does step a b
+does_keep : (step : Step) (a b : World) → IsNoStore step → StepDone step a b
     → b.files.holds ≡ a.files.holds
 does_keep (Load name limit text refusal) a b n d = d.1.reads.files
 does_keep Take a b n d = d.files

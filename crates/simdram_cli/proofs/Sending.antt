@@ -12,7 +12,7 @@ use Rattle.dram_model.specs.View.{ChipView, Did, with_reads}
 use Rattle.object_alloc.specs.Listed.{Named}
 use Rattle.bbop_isa.specs.Forms.{Instruction}
 use Rattle.std.specs.List.{AllByRecursion}
-use Rattle.machine_model.specs.Operations.{Operations}
+use Rattle.machine_model.specs.Routines.{Routines}
 use Rattle.machine_model.specs.Pieces.{AreBbops, Wave}
 use Rattle.machine_model.specs.Report.{Said, Answered, line, lines, said_in_rows}
 use Rattle.machine_model.specs.Script.{rows_printed, sum_done}
@@ -231,17 +231,17 @@ instr_failed step_fault.WriteFault false bytes files s t a b f =
     line_unput bytes files s t a b f.chip (f.part refl) f.sink (f.sink_rose refl)
 
 -- a wave's lines
-abbrev answers_of : Geometry → Operations → List Named → List Instruction → List Said
+abbrev answers_of : Geometry → Routines → List Named → List Instruction → List Said
 answers_of g o table wave = map Answered (map (reply_to g o table) wave)
 
-wave_said : (g : Geometry) (o : Operations) (table : List Named) (banks : Banks)
+wave_said : (g : Geometry) (o : Routines) (table : List Named) (banks : Banks)
     (wave : List Instruction) → AreBbops wave
     → said_in_rows g o table banks wave ≡ answers_of g o table wave
 wave_said g o table banks wave bbops =
     let w = waves_are_answered g o table wave bbops in
     w.said banks ∙ ap (map Answered) w.answers
 
-answers_sent : (g : Geometry) (o : Operations) (table : List Named) (number : ℕ)
+answers_sent : (g : Geometry) (o : Routines) (table : List Named) (number : ℕ)
     (wave : List Instruction) (files : FolderView) (s t : SinkView) (a b : ChipView)
     → 0 < length wave
     → Told (λ before after. after ≡ before ++ lines number (answers_of g o table wave)) s.sent
@@ -253,7 +253,7 @@ answers_sent g o table number (instr ∷ wave) files s t a b some told l m =
     wave_done number (Answered (reply_to g o table instr)) (answers_of g o table wave) files s t a b
     m told l
 
-pub wave_sent : (g : Geometry) (o : Operations) (table : List Named) (banks : Banks) (number : ℕ)
+pub wave_sent : (g : Geometry) (o : Routines) (table : List Named) (banks : Banks) (number : ℕ)
     (wave : List Instruction) (files : FolderView) (s t : SinkView) (a b : ChipView)
     → AreBbops wave → 0 < length wave
     → Told (λ before after. after ≡ before ++ lines number (answers_of g o table wave)) s.sent
@@ -274,7 +274,7 @@ pub record WaveFailed (fault : StepFault) (bytes : List ℕ) (s t : SinkView) (a
   pub sink_rose : fault ≡ step_fault.WriteFault → Rose s.faults t.faults
   pub part : fault ≡ step_fault.WriteFault → Told (AppendsPart bytes) s.sent t.sent
 
-answers_cut : (fault : StepFault) (g : Geometry) (o : Operations) (table : List Named) (number : ℕ)
+answers_cut : (fault : StepFault) (g : Geometry) (o : Routines) (table : List Named) (number : ℕ)
     (wave : List Instruction) (files : FolderView) (s t : SinkView) (a b : ChipView)
     → 0 < length wave
     → WaveFailed fault (lines number (answers_of g o table wave)) s t a b
@@ -288,7 +288,7 @@ answers_cut step_fault.WriteFault g o table number (instr ∷ wave) files s t a 
     wave_unput number (Answered (reply_to g o table instr)) (answers_of g o table wave) files s t a
     b f.chip (f.part refl) f.sink (f.sink_rose refl)
 
-pub wave_failed : (fault : StepFault) (g : Geometry) (o : Operations) (table : List Named)
+pub wave_failed : (fault : StepFault) (g : Geometry) (o : Routines) (table : List Named)
     (banks : Banks) (number : ℕ) (wave : List Instruction) (files : FolderView) (s t : SinkView)
     (a b : ChipView) → AreBbops wave → 0 < length wave
     → WaveFailed fault (lines number (answers_of g o table wave)) s t a b
@@ -299,7 +299,7 @@ wave_failed fault g o table banks number wave files s t a b bbops some f =
     (answers_cut fault g o table number wave files s t a b some f)
 
 -- a wave reads no row
-pub wave_did : (g : Geometry) (o : Operations) (table : List Named) (wave : List Instruction)
+pub wave_did : (g : Geometry) (o : Routines) (table : List Named) (wave : List Instruction)
     (events : List Event) (a b : ChipView) → AreBbops wave → Did events a b
     → DidAndRead events (sum_done rows_printed g o table wave) a b
 wave_did g o table wave events a b bbops did =

@@ -18,7 +18,7 @@ use Rattle.dram_model.specs.Geometry.{is_geometry, is_between, fits_size}
 use Rattle.object_alloc.specs.Spelling.{IsImage, Rows}
 use Rattle.bbop_isa.specs.Forms.{Instruction}
 use Rattle.wave_model.specs.Schedule.{Ahead}
-use Rattle.machine_model.specs.Operations.{Program, operations_in}
+use Rattle.machine_model.specs.Routines.{Program, routines_in}
 use Rattle.machine_model.specs.Opened.{Image, row_writes, opened}
 use Rattle.machine_model.specs.Pieces.{script_events}
 use Rattle.machine_model.specs.Script.{replies, rows_printed, sum_done, sum_of}
@@ -76,12 +76,12 @@ opened_counted i = banks_counted i.rows i.geometry.rows 0 i.geometry.banks
 pub tally_is : (program : Program) (script : List Instruction) (i : Image)
     → Holds i.geometry i.table
     → with_reads (i.geometry.banks * i.geometry.rows)
-    (with_reads (sum_done rows_printed i.geometry (operations_in program) i.table script)
-    (all_counted (script_events i.geometry (operations_in program) i.table script)
+    (with_reads (sum_done rows_printed i.geometry (routines_in program) i.table script)
+    (all_counted (script_events i.geometry (routines_in program) i.table script)
     (opened_counters i.geometry))) ≡ tally_by program script i
 tally_is program script i holds =
     let all = i.geometry.banks * i.geometry.rows in
-    let o = operations_in program in
+    let o = routines_in program in
     let printed = sum_done rows_printed i.geometry o i.table script in
     let sum = sum_of (replies i.geometry o i.table script) in
     let turned : 0 + printed + all ≡ all + printed = omega arith in
@@ -115,12 +115,12 @@ image_holds i is = record {
 -- a script that was done to its end
 pub work_done : (program : Program) (script : List Instruction) (i : Image) (a b c : ChipView)
     (refused : ℕ) → Holds i.geometry i.table → OpenedOn i a
-    → DidAndRead (script_events i.geometry (operations_in program) i.table script)
-    (sum_done rows_printed i.geometry (operations_in program) i.table script) a b
+    → DidAndRead (script_events i.geometry (routines_in program) i.table script)
+    (sum_done rows_printed i.geometry (routines_in program) i.table script) a b
     → DidRead (i.geometry.banks * i.geometry.rows) b c → refused ≡ refused_by program script i
     → WorkDone program script i c refused
 work_done program script i a b c refused holds start did read count =
-    let o = operations_in program in
+    let o = routines_in program in
     let events = script_events i.geometry o i.table script in
     let printed = sum_done rows_printed i.geometry o i.table script in
     record {

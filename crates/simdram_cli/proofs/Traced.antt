@@ -13,7 +13,7 @@ use Rattle.bbop_isa.specs.declared.instr.ScriptFault.{ScriptFault}
 use Rattle.bbop_isa.specs.Forms.{Instruction}
 use Rattle.bbop_isa.specs.Script.{script_of}
 use Rattle.machine_model.specs.Opened.{Image, opened, rows_of}
-use Rattle.machine_model.specs.Operations.{Program, operations_in}
+use Rattle.machine_model.specs.Routines.{Program, routines_in}
 use Rattle.machine_model.specs.Pieces.{pieces}
 use Rattle.machine_model.specs.Report.{lines, total_line}
 use Rattle.machine_model.specs.Script.{table_at_end}
@@ -225,7 +225,7 @@ work_passes out program script i files =
     late_pass (script_steps program script i ++ (Use ∷ Store out (image_by program script i)
     ∷ Put (total_line (tally_by program script i) (refused_by program script i)) ∷ [])) files
     (late_more (script_steps program script i) _
-    (pieces_late i.geometry (operations_in program) i.table (opened i) 1 (pieces script))
+    (pieces_late i.geometry (routines_in program) i.table (opened i) 1 (pieces script))
     (tt, (tt, (tt, tt))))
 
 exec_passes : (names : TraceNames) (prog : List ℕ) (texts : Texts) (files : Files)
@@ -294,7 +294,7 @@ recorded_files names program script i files all =
     let last = Use ∷ Store names.out.now (image_by program script i)
     ∷ store_steps (fits program script i) names.trace.now program script i in
     files_more (script_steps program script i) last files
-    ∙ ap (files_after last) (pieces_files i.geometry (operations_in program) i.table (opened i) 1
+    ∙ ap (files_after last) (pieces_files i.geometry (routines_in program) i.table (opened i) 1
     (pieces script) files)
     ∙ ap (λ (b : Bool). files_after (store_steps b names.trace.now program script i)
     (with_file names.out.now (image_by program script i) files)) all
@@ -323,7 +323,7 @@ recorded_sent names program script i =
     let last = Use ∷ Store names.out.now (image_by program script i)
     ∷ store_steps (fits program script i) names.trace.now program script i in
     sent_more (script_steps program script i) last
-    ∙ ap (λ w. w ++ sent_by last) (sent_script i.geometry (operations_in program) i.table
+    ∙ ap (λ w. w ++ sent_by last) (sent_script i.geometry (routines_in program) i.table
     (opened i) script)
     ∙ ap (λ w. said ++ w) (stores_quiet (fits program script i) names.trace.now program script i)
     ∙ append-nil said
@@ -445,7 +445,7 @@ traced names old new status apart is e done =
           ∙ at_other names.out.now names.trace.now (bytes_of_trace t) between (out_apart names apart)
           ∙ at_own names.out.now (image_by program script i) before
           ∙ ap (λ (b : Banks). Some (image_bytes i.geometry (table_at_end i.geometry
-          (operations_in program) i.table script) (rows_of b)))
+          (routines_in program) i.table script) (rows_of b)))
           (sym (replay_is_script i program script rows.image));
       others = λ other p q. ap (λ (f : Files). f other) stored
           ∙ other_kept names (bytes_of_trace t) (image_by program script i) before other p q;

@@ -25,7 +25,7 @@ use Rattle.wave_model.specs.Schedule.{Ahead}
 use Rattle.machine_model.specs.Agrees.{IsPlain}
 use Rattle.machine_model.specs.Laws.{TableFits}
 use Rattle.machine_model.specs.Opened.{Image, opened, rows_of}
-use Rattle.machine_model.specs.Operations.{Program, Operations, operations_in}
+use Rattle.machine_model.specs.Routines.{Program, Routines, routines_in}
 use Rattle.machine_model.specs.Pieces.{Piece, Wave, Alone, instrs_in, pieces, script_events}
 use Rattle.machine_model.specs.Report.{Said, line, said_by, said_in_rows, total_line}
 use Rattle.machine_model.specs.Script.{banks_at_end, is_refused, replies, rows_printed, sum_done}
@@ -108,14 +108,14 @@ then_image m banks script name end a b c g h =
 
 pub image_is_on : (m n : Machine) (script : List Instruction) (a b : ChipView)
     → geometry_of n ≡ geometry_of m
-    → table_in n ≡ table_at_end (geometry_of m) (operations_in (program_of m)) (table_in m) script
+    → table_in n ≡ table_at_end (geometry_of m) (routines_in (program_of m)) (table_in m) script
     → b.banks ≡ after (events_on m script) a.banks
     → image_bytes (geometry_of n) (table_in n) (rows_of b.banks) ≡ image_on m a.banks script
 image_is_on m n script a b e t s =
     ap (λ (g : Geometry). image_bytes g (table_in n) (rows_of b.banks)) e
     ∙ ap (λ (x : List Named). image_bytes (geometry_of m) x (rows_of b.banks)) t
     ∙ ap (λ (x : Banks). image_bytes (geometry_of m) (table_at_end (geometry_of m)
-    (operations_in (program_of m)) (table_in m) script) (rows_of x)) s
+    (routines_in (program_of m)) (table_in m) script) (rows_of x)) s
 
 reads_twice : (m n : ℕ) (k : Counters) → with_reads n (with_reads m k) ≡ with_reads (m + n) k
 reads_twice m n k = ap (λ (r : ℕ). let c : Counters = record k { reads = r } in c)
@@ -135,11 +135,11 @@ did_read_more events m n a b c did read = record {
 pub did_all : (m : Machine) (script : List Instruction) (g : Geometry) (a b c : ChipView)
     → g ≡ geometry_of m
     → DidAndRead (events_on m script) (sum_done rows_printed (geometry_of m)
-    (operations_in (program_of m)) (table_in m) script) a b
+    (routines_in (program_of m)) (table_in m) script) a b
     → DidRead (g.banks * g.rows) b c → DidAndRead (events_on m script) (reads_on m script) a c
 did_all m script g a b c e did read =
     did_read_more (events_on m script) (sum_done rows_printed (geometry_of m)
-    (operations_in (program_of m)) (table_in m) script)
+    (routines_in (program_of m)) (table_in m) script)
     ((geometry_of m).banks * (geometry_of m).rows) a b c did
     (subst (λ (x : Geometry). DidRead (x.banks * x.rows) b c) e read)
 
@@ -158,14 +158,14 @@ instr_late : (prints : Bool) (bytes : List ℕ) → AllByRecursion IsLate (instr
 instr_late true bytes = (tt, tt)
 instr_late false bytes = (tt, (tt, tt))
 
-piece_late : (g : Geometry) (o : Operations) (table : List Named) (banks : Banks) (number : ℕ)
+piece_late : (g : Geometry) (o : Routines) (table : List Named) (banks : Banks) (number : ℕ)
     (piece : Piece) → AllByRecursion IsLate (piece_steps g o table banks number piece)
 piece_late g o table banks number (Wave wave) =
     (tt, lines_late number (said_in_rows g o table banks wave))
 piece_late g o table banks number (Alone instr) =
     instr_late (is_print instr) (line number (said_by g o table banks instr))
 
-pub pieces_late : (g : Geometry) (o : Operations) (table : List Named) (banks : Banks) (number : ℕ)
+pub pieces_late : (g : Geometry) (o : Routines) (table : List Named) (banks : Banks) (number : ℕ)
     (pieces : List Piece) → AllByRecursion IsLate (pieces_steps g o table banks number pieces)
 pieces_late g o table banks number [] = tt
 pieces_late g o table banks number (piece ∷ rest) =
@@ -183,7 +183,7 @@ all_late : (names : TraceNames) (program : Program) (script : List Instruction) 
     → AllByRecursion IsLate (recorded_steps names program script i)
 all_late names program script i =
     late_more (script_steps program script i) _
-    (pieces_late i.geometry (operations_in program) i.table (opened i) 1 (pieces script))
+    (pieces_late i.geometry (routines_in program) i.table (opened i) 1 (pieces script))
     (tt, (tt, store_late (fits program script i) names.trace.now program script i))
 
 instr_begins : (prints : Bool) (bytes : List ℕ) (rest : List Step)
@@ -191,7 +191,7 @@ instr_begins : (prints : Bool) (bytes : List ℕ) (rest : List Step)
 instr_begins true bytes rest = refl
 instr_begins false bytes rest = refl
 
-piece_begins : (g : Geometry) (o : Operations) (table : List Named) (banks : Banks) (number : ℕ)
+piece_begins : (g : Geometry) (o : Routines) (table : List Named) (banks : Banks) (number : ℕ)
     (piece : Piece) (rest : List Step)
     → BeginOnChip (piece_steps g o table banks number piece ++ rest)
 piece_begins g o table banks number (Wave wave) rest = refl
@@ -199,7 +199,7 @@ piece_begins g o table banks number (Alone instr) rest =
     instr_begins (is_print instr) (line number (said_by g o table banks instr)) rest
 
 -- the first of them uses the chip: that of a script, or without one the reading of the image
-pieces_begin : (g : Geometry) (o : Operations) (table : List Named) (banks : Banks) (number : ℕ)
+pieces_begin : (g : Geometry) (o : Routines) (table : List Named) (banks : Banks) (number : ℕ)
     (pieces : List Piece) (rest : List Step)
     → BeginOnChip (pieces_steps g o table banks number pieces ++ (Use ∷ rest))
 pieces_begin g o table banks number [] rest = refl
@@ -224,18 +224,18 @@ pub record Started (program : Program) (i : Image) (m : Machine) (start : ChipVi
 own_lines : (program : Program) (script : List Instruction) (i : Image) (shape : Geometry)
     (p : Program) (table : List Named) (banks : Banks) → shape ≡ i.geometry → p ≡ program
     → table ≡ i.table → banks ≡ opened i
-    → pieces_steps shape (operations_in p) table banks 1 (pieces script)
+    → pieces_steps shape (routines_in p) table banks 1 (pieces script)
     ≡ script_steps program script i
 own_lines program script i shape p table banks e f t s = rw (e, f, t, s) refl
 
 own_events : (program : Program) (script : List Instruction) (i : Image) (m : Machine)
     (start : ChipView) → Started program i m start
-    → events_on m script ≡ script_events i.geometry (operations_in program) i.table script
+    → events_on m script ≡ script_events i.geometry (routines_in program) i.table script
 own_events program script i m start s = rw (s.shape_is, s.program_is, s.table_is, s.turn_is) refl
 
 own_reads : (program : Program) (script : List Instruction) (i : Image) (m : Machine)
     (start : ChipView) → Started program i m start
-    → reads_on m script ≡ sum_done rows_printed i.geometry (operations_in program) i.table script
+    → reads_on m script ≡ sum_done rows_printed i.geometry (routines_in program) i.table script
     + i.geometry.banks * i.geometry.rows
 own_reads program script i m start s = rw (s.shape_is, s.program_is, s.table_is) refl
 
@@ -243,8 +243,8 @@ own_image : (program : Program) (script : List Instruction) (i : Image) (m : Mac
     (start : ChipView) → Started program i m start
     → image_on m start.banks script ≡ image_by program script i
 own_image program script i m start s =
-    let o = operations_in program in
-    let same : table_at_end (geometry_of m) (operations_in (program_of m)) (table_in m) script
+    let o = routines_in program in
+    let same : table_at_end (geometry_of m) (routines_in (program_of m)) (table_in m) script
     ≡ table_at_end i.geometry o i.table script =
     rw (s.shape_is, s.program_is, s.table_is) refl in
     let banks : after (events_on m script) start.banks
@@ -253,7 +253,7 @@ own_image program script i m start s =
     ∙ ap (after (script_events i.geometry o i.table script)) s.banks
     ∙ events_are_steps i.geometry o Ahead i.table script (opened i) s.holds.words s.holds.fits in
     ap (λ (g : Geometry). image_bytes g (table_at_end (geometry_of m)
-    (operations_in (program_of m)) (table_in m) script)
+    (routines_in (program_of m)) (table_in m) script)
     (rows_of (after (events_on m script) start.banks))) s.shape_is
     ∙ ap (λ (t : List Named). image_bytes i.geometry t
     (rows_of (after (events_on m script) start.banks))) same
@@ -293,7 +293,7 @@ below : (names : TraceNames) (program : Program) (script : List Instruction) (i 
 below names program script i end files sink old new from to p q g =
     steps_are_below (recorded_steps names program script i) end (world files sink from) to old new
     (all_late names program script i)
-    (pieces_begin i.geometry (operations_in program) i.table (opened i) 1 (pieces script) _) p q g
+    (pieces_begin i.geometry (routines_in program) i.table (opened i) 1 (pieces script) _) p q g
 
 -- it stopped before OUT was stored
 pub first_failed : (names : TraceNames) (program : Program) (script : List Instruction) (i : Image)
@@ -321,11 +321,11 @@ left_by : (program : Program) (script : List Instruction) (i : Image) (m : Machi
     (from last new : ChipView) (refused : ℕ) → Started program i m from
     → DidAndRead (events_on m script) (reads_on m script) from last
     → new.banks ≡ last.banks → new.counters ≡ last.counters
-    → refused ≡ count_by is_refused (replies (geometry_of m) (operations_in (program_of m))
+    → refused ≡ count_by is_refused (replies (geometry_of m) (routines_in (program_of m))
     (table_in m) script)
     → WorkDone program script i (unlogged new) refused
 left_by program script i m from last new refused s did banks counters count =
-    let o = operations_in program in
+    let o = routines_in program in
     let events = script_events i.geometry o i.table script in
     let printed = sum_done rows_printed i.geometry o i.table script in
     let all = i.geometry.banks * i.geometry.rows in
@@ -354,7 +354,7 @@ saw_script : (program : Program) (script : List Instruction) (i : Image) (m : Ma
     → DidAndRead (events_on m script) (reads_on m script) from (recorded last tape)
     → Saw last tape (script_trace program i script).events
 saw_script program script i m from last tape legal shape table plain s begun kept log did =
-    let events = script_events i.geometry (operations_in program) i.table script in
+    let events = script_events i.geometry (routines_in program) i.table script in
     let same : last.geometry ≡ i.geometry = kept.geometry ∙ s.geometry in
     record {
       begun = kept.begun ∙ begun;
@@ -373,7 +373,7 @@ record SpelledBy (program : Program) (script : List Instruction) (i : Image) (fi
 
 spelled_by : (program : Program) (script : List Instruction) (i : Image) (g : Geometry)
     (table : List Named) (file : List ℕ) (all : Bool) → g ≡ i.geometry
-    → table ≡ table_at_end i.geometry (operations_in program) i.table script → all ≡ true
+    → table ≡ table_at_end i.geometry (routines_in program) i.table script → all ≡ true
     → Spelled g table (script_trace program i script).events file all
     → SpelledBy program script i file
 spelled_by program script i g table file all e t true_is spelled =
@@ -396,8 +396,8 @@ not_all g program script i table file all e none spelled =
 
 own_table : (program : Program) (script : List Instruction) (i : Image) (m : Machine)
     (from : ChipView) → Started program i m from
-    → table_at_end (geometry_of m) (operations_in (program_of m)) (table_in m) script
-    ≡ table_at_end i.geometry (operations_in program) i.table script
+    → table_at_end (geometry_of m) (routines_in (program_of m)) (table_in m) script
+    ≡ table_at_end i.geometry (routines_in program) i.table script
 own_table program script i m from s = rw (s.shape_is, s.program_is, s.table_is) refl
 
 pub started_at : (program : Program) (i : Image) (m : Machine) (old from : ChipView)
@@ -427,7 +427,7 @@ pub record FirstDone (names : TraceNames) (script : List Instruction) (m : Machi
       ++ (Use ∷ Store names.out.now (image_on m from.banks script) ∷ [])) Done
       (world files sink from) (world after sent (recorded last tape))
   pub did : DidAndRead (events_on m script) (reads_on m script) from (recorded last tape)
-  pub count : refused ≡ count_by is_refused (replies (geometry_of m) (operations_in (program_of m))
+  pub count : refused ≡ count_by is_refused (replies (geometry_of m) (routines_in (program_of m))
       (table_in m) script)
 
 module _ (names : TraceNames) (script : List Instruction) (m : Machine) (files : FolderView)
@@ -490,7 +490,7 @@ module _ (names : TraceNames) (script : List Instruction) (m : Machine) (files :
 
   -- the file of all events was spelled
   own_spelled : (table : List Named) (file : List ℕ) (all : Bool) → all ≡ true
-      → table ≡ table_at_end (geometry_of m) (operations_in (program_of m)) (table_in m) script
+      → table ≡ table_at_end (geometry_of m) (routines_in (program_of m)) (table_in m) script
       → ((events : List Event) → Saw last tape events
       → Spelled last.geometry table events file all)
       → SpelledBy program script i file
@@ -510,7 +510,7 @@ module _ (names : TraceNames) (script : List Instruction) (m : Machine) (files :
   -- and not stored, or stored
   pub trace_unstored : (table : List Named) (file : List ℕ) (all : Bool) (new : FolderView)
       (why : Stop) → all ≡ true
-      → table ≡ table_at_end (geometry_of m) (operations_in (program_of m)) (table_in m) script
+      → table ≡ table_at_end (geometry_of m) (routines_in (program_of m)) (table_in m) script
       → ((events : List Event) → Saw last tape events
       → Spelled last.geometry table events file all) → reason_of why ≡ CannotWrite names.trace.now
       → ((view : ChipView) → Unstored names.trace.now (world after sent view) (world new sent view))
@@ -523,7 +523,7 @@ module _ (names : TraceNames) (script : List Instruction) (m : Machine) (files :
 
   pub trace_stored : (table : List Named) (file : List ℕ) (all : Bool) (new : FolderView)
       → all ≡ true
-      → table ≡ table_at_end (geometry_of m) (operations_in (program_of m)) (table_in m) script
+      → table ≡ table_at_end (geometry_of m) (routines_in (program_of m)) (table_in m) script
       → ((events : List Event) → Saw last tape events
       → Spelled last.geometry table events file all)
       → ((view : ChipView) → Stored names.trace.now file (world after sent view)

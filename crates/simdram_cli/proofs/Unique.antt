@@ -4,10 +4,10 @@ use Rattle.uprog_code.specs.Texts.{TextOp, text_op}
 use Rattle.op_text.specs.Language.{Operation}
 use Rattle.op_text.proofs.Meeting.{ops_of_a_text_are_one}
 use Rattle.bbop_isa.specs.Forms.{Instruction}
-use Rattle.machine_model.specs.Operations.{Program}
+use Rattle.machine_model.specs.Routines.{Program}
 use Rattle.machine_model.specs.Opened.{Image}
 use Rattle.uprog_bin.proofs.Versions.{file_is_one}
-use Rattle.simdram_cli.specs.Headline.{Job, Spells, OneJob}
+use Rattle.simdram_cli.specs.Headline.{RunJob, Spells, OneJob}
 
 same_ops : (file : Option (List _)) (a b : List Operation) → Spells file a → Spells file b → a ≡ b
 same_ops None a b s t = absurd s
@@ -18,7 +18,7 @@ same_value {A = A} o a b e f = let g : ◌≡◌ {A = Option A} (Some a) (Some b
 
 job_by : (t t' : List TextOp) (s s' : List Instruction) (i i' : Image) (p p' : Program)
     → t ≡ t' → s ≡ s' → i ≡ i' → p ≡ p'
-    → (let a : Job = record { text = t; script = s; image = i; program = p } in a)
+    → (let a : RunJob = record { text = t; script = s; image = i; program = p } in a)
     ≡ record { text = t'; script = s'; image = i'; program = p' }
 job_by t t' s s' i i' p p' e f g h = rw (e, f, g, h) refl
 

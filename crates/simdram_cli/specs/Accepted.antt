@@ -4,7 +4,7 @@ use Rattle.std.specs.List.{AllByRecursion}
 use Rattle.bit_rows.specs.declared.TheConstants.{WIDTH_MAX}
 use Rattle.uprog_code.specs.Shape.{Microprogram}
 use Rattle.uprog_code.specs.Machine.{HasEnded, trace}
-use Rattle.machine_model.specs.Operations.{Program}
+use Rattle.machine_model.specs.Routines.{Program}
 use Rattle.simdram_cli.specs.declared.words.TheConstants.{PROG_MAX}
 use Rattle.simdram_cli.specs.Programs.{prog_in}
 

@@ -7,7 +7,7 @@ use Rattle.uprog_bin.specs.Spelling.{HasVersion, program_bytes}
 use Rattle.uprog_bin.specs.Opened.{IsProgramFile}
 use Rattle.prog_text.specs.Listing.{listing}
 use Rattle.prog_text.specs.Costs.{costs}
-use Rattle.machine_model.specs.Operations.{Program}
+use Rattle.machine_model.specs.Routines.{Program}
 use Rattle.cli_model.specs.World.{World}
 use Rattle.cli_model.specs.Steps.{Step, Take, Put, Goes, loading}
 use Rattle.cli_model.specs.Ends.{Ends, done_steps}

@@ -7,7 +7,7 @@ use Rattle.uprog_code.specs.Programs.{IsProgram}
 use Rattle.uprog_code.specs.Texts.{ImplementsAll, text_op}
 use Rattle.uprog_bin.specs.Spelling.{program_bytes}
 use Rattle.uprog_gen.specs.Totals.{AreExact}
-use Rattle.machine_model.specs.Operations.{Program}
+use Rattle.machine_model.specs.Routines.{Program}
 use Rattle.cli_model.specs.World.{World}
 use Rattle.cli_model.specs.Steps.{Step, Take, Store, Put, Goes, loading}
 use Rattle.cli_model.specs.Ends.{Ends, Stores, done_steps}

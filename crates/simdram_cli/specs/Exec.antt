@@ -8,7 +8,7 @@ use Rattle.uprog_code.specs.Programs.{IsProgram}
 use Rattle.uprog_code.specs.Texts.{TextOp, ImplementsAll}
 use Rattle.uprog_bin.specs.Opened.{IsProgramFile}
 use Rattle.bbop_isa.specs.Forms.{Instruction}
-use Rattle.machine_model.specs.Operations.{Program, operations_in}
+use Rattle.machine_model.specs.Routines.{Program, routines_in}
 use Rattle.machine_model.specs.Opened.{Image, opened}
 use Rattle.machine_model.specs.Script.{banks_at_end, is_touched_by, table_at_end}
 use Rattle.machine_model.specs.Steps.{is_touched}
@@ -24,11 +24,12 @@ use Rattle.simdram_cli.specs.Inputs.{script_in, image_of}
 use Rattle.simdram_cli.specs.Programs.{prog_in}
 use Rattle.simdram_cli.specs.Reads.{IsText, StopsAtLoad}
 use Rattle.simdram_cli.specs.Stops.{end_of}
-use Rattle.simdram_cli.specs.Job.{Texts, said_in, replies_by, refused_by, done_status, image_by}
-use Rattle.simdram_cli.specs.Job.{job_steps, job_status}
+use Rattle.simdram_cli.specs.RunJob.{Texts, said_in, replies_by, refused_by, done_status, image_by}
+use Rattle.simdram_cli.specs.RunJob.{job_steps, job_status}
 use Rattle.simdram_cli.specs.Works.{WorkDone}
 use Rattle.simdram_cli.specs.Ends.{IsRead, JobDone, IsDoneBy}
-use Rattle.simdram_cli.specs.Headline.{Job, read_as, ObjectsRight, RowsUntouched, CommandsCounted}
+use Rattle.simdram_cli.specs.Headline.{RunJob, read_as, ObjectsRight, RowsUntouched}
+use Rattle.simdram_cli.specs.Headline.{CommandsCounted}
 use Rattle.simdram_cli.specs.Headline.{ReportSent, RepliesExact}
 
 -- the files of its job
@@ -68,7 +69,7 @@ pub record ExecEnds (names : ExecNames) (old new : World) (status : ℕ) : Type 
 abbrev pub RowsStay : Program → List Instruction → Image → ChipView → Type 0
 RowsStay program script i chip =
     (bank row : ℕ) → bank < i.geometry.banks → row < i.geometry.rows
-    → is_touched_by i.geometry (operations_in program) i.table script bank row ≡ false
+    → is_touched_by i.geometry (routines_in program) i.table script bank row ≡ false
     → row_in row (chip.banks bank) ≡ i.rows bank row
 
 -- Row by row, with the heads and the traces of the program's own entries: the chip's banks, its
@@ -89,13 +90,13 @@ abbrev pub StaysInside : Program → List Instruction → Image → Type 0
 StaysInside program script i =
     (before : List Instruction) (instr : Instruction) (behind : List Instruction) (bank row : ℕ)
     → before ++ instr ∷ behind ≡ script
-    → (let o = operations_in program in
+    → (let o = routines_in program in
     is_touched i.geometry o (table_at_end i.geometry o i.table before) instr bank row ≡ false
     → row_in row (banks_at_end i.geometry o i.table (opened i) (before ++ instr ∷ []) bank)
     ≡ row_in row (banks_at_end i.geometry o i.table (opened i) before bank))
 
 -- By the ops of a text that the program does: the headline's promises
-pub record ByText (out : List ℕ) (job : Job) (after : Files) (old new : World) (status : ℕ)
+pub record ByText (out : List ℕ) (job : RunJob) (after : Files) (old new : World) (status : ℕ)
     : Type 0 where
   pub objects_right : ObjectsRight out job after new.chip
   pub rows_untouched : RowsUntouched job new.chip

@@ -15,8 +15,8 @@ use Rattle.wave_model.specs.Schedule.{Ahead}
 use Rattle.machine_model.specs.declared.Reply.{Reply}
 use Rattle.machine_model.specs.Agrees.{HoldsNumbers, IsPlain}
 use Rattle.machine_model.specs.Opened.{Image, opened, row_writes, rows_of, words_of}
-use Rattle.machine_model.specs.Operations.{Program, Operations, meaning_in, operations_in}
-use Rattle.machine_model.specs.Operations.{operations_of}
+use Rattle.machine_model.specs.Routines.{Program, Routines, meaning_in, routines_in}
+use Rattle.machine_model.specs.Routines.{routines_of}
 use Rattle.machine_model.specs.Report.{Said, total_line}
 use Rattle.machine_model.specs.Script.{is_refused}
 use Rattle.machine_model.specs.Steps.{Held, table_of}
@@ -39,9 +39,9 @@ use Rattle.simdram_cli.specs.declared.words.TheConstants.{FLIPS_MAX, IMAGE_MAX, 
 use Rattle.simdram_cli.specs.declared.stop.Stop.{Stop}
 use Rattle.simdram_cli.specs.Ends.{IsCompiled, StoppedEarly}
 use Rattle.simdram_cli.specs.Flips.{flips_in, guarded_image_of, guarded_script_in}
-use Rattle.simdram_cli.specs.Headline.{IsJob, IsNoBadWalk, Job, ProgramWritten, read_as}
+use Rattle.simdram_cli.specs.Headline.{IsRunJob, IsNoBadWalk, RunJob, ProgramWritten, read_as}
 use Rattle.simdram_cli.specs.Inputs.{ops_in}
-use Rattle.simdram_cli.specs.Job.{done_status, opened_counters}
+use Rattle.simdram_cli.specs.RunJob.{done_status, opened_counters}
 use Rattle.simdram_cli.specs.Reads.{IsText}
 use Rattle.simdram_cli.specs.Stops.{end_of}
 
@@ -59,40 +59,40 @@ guard_job program script i flips =
 -- What the flips do not change: the replies, the table and how many AAP the votes take
 
 abbrev pub replies_of : GuardJob → List Reply
-replies_of job = guarded_replies job.image.geometry (operations_in job.program) job.image.table
+replies_of job = guarded_replies job.image.geometry (routines_in job.program) job.image.table
     job.script
 
 abbrev pub refused_of : GuardJob → ℕ
 refused_of job = count_by is_refused (replies_of job)
 
 abbrev pub table_at_last : GuardJob → List Named
-table_at_last job = guarded_table_at_end job.image.geometry (operations_in job.program)
+table_at_last job = guarded_table_at_end job.image.geometry (routines_in job.program)
     job.image.table job.script
 
 abbrev pub votes_of : GuardJob → ℕ
-votes_of job = votes_at_end job.image.geometry (operations_in job.program) job.image.table
+votes_of job = votes_at_end job.image.geometry (routines_in job.program) job.image.table
     job.script
 
 -- The banks after the flips, the votes and the instructions; what is said with the values that the
 -- banks hold when they are printed; and the events, behind the writes of the image's rows
 
 abbrev pub banks_at_last : GuardJob → Banks
-banks_at_last job = guarded_rows_at_end job.image.geometry (operations_in job.program) job.flips 1
+banks_at_last job = guarded_rows_at_end job.image.geometry (routines_in job.program) job.flips 1
     job.image.table (opened job.image) job.script
 
 abbrev pub said_of : GuardJob → List Said
-said_of job = guarded_said_in_rows job.image.geometry (operations_in job.program) job.flips 1
+said_of job = guarded_said_in_rows job.image.geometry (routines_in job.program) job.flips 1
     job.image.table (opened job.image) job.script
 
 abbrev pub events_of : GuardJob → List Event
 events_of job = row_writes job.image
-    ++ run_events job.image.geometry (operations_in job.program) job.flips 1 Ahead job.image.table
+    ++ run_events job.image.geometry (routines_in job.program) job.flips 1 Ahead job.image.table
     (opened job.image) job.script
 
 -- each row of every bank is written at the opening and read for the image
 abbrev pub tally_of : GuardJob → Counters
 tally_of job = with_reads (job.image.geometry.banks * job.image.geometry.rows)
-    (guarded_tally job.image.geometry (operations_in job.program) job.image.table job.script
+    (guarded_tally job.image.geometry (routines_in job.program) job.image.table job.script
     job.flips (opened_counters job.image.geometry))
 
 -- the image at the end
@@ -109,7 +109,7 @@ last_steps out job = Use ∷ Store out (image_at_last job)
 -- the script goes on the image, with its flips and votes
 abbrev pub work_steps : List ℕ → GuardJob → List Step
 work_steps out job =
-    Open ∷ guarded_steps job.image.geometry (operations_in job.program) job.flips 1 job.image.table
+    Open ∷ guarded_steps job.image.geometry (routines_in job.program) job.flips 1 job.image.table
     (opened job.image) job.script
     ++ last_steps out job
 
@@ -196,7 +196,8 @@ IsGuardDone All job chip = (refused : ℕ) × GuardDoneBy job chip refused
 IsGuardDone (At stop) job chip = Unit {0}
 
 -- the texts are those of the files, where these are told
-pub record AreGuardTexts (names : GuardNames) (texts : GuardTexts) (holds : Option Files) : Type 0 where
+pub record AreGuardTexts (names : GuardNames) (texts : GuardTexts) (holds : Option Files)
+    : Type 0 where
   pub script : IsText holds names.script.now texts.script
   pub image : IsText holds names.image.now texts.image
   pub flips : IsText holds names.flips.now texts.flips
@@ -225,7 +226,7 @@ run_names names = record {
   out = names.out;
 }
 
-abbrev pub job_by : List TextOp → GuardJob → Job
+abbrev pub job_by : List TextOp → GuardJob → RunJob
 job_by t job =
     record { text = t; script = job.script; image = job.image; program = job.program }
 
@@ -244,8 +245,8 @@ pub record GuardedRows (out : List ℕ) (job : GuardJob) (after : Files) (old ne
 
 -- the guarded word machine by the ops of a text, without flips and votes: its state after the
 -- script, what it says, and its replies
-abbrev pub operations_by : List TextOp → GuardJob → Operations
-operations_by t job = operations_of t job.program
+abbrev pub operations_by : List TextOp → GuardJob → Routines
+operations_by t job = routines_of t job.program
 
 abbrev pub state_by : List TextOp → GuardJob → List Held
 state_by t job = guarded_words_at_end job.image.geometry (operations_by t job) (meaning_in t)
@@ -293,7 +294,7 @@ pub record Guarded (names : GuardNames) (before after : Files) (old new : World)
     : Type 0 where
   pub text : List TextOp
   pub job : GuardJob
-  pub of_files : IsJob (run_names names) before (job_by text job)
+  pub of_files : IsRunJob (run_names names) before (job_by text job)
   pub short : first_long_name job.script ≡ None
   pub triples : first_stranger job.image.table ≡ None
   pub flips_are : read_as (flips_in job.image.geometry (length job.script))

@@ -12,8 +12,8 @@ use Rattle.bbop_isa.specs.Forms.{Instruction}
 use Rattle.machine_model.specs.declared.Reply.{Reply}
 use Rattle.machine_model.specs.declared.Reply.TheVariants.{Refused}
 use Rattle.machine_model.specs.declared.Why.TheVariants as why
-use Rattle.machine_model.specs.Operations.{Program, Operations, operations_of, operations_in}
-use Rattle.machine_model.specs.Operations.{meaning_in}
+use Rattle.machine_model.specs.Routines.{Program, Routines, routines_of, routines_in}
+use Rattle.machine_model.specs.Routines.{meaning_in}
 use Rattle.op_text.specs.Language.{Operation}
 use Rattle.op_text.specs.OpsOf.{IsOpsOf}
 use Rattle.uprog_code.specs.Programs.{IsProgram}
@@ -31,10 +31,10 @@ use Rattle.cli_model.specs.Steps.{Refusal}
 use Rattle.simdram_cli.specs.Accepted.{IsTaken}
 use Rattle.simdram_cli.specs.Inputs.{script_in, image_of}
 use Rattle.simdram_cli.specs.declared.words.RunNames.{RunNames}
-use Rattle.simdram_cli.specs.Job.{done_status}
+use Rattle.simdram_cli.specs.RunJob.{done_status}
 
 -- a script on an image, by the ops of a text, as far as a machine knows them, and with a program
-pub record Job : Type 0 where
+pub record RunJob : Type 0 where
   pub text : List TextOp
   pub script : List Instruction
   pub image : Image
@@ -52,27 +52,27 @@ Spells (Some bytes) ops = IsOpsOf bytes ops
 
 -- the job is that of the files at entry: the ops of OPS, the instructions of SCRIPT and the image
 -- of IMAGE
-pub record IsJob (names : RunNames) (before : Files) (job : Job) : Type 0 where
+pub record IsRunJob (names : RunNames) (before : Files) (job : RunJob) : Type 0 where
   pub ops : List Operation
   pub are : Spells (before names.ops.now) ops
   pub text : job.text ≡ map text_op ops
   pub script : read_as script_in (before names.script.now) ≡ Some job.script
   pub image : read_as image_of (before names.image.now) ≡ Some job.image
 
-abbrev pub operations : Job → Operations
-operations job = operations_of job.text job.program
+abbrev pub operations : RunJob → Routines
+operations job = routines_of job.text job.program
 
-abbrev pub replies_of : Job → List Reply
+abbrev pub replies_of : RunJob → List Reply
 replies_of job = replies job.image.geometry (operations job) job.image.table job.script
 
 -- the word machine's state after the script: the objects with their numbers
-abbrev pub state_after : Job → List Held
+abbrev pub state_after : RunJob → List Held
 state_after job = words_at_end job.image.geometry (operations job) (meaning_in job.text)
     (words_of job.image) job.script
 
 -- PROG is the spelling of a program, which implements the operations; and each command that loads
 -- a program file takes it
-pub record ProgramWritten (names : RunNames) (job : Job) (after : Files) : Type 0 where
+pub record ProgramWritten (names : RunNames) (job : RunJob) (after : Files) : Type 0 where
   pub file : after names.prog.now ≡ Some (program_bytes 2 job.program)
   pub legal : IsProgram job.program
   pub implements : ImplementsAll job.program job.text
@@ -80,14 +80,14 @@ pub record ProgramWritten (names : RunNames) (job : Job) (after : Files) : Type 
 
 -- OUT is the spelling of the word machine's table with the chip's rows, in which each object has
 -- exactly its numbers
-pub record ObjectsRight (out : List ℕ) (job : Job) (after : Files) (chip : ChipView) : Type 0
+pub record ObjectsRight (out : List ℕ) (job : RunJob) (after : Files) (chip : ChipView) : Type 0
   where
     pub file : after out ≡ Some (image_bytes job.image.geometry (table_of (state_after job))
         (rows_of chip.banks))
     pub numbers : HoldsNumbers job.image.geometry chip.banks (state_after job)
 
 -- A row that no done instruction touches is as it was in the image read
-abbrev pub RowsUntouched : Job → ChipView → Type 0
+abbrev pub RowsUntouched : RunJob → ChipView → Type 0
 RowsUntouched job chip =
     (bank row : ℕ) → bank < job.image.geometry.banks → row < job.image.geometry.rows
     → is_touched_by job.image.geometry (operations job) job.image.table job.script bank row ≡ false
@@ -95,34 +95,34 @@ RowsUntouched job chip =
 
 -- The chip received what the replies count, and nothing else; its banks are what the commands of
 -- the program written leave
-pub record CommandsCounted (job : Job) (chip : ChipView) : Type 0 where
+pub record CommandsCounted (job : RunJob) (chip : ChipView) : Type 0 where
   pub aap : chip.counters.aap ≡ (sum_of (replies_of job)).aap
   pub ap : chip.counters.ap ≡ (sum_of (replies_of job)).ap
   pub writes : chip.counters.writes ≡ job.image.geometry.banks * job.image.geometry.rows
       + sum_done rows_loaded job.image.geometry (operations job) job.image.table job.script
   pub reads : chip.counters.reads ≡ job.image.geometry.banks * job.image.geometry.rows
       + sum_done rows_printed job.image.geometry (operations job) job.image.table job.script
-  pub banks : chip.banks ≡ banks_at_end job.image.geometry (operations_in job.program)
+  pub banks : chip.banks ≡ banks_at_end job.image.geometry (routines_in job.program)
       job.image.table (opened job.image) job.script
   pub log : LogIs (row_writes job.image
-      ++ script_events job.image.geometry (operations_in job.program) job.image.table job.script)
+      ++ script_events job.image.geometry (routines_in job.program) job.image.table job.script)
       chip.log
 
 -- what the word machine says of the script, and the line of the totals
-abbrev pub report_of : Job → ChipView → List ℕ
+abbrev pub report_of : RunJob → ChipView → List ℕ
 report_of job chip =
     report (said_in_words job.image.geometry (operations job) (meaning_in job.text)
     (words_of job.image) job.script) chip.counters (replies_of job)
 
 -- The report was sent, behind what was sent before
-abbrev pub ReportSent : Job → ChipView → Option (List ℕ) → Option (List ℕ) → Type 0
+abbrev pub ReportSent : RunJob → ChipView → Option (List ℕ) → Option (List ℕ) → Type 0
 ReportSent job chip old new = Told (λ before after. after ≡ before ++ report_of job chip) old new
 
 abbrev pub IsNoBadWalk : Reply → Type 0
 IsNoBadWalk reply = (walk : _) → reply ≢ Refused (why.BadWalk walk)
 
 -- The status tells whether a reply is a refusal, and no walk was stuck
-pub record RepliesExact (job : Job) (status : ℕ) : Type 0 where
+pub record RepliesExact (job : RunJob) (status : ℕ) : Type 0 where
   pub answers : status ≡ done_status (count_by is_refused (replies_of job))
   pub walks : AllByRecursion IsNoBadWalk (replies_of job)
 
@@ -130,8 +130,8 @@ pub record RepliesExact (job : Job) (status : ℕ) : Type 0 where
 -- and OUT are as at entry
 pub record Headline (names : RunNames) (before after : Files) (old new : World) (status : ℕ)
     : Type 0 where
-  pub job : Job
-  pub of_files : IsJob names before job
+  pub job : RunJob
+  pub of_files : IsRunJob names before job
   pub program_written : ProgramWritten names job after
   pub objects_right : ObjectsRight names.out.now job after new.chip
   pub rows_untouched : RowsUntouched job new.chip
@@ -143,5 +143,5 @@ pub record Headline (names : RunNames) (before after : Files) (old new : World) 
 
 -- there is one such job: the files determine it
 abbrev pub OneJob : Type 0
-OneJob = (names : RunNames) (before after : Files) (a b : Job) → IsJob names before a
-    → IsJob names before b → ProgramWritten names a after → ProgramWritten names b after → a ≡ b
+OneJob = (names : RunNames) (before after : Files) (a b : RunJob) → IsRunJob names before a
+    → IsRunJob names before b → ProgramWritten names a after → ProgramWritten names b after → a ≡ b

@@ -9,7 +9,7 @@ use Rattle.object_alloc.specs.Listed.{Named}
 use Rattle.object_alloc.specs.Spelling.{image_bytes}
 use Rattle.bbop_isa.specs.Forms.{Instruction}
 use Rattle.machine_model.specs.declared.Reply.{Reply}
-use Rattle.machine_model.specs.Operations.{Program, Operations, operations_in}
+use Rattle.machine_model.specs.Routines.{Program, Routines, routines_in}
 use Rattle.machine_model.specs.Opened.{Image, opened, rows_of}
 use Rattle.machine_model.specs.Script.{replies, table_at_end, banks_at_end, sum_of, sum_done}
 use Rattle.machine_model.specs.Script.{rows_loaded, rows_printed, is_refused}
@@ -28,10 +28,10 @@ pub record Texts : Type 0 where
 
 -- what is said of a script by a program, and its replies
 abbrev pub said_in : Program → List Instruction → Image → List Said
-said_in program script i = said_in_rows i.geometry (operations_in program) i.table (opened i) script
+said_in program script i = said_in_rows i.geometry (routines_in program) i.table (opened i) script
 
 abbrev pub replies_by : Program → List Instruction → Image → List Reply
-replies_by program script i = replies i.geometry (operations_in program) i.table script
+replies_by program script i = replies i.geometry (routines_in program) i.table script
 
 -- the counters of a chip that has begun and has taken the rows of an image
 abbrev pub opened_counters : Geometry → Counters
@@ -44,8 +44,8 @@ tally_by program script i =
     record {
       aap = (sum_of (replies_by program script i)).aap;
       ap = (sum_of (replies_by program script i)).ap;
-      writes = all + sum_done rows_loaded i.geometry (operations_in program) i.table script;
-      reads = all + sum_done rows_printed i.geometry (operations_in program) i.table script;
+      writes = all + sum_done rows_loaded i.geometry (routines_in program) i.table script;
+      reads = all + sum_done rows_printed i.geometry (routines_in program) i.table script;
     }
 
 abbrev pub refused_by : Program → List Instruction → Image → ℕ
@@ -58,8 +58,8 @@ done_status refused = if nat_lt 0 refused then 8 else 0
 -- the image after a script
 abbrev pub image_by : Program → List Instruction → Image → List ℕ
 image_by program script i =
-    image_bytes i.geometry (table_at_end i.geometry (operations_in program) i.table script)
-    (rows_of (banks_at_end i.geometry (operations_in program) i.table (opened i) script))
+    image_bytes i.geometry (table_at_end i.geometry (routines_in program) i.table script)
+    (rows_of (banks_at_end i.geometry (routines_in program) i.table (opened i) script))
 
 -- lines are sent, the first of which has this number
 abbrev pub put_lines : ℕ → List Said → List Step
@@ -72,14 +72,14 @@ abbrev pub instr_steps : Bool → List ℕ → List Step
 instr_steps prints bytes = if prints then Print bytes ∷ [] else Use ∷ Put bytes ∷ []
 
 -- a wave uses the chip, and then its lines are sent
-abbrev pub piece_steps : Geometry → Operations → List Named → Banks → ℕ → Piece → List Step
+abbrev pub piece_steps : Geometry → Routines → List Named → Banks → ℕ → Piece → List Step
 piece_steps g operations table banks number (Wave wave) =
     Use ∷ put_lines number (said_in_rows g operations table banks wave)
 piece_steps g operations table banks number (Alone instr) =
     instr_steps (is_print instr) (line number (said_by g operations table banks instr))
 
 -- the steps of pieces, the first line of which has this number
-abbrev pub pieces_steps : Geometry → Operations → List Named → Banks → ℕ → List Piece → List Step
+abbrev pub pieces_steps : Geometry → Routines → List Named → Banks → ℕ → List Piece → List Step
 pieces_steps g operations table banks number [] = []
 pieces_steps g operations table banks number (piece ∷ rest) =
     piece_steps g operations table banks number piece
@@ -90,7 +90,7 @@ pieces_steps g operations table banks number (piece ∷ rest) =
 -- a script goes by its pieces
 abbrev pub script_steps : Program → List Instruction → Image → List Step
 script_steps program script i =
-    pieces_steps i.geometry (operations_in program) i.table (opened i) 1 (pieces script)
+    pieces_steps i.geometry (routines_in program) i.table (opened i) 1 (pieces script)
 
 -- a script is done on an image, the image after it is stored, and the line of the totals is sent
 abbrev pub work_steps : List ℕ → Program → List Instruction → Image → List Step

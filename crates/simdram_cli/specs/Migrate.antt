@@ -6,7 +6,7 @@ use Rattle.host_edge.specs.Views.{Files, Told}
 use Rattle.uprog_code.specs.Programs.{IsProgram}
 use Rattle.uprog_bin.specs.Spelling.{HasVersion, program_bytes}
 use Rattle.uprog_bin.specs.Opened.{IsProgramFile}
-use Rattle.machine_model.specs.Operations.{Program}
+use Rattle.machine_model.specs.Routines.{Program}
 use Rattle.cli_model.specs.World.{World}
 use Rattle.cli_model.specs.Steps.{Step, Store, Put, Goes, loading}
 use Rattle.cli_model.specs.Ends.{Ends, done_steps}

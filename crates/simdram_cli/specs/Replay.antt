@@ -29,10 +29,10 @@ pub record ReplayTexts : Type 0 where
   pub image : List ℕ
 
 -- they are those of the files, where these are told
-pub record AreReplayTexts (names : ReplayNames) (texts : ReplayTexts) (holds : Option Files) : Type 0
-  where
-    pub trace : IsText holds names.trace.now texts.trace
-    pub image : IsText holds names.image.now texts.image
+pub record AreReplayTexts (names : ReplayNames) (texts : ReplayTexts) (holds : Option Files)
+    : Type 0 where
+  pub trace : IsText holds names.trace.now texts.trace
+  pub image : IsText holds names.image.now texts.image
 
 abbrev pub is_aap : Event → Bool
 is_aap (Row bank (Aap x y)) = true

@@ -1,7 +1,7 @@
 -- The steps of `run`.
 use Rattle.std.specs.Prelude.{List, ◌∷◌, ℕ}
 use Rattle.uprog_bin.specs.Spelling.{program_bytes}
-use Rattle.machine_model.specs.Operations.{Program}
+use Rattle.machine_model.specs.Routines.{Program}
 use Rattle.cli_model.specs.Steps.{Step, Take, Store, loading}
 use Rattle.simdram_cli.specs.declared.words.RunNames.{RunNames}
 use Rattle.simdram_cli.specs.declared.job.JobNames.{JobNames}

@@ -14,7 +14,7 @@ use Rattle.uprog_code.specs.Texts.{ImplementsAll}
 use Rattle.uprog_bin.specs.Spelling.{program_bytes}
 use Rattle.uprog_gen.specs.Totals.{AreExact}
 use Rattle.machine_model.specs.Opened.{Image, opened, row_writes, words_of}
-use Rattle.machine_model.specs.Operations.{Program, operations_in}
+use Rattle.machine_model.specs.Routines.{Program, routines_in}
 use Rattle.machine_model.specs.Pieces.{script_events}
 use Rattle.machine_model.specs.Script.{banks_at_end, replies, sum_of}
 use Rattle.scan_model.specs.declared.ScanWhy.{ScanWhy}
@@ -61,12 +61,12 @@ pub record DoesScans (program : Program) : Type 0 where
 
 -- what a scan answers of a query on an image, with a program's operations
 abbrev pub answer_on : Program → Query → Image → Answer
-answer_on program q i = answer i.geometry (operations_in program) (opened i) i.table q
+answer_on program q i = answer i.geometry (routines_in program) (opened i) i.table q
 
 -- the row commands of the query's instructions
 abbrev pub scan_counts : Program → Query → Image → Counts
 scan_counts program q i =
-    sum_of (replies i.geometry (operations_in program) i.table (query_script i.table q))
+    sum_of (replies i.geometry (routines_in program) i.table (query_script i.table q))
 
 -- the number of elements of the image that the query holds of, among as many as its objects have:
 -- on the image's numbers alone
@@ -135,9 +135,9 @@ scan_counters g of counts = record {
 -- program's commands leave, and a log that is told has the image's writes and then the
 -- instructions' events
 pub record QueryDone (program : Program) (q : Query) (i : Image) (chip : ChipView) : Type 0 where
-  pub banks : chip.banks ≡ banks_at_end i.geometry (operations_in program) i.table (opened i)
+  pub banks : chip.banks ≡ banks_at_end i.geometry (routines_in program) i.table (opened i)
       (query_script i.table q)
-  pub log : LogIs (row_writes i ++ script_events i.geometry (operations_in program) i.table
+  pub log : LogIs (row_writes i ++ script_events i.geometry (routines_in program) i.table
       (query_script i.table q)) chip.log
 
 -- What the chip shows then: the image alone, where a comparison is at fault; and what the query's
@@ -193,7 +193,7 @@ pub record Scanned (names : ScanNames) (before : Files) (old new : World) : Type
   pub image_is : read_as image_of (before names.image.now) ≡ Some image
   pub does : DoesScans program
   pub fits : checked image.table (nodes_of query) ≡ None
-  pub room : scan_refused image.geometry (operations_in program) image.table query ≡ None
+  pub room : scan_refused image.geometry (routines_in program) image.table query ≡ None
   pub work : QueryDone program query image new.chip
   pub sent : Told (λ x y. y ≡ x ++ count_line (number_found query image)
       (query_count image.table query) (scan_counts program query image)) old.sink.sent new.sink.sent

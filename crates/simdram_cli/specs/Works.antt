@@ -6,7 +6,7 @@ use Rattle.dram_model.specs.Chip.{LogIs}
 use Rattle.dram_model.specs.View.{ChipView, HasBegun}
 use Rattle.uprog_code.specs.declared.TheConstants.{WALK_MAX}
 use Rattle.bbop_isa.specs.Forms.{Instruction}
-use Rattle.machine_model.specs.Operations.{Program, operations_in}
+use Rattle.machine_model.specs.Routines.{Program, routines_in}
 use Rattle.machine_model.specs.Opened.{Image, row_writes, opened}
 use Rattle.machine_model.specs.Pieces.{Piece, Wave, Alone, instrs_in, wave_size, script_events}
 use Rattle.machine_model.specs.Script.{banks_at_end, is_bbop, is_refused, replies, rows_printed}
@@ -31,10 +31,10 @@ pub record OpenedOn (i : Image) (chip : ChipView) : Type 0 where
 -- image's writes and then the script's events
 pub record WorkDone (program : Program) (script : List Instruction) (i : Image) (chip : ChipView)
     (refused : ℕ) : Type 0 where
-  pub banks : chip.banks ≡ banks_at_end i.geometry (operations_in program) i.table (opened i) script
+  pub banks : chip.banks ≡ banks_at_end i.geometry (routines_in program) i.table (opened i) script
   pub counters : chip.counters ≡ tally_by program script i
   pub log : LogIs (row_writes i
-      ++ script_events i.geometry (operations_in program) i.table script) chip.log
+      ++ script_events i.geometry (routines_in program) i.table script) chip.log
   pub refused_is : refused ≡ refused_by program script i
 
 -- what the parts of a script come to, for its proof

@@ -12,7 +12,7 @@ ghost use Rattle.uprog_code.specs.Programs.{IsProgram};
 ghost use Rattle.bbop_isa.specs.Forms.{view_of};
 ghost use Rattle.machine_model.specs.Agrees.{IsPlain};
 ghost use Rattle.machine_model.specs.Opened.{Image as ImageOf};
-ghost use Rattle.machine_model.specs.Operations.{Program};
+ghost use Rattle.machine_model.specs.Routines.{Program};
 ghost use Rattle.machine_model.specs.Script.{is_refused, replies, table_at_end};
 ghost use Rattle.cli_model.specs.World.{world};
 ghost use Rattle.cli_model.specs.Steps.{Goes, Store, Use};

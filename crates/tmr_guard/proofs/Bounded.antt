@@ -8,7 +8,7 @@ use Rattle.dram_model.specs.declared.geometry.Geometry.{Geometry}
 use Rattle.bbop_isa.specs.Forms.{Instruction, Init, Bbop, Load, Fill, Print, Free, Order}
 use Rattle.machine_model.specs.declared.Reply.{Reply}
 use Rattle.machine_model.specs.Agrees.{IsPlain}
-use Rattle.machine_model.specs.Operations.{Program, operations_in}
+use Rattle.machine_model.specs.Routines.{Program, routines_in}
 use Rattle.machine_model.specs.Steps.{reply_to}
 use Rattle.machine_model.specs.Script.{counted_in, rows_if_done, rows_printed}
 use Rattle.machine_model.proofs.Bounds.{work_is_bounded}
@@ -26,15 +26,15 @@ copy_plain c (Order o) h = tt
 
 pub few_commands : (g : Geometry) (p : Program) (table : Listing) (c : ℕ) (instr : Instruction)
     (reply : Reply) → LiesOn g table → IsPlain instr
-    → reply ≡ reply_to g (operations_in p) table.pairs (on_copy c instr)
+    → reply ≡ reply_to g (routines_in p) table.pairs (on_copy c instr)
     → (counted_in reply).aap + (counted_in reply).ap ≤ 16 * WALK_MAX
 few_commands g p table c instr reply lies plain e =
     let i = on_copy c instr in
     let few = work_is_bounded g p table.pairs (i ∷ []) lies.geometry
     (record { listed = lies.listed; objects = lies.objects }) (copy_plain c instr plain, tt)
     in
-    let one : (counted_in (reply_to g (operations_in p) table.pairs i)).aap
-    + (counted_in (reply_to g (operations_in p) table.pairs i)).ap ≤ 16 * WALK_MAX =
+    let one : (counted_in (reply_to g (routines_in p) table.pairs i)).aap
+    + (counted_in (reply_to g (routines_in p) table.pairs i)).ap ≤ 16 * WALK_MAX =
     omega (arith, few.commands) in
     subst (λ (r : Reply). (counted_in r).aap + (counted_in r).ap ≤ 16 * WALK_MAX) (sym e) one
 
@@ -44,5 +44,5 @@ none_read true = refl
 none_read false = refl
 
 pub load_reads : (g : Geometry) (p : Program) (table : List Named) (name values : List ℕ)
-    → rows_if_done rows_printed g (operations_in p) table (Load name values) ≡ 0
+    → rows_if_done rows_printed g (routines_in p) table (Load name values) ≡ 0
 load_reads g p table name values = none_read _

@@ -12,7 +12,7 @@ use Rattle.bbop_isa.specs.Forms.{Instruction}
 use Rattle.machine_model.specs.declared.Why.{Why}
 use Rattle.machine_model.specs.declared.Reply.{Reply}
 use Rattle.machine_model.specs.declared.Reply.TheVariants.{Done, Refused}
-use Rattle.machine_model.specs.Operations.{Program, Operations, operations_in}
+use Rattle.machine_model.specs.Routines.{Program, Routines, routines_in}
 use Rattle.machine_model.specs.Refusals.{refusal}
 use Rattle.machine_model.specs.Steps.{reply_by, counts_for, tabled}
 use Rattle.machine_model.specs.Script.{replies, plus, is_refused}
@@ -56,14 +56,14 @@ zero_plus k =
 -- what the exit says: the plain script was done, and this is the reply
 pub record Exit (g : Geometry) (p : Program) (t t' : Turn) (T T' : List Named) (i : Instruction)
     (reply : Reply) (a b : ChipView) : Type 0 where
-  pub ran : Ran g p t t' T T' (plain_script g (operations_in p) T i) a b
-  pub answer : reply ≡ guarded_reply g (operations_in p) T i
+  pub ran : Ran g p t t' T T' (plain_script g (routines_in p) T i) a b
+  pub answer : reply ≡ guarded_reply g (routines_in p) T i
 
 module _ (g : Geometry) (p : Program) (T : List Named) (i x y z : Instruction)
     (ones : plain_ones i ≡ x ∷ y ∷ z ∷ [])
   where
-    abbrev o : Operations
-    o = operations_in p
+    abbrev o : Routines
+    o = routines_in p
 
     reply_is : (reply : Reply) → joined none_yet (replies g o T (x ∷ y ∷ z ∷ [])) ≡ reply
         → reply ≡ guarded_reply g o T i

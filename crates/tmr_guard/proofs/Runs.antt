@@ -18,7 +18,7 @@ use Rattle.wave_model.specs.Schedule.{picks, whole_picks, in_turn}
 use Rattle.object_alloc.specs.Listed.{Named}
 use Rattle.bbop_isa.specs.Forms.{Instruction, Init, Bbop, Load, Fill, Print, Free, Order}
 use Rattle.machine_model.specs.declared.Why.{Why}
-use Rattle.machine_model.specs.Operations.{Program, Operations, operations_in}
+use Rattle.machine_model.specs.Routines.{Program, Routines, routines_in}
 use Rattle.machine_model.specs.Refusals.{refusal}
 use Rattle.machine_model.specs.Steps.{if_done, job_of, own_events, table_after, tabled}
 use Rattle.machine_model.specs.Script.{sum_done, rows_if_done, rows_printed, table_at_end}
@@ -81,19 +81,19 @@ plus_none n = omega arith
 
 pub ran_one : (g : Geometry) (p : Program) (turn turn' : Turn) (table table' : List Named)
     (instr : Instruction) (a b : ChipView)
-    → table' ≡ table_after g (operations_in p) table instr
-    → turn' ≡ turn_behind g (operations_in p) turn table (piece_of instr)
-    → DidAndRead (piece_events g (operations_in p) turn table (piece_of instr))
-    (rows_if_done rows_printed g (operations_in p) table instr) a b
+    → table' ≡ table_after g (routines_in p) table instr
+    → turn' ≡ turn_behind g (routines_in p) turn table (piece_of instr)
+    → DidAndRead (piece_events g (routines_in p) turn table (piece_of instr))
+    (rows_if_done rows_printed g (routines_in p) table instr) a b
     → Ran g p turn turn' table table' (instr ∷ []) a b
 ran_one g p turn turn' table table' instr a b e f d = record {
   tables = e;
   turns = f;
-  did = subst (λ n. DidAndRead (piece_events g (operations_in p) turn table (piece_of instr)
+  did = subst (λ n. DidAndRead (piece_events g (routines_in p) turn table (piece_of instr)
       ++ [])
       n a b) (plus_none _)
-      (subst (λ es. DidAndRead es (rows_if_done rows_printed g (operations_in p) table instr) a b)
-      (sym (append-nil (piece_events g (operations_in p) turn table (piece_of instr)))) d);
+      (subst (λ es. DidAndRead es (rows_if_done rows_printed g (routines_in p) table instr) a b)
+      (sym (append-nil (piece_events g (routines_in p) turn table (piece_of instr)))) d);
 }
 
 -- some, and then others
@@ -101,7 +101,7 @@ pub ran_more : (g : Geometry) (p : Program) (t t' t'' : Turn) (T T' T'' : List N
     (xs ys : List Instruction) (a b c : ChipView) → Ran g p t t' T T' xs a b
     → Ran g p t' t'' T' T'' ys b c → Ran g p t t'' T T'' (xs ++ ys) a c
 ran_more g p t t' t'' T T' T'' xs ys a b c h k =
-    let o = operations_in p in
+    let o = routines_in p in
     let ps = map piece_of xs in
     let qs = map piece_of ys in
     let on = pieces_go_on g o t T ps qs in
@@ -149,13 +149,13 @@ if_refused : {X : Type 0} (r : Option Why) (w : Why) (x y : X) → r ≡ Some w
 if_refused None w x y e = cc
 if_refused (Some v) w x y e = refl
 
-refused_queues : (g : Geometry) (o : Operations) (table : List Named) (instr : Instruction)
+refused_queues : (g : Geometry) (o : Routines) (table : List Named) (instr : Instruction)
     (w : Why) → refusal g o table instr ≡ Some w
     → wave_queues g o table (instr ∷ []) ≡ queues []
 refused_queues g o table instr w e = ap (λ xs. queues (map (job_of g o table) xs))
     (if_refused (refusal g o table instr) w (instr ∷ []) [] e)
 
-refused_turn : (g : Geometry) (o : Operations) (turn : Turn) (table : List Named)
+refused_turn : (g : Geometry) (o : Routines) (turn : Turn) (table : List Named)
     (instr : Instruction) (w : Why) → refusal g o table instr ≡ Some w
     → turn_behind g o turn table (piece_of instr) ≡ turn
 refused_turn g o turn table (Bbop op dst srcs count n) w e =
@@ -168,13 +168,13 @@ refused_turn g o turn table (Print name) w e = refl
 refused_turn g o turn table (Free name) w e = refl
 refused_turn g o turn table (Order order) w e = cc
 
-none_own : (g : Geometry) (o : Operations) (table : List Named) (instr : Instruction) (w : Why)
+none_own : (g : Geometry) (o : Routines) (table : List Named) (instr : Instruction) (w : Why)
     → refusal g o table instr ≡ Some w
     → if_done (refusal g o table instr) (own_events g table instr) [] ≡ []
 none_own g o table instr w e =
     if_some (refusal g o table instr) w (own_events g table instr) [] e
 
-refused_events : (g : Geometry) (o : Operations) (turn : Turn) (table : List Named)
+refused_events : (g : Geometry) (o : Routines) (turn : Turn) (table : List Named)
     (instr : Instruction) (w : Why) → refusal g o table instr ≡ Some w
     → piece_events g o turn table (piece_of instr) ≡ []
 refused_events g o turn table (Bbop op dst srcs count n) w e =
@@ -190,9 +190,9 @@ refused_events g o turn table (Order order) w e = cc
 -- one that is refused is none
 pub ran_refused : (g : Geometry) (p : Program) (t t' : Turn) (T T' : List Named)
     (instr : Instruction) (w : Why) (a b : ChipView) → Ran g p t t' T T' (instr ∷ []) a b
-    → refusal g (operations_in p) T instr ≡ Some w → Ran g p t t' T T' [] a b
+    → refusal g (routines_in p) T instr ≡ Some w → Ran g p t t' T T' [] a b
 ran_refused g p t t' T T' instr w a b h e =
-    let o = operations_in p in
+    let o = routines_in p in
     let events : events_of_pieces g o t T (map piece_of (instr ∷ [])) ≡ [] =
     append-nil (piece_events g o t T (piece_of instr)) ∙ refused_events g o t T instr w e in
     let rows : rows_if_done rows_printed g o T instr ≡ 0 =

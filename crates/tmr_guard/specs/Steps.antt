@@ -13,7 +13,7 @@ use Rattle.bbop_isa.specs.Forms.{Instruction}
 use Rattle.bbop_isa.specs.Forms.{Init, Bbop, Load, Fill, Print, Free, Order}
 use Rattle.machine_model.specs.declared.Reply.{Reply}
 use Rattle.uprog_code.specs.declared.TheConstants.{WALK_MAX}
-use Rattle.machine_model.specs.Operations.{Program, operations_in}
+use Rattle.machine_model.specs.Routines.{Program, routines_in}
 use Rattle.machine_model.specs.Steps.{reply_to}
 use Rattle.object_steps.specs.Objects.{RisesAtMost}
 use Rattle.object_steps.specs.declared.fault.StepFault.{StepFault}
@@ -75,10 +75,10 @@ script_by m instr = plain_script (geometry_of m) (operations_by m) (table_in m) 
 -- these plain instructions of a program were done one after another, a bbop as a wave of one
 pub record Ran (g : Geometry) (p : Program) (turn turn' : Turn) (table table' : List Named)
     (script : List Instruction) (chip chip' : ChipView) : Type 0 where
-  pub tables : table' ≡ table_at_end g (operations_in p) table script
-  pub turns : turn' ≡ turn_at_end g (operations_in p) turn table (map piece_of script)
-  pub did : DidAndRead (events_of_pieces g (operations_in p) turn table (map piece_of script))
-      (sum_done rows_printed g (operations_in p) table script) chip chip'
+  pub tables : table' ≡ table_at_end g (routines_in p) table script
+  pub turns : turn' ≡ turn_at_end g (routines_in p) turn table (map piece_of script)
+  pub did : DidAndRead (events_of_pieces g (routines_in p) turn table (map piece_of script))
+      (sum_done rows_printed g (routines_in p) table script) chip chip'
 
 -- so it was on a machine
 abbrev pub RanBy : Machine → Machine → List Instruction → ChipView → ChipView → Type 0
@@ -89,7 +89,7 @@ RanBy old new script chip chip' = Ran (geometry_of old) (program_of old) (turn_i
 pub record One (g : Geometry) (p : Program) (turn turn' : Turn) (table table' : List Named)
     (instr : Instruction) (reply : Reply) (chip chip' : ChipView) : Type 0 where
   pub ran : Ran g p turn turn' table table' (instr ∷ []) chip chip'
-  pub answer : reply ≡ reply_to g (operations_in p) table instr
+  pub answer : reply ≡ reply_to g (routines_in p) table instr
 
 abbrev pub DidOne : Machine → Machine → Instruction → Reply → ChipView → ChipView → Type 0
 DidOne old new instr reply chip chip' = One (geometry_of old) (program_of old) (turn_in old)

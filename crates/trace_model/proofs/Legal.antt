@@ -34,12 +34,12 @@ use Rattle.object_alloc.specs.Spelling.{IsObject}
 use Rattle.object_alloc.proofs.Images.{bounds_of}
 use Rattle.file_fields.proofs.Padded.{between_is}
 use Rattle.bbop_isa.specs.Forms.{Instruction, Init, Bbop, Load, Fill, Print, Free, Order}
-use Rattle.wave_model.specs.Schedule.{Job}
+use Rattle.wave_model.specs.Schedule.{WaveJob}
 use Rattle.machine_model.specs.declared.Why.{Why}
 use Rattle.machine_model.specs.declared.Why.TheVariants as why
 use Rattle.machine_model.specs.Columns.{segments, object_size, each_row}
-use Rattle.machine_model.specs.Operations.{Program, Operation, Operations, operations_in}
-use Rattle.machine_model.specs.Operations.{operation_of}
+use Rattle.machine_model.specs.Routines.{Program, Routine, Routines, routines_in}
+use Rattle.machine_model.specs.Routines.{routine_of}
 use Rattle.machine_model.specs.Refusals.{first, when, object_named, is_absent, refusal}
 use Rattle.machine_model.specs.Steps.{base_for, binding, bound_at, events_of, fill_events}
 use Rattle.machine_model.specs.Steps.{if_done, job_events, job_of, load_events, new_object}
@@ -194,7 +194,7 @@ present : (table : List Named) (name : List ℕ) (rest : List (Option Why))
 present table name rest h = not_false _ (when_none _ _
     (first_none (when (is_absent table name) (why.NoObject 0)) rest h).0)
 
-new_placed : (g : Geometry) (operations : Operations) (table : List Named) (name : List ℕ)
+new_placed : (g : Geometry) (operations : Routines) (table : List Named) (name : List ℕ)
     (count n : ℕ) → 0 < n → refusal g operations table (Init name count n) ≡ None
     → IsPlaced g (new_object g table count n)
 new_placed g operations table name count (suc n) some h =
@@ -226,7 +226,7 @@ rows_legal : (g : Geometry) (bank : ℕ) (commands : List Command) → bank < g.
 rows_legal g bank [] l all = tt
 rows_legal g bank (c ∷ commands) l all = ((l, all.0), rows_legal g bank commands l all.1)
 
-job_legal : (g : Geometry) (job : Job) → job.banks ≤ g.banks
+job_legal : (g : Geometry) (job : WaveJob) → job.banks ≤ g.banks
     → AllByRecursion (λ c. is_legal g.rows c ≡ true) job.commands
     → AllByRecursion (IsEvent g) (job_events job)
 job_legal g job l all =
@@ -234,20 +234,20 @@ job_legal g job l all =
     (λ bank a m. rows_legal g bank job.commands (omega (arith, m, l)) all)
 
 -- what an operation issues under a binding that fits
-abbrev IssuesLegal : Operation → Type 0
+abbrev IssuesLegal : Routine → Type 0
 IssuesLegal o = (rows n : ℕ) (b : Bound) → 0 < n → Fits rows o.shape n b
     → AllByRecursion (λ c. is_legal rows c ≡ true) (bound rows o.shape n b (issues_of (o.trace n)))
 
 entries_legal : (p : Program) → AllByRecursion IsEntry p
-    → AllByRecursion (λ e. IssuesLegal (operation_of e)) p
+    → AllByRecursion (λ e. IssuesLegal (routine_of e)) p
 entries_legal [] all = tt
 entries_legal (e ∷ p) all =
     (legal_commands e.shape e.code all.0.code, entries_legal p all.1)
 
 bbop_legal : (g : Geometry) (p : Program) (table : List Named) (op dst : List ℕ)
-    (srcs : List (List ℕ)) (count n : ℕ) (found : Option Operation)
-    → operations_in p op ≡ found → IsBig g → IsProgram p → TableFits g table → 0 < n
-    → refusal g (operations_in p) table (Bbop op dst srcs count n) ≡ None
+    (srcs : List (List ℕ)) (count n : ℕ) (found : Option Routine)
+    → routines_in p op ≡ found → IsBig g → IsProgram p → TableFits g table → 0 < n
+    → refusal g (routines_in p) table (Bbop op dst srcs count n) ≡ None
     → AllByRecursion (IsEvent g) (job_events (record {
       commands = bound_at g table found (dst ∷ srcs) n;
       banks = segments g (object_named table dst);
@@ -256,7 +256,7 @@ bbop_legal g p table op dst srcs count n None is b good t some h =
     all_banks (IsEvent g) (λ bank. row_events bank []) 0 (segments g (object_named table dst))
     (λ bank l m. tt)
 bbop_legal g p table op dst srcs count n (Some o) is b good t some h =
-    let granted = grants_fit g (operations_in p) table o op dst srcs count n b.words t is h in
+    let granted = grants_fit g (routines_in p) table o op dst srcs count n b.words t is h in
     let legal = entry_holds IssuesLegal p op o (entries_legal p good.entries) is in
     job_legal g (record {
       commands = bound_at g table (Some o) (dst ∷ srcs) n;
@@ -266,14 +266,14 @@ bbop_legal g p table op dst srcs count n (Some o) is b good t some h =
 module _ (g : Geometry) (p : Program) (b : IsBig g) (good : IsProgram p) where
   -- the events of an instruction that is done
   done_legal : (table : List Named) (instr : Instruction) → TableFits g table → IsPlain instr
-      → refusal g (operations_in p) table instr ≡ None
-      → AllByRecursion (IsEvent g) (events_of g (operations_in p) table instr)
+      → refusal g (routines_in p) table instr ≡ None
+      → AllByRecursion (IsEvent g) (events_of g (routines_in p) table instr)
   done_legal table (Init name count n) t plain h = fills_legal g (new_object g table count n) 0 b
-      (new_placed g (operations_in p) table name count n plain.1.0 h)
+      (new_placed g (routines_in p) table name count n plain.1.0 h)
   done_legal table (Bbop op dst srcs count n) t plain h =
       all_append (IsEvent g)
-      (job_events (job_of g (operations_in p) table (Bbop op dst srcs count n))) []
-      (bbop_legal g p table op dst srcs count n (operations_in p op) refl b good t plain.0 h) tt
+      (job_events (job_of g (routines_in p) table (Bbop op dst srcs count n))) []
+      (bbop_legal g p table op dst srcs count n (routines_in p op) refl b good t plain.0 h) tt
   done_legal table (Load name vs) t plain h =
       loads_legal g (object_named table name) vs b (placed g table name t (present table name _ h))
       (loaded_count table name vs _ h)
@@ -291,15 +291,15 @@ module _ (g : Geometry) (p : Program) (b : IsBig g) (good : IsProgram p) where
   -- and of a script, one instruction after another
   in_order_legal : (table : List Named) (script : List Instruction) → TableFits g table
       → AllByRecursion IsPlain script
-      → AllByRecursion (IsEvent g) (events_in_order g (operations_in p) table script)
+      → AllByRecursion (IsEvent g) (events_in_order g (routines_in p) table script)
   in_order_legal table [] t plain = tt
   in_order_legal table (instr ∷ script) t plain =
-      all_append (IsEvent g) (if_done (refusal g (operations_in p) table instr)
-      (events_of g (operations_in p) table instr) []) _
-      (events_case (refusal g (operations_in p) table instr) _
+      all_append (IsEvent g) (if_done (refusal g (routines_in p) table instr)
+      (events_of g (routines_in p) table instr) []) _
+      (events_case (refusal g (routines_in p) table instr) _
       (done_legal table instr t plain.0))
-      (in_order_legal (table_after g (operations_in p) table instr) script
-      (table_fits_after g (operations_in p) table instr plain.0 t) plain.1)
+      (in_order_legal (table_after g (routines_in p) table instr) script
+      (table_fits_after g (routines_in p) table instr plain.0 t) plain.1)
 
 -- what holds of all events holds of those that a bank sees
 seen_case : (P : Event → Type 0) (c : Bool) (e : Event) (rest : List Event) → P e
@@ -338,7 +338,7 @@ pub events_are_legal : EventsAreLegal
 events_are_legal g p turn table script is good t plain =
     let b = big g is in
     let legal = in_order_legal g p b good table script t plain in
-    all_seen (IsEvent g) (events_of_pieces g (operations_in p) turn table (pieces script))
+    all_seen (IsEvent g) (events_of_pieces g (routines_in p) turn table (pieces script))
     (λ bank. subst (AllByRecursion (IsEvent g))
-    (sym (seen_in_order g (operations_in p) turn table script bank b.words (fits_banks g table t)))
-    (seen_all (IsEvent g) bank (events_in_order g (operations_in p) table script) legal))
+    (sym (seen_in_order g (routines_in p) turn table script bank b.words (fits_banks g table t)))
+    (seen_all (IsEvent g) bank (events_in_order g (routines_in p) table script) legal))

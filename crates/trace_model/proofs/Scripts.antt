@@ -8,7 +8,7 @@ use Rattle.file_fields.proofs.Padded.{between_is}
 use Rattle.wave_model.specs.Schedule.{Ahead}
 use Rattle.machine_model.specs.Laws.{TableFits}
 use Rattle.machine_model.specs.Opened.{opened}
-use Rattle.machine_model.specs.Operations.{operations_in}
+use Rattle.machine_model.specs.Routines.{routines_in}
 use Rattle.machine_model.proofs.Accepted.{accepted_is_right, accepted_is_plain, all_plain}
 use Rattle.machine_model.proofs.Images.{names_stay}
 use Rattle.machine_model.proofs.Pieces.{events_are_steps}
@@ -34,14 +34,14 @@ some_words g is = let w = between_is 1 1024 g.words (bounds_of g is).words in om
 
 pub replay_is_script : ReplayIsScript
 replay_is_script image p script is =
-    events_are_steps image.geometry (operations_in p) Ahead image.table script (opened image)
+    events_are_steps image.geometry (routines_in p) Ahead image.table script (opened image)
     (some_words image.geometry is.geometry)
     (fits_banks image.geometry image.table (record { listed = is.listed; objects = is.objects }))
 
 pub script_is_trace : ScriptIsTrace
 script_is_trace image p text script good said is few = record {
   geometry = is.geometry;
-  written = table_is_written image.geometry (operations_in p) image.table script
+  written = table_is_written image.geometry (routines_in p) image.table script
       (accepted_is_right text script said)
       (record { listed = is.listed; names = is.names; objects = is.objects });
   few = few;

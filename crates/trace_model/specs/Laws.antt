@@ -17,7 +17,7 @@ use Rattle.wave_model.specs.Schedule.{Turn}
 use Rattle.machine_model.specs.Agrees.{IsPlain}
 use Rattle.machine_model.specs.Laws.{TableFits}
 use Rattle.machine_model.specs.Opened.{Image, opened}
-use Rattle.machine_model.specs.Operations.{Program, Operations, operations_in}
+use Rattle.machine_model.specs.Routines.{Program, Routines, routines_in}
 use Rattle.machine_model.specs.Pieces.{pieces, events_of_pieces}
 use Rattle.machine_model.specs.Script.{banks_at_end, table_at_end}
 use Rattle.trace_model.specs.Spelling.{Trace, bytes_of_trace, events_bytes, IsEvent, IsTrace}
@@ -58,12 +58,12 @@ EventsAreLegal =
     (g : Geometry) (p : Program) (turn : Turn) (table : List Named) (script : List Instruction)
     → is_geometry g ≡ true → IsProgram p → TableFits g table → AllByRecursion IsPlain script
     → AllByRecursion (IsEvent g)
-    (events_of_pieces g (operations_in p) turn table (pieces script))
+    (events_of_pieces g (routines_in p) turn table (pieces script))
 
 -- A file may have the table behind a script where it may have that before it
 abbrev pub TableIsWritten : Type 0
 TableIsWritten =
-    (g : Geometry) (operations : Operations) (table : List Named) (script : List Instruction)
+    (g : Geometry) (operations : Routines) (table : List Named) (script : List Instruction)
     → AllByRecursion IsRight script → IsWritten g table
     → IsWritten g (table_at_end g operations table script)
 
@@ -73,7 +73,7 @@ ReplayIsScript =
     (image : Image) (p : Program) (script : List Instruction)
     → IsImage image.geometry image.table image.rows
     → replayed (script_trace p image script).events image
-    ≡ banks_at_end image.geometry (operations_in p) image.table (opened image) script
+    ≡ banks_at_end image.geometry (routines_in p) image.table (opened image) script
 
 -- So the trace of an accepted script on an accepted image is a trace, where there are not too many
 -- events

@@ -3,7 +3,7 @@ use Rattle.std.specs.Prelude.{List}
 use Rattle.dram_model.specs.Chip.{Banks, Event, after}
 use Rattle.bbop_isa.specs.Forms.{Instruction}
 use Rattle.machine_model.specs.Opened.{Image, opened}
-use Rattle.machine_model.specs.Operations.{Program, operations_in}
+use Rattle.machine_model.specs.Routines.{Program, routines_in}
 use Rattle.machine_model.specs.Pieces.{script_events}
 use Rattle.machine_model.specs.Script.{table_at_end}
 use Rattle.trace_model.specs.Spelling.{Trace}
@@ -17,6 +17,6 @@ replayed events image = after events (opened image)
 abbrev pub script_trace : Program → Image → List Instruction → Trace
 script_trace p image script = record {
   geometry = image.geometry;
-  table = table_at_end image.geometry (operations_in p) image.table script;
-  events = script_events image.geometry (operations_in p) image.table script;
+  table = table_at_end image.geometry (routines_in p) image.table script;
+  events = script_events image.geometry (routines_in p) image.table script;
 }

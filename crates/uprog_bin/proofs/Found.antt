@@ -23,12 +23,12 @@ use Rattle.uprog_bin.specs.Reading.{bytes_at, raw_of, has_register, has_second, 
 use Rattle.uprog_bin.specs.Reading.{ends_at_y, is_formed, has_target, has_rows, ends_code, uop_as}
 use Rattle.uprog_bin.specs.Reading.{uop_of, numbered, uop_at, uops_at, codes_at, codes_start}
 use Rattle.uprog_bin.specs.Reading.{total_count, Listing, listing_of, listings_of, is_named}
-use Rattle.uprog_bin.specs.Opened.{Held, File, file_of, programs_in, uop_in, uops_in, code_of}
+use Rattle.uprog_bin.specs.Opened.{EntryBytes, File, file_of, programs_in, uop_in, uops_in, code_of}
 use Rattle.uprog_bin.specs.Opened.{program_of, count_before, code_place, AreStarts, IsOpened}
 use Rattle.uprog_bin.proofs.Files.{codes_length, entries_are}
 use Rattle.uprog_bin.proofs.Uops.{length-uops}
 use Rattle.file_fields.specs.Fields.{◌>>=◌, rule}
-use Rattle.file_fields.proofs.Held.{bind_ok, ok_is, rule_ok, bytes_takes}
+use Rattle.file_fields.proofs.EntryBytes.{bind_ok, ok_is, rule_ok, bytes_takes}
 
 both : (a b : Bool) → (a && b) ≡ true → (a ≡ true) × (b ≡ true)
 both true b h = (refl, h)
@@ -406,13 +406,13 @@ place_is v bytes listed seen name is h =
     ∙ ap (λ (f : File). position (λ (m : Microprogram). bytes_eq m.name name) f.programs) is
 
 -- an entry as it is handed out: its head is a copy, and its code a slice
-pub record Hands (bytes : List ℕ) (seen : File) (k : ℕ) (h : Held) : Type 0 where
+pub record Hands (bytes : List ℕ) (seen : File) (k : ℕ) (h : EntryBytes) : Type 0 where
   pub program : slice_get seen.programs k ≡ Some (program_of h)
   pub code : h.bytes ≡ take (8 * length (code_of h)) (drop (code_place seen.programs k) seen.bytes)
   pub legal : IsLegalCode h.shape (code_of h)
 
 pub hands : (bytes : List ℕ) (seen : File) (k : ℕ) (name : List ℕ) (shape : Shape) (start count : ℕ)
-    (h : Held) → IsFound bytes seen k name shape start count → h.name ≡ name → h.shape ≡ shape
+    (h : EntryBytes) → IsFound bytes seen k name shape start count → h.name ≡ name → h.shape ≡ shape
     → h.bytes ≡ take (8 * count) (drop start bytes) → Hands bytes seen k h
 hands bytes seen k name shape start count h f n s t =
     let size : length h.bytes ≡ 8 * count = ap length t

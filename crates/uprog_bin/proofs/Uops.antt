@@ -4,7 +4,7 @@ use Rattle.std.proofs.Common.{refl, sym, ap, ◌∙◌, arith}
 use Rattle.std.specs.Prelude.{slice_get}
 use Rattle.std.proofs.lemmas.List.{drop-drop}
 use Rattle.uprog_code.specs.Shape.{Shape}
-use Rattle.uprog_bin.specs.Opened.{Held, uop_in, uops_in, code_of}
+use Rattle.uprog_bin.specs.Opened.{EntryBytes, uop_in, uops_in, code_of}
 
 pub length-uops : (n : ℕ) (bytes : List ℕ) → length (uops_in n bytes) ≡ n
 length-uops zero bytes = refl
@@ -21,13 +21,13 @@ at-uops (suc n) (suc k) bytes lt =
     ∙ ap (λ xs. Some (uop_in (take 8 xs))) (drop-drop (8 * k) 8 bytes
     ∙ ap (λ m. drop m bytes) (sym e))
 
-module _ (name : List ℕ) (shape : Shape) (bytes : List ℕ) (seen : Held)
-    (is : (let h : Held = record { name = name; shape = shape; bytes = bytes } in h) ≡ seen) where
+module _ (name : List ℕ) (shape : Shape) (bytes : List ℕ) (seen : EntryBytes)
+    (is : (let h : EntryBytes = record { name = name; shape = shape; bytes = bytes } in h) ≡ seen) where
   pub length-code : length (code_of seen) ≡ length bytes / 8
-  length-code = ap (λ (h : Held). length (code_of h)) (sym is)
+  length-code = ap (λ (h : EntryBytes). length (code_of h)) (sym is)
       ∙ length-uops (length bytes / 8) bytes
 
   pub at-code : (k : ℕ) → k < length bytes / 8
       → slice_get (code_of seen) k ≡ Some (uop_in (take 8 (drop (8 * k) bytes)))
-  at-code k lt = ap (λ (h : Held). slice_get (code_of h) k) (sym is)
+  at-code k lt = ap (λ (h : EntryBytes). slice_get (code_of h) k) (sym is)
       ∙ at-uops (length bytes / 8) k bytes lt

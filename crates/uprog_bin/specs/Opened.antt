@@ -44,7 +44,7 @@ file_of bytes = record {
 }
 
 -- what an entry shows: its head, and the bytes of its code
-pub record Held : Type 0 where
+pub record EntryBytes : Type 0 where
   pub name : List ℕ
   pub shape : Shape
   pub bytes : List ℕ
@@ -58,10 +58,10 @@ abbrev pub uops_in : ℕ → List ℕ → List Uop
 uops_in zero bytes = []
 uops_in (suc n) bytes = uop_in (take 8 bytes) ∷ uops_in n (drop 8 bytes)
 
-abbrev pub code_of : Held → List Uop
+abbrev pub code_of : EntryBytes → List Uop
 code_of h = uops_in (length h.bytes / 8) h.bytes
 
-abbrev pub program_of : Held → Microprogram
+abbrev pub program_of : EntryBytes → Microprogram
 program_of h = record { name = h.name; shape = h.shape; code = code_of h }
 
 -- how many instructions the first k entries have

@@ -9,7 +9,8 @@ ghost use Rattle.uprog_code.specs.Legal.{IsLegalCode};
 ghost use Rattle.uprog_bin.specs.Reading.{is_named, program_in};
 ghost use Rattle.uprog_bin.specs.Spelling.{HasVersion, program_bytes};
 ghost use Rattle.uprog_code.specs.Programs.{IsProgram};
-ghost use Rattle.uprog_bin.specs.Opened.{Held, found_of, IsOpened, code_of, program_of, code_place};
+ghost use Rattle.uprog_bin.specs.Opened.{EntryBytes, found_of, IsOpened, code_of, program_of};
+ghost use Rattle.uprog_bin.specs.Opened.{code_place};
 ghost use Rattle.uprog_bin.specs.Opened.{uop_in};
 ghost use Rattle.file_fields.specs.Fields.{Gives};
 
@@ -69,9 +70,9 @@ pub struct Entry<'a> {
 
 impl<'a> Model for Entry<'a> {
     ghost use Rattle.uprog_code.specs.Shape.{shape_of};
-    ghost use Rattle.uprog_bin.specs.Opened.{Held};
+    ghost use Rattle.uprog_bin.specs.Opened.{EntryBytes};
 
-    ghost Value = { Held };
+    ghost Value = { EntryBytes };
 
     ghost view = { λ e. record {
       name = e.head.name;

@@ -33,7 +33,7 @@ use Rattle.uprog_code.specs.declared.registers.Turn.TheVariants.{Over, On, To, I
 use Rattle.uprog_code.specs.declared.walker.Why3.{Why3}
 use Rattle.uprog_code.specs.declared.walker.Why3.TheVariants.{Index, Register}
 use Rattle.uprog_code.specs.Shape.{Shape, width, results}
-use Rattle.uprog_code.specs.Machine.{Issue, Twice, Once, Trace, Ended, Stuck, onto, Next, act}
+use Rattle.uprog_code.specs.Machine.{Issue, IssueAap, IssueAp, Trace, Ended, Stuck, onto, Next, act}
 use Rattle.uprog_code.specs.Machine.{act_at, issue, issued, trace, issues_of, row_at, position}
 use Rattle.uprog_code.specs.Machine.{in_kind, in_space, in_range, all_in_range, command_at, start}
 use Rattle.uprog_code.specs.OneStep.{turn_trace, issues_by}
@@ -128,12 +128,12 @@ module _ (shape : Shape) (n : ℕ) where
       jump_good (slice_index regs r == 0) (next (pc + 1) regs) (next t regs) (good _ _) (good _ _)
   act_good (Aap x y) size h next good pc regs =
       let b = both (is_first shape x) (is_second shape y) h in
-      issued_good (command_at regs (Twice x y)) pc (next (pc + 1) regs) (λ r.
+      issued_good (command_at regs (IssueAap x y)) pc (next (pc + 1) regs) (λ r.
       let c = both (in_range shape n (row_at regs x)) (in_range shape n (row_at regs y)) r in
       from_both (is_issued shape n (row_at regs x) && may_be_first x.space x.which)
       (is_issued shape n (row_at regs y) && may_be_second y.space) (first_good x regs b.0 c.0)
       (second_good y regs b.1 c.1)) (good _ _)
-  act_good (Ap x) size h next good pc regs = issued_good (command_at regs (Once x)) pc
+  act_good (Ap x) size h next good pc regs = issued_good (command_at regs (IssueAp x)) pc
       (next (pc + 1) regs) (λ r. first_good x regs h r) (good _ _)
 
   at_good : (code : List Uop) (size : ℕ) → AllByRecursion (λ i. is_legal shape size i ≡ true) code
@@ -271,7 +271,7 @@ module _ (rows : ℕ) (shape : Shape) (n : ℕ) (b : Bound) (fits : Fits rows sh
   -- a good command is legal on the chip
   pub command_legal : 0 < n → (c : Issue) → is_good shape n c ≡ true
       → is_legal_command rows (bound_command rows shape n b c) ≡ true
-  command_legal some (Twice x y) h =
+  command_legal some (IssueAap x y) h =
       let p = both (is_issued shape n x && may_be_first x.space x.which) (is_issued shape n y
       && may_be_second y.space) h in
       let q = both (is_issued shape n x) (may_be_first x.space x.which) p.0 in
@@ -286,7 +286,7 @@ module _ (rows : ℕ) (shape : Shape) (n : ℕ) (b : Bound) (fits : Fits rows sh
       (from_both (is_address_in rows ay) (is_second_address ay)
       (address_good some y.space y.which y.index r.0)
       (second_address y.space y.which y.index r.1))
-  command_legal some (Once x) h =
+  command_legal some (IssueAp x) h =
       let q = both (is_issued shape n x) (may_be_first x.space x.which) h in
       let ax = address rows shape n b x in
       from_both (is_address_in rows ax) (is_first_address ax)
@@ -434,12 +434,12 @@ module _ (rows : ℕ) (shape : Shape) (n : ℕ) (b : Bound) (fits : Fits rows sh
     (outside : IsTouched rows shape n b row → ⊥) where
   elsewhere : (c : Issue) → is_good shape n c ≡ true
       → IsElsewhere row (bound_command rows shape n b c)
-  elsewhere (Twice x y) h =
+  elsewhere (IssueAap x y) h =
       let p = both (is_issued shape n x && may_be_first x.space x.which) (is_issued shape n y
       && may_be_second y.space) h in
       let q = both (is_issued shape n y) (may_be_second y.space) p.1 in
       λ e. outside (touched rows shape n b fits y.space y.which y.index row q.0 q.1 e)
-  elsewhere (Once x) h = tt
+  elsewhere (IssueAp x) h = tt
 
   pub run_keeps : (cs : List Issue) (s : Column) → AreGood shape n cs
       → run (bound rows shape n b cs) s (D row) ≡ s (D row)

@@ -25,7 +25,7 @@ use Rattle.uprog_code.specs.Machine.{trace, start}
 use Rattle.uprog_code.specs.Legal.{is_legal, IsLegalCode}
 use Rattle.uprog_code.specs.OneStep.{HasOperands, AreRegisters, turn_trace, next_place, issue_of}
 use Rattle.uprog_code.specs.OneStep.{issues_by}
-use Rattle.uprog_code.specs.Count.{walked, walked_after, counts_after, is_twice, is_once}
+use Rattle.uprog_code.specs.Count.{walked, walked_after, counts_after, issues_aap, issues_ap}
 
 pub both : (a b : Bool) → (a && b) ≡ true → (a ≡ true) × (b ≡ true)
 both true b h = (refl, h)
@@ -158,25 +158,25 @@ count_more : (p : Issue → Bool) (c : Issue) (cs : List Issue)
 count_more p c cs = sum_by-cons (λ x. cond (p x) 1 0) c cs
 
 one_more : (i : Issued) (c : Counts) (cs : List Issue)
-    → counts (c.aap + count_by is_twice (issue_of i ∷ cs)) (c.ap
-    + count_by is_once (issue_of i ∷ cs)) ≡ counts ((counts_after (Issues i) c).aap
-    + count_by is_twice cs) ((counts_after (Issues i) c).ap + count_by is_once cs)
-one_more (issued.Twice x y) c cs =
-    let t : count_by is_twice (issue_of (issued.Twice x y) ∷ cs) ≡ 1 + count_by is_twice cs =
-    count_more is_twice (issue_of (issued.Twice x y)) cs in
-    let o : count_by is_once (issue_of (issued.Twice x y) ∷ cs) ≡ 0 + count_by is_once cs =
-    count_more is_once (issue_of (issued.Twice x y)) cs in
-    equal_counts (c.aap + count_by is_twice (issue_of (issued.Twice x y) ∷ cs)) (c.aap + 1
-    + count_by is_twice cs) (c.ap + count_by is_once (issue_of (issued.Twice x y) ∷ cs)) (c.ap
-    + count_by is_once cs) (omega arith) (omega arith)
-one_more (issued.Once x) c cs =
-    let t : count_by is_twice (issue_of (issued.Once x) ∷ cs) ≡ 0 + count_by is_twice cs =
-    count_more is_twice (issue_of (issued.Once x)) cs in
-    let o : count_by is_once (issue_of (issued.Once x) ∷ cs) ≡ 1 + count_by is_once cs =
-    count_more is_once (issue_of (issued.Once x)) cs in
-    equal_counts (c.aap + count_by is_twice (issue_of (issued.Once x) ∷ cs)) (c.aap
-    + count_by is_twice cs) (c.ap + count_by is_once (issue_of (issued.Once x) ∷ cs)) (c.ap + 1
-    + count_by is_once cs) (omega arith) (omega arith)
+    → counts (c.aap + count_by issues_aap (issue_of i ∷ cs)) (c.ap
+    + count_by issues_ap (issue_of i ∷ cs)) ≡ counts ((counts_after (Issues i) c).aap
+    + count_by issues_aap cs) ((counts_after (Issues i) c).ap + count_by issues_ap cs)
+one_more (issued.Aap x y) c cs =
+    let t : count_by issues_aap (issue_of (issued.Aap x y) ∷ cs) ≡ 1 + count_by issues_aap cs =
+    count_more issues_aap (issue_of (issued.Aap x y)) cs in
+    let o : count_by issues_ap (issue_of (issued.Aap x y) ∷ cs) ≡ 0 + count_by issues_ap cs =
+    count_more issues_ap (issue_of (issued.Aap x y)) cs in
+    equal_counts (c.aap + count_by issues_aap (issue_of (issued.Aap x y) ∷ cs)) (c.aap + 1
+    + count_by issues_aap cs) (c.ap + count_by issues_ap (issue_of (issued.Aap x y) ∷ cs)) (c.ap
+    + count_by issues_ap cs) (omega arith) (omega arith)
+one_more (issued.Ap x) c cs =
+    let t : count_by issues_aap (issue_of (issued.Ap x) ∷ cs) ≡ 0 + count_by issues_aap cs =
+    count_more issues_aap (issue_of (issued.Ap x)) cs in
+    let o : count_by issues_ap (issue_of (issued.Ap x) ∷ cs) ≡ 1 + count_by issues_ap cs =
+    count_more issues_ap (issue_of (issued.Ap x)) cs in
+    equal_counts (c.aap + count_by issues_aap (issue_of (issued.Ap x) ∷ cs)) (c.aap
+    + count_by issues_aap cs) (c.ap + count_by issues_ap (issue_of (issued.Ap x) ∷ cs)) (c.ap + 1
+    + count_by issues_ap cs) (omega arith) (omega arith)
 
 pub counts_on : (turn : Turn) (c : Counts) (t : Trace)
     → walked_after c (onto (issues_by turn) t) ≡ walked_after (counts_after turn c) t
@@ -187,16 +187,16 @@ counts_on (Issues c') c (Ended cs) = one_more c' c cs
 counts_on Over c (Stuck at why) = refl
 counts_on On c (Stuck at why) = refl
 counts_on (To p) c (Stuck at why) = refl
-counts_on (Issues (issued.Twice x y)) c (Stuck at why) = refl
-counts_on (Issues (issued.Once x)) c (Stuck at why) = refl
+counts_on (Issues (issued.Aap x y)) c (Stuck at why) = refl
+counts_on (Issues (issued.Ap x)) c (Stuck at why) = refl
 
 pub few_after : (turn : Turn) (c : Counts) (k : ℕ) → c.aap + c.ap ≤ k
     → (counts_after turn c).aap + (counts_after turn c).ap ≤ k + 1
 few_after Over c k h = omega arith
 few_after On c k h = omega arith
 few_after (To t) c k h = omega arith
-few_after (Issues (issued.Twice x y)) c k h = omega arith
-few_after (Issues (issued.Once x)) c k h = omega arith
+few_after (Issues (issued.Aap x y)) c k h = omega arith
+few_after (Issues (issued.Ap x)) c k h = omega arith
 
 pub some_first : (shape : Shape) (code : List Uop) → IsLegalCode shape code → 0 < length code
 some_first shape code legal = let h = slice_get_within code (length code - 1) Done legal.last in

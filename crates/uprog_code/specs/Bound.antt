@@ -10,7 +10,7 @@ use Rattle.uprog_code.specs.declared.code.RowSpace.TheVariants as space
 use Rattle.uprog_code.specs.declared.code.RowRef.{RowRef}
 use Rattle.uprog_code.specs.declared.binding.Binding.{Binding}
 use Rattle.uprog_code.specs.Shape.{Shape}
-use Rattle.uprog_code.specs.Machine.{Issue, Twice, Once}
+use Rattle.uprog_code.specs.Machine.{Issue, IssueAap, IssueAp}
 
 -- the first row of each result, of each source and of the scratch
 pub record Bound : Type 0 where
@@ -41,8 +41,9 @@ abbrev pub address : ℕ → Shape → ℕ → Bound → RowRef → Addr
 address rows shape n b r = address_in rows shape n b r.space r.which r.index
 
 abbrev pub bound_command : ℕ → Shape → ℕ → Bound → Issue → Command
-bound_command rows shape n b (Twice x y) = Aap (address rows shape n b x) (address rows shape n b y)
-bound_command rows shape n b (Once x) = Ap (address rows shape n b x)
+bound_command rows shape n b (IssueAap x y) =
+    Aap (address rows shape n b x) (address rows shape n b y)
+bound_command rows shape n b (IssueAp x) = Ap (address rows shape n b x)
 
 -- a trace's commands, each row at its address
 abbrev pub bound : ℕ → Shape → ℕ → Bound → List Issue → List Command

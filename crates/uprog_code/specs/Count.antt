@@ -5,19 +5,19 @@ use Rattle.uprog_code.specs.declared.walker.Counts.{Counts}
 use Rattle.uprog_code.specs.declared.registers.Issued.TheVariants as issued
 use Rattle.uprog_code.specs.declared.registers.Turn.{Turn}
 use Rattle.uprog_code.specs.declared.registers.Turn.TheVariants.{Over, On, To, Issues}
-use Rattle.uprog_code.specs.Machine.{Issue, Twice, Once, Trace, Ended, Stuck}
+use Rattle.uprog_code.specs.Machine.{Issue, IssueAap, IssueAp, Trace, Ended, Stuck}
 
-abbrev pub is_twice : Issue → Bool
-is_twice (Twice x y) = true
-is_twice (Once x) = false
+abbrev pub issues_aap : Issue → Bool
+issues_aap (IssueAap x y) = true
+issues_aap (IssueAp x) = false
 
-abbrev pub is_once : Issue → Bool
-is_once (Twice x y) = false
-is_once (Once x) = true
+abbrev pub issues_ap : Issue → Bool
+issues_ap (IssueAap x y) = false
+issues_ap (IssueAp x) = true
 
 -- how many commands of each kind
 abbrev pub counts_of : List Issue → Counts
-counts_of issues = record { aap = count_by is_twice issues; ap = count_by is_once issues }
+counts_of issues = record { aap = count_by issues_aap issues; ap = count_by issues_ap issues }
 
 -- what a walk answers: the counts of a trace that ends, or where it is stuck and why
 abbrev pub walked : Trace → Result Counts BadWalk
@@ -29,13 +29,13 @@ abbrev pub counts_after : Turn → Counts → Counts
 counts_after Over c = c
 counts_after On c = c
 counts_after (To t) c = c
-counts_after (Issues (issued.Twice x y)) c = record { aap = c.aap + 1; ap = c.ap }
-counts_after (Issues (issued.Once x)) c = record { aap = c.aap; ap = c.ap + 1 }
+counts_after (Issues (issued.IssueAap x y)) c = record { aap = c.aap + 1; ap = c.ap }
+counts_after (Issues (issued.IssueAp x)) c = record { aap = c.aap; ap = c.ap + 1 }
 
 -- what a walk answers that has counted so many before the trace
 abbrev pub walked_after : Counts → Trace → Result Counts BadWalk
 walked_after c (Ended issues) = Ok (record {
-  aap = c.aap + count_by is_twice issues;
-  ap = c.ap + count_by is_once issues;
+  aap = c.aap + count_by issues_aap issues;
+  ap = c.ap + count_by issues_ap issues;
 })
 walked_after c (Stuck at why) = Err (record { at = at; why = why })

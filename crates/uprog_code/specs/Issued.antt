@@ -5,7 +5,7 @@ use Rattle.uprog_code.specs.declared.code.RowSpace.{RowSpace}
 use Rattle.uprog_code.specs.declared.code.RowSpace.TheVariants as space
 use Rattle.uprog_code.specs.declared.code.RowRef.{RowRef}
 use Rattle.uprog_code.specs.Shape.{Shape, results}
-use Rattle.uprog_code.specs.Machine.{Issue, Twice, Once, in_kind}
+use Rattle.uprog_code.specs.Machine.{Issue, IssueAap, IssueAp, in_kind}
 use Rattle.uprog_code.specs.Legal.{may_be_first, may_be_second}
 
 -- a row of a trace: its space and number are legal, and its position lies within what it belongs to
@@ -23,9 +23,9 @@ is_issued shape n r = is_issued_in shape n r.space r.which r.index
 
 -- each row of the command is legal in its place
 abbrev pub is_good : Shape → ℕ → Issue → Bool
-is_good shape n (Twice x y) = (is_issued shape n x && may_be_first x.space x.which)
+is_good shape n (IssueAap x y) = (is_issued shape n x && may_be_first x.space x.which)
     && (is_issued shape n y && may_be_second y.space)
-is_good shape n (Once x) = is_issued shape n x && may_be_first x.space x.which
+is_good shape n (IssueAp x) = is_issued shape n x && may_be_first x.space x.which
 
 abbrev pub AreGood : Shape → ℕ → List Issue → Type 0
 AreGood shape n issues = AllByRecursion (λ c. is_good shape n c ≡ true) issues

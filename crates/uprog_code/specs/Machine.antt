@@ -17,8 +17,8 @@ use Rattle.uprog_code.specs.declared.code.Uop.TheVariants.{SubI, Bnez, Aap, Ap}
 
 -- a row command of a trace: each row's index is the position itself
 pub data Issue : Type 0 where
-  Twice : RowRef → RowRef → Issue
-  Once : RowRef → Issue
+  IssueAap : RowRef → RowRef → Issue
+  IssueAp : RowRef → Issue
 
 -- all commands up to Done, or the place where the walk is stuck
 pub data Trace : Type 0 where
@@ -49,8 +49,8 @@ row_at regs r = record {
 }
 
 abbrev pub command_at : List ℕ → Issue → Issue
-command_at regs (Twice x y) = Twice (row_at regs x) (row_at regs y)
-command_at regs (Once x) = Once (row_at regs x)
+command_at regs (IssueAap x y) = IssueAap (row_at regs x) (row_at regs y)
+command_at regs (IssueAp x) = IssueAp (row_at regs x)
 
 abbrev pub in_kind : Option Kind → ℕ → ℕ → Bool
 in_kind None n i = false
@@ -71,8 +71,8 @@ abbrev pub in_range : Shape → ℕ → RowRef → Bool
 in_range head n r = in_space head n r.space r.which r.index
 
 abbrev pub all_in_range : Shape → ℕ → Issue → Bool
-all_in_range head n (Twice x y) = in_range head n x && in_range head n y
-all_in_range head n (Once x) = in_range head n x
+all_in_range head n (IssueAap x y) = in_range head n x && in_range head n y
+all_in_range head n (IssueAp x) = in_range head n x
 
 -- what follows from a place with these registers
 abbrev pub Next : Type 0
@@ -103,9 +103,9 @@ act head n (SubI r k) next pc regs =
     else Stuck pc Register
 act head n (Bnez r t) next pc regs = if slice_index regs r == 0 then next (pc + 1) regs
     else next t regs
-act head n (Aap x y) next pc regs = issued head n (command_at regs (Twice x y)) pc
+act head n (Aap x y) next pc regs = issued head n (command_at regs (IssueAap x y)) pc
     (next (pc + 1) regs)
-act head n (Ap x) next pc regs = issued head n (command_at regs (Once x)) pc (next (pc + 1) regs)
+act head n (Ap x) next pc regs = issued head n (command_at regs (IssueAp x)) pc (next (pc + 1) regs)
 
 -- legal code has an instruction at each place that is reached
 abbrev pub act_at : Shape → ℕ → Option Uop → Next → ℕ → List ℕ → Trace

@@ -5,20 +5,20 @@ use Rattle.uprog_code.specs.declared.code.RowRef.{RowRef}
 use Rattle.uprog_code.specs.declared.code.Uop.{Uop}
 use Rattle.uprog_code.specs.declared.code.Uop.TheVariants.{Done, SetI, SetN, SetT, Mov, Add, AddI}
 use Rattle.uprog_code.specs.declared.code.Uop.TheVariants.{SubI, Bnez, Aap, Ap}
-use Rattle.uprog_code.specs.declared.registers.Place.{Place}
+use Rattle.uprog_code.specs.declared.registers.RowPosition.{RowPosition}
 use Rattle.uprog_code.specs.declared.registers.Issued.{Issued}
 use Rattle.uprog_code.specs.declared.registers.Issued.TheVariants as issued
 use Rattle.uprog_code.specs.declared.registers.Turn.{Turn}
 use Rattle.uprog_code.specs.declared.registers.Turn.TheVariants.{Over, On, To, Issues}
 use Rattle.uprog_code.specs.declared.walker.Why3.{Why3}
-use Rattle.uprog_code.specs.Machine.{Trace, Ended, Stuck, Issue, Twice, Once, Next, onto}
+use Rattle.uprog_code.specs.Machine.{Trace, Ended, Stuck, Issue, IssueAap, IssueAp, Next, onto}
 
-abbrev pub row_of : Place → RowRef
+abbrev pub row_of : RowPosition → RowRef
 row_of p = record { space = p.space; which = p.which; index = p.index }
 
 abbrev pub issue_of : Issued → Issue
-issue_of (issued.Twice x y) = Twice (row_of x) (row_of y)
-issue_of (issued.Once x) = Once (row_of x)
+issue_of (issued.IssueAap x y) = IssueAap (row_of x) (row_of y)
+issue_of (issued.IssueAp x) = IssueAp (row_of x)
 
 -- what follows a step that ended so, from the place where it was and the registers that it left
 abbrev pub turn_trace : Result Turn Why3 → Next → ℕ → List ℕ → Trace

@@ -14,7 +14,7 @@ use op_text::Kind;
 
 /// A row with its position in the value that it belongs to.
 #[derive(Clone, Copy, Debug, PartialEq, Eq)]
-pub struct Place {
+pub struct RowPosition {
     pub space: RowSpace,
     pub which: u8,
     pub index: u16,
@@ -24,9 +24,9 @@ pub struct Place {
 #[derive(Clone, Copy, Debug, PartialEq, Eq)]
 pub enum Issued {
     /// AAP.
-    Twice(Place, Place),
+    Aap(RowPosition, RowPosition),
     /// AP.
-    Once(Place),
+    Ap(RowPosition),
 }
 
 /// What an instruction leads to.
@@ -121,7 +121,7 @@ pub fn step(uop: &Uop, head: &Head, n: u8, regs: &mut [u16]) -> Result<Turn, Why
         Uop::Aap(x, y) => {
             let (x, y) = (placed(x, regs), placed(y, regs));
             if is_in_range(head, n, &x) && is_in_range(head, n, &y) {
-                Ok(Turn::Issues(Issued::Twice(x, y)))
+                Ok(Turn::Issues(Issued::Aap(x, y)))
             } else {
                 Err(Why3::Index)
             }
@@ -129,7 +129,7 @@ pub fn step(uop: &Uop, head: &Head, n: u8, regs: &mut [u16]) -> Result<Turn, Why
         Uop::Ap(x) => {
             let x = placed(x, regs);
             if is_in_range(head, n, &x) {
-                Ok(Turn::Issues(Issued::Once(x)))
+                Ok(Turn::Issues(Issued::Ap(x)))
             } else {
                 Err(Why3::Index)
             }
@@ -159,7 +159,7 @@ fn add(regs: &mut [u16], r: u8, k: u16) -> Result<Turn, Why3>
 
 /// The row with the position that its register gives.
 #[inline(always)]
-fn placed(row: &RowRef, regs: &[u16]) -> Place
+fn placed(row: &RowRef, regs: &[u16]) -> RowPosition
     requires { AreRegisters regs.now }
     ensures { row_of result ≡ row_at regs.now row.now }
 {
@@ -167,7 +167,7 @@ fn placed(row: &RowRef, regs: &[u16]) -> Place
         RowSpace::Result | RowSpace::Source | RowSpace::ScratchWord => value(regs, row.index),
         _ => 0,
     };
-    Place {
+    RowPosition {
         space: row.space,
         which: row.which,
         index,
@@ -184,7 +184,7 @@ fn value(regs: &[u16], r: u8) -> u16
 
 /// Whether the position lies within what the row belongs to.
 #[inline(always)]
-fn is_in_range(head: &Head, n: u8, row: &Place) -> bool
+fn is_in_range(head: &Head, n: u8, row: &RowPosition) -> bool
     requires { n ≤ WIDTH_MAX }
     ensures { result ≡ in_range (shape_of head.now) n (row_of row.now) }
 {

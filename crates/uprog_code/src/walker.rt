@@ -73,11 +73,11 @@ fn counted(turn: Turn, counts: Counts) -> Counts
     ensures { result ≡ counts_after turn counts }
 {
     match turn {
-        Turn::Issues(Issued::Twice(..)) => Counts {
+        Turn::Issues(Issued::Aap(..)) => Counts {
             aap: counts.aap + 1,
             ap: counts.ap,
         },
-        Turn::Issues(Issued::Once(_)) => Counts {
+        Turn::Issues(Issued::Ap(_)) => Counts {
             aap: counts.aap,
             ap: counts.ap + 1,
         },

@@ -6,8 +6,8 @@ use Rattle.dram_model.specs.declared.dram.Counters.{Counters}
 use Rattle.dram_model.specs.Chip.{all_counted}
 use Rattle.uprog_code.specs.declared.binding.Binding.{Binding}
 use Rattle.uprog_code.specs.Shape.{Shape}
-use Rattle.uprog_code.specs.Machine.{Issue, Twice, Once}
-use Rattle.uprog_code.specs.Count.{is_twice, is_once, counts_of}
+use Rattle.uprog_code.specs.Machine.{Issue, IssueAap, IssueAp}
+use Rattle.uprog_code.specs.Count.{issues_aap, issues_ap, counts_of}
 use Rattle.uprog_ctl.specs.Events.{issue_events, risen}
 
 more_of : (p : Issue → Bool) (i : Issue) (is : List Issue)
@@ -25,21 +25,21 @@ pub counted-issues : (bank rows : ℕ) (shape : Shape) (b : Binding) (issues : L
     ≡ risen (counts_of issues) c
 counted-issues bank rows shape b [] c = same_counters c.aap (c.aap + 0) c.ap (c.ap + 0) c
     (omega arith) (omega arith)
-counted-issues bank rows shape b (Twice x y ∷ is) c =
-    let t : count_by is_twice (Twice x y ∷ is) ≡ 1 + count_by is_twice is =
-    more_of is_twice (Twice x y) is in
-    let o : count_by is_once (Twice x y ∷ is) ≡ 0 + count_by is_once is =
-    more_of is_once (Twice x y) is in
+counted-issues bank rows shape b (IssueAap x y ∷ is) c =
+    let t : count_by issues_aap (IssueAap x y ∷ is) ≡ 1 + count_by issues_aap is =
+    more_of issues_aap (IssueAap x y) is in
+    let o : count_by issues_ap (IssueAap x y ∷ is) ≡ 0 + count_by issues_ap is =
+    more_of issues_ap (IssueAap x y) is in
     counted-issues bank rows shape b is (record c { aap = c.aap + 1 })
-    ∙ same_counters (c.aap + 1 + count_by is_twice is) (c.aap + count_by is_twice (Twice x y ∷ is))
-    (c.ap + count_by is_once is) (c.ap + count_by is_once (Twice x y ∷ is)) c (omega arith)
+    ∙ same_counters (c.aap + 1 + count_by issues_aap is) (c.aap + count_by issues_aap (IssueAap x y ∷ is))
+    (c.ap + count_by issues_ap is) (c.ap + count_by issues_ap (IssueAap x y ∷ is)) c (omega arith)
     (omega arith)
-counted-issues bank rows shape b (Once x ∷ is) c =
-    let t : count_by is_twice (Once x ∷ is) ≡ 0 + count_by is_twice is =
-    more_of is_twice (Once x) is in
-    let o : count_by is_once (Once x ∷ is) ≡ 1 + count_by is_once is =
-    more_of is_once (Once x) is in
+counted-issues bank rows shape b (IssueAp x ∷ is) c =
+    let t : count_by issues_aap (IssueAp x ∷ is) ≡ 0 + count_by issues_aap is =
+    more_of issues_aap (IssueAp x) is in
+    let o : count_by issues_ap (IssueAp x ∷ is) ≡ 1 + count_by issues_ap is =
+    more_of issues_ap (IssueAp x) is in
     counted-issues bank rows shape b is (record c { ap = c.ap + 1 })
-    ∙ same_counters (c.aap + count_by is_twice is) (c.aap + count_by is_twice (Once x ∷ is)) (c.ap
-    + 1 + count_by is_once is) (c.ap + count_by is_once (Once x ∷ is)) c (omega arith)
+    ∙ same_counters (c.aap + count_by issues_aap is) (c.aap + count_by issues_aap (IssueAp x ∷ is)) (c.ap
+    + 1 + count_by issues_ap is) (c.ap + count_by issues_ap (IssueAp x ∷ is)) c (omega arith)
     (omega arith)

@@ -14,7 +14,7 @@ use Rattle.uprog_code.specs.declared.code.Uop.TheVariants.{Done, SetI, SetN, Set
 use Rattle.uprog_code.specs.declared.code.Uop.TheVariants.{SubI, Bnez, Aap, Ap}
 use Rattle.uprog_code.specs.declared.walker.Why3.TheVariants.{Index, Register}
 use Rattle.uprog_code.specs.Shape.{Shape}
-use Rattle.uprog_code.specs.Machine.{Issue, Twice, Once, Trace, Ended, Stuck, onto, Next, act}
+use Rattle.uprog_code.specs.Machine.{Issue, IssueAap, IssueAp, Trace, Ended, Stuck, onto, Next, act}
 use Rattle.uprog_code.specs.Machine.{act_at}
 use Rattle.uprog_code.specs.Machine.{issue, issued, issues_of, start, command_at}
 use Rattle.uprog_code.specs.Machine.{all_in_range}
@@ -73,9 +73,9 @@ module _ (shape : Shape) (n : ℕ) where
   act_short (Bnez r t) next k h pc regs =
       jump (slice_index regs r == 0) (next (pc + 1) regs) (next t regs) k (h _ _) (h _ _)
   act_short (Aap x y) next k h pc regs =
-      issued_short (command_at regs (Twice x y)) pc k (next (pc + 1) regs) (h _ _)
+      issued_short (command_at regs (IssueAap x y)) pc k (next (pc + 1) regs) (h _ _)
   act_short (Ap x) next k h pc regs =
-      issued_short (command_at regs (Once x)) pc k (next (pc + 1) regs) (h _ _)
+      issued_short (command_at regs (IssueAp x)) pc k (next (pc + 1) regs) (h _ _)
 
   at_short : (o : Option Uop) (next : Next) (k : ℕ) → ((q : ℕ) (r : List ℕ) → IsShort k (next q r))
       → (pc : ℕ) (regs : List ℕ) → IsShort (suc k) (act_at shape n o next pc regs)

@@ -8,10 +8,10 @@ use Rattle.dram_model.specs.declared.address.Command.{Command}
 use Rattle.dram_model.specs.declared.dram.Counters.{Counters}
 use Rattle.dram_model.specs.declared.geometry.Geometry.{Geometry}
 use Rattle.dram_model.specs.Chip.{all_counted}
-use Rattle.uprog_code.specs.Machine.{Issue, Twice, Once}
-use Rattle.uprog_code.specs.Count.{is_twice, is_once}
+use Rattle.uprog_code.specs.Machine.{Issue, IssueAap, IssueAp}
+use Rattle.uprog_code.specs.Count.{issues_aap, issues_ap}
 use Rattle.uprog_code.specs.Bound.{bound_command, bound_of}
-use Rattle.wave_model.specs.Schedule.{Job, Picker, PicksLive, total_left, whole_picks}
+use Rattle.wave_model.specs.Schedule.{WaveJob, Picker, PicksLive, total_left, whole_picks}
 use Rattle.wave_model.specs.Laws.{is_aap, is_ap, with_commands}
 use Rattle.wave_model.proofs.Waves.{picks_whole}
 use Rattle.wave_model.proofs.Sums as sums
@@ -30,37 +30,37 @@ same_kind p q f same (i ∷ is) =
 
 module _ (rows : ℕ) where
   twice : (job : BoundJob) → count_by is_aap (commands_of rows job)
-      ≡ count_by is_twice (issues_in job)
-  twice job = same_kind is_aap is_twice
+      ≡ count_by issues_aap (issues_in job)
+  twice job = same_kind is_aap issues_aap
       (bound_command rows job.shape job.binding.n (bound_of job.binding)) same (issues_in job)
     where
       same : (i : Issue)
           → is_aap (bound_command rows job.shape job.binding.n (bound_of job.binding) i)
-          ≡ is_twice i
-      same (Twice x y) = refl
-      same (Once x) = refl
+          ≡ issues_aap i
+      same (IssueAap x y) = refl
+      same (IssueAp x) = refl
 
   once : (job : BoundJob) → count_by is_ap (commands_of rows job)
-      ≡ count_by is_once (issues_in job)
-  once job = same_kind is_ap is_once
+      ≡ count_by issues_ap (issues_in job)
+  once job = same_kind is_ap issues_ap
       (bound_command rows job.shape job.binding.n (bound_of job.binding)) same (issues_in job)
     where
       same : (i : Issue)
-          → is_ap (bound_command rows job.shape job.binding.n (bound_of job.binding) i) ≡ is_once i
-      same (Twice x y) = refl
-      same (Once x) = refl
+          → is_ap (bound_command rows job.shape job.binding.n (bound_of job.binding) i) ≡ issues_ap i
+      same (IssueAap x y) = refl
+      same (IssueAp x) = refl
 
   job_sums : (p : Command → Bool) (q : Issue → Bool)
       → ((job : BoundJob) → count_by p (commands_of rows job) ≡ count_by q (issues_in job))
       → (jobs : List BoundJob)
-      → sum_by (λ (j : Job). j.banks * count_by p j.commands) (map (wave_job rows) jobs)
+      → sum_by (λ (j : WaveJob). j.banks * count_by p j.commands) (map (wave_job rows) jobs)
       ≡ sum_by (λ (j : BoundJob). j.banks * count_by q (issues_in j)) jobs
   job_sums p q same [] = refl
   job_sums p q same (job ∷ jobs) =
-      sum_by-cons (λ (j : Job). j.banks * count_by p j.commands) (wave_job rows job)
+      sum_by-cons (λ (j : WaveJob). j.banks * count_by p j.commands) (wave_job rows job)
       (map (wave_job rows) jobs)
       ∙ ap (λ n. job.banks * n
-      + sum_by (λ (j : Job). j.banks * count_by p j.commands) (map (wave_job rows) jobs)) (same job)
+      + sum_by (λ (j : WaveJob). j.banks * count_by p j.commands) (map (wave_job rows) jobs)) (same job)
       ∙ ap (λ n. job.banks * count_by q (issues_in job) + n) (job_sums p q same jobs)
       ∙ sym (sum_by-cons (λ (j : BoundJob). j.banks * count_by q (issues_in j)) job jobs)
 
@@ -73,10 +73,10 @@ module _ (rows : ℕ) where
       all in
       sums.wave_counts g.banks (whole_picks p g.banks s qs) (map (wave_job rows) jobs) c
       (picks_whole p g.banks (total_left g.banks qs) s qs ok refl)
-      (All-map (λ (j : Job). j.banks ≤ g.banks) (wave_job rows) jobs few)
+      (All-map (λ (j : WaveJob). j.banks ≤ g.banks) (wave_job rows) jobs few)
       ∙ ap (λ m. with_commands m
-      (sum_by (λ (j : Job). j.banks * count_by is_ap j.commands) (map (wave_job rows) jobs)) c)
-      (job_sums is_aap is_twice twice jobs)
+      (sum_by (λ (j : WaveJob). j.banks * count_by is_ap j.commands) (map (wave_job rows) jobs)) c)
+      (job_sums is_aap issues_aap twice jobs)
       ∙ ap (λ n. with_commands
-      (sum_by (λ (j : BoundJob). j.banks * count_by is_twice (issues_in j)) jobs) n c)
-      (job_sums is_ap is_once once jobs)
+      (sum_by (λ (j : BoundJob). j.banks * count_by issues_aap (issues_in j)) jobs) n c)
+      (job_sums is_ap issues_ap once jobs)

@@ -19,7 +19,7 @@ use Rattle.uprog_code.specs.Legal.{IsLegalCode}
 use Rattle.uprog_code.specs.Bound.{bound, bound_of}
 use Rattle.uprog_code.specs.Fits.{Fits}
 use Rattle.uprog_ctl.specs.declared.waves.Job.{Job}
-use Rattle.wave_model.specs.Schedule.{Job as WaveJob, Queues, queues, Picker, events_of_picks}
+use Rattle.wave_model.specs.Schedule.{WaveJob, Queues, queues, Picker, events_of_picks}
 use Rattle.wave_model.specs.Schedule.{whole_picks}
 
 -- a microprogram, the rows that it is bound to, and how many banks run it

@@ -8,7 +8,7 @@ ghost use Rattle.uprog_code.specs.Fits.{Fits};
 ghost use Rattle.uprog_code.specs.Issued.{is_issued, is_good};
 
 use dram_model::{Addr, Command, Geometry};
-use uprog_code::{Binding, Head, Issued, Place, RowSpace};
+use uprog_code::{Binding, Head, Issued, RowPosition, RowSpace};
 
 /// The row at a position of a source.
 #[inline(always)]
@@ -35,7 +35,7 @@ fn result_row(binding: &Binding, which: u8, index: u16) -> u16
 
 /// The address of a row under a binding, in a bank of so many data rows.
 #[inline(always)]
-fn address_of(place: &Place, head: &Head, rows: u16, binding: &Binding) -> Addr
+fn address_of(place: &RowPosition, head: &Head, rows: u16, binding: &Binding) -> Addr
     requires some { 0 < binding.now.n }
     requires fits { Fits rows (shape_of head.now) binding.now.n (bound_of binding.now) }
     requires good { is_issued (shape_of head.now) binding.now.n (row_of place.now) ≡ true }
@@ -70,10 +70,10 @@ pub(crate) fn command_of(issued: &Issued, head: &Head, rows: u16, binding: &Bind
         (issue_of issued.now) }
 {
     match issued {
-        Issued::Twice(x, y) => {
+        Issued::Aap(x, y) => {
             let first = address_of(x, head, rows, binding);
             Command::Aap(first, address_of(y, head, rows, binding))
         }
-        Issued::Once(x) => Command::Ap(address_of(x, head, rows, binding)),
+        Issued::Ap(x) => Command::Ap(address_of(x, head, rows, binding)),
     }
 }

@@ -13,7 +13,7 @@ use Rattle.dram_model.specs.declared.dram.Counters.{Counters}
 use Rattle.dram_model.specs.Chip.{all_counted}
 use Rattle.dram_model.specs.Events.{row_events}
 use Rattle.dram_model.proofs.EventLaws.{all_counted-append}
-use Rattle.wave_model.specs.Schedule.{Job, Queues, queues, picked, without_next}
+use Rattle.wave_model.specs.Schedule.{WaveJob, Queues, queues, picked, without_next}
 use Rattle.wave_model.specs.Schedule.{events_of_picks, IsWhole}
 use Rattle.wave_model.specs.Laws.{is_aap, is_ap, with_commands, CountsAreSums}
 use Rattle.wave_model.proofs.Waves.{live_at, live_none}
@@ -159,7 +159,7 @@ none_sum p (x ∷ xs) =
     let none : count_by p [] ≡ 0 = refl in
     sum_by-cons (λ b. count_by p []) x xs ∙ omega (arith, none, none_sum p xs)
 
-queues_sum : (p : Command → Bool) (banks : ℕ) (jobs : List Job)
+queues_sum : (p : Command → Bool) (banks : ℕ) (jobs : List WaveJob)
     → All (λ job. job.banks ≤ banks) jobs → counted_in p (queues jobs) 0 banks
     ≡ sum_by (λ job. job.banks * count_by p job.commands) jobs
 queues_sum p banks [] all = none_sum p (range_with_len 0 banks)
@@ -170,12 +170,12 @@ queues_sum p banks (job ∷ jobs) all =
     λ b. sum_by-append (λ x. cond (p x) 1 0) (if nat_lt b job.banks then job.commands else [])
     (queues jobs b) in
     let here = job_sum p job.commands job.banks job.banks 0 banks (omega arith)
-    (All-head (λ (j : Job). j.banks ≤ banks) job jobs all) in
-    let more = queues_sum p banks jobs (All-tail (λ (j : Job). j.banks ≤ banks) job jobs all) in
+    (All-head (λ (j : WaveJob). j.banks ≤ banks) job jobs all) in
+    let more = queues_sum p banks jobs (All-tail (λ (j : WaveJob). j.banks ≤ banks) job jobs all) in
     sum_both own others (λ b. count_by p (queues (job ∷ jobs) b)) (range_with_len 0 banks) both
     ∙ ap (λ m. m + counted_in p (queues jobs) 0 banks) here
     ∙ ap (λ m. job.banks * count_by p job.commands + m) more
-    ∙ sym (sum_by-cons (λ (j : Job). j.banks * count_by p j.commands) job jobs)
+    ∙ sym (sum_by-cons (λ (j : WaveJob). j.banks * count_by p j.commands) job jobs)
 
 pub wave_counts : CountsAreSums
 wave_counts banks ps jobs c w all =

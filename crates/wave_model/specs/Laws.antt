@@ -6,7 +6,8 @@ use Rattle.dram_model.specs.declared.address.Command.TheVariants.{Ap, Aap}
 use Rattle.dram_model.specs.declared.dram.Counters.{Counters}
 use Rattle.dram_model.specs.Column.{run}
 use Rattle.dram_model.specs.Chip.{Banks, after, all_counted}
-use Rattle.wave_model.specs.Schedule.{Job, Queues, queues, events_of_picks, IsWhole, whole_picks}
+use Rattle.wave_model.specs.Schedule.{WaveJob, Queues, queues, events_of_picks, IsWhole}
+use Rattle.wave_model.specs.Schedule.{whole_picks}
 use Rattle.wave_model.specs.Schedule.{Turn, in_turn}
 
 -- The picks of every order in force are a whole list
@@ -47,7 +48,7 @@ with_commands aap ap c = record c { aap = c.aap + aap; ap = c.ap + ap }
 -- picks
 abbrev pub CountsAreSums : Type 0
 CountsAreSums =
-    (banks : ℕ) (picks : List ℕ) (jobs : List Job) (c : Counters)
+    (banks : ℕ) (picks : List ℕ) (jobs : List WaveJob) (c : Counters)
     → IsWhole banks picks (queues jobs) → All (λ job. job.banks ≤ banks) jobs
     → all_counted (events_of_picks banks picks (queues jobs)) c
     ≡ with_commands (sum_by (λ job. job.banks * count_by is_aap job.commands) jobs)

@@ -9,7 +9,7 @@ use Rattle.dram_model.specs.Chip.{Event}
 use Rattle.dram_model.specs.Events.{row_events}
 
 -- commands, and how many banks do them
-pub record Job : Type 0 where
+pub record WaveJob : Type 0 where
   pub commands : List Command
   pub banks : ℕ
 
@@ -18,7 +18,7 @@ abbrev pub Queues : Type 0
 Queues = ℕ → List Command
 
 -- a bank's queue: the commands of each job that the bank does, in order
-abbrev pub queues : List Job → Queues
+abbrev pub queues : List WaveJob → Queues
 queues jobs bank = flat_map (λ job. if nat_lt bank job.banks then job.commands else []) jobs
 
 -- the banks that have commands left, upwards

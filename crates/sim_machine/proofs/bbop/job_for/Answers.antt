@@ -1,5 +1,5 @@
 use Rattle.uprog_bin.specs.Opened.{program_of}
-use Rattle.machine_model.specs.Operations.{operation_of}
+use Rattle.machine_model.specs.Routines.{routine_of}
 use Rattle.sim_machine.proofs.Granting.{few_sources, object_fits, bound_is, can_run, job_is}
 use Rattle.sim_machine.proofs.bbop.job_for.Goals as goal
 
@@ -8,7 +8,7 @@ bind-binding-requires c =
     let s = c.args.setting.now in
     let m = program_of c.args.found in
     let b = c.args.bbop.now in
-    few_sources s.geometry s.table.now.pairs (operation_of m) b.dst.now b.srcs.now b.count b.n
+    few_sources s.geometry s.table.now.pairs (routine_of m) b.dst.now b.srcs.now b.count b.n
     (rw (← c.requires.lies.limit) c.requires.allowed)
 
 pub segments-banks-requires-clause-object : goal.segments-banks-requires-clause-object
@@ -16,7 +16,7 @@ segments-banks-requires-clause-object c =
     let s = c.args.setting.now in
     let m = program_of c.args.found in
     let b = c.args.bbop.now in
-    rw c.object_named.ensures (object_fits s.geometry s.table.now.pairs (operation_of m) b.dst.now
+    rw c.object_named.ensures (object_fits s.geometry s.table.now.pairs (routine_of m) b.dst.now
     b.srcs.now b.count b.n c.requires.lies.objects
     (rw (← c.requires.lies.limit) c.requires.allowed))
 

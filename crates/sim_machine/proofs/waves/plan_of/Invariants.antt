@@ -2,7 +2,7 @@ use Rattle.std.proofs.Common.{◌≡◌, ◌≤◌, length, map, take}
 use Rattle.std.specs.List.{AllByRecursion}
 use Rattle.uprog_ctl.specs.Waves.{CanRun, wave_job}
 use Rattle.bbop_isa.specs.Forms.{view_of}
-use Rattle.machine_model.specs.Operations.{operations_in}
+use Rattle.machine_model.specs.Routines.{routines_in}
 use Rattle.machine_model.specs.Pieces.{jobs_of}
 use Rattle.machine_model.specs.Steps.{reply_to}
 use Rattle.sim_machine.specs.Granted.{job_bound}
@@ -12,7 +12,7 @@ use Rattle.sim_machine.proofs.waves.plan_of.Given as goal
 abbrev pub invariant-loop-instr : goal.invariant-loop-instr
 invariant-loop-instr l =
     let g = l.setting.geometry in
-    let operations = operations_in l.setting.prog.now.programs in
+    let operations = routines_in l.setting.prog.now.programs in
     let table = l.setting.table.now.pairs in
     let done = map view_of (take l.instr-index l.instrs) in
     record {

@@ -4,7 +4,7 @@ use Rattle.std.specs.Prelude.{slice_get}
 use Rattle.std.proofs.lemmas.Option.{slice_get_read}
 use Rattle.uprog_code.specs.Shape.{shape_of}
 use Rattle.uprog_bin.specs.declared.directory.Listed.{Listed}
-use Rattle.uprog_bin.specs.Opened.{Held}
+use Rattle.uprog_bin.specs.Opened.{EntryBytes}
 use Rattle.uprog_bin.proofs.Files.{entries_are}
 use Rattle.uprog_bin.proofs.Found.{found_in, hands}
 use Rattle.uprog_bin.proofs.view.ProgView.entry.Goals as goal
@@ -67,7 +67,7 @@ returns-clause-program c =
     (drop (8 + 27 * length listed + 8 * l.start) bytes) = c.part-code.ensures
     ∙ ap (λ n. take (8 * n) (drop (8 + 27 * length xs + 8 * l.start) bytes)) c.from-2.ensures
     ∙ ap (λ n. take (8 * l.count) (drop n bytes)) start in
-    let h : Held = record {
+    let h : EntryBytes = record {
       name = c.copied.result.name;
       shape = shape_of c.copied.result;
       bytes = c.part-code.result.now;
@@ -105,7 +105,7 @@ returns-clause-bytes c =
     (drop (8 + 27 * length listed + 8 * l.start) bytes) = c.part-code.ensures
     ∙ ap (λ n. take (8 * n) (drop (8 + 27 * length xs + 8 * l.start) bytes)) c.from-2.ensures
     ∙ ap (λ n. take (8 * l.count) (drop n bytes)) start in
-    let h : Held = record {
+    let h : EntryBytes = record {
       name = c.copied.result.name;
       shape = shape_of c.copied.result;
       bytes = c.part-code.result.now;
@@ -143,7 +143,7 @@ returns-clause-legal c =
     (drop (8 + 27 * length listed + 8 * l.start) bytes) = c.part-code.ensures
     ∙ ap (λ n. take (8 * n) (drop (8 + 27 * length xs + 8 * l.start) bytes)) c.from-2.ensures
     ∙ ap (λ n. take (8 * l.count) (drop n bytes)) start in
-    let h : Held = record {
+    let h : EntryBytes = record {
       name = c.copied.result.name;
       shape = shape_of c.copied.result;
       bytes = c.part-code.result.now;

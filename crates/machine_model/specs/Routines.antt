@@ -13,37 +13,37 @@ abbrev pub Program : Type 0
 Program = List Microprogram
 
 -- what a bbop names: what the operation takes and gives, and what is issued for it at each width
-pub record Operation : Type 0 where
+pub record Routine : Type 0 where
   pub shape : Shape
   pub trace : ℕ → Trace
 
 -- by its name
-abbrev pub Operations : Type 0
-Operations = List ℕ → Option Operation
+abbrev pub Routines : Type 0
+Routines = List ℕ → Option Routine
 
 abbrev pub entry_named : Program → List ℕ → Option Microprogram
 entry_named p name = find (λ e. bytes_eq e.name name) p
 
-abbrev pub op_named : List TextOp → List ℕ → Option TextOp
-op_named t name = find (λ o. bytes_eq o.name name) t
+abbrev pub text_op_named : List TextOp → List ℕ → Option TextOp
+text_op_named t name = find (λ o. bytes_eq o.name name) t
 
 abbrev pub trace_of : Option Microprogram → ℕ → Trace
 trace_of None n = Stuck 0 Index
 trace_of (Some e) n = trace e.shape e.code n
 
 -- the entry's own kinds and scratch, and its code's traces
-abbrev pub operation_of : Microprogram → Operation
-operation_of e = record { shape = e.shape; trace = trace_of (Some e) }
+abbrev pub routine_of : Microprogram → Routine
+routine_of e = record { shape = e.shape; trace = trace_of (Some e) }
 
-abbrev pub operations_in : Program → Operations
-operations_in p name = option_map operation_of (entry_named p name)
+abbrev pub routines_in : Program → Routines
+routines_in p name = option_map routine_of (entry_named p name)
 
 -- the text's kinds and scratch, and the traces of the program's code
-abbrev pub operations_of : List TextOp → Program → Operations
-operations_of t p name = option_map (λ o. record {
+abbrev pub routines_of : List TextOp → Program → Routines
+routines_of t p name = option_map (λ o. record {
   shape = o.shape;
   trace = trace_of (entry_named p name);
-}) (op_named t name)
+}) (text_op_named t name)
 
 -- the numbers that the op of this name makes
 abbrev pub meaning_of : Option TextOp → ℕ → List ℕ → List ℕ
@@ -51,10 +51,10 @@ meaning_of None n values = []
 meaning_of (Some o) n values = o.meaning n values
 
 abbrev pub meaning_in : List TextOp → List ℕ → ℕ → List ℕ → List ℕ
-meaning_in t name = meaning_of (op_named t name)
+meaning_in t name = meaning_of (text_op_named t name)
 
 -- the commands do an operation of this meaning at width n
-pub record Does (shape : Shape) (n : ℕ) (issues : List Issue) (meaning : List ℕ
+pub record Performs (shape : Shape) (n : ℕ) (issues : List Issue) (meaning : List ℕ
     → List ℕ) : Type 0 where
   pub gives : Gives shape n issues meaning
   pub keeps : Keeps shape n issues
