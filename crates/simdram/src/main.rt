@@ -12,45 +12,6 @@ use std::alloc::Global;
 use std::process::ExitCode;
 use std::{env, io};
 
-#[cfg(test)]
-mod accounts;
-#[cfg(test)]
-mod compiled;
-#[cfg(test)]
-mod empty_images;
-#[cfg(test)]
-mod executed;
-#[cfg(test)]
-mod failing;
-#[cfg(test)]
-mod greatest;
-#[cfg(test)]
-mod guarded;
-#[cfg(test)]
-mod jobs;
-#[cfg(test)]
-mod listening;
-#[cfg(test)]
-mod migrated;
-#[cfg(test)]
-mod operations;
-#[cfg(test)]
-mod runs;
-#[cfg(test)]
-mod scanned;
-#[cfg(test)]
-mod scripts;
-#[cfg(test)]
-mod shown;
-#[cfg(test)]
-mod soaked;
-#[cfg(test)]
-mod tests;
-#[cfg(test)]
-mod traced;
-#[cfg(test)]
-mod tracing;
-
 /// The status where the words cannot be read.
 const UNREAD: u8 = 1;
 

@@ -1,8 +1,8 @@
 //! The command `soak` over a folder and a sink in memory.
 
-use crate::runs::text;
 use dram_chip::Chip;
 use host_edge::{MemFolder, MemSink};
+use memory_runs::text;
 use simdram_cli::simdram;
 use std::alloc::Global;
 use std::test::*;

@@ -1,8 +1,8 @@
 //! Scripts in which one put, or one call of the chip, fails.
 
-use crate::runs::{Object, image_of, text};
 use dram_chip::{Chip, FailingChip};
 use host_edge::{MemFolder, MemSink};
+use memory_runs::{Object, image_of, text};
 use simdram_cli::simdram;
 use std::alloc::{AllocError, Global};
 use std::test::*;

@@ -1,7 +1,7 @@
 //! Every word operation at several widths, against plain arithmetic.
 
-use crate::runs::{Object, image_of, number_at, run};
 use bit_rows::Value;
+use memory_runs::{Object, image_of, number_at, run};
 use op_text::WordOp;
 use std::alloc::{AllocError, Global};
 use std::process::Abort;

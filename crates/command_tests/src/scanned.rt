@@ -1,9 +1,9 @@
 //! The command `scan` over a folder and a sink in memory.
 
-use crate::runs::{Object, image_of, text};
 use bit_rows::Value;
 use dram_chip::{Chip, FailingChip};
 use host_edge::{MemFolder, MemSink};
+use memory_runs::{Object, image_of, text};
 use simdram_cli::simdram;
 use std::alloc::{AllocError, Global};
 use std::test::*;

@@ -1,8 +1,8 @@
 //! Scripts on images of `init`, with their whole reports.
 
-use crate::runs::{holds, text};
 use dram_chip::Chip;
 use host_edge::{MemFolder, MemSink};
+use memory_runs::{holds, text};
 use simdram_cli::simdram;
 use std::alloc::{AllocError, Global};
 use std::test::*;

@@ -1,10 +1,10 @@
 //! The command `trace` over a folder and a sink in memory.
 
 use crate::migrated::XOR;
-use crate::runs::{Object, holds, image_of, text};
 use cmd_trace::TraceView;
 use dram_chip::{Chip, FailingChip};
 use host_edge::{MemFolder, MemSink};
+use memory_runs::{Object, holds, image_of, text};
 use simdram_cli::simdram;
 use std::alloc::{AllocError, Global};
 use std::test::*;

@@ -2,9 +2,9 @@
 
 use crate::accounts::{TWO, looped};
 use crate::migrated::XOR;
-use crate::runs::{holds, text};
 use dram_chip::Chip;
 use host_edge::{MemFolder, MemSink};
+use memory_runs::{holds, text};
 use simdram_cli::simdram;
 use std::alloc::{AllocError, Global};
 use std::process::Abort;

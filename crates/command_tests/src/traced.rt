@@ -1,8 +1,8 @@
 //! The command `replay` over a folder and a sink in memory.
 
-use crate::runs::{holds, text};
 use dram_chip::{Chip, FailingChip};
 use host_edge::{MemFolder, MemSink};
+use memory_runs::{holds, text};
 use simdram_cli::simdram;
 use std::alloc::{AllocError, Global};
 use std::test::*;

@@ -1,5 +1,6 @@
-//! Runs over a folder and a sink in memory, on images of one bank of 64 columns whose objects have
-//! 64 elements.
+//! Whole runs over a folder and a sink in memory, for tests: images of one bank of 64 columns whose
+//! objects have 64 elements, what a run left, and what it sent.
+#![tactic(auto)]
 
 use bit_rows::Value;
 use dram_chip::Chip;

@@ -1,9 +1,9 @@
 //! The greatest job: a product and a sum of 500,000 numbers of 32 bits on eight banks of 1006 rows
 //! of 1024 words.
 
-use crate::runs::text;
 use dram_chip::{Chip, FailingChip};
 use host_edge::{MemFolder, MemSink};
+use memory_runs::text;
 use simdram_cli::simdram;
 use std::alloc::Global;
 use std::test::*;

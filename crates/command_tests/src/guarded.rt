@@ -1,8 +1,8 @@
 //! The command `guard` over a folder and a sink in memory.
 
-use crate::runs::{Object, image_of, number_at, text};
 use dram_chip::{Chip, FailingChip};
 use host_edge::{MemFolder, MemSink};
+use memory_runs::{Object, image_of, number_at, text};
 use simdram_cli::simdram;
 use std::alloc::Global;
 use std::test::*;

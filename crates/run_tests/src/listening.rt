@@ -1,8 +1,8 @@
 //! What a chip is sent under each order: waves over a chip that listens.
 
-use crate::runs::text;
 use dram_chip::{Addr, BeginNo, Chip, ChipFault, Command, Counters, Dram, Geometry};
 use host_edge::{MemFolder, MemSink};
+use memory_runs::text;
 use simdram_cli::simdram;
 use std::alloc::{AllocError, Global};
 use std::test::*;

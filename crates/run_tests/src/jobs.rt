@@ -1,7 +1,7 @@
 //! Jobs with values that were worked out by hand.
 
-use crate::runs::{Object, image_of, number_at, run};
 use bit_rows::Value;
+use memory_runs::{Object, image_of, number_at, run};
 use op_lang::parse_ops;
 use std::alloc::Global;
 use std::process::Abort;

@@ -1,9 +1,9 @@
 //! The commands `cost` and `list` over a folder and a sink in memory.
 
 use crate::migrated::XOR;
-use crate::runs::text;
 use dram_chip::Chip;
 use host_edge::{MemFolder, MemSink};
+use memory_runs::text;
 use simdram_cli::simdram;
 use std::alloc::Global;
 use std::process::Abort;
