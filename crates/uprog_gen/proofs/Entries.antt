@@ -1,7 +1,7 @@
 -- From the code of an operation's statements to its entry.
 use Rattle.std.proofs.Common.{◌≡◌, true, false, ℕ, zero, suc, ◌+◌, ◌<◌, ◌≤◌, List, [], ◌∷◌}
 use Rattle.std.proofs.Common.{◌++◌, take, map, length, refl, sym, ap, ◌∙◌, subst, arith}
-use Rattle.std.specs.Prelude.{slice_index_or, min, Result, Ok, Err, IfOk, ◌≢◌, bytes_eq}
+use Rattle.std.specs.Prelude.{slice_index_or, Result, Ok, Err, IfOk, ◌≢◌, bytes_eq}
 use Rattle.std.specs.List.{AllByRecursion, AllPairs}
 use Rattle.std.proofs.lemmas.Bool.{and_parts, or_parts}
 use Rattle.std.proofs.lemmas.Slice.Eq.{bytes_eq-Decides}
@@ -37,9 +37,6 @@ use Rattle.uprog_gen.specs.Does.{DoesRounds, Means, joined, total}
 use Rattle.uprog_gen.specs.Layout.{IsLayout}
 use Rattle.uprog_gen.specs.Programs.{AreLowered, ceilings, HasParts, IsCompiled, AreCompiled}
 use Rattle.uprog_gen.proofs.Meant.{lower_ceiling, total_ceilings, statements_mean}
-
-pub uncapped : (a n : ℕ) → n ≤ 130 → a ≡ min n 65535 → a ≡ n
-uncapped a n h e = grind (arith, h, e)
 
 pub lowered_length : (slots : Slots) (free_bit free_word : ℕ) (body : List Statement)
     (ps : List (List (StepOf Block))) → AreLowered slots free_bit free_word body ps

@@ -31,6 +31,7 @@ pub mod Walked
 pub mod Meant
 pub mod Placed
 pub mod LaidOut
+pub mod Needs
 pub mod Entries
 pub mod Summed
 pub mod Exact
