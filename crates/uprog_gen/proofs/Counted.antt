@@ -4,11 +4,11 @@ use Rattle.std.proofs.Common.{length, Option, Some, refl, sym, ap, ◌∙◌, su
 use Rattle.std.specs.List.{list_all}
 use Rattle.op_text.specs.declared.tree.Kind.{Kind}
 use Rattle.op_text.specs.declared.word_ops.WordOp.{WordOp}
-use Rattle.op_text.specs.declared.word_ops.WordOp.TheVariants as op
 use Rattle.op_text.specs.WordOps.{forms, filled, second_kind}
 use Rattle.op_text.specs.Language.{Statement, Compute, Visit, Operation}
 use Rattle.op_text.specs.Meaning.{width}
 use Rattle.op_text.specs.Scratch.{names_width}
+use Rattle.op_text.specs.Costs.{op_aaps, op_aps}
 use Rattle.op_text.specs.declared.tree.Param.{Param}
 use Rattle.op_rules.specs.Meets.{Context, behind, OperationMeets}
 use Rattle.loop_ir.specs.declared.names.Slot.{Slot}
@@ -17,17 +17,18 @@ use Rattle.loop_ir.specs.Loops.{all_rounds}
 use Rattle.loop_ir.specs.Statements.{Slots, IsPlaced, ComputeMeets, HaveKinds}
 use Rattle.loop_ir.specs.Lowered.{kind_at, args_width}
 use Rattle.word_lower.specs.Places.{AreAt}
+use Rattle.word_lower.specs.declared.shapes.Owners.{Owners}
 use Rattle.word_lower.specs.Shapes.{owners_of}
 use Rattle.word_lower.proofs.Statements.{Places, places_of, among_target, among_arg, among_like}
 use Rattle.word_lower.proofs.Statements.{name_at, at_place}
 use Rattle.word_mul.specs.Programs.{is_nested}
+use Rattle.word_mul.specs.declared.rows.Rows.{Rows}
 use Rattle.word_mul.specs.Places.{rows_on}
 use Rattle.word_mul.proofs.Statements.{SecondPlace, second_place}
 use Rattle.uprog_gen.specs.Does.{joined}
 use Rattle.uprog_gen.specs.Layout.{IsLayout}
 use Rattle.uprog_gen.specs.Programs.{IsAsWritten, AreWritten}
 use Rattle.uprog_gen.specs.Totals.{is_word, words_total}
-use Rattle.op_text.specs.Costs.{op_aaps, op_aps}
 use Rattle.uprog_gen.specs.Settled.{turn_aaps, turn_aps, IsSettled}
 use Rattle.uprog_gen.proofs.Emitted.{parts_both}
 use Rattle.uprog_gen.proofs.Joined.{all_rounds-append}
@@ -35,8 +36,8 @@ use Rattle.uprog_gen.proofs.Stage.{Stage, next_stage}
 use Rattle.uprog_gen.proofs.Meant.{args_same}
 use Rattle.uprog_gen.proofs.Ready.{statement_meets, is_placed}
 use Rattle.uprog_gen.proofs.Summed.{rounds_sum, sum_append}
-use Rattle.uprog_gen.proofs.Exact.{FirstApart, is_shift, linear_settled, nested_settled}
-use Rattle.uprog_gen.proofs.Exact.{linear_aaps, linear_aps, nested_aaps, nested_aps, op_width}
+use Rattle.uprog_gen.proofs.Exact.{FirstApart, is_shift, needs_first, Written, written_nested}
+use Rattle.uprog_gen.proofs.Exact.{written_linear, is_settled, aaps_are, aps_are, op_width}
 use Rattle.uprog_gen.proofs.Exact.{first_width, width_is}
 
 -- what is known of a statement's program
@@ -85,94 +86,35 @@ module _ (slots : Slots) (free_bit free_word : ℕ) (target : List ℕ) (second 
   some_given : is_shift p ≡ true → (ks : List Kind) → filled (forms p) ks ≡ Some meets.kind
       → (names : List (List ℕ)) (ss : List Slot) → HaveKinds slots names ks → AreAt slots names ss
       → 0 < length ss
-  some_given e [] f [] [] h at = absurd (none p e f)
-    where
-      none : (p : WordOp) → is_shift p ≡ true → filled (forms p) [] ≡ Some meets.kind → ⊥
-      none op.Shl1 e f = cc
-      none op.Shr1 e f = cc
-      none op.Not e f = cc
-      none op.And e f = cc
-      none op.Or e f = cc
-      none op.Xor e f = cc
-      none op.Copy e f = cc
-      none op.Zero e f = cc
-      none op.Ones e f = cc
-      none op.Add e f = cc
-      none op.Sub e f = cc
-      none op.Mul e f = cc
-      none op.Div e f = cc
-      none op.Rem e f = cc
-      none op.Abs e f = cc
-      none op.Relu e f = cc
-      none op.Min e f = cc
-      none op.Max e f = cc
-      none op.Eq e f = cc
-      none op.Gt e f = cc
-      none op.Ge e f = cc
-      none op.IfElse e f = cc
-      none op.Bitcount e f = cc
-      none op.AndRed e f = cc
-      none op.OrRed e f = cc
-      none op.XorRed e f = cc
-      none op.Divmod e f = cc
+  some_given e [] f [] [] h at = absurd (needs_first p meets.kind e f)
   some_given e [] f [] (s ∷ ss) h at = absurd at
   some_given e [] f (n ∷ names) ss h at = absurd h
   some_given e (k ∷ ks) f [] ss h at = absurd h
   some_given e (k ∷ ks) f (n ∷ names) [] h at = absurd at
   some_given e (k ∷ ks) f (n ∷ names) (s ∷ ss) h at = omega arith
 
+  abbrev owners : Owners
+  owners = owners_of t given.list free_bit
+
+  abbrev rows : Rows
+  rows = rows_on t near.place given.list free_bit free_word
+
   exactly : (steps : List (StepOf Block))
       → IsAsWritten slots free_bit free_word (Compute target second p args) steps
       → IsExactly p (λ n. op_width p t.kind n) steps
-  exactly steps w = by (is_nested p) refl
+  exactly steps w =
+      subst (IsExactly p (λ n. op_width p t.kind n)) (sym (same (is_nested p) refl)) record {
+        settled = is_settled p t.kind owners rows (λ s. first_apart given.list given.at
+            (some_given s meets.kinds meets.form args given.list meets.have given.at));
+        aaps = aaps_are p t.kind owners rows;
+        aps = aps_are p t.kind owners rows;
+      }
     where
-      wide : (p : WordOp) (k : Kind) (n : ℕ) → is_nested p ≡ true → op_width p k n ≡ n
-      wide op.Mul k n e = refl
-      wide op.Div k n e = refl
-      wide op.Rem k n e = refl
-      wide op.Bitcount k n e = refl
-      wide op.Not k n e = cc
-      wide op.And k n e = cc
-      wide op.Or k n e = cc
-      wide op.Xor k n e = cc
-      wide op.Copy k n e = cc
-      wide op.Zero k n e = cc
-      wide op.Ones k n e = cc
-      wide op.Shl1 k n e = cc
-      wide op.Shr1 k n e = cc
-      wide op.Add k n e = cc
-      wide op.Sub k n e = cc
-      wide op.Abs k n e = cc
-      wide op.Relu k n e = cc
-      wide op.Min k n e = cc
-      wide op.Max k n e = cc
-      wide op.Eq k n e = cc
-      wide op.Gt k n e = cc
-      wide op.Ge k n e = cc
-      wide op.IfElse k n e = cc
-      wide op.AndRed k n e = cc
-      wide op.OrRed k n e = cc
-      wide op.XorRed k n e = cc
-      wide op.Divmod k n e = refl
-
-      by : (b : Bool) → is_nested p ≡ b → IsExactly p (λ n. op_width p t.kind n) steps
-      by true e =
-          let m = rows_on t near.place given.list free_bit free_word in
-          let same = w.nested e t near.place given.list meets.gives.found near.at given.at in
-          subst (IsExactly p (λ n. op_width p t.kind n)) (sym same) record {
-            settled = nested_settled p m e;
-            aaps = λ n. nested_aaps p m n e ∙ ap (op_aaps p) (sym (wide p t.kind n e));
-            aps = λ n. nested_aps p m n e ∙ ap (op_aps p) (sym (wide p t.kind n e));
-          }
-      by false e =
-          let o = owners_of t given.list free_bit in
-          let same = w.linear e t given.list meets.gives.found given.at in
-          subst (IsExactly p (λ n. op_width p t.kind n)) (sym same) record {
-            settled = linear_settled p t.kind o e (λ s. first_apart given.list given.at
-                (some_given s meets.kinds meets.form args given.list meets.have given.at));
-            aaps = λ n. linear_aaps p t.kind o n e;
-            aps = λ n. linear_aps p t.kind o n e;
-          }
+      same : (b : Bool) → is_nested p ≡ b → steps ≡ Written p t.kind owners rows
+      same true e = w.nested e t near.place given.list meets.gives.found near.at given.at
+          ∙ written_nested p t.kind owners rows e
+      same false e = w.linear e t given.list meets.gives.found given.at
+          ∙ written_linear p t.kind owners rows e
 
 -- the rounds of one statement and of those behind it
 sum_joined : (f : Block → ℕ) (n : ℕ) (q : List (StepOf Block)) (ps : List (List (StepOf Block)))
