@@ -2,7 +2,7 @@ use Rattle.std.proofs.Common.{sym, ap, map, ◌∙◌}
 use Rattle.std.proofs.lemmas.List.{take_all}
 use Rattle.op_text.specs.Language.{statement}
 use Rattle.op_text.specs.Scratch.{bits_inside, words_inside, need_inside, greatest}
-use Rattle.uprog_gen.proofs.Needs.{need_more}
+use Rattle.uprog_gen.proofs.Meaning.Needs.{need_more}
 use Rattle.uprog_gen.proofs.head.most_needed.Goals as goal
 
 pub loop-s-preserved : goal.loop-s-preserved
