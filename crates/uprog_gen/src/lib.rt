@@ -4,6 +4,7 @@
 mod emit;
 mod entry;
 mod graphs;
+mod head;
 mod layout;
 mod lowering;
 mod ops;

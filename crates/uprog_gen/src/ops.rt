@@ -2,15 +2,13 @@
 
 ghost use Rattle.std.specs.Prelude.{◌≡◌, ℕ, ◌<◌, ◌≤◌, ◌++◌, ◌∷◌, [], map, length, OnOk, IfOk};
 ghost use Rattle.bit_rows.specs.declared.TheConstants.{WIDTH_MAX};
-ghost use Rattle.std.specs.Option.{option_map};
-ghost use Rattle.op_text.specs.declared.tree.Param.{Param as Parameter};
 ghost use Rattle.op_text.specs.Language.{operation, operations};
 ghost use Rattle.op_text.specs.Spelling.{Each, MeetRules};
 ghost use Rattle.op_rules.specs.Meets.{OperationMeets};
-ghost use Rattle.uprog_code.specs.Shape.{shape_of, microprogram_of, microprograms_of};
+ghost use Rattle.uprog_code.specs.Shape.{microprogram_of, microprograms_of};
 ghost use Rattle.uprog_code.specs.Programs.{IsProgram};
 ghost use Rattle.uprog_code.specs.Machine.{trace, issues_of};
-ghost use Rattle.uprog_code.specs.Texts.{op_shape, text_op, ImplementsAll};
+ghost use Rattle.uprog_code.specs.Texts.{text_op, ImplementsAll};
 ghost use Rattle.uprog_code.specs.Count.{counts_of};
 ghost use Rattle.loop_ir.specs.Plain.{steps_of, AllParts};
 ghost use Rattle.loop_ir.specs.Loops.{all_rounds};
@@ -25,16 +23,15 @@ ghost use Rattle.uprog_gen.specs.Programs.{AreLowered, IsCompiled, AreCompiled};
 
 use crate::entry::compile_entry;
 use crate::graphs::take_graphs;
+use crate::head::head_of;
 use crate::lowering::lower;
-use arrayvec::ArrayVec;
 use loop_ir::{LoopProgram, NameMap};
 use mig_graph::{MigOuts, NoMemory};
 use no_memory::keep;
-use op_lang::scratch_of;
 use op_rules::ops_meet;
-use op_text::{Kind, Op, Ops, Param};
+use op_text::{Op, Ops};
 use std::alloc::Global;
-use uprog_code::{EntryCode, Head, Program};
+use uprog_code::{EntryCode, Program};
 
 /// Where the names of an operation lie, and the loop programs of its statements in order.
 #[derive(Debug, Drop)]
@@ -49,36 +46,6 @@ pub struct Lowered {
 pub struct Compiled {
     pub program: Program,
     pub graphs: Vec<MigOuts>,
-}
-
-fn kind_of_second(second: &Option<Param>) -> Option<Kind>
-    ensures { result ≡ option_map (λ (p : Parameter). p.kind) second.now }
-{
-    match second {
-        Some(param) => Some(param.kind),
-        None => None,
-    }
-}
-
-/// What an operation is called, takes and gives, and its scratch.
-fn head_of(op: &Op) -> Head
-    requires { OperationMeets (operation op.now) }
-    ensures name { result.name ≡ op.now.name }
-    ensures shape { shape_of result ≡ op_shape (operation op.now) }
-{
-    let mut sources = ArrayVec::new();
-    for param in &op.params {
-        sources.push(param.kind);
-    }
-    let scratch = scratch_of(op);
-    Head {
-        name: op.name.copied(),
-        sources,
-        result: op.result.kind,
-        second: kind_of_second(&op.second),
-        bits: scratch.bits as u8,
-        words: scratch.words as u8,
-    }
 }
 
 /// The code of an operation that meets the rules, from the loop programs of its statements.
@@ -100,7 +67,7 @@ pub fn compile_lowered(op: &Op, lowered: &Lowered, alloc: Global) -> Result<Entr
         → counts_of (issues_of (trace (microprogram_of entry).shape entry.code.items n))
         ≡ rounds_counts (all_rounds n (joined (map steps_of lowered.now.programs.items)))) }
 {
-    compile_entry(head_of(op), &lowered.programs, alloc)
+    compile_entry(head_of(op, &lowered.names), &lowered.programs, alloc)
 }
 
 /// The code of an operation that meets the rules, and behind other graphs those of its serial

@@ -1,6 +1,6 @@
 use Rattle.loop_ir.specs.Plain.{block_of}
 use Rattle.uprog_gen.specs.Made.{part_of}
-use Rattle.uprog_gen.proofs.Refs.{refs_at}
+use Rattle.uprog_gen.proofs.Bodies.Refs.{refs_at}
 use Rattle.uprog_gen.proofs.emit.push_body.Goals as goal
 
 pub uop_of-requires : goal.uop_of-requires

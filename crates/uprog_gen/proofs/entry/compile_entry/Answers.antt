@@ -4,8 +4,8 @@ use Rattle.loop_ir.specs.Plain.{steps_of, step_of}
 use Rattle.uprog_code.specs.Shape.{shape_of}
 use Rattle.loop_ir.specs.Costs.{code_cost}
 use Rattle.uprog_gen.specs.Programs.{HasParts}
-use Rattle.uprog_gen.proofs.Joined.{is_entry, can_at, statement_room, next_statement}
-use Rattle.uprog_gen.proofs.Joined.{all_statements, does_implement}
+use Rattle.uprog_gen.proofs.Coding.Joined.{is_entry, can_at, statement_room, next_statement}
+use Rattle.uprog_gen.proofs.Coding.Joined.{all_statements, does_implement}
 use Rattle.uprog_gen.proofs.entry.compile_entry.Goals as goal
 
 pub emit_steps-requires-clause-small : goal.emit_steps-requires-clause-small

@@ -1,5 +1,5 @@
 use Rattle.std.proofs.Common.{◌∙◌, ◌++◌, sym, ap, option_to_list}
-use Rattle.uprog_gen.proofs.Taken.{last_popped}
+use Rattle.uprog_gen.proofs.Meaning.Taken.{last_popped}
 use Rattle.uprog_gen.proofs.graphs.last_graph.Goals as goal
 
 pub returns-in-Some : goal.returns-in-Some

@@ -6,7 +6,7 @@ use Rattle.std.proofs.lemmas.Iterator.Consumers.{YieldsList-at, YieldsList-end}
 use Rattle.op_text.specs.Language.{statement}
 use Rattle.loop_ir.specs.Plain.{steps_of}
 use Rattle.uprog_gen.specs.Graphs.{graphed_of, statement_graph}
-use Rattle.uprog_gen.proofs.Taken.{pair_graphs, pairs-append, pairs_are}
+use Rattle.uprog_gen.proofs.Meaning.Taken.{pair_graphs, pairs-append, pairs_are}
 use Rattle.uprog_gen.proofs.graphs.take_graphs.Goals as goal
 
 pub loop-s-preserved : goal.loop-s-preserved

@@ -1,6 +1,6 @@
 use Rattle.std.proofs.Common.{◌≡◌, ◌++◌, map}
 use Rattle.uprog_gen.specs.Graphs.{graphed_of}
-use Rattle.uprog_gen.proofs.Taken.{pair_graphs}
+use Rattle.uprog_gen.proofs.Meaning.Taken.{pair_graphs}
 use Rattle.uprog_gen.proofs.graphs.take_graphs.Given as goal
 
 abbrev pub invariant-loop-s : goal.invariant-loop-s

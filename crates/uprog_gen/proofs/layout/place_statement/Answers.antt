@@ -4,7 +4,7 @@ use Rattle.op_text.specs.Language.{operation, result_names}
 use Rattle.op_text.specs.Rules.{second_of}
 use Rattle.op_text.specs.Scratch.{param, result_kind}
 use Rattle.uprog_gen.specs.Laying.{Lays}
-use Rattle.uprog_gen.proofs.Placed.{block_lays, lays_then}
+use Rattle.uprog_gen.proofs.Naming.Placed.{block_lays, lays_then}
 use Rattle.uprog_gen.proofs.layout.place_statement.Goals as goal
 
 pub returns-in_ok-place_states-in-Serial : goal.returns-in_ok-place_states-in-Serial

@@ -4,7 +4,7 @@ use Rattle.op_text.specs.declared.tree.Param.{Param}
 use Rattle.op_text.specs.Scratch.{param}
 use Rattle.op_text.specs.Language.{operation, result_names}
 use Rattle.uprog_gen.specs.Laying.{Lays, states_defined}
-use Rattle.uprog_gen.proofs.Placed.{lays_then, states_more, one_name, states_no_words}
+use Rattle.uprog_gen.proofs.Naming.Placed.{lays_then, states_more, one_name, states_no_words}
 use Rattle.uprog_gen.proofs.layout.place_states.Goals as goal
 
 pub loop-state-preserved : goal.loop-state-preserved

@@ -1,8 +1,8 @@
 use Rattle.std.proofs.Common.{refl}
 use Rattle.op_text.specs.Language.{operation}
 use Rattle.loop_ir.specs.Statements.{slots_of}
-use Rattle.uprog_gen.proofs.StageAt.{statement_ready, lowered_more, forms_more}
-use Rattle.uprog_gen.proofs.StageAt.{written_more}
+use Rattle.uprog_gen.proofs.Naming.StageAt.{statement_ready, lowered_more, forms_more}
+use Rattle.uprog_gen.proofs.Naming.StageAt.{written_more}
 use Rattle.uprog_gen.proofs.lowering.lower.Goals as goal
 
 pub lower_statement-requires-clause-meets : goal.lower_statement-requires-clause-meets

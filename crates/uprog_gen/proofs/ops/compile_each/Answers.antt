@@ -5,8 +5,8 @@ use Rattle.op_rules.specs.Meets.{OperationMeets}
 use Rattle.uprog_code.specs.Shape.{microprogram_of}
 use Rattle.uprog_gen.specs.Programs.{AreCompiled}
 use Rattle.uprog_gen.specs.Graphs.{graphed_of, AreGraphed}
-use Rattle.uprog_gen.proofs.Entries.{op_at, compiled_more}
-use Rattle.uprog_gen.proofs.Taken.{graphed_more}
+use Rattle.uprog_gen.proofs.Meaning.Entries.{op_at, compiled_more}
+use Rattle.uprog_gen.proofs.Meaning.Taken.{graphed_more}
 use Rattle.uprog_gen.proofs.ops.compile_each.Goals as goal
 
 pub compile_op-requires : goal.compile_op-requires

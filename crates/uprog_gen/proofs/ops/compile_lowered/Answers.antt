@@ -4,9 +4,9 @@ use Rattle.op_text.specs.Language.{operation}
 use Rattle.loop_ir.specs.Plain.{steps_of}
 use Rattle.loop_ir.specs.Statements.{slots_of}
 use Rattle.uprog_gen.specs.Programs.{HasParts}
-use Rattle.uprog_gen.proofs.Meant.{can_compile}
-use Rattle.uprog_gen.proofs.Entries.{lowered_length, entry_compiled, entry_few, if_ok_both}
-use Rattle.uprog_gen.proofs.Entries.{if_ok_three, entry_exact}
+use Rattle.uprog_gen.proofs.Meaning.Meant.{can_compile}
+use Rattle.uprog_gen.proofs.Meaning.Entries.{lowered_length, entry_compiled, entry_few, if_ok_both}
+use Rattle.uprog_gen.proofs.Meaning.Entries.{if_ok_three, entry_exact}
 use Rattle.uprog_gen.proofs.ops.compile_lowered.Goals as goal
 
 pub compile_entry-requires-clause-can : goal.compile_entry-requires-clause-can

@@ -4,7 +4,7 @@ use Rattle.uprog_code.specs.Shape.{microprogram_of}
 use Rattle.loop_ir.specs.Plain.{steps_of}
 use Rattle.loop_ir.specs.Statements.{slots_of}
 use Rattle.uprog_gen.specs.Graphs.{graphs_in}
-use Rattle.uprog_gen.proofs.Taken.{entry_graphed}
+use Rattle.uprog_gen.proofs.Meaning.Taken.{entry_graphed}
 use Rattle.uprog_gen.proofs.ops.compile_op.Goals as goal
 
 pub returns-clause-graphs : goal.returns-clause-graphs

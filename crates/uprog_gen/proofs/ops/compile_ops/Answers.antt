@@ -2,9 +2,9 @@ use Rattle.std.proofs.Common.{map}
 use Rattle.std.proofs.lemmas.Result.{IfOk-weaker}
 use Rattle.op_text.specs.Language.{operation}
 use Rattle.uprog_code.specs.Shape.{microprograms_of}
-use Rattle.uprog_gen.proofs.Entries.{compiled_implement, compiled_program}
+use Rattle.uprog_gen.proofs.Meaning.Entries.{compiled_implement, compiled_program}
 use Rattle.uprog_gen.specs.Graphs.{graphed_of}
-use Rattle.uprog_gen.proofs.Taken.{graphed_exact}
+use Rattle.uprog_gen.proofs.Meaning.Taken.{graphed_exact}
 use Rattle.uprog_gen.proofs.ops.compile_ops.Goals as goal
 
 pub returns-clause-implements : goal.returns-clause-implements

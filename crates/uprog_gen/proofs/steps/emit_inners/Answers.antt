@@ -1,6 +1,6 @@
 use Rattle.std.proofs.Common.{arith}
 use Rattle.loop_ir.specs.Limits.{IsSmall}
-use Rattle.uprog_gen.proofs.Emitted.{inner_at, inner_room, next_inner, no_inner, all_inner}
+use Rattle.uprog_gen.proofs.Coding.Emitted.{inner_at, inner_room, next_inner, no_inner, all_inner}
 use Rattle.uprog_gen.proofs.steps.emit_inners.Goals as goal
 
 pub loop-inner-init : goal.loop-inner-init

@@ -3,7 +3,7 @@ use Rattle.uprog_code.specs.declared.code.Uop.TheVariants.{SetI, SetT}
 use Rattle.loop_ir.specs.Plain.{block_of}
 use Rattle.uprog_gen.specs.Code.{once_code}
 use Rattle.uprog_gen.specs.Made.{part_of}
-use Rattle.uprog_gen.proofs.Emitted.{fixed_emits, single_emits, two_pushes, outside_then}
+use Rattle.uprog_gen.proofs.Coding.Emitted.{fixed_emits, single_emits, two_pushes, outside_then}
 use Rattle.uprog_gen.proofs.steps.emit_single.Goals as goal
 
 pub returns-then-is_fixed : goal.returns-then-is_fixed

@@ -1,7 +1,7 @@
 use Rattle.uprog_code.specs.declared.code.Uop.TheVariants.{SetI, SetT}
 use Rattle.loop_ir.specs.Plain.{block_of}
 use Rattle.uprog_gen.specs.Made.{part_of}
-use Rattle.uprog_gen.proofs.Emitted.{along_emits, two_pushes}
+use Rattle.uprog_gen.proofs.Coding.Emitted.{along_emits, two_pushes}
 use Rattle.uprog_gen.proofs.steps.emit_step.Goals as goal
 
 pub returns-in_ok-push_loop-in-Each : goal.returns-in_ok-push_loop-in-Each

@@ -1,8 +1,8 @@
 use Rattle.std.proofs.Common.{arith, map}
 use Rattle.loop_ir.specs.Plain.{step_of}
 use Rattle.loop_ir.specs.Limits.{IsSmall}
-use Rattle.uprog_gen.proofs.Emitted.{step_at, step_room, next_step, no_steps, all_steps}
-use Rattle.uprog_gen.proofs.Emitted.{steps_short}
+use Rattle.uprog_gen.proofs.Coding.Emitted.{step_at, step_room, next_step, no_steps, all_steps}
+use Rattle.uprog_gen.proofs.Coding.Emitted.{steps_short}
 use Rattle.uprog_gen.proofs.steps.emit_steps.Goals as goal
 
 pub loop-step-init : goal.loop-step-init

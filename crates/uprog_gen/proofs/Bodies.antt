@@ -1,0 +1,5 @@
+-- The registers, rows and commands of a body.
+pub mod Planned
+pub mod Fixed
+pub mod Outs
+pub mod Refs

@@ -1,0 +1,219 @@
+-- The rows of a body's outputs, one after another.
+use Rattle.std.proofs.Common.{◌≡◌, ◌≢◌, ℕ, zero, suc, ◌+◌, ◌<◌, ◌≤◌, List, [], ◌∷◌, ◌++◌, length}
+use Rattle.std.proofs.Common.{Option, Some, None, refl, sym, ap, ◌∙◌, subst, ⊎_elim, arith}
+use Rattle.std.proofs.Common.{length-append, map, Bool, true, false, ◌*◌}
+use Rattle.std.proofs.lemmas.List.{get_or_append_left}
+use Rattle.std.specs.Prelude.{slice_index_or, IfSome, IfNone, not, ◌==◌, ◌&&◌}
+use Rattle.std.proofs.Math.Seq.{get_or-append_seam}
+use Rattle.std.proofs.lemmas.Bool.{cases_eq, and_parts, eqb-true}
+use Rattle.mig_graph.specs.declared.Lit.{Lit}
+use Rattle.mig_graph.specs.Literals.{is_turned}
+use Rattle.mig_graph.specs.Graph.{size_of, IsGraph}
+use Rattle.row_alloc.specs.declared.body.OutRow.{OutRow}
+use Rattle.row_alloc.specs.Rows.{out_at}
+use Rattle.row_alloc.specs.Body.{FitBody, DoesBody, WritesLate}
+use Rattle.row_alloc.specs.declared.body.BodyRef.TheVariants.{Out}
+use Rattle.row_alloc.specs.declared.body.BodyCmd.{BodyCmd}
+use Rattle.row_alloc.specs.declared.body.BodyCmd.TheVariants.{Aap}
+use Rattle.row_alloc.specs.Phases.{source_of}
+use Rattle.row_alloc.specs.Known.{WordBody, graph_in, outs_in, sequence_for, known_at}
+use Rattle.loop_ir.specs.declared.ir.Place.{Place}
+use Rattle.loop_ir.specs.Plain.{Block}
+use Rattle.loop_ir.specs.Spots.{nth_place}
+use Rattle.uprog_gen.specs.Parts.{IsOuts, IsPart}
+use Rattle.mig_graph.specs.Outputs.{lit_at}
+use Rattle.loop_ir.specs.Costs.{is_copy, is_not, is_and, is_or, is_xor, is_add, turn_cost}
+use Rattle.uprog_gen.proofs.Bodies.Fixed.{IsLeast, by_cases, body_is, not_few, and_few, or_few}
+use Rattle.uprog_gen.proofs.Bodies.Fixed.{xor_few}
+use Rattle.uprog_gen.proofs.Bodies.Fixed.{add_few}
+use Rattle.uprog_gen.specs.Code.{IsPlanned, plan_of}
+use Rattle.uprog_gen.specs.declared.plan.Plan.{Plan}
+use Rattle.uprog_gen.proofs.Bodies.Planned.{plans}
+use Rattle.loop_ir.specs.Limits.{IsSmall}
+
+pub nth-at : (places : List Place) (k : ℕ) (d : Place) → k < length places
+    → slice_index_or places k d ≡ nth_place places k
+nth-at [] k d lt = absurd (omega arith)
+nth-at (p ∷ ps) zero d lt = refl
+nth-at (p ∷ ps) (suc k) d lt = nth-at ps k d (omega arith)
+
+-- what is found for one output
+pub record IsFound (b : Block) (j : ℕ) (out : OutRow) : Type 0 where
+  pub lit : out.lit ≡ lit_at b.outs j
+  pub found : (k : ℕ) → out.same ≡ Some k → (k < b.graph.inputs)
+      × (nth_place b.reads k ≡ nth_place b.writes j)
+  pub none : out.same ≡ None → (k : ℕ) → k < b.graph.inputs
+      → nth_place b.reads k ≢ nth_place b.writes j
+
+lit-here : (ls : List Lit) (j : ℕ) (x : Lit) → j < length ls → x ≡ slice_index_or ls j x
+    → x ≡ lit_at ls j
+lit-here [] j x lt e = absurd (omega arith)
+lit-here (l ∷ ls) zero x lt e = e
+lit-here (l ∷ ls) (suc j) x lt e = lit-here ls j x (omega arith) e
+
+-- what the search gives
+pub found-here : (b : Block) (j : ℕ) (lit : Lit) (same : Option ℕ) (reads : List Place) (inputs : ℕ)
+    (place : Place) (writes : List Place) → reads ≡ b.reads → inputs ≡ b.graph.inputs
+    → writes ≡ b.writes → place ≡ nth_place writes j → j < length b.outs
+    → lit ≡ slice_index_or b.outs j lit → IfSome same (λ k. (k < inputs)
+    × (nth_place reads k ≡ place)) → IfNone same ((k : ℕ) → k < inputs → nth_place reads k ≢ place)
+    → IsFound b j (record { lit = lit; same = same })
+found-here b j lit None reads inputs place writes er ei ew ep lt el f g = record {
+  lit = lit-here b.outs j lit lt el;
+  found = λ k h. absurd (cc);
+  none = λ h k lk e. g k (omega arith) (ap (λ l. nth_place l k) er ∙ e
+      ∙ ap (λ l. nth_place l j) (sym ew) ∙ sym ep);
+}
+found-here b j lit (Some l) reads inputs place writes er ei ew ep lt el f g = record {
+  lit = lit-here b.outs j lit lt el;
+  found = λ k h. let s : l ≡ k = cc in subst (λ m. (m < b.graph.inputs)
+      × (nth_place b.reads m ≡ nth_place b.writes j)) s (
+        let a : l < inputs = f.0 in
+            omega arith,
+        ap (λ x. nth_place x l) (sym er) ∙ f.1 ∙ ep ∙ ap (λ x. nth_place x j) ew,
+      );
+  none = λ h. absurd (cc);
+}
+
+out-old : (outs : List OutRow) (o : OutRow) (j : ℕ) → j < length outs
+    → out_at (outs ++ o ∷ []) j ≡ out_at outs j
+out-old outs o j lt = get_or_append_left outs (o
+    ∷ []) (record { lit = record { node = 0; inverted = false }; same = None }) j lt
+
+out-last : (outs : List OutRow) (o : OutRow) (j : ℕ) → j ≡ length outs
+    → out_at (outs ++ o ∷ []) j ≡ o
+out-last outs o j e = subst (λ k. out_at (outs ++ o ∷ []) k
+    ≡ o) (sym e) (get_or-append_seam outs o []
+    (record { lit = record { node = 0; inverted = false }; same = None }))
+
+pub outs-more : (b : Block) (m : ℕ) (outs more : List OutRow) (o : OutRow) → more ≡ outs ++ o ∷ []
+    → IsOuts b m outs → IsFound b m o → IsOuts b (m + 1) more
+outs-more b m outs more o eq h f =
+    subst (IsOuts b (m + 1)) (sym eq)
+    (record {
+      size = omega (arith, length-append outs (o ∷ []), h.size);
+      lits = λ j lt. by j lt (λ q. q.lit ≡ lit_at b.outs j) (λ l. h.lits j l) (λ e.
+          subst (λ k. o.lit ≡ lit_at b.outs k) (sym e) f.lit);
+      found = λ j k lt. by j lt (λ q. q.same ≡ Some k → (k < b.graph.inputs)
+          × (nth_place b.reads k ≡ nth_place b.writes j)) (λ l. h.found j k l) (λ e.
+          subst (λ i. o.same ≡ Some k → (k < b.graph.inputs)
+          × (nth_place b.reads k ≡ nth_place b.writes i)) (sym e) (f.found k));
+      none = λ j lt. by j lt (λ q. q.same ≡ None → (k : ℕ) → k < b.graph.inputs
+          → nth_place b.reads k ≢ nth_place b.writes j) (λ l. h.none j l) (λ e.
+          subst (λ i. o.same ≡ None → (k : ℕ) → k < b.graph.inputs
+          → nth_place b.reads k ≢ nth_place b.writes i) (sym e) f.none);
+    })
+  where
+    by : (j : ℕ) → j < length (outs ++ o ∷ []) → (P : OutRow → Type 0)
+        → (j < length outs → P (out_at outs j)) → (j ≡ m → P o) → P (out_at (outs ++ o ∷ []) j)
+    by j lt P old last =
+        ⊎_elim
+        (λ (e : j ≡ m). subst P (sym (out-last outs o j (e ∙ sym h.size))) (last e))
+        (λ (ne : j ≡ m → ⊥). let l : j < length outs = omega (
+          arith,
+          lt,
+          h.size,
+          length-append outs (o ∷ []),
+        ) in subst P (sym (out-old outs o j l)) (old l))
+        (cases_eq j m)
+
+-- the plain body's conditions
+pub fit : (b : Block) (outs : List OutRow) → IsSmall b → IsOuts b (length b.outs) outs
+    → FitBody b.graph outs
+fit b outs small is = record {
+  inputs = small.inputs;
+  outputs = omega (arith, small.outputs, is.size);
+  rows = omega (arith, small.rows, is.size);
+  named = λ j lt. subst (λ (l : Lit). l.node < size_of b.graph) (sym (is.lits j lt))
+      (small.well.named j (omega (arith, lt, is.size)));
+  same = λ j k lt e. (is.found j k lt e).0;
+  once = λ i j k li lj e f.
+      let p : nth_place b.writes i ≡ nth_place b.writes j = sym (is.found i k li e).1
+      ∙ (is.found j k lj f).1 in
+      small.well.apart i j (omega (arith, li, is.size, small.well.writes))
+      (omega (arith, lj, is.size, small.well.writes)) (
+        ap (λ (x : Place). x.space) p,
+        ap (λ (x : Place). x.which) p,
+      );
+}
+
+not_true : (c : Bool) → not c ≡ true → c ≡ false
+not_true true h = cc
+not_true false h = refl
+
+-- a copy's graph and output
+copied_one : (b : Block) (outs : List OutRow) → IsOuts b (length b.outs) outs → is_copy b ≡ true
+    → (length b.graph.nodes ≡ 0) × (length outs ≡ 1) × (is_turned (out_at outs 0).lit ≡ false)
+copied_one b outs is e =
+    let h = and_parts (length b.graph.nodes == 0) ((length b.outs == 1)
+    && not (is_turned (lit_at b.outs 0))) e in
+    let g = and_parts (length b.outs == 1) (not (is_turned (lit_at b.outs 0))) h.1 in
+    let l : length outs ≡ 1 = is.size ∙ eqb-true (length b.outs) 1 g.0 in (
+      eqb-true (length b.graph.nodes) 0 h.0,
+      l,
+      ap is_turned (is.lits 0 (omega (arith, l)))
+          ∙ not_true (is_turned (lit_at b.outs 0)) g.1,
+    )
+
+-- the literals of the outputs, in order
+lits_of : (ls : List Lit) (outs : List OutRow) → length outs ≡ length ls
+    → ((j : ℕ) → j < length outs → (out_at outs j).lit ≡ lit_at ls j) → map (λ o. o.lit) outs ≡ ls
+lits_of [] [] n h = refl
+lits_of [] (o ∷ outs) n h = absurd (omega (arith, n))
+lits_of (l ∷ ls) [] n h = absurd (omega (arith, n))
+lits_of (l ∷ ls) (o ∷ outs) n h =
+    ap (λ x. x ∷ map (λ (o : OutRow). o.lit) outs) (h 0 (omega arith))
+    ∙ ap (λ xs. l ∷ xs) (lits_of ls outs (omega (arith, n)) (λ j lt. h (suc j) (omega (arith, lt))))
+
+few_cmds : (b : Block) (outs : List OutRow) (k : ℕ) → FitBody b.graph outs
+    → IsOuts b (length b.outs) outs → k ≤ 4 * length b.graph.nodes + 3 * length outs
+    → (length b.graph.nodes ≡ 0 → length outs ≡ 1 → is_turned (out_at outs 0).lit ≡ false → k ≤ 1)
+    → IsLeast b.graph outs k → k ≤ turn_cost b
+few_cmds b outs k fits is few one least =
+    by_cases (is_copy b) 1 _ k copied
+    (by_cases (is_not b) 2 _ k (λ e. let h = body_is 1 _ _ b e in
+    not_few b.graph b.outs outs k h.0 h.1 fits is.size is.lits least)
+    (by_cases (is_and b) 4 _ k (λ e. let h = body_is 2 _ _ b e in
+    and_few b.graph b.outs outs k h.0 h.1 fits is.size is.lits least)
+    (by_cases (is_or b) 4 _ k (λ e. let h = body_is 2 _ _ b e in
+    or_few b.graph b.outs outs k h.0 h.1 fits is.size is.lits least)
+    (by_cases (is_xor b) 7 _ k (λ e. let h = body_is 2 _ _ b e in
+    xor_few b.graph b.outs outs k h.0 h.1 fits is.size is.lits least)
+    (by_cases (is_add b) 9 _ k (λ e. let h = body_is 3 _ _ b e in
+    add_few b.graph b.outs outs k h.0 h.1 fits is.size is.lits least)
+    (omega (arith, few, is.size)))))))
+  where
+    copied : is_copy b ≡ true → k ≤ 1
+    copied e =
+        let h = and_parts (length b.graph.nodes == 0) ((length b.outs == 1)
+        && not (is_turned (lit_at b.outs 0))) e in
+        let g = and_parts (length b.outs == 1) (not (is_turned (lit_at b.outs 0))) h.1 in
+        let l : length outs ≡ 1 = is.size ∙ eqb-true (length b.outs) 1 g.0 in
+        one (eqb-true (length b.graph.nodes) 0 h.0) l (ap is_turned (is.lits 0 (omega (arith, l)))
+        ∙ not_true (is_turned (lit_at b.outs 0)) g.1)
+
+-- a body's plan, outputs and commands make a part
+pub is_part : (b : Block) (plan : Plan) (outs : List OutRow) (cmds : List BodyCmd) → IsSmall b
+    → IsGraph b.graph.inputs b.graph.nodes → plan ≡ plan_of b → IsOuts b (length b.outs) outs
+    → DoesBody b.graph outs cmds → length cmds ≤ 4 * length b.graph.nodes + 3 * length outs
+    → (length b.graph.nodes ≡ 0 → length outs ≡ 1 → is_turned (out_at outs 0).lit ≡ false
+    → length cmds ≤ 1) → IsLeast b.graph outs (length cmds)
+    → (length b.graph.nodes ≡ 0 → length outs ≡ 1 → is_turned (out_at outs 0).lit ≡ false
+    → cmds ≡ Aap (source_of b.graph.inputs (out_at outs 0).lit) (Out 0) ∷ [])
+    → ((w : WordBody) → b.graph ≡ graph_in w → map (λ o. o.lit) outs ≡ outs_in w
+    → WritesLate outs (known_at (sequence_for w)) → cmds ≡ known_at (sequence_for w))
+    → IsPart (record { block = b; plan = plan; outs = outs; cmds = cmds })
+is_part b plan outs cmds small graph e is does few one least copy word = record {
+  well = small.well;
+  graph = graph;
+  planned = subst (λ p. IsPlanned p b) (sym e) (plans b small.subs);
+  outs = is;
+  does = does;
+  few = few_cmds b outs (length cmds) (fit b outs small is) is few one least;
+  copy = λ c. let h = copied_one b outs is c in (
+    source_of b.graph.inputs (out_at outs 0).lit,
+    Out 0,
+    copy h.0 h.1 h.2,
+  );
+  word = λ w g o late. word w g (lits_of b.outs outs is.size is.lits ∙ o) late;
+}

@@ -1,0 +1,285 @@
+-- Several statements, one after another, and the operation that they make.
+use Rattle.std.proofs.Common.{◌≡◌, ℕ, zero, suc, ◌+◌, ◌*◌, ◌<◌, ◌≤◌, Bool, List, [], ◌∷◌, ◌++◌, map}
+use Rattle.std.proofs.Common.{length, refl, sym, ap, ◌∙◌, subst, arith, append_assoc, append-nil}
+use Rattle.std.specs.Prelude.{slice_get, slice_index, slice_index_or, take}
+use Rattle.std.specs.List.{AllByRecursion, range_with_len}
+use Rattle.std.proofs.lemmas.List.{map_more}
+use Rattle.std.proofs.lemmas.List.Sums.{sum_by-cons, sum_by-append}
+use Rattle.std.proofs.lemmas.Grind.{common_steps}
+use Rattle.dram_model.specs.declared.address.Cell.TheVariants.{D}
+use Rattle.bit_rows.specs.Bits.{value}
+use Rattle.dram_model.specs.Column.{Column, run}
+use Rattle.op_text.specs.declared.tree.Kind.{Kind}
+use Rattle.uprog_code.specs.declared.code.Uop.{Uop}
+use Rattle.uprog_code.specs.declared.code.Uop.TheVariants.{Done}
+use Rattle.uprog_code.specs.Shape.{Shape, width, results}
+use Rattle.uprog_code.specs.Bound.{Bound, bound}
+use Rattle.uprog_code.specs.Machine.{trace, issues_of}
+use Rattle.uprog_code.specs.Legal.{IsLegalCode}
+use Rattle.uprog_code.specs.Fits.{Fits, AreBelow}
+use Rattle.dram_model.specs.Elements.{number}
+use Rattle.uprog_code.specs.Implements.{numbers, Implements}
+use Rattle.loop_ir.specs.declared.ir.Space.{Space}
+use Rattle.loop_ir.specs.declared.ir.Space.TheVariants.{Result, Source}
+use Rattle.loop_ir.specs.declared.ir.LoopProgram.{LoopProgram}
+use Rattle.loop_ir.specs.Plain.{Block, StepOf, steps_of}
+use Rattle.loop_ir.specs.Loops.{RoundOf, step_rounds, all_rounds}
+use Rattle.loop_ir.specs.Spots.{Spots, after_round, after_rounds}
+use Rattle.uprog_gen.specs.Where.{Agree, spots_in, IsSpot, IsBelow}
+use Rattle.uprog_gen.specs.Code.{blocks, program_code}
+use Rattle.loop_ir.specs.Limits.{IsRound, CanCompile}
+use Rattle.loop_ir.specs.Costs.{turn_cost, step_cost, code_cost, rounds_cost}
+use Rattle.uprog_gen.specs.Emits.{EmitsSteps}
+use Rattle.uprog_gen.specs.Does.{DoesRounds, Means, AreCheap, joined, total, after_statements}
+use Rattle.uprog_gen.specs.Does.{numbers_in}
+use Rattle.uprog_gen.specs.Programs.{HasParts}
+use Rattle.uprog_gen.proofs.Coding.Sizes.{program_few}
+use Rattle.uprog_gen.proofs.Coding.Pieces.{pieces}
+use Rattle.uprog_gen.proofs.Coding.Emitted.{more_steps}
+use Rattle.uprog_gen.proofs.Rows.Top.{program_does, all_blocks}
+use Rattle.uprog_gen.proofs.Coding.Legal.{code_legal}
+use Rattle.bit_rows.specs.declared.TheConstants.{WIDTH_MAX}
+
+abbrev pub Statement : Type 0
+Statement = List (StepOf Block)
+
+joined-append : (ps : List Statement) (p : Statement) → joined (ps ++ p ∷ []) ≡ joined ps ++ p
+joined-append [] p = append-nil p
+joined-append (q ∷ ps) p = ap (λ l. q ++ l) (joined-append ps p)
+    ∙ sym (append_assoc q (joined ps) p)
+
+pub all_rounds-append : (n : ℕ) (xs ys : Statement)
+    → all_rounds n (xs ++ ys) ≡ all_rounds n xs ++ all_rounds n ys
+all_rounds-append n [] ys = refl
+all_rounds-append n (x ∷ xs) ys = ap (λ l. step_rounds n x ++ l) (all_rounds-append n xs ys)
+    ∙ sym (append_assoc (step_rounds n x) (all_rounds n xs) (all_rounds n ys))
+
+after_rounds-append : (n : ℕ) (xs ys : List (RoundOf Block)) (bits : Spots)
+    → after_rounds n (xs ++ ys) bits ≡ after_rounds n ys (after_rounds n xs bits)
+after_rounds-append n [] ys bits = refl
+after_rounds-append n (x ∷ xs) ys bits = after_rounds-append n xs ys (after_round n x bits)
+
+-- the rounds of all statements do what the statements do, one after another
+after_joined : (n : ℕ) (ps : List Statement) (bits : Spots)
+    → after_rounds n (all_rounds n (joined ps)) bits ≡ after_statements n ps bits
+after_joined n [] bits = refl
+after_joined n (p ∷ ps) bits =
+    ap (λ l. after_rounds n l bits) (all_rounds-append n p (joined ps))
+    ∙ after_rounds-append n (all_rounds n p) (all_rounds n (joined ps)) bits
+    ∙ after_joined n ps (after_rounds n (all_rounds n p) bits)
+
+pub joined_cost : (n : ℕ) (p : Statement) (ps : List Statement)
+    → rounds_cost (all_rounds n (p ++ joined ps))
+    ≡ rounds_cost (all_rounds n p) + rounds_cost (all_rounds n (joined ps))
+joined_cost n p ps = ap rounds_cost (all_rounds-append n p (joined ps))
+    ∙ sum_by-append (λ (r : RoundOf Block). turn_cost r.part) (all_rounds n p)
+    (all_rounds n (joined ps))
+
+cheap_joined : (n : ℕ) (ps : List Statement) (cs : List (ℕ → ℕ)) → AreCheap n ps cs
+    → rounds_cost (all_rounds n (joined ps)) ≤ total cs n
+cheap_joined n [] [] h = omega arith
+cheap_joined n [] (c ∷ cs) h = absurd h
+cheap_joined n (p ∷ ps) [] h = absurd h
+cheap_joined n (p ∷ ps) (c ∷ cs) h =
+    omega (
+      arith,
+      joined_cost n p ps,
+      h.0,
+      cheap_joined n ps cs h.1,
+      sum_by-cons (λ (f : ℕ → ℕ). f n) c cs,
+    )
+
+pub both : {X : Type 0} (P : X → Type 0) (xs ys : List X) → AllByRecursion P xs
+    → AllByRecursion P ys → AllByRecursion P (xs ++ ys)
+both P [] ys h k = k
+both P (x ∷ xs) ys h k = (h.0, both P xs ys h.1 k)
+
+rounds_joined : (head : Shape) (n : ℕ) (ps : List Statement) → 0 < n → n ≤ WIDTH_MAX
+    → AllByRecursion (CanCompile (IsSpot head)) ps
+    → AllByRecursion (IsRound (IsSpot head n) n) (all_rounds n (joined ps))
+rounds_joined head n [] some small h = tt
+rounds_joined head n (p ∷ ps) some small h =
+    subst (AllByRecursion (IsRound (IsSpot head n) n)) (sym (all_rounds-append n p (joined ps)))
+    (both (IsRound (IsSpot head n) n) (all_rounds n p) (all_rounds n (joined ps))
+    (h.0.rounds n some small) (rounds_joined head n ps some small h.1))
+
+cost_joined : (head : Shape) (ps : List Statement) → AllByRecursion (CanCompile (IsSpot head)) ps
+    → code_cost (joined ps) ≤ 256 * length ps
+cost_joined head [] h = omega arith
+cost_joined head (p ∷ ps) h = omega (
+  arith,
+  sum_by-append step_cost p (joined ps),
+  h.0.size,
+  cost_joined head ps h.1,
+)
+
+-- numbers of rows
+pub same_bits : (f g : ℕ → Bool) (a c w : ℕ) → ((i : ℕ) → i < w → f (a + i) ≡ g (c + i))
+    → map f (range_with_len a w) ≡ map g (range_with_len c w)
+same_bits f g a c zero h = refl
+same_bits f g a c (suc w) h =
+    let ea : a ≡ a + 0 = omega arith in
+    let ec : c + 0 ≡ c = omega arith in
+    ap (λ x. x ∷ map f (range_with_len (a + 1) w)) (ap f ea ∙ h 0 (omega arith) ∙ ap g ec)
+    ∙ ap (λ l. g c ∷ l) (same_bits f g (a + 1) (c + 1) w (λ i lt. let e : a + 1 + i
+    ≡ a + suc i = omega arith in let d : c + suc i ≡ c + 1 + i = omega arith in
+    ap f e ∙ h (suc i) (omega arith) ∙ ap g d))
+
+-- of values that lie in a column where the named rows say
+values_same : (space : Space) (rows n : ℕ) (bits : Spots) (s : Column) (ks : List Kind)
+    (bs : List ℕ) (which : ℕ) → AreBelow rows n ks bs
+    → ((v i : ℕ) → IsBelow (slice_get ks v) n i
+    → bits (record { space = space; which = which + v; index = i })
+    ≡ s (D (slice_index bs v + i)))
+    → numbers_in space n ks which bits ≡ numbers n ks bs s
+values_same space rows n bits s [] bs which fit at = refl
+values_same space rows n bits s (k ∷ ks) [] which fit at = absurd fit
+values_same space rows n bits s (k ∷ ks) (c ∷ bs) which fit at =
+    ap (λ l. value l ∷ numbers_in space n ks (which + 1) bits)
+    (same_bits (λ i. bits (record { space = space; which = which; index = i })) (λ row. s (D row)) 0
+    c (width k n) (λ i lt. let z : 0 + i ≡ i = omega arith in
+    let w : which ≡ which + 0 = omega arith in
+    ap (λ j. bits (record { space = space; which = which; index = j })) z
+    ∙ ap (λ x. bits (record { space = space; which = x; index = i })) w ∙ at 0 i lt))
+    ∙ ap (λ l. number c (width k n) s ∷ l)
+    (values_same space rows n bits s ks bs (which + 1) fit.1 (λ v i below.
+    let w : which + 1 + v ≡ which + suc v = omega arith in
+    ap (λ x. bits (record { space = space; which = x; index = i })) w ∙ at (suc v) i below))
+
+-- rounds that mean an operation implement it
+pub does_implement : (head : Shape) (ps : List Statement) (code : List Uop)
+    → ((n : ℕ) → 0 < n → n ≤ WIDTH_MAX → DoesRounds head n (joined ps) code)
+    → (ceilings : List (ℕ → ℕ)) (meaning : ℕ → List ℕ → List ℕ)
+    → Means head ps ceilings meaning
+    → Implements head code (total ceilings) meaning
+does_implement head ps code does ceilings meaning means = record {
+  ends = λ n some small. (does n some small).ends;
+  cheap = λ n some small. omega (
+    arith,
+    (does n some small).few,
+    cheap_joined n ps ceilings (means.cheap n some small),
+  );
+  gives = λ n some small. record { value = λ rows b s fits. gives n some small rows b s fits };
+  keeps = λ n some small. record {
+    row = λ rows b s fits q out. (does n some small).keeps rows b s
+        fits q out;
+  };
+}
+  where
+    gives : (n : ℕ) → 0 < n → n ≤ WIDTH_MAX → (rows : ℕ) (b : Bound) (s : Column)
+        → Fits rows head n b → numbers n (results head) b.results
+        (run (bound rows head n b (issues_of (trace head code n))) s)
+        ≡ meaning n (numbers n head.sources b.sources s)
+    gives n some small rows b s fits =
+        let t : Column = run (bound rows head n b (issues_of (trace head code n))) s in
+        let bits : Spots = spots_in head n b s in
+        let new : Spots = after_rounds n (all_rounds n (joined ps)) bits in
+        let agrees : Agree head n b new t = (does n some small).agrees rows b s fits in
+        let zero_on : (v : ℕ) → 0 + v ≡ v = λ v. omega arith in
+        sym (values_same Result rows n new t (results head) b.results 0 fits.results (λ v i below.
+        ap (λ w. new (record { space = Result; which = w; index = i })) (zero_on v)
+        ∙ sym (agrees (record { space = Result; which = v; index = i }) below)))
+        ∙ ap (numbers_in Result n (results head) 0) (after_joined n ps bits)
+        ∙ means.gives n some small bits
+        ∙ ap (meaning n) (values_same Source rows n bits s head.sources b.sources 0 fits.sources
+        (λ v i below. ap (λ w. s (D (slice_index b.sources w + i))) (zero_on v)))
+
+-- what the emitters give, with Done, does the rounds and is legal
+pub record IsEntry (head : Shape) (ps : List Statement) (code : List Uop) : Type 0 where
+  pub legal : IsLegalCode head code
+  pub parts : HasParts (length ps) code
+  pub does : (n : ℕ) → 0 < n → n ≤ WIDTH_MAX → DoesRounds head n (joined ps) code
+
+pub is_entry : (head : Shape) (ps : List Statement) (mid code : List Uop)
+    → AllByRecursion (CanCompile (IsSpot head)) ps → length ps ≤ 16 → EmitsSteps (joined ps) [] mid
+    → code ≡ mid ++ Done ∷ [] → IsEntry head ps code
+is_entry head ps mid code can few emits e = subst (IsEntry head ps)
+    (sym (e ∙ ap (λ l. l ++ Done ∷ []) emits.code)) entry
+  where
+    is : List Uop
+    is = program_code emits.coded 0
+
+    size : length is ≤ 256 * length ps
+    size = omega (
+      arith,
+      program_few emits.coded 0 emits.parts,
+      ap code_cost emits.same,
+      cost_joined head ps can,
+    )
+
+    rounds : (n : ℕ) → 0 < n → n ≤ WIDTH_MAX → AllByRecursion (IsRound (IsSpot head n) n)
+        (all_rounds n (blocks emits.coded))
+    rounds n some small =
+        subst (λ (l : Statement). AllByRecursion (IsRound (IsSpot head n) n) (all_rounds n l))
+        (sym emits.same) (rounds_joined head n ps some small can)
+
+    entry : IsEntry head ps (is ++ Done ∷ [])
+    entry = record {
+      legal = code_legal head emits.coded (omega (arith, size, few)) emits.parts
+          (subst (AllByRecursion (IsRound (IsSpot head 1) 1)) (all_blocks 1 emits.coded)
+          (rounds 1 (omega arith) (omega arith)));
+      parts = let q = pieces head ps emits.coded 0 emits.same emits.parts can in record {
+        parts = q.0;
+        many = q.1;
+        short = q.2;
+        whole = ap (λ l. l ++ Done ∷ []) q.3;
+      };
+      does = λ n some small. subst (λ (l : Statement). DoesRounds head n l (is ++ Done ∷ []))
+          emits.same (program_does head n emits.coded some small (omega (arith, size, few))
+          emits.parts (rounds n some small));
+    }
+
+-- statement after statement
+statement_at : (head : Shape) (ps : List LoopProgram) (k : ℕ) (x : LoopProgram)
+    → AllByRecursion (CanCompile (IsSpot head)) (map steps_of ps) → k < length ps
+    → x ≡ slice_index_or ps k x → CanCompile (IsSpot head) (steps_of x)
+statement_at head [] k x h lt e = absurd (omega arith)
+statement_at head (p ∷ ps) zero x h lt e = subst (λ y. CanCompile (IsSpot head) (steps_of y))
+    (sym e) h.0
+statement_at head (p ∷ ps) (suc k) x h lt e = statement_at head ps k x h.1 (omega arith) e
+
+pub can_at : (head : Shape) (ps : List LoopProgram) (k : ℕ) (x : LoopProgram)
+    → AllByRecursion (CanCompile (IsSpot head)) (map steps_of ps) → k < length ps
+    → x ≡ slice_index_or ps k x → CanCompile (IsSpot head) (steps_of x)
+can_at head ps k x h lt e = statement_at head ps k x h lt e
+
+cost_taken : (head : Shape) (ps : List LoopProgram) (k : ℕ)
+    → AllByRecursion (CanCompile (IsSpot head)) (map steps_of ps)
+    → code_cost (joined (map steps_of (take k ps))) ≤ 256 * k
+cost_taken head ps zero h = omega arith
+cost_taken head [] (suc k) h = omega arith
+cost_taken head (p ∷ ps) (suc k) h = omega (
+  arith,
+  sum_by-append step_cost (steps_of p) (joined (map steps_of (take k ps))),
+  h.0.size,
+  cost_taken head ps k h.1,
+)
+
+pub statement_room : (head : Shape) (ps : List LoopProgram) (k : ℕ) (mid : List Uop)
+    → AllByRecursion (CanCompile (IsSpot head)) (map steps_of ps)
+    → EmitsSteps (joined (map steps_of (take k ps))) [] mid → length mid ≤ 256 * k
+statement_room head ps k mid h a = omega (
+  arith,
+  ap length a.code,
+  program_few a.coded 0 a.parts,
+  ap code_cost a.same,
+  cost_taken head ps k h,
+)
+
+pub next_statement : (ps : List LoopProgram) (k : ℕ) (x : LoopProgram) (mid new : List Uop)
+    → k < length ps → x ≡ slice_index_or ps k x
+    → EmitsSteps (joined (map steps_of (take k ps))) [] mid → EmitsSteps (steps_of x) mid new
+    → EmitsSteps (joined (map steps_of (take (k + 1) ps))) [] new
+next_statement ps k x mid new lt e a b =
+    let f : map steps_of (take (k + 1) ps) ≡ map steps_of (take k ps) ++ steps_of x ∷ [] =
+    map_more steps_of ps k x lt ∙ ap (λ y. map steps_of (take k ps) ++ steps_of y
+    ∷ []) (sym e) in
+    subst (λ l. EmitsSteps l [] new) (sym (ap joined f
+    ∙ joined-append (map steps_of (take k ps)) (steps_of x)))
+    (more_steps (joined (map steps_of (take k ps))) (steps_of x) [] mid new a b)
+
+pub all_statements : (ps : List LoopProgram) (k : ℕ) (new : List Uop) → k ≡ length ps
+    → EmitsSteps (joined (map steps_of (take k ps))) [] new
+    → EmitsSteps (joined (map steps_of ps)) [] new
+all_statements ps k new e a = subst (λ l. EmitsSteps (joined (map steps_of l)) [] new)
+    (let f : take k ps ≡ ps = grind (arith, common_steps) in f) a

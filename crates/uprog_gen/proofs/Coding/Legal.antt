@@ -1,0 +1,369 @@
+-- The code is legal.
+use Rattle.std.proofs.Common.{◌≡◌, ℕ, zero, suc, ◌+◌, ◌-◌, ◌<◌, ◌≤◌, Bool, true, false, cond, List}
+use Rattle.std.proofs.Common.{[], ◌∷◌, ◌++◌, map, length, refl, ap, ◌∙◌, subst, arith, Some}
+use Rattle.std.proofs.Common.{append-nil, length-append}
+use Rattle.std.specs.Prelude.{slice_get, nat_lt, nat_le, ◌==◌, ◌&&◌}
+use Rattle.std.specs.List.{AllByRecursion, list_all}
+use Rattle.std.proofs.Math.Seq.{get_or-append_seam}
+use Rattle.std.proofs.lemmas.Option.{slice_get-get_or}
+use Rattle.std.proofs.lemmas.Bool.{and_parts, and_from, ltb-true, lt-ltb}
+use Rattle.op_text.specs.declared.tree.Kind.{Kind}
+use Rattle.uprog_code.specs.declared.code.Uop.{Uop}
+use Rattle.uprog_code.specs.declared.code.Uop.TheVariants.{Done, SubI, AddI, Bnez}
+use Rattle.uprog_code.specs.Shape.{Shape, results}
+use Rattle.uprog_code.specs.Legal.{is_row, is_first, is_second, may_be_first, may_be_second}
+use Rattle.uprog_code.specs.Legal.{is_legal, IsLegalCode}
+use Rattle.loop_ir.specs.Loops.{rounds, RoundOf, round_at, inner_rounds, step_rounds, all_rounds}
+use Rattle.loop_ir.specs.Loops.{sub_value}
+use Rattle.row_alloc.specs.declared.body.BodyRef.{BodyRef}
+use Rattle.row_alloc.specs.declared.body.BodyRef.TheVariants as ref
+use Rattle.row_alloc.specs.declared.body.BodyCmd.{BodyCmd}
+use Rattle.row_alloc.specs.declared.body.BodyCmd.TheVariants as cmd
+use Rattle.row_alloc.specs.Legal.{is_ref, is_first_ref, is_second_ref, is_legal_cmd}
+use Rattle.loop_ir.specs.declared.ir.Sub.{Sub}
+use Rattle.loop_ir.specs.declared.ir.Sub.TheVariants.{Zero, Top, Inner as At_inner, InnerDown}
+use Rattle.loop_ir.specs.declared.ir.Sub.TheVariants.{Outer, OuterDown, Sum, DownSum, DownPlusN}
+use Rattle.loop_ir.specs.declared.ir.Sub.TheVariants.{NPlusInner}
+use Rattle.loop_ir.specs.declared.ir.Space.{Space}
+use Rattle.loop_ir.specs.declared.ir.Space.TheVariants.{Result, Source, ScratchBit, ScratchWord}
+use Rattle.loop_ir.specs.declared.ir.Count.{Count}
+use Rattle.loop_ir.specs.declared.ir.Count.TheVariants.{All as All_of, Rest}
+use Rattle.loop_ir.specs.Plain.{InnerOf, StepOf, AllInner, AllStep, AllParts}
+use Rattle.loop_ir.specs.Plain.InnerOf.{Alone, Across}
+use Rattle.loop_ir.specs.Plain.StepOf.{Single, Along, Nest}
+use Rattle.loop_ir.specs.Spots.{nth_place, spot_in, IsOwn}
+use Rattle.uprog_gen.specs.Where.{IsSpot, IsBelow}
+use Rattle.uprog_gen.specs.declared.plan.Plan.{Plan}
+use Rattle.uprog_gen.specs.Code.{Part, row_space, register, place_ref, code_ref, code_uop, init}
+use Rattle.uprog_gen.specs.Code.{before, after, inits, befores, afters, counter, body_uops}
+use Rattle.uprog_gen.specs.Code.{once_code, turn_code, enter_code, loop_code, inner_list, outside}
+use Rattle.uprog_gen.specs.Code.{step_code, program_code}
+use Rattle.loop_ir.specs.Costs.{is_fixed, same_sub}
+use Rattle.loop_ir.specs.Limits.{IsRound}
+use Rattle.uprog_gen.proofs.Rows.Rounds.{block_round}
+use Rattle.uprog_gen.specs.Parts.{IsPart}
+use Rattle.uprog_gen.proofs.Running.Program.{front_all, back_all}
+
+both : {X : Type 0} (P : X → Type 0) (xs ys : List X) → AllByRecursion P xs → AllByRecursion P ys
+    → AllByRecursion P (xs ++ ys)
+both P [] ys h k = k
+both P (x ∷ xs) ys h k = (h.0, both P xs ys h.1 k)
+
+register_small : (plan : Plan) (s : Sub) → nat_le (register plan s) 8 ≡ true
+register_small plan s = by (same_sub s Zero) (same_sub s Outer) (same_sub s OuterDown)
+    (same_sub s plan.first) (same_sub s plan.second) (same_sub s plan.third)
+  where
+    by : (a b c d e f : Bool)
+        → nat_le (cond a 8 (cond b 0 (cond c 1 (cond d 3 (cond e 4 (cond f 5 8)))))) 8 ≡ true
+    by true b c d e f = refl
+    by false true c d e f = refl
+    by false false true d e f = refl
+    by false false false true e f = refl
+    by false false false false true f = refl
+    by false false false false false true = refl
+    by false false false false false false = refl
+
+below_length : (ks : List Kind) (w n v : ℕ) → IsBelow (slice_get ks w) n v → w < length ks
+below_length [] w n v h = absurd h
+below_length (k ∷ ks) zero n v h = omega arith
+below_length (k ∷ ks) (suc w) n v h = let l = below_length ks w n v h in omega (arith, l)
+
+module _ (head : Shape) where
+  place_row_legal : (s : Space) (w v : ℕ) (plan : Plan) (u : Sub) → IsSpot head 1 (spot_in 1 s w v)
+      → is_row head (place_ref plan (record { space = s; which = w; sub = u })) ≡ true
+  place_row_legal Result w v plan u h = and_from (nat_lt w (length (results head)))
+      (nat_le (register plan u) 8) (lt-ltb w (length (results head))
+      (below_length (results head) w 1 v h)) (register_small plan u)
+  place_row_legal Source w v plan u h = and_from (nat_lt w (length head.sources))
+      (nat_le (register plan u) 8) (lt-ltb w (length head.sources)
+      (below_length head.sources w 1 v h)) (register_small plan u)
+  place_row_legal ScratchBit w v plan u h = and_from (nat_lt w head.bits) (0
+      == 0) (lt-ltb w head.bits h.0) refl
+  place_row_legal ScratchWord w v plan u h = and_from (nat_lt w head.words)
+      (nat_le (register plan u) 8) (lt-ltb w head.words (omega (arith, h.1)))
+      (register_small plan u)
+
+  place_first : (s : Space) (w : ℕ) → may_be_first (row_space s) w ≡ true
+  place_first Result w = refl
+  place_first Source w = refl
+  place_first ScratchBit w = refl
+  place_first ScratchWord w = refl
+
+  own_second : (s : Space) → IsOwn s → may_be_second (row_space s) ≡ true
+  own_second Result h = refl
+  own_second Source h = absurd h
+  own_second ScratchBit h = refl
+  own_second ScratchWord h = refl
+
+  spot_space : (s : Space) (w v : ℕ) → (spot_in 1 s w v).space ≡ s
+  spot_space Result w v = refl
+  spot_space Source w v = refl
+  spot_space ScratchBit w v = refl
+  spot_space ScratchWord w v = refl
+
+  abbrev pub IsLegalAt : ℕ → Uop → Type 0
+  IsLegalAt size i = is_legal head size i ≡ true
+
+  module _ (p : Part) (part : IsPart p) (is : IsRound (IsSpot head 1) 1 (round_at p.block 0 0))
+    where
+      abbrev N : ℕ
+      N = p.block.graph.inputs
+
+      abbrev M : ℕ
+      M = length p.outs
+
+      row_legal : (x : BodyRef) → is_ref N M x ≡ true
+          → is_row head (code_ref p.plan p.block x) ≡ true
+      row_legal (ref.B k) h = and_from (nat_lt k 16) (0 == 0) h refl
+      row_legal (ref.C k) h = and_from (nat_lt k 2) (0 == 0) h refl
+      row_legal (ref.Spill k) h = and_from (nat_lt k 32) (0 == 0) h refl
+      row_legal (ref.In k) h =
+          let lk : k < N = ltb-true k N h in
+          let q = nth_place p.block.reads k in
+          place_row_legal q.space q.which (sub_value 1 0 0 q.sub) p.plan q.sub
+          (is.reads k (omega (arith, lk, part.well.reads)))
+      row_legal (ref.Out k) h =
+          let lk : k < M = ltb-true k M h in
+          let q = nth_place p.block.writes k in
+          place_row_legal q.space q.which (sub_value 1 0 0 q.sub) p.plan q.sub
+          (is.writes k (omega (arith, lk, part.outs.size, part.well.writes)))
+
+      first_of_ref : (x : BodyRef) → is_first_ref x ≡ true
+          → may_be_first (code_ref p.plan p.block x).space (code_ref p.plan p.block x).which ≡ true
+      first_of_ref (ref.B k) h = h
+      first_of_ref (ref.C k) h = refl
+      first_of_ref (ref.Spill k) h = refl
+      first_of_ref (ref.In k) h = let q = nth_place p.block.reads k in place_first q.space q.which
+      first_of_ref (ref.Out k) h = let q = nth_place p.block.writes k in place_first q.space q.which
+
+      second_of_ref : (x : BodyRef) → is_ref N M x ≡ true → is_second_ref x ≡ true
+          → may_be_second (code_ref p.plan p.block x).space ≡ true
+      second_of_ref (ref.B k) r h = refl
+      second_of_ref (ref.C k) r h = absurd (let g : false ≡ true = h in cc)
+      second_of_ref (ref.Spill k) r h = refl
+      second_of_ref (ref.In k) r h = absurd (let g : false ≡ true = h in cc)
+      second_of_ref (ref.Out k) r h =
+          let lk : k < M = ltb-true k M r in
+          let q = nth_place p.block.writes k in
+          own_second q.space (subst IsOwn (spot_space q.space q.which (sub_value 1 0 0 q.sub))
+          (is.own k (omega (arith, lk, part.outs.size, part.well.writes))))
+
+      uop_legal : (size : ℕ) (c : BodyCmd) → is_legal_cmd N M c ≡ true
+          → IsLegalAt size (code_uop p.plan p.block c)
+      uop_legal size (cmd.Aap x y) h =
+          let a = and_parts (is_ref N M x && is_first_ref x) (is_ref N M y && is_second_ref y) h in
+          let b = and_parts (is_ref N M x) (is_first_ref x) a.0 in
+          let d = and_parts (is_ref N M y) (is_second_ref y) a.1 in
+          let rx = code_ref p.plan p.block x in
+          let ry = code_ref p.plan p.block y in
+          and_from (is_first head rx) (is_second head ry)
+          (and_from (is_row head rx) (may_be_first rx.space rx.which) (row_legal x b.0)
+          (first_of_ref x b.1))
+          (and_from (is_row head ry) (may_be_second ry.space) (row_legal y d.0)
+          (second_of_ref y d.0 d.1))
+      uop_legal size (cmd.Ap x) h =
+          let b = and_parts (is_ref N M x) (is_first_ref x) h in
+          let rx = code_ref p.plan p.block x in
+          and_from (is_row head rx) (may_be_first rx.space rx.which) (row_legal x b.0)
+          (first_of_ref x b.1)
+
+      uops_legal : (size : ℕ) (cs : List BodyCmd) → list_all (is_legal_cmd N M) cs ≡ true
+          → AllByRecursion (IsLegalAt size) (map (code_uop p.plan p.block) cs)
+      uops_legal size [] h = tt
+      uops_legal size (c ∷ cs) h =
+          let a = and_parts (is_legal_cmd N M c) (list_all (is_legal_cmd N M) cs) h in
+          (uop_legal size c a.0, uops_legal size cs a.1)
+
+  -- the part's own commands are legal
+  abbrev pub IsFit : Part → Type 0
+  IsFit p = (size : ℕ) → AllByRecursion (IsLegalAt size) (body_uops p)
+
+  fit_part : (p : Part) → IsPart p → IsRound (IsSpot head 1) 1 (round_at p.block 0 0) → IsFit p
+  fit_part p part is size = uops_legal p part is size p.cmds part.does.legal
+
+  -- each body has a round at width 1
+  fit_inner : (xs : List (InnerOf Part)) → AllInner IsPart xs
+      → AllByRecursion (IsRound (IsSpot head 1) 1) (map block_round (inner_rounds 1 0 xs))
+      → AllInner IsFit xs
+  fit_inner [] h r = tt
+  fit_inner (Alone p ∷ xs) h r = (fit_part p h.0 r.0, fit_inner xs h.1 r.1)
+  fit_inner (Across All_of p ∷ xs) h r = (fit_part p h.0 r.0, fit_inner xs h.1 r.1)
+  fit_inner (Across Rest p ∷ xs) h r = (fit_part p h.0 r.0, fit_inner xs h.1 r.1)
+
+  fit_step : (s : StepOf Part) → AllStep IsPart s
+      → AllByRecursion (IsRound (IsSpot head 1) 1) (map block_round (step_rounds 1 s))
+      → AllStep IsFit s
+  fit_step (Single p) h r = fit_part p h r.0
+  fit_step (Along p) h r = fit_part p h r.0
+  fit_step (Nest parts) h r = fit_inner parts h
+      (subst (λ (l : List (RoundOf Part)). AllByRecursion (IsRound (IsSpot head 1) 1)
+      (map block_round l)) (append-nil (inner_rounds 1 0 parts)) r)
+
+  fit_steps : (ss : List (StepOf Part)) → AllParts IsPart ss
+      → AllByRecursion (IsRound (IsSpot head 1) 1) (map block_round (all_rounds 1 ss))
+      → AllParts IsFit ss
+  fit_steps [] h r = tt
+  fit_steps (s ∷ ss) h r =
+      let r' = subst (AllByRecursion (IsRound (IsSpot head 1) 1))
+      (map-append' (step_rounds 1 s) (all_rounds 1 ss)) r in (
+        fit_step s h.0 (front_all (IsRound (IsSpot head 1) 1) (map block_round (step_rounds 1 s))
+            (map block_round (all_rounds 1 ss)) r'),
+        fit_steps ss h.1 (back_all (IsRound (IsSpot head 1) 1) (map block_round (step_rounds 1 s))
+            (map block_round (all_rounds 1 ss)) r'),
+      )
+    where
+      map-append' : (xs ys : List (RoundOf Part))
+          → map block_round (xs ++ ys) ≡ map block_round xs ++ map block_round ys
+      map-append' [] ys = refl
+      map-append' (x ∷ xs) ys = ap (λ l. block_round x ∷ l) (map-append' xs ys)
+
+  module _ (size : ℕ) where
+    abbrev L : List Uop → Type 0
+    L is = AllByRecursion (IsLegalAt size) is
+
+    join : (xs ys : List Uop) → L xs → L ys → L (xs ++ ys)
+    join xs ys h k = both (IsLegalAt size) xs ys h k
+
+    init_legal : (u : Sub) (r : ℕ) → nat_lt r 8 ≡ true → L (init u r)
+    init_legal Zero r h = tt
+    init_legal Outer r h = tt
+    init_legal OuterDown r h = tt
+    init_legal Top r h = (h, tt)
+    init_legal At_inner r h = (and_from (nat_lt r 8) (nat_le 0 1023) h refl, tt)
+    init_legal InnerDown r h = (h, tt)
+    init_legal NPlusInner r h = (h, tt)
+    init_legal Sum r h = (and_from (nat_lt r 8) (nat_lt 0 8) h refl, tt)
+    init_legal DownSum r h = (and_from (nat_lt r 8) (nat_lt 1 8) h refl, tt)
+    init_legal DownPlusN r h = (h, (and_from (nat_lt r 8) (nat_lt 1 8) h refl, tt))
+
+    before_legal : (u : Sub) (r : ℕ) → nat_lt r 8 ≡ true → L (before u r)
+    before_legal InnerDown r h = (and_from (nat_lt r 8) (nat_le 1 1023) h refl, tt)
+    before_legal Zero r h = tt
+    before_legal Outer r h = tt
+    before_legal OuterDown r h = tt
+    before_legal Top r h = tt
+    before_legal At_inner r h = tt
+    before_legal NPlusInner r h = tt
+    before_legal Sum r h = tt
+    before_legal DownSum r h = tt
+    before_legal DownPlusN r h = tt
+
+    after_legal : (u : Sub) (r : ℕ) → nat_lt r 8 ≡ true → L (after u r)
+    after_legal At_inner r h = (and_from (nat_lt r 8) (nat_le 1 1023) h refl, tt)
+    after_legal Sum r h = (and_from (nat_lt r 8) (nat_le 1 1023) h refl, tt)
+    after_legal DownSum r h = (and_from (nat_lt r 8) (nat_le 1 1023) h refl, tt)
+    after_legal NPlusInner r h = (and_from (nat_lt r 8) (nat_le 1 1023) h refl, tt)
+    after_legal Zero r h = tt
+    after_legal Top r h = tt
+    after_legal InnerDown r h = tt
+    after_legal Outer r h = tt
+    after_legal OuterDown r h = tt
+    after_legal DownPlusN r h = tt
+
+    inits_legal : (plan : Plan) → L (inits plan)
+    inits_legal plan = join (init plan.first 3) (init plan.second 4 ++ init plan.third 5)
+        (init_legal plan.first 3 refl) (join (init plan.second 4) (init plan.third 5)
+        (init_legal plan.second 4 refl) (init_legal plan.third 5 refl))
+
+    befores_legal : (plan : Plan) → L (befores plan)
+    befores_legal plan = join (before plan.first 3) (before plan.second 4 ++ before plan.third 5)
+        (before_legal plan.first 3 refl) (join (before plan.second 4) (before plan.third 5)
+        (before_legal plan.second 4 refl) (before_legal plan.third 5 refl))
+
+    afters_legal : (plan : Plan) → L (afters plan)
+    afters_legal plan = join (after plan.first 3) (after plan.second 4 ++ after plan.third 5)
+        (after_legal plan.first 3 refl) (join (after plan.second 4) (after plan.third 5)
+        (after_legal plan.second 4 refl) (after_legal plan.third 5 refl))
+
+    counter_legal : (count : Count) → L (counter count)
+    counter_legal All_of = (refl, tt)
+    counter_legal Rest = (refl, (refl, tt))
+
+    once_legal : (p : Part) → IsFit p → L (once_code p)
+    once_legal p fit = join (inits p.plan) (befores p.plan ++ body_uops p) (inits_legal p.plan)
+        (join (befores p.plan) (body_uops p) (befores_legal p.plan) (fit size))
+
+    loop_legal : (count : Count) (p : Part) (pc : ℕ) → IsFit p
+        → pc + length (loop_code count p pc) ≤ size → L (loop_code count p pc)
+    loop_legal count p pc fit le =
+        let enter = enter_code p.plan count in
+        let turn = turn_code p.plan (body_uops p) in
+        let jump = Bnez 2 (pc + length enter) ∷ [] in
+        let target : pc + length enter < size =
+        omega (arith, le, length-append enter (turn ++ jump), length-append turn jump) in
+        join enter (turn ++ jump) (join (counter count) (inits p.plan) (counter_legal count)
+        (inits_legal p.plan))
+        (join turn jump
+        (join (befores p.plan) (body_uops p ++ (afters p.plan ++ (SubI 2 1 ∷ [])))
+        (befores_legal p.plan) (join (body_uops p) (afters p.plan ++ (SubI 2 1 ∷ [])) (fit size)
+        (join (afters p.plan) (SubI 2 1 ∷ []) (afters_legal p.plan) (refl, tt))))
+        (lt-ltb (pc + length enter) size target, tt))
+
+    inner_legal : (xs : List (InnerOf Part)) (pc : ℕ) → AllInner IsFit xs
+        → pc + length (inner_list xs pc) ≤ size → L (inner_list xs pc)
+    inner_legal [] pc h le = tt
+    inner_legal (Alone p ∷ xs) pc h le =
+        let a = once_code p in
+        let b = inner_list xs (pc + length a) in
+        join a b (once_legal p h.0) (inner_legal xs (pc + length a) h.1
+        (omega (arith, le, length-append a b)))
+    inner_legal (Across count p ∷ xs) pc h le =
+        let a = loop_code count p pc in
+        let b = inner_list xs (pc + length a) in
+        join a b (loop_legal count p pc h.0 (omega (arith, le, length-append a b)))
+        (inner_legal xs (pc + length a) h.1 (omega (arith, le, length-append a b)))
+
+    single_legal : (p : Part) (fixed : Bool) → IsFit p
+        → L (cond fixed (body_uops p) (outside ++ once_code p))
+    single_legal p true fit = fit size
+    single_legal p false fit = (refl, (refl, once_legal p fit))
+
+    step_legal : (s : StepOf Part) (pc : ℕ) → AllStep IsFit s → pc + length (step_code s pc) ≤ size
+        → L (step_code s pc)
+    step_legal (Single p) pc h le = single_legal p (is_fixed p.block) h
+    step_legal (Along p) pc h le =
+        (refl, (refl, loop_legal All_of p (pc + 1 + 1) h (omega (arith, le))))
+    step_legal (Nest []) pc h le = tt
+    step_legal (Nest (x ∷ xs)) pc h le =
+        let q = pc + 1 + 1 + 1 in
+        let a = inner_list (x ∷ xs) q in
+        let post = AddI 0 1 ∷ Bnez 1 (pc + 1 + 1) ∷ [] in
+        let target : pc + 1 + 1 < size = omega (arith, le, length-append a post) in (
+          refl,
+          (
+            refl,
+            (
+              refl,
+              join a post (inner_legal (x ∷ xs) q h (omega (arith, le, length-append a post)))
+                  (refl, (lt-ltb (pc + 1 + 1) size target, tt)),
+            ),
+          ),
+        )
+
+    program_legal : (ss : List (StepOf Part)) (pc : ℕ) → AllParts IsFit ss
+        → pc + length (program_code ss pc) ≤ size → L (program_code ss pc)
+    program_legal [] pc h le = tt
+    program_legal (s ∷ ss) pc h le =
+        let a = step_code s pc in
+        let b = program_code ss (pc + length a) in
+        join a b (step_legal s pc h.0 (omega (arith, le, length-append a b)))
+        (program_legal ss (pc + length a) h.1 (omega (arith, le, length-append a b)))
+
+  pub code_legal : (ss : List (StepOf Part)) → length (program_code ss 0) ≤ 4096
+      → AllParts IsPart ss → AllByRecursion (IsRound (IsSpot head 1) 1)
+      (map block_round (all_rounds 1 ss)) → IsLegalCode head (program_code ss 0 ++ Done ∷ [])
+  code_legal ss short parts rounds =
+      let is = program_code ss 0 in
+      let size : length (is ++ Done ∷ []) ≡ length is + 1 = length-append is (Done ∷ []) in
+      let within : length is < length (is ++ Done ∷ []) = omega (arith, size) in
+      let at : slice_get (is ++ Done ∷ []) (length is) ≡ Some Done =
+      slice_get-get_or (is ++ Done ∷ []) (length is) Done within
+      ∙ ap Some (get_or-append_seam is Done [] Done) in
+      let e : length is ≡ length (is ++ Done ∷ []) - 1 = omega (arith, size) in
+      record {
+        short = omega (arith, size, short);
+        each = both (IsLegalAt (length (is ++ Done ∷ []))) is (Done
+            ∷ []) (program_legal (length (is ++ Done ∷ [])) ss 0 (fit_steps ss parts rounds)
+            (omega (arith, size))) (refl, tt);
+        last = subst (λ k. slice_get (is ++ Done ∷ []) k ≡ Some Done) e at;
+      }

@@ -1,0 +1,4 @@
+-- How many commands the word operations take.
+pub mod Summed
+pub mod Exact
+pub mod Counted

@@ -1,0 +1,405 @@
+-- Each statement of an operation that meets the rules meets them at its names' places.
+use Rattle.std.proofs.Common.{◌≡◌, ℕ, ◌+◌, ◌<◌, Bool, true, false, ◌||◌, cond, List, [], ◌∷◌, ◌++◌}
+use Rattle.std.proofs.Common.{map, Option, Some, None, refl, sym, ap, ◌∙◌, subst, arith, bytes_eq}
+use Rattle.std.proofs.Common.{◌⊎◌, inl, inr, ⊎_elim, append_assoc, append-nil}
+use Rattle.std.specs.Prelude.{is_some, unwrap_or}
+use Rattle.std.specs.Option.{option_to_list}
+use Rattle.std.specs.List.{AllByRecursion}
+use Rattle.op_text.specs.declared.tree.Kind.{Kind}
+use Rattle.op_text.specs.declared.tree.Kind.TheVariants.{Word, Bit}
+use Rattle.op_text.specs.declared.tree.Param.{Param}
+use Rattle.op_text.specs.declared.word_ops.WordOp.{WordOp}
+use Rattle.op_text.specs.Language.{Term, Nought, Unity, Named, Negation, Conjunction, Disjunction}
+use Rattle.op_text.specs.Language.{Parity, Majority, Equation, Block, Statement, Compute, Visit}
+use Rattle.op_text.specs.Language.{Operation}
+use Rattle.op_text.specs.Rules.{is_among, kind_among, is_known, second_of}
+use Rattle.op_text.specs.WordOps.{second_kind, second_gives}
+use Rattle.op_text.specs.Scratch.{param, state_names, word_names, defines, body_defines, kind_of}
+use Rattle.op_text.specs.Scratch.{result_kind, scratch_names}
+use Rattle.op_text.specs.Spelling.{Each, TermMeets}
+use Rattle.op_rules.specs.Meets.{IsNewLet, IsNewOf, IsKnown, Differ, names_of, let_names, used}
+use Rattle.op_rules.specs.Meets.{can_read, LetsRead, Context, behind, OperationMeets}
+use Rattle.op_rules.specs.Meets as rules
+use Rattle.op_rules.specs.Laws.{all_names}
+use Rattle.op_rules.proofs.Names.{is_same, turned, new-left, new-right, new-append}
+use Rattle.op_rules.proofs.Standing.{names-append}
+use Rattle.op_rules.proofs.Few.{scratch_is_small}
+use Rattle.loop_ir.specs.declared.ir.Space.{Space}
+use Rattle.loop_ir.specs.declared.ir.Space.TheVariants.{ScratchBit, ScratchWord}
+use Rattle.loop_ir.specs.declared.names.Slot.{Slot}
+use Rattle.loop_ir.specs.Statements as there
+use Rattle.loop_ir.specs.Statements.{Slots, HasKind, HaveKinds, LetsMeet, AreDistinct, ComputeMeets}
+use Rattle.loop_ir.specs.Statements.{BlockMeets, IsPlaced, holds_kind, targets_of, block_reads}
+use Rattle.loop_ir.specs.Statements.{read_names, written_names, statement_names}
+use Rattle.uprog_gen.specs.Layout.{IsLayout}
+use Rattle.uprog_gen.proofs.Naming.Lays.{lay}
+use Rattle.uprog_gen.proofs.Naming.Lies.{LiesIn}
+use Rattle.uprog_gen.proofs.Naming.Among.{or_split, or_left, or_right, each_among, among_left}
+use Rattle.uprog_gen.proofs.Naming.Among.{among_right}
+use Rattle.uprog_gen.proofs.Naming.Among.{among_split}
+use Rattle.uprog_gen.proofs.Naming.Scene.{known_among, slot_none, slot_lies, slots_apart}
+use Rattle.uprog_gen.proofs.Naming.Stage.{Stage, word_other, written_unknown, written_defined}
+use Rattle.uprog_gen.proofs.Naming.Stage.{state_kind}
+use Rattle.uprog_gen.proofs.Naming.Stage.{word_kind, block_stand, lets_stay, bits_need, words_need}
+use Rattle.uprog_gen.proofs.Naming.Stage.{known_slot, defined_slot, written_slot, read_slot}
+use Rattle.uprog_gen.proofs.Naming.Stage.{written_own}
+
+tested : (b : Bool) → (b ≡ true) ⊎ (b ≡ false)
+tested true = inl refl
+tested false = inr refl
+
+-- a place holds values of its kind
+lies_holds : (op : Operation) (name : List ℕ) (x : Slot) → LiesIn op (lay name x)
+    → holds_kind x.space x.kind ≡ true
+lies_holds op name x (inl h) = subst (λ (s : Space). holds_kind s x.kind ≡ true) (sym h.0) refl
+lies_holds op name x (inr (inl h)) = subst (λ (s : Space). holds_kind s x.kind
+    ≡ true) (sym h.0) refl
+lies_holds op name x (inr (inr (inl h))) = subst (λ (s : Space). holds_kind s x.kind
+    ≡ true) (sym h.0) (subst (λ (k : Kind). holds_kind ScratchBit k ≡ true) (sym h.1) refl)
+lies_holds op name x (inr (inr (inr h))) = subst (λ (s : Space). holds_kind s x.kind
+    ≡ true) (sym h.0) (subst (λ (k : Kind). holds_kind ScratchWord k ≡ true) (sym h.1) refl)
+
+lies_bit : (op : Operation) (name : List ℕ) (x : Slot) → LiesIn op (lay name x)
+    → x.space ≡ ScratchBit → x.which < scratch_names Bit op
+lies_bit op name x (inl h) e = absurd (cc (h.0, e))
+lies_bit op name x (inr (inl h)) e = absurd (cc (h.0, e))
+lies_bit op name x (inr (inr (inl h))) e = h.3
+lies_bit op name x (inr (inr (inr h))) e = absurd (cc (h.0, e))
+
+lies_word : (op : Operation) (name : List ℕ) (x : Slot) → LiesIn op (lay name x)
+    → x.space ≡ ScratchWord → x.which < scratch_names Word op
+lies_word op name x (inl h) e = absurd (cc (h.0, e))
+lies_word op name x (inr (inl h)) e = absurd (cc (h.0, e))
+lies_word op name x (inr (inr (inl h))) e = absurd (cc (h.0, e))
+lies_word op name x (inr (inr (inr h))) e = h.3
+
+term_more : (r q : List ℕ → Bool) → ((name : List ℕ) → r name ≡ true → q name ≡ true)
+    → (depth : ℕ) (t : Term) → TermMeets r depth t → TermMeets q depth t
+term_more r q f depth Nought h = tt
+term_more r q f depth Unity h = tt
+term_more r q f depth (Named m) h = (h.0, f m h.1)
+term_more r q f depth (Negation a) h = (h.0, term_more r q f (depth + 1) a h.1)
+term_more r q f depth (Conjunction a b) h = (
+  h.0,
+  term_more r q f (depth + 1) a h.1,
+  term_more r q f (depth + 1) b h.2,
+)
+term_more r q f depth (Disjunction a b) h = (
+  h.0,
+  term_more r q f (depth + 1) a h.1,
+  term_more r q f (depth + 1) b h.2,
+)
+term_more r q f depth (Parity a b) h = (
+  h.0,
+  term_more r q f (depth + 1) a h.1,
+  term_more r q f (depth + 1) b h.2,
+)
+term_more r q f depth (Majority a b d) h = (
+  h.0,
+  term_more r q f (depth + 1) a h.1,
+  term_more r q f (depth + 1) b h.2,
+  term_more r q f (depth + 1) d h.3,
+)
+
+values_meet : (r q : List ℕ → Bool) → ((name : List ℕ) → r name ≡ true → q name ≡ true)
+    → (es : List Equation) → Each (λ (e : Equation). TermMeets r 0 e.value) es
+    → AllByRecursion (λ (e : Equation). TermMeets q 0 e.value) es
+values_meet r q f [] h = tt
+values_meet r q f (e ∷ es) h = (term_more r q f 0 e.value h.0, values_meet r q f es h.1)
+
+lets_meet : (known : List Param) (inside : List (List ℕ)) (readable : List ℕ
+    → Bool) (lets assigns : List Equation) → ((name : List ℕ) → can_read known inside name ≡ true
+    → readable name ≡ true)
+    → LetsRead known inside lets
+    → Each (λ (e : Equation). TermMeets (can_read known (inside
+    ++ map (λ (l : Equation). l.name) lets)) 0 e.value) assigns → LetsMeet readable lets assigns
+lets_meet known inside readable [] assigns f h g =
+    values_meet (can_read known inside) readable f assigns
+    (subst (λ (ns : List (List ℕ)). Each (λ (e : Equation). TermMeets (can_read known ns) 0
+    e.value) assigns) (append-nil inside) g)
+lets_meet known inside readable (l ∷ lets) assigns f h g = (
+  term_more (can_read known inside) readable f 0 l.value h.0,
+  lets_meet known (inside ++ l.name ∷ []) (λ name. bytes_eq name l.name || readable name) lets
+      assigns
+      (λ name e.
+      ⊎_elim (λ (k : is_known (kind_among known name) ≡ true). or_right (bytes_eq name l.name)
+      (readable name) (f name (or_left (is_known (kind_among known name)) (is_among inside name)
+      k)))
+      (λ (k : is_among (inside ++ l.name ∷ []) name ≡ true).
+      ⊎_elim (λ (i : is_among inside name ≡ true). or_right (bytes_eq name l.name) (readable name)
+      (f name (or_right (is_known (kind_among known name)) (is_among inside name) i)))
+      (λ (i : is_among (l.name ∷ []) name ≡ true). ⊎_elim
+      (λ (j : bytes_eq l.name name ≡ true). or_left (bytes_eq name l.name) (readable name)
+      (turned name l.name ∙ j)) (λ (j : false ≡ true). absurd (cc))
+      (or_split (bytes_eq l.name name) false i))
+      (among_split inside (l.name ∷ []) name k))
+      (or_split (is_known (kind_among known name)) (is_among (inside ++ l.name ∷ []) name) e))
+      h.1 (subst (λ (ns : List (List ℕ)). Each
+      (λ (e : Equation). TermMeets (can_read known ns) 0 e.value) assigns)
+      (sym (append_assoc inside (l.name ∷ []) (map (λ (l : Equation). l.name) lets))) g),
+)
+
+distinct : (ns : List (List ℕ)) → Differ ns → AreDistinct ns
+distinct [] h = tt
+distinct (n ∷ ns) h = (h.0, distinct ns h.1)
+
+some_slot : (o : Option Slot) (x : Slot) → o ≡ Some x → is_some o ≡ true
+some_slot o x e = ap is_some e
+
+module _ (op : Operation) (meets : OperationMeets op) (slots : Slots) (free_bit free_word : ℕ)
+    (is : IsLayout op slots free_bit free_word) where
+  pub slot_holds : (name : List ℕ) (x : Slot) → slots name ≡ Some x
+      → holds_kind x.space x.kind ≡ true
+  slot_holds name x e = lies_holds op name x (slot_lies op meets slots free_bit free_word is name x
+      e)
+
+  pub slot_bit : (name : List ℕ) (x : Slot) → slots name ≡ Some x → x.space ≡ ScratchBit
+      → x.which < free_bit
+  slot_bit name x e s =
+      omega (
+        arith,
+        lies_bit op name x (slot_lies op meets slots free_bit free_word is name x e) s,
+        is.bits,
+      )
+
+  pub slot_word : (name : List ℕ) (x : Slot) → slots name ≡ Some x → x.space ≡ ScratchWord
+      → x.which < free_word
+  slot_word name x e s =
+      omega (
+        arith,
+        lies_word op name x (slot_lies op meets slots free_bit free_word is name x e) s,
+        is.words,
+      )
+
+  pub has_kind : (name : List ℕ) (k : Kind) → (x : Slot) × (slots name ≡ Some x) × (x.kind ≡ k)
+      → HasKind slots name k
+  has_kind name k h = record {
+    slot = h.0;
+    found = h.1;
+    kind = h.2;
+    space = subst (λ (j : Kind). holds_kind h.0.space j ≡ true) h.2 (slot_holds name h.0 h.1);
+  }
+
+  module _ (c : Context) (s : Statement) (rest : List Statement) (st : Stage op c (s ∷ rest)) where
+    of_known : (name : List ℕ) (k : Kind) → kind_among c.known name ≡ Some k → HasKind slots name k
+    of_known name k h = has_kind name k (known_slot op meets slots free_bit free_word is c s rest st
+        name k h)
+
+    of_new : (name : List ℕ) (k : Kind) → is_among (written_names s) name ≡ true
+        → kind_among (defines c.known s) name ≡ Some k → HasKind slots name k
+    of_new name k w h = has_kind name k (defined_slot op meets slots free_bit free_word is c s rest
+        st name k w h)
+
+    args_have : (args : List (List ℕ)) → Each (IsKnown c.known) args
+        → HaveKinds slots args (map (kind_of c.known) args)
+    args_have [] h = tt
+    args_have (a ∷ args) h = (of_known a (kind_of c.known a) h.0, args_have args h.1)
+
+    -- a name that is known has a place
+    known_some : (name : List ℕ) → is_known (kind_among c.known name) ≡ true
+        → is_some (slots name) ≡ true
+    known_some name h = by (kind_among c.known name) refl h
+      where
+        by : (o : Option Kind) → kind_among c.known name ≡ o → is_known o ≡ true
+            → is_some (slots name) ≡ true
+        by None e k = absurd (cc)
+        by (Some k) e g = let x = known_slot op meets slots free_bit free_word is c s rest st name k
+            e in some_slot (slots name) x.0 x.1
+
+    written_some : (name : List ℕ) → is_among (written_names s) name ≡ true
+        → is_some (slots name) ≡ true
+    written_some name w = let x = written_slot op meets slots free_bit free_word is c s rest st name
+        w in some_slot (slots name) x.0 x.1
+
+    statement_slot : (name : List ℕ) → is_among (statement_names s) name ≡ true
+        → (x : Slot) × (slots name ≡ Some x)
+    statement_slot name h =
+        ⊎_elim (written_slot op meets slots free_bit free_word is c s rest st name)
+        (read_slot op meets slots free_bit free_word is c s rest st name)
+        (among_split (written_names s) (read_names s) name h)
+
+    pub is_placed : IsPlaced slots free_bit free_word s
+    is_placed =
+        let few = scratch_is_small op meets in
+        record {
+          there = λ name h. let x = statement_slot name h in (x.0, x.1, slot_holds name x.0 x.1);
+          differ = λ a b x y ha hb ea eb s' w.
+              is_same a b (slots_apart op meets slots free_bit free_word is a b x y ea eb s' w);
+          own = λ name x w e. written_own op meets slots free_bit free_word is c s rest st name x w
+              e;
+          bit = λ name x h e s'. inl (slot_bit name x e s');
+          word = λ name x h e s'. inl (slot_word name x e s');
+          bits = omega (arith, few.bits, is.bits, bits_need op c s rest st);
+          words = omega (arith, few.words, is.words, words_need op c s rest st);
+        }
+
+    -- what is set is not known
+    unknown : (name : List ℕ) (k : Kind) → is_among (written_names s) name ≡ true
+        → kind_among c.known name ≡ Some k → ⊥
+    unknown name k w h = absurd (cc (
+      known_among c.known name k h,
+      written_unknown c s name st.body.0 w,
+    ))
+
+  module _ (c : Context) (b : Block) (rest : List Statement) (st : Stage op c (Visit b ∷ rest))
+    where
+      -- a let's name has no place
+      let_unplaced : (name : List ℕ) → is_among (let_names b) name ≡ true → slots name ≡ None
+      let_unplaced name h =
+          let m = st.body.0 in
+          let l = each_among (IsNewLet (used c ++ state_names b) c.results) (let_names b) name
+          m.lets
+          h
+          in
+          let more = body_defines (c.known ++ defines c.known (Visit b)) rest in
+          let old : is_among (names_of c.known) name ≡ false =
+          new-left (names_of c.known) c.lets name (new-left (used c) (state_names b) name l.new)
+          in
+          let state : is_among (state_names b) name ≡ false =
+          new-right (used c) (state_names b) name l.new in
+          let word : is_among (word_names b) name ≡ false =
+          ⊎_elim (λ (w : is_among (word_names b) name
+          ≡ true). absurd (cc (
+            h,
+            new-right (used c) (let_names b) name
+                (each_among (IsNewOf (used c ++ let_names b) c.results Word) (word_names b) name
+                m.words
+                w).new,
+          )))
+          (λ (w : is_among (word_names b) name ≡ false). w) (tested (is_among (word_names b) name))
+          in
+          let new : is_among (names_of (defines c.known (Visit b))) name ≡ false =
+          written_defined c.known (Visit b) name
+          ∙ new-append (state_names b) (word_names b) name state word in
+          let later : is_among (names_of more) name ≡ false =
+          lets_stay (behind c (Visit b)) rest name st.body.1
+          (among_right c.lets (let_names b) name h) in
+          let whole : is_among (names_of (all_names op)) name ≡ false =
+          ap (λ ps. is_among (names_of ps) name) st.all
+          ∙ ap (λ l. is_among l name) (names-append c.known (defines c.known (Visit b) ++ more)
+          ∙ ap (λ l. names_of c.known ++ l) (names-append (defines c.known (Visit b)) more))
+          ∙ new-append (names_of c.known) (names_of (defines c.known (Visit b)) ++ names_of more)
+          name
+          old (new-append (names_of (defines c.known (Visit b))) (names_of more) name new later)
+          in
+          slot_none op meets slots free_bit free_word is name whole
+
+      -- what the block can read has a place
+      readable_some : (name : List ℕ) → can_read c.known (state_names b) name ≡ true
+          → is_some (slots name) ≡ true
+      readable_some name h =
+          ⊎_elim (known_some c (Visit b) rest st name) (λ (e : is_among (state_names b) name
+          ≡ true). written_some c (Visit b) rest st name
+          (among_left (state_names b) (word_names b) name e))
+          (or_split (is_known (kind_among c.known name)) (is_among (state_names b) name) h)
+
+      -- and no word that it sets
+      word_unread : (name : List ℕ) → is_among (word_names b) name ≡ true
+          → is_among (block_reads b) name ≡ false
+      word_unread name w =
+          ⊎_elim
+          (λ (r : is_among (block_reads b) name ≡ true).
+          ⊎_elim
+          (λ (k : is_known (kind_among c.known name)
+          ≡ true). absurd (known_clash (kind_among c.known name) refl k))
+          (λ (k : is_among (state_names b) name ≡ true). absurd (cc (k, word_other b name w)))
+          (block_stand c b name st.body.0 r))
+          (λ (r : is_among (block_reads b) name ≡ false). r)
+          (tested (is_among (block_reads b) name))
+        where
+          known_clash : (o : Option Kind) → kind_among c.known name ≡ o → is_known o ≡ true → ⊥
+          known_clash None e k = absurd (cc)
+          known_clash (Some k) e g = unknown c (Visit b) rest st name k
+              (among_right (state_names b) (word_names b) name w) e
+
+      block_meets : BlockMeets slots b
+      block_meets =
+          let m = st.body.0 in
+          record {
+            states = m.few_states;
+            lets = m.few_lets;
+            some = omega (arith, m.has_assigns);
+            assigns = m.few_assigns;
+            weight = m.light;
+            meet = lets_meet c.known (state_names b) (λ name. is_some (slots name)) b.lets b.assigns
+                readable_some m.lets_read m.values_read;
+            unplaced = let_unplaced;
+            states_differ = distinct (state_names b) m.states_differ;
+            lets_differ = distinct (let_names b) m.lets_differ;
+            targets_differ = distinct (targets_of b.assigns) m.targets_differ;
+            bits = λ name h. of_new c (Visit b) rest st name Bit
+                (among_left (state_names b) (word_names b) name h) (state_kind c.known b name h);
+            words = λ name h. of_new c (Visit b) rest st name Word
+                (among_right (state_names b) (word_names b) name h) (word_kind c.known b name h);
+            fresh = word_unread;
+          }
+
+  module _ (c : Context) (target : List ℕ) (second : Option (List ℕ)) (p : WordOp)
+      (args : List (List ℕ)) (rest : List Statement)
+      (st : Stage op c (Compute target second p args ∷ rest)) where
+    target_written : is_among (written_names (Compute target second p args)) target ≡ true
+    target_written = or_left (bytes_eq target target) (is_among (option_to_list second) target)
+        (is_same target target refl)
+
+    target_kind : kind_among (defines c.known (Compute target second p args)) target
+        ≡ Some (result_kind c.known p args)
+    target_kind = ap (λ b. cond b (Some (result_kind c.known p args))
+        (kind_among (second_of second p) target)) (is_same target target refl)
+
+    -- no target is an argument
+    target_fresh : (name : List ℕ)
+        → is_among (written_names (Compute target second p args)) name ≡ true
+        → is_among args name ≡ false
+    target_fresh name w =
+        ⊎_elim (λ (h : is_among args name ≡ true). absurd
+        (unknown c (Compute target second p args) rest st name (kind_of c.known name)
+        w (each_among (IsKnown c.known) args name st.body.0.known h)))
+        (λ (h : is_among args name ≡ false). h) (tested (is_among args name))
+
+    second_written : (x : List ℕ) → second ≡ Some x
+        → is_among (written_names (Compute target second p args)) x ≡ true
+    second_written x e = subst (λ (o : Option (List ℕ)). is_among (target ∷ option_to_list o) x
+        ≡ true) (sym e) (or_right (bytes_eq target x) (is_among (x ∷ []) x)
+        (or_left (bytes_eq x x) false (is_same x x refl)))
+
+    second_given : (x : List ℕ) (k : Kind) → second ≡ Some x → second_kind p ≡ Some k
+        → bytes_eq target x ≡ false
+        → kind_among (defines c.known (Compute target second p args)) x ≡ Some k
+    second_given x k e f other =
+        let r = result_kind c.known p args in
+        subst (λ (o : Option (List ℕ)). kind_among (param target r ∷ second_of o p) x ≡ Some k)
+        (sym e) (ap (λ b. cond b (Some r) (kind_among (second_of (Some x) p) x)) other
+        ∙ ap (λ b. cond b (Some (second_gives p)) None) (is_same x x refl)
+        ∙ ap (λ o. Some (unwrap_or o Word)) f)
+
+    second_meets : (o : Option (List ℕ)) (k : Option Kind) → second ≡ o → second_kind p ≡ k
+        → rules.SecondMeets c target o k → there.SecondMeets slots target args o k
+    second_meets None None e f h = tt
+    second_meets None (Some k) e f h = absurd h
+    second_meets (Some x) None e f h = absurd h
+    second_meets (Some x) (Some k) e f h =
+        let w = second_written x e in
+        record {
+          gives = of_new c (Compute target second p args) rest st x k w
+              (second_given x k e f h.other);
+          fresh = target_fresh x w;
+          other = h.other;
+        }
+
+    compute_meets : ComputeMeets slots target second p args
+    compute_meets = record {
+      kinds = map (kind_of c.known) args;
+      kind = result_kind c.known p args;
+      have = args_have c (Compute target second p args) rest st args st.body.0.known;
+      form = st.body.0.takes;
+      gives = of_new c (Compute target second p args) rest st target (result_kind c.known p args)
+          target_written target_kind;
+      fresh = target_fresh target target_written;
+      others = second_meets second (second_kind p) refl refl st.body.0.others;
+    }
+
+  pub statement_meets : (c : Context) (s : Statement) (rest : List Statement)
+      → Stage op c (s ∷ rest) → there.StatementMeets slots s
+  statement_meets c (Compute target second p args) rest st =
+      compute_meets c target second p args rest st
+  statement_meets c (Visit b) rest st = block_meets c b rest st

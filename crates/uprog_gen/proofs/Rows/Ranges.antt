@@ -1,0 +1,76 @@
+-- The commands of a round are in range.
+use Rattle.std.proofs.Common.{◌≡◌, ℕ, ◌+◌, ◌*◌, ◌<◌, true, List, [], ◌∷◌, map, length, refl, arith}
+use Rattle.std.proofs.Common.{Option, Some, None}
+use Rattle.std.specs.Prelude.{slice_get, ◌&&◌}
+use Rattle.std.specs.List.{AllByRecursion, list_all}
+use Rattle.std.proofs.lemmas.Bool.{and_parts, and_from, ltb-true, lt-ltb, eq-eqb}
+use Rattle.op_text.specs.declared.tree.Kind.{Kind}
+use Rattle.op_text.specs.declared.tree.Kind.TheVariants.{Word, Bit}
+use Rattle.uprog_code.specs.Shape.{Shape, results}
+use Rattle.uprog_code.specs.Machine.{position, in_kind, in_space, in_range, all_in_range}
+use Rattle.row_alloc.specs.declared.body.BodyRef.{BodyRef}
+use Rattle.row_alloc.specs.declared.body.BodyRef.TheVariants as ref
+use Rattle.row_alloc.specs.declared.body.BodyCmd.{BodyCmd}
+use Rattle.row_alloc.specs.declared.body.BodyCmd.TheVariants as cmd
+use Rattle.row_alloc.specs.Legal.{is_ref, is_first_ref, is_second_ref, is_legal_cmd}
+use Rattle.loop_ir.specs.declared.ir.Space.{Space}
+use Rattle.loop_ir.specs.declared.ir.Space.TheVariants.{Result, Source, ScratchBit, ScratchWord}
+use Rattle.loop_ir.specs.Loops.{RoundOf, sub_value}
+use Rattle.loop_ir.specs.Spots.{nth_place, spot_in}
+use Rattle.uprog_gen.specs.Where.{IsSpot, IsBelow}
+use Rattle.uprog_gen.specs.Code.{Part, row_space, round_ref, round_command}
+use Rattle.loop_ir.specs.Limits.{IsRound}
+use Rattle.uprog_gen.proofs.Rows.Rounds.{block_round}
+use Rattle.uprog_gen.specs.Parts.{IsPart}
+
+below_kind : (k : Option Kind) (n i : ℕ) → IsBelow k n i → in_kind k n i ≡ true
+below_kind None n i h = absurd h
+below_kind (Some Word) n i h = lt-ltb i n h
+below_kind (Some Bit) n i h = eq-eqb i 0 (omega (arith, h))
+
+module _ (head : Shape) (n : ℕ) where
+  space_range : (s : Space) (w v : ℕ) → IsSpot head n (spot_in n s w v)
+      → in_space head n (row_space s) w (position (row_space s) v) ≡ true
+  space_range Result w v h = below_kind (slice_get (results head) w) n v h
+  space_range Source w v h = below_kind (slice_get head.sources w) n v h
+  space_range ScratchBit w v h = refl
+  space_range ScratchWord w v h = lt-ltb (w * n + v) (n * head.words) h.1
+
+  module _ (r : RoundOf Part) (is : IsRound (IsSpot head n) n (block_round r))
+      (part : IsPart r.part) where
+    ref_range : (x : BodyRef) → is_ref r.part.block.graph.inputs (length r.part.outs) x ≡ true
+        → in_range head n (round_ref n r x) ≡ true
+    ref_range (ref.B k) h = refl
+    ref_range (ref.C k) h = refl
+    ref_range (ref.Spill k) h = refl
+    ref_range (ref.In k) h =
+        let lk : k < r.part.block.graph.inputs = ltb-true k r.part.block.graph.inputs h in
+        let p = nth_place r.part.block.reads k in
+        space_range p.space p.which (sub_value n r.i r.o p.sub)
+        (is.reads k (omega (arith, lk, part.well.reads)))
+    ref_range (ref.Out k) h =
+        let lk : k < length r.part.outs = ltb-true k (length r.part.outs) h in
+        let p = nth_place r.part.block.writes k in
+        space_range p.space p.which (sub_value n r.i r.o p.sub)
+        (is.writes k (omega (arith, lk, part.outs.size, part.well.writes)))
+
+    command_range : (c : BodyCmd) → is_legal_cmd r.part.block.graph.inputs (length r.part.outs) c
+        ≡ true → all_in_range head n (round_command n r c) ≡ true
+    command_range (cmd.Aap x y) h =
+        let i = r.part.block.graph.inputs in
+        let o = length r.part.outs in
+        let a = and_parts (is_ref i o x && is_first_ref x) (is_ref i o y && is_second_ref y) h in
+        and_from (in_range head n (round_ref n r x)) (in_range head n (round_ref n r y))
+        (ref_range x (and_parts (is_ref i o x) (is_first_ref x) a.0).0)
+        (ref_range y (and_parts (is_ref i o y) (is_second_ref y) a.1).0)
+    command_range (cmd.Ap x) h = let i = r.part.block.graph.inputs in let o = length r.part.outs in
+        ref_range x (and_parts (is_ref i o x) (is_first_ref x) h).0
+
+    pub commands_range : (cs : List BodyCmd)
+        → list_all (is_legal_cmd r.part.block.graph.inputs (length r.part.outs)) cs ≡ true
+        → AllByRecursion (λ c. all_in_range head n c ≡ true) (map (round_command n r) cs)
+    commands_range [] h = tt
+    commands_range (c ∷ cs) h =
+        let a = and_parts (is_legal_cmd r.part.block.graph.inputs (length r.part.outs) c)
+        (list_all (is_legal_cmd r.part.block.graph.inputs (length r.part.outs)) cs) h in
+        (command_range c a.0, commands_range cs a.1)

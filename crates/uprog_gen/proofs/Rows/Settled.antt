@@ -1,0 +1,153 @@
+-- Where bodies are settled, so are the numbers of all commands.
+use Rattle.std.proofs.Common.{◌≡◌, ℕ, ◌+◌, Bool, true, false, cond, List, [], ◌∷◌}
+use Rattle.std.proofs.Common.{map, length, refl, sym, ap, ◌∙◌, subst, arith, Option, Some}
+use Rattle.std.proofs.Common.{None}
+use Rattle.std.specs.Prelude.{count_by, sum_by}
+use Rattle.std.specs.List.{AllByRecursion}
+use Rattle.std.proofs.lemmas.List.Sums.{sum_by-cons, sum_by-append}
+use Rattle.uprog_code.specs.Machine.{Issue}
+use Rattle.uprog_code.specs.Count.{is_twice, is_once}
+use Rattle.row_alloc.specs.declared.body.BodyRef.{BodyRef}
+use Rattle.row_alloc.specs.declared.body.BodyCmd.{BodyCmd}
+use Rattle.row_alloc.specs.declared.body.BodyCmd.TheVariants.{Aap, Ap}
+use Rattle.row_alloc.specs.declared.body.OutRow.{OutRow}
+use Rattle.row_alloc.specs.Known.{WordBody, Inverted, Shifted, Both, Either, Without}
+use Rattle.row_alloc.specs.Known.{Unlike, Chosen, Compared, Agreed, Added, Lessened, TurnedBy}
+use Rattle.row_alloc.specs.Known.{Multiplied, Counted, Divided, inputs_in, nodes_in, outs_in}
+use Rattle.row_alloc.proofs.First.{KeepsInputs, word_late}
+use Rattle.loop_ir.specs.Plain.{Block, InnerOf, StepOf, inner_map, step_map, AllInner, AllStep}
+use Rattle.loop_ir.specs.Plain.{AllParts}
+use Rattle.loop_ir.specs.Plain.InnerOf.{Alone, Across}
+use Rattle.loop_ir.specs.Plain.StepOf.{Single, Along, Nest}
+use Rattle.loop_ir.specs.Loops.{RoundOf}
+use Rattle.loop_ir.specs.Costs.{is_copy}
+use Rattle.uprog_gen.specs.Code.{Part, block_of_part, blocks, round_command, rounds_commands}
+use Rattle.uprog_gen.specs.Parts.{IsPart, IsOuts}
+use Rattle.uprog_gen.specs.Settled.{is_aap, is_ap, is_word_body, word_among, word_of, word_commands}
+use Rattle.uprog_gen.specs.Settled.{turn_count, turn_aaps, turn_aps, KeepsReads, IsSettledAs}
+use Rattle.uprog_gen.specs.Settled.{IsSettled}
+use Rattle.uprog_gen.proofs.Bodies.Fixed.{body_is}
+use Rattle.uprog_gen.proofs.Rows.Rounds.{block_round}
+
+-- the body that is found is the body
+found_word : (ws : List WordBody) (b : Block) (w : WordBody) → word_among ws b ≡ Some w
+    → is_word_body w b ≡ true
+found_word [] b w e = absurd cc
+found_word (v ∷ ws) b w e = by (is_word_body v b) refl e (found_word ws b w)
+  where
+    by : (c : Bool) → is_word_body v b ≡ c → cond c (Some v) (word_among ws b) ≡ Some w
+        → (word_among ws b ≡ Some w → is_word_body w b ≡ true) → is_word_body w b ≡ true
+    by true t f more = let s : v ≡ w = cc in subst (λ x. is_word_body x b ≡ true) s t
+    by false t f more = more f
+
+-- outputs that stand where the writes say leave the reads alone
+kept : (b : Block) (outs : List OutRow) (w : WordBody) → IsOuts b (length b.outs) outs
+    → b.outs ≡ outs_in w → KeepsReads w b → KeepsInputs w outs
+kept b outs Shifted is e k = λ s. k (is.found 0 0 (omega (arith, is.size, ap length e)) s).1
+kept b outs Multiplied is e k = λ s. k (is.found 1 0 (omega (arith, is.size, ap length e)) s).1
+kept b outs Inverted is e k = tt
+kept b outs Both is e k = tt
+kept b outs Either is e k = tt
+kept b outs Without is e k = tt
+kept b outs Unlike is e k = tt
+kept b outs Chosen is e k = tt
+kept b outs Compared is e k = tt
+kept b outs Agreed is e k = tt
+kept b outs Added is e k = tt
+kept b outs Lessened is e k = tt
+kept b outs TurnedBy is e k = tt
+kept b outs Counted is e k = tt
+kept b outs Divided is e k = tt
+
+-- a settled part's commands
+part_count : (f : BodyCmd → Bool) (one : ℕ) → ((x y : BodyRef) → count_by f (Aap x y ∷ []) ≡ one)
+    → (p : Part) → IsPart p → IsSettled p.block → count_by f p.cmds ≡ turn_count f one p.block
+part_count f one copies p is settled = by (is_copy p.block) refl (word_of p.block) refl settled
+  where
+    by : (c : Bool) → is_copy p.block ≡ c → (o : Option WordBody) → word_of p.block ≡ o
+        → IsSettledAs c o p.block
+        → count_by f p.cmds ≡ cond c one (count_by f (word_commands o))
+    by true e o g s = let h = is.copy e in ap (count_by f) h.2 ∙ copies h.0 h.1
+    by false e None g s = absurd s
+    by false e (Some w) g s =
+        let h = body_is (inputs_in w) (nodes_in w) (outs_in w) p.block
+        (found_word (Inverted ∷ Shifted ∷ Both ∷ Either ∷ Without ∷ Unlike ∷ Chosen ∷ Compared
+        ∷ Agreed ∷ Added ∷ Lessened ∷ TurnedBy ∷ Multiplied ∷ Counted ∷ Divided ∷ []) p.block w
+        g) in
+        ap (count_by f) (is.word w h.0 h.1
+        (word_late w p.outs (kept p.block p.outs w is.outs h.1 s)))
+
+-- what holds of the bodies holds of the parts
+inner_parts : (P : Block → Type 0) (xs : List (InnerOf Part))
+    → AllInner P (map (inner_map block_of_part) xs) → AllInner (λ p. P p.block) xs
+inner_parts P [] h = tt
+inner_parts P (Alone p ∷ xs) h = (h.0, inner_parts P xs h.1)
+inner_parts P (Across c p ∷ xs) h = (h.0, inner_parts P xs h.1)
+
+step_parts : (P : Block → Type 0) (s : StepOf Part) → AllStep P (step_map block_of_part s)
+    → AllStep (λ p. P p.block) s
+step_parts P (Single p) h = h
+step_parts P (Along p) h = h
+step_parts P (Nest xs) h = inner_parts P xs h
+
+pub of_blocks : (P : Block → Type 0) (ss : List (StepOf Part)) → AllParts P (blocks ss)
+    → AllParts (λ p. P p.block) ss
+of_blocks P [] h = tt
+of_blocks P (s ∷ ss) h = (step_parts P s h.0, of_blocks P ss h.1)
+
+-- commands in a round
+twice_same : (n : ℕ) (r : RoundOf Part) (cmds : List BodyCmd)
+    → count_by is_twice (map (round_command n r) cmds) ≡ count_by is_aap cmds
+twice_same n r [] = refl
+twice_same n r (Aap x y ∷ cmds) =
+    let e = twice_same n r cmds in
+    sum_by-cons (λ (i : Issue). cond (is_twice i) 1 0) (round_command n r (Aap x y))
+    (map (round_command n r) cmds) ∙ ap (λ k. 1 + k) e
+    ∙ sym (sum_by-cons (λ (c : BodyCmd). cond (is_aap c) 1 0) (Aap x y) cmds)
+twice_same n r (Ap x ∷ cmds) =
+    let e = twice_same n r cmds in
+    sum_by-cons (λ (i : Issue). cond (is_twice i) 1 0) (round_command n r (Ap x))
+    (map (round_command n r) cmds) ∙ ap (λ k. 0 + k) e
+    ∙ sym (sum_by-cons (λ (c : BodyCmd). cond (is_aap c) 1 0) (Ap x) cmds)
+
+once_same : (n : ℕ) (r : RoundOf Part) (cmds : List BodyCmd)
+    → count_by is_once (map (round_command n r) cmds) ≡ count_by is_ap cmds
+once_same n r [] = refl
+once_same n r (Aap x y ∷ cmds) =
+    let e = once_same n r cmds in
+    sum_by-cons (λ (i : Issue). cond (is_once i) 1 0) (round_command n r (Aap x y))
+    (map (round_command n r) cmds) ∙ ap (λ k. 0 + k) e
+    ∙ sym (sum_by-cons (λ (c : BodyCmd). cond (is_ap c) 1 0) (Aap x y) cmds)
+once_same n r (Ap x ∷ cmds) =
+    let e = once_same n r cmds in
+    sum_by-cons (λ (i : Issue). cond (is_once i) 1 0) (round_command n r (Ap x))
+    (map (round_command n r) cmds) ∙ ap (λ k. 1 + k) e
+    ∙ sym (sum_by-cons (λ (c : BodyCmd). cond (is_ap c) 1 0) (Ap x) cmds)
+
+pub all_aaps : (n : ℕ) (rs : List (RoundOf Part)) → AllByRecursion (λ r. IsPart r.part) rs
+    → AllByRecursion (λ r. IsSettled r.part.block) rs
+    → count_by is_twice (rounds_commands n rs)
+    ≡ sum_by (λ (r : RoundOf Block). turn_aaps r.part) (map block_round rs)
+all_aaps n [] h k = refl
+all_aaps n (r ∷ rs) h k =
+    sum_by-append (λ (i : Issue). cond (is_twice i) 1 0) (map (round_command n r) r.part.cmds)
+    (rounds_commands n rs)
+    ∙ ap (λ m. m + count_by is_twice (rounds_commands n rs)) (twice_same n r r.part.cmds
+    ∙ part_count is_aap 1 (λ x y. refl) r.part h.0 k.0)
+    ∙ ap (λ m. turn_aaps r.part.block + m) (all_aaps n rs h.1 k.1)
+    ∙ sym (sum_by-cons (λ (r : RoundOf Block). turn_aaps r.part) (block_round r)
+    (map block_round rs))
+
+pub all_aps : (n : ℕ) (rs : List (RoundOf Part)) → AllByRecursion (λ r. IsPart r.part) rs
+    → AllByRecursion (λ r. IsSettled r.part.block) rs
+    → count_by is_once (rounds_commands n rs)
+    ≡ sum_by (λ (r : RoundOf Block). turn_aps r.part) (map block_round rs)
+all_aps n [] h k = refl
+all_aps n (r ∷ rs) h k =
+    sum_by-append (λ (i : Issue). cond (is_once i) 1 0) (map (round_command n r) r.part.cmds)
+    (rounds_commands n rs)
+    ∙ ap (λ m. m + count_by is_once (rounds_commands n rs)) (once_same n r r.part.cmds
+    ∙ part_count is_ap 0 (λ x y. refl) r.part h.0 k.0)
+    ∙ ap (λ m. turn_aps r.part.block + m) (all_aps n rs h.1 k.1)
+    ∙ sym (sum_by-cons (λ (r : RoundOf Block). turn_aps r.part) (block_round r)
+    (map block_round rs))

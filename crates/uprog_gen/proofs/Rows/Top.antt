@@ -1,0 +1,229 @@
+-- The code of a loop program does to every column what its rounds do to the named rows.
+use Rattle.std.proofs.Common.{◌≡◌, ℕ, zero, suc, ◌+◌, ◌-◌, ◌<◌, ◌≤◌, List, [], ◌∷◌, ◌++◌, map}
+use Rattle.std.proofs.Common.{length, refl, sym, ap, ◌∙◌, subst, ⊎_elim, arith, inl, inr}
+use Rattle.std.proofs.Common.{length-append}
+use Rattle.std.specs.List.{AllByRecursion}
+use Rattle.std.proofs.lemmas.List.{map-append, length-map}
+use Rattle.std.proofs.lemmas.List.Sums.{sum_by-cons}
+use Rattle.dram_model.specs.declared.address.Cell.TheVariants.{D}
+use Rattle.dram_model.specs.Column.{Column, run}
+use Rattle.uprog_code.specs.declared.code.Uop.{Uop}
+use Rattle.uprog_code.specs.declared.code.Uop.TheVariants.{Done}
+use Rattle.uprog_code.specs.Shape.{Shape, results}
+use Rattle.uprog_code.specs.declared.walker.Counts.{Counts}
+use Rattle.uprog_code.specs.Count.{counts_of}
+use Rattle.uprog_code.specs.Bound.{Bound, bound}
+use Rattle.uprog_code.specs.Machine.{Issue, Ended, trace, HasEnded, issues_of}
+use Rattle.loop_ir.specs.Loops.{rounds, RoundOf, round_at, one_round, positions, inner_rounds}
+use Rattle.loop_ir.specs.Loops.{step_rounds, all_rounds}
+use Rattle.uprog_code.specs.Fits.{Fits, IsTouched}
+use Rattle.loop_ir.specs.declared.ir.Space.{Space}
+use Rattle.loop_ir.specs.declared.ir.Space.TheVariants.{Result, Source, ScratchBit, ScratchWord}
+use Rattle.loop_ir.specs.Plain.{Block, InnerOf, StepOf, inner_map, step_map, AllInner, AllStep}
+use Rattle.loop_ir.specs.Plain.{AllParts}
+use Rattle.loop_ir.specs.Plain.InnerOf.{Alone, Across}
+use Rattle.loop_ir.specs.Plain.StepOf.{Single, Along, Nest}
+use Rattle.loop_ir.specs.Spots.{Spot, IsOwn, after_rounds}
+use Rattle.uprog_gen.specs.Where.{spot_row, row_in, IsSpot, IsIn, Agree, spots_in}
+use Rattle.uprog_gen.specs.Code.{Part, block_of_part, blocks, round_command, rounds_commands}
+use Rattle.uprog_gen.specs.Code.{program_code}
+use Rattle.loop_ir.specs.Limits.{IsRound}
+use Rattle.uprog_gen.proofs.Rows.Rounds.{block_round}
+use Rattle.uprog_gen.specs.Parts.{IsPart}
+use Rattle.loop_ir.specs.Costs.{turn_cost, rounds_cost}
+use Rattle.uprog_gen.specs.Settled.{IsSettled, rounds_counts}
+use Rattle.uprog_gen.specs.Does.{DoesRounds}
+use Rattle.uprog_gen.proofs.Rows.Settled.{of_blocks, all_aaps, all_aps}
+use Rattle.uprog_gen.proofs.Rows.Agree.{AreRounds, IsMine, rounds_agree, rounds_keep}
+use Rattle.uprog_gen.proofs.Rows.Laid.{laid, value_among, bit_among, word_among}
+use Rattle.uprog_gen.proofs.Rows.Ranges.{commands_range}
+use Rattle.uprog_gen.proofs.Running.Program.{IsGood, program_trace}
+use Rattle.bit_rows.specs.declared.TheConstants.{WIDTH_MAX}
+
+map_rounds : {A B : Type 0} (g : A → B) (f : ℕ → List A) (i count : ℕ)
+    → map g (rounds f i count) ≡ rounds (λ j. map g (f j)) i count
+map_rounds g f i zero = refl
+map_rounds g f i (suc count) = map-append g (f i) (rounds f (i + 1) count)
+    ∙ ap (λ l. map g (f i) ++ l) (map_rounds g f (i + 1) count)
+
+rounds_same : {A : Type 0} (f h : ℕ → List A) → ((j : ℕ) → f j ≡ h j) → (i count : ℕ)
+    → rounds f i count ≡ rounds h i count
+rounds_same f h e i zero = refl
+rounds_same f h e i (suc count) = ap (λ l. l ++ rounds f (i + 1) count) (e i)
+    ∙ ap (λ l. h i ++ l) (rounds_same f h e (i + 1) count)
+
+inner_blocks : (n o : ℕ) (xs : List (InnerOf Part))
+    → inner_rounds n o (map (inner_map block_of_part) xs) ≡ map block_round (inner_rounds n o xs)
+inner_blocks n o [] = refl
+inner_blocks n o (Alone p ∷ xs) = ap (λ l. round_at p.block 0 o ∷ l) (inner_blocks n o xs)
+inner_blocks n o (Across count p ∷ xs) =
+    let rs : List (RoundOf Part) = rounds (λ i. one_round p i o) 0 (positions n o count) in
+    ap (λ l. rounds (λ i. one_round p.block i o) 0 (positions n o count) ++ l) (inner_blocks n o xs)
+    ∙ ap (λ l. l ++ map block_round (inner_rounds n o xs))
+    (sym (map_rounds block_round (λ i. one_round p i o) 0 (positions n o count)))
+    ∙ sym (map-append block_round rs (inner_rounds n o xs))
+
+step_blocks : (n : ℕ) (s : StepOf Part) → step_rounds n (step_map block_of_part s)
+    ≡ map block_round (step_rounds n s)
+step_blocks n (Single p) = refl
+step_blocks n (Along p) = sym (map_rounds block_round (λ i. one_round p i 0) 0 n)
+step_blocks n (Nest parts) =
+    rounds_same (λ o. inner_rounds n o (map (inner_map block_of_part) parts)) (λ o.
+    map block_round (inner_rounds n o parts)) (λ o. inner_blocks n o parts) 0 n
+    ∙ sym (map_rounds block_round (λ o. inner_rounds n o parts) 0 n)
+
+pub all_blocks : (n : ℕ) (ss : List (StepOf Part))
+    → all_rounds n (blocks ss) ≡ map block_round (all_rounds n ss)
+all_blocks n [] = refl
+all_blocks n (s ∷ ss) =
+    ap (λ l. l ++ all_rounds n (blocks ss)) (step_blocks n s)
+    ∙ ap (λ l. map block_round (step_rounds n s) ++ l) (all_blocks n ss)
+    ∙ sym (map-append block_round (step_rounds n s) (all_rounds n ss))
+
+-- what holds of every part holds in every round
+all_both : {X : Type 0} (P : X → Type 0) (xs ys : List X) → AllByRecursion P xs
+    → AllByRecursion P ys → AllByRecursion P (xs ++ ys)
+all_both P [] ys h k = k
+all_both P (x ∷ xs) ys h k = (h.0, all_both P xs ys h.1 k)
+
+all_rounds_of : {X : Type 0} (P : X → Type 0) (f : ℕ → List X) → ((j : ℕ) → AllByRecursion P (f j))
+    → (i count : ℕ) → AllByRecursion P (rounds f i count)
+all_rounds_of P f h i zero = tt
+all_rounds_of P f h i (suc count) = all_both P (f i) (rounds f (i + 1) count) (h i)
+    (all_rounds_of P f h (i + 1) count)
+
+module _ (P : Part → Type 0) where
+  abbrev In : RoundOf Part → Type 0
+  In r = P r.part
+
+  inner_parts : (n o : ℕ) (xs : List (InnerOf Part)) → AllInner P xs
+      → AllByRecursion In (inner_rounds n o xs)
+  inner_parts n o [] h = tt
+  inner_parts n o (Alone p ∷ xs) h = (h.0, inner_parts n o xs h.1)
+  inner_parts n o (Across count p ∷ xs) h = all_both In
+      (rounds (λ i. one_round p i o) 0 (positions n o count)) (inner_rounds n o xs)
+      (all_rounds_of In (λ i. one_round p i o) (λ i. (h.0, tt)) 0 (positions n o count))
+      (inner_parts n o xs h.1)
+
+  step_parts : (n : ℕ) (s : StepOf Part) → AllStep P s → AllByRecursion In (step_rounds n s)
+  step_parts n (Single p) h = (h, tt)
+  step_parts n (Along p) h = all_rounds_of In (λ i. one_round p i 0) (λ i. (h, tt)) 0 n
+  step_parts n (Nest parts) h = all_rounds_of In (λ o. inner_rounds n o parts) (λ o.
+      inner_parts n o parts h) 0 n
+
+  in_rounds : (n : ℕ) (ss : List (StepOf Part)) → AllParts P ss
+      → AllByRecursion In (all_rounds n ss)
+  in_rounds n [] h = tt
+  in_rounds n (s ∷ ss) h = all_both In (step_rounds n s) (all_rounds n ss) (step_parts n s h.0)
+      (in_rounds n ss h.1)
+
+module _ (head : Shape) (n : ℕ) where
+  good : (rs : List (RoundOf Part)) → AllByRecursion (IsRound (IsSpot head n) n)
+      (map block_round rs) → AllByRecursion (λ r. IsPart r.part) rs
+      → AllByRecursion (IsGood head n) rs
+  good [] is part = tt
+  good (r ∷ rs) is part = (
+    record {
+      planned = part.0.planned;
+      ranges =
+          commands_range head n r is.0 part.0 r.part.cmds part.0.does.legal;
+    },
+    good rs is.1 part.1,
+  )
+
+  are : (rows : ℕ) (b : Bound) (fits : Fits rows head n b) (rs : List (RoundOf Part))
+      → AllByRecursion (IsRound (IsSpot head n) n) (map block_round rs)
+      → AllByRecursion (λ r. IsPart r.part) rs
+      → AreRounds rows head n b (laid rows head n b fits) rs
+  are rows b fits [] is part = tt
+  are rows b fits (r ∷ rs) is part = (is.0, part.0, are rows b fits rs is.1 part.1)
+
+  few_commands : (rs : List (RoundOf Part)) → AllByRecursion (λ r. IsPart r.part) rs
+      → length (rounds_commands n rs) ≤ rounds_cost (map block_round rs)
+  few_commands [] part = omega arith
+  few_commands (r ∷ rs) part =
+      omega (
+        arith,
+        length-append (map (round_command n r) r.part.cmds) (rounds_commands n rs),
+        length-map r.part.cmds (round_command n r),
+        part.0.few,
+        few_commands rs part.1,
+        sum_by-cons (λ (q : RoundOf Block). turn_cost q.part) (block_round r)
+            (map block_round rs),
+      )
+
+module _ (rows : ℕ) (head : Shape) (n : ℕ) (b : Bound) (fits : Fits rows head n b) where
+  -- an own row lies in the result or the scratch
+  own_touched : (s : Space) (w i : ℕ) → IsIn head n s w i → IsOwn s
+      → IsTouched rows head n b (row_in head n b s w i)
+  own_touched Result w i p own =
+      inl (value_among rows n (results head) b.results fits.results w i p)
+  own_touched Source w i p own = absurd own
+  own_touched ScratchBit w i p own = inr (inl (bit_among rows head n b fits w p.0))
+  own_touched ScratchWord w i p own = inr (inl (word_among rows head n b fits i p.1))
+
+  mine_touched : (q : ℕ) → IsMine rows head n b (laid rows head n b fits) q
+      → IsTouched rows head n b q
+  mine_touched q m =
+      ⊎_elim
+      (λ (h : (p : Spot) × IsSpot head n p × IsOwn p.space
+      × (q ≡ spot_row head n b p)). subst (IsTouched rows head n b) (sym h.3)
+      (own_touched h.0.space h.0.which h.0.index h.1 h.2))
+      (λ (h : (i : ℕ) × (i < 32) × (q ≡ rows - 32 + i)). inr
+      (inr (omega (arith, h.2), omega (arith, h.1, h.2))))
+      m
+
+abbrev pub counts : ℕ → ℕ → Counts
+counts a b = record { aap = a; ap = b }
+
+pub both_counts : {a b c d : ℕ} → a ≡ c → b ≡ d → counts a b ≡ counts c d
+both_counts e f = rw (e, f) refl
+
+-- what holds of the trace's list holds of the code
+by_trace : (head : Shape) (n : ℕ) (ss : List (StepOf Part)) (code : List Uop) (cs : List Issue)
+    → trace head code n ≡ Ended cs → length cs ≤ rounds_cost (all_rounds n (blocks ss))
+    → (AllParts IsSettled (blocks ss) → counts_of cs ≡ rounds_counts (all_rounds n (blocks ss)))
+    → ((rows : ℕ) (b : Bound) (s : Column) → Fits rows head n b
+    → Agree head n b (after_rounds n (all_rounds n (blocks ss)) (spots_in head n b s))
+    (run (bound rows head n b cs) s))
+    → ((rows : ℕ) (b : Bound) (s : Column) → Fits rows head n b → (q : ℕ)
+    → (IsTouched rows head n b q → ⊥) → run (bound rows head n b cs) s (D q) ≡ s (D q))
+    → DoesRounds head n (blocks ss) code
+by_trace head n ss code cs t few exact agrees keeps =
+    let e : cs ≡ issues_of (trace head code n) = sym (ap issues_of t) in
+    record {
+      ends = subst HasEnded (sym t) tt;
+      few = subst (λ (l : List Issue). length l ≤ rounds_cost (all_rounds n (blocks ss))) e few;
+      exact = λ settled. subst (λ (l : List Issue). counts_of l
+          ≡ rounds_counts (all_rounds n (blocks ss))) e (exact settled);
+      agrees = λ rows b s fits. subst (λ (l : List Issue). Agree head n b
+          (after_rounds n (all_rounds n (blocks ss)) (spots_in head n b s))
+          (run (bound rows head n b l) s)) e (agrees rows b s fits);
+      keeps = λ rows b s fits q out. subst (λ (l : List Issue). run (bound rows head n b l) s (D q)
+          ≡ s (D q)) e (keeps rows b s fits q out);
+    }
+
+pub program_does : (head : Shape) (n : ℕ) (ss : List (StepOf Part)) → 0 < n → n ≤ WIDTH_MAX
+    → length (program_code ss 0) ≤ 4096 → AllParts IsPart ss
+    → AllByRecursion (IsRound (IsSpot head n) n) (all_rounds n (blocks ss))
+    → DoesRounds head n (blocks ss) (program_code ss 0 ++ Done ∷ [])
+program_does head n ss some small short parts is =
+    let rs = all_rounds n ss in
+    let same = all_blocks n ss in
+    let is' = subst (AllByRecursion (IsRound (IsSpot head n) n)) same is in
+    let parts' = in_rounds IsPart n ss parts in
+    let t = program_trace head n ss some small short (good head n rs is' parts') in
+    by_trace head n ss (program_code ss 0 ++ Done ∷ []) (rounds_commands n rs) t
+    (subst (λ (l : List (RoundOf Block)). length (rounds_commands n rs)
+    ≤ rounds_cost l) (sym same) (few_commands head n rs parts'))
+    (λ settled. (let settled' = in_rounds (λ p. IsSettled p.block) n ss
+    (of_blocks IsSettled ss settled) in
+    both_counts (all_aaps n rs parts' settled') (all_aps n rs parts' settled')
+    ∙ ap rounds_counts (sym same)))
+    (λ rows b s fits. subst (λ (l : List (RoundOf Block)). Agree head n b
+    (after_rounds n l (spots_in head n b s))
+    (run (bound rows head n b (rounds_commands n rs)) s)) (sym same)
+    (rounds_agree rows head n b (laid rows head n b fits) rs (spots_in head n b s) s
+    (are head n rows b fits rs is' parts') (λ p h. refl)))
+    (λ rows b s fits q out. rounds_keep rows head n b (laid rows head n b fits) rs s
+    (are head n rows b fits rs is' parts') q (λ m. out (mine_touched rows head n b fits q m)))

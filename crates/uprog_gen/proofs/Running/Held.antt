@@ -1,0 +1,201 @@
+-- The code's rows, with the registers as they stand at a position, are the round's.
+use Rattle.std.proofs.Common.{◌≡◌, ℕ, suc, ◌+◌, Bool, true, false, cond, List, [], ◌∷◌, map, length}
+use Rattle.std.proofs.Common.{Some, refl, sym, ap, ◌∙◌, subst, arith}
+use Rattle.std.specs.Prelude.{slice_get, slice_index, slice_index_or, ◌||◌}
+use Rattle.std.proofs.lemmas.Bool.{eqb-true}
+use Rattle.std.proofs.lemmas.List.{get_or_past}
+use Rattle.std.specs.List.{AllByRecursion}
+use Rattle.uprog_code.specs.Machine.Issue.{Twice, Once}
+use Rattle.uprog_code.specs.declared.code.Uop.{Uop}
+use Rattle.uprog_code.specs.Shape.{Shape}
+use Rattle.uprog_code.specs.declared.walker.Why3.TheVariants.{Index}
+use Rattle.uprog_code.specs.Machine.{Stuck, issue, issued, onto, row_at, all_in_range}
+use Rattle.uprog_gen.proofs.Running.Goes.{HasAt, one}
+use Rattle.row_alloc.specs.declared.body.BodyRef.{BodyRef}
+use Rattle.row_alloc.specs.declared.body.BodyRef.TheVariants as ref
+use Rattle.row_alloc.specs.declared.body.BodyCmd.{BodyCmd}
+use Rattle.row_alloc.specs.declared.body.BodyCmd.TheVariants as cmd
+use Rattle.loop_ir.specs.declared.ir.Sub.{Sub}
+use Rattle.loop_ir.specs.declared.ir.Sub.TheVariants.{Zero, Top, Inner as At_inner, InnerDown}
+use Rattle.loop_ir.specs.declared.ir.Sub.TheVariants.{Outer, OuterDown, Sum, DownSum, DownPlusN}
+use Rattle.loop_ir.specs.declared.ir.Sub.TheVariants.{NPlusInner}
+use Rattle.loop_ir.specs.declared.ir.Space.{Space}
+use Rattle.loop_ir.specs.declared.ir.Space.TheVariants.{Result, Source, ScratchBit, ScratchWord}
+use Rattle.loop_ir.specs.Plain.{Block}
+use Rattle.loop_ir.specs.Loops.{RoundOf, round_at, sub_value}
+use Rattle.loop_ir.specs.Spots.{nth_place}
+use Rattle.uprog_gen.specs.declared.plan.Plan.{Plan}
+use Rattle.uprog_gen.specs.Code.{Part, row_space, place_row, round_ref, round_command, register}
+use Rattle.uprog_gen.specs.Code.{is_planned, IsPlanned, place_ref, code_ref, code_uop}
+use Rattle.loop_ir.specs.Costs.{sub_code, same_sub}
+use Rattle.uprog_gen.proofs.Running.Runs.{Runs, run_then, run_none, run_at, IsAt}
+use Rattle.uprog_gen.proofs.Running.Each.{AtBody}
+
+-- a number's subscript
+sub_at : ℕ → Sub
+sub_at k =
+    slice_index_or (Zero
+    ∷ (Top ∷ (At_inner
+    ∷ (InnerDown ∷ (Outer ∷ (OuterDown ∷ (Sum ∷ (DownSum ∷ (DownPlusN ∷ (NPlusInner ∷ [])))))))))) k
+    Zero
+
+sub_back : (s : Sub) → sub_at (sub_code s) ≡ s
+unfolding sub_at
+sub_back Zero = refl
+sub_back Top = refl
+sub_back At_inner = refl
+sub_back InnerDown = refl
+sub_back Outer = refl
+sub_back OuterDown = refl
+sub_back Sum = refl
+sub_back DownSum = refl
+sub_back DownPlusN = refl
+sub_back NPlusInner = refl
+
+pub same_true : (s t : Sub) → same_sub s t ≡ true → s ≡ t
+same_true s t e = sym (sub_back s) ∙ ap sub_at (eqb-true (sub_code s) (sub_code t) e) ∙ sub_back t
+
+-- the registers hold the subscripts of the body's places
+pub record Names (n : ℕ) (plan : Plan) (b : Block) (i o : ℕ) (regs : List ℕ) : Type 0 where
+  pub reads : (k : ℕ) → slice_index regs (register plan (nth_place b.reads k).sub)
+      ≡ sub_value n i o (nth_place b.reads k).sub
+  pub writes : (k : ℕ) → slice_index regs (register plan (nth_place b.writes k).sub)
+      ≡ sub_value n i o (nth_place b.writes k).sub
+
+module _ (head : Shape) (code : List Uop) (n : ℕ) where
+  at_value : (s : Sub) (i o v : ℕ) → same_sub s Zero ≡ false → same_sub s Outer ≡ false
+      → same_sub s OuterDown ≡ false → IsAt head code n s i o v → v ≡ sub_value n i o s
+  at_value Zero i o v a b c h = cc
+  at_value Outer i o v a b c h = cc
+  at_value OuterDown i o v a b c h = cc
+  at_value Top i o v a b c h = h
+  at_value At_inner i o v a b c h = h
+  at_value InnerDown i o v a b c h = h
+  at_value Sum i o v a b c h = h
+  at_value DownSum i o v a b c h = h
+  at_value DownPlusN i o v a b c h = h
+  at_value NPlusInner i o v a b c h = h
+
+  -- the register of a planned subscript holds its value
+  held : (plan : Plan) (s : Sub) (left i o : ℕ) (regs : List ℕ) → is_planned plan s ≡ true
+      → AtBody head code n plan o left i regs
+      → slice_index regs (register plan s) ≡ sub_value n i o s
+  held plan s left i o regs p g = by_zero (same_sub s Zero) (same_sub s Outer)
+      (same_sub s OuterDown) (same_sub s plan.first) (same_sub s plan.second)
+      (same_sub s plan.third) refl refl refl refl refl refl p
+    where
+      by_zero : (a b c d e f : Bool) → same_sub s Zero ≡ a → same_sub s Outer ≡ b
+          → same_sub s OuterDown ≡ c → same_sub s plan.first ≡ d → same_sub s plan.second ≡ e
+          → same_sub s plan.third ≡ f → (a || (b || (c || (d || (e || f))))) ≡ true
+          → slice_index regs (cond a 8 (cond b 0 (cond c 1 (cond d 3 (cond e 4 (cond f 5 8))))))
+          ≡ sub_value n i o s
+      by_zero true b c d e f ea eb ec ed ee ef h = get_or_past regs 8 0 (omega (arith, g.size))
+          ∙ sym (ap (sub_value n i o) (same_true s Zero ea))
+      by_zero false true c d e f ea eb ec ed ee ef h =
+          g.outer ∙ sym (ap (sub_value n i o) (same_true s Outer eb))
+      by_zero false false true d e f ea eb ec ed ee ef h =
+          g.down ∙ sym (ap (sub_value n i o) (same_true s OuterDown ec))
+      by_zero false false false true e f ea eb ec ed ee ef h =
+          at_value s i o _ ea eb ec (subst (λ u. IsAt head code n u i o (slice_index regs 3))
+          (sym (same_true s plan.first ed)) g.first)
+      by_zero false false false false true f ea eb ec ed ee ef h =
+          at_value s i o _ ea eb ec (subst (λ u. IsAt head code n u i o (slice_index regs 4))
+          (sym (same_true s plan.second ee)) g.second)
+      by_zero false false false false false true ea eb ec ed ee ef h =
+          at_value s i o _ ea eb ec (subst (λ u. IsAt head code n u i o (slice_index regs 5))
+          (sym (same_true s plan.third ef)) g.third)
+      by_zero false false false false false false ea eb ec ed ee ef h = cc
+
+  pub names_at : (plan : Plan) (b : Block) (left i o : ℕ) (regs : List ℕ) → IsPlanned plan b
+      → AtBody head code n plan o left i regs → Names n plan b i o regs
+  names_at plan b left i o regs p g = record {
+    reads = λ k.
+        held plan (nth_place b.reads k).sub left i o regs (p.reads k) g;
+    writes =
+        λ k. held plan (nth_place b.writes k).sub left i o regs (p.writes k) g;
+  }
+
+  -- a body at 0 alone needs no register
+  held_zero : (plan : Plan) (s : Sub) (i o : ℕ) (regs : List ℕ) → length regs ≡ 8 → s ≡ Zero
+      → slice_index regs (register plan s) ≡ sub_value n i o s
+  held_zero plan s i o regs size e = subst (λ u. slice_index regs (register plan u)
+      ≡ sub_value n i o u) (sym e) (get_or_past regs 8 0 (omega (arith, size)))
+
+  pub names_fixed : (plan : Plan) (b : Block) (i o : ℕ) (regs : List ℕ) → length regs ≡ 8
+      → ((k : ℕ) → (nth_place b.reads k).sub ≡ Zero) → ((k : ℕ) → (nth_place b.writes k).sub ≡ Zero)
+      → Names n plan b i o regs
+  names_fixed plan b i o regs size r w = record {
+    reads = λ k.
+        held_zero plan (nth_place b.reads k).sub i o regs size (r k);
+    writes =
+        λ k. held_zero plan (nth_place b.writes k).sub i o regs size (w k);
+  }
+
+  row_is : (s : Space) (w v : ℕ) (plan : Plan) (u : Sub) (i o : ℕ) (regs : List ℕ)
+      → slice_index regs (register plan u) ≡ sub_value n i o u
+      → row_at regs (place_ref plan (record { space = s; which = w; sub = u }))
+      ≡ place_row n i o (record { space = s; which = w; sub = u })
+  row_is Result w v plan u i o regs e = ap (λ x.
+      record { space = row_space Result; which = w; index = x }) e
+  row_is Source w v plan u i o regs e = ap (λ x.
+      record { space = row_space Source; which = w; index = x }) e
+  row_is ScratchBit w v plan u i o regs e = refl
+  row_is ScratchWord w v plan u i o regs e = ap (λ x.
+      record { space = row_space ScratchWord; which = w; index = x }) e
+
+  module _ (p : Part) (plan : Plan) (i o : ℕ) where
+    ref_is : (x : BodyRef) (regs : List ℕ) → Names n plan p.block i o regs
+        → row_at regs (code_ref plan p.block x) ≡ round_ref n (round_at p i o) x
+    ref_is (ref.B k) regs g = refl
+    ref_is (ref.C k) regs g = refl
+    ref_is (ref.Spill k) regs g = refl
+    ref_is (ref.In k) regs g = let q = nth_place p.block.reads k in
+        row_is q.space q.which 0 plan q.sub i o regs (g.reads k)
+    ref_is (ref.Out k) regs g = let q = nth_place p.block.writes k in
+        row_is q.space q.which 0 plan q.sub i o regs (g.writes k)
+
+    goes_command : (c : BodyCmd) (pc : ℕ) (regs : List ℕ) → Names n plan p.block i o regs
+        → slice_get code pc ≡ Some (code_uop plan p.block c)
+        → all_in_range head n (round_command n (round_at p i o) c) ≡ true → (all rest : ℕ)
+        → all ≡ 1 + rest → issue head code n all pc regs
+        ≡ onto (round_command n (round_at p i o) c ∷ []) (issue head code n rest (pc + 1) regs)
+    goes_command (cmd.Aap x y) pc regs g at ok all rest e =
+        let rd : RoundOf Part = round_at p i o in
+        one head code n pc regs (code_uop plan p.block (cmd.Aap x y)) at all rest e
+        ∙ ap (λ r. issued head n (Twice r (row_at regs (code_ref plan p.block y))) pc
+        (issue head code n rest (pc + 1) regs)) (ref_is x regs g)
+        ∙ ap (λ r. issued head n (Twice (round_ref n rd x) r) pc
+        (issue head code n rest (pc + 1) regs)) (ref_is y regs g)
+        ∙ ap (λ t. cond t (onto (Twice (round_ref n rd x) (round_ref n rd y)
+        ∷ []) (issue head code n rest (pc + 1) regs)) (Stuck pc Index)) ok
+    goes_command (cmd.Ap x) pc regs g at ok all rest e =
+        let rd : RoundOf Part = round_at p i o in
+        one head code n pc regs (code_uop plan p.block (cmd.Ap x)) at all rest e
+        ∙ ap (λ r. issued head n (Once r) pc (issue head code n rest (pc + 1) regs))
+        (ref_is x regs g)
+        ∙ ap (λ t. cond t (onto (Once (round_ref n rd x)
+        ∷ []) (issue head code n rest (pc + 1) regs)) (Stuck pc Index)) ok
+
+    -- the body's commands, whatever is known of the registers
+    pub run_body : (I : List ℕ → Type 0) (cs : List BodyCmd) (pc : ℕ) (regs : List ℕ)
+        → Names n plan p.block i o regs → I regs → HasAt code pc (map (code_uop plan p.block) cs)
+        → AllByRecursion (λ c. all_in_range head n c
+        ≡ true) (map (round_command n (round_at p i o)) cs)
+        → Runs head code n pc regs (length (map (code_uop plan p.block) cs))
+        (map (round_command n (round_at p i o)) cs) (pc + length (map (code_uop plan p.block) cs)) I
+    run_body I [] pc regs g h has ok = run_none head code n pc (pc + 0) regs I (omega arith) h
+    run_body I (c ∷ cs) pc regs g h has ok =
+        let len = length (map (code_uop plan p.block) cs) in
+        let e : pc + 1 + len ≡ pc + suc len = omega arith in
+        let K : List ℕ → Type 0 = λ r. Names n plan p.block i o r × I r in
+        run_at head code n pc (pc + 1 + len) (pc + suc len) regs (suc len) _ I e
+        (run_then head code n pc (pc + 1) (pc + 1 + len) 1 len (suc len) regs
+        (round_command n (round_at p i o) c ∷ []) _ K I (omega arith)
+        (record {
+          count = 1;
+          few = omega arith;
+          regs' = regs;
+          known = (g, h);
+          goes = record { by = goes_command c pc regs g has.0 ok.0 };
+        })
+        (λ r k. run_body I cs (pc + 1) r k.0 k.1 has.1 ok.1))
