@@ -8,7 +8,7 @@ use Rattle.uprog_code.specs.declared.code.RowRef.{RowRef}
 use Rattle.uprog_code.specs.declared.code.Uop.{Uop}
 use Rattle.uprog_code.specs.declared.code.Uop.TheVariants.{SetI, SetN, SetT, Mov, Add, SubI, AddI}
 use Rattle.uprog_code.specs.declared.code.Uop.TheVariants.{Bnez, Aap, Ap}
-use Rattle.uprog_code.specs.Machine.{Issue, Twice, Once, position}
+use Rattle.uprog_code.specs.Machine.{Issue, IssueAap, IssueAp, position}
 use Rattle.row_alloc.specs.declared.body.BodyRef.{BodyRef}
 use Rattle.row_alloc.specs.declared.body.BodyRef.TheVariants as ref
 use Rattle.row_alloc.specs.declared.body.BodyCmd.{BodyCmd}
@@ -62,8 +62,8 @@ round_ref n r (ref.Out k) = place_row n r.i r.o (nth_place r.part.block.writes k
 round_ref n r (ref.Spill k) = record { space = row.Spill; which = k; index = 0 }
 
 abbrev pub round_command : ℕ → RoundOf Part → BodyCmd → Issue
-round_command n r (cmd.Aap x y) = Twice (round_ref n r x) (round_ref n r y)
-round_command n r (cmd.Ap x) = Once (round_ref n r x)
+round_command n r (cmd.Aap x y) = IssueAap (round_ref n r x) (round_ref n r y)
+round_command n r (cmd.Ap x) = IssueAp (round_ref n r x)
 
 -- all commands of the rounds
 abbrev pub rounds_commands : ℕ → List (RoundOf Part) → List Issue

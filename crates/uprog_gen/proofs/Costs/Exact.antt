@@ -7,9 +7,9 @@ use Rattle.op_text.specs.declared.tree.Kind.{Kind}
 use Rattle.op_text.specs.declared.tree.Kind.TheVariants.{Word, Bit}
 use Rattle.op_text.specs.declared.word_ops.WordOp.{WordOp}
 use Rattle.op_text.specs.declared.word_ops.WordOp.TheVariants as op
-use Rattle.op_text.specs.declared.word_ops.Shape.{Shape}
-use Rattle.op_text.specs.declared.word_ops.Shape.TheVariants as shape
-use Rattle.op_text.specs.WordOps.{row_of, forms, shape_forms, filled, given_first, first_of}
+use Rattle.op_text.specs.declared.word_ops.Signature.{Signature}
+use Rattle.op_text.specs.declared.word_ops.Signature.TheVariants as shape
+use Rattle.op_text.specs.WordOps.{row_of, forms, signature_forms, filled, given_first, first_of}
 use Rattle.op_text.specs.Meaning.{width}
 use Rattle.op_text.specs.Costs.{op_aaps, op_aps}
 use Rattle.op_text.proofs.Operations.{first_settles}
@@ -119,18 +119,18 @@ first_width n [] = n
 first_width n (k ∷ ks) = width n k
 
 -- a shape whose results are of the kind of its first argument
-abbrev keeps_kind : Shape → Bool
+abbrev keeps_kind : Signature → Bool
 keeps_kind shape.OneOf = true
 keeps_kind shape.TwoOf = true
 keeps_kind shape.Choice = true
 keeps_kind s = false
 
-spreads_is : (p : WordOp) → spreads p ≡ keeps_kind (row_of p).shape
+spreads_is : (p : WordOp) → spreads p ≡ keeps_kind (row_of p).signature
 spreads_is op.Not = refl
 spreads_is p = refl
 
-shape_width : (s : Shape) (ks : List Kind) (k : Kind) (n : ℕ) → filled (shape_forms s) ks ≡ Some k
-    → given_first (shape_forms s) (first_of ks) ≡ k
+shape_width : (s : Signature) (ks : List Kind) (k : Kind) (n : ℕ) → filled (signature_forms s) ks ≡ Some k
+    → given_first (signature_forms s) (first_of ks) ≡ k
     → first_width n ks ≡ cond (keeps_kind s) (width n k) n
 shape_width shape.OneOf [] k n e f = cc
 shape_width shape.TwoOf [] k n e f = cc
@@ -147,5 +147,5 @@ shape_width s (Bit ∷ ks) k n e f = cc
 
 pub width_is : (p : WordOp) (ks : List Kind) (k : Kind) (n : ℕ) → filled (forms p) ks ≡ Some k
     → first_width n ks ≡ op_width p k n
-width_is p ks k n e = shape_width (row_of p).shape ks k n e (first_settles p ks k e)
+width_is p ks k n e = shape_width (row_of p).signature ks k n e (first_settles p ks k e)
     ∙ ap (λ b. cond b (width n k) n) (sym (spreads_is p))

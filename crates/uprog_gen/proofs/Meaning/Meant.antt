@@ -15,7 +15,7 @@ use Rattle.op_text.specs.declared.tree.Param.{Param}
 use Rattle.op_text.specs.Language.{Statement, Compute, Visit, Operation, results, result_names}
 use Rattle.op_text.specs.Rules.{is_among, kind_among}
 use Rattle.op_text.specs.Values as text
-use Rattle.op_text.specs.Meaning.{Held, width, holding, changed, with_sources, holds_nothing}
+use Rattle.op_text.specs.Meaning.{NameValue, width, holding, changed, with_sources, holds_nothing}
 use Rattle.op_text.specs.Meaning.{number, after_op, meaning}
 use Rattle.op_text.specs.Scratch.{defines, body_defines, kind_of, names_width}
 use Rattle.op_text.specs.Costs.{op_ceiling}
@@ -58,7 +58,7 @@ use Rattle.uprog_gen.proofs.Meaning.Numbers.{value_same, bits_of_value}
 use Rattle.uprog_gen.proofs.Meaning.Walked.{HoldsAll, body_holds}
 
 -- the sources' rows hold the sources
-sources_other : (n : ℕ) (names : List ℕ → Held) (ps : List Param) (values : List ℕ) (name : List ℕ)
+sources_other : (n : ℕ) (names : List ℕ → NameValue) (ps : List Param) (values : List ℕ) (name : List ℕ)
     → is_among (names_of ps) name ≡ false → with_sources n names ps values name ≡ names name
 sources_other n names [] values name h = refl
 sources_other n names (p ∷ ps) [] name h = refl
@@ -68,7 +68,7 @@ sources_other n names (p ∷ ps) (v ∷ values) name h =
     ∙ changed_other names p.name name (holding n p.kind v)
     (or_first (bytes_eq p.name name) (is_among (names_of ps) name) h)
 
-changed_same : (names : List ℕ → Held) (name : List ℕ) (v : Held) → changed names name v name ≡ v
+changed_same : (names : List ℕ → NameValue) (name : List ℕ) (v : NameValue) → changed names name v name ≡ v
 changed_same names name v = ap (λ b. cond b v (names name)) (is_same name name refl)
 
 source_held : (n k : ℕ) (j : Kind) (bits : Spots)
@@ -84,7 +84,7 @@ source_held n k j bits =
           ∙ bits_of_value (all (width n j)),
     )
 
-sources_hold : (n k : ℕ) (ps : List Param) (names : List ℕ → Held) (bits : Spots)
+sources_hold : (n k : ℕ) (ps : List Param) (names : List ℕ → NameValue) (bits : Spots)
     → Differ (names_of ps) → (name : List ℕ) (x : Slot) → found (source_lays k ps) name ≡ Some x
     → HoldsAt n (Some x)
     (with_sources n names ps (numbers_in Source n (kinds_of ps) k bits) name) bits
@@ -101,7 +101,7 @@ sources_hold n k (p ∷ ps) names bits d name x e =
     (some_is (slot Source k p.kind) x f)
     (subst (λ (m : List ℕ). HoldsAt n (Some (slot Source k p.kind))
     (with_sources n names' ps rest m) bits) (same_name p.name name s)
-    (subst (λ (h : Held). HoldsAt n (Some (slot Source k p.kind)) h bits)
+    (subst (λ (h : NameValue). HoldsAt n (Some (slot Source k p.kind)) h bits)
     (sym (sources_other n names' ps rest p.name d.0
     ∙ changed_same names p.name (holding n p.kind v))) (source_held n k p.kind bits))))
     (λ s f. sources_hold n (k + 1) ps names' bits d.1 name x f)
@@ -276,7 +276,7 @@ module _ (op : Operation) (meets : OperationMeets op) (slots : Slots) (free_bit 
       (place_in (result_names op) name)))
 
   -- so the last rounds leave the meaning there
-  result_means : (n w : ℕ) (k : Kind) (held : Held) (bits : Spots)
+  result_means : (n w : ℕ) (k : Kind) (held : NameValue) (bits : Spots)
       → HoldsAt n (Some (slot Result w k)) held bits
       → spot_number Result w (shape.width k n) bits ≡ text.value held.bits
   result_means n w k held bits h =
@@ -285,7 +285,7 @@ module _ (op : Operation) (meets : OperationMeets op) (slots : Slots) (free_bit 
       ap (λ u. value (all u)) (sym (width_same k n))
       ∙ sym (value_same (all (width n k))) ∙ ap text.value (sym h.1)
 
-  results_mean : (n w : ℕ) (held : List ℕ → Held) (bits : Spots) (ps : List Param) → AreOwn w ps
+  results_mean : (n w : ℕ) (held : List ℕ → NameValue) (bits : Spots) (ps : List Param) → AreOwn w ps
       → Each (λ (r : Param). HoldsAt n (slots r.name) (held r.name) bits) ps
       → numbers_in Result n (kinds_of ps) w bits ≡ map number (map held (params_names ps))
   unfolding AreOwn

@@ -12,7 +12,7 @@ use Rattle.op_text.specs.declared.tree.Kind.TheVariants.{Word, Bit}
 use Rattle.op_text.specs.declared.tree.Param.{Param}
 use Rattle.op_text.specs.Language.{Statement, Operation}
 use Rattle.op_text.specs.Rules.{is_among}
-use Rattle.op_text.specs.Meaning.{Held, width, after_statement, after_body}
+use Rattle.op_text.specs.Meaning.{NameValue, width, after_statement, after_body}
 use Rattle.op_text.specs.Scratch.{defines, body_defines}
 use Rattle.op_rules.specs.Meets.{names_of, Context, behind, OperationMeets}
 use Rattle.op_rules.proofs.Standing.{names-append}
@@ -78,7 +78,7 @@ same_places n x y v u hx hy lv lu e =
     ∙ ap (λ (t : Space). spot_in n t y.which u) (sym s))
 
 -- the names' rows hold their values
-abbrev pub HoldsAll : ℕ → Slots → (List ℕ → Held) → Spots → List (List ℕ) → Type 0
+abbrev pub HoldsAll : ℕ → Slots → (List ℕ → NameValue) → Spots → List (List ℕ) → Type 0
 HoldsAll n slots held bits names = (name : List ℕ) → is_among names name ≡ true
     → Holds n slots held bits name
 
@@ -154,7 +154,7 @@ module _ (op : Operation) (meets : OperationMeets op) (slots : Slots) (free_bit 
       ∙ ap (λ u. new (slot_spot n x u)) (sym z))
 
   kept_holds : (n : ℕ) (s : Statement) (steps : List (StepOf Block)) (held : List ℕ
-      → Held) (bits : Spots) (name : List ℕ) → Does slots free_bit free_word s n steps
+      → NameValue) (bits : Spots) (name : List ℕ) → Does slots free_bit free_word s n steps
       → is_among (written_names s) name ≡ false → Holds n slots held bits name
       → Holds n slots (after_statement n held s) (after_rounds n (all_rounds n steps) bits) name
   kept_holds n s steps held bits name does out h = by (slots name) refl h
@@ -167,12 +167,12 @@ module _ (op : Operation) (meets : OperationMeets op) (slots : Slots) (free_bit 
       by None e k = absurd k
       by (Some x) e k =
           subst (λ (o : Option Slot). HoldsAt n o (after_statement n held s name) new) (sym e)
-          (subst (λ (w : Held). HoldsAt n (Some x) w new) (sym (statement_other n held s name out))
+          (subst (λ (w : NameValue). HoldsAt n (Some x) w new) (sym (statement_other n held s name out))
           (k.0, k.1 ∙ kept_bits n s steps bits name x does out e))
 
   -- one statement
   step_holds : (c : Context) (s : Statement) (rest : List Statement) → Stage op c (s ∷ rest)
-      → (n : ℕ) (steps : List (StepOf Block)) (held : List ℕ → Held) (bits : Spots)
+      → (n : ℕ) (steps : List (StepOf Block)) (held : List ℕ → NameValue) (bits : Spots)
       → Does slots free_bit free_word s n steps
       → HoldsAll n slots held bits (names_of c.known)
       → HoldsAll n slots (after_statement n held s) (after_rounds n (all_rounds n steps) bits)
@@ -193,7 +193,7 @@ module _ (op : Operation) (meets : OperationMeets op) (slots : Slots) (free_bit 
   -- all statements
   pub body_holds : (rest : List Statement) (c : Context) → Stage op c rest
       → (ps : List (List (StepOf Block))) → AreLowered slots free_bit free_word rest ps → (n : ℕ)
-      → 0 < n → n ≤ WIDTH_MAX → (held : List ℕ → Held) (bits : Spots)
+      → 0 < n → n ≤ WIDTH_MAX → (held : List ℕ → NameValue) (bits : Spots)
       → HoldsAll n slots held bits (names_of c.known)
       → HoldsAll n slots (after_body n rest held) (after_statements n ps bits)
       (names_of (c.known ++ body_defines c.known rest))

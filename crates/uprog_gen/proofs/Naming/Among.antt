@@ -7,7 +7,7 @@ use Rattle.op_text.specs.declared.tree.Kind.{Kind}
 use Rattle.op_text.specs.declared.tree.State.{State}
 use Rattle.op_text.specs.Language.{Equation, Block, Statement, Compute, Visit}
 use Rattle.op_text.specs.Rules.{is_among, kind_among}
-use Rattle.op_text.specs.Meaning.{Held, changed, bit_written, term_bit, bit_read, with_lets}
+use Rattle.op_text.specs.Meaning.{NameValue, changed, bit_written, term_bit, bit_read, with_lets}
 use Rattle.op_text.specs.Meaning.{assigned, visited, positions, with_blanks, with_states}
 use Rattle.op_text.specs.Meaning.{computed, after_statement}
 use Rattle.op_text.specs.Scratch.{param, state_names, word_names}
@@ -99,7 +99,7 @@ pub changed_other : {V : Type 0} (names : List ℕ → V) (m name : List ℕ) (v
 changed_other names m name v h = ap (λ b. cond b v (names name)) (turned name m ∙ h)
 
 assigned_other : (r : List ℕ → Bool) (i : ℕ) (names : List ℕ
-    → Held) (es : List Equation) (name : List ℕ)
+    → NameValue) (es : List Equation) (name : List ℕ)
     → is_among (map (λ (e : Equation). e.name) es) name ≡ false
     → assigned r i names es name ≡ names name
 assigned_other r i names [] name h = refl
@@ -110,14 +110,14 @@ assigned_other r i names (e ∷ es) name h =
     ∙ changed_other names e.name name v (or_first (bytes_eq e.name name)
     (is_among (map (λ (e : Equation). e.name) es) name) h)
 
-visits_other : (b : Block) (ps : List ℕ) (names : List ℕ → Held) (name : List ℕ)
+visits_other : (b : Block) (ps : List ℕ) (names : List ℕ → NameValue) (name : List ℕ)
     → is_among (targets b) name ≡ false → fold (visited b) names ps name ≡ names name
 visits_other b [] names name h = refl
 visits_other b (i ∷ ps) names name h =
     visits_other b ps (visited b names i) name h
     ∙ assigned_other (with_lets (λ n. bit_read i (names n)) b.lets) i names b.assigns name h
 
-blanks_other : (n : ℕ) (names : List ℕ → Held) (es : List Equation) (name : List ℕ)
+blanks_other : (n : ℕ) (names : List ℕ → NameValue) (es : List Equation) (name : List ℕ)
     → is_among (map (λ (e : Equation). e.name) es) name ≡ false
     → with_blanks n names es name ≡ names name
 blanks_other n names [] name h = refl
@@ -128,7 +128,7 @@ blanks_other n names (e ∷ es) name h =
     in
     blanks_other n (changed names e.name _) es name h1 ∙ changed_other names e.name name _ h0
 
-states_other : (names : List ℕ → Held) (ss : List State) (name : List ℕ)
+states_other : (names : List ℕ → NameValue) (ss : List State) (name : List ℕ)
     → is_among (map (λ (s : State). s.name) ss) name ≡ false
     → with_states names ss name ≡ names name
 states_other names [] name h = refl
@@ -150,7 +150,7 @@ no_target b name s w =
     (λ e f. refl)
     refl
 
-pub statement_other : (n : ℕ) (held : List ℕ → Held) (s : Statement) (name : List ℕ)
+pub statement_other : (n : ℕ) (held : List ℕ → NameValue) (s : Statement) (name : List ℕ)
     → is_among (written_names s) name ≡ false → after_statement n held s name ≡ held name
 statement_other n held (Compute target None p args) name h =
     changed_other held target name _ (or_first (bytes_eq target name) false h)

@@ -6,7 +6,7 @@ use Rattle.std.specs.Prelude.{count_by, sum_by}
 use Rattle.std.specs.List.{AllByRecursion}
 use Rattle.std.proofs.lemmas.List.Sums.{sum_by-cons, sum_by-append}
 use Rattle.uprog_code.specs.Machine.{Issue}
-use Rattle.uprog_code.specs.Count.{is_twice, is_once}
+use Rattle.uprog_code.specs.Count.{issues_aap, issues_ap}
 use Rattle.row_alloc.specs.declared.body.BodyRef.{BodyRef}
 use Rattle.row_alloc.specs.declared.body.BodyCmd.{BodyCmd}
 use Rattle.row_alloc.specs.declared.body.BodyCmd.TheVariants.{Aap, Ap}
@@ -97,42 +97,42 @@ of_blocks P (s ∷ ss) h = (step_parts P s h.0, of_blocks P ss h.1)
 
 -- commands in a round
 twice_same : (n : ℕ) (r : RoundOf Part) (cmds : List BodyCmd)
-    → count_by is_twice (map (round_command n r) cmds) ≡ count_by is_aap cmds
+    → count_by issues_aap (map (round_command n r) cmds) ≡ count_by is_aap cmds
 twice_same n r [] = refl
 twice_same n r (Aap x y ∷ cmds) =
     let e = twice_same n r cmds in
-    sum_by-cons (λ (i : Issue). cond (is_twice i) 1 0) (round_command n r (Aap x y))
+    sum_by-cons (λ (i : Issue). cond (issues_aap i) 1 0) (round_command n r (Aap x y))
     (map (round_command n r) cmds) ∙ ap (λ k. 1 + k) e
     ∙ sym (sum_by-cons (λ (c : BodyCmd). cond (is_aap c) 1 0) (Aap x y) cmds)
 twice_same n r (Ap x ∷ cmds) =
     let e = twice_same n r cmds in
-    sum_by-cons (λ (i : Issue). cond (is_twice i) 1 0) (round_command n r (Ap x))
+    sum_by-cons (λ (i : Issue). cond (issues_aap i) 1 0) (round_command n r (Ap x))
     (map (round_command n r) cmds) ∙ ap (λ k. 0 + k) e
     ∙ sym (sum_by-cons (λ (c : BodyCmd). cond (is_aap c) 1 0) (Ap x) cmds)
 
 once_same : (n : ℕ) (r : RoundOf Part) (cmds : List BodyCmd)
-    → count_by is_once (map (round_command n r) cmds) ≡ count_by is_ap cmds
+    → count_by issues_ap (map (round_command n r) cmds) ≡ count_by is_ap cmds
 once_same n r [] = refl
 once_same n r (Aap x y ∷ cmds) =
     let e = once_same n r cmds in
-    sum_by-cons (λ (i : Issue). cond (is_once i) 1 0) (round_command n r (Aap x y))
+    sum_by-cons (λ (i : Issue). cond (issues_ap i) 1 0) (round_command n r (Aap x y))
     (map (round_command n r) cmds) ∙ ap (λ k. 0 + k) e
     ∙ sym (sum_by-cons (λ (c : BodyCmd). cond (is_ap c) 1 0) (Aap x y) cmds)
 once_same n r (Ap x ∷ cmds) =
     let e = once_same n r cmds in
-    sum_by-cons (λ (i : Issue). cond (is_once i) 1 0) (round_command n r (Ap x))
+    sum_by-cons (λ (i : Issue). cond (issues_ap i) 1 0) (round_command n r (Ap x))
     (map (round_command n r) cmds) ∙ ap (λ k. 1 + k) e
     ∙ sym (sum_by-cons (λ (c : BodyCmd). cond (is_ap c) 1 0) (Ap x) cmds)
 
 pub all_aaps : (n : ℕ) (rs : List (RoundOf Part)) → AllByRecursion (λ r. IsPart r.part) rs
     → AllByRecursion (λ r. IsSettled r.part.block) rs
-    → count_by is_twice (rounds_commands n rs)
+    → count_by issues_aap (rounds_commands n rs)
     ≡ sum_by (λ (r : RoundOf Block). turn_aaps r.part) (map block_round rs)
 all_aaps n [] h k = refl
 all_aaps n (r ∷ rs) h k =
-    sum_by-append (λ (i : Issue). cond (is_twice i) 1 0) (map (round_command n r) r.part.cmds)
+    sum_by-append (λ (i : Issue). cond (issues_aap i) 1 0) (map (round_command n r) r.part.cmds)
     (rounds_commands n rs)
-    ∙ ap (λ m. m + count_by is_twice (rounds_commands n rs)) (twice_same n r r.part.cmds
+    ∙ ap (λ m. m + count_by issues_aap (rounds_commands n rs)) (twice_same n r r.part.cmds
     ∙ part_count is_aap 1 (λ x y. refl) r.part h.0 k.0)
     ∙ ap (λ m. turn_aaps r.part.block + m) (all_aaps n rs h.1 k.1)
     ∙ sym (sum_by-cons (λ (r : RoundOf Block). turn_aaps r.part) (block_round r)
@@ -140,13 +140,13 @@ all_aaps n (r ∷ rs) h k =
 
 pub all_aps : (n : ℕ) (rs : List (RoundOf Part)) → AllByRecursion (λ r. IsPart r.part) rs
     → AllByRecursion (λ r. IsSettled r.part.block) rs
-    → count_by is_once (rounds_commands n rs)
+    → count_by issues_ap (rounds_commands n rs)
     ≡ sum_by (λ (r : RoundOf Block). turn_aps r.part) (map block_round rs)
 all_aps n [] h k = refl
 all_aps n (r ∷ rs) h k =
-    sum_by-append (λ (i : Issue). cond (is_once i) 1 0) (map (round_command n r) r.part.cmds)
+    sum_by-append (λ (i : Issue). cond (issues_ap i) 1 0) (map (round_command n r) r.part.cmds)
     (rounds_commands n rs)
-    ∙ ap (λ m. m + count_by is_once (rounds_commands n rs)) (once_same n r r.part.cmds
+    ∙ ap (λ m. m + count_by issues_ap (rounds_commands n rs)) (once_same n r r.part.cmds
     ∙ part_count is_ap 0 (λ x y. refl) r.part h.0 k.0)
     ∙ ap (λ m. turn_aps r.part.block + m) (all_aps n rs h.1 k.1)
     ∙ sym (sum_by-cons (λ (r : RoundOf Block). turn_aps r.part) (block_round r)
