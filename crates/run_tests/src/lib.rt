@@ -1,5 +1,5 @@
-//! Tests of whole runs in memory: operations, jobs worked out by hand, scripts, orders, and calls that
-//! fail.
+//! Tests of whole runs in memory: operations, jobs worked out by hand, scripts, orders, and calls
+//! that fail.
 #![tactic(auto)]
 
 #[cfg(test)]

@@ -29,8 +29,8 @@ abbrev pub counts_after : Turn → Counts → Counts
 counts_after Over c = c
 counts_after On c = c
 counts_after (To t) c = c
-counts_after (Issues (issued.IssueAap x y)) c = record { aap = c.aap + 1; ap = c.ap }
-counts_after (Issues (issued.IssueAp x)) c = record { aap = c.aap; ap = c.ap + 1 }
+counts_after (Issues (issued.Aap x y)) c = record { aap = c.aap + 1; ap = c.ap }
+counts_after (Issues (issued.Ap x)) c = record { aap = c.aap; ap = c.ap + 1 }
 
 -- what a walk answers that has counted so many before the trace
 abbrev pub walked_after : Counts → Trace → Result Counts BadWalk

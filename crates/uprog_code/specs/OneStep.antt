@@ -17,8 +17,8 @@ abbrev pub row_of : RowPosition → RowRef
 row_of p = record { space = p.space; which = p.which; index = p.index }
 
 abbrev pub issue_of : Issued → Issue
-issue_of (issued.IssueAap x y) = IssueAap (row_of x) (row_of y)
-issue_of (issued.IssueAp x) = IssueAp (row_of x)
+issue_of (issued.Aap x y) = IssueAap (row_of x) (row_of y)
+issue_of (issued.Ap x) = IssueAp (row_of x)
 
 -- what follows a step that ended so, from the place where it was and the registers that it left
 abbrev pub turn_trace : Result Turn Why3 → Next → ℕ → List ℕ → Trace
