@@ -10,7 +10,7 @@ use Rattle.op_text.specs.declared.word_ops.WordOp.{WordOp}
 use Rattle.op_text.specs.declared.word_ops.WordOp.TheVariants as op
 use Rattle.op_text.specs.Values.{bits}
 use Rattle.op_text.specs.Scratch.{bits_inside}
-use Rattle.op_text.specs.WordOps.{row_of}
+use Rattle.op_text.specs.WordOps.{number as place_of, row_of}
 use Rattle.op_text.specs.Meaning.{width}
 use Rattle.loop_ir.specs.declared.ir.Sub.TheVariants as sub
 use Rattle.loop_ir.specs.Loops.{all_rounds}
@@ -23,7 +23,7 @@ use Rattle.word_lower.specs.Places.{scratch_bit}
 use Rattle.word_lower.specs.Programs.{target, first, second, third, plain, turned, off, up}
 use Rattle.word_lower.specs.Programs.{constant, moved, inverted, joined, without, unlike, chosen}
 use Rattle.word_lower.specs.Programs.{shifted, added, lessened, turned_by, compared, agreed}
-use Rattle.word_lower.specs.Programs.{is_linear}
+use Rattle.word_lower.specs.Programs.{is_linear, program_at}
 use Rattle.word_lower.proofs.Setting.{bit, number, operation, Slots, rooms_for, steps_for, row}
 use Rattle.word_lower.proofs.Setting.{number_at, AreSlots, Gives, DoesWords, DoesBits}
 use Rattle.word_lower.proofs.Sums.{value_same, value_false, value_pick, compare, same_gives}
@@ -423,6 +423,11 @@ xor_bit_does n m before = bit_does n m before op.Xor
     by true false = refl
     by false true = refl
     by false false = refl
+
+-- a row of the table names its operation
+pub row_is_own : (p : WordOp) → (program_at (place_of p)).0 ≡ p
+row_is_own op.Not = refl
+row_is_own p = refl
 
 abbrev pub DoesIn : WordOp → Kind → ℕ → Slots → Type 0
 DoesIn p c n m = let sh = (row_of p).shape in let k = gives_kind sh c in
