@@ -1,7 +1,7 @@
 //! The loop program of each word operation.
 
 ghost use Rattle.std.specs.Prelude.{◌≡◌};
-ghost use Rattle.word_lower.specs.Programs.{program, program_of};
+ghost use Rattle.word_lower.specs.Programs.{program, program_of, row_steps};
 ghost use Rattle.word_lower.specs.Shapes.{lines_steps};
 
 use crate::shapes::Line::{Each, Once};
@@ -170,11 +170,11 @@ fn program_of(op: WordOp) -> Program
     PROGRAMS[op as usize].1
 }
 
-/// The lines of an operation, of which there are none where it takes more than one pass.
-pub fn lines(op: WordOp, kind: Kind) -> [Option<Line>; 3]
-    ensures { lines_steps result ≡ program op kind }
+/// The lines of a row, of which there are none where an operation takes more than one pass.
+fn row_lines(row: Program, kind: Kind) -> [Option<Line>; 3]
+    ensures { lines_steps result ≡ row_steps row kind }
 {
-    match program_of(op) {
+    match row {
         Spread(word, bit) => match kind {
             Kind::Word => [Some(Each(word)), None, None],
             Kind::Bit => [Some(Once(bit)), None, None],
@@ -184,4 +184,11 @@ pub fn lines(op: WordOp, kind: Kind) -> [Option<Line>; 3]
         Three(first, second, third) => [Some(first), Some(second), Some(third)],
         Nested => [None, None, None],
     }
+}
+
+/// The lines of an operation.
+pub fn lines(op: WordOp, kind: Kind) -> [Option<Line>; 3]
+    ensures { lines_steps result ≡ program op kind }
+{
+    row_lines(program_of(op), kind)
 }
