@@ -1,20 +1,17 @@
--- The operation's program does it, by the form that its arguments fill.
-use Rattle.std.proofs.Common.{◌≡◌, ◌⊎◌, inl, inr, ℕ, true, List, [], ◌∷◌, map, Option, Some, None}
-use Rattle.std.proofs.Common.{refl, sym, ap, ◌∙◌, subst}
+-- The kinds that fill the forms of each shape, and places of these kinds.
+use Rattle.std.proofs.Common.{◌≡◌, ◌⊎◌, inl, inr, ℕ, List, [], ◌∷◌, map, Option, Some, None}
+use Rattle.std.proofs.Common.{refl, sym, ap}
 use Rattle.op_text.specs.declared.tree.Kind.{Kind}
 use Rattle.op_text.specs.declared.tree.Kind.TheVariants.{Word, Bit}
-use Rattle.op_text.specs.declared.word_ops.WordOp.{WordOp}
 use Rattle.op_text.specs.declared.word_ops.WordOp.TheVariants as op
-use Rattle.op_text.specs.WordOps.{form, forms, filled, of_one, of_two, word_to, words_to}
+use Rattle.op_text.specs.declared.word_ops.Shape.{Shape}
+use Rattle.op_text.specs.declared.word_ops.Shape.TheVariants as shape
+use Rattle.op_text.specs.WordOps.{form, forms, shape_forms, filled, of_one, of_two, word_to}
+use Rattle.op_text.specs.WordOps.{words_to}
 use Rattle.loop_ir.specs.declared.ir.Space.{Space}
 use Rattle.loop_ir.specs.declared.names.Slot.{Slot}
-use Rattle.word_lower.specs.Programs.{is_linear}
-use Rattle.word_lower.proofs.Operations.{Lowers, slot, on_not, on_not_bit, on_copy, on_copy_bit}
-use Rattle.word_lower.proofs.Operations.{on_and, on_and_bit, on_or, on_or_bit, on_xor, on_xor_bit}
-use Rattle.word_lower.proofs.Operations.{on_zero, on_ones, on_shl1, on_shr1, on_abs, on_relu}
-use Rattle.word_lower.proofs.Operations.{on_add, on_sub, on_min, on_max, on_eq, on_gt, on_ge}
-use Rattle.word_lower.proofs.Operations.{on_if_else, on_if_else_bit, on_and_red, on_or_red}
-use Rattle.word_lower.proofs.Operations.{on_xor_red}
+use Rattle.word_lower.proofs.Setting.{taken}
+use Rattle.word_lower.proofs.Pieces.{slot}
 
 kind_in : Option Kind → Kind
 kind_in None = Word
@@ -129,129 +126,46 @@ one_slot (s ∷ ss) k ks e = record {
   others = ap rest_kinds e;
 }
 
-module _ (p : WordOp) (t : Slot) (k : Kind) (free : ℕ) (kind : t.kind ≡ k) where
-  lower_0 : (g : Kind) (ss : List Slot) → k ≡ g → map (λ (s : Slot). s.kind) ss ≡ []
-      → ((x : Space) (y free : ℕ) → Lowers p g (slot x y g) [] free) → Lowers p k t ss free
-  lower_0 g ss kg e h =
-      subst (λ l. Lowers p l t ss free) (sym kg)
-      (subst (λ l. Lowers p g l ss free) (sym (slot_is t g (kind ∙ kg)))
-      (subst (λ l. Lowers p g (slot t.space t.which g) l free) (sym (no_slots ss e))
-      (h t.space t.which free)))
+-- The two forms of a shape that takes words or bits, by which of the two it takes. Other shapes have
+-- one form
+abbrev pub arg_kind : Shape → Kind → Kind
+arg_kind shape.OneOf c = c
+arg_kind shape.TwoOf c = c
+arg_kind shape.Choice c = c
+arg_kind sh c = Word
 
-  lower_1 : (g a : Kind) (ss : List Slot) → k ≡ g → map (λ (s : Slot). s.kind) ss ≡ a ∷ []
-      → ((x : Space) (y : ℕ) (x1 : Space) (y1 : ℕ) (free : ℕ)
-      → Lowers p g (slot x y g) (slot x1 y1 a ∷ []) free) → Lowers p k t ss free
-  lower_1 g a ss kg e h =
-      let f = one_slot ss a [] e in
-      subst (λ l. Lowers p l t ss free) (sym kg)
-      (subst (λ l. Lowers p g l ss free) (sym (slot_is t g (kind ∙ kg)))
-      (subst (λ l. Lowers p g (slot t.space t.which g) l free)
-      (sym (f.is ∙ ap (λ l. slot f.space f.which a ∷ l) (no_slots f.more f.others)))
-      (h t.space t.which f.space f.which free)))
+abbrev pub gives_kind : Shape → Kind → Kind
+gives_kind shape.Nothing c = Word
+gives_kind (shape.OneWord g) c = g
+gives_kind (shape.TwoWords g) c = g
+gives_kind sh c = c
 
-  lower_2 : (g a b : Kind) (ss : List Slot) → k ≡ g → map (λ (s : Slot). s.kind) ss ≡ a ∷ b ∷ []
-      → ((x : Space) (y : ℕ) (x1 : Space) (y1 : ℕ) (x2 : Space) (y2 : ℕ) (free : ℕ)
-      → Lowers p g (slot x y g) (slot x1 y1 a ∷ slot x2 y2 b ∷ []) free) → Lowers p k t ss free
-  lower_2 g a b ss kg e h =
-      let f = one_slot ss a (b ∷ []) e in
-      let f2 = one_slot f.more b [] f.others in
-      subst (λ l. Lowers p l t ss free) (sym kg)
-      (subst (λ l. Lowers p g l ss free) (sym (slot_is t g (kind ∙ kg)))
-      (subst (λ l. Lowers p g (slot t.space t.which g) l free)
-      (sym (f.is ∙ ap (λ l. slot f.space f.which a ∷ l) (f2.is
-      ∙ ap (λ l. slot f2.space f2.which b ∷ l) (no_slots f2.more f2.others))))
-      (h t.space t.which f.space f.which f2.space f2.which free)))
+abbrev pub takes_kinds : Shape → Kind → List Kind
+takes_kinds sh c = taken sh (arg_kind sh c) (arg_kind sh c) Bit
 
-  lower_3 : (g a b c : Kind) (ss : List Slot) → k ≡ g
-      → map (λ (s : Slot). s.kind) ss ≡ a ∷ b ∷ c ∷ []
-      → ((x : Space) (y : ℕ) (x1 : Space) (y1 : ℕ) (x2 : Space) (y2 : ℕ) (x3 : Space) (y3 : ℕ)
-      (free : ℕ) → Lowers p g (slot x y g) (slot x1 y1 a ∷ slot x2 y2 b ∷ slot x3 y3 c ∷ []) free)
-      → Lowers p k t ss free
-  lower_3 g a b c ss kg e h =
-      let f = one_slot ss a (b ∷ c ∷ []) e in
-      let f2 = one_slot f.more b (c ∷ []) f.others in
-      let f3 = one_slot f2.more c [] f2.others in
-      subst (λ l. Lowers p l t ss free) (sym kg)
-      (subst (λ l. Lowers p g l ss free) (sym (slot_is t g (kind ∙ kg)))
-      (subst (λ l. Lowers p g (slot t.space t.which g) l free)
-      (sym (f.is ∙ ap (λ l. slot f.space f.which a ∷ l) (f2.is
-      ∙ ap (λ l. slot f2.space f2.which b ∷ l) (f3.is
-      ∙ ap (λ l. slot f3.space f3.which c ∷ l) (no_slots f3.more f3.others)))))
-      (h t.space t.which f.space f.which f2.space f2.which f3.space f3.which free)))
+-- these kinds fill one of them
+pub record FormOf (sh : Shape) (ks : List Kind) (k : Kind) : Type 0 where
+  pub which : Kind
+  pub takes : ks ≡ takes_kinds sh which
+  pub gives : k ≡ gives_kind sh which
 
-  by_word : (g : Kind) (ss : List Slot) → filled (word_to g) (map (λ (s : Slot). s.kind) ss)
-      ≡ Some k → ((x : Space) (y : ℕ) (x1 : Space) (y1 : ℕ) (free : ℕ)
-      → Lowers p g (slot x y g) (slot x1 y1 Word ∷ []) free) → Lowers p k t ss free
-  by_word g ss e h = let f = filled_word g (map (λ (s : Slot). s.kind) ss) k e in
-      lower_1 g Word ss f.1 f.0 h
-
-  by_words : (g : Kind) (ss : List Slot) → filled (words_to g) (map (λ (s : Slot). s.kind) ss)
-      ≡ Some k → ((x : Space) (y : ℕ) (x1 : Space) (y1 : ℕ) (x2 : Space) (y2 : ℕ) (free : ℕ)
-      → Lowers p g (slot x y g) (slot x1 y1 Word ∷ slot x2 y2 Word ∷ []) free)
-      → Lowers p k t ss free
-  by_words g ss e h = let f = filled_words g (map (λ (s : Slot). s.kind) ss) k e in
-      lower_2 g Word Word ss f.1 f.0 h
-
-  by_none : (ss : List Slot) → filled (form [] Word ∷ []) (map (λ (s : Slot). s.kind) ss) ≡ Some k
-      → ((x : Space) (y free : ℕ) → Lowers p Word (slot x y Word) [] free) → Lowers p k t ss free
-  by_none ss e h = let f = filled_none (map (λ (s : Slot). s.kind) ss) k e in
-      lower_0 Word ss f.1 f.0 h
-
-  by_one : (ss : List Slot) → filled of_one (map (λ (s : Slot). s.kind) ss) ≡ Some k
-      → ((x : Space) (y : ℕ) (x1 : Space) (y1 : ℕ) (free : ℕ)
-      → Lowers p Word (slot x y Word) (slot x1 y1 Word ∷ []) free)
-      → ((x : Space) (y : ℕ) (x1 : Space) (y1 : ℕ) (free : ℕ)
-      → Lowers p Bit (slot x y Bit) (slot x1 y1 Bit ∷ []) free) → Lowers p k t ss free
-  by_one ss e h g = elim (filled_one (map (λ (s : Slot). s.kind) ss) k e) [
-    | inl f ↦
-        lower_1 Word Word ss f.1 f.0 h
-    | inr f ↦ lower_1 Bit Bit ss f.1 f.0 g
-  ]
-
-  by_two : (ss : List Slot) → filled of_two (map (λ (s : Slot). s.kind) ss) ≡ Some k
-      → ((x : Space) (y : ℕ) (x1 : Space) (y1 : ℕ) (x2 : Space) (y2 : ℕ) (free : ℕ)
-      → Lowers p Word (slot x y Word) (slot x1 y1 Word ∷ slot x2 y2 Word ∷ []) free)
-      → ((x : Space) (y : ℕ) (x1 : Space) (y1 : ℕ) (x2 : Space) (y2 : ℕ) (free : ℕ)
-      → Lowers p Bit (slot x y Bit) (slot x1 y1 Bit ∷ slot x2 y2 Bit ∷ []) free)
-      → Lowers p k t ss free
-  by_two ss e h g = elim (filled_two (map (λ (s : Slot). s.kind) ss) k e) [
-    | inl f ↦
-        lower_2 Word Word Word ss f.1 f.0 h
-    | inr f ↦ lower_2 Bit Bit Bit ss f.1 f.0 g
-  ]
-
--- where the arguments fill a form of a linear operation, its program does it
-pub op_lowers : (p : WordOp) (k : Kind) (t : Slot) (args : List Slot) (free : ℕ)
-    → is_linear p ≡ true → filled (forms p) (map (λ (s : Slot). s.kind) args) ≡ Some k → t.kind ≡ k
-    → Lowers p k t args free
-op_lowers op.Not k t args free l e h = by_one op.Not t k free h args e on_not on_not_bit
-op_lowers op.And k t args free l e h = by_two op.And t k free h args e on_and on_and_bit
-op_lowers op.Or k t args free l e h = by_two op.Or t k free h args e on_or on_or_bit
-op_lowers op.Xor k t args free l e h = by_two op.Xor t k free h args e on_xor on_xor_bit
-op_lowers op.Copy k t args free l e h = by_one op.Copy t k free h args e on_copy on_copy_bit
-op_lowers op.Zero k t args free l e h = by_none op.Zero t k free h args e on_zero
-op_lowers op.Ones k t args free l e h = by_none op.Ones t k free h args e on_ones
-op_lowers op.Shl1 k t args free l e h = by_word op.Shl1 t k free h Word args e on_shl1
-op_lowers op.Shr1 k t args free l e h = by_word op.Shr1 t k free h Word args e on_shr1
-op_lowers op.Add k t args free l e h = by_words op.Add t k free h Word args e on_add
-op_lowers op.Sub k t args free l e h = by_words op.Sub t k free h Word args e on_sub
-op_lowers op.Mul k t args free l e h = cc
-op_lowers op.Div k t args free l e h = cc
-op_lowers op.Rem k t args free l e h = cc
-op_lowers op.Abs k t args free l e h = by_word op.Abs t k free h Word args e on_abs
-op_lowers op.Relu k t args free l e h = by_word op.Relu t k free h Word args e on_relu
-op_lowers op.Min k t args free l e h = by_words op.Min t k free h Word args e on_min
-op_lowers op.Max k t args free l e h = by_words op.Max t k free h Word args e on_max
-op_lowers op.Eq k t args free l e h = by_words op.Eq t k free h Bit args e on_eq
-op_lowers op.Gt k t args free l e h = by_words op.Gt t k free h Bit args e on_gt
-op_lowers op.Ge k t args free l e h = by_words op.Ge t k free h Bit args e on_ge
-op_lowers op.IfElse k t args free l e h =
-    elim (filled_choice (map (λ (s : Slot). s.kind) args) k e) [
-      | inl f ↦ lower_3 op.IfElse t k free h Word Word Word Bit args f.1 f.0 on_if_else
-      | inr f ↦ lower_3 op.IfElse t k free h Bit Bit Bit Bit args f.1 f.0 on_if_else_bit
-    ]
-op_lowers op.Bitcount k t args free l e h = cc
-op_lowers op.Divmod k t args free l e h = cc
-op_lowers op.AndRed k t args free l e h = by_word op.AndRed t k free h Bit args e on_and_red
-op_lowers op.OrRed k t args free l e h = by_word op.OrRed t k free h Bit args e on_or_red
-op_lowers op.XorRed k t args free l e h = by_word op.XorRed t k free h Bit args e on_xor_red
+pub form_of : (sh : Shape) (ks : List Kind) (k : Kind) → filled (shape_forms sh) ks ≡ Some k
+    → FormOf sh ks k
+form_of shape.Nothing ks k e = let f = filled_none ks k e in
+    record { which = Word; takes = f.0; gives = f.1 }
+form_of (shape.OneWord g) ks k e = let f = filled_word g ks k e in
+    record { which = Word; takes = f.0; gives = f.1 }
+form_of (shape.TwoWords g) ks k e = let f = filled_words g ks k e in
+    record { which = Word; takes = f.0; gives = f.1 }
+form_of shape.OneOf ks k e = elim (filled_one ks k e) [
+  | inl f ↦ record { which = Word; takes = f.0; gives = f.1 }
+  | inr f ↦ record { which = Bit; takes = f.0; gives = f.1 }
+]
+form_of shape.TwoOf ks k e = elim (filled_two ks k e) [
+  | inl f ↦ record { which = Word; takes = f.0; gives = f.1 }
+  | inr f ↦ record { which = Bit; takes = f.0; gives = f.1 }
+]
+form_of shape.Choice ks k e = elim (filled_choice ks k e) [
+  | inl f ↦ record { which = Word; takes = f.0; gives = f.1 }
+  | inr f ↦ record { which = Bit; takes = f.0; gives = f.1 }
+]

@@ -7,8 +7,9 @@ pub mod Words
 pub mod Carries
 pub mod States
 pub mod Pieces
-pub mod Operations
 pub mod Filled
+pub mod Operations
+pub mod Lowering
 pub mod Statements
 pub mod Own
 pub mod LikeTemplates

@@ -18,7 +18,8 @@ use Rattle.loop_ir.specs.Like.{single, along, nest}
 use Rattle.word_lower.specs.declared.shapes.Mark.{Mark}
 use Rattle.word_lower.specs.declared.shapes.Owners.{Owners}
 use Rattle.word_lower.specs.Programs.{template}
-use Rattle.word_lower.specs.Shapes.{mark_of, marks, place_on, body_on, are_below}
+use Rattle.word_lower.specs.Programs.{mark_of}
+use Rattle.word_lower.specs.Shapes.{marks, place_on, body_on, are_below}
 
 less_is : (a b : ℕ) → nat_lt a b ≡ true → a < b
 less_is a b e = grind arith

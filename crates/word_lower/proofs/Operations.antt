@@ -1,471 +1,471 @@
--- Each operation's loop program gives its value, keeps its ceiling, and passes the tests.
-use Rattle.std.proofs.Common.{◌≡◌, ℕ, ◌+◌, ◌<◌, ◌≤◌, true, List, [], ◌∷◌, map, refl, sym, ap, ◌∙◌}
-use Rattle.std.proofs.Common.{arith}
+-- Each operation's loop program gives its value.
+use Rattle.std.proofs.Common.{◌≡◌, ℕ, suc, ◌+◌, ◌-◌, ◌^◌, ◌%◌, ◌/◌, ◌<◌, Bool, true, false}
+use Rattle.std.proofs.Common.{not, cond, List, [], ◌∷◌, refl, sym, ap, ◌∙◌, subst, arith}
+use Rattle.std.specs.Prelude.{nat_lt}
+use Rattle.bit_rows.specs.Bits.{majority}
+use Rattle.mig_graph.specs.Graph.{values_from}
 use Rattle.op_text.specs.declared.tree.Kind.{Kind}
 use Rattle.op_text.specs.declared.tree.Kind.TheVariants.{Word, Bit}
 use Rattle.op_text.specs.declared.word_ops.WordOp.{WordOp}
 use Rattle.op_text.specs.declared.word_ops.WordOp.TheVariants as op
-use Rattle.op_text.specs.Values.{bits, value, op_value}
-use Rattle.op_text.specs.Meaning.{width}
+use Rattle.op_text.specs.Values.{bits}
 use Rattle.op_text.specs.Scratch.{bits_inside}
-use Rattle.op_text.specs.Costs.{op_ceiling}
-use Rattle.loop_ir.specs.declared.ir.Space.{Space}
-use Rattle.loop_ir.specs.declared.ir.Space.TheVariants.{ScratchBit}
-use Rattle.loop_ir.specs.declared.names.Slot.{Slot}
-use Rattle.loop_ir.specs.Plain.{Block, StepOf}
+use Rattle.op_text.specs.WordOps.{number as place_of, row_of}
+use Rattle.op_text.specs.Meaning.{width}
+use Rattle.loop_ir.specs.declared.ir.Sub.TheVariants as sub
 use Rattle.loop_ir.specs.Loops.{all_rounds}
-use Rattle.loop_ir.specs.Spots.{Spot, Spots, spot_in, after_rounds}
-use Rattle.loop_ir.specs.Costs.{rounds_cost}
-use Rattle.loop_ir.specs.Lowered.{slot_spot, slot_bits}
-use Rattle.loop_laws.specs.Rooms.{steps_fit, placed_steps}
-use Rattle.loop_laws.specs.Forms.{is_short}
-use Rattle.loop_laws.proofs.Costing.{total_is}
-use Rattle.word_lower.specs.Places.{scratch_from, rooms_of}
-use Rattle.word_lower.specs.Programs.{program}
-use Rattle.word_lower.specs.Shapes.{owners_of, program_on}
-use Rattle.word_lower.proofs.Setting.{operation, Slots, row, number_at, IsElsewhere, Gives}
-use Rattle.word_lower.proofs.Lists.{bits_of_number, value_of_list}
-use Rattle.word_lower.proofs.Pieces.{no_slot, Pieces, names_0, names_1, names_2, names_3, slots_0}
-use Rattle.word_lower.proofs.Pieces.{slots_1, slots_1_free, slots_2, slots_2_free, slots_3}
-use Rattle.word_lower.proofs.Words as w
-use Rattle.word_lower.proofs.Carries as c
-use Rattle.word_lower.proofs.States as s
+use Rattle.loop_ir.specs.Spots.{Spots, set_spot, after_rounds}
+use Rattle.loop_laws.specs.Turns.{Origin, Standing, Carried, turn}
+use Rattle.loop_laws.specs.Rooms.{placed_body}
+use Rattle.loop_laws.proofs.Same.{set_same}
+use Rattle.loop_laws.proofs.Steps.{steps_each}
+use Rattle.word_lower.specs.Places.{scratch_bit}
+use Rattle.word_lower.specs.Programs.{target, first, second, third, plain, turned, off, up}
+use Rattle.word_lower.specs.Programs.{constant, moved, inverted, joined, without, unlike, chosen}
+use Rattle.word_lower.specs.Programs.{shifted, added, lessened, turned_by, compared, agreed}
+use Rattle.word_lower.specs.Programs.{is_linear, program_at}
+use Rattle.word_lower.proofs.Setting.{bit, number, operation, Slots, rooms_for, steps_for, row}
+use Rattle.word_lower.proofs.Setting.{number_at, AreSlots, Gives, DoesWords, DoesBits}
+use Rattle.word_lower.proofs.Sums.{value_same, value_false, value_pick, compare, same_gives}
+use Rattle.word_lower.proofs.Sums.{add_gives, sub_gives, shl1_gives, shr1_gives, abs_gives}
+use Rattle.word_lower.proofs.Bitwise.{value_and, value_or, value_xor, value_inverted, value_true}
+use Rattle.word_lower.proofs.Bitwise.{relu_gives, least, greatest, any_gives, all_gives}
+use Rattle.word_lower.proofs.Bitwise.{parity_gives, at_least}
+use Rattle.word_lower.proofs.Passes.{bit_free, carry_does, upwards, downwards}
+use Rattle.word_lower.proofs.Words.{word_does, unlike_bit, chosen_bit, by_bit, a_read, top_read}
+use Rattle.word_lower.proofs.Words.{b_read, s_read, choice_does, bit_does}
+use Rattle.word_lower.proofs.Carries.{added_digit, lessened_digit, turned_bit, turned_state}
+use Rattle.word_lower.proofs.Carries.{a_by_carry, top_by_carry, b_by_carry}
+use Rattle.word_lower.proofs.States.{state_does, agreed_bit, a_by_state, b_by_state}
+use Rattle.word_lower.proofs.Filled.{arg_kind, gives_kind}
 
--- the width of the first argument, or n where there is none
-abbrev pub slots_width : ℕ → List Slot → ℕ
-slots_width n [] = n
-slots_width n (a ∷ args) = width n a.kind
+-- one or two reads that no turn changes, and then what the turn before wrote in this place
+abbrev after_one : ℕ → List Origin
+after_one w = Standing ∷ (Carried w ∷ [])
 
-abbrev pub steps_on : WordOp → Kind → Slot → List Slot → ℕ → List (StepOf Block)
-steps_on p k t args free = placed_steps (rooms_of t args (scratch_from free (bits_inside p)))
-    (program p k)
+abbrev after_two : ℕ → List Origin
+after_two w = Standing ∷ (Standing ∷ (Carried w ∷ []))
 
-pub record DoesOp (p : WordOp) (n : ℕ) (k : Kind) (t : Slot) (args : List Slot) (free : ℕ) : Type 0
+-- each bit of a word without a carry
+module _ (n : ℕ) (m : Slots) (are : AreSlots n n n 0 m) where
+  not_does : DoesWords op.Not Word n n 0 m
+  unfolding values_from
+  not_does before =
+      let b = placed_body (rooms_for op.Not m) (inverted (first sub.Inner) (target sub.Inner)) in
+      subst (Gives op.Not n n n 0 m before) (sym (steps_each n b [] before))
+      (word_does op.Not n m are b.reads b.graph.inputs b.graph.nodes (turned 1) (Standing
+      ∷ []) before (a_read n m are, tt) (value_inverted (λ i. before (row n m.a i)) n))
+
+  copy_does : DoesWords op.Copy Word n n 0 m
+  unfolding values_from
+  copy_does before =
+      let b = placed_body (rooms_for op.Copy m) (moved (first sub.Inner) (target sub.Inner)) in
+      subst (Gives op.Copy n n n 0 m before) (sym (steps_each n b [] before))
+      (word_does op.Copy n m are b.reads b.graph.inputs b.graph.nodes (plain 1) (Standing
+      ∷ []) before (a_read n m are, tt) refl)
+
+  zero_does : DoesWords op.Zero Word n n 0 m
+  unfolding values_from
+  zero_does before =
+      let b = placed_body (rooms_for op.Zero m) (constant off (target sub.Inner)) in
+      subst (Gives op.Zero n n n 0 m before) (sym (steps_each n b [] before))
+      (word_does op.Zero n m are b.reads b.graph.inputs b.graph.nodes off [] before tt
+      (value_false n))
+
+  ones_does : DoesWords op.Ones Word n n 0 m
+  unfolding values_from
+  ones_does before =
+      let b = placed_body (rooms_for op.Ones m) (constant up (target sub.Inner)) in
+      subst (Gives op.Ones n n n 0 m before) (sym (steps_each n b [] before))
+      (word_does op.Ones n m are b.reads b.graph.inputs b.graph.nodes up [] before tt
+      (value_true n))
+
+  and_does : DoesWords op.And Word n n 0 m
+  unfolding values_from
+  and_does before =
+      let b = placed_body (rooms_for op.And m)
+      (joined off (first sub.Inner) (second sub.Inner) (target sub.Inner)) in
+      subst (Gives op.And n n n 0 m before) (sym (steps_each n b [] before))
+      (word_does op.And n m are b.reads b.graph.inputs b.graph.nodes (plain 3) (Standing
+      ∷ (Standing ∷ [])) before (a_read n m are, (b_read n m are, tt))
+      (value_and (λ i. before (row n m.a i)) (λ i. before (row n m.b i)) n))
+
+  or_does : DoesWords op.Or Word n n 0 m
+  unfolding values_from
+  or_does before =
+      let b = placed_body (rooms_for op.Or m)
+      (joined up (first sub.Inner) (second sub.Inner) (target sub.Inner)) in
+      subst (Gives op.Or n n n 0 m before) (sym (steps_each n b [] before))
+      (word_does op.Or n m are b.reads b.graph.inputs b.graph.nodes (plain 3) (Standing
+      ∷ (Standing ∷ [])) before (a_read n m are, (b_read n m are, tt))
+      (value_or (λ i. before (row n m.a i)) (λ i. before (row n m.b i)) n))
+
+  xor_does : DoesWords op.Xor Word n n 0 m
+  unfolding values_from
+  xor_does before =
+      let b = placed_body (rooms_for op.Xor m)
+      (unlike (first sub.Inner) (second sub.Inner) (target sub.Inner)) in
+      let a = λ (i : ℕ). before (row n m.a i) in
+      let c = λ (i : ℕ). before (row n m.b i) in
+      subst (Gives op.Xor n n n 0 m before) (sym (steps_each n b [] before))
+      (word_does op.Xor n m are b.reads b.graph.inputs b.graph.nodes (plain 5) (Standing
+      ∷ (Standing ∷ [])) before (a_read n m are, (b_read n m are, tt))
+      (value_same _ _ n (λ i lt. unlike_bit (a i) (c i)) ∙ value_xor a c n))
+
+  relu_does : 0 < n → DoesWords op.Relu Word n n 0 m
+  unfolding values_from
+  relu_does some before =
+      let b = placed_body (rooms_for op.Relu m)
+      (without (first sub.Inner) (first sub.Top) (target sub.Inner)) in
+      let a = λ (i : ℕ). before (row n m.a i) in
+      let e : n ≡ suc (n - 1) = omega arith in
+      subst (Gives op.Relu n n n 0 m before) (sym (steps_each n b [] before))
+      (word_does op.Relu n m are b.reads b.graph.inputs b.graph.nodes (plain 3) (Standing
+      ∷ (Standing ∷ [])) before (a_read n m are, (top_read n m are, tt))
+      (subst (λ k. number (λ i. majority false (a i) (not (a (n - 1)))) k
+      ≡ cond (nat_lt (number a k) (2 ^ (n - 1))) (number a k) 0) (sym e)
+      (relu_gives a (n - 1))))
+
+  if_else_does : DoesWords op.IfElse Word n n 0 m
+  unfolding values_from
+  if_else_does before =
+      let b = placed_body (rooms_for op.IfElse m)
+      (chosen (first sub.Inner) (second sub.Inner) (third sub.Zero) (target sub.Inner)) in
+      let a = λ (i : ℕ). before (row n m.a i) in
+      let c = λ (i : ℕ). before (row n m.b i) in
+      let s = before (row n m.s 0) in
+      subst (Gives op.IfElse n n n 0 m before) (sym (steps_each n b [] before))
+      (word_does op.IfElse n m are b.reads b.graph.inputs b.graph.nodes (plain 6) (Standing
+      ∷ (Standing ∷ (Standing ∷ []))) before (a_read n m are, (b_read n m are, (s_read n m are, tt)))
+      (value_same _ _ n (λ i lt. chosen_bit (a i) (c i) s) ∙ value_pick s a c n
+      ∙ by_bit s (number a n) (number c n)))
+
+min_does : (n : ℕ) (m : Slots) → AreSlots n n n 1 m → DoesWords op.Min Word n n 1 m
+unfolding values_from
+min_does n m are before =
+    let f = bit_free n n n 0 m are in
+    choice_does op.Min n m are m.b m.a are.b are.a f.b f.a before
+    (least (number_at n before m.a n) (number_at n before m.b n))
+
+max_does : (n : ℕ) (m : Slots) → AreSlots n n n 1 m → DoesWords op.Max Word n n 1 m
+unfolding values_from
+max_does n m are before =
+    let f = bit_free n n n 0 m are in
+    choice_does op.Max n m are m.a m.b are.a are.b f.a f.b before
+    (greatest (number_at n before m.a n) (number_at n before m.b n))
+
+-- with a carry
+module _ (n : ℕ) (m : Slots) (are : AreSlots n n n 1 m) where
+  add_does : DoesWords op.Add Word n n 1 m
+  unfolding values_from
+  add_does before =
+      let b = placed_body (rooms_for op.Add m)
+      (added (first sub.Inner) (second sub.Inner) (third sub.Zero) (target sub.Inner)) in
+      let p = row n (scratch_bit m.free_bit) 0 in
+      let start = set_spot before p false in
+      let c = λ (i : ℕ). turn n 0 b (after_two 1) start i 1 in
+      subst (Gives op.Add n n n 1 m before) (sym (steps_each n b [] start))
+      (carry_does op.Add n m are sub.Inner (λ v. v) (upwards n 0) b.reads b.graph.inputs
+      b.graph.nodes (plain 6) (plain 4) (after_two 1) false before
+      (a_by_carry n m are, (b_by_carry n m are, ((omega arith, λ i j li lj. refl), tt)))
+      (add_gives (λ i. start (row n m.a i)) (λ i. start (row n m.b i)) (λ i.
+      turn n 0 b (after_two 1) start (suc i) 0) c n (set_same before p false p refl)
+      (λ i lt. added_digit (start (row n m.a i)) (start (row n m.b i)) (c i))))
+
+  sub_does : DoesWords op.Sub Word n n 1 m
+  unfolding values_from
+  sub_does before =
+      let b = placed_body (rooms_for op.Sub m)
+      (lessened (first sub.Inner) (second sub.Inner) (third sub.Zero) (target sub.Inner)) in
+      let p = row n (scratch_bit m.free_bit) 0 in
+      let start = set_spot before p false in
+      let c = λ (i : ℕ). turn n 0 b (after_two 1) start i 1 in
+      subst (Gives op.Sub n n n 1 m before) (sym (steps_each n b [] start))
+      (carry_does op.Sub n m are sub.Inner (λ v. v) (upwards n 0) b.reads b.graph.inputs
+      b.graph.nodes (plain 6) (plain 4) (after_two 1) false before
+      (a_by_carry n m are, (b_by_carry n m are, ((omega arith, λ i j li lj. refl), tt)))
+      (sub_gives (λ i. start (row n m.a i)) (λ i. start (row n m.b i)) (λ i.
+      turn n 0 b (after_two 1) start (suc i) 0) (λ i. not (c i)) n (ap not (set_same before p false p refl))
+      (λ i lt. lessened_digit (start (row n m.a i)) (start (row n m.b i)) (c i))))
+
+  shl1_does : DoesWords op.Shl1 Word n n 1 m
+  unfolding values_from
+  shl1_does before =
+      let b = placed_body (rooms_for op.Shl1 m)
+      (shifted (first sub.Inner) (second sub.Zero) (target sub.Inner)) in
+      let xs = after_one 1 in
+      let p = row n (scratch_bit m.free_bit) 0 in
+      let start = set_spot before p false in
+      let c = λ (i : ℕ). turn n 0 b xs start i 1 in
+      subst (Gives op.Shl1 n n n 1 m before) (sym (steps_each n b [] start))
+      (carry_does op.Shl1 n m are sub.Inner (λ v. v) (upwards n 0) b.reads b.graph.inputs
+      b.graph.nodes (plain 2) (plain 1) xs false before
+      (a_by_carry n m are, ((omega arith, λ i j li lj. refl), tt))
+      (shl1_gives (λ i. start (row n m.a i)) (λ i. turn n 0 b xs start (suc i) 0) c n
+      (set_same before p false p refl) (λ i lt. refl) (λ i lt. refl)))
+
+  abs_does : 0 < n → DoesWords op.Abs Word n n 1 m
+  unfolding values_from
+  abs_does some before =
+      let b = placed_body (rooms_for op.Abs m)
+      (turned_by (first sub.Inner) (first sub.Top) (second sub.Zero) (target sub.Inner)) in
+      let p = row n (scratch_bit m.free_bit) 0 in
+      let start = set_spot before p false in
+      let c = λ (i : ℕ). turn n 0 b (after_two 1) start i 1 in
+      let y = λ (i : ℕ). turn n 0 b (after_two 1) start (suc i) 0 in
+      let a = λ (i : ℕ). start (row n m.a i) in
+      let e : n ≡ suc (n - 1) = omega arith in
+      let gives : (k : ℕ) → k ≡ suc (n - 1) → k ≡ n
+      → number y k ≡ cond (nat_lt (number a k) (2 ^ (n - 1))) (number a k)
+      ((2 ^ k - number a k) % 2 ^ k) =
+      λ k g h. subst (λ (k : ℕ). number y k ≡ cond (nat_lt (number a k) (2 ^ (n - 1))) (number a k)
+      ((2 ^ k - number a k) % 2 ^ k)) (sym g)
+      (abs_gives a y c (n - 1) (set_same before p false p refl) (λ i lt. turned_bit (a i) (c i))
+      (λ i lt. turned_state (a i) (a (n - 1)) (c i))) in
+      subst (Gives op.Abs n n n 1 m before) (sym (steps_each n b [] start))
+      (carry_does op.Abs n m are sub.Inner (λ v. v) (upwards n 0) b.reads b.graph.inputs
+      b.graph.nodes (plain 7) (plain 6) (after_two 1) false before
+      (a_by_carry n m are, (top_by_carry n m are, ((omega arith, λ i j li lj. refl), tt)))
+      (gives n e refl))
+
+  -- downwards: the state has the bit of the position above
+  shr1_does : 0 < n → DoesWords op.Shr1 Word n n 1 m
+  unfolding values_from
+  shr1_does some before =
+      let b = placed_body (rooms_for op.Shr1 m)
+      (shifted (first sub.InnerDown) (second sub.Zero) (target sub.InnerDown)) in
+      let g = bit_free n n n 0 m are in
+      let xs = after_one 1 in
+      let p = row n (scratch_bit m.free_bit) 0 in
+      let start = set_spot before p false in
+      let y = λ (v : ℕ). turn n 0 b xs start (suc (n - 1 - v)) 0 in
+      let a = λ (v : ℕ). start (row n m.a v) in
+      let top : y (n - 1) ≡ false = (let e : n - 1 - (n - 1) ≡ 0 = omega arith in
+      ap (λ i. turn n 0 b xs start i 1) e ∙ set_same before p false p refl) in
+      let inner : (v : ℕ) → v < n - 1 → y v ≡ a (suc v) =
+      λ v lt. (let e : n - 1 - v ≡ suc (n - 1 - suc v) = omega arith in
+      let h : n - 1 - (n - 1 - suc v) ≡ suc v = omega arith in
+      ap (λ i. turn n 0 b xs start i 1) e ∙ ap a h) in
+      let e : n ≡ suc (n - 1) = omega arith in
+      subst (Gives op.Shr1 n n n 1 m before) (sym (steps_each n b [] start))
+      (carry_does op.Shr1 n m are sub.InnerDown (λ v. n - 1 - v) (downwards n 0) b.reads
+      b.graph.inputs b.graph.nodes (plain 2) (plain 1) xs false before (
+        (
+          (λ i j li lj e. are.a.by (n - 1 - i) (n - 1 - j) (omega arith) (omega arith) e),
+          ((λ i j li lj e. g.a.by (n - 1 - i) 0 (omega arith) (omega arith) e), tt),
+        ),
+        ((omega arith, λ i j li lj. refl), tt),
+      )
+      (subst (λ k. number y k ≡ number a k / 2) (sym e) (shr1_gives a y (n - 1) top inner)))
+
+-- a state in the target's row
+module _ (n : ℕ) (m : Slots) (are : AreSlots n 1 n 0 m) where
+  eq_does : DoesWords op.Eq Bit n 1 0 m
+  unfolding values_from
+  eq_does before =
+      let b = placed_body (rooms_for op.Eq m)
+      (agreed (first sub.Inner) (second sub.Inner) (target sub.Zero)) in
+      let p = row n m.target 0 in
+      let start = set_spot before p true in
+      let e = λ (i : ℕ). turn n 0 b (after_two 0) start i 0 in
+      let a = λ (i : ℕ). start (row n m.a i) in
+      let c = λ (i : ℕ). start (row n m.b i) in
+      subst (Gives op.Eq n 1 n 0 m before) (sym (steps_each n b [] start))
+      (state_does op.Eq n m are b.reads b.graph.inputs b.graph.nodes (plain 6) (after_two 0) true before
+      (a_by_state n m are, (b_by_state n m are, ((omega arith, λ i j li lj. refl), tt)))
+      (ap bit (same_gives a c e n (set_same before p true p refl)
+      (λ i lt. agreed_bit (a i) (c i) (e i)))))
+
+  gt_does : DoesWords op.Gt Bit n 1 0 m
+  unfolding values_from
+  gt_does before =
+      let b = placed_body (rooms_for op.Gt m)
+      (compared (first sub.Inner) (second sub.Inner) (target sub.Zero)) in
+      let p = row n m.target 0 in
+      let start = set_spot before p false in
+      let e = λ (i : ℕ). turn n 0 b (after_two 0) start i 0 in
+      let a = λ (i : ℕ). start (row n m.a i) in
+      let c = λ (i : ℕ). start (row n m.b i) in
+      let none : number a n + bit (e 0) ≡ number a n =
+      (let z = ap bit (set_same before p false p refl) in omega (arith, z)) in
+      subst (Gives op.Gt n 1 n 0 m before) (sym (steps_each n b [] start))
+      (state_does op.Gt n m are b.reads b.graph.inputs b.graph.nodes (plain 4) (after_two 0) false before
+      (a_by_state n m are, (b_by_state n m are, ((omega arith, λ i j li lj. refl), tt)))
+      (ap bit (compare a c e n (λ i lt. refl) ∙ ap (nat_lt (number c n)) none)))
+
+  ge_does : DoesWords op.Ge Bit n 1 0 m
+  unfolding values_from
+  ge_does before =
+      let b = placed_body (rooms_for op.Ge m)
+      (compared (first sub.Inner) (second sub.Inner) (target sub.Zero)) in
+      let p = row n m.target 0 in
+      let start = set_spot before p true in
+      let e = λ (i : ℕ). turn n 0 b (after_two 0) start i 0 in
+      let a = λ (i : ℕ). start (row n m.a i) in
+      let c = λ (i : ℕ). start (row n m.b i) in
+      subst (Gives op.Ge n 1 n 0 m before) (sym (steps_each n b [] start))
+      (state_does op.Ge n m are b.reads b.graph.inputs b.graph.nodes (plain 4) (after_two 0) true before
+      (a_by_state n m are, (b_by_state n m are, ((omega arith, λ i j li lj. refl), tt)))
+      (ap bit (compare a c e n (λ i lt. refl)
+      ∙ ap (λ x. nat_lt (number c n) (number a n + bit x)) (set_same before p true p refl)
+      ∙ at_least (number a n) (number c n))))
+
+  and_red_does : DoesWords op.AndRed Bit n 1 0 m
+  unfolding values_from
+  and_red_does before =
+      let b = placed_body (rooms_for op.AndRed m)
+      (joined off (first sub.Inner) (target sub.Zero) (target sub.Zero)) in
+      let p = row n m.target 0 in
+      let start = set_spot before p true in
+      let e = λ (i : ℕ). turn n 0 b (after_one 0) start i 0 in
+      let a = λ (i : ℕ). start (row n m.a i) in
+      subst (Gives op.AndRed n 1 n 0 m before) (sym (steps_each n b [] start))
+      (state_does op.AndRed n m are b.reads b.graph.inputs b.graph.nodes (plain 3) (after_one 0) true before
+      (a_by_state n m are, ((omega arith, λ i j li lj. refl), tt))
+      (ap bit (all_gives a e n (set_same before p true p refl) (λ i lt. refl))))
+
+  or_red_does : DoesWords op.OrRed Bit n 1 0 m
+  unfolding values_from
+  or_red_does before =
+      let b = placed_body (rooms_for op.OrRed m)
+      (joined up (first sub.Inner) (target sub.Zero) (target sub.Zero)) in
+      let p = row n m.target 0 in
+      let start = set_spot before p false in
+      let e = λ (i : ℕ). turn n 0 b (after_one 0) start i 0 in
+      let a = λ (i : ℕ). start (row n m.a i) in
+      subst (Gives op.OrRed n 1 n 0 m before) (sym (steps_each n b [] start))
+      (state_does op.OrRed n m are b.reads b.graph.inputs b.graph.nodes (plain 3) (after_one 0) false before
+      (a_by_state n m are, ((omega arith, λ i j li lj. refl), tt))
+      (ap bit (any_gives a e n (set_same before p false p refl) (λ i lt. refl))))
+
+  xor_red_does : DoesWords op.XorRed Bit n 1 0 m
+  unfolding values_from
+  xor_red_does before =
+      let b = placed_body (rooms_for op.XorRed m)
+      (unlike (first sub.Inner) (target sub.Zero) (target sub.Zero)) in
+      let p = row n m.target 0 in
+      let start = set_spot before p false in
+      let e = λ (i : ℕ). turn n 0 b (after_one 0) start i 0 in
+      let a = λ (i : ℕ). start (row n m.a i) in
+      subst (Gives op.XorRed n 1 n 0 m before) (sym (steps_each n b [] start))
+      (state_does op.XorRed n m are b.reads b.graph.inputs b.graph.nodes (plain 5) (after_one 0) false before
+      (a_by_state n m are, ((omega arith, λ i j li lj. refl), tt))
+      (parity_gives a e n (set_same before p false p refl) (λ i lt. unlike_bit (a i) (e i))))
+
+-- on bits
+not_bit_does : (n : ℕ) (m : Slots) → DoesBits op.Not n m
+unfolding values_from
+not_bit_does n m before = bit_does n m before op.Not (not (before (row n m.a 0)))
+    (by (before (row n m.a 0)))
   where
-    pub gives : (before : Spots)
-        → slot_bits n (after_rounds n (all_rounds n (steps_on p k t args free)) before) t
-        ≡ bits (op_value p (slots_width n args) (map (λ a. value (slot_bits n before a)) args))
-        (width n t.kind)
-    pub keeps : (before : Spots) (q : Spot) → ((v : ℕ) → v < width n t.kind → q ≡ slot_spot n t v
-        → ⊥)
-        → ((j : ℕ) → j < bits_inside p → q ≡ spot_in n ScratchBit (free + j) 0 → ⊥)
-        → after_rounds n (all_rounds n (steps_on p k t args free)) before q ≡ before q
+    by : (x : Bool) → bit (not x) ≡ 2 ^ 1 - 1 - bit x
+    by true = refl
+    by false = refl
 
-pub record Lowers (p : WordOp) (k : Kind) (t : Slot) (args : List Slot) (free : ℕ) : Type 0 where
-  pub fit : steps_fit (rooms_of t args (scratch_from free (bits_inside p))) (program p k) ≡ true
-  pub same : program_on (owners_of t args free) (program p k) ≡ steps_on p k t args free
-  pub short : is_short (steps_on p k t args free) ≡ true
-  pub does : (n : ℕ) → 0 < n → Pieces n t args (scratch_from free (bits_inside p))
-      → DoesOp p n k t args free
-  pub cheap : (n : ℕ) → rounds_cost (all_rounds n (steps_on p k t args free))
-      ≤ op_ceiling p (slots_width n args)
+copy_bit_does : (n : ℕ) (m : Slots) → DoesBits op.Copy n m
+unfolding values_from
+copy_bit_does n m before = bit_does n m before op.Copy (before (row n m.a 0)) refl
 
--- from numbers to bits
-number_answer : (p : WordOp) (n l bound : ℕ) (t : Slot) (m : Slots) (before after : Spots) (x : ℕ)
-    → m.target ≡ t → Gives p n (width n t.kind) l bound m before after
-    → operation p l (number_at n before m.a l) (number_at n before m.b l) (number_at n before m.s 1)
-    ≡ x → slot_bits n after t ≡ bits x (width n t.kind)
-number_answer p n l bound t m before after x e g h =
-    sym (bits_of_number (λ v. after (row n t v)) (width n t.kind))
-    ∙ ap (λ y. bits y (width n t.kind)) (sym (ap
-    (λ (z : Slot). number_at n after z (width n t.kind)) e) ∙ g.gives ∙ h)
+and_bit_does : (n : ℕ) (m : Slots) → DoesBits op.And n m
+unfolding values_from majority bits
+and_bit_does n m before = bit_does n m before op.And
+    (majority false (before (row n m.a 0)) (before (row n m.b 0)))
+    (by (before (row n m.a 0)) (before (row n m.b 0)))
+  where
+    by : (x y : Bool) → bit (majority false x y) ≡ operation op.And 1 (bit x) (bit y) 0
+    by true true = refl
+    by true false = refl
+    by false true = refl
+    by false false = refl
 
-elsewhere : (n bound : ℕ) (m : Slots) (q : Spot)
-    → ((v : ℕ) → v < width n m.target.kind → q ≡ slot_spot n m.target v → ⊥)
-    → ((j : ℕ) → j < bound → q ≡ spot_in n ScratchBit (m.free_bit + j) 0 → ⊥)
-    → IsElsewhere n (width n m.target.kind) bound m q
-elsewhere n bound m q out free = record {
-  target = out;
-  bit = λ h e. free 0 h (let f : m.free_bit ≡ m.free_bit + 0 = omega arith in
-      e ∙ ap (λ z. spot_in n ScratchBit z 0) f);
-}
+if_else_bit_does : (n : ℕ) (m : Slots) → DoesBits op.IfElse n m
+unfolding values_from majority
+if_else_bit_does n m before = bit_does n m before op.IfElse
+    (majority true (majority false (before (row n m.a 0)) (before (row n m.s 0)))
+    (majority (before (row n m.b 0)) (not (before (row n m.s 0)))
+    (majority false (before (row n m.a 0)) (before (row n m.s 0)))))
+    (by (before (row n m.a 0)) (before (row n m.b 0)) (before (row n m.s 0)))
+  where
+    by : (x y s : Bool)
+        → bit (majority true (majority false x s) (majority y (not s) (majority false x s)))
+        ≡ operation op.IfElse 1 (bit x) (bit y) (bit s)
+    by true true true = refl
+    by true true false = refl
+    by true false true = refl
+    by true false false = refl
+    by false true true = refl
+    by false true false = refl
+    by false false true = refl
+    by false false false = refl
 
-lowers_0 : (p : WordOp) (k : Kind) (t : Slot) (free : ℕ)
-    → steps_fit (rooms_of t [] (scratch_from free (bits_inside p))) (program p k) ≡ true
-    → program_on (owners_of t [] free) (program p k) ≡ steps_on p k t [] free
-    → is_short (steps_on p k t [] free) ≡ true
-    → ((n x y z : ℕ) → operation p n x y z ≡ op_value p n [])
-    → ((n : ℕ) → 0 < n → Pieces n t [] (scratch_from free (bits_inside p)) → (before : Spots)
-    → Gives p n (width n t.kind) n (bits_inside p) (names_0 t free) before
-    (after_rounds n (all_rounds n (steps_on p k t [] free)) before))
-    → ((n : ℕ) → rounds_cost (all_rounds n (steps_on p k t [] free)) ≤ op_ceiling p n)
-    → Lowers p k t [] free
-lowers_0 p k t free fit like short h does cheap = record {
-  fit = fit;
-  same = like;
-  short = short;
-  does = λ n some pieces. record {
-    gives = λ before. number_answer p n n (bits_inside p) t (names_0 t free) before
-        (after_rounds n (all_rounds n (steps_on p k t [] free)) before) _ refl
-        (does n some pieces before) (h n (number_at n before no_slot n)
-        (number_at n before no_slot n) (number_at n before no_slot 1));
-    keeps = λ before q out free_out. (does n some pieces before).keeps q
-        (elsewhere n (bits_inside p) (names_0 t free) q out free_out);
-  };
-  cheap = cheap;
-}
+or_bit_does : (n : ℕ) (m : Slots) → DoesBits op.Or n m
+unfolding values_from majority bits
+or_bit_does n m before = bit_does n m before op.Or
+    (majority true (before (row n m.a 0)) (before (row n m.b 0)))
+    (by (before (row n m.a 0)) (before (row n m.b 0)))
+  where
+    by : (x y : Bool) → bit (majority true x y) ≡ operation op.Or 1 (bit x) (bit y) 0
+    by true true = refl
+    by true false = refl
+    by false true = refl
+    by false false = refl
 
-lowers_1 : (p : WordOp) (k : Kind) (t a : Slot) (free : ℕ)
-    → steps_fit (rooms_of t (a ∷ []) (scratch_from free (bits_inside p))) (program p k) ≡ true
-    → program_on (owners_of t (a ∷ []) free) (program p k) ≡ steps_on p k t (a ∷ []) free
-    → is_short (steps_on p k t (a ∷ []) free) ≡ true
-    → ((n x y z : ℕ) → operation p (width n a.kind) x y z ≡ op_value p (width n a.kind) (x ∷ []))
-    → ((n : ℕ) → 0 < n → Pieces n t (a ∷ []) (scratch_from free (bits_inside p)) → (before : Spots)
-    → Gives p n (width n t.kind) (width n a.kind) (bits_inside p) (names_1 t a free) before
-    (after_rounds n (all_rounds n (steps_on p k t (a ∷ []) free)) before))
-    → ((n : ℕ) → rounds_cost (all_rounds n (steps_on p k t (a ∷ []) free))
-    ≤ op_ceiling p (width n a.kind))
-    → Lowers p k t (a ∷ []) free
-lowers_1 p k t a free fit like short h does cheap = record {
-  fit = fit;
-  same = like;
-  short = short;
-  does = λ n some pieces. record {
-    gives = λ before. number_answer p n (width n a.kind) (bits_inside p) t (names_1 t a free) before
-        (after_rounds n (all_rounds n (steps_on p k t (a ∷ []) free)) before) _ refl
-        (does n some pieces before) (h n (number_at n before a (width n a.kind))
-        (number_at n before a (width n a.kind)) (number_at n before a 1)
-        ∙ ap (λ x. op_value p (width n a.kind) (x ∷ []))
-        (sym (value_of_list (λ v. before (row n a v)) (width n a.kind))));
-    keeps = λ before q out free_out. (does n some pieces before).keeps q
-        (elsewhere n (bits_inside p) (names_1 t a free) q out free_out);
-  };
-  cheap = cheap;
-}
+xor_bit_does : (n : ℕ) (m : Slots) → DoesBits op.Xor n m
+unfolding values_from majority bits
+xor_bit_does n m before = bit_does n m before op.Xor
+    (majority true (majority false (not (before (row n m.a 0))) (before (row n m.b 0)))
+    (majority false (before (row n m.a 0)) (not (before (row n m.b 0)))))
+    (by (before (row n m.a 0)) (before (row n m.b 0)))
+  where
+    by : (x y : Bool) → bit (majority true (majority false (not x) y) (majority false x (not y)))
+        ≡ operation op.Xor 1 (bit x) (bit y) 0
+    by true true = refl
+    by true false = refl
+    by false true = refl
+    by false false = refl
 
-lowers_2 : (p : WordOp) (k : Kind) (t a b : Slot) (free : ℕ) → a.kind ≡ b.kind
-    → steps_fit (rooms_of t (a ∷ b ∷ []) (scratch_from free (bits_inside p))) (program p k) ≡ true
-    → program_on (owners_of t (a ∷ b ∷ []) free) (program p k) ≡ steps_on p k t (a ∷ b ∷ []) free
-    → is_short (steps_on p k t (a ∷ b ∷ []) free) ≡ true
-    → ((n x y z : ℕ) → operation p (width n a.kind) x y z
-    ≡ op_value p (width n a.kind) (x ∷ y ∷ []))
-    → ((n : ℕ) → 0 < n → Pieces n t (a ∷ b ∷ []) (scratch_from free (bits_inside p))
-    → (before : Spots) → Gives p n (width n t.kind) (width n a.kind) (bits_inside p)
-    (names_2 t a b free) before (after_rounds n
-    (all_rounds n (steps_on p k t (a ∷ b ∷ []) free)) before))
-    → ((n : ℕ) → rounds_cost (all_rounds n (steps_on p k t (a ∷ b ∷ []) free))
-    ≤ op_ceiling p (width n a.kind))
-    → Lowers p k t (a ∷ b ∷ []) free
-lowers_2 p k t a b free same fit like short h does cheap = record {
-  fit = fit;
-  same = like;
-  short = short;
-  does = λ n some pieces. record {
-    gives = λ before. number_answer p n (width n a.kind) (bits_inside p) t (names_2 t a b free)
-        before (after_rounds n (all_rounds n (steps_on p k t (a ∷ b ∷ []) free)) before) _ refl
-        (does n some pieces before) (h n (number_at n before a (width n a.kind))
-        (number_at n before b (width n a.kind)) (number_at n before a 1)
-        ∙ ap (λ x. op_value p (width n a.kind) (x ∷ number_at n before b (width n a.kind) ∷ []))
-        (sym (value_of_list (λ v. before (row n a v)) (width n a.kind)))
-        ∙ ap (λ x. op_value p (width n a.kind) (value (slot_bits n before a) ∷ x ∷ []))
-        (ap (λ l. number_at n before b (width n l)) same
-        ∙ sym (value_of_list (λ v. before (row n b v)) (width n b.kind))));
-    keeps = λ before q out free_out. (does n some pieces before).keeps q
-        (elsewhere n (bits_inside p) (names_2 t a b free) q out free_out);
-  };
-  cheap = cheap;
-}
+-- a row of the table names its operation
+pub row_is_own : (p : WordOp) → (program_at (place_of p)).0 ≡ p
+row_is_own op.Not = refl
+row_is_own p = refl
 
-lowers_3 : (p : WordOp) (k : Kind) (t a b s : Slot) (free : ℕ) → a.kind ≡ b.kind → s.kind ≡ Bit
-    → steps_fit (rooms_of t (a ∷ b ∷ s ∷ []) (scratch_from free (bits_inside p))) (program p k)
-    ≡ true
-    → program_on (owners_of t (a ∷ b ∷ s ∷ []) free) (program p k)
-    ≡ steps_on p k t (a ∷ b ∷ s ∷ []) free
-    → is_short (steps_on p k t (a ∷ b ∷ s ∷ []) free) ≡ true
-    → ((n x y z : ℕ) → operation p (width n a.kind) x y z
-    ≡ op_value p (width n a.kind) (x ∷ y ∷ z ∷ []))
-    → ((n : ℕ) → 0 < n → Pieces n t (a ∷ b ∷ s ∷ []) (scratch_from free (bits_inside p))
-    → (before : Spots) → Gives p n (width n t.kind) (width n a.kind) (bits_inside p)
-    (names_3 t a b s free) before (after_rounds n
-    (all_rounds n (steps_on p k t (a ∷ b ∷ s ∷ []) free)) before))
-    → ((n : ℕ) → rounds_cost (all_rounds n (steps_on p k t (a ∷ b ∷ s ∷ []) free))
-    ≤ op_ceiling p (width n a.kind))
-    → Lowers p k t (a ∷ b ∷ s ∷ []) free
-lowers_3 p k t a b s free same bit_kind fit like short h does cheap = record {
-  fit = fit;
-  same = like;
-  short = short;
-  does = λ n some pieces. record {
-    gives = λ before. number_answer p n (width n a.kind) (bits_inside p) t (names_3 t a b s free)
-        before (after_rounds n (all_rounds n (steps_on p k t (a ∷ b ∷ s ∷ []) free)) before) _ refl
-        (does n some pieces before) (h n (number_at n before a (width n a.kind))
-        (number_at n before b (width n a.kind)) (number_at n before s 1)
-        ∙ ap (λ x. op_value p (width n a.kind) (x ∷ number_at n before b (width n a.kind)
-        ∷ number_at n before s 1 ∷ [])) (sym (value_of_list (λ v. before (row n a v))
-        (width n a.kind))) ∙ ap (λ x. op_value p (width n a.kind) (value (slot_bits n before a) ∷ x
-        ∷ number_at n before s 1 ∷ [])) (ap (λ l. number_at n before b (width n l)) same
-        ∙ sym (value_of_list (λ v. before (row n b v)) (width n b.kind)))
-        ∙ ap (λ x. op_value p (width n a.kind) (value (slot_bits n before a)
-        ∷ value (slot_bits n before b) ∷ x ∷ []))
-        (ap (λ l. number_at n before s (width n l)) (sym bit_kind)
-        ∙ sym (value_of_list (λ v. before (row n s v)) (width n s.kind))));
-    keeps = λ before q out free_out. (does n some pieces before).keeps q
-        (elsewhere n (bits_inside p) (names_3 t a b s free) q out free_out);
-  };
-  cheap = cheap;
-}
+abbrev pub DoesIn : WordOp → Kind → ℕ → Slots → Type 0
+DoesIn p c n m = let sh = (row_of p).shape in let k = gives_kind sh c in
+    (before : Spots) → Gives p n (width n k) (width n (arg_kind sh c)) (bits_inside p) m before
+    (after_rounds n (all_rounds n (steps_for p k m)) before)
 
-abbrev pub slot : Space → ℕ → Kind → Slot
-slot space which k = record { space = space; which = which; kind = k }
-
-pub on_not : (x0 : Space) (y0 : ℕ) (x1 : Space) (y1 : ℕ) (free : ℕ)
-    → Lowers op.Not Word (slot x0 y0 Word) (slot x1 y1 Word ∷ []) free
-on_not x0 y0 x1 y1 free = lowers_1 op.Not Word (slot x0 y0 Word) (slot x1 y1 Word) free refl refl
-    refl (λ n x y z. refl)
-    (λ n some pieces before. w.not_does n (names_1 (slot x0 y0 Word) (slot x1 y1 Word) free)
-    (slots_1 n (slot x0 y0 Word) (slot x1 y1 Word) free some pieces) before)
-    (λ n. let e = total_is n (steps_on op.Not Word (slot x0 y0 Word) (slot x1 y1 Word ∷ []) free) in
-    omega (arith, e))
-
-pub on_not_bit : (x0 : Space) (y0 : ℕ) (x1 : Space) (y1 : ℕ) (free : ℕ)
-    → Lowers op.Not Bit (slot x0 y0 Bit) (slot x1 y1 Bit ∷ []) free
-on_not_bit x0 y0 x1 y1 free = lowers_1 op.Not Bit (slot x0 y0 Bit) (slot x1 y1 Bit) free refl refl
-    refl (λ n x y z. refl)
-    (λ n some pieces before. w.not_bit_does n (names_1 (slot x0 y0 Bit) (slot x1 y1 Bit) free)
-    before)
-    (λ n. let e = total_is n (steps_on op.Not Bit (slot x0 y0 Bit) (slot x1 y1 Bit ∷ []) free) in
-    omega (arith, e))
-
-pub on_copy : (x0 : Space) (y0 : ℕ) (x1 : Space) (y1 : ℕ) (free : ℕ)
-    → Lowers op.Copy Word (slot x0 y0 Word) (slot x1 y1 Word ∷ []) free
-on_copy x0 y0 x1 y1 free = lowers_1 op.Copy Word (slot x0 y0 Word) (slot x1 y1 Word) free refl refl
-    refl (λ n x y z. refl)
-    (λ n some pieces before. w.copy_does n (names_1 (slot x0 y0 Word) (slot x1 y1 Word) free)
-    (slots_1 n (slot x0 y0 Word) (slot x1 y1 Word) free some pieces) before)
-    (λ n. let e = total_is n (steps_on op.Copy Word (slot x0 y0 Word) (slot x1 y1 Word ∷ []) free)
-    in omega (arith, e))
-
-pub on_copy_bit : (x0 : Space) (y0 : ℕ) (x1 : Space) (y1 : ℕ) (free : ℕ)
-    → Lowers op.Copy Bit (slot x0 y0 Bit) (slot x1 y1 Bit ∷ []) free
-on_copy_bit x0 y0 x1 y1 free = lowers_1 op.Copy Bit (slot x0 y0 Bit) (slot x1 y1 Bit) free refl refl
-    refl (λ n x y z. refl)
-    (λ n some pieces before. w.copy_bit_does n (names_1 (slot x0 y0 Bit) (slot x1 y1 Bit) free)
-    before)
-    (λ n. let e = total_is n (steps_on op.Copy Bit (slot x0 y0 Bit) (slot x1 y1 Bit ∷ []) free) in
-    omega (arith, e))
-
-pub on_and : (x0 : Space) (y0 : ℕ) (x1 : Space) (y1 : ℕ) (x2 : Space) (y2 : ℕ) (free : ℕ)
-    → Lowers op.And Word (slot x0 y0 Word) (slot x1 y1 Word ∷ slot x2 y2 Word ∷ []) free
-on_and x0 y0 x1 y1 x2 y2 free = lowers_2 op.And Word (slot x0 y0 Word) (slot x1 y1 Word)
-    (slot x2 y2 Word) free refl refl refl refl (λ n x y z. refl)
-    (λ n some pieces before. w.and_does n (names_2 (slot x0 y0 Word) (slot x1 y1 Word)
-    (slot x2 y2 Word) free) (slots_2 n (slot x0 y0 Word) (slot x1 y1 Word) (slot x2 y2 Word)
-    free some refl pieces) before)
-    (λ n. let e = total_is n (steps_on op.And Word (slot x0 y0 Word) (slot x1 y1 Word
-    ∷ slot x2 y2 Word ∷ []) free) in omega (arith, e))
-
-pub on_and_bit : (x0 : Space) (y0 : ℕ) (x1 : Space) (y1 : ℕ) (x2 : Space) (y2 : ℕ) (free : ℕ)
-    → Lowers op.And Bit (slot x0 y0 Bit) (slot x1 y1 Bit ∷ slot x2 y2 Bit ∷ []) free
-on_and_bit x0 y0 x1 y1 x2 y2 free = lowers_2 op.And Bit (slot x0 y0 Bit) (slot x1 y1 Bit)
-    (slot x2 y2 Bit) free refl refl refl refl (λ n x y z. refl)
-    (λ n some pieces before. w.and_bit_does n
-    (names_2 (slot x0 y0 Bit) (slot x1 y1 Bit) (slot x2 y2 Bit) free) before)
-    (λ n. let e = total_is n (steps_on op.And Bit (slot x0 y0 Bit) (slot x1 y1 Bit ∷ slot x2 y2 Bit
-    ∷ []) free) in omega (arith, e))
-
-pub on_or : (x0 : Space) (y0 : ℕ) (x1 : Space) (y1 : ℕ) (x2 : Space) (y2 : ℕ) (free : ℕ)
-    → Lowers op.Or Word (slot x0 y0 Word) (slot x1 y1 Word ∷ slot x2 y2 Word ∷ []) free
-on_or x0 y0 x1 y1 x2 y2 free = lowers_2 op.Or Word (slot x0 y0 Word) (slot x1 y1 Word)
-    (slot x2 y2 Word) free refl refl refl refl (λ n x y z. refl)
-    (λ n some pieces before. w.or_does n (names_2 (slot x0 y0 Word) (slot x1 y1 Word)
-    (slot x2 y2 Word) free) (slots_2 n (slot x0 y0 Word) (slot x1 y1 Word) (slot x2 y2 Word)
-    free some refl pieces) before)
-    (λ n. let e = total_is n (steps_on op.Or Word (slot x0 y0 Word) (slot x1 y1 Word
-    ∷ slot x2 y2 Word ∷ []) free) in omega (arith, e))
-
-pub on_or_bit : (x0 : Space) (y0 : ℕ) (x1 : Space) (y1 : ℕ) (x2 : Space) (y2 : ℕ) (free : ℕ)
-    → Lowers op.Or Bit (slot x0 y0 Bit) (slot x1 y1 Bit ∷ slot x2 y2 Bit ∷ []) free
-on_or_bit x0 y0 x1 y1 x2 y2 free = lowers_2 op.Or Bit (slot x0 y0 Bit) (slot x1 y1 Bit)
-    (slot x2 y2 Bit) free refl refl refl refl (λ n x y z. refl)
-    (λ n some pieces before. w.or_bit_does n (names_2 (slot x0 y0 Bit) (slot x1 y1 Bit)
-    (slot x2 y2 Bit) free) before)
-    (λ n. let e = total_is n (steps_on op.Or Bit (slot x0 y0 Bit) (slot x1 y1 Bit ∷ slot x2 y2 Bit
-    ∷ []) free) in omega (arith, e))
-
-pub on_xor : (x0 : Space) (y0 : ℕ) (x1 : Space) (y1 : ℕ) (x2 : Space) (y2 : ℕ) (free : ℕ)
-    → Lowers op.Xor Word (slot x0 y0 Word) (slot x1 y1 Word ∷ slot x2 y2 Word ∷ []) free
-on_xor x0 y0 x1 y1 x2 y2 free = lowers_2 op.Xor Word (slot x0 y0 Word) (slot x1 y1 Word)
-    (slot x2 y2 Word) free refl refl refl refl (λ n x y z. refl)
-    (λ n some pieces before. w.xor_does n (names_2 (slot x0 y0 Word) (slot x1 y1 Word)
-    (slot x2 y2 Word) free) (slots_2 n (slot x0 y0 Word) (slot x1 y1 Word) (slot x2 y2 Word)
-    free some refl pieces) before)
-    (λ n. let e = total_is n (steps_on op.Xor Word (slot x0 y0 Word) (slot x1 y1 Word
-    ∷ slot x2 y2 Word ∷ []) free) in omega (arith, e))
-
-pub on_xor_bit : (x0 : Space) (y0 : ℕ) (x1 : Space) (y1 : ℕ) (x2 : Space) (y2 : ℕ) (free : ℕ)
-    → Lowers op.Xor Bit (slot x0 y0 Bit) (slot x1 y1 Bit ∷ slot x2 y2 Bit ∷ []) free
-on_xor_bit x0 y0 x1 y1 x2 y2 free = lowers_2 op.Xor Bit (slot x0 y0 Bit) (slot x1 y1 Bit)
-    (slot x2 y2 Bit) free refl refl refl refl (λ n x y z. refl)
-    (λ n some pieces before. w.xor_bit_does n
-    (names_2 (slot x0 y0 Bit) (slot x1 y1 Bit) (slot x2 y2 Bit) free) before)
-    (λ n. let e = total_is n (steps_on op.Xor Bit (slot x0 y0 Bit) (slot x1 y1 Bit ∷ slot x2 y2 Bit
-    ∷ []) free) in omega (arith, e))
-
-pub on_zero : (x0 : Space) (y0 : ℕ) (free : ℕ) → Lowers op.Zero Word (slot x0 y0 Word) [] free
-on_zero x0 y0 free = lowers_0 op.Zero Word (slot x0 y0 Word) free refl refl refl (λ n x y z. refl)
-    (λ n some pieces before. w.zero_does n (names_0 (slot x0 y0 Word) free)
-    (slots_0 n (slot x0 y0 Word) free pieces) before)
-    (λ n. let e = total_is n (steps_on op.Zero Word (slot x0 y0 Word) [] free) in omega (arith, e))
-
-pub on_ones : (x0 : Space) (y0 : ℕ) (free : ℕ) → Lowers op.Ones Word (slot x0 y0 Word) [] free
-on_ones x0 y0 free = lowers_0 op.Ones Word (slot x0 y0 Word) free refl refl refl (λ n x y z. refl)
-    (λ n some pieces before. w.ones_does n (names_0 (slot x0 y0 Word) free)
-    (slots_0 n (slot x0 y0 Word) free pieces) before)
-    (λ n. let e = total_is n (steps_on op.Ones Word (slot x0 y0 Word) [] free) in omega (arith, e))
-
-pub on_shl1 : (x0 : Space) (y0 : ℕ) (x1 : Space) (y1 : ℕ) (free : ℕ)
-    → Lowers op.Shl1 Word (slot x0 y0 Word) (slot x1 y1 Word ∷ []) free
-on_shl1 x0 y0 x1 y1 free = lowers_1 op.Shl1 Word (slot x0 y0 Word) (slot x1 y1 Word) free refl refl
-    refl (λ n x y z. refl)
-    (λ n some pieces before. c.shl1_does n (names_1 (slot x0 y0 Word) (slot x1 y1 Word) free)
-    (slots_1_free n (slot x0 y0 Word) (slot x1 y1 Word) free some pieces) before)
-    (λ n. let e = total_is n (steps_on op.Shl1 Word (slot x0 y0 Word) (slot x1 y1 Word ∷ []) free)
-    in omega (arith, e))
-
-pub on_shr1 : (x0 : Space) (y0 : ℕ) (x1 : Space) (y1 : ℕ) (free : ℕ)
-    → Lowers op.Shr1 Word (slot x0 y0 Word) (slot x1 y1 Word ∷ []) free
-on_shr1 x0 y0 x1 y1 free = lowers_1 op.Shr1 Word (slot x0 y0 Word) (slot x1 y1 Word) free refl refl
-    refl (λ n x y z. refl)
-    (λ n some pieces before. c.shr1_does n (names_1 (slot x0 y0 Word) (slot x1 y1 Word) free)
-    (slots_1_free n (slot x0 y0 Word) (slot x1 y1 Word) free some pieces) some before)
-    (λ n. let e = total_is n (steps_on op.Shr1 Word (slot x0 y0 Word) (slot x1 y1 Word ∷ []) free)
-    in omega (arith, e))
-
-pub on_abs : (x0 : Space) (y0 : ℕ) (x1 : Space) (y1 : ℕ) (free : ℕ)
-    → Lowers op.Abs Word (slot x0 y0 Word) (slot x1 y1 Word ∷ []) free
-on_abs x0 y0 x1 y1 free = lowers_1 op.Abs Word (slot x0 y0 Word) (slot x1 y1 Word) free refl refl
-    refl (λ n x y z. refl)
-    (λ n some pieces before. c.abs_does n (names_1 (slot x0 y0 Word) (slot x1 y1 Word) free)
-    (slots_1_free n (slot x0 y0 Word) (slot x1 y1 Word) free some pieces) some before)
-    (λ n. let e = total_is n (steps_on op.Abs Word (slot x0 y0 Word) (slot x1 y1 Word ∷ []) free) in
-    omega (arith, e))
-
-pub on_relu : (x0 : Space) (y0 : ℕ) (x1 : Space) (y1 : ℕ) (free : ℕ)
-    → Lowers op.Relu Word (slot x0 y0 Word) (slot x1 y1 Word ∷ []) free
-on_relu x0 y0 x1 y1 free = lowers_1 op.Relu Word (slot x0 y0 Word) (slot x1 y1 Word) free refl refl
-    refl (λ n x y z. refl)
-    (λ n some pieces before. w.relu_does n (names_1 (slot x0 y0 Word) (slot x1 y1 Word) free)
-    (slots_1 n (slot x0 y0 Word) (slot x1 y1 Word) free some pieces) some before)
-    (λ n. let e = total_is n (steps_on op.Relu Word (slot x0 y0 Word) (slot x1 y1 Word ∷ []) free)
-    in omega (arith, e))
-
-pub on_add : (x0 : Space) (y0 : ℕ) (x1 : Space) (y1 : ℕ) (x2 : Space) (y2 : ℕ) (free : ℕ)
-    → Lowers op.Add Word (slot x0 y0 Word) (slot x1 y1 Word ∷ slot x2 y2 Word ∷ []) free
-on_add x0 y0 x1 y1 x2 y2 free = lowers_2 op.Add Word (slot x0 y0 Word) (slot x1 y1 Word)
-    (slot x2 y2 Word) free refl refl refl refl (λ n x y z. refl)
-    (λ n some pieces before. c.add_does n (names_2 (slot x0 y0 Word) (slot x1 y1 Word)
-    (slot x2 y2 Word) free) (slots_2_free n (slot x0 y0 Word) (slot x1 y1 Word)
-    (slot x2 y2 Word) free some refl pieces) before)
-    (λ n. let e = total_is n (steps_on op.Add Word (slot x0 y0 Word) (slot x1 y1 Word
-    ∷ slot x2 y2 Word ∷ []) free) in omega (arith, e))
-
-pub on_sub : (x0 : Space) (y0 : ℕ) (x1 : Space) (y1 : ℕ) (x2 : Space) (y2 : ℕ) (free : ℕ)
-    → Lowers op.Sub Word (slot x0 y0 Word) (slot x1 y1 Word ∷ slot x2 y2 Word ∷ []) free
-on_sub x0 y0 x1 y1 x2 y2 free = lowers_2 op.Sub Word (slot x0 y0 Word) (slot x1 y1 Word)
-    (slot x2 y2 Word) free refl refl refl refl (λ n x y z. refl)
-    (λ n some pieces before. c.sub_does n (names_2 (slot x0 y0 Word) (slot x1 y1 Word)
-    (slot x2 y2 Word) free) (slots_2_free n (slot x0 y0 Word) (slot x1 y1 Word)
-    (slot x2 y2 Word) free some refl pieces) before)
-    (λ n. let e = total_is n (steps_on op.Sub Word (slot x0 y0 Word) (slot x1 y1 Word
-    ∷ slot x2 y2 Word ∷ []) free) in omega (arith, e))
-
-pub on_min : (x0 : Space) (y0 : ℕ) (x1 : Space) (y1 : ℕ) (x2 : Space) (y2 : ℕ) (free : ℕ)
-    → Lowers op.Min Word (slot x0 y0 Word) (slot x1 y1 Word ∷ slot x2 y2 Word ∷ []) free
-on_min x0 y0 x1 y1 x2 y2 free = lowers_2 op.Min Word (slot x0 y0 Word) (slot x1 y1 Word)
-    (slot x2 y2 Word) free refl refl refl refl (λ n x y z. refl)
-    (λ n some pieces before. w.min_does n (names_2 (slot x0 y0 Word) (slot x1 y1 Word)
-    (slot x2 y2 Word) free) (slots_2_free n (slot x0 y0 Word) (slot x1 y1 Word)
-    (slot x2 y2 Word) free some refl pieces) before)
-    (λ n. let e = total_is n (steps_on op.Min Word (slot x0 y0 Word) (slot x1 y1 Word
-    ∷ slot x2 y2 Word ∷ []) free) in omega (arith, e))
-
-pub on_max : (x0 : Space) (y0 : ℕ) (x1 : Space) (y1 : ℕ) (x2 : Space) (y2 : ℕ) (free : ℕ)
-    → Lowers op.Max Word (slot x0 y0 Word) (slot x1 y1 Word ∷ slot x2 y2 Word ∷ []) free
-on_max x0 y0 x1 y1 x2 y2 free = lowers_2 op.Max Word (slot x0 y0 Word) (slot x1 y1 Word)
-    (slot x2 y2 Word) free refl refl refl refl (λ n x y z. refl)
-    (λ n some pieces before. w.max_does n (names_2 (slot x0 y0 Word) (slot x1 y1 Word)
-    (slot x2 y2 Word) free) (slots_2_free n (slot x0 y0 Word) (slot x1 y1 Word)
-    (slot x2 y2 Word) free some refl pieces) before)
-    (λ n. let e = total_is n (steps_on op.Max Word (slot x0 y0 Word) (slot x1 y1 Word
-    ∷ slot x2 y2 Word ∷ []) free) in omega (arith, e))
-
-pub on_eq : (x0 : Space) (y0 : ℕ) (x1 : Space) (y1 : ℕ) (x2 : Space) (y2 : ℕ) (free : ℕ)
-    → Lowers op.Eq Bit (slot x0 y0 Bit) (slot x1 y1 Word ∷ slot x2 y2 Word ∷ []) free
-on_eq x0 y0 x1 y1 x2 y2 free = lowers_2 op.Eq Bit (slot x0 y0 Bit) (slot x1 y1 Word)
-    (slot x2 y2 Word) free refl refl refl refl (λ n x y z. refl)
-    (λ n some pieces before. s.eq_does n (names_2 (slot x0 y0 Bit) (slot x1 y1 Word)
-    (slot x2 y2 Word) free) (slots_2 n (slot x0 y0 Bit) (slot x1 y1 Word) (slot x2 y2 Word) free
-    some refl pieces) before)
-    (λ n. let e = total_is n (steps_on op.Eq Bit (slot x0 y0 Bit) (slot x1 y1 Word ∷ slot x2 y2 Word
-    ∷ []) free) in omega (arith, e))
-
-pub on_gt : (x0 : Space) (y0 : ℕ) (x1 : Space) (y1 : ℕ) (x2 : Space) (y2 : ℕ) (free : ℕ)
-    → Lowers op.Gt Bit (slot x0 y0 Bit) (slot x1 y1 Word ∷ slot x2 y2 Word ∷ []) free
-on_gt x0 y0 x1 y1 x2 y2 free = lowers_2 op.Gt Bit (slot x0 y0 Bit) (slot x1 y1 Word)
-    (slot x2 y2 Word) free refl refl refl refl (λ n x y z. refl)
-    (λ n some pieces before. s.gt_does n (names_2 (slot x0 y0 Bit) (slot x1 y1 Word)
-    (slot x2 y2 Word) free) (slots_2 n (slot x0 y0 Bit) (slot x1 y1 Word) (slot x2 y2 Word) free
-    some refl pieces) before)
-    (λ n. let e = total_is n (steps_on op.Gt Bit (slot x0 y0 Bit) (slot x1 y1 Word ∷ slot x2 y2 Word
-    ∷ []) free) in omega (arith, e))
-
-pub on_ge : (x0 : Space) (y0 : ℕ) (x1 : Space) (y1 : ℕ) (x2 : Space) (y2 : ℕ) (free : ℕ)
-    → Lowers op.Ge Bit (slot x0 y0 Bit) (slot x1 y1 Word ∷ slot x2 y2 Word ∷ []) free
-on_ge x0 y0 x1 y1 x2 y2 free = lowers_2 op.Ge Bit (slot x0 y0 Bit) (slot x1 y1 Word)
-    (slot x2 y2 Word) free refl refl refl refl (λ n x y z. refl)
-    (λ n some pieces before. s.ge_does n (names_2 (slot x0 y0 Bit) (slot x1 y1 Word)
-    (slot x2 y2 Word) free) (slots_2 n (slot x0 y0 Bit) (slot x1 y1 Word) (slot x2 y2 Word) free
-    some refl pieces) before)
-    (λ n. let e = total_is n (steps_on op.Ge Bit (slot x0 y0 Bit) (slot x1 y1 Word ∷ slot x2 y2 Word
-    ∷ []) free) in omega (arith, e))
-
-pub on_if_else : (x0 : Space) (y0 : ℕ) (x1 : Space) (y1 : ℕ) (x2 : Space) (y2 : ℕ) (x3 : Space)
-    (y3 : ℕ) (free : ℕ) → Lowers op.IfElse Word (slot x0 y0 Word) (slot x1 y1 Word ∷ slot x2 y2 Word
-    ∷ slot x3 y3 Bit ∷ []) free
-on_if_else x0 y0 x1 y1 x2 y2 x3 y3 free = lowers_3 op.IfElse Word (slot x0 y0 Word)
-    (slot x1 y1 Word) (slot x2 y2 Word) (slot x3 y3 Bit) free refl refl refl refl refl (λ n x y z.
-    refl)
-    (λ n some pieces before. w.if_else_does n
-    (names_3 (slot x0 y0 Word) (slot x1 y1 Word) (slot x2 y2 Word) (slot x3 y3 Bit) free)
-    (slots_3 n (slot x0 y0 Word) (slot x1 y1 Word) (slot x2 y2 Word) (slot x3 y3 Bit) free some
-    refl pieces) before)
-    (λ n. let e = total_is n (steps_on op.IfElse Word (slot x0 y0 Word) (slot x1 y1 Word
-    ∷ slot x2 y2 Word ∷ slot x3 y3 Bit ∷ []) free) in omega (arith, e))
-
-pub on_if_else_bit : (x0 : Space) (y0 : ℕ) (x1 : Space) (y1 : ℕ) (x2 : Space) (y2 : ℕ) (x3 : Space)
-    (y3 : ℕ) (free : ℕ) → Lowers op.IfElse Bit (slot x0 y0 Bit) (slot x1 y1 Bit ∷ slot x2 y2 Bit
-    ∷ slot x3 y3 Bit ∷ []) free
-on_if_else_bit x0 y0 x1 y1 x2 y2 x3 y3 free =
-    lowers_3 op.IfElse Bit (slot x0 y0 Bit) (slot x1 y1 Bit) (slot x2 y2 Bit) (slot x3 y3 Bit) free
-    refl refl refl refl refl (λ n x y z. refl)
-    (λ n some pieces before. w.if_else_bit_does n
-    (names_3 (slot x0 y0 Bit) (slot x1 y1 Bit) (slot x2 y2 Bit) (slot x3 y3 Bit) free) before)
-    (λ n. let e = total_is n (steps_on op.IfElse Bit (slot x0 y0 Bit) (slot x1 y1 Bit
-    ∷ slot x2 y2 Bit ∷ slot x3 y3 Bit ∷ []) free) in omega (arith, e))
-
-pub on_and_red : (x0 : Space) (y0 : ℕ) (x1 : Space) (y1 : ℕ) (free : ℕ)
-    → Lowers op.AndRed Bit (slot x0 y0 Bit) (slot x1 y1 Word ∷ []) free
-on_and_red x0 y0 x1 y1 free = lowers_1 op.AndRed Bit (slot x0 y0 Bit) (slot x1 y1 Word) free refl
-    refl refl (λ n x y z. refl)
-    (λ n some pieces before. s.and_red_does n (names_1 (slot x0 y0 Bit) (slot x1 y1 Word) free)
-    (slots_1 n (slot x0 y0 Bit) (slot x1 y1 Word) free some pieces) before)
-    (λ n. let e = total_is n (steps_on op.AndRed Bit (slot x0 y0 Bit) (slot x1 y1 Word ∷ []) free)
-    in omega (arith, e))
-
-pub on_or_red : (x0 : Space) (y0 : ℕ) (x1 : Space) (y1 : ℕ) (free : ℕ)
-    → Lowers op.OrRed Bit (slot x0 y0 Bit) (slot x1 y1 Word ∷ []) free
-on_or_red x0 y0 x1 y1 free = lowers_1 op.OrRed Bit (slot x0 y0 Bit) (slot x1 y1 Word) free refl refl
-    refl (λ n x y z. refl)
-    (λ n some pieces before. s.or_red_does n (names_1 (slot x0 y0 Bit) (slot x1 y1 Word) free)
-    (slots_1 n (slot x0 y0 Bit) (slot x1 y1 Word) free some pieces) before)
-    (λ n. let e = total_is n (steps_on op.OrRed Bit (slot x0 y0 Bit) (slot x1 y1 Word ∷ []) free) in
-    omega (arith, e))
-
-pub on_xor_red : (x0 : Space) (y0 : ℕ) (x1 : Space) (y1 : ℕ) (free : ℕ)
-    → Lowers op.XorRed Bit (slot x0 y0 Bit) (slot x1 y1 Word ∷ []) free
-on_xor_red x0 y0 x1 y1 free = lowers_1 op.XorRed Bit (slot x0 y0 Bit) (slot x1 y1 Word) free refl
-    refl refl (λ n x y z. refl)
-    (λ n some pieces before. s.xor_red_does n (names_1 (slot x0 y0 Bit) (slot x1 y1 Word) free)
-    (slots_1 n (slot x0 y0 Bit) (slot x1 y1 Word) free some pieces) before)
-    (λ n. let e = total_is n (steps_on op.XorRed Bit (slot x0 y0 Bit) (slot x1 y1 Word ∷ []) free)
-    in omega (arith, e))
+-- The program of a linear operation gives its value, in the form that has words, and in the one that
+-- has bits where there is one
+pub op_gives : (p : WordOp) (c : Kind) → is_linear p ≡ true → (n : ℕ) (m : Slots) → 0 < n
+    → AreSlots n (width n (gives_kind (row_of p).shape c)) (width n (arg_kind (row_of p).shape c))
+    (bits_inside p) m
+    → DoesIn p c n m
+op_gives op.Not Word l n m some are = not_does n m are
+op_gives op.Not Bit l n m some are = not_bit_does n m
+op_gives op.And Word l n m some are = and_does n m are
+op_gives op.And Bit l n m some are = and_bit_does n m
+op_gives op.Or Word l n m some are = or_does n m are
+op_gives op.Or Bit l n m some are = or_bit_does n m
+op_gives op.Xor Word l n m some are = xor_does n m are
+op_gives op.Xor Bit l n m some are = xor_bit_does n m
+op_gives op.Copy Word l n m some are = copy_does n m are
+op_gives op.Copy Bit l n m some are = copy_bit_does n m
+op_gives op.IfElse Word l n m some are = if_else_does n m are
+op_gives op.IfElse Bit l n m some are = if_else_bit_does n m
+op_gives op.Zero c l n m some are = zero_does n m are
+op_gives op.Ones c l n m some are = ones_does n m are
+op_gives op.Shl1 c l n m some are = shl1_does n m are
+op_gives op.Shr1 c l n m some are = shr1_does n m are some
+op_gives op.Add c l n m some are = add_does n m are
+op_gives op.Sub c l n m some are = sub_does n m are
+op_gives op.Abs c l n m some are = abs_does n m are some
+op_gives op.Relu c l n m some are = relu_does n m are some
+op_gives op.Min c l n m some are = min_does n m are
+op_gives op.Max c l n m some are = max_does n m are
+op_gives op.Eq c l n m some are = eq_does n m are
+op_gives op.Gt c l n m some are = gt_does n m are
+op_gives op.Ge c l n m some are = ge_does n m are
+op_gives op.AndRed c l n m some are = and_red_does n m are
+op_gives op.OrRed c l n m some are = or_red_does n m are
+op_gives op.XorRed c l n m some are = xor_red_does n m are
+op_gives p c l n m some are = cc

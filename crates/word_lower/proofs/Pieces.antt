@@ -12,11 +12,15 @@ use Rattle.loop_ir.specs.declared.names.Slot.{Slot}
 use Rattle.loop_ir.specs.Spots.{Spot, spot_in, IsOwn}
 use Rattle.loop_ir.specs.Statements.{holds_kind}
 use Rattle.loop_laws.specs.Rooms.{Room, room_at, row_in, extent, RoomsApart}
-use Rattle.word_lower.specs.Places.{rows_of, room_of, rooms_of, scratch_bit}
-use Rattle.word_lower.proofs.Setting.{Slots, SlotsApart, AreSlots}
+use Rattle.word_lower.specs.Places.{rows_of, room_of, rooms_of, scratch_bit, scratch_from}
+use Rattle.word_lower.proofs.Setting.{Slots, SlotsApart, IsFree, AreSlots}
 
+abbrev pub slot : Space → ℕ → Kind → Slot
+slot space which k = record { space = space; which = which; kind = k }
+
+-- where there is no further argument, rows that no program writes
 abbrev pub no_slot : Slot
-no_slot = record { space = Source; which = 0; kind = Bit }
+no_slot = slot Source 0 Word
 
 abbrev pub slot_at : List Slot → ℕ → Slot
 slot_at [] k = no_slot
@@ -176,119 +180,71 @@ pub first_rows : (n : ℕ) (s t : Slot) (k : ℕ) (l : ℕ) → k ≤ width n s.
     → AreApart n s t → SlotsApart n s k t l
 first_rows n s t k l hk hl a = record { by = λ u v lu lv e. a.by u v (omega arith) (omega arith) e }
 
--- the names of a statement by its arguments
-abbrev pub names_0 : Slot → ℕ → Slots
-names_0 t free = record { target = t; a = no_slot; b = no_slot; s = no_slot; free_bit = free }
-
-abbrev pub names_1 : Slot → Slot → ℕ → Slots
-names_1 t a free = record { target = t; a = a; b = a; s = a; free_bit = free }
-
-abbrev pub names_2 : Slot → Slot → Slot → ℕ → Slots
-names_2 t a b free = record { target = t; a = a; b = b; s = a; free_bit = free }
-
-abbrev pub names_3 : Slot → Slot → Slot → Slot → ℕ → Slots
-names_3 t a b s free = record { target = t; a = a; b = b; s = s; free_bit = free }
-
-pub slots_0 : (n : ℕ) (t : Slot) (free : ℕ) → Pieces n t [] []
-    → AreSlots n (width n t.kind) n 0 (names_0 t free)
-slots_0 n t free are = record {
-  own = are.own;
-  moves = record { by = moves_in n t.space t.which t.kind are.holds };
-  a = record { by = λ u v lu lv e. source_apart n t.space t.which u v are.own e };
-  b = record { by = λ u v lu lv e. source_apart n t.space t.which u v are.own e };
-  s = record { by = λ u v lu lv e. source_apart n t.space t.which u v are.own e };
-  bit = λ h. absurd (omega arith);
+-- the names of a statement, by its arguments
+abbrev pub names : Slot → List Slot → ℕ → Slots
+names t args free = record {
+  target = t;
+  a = slot_at args 0;
+  b = slot_at args 1;
+  s = slot_at args 2;
+  free_bit = free;
 }
 
-pub slots_1 : (n : ℕ) (t a : Slot) (free : ℕ) → 0 < n → Pieces n t (a ∷ []) []
-    → AreSlots n (width n t.kind) (width n a.kind) 0 (names_1 t a free)
-slots_1 n t a free some are =
-    let one = some_rows n a.kind some in
-    record {
-      own = are.own;
-      moves = record { by = moves_in n t.space t.which t.kind are.holds };
-      a = are.given 0 (omega arith);
-      b = are.given 0 (omega arith);
-      s = first_rows n a t 1 (width n t.kind) (omega arith) (omega arith)
-          (are.given 0 (omega arith));
-      bit = λ h. absurd (omega arith);
-    }
+there_or_not : (ss : List Slot) (i : ℕ) → (i < length ss) ⊎ (slot_at ss i ≡ no_slot)
+there_or_not [] i = inr refl
+there_or_not (s ∷ ss) zero = inl (omega arith)
+there_or_not (s ∷ ss) (suc i) = elim (there_or_not ss i) [
+  | inl lt ↦ inl (omega (arith, lt))
+  | inr e ↦ inr e
+]
 
-pub slots_1_free : (n : ℕ) (t a : Slot) (free : ℕ) → 0 < n
-    → Pieces n t (a ∷ []) (scratch_bit free ∷ [])
-    → AreSlots n (width n t.kind) (width n a.kind) 1 (names_1 t a free)
-slots_1_free n t a free some are =
-    let one = some_rows n a.kind some in
-    record {
-      own = are.own;
-      moves = record { by = moves_in n t.space t.which t.kind are.holds };
-      a = are.given 0 (omega arith);
-      b = are.given 0 (omega arith);
-      s = first_rows n a t 1 (width n t.kind) (omega arith) (omega arith)
-          (are.given 0 (omega arith));
-      bit = λ h. record {
+no_apart : (n : ℕ) (t : Slot) → IsOwn t.space → AreApart n no_slot t
+no_apart n t own = record { by = λ u v lu lv e. source_apart n t.space t.which u v own e }
+
+module _ (n : ℕ) (t : Slot) (args scratch : List Slot) (are : Pieces n t args scratch) where
+  arg_apart : (i : ℕ) → AreApart n (slot_at args i) t
+  arg_apart i = elim (there_or_not args i) [
+    | inl lt ↦ are.given i lt
+    | inr e ↦ subst (λ s. AreApart n s t) (sym e) (no_apart n t are.own)
+  ]
+
+  arg_free : (i j : ℕ) → j < length scratch → AreApart n (slot_at args i) (slot_at scratch j)
+  arg_free i j lj = elim (there_or_not args i) [
+    | inl lt ↦ are.others i j lt lj
+    | inr e ↦
+        subst (λ s. AreApart n s (slot_at scratch j)) (sym e)
+        (no_apart n (slot_at scratch j) (are.owned j lj))
+  ]
+
+module _ (n l : ℕ) (t : Slot) (args : List Slot) (free : ℕ) (some : 0 < n)
+    (first : l ≤ width n (slot_at args 0).kind) (second : l ≤ width n (slot_at args 1).kind) where
+  bit_is_free : (bits : ℕ) → Pieces n t args (scratch_from free bits) → 0 < bits
+      → IsFree n (width n t.kind) l (names t args free) (scratch_bit free) 1
+  bit_is_free zero are h = absurd (omega arith)
+  bit_is_free (suc bits) are h =
+      let scratch = scratch_from free (suc bits) in
+      let one = some_rows n (slot_at args 2).kind some in
+      let apart = λ (i : ℕ). arg_free n t args scratch are i 0 (omega arith) in
+      record {
         target = are.free 0 (omega arith);
-        a = are.others 0 0 (omega arith) (omega arith);
-        b = are.others 0 0 (omega arith) (omega arith);
-        s = first_rows n a (scratch_bit free) 1 1 (omega arith) (omega arith)
-            (are.others 0 0 (omega arith) (omega arith));
-      };
-    }
+        a = first_rows n (slot_at args 0) (scratch_bit free) l 1 first (omega arith) (apart 0);
+        b = first_rows n (slot_at args 1) (scratch_bit free) l 1 second (omega arith) (apart 1);
+        s = first_rows n (slot_at args 2) (scratch_bit free) 1 1 (omega (arith, one)) (omega arith)
+            (apart 2);
+      }
 
-pub slots_2 : (n : ℕ) (t a b : Slot) (free : ℕ) → 0 < n → a.kind ≡ b.kind
-    → Pieces n t (a ∷ b ∷ []) [] → AreSlots n (width n t.kind) (width n a.kind) 0
-    (names_2 t a b free)
-slots_2 n t a b free some e are =
-    let one = some_rows n a.kind some in
-    let same = ap (width n) e in
-    record {
-      own = are.own;
-      moves = record { by = moves_in n t.space t.which t.kind are.holds };
-      a = are.given 0 (omega arith);
-      b = first_rows n b t (width n a.kind) (width n t.kind) (omega arith) (omega arith)
-          (are.given 1 (omega arith));
-      s = first_rows n a t 1 (width n t.kind) (omega arith) (omega arith)
-          (are.given 0 (omega arith));
-      bit = λ h. absurd (omega arith);
-    }
-
-pub slots_2_free : (n : ℕ) (t a b : Slot) (free : ℕ) → 0 < n → a.kind ≡ b.kind
-    → Pieces n t (a ∷ b ∷ []) (scratch_bit free ∷ [])
-    → AreSlots n (width n t.kind) (width n a.kind) 1 (names_2 t a b free)
-slots_2_free n t a b free some e are =
-    let one = some_rows n a.kind some in
-    let same = ap (width n) e in
-    record {
-      own = are.own;
-      moves = record { by = moves_in n t.space t.which t.kind are.holds };
-      a = are.given 0 (omega arith);
-      b = first_rows n b t (width n a.kind) (width n t.kind) (omega arith) (omega arith)
-          (are.given 1 (omega arith));
-      s = first_rows n a t 1 (width n t.kind) (omega arith) (omega arith)
-          (are.given 0 (omega arith));
-      bit = λ h. record {
-        target = are.free 0 (omega arith);
-        a = are.others 0 0 (omega arith) (omega arith);
-        b = first_rows n b (scratch_bit free) (width n a.kind) 1 (omega arith) (omega arith)
-            (are.others 1 0 (omega arith) (omega arith));
-        s = first_rows n a (scratch_bit free) 1 1 (omega arith) (omega arith)
-            (are.others 0 0 (omega arith) (omega arith));
-      };
-    }
-
-pub slots_3 : (n : ℕ) (t a b s : Slot) (free : ℕ) → 0 < n → a.kind ≡ b.kind
-    → Pieces n t (a ∷ b ∷ s ∷ []) [] → AreSlots n (width n t.kind) (width n a.kind) 0
-    (names_3 t a b s free)
-slots_3 n t a b s free some e are =
-    let one = some_rows n s.kind some in
-    let same = ap (width n) e in
-    record {
-      own = are.own;
-      moves = record { by = moves_in n t.space t.which t.kind are.holds };
-      a = are.given 0 (omega arith);
-      b = first_rows n b t (width n a.kind) (width n t.kind) (omega arith) (omega arith)
-          (are.given 1 (omega arith));
-      s = first_rows n s t 1 (width n t.kind) (omega arith) (omega arith)
-          (are.given 2 (omega arith));
-      bit = λ h. absurd (omega arith);
-    }
+  -- so many rows of the arguments, and the bits of scratch
+  pub are_slots : (bits : ℕ) → Pieces n t args (scratch_from free bits)
+      → AreSlots n (width n t.kind) l bits (names t args free)
+  are_slots bits are =
+      let apart = arg_apart n t args (scratch_from free bits) are in
+      let one = some_rows n (slot_at args 2).kind some in
+      record {
+        own = are.own;
+        moves = record { by = moves_in n t.space t.which t.kind are.holds };
+        a = first_rows n (slot_at args 0) t l (width n t.kind) first (omega arith) (apart 0);
+        b = first_rows n (slot_at args 1) t l (width n t.kind) second (omega arith) (apart 1);
+        s = first_rows n (slot_at args 2) t 1 (width n t.kind) (omega (arith, one)) (omega arith)
+            (apart 2);
+        bit = bit_is_free bits are;
+      }

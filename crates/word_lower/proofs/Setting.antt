@@ -1,11 +1,12 @@
 -- When a loop program does a word operation: the places of its names, and what it leaves.
-use Rattle.std.specs.Prelude.{◌≡◌, ℕ, zero, suc, ◌+◌, ◌*◌, ◌^◌, ◌<◌, ◌==◌, Bool, List, [], ◌∷◌}
-use Rattle.std.specs.Prelude.{if◌then◌else◌}
+use Rattle.std.specs.Prelude.{◌≡◌, ℕ, zero, suc, ◌+◌, ◌*◌, ◌^◌, ◌<◌, Bool, List, [], ◌∷◌}
 use Rattle.op_text.specs.declared.tree.Kind.{Kind}
 use Rattle.op_text.specs.declared.tree.Kind.TheVariants.{Bit}
 use Rattle.op_text.specs.declared.word_ops.WordOp.{WordOp}
-use Rattle.op_text.specs.declared.word_ops.WordOp.TheVariants as o
-use Rattle.op_text.specs.Values.{bit_number, of_none, of_one, of_two}
+use Rattle.op_text.specs.declared.word_ops.Shape.{Shape}
+use Rattle.op_text.specs.declared.word_ops.Shape.TheVariants as shape
+use Rattle.op_text.specs.WordOps.{row_of}
+use Rattle.op_text.specs.Values.{bit_number, op_value}
 use Rattle.op_text.specs.Scratch.{bits_inside}
 use Rattle.loop_ir.specs.declared.ir.Sub.{Sub}
 use Rattle.loop_ir.specs.declared.ir.Place.{Place}
@@ -25,21 +26,18 @@ abbrev pub number : (ℕ → Bool) → ℕ → ℕ
 number bits zero = 0
 number bits (suc n) = number bits n + bit (bits n) * 2 ^ n
 
+-- of three, as many as a shape takes
+abbrev pub taken : {A : Type 0} → Shape → A → A → A → List A
+taken shape.Nothing a b s = []
+taken shape.OneOf a b s = a ∷ []
+taken (shape.OneWord k) a b s = a ∷ []
+taken shape.TwoOf a b s = a ∷ b ∷ []
+taken (shape.TwoWords k) a b s = a ∷ b ∷ []
+taken shape.Choice a b s = a ∷ b ∷ s ∷ []
+
 -- the operation's value from three numbers, of which it takes the first ones
 abbrev pub operation : WordOp → ℕ → ℕ → ℕ → ℕ → ℕ
-operation o.Zero n a b s = of_none o.Zero n
-operation o.Ones n a b s = of_none o.Ones n
-operation o.Not n a b s = of_one o.Not n a
-operation o.Copy n a b s = of_one o.Copy n a
-operation o.Shl1 n a b s = of_one o.Shl1 n a
-operation o.Shr1 n a b s = of_one o.Shr1 n a
-operation o.Abs n a b s = of_one o.Abs n a
-operation o.Relu n a b s = of_one o.Relu n a
-operation o.AndRed n a b s = of_one o.AndRed n a
-operation o.OrRed n a b s = of_one o.OrRed n a
-operation o.XorRed n a b s = of_one o.XorRed n a
-operation o.IfElse n a b s = if s == 1 then a else b
-operation p n a b s = of_two p n a b
+operation p n a b s = op_value p n (taken (row_of p).shape a b s)
 
 -- the names of a statement, and the internal scratch that is free
 pub record Slots : Type 0 where
@@ -50,19 +48,7 @@ pub record Slots : Type 0 where
   pub free_bit : ℕ
 
 abbrev pub args_of : WordOp → Slots → List Slot
-args_of o.Zero m = []
-args_of o.Ones m = []
-args_of o.Not m = m.a ∷ []
-args_of o.Copy m = m.a ∷ []
-args_of o.Shl1 m = m.a ∷ []
-args_of o.Shr1 m = m.a ∷ []
-args_of o.Abs m = m.a ∷ []
-args_of o.Relu m = m.a ∷ []
-args_of o.AndRed m = m.a ∷ []
-args_of o.OrRed m = m.a ∷ []
-args_of o.XorRed m = m.a ∷ []
-args_of o.IfElse m = m.a ∷ m.b ∷ m.s ∷ []
-args_of p m = m.a ∷ m.b ∷ []
+args_of p m = taken (row_of p).shape m.a m.b m.s
 
 abbrev pub rooms_for : WordOp → Slots → List Room
 rooms_for p m = rooms_of m.target (args_of p m) (scratch_from m.free_bit (bits_inside p))

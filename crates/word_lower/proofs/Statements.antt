@@ -41,8 +41,7 @@ use Rattle.word_lower.specs.Programs.{program, is_linear}
 use Rattle.word_lower.specs.Shapes.{owners_of, program_on}
 use Rattle.word_lower.proofs.Pieces.{no_slot, slot_at, AreApart, Pieces, RoomView, is_target}
 use Rattle.word_lower.proofs.Pieces.{is_arg, is_scratch, room_view, rooms_apart, extent_is}
-use Rattle.word_lower.proofs.Operations.{slots_width, steps_on, DoesOp, Lowers}
-use Rattle.word_lower.proofs.Filled.{op_lowers}
+use Rattle.word_lower.proofs.Lowering.{slots_width, steps_on, DoesOp, Lowers, op_lowers}
 
 -- rows that are one belong to one place
 pub record OnePlace (s t : Space) (w x : ℕ) : Type 0 where

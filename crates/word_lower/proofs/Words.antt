@@ -1,14 +1,12 @@
 -- Operations that write each bit of a word without a carry, and the lesser and the greater.
-use Rattle.std.proofs.Common.{◌≡◌, ℕ, suc, ◌+◌, ◌-◌, ◌*◌, ◌^◌, ◌<◌, Bool, true, false, not, cond}
+use Rattle.std.proofs.Common.{◌≡◌, ℕ, suc, ◌+◌, ◌-◌, ◌*◌, ◌^◌, Bool, true, false, not, cond}
 use Rattle.std.proofs.Common.{List, [], ◌∷◌, refl, sym, ap, ◌∙◌, subst, arith}
 use Rattle.std.specs.Prelude.{nat_lt, ◌==◌}
 use Rattle.bit_rows.specs.Bits.{majority}
 use Rattle.mig_graph.specs.declared.Lit.{Lit}
 use Rattle.mig_graph.specs.declared.Node.{Node}
 use Rattle.mig_graph.specs.Graph.{values_from}
-use Rattle.op_text.specs.declared.tree.Kind.TheVariants.{Word}
 use Rattle.op_text.specs.declared.word_ops.WordOp.{WordOp}
-use Rattle.op_text.specs.declared.word_ops.WordOp.TheVariants as op
 use Rattle.loop_ir.specs.declared.ir.Sub.TheVariants as sub
 use Rattle.loop_ir.specs.declared.ir.Place.{Place}
 use Rattle.loop_ir.specs.declared.names.Slot.{Slot}
@@ -16,22 +14,18 @@ use Rattle.loop_ir.specs.Plain.{Block}
 use Rattle.loop_ir.specs.Plain.StepOf.{Along}
 use Rattle.loop_ir.specs.Spots.{Spot, Spots, set_spot}
 use Rattle.loop_laws.specs.Turns.{Origin, Standing, Carried, turn, after_many}
-use Rattle.loop_laws.specs.Rooms.{placed_body}
 use Rattle.loop_laws.proofs.Same.{set_same, set_other}
 use Rattle.loop_laws.proofs.Steps.{after_steps, steps_each}
 use Rattle.loop_laws.proofs.Placed.{AllBefore, ReadPlaces}
 use Rattle.word_lower.specs.Places.{scratch_bit}
-use Rattle.word_lower.specs.Programs.{target, first, second, third, plain, turned, off, up}
-use Rattle.word_lower.specs.Programs.{constant, moved, inverted, joined, without, unlike, chosen}
+use Rattle.word_lower.specs.Programs.{target, first, second, third, plain}
+use Rattle.word_lower.specs.Programs.{chosen}
 use Rattle.word_lower.specs.Programs.{compared}
-use Rattle.word_lower.proofs.Setting.{bit, number, operation, Slots, rooms_for, at, row, number_at}
-use Rattle.word_lower.proofs.Setting.{SlotsApart, IsFree, AreSlots, Gives, DoesWords, DoesBits}
-use Rattle.op_text.specs.Values.{bits}
+use Rattle.word_lower.proofs.Setting.{bit, number, operation, Slots, at, row, number_at}
+use Rattle.word_lower.proofs.Setting.{SlotsApart, IsFree, AreSlots, Gives}
 use Rattle.word_lower.proofs.Passes.{bit_free, bit_else, state_body, state_loop, word_body}
 use Rattle.word_lower.proofs.Passes.{word_loop, upwards, set_number}
-use Rattle.word_lower.proofs.Sums.{value_same, value_false, value_pick, compare, xor2, pick}
-use Rattle.word_lower.proofs.Bitwise.{value_and, value_or, value_xor, value_inverted, value_true}
-use Rattle.word_lower.proofs.Bitwise.{relu_gives, least, greatest}
+use Rattle.word_lower.proofs.Sums.{value_same, value_pick, compare, xor2, pick}
 
 module _ (o : WordOp) (n : ℕ) (m : Slots) (are : AreSlots n n n 0 m) (reads : List Place)
     (inputs : ℕ) (nodes : List Node) (y : Lit) (xs : List Origin) (bits : Spots) where
@@ -46,7 +40,7 @@ module _ (o : WordOp) (n : ℕ) (m : Slots) (are : AreSlots n n n 0 m) (reads : 
       nodes y xs bits are_read in
       record { gives = value_same _ _ n l.word ∙ gives; keeps = λ q out. l.rest q out.target }
 
-unlike_bit : (x y : Bool) → majority true (majority false (not x) y) (majority false x (not y))
+pub unlike_bit : (x y : Bool) → majority true (majority false (not x) y) (majority false x (not y))
     ≡ xor2 x y
 unfolding majority
 unlike_bit true true = refl
@@ -54,7 +48,7 @@ unlike_bit true false = refl
 unlike_bit false true = refl
 unlike_bit false false = refl
 
-chosen_bit : (x y s : Bool) → majority true (majority false x s)
+pub chosen_bit : (x y s : Bool) → majority true (majority false x s)
     (majority y (not s) (majority false x s)) ≡ pick s x y
 unfolding majority
 chosen_bit true true true = refl
@@ -66,114 +60,22 @@ chosen_bit false true false = refl
 chosen_bit false false true = refl
 chosen_bit false false false = refl
 
-by_bit : (s : Bool) (a b : ℕ) → cond s a b ≡ cond (0 + bit s * 2 ^ 0 == 1) a b
+pub by_bit : (s : Bool) (a b : ℕ) → cond s a b ≡ cond (0 + bit s * 2 ^ 0 == 1) a b
 by_bit true a b = refl
 by_bit false a b = refl
 
 module _ (n : ℕ) (m : Slots) (are : AreSlots n n n 0 m) where
-  a_read : AllBefore n 0 n (at m.a sub.Inner) (at m.target sub.Inner ∷ [])
+  pub a_read : AllBefore n 0 n (at m.a sub.Inner) (at m.target sub.Inner ∷ [])
   a_read = ((λ i j li lj e. are.a.by i j li (omega arith) e), tt)
 
-  top_read : AllBefore n 0 n (at m.a sub.Top) (at m.target sub.Inner ∷ [])
+  pub top_read : AllBefore n 0 n (at m.a sub.Top) (at m.target sub.Inner ∷ [])
   top_read = ((λ i j li lj e. are.a.by (n - 1) j (omega arith) (omega arith) e), tt)
 
-  b_read : AllBefore n 0 n (at m.b sub.Inner) (at m.target sub.Inner ∷ [])
+  pub b_read : AllBefore n 0 n (at m.b sub.Inner) (at m.target sub.Inner ∷ [])
   b_read = ((λ i j li lj e. are.b.by i j li (omega arith) e), tt)
 
-  s_read : AllBefore n 0 n (at m.s sub.Zero) (at m.target sub.Inner ∷ [])
+  pub s_read : AllBefore n 0 n (at m.s sub.Zero) (at m.target sub.Inner ∷ [])
   s_read = ((λ i j li lj e. are.s.by 0 j (omega arith) (omega arith) e), tt)
-
-  pub not_does : DoesWords op.Not Word n n 0 m
-  unfolding values_from
-  not_does before =
-      let b = placed_body (rooms_for op.Not m) (inverted (first sub.Inner) (target sub.Inner)) in
-      subst (Gives op.Not n n n 0 m before) (sym (steps_each n b [] before))
-      (word_does op.Not n m are b.reads b.graph.inputs b.graph.nodes (turned 1) (Standing
-      ∷ []) before (a_read, tt) (value_inverted (λ i. before (row n m.a i)) n))
-
-  pub copy_does : DoesWords op.Copy Word n n 0 m
-  unfolding values_from
-  copy_does before =
-      let b = placed_body (rooms_for op.Copy m) (moved (first sub.Inner) (target sub.Inner)) in
-      subst (Gives op.Copy n n n 0 m before) (sym (steps_each n b [] before))
-      (word_does op.Copy n m are b.reads b.graph.inputs b.graph.nodes (plain 1) (Standing
-      ∷ []) before (a_read, tt) refl)
-
-  pub zero_does : DoesWords op.Zero Word n n 0 m
-  unfolding values_from
-  zero_does before =
-      let b = placed_body (rooms_for op.Zero m) (constant off (target sub.Inner)) in
-      subst (Gives op.Zero n n n 0 m before) (sym (steps_each n b [] before))
-      (word_does op.Zero n m are b.reads b.graph.inputs b.graph.nodes off [] before tt
-      (value_false n))
-
-  pub ones_does : DoesWords op.Ones Word n n 0 m
-  unfolding values_from
-  ones_does before =
-      let b = placed_body (rooms_for op.Ones m) (constant up (target sub.Inner)) in
-      subst (Gives op.Ones n n n 0 m before) (sym (steps_each n b [] before))
-      (word_does op.Ones n m are b.reads b.graph.inputs b.graph.nodes up [] before tt
-      (value_true n))
-
-  pub and_does : DoesWords op.And Word n n 0 m
-  unfolding values_from
-  and_does before =
-      let b = placed_body (rooms_for op.And m)
-      (joined off (first sub.Inner) (second sub.Inner) (target sub.Inner)) in
-      subst (Gives op.And n n n 0 m before) (sym (steps_each n b [] before))
-      (word_does op.And n m are b.reads b.graph.inputs b.graph.nodes (plain 3) (Standing
-      ∷ (Standing ∷ [])) before (a_read, (b_read, tt))
-      (value_and (λ i. before (row n m.a i)) (λ i. before (row n m.b i)) n))
-
-  pub or_does : DoesWords op.Or Word n n 0 m
-  unfolding values_from
-  or_does before =
-      let b = placed_body (rooms_for op.Or m)
-      (joined up (first sub.Inner) (second sub.Inner) (target sub.Inner)) in
-      subst (Gives op.Or n n n 0 m before) (sym (steps_each n b [] before))
-      (word_does op.Or n m are b.reads b.graph.inputs b.graph.nodes (plain 3) (Standing
-      ∷ (Standing ∷ [])) before (a_read, (b_read, tt))
-      (value_or (λ i. before (row n m.a i)) (λ i. before (row n m.b i)) n))
-
-  pub xor_does : DoesWords op.Xor Word n n 0 m
-  unfolding values_from
-  xor_does before =
-      let b = placed_body (rooms_for op.Xor m)
-      (unlike (first sub.Inner) (second sub.Inner) (target sub.Inner)) in
-      let a = λ (i : ℕ). before (row n m.a i) in
-      let c = λ (i : ℕ). before (row n m.b i) in
-      subst (Gives op.Xor n n n 0 m before) (sym (steps_each n b [] before))
-      (word_does op.Xor n m are b.reads b.graph.inputs b.graph.nodes (plain 5) (Standing
-      ∷ (Standing ∷ [])) before (a_read, (b_read, tt))
-      (value_same _ _ n (λ i lt. unlike_bit (a i) (c i)) ∙ value_xor a c n))
-
-  pub relu_does : 0 < n → DoesWords op.Relu Word n n 0 m
-  unfolding values_from
-  relu_does some before =
-      let b = placed_body (rooms_for op.Relu m)
-      (without (first sub.Inner) (first sub.Top) (target sub.Inner)) in
-      let a = λ (i : ℕ). before (row n m.a i) in
-      let e : n ≡ suc (n - 1) = omega arith in
-      subst (Gives op.Relu n n n 0 m before) (sym (steps_each n b [] before))
-      (word_does op.Relu n m are b.reads b.graph.inputs b.graph.nodes (plain 3) (Standing
-      ∷ (Standing ∷ [])) before (a_read, (top_read, tt))
-      (subst (λ k. number (λ i. majority false (a i) (not (a (n - 1)))) k
-      ≡ cond (nat_lt (number a k) (2 ^ (n - 1))) (number a k) 0) (sym e)
-      (relu_gives a (n - 1))))
-
-  pub if_else_does : DoesWords op.IfElse Word n n 0 m
-  unfolding values_from
-  if_else_does before =
-      let b = placed_body (rooms_for op.IfElse m)
-      (chosen (first sub.Inner) (second sub.Inner) (third sub.Zero) (target sub.Inner)) in
-      let a = λ (i : ℕ). before (row n m.a i) in
-      let c = λ (i : ℕ). before (row n m.b i) in
-      let s = before (row n m.s 0) in
-      subst (Gives op.IfElse n n n 0 m before) (sym (steps_each n b [] before))
-      (word_does op.IfElse n m are b.reads b.graph.inputs b.graph.nodes (plain 6) (Standing
-      ∷ (Standing ∷ (Standing ∷ []))) before (a_read, (b_read, (s_read, tt)))
-      (value_same _ _ n (λ i lt. chosen_bit (a i) (c i) s) ∙ value_pick s a c n
-      ∙ by_bit s (number a n) (number c n)))
 
 -- the comparison of the arguments in a bit, and the choice by it
 abbrev pub compare_block : Slots → Slot → Block
@@ -256,20 +158,6 @@ module _ (o : WordOp) (n : ℕ) (m : Slots) (are : AreSlots n n n 1 m) (x y : Sl
         keeps = λ q out. l2.rest q out.target ∙ stays q (bit_else n n 0 m q out);
       }
 
-pub min_does : (n : ℕ) (m : Slots) → AreSlots n n n 1 m → DoesWords op.Min Word n n 1 m
-unfolding values_from
-min_does n m are before =
-    let f = bit_free n n n 0 m are in
-    choice_does op.Min n m are m.b m.a are.b are.a f.b f.a before
-    (least (number_at n before m.a n) (number_at n before m.b n))
-
-pub max_does : (n : ℕ) (m : Slots) → AreSlots n n n 1 m → DoesWords op.Max Word n n 1 m
-unfolding values_from
-max_does n m are before =
-    let f = bit_free n n n 0 m are in
-    choice_does op.Max n m are m.a m.b are.a are.b f.a f.b before
-    (greatest (number_at n before m.a n) (number_at n before m.b n))
-
 -- on bits
 module _ (n : ℕ) (m : Slots) (before : Spots) where
   pub bit_does : (o : WordOp) (v : Bool) → bit v
@@ -291,74 +179,3 @@ module _ (n : ℕ) (m : Slots) (before : Spots) where
     where
       one_bit : (f : ℕ → Bool) → number f 1 ≡ bit (f 0)
       one_bit f = omega arith
-
-pub not_bit_does : (n : ℕ) (m : Slots) → DoesBits op.Not n m
-unfolding values_from
-not_bit_does n m before = bit_does n m before op.Not (not (before (row n m.a 0)))
-    (by (before (row n m.a 0)))
-  where
-    by : (x : Bool) → bit (not x) ≡ 2 ^ 1 - 1 - bit x
-    by true = refl
-    by false = refl
-
-pub copy_bit_does : (n : ℕ) (m : Slots) → DoesBits op.Copy n m
-unfolding values_from
-copy_bit_does n m before = bit_does n m before op.Copy (before (row n m.a 0)) refl
-
-pub and_bit_does : (n : ℕ) (m : Slots) → DoesBits op.And n m
-unfolding values_from majority bits
-and_bit_does n m before = bit_does n m before op.And
-    (majority false (before (row n m.a 0)) (before (row n m.b 0)))
-    (by (before (row n m.a 0)) (before (row n m.b 0)))
-  where
-    by : (x y : Bool) → bit (majority false x y) ≡ operation op.And 1 (bit x) (bit y) 0
-    by true true = refl
-    by true false = refl
-    by false true = refl
-    by false false = refl
-
-pub if_else_bit_does : (n : ℕ) (m : Slots) → DoesBits op.IfElse n m
-unfolding values_from majority
-if_else_bit_does n m before = bit_does n m before op.IfElse
-    (majority true (majority false (before (row n m.a 0)) (before (row n m.s 0)))
-    (majority (before (row n m.b 0)) (not (before (row n m.s 0)))
-    (majority false (before (row n m.a 0)) (before (row n m.s 0)))))
-    (by (before (row n m.a 0)) (before (row n m.b 0)) (before (row n m.s 0)))
-  where
-    by : (x y s : Bool)
-        → bit (majority true (majority false x s) (majority y (not s) (majority false x s)))
-        ≡ operation op.IfElse 1 (bit x) (bit y) (bit s)
-    by true true true = refl
-    by true true false = refl
-    by true false true = refl
-    by true false false = refl
-    by false true true = refl
-    by false true false = refl
-    by false false true = refl
-    by false false false = refl
-
-pub or_bit_does : (n : ℕ) (m : Slots) → DoesBits op.Or n m
-unfolding values_from majority bits
-or_bit_does n m before = bit_does n m before op.Or
-    (majority true (before (row n m.a 0)) (before (row n m.b 0)))
-    (by (before (row n m.a 0)) (before (row n m.b 0)))
-  where
-    by : (x y : Bool) → bit (majority true x y) ≡ operation op.Or 1 (bit x) (bit y) 0
-    by true true = refl
-    by true false = refl
-    by false true = refl
-    by false false = refl
-
-pub xor_bit_does : (n : ℕ) (m : Slots) → DoesBits op.Xor n m
-unfolding values_from majority bits
-xor_bit_does n m before = bit_does n m before op.Xor
-    (majority true (majority false (not (before (row n m.a 0))) (before (row n m.b 0)))
-    (majority false (before (row n m.a 0)) (not (before (row n m.b 0)))))
-    (by (before (row n m.a 0)) (before (row n m.b 0)))
-  where
-    by : (x y : Bool) → bit (majority true (majority false (not x) y) (majority false x (not y)))
-        ≡ operation op.Xor 1 (bit x) (bit y) 0
-    by true true = refl
-    by true false = refl
-    by false true = refl
-    by false false = refl

@@ -1,5 +1,5 @@
 -- The loop programs of the word operations that take one pass over a word.
-use Rattle.std.specs.Prelude.{ℕ, Bool, true, false, List, [], ◌∷◌, length}
+use Rattle.std.specs.Prelude.{ℕ, Bool, true, false, not, List, [], ◌∷◌, length, slice_index_or}
 use Rattle.mig_graph.specs.declared.Lit.{Lit}
 use Rattle.mig_graph.specs.declared.Node.{Node}
 use Rattle.mig_graph.specs.Literals.{node_of}
@@ -7,12 +7,25 @@ use Rattle.op_text.specs.declared.tree.Kind.{Kind}
 use Rattle.op_text.specs.declared.tree.Kind.TheVariants.{Word, Bit}
 use Rattle.op_text.specs.declared.word_ops.WordOp.{WordOp}
 use Rattle.op_text.specs.declared.word_ops.WordOp.TheVariants as o
+use Rattle.op_text.specs.WordOps.{number}
 use Rattle.op_text.specs.Language.{Statement, Compute, Visit}
 use Rattle.loop_ir.specs.declared.ir.Sub.{Sub}
-use Rattle.loop_ir.specs.declared.ir.Sub.TheVariants as sub
 use Rattle.loop_ir.specs.Plain.{StepOf}
 use Rattle.loop_ir.specs.Plain.StepOf.{Single, Along}
 use Rattle.loop_laws.specs.Rooms.{Mark, Marked}
+use Rattle.word_lower.specs.declared.shapes.Owner.{Owner}
+use Rattle.word_lower.specs.declared.shapes.Owner.TheVariants.{Target, First, Second, Third}
+use Rattle.word_lower.specs.declared.shapes.Mark as code
+use Rattle.word_lower.specs.declared.shapes.Shape.{Shape}
+use Rattle.word_lower.specs.declared.shapes.Shape.TheVariants.{Off, On, Moved, Inverted, Both}
+use Rattle.word_lower.specs.declared.shapes.Shape.TheVariants.{Either, Without, Unlike, Chosen}
+use Rattle.word_lower.specs.declared.shapes.Shape.TheVariants.{Shifted, Added, Lessened, TurnedBy}
+use Rattle.word_lower.specs.declared.shapes.Shape.TheVariants.{Compared, Agreed}
+use Rattle.word_lower.specs.declared.shapes.Line.{Line}
+use Rattle.word_lower.specs.declared.shapes.Line.TheVariants.{Once, Each}
+use Rattle.word_lower.specs.declared.table.Program.{Program}
+use Rattle.word_lower.specs.declared.table.Program.TheVariants.{Spread, One, Two, Three, Nested}
+use Rattle.word_lower.specs.declared.table.TheConstants.{PROGRAMS}
 
 -- Owners of places: the target, then the arguments, then the bit of scratch
 abbrev pub on : ℕ → Sub → Mark
@@ -121,72 +134,74 @@ agreed x y e = template (x ∷ y ∷ e ∷ [])
     ∷ node_of (plain 3) (turned 4) (plain 5) ∷ [])
     (plain 6 ∷ []) (e ∷ [])
 
--- on every bit of a word, or on the one of a bit
-abbrev pub spread : Kind → (Sub → Marked) → List (StepOf Marked)
-spread Word f = Along (f sub.Inner) ∷ []
-spread Bit f = Single (f sub.Zero) ∷ []
+-- whose rows a place of the table has, by its number
+abbrev pub number_of : Owner → ℕ
+number_of Target = 0
+number_of First = 1
+number_of Second = 2
+number_of Third = 3
+
+abbrev pub mark_of : code.Mark → Mark
+mark_of m = on (number_of m.owner) m.sub
+
+-- the body that a shape of the table stands for
+abbrev pub shape_body : Shape → Marked
+shape_body (Off z) = constant off (mark_of z)
+shape_body (On z) = constant up (mark_of z)
+shape_body (Moved x z) = moved (mark_of x) (mark_of z)
+shape_body (Inverted x z) = inverted (mark_of x) (mark_of z)
+shape_body (Both x y z) = joined off (mark_of x) (mark_of y) (mark_of z)
+shape_body (Either x y z) = joined up (mark_of x) (mark_of y) (mark_of z)
+shape_body (Without x y z) = without (mark_of x) (mark_of y) (mark_of z)
+shape_body (Unlike x y z) = unlike (mark_of x) (mark_of y) (mark_of z)
+shape_body (Chosen x y s z) = chosen (mark_of x) (mark_of y) (mark_of s) (mark_of z)
+shape_body (Shifted x c z) = shifted (mark_of x) (mark_of c) (mark_of z)
+shape_body (Added x y c z) = added (mark_of x) (mark_of y) (mark_of c) (mark_of z)
+shape_body (Lessened x y c z) = lessened (mark_of x) (mark_of y) (mark_of c) (mark_of z)
+shape_body (TurnedBy x t c z) = turned_by (mark_of x) (mark_of t) (mark_of c) (mark_of z)
+shape_body (Compared x y g) = compared (mark_of x) (mark_of y) (mark_of g)
+shape_body (Agreed x y e) = agreed (mark_of x) (mark_of y) (mark_of e)
+
+-- and the step that a line does
+abbrev pub line_step : Line → StepOf Marked
+line_step (Once s) = Single (shape_body s)
+line_step (Each s) = Along (shape_body s)
+
+-- the steps of a row of the table. The kind is the target's
+abbrev pub row_steps : Program → Kind → List (StepOf Marked)
+row_steps (Spread word bit) Word = Along (shape_body word) ∷ []
+row_steps (Spread word bit) Bit = Single (shape_body bit) ∷ []
+row_steps (One a) k = line_step a ∷ []
+row_steps (Two a b) k = line_step a ∷ line_step b ∷ []
+row_steps (Three a b c) k = line_step a ∷ line_step b ∷ line_step c ∷ []
+row_steps Nested k = []
+
+abbrev pub is_spread : Program → Bool
+is_spread (Spread word bit) = true
+is_spread r = false
+
+abbrev pub is_nest : Program → Bool
+is_nest Nested = true
+is_nest r = false
+
+-- an operation's row of the table
+abbrev pub program_at : ℕ → WordOp × Program
+program_at k = slice_index_or PROGRAMS k (o.Not, Nested)
+
+abbrev pub program_of : WordOp → Program
+program_of p = (program_at (number p)).1
+
+-- The loop program of an operation
+abbrev pub program : WordOp → Kind → List (StepOf Marked)
+program p k = row_steps (program_of p) k
 
 -- the operations that take words or bits
 abbrev pub spreads : WordOp → Bool
-spreads o.Not = true
-spreads o.And = true
-spreads o.Or = true
-spreads o.Xor = true
-spreads o.Copy = true
-spreads o.IfElse = true
-spreads p = false
-
--- The loop program of an operation. The kind is the target's
-abbrev pub program : WordOp → Kind → List (StepOf Marked)
-program o.Not k = spread k (λ u. inverted (first u) (target u))
-program o.And k = spread k (λ u. joined off (first u) (second u) (target u))
-program o.Or k = spread k (λ u. joined up (first u) (second u) (target u))
-program o.Xor k = spread k (λ u. unlike (first u) (second u) (target u))
-program o.Copy k = spread k (λ u. moved (first u) (target u))
-program o.Zero k = Along (constant off (target sub.Inner)) ∷ []
-program o.Ones k = Along (constant up (target sub.Inner)) ∷ []
-program o.Shl1 k = Single (constant off (second sub.Zero))
-    ∷ Along (shifted (first sub.Inner) (second sub.Zero) (target sub.Inner)) ∷ []
-program o.Shr1 k = Single (constant off (second sub.Zero))
-    ∷ Along (shifted (first sub.InnerDown) (second sub.Zero) (target sub.InnerDown)) ∷ []
-program o.Add k = Single (constant off (third sub.Zero))
-    ∷ Along (added (first sub.Inner) (second sub.Inner) (third sub.Zero) (target sub.Inner)) ∷ []
-program o.Sub k = Single (constant off (third sub.Zero))
-    ∷ Along (lessened (first sub.Inner) (second sub.Inner) (third sub.Zero) (target sub.Inner)) ∷ []
-program o.Abs k = Single (constant off (second sub.Zero))
-    ∷ Along (turned_by (first sub.Inner) (first sub.Top) (second sub.Zero) (target sub.Inner)) ∷ []
-program o.Relu k = Along (without (first sub.Inner) (first sub.Top) (target sub.Inner)) ∷ []
-program o.Min k =
-    Single (constant off (third sub.Zero))
-    ∷ Along (compared (first sub.Inner) (second sub.Inner) (third sub.Zero))
-    ∷ Along (chosen (second sub.Inner) (first sub.Inner) (third sub.Zero) (target sub.Inner)) ∷ []
-program o.Max k =
-    Single (constant off (third sub.Zero))
-    ∷ Along (compared (first sub.Inner) (second sub.Inner) (third sub.Zero))
-    ∷ Along (chosen (first sub.Inner) (second sub.Inner) (third sub.Zero) (target sub.Inner)) ∷ []
-program o.Eq k = Single (constant up (target sub.Zero))
-    ∷ Along (agreed (first sub.Inner) (second sub.Inner) (target sub.Zero)) ∷ []
-program o.Gt k = Single (constant off (target sub.Zero))
-    ∷ Along (compared (first sub.Inner) (second sub.Inner) (target sub.Zero)) ∷ []
-program o.Ge k = Single (constant up (target sub.Zero))
-    ∷ Along (compared (first sub.Inner) (second sub.Inner) (target sub.Zero)) ∷ []
-program o.IfElse k = spread k (λ u. chosen (first u) (second u) (third sub.Zero) (target u))
-program o.AndRed k = Single (constant up (target sub.Zero))
-    ∷ Along (joined off (first sub.Inner) (target sub.Zero) (target sub.Zero)) ∷ []
-program o.OrRed k = Single (constant off (target sub.Zero))
-    ∷ Along (joined up (first sub.Inner) (target sub.Zero) (target sub.Zero)) ∷ []
-program o.XorRed k = Single (constant off (target sub.Zero))
-    ∷ Along (unlike (first sub.Inner) (target sub.Zero) (target sub.Zero)) ∷ []
-program p k = []
+spreads p = is_spread (program_of p)
 
 -- the operations that take one pass over a word
 abbrev pub is_linear : WordOp → Bool
-is_linear o.Mul = false
-is_linear o.Div = false
-is_linear o.Rem = false
-is_linear o.Bitcount = false
-is_linear o.Divmod = false
-is_linear p = true
+is_linear p = not (is_nest (program_of p))
 
 -- the statement is a serial block, or one of these
 abbrev pub is_linear_statement : Statement → Bool

@@ -1,4 +1,4 @@
--- The bodies of the code's shapes, and their places.
+-- The places of the table's owners, and what the code counts on.
 use Rattle.std.specs.Prelude.{ℕ, zero, suc, ◌+◌, Bool, true, not, ◌&&◌, nat_lt, List, [], ◌∷◌}
 use Rattle.std.specs.Prelude.{map, Option, Some, None}
 use Rattle.std.specs.List.{list_any}
@@ -8,58 +8,17 @@ use Rattle.mig_graph.specs.Literals.{inversions}
 use Rattle.loop_ir.specs.declared.ir.Place.{Place}
 use Rattle.loop_ir.specs.declared.names.Slot.{Slot}
 use Rattle.loop_ir.specs.Plain.{Block, StepOf, step_map}
-use Rattle.loop_ir.specs.Plain.StepOf.{Single, Along}
 use Rattle.loop_ir.specs.Costs.{same_node}
 use Rattle.loop_laws.specs.Rooms as rooms
 use Rattle.loop_laws.specs.Rooms.{Marked}
-use Rattle.word_lower.specs.declared.shapes.Owner.{Owner}
-use Rattle.word_lower.specs.declared.shapes.Owner.TheVariants.{Target, First, Second, Third}
 use Rattle.word_lower.specs.declared.shapes.Mark.{Mark}
 use Rattle.word_lower.specs.declared.shapes.Owners.{Owners}
-use Rattle.word_lower.specs.declared.shapes.Shape.{Shape}
-use Rattle.word_lower.specs.declared.shapes.Shape.TheVariants.{Off, On, Moved, Inverted, Both}
-use Rattle.word_lower.specs.declared.shapes.Shape.TheVariants.{Either, Without, Unlike, Chosen}
-use Rattle.word_lower.specs.declared.shapes.Shape.TheVariants.{Shifted, Added, Lessened, TurnedBy}
-use Rattle.word_lower.specs.declared.shapes.Shape.TheVariants.{Compared, Agreed}
 use Rattle.word_lower.specs.declared.shapes.Line.{Line}
-use Rattle.word_lower.specs.declared.shapes.Line.TheVariants.{Once, Each}
 use Rattle.word_lower.specs.Places.{scratch_bit}
-use Rattle.word_lower.specs.Programs.{on, off, up, constant, moved, inverted, joined, without}
-use Rattle.word_lower.specs.Programs.{unlike, chosen, shifted, added, lessened, turned_by, compared}
-use Rattle.word_lower.specs.Programs.{agreed}
-
-abbrev pub number_of : Owner → ℕ
-number_of Target = 0
-number_of First = 1
-number_of Second = 2
-number_of Third = 3
-
-abbrev pub mark_of : Mark → rooms.Mark
-mark_of m = on (number_of m.owner) m.sub
+use Rattle.word_lower.specs.Programs.{mark_of, line_step}
 
 abbrev pub marks : List Mark → List rooms.Mark
 marks ms = map mark_of ms
-
-abbrev pub shape_body : Shape → Marked
-shape_body (Off z) = constant off (mark_of z)
-shape_body (On z) = constant up (mark_of z)
-shape_body (Moved x z) = moved (mark_of x) (mark_of z)
-shape_body (Inverted x z) = inverted (mark_of x) (mark_of z)
-shape_body (Both x y z) = joined off (mark_of x) (mark_of y) (mark_of z)
-shape_body (Either x y z) = joined up (mark_of x) (mark_of y) (mark_of z)
-shape_body (Without x y z) = without (mark_of x) (mark_of y) (mark_of z)
-shape_body (Unlike x y z) = unlike (mark_of x) (mark_of y) (mark_of z)
-shape_body (Chosen x y s z) = chosen (mark_of x) (mark_of y) (mark_of s) (mark_of z)
-shape_body (Shifted x c z) = shifted (mark_of x) (mark_of c) (mark_of z)
-shape_body (Added x y c z) = added (mark_of x) (mark_of y) (mark_of c) (mark_of z)
-shape_body (Lessened x y c z) = lessened (mark_of x) (mark_of y) (mark_of c) (mark_of z)
-shape_body (TurnedBy x t c z) = turned_by (mark_of x) (mark_of t) (mark_of c) (mark_of z)
-shape_body (Compared x y g) = compared (mark_of x) (mark_of y) (mark_of g)
-shape_body (Agreed x y e) = agreed (mark_of x) (mark_of y) (mark_of e)
-
-abbrev pub line_step : Line → StepOf Marked
-line_step (Once s) = Single (shape_body s)
-line_step (Each s) = Along (shape_body s)
 
 -- the lines that there are
 abbrev pub lines_steps : List (Option Line) → List (StepOf Marked)

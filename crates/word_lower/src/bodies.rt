@@ -5,8 +5,8 @@ ghost use Rattle.std.specs.Prelude.{OnOk, Some, None, true};
 ghost use Rattle.loop_ir.specs.Plain.{block_of, step_of, steps_of};
 ghost use Rattle.loop_ir.specs.Plain.{Block, StepOf, AllParts, AllStep, step_map};
 ghost use Rattle.loop_laws.specs.Forms.{IsMade};
-ghost use Rattle.word_lower.specs.Programs.{template};
-ghost use Rattle.word_lower.specs.Shapes.{mark_of, marks, shape_body, line_step, lines_steps};
+ghost use Rattle.word_lower.specs.Programs.{template, mark_of, shape_body, line_step};
+ghost use Rattle.word_lower.specs.Shapes.{marks, lines_steps};
 ghost use Rattle.word_lower.specs.Shapes.{place_on, body_on, program_on, are_own, are_below};
 
 use crate::graphs::made;

@@ -1,15 +1,30 @@
-//! The loop program of each operation, line by line.
+//! The loop program of each word operation.
 
-ghost use Rattle.std.specs.Prelude.{◌≡◌, ◌∷◌, [], false, Some, None};
-ghost use Rattle.op_text.specs.declared.tree.Kind.{Kind};
-ghost use Rattle.op_text.specs.declared.tree.Kind.TheVariants.{Word, Bit};
-ghost use Rattle.word_lower.specs.declared.shapes.Line.TheVariants.{Once, Each};
-ghost use Rattle.word_lower.specs.Programs.{program, spreads};
+ghost use Rattle.std.specs.Prelude.{◌≡◌};
+ghost use Rattle.word_lower.specs.Programs.{program, program_of, row_steps};
 ghost use Rattle.word_lower.specs.Shapes.{lines_steps};
 
+use crate::shapes::Line::{Each, Once};
+use crate::shapes::Shape::{
+    Added, Agreed, Both, Chosen, Compared, Either, Inverted, Lessened, Moved, Off, On, Shifted,
+    TurnedBy, Unlike, Without,
+};
 use crate::shapes::{Line, Mark, Owner, Shape};
+use Program::{Nested, One, Spread, Three, Two};
 use loop_ir::Sub;
 use op_text::{Kind, WordOp};
+
+/// What the table has of an operation.
+#[derive(Clone, Copy, Debug)]
+pub enum Program {
+    /// A body on every bit of a word, or another on the one of a bit.
+    Spread(Shape, Shape),
+    One(Line),
+    Two(Line, Line),
+    Three(Line, Line, Line),
+    /// A pass for each position: such programs are none of this table's.
+    Nested,
+}
 
 // the rows at the position: of the target, and of the first and the second argument
 const Z: Mark = Mark {
@@ -62,97 +77,118 @@ const S_BIT: Mark = Mark {
     sub: Sub::Zero,
 };
 
-type Lines = [Option<Line>; 3];
+/// The loop programs of the word operations, in the order of the variants.
+pub const PROGRAMS: [(WordOp, Program); 27] = [
+    (WordOp::Not, Spread(Inverted(X, Z), Inverted(X_BIT, Z_BIT))),
+    (
+        WordOp::And,
+        Spread(Both(X, Y, Z), Both(X_BIT, Y_BIT, Z_BIT)),
+    ),
+    (
+        WordOp::Or,
+        Spread(Either(X, Y, Z), Either(X_BIT, Y_BIT, Z_BIT)),
+    ),
+    (
+        WordOp::Xor,
+        Spread(Unlike(X, Y, Z), Unlike(X_BIT, Y_BIT, Z_BIT)),
+    ),
+    (WordOp::Copy, Spread(Moved(X, Z), Moved(X_BIT, Z_BIT))),
+    (WordOp::Zero, One(Each(Off(Z)))),
+    (WordOp::Ones, One(Each(On(Z)))),
+    (
+        WordOp::Shl1,
+        Two(Once(Off(Y_BIT)), Each(Shifted(X, Y_BIT, Z))),
+    ),
+    (
+        WordOp::Shr1,
+        Two(Once(Off(Y_BIT)), Each(Shifted(X_DOWN, Y_BIT, Z_DOWN))),
+    ),
+    (
+        WordOp::Add,
+        Two(Once(Off(S_BIT)), Each(Added(X, Y, S_BIT, Z))),
+    ),
+    (
+        WordOp::Sub,
+        Two(Once(Off(S_BIT)), Each(Lessened(X, Y, S_BIT, Z))),
+    ),
+    (WordOp::Mul, Nested),
+    (WordOp::Div, Nested),
+    (WordOp::Rem, Nested),
+    (
+        WordOp::Abs,
+        Two(Once(Off(Y_BIT)), Each(TurnedBy(X, X_TOP, Y_BIT, Z))),
+    ),
+    (WordOp::Relu, One(Each(Without(X, X_TOP, Z)))),
+    (
+        WordOp::Min,
+        Three(
+            Once(Off(S_BIT)),
+            Each(Compared(X, Y, S_BIT)),
+            Each(Chosen(Y, X, S_BIT, Z)),
+        ),
+    ),
+    (
+        WordOp::Max,
+        Three(
+            Once(Off(S_BIT)),
+            Each(Compared(X, Y, S_BIT)),
+            Each(Chosen(X, Y, S_BIT, Z)),
+        ),
+    ),
+    (WordOp::Eq, Two(Once(On(Z_BIT)), Each(Agreed(X, Y, Z_BIT)))),
+    (
+        WordOp::Gt,
+        Two(Once(Off(Z_BIT)), Each(Compared(X, Y, Z_BIT))),
+    ),
+    (
+        WordOp::Ge,
+        Two(Once(On(Z_BIT)), Each(Compared(X, Y, Z_BIT))),
+    ),
+    (
+        WordOp::IfElse,
+        Spread(Chosen(X, Y, S_BIT, Z), Chosen(X_BIT, Y_BIT, S_BIT, Z_BIT)),
+    ),
+    (WordOp::Bitcount, Nested),
+    (
+        WordOp::AndRed,
+        Two(Once(On(Z_BIT)), Each(Both(X, Z_BIT, Z_BIT))),
+    ),
+    (
+        WordOp::OrRed,
+        Two(Once(Off(Z_BIT)), Each(Either(X, Z_BIT, Z_BIT))),
+    ),
+    (
+        WordOp::XorRed,
+        Two(Once(Off(Z_BIT)), Each(Unlike(X, Z_BIT, Z_BIT))),
+    ),
+    (WordOp::Divmod, Nested),
+];
 
-fn one(line: Line) -> Lines
-    ensures { result ≡ Some line ∷ None ∷ None ∷ [] }
+fn program_of(op: WordOp) -> Program
+    ensures { result ≡ program_of op }
 {
-    [Some(line), None, None]
+    PROGRAMS[op as usize].1
 }
 
-fn two(first: Shape, second: Shape) -> Lines
-    ensures { result ≡ Some (Once first) ∷ Some (Each second) ∷ None ∷ [] }
+/// The lines of a row, of which there are none where an operation takes more than one pass.
+fn row_lines(row: Program, kind: Kind) -> [Option<Line>; 3]
+    ensures { lines_steps result ≡ row_steps row kind }
 {
-    [Some(Line::Once(first)), Some(Line::Each(second)), None]
-}
-
-fn three(first: Shape, second: Shape, third: Shape) -> Lines
-    ensures { result ≡ Some (Once first) ∷ Some (Each second) ∷ Some (Each third) ∷ [] }
-{
-    [
-        Some(Line::Once(first)),
-        Some(Line::Each(second)),
-        Some(Line::Each(third)),
-    ]
-}
-
-/// A body on every bit of a word, or on the one of a bit.
-fn spread(kind: Kind, word: Shape, bit: Shape) -> Lines
-    ensures { result ≡ Some (elim kind [ Word ↦ Each word | Bit ↦ Once bit ]) ∷ None ∷ None ∷ [] }
-{
-    match kind {
-        Kind::Word => one(Line::Each(word)),
-        Kind::Bit => one(Line::Once(bit)),
+    match row {
+        Spread(word, bit) => match kind {
+            Kind::Word => [Some(Each(word)), None, None],
+            Kind::Bit => [Some(Once(bit)), None, None],
+        },
+        One(line) => [Some(line), None, None],
+        Two(first, second) => [Some(first), Some(second), None],
+        Three(first, second, third) => [Some(first), Some(second), Some(third)],
+        Nested => [None, None, None],
     }
 }
 
-/// The lines of the operations that take words alone.
-fn word_lines(op: WordOp) -> Lines
-    requires { spreads op ≡ false }
-    ensures { (k : Kind) → lines_steps result ≡ program op k }
-{
-    match op {
-        WordOp::Zero => one(Line::Each(Shape::Off(Z))),
-        WordOp::Ones => one(Line::Each(Shape::On(Z))),
-        WordOp::Shl1 => two(Shape::Off(Y_BIT), Shape::Shifted(X, Y_BIT, Z)),
-        WordOp::Shr1 => two(Shape::Off(Y_BIT), Shape::Shifted(X_DOWN, Y_BIT, Z_DOWN)),
-        WordOp::Add => two(Shape::Off(S_BIT), Shape::Added(X, Y, S_BIT, Z)),
-        WordOp::Sub => two(Shape::Off(S_BIT), Shape::Lessened(X, Y, S_BIT, Z)),
-        WordOp::Abs => two(Shape::Off(Y_BIT), Shape::TurnedBy(X, X_TOP, Y_BIT, Z)),
-        WordOp::Relu => one(Line::Each(Shape::Without(X, X_TOP, Z))),
-        WordOp::Min => three(
-            Shape::Off(S_BIT),
-            Shape::Compared(X, Y, S_BIT),
-            Shape::Chosen(Y, X, S_BIT, Z),
-        ),
-        WordOp::Max => three(
-            Shape::Off(S_BIT),
-            Shape::Compared(X, Y, S_BIT),
-            Shape::Chosen(X, Y, S_BIT, Z),
-        ),
-        WordOp::Eq => two(Shape::On(Z_BIT), Shape::Agreed(X, Y, Z_BIT)),
-        WordOp::Gt => two(Shape::Off(Z_BIT), Shape::Compared(X, Y, Z_BIT)),
-        WordOp::Ge => two(Shape::On(Z_BIT), Shape::Compared(X, Y, Z_BIT)),
-        WordOp::AndRed => two(Shape::On(Z_BIT), Shape::Both(X, Z_BIT, Z_BIT)),
-        WordOp::OrRed => two(Shape::Off(Z_BIT), Shape::Either(X, Z_BIT, Z_BIT)),
-        WordOp::XorRed => two(Shape::Off(Z_BIT), Shape::Unlike(X, Z_BIT, Z_BIT)),
-        _ => [None, None, None],
-    }
-}
-
-/// The lines of an operation, of which there are none where it takes more than one pass.
-pub fn lines(op: WordOp, kind: Kind) -> Lines
+/// The lines of an operation.
+pub fn lines(op: WordOp, kind: Kind) -> [Option<Line>; 3]
     ensures { lines_steps result ≡ program op kind }
 {
-    match op {
-        WordOp::Not => spread(kind, Shape::Inverted(X, Z), Shape::Inverted(X_BIT, Z_BIT)),
-        WordOp::And => spread(kind, Shape::Both(X, Y, Z), Shape::Both(X_BIT, Y_BIT, Z_BIT)),
-        WordOp::Or => spread(
-            kind,
-            Shape::Either(X, Y, Z),
-            Shape::Either(X_BIT, Y_BIT, Z_BIT),
-        ),
-        WordOp::Xor => spread(
-            kind,
-            Shape::Unlike(X, Y, Z),
-            Shape::Unlike(X_BIT, Y_BIT, Z_BIT),
-        ),
-        WordOp::Copy => spread(kind, Shape::Moved(X, Z), Shape::Moved(X_BIT, Z_BIT)),
-        WordOp::IfElse => spread(
-            kind,
-            Shape::Chosen(X, Y, S_BIT, Z),
-            Shape::Chosen(X_BIT, Y_BIT, S_BIT, Z_BIT),
-        ),
-        _ => word_lines(op),
-    }
+    row_lines(program_of(op), kind)
 }

@@ -22,7 +22,8 @@ use Rattle.loop_laws.proofs.Costing.{total_is}
 use Rattle.word_lower.specs.Places.{room_of, scratch_from, rooms_of}
 use Rattle.word_lower.proofs.Pieces.{slot_at, AreApart, Pieces, RoomView, is_target, is_arg}
 use Rattle.word_lower.proofs.Pieces.{is_scratch, room_view, extent_is, moves_in, rooms_apart}
-use Rattle.word_lower.proofs.Operations.{slots_width, slot}
+use Rattle.word_lower.proofs.Pieces.{slot}
+use Rattle.word_lower.proofs.Lowering.{slots_width}
 use Rattle.word_lower.proofs.Filled.{filled_words, slot_is, one_slot, no_slots}
 use Rattle.word_mul.specs.declared.rows.Rows.{Rows}
 use Rattle.word_mul.specs.Places.{scratch_word, rooms_for, steps_for, rows_on}

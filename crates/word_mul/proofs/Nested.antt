@@ -24,8 +24,8 @@ use Rattle.loop_laws.proofs.Costing.{total_is}
 use Rattle.word_lower.specs.Places.{scratch_bit, scratch_from, rooms_of}
 use Rattle.word_lower.proofs.Setting.{row, number_at, SlotsApart}
 use Rattle.word_lower.proofs.Lists.{bits_of_number, value_of_list}
-use Rattle.word_lower.proofs.Pieces.{slot_at, Pieces, moves_in, rooms_apart}
-use Rattle.word_lower.proofs.Operations.{slots_width, slot}
+use Rattle.word_lower.proofs.Pieces.{slot, slot_at, Pieces, moves_in, rooms_apart}
+use Rattle.word_lower.proofs.Lowering.{slots_width}
 use Rattle.word_lower.proofs.Statements.{length_scratch, scratch_at}
 use Rattle.word_mul.specs.declared.rows.Rows.{Rows}
 use Rattle.word_mul.specs.Places.{scratch_word, rooms_for, steps_for, rows_on}

@@ -30,8 +30,8 @@ use Rattle.loop_laws.proofs.Costing.{alike_cost_no_more}
 use Rattle.loop_laws.proofs.EveryRound.{marks_are_enough}
 use Rattle.loop_laws.proofs.Compile.{alike_compile}
 use Rattle.word_lower.specs.Places.{rooms_of, scratch_from, AreAt}
-use Rattle.word_lower.proofs.Pieces.{slot_at}
-use Rattle.word_lower.proofs.Operations.{slots_width, slot}
+use Rattle.word_lower.proofs.Pieces.{slot, slot_at}
+use Rattle.word_lower.proofs.Lowering.{slots_width}
 use Rattle.word_lower.proofs.Filled.{filled_word, filled_words, slot_is, one_slot, no_slots}
 use Rattle.word_lower.proofs.Statements.{name_at, at_place, same_name, among_target, among_arg}
 use Rattle.word_lower.proofs.Statements.{written, holds, pieces, row_of, form_filled, held_args}
@@ -105,29 +105,7 @@ op_lowers op.Bitcount k t args fb fw n o e h = by_word op.Bitcount t k args fb f
     (filled_word Word (map (λ (s : Slot). s.kind) args) k e)
     (λ t a et ea. on_word op.Bitcount fb fw t a et ea
     (on_bitcount t.space t.which a.space a.which t.space t.which fb fw))
-op_lowers op.Not k t args fb fw n o e h = cc
-op_lowers op.And k t args fb fw n o e h = cc
-op_lowers op.Or k t args fb fw n o e h = cc
-op_lowers op.Xor k t args fb fw n o e h = cc
-op_lowers op.Copy k t args fb fw n o e h = cc
-op_lowers op.Zero k t args fb fw n o e h = cc
-op_lowers op.Ones k t args fb fw n o e h = cc
-op_lowers op.Shl1 k t args fb fw n o e h = cc
-op_lowers op.Shr1 k t args fb fw n o e h = cc
-op_lowers op.Add k t args fb fw n o e h = cc
-op_lowers op.Sub k t args fb fw n o e h = cc
-op_lowers op.Abs k t args fb fw n o e h = cc
-op_lowers op.Relu k t args fb fw n o e h = cc
-op_lowers op.Min k t args fb fw n o e h = cc
-op_lowers op.Max k t args fb fw n o e h = cc
-op_lowers op.Eq k t args fb fw n o e h = cc
-op_lowers op.Gt k t args fb fw n o e h = cc
-op_lowers op.Ge k t args fb fw n o e h = cc
-op_lowers op.IfElse k t args fb fw n o e h = cc
-op_lowers op.AndRed k t args fb fw n o e h = cc
-op_lowers op.OrRed k t args fb fw n o e h = cc
-op_lowers op.XorRed k t args fb fw n o e h = cc
-op_lowers op.Divmod k t args fb fw n o e h = cc
+op_lowers p k t args fb fw n o e h = cc
 
 module _ (slots : Slots) (free_bit free_word : ℕ) (target : List ℕ) (second : Option (List ℕ))
     (p : WordOp) (args : List (List ℕ)) (meets : ComputeMeets slots target second p args)

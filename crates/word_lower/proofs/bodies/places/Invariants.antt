@@ -1,5 +1,6 @@
 use Rattle.std.proofs.Common.{◌≡◌, map, take}
-use Rattle.word_lower.specs.Shapes.{mark_of, place_on}
+use Rattle.word_lower.specs.Programs.{mark_of}
+use Rattle.word_lower.specs.Shapes.{place_on}
 use Rattle.word_lower.proofs.bodies.places.Given as goal
 
 -- the places so far

@@ -1,0 +1,241 @@
+-- Where the arguments fill a form of an operation, its loop program does it, keeps its ceiling, and
+-- passes the tests.
+use Rattle.std.proofs.Common.{◌≡◌, ℕ, suc, ◌+◌, ◌*◌, ◌<◌, ◌≤◌, true, List, [], ◌∷◌, map, Some, refl}
+use Rattle.std.proofs.Common.{sym, ap, ◌∙◌, subst, arith}
+use Rattle.op_text.specs.declared.tree.Kind.{Kind}
+use Rattle.op_text.specs.declared.tree.Kind.TheVariants.{Word, Bit}
+use Rattle.op_text.specs.declared.word_ops.WordOp.{WordOp}
+use Rattle.op_text.specs.declared.word_ops.WordOp.TheVariants as op
+use Rattle.op_text.specs.declared.word_ops.Shape.{Shape}
+use Rattle.op_text.specs.declared.word_ops.Shape.TheVariants as shape
+use Rattle.op_text.specs.WordOps.{row_of, forms, filled}
+use Rattle.op_text.specs.Values.{bits, value, op_value}
+use Rattle.op_text.specs.Meaning.{width}
+use Rattle.op_text.specs.Scratch.{bits_inside}
+use Rattle.op_text.specs.Costs.{op_ceiling}
+use Rattle.loop_ir.specs.declared.ir.Space.TheVariants.{ScratchBit}
+use Rattle.loop_ir.specs.declared.names.Slot.{Slot}
+use Rattle.loop_ir.specs.Plain.{Block, StepOf}
+use Rattle.loop_ir.specs.Loops.{all_rounds}
+use Rattle.loop_ir.specs.Spots.{Spot, Spots, spot_in, after_rounds}
+use Rattle.loop_ir.specs.Costs.{rounds_cost}
+use Rattle.loop_ir.specs.Lowered.{slot_spot, slot_bits}
+use Rattle.loop_laws.specs.Rooms.{steps_fit, placed_steps}
+use Rattle.loop_laws.specs.Forms.{is_short}
+use Rattle.loop_laws.proofs.Costing.{total, total_is}
+use Rattle.word_lower.specs.Places.{scratch_from, rooms_of}
+use Rattle.word_lower.specs.Programs.{program, is_linear}
+use Rattle.word_lower.specs.Shapes.{owners_of, program_on}
+use Rattle.word_lower.proofs.Setting.{taken, operation, Slots, row, number_at, IsElsewhere, Gives}
+use Rattle.word_lower.proofs.Lists.{bits_of_number, value_of_list}
+use Rattle.word_lower.proofs.Pieces.{slot, slot_at, Pieces, names, are_slots}
+use Rattle.word_lower.proofs.Filled.{arg_kind, gives_kind, takes_kinds, form_of, slot_is}
+use Rattle.word_lower.proofs.Operations.{op_gives}
+
+-- the width of the first argument, or n where there is none
+abbrev pub slots_width : ℕ → List Slot → ℕ
+slots_width n [] = n
+slots_width n (a ∷ args) = width n a.kind
+
+abbrev pub steps_on : WordOp → Kind → Slot → List Slot → ℕ → List (StepOf Block)
+steps_on p k t args free = placed_steps (rooms_of t args (scratch_from free (bits_inside p)))
+    (program p k)
+
+pub record DoesOp (p : WordOp) (n : ℕ) (k : Kind) (t : Slot) (args : List Slot) (free : ℕ) : Type 0
+  where
+    pub gives : (before : Spots)
+        → slot_bits n (after_rounds n (all_rounds n (steps_on p k t args free)) before) t
+        ≡ bits (op_value p (slots_width n args) (map (λ a. value (slot_bits n before a)) args))
+        (width n t.kind)
+    pub keeps : (before : Spots) (q : Spot) → ((v : ℕ) → v < width n t.kind → q ≡ slot_spot n t v
+        → ⊥)
+        → ((j : ℕ) → j < bits_inside p → q ≡ spot_in n ScratchBit (free + j) 0 → ⊥)
+        → after_rounds n (all_rounds n (steps_on p k t args free)) before q ≡ before q
+
+pub record Lowers (p : WordOp) (k : Kind) (t : Slot) (args : List Slot) (free : ℕ) : Type 0 where
+  pub fit : steps_fit (rooms_of t args (scratch_from free (bits_inside p))) (program p k) ≡ true
+  pub same : program_on (owners_of t args free) (program p k) ≡ steps_on p k t args free
+  pub short : is_short (steps_on p k t args free) ≡ true
+  pub does : (n : ℕ) → 0 < n → Pieces n t args (scratch_from free (bits_inside p))
+      → DoesOp p n k t args free
+  pub cheap : (n : ℕ) → rounds_cost (all_rounds n (steps_on p k t args free))
+      ≤ op_ceiling p (slots_width n args)
+
+-- a place with another kind, and places of these kinds
+abbrev of_kind : Slot → Kind → Slot
+of_kind s k = slot s.space s.which k
+
+abbrev of_kinds : List Kind → (ℕ → Slot) → List Slot
+of_kinds [] f = []
+of_kinds (k ∷ ks) f = of_kind (f 0) k ∷ of_kinds ks (λ i. f (suc i))
+
+first_kind : List Kind → Kind
+first_kind [] = Word
+first_kind (k ∷ ks) = k
+
+rest_kinds : List Kind → List Kind
+rest_kinds [] = []
+rest_kinds (k ∷ ks) = ks
+
+are_of_kinds : (ss : List Slot) (ks : List Kind) → map (λ (s : Slot). s.kind) ss ≡ ks
+    → ss ≡ of_kinds ks (slot_at ss)
+unfolding first_kind rest_kinds
+are_of_kinds [] [] e = refl
+are_of_kinds [] (k ∷ ks) e = cc
+are_of_kinds (s ∷ ss) [] e = cc
+are_of_kinds (s ∷ ss) (k ∷ ks) e = ap (λ x. x ∷ ss) (slot_is s k (ap first_kind e))
+    ∙ ap (λ xs. of_kind s k ∷ xs) (are_of_kinds ss ks (ap rest_kinds e))
+
+-- the arguments of a form
+abbrev args_in : Shape → Kind → (ℕ → Slot) → List Slot
+args_in sh c f = of_kinds (takes_kinds sh c) f
+
+args_are : (sh : Shape) (c : Kind) (f : ℕ → Slot) → (let ss = args_in sh c f in
+    taken sh (slot_at ss 0) (slot_at ss 1) (slot_at ss 2) ≡ ss)
+args_are shape.Nothing c f = refl
+args_are sh c f = refl
+
+rows_are : (sh : Shape) (c : Kind) (f : ℕ → Slot) (n : ℕ) → 0 < n → (let ss = args_in sh c f in
+    (width n (arg_kind sh c) ≤ width n (slot_at ss 0).kind)
+    × (width n (arg_kind sh c) ≤ width n (slot_at ss 1).kind))
+rows_are shape.OneOf Word f n some = (omega arith, omega arith)
+rows_are shape.TwoOf Word f n some = (omega arith, omega arith)
+rows_are shape.Choice Word f n some = (omega arith, omega arith)
+rows_are sh c f n some = (omega arith, omega arith)
+
+width_is : (sh : Shape) (c : Kind) (f : ℕ → Slot) (n : ℕ) → slots_width n (args_in sh c f)
+    ≡ width n (arg_kind sh c)
+width_is shape.Nothing c f n = refl
+width_is sh c f n = refl
+
+numbers_are : (n : ℕ) (before : Spots) (ss : List Slot)
+    → map (λ s. value (slot_bits n before s)) ss
+    ≡ map (λ (s : Slot). number_at n before s (width n s.kind)) ss
+numbers_are n before [] = refl
+numbers_are n before (s ∷ ss) =
+    ap (λ x. x ∷ map (λ s. value (slot_bits n before s)) ss)
+    (value_of_list (λ v. before (row n s v)) (width n s.kind))
+    ∙ ap (λ xs. number_at n before s (width n s.kind) ∷ xs) (numbers_are n before ss)
+
+numbers_taken : (sh : Shape) (c : Kind) (f : ℕ → Slot) (n : ℕ) (before : Spots)
+    → (let ss = args_in sh c f in let l = width n (arg_kind sh c) in
+    map (λ (s : Slot). number_at n before s (width n s.kind)) ss
+    ≡ taken sh (number_at n before (slot_at ss 0) l) (number_at n before (slot_at ss 1) l)
+    (number_at n before (slot_at ss 2) 1))
+numbers_taken shape.Nothing c f n before = refl
+numbers_taken sh c f n before = refl
+
+-- from numbers to bits
+number_answer : (p : WordOp) (n l bound : ℕ) (t : Slot) (m : Slots) (before after : Spots) (x : ℕ)
+    → m.target ≡ t → Gives p n (width n t.kind) l bound m before after
+    → operation p l (number_at n before m.a l) (number_at n before m.b l) (number_at n before m.s 1)
+    ≡ x → slot_bits n after t ≡ bits x (width n t.kind)
+number_answer p n l bound t m before after x e g h =
+    sym (bits_of_number (λ v. after (row n t v)) (width n t.kind))
+    ∙ ap (λ y. bits y (width n t.kind)) (sym (ap
+    (λ (z : Slot). number_at n after z (width n t.kind)) e) ∙ g.gives ∙ h)
+
+elsewhere : (n bound : ℕ) (m : Slots) (q : Spot)
+    → ((v : ℕ) → v < width n m.target.kind → q ≡ slot_spot n m.target v → ⊥)
+    → ((j : ℕ) → j < bound → q ≡ spot_in n ScratchBit (m.free_bit + j) 0 → ⊥)
+    → IsElsewhere n (width n m.target.kind) bound m q
+elsewhere n bound m q out free = record {
+  target = out;
+  bit = λ h e. free 0 h (let f : m.free_bit ≡ m.free_bit + 0 = omega arith in
+      e ∙ ap (λ z. spot_in n ScratchBit z 0) f);
+}
+
+-- what computes, in each form
+record Computes (p : WordOp) (k : Kind) (t : Slot) (args : List Slot) (free : ℕ) : Type 0 where
+  fit : steps_fit (rooms_of t args (scratch_from free (bits_inside p))) (program p k) ≡ true
+  same : program_on (owners_of t args free) (program p k) ≡ steps_on p k t args free
+  short : is_short (steps_on p k t args free) ≡ true
+  cheap : (n : ℕ) → rounds_cost (all_rounds n (steps_on p k t args free))
+      ≤ op_ceiling p (slots_width n args)
+
+abbrev ComputesIn : WordOp → Kind → Slot → (ℕ → Slot) → ℕ → Type 0
+ComputesIn p c t f free = let sh = (row_of p).shape in
+    Computes p (gives_kind sh c) (of_kind t (gives_kind sh c)) (args_in sh c f) free
+
+computed : (p : WordOp) (k : Kind) (t : Slot) (args : List Slot) (free : ℕ)
+    → steps_fit (rooms_of t args (scratch_from free (bits_inside p))) (program p k) ≡ true
+    → program_on (owners_of t args free) (program p k) ≡ steps_on p k t args free
+    → is_short (steps_on p k t args free) ≡ true
+    → ((n : ℕ) → total n (steps_on p k t args free) ≤ 2 * op_ceiling p (slots_width n args))
+    → Computes p k t args free
+computed p k t args free fit same short cheap = record {
+  fit = fit;
+  same = same;
+  short = short;
+  cheap = λ n. let e = total_is n (steps_on p k t args free) in let h = cheap n in
+      omega (arith, e, h);
+}
+
+computes : (c : Kind) (p : WordOp) (t : Slot) (f : ℕ → Slot) (free : ℕ) → ComputesIn p c t f free
+computes Word op.Not t f free = computed _ _ _ _ _ refl refl refl (λ n. omega arith)
+computes Bit op.Not t f free = computed _ _ _ _ _ refl refl refl (λ n. omega arith)
+computes c p t f free = computed _ _ _ _ _ refl refl refl (λ n. omega arith)
+
+-- in each form the program does the operation
+module _ (p : WordOp) (c : Kind) (t : Slot) (f : ℕ → Slot) (free : ℕ) (linear : is_linear p ≡ true)
+  where
+    abbrev sh : Shape
+    sh = (row_of p).shape
+
+    abbrev k : Kind
+    k = gives_kind sh c
+
+    abbrev target : Slot
+    target = of_kind t k
+
+    abbrev args : List Slot
+    args = args_in sh c f
+
+    abbrev m : Slots
+    m = names target args free
+
+    abbrev left : ℕ → Spots → Spots
+    left n before = after_rounds n (all_rounds n (steps_on p k target args free)) before
+
+    gives : (n : ℕ) → 0 < n → Pieces n target args (scratch_from free (bits_inside p))
+        → (before : Spots) → Gives p n (width n k) (width n (arg_kind sh c)) (bits_inside p) m before
+        (left n before)
+    gives n some are before =
+        let enough = rows_are sh c f n some in
+        subst (λ ss. Gives p n (width n k) (width n (arg_kind sh c)) (bits_inside p) m before
+        (after_rounds n (all_rounds n (placed_steps (rooms_of target ss (scratch_from free
+        (bits_inside p))) (program p k))) before)) (args_are sh c f)
+        (op_gives p c linear n m some (are_slots n (width n (arg_kind sh c)) target args free some
+        enough.0 enough.1 (bits_inside p) are) before)
+
+    does : (n : ℕ) → 0 < n → Pieces n target args (scratch_from free (bits_inside p))
+        → DoesOp p n k target args free
+    does n some are = record {
+      gives = λ before. number_answer p n (width n (arg_kind sh c)) (bits_inside p) target m before
+          (left n before) _ refl (gives n some are before)
+          (ap (op_value p (width n (arg_kind sh c)))
+          (sym (numbers_are n before args ∙ numbers_taken sh c f n before))
+          ∙ ap (λ l. op_value p l (map (λ s. value (slot_bits n before s)) args))
+          (sym (width_is sh c f n)));
+      keeps = λ before q out free_out. (gives n some are before).keeps q
+          (elsewhere n (bits_inside p) m q out free_out);
+    }
+
+    lowers_in : Lowers p k target args free
+    lowers_in =
+        let is = computes c p t f free in
+        record { fit = is.fit; same = is.same; short = is.short; does = does; cheap = is.cheap }
+
+-- where the arguments fill a form of a linear operation, its program does it
+pub op_lowers : (p : WordOp) (k : Kind) (t : Slot) (args : List Slot) (free : ℕ)
+    → is_linear p ≡ true → filled (forms p) (map (λ (s : Slot). s.kind) args) ≡ Some k → t.kind ≡ k
+    → Lowers p k t args free
+op_lowers p k t args free linear e h =
+    let sh = (row_of p).shape in
+    let form = form_of sh (map (λ (s : Slot). s.kind) args) k e in
+    let g = gives_kind sh form.which in
+    subst (λ j. Lowers p j t args free) (sym form.gives)
+    (subst (λ x. Lowers p g x args free) (sym (slot_is t g (h ∙ form.gives)))
+    (subst (λ ss. Lowers p g (of_kind t g) ss free)
+    (sym (are_of_kinds args (takes_kinds sh form.which) form.takes))
+    (lowers_in p form.which t (slot_at args) free linear)))
