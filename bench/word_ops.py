@@ -13,8 +13,8 @@ TABLE = OP_TEXT / "src" / "word_ops.rt"
 COSTS = OP_TEXT / "specs" / "Costs.antt"
 
 KINDS = {"Word": "w", "Bit": "b"}
-# of each shape, its first form: the kinds of the arguments, and the result's, or None where the row names it
-SHAPES = {
+# of each signature, its first form: the kinds of the arguments, and the result's, or None where the row names it
+SIGNATURES = {
     "Nothing": ("", "w"),
     "OneOf": ("w", "w"),
     "TwoOf": ("ww", "w"),
@@ -45,13 +45,13 @@ def kind(name):
     return KINDS[name] if name in KINDS else fail(TABLE, f"no kind is called {name}")
 
 
-def shaped(shape, named):
+def signed(signature, named):
     """The kinds of the arguments and of the first result."""
-    if shape not in SHAPES:
-        fail(TABLE, f"no shape is called {shape}")
-    takes, gives = SHAPES[shape]
+    if signature not in SIGNATURES:
+        fail(TABLE, f"no signature is called {signature}")
+    takes, gives = SIGNATURES[signature]
     if (gives is None) != (named is not None):
-        fail(TABLE, f"a shape {shape} with the kind {named}")
+        fail(TABLE, f"a signature {signature} with the kind {named}")
     return takes, gives or kind(named)
 
 
@@ -65,8 +65,8 @@ def rows():
         row = ROW.fullmatch(line.strip())
         if not row:
             fail(TABLE, f"no row: {line.strip()}")
-        name, variant, shape, named, second = row.groups()
-        takes, gives = shaped(shape, named)
+        name, variant, signature, named, second = row.groups()
+        takes, gives = signed(signature, named)
         found.append((name, variant, takes, gives + (kind(second) if second else "")))
     if not found or len(found) != int(table[1]):
         fail(TABLE, f"{len(found)} rows of {table[1]}")

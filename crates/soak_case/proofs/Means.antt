@@ -11,13 +11,13 @@ use Rattle.op_text.specs.declared.tree.Kind.{Kind}
 use Rattle.op_text.specs.declared.tree.Kind.TheVariants.{Word, Bit}
 use Rattle.op_text.specs.declared.word_ops.WordOp.{WordOp}
 use Rattle.op_text.specs.declared.word_ops.WordOp.TheVariants as o
-use Rattle.op_text.specs.declared.word_ops.Shape.{Shape}
-use Rattle.op_text.specs.declared.word_ops.Shape.TheVariants as shapes
+use Rattle.op_text.specs.declared.word_ops.Signature.{Signature}
+use Rattle.op_text.specs.declared.word_ops.Signature.TheVariants as signs
 use Rattle.op_text.specs.Language.{Compute, Operation}
 use Rattle.op_text.specs.Scratch.{param}
 use Rattle.op_text.specs.Values.{bit_by_bit, bit_number, bits, both, of_none, of_one, of_two}
 use Rattle.op_text.specs.Values.{ones_of, op_value, value}
-use Rattle.op_text.specs.WordOps.{Form, filled, forms, op_text, row_of, shape_forms}
+use Rattle.op_text.specs.WordOps.{Form, filled, forms, op_text, row_of, signature_forms}
 use Rattle.op_text.specs.Meaning.{meaning, width as result_width}
 use Rattle.uprog_code.specs.Shape.{width}
 use Rattle.soak_case.proofs.Fitting.{form_at}
@@ -109,24 +109,24 @@ two_fits p n a b l k =
     let rest = mod-le a b in
     first_of (search (rules, below), grind (arith, below_choice))
 
--- the values on arguments of a shape's form fit its result, where those of one and of two do
-fits_at : (p : WordOp) (s : Shape) (n : ℕ) (values : List ℕ)
+-- the values on arguments of a signature's form fit its result, where those of one and of two do
+fits_at : (p : WordOp) (s : Signature) (n : ℕ) (values : List ℕ)
     → AreSmall n (or_a_word (form_at s).takes) values
     → ((a : ℕ) → a < 2 ^ n → of_one p n a < 2 ^ width (form_at s).gives n)
     → ((a b : ℕ) → a < 2 ^ n → b < 2 ^ n → of_two p n a b < 2 ^ width (form_at s).gives n)
     → op_value p n (take (length (form_at s).takes) values) < 2 ^ width (form_at s).gives n
-fits_at p shapes.Nothing n (a ∷ []) l one two = none_fits p n
-fits_at p shapes.OneOf n (a ∷ []) l one two = one a l.0
-fits_at p (shapes.OneWord k) n (a ∷ []) l one two = one a l.0
-fits_at p shapes.TwoOf n (a ∷ b ∷ []) l one two = two a b l.0 l.1.0
-fits_at p (shapes.TwoWords k) n (a ∷ b ∷ []) l one two = two a b l.0 l.1.0
-fits_at p shapes.Choice n (a ∷ b ∷ x ∷ []) l one two =
+fits_at p signs.Nothing n (a ∷ []) l one two = none_fits p n
+fits_at p signs.OneOf n (a ∷ []) l one two = one a l.0
+fits_at p (signs.OneWord k) n (a ∷ []) l one two = one a l.0
+fits_at p signs.TwoOf n (a ∷ b ∷ []) l one two = two a b l.0 l.1.0
+fits_at p (signs.TwoWords k) n (a ∷ b ∷ []) l one two = two a b l.0 l.1.0
+fits_at p signs.Choice n (a ∷ b ∷ x ∷ []) l one two =
     below_choice (x == 1) a b (2 ^ n) l.0 l.1.0
 fits_at p s n values l one two = absurd (assumption)
 
 fits_result : (p : WordOp) (n : ℕ) (values : List ℕ) → AreSmall n (source_kinds p) values
     → op_value p n (arguments p values) < 2 ^ width (result_kind p) n
-fits_result p n values l = fits_at p (row_of p).shape n values l (one_fits p n) (two_fits p n)
+fits_result p n values l = fits_at p (row_of p).signature n values l (one_fits p n) (two_fits p n)
 
 -- the op of one statement with a form, and the number of its one result
 abbrev statement_of : WordOp → Form → Operation
@@ -141,7 +141,7 @@ statement_of p f = record {
 abbrev meant_at : WordOp → Form → ℕ → List ℕ → ℕ
 meant_at p f n values = get_or (meaning (statement_of p f) n values) 0 0
 
--- a result by the forms of a shape
+-- a result by the forms of a signature
 abbrev given : WordOp → List Form → ℕ → List Kind → List ℕ → ℕ
 given p fs n kinds args =
     value (bits (op_value p n args) (result_width n (unwrap_or (filled fs kinds) Word)))
@@ -151,33 +151,33 @@ own_value : (n : ℕ) (k : Kind) (v : ℕ) → v < 2 ^ width k n → value (bits
 own_value n Word v l = value-bits n v l
 own_value n Bit v l = value-bits 1 v l
 
-means_at : (p : WordOp) (s : Shape) (n : ℕ) (values : List ℕ) → forms p ≡ shape_forms s
+means_at : (p : WordOp) (s : Signature) (n : ℕ) (values : List ℕ) → forms p ≡ signature_forms s
     → AreSmall n (or_a_word (form_at s).takes) values
     → op_value p n (take (length (form_at s).takes) values) < 2 ^ width (form_at s).gives n
     → meant_at p (form_at s) n values ≡ op_value p n (take (length (form_at s).takes) values)
-means_at p shapes.Nothing n (a ∷ []) e l f =
+means_at p signs.Nothing n (a ∷ []) e l f =
     ap (λ (fs : List Form). given p fs n [] []) e ∙ own_value n Word _ f
-means_at p shapes.OneOf n (a ∷ []) e l f =
+means_at p signs.OneOf n (a ∷ []) e l f =
     ap (λ (fs : List Form). given p fs n (Word ∷ []) (value (bits a n) ∷ [])) e
     ∙ ap (λ v. value (bits (op_value p n (v ∷ [])) n)) (value-bits n a l.0) ∙ own_value n Word _ f
-means_at p (shapes.OneWord k) n (a ∷ []) e l f =
+means_at p (signs.OneWord k) n (a ∷ []) e l f =
     ap (λ (fs : List Form). given p fs n (Word ∷ []) (value (bits a n) ∷ [])) e
     ∙ ap (λ v. value (bits (op_value p n (v ∷ [])) (result_width n k))) (value-bits n a l.0)
     ∙ own_value n k _ f
-means_at p shapes.TwoOf n (a ∷ b ∷ []) e l f =
+means_at p signs.TwoOf n (a ∷ b ∷ []) e l f =
     ap (λ (fs : List Form). given p fs n (Word ∷ Word ∷ [])
     (value (bits a n) ∷ value (bits b n) ∷ [])) e
     ∙ ap (λ v. value (bits (op_value p n (v ∷ value (bits b n) ∷ [])) n)) (value-bits n a l.0)
     ∙ ap (λ v. value (bits (op_value p n (a ∷ v ∷ [])) n)) (value-bits n b l.1.0)
     ∙ own_value n Word _ f
-means_at p (shapes.TwoWords k) n (a ∷ b ∷ []) e l f =
+means_at p (signs.TwoWords k) n (a ∷ b ∷ []) e l f =
     ap (λ (fs : List Form). given p fs n (Word ∷ Word ∷ [])
     (value (bits a n) ∷ value (bits b n) ∷ [])) e
     ∙ ap (λ v. value (bits (op_value p n (v ∷ value (bits b n) ∷ [])) (result_width n k)))
     (value-bits n a l.0)
     ∙ ap (λ v. value (bits (op_value p n (a ∷ v ∷ [])) (result_width n k))) (value-bits n b l.1.0)
     ∙ own_value n k _ f
-means_at p shapes.Choice n (a ∷ b ∷ x ∷ []) e l f =
+means_at p signs.Choice n (a ∷ b ∷ x ∷ []) e l f =
     ap (λ (fs : List Form). given p fs n (Word ∷ Word ∷ Bit ∷ [])
     (value (bits a n) ∷ value (bits b n) ∷ value (bits x 1) ∷ [])) e
     ∙ ap (λ v. value (bits (op_value p n (v ∷ value (bits b n) ∷ value (bits x 1) ∷ [])) n))
@@ -195,4 +195,4 @@ meant op n values = get_or (meaning (one_statement op) n values) 0 0
 pub means : (op : WordOp) (n : ℕ) (values : List ℕ) → AreSmall n (source_kinds op) values
     → meant op n values ≡ op_value op n (arguments op values)
 means op n values l =
-    means_at op (row_of op).shape n values refl l (fits_result op n values l)
+    means_at op (row_of op).signature n values refl l (fits_result op n values l)

@@ -7,13 +7,13 @@ use Rattle.op_text.specs.declared.tree.Kind.{Kind}
 use Rattle.op_text.specs.declared.tree.Kind.TheVariants.{Word}
 use Rattle.op_text.specs.declared.tree.Param.{Param}
 use Rattle.op_text.specs.declared.word_ops.WordOp.{WordOp}
-use Rattle.op_text.specs.declared.word_ops.Shape.{Shape}
-use Rattle.op_text.specs.declared.word_ops.Shape.TheVariants as shapes
+use Rattle.op_text.specs.declared.word_ops.Signature.{Signature}
+use Rattle.op_text.specs.declared.word_ops.Signature.TheVariants as signs
 use Rattle.op_text.specs.Rules.{MAX_SOURCES}
 use Rattle.op_text.specs.Scratch.{kind_of, result_kind}
 use Rattle.op_text.specs.Spelling.{Each, is_good}
 use Rattle.op_text.specs.WordOps.{Form, filled, forms, given_first, op_text, row_of, second_kind}
-use Rattle.op_text.specs.WordOps.{shape_forms}
+use Rattle.op_text.specs.WordOps.{signature_forms}
 use Rattle.op_text.proofs.Rows.{every}
 use Rattle.op_rules.specs.Meets.{Differ, IsGood, IsKnown, IsNew, OperationMeets, OpsMeet}
 use Rattle.op_rules.specs.Meets.{SecondMeets, at_start, names_of}
@@ -24,11 +24,11 @@ use Rattle.soak_case.specs.Cases.{one_statement, or_a_word, params_of, source_na
 own : {j k : Kind} → Some j ≡ Some k → k ≡ j
 own {j} {k} e = sym (ap (λ x. unwrap_or x j) e)
 
--- the parameters and the arguments of a shape's form
-abbrev params_at : Shape → List Param
+-- the parameters and the arguments of a signature's form
+abbrev params_at : Signature → List Param
 params_at s = params_of (or_a_word (form_at s).takes) source_names
 
-abbrev names_at : Shape → List (List ℕ)
+abbrev names_at : Signature → List (List ℕ)
 names_at s = take (length (form_at s).takes) source_names
 
 -- what parameters are like
@@ -40,8 +40,8 @@ record ParamsMeet (params : List Param) (args : List (List ℕ)) : Type 0 where
   result_new : IsNew (names_of params) (codes "y")
   known : Each (IsKnown params) args
 
-params_meet : (s : Shape) → ParamsMeet (params_at s) (names_at s)
-params_meet shapes.Choice = record {
+params_meet : (s : Signature) → ParamsMeet (params_at s) (names_at s)
+params_meet signs.Choice = record {
   some = omega arith;
   few = omega arith;
   good = search rules;
@@ -59,17 +59,17 @@ params_meet s = record {
 }
 
 -- the kind of an operation's result on a form's arguments
-gives_own : (p : WordOp) (s : Shape) → forms p ≡ shape_forms s
+gives_own : (p : WordOp) (s : Signature) → forms p ≡ signature_forms s
     → result_kind (params_at s) p (names_at s) ≡ (form_at s).gives
-gives_own p shapes.Nothing e = ap (λ (fs : List Form). given_first fs None) e
+gives_own p signs.Nothing e = ap (λ (fs : List Form). given_first fs None) e
 gives_own p s e = ap (λ (fs : List Form). given_first fs (Some Word)) e
 
-fills_own : (s : Shape)
-    → filled (shape_forms s) (map (kind_of (params_at s)) (names_at s)) ≡ Some (form_at s).gives
-fills_own shapes.Nothing = refl
+fills_own : (s : Signature)
+    → filled (signature_forms s) (map (kind_of (params_at s)) (names_at s)) ≡ Some (form_at s).gives
+fills_own signs.Nothing = refl
 fills_own s = refl
 
-takes_own : (p : WordOp) (s : Shape) → forms p ≡ shape_forms s
+takes_own : (p : WordOp) (s : Signature) → forms p ≡ signature_forms s
     → filled (forms p) (map (kind_of (params_at s)) (names_at s))
     ≡ Some (result_kind (params_at s) p (names_at s))
 takes_own p s e =
@@ -88,7 +88,7 @@ free_name p = not_true _ (every (λ q. not (bytes_eq (op_text q) (codes "trsp_in
 
 meets : (op : WordOp) → second_kind op ≡ None → OperationMeets (one_statement op)
 meets op e =
-    let s : Shape = (row_of op).shape in
+    let s : Signature = (row_of op).signature in
     let params : ParamsMeet (params_at s) (names_at s) = params_meet s in
     let gives = gives_own op s refl in
     record {

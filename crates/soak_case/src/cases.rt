@@ -7,7 +7,7 @@ ghost use Rattle.soak_case.specs.Cases.{at_widths, form_of, result_kind, singles
 ghost use Rattle.soak_case.specs.Cases.{source_kinds};
 
 use arrayvec::ArrayVec;
-use op_text::{Kind, Shape, WORD_OPS, WordOp, WordRow, second_kind};
+use op_text::{Kind, Signature, WORD_OPS, WordOp, WordRow, second_kind};
 
 /// A word operation at a width.
 #[derive(Clone, Copy, Debug, PartialEq, Eq)]
@@ -73,10 +73,10 @@ pub(crate) fn rows_of(kind: Kind, n: u8) -> u8
 }
 
 /// What an operation takes and gives.
-fn shape_of(op: WordOp) -> Shape
-    ensures { result ≡ (row_of op).shape }
+fn signature_of(op: WordOp) -> Signature
+    ensures { result ≡ (row_of op).signature }
 {
-    WORD_OPS[op as usize].1.shape
+    WORD_OPS[op as usize].1.signature
 }
 
 /// The kinds of an operation's arguments.
@@ -84,11 +84,11 @@ fn taken_by(op: WordOp) -> &'static [Kind]
     ensures kinds { result.now ≡ (form_of op).takes }
     ensures few { length result.now ≤ 3 }
 {
-    match shape_of(op) {
-        Shape::Nothing => &[],
-        Shape::OneOf | Shape::OneWord(_) => &[Kind::Word],
-        Shape::TwoOf | Shape::TwoWords(_) => &[Kind::Word, Kind::Word],
-        Shape::Choice => &[Kind::Word, Kind::Word, Kind::Bit],
+    match signature_of(op) {
+        Signature::Nothing => &[],
+        Signature::OneOf | Signature::OneWord(_) => &[Kind::Word],
+        Signature::TwoOf | Signature::TwoWords(_) => &[Kind::Word, Kind::Word],
+        Signature::Choice => &[Kind::Word, Kind::Word, Kind::Bit],
     }
 }
 
@@ -107,8 +107,8 @@ pub(crate) fn sources_of(op: WordOp) -> &'static [Kind]
 pub(crate) fn result_of(op: WordOp) -> Kind
     ensures { result ≡ result_kind op }
 {
-    match shape_of(op) {
-        Shape::OneWord(kind) | Shape::TwoWords(kind) => kind,
+    match signature_of(op) {
+        Signature::OneWord(kind) | Signature::TwoWords(kind) => kind,
         _ => Kind::Word,
     }
 }
