@@ -1,9 +1,9 @@
 #!/usr/bin/env python3
-"""Row commands of each word operation at every width, beside the numbers of README's table and its ceiling.
+"""Row commands of each word operation at every width, beside its ceiling.
 
 Run it at the top of the repository, after the program was built once:  python3 bench/commands.py
 It compiles one op of each operation, asks `cost` for every width from 1 to 128, and ends with 1 where the AAP or the AP
-are not those of the table, which the compiler's contract proves.
+are not those that `crates/op_text/specs/Costs.antt` says, which the compiler's contract proves.
 """
 
 import pathlib
@@ -13,51 +13,24 @@ import sys
 import tempfile
 import time
 
+sys.dont_write_bytecode = True
+
+from word_ops import word_ops  # noqa: E402
+
 TOP = pathlib.Path(__file__).resolve().parent.parent
 PROGRAM = TOP / "simdram"
 WIDTHS = range(1, 129)
 SHOWN = (8, 16, 32, 64, 128)
 
-# name: (kinds of the arguments, kinds of the results, AAP at n, AP at n, ceiling at n)
-OPERATIONS = {
-    "not": ("w", "w", lambda n: 2 * n, lambda n: 0, lambda n: 2 * n),
-    "and": ("ww", "w", lambda n: 4 * n, lambda n: 0, lambda n: 4 * n),
-    "or": ("ww", "w", lambda n: 4 * n, lambda n: 0, lambda n: 4 * n),
-    "xor": ("ww", "w", lambda n: 5 * n, lambda n: 2 * n, lambda n: 7 * n),
-    "copy": ("w", "w", lambda n: n, lambda n: 0, lambda n: 3 * n),
-    "zero": ("", "w", lambda n: n, lambda n: 0, lambda n: 3 * n),
-    "ones": ("", "w", lambda n: n, lambda n: 0, lambda n: 3 * n),
-    "shl1": ("w", "w", lambda n: 2 * n + 1, lambda n: 0, lambda n: 6 * n + 1),
-    "shr1": ("w", "w", lambda n: 2 * n + 1, lambda n: 0, lambda n: 6 * n + 1),
-    "add": ("ww", "w", lambda n: 8 * n + 1, lambda n: n, lambda n: 9 * n + 1),
-    "sub": ("ww", "w", lambda n: 7 * n + 1, lambda n: 0, lambda n: 18 * n + 1),
-    "mul": ("ww", "w", lambda n: 11 * n * (n + 1) // 2 + 2 * n, lambda n: 0, lambda n: 11 * n * n + 15 * n),
-    "div": ("ww", "w", lambda n: 14 * n * n + 9 * n, lambda n: 0, lambda n: 29 * n * n + 18 * n),
-    "rem": ("ww", "w", lambda n: 14 * n * n + 9 * n, lambda n: 0, lambda n: 29 * n * n + 18 * n),
-    "divmod": ("ww", "ww", lambda n: 14 * n * n + 10 * n, lambda n: 0, lambda n: 29 * n * n + 24 * n),
-    "abs": ("w", "w", lambda n: 9 * n + 1, lambda n: 0, lambda n: 34 * n + 1),
-    "relu": ("w", "w", lambda n: 4 * n, lambda n: 0, lambda n: 7 * n),
-    "min": ("ww", "w", lambda n: 11 * n + 1, lambda n: 0, lambda n: 22 * n + 1),
-    "max": ("ww", "w", lambda n: 11 * n + 1, lambda n: 0, lambda n: 22 * n + 1),
-    "eq": ("ww", "b", lambda n: 7 * n + 1, lambda n: 0, lambda n: 19 * n + 1),
-    "gt": ("ww", "b", lambda n: 4 * n + 1, lambda n: 0, lambda n: 7 * n + 1),
-    "ge": ("ww", "b", lambda n: 4 * n + 1, lambda n: 0, lambda n: 7 * n + 1),
-    "if_else": ("wwb", "w", lambda n: 7 * n, lambda n: 0, lambda n: 15 * n),
-    "bitcount": ("w", "w", lambda n: 7 * n * n + 3 * n, lambda n: 0, lambda n: 22 * n * n + 4 * n),
-    "and_red": ("w", "b", lambda n: 4 * n + 1, lambda n: 0, lambda n: 7 * n + 1),
-    "or_red": ("w", "b", lambda n: 4 * n + 1, lambda n: 0, lambda n: 7 * n + 1),
-    "xor_red": ("w", "b", lambda n: 5 * n + 1, lambda n: 2 * n, lambda n: 15 * n + 1),
-}
 
-
-def op(name):
+def op(operation):
     """One op of this operation, of its name."""
-    takes, gives, _, _, _ = OPERATIONS[name]
+    name, takes = operation.name, operation.takes
     kind = {"w": "word", "b": "bit"}
     sources = [(chr(ord("a") + k), t) for k, t in enumerate(takes or "w")]
     params = ", ".join(f"{s}: {kind[t]}" for s, t in sources)
     args = ", ".join(s for s, _ in sources[: len(takes)])
-    results = list(zip("yz", gives))
+    results = list(zip("yz", operation.gives))
     targets = ", ".join(r for r, _ in results)
     returns = ", ".join(f"{r}: {kind[t]}" for r, t in results)
     return f"op {name}({params}) -> {returns} {{ {targets} = {name}({args}); }}\n"
@@ -112,15 +85,16 @@ def main():
     wrong = 0
     with tempfile.TemporaryDirectory() as name:
         folder = pathlib.Path(name)
-        compiled(folder, "".join(map(op, OPERATIONS)))
+        operations = word_ops()
+        compiled(folder, "".join(map(op, operations)))
         at = {n: costs(folder, n) for n in WIDTHS}
         print("operation " + " ".join(f"{f'n={n}':>15}" for n in SHOWN))
-        for operation, (_, _, aap, ap, ceiling) in OPERATIONS.items():
-            print(f"{operation:9} " + " ".join(f"{f'{sum(at[n][operation])}/{ceiling(n)}':>15}" for n in SHOWN))
+        for p in operations:
+            print(f"{p.name:9} " + " ".join(f"{f'{sum(at[n][p.name])}/{p.ceiling(n)}':>15}" for n in SHOWN))
             for n in WIDTHS:
-                if at[n][operation] != (aap(n), ap(n)):
+                if at[n][p.name] != (p.aap(n), p.ap(n)):
                     wrong += 1
-                    print(f"  at {n}: {at[n][operation]} AAP and AP, and the table says {(aap(n), ap(n))}")
+                    print(f"  at {n}: {at[n][p.name]} AAP and AP, and `Costs` says {(p.aap(n), p.ap(n))}")
         said, seconds = compiled(folder, greatest())
         size = (folder / "prog").stat().st_size
         print(f"compiling 32 ops of 16 statements: {seconds:.3f} seconds, a program of {size} bytes; {said}")

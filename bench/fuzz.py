@@ -34,6 +34,7 @@ sys.path.append(str(TOP / "tools"))
 
 from from_hex import bytes_in  # noqa: E402
 from image import Image, Object  # noqa: E402
+from word_ops import word_ops  # noqa: E402
 
 PROGRAM = TOP / "crates" / "simdram" / "out" / "simdram"
 EXAMPLES = TOP / "examples"
@@ -107,8 +108,7 @@ COMMANDS = [
             ("prog", "out"), frozenset({0, 2, 4, 6, 7, 8, 11, 17, 18}), rb"(" + REPORT + rb"|" + VOTES + rb")", TOTAL),
 ]
 
-WORD_OPERATIONS = ("not and or xor copy zero ones shl1 shr1 add sub mul div rem abs relu min max eq gt ge if_else bitcount "
-                   "and_red or_red xor_red divmod").split()
+WORD_OPERATIONS = [operation.name for operation in word_ops()]
 GATES = {"not": 1, "and": 2, "or": 2, "xor": 2, "maj": 3}
 TOKENS = ("op word bit serial up down let ( ) { } , ; : = -> 0 1 2 a b c t y _ x9 " + "n" * 17 + " # @ \n").split(" ")
 QUERY_TOKENS = "eq ne lt le gt ge and or not ( ) , a b y 0 3 8 200 256 # @ \n".split(" ")

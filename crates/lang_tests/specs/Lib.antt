@@ -1,1 +1,1 @@
-pub mod Ceilings
+pub mod ByHand

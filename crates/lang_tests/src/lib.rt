@@ -1,10 +1,10 @@
-//! What is written and read again, ceilings by hand, and tests of what is refused.
+//! What is written and read again, what is worked out by hand, and tests of what is refused.
 #![tactic(auto)]
 
-mod ceilings;
+mod by_hand;
 mod round;
 
-pub use ceilings::ceilings_by_hand;
+pub use by_hand::{all_by_hand, ceilings_by_hand, values_by_hand};
 pub use round::reread;
 
 #[cfg(test)]

@@ -1,14 +1,19 @@
 -- A case's layout fits on its chip.
-use Rattle.std.proofs.Common.{◌≡◌, ℕ, ◌+◌, ◌≤◌, List, [], ◌∷◌, refl, sym, subst, arith}
+use Rattle.std.proofs.Common.{◌≡◌, ℕ, ◌+◌, ◌≤◌, List, [], ◌∷◌, refl, sym, ap, subst, arith}
+use Rattle.std.proofs.Common.{length, map}
 use Rattle.std.specs.List.{AllByRecursion}
 use Rattle.op_text.specs.declared.tree.Kind.{Kind}
+use Rattle.op_text.specs.declared.tree.Param.{Param}
 use Rattle.op_text.specs.declared.word_ops.WordOp.{WordOp}
-use Rattle.op_text.specs.declared.word_ops.WordOp.TheVariants as o
+use Rattle.op_text.specs.declared.word_ops.Signature.{Signature}
+use Rattle.op_text.specs.declared.word_ops.Signature.TheVariants as signs
+use Rattle.op_text.specs.WordOps.{Form, row_of, signature_forms}
 use Rattle.uprog_code.specs.Shape.{width}
 use Rattle.uprog_code.specs.Texts.{op_shape}
 use Rattle.uprog_code.specs.Fits.{AreApart, AreBelow, Fits, Range, ranges, scratch_range, written}
 use Rattle.soak_case.specs.declared.cases.Case.{Case}
-use Rattle.soak_case.specs.Cases.{one_statement, source_kinds}
+use Rattle.soak_case.specs.Cases.{first_form, one_statement, or_a_word, params_of, source_kinds}
+use Rattle.soak_case.specs.Cases.{source_names}
 use Rattle.soak_case.specs.Layout.{FitsChip, bases_from, layout, result_rows, rows_of, source_rows}
 use Rattle.soak_case.proofs.Going.{sum_cons}
 
@@ -50,35 +55,24 @@ all_apart (r ∷ rs) s t end e l m = (
   all_apart rs s t end e.1 l m,
 )
 
+-- the form of the operations of a signature
+abbrev pub form_at : Signature → Form
+form_at s = first_form (signature_forms s)
+
+-- there are names for its sources
+few_sources : (s : Signature) → length (or_a_word (form_at s).takes) ≤ 3
+few_sources signs.Choice = omega arith
+few_sources s = omega arith
+
+params_kinds : (ks : List Kind) (names : List (List ℕ)) → length ks ≤ length names
+    → map (λ (p : Param). p.kind) (params_of ks names) ≡ ks
+params_kinds [] names l = refl
+params_kinds (k ∷ ks) [] l = absurd (omega arith)
+params_kinds (k ∷ ks) (n ∷ names) l = ap (λ more. k ∷ more) (params_kinds ks names (omega arith))
+
 -- the kinds of the op's parameters
 pub kinds_are : (op : WordOp) → (op_shape (one_statement op)).sources ≡ source_kinds op
-kinds_are o.Not = refl
-kinds_are o.And = refl
-kinds_are o.Or = refl
-kinds_are o.Xor = refl
-kinds_are o.Copy = refl
-kinds_are o.Zero = refl
-kinds_are o.Ones = refl
-kinds_are o.Shl1 = refl
-kinds_are o.Shr1 = refl
-kinds_are o.Add = refl
-kinds_are o.Sub = refl
-kinds_are o.Mul = refl
-kinds_are o.Div = refl
-kinds_are o.Rem = refl
-kinds_are o.Abs = refl
-kinds_are o.Relu = refl
-kinds_are o.Min = refl
-kinds_are o.Max = refl
-kinds_are o.Eq = refl
-kinds_are o.Gt = refl
-kinds_are o.Ge = refl
-kinds_are o.IfElse = refl
-kinds_are o.Bitcount = refl
-kinds_are o.AndRed = refl
-kinds_are o.OrRed = refl
-kinds_are o.XorRed = refl
-kinds_are o.Divmod = refl
+kinds_are op = params_kinds (source_kinds op) source_names (few_sources (row_of op).signature)
 
 pub case_fits : (c : Case) → FitsChip c → Fits 512 (op_shape (one_statement c.op)) c.n (layout c)
 case_fits c f =

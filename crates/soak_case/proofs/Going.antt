@@ -1,10 +1,9 @@
 -- How the loops go on: the cases, the values of a source, and the sum of a bank.
 use Rattle.std.proofs.Common.{◌≡◌, ℕ, zero, suc, ◌+◌, ◌*◌, ◌/◌, ◌%◌, ◌^◌, ◌<◌, ◌≤◌, List, [], ◌∷◌}
-use Rattle.std.proofs.Common.{◌++◌}
-use Rattle.std.proofs.Common.{length, map, take, drop, get_or, set, refl, sym, ap, ◌∙◌, arith}
-use Rattle.std.proofs.Common.{append_assoc}
-use Rattle.std.specs.Prelude.{sum_by, flat_map}
-use Rattle.std.specs.Prelude.{All}
+use Rattle.std.proofs.Common.{◌++◌, length, map, take, drop, get_or, set, refl, sym, ap, ◌∙◌, arith}
+use Rattle.std.proofs.Common.{append_assoc, cond}
+use Rattle.std.specs.Prelude.{Bool, true, false, not, Option, Some, None, is_none, is_some, sum_by}
+use Rattle.std.specs.Prelude.{All, flat_map}
 use Rattle.std.specs.List.{range_with_len, AllByRecursion}
 use Rattle.std.proofs.lemmas.List.Elements.{All-from_recursion}
 use Rattle.std.proofs.lemmas.List.Sums.{sum_by-append}
@@ -19,24 +18,46 @@ use Rattle.rand_xoshiro.specs.SplitMix64.{mix_u64}
 use Rattle.op_text.specs.declared.tree.Kind.{Kind}
 use Rattle.op_text.specs.declared.tree.Kind.TheVariants.{Word}
 use Rattle.op_text.specs.declared.word_ops.WordOp.{WordOp}
-use Rattle.op_text.specs.declared.word_ops.WordOp.TheVariants as o
 use Rattle.op_text.specs.Scratch.{param}
+use Rattle.op_text.specs.WordOps.{second_kind}
 use Rattle.soak_case.specs.declared.cases.Case.{Case}
-use Rattle.soak_case.specs.Cases.{at_widths, params_of, single_ops, soak_cases}
+use Rattle.soak_case.specs.Cases.{at_widths, params_of, singles}
 use Rattle.soak_case.specs.Words.{elements, value_at, values_of, word_at}
 
--- the cases of one operation more
-pub cases_more : (items new : List Case) (i : ℕ) (op : WordOp) → i < 26 → op ≡ get_or single_ops i o.Not
-    → new ≡ items ++ at_widths op
-    → soak_cases ≡ items ++ flat_map at_widths (drop i single_ops)
-    → soak_cases ≡ new ++ flat_map at_widths (drop (i + 1) single_ops)
-cases_more items new i op l e n h =
+first_cases : (op : WordOp) (ops : List WordOp) (b : Bool) → is_none (second_kind op) ≡ b
+    → flat_map at_widths (singles (op ∷ ops))
+    ≡ cond b (at_widths op) [] ++ flat_map at_widths (singles ops)
+first_cases op ops true e =
+    ap (λ b. flat_map at_widths (cond b (op ∷ singles ops) (singles ops))) e
+first_cases op ops b e =
+    ap (λ b. flat_map at_widths (cond b (op ∷ singles ops) (singles ops))) e
+
+none_by : (k : Option Kind) (b : Bool) → is_some k ≡ not b → is_none k ≡ b
+none_by None true e = refl
+none_by None false e = cc
+none_by (Some k) true e = cc
+none_by (Some k) false e = refl
+
+-- the cases of the operations in rows
+abbrev pub cases_in : {R : Type 0} → (R → WordOp) → List R → List Case
+cases_in f rows = flat_map at_widths (singles (map f rows))
+
+-- the cases of one row more, if its operation has one result
+pub cases_more : {R : Type 0} (f : R → WordOp) (rows : List R) (i : ℕ) (d : R)
+    (all items new : List Case) (k : Option Kind) (b : Bool) → i < length rows
+    → k ≡ second_kind (f (get_or rows i d)) → is_some k ≡ not b
+    → new ≡ items ++ cond b (at_widths (f (get_or rows i d))) []
+    → all ≡ items ++ cases_in f (drop i rows) → all ≡ new ++ cases_in f (drop (i + 1) rows)
+cases_more f rows i d all items new k b l e s n h =
     let one : suc i ≡ i + 1 = omega arith in
-    h ∙ ap (λ (ops : List WordOp). items ++ flat_map at_widths ops) (drop-cons single_ops i o.Not l)
-    ∙ ap (λ (x : WordOp). items ++ (at_widths x ++ flat_map at_widths (drop (suc i) single_ops))) (sym e)
-    ∙ sym (append_assoc items (at_widths op) (flat_map at_widths (drop (suc i) single_ops)))
-    ∙ ap (λ (xs : List Case). xs ++ flat_map at_widths (drop (suc i) single_ops)) (sym n)
-    ∙ ap (λ k. new ++ flat_map at_widths (drop k single_ops)) one
+    let op : WordOp = f (get_or rows i d) in
+    let rest : List WordOp = map f (drop (i + 1) rows) in
+    h ∙ ap (λ xs. items ++ cases_in f xs) (drop-cons rows i d l)
+    ∙ ap (λ j. items ++ cases_in f (get_or rows i d ∷ drop j rows)) one
+    ∙ ap (λ (cs : List Case). items ++ cs)
+    (first_cases op rest b (ap (λ (j : Option Kind). is_none j) (sym e) ∙ none_by k b s))
+    ∙ sym (append_assoc items (cond b (at_widths op) []) (flat_map at_widths (singles rest)))
+    ∙ ap (λ (cs : List Case). cs ++ flat_map at_widths (singles rest)) (sym n)
 
 -- the bit that a width shifts out
 pub shifted : (b : ℕ) → b ≤ 64 → 1 * 2 ^ b % 2 ^ 128 ≡ 2 ^ b

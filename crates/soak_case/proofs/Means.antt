@@ -1,21 +1,28 @@
 -- What the op of one statement means: the value of its operation.
-use Rattle.std.proofs.Common.{◌≡◌, ℕ, zero, suc, ◌+◌, ◌*◌, ◌-◌, ◌/◌, ◌%◌, ◌^◌, ◌==◌, ◌<◌, Bool}
-use Rattle.std.proofs.Common.{true}
-use Rattle.std.proofs.Common.{false, List, [], ◌∷◌, get_or, length, cond, refl, ap, ◌∙◌, arith, subst}
-use Rattle.std.specs.Prelude.{nat_le, nat_lt, ◌&&◌, ◌||◌}
+use Rattle.std.proofs.Common.{◌≡◌, ℕ, zero, suc, ◌+◌, ◌*◌, ◌/◌, ◌%◌, ◌^◌, ◌==◌, ◌<◌, Bool}
+use Rattle.std.proofs.Common.{true, false, List, [], ◌∷◌, get_or, length, take, cond, refl, ap, ◌∙◌}
+use Rattle.std.proofs.Common.{arith, subst, rules}
+use Rattle.std.specs.Prelude.{None, codes, unwrap_or}
 use Rattle.std.proofs.Math.Nat.{div-le_self, mod-le, mod-lt, pow-succ'}
 use Rattle.std.proofs.lemmas.Nat.{pow_pos}
 use Rattle.std.proofs.lemmas.Bool.Decides.{nat_tests}
 use Rattle.std.proofs.lemmas.List.Sums.{count_by-le-length}
 use Rattle.op_text.specs.declared.tree.Kind.{Kind}
+use Rattle.op_text.specs.declared.tree.Kind.TheVariants.{Word, Bit}
 use Rattle.op_text.specs.declared.word_ops.WordOp.{WordOp}
 use Rattle.op_text.specs.declared.word_ops.WordOp.TheVariants as o
-use Rattle.op_text.specs.Values.{bit_by_bit, bit_number, bits, both, differ, half, ones_of}
-use Rattle.op_text.specs.Values.{op_value}
-use Rattle.op_text.specs.Values.{value}
-use Rattle.op_text.specs.Meaning.{meaning}
+use Rattle.op_text.specs.declared.word_ops.Signature.{Signature}
+use Rattle.op_text.specs.declared.word_ops.Signature.TheVariants as signs
+use Rattle.op_text.specs.Language.{Compute, Operation}
+use Rattle.op_text.specs.Scratch.{param}
+use Rattle.op_text.specs.Values.{bit_by_bit, bit_number, bits, both, of_none, of_one, of_two}
+use Rattle.op_text.specs.Values.{ones_of, op_value, value}
+use Rattle.op_text.specs.WordOps.{Form, filled, forms, op_text, row_of, signature_forms}
+use Rattle.op_text.specs.Meaning.{meaning, width as result_width}
 use Rattle.uprog_code.specs.Shape.{width}
-use Rattle.soak_case.specs.Cases.{arguments, one_statement, result_kind, source_kinds}
+use Rattle.soak_case.proofs.Fitting.{form_at}
+use Rattle.soak_case.specs.Cases.{arguments, one_statement, or_a_word, params_of}
+use Rattle.soak_case.specs.Cases.{result_kind, source_kinds, source_names}
 
 -- as many values as kinds, each below 2 to its width
 abbrev pub AreSmall : ℕ → List Kind → List ℕ → Type 0
@@ -73,279 +80,119 @@ below_choice : (b : Bool) (x y m : ℕ) → x < m → y < m → cond b x y < m
 below_choice true x y m l k = l
 below_choice false x y m l k = k
 
--- the value of each operation fits its result
-fits_result : (op : WordOp) (n : ℕ) (values : List ℕ) → AreSmall n (source_kinds op) values
-    → op_value op n (arguments op values) < 2 ^ width (result_kind op) n
-fits_result o.Not n [] s = absurd s
-fits_result o.Not n (a ∷ y ∷ ys) s = absurd s.1
-fits_result o.Not n (a ∷ []) s = let p = pow_pos n in omega (arith, p)
-fits_result o.And n [] s = absurd s
-fits_result o.And n (a ∷ []) s = absurd s.1
-fits_result o.And n (a ∷ b ∷ y ∷ ys) s = absurd s.1.1
-fits_result o.And n (a ∷ b ∷ []) s = below_bits (λ x y. x && y) n a b
-fits_result o.Or n [] s = absurd s
-fits_result o.Or n (a ∷ []) s = absurd s.1
-fits_result o.Or n (a ∷ b ∷ y ∷ ys) s = absurd s.1.1
-fits_result o.Or n (a ∷ b ∷ []) s = below_bits (λ x y. x || y) n a b
-fits_result o.Xor n [] s = absurd s
-fits_result o.Xor n (a ∷ []) s = absurd s.1
-fits_result o.Xor n (a ∷ b ∷ y ∷ ys) s = absurd s.1.1
-fits_result o.Xor n (a ∷ b ∷ []) s = below_bits differ n a b
-fits_result o.Copy n [] s = absurd s
-fits_result o.Copy n (a ∷ y ∷ ys) s = absurd s.1
-fits_result o.Copy n (a ∷ []) s = s.0
-fits_result o.Zero n [] s = absurd s
-fits_result o.Zero n (a ∷ y ∷ ys) s = absurd s.1
-fits_result o.Zero n (a ∷ []) s = pow_pos n
-fits_result o.Ones n [] s = absurd s
-fits_result o.Ones n (a ∷ y ∷ ys) s = absurd s.1
-fits_result o.Ones n (a ∷ []) s = let p = pow_pos n in omega (arith, p)
-fits_result o.Shl1 n [] s = absurd s
-fits_result o.Shl1 n (a ∷ y ∷ ys) s = absurd s.1
-fits_result o.Shl1 n (a ∷ []) s = mod-lt (2 * a) (pow_pos n)
-fits_result o.Shr1 n [] s = absurd s
-fits_result o.Shr1 n (a ∷ y ∷ ys) s = absurd s.1
-fits_result o.Shr1 n (a ∷ []) s = let l = s.0 in omega (arith, l)
-fits_result o.Add n [] s = absurd s
-fits_result o.Add n (a ∷ []) s = absurd s.1
-fits_result o.Add n (a ∷ b ∷ y ∷ ys) s = absurd s.1.1
-fits_result o.Add n (a ∷ b ∷ []) s = mod-lt (a + b) (pow_pos n)
-fits_result o.Sub n [] s = absurd s
-fits_result o.Sub n (a ∷ []) s = absurd s.1
-fits_result o.Sub n (a ∷ b ∷ y ∷ ys) s = absurd s.1.1
-fits_result o.Sub n (a ∷ b ∷ []) s = mod-lt (a + 2 ^ n - b) (pow_pos n)
-fits_result o.Mul n [] s = absurd s
-fits_result o.Mul n (a ∷ []) s = absurd s.1
-fits_result o.Mul n (a ∷ b ∷ y ∷ ys) s = absurd s.1.1
-fits_result o.Mul n (a ∷ b ∷ []) s = mod-lt (a * b) (pow_pos n)
-fits_result o.Div n [] s = absurd s
-fits_result o.Div n (a ∷ []) s = absurd s.1
-fits_result o.Div n (a ∷ b ∷ y ∷ ys) s = absurd s.1.1
-fits_result o.Div n (a ∷ b ∷ []) s = let p = pow_pos n in let d = div-le_self a b in let l = s.0 in
-    below_choice (b == 0) (2 ^ n - 1) (a / b) (2 ^ n) (omega (arith, p)) (omega (arith, d, l))
-fits_result o.Rem n [] s = absurd s
-fits_result o.Rem n (a ∷ []) s = absurd s.1
-fits_result o.Rem n (a ∷ b ∷ y ∷ ys) s = absurd s.1.1
-fits_result o.Rem n (a ∷ b ∷ []) s = let d = mod-le a b in let l = s.0 in
-    below_choice (b == 0) a (a % b) (2 ^ n) l (omega (arith, d, l))
-fits_result o.Abs n [] s = absurd s
-fits_result o.Abs n (a ∷ y ∷ ys) s = absurd s.1
-fits_result o.Abs n (a ∷ []) s = below_choice (nat_lt a (half n)) a ((2 ^ n - a) % 2 ^ n) (2 ^ n) s.0
-    (mod-lt (2 ^ n - a) (pow_pos n))
-fits_result o.Relu n [] s = absurd s
-fits_result o.Relu n (a ∷ y ∷ ys) s = absurd s.1
-fits_result o.Relu n (a ∷ []) s = below_choice (nat_lt a (half n)) a 0 (2 ^ n) s.0 (pow_pos n)
-fits_result o.Min n [] s = absurd s
-fits_result o.Min n (a ∷ []) s = absurd s.1
-fits_result o.Min n (a ∷ b ∷ y ∷ ys) s = absurd s.1.1
-fits_result o.Min n (a ∷ b ∷ []) s = let l = s.0 in omega (arith, l)
-fits_result o.Max n [] s = absurd s
-fits_result o.Max n (a ∷ []) s = absurd s.1
-fits_result o.Max n (a ∷ b ∷ y ∷ ys) s = absurd s.1.1
-fits_result o.Max n (a ∷ b ∷ []) s = let l = s.0 in let k = s.1.0 in omega (arith, l, k)
-fits_result o.Eq n [] s = absurd s
-fits_result o.Eq n (a ∷ []) s = absurd s.1
-fits_result o.Eq n (a ∷ b ∷ y ∷ ys) s = absurd s.1.1
-fits_result o.Eq n (a ∷ b ∷ []) s = below_bit (a == b)
-fits_result o.Gt n [] s = absurd s
-fits_result o.Gt n (a ∷ []) s = absurd s.1
-fits_result o.Gt n (a ∷ b ∷ y ∷ ys) s = absurd s.1.1
-fits_result o.Gt n (a ∷ b ∷ []) s = below_bit (nat_lt b a)
-fits_result o.Ge n [] s = absurd s
-fits_result o.Ge n (a ∷ []) s = absurd s.1
-fits_result o.Ge n (a ∷ b ∷ y ∷ ys) s = absurd s.1.1
-fits_result o.Ge n (a ∷ b ∷ []) s = below_bit (nat_le b a)
-fits_result o.IfElse n [] s = absurd s
-fits_result o.IfElse n (a ∷ []) s = absurd s.1
-fits_result o.IfElse n (a ∷ b ∷ []) s = absurd s.1.1
-fits_result o.IfElse n (a ∷ b ∷ x ∷ y ∷ ys) s = absurd s.1.1.1
-fits_result o.IfElse n (a ∷ b ∷ x ∷ []) s = below_choice (x == 1) a b (2 ^ n) s.0 s.1.0
-fits_result o.Bitcount n [] s = absurd s
-fits_result o.Bitcount n (a ∷ y ∷ ys) s = absurd s.1
-fits_result o.Bitcount n (a ∷ []) s = below_ones n a
-fits_result o.AndRed n [] s = absurd s
-fits_result o.AndRed n (a ∷ y ∷ ys) s = absurd s.1
-fits_result o.AndRed n (a ∷ []) s = below_bit (a == 2 ^ n - 1)
-fits_result o.OrRed n [] s = absurd s
-fits_result o.OrRed n (a ∷ y ∷ ys) s = absurd s.1
-fits_result o.OrRed n (a ∷ []) s = below_bit (nat_lt 0 a)
-fits_result o.XorRed n [] s = absurd s
-fits_result o.XorRed n (a ∷ y ∷ ys) s = absurd s.1
-fits_result o.XorRed n (a ∷ []) s = mod-lt (ones_of n a) (omega arith)
-fits_result o.Divmod n [] s = absurd s
-fits_result o.Divmod n (a ∷ []) s = absurd s.1
-fits_result o.Divmod n (a ∷ b ∷ y ∷ ys) s = absurd s.1.1
-fits_result o.Divmod n (a ∷ b ∷ []) s = let p = pow_pos n in let d = div-le_self a b in let l = s.0 in
-    below_choice (b == 0) (2 ^ n - 1) (a / b) (2 ^ n) (omega (arith, p)) (omega (arith, d, l))
+below_mod : (n a : ℕ) → a % 2 ^ n < 2 ^ n
+below_mod n a = mod-lt a (pow_pos n)
 
--- the number of its one result
+below_two : (a : ℕ) → a % 2 < 2 ^ 1
+below_two a = mod-lt a (omega arith)
+
+-- the forms that values have
+ruleset below = (below_mod, below_two, below_bits, below_bit, below_choice)
+
+-- The value of each operation fits its result. The tactics go through all operations; one with a
+-- value of another form gets a clause of its own.
+none_fits : (p : WordOp) (n : ℕ) → of_none p n < 2 ^ n
+none_fits o.Ones n = let some = pow_pos n in omega (arith, some)
+none_fits p n = pow_pos n
+
+one_fits : (p : WordOp) (n a : ℕ) → a < 2 ^ n → of_one p n a < 2 ^ width (result_kind p) n
+one_fits o.Bitcount n a l = below_ones n a
+one_fits p n a l = let some = pow_pos n in
+    first_of (search (rules, below), grind (arith, below_choice))
+
+two_fits : (p : WordOp) (n a b : ℕ) → a < 2 ^ n → b < 2 ^ n
+    → of_two p n a b < 2 ^ width (result_kind p) n
+two_fits o.Not n a b l k = pow_pos n
+two_fits p n a b l k =
+    let some = pow_pos n in
+    let quotient = div-le_self a b in
+    let rest = mod-le a b in
+    first_of (search (rules, below), grind (arith, below_choice))
+
+-- the values on arguments of a signature's form fit its result, where those of one and of two do
+fits_at : (p : WordOp) (s : Signature) (n : ℕ) (values : List ℕ)
+    → AreSmall n (or_a_word (form_at s).takes) values
+    → ((a : ℕ) → a < 2 ^ n → of_one p n a < 2 ^ width (form_at s).gives n)
+    → ((a b : ℕ) → a < 2 ^ n → b < 2 ^ n → of_two p n a b < 2 ^ width (form_at s).gives n)
+    → op_value p n (take (length (form_at s).takes) values) < 2 ^ width (form_at s).gives n
+fits_at p signs.Nothing n (a ∷ []) l one two = none_fits p n
+fits_at p signs.OneOf n (a ∷ []) l one two = one a l.0
+fits_at p (signs.OneWord k) n (a ∷ []) l one two = one a l.0
+fits_at p signs.TwoOf n (a ∷ b ∷ []) l one two = two a b l.0 l.1.0
+fits_at p (signs.TwoWords k) n (a ∷ b ∷ []) l one two = two a b l.0 l.1.0
+fits_at p signs.Choice n (a ∷ b ∷ x ∷ []) l one two =
+    below_choice (x == 1) a b (2 ^ n) l.0 l.1.0
+fits_at p s n values l one two = absurd (assumption)
+
+fits_result : (p : WordOp) (n : ℕ) (values : List ℕ) → AreSmall n (source_kinds p) values
+    → op_value p n (arguments p values) < 2 ^ width (result_kind p) n
+fits_result p n values l = fits_at p (row_of p).signature n values l (one_fits p n) (two_fits p n)
+
+-- the op of one statement with a form, and the number of its one result
+abbrev statement_of : WordOp → Form → Operation
+statement_of p f = record {
+  name = op_text p;
+  params = params_of (or_a_word f.takes) source_names;
+  result = param (codes "y") f.gives;
+  second = None;
+  body = Compute (codes "y") None p (take (length f.takes) source_names) ∷ [];
+}
+
+abbrev meant_at : WordOp → Form → ℕ → List ℕ → ℕ
+meant_at p f n values = get_or (meaning (statement_of p f) n values) 0 0
+
+-- a result by the forms of a signature
+abbrev given : WordOp → List Form → ℕ → List Kind → List ℕ → ℕ
+given p fs n kinds args =
+    value (bits (op_value p n args) (result_width n (unwrap_or (filled fs kinds) Word)))
+
+-- a value that fits its kind, of its own bits
+own_value : (n : ℕ) (k : Kind) (v : ℕ) → v < 2 ^ width k n → value (bits v (result_width n k)) ≡ v
+own_value n Word v l = value-bits n v l
+own_value n Bit v l = value-bits 1 v l
+
+means_at : (p : WordOp) (s : Signature) (n : ℕ) (values : List ℕ) → forms p ≡ signature_forms s
+    → AreSmall n (or_a_word (form_at s).takes) values
+    → op_value p n (take (length (form_at s).takes) values) < 2 ^ width (form_at s).gives n
+    → meant_at p (form_at s) n values ≡ op_value p n (take (length (form_at s).takes) values)
+means_at p signs.Nothing n (a ∷ []) e l f =
+    ap (λ (fs : List Form). given p fs n [] []) e ∙ own_value n Word _ f
+means_at p signs.OneOf n (a ∷ []) e l f =
+    ap (λ (fs : List Form). given p fs n (Word ∷ []) (value (bits a n) ∷ [])) e
+    ∙ ap (λ v. value (bits (op_value p n (v ∷ [])) n)) (value-bits n a l.0) ∙ own_value n Word _ f
+means_at p (signs.OneWord k) n (a ∷ []) e l f =
+    ap (λ (fs : List Form). given p fs n (Word ∷ []) (value (bits a n) ∷ [])) e
+    ∙ ap (λ v. value (bits (op_value p n (v ∷ [])) (result_width n k))) (value-bits n a l.0)
+    ∙ own_value n k _ f
+means_at p signs.TwoOf n (a ∷ b ∷ []) e l f =
+    ap (λ (fs : List Form). given p fs n (Word ∷ Word ∷ [])
+    (value (bits a n) ∷ value (bits b n) ∷ [])) e
+    ∙ ap (λ v. value (bits (op_value p n (v ∷ value (bits b n) ∷ [])) n)) (value-bits n a l.0)
+    ∙ ap (λ v. value (bits (op_value p n (a ∷ v ∷ [])) n)) (value-bits n b l.1.0)
+    ∙ own_value n Word _ f
+means_at p (signs.TwoWords k) n (a ∷ b ∷ []) e l f =
+    ap (λ (fs : List Form). given p fs n (Word ∷ Word ∷ [])
+    (value (bits a n) ∷ value (bits b n) ∷ [])) e
+    ∙ ap (λ v. value (bits (op_value p n (v ∷ value (bits b n) ∷ [])) (result_width n k)))
+    (value-bits n a l.0)
+    ∙ ap (λ v. value (bits (op_value p n (a ∷ v ∷ [])) (result_width n k))) (value-bits n b l.1.0)
+    ∙ own_value n k _ f
+means_at p signs.Choice n (a ∷ b ∷ x ∷ []) e l f =
+    ap (λ (fs : List Form). given p fs n (Word ∷ Word ∷ Bit ∷ [])
+    (value (bits a n) ∷ value (bits b n) ∷ value (bits x 1) ∷ [])) e
+    ∙ ap (λ v. value (bits (op_value p n (v ∷ value (bits b n) ∷ value (bits x 1) ∷ [])) n))
+    (value-bits n a l.0)
+    ∙ ap (λ v. value (bits (op_value p n (a ∷ v ∷ value (bits x 1) ∷ [])) n)) (value-bits n b l.1.0)
+    ∙ ap (λ v. value (bits (op_value p n (a ∷ b ∷ v ∷ [])) n)) (value-bits 1 x l.1.1.0)
+    ∙ own_value n Word _ f
+means_at p s n values e l f = absurd (assumption)
+
+-- the number of the one result of an operation's op
 abbrev pub meant : WordOp → ℕ → List ℕ → ℕ
 meant op n values = get_or (meaning (one_statement op) n values) 0 0
 
 -- the op of one statement means its operation's value
 pub means : (op : WordOp) (n : ℕ) (values : List ℕ) → AreSmall n (source_kinds op) values
     → meant op n values ≡ op_value op n (arguments op values)
-means o.Not n [] s = absurd s
-means o.Not n (a ∷ y ∷ ys) s = absurd s.1
-means o.Not n (a ∷ []) s =
-    ap (λ v. value (bits (op_value o.Not n (v ∷ [])) n)) (value-bits n a s.0)
-    ∙ value-bits n (op_value o.Not n (a ∷ [])) (fits_result o.Not n (a ∷ []) s)
-means o.And n [] s = absurd s
-means o.And n (a ∷ []) s = absurd s.1
-means o.And n (a ∷ b ∷ y ∷ ys) s = absurd s.1.1
-means o.And n (a ∷ b ∷ []) s =
-    ap (λ v. value (bits (op_value o.And n (v ∷ value (bits b n) ∷ [])) n)) (value-bits n a s.0)
-    ∙ ap (λ v. value (bits (op_value o.And n (a ∷ v ∷ [])) n)) (value-bits n b s.1.0)
-    ∙ value-bits n (op_value o.And n (a ∷ b ∷ [])) (fits_result o.And n (a ∷ b ∷ []) s)
-means o.Or n [] s = absurd s
-means o.Or n (a ∷ []) s = absurd s.1
-means o.Or n (a ∷ b ∷ y ∷ ys) s = absurd s.1.1
-means o.Or n (a ∷ b ∷ []) s =
-    ap (λ v. value (bits (op_value o.Or n (v ∷ value (bits b n) ∷ [])) n)) (value-bits n a s.0)
-    ∙ ap (λ v. value (bits (op_value o.Or n (a ∷ v ∷ [])) n)) (value-bits n b s.1.0)
-    ∙ value-bits n (op_value o.Or n (a ∷ b ∷ [])) (fits_result o.Or n (a ∷ b ∷ []) s)
-means o.Xor n [] s = absurd s
-means o.Xor n (a ∷ []) s = absurd s.1
-means o.Xor n (a ∷ b ∷ y ∷ ys) s = absurd s.1.1
-means o.Xor n (a ∷ b ∷ []) s =
-    ap (λ v. value (bits (op_value o.Xor n (v ∷ value (bits b n) ∷ [])) n)) (value-bits n a s.0)
-    ∙ ap (λ v. value (bits (op_value o.Xor n (a ∷ v ∷ [])) n)) (value-bits n b s.1.0)
-    ∙ value-bits n (op_value o.Xor n (a ∷ b ∷ [])) (fits_result o.Xor n (a ∷ b ∷ []) s)
-means o.Copy n [] s = absurd s
-means o.Copy n (a ∷ y ∷ ys) s = absurd s.1
-means o.Copy n (a ∷ []) s =
-    ap (λ v. value (bits (op_value o.Copy n (v ∷ [])) n)) (value-bits n a s.0)
-    ∙ value-bits n (op_value o.Copy n (a ∷ [])) (fits_result o.Copy n (a ∷ []) s)
-means o.Zero n [] s = absurd s
-means o.Zero n (a ∷ y ∷ ys) s = absurd s.1
-means o.Zero n (a ∷ []) s = value-bits n (op_value o.Zero n []) (fits_result o.Zero n (a ∷ []) s)
-means o.Ones n [] s = absurd s
-means o.Ones n (a ∷ y ∷ ys) s = absurd s.1
-means o.Ones n (a ∷ []) s = value-bits n (op_value o.Ones n []) (fits_result o.Ones n (a ∷ []) s)
-means o.Shl1 n [] s = absurd s
-means o.Shl1 n (a ∷ y ∷ ys) s = absurd s.1
-means o.Shl1 n (a ∷ []) s =
-    ap (λ v. value (bits (op_value o.Shl1 n (v ∷ [])) n)) (value-bits n a s.0)
-    ∙ value-bits n (op_value o.Shl1 n (a ∷ [])) (fits_result o.Shl1 n (a ∷ []) s)
-means o.Shr1 n [] s = absurd s
-means o.Shr1 n (a ∷ y ∷ ys) s = absurd s.1
-means o.Shr1 n (a ∷ []) s =
-    ap (λ v. value (bits (op_value o.Shr1 n (v ∷ [])) n)) (value-bits n a s.0)
-    ∙ value-bits n (op_value o.Shr1 n (a ∷ [])) (fits_result o.Shr1 n (a ∷ []) s)
-means o.Add n [] s = absurd s
-means o.Add n (a ∷ []) s = absurd s.1
-means o.Add n (a ∷ b ∷ y ∷ ys) s = absurd s.1.1
-means o.Add n (a ∷ b ∷ []) s =
-    ap (λ v. value (bits (op_value o.Add n (v ∷ value (bits b n) ∷ [])) n)) (value-bits n a s.0)
-    ∙ ap (λ v. value (bits (op_value o.Add n (a ∷ v ∷ [])) n)) (value-bits n b s.1.0)
-    ∙ value-bits n (op_value o.Add n (a ∷ b ∷ [])) (fits_result o.Add n (a ∷ b ∷ []) s)
-means o.Sub n [] s = absurd s
-means o.Sub n (a ∷ []) s = absurd s.1
-means o.Sub n (a ∷ b ∷ y ∷ ys) s = absurd s.1.1
-means o.Sub n (a ∷ b ∷ []) s =
-    ap (λ v. value (bits (op_value o.Sub n (v ∷ value (bits b n) ∷ [])) n)) (value-bits n a s.0)
-    ∙ ap (λ v. value (bits (op_value o.Sub n (a ∷ v ∷ [])) n)) (value-bits n b s.1.0)
-    ∙ value-bits n (op_value o.Sub n (a ∷ b ∷ [])) (fits_result o.Sub n (a ∷ b ∷ []) s)
-means o.Mul n [] s = absurd s
-means o.Mul n (a ∷ []) s = absurd s.1
-means o.Mul n (a ∷ b ∷ y ∷ ys) s = absurd s.1.1
-means o.Mul n (a ∷ b ∷ []) s =
-    ap (λ v. value (bits (op_value o.Mul n (v ∷ value (bits b n) ∷ [])) n)) (value-bits n a s.0)
-    ∙ ap (λ v. value (bits (op_value o.Mul n (a ∷ v ∷ [])) n)) (value-bits n b s.1.0)
-    ∙ value-bits n (op_value o.Mul n (a ∷ b ∷ [])) (fits_result o.Mul n (a ∷ b ∷ []) s)
-means o.Div n [] s = absurd s
-means o.Div n (a ∷ []) s = absurd s.1
-means o.Div n (a ∷ b ∷ y ∷ ys) s = absurd s.1.1
-means o.Div n (a ∷ b ∷ []) s =
-    ap (λ v. value (bits (op_value o.Div n (v ∷ value (bits b n) ∷ [])) n)) (value-bits n a s.0)
-    ∙ ap (λ v. value (bits (op_value o.Div n (a ∷ v ∷ [])) n)) (value-bits n b s.1.0)
-    ∙ value-bits n (op_value o.Div n (a ∷ b ∷ [])) (fits_result o.Div n (a ∷ b ∷ []) s)
-means o.Rem n [] s = absurd s
-means o.Rem n (a ∷ []) s = absurd s.1
-means o.Rem n (a ∷ b ∷ y ∷ ys) s = absurd s.1.1
-means o.Rem n (a ∷ b ∷ []) s =
-    ap (λ v. value (bits (op_value o.Rem n (v ∷ value (bits b n) ∷ [])) n)) (value-bits n a s.0)
-    ∙ ap (λ v. value (bits (op_value o.Rem n (a ∷ v ∷ [])) n)) (value-bits n b s.1.0)
-    ∙ value-bits n (op_value o.Rem n (a ∷ b ∷ [])) (fits_result o.Rem n (a ∷ b ∷ []) s)
-means o.Abs n [] s = absurd s
-means o.Abs n (a ∷ y ∷ ys) s = absurd s.1
-means o.Abs n (a ∷ []) s =
-    ap (λ v. value (bits (op_value o.Abs n (v ∷ [])) n)) (value-bits n a s.0)
-    ∙ value-bits n (op_value o.Abs n (a ∷ [])) (fits_result o.Abs n (a ∷ []) s)
-means o.Relu n [] s = absurd s
-means o.Relu n (a ∷ y ∷ ys) s = absurd s.1
-means o.Relu n (a ∷ []) s =
-    ap (λ v. value (bits (op_value o.Relu n (v ∷ [])) n)) (value-bits n a s.0)
-    ∙ value-bits n (op_value o.Relu n (a ∷ [])) (fits_result o.Relu n (a ∷ []) s)
-means o.Min n [] s = absurd s
-means o.Min n (a ∷ []) s = absurd s.1
-means o.Min n (a ∷ b ∷ y ∷ ys) s = absurd s.1.1
-means o.Min n (a ∷ b ∷ []) s =
-    ap (λ v. value (bits (op_value o.Min n (v ∷ value (bits b n) ∷ [])) n)) (value-bits n a s.0)
-    ∙ ap (λ v. value (bits (op_value o.Min n (a ∷ v ∷ [])) n)) (value-bits n b s.1.0)
-    ∙ value-bits n (op_value o.Min n (a ∷ b ∷ [])) (fits_result o.Min n (a ∷ b ∷ []) s)
-means o.Max n [] s = absurd s
-means o.Max n (a ∷ []) s = absurd s.1
-means o.Max n (a ∷ b ∷ y ∷ ys) s = absurd s.1.1
-means o.Max n (a ∷ b ∷ []) s =
-    ap (λ v. value (bits (op_value o.Max n (v ∷ value (bits b n) ∷ [])) n)) (value-bits n a s.0)
-    ∙ ap (λ v. value (bits (op_value o.Max n (a ∷ v ∷ [])) n)) (value-bits n b s.1.0)
-    ∙ value-bits n (op_value o.Max n (a ∷ b ∷ [])) (fits_result o.Max n (a ∷ b ∷ []) s)
-means o.Eq n [] s = absurd s
-means o.Eq n (a ∷ []) s = absurd s.1
-means o.Eq n (a ∷ b ∷ y ∷ ys) s = absurd s.1.1
-means o.Eq n (a ∷ b ∷ []) s =
-    ap (λ v. value (bits (op_value o.Eq n (v ∷ value (bits b n) ∷ [])) 1)) (value-bits n a s.0)
-    ∙ ap (λ v. value (bits (op_value o.Eq n (a ∷ v ∷ [])) 1)) (value-bits n b s.1.0)
-    ∙ value-bits 1 (op_value o.Eq n (a ∷ b ∷ [])) (fits_result o.Eq n (a ∷ b ∷ []) s)
-means o.Gt n [] s = absurd s
-means o.Gt n (a ∷ []) s = absurd s.1
-means o.Gt n (a ∷ b ∷ y ∷ ys) s = absurd s.1.1
-means o.Gt n (a ∷ b ∷ []) s =
-    ap (λ v. value (bits (op_value o.Gt n (v ∷ value (bits b n) ∷ [])) 1)) (value-bits n a s.0)
-    ∙ ap (λ v. value (bits (op_value o.Gt n (a ∷ v ∷ [])) 1)) (value-bits n b s.1.0)
-    ∙ value-bits 1 (op_value o.Gt n (a ∷ b ∷ [])) (fits_result o.Gt n (a ∷ b ∷ []) s)
-means o.Ge n [] s = absurd s
-means o.Ge n (a ∷ []) s = absurd s.1
-means o.Ge n (a ∷ b ∷ y ∷ ys) s = absurd s.1.1
-means o.Ge n (a ∷ b ∷ []) s =
-    ap (λ v. value (bits (op_value o.Ge n (v ∷ value (bits b n) ∷ [])) 1)) (value-bits n a s.0)
-    ∙ ap (λ v. value (bits (op_value o.Ge n (a ∷ v ∷ [])) 1)) (value-bits n b s.1.0)
-    ∙ value-bits 1 (op_value o.Ge n (a ∷ b ∷ [])) (fits_result o.Ge n (a ∷ b ∷ []) s)
-means o.IfElse n [] s = absurd s
-means o.IfElse n (a ∷ []) s = absurd s.1
-means o.IfElse n (a ∷ b ∷ []) s = absurd s.1.1
-means o.IfElse n (a ∷ b ∷ x ∷ y ∷ ys) s = absurd s.1.1.1
-means o.IfElse n (a ∷ b ∷ x ∷ []) s =
-    ap (λ v. value (bits (op_value o.IfElse n (v ∷ value (bits b n) ∷ value (bits x 1) ∷ [])) n))
-    (value-bits n a s.0)
-    ∙ ap (λ v. value (bits (op_value o.IfElse n (a ∷ v ∷ value (bits x 1) ∷ [])) n)) (value-bits n b s.1.0)
-    ∙ ap (λ v. value (bits (op_value o.IfElse n (a ∷ b ∷ v ∷ [])) n)) (value-bits 1 x s.1.1.0)
-    ∙ value-bits n (op_value o.IfElse n (a ∷ b ∷ x ∷ [])) (fits_result o.IfElse n (a ∷ b ∷ x ∷ []) s)
-means o.Bitcount n [] s = absurd s
-means o.Bitcount n (a ∷ y ∷ ys) s = absurd s.1
-means o.Bitcount n (a ∷ []) s =
-    ap (λ v. value (bits (op_value o.Bitcount n (v ∷ [])) n)) (value-bits n a s.0)
-    ∙ value-bits n (op_value o.Bitcount n (a ∷ [])) (fits_result o.Bitcount n (a ∷ []) s)
-means o.AndRed n [] s = absurd s
-means o.AndRed n (a ∷ y ∷ ys) s = absurd s.1
-means o.AndRed n (a ∷ []) s =
-    ap (λ v. value (bits (op_value o.AndRed n (v ∷ [])) 1)) (value-bits n a s.0)
-    ∙ value-bits 1 (op_value o.AndRed n (a ∷ [])) (fits_result o.AndRed n (a ∷ []) s)
-means o.OrRed n [] s = absurd s
-means o.OrRed n (a ∷ y ∷ ys) s = absurd s.1
-means o.OrRed n (a ∷ []) s =
-    ap (λ v. value (bits (op_value o.OrRed n (v ∷ [])) 1)) (value-bits n a s.0)
-    ∙ value-bits 1 (op_value o.OrRed n (a ∷ [])) (fits_result o.OrRed n (a ∷ []) s)
-means o.XorRed n [] s = absurd s
-means o.XorRed n (a ∷ y ∷ ys) s = absurd s.1
-means o.XorRed n (a ∷ []) s =
-    ap (λ v. value (bits (op_value o.XorRed n (v ∷ [])) 1)) (value-bits n a s.0)
-    ∙ value-bits 1 (op_value o.XorRed n (a ∷ [])) (fits_result o.XorRed n (a ∷ []) s)
-means o.Divmod n [] s = absurd s
-means o.Divmod n (a ∷ []) s = absurd s.1
-means o.Divmod n (a ∷ b ∷ y ∷ ys) s = absurd s.1.1
-means o.Divmod n (a ∷ b ∷ []) s =
-    ap (λ v. value (bits (op_value o.Divmod n (v ∷ value (bits b n) ∷ [])) n)) (value-bits n a s.0)
-    ∙ ap (λ v. value (bits (op_value o.Divmod n (a ∷ v ∷ [])) n)) (value-bits n b s.1.0)
-    ∙ value-bits n (op_value o.Divmod n (a ∷ b ∷ [])) (fits_result o.Divmod n (a ∷ b ∷ []) s)
+means op n values l =
+    means_at op (row_of op).signature n values refl l (fits_result op n values l)

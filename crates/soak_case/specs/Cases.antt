@@ -17,13 +17,13 @@ widths = 1 ∷ 8 ∷ 64 ∷ []
 abbrev pub at_widths : WordOp → List Case
 at_widths op = map (λ n. record { op = op; n = n }) widths
 
--- the word operations with one result, in the order of their table
-abbrev pub single_ops : List WordOp
-single_ops = filter (λ op. is_none (second_kind op)) all_ops
+-- those with one result
+abbrev pub singles : List WordOp → List WordOp
+singles ops = filter (λ op. is_none (second_kind op)) ops
 
--- each of them at each width
+-- each word operation with one result, in the order of their table, at each width
 abbrev pub soak_cases : List Case
-soak_cases = flat_map at_widths single_ops
+soak_cases = flat_map at_widths (singles all_ops)
 
 abbrev pub first_form : List Form → Form
 first_form [] = form [] Word

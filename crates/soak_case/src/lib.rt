@@ -9,8 +9,8 @@ mod ops;
 mod sums;
 mod words;
 
-pub use cases::{Case, all_cases};
+pub use cases::{Case, MAX_CASES, all_cases};
 pub use chip::{Outcome, do_case};
-pub use line::{Line, line_of};
+pub use line::{Line, last_line, line_of};
 pub use load::CHIP;
 pub use ops::{one_statement, one_statements_meet};

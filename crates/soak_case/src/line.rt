@@ -1,12 +1,12 @@
-//! The line of a case.
+//! The lines of a soak.
 
 ghost use Rattle.std.specs.Prelude.{◌≡◌, ◌+◌, ◌≤◌, ◌++◌, decimal, length};
-ghost use Rattle.soak_case.specs.Sums.{line_of};
+ghost use Rattle.soak_case.specs.Sums.{last_line, line_of};
 
 use crate::cases::Case;
 use arrayvec::ArrayVec;
 use itoa::Buffer;
-use op_print::op_name;
+use op_text::op_name;
 use uprog_code::Counts;
 
 /// A line.
@@ -44,5 +44,15 @@ pub fn line_of(case: Case, counts: Counts, sum: u64) -> Line
     add_number(&mut text, b" ap=", counts.ap);
     add_number(&mut text, b" sum=", sum);
     add(&mut text, b"\n");
+    text
+}
+
+/// The line behind those of so many cases.
+pub fn last_line(cases: usize) -> Line
+    ensures { result.items ≡ last_line cases }
+{
+    let mut text = ArrayVec::new();
+    add_number(&mut text, b"soak ", cases as u64);
+    add(&mut text, b" cases\n");
     text
 }

@@ -12,9 +12,8 @@ ghost use Rattle.soak_case.specs.Cases.{one_statement, params_of, source_names};
 
 use crate::cases::{arguments_of, result_of, sources_of};
 use no_memory::{NoMemory, keep};
-use op_print::op_name;
 use op_rules::rules_are_exact;
-use op_text::{Kind, Op, Ops, Param, Stmt, WordOp};
+use op_text::{Kind, Op, Ops, Param, Stmt, WordOp, op_name};
 use std::alloc::Global;
 use text_lex::Name;
 

@@ -1,5 +1,5 @@
 -- How a soak goes through its steps.
-use Rattle.std.proofs.Common.{◌≡◌, ℕ, ◌≤◌, List, [], ◌∷◌, ◌++◌, refl, ap}
+use Rattle.std.proofs.Common.{◌≡◌, ℕ, ◌≤◌, List, [], ◌∷◌, ◌++◌, length, refl, ap}
 use Rattle.std.proofs.Common.{◌∙◌}
 use Rattle.std.proofs.Common.{inl, inr, arith}
 use Rattle.std.specs.Prelude.{Result, Ok, Err, IfOk, Some}
@@ -174,16 +174,20 @@ goes_on state c cs old mid last result one more = record {
       more.done;
 }
 
+-- the last line
+abbrev pub told_last : List ℕ
+told_last = last_line (length soak_cases)
+
 -- no case is left, and the last line was put
 pub all_told : (state : ℕ) (files : FolderView) (s t : SinkView) (chip : ChipView)
-    → Told (λ before after. after ≡ before ++ last_line) s.sent t.sent → s.faults ≤ t.faults
+    → Told (λ before after. after ≡ before ++ told_last) s.sent t.sent → s.faults ≤ t.faults
     → CasesGo state [] (world files s chip) (world files t chip) (Ok tt)
 all_told state files s t chip told l = record {
   programs = [];
   are = tt;
   goes = inl (
     world files t chip,
-    (bytes_sent (λ before after. after ≡ before ++ last_line) files s t chip told l, refl),
+    (bytes_sent (λ before after. after ≡ before ++ told_last) files s t chip told l, refl),
   );
   done = record {
     all = refl;
@@ -193,12 +197,12 @@ all_told state files s t chip told l = record {
 }
 
 pub not_told : (state : ℕ) (files : FolderView) (s t : SinkView) (chip : ChipView)
-    → Told (AppendsPart last_line) s.sent t.sent → s.faults ≤ t.faults → Rose s.faults t.faults
+    → Told (AppendsPart told_last) s.sent t.sent → s.faults ≤ t.faults → Rose s.faults t.faults
     → CasesGo state [] (world files s chip) (world files t chip) (Err no.PutFailed)
 not_told state files s t chip told l rose = record {
   programs = [];
   are = tt;
-  goes = inr (refl, bytes_sent (AppendsPart last_line) files s t chip told l, rose);
+  goes = inr (refl, bytes_sent (AppendsPart told_last) files s t chip told l, rose);
   done = tt;
 }
 

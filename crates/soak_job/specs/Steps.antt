@@ -1,5 +1,5 @@
 -- The programs of a soak, and its steps.
-use Rattle.std.specs.Prelude.{ℕ, List, [], ◌∷◌}
+use Rattle.std.specs.Prelude.{ℕ, List, [], ◌∷◌, length}
 use Rattle.uprog_code.specs.Shape.{Microprogram}
 use Rattle.cli_model.specs.Steps.{Step, Take, Open, Use, Put}
 use Rattle.soak_case.specs.declared.cases.Case.{Case}
@@ -17,7 +17,7 @@ AreProgramsOf (c ∷ cs) (m ∷ ms) = IsProgramOf c m × AreProgramsOf cs ms
 -- A case takes memory for its program, uses the chip, and sends its line; where no program was
 -- made, its memory was the last step. The generator goes on from case to case
 abbrev pub cases_steps : (state : ℕ) → List Case → List Microprogram → List Step
-cases_steps state [] ms = Put last_line ∷ []
+cases_steps state [] ms = Put (last_line (length soak_cases)) ∷ []
 cases_steps state (c ∷ cs) [] = Take ∷ []
 cases_steps state (c ∷ cs) (m ∷ ms) = Take ∷ Use ∷ Put (case_line state c m)
     ∷ cases_steps (behind_all state (source_kinds c.op)) cs ms

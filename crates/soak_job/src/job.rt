@@ -1,11 +1,11 @@
 //! The cases, one after another.
 
-ghost use Rattle.std.specs.Prelude.{◌≡◌, ◌<◌, ◌≤◌, ◌^◌, ◌∷◌, List, length, Err, OnOk, IfErr};
+ghost use Rattle.std.specs.Prelude.{◌≡◌, ◌<◌, ◌^◌, ◌∷◌, List, length, Err, OnOk, IfErr};
 ghost use Rattle.std.specs.List.{AllByRecursion};
 ghost use Rattle.host_edge.specs.Views.{FolderView};
 ghost use Rattle.dram_model.specs.View.{HasBegun, Kept};
 ghost use Rattle.cli_model.specs.World.{world};
-ghost use Rattle.soak_case.specs.Cases.{source_kinds};
+ghost use Rattle.soak_case.specs.Cases.{soak_cases, source_kinds};
 ghost use Rattle.soak_case.specs.Words.{behind_all};
 ghost use Rattle.soak_case.specs.Layout.{soak_chip};
 ghost use Rattle.soak_job.specs.Done.{CanBeDone, CaseWent, CasesGo, SoakGoes};
@@ -15,7 +15,7 @@ use dram_model::{BeginNo, Dram};
 use host_edge::Sink;
 use rand_xoshiro::SplitMix64;
 use rand_xoshiro::rand_core::SeedableRng;
-use soak_case::{CHIP, Case, all_cases, do_case, line_of};
+use soak_case::{CHIP, Case, all_cases, do_case, last_line, line_of};
 use std::alloc::Global;
 
 /// Why a soak stopped.
@@ -76,7 +76,7 @@ fn soak_cases<S: Sink, D: Dram>(
     requires begun { HasBegun (D.view chip.old) }
     requires geometry { (D.view chip.old).geometry ≡ soak_chip }
     requires can { AllByRecursion CanBeDone cases.now }
-    requires few { length cases.now ≤ 78 }
+    requires all { length cases.now ≡ length soak_cases }
     requires aap_room { (D.view chip.old).counters.aap ≡ 0 }
     requires ap_room { (D.view chip.old).counters.ap ≡ 0 }
     requires writes_room { (D.view chip.old).counters.writes ≡ 0 }
@@ -90,7 +90,8 @@ fn soak_cases<S: Sink, D: Dram>(
     for case in cases {
         soak_case(*case, generator, out, chip, alloc)?;
     }
-    if out.put(b"soak 78 cases\n").is_err() {
+    let line = last_line(cases.len());
+    if out.put(line.as_slice()).is_err() {
         return Err(SoakNo::PutFailed);
     }
     Ok(())

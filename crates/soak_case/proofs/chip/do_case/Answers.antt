@@ -11,10 +11,16 @@ use Rattle.uprog_bin.specs.Opened.{program_of}
 use Rattle.soak_case.specs.Cases.{one_statement}
 use Rattle.soak_case.specs.Words.{elements, sources_at}
 use Rattle.soak_case.specs.Layout.{bases_from, result_rows, rows_of, source_rows, source_writes}
-use Rattle.soak_case.specs.Done.{CaseDone, WritesMore}
+use Rattle.soak_case.specs.Done.{CaseDone, IsProgramOf, WritesMore}
 use Rattle.soak_case.proofs.Running.{case_done}
 use Rattle.soak_case.proofs.Summing.{sum_is}
 use Rattle.soak_case.proofs.chip.do_case.Goals as goal
+
+pub run_case-requires-clause-does : goal.run_case-requires-clause-does
+run_case-requires-clause-does g c =
+    let f = c.requires.file in
+    subst (IsProgramOf c.args.case) (sym (c.own_entry-entry.ensures.program f.program f.legal f.is))
+    (record { legal = f.legal.entries.0; does = f.does })
 
 pub returns-clause-sum : goal.returns-clause-sum
 returns-clause-sum g c =

@@ -1,5 +1,5 @@
 use Rattle.std.proofs.Common.{refl}
-use Rattle.lang_tests.proofs.ceilings.ceilings_by_hand.Goals as goal
+use Rattle.lang_tests.proofs.by_hand.ceilings_by_hand.Goals as goal
 
 pub returns : goal.returns
 returns c = (refl, refl)

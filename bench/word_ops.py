@@ -1,0 +1,102 @@
+"""The word operations, read from the sources: their table in `op_text`, and the numbers of its `Costs`.
+
+A name, row or formula that is not of the form known here ends the caller with a line that says so.
+"""
+
+import dataclasses
+import pathlib
+import re
+import typing
+
+OP_TEXT = pathlib.Path(__file__).resolve().parent.parent / "crates" / "op_text"
+TABLE = OP_TEXT / "src" / "word_ops.rt"
+COSTS = OP_TEXT / "specs" / "Costs.antt"
+
+KINDS = {"Word": "w", "Bit": "b"}
+# of each signature, its first form: the kinds of the arguments, and the result's, or None where the row names it
+SIGNATURES = {
+    "Nothing": ("", "w"),
+    "OneOf": ("w", "w"),
+    "TwoOf": ("ww", "w"),
+    "OneWord": ("w", None),
+    "TwoWords": ("ww", None),
+    "Choice": ("wwb", "w"),
+}
+ROW = re.compile(r'\(b"(\w+)", row!\((\w+), (\w+)(?:\((\w+)\))?, (?:None|Some\((\w+)\)), \d+, \d+\)\),')
+
+
+@dataclasses.dataclass(frozen=True)
+class WordOp:
+    """An operation on words: its name, the kinds of its arguments and results, and its row commands at width n."""
+
+    name: str
+    takes: str
+    gives: str
+    aap: typing.Callable[[int], int]
+    ap: typing.Callable[[int], int]
+    ceiling: typing.Callable[[int], int]
+
+
+def fail(path, what):
+    raise SystemExit(f"{path}: {what}")
+
+
+def kind(name):
+    return KINDS[name] if name in KINDS else fail(TABLE, f"no kind is called {name}")
+
+
+def signed(signature, named):
+    """The kinds of the arguments and of the first result."""
+    if signature not in SIGNATURES:
+        fail(TABLE, f"no signature is called {signature}")
+    takes, gives = SIGNATURES[signature]
+    if (gives is None) != (named is not None):
+        fail(TABLE, f"a signature {signature} with the kind {named}")
+    return takes, gives or kind(named)
+
+
+def rows():
+    """Of each row of the table its name, its variant, and the kinds of its arguments and results."""
+    table = re.search(r"^pub const WORD_OPS: \[.*; (\d+)\] = \[\n(.*?)^\];", TABLE.read_text(), re.DOTALL | re.MULTILINE)
+    if not table:
+        fail(TABLE, "no table of word operations")
+    found = []
+    for line in table[2].splitlines():
+        row = ROW.fullmatch(line.strip())
+        if not row:
+            fail(TABLE, f"no row: {line.strip()}")
+        name, variant, signature, named, second = row.groups()
+        takes, gives = signed(signature, named)
+        found.append((name, variant, takes, gives + (kind(second) if second else "")))
+    if not found or len(found) != int(table[1]):
+        fail(TABLE, f"{len(found)} rows of {table[1]}")
+    return found
+
+
+def formula(text):
+    """A formula of n, such as `14 * n ^ 2 + 9 * n`, as a function."""
+    if not re.fullmatch(r"[n\d +*/^()]+", text):
+        fail(COSTS, f"no formula of n: {text}")
+    return eval("lambda n: " + text.replace("^", "**").replace("/", "//"), {"__builtins__": {}})
+
+
+def formulas(definition):
+    """The formula of each variant, and the one for the others, which is None where there is no such clause."""
+    found, others = {}, None
+    for pattern, text in re.findall(rf"^{definition} (\S+) n = (.*)$", COSTS.read_text(), re.MULTILINE):
+        if pattern.startswith("o."):
+            found[pattern.removeprefix("o.")] = formula(text)
+        else:
+            others = formula(text)
+    return found, others
+
+
+def word_ops():
+    """The word operations, in the order of the table."""
+    numbers = [(definition, *formulas(definition)) for definition in ("op_aaps", "op_aps", "op_ceiling")]
+
+    def of(variant):
+        for definition, found, others in numbers:
+            yield found.get(variant, others) or fail(COSTS, f"{definition} has no clause for {variant}")
+
+    return [WordOp(name, takes, gives, *of(variant)) for name, variant, takes, gives in rows()]
