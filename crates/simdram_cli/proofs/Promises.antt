@@ -26,7 +26,7 @@ use Rattle.machine_model.proofs.Scripts.{table_step}
 use Rattle.machine_model.proofs.Whole.{every_step, rows_give_words}
 use Rattle.machine_model.proofs.Opened.{opened_agrees, report_same}
 use Rattle.machine_model.proofs.KeptAll.{does_keep, script_kept}
-use Rattle.simdram_cli.specs.RunJob.{said_in, tally_by, refused_by}
+use Rattle.simdram_cli.specs.Job.{said_in, tally_by, refused_by}
 use Rattle.simdram_cli.specs.Works.{WorkDone}
 use Rattle.simdram_cli.specs.Headline.{RunJob, replies_of, state_after, ObjectsRight, RowsUntouched}
 use Rattle.simdram_cli.specs.Headline.{CommandsCounted, report_of, IsNoBadWalk}

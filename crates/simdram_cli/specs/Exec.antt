@@ -24,8 +24,8 @@ use Rattle.simdram_cli.specs.Inputs.{script_in, image_of}
 use Rattle.simdram_cli.specs.Programs.{prog_in}
 use Rattle.simdram_cli.specs.Reads.{IsText, StopsAtLoad}
 use Rattle.simdram_cli.specs.Stops.{end_of}
-use Rattle.simdram_cli.specs.RunJob.{Texts, said_in, replies_by, refused_by, done_status, image_by}
-use Rattle.simdram_cli.specs.RunJob.{job_steps, job_status}
+use Rattle.simdram_cli.specs.Job.{Texts, said_in, replies_by, refused_by, done_status, image_by}
+use Rattle.simdram_cli.specs.Job.{job_steps, job_status}
 use Rattle.simdram_cli.specs.Works.{WorkDone}
 use Rattle.simdram_cli.specs.Ends.{IsRead, JobDone, IsDoneBy}
 use Rattle.simdram_cli.specs.Headline.{RunJob, read_as, ObjectsRight, RowsUntouched}

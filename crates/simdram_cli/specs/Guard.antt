@@ -41,7 +41,7 @@ use Rattle.simdram_cli.specs.Ends.{IsCompiled, StoppedEarly}
 use Rattle.simdram_cli.specs.Flips.{flips_in, guarded_image_of, guarded_script_in}
 use Rattle.simdram_cli.specs.Headline.{IsRunJob, IsNoBadWalk, RunJob, ProgramWritten, read_as}
 use Rattle.simdram_cli.specs.Inputs.{ops_in}
-use Rattle.simdram_cli.specs.RunJob.{done_status, opened_counters}
+use Rattle.simdram_cli.specs.Job.{done_status, opened_counters}
 use Rattle.simdram_cli.specs.Reads.{IsText}
 use Rattle.simdram_cli.specs.Stops.{end_of}
 

@@ -31,7 +31,7 @@ use Rattle.cli_model.specs.Steps.{Refusal}
 use Rattle.simdram_cli.specs.Accepted.{IsTaken}
 use Rattle.simdram_cli.specs.Inputs.{script_in, image_of}
 use Rattle.simdram_cli.specs.declared.words.RunNames.{RunNames}
-use Rattle.simdram_cli.specs.RunJob.{done_status}
+use Rattle.simdram_cli.specs.Job.{done_status}
 
 -- a script on an image, by the ops of a text, as far as a machine knows them, and with a program
 pub record RunJob : Type 0 where

@@ -5,7 +5,7 @@ use Rattle.loop_ir.specs.declared.ir.Step.{Step}
 use Rattle.loop_ir.specs.Plain.{Block, StepOf, AllParts, AllStep, step_of}
 use Rattle.loop_laws.specs.Forms.{IsMade}
 use Rattle.word_lower.specs.declared.shapes.Owners.{Owners}
-use Rattle.word_lower.specs.declared.shapes.Line.{Line}
+use Rattle.word_lower.specs.declared.shapes.ProgramLine.{ProgramLine}
 use Rattle.word_lower.specs.Shapes.{lines_steps, program_on}
 
 step_last : (steps : List Step) (s : Step) → map step_of (steps ++ s ∷ []) ≡ map step_of steps
@@ -34,7 +34,7 @@ pub made_push : (steps new : List Step) (s : Step) → new ≡ steps ++ s ∷ []
 made_push steps new s e all h = subst (AllParts IsMade) (sym (ap (map step_of) e
     ∙ step_last steps s)) (made_last (map step_of steps) (step_of s) all h)
 
-line_more : (o : Owners) (l : Option Line) (ls : List (Option Line))
+line_more : (o : Owners) (l : Option ProgramLine) (ls : List (Option ProgramLine))
     → program_on o (lines_steps (l ∷ ls)) ≡ program_on o (lines_steps (l ∷ []))
     ++ program_on o (lines_steps ls)
 line_more o None ls = refl
@@ -44,7 +44,7 @@ append_over : (xs ys zs : List (StepOf Block)) → xs ++ (ys ++ zs) ≡ (xs ++ y
 append_over [] ys zs = refl
 append_over (x ∷ xs) ys zs = ap (λ l. x ∷ l) (append_over xs ys zs)
 
-pub lines_more : (o : Owners) (lines : List (Option Line)) (i : ℕ) (d : Option Line)
+pub lines_more : (o : Owners) (lines : List (Option ProgramLine)) (i : ℕ) (d : Option ProgramLine)
     → i < length lines → program_on o (lines_steps (take (i + 1) lines))
     ≡ program_on o (lines_steps (take i lines))
     ++ program_on o (lines_steps (slice_index_or lines i d ∷ []))

@@ -4,9 +4,9 @@ use Rattle.std.proofs.Common.{refl, sym, ap}
 use Rattle.op_text.specs.declared.tree.Kind.{Kind}
 use Rattle.op_text.specs.declared.tree.Kind.TheVariants.{Word, Bit}
 use Rattle.op_text.specs.declared.word_ops.WordOp.TheVariants as op
-use Rattle.op_text.specs.declared.word_ops.Shape.{Shape}
-use Rattle.op_text.specs.declared.word_ops.Shape.TheVariants as shape
-use Rattle.op_text.specs.WordOps.{form, forms, shape_forms, filled, of_one, of_two, word_to}
+use Rattle.op_text.specs.declared.word_ops.Signature.{Signature}
+use Rattle.op_text.specs.declared.word_ops.Signature.TheVariants as shape
+use Rattle.op_text.specs.WordOps.{form, forms, signature_forms, filled, of_one, of_two, word_to}
 use Rattle.op_text.specs.WordOps.{words_to}
 use Rattle.loop_ir.specs.declared.ir.Space.{Space}
 use Rattle.loop_ir.specs.declared.names.Slot.{Slot}
@@ -128,28 +128,28 @@ one_slot (s ∷ ss) k ks e = record {
 
 -- The two forms of a shape that takes words or bits, by which of the two it takes. Other shapes have
 -- one form
-abbrev pub arg_kind : Shape → Kind → Kind
+abbrev pub arg_kind : Signature → Kind → Kind
 arg_kind shape.OneOf c = c
 arg_kind shape.TwoOf c = c
 arg_kind shape.Choice c = c
 arg_kind sh c = Word
 
-abbrev pub gives_kind : Shape → Kind → Kind
+abbrev pub gives_kind : Signature → Kind → Kind
 gives_kind shape.Nothing c = Word
 gives_kind (shape.OneWord g) c = g
 gives_kind (shape.TwoWords g) c = g
 gives_kind sh c = c
 
-abbrev pub takes_kinds : Shape → Kind → List Kind
+abbrev pub takes_kinds : Signature → Kind → List Kind
 takes_kinds sh c = taken sh (arg_kind sh c) (arg_kind sh c) Bit
 
 -- these kinds fill one of them
-pub record FormOf (sh : Shape) (ks : List Kind) (k : Kind) : Type 0 where
+pub record FormOf (sh : Signature) (ks : List Kind) (k : Kind) : Type 0 where
   pub which : Kind
   pub takes : ks ≡ takes_kinds sh which
   pub gives : k ≡ gives_kind sh which
 
-pub form_of : (sh : Shape) (ks : List Kind) (k : Kind) → filled (shape_forms sh) ks ≡ Some k
+pub form_of : (sh : Signature) (ks : List Kind) (k : Kind) → filled (signature_forms sh) ks ≡ Some k
     → FormOf sh ks k
 form_of shape.Nothing ks k e = let f = filled_none ks k e in
     record { which = Word; takes = f.0; gives = f.1 }

@@ -6,8 +6,8 @@ use Rattle.op_text.specs.declared.tree.Kind.{Kind}
 use Rattle.op_text.specs.declared.tree.Kind.TheVariants.{Word, Bit}
 use Rattle.op_text.specs.declared.word_ops.WordOp.{WordOp}
 use Rattle.op_text.specs.declared.word_ops.WordOp.TheVariants as op
-use Rattle.op_text.specs.declared.word_ops.Shape.{Shape}
-use Rattle.op_text.specs.declared.word_ops.Shape.TheVariants as shape
+use Rattle.op_text.specs.declared.word_ops.Signature.{Signature}
+use Rattle.op_text.specs.declared.word_ops.Signature.TheVariants as shape
 use Rattle.op_text.specs.WordOps.{row_of, forms, filled}
 use Rattle.op_text.specs.Values.{bits, value, op_value}
 use Rattle.op_text.specs.Meaning.{width}
@@ -87,15 +87,15 @@ are_of_kinds (s ∷ ss) (k ∷ ks) e = ap (λ x. x ∷ ss) (slot_is s k (ap firs
     ∙ ap (λ xs. of_kind s k ∷ xs) (are_of_kinds ss ks (ap rest_kinds e))
 
 -- the arguments of a form
-abbrev args_in : Shape → Kind → (ℕ → Slot) → List Slot
+abbrev args_in : Signature → Kind → (ℕ → Slot) → List Slot
 args_in sh c f = of_kinds (takes_kinds sh c) f
 
-args_are : (sh : Shape) (c : Kind) (f : ℕ → Slot) → (let ss = args_in sh c f in
+args_are : (sh : Signature) (c : Kind) (f : ℕ → Slot) → (let ss = args_in sh c f in
     taken sh (slot_at ss 0) (slot_at ss 1) (slot_at ss 2) ≡ ss)
 args_are shape.Nothing c f = refl
 args_are sh c f = refl
 
-rows_are : (sh : Shape) (c : Kind) (f : ℕ → Slot) (n : ℕ) → 0 < n → (let ss = args_in sh c f in
+rows_are : (sh : Signature) (c : Kind) (f : ℕ → Slot) (n : ℕ) → 0 < n → (let ss = args_in sh c f in
     (width n (arg_kind sh c) ≤ width n (slot_at ss 0).kind)
     × (width n (arg_kind sh c) ≤ width n (slot_at ss 1).kind))
 rows_are shape.OneOf Word f n some = (omega arith, omega arith)
@@ -103,7 +103,7 @@ rows_are shape.TwoOf Word f n some = (omega arith, omega arith)
 rows_are shape.Choice Word f n some = (omega arith, omega arith)
 rows_are sh c f n some = (omega arith, omega arith)
 
-width_is : (sh : Shape) (c : Kind) (f : ℕ → Slot) (n : ℕ) → slots_width n (args_in sh c f)
+width_is : (sh : Signature) (c : Kind) (f : ℕ → Slot) (n : ℕ) → slots_width n (args_in sh c f)
     ≡ width n (arg_kind sh c)
 width_is shape.Nothing c f n = refl
 width_is sh c f n = refl
@@ -117,7 +117,7 @@ numbers_are n before (s ∷ ss) =
     (value_of_list (λ v. before (row n s v)) (width n s.kind))
     ∙ ap (λ xs. number_at n before s (width n s.kind) ∷ xs) (numbers_are n before ss)
 
-numbers_taken : (sh : Shape) (c : Kind) (f : ℕ → Slot) (n : ℕ) (before : Spots)
+numbers_taken : (sh : Signature) (c : Kind) (f : ℕ → Slot) (n : ℕ) (before : Spots)
     → (let ss = args_in sh c f in let l = width n (arg_kind sh c) in
     map (λ (s : Slot). number_at n before s (width n s.kind)) ss
     ≡ taken sh (number_at n before (slot_at ss 0) l) (number_at n before (slot_at ss 1) l)
@@ -154,7 +154,7 @@ record Computes (p : WordOp) (k : Kind) (t : Slot) (args : List Slot) (free : �
       ≤ op_ceiling p (slots_width n args)
 
 abbrev ComputesIn : WordOp → Kind → Slot → (ℕ → Slot) → ℕ → Type 0
-ComputesIn p c t f free = let sh = (row_of p).shape in
+ComputesIn p c t f free = let sh = (row_of p).signature in
     Computes p (gives_kind sh c) (of_kind t (gives_kind sh c)) (args_in sh c f) free
 
 computed : (p : WordOp) (k : Kind) (t : Slot) (args : List Slot) (free : ℕ)
@@ -179,8 +179,8 @@ computes c p t f free = computed _ _ _ _ _ refl refl refl (λ n. omega arith)
 -- in each form the program does the operation
 module _ (p : WordOp) (c : Kind) (t : Slot) (f : ℕ → Slot) (free : ℕ) (linear : is_linear p ≡ true)
   where
-    abbrev sh : Shape
-    sh = (row_of p).shape
+    abbrev sh : Signature
+    sh = (row_of p).signature
 
     abbrev k : Kind
     k = gives_kind sh c
@@ -231,7 +231,7 @@ pub op_lowers : (p : WordOp) (k : Kind) (t : Slot) (args : List Slot) (free : �
     → is_linear p ≡ true → filled (forms p) (map (λ (s : Slot). s.kind) args) ≡ Some k → t.kind ≡ k
     → Lowers p k t args free
 op_lowers p k t args free linear e h =
-    let sh = (row_of p).shape in
+    let sh = (row_of p).signature in
     let form = form_of sh (map (λ (s : Slot). s.kind) args) k e in
     let g = gives_kind sh form.which in
     subst (λ j. Lowers p j t args free) (sym form.gives)

@@ -430,14 +430,14 @@ row_is_own op.Not = refl
 row_is_own p = refl
 
 abbrev pub DoesIn : WordOp → Kind → ℕ → Slots → Type 0
-DoesIn p c n m = let sh = (row_of p).shape in let k = gives_kind sh c in
+DoesIn p c n m = let sh = (row_of p).signature in let k = gives_kind sh c in
     (before : Spots) → Gives p n (width n k) (width n (arg_kind sh c)) (bits_inside p) m before
     (after_rounds n (all_rounds n (steps_for p k m)) before)
 
 -- The program of a linear operation gives its value, in the form that has words, and in the one that
 -- has bits where there is one
 pub op_gives : (p : WordOp) (c : Kind) → is_linear p ≡ true → (n : ℕ) (m : Slots) → 0 < n
-    → AreSlots n (width n (gives_kind (row_of p).shape c)) (width n (arg_kind (row_of p).shape c))
+    → AreSlots n (width n (gives_kind (row_of p).signature c)) (width n (arg_kind (row_of p).signature c))
     (bits_inside p) m
     → DoesIn p c n m
 op_gives op.Not Word l n m some are = not_does n m are

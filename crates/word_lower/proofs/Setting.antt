@@ -3,8 +3,8 @@ use Rattle.std.specs.Prelude.{◌≡◌, ℕ, zero, suc, ◌+◌, ◌*◌, ◌^�
 use Rattle.op_text.specs.declared.tree.Kind.{Kind}
 use Rattle.op_text.specs.declared.tree.Kind.TheVariants.{Bit}
 use Rattle.op_text.specs.declared.word_ops.WordOp.{WordOp}
-use Rattle.op_text.specs.declared.word_ops.Shape.{Shape}
-use Rattle.op_text.specs.declared.word_ops.Shape.TheVariants as shape
+use Rattle.op_text.specs.declared.word_ops.Signature.{Signature}
+use Rattle.op_text.specs.declared.word_ops.Signature.TheVariants as shape
 use Rattle.op_text.specs.WordOps.{row_of}
 use Rattle.op_text.specs.Values.{bit_number, op_value}
 use Rattle.op_text.specs.Scratch.{bits_inside}
@@ -27,7 +27,7 @@ number bits zero = 0
 number bits (suc n) = number bits n + bit (bits n) * 2 ^ n
 
 -- of three, as many as a shape takes
-abbrev pub taken : {A : Type 0} → Shape → A → A → A → List A
+abbrev pub taken : {A : Type 0} → Signature → A → A → A → List A
 taken shape.Nothing a b s = []
 taken shape.OneOf a b s = a ∷ []
 taken (shape.OneWord k) a b s = a ∷ []
@@ -37,7 +37,7 @@ taken shape.Choice a b s = a ∷ b ∷ s ∷ []
 
 -- the operation's value from three numbers, of which it takes the first ones
 abbrev pub operation : WordOp → ℕ → ℕ → ℕ → ℕ → ℕ
-operation p n a b s = op_value p n (taken (row_of p).shape a b s)
+operation p n a b s = op_value p n (taken (row_of p).signature a b s)
 
 -- the names of a statement, and the internal scratch that is free
 pub record Slots : Type 0 where
@@ -48,7 +48,7 @@ pub record Slots : Type 0 where
   pub free_bit : ℕ
 
 abbrev pub args_of : WordOp → Slots → List Slot
-args_of p m = taken (row_of p).shape m.a m.b m.s
+args_of p m = taken (row_of p).signature m.a m.b m.s
 
 abbrev pub rooms_for : WordOp → Slots → List Room
 rooms_for p m = rooms_of m.target (args_of p m) (scratch_from m.free_bit (bits_inside p))

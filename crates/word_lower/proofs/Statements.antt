@@ -15,7 +15,7 @@ use Rattle.op_text.specs.declared.word_ops.WordOp.TheVariants as op
 use Rattle.op_text.specs.WordOps.{forms, filled, second_kind}
 use Rattle.op_text.specs.Language.{Compute}
 use Rattle.op_text.specs.Rules.{is_among}
-use Rattle.op_text.specs.Meaning.{Held, width, number, args_width, computed, after_statement}
+use Rattle.op_text.specs.Meaning.{NameValue, width, number, args_width, computed, after_statement}
 use Rattle.op_text.specs.Scratch.{bits_inside}
 use Rattle.op_text.specs.Costs.{op_ceiling}
 use Rattle.loop_ir.specs.declared.ir.Space.{Space}
@@ -312,7 +312,7 @@ module _ (slots : Slots) (free_bit free_word : ℕ) (target : List ℕ)
   form_filled = ap (filled (forms p)) arg_kinds ∙ meets.form ∙ ap (λ k. Some k) target_kind
 
 -- the names hold what the rows at their places hold
-pub HeldAt : ℕ → (List ℕ → Held) → Spots → List (List ℕ) → List Slot → Type 0
+pub HeldAt : ℕ → (List ℕ → NameValue) → Spots → List (List ℕ) → List Slot → Type 0
 HeldAt n held rows [] [] = Unit {0}
 HeldAt n held rows [] (s ∷ ss) = ⊥
 HeldAt n held rows (name ∷ names) [] = ⊥
@@ -320,7 +320,7 @@ HeldAt n held rows (name ∷ names) (s ∷ ss) = ((held name).kind ≡ s.kind)
     × ((held name).bits ≡ slot_bits n rows s) × HeldAt n held rows names ss
 
 pub held_args : (n : ℕ) (slots : Slots) (held : List ℕ
-    → Held) (rows : Spots) (names : List (List ℕ)) (ss : List Slot) → AreAt slots names ss
+    → NameValue) (rows : Spots) (names : List (List ℕ)) (ss : List Slot) → AreAt slots names ss
     → ((name : List ℕ) → is_among names name ≡ true → Holds n slots held rows name)
     → HeldAt n held rows names ss
 unfolding HeldAt
@@ -337,18 +337,18 @@ held_args n slots held rows (name ∷ names) (s ∷ ss) at h =
           h x (or_right (bytes_eq name x) (is_among names x) e)),
     )
 
-pub held_kinds : (n : ℕ) (held : List ℕ → Held) (rows : Spots) (names : List (List ℕ))
+pub held_kinds : (n : ℕ) (held : List ℕ → NameValue) (rows : Spots) (names : List (List ℕ))
     (ss : List Slot) → HeldAt n held rows names ss
-    → map (λ (h : Held). h.kind) (map held names) ≡ map (λ (s : Slot). s.kind) ss
+    → map (λ (h : NameValue). h.kind) (map held names) ≡ map (λ (s : Slot). s.kind) ss
 unfolding HeldAt
 held_kinds n held rows [] [] at = refl
 held_kinds n held rows [] (s ∷ ss) at = absurd at
 held_kinds n held rows (name ∷ names) [] at = absurd at
 held_kinds n held rows (name ∷ names) (s ∷ ss) at =
-    ap (λ k. k ∷ map (λ (h : Held). h.kind) (map held names)) at.0
+    ap (λ k. k ∷ map (λ (h : NameValue). h.kind) (map held names)) at.0
     ∙ ap (λ ks. s.kind ∷ ks) (held_kinds n held rows names ss at.2)
 
-pub held_numbers : (n : ℕ) (held : List ℕ → Held) (rows : Spots) (names : List (List ℕ))
+pub held_numbers : (n : ℕ) (held : List ℕ → NameValue) (rows : Spots) (names : List (List ℕ))
     (ss : List Slot) → HeldAt n held rows names ss
     → map number (map held names) ≡ map (λ s. value (slot_bits n rows s)) ss
 unfolding HeldAt
@@ -359,7 +359,7 @@ held_numbers n held rows (name ∷ names) (s ∷ ss) at =
     ap (λ bs. value bs ∷ map number (map held names)) at.1
     ∙ ap (λ vs. value (slot_bits n rows s) ∷ vs) (held_numbers n held rows names ss at.2)
 
-pub held_width : (n : ℕ) (held : List ℕ → Held) (rows : Spots) (names : List (List ℕ))
+pub held_width : (n : ℕ) (held : List ℕ → NameValue) (rows : Spots) (names : List (List ℕ))
     (ss : List Slot) → HeldAt n held rows names ss
     → args_width n (map held names) ≡ slots_width n ss
 unfolding HeldAt
@@ -385,14 +385,14 @@ module _ (slots : Slots) (free_bit free_word : ℕ) (target : List ℕ) (p : Wor
       (form_filled slots free_bit free_word target None p args meets placed t found ss at) refl
 
   -- what the target holds after the statement
-  answer : (n : ℕ) (held : List ℕ → Held) (before after : Spots)
+  answer : (n : ℕ) (held : List ℕ → NameValue) (before after : Spots)
       → ((name : List ℕ) → is_among args name ≡ true → Holds n slots held before name)
       → slot_bits n after t ≡ bits (op_value p (slots_width n ss)
       (map (λ s. value (slot_bits n before s)) ss)) (width n t.kind)
       → HoldsAt n (Some t) (computed n p (map held args)) after
   answer n held before after h gives =
       let a = held_args n slots held before args ss at h in
-      let k : unwrap_or (filled (forms p) (map (λ (h : Held). h.kind) (map held args))) Word
+      let k : unwrap_or (filled (forms p) (map (λ (h : NameValue). h.kind) (map held args))) Word
       ≡ t.kind = ap (λ ks. unwrap_or (filled (forms p) ks) Word)
       (held_kinds n held before args ss a)
       ∙ ap (λ x. unwrap_or x Word) (form_filled slots free_bit free_word target None p args meets

@@ -16,15 +16,15 @@ use Rattle.loop_laws.specs.Rooms.{Mark, Marked}
 use Rattle.word_lower.specs.declared.shapes.Owner.{Owner}
 use Rattle.word_lower.specs.declared.shapes.Owner.TheVariants.{Target, First, Second, Third}
 use Rattle.word_lower.specs.declared.shapes.Mark as code
-use Rattle.word_lower.specs.declared.shapes.Shape.{Shape}
-use Rattle.word_lower.specs.declared.shapes.Shape.TheVariants.{Off, On, Moved, Inverted, Both}
-use Rattle.word_lower.specs.declared.shapes.Shape.TheVariants.{Either, Without, Unlike, Chosen}
-use Rattle.word_lower.specs.declared.shapes.Shape.TheVariants.{Shifted, Added, Lessened, TurnedBy}
-use Rattle.word_lower.specs.declared.shapes.Shape.TheVariants.{Compared, Agreed}
-use Rattle.word_lower.specs.declared.shapes.Line.{Line}
-use Rattle.word_lower.specs.declared.shapes.Line.TheVariants.{Once, Each}
-use Rattle.word_lower.specs.declared.table.Program.{Program}
-use Rattle.word_lower.specs.declared.table.Program.TheVariants.{Spread, One, Two, Three, Nested}
+use Rattle.word_lower.specs.declared.shapes.BodyForm.{BodyForm}
+use Rattle.word_lower.specs.declared.shapes.BodyForm.TheVariants.{Off, On, Moved, Inverted, Both}
+use Rattle.word_lower.specs.declared.shapes.BodyForm.TheVariants.{Either, Without, Unlike, Chosen}
+use Rattle.word_lower.specs.declared.shapes.BodyForm.TheVariants.{Shifted, Added, Lessened, TurnedBy}
+use Rattle.word_lower.specs.declared.shapes.BodyForm.TheVariants.{Compared, Agreed}
+use Rattle.word_lower.specs.declared.shapes.ProgramLine.{ProgramLine}
+use Rattle.word_lower.specs.declared.shapes.ProgramLine.TheVariants.{Once, Each}
+use Rattle.word_lower.specs.declared.table.ProgramRow.{ProgramRow}
+use Rattle.word_lower.specs.declared.table.ProgramRow.TheVariants.{Spread, One, Two, Three, Nested}
 use Rattle.word_lower.specs.declared.table.TheConstants.{PROGRAMS}
 
 -- Owners of places: the target, then the arguments, then the bit of scratch
@@ -145,50 +145,50 @@ abbrev pub mark_of : code.Mark → Mark
 mark_of m = on (number_of m.owner) m.sub
 
 -- the body that a shape of the table stands for
-abbrev pub shape_body : Shape → Marked
-shape_body (Off z) = constant off (mark_of z)
-shape_body (On z) = constant up (mark_of z)
-shape_body (Moved x z) = moved (mark_of x) (mark_of z)
-shape_body (Inverted x z) = inverted (mark_of x) (mark_of z)
-shape_body (Both x y z) = joined off (mark_of x) (mark_of y) (mark_of z)
-shape_body (Either x y z) = joined up (mark_of x) (mark_of y) (mark_of z)
-shape_body (Without x y z) = without (mark_of x) (mark_of y) (mark_of z)
-shape_body (Unlike x y z) = unlike (mark_of x) (mark_of y) (mark_of z)
-shape_body (Chosen x y s z) = chosen (mark_of x) (mark_of y) (mark_of s) (mark_of z)
-shape_body (Shifted x c z) = shifted (mark_of x) (mark_of c) (mark_of z)
-shape_body (Added x y c z) = added (mark_of x) (mark_of y) (mark_of c) (mark_of z)
-shape_body (Lessened x y c z) = lessened (mark_of x) (mark_of y) (mark_of c) (mark_of z)
-shape_body (TurnedBy x t c z) = turned_by (mark_of x) (mark_of t) (mark_of c) (mark_of z)
-shape_body (Compared x y g) = compared (mark_of x) (mark_of y) (mark_of g)
-shape_body (Agreed x y e) = agreed (mark_of x) (mark_of y) (mark_of e)
+abbrev pub form_body : BodyForm → Marked
+form_body (Off z) = constant off (mark_of z)
+form_body (On z) = constant up (mark_of z)
+form_body (Moved x z) = moved (mark_of x) (mark_of z)
+form_body (Inverted x z) = inverted (mark_of x) (mark_of z)
+form_body (Both x y z) = joined off (mark_of x) (mark_of y) (mark_of z)
+form_body (Either x y z) = joined up (mark_of x) (mark_of y) (mark_of z)
+form_body (Without x y z) = without (mark_of x) (mark_of y) (mark_of z)
+form_body (Unlike x y z) = unlike (mark_of x) (mark_of y) (mark_of z)
+form_body (Chosen x y s z) = chosen (mark_of x) (mark_of y) (mark_of s) (mark_of z)
+form_body (Shifted x c z) = shifted (mark_of x) (mark_of c) (mark_of z)
+form_body (Added x y c z) = added (mark_of x) (mark_of y) (mark_of c) (mark_of z)
+form_body (Lessened x y c z) = lessened (mark_of x) (mark_of y) (mark_of c) (mark_of z)
+form_body (TurnedBy x t c z) = turned_by (mark_of x) (mark_of t) (mark_of c) (mark_of z)
+form_body (Compared x y g) = compared (mark_of x) (mark_of y) (mark_of g)
+form_body (Agreed x y e) = agreed (mark_of x) (mark_of y) (mark_of e)
 
 -- and the step that a line does
-abbrev pub line_step : Line → StepOf Marked
-line_step (Once s) = Single (shape_body s)
-line_step (Each s) = Along (shape_body s)
+abbrev pub line_step : ProgramLine → StepOf Marked
+line_step (Once s) = Single (form_body s)
+line_step (Each s) = Along (form_body s)
 
 -- the steps of a row of the table. The kind is the target's
-abbrev pub row_steps : Program → Kind → List (StepOf Marked)
-row_steps (Spread word bit) Word = Along (shape_body word) ∷ []
-row_steps (Spread word bit) Bit = Single (shape_body bit) ∷ []
+abbrev pub row_steps : ProgramRow → Kind → List (StepOf Marked)
+row_steps (Spread word bit) Word = Along (form_body word) ∷ []
+row_steps (Spread word bit) Bit = Single (form_body bit) ∷ []
 row_steps (One a) k = line_step a ∷ []
 row_steps (Two a b) k = line_step a ∷ line_step b ∷ []
 row_steps (Three a b c) k = line_step a ∷ line_step b ∷ line_step c ∷ []
 row_steps Nested k = []
 
-abbrev pub is_spread : Program → Bool
+abbrev pub is_spread : ProgramRow → Bool
 is_spread (Spread word bit) = true
 is_spread r = false
 
-abbrev pub is_nest : Program → Bool
+abbrev pub is_nest : ProgramRow → Bool
 is_nest Nested = true
 is_nest r = false
 
 -- an operation's row of the table
-abbrev pub program_at : ℕ → WordOp × Program
+abbrev pub program_at : ℕ → WordOp × ProgramRow
 program_at k = slice_index_or PROGRAMS k (o.Not, Nested)
 
-abbrev pub program_of : WordOp → Program
+abbrev pub program_of : WordOp → ProgramRow
 program_of p = (program_at (number p)).1
 
 -- The loop program of an operation

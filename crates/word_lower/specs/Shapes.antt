@@ -13,7 +13,7 @@ use Rattle.loop_laws.specs.Rooms as rooms
 use Rattle.loop_laws.specs.Rooms.{Marked}
 use Rattle.word_lower.specs.declared.shapes.Mark.{Mark}
 use Rattle.word_lower.specs.declared.shapes.Owners.{Owners}
-use Rattle.word_lower.specs.declared.shapes.Line.{Line}
+use Rattle.word_lower.specs.declared.shapes.ProgramLine.{ProgramLine}
 use Rattle.word_lower.specs.Places.{scratch_bit}
 use Rattle.word_lower.specs.Programs.{mark_of, line_step}
 
@@ -21,7 +21,7 @@ abbrev pub marks : List Mark → List rooms.Mark
 marks ms = map mark_of ms
 
 -- the lines that there are
-abbrev pub lines_steps : List (Option Line) → List (StepOf Marked)
+abbrev pub lines_steps : List (Option ProgramLine) → List (StepOf Marked)
 lines_steps [] = []
 lines_steps (None ∷ ls) = lines_steps ls
 lines_steps (Some l ∷ ls) = line_step l ∷ lines_steps ls

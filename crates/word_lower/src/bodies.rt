@@ -5,13 +5,13 @@ ghost use Rattle.std.specs.Prelude.{OnOk, Some, None, true};
 ghost use Rattle.loop_ir.specs.Plain.{block_of, step_of, steps_of};
 ghost use Rattle.loop_ir.specs.Plain.{Block, StepOf, AllParts, AllStep, step_map};
 ghost use Rattle.loop_laws.specs.Forms.{IsMade};
-ghost use Rattle.word_lower.specs.Programs.{template, mark_of, shape_body, line_step};
+ghost use Rattle.word_lower.specs.Programs.{template, mark_of, form_body, line_step};
 ghost use Rattle.word_lower.specs.Shapes.{marks, lines_steps};
 ghost use Rattle.word_lower.specs.Shapes.{place_on, body_on, program_on, are_own, are_below};
 
 use crate::graphs::made;
 use crate::literals::{N1, OFF, ON, P1, P2, P3, P4, P5, P6, P7};
-use crate::shapes::{Line, Mark, Owner, Owners, Shape};
+use crate::shapes::{BodyForm, Mark, Owner, Owners, ProgramLine};
 use crate::templates::{
     ADDED, AGREED, BOTH, CHOSEN, COMPARED, EITHER, LESSENED, TURNED_BY, UNLIKE, WITHOUT,
 };
@@ -74,46 +74,60 @@ fn templated(
 }
 
 /// The body of a shape.
-fn body(shape: Shape, owners: Owners, alloc: Global) -> Result<Body, NoMemory>
-    ensures same { IfOk result (λ b. block_of b ≡ body_on owners (shape_body shape)) }
+fn body(shape: BodyForm, owners: Owners, alloc: Global) -> Result<Body, NoMemory>
+    ensures same { IfOk result (λ b. block_of b ≡ body_on owners (form_body shape)) }
     ensures made { IfOk result (λ b. IsMade (block_of b)) }
 {
     let (o, a) = (owners, alloc);
     match shape {
-        Shape::Off(z) => templated(&[], &[], &[OFF], &[z], o, a),
-        Shape::On(z) => templated(&[], &[], &[ON], &[z], o, a),
-        Shape::Moved(x, z) => templated(&[x], &[], &[P1], &[z], o, a),
-        Shape::Inverted(x, z) => templated(&[x], &[], &[N1], &[z], o, a),
-        Shape::Both(x, y, z) => templated(&[x, y], &BOTH, &[P3], &[z], o, a),
-        Shape::Either(x, y, z) => templated(&[x, y], &EITHER, &[P3], &[z], o, a),
-        Shape::Without(x, y, z) => templated(&[x, y], &WITHOUT, &[P3], &[z], o, a),
-        Shape::Unlike(x, y, z) => templated(&[x, y], &UNLIKE, &[P5], &[z], o, a),
-        Shape::Chosen(x, y, s, z) => templated(&[x, y, s], &CHOSEN, &[P6], &[z], o, a),
-        Shape::Shifted(x, c, z) => templated(&[x, c], &[], &[P2, P1], &[z, c], o, a),
-        Shape::Added(x, y, c, z) => templated(&[x, y, c], &ADDED, &[P6, P4], &[z, c], o, a),
-        Shape::Lessened(x, y, c, z) => templated(&[x, y, c], &LESSENED, &[P6, P4], &[z, c], o, a),
-        Shape::TurnedBy(x, t, c, z) => templated(&[x, t, c], &TURNED_BY, &[P7, P6], &[z, c], o, a),
-        Shape::Compared(x, y, g) => templated(&[x, y, g], &COMPARED, &[P4], &[g], o, a),
-        Shape::Agreed(x, y, e) => templated(&[x, y, e], &AGREED, &[P6], &[e], o, a),
+        BodyForm::Off(z) => templated(&[], &[], &[OFF], &[z], o, a),
+        BodyForm::On(z) => templated(&[], &[], &[ON], &[z], o, a),
+        BodyForm::Moved(x, z) => templated(&[x], &[], &[P1], &[z], o, a),
+        BodyForm::Inverted(x, z) => templated(&[x], &[], &[N1], &[z], o, a),
+        BodyForm::Both(x, y, z) => templated(&[x, y], &BOTH, &[P3], &[z], o, a),
+        BodyForm::Either(x, y, z) => templated(&[x, y], &EITHER, &[P3], &[z], o, a),
+        BodyForm::Without(x, y, z) => templated(&[x, y], &WITHOUT, &[P3], &[z], o, a),
+        BodyForm::Unlike(x, y, z) => templated(&[x, y], &UNLIKE, &[P5], &[z], o, a),
+        BodyForm::Chosen(x, y, s, z) => templated(&[x, y, s], &CHOSEN, &[P6], &[z], o, a),
+        BodyForm::Shifted(x, c, z) => templated(&[x, c], &[], &[P2, P1], &[z, c], o, a),
+        BodyForm::Added(x, y, c, z) => templated(&[x, y, c], &ADDED, &[P6, P4], &[z, c], o, a),
+        BodyForm::Lessened(x, y, c, z) => templated(
+            &[x, y, c],
+            &LESSENED,
+            &[P6, P4],
+            &[z, c],
+            o,
+            a,
+        ),
+        BodyForm::TurnedBy(x, t, c, z) => templated(
+            &[x, t, c],
+            &TURNED_BY,
+            &[P7, P6],
+            &[z, c],
+            o,
+            a,
+        ),
+        BodyForm::Compared(x, y, g) => templated(&[x, y, g], &COMPARED, &[P4], &[g], o, a),
+        BodyForm::Agreed(x, y, e) => templated(&[x, y, e], &AGREED, &[P6], &[e], o, a),
     }
 }
 
 /// The step of a line.
-fn step(line: Line, owners: Owners, alloc: Global) -> Result<Step, NoMemory>
+fn step(line: ProgramLine, owners: Owners, alloc: Global) -> Result<Step, NoMemory>
     ensures same { IfOk result (λ s. step_of s ∷ []
         ≡ program_on owners (line_step line ∷ [])) }
     ensures made { IfOk result (λ s. AllStep IsMade (step_of s)) }
 {
     match line {
-        Line::Once(shape) => Ok(Step::Once(body(shape, owners, alloc)?)),
-        Line::Each(shape) => Ok(Step::Each(body(shape, owners, alloc)?)),
+        ProgramLine::Once(shape) => Ok(Step::Once(body(shape, owners, alloc)?)),
+        ProgramLine::Each(shape) => Ok(Step::Each(body(shape, owners, alloc)?)),
     }
 }
 
 /// One more step, where there is a line.
 fn add_step(
     steps: &mut Vec<Step>,
-    line: Option<Line>,
+    line: Option<ProgramLine>,
     owners: Owners,
     alloc: Global,
 ) -> Result<(), NoMemory>
@@ -134,7 +148,7 @@ fn add_step(
 
 /// The program of lines.
 pub fn program(
-    lines: &[Option<Line>],
+    lines: &[Option<ProgramLine>],
     owners: Owners,
     alloc: Global,
 ) -> Result<LoopProgram, NoMemory>

@@ -31,7 +31,7 @@ pub struct Owners {
 /// What a body computes: from its reads, of which a state is the last, into its writes, of which it
 /// is the last too.
 #[derive(Clone, Copy, PartialEq, Eq, Debug)]
-pub enum Shape {
+pub enum BodyForm {
     Off(Mark),
     On(Mark),
     Moved(Mark, Mark),
@@ -51,7 +51,7 @@ pub enum Shape {
 
 /// A body done once, or at each position.
 #[derive(Clone, Copy, PartialEq, Eq, Debug)]
-pub enum Line {
-    Once(Shape),
-    Each(Shape),
+pub enum ProgramLine {
+    Once(BodyForm),
+    Each(BodyForm),
 }

@@ -4,24 +4,24 @@ ghost use Rattle.std.specs.Prelude.{◌≡◌};
 ghost use Rattle.word_lower.specs.Programs.{program, program_of, row_steps};
 ghost use Rattle.word_lower.specs.Shapes.{lines_steps};
 
-use crate::shapes::Line::{Each, Once};
-use crate::shapes::Shape::{
+use crate::shapes::BodyForm::{
     Added, Agreed, Both, Chosen, Compared, Either, Inverted, Lessened, Moved, Off, On, Shifted,
     TurnedBy, Unlike, Without,
 };
-use crate::shapes::{Line, Mark, Owner, Shape};
-use Program::{Nested, One, Spread, Three, Two};
+use crate::shapes::ProgramLine::{Each, Once};
+use crate::shapes::{BodyForm, Mark, Owner, ProgramLine};
+use ProgramRow::{Nested, One, Spread, Three, Two};
 use loop_ir::Sub;
 use op_text::{Kind, WordOp};
 
 /// What the table has of an operation.
 #[derive(Clone, Copy, Debug)]
-pub enum Program {
+pub enum ProgramRow {
     /// A body on every bit of a word, or another on the one of a bit.
-    Spread(Shape, Shape),
-    One(Line),
-    Two(Line, Line),
-    Three(Line, Line, Line),
+    Spread(BodyForm, BodyForm),
+    One(ProgramLine),
+    Two(ProgramLine, ProgramLine),
+    Three(ProgramLine, ProgramLine, ProgramLine),
     /// A pass for each position: such programs are none of this table's.
     Nested,
 }
@@ -78,7 +78,7 @@ const S_BIT: Mark = Mark {
 };
 
 /// The loop programs of the word operations, in the order of the variants.
-pub const PROGRAMS: [(WordOp, Program); 27] = [
+pub const PROGRAMS: [(WordOp, ProgramRow); 27] = [
     (WordOp::Not, Spread(Inverted(X, Z), Inverted(X_BIT, Z_BIT))),
     (
         WordOp::And,
@@ -164,14 +164,14 @@ pub const PROGRAMS: [(WordOp, Program); 27] = [
     (WordOp::Divmod, Nested),
 ];
 
-fn program_of(op: WordOp) -> Program
+fn program_of(op: WordOp) -> ProgramRow
     ensures { result ≡ program_of op }
 {
     PROGRAMS[op as usize].1
 }
 
 /// The lines of a row, of which there are none where an operation takes more than one pass.
-fn row_lines(row: Program, kind: Kind) -> [Option<Line>; 3]
+fn row_lines(row: ProgramRow, kind: Kind) -> [Option<ProgramLine>; 3]
     ensures { lines_steps result ≡ row_steps row kind }
 {
     match row {
@@ -187,7 +187,7 @@ fn row_lines(row: Program, kind: Kind) -> [Option<Line>; 3]
 }
 
 /// The lines of an operation.
-pub fn lines(op: WordOp, kind: Kind) -> [Option<Line>; 3]
+pub fn lines(op: WordOp, kind: Kind) -> [Option<ProgramLine>; 3]
     ensures { lines_steps result ≡ program op kind }
 {
     row_lines(program_of(op), kind)

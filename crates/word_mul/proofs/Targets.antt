@@ -8,7 +8,7 @@ use Rattle.op_text.specs.declared.word_ops.WordOp.TheVariants as op
 use Rattle.op_text.specs.WordOps.{forms, filled}
 use Rattle.op_text.specs.Language.{Compute}
 use Rattle.op_text.specs.Rules.{is_among}
-use Rattle.op_text.specs.Meaning.{Held, width, computed, second_computed, after_statement}
+use Rattle.op_text.specs.Meaning.{NameValue, width, computed, second_computed, after_statement}
 use Rattle.op_text.specs.Costs.{op_ceiling}
 use Rattle.loop_ir.specs.declared.ir.Space.TheVariants.{ScratchWord}
 use Rattle.loop_ir.specs.declared.names.Slot.{Slot}
@@ -176,7 +176,7 @@ module _ (slots : Slots) (free_bit free_word : ℕ) (target name : List ℕ) (ar
     does_both n rows = subst (DoesBoth n t u ss free_bit free_word rows) (sym (after_is n rows))
         (lowers.does n (all_apart n) rows)
 
-    held_first : (n : ℕ) (held : List ℕ → Held) (rows : Spots) → ((x : List ℕ)
+    held_first : (n : ℕ) (held : List ℕ → NameValue) (rows : Spots) → ((x : List ℕ)
         → is_among args x ≡ true → Holds n slots held rows x)
         → HoldsAt n (Some t) (after_statement n held (Compute target (Some name) op.Divmod args)
         target) (after_rounds n (all_rounds n steps) rows)
@@ -191,7 +191,7 @@ module _ (slots : Slots) (free_bit free_word : ℕ) (target name : List ℕ) (ar
         (answer slots op.Divmod args ss at t n held rows new filled_form h
         (does_both n rows).gives))
 
-    held_other : (n : ℕ) (held : List ℕ → Held) (rows : Spots) → ((x : List ℕ)
+    held_other : (n : ℕ) (held : List ℕ → NameValue) (rows : Spots) → ((x : List ℕ)
         → is_among args x ≡ true → Holds n slots held rows x)
         → HoldsAt n (Some u) (after_statement n held (Compute target (Some name) op.Divmod args)
         name) (after_rounds n (all_rounds n steps) rows)

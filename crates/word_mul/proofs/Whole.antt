@@ -11,7 +11,7 @@ use Rattle.op_text.specs.Values.{bits, value, op_value, second_value}
 use Rattle.op_text.specs.WordOps.{forms, filled, second_kind, second_gives}
 use Rattle.op_text.specs.Language.{Compute}
 use Rattle.op_text.specs.Rules.{is_among}
-use Rattle.op_text.specs.Meaning.{Held, width, number, args_width, computed, second_computed}
+use Rattle.op_text.specs.Meaning.{NameValue, width, number, args_width, computed, second_computed}
 use Rattle.op_text.specs.Meaning.{after_statement}
 use Rattle.op_text.specs.Scratch.{bits_inside, words_inside}
 use Rattle.op_text.specs.Costs.{op_ceiling}
@@ -132,7 +132,7 @@ module _ (slots : Slots) (free_bit free_word : ℕ) (target : List ℕ) (second 
 module _ (slots : Slots) (p : WordOp) (args : List (List ℕ)) (ss : List Slot)
     (at : AreAt slots args ss) (t : Slot) where
   -- what a target holds after the statement
-  pub answer : (n : ℕ) (held : List ℕ → Held) (before after : Spots)
+  pub answer : (n : ℕ) (held : List ℕ → NameValue) (before after : Spots)
       → filled (forms p) (map (λ (s : Slot). s.kind) ss) ≡ Some t.kind
       → ((name : List ℕ) → is_among args name ≡ true → Holds n slots held before name)
       → slot_bits n after t ≡ bits (op_value p (slots_width n ss)
@@ -140,7 +140,7 @@ module _ (slots : Slots) (p : WordOp) (args : List (List ℕ)) (ss : List Slot)
       → HoldsAt n (Some t) (computed n p (map held args)) after
   answer n held before after filled_form h gives =
       let a = held_args n slots held before args ss at h in
-      let k : unwrap_or (filled (forms p) (map (λ (h : Held). h.kind) (map held args))) Word
+      let k : unwrap_or (filled (forms p) (map (λ (h : NameValue). h.kind) (map held args))) Word
       ≡ t.kind = ap (λ ks. unwrap_or (filled (forms p) ks) Word)
       (held_kinds n held before args ss a) ∙ ap (λ x. unwrap_or x Word) filled_form in
       let v : op_value p (args_width n (map held args)) (map number (map held args))
@@ -152,7 +152,7 @@ module _ (slots : Slots) (p : WordOp) (args : List (List ℕ)) (ss : List Slot)
             (width n x)) k ∙ ap (λ x. bits x (width n t.kind)) v ∙ sym gives,
       )
 
-  pub second_answer : (n : ℕ) (held : List ℕ → Held) (before after : Spots)
+  pub second_answer : (n : ℕ) (held : List ℕ → NameValue) (before after : Spots)
       → second_gives p ≡ t.kind
       → ((name : List ℕ) → is_among args name ≡ true → Holds n slots held before name)
       → slot_bits n after t ≡ bits (second_value p (slots_width n ss)
