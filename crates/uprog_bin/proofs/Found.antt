@@ -28,7 +28,7 @@ use Rattle.uprog_bin.specs.Opened.{program_of, count_before, code_place, AreStar
 use Rattle.uprog_bin.proofs.Files.{codes_length, entries_are}
 use Rattle.uprog_bin.proofs.Uops.{length-uops}
 use Rattle.file_fields.specs.Fields.{◌>>=◌, rule}
-use Rattle.file_fields.proofs.EntryBytes.{bind_ok, ok_is, rule_ok, bytes_takes}
+use Rattle.file_fields.proofs.Held.{bind_ok, ok_is, rule_ok, bytes_takes}
 
 both : (a b : Bool) → (a && b) ≡ true → (a ≡ true) × (b ≡ true)
 both true b h = (refl, h)
