@@ -3,6 +3,8 @@
 use crate::reread;
 use op_lang::{Stmt, need, parse_ops, scratch_of};
 use op_print::print_ops;
+use op_text::{Kind, Signature, WORD_OPS, WordRow};
+use std::alloc::{AllocError, Global};
 use std::process::Abort;
 use std::test::Fail;
 
@@ -118,6 +120,56 @@ fn texts_are_written(rt: HostRuntime) -> Result<(), Fail> {
     ] {
         let text = written(&rt, text)?;
         assert!(rt; text.as_slice() == want);
+    }
+    Ok(())
+}
+
+/// The arguments of an operation on words.
+fn arguments(signature: Signature) -> &'static [u8] {
+    match signature {
+        Signature::Nothing => b"",
+        Signature::OneOf | Signature::OneWord(_) => b"a",
+        Signature::TwoOf | Signature::TwoWords(_) => b"a, b",
+        Signature::Choice => b"a, b, p",
+    }
+}
+
+/// Its first result's kind.
+fn given(signature: Signature) -> &'static [u8] {
+    match signature {
+        Signature::OneWord(Kind::Bit) | Signature::TwoWords(Kind::Bit) => b"bit",
+        _ => b"word",
+    }
+}
+
+/// A text of one op, whose one statement does an operation.
+fn one_op(name: &[u8], row: WordRow, alloc: Global) -> Result<Vec<u8>, AllocError> {
+    let (result, target): (&[u8], &[u8]) = match row.second {
+        None => (b"", b""),
+        Some(Kind::Word) => (b", z: word", b", z"),
+        Some(Kind::Bit) => (b", z: bit", b", z"),
+    };
+    let mut text = Vec::new(alloc);
+    text.extend_from_slice(b"op f(a: word, b: word, p: bit) -> y: ")?;
+    text.extend_from_slice(given(row.signature))?;
+    text.extend_from_slice(result)?;
+    text.extend_from_slice(b" {\n  y")?;
+    text.extend_from_slice(target)?;
+    text.extend_from_slice(b" = ")?;
+    text.extend_from_slice(name)?;
+    text.extend_from_slice(b"(")?;
+    text.extend_from_slice(arguments(row.signature))?;
+    text.extend_from_slice(b");\n}\n")?;
+    Ok(text)
+}
+
+// An op of each word operation of the table is written as itself.
+#[test]
+fn each_operation_is_written(rt: HostRuntime) -> Result<(), Fail> {
+    for (name, row) in &WORD_OPS {
+        let text = one_op(name, *row, rt.alloc())?;
+        let again = written(&rt, text.as_slice())?;
+        assert!(rt; again.as_slice() == text.as_slice());
     }
     Ok(())
 }
