@@ -13,7 +13,7 @@ ghost use Rattle.simdram_cli.specs.Words.{command_on_three, replay_apart};
 ghost use Rattle.simdram_cli.specs.Words.{guard_apart, guard_on};
 
 use bit_rows::WIDTH_MAX;
-use cmd_trace::TRACE_BYTES_MAX;
+use cmd_trace::{EVENTS_BYTES_MAX, TRACE_BYTES_MAX};
 use dram_model::Geometry;
 use object_alloc::IMAGE_BYTES_MAX;
 use text_lex::number;
@@ -43,6 +43,7 @@ pub fn limits()
     ensures flips { FLIPS_MAX ≡ 1_048_576 }
     ensures image { IMAGE_MAX ≡ 67_115_022 }
     ensures trace { TRACE_MAX ≡ 67_115_026 }
+    ensures events { EVENTS_BYTES_MAX ≡ 67_108_864 }
     ensures width { WIDTH_MAX ≡ 128 }
     ensures walk { WALK_MAX ≡ 2 ^ 26 }
 {}
