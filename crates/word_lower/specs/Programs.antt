@@ -19,8 +19,8 @@ use Rattle.word_lower.specs.declared.shapes.Mark as code
 use Rattle.word_lower.specs.declared.shapes.BodyForm.{BodyForm}
 use Rattle.word_lower.specs.declared.shapes.BodyForm.TheVariants.{Off, On, Moved, Inverted, Both}
 use Rattle.word_lower.specs.declared.shapes.BodyForm.TheVariants.{Either, Without, Unlike, Chosen}
-use Rattle.word_lower.specs.declared.shapes.BodyForm.TheVariants.{Shifted, Added, Lessened, TurnedBy}
-use Rattle.word_lower.specs.declared.shapes.BodyForm.TheVariants.{Compared, Agreed}
+use Rattle.word_lower.specs.declared.shapes.BodyForm.TheVariants.{Shifted, Added, Lessened}
+use Rattle.word_lower.specs.declared.shapes.BodyForm.TheVariants.{TurnedBy, Compared, Agreed}
 use Rattle.word_lower.specs.declared.shapes.ProgramLine.{ProgramLine}
 use Rattle.word_lower.specs.declared.shapes.ProgramLine.TheVariants.{Once, Each}
 use Rattle.word_lower.specs.declared.table.ProgramRow.{ProgramRow}
