@@ -262,7 +262,7 @@ all_hold g old new (t ∷ ts) h m = (mended_holds g old new t h.0 m.0, all_hold 
 
 -- after flips that hit at most one copy
 flipped_good : (g : Geometry) (flips : List Flip) (old : Banks) (t : Trio) (rest : List Named)
-    → Holds g old t → AtMostOne flips (table_of (spread (t ∷ [])) ++ rest) → Good g old
+    → Holds g old t → AtMostOne g flips (table_of (spread (t ∷ [])) ++ rest) → Good g old
     (all_flipped flips old) t
 flipped_good g flips old t rest h one bank l c m =
     let long = flips_length flips old bank in
@@ -271,7 +271,7 @@ flipped_good g flips old t rest h one bank l c m =
     (segments g (place t t.x)) bank (h.1 ∙ sym h.0) (omega arith) (omega arith) in
     let z = range_apart (number t.z t.width) (number t.x t.width) old 0
     (segments g (place t t.x)) bank (h.2 ∙ sym h.0) (omega arith) (omega arith) in
-    two_of (number t.x t.width (at old bank c)) _ _ _ _ _ _ (one.0 bank c)
+    two_of (number t.x t.width (at old bank c)) _ _ _ _ _ _ (one.0 bank c l)
     (λ e. not_hit flips (place t t.x) old bank c e)
     (λ e. not_hit flips (place t t.y) old bank c e ∙ at_same (number t.y t.width)
     (number t.x t.width) (old bank) (old bank) c y refl n)
@@ -279,7 +279,7 @@ flipped_good g flips old t rest h one bank l c m =
     (number t.x t.width) (old bank) (old bank) c z refl n)
 
 all_good : (g : Geometry) (flips : List Flip) (old : Banks) (ts : List Trio) → AllByRecursion
-    (Holds g old) ts → AtMostOne flips (table_of (spread ts)) → AllByRecursion
+    (Holds g old) ts → AtMostOne g flips (table_of (spread ts)) → AllByRecursion
     (Good g old (all_flipped flips old)) ts
 all_good g flips old [] h one = tt
 all_good g flips old (t ∷ ts) h one =
@@ -287,7 +287,7 @@ all_good g flips old (t ∷ ts) h one =
 
 -- The votes mend
 pub spread_mends : (g : Geometry) (flips : List Flip) (k : ℕ) (banks : Banks) (ts : List Trio)
-    → Agrees g banks (spread ts) → AtMostOne (due k flips) (table_of (spread ts)) → Agrees g
+    → Agrees g banks (spread ts) → AtMostOne g (due k flips) (table_of (spread ts)) → Agrees g
     (mended g flips k (table_of (spread ts)) banks) (spread ts)
 spread_mends g flips k banks ts a one =
     let now = all_flipped (due k flips) banks in
@@ -306,6 +306,6 @@ spread_mends g flips k banks ts a one =
 pub votes_mend : VotesMend
 votes_mend g flips k banks state triples equal a one =
     let s = spread_of state 0 triples equal in
-    subst (λ (st : List Held). Agrees g banks st → AtMostOne (due k flips) (table_of st) → Agrees g
-    (mended g flips k (table_of st) banks) st) s.spreads
+    subst (λ (st : List Held). Agrees g banks st → AtMostOne g (due k flips) (table_of st)
+    → Agrees g (mended g flips k (table_of st) banks) st) s.spreads
     (spread_mends g flips k banks s.trios) a one

@@ -1,14 +1,16 @@
 -- Damage: cells that are inverted.
 use Rattle.std.specs.Prelude.{◌≡◌, ℕ, zero, suc, ◌==◌, Bool, false, not, ◌&&◌, if◌then◌else◌, List}
-use Rattle.std.specs.Prelude.{[], ◌∷◌, filter}
+use Rattle.std.specs.Prelude.{[], ◌∷◌, filter, ◌<◌}
 use Rattle.std.specs.List.{list_any}
 use Rattle.bit_rows.specs.Bits.{majority}
 use Rattle.dram_model.specs.declared.address.Cell.TheVariants.{D}
+use Rattle.dram_model.specs.declared.geometry.Geometry.{Geometry}
 use Rattle.dram_model.specs.Column.{Column, drive, plain}
 use Rattle.dram_model.specs.Chip.{Banks}
 use Rattle.object_alloc.specs.declared.table.Object.{Object}
 use Rattle.object_alloc.specs.Free.{has_row}
 use Rattle.object_alloc.specs.Listed.{Named}
+use Rattle.machine_model.specs.Columns.{segments}
 use Rattle.guard_model.specs.declared.Flip.{Flip}
 
 -- the data row's cell of one column is inverted
@@ -47,9 +49,10 @@ hits o bank column f = (f.bank == bank) && ((f.column == column) && has_row o f.
 abbrev pub is_hit : List Flip → Object → ℕ → ℕ → Bool
 is_hit flips o bank column = list_any (hits o bank column) flips
 
--- in each column of each bank at most one of the three copies of an object is hit
-abbrev pub AtMostOne : List Flip → List Named → Type 0
-AtMostOne flips (x ∷ y ∷ z ∷ rest) =
-    ((bank column : ℕ) → majority (is_hit flips x.1 bank column) (is_hit flips y.1 bank column)
-    (is_hit flips z.1 bank column) ≡ false) × AtMostOne flips rest
-AtMostOne flips table = Unit {0}
+-- in each column of each bank that has a segment of an object, at most one of its three copies is
+-- hit
+abbrev pub AtMostOne : Geometry → List Flip → List Named → Type 0
+AtMostOne g flips (x ∷ y ∷ z ∷ rest) =
+    ((bank column : ℕ) → bank < segments g x.1 → majority (is_hit flips x.1 bank column)
+    (is_hit flips y.1 bank column) (is_hit flips z.1 bank column) ≡ false) × AtMostOne g flips rest
+AtMostOne g flips table = Unit {0}

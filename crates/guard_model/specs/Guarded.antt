@@ -198,12 +198,12 @@ guarded_rows_at_end g operations flips k table banks (instr ∷ script) =
     guarded_rows_at_end g operations flips (k + 1) (guarded_table g operations table instr)
     (guarded_rows g operations table (mended g flips k table banks) instr) script
 
--- between two votes the flips hit at most one copy in each column
+-- between two votes the flips hit at most one copy in each column of its segments
 abbrev pub Single : Geometry → Routines → List Flip → ℕ → List Named → List Instruction
     → Type 0
-Single g operations flips k table [] = AtMostOne (due k flips) table
+Single g operations flips k table [] = AtMostOne g (due k flips) table
 Single g operations flips k table (instr ∷ script) =
-    AtMostOne (due k flips) table
+    AtMostOne g (due k flips) table
     × Single g operations flips (k + 1) (guarded_table g operations table instr) script
 
 -- what the guarded word machine says of a script

@@ -111,13 +111,13 @@ AllOrNone =
     → (plain_script g operations table instr ≡ plain_ones instr)
     ⊎ (plain_script g operations table instr ≡ [])
 
--- Where the copies are equal and at most one of each is hit in a column, the votes leave each
--- number as it was before the flips
+-- Where the copies are equal and at most one of each is hit in a column of its segments, the votes
+-- leave each number as it was before the flips
 abbrev pub VotesMend : Type 0
 VotesMend =
     (g : Geometry) (flips : List Flip) (k : ℕ) (banks : Banks) (state : List Held)
     → first_stranger (table_of state) ≡ None → EqualCopies state → Agrees g banks state
-    → AtMostOne (due k flips) (table_of state)
+    → AtMostOne g (due k flips) (table_of state)
     → Agrees g (mended g flips k (table_of state) banks) state
 
 -- what a guarded run comes to: the banks hold what the guarded word machine holds without flips

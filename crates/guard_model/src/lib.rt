@@ -71,8 +71,9 @@ pub fn guarded_steps_are_events()
     ensures counted { StepIsCounted }
 {}
 
-/// Where at most one copy is hit in a column, the votes leave each number as it was before the
-/// flips; so a guarded script gives the numbers of the guarded word machine, which knows no flips.
+/// Where at most one copy is hit in a column of their segments, the votes leave each number as it
+/// was before the flips; so a guarded script gives the numbers of the guarded word machine, which
+/// knows no flips.
 pub fn guarded_gives_words()
     ensures mend { VotesMend }
     ensures words { GuardedGivesWords }

@@ -261,7 +261,7 @@ replies_by t job = guarded_replies job.image.geometry (operations_by t job) job.
     job.script
 
 -- the copies of each object of IMAGE are equal, and between two votes the flips hit at most one of
--- the three copies of an object in each column
+-- the three copies of an object in each column of its segments
 pub record IsMendable (t : List TextOp) (job : GuardJob) : Type 0 where
   pub equal : EqualCopies (words_of job.image)
   pub single : Single job.image.geometry (operations_by t job) job.flips 1 job.image.table
