@@ -1,12 +1,14 @@
 -- A worked row of the definitions: a guarded object of four elements and width 2 is made, loaded
 -- and printed.
-use Rattle.std.proofs.Common.{◌≡◌, ℕ, List, [], ◌∷◌, None, refl}
+use Rattle.std.proofs.Common.{◌≡◌, ◌<◌, ℕ, zero, suc, true, false, List, [], ◌∷◌, None, refl, arith}
 use Rattle.dram_model.specs.declared.geometry.Geometry.{Geometry}
 use Rattle.dram_model.specs.declared.dram.Counters.{Counters}
+use Rattle.object_alloc.specs.declared.table.Object.{Object}
 use Rattle.object_alloc.specs.Free.{free}
 use Rattle.bbop_isa.specs.Forms.{Instruction, Init, Load, Print}
 use Rattle.machine_model.specs.Routines.{Routines}
 use Rattle.guard_model.specs.declared.Flip.{Flip}
+use Rattle.guard_model.specs.Flips.{is_hit, AtMostOne}
 use Rattle.bit_rows.specs.Bits.{majority}
 use Rattle.dram_model.specs.Chip.{blank_banks}
 use Rattle.machine_model.specs.declared.Reply.TheVariants.{Done}
@@ -61,3 +63,30 @@ lost_row : guarded_said_in_rows small none (flip ∷ record flip { row = 2 } ∷
     ∷ []
 unfolding free majority
 lost_row = refl
+
+-- copies of one segment, and flips in the rows of two of them in a bank in which they have none
+abbrev copy : ℕ → Object
+copy base = record { base = base; width = 2; count = 4 }
+
+abbrev behind : List Flip
+behind = record { before = 3; bank = 1; row = 0; column = 1 } ∷ record {
+  before = 3;
+  bank = 1;
+  row = 2;
+  column = 1;
+} ∷ []
+
+first_bank : (bank column : ℕ) → bank < 1 → majority (is_hit behind (copy 0) bank column)
+    (is_hit behind (copy 2) bank column) (is_hit behind (copy 4) bank column) ≡ false
+unfolding majority
+first_bank zero column l = refl
+first_bank (suc bank) column l = absurd (omega arith)
+
+in_rows : majority (is_hit behind (copy 0) 1 1) (is_hit behind (copy 2) 1 1)
+    (is_hit behind (copy 4) 1 1) ≡ true
+unfolding majority
+in_rows = refl
+
+behind_row : AtMostOne (record small { banks = 2 }) behind ((120 ∷ 97 ∷ [], copy 0)
+    ∷ (121 ∷ 97 ∷ [], copy 2) ∷ (122 ∷ 97 ∷ [], copy 4) ∷ [])
+behind_row = (λ bank column l. first_bank bank column l, tt)
