@@ -13,7 +13,7 @@ use Rattle.std.proofs.lemmas.List.{drop_all, drop_at}
 use Rattle.dram_model.specs.declared.dram.Counters.{Counters}
 use Rattle.dram_model.specs.declared.geometry.Geometry.{Geometry}
 use Rattle.dram_model.specs.Geometry.{is_geometry}
-use Rattle.dram_model.specs.Chip.{Event, Log, Grew, event_bits, log_bits, with_events}
+use Rattle.dram_model.specs.Chip.{Event, Log, Grew, event_bits, log_bits}
 use Rattle.dram_model.specs.Chip.Event.{Row, Write}
 use Rattle.dram_model.specs.View.{ChipView, HasBegun, Kept, Did}
 use Rattle.bit_rows.specs.Bits.{bits_of_words}

@@ -1,9 +1,14 @@
 //! A chip whose row commands and writes are recorded.
 
 ghost use Rattle.std.specs.Prelude.{◌≡◌, ◌+◌, ◌*◌, ◌<◌, ◌≤◌, ◌^◌, [], length, true, false, Some};
-ghost use Rattle.std.specs.Prelude.{None, IfOk, IfSome, is_some};
+ghost use Rattle.std.specs.Prelude.{◌∷◌, None, IfOk, IfErr, IfSome, OnOk, OnErr, is_some};
+ghost use Rattle.bit_rows.specs.Bits.{bits_of_words};
+ghost use Rattle.fault_counts.specs.Counts.{Rose};
+ghost use Rattle.dram_model.specs.declared.address.Command.{Command};
+ghost use Rattle.dram_model.specs.Chip.{Event, Grew, row_in};
+ghost use Rattle.dram_model.specs.Column.{is_legal};
 ghost use Rattle.dram_model.specs.Geometry.{is_geometry};
-ghost use Rattle.dram_model.specs.View.{HasBegun};
+ghost use Rattle.dram_model.specs.View.{HasBegun, Kept, Did, DidRead, FailedIn, Began, NotBegun};
 ghost use Rattle.trace_model.specs.Spelling.{events_bytes, trace_bytes};
 ghost use Rattle.cmd_trace.specs.Tape.{empty_log, file_on, log_on, recorded, size_since};
 
@@ -88,6 +93,7 @@ impl<'a, D: Dram> Recorder<'a, D> {
         ensures file { IfSome (log_on (D.view self.old.dram.now).geometry self.old.notes.now)
             (λ events. file_on self.new.notes.now
             ≡ trace_bytes (D.view self.old.dram.now).geometry table.now.pairs events) }
+        ensures since { self.new.notes.now.since ≡ self.old.notes.now.since }
     {
         let g = self.dram.geometry();
         self.notes.spell(g, table);
@@ -128,6 +134,8 @@ fn size_of(words: u16, since: Counters, now: Counters) -> u64
     }
 }
 
+// Each call keeps the clauses of `Dram`, and says besides where the mark is: a `begin` that is Ok
+// does what `mark` does, and the row calls leave the counters of the mark as they were.
 impl<'a, D: Dram> Dram for Recorder<'a, D> {
     ghost use Rattle.std.specs.Prelude.{◌∷◌};
     ghost use Rattle.cmd_trace.specs.Tape.{recorded};
@@ -139,32 +147,107 @@ impl<'a, D: Dram> Dram for Recorder<'a, D> {
 
     ghost width = { λ s h. D.width s.dram.now (has_begun_below (D.view s.dram.now) s.notes.now h) };
 
-    fn begin(&mut self, g: Geometry) -> Result<(), BeginNo> {
+    fn begin(&mut self, g: Geometry) -> Result<(), BeginNo>
+        requires { is_geometry g ≡ true }
+        ensures shown { OnOk result ((⟦<Self as Dram>⟧.view self.new).log ≡ Some empty_log) }
+        ensures since { OnOk result (self.new.notes.now.since
+            ≡ (D.view self.new.dram.now).counters) }
+        ensures borrow { ⟦<Self as Dram>⟧.borrow self.new ≡ ⟦<Self as Dram>⟧.borrow self.old }
+        ensures faults { (⟦<Self as Dram>⟧.view self.old).faults
+            ≤ (⟦<Self as Dram>⟧.view self.new).faults }
+        ensures began { OnOk result (Began g (⟦<Self as Dram>⟧.view self.new)) }
+        ensures failed { IfErr result (λ e. e ≡ BeginNo.Failed
+            → Rose (⟦<Self as Dram>⟧.view self.old).faults
+            (⟦<Self as Dram>⟧.view self.new).faults) }
+        ensures err { OnErr result (NotBegun (⟦<Self as Dram>⟧.view self.new)) }
+    {
         self.notes.untell();
         self.dram.begin(g)?;
         self.mark();
         Ok(())
     }
 
-    fn aap(&mut self, bank: u16, x: Addr, y: Addr) -> Result<(), ChipFault> {
+    fn aap(&mut self, bank: u16, x: Addr, y: Addr) -> Result<(), ChipFault>
+        requires begun { HasBegun (⟦<Self as Dram>⟧.view self.old) }
+        requires bank { bank < (⟦<Self as Dram>⟧.view self.old).geometry.banks }
+        requires legal { is_legal (⟦<Self as Dram>⟧.view self.old).geometry.rows
+            (Command.Aap x y) ≡ true }
+        requires room { (⟦<Self as Dram>⟧.view self.old).counters.aap < 2 ^ 63 }
+        ensures since { self.new.notes.now.since ≡ self.old.notes.now.since }
+        ensures borrow { ⟦<Self as Dram>⟧.borrow self.new ≡ ⟦<Self as Dram>⟧.borrow self.old }
+        ensures kept { Kept (⟦<Self as Dram>⟧.view self.old) (⟦<Self as Dram>⟧.view self.new) }
+        ensures did { OnOk result (Did (Event.Row bank (Command.Aap x y) ∷ [])
+            (⟦<Self as Dram>⟧.view self.old) (⟦<Self as Dram>⟧.view self.new)) }
+        ensures failed { OnErr result (FailedIn bank (⟦<Self as Dram>⟧.view self.old)
+            (⟦<Self as Dram>⟧.view self.new)) }
+        ensures untold { OnErr result (Grew (⟦<Self as Dram>⟧.view self.old).log
+            (⟦<Self as Dram>⟧.view self.new).log []) }
+    {
         self.dram.aap(bank, x, y)?;
         self.notes.keep_command(bank, Command::Aap(x, y));
         Ok(())
     }
 
-    fn ap(&mut self, bank: u16, x: Addr) -> Result<(), ChipFault> {
+    fn ap(&mut self, bank: u16, x: Addr) -> Result<(), ChipFault>
+        requires begun { HasBegun (⟦<Self as Dram>⟧.view self.old) }
+        requires bank { bank < (⟦<Self as Dram>⟧.view self.old).geometry.banks }
+        requires legal { is_legal (⟦<Self as Dram>⟧.view self.old).geometry.rows
+            (Command.Ap x) ≡ true }
+        requires room { (⟦<Self as Dram>⟧.view self.old).counters.ap < 2 ^ 63 }
+        ensures since { self.new.notes.now.since ≡ self.old.notes.now.since }
+        ensures borrow { ⟦<Self as Dram>⟧.borrow self.new ≡ ⟦<Self as Dram>⟧.borrow self.old }
+        ensures kept { Kept (⟦<Self as Dram>⟧.view self.old) (⟦<Self as Dram>⟧.view self.new) }
+        ensures did { OnOk result (Did (Event.Row bank (Command.Ap x) ∷ [])
+            (⟦<Self as Dram>⟧.view self.old) (⟦<Self as Dram>⟧.view self.new)) }
+        ensures failed { OnErr result (FailedIn bank (⟦<Self as Dram>⟧.view self.old)
+            (⟦<Self as Dram>⟧.view self.new)) }
+        ensures untold { OnErr result (Grew (⟦<Self as Dram>⟧.view self.old).log
+            (⟦<Self as Dram>⟧.view self.new).log []) }
+    {
         self.dram.ap(bank, x)?;
         self.notes.keep_command(bank, Command::Ap(x));
         Ok(())
     }
 
-    fn write_row(&mut self, bank: u16, row: u16, words: &[u64]) -> Result<(), ChipFault> {
+    fn write_row(&mut self, bank: u16, row: u16, words: &[u64]) -> Result<(), ChipFault>
+        requires begun { HasBegun (⟦<Self as Dram>⟧.view self.old) }
+        requires bank { bank < (⟦<Self as Dram>⟧.view self.old).geometry.banks }
+        requires row { row < (⟦<Self as Dram>⟧.view self.old).geometry.rows }
+        requires words { length words.now ≡ (⟦<Self as Dram>⟧.view self.old).geometry.words }
+        requires room { (⟦<Self as Dram>⟧.view self.old).counters.writes < 2 ^ 63 }
+        ensures since { self.new.notes.now.since ≡ self.old.notes.now.since }
+        ensures borrow { ⟦<Self as Dram>⟧.borrow self.new ≡ ⟦<Self as Dram>⟧.borrow self.old }
+        ensures kept { Kept (⟦<Self as Dram>⟧.view self.old) (⟦<Self as Dram>⟧.view self.new) }
+        ensures did { OnOk result (Did (Event.Write bank row (bits_of_words words.now) ∷ [])
+            (⟦<Self as Dram>⟧.view self.old) (⟦<Self as Dram>⟧.view self.new)) }
+        ensures failed { OnErr result (FailedIn bank (⟦<Self as Dram>⟧.view self.old)
+            (⟦<Self as Dram>⟧.view self.new)) }
+        ensures untold { OnErr result (Grew (⟦<Self as Dram>⟧.view self.old).log
+            (⟦<Self as Dram>⟧.view self.new).log []) }
+    {
         self.dram.write_row(bank, row, words)?;
         self.notes.keep_write(bank, row, words);
         Ok(())
     }
 
-    fn read_row(&mut self, bank: u16, row: u16, out: &mut [u64]) -> Result<(), ChipFault> {
+    fn read_row(&mut self, bank: u16, row: u16, out: &mut [u64]) -> Result<(), ChipFault>
+        requires begun { HasBegun (⟦<Self as Dram>⟧.view self.old) }
+        requires bank { bank < (⟦<Self as Dram>⟧.view self.old).geometry.banks }
+        requires row { row < (⟦<Self as Dram>⟧.view self.old).geometry.rows }
+        requires words { length out.old ≡ (⟦<Self as Dram>⟧.view self.old).geometry.words }
+        requires room { (⟦<Self as Dram>⟧.view self.old).counters.reads < 2 ^ 63 }
+        ensures since { self.new.notes.now.since ≡ self.old.notes.now.since }
+        ensures borrow { ⟦<Self as Dram>⟧.borrow self.new ≡ ⟦<Self as Dram>⟧.borrow self.old }
+        ensures kept { Kept (⟦<Self as Dram>⟧.view self.old) (⟦<Self as Dram>⟧.view self.new) }
+        ensures read { OnOk result (bits_of_words out.new
+            ≡ row_in row ((⟦<Self as Dram>⟧.view self.old).banks bank)) }
+        ensures did { OnOk result (DidRead 1
+            (⟦<Self as Dram>⟧.view self.old) (⟦<Self as Dram>⟧.view self.new)) }
+        ensures failed { OnErr result (FailedIn bank (⟦<Self as Dram>⟧.view self.old)
+            (⟦<Self as Dram>⟧.view self.new)) }
+        ensures untold { OnErr result (Grew (⟦<Self as Dram>⟧.view self.old).log
+            (⟦<Self as Dram>⟧.view self.new).log []) }
+    {
         self.dram.read_row(bank, row, out)
     }
 
