@@ -5,7 +5,7 @@ use Rattle.std.specs.Prelude.{slice_get, slice_index, slice_index_or, ◌||◌}
 use Rattle.std.proofs.lemmas.Bool.{eqb-true}
 use Rattle.std.proofs.lemmas.List.{get_or_past}
 use Rattle.std.specs.List.{AllByRecursion}
-use Rattle.uprog_code.specs.Machine.Issue.{Twice, Once}
+use Rattle.uprog_code.specs.Machine.Issue.{IssueAap, IssueAp}
 use Rattle.uprog_code.specs.declared.code.Uop.{Uop}
 use Rattle.uprog_code.specs.Shape.{Shape}
 use Rattle.uprog_code.specs.declared.walker.Why3.TheVariants.{Index}
@@ -162,18 +162,18 @@ module _ (head : Shape) (code : List Uop) (n : ℕ) where
     goes_command (cmd.Aap x y) pc regs g at ok all rest e =
         let rd : RoundOf Part = round_at p i o in
         one head code n pc regs (code_uop plan p.block (cmd.Aap x y)) at all rest e
-        ∙ ap (λ r. issued head n (Twice r (row_at regs (code_ref plan p.block y))) pc
+        ∙ ap (λ r. issued head n (IssueAap r (row_at regs (code_ref plan p.block y))) pc
         (issue head code n rest (pc + 1) regs)) (ref_is x regs g)
-        ∙ ap (λ r. issued head n (Twice (round_ref n rd x) r) pc
+        ∙ ap (λ r. issued head n (IssueAap (round_ref n rd x) r) pc
         (issue head code n rest (pc + 1) regs)) (ref_is y regs g)
-        ∙ ap (λ t. cond t (onto (Twice (round_ref n rd x) (round_ref n rd y)
+        ∙ ap (λ t. cond t (onto (IssueAap (round_ref n rd x) (round_ref n rd y)
         ∷ []) (issue head code n rest (pc + 1) regs)) (Stuck pc Index)) ok
     goes_command (cmd.Ap x) pc regs g at ok all rest e =
         let rd : RoundOf Part = round_at p i o in
         one head code n pc regs (code_uop plan p.block (cmd.Ap x)) at all rest e
-        ∙ ap (λ r. issued head n (Once r) pc (issue head code n rest (pc + 1) regs))
+        ∙ ap (λ r. issued head n (IssueAp r) pc (issue head code n rest (pc + 1) regs))
         (ref_is x regs g)
-        ∙ ap (λ t. cond t (onto (Once (round_ref n rd x)
+        ∙ ap (λ t. cond t (onto (IssueAp (round_ref n rd x)
         ∷ []) (issue head code n rest (pc + 1) regs)) (Stuck pc Index)) ok
 
     -- the body's commands, whatever is known of the registers
