@@ -338,7 +338,7 @@ def form_fault(command, status, said):
 
 
 def file_fault(command, status, before, after):
-    """What is wrong with the files behind the call, if something is."""
+    """What is wrong with the files after the call, if something is."""
     done = status in (0, 8)
     for name in sorted(before.keys() | after.keys()):
         if name not in command.stores:

@@ -82,8 +82,8 @@ def main():
                 else:
                     wrong += 1
                     print(f"{name}: allocation {refuse} of {calls} refused: status {found[0]}, sent {found[1][:80]!r}")
-            told = ", ".join(f"{count} {end}" for end, count in sorted(ends.items()))
-            print(f"{name}: status {ample[0]}, {calls} allocations, each refused once: {told}")
+            line = ", ".join(f"{count} {end}" for end, count in sorted(ends.items()))
+            print(f"{name}: status {ample[0]}, {calls} allocations, each refused once: {line}")
     return 1 if wrong else 0
 
 

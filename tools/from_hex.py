@@ -4,7 +4,7 @@
     tools/from_hex.py NOTE FILE
 
 In NOTE a `#` begins a comment to the end of its line, and what is left are the bytes, two digits each, with any blanks
-between them. So a program file is written by hand with a comment behind each instruction, as examples/exec/xor.hex is. It
+between them. So a program file is written by hand with a comment after each instruction, as examples/exec/xor.hex is. It
 needs Python's standard library alone.
 """
 

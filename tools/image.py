@@ -84,7 +84,7 @@ class Image:
         raise Fault(f"no object {name}")
 
     def add(self, name, width, count):
-        """A new object behind the last one's rows."""
+        """A new object after the last one's rows."""
         base = max((o.base + o.width for o in self.objects), default=0)
         if not 1 <= width <= 128 or base + width > self.rows - SPILL_ROWS:
             raise Fault(f"no room for {name}: rows {base} to {base + width - 1} of {self.rows - SPILL_ROWS}")

@@ -184,7 +184,7 @@ class Board:
 
 
 def steps(code):
-    """The row commands of a part in order: each its text, and what cells and rows hold behind it."""
+    """The row commands of a part in order: each its text, and what cells and rows hold after it."""
     board = Board(code)
     for one in code:
         text = one.text(board.subscript)

@@ -5,7 +5,7 @@
     trace_text.py --ramulator TRACE   AAP 0 8 2048
 
 The second form is that of simulators of DRAM in the manner of Ramulator: a command, its bank, and
-its rows, one command a line. Data rows are numbered as they are; the other groups stand behind
+its rows, one command a line. Data rows are numbered as they are; the other groups stand after
 them, C0 and C1 at 1024 and 1025, and B0 to B15 from 2048 on. No times are given: when a command
 may follow another is the simulator's to say, by its own timing.
 """

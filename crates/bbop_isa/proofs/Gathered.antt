@@ -8,26 +8,27 @@ use Rattle.bbop_isa.specs.declared.instr.LineNo.{LineNo}
 use Rattle.bbop_isa.specs.declared.instr.LineNo.TheVariants as line_no
 use Rattle.bbop_isa.specs.Words.{Word, Name, Number, Comma, Other, word_view, texts}
 use Rattle.bbop_isa.specs.Forms.{Operands, operands_of, with_name, with_number, before_names}
-use Rattle.bbop_isa.specs.Reading.{operands_view, takes, joined, behind, left, left_in, Takes}
+use Rattle.bbop_isa.specs.Reading.{operands_view, takes, joined, joined_after, left, left_in, Takes}
 use Rattle.bbop_isa.specs.Reading.{Pushes}
 
 -- one name more
 name_moves : (names : List (List ℕ)) (name : List ℕ) (o : Option Operands)
-    → behind names [] (with_name name o) ≡ behind (names ++ name ∷ []) [] o
+    → joined_after names [] (with_name name o) ≡ joined_after (names ++ name ∷ []) [] o
 name_moves names name None = refl
 name_moves names name (Some o) = rw (append_assoc names (name ∷ []) o.names) refl
 
 -- one number more
 number_moves : (names : List (List ℕ)) (numbers : List (Option ℕ)) (number : Option ℕ)
     (o : Option Operands)
-    → behind names numbers (with_number number o) ≡ behind names (numbers ++ number ∷ []) o
+    → joined_after names numbers (with_number number o) ≡ joined_after names (numbers ++ number
+    ∷ []) o
 number_moves names [] number None = refl
 number_moves names (n ∷ ns) number None = refl
 number_moves names numbers number (Some o) = parts names numbers number o.names o.numbers
   where
     parts : (names : List (List ℕ)) (numbers : List (Option ℕ)) (number : Option ℕ)
         (more : List (List ℕ)) (others : List (Option ℕ))
-        → behind names numbers (before_names number more others)
+        → joined_after names numbers (before_names number more others)
         ≡ joined names (numbers ++ number ∷ []) more others
     parts names [] number [] others = rw (append-nil names) refl
     parts names (n ∷ ns) number [] others = rw (append_assoc ns (number ∷ []) others) refl
@@ -59,7 +60,7 @@ late_name : (names : List (List ℕ)) (n : Option ℕ) (ns : List (Option ℕ)) 
 late_name names n ns name [] = refl
 late_name names n ns name (Comma ∷ words) = after (operands_of words)
   where
-    after : (o : Option Operands) → behind names (n ∷ ns) (with_name name o) ≡ None
+    after : (o : Option Operands) → joined_after names (n ∷ ns) (with_name name o) ≡ None
     after None = refl
     after (Some o) = refl
 late_name names n ns name (Name other ∷ words) = refl
@@ -99,7 +100,7 @@ not_taken names numbers Other words is = refl
 pub begins : (words : List Word) → operands_of words ≡ left false [] [] words
 begins words = at (operands_of words)
   where
-    at : (o : Option Operands) → o ≡ behind [] [] o
+    at : (o : Option Operands) → o ≡ joined_after [] [] o
     at None = refl
     at (Some o) = refl
 

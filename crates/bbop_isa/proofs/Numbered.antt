@@ -81,8 +81,8 @@ said_is_accepted number (line ∷ lines) (Some i ∷ said) is =
 record FirstOf (number : ℕ) (lines : List (List ℕ)) (fault : ScriptFault) : Type 0 where
   before : List (List ℕ)
   line : List ℕ
-  behind : List (List ℕ)
-  parted : lines ≡ before ++ line ∷ behind
+  following : List (List ℕ)
+  parted : lines ≡ before ++ line ∷ following
   place : fault.line ≡ length before + number
   wrong : line_of line ≡ Err fault.kind
   right : AllByRecursion (λ earlier. IsOk (line_of earlier)) before
@@ -92,7 +92,7 @@ later : (number : ℕ) (line : List ℕ) (lines : List (List ℕ)) (fault : Scri
 later number line lines fault right first = record {
   before = line ∷ first.before;
   line = first.line;
-  behind = first.behind;
+  following = first.following;
   parted = ap (λ ls. line ∷ ls) first.parted;
   place = omega (arith, first.place);
   wrong = first.wrong;
@@ -113,7 +113,7 @@ refused_is_first number (line ∷ lines) fault is =
         subst (FirstOf number (line ∷ lines)) (err_is _ _ is) (record {
           before = [];
           line = line;
-          behind = lines;
+          following = lines;
           parted = refl;
           place = omega arith;
           wrong = e;
@@ -125,15 +125,16 @@ refused_is_first number (line ∷ lines) fault is =
     at (Ok (Some i)) e (Err f) first is = later number line lines fault (rw e refl) (first fault is)
 
 first_is_refused : (number place : ℕ) (before : List (List ℕ)) (line : List ℕ)
-    (behind : List (List ℕ)) (kind : ScriptKind) → place ≡ length before + number
+    (following : List (List ℕ)) (kind : ScriptKind) → place ≡ length before + number
     → line_of line ≡ Err kind
     → AllByRecursion (λ earlier. IsOk (line_of earlier)) before
-    → script_from number (before ++ line ∷ behind) ≡ Err (record { line = place; kind = kind })
-first_is_refused number place [] line behind kind at wrong right =
+    → script_from number (before ++ line ∷ following) ≡ Err (record { line = place; kind = kind })
+first_is_refused number place [] line following kind at wrong right =
     let same : number ≡ place = omega (arith, at) in
     rw (wrong, same) refl
-first_is_refused number place (l ∷ before) line behind kind at wrong right =
-    let rest = first_is_refused (number + 1) place before line behind kind (omega (arith, at)) wrong
+first_is_refused number place (l ∷ before) line following kind at wrong right =
+    let rest = first_is_refused (number + 1) place before line following kind (omega (arith, at))
+    wrong
     right.1 in
     ap (λ r. go_on number (line_of l) r) rest ∙ passes (line_of l) right.0
   where
@@ -156,13 +157,13 @@ go_by_lines = record {
         record {
           before = first.before;
           line = first.line;
-          behind = first.behind;
+          following = first.following;
           parted = first.parted;
           place = first.place;
           wrong = first.wrong;
           right = first.right;
         },
-    λ first. rw first.parted (first_is_refused 1 fault.line first.before first.line first.behind
+    λ first. rw first.parted (first_is_refused 1 fault.line first.before first.line first.following
         fault.kind first.place first.wrong first.right),
   );
 }

@@ -9,7 +9,7 @@ use Rattle.bbop_isa.specs.Lines.{lines_of, begun, AreLines}
 abbrev pub line_len : List ℕ → ℕ
 line_len text = prefix_len is_no_newline text
 
--- a line, and the lines behind its newline
+-- a line, and the lines after its newline
 abbrev pub with_lines : List ℕ → List ℕ → List (List ℕ)
 with_lines line [] = line ∷ []
 with_lines line (newline ∷ rest) = line ∷ lines_of rest
@@ -39,7 +39,7 @@ pub line_is_last : (text line rest : List ℕ) → line ≡ take (line_len text)
 line_is_last text line [] is left none = rw (is, lines_parted text, ← left) refl
 line_is_last text line (c ∷ rest) is left none = absurd (omega (arith, none))
 
--- a text whose line has a newline behind it
+-- a text whose line has a newline after it
 pub line_is_first : (text line rest after : List ℕ) (newline : ℕ) → line ≡ take (line_len text) text
     → rest ≡ drop (line_len text) text → rest ≡ newline ∷ after
     → lines_of text ≡ line ∷ lines_of after
@@ -55,10 +55,10 @@ some_lines (b ∷ bs) = at (b == 10) (lines_of bs)
     at false [] = omega arith
     at false (line ∷ lines) = omega arith
 
-behind_newline : (lines : List (List ℕ)) → 1 ≤ length lines
+after_newline : (lines : List (List ℕ)) → 1 ≤ length lines
     → join_with_byte 10 ([] ∷ lines) ≡ 10 ∷ join_with_byte 10 lines
-behind_newline [] some = absurd (omega arith)
-behind_newline (line ∷ lines) some = refl
+after_newline [] some = absurd (omega arith)
+after_newline (line ∷ lines) some = refl
 
 begun_are : (b : ℕ) (bs : List ℕ) (lines : List (List ℕ)) → (b == 10) ≡ false → 1 ≤ length lines
     → AreLines bs lines → AreLines (b ∷ bs) (begun b lines)
@@ -79,7 +79,7 @@ lines_are (b ∷ bs) = at (b == 10) refl (lines_are bs)
     at true e are =
         let newline : b ≡ 10 = grind (arith, nat_tests) in
         record {
-          whole = rw newline (behind_newline (lines_of bs) (some_lines bs)
+          whole = rw newline (after_newline (lines_of bs) (some_lines bs)
               ∙ ap (λ t. 10 ∷ t) are.whole);
           parted = (refl, are.parted);
         }

@@ -19,27 +19,27 @@ sizes [] [] some = absurd (omega arith)
 sizes [] (number ∷ numbers) some = omega arith
 sizes (name ∷ names) numbers some = omega arith
 
-behind_name : (name : List ℕ) (words : List Word) (p : Operands) → AreOperands words p
+after_name : (name : List ℕ) (words : List Word) (p : Operands) → AreOperands words p
     → AreOperands (Name name ∷ Comma ∷ words)
     (record { names = name ∷ p.names; numbers = p.numbers })
-behind_name name words p are = record {
+after_name name words p are = record {
   spelled = ap (λ ws. Name name ∷ Comma ∷ ws) are.spelled
       ∙ one_more (Name name) (map Name p.names ++ map Number p.numbers)
       (sizes p.names p.numbers are.some);
   some = omega arith;
 }
 
-behind_number : (number : Option ℕ) (words : List Word) (names : List (List ℕ))
+after_number : (number : Option ℕ) (words : List Word) (names : List (List ℕ))
     (numbers : List (Option ℕ)) (o : Operands)
     → AreOperands words (record { names = names; numbers = numbers })
     → before_names number names numbers ≡ Some o → AreOperands (Number number ∷ Comma ∷ words) o
-behind_number number words [] numbers o are is =
+after_number number words [] numbers o are is =
     subst (AreOperands (Number number ∷ Comma ∷ words)) (some_is _ _ is) (record {
       spelled = ap (λ ws. Number number ∷ Comma ∷ ws) are.spelled
           ∙ one_more (Number number) (map Number numbers) (sizes [] numbers are.some);
       some = omega arith;
     })
-behind_number number words (name ∷ names) numbers o are is = absurd (cc)
+after_number number words (name ∷ names) numbers o are is = absurd (cc)
 
 pub read_is_spelled : (words : List Word) (o : Operands) → operands_of words ≡ Some o
     → AreOperands words o
@@ -53,14 +53,14 @@ read_is_spelled (Name name ∷ Comma ∷ words) o is = at (operands_of words) (r
         → with_name name r ≡ Some o → AreOperands (Name name ∷ Comma ∷ words) o
     at None rest is = absurd (cc)
     at (Some p) rest is = subst (AreOperands (Name name ∷ Comma ∷ words)) (some_is _ _ is)
-        (behind_name name words p (rest p refl))
+        (after_name name words p (rest p refl))
 read_is_spelled (Number number ∷ Comma ∷ words) o is =
     at (operands_of words) (read_is_spelled words) is
   where
     at : (r : Option Operands) → ((p : Operands) → r ≡ Some p → AreOperands words p)
         → with_number number r ≡ Some o → AreOperands (Number number ∷ Comma ∷ words) o
     at None rest is = absurd (cc)
-    at (Some p) rest is = behind_number number words p.names p.numbers o (rest p refl) is
+    at (Some p) rest is = after_number number words p.names p.numbers o (rest p refl) is
 read_is_spelled [] o is = absurd (cc)
 read_is_spelled (Comma ∷ words) o is = absurd (cc)
 read_is_spelled (Other ∷ words) o is = absurd (cc)

@@ -41,7 +41,7 @@ pub record Operands : Type 0 where
   pub names : List (List ℕ)
   pub numbers : List (Option ℕ)
 
--- the operands, behind one more name
+-- the operands, after one more name
 abbrev pub with_name : List ℕ → Option Operands → Option Operands
 with_name name None = None
 with_name name (Some o) = Some (record { names = name ∷ o.names; numbers = o.numbers })
@@ -50,7 +50,7 @@ abbrev pub before_names : Option ℕ → List (List ℕ) → List (Option ℕ) �
 before_names number [] numbers = Some (record { names = []; numbers = number ∷ numbers })
 before_names number (name ∷ names) numbers = None
 
--- the operands, behind one more number: a name does not follow it
+-- the operands, after one more number: a name does not follow it
 abbrev pub with_number : Option ℕ → Option Operands → Option Operands
 with_number number None = None
 with_number number (Some o) = before_names number o.names o.numbers
@@ -95,7 +95,7 @@ init_of (name ∷ []) (count ∷ n ∷ []) = checked (fits_name name) (is_count 
     && is_width n) (Init name (value count) (value n))
 init_of names numbers = Err Syntax
 
--- one to five names behind the first
+-- one to five names after the first
 abbrev pub bbop_of : List ℕ → List (List ℕ) → List (Option ℕ) → Result Instruction ScriptKind
 bbop_of op (dst ∷ src ∷ srcs) (count ∷ n ∷ []) =
     if nat_lt 4 (length srcs) then Err Syntax

@@ -39,7 +39,7 @@ words_of InOrder = Name (codes "order") ∷ Name (codes "in") ∷ []
 words_of TurnsOrder = Name (codes "order") ∷ Name (codes "turns") ∷ []
 words_of (SeedOrder seed) = Name (codes "order") ∷ Name (codes "seed") ∷ Number seed ∷ []
 
--- An operation has one to five names behind the first, and its own name is another than that of
+-- An operation has one to five names after the first, and its own name is another than that of
 -- the first form; a load has a value.
 abbrev pub IsForm : Form → Type 0
 IsForm (BbopForm op dst srcs count n) = (op ≢ codes "trsp_init") × (1 ≤ length srcs)

@@ -45,7 +45,7 @@ first_name (Print name) = codes "print"
 first_name (Free name) = codes "free"
 first_name (Order order) = codes "order"
 
--- the words behind it
+-- the words after it
 abbrev pub other_words : Instruction → List Word
 other_words (Init name count n) = with_commas (Name name ∷ Number (Some count) ∷ Number (Some n)
     ∷ [])
@@ -96,8 +96,8 @@ pub record Says (text : List ℕ) (script : List Instruction) : Type 0 where
 pub record FirstFault (text : List ℕ) (fault : ScriptFault) : Type 0 where
   pub before : List (List ℕ)
   pub line : List ℕ
-  pub behind : List (List ℕ)
-  pub parted : lines_of text ≡ before ++ line ∷ behind
+  pub following : List (List ℕ)
+  pub parted : lines_of text ≡ before ++ line ∷ following
   pub place : fault.line ≡ length before + 1
   pub wrong : line_of line ≡ Err fault.kind
   pub right : AllByRecursion (λ earlier. IsOk (line_of earlier)) before

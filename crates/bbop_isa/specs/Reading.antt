@@ -33,23 +33,23 @@ WordsOf line (Err line_no.NoMemory) = Unit {0}
 abbrev pub operands_view : KeptOperands → Operands
 operands_view o = record { names = texts o.names.items; numbers = o.numbers.items }
 
--- operands behind these: no name behind a number
+-- operands after these: no name after a number
 abbrev pub joined : List (List ℕ) → List (Option ℕ) → List (List ℕ) → List (Option ℕ)
     → Option Operands
 joined names [] more numbers = Some (record { names = names ++ more; numbers = numbers })
 joined names (n ∷ ns) [] numbers = Some (record { names = names; numbers = (n ∷ ns) ++ numbers })
 joined names (n ∷ ns) (m ∷ more) numbers = None
 
-abbrev pub behind : List (List ℕ) → List (Option ℕ) → Option Operands → Option Operands
-behind names numbers None = None
-behind names numbers (Some o) = joined names numbers o.names o.numbers
+abbrev pub joined_after : List (List ℕ) → List (Option ℕ) → Option Operands → Option Operands
+joined_after names numbers None = None
+joined_after names numbers (Some o) = joined names numbers o.names o.numbers
 
 -- what the operands so far and the words that are left come to, where the next is to be a comma or
 -- not
 abbrev pub left : Bool → List (List ℕ) → List (Option ℕ) → List Word → Option Operands
-left false names numbers words = behind names numbers (operands_of words)
+left false names numbers words = joined_after names numbers (operands_of words)
 left true names numbers [] = Some (record { names = names; numbers = numbers })
-left true names numbers (Comma ∷ words) = behind names numbers (operands_of words)
+left true names numbers (Comma ∷ words) = joined_after names numbers (operands_of words)
 left true names numbers (Name name ∷ words) = None
 left true names numbers (Number number ∷ words) = None
 left true names numbers (Other ∷ words) = None
@@ -104,7 +104,7 @@ IsNoTarget [] = Unit {0}
 IsNoTarget (dst ∷ []) = Unit {0}
 IsNoTarget (dst ∷ src ∷ srcs) = 4 < length srcs
 
--- the script, behind these instructions
+-- the script, after these instructions
 abbrev pub following : List Instruction → Result (List Instruction) ScriptFault
     → Result (List Instruction) ScriptFault
 following before (Ok script) = Ok (before ++ script)

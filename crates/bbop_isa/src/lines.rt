@@ -14,7 +14,7 @@ fn line_len(text: &[u8]) -> usize
     memchr(b'\n', text).unwrap_or(text.len())
 }
 
-/// The first line, and the text behind its newline, if it has one.
+/// The first line, and the text after its newline, if it has one.
 pub fn split_line(text: &[u8]) -> (&[u8], Option<&[u8]>)
     ensures lines { MatchOption result.1 (lines_of text.now
         ≡ result.0.now ∷ []) (λ rest. lines_of text.now ≡ result.0.now ∷ lines_of rest.now) }

@@ -19,7 +19,7 @@ pub(crate) struct Operands<'a> {
 }
 
 impl<'a> Operands<'a> {
-    /// Whether the word is a name, or a number; with no name behind a number.
+    /// Whether the word is a name, or a number; with no name after a number.
     fn push(&mut self, word: &Word<'a>) -> Result<bool, LineNo>
         ensures pushed { Pushes self.old word.now result self.new }
         ensures comma { self.new.at_comma ≡ self.old.at_comma }

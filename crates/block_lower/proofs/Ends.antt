@@ -46,12 +46,14 @@ are-read {slots = slots} {b = b} g n old before all x e p lt =
     (row-below n p s.kind lt)
 
 holds-state : {slots : Slots} {fb fw : ℕ} {b : Block} {n : ℕ} {old held : List ℕ
-    → NameValue} {before bits : Spots} → Given slots fb fw b → Stands slots b n old before n held bits
+    → NameValue} {before bits : Spots} → Given slots fb fw b
+    → Stands slots b n old before n held bits
     → (x : List ℕ) → is_among (state_names b) x ≡ true → Holds n slots held bits x
 holds-state {slots = slots} {b = b} {n = n} {held = held} {bits = bits} g st x e =
     let s = slot_or (slots x) in
     let is = st.states x e in
-    let kind : (held x).kind ≡ s.kind = ap (λ (h : NameValue). h.kind) is ∙ sym (state-kind g x e) in
+    let kind : (held x).kind ≡ s.kind = ap (λ (h : NameValue). h.kind) is
+    ∙ sym (state-kind g x e) in
     let same : (held x).bits ≡ slot_bits n bits s = ap (λ (h : NameValue). h.bits) is
     ∙ sym (ap (λ k. map (λ v. bits (row n slots x v)) (range_with_len 0 (width n k)))
     (state-kind g x e)) in
@@ -59,7 +61,8 @@ holds-state {slots = slots} {b = b} {n = n} {held = held} {bits = bits} g st x e
     (found g x (written-named b x (state-written b x e)))) (kind, same)
 
 holds-word : {slots : Slots} {fb fw : ℕ} {b : Block} {n : ℕ} {old held : List ℕ
-    → NameValue} {before bits : Spots} → Given slots fb fw b → Stands slots b n old before n held bits
+    → NameValue} {before bits : Spots} → Given slots fb fw b
+    → Stands slots b n old before n held bits
     → (x : List ℕ) → is_among (word_names b) x ≡ true → Holds n slots held bits x
 holds-word {slots = slots} {b = b} {n = n} {held = held} {bits = bits} g st x e =
     let s = slot_or (slots x) in
@@ -81,7 +84,8 @@ holds-word {slots = slots} {b = b} {n = n} {held = held} {bits = bits} g st x e 
     (found g x (written-named b x (word-written b x e)))) (kind, same)
 
 pub holds-all : {slots : Slots} {fb fw : ℕ} {b : Block} {n : ℕ} {old held : List ℕ
-    → NameValue} {before bits : Spots} → Given slots fb fw b → Stands slots b n old before n held bits
+    → NameValue} {before bits : Spots} → Given slots fb fw b
+    → Stands slots b n old before n held bits
     → (x : List ℕ) → is_among (written_names (Visit b)) x ≡ true → Holds n slots held bits x
 holds-all {b = b} g st x e = elim (among-either (state_names b) (word_names b) x e) [
   | inl s ↦

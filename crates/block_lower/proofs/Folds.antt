@@ -14,11 +14,13 @@ use Rattle.block_lower.specs.Inputs.{name_at}
 use Rattle.block_lower.proofs.Names.{name-true, name-same, name-other, cases_name, among-is}
 use Rattle.block_lower.proofs.Rows.{position}
 
-pub changed-same : (names : List ℕ → NameValue) (name : List ℕ) (v : NameValue) (x : List ℕ) → x ≡ name
+pub changed-same : (names : List ℕ → NameValue) (name : List ℕ) (v : NameValue) (x : List ℕ)
+    → x ≡ name
     → changed names name v x ≡ v
 changed-same names name v x e = cond-true (bytes_eq x name) v (names x) (name-same x name e)
 
-pub changed-other : (names : List ℕ → NameValue) (name : List ℕ) (v : NameValue) (x : List ℕ) → (x ≡ name → ⊥)
+pub changed-other : (names : List ℕ → NameValue) (name : List ℕ) (v : NameValue) (x : List ℕ)
+    → (x ≡ name → ⊥)
     → changed names name v x ≡ names x
 changed-other names name v x ne = cond-false (bytes_eq x name) v (names x) (name-other x name ne)
 

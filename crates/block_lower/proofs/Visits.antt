@@ -7,7 +7,8 @@ use Rattle.std.proofs.lemmas.List.{length-set, get_or-set_same, get_or-set_other
 use Rattle.op_text.specs.declared.tree.Kind.{Kind}
 use Rattle.op_text.specs.declared.tree.Kind.TheVariants.{Word, Bit}
 use Rattle.op_text.specs.Language.{Equation, Block, Visit, Nought}
-use Rattle.op_text.specs.Meaning.{NameValue, term_bit, with_lets, bit_read, bit_written, visited, width}
+use Rattle.op_text.specs.Meaning.{NameValue, term_bit, with_lets, bit_read, bit_written, visited}
+use Rattle.op_text.specs.Meaning.{width}
 use Rattle.op_text.specs.Rules.{is_among}
 use Rattle.op_text.specs.Scratch.{state_names, word_names}
 use Rattle.loop_ir.specs.Plain.{Block as Body}

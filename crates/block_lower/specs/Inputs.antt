@@ -18,7 +18,7 @@ block_from down states lets assigns = record {
   assigns = map equation assigns;
 }
 
--- the names that are known, and behind them those of a list that are not, each once
+-- the names that are known, and after them those of a list that are not, each once
 abbrev pub gathered : List (List ℕ) → List (List ℕ) → List (List ℕ)
 gathered known [] = known
 gathered known (name ∷ names) = gathered (if is_among known name then known

@@ -24,7 +24,7 @@ pub(crate) struct Inputs {
     pub order: Vec<Name>,
 }
 
-/// The names that an expression reads, behind those that were found.
+/// The names that an expression reads, after those that were found.
 fn find(found: &mut Vec<Name>, e: &Expr) -> Result<(), NoMemory>
     ensures { OnOk result (found.new.items ≡ found.old.items ++ term_names (term e.now)) }
 {

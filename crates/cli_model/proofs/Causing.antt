@@ -3,7 +3,7 @@ use Rattle.std.proofs.Common.{◌≡◌, ◌⊎◌, ℕ, ◌<◌, List, [], ◌�
 use Rattle.std.proofs.Common.{refl, sym, ◌∙◌, ap, subst, inl, inr}
 use Rattle.std.specs.Prelude.{IfSome}
 use Rattle.std.proofs.lemmas.Bool.{lt-ltb, le-ltb}
-use Rattle.host_edge.specs.Views.{Files, Told}
+use Rattle.host_edge.specs.Views.{Files, Known}
 use Rattle.cli_model.specs.World.{World, with_file}
 use Rattle.cli_model.specs.Steps.{Step, Load, Take, Store, Open, Use, Put, Print}
 use Rattle.cli_model.specs.Steps.{Refusal, Reason}
@@ -21,7 +21,7 @@ Decided steps end files = (end ≡ foreseen steps files)
 abbrev pub HasHeld : Option Files → List ℕ → List ℕ → Type 0
 HasHeld holds name text = IfSome holds (λ files. files name ≡ Some text)
 
--- a file that is told has the bytes that it was loaded with
+-- a file that is known has the bytes that it was loaded with
 pub bytes_at : (holds : Option Files) (files : Files) (name text : List ℕ) → holds ≡ Some files
     → HasHeld holds name text → files name ≡ Some text
 bytes_at None files name text e p = absurd (cc)
@@ -63,16 +63,16 @@ load_fails : (name : List ℕ) (limit : ℕ) (text : List ℕ) (refusal : Option
     (steps : List Step) (reason : Reason) (a b : World) (files : Files)
     → LoadFails name limit text refusal reason a b → a.files.holds ≡ Some files
     → Decided (Load name limit text refusal ∷ steps) (Stopped reason) files
-load_fails name limit text refusal steps (CannotRead told) a b files f e =
-    inr (CannotRead told, refl, tt)
-load_fails name limit text refusal steps (TooLong told) a b files f e =
+load_fails name limit text refusal steps (CannotRead said) a b files f e =
+    inr (CannotRead said, refl, tt)
+load_fails name limit text refusal steps (TooLong said) a b files f e =
     inl (sym (longer_end name limit refusal (foreseen steps files) files
     (longer_at a.files.holds files limit name e f.3) ∙ ap (λ n. Stopped (TooLong n)) (sym f.0)))
 load_fails name limit text refusal steps (Refused r) a b files f e =
     inl (sym (loaded_end name limit text refusal (foreseen steps files) a b files f.1 e
     ∙ rw f.0 refl))
 load_fails name limit text refusal steps NoMemory a b files f e = inr (NoMemory, refl, tt)
-load_fails name limit text refusal steps (CannotWrite told) a b files f e = elim f [ ]
+load_fails name limit text refusal steps (CannotWrite said) a b files f e = elim f [ ]
 load_fails name limit text refusal steps PutFailed a b files f e = elim f [ ]
 load_fails name limit text refusal steps ChipFailed a b files f e = elim f [ ]
 
@@ -102,12 +102,12 @@ step_fails (Print bytes) steps (Stopped reason) a b files (p, inl f) e =
 step_fails (Print bytes) steps (Stopped reason) a b files (p, inr f) e =
     inr (reason, refl, fault_of reason ChipFailed f.0 tt)
 
--- what is told before is told afterwards
-pub told_new : (R : Files → Files → Type 0) (old new : Option Files) (files : Files)
-    → Told R old new → old ≡ Some files → (after : Files) × (new ≡ Some after) × R files after
-told_new R None new files t e = absurd (cc)
-told_new R (Some before) None files t e = absurd t
-told_new R (Some before) (Some after) files t e = let same : before ≡ files = cc in
+-- what is known before is known afterwards
+pub known_new : (R : Files → Files → Type 0) (old new : Option Files) (files : Files)
+    → Known R old new → old ≡ Some files → (after : Files) × (new ≡ Some after) × R files after
+known_new R None new files t e = absurd (cc)
+known_new R (Some before) None files t e = absurd t
+known_new R (Some before) (Some after) files t e = let same : before ≡ files = cc in
     (after, refl, subst (λ (f : Files). R f after) same t)
 
 pub files_decide : (steps : List Step) (end : End) (old new : World) (files : Files)
@@ -125,7 +125,7 @@ files_decide (Take ∷ steps) end a b files (inl (mid, (d, g))) e =
     decided_by (Take ∷ steps) steps end files files refl
     (files_decide steps end mid b files g (d.files ∙ e))
 files_decide (Store name bytes ∷ steps) end a b files (inl (mid, (d, g))) e =
-    let next = told_new (λ before after. after ≡ with_file name bytes before) a.files.holds
+    let next = known_new (λ before after. after ≡ with_file name bytes before) a.files.holds
     mid.files.holds files d.files e in
     decided_by (Store name bytes ∷ steps) steps end files next.0 (ap (foreseen steps) next.2)
     (files_decide steps end mid b next.0 g next.1)

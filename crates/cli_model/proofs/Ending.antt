@@ -2,7 +2,7 @@
 use Rattle.std.proofs.Common.{◌≡◌, ℕ, ◌+◌, ◌≤◌, List, [], ◌∷◌, ◌++◌, Option, Some, None, refl}
 use Rattle.std.proofs.Common.{sym, ◌∙◌, ap, subst, inl, inr, arith, append_assoc, append-nil}
 use Rattle.std.specs.Prelude.{IfSome}
-use Rattle.host_edge.specs.Views.{Files, Told, AppendsPart, IsPrefix}
+use Rattle.host_edge.specs.Views.{Files, Known, AppendsPart, IsPrefix}
 use Rattle.fault_counts.specs.Counts.{Rose, RoseBy}
 use Rattle.cli_model.specs.World.{World}
 use Rattle.cli_model.specs.Steps.{Step, Load, Take, Store, Open, Use, Put, Print, Reason}
@@ -16,7 +16,7 @@ use Rattle.cli_model.specs.Ends.{Stop, All, At, Causes, LastOfPrint, IsLast, App
 use Rattle.cli_model.specs.Ends.{Sends, IsStoreOf, LeavesFiles, IsFault, IsForetold, Ends}
 use Rattle.cli_model.specs.Laws.{FirstDecides}
 use Rattle.cli_model.proofs.Causing.{Decided, files_decide}
-use Rattle.cli_model.proofs.Going.{within, more_counts, told_sent, all_stand}
+use Rattle.cli_model.proofs.Going.{within, more_counts, known_sent, all_stand}
 use Rattle.cli_model.proofs.Going.{all_off, stopped_at}
 
 -- why a step fails
@@ -24,11 +24,11 @@ use Rattle.cli_model.proofs.Going.{all_off, stopped_at}
 load_causes : (name : List ℕ) (limit : ℕ) (text : List ℕ) (refusal : _) (reason : Reason)
     (a b : World) → Fails (Load name limit text refusal) reason a b
     → Causes (Load name limit text refusal) reason a b
-load_causes name limit text refusal (CannotRead told) a b f = (f.0, f.2)
-load_causes name limit text refusal (TooLong told) a b f = (f.0, f.2)
+load_causes name limit text refusal (CannotRead said) a b f = (f.0, f.2)
+load_causes name limit text refusal (TooLong said) a b f = (f.0, f.2)
 load_causes name limit text refusal (Refused r) a b f = f.0
 load_causes name limit text refusal NoMemory a b f = tt
-load_causes name limit text refusal (CannotWrite told) a b f = f
+load_causes name limit text refusal (CannotWrite said) a b f = f
 load_causes name limit text refusal PutFailed a b f = f
 load_causes name limit text refusal ChipFailed a b f = f
 
@@ -52,13 +52,13 @@ load_causes_around : (name : List ℕ) (limit : ℕ) (text : List ℕ) (refusal 
     (a b c d : World) → CountsOn a b → CountsOn c d
     → Causes (Load name limit text refusal) reason b c
     → Causes (Load name limit text refusal) reason a d
-load_causes_around name limit text refusal (CannotRead told) a b c d p q f =
+load_causes_around name limit text refusal (CannotRead said) a b c d p q f =
     (f.0, around _ _ _ _ 1 (p.files.load_faults name) f.1 (q.files.load_faults name))
-load_causes_around name limit text refusal (TooLong told) a b c d p q f =
+load_causes_around name limit text refusal (TooLong said) a b c d p q f =
     (f.0, around _ _ _ _ (limit + 1) p.files.taken f.1 q.files.taken)
 load_causes_around name limit text refusal (Refused r) a b c d p q f = f
 load_causes_around name limit text refusal NoMemory a b c d p q f = tt
-load_causes_around name limit text refusal (CannotWrite told) a b c d p q f = f
+load_causes_around name limit text refusal (CannotWrite said) a b c d p q f = f
 load_causes_around name limit text refusal PutFailed a b c d p q f = f
 load_causes_around name limit text refusal ChipFailed a b c d p q f = f
 
@@ -83,27 +83,27 @@ causes_around (Print bytes) reason a b c d p q (inr f) =
 no_more_than : (a b c : ℕ) → a ≤ b → b ≤ c → a ≤ c
 no_more_than a b c p q = omega (arith, p, q)
 
-told_part : (certain last : List ℕ) (a b c : Option (List ℕ))
-    → Told (λ x y. y ≡ x ++ certain) a b → Told (AppendsPart last) b c
-    → Told (AppendsAfter certain last) a c
-told_part certain last None b c p q = tt
-told_part certain last (Some x) None c p q = absurd p
-told_part certain last (Some x) (Some y) None p q = absurd q
-told_part certain last (Some x) (Some y) (Some z) p (part, (is, e)) =
+known_part : (certain last : List ℕ) (a b c : Option (List ℕ))
+    → Known (λ x y. y ≡ x ++ certain) a b → Known (AppendsPart last) b c
+    → Known (AppendsAfter certain last) a c
+known_part certain last None b c p q = tt
+known_part certain last (Some x) None c p q = absurd p
+known_part certain last (Some x) (Some y) None p q = absurd q
+known_part certain last (Some x) (Some y) (Some z) p (part, (is, e)) =
     (part, (is, e ∙ ap (λ w. w ++ part) p ∙ append_assoc x certain part))
 
--- a line behind what was sent
+-- a line after what was sent
 line_sent : (certain line : List ℕ) (a b c d : World)
-    → Told (λ x y. y ≡ x ++ certain) a.sink.sent b.sink.sent → a.sink.faults ≤ b.sink.faults
+    → Known (λ x y. y ≡ x ++ certain) a.sink.sent b.sink.sent → a.sink.faults ≤ b.sink.faults
     → c.sink ≡ b.sink → Says line c d → Sends certain line a d
 line_sent certain line a b c d t l e s =
-    let before : Told (λ x y. y ≡ x ++ certain) a.sink.sent c.sink.sent =
-    subst (λ (k : _). Told (λ x y. y ≡ x ++ certain) a.sink.sent k.sent) (sym e) t in
+    let before : Known (λ x y. y ≡ x ++ certain) a.sink.sent c.sink.sent =
+    subst (λ (k : _). Known (λ x y. y ≡ x ++ certain) a.sink.sent k.sent) (sym e) t in
     let below : a.sink.faults ≤ c.sink.faults =
     subst (λ (k : _). a.sink.faults ≤ k.faults) (sym e) l in
     elim s.sent as (λ _. Sends certain line a d) [
-      | inl whole ↦ inl (told_sent certain line _ _ _ before whole)
-      | inr part ↦ inr (within _ _ _ 1 below part.0, told_part certain line _ _ _ before part.1)
+      | inl whole ↦ inl (known_sent certain line _ _ _ before whole)
+      | inr part ↦ inr (within _ _ _ 1 below part.0, known_part certain line _ _ _ before part.1)
     ]
 
 no_part : (part rest : List ℕ) → part ++ rest ≡ [] → part ≡ []
@@ -114,55 +114,55 @@ nothing_more : (x y : List ℕ) → AppendsPart [] x y → y ≡ x
 nothing_more x y (part, ((rest, p), e)) =
     e ∙ ap (λ w. x ++ w) (no_part part rest p) ∙ append-nil x
 
-told_nothing : (a b : Option (List ℕ)) → Told (AppendsPart []) a b → Told (λ x y. y ≡ x) a b
-told_nothing None b t = tt
-told_nothing (Some x) None t = absurd t
-told_nothing (Some x) (Some y) t = nothing_more x y t
+known_nothing : (a b : Option (List ℕ)) → Known (AppendsPart []) a b → Known (λ x y. y ≡ x) a b
+known_nothing None b t = tt
+known_nothing (Some x) None t = absurd t
+known_nothing (Some x) (Some y) t = nothing_more x y t
 
-told_empty : (a b : Option (List ℕ)) → Told (λ x y. y ≡ x ++ []) a b → Told (λ x y. y ≡ x) a b
-told_empty None b t = tt
-told_empty (Some x) None t = absurd t
-told_empty (Some x) (Some y) t = t ∙ append-nil x
+known_empty : (a b : Option (List ℕ)) → Known (λ x y. y ≡ x ++ []) a b → Known (λ x y. y ≡ x) a b
+known_empty None b t = tt
+known_empty (Some x) None t = absurd t
+known_empty (Some x) (Some y) t = t ∙ append-nil x
 
-says_nothing : (a b : World) → Says [] a b → Told (λ x y. y ≡ x) a.sink.sent b.sink.sent
-says_nothing a b s = elim s.sent as (λ _. Told (λ x y. y ≡ x) a.sink.sent b.sink.sent) [
-  | inl whole ↦ told_empty _ _ whole
-  | inr part ↦ told_nothing _ _ part.1
+says_nothing : (a b : World) → Says [] a b → Known (λ x y. y ≡ x) a.sink.sent b.sink.sent
+says_nothing a b s = elim s.sent as (λ _. Known (λ x y. y ≡ x) a.sink.sent b.sink.sent) [
+  | inl whole ↦ known_empty _ _ whole
+  | inr part ↦ known_nothing _ _ part.1
 ]
 
-told_then_same : (bytes : List ℕ) (a b c : Option (List ℕ)) → Told (AppendsPart bytes) a b
-    → Told (λ x y. y ≡ x) b c → Told (AppendsPart bytes) a c
-told_then_same bytes None b c p q = tt
-told_then_same bytes (Some x) None c p q = absurd p
-told_then_same bytes (Some x) (Some y) None p q = absurd q
-told_then_same bytes (Some x) (Some y) (Some z) p q = subst (AppendsPart bytes x) (sym q) p
+known_then_same : (bytes : List ℕ) (a b c : Option (List ℕ)) → Known (AppendsPart bytes) a b
+    → Known (λ x y. y ≡ x) b c → Known (AppendsPart bytes) a c
+known_then_same bytes None b c p q = tt
+known_then_same bytes (Some x) None c p q = absurd p
+known_then_same bytes (Some x) (Some y) None p q = absurd q
+known_then_same bytes (Some x) (Some y) (Some z) p q = subst (AppendsPart bytes x) (sym q) p
 
 load_sink : (name : List ℕ) (limit : ℕ) (text : List ℕ) (refusal : _) (reason : Reason)
     (a b : World) → Fails (Load name limit text refusal) reason a b → b.sink ≡ a.sink
-load_sink name limit text refusal (CannotRead told) a b f = f.1.sink
-load_sink name limit text refusal (TooLong told) a b f = f.1.sink
+load_sink name limit text refusal (CannotRead said) a b f = f.1.sink
+load_sink name limit text refusal (TooLong said) a b f = f.1.sink
 load_sink name limit text refusal (Refused r) a b f = f.1.reads.sink
 load_sink name limit text refusal NoMemory a b f = f.sink
-load_sink name limit text refusal (CannotWrite told) a b f = elim f [ ]
+load_sink name limit text refusal (CannotWrite said) a b f = elim f [ ]
 load_sink name limit text refusal PutFailed a b f = elim f [ ]
 load_sink name limit text refusal ChipFailed a b f = elim f [ ]
 
 put_sent : (certain bytes : List ℕ) (reason : Reason) (a b c d : World)
-    → Told (λ x y. y ≡ x ++ certain) a.sink.sent b.sink.sent → a.sink.faults ≤ b.sink.faults
-    → Rose b.sink.faults c.sink.faults → Told (AppendsPart bytes) b.sink.sent c.sink.sent
+    → Known (λ x y. y ≡ x ++ certain) a.sink.sent b.sink.sent → a.sink.faults ≤ b.sink.faults
+    → Rose b.sink.faults c.sink.faults → Known (AppendsPart bytes) b.sink.sent c.sink.sent
     → reason ≡ PutFailed → Says (reason_line reason) c d → Sends certain bytes a d
 put_sent certain bytes reason a b c d t l rose part is s =
     let says : Says [] c d = subst (λ (r : Reason). Says (reason_line r) c d) is s in
     inr (
       around _ _ _ _ 1 l rose says.faults,
-      told_part certain bytes _ _ _ t
-          (told_then_same bytes _ _ _ part (says_nothing c d says)),
+      known_part certain bytes _ _ _ t
+          (known_then_same bytes _ _ _ part (says_nothing c d says)),
     )
 
--- a line behind a part of another
+-- a line after a part of another
 part_sent : (certain bytes : List ℕ) (a b c : Option (List ℕ))
-    → Told (λ x y. y ≡ x ++ certain) a b → Told (AppendsPart bytes) b c
-    → (part : List ℕ) × IsPrefix part bytes × Told (λ x y. y ≡ x ++ (certain ++ part)) a c
+    → Known (λ x y. y ≡ x ++ certain) a b → Known (AppendsPart bytes) b c
+    → (part : List ℕ) × IsPrefix part bytes × Known (λ x y. y ≡ x ++ (certain ++ part)) a c
 part_sent certain bytes None b c p q = ([], (bytes, refl), tt)
 part_sent certain bytes (Some x) None c p q = absurd p
 part_sent certain bytes (Some x) (Some y) None p q = absurd q
@@ -179,24 +179,24 @@ longer_part certain part line x y (more, ((rest, is), e)) = (
   ),
 )
 
-told_longer : (certain part line : List ℕ) (a b : Option (List ℕ))
-    → Told (AppendsAfter (certain ++ part) line) a b
-    → Told (AppendsAfter certain (part ++ line)) a b
-told_longer certain part line None b t = tt
-told_longer certain part line (Some x) None t = absurd t
-told_longer certain part line (Some x) (Some y) t = longer_part certain part line x y t
+known_longer : (certain part line : List ℕ) (a b : Option (List ℕ))
+    → Known (AppendsAfter (certain ++ part) line) a b
+    → Known (AppendsAfter certain (part ++ line)) a b
+known_longer certain part line None b t = tt
+known_longer certain part line (Some x) None t = absurd t
+known_longer certain part line (Some x) (Some y) t = longer_part certain part line x y t
 
-told_joined : (certain part line : List ℕ) (a b : Option (List ℕ))
-    → Told (λ x y. y ≡ x ++ ((certain ++ part) ++ line)) a b
-    → Told (λ x y. y ≡ x ++ (certain ++ (part ++ line))) a b
-told_joined certain part line None b t = tt
-told_joined certain part line (Some x) None t = absurd t
-told_joined certain part line (Some x) (Some y) t =
+known_joined : (certain part line : List ℕ) (a b : Option (List ℕ))
+    → Known (λ x y. y ≡ x ++ ((certain ++ part) ++ line)) a b
+    → Known (λ x y. y ≡ x ++ (certain ++ (part ++ line))) a b
+known_joined certain part line None b t = tt
+known_joined certain part line (Some x) None t = absurd t
+known_joined certain part line (Some x) (Some y) t =
     t ∙ ap (λ w. x ++ w) (append_assoc certain part line)
 
 print_sent : (certain bytes line : List ℕ) (a b c d : World)
-    → Told (λ x y. y ≡ x ++ certain) a.sink.sent b.sink.sent → a.sink.faults ≤ c.sink.faults
-    → Told (AppendsPart bytes) b.sink.sent c.sink.sent → Says line c d
+    → Known (λ x y. y ≡ x ++ certain) a.sink.sent b.sink.sent → a.sink.faults ≤ c.sink.faults
+    → Known (AppendsPart bytes) b.sink.sent c.sink.sent → Says line c d
     → (part : List ℕ) × IsPrefix part bytes × Sends certain (part ++ line) a d
 print_sent certain bytes line a b c d t l p s =
     let cut = part_sent certain bytes _ _ _ t p in (
@@ -204,13 +204,13 @@ print_sent certain bytes line a b c d t l p s =
       cut.1,
       elim (line_sent (certain ++ cut.0) line a c c d cut.2 l refl s)
           as (λ _. Sends certain (cut.0 ++ line) a d) [
-            | inl whole ↦ inl (told_joined certain cut.0 line _ _ whole)
-            | inr (rose, told) ↦ inr (rose, told_longer certain cut.0 line _ _ told)
+            | inl whole ↦ inl (known_joined certain cut.0 line _ _ whole)
+            | inr (rose, said) ↦ inr (rose, known_longer certain cut.0 line _ _ said)
           ],
     )
 
 stop_sent : (certain : List ℕ) (step : Step) (reason : Reason) (a b c d : World)
-    → Told (λ x y. y ≡ x ++ certain) a.sink.sent b.sink.sent → a.sink.faults ≤ b.sink.faults
+    → Known (λ x y. y ≡ x ++ certain) a.sink.sent b.sink.sent → a.sink.faults ≤ b.sink.faults
     → Fails step reason b c → Says (reason_line reason) c d
     → (last : List ℕ) × IsLast step reason last × Sends certain last a d
 stop_sent certain (Load name limit text refusal) reason a b c d t l f s = (
@@ -239,12 +239,12 @@ stop_sent certain (Print bytes) reason a b c d t l (p, inl f) s = (
 stop_sent certain (Print bytes) reason a b c d t l (p, inr f) s =
     let says : Says (reason_line ChipFailed) c d =
     subst (λ (r : Reason). Says (reason_line r) c d) f.0 s in
-    let told = print_sent certain bytes (reason_line ChipFailed) a b c d t
+    let said = print_sent certain bytes (reason_line ChipFailed) a b c d t
     (no_more_than _ _ _ l p.faults) p.sent says in (
-      told.0 ++ reason_line ChipFailed,
-      subst (λ (r : Reason). LastOfPrint bytes r (told.0 ++ reason_line ChipFailed)) (sym f.0)
-          (told.0, told.1, refl),
-      told.2,
+      said.0 ++ reason_line ChipFailed,
+      subst (λ (r : Reason). LastOfPrint bytes r (said.0 ++ reason_line ChipFailed)) (sym f.0)
+          (said.0, said.1, refl),
+      said.2,
     )
 
 -- which files stand
@@ -252,51 +252,51 @@ stop_sent certain (Print bytes) reason a b c d t l (p, inr f) s =
 abbrev KeepsBut : Step → Files → Files → Type 0
 KeepsBut step old new = (name : List ℕ) → (IsStoreOf name step → ⊥) → new name ≡ old name
 
-told_kept : (step : Step) (a b : Option Files) → b ≡ a → Told (KeepsBut step) a b
-told_kept step None b e = tt
-told_kept step (Some x) b e =
-    subst (λ (o : Option Files). Told (KeepsBut step) (Some x) o) (sym e) (λ name not. refl)
+known_kept : (step : Step) (a b : Option Files) → b ≡ a → Known (KeepsBut step) a b
+known_kept step None b e = tt
+known_kept step (Some x) b e =
+    subst (λ (o : Option Files). Known (KeepsBut step) (Some x) o) (sym e) (λ name not. refl)
 
 load_files : (name : List ℕ) (limit : ℕ) (text : List ℕ) (refusal : _) (reason : Reason)
     (a b : World) → Fails (Load name limit text refusal) reason a b
     → b.files.holds ≡ a.files.holds
-load_files name limit text refusal (CannotRead told) a b f = f.1.files
-load_files name limit text refusal (TooLong told) a b f = f.1.files
+load_files name limit text refusal (CannotRead said) a b f = f.1.files
+load_files name limit text refusal (TooLong said) a b f = f.1.files
 load_files name limit text refusal (Refused r) a b f = f.1.reads.files
 load_files name limit text refusal NoMemory a b f = f.files
-load_files name limit text refusal (CannotWrite told) a b f = elim f [ ]
+load_files name limit text refusal (CannotWrite said) a b f = elim f [ ]
 load_files name limit text refusal PutFailed a b f = elim f [ ]
 load_files name limit text refusal ChipFailed a b f = elim f [ ]
 
 fails_files : (step : Step) (reason : Reason) (a b : World) → Fails step reason a b
-    → Told (KeepsBut step) a.files.holds b.files.holds
+    → Known (KeepsBut step) a.files.holds b.files.holds
 fails_files (Load name limit text refusal) reason a b f =
-    told_kept (Load name limit text refusal) _ _ (load_files name limit text refusal reason a b f)
-fails_files Take reason a b f = told_kept Take _ _ f.1.files
+    known_kept (Load name limit text refusal) _ _ (load_files name limit text refusal reason a b f)
+fails_files Take reason a b f = known_kept Take _ _ f.1.files
 fails_files (Store name bytes) reason a b f = f.1.others
-fails_files Open reason a b (inl f) = told_kept Open _ _ (ap (λ k. k.holds) f.1.files)
-fails_files Open reason a b (inr f) = told_kept Open _ _ (ap (λ k. k.holds) f.1.files)
-fails_files Use reason a b f = told_kept Use _ _ (ap (λ k. k.holds) f.1.files)
-fails_files (Put bytes) reason a b f = told_kept (Put bytes) _ _ (ap (λ k. k.holds) f.1.files)
+fails_files Open reason a b (inl f) = known_kept Open _ _ (ap (λ k. k.holds) f.1.files)
+fails_files Open reason a b (inr f) = known_kept Open _ _ (ap (λ k. k.holds) f.1.files)
+fails_files Use reason a b f = known_kept Use _ _ (ap (λ k. k.holds) f.1.files)
+fails_files (Put bytes) reason a b f = known_kept (Put bytes) _ _ (ap (λ k. k.holds) f.1.files)
 fails_files (Print bytes) reason a b f =
-    told_kept (Print bytes) _ _ (ap (λ k. k.holds) f.0.files)
+    known_kept (Print bytes) _ _ (ap (λ k. k.holds) f.0.files)
 
-told_left : (stop : Stop) (a b c d : Option Files)
-    → Told (λ x y. y ≡ files_after stop.before x) a b → Told (KeepsBut stop.failed) b c → d ≡ c
-    → Told (LeavesFiles stop) a d
-told_left stop None b c d p q e = tt
-told_left stop (Some x) None c d p q e = absurd p
-told_left stop (Some x) (Some y) None d p q e = absurd q
-told_left stop (Some x) (Some y) (Some z) d p q e =
-    subst (λ (o : Option Files). Told (LeavesFiles stop) (Some x) o) (sym e)
+known_left : (stop : Stop) (a b c d : Option Files)
+    → Known (λ x y. y ≡ files_after stop.before x) a b → Known (KeepsBut stop.failed) b c → d ≡ c
+    → Known (LeavesFiles stop) a d
+known_left stop None b c d p q e = tt
+known_left stop (Some x) None c d p q e = absurd p
+known_left stop (Some x) (Some y) None d p q e = absurd q
+known_left stop (Some x) (Some y) (Some z) d p q e =
+    subst (λ (o : Option Files). Known (LeavesFiles stop) (Some x) o) (sym e)
     (λ name not. q name not ∙ ap (λ (f : Files). f name) p)
 
 -- what the files foretell
 
-if_told : (o : Option Files) (P : Files → Type 0) → ((files : Files) → o ≡ Some files → P files)
+if_known : (o : Option Files) (P : Files → Type 0) → ((files : Files) → o ≡ Some files → P files)
     → IfSome o P
-if_told None P h = tt
-if_told (Some files) P h = h files refl
+if_known None P h = tt
+if_known (Some files) P h = h files refl
 
 done_foretold : (steps : List Step) (files : Files) → Decided steps Done files
     → IsForetold steps All files
@@ -330,11 +330,11 @@ same_world steps a b c e s = subst (Stands steps a) (sym e) s
 
 load_unopened : (name : List ℕ) (limit : ℕ) (text : List ℕ) (refusal : _) (reason : Reason)
     (a b : World) → Fails (Load name limit text refusal) reason a b → b.chip ≡ a.chip
-load_unopened name limit text refusal (CannotRead told) a b f = f.1.chip
-load_unopened name limit text refusal (TooLong told) a b f = f.1.chip
+load_unopened name limit text refusal (CannotRead said) a b f = f.1.chip
+load_unopened name limit text refusal (TooLong said) a b f = f.1.chip
 load_unopened name limit text refusal (Refused r) a b f = f.1.reads.chip
 load_unopened name limit text refusal NoMemory a b f = f.chip
-load_unopened name limit text refusal (CannotWrite told) a b f = elim f [ ]
+load_unopened name limit text refusal (CannotWrite said) a b f = elim f [ ]
 load_unopened name limit text refusal PutFailed a b f = elim f [ ]
 load_unopened name limit text refusal ChipFailed a b f = elim f [ ]
 
@@ -366,7 +366,7 @@ all_ends steps done a b c status g e answers =
     let ends : Ends steps done a c status = record {
       ended = All;
       so = record { answers = answers; sent = stands.sent; files = stands.files };
-      foretold = if_told a.files.holds (IsForetold steps All)
+      foretold = if_known a.files.holds (IsForetold steps All)
           (λ files there. done_foretold steps files (files_decide steps Done a b files g there));
       counts = stands.counts;
       chip = λ off. ap (λ w. w.chip) e ∙ all_off steps a b g off;
@@ -381,7 +381,7 @@ pub stop_ends : (steps : List Step) (done : ℕ) (reason : Reason) (a b c : Worl
 stop_ends steps done reason a b c status g says answers =
     let s = stopped_at steps reason a b g in
     let stop : Stop =
-    record { before = s.front; failed = s.at; behind = s.rest; reason = reason } in
+    record { before = s.front; failed = s.at; following = s.rest; reason = reason } in
     let ends : Ends steps done a c status = record {
       ended = At stop;
       so = record {
@@ -391,10 +391,10 @@ stop_ends steps done reason a b c status g says answers =
             (fails_causes s.at reason s.failing b s.fails);
         sent = stop_sent (sent_by s.front) s.at reason a s.failing b c s.stands.sent
             s.stands.counts.sink s.fails says;
-        files = told_left stop _ _ _ _ s.stands.files
+        files = known_left stop _ _ _ _ s.stands.files
             (fails_files s.at reason s.failing b s.fails) (ap (λ f. f.holds) says.files);
       };
-      foretold = if_told a.files.holds (IsForetold steps (At stop))
+      foretold = if_known a.files.holds (IsForetold steps (At stop))
           (λ files there. stop_foretold steps stop files
           (files_decide s.front Done a s.failing files s.goes there)
           (files_decide steps (Stopped reason) a b files g there));

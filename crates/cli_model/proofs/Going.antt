@@ -3,13 +3,14 @@ use Rattle.std.proofs.Common.{◌≡◌, ℕ, ◌≤◌, List, [], ◌∷◌, �
 use Rattle.std.proofs.Common.{◌∙◌, ap, subst, inl, inr, arith, append_assoc, append-nil}
 use Rattle.std.specs.Prelude.{false}
 use Rattle.std.specs.List.{list_any}
-use Rattle.host_edge.specs.Views.{Files, FolderView, NoCountFalls, Told}
+use Rattle.host_edge.specs.Views.{Files, FolderView, NoCountFalls, Known}
 use Rattle.fault_counts.specs.Counts.{RoseBy}
 use Rattle.cli_model.specs.World.{World}
 use Rattle.cli_model.specs.Steps.{Step, Load, Take, Store, Open, Use, Put, Print, Reason}
 use Rattle.cli_model.specs.Steps.{CannotRead, TooLong, Refused, NoMemory, CannotWrite, PutFailed}
 use Rattle.cli_model.specs.Steps.{ChipFailed}
-use Rattle.cli_model.specs.Steps.{End, Done, Stopped, Goes, StepDone, Fails, ReadsOnly, Stored, Used}
+use Rattle.cli_model.specs.Steps.{End, Done, Stopped, Goes, StepDone, Fails, ReadsOnly, Stored}
+use Rattle.cli_model.specs.Steps.{Used}
 use Rattle.cli_model.specs.Steps.{Sent, Printed, Unstored}
 use Rattle.cli_model.specs.Stands.{files_after, sent_by, CountsOn, Stands}
 use Rattle.cli_model.specs.Ends.{is_on_chip}
@@ -117,11 +118,11 @@ does_count (Print bytes) a b d = printed_count _ a b d
 
 load_fails_count : (name : List ℕ) (limit : ℕ) (text : List ℕ) (refusal : _) (reason : Reason)
     (a b : World) → Fails (Load name limit text refusal) reason a b → CountsOn a b
-load_fails_count name limit text refusal (CannotRead told) a b f = reads_count a b f.1
-load_fails_count name limit text refusal (TooLong told) a b f = reads_count a b f.1
+load_fails_count name limit text refusal (CannotRead said) a b f = reads_count a b f.1
+load_fails_count name limit text refusal (TooLong said) a b f = reads_count a b f.1
 load_fails_count name limit text refusal (Refused r) a b f = reads_count a b f.1.reads
 load_fails_count name limit text refusal NoMemory a b f = reads_count a b f
-load_fails_count name limit text refusal (CannotWrite told) a b f = elim f [ ]
+load_fails_count name limit text refusal (CannotWrite said) a b f = elim f [ ]
 load_fails_count name limit text refusal PutFailed a b f = elim f [ ]
 load_fails_count name limit text refusal ChipFailed a b f = elim f [ ]
 
@@ -137,66 +138,66 @@ fails_count Use reason a b f = used_count a b f.1
 fails_count (Put bytes) reason a b f = sent_count _ a b f.1
 fails_count (Print bytes) reason a b f = printed_count _ a b f.0
 
-pub told_same : {A : Type 0} (a b : Option A) → b ≡ a → Told (λ x y. y ≡ x) a b
-told_same None b e = tt
-told_same (Some x) b e = subst (λ o. Told (λ x y. y ≡ x) (Some x) o) (sym e) refl
+pub known_same : {A : Type 0} (a b : Option A) → b ≡ a → Known (λ x y. y ≡ x) a b
+known_same None b e = tt
+known_same (Some x) b e = subst (λ o. Known (λ x y. y ≡ x) (Some x) o) (sym e) refl
 
-told_then : {A : Type 0} (f g : A → A) (a b c : Option A) → Told (λ x y. y ≡ f x) a b
-    → Told (λ x y. y ≡ g x) b c → Told (λ x y. y ≡ g (f x)) a c
-told_then f g None b c p q = tt
-told_then f g (Some x) None c p q = absurd p
-told_then f g (Some x) (Some y) None p q = absurd q
-told_then f g (Some x) (Some y) (Some z) p q = q ∙ ap g p
+known_then : {A : Type 0} (f g : A → A) (a b c : Option A) → Known (λ x y. y ≡ f x) a b
+    → Known (λ x y. y ≡ g x) b c → Known (λ x y. y ≡ g (f x)) a c
+known_then f g None b c p q = tt
+known_then f g (Some x) None c p q = absurd p
+known_then f g (Some x) (Some y) None p q = absurd q
+known_then f g (Some x) (Some y) (Some z) p q = q ∙ ap g p
 
-pub told_sent : (first rest : List ℕ) (a b c : Option (List ℕ)) → Told (λ x y. y ≡ x ++ first) a b
-    → Told (λ x y. y ≡ x ++ rest) b c → Told (λ x y. y ≡ x ++ (first ++ rest)) a c
-told_sent first rest None b c p q = tt
-told_sent first rest (Some x) None c p q = absurd p
-told_sent first rest (Some x) (Some y) None p q = absurd q
-told_sent first rest (Some x) (Some y) (Some z) p q = q ∙ ap (λ w. w ++ rest) p
+pub known_sent : (first rest : List ℕ) (a b c : Option (List ℕ)) → Known (λ x y. y ≡ x ++ first) a b
+    → Known (λ x y. y ≡ x ++ rest) b c → Known (λ x y. y ≡ x ++ (first ++ rest)) a c
+known_sent first rest None b c p q = tt
+known_sent first rest (Some x) None c p q = absurd p
+known_sent first rest (Some x) (Some y) None p q = absurd q
+known_sent first rest (Some x) (Some y) (Some z) p q = q ∙ ap (λ w. w ++ rest) p
     ∙ append_assoc x first rest
 
-told_unsent : (a b : Option (List ℕ)) → b ≡ a → Told (λ x y. y ≡ x ++ []) a b
-told_unsent None b e = tt
-told_unsent (Some x) b e = subst (λ o. Told (λ x y. y ≡ x ++ []) (Some x) o) (sym e)
+known_unsent : (a b : Option (List ℕ)) → b ≡ a → Known (λ x y. y ≡ x ++ []) a b
+known_unsent None b e = tt
+known_unsent (Some x) b e = subst (λ o. Known (λ x y. y ≡ x ++ []) (Some x) o) (sym e)
     (sym (append-nil x))
 
 -- what stands after one step
 pub one_stands : (step : Step) (a b : World) → StepDone step a b → Stands (step ∷ []) a b
 one_stands (Load name limit text refusal) a b d =
     record {
-      files = told_same _ _ d.1.reads.files;
-      sent = told_unsent _ _ (ap (λ s. s.sent) d.1.reads.sink);
+      files = known_same _ _ d.1.reads.files;
+      sent = known_unsent _ _ (ap (λ s. s.sent) d.1.reads.sink);
       counts =
           does_count (Load name limit text refusal) a b d;
     }
 one_stands Take a b d = record {
-  files = told_same _ _ d.files;
-  sent = told_unsent _ _ (ap (λ s. s.sent) d.sink);
+  files = known_same _ _ d.files;
+  sent = known_unsent _ _ (ap (λ s. s.sent) d.sink);
   counts = does_count Take a b d;
 }
 one_stands (Store name bytes) a b d = record {
   files = d.files;
-  sent = told_unsent _ _ (ap (λ s. s.sent) d.sink);
+  sent = known_unsent _ _ (ap (λ s. s.sent) d.sink);
   counts = does_count (Store name bytes) a b d;
 }
 one_stands Open a b d = record {
-  files = told_same _ _ (ap (λ f. f.holds) d.files);
-  sent = told_unsent _ _ (ap (λ s. s.sent) d.sink);
+  files = known_same _ _ (ap (λ f. f.holds) d.files);
+  sent = known_unsent _ _ (ap (λ s. s.sent) d.sink);
   counts = does_count Open a b d;
 }
 one_stands Use a b d = record {
-  files = told_same _ _ (ap (λ f. f.holds) d.files);
-  sent = told_unsent _ _ (ap (λ s. s.sent) d.sink);
+  files = known_same _ _ (ap (λ f. f.holds) d.files);
+  sent = known_unsent _ _ (ap (λ s. s.sent) d.sink);
   counts = does_count Use a b d;
 }
 one_stands (Put bytes) a b d = record {
-  files = told_same _ _ (ap (λ f. f.holds) d.files);
+  files = known_same _ _ (ap (λ f. f.holds) d.files);
   sent = rw append-nil d.sent;
   counts = does_count (Put bytes) a b d;
 }
 one_stands (Print bytes) a b d = record {
-  files = told_same _ _ (ap (λ f. f.holds) d.files);
+  files = known_same _ _ (ap (λ f. f.holds) d.files);
   sent = rw append-nil d.sent;
   counts = does_count (Print bytes) a b d;
 }
@@ -221,13 +222,13 @@ sent_by-cons Use steps = refl
 sent_by-cons (Put bytes) steps = rw append-nil refl
 sent_by-cons (Print bytes) steps = rw append-nil refl
 
-told_files : (step : Step) (steps : List Step) (a b c : Option Files)
-    → Told (λ x y. y ≡ files_after (step ∷ []) x) a b → Told (λ x y. y ≡ files_after steps x) b c
-    → Told (λ x y. y ≡ files_after (step ∷ steps) x) a c
-told_files step steps None b c p q = tt
-told_files step steps (Some x) None c p q = absurd p
-told_files step steps (Some x) (Some y) None p q = absurd q
-told_files step steps (Some x) (Some y) (Some z) p q = q ∙ ap (files_after steps) p
+known_files : (step : Step) (steps : List Step) (a b c : Option Files)
+    → Known (λ x y. y ≡ files_after (step ∷ []) x) a b → Known (λ x y. y ≡ files_after steps x) b c
+    → Known (λ x y. y ≡ files_after (step ∷ steps) x) a c
+known_files step steps None b c p q = tt
+known_files step steps (Some x) None c p q = absurd p
+known_files step steps (Some x) (Some y) None p q = absurd q
+known_files step steps (Some x) (Some y) (Some z) p q = q ∙ ap (files_after steps) p
     ∙ sym (files_after-cons step steps x)
 
 pub more_stand : (step : Step) (steps : List Step) (a b c : World) → StepDone step a b
@@ -235,16 +236,16 @@ pub more_stand : (step : Step) (steps : List Step) (a b c : World) → StepDone 
 more_stand step steps a b c d s =
     let one = one_stands step a b d in
     record {
-      files = told_files step steps _ _ _ one.files s.files;
-      sent = rw (sent_by-cons step steps) (told_sent (sent_by (step ∷ [])) (sent_by steps) _ _ _
+      files = known_files step steps _ _ _ one.files s.files;
+      sent = rw (sent_by-cons step steps) (known_sent (sent_by (step ∷ [])) (sent_by steps) _ _ _
           one.sent s.sent);
       counts = more_counts a b c one.counts s.counts;
     }
 
 none_stand : (a b : World) → b ≡ a → Stands [] a b
 none_stand a b e = record {
-  files = told_same _ _ (ap (λ w. w.files.holds) e);
-  sent = told_unsent _ _ (ap (λ w. w.sink.sent) e);
+  files = known_same _ _ (ap (λ w. w.files.holds) e);
+  sent = known_unsent _ _ (ap (λ w. w.sink.sent) e);
   counts = rw e (same_counts a);
 }
 
@@ -255,7 +256,8 @@ all_stand (step ∷ steps) a b (inl (mid, (d, g))) =
 all_stand (step ∷ steps) a b (inr f) = elim f [ ]
 
 -- a step that is not on the chip leaves it
-does_chip : (step : Step) (a b : World) → is_on_chip step ≡ false → StepDone step a b → b.chip ≡ a.chip
+does_chip : (step : Step) (a b : World) → is_on_chip step ≡ false → StepDone step a b
+    → b.chip ≡ a.chip
 does_chip (Load name limit text refusal) a b off d = d.1.reads.chip
 does_chip Take a b off d = d.chip
 does_chip (Store name bytes) a b off d = d.chip
@@ -266,11 +268,11 @@ does_chip (Print bytes) a b off d = absurd (cc)
 
 load_chip : (name : List ℕ) (limit : ℕ) (text : List ℕ) (refusal : _) (reason : Reason)
     (a b : World) → Fails (Load name limit text refusal) reason a b → b.chip ≡ a.chip
-load_chip name limit text refusal (CannotRead told) a b f = f.1.chip
-load_chip name limit text refusal (TooLong told) a b f = f.1.chip
+load_chip name limit text refusal (CannotRead said) a b f = f.1.chip
+load_chip name limit text refusal (TooLong said) a b f = f.1.chip
 load_chip name limit text refusal (Refused r) a b f = f.1.reads.chip
 load_chip name limit text refusal NoMemory a b f = f.chip
-load_chip name limit text refusal (CannotWrite told) a b f = elim f [ ]
+load_chip name limit text refusal (CannotWrite said) a b f = elim f [ ]
 load_chip name limit text refusal PutFailed a b f = elim f [ ]
 load_chip name limit text refusal ChipFailed a b f = elim f [ ]
 

@@ -37,20 +37,20 @@ pub of_more : (P : ℕ → Type 0) (xs ys : List Step) → OfSteps P xs → OfSt
 of_more P [] ys h k = k
 of_more P (x ∷ xs) ys h k = (h.0, of_more P xs ys h.1 k)
 
-refused_so : (P : ℕ → Type 0) (refusal : Option Refusal) (told : Refusal) → refusal ≡ Some told
-    → OfRefusal P refusal → P told.status
-refused_so P None told e h = absurd (cc)
-refused_so P (Some r) told e h = let same : r ≡ told = cc in
+refused_so : (P : ℕ → Type 0) (refusal : Option Refusal) (said : Refusal) → refusal ≡ Some said
+    → OfRefusal P refusal → P said.status
+refused_so P None said e h = absurd (cc)
+refused_so P (Some r) said e h = let same : r ≡ said = cc in
     subst (λ (x : Refusal). P x.status) same h
 
 load_so : (P : ℕ → Type 0) (name : List ℕ) (limit : ℕ) (text : List ℕ) (refusal : Option Refusal)
     (reason : Reason) (a b : World) → OfStep P (Load name limit text refusal)
     → Causes (Load name limit text refusal) reason a b → P (reason_status reason)
-load_so P name limit text refusal (CannotRead told) a b h c = h.0
-load_so P name limit text refusal (TooLong told) a b h c = h.1
-load_so P name limit text refusal (Refused told) a b h c = refused_so P refusal told c h.3
+load_so P name limit text refusal (CannotRead said) a b h c = h.0
+load_so P name limit text refusal (TooLong said) a b h c = h.1
+load_so P name limit text refusal (Refused said) a b h c = refused_so P refusal said c h.3
 load_so P name limit text refusal NoMemory a b h c = h.2
-load_so P name limit text refusal (CannotWrite told) a b h c = elim c [ ]
+load_so P name limit text refusal (CannotWrite said) a b h c = elim c [ ]
 load_so P name limit text refusal PutFailed a b h c = elim c [ ]
 load_so P name limit text refusal ChipFailed a b h c = elim c [ ]
 
@@ -81,7 +81,8 @@ pub stop_so : (P : ℕ → Type 0) (steps : List Step) (stop : Stop) (a b : Worl
     → OfSteps P steps → IsStopped steps stop a b status → P status
 stop_so P steps stop a b status h s =
     subst P (sym s.answers) (step_so P stop.failed stop.reason a b
-    (of_middle P stop.before stop.failed stop.behind (subst (OfSteps P) (sym s.place) h)) s.causes)
+    (of_middle P stop.before stop.failed stop.following (subst (OfSteps P) (sym s.place) h))
+    s.causes)
 
 end_so : (P : ℕ → Type 0) (steps : List Step) (done : ℕ) (ended : Ended) (a b : World)
     (status : ℕ) → P done → OfSteps P steps → EndsSo steps done ended a b status → P status
@@ -142,9 +143,9 @@ foretold_more xs ys stop (Some files) (before, inr f) = (before, inr f)
 
 pub stopped_more : (xs ys : List Step) (stop : Stop) (a b : World) (status : ℕ)
     → IsStopped xs stop a b status
-    → IsStopped (xs ++ ys) (record stop { behind = stop.behind ++ ys }) a b status
+    → IsStopped (xs ++ ys) (record stop { following = stop.following ++ ys }) a b status
 stopped_more xs ys stop a b status s = record {
-  place = sym (append_assoc stop.before (stop.failed ∷ stop.behind) ys)
+  place = sym (append_assoc stop.before (stop.failed ∷ stop.following) ys)
       ∙ ap (λ zs. zs ++ ys) s.place;
   answers = s.answers;
   causes = s.causes;
@@ -156,17 +157,17 @@ stopped_more xs ys stop a b status s = record {
 pub end_more : (xs ys : List Step) (done other : ℕ) (stop : Stop) (a b : World) (status : ℕ)
     → (e : Ends xs done a b status) → e.ended ≡ At stop
     → (f : Ends (xs ++ ys) other a b status) × (f.ended
-    ≡ At (record stop { behind = stop.behind ++ ys }))
+    ≡ At (record stop { following = stop.following ++ ys }))
 end_more xs ys done other stop a b status e is =
     let so : IsStopped xs stop a b status =
     subst (λ (x : Ended). EndsSo xs done x a b status) is e.so in
-    let told : IfSome a.files.holds (IsForetold xs (At stop)) =
+    let said : IfSome a.files.holds (IsForetold xs (At stop)) =
     subst (λ (x : Ended). IfSome a.files.holds (IsForetold xs x)) is e.foretold in
-    let more : Stop = record stop { behind = stop.behind ++ ys } in
+    let more : Stop = record stop { following = stop.following ++ ys } in
     let whole : Ends (xs ++ ys) other a b status = record {
       ended = At more;
       so = stopped_more xs ys stop a b status so;
-      foretold = foretold_more xs ys stop a.files.holds told;
+      foretold = foretold_more xs ys stop a.files.holds said;
       counts = e.counts;
       chip = λ off. e.chip (subst (λ (x : Ended). list_any is_on_chip (begun_steps xs x)
           ≡ false) (sym is) off);

@@ -2,7 +2,7 @@
 use Rattle.std.specs.Prelude.{◌≡◌, ◌⊎◌, ℕ, ◌+◌, Bool, true, false, List, [], ◌∷◌, ◌++◌}
 use Rattle.std.specs.Prelude.{Some, IfSome}
 use Rattle.std.specs.List.{list_any}
-use Rattle.host_edge.specs.Views.{Files, Told, IsPrefix}
+use Rattle.host_edge.specs.Views.{Files, Known, IsPrefix}
 use Rattle.fault_counts.specs.Counts.{Rose, RoseBy}
 use Rattle.cli_model.specs.World.{World}
 use Rattle.cli_model.specs.Steps.{Step, Load, Take, Store, Open, Use, Put, Print, Reason}
@@ -14,11 +14,11 @@ use Rattle.cli_model.specs.Status.{reason_status, reason_line}
 use Rattle.cli_model.specs.Foreseen.{foreseen}
 
 -- Where a command stopped: the steps before, whose stores and lines stand; the one that failed, and
--- for which reason; and those behind
+-- for which reason; and those after
 pub record Stop : Type 0 where
   pub before : List Step
   pub failed : Step
-  pub behind : List Step
+  pub following : List Step
   pub reason : Reason
 
 -- all steps were done, or it stopped
@@ -29,11 +29,11 @@ pub data Ended : Type 0 where
 -- Why a step fails: a count rose in this call, the text of its file is refused, or memory was
 -- wanting
 abbrev pub Causes : Step → Reason → World → World → Type 0
-Causes (Load name limit text refusal) (CannotRead told) old new =
-    (told ≡ name) × Rose (old.files.load_faults name) (new.files.load_faults name)
-Causes (Load name limit text refusal) (TooLong told) old new =
-    (told ≡ name) × RoseBy (limit + 1) old.files.taken new.files.taken
-Causes (Load name limit text refusal) (Refused told) old new = refusal ≡ Some told
+Causes (Load name limit text refusal) (CannotRead said) old new =
+    (said ≡ name) × Rose (old.files.load_faults name) (new.files.load_faults name)
+Causes (Load name limit text refusal) (TooLong said) old new =
+    (said ≡ name) × RoseBy (limit + 1) old.files.taken new.files.taken
+Causes (Load name limit text refusal) (Refused said) old new = refusal ≡ Some said
 Causes (Load name limit text refusal) NoMemory old new = Unit {0}
 Causes (Load name limit text refusal) _ old new = ⊥
 Causes Take reason old new = reason ≡ NoMemory
@@ -65,7 +65,7 @@ IsLast Use reason last = last ≡ reason_line reason
 IsLast (Put bytes) reason last = last ≡ bytes
 IsLast (Print bytes) reason last = LastOfPrint bytes reason last
 
--- a part of the last bytes came behind those that are certain
+-- a part of the last bytes came after those that are certain
 abbrev pub AppendsAfter : (certain last : List ℕ) → List ℕ → List ℕ → Type 0
 AppendsAfter certain last old new =
     (part : List ℕ) × (IsPrefix part last × (new ≡ old ++ (certain ++ part)))
@@ -73,9 +73,9 @@ AppendsAfter certain last old new =
 -- all of it was sent, or a part of the last bytes is missing and the sink's count of faults rose
 abbrev pub Sends : (certain last : List ℕ) → World → World → Type 0
 Sends certain last old new =
-    Told (λ before after. after ≡ before ++ (certain ++ last)) old.sink.sent new.sink.sent
+    Known (λ before after. after ≡ before ++ (certain ++ last)) old.sink.sent new.sink.sent
     ⊎ (Rose old.sink.faults new.sink.faults
-    × Told (AppendsAfter certain last) old.sink.sent new.sink.sent)
+    × Known (AppendsAfter certain last) old.sink.sent new.sink.sent)
 
 -- the step stores the file of this name
 abbrev pub IsStoreOf : List ℕ → Step → Type 0
@@ -120,18 +120,18 @@ done_steps steps (At stop) = stop.before
 -- all of its steps were done
 pub record IsAllDone (steps : List Step) (done : ℕ) (old new : World) (status : ℕ) : Type 0 where
   pub answers : status ≡ done
-  pub sent : Told (λ before after. after ≡ before ++ sent_by steps) old.sink.sent new.sink.sent
-  pub files : Told (λ before after. after ≡ files_after steps before) old.files.holds
+  pub sent : Known (λ before after. after ≡ before ++ sent_by steps) old.sink.sent new.sink.sent
+  pub files : Known (λ before after. after ≡ files_after steps before) old.files.holds
       new.files.holds
 
 -- it stopped there
 pub record IsStopped (steps : List Step) (stop : Stop) (old new : World) (status : ℕ) : Type 0 where
-  pub place : stop.before ++ stop.failed ∷ stop.behind ≡ steps
+  pub place : stop.before ++ stop.failed ∷ stop.following ≡ steps
   pub answers : status ≡ reason_status stop.reason
   pub causes : Causes stop.failed stop.reason old new
   pub sent : (last : List ℕ)
       × IsLast stop.failed stop.reason last × Sends (sent_by stop.before) last old new
-  pub files : Told (LeavesFiles stop) old.files.holds new.files.holds
+  pub files : Known (LeavesFiles stop) old.files.holds new.files.holds
 
 abbrev pub EndsSo : List Step → ℕ → Ended → World → World → ℕ → Type 0
 EndsSo steps done All old new status = IsAllDone steps done old new status

@@ -1,6 +1,6 @@
 -- What stands after steps: the files, what was sent, and which counts of faults rose.
 use Rattle.std.specs.Prelude.{◌≡◌, ℕ, ◌≤◌, List, [], ◌∷◌, ◌++◌}
-use Rattle.host_edge.specs.Views.{Files, NoCountFalls, Told}
+use Rattle.host_edge.specs.Views.{Files, NoCountFalls, Known}
 use Rattle.cli_model.specs.World.{World, with_file}
 use Rattle.cli_model.specs.Steps.{Step, Load, Take, Store, Open, Use, Put, Print}
 
@@ -34,7 +34,7 @@ pub record CountsOn (old new : World) : Type 0 where
 
 -- all of these steps were done
 pub record Stands (steps : List Step) (old new : World) : Type 0 where
-  pub files : Told (λ before after. after ≡ files_after steps before) old.files.holds
+  pub files : Known (λ before after. after ≡ files_after steps before) old.files.holds
       new.files.holds
-  pub sent : Told (λ before after. after ≡ before ++ sent_by steps) old.sink.sent new.sink.sent
+  pub sent : Known (λ before after. after ≡ before ++ sent_by steps) old.sink.sent new.sink.sent
   pub counts : CountsOn old new

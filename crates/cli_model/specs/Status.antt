@@ -1,6 +1,6 @@
 -- The exit status and the last line of a command.
 use Rattle.std.specs.Prelude.{◌≡◌, ◌⊎◌, ℕ, ◌≤◌, List, [], ◌++◌, codes}
-use Rattle.host_edge.specs.Views.{Told, AppendsPart}
+use Rattle.host_edge.specs.Views.{Known, AppendsPart}
 use Rattle.fault_counts.specs.Counts.{Rose}
 use Rattle.cli_model.specs.World.{World}
 use Rattle.cli_model.specs.Steps.{Step, Reason, CannotRead, TooLong, Refused, NoMemory, CannotWrite}
@@ -15,7 +15,7 @@ reason_status (CannotWrite name) = 3
 reason_status PutFailed = 3
 reason_status ChipFailed = 9
 
--- the line that tells it; a sink that failed is told nothing
+-- the line that reports it; a sink that failed is sent nothing
 abbrev pub reason_line : Reason → List ℕ
 reason_line (CannotRead name) = codes "cannot read " ++ name ++ codes "\n"
 reason_line (TooLong name) = codes "too long " ++ name ++ codes "\n"
@@ -31,9 +31,9 @@ pub record Says (text : List ℕ) (old new : World) : Type 0 where
   pub files : new.files ≡ old.files
   pub chip : new.chip ≡ old.chip
   pub faults : old.sink.faults ≤ new.sink.faults
-  pub sent : Told (λ before after. after ≡ before ++ text) old.sink.sent new.sink.sent
+  pub sent : Known (λ before after. after ≡ before ++ text) old.sink.sent new.sink.sent
       ⊎ (Rose old.sink.faults new.sink.faults
-      × Told (AppendsPart text) old.sink.sent new.sink.sent)
+      × Known (AppendsPart text) old.sink.sent new.sink.sent)
 
 -- a command that stopped tells why; a failure to tell it is dropped
 abbrev pub Tells : End → World → World → Type 0
@@ -45,7 +45,7 @@ abbrev pub end_status : ℕ → End → ℕ
 end_status done Done = done
 end_status done (Stopped reason) = reason_status reason
 
--- A command went through its steps, told why it stopped if it did, and answers the status
+-- A command went through its steps, reported why it stopped if it did, and answers the status
 pub record Ran (steps : List Step) (done : ℕ) (old new : World) (status : ℕ) : Type 0 where
   pub end : End
   pub stopped : World

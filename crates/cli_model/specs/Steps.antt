@@ -1,7 +1,7 @@
 -- The steps of a command, and how it goes through them.
 use Rattle.std.specs.Prelude.{◌≡◌, ◌⊎◌, ℕ, ◌+◌, ◌≤◌, List, [], ◌∷◌, ◌++◌, length, Option, Some}
 use Rattle.std.specs.Prelude.{None, Result, Ok, Err}
-use Rattle.host_edge.specs.Views.{Told, NoCountFalls, HasBytes, IsLonger, KeepsOthers}
+use Rattle.host_edge.specs.Views.{Known, NoCountFalls, HasBytes, IsLonger, KeepsOthers}
 use Rattle.fault_counts.specs.Counts.{Rose, RoseBy}
 use Rattle.host_edge.specs.Views.{AppendsPart}
 use Rattle.dram_model.specs.View.{ChipView, NotBegun}
@@ -66,7 +66,7 @@ pub record Loaded (name : List ℕ) (limit : ℕ) (text : List ℕ) (old new : W
 
 -- the file was set to these bytes, and all else is as it was
 pub record Stored (name bytes : List ℕ) (old new : World) : Type 0 where
-  pub files : Told (λ before after. after ≡ with_file name bytes before) old.files.holds
+  pub files : Known (λ before after. after ≡ with_file name bytes before) old.files.holds
       new.files.holds
   pub counts : NoCountFalls old.files new.files
   pub sink : new.sink ≡ old.sink
@@ -81,7 +81,7 @@ pub record Used (old new : World) : Type 0 where
 -- bytes were sent, related so to what was sent before, and all else is as it was
 pub record Sent (R : List ℕ → List ℕ → Type 0) (old new : World) : Type 0 where
   pub files : new.files ≡ old.files
-  pub sent : Told R old.sink.sent new.sink.sent
+  pub sent : Known R old.sink.sent new.sink.sent
   pub faults : old.sink.faults ≤ new.sink.faults
   pub chip : new.chip ≡ old.chip
 
@@ -89,7 +89,7 @@ pub record Sent (R : List ℕ → List ℕ → Type 0) (old new : World) : Type 
 -- was
 pub record Printed (R : List ℕ → List ℕ → Type 0) (old new : World) : Type 0 where
   pub files : new.files ≡ old.files
-  pub sent : Told R old.sink.sent new.sink.sent
+  pub sent : Known R old.sink.sent new.sink.sent
   pub faults : old.sink.faults ≤ new.sink.faults
   pub chip : old.chip.faults ≤ new.chip.faults
 
@@ -105,18 +105,18 @@ StepDone (Print bytes) old new = Printed (λ before after. after ≡ before ++ b
 
 -- the load of a file failed for this reason
 abbrev pub LoadFails : List ℕ → ℕ → List ℕ → Option Refusal → Reason → World → World → Type 0
-LoadFails name limit text refusal (CannotRead told) old new = (told ≡ name) × ReadsOnly old new
+LoadFails name limit text refusal (CannotRead said) old new = (said ≡ name) × ReadsOnly old new
     × Rose (old.files.load_faults name) (new.files.load_faults name)
-LoadFails name limit text refusal (TooLong told) old new = (told ≡ name) × ReadsOnly old new
+LoadFails name limit text refusal (TooLong said) old new = (said ≡ name) × ReadsOnly old new
     × RoseBy (limit + 1) old.files.taken new.files.taken × IsLonger limit old.files name
 LoadFails name limit text refusal (Refused reason) old new = (refusal ≡ Some reason)
     × Loaded name limit text old new
 LoadFails name limit text refusal NoMemory old new = ReadsOnly old new
 LoadFails name limit text refusal _ old new = ⊥
 
--- the store of a file failed: that file is unsaid, and all else is as it was
+-- the store of a file failed: that file is unspecified, and all else is as it was
 pub record Unstored (name : List ℕ) (old new : World) : Type 0 where
-  pub others : Told (KeepsOthers name) old.files.holds new.files.holds
+  pub others : Known (KeepsOthers name) old.files.holds new.files.holds
   pub counts : NoCountFalls old.files new.files
   pub rose : Rose old.files.store_faults new.files.store_faults
   pub sink : new.sink ≡ old.sink

@@ -10,16 +10,16 @@ use Rattle.trace_model.proofs.Files.{files_are_exact}
 use Rattle.cmd_trace.specs.Opened.{Answers}
 use Rattle.cmd_trace.specs.declared.fault.TraceNo.{TraceNo}
 use Rattle.trace_model.specs.Reading.{TraceFault, event_at, events_at, trace_in}
-use Rattle.cmd_trace.proofs.Tapes.{rest_of, behind, none_is, more_is}
+use Rattle.cmd_trace.proofs.Tapes.{rest_of, following, none_is, more_is}
 
--- these events, and those that are read behind them
+-- these events, and those that are read after them
 abbrev pub with_front : List Event → Result (List Event × ℕ) TraceFault
     → Result (List Event × ℕ) TraceFault
 with_front front (Ok x) = Ok (front ++ x.0, x.1)
 with_front front (Err f) = Err f
 
 front_more : (front : List Event) (event : Event) (r : Result (List Event × ℕ) TraceFault)
-    → with_front front (r >>= behind event) ≡ with_front (front ++ event ∷ []) r
+    → with_front front (r >>= following event) ≡ with_front (front ++ event ∷ []) r
 front_more front event (Ok x) =
     ap (λ (xs : List Event). Ok (xs, x.1)) (sym (append_assoc front (event ∷ []) x.0))
 front_more front event (Err f) = refl

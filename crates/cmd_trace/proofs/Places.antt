@@ -25,7 +25,7 @@ front_length at bytes old l =
     let t = length-take at old in
     length-append (take at old) bytes ∙ omega (arith, t, l)
 
--- all up to their end, and behind it
+-- all up to their end, and after it
 pub put_front : (at : ℕ) (bytes old new : List ℕ) → at ≤ length old → IsPut at bytes old new
     → take (at + length bytes) new ≡ take at old ++ bytes
 put_front at bytes old new l h =
@@ -51,7 +51,7 @@ put_length at bytes old new l h =
     ap length h ∙ length-append (take at old) (bytes ++ drop (at + length bytes) old)
     ∙ omega (arith, t, d, one, l)
 
--- one text behind another
+-- one text after another
 pub put_then : (at place : ℕ) (a b x y z : List ℕ) → at ≤ length x → place ≡ at + length a
     → IsPut at a x y → IsPut place b y z → IsPut at (a ++ b) x z
 put_then at place a b x y z l e h k =

@@ -15,7 +15,7 @@ use Rattle.trace_model.specs.Spelling.{IsEvent}
 use Rattle.trace_model.specs.Reading.{TraceFault, event_at, events_at}
 use Rattle.trace_model.proofs.Events.{event_takes}
 use Rattle.cmd_trace.specs.Tape.{ends_at, events_read}
-use Rattle.cmd_trace.proofs.Tapes.{rest_of, behind, none_is, more_is}
+use Rattle.cmd_trace.proofs.Tapes.{rest_of, following, none_is, more_is}
 
 -- events that are left at a place, and all are whole
 abbrev pub Left : (size n : ℕ) → Geometry → (at : ℕ) → List ℕ → Type 0
@@ -24,18 +24,18 @@ Left size n g at bytes = ends_at size (events_at n g at bytes) ≡ true
 left_case : (size n : ℕ) (g : Geometry) (bytes : List ℕ) (r : Result (Event × ℕ) TraceFault)
     (event : Event) (next : ℕ) → r ≡ Ok (event, next)
     → ends_at size (r >>= rest_of n g bytes) ≡ true
-    → ends_at size (events_at n g next bytes >>= behind event) ≡ true
+    → ends_at size (events_at n g next bytes >>= following event) ≡ true
 left_case size n g bytes r event next e h =
     subst (λ (x : Result (Event × ℕ) TraceFault). ends_at size (x >>= rest_of n g bytes) ≡ true) e h
 
 drop_first : (size : ℕ) (event : Event) (r : Result (List Event × ℕ) TraceFault)
-    → ends_at size (r >>= behind event) ≡ true → ends_at size r ≡ true
+    → ends_at size (r >>= following event) ≡ true → ends_at size r ≡ true
 drop_first size event (Ok x) h = h
 drop_first size event (Err f) h = h
 
 read_first : (event : Event) (size : ℕ) (r : Result (List Event × ℕ) TraceFault)
-    → ends_at size (r >>= behind event) ≡ true
-    → events_read (r >>= behind event) ≡ event ∷ events_read r
+    → ends_at size (r >>= following event) ≡ true
+    → events_read (r >>= following event) ≡ event ∷ events_read r
 read_first event size (Ok x) h = refl
 read_first event size (Err f) h = absurd cc
 
@@ -86,7 +86,7 @@ pub event_fits : (g : Geometry) (at : ℕ) (bytes : List ℕ) (event : Event) (n
     → IsBytes bytes → event_at g at bytes ≡ Ok (event, next) → IsEvent g event
 event_fits g at bytes event next fits e = (event_takes g at bytes (event, next) fits e).is
 
--- a call failed behind the events so far
+-- a call failed after the events so far
 pub stopped : (events front left : List Event) (first mid new : ChipView)
     → front ++ left ≡ events → 0 < length left → Did front first mid → Kept first mid
     → Rose mid.faults new.faults → Grew mid.log new.log [] → StoppedIn events first new
@@ -95,7 +95,7 @@ stopped events front left first mid new e some did kept rose grew =
     record {
       done = length front;
       before = subst (λ (es : List Event). length front < length es) e (omega (arith, long, some));
-      told = subst (λ (es : List Event). Grew first.log new.log (take (length front) es)) e
+      known = subst (λ (es : List Event). Grew first.log new.log (take (length front) es)) e
           (subst (λ (es : List Event). Grew first.log new.log es)
           (append-nil front ∙ sym (take_at front left (length front) refl))
           (Grew-more first.log mid.log new.log front [] did.log grew));

@@ -1,4 +1,4 @@
--- A tape behind one event more: what it tells.
+-- A tape after one event more: what it tells.
 use Rattle.std.proofs.Common.{◌≡◌, ℕ, zero, suc, ◌+◌, ◌*◌, ◌^◌, ◌<◌, ◌≤◌, Bool, true, false, ◌&&◌}
 use Rattle.std.proofs.Common.{cond, leb, List, [], ◌∷◌, ◌++◌, length, drop, Option}
 use Rattle.std.proofs.Common.{Some, None, refl, sym, ◌∙◌, ap, subst, arith, length-append}
@@ -38,10 +38,11 @@ use Rattle.trace_model.proofs.Files.{few_rows}
 use Rattle.dram_model.proofs.EventLaws.{Grew-none, log_bits-append}
 use Rattle.cmd_trace.specs.declared.sizes.TheConstants.{EVENTS_BYTES_MAX, HEAD_BYTES_MAX}
 use Rattle.cmd_trace.specs.declared.sizes.TheConstants.{TRACE_BYTES_MAX}
-use Rattle.cmd_trace.specs.Tape.{Tape, ends_at, events_on, events_read, is_whole, kept_in, kept_on}
+use Rattle.cmd_trace.specs.Tape.{NotesView, ends_at, events_on, events_read, is_whole, kept_in}
+use Rattle.cmd_trace.specs.Tape.{kept_on}
 use Rattle.cmd_trace.specs.Tape.{empty_log, log_on, log_shown, marked, recorded}
 
--- ---- bytes behind those that are read change nothing
+-- ---- bytes after those that are read change nothing
 
 drop_longer : (at : ℕ) (bytes more : List ℕ) → at ≤ length bytes
     → drop at (bytes ++ more) ≡ drop at bytes ++ more
@@ -109,10 +110,10 @@ pub more_is : (n : ℕ) (g : Geometry) (at : ℕ) (bytes : List ℕ)
 unfolding events_at
 more_is n g at bytes = refl
 
-abbrev pub behind : Event → List Event × ℕ → Result (List Event × ℕ) TraceFault
-behind first events = Ok (first ∷ events.0, events.1)
+abbrev pub following : Event → List Event × ℕ → Result (List Event × ℕ) TraceFault
+following first events = Ok (first ∷ events.0, events.1)
 
--- one event more behind others
+-- one event more after others
 pub events_snoc : (n : ℕ) (g : Geometry) (at : ℕ) (bytes more : List ℕ) (out : List Event × ℕ)
     (event : Event) (next : ℕ) → events_at n g at bytes ≡ Ok out
     → event_at g out.1 (bytes ++ more) ≡ Ok (event, next)
@@ -124,12 +125,12 @@ events_snoc zero g at bytes more out event next e f =
     subst (λ (x : List Event × ℕ). event_at g x.1 all ≡ Ok (event, next)
     → events_at 1 g at all ≡ Ok (x.0 ++ event ∷ [], next)) is (λ h. more_is 0 g at all
     ∙ ap (λ (r : Result (Event × ℕ) TraceFault). r >>= rest_of 0 g all) h
-    ∙ ap (λ (r : Result (List Event × ℕ) TraceFault). r >>= behind event) (none_is g next all)) f
+    ∙ ap (λ (r : Result (List Event × ℕ) TraceFault). r >>= following event) (none_is g next all)) f
 events_snoc (suc n) g at bytes more out event next e f =
     let all = bytes ++ more in
     let a = bind_ok (event_at g at bytes) (rest_of n g bytes) out (sym (more_is n g at bytes) ∙ e)
     in
-    let b = bind_ok (events_at n g a.0.1 bytes) (behind a.0.0) out a.2 in
+    let b = bind_ok (events_at n g a.0.1 bytes) (following a.0.0) out a.2 in
     let whole : List Event × ℕ = (a.0.0 ∷ b.0.0, b.0.1) in
     let same : whole ≡ out = ok_is {K = TraceKind} whole out b.2 in
     subst (λ (x : List Event × ℕ). event_at g x.1 all ≡ Ok (event, next)
@@ -137,7 +138,7 @@ events_snoc (suc n) g at bytes more out event next e f =
     more_is (suc n) g at all
     ∙ ap (λ (r : Result (Event × ℕ) TraceFault). r >>= rest_of (suc n) g all)
     (event_longer g at bytes more a.0 a.1)
-    ∙ ap (λ (r : Result (List Event × ℕ) TraceFault). r >>= behind a.0.0)
+    ∙ ap (λ (r : Result (List Event × ℕ) TraceFault). r >>= following a.0.0)
     (events_snoc n g a.0.1 bytes more b.0 event next b.1 h)) f
 
 -- each event takes eight bytes at least
@@ -212,7 +213,7 @@ log_bits_are zero g at bytes out e =
 log_bits_are (suc n) g at bytes out e =
     let a = bind_ok (event_at g at bytes) (rest_of n g bytes) out (sym (more_is n g at bytes) ∙ e)
     in
-    let b = bind_ok (events_at n g a.0.1 bytes) (behind a.0.0) out a.2 in
+    let b = bind_ok (events_at n g a.0.1 bytes) (following a.0.0) out a.2 in
     let all : List Event × ℕ = (a.0.0 ∷ b.0.0, b.0.1) in
     let one = event_bits_are g at bytes a.0 a.1 in
     let more = log_bits_are n g a.0.1 bytes b.0 b.1 in
@@ -243,7 +244,7 @@ ended size (Ok x) h = ap (λ (n : ℕ). done (x.0, n)) (eqb-true x.1 size h)
 ended size (Err f) h = absurd cc
 
 -- a tape that tells: its events, and that they are few
-pub record Tells (g : Geometry) (tape : Tape) : Type 0 where
+pub record Tells (g : Geometry) (tape : NotesView) : Type 0 where
   pub shape : is_geometry g ≡ true
   pub room : length tape.bytes ≤ TRACE_BYTES_MAX
   pub read : events_at tape.count g HEAD_BYTES_MAX tape.bytes
@@ -256,8 +257,8 @@ at_most a b h = grind (arith, nat_tests)
 is-at_most : (a b : ℕ) → a ≤ b → leb a b ≡ true
 is-at_most a b h = grind (arith, nat_tests)
 
-whole_case : (g : Geometry) (tape : Tape) (told : Bool) → told ≡ true
-    → cond told (is_geometry g && leb (length tape.bytes) TRACE_BYTES_MAX
+whole_case : (g : Geometry) (tape : NotesView) (known : Bool) → known ≡ true
+    → cond known (is_geometry g && leb (length tape.bytes) TRACE_BYTES_MAX
     && ends_at (length tape.bytes) (events_at tape.count g HEAD_BYTES_MAX tape.bytes)
     && bytes_eq (kept_in tape) (events_bytes g (events_on g tape))) true ≡ true
     → Tells g tape
@@ -276,12 +277,12 @@ whole_case g tape true t h =
     }
 whole_case g tape false t h = absurd cc
 
-pub tells : (g : Geometry) (tape : Tape) → is_whole g tape ≡ true → tape.told ≡ true
+pub tells : (g : Geometry) (tape : NotesView) → is_whole g tape ≡ true → tape.known ≡ true
     → Tells g tape
-tells g tape h t = whole_case g tape tape.told t h
+tells g tape h t = whole_case g tape tape.known t h
 
 -- its count
-pub few : (g : Geometry) (tape : Tape) → Tells g tape → tape.count < 2 ^ 31
+pub few : (g : Geometry) (tape : NotesView) → Tells g tape → tape.count < 2 ^ 31
 few g tape t =
     let l = events_long tape.count g HEAD_BYTES_MAX tape.bytes _ t.read in
     omega (arith, l, t.room)
@@ -289,12 +290,12 @@ few g tape t =
 abbrev shown : List Event → Log
 shown events = record { room = 8 * EVENTS_BYTES_MAX; events = events }
 
-log_told : (g : Geometry) (tape : Tape) → tape.told ≡ true
+log_known : (g : Geometry) (tape : NotesView) → tape.known ≡ true
     → log_shown g tape ≡ Some (shown (events_on g tape))
-log_told g tape t = rw t refl
+log_known g tape t = rw t refl
 
-log_untold : (g : Geometry) (tape : Tape) → tape.told ≡ false → log_shown g tape ≡ None
-log_untold g tape t = rw t refl
+log_unknown : (g : Geometry) (tape : NotesView) → tape.known ≡ false → log_shown g tape ≡ None
+log_unknown g tape t = rw t refl
 
 grew_some : (a b : Option Log) (x y es : List Event) → a ≡ Some (shown x) → b ≡ Some (shown y)
     → y ≡ x ++ es → Grew a b es
@@ -307,19 +308,19 @@ grew_full a b x es e f h = rw (e, f) h
 grew_never : (a b : Option Log) (es : List Event) → a ≡ None → b ≡ None → Grew a b es
 grew_never a b es e f = rw (e, f) tt
 
--- behind an event: what was kept is whole again, and the log grew by it
-record Told (g : Geometry) (tape new : Tape) (event : Event) : Type 0 where
+-- after an event: what was kept is whole again, and the log grew by it
+record Known (g : Geometry) (tape new : NotesView) (event : Event) : Type 0 where
   whole : is_whole g new ≡ true
   grew : Grew (log_shown g tape) (log_shown g new) (event ∷ [])
 
-fits_told : (g : Geometry) (tape : Tape) (event : Event) → Tells g tape → tape.told ≡ true
+fits_known : (g : Geometry) (tape : NotesView) (event : Event) → Tells g tape → tape.known ≡ true
     → IsEvent g event
     → leb (length tape.bytes + length (event_bytes g event)) TRACE_BYTES_MAX ≡ true
-    → Told g tape (record tape {
+    → Known g tape (record tape {
       count = tape.count + 1;
       bytes = tape.bytes ++ event_bytes g event;
     }) event
-fits_told g tape event t told is fits =
+fits_known g tape event t known is fits =
     let text = event_bytes g event in
     let bytes = tape.bytes ++ text in
     let old = events_on g tape in
@@ -340,7 +341,7 @@ fits_told g tape event t told is fits =
     (length bytes) t.read next in
     let room : leb (length bytes) TRACE_BYTES_MAX ≡ true =
     ap (λ (n : ℕ). leb n TRACE_BYTES_MAX) long ∙ fits in
-    let new : Tape = record tape { count = tape.count + 1; bytes = bytes } in
+    let new : NotesView = record tape { count = tape.count + 1; bytes = bytes } in
     let few = events_long tape.count g HEAD_BYTES_MAX tape.bytes _ t.read in
     let spelled : drop HEAD_BYTES_MAX bytes ≡ events_bytes g (old ++ event ∷ []) =
     drop_longer HEAD_BYTES_MAX tape.bytes text (omega (arith, few))
@@ -350,14 +351,14 @@ fits_told g tape event t told is fits =
     let same = (bytes_eq-Decides (drop HEAD_BYTES_MAX bytes)
     (events_bytes g (old ++ event ∷ []))).1 spelled in
     record {
-      whole = rw (told, t.shape, room, read, eq-eqb (length bytes) (length bytes) refl, same) refl;
+      whole = rw (known, t.shape, room, read, eq-eqb (length bytes) (length bytes) refl, same) refl;
       grew = grew_some (log_shown g tape) (log_shown g new) old (old ++ event ∷ []) (event ∷ [])
-          (log_told g tape told)
-          (log_told g new told ∙ ap (λ r. Some (shown (events_read r))) read) refl;
+          (log_known g tape known)
+          (log_known g new known ∙ ap (λ r. Some (shown (events_read r))) read) refl;
     }
 
--- an event behind which the room is too small
-over : (g : Geometry) (tape : Tape) (event : Event) → Tells g tape → IsEvent g event
+-- an event after which the room is too small
+over : (g : Geometry) (tape : NotesView) (event : Event) → Tells g tape → IsEvent g event
     → leb (length tape.bytes + length (event_bytes g event)) TRACE_BYTES_MAX ≡ false
     → 8 * EVENTS_BYTES_MAX < log_bits (events_on g tape ++ event ∷ [])
 over g tape event t is f =
@@ -368,46 +369,47 @@ over g tape event t is f =
     let sum = log_bits-append (events_on g tape) (event ∷ []) in
     omega (arith, past, all, one, sum)
 
-told_case : (g : Geometry) (tape : Tape) (event : Event) (told fits : Bool) → tape.told ≡ told
+known_case : (g : Geometry) (tape : NotesView) (event : Event) (known fits : Bool)
+    → tape.known ≡ known
     → leb (length tape.bytes + length (event_bytes g event)) TRACE_BYTES_MAX ≡ fits
     → is_whole g tape ≡ true → IsEvent g event
-    → Told g tape (cond (told && fits)
+    → Known g tape (cond (known && fits)
     (record tape { count = tape.count + 1; bytes = tape.bytes ++ event_bytes g event })
-    (record tape { told = false })) event
-told_case g tape event true true t f h is = fits_told g tape event (tells g tape h t) t is f
-told_case g tape event true false t f h is = record {
+    (record tape { known = false })) event
+known_case g tape event true true t f h is = fits_known g tape event (tells g tape h t) t is f
+known_case g tape event true false t f h is = record {
   whole = refl;
   grew = grew_full (log_shown g tape) None (events_on g tape) (event ∷ [])
-      (log_told g tape t) refl (over g tape event (tells g tape h t) is f);
+      (log_known g tape t) refl (over g tape event (tells g tape h t) is f);
 }
-told_case g tape event false fits t f h is = record {
+known_case g tape event false fits t f h is = record {
   whole = refl;
-  grew = grew_never (log_shown g tape) None (event ∷ []) (log_untold g tape t) refl;
+  grew = grew_never (log_shown g tape) None (event ∷ []) (log_unknown g tape t) refl;
 }
 
-kept_told : (g : Geometry) (tape : Tape) (event : Event) → is_whole g tape ≡ true
-    → IsEvent g event → Told g tape (kept_on tape (event_bytes g event)) event
-kept_told g tape event h is = told_case g tape event tape.told
+kept_known : (g : Geometry) (tape : NotesView) (event : Event) → is_whole g tape ≡ true
+    → IsEvent g event → Known g tape (kept_on tape (event_bytes g event)) event
+kept_known g tape event h is = known_case g tape event tape.known
     (leb (length tape.bytes + length (event_bytes g event)) TRACE_BYTES_MAX) refl refl h is
 
--- ---- what a recorder shows behind each call
+-- ---- what a recorder shows after each call
 
 -- an event that was Ok
 pub record DidRecord (event : Event) (old new : ChipView) : Type 0 where
   pub kept : Kept old new
   pub did : Did (event ∷ []) old new
 
-pub did_recorded : (event : Event) (old new : ChipView) (tape after : Tape)
+pub did_recorded : (event : Event) (old new : ChipView) (tape after : NotesView)
     → HasBegun (recorded old tape) → IsEvent old.geometry event → Kept old new
     → Did (event ∷ []) old new → after ≡ kept_on tape (event_bytes old.geometry event)
     → DidRecord event (recorded old tape) (recorded new after)
 did_recorded event old new tape after h is kept did e =
     let b = both old.begun (is_whole old.geometry tape) h in
-    let told = kept_told old.geometry tape event b.1 is in
+    let known = kept_known old.geometry tape event b.1 is in
     let same = kept_on tape (event_bytes old.geometry event) in
-    subst (λ (t : Tape). DidRecord event (recorded old tape) (recorded new t)) (sym e) (record {
+    subst (λ (t : NotesView). DidRecord event (recorded old tape) (recorded new t)) (sym e) (record {
       kept = record {
-        begun = rw (kept.begun, kept.geometry, b.0, b.1, told.whole) refl;
+        begun = rw (kept.begun, kept.geometry, b.0, b.1, known.whole) refl;
         geometry = kept.geometry;
         faults = kept.faults;
       };
@@ -415,18 +417,18 @@ did_recorded event old new tape after h is kept did e =
         banks = did.banks;
         counters = did.counters;
         log = subst (λ (g : Geometry). Grew (log_shown old.geometry tape) (log_shown g same)
-            (event ∷ [])) (sym kept.geometry) told.grew;
+            (event ∷ [])) (sym kept.geometry) known.grew;
       };
     })
 
 -- a call that keeps the tape
-pub same_log : (old new : ChipView) (tape : Tape) → Kept old new
+pub same_log : (old new : ChipView) (tape : NotesView) → Kept old new
     → Grew (recorded old tape).log (recorded new tape).log []
 same_log old new tape kept =
     subst (λ (g : Geometry). Grew (log_shown old.geometry tape) (log_shown g tape) [])
     (sym kept.geometry) (Grew-none (log_shown old.geometry tape))
 
-pub same_kept : (old new : ChipView) (tape : Tape) → Kept old new
+pub same_kept : (old new : ChipView) (tape : NotesView) → Kept old new
     → Kept (recorded old tape) (recorded new tape)
 same_kept old new tape kept = record {
   begun = rw (kept.begun, kept.geometry) refl;
@@ -435,36 +437,37 @@ same_kept old new tape kept = record {
 }
 
 -- a mark
-pub marked_shows : (chip : ChipView) (tape new : Tape) (since : Counters) → HasBegun chip
+pub marked_shows : (chip : ChipView) (tape new : NotesView) (since : Counters) → HasBegun chip
     → is_geometry chip.geometry ≡ true → new ≡ marked since tape
     → length new.bytes ≡ HEAD_BYTES_MAX
     → recorded chip new ≡ record chip { log = Some empty_log }
 marked_shows chip tape new since h is e l =
-    let told : new.told ≡ true = ap (λ (t : Tape). t.told) e in
-    let none : new.count ≡ 0 = ap (λ (t : Tape). t.count) e in
+    let known : new.known ≡ true = ap (λ (t : NotesView). t.known) e in
+    let none : new.count ≡ 0 = ap (λ (t : NotesView). t.count) e in
     let read : events_at new.count chip.geometry HEAD_BYTES_MAX new.bytes
     ≡ Ok ([], HEAD_BYTES_MAX) =
     ap (λ (n : ℕ). events_at n chip.geometry HEAD_BYTES_MAX new.bytes) none
     ∙ none_is chip.geometry HEAD_BYTES_MAX new.bytes in
     let rest : drop HEAD_BYTES_MAX new.bytes ≡ [] =
     drop_all HEAD_BYTES_MAX new.bytes (omega (arith, l)) in
-    rw (h, told, read, is, l, rest) refl
+    rw (h, known, read, is, l, rest) refl
 
 -- what was kept is the spelling of the log
-pub spelled_log : (chip : ChipView) (tape : Tape) (kept : List ℕ) → HasBegun (recorded chip tape)
+pub spelled_log : (chip : ChipView) (tape : NotesView) (kept : List ℕ)
+    → HasBegun (recorded chip tape)
     → kept ≡ kept_in tape
     → IfSome (log_on chip.geometry tape) (λ events. kept ≡ events_bytes chip.geometry events)
-spelled_log chip tape kept h e = log_case tape.told refl where
-  log_case : (told : Bool) → tape.told ≡ told
-      → IfSome (cond told (Some (events_on chip.geometry tape)) None)
+spelled_log chip tape kept h e = log_case tape.known refl where
+  log_case : (known : Bool) → tape.known ≡ known
+      → IfSome (cond known (Some (events_on chip.geometry tape)) None)
       (λ events. kept ≡ events_bytes chip.geometry events)
   log_case true t = e ∙ (tells chip.geometry tape
       (both chip.begun (is_whole chip.geometry tape) h).1 t).spelled
   log_case false t = tt
 
 -- what a recorder needs to keep an event
-pub few_kept : (chip : ChipView) (tape : Tape) (bank : ℕ) → HasBegun (recorded chip tape)
-    → bank < chip.geometry.banks → tape.told ≡ true → (bank < 256) × (tape.count < 2 ^ 31)
+pub few_kept : (chip : ChipView) (tape : NotesView) (bank : ℕ) → HasBegun (recorded chip tape)
+    → bank < chip.geometry.banks → tape.known ≡ true → (bank < 256) × (tape.count < 2 ^ 31)
 few_kept chip tape bank h l t =
     let g = chip.geometry in
     let tells = tells g tape (both chip.begun (is_whole g tape) h).1 t in
@@ -472,21 +475,22 @@ few_kept chip tape bank h l t =
     (omega (arith, b.1, l), few g tape tells)
 
 -- an event that does not fit
-pub over_room : (tape : Tape) (text : List ℕ) → TRACE_BYTES_MAX < length tape.bytes + length text
-    → record tape { told = false } ≡ kept_on tape text
-over_room tape text l = over_case tape.told where
+pub over_room : (tape : NotesView) (text : List ℕ)
+    → TRACE_BYTES_MAX < length tape.bytes + length text
+    → record tape { known = false } ≡ kept_on tape text
+over_room tape text l = over_case tape.known where
   past : leb (length tape.bytes + length text) TRACE_BYTES_MAX ≡ false
   past = grind (arith, nat_tests)
 
-  over_case : (told : Bool) → record tape { told = false }
-      ≡ cond (told && leb (length tape.bytes + length text) TRACE_BYTES_MAX)
+  over_case : (known : Bool) → record tape { known = false }
+      ≡ cond (known && leb (length tape.bytes + length text) TRACE_BYTES_MAX)
       (record tape { count = tape.count + 1; bytes = tape.bytes ++ text })
-      (record tape { told = false })
+      (record tape { known = false })
   over_case true = rw past refl
   over_case false = refl
 
 -- a row that the host wrote
-pub did_written : (bank row : ℕ) (words : List ℕ) (old new : ChipView) (tape after : Tape)
+pub did_written : (bank row : ℕ) (words : List ℕ) (old new : ChipView) (tape after : NotesView)
     → HasBegun (recorded old tape) → bank < old.geometry.banks → row < old.geometry.rows
     → length words ≡ old.geometry.words → Kept old new
     → Did (Write bank row (bits_of_words words) ∷ []) old new
@@ -509,20 +513,20 @@ events_number zero g at bytes out e =
 events_number (suc n) g at bytes out e =
     let a = bind_ok (event_at g at bytes) (rest_of n g bytes) out (sym (more_is n g at bytes) ∙ e)
     in
-    let b = bind_ok (events_at n g a.0.1 bytes) (behind a.0.0) out a.2 in
+    let b = bind_ok (events_at n g a.0.1 bytes) (following a.0.0) out a.2 in
     let whole : List Event × ℕ = (a.0.0 ∷ b.0.0, b.0.1) in
     let more = events_number n g a.0.1 bytes b.0 b.1 in
     ap (λ (x : List Event × ℕ). length x.0) (sym (ok_is {K = TraceKind} whole out b.2))
     ∙ ap suc more
 
--- a log that is told
-is_told : (events : List Event) (told : Bool) → is_some (cond told (Some events) None) ≡ true
-    → told ≡ true
-is_told events true h = refl
-is_told events false h = h
+-- a log that is known
+is_known : (events : List Event) (known : Bool) → is_some (cond known (Some events) None) ≡ true
+    → known ≡ true
+is_known events true h = refl
+is_known events false h = h
 
 -- the file of the log
-pub file_of_log : (chip : ChipView) (tape : Tape) (file : List ℕ) (table : List Named)
+pub file_of_log : (chip : ChipView) (tape : NotesView) (file : List ℕ) (table : List Named)
     → HasBegun (recorded chip tape) → is_some (log_on chip.geometry tape) ≡ true
     → file ≡ (trace_head chip.geometry table ++ to_le_bytes w32 tape.count) ++ kept_in tape
     → IfSome (log_on chip.geometry tape)
@@ -530,7 +534,7 @@ pub file_of_log : (chip : ChipView) (tape : Tape) (file : List ℕ) (table : Lis
 unfolding trace_bytes
 file_of_log chip tape file table h log e =
     let g = chip.geometry in
-    let t = is_told (events_on g tape) tape.told log in
+    let t = is_known (events_on g tape) tape.known log in
     let whole = tells g tape (both chip.begun (is_whole g tape) h).1 t in
     let events = events_on g tape in
     let number : length events ≡ tape.count =

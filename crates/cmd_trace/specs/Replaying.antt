@@ -4,9 +4,9 @@ use Rattle.fault_counts.specs.Counts.{Rose}
 use Rattle.dram_model.specs.Chip.{Event, Grew}
 use Rattle.dram_model.specs.View.{ChipView}
 
--- The call for an event failed, behind those before it
+-- The call for an event failed, after those before it
 pub record StoppedIn (events : List Event) (old new : ChipView) : Type 0 where
   pub done : ℕ
   pub before : done < length events
-  pub told : Grew old.log new.log (take done events)
+  pub known : Grew old.log new.log (take done events)
   pub rose : Rose old.faults new.faults

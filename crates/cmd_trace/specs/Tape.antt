@@ -16,32 +16,32 @@ use Rattle.cmd_trace.specs.declared.sizes.TheConstants.{TRACE_BYTES_MAX}
 -- what was recorded: whether all events since the mark were kept, how many were, the counters at
 -- the mark, and the bytes: room for the head of a file, and then the events. The file that was
 -- spelled last begins at a place of that room
-pub record Tape : Type 0 where
-  pub told : Bool
+pub record NotesView : Type 0 where
+  pub known : Bool
   pub count : ℕ
   pub since : Counters
   pub start : ℕ
   pub bytes : List ℕ
 
 -- the events that were kept, as they are spelled
-abbrev pub kept_in : Tape → List ℕ
+abbrev pub kept_in : NotesView → List ℕ
 kept_in tape = drop HEAD_BYTES_MAX tape.bytes
 
 -- the file that was spelled last
-abbrev pub file_on : Tape → List ℕ
+abbrev pub file_on : NotesView → List ℕ
 file_on tape = drop tape.start tape.bytes
 
--- a tape behind an event of these bytes: it is kept where it and all before it fit in the room
-abbrev pub kept_on : Tape → List ℕ → Tape
+-- a tape after an event of these bytes: it is kept where it and all before it fit in the room
+abbrev pub kept_on : NotesView → List ℕ → NotesView
 kept_on tape bytes =
-    if tape.told && nat_le (length tape.bytes + length bytes) TRACE_BYTES_MAX
+    if tape.known && nat_le (length tape.bytes + length bytes) TRACE_BYTES_MAX
     then record tape { count = tape.count + 1; bytes = tape.bytes ++ bytes }
-    else record tape { told = false }
+    else record tape { known = false }
 
 -- nothing is kept yet
-abbrev pub marked : Counters → Tape → Tape
+abbrev pub marked : Counters → NotesView → NotesView
 marked since tape = record tape {
-  told = true;
+  known = true;
   count = 0;
   since = since;
   bytes = take HEAD_BYTES_MAX tape.bytes;
@@ -57,34 +57,34 @@ abbrev pub ends_at : ℕ → Result (List Event × ℕ) TraceFault → Bool
 ends_at size (Ok events) = events.1 == size
 ends_at size (Err f) = false
 
--- the events that are spelled behind the room for the head
-abbrev pub events_on : Geometry → Tape → List Event
+-- the events that are spelled after the room for the head
+abbrev pub events_on : Geometry → NotesView → List Event
 events_on g tape = events_read (events_at tape.count g HEAD_BYTES_MAX tape.bytes)
 
 -- where all events were kept, what stands there is their spelling
-abbrev pub is_whole : Geometry → Tape → Bool
-is_whole g tape = if tape.told
+abbrev pub is_whole : Geometry → NotesView → Bool
+is_whole g tape = if tape.known
     then is_geometry g && nat_le (length tape.bytes) TRACE_BYTES_MAX
     && ends_at (length tape.bytes) (events_at tape.count g HEAD_BYTES_MAX tape.bytes)
     && bytes_eq (kept_in tape) (events_bytes g (events_on g tape))
     else true
 
 -- the events since the mark, where all were kept
-abbrev pub log_on : Geometry → Tape → Option (List Event)
-log_on g tape = if tape.told then Some (events_on g tape) else None
+abbrev pub log_on : Geometry → NotesView → Option (List Event)
+log_on g tape = if tape.known then Some (events_on g tape) else None
 
 -- a log without events, with the room that a recorder has, in bits
 abbrev pub empty_log : Log
 empty_log = record { room = 8 * EVENTS_BYTES_MAX; events = [] }
 
--- the log that is told: these events, in this room
-abbrev pub log_shown : Geometry → Tape → Option Log
-log_shown g tape = if tape.told
+-- the log that is known: these events, in this room
+abbrev pub log_shown : Geometry → NotesView → Option Log
+log_shown g tape = if tape.known
     then Some (record { room = 8 * EVENTS_BYTES_MAX; events = events_on g tape }) else None
 
 -- a recorder shows what its chip shows, but for the log. It has begun where the chip has and what
 -- was kept is whole, as each call leaves it
-abbrev pub recorded : ChipView → Tape → ChipView
+abbrev pub recorded : ChipView → NotesView → ChipView
 recorded chip tape = record chip {
   begun = chip.begun && is_whole chip.geometry tape;
   log = log_shown chip.geometry tape;

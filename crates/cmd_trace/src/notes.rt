@@ -6,7 +6,7 @@ ghost use Rattle.std.specs.Int.{to_le_bytes, w32};
 ghost use Rattle.bit_rows.specs.Bits.{bits_of_words};
 ghost use Rattle.object_alloc.specs.Bytes.{bytes_of_bits};
 ghost use Rattle.trace_model.specs.Spelling.{Commands, Writes, event_head_bytes, trace_head};
-ghost use Rattle.cmd_trace.specs.Tape.{Tape, file_on, kept_in, kept_on, marked};
+ghost use Rattle.cmd_trace.specs.Tape.{NotesView, file_on, kept_in, kept_on, marked};
 ghost use Rattle.cmd_trace.specs.declared.sizes.TheConstants.{HEAD_BYTES_MAX, TRACE_BYTES_MAX};
 
 use crate::events::{command_bytes, write_bytes};
@@ -30,10 +30,10 @@ fn append(out: &mut Vec<u8>, bytes: &[u8])
     }
 }
 
-/// The events since the mark, behind the room for the head of a file.
+/// The events since the mark, after the room for the head of a file.
 #[derive(Drop)]
 pub(crate) struct Notes {
-    told: bool,
+    known: bool,
     count: u32,
     since: Counters,
     start: usize,
@@ -42,13 +42,13 @@ pub(crate) struct Notes {
 
 impl Model for Notes {
     ghost use Rattle.std.specs.Prelude.{◌≤◌, length, vec_capacity};
-    ghost use Rattle.cmd_trace.specs.Tape.{Tape};
+    ghost use Rattle.cmd_trace.specs.Tape.{NotesView};
     ghost use Rattle.cmd_trace.specs.declared.sizes.TheConstants.{HEAD_BYTES_MAX, TRACE_BYTES_MAX};
 
-    ghost Value = { Tape };
+    ghost Value = { NotesView };
 
     ghost view = { λ n. record {
-      told = n.told;
+      known = n.known;
       count = n.count;
       since = n.since;
       start = n.start;
@@ -61,14 +61,14 @@ impl Model for Notes {
 }
 
 impl Notes {
-    /// Nothing is told yet. It takes all the memory that a recorder ever needs.
+    /// No log is known yet. It takes all the memory that a recorder ever needs.
     pub(crate) fn new(alloc: Global) -> Result<Notes, NoMemory>
-        ensures { IfOk result (λ tape. tape.told ≡ false) }
+        ensures { IfOk result (λ tape. tape.known ≡ false) }
     {
         let mut bytes = Vec::with_capacity(alloc, TRACE_BYTES_MAX)?;
         bytes.resize(HEAD_BYTES_MAX, 0)?;
         Ok(Notes {
-            told: false,
+            known: false,
             count: 0,
             since: Counters {
                 aap: 0,
@@ -81,34 +81,34 @@ impl Notes {
         })
     }
 
-    /// Nothing is told from here on.
+    /// The log is not known from here on.
     pub(crate) fn untell(&mut self)
-        ensures { self.new ≡ record self.old { told = false } }
+        ensures { self.new ≡ record self.old { known = false } }
     {
-        self.told = false;
+        self.known = false;
     }
 
-    /// All is told from here on, where the counters stand at these.
+    /// The log is known from here on, where the counters stand at these.
     pub(crate) fn mark(&mut self, since: Counters)
         ensures tape { self.new ≡ marked since self.old }
         ensures cut { length self.new.bytes ≡ HEAD_BYTES_MAX }
     {
         self.bytes.truncate(HEAD_BYTES_MAX);
-        self.told = true;
+        self.known = true;
         self.count = 0;
         self.since = since;
     }
 
     /// Keeps a row command, where it and all before it fit.
     pub(crate) fn keep_command(&mut self, bank: u16, command: Command)
-        requires { self.old.told ≡ true → (bank < 256) × (self.old.count < 2 ^ 31) }
+        requires { self.old.known ≡ true → (bank < 256) × (self.old.count < 2 ^ 31) }
         ensures { self.new ≡ kept_on self.old (event_head_bytes (Commands bank command)) }
     {
-        if !self.told {
+        if !self.known {
             return;
         }
         if self.bytes.len() + EVENT_BYTES > TRACE_BYTES_MAX {
-            self.told = false;
+            self.known = false;
             return;
         }
         append(&mut self.bytes, &command_bytes(bank as u8, command));
@@ -117,15 +117,15 @@ impl Notes {
 
     /// Keeps a row that the host wrote, where it and all before it fit.
     pub(crate) fn keep_write(&mut self, bank: u16, row: u16, words: &[u64])
-        requires { self.old.told ≡ true → (bank < 256) × (self.old.count < 2 ^ 31) }
+        requires { self.old.known ≡ true → (bank < 256) × (self.old.count < 2 ^ 31) }
         ensures { self.new ≡ kept_on self.old (event_head_bytes (Writes bank row)
             ++ bytes_of_bits (8 * length words.now) (bits_of_words words.now)) }
     {
-        if !self.told {
+        if !self.known {
             return;
         }
         if self.bytes.len() + (EVENT_BYTES + 8 * words.len()) > TRACE_BYTES_MAX {
-            self.told = false;
+            self.known = false;
             return;
         }
         append(&mut self.bytes, &write_bytes(bank as u8, row));
@@ -134,10 +134,10 @@ impl Notes {
     }
 
     /// Whether all events since the mark were kept.
-    pub(crate) fn is_told(&self) -> bool
-        ensures { result ≡ self.now.told }
+    pub(crate) fn is_known(&self) -> bool
+        ensures { result ≡ self.now.known }
     {
-        self.told
+        self.known
     }
 
     /// The counters at the mark.
@@ -158,7 +158,7 @@ impl Notes {
         ensures file { file_on self.new ≡ (trace_head g table.now.pairs
             ++ to_le_bytes w32 self.old.count) ++ kept_in self.old }
         ensures kept { kept_in self.new ≡ kept_in self.old }
-        ensures told { self.new.told ≡ self.old.told }
+        ensures known { self.new.known ≡ self.old.known }
         ensures count { self.new.count ≡ self.old.count }
         ensures len { length self.new.bytes ≡ length self.old.bytes }
         ensures since { self.new.since ≡ self.old.since }

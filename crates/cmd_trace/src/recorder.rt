@@ -46,7 +46,7 @@ impl<'a, D: Dram> Recorder<'a, D> {
     pub fn new(dram: &'a mut D, room: &'a mut Room) -> Recorder<'a, D>
         ensures chip { result.dram.now ≡ dram.entry.now }
         ensures same_reference { result.dram.ghost_name ≡ dram.entry.ghost_name }
-        ensures untold { result.notes.now.told ≡ false }
+        ensures no_event { result.notes.now.known ≡ false }
     {
         let notes = &mut room.notes;
         notes.untell();
@@ -67,14 +67,14 @@ impl<'a, D: Dram> Recorder<'a, D> {
         self.notes.mark(since);
     }
 
-    /// Whether the log is told: whether each event since the mark was kept.
-    pub fn is_told(&self) -> bool
+    /// Whether the log is known: whether each event since the mark was kept.
+    pub fn is_known(&self) -> bool
         ensures { result ≡ is_some (log_on (D.view self.now.dram.now).geometry self.now.notes.now) }
     {
-        self.notes.is_told()
+        self.notes.is_known()
     }
 
-    /// The events since the mark, as they are spelled in a trace file, where the log is told.
+    /// The events since the mark, as they are spelled in a trace file, where the log is known.
     pub fn events(&self) -> &[u8]
         requires { HasBegun (recorded (D.view self.now.dram.now) self.now.notes.now) }
         ensures { IfSome (log_on (D.view self.now.dram.now).geometry self.now.notes.now) (λ events.
@@ -86,7 +86,7 @@ impl<'a, D: Dram> Recorder<'a, D> {
     /// Spells the trace file of the log so far, with these objects. It takes no memory.
     pub fn spell_file(&mut self, table: &Table)
         requires begun { HasBegun (recorded (D.view self.old.dram.now) self.old.notes.now) }
-        requires told { is_some (log_on (D.view self.old.dram.now).geometry self.old.notes.now)
+        requires known { is_some (log_on (D.view self.old.dram.now).geometry self.old.notes.now)
             ≡ true }
         ensures same_reference { self.new.dram.ghost_name ≡ self.old.dram.ghost_name }
         ensures chip { self.new.dram.now ≡ self.old.dram.now }
@@ -180,7 +180,7 @@ impl<'a, D: Dram> Dram for Recorder<'a, D> {
             (⟦<Self as Dram>⟧.view self.old) (⟦<Self as Dram>⟧.view self.new)) }
         ensures failed { OnErr result (FailedIn bank (⟦<Self as Dram>⟧.view self.old)
             (⟦<Self as Dram>⟧.view self.new)) }
-        ensures untold { OnErr result (Grew (⟦<Self as Dram>⟧.view self.old).log
+        ensures no_event { OnErr result (Grew (⟦<Self as Dram>⟧.view self.old).log
             (⟦<Self as Dram>⟧.view self.new).log []) }
     {
         self.dram.aap(bank, x, y)?;
@@ -201,7 +201,7 @@ impl<'a, D: Dram> Dram for Recorder<'a, D> {
             (⟦<Self as Dram>⟧.view self.old) (⟦<Self as Dram>⟧.view self.new)) }
         ensures failed { OnErr result (FailedIn bank (⟦<Self as Dram>⟧.view self.old)
             (⟦<Self as Dram>⟧.view self.new)) }
-        ensures untold { OnErr result (Grew (⟦<Self as Dram>⟧.view self.old).log
+        ensures no_event { OnErr result (Grew (⟦<Self as Dram>⟧.view self.old).log
             (⟦<Self as Dram>⟧.view self.new).log []) }
     {
         self.dram.ap(bank, x)?;
@@ -222,7 +222,7 @@ impl<'a, D: Dram> Dram for Recorder<'a, D> {
             (⟦<Self as Dram>⟧.view self.old) (⟦<Self as Dram>⟧.view self.new)) }
         ensures failed { OnErr result (FailedIn bank (⟦<Self as Dram>⟧.view self.old)
             (⟦<Self as Dram>⟧.view self.new)) }
-        ensures untold { OnErr result (Grew (⟦<Self as Dram>⟧.view self.old).log
+        ensures no_event { OnErr result (Grew (⟦<Self as Dram>⟧.view self.old).log
             (⟦<Self as Dram>⟧.view self.new).log []) }
     {
         self.dram.write_row(bank, row, words)?;
@@ -245,7 +245,7 @@ impl<'a, D: Dram> Dram for Recorder<'a, D> {
             (⟦<Self as Dram>⟧.view self.old) (⟦<Self as Dram>⟧.view self.new)) }
         ensures failed { OnErr result (FailedIn bank (⟦<Self as Dram>⟧.view self.old)
             (⟦<Self as Dram>⟧.view self.new)) }
-        ensures untold { OnErr result (Grew (⟦<Self as Dram>⟧.view self.old).log
+        ensures no_event { OnErr result (Grew (⟦<Self as Dram>⟧.view self.old).log
             (⟦<Self as Dram>⟧.view self.new).log []) }
     {
         self.dram.read_row(bank, row, out)

@@ -31,7 +31,7 @@ fn do_event<D: Dram>(event: Found<'_>, stage: &mut [u64], dram: &mut D) -> Resul
     ensures did { OnOk result (Did (event_of event.entry ∷ []) (D.view dram.old)
         (D.view dram.new)) }
     ensures rose { OnErr result (Rose (D.view dram.old).faults (D.view dram.new).faults) }
-    ensures untold { OnErr result (Grew (D.view dram.old).log (D.view dram.new).log []) }
+    ensures no_event { OnErr result (Grew (D.view dram.old).log (D.view dram.new).log []) }
 {
     match event {
         Found::Row(bank, Command::Aap(x, y)) => dram.aap(u16::from(bank), x, y),
@@ -91,7 +91,7 @@ pub fn replay_events<D: Dram>(trace: &TraceView<'_>, dram: &mut D) -> Result<(),
     ensures borrow { D.borrow dram.new ≡ D.borrow dram.old }
     ensures kept { Kept (D.view dram.old) (D.view dram.new) }
     ensures did { OnOk result (Did trace.now.events (D.view dram.old) (D.view dram.new)) }
-    // Where a call fails, the log was told of the events before it.
+    // Where a call fails, the log has the events before it.
     ensures stopped { OnErr result (StoppedIn trace.now.events (D.view dram.old)
         (D.view dram.new)) }
 {

@@ -147,7 +147,7 @@ impl<'a> TraceView<'a> {
         self.geometry
     }
 
-    /// The objects behind the events.
+    /// The objects after the events.
     pub fn table(&self) -> &Table
         ensures { result.now.pairs ≡ self.now.table }
     {

@@ -96,7 +96,7 @@ fn tells(
 }
 
 #[test]
-fn programs_are_told(rt: HostRuntime) -> Result<(), Fail> {
+fn programs_are_reported(rt: HostRuntime) -> Result<(), Fail> {
     let empty = [0x53, 0x44, 0x4D, 0x50, 0x01, 0x00, 0x00, 0x00];
     let alloc = rt.alloc();
     tells(&rt, &["list", "prog"], &XOR, XOR_LISTED, alloc)?;
@@ -124,7 +124,7 @@ pub fn looped(code: [u8; 24]) -> [u8; 59] {
 
 // SETI r0 1 and BNEZ r0 1; SETI r0 1 and AAP s0[r0] B0; SETI r0 1023 and ADDI r0 1
 #[test]
-fn stuck_walks_are_told(rt: HostRuntime) -> Result<(), Fail> {
+fn stuck_walks_are_reported(rt: HostRuntime) -> Result<(), Fail> {
     let forever = [
         1, 0, 1, 0, 0, 0, 0, 0, 8, 0, 1, 0, 0, 0, 0, 0, 0, 0, 0, 0, 0, 0, 0, 0,
     ];
@@ -135,14 +135,14 @@ fn stuck_walks_are_told(rt: HostRuntime) -> Result<(), Fail> {
         1, 0, 0xFF, 3, 0, 0, 0, 0, 6, 0, 1, 0, 0, 0, 0, 0, 0, 0, 0, 0, 0, 0, 0, 0,
     ];
     let alloc = rt.alloc();
-    let told = "xor bad_walk 1 budget\n";
-    tells(&rt, &["cost", "prog", "1"], &looped(forever), told, alloc)?;
-    let told = "xor bad_walk 1 index\n";
-    tells(&rt, &["cost", "prog", "1"], &looped(past), told, alloc)?;
-    let told = "xor aap=1 ap=0 rows=0\n";
-    tells(&rt, &["cost", "prog", "2"], &looped(past), told, alloc)?;
-    let told = "xor bad_walk 1 register\n";
-    tells(&rt, &["cost", "prog", "1"], &looped(over), told, alloc)?;
+    let said = "xor bad_walk 1 budget\n";
+    tells(&rt, &["cost", "prog", "1"], &looped(forever), said, alloc)?;
+    let said = "xor bad_walk 1 index\n";
+    tells(&rt, &["cost", "prog", "1"], &looped(past), said, alloc)?;
+    let said = "xor aap=1 ap=0 rows=0\n";
+    tells(&rt, &["cost", "prog", "2"], &looped(past), said, alloc)?;
+    let said = "xor bad_walk 1 register\n";
+    tells(&rt, &["cost", "prog", "1"], &looped(over), said, alloc)?;
     Ok(())
 }
 
@@ -283,7 +283,7 @@ fn other_widths_are_usage(rt: HostRuntime) -> Result<(), Fail> {
 
 // The load and the put that fail; a file that is not there.
 #[test]
-fn what_fails_is_told(rt: HostRuntime) -> Result<(), Fail> {
+fn what_fails_is_reported(rt: HostRuntime) -> Result<(), Fail> {
     let alloc = rt.alloc();
     let mut files = MemFolder::new(alloc);
     let mut out = MemSink::new(alloc);

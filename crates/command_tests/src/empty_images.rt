@@ -107,7 +107,7 @@ fn other_shapes_are_usage(rt: HostRuntime) -> Result<(), Fail> {
 }
 
 #[test]
-fn a_failing_store_is_told(rt: HostRuntime) -> Result<(), Fail> {
+fn a_failing_store_is_reported(rt: HostRuntime) -> Result<(), Fail> {
     let alloc = rt.alloc();
     let mut files = MemFolder::new(alloc);
     files.fail_at(1).ok().ok_or("memory")?;

@@ -94,7 +94,7 @@ fn refused<'a>(program: &'a [u8], script: &'static str, report: &'static str) ->
     }
 }
 
-/// The status of `exec` on a case, what it sends, and the folder behind it.
+/// The status of `exec` on a case, what it sends, and the folder after it.
 fn exec(case: &Case<'_>, alloc: Global) -> Result<(u8, MemSink, MemFolder), Fail> {
     let mut files = MemFolder::new(alloc);
     let image = image(case.width, BEFORE, alloc)?;

@@ -122,7 +122,7 @@ fn each_cell_may_flip_alone(rt: HostRuntime) -> Result<(), Fail> {
     assert_eq!(rt; (text(&out), ended), (sum_sent(0, alloc)?.as_str(), 0));
     let whole = files.file("out").ok_or("no image")?.to_vec(alloc)?;
     let sent = sum_sent(1, alloc)?;
-    // the rows of the nine copies, before the sum, before the print and behind it
+    // the rows of the nine copies, before the sum, before the print and after it
     for row in 0..18u64 {
         for column in 0..4u64 {
             for before in [6u64, 7, 8] {
@@ -147,7 +147,7 @@ fn damage_beside_the_objects_says_nothing(rt: HostRuntime) -> Result<(), Fail> {
         let (ended, out) = guard(&mut files, ADDED, flips.as_str(), alloc)?;
         assert_eq!(rt; (text(&out), ended), (sent.as_str(), 0), "{flips}");
     }
-    // a column behind the elements, in two copies: no value shows it, and OUT has it in all three
+    // a column after the elements, in two copies: no value shows it, and OUT has it in all three
     let (ended, out) = guard(&mut files, ADDED, "8 0 0 9\n8 0 4 9\n", alloc)?;
     assert_eq!(rt; (text(&out), ended), (sum_sent(2, alloc)?.as_str(), 0));
     let rows = files
@@ -161,7 +161,7 @@ fn damage_beside_the_objects_says_nothing(rt: HostRuntime) -> Result<(), Fail> {
     Ok(())
 }
 
-/// So many objects of one bit, one a line; and one more behind the place of another.
+/// So many objects of one bit, one a line; and one more after the place of another.
 fn many_objects(objects: u32, alloc: Global) -> Result<String, Fail> {
     let mut script = String::new(alloc);
     for k in 0..objects {
@@ -227,7 +227,7 @@ fn names_have_room_for_a_letter(rt: HostRuntime) -> Result<(), Fail> {
 }
 
 #[test]
-fn faulty_flips_are_told(rt: HostRuntime) -> Result<(), Fail> {
+fn faulty_flips_are_reported(rt: HostRuntime) -> Result<(), Fail> {
     let alloc = rt.alloc();
     let mut files = folder_of("", ["1", "64", "1"], alloc)?;
     for (flips, sent) in [
@@ -263,7 +263,7 @@ fn faulty_flips_are_told(rt: HostRuntime) -> Result<(), Fail> {
 }
 
 #[test]
-fn strangers_are_told(rt: HostRuntime) -> Result<(), Fail> {
+fn strangers_are_reported(rt: HostRuntime) -> Result<(), Fail> {
     let alloc = rt.alloc();
     for (objects, status, sent) in [
         ("bbop_trsp_init x, 4, 2", 17, "guard table 0\n"),

@@ -147,17 +147,17 @@ fn scans_count(rt: HostRuntime) -> Result<(), Fail> {
     Ok(())
 }
 
-/// A text with so many copies of a piece before it and of another behind it.
+/// A text with so many copies of a piece before it and of another after it.
 fn nested(
     front: &str,
     middle: &str,
-    behind: &str,
+    following: &str,
     times: usize,
     alloc: Global,
 ) -> Result<String, AllocError> {
     let mut query = front.repeat(alloc, times)?;
     query.push_str(middle)?;
-    query.push_str(behind.repeat(alloc, times)?.as_str())?;
+    query.push_str(following.repeat(alloc, times)?.as_str())?;
     Ok(query)
 }
 
@@ -166,7 +166,7 @@ fn queries_have_their_limits(rt: HostRuntime) -> Result<(), Fail> {
     let alloc = rt.alloc();
     let mut files = folder_of(["1", "128", "1"], FOUR, alloc)?;
     // 32 comparisons, 31 joins; and 63 negations, which take 74 and 3 commands each
-    for (front, middle, behind, times, status, sent) in [
+    for (front, middle, following, times, status, sent) in [
         (
             "or(eq(a, 10),",
             "eq(a, 5)",
@@ -204,7 +204,7 @@ fn queries_have_their_limits(rt: HostRuntime) -> Result<(), Fail> {
         (" ", "", "", 65_536, 15, "query line 1 syntax\n"),
         (" ", "", "", 65_537, 11, "too long query\n"),
     ] {
-        let query = nested(front, middle, behind, times, alloc)?;
+        let query = nested(front, middle, following, times, alloc)?;
         let (ended, out) = scan(&mut files, query.as_str(), alloc)?;
         assert_eq!(rt; (text(&out), ended), (sent, status), "{front}");
     }
@@ -265,7 +265,7 @@ static FAULTS: [(&str, &str); 18] = [
 ];
 
 #[test]
-fn faulty_queries_are_told(rt: HostRuntime) -> Result<(), Fail> {
+fn faulty_queries_are_reported(rt: HostRuntime) -> Result<(), Fail> {
     let alloc = rt.alloc();
     // no image is loaded
     let mut files = MemFolder::new(alloc);
@@ -331,7 +331,7 @@ fn comparisons_are_those_of_numbers(rt: HostRuntime) -> Result<(), Fail> {
         (64, Value::from(u64::MAX)),
         (128, Value::MAX),
     ] {
-        // the columns behind these hold 0
+        // the columns after these hold 0
         let corners = [
             0,
             1,
@@ -353,9 +353,9 @@ fn comparisons_are_those_of_numbers(rt: HostRuntime) -> Result<(), Fail> {
         for bound in corners {
             for name in ["eq", "gt", "ge", "lt", "le"] {
                 let among = corners.iter().filter(|a| holds(name, **a, bound)).count();
-                let behind = if holds(name, 0, bound) { 56 } else { 0 };
+                let following = if holds(name, 0, bound) { 56 } else { 0 };
                 let query = format!(in alloc; "{}(a, {})", name, bound)?;
-                let count = format!(in alloc; "count {} of 64 ", among.saturating_add(behind))?;
+                let count = format!(in alloc; "count {} of 64 ", among.saturating_add(following))?;
                 let (ended, out) = scan(&mut files, query.as_str(), alloc)?;
                 assert_eq!(rt; ended, 0, "{query}");
                 assert!(rt; text(&out).starts_with(count.as_str()), "{width}: {query}");

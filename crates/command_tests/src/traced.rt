@@ -169,7 +169,7 @@ static FAULTS: [(usize, u8, &str); 24] = [
 ];
 
 #[test]
-fn faulty_traces_are_told(rt: HostRuntime) -> Result<(), Fail> {
+fn faulty_traces_are_reported(rt: HostRuntime) -> Result<(), Fail> {
     let alloc = rt.alloc();
     let image = image(64, alloc)?;
     let trace = trace(alloc)?;
@@ -187,7 +187,7 @@ fn faulty_traces_are_told(rt: HostRuntime) -> Result<(), Fail> {
 }
 
 #[test]
-fn cut_traces_are_told(rt: HostRuntime) -> Result<(), Fail> {
+fn cut_traces_are_reported(rt: HostRuntime) -> Result<(), Fail> {
     let alloc = rt.alloc();
     let image = image(64, alloc)?;
     let trace = trace(alloc)?;

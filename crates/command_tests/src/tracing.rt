@@ -157,7 +157,7 @@ fn two_banks(order: &str, alloc: Global) -> Result<Vec<u8>, Fail> {
 }
 
 #[test]
-fn orders_differ_behind_the_same_writes(rt: HostRuntime) -> Result<(), Fail> {
+fn orders_differ_after_the_same_writes(rt: HostRuntime) -> Result<(), Fail> {
     let alloc = rt.alloc();
     let ahead = two_banks("order in", alloc)?;
     let turns = two_banks("order turns", alloc)?;
@@ -260,7 +260,7 @@ fn filling(alloc: Global) -> Result<String, AllocError> {
 }
 
 /// The status of `trace` with a script on a chip of one bank of 192 rows of 1024 words, what it
-/// sends, and the folder behind it.
+/// sends, and the folder after it.
 fn trace_large(script: &str, alloc: Global) -> Result<(u8, MemSink, MemFolder), Fail> {
     let mut files = folder(script, b"", alloc)?;
     let init = ["init", "1", "192", "1024", "image"];

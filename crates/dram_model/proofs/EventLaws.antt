@@ -34,14 +34,15 @@ log_bits-append (e ∷ es) fs = ap (λ n. event_bits e + n) (log_bits-append es 
 
 with_events-more : (es fs : List Event) (log : Log)
     → with_events fs (with_events es log) ≡ with_events (es ++ fs) log
-with_events-more es fs log = ap (λ (all : List Event). let l : Log = record log { events = all } in l)
+with_events-more es fs log = ap (λ (all : List Event). let l : Log = record log { events = all } in
+    l)
     (append_assoc log.events es fs)
 
 with_events-none : (log : Log) → log ≡ with_events [] log
 with_events-none log = ap (λ (all : List Event). let l : Log = record log { events = all } in l)
     (sym (append-nil log.events))
 
--- what does not fit still does not with more behind it
+-- what does not fit still does not with more after it
 full-more : (log : Log) (es fs : List Event) → log.room < log_bits (log.events ++ es)
     → log.room < log_bits (log.events ++ (es ++ fs))
 full-more log es fs l =
@@ -65,7 +66,7 @@ Grew-more (Some x) (Some y) None es fs g h =
 Grew-more (Some x) (Some y) (Some z) es fs g h =
     h ∙ ap (with_events fs) g ∙ with_events-more es fs x
 
--- a log that has these events has these and others behind them
+-- a log that has these events has these and others after them
 pub LogIs-more : (xs es : List Event) (a b : Option Log) → LogIs xs a → Grew a b es
     → LogIs (xs ++ es) b
 LogIs-more xs es a None is g = tt
@@ -153,7 +154,7 @@ counted-bound (Write bank row bits ∷ events) counters = let h =
 
 pub Grew-none : (log : Option Log) → Grew log log []
 Grew-none None = tt
-Grew-none (Some told) = with_events-none told
+Grew-none (Some known) = with_events-none known
 
 -- no event
 pub Did-none : (chip : ChipView) → Did [] chip chip

@@ -46,7 +46,8 @@ pub record DidRead (n : ℕ) (old new : ChipView) : Type 0 where
   pub counters : new.counters ≡ with_reads n old.counters
   pub log : Grew old.log new.log []
 
--- a call on this bank failed: what stands in it is unsaid, and the other banks are as they were
+-- a call on this bank failed: what stands in it is unspecified, and the other banks are as they
+-- were
 pub record FailedIn (bank : ℕ) (old new : ChipView) : Type 0 where
   pub rose : Rose old.faults new.faults
   pub others : SameBut bank old.banks new.banks
@@ -59,7 +60,7 @@ pub record Began (g : Geometry) (chip : ChipView) : Type 0 where
   pub counters : chip.counters ≡ no_counts
   pub log : LogIs [] chip.log
 
--- the last `begin` failed: rows and counters are unsaid, and no log is told
+-- the last `begin` failed: rows and counters are unspecified, and no log is known
 pub record NotBegun (chip : ChipView) : Type 0 where
   pub begun : chip.begun ≡ false
-  pub untold : chip.log ≡ None
+  pub no_event : chip.log ≡ None

@@ -18,7 +18,7 @@ pub record Holds (bytes : List ℕ) (at : ℕ) (text : List ℕ) (next : ℕ) : 
   pub ends : next ≡ at + length text
   pub within : next ≤ length bytes
 
--- one text behind another
+-- one text after another
 pub Holds-then : (bytes : List ℕ) (at : ℕ) (x : List ℕ) (place : ℕ) (y : List ℕ) (next : ℕ)
     → Holds bytes at x place → Holds bytes place y next → Holds bytes at (x ++ y) next
 Holds-then bytes at x place y next p q = record {
@@ -32,11 +32,11 @@ pub Holds-front : (bytes : List ℕ) (at : ℕ) (x : List ℕ) (place : ℕ) (y 
 Holds-front bytes at x place y next h e =
     let whole : drop at bytes ≡ x ++ (y ++ drop next bytes) =
     h.parts ∙ append_assoc x y (drop next bytes) in
-    let behind : drop place bytes ≡ y ++ drop next bytes = ap (λ (k : ℕ). drop k bytes) e
+    let following : drop place bytes ≡ y ++ drop next bytes = ap (λ (k : ℕ). drop k bytes) e
     ∙ sym (drop-drop (length x) at bytes) ∙ ap (drop (length x)) whole
     ∙ drop_at x (y ++ drop next bytes) (length x) refl in
     record {
-      parts = whole ∙ ap (λ (t : List ℕ). x ++ t) (sym behind);
+      parts = whole ∙ ap (λ (t : List ℕ). x ++ t) (sym following);
       ends = e;
       within = omega (arith, h.ends, h.within, length-append x y);
     }

@@ -32,7 +32,7 @@ are-zeros : (n : ℕ) → list_all (λ b. eqb b 0) (replicate n 0) ≡ true
 are-zeros zero = refl
 are-zeros (suc n) = are-zeros n
 
--- a field of 16 bytes with a name in front and zeros behind
+-- a field of 16 bytes with a name in front and zeros after
 pub padded_is : (len : ℕ) (field : List ℕ) → length field ≡ 16 → len ≤ 16
     → list_all (λ b. eqb b 0) (drop len field) ≡ true → (len ∷ field) ≡ name_bytes (take len field)
 padded_is len field e l z =

@@ -25,8 +25,8 @@ pub fn padded_name(len: u8, field: &[u8]) -> Option<Name>
     requires { len ≤ length field.now }
     ensures { result ≡ (if is_padded_name len field.now then Some (take len field.now) else None) }
 {
-    let (front, behind) = field.split_at(usize::from(len));
-    if !all_zero(behind) {
+    let (front, following) = field.split_at(usize::from(len));
+    if !all_zero(following) {
         return None;
     }
     Name::new(front)

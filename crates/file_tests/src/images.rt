@@ -138,15 +138,15 @@ fn a_changed_byte_is_a_fault(rt: HostRuntime) -> Result<(), Fail> {
     Ok(())
 }
 
-/// The fields of an object's record: its first byte there, and the one behind it.
+/// The fields of an object's record: its first byte there, and the one after it.
 static FIELDS: [(u32, u32); 5] = [(0, 1), (1, 17), (17, 18), (18, 20), (20, 24)];
 
-// A byte that is set to 255 is told at the field that it stands in.
+// A byte that is set to 255 is reported at the field that it stands in.
 #[test]
 fn each_byte_of_a_record_counts(rt: HostRuntime) -> Result<(), Fail> {
     for record in [14u32, 38, 62] {
-        for (field, behind) in &FIELDS {
-            for place in *field..*behind {
+        for (field, following) in &FIELDS {
+            for place in *field..*following {
                 let mut bytes = image_a(rt.alloc())?;
                 put_byte(&mut bytes, record.wrapping_add(place) as usize, 255);
                 let at = record.wrapping_add(*field);

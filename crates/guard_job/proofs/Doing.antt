@@ -60,8 +60,8 @@ as_number : (b : Bool) → bool_byte b ≡ cond b 1 0
 as_number true = refl
 as_number false = refl
 
-pub byte_is : (n : ℕ) (told is : Bool) → n ≡ bool_byte told → told ≡ is → n ≡ cond is 1 0
-byte_is n told is e f = e ∙ as_number told ∙ ap (λ (b : Bool). cond b 1 0) f
+pub byte_is : (n : ℕ) (known is : Bool) → n ≡ bool_byte known → known ≡ is → n ≡ cond is 1 0
+byte_is n known is e f = e ∙ as_number known ∙ ap (λ (b : Bool). cond b 1 0) f
 
 -- what a guarded step of a machine says
 pub record Stepped (m : Machine) (instr : Instruction) (n : Machine) (a b : ChipView)

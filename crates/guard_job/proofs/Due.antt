@@ -1,4 +1,4 @@
--- The flips that are due, and those behind them.
+-- The flips that are due, and those after them.
 use Rattle.std.proofs.Common.{◌≡◌, ◌≢◌, ℕ, ◌+◌, ◌<◌, ◌≤◌, true, false, eqb, List, []}
 use Rattle.std.proofs.Common.{◌∷◌, drop, length, get_or, refl, sym, ◌∙◌, ap, subst, arith}
 use Rattle.std.proofs.Common.{inl, inr, Option, Some, None, append-nil}
@@ -23,16 +23,16 @@ none_due k j [] l s = refl
 none_due k j (f ∷ flips) l s = let ne : eqb f.before k ≡ false = grind (arith, nat_tests, s.0) in
     rw ne (none_due k f.before flips (omega (arith, l, s.0)) s.1)
 
--- what stands behind those that are due
-pub record Behind (k : ℕ) (flips : List Flip) : Type 0 where
+-- what stands after those that are due
+pub record Following (k : ℕ) (flips : List Flip) : Type 0 where
   pub sorted : AreSorted (k + 1) (drop (length (due k flips)) flips)
   pub later : (j : ℕ) → k < j → due j (drop (length (due k flips)) flips) ≡ due j flips
 
-pub behind : (k : ℕ) (flips : List Flip) → AreSorted k flips → Behind k flips
-behind k [] s = record { sorted = tt; later = λ j l. refl }
-behind k (f ∷ flips) s = elim (eqb_tells f.before k) [
+pub following : (k : ℕ) (flips : List Flip) → AreSorted k flips → Following k flips
+following k [] s = record { sorted = tt; later = λ j l. refl }
+following k (f ∷ flips) s = elim (eqb_tells f.before k) [
   | inl t ↦
-      let rest = behind k flips (subst (λ j. AreSorted j flips) t.1 s.1) in
+      let rest = following k flips (subst (λ j. AreSorted j flips) t.1 s.1) in
       let e : due k (f ∷ flips) ≡ f ∷ due k flips = rw t.0 refl in
       record {
         sorted = subst (λ (ds : List Flip). AreSorted (k + 1) (drop (length ds) (f ∷ flips)))
@@ -77,7 +77,7 @@ pub lasts_of : (g : Geometry) (instrs : ℕ) (flips : List Flip)
 lasts_of g instrs [] all = tt
 lasts_of g instrs (f ∷ flips) all = (all.0.last, lasts_of g instrs flips all.1)
 
--- a flip that is not due: none behind it is
+-- a flip that is not due: none after it is
 pub not_due : (k : ℕ) (flips : List Flip) (done : ℕ) (d : Flip) → done < length flips
     → (get_or flips done d).before ≢ k → AreSorted k (drop done flips)
     → due k (drop done flips) ≡ []
@@ -117,26 +117,26 @@ pub log_goes_on : (f : Flip) (flips left : List Flip) (whole : List Event)
 log_goes_on f flips left whole start now one e banks did more new rest =
     let event = Write f.bank f.row
     (with_bit_inverted f.column (row_in f.row (now.banks f.bank))) in
-    let behind : Grew one.log new.log (flip_events flips (flipped f now.banks)) =
+    let following : Grew one.log new.log (flip_events flips (flipped f now.banks)) =
     subst (λ (b : Banks). Grew one.log new.log (flip_events flips b)) banks rest in
     more new (subst (λ (l : List Flip). Grew now.log new.log (flip_events l now.banks)) (sym e)
     (Grew-more now.log one.log new.log (event ∷ []) (flip_events flips (flipped f now.banks)) did
-    behind))
+    following))
 
--- those behind it are in order, and cells
-pub sorted_behind : (k : ℕ) (flips : List Flip) (done : ℕ) (d : Flip) → done < length flips
+-- those after it are in order, and cells
+pub sorted_after : (k : ℕ) (flips : List Flip) (done : ℕ) (d : Flip) → done < length flips
     → (get_or flips done d).before ≡ k → AreSorted k (drop done flips)
     → AreSorted k (drop (done + 1) flips)
-sorted_behind k flips done d here same s =
+sorted_after k flips done d here same s =
     let parts : (k ≤ (get_or flips done d).before)
     × AreSorted (get_or flips done d).before (drop (done + 1) flips) =
     subst (AreSorted k) (drop_more flips done d here) s in
     subst (λ (j : ℕ). AreSorted j (drop (done + 1) flips)) same parts.1
 
-pub cells_behind : (P : Flip → Type 0) (flips : List Flip) (done : ℕ) (d : Flip)
+pub cells_after : (P : Flip → Type 0) (flips : List Flip) (done : ℕ) (d : Flip)
     → done < length flips → AllByRecursion P (drop done flips)
     → AllByRecursion P (drop (done + 1) flips)
-cells_behind P flips done d here all =
+cells_after P flips done d here all =
     let parts : AllByRecursion P (get_or flips done d ∷ drop (done + 1) flips) =
     subst (AllByRecursion P) (drop_more flips done d here) all in
     parts.1

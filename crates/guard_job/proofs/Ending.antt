@@ -27,7 +27,7 @@ use Rattle.guard_model.specs.Guarded.{guarded_rows, guarded_said_by}
 use Rattle.guard_model.specs.Guarded.{guarded_table, guarded_tally, mended}
 use Rattle.guard_job.specs.Steps.{end_by, guarded_steps, line_steps}
 use Rattle.guard_job.specs.Parts.{IsCell, Mended}
-use Rattle.guard_job.proofs.Due.{all_due, behind, cells_of, lasts_of}
+use Rattle.guard_job.proofs.Due.{all_due, following, cells_of, lasts_of}
 use Rattle.guard_job.proofs.Sending.{stops_by}
 use Rattle.guard_job.proofs.Tallies.{tally_ends}
 
@@ -49,9 +49,9 @@ first_of P i left others e all =
     let both : AllByRecursion P (i ∷ others) = subst (AllByRecursion P) e all in both.0
 
 -- what holds of all flips that are left
-pub flips_behind : (P : Flip → Type 0) (n at : ℕ) (flips : List Flip)
+pub flips_after : (P : Flip → Type 0) (n at : ℕ) (flips : List Flip)
     → AllByRecursion P (drop at flips) → AllByRecursion P (drop (at + n) flips)
-flips_behind P n at flips all = subst (AllByRecursion P) (drop-drop n at flips)
+flips_after P n at flips all = subst (AllByRecursion P) (drop-drop n at flips)
     (all_parted P n (drop at flips) all).1
 
 -- a script whose first instruction was not done
@@ -103,13 +103,13 @@ pub tally_last : (g : Geometry) (o : Routines) (left : List Flip) (table : List 
     → b.counters ≡ guarded_tally g o table [] left a.counters
 tally_last g o left table a b m = m.counters ∙ sym (tally_ends g o table left a.counters)
 
--- the flips behind those that are due
+-- the flips after those that are due
 pub next_flips : (k n at : ℕ) (flips : List Flip) → AreSorted k (drop at flips)
     → n ≡ length (due k (drop at flips)) → (AreSorted (k + 1) (drop (at + n) flips))
     × ((j : ℕ) → k < j → due j (drop (at + n) flips) ≡ due j (drop at flips))
 next_flips k n at flips sorted count =
     let left = drop at flips in
-    let b = behind k left sorted in
+    let b = following k left sorted in
     let e : drop (length (due k left)) left ≡ drop (at + n) flips =
     ap (λ (m : ℕ). drop m left) (sym count) ∙ drop-drop n at flips in (
       subst (AreSorted (k + 1)) e b.sorted,

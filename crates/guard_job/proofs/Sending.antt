@@ -1,8 +1,9 @@
 -- Lines that are sent, and a chip that is used.
-use Rattle.std.proofs.Common.{◌≡◌, ℕ, ◌≤◌, Bool, true, false, List, [], ◌∷◌, ◌++◌, refl, sym, subst, inl}
+use Rattle.std.proofs.Common.{◌≡◌, ℕ, ◌≤◌, Bool, true, false, List, [], ◌∷◌, ◌++◌, refl, sym, subst}
+use Rattle.std.proofs.Common.{inl}
 use Rattle.std.proofs.Common.{inr}
 use Rattle.std.specs.Prelude.{Err}
-use Rattle.host_edge.specs.Views.{FolderView, SinkView, Told, AppendsPart}
+use Rattle.host_edge.specs.Views.{FolderView, SinkView, Known, AppendsPart}
 use Rattle.fault_counts.specs.Counts.{Rose}
 use Rattle.dram_model.specs.View.{ChipView}
 use Rattle.object_steps.specs.declared.fault.StepFault.{StepFault}
@@ -18,13 +19,13 @@ used : (files : FolderView) (s : SinkView) (a b : ChipView) → a.faults ≤ b.f
 used files s a b l = record { files = refl; sink = refl; chip = l }
 
 sent : (R : List ℕ → List ℕ → Type 0) (files : FolderView) (s t : SinkView) (chip : ChipView)
-    → Told R s.sent t.sent → s.faults ≤ t.faults → Sent R (world files s chip) (world files t chip)
-sent R files s t chip told l = record { files = refl; sent = told; faults = l; chip = refl }
+    → Known R s.sent t.sent → s.faults ≤ t.faults → Sent R (world files s chip) (world files t chip)
+sent R files s t chip known l = record { files = refl; sent = known; faults = l; chip = refl }
 
 printed : (R : List ℕ → List ℕ → Type 0) (files : FolderView) (s t : SinkView) (a b : ChipView)
-    → Told R s.sent t.sent → s.faults ≤ t.faults → a.faults ≤ b.faults
+    → Known R s.sent t.sent → s.faults ≤ t.faults → a.faults ≤ b.faults
     → Printed R (world files s a) (world files t b)
-printed R files s t a b told l m = record { files = refl; sent = told; faults = l; chip = m }
+printed R files s t a b known l m = record { files = refl; sent = known; faults = l; chip = m }
 
 -- the chip was used, and other steps go on
 pub and_then : (steps : List Step) (end : End) (files : FolderView) (s t : SinkView)
@@ -41,22 +42,22 @@ unused steps files s a b l rose = inr (refl, used files s a b l, rose)
 
 -- one instruction's line
 pub line_done : (prints : Bool) (bytes : List ℕ) (files : FolderView) (s t : SinkView)
-    (a b : ChipView) → Told (λ before after. after ≡ before ++ bytes) s.sent t.sent
+    (a b : ChipView) → Known (λ before after. after ≡ before ++ bytes) s.sent t.sent
     → s.faults ≤ t.faults → a.faults ≤ b.faults
     → Goes (line_steps prints bytes) Done (world files s a) (world files t b)
-line_done true bytes files s t a b told l m =
+line_done true bytes files s t a b known l m =
     inl (
       world files t b,
-      (printed (λ before after. after ≡ before ++ bytes) files s t a b told l m, refl),
+      (printed (λ before after. after ≡ before ++ bytes) files s t a b known l m, refl),
     )
-line_done false bytes files s t a b told l m =
+line_done false bytes files s t a b known l m =
     inl (
       world files s b,
       (
         used files s a b m,
         inl (
           world files t b,
-          (sent (λ before after. after ≡ before ++ bytes) files s t b told l, refl),
+          (sent (λ before after. after ≡ before ++ bytes) files s t b known l, refl),
         ),
       ),
     )
@@ -69,11 +70,13 @@ pub record Failed (fault : StepFault) (prints : Bool) (bytes : List ℕ) (s t : 
   pub chip_rose : fault ≡ step_fault.ChipFault → Rose a.faults b.faults
   pub unsent : fault ≡ step_fault.ChipFault → prints ≡ false → t ≡ s
   pub sink_rose : fault ≡ step_fault.WriteFault → Rose s.faults t.faults
-  pub part : Told (AppendsPart bytes) s.sent t.sent
+  pub part : Known (AppendsPart bytes) s.sent t.sent
 
-pub line_failed : (X : Type 0) (fault : StepFault) (prints : Bool) (bytes : List ℕ) (files : FolderView)
+pub line_failed : (X : Type 0) (fault : StepFault) (prints : Bool) (bytes : List ℕ) (files :
+    FolderView)
     (s t : SinkView) (a b : ChipView) → Failed fault prints bytes s t a b
-    → Goes (line_steps prints bytes) (end_by {X = X} (Err fault)) (world files s a) (world files t b)
+    → Goes (line_steps prints bytes) (end_by {X = X} (Err fault)) (world files s a) (world files t
+    b)
 line_failed X step_fault.ChipFault true bytes files s t a b f =
     inr (
       printed (AppendsPart bytes) files s t a b f.part f.sink f.chip,
@@ -97,7 +100,7 @@ line_failed X step_fault.WriteFault false bytes files s t a b f =
       ),
     )
 
--- steps that stopped, whatever comes behind them
+-- steps that stopped, whatever comes after them
 pub stops_by : (X : Type 0) (fault : StepFault) (xs ys : List Step) (a b : World)
     → Goes xs (end_by {X = X} (Err fault)) a b → Goes (xs ++ ys) (end_by {X = X} (Err fault)) a b
 stops_by X step_fault.ChipFault xs ys a b g = stops xs ys ChipFailed a b g

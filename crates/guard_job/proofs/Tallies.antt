@@ -1,5 +1,6 @@
 -- Counters of a guarded script, over one instruction and at its end.
-use Rattle.std.proofs.Common.{◌≡◌, ℕ, ◌+◌, Bool, true, false, cond, List, [], ◌∷◌, ◌++◌, length, refl}
+use Rattle.std.proofs.Common.{◌≡◌, ℕ, ◌+◌, Bool, true, false, cond, List, [], ◌∷◌, ◌++◌, length}
+use Rattle.std.proofs.Common.{refl}
 use Rattle.std.proofs.Common.{sym, ◌∙◌, ap, arith}
 use Rattle.std.specs.Prelude.{count_by}
 use Rattle.std.proofs.lemmas.List.Recursion.{is_count_by}
@@ -42,17 +43,17 @@ pub tally_goes_on : (g : Geometry) (operations : Routines) (table : List Named)
     (instr_tally g operations table n instr k)
 tally_goes_on g operations table instr script flips later n k e =
     let own = plain_script g operations table instr in
-    let behind = guarded_table g operations table instr in
-    let rest = whole_script g operations behind script in
+    let following = guarded_table g operations table instr in
+    let rest = whole_script g operations following script in
     let go = scripts_go_on g operations table own rest in
     let sums : sum_of (replies g operations table (own ++ rest)) ≡ _ = ap sum_of go.answers
-    ∙ sum_append (replies g operations table own) (replies g operations behind rest) in
+    ∙ sum_append (replies g operations table own) (replies g operations following rest) in
     let aaps = ap (λ (c : Counts). c.aap) sums in
     let aps = ap (λ (c : Counts). c.ap) sums in
     let loaded = go.rows rows_loaded in
     let printed = go.rows rows_printed in
     alike (guarded_tally g operations table (instr ∷ script) flips k)
-    (guarded_tally g operations behind script later (instr_tally g operations table n instr k))
+    (guarded_tally g operations following script later (instr_tally g operations table n instr k))
     (omega (arith, aaps)) (omega (arith, aps)) (omega (arith, loaded, e))
     (omega (arith, printed, e))
 

@@ -71,11 +71,11 @@ module _ (g : Geometry) (operations : Routines) (flips : List Flip) (k : ℕ) (i
         → Grew b.log new.log (run_events g operations flips (k + 1) turn' table' b.banks others)
         → Grew a.log new.log (run_events g operations flips k turn table a.banks (instr ∷ others))
     log_goes new more =
-        let behind = run_events g operations flips (k + 1)
+        let following = run_events g operations flips (k + 1)
         (guarded_turn g operations turn table instr) (guarded_table g operations table instr)
         (guarded_rows g operations table (mended g flips k table a.banks) instr) others in
         Grew-more a.log b.log new.log
-        (instr_events g operations (due k flips) turn table a.banks instr) behind d.log
+        (instr_events g operations (due k flips) turn table a.banks instr) following d.log
         (subst (λ (es : List Event). Grew b.log new.log es) events_are more)
 
     pub votes_go : (total : ℕ) → total + votes_at_end g operations table (instr ∷ others)

@@ -68,25 +68,25 @@ lost_row = refl
 abbrev copy : ℕ → Object
 copy base = record { base = base; width = 2; count = 4 }
 
-abbrev behind : List Flip
-behind = record { before = 3; bank = 1; row = 0; column = 1 } ∷ record {
+abbrev following : List Flip
+following = record { before = 3; bank = 1; row = 0; column = 1 } ∷ record {
   before = 3;
   bank = 1;
   row = 2;
   column = 1;
 } ∷ []
 
-first_bank : (bank column : ℕ) → bank < 1 → majority (is_hit behind (copy 0) bank column)
-    (is_hit behind (copy 2) bank column) (is_hit behind (copy 4) bank column) ≡ false
+first_bank : (bank column : ℕ) → bank < 1 → majority (is_hit following (copy 0) bank column)
+    (is_hit following (copy 2) bank column) (is_hit following (copy 4) bank column) ≡ false
 unfolding majority
 first_bank zero column l = refl
 first_bank (suc bank) column l = absurd (omega arith)
 
-in_rows : majority (is_hit behind (copy 0) 1 1) (is_hit behind (copy 2) 1 1)
-    (is_hit behind (copy 4) 1 1) ≡ true
+in_rows : majority (is_hit following (copy 0) 1 1) (is_hit following (copy 2) 1 1)
+    (is_hit following (copy 4) 1 1) ≡ true
 unfolding majority
 in_rows = refl
 
-behind_row : AtMostOne (record small { banks = 2 }) behind ((120 ∷ 97 ∷ [], copy 0)
+after_row : AtMostOne (record small { banks = 2 }) following ((120 ∷ 97 ∷ [], copy 0)
     ∷ (121 ∷ 97 ∷ [], copy 2) ∷ (122 ∷ 97 ∷ [], copy 4) ∷ [])
-behind_row = (λ bank column l. first_bank bank column l, tt)
+after_row = (λ bank column l. first_bank bank column l, tt)

@@ -67,14 +67,14 @@ abbrev pub with_flip : Flip → Result (List Flip) FlipsFault → Result (List F
 with_flip f (Ok flips) = Ok (f ∷ flips)
 with_flip f (Err fault) = Err fault
 
--- what a line says, and then the lines behind it, as they are behind a flip with some K
+-- what a line says, and then the lines after it, as they are after a flip with some K
 abbrev pub and_rest : ℕ → ℕ → Result (Option Flip) FlipsKind → (ℕ → Result (List Flip) FlipsFault)
     → Result (List Flip) FlipsFault
 and_rest before number (Err kind) rest = Err (record { line = number; kind = kind })
 and_rest before number (Ok None) rest = rest before
 and_rest before number (Ok (Some f)) rest = with_flip f (rest f.before)
 
--- the flips of these lines, the first of which has this number, behind a flip with this K
+-- the flips of these lines, the first of which has this number, after a flip with this K
 abbrev pub flips_from : Geometry → ℕ → ℕ → List (List ℕ) → ℕ → Result (List Flip) FlipsFault
 flips_from g instrs number [] before = Ok []
 flips_from g instrs number (line ∷ lines) before = and_rest before number

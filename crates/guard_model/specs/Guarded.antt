@@ -110,7 +110,7 @@ guarded_rows g operations table banks instr =
     banks_at_end g operations table banks (plain_script g operations table instr)
 
 -- its pieces are its plain instructions one by one, a bbop as a wave of one; their events under
--- the order in force, and the order behind them
+-- the order in force, and the order after them
 abbrev pub guarded_pieces : Geometry → Routines → List Named → Instruction → List Piece
 guarded_pieces g operations table instr = map piece_of (plain_script g operations table instr)
 

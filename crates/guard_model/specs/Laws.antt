@@ -167,7 +167,7 @@ FlipsAreRight =
     → flips_of g instrs text ≡ Ok flips
     → AllByRecursion (IsFlip g instrs) flips × AreSorted 1 flips
 
--- of flips in order those that are due stand at the front, and go on behind them
+-- of flips in order those that are due stand at the front, and go on after them
 abbrev pub DueFirst : Type 0
 DueFirst = (k : ℕ) (flips : List Flip) → AreSorted k flips
     → (later : List Flip) × (flips ≡ due k flips ++ later) × AreSorted (k + 1) later

@@ -21,11 +21,11 @@ pub record SinkView : Type 0 where
   pub sent : Option (List ℕ)
   pub faults : ℕ
 
--- what was told is still told, and is related so
-abbrev pub Told : {A : Type 0} → (A → A → Type 0) → Option A → Option A → Type 0
-Told R None new = Unit {0}
-Told R (Some old) None = ⊥
-Told R (Some old) (Some new) = R old new
+-- what was known is still known, and is related so
+abbrev pub Known : {A : Type 0} → (A → A → Type 0) → Option A → Option A → Type 0
+Known R None new = Unit {0}
+Known R (Some old) None = ⊥
+Known R (Some old) (Some new) = R old new
 
 -- no count of a folder falls
 pub record NoCountFalls (old new : FolderView) : Type 0 where

@@ -4,7 +4,7 @@ ghost use Rattle.std.specs.Prelude.{◌≡◌, ◌≢◌, ℕ, ◌+◌, ◌<◌,
 ghost use Rattle.std.specs.Prelude.{OnErr, IsErrOf, slice_index, take, position, IfSome};
 ghost use Rattle.std.specs.Str.{bytes_eq};
 ghost use Rattle.host_edge.specs.Disk.{place_of, counts_together, words_of, disk_view};
-ghost use Rattle.host_edge.specs.Views.{FolderView, Told, NoCountFalls};
+ghost use Rattle.host_edge.specs.Views.{FolderView, Known, NoCountFalls};
 ghost use Rattle.fault_counts.specs.Counts.{Rose, RoseBy, raised};
 ghost use Rattle.host_edge.specs.Views.{SameLoadFaults, CountsFault, HasBytes, IsLonger};
 ghost use Rattle.host_edge.specs.Views.{KeepsOthers, HasNoFaults};
@@ -31,7 +31,7 @@ pub struct DiskFolder<'a> {
 
 impl<'a> DiskFolder<'a> {
     pub fn new(rt: HostRuntime, words: &'a [&'a str]) -> DiskFolder<'a>
-        ensures told { (disk_view result).holds ≡ None }
+        ensures known { (disk_view result).holds ≡ None }
         ensures faults { HasNoFaults (disk_view result) }
         ensures words { words_of result ≡ words.now }
     {
@@ -119,7 +119,7 @@ impl Folder for DiskFolder<'_> {
     }
 
     fn store(&mut self, name: &str, bytes: &[u8]) -> Result<(), Failed>
-        ensures others { Told (KeepsOthers name.now) (disk_view self.old).holds
+        ensures others { Known (KeepsOthers name.now) (disk_view self.old).holds
             (disk_view self.new).holds }
         ensures counts { NoCountFalls (disk_view self.old) (disk_view self.new) }
         ensures stored { OnOk result (HasBytes (disk_view self.new) name.now bytes.now) }

@@ -1,7 +1,7 @@
 //! Files by name, as a program relies on them.
 
 ghost use Rattle.std.specs.Prelude.{◌≡◌, ◌+◌, ◌≤◌, length, IfOk, OnOk, OnErr, IsErrOf};
-ghost use Rattle.host_edge.specs.Views.{FolderView, Told, NoCountFalls, HasBytes};
+ghost use Rattle.host_edge.specs.Views.{FolderView, Known, NoCountFalls, HasBytes};
 ghost use Rattle.fault_counts.specs.Counts.{Rose, RoseBy};
 ghost use Rattle.host_edge.specs.Views.{IsLonger, KeepsOthers};
 
@@ -24,9 +24,9 @@ pub trait Folder {
             → RoseBy (limit + 1) (view self.old).taken (view self.new).taken }
         ensures longer { IsErrOf result LoadNo.TooLong → IsLonger limit (view self.old) name.now };
 
-    /// Sets the file to the bytes. After a failure that file is unsaid.
+    /// Sets the file to the bytes. After a failure that file is unspecified.
     fn store(&mut self, name: &str, bytes: &[u8]) -> Result<(), Failed>
-        ensures others { Told (KeepsOthers name.now) (view self.old).holds (view self.new).holds }
+        ensures others { Known (KeepsOthers name.now) (view self.old).holds (view self.new).holds }
         ensures counts { NoCountFalls (view self.old) (view self.new) }
         ensures stored { OnOk result (HasBytes (view self.new) name.now bytes.now) }
         ensures failed { OnErr result (Rose (view self.old).store_faults

@@ -1,4 +1,4 @@
-//! A folder in memory, whose calls fail where they are told to.
+//! A folder in memory, whose calls fail where they are set to.
 
 ghost use Rattle.std.specs.Prelude.{◌≡◌, ℕ, List, ◌+◌, ◌≤◌, length, Some, None, IfOk, OnOk, OnErr};
 ghost use Rattle.std.specs.Prelude.{IsErrOf, IfSome, IsSomeAnd, IsTrue, ◌↔◌, ◌||◌, ◌++◌, ◌∷◌, []};
@@ -7,7 +7,7 @@ ghost use Rattle.std.specs.Option.{option_copied};
 ghost use Rattle.host_edge.specs.Mem.{files_of, faults_of, counts_for, is_absent, folder_view};
 ghost use Rattle.host_edge.specs.Mem.{folder_plan};
 ghost use Rattle.fault_counts.specs.Plans.{is_due, next_call};
-ghost use Rattle.host_edge.specs.Views.{FolderView, Told, NoCountFalls};
+ghost use Rattle.host_edge.specs.Views.{FolderView, Known, NoCountFalls};
 ghost use Rattle.fault_counts.specs.Counts.{Rose, RoseBy, raised};
 ghost use Rattle.host_edge.specs.Views.{SameLoadFaults, HasNoFaults, HasBytes, IsLonger};
 ghost use Rattle.host_edge.specs.Views.{KeepsOthers, SameFiles, CountsFault};
@@ -26,7 +26,7 @@ struct Kept {
     load_faults: u64,
 }
 
-/// Keeps files by name. A call that is told to fail, a load of a name without a file and a store
+/// Keeps files by name. A call that is set to fail, a load of a name without a file and a store
 /// that finds no
 /// memory are faults. A name with a file has a count of load faults of its own, which starts with
 /// the count
@@ -105,13 +105,13 @@ impl MemFolder {
         }
     }
 
-    /// Sets the file to the bytes. It is no call of the folder: it cannot be told to fail, and
+    /// Sets the file to the bytes. It is no call of the folder: it cannot be set to fail, and
     /// counts nothing.
     pub fn put_file(&mut self, name: &str, bytes: &[u8]) -> Result<(), NoMemory>
-        ensures others { Told (KeepsOthers name.now) (folder_view self.old).holds
+        ensures others { Known (KeepsOthers name.now) (folder_view self.old).holds
             (folder_view self.new).holds }
         ensures stored { OnOk result (HasBytes (folder_view self.new) name.now bytes.now) }
-        ensures unchanged { OnErr result (Told SameFiles (folder_view self.old).holds
+        ensures unchanged { OnErr result (Known SameFiles (folder_view self.old).holds
             (folder_view self.new).holds) }
         ensures load_faults { SameLoadFaults (folder_view self.old) (folder_view self.new) }
         ensures store_faults { (folder_view self.new).store_faults
@@ -201,13 +201,13 @@ impl Folder for MemFolder {
     }
 
     fn store(&mut self, name: &str, bytes: &[u8]) -> Result<(), Failed>
-        ensures others { Told (KeepsOthers name.now) (folder_view self.old).holds
+        ensures others { Known (KeepsOthers name.now) (folder_view self.old).holds
             (folder_view self.new).holds }
         ensures counts { NoCountFalls (folder_view self.old) (folder_view self.new) }
         ensures stored { OnOk result (HasBytes (folder_view self.new) name.now bytes.now) }
         ensures failed { OnErr result (Rose (folder_view self.old).store_faults
             (folder_view self.new).store_faults) }
-        ensures unchanged { OnErr result (Told SameFiles (folder_view self.old).holds
+        ensures unchanged { OnErr result (Known SameFiles (folder_view self.old).holds
             (folder_view self.new).holds) }
         ensures due { IsTrue (is_due (folder_plan self.old)) → IsErr result }
         ensures plan { folder_plan self.new ≡ next_call (folder_plan self.old) }

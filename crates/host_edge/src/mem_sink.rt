@@ -1,9 +1,9 @@
-//! A sink in memory, whose puts fail where they are told to.
+//! A sink in memory, whose puts fail where they are set to.
 
 ghost use Rattle.std.specs.Prelude.{◌≡◌, ◌≤◌, ◌++◌, [], ◌∷◌, Some, IsErr, IsTrue, OnOk, OnErr};
 ghost use Rattle.host_edge.specs.Mem.{sink_view, sink_plan};
 ghost use Rattle.fault_counts.specs.Plans.{is_due, next_call};
-ghost use Rattle.host_edge.specs.Views.{SinkView, Told, AppendsPart};
+ghost use Rattle.host_edge.specs.Views.{SinkView, Known, AppendsPart};
 ghost use Rattle.fault_counts.specs.Counts.{Rose, raised};
 
 use crate::NoMemory;
@@ -12,7 +12,7 @@ use crate::sink::Sink;
 use fault_counts::{CallPlan, raised};
 use std::alloc::Global;
 
-/// Keeps the bytes that it is sent. A put that is told to fail, or that finds no memory, keeps
+/// Keeps the bytes that it is sent. A put that is set to fail, or that finds no memory, keeps
 /// none.
 #[derive(Drop)]
 pub struct MemSink {
@@ -55,9 +55,9 @@ impl Sink for MemSink {
 
     fn put(&mut self, bytes: &[u8]) -> Result<(), Failed>
         ensures counts { (sink_view self.old).faults ≤ (sink_view self.new).faults }
-        ensures sent { OnOk result (Told (λ old new. new
+        ensures sent { OnOk result (Known (λ old new. new
             ≡ old ++ bytes.now) (sink_view self.old).sent (sink_view self.new).sent) }
-        ensures part { OnErr result (Told (AppendsPart bytes.now) (sink_view self.old).sent
+        ensures part { OnErr result (Known (AppendsPart bytes.now) (sink_view self.old).sent
             (sink_view self.new).sent) }
         ensures failed { OnErr result (Rose (sink_view self.old).faults
             (sink_view self.new).faults) }

@@ -1,7 +1,7 @@
 //! A place for bytes, as a program relies on it.
 
 ghost use Rattle.std.specs.Prelude.{◌≡◌, ◌≤◌, ◌++◌, OnOk, OnErr};
-ghost use Rattle.host_edge.specs.Views.{SinkView, Told, AppendsPart};
+ghost use Rattle.host_edge.specs.Views.{SinkView, Known, AppendsPart};
 ghost use Rattle.fault_counts.specs.Counts.{Rose};
 
 use crate::answer::Failed;
@@ -13,9 +13,9 @@ pub trait Sink {
     /// Appends the bytes, and after a failure a prefix of them.
     fn put(&mut self, bytes: &[u8]) -> Result<(), Failed>
         ensures counts { (view self.old).faults ≤ (view self.new).faults }
-        ensures sent { OnOk result (Told (λ old new. new ≡ old ++ bytes.now) (view self.old).sent
+        ensures sent { OnOk result (Known (λ old new. new ≡ old ++ bytes.now) (view self.old).sent
             (view self.new).sent) }
-        ensures part { OnErr result (Told (AppendsPart bytes.now) (view self.old).sent
+        ensures part { OnErr result (Known (AppendsPart bytes.now) (view self.old).sent
             (view self.new).sent) }
         ensures failed { OnErr result (Rose (view self.old).faults (view self.new).faults) };
 }

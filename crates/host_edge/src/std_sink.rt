@@ -2,7 +2,7 @@
 
 ghost use Rattle.std.specs.Prelude.{◌≡◌, ◌≤◌, ◌++◌, OnOk, OnErr};
 ghost use Rattle.host_edge.specs.Disk.{std_view};
-ghost use Rattle.host_edge.specs.Views.{SinkView, Told, AppendsPart};
+ghost use Rattle.host_edge.specs.Views.{SinkView, Known, AppendsPart};
 ghost use Rattle.fault_counts.specs.Counts.{Rose, raised};
 
 use crate::answer::Failed;
@@ -33,10 +33,10 @@ impl<W: Write> Sink for StdSink<W> {
     fn put(&mut self, bytes: &[u8]) -> Result<(), Failed>
         ensures counts { (std_view W.contents self.old).faults
             ≤ (std_view W.contents self.new).faults }
-        ensures sent { OnOk result (Told (λ old new. new
+        ensures sent { OnOk result (Known (λ old new. new
             ≡ old ++ bytes.now) (std_view W.contents self.old).sent
             (std_view W.contents self.new).sent) }
-        ensures part { OnErr result (Told (AppendsPart bytes.now)
+        ensures part { OnErr result (Known (AppendsPart bytes.now)
             (std_view W.contents self.old).sent (std_view W.contents self.new).sent) }
         ensures failed { OnErr result (Rose (std_view W.contents self.old).faults
             (std_view W.contents self.new).faults) }

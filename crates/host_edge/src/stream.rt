@@ -3,7 +3,7 @@
 ghost use Rattle.std.specs.Prelude.{◌≡◌, ◌<◌, ◌≤◌, ◌++◌, length, IfOk, IsErrOf};
 ghost use Rattle.std.specs.Bool.{OnTrue, OnFalse};
 ghost use Rattle.std.specs.Io.KnownBytes.{Appends, Consumes, IsAtEnd};
-ghost use Rattle.host_edge.specs.Views.{Told, AppendsPart};
+ghost use Rattle.host_edge.specs.Views.{Known, AppendsPart};
 
 use crate::answer::LoadNo;
 use fault_counts::raised;
@@ -12,9 +12,9 @@ use std::io::{ErrorKind, Read, Write};
 
 /// Whether all the bytes were written. If not, a prefix of them was.
 pub(crate) fn write_whole<W: Write>(out: &mut W, bytes: &[u8]) -> bool
-    ensures all { OnTrue result (Told (λ old new. new ≡ old ++ bytes.now) (W.contents out.old)
+    ensures all { OnTrue result (Known (λ old new. new ≡ old ++ bytes.now) (W.contents out.old)
         (W.contents out.new)) }
-    ensures part { OnFalse result (Told (AppendsPart bytes.now) (W.contents out.old)
+    ensures part { OnFalse result (Known (AppendsPart bytes.now) (W.contents out.old)
         (W.contents out.new)) }
 {
     let mut rest = bytes;

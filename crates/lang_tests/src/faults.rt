@@ -477,14 +477,14 @@ fn fault(rt: &(impl Abort + AllocGlobal), text: &[u8]) -> Fault {
 }
 
 #[test]
-fn faults_are_told(rt: HostRuntime) {
+fn faults_are_reported(rt: HostRuntime) {
     for (text, want) in TEXTS {
         assert!(rt; fault(&rt, text) == want);
     }
 }
 
 #[test]
-fn faults_of_pairs_are_told(rt: HostRuntime) {
+fn faults_of_pairs_are_reported(rt: HostRuntime) {
     for (text, want) in PAIRS {
         assert!(rt; fault(&rt, text) == want);
     }

@@ -76,7 +76,7 @@ fn texts_are_read(rt: HostRuntime) {
 }
 
 #[test]
-fn names_are_told(rt: HostRuntime) {
+fn names_are_reported(rt: HostRuntime) {
     let words: [(&[u8], bool); 9] = [
         (b"a", true),
         (b"_", true),

@@ -10,7 +10,7 @@ fn text_of(name: &Name) -> &str {
     str::from_utf8(name.bytes()).unwrap_or("?")
 }
 
-/// The instruction as a line, with one blank behind each word.
+/// The instruction as a line, with one blank after each word.
 fn spell(line: &mut String, instr: &Instr) -> Result<(), AllocError> {
     match instr {
         Instr::Init { name, count, n } => write!(line, "init {} {count} {n}\n", text_of(name)),

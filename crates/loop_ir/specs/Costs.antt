@@ -6,7 +6,7 @@ use Rattle.std.specs.List.{list_any, list_all}
 use mathlib.Core.Bool.{beq}
 use Rattle.mig_graph.specs.declared.Lit.{Lit}
 use Rattle.mig_graph.specs.declared.Node.{Node}
-use Rattle.mig_graph.specs.Literals.{is_turned, node_of}
+use Rattle.mig_graph.specs.Literals.{is_complemented, node_of}
 use Rattle.mig_graph.specs.Outputs.{lit_at}
 use Rattle.loop_ir.specs.declared.ir.Sub.{Sub}
 use Rattle.loop_ir.specs.declared.ir.Sub.TheVariants.{Zero, Top, Inner as At_inner, InnerDown}
@@ -24,7 +24,7 @@ body_cost b = 4 * length b.graph.nodes + 3 * length b.outs
 -- the only output is a constant or an input that is not inverted
 abbrev pub is_copy : Block → Bool
 is_copy b = (length b.graph.nodes == 0) && ((length b.outs == 1)
-    && not (is_turned (lit_at b.outs 0)))
+    && not (is_complemented (lit_at b.outs 0)))
 
 -- both are one literal
 abbrev pub same_lit : Lit → Lit → Bool
@@ -54,28 +54,28 @@ is_body inputs nodes outs b = (b.graph.inputs == inputs) && (same_nodes b.graph.
 abbrev pub plain : ℕ → Lit
 plain k = record { node = k; inverted = false }
 
-abbrev pub turned : ℕ → Lit
-turned k = record { node = k; inverted = true }
+abbrev pub complemented : ℕ → Lit
+complemented k = record { node = k; inverted = true }
 
 -- the complement, the and, the or and the parity of two inputs, and the sum of three with its carry
 abbrev pub is_not : Block → Bool
-is_not b = is_body 1 [] (turned 1 ∷ []) b
+is_not b = is_body 1 [] (complemented 1 ∷ []) b
 
 abbrev pub is_and : Block → Bool
 is_and b = is_body 2 (node_of (plain 0) (plain 1) (plain 2) ∷ []) (plain 3 ∷ []) b
 
 abbrev pub is_or : Block → Bool
-is_or b = is_body 2 (node_of (turned 0) (plain 1) (plain 2) ∷ []) (plain 3 ∷ []) b
+is_or b = is_body 2 (node_of (complemented 0) (plain 1) (plain 2) ∷ []) (plain 3 ∷ []) b
 
 abbrev pub is_xor : Block → Bool
 is_xor b = is_body 2
-    (node_of (plain 0) (turned 1) (plain 2) ∷ node_of (plain 0) (plain 1) (turned 2)
-    ∷ node_of (turned 0) (plain 3) (plain 4) ∷ []) (plain 5 ∷ []) b
+    (node_of (plain 0) (complemented 1) (plain 2) ∷ node_of (plain 0) (plain 1) (complemented 2)
+    ∷ node_of (complemented 0) (plain 3) (plain 4) ∷ []) (plain 5 ∷ []) b
 
 abbrev pub is_add : Block → Bool
 is_add b = is_body 3
-    (node_of (plain 1) (plain 2) (plain 3) ∷ node_of (plain 1) (plain 2) (turned 3)
-    ∷ node_of (plain 3) (turned 4) (plain 5) ∷ []) (plain 6 ∷ plain 4 ∷ []) b
+    (node_of (plain 1) (plain 2) (plain 3) ∷ node_of (plain 1) (plain 2) (complemented 3)
+    ∷ node_of (plain 3) (complemented 4) (plain 5) ∷ []) (plain 6 ∷ plain 4 ∷ []) b
 
 -- what one round may take: a copy is one command, and the bodies of five operations are fixed
 abbrev pub turn_cost : Block → ℕ

@@ -361,7 +361,8 @@ bbop_job g state o names n first = record {
 -- Each destination's columns hold the numbers of its result, made of the sources' numbers, each at
 -- its place
 pub bbop_numbers : (g : Geometry) (banks : Banks) (state : List Held) (o : Routine)
-    (names : List (List ℕ)) (first : Object) (count n : ℕ) (meaning : List ℕ → List ℕ) (job : WaveJob)
+    (names : List (List ℕ)) (first : Object) (count n : ℕ) (meaning : List ℕ
+    → List ℕ) (job : WaveJob)
     → Agrees g banks state → IsGood g (table_of state) o names count n → first.count ≡ count
     → Performs o.shape n (issues_of (o.trace n)) meaning
     → job ≡ bbop_job g state o names n first → (k : ℕ) → k < length (dsts_in o.shape names)
@@ -471,7 +472,8 @@ untouched g state o names count n k row t good l ne x y (inr (inr spill)) =
 
 -- The columns of every other object stay
 pub bbop_others : (g : Geometry) (banks : Banks) (state : List Held) (o : Routine)
-    (names : List (List ℕ)) (first : Object) (count n : ℕ) (meaning : List ℕ → List ℕ) (job : WaveJob)
+    (names : List (List ℕ)) (first : Object) (count n : ℕ) (meaning : List ℕ
+    → List ℕ) (job : WaveJob)
     → Agrees g banks state → IsGood g (table_of state) o names count n
     → Performs o.shape n (issues_of (o.trace n)) meaning → job ≡ bbop_job g state o names n first
     → (k : ℕ) → k < length state → is_one_of (dsts_in o.shape names) (get_or state k no_one).name

@@ -20,7 +20,8 @@ use Rattle.uprog_code.specs.declared.code.Uop.{Uop}
 use Rattle.uprog_code.specs.declared.code.Uop.TheVariants.{Done, SetI, SetN, SetT, Mov, Add, AddI}
 use Rattle.uprog_code.specs.declared.code.Uop.TheVariants.{SubI, Bnez, Aap, Ap}
 use Rattle.uprog_code.specs.Shape.{Shape}
-use Rattle.uprog_code.specs.Machine.{Issue, IssueAap, IssueAp, Trace, Ended, Stuck, Next, act, act_at}
+use Rattle.uprog_code.specs.Machine.{Issue, IssueAap, IssueAp, Trace, Ended, Stuck, Next, act}
+use Rattle.uprog_code.specs.Machine.{act_at}
 use Rattle.uprog_code.specs.Machine.{onto, issued, all_in_range, command_at, issue, start, trace}
 use Rattle.uprog_code.specs.Machine.{issues_of}
 use Rattle.uprog_code.specs.declared.walker.Why3.TheVariants.{Index, Register}

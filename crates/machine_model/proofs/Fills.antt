@@ -151,12 +151,12 @@ banks_inside cs a (suc n) banks bank l h =
           ∙ on-its-bank a cs banks)
     ])
 
-banks_behind : (cs : List Command) (a n : ℕ) (banks : Banks) (bank : ℕ) → a + n ≤ bank
+banks_after : (cs : List Command) (a n : ℕ) (banks : Banks) (bank : ℕ) → a + n ≤ bank
     → after (on_banks cs a n) banks bank ≡ banks bank
-banks_behind cs a zero banks bank l = refl
-banks_behind cs a (suc n) banks bank l =
+banks_after cs a zero banks bank l = refl
+banks_after cs a (suc n) banks bank l =
     rw (after-append (row_events a cs) (on_banks cs (a + 1) n) banks)
-    (banks_behind cs (a + 1) n (after (row_events a cs) banks) bank (omega arith)
+    (banks_after cs (a + 1) n (after (row_events a cs) banks) bank (omega arith)
     ∙ on-others a cs banks bank (λ e. absurd (omega arith)))
 
 pub through_bank : (cs : List Command) (k : ℕ) (banks : Banks) (bank : ℕ)
@@ -165,7 +165,7 @@ through_bank cs k banks bank =
     elim (cases_lt bank k) [
       | inl lt ↦ banks_inside cs 0 k banks bank (omega arith) (omega arith)
           ∙ rw (lt-ltb bank k lt) refl
-      | inr ge ↦ banks_behind cs 0 k banks bank (omega arith) ∙ rw (not_below bank k ge) refl
+      | inr ge ↦ banks_after cs 0 k banks bank (omega arith) ∙ rw (not_below bank k ge) refl
     ] where
       not_below : (b k : ℕ) → k ≤ b → ltb b k ≡ false
       not_below b k h = grind (arith, nat_tests)

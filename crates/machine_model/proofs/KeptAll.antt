@@ -39,7 +39,7 @@ use Rattle.machine_model.proofs.Bbops.{or_false}
 use Rattle.machine_model.proofs.Steps.{idle}
 use Rattle.machine_model.proofs.Fills.{fill_commands, fill_keeps}
 use Rattle.machine_model.proofs.Makes.{filled}
-use Rattle.machine_model.proofs.Loads.{writes, each_inside, each_behind, all_writes, all_own, part}
+use Rattle.machine_model.proofs.Loads.{writes, each_inside, each_after, all_writes, all_own, part}
 use Rattle.machine_model.proofs.Places.{still, still_table}
 use Rattle.machine_model.proofs.Tables.{listed_after}
 
@@ -85,7 +85,7 @@ loaded_kept g o vs banks bank row out =
           ∙ writes_other_rows bank o.base (part w nums bank) 0 o.width row (banks bank) (λ l m.
           let has : (ltb bank (segments g o) && has_row o row) ≡ true =
           grind (arith, nat_tests) in cc)
-      | inr ge ↦ ap (row_in row) (each_behind (all_writes w o.base o.width nums) 0 (segments g o)
+      | inr ge ↦ ap (row_in row) (each_after (all_writes w o.base o.width nums) 0 (segments g o)
           banks bank (all_own w o.base o.width nums) (omega arith))
     ]
 

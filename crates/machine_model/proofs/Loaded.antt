@@ -33,7 +33,7 @@ use Rattle.machine_model.proofs.Facts.{first_none, when_none, place_none, not_fa
 use Rattle.machine_model.proofs.Places.{no_one, found}
 use Rattle.machine_model.proofs.Bbops.{apart_places, has_from}
 use Rattle.machine_model.proofs.Loads.{writes_numbers, writes_others, writes_length, each_inside}
-use Rattle.machine_model.proofs.Loads.{each_behind, part, whole, all_writes, all_own}
+use Rattle.machine_model.proofs.Loads.{each_after, part, whole, all_writes, all_own}
 use Rattle.machine_model.proofs.Steps.{with_numbers_agrees, done_or_not, idle}
 
 all_append : (P : ℕ → Type 0) (xs ys : List ℕ) → AllByRecursion P xs → AllByRecursion P ys
@@ -141,7 +141,7 @@ load_agrees g operations meaning name vs words banks state a =
     λ bank l. each_inside (all_writes w o.base o.width nums) 0 (segments g o) banks bank
     (all_own w o.base o.width nums) (omega arith) (omega arith) in
     let past : (bank : ℕ) → segments g o ≤ bank → new bank ≡ banks bank =
-    λ bank l. each_behind (all_writes w o.base o.width nums) 0 (segments g o) banks bank
+    λ bank l. each_after (all_writes w o.base o.width nums) 0 (segments g o) banks bank
     (all_own w o.base o.width nums) (omega arith) in
     let fits : (bank : ℕ) → bank < segments g o → length (banks bank) ≡ length (part w nums bank) =
     λ bank l. a.shaped bank (omega (arith, l, inside))

@@ -158,12 +158,12 @@ each_before E a (suc n) banks bank o l =
     (each_before E (a + 1) n (after (E a) banks) bank o (omega arith)
     ∙ on_another E banks a bank o (λ e. absurd (omega arith)))
 
-pub each_behind : (E : ℕ → List Event) (a n : ℕ) (banks : Banks) (bank : ℕ) → OnOwn E → a + n ≤ bank
+pub each_after : (E : ℕ → List Event) (a n : ℕ) (banks : Banks) (bank : ℕ) → OnOwn E → a + n ≤ bank
     → after (flat_map E (range_with_len a n)) banks bank ≡ banks bank
-each_behind E a zero banks bank o l = refl
-each_behind E a (suc n) banks bank o l =
+each_after E a zero banks bank o l = refl
+each_after E a (suc n) banks bank o l =
     rw (after-append (E a) (flat_map E (range_with_len (a + 1) n)) banks)
-    (each_behind E (a + 1) n (after (E a) banks) bank o (omega arith)
+    (each_after E (a + 1) n (after (E a) banks) bank o (omega arith)
     ∙ on_another E banks a bank o (λ e. absurd (omega arith)))
 
 pub each_inside : (E : ℕ → List Event) (a n : ℕ) (banks : Banks) (bank : ℕ) → OnOwn E → a ≤ bank

@@ -25,7 +25,7 @@ use Rattle.machine_model.specs.Steps.{table_after, banks_after, is_touched, repl
 use Rattle.machine_model.specs.Script.{is_bbop, table_at_end, banks_at_end, replies, sum_of, plus}
 use Rattle.machine_model.specs.Script.{sum_done, is_touched_by, counted_in}
 use Rattle.machine_model.specs.Report.{Answered, said_of, said_by, said_in_rows}
-use Rattle.machine_model.specs.Pieces.{instrs_in, AreBbops, turn_behind, turn_at_end}
+use Rattle.machine_model.specs.Pieces.{instrs_in, AreBbops, turn_after, turn_at_end}
 use Rattle.machine_model.specs.Pieces.{piece_events, events_of_pieces}
 use Rattle.machine_model.specs.Laws.{ScriptsGoOn, AllPiecesGoOn}
 use Rattle.machine_model.specs.Laws.{WavesAreAnswered}
@@ -116,7 +116,7 @@ scripts_go_on g operations table xs ys = record {
 pub pieces_go_on : AllPiecesGoOn
 pieces_go_on g operations turn table [] qs = record { turns = refl; events = refl }
 pieces_go_on g operations turn table (p ∷ ps) qs =
-    let turn' = turn_behind g operations turn table p in
+    let turn' = turn_after g operations turn table p in
     let table' = table_at_end g operations table (instrs_in p) in
     let rest = pieces_go_on g operations turn' table' ps qs in
     let same = sym (table_append g operations table (instrs_in p) (flat_map instrs_in ps)) in

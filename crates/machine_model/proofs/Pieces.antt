@@ -20,7 +20,7 @@ use Rattle.machine_model.specs.Script.{is_bbop, table_at_end, banks_at_end, even
 use Rattle.machine_model.specs.Script.{replies, sum_of}
 use Rattle.machine_model.specs.Script.{with_counts, with_writes, counters_at_end}
 use Rattle.machine_model.specs.Pieces.{Piece, Wave, Alone, instrs_in, gathered, pieces_from, pieces}
-use Rattle.machine_model.specs.Pieces.{jobs_of, wave_queues, piece_events, turn_behind}
+use Rattle.machine_model.specs.Pieces.{jobs_of, wave_queues, piece_events, turn_after}
 use Rattle.machine_model.specs.Pieces.{events_of_pieces, script_events, AreBbops, IsPiece}
 use Rattle.machine_model.specs.Laws.{FitsBanks, SeenInOrder, EventsAreSteps, CountedByReplies}
 use Rattle.machine_model.specs.Laws.{OneBankInOrder, PiecesAreScript, WaveIsCounted}
@@ -144,7 +144,7 @@ module _ (R : List Event → List Event → Type 0) (same : (es : List Event) �
     pieces_is turn table [] f h = same []
     pieces_is turn table (p ∷ ps) f h =
         let table' = table_at_end g operations table (instrs_in p) in
-        let turn' = turn_behind g operations turn table p in
+        let turn' = turn_after g operations turn table p in
         let es = piece_events g operations turn table p in
         let rest = events_of_pieces g operations turn' table' ps in
         subst (R (es ++ rest))

@@ -122,14 +122,14 @@ data IsNew (result : ℕ → List ℕ) (j : ℕ) (dsts : List (List ℕ)) (name 
   no : is_one_of dsts name ≡ false → new_numbers result j dsts name ≡ None
       → IsNew result j dsts name
 
-is_new_behind : (result : ℕ → List ℕ) (j : ℕ) (d : List ℕ) (dsts : List (List ℕ)) (name : List ℕ)
+is_new_after : (result : ℕ → List ℕ) (j : ℕ) (d : List ℕ) (dsts : List (List ℕ)) (name : List ℕ)
     → bytes_eq name d ≡ false → IsNew result (j + 1) dsts name → IsNew result j (d ∷ dsts) name
-is_new_behind result j d dsts name e (at k l is s) =
+is_new_after result j d dsts name e (at k l is s) =
     let f : j + 1 + k ≡ j + suc k = omega arith in
     at (suc k) (omega (arith, l)) is (ap (λ b.
     cond b (Some (result j)) (new_numbers result (j + 1) dsts name)) e ∙ s
     ∙ ap (λ i. Some (result i)) f)
-is_new_behind result j d dsts name e (no h s) =
+is_new_after result j d dsts name e (no h s) =
     no (ap (λ b. b || is_one_of dsts name) e ∙ h)
     (ap (λ b. cond b (Some (result j)) (new_numbers result (j + 1) dsts name)) e ∙ s)
 
@@ -140,7 +140,7 @@ is_new_case result j d dsts name true e more =
     let z : j ≡ j + 0 = omega arith in at 0 (omega arith) (sym (same_bytes name d e))
     (ap (λ b. cond b (Some (result j)) (new_numbers result (j + 1) dsts name)) e
     ∙ ap (λ i. Some (result i)) z)
-is_new_case result j d dsts name false e more = is_new_behind result j d dsts name e more
+is_new_case result j d dsts name false e more = is_new_after result j d dsts name e more
 
 is_new : (result : ℕ → List ℕ) (j : ℕ) (dsts : List (List ℕ)) (name : List ℕ)
     → IsNew result j dsts name

@@ -95,7 +95,7 @@ pub kept_done : (P : List Named → Type 0) (r : Option Why) (new old : List Nam
 kept_done P None new old h t = h refl
 kept_done P (Some reason) new old h t = t
 
--- behind one instruction
+-- after one instruction
 pub listed_after : (g : Geometry) (operations : Routines) (table : List Named)
     (instr : Instruction) → IsPlain instr → IsTable (limit_of g) table
     → IsTable (limit_of g) (table_after g operations table instr)
@@ -118,7 +118,7 @@ table_fits_after g operations table instr plain t = record {
   objects = objects_after g operations table instr plain t.objects;
 }
 
--- and behind a script
+-- and after a script
 pub table_stays : TableStays
 table_stays g operations table [] plain t = t
 table_stays g operations table (instr ∷ script) plain t =

@@ -52,7 +52,8 @@ same_operation (Some e) (Some o) (both _ _ d) =
 pub same_operations : (p : Program) (t : List TextOp) → ImplementsAll p t
     → routines_of t p ≡ routines_in p
 same_operations p t i =
-    fun_ext (λ name. same_operation (entry_named p name) (text_op_named t name) (matched p t name i))
+    fun_ext (λ name. same_operation (entry_named p name) (text_op_named t name) (matched p t name
+    i))
 
 both_parts : {shape : Shape} {code : List Uop} {ceiling : ℕ → ℕ} {meaning : ℕ → List ℕ → List ℕ}
     → Implements shape code ceiling meaning → (n : ℕ) → 0 < n → n ≤ WIDTH_MAX
@@ -68,7 +69,8 @@ does_case (Some e) (Some o) r n (both _ _ d) h l k =
     let whole : Routine = record { shape = o.shape; trace = trace_of (Some e) } in
     let is : whole ≡ r = cc in
     subst (λ (q : Routine). Performs q.shape n (issues_of (q.trace n)) (meaning_of (Some o) n)) is
-    (subst (λ (s : _). Performs o.shape n (issues_of (trace s e.code n)) (o.meaning n)) (sym d.shape)
+    (subst (λ (s : _). Performs o.shape n (issues_of (trace s e.code n)) (o.meaning n)) (sym
+    d.shape)
     (both_parts d.code n l k))
 
 pub does_all : (p : Program) (t : List TextOp) → ImplementsAll p t

@@ -64,7 +64,7 @@ pub record TableFits (g : Geometry) (table : List Named) : Type 0 where
   pub listed : IsTable (limit_of g) table
   pub objects : All (λ named. IsObject g named.1) table
 
--- Behind every script it still is one
+-- After every script it still is one
 abbrev pub TableStays : Type 0
 TableStays =
     (g : Geometry) (operations : Routines) (table : List Named) (script : List Instruction)
@@ -212,7 +212,7 @@ pub record WaveIsAnswered (g : Geometry) (operations : Routines) (table : List N
   pub loaded : sum_done rows_loaded g operations table wave ≡ 0
   pub printed : sum_done rows_printed g operations table wave ≡ 0
 
--- Lines go on with the number behind the last
+-- Lines go on with the number after the last
 abbrev pub LinesGoOn : Type 0
 LinesGoOn = (number : ℕ) (xs ys : List Said)
     → lines number (xs ++ ys) ≡ lines number xs ++ lines (number + length xs) ys

@@ -12,7 +12,7 @@ use Rattle.bbop_isa.specs.Forms.{Init, Bbop, Load, Fill, Print, Free, Order}
 use Rattle.machine_model.specs.Routines.{Routines}
 use Rattle.machine_model.specs.Refusals.{refusal}
 use Rattle.wave_model.specs.Schedule.{WaveJob, Queues, queues, events_of_picks, whole_picks}
-use Rattle.wave_model.specs.Schedule.{state_behind, Turn, Ahead, Turning, Drawing, in_turn}
+use Rattle.wave_model.specs.Schedule.{last_state, Turn, Ahead, Turning, Drawing, in_turn}
 use Rattle.machine_model.specs.Steps.{job_of, own_events, if_done}
 use Rattle.machine_model.specs.Script.{is_bbop, table_at_end}
 
@@ -38,7 +38,7 @@ abbrev pub gathered : List Instruction → List Piece
 gathered [] = []
 gathered (instr ∷ wave) = Wave (instr ∷ wave) ∷ []
 
--- the pieces of a wave being gathered and of the script behind it: a wave ends when it has 16
+-- the pieces of a wave being gathered and of the script after it: a wave ends when it has 16
 abbrev pub pieces_from : List Instruction → List Instruction → List Piece
 pieces_from wave [] = gathered wave
 pieces_from wave (instr ∷ script) =
@@ -89,25 +89,25 @@ turn_by turn (Fill name value) = turn
 turn_by turn (Print name) = turn
 turn_by turn (Free name) = turn
 
--- the order in force behind a piece
-abbrev pub turn_behind : Geometry → Routines → Turn → List Named → Piece → Turn
-turn_behind g operations turn table (Wave wave) =
-    state_behind in_turn g.banks turn (wave_queues g operations table wave)
-turn_behind g operations turn table (Alone instr) = turn_by turn instr
+-- the order in force after a piece
+abbrev pub turn_after : Geometry → Routines → Turn → List Named → Piece → Turn
+turn_after g operations turn table (Wave wave) =
+    last_state in_turn g.banks turn (wave_queues g operations table wave)
+turn_after g operations turn table (Alone instr) = turn_by turn instr
 
 -- the events of pieces: the order in force and the table go on from piece to piece
 abbrev pub events_of_pieces : Geometry → Routines → Turn → List Named → List Piece → List Event
 events_of_pieces g operations turn table [] = []
 events_of_pieces g operations turn table (piece ∷ rest) =
     piece_events g operations turn table piece
-    ++ events_of_pieces g operations (turn_behind g operations turn table piece)
+    ++ events_of_pieces g operations (turn_after g operations turn table piece)
     (table_at_end g operations table (instrs_in piece)) rest
 
--- the order in force behind pieces
+-- the order in force after pieces
 abbrev pub turn_at_end : Geometry → Routines → Turn → List Named → List Piece → Turn
 turn_at_end g operations turn table [] = turn
 turn_at_end g operations turn table (piece ∷ rest) =
-    turn_at_end g operations (turn_behind g operations turn table piece)
+    turn_at_end g operations (turn_after g operations turn table piece)
     (table_at_end g operations table (instrs_in piece)) rest
 
 -- the events of a script: at first each pick is the first live bank

@@ -82,7 +82,7 @@ pub fn holds(files: &MemFolder, name: &str, wanted: &[u8]) -> bool {
     }
 }
 
-/// A run that ended: its status, and the folder and the sink behind it.
+/// A run that ended: its status, and the folder and the sink after it.
 #[derive(Drop)]
 pub struct Ended {
     pub status: u8,
@@ -91,7 +91,7 @@ pub struct Ended {
 }
 
 impl Ended {
-    /// The rows of the image that it left, behind the records of so many objects.
+    /// The rows of the image that it left, after the records of so many objects.
     pub fn rows(&self, objects: usize) -> Option<&[u8]> {
         self.files.file("out")?.get(14 + 24 * objects.min(16)..)
     }

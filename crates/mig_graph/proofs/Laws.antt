@@ -144,25 +144,25 @@ opposite v n x z h = any-order v n x (complement x) z h
     ∙ rw (flip-not x.inverted (v x.node)) (majority-not (lit_value v x) (lit_value v z))
 
 -- not M(x, y, z) = M(not x, not y, not z)
-pub majority-turned : (a b c : Bool) → majority (not a) (not b) (not c) ≡ not (majority a b c)
+pub majority-complemented : (a b c : Bool) → majority (not a) (not b) (not c) ≡ not (majority a b c)
 unfolding majority
-majority-turned true true c = refl
-majority-turned true false c = refl
-majority-turned false true c = refl
-majority-turned false false c = refl
+majority-complemented true true c = refl
+majority-complemented true false c = refl
+majority-complemented false true c = refl
+majority-complemented false false c = refl
 
 not-not : (b : Bool) → not (not b) ≡ b
 not-not true = refl
 not-not false = refl
 
-pub turned : (v : ℕ → Bool) (x y z : Lit)
+pub complemented : (v : ℕ → Bool) (x y z : Lit)
     → not (node_value v (node_of (complement x) (complement y) (complement z)))
     ≡ node_value v (node_of x y z)
-turned v x y z = rw (
+complemented v x y z = rw (
   flip-not x.inverted (v x.node),
   flip-not y.inverted (v y.node),
   flip-not z.inverted (v z.node),
-  majority-turned (lit_value v x) (lit_value v y) (lit_value v z),
+  majority-complemented (lit_value v x) (lit_value v y) (lit_value v z),
 )
     (not-not (majority (lit_value v x) (lit_value v y) (lit_value v z)))
 
@@ -236,10 +236,10 @@ value-standing i ns bits k n g l h = value-node i ns bits k g l
     ∙ any-order (values (record { inputs = i; nodes = ns }) bits) (node_at ns k) n.a n.b n.c h
 
 -- the majority, or the complement of that of the complements
-pub turned-value : (v : ℕ → Bool) (x y z : Lit)
+pub complemented-value : (v : ℕ → Bool) (x y z : Lit)
     → flip_if true (node_value v (node_of (complement x) (complement y) (complement z)))
     ≡ node_value v (node_of x y z)
-turned-value v x y z = turned v x y z
+complemented-value v x y z = complemented v x y z
 
 graph-of : (k : Graph) (i : ℕ) (ns : List Node) → k.inputs ≡ i → k.nodes ≡ ns
     → k ≡ record { inputs = i; nodes = ns }

@@ -6,7 +6,7 @@ use Rattle.std.proofs.lemmas.Bool.{cases_lt}
 use Rattle.std.proofs.lemmas.List.{get_or_append_left, get_or-append-add}
 use Rattle.bit_rows.specs.Bits.{flip_if}
 use Rattle.mig_graph.specs.declared.Lit.{Lit}
-use Rattle.mig_graph.specs.Literals.{lit_value, turn_if}
+use Rattle.mig_graph.specs.Literals.{lit_value, complement_if}
 use Rattle.mig_graph.proofs.Laws.{flip-not}
 use Rattle.mig_graph.specs.Outputs.{lit_at}
 
@@ -29,11 +29,11 @@ each-more P lits more l i long e h p k b = elim (cases_lt k i) [
 ]
 
 -- the value of a literal's node, complemented where the literal is inverted
-pub value-turned : (v : ℕ → Bool) (i : Bool) (l : Lit)
-    → lit_value v (turn_if i l) ≡ flip_if i (lit_value v l)
-value-turned v true l = flip-not l.inverted (v l.node)
-value-turned v false l = refl
+pub value-complemented : (v : ℕ → Bool) (i : Bool) (l : Lit)
+    → lit_value v (complement_if i l) ≡ flip_if i (lit_value v l)
+value-complemented v true l = flip-not l.inverted (v l.node)
+value-complemented v false l = refl
 
-pub turned-node : (i : Bool) (l : Lit) → (turn_if i l).node ≡ l.node
-turned-node true l = refl
-turned-node false l = refl
+pub complemented-node : (i : Bool) (l : Lit) → (complement_if i l).node ≡ l.node
+complemented-node true l = refl
+complemented-node false l = refl

@@ -9,9 +9,9 @@ abbrev pub complement : Lit → Lit
 complement l = record { node = l.node; inverted = not l.inverted }
 
 -- the literal, or its complement
-abbrev pub turn_if : Bool → Lit → Lit
-turn_if true l = complement l
-turn_if false l = l
+abbrev pub complement_if : Bool → Lit → Lit
+complement_if true l = complement l
+complement_if false l = l
 
 abbrev pub node_of : Lit → Lit → Lit → Node
 node_of x y z = record { a = x; b = y; c = z }
@@ -40,12 +40,13 @@ abbrev pub SameThree : Node → Node → Type 0
 SameThree m n = IsAnyOrder m n.a n.b n.c
 
 -- inverted, and not the constant
-abbrev pub is_turned : Lit → Bool
-is_turned l = l.inverted && not (l.node == 0)
+abbrev pub is_complemented : Lit → Bool
+is_complemented l = l.inverted && not (l.node == 0)
 
 -- how many inverted literals the node has that are not the constant
 abbrev pub inversions : Node → ℕ
-inversions n = bit_number (is_turned n.a) + bit_number (is_turned n.b) + bit_number (is_turned n.c)
+inversions n = bit_number (is_complemented n.a) + bit_number (is_complemented n.b)
+    + bit_number (is_complemented n.c)
 
 -- no two of its literals are equal or complements: they name three nodes
 abbrev pub NamesThree : Node → Type 0

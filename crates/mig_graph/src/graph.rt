@@ -9,7 +9,7 @@ ghost use Rattle.mig_graph.specs.Literals.{NamesThree, node_value, IsLower};
 ghost use Rattle.mig_graph.specs.Graph.{node_at, size_of, value, values, IsGraph, GrewByOne};
 ghost use Rattle.mig_graph.specs.Graph.{IsFresh};
 
-use crate::nodes::{simple, sorted, store, turned};
+use crate::nodes::{complemented, simple, sorted, store};
 use crate::{Lit, NoMemory, Node};
 use indexmap::IndexSet;
 use std::alloc::Global;
@@ -111,7 +111,7 @@ impl Mig {
             → SameThree (node_at self.old.nodes k) (node_of a b c)
             → (result ≡ Ok (record { node = self.old.inputs + 1 + k; inverted = false }))
             × (self.new ≡ self.old) }
-        ensures standing_turned { (k : ℕ) → k < length self.old.nodes
+        ensures standing_complemented { (k : ℕ) → k < length self.old.nodes
             → 1 < inversions (node_of a b c) → SameThree (node_at self.old.nodes k)
             (node_of (complement a) (complement b) (complement c))
             → (result ≡ Ok (record { node = self.old.inputs + 1 + k; inverted = true }))
@@ -131,7 +131,7 @@ impl Mig {
         match simple(a, b, c) {
             Some(l) => Ok(l),
             None => {
-                let (n, inverted) = turned(a, b, c);
+                let (n, inverted) = complemented(a, b, c);
                 let node = self.place(n)?;
                 Ok(Lit { node, inverted })
             }

@@ -28,7 +28,7 @@ pub(crate) struct Merge {
     pub z: Lit,
 }
 
-/// Whether both are as told.
+/// Whether both are as asked.
 fn is_pair(a: Lit, b: Lit, x: Lit, y: Lit) -> bool
     ensures { IsTrue result ↔ ((a ≡ x) × (b ≡ y)) }
 {

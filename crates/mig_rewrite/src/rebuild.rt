@@ -3,7 +3,7 @@
 ghost use Rattle.std.specs.Prelude.{◌≡◌, ◌<◌, ◌≤◌, ◌+◌, ◌^◌, ◌++◌, ◌∷◌, [], ℕ, Bool, IfOk, OnOk};
 ghost use Rattle.std.specs.Prelude.{length};
 ghost use Rattle.mig_graph.specs.declared.Lit.{Lit};
-ghost use Rattle.mig_graph.specs.Literals.{turn_if};
+ghost use Rattle.mig_graph.specs.Literals.{complement_if};
 ghost use Rattle.mig_graph.specs.Graph.{size_of, value};
 ghost use Rattle.mig_graph.specs.Outputs.{lit_at, AreNamed, KeepsOutputs};
 ghost use Rattle.mig_rewrite.specs.Merge.{straight};
@@ -31,7 +31,7 @@ const ZERO: Lit = Lit {
 /// The literal of the new graph for one of the old.
 fn translated(lits: &[Lit], l: Lit) -> Lit
     requires { l.node < length lits.now }
-    ensures { result ≡ turn_if l.inverted (lit_at lits.now l.node) }
+    ensures { result ≡ complement_if l.inverted (lit_at lits.now l.node) }
 {
     let new = lits[l.node as usize];
     if l.inverted { complement(new) } else { new }
@@ -113,7 +113,7 @@ fn translated_all(lits: &[Lit], old: &[Lit], alloc: Global) -> Result<Vec<Lit>, 
     requires { (k : ℕ) → k < length old.now → (lit_at old.now k).node < length lits.now }
     ensures long { IfOk result (λ v. length v.items ≡ length old.now) }
     ensures each { IfOk result (λ v. (k : ℕ) → k < length old.now
-        → lit_at v.items k ≡ turn_if (lit_at old.now k).inverted
+        → lit_at v.items k ≡ complement_if (lit_at old.now k).inverted
         (lit_at lits.now (lit_at old.now k).node)) }
 {
     let mut made = Vec::new(alloc);

@@ -21,7 +21,7 @@ impl<T: Drop> From<AllocFailed<T>> for NoMemory {
     }
 }
 
-/// Puts an item behind the others, if there is memory.
+/// Puts an item after the others, if there is memory.
 pub fn keep<T: Drop>(items: &mut Vec<T>, item: T) -> Result<(), NoMemory>
     ensures { OnOk result (items.new.items ≡ items.old.items ++ item ∷ []) }
 {

@@ -14,7 +14,7 @@ use Rattle.object_alloc.proofs.Pieces.{take-add}
 use Rattle.object_alloc.proofs.Rows.{bytes-bits}
 use Rattle.file_fields.specs.Fields.{IsBytes}
 
--- low bits, and high bits behind them
+-- low bits, and high bits after them
 bits-join : (m n b v : ℕ) → b < 2 ^ m → bits (b + 2 ^ m * v) (m + n) ≡ bits b m ++ bits v n
 unfolding bits
 bits-join zero n b v l =

@@ -116,12 +116,12 @@ image_read g table rows is =
     (omega (arith, head_len)) in
     let opening = Holds-front bytes 0 opening_bytes 6 (geometry_bytes g ++ table_bytes table)
     (rows_start table) head refl in
-    let behind = Holds-back bytes 0 opening_bytes 6 (geometry_bytes g ++ table_bytes table)
+    let following = Holds-back bytes 0 opening_bytes 6 (geometry_bytes g ++ table_bytes table)
     (rows_start table) head refl in
     let geometry = Holds-front bytes 6 (geometry_bytes g) 12 (table_bytes table) (rows_start table)
-    behind refl in
+    following refl in
     let listed = Holds-back bytes 6 (geometry_bytes g) 12 (table_bytes table) (rows_start table)
-    behind refl in
+    following refl in
     let t : IsListed g table = record {
       listed = is.listed;
       names = is.names;

@@ -222,14 +222,14 @@ objects_take (suc n) g earlier at bytes all fits t few l e =
     let rest = objects_take n g (earlier ++ a.0 ∷ []) (at + 24) bytes all fits
     (IsListed-add g earlier a.0 t (omega arith) one.1) longer one.0.within a.2 in
     let to : at + 24 + 24 * n ≡ at + 24 * suc n = omega arith in
-    let behind : Holds bytes (at + 24) (flat_map object_bytes rest.more) (at + 24 * suc n) =
+    let following : Holds bytes (at + 24) (flat_map object_bytes rest.more) (at + 24 * suc n) =
     subst (λ (k : ℕ). Holds bytes (at + 24) (flat_map object_bytes rest.more) k) to rest.held in
     record {
       more = a.0 ∷ rest.more;
       whole = rest.whole ∙ append_assoc earlier (a.0 ∷ []) rest.more;
       count = ap suc rest.count;
       held = rw flat_map-cons (Holds-then bytes at (object_bytes a.0) (at + 24)
-          (flat_map object_bytes rest.more) (at + 24 * suc n) one.0 behind);
+          (flat_map object_bytes rest.more) (at + 24 * suc n) one.0 following);
       listed = rest.listed;
     }
 
@@ -270,7 +270,7 @@ table_takes g at bytes table fits e =
       r.listed,
     )
 
--- the objects of a table, each behind those before it
+-- the objects of a table, each after those before it
 not_same : (a b : List ℕ) → a ≢ b → bytes_eq a b ≡ false
 not_same a b h = if_not_true (bytes_eq a b) (λ t. h ((bytes_eq-Decides a b).0 t))
 

@@ -1,4 +1,4 @@
--- The objects of a table, one behind the other.
+-- The objects of a table, one after the other.
 use Rattle.std.proofs.Common.{◌≡◌, ℕ, suc, ◌+◌, ◌-◌, ◌<◌, ◌≤◌, List, [], ◌∷◌, ◌++◌, Result, Ok, Err}
 use Rattle.std.proofs.Common.{refl, sym, ◌∙◌, arith}
 use Rattle.dram_model.specs.declared.geometry.Geometry.{Geometry}

@@ -84,7 +84,7 @@ place_again g earlier at bytes width base small h p =
 
 -- ---- the whole record
 
--- an object that may stand behind these
+-- an object that may stand after these
 pub record Follows (g : Geometry) (earlier : List Named) (named : Named) : Type 0 where
   pub name : fits_name named.0 ≡ true
   pub new : has_name earlier named.0 ≡ false

@@ -134,7 +134,7 @@ fn opening_of(bytes: &[u8]) -> Result<(), ImageFault>
     Ok(())
 }
 
-/// The objects at a place, each behind the one before it.
+/// The objects at a place, each after the one before it.
 fn objects_of(
     count: u16,
     g: Geometry,

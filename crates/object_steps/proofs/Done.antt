@@ -34,9 +34,9 @@ pub did_nothing : (r : Option Why) (reason : Why) (events : List Event) (a : Chi
     → r ≡ Some reason → Did (if_done r events []) a a
 did_nothing r reason events a e = rw e (Did-none a)
 
-pub replies_done : (r : Option Why) (told counts : Counts) → r ≡ None → told ≡ counts
-    → Done told ≡ reply_by r counts
-replies_done r told counts e f = rw (e, f) refl
+pub replies_done : (r : Option Why) (known counts : Counts) → r ≡ None → known ≡ counts
+    → Done known ≡ reply_by r counts
+replies_done r known counts e f = rw (e, f) refl
 
 pub replies_refused : (r : Option Why) (reason : Why) (counts : Counts) → r ≡ Some reason
     → Refused reason ≡ reply_by r counts

@@ -1,13 +1,13 @@
 -- Text that is put in pieces: what was put, and what is held back.
 use Rattle.std.proofs.Common.{◌≡◌, ℕ, List, [], ◌++◌, Option, refl, sym, ◌∙◌, ap, subst}
 use Rattle.std.proofs.Common.{append_assoc, append-nil}
-use Rattle.host_edge.specs.Views.{Told, AppendsPart}
-use Rattle.host_edge.proofs.Tells.{Told-trans, Told-map, Told-same}
+use Rattle.host_edge.specs.Views.{Known, AppendsPart}
+use Rattle.host_edge.proofs.Tells.{Known-trans, Known-map, Known-same}
 use Rattle.host_edge.specs.Sends.{AppendsUpTo}
 
 -- nothing was put
-pub nothing_put : (held : List ℕ) (sent : Option (List ℕ)) → Told (AppendsUpTo held held) sent sent
-nothing_put held sent = Told-same (AppendsUpTo held held) sent (λ x. (
+pub nothing_put : (held : List ℕ) (sent : Option (List ℕ)) → Known (AppendsUpTo held held) sent sent
+nothing_put held sent = Known-same (AppendsUpTo held held) sent (λ x. (
   [],
   (
     refl,
@@ -16,9 +16,9 @@ nothing_put held sent = Told-same (AppendsUpTo held held) sent (λ x. (
 ))
 
 -- all that was held back was put
-pub all_put : (held : List ℕ) (a b : Option (List ℕ)) → Told (λ old new. new ≡ old ++ held) a b
-    → Told (AppendsUpTo [] held) a b
-all_put held a b = Told-map {R = λ old new. new ≡ old ++ held} {S = AppendsUpTo [] held} a b
+pub all_put : (held : List ℕ) (a b : Option (List ℕ)) → Known (λ old new. new ≡ old ++ held) a b
+    → Known (AppendsUpTo [] held) a b
+all_put held a b = Known-map {R = λ old new. new ≡ old ++ held} {S = AppendsUpTo [] held} a b
     (λ x y e. (held, (append-nil held, e)))
 
 held_more : (held left piece : List ℕ) (x y : List ℕ) → AppendsUpTo left held x y
@@ -34,10 +34,10 @@ held_more held left piece x y so_far = (
 
 -- a piece is held back besides
 pub more_held : (held left piece new : List ℕ) (a b : Option (List ℕ)) → new ≡ left ++ piece
-    → Told (AppendsUpTo left held) a b → Told (AppendsUpTo new (held ++ piece)) a b
+    → Known (AppendsUpTo left held) a b → Known (AppendsUpTo new (held ++ piece)) a b
 more_held held left piece new a b e h =
-    subst (λ (xs : List ℕ). Told (AppendsUpTo xs (held ++ piece)) a b) (sym e)
-    (Told-map {R = AppendsUpTo left held} {S = AppendsUpTo (left ++ piece) (held ++ piece)} a b
+    subst (λ (xs : List ℕ). Known (AppendsUpTo xs (held ++ piece)) a b) (sym e)
+    (Known-map {R = AppendsUpTo left held} {S = AppendsUpTo (left ++ piece) (held ++ piece)} a b
     (held_more held left piece) h)
 
 joined : (all held piece left : List ℕ) (x y z : List ℕ) → AppendsUpTo held all x y
@@ -57,9 +57,9 @@ joined all held piece left x y z before after = (
 
 -- one step and then another
 pub then_more : (all held piece left : List ℕ) (a b c : Option (List ℕ))
-    → Told (AppendsUpTo held all) a b → Told (AppendsUpTo left (held ++ piece)) b c
-    → Told (AppendsUpTo left (all ++ piece)) a c
-then_more all held piece left a b c = Told-trans {R = AppendsUpTo held all} {S =
+    → Known (AppendsUpTo held all) a b → Known (AppendsUpTo left (held ++ piece)) b c
+    → Known (AppendsUpTo left (all ++ piece)) a c
+then_more all held piece left a b c = Known-trans {R = AppendsUpTo held all} {S =
     AppendsUpTo left (held ++ piece)} {U = AppendsUpTo left (all ++ piece)} a b c
     (joined all held piece left)
 
@@ -82,9 +82,10 @@ cut all held piece x y z before part = (
 )
 
 -- a step that was cut short
-pub then_cut : (all held piece : List ℕ) (a b c : Option (List ℕ)) → Told (AppendsUpTo held all) a b
-    → Told (AppendsPart (held ++ piece)) b c → Told (AppendsPart (all ++ piece)) a c
-then_cut all held piece a b c = Told-trans {R = AppendsUpTo held all} {S =
+pub then_cut : (all held piece : List ℕ) (a b c : Option (List ℕ))
+    → Known (AppendsUpTo held all) a b
+    → Known (AppendsPart (held ++ piece)) b c → Known (AppendsPart (all ++ piece)) a c
+then_cut all held piece a b c = Known-trans {R = AppendsUpTo held all} {S =
     AppendsPart (held ++ piece)} {U = AppendsPart (all ++ piece)} a b c (cut all held piece)
 
 longer : (first last : List ℕ) (x y : List ℕ) → AppendsPart first x y
@@ -102,18 +103,19 @@ longer first last x y part = (
 )
 
 -- a part of the front is a part of all
-pub part_of_more : (first last : List ℕ) (a b : Option (List ℕ)) → Told (AppendsPart first) a b
-    → Told (AppendsPart (first ++ last)) a b
-part_of_more first last a b = Told-map {R = AppendsPart first} {S = AppendsPart (first ++ last)} a b
+pub part_of_more : (first last : List ℕ) (a b : Option (List ℕ)) → Known (AppendsPart first) a b
+    → Known (AppendsPart (first ++ last)) a b
+part_of_more first last a b = Known-map {R = AppendsPart first} {S = AppendsPart (first
+    ++ last)} a b
     (longer first last)
 
 so_far_part : (all held : List ℕ) (x y : List ℕ) → AppendsUpTo held all x y → AppendsPart all x y
 so_far_part all held x y before = (before.0, ((held, before.1.0), before.1.1))
 
 -- what was put so far is a part
-pub put_is_part : (all held : List ℕ) (a b : Option (List ℕ)) → Told (AppendsUpTo held all) a b
-    → Told (AppendsPart all) a b
-put_is_part all held a b = Told-map {R = AppendsUpTo held all} {S = AppendsPart all} a b
+pub put_is_part : (all held : List ℕ) (a b : Option (List ℕ)) → Known (AppendsUpTo held all) a b
+    → Known (AppendsPart all) a b
+put_is_part all held a b = Known-map {R = AppendsUpTo held all} {S = AppendsPart all} a b
     (so_far_part all held)
 
 ended : (all held : List ℕ) (x y z : List ℕ) → AppendsUpTo held all x y → z ≡ y ++ held
@@ -122,9 +124,9 @@ ended all held x y z before put = put ∙ ap (λ xs. xs ++ held) before.1.1
     ∙ append_assoc x before.0 held ∙ ap (λ xs. x ++ xs) before.1.0
 
 -- the rest was put
-pub then_all : (all held : List ℕ) (a b c : Option (List ℕ)) → Told (AppendsUpTo held all) a b
-    → Told (λ old new. new ≡ old ++ held) b c → Told (λ old new. new ≡ old ++ all) a c
-then_all all held a b c = Told-trans {R = AppendsUpTo held all} {S = λ old new. new
+pub then_all : (all held : List ℕ) (a b c : Option (List ℕ)) → Known (AppendsUpTo held all) a b
+    → Known (λ old new. new ≡ old ++ held) b c → Known (λ old new. new ≡ old ++ all) a c
+then_all all held a b c = Known-trans {R = AppendsUpTo held all} {S = λ old new. new
     ≡ old ++ held} {U = λ old new. new ≡ old ++ all} a b c (ended all held)
 
 part_ended : (all held : List ℕ) (x y z : List ℕ) → AppendsUpTo held all x y
@@ -136,7 +138,7 @@ part_ended all held x y z before part =
     (subst (λ (xs : List ℕ). AppendsPart xs y z) held' part))
 
 -- a part of the rest was put
-pub then_part : (all held : List ℕ) (a b c : Option (List ℕ)) → Told (AppendsUpTo held all) a b
-    → Told (AppendsPart held) b c → Told (AppendsPart all) a c
-then_part all held a b c = Told-trans {R = AppendsUpTo held all} {S = AppendsPart held} {U =
+pub then_part : (all held : List ℕ) (a b c : Option (List ℕ)) → Known (AppendsUpTo held all) a b
+    → Known (AppendsPart held) b c → Known (AppendsPart all) a c
+then_part all held a b c = Known-trans {R = AppendsUpTo held all} {S = AppendsPart held} {U =
     AppendsPart all} a b c (part_ended all held)

@@ -14,9 +14,9 @@ use Rattle.machine_model.specs.Routines.{Routines}
 use Rattle.machine_model.specs.Refusals.{refusal}
 use Rattle.object_steps.proofs.Found.{look_up-some}
 
-pub tells : (pairs : List Named) (name : List ℕ) (found : Option Object) (told : Bool) (is : Bool)
-    → found ≡ look_up pairs name → told ≡ is_some found → told ≡ is → has_name pairs name ≡ is
-tells pairs name found told is e f h =
+pub tells : (pairs : List Named) (name : List ℕ) (found : Option Object) (known : Bool) (is : Bool)
+    → found ≡ look_up pairs name → known ≡ is_some found → known ≡ is → has_name pairs name ≡ is
+tells pairs name found known is e f h =
     sym (look_up-some pairs name) ∙ ap is_some (sym e) ∙ sym f ∙ h
 
 pub exists : (g : Geometry) (operations : Routines) (table : List Named) (name : List ℕ)

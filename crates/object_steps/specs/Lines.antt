@@ -12,7 +12,7 @@ use Rattle.machine_model.specs.Report.{line}
 use Rattle.machine_model.specs.Report.Said.{Printed}
 use Rattle.machine_model.specs.Steps.{if_done}
 
--- each value behind a blank
+-- each value after a blank
 abbrev pub values_text : List ℕ → List ℕ
 values_text values = flat_map (λ v. codes " " ++ decimal v) values
 

@@ -5,7 +5,7 @@ ghost use Rattle.std.specs.Prelude.{take, length, codes, decimal, None, IfOk, On
 ghost use Rattle.std.specs.Prelude.{true};
 ghost use Rattle.std.specs.Int.{div_ceil};
 ghost use Rattle.std.specs.List.{range_with_len};
-ghost use Rattle.host_edge.specs.Views.{Told, AppendsPart};
+ghost use Rattle.host_edge.specs.Views.{Known, AppendsPart};
 ghost use Rattle.fault_counts.specs.Counts.{Rose};
 ghost use Rattle.host_edge.specs.Sends.{AppendsUpTo};
 ghost use Rattle.dram_model.specs.Geometry.{is_geometry};
@@ -52,10 +52,10 @@ type Piece = ArrayVec<u8, PIECE_BYTES>;
 /// Puts what is held back, where there is no room for one more value.
 fn make_room<S: Sink>(text: &mut Piece, out: &mut S) -> Result<(), Failed>
     ensures counts { (S.view out.old).faults ≤ (S.view out.new).faults }
-    ensures held { OnOk result (Told (AppendsUpTo text.new.items text.old.items)
+    ensures held { OnOk result (Known (AppendsUpTo text.new.items text.old.items)
         (S.view out.old).sent (S.view out.new).sent) }
     ensures room { OnOk result (length text.new.items + VALUE_BYTES < PIECE_BYTES) }
-    ensures part { OnErr result (Told (AppendsPart text.old.items) (S.view out.old).sent
+    ensures part { OnErr result (Known (AppendsPart text.old.items) (S.view out.old).sent
         (S.view out.new).sent) }
     ensures failed { OnErr result (Rose (S.view out.old).faults (S.view out.new).faults) }
 {
@@ -66,14 +66,14 @@ fn make_room<S: Sink>(text: &mut Piece, out: &mut S) -> Result<(), Failed>
     Ok(())
 }
 
-/// Appends a value behind a blank, and puts what was held back where there is no room for it.
+/// Appends a value after a blank, and puts what was held back where there is no room for it.
 fn add_value<S: Sink>(text: &mut Piece, value: Value, out: &mut S) -> Result<(), Failed>
     ensures counts { (S.view out.old).faults ≤ (S.view out.new).faults }
-    ensures held { OnOk result (Told (AppendsUpTo text.new.items
+    ensures held { OnOk result (Known (AppendsUpTo text.new.items
         (text.old.items ++ (codes " " ++ decimal value))) (S.view out.old).sent
         (S.view out.new).sent) }
     ensures room { OnOk result (length text.new.items < PIECE_BYTES) }
-    ensures part { OnErr result (Told (AppendsPart text.old.items) (S.view out.old).sent
+    ensures part { OnErr result (Known (AppendsPart text.old.items) (S.view out.old).sent
         (S.view out.new).sent) }
     ensures failed { OnErr result (Rose (S.view out.old).faults (S.view out.new).faults) }
 {
@@ -87,10 +87,10 @@ fn add_value<S: Sink>(text: &mut Piece, value: Value, out: &mut S) -> Result<(),
 fn add_all<S: Sink>(values: &[Value], text: &mut Piece, out: &mut S) -> Result<(), Failed>
     requires room { length text.old.items < PIECE_BYTES }
     ensures counts { (S.view out.old).faults ≤ (S.view out.new).faults }
-    ensures held { OnOk result (Told (AppendsUpTo text.new.items
+    ensures held { OnOk result (Known (AppendsUpTo text.new.items
         (text.old.items ++ values_text values.now)) (S.view out.old).sent (S.view out.new).sent) }
     ensures room { OnOk result (length text.new.items < PIECE_BYTES) }
-    ensures part { OnErr result (Told (AppendsPart (text.old.items ++ values_text values.now))
+    ensures part { OnErr result (Known (AppendsPart (text.old.items ++ values_text values.now))
         (S.view out.old).sent (S.view out.new).sent) }
     ensures failed { OnErr result (Rose (S.view out.old).faults (S.view out.new).faults) }
 {
@@ -121,11 +121,11 @@ fn add_columns<S: Sink>(
     requires columns { count ≤ 64 * (length stage.now / stage_rows n) }
     requires room { length text.old.items < PIECE_BYTES }
     ensures counts { (S.view out.old).faults ≤ (S.view out.new).faults }
-    ensures held { OnOk result (Told (AppendsUpTo text.new.items (text.old.items ++ values_text
+    ensures held { OnOk result (Known (AppendsUpTo text.new.items (text.old.items ++ values_text
         (map (stage_number (length stage.now / stage_rows n) n stage.now)
         (range_with_len 0 count)))) (S.view out.old).sent (S.view out.new).sent) }
     ensures room { OnOk result (length text.new.items < PIECE_BYTES) }
-    ensures part { OnErr result (Told (AppendsPart (text.old.items ++ values_text
+    ensures part { OnErr result (Known (AppendsPart (text.old.items ++ values_text
         (map (stage_number (length stage.now / stage_rows n) n stage.now)
         (range_with_len 0 count)))) (S.view out.old).sent (S.view out.new).sent) }
     ensures failed { OnErr result (Rose (S.view out.old).faults (S.view out.new).faults) }
@@ -169,16 +169,16 @@ fn add_values<D: Dram, S: Sink>(
     ensures sink_faults { (S.view out.old).faults ≤ (S.view out.new).faults }
     ensures did { OnOk result (DidRead (o.width * segments g o) (D.view dram.old)
         (D.view dram.new)) }
-    ensures held { OnOk result (Told (AppendsUpTo text.new.items (text.old.items ++ values_text
+    ensures held { OnOk result (Known (AppendsUpTo text.new.items (text.old.items ++ values_text
         (take o.count (columns g (D.view dram.old).banks o)))) (S.view out.old).sent
         (S.view out.new).sent) }
     ensures room { OnOk result (length text.new.items < PIECE_BYTES) }
-    ensures part { OnErr result (Told (AppendsPart (text.old.items ++ values_text
+    ensures part { OnErr result (Known (AppendsPart (text.old.items ++ values_text
         (take o.count (columns g (D.view dram.old).banks o)))) (S.view out.old).sent
         (S.view out.new).sent) }
     ensures chip_fault { IsErrOf result StepFault.ChipFault
         → FailedBelow (segments g o) (D.view dram.old) (D.view dram.new) }
-    ensures untold { Grew (D.view dram.old).log (D.view dram.new).log [] }
+    ensures no_event { Grew (D.view dram.old).log (D.view dram.new).log [] }
     ensures write_fault { IsErrOf result StepFault.WriteFault
         → Rose (S.view out.old).faults (S.view out.new).faults }
     ensures read { IsErrOf result StepFault.WriteFault
@@ -240,7 +240,7 @@ pub fn print<D: Dram, S: Sink>(
         (D.view dram.old) (D.view dram.new)) }
     ensures rises { OnOk result (RisesAtMost (16 * WIDTH_MAX) (D.view dram.old).counters
         (D.view dram.new).counters) }
-    ensures sent { (operations : Routines) → OnOk result (Told (λ before after. after
+    ensures sent { (operations : Routines) → OnOk result (Known (λ before after. after
         ≡ before ++ printed_line g operations table.now.pairs (D.view dram.old).banks number
         name.now shown.now) (S.view out.old).sent (S.view out.new).sent) }
 
@@ -248,12 +248,12 @@ pub fn print<D: Dram, S: Sink>(
     // but reads happened on the chip, or a read failed.
     ensures allowed { (operations : Routines) → OnErr result
         (refusal g operations table.now.pairs (Print name.now) ≡ None) }
-    ensures part { (operations : Routines) → OnErr result (Told (AppendsPart
+    ensures part { (operations : Routines) → OnErr result (Known (AppendsPart
         (printed_line g operations table.now.pairs (D.view dram.old).banks number name.now
         shown.now)) (S.view out.old).sent (S.view out.new).sent) }
     ensures chip_fault { IsErrOf result StepFault.ChipFault → FailedBelow
         (segments g (object_named table.now.pairs name.now)) (D.view dram.old) (D.view dram.new) }
-    ensures untold { Grew (D.view dram.old).log (D.view dram.new).log [] }
+    ensures no_event { Grew (D.view dram.old).log (D.view dram.new).log [] }
     ensures write_fault { IsErrOf result StepFault.WriteFault
         → Rose (S.view out.old).faults (S.view out.new).faults }
     ensures read { IsErrOf result StepFault.WriteFault

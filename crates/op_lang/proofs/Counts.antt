@@ -70,20 +70,20 @@ known-snoc ps before front last e =
     ∙ sym (append_assoc ps (body_defines ps (map statement front))
     (defines (known_after ps (map statement front)) (statement last)))
 
-pub behind_found : (ps : List Param) (before front : List Stmt) (last : Stmt) (n : List ℕ)
+pub after_found : (ps : List Param) (before front : List Stmt) (last : Stmt) (n : List ℕ)
     (k : Kind) → before ≡ front ++ last ∷ [] → Some k
     ≡ kind_among (known_after ps (map statement front)) n
     → Some k ≡ kind_among (known_after ps (map statement before)) n
-behind_found ps before front last n k e h =
+after_found ps before front last n k e h =
     sym (among_found (known_after ps (map statement front))
     (defines (known_after ps (map statement front)) (statement last)) n k (sym h))
     ∙ ap (λ l. kind_among l n) (sym (known-snoc ps before front last e))
 
-pub behind_missed : (ps : List Param) (before front : List Stmt) (last : Stmt) (n : List ℕ)
+pub after_missed : (ps : List Param) (before front : List Stmt) (last : Stmt) (n : List ℕ)
     → before ≡ front ++ last ∷ [] → None ≡ kind_among (known_after ps (map statement front)) n
     → kind_among (defines (known_after ps (map statement front)) (statement last)) n
     ≡ kind_among (known_after ps (map statement before)) n
-behind_missed ps before front last n e h =
+after_missed ps before front last n e h =
     sym (among_missed (known_after ps (map statement front))
     (defines (known_after ps (map statement front)) (statement last)) n (sym h))
     ∙ ap (λ l. kind_among l n) (sym (known-snoc ps before front last e))

@@ -11,11 +11,12 @@ use Rattle.op_text.specs.Rules.{Scope, breach_of}
 use Rattle.op_text.specs.Spelling.{in_turn, operation_text}
 use Rattle.op_lang.specs.declared.fault.ReadNo.{ReadNo}
 use Rattle.op_lang.specs.Tokens.{is_nil}
-use Rattle.op_lang.specs.Reading.{Reading, breach, Fails, left}
+use Rattle.op_lang.specs.Reading.{ParserView, breach, Fails, left}
 use Rattle.op_lang.specs.Parsing.{ReadsOps}
 use Rattle.op_lang.proofs.Loops.{HasTurns}
 
-pub ops_exit : {V : Type 0} (list : V → List Op) (old : Reading) (e : ReadNo) (r : Result V ReadNo)
+pub ops_exit : {V : Type 0} (list : V → List Op) (old : ParserView) (e : ReadNo) (r : Result V
+    ReadNo)
     → IsErrAnd r (λ x. x ≡ e) → Fails (breach (w.Ops ∷ []) old) e → ReadsOps list old r
 ops_exit list old e r is h =
     let p = err_from_is_err_and r is in
@@ -31,7 +32,7 @@ no_texts : (items : List Item) → is_nil items ≡ true → texts items ≡ []
 no_texts [] h = refl
 no_texts (i ∷ items) h = cc
 
-pub ops_end : {V : Type 0} (list : V → List Op) (v : V) (old : Reading) (new : Reading)
+pub ops_end : {V : Type 0} (list : V → List Op) (v : V) (old : ParserView) (new : ParserView)
     → HasTurns (w.Ops ∷ []) w.Ops operation_text operation (left old) old (list v) new
     → is_nil new.items ≡ true → ReadsOps list old (Ok v)
 ops_end list v old new h e = (

@@ -5,9 +5,9 @@ use Rattle.op_text.specs.declared.tree.Param.{Param}
 use Rattle.op_text.specs.declared.tree.State.{State}
 use Rattle.op_text.specs.Language.{Term, Nought, Unity, Named, Negation, Conjunction, Disjunction}
 use Rattle.op_text.specs.Language.{Parity, Majority, Equation, Statement, Compute, Visit, Operation}
-use Rattle.op_text.specs.Spelling.{term_text, behind_commas, between_commas, in_turn, name_text}
+use Rattle.op_text.specs.Spelling.{term_text, after_commas, between_commas, in_turn, name_text}
 use Rattle.op_text.specs.Spelling.{param_text, state_text, equation_text, let_text, statement_text}
-use Rattle.op_text.specs.Spelling.{operation_text, behind_comma}
+use Rattle.op_text.specs.Spelling.{operation_text, after_comma}
 use Rattle.op_text.specs.WordOps.{op_text}
 
 pub term_longer : (t : Term) (rest : List (List ℕ)) → length rest < length (term_text t rest)
@@ -30,23 +30,23 @@ pub equation_longer : (e : Equation) (rest : List (List ℕ))
     → length rest < length (equation_text e rest)
 equation_longer e rest = let h = term_longer e.value (codes ";" ∷ rest) in omega arith
 
-behind_longer : {A : Type 0} (spell : A → List (List ℕ) → List (List ℕ))
+after_longer : {A : Type 0} (spell : A → List (List ℕ) → List (List ℕ))
     → ((x : A) (rest : List (List ℕ)) → length rest < length (spell x rest))
-    → (xs : List A) (rest : List (List ℕ)) → length rest ≤ length (behind_commas spell xs rest)
-behind_longer spell f [] rest = omega arith
-behind_longer spell f (x ∷ xs) rest = let h = behind_longer spell f xs rest in
-    let k = f x (behind_commas spell xs rest) in omega arith
+    → (xs : List A) (rest : List (List ℕ)) → length rest ≤ length (after_commas spell xs rest)
+after_longer spell f [] rest = omega arith
+after_longer spell f (x ∷ xs) rest = let h = after_longer spell f xs rest in
+    let k = f x (after_commas spell xs rest) in omega arith
 
 between_longer : {A : Type 0} (spell : A → List (List ℕ) → List (List ℕ))
     → ((x : A) (rest : List (List ℕ)) → length rest < length (spell x rest))
     → (xs : List A) (rest : List (List ℕ)) → length rest ≤ length (between_commas spell xs rest)
 between_longer spell f [] rest = omega arith
-between_longer spell f (x ∷ xs) rest = let h = behind_longer spell f xs rest in
-    let k = f x (behind_commas spell xs rest) in omega arith
+between_longer spell f (x ∷ xs) rest = let h = after_longer spell f xs rest in
+    let k = f x (after_commas spell xs rest) in omega arith
 
 comma_longer : {A : Type 0} (spell : A → List (List ℕ) → List (List ℕ))
     → ((x : A) (rest : List (List ℕ)) → length rest < length (spell x rest))
-    → (x : Option A) (rest : List (List ℕ)) → length rest ≤ length (behind_comma spell x rest)
+    → (x : Option A) (rest : List (List ℕ)) → length rest ≤ length (after_comma spell x rest)
 comma_longer spell f None rest = omega arith
 comma_longer spell f (Some x) rest = let k = f x rest in omega arith
 
@@ -91,5 +91,5 @@ operation_longer o rest =
     let h = turn_longer statement_text statement_longer o.body (codes "}" ∷ rest) in
     let m = comma_longer param_text param_longer o.second (codes "{" ∷ body) in
     let k = between_longer param_text param_longer o.params (codes ")" ∷ codes "->"
-    ∷ param_text o.result (behind_comma param_text o.second (codes "{" ∷ body))) in
+    ∷ param_text o.result (after_comma param_text o.second (codes "{" ∷ body))) in
     omega arith

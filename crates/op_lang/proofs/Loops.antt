@@ -2,32 +2,34 @@
 use Rattle.std.proofs.Common.{◌≡◌, ℕ, ◌≤◌, List, [], ◌∷◌, ◌++◌, map, length, refl, sym, ap, ◌∙◌}
 use Rattle.std.proofs.Common.{codes, arith, length-append}
 use Rattle.op_text.specs.declared.grammar.Wanted.{Wanted}
-use Rattle.op_text.specs.Spelling.{behind_commas, between_commas, in_turn}
-use Rattle.op_lang.specs.Reading.{Reading, breach, left}
+use Rattle.op_text.specs.Spelling.{after_commas, between_commas, in_turn}
+use Rattle.op_lang.specs.Reading.{ParserView, breach, left}
 
-behind-more : {A : Type 0} (spell : A → List (List ℕ)
+following-more : {A : Type 0} (spell : A → List (List ℕ)
     → List (List ℕ)) (xs : List A) (x : A) (rest : List (List ℕ))
-    → behind_commas spell (xs ++ x ∷ []) rest ≡ behind_commas spell xs (codes "," ∷ spell x rest)
-behind-more spell [] x rest = refl
-behind-more spell (y ∷ xs) x rest = ap (λ l. codes "," ∷ spell y l) (behind-more spell xs x rest)
+    → after_commas spell (xs ++ x ∷ []) rest ≡ after_commas spell xs (codes "," ∷ spell x rest)
+following-more spell [] x rest = refl
+following-more spell (y ∷ xs) x rest = ap (λ l. codes ","
+    ∷ spell y l) (following-more spell xs x rest)
 
 between-more : {A : Type 0} (spell : A → List (List ℕ)
     → List (List ℕ)) (xs : List A) (x : A) (rest : List (List ℕ)) → 1 ≤ length xs
     → between_commas spell (xs ++ x ∷ []) rest ≡ between_commas spell xs (codes "," ∷ spell x rest)
 between-more spell [] x rest h = absurd (omega arith)
-between-more spell (y ∷ xs) x rest h = ap (spell y) (behind-more spell xs x rest)
+between-more spell (y ∷ xs) x rest h = ap (spell y) (following-more spell xs x rest)
 
 -- Some parts are read, with commas between them.
 pub record HasParts {A : Type 0} (more : Wanted) (spell : A → List (List ℕ)
-    → List (List ℕ)) (start : List (List ℕ)) (old : Reading) (xs : List A) (new : Reading) : Type 0
+    → List (List ℕ)) (start : List (List ℕ)) (old : ParserView) (xs : List A) (new : ParserView) :
+    Type 0
   where
     pub same : (wanted : List Wanted) → breach (more ∷ wanted) old ≡ breach (more ∷ wanted) new
     pub spells : start ≡ between_commas spell xs (left new)
     pub some : 1 ≤ length xs
 
 pub next_part : {A : Type 0} (more : Wanted) (spell : A → List (List ℕ)
-    → List (List ℕ)) (start : List (List ℕ)) (old : Reading) (xs : List A) (mid : Reading)
-    (ys : List A) (x : A) (new : Reading)
+    → List (List ℕ)) (start : List (List ℕ)) (old : ParserView) (xs : List A) (mid : ParserView)
+    (ys : List A) (x : A) (new : ParserView)
     → HasParts more spell start old xs mid → ((wanted : List Wanted)
     → breach (more ∷ wanted) mid ≡ breach (more ∷ wanted) new)
     → left mid ≡ codes "," ∷ spell x (left new) → ys ≡ xs ++ x ∷ []
@@ -48,14 +50,14 @@ turn-more spell f (y ∷ xs) x rest = ap (spell (f y)) (turn-more spell f xs x r
 
 -- Some parts are read, one after the other.
 pub record HasTurns {A B : Type 0} (front : List Wanted) (wanted : Wanted) (spell : A
-    → List (List ℕ) → List (List ℕ)) (f : B → A) (start : List (List ℕ)) (old : Reading)
-    (xs : List B) (new : Reading) : Type 0 where
+    → List (List ℕ) → List (List ℕ)) (f : B → A) (start : List (List ℕ)) (old : ParserView)
+    (xs : List B) (new : ParserView) : Type 0 where
   pub same : (more : List Wanted) → breach (front ++ more) old ≡ breach (wanted ∷ more) new
   pub spells : start ≡ in_turn spell (map f xs) (left new)
 
 pub next_turn : {A B : Type 0} (front : List Wanted) (wanted next : Wanted) (spell : A
-    → List (List ℕ) → List (List ℕ)) (f : B → A) (start : List (List ℕ)) (old : Reading)
-    (xs : List B) (mid : Reading) (ys : List B) (x : B) (new : Reading)
+    → List (List ℕ) → List (List ℕ)) (f : B → A) (start : List (List ℕ)) (old : ParserView)
+    (xs : List B) (mid : ParserView) (ys : List B) (x : B) (new : ParserView)
     → HasTurns front wanted spell f start old xs mid
     → ((more : List Wanted) → breach (wanted ∷ more) mid ≡ breach (next ∷ more) new)
     → left mid ≡ spell (f x) (left new) → ys ≡ xs ++ x ∷ []

@@ -22,14 +22,14 @@ use Rattle.op_text.specs.WordOps.{op_named}
 use Rattle.op_text.specs.Rules.{Scope, rules_at, unless, is_plain, is_bad, known_op, gate_named}
 use Rattle.op_text.specs.Rules.{comma_rules, close_rules}
 use Rattle.op_text.specs.Spelling.{kind_text, direction_text, start_text}
-use Rattle.op_lang.specs.Reading.{Reading, breach, is_allowed, Took, left}
+use Rattle.op_lang.specs.Reading.{ParserView, breach, is_allowed, Took, left}
 use Rattle.op_lang.proofs.Taking.{took_moves, took_left}
 use Rattle.op_lang.specs.Pieces.{IsSpelled, is_mark, mark_text, is_name, is_name_or_end}
-use Rattle.op_lang.specs.Pieces.{is_second, behind_second, comma_or_end}
-use Rattle.op_lang.specs.Pieces.{behind_name, end_text, is_more, behind_comma_or_close}
+use Rattle.op_lang.specs.Pieces.{is_second, after_second, comma_or_end}
+use Rattle.op_lang.specs.Pieces.{after_name, end_text, is_more, after_comma_or_close}
 use Rattle.op_lang.specs.Pieces.{comma_or_close, is_kind, is_statement, is_named, is_finish}
 use Rattle.op_lang.specs.Pieces.{is_serial_word, is_let_word, kind_at, is_down, is_one, is_comma}
-use Rattle.op_lang.specs.Pieces.{behind_start, behind_line, gate_text, behind_leaf, leaf_spelled}
+use Rattle.op_lang.specs.Pieces.{after_start, after_line, gate_text, after_leaf, leaf_spelled}
 use Rattle.op_lang.specs.Pieces.{lacking, bit_leaf}
 use Rattle.op_lang.specs.declared.pieces.Start.TheVariants as start
 use Rattle.op_lang.specs.declared.pieces.Leaf.{Leaf}
@@ -71,7 +71,8 @@ spelled kinds.Symbol text =
     h) (pick text (codes ":") _ t.Colon _ refl (λ h.
     h) (pick text (codes "->") _ t.Arrow t.Other refl (λ h. h) tt))))))))
 
-pub took_spelled : (want : Wanted) (old : Reading) (text : List ℕ) (u : Terminal) (new : Reading)
+pub took_spelled : (want : Wanted) (old : ParserView) (text : List ℕ) (u : Terminal) (new :
+    ParserView)
     → Took want old text u new → IsSpelled u text
 took_spelled want old text u new h = let P : Terminal → Type 0 = λ v. IsSpelled v text in
     subst P h.is (spelled h.kind text)
@@ -144,7 +145,7 @@ name_follows _ u o text s s' m a r = cc
 
 pub listed_follows : (want : Wanted) (u : Terminal) (o : Bool) (text : List ℕ) (s s' : Scope)
     → is_name_or_end want ≡ true → is_named u ≡ true → rules_at want s u text o ≡ Ok s'
-    → (follow want u o ≡ Some (behind_name want)) × (fits_name text ≡ true)
+    → (follow want u o ≡ Some (after_name want)) × (fits_name text ≡ true)
 listed_follows w.Args (t.Name n) o text s s' m a r =
     (refl, fits (is_plain n) (fits_name text) _ _ s' r)
 listed_follows w.Args _ o text s s' m a r = cc
@@ -173,7 +174,7 @@ end_follows _ u o text m n a s = cc
 
 pub more_follows : (want : Wanted) (u : Terminal) (o : Bool) (text : List ℕ) → is_more want ≡ true
     → is_allowed (follow want u o) ≡ true → IsSpelled u text
-    → (follow want u o ≡ Some (behind_comma_or_close want (is_comma u)))
+    → (follow want u o ≡ Some (after_comma_or_close want (is_comma u)))
     × (text ≡ comma_or_close (is_comma u))
 more_follows w.Params t.Comma o text m a s = (refl, s)
 more_follows w.Params t.Closes o text m a s = (refl, s)
@@ -188,7 +189,7 @@ more_follows _ u o text m a s = cc
 
 pub second_follows : (want : Wanted) (u : Terminal) (o : Bool) (text : List ℕ)
     → is_second want ≡ true → is_allowed (follow want u o) ≡ true → IsSpelled u text
-    → (follow want u o ≡ Some (behind_second want (is_comma u)))
+    → (follow want u o ≡ Some (after_second want (is_comma u)))
     × (text ≡ comma_or_end want (is_comma u))
 second_follows w.SecondResult t.Comma o text m a s = (refl, s)
 second_follows w.SecondResult t.Begins o text m a s = (refl, s)
@@ -262,7 +263,7 @@ end_statement _ u o text m n a s = cc
 
 pub serial_statement : (want : Wanted) (u : Terminal) (o : Bool) (text : List ℕ)
     → is_statement want ≡ true → is_serial_word u ≡ true → IsSpelled u text
-    → (follow want u o ≡ Some (behind_start start.Serial)) × (text ≡ codes "serial")
+    → (follow want u o ≡ Some (after_start start.Serial)) × (text ≡ codes "serial")
 serial_statement w.Stmts (t.Name sp.Serial) o text m n s = (refl, s)
 serial_statement w.Stmts (t.Name _) o text m n s = cc
 serial_statement w.Stmts _ o text m n s = cc
@@ -274,7 +275,7 @@ serial_statement _ u o text m n s = cc
 pub word_statement : (want : Wanted) (u : Terminal) (o : Bool) (text : List ℕ) (s s' : Scope)
     → is_statement want ≡ true → is_finish u ≡ false → is_serial_word u ≡ false
     → is_allowed (follow want u o) ≡ true
-    → rules_at want s u text o ≡ Ok s' → (follow want u o ≡ Some (behind_start (start.Word text)))
+    → rules_at want s u text o ≡ Ok s' → (follow want u o ≡ Some (after_start (start.Word text)))
     × (fits_name text ≡ true)
 word_statement w.FirstStmt (t.Name sp.Plain) o text s s' m f n a r =
     (refl, fits (is_plain sp.Plain) (fits_name text) _ _ s' r)
@@ -301,14 +302,14 @@ word_statement w.Stmts _ o text s s' m f n a r = cc
 word_statement _ u o text s s' m f n a r = cc
 
 pub let_line : (u : Terminal) (o : Bool) (text : List ℕ) → is_let_word u ≡ true → IsSpelled u text
-    → (follow w.Lets u o ≡ Some (behind_line None)) × (text ≡ codes "let")
+    → (follow w.Lets u o ≡ Some (after_line None)) × (text ≡ codes "let")
 let_line (t.Name sp.Let) o text n s = (refl, s)
 let_line (t.Name _) o text n s = cc
 let_line _ o text n s = cc
 
 pub target_line : (u : Terminal) (o : Bool) (text : List ℕ) (s s' : Scope) → is_let_word u ≡ false
     → is_allowed (follow w.Lets u o) ≡ true → rules_at w.Lets s u text o ≡ Ok s'
-    → (follow w.Lets u o ≡ Some (behind_line (Some text))) × (fits_name text ≡ true)
+    → (follow w.Lets u o ≡ Some (after_line (Some text))) × (fits_name text ≡ true)
 target_line (t.Name sp.Plain) o text s s' n a r =
     (refl, fits (is_plain sp.Plain) (fits_name text) _ _ s' r)
 target_line (t.Name sp.Op) o text s s' n a r = cc
@@ -320,118 +321,124 @@ target_line (t.Name sp.Serial) o text s s' n a r = cc
 target_line (t.Name sp.Let) o text s s' n a r = cc
 target_line _ o text s s' n a r = cc
 
-pub mark_took : (want : Wanted) (old : Reading) (text : List ℕ) (u : Terminal) (new : Reading)
+pub mark_took : (want : Wanted) (old : ParserView) (text : List ℕ) (u : Terminal) (new : ParserView)
     → is_mark want ≡ true → Took want old text u new → (more : List Wanted)
     → breach (want ∷ more) old ≡ breach (more) new
 mark_took want old text u new m k more = took_moves want old text u new k []
     (mark_follows want u (opens new.items) text m k.allowed (took_spelled want old text u new k)).0
     more
 
-pub name_took : (want : Wanted) (old : Reading) (text : List ℕ) (u : Terminal) (new : Reading)
+pub name_took : (want : Wanted) (old : ParserView) (text : List ℕ) (u : Terminal) (new : ParserView)
     → is_name want ≡ true → Took want old text u new → (more : List Wanted)
     → breach (want ∷ more) old ≡ breach (more) new
 name_took want old text u new m k more = took_moves want old text u new k []
     (name_follows want u (opens new.items) text old.scope new.scope m k.allowed k.rules).0 more
 
-pub listed_took : (want : Wanted) (old : Reading) (text : List ℕ) (u : Terminal) (new : Reading)
+pub listed_took : (want : Wanted) (old : ParserView) (text : List ℕ) (u : Terminal) (new :
+    ParserView)
     → is_name_or_end want ≡ true → is_named u ≡ true → Took want old text u new
-    → (more : List Wanted) → breach (want ∷ more) old ≡ breach (behind_name want ++ more) new
-listed_took want old text u new m n k more = took_moves want old text u new k (behind_name want)
+    → (more : List Wanted) → breach (want ∷ more) old ≡ breach (after_name want ++ more) new
+listed_took want old text u new m n k more = took_moves want old text u new k (after_name want)
     (listed_follows want u (opens new.items) text old.scope new.scope m n k.rules).0 more
 
-pub end_took : (want : Wanted) (old : Reading) (text : List ℕ) (u : Terminal) (new : Reading)
+pub end_took : (want : Wanted) (old : ParserView) (text : List ℕ) (u : Terminal) (new : ParserView)
     → is_name_or_end want ≡ true → is_named u ≡ false → Took want old text u new
     → (more : List Wanted) → breach (want ∷ more) old ≡ breach (more) new
 end_took want old text u new m n k more = took_moves want old text u new k []
     (end_follows want u (opens new.items) text m n k.allowed (took_spelled want old text u new k)).0
     more
 
-pub more_took : (want : Wanted) (old : Reading) (text : List ℕ) (u : Terminal) (new : Reading)
+pub more_took : (want : Wanted) (old : ParserView) (text : List ℕ) (u : Terminal) (new : ParserView)
     → is_more want ≡ true → Took want old text u new → (more : List Wanted)
-    → breach (want ∷ more) old ≡ breach (behind_comma_or_close want (is_comma u) ++ more) new
+    → breach (want ∷ more) old ≡ breach (after_comma_or_close want (is_comma u) ++ more) new
 more_took want old text u new m k more = took_moves want old text u new k
-    (behind_comma_or_close want (is_comma u))
+    (after_comma_or_close want (is_comma u))
     (more_follows want u (opens new.items) text m k.allowed (took_spelled want old text u new k)).0
     more
 
-pub second_took : (want : Wanted) (old : Reading) (text : List ℕ) (u : Terminal) (new : Reading)
+pub second_took : (want : Wanted) (old : ParserView) (text : List ℕ) (u : Terminal) (new :
+    ParserView)
     → is_second want ≡ true → Took want old text u new → (more : List Wanted)
-    → breach (want ∷ more) old ≡ breach (behind_second want (is_comma u) ++ more) new
+    → breach (want ∷ more) old ≡ breach (after_second want (is_comma u) ++ more) new
 second_took want old text u new m k more = took_moves want old text u new k
-    (behind_second want (is_comma u))
+    (after_second want (is_comma u))
     (second_follows want u (opens new.items) text m k.allowed
     (took_spelled want old text u new k)).0 more
 
-pub kind_took : (want : Wanted) (old : Reading) (text : List ℕ) (u : Terminal) (new : Reading)
+pub kind_took : (want : Wanted) (old : ParserView) (text : List ℕ) (u : Terminal) (new : ParserView)
     → is_kind want ≡ true → Took want old text u new → (more : List Wanted)
     → breach (want ∷ more) old ≡ breach (more) new
 kind_took want old text u new m k more = took_moves want old text u new k []
     (kind_follows want u (opens new.items) text m k.allowed (took_spelled want old text u new k)).0
     more
 
-pub direction_took : (old : Reading) (text : List ℕ) (u : Terminal) (new : Reading)
+pub direction_took : (old : ParserView) (text : List ℕ) (u : Terminal) (new : ParserView)
     → Took w.Direction old text u new → (more : List Wanted)
     → breach (w.Direction ∷ more) old ≡ breach (more) new
 direction_took old text u new k more = took_moves w.Direction old text u new k []
     (direction_follows u (opens new.items) text k.allowed
     (took_spelled w.Direction old text u new k)).0 more
 
-pub start_took : (old : Reading) (text : List ℕ) (u : Terminal) (new : Reading)
+pub start_took : (old : ParserView) (text : List ℕ) (u : Terminal) (new : ParserView)
     → Took w.Start old text u new → (more : List Wanted)
     → breach (w.Start ∷ more) old ≡ breach (more) new
 start_took old text u new k more = took_moves w.Start old text u new k []
     (start_follows u (opens new.items) text k.allowed (took_spelled w.Start old text u new k)).0
     more
 
-pub op_took : (old : Reading) (text : List ℕ) (u : Terminal) (new : Reading)
+pub op_took : (old : ParserView) (text : List ℕ) (u : Terminal) (new : ParserView)
     → Took w.Ops old text u new → (more : List Wanted)
     → breach (w.Ops ∷ more) old ≡ breach (w.NewOp ∷ w.Open ∷ w.NewParam ∷ w.Colon ∷ w.ParamKind
-    ∷ w.Params ∷ w.Arrow ∷ w.NewResult ∷ w.Colon ∷ w.ResultKind ∷ w.SecondResult ∷ w.FirstStmt ∷ w.Ops
+    ∷ w.Params ∷ w.Arrow ∷ w.NewResult ∷ w.Colon ∷ w.ResultKind ∷ w.SecondResult ∷ w.FirstStmt
+    ∷ w.Ops
     ∷ more) new
 op_took old text u new k more = took_moves w.Ops old text u new k (w.NewOp ∷ w.Open ∷ w.NewParam
-    ∷ w.Colon ∷ w.ParamKind ∷ w.Params ∷ w.Arrow ∷ w.NewResult ∷ w.Colon ∷ w.ResultKind ∷ w.SecondResult
+    ∷ w.Colon ∷ w.ParamKind ∷ w.Params ∷ w.Arrow ∷ w.NewResult ∷ w.Colon ∷ w.ResultKind
+    ∷ w.SecondResult
     ∷ w.FirstStmt ∷ w.Ops ∷ []) (op_follows u (opens new.items) text k.allowed
     (took_spelled w.Ops old text u new k)).0 more
 
-pub word_op_took : (old : Reading) (text : List ℕ) (u : Terminal) (new : Reading)
+pub word_op_took : (old : ParserView) (text : List ℕ) (u : Terminal) (new : ParserView)
     → Took w.WordOpName old text u new → (more : List Wanted)
     → breach (w.WordOpName ∷ more) old ≡ breach (more) new
 word_op_took old text u new k more = took_moves w.WordOpName old text u new k []
     (word_op_follows u (opens new.items) text old.scope new.scope k.allowed k.rules).0 more
 
-pub end_statement_took : (want : Wanted) (old : Reading) (text : List ℕ) (u : Terminal)
-    (new : Reading) → is_statement want ≡ true → is_finish u ≡ true → Took want old text u new
+pub end_statement_took : (want : Wanted) (old : ParserView) (text : List ℕ) (u : Terminal)
+    (new : ParserView) → is_statement want ≡ true → is_finish u ≡ true → Took want old text u new
     → (more : List Wanted) → breach (want ∷ more) old ≡ breach (more) new
 end_statement_took want old text u new m n k more =
     took_moves want old text u new k [] (end_statement want u (opens new.items) text m n k.allowed
     (took_spelled want old text u new k)).0 more
 
-pub serial_took : (want : Wanted) (old : Reading) (text : List ℕ) (u : Terminal) (new : Reading)
+pub serial_took : (want : Wanted) (old : ParserView) (text : List ℕ) (u : Terminal) (new :
+    ParserView)
     → is_statement want ≡ true → is_serial_word u ≡ true → Took want old text u new
     → (more : List Wanted) → breach (want ∷ more) old
-    ≡ breach (behind_start start.Serial ++ more) new
+    ≡ breach (after_start start.Serial ++ more) new
 serial_took want old text u new m n k more = took_moves want old text u new k
-    (behind_start start.Serial) (serial_statement want u (opens new.items) text m n
+    (after_start start.Serial) (serial_statement want u (opens new.items) text m n
     (took_spelled want old text u new k)).0 more
 
-pub word_took : (want : Wanted) (old : Reading) (text : List ℕ) (u : Terminal) (new : Reading)
+pub word_took : (want : Wanted) (old : ParserView) (text : List ℕ) (u : Terminal) (new : ParserView)
     → is_statement want ≡ true → is_finish u ≡ false → is_serial_word u ≡ false
     → Took want old text u new → (more : List Wanted)
-    → breach (want ∷ more) old ≡ breach (behind_start (start.Word text) ++ more) new
+    → breach (want ∷ more) old ≡ breach (after_start (start.Word text) ++ more) new
 word_took want old text u new m f n k more = took_moves want old text u new k
-    (behind_start (start.Word text)) (word_statement want u (opens new.items) text old.scope
+    (after_start (start.Word text)) (word_statement want u (opens new.items) text old.scope
     new.scope m f n k.allowed k.rules).0 more
 
-pub let_took : (old : Reading) (text : List ℕ) (u : Terminal) (new : Reading) → is_let_word u ≡ true
+pub let_took : (old : ParserView) (text : List ℕ) (u : Terminal) (new : ParserView)
+    → is_let_word u ≡ true
     → Took w.Lets old text u new → (more : List Wanted)
-    → breach (w.Lets ∷ more) old ≡ breach (behind_line None ++ more) new
-let_took old text u new n k more = took_moves w.Lets old text u new k (behind_line None)
+    → breach (w.Lets ∷ more) old ≡ breach (after_line None ++ more) new
+let_took old text u new n k more = took_moves w.Lets old text u new k (after_line None)
     (let_line u (opens new.items) text n (took_spelled w.Lets old text u new k)).0 more
 
-pub target_took : (old : Reading) (text : List ℕ) (u : Terminal) (new : Reading)
+pub target_took : (old : ParserView) (text : List ℕ) (u : Terminal) (new : ParserView)
     → is_let_word u ≡ false → Took w.Lets old text u new → (more : List Wanted)
-    → breach (w.Lets ∷ more) old ≡ breach (behind_line (Some text) ++ more) new
-target_took old text u new n k more = took_moves w.Lets old text u new k (behind_line (Some text))
+    → breach (w.Lets ∷ more) old ≡ breach (after_line (Some text) ++ more) new
+target_took old text u new n k more = took_moves w.Lets old text u new k (after_line (Some text))
     (target_line u (opens new.items) text old.scope new.scope n k.allowed k.rules).0 more
 
 -- values
@@ -461,7 +468,7 @@ ok_missing s s' h = let e : s' ≡ s = cc in ap (λ (x : Scope). x.block.missing
 pub bit_value : (u : Terminal) (o : Bool) (text : List ℕ) (s s' : Scope) → is_named u ≡ false
     → is_allowed (follow w.Value u o) ≡ true → IsSpelled u text
     → rules_at w.Value s u text o ≡ Ok s'
-    → (follow w.Value u o ≡ Some (behind_leaf (bit_leaf u))) × (text ≡ leaf_spelled (bit_leaf u))
+    → (follow w.Value u o ≡ Some (after_leaf (bit_leaf u))) × (text ≡ leaf_spelled (bit_leaf u))
     × (s'.block.missing ≡ lacking (bit_leaf u) s.block.missing)
 bit_value t.Zero o text s s' n a k r = (refl, k, ok_missing s s' r)
 bit_value t.One o text s s' n a k r = (refl, k, ok_missing s s' r)
@@ -470,7 +477,7 @@ bit_value _ o text s s' n a k r = cc
 
 pub gate_value : (u : Terminal) (o : Bool) (text : List ℕ) (s s' : Scope) (g : Gate)
     → is_named u ≡ true → o ≡ true → gate_named text ≡ Some g → rules_at w.Value s u text o ≡ Ok s'
-    → (follow w.Value u o ≡ Some (behind_leaf (leaf.Gate g)))
+    → (follow w.Value u o ≡ Some (after_leaf (leaf.Gate g)))
     × (s'.block.missing ≡ lacking (leaf.Gate g) s.block.missing)
 gate_value (t.Name n) true text s s' g m e k r =
     let r' = rw k at (unless_ok (is_bad n text) _ _ s' r) in
@@ -480,7 +487,7 @@ gate_value _ o text s s' g m e k r = cc
 
 pub name_value : (u : Terminal) (o : Bool) (text : List ℕ) (s s' : Scope) → is_named u ≡ true
     → o ≡ false → rules_at w.Value s u text o ≡ Ok s'
-    → (follow w.Value u o ≡ Some (behind_leaf (leaf.Read text))) × (fits_name text ≡ true)
+    → (follow w.Value u o ≡ Some (after_leaf (leaf.Read text))) × (fits_name text ≡ true)
     × (s'.block.missing ≡ s.block.missing)
 name_value (t.Name n) false text s s' m e r = (
   refl,
@@ -490,7 +497,7 @@ name_value (t.Name n) false text s s' m e r = (
 name_value (t.Name n) true text s s' m e r = cc
 name_value _ o text s s' m e r = cc
 
--- behind an argument
+-- after an argument
 comma_ok : (s s' : Scope) (n : ℕ) (outer m : List ℕ) → m ≡ suc n ∷ outer → comma_rules s m ≡ Ok s'
     → s'.block.missing ≡ n ∷ outer
 comma_ok s s' n outer m e r = let r' = rw e at r in ok_missing _ s' r'
@@ -528,13 +535,13 @@ close_follows t.Comma o text s s' outer e a k r =
 close_follows _ o text s s' outer e a k r = cc
 
 -- what one of these was taken as
-pub record AsComma (n : ℕ) (outer : List ℕ) (old new : Reading) : Type 0 where
+pub record AsComma (n : ℕ) (outer : List ℕ) (old new : ParserView) : Type 0 where
   pub moves : (more : List Wanted) → breach (w.More ∷ more) old
       ≡ breach (w.Value ∷ w.More ∷ more) new
   pub spells : left old ≡ codes "," ∷ left new
   pub missing : new.scope.block.missing ≡ n ∷ outer
 
-pub comma_took : (old : Reading) (text : List ℕ) (u : Terminal) (new : Reading) (n : ℕ)
+pub comma_took : (old : ParserView) (text : List ℕ) (u : Terminal) (new : ParserView) (n : ℕ)
     (outer : List ℕ) → old.scope.block.missing ≡ suc n ∷ outer → Took w.More old text u new
     → AsComma n outer old new
 comma_took old text u new n outer e k =
@@ -546,12 +553,13 @@ comma_took old text u new n outer e k =
       missing = f.2;
     }
 
-pub record AsClose (outer : List ℕ) (old new : Reading) : Type 0 where
+pub record AsClose (outer : List ℕ) (old new : ParserView) : Type 0 where
   pub moves : (more : List Wanted) → breach (w.More ∷ more) old ≡ breach more new
   pub spells : left old ≡ codes ")" ∷ left new
   pub missing : new.scope.block.missing ≡ outer
 
-pub close_took : (old : Reading) (text : List ℕ) (u : Terminal) (new : Reading) (outer : List ℕ)
+pub close_took : (old : ParserView) (text : List ℕ) (u : Terminal) (new : ParserView) (outer : List
+    ℕ)
     → old.scope.block.missing ≡ zero ∷ outer → Took w.More old text u new → AsClose outer old new
 close_took old text u new outer e k =
     let f = close_follows u (opens new.items) text old.scope new.scope outer e k.allowed
@@ -562,36 +570,38 @@ close_took old text u new outer e k =
       missing = f.2;
     }
 
-pub record AsLeaf (l : Leaf) (old new : Reading) : Type 0 where
+pub record AsLeaf (l : Leaf) (old new : ParserView) : Type 0 where
   pub moves : (more : List Wanted) → breach (w.Value ∷ more) old
-      ≡ breach (behind_leaf l ++ more) new
+      ≡ breach (after_leaf l ++ more) new
   pub spells : left old ≡ leaf_spelled l ∷ left new
   pub missing : new.scope.block.missing ≡ lacking l old.scope.block.missing
 
-pub bit_took : (old : Reading) (text : List ℕ) (u : Terminal) (new : Reading) → is_named u ≡ false
+pub bit_took : (old : ParserView) (text : List ℕ) (u : Terminal) (new : ParserView)
+    → is_named u ≡ false
     → Took w.Value old text u new → AsLeaf (bit_leaf u) old new
 bit_took old text u new n k =
     let f = bit_value u (opens new.items) text old.scope new.scope n k.allowed
     (took_spelled w.Value old text u new k) k.rules in
     record {
-      moves = took_moves w.Value old text u new k (behind_leaf (bit_leaf u)) f.0;
+      moves = took_moves w.Value old text u new k (after_leaf (bit_leaf u)) f.0;
       spells = took_left w.Value old text u new k ∙ ap (λ x. x ∷ left new) f.1;
       missing = f.2;
     }
 
-pub gate_took : (old : Reading) (text : List ℕ) (u : Terminal) (new : Reading) (g : Gate)
+pub gate_took : (old : ParserView) (text : List ℕ) (u : Terminal) (new : ParserView) (g : Gate)
     → is_named u ≡ true → opens new.items ≡ true → gate_named text ≡ Some g
     → Took w.Value old text u new → AsLeaf (leaf.Gate g) old new
 gate_took old text u new g n o e k =
     let f = gate_value u (opens new.items) text old.scope new.scope g n o e k.rules in
     record {
-      moves = took_moves w.Value old text u new k (behind_leaf (leaf.Gate g)) f.0;
+      moves = took_moves w.Value old text u new k (after_leaf (leaf.Gate g)) f.0;
       spells = took_left w.Value old text u new k
           ∙ ap (λ x. x ∷ left new) (gate_spelled text g e);
       missing = f.1;
     }
 
-pub read_took : (old : Reading) (text : List ℕ) (u : Terminal) (new : Reading) → is_named u ≡ true
+pub read_took : (old : ParserView) (text : List ℕ) (u : Terminal) (new : ParserView)
+    → is_named u ≡ true
     → opens new.items ≡ false → Took w.Value old text u new → AsLeaf (leaf.Read text) old new
 read_took old text u new n o k =
     let f = name_value u (opens new.items) text old.scope new.scope n o k.rules in
@@ -606,7 +616,7 @@ open_is : (u : Terminal) (o : Bool) → is_allowed (follow w.GateOpen u o) ≡ t
 open_is t.Opens o a = refl
 open_is _ o a = cc
 
-pub open_took : (old : Reading) (text : List ℕ) (u : Terminal) (new : Reading)
+pub open_took : (old : ParserView) (text : List ℕ) (u : Terminal) (new : ParserView)
     → Took w.GateOpen old text u new → (more : List Wanted)
     → breach (w.GateOpen ∷ more) old ≡ breach more new
 open_took old text u new k more = took_moves w.GateOpen old text u new k []

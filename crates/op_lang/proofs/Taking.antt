@@ -20,7 +20,8 @@ use Rattle.op_text.proofs.Steps.{moved, refused}
 use Rattle.op_lang.specs.declared.fault.ReadNo.{ReadNo}
 use Rattle.op_lang.specs.declared.fault.ReadNo.TheVariants as no
 use Rattle.op_lang.specs.declared.parser.Taken.{Taken}
-use Rattle.op_lang.specs.Reading.{Reading, breach, Fails, Moves, MovesTo, Took, Takes, is_due, left}
+use Rattle.op_lang.specs.Reading.{ParserView, breach, Fails, Moves, MovesTo, Took, Takes, is_due}
+use Rattle.op_lang.specs.Reading.{left}
 use Rattle.op_lang.specs.Judging.{IsWrong, JudgesToken}
 
 -- where there is no token
@@ -60,8 +61,9 @@ is_judged t.Semi = true
 is_judged t.Finishes = true
 is_judged u = false
 
--- what comes behind a token that was taken
-pub took_moves : (want : Wanted) (old : Reading) (text : List ℕ) (u : Terminal) (new : Reading)
+-- what comes after a token that was taken
+pub took_moves : (want : Wanted) (old : ParserView) (text : List ℕ) (u : Terminal) (new :
+    ParserView)
     → Took want old text u new → (front : List Wanted)
     → follow want u (opens new.items) ≡ Some front
     → (more : List Wanted) → breach (want ∷ more) old ≡ breach (front ++ more) new
@@ -69,7 +71,7 @@ took_moves want old text u new h front e more =
     moved want old.scope old.items (record { kind = h.kind; text = text; start = h.start })
     new.items front new.scope h.items (rw (h.is, e, h.rules) refl) more
 
-pub took_left : (want : Wanted) (old : Reading) (text : List ℕ) (u : Terminal) (new : Reading)
+pub took_left : (want : Wanted) (old : ParserView) (text : List ℕ) (u : Terminal) (new : ParserView)
     → Took want old text u new → left old ≡ text ∷ left new
 took_left want old text u new h = ap texts h.items
 
@@ -77,16 +79,16 @@ pub fails_along : {a b : Option Breach} (e : ReadNo) → a ≡ b → Fails b e �
 fails_along e h f = let P : Option Breach → Type 0 = λ x. Fails x e in subst P (sym h) f
 
 -- The exit of a `?`.
-pub exits : {A : Type 0} (front : List Wanted) (old : Reading) (e : ReadNo) (r : Result A ReadNo)
-    (behind : A → List Wanted) (new : Reading)
+pub exits : {A : Type 0} (front : List Wanted) (old : ParserView) (e : ReadNo) (r : Result A ReadNo)
+    (following : A → List Wanted) (new : ParserView)
     → IsErrAnd r (λ x. x ≡ e) → ((more : List Wanted) → Fails (breach (front ++ more) old) e)
-    → MovesTo front old r behind new
-exits front old e r behind new is h =
+    → MovesTo front old r following new
+exits front old e r following new is h =
     let p = err_from_is_err_and r is in
     rw (p.1, p.2) h
 
-pub take_exits : (want : Wanted) (old : Reading) (e : ReadNo) (r : Result Taken ReadNo)
-    (new : Reading)
+pub take_exits : (want : Wanted) (old : ParserView) (e : ReadNo) (r : Result Taken ReadNo)
+    (new : ParserView)
     → IsErrAnd r (λ x. x ≡ e) → ((more : List Wanted) → Fails (breach (want ∷ more) old) e)
     → Takes want old r new
 take_exits want old e r new is h =
@@ -94,17 +96,17 @@ take_exits want old e r new is h =
     rw (p.1, p.2) h
 
 -- where only memory can be lacking
-pub then_memory : {A : Type 0} (front : List Wanted) (old : Reading) (r : Result A ReadNo)
-    (behind : A → List Wanted) (new : Reading)
+pub then_memory : {A : Type 0} (front : List Wanted) (old : ParserView) (r : Result A ReadNo)
+    (following : A → List Wanted) (new : ParserView)
     → IfErr r (λ e. e ≡ no.Memory) → ((x : A) (more : List Wanted)
-    → breach (front ++ more) old ≡ breach (behind x ++ more) new)
-    → MovesTo front old r behind new
-then_memory front old (Ok x) behind new h k = k x
-then_memory front old (Err e) behind new h k = λ more. rw h tt
+    → breach (front ++ more) old ≡ breach (following x ++ more) new)
+    → MovesTo front old r following new
+then_memory front old (Ok x) following new h k = k x
+then_memory front old (Err e) following new h k = λ more. rw h tt
 
--- The rest is read behind what is read already.
-pub continues : {A : Type 0} (front mid back : List Wanted) (old there : Reading)
-    (r : Result A ReadNo) (new : Reading)
+-- The rest is read after what is read already.
+pub continues : {A : Type 0} (front mid back : List Wanted) (old there : ParserView)
+    (r : Result A ReadNo) (new : ParserView)
     → ((more : List Wanted) → breach (front ++ more) old ≡ breach (mid ++ (back ++ more)) there)
     → Moves mid there r new → MovesTo front old r (λ x. back) new
 continues front mid back old there (Ok x) new h k = λ more. h more ∙ k (back ++ more)

@@ -9,7 +9,7 @@ use Rattle.op_text.specs.Rules.{is_among}
 use Rattle.op_text.specs.Scratch.{body_defines, need_inside, bits_inside, words_inside}
 use Rattle.op_text.specs.Scratch.{scratch_bits, scratch_words}
 
--- the names that can be read behind these statements
+-- the names that can be read after these statements
 abbrev pub known_after : List Param → List Statement → List Param
 known_after params body = params ++ body_defines params body
 

@@ -6,9 +6,9 @@ use Rattle.op_text.specs.declared.tree.Stmt.{Stmt}
 use Rattle.op_text.specs.Language.{statement}
 use Rattle.op_text.specs.Spelling.{statement_text}
 
-abbrev pub behind_statement : Option Stmt → List Wanted
-behind_statement (Some s) = w.Stmts ∷ []
-behind_statement None = []
+abbrev pub after_statement : Option Stmt → List Wanted
+after_statement (Some s) = w.Stmts ∷ []
+after_statement None = []
 
 abbrev pub statement_or_end : Option Stmt → List (List ℕ) → List (List ℕ)
 statement_or_end (Some s) rest = statement_text (statement s) rest

@@ -1,4 +1,4 @@
--- Single tokens: what each is spelled by and what comes behind it.
+-- Single tokens: what each is spelled by and what comes after it.
 use Rattle.std.specs.Prelude.{◌≡◌, ℕ, ◌-◌, Bool, true, false, List, [], ◌∷◌, Option, Some, None}
 use Rattle.std.specs.Prelude.{codes}
 use Rattle.op_text.specs.declared.grammar.Wanted.{Wanted}
@@ -42,7 +42,7 @@ mark_text w.AssignEnd = codes ";"
 mark_text w.GateOpen = codes "("
 mark_text wanted = []
 
--- the symbols that a name fits and nothing else, with nothing behind it
+-- the symbols that a name fits and nothing else, with nothing after it
 abbrev pub is_name : Wanted → Bool
 is_name w.NewOp = true
 is_name w.NewParam = true
@@ -60,14 +60,14 @@ is_name_or_end w.States = true
 is_name_or_end w.Assigns = true
 is_name_or_end wanted = false
 
-abbrev pub behind_name : Wanted → List Wanted
-behind_name w.Args = w.MoreArgs ∷ []
-behind_name w.States = w.Equals ∷ w.Start ∷ w.MoreStates ∷ []
-behind_name wanted = w.Equals ∷ w.Value ∷ w.AssignEnd ∷ w.Assigns ∷ []
+abbrev pub after_name : Wanted → List Wanted
+after_name w.Args = w.MoreArgs ∷ []
+after_name w.States = w.Equals ∷ w.Start ∷ w.MoreStates ∷ []
+after_name wanted = w.Equals ∷ w.Value ∷ w.AssignEnd ∷ w.Assigns ∷ []
 
-abbrev pub behind_name_or_end : Wanted → Option (List ℕ) → List Wanted
-behind_name_or_end wanted (Some name) = behind_name wanted
-behind_name_or_end wanted None = []
+abbrev pub after_name_or_end : Wanted → Option (List ℕ) → List Wanted
+after_name_or_end wanted (Some name) = after_name wanted
+after_name_or_end wanted None = []
 
 abbrev pub end_text : Wanted → List ℕ
 end_text w.Assigns = codes "}"
@@ -84,14 +84,14 @@ is_more w.MoreArgs = true
 is_more w.MoreStates = true
 is_more wanted = false
 
-abbrev pub behind_comma : Wanted → List Wanted
-behind_comma w.Params = w.NewParam ∷ w.Colon ∷ w.ParamKind ∷ w.Params ∷ []
-behind_comma w.MoreArgs = w.ArgName ∷ w.MoreArgs ∷ []
-behind_comma wanted = w.StateName ∷ w.Equals ∷ w.Start ∷ w.MoreStates ∷ []
+abbrev pub after_comma : Wanted → List Wanted
+after_comma w.Params = w.NewParam ∷ w.Colon ∷ w.ParamKind ∷ w.Params ∷ []
+after_comma w.MoreArgs = w.ArgName ∷ w.MoreArgs ∷ []
+after_comma wanted = w.StateName ∷ w.Equals ∷ w.Start ∷ w.MoreStates ∷ []
 
-abbrev pub behind_comma_or_close : Wanted → Bool → List Wanted
-behind_comma_or_close wanted true = behind_comma wanted
-behind_comma_or_close wanted false = []
+abbrev pub after_comma_or_close : Wanted → Bool → List Wanted
+after_comma_or_close wanted true = after_comma wanted
+after_comma_or_close wanted false = []
 
 abbrev pub comma_or_close : Bool → List ℕ
 comma_or_close true = codes ","
@@ -103,10 +103,10 @@ is_second w.SecondResult = true
 is_second w.SecondTarget = true
 is_second wanted = false
 
-abbrev pub behind_second : Wanted → Bool → List Wanted
-behind_second w.SecondResult true = w.NewResult ∷ w.Colon ∷ w.ResultKind ∷ w.Begin ∷ []
-behind_second wanted true = w.NewTarget ∷ w.Equals ∷ []
-behind_second wanted false = []
+abbrev pub after_second : Wanted → Bool → List Wanted
+after_second w.SecondResult true = w.NewResult ∷ w.Colon ∷ w.ResultKind ∷ w.Begin ∷ []
+after_second wanted true = w.NewTarget ∷ w.Equals ∷ []
+after_second wanted false = []
 
 -- what ends the results or the targets where there is no second one
 abbrev pub end_of_one : Wanted → List ℕ
@@ -160,31 +160,31 @@ abbrev pub is_comma : Terminal → Bool
 is_comma t.Comma = true
 is_comma u = false
 
--- behind the first token of a statement
-abbrev pub behind_start : Start → List Wanted
-behind_start (start.Word name) = w.SecondTarget ∷ w.WordOpName ∷ w.Open ∷ w.Args ∷ w.WordEnd
+-- after the first token of a statement
+abbrev pub after_start : Start → List Wanted
+after_start (start.Word name) = w.SecondTarget ∷ w.WordOpName ∷ w.Open ∷ w.Args ∷ w.WordEnd
     ∷ w.Stmts ∷ []
-behind_start start.Serial = w.Direction ∷ w.Open ∷ w.States ∷ w.Begin ∷ w.Lets ∷ w.Stmts ∷ []
-behind_start start.End = []
+after_start start.Serial = w.Direction ∷ w.Open ∷ w.States ∷ w.Begin ∷ w.Lets ∷ w.Stmts ∷ []
+after_start start.End = []
 
 abbrev pub start_spelled : Start → List ℕ
 start_spelled (start.Word name) = name
 start_spelled start.Serial = codes "serial"
 start_spelled start.End = codes "}"
 
--- behind the first token of a line: the target of the first assignment, or the word "let"
-abbrev pub behind_line : Option (List ℕ) → List Wanted
-behind_line (Some target) = w.Equals ∷ w.Value ∷ w.AssignEnd ∷ w.Assigns ∷ []
-behind_line None = w.LetName ∷ w.Equals ∷ w.Value ∷ w.LetEnd ∷ w.Lets ∷ []
+-- after the first token of a line: the target of the first assignment, or the word "let"
+abbrev pub after_line : Option (List ℕ) → List Wanted
+after_line (Some target) = w.Equals ∷ w.Value ∷ w.AssignEnd ∷ w.Assigns ∷ []
+after_line None = w.LetName ∷ w.Equals ∷ w.Value ∷ w.LetEnd ∷ w.Lets ∷ []
 
 abbrev pub line_spelled : Option (List ℕ) → List ℕ
 line_spelled (Some target) = target
 line_spelled None = codes "let"
 
--- behind the first token of a value
-abbrev pub behind_leaf : Leaf → List Wanted
-behind_leaf (leaf.Gate g) = w.GateOpen ∷ w.Value ∷ w.More ∷ []
-behind_leaf l = []
+-- after the first token of a value
+abbrev pub after_leaf : Leaf → List Wanted
+after_leaf (leaf.Gate g) = w.GateOpen ∷ w.Value ∷ w.More ∷ []
+after_leaf l = []
 
 abbrev pub gate_text : Gate → List ℕ
 gate_text gates.Not = codes "not"
@@ -210,7 +210,7 @@ with_two gates.And a b = Conjunction a b
 with_two gates.Or a b = Disjunction a b
 with_two g a b = Parity a b
 
--- the arguments that open gates lack behind it
+-- the arguments that open gates lack after it
 abbrev pub lacking : Leaf → List ℕ → List ℕ
 lacking (leaf.Gate g) missing = (gate_arguments g - 1) ∷ missing
 lacking l missing = missing

@@ -16,29 +16,29 @@ use Rattle.op_lang.specs.declared.parser.Taken.{Taken}
 use Rattle.op_lang.specs.Tokens.{is_nil}
 
 -- a parser is seen as what stands before its next token, and the items that are left
-pub record Reading : Type 0 where
+pub record ParserView : Type 0 where
   pub scope : Scope
   pub items : List Item
 
 -- the first token that breaks a rule, where all this is wanted
-abbrev pub breach : List Wanted → Reading → Option Breach
+abbrev pub breach : List Wanted → ParserView → Option Breach
 breach wanted r = breach_of wanted r.scope r.items
 
 abbrev pub Fails : Option Breach → ReadNo → Type 0
 Fails found no.Memory = Unit {0}
 Fails found (no.Breach b) = found ≡ Some b
 
--- Where front is wanted first, and whatever is wanted behind it, what was left is as good as what
--- is left where behind x is wanted first; or one of the tokens breaks a rule, which is the answer.
-abbrev pub MovesTo : {A : Type 0} → List Wanted → Reading → Result A ReadNo → (A → List Wanted)
-    → Reading → Type 0
-MovesTo front old (Ok x) behind new = (wanted : List Wanted)
-    → breach (front ++ wanted) old ≡ breach (behind x ++ wanted) new
-MovesTo front old (Err e) behind new = (wanted : List Wanted)
+-- Where front is wanted first, and whatever is wanted after it, what was left is as good as what
+-- is left where after x is wanted first; or one of the tokens breaks a rule, which is the answer.
+abbrev pub MovesTo : {A : Type 0} → List Wanted → ParserView → Result A ReadNo → (A → List Wanted)
+    → ParserView → Type 0
+MovesTo front old (Ok x) following new = (wanted : List Wanted)
+    → breach (front ++ wanted) old ≡ breach (following x ++ wanted) new
+MovesTo front old (Err e) following new = (wanted : List Wanted)
     → Fails (breach (front ++ wanted) old) e
 
 -- the same where all of front is read
-abbrev pub Moves : {A : Type 0} → List Wanted → Reading → Result A ReadNo → Reading → Type 0
+abbrev pub Moves : {A : Type 0} → List Wanted → ParserView → Result A ReadNo → ParserView → Type 0
 Moves front old r new = MovesTo front old r (λ x. []) new
 
 abbrev pub is_allowed : Option (List Wanted) → Bool
@@ -46,8 +46,8 @@ is_allowed (Some front) = true
 is_allowed None = false
 
 -- A token was taken where this is wanted, and breaks no rule.
-pub record Took (wanted : Wanted) (old : Reading) (text : List ℕ) (terminal : Terminal)
-    (new : Reading) : Type 0 where
+pub record Took (wanted : Wanted) (old : ParserView) (text : List ℕ) (terminal : Terminal)
+    (new : ParserView) : Type 0 where
   pub kind : TokenKind
   pub start : ℕ
   pub items : old.items ≡ Whole (record { kind = kind; text = text; start = start }) ∷ new.items
@@ -55,7 +55,7 @@ pub record Took (wanted : Wanted) (old : Reading) (text : List ℕ) (terminal : 
   pub allowed : is_allowed (follow wanted terminal (opens new.items)) ≡ true
   pub rules : rules_at wanted old.scope terminal text (opens new.items) ≡ Ok new.scope
 
-abbrev pub Takes : Wanted → Reading → Result Taken ReadNo → Reading → Type 0
+abbrev pub Takes : Wanted → ParserView → Result Taken ReadNo → ParserView → Type 0
 Takes wanted old (Ok t) new = Took wanted old t.text.now t.terminal new
 Takes wanted old (Err e) new = (more : List Wanted) → Fails (breach (wanted ∷ more) old) e
 
@@ -64,9 +64,9 @@ abbrev pub may_end : Wanted → Bool
 may_end w.Ops = true
 may_end wanted = false
 
-abbrev pub is_due : Wanted → Reading → Bool
+abbrev pub is_due : Wanted → ParserView → Bool
 is_due wanted r = not (may_end wanted && is_nil r.items)
 
 -- the spellings of the tokens that are left
-abbrev pub left : Reading → List (List ℕ)
+abbrev pub left : ParserView → List (List ℕ)
 left r = texts r.items

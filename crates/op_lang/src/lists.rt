@@ -30,12 +30,8 @@ pub(crate) fn param(
     Ok(Param { name, kind })
 }
 
-/// The sources behind the first, with the parenthesis behind them.
-fn sources_behind(
-    parser: &mut Parser<'_>,
-    first: Param,
-    alloc: Global,
-) -> Result<Vec<Param>, ReadNo>
+/// The sources after the first, with the parenthesis after them.
+fn sources_after(parser: &mut Parser<'_>, first: Param, alloc: Global) -> Result<Vec<Param>, ReadNo>
     ensures moves { Moves (w.Params ∷ []) parser.old result parser.new }
     ensures spells { IfOk result (λ v. param_text first (left parser.old)
         ≡ between_commas param_text v.items (codes ")" ∷ left parser.new)) }
@@ -49,7 +45,7 @@ fn sources_behind(
     Ok(params)
 }
 
-/// The sources of an op, with the parenthesis behind them.
+/// The sources of an op, with the parenthesis after them.
 pub(crate) fn sources(parser: &mut Parser<'_>, alloc: Global) -> Result<Vec<Param>, ReadNo>
     ensures moves { Moves (w.NewParam ∷ w.Colon ∷ w.ParamKind ∷ w.Params ∷ []) parser.old result
         parser.new }
@@ -57,15 +53,11 @@ pub(crate) fn sources(parser: &mut Parser<'_>, alloc: Global) -> Result<Vec<Para
         ≡ between_commas param_text v.items (codes ")" ∷ left parser.new)) }
 {
     let first = param(parser, Wanted::NewParam, Wanted::ParamKind)?;
-    sources_behind(parser, first, alloc)
+    sources_after(parser, first, alloc)
 }
 
-/// The arguments behind the first, with the parenthesis behind them.
-fn arguments_behind(
-    parser: &mut Parser<'_>,
-    first: Name,
-    alloc: Global,
-) -> Result<Vec<Name>, ReadNo>
+/// The arguments after the first, with the parenthesis after them.
+fn arguments_after(parser: &mut Parser<'_>, first: Name, alloc: Global) -> Result<Vec<Name>, ReadNo>
     ensures moves { Moves (w.MoreArgs ∷ []) parser.old result parser.new }
     ensures spells { IfOk result (λ v. name_text first (left parser.old)
         ≡ between_commas name_text v.items (codes ")" ∷ left parser.new)) }
@@ -79,7 +71,7 @@ fn arguments_behind(
     Ok(names)
 }
 
-/// The arguments of a word statement, with the parenthesis behind them.
+/// The arguments of a word statement, with the parenthesis after them.
 pub(crate) fn arguments(parser: &mut Parser<'_>, alloc: Global) -> Result<Vec<Name>, ReadNo>
     ensures moves { Moves (w.Args ∷ []) parser.old result parser.new }
     ensures spells { IfOk result (λ v. left parser.old
@@ -87,11 +79,11 @@ pub(crate) fn arguments(parser: &mut Parser<'_>, alloc: Global) -> Result<Vec<Na
 {
     match name_or_end(parser, Wanted::Args)? {
         None => Ok(Vec::new(alloc)),
-        Some(first) => arguments_behind(parser, first, alloc),
+        Some(first) => arguments_after(parser, first, alloc),
     }
 }
 
-/// A state behind its name.
+/// A state after its name.
 fn state(parser: &mut Parser<'_>, name: Name) -> Result<State, ReadNo>
     ensures moves { Moves (w.Equals ∷ w.Start ∷ []) parser.old result parser.new }
     ensures spells { IfOk result (λ s. name ∷ left parser.old ≡ state_text s (left parser.new)) }
@@ -101,8 +93,8 @@ fn state(parser: &mut Parser<'_>, name: Name) -> Result<State, ReadNo>
     Ok(State { name, start })
 }
 
-/// The states behind the first, with the parenthesis behind them.
-fn states_behind(parser: &mut Parser<'_>, first: State, alloc: Global) -> Result<Vec<State>, ReadNo>
+/// The states after the first, with the parenthesis after them.
+fn states_after(parser: &mut Parser<'_>, first: State, alloc: Global) -> Result<Vec<State>, ReadNo>
     ensures moves { Moves (w.MoreStates ∷ []) parser.old result parser.new }
     ensures spells { IfOk result (λ v. state_text first (left parser.old)
         ≡ between_commas state_text v.items (codes ")" ∷ left parser.new)) }
@@ -117,7 +109,7 @@ fn states_behind(parser: &mut Parser<'_>, first: State, alloc: Global) -> Result
     Ok(states)
 }
 
-/// The states of a block, with the parenthesis behind them.
+/// The states of a block, with the parenthesis after them.
 pub(crate) fn states(parser: &mut Parser<'_>, alloc: Global) -> Result<Vec<State>, ReadNo>
     ensures moves { Moves (w.States ∷ []) parser.old result parser.new }
     ensures spells { IfOk result (λ v. left parser.old
@@ -127,7 +119,7 @@ pub(crate) fn states(parser: &mut Parser<'_>, alloc: Global) -> Result<Vec<State
         None => Ok(Vec::new(alloc)),
         Some(name) => {
             let first = state(parser, name)?;
-            states_behind(parser, first, alloc)
+            states_after(parser, first, alloc)
         }
     }
 }

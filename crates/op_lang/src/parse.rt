@@ -4,7 +4,7 @@ ghost use Rattle.std.specs.Prelude.{◌≡◌, ◌<◌, ◌≤◌, ◌^◌, ◌=
 ghost use Rattle.std.specs.Prelude.{false, map, length, count_by};
 ghost use Rattle.op_text.specs.declared.grammar.Wanted.TheVariants as w;
 ghost use Rattle.op_text.specs.Language.{operation, operations};
-ghost use Rattle.op_text.specs.Spelling.{operation_text, between_commas, behind_comma, param_text};
+ghost use Rattle.op_text.specs.Spelling.{operation_text, between_commas, after_comma, param_text};
 ghost use Rattle.op_text.specs.Spelling.{MeetRules};
 ghost use Rattle.op_text.specs.Lines.{line_at, line_of};
 ghost use Rattle.op_lang.specs.Tokens.{is_nil};
@@ -30,11 +30,11 @@ fn inputs(parser: &mut Parser<'_>, alloc: Global) -> Result<Vec<Param>, ReadNo>
     sources(parser, alloc)
 }
 
-/// The second result of an op, if there is one, with the brace behind it.
+/// The second result of an op, if there is one, with the brace after it.
 fn second_outcome(parser: &mut Parser<'_>) -> Result<Option<Param>, ReadNo>
     ensures moves { Moves (w.SecondResult ∷ []) parser.old result parser.new }
     ensures spells { IfOk result (λ p. left parser.old
-        ≡ behind_comma param_text p (codes "{" ∷ left parser.new)) }
+        ≡ after_comma param_text p (codes "{" ∷ left parser.new)) }
 {
     if second(parser, Wanted::SecondResult)? {
         let result = param(parser, Wanted::NewResult, Wanted::ResultKind)?;
@@ -45,7 +45,7 @@ fn second_outcome(parser: &mut Parser<'_>) -> Result<Option<Param>, ReadNo>
     }
 }
 
-/// The first result of an op, behind its mark.
+/// The first result of an op, after its mark.
 fn outcome(parser: &mut Parser<'_>) -> Result<Param, ReadNo>
     ensures moves { Moves (w.Arrow ∷ w.NewResult ∷ w.Colon ∷ w.ResultKind ∷ []) parser.old result
         parser.new }
@@ -56,8 +56,8 @@ fn outcome(parser: &mut Parser<'_>) -> Result<Param, ReadNo>
     param(parser, Wanted::NewResult, Wanted::ResultKind)
 }
 
-/// An op behind its word.
-fn op_behind(parser: &mut Parser<'_>, alloc: Global) -> Result<Op, ReadNo>
+/// An op after its word.
+fn op_after(parser: &mut Parser<'_>, alloc: Global) -> Result<Op, ReadNo>
     ensures moves { Moves (w.NewOp ∷ w.Open ∷ w.NewParam ∷ w.Colon ∷ w.ParamKind ∷ w.Params
         ∷ w.Arrow ∷ w.NewResult ∷ w.Colon ∷ w.ResultKind ∷ w.SecondResult ∷ w.FirstStmt
         ∷ []) parser.old result parser.new }
@@ -85,7 +85,7 @@ fn one_op(parser: &mut Parser<'_>, alloc: Global) -> Result<Op, ReadNo>
         ≡ operation_text (operation o) (left parser.new)) }
 {
     op_word(parser)?;
-    op_behind(parser, alloc)
+    op_after(parser, alloc)
 }
 
 fn all_ops(parser: &mut Parser<'_>, alloc: Global) -> Result<Vec<Op>, ReadNo>

@@ -7,7 +7,7 @@ ghost use Rattle.op_text.specs.Items.{opens};
 ghost use Rattle.op_text.specs.Rules.{nothing_yet};
 ghost use Rattle.op_lang.specs.Tokens.{is_nil};
 ghost use Rattle.op_lang.specs.Seen.{seen};
-ghost use Rattle.op_lang.specs.Reading.{Reading, Takes, is_due};
+ghost use Rattle.op_lang.specs.Reading.{ParserView, Takes, is_due};
 ghost use Rattle.op_lang.specs.Judging.{JudgesToken};
 
 use crate::fault::{ReadNo, Refused};
@@ -34,10 +34,10 @@ pub(crate) struct Parser<'a> {
 }
 
 impl<'a> Model for Parser<'a> {
-    ghost use Rattle.op_lang.specs.Reading.{Reading};
+    ghost use Rattle.op_lang.specs.Reading.{ParserView};
     ghost use Rattle.op_lang.specs.Seen.{seen};
 
-    ghost Value = { Reading };
+    ghost Value = { ParserView };
 
     ghost view = { λ p. record { scope = seen p.scope; items = p.tokens } };
 }

@@ -7,19 +7,19 @@ ghost use Rattle.op_text.specs.Spelling.{kind_text, direction_text, start_text};
 ghost use Rattle.op_lang.specs.Tokens.{is_nil};
 ghost use Rattle.op_lang.specs.Reading.{Moves, MovesTo, left};
 ghost use Rattle.op_lang.specs.Pieces.{is_mark, mark_text, is_name, is_name_or_end};
-ghost use Rattle.op_lang.specs.Pieces.{behind_name_or_end, name_or_end, is_more};
-ghost use Rattle.op_lang.specs.Pieces.{behind_comma_or_close, comma_or_close, is_kind, kind_at};
+ghost use Rattle.op_lang.specs.Pieces.{after_name_or_end, name_or_end, is_more};
+ghost use Rattle.op_lang.specs.Pieces.{after_comma_or_close, comma_or_close, is_kind, kind_at};
 ghost use Rattle.op_lang.specs.Pieces.{is_statement, is_named, is_finish, is_serial_word};
-ghost use Rattle.op_lang.specs.Pieces.{is_let_word, is_down, is_one, is_comma, behind_start};
-ghost use Rattle.op_lang.specs.Pieces.{start_spelled, behind_line, line_spelled, is_second};
-ghost use Rattle.op_lang.specs.Pieces.{behind_second, comma_or_end};
+ghost use Rattle.op_lang.specs.Pieces.{is_let_word, is_down, is_one, is_comma, after_start};
+ghost use Rattle.op_lang.specs.Pieces.{start_spelled, after_line, line_spelled, is_second};
+ghost use Rattle.op_lang.specs.Pieces.{after_second, comma_or_end};
 
 use crate::fault::ReadNo;
 use crate::parser::Parser;
 use op_text::{Gate, Kind, Spelling, Terminal, Wanted, WordOp, op_of};
 use text_lex::Name;
 
-/// The first token of a statement, or the `}` behind the last.
+/// The first token of a statement, or the `}` after the last.
 #[derive(Drop)]
 pub(crate) enum Start {
     Word(Name),
@@ -74,7 +74,7 @@ pub(crate) fn name(parser: &mut Parser<'_>, wanted: Wanted) -> Result<Name, Read
 /// A name, or none at the end of a list.
 pub(crate) fn name_or_end(parser: &mut Parser<'_>, wanted: Wanted) -> Result<Option<Name>, ReadNo>
     requires { is_name_or_end wanted ≡ true }
-    ensures moves { MovesTo (wanted ∷ []) parser.old result (behind_name_or_end wanted) parser.new }
+    ensures moves { MovesTo (wanted ∷ []) parser.old result (after_name_or_end wanted) parser.new }
     ensures spells { IfOk result (λ n. left parser.old ≡ name_or_end wanted n ∷ left parser.new) }
 {
     let token = parser.take(wanted)?;
@@ -90,7 +90,7 @@ pub(crate) fn name_or_end(parser: &mut Parser<'_>, wanted: Wanted) -> Result<Opt
 /// Whether a list goes on.
 pub(crate) fn more(parser: &mut Parser<'_>, wanted: Wanted) -> Result<bool, ReadNo>
     requires { is_more wanted ≡ true }
-    ensures moves { MovesTo (wanted ∷ []) parser.old result (behind_comma_or_close wanted)
+    ensures moves { MovesTo (wanted ∷ []) parser.old result (after_comma_or_close wanted)
         parser.new }
     ensures spells { IfOk result (λ b. left parser.old ≡ comma_or_close b ∷ left parser.new) }
 {
@@ -101,7 +101,7 @@ pub(crate) fn more(parser: &mut Parser<'_>, wanted: Wanted) -> Result<bool, Read
 /// Whether a second result or a second target stands there.
 pub(crate) fn second(parser: &mut Parser<'_>, wanted: Wanted) -> Result<bool, ReadNo>
     requires { is_second wanted ≡ true }
-    ensures moves { MovesTo (wanted ∷ []) parser.old result (behind_second wanted) parser.new }
+    ensures moves { MovesTo (wanted ∷ []) parser.old result (after_second wanted) parser.new }
     ensures spells { IfOk result (λ b. left parser.old ≡ comma_or_end wanted b ∷ left parser.new) }
 {
     let token = parser.take(wanted)?;
@@ -197,10 +197,10 @@ pub(crate) fn word_op(parser: &mut Parser<'_>) -> Result<WordOp, ReadNo>
     }
 }
 
-/// The first token of a statement, or the `}` behind the last.
+/// The first token of a statement, or the `}` after the last.
 pub(crate) fn statement_start(parser: &mut Parser<'_>, wanted: Wanted) -> Result<Start, ReadNo>
     requires { is_statement wanted ≡ true }
-    ensures moves { MovesTo (wanted ∷ []) parser.old result behind_start parser.new }
+    ensures moves { MovesTo (wanted ∷ []) parser.old result after_start parser.new }
     ensures spells { IfOk result (λ s. left parser.old ≡ start_spelled s ∷ left parser.new) }
 {
     let token = parser.take(wanted)?;
@@ -218,7 +218,7 @@ pub(crate) fn statement_start(parser: &mut Parser<'_>, wanted: Wanted) -> Result
 
 /// The target of a block's first assignment, or none at the word `let`.
 pub(crate) fn line_start(parser: &mut Parser<'_>) -> Result<Option<Name>, ReadNo>
-    ensures moves { MovesTo (w.Lets ∷ []) parser.old result behind_line parser.new }
+    ensures moves { MovesTo (w.Lets ∷ []) parser.old result after_line parser.new }
     ensures spells { IfOk result (λ n. left parser.old ≡ line_spelled n ∷ left parser.new) }
 {
     let token = parser.take(Wanted::Lets)?;

@@ -60,14 +60,14 @@ fn second_gives(op: WordOp) -> Kind
     second_kind(op).unwrap_or(Kind::Word)
 }
 
-/// The kind of a name that stands behind some statements.
+/// The kind of a name that stands after some statements.
 #[cycle(kinds)]
-fn kind_behind(params: &[Param], before: &[Stmt], name: &[u8]) -> Option<Kind>
+fn kind_after(params: &[Param], before: &[Stmt], name: &[u8]) -> Option<Kind>
     ensures { result ≡ kind_among (known_after params.now (map statement before.now)) name.now }
 {
     match before {
         [] => kind_of(params, name),
-        [front @ .., last] => match kind_behind(params, front, name) {
+        [front @ .., last] => match kind_after(params, front, name) {
             Some(kind) => Some(kind),
             None => kind_in(params, front, last, name),
         },
@@ -118,7 +118,7 @@ fn kind_given(params: &[Param], before: &[Stmt], op: WordOp, args: &[Name]) -> K
 {
     match args {
         [] => given_first(op, None),
-        [first, ..] => match kind_behind(params, before, first.bytes()) {
+        [first, ..] => match kind_after(params, before, first.bytes()) {
             Some(kind) => given_first(op, Some(kind)),
             None => given_first(op, Some(Kind::Word)),
         },

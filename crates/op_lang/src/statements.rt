@@ -7,10 +7,10 @@ ghost use Rattle.op_text.specs.WordOps.{op_text};
 ghost use Rattle.op_text.specs.Language.{equation, statement};
 ghost use Rattle.op_text.specs.Spelling.{in_turn, between_commas, equation_text, let_text};
 ghost use Rattle.op_text.specs.Spelling.{state_text, direction_text, statement_text, name_text};
-ghost use Rattle.op_text.specs.Spelling.{behind_comma};
+ghost use Rattle.op_text.specs.Spelling.{after_comma};
 ghost use Rattle.op_lang.specs.Reading.{Moves, MovesTo, left};
 ghost use Rattle.op_lang.specs.Pieces.{is_statement, is_mark, mark_text};
-ghost use Rattle.op_lang.specs.Parts.{behind_statement, statement_or_end};
+ghost use Rattle.op_lang.specs.Parts.{after_statement, statement_or_end};
 
 use crate::fault::ReadNo;
 use crate::lists::{arguments, states};
@@ -23,7 +23,7 @@ use op_text::{Assign, State, Stmt, Wanted, WordOp};
 use std::alloc::Global;
 use text_lex::Name;
 
-/// An assignment behind its target, up to the sign behind its value.
+/// An assignment after its target, up to the sign after its value.
 fn assignment(
     parser: &mut Parser<'_>,
     name: Name,
@@ -42,7 +42,7 @@ fn assignment(
     Ok(Assign { name, value })
 }
 
-/// A let behind its word.
+/// A let after its word.
 fn let_line(parser: &mut Parser<'_>, alloc: Global) -> Result<Assign, ReadNo>
     ensures moves { Moves (w.LetName ∷ w.Equals ∷ w.Value ∷ w.LetEnd ∷ []) parser.old result
         parser.new }
@@ -53,7 +53,7 @@ fn let_line(parser: &mut Parser<'_>, alloc: Global) -> Result<Assign, ReadNo>
     assignment(parser, name, Wanted::LetEnd, alloc)
 }
 
-/// The lets of a block, with the target behind them.
+/// The lets of a block, with the target after them.
 fn lets(parser: &mut Parser<'_>, all: &mut Vec<Assign>, alloc: Global) -> Result<Name, ReadNo>
     requires { all.old.items ≡ [] }
     ensures moves { MovesTo (w.Lets ∷ []) parser.old result (λ n. w.Equals ∷ w.Value ∷ w.AssignEnd
@@ -72,7 +72,7 @@ fn lets(parser: &mut Parser<'_>, all: &mut Vec<Assign>, alloc: Global) -> Result
     }
 }
 
-/// The assignments of a block behind the first target, with the brace behind them.
+/// The assignments of a block after the first target, with the brace after them.
 fn assignments(parser: &mut Parser<'_>, target: Name, alloc: Global) -> Result<Vec<Assign>, ReadNo>
     ensures moves { Moves (w.Equals ∷ w.Value ∷ w.AssignEnd ∷ w.Assigns ∷ []) parser.old result
         parser.new }
@@ -89,7 +89,7 @@ fn assignments(parser: &mut Parser<'_>, target: Name, alloc: Global) -> Result<V
     Ok(all)
 }
 
-/// The head of a block behind its word: whether it goes down, and its states.
+/// The head of a block after its word: whether it goes down, and its states.
 fn block_head(parser: &mut Parser<'_>, alloc: Global) -> Result<(bool, Vec<State>), ReadNo>
     ensures moves { Moves (w.Direction ∷ w.Open ∷ w.States ∷ w.Begin ∷ []) parser.old result
         parser.new }
@@ -103,7 +103,7 @@ fn block_head(parser: &mut Parser<'_>, alloc: Global) -> Result<(bool, Vec<State
     Ok((down, states))
 }
 
-/// A serial block behind its word.
+/// A serial block after its word.
 fn serial_block(parser: &mut Parser<'_>, alloc: Global) -> Result<Stmt, ReadNo>
     ensures moves { Moves (w.Direction ∷ w.Open ∷ w.States ∷ w.Begin ∷ w.Lets
         ∷ []) parser.old result parser.new }
@@ -122,11 +122,11 @@ fn serial_block(parser: &mut Parser<'_>, alloc: Global) -> Result<Stmt, ReadNo>
     })
 }
 
-/// The second target of a word statement, if there is one, with the sign behind the targets.
+/// The second target of a word statement, if there is one, with the sign after the targets.
 fn second_target(parser: &mut Parser<'_>) -> Result<Option<Name>, ReadNo>
     ensures moves { Moves (w.SecondTarget ∷ []) parser.old result parser.new }
     ensures spells { IfOk result (λ n. left parser.old
-        ≡ behind_comma name_text n (codes "=" ∷ left parser.new)) }
+        ≡ after_comma name_text n (codes "=" ∷ left parser.new)) }
 {
     if second(parser, Wanted::SecondTarget)? {
         let target = name(parser, Wanted::NewTarget)?;
@@ -137,7 +137,7 @@ fn second_target(parser: &mut Parser<'_>) -> Result<Option<Name>, ReadNo>
     }
 }
 
-/// The operation of a word statement, with the parenthesis behind it.
+/// The operation of a word statement, with the parenthesis after it.
 fn operation(parser: &mut Parser<'_>) -> Result<WordOp, ReadNo>
     ensures moves { Moves (w.WordOpName ∷ w.Open ∷ []) parser.old result parser.new }
     ensures spells { IfOk result (λ op. left parser.old ≡ op_text op ∷ codes "("
@@ -148,7 +148,7 @@ fn operation(parser: &mut Parser<'_>) -> Result<WordOp, ReadNo>
     Ok(op)
 }
 
-/// A word statement behind its first target.
+/// A word statement after its first target.
 fn word_statement(parser: &mut Parser<'_>, dst: Name, alloc: Global) -> Result<Stmt, ReadNo>
     ensures moves { Moves (w.SecondTarget ∷ w.WordOpName ∷ w.Open ∷ w.Args ∷ w.WordEnd
         ∷ []) parser.old result parser.new }
@@ -167,14 +167,14 @@ fn word_statement(parser: &mut Parser<'_>, dst: Name, alloc: Global) -> Result<S
     })
 }
 
-/// A statement, or none at the brace behind the last.
+/// A statement, or none at the brace after the last.
 fn one_statement(
     parser: &mut Parser<'_>,
     wanted: Wanted,
     alloc: Global,
 ) -> Result<Option<Stmt>, ReadNo>
     requires { is_statement wanted ≡ true }
-    ensures moves { MovesTo (wanted ∷ []) parser.old result behind_statement parser.new }
+    ensures moves { MovesTo (wanted ∷ []) parser.old result after_statement parser.new }
     ensures spells { IfOk result (λ s. left parser.old ≡ statement_or_end s (left parser.new)) }
 {
     match statement_start(parser, wanted)? {
@@ -190,7 +190,7 @@ fn one_statement(
     }
 }
 
-/// The statements of an op, with the brace behind them.
+/// The statements of an op, with the brace after them.
 pub(crate) fn body(parser: &mut Parser<'_>, alloc: Global) -> Result<Vec<Stmt>, ReadNo>
     ensures moves { Moves (w.FirstStmt ∷ []) parser.old result parser.new }
     ensures spells { IfOk result (λ v. left parser.old

@@ -20,7 +20,7 @@ fn weight_of(gate: Gate) -> usize
     }
 }
 
-/// The number of arguments behind the first.
+/// The number of arguments after the first.
 fn others_of(gate: Gate) -> usize
     ensures { result ≡ rules.gate_arguments gate - 1 }
 {
@@ -74,7 +74,7 @@ pub(crate) fn name(
     }
 }
 
-/// The `,` behind a gate's argument.
+/// The `,` after a gate's argument.
 pub(crate) fn comma(scope: &mut Scope) -> Result<(), Refused>
     ensures { Judges (rules.comma_rules (seen scope.old) (seen scope.old).block.missing) result
         (seen scope.new) }
@@ -89,7 +89,7 @@ pub(crate) fn comma(scope: &mut Scope) -> Result<(), Refused>
     Ok(())
 }
 
-/// The `)` behind a gate's argument.
+/// The `)` after a gate's argument.
 pub(crate) fn close(scope: &mut Scope) -> Result<(), Refused>
     ensures { Judges (rules.close_rules (seen scope.old) (seen scope.old).block.missing) result
         (seen scope.new) }

@@ -8,7 +8,7 @@ ghost use Rattle.op_text.specs.Rules.{gate_arguments};
 ghost use Rattle.op_text.specs.Language.{term, Negation, Majority};
 ghost use Rattle.op_text.specs.Spelling.{term_text};
 ghost use Rattle.op_lang.specs.Reading.{Moves, MovesTo, left};
-ghost use Rattle.op_lang.specs.Pieces.{behind_leaf, leaf_spelled, lacking, bit_leaf, gate_text};
+ghost use Rattle.op_lang.specs.Pieces.{after_leaf, leaf_spelled, lacking, bit_leaf, gate_text};
 ghost use Rattle.op_lang.specs.Pieces.{with_two};
 
 use crate::fault::ReadNo;
@@ -30,7 +30,7 @@ fn bit_leaf(terminal: Terminal) -> Leaf
 
 /// The first token of a value.
 fn leaf(parser: &mut Parser<'_>) -> Result<Leaf, ReadNo>
-    ensures moves { MovesTo (w.Value ∷ []) parser.old result behind_leaf parser.new }
+    ensures moves { MovesTo (w.Value ∷ []) parser.old result after_leaf parser.new }
     ensures spells { IfOk result (λ l. left parser.old ≡ leaf_spelled l ∷ left parser.new) }
     ensures missing { IfOk result (λ l. parser.new.scope.block.missing
         ≡ lacking l parser.old.scope.block.missing) }
@@ -52,7 +52,7 @@ fn leaf(parser: &mut Parser<'_>) -> Result<Leaf, ReadNo>
     }
 }
 
-/// The parenthesis behind a gate's name.
+/// The parenthesis after a gate's name.
 fn gate_open(parser: &mut Parser<'_>) -> Result<(), ReadNo>
     ensures moves { Moves (w.GateOpen ∷ []) parser.old result parser.new }
     ensures spells { OnOk result (left parser.old ≡ codes "(" ∷ left parser.new) }
@@ -63,7 +63,7 @@ fn gate_open(parser: &mut Parser<'_>) -> Result<(), ReadNo>
     Ok(())
 }
 
-/// The comma behind an argument, where another is lacking.
+/// The comma after an argument, where another is lacking.
 fn comma(parser: &mut Parser<'_>) -> Result<(), ReadNo>
     ensures moves { (n : ℕ) (outer : List ℕ) → parser.old.scope.block.missing ≡ suc n ∷ outer
         → MovesTo (w.More ∷ []) parser.old result (λ x. w.Value ∷ w.More ∷ []) parser.new }
@@ -77,7 +77,7 @@ fn comma(parser: &mut Parser<'_>) -> Result<(), ReadNo>
     Ok(())
 }
 
-/// The parenthesis behind the last argument.
+/// The parenthesis after the last argument.
 fn close(parser: &mut Parser<'_>) -> Result<(), ReadNo>
     ensures moves { (outer : List ℕ) → parser.old.scope.block.missing ≡ zero ∷ outer
         → Moves (w.More ∷ []) parser.old result parser.new }

@@ -127,7 +127,7 @@ pub(crate) fn argument(scope: &mut Scope, spelling: Spelling, text: &[u8]) -> Re
     }
 }
 
-/// The `,` behind an argument.
+/// The `,` after an argument.
 pub(crate) fn another_argument(scope: &mut Scope) -> Result<(), Refused>
     ensures { Judges (rules.another_argument (seen scope.old)) result (seen scope.new) }
 {
@@ -137,7 +137,7 @@ pub(crate) fn another_argument(scope: &mut Scope) -> Result<(), Refused>
     Ok(())
 }
 
-/// The `)` behind the arguments.
+/// The `)` after the arguments.
 pub(crate) fn no_more_arguments(scope: &mut Scope) -> Result<(), Refused>
     ensures { Judges (rules.no_more_arguments (seen scope.old)) result (seen scope.new) }
 {

@@ -21,13 +21,13 @@ use Rattle.op_text.specs.Language.{Term, Nought, Unity, Named, Negation, Conjunc
 use Rattle.op_text.specs.Language.{Parity, Majority, Equation, Block, Compute, Visit, Operation}
 use Rattle.op_text.specs.Language.{operation, results}
 use Rattle.op_text.specs.Spelling.{bare, unplaced, items_spelled, kind_of_text, kind_text}
-use Rattle.op_text.specs.Spelling.{direction_text, start_text, behind_commas, between_commas}
+use Rattle.op_text.specs.Spelling.{direction_text, start_text, after_commas, between_commas}
 use Rattle.op_text.specs.Spelling.{in_turn, operations_text, HasNames, HasParam, HasState}
 use Rattle.op_text.specs.Spelling.{HasEquation, HasStatement, HasOperation, IsName, Each, MeetRules}
 use Rattle.op_text.specs.Spelling as tokens
 use Rattle.op_text.proofs.Meeting.{texts_of_ops}
 use Rattle.op_text.specs.OpsOf.{IsOpsOf}
-use Rattle.op_print.specs.Canonical.{behind_comma, listed, spelled, value_text, param_text}
+use Rattle.op_print.specs.Canonical.{after_comma, listed, spelled, value_text, param_text}
 use Rattle.op_print.specs.Canonical.{state_text, equation_text, let_text, word_text, block_head}
 use Rattle.op_print.specs.Canonical.{op_head, line, statement_lines, op_lines, canonical_text}
 use Rattle.op_print.specs.Reading.{TokensSpellOps, PrintingIsUndone}
@@ -47,7 +47,7 @@ bare_one : (k : TokenKind) (t : List ℕ) (at : ℕ) → kind_of_text t ≡ k
     → bare (Whole (record { kind = k; text = t; start = at })) ≡ unplaced t
 bare_one k t at e = rw e refl
 
--- a token, with what stops it behind it
+-- a token, with what stops it after it
 token : {rest : List ℕ} {spells : List (List ℕ)} (k : TokenKind) (t : List ℕ) → is_token k t ≡ true
     → kind_of_text t ≡ k → stops k rest ≡ true → Reads rest spells → Reads (t ++ rest) (t ∷ spells)
 token {rest} {spells} k t h e s r =
@@ -189,7 +189,7 @@ state_part rest spells p h s r =
     (name p.name h refl (blank (mark (codes "=") refl refl (blank (start_reads p.start s r)))))
 
 more_stop : {A : Type 0} (text : A → List ℕ) (xs : List A) (rest : List ℕ)
-    → stops kinds.Name rest ≡ true → stops kinds.Name (flat_map (behind_comma text) xs ++ rest)
+    → stops kinds.Name rest ≡ true → stops kinds.Name (flat_map (after_comma text) xs ++ rest)
     ≡ true
 more_stop text [] rest s = s
 more_stop text (a ∷ xs) rest s = refl
@@ -197,12 +197,12 @@ more_stop text (a ∷ xs) rest s = refl
 more_read : {A : Type 0} (text : A → List ℕ) (spell : A → List (List ℕ) → List (List ℕ)) (ok : A
     → Type 0) → Part text spell ok → (rest : List ℕ) (spells : List (List ℕ)) (xs : List A)
     → Each ok xs → stops kinds.Name rest ≡ true
-    → Reads rest spells → Reads (flat_map (behind_comma text) xs
-    ++ rest) (behind_commas spell xs spells)
+    → Reads rest spells → Reads (flat_map (after_comma text) xs
+    ++ rest) (after_commas spell xs spells)
 more_read text spell ok part rest spells [] h s r = r
 more_read text spell ok part rest spells (a ∷ xs) h s r =
-    mark (codes ",") refl refl (blank (grouped (text a) (flat_map (behind_comma text) xs) rest
-    (part (flat_map (behind_comma text) xs ++ rest) (behind_commas spell xs spells) a h.0
+    mark (codes ",") refl refl (blank (grouped (text a) (flat_map (after_comma text) xs) rest
+    (part (flat_map (after_comma text) xs ++ rest) (after_commas spell xs spells) a h.0
     (more_stop text xs rest s) (more_read text spell ok part rest spells xs h.1 s r))))
 
 list_read : {A : Type 0} (text : A → List ℕ) (spell : A → List (List ℕ) → List (List ℕ)) (ok : A
@@ -211,8 +211,8 @@ list_read : {A : Type 0} (text : A → List ℕ) (spell : A → List (List ℕ) 
     → Reads rest spells → Reads (listed text xs ++ rest) (between_commas spell xs spells)
 list_read text spell ok part rest spells [] h s r = r
 list_read text spell ok part rest spells (a ∷ xs) h s r =
-    grouped (text a) (flat_map (behind_comma text) xs) rest
-    (part (flat_map (behind_comma text) xs ++ rest) (behind_commas spell xs spells) a h.0
+    grouped (text a) (flat_map (after_comma text) xs) rest
+    (part (flat_map (after_comma text) xs ++ rest) (after_commas spell xs spells) a h.0
     (more_stop text xs rest s) (more_read text spell ok part rest spells xs h.1 s r))
 
 -- one part, or two with a comma between them
@@ -220,7 +220,7 @@ pair_read : {A : Type 0} (text : A → List ℕ) (spell : A → List (List ℕ) 
     → Type 0) → Part text spell ok → (rest : List ℕ) (spells : List (List ℕ)) (a : A)
     (second : Option A) → ok a → tokens.IfThere ok second → stops kinds.Name rest ≡ true
     → Reads rest spells → Reads (listed text (a ∷ option_to_list second) ++ rest)
-    (spell a (tokens.behind_comma spell second spells))
+    (spell a (tokens.after_comma spell second spells))
 pair_read text spell ok part rest spells a None h k s r =
     list_read text spell ok part rest spells (a ∷ []) (h, tt) s r
 pair_read text spell ok part rest spells a (Some b) h k s r =
@@ -326,7 +326,7 @@ op_head_reads : {rest : List ℕ} {spells : List (List ℕ)} (p : Operation) →
     → Reads rest spells
     → Reads (op_head p ++ rest) (codes "op" ∷ p.name ∷ codes "("
     ∷ between_commas tokens.param_text p.params (codes ")" ∷ codes "->"
-    ∷ tokens.param_text p.result (tokens.behind_comma tokens.param_text p.second
+    ∷ tokens.param_text p.result (tokens.after_comma tokens.param_text p.second
     (codes "{" ∷ spells))))
 op_head_reads {rest} {spells} p h r =
     name (codes "op") refl refl (blank (six p.name (codes "(") (listed param_text p.params)
@@ -334,7 +334,7 @@ op_head_reads {rest} {spells} p h r =
     (name p.name h.name refl (mark (codes "(") refl refl
     (list_read param_text tokens.param_text HasParam param_part (41 ∷ 32 ∷ 45 ∷ 62 ∷ 32
     ∷ (listed param_text (results p) ++ (32 ∷ 123 ∷ rest))) (codes ")" ∷ codes "->"
-    ∷ tokens.param_text p.result (tokens.behind_comma tokens.param_text p.second
+    ∷ tokens.param_text p.result (tokens.after_comma tokens.param_text p.second
     (codes "{" ∷ spells))) p.params h.params refl
     (mark (codes ")") refl refl (blank (mark (codes "->") refl refl
     (blank (pair_read param_text tokens.param_text HasParam param_part (32 ∷ 123 ∷ rest)

@@ -19,7 +19,8 @@ use Rattle.op_text.specs.declared.word_ops.WordOp.{WordOp}
 use Rattle.op_text.specs.declared.word_ops.WordOp.TheVariants as o
 use Rattle.op_text.specs.declared.word_ops.Signature.{Signature}
 use Rattle.op_text.specs.declared.word_ops.Signature.TheVariants as signs
-use Rattle.op_text.specs.WordOps.{Form, row_of, signature_forms, op_text, forms, filled, lacks, is_whole, same_kind}
+use Rattle.op_text.specs.WordOps.{Form, row_of, signature_forms, op_text, forms, filled, lacks}
+use Rattle.op_text.specs.WordOps.{is_whole, same_kind}
 use Rattle.op_text.specs.Scratch.{term_weight, kind_of}
 use Rattle.op_text.specs.Language.{Term, Nought, Unity, Named, Negation, Conjunction, Disjunction}
 use Rattle.op_text.specs.Language.{Parity, Majority, Equation, Block, Statement, Compute, Visit}
@@ -31,8 +32,8 @@ use Rattle.std.proofs.Common.{Option, Some, None}
 use Rattle.op_text.specs.Spelling.{IsName, HasParam, HasState, HasEquation, HasStatement}
 use Rattle.op_text.specs.Spelling.{HasOperation}
 use Rattle.op_rules.specs.Meets.{Context, LetsRead, WordMeets, BlockMeets, StatementMeets}
-use Rattle.op_rules.specs.Meets.{BodyMeets, OperationMeets, OpsMeet, behind}
-use Rattle.op_print.specs.Canonical.{behind_comma, listed, spelled, value_text, param_text}
+use Rattle.op_rules.specs.Meets.{BodyMeets, OperationMeets, OpsMeet, following}
+use Rattle.op_print.specs.Canonical.{after_comma, listed, spelled, value_text, param_text}
 use Rattle.op_print.specs.Canonical.{state_text, equation_text, let_text}
 use Rattle.op_print.specs.Canonical.{line, statement_lines, op_lines, canonical_text}
 
@@ -145,17 +146,17 @@ flat_short text c (x ∷ xs) h = simp length-append (omega (
   ap length (flat_map-cons text x xs),
 ))
 
-behind_short : {A : Type 0} (text : A → List ℕ) (c : ℕ) (xs : List A) → Each (Short text c) xs
-    → Each (Short (behind_comma text) (c + 2)) xs
-behind_short text c [] h = tt
-behind_short text c (x ∷ xs) h =
-    (simp length-append (omega (arith, h.0)), behind_short text c xs h.1)
+after_short : {A : Type 0} (text : A → List ℕ) (c : ℕ) (xs : List A) → Each (Short text c) xs
+    → Each (Short (after_comma text) (c + 2)) xs
+after_short text c [] h = tt
+after_short text c (x ∷ xs) h =
+    (simp length-append (omega (arith, h.0)), after_short text c xs h.1)
 
 listed_short : {A : Type 0} (text : A → List ℕ) (c : ℕ) (xs : List A) → Each (Short text c) xs
     → length (listed text xs) ≤ length xs * (c + 2)
 listed_short text c [] h = omega arith
 listed_short text c (x ∷ xs) h = simp length-append
-    (omega (arith, h.0, flat_short (behind_comma text) (c + 2) xs (behind_short text c xs h.1)))
+    (omega (arith, h.0, flat_short (after_comma text) (c + 2) xs (after_short text c xs h.1)))
 
 times : (n m c : ℕ) → n ≤ m → n * c ≤ m * c
 times n m c h = mul-le-mul_right c h
@@ -318,10 +319,10 @@ length-map f (x ∷ xs) = ap suc (length-map f xs)
 -- a second part, if there is one
 second_short : {A : Type 0} (ok : A → Type 0) (text : A → List ℕ) (c : ℕ) → ((a : A) → ok a
     → Short text c a) → (second : Option A) → IfThere ok second
-    → length (flat_map (behind_comma text) (option_to_list second)) ≤ c + 2
+    → length (flat_map (after_comma text) (option_to_list second)) ≤ c + 2
 second_short ok text c f None k = omega arith
 second_short ok text c f (Some b) k = let h =
-    flat_short (behind_comma text) (c + 2) (b ∷ []) (behind_short text c (b ∷ []) (f b k, tt)) in
+    flat_short (after_comma text) (c + 2) (b ∷ []) (after_short text c (b ∷ []) (f b k, tt)) in
     omega arith
 
 word_short : (c : Context) (target : List ℕ) (second : Option (List ℕ)) (p : WordOp)
@@ -351,7 +352,7 @@ body_short : (c : Context) (body : List Statement) → Each HasStatement body �
     → Each (Short statement_lines 20500) body
 body_short c [] h m = tt
 body_short c (s ∷ body) h m =
-    (statement_short c s h.0 m.0, body_short (behind c s) body h.1 m.1)
+    (statement_short c s h.0 m.0, body_short (following c s) body h.1 m.1)
 
 op_is_short : (op : Operation) → HasOperation op → OperationMeets op → Short op_lines 330000 op
 op_is_short op h m =

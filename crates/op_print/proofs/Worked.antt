@@ -33,7 +33,8 @@ mac = record {
   params = param a Word ∷ param b Word ∷ param c Word ∷ [];
   result = param y Word;
   second = None;
-  body = Compute (codes "t") None o.Mul (a ∷ b ∷ []) ∷ Compute y None o.Add (codes "t" ∷ c ∷ []) ∷ [];
+  body = Compute (codes "t") None o.Mul (a ∷ b ∷ []) ∷ Compute y None o.Add (codes "t" ∷ c ∷ [])
+      ∷ [];
 }
 
 abbrev sum : Operation

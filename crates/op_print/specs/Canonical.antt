@@ -12,13 +12,13 @@ use Rattle.op_text.specs.Language.{Parity, Majority, Equation, Block, Statement,
 use Rattle.op_text.specs.Language.{Operation, results}
 
 -- a comma, a blank and a part
-abbrev pub behind_comma : {A : Type 0} → (A → List ℕ) → A → List ℕ
-behind_comma part a = codes ", " ++ part a
+abbrev pub after_comma : {A : Type 0} → (A → List ℕ) → A → List ℕ
+after_comma part a = codes ", " ++ part a
 
 -- parts with commas between them
 abbrev pub listed : {A : Type 0} → (A → List ℕ) → List A → List ℕ
 listed part [] = []
-listed part (a ∷ more) = part a ++ flat_map (behind_comma part) more
+listed part (a ∷ more) = part a ++ flat_map (after_comma part) more
 
 abbrev pub value_text : Term → List ℕ
 value_text Nought = codes "0"

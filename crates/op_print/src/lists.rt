@@ -3,7 +3,7 @@
 ghost use Rattle.std.specs.Prelude.{◌≡◌, ◌++◌, ◌∷◌, OnOk};
 ghost use Rattle.std.specs.Option.{option_to_list};
 ghost use Rattle.std.specs.List.{flat_map};
-ghost use Rattle.op_print.specs.Canonical.{listed, behind_comma, spelled, param_text, state_text};
+ghost use Rattle.op_print.specs.Canonical.{listed, after_comma, spelled, param_text, state_text};
 
 use crate::pieces::{kind_name, put, put_comma};
 use no_memory::NoMemory;
@@ -21,7 +21,7 @@ pub(crate) fn put_param(out: &mut Vec<u8>, param: &Param) -> Result<(), NoMemory
 
 fn put_more_params(out: &mut Vec<u8>, params: &[Param]) -> Result<(), NoMemory>
     ensures { OnOk result (out.new.items
-        ≡ out.old.items ++ flat_map (behind_comma param_text) params.now) }
+        ≡ out.old.items ++ flat_map (after_comma param_text) params.now) }
 {
     for param in params {
         put_comma(out)?;
@@ -83,7 +83,7 @@ pub(crate) fn put_params(out: &mut Vec<u8>, params: &[Param]) -> Result<(), NoMe
 
 fn put_more_arguments(out: &mut Vec<u8>, args: &[Name]) -> Result<(), NoMemory>
     ensures { OnOk result (out.new.items
-        ≡ out.old.items ++ flat_map (behind_comma spelled) args.now) }
+        ≡ out.old.items ++ flat_map (after_comma spelled) args.now) }
 {
     for arg in args {
         put_comma(out)?;
@@ -114,7 +114,7 @@ fn put_state(out: &mut Vec<u8>, state: &State) -> Result<(), NoMemory>
 
 fn put_more_states(out: &mut Vec<u8>, states: &[State]) -> Result<(), NoMemory>
     ensures { OnOk result (out.new.items
-        ≡ out.old.items ++ flat_map (behind_comma state_text) states.now) }
+        ≡ out.old.items ++ flat_map (after_comma state_text) states.now) }
 {
     for state in states {
         put_comma(out)?;

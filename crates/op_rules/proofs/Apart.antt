@@ -13,9 +13,9 @@ use Rattle.op_text.specs.Language.{Statement, Compute, Visit}
 use Rattle.op_text.specs.Scratch.{kind_of, defines, body_defines, state_names, word_names}
 use Rattle.op_text.specs.Spelling.{Each}
 use Rattle.op_rules.specs.Meets.{IsNew, IsNewOf, Differ, Context, used, names_of, let_names}
-use Rattle.op_rules.specs.Meets.{targets, behind, at_start, StatementMeets, BodyMeets, IsKnown}
+use Rattle.op_rules.specs.Meets.{targets, following, at_start, StatementMeets, BodyMeets, IsKnown}
 use Rattle.op_rules.specs.Laws.{NamesStandOnce, TargetsAreApart}
-use Rattle.op_rules.proofs.Names.{same_name, turned, new-left, new-append, each_map}
+use Rattle.op_rules.proofs.Names.{same_name, other_way, new-left, new-append, each_map}
 use Rattle.op_rules.proofs.Names.{others_new, or_first, or_second, or_both}
 use Rattle.op_rules.proofs.Standing.{names-append}
 use Rattle.op_rules.proofs.Blocks.{block_names, no_other, not_both}
@@ -85,7 +85,7 @@ statement_apart (Compute target None p args) c h = record {
 statement_apart (Compute target (Some n) p args) c h =
     let m = second_facts c target n (second_kind p) h.others in
     record {
-      differ = (or_both (bytes_eq n target) false (turned n target ∙ m.other) refl, (refl, tt));
+      differ = (or_both (bytes_eq n target) false (other_way n target ∙ m.other) refl, (refl, tt));
       new = (
         new-left (names_of c.known) c.lets target h.gives.new,
         (new-left (names_of c.known) c.lets n m.gives.new, tt),
@@ -118,7 +118,7 @@ body_apart (st ∷ body) c d h =
     subst (λ (l : List Param). Differ (names_of l))
     (append_assoc c.known (defines c.known st)
     (body_defines (c.known ++ defines c.known st) body))
-    (body_apart body (behind c st) more h.1)
+    (body_apart body (following c st) more h.1)
 
 -- a name that is known is among the names
 pub is_named : (known : List Param) (n : List ℕ) (k : Kind) → kind_among known n ≡ Some k

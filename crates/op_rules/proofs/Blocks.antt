@@ -24,7 +24,7 @@ use Rattle.op_rules.proofs.Fitting.{known-among, word_fits}
 use Rattle.op_rules.proofs.Names.{or_both, each_both, fresh-new, fresh-differ}
 use Rattle.op_rules.proofs.Tokens.{goes, name_lexeme, one_rule, le_no}
 use Rattle.op_rules.proofs.Standing.{Standing, given-at, standing-more, names-append, more_context}
-use Rattle.op_rules.proofs.Words.{at_statement, BehindStatement}
+use Rattle.op_rules.proofs.Words.{at_statement, AfterStatement}
 use Rattle.op_rules.proofs.States.{before_block, states_peel}
 use Rattle.op_rules.proofs.Lines.{names_in, weights, in_lines, lets_peel, assigns_peel, TargetFacts}
 
@@ -92,13 +92,13 @@ block_names S W =
     ∙ ap (λ l. l ++ names_of (map (λ n. param n Word) W)) (names_of-param Bit S)
     ∙ ap (λ l. S ++ l) (names_of-param Word W)
 
-turned_names : (a s t w : Bool) → ((a || s) || t) || w ≡ a || ((s || w) || t)
-turned_names true s t w = refl
-turned_names false true t w = refl
-turned_names false false true true = refl
-turned_names false false true false = refl
-turned_names false false false true = refl
-turned_names false false false false = refl
+other_names : (a s t w : Bool) → ((a || s) || t) || w ≡ a || ((s || w) || t)
+other_names true s t w = refl
+other_names false true t w = refl
+other_names false false true true = refl
+other_names false false true false = refl
+other_names false false false true = refl
+other_names false false false false = refl
 
 or_true : (a b : Bool) → b ≡ true → (a || b) ≡ true
 or_true true b h = refl
@@ -129,7 +129,7 @@ block_standing {stands} {c} st S T W h =
     (λ n. among-append ((stands ++ S) ++ T) W n
     ∙ ap (λ x. x || is_among W n) (among-append (stands ++ S) T n
     ∙ ap (λ x. x || is_among T n) (among-append stands S n))
-    ∙ turned_names (is_among stands n) (is_among S n) (is_among T n) (is_among W n)
+    ∙ other_names (is_among stands n) (is_among S n) (is_among T n) (is_among W n)
     ∙ ap (λ x. is_among stands n || (x || is_among T n)) (sym (e n)))
     (lets_other st S T h)
 
@@ -189,7 +189,7 @@ pub block_peels : (b : Block) (ops stands : List (List ℕ)) (c : Context)
     → HasStatement (Visit b) → Standing stands c
     → breach_of (Stmts ∷ wanted) (at_statement ops stands c count)
     (items_spelled (statement_text (Visit b) rest)) ≡ None
-    → BehindStatement (Visit b) ops c count wanted rest
+    → AfterStatement (Visit b) ops c count wanted rest
 unfolding breach_of
 block_peels b ops stands c count wanted rest n st h =
     let here = before_block ops stands c count in

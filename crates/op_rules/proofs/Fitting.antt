@@ -8,7 +8,7 @@ use Rattle.op_text.specs.WordOps.{same_kind}
 use Rattle.op_text.specs.Rules.{is_among, kind_among, is_known, is_of_kind}
 use Rattle.op_text.specs.Spelling.{Each}
 use Rattle.op_rules.specs.Meets.{names_of, IsNew, Differ}
-use Rattle.op_rules.proofs.Names.{is_same, turned, or_first, or_second, each_both}
+use Rattle.op_rules.proofs.Names.{is_same, other_way, or_first, or_second, each_both}
 
 -- a name is known where it is among the names
 pub known-among : (ps : List Param) (n : List ℕ)
@@ -85,7 +85,7 @@ others_apart : (n : List ℕ) (ps : List Param) → IsNew (names_of ps) n
     → Each (λ (p : Param). bytes_eq n p.name ≡ false) ps
 others_apart n [] h = tt
 others_apart n (p ∷ ps) h = (
-  turned n p.name ∙ or_first (bytes_eq p.name n) (is_among (names_of ps) n) h,
+  other_way n p.name ∙ or_first (bytes_eq p.name n) (is_among (names_of ps) n) h,
   others_apart n ps (or_second (bytes_eq p.name n) (is_among (names_of ps) n) h),
 )
 

@@ -16,13 +16,13 @@ use Rattle.op_text.specs.declared.grammar.Wanted.TheVariants.{Begin, Colon}
 use Rattle.op_text.specs.Items.{spelling_of}
 use Rattle.op_text.specs.Rules.{Scope, breach_of, is_bad, is_among, new_word, new_block}
 use Rattle.op_text.specs.Scratch.{param}
-use Rattle.op_text.specs.Spelling.{items_spelled, kind_text, between_commas, behind_commas}
-use Rattle.op_text.specs.Spelling.{behind_comma, param_text, Each, IfThere, HasParam}
+use Rattle.op_text.specs.Spelling.{items_spelled, kind_text, between_commas, after_commas}
+use Rattle.op_text.specs.Spelling.{after_comma, param_text, Each, IfThere, HasParam}
 use Rattle.op_rules.specs.Meets.{IsGood, names_of}
 use Rattle.op_rules.proofs.Names.{AllFresh}
 use Rattle.op_rules.proofs.Tokens.{goes, name_lexeme, named, two_rules, three_rules, not_bad, le_no}
 
--- the scope in the head of an op, and behind it
+-- the scope in the head of an op, and after it
 abbrev pub in_head : List (List ℕ) → List (List ℕ) → List Param → List Param → Scope
 in_head ops stands known given = record {
   ops = ops;
@@ -109,25 +109,25 @@ params_from ops stands done p ps front wanted text rest a b =
           wanted (items_spelled rest) b.then;
     }
 
-params_behind : (ps : List Param) (ops stands : List (List ℕ)) (done : List Param)
+params_after : (ps : List Param) (ops stands : List (List ℕ)) (done : List Param)
     (wanted : List Wanted) (rest : List (List ℕ)) → Each HasParam ps → length done ≤ 4
     → breach_of (Params ∷ wanted) (in_params ops stands done)
-    (items_spelled (behind_commas param_text ps (codes ")" ∷ rest))) ≡ None
+    (items_spelled (after_commas param_text ps (codes ")" ∷ rest))) ≡ None
     → AllParams ops stands done ps wanted rest
 unfolding breach_of
-params_behind [] ops stands done wanted rest n l h = record {
+params_after [] ops stands done wanted rest n l h = record {
   good = tt;
   fresh = tt;
   few = omega arith;
   then = params_move ops stands (stands ++ []) done (done ++ []) (sym (append-nil stands))
       (sym (append-nil done)) wanted (items_spelled rest) h;
 }
-params_behind (p ∷ ps) ops stands done wanted rest n l h =
-    let more = behind_commas param_text ps (codes ")" ∷ rest) in
+params_after (p ∷ ps) ops stands done wanted rest n l h =
+    let more = after_commas param_text ps (codes ")" ∷ rest) in
     let a = param_peels ops stands done p (Params ∷ wanted) more n.0 h in
     let e = length-append done (p ∷ []) in
     params_from ops stands done p ps (Params ∷ wanted) wanted more rest a
-    (params_behind ps ops (stands ++ p.name ∷ []) (done ++ p ∷ []) wanted rest n.1
+    (params_after ps ops (stands ++ p.name ∷ []) (done ++ p ∷ []) wanted rest n.1
     (let i = a.few in omega arith) a.then)
 
 pub params_peel : (ps : List Param) (ops : List (List ℕ)) (wanted : List Wanted)
@@ -138,11 +138,11 @@ pub params_peel : (ps : List Param) (ops : List (List ℕ)) (wanted : List Wante
 unfolding breach_of
 params_peel [] ops wanted rest n h = cc
 params_peel (p ∷ ps) ops wanted rest n h =
-    let more = behind_commas param_text ps (codes ")" ∷ rest) in
+    let more = after_commas param_text ps (codes ")" ∷ rest) in
     let a = param_peels ops [] [] p (Params ∷ wanted) more n.0 h in (
       omega arith,
       params_from ops [] [] p ps (Params ∷ wanted) wanted more rest a
-          (params_behind ps ops (p.name ∷ []) (p ∷ []) wanted rest n.1 (omega arith) a.then),
+          (params_after ps ops (p.name ∷ []) (p ∷ []) wanted rest n.1 (omega arith) a.then),
     )
 
 pub result_kind_moves : (k : Kind) (ops stands : List (List ℕ)) (done given : List Param)
@@ -187,7 +187,7 @@ pub record AllResults (ops stands : List (List ℕ)) (done rs : List Param) (wan
 
 -- the text of the results of an op, up to its body
 abbrev pub results_text : Param → Option Param → List (List ℕ) → List (List ℕ)
-results_text p second rest = param_text p (behind_comma param_text second (codes "{" ∷ rest))
+results_text p second rest = param_text p (after_comma param_text second (codes "{" ∷ rest))
 
 pub results_peel : (ops stands : List (List ℕ)) (done : List Param) (p : Param)
     (second : Option Param) (wanted : List Wanted) (rest : List (List ℕ)) → HasParam p
@@ -201,7 +201,7 @@ results_peel ops stands done p None wanted rest n m h =
     record { good = (a.0, tt); fresh = (a.1, tt); then = a.2 }
 results_peel ops stands done p (Some q) wanted rest n m h =
     let a = result_peels ops stands done [] p (SecondResult ∷ wanted)
-    (behind_comma param_text (Some q) (codes "{" ∷ rest)) n h in
+    (after_comma param_text (Some q) (codes "{" ∷ rest)) n h in
     let b = result_peels ops (stands ++ p.name ∷ []) done (p ∷ []) q (Begin ∷ wanted) (codes "{"
     ∷ rest) m a.2 in
     record {

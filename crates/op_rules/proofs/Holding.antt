@@ -22,12 +22,12 @@ use Rattle.op_text.specs.Meaning.{with_sources, after_body}
 use Rattle.op_text.specs.Scratch.{param, kind_of, result_kind, defines, body_defines, state_names}
 use Rattle.op_text.specs.Scratch.{word_names}
 use Rattle.op_text.specs.Spelling.{Each}
-use Rattle.op_rules.specs.Meets.{IsNew, IsKnown, Differ, Context, names_of, targets, behind}
+use Rattle.op_rules.specs.Meets.{IsNew, IsKnown, Differ, Context, names_of, targets, following}
 use Rattle.op_rules.specs.Meets.{at_start, lets_of, StatementMeets, WordMeets, BodyMeets}
 use Rattle.op_rules.specs.Meets.{OperationMeets}
 use Rattle.op_rules.specs.Laws.{OthersStay, IsHeld, Holds, KindsAreKept, KindsAreHeld}
-use Rattle.op_rules.specs.Laws.{StatementsMeet, context_behind}
-use Rattle.op_rules.proofs.Names.{is_same, same_name, turned, among-append, or_first, or_second}
+use Rattle.op_rules.specs.Laws.{StatementsMeet, context_at}
+use Rattle.op_rules.proofs.Names.{is_same, same_name, other_way, among-append, or_first, or_second}
 use Rattle.op_rules.proofs.Names.{each_map, each_both}
 use Rattle.op_rules.proofs.States.{state_names_of}
 use Rattle.op_rules.proofs.Lines.{names_in}
@@ -38,11 +38,11 @@ use Rattle.op_rules.proofs.Apart.{statement_apart, filter_each, not_true}
 -- another name
 unchanged : {V : Type 0} (names : List ℕ → V) (name : List ℕ) (v : V) (m : List ℕ)
     → bytes_eq name m ≡ false → changed names name v m ≡ names m
-unchanged names name v m h = ap (λ b. cond b v (names m)) (turned m name ∙ h)
+unchanged names name v m h = ap (λ b. cond b v (names m)) (other_way m name ∙ h)
 
 this : {V : Type 0} (names : List ℕ → V) (name : List ℕ) (v : V) (m : List ℕ)
     → bytes_eq name m ≡ true → changed names name v m ≡ v
-this names name v m h = ap (λ b. cond b v (names m)) (turned m name ∙ h)
+this names name v m h = ap (λ b. cond b v (names m)) (other_way m name ∙ h)
 
 blanks_other : (n : ℕ) (es : List Equation) (names : List ℕ → NameValue) (m : List ℕ)
     → IsNew (names_in es) m → with_blanks n names es m ≡ names m
@@ -52,7 +52,8 @@ blanks_other n (e ∷ es) names m h =
     (or_second (bytes_eq e.name m) (is_among (names_in es) m) h)
     ∙ unchanged names e.name _ m (or_first (bytes_eq e.name m) (is_among (names_in es) m) h)
 
-states_other : (ss : List State) (names : List ℕ → NameValue) (m : List ℕ) → IsNew (state_names_of ss) m
+states_other : (ss : List State) (names : List ℕ → NameValue) (m : List ℕ)
+    → IsNew (state_names_of ss) m
     → with_states names ss m ≡ names m
 states_other [] names m h = refl
 states_other (s ∷ ss) names m h =
@@ -133,7 +134,8 @@ written_held n i Bit Bit bs b h = record { kind = refl; size = refl }
 written_held n i Word Bit bs b h = let e = h.kind in cc
 written_held n i Bit Word bs b h = let e = h.kind in cc
 
-changed_held : (n : ℕ) (k : Kind) (names : List ℕ → NameValue) (name : List ℕ) (v : NameValue) (m : List ℕ)
+changed_held : (n : ℕ) (k : Kind) (names : List ℕ
+    → NameValue) (name : List ℕ) (v : NameValue) (m : List ℕ)
     → (m ≡ name → IsHeld n k v) → IsHeld n k (names m) → IsHeld n k (changed names name v m)
 changed_held n k names name v m f g = cases (bytes_eq m name) (λ e. f (same_name m name e))
   where
@@ -151,7 +153,8 @@ assigned_held n i k r (e ∷ es) names m h =
     (names e.name).bits (term_bit r e.value)
     (held_moves (names e.name) (names m) (ap names (sym q)) h)) h)
 
-visits_held : (n : ℕ) (k : Kind) (block : Block) (ks : List ℕ) (names : List ℕ → NameValue) (m : List ℕ)
+visits_held : (n : ℕ) (k : Kind) (block : Block) (ks : List ℕ) (names : List ℕ
+    → NameValue) (m : List ℕ)
     → IsHeld n k (names m) → IsHeld n k (fold (visited block) names ks m)
 visits_held n k block [] names m h = h
 visits_held n k block (i ∷ ks) names m h = visits_held n k block ks (visited block names i) m
@@ -296,7 +299,8 @@ block_hold n names b =
     ≡ true) (targets b) (each_self (targets b)))
     (filter_each (λ m. not (is_among S m)) (targets b))))
 
-defined_hold : (st : Statement) (c : Context) (n : ℕ) (names : List ℕ → NameValue) → StatementMeets c st
+defined_hold : (st : Statement) (c : Context) (n : ℕ) (names : List ℕ → NameValue)
+    → StatementMeets c st
     → Each (Holds n names) c.known → Each (Holds n (after_statement n names st))
     (defines c.known st)
 defined_hold (Compute target None p args) c n names m h =
@@ -312,7 +316,7 @@ defined_hold (Compute target (Some second) p args) c n names m h =
     let first = changed names target v in
     let other = (second_facts c target second (second_kind p) m.others).other in (
       held_moves (changed first second w target) v
-          (unchanged first second w target (turned second target ∙ other)
+          (unchanged first second w target (other_way second target ∙ other)
           ∙ this names target v target (is_same target target refl))
           (computed_held n names c target (Some second) p args m h),
       (
@@ -351,7 +355,8 @@ kinds_are_kept c st n names m h =
     (each_param (λ a. after_statement n names st a ≡ names a) c.known same) h)
     (defined_hold st c n names m h)
 
-body_hold : (body : List Statement) (c : Context) (n : ℕ) (names : List ℕ → NameValue) → BodyMeets c body
+body_hold : (body : List Statement) (c : Context) (n : ℕ) (names : List ℕ → NameValue)
+    → BodyMeets c body
     → Each (Holds n names) c.known → Each (Holds n (after_body n body names)) (c.known
     ++ body_defines c.known body)
 body_hold [] c n names m h = subst (λ (l : List Param). Each (Holds n names) l)
@@ -360,11 +365,12 @@ body_hold (st ∷ body) c n names m h =
     subst (λ (l : List Param). Each (Holds n (after_body n body (after_statement n names st))) l)
     (append_assoc c.known (defines c.known st)
     (body_defines (c.known ++ defines c.known st) body))
-    (body_hold body (behind c st) n (after_statement n names st) m.1
+    (body_hold body (following c st) n (after_statement n names st) m.1
     (kinds_are_kept c st n names m.0 h))
 
 -- the sources
-sources_other : (n : ℕ) (ps : List Param) (values : List ℕ) (names : List ℕ → NameValue) (m : List ℕ)
+sources_other : (n : ℕ) (ps : List Param) (values : List ℕ) (names : List ℕ
+    → NameValue) (m : List ℕ)
     → IsNew (names_of ps) m → with_sources n names ps values m ≡ names m
 sources_other n [] values names m h = refl
 sources_other n (p ∷ ps) [] names m h = refl
@@ -390,7 +396,7 @@ right_half : {A : Type 0} (P : A → Type 0) (xs ys : List A) → Each P (xs ++ 
 right_half P [] ys h = h
 right_half P (x ∷ xs) ys h = right_half P xs ys h.1
 
--- the context behind some statements of a body
+-- the context after some statements of a body
 abbrev context_after : Context → List Statement → Context
 context_after c front = record {
   known = c.known ++ body_defines c.known front;
@@ -406,8 +412,8 @@ split [] rest c m = (
       m,
 )
 split (st ∷ front) rest c m =
-    let p = split front rest (behind c st) m.1 in
-    let e : context_after (behind c st) front ≡ context_after c (st ∷ front) =
+    let p = split front rest (following c st) m.1 in
+    let e : context_after (following c st) front ≡ context_after c (st ∷ front) =
     rw (
       append_assoc c.known (defines c.known st)
           (body_defines (c.known ++ defines c.known st) front),
@@ -417,14 +423,15 @@ split (st ∷ front) rest c m =
 
 parts_meet : (op : Operation) (front rest : List Statement) → OperationMeets op
     → op.body ≡ front ++ rest → BodyMeets (at_start op) front
-    × BodyMeets (context_behind op front) rest
+    × BodyMeets (context_at op front) rest
 parts_meet op front rest m e = split front rest (at_start op)
     (subst (λ (l : List Statement). BodyMeets (at_start op) l) e m.body)
 
 pub statements_meet : StatementsMeet
 statements_meet op front rest s m e = (parts_meet op front (s ∷ rest) m e).1.0
 
-results_hold : (n : ℕ) (names : List ℕ → NameValue) (known : List Param) → Each (Holds n names) known
+results_hold : (n : ℕ) (names : List ℕ → NameValue) (known : List Param)
+    → Each (Holds n names) known
     → (rs : List Param) → Each (λ (r : Param). kind_among known r.name ≡ Some r.kind) rs
     → Each (Holds n names) rs
 results_hold n names known h [] e = tt
@@ -438,7 +445,7 @@ kinds_are_held op n values m l =
     let h = body_hold op.body (at_start op) n names m.body start in
     let ds = body_defines op.params op.body in
     record {
-      behind = λ front rest e. body_hold front (at_start op) n names
+      following = λ front rest e. body_hold front (at_start op) n names
           (parts_meet op front rest m e).0 start;
       at_end = results_hold n (after_body n op.body names) ds
           (right_half (Holds n (after_body n op.body names)) op.params ds h) (results op)

@@ -38,7 +38,7 @@ pub weights-cons : (e : Equation) (es : List Equation)
 weights-cons e es = sum_by-cons (λ (x : ℕ). x) (term_weight e.value)
     (map (λ (e : Equation). term_weight e.value) es)
 
--- the scope in a block, behind its states
+-- the scope in a block, after its states
 abbrev pub in_lines : Scope → List (List ℕ) → List (List ℕ) → List (List ℕ) → ℕ → List (List ℕ) → ℕ
     → Scope
 in_lines s stands states readable lets targets weight = record s {
@@ -261,14 +261,14 @@ assigns_from s stands states readable lets done weight e es wanted rest P f p q 
           ∷ wanted) (items_spelled rest) q.then;
     }
 
-assigns_behind : (es : List Equation) (s : Scope) (stands states readable : List (List ℕ))
+assigns_after : (es : List Equation) (s : Scope) (stands states readable : List (List ℕ))
     (lets : ℕ) (done : List (List ℕ)) (weight : ℕ) (wanted : List Wanted) (rest : List (List ℕ))
     (P : List ℕ → Type 0)
     → Reading s stands states readable lets P → Each HasEquation es → length done ≤ 8 → weight ≤ 24
     → breach_of (Assigns ∷ wanted) (in_lines s stands states readable lets done weight)
     (items_spelled (in_turn equation_text es rest)) ≡ None
     → AllAssigns s stands states readable lets done weight es wanted rest P
-assigns_behind [] s stands states readable lets done weight wanted rest P f n c l h = record {
+assigns_after [] s stands states readable lets done weight wanted rest P f n c l h = record {
   are = tt;
   fresh = tt;
   few = omega arith;
@@ -277,7 +277,7 @@ assigns_behind [] s stands states readable lets done weight wanted rest P f n c 
   then = assigns_move s stands states readable lets done (done ++ []) weight (weight + 0)
       (sym (append-nil done)) (omega arith) (Assigns ∷ wanted) (items_spelled rest) h;
 }
-assigns_behind (e ∷ es) s stands states readable lets done weight wanted rest P f n c l h =
+assigns_after (e ∷ es) s stands states readable lets done weight wanted rest P f n c l h =
     let more = in_turn equation_text es rest in
     let p =
     assign_peels s stands states readable lets done weight e wanted more n.0 l
@@ -286,7 +286,7 @@ assigns_behind (e ∷ es) s stands states readable lets done weight wanted rest 
     let k = length-append done (e.name ∷ []) in
     let i = p.few in
     assigns_from s stands states readable lets done weight e es wanted rest P f p
-    (assigns_behind es s stands states readable lets (done ++ e.name
+    (assigns_after es s stands states readable lets (done ++ e.name
     ∷ []) (weight + term_weight e.value) wanted rest P f n.1 (omega arith) p.light p.then)
 
 -- The assignments of a block, of which there is one at least.
@@ -310,7 +310,7 @@ assigns_peel (e ∷ es) s stands states readable lets weight wanted rest P f n l
     let i = p.few in (
       omega arith,
       assigns_from s stands states readable lets [] weight e es wanted (codes "}" ∷ rest) P f p
-          (assigns_behind es s stands states readable lets (e.name
+          (assigns_after es s stands states readable lets (e.name
           ∷ []) (weight + term_weight e.value) wanted (codes "}" ∷ rest) P f n.1 (omega arith)
           p.light p.then),
     )

@@ -20,7 +20,7 @@ use Rattle.op_text.specs.Rules.{is_known, is_of_kind}
 use Rattle.op_text.specs.Language.{Equation, Block, Visit}
 use Rattle.op_text.specs.Scratch.{term_weight, param, state_names, word_names}
 use Rattle.op_text.specs.Spelling.{items_spelled, term_text, start_text, direction_text}
-use Rattle.op_text.specs.Spelling.{between_commas, behind_commas, in_turn, state_text, let_text}
+use Rattle.op_text.specs.Spelling.{between_commas, after_commas, in_turn, state_text, let_text}
 use Rattle.op_text.specs.Spelling.{equation_text, statement_text, Each, TermMeets}
 use Rattle.op_text.proofs.Accepted.{accepted}
 use Rattle.op_rules.specs.Meets.{IsGood, IsNew, IsNewOf, IsNewLet, Context, used, let_names}
@@ -93,7 +93,7 @@ state_back w front same ops stands c count done s wanted rest st is fresh few h 
     (append_assoc stands done (s.name ∷ []))
     ∙ h
 
-states_behind : (ss : List State) (ops stands : List (List ℕ)) (c : Context)
+states_after : (ss : List State) (ops stands : List (List ℕ)) (c : Context)
     (count : ℕ) (done : List (List ℕ)) (wanted : List Wanted) (rest : List (List ℕ))
     → Standing stands c
     → Each (IsNewOf (used c) c.results Bit) (state_names_of ss) → AllFresh done (state_names_of ss)
@@ -101,19 +101,19 @@ states_behind : (ss : List State) (ops stands : List (List ℕ)) (c : Context)
     → breach_of wanted (in_states (before_block ops stands c count) stands (done
     ++ state_names_of ss)) (items_spelled rest) ≡ None
     → breach_of (MoreStates ∷ wanted) (in_states (before_block ops stands c count) stands
-    done) (items_spelled (behind_commas state_text ss (codes ")" ∷ rest))) ≡ None
+    done) (items_spelled (after_commas state_text ss (codes ")" ∷ rest))) ≡ None
 unfolding breach_of
-states_behind [] ops stands c count done wanted rest st is fresh few h =
+states_after [] ops stands c count done wanted rest st is fresh few h =
     done_moves (before_block ops stands c count) stands (done ++ []) done (append-nil done)
     wanted (items_spelled rest) h
-states_behind (s ∷ ss) ops stands c count done wanted rest st is fresh few h =
-    let more = behind_commas state_text ss (codes ")" ∷ rest) in
+states_after (s ∷ ss) ops stands c count done wanted rest st is fresh few h =
+    let more = after_commas state_text ss (codes ")" ∷ rest) in
     let here = before_block ops stands c count in
     let e = length-append done (s.name ∷ []) in
     state_back StateName [] (λ s n o. refl) ops stands c count done s (Equals ∷ Start
     ∷ MoreStates ∷ wanted) more st is.0 fresh.0 (omega arith)
     (start_moves s.start (in_states here stands (done ++ s.name ∷ [])) (MoreStates ∷ wanted) more
-    ∙ states_behind ss ops stands c count (done ++ s.name ∷ []) wanted rest st is.1 fresh.1
+    ∙ states_after ss ops stands c count (done ++ s.name ∷ []) wanted rest st is.1 fresh.1
     (omega arith)
     (done_moves here stands (done ++ state_names_of (s ∷ ss)) ((done ++ s.name ∷ [])
     ++ state_names_of ss) (sym (append_assoc done (s.name ∷ []) (state_names_of ss))) wanted
@@ -130,12 +130,12 @@ states_back : (ss : List State) (ops stands : List (List ℕ)) (c : Context)
 unfolding breach_of
 states_back [] ops stands c count wanted rest st is fresh few h = h
 states_back (s ∷ ss) ops stands c count wanted rest st is fresh few h =
-    let more = behind_commas state_text ss (codes ")" ∷ rest) in
+    let more = after_commas state_text ss (codes ")" ∷ rest) in
     let here = before_block ops stands c count in
     state_back States (Equals ∷ Start ∷ MoreStates ∷ []) (λ s n o. refl) ops stands c count
     [] s wanted more st is.0 fresh.0 (omega arith)
     (start_moves s.start (in_states here stands (s.name ∷ [])) (MoreStates ∷ wanted) more
-    ∙ states_behind ss ops stands c count (s.name ∷ []) wanted rest st is.1 fresh.1
+    ∙ states_after ss ops stands c count (s.name ∷ []) wanted rest st is.1 fresh.1
     (omega arith) h)
 
 let_back : (s : Scope) (stands states readable : List (List ℕ)) (count weight : ℕ) (e : Equation)
@@ -260,7 +260,7 @@ assign_back {stands} {c} st ops count S T lets done weight e wanted rest is fres
     ∙ accepted e.value s1 0 (AssignEnd ∷ Assigns ∷ wanted) (codes ";" ∷ rest) refl refl m w
     ∙ h
 
-assigns_behind : (es : List Equation) → {stands : List (List ℕ)} {c : Context}
+assigns_after : (es : List Equation) → {stands : List (List ℕ)} {c : Context}
     → Standing stands c → (ops : List (List ℕ)) (count : ℕ) (S T : List (List ℕ))
     (lets : ℕ) (done : List (List ℕ)) (weight : ℕ)
     (wanted : List Wanted) (rest : List (List ℕ)) → Each (IsTarget c S T) (names_in es)
@@ -271,12 +271,12 @@ assigns_behind : (es : List Equation) → {stands : List (List ℕ)} {c : Contex
     ++ names_in es) (weight + weights es)) (items_spelled rest) ≡ None
     → breach_of (Assigns ∷ wanted) (in_assigns ops stands c count S T lets done weight)
     (items_spelled (in_turn equation_text es rest)) ≡ None
-assigns_behind [] {stands} {c} st ops count S T lets done weight wanted rest is fresh few
+assigns_after [] {stands} {c} st ops count S T lets done weight wanted rest is fresh few
     m w h =
     assigns_move (before_block ops stands c count) ((stands ++ S) ++ T) S (S
     ++ T) lets (done ++ []) done (weight + 0) weight (append-nil done) (omega arith) (Assigns
     ∷ wanted) (items_spelled rest) h
-assigns_behind (e ∷ es) {stands} {c} st ops count S T lets done weight wanted rest is
+assigns_after (e ∷ es) {stands} {c} st ops count S T lets done weight wanted rest is
     fresh few m w h =
     let k = weights-cons e es in
     let l = length-append done (e.name ∷ []) in
@@ -285,7 +285,7 @@ assigns_behind (e ∷ es) {stands} {c} st ops count S T lets done weight wanted 
     (codes "=" ∷ term_text e.value (codes ";" ∷ more)) (good_fits e.name is.0.good)
     ∙ assign_back st ops count S T lets done weight e wanted more is.0 fresh.0 (omega arith) m.0
     (omega arith)
-    (assigns_behind es st ops count S T lets (done ++ e.name ∷ []) (weight + term_weight e.value)
+    (assigns_after es st ops count S T lets (done ++ e.name ∷ []) (weight + term_weight e.value)
     wanted rest is.1 fresh.1 (omega arith) m.1 (omega arith)
     (assigns_move (before_block ops stands c count) ((stands ++ S) ++ T) S (S
     ++ T) lets (done ++ names_in (e ∷ es)) ((done ++ e.name ∷ []) ++ names_in es) (weight
@@ -320,7 +320,7 @@ assigns_back (e ∷ es) {stands} {c} st ops count S T lets weight wanted rest so
     (goes wanted value)) (sym plain)
     ∙ assign_back st ops count S T lets [] weight e wanted more is.0 fresh.0 (omega arith) m.0
     (omega arith)
-    (assigns_behind es st ops count S T lets (e.name ∷ []) (weight + term_weight e.value) wanted
+    (assigns_after es st ops count S T lets (e.name ∷ []) (weight + term_weight e.value) wanted
     rest is.1 fresh.1 (omega arith) m.1 (omega arith)
     (assigns_move (before_block ops stands c count) ((stands ++ S) ++ T) S (S
     ++ T) lets (names_in (e ∷ es)) (names_in (e ∷ es)) (weight + weights (e ∷ es)) (weight

@@ -11,8 +11,8 @@ use Rattle.op_text.specs.declared.grammar.Wanted.TheVariants.{NewResult, ResultK
 use Rattle.op_text.specs.declared.grammar.Wanted.TheVariants.{Begin, Colon}
 use Rattle.op_text.specs.Items.{spelling_of}
 use Rattle.op_text.specs.Rules.{breach_of, is_bad, is_among}
-use Rattle.op_text.specs.Spelling.{items_spelled, kind_text, between_commas, behind_commas}
-use Rattle.op_text.specs.Spelling.{behind_comma, param_text, Each}
+use Rattle.op_text.specs.Spelling.{items_spelled, kind_text, between_commas, after_commas}
+use Rattle.op_text.specs.Spelling.{after_comma, param_text, Each}
 use Rattle.op_rules.specs.Meets.{IsGood, names_of}
 use Rattle.op_rules.proofs.Names.{AllFresh}
 use Rattle.op_rules.proofs.Tokens.{goes, name_lexeme, named}
@@ -38,22 +38,22 @@ param_back ops stands done p wanted rest g f l h =
     (le_passes 4 (length done) l)
     ∙ param_kind p.kind ops stands done p.name wanted rest ∙ h
 
-params_behind : (ps : List Param) (ops stands : List (List ℕ)) (done : List Param)
+params_after : (ps : List Param) (ops stands : List (List ℕ)) (done : List Param)
     (wanted : List Wanted) (rest : List (List ℕ)) → Each IsGood (names_of ps)
     → AllFresh stands (names_of ps)
     → length done + length ps ≤ 4 → breach_of wanted
     (in_params ops (stands ++ names_of ps) (done ++ ps)) (items_spelled rest) ≡ None
     → breach_of (Params ∷ wanted) (in_params ops stands done)
-    (items_spelled (behind_commas param_text ps (codes ")" ∷ rest))) ≡ None
+    (items_spelled (after_commas param_text ps (codes ")" ∷ rest))) ≡ None
 unfolding breach_of
-params_behind [] ops stands done wanted rest g f l h =
+params_after [] ops stands done wanted rest g f l h =
     params_move ops (stands ++ []) stands (done ++ []) done (append-nil stands) (append-nil done)
     wanted (items_spelled rest) h
-params_behind (p ∷ ps) ops stands done wanted rest g f l h =
-    let more = behind_commas param_text ps (codes ")" ∷ rest) in
+params_after (p ∷ ps) ops stands done wanted rest g f l h =
+    let more = after_commas param_text ps (codes ")" ∷ rest) in
     let e = length-append done (p ∷ []) in
     param_back ops stands done p (Params ∷ wanted) more g.0 f.0 (omega arith)
-    (params_behind ps ops (stands ++ p.name ∷ []) (done ++ p ∷ []) wanted rest g.1 f.1 (omega arith)
+    (params_after ps ops (stands ++ p.name ∷ []) (done ++ p ∷ []) wanted rest g.1 f.1 (omega arith)
     (params_move ops (stands ++ names_of (p ∷ ps)) _ (done ++ p
     ∷ ps) _ (sym (append_assoc stands (p.name ∷ []) (names_of ps)))
     (sym (append_assoc done (p ∷ []) ps)) wanted (items_spelled rest) h))
@@ -66,9 +66,9 @@ pub params_back : (ps : List Param) (ops : List (List ℕ)) (wanted : List Wante
     (items_spelled (between_commas param_text ps (codes ")" ∷ rest))) ≡ None
 params_back [] ops wanted rest k l g f h = absurd (omega arith)
 params_back (p ∷ ps) ops wanted rest k l g f h =
-    let more = behind_commas param_text ps (codes ")" ∷ rest) in
+    let more = after_commas param_text ps (codes ")" ∷ rest) in
     param_back ops [] [] p (Params ∷ wanted) more g.0 f.0 (omega arith)
-    (params_behind ps ops (p.name ∷ []) (p ∷ []) wanted rest g.1 f.1 (omega arith) h)
+    (params_after ps ops (p.name ∷ []) (p ∷ []) wanted rest g.1 f.1 (omega arith) h)
 
 result_back : (ops stands : List (List ℕ)) (done given : List Param) (p : Param)
     (wanted : List Wanted) (rest : List (List ℕ)) → IsGood p.name → is_among stands p.name ≡ false
@@ -99,7 +99,7 @@ results_back ops stands done p None wanted rest g f h =
     result_back ops stands done [] p (SecondResult ∷ wanted) (codes "{" ∷ rest) g.0 f.0 h
 results_back ops stands done p (Some q) wanted rest g f h =
     result_back ops stands done [] p (SecondResult ∷ wanted)
-    (behind_comma param_text (Some q) (codes "{" ∷ rest)) g.0 f.0
+    (after_comma param_text (Some q) (codes "{" ∷ rest)) g.0 f.0
     (result_back ops (stands ++ p.name ∷ []) done (p ∷ []) q (Begin ∷ wanted) (codes "{"
     ∷ rest) g.1.0 f.1.0
     (results_move ops (stands ++ p.name ∷ q.name ∷ []) ((stands ++ p.name ∷ []) ++ q.name

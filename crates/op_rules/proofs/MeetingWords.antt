@@ -24,14 +24,14 @@ use Rattle.op_text.specs.Rules.{is_taken_name, has_targets, is_other_result, sec
 use Rattle.text_lex.specs.Lexical.{Lexeme}
 use Rattle.op_text.specs.Language.{Statement, Compute}
 use Rattle.op_text.specs.Scratch.{kind_of, result_kind, param, defines}
-use Rattle.op_text.specs.Spelling.{items_spelled, between_commas, behind_commas, name_text}
+use Rattle.op_text.specs.Spelling.{items_spelled, between_commas, after_commas, name_text}
 use Rattle.op_text.specs.Spelling.{statement_text, Each}
 use Rattle.op_rules.specs.Meets.{Context, IsGood, IsKnown, IsNew, WordMeets, SecondMeets, used}
-use Rattle.op_rules.specs.Meets.{behind, names_of}
+use Rattle.op_rules.specs.Meets.{following, names_of}
 use Rattle.op_rules.proofs.Names.{or_both}
 use Rattle.op_rules.proofs.Fitting.{fits_same}
 use Rattle.op_rules.proofs.Ops.{second_facts}
-use Rattle.op_rules.proofs.Tokens.{Behind, goes, name_lexeme, named}
+use Rattle.op_rules.proofs.Tokens.{Following, goes, name_lexeme, named}
 use Rattle.op_rules.proofs.Passing.{one_pass, next_pass, two_pass, three_pass, good_passes}
 use Rattle.op_rules.proofs.Passing.{good_fits}
 use Rattle.op_rules.proofs.Passing.{good_plain, le_passes}
@@ -86,7 +86,7 @@ filled_any (f ∷ fs) given k Q h q = cases (is_whole (lacks given f.takes)) (λ
     cases false e g r = or_second (Q f) (list_any Q fs) (r g)
 
 argument_back : (x : Option Kind) (k : Kind) (s : Scope) (given : List Kind) (f : List Wanted)
-    (u : Lexeme) (go : Behind) → x ≡ Some k
+    (u : Lexeme) (go : Following) → x ≡ Some k
     → list_any (λ f. is_begun (lacks (given ++ k ∷ []) f.takes)) (forms s.word.operation) ≡ true
     → after (with_rules (Some f) (argument_of_kind (with_given s given) x)) u go
     ≡ go f (with_given s (given ++ k ∷ []))
@@ -95,24 +95,24 @@ argument_back x k s given f u go e h =
     ∙ one_pass (not (list_any (λ f. is_begun (lacks (given ++ k ∷ []) f.takes))
     (forms s.word.operation))) why.Kind (with_given s (given ++ k ∷ [])) f u go (ap not h)
 
-args_behind : (args : List (List ℕ)) (s : Scope) (given : List Kind) (k : Kind)
+args_after : (args : List (List ℕ)) (s : Scope) (given : List Kind) (k : Kind)
     (wanted : List Wanted) (rest : List (List ℕ)) → Each (IsKnown s.op.defined) args
     → Each IsGood args
     → filled (forms s.word.operation) (given ++ map (kind_of s.op.defined) args) ≡ Some k
     → breach_of wanted (with_given s (given ++ map (kind_of s.op.defined) args))
     (items_spelled rest) ≡ None
     → breach_of (MoreArgs ∷ wanted) (with_given s given)
-    (items_spelled (behind_commas name_text args (codes ")" ∷ rest))) ≡ None
+    (items_spelled (after_commas name_text args (codes ")" ∷ rest))) ≡ None
 unfolding breach_of
-args_behind [] s given k wanted rest n g e h =
+args_after [] s given k wanted rest n g e h =
     let e' = ap (filled (forms s.word.operation)) (sym (append-nil given)) ∙ e in
     one_pass (not (list_any (λ f. is_whole (lacks given f.takes)) (forms s.word.operation)))
     why.Kind (with_given s given) [] (mark (codes ")")) (goes wanted rest)
     (ap not (filled_any (forms s.word.operation) given k (λ f. is_whole (lacks given f.takes)) e'
     (λ f i. i)))
     ∙ given_moves s (given ++ []) given (append-nil given) wanted (items_spelled rest) h
-args_behind (a ∷ args) s given k wanted rest n g e h =
-    let more = behind_commas name_text args (codes ")" ∷ rest) in
+args_after (a ∷ args) s given k wanted rest n g e h =
+    let more = after_commas name_text args (codes ")" ∷ rest) in
     let j = kind_of s.op.defined a in
     let kinds = map (kind_of s.op.defined) args in
     let e' = ap (filled (forms s.word.operation)) (append_assoc given (j ∷ []) kinds) ∙ e in
@@ -129,7 +129,7 @@ args_behind (a ∷ args) s given k wanted rest n g e h =
     (filled_any (forms s.word.operation) ((given ++ j ∷ []) ++ kinds) k (λ f.
     is_begun (lacks (given ++ j ∷ []) f.takes)) e' (λ f i.
     whole_begun (given ++ j ∷ []) kinds f.takes i))
-    ∙ args_behind args s (given ++ j ∷ []) k wanted rest n.1 g.1 e'
+    ∙ args_after args s (given ++ j ∷ []) k wanted rest n.1 g.1 e'
     (given_moves s (given ++ j ∷ kinds) _ (sym (append_assoc given (j ∷ []) kinds)) wanted
     (items_spelled rest) h)
 
@@ -147,7 +147,7 @@ args_back [] s k wanted rest n g e h =
     i)))
     ∙ h
 args_back (a ∷ args) s k wanted rest n g e h =
-    let more = behind_commas name_text args (codes ")" ∷ rest) in
+    let more = after_commas name_text args (codes ")" ∷ rest) in
     let j = kind_of s.op.defined a in
     let kinds = map (kind_of s.op.defined) args in
     named Args wanted (with_given s []) a more (good_fits a g.0)
@@ -158,10 +158,10 @@ args_back (a ∷ args) s k wanted rest n g e h =
     (goes wanted more) n.0
     (filled_any (forms s.word.operation) (j ∷ kinds) k (λ f. is_begun (lacks (j ∷ []) f.takes)) e
     (λ f i. whole_begun (j ∷ []) kinds f.takes i))
-    ∙ args_behind args s (j ∷ []) k wanted rest n.1 g.1 e h
+    ∙ args_after args s (j ∷ []) k wanted rest n.1 g.1 e h
 
 end_back : (x : Option Kind) (k : Kind) (s : Scope) (target : List ℕ) (f : List Wanted) (u : Lexeme)
-    (go : Behind) → x ≡ Some k → list_any (is_other_result s) (targets_of s target k) ≡ false
+    (go : Following) → x ≡ Some k → list_any (is_other_result s) (targets_of s target k) ≡ false
     → after (with_rules (Some f) (gives_kind s (Some target) x)) u go
     ≡ go f (ended s (targets_of s target k))
 end_back x k s target f u go e h =
@@ -237,11 +237,11 @@ operation_back p s second wanted rest t h =
     ∙ one_pass (not (has_targets second (second_kind p))) why.Kind (in_word s second p []) []
     (name_lexeme (op_text p)) (goes (Open ∷ wanted) (codes "(" ∷ rest)) (ap not t) ∙ h
 
--- Where what stands behind a statement breaks no rule, neither does the statement.
+-- Where what stands after a statement breaks no rule, neither does the statement.
 abbrev pub Goes : Statement → List (List ℕ) → Context → ℕ → List Wanted → List (List ℕ) → Type 0
 Goes st ops c count wanted rest =
-    (stands : List (List ℕ)) → Standing stands (behind c st)
-    → breach_of (Stmts ∷ wanted) (at_statement ops stands (behind c st) (count + 1))
+    (stands : List (List ℕ)) → Standing stands (following c st)
+    → breach_of (Stmts ∷ wanted) (at_statement ops stands (following c st) (count + 1))
     (items_spelled rest) ≡ None
 
 pub word_back : (target : List ℕ) (second : Option (List ℕ)) (p : WordOp) (args : List (List ℕ))

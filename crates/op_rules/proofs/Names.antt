@@ -18,8 +18,8 @@ both_ways true b f g = sym (f refl)
 both_ways false true f g = g refl
 both_ways false false f g = refl
 
-pub turned : (m n : List ℕ) → bytes_eq m n ≡ bytes_eq n m
-turned m n = both_ways (bytes_eq m n) (bytes_eq n m) (λ h. is_same n m (sym (same_name m n h)))
+pub other_way : (m n : List ℕ) → bytes_eq m n ≡ bytes_eq n m
+other_way m n = both_ways (bytes_eq m n) (bytes_eq n m) (λ h. is_same n m (sym (same_name m n h)))
     (λ h. is_same m n (sym (same_name n m h)))
 
 pub among-append : (xs ys : List (List ℕ)) (n : List ℕ)
@@ -60,13 +60,13 @@ each_map P Q f (x ∷ xs) h = (f x h.0, each_map P Q f xs h.1)
 -- none of the later names is this one
 pub others_new : (n : List ℕ) (ns : List (List ℕ)) → Each (IsNew (n ∷ [])) ns → IsNew ns n
 others_new n [] h = refl
-others_new n (m ∷ ns) h = or_both (bytes_eq m n) (is_among ns n) (turned m n
+others_new n (m ∷ ns) h = or_both (bytes_eq m n) (is_among ns n) (other_way m n
     ∙ or_first (bytes_eq n m) false h.0) (others_new n ns h.1)
 
 pub others_back : (n : List ℕ) (ns : List (List ℕ)) → IsNew ns n → Each (IsNew (n ∷ [])) ns
 others_back n [] h = tt
 others_back n (m ∷ ns) h = (
-  or_both (bytes_eq n m) false (turned n m
+  or_both (bytes_eq n m) false (other_way n m
       ∙ or_first (bytes_eq m n) (is_among ns n) h) refl,
   others_back n ns (or_second (bytes_eq m n) (is_among ns n) h),
 )

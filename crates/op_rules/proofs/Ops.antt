@@ -24,7 +24,7 @@ use Rattle.op_text.specs.WordOps.{op_text, second_kind}
 use Rattle.op_text.specs.Spelling.{items_spelled, between_commas, in_turn, name_text, param_text}
 use Rattle.op_text.specs.Spelling.{statement_text, operation_text, MeetRules, Each, HasStatement}
 use Rattle.op_text.specs.Spelling.{HasOperation}
-use Rattle.op_rules.specs.Meets.{IsNew, IsNewOf, Context, names_of, behind, StatementMeets}
+use Rattle.op_rules.specs.Meets.{IsNew, IsNewOf, Context, names_of, following, StatementMeets}
 use Rattle.op_rules.specs.Meets.{BodyMeets, OperationMeets, OpsMeet, at_start, SecondMeets}
 use Rattle.op_rules.specs.Meets.{IsSecondTarget}
 use Rattle.op_rules.proofs.Names.{AllFresh, same_name, among-append, or_first, or_second}
@@ -33,7 +33,7 @@ use Rattle.op_rules.proofs.Fitting.{known-among, Fits, found_each}
 use Rattle.op_rules.proofs.Tokens.{goes, name_lexeme, named, one_rule, two_rules, not_bad, le_no}
 use Rattle.op_rules.proofs.Tokens.{not_not}
 use Rattle.op_rules.proofs.Standing.{Standing, names-append}
-use Rattle.op_rules.proofs.Words.{at_statement, BehindStatement, word_peels, mark}
+use Rattle.op_rules.proofs.Words.{at_statement, AfterStatement, word_peels, mark}
 use Rattle.op_rules.proofs.Words.{target_end}
 use Rattle.op_rules.proofs.Blocks.{block_peels}
 use Rattle.op_rules.proofs.Heads.{in_params, params_peel, results_text, results_peel}
@@ -42,7 +42,7 @@ statement_peels : (st : Statement) (ops stands : List (List ℕ)) (c : Context)
     (count : ℕ) (wanted : List Wanted) (rest : List (List ℕ)) → HasStatement st
     → Standing stands c
     → breach_of (Stmts ∷ wanted) (at_statement ops stands c count)
-    (items_spelled (statement_text st rest)) ≡ None → BehindStatement st ops c count wanted rest
+    (items_spelled (statement_text st rest)) ≡ None → AfterStatement st ops c count wanted rest
 statement_peels (Compute target second p args) ops stands c count wanted rest n s h =
     word_peels target second p args ops stands c count wanted rest n s h
 statement_peels (Visit b) ops stands c count wanted rest n s h =
@@ -67,7 +67,7 @@ all_given known (r ∷ rs) h =
 pub given_moves : (a b rs : List Param) → a ≡ b → AllGiven a rs → AllGiven b rs
 given_moves a b rs e h = subst (λ (l : List Param). AllGiven l rs) e h
 
--- a body, and the "}" behind it
+-- a body, and the "}" after it
 record WholeBody (body : List Statement) (ops : List (List ℕ)) (c : Context) (count : ℕ)
     (wanted : List Wanted) (rest : List (List ℕ)) : Type 0 where
   meets : BodyMeets c body
@@ -96,7 +96,7 @@ body_peels [] ops stands c count wanted rest n s l h =
 body_peels (st ∷ body) ops stands c count wanted rest n s l h =
     let p = statement_peels st ops stands c count wanted
     (in_turn statement_text body (codes "}" ∷ rest)) n.0 s h in
-    let q = body_peels body ops p.stands (behind c st) (count + 1) wanted rest n.1
+    let q = body_peels body ops p.stands (following c st) (count + 1) wanted rest n.1
     p.standing (let i = p.few in omega arith) p.then in
     record {
       meets = (p.meets, q.meets);
@@ -170,7 +170,7 @@ body_fits : (body : List Statement) (c : Context) → BodyMeets c body
     → Each (FitsResults c.results) (body_defines c.known body)
 body_fits [] c h = tt
 body_fits (st ∷ body) c h = each_append (FitsResults c.results) (defines c.known st) _
-    (statement_fits st c h.0) (body_fits body (behind c st) h.1)
+    (statement_fits st c h.0) (body_fits body (following c st) h.1)
 
 found : (ps rs : List Param) (r : Param) → Each (FitsResults rs) ps
     → kind_among rs r.name ≡ Some r.kind
@@ -214,8 +214,8 @@ start_standing op = record {
   free = λ n q. refl;
 }
 
--- what stands behind an op
-record BehindOp (op : Operation) (ops : List (List ℕ)) (rest : List (List ℕ)) : Type 0 where
+-- what stands after an op
+record AfterOp (op : Operation) (ops : List (List ℕ)) (rest : List (List ℕ)) : Type 0 where
   meets : OperationMeets op
   few : length ops < 32
   fresh : IsNew ops op.name
@@ -223,23 +223,23 @@ record BehindOp (op : Operation) (ops : List (List ℕ)) (rest : List (List ℕ)
 
 op_peels : (op : Operation) (ops : List (List ℕ)) (rest : List (List ℕ)) → HasOperation op
     → breach_of (Ops ∷ []) (in_params ops [] []) (items_spelled (operation_text op rest)) ≡ None
-    → BehindOp op ops rest
+    → AfterOp op ops rest
 unfolding breach_of
 op_peels op ops rest n h =
     let body = in_turn statement_text op.body (codes "}" ∷ rest) in
     let head = codes "->" ∷ results_text op.result op.second body in
     let params = between_commas param_text op.params (codes ")" ∷ head) in
     let first = NewResult ∷ Colon ∷ ResultKind ∷ SecondResult ∷ FirstStmt ∷ Ops ∷ [] in
-    let behind = Open ∷ NewParam ∷ Colon ∷ ParamKind ∷ Params ∷ Arrow ∷ first in
+    let following = Open ∷ NewParam ∷ Colon ∷ ParamKind ∷ Params ∷ Arrow ∷ first in
     let a = one_rule (nat_le 32 (length ops)) why.TooMany (in_params ops [] []) (NewOp
-    ∷ behind) (name_lexeme (codes "op")) (goes [] (op.name ∷ codes "(" ∷ params)) h in
-    let g = sym (named NewOp behind (in_params ops [] []) op.name (codes "(" ∷ params) n.name)
+    ∷ following) (name_lexeme (codes "op")) (goes [] (op.name ∷ codes "(" ∷ params)) h in
+    let g = sym (named NewOp following (in_params ops [] []) op.name (codes "(" ∷ params) n.name)
     ∙ a.1 in
     let more = ops ++ op.name ∷ [] in
     let b =
     two_rules (is_bad (spelling_of op.name) op.name || bytes_eq op.name (codes "trsp_init"))
     (is_among ops op.name) why.BadName why.Twice
-    (in_params more [] []) [] (name_lexeme op.name) (goes behind (codes "(" ∷ params)) g in
+    (in_params more [] []) [] (name_lexeme op.name) (goes following (codes "(" ∷ params)) g in
     let p = params_peel op.params more (Arrow ∷ first) head n.params b.2 in
     let q = p.1 in
     let r = results_peel more (names_of op.params) op.params op.result op.second (FirstStmt ∷ Ops

@@ -10,33 +10,34 @@ use Rattle.op_text.specs.declared.grammar.Wanted.{Wanted}
 use Rattle.op_text.specs.Items.{spelling_of}
 use Rattle.op_text.specs.Rules.{Scope, after, unless, with_rules, is_bad, is_plain}
 use Rattle.op_text.specs.Spelling.{is_good}
-use Rattle.op_rules.proofs.Tokens.{Behind, and_first}
+use Rattle.op_rules.proofs.Tokens.{Following, and_first}
 
-pub one_pass : (a : Bool) (i : OpsKind) (r : Scope) (f : List Wanted) (u : Lexeme) (go : Behind)
+pub one_pass : (a : Bool) (i : OpsKind) (r : Scope) (f : List Wanted) (u : Lexeme) (go : Following)
     → a ≡ false → after (with_rules (Some f) (unless a i (Ok r))) u go ≡ go f r
 one_pass true i r f u go e = cc
 one_pass false i r f u go e = refl
 
 pub next_pass : (a : Bool) (i : OpsKind) (r : Result Scope OpsKind) (f : List Wanted) (u : Lexeme)
-    (go : Behind) → a ≡ false → after (with_rules (Some f) (unless a i r)) u go
+    (go : Following) → a ≡ false → after (with_rules (Some f) (unless a i r)) u go
     ≡ after (with_rules (Some f) r) u go
 next_pass true i r f u go e = cc
 next_pass false i r f u go e = refl
 
-pub two_pass : (a b : Bool) (i j : OpsKind) (r : Scope) (f : List Wanted) (u : Lexeme) (go : Behind)
+pub two_pass : (a b : Bool) (i j : OpsKind) (r : Scope) (f : List Wanted) (u : Lexeme) (go :
+    Following)
     → a ≡ false → b ≡ false → after (with_rules (Some f) (unless a i (unless b j (Ok r)))) u go
     ≡ go f r
 two_pass true b i j r f u go d e = cc
 two_pass false b i j r f u go d e = one_pass b j r f u go e
 
 pub three_pass : (a b c : Bool) (i j k : OpsKind) (r : Scope) (f : List Wanted) (u : Lexeme)
-    (go : Behind) → a ≡ false → b ≡ false → c ≡ false
+    (go : Following) → a ≡ false → b ≡ false → c ≡ false
     → after (with_rules (Some f) (unless a i (unless b j (unless c k (Ok r))))) u go ≡ go f r
 three_pass true b c i j k r f u go d e g = cc
 three_pass false b c i j k r f u go d e g = two_pass b c j k r f u go e g
 
 pub four_pass : (a b c d : Bool) (i j k l : OpsKind) (r : Scope) (f : List Wanted) (u : Lexeme)
-    (go : Behind) → a ≡ false → b ≡ false → c ≡ false → d ≡ false
+    (go : Following) → a ≡ false → b ≡ false → c ≡ false → d ≡ false
     → after (with_rules (Some f) (unless a i (unless b j (unless c k (unless d l (Ok r)))))) u go
     ≡ go f r
 four_pass true b c d i j k l r f u go e g h m = cc

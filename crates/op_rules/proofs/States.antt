@@ -14,7 +14,7 @@ use Rattle.op_text.specs.declared.grammar.Wanted.TheVariants.{Equals}
 use Rattle.op_text.specs.Items.{spelling_of}
 use Rattle.op_text.specs.Rules.{Scope, breach_of, is_bad, is_taken_state, is_among, step, after}
 use Rattle.op_text.specs.Rules.{with_rules, state_rules, kind_among, is_known, is_of_kind}
-use Rattle.op_text.specs.Spelling.{items_spelled, start_text, between_commas, behind_commas}
+use Rattle.op_text.specs.Spelling.{items_spelled, start_text, between_commas, after_commas}
 use Rattle.op_text.specs.Spelling.{state_text, Each, HasState}
 use Rattle.op_rules.specs.Meets.{Context, IsNewOf, IsNew, used}
 use Rattle.op_rules.proofs.Names.{AllFresh, among-append}
@@ -98,7 +98,7 @@ state_facts ops stands c count done n st g t =
       k.1,
     )
 
--- a state that is wanted at the start of the list, or behind a comma
+-- a state that is wanted at the start of the list, or after a comma
 state_peels : (w : Wanted) (front : List Wanted)
     → ((s : Scope) (n : List ℕ) (o : Bool) → step w s (t.Name (spelling_of n)) n o
     ≡ with_rules (Some front) (state_rules s (spelling_of n) n))
@@ -150,15 +150,15 @@ done_moves s stands a b e wanted items h = subst
 length-more : (done : List (List ℕ)) (n : List ℕ) → length (done ++ n ∷ []) ≡ length done + 1
 length-more done n = length-append done (n ∷ [])
 
-states_behind : (ss : List State) (ops stands : List (List ℕ)) (c : Context)
+states_after : (ss : List State) (ops stands : List (List ℕ)) (c : Context)
     (count : ℕ) (done : List (List ℕ)) (wanted : List Wanted) (rest : List (List ℕ))
     → Each HasState ss → Standing stands c
     → length done ≤ 8
     → breach_of (MoreStates ∷ wanted) (in_states (before_block ops stands c count) stands
-    done) (items_spelled (behind_commas state_text ss (codes ")" ∷ rest))) ≡ None
+    done) (items_spelled (after_commas state_text ss (codes ")" ∷ rest))) ≡ None
     → AllStates ops stands c count done ss wanted rest
 unfolding breach_of
-states_behind [] ops stands c count done wanted rest n st l h =
+states_after [] ops stands c count done wanted rest n st l h =
     record {
       are = tt;
       fresh = tt;
@@ -166,13 +166,13 @@ states_behind [] ops stands c count done wanted rest n st l h =
       then = done_moves (before_block ops stands c count) stands done (done
           ++ []) (sym (append-nil done)) wanted (items_spelled rest) h;
     }
-states_behind (s ∷ ss) ops stands c count done wanted rest n st l h =
-    let more = behind_commas state_text ss (codes ")" ∷ rest) in
+states_after (s ∷ ss) ops stands c count done wanted rest n st l h =
+    let more = after_commas state_text ss (codes ")" ∷ rest) in
     let here = before_block ops stands c count in
     let p = state_peels StateName [] (λ s n o. refl) ops stands c count done s (Equals
     ∷ Start ∷ MoreStates ∷ wanted) more n.0 st h in
     let e = length-more done s.name in
-    let q = states_behind ss ops stands c count (done ++ s.name ∷ []) wanted rest n.1 st
+    let q = states_after ss ops stands c count (done ++ s.name ∷ []) wanted rest n.1 st
     (let i = p.2 in omega arith)
     (sym (start_moves s.start (in_states here stands (done ++ s.name ∷ [])) (MoreStates
     ∷ wanted) more) ∙ p.3) in
@@ -194,11 +194,11 @@ unfolding breach_of
 states_peel [] ops stands c count wanted rest n st h =
     record { are = tt; fresh = tt; few = omega arith; then = h }
 states_peel (s ∷ ss) ops stands c count wanted rest n st h =
-    let more = behind_commas state_text ss (codes ")" ∷ rest) in
+    let more = after_commas state_text ss (codes ")" ∷ rest) in
     let here = before_block ops stands c count in
     let p = state_peels States (Equals ∷ Start ∷ MoreStates ∷ []) (λ s n o. refl) ops stands c
     count [] s wanted more n.0 st h in
-    let q = states_behind ss ops stands c count (s.name ∷ []) wanted rest n.1 st
+    let q = states_after ss ops stands c count (s.name ∷ []) wanted rest n.1 st
     (omega arith) (sym (start_moves s.start (in_states here stands (s.name ∷ [])) (MoreStates
     ∷ wanted) more) ∙ p.3) in
     record {

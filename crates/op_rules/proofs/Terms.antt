@@ -25,8 +25,8 @@ pub opens_same : (rest : List (List ℕ)) → opens (items_spelled rest) ≡ ope
 opens_same [] = refl
 opens_same (x ∷ rest) = refl
 
--- what stands behind an expression, and that it is light enough
-pub record BehindTerm (e : Term) (s : Scope) (depth : ℕ) (wanted : List Wanted)
+-- what stands after an expression, and that it is light enough
+pub record AfterTerm (e : Term) (s : Scope) (depth : ℕ) (wanted : List Wanted)
     (rest : List (List ℕ)) : Type 0 where
   pub meets : TermMeets (is_readable s) depth e
   pub light : s.block.weight + term_weight e ≤ 24
@@ -41,7 +41,7 @@ weighs : (s : Scope) (m : List ℕ) (v w : ℕ) → v ≡ w → (wanted : List W
 weighs s m v w e wanted items h = subst (λ (x : ℕ). breach_of wanted (weighing s m x) items
     ≡ None) e h
 
--- behind the name of a gate and "("
+-- after the name of a gate and "("
 record InGate (s : Scope) (depth a w : ℕ) (wanted : List Wanted) (rest : List (List ℕ)) : Type 0
   where
     deep : depth < 32
@@ -49,13 +49,13 @@ record InGate (s : Scope) (depth a w : ℕ) (wanted : List Wanted) (rest : List 
     then : breach_of (Value ∷ More ∷ wanted) (weighing s ((a - 1) ∷ s.block.missing) (s.block.weight
         + w)) (items_spelled rest) ≡ None
 
-gate_behind : (s : Scope) (depth : ℕ) (g : Gate) (wanted : List Wanted) (rest : List (List ℕ))
+gate_after : (s : Scope) (depth : ℕ) (g : Gate) (wanted : List Wanted) (rest : List (List ℕ))
     → length s.block.missing ≡ depth
     → (nat_lt 24 (s.block.weight + gate_weight g) || nat_le 32 (length s.block.missing)) ≡ false
     → breach_of (Value ∷ More ∷ wanted) (weighing s ((gate_arguments g - 1) ∷ s.block.missing)
     (s.block.weight + gate_weight g)) (items_spelled rest) ≡ None
     → InGate s depth (gate_arguments g) (gate_weight g) wanted rest
-gate_behind s depth g wanted rest e h k =
+gate_after s depth g wanted rest e h k =
     let light = lt_no 24 (s.block.weight + gate_weight g)
     (or_first (nat_lt 24 (s.block.weight + gate_weight g)) (nat_le 32 (length s.block.missing))
     h) in
@@ -90,7 +90,7 @@ gate_rule s depth g wanted rest e h =
     why.TooMany (weighing s ((gate_arguments g - 1) ∷ s.block.missing) (s.block.weight
     + gate_weight g))
     (GateOpen ∷ Value ∷ More ∷ []) (gate_lexeme g) (goes wanted (codes "(" ∷ rest)) h in
-    gate_behind s depth g wanted rest e k.0 k.1
+    gate_after s depth g wanted rest e k.0 k.1
 
 gate_peels : (s : Scope) (depth : ℕ) (g : Gate) (wanted : List Wanted) (rest : List (List ℕ))
     → length s.block.missing ≡ depth
@@ -103,7 +103,7 @@ gate_peels s depth gates.Or wanted rest e h = gate_rule s depth gates.Or wanted 
 gate_peels s depth gates.Xor wanted rest e h = gate_rule s depth gates.Xor wanted rest e h
 gate_peels s depth gates.Maj wanted rest e h = gate_rule s depth gates.Maj wanted rest e h
 
--- behind an argument
+-- after an argument
 comma_peels : (s : Scope) (n : ℕ) (outer : List ℕ) (w : ℕ) (wanted : List Wanted)
     (rest : List (List ℕ))
     → breach_of (More ∷ wanted) (weighing s (suc n ∷ outer) w) (items_spelled (codes "," ∷ rest))
@@ -133,7 +133,7 @@ name_peels s name wanted rest false e h =
 pub term_peels : (e : Term) (s : Scope) (depth : ℕ) (wanted : List Wanted) (rest : List (List ℕ))
     → HasNames e → opens_next rest ≡ false → length s.block.missing ≡ depth
     → s.block.weight ≤ 24 → breach_of (Value ∷ wanted) s (items_spelled (term_text e rest)) ≡ None
-    → BehindTerm e s depth wanted rest
+    → AfterTerm e s depth wanted rest
 unfolding breach_of
 term_peels Nought s depth wanted rest n o d k h =
     record {

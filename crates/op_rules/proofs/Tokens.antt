@@ -12,11 +12,11 @@ use Rattle.op_text.specs.Items.{opens, spelling_of}
 use Rattle.op_text.specs.Rules.{Scope, step, after, breach_of, unless, with_rules, is_bad, is_plain}
 use Rattle.op_text.specs.Spelling.{is_good, kind_of_text, items_spelled}
 
--- what stands behind a token
-abbrev pub Behind : Type 0
-Behind = List Wanted → Scope → Option Breach
+-- what stands after a token
+abbrev pub Following : Type 0
+Following = List Wanted → Scope → Option Breach
 
-abbrev pub goes : List Wanted → List (List ℕ) → Behind
+abbrev pub goes : List Wanted → List (List ℕ) → Following
 goes wanted rest = λ front s. breach_of (front ++ wanted) s (items_spelled rest)
 
 abbrev pub name_lexeme : List ℕ → Lexeme
@@ -41,20 +41,20 @@ named w wanted s n rest h =
     ∷ items_spelled rest)) (name_kind n h)
 
 -- rules that are not broken
-pub one_rule : (a : Bool) (i : OpsKind) (r : Scope) (f : List Wanted) (u : Lexeme) (go : Behind)
+pub one_rule : (a : Bool) (i : OpsKind) (r : Scope) (f : List Wanted) (u : Lexeme) (go : Following)
     → after (with_rules (Some f) (unless a i (Ok r))) u go ≡ None → (a ≡ false) × (go f r ≡ None)
 one_rule true i r f u go h = cc
 one_rule false i r f u go h = (refl, h)
 
 pub next_rule : (a : Bool) (i : OpsKind) (r : Result Scope OpsKind) (f : List Wanted) (u : Lexeme)
-    (go : Behind)
+    (go : Following)
     → after (with_rules (Some f) (unless a i r)) u go ≡ None
     → (a ≡ false) × (after (with_rules (Some f) r) u go ≡ None)
 next_rule true i r f u go h = cc
 next_rule false i r f u go h = (refl, h)
 
 pub two_rules : (a b : Bool) (i j : OpsKind) (r : Scope) (f : List Wanted) (u : Lexeme)
-    (go : Behind)
+    (go : Following)
     → after (with_rules (Some f) (unless a i (unless b j (Ok r)))) u go ≡ None
     → (a ≡ false) × (b ≡ false) × (go f r ≡ None)
 two_rules true b i j r f u go h = cc
@@ -62,7 +62,7 @@ two_rules false true i j r f u go h = cc
 two_rules false false i j r f u go h = (refl, refl, h)
 
 pub three_rules : (a b c : Bool) (i j k : OpsKind) (r : Scope) (f : List Wanted) (u : Lexeme)
-    (go : Behind)
+    (go : Following)
     → after (with_rules (Some f) (unless a i (unless b j (unless c k (Ok r))))) u go ≡ None
     → (a ≡ false) × (b ≡ false) × (c ≡ false) × (go f r ≡ None)
 three_rules true b c i j k r f u go h = cc
@@ -71,7 +71,7 @@ three_rules false false true i j k r f u go h = cc
 three_rules false false false i j k r f u go h = (refl, refl, refl, h)
 
 pub four_rules : (a b c d : Bool) (i j k l : OpsKind) (r : Scope) (f : List Wanted) (u : Lexeme)
-    (go : Behind)
+    (go : Following)
     → after (with_rules (Some f) (unless a i (unless b j (unless c k (unless d l (Ok r)))))) u go
     ≡ None → (a ≡ false) × (b ≡ false) × (c ≡ false) × (d ≡ false) × (go f r ≡ None)
 four_rules true b c d i j k l r f u go h = cc

@@ -28,26 +28,28 @@ use Rattle.op_text.specs.Rules.{statement_rules, argument_of_kind, gives_kind, i
 use Rattle.op_text.specs.Rules.{second_of, new_word, new_block}
 use Rattle.op_text.specs.Language.{Statement, Compute}
 use Rattle.op_text.specs.Scratch.{kind_of, result_kind, param, defines}
-use Rattle.op_text.specs.Spelling.{items_spelled, behind_comma, between_commas, behind_commas}
+use Rattle.op_text.specs.Spelling.{items_spelled, after_comma, between_commas, after_commas}
 use Rattle.op_text.specs.Spelling.{name_text, statement_text, Each, IfThere, IsName, HasStatement}
 use Rattle.op_text.proofs.Operations.{first_settles}
-use Rattle.op_rules.specs.Meets.{Context, IsKnown, IsNew, SecondMeets, StatementMeets, behind, used}
+use Rattle.op_rules.specs.Meets.{Context, IsKnown, IsNew, SecondMeets, StatementMeets, following}
+use Rattle.op_rules.specs.Meets.{used}
 use Rattle.op_rules.specs.Meets.{names_of}
 use Rattle.op_rules.proofs.Names.{among-append, or_first, or_second}
 use Rattle.op_rules.proofs.Fitting.{same_fits}
-use Rattle.op_rules.proofs.Tokens.{Behind, goes, name_lexeme, named, one_rule, two_rules, next_rule}
+use Rattle.op_rules.proofs.Tokens.{Following, goes, name_lexeme, named, one_rule, two_rules}
+use Rattle.op_rules.proofs.Tokens.{next_rule}
 use Rattle.op_rules.proofs.Tokens.{three_rules, not_bad, not_not, le_no}
 use Rattle.op_rules.proofs.Standing.{Standing, given-at, standing-more, word_new, more_context}
 
 abbrev pub mark : List ℕ → Lexeme
 mark x = record { kind = kinds.Symbol; text = x; start = 0 }
 
--- the tokens of a word statement behind its first target
+-- the tokens of a word statement after its first target
 abbrev pub target_end : Option (List ℕ) → List (List ℕ) → List (List ℕ)
-target_end second rest = behind_comma name_text second (codes "=" ∷ rest)
+target_end second rest = after_comma name_text second (codes "=" ∷ rest)
 
 -- the first target of a word statement
-record BehindTarget (n : Spelling) (s : Scope) (target : List ℕ) (wanted : List Wanted)
+record AfterTarget (n : Spelling) (s : Scope) (target : List ℕ) (wanted : List Wanted)
     (rest : List (List ℕ)) : Type 0 where
   good : is_bad n target ≡ false
   new : is_taken_name s target ≡ false
@@ -70,7 +72,7 @@ target_peels : (n : Spelling) (s : Scope) (target : List ℕ) (second : Option (
     (wanted : List Wanted) (rest : List (List ℕ)) → IfThere IsName second
     → after (with_rules (Some (statement n)) (statement_rules s n target)) (name_lexeme target)
     (goes wanted (target_end second rest)) ≡ None
-    → BehindTarget n s target wanted (target_end second rest)
+    → AfterTarget n s target wanted (target_end second rest)
 target_peels sp.Plain s target second wanted rest m h =
     let k =
     three_rules (is_bad sp.Plain target) (is_taken_name s target)
@@ -144,7 +146,7 @@ abbrev pub with_given : Scope → List Kind → Scope
 with_given s given = record s { word = record s.word { given = given } }
 
 argument_peels : (x : Option Kind) (s : Scope) (given : List Kind) (f : List Wanted) (u : Lexeme)
-    (go : Behind) → after (with_rules (Some f) (argument_of_kind (with_given s given) x)) u go
+    (go : Following) → after (with_rules (Some f) (argument_of_kind (with_given s given) x)) u go
     ≡ None
     → (x ≡ Some (unwrap_or x Word)) × (go f (with_given s (given ++ unwrap_or x Word ∷ [])) ≡ None)
 argument_peels None s given f u go h = cc
@@ -166,13 +168,13 @@ pub given_moves : (s : Scope) (a b : List Kind) → a ≡ b → (wanted : List W
 given_moves s a b e wanted items h =
     subst (λ (x : List Kind). breach_of wanted (with_given s x) items ≡ None) e h
 
-args_behind : (args : List (List ℕ)) (s : Scope) (given : List Kind) (wanted : List Wanted)
+args_after : (args : List (List ℕ)) (s : Scope) (given : List Kind) (wanted : List Wanted)
     (rest : List (List ℕ)) → Each IsName args
     → breach_of (MoreArgs ∷ wanted) (with_given s given)
-    (items_spelled (behind_commas name_text args (codes ")" ∷ rest))) ≡ None
+    (items_spelled (after_commas name_text args (codes ")" ∷ rest))) ≡ None
     → AllArgs s given args wanted rest
 unfolding breach_of
-args_behind [] s given wanted rest n h =
+args_after [] s given wanted rest n h =
     let k = one_rule (not (list_any (λ f. is_whole (lacks given f.takes)) (forms s.word.operation)))
     why.Kind (with_given s given) [] (mark (codes ")")) (goes wanted rest) h in
     record {
@@ -180,8 +182,8 @@ args_behind [] s given wanted rest n h =
       then = given_moves s given (given ++ []) (sym (append-nil given)) wanted
           (items_spelled rest) k.1;
     }
-args_behind (a ∷ args) s given wanted rest n h =
-    let more = behind_commas name_text args (codes ")" ∷ rest) in
+args_after (a ∷ args) s given wanted rest n h =
+    let more = after_commas name_text args (codes ")" ∷ rest) in
     let k = one_rule (not (list_any (λ f. is_part (lacks given f.takes)) (forms s.word.operation)))
     why.Kind (with_given s given) (ArgName ∷ MoreArgs ∷ []) (mark (codes ","))
     (goes wanted (a ∷ more)) h in
@@ -191,7 +193,7 @@ args_behind (a ∷ args) s given wanted rest n h =
     (goes (MoreArgs ∷ wanted) more) g in
     let i = argument_peels (kind_among s.op.defined a) s given [] (name_lexeme a)
     (goes (MoreArgs ∷ wanted) more) j.1 in
-    let r = args_behind args s (given ++ kind_of s.op.defined a ∷ []) wanted rest n.1 i.1 in
+    let r = args_after args s (given ++ kind_of s.op.defined a ∷ []) wanted rest n.1 i.1 in
     record {
       known = (i.0, r.known);
       then = given_moves s _ (given ++ map (kind_of s.op.defined) (a ∷ args))
@@ -210,14 +212,14 @@ args_peel [] s wanted rest n h =
     why.Kind (with_given s []) [] (mark (codes ")")) (goes wanted rest) h in
     record { known = tt; then = k.1 }
 args_peel (a ∷ args) s wanted rest n h =
-    let more = behind_commas name_text args (codes ")" ∷ rest) in
+    let more = after_commas name_text args (codes ")" ∷ rest) in
     let g = sym (named Args wanted (with_given s []) a more n.0) ∙ h in
     let j = next_rule (is_bad (spelling_of a) a) why.BadName
     (argument_of_kind (with_given s []) (kind_among s.op.defined a)) (MoreArgs
     ∷ []) (name_lexeme a) (goes wanted more) g in
     let i = argument_peels (kind_among s.op.defined a) s [] (MoreArgs ∷ []) (name_lexeme a)
     (goes wanted more) j.1 in
-    let r = args_behind args s (kind_of s.op.defined a ∷ []) wanted rest n.1 i.1 in
+    let r = args_after args s (kind_of s.op.defined a ∷ []) wanted rest n.1 i.1 in
     record { known = (i.0, r.known); then = r.then }
 
 -- the targets with their kinds
@@ -233,7 +235,7 @@ ended s ds = record s {
 }
 
 end_peels : (x : Option Kind) (s : Scope) (target : List ℕ) (f : List Wanted) (u : Lexeme)
-    (go : Behind) → after (with_rules (Some f) (gives_kind s (Some target) x)) u go ≡ None
+    (go : Following) → after (with_rules (Some f) (gives_kind s (Some target) x)) u go ≡ None
     → (x ≡ Some (unwrap_or x Word))
     × (list_any (is_other_result s) (targets_of s target (unwrap_or x Word)) ≡ false)
     × (go f (ended s (targets_of s target (unwrap_or x Word))) ≡ None)
@@ -257,14 +259,14 @@ at_statement ops stands c count = record {
   naming = None;
 }
 
--- what stands behind a statement that breaks no rule
-pub record BehindStatement (st : Statement) (ops : List (List ℕ)) (c : Context) (count : ℕ)
+-- what stands after a statement that breaks no rule
+pub record AfterStatement (st : Statement) (ops : List (List ℕ)) (c : Context) (count : ℕ)
     (wanted : List Wanted) (rest : List (List ℕ)) : Type 0 where
   pub meets : StatementMeets c st
   pub few : count < 16
   pub stands : List (List ℕ)
-  pub standing : Standing stands (behind c st)
-  pub then : breach_of (Stmts ∷ wanted) (at_statement ops stands (behind c st) (count + 1))
+  pub standing : Standing stands (following c st)
+  pub then : breach_of (Stmts ∷ wanted) (at_statement ops stands (following c st) (count + 1))
       (items_spelled rest) ≡ None
 
 or_nothing : (a b : Bool) → (a || b) ≡ (a || (b || false))
@@ -335,7 +337,7 @@ pub word_peels : (target : List ℕ) (second : Option (List ℕ)) (p : WordOp) (
     (rest : List (List ℕ)) → HasStatement (Compute target second p args) → Standing stands c
     → breach_of (Stmts ∷ wanted) (at_statement ops stands c count)
     (items_spelled (statement_text (Compute target second p args) rest)) ≡ None
-    → BehindStatement (Compute target second p args) ops c count wanted rest
+    → AfterStatement (Compute target second p args) ops c count wanted rest
 unfolding breach_of
 word_peels target second p args ops stands c count wanted rest n standing h =
     let s = at_statement ops stands c count in

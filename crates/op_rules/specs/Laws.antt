@@ -11,7 +11,8 @@ use Rattle.op_text.specs.Meaning.{after_body, after_op}
 use Rattle.op_text.specs.Rules.{kind_among}
 use Rattle.op_text.specs.Scratch.{defines, body_defines, scratch_names, scratch_bits, scratch_words}
 use Rattle.op_text.specs.Spelling.{Each, HasOperation, MeetRules}
-use Rattle.op_rules.specs.Meets.{IsNew, Differ, names_of, Context, lets_of, behind, StatementMeets}
+use Rattle.op_rules.specs.Meets.{IsNew, Differ, names_of, Context, lets_of, following}
+use Rattle.op_rules.specs.Meets.{StatementMeets}
 use Rattle.op_rules.specs.Meets.{WordMeets, OperationMeets, OpsMeet}
 
 -- Ops meet the rules as trees exactly where their names are names and the tokens of their text
@@ -46,9 +47,9 @@ pub record NamesAreApart (op : Operation) : Type 0 where
 abbrev pub NamesStandOnce : Type 0
 NamesStandOnce = (op : Operation) → OperationMeets op → NamesAreApart op
 
--- what stands behind the first statements of an op
-abbrev pub context_behind : Operation → List Statement → Context
-context_behind op front = record {
+-- what stands after the first statements of an op
+abbrev pub context_at : Operation → List Statement → Context
+context_at op front = record {
   known = op.params ++ body_defines op.params front;
   lets = flat_map lets_of front;
   results = results op;
@@ -57,7 +58,7 @@ context_behind op front = record {
 -- Each statement of an op that meets the rules meets them where it stands.
 abbrev pub StatementsMeet : Type 0
 StatementsMeet = (op : Operation) (front rest : List Statement) (s : Statement) → OperationMeets op
-    → op.body ≡ front ++ s ∷ rest → StatementMeets (context_behind op front) s
+    → op.body ≡ front ++ s ∷ rest → StatementMeets (context_at op front) s
 
 -- The targets of a word statement differ, and none is an argument.
 abbrev pub TargetsAreApart : Type 0
@@ -79,19 +80,20 @@ pub record IsHeld (n : ℕ) (k : Kind) (h : NameValue) : Type 0 where
 abbrev pub Holds : ℕ → (List ℕ → NameValue) → Param → Type 0
 Holds n names p = IsHeld n p.kind (names p.name)
 
--- Where the names known hold bits of their kinds, they and the names defined do so behind a
+-- Where the names known hold bits of their kinds, they and the names defined do so after a
 -- statement.
 abbrev pub KindsAreKept : Type 0
 KindsAreKept = (c : Context) (s : Statement) (n : ℕ) (names : List ℕ → NameValue)
     → StatementMeets c s
-    → Each (Holds n names) c.known → Each (Holds n (after_statement n names s)) (behind c s).known
+    → Each (Holds n names) c.known → Each (Holds n (after_statement n names s)) (following c
+    s).known
 
--- Behind the first statements of an op the names that are then known hold bits of their kinds, and
--- behind all of them the results do.
+-- After the first statements of an op the names that are then known hold bits of their kinds, and
+-- after all of them the results do.
 pub record HoldsKinds (op : Operation) (n : ℕ) (values : List ℕ) : Type 0 where
-  pub behind : (front rest : List Statement) → op.body ≡ front ++ rest
+  pub following : (front rest : List Statement) → op.body ≡ front ++ rest
       → Each (Holds n (after_body n front (with_sources n holds_nothing op.params values)))
-      (context_behind op front).known
+      (context_at op front).known
   pub at_end : Each (Holds n (after_op op n values)) (results op)
 
 abbrev pub KindsAreHeld : Type 0

@@ -119,9 +119,9 @@ abbrev pub lets_of : Statement → List (List ℕ)
 lets_of (Compute target second operation args) = []
 lets_of (Visit block) = let_names block
 
--- what stands behind a statement
-abbrev pub behind : Context → Statement → Context
-behind c s = record {
+-- what stands after a statement
+abbrev pub following : Context → Statement → Context
+following c s = record {
   known = c.known ++ defines c.known s;
   lets = c.lets ++ lets_of s;
   results = c.results;
@@ -130,7 +130,7 @@ behind c s = record {
 -- each statement meets the rules where it stands
 abbrev pub BodyMeets : Context → List Statement → Type 0
 BodyMeets c [] = Unit {0}
-BodyMeets c (s ∷ body) = StatementMeets c s × BodyMeets (behind c s) body
+BodyMeets c (s ∷ body) = StatementMeets c s × BodyMeets (following c s) body
 
 abbrev pub at_start : Operation → Context
 at_start op = record { known = op.params; lets = []; results = results op }

@@ -34,7 +34,7 @@ pub fn others_stay()
     ensures { OthersStay }
 {}
 
-/// Behind each statement, and so behind an op, names hold bits of their kinds.
+/// After each statement, and so after an op, names hold bits of their kinds.
 pub fn kinds_are_held()
     ensures statement { KindsAreKept }
     ensures op { KindsAreHeld }

@@ -76,7 +76,7 @@ weigh s m v w e wanted items =
     ap (λ x. breach_of wanted (record s { block = record s.block { weight = x; missing = m } })
     items) e
 
--- behind an argument
+-- after an argument
 comma_moves : (s : Scope) (n : ℕ) (outer : List ℕ) → s.block.missing ≡ suc n ∷ outer
     → (wanted : List Wanted) (rest : List (List ℕ))
     → breach_of (More ∷ wanted) s (items_spelled (codes "," ∷ rest))

@@ -23,13 +23,13 @@ use Rattle.op_text.specs.declared.grammar.Wanted.TheVariants.{NewTarget}
 use Rattle.op_text.specs.Grammar.{follow, statement, allowed, opens_terminal}
 use Rattle.op_text.specs.Trees.{Tree, Trees, Nought, Unity, Leaf, Call, Last, Then, ParamTree}
 use Rattle.op_text.specs.Trees.{StateTree, EquationTree, StatementTree, Compute, Visit, OpTree}
-use Rattle.op_text.specs.Trees.{is_serial, is_let, value_text, values_text, behind_commas}
-use Rattle.op_text.specs.Trees.{behind_comma, between_commas, in_turn, kind_word, direction_word}
+use Rattle.op_text.specs.Trees.{is_serial, is_let, value_text, values_text, after_commas}
+use Rattle.op_text.specs.Trees.{after_comma, between_commas, in_turn, kind_word, direction_word}
 use Rattle.op_text.specs.Trees.{start_word}
 use Rattle.op_text.specs.Trees.{name_text, param_text, state_text, assign_text, let_text}
 use Rattle.op_text.specs.Trees.{statement_text, op_text, text_of}
 
--- What is read off the front of terminals, where what is wanted behind it goes on.
+-- What is read off the front of terminals, where what is wanted after it goes on.
 record Split (A : Type 0) (text : A → List Terminal
     → List Terminal) (ws : List Wanted) (ts : List Terminal) (end : List Wanted) (n : ℕ) : Type 0
   where
@@ -71,7 +71,7 @@ both {f = f} {g = g} w v n one two ts ws end le few h =
       short = r.short;
     }
 
--- the same under another name, behind a terminal
+-- the same under another name, after a terminal
 after : {A B : Type 0} {f : A → List Terminal → List Terminal} (g : B → List Terminal
     → List Terminal) (u : Terminal) (k : A → B) (ws : List Wanted) (ts : List Terminal)
     (end : List Wanted) (n : ℕ)
@@ -86,12 +86,12 @@ after g u k ws ts end n e s = record {
   short = s.short;
 }
 
-behind : {A B : Type 0} {f : A → List Terminal → List Terminal} (g : B → List Terminal
+following : {A B : Type 0} {f : A → List Terminal → List Terminal} (g : B → List Terminal
     → List Terminal) (u : Terminal) (k : A → B) (ws : List Wanted) (ts : List Terminal)
     (end : List Wanted) (n : ℕ)
     → ((a : A) (rest : List Terminal) → u ∷ f a rest ≡ g (k a) rest) → Split A f ws ts end n
     → Split B g ws (u ∷ ts) end (suc n)
-behind g u k ws ts end n e s = record {
+following g u k ws ts end n e s = record {
   tree = k s.tree;
   rest = s.rest;
   is = ap (λ l. u ∷ l) s.is
@@ -286,7 +286,7 @@ mutual
   values_back n [] ws end le few h = absurd (too_long More ws end few h)
   values_back zero (u ∷ ts) ws end le few h = absurd (omega arith)
   values_back (suc n) (t.Comma ∷ ts) ws end le few h =
-      behind values_text t.Comma (λ (p : Pair Tree Trees). Then p.first p.second) ws ts end n
+      following values_text t.Comma (λ (p : Pair Tree Trees). Then p.first p.second) ws ts end n
       (λ a rest. refl) (both Value (More ∷ []) n (value_back n) (values_back n) ts ws end
       (omega (arith, le)) few h)
   values_back (suc n) (t.Closes ∷ ts) ws end le few h =
@@ -294,7 +294,7 @@ mutual
   values_back (suc n) (_ ∷ ts) ws end le few h = cc
 
 abbrev params_text : List ParamTree → List Terminal → List Terminal
-params_text ps rest = behind_commas param_text ps (t.Closes ∷ rest)
+params_text ps rest = after_commas param_text ps (t.Closes ∷ rest)
 
 params_back : (n : ℕ) → Reads (List ParamTree) params_text (Params ∷ []) n
 unfolding allowed
@@ -303,7 +303,7 @@ params_back zero (u ∷ ts) ws end le few h = absurd (omega arith)
 params_back (suc n) (t.Closes ∷ ts) ws end le few h =
     ending params_text t.Closes [] ws ts end n (λ rest. refl) le h
 params_back (suc n) (t.Comma ∷ ts) ws end le few h =
-    behind params_text t.Comma
+    following params_text t.Comma
     (λ (p : (Pair Spelling (Pair (Unit {0}) (Pair Kind (List ParamTree))))). record
     { name = p.first; kind = p.second.second.first } ∷ p.second.second.second) ws ts end n
     (λ a rest. refl)
@@ -316,7 +316,7 @@ params_back (suc n) (t.Comma ∷ ts) ws end le few h =
 params_back (suc n) (_ ∷ ts) ws end le few h = cc
 
 abbrev more_args_text : List Spelling → List Terminal → List Terminal
-more_args_text ns rest = behind_commas name_text ns (t.Closes ∷ rest)
+more_args_text ns rest = after_commas name_text ns (t.Closes ∷ rest)
 
 abbrev args_text : List Spelling → List Terminal → List Terminal
 args_text ns rest = between_commas name_text ns (t.Closes ∷ rest)
@@ -328,7 +328,7 @@ more_args_back zero (u ∷ ts) ws end le few h = absurd (omega arith)
 more_args_back (suc n) (t.Closes ∷ ts) ws end le few h =
     ending more_args_text t.Closes [] ws ts end n (λ rest. refl) le h
 more_args_back (suc n) (t.Comma ∷ ts) ws end le few h =
-    behind more_args_text t.Comma (λ (p : (Pair Spelling (List Spelling))). p.first
+    following more_args_text t.Comma (λ (p : (Pair Spelling (List Spelling))). p.first
     ∷ p.second) ws ts end n (λ a rest. refl)
     (both ArgName (MoreArgs ∷ []) n (single (λ x. t.Name x) ArgName n takes_argname)
     (more_args_back n) ts ws end (omega (arith, le)) few h)
@@ -341,12 +341,12 @@ args_back zero (u ∷ ts) ws end le few h = absurd (omega arith)
 args_back (suc n) (t.Closes ∷ ts) ws end le few h =
     ending args_text t.Closes [] ws ts end n (λ rest. refl) le h
 args_back (suc n) (t.Name r ∷ ts) ws end le few h =
-    behind args_text (t.Name r) (λ ns. r ∷ ns) ws ts end n (λ a rest. refl)
+    following args_text (t.Name r) (λ ns. r ∷ ns) ws ts end n (λ a rest. refl)
     (more_args_back n ts ws end (omega (arith, le)) few h)
 args_back (suc n) (_ ∷ ts) ws end le few h = cc
 
 abbrev more_states_text : List StateTree → List Terminal → List Terminal
-more_states_text ss rest = behind_commas state_text ss (t.Closes ∷ rest)
+more_states_text ss rest = after_commas state_text ss (t.Closes ∷ rest)
 
 abbrev states_text : List StateTree → List Terminal → List Terminal
 states_text ss rest = between_commas state_text ss (t.Closes ∷ rest)
@@ -358,7 +358,7 @@ more_states_back zero (u ∷ ts) ws end le few h = absurd (omega arith)
 more_states_back (suc n) (t.Closes ∷ ts) ws end le few h =
     ending more_states_text t.Closes [] ws ts end n (λ rest. refl) le h
 more_states_back (suc n) (t.Comma ∷ ts) ws end le few h =
-    behind more_states_text t.Comma
+    following more_states_text t.Comma
     (λ (p : (Pair Spelling (Pair (Unit {0}) (Pair Bool (List StateTree))))). record
     { name = p.first; start = p.second.second.first } ∷ p.second.second.second) ws ts end n
     (λ a rest. refl)
@@ -377,7 +377,7 @@ states_back zero (u ∷ ts) ws end le few h = absurd (omega arith)
 states_back (suc n) (t.Closes ∷ ts) ws end le few h =
     ending states_text t.Closes [] ws ts end n (λ rest. refl) le h
 states_back (suc n) (t.Name r ∷ ts) ws end le few h =
-    behind states_text (t.Name r) (λ (p : (Pair (Unit {0}) (Pair Bool (List StateTree)))). record
+    following states_text (t.Name r) (λ (p : (Pair (Unit {0}) (Pair Bool (List StateTree)))). record
     { name = r; start = p.second.first } ∷ p.second.second) ws ts end n (λ a rest. refl)
     (both Equals (Start ∷ MoreStates ∷ []) n (single (λ (x : Unit {0}). t.Equals) Equals n
     takes_equals) (both Start (MoreStates ∷ []) n (single start_word Start n takes_start)
@@ -394,7 +394,7 @@ assigns_back zero (u ∷ ts) ws end le few h = absurd (omega arith)
 assigns_back (suc n) (t.Finishes ∷ ts) ws end le few h =
     ending assigns_text t.Finishes [] ws ts end n (λ rest. refl) le h
 assigns_back (suc n) (t.Name r ∷ ts) ws end le few h =
-    behind assigns_text (t.Name r)
+    following assigns_text (t.Name r)
     (λ (p : (Pair (Unit {0}) (Pair Tree (Pair (Unit {0}) (List EquationTree))))). record
     { name = r; value = p.second.first } ∷ p.second.second.second) ws ts end n (λ a rest. refl)
     (both Equals (Value ∷ AssignEnd ∷ Assigns
@@ -418,7 +418,7 @@ first_line : (r : Spelling) → is_let r ≡ false → (n : ℕ) (ts : List Term
     → allowed (Equals ∷ Value ∷ AssignEnd ∷ Assigns ∷ ws) ts ≡ Some end
     → Split Lines lines_text ws (t.Name r ∷ ts) end (suc n)
 first_line r free n ts ws end le few h =
-    behind lines_text (t.Name r)
+    following lines_text (t.Name r)
     (λ (p : (Pair (Unit {0}) (Pair Tree (Pair (Unit {0}) (List EquationTree))))). record {
       lets = [];
       first = record { name = r; value = p.second.first };
@@ -436,7 +436,7 @@ unfolding allowed
 lets_back n [] ws end le few h = absurd (too_long Lets ws end few h)
 lets_back zero (u ∷ ts) ws end le few h = absurd (omega arith)
 lets_back (suc n) (t.Name sp.Let ∷ ts) ws end le few h =
-    behind lines_text (t.Name sp.Let)
+    following lines_text (t.Name sp.Let)
     (λ (p : (Pair Spelling (Pair (Unit {0}) (Pair Tree (Pair (Unit {0}) Lines))))). let l =
     p.second.second.second.second in
     record {
@@ -471,16 +471,16 @@ lets_back (suc n) (_ ∷ ts) ws end le few h = cc
 abbrev statements_text : List StatementTree → List Terminal → List Terminal
 statements_text ss rest = in_turn statement_text ss (t.Finishes ∷ rest)
 
--- a statement and those behind it
+-- a statement and those after it
 abbrev some_statements : Pair StatementTree (List StatementTree) → List Terminal → List Terminal
 some_statements p rest = statement_text p.first (statements_text p.second rest)
 
--- what stands behind a word statement's first target, and behind an op's first result
+-- what stands after a word statement's first target, and after an op's first result
 abbrev target_end : Option Spelling → List Terminal → List Terminal
-target_end o rest = behind_comma name_text o (t.Equals ∷ rest)
+target_end o rest = after_comma name_text o (t.Equals ∷ rest)
 
 abbrev result_end : Option ParamTree → List Terminal → List Terminal
-result_end o rest = behind_comma param_text o (t.Begins ∷ rest)
+result_end o rest = after_comma param_text o (t.Begins ∷ rest)
 
 second_target_back : (n : ℕ) → Reads (Option Spelling) target_end (SecondTarget ∷ []) n
 unfolding allowed
@@ -489,7 +489,7 @@ second_target_back zero (u ∷ ts) ws end le few h = absurd (omega arith)
 second_target_back (suc n) (t.Equals ∷ ts) ws end le few h =
     ending target_end t.Equals None ws ts end n (λ rest. refl) le h
 second_target_back (suc n) (t.Comma ∷ ts) ws end le few h =
-    behind target_end t.Comma (λ (p : Pair Spelling (Unit {0})). Some p.first) ws ts end n
+    following target_end t.Comma (λ (p : Pair Spelling (Unit {0})). Some p.first) ws ts end n
     (λ a rest. refl)
     (both NewTarget (Equals ∷ []) n (single (λ x. t.Name x) NewTarget n takes_newtarget)
     (single (λ (x : Unit {0}). t.Equals) Equals n takes_equals) ts ws end (omega (arith, le)) few h)
@@ -502,7 +502,7 @@ second_result_back zero (u ∷ ts) ws end le few h = absurd (omega arith)
 second_result_back (suc n) (t.Begins ∷ ts) ws end le few h =
     ending result_end t.Begins None ws ts end n (λ rest. refl) le h
 second_result_back (suc n) (t.Comma ∷ ts) ws end le few h =
-    behind result_end t.Comma
+    following result_end t.Comma
     (λ (p : (Pair Spelling (Pair (Unit {0}) (Pair Kind (Unit {0}))))). Some (record
     { name = p.first; kind = p.second.second.first })) ws ts end n (λ a rest. refl)
     (both NewResult (Colon ∷ ResultKind ∷ Begin
@@ -520,7 +520,7 @@ word_statement : (r : Spelling) → is_serial r ≡ false → (n : ℕ)
     → Split (Pair StatementTree (List StatementTree)) some_statements ws (t.Name r
     ∷ ts) end (suc n)
 word_statement r free n more ts ws end le few h =
-    behind some_statements (t.Name r)
+    following some_statements (t.Name r)
     (λ (p : (Pair (Option Spelling) (Pair Spelling
     (Pair (Unit {0}) (Pair (List Spelling) (Pair (Unit {0}) (List StatementTree))))))). record {
       first = Compute (record {
@@ -548,7 +548,7 @@ block : (n : ℕ) → Reads (List StatementTree) statements_text (Stmts ∷ []) 
     → Split (Pair StatementTree (List StatementTree)) some_statements ws (t.Name sp.Serial
     ∷ ts) end (suc n)
 block n more ts ws end le few h =
-    behind some_statements (t.Name sp.Serial)
+    following some_statements (t.Name sp.Serial)
     (λ (p : (Pair Bool (Pair (Unit {0}) (Pair (List StateTree)
     (Pair (Unit {0}) (Pair Lines (List StatementTree))))))). let l =
     p.second.second.second.second.first in
@@ -621,7 +621,7 @@ first_back (suc n) (t.Name r ∷ ts) ws end le few h =
     statement_back r n (stmts_back n) ts ws end (omega (arith, le)) few h
 first_back (suc n) (_ ∷ ts) ws end le few h = cc
 
--- an op, behind the word "op"
+-- an op, after the word "op"
 abbrev op_tree : (Pair Spelling (Pair (Unit {0})
     (Pair Spelling (Pair (Unit {0}) (Pair Kind
     (Pair (List ParamTree) (Pair (Unit {0}) (Pair Spelling

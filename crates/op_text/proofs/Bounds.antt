@@ -40,7 +40,8 @@ choose : (n : ℕ) (b : Bool) (h k : NameValue) → Fits n h → Fits n k → Fi
 choose n true h k f g = f
 choose n false h k f g = g
 
-changed_fit : (n : ℕ) (names : List ℕ → NameValue) (name : List ℕ) (h : NameValue) → AllFit n names → Fits n h
+changed_fit : (n : ℕ) (names : List ℕ → NameValue) (name : List ℕ) (h : NameValue)
+    → AllFit n names → Fits n h
     → AllFit n (changed names name h)
 changed_fit n names name h f g = λ m. choose n (bytes_eq m name) h (names m) g (f m)
 
@@ -103,7 +104,8 @@ body_fits n [] names h = h
 body_fits n (s ∷ body) names h = body_fits n body (after_statement n names s)
     (statement_fits n s names h)
 
-sources_fit : (n : ℕ) (ps : List Param) (values : List ℕ) (names : List ℕ → NameValue) → AllFit n names
+sources_fit : (n : ℕ) (ps : List Param) (values : List ℕ) (names : List ℕ → NameValue)
+    → AllFit n names
     → AllFit n (with_sources n names ps values)
 sources_fit n [] values names h = h
 sources_fit n (p ∷ ps) [] names h = h

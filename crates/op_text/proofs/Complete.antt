@@ -86,7 +86,7 @@ stays_refused (want ∷ ws) (u ∷ v ∷ ts) more h =
     (λ front g. stays_refused (front ++ ws) (v ∷ ts) more g) h
 
 -- What is wanted can be given: a gate's parenthesis is wanted only where it follows, an op only at
--- the bottom, and behind a value comes what cannot be a parenthesis.
+-- the bottom, and after a value comes what cannot be a parenthesis.
 abbrev pub is_stack : List Wanted → Bool
 is_stack [] = false
 is_stack (Ops ∷ []) = true
@@ -175,7 +175,7 @@ below (AssignEnd ∷ ws) h = (h, refl)
 below [] h = cc
 below (w ∷ ws) h = cc
 
--- what is wanted behind a token can be given
+-- what is wanted after a token can be given
 abbrev Keeps : Bool → List Wanted → Option (List Wanted) → Type 0
 Keeps o ws None = Unit {0}
 Keeps o ws (Some front) = is_before o (front ++ ws) ≡ true
@@ -266,7 +266,7 @@ keeps Assigns ws (t.Name n) o h = h
 keeps More ws t.Comma o h = h
 keeps _ ws _ o h = tt
 
--- the flag behind the last token
+-- the flag after the last token
 last_flag : (want : Wanted) (ws : List Wanted) (u : Terminal) (front : List Wanted)
     → is_before (is_opening u) (want ∷ ws) ≡ true → follow want u false ≡ Some front
     → follow want u (opens_terminal (finish (front ++ ws))) ≡ Some front
@@ -340,7 +340,7 @@ complete (u ∷ v ∷ ts) (want ∷ ws) end s h = on (follow want u (is_opening 
     on None k go h = cc
     on (Some front) k go h = go front k h
 
--- what is wanted behind tokens can be given
+-- what is wanted after tokens can be given
 pub stays_stack : (ts : List Terminal) (ws end : List Wanted)
     → is_before (opens_terminal ts) ws ≡ true → allowed ws ts ≡ Some end → is_stack end ≡ true
 unfolding allowed

@@ -18,8 +18,8 @@ use Rattle.op_text.specs.declared.grammar.Wanted.TheVariants.{SecondResult, Seco
 use Rattle.op_text.specs.Grammar.{allowed, opens_terminal}
 use Rattle.op_text.specs.Trees.{Tree, Trees, Nought, Unity, Leaf, Call, Last, Then, ParamTree}
 use Rattle.op_text.specs.Trees.{StateTree, EquationTree, StatementTree, Compute, Visit, OpTree}
-use Rattle.op_text.specs.Trees.{is_serial, is_let, value_text, values_text, behind_commas}
-use Rattle.op_text.specs.Trees.{behind_comma, between_commas, in_turn, kind_word, direction_word}
+use Rattle.op_text.specs.Trees.{is_serial, is_let, value_text, values_text, after_commas}
+use Rattle.op_text.specs.Trees.{after_comma, between_commas, in_turn, kind_word, direction_word}
 use Rattle.op_text.specs.Trees.{start_word}
 use Rattle.op_text.specs.Trees.{name_text, param_text, state_text, assign_text, let_text}
 use Rattle.op_text.specs.Trees.{statement_text, op_text, text_of}
@@ -65,14 +65,14 @@ result_runs p ws rest = by_kind p.kind
     by_kind Bit = refl
 
 params_run : (ps : List ParamTree) (ws : List Wanted) (rest : List Terminal)
-    → allowed (Params ∷ ws) (behind_commas param_text ps (t.Closes ∷ rest)) ≡ allowed ws rest
+    → allowed (Params ∷ ws) (after_commas param_text ps (t.Closes ∷ rest)) ≡ allowed ws rest
 unfolding allowed
 params_run [] ws rest = refl
 params_run (p ∷ ps) ws rest = param_runs p (Params
-    ∷ ws) (behind_commas param_text ps (t.Closes ∷ rest)) ∙ params_run ps ws rest
+    ∷ ws) (after_commas param_text ps (t.Closes ∷ rest)) ∙ params_run ps ws rest
 
 more_args_run : (ns : List Spelling) (ws : List Wanted) (rest : List Terminal)
-    → allowed (MoreArgs ∷ ws) (behind_commas name_text ns (t.Closes ∷ rest)) ≡ allowed ws rest
+    → allowed (MoreArgs ∷ ws) (after_commas name_text ns (t.Closes ∷ rest)) ≡ allowed ws rest
 unfolding allowed
 more_args_run [] ws rest = refl
 more_args_run (n ∷ ns) ws rest = more_args_run ns ws rest
@@ -90,18 +90,18 @@ state_runs true ws rest = refl
 state_runs false ws rest = refl
 
 more_states_run : (ss : List StateTree) (ws : List Wanted) (rest : List Terminal)
-    → allowed (MoreStates ∷ ws) (behind_commas state_text ss (t.Closes ∷ rest)) ≡ allowed ws rest
+    → allowed (MoreStates ∷ ws) (after_commas state_text ss (t.Closes ∷ rest)) ≡ allowed ws rest
 unfolding allowed
 more_states_run [] ws rest = refl
 more_states_run (s ∷ ss) ws rest = state_runs s.start (MoreStates
-    ∷ ws) (behind_commas state_text ss (t.Closes ∷ rest)) ∙ more_states_run ss ws rest
+    ∷ ws) (after_commas state_text ss (t.Closes ∷ rest)) ∙ more_states_run ss ws rest
 
 states_run : (ss : List StateTree) (ws : List Wanted) (rest : List Terminal)
     → allowed (States ∷ ws) (between_commas state_text ss (t.Closes ∷ rest)) ≡ allowed ws rest
 unfolding allowed
 states_run [] ws rest = refl
 states_run (s ∷ ss) ws rest = state_runs s.start (MoreStates
-    ∷ ws) (behind_commas state_text ss (t.Closes ∷ rest)) ∙ more_states_run ss ws rest
+    ∷ ws) (after_commas state_text ss (t.Closes ∷ rest)) ∙ more_states_run ss ws rest
 
 assigns_run : (es : List EquationTree) (ws : List Wanted) (rest : List Terminal)
     → allowed (Assigns ∷ ws) (in_turn assign_text es (t.Finishes ∷ rest)) ≡ allowed ws rest
@@ -145,13 +145,13 @@ target_runs sp.Serial h ws rest = cc
 target_runs _ h ws rest = refl
 
 second_target_runs : (o : Option Spelling) (ws : List Wanted) (rest : List Terminal)
-    → allowed (SecondTarget ∷ ws) (behind_comma name_text o (t.Equals ∷ rest)) ≡ allowed ws rest
+    → allowed (SecondTarget ∷ ws) (after_comma name_text o (t.Equals ∷ rest)) ≡ allowed ws rest
 unfolding allowed
 second_target_runs None ws rest = refl
 second_target_runs (Some n) ws rest = refl
 
 second_result_runs : (o : Option ParamTree) (ws : List Wanted) (rest : List Terminal)
-    → allowed (SecondResult ∷ ws) (behind_comma param_text o (t.Begins ∷ rest)) ≡ allowed ws rest
+    → allowed (SecondResult ∷ ws) (after_comma param_text o (t.Begins ∷ rest)) ≡ allowed ws rest
 unfolding allowed
 second_result_runs None ws rest = refl
 second_result_runs (Some p) ws rest = result_runs p (Begin ∷ ws) (t.Begins ∷ rest)
@@ -162,7 +162,7 @@ unfolding allowed
 statement_runs (Compute w) ws rest =
     let d = t.Name w.operation ∷ t.Opens
     ∷ between_commas name_text w.args (t.Closes ∷ t.Semi ∷ rest) in
-    target_runs w.target w.free ws (behind_comma name_text w.second (t.Equals ∷ d))
+    target_runs w.target w.free ws (after_comma name_text w.second (t.Equals ∷ d))
     ∙ second_target_runs w.second (WordOpName ∷ Open ∷ Args ∷ WordEnd ∷ Stmts ∷ ws) d
     ∙ args_run w.args (WordEnd ∷ Stmts ∷ ws) (t.Semi ∷ rest)
 statement_runs (Visit b) ws rest =
@@ -195,9 +195,9 @@ unfolding allowed
 op_runs op rest =
     let b = statement_text op.statement
     (in_turn statement_text op.statements (t.Finishes ∷ rest)) in
-    let d = behind_comma param_text op.second (t.Begins ∷ b) in
+    let d = after_comma param_text op.second (t.Begins ∷ b) in
     param_runs op.source (Params ∷ Arrow ∷ NewResult ∷ Colon ∷ ResultKind ∷ SecondResult
-    ∷ FirstStmt ∷ Ops ∷ []) (behind_commas param_text op.sources (t.Closes ∷ t.Arrow
+    ∷ FirstStmt ∷ Ops ∷ []) (after_commas param_text op.sources (t.Closes ∷ t.Arrow
     ∷ param_text op.result d))
     ∙ params_run op.sources (Arrow ∷ NewResult ∷ Colon ∷ ResultKind ∷ SecondResult ∷ FirstStmt
     ∷ Ops ∷ []) (t.Arrow ∷ param_text op.result d)

@@ -241,11 +241,11 @@ unflag Arrow t.Zero o h = h
 unflag Equals t.Zero o h = h
 unflag _ _ o h = h
 
-flag_is : (before : List Lexeme) (token : Lexeme) (behind : List Item)
+flag_is : (before : List Lexeme) (token : Lexeme) (following : List Item)
     → opens_terminal (terminals_of (before ++ token ∷ []))
-    ≡ opens (whole before ++ (Whole token ∷ behind))
-flag_is [] token behind = refl
-flag_is (u ∷ before) token behind = refl
+    ≡ opens (whole before ++ (Whole token ∷ following))
+flag_is [] token following = refl
+flag_is (u ∷ before) token following = refl
 
 flag_whole : (ts : List Lexeme) → opens_terminal (terminals_of ts) ≡ opens (whole ts)
 flag_whole [] = refl
@@ -255,16 +255,16 @@ flag_whole (u ∷ ts) = refl
 data Seen (ws : List Wanted) : List Item → Option Breach → Type 0 where
   Ended : (ts : List Lexeme) (end : List Wanted) → allowed ws (terminals_of ts) ≡ Some end
       → Seen ws (whole ts) (ends end)
-  Wrong' : (before : List Lexeme) (token : Lexeme) (behind : List Item)
+  Wrong' : (before : List Lexeme) (token : Lexeme) (following : List Item)
       → (allowed ws (terminals_of before) ≡ None → ⊥)
       → allowed ws (terminals_of (before ++ token ∷ [])) ≡ None
-      → Seen ws (whole before ++ (Whole token ∷ behind)) (Some (at_token token Syntax))
-  Strange' : (before : List Lexeme) (f : LexFault) (behind : List Item)
+      → Seen ws (whole before ++ (Whole token ∷ following)) (Some (at_token token Syntax))
+  Strange' : (before : List Lexeme) (f : LexFault) (following : List Item)
       → (allowed ws (terminals_of before) ≡ None → ⊥)
-      → Seen ws (whole before ++ (Bad f ∷ behind)) (Some (at_byte f))
-  Broken' : (before : List Lexeme) (token : Lexeme) (behind : List Item) (kind : OpsKind)
+      → Seen ws (whole before ++ (Bad f ∷ following)) (Some (at_byte f))
+  Broken' : (before : List Lexeme) (token : Lexeme) (following : List Item) (kind : OpsKind)
       → is_other kind ≡ true → (allowed ws (terminals_of (before ++ token ∷ [])) ≡ None → ⊥)
-      → Seen ws (whole before ++ (Whole token ∷ behind)) (Some (at_token token kind))
+      → Seen ws (whole before ++ (Whole token ∷ following)) (Some (at_token token kind))
 
 -- a token alone is allowed where it is before what follows
 alone : (want : Wanted) (ws : List Wanted) (u : Terminal) (o : Bool) (front : List Wanted)
@@ -277,7 +277,7 @@ alone want ws u o front e h = none_here (follow want u false) refl h
     none_here None k g = let k' = flagless want u o k in cc
     none_here (Some x) k g = cc
 
--- tokens behind one are allowed where they are with it
+-- tokens after one are allowed where they are with it
 more_good : (want : Wanted) (ws : List Wanted) (u : Lexeme) (ts : List Lexeme) (o : Bool)
     (front : List Wanted) → follow want (terminal_of u.kind u.text) o ≡ Some front
     → ((v : Lexeme) (vs : List Lexeme) → ts ≡ v ∷ vs → opens_terminal (terminals_of ts) ≡ o)
@@ -293,14 +293,16 @@ goes_on : (want : Wanted) (ws : List Wanted) (u : Lexeme) (items : List Item)
     → Seen (front ++ ws) items found → Seen (want ∷ ws) (Whole u ∷ items) found
 unfolding allowed
 goes_on want ws u _ front _ e (Ended ts end h) = Ended (u ∷ ts) end (rw (flag_whole ts, e) h)
-goes_on want ws u _ front _ e (Wrong' before token behind g b) =
-    Wrong' (u ∷ before) token behind (more_good want ws u before _ front e (λ v vs i. rw i refl) g)
-    (rw (flag_is before token behind, e) b)
-goes_on want ws u _ front _ e (Strange' before f behind g) =
-    Strange' (u ∷ before) f behind (more_good want ws u before _ front e (λ v vs i. rw i refl) g)
-goes_on want ws u _ front _ e (Broken' before token behind kind o g) =
-    Broken' (u ∷ before) token behind kind o (more_good want ws u (before ++ token ∷ []) _ front e
-    (λ v vs i. flag_is before token behind) g)
+goes_on want ws u _ front _ e (Wrong' before token following g b) =
+    Wrong' (u ∷ before) token following (more_good want ws u before _ front e (λ v vs i. rw i refl)
+    g)
+    (rw (flag_is before token following, e) b)
+goes_on want ws u _ front _ e (Strange' before f following g) =
+    Strange' (u ∷ before) f following (more_good want ws u before _ front e (λ v vs i. rw i refl) g)
+goes_on want ws u _ front _ e (Broken' before token following kind o g) =
+    Broken' (u ∷ before) token following kind o (more_good want ws u (before ++ token
+    ∷ []) _ front e
+    (λ v vs i. flag_is before token following) g)
 
 -- one token, by what the grammar and the rules say of it
 one : (want : Wanted) (ws : List Wanted) (s : Scope) (u : Lexeme) (items : List Item)
@@ -367,11 +369,11 @@ finds : (items : List Item) (found : Option Breach) → Seen (Ops ∷ []) items 
     → BreaksRule items found ⊎ GrammarFinds items found
 finds _ _ (Ended ts end e) = inr (at_ends ts end e (stays_stack (terminals_of ts) (Ops ∷ []) end
     refl e))
-finds _ _ (Wrong' before token behind g b) =
-    inr (Wrong before token behind (good _ g) (bad _ b))
-finds _ _ (Strange' before f behind g) = inr (Strange before f behind (good _ g))
-finds _ _ (Broken' before token behind kind o g) =
-    inl (Broken before token behind kind o (good _ g))
+finds _ _ (Wrong' before token following g b) =
+    inr (Wrong before token following (good _ g) (bad _ b))
+finds _ _ (Strange' before f following g) = inr (Strange before f following (good _ g))
+finds _ _ (Broken' before token following kind o g) =
+    inl (Broken before token following kind o (good _ g))
 
 -- what the grammar's steps find, with no other rule
 abbrev on_follow : Option (List Wanted) → Lexeme → (List Wanted → Option Breach) → Option Breach
@@ -403,7 +405,7 @@ ended (u ∷ ts) (w ∷ ws) end h = rw (← flag_whole ts)
     on None k h = cc
     on (Some front) k h = k front h
 
--- the tokens behind one that is allowed are allowed where they are with it
+-- the tokens after one that is allowed are allowed where they are with it
 fewer_good : (w : Wanted) (ws : List Wanted) (u : Lexeme) (ts : List Lexeme) (o : Bool)
     (front : List Wanted) → follow w (terminal_of u.kind u.text) o ≡ Some front
     → ((v : Lexeme) (vs : List Lexeme) → ts ≡ v ∷ vs → opens_terminal (terminals_of ts) ≡ o)
@@ -422,54 +424,55 @@ unfolding allowed
 refused_alone w ws u [] o e f = rw (unflag w (terminal_of u.kind u.text) o e) refl
 refused_alone w ws u (v ∷ vs) o e f = rw (f v vs refl, e) refl
 
-wrong : (before : List Lexeme) (token : Lexeme) (behind : List Item) (ws : List Wanted)
+wrong : (before : List Lexeme) (token : Lexeme) (following : List Item) (ws : List Wanted)
     → (allowed ws (terminals_of before) ≡ None → ⊥)
     → allowed ws (terminals_of (before ++ token ∷ [])) ≡ None
-    → grammar_breach ws (whole before ++ (Whole token ∷ behind)) ≡ Some (at_token token Syntax)
+    → grammar_breach ws (whole before ++ (Whole token ∷ following)) ≡ Some (at_token token Syntax)
 unfolding allowed grammar_breach
-wrong [] token behind [] g b = refl
-wrong [] token behind (w ∷ ws) g b =
-    rw (flagless w (terminal_of token.kind token.text) (opens behind)
+wrong [] token following [] g b = refl
+wrong [] token following (w ∷ ws) g b =
+    rw (flagless w (terminal_of token.kind token.text) (opens following)
     (none_first (follow w (terminal_of token.kind token.text) false) b)) refl
   where
     none_first : (o : Option (List Wanted)) → option_and_then (λ front. Some (front ++ ws)) o ≡ None
         → o ≡ None
     none_first None h = refl
     none_first (Some x) h = cc
-wrong (u ∷ before) token behind [] g b = absurd (g refl)
-wrong (u ∷ before) token behind (w ∷ ws) g b =
-    on (follow w (terminal_of u.kind u.text) (opens (whole before ++ (Whole token ∷ behind)))) refl
-    (λ front h. wrong before token behind (front ++ ws) h)
+wrong (u ∷ before) token following [] g b = absurd (g refl)
+wrong (u ∷ before) token following (w ∷ ws) g b =
+    on (follow w (terminal_of u.kind u.text) (opens (whole before ++ (Whole token
+    ∷ following)))) refl
+    (λ front h. wrong before token following (front ++ ws) h)
   where
     on : (o : Option (List Wanted)) → follow w (terminal_of u.kind u.text)
-        (opens (whole before ++ (Whole token ∷ behind))) ≡ o
+        (opens (whole before ++ (Whole token ∷ following))) ≡ o
         → ((front : List Wanted) → (allowed (front ++ ws) (terminals_of before) ≡ None → ⊥)
         → allowed (front ++ ws) (terminals_of (before ++ token ∷ [])) ≡ None
-        → grammar_breach (front ++ ws) (whole before ++ (Whole token ∷ behind))
+        → grammar_breach (front ++ ws) (whole before ++ (Whole token ∷ following))
         ≡ Some (at_token token Syntax))
         → on_follow o u (λ front. grammar_breach (front ++ ws) (whole before
-        ++ (Whole token ∷ behind))) ≡ Some (at_token token Syntax)
+        ++ (Whole token ∷ following))) ≡ Some (at_token token Syntax)
     on None e k = absurd (g (refused_alone w ws u before _ e (λ v vs i. rw i refl)))
     on (Some front) e k =
         k front (fewer_good w ws u before _ front e (λ v vs i. rw i refl) g)
-        (rw (flag_is before token behind, e) at b)
+        (rw (flag_is before token following, e) at b)
 
-strange : (before : List Lexeme) (f : LexFault) (behind : List Item) (ws : List Wanted)
+strange : (before : List Lexeme) (f : LexFault) (following : List Item) (ws : List Wanted)
     → (allowed ws (terminals_of before) ≡ None → ⊥)
-    → grammar_breach ws (whole before ++ (Bad f ∷ behind)) ≡ Some (at_byte f)
+    → grammar_breach ws (whole before ++ (Bad f ∷ following)) ≡ Some (at_byte f)
 unfolding allowed grammar_breach
-strange [] f behind ws g = refl
-strange (u ∷ before) f behind [] g = absurd (g refl)
-strange (u ∷ before) f behind (w ∷ ws) g =
-    on (follow w (terminal_of u.kind u.text) (opens (whole before ++ (Bad f ∷ behind)))) refl
-    (λ front h. strange before f behind (front ++ ws) h)
+strange [] f following ws g = refl
+strange (u ∷ before) f following [] g = absurd (g refl)
+strange (u ∷ before) f following (w ∷ ws) g =
+    on (follow w (terminal_of u.kind u.text) (opens (whole before ++ (Bad f ∷ following)))) refl
+    (λ front h. strange before f following (front ++ ws) h)
   where
     on : (o : Option (List Wanted)) → follow w (terminal_of u.kind u.text)
-        (opens (whole before ++ (Bad f ∷ behind))) ≡ o
+        (opens (whole before ++ (Bad f ∷ following))) ≡ o
         → ((front : List Wanted) → (allowed (front ++ ws) (terminals_of before) ≡ None → ⊥)
-        → grammar_breach (front ++ ws) (whole before ++ (Bad f ∷ behind)) ≡ Some (at_byte f))
+        → grammar_breach (front ++ ws) (whole before ++ (Bad f ∷ following)) ≡ Some (at_byte f))
         → on_follow o u (λ front. grammar_breach (front ++ ws) (whole before
-        ++ (Bad f ∷ behind))) ≡ Some (at_byte f)
+        ++ (Bad f ∷ following))) ≡ Some (at_byte f)
     on None e k = absurd (g (refused_alone w ws u before _ e (λ v vs i. rw i refl)))
     on (Some front) e k = k front (fewer_good w ws u before _ front e (λ v vs i. rw i refl) g)
 
@@ -492,11 +495,11 @@ is_found : (items : List Item) (found : Option Breach) → GrammarFinds items fo
 is_found _ _ (Text ts b) =
     ended ts (Ops ∷ []) (Ops ∷ []) ((is_the_grammar.accepts (terminals_of ts)).1 b)
 is_found _ _ (CutShort ts v n) = cut ts (allowed (Ops ∷ []) (terminals_of ts)) refl v n
-is_found _ _ (Wrong before token behind v n) =
-    wrong before token behind (Ops ∷ []) (good_back (terminals_of before) v)
+is_found _ _ (Wrong before token following v n) =
+    wrong before token following (Ops ∷ []) (good_back (terminals_of before) v)
     (bad_back (terminals_of (before ++ token ∷ [])) n)
-is_found _ _ (Strange before f behind v) =
-    strange before f behind (Ops ∷ []) (good_back (terminals_of before) v)
+is_found _ _ (Strange before f following v) =
+    strange before f following (Ops ∷ []) (good_back (terminals_of before) v)
 
 pub syntax_is_the_grammars : (items : List Item) → SyntaxIsTheGrammars items
 syntax_is_the_grammars items = record {

@@ -57,12 +57,12 @@ kind_shows kinds.Symbol (b ∷ d ∷ e ∷ bs) h = cc
 bare_one : (u : Lexeme) → kind_of_text u.text ≡ u.kind → bare (Whole u) ≡ unplaced u.text
 bare_one u e = rw e refl
 
--- behind a token that breaks no rule
-behind : (r : Result (List Wanted × Scope) OpsKind) (u : Lexeme) (go : List Wanted → Scope
+-- after a token that breaks no rule
+following : (r : Result (List Wanted × Scope) OpsKind) (u : Lexeme) (go : List Wanted → Scope
     → Option Breach) (P : Type 0) → ((f : List Wanted) (s : Scope) → go f s ≡ None → P)
     → after r u go ≡ None → P
-behind (Ok r) u go P f h = f r.0 r.1 h
-behind (Err why) u go P f h = cc
+following (Ok r) u go P f h = f r.0 r.1 h
+following (Err why) u go P f h = cc
 
 bare_all : (source : List ℕ) (items : List Item) (wanted : List Wanted) (s : Scope)
     → AllByRecursion (IsRight source) items → breach_of wanted s items ≡ None
@@ -72,7 +72,7 @@ bare_all source [] wanted s a h = refl
 bare_all source (Bad f ∷ items) wanted s a h = cc
 bare_all source (Whole u ∷ items) [] s a h = cc
 bare_all source (Whole u ∷ items) (w ∷ wanted) s a h =
-    behind (step w s (terminal_of u.kind u.text) u.text (opens items)) u
+    following (step w s (terminal_of u.kind u.text) u.text (opens items)) u
     (λ front s'. breach_of (front ++ wanted) s' items) (map bare (Whole u ∷ items)
     ≡ items_spelled (texts (Whole u ∷ items)))
     (λ front s' g. ap (λ i. i ∷ map bare items) (bare_one u (kind_shows u.kind u.text a.0.1))

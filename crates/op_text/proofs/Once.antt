@@ -9,10 +9,10 @@ use Rattle.op_text.specs.declared.tree.State.{State}
 use Rattle.op_text.specs.declared.word_ops.WordOp.{WordOp}
 use Rattle.op_text.specs.WordOps.{op_text, op_named}
 use Rattle.op_text.specs.Language.{Equation, Block, Compute, Visit, Operation}
-use Rattle.op_text.specs.Spelling.{IsShut, behind_commas, between_commas}
+use Rattle.op_text.specs.Spelling.{IsShut, after_commas, between_commas}
 use Rattle.op_text.specs.Spelling.{in_turn, kind_text, direction_text, start_text, name_text}
 use Rattle.op_text.specs.Spelling.{param_text, state_text, equation_text, let_text, statement_text}
-use Rattle.op_text.specs.Spelling.{behind_comma, operation_text, IsName, HasParam, HasState}
+use Rattle.op_text.specs.Spelling.{after_comma, operation_text, IsName, HasParam, HasState}
 use Rattle.op_text.specs.Spelling.{IfThere}
 use Rattle.op_text.specs.Spelling.{HasEquation, HasStatement, HasOperation, Each, OpsSpelledOnce}
 use Rattle.op_text.proofs.Rows.{op_is_named}
@@ -107,17 +107,17 @@ cons_is : {A : Type 0} (a b : A) (x y : List A) → a ≡ b → x ≡ y → a �
 cons_is a b x y e f = rw (e, f) refl
 
 -- parts with commas, up to a parenthesis
-behind_once : {A : Type 0} (spell : A → List (List ℕ) → List (List ℕ)) (ok : A → Type 0)
+after_once : {A : Type 0} (spell : A → List (List ℕ) → List (List ℕ)) (ok : A → Type 0)
     → Once spell ok → (xs ys : List A) (x y : List (List ℕ)) → Each ok xs → Each ok ys
-    → behind_commas spell xs (codes ")" ∷ x) ≡ behind_commas spell ys (codes ")" ∷ y)
+    → after_commas spell xs (codes ")" ∷ x) ≡ after_commas spell ys (codes ")" ∷ y)
     → (xs ≡ ys) × (x ≡ y)
-behind_once spell ok once [] [] x y f g e = (refl, tails (codes ")") (codes ")") x y e)
-behind_once spell ok once [] (b ∷ ys) x y f g e = absurd (omega (arith, ap first e))
-behind_once spell ok once (a ∷ xs) [] x y f g e = absurd (omega (arith, ap first e))
-behind_once spell ok once (a ∷ xs) (b ∷ ys) x y f g e =
-    let h = once a b (behind_commas spell xs (codes ")" ∷ x))
-    (behind_commas spell ys (codes ")" ∷ y)) f.0 g.0 (tails (codes ",") (codes ",") _ _ e) in
-    let k = behind_once spell ok once xs ys x y f.1 g.1 h.1 in
+after_once spell ok once [] [] x y f g e = (refl, tails (codes ")") (codes ")") x y e)
+after_once spell ok once [] (b ∷ ys) x y f g e = absurd (omega (arith, ap first e))
+after_once spell ok once (a ∷ xs) [] x y f g e = absurd (omega (arith, ap first e))
+after_once spell ok once (a ∷ xs) (b ∷ ys) x y f g e =
+    let h = once a b (after_commas spell xs (codes ")" ∷ x))
+    (after_commas spell ys (codes ")" ∷ y)) f.0 g.0 (tails (codes ",") (codes ",") _ _ e) in
+    let k = after_once spell ok once xs ys x y f.1 g.1 h.1 in
     (cons_is a b xs ys h.0 k.0, k.1)
 
 -- a part that doesn't begin with a parenthesis
@@ -133,9 +133,9 @@ between_once spell ok once opens [] [] x y f g e = (refl, tails (codes ")") (cod
 between_once spell ok once opens [] (b ∷ ys) x y f g e = absurd (opens b _ x g.0 (sym e))
 between_once spell ok once opens (a ∷ xs) [] x y f g e = absurd (opens a _ y f.0 e)
 between_once spell ok once opens (a ∷ xs) (b ∷ ys) x y f g e =
-    let h = once a b (behind_commas spell xs (codes ")" ∷ x))
-    (behind_commas spell ys (codes ")" ∷ y)) f.0 g.0 e in
-    let k = behind_once spell ok once xs ys x y f.1 g.1 h.1 in
+    let h = once a b (after_commas spell xs (codes ")" ∷ x))
+    (after_commas spell ys (codes ")" ∷ y)) f.0 g.0 e in
+    let k = after_once spell ok once xs ys x y f.1 g.1 h.1 in
     (cons_is a b xs ys h.0 k.0, k.1)
 
 name_opens : Opens name_text IsName
@@ -182,11 +182,11 @@ compute_is : (m n : List ℕ) (c d : Option (List ℕ)) (p q : WordOp) (a b : Li
     → c ≡ d → p ≡ q → a ≡ b → Compute m c p a ≡ Compute n d q b
 compute_is m n c d p q a b e h f g = rw (e, h, f, g) refl
 
--- a part behind a comma, up to a mark that is another
+-- a part after a comma, up to a mark that is another
 comma_once : {A : Type 0} (spell : A → List (List ℕ) → List (List ℕ)) (ok : A → Type 0)
     → Once spell ok → (end : List ℕ) → (codes "," ≡ end → ⊥) → (a b : Option A)
     (x y : List (List ℕ)) → IfThere ok a → IfThere ok b
-    → behind_comma spell a (end ∷ x) ≡ behind_comma spell b (end ∷ y) → (a ≡ b) × (x ≡ y)
+    → after_comma spell a (end ∷ x) ≡ after_comma spell b (end ∷ y) → (a ≡ b) × (x ≡ y)
 comma_once spell ok once end other None None x y f g e = (refl, tails end end x y e)
 comma_once spell ok once end other None (Some b) x y f g e =
     absurd (other (sym (heads end (codes ",") x (spell b (end ∷ y)) e)))
@@ -202,9 +202,9 @@ comma_equals e = omega (arith, ap (λ x. first (x ∷ [])) e)
 comma_begins : codes "," ≡ codes "{" → ⊥
 comma_begins e = omega (arith, ap (λ x. first (x ∷ [])) e)
 
--- behind a word statement's first target stands a comma or "="
+-- after a word statement's first target stands a comma or "="
 no_target : (down : Bool) (c : Option (List ℕ)) (x y : List (List ℕ))
-    → behind_comma name_text c (codes "=" ∷ x) ≡ direction_text down ∷ y → ⊥
+    → after_comma name_text c (codes "=" ∷ x) ≡ direction_text down ∷ y → ⊥
 no_target true None x y e = omega (arith, ap first e)
 no_target false None x y e = omega (arith, ap first e)
 no_target true (Some n) x y e = omega (arith, ap first e)

@@ -20,8 +20,8 @@ comma_shut x y e = omega (arith, ap first e)
 no_digit_name : (n d : List ℕ) → n ≡ d → fits_name n ≡ true → fits_name d ≡ false → ⊥
 no_digit_name n d e h k = let h' = rw e at h in cc
 
-behind : (g h : List ℕ) (s t : List (List ℕ)) → g ∷ h ∷ s ≡ g ∷ h ∷ t → s ≡ t
-behind g h s t e = cc
+following : (g h : List ℕ) (s t : List (List ℕ)) → g ∷ h ∷ s ≡ g ∷ h ∷ t → s ≡ t
+following g h s t e = cc
 
 next : (g : List ℕ) (s t : List (List ℕ)) → g ∷ s ≡ g ∷ t → s ≡ t
 next g s t e = cc
@@ -62,7 +62,7 @@ spelled_once (Negation a) Unity x y f g h k e = absurd (omega (arith, ap first e
 spelled_once (Negation a) (Named np) x y f g h k e = absurd (k (term_text a (codes ")" ∷ x)) (cc))
 spelled_once (Negation a) (Negation a') x y f g h k e =
     let i0 = spelled_once a a' (codes ")" ∷ x) (codes ")" ∷ y) f g (close_shut _) (close_shut _)
-    (behind (codes "not") (codes "(") _ _ e) in
+    (following (codes "not") (codes "(") _ _ e) in
     (ap (λ (m : Term). Negation m) i0.0, next _ _ _ i0.1)
 spelled_once (Negation a) (Conjunction a' b') x y f g h k e = absurd (omega (arith, ap first e))
 spelled_once (Negation a) (Disjunction a' b') x y f g h k e = absurd (omega (arith, ap first e))
@@ -76,7 +76,7 @@ spelled_once (Conjunction a b) (Negation a') x y f g h k e = absurd (omega (arit
 spelled_once (Conjunction a b) (Conjunction a' b') x y f g h k e =
     let i0 = spelled_once a a' (codes "," ∷ term_text b (codes ")" ∷ x)) (codes ","
     ∷ term_text b' (codes ")" ∷ y)) f.0 g.0 (comma_shut _) (comma_shut _)
-    (behind (codes "and") (codes "(") _ _ e) in
+    (following (codes "and") (codes "(") _ _ e) in
     let i1 = spelled_once b b' (codes ")" ∷ x) (codes ")" ∷ y) f.1 g.1 (close_shut _) (close_shut _)
     (next _ _ _ i0.1) in (
       ap (λ (m : Term). Conjunction m b) i0.0 ∙ ap (λ (m : Term). Conjunction a' m) i1.0,
@@ -97,7 +97,7 @@ spelled_once (Disjunction a b) (Conjunction a' b') x y f g h k e =
 spelled_once (Disjunction a b) (Disjunction a' b') x y f g h k e =
     let i0 = spelled_once a a' (codes "," ∷ term_text b (codes ")" ∷ x)) (codes ","
     ∷ term_text b' (codes ")" ∷ y)) f.0 g.0 (comma_shut _) (comma_shut _)
-    (behind (codes "or") (codes "(") _ _ e) in
+    (following (codes "or") (codes "(") _ _ e) in
     let i1 = spelled_once b b' (codes ")" ∷ x) (codes ")" ∷ y) f.1 g.1 (close_shut _) (close_shut _)
     (next _ _ _ i0.1) in (
       ap (λ (m : Term). Disjunction m b) i0.0 ∙ ap (λ (m : Term). Disjunction a' m) i1.0,
@@ -116,7 +116,7 @@ spelled_once (Parity a b) (Disjunction a' b') x y f g h k e = absurd (omega (ari
 spelled_once (Parity a b) (Parity a' b') x y f g h k e =
     let i0 = spelled_once a a' (codes "," ∷ term_text b (codes ")" ∷ x)) (codes ","
     ∷ term_text b' (codes ")" ∷ y)) f.0 g.0 (comma_shut _) (comma_shut _)
-    (behind (codes "xor") (codes "(") _ _ e) in
+    (following (codes "xor") (codes "(") _ _ e) in
     let i1 = spelled_once b b' (codes ")" ∷ x) (codes ")" ∷ y) f.1 g.1 (close_shut _) (close_shut _)
     (next _ _ _ i0.1) in
     (ap (λ (m : Term). Parity m b) i0.0 ∙ ap (λ (m : Term). Parity a' m) i1.0, next _ _ _ i1.1)
@@ -133,7 +133,7 @@ spelled_once (Majority a b c) (Parity a' b') x y f g h k e = absurd (omega (arit
 spelled_once (Majority a b c) (Majority a' b' c') x y f g h k e =
     let i0 = spelled_once a a' (codes "," ∷ term_text b (codes "," ∷ term_text c (codes ")" ∷ x)))
     (codes "," ∷ term_text b' (codes "," ∷ term_text c' (codes ")" ∷ y))) f.0 g.0 (comma_shut _)
-    (comma_shut _) (behind (codes "maj") (codes "(") _ _ e) in
+    (comma_shut _) (following (codes "maj") (codes "(") _ _ e) in
     let i1 = spelled_once b b' (codes "," ∷ term_text c (codes ")" ∷ x)) (codes ","
     ∷ term_text c' (codes ")" ∷ y)) f.1 g.1 (comma_shut _) (comma_shut _) (next _ _ _ i0.1) in
     let i2 = spelled_once c c' (codes ")" ∷ x) (codes ")" ∷ y) f.2 g.2 (close_shut _) (close_shut _)

@@ -18,12 +18,12 @@ use Rattle.op_text.specs.declared.terminal.Terminal.TheVariants as t
 use Rattle.op_text.specs.declared.terminal.Spelling.{Spelling}
 use Rattle.op_text.specs.declared.terminal.Spelling.TheVariants as sp
 
--- a statement, behind its first token
+-- a statement, after its first token
 abbrev pub statement : Spelling → List Wanted
 statement sp.Serial = Direction ∷ Open ∷ States ∷ Begin ∷ Lets ∷ Stmts ∷ []
 statement n = SecondTarget ∷ WordOpName ∷ Open ∷ Args ∷ WordEnd ∷ Stmts ∷ []
 
--- a line of a block, behind its first token
+-- a line of a block, after its first token
 abbrev pub let_or_assign : Spelling → List Wanted
 let_or_assign sp.Let = LetName ∷ Equals ∷ Value ∷ LetEnd ∷ Lets ∷ []
 let_or_assign n = Equals ∷ Value ∷ AssignEnd ∷ Assigns ∷ []
@@ -43,7 +43,7 @@ direction_word sp.Up = Some []
 direction_word sp.Down = Some []
 direction_word n = None
 
--- What the grammar asks for behind a token, before all that it asked for later; or none, where it
+-- What the grammar asks for after a token, before all that it asked for later; or none, where it
 -- does not allow the token. The flag says whether an opening parenthesis follows.
 abbrev pub follow : Wanted → Terminal → Bool → Option (List Wanted)
 follow Ops (t.Name n) o = op_word n
@@ -100,7 +100,7 @@ abbrev pub opens_terminal : List Terminal → Bool
 opens_terminal [] = false
 opens_terminal (u ∷ ts) = is_opening u
 
--- What the grammar still asks for behind tokens; or none, where one is not allowed.
+-- What the grammar still asks for after tokens; or none, where one is not allowed.
 unfoldable pub allowed : List Wanted → List Terminal → Option (List Wanted)
 allowed wanted [] = Some wanted
 allowed [] (u ∷ ts) = None

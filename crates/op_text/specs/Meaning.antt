@@ -58,7 +58,7 @@ bit_read i h = elim h.kind [
 abbrev pub bit_written : ℕ → NameValue → Bool → NameValue
 bit_written i h b = record h { bits = elim h.kind [ Word ↦ slice_set h.bits i b | Bit ↦ b ∷ [] ] }
 
--- each let names its expression's value, for those behind it
+-- each let names its expression's value, for those after it
 abbrev pub with_lets : (List ℕ → Bool) → List Equation → List ℕ → Bool
 with_lets r [] = r
 with_lets r (e ∷ es) = with_lets (changed r e.name (term_bit r e.value)) es
@@ -135,11 +135,11 @@ with_sources n names (p ∷ ps) [] = names
 with_sources n names (p ∷ ps) (v ∷ values) = with_sources n
     (changed names p.name (holding n p.kind v)) ps values
 
--- the names behind these statements
+-- the names after these statements
 abbrev pub after_body : ℕ → List Statement → (List ℕ → NameValue) → List ℕ → NameValue
 after_body n body names = fold (after_statement n) names body
 
--- what names hold behind an op, from the sources' numbers
+-- what names hold after an op, from the sources' numbers
 abbrev pub after_op : Operation → ℕ → List ℕ → List ℕ → NameValue
 after_op op n values = after_body n op.body (with_sources n holds_nothing op.params values)
 

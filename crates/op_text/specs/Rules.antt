@@ -258,7 +258,7 @@ abbrev pub argument_rules : Scope → Spelling → List ℕ → Result Scope Ops
 argument_rules s n text = unless (is_bad n text) BadName
     (argument_of_kind s (kind_among s.op.defined text))
 
--- "," behind an argument, and ")"
+-- "," after an argument, and ")"
 abbrev pub another_argument : Scope → Result Scope OpsKind
 another_argument s =
     unless (not (list_any (λ f. is_part (lacks s.word.given f.takes)) (forms s.word.operation)))
@@ -439,7 +439,7 @@ kind_of_word sp.Word = Word
 kind_of_word n = Bit
 
 -- The rules other than the grammar's at a token that the grammar allows: the first that it breaks,
--- in the order of their numbers, or the scope behind it.
+-- in the order of their numbers, or the scope after it.
 abbrev pub rules_at : Wanted → Scope → Terminal → List ℕ → Bool → Result Scope OpsKind
 rules_at Ops s (t.Name n) text o = unless (nat_le MAX_OPS (length s.ops)) TooMany (Ok s)
 rules_at NewOp s (t.Name n) text o = op_rules s n text

@@ -114,20 +114,20 @@ SpelledOnce = (a b : Term) (x y : List (List ℕ)) → HasNames a → HasNames b
 
 -- parts with a comma before each, parts with commas between them, a part that may be there, and
 -- parts one after the other
-abbrev pub behind_commas : {A : Type 0} → (A → List (List ℕ) → List (List ℕ)) → List A
+abbrev pub after_commas : {A : Type 0} → (A → List (List ℕ) → List (List ℕ)) → List A
     → List (List ℕ) → List (List ℕ)
-behind_commas text [] rest = rest
-behind_commas text (a ∷ more) rest = codes "," ∷ text a (behind_commas text more rest)
+after_commas text [] rest = rest
+after_commas text (a ∷ more) rest = codes "," ∷ text a (after_commas text more rest)
 
 abbrev pub between_commas : {A : Type 0} → (A → List (List ℕ) → List (List ℕ)) → List A
     → List (List ℕ) → List (List ℕ)
 between_commas text [] rest = rest
-between_commas text (a ∷ more) rest = text a (behind_commas text more rest)
+between_commas text (a ∷ more) rest = text a (after_commas text more rest)
 
-abbrev pub behind_comma : {A : Type 0} → (A → List (List ℕ) → List (List ℕ)) → Option A
+abbrev pub after_comma : {A : Type 0} → (A → List (List ℕ) → List (List ℕ)) → Option A
     → List (List ℕ) → List (List ℕ)
-behind_comma text None rest = rest
-behind_comma text (Some a) rest = codes "," ∷ text a rest
+after_comma text None rest = rest
+after_comma text (Some a) rest = codes "," ∷ text a rest
 
 abbrev pub in_turn : {A : Type 0} → (A → List (List ℕ) → List (List ℕ)) → List A → List (List ℕ)
     → List (List ℕ)
@@ -163,7 +163,7 @@ let_text e rest = codes "let" ∷ equation_text e rest
 
 abbrev pub statement_text : Statement → List (List ℕ) → List (List ℕ)
 statement_text (Compute target second p args) rest =
-    target ∷ behind_comma name_text second (codes "=" ∷ op_text p ∷ codes "("
+    target ∷ after_comma name_text second (codes "=" ∷ op_text p ∷ codes "("
     ∷ between_commas name_text args (codes ")" ∷ codes ";" ∷ rest))
 statement_text (Visit b) rest =
     codes "serial" ∷ direction_text b.down ∷ codes "("
@@ -173,7 +173,7 @@ statement_text (Visit b) rest =
 abbrev pub operation_text : Operation → List (List ℕ) → List (List ℕ)
 operation_text o rest =
     codes "op" ∷ o.name ∷ codes "(" ∷ between_commas param_text o.params (codes ")" ∷ codes "->"
-    ∷ param_text o.result (behind_comma param_text o.second (codes "{"
+    ∷ param_text o.result (after_comma param_text o.second (codes "{"
     ∷ in_turn statement_text o.body (codes "}" ∷ rest))))
 
 -- the tokens of a text of these ops

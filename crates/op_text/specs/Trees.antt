@@ -26,7 +26,7 @@ mutual
     Leaf : Spelling → Tree
     Call : Spelling → Tree → Trees → Tree
 
-  -- the arguments behind the first
+  -- the arguments after the first
   pub data Trees : Type 0 where
     Last : Trees
     Then : Tree → Trees → Trees
@@ -93,21 +93,21 @@ abbrev mutual
   values_text (Then a r) rest = t.Comma ∷ value_text a (values_text r rest)
 
 -- parts with a comma before each, and parts with commas between them
-abbrev pub behind_commas : {A : Type 0} → (A → List Terminal → List Terminal) → List A
+abbrev pub after_commas : {A : Type 0} → (A → List Terminal → List Terminal) → List A
     → List Terminal → List Terminal
-behind_commas text [] rest = rest
-behind_commas text (a ∷ more) rest = t.Comma ∷ text a (behind_commas text more rest)
+after_commas text [] rest = rest
+after_commas text (a ∷ more) rest = t.Comma ∷ text a (after_commas text more rest)
 
 abbrev pub between_commas : {A : Type 0} → (A → List Terminal → List Terminal) → List A
     → List Terminal → List Terminal
 between_commas text [] rest = rest
-between_commas text (a ∷ more) rest = text a (behind_commas text more rest)
+between_commas text (a ∷ more) rest = text a (after_commas text more rest)
 
 -- a part that may be there, with a comma before it
-abbrev pub behind_comma : {A : Type 0} → (A → List Terminal → List Terminal) → Option A
+abbrev pub after_comma : {A : Type 0} → (A → List Terminal → List Terminal) → Option A
     → List Terminal → List Terminal
-behind_comma text None rest = rest
-behind_comma text (Some a) rest = t.Comma ∷ text a rest
+after_comma text None rest = rest
+after_comma text (Some a) rest = t.Comma ∷ text a rest
 
 -- parts one after the other
 abbrev pub in_turn : {A : Type 0} → (A → List Terminal → List Terminal) → List A → List Terminal
@@ -144,7 +144,7 @@ let_text e rest = t.Name sp.Let ∷ assign_text e rest
 
 abbrev pub statement_text : StatementTree → List Terminal → List Terminal
 statement_text (Compute w) rest =
-    t.Name w.target ∷ behind_comma name_text w.second (t.Equals ∷ t.Name w.operation ∷ t.Opens
+    t.Name w.target ∷ after_comma name_text w.second (t.Equals ∷ t.Name w.operation ∷ t.Opens
     ∷ between_commas name_text w.args (t.Closes ∷ t.Semi ∷ rest))
 statement_text (Visit b) rest =
     t.Name sp.Serial ∷ direction_word b.down ∷ t.Opens
@@ -155,8 +155,8 @@ statement_text (Visit b) rest =
 abbrev pub op_text : OpTree → List Terminal → List Terminal
 op_text op rest =
     t.Name sp.Op ∷ t.Name op.name ∷ t.Opens ∷ param_text op.source
-    (behind_commas param_text op.sources (t.Closes
-    ∷ t.Arrow ∷ param_text op.result (behind_comma param_text op.second (t.Begins
+    (after_commas param_text op.sources (t.Closes
+    ∷ t.Arrow ∷ param_text op.result (after_comma param_text op.second (t.Begins
     ∷ statement_text op.statement (in_turn statement_text op.statements (t.Finishes ∷ rest))))))
 
 -- a text of the grammar
@@ -195,11 +195,11 @@ pub data GrammarFinds : List Item → Option Breach → Type 0 where
   Text : (ts : List Lexeme) → IsGrammatical ts → GrammarFinds (whole ts) None
   CutShort : (ts : List Lexeme) → BeginsText ts → (IsGrammatical ts → ⊥)
       → GrammarFinds (whole ts) (Some at_end)
-  Wrong : (before : List Lexeme) (token : Lexeme) (behind : List Item) → BeginsText before
+  Wrong : (before : List Lexeme) (token : Lexeme) (following : List Item) → BeginsText before
       → (BeginsText (before ++ token ∷ []) → ⊥)
-      → GrammarFinds (whole before ++ (Whole token ∷ behind)) (Some (at_token token Syntax))
-  Strange : (before : List Lexeme) (f : LexFault) (behind : List Item) → BeginsText before
-      → GrammarFinds (whole before ++ (Bad f ∷ behind)) (Some (at_byte f))
+      → GrammarFinds (whole before ++ (Whole token ∷ following)) (Some (at_token token Syntax))
+  Strange : (before : List Lexeme) (f : LexFault) (following : List Item) → BeginsText before
+      → GrammarFinds (whole before ++ (Bad f ∷ following)) (Some (at_byte f))
 
 -- a rule beside the grammar's
 abbrev pub is_other : OpsKind → Bool
@@ -209,9 +209,9 @@ is_other why = true
 
 -- Another rule than the grammar's is broken at a token; up to it they begin a text of the grammar.
 pub data BreaksRule : List Item → Option Breach → Type 0 where
-  Broken : (before : List Lexeme) (token : Lexeme) (behind : List Item) (kind : OpsKind)
+  Broken : (before : List Lexeme) (token : Lexeme) (following : List Item) (kind : OpsKind)
       → is_other kind ≡ true → BeginsText (before ++ token ∷ [])
-      → BreaksRule (whole before ++ (Whole token ∷ behind)) (Some (at_token token kind))
+      → BreaksRule (whole before ++ (Whole token ∷ following)) (Some (at_token token kind))
 
 -- The first breach of items is another rule's, or exactly what the grammar finds in them: so there
 -- is none exactly where they are a text of the grammar and no rule is broken in it.

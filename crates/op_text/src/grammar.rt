@@ -8,28 +8,28 @@ pub enum Wanted {
     NewOp,
     NewParam,
     ParamKind,
-    /// Behind a parameter: `,` or `)`.
+    /// After a parameter: `,` or `)`.
     Params,
     NewResult,
     ResultKind,
-    /// Behind the first result: `,` or `{`.
+    /// After the first result: `,` or `{`.
     SecondResult,
     FirstStmt,
     /// One more statement, or `}`.
     Stmts,
-    /// Behind a word statement's first target: `,` or `=`.
+    /// After a word statement's first target: `,` or `=`.
     SecondTarget,
     NewTarget,
     WordOpName,
-    /// Behind `(`: an argument or `)`.
+    /// After `(`: an argument or `)`.
     Args,
-    /// Behind `,`: an argument.
+    /// After `,`: an argument.
     ArgName,
-    /// Behind an argument: `,` or `)`.
+    /// After an argument: `,` or `)`.
     MoreArgs,
     WordEnd,
     Direction,
-    /// Behind `(`: a state or `)`.
+    /// After `(`: a state or `)`.
     States,
     StateName,
     MoreStates,
@@ -42,9 +42,9 @@ pub enum Wanted {
     /// The target of one more assignment, or `}`.
     Assigns,
     Value,
-    /// The `(` behind a gate's name.
+    /// The `(` after a gate's name.
     GateOpen,
-    /// Behind a gate's argument: `,` or `)`.
+    /// After a gate's argument: `,` or `)`.
     More,
     /// The mark `(`.
     Open,

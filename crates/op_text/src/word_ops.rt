@@ -335,11 +335,11 @@ pub fn given_first(op: WordOp, first: Option<Kind>) -> Kind
     let signature = signature_of(op);
     match first {
         None => given_alone(signature),
-        Some(first) => given_behind(signature, first),
+        Some(first) => given_after(signature, first),
     }
 }
 
-fn given_behind(signature: Signature, first: Kind) -> Kind
+fn given_after(signature: Signature, first: Kind) -> Kind
     ensures { result ≡ given_first (signature_forms signature) (Some first) }
 {
     match signature {

@@ -83,11 +83,11 @@ fn full_adder(rt: &impl Abort, alloc: Global) -> Result<(Mig, [OutRow; 2]), NoMe
     };
     let mut m = Mig::new(3, alloc)?;
     let carry = m.maj(plain(1), plain(2), plain(3))?;
-    let turned = Lit {
+    let complemented = Lit {
         node: 3,
         inverted: true,
     };
-    let part = m.maj(plain(1), plain(2), turned)?;
+    let part = m.maj(plain(1), plain(2), complemented)?;
     let opposite = Lit {
         node: carry.node,
         inverted: !carry.inverted,

@@ -128,7 +128,7 @@ fn rows(rt: HostRuntime) -> Result<(), Fail> {
         row.get(64),
     ];
     assert_eq!(rt; around, [true, false, false, false, false]);
-    let behind = [row.get(65), row.get(66), row.get(128), row.get(129)];
-    assert_eq!(rt; behind, [true, false, false, true]);
+    let following = [row.get(65), row.get(66), row.get(128), row.get(129)];
+    assert_eq!(rt; following, [true, false, false, true]);
     Ok(())
 }

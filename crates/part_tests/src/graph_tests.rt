@@ -119,7 +119,7 @@ fn word_of(words: &[u64], l: Lit) -> u64 {
     if l.inverted { !word } else { word }
 }
 
-/// The commands behind others that leave rows 20 to 23 in the bitwise cells.
+/// The commands after others that leave rows 20 to 23 in the bitwise cells.
 fn commands_of(cmds: &[BodyCmd], alloc: Global) -> Result<Vec<Command>, Fail> {
     let mut commands = Vec::new(alloc);
     commands.push(Command::Aap(Addr::D(20), Addr::B(14)))?;

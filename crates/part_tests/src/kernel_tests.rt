@@ -74,10 +74,10 @@ fn majorities_at_each_length(rt: HostRuntime) {
 fn copies_at_each_length(rt: HostRuntime) {
     let (a, before) = (words(0), words(51));
     for n in 0..18usize {
-        let (mut copy, mut not, mut turned) = (before, before, a);
+        let (mut copy, mut not, mut complemented) = (before, before, a);
         store(&a[..n], &mut copy[..n]);
         store_not(&a[..n], &mut not[..n]);
-        turn(&mut turned[..n]);
+        turn(&mut complemented[..n]);
         for i in 0..17usize {
             let complement = complement_by_bits(a[i]);
             let (same, other) = if i < n {
@@ -88,7 +88,7 @@ fn copies_at_each_length(rt: HostRuntime) {
             assert_eq!(rt; copy[i], same, "store {n} {i}");
             assert_eq!(rt; not[i], other, "store_not {n} {i}");
             let want = if i < n { complement } else { a[i] };
-            assert_eq!(rt; turned[i], want, "turn {n} {i}");
+            assert_eq!(rt; complemented[i], want, "turn {n} {i}");
         }
     }
 }

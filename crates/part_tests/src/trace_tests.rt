@@ -31,7 +31,7 @@ fn act<D: Dram>(chip: &mut D) -> Result<(), ChipFault>
     chip.ap(0, Addr::B(14))
 }
 
-/// What a recorder keeps of a write and of two commands behind its mark: its events, how many bytes
+/// What a recorder keeps of a write and of two commands after its mark: its events, how many bytes
 /// they take, and its file.
 fn recorded(alloc: Global) -> Result<(Vec<u8>, u64, Vec<u8>), Fail> {
     let mut chip = Chip::new(alloc);
@@ -45,7 +45,7 @@ fn recorded(alloc: Global) -> Result<(Vec<u8>, u64, Vec<u8>), Fail> {
     let size = recorder.size();
     let table = Table::new(SMALL, alloc)?;
     let mut file = Vec::new(alloc);
-    if recorder.is_told() {
+    if recorder.is_known() {
         recorder.spell_file(&table);
         file.extend_from_slice(recorder.trace_file())?;
     }

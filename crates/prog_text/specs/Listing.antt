@@ -26,7 +26,7 @@ value_text Spill which = codes "p" ++ decimal which
 abbrev pub index_text : ℕ → List ℕ
 index_text i = if i == 8 then codes "[0]" else (codes "[r" ++ decimal i ++ codes "]")
 
--- an index stands behind the values that have positions
+-- an index stands after the values that have positions
 abbrev pub position_text : RowSpace → ℕ → List ℕ
 position_text B i = []
 position_text C i = []
@@ -39,7 +39,7 @@ position_text Spill i = []
 abbrev pub row_text : RowRef → List ℕ
 row_text r = value_text r.space r.which ++ position_text r.space r.index
 
--- the operands of an instruction, each behind a blank
+-- the operands of an instruction, each after a blank
 abbrev pub register_operand : ℕ → List ℕ
 register_operand r = codes " r" ++ decimal r
 

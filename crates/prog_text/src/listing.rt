@@ -52,7 +52,7 @@ fn put_position(out: &mut Vec<u8>, space: RowSpace, index: u8) -> Result<(), NoM
     }
 }
 
-/// Appends a row behind a blank.
+/// Appends a row after a blank.
 fn put_row(out: &mut Vec<u8>, row: &RowRef) -> Result<(), NoMemory>
     ensures { OnOk result (out.new.items ≡ out.old.items ++ row_operand row.now) }
 {

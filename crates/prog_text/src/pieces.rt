@@ -12,7 +12,7 @@ pub(crate) fn put(out: &mut Vec<u8>, bytes: &[u8]) -> Result<(), NoMemory>
     Ok(out.extend_from_slice(bytes)?)
 }
 
-/// Appends bytes and a number behind them.
+/// Appends bytes and a number after them.
 pub(crate) fn put_number(out: &mut Vec<u8>, before: &[u8], number: u64) -> Result<(), NoMemory>
     ensures { OnOk result (out.new.items ≡ out.old.items ++ (before.now ++ decimal number)) }
 {

@@ -9,7 +9,7 @@ use Rattle.row_alloc.specs.declared.body.BodyCmd.{BodyCmd}
 use Rattle.row_alloc.specs.declared.body.OutRow.{OutRow}
 use Rattle.row_alloc.specs.Known.{Serves, IsFirst, known, known_at}
 
--- each is no longer than those behind it
+-- each is no longer than those after it
 unfoldable rising : List (List BodyCmd) → Bool
 rising [] = true
 rising (s ∷ ss) = list_all (λ t. nat_le (length s) (length t)) ss && rising ss
@@ -23,18 +23,18 @@ in_order s ss k h l = by (nat_le (length s) (length (get_or ss k []))) refl
     by true e = leb-true (length s) (length (get_or ss k [])) e
     by false e = let g = list_all_at (λ t. nat_le (length s) (length t)) ss k [] l e in cc
 
-behind : (s : List BodyCmd) (ss : List (List BodyCmd)) → rising (s ∷ ss) ≡ true
+following : (s : List BodyCmd) (ss : List (List BodyCmd)) → rising (s ∷ ss) ≡ true
     → (list_all (λ t. nat_le (length s) (length t)) ss ≡ true) × (rising ss ≡ true)
 unfolding rising
-behind s ss h = and_parts (list_all (λ t. nat_le (length s) (length t)) ss) (rising ss) h
+following s ss h = and_parts (list_all (λ t. nat_le (length s) (length t)) ss) (rising ss) h
 
 later : (ss : List (List BodyCmd)) → rising ss ≡ true → (i k : ℕ) → i ≤ k → k < length ss
     → length (get_or ss i []) ≤ length (get_or ss k [])
 later [] h i k b l = omega (arith, l)
 later (s ∷ ss) h zero zero b l = omega arith
-later (s ∷ ss) h zero (suc k) b l = in_order s ss k (behind s ss h).0 (omega (arith, l))
+later (s ∷ ss) h zero (suc k) b l = in_order s ss k (following s ss h).0 (omega (arith, l))
 later (s ∷ ss) h (suc i) zero b l = omega (arith, b)
-later (s ∷ ss) h (suc i) (suc k) b l = later ss (behind s ss h).1 i k (omega (arith, b))
+later (s ∷ ss) h (suc i) (suc k) b l = later ss (following s ss h).1 i k (omega (arith, b))
     (omega (arith, l))
 
 -- no known sequence that serves is shorter than the first

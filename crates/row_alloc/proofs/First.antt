@@ -22,7 +22,7 @@ use Rattle.row_alloc.specs.Length.{plain_length}
 use Rattle.row_alloc.specs.Symbolic.{symbols_after, IsChecked, sense_three, first_node, lit_eq}
 use Rattle.row_alloc.specs.Known.{Serves, IsFirst, known, known_at, WordBody, Inverted, Shifted}
 use Rattle.row_alloc.specs.Known.{Both, Either, Without, Unlike, Chosen, Compared, Agreed, Added}
-use Rattle.row_alloc.specs.Known.{Lessened, TurnedBy, Multiplied, Counted, Divided, graph_in}
+use Rattle.row_alloc.specs.Known.{Lessened, NegatedIf, Multiplied, Counted, Divided, graph_in}
 use Rattle.row_alloc.specs.Known.{outs_in, sequence_for}
 use Rattle.row_alloc.proofs.Booleans.{and-both}
 use Rattle.row_alloc.proofs.Sound.{lit-eq-true}
@@ -207,7 +207,8 @@ two g l m k out_of h within kept outs fit e late =
     let t = (out_at outs 1).same in
     let is = double l m outs e in
     let n = ap length is in
-    let f = λ (s t : Option ℕ). clash s t || (out_of s t || is_first g (out l s ∷ out m t ∷ []) k) in
+    let f = λ (s t : Option ℕ). clash s t || (out_of s t || is_first g (out l s ∷ out m t
+    ∷ []) k) in
     let a = in_one g.inputs (λ s. in_all g.inputs (f s)) h s (λ j e.
     fit.same 0 j (omega (arith, n)) e) in
     let b = in_one g.inputs (f s) a t (λ j e. fit.same 1 j (omega (arith, n)) e) in
@@ -289,9 +290,9 @@ pub added_first : HasFirst Added
 unfolding sense_three first_node
 added_first = two (graph_in Added) _ _ 20 nowhere refl (omega arith) (λ outs late. refl)
 
-pub turned_first : HasFirst TurnedBy
+pub complemented_first : HasFirst NegatedIf
 unfolding sense_three first_node
-turned_first = two (graph_in TurnedBy) _ _ 21 nowhere refl (omega arith) (λ outs late. refl)
+complemented_first = two (graph_in NegatedIf) _ _ 21 nowhere refl (omega arith) (λ outs late. refl)
 
 pub divided_first : HasFirst Divided
 unfolding sense_three first_node
@@ -315,7 +316,7 @@ have_first Compared = compared_first
 have_first Agreed = agreed_first
 have_first Added = added_first
 have_first Lessened = lessened_first
-have_first TurnedBy = turned_first
+have_first NegatedIf = complemented_first
 have_first Multiplied = multiplied_first
 have_first Counted = counted_first
 have_first Divided = divided_first
@@ -336,7 +337,7 @@ short Compared outs e = subst (IsShort Compared) (sym (single _ outs e)) (omega 
 short Agreed outs e = subst (IsShort Agreed) (sym (single _ outs e)) (omega arith)
 short Added outs e = subst (IsShort Added) (sym (double _ _ outs e)) (omega arith)
 short Lessened outs e = subst (IsShort Lessened) (sym (double _ _ outs e)) (omega arith)
-short TurnedBy outs e = subst (IsShort TurnedBy) (sym (double _ _ outs e)) (omega arith)
+short NegatedIf outs e = subst (IsShort NegatedIf) (sym (double _ _ outs e)) (omega arith)
 short Multiplied outs e = subst (IsShort Multiplied) (sym (double _ _ outs e)) (omega arith)
 short Counted outs e = subst (IsShort Counted) (sym (double _ _ outs e)) (omega arith)
 short Divided outs e = subst (IsShort Divided) (sym (double _ _ outs e)) (omega arith)
@@ -434,7 +435,7 @@ word_late Compared outs h = never outs (known_at 5) refl
 word_late Agreed outs h = never outs (known_at 12) refl
 word_late Added outs h = never outs (known_at 20) refl
 word_late Lessened outs h = never outs (known_at 15) refl
-word_late TurnedBy outs h = never outs (known_at 21) refl
+word_late NegatedIf outs h = never outs (known_at 21) refl
 word_late Multiplied outs h = but_one 1 0 outs (known_at 23) h refl
 word_late Counted outs h = never outs (known_at 16) refl
 word_late Divided outs h = never outs (known_at 22) refl

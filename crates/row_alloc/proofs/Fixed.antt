@@ -13,7 +13,8 @@ use Rattle.row_alloc.specs.Body.{FitBody}
 use Rattle.row_alloc.specs.Numbering.{own_output}
 use Rattle.row_alloc.specs.Phases.{IsTwoParts, keep_outputs, read_no_input}
 use Rattle.row_alloc.specs.Symbolic.{symbols_after, sense_three, first_node}
-use Rattle.row_alloc.specs.Known.{Serves, plain, turned, not_graph, and_graph, or_graph, xor_graph}
+use Rattle.row_alloc.specs.Known.{Serves, plain, complemented, not_graph, and_graph, or_graph}
+use Rattle.row_alloc.specs.Known.{xor_graph}
 use Rattle.row_alloc.specs.Known.{add_graph}
 use Rattle.row_alloc.proofs.Late.{writes-late}
 
@@ -70,15 +71,16 @@ one_serves g l cmds legal parts ends outs fit n e =
     at s h (suc j) lj = absurd (omega (arith, lj))
 
 not_ends : (s : Option ℕ) → ((k : ℕ) → s ≡ Some k → k < 1)
-    → symbols_after not_graph (out (turned 1) s ∷ []) NOT (D (own_output s 0)) ≡ Some (turned 1)
+    → symbols_after not_graph (out (complemented 1) s
+    ∷ []) NOT (D (own_output s 0)) ≡ Some (complemented 1)
 unfolding sense_three first_node
 not_ends None h = refl
 not_ends (Some zero) h = refl
 not_ends (Some (suc k)) h = absurd (omega (arith, h (suc k) refl))
 
 pub not_serves : (outs : List OutRow) → FitBody not_graph outs → length outs ≡ 1
-    → (out_at outs 0).lit ≡ turned 1 → Serves not_graph outs NOT
-not_serves = one_serves not_graph (turned 1) NOT refl (split 1 NOT refl refl refl) not_ends
+    → (out_at outs 0).lit ≡ complemented 1 → Serves not_graph outs NOT
+not_serves = one_serves not_graph (complemented 1) NOT refl (split 1 NOT refl refl refl) not_ends
 
 and_ends : (s : Option ℕ) → ((k : ℕ) → s ≡ Some k → k < 2)
     → symbols_after and_graph (out (plain 3) s ∷ []) AND (D (own_output s 0)) ≡ Some (plain 3)

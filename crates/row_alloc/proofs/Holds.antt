@@ -13,7 +13,7 @@ use Rattle.dram_model.specs.Column.{Column, run, lines_of, bit, plain}
 use Rattle.dram_model.proofs.ColumnLaws.{run-append}
 use Rattle.mig_graph.specs.declared.Lit.{Lit}
 use Rattle.mig_graph.specs.declared.Node.{Node}
-use Rattle.mig_graph.specs.Literals.{is_turned, IsLower, node_value}
+use Rattle.mig_graph.specs.Literals.{is_complemented, IsLower, node_value}
 use Rattle.mig_graph.specs.Graph.{Graph, value, values, start}
 use Rattle.mig_graph.proofs.Laws.{values-below}
 use Rattle.row_alloc.specs.declared.body.BodyRef.{BodyRef}
@@ -62,8 +62,8 @@ unflip true true = refl
 unflip true false = refl
 unflip false v = refl
 
-turned-value : (n : ℕ) (i v : Bool) → n ≢ 0 → flip_if (i && not (n == 0)) (flip_if i v) ≡ v
-turned-value n i v h = rw (ne_eqb n 0 h) (unflip i v)
+complemented-value : (n : ℕ) (i v : Bool) → n ≢ 0 → flip_if (i && not (n == 0)) (flip_if i v) ≡ v
+complemented-value n i v h = rw (ne_eqb n 0 h) (unflip i v)
 
 constant-value : (i v : Bool) → v ≡ false → not (bit_number i == 0)
     ≡ flip_if (i && not (0 == 0)) (flip_if i v)
@@ -78,11 +78,11 @@ value-of-input : (g : Graph) (bits : ℕ → Bool) (n : ℕ) → n < g.inputs + 
     → values g bits n ≡ start bits n
 value-of-input g bits n l = values-below (g.inputs + 1) g.nodes (start bits) n l
 
--- the row that a literal is read from holds its value, or the complement where it is turned
+-- the row that a literal is read from holds its value, or the complement where it is complemented
 pub source-holds : (g : Graph) (outs : List OutRow) (rows : Rows) (s : Column) (n m : ℕ)
     (t : Column) (l : Lit) → IsReady g outs rows s n m t → AreApart rows g.inputs outs → n ≤ 32
     → l.node < g.inputs + 1 + n → Holds rows t (source_of g.inputs l)
-    (flip_if (is_turned l) (value g (inputs_of rows s) l))
+    (flip_if (is_complemented l) (value g (inputs_of rows s) l))
 source-holds g outs rows s n m t l ready apart small below =
     let bits = inputs_of rows s in
     elim (source-cases g.inputs l) [
@@ -103,7 +103,7 @@ source-holds g outs rows s n m t l ready apart small below =
         bit_is = ready.kept (rows.input (l.node - 1)) (λ i b e.
             apart.spill_input i (l.node - 1) b (omega arith) e)
             ∙ sym (start-of bits l.node h.0) ∙ sym (value-of-input g bits l.node (omega arith))
-            ∙ sym (turned-value l.node l.inverted (values g bits l.node) (omega arith));
+            ∙ sym (complemented-value l.node l.inverted (values g bits l.node) (omega arith));
       })
       | inr (inr h) ↦ rw h.1 (record {
         cell = D (rows.spill (l.node - g.inputs - 1));
@@ -111,13 +111,13 @@ source-holds g outs rows s n m t l ready apart small below =
         stored = refl;
         bit_is = let e : g.inputs + 1 + (l.node - g.inputs - 1) ≡ l.node = omega arith in
             ready.nodes (l.node - g.inputs - 1) (omega arith) ∙ ap (values g bits) e
-            ∙ sym (turned-value l.node l.inverted (values g bits l.node) (omega arith));
+            ∙ sym (complemented-value l.node l.inverted (values g bits l.node) (omega arith));
       })
     ]
 
 into-lines : (rows : Rows) (l : Lit) → lines_of (place rows (into_of l))
-    ≡ record { cell = Dcc 0; inverted = is_turned l } ∷ []
-into-lines rows l = into-lines-at (is_turned l)
+    ≡ record { cell = Dcc 0; inverted = is_complemented l } ∷ []
+into-lines rows l = into-lines-at (is_complemented l)
   where
     into-lines-at : (b : Bool) → lines_of (place rows (if b then B 5 else B 4))
         ≡ record { cell = Dcc 0; inverted = b } ∷ []
@@ -132,7 +132,7 @@ flip-twice false b = refl
 -- a node's commands put its value into the spill row
 pub node-puts : (g : Graph) (outs : List OutRow) (rows : Rows) (s : Column) (n m i : ℕ) (t : Column)
     (x : Node) → IsReady g outs rows s n m t → AreApart rows g.inputs outs → n ≤ 32
-    → IsLower (g.inputs + 1 + n) x → is_turned x.b ≡ false → is_turned x.c ≡ false
+    → IsLower (g.inputs + 1 + n) x → is_complemented x.b ≡ false → is_complemented x.c ≡ false
     → Puts rows (node_commands g.inputs x i) t (rows.spill i)
     (node_value (values g (inputs_of rows s)) x)
 node-puts g outs rows s n m i t x ready apart small lower tb tc = λ r.
@@ -141,10 +141,10 @@ node-puts g outs rows s n m i t x ready apart small lower tb tc = λ r.
     let b = rw tb at (source-holds g outs rows s n m t x.b ready apart small lower.1) in
     let c = rw tc at (source-holds g outs rows s n m t x.c ready apart small lower.2) in
     four-commands t (place rows (source_of g.inputs x.a)) (place rows (source_of g.inputs x.b))
-    (place rows (source_of g.inputs x.c)) (place rows (into_of x.a)) (is_turned x.a) a.cell
+    (place rows (source_of g.inputs x.c)) (place rows (into_of x.a)) (is_complemented x.a) a.cell
     b.cell c.cell (rows.spill i) r a.lines b.lines c.lines (into-lines rows x.a) b.stored
     c.stored
-    ∙ rw (a.bit_is, b.bit_is, c.bit_is, flip-twice (is_turned x.a) (value g bits x.a)) refl
+    ∙ rw (a.bit_is, b.bit_is, c.bit_is, flip-twice (is_complemented x.a) (value g bits x.a)) refl
 
 -- an output's commands put its value into the spill row
 pub stash-puts : (g : Graph) (outs : List OutRow) (rows : Rows) (s : Column) (n m i : ℕ)
@@ -152,7 +152,7 @@ pub stash-puts : (g : Graph) (outs : List OutRow) (rows : Rows) (s : Column) (n 
     → l.node < g.inputs + 1 + n
     → Puts rows (stash_commands g.inputs l i) t (rows.spill i) (value g (inputs_of rows s) l)
 stash-puts g outs rows s n m i t l ready apart small below =
-    λ r. by-turn (is_turned l) (source-holds g outs rows s n m t l ready apart small below) r
+    λ r. by-turn (is_complemented l) (source-holds g outs rows s n m t l ready apart small below) r
   where
     not-not : (b : Bool) → not (not b) ≡ b
     not-not true = refl

@@ -8,7 +8,7 @@ use Rattle.std.proofs.lemmas.List.{append-nil, get_or_append_left, get_or-append
 use Rattle.std.proofs.lemmas.List.Folds.{list_all-append, list_all_at}
 use Rattle.mig_graph.specs.declared.Lit.{Lit}
 use Rattle.mig_graph.specs.declared.Node.{Node}
-use Rattle.mig_graph.specs.Literals.{is_turned}
+use Rattle.mig_graph.specs.Literals.{is_complemented}
 use Rattle.row_alloc.specs.declared.body.BodyRef.{BodyRef}
 use Rattle.row_alloc.specs.declared.body.BodyRef.TheVariants.{B, In, Out, Spill}
 use Rattle.row_alloc.specs.declared.body.BodyCmd.{BodyCmd}
@@ -24,7 +24,7 @@ early-append xs ys h k = list_all-append (λ (c : BodyCmd). not (is_out (written
     ∙ rw (h, k) refl
 
 into-early : (l : Lit) → not (is_out (into_of l)) ≡ true
-into-early l = at (is_turned l)
+into-early l = at (is_complemented l)
   where
     at : (b : Bool) → not (is_out (if b then B 5 else B 4)) ≡ true
     at true = refl
@@ -34,7 +34,7 @@ pub node-early : (i k : ℕ) (x : Node) → keep_outputs (node_commands i x k) �
 node-early i k x = rw (into-early x.a) refl
 
 pub stash-early : (i k : ℕ) (l : Lit) → keep_outputs (stash_commands i l k) ≡ true
-stash-early i k l = at (is_turned l)
+stash-early i k l = at (is_complemented l)
   where
     at : (t : Bool) → keep_outputs (if t then Aap (source_of i l) (B 5) ∷ Aap (B 4) (Spill k) ∷ []
         else Aap (source_of i l) (Spill k) ∷ []) ≡ true

@@ -7,7 +7,7 @@ use Rattle.std.proofs.lemmas.List.Folds.{list_all-append}
 use Rattle.bit_rows.specs.Bits.{bit_number}
 use Rattle.mig_graph.specs.declared.Lit.{Lit}
 use Rattle.mig_graph.specs.declared.Node.{Node}
-use Rattle.mig_graph.specs.Literals.{is_turned, IsLower}
+use Rattle.mig_graph.specs.Literals.{is_complemented, IsLower}
 use Rattle.row_alloc.specs.declared.body.BodyRef.TheVariants.{B, Out, Spill}
 use Rattle.row_alloc.specs.declared.body.BodyCmd.{BodyCmd}
 use Rattle.row_alloc.specs.declared.body.BodyCmd.TheVariants.{Aap}
@@ -37,7 +37,7 @@ source-legal i o n l b small = elim (source-cases i l) [
     constant-legal false = refl
 
 into-legal : (i o : ℕ) (l : Lit) → (is_ref i o (into_of l) && is_second_ref (into_of l)) ≡ true
-into-legal i o l = at (is_turned l)
+into-legal i o l = at (is_complemented l)
   where
     at : (b : Bool) → (is_ref i o (if b then B 5 else B 4)
         && is_second_ref (if b then B 5 else B 4)) ≡ true
@@ -56,7 +56,7 @@ node-legal i o n k x lower small l = rw (
 
 pub stash-legal : (i o n k : ℕ) (l : Lit) → l.node < i + 1 + n → n ≤ 32 → k < 32
     → are_legal i o (stash_commands i l k) ≡ true
-stash-legal i o n k l below small b = at (is_turned l)
+stash-legal i o n k l below small b = at (is_complemented l)
   where
     at : (t : Bool) → are_legal i o (if t then Aap (source_of i l) (B 5) ∷ Aap (B 4) (Spill k) ∷ []
         else Aap (source_of i l) (Spill k) ∷ []) ≡ true

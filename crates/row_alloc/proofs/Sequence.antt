@@ -3,7 +3,7 @@ use Rattle.std.proofs.Common.{◌≡◌, ℕ, ◌+◌, ◌<◌, false, List, [],
 use Rattle.std.proofs.Common.{arith, subst}
 use Rattle.dram_model.specs.Column.{Column}
 use Rattle.mig_graph.specs.declared.Node.{Node}
-use Rattle.mig_graph.specs.Literals.{is_turned, IsLower, IsAnyOrder, node_value}
+use Rattle.mig_graph.specs.Literals.{is_complemented, IsLower, IsAnyOrder, node_value}
 use Rattle.mig_graph.specs.Graph.{Graph, value, values, node_at, IsGraph}
 use Rattle.mig_graph.proofs.Laws.{value-node, any-order}
 use Rattle.row_alloc.specs.declared.body.BodyRef.TheVariants.{Out, Spill}
@@ -37,7 +37,7 @@ prepares-none g outs = record {
 pub prepares-node : (g : Graph) (outs : List OutRow) (k : ℕ) (cmds : List BodyCmd) (x : Node)
     → Prepares g outs k 0 cmds → IsGraph g.inputs g.nodes → k < length g.nodes → k < 32
     → IsAnyOrder x (node_at g.nodes k).a (node_at g.nodes k).b (node_at g.nodes k).c
-    → IsLower (g.inputs + 1 + k) x → is_turned x.b ≡ false → is_turned x.c ≡ false
+    → IsLower (g.inputs + 1 + k) x → is_complemented x.b ≡ false → is_complemented x.c ≡ false
     → Prepares g outs (k + 1) 0 (cmds ++ node_commands g.inputs x k)
 prepares-node g outs k cmds x so graph l small order lower tb tc = record {
   legal = legal-append g.inputs (length outs) cmds (node_commands g.inputs x k) so.legal
@@ -106,15 +106,15 @@ does-written g outs cmds so = record {
 
 -- one command where the only output is a constant or an input that is not inverted
 pub does-direct : (g : Graph) (outs : List OutRow) → FitBody g outs → length g.nodes ≡ 0
-    → length outs ≡ 1 → is_turned (out_at outs 0).lit ≡ false
+    → length outs ≡ 1 → is_complemented (out_at outs 0).lit ≡ false
     → DoesBody g outs (Aap (source_of g.inputs (out_at outs 0).lit) (Out 0) ∷ [])
-does-direct g outs fit none one turned =
+does-direct g outs fit none one complemented =
     let l = (out_at outs 0).lit in
     let cmds : List BodyCmd = Aap (source_of g.inputs l) (Out 0) ∷ [] in
     let below : l.node < g.inputs + 1 + 0 = omega (arith, fit.named 0 (omega arith)) in
     let puts : (rows : Rows) (s : Column) → AreApart rows g.inputs outs
     → Puts rows cmds s (rows.output 0) (value g (inputs_of rows s) l) = λ rows s apart r.
-    let h = rw turned at (source-holds g outs rows s 0 0 s l
+    let h = rw complemented at (source-holds g outs rows s 0 0 s l
     ((prepares-none g outs).ready rows s apart) apart (omega arith) below) in
     copy-command s (place rows (source_of g.inputs l)) h.cell (rows.output 0) r h.lines
     ∙ rw h.bit_is refl in record {

@@ -18,11 +18,12 @@ use Rattle.mig_graph.specs.declared.Lit.{Lit}
 use Rattle.mig_graph.specs.declared.Node.{Node}
 use Rattle.mig_graph.specs.Literals.{complement, node_of, node_value, IsAnyOrder}
 use Rattle.mig_graph.specs.Graph.{Graph, value, values, IsGraph, node_at, no_node, start}
-use Rattle.mig_graph.proofs.Laws.{flip-not, value-node, values-below, any-order, turned-value}
+use Rattle.mig_graph.proofs.Laws.{flip-not, value-node, values-below, any-order, complemented-value}
 use Rattle.mig_graph.proofs.Laws.{majority-same, majority-not, majority-swap, majority-tail}
 use Rattle.row_alloc.specs.declared.body.BodyCmd.{BodyCmd}
 use Rattle.row_alloc.specs.Rows.{Rows, bound}
-use Rattle.row_alloc.specs.Symbolic.{Symbols, held, turned_option, sym_read, lit_eq, are_twins}
+use Rattle.row_alloc.specs.Symbolic.{Symbols, held, complemented_option, sym_read, lit_eq}
+use Rattle.row_alloc.specs.Symbolic.{are_twins}
 use Rattle.row_alloc.specs.Symbolic.{are_opposite, is_node, has_three, first_node, or_complement}
 use Rattle.row_alloc.specs.Symbolic.{node_for, node_for_all, sense_three, sym_sense_lines}
 use Rattle.row_alloc.specs.Symbolic.{sym_drive, sym_settle_lines, sym_sense, sym_settle, sym_step}
@@ -124,7 +125,7 @@ node-means g bits x y z graph =
         (node_of (complement x) (complement y) (complement z)))
         → Means g bits (or_complement p q) (node_value (values g bits) (node_of x y z))
     both (Some k) q h i = h
-    both None (Some k) h i = sym (turned-value (values g bits) x y z) ∙ ap not i
+    both None (Some k) h i = sym (complemented-value (values g bits) x y z) ∙ ap not i
     both None None h i = tt
 
 -- two that read one literal have one value
@@ -195,15 +196,16 @@ three-mean g bits p q r a b c graph h i j =
     subst (Means g bits p) (sym (opposite-23 a b c (opposite-values g bits q r b c e i j))) h)
     (all-mean g bits p q r a b c graph h i j))))))
 
-turned-means : (g : Graph) (bits : ℕ → Bool) (i : Bool) (p : Option Lit) (b : Bool)
-    → Means g bits p b → Means g bits (turned_option i p) (flip_if i b)
-turned-means g bits i None b h = tt
-turned-means g bits true (Some l) b h = ap not h ∙ sym (flip-not l.inverted (values g bits l.node))
-turned-means g bits false (Some l) b h = h
+complemented-means : (g : Graph) (bits : ℕ → Bool) (i : Bool) (p : Option Lit) (b : Bool)
+    → Means g bits p b → Means g bits (complemented_option i p) (flip_if i b)
+complemented-means g bits i None b h = tt
+complemented-means g bits true (Some l) b h = ap not h
+    ∙ sym (flip-not l.inverted (values g bits l.node))
+complemented-means g bits false (Some l) b h = h
 
 read-means : (g : Graph) (bits : ℕ → Bool) (sy : Symbols) (t : Column) (line : Line)
     → IsSound g bits sy t → Means g bits (sym_read sy line) (read t line)
-read-means g bits sy t line h = turned-means g bits line.inverted (held sy line.cell)
+read-means g bits sy t line h = complemented-means g bits line.inverted (held sy line.cell)
     (bit t line.cell) (h line.cell)
 
 sense-means : (g : Graph) (bits : ℕ → Bool) (sy : Symbols) (t : Column) (lines : List Line)
@@ -234,15 +236,17 @@ drive-sound : (g : Graph) (bits : ℕ → Bool) (sy : Symbols) (t : Column) (lin
     (v : Option Lit) (b : Bool) → Means g bits v b → IsSound g bits sy t
     → IsSound g bits (sym_drive line v sy) (drive line b t)
 drive-sound g bits sy t line v b h s (T k) = choose-means g bits (is_written line.cell (T k))
-    (turned_option line.inverted v) (sy (T k)) (flip_if line.inverted b) (t (T k))
-    (turned-means g bits line.inverted v b h) (s (T k))
+    (complemented_option line.inverted v) (sy (T k)) (flip_if line.inverted b) (t (T k))
+    (complemented-means g bits line.inverted v b h) (s (T k))
 drive-sound g bits sy t line v b h s (Dcc k) =
-    choose-means g bits (is_written line.cell (Dcc k)) (turned_option line.inverted v) (sy (Dcc k))
-    (flip_if line.inverted b) (t (Dcc k)) (turned-means g bits line.inverted v b h) (s (Dcc k))
+    choose-means g bits (is_written line.cell (Dcc k)) (complemented_option line.inverted v) (sy
+    (Dcc k))
+    (flip_if line.inverted b) (t (Dcc k)) (complemented-means g bits line.inverted v b h) (s (Dcc
+    k))
 drive-sound g bits sy t line v b h s (C k) = constant-means g bits (not (k == 0))
 drive-sound g bits sy t line v b h s (D k) = choose-means g bits (is_written line.cell (D k))
-    (turned_option line.inverted v) (sy (D k)) (flip_if line.inverted b) (t (D k))
-    (turned-means g bits line.inverted v b h) (s (D k))
+    (complemented_option line.inverted v) (sy (D k)) (flip_if line.inverted b) (t (D k))
+    (complemented-means g bits line.inverted v b h) (s (D k))
 
 settle-sound : (g : Graph) (bits : ℕ → Bool) (sy : Symbols) (t : Column) (lines : List Line)
     (v : Option Lit) (b : Bool) → Means g bits v b → IsSound g bits sy t

@@ -6,7 +6,7 @@ use Rattle.dram_model.specs.declared.address.Addr.TheVariants.{D as AddrD}
 use Rattle.dram_model.specs.declared.address.Cell.TheVariants.{D}
 use Rattle.dram_model.specs.Column.{Column}
 use Rattle.mig_graph.specs.declared.Node.{Node}
-use Rattle.mig_graph.specs.Literals.{is_turned, IsLower, node_value}
+use Rattle.mig_graph.specs.Literals.{is_complemented, IsLower, node_value}
 use Rattle.mig_graph.specs.Graph.{Graph, value, values}
 use Rattle.row_alloc.specs.declared.body.BodyRef.TheVariants.{Out, Spill}
 use Rattle.row_alloc.specs.declared.body.BodyCmd.{BodyCmd}
@@ -21,7 +21,7 @@ use Rattle.row_alloc.proofs.Holds.{Puts, puts-at, puts-off, node-puts, stash-put
 -- one node more
 pub node-step : (g : Graph) (outs : List OutRow) (rows : Rows) (s : Column) (k : ℕ) (t : Column)
     (x : Node) → IsReady g outs rows s k 0 t → AreApart rows g.inputs outs → k < 32
-    → IsLower (g.inputs + 1 + k) x → is_turned x.b ≡ false → is_turned x.c ≡ false
+    → IsLower (g.inputs + 1 + k) x → is_complemented x.b ≡ false → is_complemented x.c ≡ false
     → values g (inputs_of rows s) (g.inputs + 1 + k) ≡ node_value (values g (inputs_of rows s)) x
     → IsReady g outs rows s (k + 1) 0 (run_body rows (node_commands g.inputs x k) t)
 node-step g outs rows s k t x ready apart small lower tb tc e =

@@ -32,8 +32,8 @@ pub record IsFirst (g : Graph) (outs : List OutRow) (k : ℕ) : Type 0 where
 abbrev pub plain : ℕ → Lit
 plain k = record { node = k; inverted = false }
 
-abbrev pub turned : ℕ → Lit
-turned k = record { node = k; inverted = true }
+abbrev pub complemented : ℕ → Lit
+complemented k = record { node = k; inverted = true }
 
 -- the graphs of the complement, of and, or and xor of two inputs, and of the sum of three
 abbrev pub not_graph : Graph
@@ -43,20 +43,21 @@ abbrev pub and_graph : Graph
 and_graph = record { inputs = 2; nodes = node_of (plain 0) (plain 1) (plain 2) ∷ [] }
 
 abbrev pub or_graph : Graph
-or_graph = record { inputs = 2; nodes = node_of (turned 0) (plain 1) (plain 2) ∷ [] }
+or_graph = record { inputs = 2; nodes = node_of (complemented 0) (plain 1) (plain 2) ∷ [] }
 
 abbrev pub xor_graph : Graph
 xor_graph = record {
   inputs = 2;
-  nodes = node_of (plain 0) (turned 1) (plain 2) ∷ node_of (plain 0) (plain 1) (turned 2)
-      ∷ node_of (turned 0) (plain 3) (plain 4) ∷ [];
+  nodes = node_of (plain 0) (complemented 1) (plain 2)
+      ∷ node_of (plain 0) (plain 1) (complemented 2)
+      ∷ node_of (complemented 0) (plain 3) (plain 4) ∷ [];
 }
 
 abbrev pub add_graph : Graph
 add_graph = record {
   inputs = 3;
-  nodes = node_of (plain 1) (plain 2) (plain 3) ∷ node_of (plain 1) (plain 2) (turned 3)
-      ∷ node_of (plain 3) (turned 4) (plain 5) ∷ [];
+  nodes = node_of (plain 1) (plain 2) (plain 3) ∷ node_of (plain 1) (plain 2) (complemented 3)
+      ∷ node_of (plain 3) (complemented 4) (plain 5) ∷ [];
 }
 
 -- The bodies of the word operations: the complement, a shift by one, and, or, and-not, exclusive
@@ -74,7 +75,7 @@ pub data WordBody : Type 0 where
   Agreed : WordBody
   Added : WordBody
   Lessened : WordBody
-  TurnedBy : WordBody
+  NegatedIf : WordBody
   Multiplied : WordBody
   Counted : WordBody
   Divided : WordBody
@@ -91,7 +92,7 @@ inputs_in Compared = 3
 inputs_in Agreed = 3
 inputs_in Added = 3
 inputs_in Lessened = 3
-inputs_in TurnedBy = 3
+inputs_in NegatedIf = 3
 inputs_in Multiplied = 4
 inputs_in Counted = 2
 inputs_in Divided = 4
@@ -101,31 +102,40 @@ nodes_in Inverted = []
 nodes_in Shifted = []
 nodes_in Both = and_graph.nodes
 nodes_in Either = or_graph.nodes
-nodes_in Without = node_of (plain 0) (plain 1) (turned 2) ∷ []
+nodes_in Without = node_of (plain 0) (plain 1) (complemented 2) ∷ []
 nodes_in Unlike = xor_graph.nodes
-nodes_in Chosen = node_of (plain 0) (plain 1) (plain 3) ∷ node_of (plain 2) (turned 3) (plain 4)
-    ∷ node_of (turned 0) (plain 4) (plain 5) ∷ []
-nodes_in Compared = node_of (plain 1) (turned 2) (plain 3) ∷ []
-nodes_in Agreed = node_of (turned 0) (plain 1) (plain 2) ∷ node_of (plain 1) (plain 2) (turned 3)
-    ∷ node_of (plain 3) (turned 4) (plain 5) ∷ []
+nodes_in Chosen = node_of (plain 0) (plain 1) (plain 3)
+    ∷ node_of (plain 2) (complemented 3) (plain 4)
+    ∷ node_of (complemented 0) (plain 4) (plain 5) ∷ []
+nodes_in Compared = node_of (plain 1) (complemented 2) (plain 3) ∷ []
+nodes_in Agreed = node_of (complemented 0) (plain 1) (plain 2)
+    ∷ node_of (plain 1) (plain 2) (complemented 3)
+    ∷ node_of (plain 3) (complemented 4) (plain 5) ∷ []
 nodes_in Added = add_graph.nodes
-nodes_in Lessened = node_of (turned 1) (plain 2) (plain 3) ∷ node_of (plain 1) (turned 2) (plain 3)
-    ∷ node_of (turned 3) (plain 4) (plain 5) ∷ []
-nodes_in TurnedBy = node_of (plain 0) (turned 1) (plain 3) ∷ node_of (turned 0) (plain 1) (plain 4)
-    ∷ node_of (plain 2) (plain 3) (plain 5) ∷ node_of (turned 3) (plain 4) (plain 5) ∷ []
-nodes_in Multiplied = node_of (plain 0) (plain 2) (plain 3) ∷ node_of (turned 1) (plain 4) (plain 5)
-    ∷ node_of (plain 4) (plain 5) (turned 6) ∷ node_of (plain 1) (plain 6) (turned 7) ∷ []
-nodes_in Counted = node_of (turned 0) (turned 1) (plain 2) ∷ node_of (plain 0) (plain 1) (plain 2)
-    ∷ node_of (turned 2) (plain 3) (plain 4) ∷ []
-nodes_in Divided = node_of (plain 0) (plain 2) (plain 3) ∷ node_of (turned 1) (plain 4) (plain 5)
-    ∷ node_of (plain 1) (plain 4) (turned 5) ∷ node_of (turned 4) (plain 6) (plain 7) ∷ []
+nodes_in Lessened = node_of (complemented 1) (plain 2) (plain 3)
+    ∷ node_of (plain 1) (complemented 2) (plain 3)
+    ∷ node_of (complemented 3) (plain 4) (plain 5) ∷ []
+nodes_in NegatedIf = node_of (plain 0) (complemented 1) (plain 3)
+    ∷ node_of (complemented 0) (plain 1) (plain 4)
+    ∷ node_of (plain 2) (plain 3) (plain 5) ∷ node_of (complemented 3) (plain 4) (plain 5) ∷ []
+nodes_in Multiplied = node_of (plain 0) (plain 2) (plain 3)
+    ∷ node_of (complemented 1) (plain 4) (plain 5)
+    ∷ node_of (plain 4) (plain 5) (complemented 6) ∷ node_of (plain 1) (plain 6) (complemented 7)
+    ∷ []
+nodes_in Counted = node_of (complemented 0) (complemented 1) (plain 2)
+    ∷ node_of (plain 0) (plain 1) (plain 2)
+    ∷ node_of (complemented 2) (plain 3) (plain 4) ∷ []
+nodes_in Divided = node_of (plain 0) (plain 2) (plain 3)
+    ∷ node_of (complemented 1) (plain 4) (plain 5)
+    ∷ node_of (plain 1) (plain 4) (complemented 5) ∷ node_of (complemented 4) (plain 6) (plain 7)
+    ∷ []
 
 abbrev pub graph_in : WordBody → Graph
 graph_in b = record { inputs = inputs_in b; nodes = nodes_in b }
 
 -- the literals of its outputs
 abbrev pub outs_in : WordBody → List Lit
-outs_in Inverted = turned 1 ∷ []
+outs_in Inverted = complemented 1 ∷ []
 outs_in Shifted = plain 2 ∷ plain 1 ∷ []
 outs_in Both = plain 3 ∷ []
 outs_in Either = plain 3 ∷ []
@@ -136,7 +146,7 @@ outs_in Compared = plain 4 ∷ []
 outs_in Agreed = plain 6 ∷ []
 outs_in Added = plain 6 ∷ plain 4 ∷ []
 outs_in Lessened = plain 6 ∷ plain 4 ∷ []
-outs_in TurnedBy = plain 7 ∷ plain 6 ∷ []
+outs_in NegatedIf = plain 7 ∷ plain 6 ∷ []
 outs_in Multiplied = plain 8 ∷ plain 7 ∷ []
 outs_in Counted = plain 5 ∷ plain 3 ∷ []
 outs_in Divided = plain 8 ∷ plain 6 ∷ []
@@ -155,6 +165,6 @@ sequence_for Agreed = 12
 sequence_for Lessened = 15
 sequence_for Counted = 16
 sequence_for Added = 20
-sequence_for TurnedBy = 21
+sequence_for NegatedIf = 21
 sequence_for Divided = 22
 sequence_for Multiplied = 23

@@ -7,7 +7,7 @@
 use crate::body::{BodyCmd, OutRow};
 use crate::cells::lacking;
 use crate::estimate::{estimate, is_ready, points_of_nodes};
-use crate::moves::{Commands, LineUp, Way, turned, writes};
+use crate::moves::{Commands, LineUp, Way, complemented, writes};
 use crate::outlook::{State, Task, in_place};
 use mig_graph::{Lit, Mig, NoMemory};
 use no_memory::keep;
@@ -148,7 +148,7 @@ fn candidate_of(task: &Task, s: &State, node: u8, inverted: bool) -> Option<Cand
     }
     let [straight, complements] = in_place(&s.cells, operands);
     let (operands, most) = if inverted {
-        (turned(operands), complements)
+        (complemented(operands), complements)
     } else {
         (operands, straight)
     };

@@ -12,13 +12,13 @@ pub type Cells = [Option<Lit>; 6];
 #[derive(Clone, Copy, PartialEq, Eq)]
 pub struct Lines {
     pub straight: Set,
-    pub turned: Set,
+    pub complemented: Set,
 }
 
-const fn raised(straight: u32, turned: u32) -> Lines {
+const fn raised(straight: u32, complemented: u32) -> Lines {
     Lines {
         straight: Set(straight),
-        turned: Set(turned),
+        complemented: Set(complemented),
     }
 }
 
@@ -54,7 +54,7 @@ pub fn holders(cells: &Cells, l: Lit) -> Lines {
             if x.inverted == l.inverted {
                 found.straight = found.straight.with(k);
             } else {
-                found.turned = found.turned.with(k);
+                found.complemented = found.complemented.with(k);
             }
         }
     }
@@ -80,7 +80,7 @@ pub fn driven(cells: &Cells, y: u8, l: Lit) -> Cells {
     for k in 0..6u8 {
         if lines.straight.has(k) {
             after[k as usize] = Some(l);
-        } else if lines.turned.has(k) {
+        } else if lines.complemented.has(k) {
             after[k as usize] = Some(complement(l));
         }
     }
@@ -117,7 +117,7 @@ pub fn reader(cells: &Cells, l: Lit) -> Option<u8> {
         if found.straight.has(k) {
             return address_of(k, false);
         }
-        if found.turned.has(k) && k > 3 {
+        if found.complemented.has(k) && k > 3 {
             return address_of(k, true);
         }
     }
@@ -137,16 +137,19 @@ impl Fill {
         let lines = lines_of(y);
         Lines {
             straight: lines.straight.minus(self.there.straight),
-            turned: lines.turned.minus(self.there.turned),
+            complemented: lines.complemented.minus(self.there.complemented),
         }
     }
 
     /// Whether one address changes the same cells in use as the other, and no fewer free ones.
     fn is_as_good(&self, x: Lines, y: Lines) -> bool {
         y.straight.minus(x.straight).is_empty()
-            && y.turned.minus(x.turned).is_empty()
+            && y.complemented.minus(x.complemented).is_empty()
             && x.straight.minus(y.straight).minus(self.free).is_empty()
-            && x.turned.minus(y.turned).minus(self.free).is_empty()
+            && x.complemented
+                .minus(y.complemented)
+                .minus(self.free)
+                .is_empty()
     }
 
     /// Whether the address changes a cell, and no other does the same and fills more free cells.
@@ -166,10 +169,10 @@ impl Fill {
 }
 
 /// Whether the address raises the cell's n-wordline, or else its d-wordline.
-pub fn raises(y: u8, k: u8, turned: bool) -> bool {
+pub fn raises(y: u8, k: u8, complemented: bool) -> bool {
     let lines = lines_of(y);
-    if turned {
-        lines.turned.has(k)
+    if complemented {
+        lines.complemented.has(k)
     } else {
         lines.straight.has(k)
     }

@@ -40,8 +40,8 @@ pub fn is_ready(task: &Task, s: &State, [a, b, c]: [Lit; 3]) -> bool {
 
 /// What a node gains by operands that stand in place.
 fn gain(task: &Task, s: &State, operands: [Lit; 3]) -> u32 {
-    let [straight, turned] = in_place(&s.cells, operands);
-    let most = u32::max(straight, turned);
+    let [straight, complemented] = in_place(&s.cells, operands);
+    let most = u32::max(straight, complemented);
     match (is_ready(task, s, operands), most) {
         (_, 0) => 0,
         (true, 1) => 18,
@@ -108,7 +108,7 @@ fn points_of_cells(task: &Task, s: &State) -> u32 {
             && task.is_made(l.node)
         {
             let held = holders(&s.cells, l);
-            let copies = held.straight.or(held.turned);
+            let copies = held.straight.or(held.complemented);
             seen = seen.or(copies);
             let readers = task.readers(l.node).and(s.unmade).len();
             if copies.len() < readers && !task.is_in_rows(s, l.node) {

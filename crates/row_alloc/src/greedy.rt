@@ -2,7 +2,7 @@
 
 ghost use Rattle.std.specs.Prelude.{◌≡◌, ◌<◌, ◌≤◌, ◌+◌, ◌*◌, ◌↔◌, ℕ, length, false, IsTrue};
 ghost use Rattle.std.specs.Prelude.{IfOk, IfSome, IfNone, slice_index_or, map, [], ◌∷◌};
-ghost use Rattle.mig_graph.specs.Literals.{is_turned as turns};
+ghost use Rattle.mig_graph.specs.Literals.{is_complemented as turns};
 ghost use Rattle.row_alloc.specs.Rows.{out_at};
 ghost use Rattle.row_alloc.specs.Body.{FitBody, DoesBody, WritesLate};
 ghost use Rattle.row_alloc.specs.Length.{plain_length};

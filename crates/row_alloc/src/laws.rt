@@ -8,7 +8,8 @@ ghost use Rattle.row_alloc.specs.declared.body.OutRow.{OutRow};
 ghost use Rattle.row_alloc.specs.declared.body.BodyCmd.{BodyCmd};
 ghost use Rattle.row_alloc.specs.Rows.{Rows, AreApart, bound, out_at};
 ghost use Rattle.row_alloc.specs.declared.known.TheConstants.{NOT, AND, OR, XOR, ADD};
-ghost use Rattle.row_alloc.specs.Known.{Serves, plain, turned, not_graph, and_graph, or_graph};
+ghost use Rattle.row_alloc.specs.Known.{Serves, plain, complemented, not_graph, and_graph};
+ghost use Rattle.row_alloc.specs.Known.{or_graph};
 ghost use Rattle.row_alloc.specs.Known.{xor_graph, add_graph};
 ghost use Rattle.row_alloc.specs.Legal.{are_legal};
 ghost use Rattle.row_alloc.specs.Known.{WordBody, graph_in, outs_in, sequence_for, known_at};
@@ -33,7 +34,7 @@ pub fn legal_bodies_are_legal_on_banks()
 /// inputs' rows the outputs stand. Their numbers of commands are 2, 4, 4, 7 and 9.
 pub fn fixed_sequences_serve()
     ensures inverts { (outs : List OutRow) → FitBody not_graph outs → length outs ≡ 1
-        → (out_at outs 0).lit ≡ turned 1 → Serves not_graph outs NOT }
+        → (out_at outs 0).lit ≡ complemented 1 → Serves not_graph outs NOT }
     ensures joins { (outs : List OutRow) → FitBody and_graph outs → length outs ≡ 1
         → (out_at outs 0).lit ≡ plain 3 → Serves and_graph outs AND }
     ensures either { (outs : List OutRow) → FitBody or_graph outs → length outs ≡ 1

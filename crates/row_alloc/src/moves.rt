@@ -111,7 +111,7 @@ fn ordered(order: u8, [a, b, c]: [Lit; 3]) -> [Lit; 3] {
 }
 
 /// The complements of three literals.
-pub fn turned([a, b, c]: [Lit; 3]) -> [Lit; 3] {
+pub fn complemented([a, b, c]: [Lit; 3]) -> [Lit; 3] {
     [complement(a), complement(b), complement(c)]
 }
 
@@ -169,7 +169,7 @@ impl LineUp {
         task: &Task,
         way: &Way,
         k: u8,
-        is_turned: bool,
+        is_complemented: bool,
         l: Lit,
         ways: &mut Vec<Way>,
     ) -> Result<(), NoMemory> {
@@ -182,7 +182,7 @@ impl LineUp {
             free: task.free_cells(&way.state).or(lacked),
         };
         for y in 0..16u8 {
-            if raises(y, k, is_turned) && fill.is_worth(y) {
+            if raises(y, k, is_complemented) && fill.is_worth(y) {
                 let mut state = way.state;
                 state.cells = driven(&state.cells, y, l);
                 if self.fits(task, lacked, &state) {
@@ -340,7 +340,7 @@ impl LineUp {
 }
 
 /// The ways that write an output whose complement stands somewhere, through a dual-contact cell.
-fn write_turned(
+fn write_complemented(
     task: &Task,
     s: &State,
     j: u8,
@@ -369,14 +369,14 @@ pub fn writes(task: &Task, s: &State, j: u8, ends: &mut Vec<Way>) -> Result<(), 
         return Ok(());
     }
     let Some(from) = task.source(s, l) else {
-        return write_turned(task, s, j, complement(l), ends);
+        return write_complemented(task, s, j, complement(l), ends);
     };
     let mut state = *s;
     state.unwritten = state.unwritten.without(j);
     keep(ends, Way::from(*s).then(state, Aap(from, Out(j))))
 }
 
-/// Puts a way behind the others, where there is room and none has led to the same state.
+/// Puts a way after the others, where there is room and none has led to the same state.
 fn add(ways: &mut Vec<Way>, way: Way) -> Result<(), NoMemory> {
     if ways.len() >= MOST_WAYS {
         return Ok(());

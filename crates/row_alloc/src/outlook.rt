@@ -309,12 +309,12 @@ fn count_in(triple: Set, [a, b, c]: [Set; 3]) -> u32 {
 pub fn in_place(cells: &Cells, [a, b, c]: [Lit; 3]) -> [u32; 2] {
     let (a, b, c) = (holders(cells, a), holders(cells, b), holders(cells, c));
     let straight = [a.straight, b.straight, c.straight];
-    let turned = [a.turned, b.turned, c.turned];
+    let complemented = [a.complemented, b.complemented, c.complemented];
     let mut most = [0, 0];
     for triple in TRIPLES {
         most = [
             u32::max(most[0], count_in(triple, straight)),
-            u32::max(most[1], count_in(triple, turned)),
+            u32::max(most[1], count_in(triple, complemented)),
         ];
     }
     most

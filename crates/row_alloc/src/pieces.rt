@@ -2,12 +2,12 @@
 
 ghost use Rattle.std.specs.Prelude.{◌≡◌, ◌<◌, ◌≤◌, ◌+◌, ℕ, length, false, ◌++◌, ◌∷◌, [], OnOk};
 ghost use Rattle.mig_graph.specs.Literals.{IsAnyOrder, IsLower, inversions, node_of};
-ghost use Rattle.mig_graph.specs.Literals.{is_turned as turns};
+ghost use Rattle.mig_graph.specs.Literals.{is_complemented as turns};
 ghost use Rattle.mig_graph.specs.Graph.{node_at};
 ghost use Rattle.row_alloc.specs.Phases.{source_of, node_commands, stash_commands};
 
 use crate::body::{BodyCmd, BodyRef};
-use mig_graph::{Lit, Mig, NoMemory, Node, is_turned};
+use mig_graph::{Lit, Mig, NoMemory, Node, is_complemented};
 use no_memory::keep;
 
 /// The row that holds the literal's node, or the constant.
@@ -33,9 +33,9 @@ fn arrange(a: Lit, b: Lit, c: Lit) -> Node
     ensures b { turns result.b ≡ false }
     ensures c { turns result.c ≡ false }
 {
-    if is_turned(b) {
+    if is_complemented(b) {
         Node { a: b, b: a, c }
-    } else if is_turned(c) {
+    } else if is_complemented(c) {
         Node { a: c, b: a, c: b }
     } else {
         Node { a, b, c }
@@ -61,7 +61,7 @@ pub fn push_node(cmds: &mut Vec<BodyCmd>, n: Node, inputs: u8, spill: u8) -> Res
     requires lower { IsLower (inputs + 33) n }
     ensures { OnOk result (cmds.new.items ≡ cmds.old.items ++ node_commands inputs n spill) }
 {
-    let into = if is_turned(n.a) {
+    let into = if is_complemented(n.a) {
         BodyRef::B(5)
     } else {
         BodyRef::B(4)
@@ -78,7 +78,7 @@ pub fn push_stash(cmds: &mut Vec<BodyCmd>, l: Lit, inputs: u8, spill: u8) -> Res
     requires lower { l.node < inputs + 33 }
     ensures { OnOk result (cmds.new.items ≡ cmds.old.items ++ stash_commands inputs l spill) }
 {
-    if is_turned(l) {
+    if is_complemented(l) {
         keep(cmds, BodyCmd::Aap(source(l, inputs), BodyRef::B(5)))?;
         keep(cmds, BodyCmd::Aap(BodyRef::B(4), BodyRef::Spill(spill)))
     } else {

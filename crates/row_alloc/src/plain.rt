@@ -5,7 +5,7 @@
 
 ghost use Rattle.std.specs.Prelude.{◌≡◌, ◌<◌, ◌≤◌, ◌+◌, ◌*◌, ℕ, List, [], ◌∷◌, length, false};
 ghost use Rattle.std.specs.Prelude.{IfOk, sum_by};
-ghost use Rattle.mig_graph.specs.Literals.{is_turned as turns};
+ghost use Rattle.mig_graph.specs.Literals.{is_complemented as turns};
 ghost use Rattle.row_alloc.specs.Rows.{out_at};
 ghost use Rattle.row_alloc.specs.Body.{FitBody, DoesBody, WritesLate};
 ghost use Rattle.row_alloc.specs.Length.{output_length, plain_length};
@@ -16,7 +16,7 @@ ghost use Rattle.row_alloc.specs.declared.body.OutRow.{OutRow};
 
 use crate::body::{BodyCmd, BodyRef, OutRow};
 use crate::pieces::{arranged, push_node, push_stash, source};
-use mig_graph::{Mig, NoMemory, is_turned};
+use mig_graph::{Mig, NoMemory, is_complemented};
 use no_memory::keep;
 use std::alloc::Global;
 
@@ -109,7 +109,7 @@ pub fn plain_body(m: &Mig, outs: &[OutRow], alloc: Global) -> Result<Vec<BodyCmd
         → turns (out_at outs.now 0).lit ≡ false → cmds.items
         ≡ Aap (source_of m.now.inputs (out_at outs.now 0).lit) (Out 0) ∷ []) }
 {
-    if node_count(m) == 0 && outs.len() == 1 && !is_turned(outs[0].lit) {
+    if node_count(m) == 0 && outs.len() == 1 && !is_complemented(outs[0].lit) {
         return direct(m, outs, alloc);
     }
     let cmds = node_part(m, alloc)?;

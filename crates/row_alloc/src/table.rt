@@ -3,7 +3,8 @@
 ghost use Rattle.std.specs.Prelude.{◌≡◌, ◌≤◌, ◌+◌, ℕ, length, true, false, slice_index_or, nat_lt};
 ghost use Rattle.std.specs.Prelude.{if◌then◌else◌};
 ghost use Rattle.std.specs.List.{list_all};
-ghost use Rattle.row_alloc.specs.Symbolic.{turned_option, sym_read, sym_drive, sym_settle_lines};
+ghost use Rattle.row_alloc.specs.Symbolic.{complemented_option, sym_read, sym_drive};
+ghost use Rattle.row_alloc.specs.Symbolic.{sym_settle_lines};
 ghost use Rattle.row_alloc.specs.Symbolic.{held as held_of, at_start};
 ghost use Rattle.row_alloc.specs.Table.{symbols_of, is_kept};
 
@@ -85,7 +86,7 @@ impl CellLiterals {
 
 /// The literal, or its complement where inverted.
 fn turn(inverted: bool, l: Option<Lit>) -> Option<Lit>
-    ensures { result ≡ turned_option inverted l }
+    ensures { result ≡ complemented_option inverted l }
 {
     let l = l?;
     Some(if inverted { complement(l) } else { l })

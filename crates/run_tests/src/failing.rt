@@ -38,7 +38,7 @@ fn run_failing(
 }
 
 /// So many bbops in a row, the put and the call of the chip that fail, the status, how many lines
-/// of bbops are sent and what is sent behind them, and whether OUT is stored.
+/// of bbops are sent and what is sent after them, and whether OUT is stored.
 struct Case {
     bbops: usize,
     put: u64,
@@ -50,7 +50,7 @@ struct Case {
 }
 
 // The opening takes 65 calls of the chip, and each bbop 4. The first 16 bbops are one wave, whose
-// lines come behind its commands.
+// lines come after its commands.
 static CASES: [Case; 8] = [
     Case {
         bbops: 16,
@@ -126,7 +126,7 @@ static CASES: [Case; 8] = [
     },
 ];
 
-/// The lines of so many bbops that are done, with what is sent behind them.
+/// The lines of so many bbops that are done, with what is sent after them.
 fn lines(count: u32, last: &str, alloc: Global) -> Result<String, AllocError> {
     let mut text = String::new(alloc);
     for k in 0..count {
@@ -172,7 +172,7 @@ fn printed(alloc: Global) -> Result<String, AllocError> {
 }
 
 /// The put and the call of the chip that fail, the status, the least number of bytes that are sent
-/// of the print's line and one more than the greatest, and what is sent behind them.
+/// of the print's line and one more than the greatest, and what is sent after them.
 static PRINTS: [(u64, u64, u8, usize, usize, &str); 6] = [
     (3, 0, 3, 0, 1, ""),
     (4, 0, 3, 1, 10_757, ""),

@@ -81,7 +81,7 @@ fn the_greatest_job_is_done(rt: HostRuntime) -> Result<(), Fail> {
 
 // The opening takes 8,049 calls of the chip, so the third row of a is not made.
 #[test]
-fn a_fault_of_the_greatest_job_is_told(rt: HostRuntime) -> Result<(), Fail> {
+fn a_fault_of_the_greatest_job_is_reported(rt: HostRuntime) -> Result<(), Fail> {
     let alloc = rt.alloc();
     let mut files = folder(alloc)?;
     let mut out = MemSink::new(alloc);

@@ -8,7 +8,7 @@ use std::process::Abort;
 use std::test::*;
 use uprog_gen::compile_ops;
 
-/// A text, a script, sources a and b, and what y holds afterwards, behind them.
+/// A text, a script, sources a and b, and what y holds afterwards, after them.
 struct Job {
     ops: &'static str,
     script: &'static str,

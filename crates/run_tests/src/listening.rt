@@ -29,7 +29,7 @@ struct Heard {
 }
 
 impl Heard {
-    /// Keeps it behind the others; where there is no memory for it, the list is too short.
+    /// Keeps it after the others; where there is no memory for it, the list is too short.
     fn hear(&mut self, sent: Sent) {
         let _ = self.sent.push(sent);
     }
@@ -117,7 +117,7 @@ const TOTAL: &str = "total aap=502 ap=48 writes=256 reads=272 refused=0\n";
 /// The image's rows are written first: 128 in each of two banks.
 const WRITES: usize = 256;
 
-/// The wave stands behind the writes and the commands of seven instructions on 16 rows each.
+/// The wave stands after the writes and the commands of seven instructions on 16 rows each.
 const WAVE: usize = WRITES + 7 * 16;
 
 /// A wave of three additions, each of 73 commands, on each of two banks.
@@ -129,7 +129,7 @@ fn report(alloc: Global) -> Result<String, AllocError> {
     format!(in alloc; "{}12 v:{}\n{}", LINES, values, TOTAL)
 }
 
-/// A run of the job: its status, what it reports, the folder behind it and what the chip was sent.
+/// A run of the job: its status, what it reports, the folder after it and what the chip was sent.
 #[derive(Drop)]
 struct Ended {
     status: u8,

@@ -590,12 +590,12 @@ const WAVE_REPORT: &str = "1 ok aap=0 ap=0\n2 ok aap=16 ap=0\n3 ok aap=16 ap=0\n
     9 ok aap=130 ap=16\n10 ok aap=130 ap=16\n11 ok aap=130 ap=16\n\
     total aap=502 ap=48 writes=256 reads=256 refused=0\n";
 
-/// The rows of all ones behind that wave, in each bank: a is 1, b is 2, t is 3, u is 4 and v is 7
-/// in every column, and each stands 8 rows behind the one before. The other rows are 0.
+/// The rows of all ones after that wave, in each bank: a is 1, b is 2, t is 3, u is 4 and v is 7
+/// in every column, and each stands 8 rows after the one before. The other rows are 0.
 static ONES: [u16; 8] = [0, 9, 16, 17, 26, 32, 33, 34];
 
-/// The image behind that wave.
-fn image_behind(alloc: Global) -> Result<Vec<u8>, AllocError> {
+/// The image after that wave.
+fn image_after(alloc: Global) -> Result<Vec<u8>, AllocError> {
     let mut bytes = Vec::new(alloc);
     bytes.extend_from_slice(b"SDMI\x01\0\x02\0\x80\0\x01\0\x05\0")?;
     for (name, base) in [(b'a', 0), (b'b', 8), (b't', 16), (b'u', 24), (b'v', 32)] {
@@ -617,7 +617,7 @@ fn image_behind(alloc: Global) -> Result<Vec<u8>, AllocError> {
 #[test]
 fn every_order_gives_one_answer(rt: HostRuntime) -> Result<(), Fail> {
     let alloc = rt.alloc();
-    let wanted = image_behind(alloc)?;
+    let wanted = image_after(alloc)?;
     for order in ["order in", "order turns", "order seed 7"] {
         let script = format!(in alloc; "{}\n{}", order, WAVE)?;
         let mut files = folder(["2", "128", "1"], ADD, script.as_str(), alloc)?;

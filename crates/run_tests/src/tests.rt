@@ -224,7 +224,7 @@ fn other_words_are_usage(rt: HostRuntime) -> Result<(), Fail> {
 }
 
 #[test]
-fn files_that_cannot_be_read_are_told(rt: HostRuntime) -> Result<(), Fail> {
+fn files_that_cannot_be_read_are_reported(rt: HostRuntime) -> Result<(), Fail> {
     let alloc = rt.alloc();
     let image = image(alloc)?;
     let mut files = folder(AND, JOB, &image, alloc)?;
@@ -323,7 +323,7 @@ static FAILINGS: [Failing; 7] = [
 ];
 
 #[test]
-fn one_failing_call_is_told(rt: HostRuntime) -> Result<(), Fail> {
+fn one_failing_call_is_reported(rt: HostRuntime) -> Result<(), Fail> {
     let alloc = rt.alloc();
     let image = image(alloc)?;
     for case in FAILINGS.as_slice() {

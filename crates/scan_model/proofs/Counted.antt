@@ -90,7 +90,7 @@ nothing_is_moved = record {
       (prints start (free_name start) (count_of start nodes) 0 nodes);
 }
 
--- a node's last instruction is no bbop, and each bbop has another instruction behind it
+-- a node's last instruction is no bbop, and each bbop has another instruction after it
 node_alone : (table : List Named) (names : ℕ → List ℕ) (count k : ℕ) (node : Node)
     (rest : List Instruction) → pieces (node_instructions table names count k node ++ rest)
     ≡ map piece_of (node_instructions table names count k node) ++ pieces rest

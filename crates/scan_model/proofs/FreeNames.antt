@@ -242,7 +242,7 @@ names_are_free = record { free = is_free; fit = name_fits; differ = differ_by }
 abbrev passing : (List ℕ → Bool) → ℕ → ℕ → List (List ℕ)
 passing p a n = filter p (map scan_name (range_with_len a n))
 
--- the next that passes stands behind those before it
+-- the next that passes stands after those before it
 next_passing : (p : List ℕ → Bool) (a n i : ℕ) → i < n → p (scan_name (a + i)) ≡ true
     → get_or (passing p a n) (length (passing p a i)) [] ≡ scan_name (a + i)
 next_passing p a zero i l e = absurd (omega (arith, l))

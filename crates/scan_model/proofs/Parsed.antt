@@ -15,11 +15,11 @@ use Rattle.scan_model.specs.Queries.{Query, Compare, Negate, Both, Either, size}
 use Rattle.scan_model.specs.Texts.{Word, Name, Number, Opens, Closes, Comma, Other, Stranger}
 use Rattle.scan_model.specs.Texts.{Piece, Lead, Compares, Negates, Ands, Ors, lead_text}
 use Rattle.scan_model.specs.Texts.{all_leads, lead_among, Wanted, Start, Open, Object, Between}
-use Rattle.scan_model.specs.Texts.{Bound, Close, behind, Begun, with_lead, fits, tests_in}
+use Rattle.scan_model.specs.Texts.{Bound, Close, following, Begun, with_lead, fits, tests_in}
 use Rattle.scan_model.specs.Texts.{Stepped, started, step, after, breach_of, none_begun, spelled}
 use Rattle.scan_model.specs.TextLaws.{tests, IsWritten, Says, words_of}
 
--- what has begun behind a query
+-- what has begun after a query
 abbrev plus : Begun → Query → Begun
 plus s q = record { nodes = s.nodes + size q; tests = s.tests + tests q }
 
@@ -94,7 +94,7 @@ record Through (q : Query) (wanted : List Wanted) (s : Begun) (pieces : List Pie
   is : breach_of (Start ∷ wanted) s pieces ≡ breach_of wanted (plus s q) left
 
 start_step : (s : Begun) (lead : Lead) → s.nodes + 1 ≤ 64 → s.tests + tests_in lead ≤ 32
-    → step Start s (Name (lead_text lead)) ≡ Ok (behind lead, with_lead s lead)
+    → step Start s (Name (lead_text lead)) ≡ Ok (following lead, with_lead s lead)
 start_step s lead a b = rw (lead_is lead, fits_true (with_lead s lead) a b) refl
 
 size_one : (q : Query) → 1 ≤ size q
@@ -108,7 +108,7 @@ through : (q : Query) (wanted : List Wanted) (s : Begun) (pieces : List Piece) (
     → s.tests + tests q ≤ 32 → Through q wanted s pieces rest
 through (Compare op name v) wanted s pieces rest e w a b =
     let t = with_lead s (Compares op) in
-    let r0 = right Start wanted s pieces _ _ (behind (Compares op)) t e
+    let r0 = right Start wanted s pieces _ _ (following (Compares op)) t e
     (start_step s (Compares op) a b) in
     let r1 = right Open (Object ∷ Between ∷ Bound ∷ Close ∷ wanted) t r0.left _ _ [] t r0.words
     refl in
@@ -126,7 +126,7 @@ through (Compare op name v) wanted s pieces rest e w a b =
     }
 through (Negate q) wanted s pieces rest e w a b =
     let t = with_lead s Negates in
-    let r0 = right Start wanted s pieces _ _ (behind Negates) t e
+    let r0 = right Start wanted s pieces _ _ (following Negates) t e
     (start_step s Negates (omega (arith, a)) (omega (arith, b))) in
     let r1 = right Open (Start ∷ Close ∷ wanted) t r0.left _ _ [] t r0.words refl in
     let r2 = through q (Close ∷ wanted) t r1.left _ r1.words w (omega (arith, a))
@@ -141,7 +141,7 @@ through (Negate q) wanted s pieces rest e w a b =
 through (Both p q) wanted s pieces rest e w a b =
     let t = with_lead s Ands in
     let some = size_one q in
-    let r0 = right Start wanted s pieces _ _ (behind Ands) t e
+    let r0 = right Start wanted s pieces _ _ (following Ands) t e
     (start_step s Ands (omega (arith, a)) (omega (arith, b))) in
     let r1 = right Open (Start ∷ Between ∷ Start ∷ Close ∷ wanted) t r0.left _ _ [] t r0.words
     refl in
@@ -161,7 +161,7 @@ through (Both p q) wanted s pieces rest e w a b =
     }
 through (Either p q) wanted s pieces rest e w a b =
     let t = with_lead s Ors in
-    let r0 = right Start wanted s pieces _ _ (behind Ors) t e
+    let r0 = right Start wanted s pieces _ _ (following Ors) t e
     (start_step s Ors (omega (arith, a)) (omega (arith, b))) in
     let r1 = right Open (Start ∷ Between ∷ Start ∷ Close ∷ wanted) t r0.left _ _ [] t r0.words
     refl in
@@ -293,14 +293,14 @@ bound_ok s Stranger front t e = cc
 record IsStarted (s : Begun) (word : Word) (front : List Wanted) (t : Begun) : Type 0 where
   lead : Lead
   spelling : word ≡ Name (lead_text lead)
-  behind_it : front ≡ behind lead
+  after_it : front ≡ following lead
   begun : t ≡ with_lead s lead
   nodes : s.nodes + 1 ≤ 64
   tests_so_far : s.tests + tests_in lead ≤ 32
 
 fits_case : (b : Bool) (s : Begun) (x : List ℕ) (lead : Lead) (front : List Wanted) (t : Begun)
     → x ≡ lead_text lead → fits (with_lead s lead) ≡ b
-    → chosen b (behind lead, with_lead s lead) kind.TooMany ≡ Ok (front, t)
+    → chosen b (following lead, with_lead s lead) kind.TooMany ≡ Ok (front, t)
     → IsStarted s (Name x) front t
 unfolding front_in begun_in
 fits_case true s x lead front t is f e =
@@ -308,7 +308,7 @@ fits_case true s x lead front t is f e =
     record {
       lead = lead;
       spelling = ap (λ y. Name y) is;
-      behind_it = sym (ap front_in e);
+      after_it = sym (ap front_in e);
       begun = sym (ap begun_in e);
       nodes = at_most (s.nodes + 1) 64 b.0;
       tests_so_far = at_most (s.tests + tests_in lead) 32 b.1;
@@ -331,7 +331,7 @@ start_ok s Comma front t e = cc
 start_ok s Other front t e = cc
 start_ok s Stranger front t e = cc
 
--- a token, with its word, that leaves what was wanted behind it
+-- a token, with its word, that leaves what was wanted after it
 record Passed (word : Word) (wanted : List Wanted) (s : Begun) (pieces : List Piece) : Type 0
   where
     left : List Piece
@@ -394,10 +394,10 @@ abbrev Reads : ℕ → Type 0
 Reads fuel = (wanted : List Wanted) (s : Begun) (pieces : List Piece) → length pieces ≤ fuel
     → breach_of (Start ∷ wanted) s pieces ≡ None → Read wanted s pieces
 
--- behind the first token
+-- after the first token
 by_lead : (fuel : ℕ) → Reads fuel → (lead : Lead) (wanted : List Wanted) (s : Begun)
     (left : List Piece) → length left ≤ fuel → s.nodes + 1 ≤ 64 → s.tests + tests_in lead ≤ 32
-    → breach_of (behind lead ++ wanted) (with_lead s lead) left ≡ None
+    → breach_of (following lead ++ wanted) (with_lead s lead) left ≡ None
     → (pieces : List Piece) → words_of pieces ≡ Name (lead_text lead) ∷ words_of left
     → length pieces ≡ length left + 1 → Read wanted s pieces
 by_lead fuel go (Compares op) wanted s left l a b h pieces w n =
@@ -489,8 +489,8 @@ reads (suc fuel) wanted s pieces l h =
     let r = start_ok s k.word k.front k.begun k.ok in
     by_lead fuel (reads fuel) r.lead wanted s k.left (omega (arith, l, k.shorter)) r.nodes
     r.tests_so_far
-    (subst (λ t. breach_of (behind r.lead ++ wanted) t k.left ≡ None) r.begun
-    (subst (λ f. breach_of (f ++ wanted) k.begun k.left ≡ None) r.behind_it k.rest))
+    (subst (λ t. breach_of (following r.lead ++ wanted) t k.left ≡ None) r.begun
+    (subst (λ f. breach_of (f ++ wanted) k.begun k.left ≡ None) r.after_it k.rest))
     pieces (k.words ∙ ap (λ w. w ∷ words_of k.left) r.spelling) k.shorter
 
 at_end : (s : Begun) (pieces : List Piece) → breach_of [] s pieces ≡ None → pieces ≡ []

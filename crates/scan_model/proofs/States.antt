@@ -170,7 +170,7 @@ dropped-one h name e = rw (bytes_same h.name name e) refl
 pub dropped-other : (h : Held) (name : List ℕ) → h.name ≢ name → dropped (h ∷ []) name ≡ h ∷ []
 dropped-other h name n = rw (bytes_differ h.name name n) refl
 
--- the object behind s is dropped, and what stands behind it stays
+-- the object after s is dropped, and what stands after it stays
 pub dropped-between : (s : List Held) (h k : Held) → lookup s h.name ≡ None → k.name ≢ h.name
     → dropped ((s ++ h ∷ []) ++ k ∷ []) h.name ≡ s ++ k ∷ []
 dropped-between s h k e n =

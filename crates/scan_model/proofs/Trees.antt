@@ -1,4 +1,4 @@
--- The instructions of a query, by its tree: each subquery leaves one object behind what stood
+-- The instructions of a query, by its tree: each subquery leaves one object after what stood
 -- before it.
 use Rattle.std.proofs.Common.{◌≡◌, ◌≢◌, ℕ, ◌+◌, ◌*◌, ◌<◌, ◌≤◌, Bool, not, ◌&&◌, List, [], ◌∷◌}
 use Rattle.std.proofs.Common.{◌++◌, length, length-append, Some, None, refl, sym, ◌∙◌, ap, subst}

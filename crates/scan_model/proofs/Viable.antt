@@ -10,7 +10,8 @@ use Rattle.scan_model.specs.Queries.{Query, Compare, Negate, Both, Either}
 use Rattle.scan_model.specs.Texts.{Word, Name, Number, Opens, Closes, Comma, Other, Stranger}
 use Rattle.scan_model.specs.Texts.{Piece, Lead, Compares, Negates, Ands, Ors, lead_text}
 use Rattle.scan_model.specs.Texts.{all_leads, lead_among, Wanted, Start, Open, Object, Between}
-use Rattle.scan_model.specs.Texts.{Bound, Close, behind, Begun, with_lead, fits, Stepped, started}
+use Rattle.scan_model.specs.Texts.{Bound, Close, following, Begun, with_lead, fits, Stepped}
+use Rattle.scan_model.specs.Texts.{started}
 use Rattle.scan_model.specs.Texts.{step, Breach, spare, after, breach_of, none_begun, spelled}
 use Rattle.scan_model.specs.TextLaws.{words_of, follow, and_on, allowed, IsViable, BreaksSyntax}
 use Rattle.scan_model.specs.TextLaws.{SyntaxIsTheGrammars}
@@ -143,17 +144,17 @@ bound_is Other front e = cc
 bound_is Stranger front e = cc
 
 start_case : (x : List ℕ) (o : Option Lead) (front : List Wanted) → lead_among all_leads x ≡ o
-    → option_map behind o ≡ Some front → (lead : Lead) × (x ≡ lead_text lead)
-    × (front ≡ behind lead)
+    → option_map following o ≡ Some front → (lead : Lead) × (x ≡ lead_text lead)
+    × (front ≡ following lead)
 start_case x None front f e = cc
 start_case x (Some lead) front f e = (
   lead,
   among_text all_leads x lead f,
-  some_is (behind lead) front e,
+  some_is (following lead) front e,
 )
 
 start_is : (word : Word) (front : List Wanted) → follow Start word ≡ Some front → (lead : Lead)
-    × (word ≡ Name (lead_text lead)) × (front ≡ behind lead)
+    × (word ≡ Name (lead_text lead)) × (front ≡ following lead)
 start_is (Name x) front e = let r = start_case x (lead_among all_leads x) front refl e in
     (r.0, ap (λ y. Name y) r.1, r.2)
 start_is (Number v) front e = cc
@@ -163,15 +164,15 @@ start_is Comma front e = cc
 start_is Other front e = cc
 start_is Stranger front e = cc
 
--- a token passed, and those behind it
-record Behind (word : Word) (wanted : List Wanted) (words : List Word) : Type 0 where
+-- a token passed, and those after it
+record Following (word : Word) (wanted : List Wanted) (words : List Word) : Type 0 where
   rest : List Word
   is : words ≡ word ∷ rest
   goes_on : allowed wanted rest ≡ Some []
 
-behind_it : (w : Wanted) (word : Word) (wanted : List Wanted) (words : List Word)
-    (s : Step w wanted words) → s.word ≡ word → s.front ≡ [] → Behind word wanted words
-behind_it w word wanted words s e f = record {
+after_it : (w : Wanted) (word : Word) (wanted : List Wanted) (words : List Word)
+    (s : Step w wanted words) → s.word ≡ word → s.front ≡ [] → Following word wanted words
+after_it w word wanted words s e f = record {
   rest = s.rest;
   is = s.is
       ∙ ap (λ x. x ∷ s.rest) e;
@@ -180,34 +181,34 @@ behind_it w word wanted words s e f = record {
 }
 
 opens_at : (wanted : List Wanted) (words : List Word) → allowed (Open ∷ wanted) words ≡ Some []
-    → Behind Opens wanted words
+    → Following Opens wanted words
 opens_at wanted words h = let s = one_step Open wanted words h in let r =
-    open_is s.word s.front s.follows in behind_it Open Opens wanted words s r.0 r.1
+    open_is s.word s.front s.follows in after_it Open Opens wanted words s r.0 r.1
 
 closes_at : (wanted : List Wanted) (words : List Word) → allowed (Close ∷ wanted) words ≡ Some []
-    → Behind Closes wanted words
+    → Following Closes wanted words
 closes_at wanted words h = let s = one_step Close wanted words h in let r =
-    close_is s.word s.front s.follows in behind_it Close Closes wanted words s r.0 r.1
+    close_is s.word s.front s.follows in after_it Close Closes wanted words s r.0 r.1
 
 comma_at : (wanted : List Wanted) (words : List Word) → allowed (Between ∷ wanted) words ≡ Some []
-    → Behind Comma wanted words
+    → Following Comma wanted words
 comma_at wanted words h = let s = one_step Between wanted words h in let r =
-    between_is s.word s.front s.follows in behind_it Between Comma wanted words s r.0 r.1
+    between_is s.word s.front s.follows in after_it Between Comma wanted words s r.0 r.1
 
 object_at : (wanted : List Wanted) (words : List Word) → allowed (Object ∷ wanted) words ≡ Some []
-    → (x : List ℕ) × Behind (Name x) wanted words
+    → (x : List ℕ) × Following (Name x) wanted words
 object_at wanted words h = let s = one_step Object wanted words h in let r =
     object_is s.word s.front s.follows in (
       r.0,
-      behind_it Object (Name r.0) wanted words s r.1 r.2,
+      after_it Object (Name r.0) wanted words s r.1 r.2,
     )
 
 bound_at : (wanted : List Wanted) (words : List Word) → allowed (Bound ∷ wanted) words ≡ Some []
-    → (v : ℕ) × Behind (Number v) wanted words
+    → (v : ℕ) × Following (Number v) wanted words
 bound_at wanted words h = let s = one_step Bound wanted words h in let r =
     bound_is s.word s.front s.follows in (
       r.0,
-      behind_it Bound (Number r.0) wanted words s r.1 r.2,
+      after_it Bound (Number r.0) wanted words s r.1 r.2,
     )
 
 record Parsed (wanted : List Wanted) (words : List Word) : Type 0 where
@@ -225,7 +226,7 @@ smaller : (w : Word) (xs ys : List Word) → xs ≡ w ∷ ys → length xs ≡ l
 smaller w xs ys e = ap length e ∙ omega arith
 
 by_lead : (fuel : ℕ) → Parses fuel → (lead : Lead) (wanted : List Wanted) (left : List Word)
-    → length left ≤ fuel → allowed (behind lead ++ wanted) left ≡ Some [] → (words : List Word)
+    → length left ≤ fuel → allowed (following lead ++ wanted) left ≡ Some [] → (words : List Word)
     → words ≡ Name (lead_text lead) ∷ left → Parsed wanted words
 by_lead fuel go (Compares op) wanted left l h words w =
     let r1 = opens_at (Object ∷ Between ∷ Bound ∷ Close ∷ wanted) left h in
@@ -358,11 +359,12 @@ number_fits true s = refl
 number_fits false s = tt
 
 lead_fits : (b : Bool) (s : Begun) (lead : Lead)
-    → Fits (cond b (Ok (behind lead, with_lead s lead)) (Err kind.TooMany)) (Some (behind lead))
+    → Fits (cond b (Ok (following lead, with_lead s lead)) (Err kind.TooMany)) (Some (following
+    lead))
 lead_fits true s lead = refl
 lead_fits false s lead = tt
 
-start_fits : (s : Begun) (o : Option Lead) → Fits (started s o) (option_map behind o)
+start_fits : (s : Begun) (o : Option Lead) → Fits (started s o) (option_map following o)
 start_fits s None = refl
 start_fits s (Some lead) = lead_fits (fits (with_lead s lead)) s lead
 

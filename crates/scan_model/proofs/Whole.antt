@@ -32,7 +32,7 @@ pub or_later_none : {R : Type 0} (a : Option R) (k : ℕ) (b : Option (R × ℕ)
 or_later_none None k b e = (refl, e)
 or_later_none (Some r) k b e = cc
 
--- what stands behind is checked too, from some number on
+-- what stands after is checked too, from some number on
 checked-append : (table : List Named) (count k : ℕ) (xs ys : List Node)
     → checked_from table count k (xs ++ ys) ≡ None → (checked_from table count k xs ≡ None)
     × (m : ℕ) × (checked_from table count m ys ≡ None)

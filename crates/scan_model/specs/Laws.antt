@@ -77,7 +77,7 @@ pub record IsHeld (g : Geometry) (h : Held) : Type 0 where
   pub fits : h.object.count ≤ column_count g * g.banks
   pub numbers_fit : (e : ℕ) → slice_index h.numbers e < 2 ^ h.object.width
 
--- this state and behind it one object of width 1 that is 1 exactly where the test holds, in every
+-- this state and after it one object of width 1 that is 1 exactly where the test holds, in every
 -- column
 pub record Leaves (g : Geometry) (state : List Held) (name : List ℕ) (count : ℕ) (holds : ℕ
     → Bool) (new : List Held) : Type 0 where

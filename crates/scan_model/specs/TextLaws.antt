@@ -5,7 +5,8 @@ use Rattle.text_lex.specs.Spelled.{fits_name}
 use Rattle.scan_model.specs.Queries.{Query, Compare, Negate, Both, Either, size}
 use Rattle.scan_model.specs.declared.QueryKind.TheVariants.{Syntax}
 use Rattle.scan_model.specs.Texts.{Word, Name, Number, Opens, Closes, Comma, Piece, Wanted, Start}
-use Rattle.scan_model.specs.Texts.{Open, Object, Between, Bound, Close, Breach, behind, all_leads}
+use Rattle.scan_model.specs.Texts.{Open, Object, Between, Bound, Close, Breach, following}
+use Rattle.scan_model.specs.Texts.{all_leads}
 use Rattle.scan_model.specs.Texts.{lead_among, breach_of, none_begun, spelled}
 
 abbrev pub tests : Query → ℕ
@@ -34,9 +35,9 @@ pub record Says (words : List Word) (q : Query) : Type 0 where
 abbrev pub words_of : List Piece → List Word
 words_of pieces = map (λ p. p.1) pieces
 
--- what the grammar alone asks for behind a token, or none where it does not allow the token
+-- what the grammar alone asks for after a token, or none where it does not allow the token
 abbrev pub follow : Wanted → Word → Option (List Wanted)
-follow Start (Name text) = option_map behind (lead_among all_leads text)
+follow Start (Name text) = option_map following (lead_among all_leads text)
 follow Open Opens = Some []
 follow Object (Name text) = Some []
 follow Between Comma = Some []
@@ -49,7 +50,7 @@ abbrev pub and_on : Option (List Wanted) → (List Wanted → Option (List Wante
 and_on None go = None
 and_on (Some front) go = go front
 
--- what the grammar asks for behind these tokens, or none where it does not allow them
+-- what the grammar asks for after these tokens, or none where it does not allow them
 abbrev pub allowed : List Wanted → List Word → Option (List Wanted)
 allowed wanted [] = Some wanted
 allowed [] (word ∷ words) = None

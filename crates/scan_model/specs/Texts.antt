@@ -79,12 +79,12 @@ pub data Wanted : Type 0 where
   Bound : Wanted
   Close : Wanted
 
--- a query, behind its first token
-abbrev pub behind : Lead → List Wanted
-behind (Compares op) = Open ∷ Object ∷ Between ∷ Bound ∷ Close ∷ []
-behind Negates = Open ∷ Start ∷ Close ∷ []
-behind Ands = Open ∷ Start ∷ Between ∷ Start ∷ Close ∷ []
-behind Ors = Open ∷ Start ∷ Between ∷ Start ∷ Close ∷ []
+-- a query, after its first token
+abbrev pub following : Lead → List Wanted
+following (Compares op) = Open ∷ Object ∷ Between ∷ Bound ∷ Close ∷ []
+following Negates = Open ∷ Start ∷ Close ∷ []
+following Ands = Open ∷ Start ∷ Between ∷ Start ∷ Close ∷ []
+following Ors = Open ∷ Start ∷ Between ∷ Start ∷ Close ∷ []
 
 -- how many nodes and comparisons have begun
 pub record Begun : Type 0 where
@@ -108,7 +108,7 @@ Stepped = Result (List Wanted × Begun) QueryKind
 
 abbrev pub started : Begun → Option Lead → Stepped
 started s None = Err Syntax
-started s (Some lead) = if fits (with_lead s lead) then Ok (behind lead, with_lead s lead) else
+started s (Some lead) = if fits (with_lead s lead) then Ok (following lead, with_lead s lead) else
     Err TooMany
 
 -- the next token, where this is wanted: what is wanted in its place, or the first rule that it

@@ -41,7 +41,8 @@ use Rattle.scan_model.specs.Instructions.{count_of, scan_script}
 use Rattle.scan_model.specs.Names.{free_name}
 use Rattle.scan_model.specs.Laws.{scan_refused}
 use Rattle.scan_model.specs.Operations.{scan_text}
-use Rattle.scan_model.specs.Queries.{Query, Compare, Negate, Both, Either, Node, nodes_from, nodes_of}
+use Rattle.scan_model.specs.Queries.{Query, Compare, Negate, Both, Either, Node, nodes_from}
+use Rattle.scan_model.specs.Queries.{nodes_of}
 use Rattle.scan_model.specs.Queries.{size}
 use Rattle.scan_model.proofs.Answered.{scan_is_plain, scans_answer}
 use Rattle.scan_model.proofs.Counted.{all_append, each_is_alone, nothing_is_moved}
@@ -127,19 +128,23 @@ no_writes c = ap (λ k. let d : Counters = record c { writes = k } in d) (omega 
 -- the counters rise by the replies
 pub counts_risen : (g : Geometry) (ops : Routines) (turn : Turn) (table : List Named)
     (nodes : List Node) (k new : Counters) → 0 < g.words → FitsBanks g table
-    → new ≡ all_counted (events_of_pieces g ops turn table (map piece_of (scan_script table nodes))) k
+    → new ≡ all_counted (events_of_pieces g ops turn table (map piece_of (scan_script table nodes)))
+    k
     → new ≡ with_counts k (sum_of (replies g ops table (scan_script table nodes)))
 counts_risen g ops turn table nodes k new words fits e =
-    e ∙ ap (λ ps. all_counted (events_of_pieces g ops turn table ps) k) (sym (each_is_alone table nodes))
+    e ∙ ap (λ ps. all_counted (events_of_pieces g ops turn table ps) k) (sym (each_is_alone table
+    nodes))
     ∙ counted_by_replies g ops turn table (scan_script table nodes) k words fits
-    ∙ ap (λ n. with_writes n (with_counts k (sum_of (replies g ops table (scan_script table nodes)))))
+    ∙ ap (λ n. with_writes n (with_counts k (sum_of (replies g ops table (scan_script table
+    nodes)))))
     (nothing_is_moved.loads g ops table table nodes)
     ∙ no_writes (with_counts k (sum_of (replies g ops table (scan_script table nodes))))
 
 -- the last object's ones are what is found
 pub leaves_one : (m : Machine) (banks : Banks) (t : Query) → IsReady m
     → ((b : ℕ) → b < (geometry_of m).banks → length (banks b) ≡ column_count (geometry_of m))
-    → ImplementsAll (program_of m) scan_text → size t ≤ 64 → checked (table_in m) (nodes_of t) ≡ None
+    → ImplementsAll (program_of m) scan_text → size t ≤ 64
+    → checked (table_in m) (nodes_of t) ≡ None
     → scan_refused (geometry_of m) (operations_by m) (table_in m) t ≡ None
     → LeavesOne (geometry_of m) (operations_by m) banks (table_in m) t
 leaves_one m banks t ready shaped impl small checks none =
@@ -233,12 +238,12 @@ ones_found a b s t nodes q ready h ran l =
     (scan_script (table_in a) ns)) h.nodes_are)
     ∙ l.ones
 
--- the counters behind it
-pub counts_behind : (a b : Machine) (s t : ChipView) (nodes : List Node) → IsReady a
+-- the counters after it
+pub counts_after : (a b : Machine) (s t : ChipView) (nodes : List Node) → IsReady a
     → NodesRan nodes a b s t
     → t.counters ≡ with_counts s.counters (sum_of (replies (geometry_of a) (operations_by a)
     (table_in a) (scan_script (table_in a) nodes)))
-counts_behind a b s t nodes ready ran = counts_risen (geometry_of a) (operations_by a) (turn_in a)
+counts_after a b s t nodes ready ran = counts_risen (geometry_of a) (operations_by a) (turn_in a)
     (table_in a) nodes s.counters t.counters
     (geometry_parts (geometry_of a) ready.set.geometry).0
     (fit (geometry_of a) (table_in a) ready.set.objects) ran.ran.did.counters
@@ -272,7 +277,7 @@ answer_done a b s t nodes q found of counts ready h checks ran l ones same aap a
     ∙ ap (λ n. Found (found_in g s.banks table q) n counts)
     (same ∙ ap (count_of table) h.nodes_are)
     ∙ ap (λ (c : Counts). Found (found_in g s.banks table q) (query_count table q) c)
-    (difference s.counters t.counters sum counts (counts_behind a b s t nodes ready ran) aap ap'
+    (difference s.counters t.counters sum counts (counts_after a b s t nodes ready ran) aap ap'
     ∙ ap (λ (ns : List Node). sum_of (replies g ops table (scan_script table ns))) h.nodes_are)
     ∙ answer_found g ops s.banks table q
     (ap (checked table) (sym h.nodes_are) ∙ checks)
@@ -383,12 +388,12 @@ pub counters_end : (a b : Machine) (s t u : ChipView) (nodes : List Node) (n : �
     → counts.aap ≡ t.counters.aap - s.counters.aap → counts.ap ≡ t.counters.ap - s.counters.ap
     → u.counters ≡ with_reads n (with_counts s.counters counts)
 counters_end a b s t u nodes n counts ready ran read aap ap' =
-    let behind = counts_behind a b s t nodes ready ran in
+    let following = counts_after a b s t nodes ready ran in
     read.counters
-    ∙ ap (with_reads n) (behind
+    ∙ ap (with_reads n) (following
     ∙ ap (with_counts s.counters) (sym (difference s.counters t.counters
     (sum_of (replies (geometry_of a) (operations_by a) (table_in a)
-    (scan_script (table_in a) nodes))) counts behind aap ap')))
+    (scan_script (table_in a) nodes))) counts following aap ap')))
 
 -- the checks do not pass and refuse
 pub not_both : (o : Option (ScanWhy × ℕ)) (found : ScanWhy × ℕ) → o ≡ Some found → o ≡ None → ⊥

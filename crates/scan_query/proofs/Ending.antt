@@ -14,9 +14,9 @@ use Rattle.scan_model.specs.TextLaws.{QueryTextLaws, words_of}
 use Rattle.op_text.specs.Lines.{line_of}
 use Rattle.scan_query.specs.declared.reading.Stop.{Stop}
 use Rattle.scan_query.specs.Parsing.{IsQueryOf}
-use Rattle.scan_query.specs.Reading.{Fails, Finds, Reading, Reads, breach, left, start_of}
+use Rattle.scan_query.specs.Reading.{Fails, Finds, ParserView, Reads, breach, left, start_of}
 
--- a token behind the query
+-- a token after the query
 spare_case : (a b c : Bool) → model.spare (cond a model.Opens (cond b model.Closes
     (cond c model.Comma model.Other))) ≡ kind.Syntax
 spare_case true b c = refl
@@ -30,26 +30,26 @@ spare_is kinds.Number t = refl
 spare_is kinds.Symbol t = spare_case (bytes_eq t (codes "(")) (bytes_eq t (codes ")"))
     (bytes_eq t (codes ","))
 
-pub spare_token : (old : Reading) (at : ℕ) (k : TokenKind) (t : List ℕ) (ps : List model.Piece)
+pub spare_token : (old : ParserView) (at : ℕ) (k : TokenKind) (t : List ℕ) (ps : List model.Piece)
     → old.pieces ≡ (at, model.word_at k t) ∷ ps
     → breach [] old ≡ Some (record { at = Some at; kind = kind.Syntax })
 unfolding model.breach_of
 spare_token old at k t ps e = rw (e, spare_is k t) refl
 
-pub spare_stranger : (old : Reading) (at : ℕ) → old.pieces ≡ (at, model.Stranger) ∷ []
+pub spare_stranger : (old : ParserView) (at : ℕ) → old.pieces ≡ (at, model.Stranger) ∷ []
     → breach [] old ≡ Some (record { at = Some at; kind = kind.Lex })
 unfolding model.breach_of
 spare_stranger old at e = rw e refl
 
-pub at_end : (old : Reading) → old.pieces ≡ [] → breach [] old ≡ None
+pub at_end : (old : ParserView) → old.pieces ≡ [] → breach [] old ≡ None
 unfolding model.breach_of
 at_end old e = rw e refl
 
-pub left_none : (old : Reading) → old.pieces ≡ [] → left old ≡ []
+pub left_none : (old : ParserView) → old.pieces ≡ [] → left old ≡ []
 left_none old e = ap words_of e
 
 -- the query of a text
-pub is_query : (laws : QueryTextLaws) (text : List ℕ) (start new : Reading) (k : ℕ)
+pub is_query : (laws : QueryTextLaws) (text : List ℕ) (start new : ParserView) (k : ℕ)
     (before nodes : List query.Node) → before ≡ [] → start ≡ start_of text
     → Reads (left start) k new before nodes
     → breach (model.Start ∷ []) start ≡ breach [] new → breach [] new ≡ None → left new ≡ []

@@ -71,7 +71,7 @@ script_snoc start names count k (x ∷ xs) node =
     ∙ ap (λ rest. node_instructions start names count k x ++ rest)
     (script_snoc start names count (k + 1) xs node)
 
--- the list before a place and behind it
+-- the list before a place and after it
 some_same : {X : Type 0} (y x : X) → Some y ≡ Some x → y ≡ x
 some_same y x e = cc
 
@@ -135,7 +135,7 @@ script_length start names count k (node ∷ nodes) =
     (script_from start names count (k + 1) nodes) in
     omega (arith, a, b, c)
 
--- a node that is done leaves the refusals of those behind it
+-- a node that is done leaves the refusals of those after it
 pub allowed_on : (g : Geometry) (ops : Routines) (start table : List Named) (names : ℕ
     → List ℕ) (count k : ℕ) (node : Node) (nodes : List Node)
     → refused_in g ops table (node_instructions start names count k node) ≡ None
@@ -169,7 +169,7 @@ node_done start names count j front node a b c s t u l p q =
     (node_instructions start names count (0 + length front) node) a b c s t u p
     (subst (λ i. Ran (node_instructions start names count i node) b c t u) same q))
 
--- so a refusal is one of those behind it
+-- so a refusal is one of those after it
 pub node_allowed : (start : List Named) (names : ℕ
     → List ℕ) (count j : ℕ) (front back : List Node) (node : Node) (a b c : Machine)
     (s t u : ChipView) (r : Option (Why × ℕ))

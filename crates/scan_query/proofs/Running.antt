@@ -30,7 +30,7 @@ use Rattle.machine_model.proofs.Parts.{scripts_go_on, pieces_go_on}
 use Rattle.object_steps.specs.Objects.{RisesAtMost}
 use Rattle.sim_machine.specs.declared.machine.Machine.{Machine}
 use Rattle.sim_machine.specs.Machine.{IsReady, geometry_of, operations_by, program_of, table_in}
-use Rattle.sim_machine.specs.Machine.{turn_in, reply_of, table_behind, turn_by_piece, events_by}
+use Rattle.sim_machine.specs.Machine.{turn_in, reply_of, moved_table, turn_by_piece, events_by}
 use Rattle.sim_machine.specs.Machine.{reads_by, is_print}
 use Rattle.sim_machine.specs.Steps.{DidAndRead, HasRoom}
 use Rattle.scan_model.specs.Checks.{refused_in, or_else}
@@ -178,7 +178,7 @@ refused_said (Some w) counts why e = same w why e where
 pub ran_one : (instr : Instruction) (a b : Machine) (s t : ChipView)
     → is_refused (reply_of a instr) ≡ false → is_print instr ≡ false
     → program_of b ≡ program_of a → geometry_of b ≡ geometry_of a → IsReady b → Kept s t
-    → table_in b ≡ table_behind a instr → turn_in b ≡ turn_by_piece a (piece_of instr)
+    → table_in b ≡ moved_table a instr → turn_in b ≡ turn_by_piece a (piece_of instr)
     → DidAndRead (events_by a (piece_of instr)) (reads_by a instr) s t
     → RisesAtMost (16 * WALK_MAX) s.counters t.counters
     → Ran (instr ∷ []) a b s t
@@ -202,7 +202,7 @@ pub refused_one : (instr : Instruction) (a : Machine) (why : Why) → Refused wh
 refused_one instr a why e = refused_said (refusal (geometry_of a) (operations_by a) (table_in a)
     instr) (counts_for (geometry_of a) (operations_by a) (table_in a) instr) why e
 
--- a refusal behind instructions that were done
+-- a refusal after instructions that were done
 pub refused_then : (xs ys : List Instruction) (a b : Machine) (s t : ChipView) (why : Why)
     → Ran xs a b s t
     → refused_in (geometry_of b) (operations_by b) (table_in b) ys ≡ Some why

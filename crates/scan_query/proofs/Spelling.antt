@@ -12,10 +12,10 @@ use Rattle.scan_model.proofs.Trees.{size_is}
 use Rattle.scan_query.specs.declared.query.Node.{Node}
 use Rattle.scan_query.specs.declared.reading.Stop.{Stop}
 use Rattle.scan_query.specs.Queries.{node_of}
-use Rattle.scan_query.specs.Reading.{Reading, Reads, join_node, join_text, left}
+use Rattle.scan_query.specs.Reading.{ParserView, Reads, join_node, join_text, left}
 
 pub test_reads : (r : Result ℕ Stop) (op : CmpOp) (name : List ℕ) (v : ℕ)
-    (w0 w1 w2 w3 w4 : List model.Word) (new : Reading) (before after : List Node) (node : Node)
+    (w0 w1 w2 w3 w4 : List model.Word) (new : ParserView) (before after : List Node) (node : Node)
     → w0 ≡ model.Opens ∷ w1 → w1 ≡ model.Name name ∷ w2 → w2 ≡ model.Comma ∷ w3
     → w3 ≡ model.Number v ∷ w4 → w4 ≡ model.Closes ∷ left new
     → IfOk r (λ k. k ≡ length before) → OnOk r (after ≡ before ++ node ∷ [])
@@ -36,7 +36,7 @@ test_reads (Ok k) op name v w0 w1 w2 w3 w4 new before after node a b c d e last 
     }
 
 -- a query in front of a mark, and one node more
-pub not_reads : (r : Result ℕ Stop) (k : ℕ) (w0 w1 w2 : List model.Word) (mid new : Reading)
+pub not_reads : (r : Result ℕ Stop) (k : ℕ) (w0 w1 w2 : List model.Word) (mid new : ParserView)
     (before during after : List Node) (node : Node) → w0 ≡ model.Opens ∷ w1
     → Reads w1 k mid (map node_of before) (map node_of during)
     → left mid ≡ model.Closes ∷ left new
@@ -66,7 +66,7 @@ not_reads (Ok n) k w0 w1 w2 mid new before during after node a h b last nodes is
 
 -- two queries in front of a comma and a mark, and one node more
 pub join_reads : (r : Result ℕ Stop) (both : Bool) (k j : ℕ) (w0 w1 w2 w3 : List model.Word)
-    (mid later new : Reading) (before during then after : List Node) (node : Node)
+    (mid later new : ParserView) (before during then after : List Node) (node : Node)
     → w0 ≡ model.Opens ∷ w1
     → Reads w1 k mid (map node_of before) (map node_of during)
     → left mid ≡ model.Comma ∷ w3
@@ -76,8 +76,10 @@ pub join_reads : (r : Result ℕ Stop) (both : Bool) (k j : ℕ) (w0 w1 w2 w3 : 
     → node_of node ≡ join_node both k j
     → IfOk r (λ n. Reads (model.Name (join_text both) ∷ w0) n new (map node_of before)
     (map node_of after))
-join_reads (Err e) both k j w0 w1 w2 w3 mid later new before during then after node a h b i d last nodes is = tt
-join_reads (Ok n) true k j w0 w1 w2 w3 mid later new before during then after node a h b i d last nodes is =
+join_reads (Err e) both k j w0 w1 w2 w3 mid later new before during then after node a h b i d last
+    nodes is = tt
+join_reads (Ok n) true k j w0 w1 w2 w3 mid later new before during then after node a h b i d last
+    nodes is =
     let start = length (map node_of before) in
     let many = length-map then node_of in
     let first = ap length h.nodes in
@@ -112,7 +114,8 @@ join_reads (Ok n) true k j w0 w1 w2 w3 mid later new before during then after no
           (append_assoc (nodes_from start h.tree) back (end ∷ []));
       last = omega (arith, last, many, first, parts, sizes, second, parts', sizes');
     }
-join_reads (Ok n) false k j w0 w1 w2 w3 mid later new before during then after node a h b i d last nodes is =
+join_reads (Ok n) false k j w0 w1 w2 w3 mid later new before during then after node a h b i d last
+    nodes is =
     let start = length (map node_of before) in
     let many = length-map then node_of in
     let first = ap length h.nodes in

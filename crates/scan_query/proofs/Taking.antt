@@ -1,5 +1,6 @@
 -- A query's token is taken.
-use Rattle.std.proofs.Common.{◌≡◌, ℕ, Bool, true, false, ◌&&◌, List, [], ◌∷◌, ◌++◌, Option, Some, None}
+use Rattle.std.proofs.Common.{◌≡◌, ℕ, Bool, true, false, ◌&&◌, List, [], ◌∷◌, ◌++◌, Option, Some}
+use Rattle.std.proofs.Common.{None}
 use Rattle.std.proofs.Common.{Result, Ok, Err, cond, refl, sym, ap, ◌∙◌, subst}
 use Rattle.std.specs.Result.{IsErrAnd}
 use Rattle.std.specs.Char.{is_ascii_digit}
@@ -18,43 +19,43 @@ use Rattle.scan_query.specs.declared.reading.Stop.{Stop}
 use Rattle.scan_query.specs.declared.reading.Word.{Word}
 use Rattle.scan_query.specs.declared.reading.Word.TheVariants as word
 use Rattle.scan_query.specs.Digits.{are_digits, is_written}
-use Rattle.scan_query.specs.Reading.{Fails, MovesTo, Reading, Took, breach, is_it}
+use Rattle.scan_query.specs.Reading.{Fails, MovesTo, ParserView, Took, breach, is_it}
 use Rattle.scan_query.specs.Reading.{lead_at, wanted_by, word_by, word_view}
 
 pub fails_along : {a b : Option model.Breach} (e : Stop) → a ≡ b → Fails b e → Fails a e
 fails_along e h f = let P : Option model.Breach → Type 0 = λ x. Fails x e in subst P (sym h) f
 
 -- The exit of a `?`.
-pub exits : {A : Type 0} (front : List model.Wanted) (old : Reading) (e : Stop)
-    (r : Result A Stop) (behind : A → List model.Wanted) (new : Reading)
+pub exits : {A : Type 0} (front : List model.Wanted) (old : ParserView) (e : Stop)
+    (r : Result A Stop) (following : A → List model.Wanted) (new : ParserView)
     → IsErrAnd r (λ x. x ≡ e)
     → ((more : List model.Wanted) → Fails (breach (front ++ more) old) e)
-    → MovesTo front old r behind new
-exits front old e r behind new is h =
+    → MovesTo front old r following new
+exits front old e r following new is h =
     let p = err_from_is_err_and r is in
     rw (p.1, p.2) h
 
 -- at the end of the text, and at a byte that starts no token
-pub ends : (old : Reading) → old.pieces ≡ [] → (want : model.Wanted) (more : List model.Wanted)
+pub ends : (old : ParserView) → old.pieces ≡ [] → (want : model.Wanted) (more : List model.Wanted)
     → breach (want ∷ more) old ≡ Some (record { at = None; kind = kind.Syntax })
 unfolding model.breach_of
 ends old e want more = rw e refl
 
 -- what a token comes to
-pub breaks : (old new : Reading) (w : model.Word) (at : ℕ) (want : model.Wanted)
+pub breaks : (old new : ParserView) (w : model.Word) (at : ℕ) (want : model.Wanted)
     (found : QueryKind) → old.pieces ≡ (at, w) ∷ new.pieces
     → model.step want old.begun w ≡ Err found → (more : List model.Wanted)
     → breach (want ∷ more) old ≡ Some (record { at = Some at; kind = found })
 unfolding model.breach_of
 breaks old new w at want found e h more = rw (e, h) refl
 
-pub strange : (old new : Reading) (at : ℕ) → old.pieces ≡ (at, model.Stranger) ∷ []
+pub strange : (old new : ParserView) (at : ℕ) → old.pieces ≡ (at, model.Stranger) ∷ []
     → (want : model.Wanted) (more : List model.Wanted)
     → breach (want ∷ more) old ≡ Some (record { at = Some at; kind = kind.Lex })
 unfolding model.breach_of
 strange old new at e want more = rw e refl
 
-pub goes : (old new : Reading) (w : model.Word) (at : ℕ) (want : model.Wanted)
+pub goes : (old new : ParserView) (w : model.Word) (at : ℕ) (want : model.Wanted)
     (front : List model.Wanted) → old.pieces ≡ (at, w) ∷ new.pieces
     → model.step want old.begun w ≡ Ok (front, new.begun) → (more : List model.Wanted)
     → breach (want ∷ more) old ≡ breach (front ++ more) new
@@ -178,24 +179,25 @@ start_is word.Other s found e = ap (model.started s) e
 
 fits_case : (s : model.Begun) (l : model.Lead) (b : Bool)
     → model.fits (model.with_lead s l) ≡ b → model.started s (Some l)
-    ≡ cond b (Ok (model.behind l, model.with_lead s l)) (Err kind.TooMany)
-fits_case s l b e = ap (λ x. cond x (Ok (model.behind l, model.with_lead s l)) (Err kind.TooMany)) e
+    ≡ cond b (Ok (model.following l, model.with_lead s l)) (Err kind.TooMany)
+fits_case s l b e = ap (λ x. cond x (Ok (model.following l, model.with_lead s l)) (Err
+    kind.TooMany)) e
 
-pub start_goes : (w : Word) (old mid new : Reading) (at : ℕ) (l : model.Lead)
+pub start_goes : (w : Word) (old mid new : ParserView) (at : ℕ) (l : model.Lead)
     → Took (word_view w) at old mid → lead_at w ≡ Some l
     → model.fits (model.with_lead mid.begun l) ≡ true
     → new.begun ≡ model.with_lead mid.begun l → new.pieces ≡ mid.pieces
     → (more : List model.Wanted)
-    → breach (model.Start ∷ more) old ≡ breach (model.behind l ++ more) new
+    → breach (model.Start ∷ more) old ≡ breach (model.following l ++ more) new
 start_goes w old mid new at l took found fits begun pieces more =
-    goes old new (word_view w) at model.Start (model.behind l)
+    goes old new (word_view w) at model.Start (model.following l)
     (took.pieces ∙ ap (λ (ps : List model.Piece). (at, word_view w) ∷ ps) (sym pieces))
     (start_is w old.begun (Some l) found
     ∙ ap (λ s. model.started s (Some l)) (sym took.begun)
     ∙ fits_case mid.begun l true fits
-    ∙ ap (λ s. Ok (model.behind l, s)) (sym begun)) more
+    ∙ ap (λ s. Ok (model.following l, s)) (sym begun)) more
 
-pub start_full : (w : Word) (old mid : Reading) (at : ℕ) (l : model.Lead)
+pub start_full : (w : Word) (old mid : ParserView) (at : ℕ) (l : model.Lead)
     → Took (word_view w) at old mid → lead_at w ≡ Some l
     → model.fits (model.with_lead mid.begun l) ≡ false → (more : List model.Wanted)
     → breach (model.Start ∷ more) old ≡ Some (record { at = Some at; kind = kind.TooMany })
@@ -205,15 +207,15 @@ start_full w old mid at l took found fits more =
     ∙ ap (λ s. model.started s (Some l)) (sym took.begun)
     ∙ fits_case mid.begun l false fits) more
 
-pub start_wrong : (w : Word) (old mid : Reading) (at : ℕ) → Took (word_view w) at old mid
+pub start_wrong : (w : Word) (old mid : ParserView) (at : ℕ) → Took (word_view w) at old mid
     → lead_at w ≡ None → (more : List model.Wanted)
     → breach (model.Start ∷ more) old ≡ Some (record { at = Some at; kind = kind.Syntax })
 start_wrong w old mid at took found more =
     breaks old mid (word_view w) at model.Start kind.Syntax took.pieces
     (start_is w old.begun None found) more
 
--- a word behind which nothing is wanted in its place
-pub token_goes : (w : model.Word) (old new : Reading) (at : ℕ) (want : model.Wanted)
+-- a word after which nothing is wanted in its place
+pub token_goes : (w : model.Word) (old new : ParserView) (at : ℕ) (want : model.Wanted)
     → Took w at old new → model.step want old.begun w ≡ Ok ([], old.begun)
     → (more : List model.Wanted) → breach (want ∷ more) old ≡ breach more new
 token_goes w old new at want took e more = goes old new w at want [] took.pieces

@@ -32,7 +32,7 @@ CountersRose (reply.Done found of counts) reads old new = new
     ≡ with_reads reads (with_counts old counts)
 CountersRose (reply.Refused why k) reads old new = Unit {0}
 
--- a machine goes on behind a script
+-- a machine goes on after a script
 pub record GoesOn (script : List Instruction) (old new : Machine) : Type 0 where
   pub ready : IsReady new
   pub program : program_of new ≡ program_of old

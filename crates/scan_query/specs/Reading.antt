@@ -40,8 +40,8 @@ lead_of lead.Negates = model.Negates
 lead_of lead.Ands = model.Ands
 lead_of lead.Ors = model.Ors
 
-abbrev pub behind_lead : Lead → List model.Wanted
-behind_lead l = model.behind (lead_of l)
+abbrev pub after_lead : Lead → List model.Wanted
+after_lead l = model.following (lead_of l)
 
 abbrev pub lead_at : Word → Option model.Lead
 lead_at (word.Name text) = model.lead_among model.all_leads text.now
@@ -82,38 +82,39 @@ is_it mark.Comma word.Comma = true
 is_it mark.Comma word.Other = false
 
 -- what has begun, and the words that are left
-pub record Reading : Type 0 where
+pub record ParserView : Type 0 where
   pub begun : model.Begun
   pub pieces : List model.Piece
 
 abbrev pub begun_by : Parser → model.Begun
 begun_by p = record { nodes = p.nodes; tests = p.tests }
 
-abbrev pub seen : Parser → Reading
+abbrev pub seen : Parser → ParserView
 seen p = record { begun = begun_by p; pieces = map model.piece_of p.lexer }
 
-abbrev pub left : Reading → List model.Word
+abbrev pub left : ParserView → List model.Word
 left r = words_of r.pieces
 
 -- the first token that breaks a rule, where all this is wanted
-abbrev pub breach : List model.Wanted → Reading → Option model.Breach
+abbrev pub breach : List model.Wanted → ParserView → Option model.Breach
 breach wanted r = model.breach_of wanted r.begun r.pieces
 
 abbrev pub Fails : Option model.Breach → Stop → Type 0
 Fails found stop.Memory = Unit {0}
 Fails found (stop.Breach at kind) = found ≡ Some (record { at = at; kind = kind })
 
--- Where front is wanted first, and whatever is wanted behind it, what was left is as good as what
--- is left where behind x is wanted first; or one of the tokens breaks a rule, which is the answer.
-abbrev pub MovesTo : {A : Type 0} → List model.Wanted → Reading → Result A Stop
-    → (A → List model.Wanted) → Reading → Type 0
-MovesTo front old (Ok x) behind new = (wanted : List model.Wanted)
-    → breach (front ++ wanted) old ≡ breach (behind x ++ wanted) new
-MovesTo front old (Err e) behind new = (wanted : List model.Wanted)
+-- Where front is wanted first, and whatever is wanted after it, what was left is as good as what
+-- is left where after x is wanted first; or one of the tokens breaks a rule, which is the answer.
+abbrev pub MovesTo : {A : Type 0} → List model.Wanted → ParserView → Result A Stop
+    → (A → List model.Wanted) → ParserView → Type 0
+MovesTo front old (Ok x) following new = (wanted : List model.Wanted)
+    → breach (front ++ wanted) old ≡ breach (following x ++ wanted) new
+MovesTo front old (Err e) following new = (wanted : List model.Wanted)
     → Fails (breach (front ++ wanted) old) e
 
 -- the same where all of front is read
-abbrev pub Moves : {A : Type 0} → List model.Wanted → Reading → Result A Stop → Reading → Type 0
+abbrev pub Moves : {A : Type 0} → List model.Wanted → ParserView → Result A Stop → ParserView
+    → Type 0
 Moves front old r new = MovesTo front old r (λ x. []) new
 
 -- no rule is broken, or this is the first token that breaks one
@@ -122,22 +123,22 @@ Finds found (Ok x) = found ≡ None
 Finds found (Err e) = Fails found e
 
 -- a whole text, before anything is read
-abbrev pub start_of : List ℕ → Reading
+abbrev pub start_of : List ℕ → ParserView
 start_of text = record { begun = model.none_begun; pieces = model.pieces_of text }
 
 -- a token was taken
-pub record Took (word : model.Word) (at : ℕ) (old new : Reading) : Type 0 where
+pub record Took (word : model.Word) (at : ℕ) (old new : ParserView) : Type 0 where
   pub pieces : old.pieces ≡ (at, word) ∷ new.pieces
   pub begun : new.begun ≡ old.begun
 
-abbrev pub Takes : Reading → Result Taken Stop → Reading → Type 0
+abbrev pub Takes : ParserView → Result Taken Stop → ParserView → Type 0
 Takes old (Ok t) new = Took (word_view t.word) t.at old new
 Takes old (Err e) new = (want : model.Wanted) (more : List model.Wanted)
     → Fails (breach (want ∷ more) old) e
 
--- These words, and those that are left, spell a query, whose nodes stand behind those before, the
+-- These words, and those that are left, spell a query, whose nodes stand after those before, the
 -- last at this place.
-pub record Reads (words : List model.Word) (k : ℕ) (new : Reading) (before after : List Node)
+pub record Reads (words : List model.Word) (k : ℕ) (new : ParserView) (before after : List Node)
     : Type 0 where
   pub tree : Query
   pub spelling : words ≡ model.spelled tree (left new)

@@ -16,7 +16,7 @@ use crate::reading::{Lead, Mark, Stop, begins, bound, ends, object, start, symbo
 use scan_model::{CmpOp, QueryFault, texts_spell_queries};
 use std::alloc::Global;
 
-/// Puts a node behind the others; answers its place.
+/// Puts a node after the others; answers its place.
 fn push(nodes: &mut Vec<Node>, node: Node) -> Result<u8, Stop>
     requires { length nodes.old.items < 64 }
     ensures last { IfOk result (λ k. k ≡ length nodes.old.items) }
@@ -28,11 +28,11 @@ fn push(nodes: &mut Vec<Node>, node: Node) -> Result<u8, Stop>
     Ok(place)
 }
 
-/// A comparison, behind its first word.
+/// A comparison, after its first word.
 fn test(parser: &mut Parser<'_>, op: CmpOp, nodes: &mut Vec<Node>) -> Result<u8, Stop>
     requires few { length nodes.old.items < parser.old.nodes }
     requires limit { parser.old.nodes ≤ 64 }
-    ensures moves { Moves (model.behind (model.Compares op)) (seen parser.old) result
+    ensures moves { Moves (model.following (model.Compares op)) (seen parser.old) result
         (seen parser.new) }
     ensures reads { IfOk result (λ k. Reads (model.Name (model.lead_text (model.Compares op))
         ∷ left (seen parser.old)) k (seen parser.new) (map node_of nodes.old.items)
@@ -61,12 +61,13 @@ fn join_of(both: bool, a: u8, b: u8) -> Node
     }
 }
 
-/// What stands behind `not`.
+/// What stands after `not`.
 #[cycle(queries)]
 fn negation(parser: &mut Parser<'_>, nodes: &mut Vec<Node>) -> Result<u8, Stop>
     requires few { length nodes.old.items < parser.old.nodes }
     requires limit { parser.old.nodes ≤ 64 }
-    ensures moves { Moves (model.behind model.Negates) (seen parser.old) result (seen parser.new) }
+    ensures moves { Moves (model.following model.Negates) (seen parser.old) result
+        (seen parser.new) }
     ensures reads { IfOk result (λ k. Reads (model.Name (codes "not") ∷ left (seen parser.old)) k
         (seen parser.new) (map node_of nodes.old.items) (map node_of nodes.new.items)) }
     ensures grown { OnOk result (parser.new.nodes + length nodes.old.items + 1
@@ -81,12 +82,12 @@ fn negation(parser: &mut Parser<'_>, nodes: &mut Vec<Node>) -> Result<u8, Stop>
     push(nodes, Node::Not(a))
 }
 
-/// What stands behind `and` or `or`.
+/// What stands after `and` or `or`.
 #[cycle(queries)]
 fn join(parser: &mut Parser<'_>, both: bool, nodes: &mut Vec<Node>) -> Result<u8, Stop>
     requires few { length nodes.old.items < parser.old.nodes }
     requires limit { parser.old.nodes ≤ 64 }
-    ensures moves { Moves (model.behind model.Ands) (seen parser.old) result (seen parser.new) }
+    ensures moves { Moves (model.following model.Ands) (seen parser.old) result (seen parser.new) }
     ensures reads { IfOk result (λ k. Reads (model.Name (join_text both) ∷ left (seen parser.old)) k
         (seen parser.new) (map node_of nodes.old.items) (map node_of nodes.new.items)) }
     ensures grown { OnOk result (parser.new.nodes + length nodes.old.items + 1
@@ -103,7 +104,7 @@ fn join(parser: &mut Parser<'_>, both: bool, nodes: &mut Vec<Node>) -> Result<u8
     push(nodes, join_of(both, a, b))
 }
 
-/// A query, whose nodes are put behind the others; answers the place of its last.
+/// A query, whose nodes are put after the others; answers the place of its last.
 #[cycle(queries)]
 pub(crate) fn query(parser: &mut Parser<'_>, nodes: &mut Vec<Node>) -> Result<u8, Stop>
     requires few { length nodes.old.items ≤ parser.old.nodes }

@@ -13,7 +13,7 @@ pub enum Node {
     Or(u8, u8),
 }
 
-/// A query's nodes in postorder: each stands behind its sources, and the last is the whole query.
+/// A query's nodes in postorder: each stands after its sources, and the last is the whole query.
 #[derive(Debug, Drop)]
 pub struct Query {
     pub nodes: Vec<Node>,

@@ -10,7 +10,7 @@ ghost use Rattle.scan_model.specs.Texts as model;
 ghost use Rattle.scan_query.specs.declared.reading.Stop.TheVariants as stop;
 ghost use Rattle.scan_query.specs.Reading.{Finds, IsNumber, Moves};
 ghost use Rattle.scan_query.specs.Reading.{MovesTo, Takes, breach, start_of};
-ghost use Rattle.scan_query.specs.Reading.{begun_by, behind_lead, is_it};
+ghost use Rattle.scan_query.specs.Reading.{begun_by, after_lead, is_it};
 ghost use Rattle.scan_query.specs.Reading.{lead_at, lead_of, left, seen};
 ghost use Rattle.scan_query.specs.Reading.{wanted_by, word_by, word_view};
 
@@ -217,7 +217,7 @@ fn begin(parser: &mut Parser<'_>, lead: Lead) -> bool
 
 /// What a query begins with.
 pub(crate) fn begins(parser: &mut Parser<'_>) -> Result<Lead, Stop>
-    ensures moves { MovesTo (model.Start ∷ []) (seen parser.old) result behind_lead
+    ensures moves { MovesTo (model.Start ∷ []) (seen parser.old) result after_lead
         (seen parser.new) }
     ensures spells { IfOk result (λ l. left (seen parser.old)
         ≡ model.Name (model.lead_text (lead_of l)) ∷ left (seen parser.new)) }

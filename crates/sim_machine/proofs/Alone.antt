@@ -3,7 +3,7 @@ use Rattle.std.proofs.Common.{◌≡◌, ℕ, ◌≤◌, Bool, true, false, cond
 use Rattle.std.proofs.Common.{sym, ◌∙◌, ap, subst, append-nil, arith, map, get_or}
 use Rattle.std.specs.Prelude.{Err, is_none}
 use Rattle.std.specs.List.{AllByRecursion}
-use Rattle.host_edge.specs.Views.{SinkView, Told, AppendsPart}
+use Rattle.host_edge.specs.Views.{SinkView, Known, AppendsPart}
 use Rattle.fault_counts.specs.Counts.{Rose}
 use Rattle.dram_model.specs.View.{ChipView, Did}
 use Rattle.wave_model.specs.Schedule.{WaveJob}
@@ -23,7 +23,7 @@ use Rattle.object_steps.specs.declared.fault.StepFault.TheVariants.{ChipFault, W
 use Rattle.sim_machine.specs.declared.machine.Machine.{Machine}
 use Rattle.sim_machine.specs.Machine.{banks_by, events_by, geometry_of, is_print, line_of, lines_of}
 use Rattle.sim_machine.specs.Machine.{operations_by, queues_by, reads_by}
-use Rattle.sim_machine.specs.Machine.{reply_of, table_behind, table_in}
+use Rattle.sim_machine.specs.Machine.{reply_of, moved_table, table_in}
 use Rattle.sim_machine.specs.Machine.{turn_by_piece, turn_in}
 use Rattle.sim_machine.specs.Outcome.{Comes, Stepped}
 use Rattle.sim_machine.specs.Steps.{DidAndRead}
@@ -40,7 +40,7 @@ shows_none (Free name) e = absurd (cc)
 shows_none (Order o) e = absurd (cc)
 
 keeps_table : (m : Machine) (instr : Instruction) → is_bbop instr ≡ true
-    → table_in m ≡ table_behind m instr
+    → table_in m ≡ moved_table m instr
 keeps_table m (Init name count n) e = absurd (cc)
 keeps_table m (Bbop op dst srcs count n) e = sym (if_same _ (table_in m))
 keeps_table m (Load name values) e = absurd (cc)
@@ -108,14 +108,14 @@ module _ (old new : Machine) (number : ℕ) (instr : Instruction) (wave : List I
     pub bbop_done : (replies : List Reply) (d : Reply) → table_in new ≡ table_in old
         → replies ≡ map (reply_of old) wave → turn_in new ≡ turn_by_piece old (Wave wave)
         → Did (events_by old (Wave wave)) chip chip'
-        → Told (λ x y. y ≡ x ++ lines_of old number wave) sink.sent sink'.sent
+        → Known (λ x y. y ≡ x ++ lines_of old number wave) sink.sent sink'.sent
         → Stepped old new number instr chip chip' sink sink' (get_or replies 0 d)
     bbop_done replies d table e turn did sent = record {
       answer = ap (λ (rs : List Reply). get_or rs 0 d) (e ∙ ap (map (reply_of old)) is);
       table = table ∙ keeps_table old instr bbop;
       turn = turn ∙ ap (turn_by_piece old) same_piece;
       did = did_alone did;
-      sent = subst (λ text. Told (λ x y. y ≡ x ++ text) sink.sent sink'.sent) one_line sent;
+      sent = subst (λ text. Known (λ x y. y ≡ x ++ text) sink.sent sink'.sent) one_line sent;
     }
 
     pub bbop_failed : (fault : StepFault) → table_in new ≡ table_in old
@@ -125,7 +125,7 @@ module _ (old new : Machine) (number : ℕ) (instr : Instruction) (wave : List I
         → (fault ≡ WriteFault → Did (events_by old (Wave wave)) chip chip')
         → (fault ≡ WriteFault → Rose sink.faults sink'.faults)
         → (fault ≡ WriteFault
-        → Told (AppendsPart (lines_of old number wave)) sink.sent sink'.sent)
+        → Known (AppendsPart (lines_of old number wave)) sink.sent sink'.sent)
         → Comes old new number instr chip chip' sink sink' (Err fault)
     bbop_failed ChipFault table stopped same did rose part = record {
       table = table;
@@ -136,7 +136,7 @@ module _ (old new : Machine) (number : ℕ) (instr : Instruction) (wave : List I
           (omega arith, tt)));
       stopped = λ e. stopped_alone (stopped refl);
       unsent = λ e. same refl;
-      part = subst (λ (s : SinkView). Told (AppendsPart (line_of old number chip.banks instr))
+      part = subst (λ (s : SinkView). Known (AppendsPart (line_of old number chip.banks instr))
           sink.sent s.sent) (sym (same refl)) (no_part _ sink.sent);
     }
     bbop_failed WriteFault table stopped same did rose part =
@@ -145,5 +145,5 @@ module _ (old new : Machine) (number : ℕ) (instr : Instruction) (wave : List I
           did = λ e. all;
           read = λ e. absurd (cc (e, shows_none instr bbop));
           rose = rose refl;
-          part = subst (λ text. Told (AppendsPart text) sink.sent sink'.sent) one_line (part refl);
+          part = subst (λ text. Known (AppendsPart text) sink.sent sink'.sent) one_line (part refl);
         }

@@ -3,8 +3,8 @@ use Rattle.std.proofs.Common.{◌≡◌, ℕ, zero, suc, ◌+◌, ◌<◌, List,
 use Rattle.std.proofs.Common.{drop, get_or, sym, ◌∙◌, ap, subst, arith, append_assoc}
 use Rattle.std.proofs.Common.{append-nil}
 use Rattle.std.specs.Prelude.{Option, Result, Ok, Err, OnErr}
-use Rattle.host_edge.specs.Views.{Told, AppendsPart}
-use Rattle.host_edge.proofs.Tells.{Told-trans}
+use Rattle.host_edge.specs.Views.{Known, AppendsPart}
+use Rattle.host_edge.proofs.Tells.{Known-trans}
 use Rattle.machine_model.specs.declared.Reply.{Reply}
 use Rattle.machine_model.specs.Report.{line, lines}
 use Rattle.machine_model.specs.Report.Said.{Answered}
@@ -12,7 +12,7 @@ use Rattle.machine_model.specs.Report.Said.{Answered}
 abbrev pub reply_lines : ℕ → List Reply → List ℕ
 reply_lines n rs = lines n (map Answered rs)
 
--- the lines before one, that line, and those behind it
+-- the lines before one, that line, and those after it
 split_at : (n : ℕ) (rs : List Reply) (k m : ℕ) (r d : Reply) → k < length rs → r ≡ get_or rs k d
     → m ≡ n + k
     → reply_lines n rs ≡ reply_lines n (take k rs)
@@ -41,13 +41,13 @@ one_more n (x ∷ rs) (suc k) m r d h e s =
     ∙ sym (append_assoc (line n (Answered x)) (reply_lines (n + 1) (take k rs)) _)
 
 -- the next line was put whole
-pub told_more : (n : ℕ) (rs : List Reply) (k m : ℕ) (r d : Reply) (a b c : Option (List ℕ))
+pub known_more : (n : ℕ) (rs : List Reply) (k m : ℕ) (r d : Reply) (a b c : Option (List ℕ))
     → k < length rs → r ≡ get_or rs k d → m ≡ n + k
-    → Told (λ x y. y ≡ x ++ reply_lines n (take k rs)) a b
-    → Told (λ x y. y ≡ x ++ line m (Answered r)) b c
-    → Told (λ x y. y ≡ x ++ reply_lines n (take (k + 1) rs)) a c
-told_more n rs k m r d a b c h e s p q =
-    Told-trans {R = λ x y. y ≡ x ++ reply_lines n (take k rs)}
+    → Known (λ x y. y ≡ x ++ reply_lines n (take k rs)) a b
+    → Known (λ x y. y ≡ x ++ line m (Answered r)) b c
+    → Known (λ x y. y ≡ x ++ reply_lines n (take (k + 1) rs)) a c
+known_more n rs k m r d a b c h e s p q =
+    Known-trans {R = λ x y. y ≡ x ++ reply_lines n (take k rs)}
     {S = λ x y. y ≡ x ++ line m (Answered r)}
     {U = λ x y. y ≡ x ++ reply_lines n (take (k + 1) rs)} a b c
     (λ x y z f g. g ∙ ap (λ t. t ++ line m (Answered r)) f
@@ -71,13 +71,13 @@ part_joins done text rest x y z f g = (
   ),
 )
 
-pub told_part : (n : ℕ) (rs : List Reply) (k m : ℕ) (r d : Reply) (a b c : Option (List ℕ))
+pub known_part : (n : ℕ) (rs : List Reply) (k m : ℕ) (r d : Reply) (a b c : Option (List ℕ))
     → k < length rs → r ≡ get_or rs k d → m ≡ n + k
-    → Told (λ x y. y ≡ x ++ reply_lines n (take k rs)) a b
-    → Told (AppendsPart (line m (Answered r))) b c
-    → Told (AppendsPart (reply_lines n rs)) a c
-told_part n rs k m r d a b c h e s p q =
-    Told-trans {R = λ x y. y ≡ x ++ reply_lines n (take k rs)}
+    → Known (λ x y. y ≡ x ++ reply_lines n (take k rs)) a b
+    → Known (AppendsPart (line m (Answered r))) b c
+    → Known (AppendsPart (reply_lines n rs)) a c
+known_part n rs k m r d a b c h e s p q =
+    Known-trans {R = λ x y. y ≡ x ++ reply_lines n (take k rs)}
     {S = AppendsPart (line m (Answered r))} {U = AppendsPart (reply_lines n rs)} a b c
     (λ x y z f g. subst (λ t. AppendsPart t x z) (sym (split_at n rs k m r d h e s))
     (part_joins (reply_lines n (take k rs)) (line m (Answered r))

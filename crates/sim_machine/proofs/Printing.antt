@@ -2,8 +2,8 @@
 use Rattle.std.proofs.Common.{◌≡◌, ℕ, ◌≤◌, List, [], ◌++◌, refl, sym, ◌∙◌, ap, subst, append-nil}
 use Rattle.std.proofs.Common.{arith, cond, None, Some, not, true}
 use Rattle.std.specs.Prelude.{Option, Err, is_none}
-use Rattle.host_edge.specs.Views.{SinkView, Told, AppendsPart}
-use Rattle.host_edge.proofs.Tells.{Told-trans}
+use Rattle.host_edge.specs.Views.{SinkView, Known, AppendsPart}
+use Rattle.host_edge.proofs.Tells.{Known-trans}
 use Rattle.fault_counts.specs.Counts.{Rose}
 use Rattle.dram_model.specs.View.{ChipView, DidRead}
 use Rattle.dram_model.specs.Elements.{FailedBelow}
@@ -86,14 +86,14 @@ module _ (old new : Machine) (number : ℕ) (name : List ℕ) (chip chip' : Chip
     pub print_done : (reply : Reply) (d : Counts) → table_in new ≡ table_in old
         → turn_in new ≡ turn_in old → reply ≡ reply_of old (Print name) → reply ≡ Done d
         → DidRead (reads_by old (Print name)) chip chip'
-        → Told (λ x y. y ≡ x ++ shown_line) sink.sent sink'.sent
+        → Known (λ x y. y ≡ x ++ shown_line) sink.sent sink'.sent
         → Stepped old new number (Print name) chip chip' sink sink' reply
     print_done reply d table turn e h did sent = record {
       answer = e;
       table = table ∙ print_table old name;
       turn = turn;
       did = did_read did;
-      sent = subst (λ text. Told (λ x y. y ≡ x ++ text) sink.sent sink'.sent)
+      sent = subst (λ text. Known (λ x y. y ≡ x ++ text) sink.sent sink'.sent)
           (whole_line (not_refused _ _ d (sym h ∙ e))) sent;
     }
 
@@ -101,15 +101,15 @@ module _ (old new : Machine) (number : ℕ) (name : List ℕ) (chip chip' : Chip
         → table_in new ≡ table_in old
         → turn_in new ≡ turn_in old → reply ≡ reply_of old (Print name) → reply ≡ Refused w
         → DidRead (reads_by old (Print name)) chip chip'
-        → Told (λ x y. y ≡ x ++ shown_line) sink.sent between.sent
-        → Told (λ x y. y ≡ x ++ line number (Answered reply)) between.sent sink'.sent
+        → Known (λ x y. y ≡ x ++ shown_line) sink.sent between.sent
+        → Known (λ x y. y ≡ x ++ line number (Answered reply)) between.sent sink'.sent
         → Stepped old new number (Print name) chip chip' sink sink' reply
     print_refused reply w between table turn e h did first sent = record {
       answer = e;
       table = table ∙ print_table old name;
       turn = turn;
       did = did_read did;
-      sent = Told-trans {R = λ x y. y ≡ x ++ shown_line}
+      sent = Known-trans {R = λ x y. y ≡ x ++ shown_line}
           {S = λ x y. y ≡ x ++ line number (Answered reply)}
           {U = λ x y. y ≡ x ++ line_of old number chip.banks (Print name)}
           sink.sent between.sent sink'.sent
@@ -123,9 +123,9 @@ module _ (old new : Machine) (number : ℕ) (name : List ℕ) (chip chip' : Chip
         → table_in new ≡ table_in old → reply ≡ reply_of old (Print name) → reply ≡ Refused w
         → DidRead (reads_by old (Print name)) chip chip'
         → sink.faults ≤ between.faults
-        → Told (λ x y. y ≡ x ++ shown_line) sink.sent between.sent
+        → Known (λ x y. y ≡ x ++ shown_line) sink.sent between.sent
         → Rose between.faults sink'.faults
-        → Told (AppendsPart (line number (Answered reply))) between.sent sink'.sent
+        → Known (AppendsPart (line number (Answered reply))) between.sent sink'.sent
         → StoppedBySink old new number (Print name) chip chip' sink sink'
     print_unsent reply w between table e h did before first rose sent = record {
       table = table;
@@ -136,7 +136,7 @@ module _ (old new : Machine) (number : ℕ) (name : List ℕ) (chip chip' : Chip
         did = did;
       };
       rose = omega (arith, before, rose);
-      part = Told-trans {R = λ x y. y ≡ x ++ shown_line}
+      part = Known-trans {R = λ x y. y ≡ x ++ shown_line}
           {S = AppendsPart (line number (Answered reply))}
           {U = AppendsPart (line_of old number chip.banks (Print name))}
           sink.sent between.sent sink'.sent
@@ -147,7 +147,7 @@ module _ (old new : Machine) (number : ℕ) (name : List ℕ) (chip chip' : Chip
 
     pub print_failed : (fault : StepFault) → table_in new ≡ table_in old
         → refusal (geometry_of old) (operations_by old) (table_in old) (Print name) ≡ None
-        → Told (AppendsPart shown_line) sink.sent sink'.sent
+        → Known (AppendsPart shown_line) sink.sent sink'.sent
         → (fault ≡ ChipFault → FailedBelow (banks_by old (Print name)) chip chip')
         → (fault ≡ WriteFault → Rose sink.faults sink'.faults)
         → (fault ≡ WriteFault
@@ -158,14 +158,14 @@ module _ (old new : Machine) (number : ℕ) (name : List ℕ) (chip chip' : Chip
       failed = failed refl;
       stopped = λ p. absurd (cc);
       unsent = λ p. absurd (cc);
-      part = subst (λ t. Told (AppendsPart t) sink.sent sink'.sent) (whole_line allowed) part;
+      part = subst (λ t. Known (AppendsPart t) sink.sent sink'.sent) (whole_line allowed) part;
     }
     print_failed WriteFault table allowed part failed rose read = record {
       table = table;
       did = λ p. absurd (cc);
       read = λ p. subst (λ n. DidReadAtMost n chip chip') (sym (all_rows _ _ allowed)) (read refl);
       rose = rose refl;
-      part = subst (λ t. Told (AppendsPart t) sink.sent sink'.sent) (whole_line allowed) part;
+      part = subst (λ t. Known (AppendsPart t) sink.sent sink'.sent) (whole_line allowed) part;
     }
 
 -- Of an object that stands, no print is refused

@@ -5,8 +5,8 @@ use Rattle.std.specs.Prelude.{Option, not, ◌||◌}
 use Rattle.std.specs.Option.{is_some}
 use Rattle.std.specs.Str.{bytes_eq}
 use Rattle.std.proofs.lemmas.Slice.Eq.{bytes_eq-Decides}
-use Rattle.host_edge.specs.Views.{SinkView, Told, AppendsPart}
-use Rattle.host_edge.proofs.Tells.{Told-same}
+use Rattle.host_edge.specs.Views.{SinkView, Known, AppendsPart}
+use Rattle.host_edge.proofs.Tells.{Known-same}
 use Rattle.fault_counts.specs.Counts.{Rose}
 use Rattle.dram_model.specs.declared.dram.Counters.{Counters}
 use Rattle.dram_model.specs.Chip.{Event, all_counted}
@@ -35,7 +35,7 @@ use Rattle.machine_model.specs.Steps.{if_done, reply_by, reply_to, table_after}
 use Rattle.object_steps.specs.Objects.{events_alone}
 use Rattle.sim_machine.specs.declared.machine.Machine.{Machine}
 use Rattle.sim_machine.specs.Machine.{banks_by, events_by, geometry_of, is_print, line_of}
-use Rattle.sim_machine.specs.Machine.{operations_by, reads_by, reply_of, table_behind, table_in}
+use Rattle.sim_machine.specs.Machine.{operations_by, reads_by, reply_of, moved_table, table_in}
 use Rattle.sim_machine.specs.Machine.{leaves_table, turn_by_piece, turn_in}
 use Rattle.sim_machine.proofs.Found.{look_up-some}
 use Rattle.sim_machine.specs.Outcome.{Stepped, StoppedByChip, StoppedBySink}
@@ -85,8 +85,8 @@ did_only events n a b e did = record {
 pub alone : (instr : Instruction) → is_bbop instr ≡ false → piece_of instr ≡ Alone instr
 alone instr e = ap (λ b. cond b (piece.Wave (instr ∷ [])) (Alone instr)) e
 
-pub no_part : (bytes : List ℕ) (sent : Option (List ℕ)) → Told (AppendsPart bytes) sent sent
-no_part bytes sent = Told-same (AppendsPart bytes) sent (λ x. (
+pub no_part : (bytes : List ℕ) (sent : Option (List ℕ)) → Known (AppendsPart bytes) sent sent
+no_part bytes sent = Known-same (AppendsPart bytes) sent (λ x. (
   [],
   ((bytes, refl), sym (append-nil x)),
 ))
@@ -105,17 +105,17 @@ module _ (old new : Machine) (number : ℕ) (instr : Instruction) (chip chip' : 
         ∙ ap (line number) (sym (said_answered (reply_of old instr) instr _ print))
 
     pub done_alone : (reply : Reply) → reply ≡ reply_of old instr
-        → table_in new ≡ table_behind old instr
+        → table_in new ≡ moved_table old instr
         → turn_in new ≡ turn_by_piece old (Alone instr)
         → Did (events_alone (geometry_of old) (operations_by old) (table_in old) instr) chip chip'
-        → Told (λ x y. y ≡ x ++ line number (Answered reply)) sink.sent sink'.sent
+        → Known (λ x y. y ≡ x ++ line number (Answered reply)) sink.sent sink'.sent
         → Stepped old new number instr chip chip' sink sink' reply
     done_alone reply e table turn did sent = record {
       answer = e;
       table = table;
       turn = turn ∙ ap (turn_by_piece old) (sym (alone instr bbop));
       did = did_piece did;
-      sent = subst (λ text. Told (λ x y. y ≡ x ++ text) sink.sent sink'.sent) (answered reply e)
+      sent = subst (λ text. Known (λ x y. y ≡ x ++ text) sink.sent sink'.sent) (answered reply e)
           sent;
     }
 
@@ -127,14 +127,14 @@ module _ (old new : Machine) (number : ℕ) (instr : Instruction) (chip chip' : 
       failed = failed;
       stopped = λ e. absurd (cc (e, bbop));
       unsent = λ e. same;
-      part = subst (λ (s : SinkView). Told (AppendsPart (line_of old number chip.banks instr))
+      part = subst (λ (s : SinkView). Known (AppendsPart (line_of old number chip.banks instr))
           sink.sent s.sent) (sym same) (no_part _ sink.sent);
     }
 
     pub unsent_alone : (reply : Reply) → reply ≡ reply_of old instr → table_in new ≡ table_in old
         → Did (events_alone (geometry_of old) (operations_by old) (table_in old) instr) chip chip'
         → Rose sink.faults sink'.faults
-        → Told (AppendsPart (line number (Answered reply))) sink.sent sink'.sent
+        → Known (AppendsPart (line number (Answered reply))) sink.sent sink'.sent
         → StoppedBySink old new number instr chip chip' sink sink'
     unsent_alone reply e table did rose sent =
         let all = did_piece did in record {
@@ -142,7 +142,7 @@ module _ (old new : Machine) (number : ℕ) (instr : Instruction) (chip chip' : 
           did = λ p. all;
           read = λ e. absurd (cc (e, print));
           rose = rose;
-          part = subst (λ text. Told (AppendsPart text) sink.sent sink'.sent) (answered reply e)
+          part = subst (λ text. Known (AppendsPart text) sink.sent sink'.sent) (answered reply e)
               sent;
         }
 
@@ -163,7 +163,7 @@ if_same None x = refl
 if_same (Some why) x = refl
 
 pub same_table : (m : Machine) (instr : Instruction) → leaves_table instr ≡ true
-    → table_in m ≡ table_behind m instr
+    → table_in m ≡ moved_table m instr
 same_table m (Init name count n) e = absurd (cc)
 same_table m (Bbop op dst srcs count n) e = absurd (cc)
 same_table m (Load name loaded) e = sym (if_same _ (table_in m))
@@ -172,7 +172,7 @@ same_table m (Print name) e = absurd (cc)
 same_table m (Free name) e = absurd (cc)
 same_table m (Order o) e = refl
 
-pub print_table : (m : Machine) (name : List ℕ) → table_in m ≡ table_behind m (Print name)
+pub print_table : (m : Machine) (name : List ℕ) → table_in m ≡ moved_table m (Print name)
 print_table m name = sym (if_same _ (table_in m))
 
 pub nothing_done : (g : Geometry) (operations : Routines) (table : List Named) (name : List ℕ)

@@ -12,8 +12,9 @@ use Rattle.dram_model.specs.Events.{row_events}
 use Rattle.dram_model.specs.View.{ChipView, Did}
 use Rattle.dram_model.specs.Elements.{FailedBelow}
 use Rattle.uprog_ctl.specs.Waves.{BoundJob, CanRun, StoppedAmong, job_queues, wave_events, wave_job}
-use Rattle.wave_model.specs.Schedule.{WaveJob, Queues, Turn, events_of_picks, in_turn, picked, queues}
-use Rattle.wave_model.specs.Schedule.{state_behind, whole_picks, without_next}
+use Rattle.wave_model.specs.Schedule.{WaveJob, Queues, Turn, events_of_picks, in_turn, picked}
+use Rattle.wave_model.specs.Schedule.{queues}
+use Rattle.wave_model.specs.Schedule.{last_state, whole_picks, without_next}
 
 -- what holds of all holds of one
 pub all_at : {X Y : Type 0} (P : Y → Type 0) (f : X → Y) (xs : List X) (i : ℕ) (x : X)
@@ -37,13 +38,14 @@ wave_did g g' turn jobs granted old new e f h =
     (subst (λ (x : Geometry). Did (wave_events in_turn x.banks turn (job_queues x.rows jobs))
     old new) e h)
 
-pub wave_turn : (g g' : Geometry) (turn behind : Turn) (jobs : List BoundJob) (granted : List WaveJob)
+pub wave_turn : (g g' : Geometry) (turn following : Turn) (jobs : List BoundJob) (granted : List
+    WaveJob)
     → g' ≡ g → map (wave_job g.rows) jobs ≡ granted
-    → behind ≡ state_behind in_turn g'.banks turn (job_queues g'.rows jobs)
-    → behind ≡ state_behind in_turn g.banks turn (queues granted)
-wave_turn g g' turn behind jobs granted e f h =
-    h ∙ ap (λ (x : Geometry). state_behind in_turn x.banks turn (job_queues x.rows jobs)) e
-    ∙ ap (λ js. state_behind in_turn g.banks turn (queues js)) f
+    → following ≡ last_state in_turn g'.banks turn (job_queues g'.rows jobs)
+    → following ≡ last_state in_turn g.banks turn (queues granted)
+wave_turn g g' turn following jobs granted e f h =
+    h ∙ ap (λ (x : Geometry). last_state in_turn x.banks turn (job_queues x.rows jobs)) e
+    ∙ ap (λ js. last_state in_turn g.banks turn (queues js)) f
 
 pub wave_stopped : (g g' : Geometry) (turn : Turn) (jobs : List BoundJob) (granted : List WaveJob)
     (old new : ChipView) → g' ≡ g → map (wave_job g.rows) jobs ≡ granted

@@ -17,7 +17,7 @@ use Rattle.machine_model.specs.declared.Reply.{Reply}
 use Rattle.machine_model.specs.Columns.{segments}
 use Rattle.machine_model.specs.Routines.{Routines, routines_in}
 use Rattle.machine_model.specs.Refusals.{object_named}
-use Rattle.machine_model.specs.Pieces.{Piece, piece_events, turn_behind, wave_queues}
+use Rattle.machine_model.specs.Pieces.{Piece, piece_events, turn_after, wave_queues}
 use Rattle.machine_model.specs.Report.{Said, line, lines, said_by}
 use Rattle.machine_model.specs.Report.Said.{Answered, Printed}
 use Rattle.object_steps.specs.Lines.{values_of}
@@ -52,22 +52,22 @@ pub record IsReady (m : Machine) : Type 0 where
 abbrev pub operations_by : Machine → Routines
 operations_by m = routines_in (program_of m)
 
--- its reply to an instruction, what is said of it in its report, and the table behind it
+-- its reply to an instruction, what is said of it in its report, and the table after it
 abbrev pub reply_of : Machine → Instruction → Reply
 reply_of m instr = reply_to (geometry_of m) (operations_by m) (table_in m) instr
 
 abbrev pub said_of_step : Machine → Banks → Instruction → Said
 said_of_step m banks instr = said_by (geometry_of m) (operations_by m) (table_in m) banks instr
 
-abbrev pub table_behind : Machine → Instruction → List Named
-table_behind m instr = table_after (geometry_of m) (operations_by m) (table_in m) instr
+abbrev pub moved_table : Machine → Instruction → List Named
+moved_table m instr = table_after (geometry_of m) (operations_by m) (table_in m) instr
 
--- the events of a piece of a script on its chip, and the order in force behind it
+-- the events of a piece of a script on its chip, and the order in force after it
 abbrev pub events_by : Machine → Piece → List Event
 events_by m piece = piece_events (geometry_of m) (operations_by m) (turn_in m) (table_in m) piece
 
 abbrev pub turn_by_piece : Machine → Piece → Turn
-turn_by_piece m piece = turn_behind (geometry_of m) (operations_by m) (turn_in m) (table_in m) piece
+turn_by_piece m piece = turn_after (geometry_of m) (operations_by m) (turn_in m) (table_in m) piece
 
 -- the commands of each bank in a wave of bbops
 abbrev pub queues_by : Machine → List Instruction → Queues

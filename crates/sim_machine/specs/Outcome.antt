@@ -1,7 +1,7 @@
 -- What comes of one instruction: the clauses of a step as one, what its parts come to, for its
 -- proof.
 use Rattle.std.specs.Prelude.{◌≡◌, ℕ, true, false, [], ◌∷◌, ◌++◌, Result, Ok, Err}
-use Rattle.host_edge.specs.Views.{SinkView, Told, AppendsPart}
+use Rattle.host_edge.specs.Views.{SinkView, Known, AppendsPart}
 use Rattle.fault_counts.specs.Counts.{Rose}
 use Rattle.dram_model.specs.View.{ChipView}
 use Rattle.dram_model.specs.Elements.{FailedBelow}
@@ -14,7 +14,7 @@ use Rattle.object_steps.specs.Lines.{DidReadAtMost}
 use Rattle.object_steps.specs.declared.fault.StepFault.{StepFault}
 use Rattle.object_steps.specs.declared.fault.StepFault.TheVariants.{ChipFault, WriteFault}
 use Rattle.sim_machine.specs.declared.machine.Machine.{Machine}
-use Rattle.sim_machine.specs.Machine.{table_in, turn_in, reply_of, table_behind, turn_by_piece}
+use Rattle.sim_machine.specs.Machine.{table_in, turn_in, reply_of, moved_table, turn_by_piece}
 use Rattle.sim_machine.specs.Machine.{events_by, queues_by, reads_by, banks_by, is_print, line_of}
 use Rattle.sim_machine.specs.Steps.{DidAndRead}
 
@@ -22,10 +22,10 @@ use Rattle.sim_machine.specs.Steps.{DidAndRead}
 pub record Stepped (old new : Machine) (number : ℕ) (instr : Instruction) (chip chip' : ChipView)
     (sink sink' : SinkView) (reply : Reply) : Type 0 where
   pub answer : reply ≡ reply_of old instr
-  pub table : table_in new ≡ table_behind old instr
+  pub table : table_in new ≡ moved_table old instr
   pub turn : turn_in new ≡ turn_by_piece old (piece_of instr)
   pub did : DidAndRead (events_by old (piece_of instr)) (reads_by old instr) chip chip'
-  pub sent : Told (λ before after. after ≡ before ++ line_of old number chip.banks instr)
+  pub sent : Known (λ before after. after ≡ before ++ line_of old number chip.banks instr)
       sink.sent sink'.sent
 
 -- the chip failed: the banks past the destination's are as before, each bank of a bbop but the one
@@ -37,7 +37,7 @@ pub record StoppedByChip (old new : Machine) (number : ℕ) (instr : Instruction
   pub stopped : is_bbop instr ≡ true
       → StoppedAmong (events_by old (piece_of instr)) (queues_by old (instr ∷ [])) chip chip'
   pub unsent : is_print instr ≡ false → sink' ≡ sink
-  pub part : Told (AppendsPart (line_of old number chip.banks instr)) sink.sent sink'.sent
+  pub part : Known (AppendsPart (line_of old number chip.banks instr)) sink.sent sink'.sent
 
 -- the sink failed: all was done, but of a print perhaps not each row was read
 pub record StoppedBySink (old new : Machine) (number : ℕ) (instr : Instruction)
@@ -47,7 +47,7 @@ pub record StoppedBySink (old new : Machine) (number : ℕ) (instr : Instruction
       → DidAndRead (events_by old (piece_of instr)) (reads_by old instr) chip chip'
   pub read : is_print instr ≡ true → DidReadAtMost (reads_by old instr) chip chip'
   pub rose : Rose sink.faults sink'.faults
-  pub part : Told (AppendsPart (line_of old number chip.banks instr)) sink.sent sink'.sent
+  pub part : Known (AppendsPart (line_of old number chip.banks instr)) sink.sent sink'.sent
 
 abbrev pub Comes : Machine → Machine → ℕ → Instruction → ChipView → ChipView → SinkView → SinkView
     → Result Reply StepFault → Type 0

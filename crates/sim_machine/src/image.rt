@@ -40,7 +40,7 @@ fn read_row<D: Dram>(
         ≡ vec_len file.old + 8 * (D.view dram.old).geometry.words) }
     ensures capacity { OnOk result (vec_capacity file.old ≤ vec_capacity file.new) }
     ensures rose { OnErr result (Rose (D.view dram.old).faults (D.view dram.new).faults) }
-    ensures untold { Grew (D.view dram.old).log (D.view dram.new).log [] }
+    ensures no_event { Grew (D.view dram.old).log (D.view dram.new).log [] }
 {
     dram.read_row(bank, row, stage)?;
     bytes_of_words(stage, file);
@@ -71,7 +71,7 @@ fn read_bank<D: Dram>(
     ensures len { OnOk result (vec_len file.new ≡ vec_len file.old + g.rows * (8 * g.words)) }
     ensures capacity { OnOk result (vec_capacity file.old ≤ vec_capacity file.new) }
     ensures rose { OnErr result (Rose (D.view dram.old).faults (D.view dram.new).faults) }
-    ensures untold { Grew (D.view dram.old).log (D.view dram.new).log [] }
+    ensures no_event { Grew (D.view dram.old).log (D.view dram.new).log [] }
 {
     for row in 0..g.rows {
         read_row(dram, bank, row, stage, file)?;
@@ -101,7 +101,7 @@ fn read_rows<D: Dram>(
         ≡ file.old.items ++ rows_bytes g (rows_of (D.view dram.old).banks)) }
     ensures capacity { OnOk result (vec_capacity file.old ≤ vec_capacity file.new) }
     ensures rose { OnErr result (Rose (D.view dram.old).faults (D.view dram.new).faults) }
-    ensures untold { Grew (D.view dram.old).log (D.view dram.new).log [] }
+    ensures no_event { Grew (D.view dram.old).log (D.view dram.new).log [] }
 {
     for bank in 0..g.banks {
         read_bank(dram, g, bank, stage, file)?;
@@ -131,7 +131,7 @@ pub(crate) fn read_image<D: Dram>(
         ≡ file.old.items ++ rows_bytes g (rows_of (D.view dram.old).banks)) }
     ensures capacity { OnOk result (vec_capacity file.old ≤ vec_capacity file.new) }
     ensures rose { OnErr result (Rose (D.view dram.old).faults (D.view dram.new).faults) }
-    ensures untold { Grew (D.view dram.old).log (D.view dram.new).log [] }
+    ensures no_event { Grew (D.view dram.old).log (D.view dram.new).log [] }
 {
     let row = &mut stage[..usize::from(g.words)];
     read_rows(dram, g, row, file)

@@ -4,7 +4,7 @@ ghost use Rattle.std.specs.Prelude.{◌≡◌, ℕ, ◌*◌, ◌<◌, ◌≤◌,
 ghost use Rattle.std.specs.Prelude.{true, false, OnOk};
 ghost use Rattle.std.specs.Prelude.{OnErr, ◌⊎◌, IfOk, IsErrOf};
 ghost use Rattle.std.specs.List.{AllByRecursion};
-ghost use Rattle.host_edge.specs.Views.{Told, AppendsPart};
+ghost use Rattle.host_edge.specs.Views.{Known, AppendsPart};
 ghost use Rattle.fault_counts.specs.Counts.{Rose};
 ghost use Rattle.dram_model.specs.Chip.{Grew};
 ghost use Rattle.dram_model.specs.View.{HasBegun, Kept, Did, DidRead, NotBegun};
@@ -25,7 +25,7 @@ ghost use Rattle.object_steps.specs.Objects.{LiesOn, RisesAtMost};
 ghost use Rattle.sim_machine.specs.Machine.{IsReady, banks_by, events_by, file_of, geometry_of};
 ghost use Rattle.sim_machine.specs.Machine.{is_print, line_of, line_shown, lines_of, program_of};
 ghost use Rattle.sim_machine.specs.Machine.{queues_by};
-ghost use Rattle.sim_machine.specs.Machine.{reads_by, reply_of, table_behind, table_in};
+ghost use Rattle.sim_machine.specs.Machine.{reads_by, reply_of, moved_table, table_in};
 ghost use Rattle.sim_machine.specs.Machine.{turn_by_piece, turn_in};
 ghost use Rattle.sim_machine.specs.Opening.{Opened};
 ghost use Rattle.sim_machine.specs.Steps.{DidAndRead, HasRoom};
@@ -139,7 +139,7 @@ impl<'a> Machine<'a> {
             (D.view dram.old) (D.view dram.new)) }
         ensures rises { OnOk result (RisesAtMost (256 * WALK_MAX) (D.view dram.old).counters
             (D.view dram.new).counters) }
-        ensures sent { OnOk result (Told (λ before after. after
+        ensures sent { OnOk result (Known (λ before after. after
             ≡ before ++ lines_of self.old number (map view_of instrs.now))
             (S.view out.old).sent (S.view out.new).sent) }
 
@@ -158,7 +158,7 @@ impl<'a> Machine<'a> {
         ensures write_fault { IsErrOf result StepFault.WriteFault
             → Rose (S.view out.old).faults (S.view out.new).faults }
         ensures part { IsErrOf result StepFault.WriteFault
-            → Told (AppendsPart (lines_of self.old number (map view_of instrs.now)))
+            → Known (AppendsPart (lines_of self.old number (map view_of instrs.now)))
             (S.view out.old).sent (S.view out.new).sent }
     {
         let setting = Setting {
@@ -196,7 +196,7 @@ impl<'a> Machine<'a> {
         ensures shape { geometry_of self.new ≡ geometry_of self.old }
         ensures reply { IfOk result (λ reply. reply ≡ reply_of self.old (view_of instr.now)) }
         ensures table { OnOk result (table_in self.new
-            ≡ table_behind self.old (view_of instr.now)) }
+            ≡ moved_table self.old (view_of instr.now)) }
         ensures turn { OnOk result (turn_in self.new
             ≡ turn_by_piece self.old (piece_of (view_of instr.now))) }
         ensures ready { IsReady self.new }
@@ -204,7 +204,7 @@ impl<'a> Machine<'a> {
             (reads_by self.old (view_of instr.now)) (D.view dram.old) (D.view dram.new)) }
         ensures rises { OnOk result (RisesAtMost (16 * WALK_MAX) (D.view dram.old).counters
             (D.view dram.new).counters) }
-        ensures sent { OnOk result (Told (λ before after. after
+        ensures sent { OnOk result (Known (λ before after. after
             ≡ before ++ line_of self.old number (D.view dram.old).banks (view_of instr.now))
             (S.view out.old).sent (S.view out.new).sent) }
 
@@ -233,7 +233,7 @@ impl<'a> Machine<'a> {
             (D.view dram.new) }
         ensures write_fault { IsErrOf result StepFault.WriteFault
             → Rose (S.view out.old).faults (S.view out.new).faults }
-        ensures part { OnErr result (Told (AppendsPart
+        ensures part { OnErr result (Known (AppendsPart
             (line_of self.old number (D.view dram.old).banks (view_of instr.now)))
             (S.view out.old).sent (S.view out.new).sent) }
     {
@@ -273,7 +273,7 @@ impl<'a> Machine<'a> {
             (D.view dram.old) (D.view dram.new)) }
         ensures rises { OnOk result (RisesAtMost (16 * WIDTH_MAX) (D.view dram.old).counters
             (D.view dram.new).counters) }
-        ensures sent { OnOk result (Told (λ before after. after ≡ before
+        ensures sent { OnOk result (Known (λ before after. after ≡ before
             ++ line_shown self.old number (D.view dram.old).banks name.now shown.now)
             (S.view out.old).sent (S.view out.new).sent) }
 
@@ -282,13 +282,13 @@ impl<'a> Machine<'a> {
         ensures chip_fault { IsErrOf result StepFault.ChipFault
             → FailedBelow (banks_by self.old (Print name.now)) (D.view dram.old)
             (D.view dram.new) }
-        ensures untold { Grew (D.view dram.old).log (D.view dram.new).log [] }
+        ensures no_event { Grew (D.view dram.old).log (D.view dram.new).log [] }
         ensures read { IsErrOf result StepFault.WriteFault
             → DidReadAtMost (reads_by self.old (Print name.now)) (D.view dram.old)
             (D.view dram.new) }
         ensures write_fault { IsErrOf result StepFault.WriteFault
             → Rose (S.view out.old).faults (S.view out.new).faults }
-        ensures part { OnErr result (Told (AppendsPart
+        ensures part { OnErr result (Known (AppendsPart
             (line_shown self.old number (D.view dram.old).banks name.now shown.now))
             (S.view out.old).sent (S.view out.new).sent) }
     {
@@ -358,7 +358,7 @@ impl<'a> Machine<'a> {
         ensures table { table_in self.new ≡ table_in self.old }
         ensures turn { turn_in self.new ≡ turn_in self.old }
         ensures failed { OnErr result (Rose (D.view dram.old).faults (D.view dram.new).faults) }
-        ensures untold { Grew (D.view dram.old).log (D.view dram.new).log [] }
+        ensures no_event { Grew (D.view dram.old).log (D.view dram.new).log [] }
     {
         self.file.clear();
         put_head(&mut self.file, self.geometry, &self.table);
@@ -384,7 +384,7 @@ impl<'a> Machine<'a> {
         ensures table { table_in self.new ≡ table_in self.old }
         ensures turn { turn_in self.new ≡ turn_in self.old }
         ensures failed { OnErr result (Rose (D.view dram.old).faults (D.view dram.new).faults) }
-        ensures untold { Grew (D.view dram.old).log (D.view dram.new).log [] }
+        ensures no_event { Grew (D.view dram.old).log (D.view dram.new).log [] }
     {
         prove!(usize::from(table.len()) <= OBJECTS_MAX);
         self.file.clear();
@@ -408,10 +408,10 @@ impl<'a> Machine<'a> {
     ) -> Result<(), Failed>
         requires begun { HasBegun (D.view dram.now) }
         ensures faults { (S.view out.old).faults ≤ (S.view out.new).faults }
-        ensures sent { OnOk result (Told (λ before after. after
+        ensures sent { OnOk result (Known (λ before after. after
             ≡ before ++ total_line (D.view dram.now).counters refused)
             (S.view out.old).sent (S.view out.new).sent) }
-        ensures part { OnErr result (Told (AppendsPart (total_line (D.view dram.now).counters
+        ensures part { OnErr result (Known (AppendsPart (total_line (D.view dram.now).counters
             refused)) (S.view out.old).sent (S.view out.new).sent) }
         ensures rose { OnErr result (Rose (S.view out.old).faults (S.view out.new).faults) }
     {

@@ -74,7 +74,7 @@ fn unlike_source(table: &Table, srcs: &[Name], count: u32) -> Option<usize>
         .position(|src| object_named(table, src).count != count)
 }
 
-/// The kinds of the operands behind the first destination.
+/// The kinds of the operands after the first destination.
 pub(crate) fn other_kinds(head: &Head) -> ArrayVec<Kind, 5>
     ensures { result.items ≡ option_to_list head.now.second ++ head.now.sources.items }
 {
@@ -88,7 +88,7 @@ pub(crate) fn other_kinds(head: &Head) -> ArrayVec<Kind, 5>
     kinds
 }
 
-/// The sources, behind one or two destinations.
+/// The sources, after one or two destinations.
 pub(crate) fn sources_of<'a>(dst: &Name, head: &Head, srcs: &'a [Name]) -> &'a [Name]
     ensures { result.now ≡ srcs_in (shape_of head.now) (dst.now ∷ srcs.now) }
 {

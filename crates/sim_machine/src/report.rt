@@ -1,7 +1,7 @@
 //! The lines of a report.
 
 ghost use Rattle.std.specs.Prelude.{◌≡◌, ◌+◌, ◌≤◌, ◌++◌, codes, decimal, length, map, OnOk, OnErr};
-ghost use Rattle.host_edge.specs.Views.{Told, AppendsPart};
+ghost use Rattle.host_edge.specs.Views.{Known, AppendsPart};
 ghost use Rattle.fault_counts.specs.Counts.{Rose};
 ghost use Rattle.machine_model.specs.Report.{Said, at_number, walk_word, why_text, line, lines};
 ghost use Rattle.machine_model.specs.Report.{total_line};
@@ -115,10 +115,10 @@ fn reply_line(number: u64, reply: Reply) -> Line
 /// Puts the line of a reply.
 fn put_line<S: Sink>(number: u64, reply: Reply, out: &mut S) -> Result<(), Failed>
     ensures faults { (S.view out.old).faults ≤ (S.view out.new).faults }
-    ensures sent { OnOk result (Told (λ before after. after
+    ensures sent { OnOk result (Known (λ before after. after
         ≡ before ++ line number (Said.Answered reply)) (S.view out.old).sent
         (S.view out.new).sent) }
-    ensures part { OnErr result (Told (AppendsPart (line number (Said.Answered reply)))
+    ensures part { OnErr result (Known (AppendsPart (line number (Said.Answered reply)))
         (S.view out.old).sent (S.view out.new).sent) }
     ensures rose { OnErr result (Rose (S.view out.old).faults (S.view out.new).faults) }
 {
@@ -129,10 +129,10 @@ fn put_line<S: Sink>(number: u64, reply: Reply, out: &mut S) -> Result<(), Faile
 /// Puts the line of one instruction's reply.
 pub fn put_reply<S: Sink>(number: u32, reply: Reply, out: &mut S) -> Result<(), Failed>
     ensures faults { (S.view out.old).faults ≤ (S.view out.new).faults }
-    ensures sent { OnOk result (Told (λ before after. after
+    ensures sent { OnOk result (Known (λ before after. after
         ≡ before ++ line number (Said.Answered reply)) (S.view out.old).sent
         (S.view out.new).sent) }
-    ensures part { OnErr result (Told (AppendsPart (line number (Said.Answered reply)))
+    ensures part { OnErr result (Known (AppendsPart (line number (Said.Answered reply)))
         (S.view out.old).sent (S.view out.new).sent) }
     ensures rose { OnErr result (Rose (S.view out.old).faults (S.view out.new).faults) }
 {
@@ -143,10 +143,10 @@ pub fn put_reply<S: Sink>(number: u32, reply: Reply, out: &mut S) -> Result<(), 
 pub(crate) fn put_lines<S: Sink>(number: u32, replies: &[Reply], out: &mut S) -> Result<(), Failed>
     requires { length replies.now ≤ 16 }
     ensures faults { (S.view out.old).faults ≤ (S.view out.new).faults }
-    ensures sent { OnOk result (Told (λ before after. after
+    ensures sent { OnOk result (Known (λ before after. after
         ≡ before ++ lines number (map Said.Answered replies.now)) (S.view out.old).sent
         (S.view out.new).sent) }
-    ensures part { OnErr result (Told (AppendsPart
+    ensures part { OnErr result (Known (AppendsPart
         (lines number (map Said.Answered replies.now))) (S.view out.old).sent
         (S.view out.new).sent) }
     ensures rose { OnErr result (Rose (S.view out.old).faults (S.view out.new).faults) }

@@ -1,7 +1,7 @@
 //! One instruction.
 
 ghost use Rattle.std.specs.Prelude.{◌≡◌, ℕ, ◌≤◌, true, length, IfOk, OnOk, OnErr};
-ghost use Rattle.host_edge.specs.Views.{Told};
+ghost use Rattle.host_edge.specs.Views.{Known};
 ghost use Rattle.fault_counts.specs.Counts.{Rose};
 ghost use Rattle.dram_model.specs.View.{HasBegun, Kept, Did};
 ghost use Rattle.dram_model.specs.Elements.{FailedBelow};

@@ -9,7 +9,7 @@ ghost use Rattle.uprog_ctl.specs.Waves.{CanRun, StoppedAmong, wave_job};
 ghost use Rattle.bbop_isa.specs.Forms.{view_of};
 ghost use Rattle.machine_model.specs.Agrees.{IsPlain};
 ghost use Rattle.machine_model.specs.Routines.{routines_in};
-ghost use Rattle.machine_model.specs.Pieces.{AreBbops, Wave, jobs_of, piece_events, turn_behind};
+ghost use Rattle.machine_model.specs.Pieces.{AreBbops, Wave, jobs_of, piece_events, turn_after};
 ghost use Rattle.machine_model.specs.Pieces.{wave_queues};
 ghost use Rattle.machine_model.specs.Refusals.{refusal};
 ghost use Rattle.machine_model.specs.Script.{is_bbop};
@@ -145,7 +145,7 @@ pub(crate) fn do_wave<D: Dram>(
     ensures replies { IfOk result (λ replies. replies.items ≡ map (reply_to setting.now.geometry
         (routines_in setting.now.prog.now.programs) setting.now.table.now.pairs)
         (map view_of instrs.now)) }
-    ensures turn { OnOk result (state_of order.new ≡ turn_behind setting.now.geometry
+    ensures turn { OnOk result (state_of order.new ≡ turn_after setting.now.geometry
         (routines_in setting.now.prog.now.programs) (state_of order.old)
         setting.now.table.now.pairs (Wave (map view_of instrs.now))) }
     ensures did { OnOk result (Did (piece_events setting.now.geometry

@@ -18,7 +18,7 @@ const UNREAD: u8 = 1;
 /// The status where there is no memory to keep them.
 const NO_MEMORY: u8 = 10;
 
-/// The words behind the program's name.
+/// The words after the program's name.
 fn words_of(rt: &HostRuntime, alloc: Global) -> Result<Vec<String>, u8>
     ensures status { IfErr result (λ status. (status ≡ 1) ⊎ (status ≡ 10)) }
 {

@@ -3,7 +3,7 @@ use Rattle.std.proofs.Common.{◌≡◌, ℕ, List, [], ◌∷◌, ◌++◌, Som
 use Rattle.std.proofs.Common.{inr, append-nil}
 use Rattle.std.specs.Prelude.{Result, Ok, Err, IfOk, IfSome}
 use Rattle.dram_model.specs.View.{ChipView}
-use Rattle.host_edge.specs.Views.{Files, FolderView, SinkView, Told}
+use Rattle.host_edge.specs.Views.{Files, FolderView, SinkView, Known}
 use Rattle.uprog_code.specs.Programs.{IsProgram}
 use Rattle.uprog_bin.specs.Spelling.{HasVersion, program_bytes}
 use Rattle.uprog_bin.specs.Reading.{program_in, ProgFault}
@@ -26,7 +26,7 @@ use Rattle.simdram_cli.specs.Job.{done_status}
 use Rattle.simdram_cli.specs.Accounts.{AccountEnds, AccountGoes, Accounted, account_of}
 use Rattle.simdram_cli.specs.Accounts.{account_steps}
 use Rattle.simdram_cli.proofs.Foreseen.{was_read, text_at, tell_both}
-use Rattle.simdram_cli.proofs.Joins.{told_text, told_is_text, loaded_text, loading_goes}
+use Rattle.simdram_cli.proofs.Joins.{known_text, known_is_text, loaded_text, loading_goes}
 use Rattle.simdram_cli.proofs.Joins.{loading_stops}
 use Rattle.simdram_cli.proofs.Loaded.{loaded_ends, load_is_step}
 use Rattle.simdram_cli.proofs.Migrating.{prog_is}
@@ -36,10 +36,10 @@ pub account_unread : (name : List ℕ) (account : Account) (stop : Stop) (old ne
     (sink : SinkView) (chip : ChipView) → NotLoaded name PROG_MAX (reason_of stop) old new
     → AccountGoes name account (world old sink chip) (world new sink chip) (Err stop)
 account_unread name account stop old new sink chip n =
-    let text = told_text old.holds name in
+    let text = known_text old.holds name in
     record {
       text = text;
-      is_text = told_is_text old.holds name;
+      is_text = known_is_text old.holds name;
       goes = inl (loading_stops name PROG_MAX text (prog_in text) (λ x. []) (reason_of stop)
           (world old sink chip) (world new sink chip)
           (n text (refusal_of (prog_in text)) sink chip));
@@ -129,20 +129,20 @@ same_ok read a b e f = cc
 pub accounted : (name : List ℕ) (account : Account) (old new : World) (status : ℕ)
     → (e : AccountEnds name account old new status)
     → OfSteps (λ s. s ≡ status → ⊥) (account_steps name account e.text)
-    → Told (λ before after. Accounted name account before after old new) old.files.holds
+    → Known (λ before after. Accounted name account before after old new) old.files.holds
     new.files.holds
 accounted name account old new status e of =
     let steps = account_steps name account e.text in
     let done = all_done steps 0 e.ends.ended old new status of e.ends.so in
     let so : IsAllDone steps 0 old new status =
     subst (λ (x : Ended). EndsSo steps 0 x old new status) done e.ends.so in
-    let told : IfSome old.files.holds (IsForetold steps All) =
+    let known : IfSome old.files.holds (IsForetold steps All) =
     subst (λ (x : Ended). IfSome old.files.holds (IsForetold steps x)) done e.ends.foretold in
     let file = e.file (λ empty. load_is_step name PROG_MAX e.text (prog_in e.text) _
     (subst (λ (x : Ended). done_steps steps x ≡ []) done empty)) in
     tell_both old.files.holds new.files.holds (λ before after. after ≡ files_after steps before)
     (λ before after. Accounted name account before after old new) (IsForetold steps All) so.files
-    told (λ before after there foretold files.
+    known (λ before after there foretold files.
     let was = was_read name PROG_MAX e.text (prog_in e.text) _ before foretold in
     let same = same_ok (prog_in e.text) was.value file.programs was.is (prog_is e.text file) in
     record {
@@ -153,6 +153,6 @@ accounted name account old new status e of =
       is = text_at old.files.holds before name was.bytes e.text there e.is_text was.there
           ∙ ap (λ x. Some x) (file.spelled ∙ ap (program_bytes file.version) (sym same));
       files = files ∙ files_of name account e.text (prog_in e.text) was.value before was.is;
-      sent = subst (λ (bytes : List ℕ). Told (λ x y. y ≡ x ++ bytes) old.sink.sent new.sink.sent)
+      sent = subst (λ (bytes : List ℕ). Known (λ x y. y ≡ x ++ bytes) old.sink.sent new.sink.sent)
           (sent_of name account e.text (prog_in e.text) was.value was.is) so.sent;
     })

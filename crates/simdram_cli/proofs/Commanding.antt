@@ -172,7 +172,8 @@ words_right (verb ∷ ops ∷ prog ∷ script ∷ image ∷ out ∷ []) =
     let traced : TraceNames =
     record { prog = ops; script = prog; image = script; out = image; trace = out } in
     if_or (bytes_eq verb.now (codes "run") && apart) (Run (record
-    { ops = ops; prog = prog; script = script; image = image; out = out })) (trace_on verb.now traced)
+    { ops = ops; prog = prog; script = script; image = image; out = out })) (trace_on verb.now
+    traced)
     (λ e. record {
       apart = second_holds (bytes_eq verb.now (codes "run")) apart e;
       numbers = tt;

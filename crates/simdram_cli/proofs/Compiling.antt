@@ -4,7 +4,7 @@ use Rattle.std.proofs.Common.{◌∙◌, ap, subst, inl, inr, append-nil}
 use Rattle.std.specs.Prelude.{Result, Ok, Err, IfOk, IfSome}
 use Rattle.std.proofs.lemmas.Slice.Eq.{bytes_eq-Decides}
 use Rattle.dram_model.specs.View.{ChipView}
-use Rattle.host_edge.specs.Views.{Files, FolderView, SinkView, Told, AppendsPart}
+use Rattle.host_edge.specs.Views.{Files, FolderView, SinkView, Known, AppendsPart}
 use Rattle.fault_counts.specs.Counts.{Rose}
 use Rattle.uprog_bin.specs.Spelling.{program_bytes}
 use Rattle.machine_model.specs.Routines.{Program}
@@ -64,12 +64,12 @@ compile_went names program result old mid sink after chip t g none = record {
 }
 
 pub line_failed : (line : List ℕ) (files : FolderView) (s t : SinkView) (chip : ChipView)
-    → Told (AppendsPart line) s.sent t.sent → s.faults ≤ t.faults → Rose s.faults t.faults
+    → Known (AppendsPart line) s.sent t.sent → s.faults ≤ t.faults → Rose s.faults t.faults
     → Goes (Put line ∷ []) (Stopped PutFailed) (world files s chip) (world files t chip)
 line_failed line files s t chip p n r = inr (refl, sent (AppendsPart line) files s t chip p n, r)
 
 pub line_sent : (line : List ℕ) (files : FolderView) (s t : SinkView) (chip : ChipView)
-    → Told (λ before after. after ≡ before ++ line) s.sent t.sent → s.faults ≤ t.faults
+    → Known (λ before after. after ≡ before ++ line) s.sent t.sent → s.faults ≤ t.faults
     → Goes (Put line ∷ []) Done (world files s chip) (world files t chip)
 line_sent line files s t chip p n = inl (
   world files t chip,
@@ -130,16 +130,16 @@ stores_prog names program text (Err r) u e = absurd (cc)
 pub compiled : (names : CompileNames) (old new : World) (status : ℕ)
     → (e : CompileEnds names old new status)
     → OfSteps (λ s. s ≡ status → ⊥) (compile_steps names e.program e.text)
-    → Told (λ before after. Compiled names before after old new) old.files.holds new.files.holds
+    → Known (λ before after. Compiled names before after old new) old.files.holds new.files.holds
 compiled names old new status e of =
     let steps = compile_steps names e.program e.text in
     let done = all_done steps 0 e.ends.ended old new status of e.ends.so in
     let so : IsAllDone steps 0 old new status =
     subst (λ (x : Ended). EndsSo steps 0 x old new status) done e.ends.so in
-    let told : IfSome old.files.holds (IsForetold steps All) =
+    let known : IfSome old.files.holds (IsForetold steps All) =
     subst (λ (x : Ended). IfSome old.files.holds (IsForetold steps x)) done e.ends.foretold in
     tell_both old.files.holds new.files.holds (λ before after. after ≡ files_after steps before)
-    (λ before after. Compiled names before after old new) (IsForetold steps All) so.files told
+    (λ before after. Compiled names before after old new) (IsForetold steps All) so.files known
     (λ before after there foretold files.
     let was = was_read names.ops.now OPS_MAX e.text (ops_in e.text) _ before foretold in
     let c = e.compiled (subst (λ (x : Ended). Stores names.prog.now (done_steps steps x)) (sym done)
@@ -158,6 +158,6 @@ compiled names old new status e of =
           ∙ rw ((bytes_eq-Decides names.prog.now names.prog.now).1 refl) refl;
       others = λ other apart. ap (λ (f : Files). f other) now
           ∙ rw (bytes_differ other names.prog.now apart) refl;
-      sent = subst (λ (bytes : List ℕ). Told (λ x y. y ≡ x ++ bytes) old.sink.sent new.sink.sent)
+      sent = subst (λ (bytes : List ℕ). Known (λ x y. y ≡ x ++ bytes) old.sink.sent new.sink.sent)
           (sent_of names e.program e.text (ops_in e.text) was.value was.is) so.sent;
     })

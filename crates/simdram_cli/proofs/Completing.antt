@@ -1,12 +1,13 @@
 -- A command is done where its files are good and nothing failed, or memory was wanting; and what
 -- stands where it was.
 use Rattle.std.proofs.Common.{◌≡◌, ◌⊎◌, ◌≤◌, ℕ, Bool, true, false, List, [], ◌∷◌, ◌++◌}
-use Rattle.std.proofs.Common.{Option, Some, None, refl, sym, ◌∙◌, ap, subst, inl, inr, arith, length}
+use Rattle.std.proofs.Common.{Option, Some, None, refl, sym, ◌∙◌, ap, subst, inl, inr, arith}
+use Rattle.std.proofs.Common.{length}
 use Rattle.std.specs.Prelude.{Result, Ok, Err, IfSome, ◌≢◌, codes, ◌==◌}
 use Rattle.std.specs.List.{list_any}
 use Rattle.std.proofs.lemmas.Bool.{le-ltb}
 use denote.Ref.{Bor}
-use Rattle.host_edge.specs.Views.{Files, FolderView, Told}
+use Rattle.host_edge.specs.Views.{Files, FolderView, Known}
 use Rattle.dram_model.specs.View.{ChipView}
 use Rattle.fault_counts.specs.Counts.{Rose}
 use Rattle.bbop_isa.specs.Forms.{Instruction}
@@ -46,7 +47,8 @@ use Rattle.simdram_cli.specs.declared.words.Command.TheVariants.{Cost, List as L
 use Rattle.simdram_cli.specs.declared.words.Command.TheVariants.{Scan}
 use Rattle.simdram_cli.specs.declared.words.Command.TheVariants.{Trace}
 use Rattle.simdram_cli.specs.declared.words.TraceNames.{TraceNames}
-use Rattle.simdram_cli.specs.Tracing.{exec_of, full_with, status_or, trace_steps, traced_image_steps}
+use Rattle.simdram_cli.specs.Tracing.{exec_of, full_with, status_or, trace_steps}
+use Rattle.simdram_cli.specs.Tracing.{traced_image_steps}
 use Rattle.simdram_cli.specs.Tracing.{traced_job_steps, traced_steps}
 use Rattle.simdram_cli.proofs.Promising.{full_so, recorded_of, traced_of}
 use Rattle.simdram_cli.specs.declared.words.Command.TheVariants.{Replay}
@@ -55,7 +57,8 @@ use Rattle.simdram_cli.specs.declared.words.GuardNames.{GuardNames}
 use Rattle.simdram_cli.specs.declared.words.TheConstants.{FLIPS_MAX}
 use Rattle.simdram_cli.specs.Flips.{flips_in, guarded_image_of, guarded_script_in, in_triples}
 use Rattle.simdram_cli.specs.Flips.{name_refusal, table_refusal, unless_some, with_short_names}
-use Rattle.simdram_cli.specs.Guard.{AreGuardTexts, GuardTexts, flips_steps, guard_job, guard_job_steps}
+use Rattle.simdram_cli.specs.Guard.{AreGuardTexts, GuardTexts, flips_steps, guard_job}
+use Rattle.simdram_cli.specs.Guard.{guard_job_steps}
 use Rattle.simdram_cli.specs.Guard.{guard_status, guard_steps, image_steps, job_of_texts}
 use Rattle.simdram_cli.specs.Guard.{work_steps as guard_work}
 use Rattle.simdram_cli.specs.Complete.{IsFlipsFile}
@@ -113,11 +116,11 @@ use Rattle.cli_model.specs.Steps.{End}
 load_wants : (name : List ℕ) (limit : ℕ) (text : List ℕ) (refusal : Option Refusal)
     (reason : Reason) (a b : World) → Causes (Load name limit text refusal) reason a b
     → IsFault reason → NothingFailed a b → reason_status reason ≡ 10
-load_wants name limit text refusal (CannotRead told) a b c f n = absurd (n.loads name c.1)
-load_wants name limit text refusal (TooLong told) a b c f n = absurd f
-load_wants name limit text refusal (Refused told) a b c f n = absurd f
+load_wants name limit text refusal (CannotRead known) a b c f n = absurd (n.loads name c.1)
+load_wants name limit text refusal (TooLong known) a b c f n = absurd f
+load_wants name limit text refusal (Refused known) a b c f n = absurd f
 load_wants name limit text refusal NoMemory a b c f n = refl
-load_wants name limit text refusal (CannotWrite told) a b c f n = elim c [ ]
+load_wants name limit text refusal (CannotWrite known) a b c f n = elim c [ ]
 load_wants name limit text refusal PutFailed a b c f n = elim c [ ]
 load_wants name limit text refusal ChipFailed a b c f n = elim c [ ]
 
@@ -159,7 +162,7 @@ fault_by (Put bytes) reason a b h c = is_fault reason PutFailed c.0 tt
 fault_by (Print bytes) reason a b h (inl c) = is_fault reason PutFailed c.0 tt
 fault_by (Print bytes) reason a b h (inr c) = is_fault reason ChipFailed c.0 tt
 
--- the files foretell no end of the steps; where none are told, no step loads one
+-- the files foretell no end of the steps; where none are known, no step loads one
 abbrev pub Passes : Option Files → List Step → Type 0
 Passes None steps = LoadsNone steps
 Passes (Some files) steps = foreseen steps files ≡ Done
@@ -172,21 +175,21 @@ foretold_fault steps files reason e (inr f) = f
 
 stop_fault : (holds : Option Files) (steps : List Step) (stop : Stop) (a b : World)
     → Passes holds steps → IfSome holds (IsForetold steps (At stop))
-    → stop.before ++ stop.failed ∷ stop.behind ≡ steps → Causes stop.failed stop.reason a b
+    → stop.before ++ stop.failed ∷ stop.following ≡ steps → Causes stop.failed stop.reason a b
     → IsFault stop.reason
-stop_fault None steps stop a b p told place c =
+stop_fault None steps stop a b p known place c =
     fault_by stop.failed stop.reason a b (at_middle (λ s. s ≡ 2 → ⊥) stop.before stop.failed
-    stop.behind (subst (OfSteps (λ s. s ≡ 2 → ⊥)) (sym place) p)) c
-stop_fault (Some files) steps stop a b p told place c =
-    foretold_fault steps files stop.reason p told.1
+    stop.following (subst (OfSteps (λ s. s ≡ 2 → ⊥)) (sym place) p)) c
+stop_fault (Some files) steps stop a b p known place c =
+    foretold_fault steps files stop.reason p known.1
 
 end_completes : (steps : List Step) (done : ℕ) (ended : Ended) (a b : World) (status : ℕ)
     → Passes a.files.holds steps → IfSome a.files.holds (IsForetold steps ended)
     → EndsSo steps done ended a b status → NothingFailed a b → (status ≡ done) ⊎ (status ≡ 10)
-end_completes steps done All a b status p told s n = inl s.answers
-end_completes steps done (At stop) a b status p told s n =
+end_completes steps done All a b status p known s n = inl s.answers
+end_completes steps done (At stop) a b status p known s n =
     inr (s.answers ∙ step_wants stop.failed stop.reason a b s.causes
-    (stop_fault a.files.holds steps stop a b p told s.place s.causes) n)
+    (stop_fault a.files.holds steps stop a b p known s.place s.causes) n)
 
 -- so the command is done, or answers 10
 pub completes_by : (P : ℕ → Type 0) (steps : List Step) (done : ℕ) (a b : World) (status : ℕ)
@@ -223,7 +226,7 @@ same_text : (file : Option (List ℕ)) (bytes text : List ℕ) → file ≡ Some
 same_text None bytes text e h = absurd (cc)
 same_text (Some b) bytes text e h = let same : b ≡ bytes = cc in sym same ∙ h
 
--- a good file is loaded, and the steps behind it go on
+-- a good file is loaded, and the steps after it go on
 good_loads : {A : Type 0} (name : List ℕ) (limit : ℕ) (text : List ℕ)
     (read : List ℕ → Result A Refusal) (rest : A → List Step) (files : Files)
     → IsGood read limit (files name) → IfSome (files name) (λ b. b ≡ text)
@@ -344,8 +347,8 @@ refused_stop : (steps : List Step) (stop : Stop) (refusal : Refusal) (files : Fi
     (status : ℕ) → foreseen steps files ≡ Stopped (Refused refusal)
     → IsForetold steps (At stop) files → IsStopped steps stop a b status → NothingFailed a b
     → (status ≡ refusal.status) ⊎ (status ≡ 10)
-refused_stop steps stop refusal files a b status e told s n =
-    either_so (refused_fault steps files refusal stop.reason e told.1)
+refused_stop steps stop refusal files a b status e known s n =
+    either_so (refused_fault steps files refusal stop.reason e known.1)
   where
     either_so : (stop.reason ≡ Refused refusal) ⊎ IsFault stop.reason
         → (status ≡ refusal.status) ⊎ (status ≡ 10)
@@ -357,9 +360,9 @@ refused_end : (steps : List Step) (done : ℕ) (ended : Ended) (refusal : Refusa
     (a b : World) (status : ℕ) → foreseen steps files ≡ Stopped (Refused refusal)
     → IsForetold steps ended files → EndsSo steps done ended a b status → NothingFailed a b
     → (status ≡ refusal.status) ⊎ (status ≡ 10)
-refused_end steps done All refusal files a b status e told s n = absurd (cc)
-refused_end steps done (At stop) refusal files a b status e told s n =
-    refused_stop steps stop refusal files a b status e told s n
+refused_end steps done All refusal files a b status e known s n = absurd (cc)
+refused_end steps done (At stop) refusal files a b status e known s n =
+    refused_stop steps stop refusal files a b status e known s n
 
 -- the files let the steps be done, or one is refused for this reason
 abbrev DoneOr : Refusal → List Step → Option Files → Type 0
@@ -372,13 +375,13 @@ done_or : (steps : List Step) (done : ℕ) (ended : Ended) (refusal : Refusal)
     → DoneOr refusal steps holds → IfSome holds (IsForetold steps ended)
     → EndsSo steps done ended a b status → NothingFailed a b
     → (status ≡ done) ⊎ ((status ≡ refusal.status) ⊎ (status ≡ 10))
-done_or steps done ended refusal None a b status is d told s n = absurd d
-done_or steps done ended refusal (Some files) a b status is (inr e) told s n =
-    inr (refused_end steps done ended refusal files a b status e told s n)
-done_or steps done ended refusal (Some files) a b status is (inl e) told s n =
+done_or steps done ended refusal None a b status is d known s n = absurd d
+done_or steps done ended refusal (Some files) a b status is (inr e) known s n =
+    inr (refused_end steps done ended refusal files a b status e known s n)
+done_or steps done ended refusal (Some files) a b status is (inl e) known s n =
     either_so (end_completes steps done ended a b status
     (subst (λ (h : Option Files). Passes h steps) is e)
-    (subst (λ (h : Option Files). IfSome h (IsForetold steps ended)) is told) s n)
+    (subst (λ (h : Option Files). IfSome h (IsForetold steps ended)) is known) s n)
   where
     either_so : (status ≡ done) ⊎ (status ≡ 10)
         → (status ≡ done) ⊎ ((status ≡ refusal.status) ⊎ (status ≡ 10))
@@ -396,7 +399,7 @@ completes_or P steps done refusal a b status e d n one other ten =
     either_so (inr (inl f)) = subst P (sym f) other
     either_so (inr (inr f)) = subst P (sym f) ten
 
--- what is foreseen behind a file that was loaded
+-- what is foreseen after a file that was loaded
 abbrev foreseen_by : {B : Type 0} → Result B Refusal → (B → List Step) → Files → End
 foreseen_by (Ok x) rest files = foreseen (rest x) files
 foreseen_by (Err r) rest files = Stopped (Refused r)
@@ -436,11 +439,11 @@ stop_17 P stop a b status answers c n ten seventeen (inr f) =
 ended_17 : (P : ℕ → Type 0) (steps : List Step) (done : ℕ) (ended : Ended) (a b : World)
     (status : ℕ) (files : Files) → EndsOr17 (foreseen steps files) → IsForetold steps ended files
     → EndsSo steps done ended a b status → NothingFailed a b → P done → P 10 → P 17 → P status
-ended_17 P steps done All a b status files so told s n d ten seventeen =
+ended_17 P steps done All a b status files so known s n d ten seventeen =
     subst P (sym s.answers) d
-ended_17 P steps done (At stop) a b status files so told s n d ten seventeen =
+ended_17 P steps done (At stop) a b status files so known s n d ten seventeen =
     stop_17 P stop a b status s.answers s.causes n ten seventeen
-    (foretold_17 steps files stop so told.1)
+    (foretold_17 steps files stop so known.1)
 
 -- a load of a file that is there, whose text is refused with 17 alone
 load_17 : {A : Type 0} (name : List ℕ) (limit : ℕ) (text : List ℕ) (read : Result A Refusal)
@@ -604,37 +607,39 @@ guard_completes : (P : ℕ → Type 0) (names : GuardNames) (program : Program) 
     → IfSome holds (IsForetold (guard_steps names program ops texts) ended)
     → EndsSo (guard_steps names program ops texts) done ended a b status → NothingFailed a b
     → P done → P 10 → P 17 → P status
-guard_completes P names program ops texts done ended None a b status apart good is read told so n d
+guard_completes P names program ops texts done ended None a b status apart good is read known so n d
     ten seventeen = no_file ops_in OPS_MAX good.0
-guard_completes P names program ops texts done ended (Some files) a b status apart good is read told
+guard_completes P names program ops texts done ended (Some files) a b status apart good is read
+    known
     so n d ten seventeen =
     ended_17 P (guard_steps names program ops texts) done ended a b status files
-    (guard_17 names program ops texts files apart good is read.script read.image read.flips) told so
+    (guard_17 names program ops texts files apart good is read.script read.image read.flips) known
+    so
     n d ten seventeen
 
--- a line that is told last changes no file and no chip, and no count of faults falls
-record IsAfter (told new : World) : Type 0 where
-  files : new.files ≡ told.files
-  chip : new.chip ≡ told.chip
-  sink : told.sink.faults ≤ new.sink.faults
+-- a line that is reported last changes no file and no chip, and no count of faults falls
+record IsAfter (known new : World) : Type 0 where
+  files : new.files ≡ known.files
+  chip : new.chip ≡ known.chip
+  sink : known.sink.faults ≤ new.sink.faults
 
-same_after : (told new : World) → new ≡ told → IsAfter told new
-same_after told new e = record {
+same_after : (known new : World) → new ≡ known → IsAfter known new
+same_after known new e = record {
   files = ap (λ (w : World). w.files) e;
   chip = ap (λ (w : World). w.chip) e;
-  sink = subst (λ (w : World). told.sink.faults ≤ w.sink.faults) (sym e) (omega arith);
+  sink = subst (λ (w : World). known.sink.faults ≤ w.sink.faults) (sym e) (omega arith);
 }
 
-last_after : (ended : Ended) (refusal : Option Refusal) (told new : World)
-    → TellsLast ended refusal told new → IsAfter told new
-last_after All (Some refusal) told new says =
+last_after : (ended : Ended) (refusal : Option Refusal) (known new : World)
+    → TellsLast ended refusal known new → IsAfter known new
+last_after All (Some refusal) known new says =
     record { files = says.files; chip = says.chip; sink = says.faults }
-last_after All None told new same = same_after told new same
-last_after (At stop) refusal told new same = same_after told new same
+last_after All None known new same = same_after known new same
+last_after (At stop) refusal known new same = same_after known new same
 
-still_nothing : (old told new : World) → IsAfter told new → NothingFailed old new
-    → NothingFailed old told
-still_nothing old told new a n = record {
+still_nothing : (old known new : World) → IsAfter known new → NothingFailed old new
+    → NothingFailed old known
+still_nothing old known new a n = record {
   loads = subst (λ (f : FolderView). (name : List ℕ)
       → Rose (old.files.load_faults name) (f.load_faults name) → ⊥) a.files n.loads;
   stores = subst (λ (f : FolderView). Rose old.files.store_faults f.store_faults → ⊥) a.files
@@ -643,13 +648,13 @@ still_nothing old told new a n = record {
   chip = subst (λ (c : ChipView). Rose old.chip.faults c.faults → ⊥) a.chip n.chip;
 }
 
--- where memory was wanting nothing is told last
-told_same : (steps : List Step) (done : ℕ) (ended : Ended) (refusal : Option Refusal)
-    (old told new : World) (status : ℕ) → EndsSo steps done ended old told status
-    → (done ≡ 10 → ⊥) → status ≡ 10 → TellsLast ended refusal told new → new ≡ told
-told_same steps done All refusal old told new status so apart ten tells =
+-- where memory was wanting nothing is reported last
+known_same : (steps : List Step) (done : ℕ) (ended : Ended) (refusal : Option Refusal)
+    (old known new : World) (status : ℕ) → EndsSo steps done ended old known status
+    → (done ≡ 10 → ⊥) → status ≡ 10 → TellsLast ended refusal known new → new ≡ known
+known_same steps done All refusal old known new status so apart ten tells =
     absurd (apart (sym so.answers ∙ ten))
-told_same steps done (At stop) refusal old told new status so apart ten tells = tells
+known_same steps done (At stop) refusal old known new status so apart ten tells = tells
 
 either_image : (names : ReplayNames) (t : EventTrace) (i : Image) (text : List ℕ) (files : Files)
     (b : Bool) → same_geometry i.geometry t.geometry ≡ b → image_of text ≡ Ok i
@@ -744,17 +749,18 @@ completes (Soak seed) old new status are e = λ good n.
 completes (Scan names) old new status are e = λ good n.
     let P = IsOneOf (10 ∷ 0 ∷ 16 ∷ []) in
     let refusal = refusal_on e.made e.query (image_of e.texts.image) in
-    completes_by P (scan_steps names e.texts e.made e.query) (scan_status refusal) old e.told status
+    completes_by P (scan_steps names e.texts e.made e.query) (scan_status refusal) old e.stood
+    status
     e.ends (scan_passes names e.texts e.made e.query old.files.holds good e.read)
-    (still_nothing old e.told new (last_after e.ends.ended refusal e.told new e.last) n)
+    (still_nothing old e.stood new (last_after e.ends.ended refusal e.stood new e.last) n)
     (scan_so P e.made e.query (image_of e.texts.image) refl refl) refl
 completes (Trace names) old new status are e = λ good n.
     let P = IsOneOf (10 ∷ 0 ∷ 8 ∷ 12 ∷ []) in
     let full = full_with (prog_in e.prog) e.texts in
     completes_by P (trace_steps names e.prog e.texts)
-    (status_or full (status_with (prog_in e.prog) e.texts)) old e.told status e.ends
+    (status_or full (status_with (prog_in e.prog) e.texts)) old e.stood status e.ends
     (trace_passes names e.prog e.texts old.files.holds good e.is_text e.read)
-    (still_nothing old e.told new (last_after e.ends.ended full e.told new e.last) n)
+    (still_nothing old e.stood new (last_after e.ends.ended full e.stood new e.last) n)
     (full_so P (prog_in e.prog) e.texts (status_with (prog_in e.prog) e.texts)
     (with_so P (prog_in e.prog) e.texts refl refl) refl) refl
 completes (Replay names) old new status are e = λ good n.
@@ -802,20 +808,20 @@ not_ten : (reason other : Reason) (status : ℕ) → reason ≡ other → reason
     → (status ≡ 10 → ⊥) → reason_status reason ≡ 10 → ⊥
 not_ten reason other status e f apart ten = apart (sym f ∙ ap reason_status (sym e) ∙ ten)
 
-refused_ten : (refusal : Option Refusal) (told : Refusal) → refusal ≡ Some told
-    → OfRefusal (λ s. s ≡ 10 → ⊥) refusal → told.status ≡ 10 → ⊥
-refused_ten None told e h ten = absurd (cc)
-refused_ten (Some r) told e h ten =
-    let same : r ≡ told = cc in h (ap (λ (x : Refusal). x.status) same ∙ ten)
+refused_ten : (refusal : Option Refusal) (known : Refusal) → refusal ≡ Some known
+    → OfRefusal (λ s. s ≡ 10 → ⊥) refusal → known.status ≡ 10 → ⊥
+refused_ten None known e h ten = absurd (cc)
+refused_ten (Some r) known e h ten =
+    let same : r ≡ known = cc in h (ap (λ (x : Refusal). x.status) same ∙ ten)
 
 load_early : (but : Option (List ℕ)) (name : List ℕ) (limit : ℕ) (text : List ℕ)
     (refusal : Option Refusal) (reason : Reason) (a b : World)
     → OfRefusal (λ s. s ≡ 10 → ⊥) refusal → Causes (Load name limit text refusal) reason a b
     → reason_status reason ≡ 10 → IsEarly but [] (Load name limit text refusal) reason
-load_early but name limit text refusal (CannotRead told) a b h c ten = absurd (cc)
-load_early but name limit text refusal (TooLong told) a b h c ten = absurd (cc)
-load_early but name limit text refusal (Refused told) a b h c ten =
-    absurd (refused_ten refusal told c h ten)
+load_early but name limit text refusal (CannotRead known) a b h c ten = absurd (cc)
+load_early but name limit text refusal (TooLong known) a b h c ten = absurd (cc)
+load_early but name limit text refusal (Refused known) a b h c ten =
+    absurd (refused_ten refusal known c h ten)
 load_early but name limit text refusal NoMemory a b h c ten = record {
   wants = refl;
   quiet = refl;
@@ -824,7 +830,7 @@ load_early but name limit text refusal NoMemory a b h c ten = record {
   other = λ other s. s;
   line = λ last is. is;
 }
-load_early but name limit text refusal (CannotWrite told) a b h c ten = elim c [ ]
+load_early but name limit text refusal (CannotWrite known) a b h c ten = elim c [ ]
 load_early but name limit text refusal PutFailed a b h c ten = elim c [ ]
 load_early but name limit text refusal ChipFailed a b h c ten = elim c [ ]
 
@@ -874,11 +880,11 @@ load_takes : (name : List ℕ) (limit : ℕ) (text : List ℕ) (refusal : Option
     (reason : Reason) (a b : World)
     → OfStep (λ s. s ≡ 10 → ⊥) (Load name limit text refusal)
     → Causes (Load name limit text refusal) reason a b → reason_status reason ≡ 10 → ⊥
-load_takes name limit text refusal (CannotRead told) a b h c ten = cc
-load_takes name limit text refusal (TooLong told) a b h c ten = cc
-load_takes name limit text refusal (Refused told) a b h c ten = refused_ten refusal told c h.3 ten
+load_takes name limit text refusal (CannotRead known) a b h c ten = cc
+load_takes name limit text refusal (TooLong known) a b h c ten = cc
+load_takes name limit text refusal (Refused known) a b h c ten = refused_ten refusal known c h.3 ten
 load_takes name limit text refusal NoMemory a b h c ten = h.2 refl
-load_takes name limit text refusal (CannotWrite told) a b h c ten = elim c [ ]
+load_takes name limit text refusal (CannotWrite known) a b h c ten = elim c [ ]
 load_takes name limit text refusal PutFailed a b h c ten = elim c [ ]
 load_takes name limit text refusal ChipFailed a b h c ten = elim c [ ]
 
@@ -950,24 +956,24 @@ early but (Put bytes ∷ front) at rest reason a b h c ten =
 early but (Print bytes ∷ front) at rest reason a b h c ten =
     absurd (none_takes front at rest reason a b h c ten)
 
-told_weaker : {A : Type 0} (R Q : A → A → Type 0) (a b : Option A) → Told R a b
-    → ((x y : A) → R x y → Q x y) → Told Q a b
-told_weaker R Q None b t h = tt
-told_weaker R Q (Some x) None t h = absurd t
-told_weaker R Q (Some x) (Some y) t h = h x y t
+known_weaker : {A : Type 0} (R Q : A → A → Type 0) (a b : Option A) → Known R a b
+    → ((x y : A) → R x y → Q x y) → Known Q a b
+known_weaker R Q None b t h = tt
+known_weaker R Q (Some x) None t h = absurd t
+known_weaker R Q (Some x) (Some y) t h = h x y t
 
 stop_spares : (but : Option (List ℕ)) (steps : List Step) (stop : Stop) (old new : World)
     (status : ℕ) → TakesFirst but steps → IsStopped steps stop old new status → status ≡ 10
     → (list_any is_on_chip stop.before ≡ false → stop.reason ≡ NoMemory
     → Unopened old.chip new.chip) → IsSpared but old new
 stop_spares but steps stop old new status first s ten unopened =
-    let e = early but stop.before stop.failed stop.behind stop.reason old new
+    let e = early but stop.before stop.failed stop.following stop.reason old new
     (subst (TakesFirst but) (sym s.place) first) s.causes (sym s.answers ∙ ten) in
     record {
       sent = subst (λ (bytes : List ℕ). Sends bytes (codes "no memory\n") old new) e.quiet
           (subst (λ (last : List ℕ). Sends (sent_by stop.before) last old new)
           (e.line s.sent.0 s.sent.1) s.sent.2);
-      files = told_weaker (LeavesFiles stop) (λ before after. (name : List ℕ) → but ≢ Some name
+      files = known_weaker (LeavesFiles stop) (λ before after. (name : List ℕ) → but ≢ Some name
           → after name ≡ before name) old.files.holds new.files.holds s.files
           (λ before after left name apart. left name (e.other name) ∙ e.files before name apart);
       chip = unopened e.off e.wants;
@@ -1122,9 +1128,10 @@ spares (Scan names) old new status e = λ ten.
     let apart = scan_so (λ s. s ≡ 10 → ⊥) e.made e.query (image_of e.texts.image) (λ f. cc)
     (λ f. cc) in
     subst (λ (w : World). IsSpared None old w)
-    (sym (told_same steps (scan_status refusal) e.ends.ended refusal old e.told new status e.ends.so
+    (sym (known_same steps (scan_status refusal) e.ends.ended refusal old e.stood new status
+    e.ends.so
     apart ten e.last))
-    (spares_by None steps (scan_status refusal) old e.told status e.ends
+    (spares_by None steps (scan_status refusal) old e.stood status e.ends
     (scan_first names e.texts e.made e.query) apart ten)
 spares (Trace names) old new status e = λ ten.
     let steps = trace_steps names e.prog e.texts in
@@ -1134,8 +1141,9 @@ spares (Trace names) old new status e = λ ten.
     (status_with (prog_in e.prog) e.texts)
     (with_so (λ s. s ≡ 10 → ⊥) (prog_in e.prog) e.texts (λ f. cc) (λ f. cc)) (λ f. cc) in
     subst (λ (w : World). IsSpared None old w)
-    (sym (told_same steps done e.ends.ended full old e.told new status e.ends.so apart ten e.last))
-    (spares_by None steps done old e.told status e.ends (trace_first names e.prog e.texts) apart
+    (sym (known_same steps done e.ends.ended full old e.stood new status e.ends.so apart ten
+    e.last))
+    (spares_by None steps done old e.stood status e.ends (trace_first names e.prog e.texts) apart
     ten)
 spares (Replay names) old new status e =
     spares_by None (replay_steps names e.texts) 0 old new status e.ends

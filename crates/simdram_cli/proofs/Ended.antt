@@ -79,7 +79,7 @@ first_not_stored ops prog program text (Ok u) front at rest e s =
 first_not_stored ops prog program text (Err r) front at rest e s =
     not_refused_stored prog _ front at rest (λ x. x) e s
 
--- what comes behind the store of PROG
+-- what comes after the store of PROG
 abbrev last_of : List Step → Result (Unit {0}) Refusal → List Step
 last_of rest (Ok u) = rest
 last_of rest (Err r) = []
@@ -124,7 +124,7 @@ early_tail ops prog program text rest done reason old mid new status g says answ
     let whole = end_more firsts (last_of rest read) done done s.0 old new status s.1 s.2 in
     let so : IsStopped firsts s.0 old new status =
     subst (λ (x : Ended). EndsSo firsts done x old new status) s.2 s.1.so in
-    let more : Stop = record s.0 { behind = s.0.behind ++ last_of rest read } in
+    let more : Stop = record s.0 { following = s.0.following ++ last_of rest read } in
     let moved : (f : Ends steps done old new status) × (f.ended ≡ At more) =
     subst (λ (xs : List Step). (f : Ends xs done old new status) × (f.ended ≡ At more))
     (whole_is ops prog program text rest read) whole in
@@ -133,7 +133,7 @@ early_tail ops prog program text rest done reason old mid new status g says answ
       stop = more;
       is = moved.1;
       compiled = λ stored. absurd (first_not_stored ops prog program text read s.0.before
-          s.0.failed s.0.behind so.place
+          s.0.failed s.0.following so.place
           (stored_before prog steps moved.0.ended more moved.1 stored));
     }
 

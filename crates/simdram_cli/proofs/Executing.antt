@@ -7,7 +7,7 @@ use Rattle.std.specs.List.{AllByRecursion}
 use Rattle.std.specs.Result.{result_ok}
 use Rattle.dram_model.specs.Chip.{Banks, row_in}
 use Rattle.dram_model.specs.View.{ChipView}
-use Rattle.host_edge.specs.Views.{Files, FolderView, SinkView, Told}
+use Rattle.host_edge.specs.Views.{Files, FolderView, SinkView, Known}
 use Rattle.uprog_code.specs.Programs.{IsProgram}
 use Rattle.uprog_code.specs.Texts.{TextOp, ImplementsAll}
 use Rattle.uprog_bin.specs.Opened.{IsProgramFile}
@@ -46,7 +46,7 @@ use Rattle.simdram_cli.specs.Headline.{read_as}
 use Rattle.simdram_cli.proofs.Ended.{done_by, job_status_is, nothing_done}
 use Rattle.simdram_cli.proofs.Foreseen.{tell_both, text_at, was_read}
 use Rattle.simdram_cli.proofs.Joins.{loaded_text, loading_goes, loading_stops, no_texts}
-use Rattle.simdram_cli.proofs.Joins.{told_is_text, told_text}
+use Rattle.simdram_cli.proofs.Joins.{known_is_text, known_text}
 use Rattle.simdram_cli.proofs.Loaded.{load_is_step, stopped_ends, went_through}
 use Rattle.simdram_cli.proofs.Migrating.{prog_is}
 use Rattle.simdram_cli.proofs.OpenedRows.{opened_rows}
@@ -61,14 +61,14 @@ pub exec_unread : (names : ExecNames) (stop : StopBy) (old new : FolderView) (si
     (chip : ChipView) → NotLoaded names.prog.now PROG_MAX (reason_of stop) old new
     → ExecGoes names (world old sink chip) (world new sink chip) (Err stop)
 exec_unread names stop old new sink chip n =
-    let text = told_text old.holds names.prog.now in
+    let text = known_text old.holds names.prog.now in
     record {
       prog = text;
       texts = no_texts (exec_names names) old.holds;
-      is_text = told_is_text old.holds names.prog.now;
+      is_text = known_is_text old.holds names.prog.now;
       read = record {
-        script = told_is_text old.holds names.script.now;
-        image = told_is_text old.holds names.image.now;
+        script = known_is_text old.holds names.script.now;
+        image = known_is_text old.holds names.image.now;
       };
       goes = inl (loading_stops names.prog.now PROG_MAX text (prog_in text) (λ x. [])
           (reason_of stop) (world old sink chip) (world new sink chip)
@@ -88,8 +88,8 @@ exec_refused names stop text fault old new sink chip loaded e f = record {
   is_text = loaded_text names.prog.now PROG_MAX text (world old sink chip) (world new sink chip)
       (loaded sink chip);
   read = record {
-    script = told_is_text old.holds names.script.now;
-    image = told_is_text old.holds names.image.now;
+    script = known_is_text old.holds names.script.now;
+    image = known_is_text old.holds names.image.now;
   };
   goes = inl (loading_stops names.prog.now PROG_MAX text (prog_in text) (λ x. [])
       (reason_of stop) (world old sink chip) (world new sink chip)
@@ -198,11 +198,11 @@ record Parts (before : List Instruction) (instr : Instruction) : Type 0 where
   front : AllByRecursion IsPlain before
   own : IsPlain instr
 
-parts_plain : (before : List Instruction) (instr : Instruction) (behind : List Instruction)
-    → AllByRecursion IsPlain (before ++ instr ∷ behind) → Parts before instr
-parts_plain [] instr behind all = record { front = tt; own = all.0 }
-parts_plain (x ∷ before) instr behind all =
-    let rest = parts_plain before instr behind all.1 in
+parts_plain : (before : List Instruction) (instr : Instruction) (following : List Instruction)
+    → AllByRecursion IsPlain (before ++ instr ∷ following) → Parts before instr
+parts_plain [] instr following all = record { front = tt; own = all.0 }
+parts_plain (x ∷ before) instr following all =
+    let rest = parts_plain before instr following all.1 in
     record { front = (all.0, rest.front); own = rest.own }
 
 or_none : (b : Bool) → b ≡ false → (b || false) ≡ false
@@ -212,9 +212,9 @@ or_none false e = refl
 pub stays_inside : (program : Program) (script : List Instruction) (i : Image) (chip : ChipView)
     (refused : ℕ) → IsProgram program → RowsDone script i program chip refused
     → StaysInside program script i
-stays_inside program script i chip refused legal d before instr behind bank row e out =
+stays_inside program script i chip refused legal d before instr following bank row e out =
     let o = routines_in program in
-    let plain = parts_plain before instr behind
+    let plain = parts_plain before instr following
     (subst (AllByRecursion IsPlain) (sym e) d.plain) in
     let table = table_at_end i.geometry o i.table before in
     let banks = banks_at_end i.geometry o i.table (opened i) before in
@@ -227,15 +227,16 @@ stays_inside program script i chip refused legal d before instr behind bank row 
     (or_none (is_touched i.geometry o table instr bank row) out)
 
 -- what an execution that is done has read
-pub record HasRun (names : ExecNames) (prog : List ℕ) (texts : Texts) (before : Files) : Type 0 where
-  pub program : Program
-  pub prog_is : prog_in prog ≡ Ok program
-  pub job : JobRead (exec_names names) program texts before
-  pub prog_at : before names.prog.now ≡ Some prog
-  pub script_at : before names.script.now ≡ Some texts.script
-  pub image_at : before names.image.now ≡ Some texts.image
-  pub steps_are : exec_steps names prog texts
-      ≡ Load names.prog.now PROG_MAX prog None ∷ job_steps (exec_names names) program texts
+pub record HasRun (names : ExecNames) (prog : List ℕ) (texts : Texts) (before : Files) : Type 0
+  where
+    pub program : Program
+    pub prog_is : prog_in prog ≡ Ok program
+    pub job : JobRead (exec_names names) program texts before
+    pub prog_at : before names.prog.now ≡ Some prog
+    pub script_at : before names.script.now ≡ Some texts.script
+    pub image_at : before names.image.now ≡ Some texts.image
+    pub steps_are : exec_steps names prog texts
+        ≡ Load names.prog.now PROG_MAX prog None ∷ job_steps (exec_names names) program texts
 
 prog_read : (names : ExecNames) (prog : List ℕ) (read : Result Program Refusal)
     (rest : Program → List Step) (program : Program) → read ≡ Ok program
@@ -276,7 +277,7 @@ pub by_text : (out : List ℕ) (script : List Instruction) (i : Image) (program 
     → RowsDone script i program new.chip refused
     → status ≡ done_status (refused_by program script i)
     → after out ≡ Some (image_by program script i)
-    → Told (λ x y. y ≡ x ++ (lines 1 (said_in program script i)
+    → Known (λ x y. y ≡ x ++ (lines 1 (said_in program script i)
     ++ total_line (tally_by program script i) (refused_by program script i))) old.sink.sent
     new.sink.sent
     → (t : List TextOp) → ImplementsAll program t
@@ -287,7 +288,7 @@ by_text out script i program refused status old new after rows answers file sent
       objects_right = objects_right out t script i program new.chip refused after d file;
       rows_untouched = rows_untouched t script i program new.chip refused d;
       commands_counted = commands_counted t script i program new.chip refused d;
-      report_sent = subst (λ (bytes : List ℕ). Told (λ x y. y ≡ x ++ bytes) old.sink.sent
+      report_sent = subst (λ (bytes : List ℕ). Known (λ x y. y ≡ x ++ bytes) old.sink.sent
           new.sink.sent) (report_is t script i program new.chip refused d) sent;
       replies_exact = replies_exact t script i program new.chip refused status d answers;
     }
@@ -313,7 +314,7 @@ abbrev pub executed : (names : ExecNames) (prog : List ℕ) (texts : Texts) (ref
     → RowsDone h.job.script h.job.image h.program new.chip refused
     → status ≡ done_status (refused_by h.program h.job.script h.job.image)
     → after ≡ with_file names.out.now (image_by h.program h.job.script h.job.image) before
-    → Told (λ x y. y ≡ x ++ (lines 1 (said_in h.program h.job.script h.job.image)
+    → Known (λ x y. y ≡ x ++ (lines 1 (said_in h.program h.job.script h.job.image)
     ++ total_line (tally_by h.program h.job.script h.job.image)
     (refused_by h.program h.job.script h.job.image))) old.sink.sent new.sink.sent
     → Executed names before after old new status
@@ -336,7 +337,7 @@ executed names prog texts refused status old new before after h legal rows answe
         work = own.work;
         file = file;
         stay = rows_stay program script i new.chip refused legal rows;
-        sent = subst (λ k. Told (λ x y. y ≡ x ++ (lines 1 (said_in program script i)
+        sent = subst (λ k. Known (λ x y. y ≡ x ++ (lines 1 (said_in program script i)
             ++ total_line k (refused_by program script i))) old.sink.sent new.sink.sent)
             (sym rows.work.counters) sent;
         answers = answers;
@@ -349,7 +350,8 @@ executed names prog texts refused status old new before after h legal rows answe
           (bytes_differ other names.out.now differs);
     }
 
-pub done_read : (read : Result Program Refusal) (texts : Texts) (chip : ChipView) (program : Program)
+pub done_read : (read : Result Program Refusal) (texts : Texts) (chip : ChipView) (program :
+    Program)
     → read ≡ Ok program → IsDoneWith All read texts chip → IsDoneBy All program texts chip
 done_read read texts chip program e d = rw e at d
 
@@ -360,7 +362,7 @@ status_read read texts program e = rw e refl
 -- An execution that was done keeps its promises
 pub exec_promised : (names : ExecNames) (old new : World) (status : ℕ)
     → (e : ExecEnds names old new status) → e.ends.ended ≡ All
-    → Told (λ before after. Executed names before after old new status) old.files.holds
+    → Known (λ before after. Executed names before after old new status) old.files.holds
     new.files.holds
 exec_promised names old new status e done =
     let steps = exec_steps names e.prog e.texts in
@@ -368,7 +370,7 @@ exec_promised names old new status e done =
     let so : IsAllDone steps (status_with (prog_in e.prog) e.texts) old new status =
     subst (λ (x : Ended). EndsSo steps (status_with (prog_in e.prog) e.texts) x old new status) done
     e.ends.so in
-    let told : IfSome old.files.holds (IsForetold steps All) =
+    let known : IfSome old.files.holds (IsForetold steps All) =
     subst (λ (x : Ended). IfSome old.files.holds (IsForetold steps x)) done e.ends.foretold in
     let work : IsDoneWith All (prog_in e.prog) e.texts new.chip =
     subst (λ (x : Ended). IsDoneWith x (prog_in e.prog) e.texts new.chip) done e.done in
@@ -377,7 +379,7 @@ exec_promised names old new status e done =
     (load_is_step names.prog.now PROG_MAX e.prog (prog_in e.prog) rest) in
     tell_both old.files.holds new.files.holds (λ before after. after ≡ files_after steps before)
     (λ before after. Executed names before after old new status) (IsForetold steps All) so.files
-    told (λ before after there foretold files.
+    known (λ before after there foretold files.
     let h = has_run names e.prog e.texts old.files.holds before there e.is_text e.read foretold in
     let d = done_read (prog_in e.prog) e.texts new.chip h.program h.prog_is work in
     executed names e.prog e.texts d.0 status old new before after h
@@ -387,5 +389,5 @@ exec_promised names old new status e done =
     ∙ job_status_read (exec_names names) h.program e.texts before h.job)
     (files ∙ ap (λ xs. files_after xs before) h.steps_are
     ∙ job_files (exec_names names) h.program e.texts before h.job)
-    (subst (λ (bytes : List ℕ). Told (λ x y. y ≡ x ++ bytes) old.sink.sent new.sink.sent)
+    (subst (λ (bytes : List ℕ). Known (λ x y. y ≡ x ++ bytes) old.sink.sent new.sink.sent)
     (ap sent_by h.steps_are ∙ job_sent (exec_names names) h.program e.texts before h.job) so.sent))

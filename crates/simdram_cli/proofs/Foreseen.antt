@@ -2,7 +2,7 @@
 use Rattle.std.proofs.Common.{◌≡◌, ℕ, Bool, true, false, cond, List, Option, Some, None, refl, sym}
 use Rattle.std.proofs.Common.{ap, subst, length}
 use Rattle.std.specs.Prelude.{Result, Ok, Err, IfSome, nat_lt}
-use Rattle.host_edge.specs.Views.{Files, Told}
+use Rattle.host_edge.specs.Views.{Files, Known}
 use Rattle.op_text.specs.Language.{Operation}
 use Rattle.op_text.specs.OpsOf.{IsOpsOf}
 use Rattle.cli_model.specs.Steps.{Step, Refusal, TooLong, End, Done, Stopped, loading}
@@ -35,7 +35,7 @@ load_there name limit refusal None rest e = absurd (cc)
 load_there name limit refusal (Some bytes) rest e =
     not_long (nat_lt limit (length bytes)) name refusal bytes rest e
 
--- a file was loaded and read as a value, and the steps behind it are done too
+-- a file was loaded and read as a value, and the steps after it are done too
 pub record WasRead {A : Type 0} (read : Result A Refusal) (rest : A → List Step) (files : Files)
     (name : List ℕ) : Type 0 where
   pub value : A
@@ -76,17 +76,17 @@ pub spells_at : (file : Option (List ℕ)) (text : List ℕ) (ops : List Operati
     → file ≡ Some text → IsOpsOf text ops → Spells file ops
 spells_at file text ops e is = subst (λ (o : Option (List ℕ)). Spells o ops) (sym e) is
 
--- where the files are told
+-- where the files are known
 pub if_there : (o : Option Files) (P Q : Files → Type 0) → IfSome o P
     → ((files : Files) → o ≡ Some files → P files → Q files) → IfSome o Q
 if_there None P Q p h = tt
 if_there (Some files) P Q p h = h files refl p
 
--- where the files are told before and after
+-- where the files are known before and after
 pub tell_both : (a b : Option Files) (R Q : Files → Files → Type 0) (P : Files → Type 0)
-    → Told R a b → IfSome a P
+    → Known R a b → IfSome a P
     → ((before after : Files) → a ≡ Some before → P before → R before after → Q before after)
-    → Told Q a b
+    → Known Q a b
 tell_both None b R Q P t p h = tt
 tell_both (Some before) None R Q P t p h = absurd t
 tell_both (Some before) (Some after) R Q P t p h = h before after refl p t

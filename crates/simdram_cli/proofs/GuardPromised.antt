@@ -7,7 +7,7 @@ use Rattle.std.specs.List.{AllByRecursion}
 use Rattle.std.specs.Result.{result_ok}
 use Rattle.dram_model.specs.declared.geometry.Geometry.{Geometry}
 use Rattle.dram_model.specs.Chip.{Banks}
-use Rattle.host_edge.specs.Views.{Files, Told}
+use Rattle.host_edge.specs.Views.{Files, Known}
 use Rattle.object_alloc.specs.Listed.{Named}
 use Rattle.object_alloc.specs.Spelling.{image_bytes}
 use Rattle.uprog_bin.specs.Spelling.{program_bytes}
@@ -29,7 +29,8 @@ use Rattle.machine_model.specs.Steps.{Held, table_of}
 use Rattle.machine_model.proofs.Places.{bytes_differ}
 use Rattle.machine_model.proofs.Texts.{same_operations}
 use Rattle.guard_model.specs.declared.Flip.{Flip}
-use Rattle.guard_model.specs.Guarded.{guarded_replies, guarded_rows, guarded_rows_at_end, joined, plain_ones}
+use Rattle.guard_model.specs.Guarded.{guarded_replies, guarded_rows, guarded_rows_at_end, joined}
+use Rattle.guard_model.specs.Guarded.{plain_ones}
 use Rattle.guard_model.specs.Guarded.{guarded_said_by, guarded_said_in_rows}
 use Rattle.guard_model.specs.Guarded.{guarded_table, guarded_table_at_end}
 use Rattle.guard_model.specs.Guarded.{guarded_words, guarded_words_at_end, lone_words_at_end}
@@ -359,16 +360,16 @@ module _ (t : List TextOp) (job : GuardJob) (implements : ImplementsAll job.prog
       (table_is job.image)
 
   report_same : (old new : World) → said_of job ≡ said_by t job
-      → Told (λ x y. y ≡ x ++ guarded_report (said_of job) (votes_of job) (length job.flips)
+      → Known (λ x y. y ≡ x ++ guarded_report (said_of job) (votes_of job) (length job.flips)
       new.chip.counters (replies_of job)) old.sink.sent new.sink.sent
-      → Told (λ x y. y ≡ x ++ guarded_report (said_by t job) (votes_of job) (length job.flips)
+      → Known (λ x y. y ≡ x ++ guarded_report (said_by t job) (votes_of job) (length job.flips)
       new.chip.counters (replies_by t job)) old.sink.sent new.sink.sent
-  report_same old new e told =
-      subst (λ (bytes : List ℕ). Told (λ x y. y ≡ x ++ bytes) old.sink.sent new.sink.sent)
+  report_same old new e known =
+      subst (λ (bytes : List ℕ). Known (λ x y. y ≡ x ++ bytes) old.sink.sent new.sink.sent)
       (ap (λ s. guarded_report s (votes_of job) (length job.flips) new.chip.counters
       (replies_of job)) e
       ∙ ap (guarded_report (said_by t job) (votes_of job) (length job.flips) new.chip.counters)
-      replies_same) told
+      replies_same) known
 
 -- what is known of a job that was done
 record IsDone (out : List ℕ) (job : GuardJob) (after : Files) (old new : World) (status : ℕ)
@@ -469,7 +470,7 @@ guarded_of : (names : GuardNames) (program : Program) (ops : List ℕ) (texts : 
     → status ≡ done_status (refused_of (job_in h.job))
     → after ≡ with_file names.out.now (image_at_last (job_in h.job))
     (with_file names.prog.now (program_bytes 2 program) before)
-    → Told (λ x y. y ≡ x ++ guarded_report (said_of (job_in h.job)) (votes_of (job_in h.job))
+    → Known (λ x y. y ≡ x ++ guarded_report (said_of (job_in h.job)) (votes_of (job_in h.job))
     (length h.job.flips) (tally_of (job_in h.job)) (replies_of (job_in h.job))) old.sink.sent
     new.sink.sent
     → Guarded names before after old new status
@@ -487,7 +488,7 @@ guarded_of names program ops texts refused status old new before after apart com
       file = ap (λ (x : Files). x names.out.now) files
           ∙ at_own names.out.now (image_at_last job) stored
           ∙ ap (λ (b : Banks). Some (image_spelled job b)) (sym d.done.banks);
-      sent = subst (λ k. Told (λ x y. y ≡ x ++ guarded_report (said_of job) (votes_of job)
+      sent = subst (λ k. Known (λ x y. y ≡ x ++ guarded_report (said_of job) (votes_of job)
           (length job.flips) k (replies_of job)) old.sink.sent new.sink.sent)
           (sym d.done.counters) sent;
       answers = s;
@@ -536,20 +537,20 @@ stores_prog names program ops (Err r) u rest e = absurd (cc)
 -- A guarded run that was done keeps its promises
 pub guard_promised : (names : GuardNames) (old new : World) (status : ℕ) → Apart names
     → (e : GuardEnds names old new status) → e.ends.ended ≡ All
-    → Told (λ before after. Guarded names before after old new status) old.files.holds
+    → Known (λ before after. Guarded names before after old new status) old.files.holds
     new.files.holds
 guard_promised names old new status apart e done =
     let steps = guard_steps names e.program e.ops e.texts in
     let read = job_of_texts e.program e.texts in
     let so : IsAllDone steps (guard_status read) old new status =
     subst (λ (x : Ended). EndsSo steps (guard_status read) x old new status) done e.ends.so in
-    let told : IfSome old.files.holds (IsForetold steps All) =
+    let known : IfSome old.files.holds (IsForetold steps All) =
     subst (λ (x : Ended). IfSome old.files.holds (IsForetold steps x)) done e.ends.foretold in
     let work : IsGuardDone All read new.chip =
     subst (λ (x : Ended). IsGuardDone x read new.chip) done e.done in
     tell_both old.files.holds new.files.holds (λ before after. after ≡ files_after steps before)
     (λ before after. Guarded names before after old new status) (IsForetold steps All) so.files
-    told (λ before after there foretold files.
+    known (λ before after there foretold files.
     let stored = with_file names.prog.now (program_bytes 2 e.program) before in
     let h = has_read names e.program e.ops e.texts old.files.holds before apart there e.is_text
     e.read foretold in
@@ -566,5 +567,5 @@ guard_promised names old new status apart e done =
     (so.answers ∙ ap guard_status own)
     (files ∙ ap (λ xs. files_after xs before) all
     ∙ work_files names.out.now (job_in h.job) stored)
-    (subst (λ (bytes : List ℕ). Told (λ x y. y ≡ x ++ bytes) old.sink.sent new.sink.sent)
+    (subst (λ (bytes : List ℕ). Known (λ x y. y ≡ x ++ bytes) old.sink.sent new.sink.sent)
     (ap sent_by all ∙ work_sent names.out.now (job_in h.job)) so.sent))

@@ -98,7 +98,7 @@ script_are P g o flips k table banks (instr ∷ script) three nine =
     (nine, line_are P (is_print instr) bytes three nine)
     (script_are P g o flips (k + 1) next rows script three nine)
 
--- the steps behind the opening
+-- the steps after the opening
 pub opened_are : (P : ℕ → Type 0) (out : List ℕ) (job : GuardJob) → P 3 → P 9
     → OfSteps P (guarded_steps job.image.geometry (routines_in job.program) job.flips 1
     job.image.table (opened job.image) job.script ++ last_steps out job)

@@ -13,7 +13,7 @@ use Rattle.dram_model.specs.Chip.{Banks, Event, Grew, Log, LogIs}
 use Rattle.dram_model.specs.View.{ChipView, DidRead, with_reads}
 use Rattle.dram_model.proofs.EventLaws.{LogIs-more}
 use Rattle.fault_counts.specs.Counts.{Rose}
-use Rattle.host_edge.specs.Views.{Files, FolderView, SinkView, Told, AppendsPart}
+use Rattle.host_edge.specs.Views.{Files, FolderView, SinkView, Known, AppendsPart}
 use Rattle.object_alloc.specs.declared.fault.ImageNo.{ImageNo}
 use Rattle.object_alloc.specs.declared.fault.ImageNo.TheVariants as no
 use Rattle.object_alloc.specs.Listed.{Named}
@@ -76,8 +76,8 @@ use Rattle.simdram_cli.specs.Works.{OpenedOn}
 use Rattle.simdram_cli.proofs.Ended.{tail_of, went_on}
 use Rattle.simdram_cli.proofs.Joins.{goes_ops, loaded_text, loading_goes, loading_stops, no_chip}
 use Rattle.simdram_cli.proofs.Joins.{no_sink, stored_program, taken_text, text_before}
-use Rattle.simdram_cli.proofs.Joins.{told_is_text, told_text}
-use Rattle.simdram_cli.proofs.Running.{not_true, turned}
+use Rattle.simdram_cli.proofs.Joins.{known_is_text, known_text}
+use Rattle.simdram_cli.proofs.Running.{not_true, other_way}
 use Rattle.simdram_cli.proofs.Scripts.{lines_long}
 use Rattle.simdram_cli.proofs.Stores.{nothing_read, sent, used}
 use Rattle.simdram_cli.proofs.Tallies.{both}
@@ -134,11 +134,11 @@ long_refused name script k old new some r =
 fails_as : (name : List ℕ) (limit : ℕ) (text : List ℕ) (p q : Option Refusal) (reason : Reason)
     (a b : World) → ((r : Refusal) → p ≡ Some r → q ≡ Some r)
     → LoadFails name limit text p reason a b → LoadFails name limit text q reason a b
-fails_as name limit text p q (CannotRead told) a b h f = f
-fails_as name limit text p q (TooLong told) a b h f = f
+fails_as name limit text p q (CannotRead known) a b h f = f
+fails_as name limit text p q (TooLong known) a b h f = f
 fails_as name limit text p q (Refused r) a b h f = (h r f.0, f.1)
 fails_as name limit text p q NoMemory a b h f = f
-fails_as name limit text p q (CannotWrite told) a b h f = absurd f
+fails_as name limit text p q (CannotWrite known) a b h f = absurd f
 fails_as name limit text p q PutFailed a b h f = absurd f
 fails_as name limit text p q ChipFailed a b h f = absurd f
 
@@ -171,10 +171,10 @@ flips_accepted g instrs text flips e = ap flips_or_refusal e
 abbrev AtMost : ℕ → Result (List Flip) FlipsFault → Type 0
 AtMost n read = (flips : List Flip) → read ≡ Ok flips → length flips ≤ n
 
-behind_flip : (f : Flip) (rest : Result (List Flip) FlipsFault) (lines : ℕ) → AtMost lines rest
+after_flip : (f : Flip) (rest : Result (List Flip) FlipsFault) (lines : ℕ) → AtMost lines rest
     → AtMost (lines + 1) (with_flip f rest)
-behind_flip f (Err fault) lines more flips e = absurd (cc)
-behind_flip f (Ok others) lines more flips e =
+after_flip f (Err fault) lines more flips e = absurd (cc)
+after_flip f (Ok others) lines more flips e =
     let few = more others refl in
     let same : f ∷ others ≡ flips = cc in
     subst (λ (xs : List Flip). length xs ≤ lines + 1) same (omega (arith, few))
@@ -186,7 +186,7 @@ line_few before number lines (Err kind) rest more flips e = absurd (cc)
 line_few before number lines (Ok None) rest more flips e =
     let few = more before flips e in omega (arith, few)
 line_few before number lines (Ok (Some f)) rest more flips e =
-    behind_flip f (rest f.before) lines (more f.before) flips e
+    after_flip f (rest f.before) lines (more f.before) flips e
 
 flips_few : (g : Geometry) (instrs number : ℕ) (lines : List (List ℕ)) (before : ℕ)
     → AtMost (length lines) (flips_from g instrs number lines before)
@@ -365,15 +365,15 @@ worked_on name job end a b c d g h k =
 -- the end: the image is stored, and two lines are sent
 
 pub puts_unput : (first second : List ℕ) (files : FolderView) (s t : SinkView) (chip : ChipView)
-    → Told (AppendsPart first) s.sent t.sent → s.faults ≤ t.faults → Rose s.faults t.faults
+    → Known (AppendsPart first) s.sent t.sent → s.faults ≤ t.faults → Rose s.faults t.faults
     → Goes (Put first ∷ Put second ∷ []) (Stopped PutFailed) (world files s chip)
     (world files t chip)
 puts_unput first second files s t chip p n r =
     inr (refl, sent (AppendsPart first) files s t chip p n, r)
 
 pub puts_half : (first second : List ℕ) (files : FolderView) (s t u : SinkView) (chip : ChipView)
-    → Told (λ before after. after ≡ before ++ first) s.sent t.sent → s.faults ≤ t.faults
-    → Told (AppendsPart second) t.sent u.sent → t.faults ≤ u.faults → Rose t.faults u.faults
+    → Known (λ before after. after ≡ before ++ first) s.sent t.sent → s.faults ≤ t.faults
+    → Known (AppendsPart second) t.sent u.sent → t.faults ≤ u.faults → Rose t.faults u.faults
     → Goes (Put first ∷ Put second ∷ []) (Stopped PutFailed) (world files s chip)
     (world files u chip)
 puts_half first second files s t u chip p n q m r = inl (
@@ -385,8 +385,8 @@ puts_half first second files s t u chip p n q m r = inl (
 )
 
 pub puts_done : (first second : List ℕ) (files : FolderView) (s t u : SinkView) (chip : ChipView)
-    → Told (λ before after. after ≡ before ++ first) s.sent t.sent → s.faults ≤ t.faults
-    → Told (λ before after. after ≡ before ++ second) t.sent u.sent → t.faults ≤ u.faults
+    → Known (λ before after. after ≡ before ++ first) s.sent t.sent → s.faults ≤ t.faults
+    → Known (λ before after. after ≡ before ++ second) t.sent u.sent → t.faults ≤ u.faults
     → Goes (Put first ∷ Put second ∷ []) Done (world files s chip) (world files u chip)
 puts_done first second files s t u chip p n q m = inl (
   world files t chip,
@@ -510,12 +510,12 @@ pub image_unread : (names : GuardNames) (program : Program) (script : List Instr
     → NotRead guarded_image_of names.image.now IMAGE_MAX (reason_of stop) old new
     → GuardImageWorked names program script (world old sink chip) (world new sink chip) (Err stop)
 image_unread names program script stop old new sink chip n =
-    let flips = told_text old.holds names.flips.now in
+    let flips = known_text old.holds names.flips.now in
     record {
       image = n.text;
       flips = flips;
       image_is = n.is_text;
-      flips_is = told_is_text old.holds names.flips.now;
+      flips_is = known_is_text old.holds names.flips.now;
       goes = loading_stops names.image.now IMAGE_MAX n.text (guarded_image_of n.text)
           (λ i. flips_steps names program script i flips) (reason_of stop) (world old sink chip)
           (world new sink chip) (n.fails sink chip);
@@ -604,15 +604,15 @@ pub job_unread : (names : GuardNames) (program : Program) (stop : Stop) (old new
 job_unread names program stop old new sink chip n =
     let texts : GuardTexts = record {
       script = n.text;
-      image = told_text old.holds names.image.now;
-      flips = told_text old.holds names.flips.now;
+      image = known_text old.holds names.image.now;
+      flips = known_text old.holds names.flips.now;
     } in
     record {
       texts = texts;
       read = record {
         script = n.is_text;
-        image = told_is_text old.holds names.image.now;
-        flips = told_is_text old.holds names.flips.now;
+        image = known_is_text old.holds names.image.now;
+        flips = known_is_text old.holds names.flips.now;
       };
       goes = loading_stops names.script.now SCRIPT_MAX n.text (guarded_script_in n.text)
           (λ script. image_steps names program script texts.image texts.flips) (reason_of stop)
@@ -662,21 +662,21 @@ guard_stopped names stop old new sink chip s = record {
   program = s.program;
   ops = s.text;
   texts = record {
-    script = told_text old.holds names.script.now;
-    image = told_text old.holds names.image.now;
-    flips = told_text old.holds names.flips.now;
+    script = known_text old.holds names.script.now;
+    image = known_text old.holds names.image.now;
+    flips = known_text old.holds names.flips.now;
   };
   is_text = s.is_text;
   read = record {
-    script = told_is_text old.holds names.script.now;
-    image = told_is_text old.holds names.image.now;
-    flips = told_is_text old.holds names.flips.now;
+    script = known_is_text old.holds names.script.now;
+    image = known_is_text old.holds names.image.now;
+    flips = known_is_text old.holds names.flips.now;
   };
   goes = inl (s.goes sink chip);
   done = tt;
 }
 
--- the files that are read behind the store of PROG are not PROG
+-- the files that are read after the store of PROG are not PROG
 pub record AreOthers (names : GuardNames) : Type 0 where
   pub script : bytes_eq names.script.now names.prog.now ≡ false
   pub image : bytes_eq names.image.now names.prog.now ≡ false
@@ -687,7 +687,7 @@ pub record Apart (names : GuardNames) : Type 0 where
   pub others : AreOthers names
   pub prog_out : bytes_eq names.prog.now names.out.now ≡ false
 
--- the second of five names differs from the three behind it
+-- the second of five names differs from the three after it
 record SecondDiffers (b c d e : List ℕ) : Type 0 where
   third : bytes_eq b c ≡ false
   fourth : bytes_eq b d ≡ false
@@ -722,9 +722,9 @@ apart names e =
     names.out.now parts.1 in
     record {
       others = record {
-        script = turned names.prog.now names.script.now inputs.third;
-        image = turned names.prog.now names.image.now inputs.fifth;
-        flips = turned names.prog.now names.flips.now inputs.fourth;
+        script = other_way names.prog.now names.script.now inputs.third;
+        image = other_way names.prog.now names.image.now inputs.fifth;
+        flips = other_way names.prog.now names.flips.now inputs.fourth;
       };
       prog_out = outputs.fifth;
     }
@@ -735,7 +735,7 @@ pub guard_went : (names : GuardNames) (program : Program) (result : Result ℕ S
     → GuardJobGoes names program (world mid sink chip) new result
     → GuardGoes names (world old sink chip) new result
 guard_went names program result old mid sink chip new apart t j =
-    let told = stored_program (run_names names) program old mid t in
+    let known = stored_program (run_names names) program old mid t in
     let bytes = program_bytes 2 program in
     record {
       program = program;
@@ -744,11 +744,11 @@ guard_went names program result old mid sink chip new apart t j =
       is_text = taken_text names.ops.now names.prog.now program old mid t;
       read = record {
         script = text_before names.prog.now bytes old.holds mid.holds names.script.now
-            j.texts.script apart.script told j.read.script;
+            j.texts.script apart.script known j.read.script;
         image = text_before names.prog.now bytes old.holds mid.holds names.image.now
-            j.texts.image apart.image told j.read.image;
+            j.texts.image apart.image known j.read.image;
         flips = text_before names.prog.now bytes old.holds mid.holds names.flips.now
-            j.texts.flips apart.flips told j.read.flips;
+            j.texts.flips apart.flips known j.read.flips;
       };
       goes = inr (
         t.compiled,

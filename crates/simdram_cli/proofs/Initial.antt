@@ -4,8 +4,8 @@ use Rattle.std.proofs.Common.{append-nil, ◌++◌}
 use Rattle.std.specs.Prelude.{Result, Ok, Err}
 use Rattle.std.proofs.lemmas.Slice.Eq.{bytes_eq-Decides}
 use Rattle.dram_model.specs.View.{ChipView}
-use Rattle.host_edge.specs.Views.{Files, FolderView, SinkView, Told}
-use Rattle.host_edge.proofs.Tells.{Told-map}
+use Rattle.host_edge.specs.Views.{Files, FolderView, SinkView, Known}
+use Rattle.host_edge.proofs.Tells.{Known-map}
 use Rattle.machine_model.proofs.Places.{bytes_differ}
 use Rattle.cli_model.specs.World.{World, world}
 use Rattle.cli_model.specs.Steps.{CannotWrite, Done, Stopped, Goes, Stored, Unstored}
@@ -54,15 +54,15 @@ init_ends names old mid new (Err stop) status g tells answers =
 pub started : (names : InitNames) (old new : World) (status : ℕ)
     → (e : Ends (init_steps names) 0 old new status)
     → OfSteps (λ s. s ≡ status → ⊥) (init_steps names)
-    → Told (λ before after. Started names before after old new) old.files.holds new.files.holds
+    → Known (λ before after. Started names before after old new) old.files.holds new.files.holds
 started names old new status e of =
     let steps = init_steps names in
     let done = all_done steps 0 e.ended old new status of e.so in
     let so : IsAllDone steps 0 old new status =
     subst (λ (x : Ended). EndsSo steps 0 x old new status) done e.so in
-    let sent = Told-map {R = λ (x : List ℕ) y. y ≡ x ++ []} {S = λ (x : List ℕ) y. y ≡ x}
+    let sent = Known-map {R = λ (x : List ℕ) y. y ≡ x ++ []} {S = λ (x : List ℕ) y. y ≡ x}
     old.sink.sent new.sink.sent (λ x y p. p ∙ append-nil x) so.sent in
-    Told-map {R = λ (before : Files) after. after ≡ files_after steps before}
+    Known-map {R = λ (before : Files) after. after ≡ files_after steps before}
     {S = λ (before : Files) after. Started names before after old new} old.files.holds
     new.files.holds (λ before after files. record {
       is = ap (λ (f : Files). f names.out.now) files

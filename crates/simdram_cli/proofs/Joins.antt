@@ -4,7 +4,7 @@ use Rattle.std.proofs.Common.{refl, subst, inl, inr}
 use Rattle.std.specs.Prelude.{Result, Ok, Err, IfOk, IfSome, bytes_eq}
 use Rattle.std.specs.Option.{unwrap_or}
 use Rattle.dram_model.specs.View.{ChipView, no_counts}
-use Rattle.host_edge.specs.Views.{Files, FolderView, SinkView, Told}
+use Rattle.host_edge.specs.Views.{Files, FolderView, SinkView, Known}
 use Rattle.uprog_bin.specs.Spelling.{program_bytes}
 use Rattle.bbop_isa.specs.Forms.{Instruction}
 use Rattle.machine_model.specs.Routines.{Program}
@@ -39,17 +39,18 @@ no_chip = record {
   log = None;
 }
 
-abbrev pub told_text : Option Files → List ℕ → List ℕ
-told_text None name = []
-told_text (Some files) name = unwrap_or (files name) []
+abbrev pub known_text : Option Files → List ℕ → List ℕ
+known_text None name = []
+known_text (Some files) name = unwrap_or (files name) []
 
 bytes_text : (o : Option (List ℕ)) → IfSome o (λ bytes. bytes ≡ unwrap_or o [])
 bytes_text None = tt
 bytes_text (Some bytes) = refl
 
-pub told_is_text : (holds : Option Files) (name : List ℕ) → IsText holds name (told_text holds name)
-told_is_text None name = tt
-told_is_text (Some files) name = bytes_text (files name)
+pub known_is_text : (holds : Option Files) (name : List ℕ)
+    → IsText holds name (known_text holds name)
+known_is_text None name = tt
+known_is_text (Some files) name = bytes_text (files name)
 
 bytes_are : (o : Option (List ℕ)) (text : List ℕ) → o ≡ Some text → IfSome o (λ bytes. bytes ≡ text)
 bytes_are None text e = tt
@@ -85,7 +86,7 @@ file_apart false bytes o text e h = h
 -- a file that was not stored has the text that it had
 pub text_before : (stored bytes : List ℕ) (a b : Option Files) (name text : List ℕ)
     → bytes_eq name stored ≡ false
-    → Told (λ before after. after ≡ with_file stored bytes before) a b → IsText b name text
+    → Known (λ before after. after ≡ with_file stored bytes before) a b → IsText b name text
     → IsText a name text
 text_before stored bytes None b name text apart t is = tt
 text_before stored bytes (Some before) None name text apart t is = absurd t
@@ -94,10 +95,10 @@ text_before stored bytes (Some before) (Some after) name text apart t is =
     subst (λ (f : Files). IfSome (f name) (λ b. b ≡ text)) t is in
     file_apart (bytes_eq name stored) bytes (before name) text apart now
 
--- what is told after PROG was stored
+-- what is reported after PROG was stored
 pub stored_program : (names : RunNames) (program : Program) (old new : FolderView)
     → ProgramTaken names.ops.now names.prog.now program old new
-    → Told (λ before after. after ≡ with_file names.prog.now (program_bytes 2 program) before)
+    → Known (λ before after. after ≡ with_file names.prog.now (program_bytes 2 program) before)
     old.holds new.holds
 stored_program names program old new taken =
     (all_stand (Load names.ops.now OPS_MAX taken.text None ∷ Take
@@ -111,8 +112,8 @@ pub record AreOthers (names : RunNames) : Type 0 where
 
 abbrev pub no_texts : JobNames → Option Files → Texts
 no_texts names holds = record {
-  script = told_text holds names.script.now;
-  image = told_text holds names.image.now;
+  script = known_text holds names.script.now;
+  image = known_text holds names.image.now;
 }
 
 -- a run that stopped before PROG was stored
@@ -125,8 +126,8 @@ run_stopped names stop old new sink chip s = record {
   texts = no_texts (job_names names) old.holds;
   is_text = s.is_text;
   read = record {
-    script = told_is_text old.holds names.script.now;
-    image = told_is_text old.holds names.image.now;
+    script = known_is_text old.holds names.script.now;
+    image = known_is_text old.holds names.image.now;
   };
   goes = inl (s.goes sink chip);
   done = tt;
@@ -156,8 +157,8 @@ pub job_unread : (names : JobNames) (program : Program) (stop : Stop) (old new :
     → NotRead script_in names.script.now SCRIPT_MAX (reason_of stop) old new
     → JobGoes names program (world old sink chip) (world new sink chip) (Err stop)
 job_unread names program stop old new sink chip n = record {
-  texts = record { script = n.text; image = told_text old.holds names.image.now };
-  read = record { script = n.is_text; image = told_is_text old.holds names.image.now };
+  texts = record { script = n.text; image = known_text old.holds names.image.now };
+  read = record { script = n.is_text; image = known_is_text old.holds names.image.now };
   goes = loading_stops names.script.now SCRIPT_MAX n.text (script_in n.text) _ (reason_of stop)
       (world old sink chip) (world new sink chip) (n.fails sink chip);
   done = tt;
@@ -200,7 +201,7 @@ pub run_went : (names : RunNames) (program : Program) (result : Result ℕ Stop)
     → JobGoes (job_names names) program (world mid sink chip) new result
     → RunGoes names (world old sink chip) new result
 run_went names program result old mid sink chip new apart t j =
-    let told = stored_program names program old mid t in
+    let known = stored_program names program old mid t in
     record {
       program = program;
       ops = t.text;
@@ -208,9 +209,9 @@ run_went names program result old mid sink chip new apart t j =
       is_text = taken_text names.ops.now names.prog.now program old mid t;
       read = record {
         script = text_before names.prog.now (program_bytes 2 program) old.holds mid.holds
-            names.script.now j.texts.script apart.script told j.read.script;
+            names.script.now j.texts.script apart.script known j.read.script;
         image = text_before names.prog.now (program_bytes 2 program) old.holds mid.holds
-            names.image.now j.texts.image apart.image told j.read.image;
+            names.image.now j.texts.image apart.image known j.read.image;
       };
       goes = inr (
         t.compiled,

@@ -9,7 +9,7 @@ use Rattle.cli_model.proofs.Ending.{all_ends, stop_ends}
 use Rattle.cli_model.proofs.Statuses.{end_more}
 use Rattle.simdram_cli.specs.Reads.{StopsAtLoad}
 
--- the steps behind the load
+-- the steps after the load
 abbrev last_of : {A : Type 0} → Result A Refusal → (A → List Step) → List Step
 last_of (Ok x) rest = rest x
 last_of (Err r) rest = []
@@ -64,7 +64,7 @@ early P name limit text read rest done reason old mid new status g says answers 
     let whole = end_more firsts (last_of read rest) done done s.0 old new status s.1 s.2 in
     let so : IsStopped firsts s.0 old new status =
     subst (λ (x : Ended). EndsSo firsts done x old new status) s.2 s.1.so in
-    let more : Stop = record s.0 { behind = s.0.behind ++ last_of read rest } in
+    let more : Stop = record s.0 { following = s.0.following ++ last_of read rest } in
     let moved : (f : Ends steps done old new status) × (f.ended ≡ At more) =
     subst (λ (xs : List Step). (f : Ends xs done old new status) × (f.ended ≡ At more))
     (whole_is name limit text read rest) whole in
@@ -72,7 +72,7 @@ early P name limit text read rest done reason old mid new status g says answers 
       whole = record {
         ends = moved.0;
         loaded = λ some. absurd (some (none_done steps moved.0.ended more moved.1
-            (first_only name limit text read s.0.before s.0.failed s.0.behind so.place)));
+            (first_only name limit text read s.0.before s.0.failed s.0.following so.place)));
       };
       stop = more;
       is = moved.1;

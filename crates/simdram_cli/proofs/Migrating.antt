@@ -6,7 +6,7 @@ use Rattle.std.proofs.lemmas.Grind.{common_steps}
 use Rattle.std.specs.Prelude.{Result, Ok, Err, IfOk, IfSome, length}
 use Rattle.std.proofs.lemmas.Slice.Eq.{bytes_eq-Decides}
 use Rattle.dram_model.specs.View.{ChipView}
-use Rattle.host_edge.specs.Views.{Files, FolderView, SinkView, Told, AppendsPart}
+use Rattle.host_edge.specs.Views.{Files, FolderView, SinkView, Known, AppendsPart}
 use Rattle.fault_counts.specs.Counts.{Rose}
 use Rattle.uprog_code.specs.Programs.{IsProgram}
 use Rattle.uprog_bin.specs.Spelling.{HasVersion, program_bytes}
@@ -33,7 +33,7 @@ use Rattle.simdram_cli.specs.Job.{done_status}
 use Rattle.simdram_cli.specs.Migrate.{migrate_steps, migrated_line, MigrateEnds, Migrated}
 use Rattle.simdram_cli.specs.Migrate.{MigrateGoes}
 use Rattle.simdram_cli.proofs.Foreseen.{was_read, text_at, tell_both}
-use Rattle.simdram_cli.proofs.Joins.{told_text, told_is_text, loaded_text, loading_goes}
+use Rattle.simdram_cli.proofs.Joins.{known_text, known_is_text, loaded_text, loading_goes}
 use Rattle.simdram_cli.proofs.Joins.{loading_stops}
 use Rattle.simdram_cli.proofs.Loaded.{loaded_ends, load_is_step}
 use Rattle.simdram_cli.proofs.Stores.{sent}
@@ -43,10 +43,10 @@ pub old_unread : (names : MigrateNames) (stop : Stop) (old new : FolderView) (si
     (chip : ChipView) → NotLoaded names.old.now PROG_MAX (reason_of stop) old new
     → MigrateGoes names (world old sink chip) (world new sink chip) (Err stop)
 old_unread names stop old new sink chip n =
-    let text = told_text old.holds names.old.now in
+    let text = known_text old.holds names.old.now in
     record {
       text = text;
-      is_text = told_is_text old.holds names.old.now;
+      is_text = known_is_text old.holds names.old.now;
       goes = inl (loading_stops names.old.now PROG_MAX text (prog_in text) (λ x. [])
           (reason_of stop) (world old sink chip) (world new sink chip)
           (n text (refusal_of (prog_in text)) sink chip));
@@ -108,20 +108,20 @@ pub not_stored : (name bytes line : List ℕ) (f g : FolderView) (s : SinkView) 
     (world g s chip)
 not_stored name bytes line f g s chip u = inr (refl, u)
 
-pub not_told : (name bytes line : List ℕ) (f g : FolderView) (s t : SinkView) (chip : ChipView)
+pub not_known : (name bytes line : List ℕ) (f g : FolderView) (s t : SinkView) (chip : ChipView)
     → Stored name bytes (world f s chip) (world g s chip)
-    → Told (AppendsPart line) s.sent t.sent → s.faults ≤ t.faults → Rose s.faults t.faults
+    → Known (AppendsPart line) s.sent t.sent → s.faults ≤ t.faults → Rose s.faults t.faults
     → Goes (Store name bytes ∷ Put line ∷ []) (Stopped PutFailed) (world f s chip) (world g t chip)
-not_told name bytes line f g s t chip u p n r = inl (
+not_known name bytes line f g s t chip u p n r = inl (
   world g s chip,
   (u, inr (refl, sent (AppendsPart line) g s t chip p n, r)),
 )
 
-pub all_told : (name bytes line : List ℕ) (f g : FolderView) (s t : SinkView) (chip : ChipView)
+pub all_known : (name bytes line : List ℕ) (f g : FolderView) (s t : SinkView) (chip : ChipView)
     → Stored name bytes (world f s chip) (world g s chip)
-    → Told (λ before after. after ≡ before ++ line) s.sent t.sent → s.faults ≤ t.faults
+    → Known (λ before after. after ≡ before ++ line) s.sent t.sent → s.faults ≤ t.faults
     → Goes (Store name bytes ∷ Put line ∷ []) Done (world f s chip) (world g t chip)
-all_told name bytes line f g s t chip u p n = inl (
+all_known name bytes line f g s t chip u p n = inl (
   world g s chip,
   (
     u,
@@ -168,18 +168,18 @@ same_ok read a b e f = cc
 pub migrated : (names : MigrateNames) (old new : World) (status : ℕ)
     → (e : MigrateEnds names old new status)
     → OfSteps (λ s. s ≡ status → ⊥) (migrate_steps names e.text)
-    → Told (λ before after. Migrated names before after old new) old.files.holds new.files.holds
+    → Known (λ before after. Migrated names before after old new) old.files.holds new.files.holds
 migrated names old new status e of =
     let steps = migrate_steps names e.text in
     let done = all_done steps 0 e.ends.ended old new status of e.ends.so in
     let so : IsAllDone steps 0 old new status =
     subst (λ (x : Ended). EndsSo steps 0 x old new status) done e.ends.so in
-    let told : IfSome old.files.holds (IsForetold steps All) =
+    let known : IfSome old.files.holds (IsForetold steps All) =
     subst (λ (x : Ended). IfSome old.files.holds (IsForetold steps x)) done e.ends.foretold in
     let file = e.file (λ empty. load_is_step names.old.now PROG_MAX e.text (prog_in e.text) _
     (subst (λ (x : Ended). done_steps steps x ≡ []) done empty)) in
     tell_both old.files.holds new.files.holds (λ before after. after ≡ files_after steps before)
-    (λ before after. Migrated names before after old new) (IsForetold steps All) so.files told
+    (λ before after. Migrated names before after old new) (IsForetold steps All) so.files known
     (λ before after there foretold files.
     let was = was_read names.old.now PROG_MAX e.text (prog_in e.text) _ before foretold in
     let same = same_ok (prog_in e.text) was.value file.programs was.is (prog_is e.text file) in
@@ -196,6 +196,6 @@ migrated names old new status e of =
           ∙ rw ((bytes_eq-Decides names.new.now names.new.now).1 refl) refl;
       others = λ other apart. ap (λ (f : Files). f other) now
           ∙ rw (bytes_differ other names.new.now apart) refl;
-      sent = subst (λ (bytes : List ℕ). Told (λ x y. y ≡ x ++ bytes) old.sink.sent new.sink.sent)
+      sent = subst (λ (bytes : List ℕ). Known (λ x y. y ≡ x ++ bytes) old.sink.sent new.sink.sent)
           (sent_of names e.text (prog_in e.text) was.value was.is) so.sent;
     })

@@ -136,7 +136,7 @@ went_on name program script i end a b c d g h k =
     (goes_on (script_steps program script i) (last_steps name program script i) end b
     c d h k)
 
--- the table behind a script, and how many instructions were refused
+-- the table after a script, and how many instructions were refused
 pub own_table : (program : Program) (script : List Instruction) (i : Image) (shape : Geometry)
     (p : Program) (table last : List Named) → shape ≡ i.geometry → p ≡ program → table ≡ i.table
     → last ≡ table_at_end shape (routines_in p) table script

@@ -17,7 +17,7 @@ use Rattle.wave_model.specs.Schedule.{Turn}
 use Rattle.machine_model.specs.Agrees.{IsPlain}
 use Rattle.machine_model.specs.Routines.{Program, routines_in}
 use Rattle.machine_model.specs.Laws.{FitsBanks}
-use Rattle.machine_model.specs.Pieces.{Piece, instrs_in, pieces, piece_events, turn_behind}
+use Rattle.machine_model.specs.Pieces.{Piece, instrs_in, pieces, piece_events, turn_after}
 use Rattle.machine_model.specs.Pieces.{events_of_pieces}
 use Rattle.machine_model.specs.Script.{is_refused, replies, rows_printed, sum_done, table_at_end}
 use Rattle.machine_model.specs.Script.{banks_at_end}
@@ -39,7 +39,7 @@ use Rattle.simdram_cli.proofs.Piecewise.{piece_is}
 -- a piece that was done with a program on a chip of a shape
 pub record Step (g : Geometry) (p : Program) (turn next_turn : Turn) (table next_table : List Named)
     (piece : Piece) (a b : ChipView) (refused : ℕ) : Type 0 where
-  pub turn_is : next_turn ≡ turn_behind g (routines_in p) turn table piece
+  pub turn_is : next_turn ≡ turn_after g (routines_in p) turn table piece
   pub table_is : next_table ≡ table_at_end g (routines_in p) table (instrs_in piece)
   pub did : DidAndRead (piece_events g (routines_in p) turn table piece)
       (sum_done rows_printed g (routines_in p) table (instrs_in piece)) a b
@@ -68,7 +68,7 @@ holds_of m g e ready = subst (λ (x : Geometry). Holds x (table_in m)) e (record
       (record { listed = ready.set.listed; objects = ready.set.objects });
 })
 
--- what is left behind the first piece
+-- what is left after the first piece
 pub left_is : (script : List Instr) (done taken : ℕ) → taken
     ≡ length (instrs_in (next_piece (map view_of (drop done script))))
     → map view_of (drop (done + taken) script)

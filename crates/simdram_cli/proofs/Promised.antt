@@ -8,7 +8,7 @@ use Rattle.std.proofs.lemmas.Slice.Eq.{bytes_eq-Decides}
 use Rattle.dram_model.specs.declared.geometry.Geometry.{Geometry}
 use Rattle.dram_model.specs.Chip.{Banks}
 use Rattle.dram_model.specs.View.{ChipView}
-use Rattle.host_edge.specs.Views.{Files, Told}
+use Rattle.host_edge.specs.Views.{Files, Known}
 use Rattle.object_alloc.specs.Listed.{Named}
 use Rattle.object_alloc.specs.Spelling.{IsImage}
 use Rattle.uprog_bin.specs.Spelling.{program_bytes}
@@ -263,7 +263,7 @@ kept_other names program bytes before after e other p o =
     ∙ at_other other names.prog.now (program_bytes 2 program) before
     (bytes_differ other names.prog.now p)
 
--- what stands behind a job that is done, whatever its program does
+-- what stands after a job that is done, whatever its program does
 pub record RowsDone (script : List Instruction) (i : Image) (program : Program) (chip : ChipView)
     (refused : ℕ) : Type 0 where
   pub image : IsImage i.geometry i.table i.rows
@@ -308,7 +308,7 @@ headline_of : (names : RunNames) (program : Program) (ops : List ℕ) (texts : T
     → status ≡ done_status (refused_by program h.job.script h.job.image)
     → after ≡ with_file names.out.now (image_by program h.job.script h.job.image)
     (with_file names.prog.now (program_bytes 2 program) before)
-    → Told (λ x y. y ≡ x ++ (lines 1 (said_in program h.job.script h.job.image)
+    → Known (λ x y. y ≡ x ++ (lines 1 (said_in program h.job.script h.job.image)
     ++ total_line (tally_by program h.job.script h.job.image)
     (refused_by program h.job.script h.job.image)))
     old.sink.sent new.sink.sent
@@ -336,7 +336,7 @@ headline_of names program ops texts refused status old new before after apart co
           (with_file names.prog.now (program_bytes 2 program) before));
       rows_untouched = rows_untouched t script i program new.chip refused d;
       commands_counted = commands_counted t script i program new.chip refused d;
-      report_sent = subst (λ (bytes : List ℕ). Told (λ x y. y ≡ x ++ bytes) old.sink.sent
+      report_sent = subst (λ (bytes : List ℕ). Known (λ x y. y ≡ x ++ bytes) old.sink.sent
           new.sink.sent) (report_is t script i program new.chip refused d) sent;
       replies_exact = replies_exact t script i program new.chip refused status d s;
       others = kept_other names program (image_by program script i) before after files;
@@ -352,20 +352,20 @@ stores_prog names program ops (Err r) u rest e = absurd (cc)
 -- A run that was done keeps its promises
 pub run_promised : (names : RunNames) (old new : World) (status : ℕ) → Apart names
     → (e : RunEnds names old new status) → e.ends.ended ≡ All
-    → Told (λ before after. Headline names before after old new status) old.files.holds
+    → Known (λ before after. Headline names before after old new status) old.files.holds
     new.files.holds
 run_promised names old new status apart e done =
     let steps = run_steps names e.program e.ops e.texts in
     let so : IsAllDone steps (job_status e.program e.texts) old new status =
     subst (λ (x : Ended). EndsSo steps (job_status e.program e.texts) x old new status) done
     e.ends.so in
-    let told : IfSome old.files.holds (IsForetold steps All) =
+    let known : IfSome old.files.holds (IsForetold steps All) =
     subst (λ (x : Ended). IfSome old.files.holds (IsForetold steps x)) done e.ends.foretold in
     let work : IsDoneBy All e.program e.texts new.chip =
     subst (λ (x : Ended). IsDoneBy x e.program e.texts new.chip) done e.done in
     tell_both old.files.holds new.files.holds (λ before after. after ≡ files_after steps before)
     (λ before after. Headline names before after old new status) (IsForetold steps All) so.files
-    told (λ before after there foretold files.
+    known (λ before after there foretold files.
     let stored = with_file names.prog.now (program_bytes 2 e.program) before in
     let h = has_read names e.program e.ops e.texts old.files.holds before apart there e.is_text
     e.read foretold in
@@ -379,5 +379,5 @@ run_promised names old new status apart e done =
     (so.answers ∙ job_status_read (job_names names) e.program e.texts stored h.job)
     (files ∙ ap (λ xs. files_after xs before) h.steps_are
     ∙ job_files (job_names names) e.program e.texts stored h.job)
-    (subst (λ (bytes : List ℕ). Told (λ x y. y ≡ x ++ bytes) old.sink.sent new.sink.sent)
+    (subst (λ (bytes : List ℕ). Known (λ x y. y ≡ x ++ bytes) old.sink.sent new.sink.sent)
     (ap sent_by h.steps_are ∙ job_sent (job_names names) e.program e.texts stored h.job) so.sent))

@@ -336,7 +336,7 @@ total_of : (P : ℕ → Type 0) (all : Bool) (program : Program) (script : List 
 total_of P true program script i three = (three, tt)
 total_of P false program script i three = tt
 
--- behind the opening
+-- after the opening
 pub recorded_of : (P : ℕ → Type 0) (names : TraceNames) (program : Program)
     (script : List Instruction) (i : Image) → P 3 → P 9
     → OfSteps P (recorded_steps names program script i
@@ -506,7 +506,7 @@ can_answer (Scan names) old new status e =
       eleven = refl;
       fifteen = refl;
     } in
-    ends_so P (scan_steps names e.texts e.made e.query) _ old e.told status
+    ends_so P (scan_steps names e.texts e.made e.query) _ old e.stood status
     (scan_so P e.made e.query (image_of e.texts.image) refl refl)
     (scan_of P names e.texts e.made e.query gives) e.ends
 can_answer (Trace names) old new status e =
@@ -520,7 +520,7 @@ can_answer (Trace names) old new status e =
       ten = refl;
       eleven = refl;
     } in
-    ends_so P (trace_steps names e.prog e.texts) _ old e.told status
+    ends_so P (trace_steps names e.prog e.texts) _ old e.stood status
     (full_so P (prog_in e.prog) e.texts (status_with (prog_in e.prog) e.texts)
     (with_so P (prog_in e.prog) e.texts refl refl) refl) (trace_of P names e.prog e.texts refl job)
     e.ends
@@ -714,7 +714,7 @@ promises (Scan names) old new status are e = λ is.
     (scan_of (λ s. s ≡ status → ⊥) names e.texts e.made e.query (apart_of_scan status (inl is)))
 promises (Trace names) old new status are e = λ is.
     traced names old new status are is e
-    (all_done (trace_steps names e.prog e.texts) _ e.ends.ended old e.told status
+    (all_done (trace_steps names e.prog e.texts) _ e.ends.ended old e.stood status
     (trace_of (λ s. s ≡ status → ⊥) names e.prog e.texts
     (apart_from_done status is 5 (λ f. cc) (λ f. cc)) (apart_of_job status is)) e.ends.so)
 promises (Replay names) old new status are e = λ is.

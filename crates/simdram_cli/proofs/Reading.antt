@@ -15,16 +15,16 @@ use Rattle.simdram_cli.specs.declared.words.TheConstants.{OPS_MAX}
 use Rattle.simdram_cli.specs.Inputs.{ops_in, ops_refusal, unless_fault, script_in}
 use Rattle.simdram_cli.specs.Inputs.{script_refusal, script_or_refusal}
 use Rattle.simdram_cli.specs.Reads.{refusal_of, LoadedAs, NotLoaded, NotRead, OpsRead}
-use Rattle.simdram_cli.proofs.Joins.{told_text, told_is_text, loaded_text, no_sink, no_chip}
+use Rattle.simdram_cli.proofs.Joins.{known_text, known_is_text, loaded_text, no_sink, no_chip}
 
 -- a file that was not loaded
 pub not_read : {A : Type 0} (read : List ℕ → Result A Refusal) (name : List ℕ) (limit : ℕ)
     (reason : Reason) (old new : FolderView) → NotLoaded name limit reason old new
     → NotRead read name limit reason old new
 not_read read name limit reason old new n = record {
-  text = told_text old.holds name;
-  is_text = told_is_text old.holds name;
-  fails = λ sink chip. n (told_text old.holds name) (refusal_of (read (told_text old.holds name)))
+  text = known_text old.holds name;
+  is_text = known_is_text old.holds name;
+  fails = λ sink chip. n (known_text old.holds name) (refusal_of (read (known_text old.holds name)))
       sink chip;
 }
 

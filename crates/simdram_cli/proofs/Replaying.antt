@@ -7,7 +7,7 @@ use Rattle.std.specs.Result.{result_ok}
 use Rattle.std.proofs.lemmas.Bool.{eqb-true, eq-eqb}
 use Rattle.std.proofs.lemmas.List.Sums.{sum_by-cons}
 use Rattle.fault_counts.specs.Counts.{Rose}
-use Rattle.host_edge.specs.Views.{AppendsPart, Files, FolderView, SinkView, Told}
+use Rattle.host_edge.specs.Views.{AppendsPart, Files, FolderView, SinkView, Known}
 use Rattle.dram_model.specs.declared.address.Command.TheVariants.{Ap, Aap}
 use Rattle.dram_model.specs.declared.dram.Counters.{Counters}
 use Rattle.dram_model.specs.declared.geometry.Geometry.{Geometry}
@@ -56,8 +56,8 @@ use Rattle.simdram_cli.specs.Traces.{geometry_differs, if_same, image_for, same_
 use Rattle.simdram_cli.specs.Traces.{trace_or_refusal}
 use Rattle.simdram_cli.specs.Works.{OpenedOn}
 use Rattle.simdram_cli.proofs.Foreseen.{tell_both, text_at, was_read}
-use Rattle.simdram_cli.proofs.Joins.{loaded_text, loading_goes, loading_stops, told_is_text}
-use Rattle.simdram_cli.proofs.Joins.{told_text}
+use Rattle.simdram_cli.proofs.Joins.{loaded_text, loading_goes, loading_stops, known_is_text}
+use Rattle.simdram_cli.proofs.Joins.{known_text}
 use Rattle.simdram_cli.proofs.Promised.{at_other, at_own}
 use Rattle.simdram_cli.proofs.Stores.{sent, used}
 use Rattle.simdram_cli.proofs.Tallies.{both, log_is}
@@ -239,7 +239,7 @@ pub not_stored : (name bytes line : List ℕ) (f g : FolderView) (s : SinkView) 
 not_stored name bytes line f g s k u = inr (refl, u)
 
 pub not_put : (name bytes line : List ℕ) (f g : FolderView) (s t : SinkView) (k : ChipView)
-    → Stored name bytes (world f s k) (world g s k) → Told (AppendsPart line) s.sent t.sent
+    → Stored name bytes (world f s k) (world g s k) → Known (AppendsPart line) s.sent t.sent
     → s.faults ≤ t.faults → Rose s.faults t.faults
     → Goes (Store name bytes ∷ Put line ∷ []) (Stopped PutFailed) (world f s k) (world g t k)
 not_put name bytes line f g s t k u p n r =
@@ -247,7 +247,7 @@ not_put name bytes line f g s t k u p n r =
 
 pub all_put : (name bytes line : List ℕ) (f g : FolderView) (s t : SinkView) (k : ChipView)
     → Stored name bytes (world f s k) (world g s k)
-    → Told (λ before after. after ≡ before ++ line) s.sent t.sent → s.faults ≤ t.faults
+    → Known (λ before after. after ≡ before ++ line) s.sent t.sent → s.faults ≤ t.faults
     → Goes (Store name bytes ∷ Put line ∷ []) Done (world f s k) (world g t k)
 all_put name bytes line f g s t k u p n =
     inl (
@@ -281,10 +281,10 @@ pub image_unread : (names : ReplayNames) (t : Trace) (why : Stop) (old new : Fol
     → NotLoaded names.image.now IMAGE_MAX (reason_of why) old new
     → ImageReplayed names t (world old sink chip) (world new sink chip) (Err why)
 image_unread names t why old new sink chip n =
-    let text = told_text old.holds names.image.now in
+    let text = known_text old.holds names.image.now in
     record {
       text = text;
-      is_text = told_is_text old.holds names.image.now;
+      is_text = known_is_text old.holds names.image.now;
       goes = loading_stops names.image.now IMAGE_MAX text (image_for t.geometry text)
           (λ i. events_steps names.out.now t i) (reason_of why) (world old sink chip)
           (world new sink chip) (n text (refusal_of (image_for t.geometry text)) sink chip);
@@ -374,13 +374,13 @@ pub replay_unread : (names : ReplayNames) (why : Stop) (old new : FolderView) (s
     (chip : ChipView) → NotLoaded names.trace.now TRACE_MAX (reason_of why) old new
     → ReplayGoes names (world old sink chip) (world new sink chip) (Err why)
 replay_unread names why old new sink chip n =
-    let text = told_text old.holds names.trace.now in
-    let image = told_text old.holds names.image.now in
+    let text = known_text old.holds names.trace.now in
+    let image = known_text old.holds names.image.now in
     record {
       texts = record { trace = text; image = image };
       read = record {
-        trace = told_is_text old.holds names.trace.now;
-        image = told_is_text old.holds names.image.now;
+        trace = known_is_text old.holds names.trace.now;
+        image = known_is_text old.holds names.image.now;
       };
       goes = loading_stops names.trace.now TRACE_MAX text (trace_in text)
           (λ t. on_image_steps names t image) (reason_of why) (world old sink chip)
@@ -402,13 +402,13 @@ pub trace_not_read : (names : ReplayNames) (text : List ℕ) (why : Stop) (fault
     → reason_of why ≡ trace_reason fault
     → ReplayGoes names (world old sink chip) (world new sink chip) (Err why)
 trace_not_read names text why fault old new sink chip loaded is e =
-    let image = told_text old.holds names.image.now in
+    let image = known_text old.holds names.image.now in
     record {
       texts = record { trace = text; image = image };
       read = record {
         trace = loaded_text names.trace.now TRACE_MAX text (world old sink chip)
             (world new sink chip) (loaded sink chip);
-        image = told_is_text old.holds names.image.now;
+        image = known_is_text old.holds names.image.now;
       };
       goes = loading_stops names.trace.now TRACE_MAX text (trace_in text)
           (λ t. on_image_steps names t image) (reason_of why) (world old sink chip)
@@ -531,18 +531,18 @@ steps_read names texts rt ri t i e f = rw (e, f) refl
 pub replayed_by : (names : ReplayNames) (old new : World) (status : ℕ)
     → (e : ReplayEnds names old new status)
     → OfSteps (λ s. s ≡ status → ⊥) (replay_steps names e.texts)
-    → Told (λ before after. Replayed names before after old new) old.files.holds new.files.holds
+    → Known (λ before after. Replayed names before after old new) old.files.holds new.files.holds
 replayed_by names old new status e of =
     let steps = replay_steps names e.texts in
     let done = all_done steps 0 e.ends.ended old new status of e.ends.so in
     let so : IsAllDone steps 0 old new status =
     subst (λ (x : Ended). EndsSo steps 0 x old new status) done e.ends.so in
-    let told : IfSome old.files.holds (IsForetold steps All) =
+    let known : IfSome old.files.holds (IsForetold steps All) =
     subst (λ (x : Ended). IfSome old.files.holds (IsForetold steps x)) done e.ends.foretold in
     let work : DoneByTrace (trace_in e.texts.trace) e.texts new.chip =
     subst (λ (x : Ended). IsReplayed x e.texts new.chip) done e.done in
     tell_both old.files.holds new.files.holds (λ before after. after ≡ files_after steps before)
-    (λ before after. Replayed names before after old new) (IsForetold steps All) so.files told
+    (λ before after. Replayed names before after old new) (IsForetold steps All) so.files known
     (λ before after there foretold files.
     let one = was_read names.trace.now TRACE_MAX e.texts.trace (trace_in e.texts.trace) _ before
     foretold in
@@ -576,6 +576,6 @@ replayed_by names old new status e of =
       others = λ other apart. ap (λ (f : Files). f other) stored
           ∙ at_other other names.out.now (image_replayed t i) before
           (bytes_differ other names.out.now apart);
-      sent = subst (λ (bytes : List ℕ). Told (λ x y. y ≡ x ++ bytes) old.sink.sent new.sink.sent)
+      sent = subst (λ (bytes : List ℕ). Known (λ x y. y ≡ x ++ bytes) old.sink.sent new.sink.sent)
           sends so.sent;
     })

@@ -37,7 +37,7 @@ use Rattle.simdram_cli.specs.Works.{WorkDone}
 use Rattle.simdram_cli.specs.Words.{are_apart, all_differ}
 use Rattle.simdram_cli.specs.Ends.{GoesToStore, StopsAtStore, ProgramTaken, ProgramStopped, DoneOn}
 use Rattle.simdram_cli.specs.Ends.{ImageWorked}
-use Rattle.simdram_cli.proofs.Joins.{told_text, told_is_text, loaded_text, loading_goes}
+use Rattle.simdram_cli.proofs.Joins.{known_text, known_is_text, loaded_text, loading_goes}
 use Rattle.simdram_cli.proofs.Joins.{loading_stops, AreOthers, no_sink, no_chip}
 use Rattle.simdram_cli.proofs.Reading.{ops_accepted}
 use Rattle.simdram_cli.proofs.Tallies.{both}
@@ -119,13 +119,13 @@ pub image_unread : (names : JobNames) (program : Program) (script : List Instruc
     → NotLoaded names.image.now IMAGE_MAX (reason_of stop) old new
     → ImageWorked names program script (world old sink chip) (world new sink chip) (Err stop)
 image_unread names program script stop old new sink chip n = record {
-  text = told_text old.holds names.image.now;
-  is_text = told_is_text old.holds names.image.now;
-  goes = loading_stops names.image.now IMAGE_MAX (told_text old.holds names.image.now)
-      (image_of (told_text old.holds names.image.now)) (λ i.
+  text = known_text old.holds names.image.now;
+  is_text = known_is_text old.holds names.image.now;
+  goes = loading_stops names.image.now IMAGE_MAX (known_text old.holds names.image.now)
+      (image_of (known_text old.holds names.image.now)) (λ i.
       work_steps names.out.now program script i) (reason_of stop) (world old sink chip)
-      (world new sink chip) (n (told_text old.holds names.image.now)
-      (refusal_of (image_of (told_text old.holds names.image.now))) sink chip);
+      (world new sink chip) (n (known_text old.holds names.image.now)
+      (refusal_of (image_of (known_text old.holds names.image.now))) sink chip);
   done = tt;
 }
 
@@ -216,8 +216,8 @@ same_back x y true e f =
     cc
 same_back x y false e f = e
 
-pub turned : (x y : List ℕ) → bytes_eq x y ≡ false → bytes_eq y x ≡ false
-turned x y f = same_back x y (bytes_eq y x) refl f
+pub other_way : (x y : List ℕ) → bytes_eq x y ≡ false → bytes_eq y x ≡ false
+other_way x y f = same_back x y (bytes_eq y x) refl f
 
 -- the first of four names differs from the others, and the second from the last two
 pub record Differ (a b c d : List ℕ) : Type 0 where
@@ -273,8 +273,8 @@ apart names e =
     record {
       ops_prog = inputs.ab;
       others = record {
-        script = turned names.prog.now names.script.now inputs.bc;
-        image = turned names.prog.now names.image.now inputs.bd;
+        script = other_way names.prog.now names.script.now inputs.bc;
+        image = other_way names.prog.now names.image.now inputs.bd;
       };
       prog_out = outputs.bd;
       script_out = outputs.cd;

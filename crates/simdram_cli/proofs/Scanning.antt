@@ -18,7 +18,7 @@ use Rattle.dram_model.specs.Elements.{segments_of}
 use Rattle.dram_model.specs.Geometry.{is_geometry, is_between, fits_size}
 use Rattle.dram_model.specs.View.{ChipView, Kept, with_reads}
 use Rattle.fault_counts.specs.Counts.{Rose}
-use Rattle.host_edge.specs.Views.{AppendsPart, Files, FolderView, SinkView, Told}
+use Rattle.host_edge.specs.Views.{AppendsPart, Files, FolderView, SinkView, Known}
 use Rattle.object_alloc.specs.declared.fault.ImageNo.{ImageNo}
 use Rattle.object_alloc.specs.declared.fault.ImageNo.TheVariants as no
 use Rattle.object_alloc.specs.Listed.{Named}
@@ -81,15 +81,16 @@ use Rattle.simdram_cli.specs.Queries.{Asks, AsksIn, query_in, query_refusal, sca
 use Rattle.simdram_cli.specs.Queries.{unless_broken}
 use Rattle.simdram_cli.specs.Reads.{IsText, LoadedAs, NotLoaded, NotRead, refusal_of}
 use Rattle.simdram_cli.specs.Scan.{AnswerGoes, AreRead, DoesScans, ImageScanned, IsLeft, IsScanFile}
-use Rattle.simdram_cli.specs.Scan.{LeftBy, QueryDone, QueryRead, ScanEnds, ScanGoes, ScanLeft, ScanTexts}
+use Rattle.simdram_cli.specs.Scan.{LeftBy, QueryDone, QueryRead, ScanEnds, ScanGoes, ScanLeft}
+use Rattle.simdram_cli.specs.Scan.{ScanTexts}
 use Rattle.simdram_cli.specs.Scan.{Scanned, TellsLast, Went, answer_on, count_line, image_steps}
 use Rattle.simdram_cli.specs.Scan.{made_steps, number_found, put_steps, refusal_on, scan_counters}
 use Rattle.simdram_cli.specs.Scan.{scan_counts, scan_status, scan_steps, use_steps, why_not}
 use Rattle.simdram_cli.specs.Stops.{end_of, image_reason, reason_of}
 use Rattle.simdram_cli.specs.Works.{OpenedOn}
 use Rattle.simdram_cli.proofs.Foreseen.{if_there, text_at, was_read}
-use Rattle.simdram_cli.proofs.Joins.{loaded_text, loading_goes, loading_stops, told_is_text}
-use Rattle.simdram_cli.proofs.Joins.{told_text}
+use Rattle.simdram_cli.proofs.Joins.{loaded_text, loading_goes, loading_stops, known_is_text}
+use Rattle.simdram_cli.proofs.Joins.{known_text}
 use Rattle.simdram_cli.proofs.Progress.{Holds}
 use Rattle.simdram_cli.proofs.Stores.{nothing_read, sent, used}
 use Rattle.simdram_cli.proofs.Tallies.{both}
@@ -264,7 +265,8 @@ ok_and (Ok y) x P is ok = ok
 ok_and (Err y) x P is ok = absurd (cc)
 
 -- a chip that was opened on the image, and the query run on it
-pub record RanOn (program : Program) (q : Query) (i : Image) (nodes : List Node) (table : List Named)
+pub record RanOn (program : Program) (q : Query) (i : Image) (nodes : List Node) (table : List
+    Named)
     (old new : ChipView) : Type 0 where
   pub table_is : table ≡ i.table
   pub nodes_are : IsNodesOf q nodes
@@ -384,7 +386,8 @@ asked_done program q i nodes table files sink before old new r said g ran opens 
     ok_and r said (new ≡ old) is (unused fault
     (sym (checks_are program q i nodes table old new ran) ∙ some)) in (
       says,
-      taken_open o Done (world files sink before) (world files sink old) (world files sink new) opens
+      taken_open o Done (world files sink before) (world files sink old) (world files sink new)
+          opens
           (use_done o files sink old new ran.faults stays),
       record {
         unused = λ fault some. subst (OpenedOn i) (sym (stays fault some)) ran.opened_on;
@@ -442,7 +445,7 @@ room_opened i chip ok o =
 
 pub put_failed : (found of : ℕ) (counts : Counts) (files : FolderView) (s t : SinkView)
     (chip : ChipView)
-    → Told (AppendsPart (count_line found of counts)) s.sent t.sent → s.faults ≤ t.faults
+    → Known (AppendsPart (count_line found of counts)) s.sent t.sent → s.faults ≤ t.faults
     → Rose s.faults t.faults
     → Went (put_steps (Found found of counts)) None (λ view. Unit {0}) (Err stop.PutFailed)
     (world files s chip) (world files t chip)
@@ -451,7 +454,7 @@ put_failed found of counts files s t chip p n r =
 
 pub put_done : (found of : ℕ) (counts : Counts) (files : FolderView) (s t : SinkView)
     (chip : ChipView)
-    → Told (λ before after. after ≡ before ++ count_line found of counts) s.sent t.sent
+    → Known (λ before after. after ≡ before ++ count_line found of counts) s.sent t.sent
     → s.faults ≤ t.faults
     → Went (put_steps (Found found of counts)) None (λ view. Unit {0}) (Ok 0)
     (world files s chip) (world files t chip)
@@ -476,10 +479,10 @@ pub image_unread : (name : List ℕ) (q : Query) (why : Stop) (old new : FolderV
     (chip : ChipView) → NotLoaded name IMAGE_MAX (reason_of why) old new
     → ImageScanned name q (world old sink chip) (world new sink chip) (Err why)
 image_unread name q why old new sink chip n =
-    let text = told_text old.holds name in
+    let text = known_text old.holds name in
     record {
       text = text;
-      is_text = told_is_text old.holds name;
+      is_text = known_is_text old.holds name;
       made = None;
       does = tt;
       went = inl (loading_stops name IMAGE_MAX text (image_of text) (λ i. made_steps None q i)
@@ -621,10 +624,10 @@ pub scan_unread : (names : ScanNames) (why : Stop) (old new : FolderView) (sink 
 scan_unread names why old new sink chip n =
     let asked = asked_by n.text in
     record {
-      texts = record { query = n.text; image = told_text old.holds names.image.now };
+      texts = record { query = n.text; image = known_text old.holds names.image.now };
       query = asked.query;
       made = None;
-      read = record { query = n.is_text; image = told_is_text old.holds names.image.now };
+      read = record { query = n.is_text; image = known_is_text old.holds names.image.now };
       asks = asked.asks;
       does = tt;
       went = inl (loading_stops names.query.now QUERY_MAX n.text (query_in n.text) _ (reason_of why)
@@ -632,20 +635,20 @@ scan_unread names why old new sink chip n =
     }
 
 -- QUERY was loaded first
-behind_query : (name text : List ℕ) (rest : List Step) (refusal : Option Refusal)
+after_query : (name text : List ℕ) (rest : List Step) (refusal : Option Refusal)
     (left : ChipView → Type 0) (result : Result ℕ Stop) (a b new : World)
     → Loaded name QUERY_MAX text a b → query_in text ≡ Ok tt → Went rest refusal left result b new
     → Went (loading name QUERY_MAX text (query_in text) (λ t. rest)) refusal left result a new
-behind_query name text rest refusal left (Ok refused) a b new loaded ok w = (
+after_query name text rest refusal left (Ok refused) a b new loaded ok w = (
   w.0,
   w.1,
   loading_goes name QUERY_MAX text (query_in text) (λ t. rest) tt Done a b new ok loaded w.2,
   w.3,
 )
-behind_query name text rest refusal left (Err why) a b new loaded ok (inl g) =
+after_query name text rest refusal left (Err why) a b new loaded ok (inl g) =
     inl (loading_goes name QUERY_MAX text (query_in text) (λ t. rest) tt (Stopped (reason_of why))
     a b new ok loaded g)
-behind_query name text rest refusal left (Err why) a b new loaded ok (inr r) = inr (
+after_query name text rest refusal left (Err why) a b new loaded ok (inr r) = inr (
   r.0,
   r.1,
   r.2,
@@ -673,7 +676,7 @@ scan_went names nodes result old mid sink chip new r w =
       };
       asks = λ ok. r.asks;
       does = w.does;
-      went = behind_query names.query.now r.text _ _ _ result (world old sink chip)
+      went = after_query names.query.now r.text _ _ _ result (world old sink chip)
           (world mid sink chip) new loaded r.accepted w.went;
     }
 
@@ -706,11 +709,11 @@ does_keep (Print bytes) a b n d = ap (λ (f : FolderView). f.holds) d.files
 load_keeps : (name : List ℕ) (limit : ℕ) (text : List ℕ) (refusal : Option Refusal)
     (reason : Reason) (a b : World) → Fails (Load name limit text refusal) reason a b
     → b.files.holds ≡ a.files.holds
-load_keeps name limit text refusal (CannotRead told) a b f = f.1.files
-load_keeps name limit text refusal (TooLong told) a b f = f.1.files
+load_keeps name limit text refusal (CannotRead known) a b f = f.1.files
+load_keeps name limit text refusal (TooLong known) a b f = f.1.files
 load_keeps name limit text refusal (Refused r) a b f = f.1.reads.files
 load_keeps name limit text refusal NoMemory a b f = f.files
-load_keeps name limit text refusal (CannotWrite told) a b f = absurd f
+load_keeps name limit text refusal (CannotWrite known) a b f = absurd f
 load_keeps name limit text refusal PutFailed a b f = absurd f
 load_keeps name limit text refusal ChipFailed a b f = absurd f
 
@@ -783,9 +786,9 @@ last_nothing ended refusal old new is none same =
     subst (λ (x : Ended). TellsLast x refusal old new) (sym is)
     (subst (λ (r : Option Refusal). TellsLast All r old new) (sym none) same)
 
-pub last_told : (ended : Ended) (refusal : Option Refusal) (told : Refusal) (old new : World)
-    → ended ≡ All → refusal ≡ Some told → Says told.line old new → TellsLast ended refusal old new
-last_told ended refusal told old new is some says =
+pub last_known : (ended : Ended) (refusal : Option Refusal) (known : Refusal) (old new : World)
+    → ended ≡ All → refusal ≡ Some known → Says known.line old new → TellsLast ended refusal old new
+last_known ended refusal known old new is some says =
     subst (λ (x : Ended). TellsLast x refusal old new) (sym is)
     (subst (λ (r : Option Refusal). TellsLast All r old new) (sym some) says)
 
@@ -809,7 +812,7 @@ scan_ends names old mid new (Ok refused) status g tells answers =
       read = g.read;
       asks = g.asks;
       does = g.does;
-      told = mid;
+      stood = mid;
       ends = e.0;
       last = last_nothing e.0.ended refusal mid new e.1 none tells;
       left = left_all e.0.ended g.made g.query (image_of g.texts.image) new.chip e.1
@@ -840,7 +843,7 @@ scan_ends names old mid new (Err why) status g tells answers =
           read = g.read;
           asks = g.asks;
           does = g.does;
-          told = new;
+          stood = new;
           ends = s.1;
           last = last_same s.1.ended s.0 refusal new s.2;
           left = left_none s.1.ended s.0 g.made g.query (image_of g.texts.image) new.chip s.2;
@@ -861,9 +864,9 @@ scan_ends names old mid new (Err why) status g tells answers =
           read = g.read;
           asks = g.asks;
           does = g.does;
-          told = mid;
+          stood = mid;
           ends = e.0;
-          last = last_told e.0.ended refusal w.0 mid new e.1 w.1
+          last = last_known e.0.ended refusal w.0 mid new e.1 w.1
               (subst (λ (r : Reason). Says (reason_line r) mid new) w.2 says);
           left = left_all e.0.ended g.made g.query (image_of g.texts.image) new.chip e.1
               (subst (λ (k : ChipView). LeftBy g.made g.query (image_of g.texts.image) k)
@@ -935,15 +938,15 @@ pub scanned : (names : ScanNames) (old new : World) (status : ℕ) → status �
 scanned names old new status is e of =
     let steps = scan_steps names e.texts e.made e.query in
     let refusal = refusal_on e.made e.query (image_of e.texts.image) in
-    let done = all_done steps (scan_status refusal) e.ends.ended old e.told status of e.ends.so in
-    let so : IsAllDone steps (scan_status refusal) old e.told status =
-    subst (λ (x : Ended). EndsSo steps (scan_status refusal) x old e.told status) done e.ends.so in
-    let told : IfSome old.files.holds (IsForetold steps All) =
+    let done = all_done steps (scan_status refusal) e.ends.ended old e.stood status of e.ends.so in
+    let so : IsAllDone steps (scan_status refusal) old e.stood status =
+    subst (λ (x : Ended). EndsSo steps (scan_status refusal) x old e.stood status) done e.ends.so in
+    let known : IfSome old.files.holds (IsForetold steps All) =
     subst (λ (x : Ended). IfSome old.files.holds (IsForetold steps x)) done e.ends.foretold in
     let left : LeftBy e.made e.query (image_of e.texts.image) new.chip =
     subst (λ (x : Ended). IsLeft x e.made e.query (image_of e.texts.image) new.chip) done e.left in
-    let last : TellsLast All refusal e.told new =
-    subst (λ (x : Ended). TellsLast x refusal e.told new) done e.last in
+    let last : TellsLast All refusal e.stood new =
+    subst (λ (x : Ended). TellsLast x refusal e.stood new) done e.last in
     let w = went_by e.made e.query (image_of e.texts.image) new.chip left in
     let none : refusal ≡ why_not (answer_on w.program e.query w.i) =
     ap (λ m. refusal_on m e.query (image_of e.texts.image)) w.made_is
@@ -951,14 +954,14 @@ scanned names old new status is e of =
     let c = counted_by w.program e.query w.i (answer_on w.program e.query w.i) refl
     (sym is ∙ so.answers ∙ ap scan_status none) in
     let f = found_on w.program e.query w.i c.found c.of c.counts c.is in
-    let same : new ≡ e.told = subst (λ (r : Option Refusal). TellsLast All r e.told new)
+    let same : new ≡ e.stood = subst (λ (r : Option Refusal). TellsLast All r e.stood new)
     (none ∙ ap why_not c.is) last in
     let line : count_line c.found c.of c.counts ≡ count_line (number_found e.query w.i)
     (query_count w.i.table e.query) (scan_counts w.program e.query w.i) =
     ap (λ n. count_line n c.of c.counts) (f.found_is ∙ number_is e.query w.i)
     ∙ ap (λ n. count_line (number_found e.query w.i) n c.counts) f.of_is
     ∙ ap (count_line (number_found e.query w.i) (query_count w.i.table e.query)) f.counts_are in
-    if_there old.files.holds (IsForetold steps All) (λ before. Scanned names before old new) told
+    if_there old.files.holds (IsForetold steps All) (λ before. Scanned names before old new) known
     (λ before there foretold.
     let was = was_read names.query.now QUERY_MAX e.texts.query (query_in e.texts.query) _ before
     foretold in
@@ -987,8 +990,8 @@ scanned names old new status is e of =
       fits = f.fits;
       room = f.room;
       work = w.left.worked c.found c.of c.counts c.is;
-      sent = subst (λ (bytes : List ℕ). Told (λ x y. y ≡ x ++ bytes) old.sink.sent new.sink.sent)
-          sends (subst (λ (v : World). Told (λ x y. y ≡ x ++ sent_by steps) old.sink.sent
+      sent = subst (λ (bytes : List ℕ). Known (λ x y. y ≡ x ++ bytes) old.sink.sent new.sink.sent)
+          sends (subst (λ (v : World). Known (λ x y. y ≡ x ++ sent_by steps) old.sink.sent
           v.sink.sent) (sym same) so.sent);
       counters = w.left.counted c.found c.of c.counts c.is
           ∙ ap (λ n. scan_counters w.i.geometry n c.counts) f.of_is

@@ -11,14 +11,14 @@ use Rattle.bbop_isa.specs.Script.{after, go_on, script_from, script_of}
 abbrev AtMost : ℕ → Result (List Instruction) ScriptFault → Type 0
 AtMost n read = (script : List Instruction) → read ≡ Ok script → length script ≤ n
 
-behind : (i : Option Instruction) (rest : Result (List Instruction) ScriptFault) (lines : ℕ)
+following : (i : Option Instruction) (rest : Result (List Instruction) ScriptFault) (lines : ℕ)
     → AtMost lines rest → AtMost (lines + 1) (after i rest)
-behind i (Err fault) lines more script e = absurd (cc)
-behind None (Ok s) lines more script e =
+following i (Err fault) lines more script e = absurd (cc)
+following None (Ok s) lines more script e =
     let few = more s refl in
     let same : s ≡ script = cc in
     subst (λ (t : List Instruction). length t ≤ lines + 1) same (omega (arith, few))
-behind (Some i) (Ok s) lines more script e =
+following (Some i) (Ok s) lines more script e =
     let few = more s refl in
     let same : i ∷ s ≡ script = cc in
     subst (λ (t : List Instruction). length t ≤ lines + 1) same (omega (arith, few))
@@ -27,7 +27,7 @@ line_goes : (number : ℕ) (said : Result (Option Instruction) ScriptKind)
     (rest : Result (List Instruction) ScriptFault) (lines : ℕ) → AtMost lines rest
     → AtMost (lines + 1) (go_on number said rest)
 line_goes number (Err kind) rest lines more script e = absurd (cc)
-line_goes number (Ok i) rest lines more script e = behind i rest lines more script e
+line_goes number (Ok i) rest lines more script e = following i rest lines more script e
 
 lines_few : (number : ℕ) (lines : List (List ℕ))
     → AtMost (length lines) (script_from number lines)

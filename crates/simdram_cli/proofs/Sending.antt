@@ -3,7 +3,7 @@ use Rattle.std.proofs.Common.{◌≡◌, ◌⊎◌, ℕ, ◌+◌, ◌≤◌, ◌
 use Rattle.std.proofs.Common.{refl}
 use Rattle.std.proofs.Common.{Bool, true, false, map, length, sym, ◌∙◌, ap, subst, inl, inr, arith}
 use Rattle.std.proofs.Common.{append_assoc, append-nil}
-use Rattle.host_edge.specs.Views.{FolderView, SinkView, Told, IsPrefix, AppendsPart}
+use Rattle.host_edge.specs.Views.{FolderView, SinkView, Known, IsPrefix, AppendsPart}
 use Rattle.fault_counts.specs.Counts.{Rose}
 use Rattle.dram_model.specs.declared.dram.Counters.{Counters}
 use Rattle.dram_model.specs.declared.geometry.Geometry.{Geometry}
@@ -33,47 +33,47 @@ abbrev more_sent : Option (List ℕ) → List ℕ → Option (List ℕ)
 more_sent None bytes = None
 more_sent (Some old) bytes = Some (old ++ bytes)
 
-abbrev behind : SinkView → List ℕ → SinkView
-behind s bytes = record { sent = more_sent s.sent bytes; faults = s.faults }
+abbrev following : SinkView → List ℕ → SinkView
+following s bytes = record { sent = more_sent s.sent bytes; faults = s.faults }
 
-told_more : (o : Option (List ℕ)) (bytes : List ℕ)
-    → Told (λ before after. after ≡ before ++ bytes) o (more_sent o bytes)
-told_more None bytes = tt
-told_more (Some old) bytes = refl
+known_more : (o : Option (List ℕ)) (bytes : List ℕ)
+    → Known (λ before after. after ≡ before ++ bytes) o (more_sent o bytes)
+known_more None bytes = tt
+known_more (Some old) bytes = refl
 
-told_rest : (o b : Option (List ℕ)) (first rest : List ℕ)
-    → Told (λ before after. after ≡ before ++ (first ++ rest)) o b
-    → Told (λ before after. after ≡ before ++ rest) (more_sent o first) b
-told_rest None b first rest t = tt
-told_rest (Some old) None first rest t = absurd t
-told_rest (Some old) (Some new) first rest t = t ∙ sym (append_assoc old first rest)
+known_rest : (o b : Option (List ℕ)) (first rest : List ℕ)
+    → Known (λ before after. after ≡ before ++ (first ++ rest)) o b
+    → Known (λ before after. after ≡ before ++ rest) (more_sent o first) b
+known_rest None b first rest t = tt
+known_rest (Some old) None first rest t = absurd t
+known_rest (Some old) (Some new) first rest t = t ∙ sym (append_assoc old first rest)
 
 -- all lines were sent
 pub lines_sent : (number : ℕ) (said : Said) (rest : List Said) (files : FolderView)
     (s t : SinkView) (chip : ChipView)
-    → Told (λ before after. after ≡ before ++ lines number (said ∷ rest)) s.sent t.sent
+    → Known (λ before after. after ≡ before ++ lines number (said ∷ rest)) s.sent t.sent
     → s.faults ≤ t.faults
     → Goes (put_lines number (said ∷ rest)) Done (world files s chip) (world files t chip)
-lines_sent number said [] files s t chip told l =
+lines_sent number said [] files s t chip known l =
     inl (
       world files t chip,
       (
         sent (λ before after. after ≡ before ++ line number said) files s t
-            chip (subst (λ w. Told (λ before after. after ≡ before ++ w) s.sent t.sent)
-            (append-nil (line number said)) told) l,
+            chip (subst (λ w. Known (λ before after. after ≡ before ++ w) s.sent t.sent)
+            (append-nil (line number said)) known) l,
         refl,
       ),
     )
-lines_sent number said (next ∷ rest) files s t chip told l =
+lines_sent number said (next ∷ rest) files s t chip known l =
     let first = line number said in
-    let mid = behind s first in
+    let mid = following s first in
     inl (
       world files mid chip,
       (
         sent (λ before after. after ≡ before ++ first) files s mid chip
-            (told_more s.sent first) (omega arith),
+            (known_more s.sent first) (omega arith),
         lines_sent (number + 1) next rest files mid t chip
-            (told_rest s.sent t.sent first (lines (number + 1) (next ∷ rest)) told) l,
+            (known_rest s.sent t.sent first (lines (number + 1) (next ∷ rest)) known) l,
       ),
     )
 
@@ -91,18 +91,18 @@ parted (x ∷ p) q (y ∷ a) b e =
     ]
 
 -- where a part of lines was sent: the first line was cut, or it was sent and the others were cut
-told_parted : (o b : Option (List ℕ)) (first rest : List ℕ)
-    → Told (AppendsPart (first ++ rest)) o b
-    → Told (AppendsPart first) o b ⊎ Told (AppendsPart rest) (more_sent o first) b
-told_parted None b first rest t = inl tt
-told_parted (Some old) None first rest t = absurd t
-told_parted (Some old) (Some new) first rest (part, ((behind, is), e)) =
-    elim (parted part behind first rest is) [
+known_parted : (o b : Option (List ℕ)) (first rest : List ℕ)
+    → Known (AppendsPart (first ++ rest)) o b
+    → Known (AppendsPart first) o b ⊎ Known (AppendsPart rest) (more_sent o first) b
+known_parted None b first rest t = inl tt
+known_parted (Some old) None first rest t = absurd t
+known_parted (Some old) (Some new) first rest (part, ((following, is), e)) =
+    elim (parted part following first rest is) [
       | inl cut ↦ inl (part, (cut, e))
       | inr (more, all, left) ↦ inr (
         more,
         (
-          (behind, left),
+          (following, left),
           e ∙ ap (λ w. old ++ w) all ∙ sym (append_assoc old first more),
         ),
       )
@@ -111,27 +111,28 @@ told_parted (Some old) (Some new) first rest (part, ((behind, is), e)) =
 -- a part of the lines was sent, and then the sink failed
 pub lines_cut : (number : ℕ) (said : Said) (rest : List Said) (files : FolderView)
     (s t : SinkView) (chip : ChipView)
-    → Told (AppendsPart (lines number (said ∷ rest))) s.sent t.sent
+    → Known (AppendsPart (lines number (said ∷ rest))) s.sent t.sent
     → s.faults ≤ t.faults → Rose s.faults t.faults
     → Goes (put_lines number (said ∷ rest)) (Stopped PutFailed) (world files s chip)
     (world files t chip)
-lines_cut number said [] files s t chip told l rose =
+lines_cut number said [] files s t chip known l rose =
     inr (
       refl,
       sent (AppendsPart (line number said)) files s t chip
-          (subst (λ w. Told (AppendsPart w) s.sent t.sent) (append-nil (line number said)) told) l,
+          (subst (λ w. Known (AppendsPart w) s.sent t.sent) (append-nil (line number said)) known)
+          l,
       rose,
     )
-lines_cut number said (next ∷ rest) files s t chip told l rose =
+lines_cut number said (next ∷ rest) files s t chip known l rose =
     let first = line number said in
-    let mid = behind s first in
-    elim (told_parted s.sent t.sent first (lines (number + 1) (next ∷ rest)) told) [
+    let mid = following s first in
+    elim (known_parted s.sent t.sent first (lines (number + 1) (next ∷ rest)) known) [
       | inl cut ↦ inr (refl, sent (AppendsPart first) files s t chip cut l, rose)
       | inr more ↦ inl (
         world files mid chip,
         (
           sent (λ before after. after ≡ before ++ first) files s mid chip
-              (told_more s.sent first) (omega arith),
+              (known_more s.sent first) (omega arith),
           lines_cut (number + 1) next rest files mid t chip more l rose,
         ),
       )
@@ -140,55 +141,55 @@ lines_cut number said (next ∷ rest) files s t chip told l rose =
 -- a line is sent while the chip is read
 
 printed : (R : List ℕ → List ℕ → Type 0) (files : FolderView) (s t : SinkView) (a b : ChipView)
-    → Told R s.sent t.sent → s.faults ≤ t.faults → a.faults ≤ b.faults
+    → Known R s.sent t.sent → s.faults ≤ t.faults → a.faults ≤ b.faults
     → Printed R (world files s a) (world files t b)
-printed R files s t a b told l m = record { files = refl; sent = told; faults = l; chip = m }
+printed R files s t a b known l m = record { files = refl; sent = known; faults = l; chip = m }
 
 pub print_done : (bytes : List ℕ) (files : FolderView) (s t : SinkView) (a b : ChipView)
-    → Told (λ before after. after ≡ before ++ bytes) s.sent t.sent → s.faults ≤ t.faults
+    → Known (λ before after. after ≡ before ++ bytes) s.sent t.sent → s.faults ≤ t.faults
     → a.faults ≤ b.faults
     → Goes (Print bytes ∷ []) Done (world files s a) (world files t b)
-print_done bytes files s t a b told l m =
+print_done bytes files s t a b known l m =
     inl (
       world files t b,
       (
-        printed (λ before after. after ≡ before ++ bytes) files s t a b told l m,
+        printed (λ before after. after ≡ before ++ bytes) files s t a b known l m,
         refl,
       ),
     )
 
 pub print_unput : (bytes : List ℕ) (files : FolderView) (s t : SinkView) (a b : ChipView)
-    → Told (AppendsPart bytes) s.sent t.sent → s.faults ≤ t.faults → a.faults ≤ b.faults
+    → Known (AppendsPart bytes) s.sent t.sent → s.faults ≤ t.faults → a.faults ≤ b.faults
     → Rose s.faults t.faults
     → Goes (Print bytes ∷ []) (Stopped PutFailed) (world files s a) (world files t b)
-print_unput bytes files s t a b told l m rose =
-    inr (printed (AppendsPart bytes) files s t a b told l m, inl (refl, rose))
+print_unput bytes files s t a b known l m rose =
+    inr (printed (AppendsPart bytes) files s t a b known l m, inl (refl, rose))
 
 pub print_unread : (bytes : List ℕ) (files : FolderView) (s t : SinkView) (a b : ChipView)
-    → Told (AppendsPart bytes) s.sent t.sent → s.faults ≤ t.faults → a.faults ≤ b.faults
+    → Known (AppendsPart bytes) s.sent t.sent → s.faults ≤ t.faults → a.faults ≤ b.faults
     → Rose a.faults b.faults
     → Goes (Print bytes ∷ []) (Stopped ChipFailed) (world files s a) (world files t b)
-print_unread bytes files s t a b told l m rose =
-    inr (printed (AppendsPart bytes) files s t a b told l m, inr (refl, rose))
+print_unread bytes files s t a b known l m rose =
+    inr (printed (AppendsPart bytes) files s t a b known l m, inr (refl, rose))
 
 -- a wave
 
 pub wave_done : (number : ℕ) (said : Said) (rest : List Said) (files : FolderView)
     (s t : SinkView) (a b : ChipView) → a.faults ≤ b.faults
-    → Told (λ before after. after ≡ before ++ lines number (said ∷ rest)) s.sent t.sent
+    → Known (λ before after. after ≡ before ++ lines number (said ∷ rest)) s.sent t.sent
     → s.faults ≤ t.faults
     → Goes (Use ∷ put_lines number (said ∷ rest)) Done (world files s a) (world files t b)
-wave_done number said rest files s t a b m told l =
-    inl (world files s b, (used files s a b m, lines_sent number said rest files s t b told l))
+wave_done number said rest files s t a b m known l =
+    inl (world files s b, (used files s a b m, lines_sent number said rest files s t b known l))
 
 pub wave_unput : (number : ℕ) (said : Said) (rest : List Said) (files : FolderView)
     (s t : SinkView) (a b : ChipView) → a.faults ≤ b.faults
-    → Told (AppendsPart (lines number (said ∷ rest))) s.sent t.sent
+    → Known (AppendsPart (lines number (said ∷ rest))) s.sent t.sent
     → s.faults ≤ t.faults → Rose s.faults t.faults
     → Goes (Use ∷ put_lines number (said ∷ rest)) (Stopped PutFailed) (world files s a)
     (world files t b)
-wave_unput number said rest files s t a b m told l rose =
-    inl (world files s b, (used files s a b m, lines_cut number said rest files s t b told l rose))
+wave_unput number said rest files s t a b m known l rose =
+    inl (world files s b, (used files s a b m, lines_cut number said rest files s t b known l rose))
 
 -- the chip failed, and nothing was sent
 pub unused : (steps : List Step) (files : FolderView) (s t : SinkView) (a b : ChipView)
@@ -200,11 +201,11 @@ unused steps files s t a b m rose e =
 
 -- one instruction's line
 pub instr_done : (prints : Bool) (bytes : List ℕ) (files : FolderView) (s t : SinkView)
-    (a b : ChipView) → Told (λ before after. after ≡ before ++ bytes) s.sent t.sent
+    (a b : ChipView) → Known (λ before after. after ≡ before ++ bytes) s.sent t.sent
     → s.faults ≤ t.faults → a.faults ≤ b.faults
     → Goes (instr_steps prints bytes) Done (world files s a) (world files t b)
-instr_done true bytes files s t a b told l m = print_done bytes files s t a b told l m
-instr_done false bytes files s t a b told l m = line_done bytes files s t a b m told l
+instr_done true bytes files s t a b known l m = print_done bytes files s t a b known l m
+instr_done false bytes files s t a b known l m = line_done bytes files s t a b m known l
 
 -- what is known where an instruction was not done
 pub record Failed (fault : StepFault) (prints : Bool) (bytes : List ℕ) (s t : SinkView)
@@ -214,8 +215,8 @@ pub record Failed (fault : StepFault) (prints : Bool) (bytes : List ℕ) (s t : 
   pub chip_rose : fault ≡ step_fault.ChipFault → Rose a.faults b.faults
   pub unsent : fault ≡ step_fault.ChipFault → prints ≡ false → t ≡ s
   pub sink_rose : fault ≡ step_fault.WriteFault → Rose s.faults t.faults
-  pub part : fault ≡ step_fault.WriteFault → Told (AppendsPart bytes) s.sent t.sent
-  pub cut : prints ≡ true → Told (AppendsPart bytes) s.sent t.sent
+  pub part : fault ≡ step_fault.WriteFault → Known (AppendsPart bytes) s.sent t.sent
+  pub cut : prints ≡ true → Known (AppendsPart bytes) s.sent t.sent
 
 pub instr_failed : (fault : StepFault) (prints : Bool) (bytes : List ℕ) (files : FolderView)
     (s t : SinkView) (a b : ChipView) → Failed fault prints bytes s t a b
@@ -244,25 +245,25 @@ wave_said g o table banks wave bbops =
 answers_sent : (g : Geometry) (o : Routines) (table : List Named) (number : ℕ)
     (wave : List Instruction) (files : FolderView) (s t : SinkView) (a b : ChipView)
     → 0 < length wave
-    → Told (λ before after. after ≡ before ++ lines number (answers_of g o table wave)) s.sent
+    → Known (λ before after. after ≡ before ++ lines number (answers_of g o table wave)) s.sent
     t.sent → s.faults ≤ t.faults → a.faults ≤ b.faults
     → Goes (Use ∷ put_lines number (answers_of g o table wave)) Done (world files s a)
     (world files t b)
-answers_sent g o table number [] files s t a b some told l m = absurd (omega (arith, some))
-answers_sent g o table number (instr ∷ wave) files s t a b some told l m =
+answers_sent g o table number [] files s t a b some known l m = absurd (omega (arith, some))
+answers_sent g o table number (instr ∷ wave) files s t a b some known l m =
     wave_done number (Answered (reply_to g o table instr)) (answers_of g o table wave) files s t a b
-    m told l
+    m known l
 
 pub wave_sent : (g : Geometry) (o : Routines) (table : List Named) (banks : Banks) (number : ℕ)
     (wave : List Instruction) (files : FolderView) (s t : SinkView) (a b : ChipView)
     → AreBbops wave → 0 < length wave
-    → Told (λ before after. after ≡ before ++ lines number (answers_of g o table wave)) s.sent
+    → Known (λ before after. after ≡ before ++ lines number (answers_of g o table wave)) s.sent
     t.sent → s.faults ≤ t.faults → a.faults ≤ b.faults
     → Goes (piece_steps g o table banks number (Wave wave)) Done (world files s a)
     (world files t b)
-wave_sent g o table banks number wave files s t a b bbops some told l m =
+wave_sent g o table banks number wave files s t a b bbops some known l m =
     rw (wave_said g o table banks wave bbops)
-    (answers_sent g o table number wave files s t a b some told l m)
+    (answers_sent g o table number wave files s t a b some known l m)
 
 -- what is known where a wave was not done
 pub record WaveFailed (fault : StepFault) (bytes : List ℕ) (s t : SinkView) (a b : ChipView)
@@ -272,7 +273,7 @@ pub record WaveFailed (fault : StepFault) (bytes : List ℕ) (s t : SinkView) (a
   pub chip_rose : fault ≡ step_fault.ChipFault → Rose a.faults b.faults
   pub unsent : fault ≡ step_fault.ChipFault → t ≡ s
   pub sink_rose : fault ≡ step_fault.WriteFault → Rose s.faults t.faults
-  pub part : fault ≡ step_fault.WriteFault → Told (AppendsPart bytes) s.sent t.sent
+  pub part : fault ≡ step_fault.WriteFault → Known (AppendsPart bytes) s.sent t.sent
 
 answers_cut : (fault : StepFault) (g : Geometry) (o : Routines) (table : List Named) (number : ℕ)
     (wave : List Instruction) (files : FolderView) (s t : SinkView) (a b : ChipView)

@@ -3,7 +3,7 @@ use Rattle.std.proofs.Common.{◌≡◌, ℕ, ◌≤◌, List, [], ◌∷◌, �
 use Rattle.std.proofs.Common.{◌∙◌, ap, subst, inl, inr, append-nil}
 use Rattle.std.specs.Prelude.{Result, Ok, Err, IfOk, IfSome}
 use Rattle.dram_model.specs.View.{ChipView}
-use Rattle.host_edge.specs.Views.{FolderView, SinkView, Told, AppendsPart}
+use Rattle.host_edge.specs.Views.{FolderView, SinkView, Known, AppendsPart}
 use Rattle.fault_counts.specs.Counts.{Rose}
 use Rattle.op_text.specs.Language.{Operation}
 use Rattle.op_text.specs.OpsOf.{IsOpsOf}
@@ -70,7 +70,7 @@ pub not_made : (text : List ℕ) (files : FolderView) (sink : SinkView) (chip : 
 not_made text files sink chip = inr (refl, nothing_read (world files sink chip))
 
 pub not_put : (text : List ℕ) (files : FolderView) (s t : SinkView) (chip : ChipView)
-    → Told (AppendsPart text) s.sent t.sent → s.faults ≤ t.faults → Rose s.faults t.faults
+    → Known (AppendsPart text) s.sent t.sent → s.faults ≤ t.faults → Rose s.faults t.faults
     → Goes (Take ∷ Put text ∷ []) (Stopped PutFailed) (world files s chip) (world files t chip)
 not_put text files s t chip p n r = inl (
   world files s chip,
@@ -81,7 +81,7 @@ not_put text files s t chip p n r = inl (
 )
 
 pub all_put : (text : List ℕ) (files : FolderView) (s t : SinkView) (chip : ChipView)
-    → Told (λ before after. after ≡ before ++ text) s.sent t.sent → s.faults ≤ t.faults
+    → Known (λ before after. after ≡ before ++ text) s.sent t.sent → s.faults ≤ t.faults
     → Goes (Take ∷ Put text ∷ []) Done (world files s chip) (world files t chip)
 all_put text files s t chip p n = inl (
   world files s chip,
@@ -136,17 +136,17 @@ show_shown name old new status e of =
     let done = all_done steps 0 e.ends.ended old new status of e.ends.so in
     let so : IsAllDone steps 0 old new status =
     subst (λ (x : Ended). EndsSo steps 0 x old new status) done e.ends.so in
-    let told : IfSome old.files.holds (IsForetold steps All) =
+    let known : IfSome old.files.holds (IsForetold steps All) =
     subst (λ (x : Ended). IfSome old.files.holds (IsForetold steps x)) done e.ends.foretold in
     let ops = e.spelled (λ empty. load_is_step name OPS_MAX e.text (ops_in e.text) _
     (subst (λ (x : Ended). done_steps steps x ≡ []) done empty)) in
-    if_there old.files.holds (IsForetold steps All) (λ before. Shown name before old new) told
+    if_there old.files.holds (IsForetold steps All) (λ before. Shown name before old new) known
     (λ before there foretold.
     let was = was_read name OPS_MAX e.text (ops_in e.text) _ before foretold in
     record {
       ops = e.ops;
       is = spells_at (before name) e.text e.ops (text_at old.files.holds before name was.bytes
           e.text there e.is_text was.there) ops;
-      sent = subst (λ (bytes : List ℕ). Told (λ x y. y ≡ x ++ bytes) old.sink.sent new.sink.sent)
+      sent = subst (λ (bytes : List ℕ). Known (λ x y. y ≡ x ++ bytes) old.sink.sent new.sink.sent)
           (sent_of name e.text e.ops (ops_in e.text) was.value was.is) so.sent;
     })

@@ -10,7 +10,7 @@ use Rattle.cli_model.proofs.Ending.{all_ends, stop_ends}
 use Rattle.cli_model.proofs.Statuses.{OfSteps, all_done}
 use Rattle.soak_case.specs.declared.cases.Case.{Case}
 use Rattle.soak_case.specs.Cases.{soak_cases, source_kinds}
-use Rattle.soak_case.specs.Words.{behind_all}
+use Rattle.soak_case.specs.Words.{after_all}
 use Rattle.soak_job.specs.Steps.{cases_steps, soak_steps}
 use Rattle.soak_job.specs.Done.{SoakGoes, SoakLeft}
 use Rattle.soak_job.specs.declared.job.SoakNo.TheVariants as no
@@ -115,7 +115,7 @@ cases_of P state (c ∷ cs) (m ∷ ms) three nine ten = (
   ten,
   (
     nine,
-    (three, cases_of P (behind_all state (source_kinds c.op)) cs ms three nine ten),
+    (three, cases_of P (after_all state (source_kinds c.op)) cs ms three nine ten),
   ),
 )
 

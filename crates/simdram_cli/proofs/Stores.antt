@@ -5,7 +5,7 @@ use Rattle.std.specs.Prelude.{bytes_eq, IfSome, Result, Ok, Err, OnOk, OnErr, is
 use mathlib.Core.Path.{fun_ext}
 use Rattle.std.proofs.lemmas.Slice.Eq.{bytes_eq-Decides}
 use Rattle.dram_model.specs.View.{ChipView}
-use Rattle.host_edge.specs.Views.{Files, FolderView, SinkView, Told, NoCountFalls}
+use Rattle.host_edge.specs.Views.{Files, FolderView, SinkView, Known, NoCountFalls}
 use Rattle.fault_counts.specs.Counts.{Rose}
 use Rattle.host_edge.specs.Views.{KeepsOthers, HasBytes, AppendsPart}
 use Rattle.cli_model.specs.World.{World, world, with_file}
@@ -23,22 +23,22 @@ with_file_at name bytes before after other true e keeps there =
 with_file_at name bytes before after other false e keeps there =
     keeps other (λ is. absurd (different other name e is))
 
-pub stored_is : (name bytes : List ℕ) (a b : Option Files) → Told (KeepsOthers name) a b
+pub stored_is : (name bytes : List ℕ) (a b : Option Files) → Known (KeepsOthers name) a b
     → IfSome b (λ files. files name ≡ Some bytes)
-    → Told (λ before after. after ≡ with_file name bytes before) a b
+    → Known (λ before after. after ≡ with_file name bytes before) a b
 stored_is name bytes None b t h = tt
 stored_is name bytes (Some before) None t h = absurd t
 stored_is name bytes (Some before) (Some after) t h =
     fun_ext (λ other. with_file_at name bytes before after other (bytes_eq other name) refl t h)
 
 pub stored : (name bytes : List ℕ) (old new : FolderView) (sink : SinkView) (chip : ChipView)
-    → Told (KeepsOthers name) old.holds new.holds → HasBytes new name bytes → NoCountFalls old new
+    → Known (KeepsOthers name) old.holds new.holds → HasBytes new name bytes → NoCountFalls old new
     → Stored name bytes (world old sink chip) (world new sink chip)
 stored name bytes old new sink chip t h n = record
     { files = stored_is name bytes old.holds new.holds t h; counts = n; sink = refl; chip = refl }
 
 pub unstored : (name : List ℕ) (old new : FolderView) (sink : SinkView) (chip : ChipView)
-    → Told (KeepsOthers name) old.holds new.holds → Rose old.store_faults new.store_faults
+    → Known (KeepsOthers name) old.holds new.holds → Rose old.store_faults new.store_faults
     → NoCountFalls old new → Unstored name (world old sink chip) (world new sink chip)
 unstored name old new sink chip t r n = record {
   others = t;
@@ -54,7 +54,7 @@ used files sink a b l = record { files = refl; sink = refl; chip = l }
 
 pub sent : (R : List ℕ → List ℕ → Type 0) (files : FolderView) (old new : SinkView)
     (chip : ChipView)
-    → Told R old.sent new.sent → old.faults ≤ new.faults
+    → Known R old.sent new.sent → old.faults ≤ new.faults
     → Sent R (world files old chip) (world files new chip)
 sent R files old new chip t l = record { files = refl; sent = t; faults = l; chip = refl }
 
@@ -66,7 +66,7 @@ finish_unstored name bytes total f g s a b l u = inl (world f s b, (used f s a b
 
 pub finish_unput : (name bytes total : List ℕ) (f g : FolderView) (s t : SinkView) (a b : ChipView)
     → a.faults ≤ b.faults
-    → Stored name bytes (world f s b) (world g s b) → Told (AppendsPart total) s.sent t.sent
+    → Stored name bytes (world f s b) (world g s b) → Known (AppendsPart total) s.sent t.sent
     → s.faults ≤ t.faults → Rose s.faults t.faults
     → Goes (Use ∷ Store name bytes ∷ Put total ∷ []) (Stopped PutFailed) (world f s a) (world g t b)
 finish_unput name bytes total f g s t a b l u p n r =
@@ -84,7 +84,7 @@ finish_unput name bytes total f g s t a b l u p n r =
 pub finish_done : (name bytes total : List ℕ) (f g : FolderView) (s t : SinkView) (a b : ChipView)
     → a.faults ≤ b.faults
     → Stored name bytes (world f s b) (world g s b)
-    → Told (λ before after. after ≡ before ++ total) s.sent t.sent → s.faults ≤ t.faults
+    → Known (λ before after. after ≡ before ++ total) s.sent t.sent → s.faults ≤ t.faults
     → Goes (Use ∷ Store name bytes ∷ Put total ∷ []) Done (world f s a) (world g t b)
 finish_done name bytes total f g s t a b l u p n =
     inl (
@@ -134,7 +134,7 @@ take_unstored name bytes f g s k t = inl (world f s k, (nothing_read (world f s 
 
 pub line_done : (bytes : List ℕ) (files : FolderView) (s t : SinkView) (a b : ChipView)
     → a.faults ≤ b.faults
-    → Told (λ before after. after ≡ before ++ bytes) s.sent t.sent → s.faults ≤ t.faults
+    → Known (λ before after. after ≡ before ++ bytes) s.sent t.sent → s.faults ≤ t.faults
     → Goes (Use ∷ Put bytes ∷ []) Done (world files s a) (world files t b)
 line_done bytes files s t a b l p n = inl (
   world files s b,
@@ -149,7 +149,7 @@ line_done bytes files s t a b l p n = inl (
 
 pub line_unput : (bytes : List ℕ) (files : FolderView) (s t : SinkView) (a b : ChipView)
     → a.faults ≤ b.faults
-    → Told (AppendsPart bytes) s.sent t.sent → s.faults ≤ t.faults → Rose s.faults t.faults
+    → Known (AppendsPart bytes) s.sent t.sent → s.faults ≤ t.faults → Rose s.faults t.faults
     → Goes (Use ∷ Put bytes ∷ []) (Stopped PutFailed) (world files s a) (world files t b)
 line_unput bytes files s t a b l p n r = inl (
   world files s b,

@@ -1,11 +1,12 @@
 -- How a recorded execution ends, and what it promises.
 use Rattle.std.proofs.Common.{◌≡◌, ◌⊎◌, ℕ, ◌*◌, ◌<◌, ◌≤◌, ◌^◌, Bool, true, false, cond, leb, List}
-use Rattle.std.proofs.Common.{[], ◌∷◌, ◌++◌, Option, Some, None, refl, sym, ◌∙◌, ap, subst, inl, inr}
+use Rattle.std.proofs.Common.{[], ◌∷◌, ◌++◌, Option, Some, None, refl, sym, ◌∙◌, ap, subst, inl}
+use Rattle.std.proofs.Common.{inr}
 use Rattle.std.proofs.Common.{arith, append-nil, length}
 use Rattle.std.specs.Prelude.{Result, Ok, Err, IfSome, ◌≢◌, bytes_eq, nat_lt}
 use Rattle.std.specs.List.{AllByRecursion}
 use Rattle.std.proofs.lemmas.Bool.{leb-true}
-use Rattle.host_edge.specs.Views.{Files, Told}
+use Rattle.host_edge.specs.Views.{Files, Known}
 use Rattle.dram_model.specs.Chip.{Banks}
 use Rattle.object_alloc.specs.Spelling.{image_bytes}
 use Rattle.uprog_bin.specs.Opened.{IsProgramFile}
@@ -59,8 +60,8 @@ use Rattle.simdram_cli.proofs.Loaded.{load_is_step, stopped_ends}
 use Rattle.simdram_cli.proofs.Piecewise.{sent_more, sent_script}
 use Rattle.simdram_cli.proofs.Promised.{at_other, at_own, files_more, job_status_read, pieces_files}
 use Rattle.simdram_cli.proofs.Promised.{rows_done}
-use Rattle.simdram_cli.proofs.Running.{four_differ, turned}
-use Rattle.simdram_cli.proofs.Scanning.{last_nothing, last_same, last_told}
+use Rattle.simdram_cli.proofs.Running.{four_differ, other_way}
+use Rattle.simdram_cli.proofs.Scanning.{last_nothing, last_same, last_known}
 use Rattle.simdram_cli.proofs.Tallies.{both}
 use Rattle.simdram_cli.proofs.Tracing.{late_more, pieces_late}
 
@@ -93,7 +94,7 @@ ends_done names old mid new refused status g file w same answers =
       texts = g.texts;
       is_text = g.is_text;
       read = g.read;
-      told = mid;
+      stood = mid;
       ends = e.0;
       last = last_nothing e.0.ended full mid new e.1 w.0 same;
       file = λ some. file;
@@ -118,7 +119,7 @@ ends_stopped names old mid new why status g goes says answers =
       texts = g.texts;
       is_text = g.is_text;
       read = g.read;
-      told = new;
+      stood = new;
       ends = s.whole.ends;
       last = last_same s.whole.ends.ended s.stop (full_with (prog_in g.prog) g.texts) new s.is;
       file = s.whole.loaded;
@@ -126,13 +127,13 @@ ends_stopped names old mid new why status g goes says answers =
     }
 
 ends_full : (names : TraceNames) (old mid new : World) (why : Stop) (status : ℕ)
-    → (g : TraceGoes names old mid (Err why)) → IsProgramFile g.prog → (told : Refusal)
-    → full_with (prog_in g.prog) g.texts ≡ Some told → reason_of why ≡ Refused told
+    → (g : TraceGoes names old mid (Err why)) → IsProgramFile g.prog → (known : Refusal)
+    → full_with (prog_in g.prog) g.texts ≡ Some known → reason_of why ≡ Refused known
     → Goes (trace_steps names g.prog g.texts) Done old mid → (refused : ℕ)
     → IsDoneAs (prog_in g.prog) g.texts (unlogged mid.chip) refused
     → Says (reason_line (reason_of why)) mid new → status ≡ reason_status (reason_of why)
     → TraceEnds names old new status
-ends_full names old mid new why status g file told is by goes refused left says answers =
+ends_full names old mid new why status g file known is by goes refused left says answers =
     let full = full_with (prog_in g.prog) g.texts in
     let done = status_with (prog_in g.prog) g.texts in
     let same : status ≡ end_status_of g.prog g.texts =
@@ -144,9 +145,9 @@ ends_full names old mid new why status g file told is by goes refused left says 
       texts = g.texts;
       is_text = g.is_text;
       read = g.read;
-      told = mid;
+      stood = mid;
       ends = e.0;
-      last = last_told e.0.ended full told mid new e.1 is
+      last = last_known e.0.ended full known mid new e.1 is
           (subst (λ (r : Reason). Says (reason_line r) mid new) by says);
       file = λ some. file;
       done = done_with e.0.ended (prog_in g.prog) g.texts (unlogged new.chip) refused e.1
@@ -182,7 +183,7 @@ trace_ends names old mid new (Err why) status g says answers = by_going g.went
 
 -- what it promises
 
--- the same files let other steps behind a load pass
+-- the same files let other steps after a load pass
 load_more : (name : List ℕ) (limit : ℕ) (refusal : Option Refusal) (file : Option (List ℕ))
     (one other : End) → load_end name limit refusal file one ≡ Done → (one ≡ Done → other ≡ Done)
     → load_end name limit refusal file other ≡ Done
@@ -358,7 +359,7 @@ out_apart names e =
     let parts = both (all_differ (names.prog.now ∷ names.script.now ∷ names.trace.now
     ∷ names.image.now ∷ [])) (all_differ (names.prog.now ∷ names.script.now ∷ names.trace.now
     ∷ names.out.now ∷ [])) e in
-    turned names.trace.now names.out.now
+    other_way names.trace.now names.out.now
     (four_differ names.prog.now names.script.now names.trace.now names.out.now parts.1).cd
 
 other_kept : (names : TraceNames) (trace bytes : List ℕ) (before : Files) (other : List ℕ)
@@ -372,16 +373,16 @@ other_kept names trace bytes before other p q =
 -- A recorded execution that was done keeps its promises
 pub traced : (names : TraceNames) (old new : World) (status : ℕ) → traced_apart names ≡ true
     → (status ≡ 0) ⊎ (status ≡ 8) → (e : TraceEnds names old new status) → e.ends.ended ≡ All
-    → Told (λ before after. Traced names before after old new status) old.files.holds
+    → Known (λ before after. Traced names before after old new status) old.files.holds
     new.files.holds
 traced names old new status apart is e done =
     let steps = trace_steps names e.prog e.texts in
     let own = end_status_of e.prog e.texts in
     let full = full_with (prog_in e.prog) e.texts in
     let rest = λ (p : Program). traced_job_steps names p e.texts in
-    let so : IsAllDone steps own old e.told status =
-    subst (λ (x : Ended). EndsSo steps own x old e.told status) done e.ends.so in
-    let told : IfSome old.files.holds (IsForetold steps All) =
+    let so : IsAllDone steps own old e.stood status =
+    subst (λ (x : Ended). EndsSo steps own x old e.stood status) done e.ends.so in
+    let known : IfSome old.files.holds (IsForetold steps All) =
     subst (λ (x : Ended). IfSome old.files.holds (IsForetold steps x)) done e.ends.foretold in
     let work : IsDoneWith All (prog_in e.prog) e.texts (unlogged new.chip) =
     subst (λ (x : Ended). IsDoneWith x (prog_in e.prog) e.texts (unlogged new.chip)) done e.done in
@@ -391,19 +392,19 @@ traced names old new status apart is e done =
     let none : full ≡ None =
     not_full (prog_in e.prog) (script_in e.texts.script) (image_of e.texts.image) e.texts
     (status_with (prog_in e.prog) e.texts) status refl refl so.answers is in
-    let last : TellsLast All full e.told new =
-    subst (λ (x : Ended). TellsLast x full e.told new) done e.last in
-    let same : new ≡ e.told =
-    subst (λ (o : Option Refusal). TellsLast All o e.told new) none last in
-    let files : Told (λ before after. after ≡ files_after steps before) old.files.holds
+    let last : TellsLast All full e.stood new =
+    subst (λ (x : Ended). TellsLast x full e.stood new) done e.last in
+    let same : new ≡ e.stood =
+    subst (λ (o : Option Refusal). TellsLast All o e.stood new) none last in
+    let files : Known (λ before after. after ≡ files_after steps before) old.files.holds
     new.files.holds =
-    subst (λ (w : World). Told (λ before after. after ≡ files_after steps before) old.files.holds
+    subst (λ (w : World). Known (λ before after. after ≡ files_after steps before) old.files.holds
     w.files.holds) (sym same) so.files in
-    let sent : Told (λ x y. y ≡ x ++ sent_by steps) old.sink.sent new.sink.sent =
-    subst (λ (w : World). Told (λ x y. y ≡ x ++ sent_by steps) old.sink.sent w.sink.sent)
+    let sent : Known (λ x y. y ≡ x ++ sent_by steps) old.sink.sent new.sink.sent =
+    subst (λ (w : World). Known (λ x y. y ≡ x ++ sent_by steps) old.sink.sent w.sink.sent)
     (sym same) so.sent in
     tell_both old.files.holds new.files.holds (λ before after. after ≡ files_after steps before)
-    (λ before after. Traced names before after old new status) (IsForetold steps All) files told
+    (λ before after. Traced names before after old new status) (IsForetold steps All) files known
     (λ before after there foretold stores.
     let h = has_run (exec_of names) e.prog e.texts old.files.holds before there e.is_text e.read
     (exec_passes names e.prog e.texts before foretold) in
@@ -425,7 +426,8 @@ traced names old new status apart is e done =
     stores ∙ ap (λ xs. files_after xs before) are ∙ traced_files names program script i before all
     in
     let answers : status ≡ done_status (refused_by program script i) =
-    so.answers ∙ ap (λ (o : Option Refusal). status_or o (status_with (prog_in e.prog) e.texts)) none
+    so.answers ∙ ap (λ (o : Option Refusal). status_or o (status_with (prog_in e.prog) e.texts))
+    none
     ∙ status_read (prog_in e.prog) e.texts program h.prog_is
     ∙ job_status_read (exec_names (exec_of names)) program e.texts before h.job in
     let good = script_is_trace i program e.texts.script script legal
@@ -436,13 +438,14 @@ traced names old new status apart is e done =
       between = between;
       executed = executed (exec_of names) e.prog e.texts d.0 status old (unlogged_world new) before
           between h legal rows answers refl
-          (subst (λ (bytes : List ℕ). Told (λ x y. y ≡ x ++ bytes) old.sink.sent new.sink.sent)
+          (subst (λ (bytes : List ℕ). Known (λ x y. y ≡ x ++ bytes) old.sink.sent new.sink.sent)
           (ap sent_by are ∙ traced_sent names program script i all) sent);
       stored = stored;
       fit = all;
       accepted = files_are_exact.read t good;
       replays = ap (λ (f : Files). f names.out.now) stored
-          ∙ at_other names.out.now names.trace.now (bytes_of_trace t) between (out_apart names apart)
+          ∙ at_other names.out.now names.trace.now (bytes_of_trace t) between (out_apart names
+          apart)
           ∙ at_own names.out.now (image_by program script i) before
           ∙ ap (λ (b : Banks). Some (image_bytes i.geometry (table_at_end i.geometry
           (routines_in program) i.table script) (rows_of b)))

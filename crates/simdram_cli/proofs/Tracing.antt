@@ -5,7 +5,7 @@ use Rattle.std.proofs.Common.{append-nil, append_assoc, add_assoc}
 use Rattle.std.specs.Prelude.{Result, Ok, Err, count_by}
 use Rattle.std.specs.List.{AllByRecursion}
 use Rattle.fault_counts.specs.Counts.{Rose}
-use Rattle.host_edge.specs.Views.{AppendsPart, Files, FolderView, SinkView, Told}
+use Rattle.host_edge.specs.Views.{AppendsPart, Files, FolderView, SinkView, Known}
 use Rattle.dram_model.specs.declared.dram.Counters.{Counters}
 use Rattle.dram_model.specs.declared.geometry.Geometry.{Geometry}
 use Rattle.dram_model.specs.Geometry.{is_geometry}
@@ -39,7 +39,7 @@ use Rattle.object_steps.specs.Objects.{LiesOn}
 use Rattle.trace_model.specs.Replay.{script_trace}
 use Rattle.trace_model.specs.Spelling.{IsEvent, bytes_of_trace, trace_bytes}
 use Rattle.trace_model.proofs.Legal.{events_are_legal}
-use Rattle.cmd_trace.specs.Tape.{Tape, empty_log, recorded}
+use Rattle.cmd_trace.specs.Tape.{NotesView, empty_log, recorded}
 use Rattle.trace_job.specs.Below.{BeginOnChip, IsLate}
 use Rattle.trace_job.specs.Telling.{Saw, Spelled, all_fit}
 use Rattle.trace_job.proofs.Going.{steps_are_below}
@@ -67,7 +67,7 @@ use Rattle.simdram_cli.specs.Tracing.{full_on, full_with, image_on, reads_on, re
 use Rattle.simdram_cli.specs.Tracing.{steps_on, store_steps, total_steps, traced_steps}
 use Rattle.simdram_cli.specs.Tracing.{unless_fits, unlogged}
 use Rattle.simdram_cli.proofs.Joins.{loaded_text, loading_goes, loading_stops, no_texts}
-use Rattle.simdram_cli.proofs.Joins.{told_is_text, told_text}
+use Rattle.simdram_cli.proofs.Joins.{known_is_text, known_text}
 use Rattle.simdram_cli.proofs.Migrating.{prog_is}
 use Rattle.simdram_cli.proofs.Progress.{Holds, holds_of}
 use Rattle.simdram_cli.proofs.Stores.{nothing_read, sent, used}
@@ -121,7 +121,7 @@ reads_twice : (m n : ℕ) (k : Counters) → with_reads n (with_reads m k) ≡ w
 reads_twice m n k = ap (λ (r : ℕ). let c : Counters = record k { reads = r } in c)
     (add_assoc k.reads m n)
 
--- rows are read behind what was done
+-- rows are read after what was done
 pub did_read_more : (events : List Event) (m n : ℕ) (a b c : ChipView) → DidAndRead events m a b
     → DidRead n b c → DidAndRead events (m + n) a c
 did_read_more events m n a b c did read = record {
@@ -143,7 +143,7 @@ did_all m script g a b c e did read =
     ((geometry_of m).banks * (geometry_of m).rows) a b c did
     (subst (λ (x : Geometry). DidRead (x.banks * x.rows) b c) e read)
 
--- the steps behind the opening
+-- the steps after the opening
 
 pub late_more : (xs ys : List Step) → AllByRecursion IsLate xs → AllByRecursion IsLate ys
     → AllByRecursion IsLate (xs ++ ys)
@@ -348,7 +348,7 @@ left_by program script i m from last new refused s did banks counters count =
 
 -- the recorder saw the script's events
 saw_script : (program : Program) (script : List Instruction) (i : Image) (m : Machine)
-    (from last : ChipView) (tape : Tape) → IsProgram program → is_geometry i.geometry ≡ true
+    (from last : ChipView) (tape : NotesView) → IsProgram program → is_geometry i.geometry ≡ true
     → TableFits i.geometry i.table → AllByRecursion IsPlain script → Started program i m from
     → HasBegun from → Kept from (recorded last tape) → from.log ≡ Some empty_log
     → DidAndRead (events_on m script) (reads_on m script) from (recorded last tape)
@@ -417,7 +417,7 @@ started_at program i m old from o ready e = record {
 -- a machine that was opened on the image, a recorder's view of its chip from the mark on, and what
 -- it came to where OUT was stored: the view of the chip then, and the recorder's tape
 pub record FirstDone (names : TraceNames) (script : List Instruction) (m : Machine)
-    (files : FolderView) (sink : SinkView) (old from last : ChipView) (tape : Tape)
+    (files : FolderView) (sink : SinkView) (old from last : ChipView) (tape : NotesView)
     (after : FolderView) (sent : SinkView) (refused : ℕ) : Type 0 where
   pub ready : IsReady m
   pub plain : AllByRecursion IsPlain script
@@ -431,7 +431,7 @@ pub record FirstDone (names : TraceNames) (script : List Instruction) (m : Machi
       (table_in m) script)
 
 module _ (names : TraceNames) (script : List Instruction) (m : Machine) (files : FolderView)
-    (sink : SinkView) (old from last : ChipView) (tape : Tape) (after : FolderView)
+    (sink : SinkView) (old from last : ChipView) (tape : NotesView) (after : FolderView)
     (sent : SinkView) (refused : ℕ)
     (d : FirstDone names script m files sink old from last tape after sent refused)
     (program : Program) (i : Image) (o : OpensOn program i m old) where
@@ -567,9 +567,9 @@ from_open names program script i end a b c g h = inl (
   ),
 )
 
-fits_not : (b : Bool) (told : Refusal) → unless_fits b ≡ Some told → b ≡ false
-fits_not true told e = absurd (cc)
-fits_not false told e = refl
+fits_not : (b : Bool) (known : Refusal) → unless_fits b ≡ Some known → b ≡ false
+fits_not true known e = absurd (cc)
+fits_not false known e = refl
 
 fits_so : (b : Bool) → unless_fits b ≡ None → b ≡ true
 fits_so true e = refl
@@ -612,7 +612,7 @@ pub total_unsent : (names : TraceNames) (program : Program) (script : List Instr
     (refused : ℕ) (a b : World) (files : FolderView) (s t : SinkView) (chip : ChipView)
     → Goes (Open ∷ []) Done a b
     → ScriptRecorded names program script i b (world files s chip) (Ok refused)
-    → Told (AppendsPart (total_line chip.counters refused)) s.sent t.sent → s.faults ≤ t.faults
+    → Known (AppendsPart (total_line chip.counters refused)) s.sent t.sent → s.faults ≤ t.faults
     → Rose s.faults t.faults
     → ScriptTraced names program script i a (world files t chip) (Err stop.PutFailed)
 total_unsent names program script i refused a b files s t chip g w p n r =
@@ -629,7 +629,7 @@ pub total_sent : (names : TraceNames) (program : Program) (script : List Instruc
     (refused : ℕ) (a b : World) (files : FolderView) (s t : SinkView) (chip : ChipView)
     → Goes (Open ∷ []) Done a b
     → ScriptRecorded names program script i b (world files s chip) (Ok refused)
-    → Told (λ before after. after ≡ before ++ total_line chip.counters refused) s.sent t.sent
+    → Known (λ before after. after ≡ before ++ total_line chip.counters refused) s.sent t.sent
     → s.faults ≤ t.faults
     → ScriptTraced names program script i a (world files t chip) (Ok refused)
 total_sent names program script i refused a b files s t chip g w p n =
@@ -677,10 +677,10 @@ pub image_not_loaded : (names : TraceNames) (program : Program) (script : List I
     → NotLoaded names.image.now IMAGE_MAX (reason_of why) old new
     → ImageTraced names program script (world old sink chip) (world new sink chip) (Err why)
 image_not_loaded names program script why old new sink chip n =
-    let text = told_text old.holds names.image.now in
+    let text = known_text old.holds names.image.now in
     record {
       text = text;
-      is_text = told_is_text old.holds names.image.now;
+      is_text = known_is_text old.holds names.image.now;
       came = inl (loading_stops names.image.now IMAGE_MAX text (image_of text) _ (reason_of why)
           (world old sink chip) (world new sink chip)
           (n text (refusal_of (image_of text)) sink chip));
@@ -739,8 +739,8 @@ pub script_not_read : (names : TraceNames) (program : Program) (why : Stop) (old
     → NotRead script_in names.script.now SCRIPT_MAX (reason_of why) old new
     → JobTraced names program (world old sink chip) (world new sink chip) (Err why)
 script_not_read names program why old new sink chip n = record {
-  texts = record { script = n.text; image = told_text old.holds names.image.now };
-  read = record { script = n.is_text; image = told_is_text old.holds names.image.now };
+  texts = record { script = n.text; image = known_text old.holds names.image.now };
+  read = record { script = n.is_text; image = known_is_text old.holds names.image.now };
   came = inl (loading_stops names.script.now SCRIPT_MAX n.text (script_in n.text) _ (reason_of why)
       (world old sink chip) (world new sink chip) (n.fails sink chip));
 }
@@ -782,14 +782,14 @@ pub prog_not_loaded : (names : TraceNames) (why : Stop) (old new : FolderView) (
     (chip : ChipView) → NotLoaded names.prog.now PROG_MAX (reason_of why) old new
     → TraceGoes names (world old sink chip) (world new sink chip) (Err why)
 prog_not_loaded names why old new sink chip n =
-    let text = told_text old.holds names.prog.now in
+    let text = known_text old.holds names.prog.now in
     record {
       prog = text;
       texts = no_texts (exec_names (exec_of names)) old.holds;
-      is_text = told_is_text old.holds names.prog.now;
+      is_text = known_is_text old.holds names.prog.now;
       read = record {
-        script = told_is_text old.holds names.script.now;
-        image = told_is_text old.holds names.image.now;
+        script = known_is_text old.holds names.script.now;
+        image = known_is_text old.holds names.image.now;
       };
       went = inl (loading_stops names.prog.now PROG_MAX text (prog_in text) (λ x. [])
           (reason_of why) (world old sink chip) (world new sink chip)
@@ -807,8 +807,8 @@ prog_no_program names why text fault old new sink chip loaded e f = record {
   is_text = loaded_text names.prog.now PROG_MAX text (world old sink chip) (world new sink chip)
       (loaded sink chip);
   read = record {
-    script = told_is_text old.holds names.script.now;
-    image = told_is_text old.holds names.image.now;
+    script = known_is_text old.holds names.script.now;
+    image = known_is_text old.holds names.image.now;
   };
   went = inl (loading_stops names.prog.now PROG_MAX text (prog_in text) (λ x. [])
       (reason_of why) (world old sink chip) (world new sink chip)

@@ -1,6 +1,6 @@
 -- The commands that load a program file and send an account of its program: `cost` and `list`.
 use Rattle.std.specs.Prelude.{◌≡◌, ◌⊎◌, ◌<◌, ◌≤◌, ℕ, List, [], ◌∷◌, ◌++◌, Some, Result, IfOk}
-use Rattle.host_edge.specs.Views.{Files, Told}
+use Rattle.host_edge.specs.Views.{Files, Known}
 use Rattle.bit_rows.specs.declared.TheConstants.{WIDTH_MAX}
 use Rattle.uprog_code.specs.Programs.{IsProgram}
 use Rattle.uprog_bin.specs.Spelling.{HasVersion, program_bytes}
@@ -53,7 +53,7 @@ pub record Accounted (name : List ℕ) (account : Account) (before after : Files
   pub has : HasVersion version program
   pub is : before name ≡ Some (program_bytes version program)
   pub files : after ≡ before
-  pub sent : Told (λ x y. y ≡ x ++ account_of account program) old.sink.sent new.sink.sent
+  pub sent : Known (λ x y. y ≡ x ++ account_of account program) old.sink.sent new.sink.sent
 
 -- what its parts come to, for its proof: it goes through its steps on the text of PROG
 pub record AccountGoes (name : List ℕ) (account : Account) (old new : World)

@@ -2,7 +2,7 @@
 use Rattle.std.specs.Prelude.{◌≡◌, ◌⊎◌, ◌==◌, ℕ, true, List, [], ◌∷◌, Some, IfSome}
 use Rattle.std.specs.List.{list_any}
 use denote.Ref.{Bor}
-use Rattle.host_edge.specs.Views.{Told}
+use Rattle.host_edge.specs.Views.{Known}
 use Rattle.cli_model.specs.World.{World}
 use Rattle.cli_model.specs.Ends.{Ends}
 use Rattle.simdram_cli.specs.declared.words.Command.{Command}
@@ -69,35 +69,35 @@ CommandEnds (Guard names) old new status = GuardEnds names old new status
 -- none, and promises it in any folder
 abbrev pub Promises : Command → World → World → ℕ → Type 0
 Promises (Run names) old new status = (status ≡ 0) ⊎ (status ≡ 8)
-    → Told (λ before after. Headline names before after old new status) old.files.holds
+    → Known (λ before after. Headline names before after old new status) old.files.holds
     new.files.holds
 Promises (Exec names) old new status = (status ≡ 0) ⊎ (status ≡ 8)
-    → Told (λ before after. Executed names before after old new status) old.files.holds
+    → Known (λ before after. Executed names before after old new status) old.files.holds
     new.files.holds
 Promises (Compile names) old new status = status ≡ 0
-    → Told (λ before after. Compiled names before after old new) old.files.holds new.files.holds
+    → Known (λ before after. Compiled names before after old new) old.files.holds new.files.holds
 Promises (Show name) old new status = status ≡ 0
     → IfSome old.files.holds (λ before. Shown name.now before old new)
 Promises (Migrate names) old new status = status ≡ 0
-    → Told (λ before after. Migrated names before after old new) old.files.holds new.files.holds
+    → Known (λ before after. Migrated names before after old new) old.files.holds new.files.holds
 Promises (Cost names) old new status = status ≡ 0
-    → Told (λ before after. Accounted names.prog.now (Costs names.width) before after old new)
+    → Known (λ before after. Accounted names.prog.now (Costs names.width) before after old new)
     old.files.holds new.files.holds
 Promises (ListOf name) old new status = status ≡ 0
-    → Told (λ before after. Accounted name.now Listing before after old new) old.files.holds
+    → Known (λ before after. Accounted name.now Listing before after old new) old.files.holds
     new.files.holds
 Promises (Init names) old new status = status ≡ 0
-    → Told (λ before after. Started names before after old new) old.files.holds new.files.holds
+    → Known (λ before after. Started names before after old new) old.files.holds new.files.holds
 Promises (Soak seed) old new status = status ≡ 0 → Soaked seed old new
 Promises (Scan names) old new status = status ≡ 0
     → IfSome old.files.holds (λ before. Scanned names before old new)
 Promises (Trace names) old new status = (status ≡ 0) ⊎ (status ≡ 8)
-    → Told (λ before after. Traced names before after old new status) old.files.holds
+    → Known (λ before after. Traced names before after old new status) old.files.holds
     new.files.holds
 Promises (Replay names) old new status = status ≡ 0
-    → Told (λ before after. Replayed names before after old new) old.files.holds new.files.holds
+    → Known (λ before after. Replayed names before after old new) old.files.holds new.files.holds
 Promises (Guard names) old new status = (status ≡ 0) ⊎ (status ≡ 8)
-    → Told (λ before after. Guarded names before after old new status) old.files.holds
+    → Known (λ before after. Guarded names before after old new status) old.files.holds
     new.files.holds
 
 -- where the words are a command

@@ -1,7 +1,7 @@
 -- The command `compile`.
 use Rattle.std.specs.Prelude.{◌≡◌, ◌≢◌, ◌⊎◌, map, ℕ, List, [], ◌∷◌, ◌++◌, Some, Result, IfOk}
 use Rattle.std.specs.Prelude.{length, codes, decimal}
-use Rattle.host_edge.specs.Views.{Files, Told}
+use Rattle.host_edge.specs.Views.{Files, Known}
 use Rattle.op_text.specs.Language.{Operation}
 use Rattle.uprog_code.specs.Programs.{IsProgram}
 use Rattle.uprog_code.specs.Texts.{ImplementsAll, text_op}
@@ -54,7 +54,7 @@ pub record Compiled (names : CompileNames) (before after : Files) (old new : Wor
   pub taken : IsTaken (program_bytes 2 program) program
   pub is : after names.prog.now ≡ Some (program_bytes 2 program)
   pub others : (other : List ℕ) → other ≢ names.prog.now → after other ≡ before other
-  pub sent : Told (λ x y. y ≡ x ++ compiled_line program) old.sink.sent new.sink.sent
+  pub sent : Known (λ x y. y ≡ x ++ compiled_line program) old.sink.sent new.sink.sent
 
 -- what its parts come to, for its proof: it stopped before PROG was stored, or its program does the
 -- ops and it goes through its steps

@@ -5,7 +5,7 @@ use Rattle.std.specs.Prelude.{Option, Some, None, Result, Ok}
 use Rattle.std.specs.List.{list_any}
 use Rattle.fault_counts.specs.Counts.{Rose}
 use Rattle.dram_model.specs.declared.geometry.Geometry.{Geometry}
-use Rattle.host_edge.specs.Views.{Files, Told}
+use Rattle.host_edge.specs.Views.{Files, Known}
 use Rattle.cli_model.specs.World.{World}
 use Rattle.cli_model.specs.Steps.{Refusal, Unopened}
 use Rattle.cli_model.specs.Ends.{Sends}
@@ -119,7 +119,7 @@ Completes command old new status =
 -- at entry; and the chip is, or has not begun
 pub record IsSpared (but : Option (List ℕ)) (old new : World) : Type 0 where
   pub sent : Sends [] (codes "no memory\n") old new
-  pub files : Told (λ before after. (name : List ℕ) → but ≢ Some name → after name ≡ before name)
+  pub files : Known (λ before after. (name : List ℕ) → but ≢ Some name → after name ≡ before name)
       old.files.holds new.files.holds
   pub chip : Unopened old.chip new.chip
 

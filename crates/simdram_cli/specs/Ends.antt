@@ -57,7 +57,7 @@ abbrev pub JobDone : Program → Texts → ChipView → ℕ → Type 0
 JobDone program texts chip refused =
     DoneBy program (script_in texts.script) (image_of texts.image) chip refused
 
--- the texts are those of the files, where these are told
+-- the texts are those of the files, where these are known
 pub record IsRead (names : JobNames) (texts : Texts) (holds : Option Files) : Type 0 where
   pub script : IsText holds names.script.now texts.script
   pub image : IsText holds names.image.now texts.image

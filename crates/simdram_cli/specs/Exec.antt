@@ -1,7 +1,7 @@
 -- The command `exec`.
 use Rattle.std.specs.Prelude.{◌≡◌, ◌≢◌, ◌⊎◌, ℕ, ◌<◌, false, List, [], ◌∷◌, ◌++◌, Option, Some}
 use Rattle.std.specs.Prelude.{Result, Ok, Err, IfOk}
-use Rattle.host_edge.specs.Views.{Files, Told}
+use Rattle.host_edge.specs.Views.{Files, Known}
 use Rattle.dram_model.specs.Chip.{row_in}
 use Rattle.dram_model.specs.View.{ChipView}
 use Rattle.uprog_code.specs.Programs.{IsProgram}
@@ -79,7 +79,7 @@ pub record RowByRow (out : List ℕ) (program : Program) (script : List Instruct
   pub work : WorkDone program script i new.chip (refused_by program script i)
   pub file : after out ≡ Some (image_by program script i)
   pub stay : RowsStay program script i new.chip
-  pub sent : Told (λ x y. y ≡ x ++ report (said_in program script i) new.chip.counters
+  pub sent : Known (λ x y. y ≡ x ++ report (said_in program script i) new.chip.counters
       (replies_by program script i)) old.sink.sent new.sink.sent
   pub answers : status ≡ done_status (refused_by program script i)
 
@@ -88,8 +88,8 @@ pub record RowByRow (out : List ℕ) (program : Program) (script : List Instruct
 -- of the destinations' segments. So its sources and all other objects stay
 abbrev pub StaysInside : Program → List Instruction → Image → Type 0
 StaysInside program script i =
-    (before : List Instruction) (instr : Instruction) (behind : List Instruction) (bank row : ℕ)
-    → before ++ instr ∷ behind ≡ script
+    (before : List Instruction) (instr : Instruction) (following : List Instruction) (bank row : ℕ)
+    → before ++ instr ∷ following ≡ script
     → (let o = routines_in program in
     is_touched i.geometry o (table_at_end i.geometry o i.table before) instr bank row ≡ false
     → row_in row (banks_at_end i.geometry o i.table (opened i) (before ++ instr ∷ []) bank)

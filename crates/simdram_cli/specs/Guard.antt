@@ -2,7 +2,7 @@
 use Rattle.std.specs.Prelude.{◌≡◌, ◌≢◌, ◌⊎◌, ℕ, ◌*◌, map, List, [], ◌∷◌, ◌++◌, length, count_by}
 use Rattle.std.specs.Prelude.{Option, Some, None, Result, Ok, Err, IfOk}
 use Rattle.std.specs.List.{AllByRecursion}
-use Rattle.host_edge.specs.Views.{Files, Told}
+use Rattle.host_edge.specs.Views.{Files, Known}
 use Rattle.dram_model.specs.declared.dram.Counters.{Counters}
 use Rattle.dram_model.specs.Chip.{Banks, Event, LogIs}
 use Rattle.dram_model.specs.View.{ChipView, with_reads}
@@ -74,7 +74,7 @@ votes_of job = votes_at_end job.image.geometry (routines_in job.program) job.ima
     job.script
 
 -- The banks after the flips, the votes and the instructions; what is said with the values that the
--- banks hold when they are printed; and the events, behind the writes of the image's rows
+-- banks hold when they are printed; and the events, after the writes of the image's rows
 
 abbrev pub banks_at_last : GuardJob → Banks
 banks_at_last job = guarded_rows_at_end job.image.geometry (routines_in job.program) job.flips 1
@@ -172,7 +172,7 @@ guard_status None = 0
 guard_status (Some job) = done_status (refused_of job)
 
 -- The job was done, row by row, with so many instructions refused: the banks are what the flips,
--- the votes and the program's commands leave, the counters count them, and a log that is told has
+-- the votes and the program's commands leave, the counters count them, and a log that is known has
 -- the image's writes and then these events
 pub record GuardDone (job : GuardJob) (chip : ChipView) (refused : ℕ) : Type 0 where
   pub banks : chip.banks ≡ banks_at_last job
@@ -195,7 +195,7 @@ abbrev pub IsGuardDone : Ended → Option GuardJob → ChipView → Type 0
 IsGuardDone All job chip = (refused : ℕ) × GuardDoneBy job chip refused
 IsGuardDone (At stop) job chip = Unit {0}
 
--- the texts are those of the files, where these are told
+-- the texts are those of the files, where these are known
 pub record AreGuardTexts (names : GuardNames) (texts : GuardTexts) (holds : Option Files)
     : Type 0 where
   pub script : IsText holds names.script.now texts.script
@@ -239,7 +239,7 @@ pub record GuardedRows (out : List ℕ) (job : GuardJob) (after : Files) (old ne
   pub log : LogIs (events_of job) new.chip.log
   pub file : after out
       ≡ Some (image_bytes job.image.geometry (table_at_last job) (rows_of new.chip.banks))
-  pub sent : Told (λ x y. y ≡ x ++ guarded_report (said_of job) (votes_of job) (length job.flips)
+  pub sent : Known (λ x y. y ≡ x ++ guarded_report (said_of job) (votes_of job) (length job.flips)
       new.chip.counters (replies_of job)) old.sink.sent new.sink.sent
   pub answers : status ≡ done_status (refused_of job)
 
@@ -270,7 +270,7 @@ pub record IsMendable (t : List TextOp) (job : GuardJob) : Type 0 where
 -- What was sent is what the guarded word machine says of the script; each object has exactly its
 -- numbers; the three copies of each are equal; and each holds what the word machine holds of one
 pub record Mended (t : List TextOp) (job : GuardJob) (old new : World) : Type 0 where
-  pub sent : Told (λ x y. y ≡ x ++ guarded_report (said_by t job) (votes_of job) (length job.flips)
+  pub sent : Known (λ x y. y ≡ x ++ guarded_report (said_by t job) (votes_of job) (length job.flips)
       new.chip.counters (replies_by t job)) old.sink.sent new.sink.sent
   pub numbers : HoldsNumbers job.image.geometry new.chip.banks (state_by t job)
   pub equal : EqualCopies (state_by t job)

@@ -3,7 +3,7 @@ use Rattle.std.specs.Prelude.{map, ◌≡◌, ◌≢◌, ℕ, ◌+◌, ◌*◌, 
 use Rattle.std.specs.Prelude.{None, Result, IfSome, count_by}
 use Rattle.std.specs.List.{AllByRecursion}
 use Rattle.std.specs.Result.{result_ok}
-use Rattle.host_edge.specs.Views.{Files, Told}
+use Rattle.host_edge.specs.Views.{Files, Known}
 use Rattle.dram_model.specs.Chip.{LogIs, row_in}
 use Rattle.dram_model.specs.View.{ChipView}
 use Rattle.object_alloc.specs.Spelling.{image_bytes}
@@ -114,9 +114,9 @@ report_of job chip =
     report (said_in_words job.image.geometry (operations job) (meaning_in job.text)
     (words_of job.image) job.script) chip.counters (replies_of job)
 
--- The report was sent, behind what was sent before
+-- The report was sent, after what was sent before
 abbrev pub ReportSent : RunJob → ChipView → Option (List ℕ) → Option (List ℕ) → Type 0
-ReportSent job chip old new = Told (λ before after. after ≡ before ++ report_of job chip) old new
+ReportSent job chip old new = Known (λ before after. after ≡ before ++ report_of job chip) old new
 
 abbrev pub IsNoBadWalk : Reply → Type 0
 IsNoBadWalk reply = (walk : _) → reply ≢ Refused (why.BadWalk walk)

@@ -1,6 +1,6 @@
 -- The command `init`.
 use Rattle.std.specs.Prelude.{◌≡◌, ◌≢◌, ℕ, List, [], ◌∷◌, Some, Result, IfOk}
-use Rattle.host_edge.specs.Views.{Files, Told}
+use Rattle.host_edge.specs.Views.{Files, Known}
 use Rattle.object_alloc.specs.Spelling.{image_bytes, blank_rows}
 use Rattle.cli_model.specs.World.{World}
 use Rattle.cli_model.specs.Steps.{Step, Take, Store, Goes}
@@ -20,7 +20,7 @@ init_steps names = Take ∷ Store names.out.now (empty_image names) ∷ []
 pub record Started (names : InitNames) (before after : Files) (old new : World) : Type 0 where
   pub is : after names.out.now ≡ Some (empty_image names)
   pub others : (other : List ℕ) → other ≢ names.out.now → after other ≡ before other
-  pub sent : Told (λ x y. y ≡ x) old.sink.sent new.sink.sent
+  pub sent : Known (λ x y. y ≡ x) old.sink.sent new.sink.sent
 
 -- it goes through its steps, for its proof
 pub record InitGoes (names : InitNames) (old new : World) (result : Result ℕ Stop) : Type 0 where

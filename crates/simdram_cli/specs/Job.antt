@@ -1,4 +1,4 @@
--- A job: SCRIPT is done on IMAGE with a program. What is said of it, what stands behind it, and its
+-- A job: SCRIPT is done on IMAGE with a program. What is said of it, what stands after it, and its
 -- steps.
 use Rattle.std.specs.Prelude.{ℕ, ◌+◌, ◌*◌, Bool, true, false, List, [], ◌∷◌, ◌++◌, length, count_by}
 use Rattle.std.specs.Prelude.{nat_lt, if◌then◌else◌, Result, Ok, Err}

@@ -2,7 +2,7 @@
 use Rattle.std.specs.Prelude.{◌≡◌, ◌≢◌, ◌⊎◌, ℕ, List, [], ◌∷◌, ◌++◌, Some, Result, IfOk, length}
 use Rattle.std.specs.Prelude.{codes}
 use Rattle.std.specs.Prelude.{decimal}
-use Rattle.host_edge.specs.Views.{Files, Told}
+use Rattle.host_edge.specs.Views.{Files, Known}
 use Rattle.uprog_code.specs.Programs.{IsProgram}
 use Rattle.uprog_bin.specs.Spelling.{HasVersion, program_bytes}
 use Rattle.uprog_bin.specs.Opened.{IsProgramFile}
@@ -45,7 +45,7 @@ pub record Migrated (names : MigrateNames) (before after : Files) (old new : Wor
   pub was : before names.old.now ≡ Some (program_bytes version program)
   pub is : after names.new.now ≡ Some (program_bytes 2 program)
   pub others : (other : List ℕ) → other ≢ names.new.now → after other ≡ before other
-  pub sent : Told (λ x y. y ≡ x ++ migrated_line program) old.sink.sent new.sink.sent
+  pub sent : Known (λ x y. y ≡ x ++ migrated_line program) old.sink.sent new.sink.sent
 
 -- what its parts come to, for its proof: it goes through its steps on the text of OLD
 pub record MigrateGoes (names : MigrateNames) (old new : World) (result : Result ℕ Stop) : Type 0

@@ -13,7 +13,7 @@ abbrev pub refusal_of : {A : Type 0} → Result A Refusal → Option Refusal
 refusal_of (Ok x) = None
 refusal_of (Err refusal) = Some refusal
 
--- the text of the file, where it is told and is there
+-- the text of the file, where it is known and is there
 abbrev pub IsText : Option Files → List ℕ → List ℕ → Type 0
 IsText holds name text = IfSome holds (λ files. IfSome (files name) (λ bytes. bytes ≡ text))
 

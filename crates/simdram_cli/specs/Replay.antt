@@ -6,7 +6,7 @@ use Rattle.dram_model.specs.declared.dram.Counters.{Counters}
 use Rattle.dram_model.specs.Chip.{Event, LogIs}
 use Rattle.dram_model.specs.Chip.Event.{Row, Write}
 use Rattle.dram_model.specs.View.{ChipView}
-use Rattle.host_edge.specs.Views.{Files, Told}
+use Rattle.host_edge.specs.Views.{Files, Known}
 use Rattle.object_alloc.specs.Spelling.{image_bytes}
 use Rattle.machine_model.specs.Opened.{Image, row_writes, rows_of}
 use Rattle.trace_model.specs.Spelling.{IsTrace, Trace, bytes_of_trace}
@@ -28,7 +28,7 @@ pub record ReplayTexts : Type 0 where
   pub trace : List ℕ
   pub image : List ℕ
 
--- they are those of the files, where these are told
+-- they are those of the files, where these are known
 pub record AreReplayTexts (names : ReplayNames) (texts : ReplayTexts) (holds : Option Files)
     : Type 0 where
   pub trace : IsText holds names.trace.now texts.trace
@@ -88,7 +88,7 @@ replay_steps names texts = loading names.trace.now TRACE_MAX texts.trace (trace_
     (λ t. on_image_steps names t texts.image)
 
 -- The trace's events were done on the image, and nothing else: the banks are what they leave, the
--- counters count them, and a log that is told has the image's writes and then the trace's events
+-- counters count them, and a log that is known has the image's writes and then the trace's events
 pub record EventsDone (t : Trace) (i : Image) (chip : ChipView) : Type 0 where
   pub banks : chip.banks ≡ replayed t.events i
   pub counters : chip.counters ≡ replay_counters t
@@ -130,7 +130,7 @@ pub record Replayed (names : ReplayNames) (before after : Files) (old new : Worl
   pub events : EventsDone trace image new.chip
   pub file : after names.out.now ≡ Some (image_replayed trace image)
   pub others : (other : List ℕ) → other ≢ names.out.now → after other ≡ before other
-  pub sent : Told (λ x y. y ≡ x ++ replay_line new.chip.counters) old.sink.sent new.sink.sent
+  pub sent : Known (λ x y. y ≡ x ++ replay_line new.chip.counters) old.sink.sent new.sink.sent
 
 -- what its parts come to, for its proof
 

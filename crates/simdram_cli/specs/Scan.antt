@@ -2,7 +2,7 @@
 use Rattle.std.specs.Prelude.{◌≡◌, ◌⊎◌, ℕ, ◌*◌, List, [], ◌∷◌, ◌++◌, Option, Some, None, Result}
 use Rattle.std.specs.Prelude.{Ok, Err, IfSome, count_by, codes, decimal}
 use Rattle.std.specs.List.{range_with_len}
-use Rattle.host_edge.specs.Views.{Files, FolderView, Told}
+use Rattle.host_edge.specs.Views.{Files, FolderView, Known}
 use Rattle.dram_model.specs.declared.dram.Counters.{Counters}
 use Rattle.dram_model.specs.declared.geometry.Geometry.{Geometry}
 use Rattle.dram_model.specs.Chip.{LogIs}
@@ -47,7 +47,7 @@ pub record ScanTexts : Type 0 where
   pub query : List ℕ
   pub image : List ℕ
 
--- they are those of the files, where these are told
+-- they are those of the files, where these are known
 pub record AreRead (names : ScanNames) (texts : ScanTexts) (holds : Option Files) : Type 0 where
   pub query : IsText holds names.query.now texts.query
   pub image : IsText holds names.image.now texts.image
@@ -132,7 +132,7 @@ scan_counters g of counts = record {
 }
 
 -- The query's instructions were done on the image, and nothing else: the banks are what the
--- program's commands leave, and a log that is told has the image's writes and then the
+-- program's commands leave, and a log that is known has the image's writes and then the
 -- instructions' events
 pub record QueryDone (program : Program) (q : Query) (i : Image) (chip : ChipView) : Type 0 where
   pub banks : chip.banks ≡ banks_at_end i.geometry (routines_in program) i.table (opened i)
@@ -174,10 +174,10 @@ pub record ScanEnds (names : ScanNames) (old new : World) (status : ℕ) : Type 
   pub read : AreRead names texts old.files.holds
   pub asks : query_in texts.query ≡ Ok tt → Asks texts.query query
   pub does : IfSome made DoesScans
-  pub told : World
+  pub stood : World
   pub ends : Ends (scan_steps names texts made query)
-      (scan_status (refusal_on made query (image_of texts.image))) old told status
-  pub last : TellsLast ends.ended (refusal_on made query (image_of texts.image)) told new
+      (scan_status (refusal_on made query (image_of texts.image))) old stood status
+  pub last : TellsLast ends.ended (refusal_on made query (image_of texts.image)) stood new
   pub left : IsLeft ends.ended made query (image_of texts.image) new.chip
   pub files : new.files.holds ≡ old.files.holds
 
@@ -195,7 +195,7 @@ pub record Scanned (names : ScanNames) (before : Files) (old new : World) : Type
   pub fits : checked image.table (nodes_of query) ≡ None
   pub room : scan_refused image.geometry (routines_in program) image.table query ≡ None
   pub work : QueryDone program query image new.chip
-  pub sent : Told (λ x y. y ≡ x ++ count_line (number_found query image)
+  pub sent : Known (λ x y. y ≡ x ++ count_line (number_found query image)
       (query_count image.table query) (scan_counts program query image)) old.sink.sent new.sink.sent
   pub counters : new.chip.counters ≡ scan_counters image.geometry
       (query_count image.table query) (scan_counts program query image)
@@ -232,7 +232,7 @@ abbrev pub Went : List Step → Option Refusal → (ChipView → Type 0) → Res
 Went steps refusal left (Ok refused) old new =
     (refused ≡ 0) × (refusal ≡ None) × Goes steps Done old new × left new.chip
 Went steps refusal left (Err stop) old new = Goes steps (Stopped (reason_of stop)) old new
-    ⊎ ((told : Refusal) × (refusal ≡ Some told) × (reason_of stop ≡ Refused told)
+    ⊎ ((said : Refusal) × (refusal ≡ Some said) × (reason_of stop ≡ Refused said)
     × Goes steps Done old new × left new.chip)
 
 -- IMAGE was loaded, and the query was done on it

@@ -1,6 +1,6 @@
 -- The command `show`.
 use Rattle.std.specs.Prelude.{◌≡◌, ◌⊎◌, ℕ, List, [], ◌∷◌, ◌++◌, Result, IfOk}
-use Rattle.host_edge.specs.Views.{Files, Told}
+use Rattle.host_edge.specs.Views.{Files, Known}
 use Rattle.op_text.specs.Language.{Operation}
 use Rattle.op_text.specs.OpsOf.{IsOpsOf}
 use Rattle.op_print.specs.Canonical.{canonical_text}
@@ -31,7 +31,7 @@ pub record ShowEnds (name : List ℕ) (old new : World) (status : ℕ) : Type 0 
 pub record Shown (name : List ℕ) (before : Files) (old new : World) : Type 0 where
   pub ops : List Operation
   pub is : Spells (before name) ops
-  pub sent : Told (λ x y. y ≡ x ++ canonical_text ops) old.sink.sent new.sink.sent
+  pub sent : Known (λ x y. y ≡ x ++ canonical_text ops) old.sink.sent new.sink.sent
 
 -- what its parts come to, for its proof
 

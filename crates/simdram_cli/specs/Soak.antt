@@ -1,6 +1,6 @@
 -- The command `soak`.
 use Rattle.std.specs.Prelude.{◌≡◌, ℕ, List, ◌++◌, Result, IfOk}
-use Rattle.host_edge.specs.Views.{Told}
+use Rattle.host_edge.specs.Views.{Known}
 use Rattle.uprog_code.specs.Shape.{Microprogram}
 use Rattle.cli_model.specs.World.{World}
 use Rattle.cli_model.specs.Steps.{Goes}
@@ -29,7 +29,7 @@ pub record Soaked (seed : ℕ) (old new : World) : Type 0 where
   pub programs : List Microprogram
   pub are : AreProgramsOf soak_cases programs
   pub left : SoakLeft seed programs new.chip
-  pub sent : Told (λ x y. y ≡ x ++ sent_by (soak_steps seed programs)) old.sink.sent new.sink.sent
+  pub sent : Known (λ x y. y ≡ x ++ sent_by (soak_steps seed programs)) old.sink.sent new.sink.sent
   pub files : new.files ≡ old.files
 
 -- it goes through its steps, for its proof

@@ -130,10 +130,10 @@ pub record TraceEnds (names : TraceNames) (old new : World) (status : ℕ) : Typ
   pub texts : Texts
   pub is_text : IsText old.files.holds names.prog.now prog
   pub read : IsRead (exec_names (exec_of names)) texts old.files.holds
-  pub told : World
+  pub stood : World
   pub ends : Ends (trace_steps names prog texts) (status_or (full_with (prog_in prog) texts)
-      (status_with (prog_in prog) texts)) old told status
-  pub last : TellsLast ends.ended (full_with (prog_in prog) texts) told new
+      (status_with (prog_in prog) texts)) old stood status
+  pub last : TellsLast ends.ended (full_with (prog_in prog) texts) stood new
   pub file : (done_steps (trace_steps names prog texts) ends.ended ≡ [] → ⊥) → IsProgramFile prog
   pub done : IsDoneWith ends.ended (prog_in prog) texts (unlogged new.chip)
 
@@ -186,7 +186,7 @@ abbrev pub Came : List Step → Option Refusal → (ChipView → ℕ → Type 0)
 Came steps full done (Ok refused) old new =
     (full ≡ None) × Goes steps Done old new × done (unlogged new.chip) refused
 Came steps full done (Err stop) old new = Goes steps (Stopped (reason_of stop)) old new
-    ⊎ ((told : Refusal) × (full ≡ Some told) × (reason_of stop ≡ Refused told)
+    ⊎ ((said : Refusal) × (full ≡ Some said) × (reason_of stop ≡ Refused said)
     × Goes steps Done old new × ((refused : ℕ) × done (unlogged new.chip) refused))
 
 -- A machine was opened on an image with an accepted program, and so was its chip

@@ -99,20 +99,20 @@ abbrev pub soak_on : List ℕ → Option Command
 soak_on seed =
     if is_number seed && nat_lt (value_of seed) (2 ^ 64) then Some (Soak (value_of seed)) else None
 
--- the command of one word behind its own
+-- the command of one word after its own
 abbrev pub command_on_one : List ℕ → Bor (List ℕ) → Option Command
 command_on_one verb word =
     if bytes_eq verb (codes "show") then Some (Show word)
     else if bytes_eq verb (codes "list") then Some (ListOf word)
     else if bytes_eq verb (codes "soak") then soak_on word.now else None
 
--- the command of three words behind its own
+-- the command of three words after its own
 abbrev pub command_on_three : List ℕ → (first second third : Bor (List ℕ)) → Option Command
 command_on_three verb first second third =
     if bytes_eq verb (codes "replay") && replay_apart first.now second.now third.now
     then Some (Replay (record { trace = first; image = second; out = third })) else None
 
--- the command of four words behind its own
+-- the command of four words after its own
 abbrev pub command_on_four : List ℕ → (first second third fourth : Bor (List ℕ)) → Option Command
 command_on_four verb first second third fourth =
     if bytes_eq verb (codes "init") then init_on first.now second.now third.now fourth

@@ -27,7 +27,7 @@ pub record OpenedOn (i : Image) (chip : ChipView) : Type 0 where
   pub log : LogIs (row_writes i) chip.log
 
 -- The script was done on the image, row by row, with so many instructions refused: the banks are
--- what the program's commands leave, the counters count them, and a log that is told has the
+-- what the program's commands leave, the counters count them, and a log that is known has the
 -- image's writes and then the script's events
 pub record WorkDone (program : Program) (script : List Instruction) (i : Image) (chip : ChipView)
     (refused : ℕ) : Type 0 where

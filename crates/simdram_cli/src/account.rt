@@ -14,7 +14,7 @@ use prog_text::{cost_text, list_text};
 use std::alloc::Global;
 use uprog_bin::ProgView;
 
-/// What is told of a program: its listing, or what its entries cost at a width.
+/// What is reported of a program: its listing, or what its entries cost at a width.
 #[derive(Clone, Copy)]
 pub(crate) enum Account {
     Listing,

@@ -110,7 +110,7 @@ fn finish<'a, F: Folder, S: Sink>(
     Ok(())
 }
 
-/// Does a trace's events on an image of its geometry, stores the image behind them, and puts how
+/// Does a trace's events on an image of its geometry, stores the image after them, and puts how
 /// many commands the chip did. Nothing is refused.
 fn replay_on<'a, F: Folder, S: Sink, D: Dram>(
     trace: &TraceView<'_>,
@@ -163,7 +163,7 @@ fn replay_on_image<'a, F: Folder, S: Sink, D: Dram>(
     replay_on(trace, image, names.out, files, out, chip, alloc)
 }
 
-/// Does the events of TRACE on IMAGE, stores the image behind them as OUT, and puts how many
+/// Does the events of TRACE on IMAGE, stores the image after them as OUT, and puts how many
 /// commands the chip did. Nothing is refused.
 pub(crate) fn replay<'a, F: Folder, S: Sink, D: Dram>(
     names: &ReplayNames<'a>,

@@ -107,7 +107,7 @@ fn count_line(found: u32, of: u32, counts: Counts) -> Line
     text
 }
 
-/// Puts how many elements were found. A refusal is left to be told.
+/// Puts how many elements were found. A refusal is left to be reported.
 fn put_answer<'a, S: Sink>(reply: ScanReply, out: &mut S) -> Result<u64, Stop<'a>>
     ensures { (files : FolderView) (chip : ChipView)
         → Went (put_steps (answer_of reply)) (why_not (answer_of reply)) (λ view. Unit {0}) result

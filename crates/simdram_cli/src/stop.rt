@@ -1,7 +1,7 @@
 //! Why a command stops, its exit status and its last line.
 
 ghost use Rattle.std.specs.Prelude.{OnOk, OnErr, ◌≡◌, ◌≤◌, ◌++◌, codes, decimal};
-ghost use Rattle.host_edge.specs.Views.{Told, AppendsPart};
+ghost use Rattle.host_edge.specs.Views.{Known, AppendsPart};
 ghost use Rattle.fault_counts.specs.Counts.{Rose};
 ghost use Rattle.cli_model.specs.Status.{reason_status, reason_line};
 ghost use Rattle.simdram_cli.specs.Inputs.{kind_word, ops_refusal, script_word, script_refusal};
@@ -77,10 +77,10 @@ pub(crate) fn put_three<S: Sink>(
     out: &mut S,
 ) -> Result<(), Failed>
     ensures counts { (S.view out.old).faults ≤ (S.view out.new).faults }
-    ensures sent { OnOk result (Told (λ before after. after
+    ensures sent { OnOk result (Known (λ before after. after
         ≡ before ++ (first.now ++ second.now ++ third.now)) (S.view out.old).sent
         (S.view out.new).sent) }
-    ensures part { Told (AppendsPart (first.now ++ second.now ++ third.now)) (S.view out.old).sent
+    ensures part { Known (AppendsPart (first.now ++ second.now ++ third.now)) (S.view out.old).sent
         (S.view out.new).sent }
     ensures failed { OnErr result (Rose (S.view out.old).faults (S.view out.new).faults) }
 {
@@ -108,9 +108,9 @@ fn kind_end(kind: OpsKind) -> &'static [u8]
 /// Puts the line of a text of operations that breaks a rule.
 fn tell_ops<S: Sink>(fault: OpsFault, out: &mut S) -> Result<(), Failed>
     ensures counts { (S.view out.old).faults ≤ (S.view out.new).faults }
-    ensures sent { OnOk result (Told (λ before after. after ≡ before ++ ((ops_refusal fault).line))
+    ensures sent { OnOk result (Known (λ before after. after ≡ before ++ ((ops_refusal fault).line))
         (S.view out.old).sent (S.view out.new).sent) }
-    ensures part { Told (AppendsPart (ops_refusal fault).line) (S.view out.old).sent
+    ensures part { Known (AppendsPart (ops_refusal fault).line) (S.view out.old).sent
         (S.view out.new).sent }
     ensures failed { OnErr result (Rose (S.view out.old).faults (S.view out.new).faults) }
 {
@@ -143,9 +143,10 @@ fn prog_end(kind: ProgKind) -> &'static [u8]
 /// Puts the line of a program file that breaks a rule.
 fn tell_prog<S: Sink>(fault: ProgFault, out: &mut S) -> Result<(), Failed>
     ensures counts { (S.view out.old).faults ≤ (S.view out.new).faults }
-    ensures sent { OnOk result (Told (λ before after. after ≡ before ++ ((prog_refusal fault).line))
+    ensures sent { OnOk result (Known (λ before after. after ≡ before
+        ++ ((prog_refusal fault).line))
         (S.view out.old).sent (S.view out.new).sent) }
-    ensures part { Told (AppendsPart (prog_refusal fault).line) (S.view out.old).sent
+    ensures part { Known (AppendsPart (prog_refusal fault).line) (S.view out.old).sent
         (S.view out.new).sent }
     ensures failed { OnErr result (Rose (S.view out.old).faults (S.view out.new).faults) }
 {
@@ -173,9 +174,9 @@ fn script_end(kind: ScriptKind) -> &'static [u8]
 /// Puts the line of a script that breaks a rule.
 fn tell_script<S: Sink>(fault: ScriptFault, out: &mut S) -> Result<(), Failed>
     ensures counts { (S.view out.old).faults ≤ (S.view out.new).faults }
-    ensures sent { OnOk result (Told (λ before after. after
+    ensures sent { OnOk result (Known (λ before after. after
         ≡ before ++ ((script_refusal fault).line)) (S.view out.old).sent (S.view out.new).sent) }
-    ensures part { Told (AppendsPart (script_refusal fault).line) (S.view out.old).sent
+    ensures part { Known (AppendsPart (script_refusal fault).line) (S.view out.old).sent
         (S.view out.new).sent }
     ensures failed { OnErr result (Rose (S.view out.old).faults (S.view out.new).faults) }
 {
@@ -206,9 +207,9 @@ fn image_end(kind: ImageKind) -> &'static [u8]
 /// Puts the line of an image file that breaks a rule.
 fn tell_image<S: Sink>(fault: ImageFault, out: &mut S) -> Result<(), Failed>
     ensures counts { (S.view out.old).faults ≤ (S.view out.new).faults }
-    ensures sent { OnOk result (Told (λ before after. after
+    ensures sent { OnOk result (Known (λ before after. after
         ≡ before ++ ((image_refusal fault).line)) (S.view out.old).sent (S.view out.new).sent) }
-    ensures part { Told (AppendsPart (image_refusal fault).line) (S.view out.old).sent
+    ensures part { Known (AppendsPart (image_refusal fault).line) (S.view out.old).sent
         (S.view out.new).sent }
     ensures failed { OnErr result (Rose (S.view out.old).faults (S.view out.new).faults) }
 {
@@ -237,9 +238,9 @@ fn query_end(kind: QueryKind) -> &'static [u8]
 /// Puts the line of a query text that breaks a rule.
 fn tell_query<S: Sink>(fault: QueryFault, out: &mut S) -> Result<(), Failed>
     ensures counts { (S.view out.old).faults ≤ (S.view out.new).faults }
-    ensures sent { OnOk result (Told (λ before after. after
+    ensures sent { OnOk result (Known (λ before after. after
         ≡ before ++ ((query_refusal fault).line)) (S.view out.old).sent (S.view out.new).sent) }
-    ensures part { Told (AppendsPart (query_refusal fault).line) (S.view out.old).sent
+    ensures part { Known (AppendsPart (query_refusal fault).line) (S.view out.old).sent
         (S.view out.new).sent }
     ensures failed { OnErr result (Rose (S.view out.old).faults (S.view out.new).faults) }
 {
@@ -268,9 +269,9 @@ fn refused_front(why: ScanWhy) -> &'static [u8]
 /// Puts the line of a query that is refused.
 fn tell_scan<S: Sink>(why: ScanWhy, k: u8, out: &mut S) -> Result<(), Failed>
     ensures counts { (S.view out.old).faults ≤ (S.view out.new).faults }
-    ensures sent { OnOk result (Told (λ before after. after
+    ensures sent { OnOk result (Known (λ before after. after
         ≡ before ++ ((scan_refusal why k).line)) (S.view out.old).sent (S.view out.new).sent) }
-    ensures part { Told (AppendsPart (scan_refusal why k).line) (S.view out.old).sent
+    ensures part { Known (AppendsPart (scan_refusal why k).line) (S.view out.old).sent
         (S.view out.new).sent }
     ensures failed { OnErr result (Rose (S.view out.old).faults (S.view out.new).faults) }
 {
@@ -281,9 +282,9 @@ fn tell_scan<S: Sink>(why: ScanWhy, k: u8, out: &mut S) -> Result<(), Failed>
 /// Puts the line of an instruction that names an object of more than 15 bytes.
 fn tell_name<S: Sink>(k: u32, out: &mut S) -> Result<(), Failed>
     ensures counts { (S.view out.old).faults ≤ (S.view out.new).faults }
-    ensures sent { OnOk result (Told (λ before after. after ≡ before ++ ((name_refusal k).line))
+    ensures sent { OnOk result (Known (λ before after. after ≡ before ++ ((name_refusal k).line))
         (S.view out.old).sent (S.view out.new).sent) }
-    ensures part { Told (AppendsPart (name_refusal k).line) (S.view out.old).sent
+    ensures part { Known (AppendsPart (name_refusal k).line) (S.view out.old).sent
         (S.view out.new).sent }
     ensures failed { OnErr result (Rose (S.view out.old).faults (S.view out.new).faults) }
 {
@@ -294,9 +295,9 @@ fn tell_name<S: Sink>(k: u32, out: &mut S) -> Result<(), Failed>
 /// Puts the line of a table whose objects do not stand in three copies.
 fn tell_table<S: Sink>(k: u16, out: &mut S) -> Result<(), Failed>
     ensures counts { (S.view out.old).faults ≤ (S.view out.new).faults }
-    ensures sent { OnOk result (Told (λ before after. after ≡ before ++ ((table_refusal k).line))
+    ensures sent { OnOk result (Known (λ before after. after ≡ before ++ ((table_refusal k).line))
         (S.view out.old).sent (S.view out.new).sent) }
-    ensures part { Told (AppendsPart (table_refusal k).line) (S.view out.old).sent
+    ensures part { Known (AppendsPart (table_refusal k).line) (S.view out.old).sent
         (S.view out.new).sent }
     ensures failed { OnErr result (Rose (S.view out.old).faults (S.view out.new).faults) }
 {
@@ -318,9 +319,9 @@ fn flips_end(kind: FlipsKind) -> &'static [u8]
 /// Puts the line of a text of flips that breaks a rule.
 fn tell_flips<S: Sink>(fault: FlipsFault, out: &mut S) -> Result<(), Failed>
     ensures counts { (S.view out.old).faults ≤ (S.view out.new).faults }
-    ensures sent { OnOk result (Told (λ before after. after
+    ensures sent { OnOk result (Known (λ before after. after
         ≡ before ++ ((flips_refusal fault).line)) (S.view out.old).sent (S.view out.new).sent) }
-    ensures part { Told (AppendsPart (flips_refusal fault).line) (S.view out.old).sent
+    ensures part { Known (AppendsPart (flips_refusal fault).line) (S.view out.old).sent
         (S.view out.new).sent }
     ensures failed { OnErr result (Rose (S.view out.old).faults (S.view out.new).faults) }
 {
@@ -353,9 +354,9 @@ fn trace_end(kind: TraceKind) -> &'static [u8]
 /// Puts the line of a trace file that breaks a rule.
 fn tell_trace<S: Sink>(fault: TraceFault, out: &mut S) -> Result<(), Failed>
     ensures counts { (S.view out.old).faults ≤ (S.view out.new).faults }
-    ensures sent { OnOk result (Told (λ before after. after
+    ensures sent { OnOk result (Known (λ before after. after
         ≡ before ++ ((trace_refusal fault).line)) (S.view out.old).sent (S.view out.new).sent) }
-    ensures part { Told (AppendsPart (trace_refusal fault).line) (S.view out.old).sent
+    ensures part { Known (AppendsPart (trace_refusal fault).line) (S.view out.old).sent
         (S.view out.new).sent }
     ensures failed { OnErr result (Rose (S.view out.old).faults (S.view out.new).faults) }
 {
@@ -368,13 +369,13 @@ fn tell_trace<S: Sink>(fault: TraceFault, out: &mut S) -> Result<(), Failed>
     )
 }
 
-/// Puts the last line. A sink that failed is told nothing.
+/// Puts the last line. A sink that failed is sent nothing.
 pub fn tell<S: Sink>(stop: Stop<'_>, out: &mut S) -> Result<(), Failed>
     ensures counts { (S.view out.old).faults ≤ (S.view out.new).faults }
-    ensures sent { OnOk result (Told (λ before after. after
+    ensures sent { OnOk result (Known (λ before after. after
         ≡ before ++ (reason_line (reason_of stop.entry))) (S.view out.old).sent
         (S.view out.new).sent) }
-    ensures part { Told (AppendsPart (reason_line (reason_of stop.entry))) (S.view out.old).sent
+    ensures part { Known (AppendsPart (reason_line (reason_of stop.entry))) (S.view out.old).sent
         (S.view out.new).sent }
     ensures failed { OnErr result (Rose (S.view out.old).faults (S.view out.new).faults) }
 {

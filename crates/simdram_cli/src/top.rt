@@ -47,7 +47,7 @@ use dram_model::Dram;
 use host_edge::{Folder, Sink};
 use std::alloc::Global;
 
-/// The exit status; why a command stopped is told first.
+/// The exit status; why a command stopped is reported first.
 fn answer<S: Sink>(ended: Result<u64, Stop<'_>>, out: &mut S) -> u8
     ensures status { result ≡ answer_to ended.entry }
     ensures tells { (files : FolderView) (chip : ChipView)
@@ -311,9 +311,9 @@ pub fn simdram<F: Folder, S: Sink, D: Dram>(
     alloc: Global,
 ) -> u8
     ensures borrow { D.borrow chip.new ≡ D.borrow chip.old }
-    // Words that are no command, and no others, are answered with 1; `usage` is told, and no more.
+    // Words that are no command, and no others, are answered with 1; `usage` is put, and no more.
     ensures usage { (result ≡ 1) ↔ (command_of words.now ≡ None) }
-    ensures usage_told { command_of words.now ≡ None → Says (codes "usage\n")
+    ensures usage_line { command_of words.now ≡ None → Says (codes "usage\n")
         (world (F.view files.old) (S.view out.old) (D.view chip.old))
         (world (F.view files.new) (S.view out.new) (D.view chip.new)) }
     // A command answers one of its own statuses.

@@ -317,7 +317,7 @@ fn init_on<'a>(banks: &str, rows: &str, words: &str, out: &'a str) -> Option<Com
     }
 }
 
-/// The command of four words behind its own.
+/// The command of four words after its own.
 fn command_on_four<'a>(
     verb: &str,
     first: &'a str,
@@ -341,7 +341,7 @@ fn command_on_four<'a>(
     }
 }
 
-/// The command of one word behind its own.
+/// The command of one word after its own.
 fn command_on_one<'a>(verb: &str, word: &'a str) -> Option<Command<'a>>
     ensures { result ≡ command_on_one verb.now word.entry }
 {
@@ -380,7 +380,7 @@ fn command_on_two<'a>(verb: &str, first: &'a str, second: &'a str) -> Option<Com
     }
 }
 
-/// The command of three words behind its own.
+/// The command of three words after its own.
 fn command_on_three<'a>(
     verb: &str,
     first: &'a str,

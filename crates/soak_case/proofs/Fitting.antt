@@ -43,15 +43,15 @@ sources_end row n end (k ∷ ks) l =
       sources_end (row + width k n) n end ks (omega (arith, cons, l)),
     )
 
-behind_apart : (r s : Range) (end : ℕ) → EndsBy end r → end ≤ s.base → AreApart r s
-behind_apart r s end e l row a b = absurd (omega (arith, e.within, l, a.0, a.1, b.0, b.1))
+after_apart : (r s : Range) (end : ℕ) → EndsBy end r → end ≤ s.base → AreApart r s
+after_apart r s end e l row a b = absurd (omega (arith, e.within, l, a.0, a.1, b.0, b.1))
 
 all_apart : (rs : List Range) (s t : Range) (end : ℕ) → AllByRecursion (EndsBy end) rs
     → end ≤ s.base → end ≤ t.base
     → AllByRecursion (λ r. AllByRecursion (AreApart r) (s ∷ t ∷ [])) rs
 all_apart [] s t end e l m = tt
 all_apart (r ∷ rs) s t end e l m = (
-  (behind_apart r s end e.0 l, (behind_apart r t end e.0 m, tt)),
+  (after_apart r s end e.0 l, (after_apart r t end e.0 m, tt)),
   all_apart rs s t end e.1 l m,
 )
 

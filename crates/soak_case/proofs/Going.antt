@@ -82,7 +82,8 @@ pub values_more : (values : List ℕ) (f : ℕ → ℕ) (i x : ℕ) → i < leng
     → take (i + 1) (set values i x) ≡ map f (range_with_len 0 (i + 1))
 values_more values f i x l e h =
     let one : i + 1 ≡ suc i = omega arith in
-    ap (λ n. take n (set values i x)) one ∙ take-suc-set values i x l ∙ ap (λ (front : List ℕ). front ++ x ∷ []) h
+    ap (λ n. take n (set values i x)) one ∙ take-suc-set values i x l
+    ∙ ap (λ (front : List ℕ). front ++ x ∷ []) h
     ∙ ap (λ y. map f (range_with_len 0 i) ++ y ∷ []) e
     ∙ sym (map-range_with_len_more f 0 i i (omega arith))
 
@@ -135,7 +136,7 @@ params_more (j ∷ ks) (n ∷ names) zero k name l m e f =
 params_more (j ∷ ks) (n ∷ names) (suc i) k name l m e f =
     ap (λ xs. param n j ∷ xs) (params_more ks names i k name (omega arith) (omega arith) e f)
 
--- a word and the state behind it
+-- a word and the state after it
 pub drawn_parts : (word next state before : ℕ) → (word, next) ≡ mix_u64 before → before ≡ state
     → (word ≡ (mix_u64 state).0) × (next ≡ (mix_u64 state).1)
 drawn_parts word next state before e f = (

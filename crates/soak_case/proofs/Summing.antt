@@ -19,7 +19,7 @@ use Rattle.uprog_code.specs.Implements.{numbers}
 use Rattle.uprog_code.specs.Texts.{EntryDoes, op_shape, text_op}
 use Rattle.soak_case.specs.declared.cases.Case.{Case}
 use Rattle.soak_case.specs.Cases.{one_statement, source_kinds}
-use Rattle.soak_case.specs.Words.{behind, elements, sources_at, word_at}
+use Rattle.soak_case.specs.Words.{following, elements, sources_at, word_at}
 use Rattle.soak_case.specs.Layout.{FitsChip, bases_from, issues_at, layout, result_rows}
 use Rattle.soak_case.specs.Layout.{source_rows}
 use Rattle.soak_case.specs.Sums.{case_sum, case_value}
@@ -42,7 +42,7 @@ elements_small : (state n : ℕ) (kinds : List Kind) (i : ℕ)
 elements_small state n [] i = tt
 elements_small state n (k ∷ ks) i = (
   mod-lt (word_at state i) (pow_pos (width k n)),
-  elements_small (behind state elements) n ks i,
+  elements_small (following state elements) n ks i,
 )
 
 -- both banks

@@ -25,8 +25,8 @@ pub record IsFileOf (op : WordOp) (bytes : List ℕ) : Type 0 where
   pub legal : IsProgram (program ∷ [])
   pub does : EntryDoes program (text_op (one_statement op))
 
--- the counters rose by what a case's line tells and by its writes and reads, and a log that is told
--- grew by its events
+-- the counters rose by what a case's line tells and by its writes and reads, and a log that is
+-- known grew by its events
 pub record CaseDone (state : ℕ) (c : Case) (m : Microprogram) (old new : ChipView) : Type 0 where
   pub counters : new.counters ≡ record {
     aap = old.counters.aap + (in_both_banks c m).aap;

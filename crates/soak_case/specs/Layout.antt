@@ -12,7 +12,7 @@ use Rattle.wave_model.specs.Schedule.{Queues, queues, in_turn, Ahead}
 use Rattle.uprog_ctl.specs.Waves.{wave_events}
 use Rattle.soak_case.specs.declared.cases.Case.{Case}
 use Rattle.soak_case.specs.Cases.{one_statement, source_kinds, result_kind}
-use Rattle.soak_case.specs.Words.{behind, values_of, elements}
+use Rattle.soak_case.specs.Words.{following, values_of, elements}
 
 abbrev pub soak_chip : Geometry
 soak_chip = record { banks = 2; rows = 512; words = 2 }
@@ -32,7 +32,7 @@ source_rows c = rows_of c.n (source_kinds c.op)
 abbrev pub result_rows : Case → ℕ
 result_rows c = width (result_kind c.op) c.n
 
--- sources from row 0 on, then the result, and scratch behind it
+-- sources from row 0 on, then the result, and scratch after it
 abbrev pub layout : Case → Bound
 layout c = record {
   results = source_rows c ∷ [];
@@ -51,12 +51,12 @@ case_queues c m = queues (record {
   banks = soak_chip.banks;
 } ∷ [])
 
--- the writes of the sources, each behind the one before
+-- the writes of the sources, each after the one before
 abbrev pub source_writes : (state row n : ℕ) → List Kind → List Event
 source_writes state row n [] = []
 source_writes state row n (k ∷ ks) =
     write_events soak_chip row (width k n) (values_of state (width k n))
-    ++ source_writes (behind state elements) (row + width k n) n ks
+    ++ source_writes (following state elements) (row + width k n) n ks
 
 -- what happens on the chip: the sources are written, and the program runs in both banks as one
 -- wave, always in the first bank that has commands left

@@ -35,6 +35,6 @@ line_of c counts sum = op_text c.op ++ codes " " ++ decimal c.n ++ codes " aap="
 abbrev pub case_line : (state : ℕ) → Case → Microprogram → List ℕ
 case_line state c m = line_of c (in_both_banks c m) (case_sum state c)
 
--- the line behind those of so many cases
+-- the line after those of so many cases
 abbrev pub last_line : ℕ → List ℕ
 last_line cases = codes "soak " ++ decimal cases ++ codes " cases\n"

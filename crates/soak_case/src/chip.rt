@@ -15,7 +15,7 @@ ghost use Rattle.uprog_ctl.specs.Events.{risen};
 ghost use Rattle.uprog_ctl.specs.Waves.{wave_events};
 ghost use Rattle.wave_model.specs.Schedule.{in_turn, Ahead};
 ghost use Rattle.soak_case.specs.Cases.{source_kinds};
-ghost use Rattle.soak_case.specs.Words.{behind_all};
+ghost use Rattle.soak_case.specs.Words.{after_all};
 ghost use Rattle.soak_case.specs.Layout.{bases_from, rows_of, soak_chip, source_rows};
 ghost use Rattle.soak_case.specs.Layout.{layout, case_queues, issues_at, FitsChip};
 ghost use Rattle.soak_case.specs.Sums.{case_sum, in_both_banks};
@@ -32,7 +32,7 @@ use uprog_bin::{Entry, ProgView};
 use uprog_code::{Binding, Counts, walk};
 use uprog_ctl::{Forward, Job, run_wave};
 
-/// The first row of each source, from row 0 on, and the row behind them.
+/// The first row of each source, from row 0 on, and the row after them.
 fn bases_of(kinds: &[Kind], n: u8) -> (ArrayVec<u16, 4>, u16)
     requires few { length kinds.now ≤ 3 }
     ensures bases { result.0.items ≡ bases_from 0 n kinds.now }
@@ -150,7 +150,7 @@ pub fn do_case<D: Dram>(
     ensures done { OnOk result ((f : IsFileOf case.op file.now)
         → CaseDone generator.old case f.program (D.view chip.old) (D.view chip.new)) }
     ensures few { OnOk result (RisesLittle (D.view chip.old).counters (D.view chip.new).counters) }
-    ensures behind { OnOk result (generator.new ≡ behind_all generator.old
+    ensures following { OnOk result (generator.new ≡ after_all generator.old
         (source_kinds case.op)) }
     ensures failed { OnErr result (Rose (D.view chip.old).faults (D.view chip.new).faults) }
 {

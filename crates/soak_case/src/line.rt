@@ -47,7 +47,7 @@ pub fn line_of(case: Case, counts: Counts, sum: u64) -> Line
     text
 }
 
-/// The line behind those of so many cases.
+/// The line after those of so many cases.
 pub fn last_line(cases: usize) -> Line
     ensures { result.items ≡ last_line cases }
 {

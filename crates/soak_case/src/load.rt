@@ -7,7 +7,7 @@ ghost use Rattle.dram_model.specs.Elements.{below};
 ghost use Rattle.fault_counts.specs.Counts.{Rose};
 ghost use Rattle.uprog_code.specs.Implements.{numbers};
 ghost use Rattle.soak_case.specs.Layout.{bases_from, rows_of, soak_chip, source_writes};
-ghost use Rattle.soak_case.specs.Words.{behind_all, elements, sources_at};
+ghost use Rattle.soak_case.specs.Words.{after_all, elements, sources_at};
 ghost use Rattle.soak_case.specs.Done.{WritesMore};
 
 use crate::cases::rows_of;
@@ -28,7 +28,7 @@ pub const CHIP: Geometry = Geometry {
 pub(crate) const STAGE_WORDS: usize = 128;
 
 /// Loads sources of these kinds at width n, with the generator's next words, into the rows from 0
-/// on, one source behind the other.
+/// on, one source after the other.
 pub(crate) fn load_sources<D: Dram>(
     chip: &mut D,
     kinds: &[Kind],
@@ -51,7 +51,7 @@ pub(crate) fn load_sources<D: Dram>(
         ≡ map (sources_at generator.old n kinds.now) (range_with_len 0 elements)) }
     ensures writes { OnOk result (WritesMore (2 * rows_of n kinds.now) (D.view chip.old).counters
         (D.view chip.new).counters) }
-    ensures behind { OnOk result (generator.new ≡ behind_all generator.old kinds.now) }
+    ensures following { OnOk result (generator.new ≡ after_all generator.old kinds.now) }
     ensures failed { OnErr result (Rose (D.view chip.old).faults (D.view chip.new).faults) }
 {
     let mut row = 0;

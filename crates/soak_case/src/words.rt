@@ -1,7 +1,7 @@
 //! The values of a source.
 
 ghost use Rattle.std.specs.Prelude.{◌≡◌, ◌≤◌, ◌<◌, ◌^◌, All, length};
-ghost use Rattle.soak_case.specs.Words.{behind, elements, values_of};
+ghost use Rattle.soak_case.specs.Words.{following, elements, values_of};
 
 use bit_rows::Value;
 use rand_xoshiro::SplitMix64;
@@ -14,7 +14,7 @@ pub(crate) const ELEMENTS: usize = 256;
 pub(crate) fn draw(generator: &mut SplitMix64, bits: u8) -> [Value; ELEMENTS]
     requires { bits ≤ 64 }
     ensures values { result ≡ values_of generator.old bits }
-    ensures behind { generator.new ≡ behind generator.old elements }
+    ensures following { generator.new ≡ following generator.old elements }
 {
     let mut values = [0; ELEMENTS];
     for i in 0..ELEMENTS {

@@ -3,7 +3,7 @@ use Rattle.std.proofs.Common.{◌≡◌, ℕ, ◌≤◌, List, [], ◌∷◌, �
 use Rattle.std.proofs.Common.{◌∙◌}
 use Rattle.std.proofs.Common.{inl, inr, arith}
 use Rattle.std.specs.Prelude.{Result, Ok, Err, IfOk}
-use Rattle.host_edge.specs.Views.{FolderView, SinkView, Told, AppendsPart}
+use Rattle.host_edge.specs.Views.{FolderView, SinkView, Known, AppendsPart}
 use Rattle.fault_counts.specs.Counts.{Rose}
 use Rattle.dram_model.specs.declared.dram.Counters.{Counters}
 use Rattle.dram_model.specs.View.{Began, ChipView, NotBegun}
@@ -13,7 +13,7 @@ use Rattle.cli_model.specs.World.{World, world}
 use Rattle.cli_model.specs.Steps.{ReadsOnly, Used, Sent}
 use Rattle.soak_case.specs.declared.cases.Case.{Case}
 use Rattle.soak_case.specs.Cases.{soak_cases, source_kinds}
-use Rattle.soak_case.specs.Words.{behind_all}
+use Rattle.soak_case.specs.Words.{after_all}
 use Rattle.soak_case.specs.Layout.{case_events, result_rows, soak_chip, source_rows}
 use Rattle.soak_case.specs.Sums.{case_line, last_line}
 use Rattle.soak_case.specs.Done.{CaseDone, IsFileOf, IsProgramOf, RisesLittle}
@@ -40,20 +40,21 @@ pub chip_used : (files : FolderView) (s : SinkView) (a b : ChipView) → a.fault
     → Used (world files s a) (world files s b)
 chip_used files s a b l = record { files = refl; sink = refl; chip = l }
 
-pub bytes_sent : (R : List ℕ → List ℕ → Type 0) (files : FolderView) (s t : SinkView) (chip : ChipView)
-    → Told R s.sent t.sent → s.faults ≤ t.faults
+pub bytes_sent : (R : List ℕ → List ℕ → Type 0) (files : FolderView) (s t : SinkView) (chip :
+    ChipView)
+    → Known R s.sent t.sent → s.faults ≤ t.faults
     → Sent R (world files s chip) (world files t chip)
-bytes_sent R files s t chip told l = record { files = refl; sent = told; faults = l; chip = refl }
+bytes_sent R files s t chip known l = record { files = refl; sent = known; faults = l; chip = refl }
 
 pub program_is : (c : Case) (bytes : List ℕ) → (f : IsFileOf c.op bytes) → IsProgramOf c f.program
 program_is c bytes f = record { legal = f.legal.entries.0; does = f.does }
 
 pub case_went : (state : ℕ) (c : Case) (m : Microprogram) (files : FolderView) (s t : SinkView)
     (a b : ChipView) → IsProgramOf c m → a.faults ≤ b.faults
-    → Told (λ before after. after ≡ before ++ case_line state c m) s.sent t.sent
+    → Known (λ before after. after ≡ before ++ case_line state c m) s.sent t.sent
     → s.faults ≤ t.faults → CaseDone state c m a b → RisesLittle a.counters b.counters
     → CaseWent state c (world files s a) (world files t b)
-case_went state c m files s t a b is l told k done few = record {
+case_went state c m files s t a b is l known k done few = record {
   program = m;
   is = is;
   does = λ rest end last g. inl (
@@ -67,7 +68,8 @@ case_went state c m files s t a b is l told k done few = record {
           inl (
             world files t b,
             (
-              bytes_sent (λ before after. after ≡ before ++ case_line state c m) files s t b told k,
+              bytes_sent (λ before after. after ≡ before
+                  ++ case_line state c m) files s t b known k,
               g,
             ),
           ),
@@ -106,10 +108,10 @@ stops_at_use state c cs m files s a b is l rose = record {
 -- the line of a case could not be put
 pub stops_at_put : (state : ℕ) (c : Case) (cs : List Case) (m : Microprogram) (files : FolderView)
     (s t : SinkView) (a b : ChipView) → IsProgramOf c m → a.faults ≤ b.faults
-    → Told (AppendsPart (case_line state c m)) s.sent t.sent → s.faults ≤ t.faults
+    → Known (AppendsPart (case_line state c m)) s.sent t.sent → s.faults ≤ t.faults
     → Rose s.faults t.faults
     → CasesGo state (c ∷ cs) (world files s a) (world files t b) (Err no.PutFailed)
-stops_at_put state c cs m files s t a b is l told k rose = record {
+stops_at_put state c cs m files s t a b is l known k rose = record {
   programs = m ∷ [];
   are = (is, tt);
   goes = inl (
@@ -120,7 +122,7 @@ stops_at_put state c cs m files s t a b is l told k rose = record {
         world files s b,
         (
           chip_used files s a b l,
-          inr (refl, bytes_sent (AppendsPart (case_line state c m)) files s t b told k, rose),
+          inr (refl, bytes_sent (AppendsPart (case_line state c m)) files s t b known k, rose),
         ),
       ),
     ),
@@ -135,7 +137,7 @@ counters_same a b c d e f g h p q r s = rw (p, q, r, s) refl
 
 both_done : (state : ℕ) (c : Case) (cs : List Case) (m : Microprogram) (ms : List Microprogram)
     (a b d : ChipView) → CaseDone state c m a b
-    → CasesDone (behind_all state (source_kinds c.op)) cs ms b d
+    → CasesDone (after_all state (source_kinds c.op)) cs ms b d
     → CasesDone state (c ∷ cs) (m ∷ ms) a d
 both_done state c cs m ms a b d one more =
     let writes = sum_cons source_rows c cs in
@@ -150,59 +152,60 @@ both_done state c cs m ms a b d one more =
           ∙ counters_same _ _ _ _ _ _ _ _ (omega (arith, aap_is)) (omega (arith, ap_is))
           (omega (arith, writes_are, writes)) (omega (arith, reads_are, reads));
       log = Grew-more a.log b.log d.log (case_events state c m)
-          (cases_events (behind_all state (source_kinds c.op)) cs ms) one.log more.log;
+          (cases_events (after_all state (source_kinds c.op)) cs ms) one.log more.log;
     }
 
 done_more : (state : ℕ) (c : Case) (cs : List Case) (m : Microprogram) (ms : List Microprogram)
     (a b d : ChipView) (result : Result Unit SoakNo) → CaseDone state c m a b
-    → IfOk result (λ u. CasesDone (behind_all state (source_kinds c.op)) cs ms b d)
+    → IfOk result (λ u. CasesDone (after_all state (source_kinds c.op)) cs ms b d)
     → IfOk result (λ u. CasesDone state (c ∷ cs) (m ∷ ms) a d)
 done_more state c cs m ms a b d (Ok u) one more = both_done state c cs m ms a b d one more
 done_more state c cs m ms a b d (Err why) one more = tt
 
--- a case, and the others behind it
+-- a case, and the others after it
 pub goes_on : (state : ℕ) (c : Case) (cs : List Case) (old mid last : World)
     (result : Result Unit SoakNo) → CaseWent state c old mid
-    → CasesGo (behind_all state (source_kinds c.op)) cs mid last result
+    → CasesGo (after_all state (source_kinds c.op)) cs mid last result
     → CasesGo state (c ∷ cs) old last result
 goes_on state c cs old mid last result one more = record {
   programs = one.program ∷ more.programs;
   are = (one.is, more.are);
-  goes = one.does (cases_steps (behind_all state (source_kinds c.op)) cs more.programs)
+  goes = one.does (cases_steps (after_all state (source_kinds c.op)) cs more.programs)
       (end_of result) last more.goes;
   done = done_more state c cs one.program more.programs old.chip mid.chip last.chip result one.done
       more.done;
 }
 
 -- the last line
-abbrev pub told_last : List ℕ
-told_last = last_line (length soak_cases)
+abbrev pub known_last : List ℕ
+known_last = last_line (length soak_cases)
 
 -- no case is left, and the last line was put
-pub all_told : (state : ℕ) (files : FolderView) (s t : SinkView) (chip : ChipView)
-    → Told (λ before after. after ≡ before ++ told_last) s.sent t.sent → s.faults ≤ t.faults
+pub all_known : (state : ℕ) (files : FolderView) (s t : SinkView) (chip : ChipView)
+    → Known (λ before after. after ≡ before ++ known_last) s.sent t.sent → s.faults ≤ t.faults
     → CasesGo state [] (world files s chip) (world files t chip) (Ok tt)
-all_told state files s t chip told l = record {
+all_known state files s t chip known l = record {
   programs = [];
   are = tt;
   goes = inl (
     world files t chip,
-    (bytes_sent (λ before after. after ≡ before ++ told_last) files s t chip told l, refl),
+    (bytes_sent (λ before after. after ≡ before ++ known_last) files s t chip known l, refl),
   );
   done = record {
     all = refl;
-    counters = counters_same _ _ _ _ _ _ _ _ (omega arith) (omega arith) (omega arith) (omega arith);
+    counters = counters_same _ _ _ _ _ _ _ _ (omega arith) (omega arith) (omega arith) (omega
+        arith);
     log = (Did-none chip).log;
   };
 }
 
-pub not_told : (state : ℕ) (files : FolderView) (s t : SinkView) (chip : ChipView)
-    → Told (AppendsPart told_last) s.sent t.sent → s.faults ≤ t.faults → Rose s.faults t.faults
+pub not_known : (state : ℕ) (files : FolderView) (s t : SinkView) (chip : ChipView)
+    → Known (AppendsPart known_last) s.sent t.sent → s.faults ≤ t.faults → Rose s.faults t.faults
     → CasesGo state [] (world files s chip) (world files t chip) (Err no.PutFailed)
-not_told state files s t chip told l rose = record {
+not_known state files s t chip known l rose = record {
   programs = [];
   are = tt;
-  goes = inr (refl, bytes_sent (AppendsPart told_last) files s t chip told l, rose);
+  goes = inr (refl, bytes_sent (AppendsPart known_last) files s t chip known l, rose);
   done = tt;
 }
 

@@ -12,7 +12,7 @@ use Rattle.soak_job.specs.declared.job.SoakNo.{SoakNo}
 use Rattle.soak_job.specs.declared.job.SoakNo.TheVariants as no
 use Rattle.soak_case.specs.declared.cases.Case.{Case}
 use Rattle.soak_case.specs.Cases.{source_kinds, soak_cases}
-use Rattle.soak_case.specs.Words.{behind_all}
+use Rattle.soak_case.specs.Words.{after_all}
 use Rattle.soak_case.specs.Layout.{case_events, source_rows, result_rows, FitsChip}
 use Rattle.soak_case.specs.Sums.{case_line, in_both_banks}
 use Rattle.soak_case.specs.Done.{CaseDone, IsProgramOf, RisesLittle}
@@ -29,11 +29,11 @@ abbrev pub cases_events : (state : ℕ) → List Case → List Microprogram → 
 cases_events state [] ms = []
 cases_events state (c ∷ cs) [] = []
 cases_events state (c ∷ cs) (m ∷ ms) = case_events state c m
-    ++ cases_events (behind_all state (source_kinds c.op)) cs ms
+    ++ cases_events (after_all state (source_kinds c.op)) cs ms
 
 -- Each case has its program. The counters rose by what the lines tell, by two writes for each row
--- of a source and two reads for each row of a result, one in each bank; and a log that is told grew
--- by the events of the cases
+-- of a source and two reads for each row of a result, one in each bank; and a log that is known
+-- grew by the events of the cases
 pub record CasesDone (state : ℕ) (cs : List Case) (ms : List Microprogram) (old new : ChipView) :
     Type 0 where
   pub all : length ms ≡ length cs
@@ -57,7 +57,7 @@ end_of (Err why) = end_by why
 
 -- What a soak leaves on the chip: each case has its program; the counters are the sums of what the
 -- lines tell, two writes for each row of a source and two reads for each row of a result, one in
--- each bank; and a log that is told has the events of the cases alone
+-- each bank; and a log that is known has the events of the cases alone
 pub record SoakLeft (seed : ℕ) (ms : List Microprogram) (chip : ChipView) : Type 0 where
   pub all : length ms ≡ length soak_cases
   pub counters : chip.counters ≡ record {

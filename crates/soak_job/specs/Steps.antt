@@ -5,7 +5,7 @@ use Rattle.cli_model.specs.Steps.{Step, Take, Open, Use, Put}
 use Rattle.soak_case.specs.declared.cases.Case.{Case}
 use Rattle.soak_case.specs.Cases.{soak_cases, source_kinds}
 use Rattle.soak_case.specs.Done.{IsProgramOf}
-use Rattle.soak_case.specs.Words.{behind_all}
+use Rattle.soak_case.specs.Words.{after_all}
 use Rattle.soak_case.specs.Sums.{case_line, last_line}
 
 -- each is a program of its case; those of the last cases may be missing
@@ -20,7 +20,7 @@ abbrev pub cases_steps : (state : ℕ) → List Case → List Microprogram → L
 cases_steps state [] ms = Put (last_line (length soak_cases)) ∷ []
 cases_steps state (c ∷ cs) [] = Take ∷ []
 cases_steps state (c ∷ cs) (m ∷ ms) = Take ∷ Use ∷ Put (case_line state c m)
-    ∷ cases_steps (behind_all state (source_kinds c.op)) cs ms
+    ∷ cases_steps (after_all state (source_kinds c.op)) cs ms
 
 -- the chip begins, and all cases follow, with the generator whose first state is the seed
 abbrev pub soak_steps : (seed : ℕ) → List Microprogram → List Step

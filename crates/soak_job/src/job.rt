@@ -6,7 +6,7 @@ ghost use Rattle.host_edge.specs.Views.{FolderView};
 ghost use Rattle.dram_model.specs.View.{HasBegun, Kept};
 ghost use Rattle.cli_model.specs.World.{world};
 ghost use Rattle.soak_case.specs.Cases.{soak_cases, source_kinds};
-ghost use Rattle.soak_case.specs.Words.{behind_all};
+ghost use Rattle.soak_case.specs.Words.{after_all};
 ghost use Rattle.soak_case.specs.Layout.{soak_chip};
 ghost use Rattle.soak_job.specs.Done.{CanBeDone, CaseWent, CasesGo, SoakGoes};
 
@@ -46,7 +46,7 @@ fn soak_case<S: Sink, D: Dram>(
     ensures went { OnOk result ((files : FolderView) → CaseWent generator.old case
         (world files (S.view out.old) (D.view chip.old))
         (world files (S.view out.new) (D.view chip.new))) }
-    ensures behind { OnOk result (generator.new ≡ behind_all generator.old
+    ensures following { OnOk result (generator.new ≡ after_all generator.old
         (source_kinds case.op)) }
     ensures stopped { IfErr result (λ why. (files : FolderView) (cases : List Case)
         → CasesGo generator.old (case ∷ cases) (world files (S.view out.old) (D.view chip.old))

@@ -47,7 +47,7 @@ abbrev pub following : List Flip → Result (List Flip) FlipsFault → Result (L
 following before (Ok flips) = Ok (before ++ flips)
 following before (Err fault) = Err fault
 
--- the flips so far, and what is left of the text, whose first line has this number, behind a line
+-- the flips so far, and what is left of the text, whose first line has this number, after a line
 -- with this K
 pub record ReadSoFar (g : Geometry) (instrs : ℕ) (text : List ℕ) (flips : List Flip)
     (rest : List ℕ) (number before : ℕ) : Type 0 where

@@ -13,7 +13,7 @@ use Rattle.dram_model.specs.Chip.{Event, after, all_counted, counted}
 use Rattle.dram_model.specs.Chip.Event.{Row, Write}
 use Rattle.dram_model.specs.View.{ChipView, Did, with_reads}
 use Rattle.dram_model.proofs.EventLaws.{after-append, all_counted-append, Grew-more, Grew-none}
-use Rattle.wave_model.specs.Schedule.{Turn, queues, state_behind, state_after, events_of_picks}
+use Rattle.wave_model.specs.Schedule.{Turn, queues, last_state, state_after, events_of_picks}
 use Rattle.wave_model.specs.Schedule.{picks, whole_picks, in_turn}
 use Rattle.object_alloc.specs.Listed.{Named}
 use Rattle.bbop_isa.specs.Forms.{Instruction, Init, Bbop, Load, Fill, Print, Free, Order}
@@ -22,7 +22,7 @@ use Rattle.machine_model.specs.Routines.{Program, Routines, routines_in}
 use Rattle.machine_model.specs.Refusals.{refusal}
 use Rattle.machine_model.specs.Steps.{if_done, job_of, own_events, table_after, tabled}
 use Rattle.machine_model.specs.Script.{sum_done, rows_if_done, rows_printed, table_at_end}
-use Rattle.machine_model.specs.Pieces.{piece_of, piece_events, turn_behind, turn_at_end}
+use Rattle.machine_model.specs.Pieces.{piece_of, piece_events, turn_after, turn_at_end}
 use Rattle.machine_model.specs.Pieces.{events_of_pieces, wave_queues}
 use Rattle.machine_model.proofs.Parts.{pieces_go_on, rows_append, table_append}
 use Rattle.sim_machine.specs.Steps.{DidAndRead}
@@ -82,7 +82,7 @@ plus_none n = omega arith
 pub ran_one : (g : Geometry) (p : Program) (turn turn' : Turn) (table table' : List Named)
     (instr : Instruction) (a b : ChipView)
     → table' ≡ table_after g (routines_in p) table instr
-    → turn' ≡ turn_behind g (routines_in p) turn table (piece_of instr)
+    → turn' ≡ turn_after g (routines_in p) turn table (piece_of instr)
     → DidAndRead (piece_events g (routines_in p) turn table (piece_of instr))
     (rows_if_done rows_printed g (routines_in p) table instr) a b
     → Ran g p turn turn' table table' (instr ∷ []) a b
@@ -136,7 +136,7 @@ no_work : (a n : ℕ) → sum_by (λ bank. length (queues [] bank)) (range_with_
 no_work a zero = refl
 no_work a (suc n) = no_work (a + 1) n
 
-turn_stays : (banks : ℕ) (turn : Turn) → state_behind in_turn banks turn (queues []) ≡ turn
+turn_stays : (banks : ℕ) (turn : Turn) → last_state in_turn banks turn (queues []) ≡ turn
 turn_stays banks turn = ap (λ n. state_after in_turn banks n turn (queues [])) (no_work 0 banks)
 
 no_picks : (banks : ℕ) (turn : Turn)
@@ -157,9 +157,9 @@ refused_queues g o table instr w e = ap (λ xs. queues (map (job_of g o table) x
 
 refused_turn : (g : Geometry) (o : Routines) (turn : Turn) (table : List Named)
     (instr : Instruction) (w : Why) → refusal g o table instr ≡ Some w
-    → turn_behind g o turn table (piece_of instr) ≡ turn
+    → turn_after g o turn table (piece_of instr) ≡ turn
 refused_turn g o turn table (Bbop op dst srcs count n) w e =
-    ap (state_behind in_turn g.banks turn)
+    ap (last_state in_turn g.banks turn)
     (refused_queues g o table (Bbop op dst srcs count n) w e) ∙ turn_stays g.banks turn
 refused_turn g o turn table (Init name count n) w e = refl
 refused_turn g o turn table (Load name values) w e = refl

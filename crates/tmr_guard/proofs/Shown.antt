@@ -1,7 +1,7 @@
 -- What comes of a guarded print.
 use Rattle.std.proofs.Common.{◌≡◌, ℕ, ◌*◌, true, false, not, List, [], ◌∷◌, ◌++◌}
 use Rattle.std.proofs.Common.{Some, None, refl, sym, ◌∙◌, ap, subst, arith}
-use Rattle.host_edge.specs.Views.{SinkView, Told, AppendsPart}
+use Rattle.host_edge.specs.Views.{SinkView, Known, AppendsPart}
 use Rattle.fault_counts.specs.Counts.{Rose}
 use Rattle.dram_model.specs.View.{ChipView, DidRead}
 use Rattle.bit_rows.specs.declared.TheConstants.{WIDTH_MAX}
@@ -65,7 +65,7 @@ module _ (m new : Machine) (number : ℕ) (name : List ℕ) (chip chip' : ChipVi
     pub print_shown : has_name (table_in m) copy ≡ true → table_in new ≡ table_in m
         → turn_in new ≡ turn_in m → DidRead (reads_by m (Print copy)) chip chip'
         → RisesAtMost (16 * WIDTH_MAX) chip.counters chip'.counters
-        → Told (λ x y. y ≡ x ++ line_shown m number chip.banks copy name) sink.sent sink'.sent
+        → Known (λ x y. y ≡ x ++ line_shown m number chip.banks copy name) sink.sent sink'.sent
         → Guarded m new number (Print name) chip chip' sink sink' no_commands
     print_shown stands table turn did rises sent =
         let g = geometry_of m in
@@ -83,12 +83,12 @@ module _ (m new : Machine) (number : ℕ) (name : List ℕ) (chip chip' : ChipVi
               (Print copy) chip chip' (table ∙ print_table m copy) turn (print_events did));
           rises = rises_less (16 * WIDTH_MAX) (80 * WALK_MAX) chip.counters chip'.counters
               (omega arith) rises;
-          sent = subst (λ text. Told (λ x y. y ≡ x ++ text) sink.sent sink'.sent)
+          sent = subst (λ text. Known (λ x y. y ≡ x ++ text) sink.sent sink'.sent)
               (ap (λ r. line number (said_of r (Print name) shown_values)) (sym reply)) sent;
         }
 
     pub print_absent : has_name (table_in m) copy ≡ false
-        → Told (λ x y. y ≡ x ++ line number (Answered (Refused (why.NoObject 0)))) sink.sent
+        → Known (λ x y. y ≡ x ++ line number (Answered (Refused (why.NoObject 0)))) sink.sent
         sink'.sent → table_in new ≡ table_in m → turn_in new ≡ turn_in m → chip' ≡ chip
         → Guarded m new number (Print name) chip chip' sink sink' (Refused (why.NoObject 0))
     print_absent stands sent table turn same =
@@ -105,7 +105,7 @@ module _ (m new : Machine) (number : ℕ) (name : List ℕ) (chip chip' : ChipVi
           ran = subst (λ xs. RanBy m new xs chip chip') (sym script) (ran_still table turn same);
           rises = subst (λ (k : ChipView). RisesAtMost (80 * WALK_MAX) chip.counters k.counters)
               (sym same) (no_rise (80 * WALK_MAX) chip);
-          sent = subst (λ text. Told (λ x y. y ≡ x ++ text) sink.sent sink'.sent)
+          sent = subst (λ text. Known (λ x y. y ≡ x ++ text) sink.sent sink'.sent)
               (ap (λ r. line number (said_of r (Print name) shown_values)) (sym reply)) sent;
         } where
           ran_still : table_in new ≡ table_in m → turn_in new ≡ turn_in m → chip' ≡ chip
@@ -122,18 +122,18 @@ module _ (m new : Machine) (number : ℕ) (name : List ℕ) (chip chip' : ChipVi
         → table_in new ≡ table_in m → turn_in new ≡ turn_in m
         → DidRead (reads_by m (Print k)) chip chip'
         → RisesAtMost (16 * WIDTH_MAX) chip.counters chip'.counters
-        → Told (λ x y. y ≡ x ++ line_shown m number chip.banks k name) sink.sent sink'.sent
+        → Known (λ x y. y ≡ x ++ line_shown m number chip.banks k name) sink.sent sink'.sent
         → Guarded m new number (Print name) chip chip' sink sink' no_commands
     shown_by k is = subst (λ n. has_name (table_in m) n ≡ true
         → table_in new ≡ table_in m → turn_in new ≡ turn_in m
         → DidRead (reads_by m (Print n)) chip chip'
         → RisesAtMost (16 * WIDTH_MAX) chip.counters chip'.counters
-        → Told (λ x y. y ≡ x ++ line_shown m number chip.banks n name) sink.sent sink'.sent
+        → Known (λ x y. y ≡ x ++ line_shown m number chip.banks n name) sink.sent sink'.sent
         → Guarded m new number (Print name) chip chip' sink sink' no_commands)
         (sym is) print_shown
 
     pub absent_by : (k : List ℕ) → k ≡ copy → has_name (table_in m) k ≡ false
-        → Told (λ x y. y ≡ x ++ line number (Answered (Refused (why.NoObject 0)))) sink.sent
+        → Known (λ x y. y ≡ x ++ line number (Answered (Refused (why.NoObject 0)))) sink.sent
         sink'.sent → table_in new ≡ table_in m → turn_in new ≡ turn_in m → chip' ≡ chip
         → Guarded m new number (Print name) chip chip' sink sink' (Refused (why.NoObject 0))
     absent_by k is stands = print_absent (ap (has_name (table_in m)) (sym is) ∙ stands)
@@ -143,7 +143,7 @@ module _ (m new : Machine) (number : ℕ) (name : List ℕ) (chip chip' : ChipVi
         → has_name (table_in m) k ≡ true
         → (fault ≡ ChipFault → Rose chip.faults chip'.faults)
         → (fault ≡ WriteFault → Rose sink.faults sink'.faults)
-        → Told (AppendsPart (line_shown m number chip.banks k name)) sink.sent sink'.sent
+        → Known (AppendsPart (line_shown m number chip.banks k name)) sink.sent sink'.sent
         → Broke m number (Print name) chip chip' sink sink' fault
     shown_broke k fault is stands chip_rose sink_rose part =
         let g = geometry_of m in
@@ -162,12 +162,12 @@ module _ (m new : Machine) (number : ℕ) (name : List ℕ) (chip chip' : ChipVi
           chip_rose = chip_rose;
           sink_rose = sink_rose;
           unsent = λ e p. absurd (cc);
-          part = subst (λ text. Told (AppendsPart text) sink.sent sink'.sent) shown part;
+          part = subst (λ text. Known (AppendsPart text) sink.sent sink'.sent) shown part;
         }
 
     pub absent_broke : (k : List ℕ) → k ≡ copy → has_name (table_in m) k ≡ false
         → Rose sink.faults sink'.faults
-        → Told (AppendsPart (line number (Answered (Refused (why.NoObject 0))))) sink.sent
+        → Known (AppendsPart (line number (Answered (Refused (why.NoObject 0))))) sink.sent
         sink'.sent → Broke m number (Print name) chip chip' sink sink' WriteFault
     absent_broke k is stands rose part =
         let g = geometry_of m in
@@ -182,7 +182,7 @@ module _ (m new : Machine) (number : ℕ) (name : List ℕ) (chip chip' : ChipVi
           chip_rose = λ e. absurd (cc);
           sink_rose = λ e. rose;
           unsent = λ e. absurd (cc);
-          part = subst (λ text. Told (AppendsPart text) sink.sent sink'.sent)
+          part = subst (λ text. Known (AppendsPart text) sink.sent sink'.sent)
               (ap (λ r. line number (said_of r (Print name) shown_values)) (sym reply)) part;
         }
 
@@ -219,13 +219,13 @@ silent_broke m number instr chip chip' sink rose = record {
 pub reply_broke : (m : Machine) (number : ℕ) (instr : Instruction) (reply : Reply)
     (chip chip' : ChipView) (sink sink' : SinkView) → is_print instr ≡ false
     → reply ≡ answer_by m instr → Rose sink.faults sink'.faults
-    → Told (AppendsPart (line number (Answered reply))) sink.sent sink'.sent
+    → Known (AppendsPart (line number (Answered reply))) sink.sent sink'.sent
     → Broke m number instr chip chip' sink sink' WriteFault
 reply_broke m number instr reply chip chip' sink sink' h e rose part = record {
   chip_rose = λ f. absurd (cc);
   sink_rose = λ f. rose;
   unsent = λ f. absurd (cc);
-  part = subst (λ text. Told (AppendsPart text) sink.sent sink'.sent)
+  part = subst (λ text. Known (AppendsPart text) sink.sent sink'.sent)
       (line_is m number chip instr reply h e) part;
 }
 
@@ -233,12 +233,12 @@ pub reply_guarded : (m new : Machine) (number : ℕ) (instr : Instruction) (repl
     (chip chip' : ChipView) (sink sink' : SinkView) → is_print instr ≡ false
     → reply ≡ answer_by m instr → RanBy m new (script_by m instr) chip chip'
     → RisesAtMost (80 * WALK_MAX) chip.counters chip'.counters
-    → Told (λ x y. y ≡ x ++ line number (Answered reply)) sink.sent sink'.sent
+    → Known (λ x y. y ≡ x ++ line number (Answered reply)) sink.sent sink'.sent
     → Guarded m new number instr chip chip' sink sink' reply
 reply_guarded m new number instr reply chip chip' sink sink' h e ran rises sent = record {
   answer = e;
   ran = ran;
   rises = rises;
-  sent = subst (λ text. Told (λ x y. y ≡ x ++ text) sink.sent sink'.sent)
+  sent = subst (λ text. Known (λ x y. y ≡ x ++ text) sink.sent sink'.sent)
       (line_is m number chip instr reply h e) sent;
 }

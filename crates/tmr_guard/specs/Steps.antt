@@ -1,7 +1,7 @@
 -- What plain instructions do to a machine and its chip, for the proofs of guarded steps.
 use Rattle.std.specs.Prelude.{◌≡◌, ℕ, ◌*◌, ◌<◌, ◌^◌, ◌++◌, Bool, true, false, List, [], ◌∷◌}
 use Rattle.std.specs.Prelude.{map, None, Result, Ok, Err}
-use Rattle.host_edge.specs.Views.{SinkView, Told, AppendsPart}
+use Rattle.host_edge.specs.Views.{SinkView, Known, AppendsPart}
 use Rattle.fault_counts.specs.Counts.{Rose}
 use Rattle.dram_model.specs.declared.geometry.Geometry.{Geometry}
 use Rattle.dram_model.specs.declared.dram.Counters.{Counters}
@@ -108,7 +108,7 @@ pub record Guarded (old new : Machine) (number : ℕ) (instr : Instruction) (chi
   pub answer : reply ≡ reply_by old instr
   pub ran : RanBy old new (script_by old instr) chip chip'
   pub rises : RisesAtMost (80 * WALK_MAX) chip.counters chip'.counters
-  pub sent : Told (λ before after. after ≡ before ++ line_by old number chip.banks instr)
+  pub sent : Known (λ before after. after ≡ before ++ line_by old number chip.banks instr)
       sink.sent sink'.sent
 
 -- a count of faults rose, and of no line but a print's a part was put where that is the chip's
@@ -117,7 +117,7 @@ pub record Broke (old : Machine) (number : ℕ) (instr : Instruction) (chip chip
   pub chip_rose : fault ≡ ChipFault → Rose chip.faults chip'.faults
   pub sink_rose : fault ≡ WriteFault → Rose sink.faults sink'.faults
   pub unsent : fault ≡ ChipFault → is_print instr ≡ false → sink' ≡ sink
-  pub part : Told (AppendsPart (line_by old number chip.banks instr)) sink.sent sink'.sent
+  pub part : Known (AppendsPart (line_by old number chip.banks instr)) sink.sent sink'.sent
 
 abbrev pub Came : Machine → Machine → ℕ → Instruction → ChipView → ChipView → SinkView → SinkView
     → Result Reply StepFault → Type 0

@@ -1,7 +1,7 @@
 //! A sink for the lines of the plain instructions.
 
 ghost use Rattle.std.specs.Prelude.{◌≡◌, ◌≤◌, ◌++◌, None, OnOk, OnErr, IsOk};
-ghost use Rattle.host_edge.specs.Views.{SinkView, Told, AppendsPart};
+ghost use Rattle.host_edge.specs.Views.{SinkView, Known, AppendsPart};
 ghost use Rattle.fault_counts.specs.Counts.{Rose};
 ghost use Rattle.tmr_guard.specs.Steps.{unseen};
 

@@ -2,7 +2,7 @@
 
 ghost use Rattle.std.specs.Prelude.{◌≡◌, ℕ, ◌+◌, ◌*◌, ◌<◌, ◌≤◌, ◌^◌, ◌∷◌, ◌++◌, [], true, false};
 ghost use Rattle.std.specs.Prelude.{None, IfOk, OnOk, OnErr, IsErrOf};
-ghost use Rattle.host_edge.specs.Views.{Told, AppendsPart};
+ghost use Rattle.host_edge.specs.Views.{Known, AppendsPart};
 ghost use Rattle.fault_counts.specs.Counts.{Rose};
 ghost use Rattle.text_lex.specs.Spelled.{fits_name};
 ghost use Rattle.dram_model.specs.Chip.{Grew};
@@ -396,7 +396,7 @@ impl<'a> Guard<'a> {
             (D.view dram.old) (D.view dram.new)) }
         ensures rises { OnOk result (RisesAtMost (80 * WALK_MAX) (D.view dram.old).counters
             (D.view dram.new).counters) }
-        ensures sent { OnOk result (Told (λ before after. after ≡ before
+        ensures sent { OnOk result (Known (λ before after. after ≡ before
             ++ line_by (machine_in self.old) number (D.view dram.old).banks (view_of instr.now))
             (S.view out.old).sent (S.view out.new).sent) }
 
@@ -408,7 +408,7 @@ impl<'a> Guard<'a> {
             → is_print (view_of instr.now) ≡ false → S.view out.new ≡ S.view out.old }
         ensures write_fault { IsErrOf result StepFault.WriteFault
             → Rose (S.view out.old).faults (S.view out.new).faults }
-        ensures part { OnErr result (Told (AppendsPart
+        ensures part { OnErr result (Known (AppendsPart
             (line_by (machine_in self.old) number (D.view dram.old).banks (view_of instr.now)))
             (S.view out.old).sent (S.view out.new).sent) }
     {
@@ -454,7 +454,7 @@ impl<'a> Guard<'a> {
         ensures ready { OnOk result (IsReady (machine_in self.new)) }
         ensures table { table_in (machine_in self.new) ≡ table_in (machine_in self.old) }
         ensures failed { OnErr result (Rose (D.view dram.old).faults (D.view dram.new).faults) }
-        ensures untold { Grew (D.view dram.old).log (D.view dram.new).log [] }
+        ensures no_event { Grew (D.view dram.old).log (D.view dram.new).log [] }
     {
         self.machine.image(dram)
     }

@@ -97,7 +97,7 @@ fn checked(
     Err(FlipsKind::Number)
 }
 
-/// What a line says, behind a line with this K.
+/// What a line says, after a line with this K.
 fn flip_in(
     line: &[u8],
     g: Geometry,

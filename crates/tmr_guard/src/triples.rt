@@ -18,8 +18,8 @@ fn is_first(named: &(Name, Object)) -> bool
     }
 }
 
-/// The name behind its first letter.
-fn behind_letter(name: &Name) -> &[u8]
+/// The name after its first letter.
+fn after_letter(name: &Name) -> &[u8]
     ensures { result.now ≡ drop 1 name.now }
 {
     match name.bytes().split_first() {
@@ -42,7 +42,7 @@ fn is_letter_before(letter: u8, name: &[u8], whole: &[u8]) -> bool
 fn is_copy(letter: u8, first: &(Name, Object), named: &(Name, Object)) -> bool
     ensures { result ≡ is_copy_of letter first.now named.now }
 {
-    is_letter_before(letter, behind_letter(&first.0), named.0.bytes())
+    is_letter_before(letter, after_letter(&first.0), named.0.bytes())
         && (named.1.width == first.1.width && named.1.count == first.1.count)
 }
 

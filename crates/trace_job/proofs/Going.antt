@@ -1,4 +1,4 @@
--- Steps behind the opening of a chip, over two views of it.
+-- Steps after the opening of a chip, over two views of it.
 use Rattle.std.proofs.Common.{◌≡◌, ℕ, List, [], ◌∷◌, refl, sym, ◌∙◌}
 use Rattle.std.proofs.Common.{ap, inl, inr}
 use Rattle.std.specs.List.{AllByRecursion}

@@ -1,4 +1,4 @@
--- Steps behind the opening of a chip, over two views of it.
+-- Steps after the opening of a chip, over two views of it.
 use Rattle.std.specs.Prelude.{◌≡◌, true, List, [], ◌∷◌}
 use Rattle.std.specs.List.{AllByRecursion}
 use Rattle.dram_model.specs.View.{ChipView}
@@ -6,7 +6,7 @@ use Rattle.cli_model.specs.World.{World}
 use Rattle.cli_model.specs.Steps.{Step, Load, Take, Store, Open, Use, Put, Print, End, Goes}
 use Rattle.cli_model.specs.Ends.{is_on_chip}
 
--- a step that comes behind the opening: no file is loaded there and no memory taken
+-- a step that comes after the opening: no file is loaded there and no memory taken
 abbrev pub IsLate : Step → Type 0
 IsLate (Load name limit text refusal) = ⊥
 IsLate Take = ⊥

@@ -21,7 +21,7 @@ pub fn spell_trace<D: Dram>(recorder: &mut Recorder<'_, D>, table: &Table) -> bo
         → Spelled (D.view recorder.old.dram.now).geometry table.now.pairs events
         (file_on recorder.new.notes.now) result }
 {
-    if !recorder.is_told() {
+    if !recorder.is_known() {
         return false;
     }
     recorder.spell_file(table);

@@ -75,7 +75,7 @@ few_rows g h = let b = between_is 64 1006 g.rows (bounds_of g h).rows in omega (
 abbrev made : Geometry → List Named → List Event → Trace
 made g table events = record { geometry = g; table = table; events = events }
 
--- what is read behind each field
+-- what is read after each field
 abbrev ending : Geometry → List Named → List ℕ → List Event × ℕ → Result Trace TraceFault
 ending g table bytes events = rule (eqb (length bytes) events.1) events.1 kinds.Rest >>= λ _.
     Ok (made g table events.0)
@@ -177,11 +177,12 @@ file_read t is =
     } in
     let head = Holds-front bytes 0 (trace_head g table) at tail end whole (omega (arith, long)) in
     let last = Holds-back bytes 0 (trace_head g table) at tail end whole (omega (arith, long)) in
-    let behind_opening = geometry_bytes g ++ table_bytes table in
-    let start = Holds-front bytes 0 trace_opening 6 behind_opening at head refl in
-    let behind = Holds-back bytes 0 trace_opening 6 behind_opening at head refl in
-    let geometry = Holds-front bytes 6 (geometry_bytes g) 12 (table_bytes table) at behind refl in
-    let listed = Holds-back bytes 6 (geometry_bytes g) 12 (table_bytes table) at behind refl in
+    let after_opening = geometry_bytes g ++ table_bytes table in
+    let start = Holds-front bytes 0 trace_opening 6 after_opening at head refl in
+    let following = Holds-back bytes 0 trace_opening 6 after_opening at head refl in
+    let geometry = Holds-front bytes 6 (geometry_bytes g) 12 (table_bytes table) at following refl
+    in
+    let listed = Holds-back bytes 6 (geometry_bytes g) 12 (table_bytes table) at following refl in
     let number = Holds-front bytes at count place (events_bytes g t.events) end last refl in
     let events = Holds-back bytes at count place (events_bytes g t.events) end last refl in
     let l : IsListed g table = record {

@@ -60,7 +60,7 @@ EventsAreLegal =
     → AllByRecursion (IsEvent g)
     (events_of_pieces g (routines_in p) turn table (pieces script))
 
--- A file may have the table behind a script where it may have that before it
+-- A file may have the table after a script where it may have that before it
 abbrev pub TableIsWritten : Type 0
 TableIsWritten =
     (g : Geometry) (operations : Routines) (table : List Named) (script : List Instruction)

@@ -96,7 +96,7 @@ head_at g at bytes = do
   legal ← rule (is_legal_head g head) at kinds.Legal
   Ok head
 
--- the event of a head at a place, with the row behind a write, and where the next begins
+-- the event of a head at a place, with the row after a write, and where the next begins
 abbrev pub with_row : Geometry → Head → ℕ → List ℕ → Result (Event × ℕ) TraceFault
 with_row g (Commands bank command) at bytes = Ok (Row bank command, at + 8)
 with_row g (Writes bank row) at bytes = bytes_at (8 * g.words) (at + 8) bytes >>= λ field.

@@ -39,6 +39,6 @@ kept_from g room k (event ∷ events) = kept_from g room (kept_more g room k eve
 abbrev pub kept_of : Geometry → ℕ → List Event → Kept
 kept_of g room events = kept_from g room nothing_kept events
 
--- the log that is told: all of them, while all have fitted
-abbrev pub told : Geometry → ℕ → List Event → Option (List Event)
-told g room events = if nat_le (events_size g events) room then Some events else None
+-- the log that is known: all of them, while all have fitted
+abbrev pub known : Geometry → ℕ → List Event → Option (List Event)
+known g room events = if nat_le (events_size g events) room then Some events else None

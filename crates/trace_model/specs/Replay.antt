@@ -12,7 +12,7 @@ use Rattle.trace_model.specs.Spelling.{Trace}
 abbrev pub replayed : List Event → Image → Banks
 replayed events image = after events (opened image)
 
--- the trace of a script on an image, with a program: the table behind the script, and the events of
+-- the trace of a script on an image, with a program: the table after the script, and the events of
 -- the instructions that are done, in order, each wave under the order in force
 abbrev pub script_trace : Program → Image → List Instruction → Trace
 script_trace p image script = record {

@@ -160,12 +160,12 @@ each_before E a (suc n) banks bank o l =
     (each_before E (a + 1) n (after (E a) banks) bank o (omega arith)
     ∙ on_another E banks a bank o (λ e. absurd (omega arith)))
 
-pub each_behind : (E : ℕ → List Event) (a n : ℕ) (banks : Banks) (bank : ℕ) → OnOwn E → a + n ≤ bank
+pub each_after : (E : ℕ → List Event) (a n : ℕ) (banks : Banks) (bank : ℕ) → OnOwn E → a + n ≤ bank
     → after (flat_map E (range_with_len a n)) banks bank ≡ banks bank
-each_behind E a zero banks bank o l = refl
-each_behind E a (suc n) banks bank o l =
+each_after E a zero banks bank o l = refl
+each_after E a (suc n) banks bank o l =
     rw (after-append (E a) (flat_map E (range_with_len (a + 1) n)) banks)
-    (each_behind E (a + 1) n (after (E a) banks) bank o (omega arith)
+    (each_after E (a + 1) n (after (E a) banks) bank o (omega arith)
     ∙ on_another E banks a bank o (λ e. absurd (omega arith)))
 
 pub each_inside : (E : ℕ → List Event) (a n : ℕ) (banks : Banks) (bank : ℕ) → OnOwn E → a ≤ bank
@@ -317,22 +317,22 @@ others_hold g base n values banks bank cell h =
           banks bank (own_events g base n numbers) (omega arith) (omega arith))
           ∙ rows_kept bank base (row_bits g numbers bank) 0 n n (banks bank) cell (omega arith) h)
       | inr ge ↦ ap (map (λ (s : Column). s cell))
-          (each_behind (bank_events g base n numbers) 0 segments banks bank
+          (each_after (bank_events g base n numbers) 0 segments banks bank
           (own_events g base n numbers) (omega arith))
     ]
 
-pub behind_first : (g : Geometry) (base n : ℕ) (numbers : List ℕ) (banks : Banks) (count bank : ℕ)
+pub after_first : (g : Geometry) (base n : ℕ) (numbers : List ℕ) (banks : Banks) (count bank : ℕ)
     → count ≤ bank → after (flat_map (bank_events g base n numbers) (range_with_len 0 count)) banks
     bank ≡ banks bank
-behind_first g base n numbers banks count bank l =
-    each_behind (bank_events g base n numbers) 0 count banks bank (own_events g base n numbers)
+after_first g base n numbers banks count bank l =
+    each_after (bank_events g base n numbers) 0 count banks bank (own_events g base n numbers)
     (omega arith)
 
-pub behind_hold : (g : Geometry) (base n : ℕ) (values : List ℕ) (banks : Banks) (bank : ℕ)
+pub after_hold : (g : Geometry) (base n : ℕ) (values : List ℕ) (banks : Banks) (bank : ℕ)
     → (bank < segments_of g (length values) → ⊥)
     → after (write_events g base n values) banks bank ≡ banks bank
 unfolding write_events
-behind_hold g base n values banks bank h = behind_first g base n
+after_hold g base n values banks bank h = after_first g base n
     (padded_to (size_of g (length values)) values) banks (segments_of g (length values)) bank
     (elim (cases_lt bank (segments_of g (length values))) [ inl lt ↦ absurd (h lt) | inr ge ↦ ge ])
 
@@ -348,6 +348,6 @@ pub writes_hold : WritesHold
 writes_hold = record {
   numbers = numbers_hold;
   others = others_hold;
-  behind = behind_hold;
+  following = after_hold;
   counted = counted_hold;
 }

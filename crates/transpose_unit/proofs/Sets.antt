@@ -82,7 +82,7 @@ blocks_more values stage new block turned start first words w l b t own others h
           ∙ bit-part (get_or values (start + 64 * w + c) 0) first k 64 lk))
     ]
 
--- two halves of a stage, one behind the other
+-- two halves of a stage, one after the other
 pub halves : (words rows n : ℕ) (low high : List ℕ) (P : ℕ → ℕ → ℕ → Type 0)
     → length low ≡ 64 * words → rows ≡ 64 + 64
     → ((k w : ℕ) → k < 64 → w < words → P k w (get_or low (k * words + w) 0))

@@ -28,7 +28,7 @@ pub record WritesHold : Type 0 where
       (cell : Cell) → is_in_rows base n cell ≡ false
       → map (λ column. column cell) (after (write_events g base n values) banks bank)
       ≡ map (λ column. column cell) (banks bank)
-  pub behind : (g : Geometry) (base n : ℕ) (values : List ℕ) (banks : Banks) (bank : ℕ)
+  pub following : (g : Geometry) (base n : ℕ) (values : List ℕ) (banks : Banks) (bank : ℕ)
       → (bank < segments_of g (length values) → ⊥)
       → after (write_events g base n values) banks bank ≡ banks bank
   pub counted : (g : Geometry) (base n : ℕ) (values : List ℕ) (counters : Counters)

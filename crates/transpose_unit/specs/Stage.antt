@@ -1,4 +1,4 @@
--- A stage: the rows of one bank's part of an object, one behind the other.
+-- A stage: the rows of one bank's part of an object, one after the other.
 use Rattle.std.specs.Prelude.{◌≡◌, ℕ, ◌+◌, ◌*◌, ◌<◌, List, map, take, drop, slice_index_or, nat_le}
 use Rattle.std.specs.Prelude.{if◌then◌else◌}
 use Rattle.std.specs.List.{range_with_len}

@@ -131,7 +131,7 @@ pub fn read_segment<D: Dram>(
         (range_with_len 0 (column_count g)) ≡ map (number base n) ((D.view dram.old).banks bank)) }
     ensures did { OnOk result (DidRead n (D.view dram.old) (D.view dram.new)) }
     ensures failed { OnErr result (FailedIn bank (D.view dram.old) (D.view dram.new)) }
-    ensures untold { OnErr result (Grew (D.view dram.old).log (D.view dram.new).log []) }
+    ensures no_event { OnErr result (Grew (D.view dram.old).log (D.view dram.new).log []) }
 {
     let words = usize::from(g.words);
     for k in 0..n {

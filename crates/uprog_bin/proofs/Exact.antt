@@ -214,12 +214,12 @@ spelled bytes version ms fits e =
     let end : ℕ = codes_start ls + 8 * total_count ls in
     let counted : Holds bytes 6 (to_le_bytes w16 (length d.0)) 8 =
     subst (λ n. Holds bytes 6 (to_le_bytes w16 n) 8) (sym many) count.0 in
-    let behind = Holds-then bytes 8 (directory_bytes 0 d.0) (codes_start ls)
+    let following = Holds-then bytes 8 (directory_bytes 0 d.0) (codes_start ls)
     (flat_map code_bytes d.0) end directory codes in
     let whole = Holds-then bytes 0 (opening_bytes v) 6 (to_le_bytes w16 (length d.0)
     ++ (directory_bytes 0 d.0 ++ flat_map code_bytes d.0)) end opening.0
     (Holds-then bytes 6 (to_le_bytes w16 (length d.0)) 8 (directory_bytes 0 d.0
-    ++ flat_map code_bytes d.0) end counted behind) in
+    ++ flat_map code_bytes d.0) end counted following) in
     let text : bytes ≡ opening_bytes v ++ (to_le_bytes w16 (length d.0)
     ++ (directory_bytes 0 d.0 ++ flat_map code_bytes d.0)) =
     whole.parts ∙ ap (λ (rest : List ℕ). (opening_bytes v

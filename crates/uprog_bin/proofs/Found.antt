@@ -301,11 +301,11 @@ uops-take (suc n) bytes =
     let e : 8 * suc n ≡ 8 + 8 * n = omega arith in
     let front : take 8 (take (8 + 8 * n) bytes) ≡ take 8 bytes =
     take-take 8 (8 + 8 * n) bytes (omega arith) in
-    let behind : drop 8 (take (8 + 8 * n) bytes) ≡ take (8 * n) (drop 8 bytes) =
+    let following : drop 8 (take (8 + 8 * n) bytes) ≡ take (8 * n) (drop 8 bytes) =
     drop-take 8 (8 * n) bytes in
     ap (λ k. uops_in (suc n) (take k bytes)) e
     ∙ ap (λ f. uop_in f ∷ uops_in n (drop 8 (take (8 + 8 * n) bytes))) front
-    ∙ ap (λ r. uop_in (take 8 bytes) ∷ uops_in n r) behind
+    ∙ ap (λ r. uop_in (take 8 bytes) ∷ uops_in n r) following
     ∙ ap (λ (is : List Uop). uop_in (take 8 bytes) ∷ is) (uops-take n (drop 8 bytes))
 
 -- an entry of the file, with the slice that holds its code

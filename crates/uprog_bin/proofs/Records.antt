@@ -270,7 +270,7 @@ unnamed (x ∷ ls) name h zero d lt e = false≢true
 unnamed (x ∷ ls) name h (suc k) d lt e = unnamed ls name
     (or_false (bytes_eq x.name name) (has_name ls name) h).1 k d (omega arith) e
 
--- the records that were read, behind the earlier ones
+-- the records that were read, after the earlier ones
 pub record Reads (v : ℕ) (bytes : List ℕ) (n at : ℕ) (earlier all : List Listing) : Type 0 where
   pub rest : List Listing
   pub parts : all ≡ earlier ++ rest

@@ -22,7 +22,8 @@ at-uops (suc n) (suc k) bytes lt =
     ∙ ap (λ m. drop m bytes) (sym e))
 
 module _ (name : List ℕ) (shape : Shape) (bytes : List ℕ) (seen : EntryBytes)
-    (is : (let h : EntryBytes = record { name = name; shape = shape; bytes = bytes } in h) ≡ seen) where
+    (is : (let h : EntryBytes = record { name = name; shape = shape; bytes = bytes } in h)
+    ≡ seen) where
   pub length-code : length (code_of seen) ≡ length bytes / 8
   length-code = ap (λ (h : EntryBytes). length (code_of h)) (sym is)
       ∙ length-uops (length bytes / 8) bytes

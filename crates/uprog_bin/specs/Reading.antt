@@ -210,7 +210,7 @@ listing_at version earlier start at bytes = do
   count ← field_at w16 (is_between 1 65535) kinds.Directory (at + 25) bytes
   Ok (record { name = name; shape = shape; start = first; count = count })
 
--- these entries, and so many after them, whose code starts behind theirs
+-- these entries, and so many after them, whose code starts after theirs
 unfoldable pub directory_at : ℕ → ℕ → List Listing → ℕ → ℕ → List ℕ
     → Result (List Listing) ProgFault
 directory_at version zero earlier start at bytes = Ok earlier

@@ -130,7 +130,7 @@ fn is_kinds(version: u16, sources: u8, bits: u8) -> bool
     bits % 16 < limit && is_results(version, bits / 16)
 }
 
-/// The head at a place, behind its name.
+/// The head at a place, after its name.
 #[tactic(auto, unfolding(crate::specs::Reading::shape_at))]
 fn head_of(version: u16, name: Name, bytes: &[u8], at: usize) -> Result<Head, ProgFault>
     requires small { length bytes.now < 2 ^ 32 }

@@ -31,7 +31,8 @@ counted-issues bank rows shape b (IssueAap x y ∷ is) c =
     let o : count_by issues_ap (IssueAap x y ∷ is) ≡ 0 + count_by issues_ap is =
     more_of issues_ap (IssueAap x y) is in
     counted-issues bank rows shape b is (record c { aap = c.aap + 1 })
-    ∙ same_counters (c.aap + 1 + count_by issues_aap is) (c.aap + count_by issues_aap (IssueAap x y ∷ is))
+    ∙ same_counters (c.aap + 1 + count_by issues_aap is) (c.aap
+    + count_by issues_aap (IssueAap x y ∷ is))
     (c.ap + count_by issues_ap is) (c.ap + count_by issues_ap (IssueAap x y ∷ is)) c (omega arith)
     (omega arith)
 counted-issues bank rows shape b (IssueAp x ∷ is) c =
@@ -40,6 +41,7 @@ counted-issues bank rows shape b (IssueAp x ∷ is) c =
     let o : count_by issues_ap (IssueAp x ∷ is) ≡ 1 + count_by issues_ap is =
     more_of issues_ap (IssueAp x) is in
     counted-issues bank rows shape b is (record c { ap = c.ap + 1 })
-    ∙ same_counters (c.aap + count_by issues_aap is) (c.aap + count_by issues_aap (IssueAp x ∷ is)) (c.ap
+    ∙ same_counters (c.aap + count_by issues_aap is) (c.aap + count_by issues_aap (IssueAp x
+    ∷ is)) (c.ap
     + 1 + count_by issues_ap is) (c.ap + count_by issues_ap (IssueAp x ∷ is)) c (omega arith)
     (omega arith)

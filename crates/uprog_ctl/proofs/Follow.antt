@@ -18,7 +18,7 @@ use Rattle.wave_model.proofs.Live.{live_kept, live_gone, live_apart, other_left,
 use Rattle.wave_model.proofs.Turning.{live_more}
 use Rattle.uprog_ctl.specs.declared.cursor.Cursor.{Cursor}
 use Rattle.uprog_ctl.specs.Waves.{BoundJob}
-use Rattle.uprog_ctl.specs.Cursors.{IsAt, AreAt, GoesOn, MovesOn, left_behind}
+use Rattle.uprog_ctl.specs.Cursors.{IsAt, AreAt, GoesOn, MovesOn, left_after}
 
 map-remove : {X Y : Type 0} (f : X → Y) (xs : List X) (i : ℕ)
     → map f (remove xs i) ≡ remove (map f xs) i
@@ -81,23 +81,23 @@ module _ (banks rows : ℕ) (jobs : List BoundJob) (left : Queues) (cs : List Cu
       (sym (kth_bank k e lt) ∙ same ∙ kth_bank i d l))))
 
   -- what is left of its own queue
-  own_behind : (d : Cursor) → drop 1 (left (get_or cs k d).bank)
-      ≡ left_behind rows jobs (get_or cs k d)
-  own_behind d = ap (drop 1) ((are.each k d lt).left)
+  own_after : (d : Cursor) → drop 1 (left (get_or cs k d).bank)
+      ≡ left_after rows jobs (get_or cs k d)
+  own_after d = ap (drop 1) ((are.each k d lt).left)
 
   pub goes_on : (c : Cursor) (new : List Cursor) (b : ℕ) → b ≡ (get_or cs k c).bank
       → GoesOn rows jobs cs k c new → AreAt banks rows jobs (without_next b left) new
   goes_on c new b own on =
       let b' = (get_or cs k c).bank in
       let more : 0 < length (drop 1 (left b')) =
-      omega (arith, ap length (own_behind c), ap length on.at.left) in
+      omega (arith, ap length (own_after c), ap length on.at.left) in
       let same_banks : map (λ (d : Cursor). d.bank) (set cs k c) ≡ map (λ (d : Cursor). d.bank) cs =
       map-set (λ (d : Cursor). d.bank) cs k c
       ∙ ap (λ x. set (map (λ (d : Cursor). d.bank) cs) k x) (on.bank
       ∙ sym (get_or-map (λ (d : Cursor). d.bank) cs k c 0 lt))
       ∙ set-get_or (map (λ (d : Cursor). d.bank) cs) k 0 in
-      let here : without_next b' left c.bank ≡ left_behind rows jobs (get_or cs k c) =
-      ap (without_next b' left) on.bank ∙ own_left left b' ∙ own_behind c in
+      let here : without_next b' left c.bank ≡ left_after rows jobs (get_or cs k c) =
+      ap (without_next b' left) on.bank ∙ own_left left b' ∙ own_after c in
       subst (λ (x : ℕ). AreAt banks rows jobs (without_next x left) new) (sym own)
       (subst (λ (xs : List Cursor). AreAt banks rows jobs (without_next b' left) xs)
       (sym on.cursors)
@@ -117,11 +117,11 @@ module _ (banks rows : ℕ) (jobs : List BoundJob) (left : Queues) (cs : List Cu
       }))
 
   pub ends_here : (new : List Cursor) (b : ℕ) (d : Cursor) → b ≡ (get_or cs k d).bank
-      → left_behind rows jobs (get_or cs k d) ≡ [] → new ≡ remove cs k
+      → left_after rows jobs (get_or cs k d) ≡ [] → new ≡ remove cs k
       → AreAt banks rows jobs (without_next b left) new
   ends_here new b d own none gone =
       let b' = (get_or cs k d).bank in
-      let over : drop 1 (left b') ≡ [] = own_behind d ∙ none in
+      let over : drop 1 (left b') ≡ [] = own_after d ∙ none in
       subst (λ (x : ℕ). AreAt banks rows jobs (without_next x left) new) (sym own)
       (subst (λ (xs : List Cursor). AreAt banks rows jobs (without_next b' left) xs) (sym gone)
       (record {

@@ -101,12 +101,12 @@ done_left rows bank job jobs w e = rw e (none (nat_lt bank job.banks))
     none true = refl
     none false = refl
 
--- the command that is found, and what is left behind it
+-- the command that is found, and what is left after it
 pub found_left : (rows bank : ℕ) (job : BoundJob) (jobs : List BoundJob) (w : Walk) (found : Found)
     → bank < job.banks → Finds job w found
     → left_from rows bank (job ∷ jobs) w
     ≡ bound_command rows job.shape job.binding.n (bound_of job.binding) (issue_of found.issued)
-    ∷ left_from rows bank (job ∷ jobs) found.behind
+    ∷ left_from rows bank (job ∷ jobs) found.following
 found_left rows bank job jobs w found lt finds = rw (lt-ltb bank job.banks lt)
     (ap (λ (is : List Issue). bound rows job.shape job.binding.n (bound_of job.binding) is
     ++ job_queues rows jobs bank) finds.first)
@@ -120,20 +120,20 @@ pub cursor_at : (g : Geometry) (all jobs : List BoundJob) (job : BoundJob) (i ba
       next = bound_command g.rows job.shape job.binding.n (bound_of job.binding)
           (issue_of found.issued);
       job = i;
-      walk = found.behind;
+      walk = found.following;
     } → IsAt g.rows all left c
 cursor_at g all jobs job i bank w left found c can lt here on finds is e =
     let first = found_left g.rows bank job jobs w found on finds in
     let what = sym is ∙ ap (λ (js : List BoundJob). left_from g.rows bank js w) here ∙ first
     ∙ ap (λ (js : List BoundJob). bound_command g.rows job.shape job.binding.n
-    (bound_of job.binding) (issue_of found.issued) ∷ left_from g.rows bank js found.behind)
+    (bound_of job.binding) (issue_of found.issued) ∷ left_from g.rows bank js found.following)
     (sym here) in
     subst (λ (d : Cursor). IsAt g.rows all left d) (sym e) (record {
       left = what;
       job = lt;
       legal = command_legal g.rows job.shape job.binding.n (bound_of job.binding) can.fits can.some
           (issue_of found.issued) finds.good;
-      stands = subst (λ (js : List BoundJob). StandsInFirst js found.behind) (sym here)
+      stands = subst (λ (js : List BoundJob). StandsInFirst js found.following) (sym here)
           finds.stands;
     })
 

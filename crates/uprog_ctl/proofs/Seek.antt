@@ -19,7 +19,7 @@ use Rattle.uprog_code.proofs.Kept.{turn_good}
 use Rattle.uprog_code.proofs.Steps.{legal_operands, goes_on, not_last, place_in}
 use Rattle.uprog_ctl.proofs.Left.{step_from, ended-onto, issues-onto}
 
--- a step that isn't the last: what it issues, and what is left behind it
+-- a step that isn't the last: what it issues, and what is left after it
 pub record Stepped (shape : Shape) (code : List Uop) (n : ℕ) (here : Trace) (left q : ℕ)
     (regs : List ℕ) (turn : Turn) : Type 0 where
   pub ended : HasEnded (issue shape code n left q regs)

@@ -16,18 +16,18 @@ use Rattle.dram_model.specs.Events.{row_events}
 use Rattle.dram_model.specs.View.{ChipView, Did, FailedIn}
 use Rattle.dram_model.proofs.EventLaws.{Did-none, Did-more, Grew-more, counted-bound}
 use Rattle.wave_model.specs.Schedule.{Queues, live, Picker, PicksLive, total_left, without_next}
-use Rattle.wave_model.specs.Schedule.{state_behind, whole_picks}
+use Rattle.wave_model.specs.Schedule.{last_state, whole_picks}
 use Rattle.wave_model.proofs.Waves.{picks_whole}
 use Rattle.wave_model.proofs.Turning.{OnePick, one_pick, no_pick}
 use Rattle.wave_model.proofs.Prefixes.{wave_stops}
 use Rattle.uprog_ctl.specs.declared.cursor.Cursor.{Cursor}
 use Rattle.uprog_ctl.specs.Waves.{BoundJob, wave_events, StoppedAmong}
-use Rattle.uprog_ctl.specs.Cursors.{AreAt, MovesOn, left_behind}
+use Rattle.uprog_ctl.specs.Cursors.{AreAt, MovesOn, left_after}
 use Rattle.uprog_ctl.proofs.Follow.{kth_bank, moves_on}
 
 -- how much the cursors have still to do
 abbrev pub work_of : ℕ → List BoundJob → Cursor → ℕ
-work_of rows jobs c = suc (length (left_behind rows jobs c))
+work_of rows jobs c = suc (length (left_after rows jobs c))
 
 abbrev pub work : ℕ → List BoundJob → List Cursor → ℕ
 work rows jobs cs = sum_by (work_of rows jobs) cs
@@ -38,11 +38,11 @@ pub less_work : (rows : ℕ) (jobs : List BoundJob) (cs : List Cursor) (k : ℕ)
     → work rows jobs new < work rows jobs cs
 less_work rows jobs cs k d new lt (inl on) =
     let c = on.0 in
-    let behind : length (left_behind rows jobs (get_or cs k c))
-    ≡ suc (length (left_behind rows jobs c)) = ap length on.1.at.left in
+    let following : length (left_after rows jobs (get_or cs k c))
+    ≡ suc (length (left_after rows jobs c)) = ap length on.1.at.left in
     let set_sum = sum_by-set (work_of rows jobs) cs k c c lt in
     subst (λ (xs : List Cursor). work rows jobs xs < work rows jobs cs) (sym on.1.cursors)
-    (omega (arith, behind, set_sum))
+    (omega (arith, following, set_sum))
 less_work rows jobs cs k d new lt (inr none) =
     let gone = sum_by-remove (work_of rows jobs) cs k d lt in
     subst (λ (xs : List Cursor). work rows jobs xs < work rows jobs cs) (sym none.1)
@@ -86,7 +86,7 @@ module _ {S : Type 0} (p : Picker S) (banks rows : ℕ) (jobs : List BoundJob) (
     pub at : AreAt banks rows jobs left cs
     pub did : Did done first now
     pub events : wave_events p banks s0 qs ≡ done ++ wave_events p banks s left
-    pub state : state_behind p banks s0 qs ≡ state_behind p banks s left
+    pub state : last_state p banks s0 qs ≡ last_state p banks s left
     pub aap : now.counters.aap + total_left banks left ≤ first.counters.aap + total_left banks qs
     pub ap : now.counters.ap + total_left banks left ≤ first.counters.ap + total_left banks qs
 
@@ -102,7 +102,7 @@ module _ {S : Type 0} (p : Picker S) (banks rows : ℕ) (jobs : List BoundJob) (
     ap = omega arith;
   }
 
-  -- the k-th cursor does its command, and the wave goes on behind it
+  -- the k-th cursor does its command, and the wave goes on after it
   module _ (s s' : S) (now : ChipView) (cs : List Cursor) (k : ℕ) (so : SoFar s now cs)
       (ok : PicksLive p) (it : Chosen p s s' cs k) where
     long : length cs ≡ length (live banks so.left)
@@ -121,7 +121,7 @@ module _ {S : Type 0} (p : Picker S) (banks rows : ℕ) (jobs : List BoundJob) (
         let one = pick_of d in
         let c = get_or cs k d in
         one.events ∙ ap (λ es. es ++ wave_events p banks s' (without_next c.bank so.left))
-        (row_one c.bank (so.left c.bank) (left_behind rows jobs c) c.next
+        (row_one c.bank (so.left c.bank) (left_after rows jobs c) c.next
         (so.at.each k d it.within).left)
 
     pub bank_within : (d : Cursor) → (get_or cs k d).bank < banks
@@ -165,7 +165,7 @@ module _ {S : Type 0} (p : Picker S) (banks rows : ℕ) (jobs : List BoundJob) (
     pub stopped : (d : Cursor) (new : ChipView) → banks ≡ first.geometry.banks
         → first.faults ≤ now.faults → FailedIn (get_or cs k d).bank now new
         → Grew now.log new.log [] → StoppedAmong (wave_events p banks s0 qs) qs first new
-    stopped d new shape faults failed untold =
+    stopped d new shape faults failed no_event =
         let c = get_or cs k d in
         let all = wave_events p banks s0 qs in
         let rest = wave_events p banks s' (without_next c.bank so.left) in
@@ -176,8 +176,8 @@ module _ {S : Type 0} (p : Picker S) (banks rows : ℕ) (jobs : List BoundJob) (
         let is_whole = picks_whole p banks (total_left banks qs) s0 qs ok refl in
         let here : now.banks ≡ after (take (length so.done) all) first.banks = so.did.banks
         ∙ ap (λ es. after es first.banks) (sym part) in
-        let told : Grew first.log new.log (so.done ++ []) =
-        Grew-more first.log now.log new.log so.done [] so.did.log untold in
+        let known : Grew first.log new.log (so.done ++ []) =
+        Grew-more first.log now.log new.log so.done [] so.did.log no_event in
         record {
           done = length so.done;
           bank = c.bank;
@@ -188,13 +188,13 @@ module _ {S : Type 0} (p : Picker S) (banks rows : ℕ) (jobs : List BoundJob) (
               let stop = wave_stops banks (whole_picks p banks s0 qs) qs first.banks b
               (length so.done) is_whole (subst (λ n. b < n) (sym shape) l) in
               (stop.0, failed.others b ne ∙ ap (λ (bs : Banks). bs b) here ∙ stop.1);
-          told = subst (λ es. Grew first.log new.log es) (append-nil so.done ∙ sym part) told;
+          known = subst (λ es. Grew first.log new.log es) (append-nil so.done ∙ sym part) known;
           rose = omega (arith, failed.rose, faults);
         }
 
   -- no bank has commands left
   pub all_over : (s : S) (now : ChipView) (cs : List Cursor) → SoFar s now cs → length cs ≡ 0
-      → Did (wave_events p banks s0 qs) first now × (s ≡ state_behind p banks s0 qs)
+      → Did (wave_events p banks s0 qs) first now × (s ≡ last_state p banks s0 qs)
   all_over s now cs so none =
       let no_live : live banks so.left ≡ [] = sym so.at.live
       ∙ ap (λ (xs : List Cursor). map (λ (c : Cursor). c.bank) xs) (nil_from_length cs none) in

@@ -46,7 +46,8 @@ module _ (rows : ℕ) where
       (bound_command rows job.shape job.binding.n (bound_of job.binding)) same (issues_in job)
     where
       same : (i : Issue)
-          → is_ap (bound_command rows job.shape job.binding.n (bound_of job.binding) i) ≡ issues_ap i
+          → is_ap (bound_command rows job.shape job.binding.n (bound_of job.binding) i)
+          ≡ issues_ap i
       same (IssueAap x y) = refl
       same (IssueAp x) = refl
 
@@ -60,7 +61,8 @@ module _ (rows : ℕ) where
       sum_by-cons (λ (j : WaveJob). j.banks * count_by p j.commands) (wave_job rows job)
       (map (wave_job rows) jobs)
       ∙ ap (λ n. job.banks * n
-      + sum_by (λ (j : WaveJob). j.banks * count_by p j.commands) (map (wave_job rows) jobs)) (same job)
+      + sum_by (λ (j : WaveJob). j.banks * count_by p j.commands) (map (wave_job rows) jobs)) (same
+      job)
       ∙ ap (λ n. job.banks * count_by q (issues_in job) + n) (job_sums p q same jobs)
       ∙ sym (sum_by-cons (λ (j : BoundJob). j.banks * count_by q (issues_in j)) job jobs)
 

@@ -26,12 +26,12 @@ pub record StandsIn (job : BoundJob) (w : Walk) : Type 0 where
   pub registers : AreRegisters w.regs
   pub ended : HasEnded (rest_of job w)
 
--- the first command of what is left is found, and the place behind it
+-- the first command of what is left is found, and the place after it
 pub record Finds (job : BoundJob) (w : Walk) (found : Found) : Type 0 where
   pub first : issues_of (rest_of job w)
-      ≡ issue_of found.issued ∷ issues_of (rest_of job found.behind)
+      ≡ issue_of found.issued ∷ issues_of (rest_of job found.following)
   pub good : is_good job.shape job.binding.n (issue_of found.issued) ≡ true
-  pub stands : StandsIn job found.behind
+  pub stands : StandsIn job found.following
 
 -- what a bank has still to do of these jobs, where it stands in the first of them
 abbrev pub left_from : ℕ → ℕ → List BoundJob → Walk → List Command
@@ -46,14 +46,14 @@ abbrev pub StandsInFirst : List BoundJob → Walk → Type 0
 StandsInFirst [] w = Unit {0}
 StandsInFirst (job ∷ jobs) w = StandsIn job w
 
--- what a cursor has still to do: its next command, and what stands behind it
-abbrev pub left_behind : ℕ → List BoundJob → Cursor → List Command
-left_behind rows jobs c = left_from rows c.bank (drop c.job jobs) c.walk
+-- what a cursor has still to do: its next command, and what stands after it
+abbrev pub left_after : ℕ → List BoundJob → Cursor → List Command
+left_after rows jobs c = left_from rows c.bank (drop c.job jobs) c.walk
 
 -- the cursor of a bank that has these commands still to do
 pub record IsAt (rows : ℕ) (jobs : List BoundJob) (commands : List Command) (c : Cursor) : Type 0
   where
-    pub left : commands ≡ c.next ∷ left_behind rows jobs c
+    pub left : commands ≡ c.next ∷ left_after rows jobs c
     pub job : c.job < length jobs
     pub legal : is_legal rows c.next ≡ true
     pub stands : StandsInFirst (drop c.job jobs) c.walk
@@ -73,11 +73,11 @@ pub record AreAt (banks rows : ℕ) (jobs : List BoundJob) (left : Queues) (cs :
 pub record GoesOn (rows : ℕ) (jobs : List BoundJob) (old : List Cursor) (k : ℕ) (c : Cursor)
     (new : List Cursor) : Type 0 where
   pub bank : c.bank ≡ (slice_index_or old k c).bank
-  pub at : IsAt rows jobs (left_behind rows jobs (slice_index_or old k c)) c
+  pub at : IsAt rows jobs (left_after rows jobs (slice_index_or old k c)) c
   pub cursors : new ≡ slice_set old k c
 
 abbrev pub MovesOn : ℕ → List BoundJob → List Cursor → ℕ → List Cursor → Type 0
 MovesOn rows jobs old k new =
     ((c : Cursor) × GoesOn rows jobs old k c new)
-    ⊎ (((d : Cursor) → left_behind rows jobs (slice_index_or old k d) ≡ [])
+    ⊎ (((d : Cursor) → left_after rows jobs (slice_index_or old k d) ≡ [])
     × (new ≡ remove old k))

@@ -77,8 +77,8 @@ abbrev pub wave_events : {S : Type 0} → Picker S → ℕ → S → Queues → 
 wave_events picker banks state left =
     events_of_picks banks (whole_picks picker banks state left) left
 
--- The call for an event failed: those before it are done, its bank is unsaid, and each other bank
--- stands where the first commands of its own queue leave it
+-- The call for an event failed: those before it are done, its bank is unspecified, and each other
+-- bank stands where the first commands of its own queue leave it
 pub record StoppedAmong (events : List Event) (queue : Queues) (old new : ChipView) : Type 0 where
   pub done : ℕ
   pub bank : ℕ
@@ -87,5 +87,5 @@ pub record StoppedAmong (events : List Event) (queue : Queues) (old new : ChipVi
   pub others : SameBut bank (after (take done events) old.banks) new.banks
   pub alone : (b : ℕ) → b ≢ bank → b < old.geometry.banks
       → (k : ℕ) × (new.banks b ≡ map (run (take k (queue b))) (old.banks b))
-  pub told : Grew old.log new.log (take done events)
+  pub known : Grew old.log new.log (take done events)
   pub rose : Rose old.faults new.faults

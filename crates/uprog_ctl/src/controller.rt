@@ -44,7 +44,7 @@ pub(crate) fn do_command<D: Dram>(
     ensures did { OnOk result (Did (Event.Row bank command ∷ [])
         (D.view dram.old) (D.view dram.new)) }
     ensures failed { OnErr result (FailedIn bank (D.view dram.old) (D.view dram.new)) }
-    ensures untold { OnErr result (Grew (D.view dram.old).log (D.view dram.new).log []) }
+    ensures no_event { OnErr result (Grew (D.view dram.old).log (D.view dram.new).log []) }
 {
     match command {
         Command::Ap(x) => dram.ap(bank, x),

@@ -39,14 +39,14 @@ impl Walk {
     }
 }
 
-/// A row command that is not bound yet, and the place behind it.
+/// A row command that is not bound yet, and the place after it.
 #[derive(Clone, Copy, Debug, PartialEq, Eq)]
 pub(crate) struct Found {
     pub issued: Issued,
-    pub behind: Walk,
+    pub following: Walk,
 }
 
-/// A bank that has commands left: the next one, and the job and the place behind it.
+/// A bank that has commands left: the next one, and the job and the place after it.
 #[derive(Clone, Copy, Debug, PartialEq, Eq)]
 pub(crate) struct Cursor {
     pub bank: u16,
@@ -135,12 +135,12 @@ fn seek<F: Fetch>(job: &Job<F>, head: &Head, g: Geometry, from: Walk) -> Option<
                 match issued_by(turn) {
                     Some(issued) => {
                         let left = from.left - k - 1;
-                        let behind = Walk {
+                        let following = Walk {
                             pc: next,
                             regs,
                             left,
                         };
-                        return Some(Found { issued, behind });
+                        return Some(Found { issued, following });
                     }
                     None => pc = next,
                 }
@@ -183,7 +183,7 @@ fn next_cursor<F: Fetch>(
                     bank,
                     next,
                     job: i,
-                    walk: found.behind,
+                    walk: found.following,
                 });
             }
         }
@@ -213,7 +213,7 @@ pub(crate) fn first_cursors<F: Fetch>(
     cursors
 }
 
-/// The bank of the k-th cursor goes on behind its command; it is no longer among them where it has
+/// The bank of the k-th cursor goes on after its command; it is no longer among them where it has
 /// none left.
 #[inline(always)]
 pub(crate) fn go_on<F: Fetch>(

@@ -6,7 +6,7 @@ ghost use Rattle.dram_model.specs.View.{HasBegun, Kept, Did};
 ghost use Rattle.uprog_ctl.specs.Events.{risen};
 ghost use Rattle.uprog_ctl.specs.Waves.{bound_jobs, job_queues, CanRun, wave_counts};
 ghost use Rattle.uprog_ctl.specs.Waves.{wave_events, StoppedAmong};
-ghost use Rattle.wave_model.specs.Schedule.{IsWhole, whole_picks, state_behind};
+ghost use Rattle.wave_model.specs.Schedule.{IsWhole, whole_picks, last_state};
 
 use crate::controller::do_command;
 use crate::cursor::{first_cursors, go_on, heads_of};
@@ -65,7 +65,7 @@ pub fn run_wave<D: Dram, F: Fetch, P: Picker>(
         (job_queues (D.view dram.old).geometry.rows (bound_jobs F.shape F.code jobs.now)))
         (job_queues (D.view dram.old).geometry.rows (bound_jobs F.shape F.code jobs.now)) }
     ensures state { OnOk result (P.state picker.new
-        ≡ state_behind P.rule (D.view dram.old).geometry.banks (P.state picker.old)
+        ≡ last_state P.rule (D.view dram.old).geometry.banks (P.state picker.old)
         (job_queues (D.view dram.old).geometry.rows (bound_jobs F.shape F.code jobs.now))) }
     ensures alone { OnOk result ((bank : ℕ) → bank < (D.view dram.old).geometry.banks
         → (D.view dram.new).banks bank ≡ map (run (job_queues (D.view dram.old).geometry.rows

@@ -71,7 +71,7 @@ pub record IsGraphed (e : Microprogram) (op : Operation) (gs : List Graphed) : T
       ≤ graphed_ceiling op.params n op.body gs
   pub exact : IsExact e op
 
--- behind the graphs before stand the operation's
+-- after the graphs before stand the operation's
 abbrev pub AddsGraphs : Microprogram → Operation → List Graphed → List Graphed → Type 0
 AddsGraphs e op old new = (own : List Graphed) × (new ≡ old ++ own) × IsGraphed e op own
 

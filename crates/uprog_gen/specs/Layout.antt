@@ -64,7 +64,7 @@ abbrev pub found : List Lay → List ℕ → Option Slot
 found [] name = None
 found (l ∷ ls) name = if bytes_eq l.name name then Some l.slot else found ls name
 
--- each name has its place, and the scratch behind the names is free
+-- each name has its place, and the scratch after the names is free
 pub record IsLayout (op : Operation) (slots : Slots) (free_bit free_word : ℕ) : Type 0 where
   pub at : (name : List ℕ) → slots name ≡ found (lays op) name
   pub bits : free_bit ≡ scratch_names Bit op

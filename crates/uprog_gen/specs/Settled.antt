@@ -6,7 +6,7 @@ use Rattle.uprog_code.specs.declared.walker.Counts.{Counts}
 use Rattle.row_alloc.specs.declared.body.BodyCmd.{BodyCmd}
 use Rattle.row_alloc.specs.declared.body.BodyCmd.TheVariants.{Aap, Ap}
 use Rattle.row_alloc.specs.Known.{known_at, WordBody, Inverted, Shifted, Both, Either, Without}
-use Rattle.row_alloc.specs.Known.{Unlike, Chosen, Compared, Agreed, Added, Lessened, TurnedBy}
+use Rattle.row_alloc.specs.Known.{Unlike, Chosen, Compared, Agreed, Added, Lessened, NegatedIf}
 use Rattle.row_alloc.specs.Known.{Multiplied, Counted, Divided, inputs_in, nodes_in, outs_in}
 use Rattle.row_alloc.specs.Known.{sequence_for}
 use Rattle.loop_ir.specs.Plain.{Block}
@@ -32,7 +32,7 @@ word_among (w ∷ ws) b = if is_word_body w b then Some w else word_among ws b
 -- which body of the word operations it is
 abbrev pub word_of : Block → Option WordBody
 word_of b = word_among (Inverted ∷ Shifted ∷ Both ∷ Either ∷ Without ∷ Unlike ∷ Chosen ∷ Compared
-    ∷ Agreed ∷ Added ∷ Lessened ∷ TurnedBy ∷ Multiplied ∷ Counted ∷ Divided ∷ []) b
+    ∷ Agreed ∷ Added ∷ Lessened ∷ NegatedIf ∷ Multiplied ∷ Counted ∷ Divided ∷ []) b
 
 abbrev pub word_commands : Option WordBody → List BodyCmd
 word_commands None = []

@@ -62,7 +62,7 @@ fn kind_of_second(second: &Option<Param>) -> Option<Kind>
 }
 
 /// What an operation is called, takes and gives, and its scratch: the rows that have names, and
-/// behind them as many as the neediest statement needs inside.
+/// after them as many as the neediest statement needs inside.
 pub fn head_of(op: &Op, names: &NameMap) -> Head
     requires meets { OperationMeets (operation op.now) }
     requires names { IsLayoutMap (operation op.now) names.now }

@@ -70,7 +70,7 @@ pub fn compile_lowered(op: &Op, lowered: &Lowered, alloc: Global) -> Result<Entr
     compile_entry(head_of(op, &lowered.names), &lowered.programs, alloc)
 }
 
-/// The code of an operation that meets the rules, and behind other graphs those of its serial
+/// The code of an operation that meets the rules, and after other graphs those of its serial
 /// blocks.
 fn compile_op(op: &Op, graphs: &mut Vec<MigOuts>, alloc: Global) -> Result<EntryCode, NoMemory>
     requires meets { OperationMeets (operation op.now) }

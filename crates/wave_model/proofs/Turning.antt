@@ -9,7 +9,7 @@ use Rattle.dram_model.specs.Chip.{Event}
 use Rattle.dram_model.specs.Events.{row_events}
 use Rattle.wave_model.specs.Schedule.{Queues, is_live, live, picked, without_next, events_of_picks}
 use Rattle.wave_model.specs.Schedule.{Picker, PicksLive, picks, state_after, total_left}
-use Rattle.wave_model.specs.Schedule.{whole_picks, state_behind}
+use Rattle.wave_model.specs.Schedule.{whole_picks, last_state}
 use Rattle.wave_model.proofs.Waves.{live_at, live_none, left_less}
 
 empty_total : (left : Queues) (a n : ℕ) → ((b : ℕ) → a ≤ b → b < a + n → left b ≡ [])
@@ -44,7 +44,7 @@ module _ {S : Type 0} (p : Picker S) (banks : ℕ) where
   pub record OnePick (s : S) (left : Queues) (b : ℕ) (s' : S) : Type 0 where
     pub events : events_from s left
         ≡ row_events b (take 1 (left b)) ++ events_from s' (without_next b left)
-    pub state : state_behind p banks s left ≡ state_behind p banks s' (without_next b left)
+    pub state : last_state p banks s left ≡ last_state p banks s' (without_next b left)
     pub total : total_left banks left ≡ suc (total_left banks (without_next b left))
     pub within : b < banks
     pub some : 0 < length (left b)
@@ -85,7 +85,7 @@ module _ {S : Type 0} (p : Picker S) (banks : ℕ) where
   -- the end of the wave
   pub record NoPick (s : S) (left : Queues) : Type 0 where
     pub events : events_from s left ≡ []
-    pub state : state_behind p banks s left ≡ s
+    pub state : last_state p banks s left ≡ s
 
   pub no_pick : (s : S) (left : Queues) → live banks left ≡ [] → NoPick s left
   no_pick s left none =

@@ -78,12 +78,12 @@ state_after p banks (suc n) s left =
 abbrev pub total_left : ℕ → Queues → ℕ
 total_left banks left = sum_by (λ bank. length (left bank)) (range_with_len 0 banks)
 
--- its whole list of picks, and its state behind it
+-- its whole list of picks, and its state after it
 abbrev pub whole_picks : {S : Type 0} → Picker S → ℕ → S → Queues → List ℕ
 whole_picks p banks s left = picks p banks (total_left banks left) s left
 
-abbrev pub state_behind : {S : Type 0} → Picker S → ℕ → S → Queues → S
-state_behind p banks s left = state_after p banks (total_left banks left) s left
+abbrev pub last_state : {S : Type 0} → Picker S → ℕ → S → Queues → S
+last_state p banks s left = state_after p banks (total_left banks left) s left
 
 -- the order in force, with its picker's state: the first live bank each time; one after another,
 -- by a count of 16 bits; or by the words of a generator

@@ -37,25 +37,25 @@ lessened_digit false true false = refl
 lessened_digit false false true = refl
 lessened_digit false false false = refl
 
-pub turned_bit : (x c : Bool) → majority (not c) (majority false (not x) c)
+pub negated_bit : (x c : Bool) → majority (not c) (majority false (not x) c)
     (majority true x (majority false (not x) c)) ≡ xor2 c x
 unfolding majority
-turned_bit true true = refl
-turned_bit true false = refl
-turned_bit false true = refl
-turned_bit false false = refl
+negated_bit true true = refl
+negated_bit true false = refl
+negated_bit false true = refl
+negated_bit false false = refl
 
-pub turned_state : (x t c : Bool) → majority t c (majority true x (majority false (not x) c))
+pub negated_state : (x t c : Bool) → majority t c (majority true x (majority false (not x) c))
     ≡ c || (t && x)
 unfolding majority
-turned_state true true true = refl
-turned_state true true false = refl
-turned_state true false true = refl
-turned_state true false false = refl
-turned_state false true true = refl
-turned_state false true false = refl
-turned_state false false true = refl
-turned_state false false false = refl
+negated_state true true true = refl
+negated_state true true false = refl
+negated_state true false true = refl
+negated_state true false false = refl
+negated_state false true true = refl
+negated_state false true false = refl
+negated_state false false true = refl
+negated_state false false false = refl
 
 module _ (n : ℕ) (m : Slots) (are : AreSlots n n n 1 m) where
   f : IsFree n n n m (scratch_bit m.free_bit) 1

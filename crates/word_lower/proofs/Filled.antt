@@ -126,8 +126,8 @@ one_slot (s ∷ ss) k ks e = record {
   others = ap rest_kinds e;
 }
 
--- The two forms of a shape that takes words or bits, by which of the two it takes. Other shapes have
--- one form
+-- The two forms of a shape that takes words or bits, by which of the two it takes. Other shapes
+-- have one form
 abbrev pub arg_kind : Signature → Kind → Kind
 arg_kind shape.OneOf c = c
 arg_kind shape.TwoOf c = c

@@ -198,7 +198,8 @@ module _ (p : WordOp) (c : Kind) (t : Slot) (f : ℕ → Slot) (free : ℕ) (lin
     left n before = after_rounds n (all_rounds n (steps_on p k target args free)) before
 
     gives : (n : ℕ) → 0 < n → Pieces n target args (scratch_from free (bits_inside p))
-        → (before : Spots) → Gives p n (width n k) (width n (arg_kind sh c)) (bits_inside p) m before
+        → (before : Spots) → Gives p n (width n k) (width n (arg_kind sh c)) (bits_inside p) m
+        before
         (left n before)
     gives n some are before =
         let enough = rows_are sh c f n some in

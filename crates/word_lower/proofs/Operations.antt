@@ -20,9 +20,9 @@ use Rattle.loop_laws.specs.Rooms.{placed_body}
 use Rattle.loop_laws.proofs.Same.{set_same}
 use Rattle.loop_laws.proofs.Steps.{steps_each}
 use Rattle.word_lower.specs.Places.{scratch_bit}
-use Rattle.word_lower.specs.Programs.{target, first, second, third, plain, turned, off, up}
+use Rattle.word_lower.specs.Programs.{target, first, second, third, plain, complemented, off, up}
 use Rattle.word_lower.specs.Programs.{constant, moved, inverted, joined, without, unlike, chosen}
-use Rattle.word_lower.specs.Programs.{shifted, added, lessened, turned_by, compared, agreed}
+use Rattle.word_lower.specs.Programs.{shifted, added, lessened, negated_if, compared, agreed}
 use Rattle.word_lower.specs.Programs.{is_linear, program_at}
 use Rattle.word_lower.proofs.Setting.{bit, number, operation, Slots, rooms_for, steps_for, row}
 use Rattle.word_lower.proofs.Setting.{number_at, AreSlots, Gives, DoesWords, DoesBits}
@@ -34,7 +34,7 @@ use Rattle.word_lower.proofs.Bitwise.{parity_gives, at_least}
 use Rattle.word_lower.proofs.Passes.{bit_free, carry_does, upwards, downwards}
 use Rattle.word_lower.proofs.Words.{word_does, unlike_bit, chosen_bit, by_bit, a_read, top_read}
 use Rattle.word_lower.proofs.Words.{b_read, s_read, choice_does, bit_does}
-use Rattle.word_lower.proofs.Carries.{added_digit, lessened_digit, turned_bit, turned_state}
+use Rattle.word_lower.proofs.Carries.{added_digit, lessened_digit, negated_bit, negated_state}
 use Rattle.word_lower.proofs.Carries.{a_by_carry, top_by_carry, b_by_carry}
 use Rattle.word_lower.proofs.States.{state_does, agreed_bit, a_by_state, b_by_state}
 use Rattle.word_lower.proofs.Filled.{arg_kind, gives_kind}
@@ -53,7 +53,7 @@ module _ (n : ℕ) (m : Slots) (are : AreSlots n n n 0 m) where
   not_does before =
       let b = placed_body (rooms_for op.Not m) (inverted (first sub.Inner) (target sub.Inner)) in
       subst (Gives op.Not n n n 0 m before) (sym (steps_each n b [] before))
-      (word_does op.Not n m are b.reads b.graph.inputs b.graph.nodes (turned 1) (Standing
+      (word_does op.Not n m are b.reads b.graph.inputs b.graph.nodes (complemented 1) (Standing
       ∷ []) before (a_read n m are, tt) (value_inverted (λ i. before (row n m.a i)) n))
 
   copy_does : DoesWords op.Copy Word n n 0 m
@@ -136,7 +136,16 @@ module _ (n : ℕ) (m : Slots) (are : AreSlots n n n 0 m) where
       let s = before (row n m.s 0) in
       subst (Gives op.IfElse n n n 0 m before) (sym (steps_each n b [] before))
       (word_does op.IfElse n m are b.reads b.graph.inputs b.graph.nodes (plain 6) (Standing
-      ∷ (Standing ∷ (Standing ∷ []))) before (a_read n m are, (b_read n m are, (s_read n m are, tt)))
+      ∷ (Standing ∷ (Standing ∷ []))) before (
+        a_read n m are,
+        (
+          b_read n m are,
+          (
+            s_read n m are,
+            tt,
+          ),
+        ),
+      )
       (value_same _ _ n (λ i lt. chosen_bit (a i) (c i) s) ∙ value_pick s a c n
       ∙ by_bit s (number a n) (number c n)))
 
@@ -185,7 +194,8 @@ module _ (n : ℕ) (m : Slots) (are : AreSlots n n n 1 m) where
       b.graph.nodes (plain 6) (plain 4) (after_two 1) false before
       (a_by_carry n m are, (b_by_carry n m are, ((omega arith, λ i j li lj. refl), tt)))
       (sub_gives (λ i. start (row n m.a i)) (λ i. start (row n m.b i)) (λ i.
-      turn n 0 b (after_two 1) start (suc i) 0) (λ i. not (c i)) n (ap not (set_same before p false p refl))
+      turn n 0 b (after_two 1) start (suc i) 0) (λ i. not (c i)) n (ap not (set_same before p false
+      p refl))
       (λ i lt. lessened_digit (start (row n m.a i)) (start (row n m.b i)) (c i))))
 
   shl1_does : DoesWords op.Shl1 Word n n 1 m
@@ -208,7 +218,7 @@ module _ (n : ℕ) (m : Slots) (are : AreSlots n n n 1 m) where
   unfolding values_from
   abs_does some before =
       let b = placed_body (rooms_for op.Abs m)
-      (turned_by (first sub.Inner) (first sub.Top) (second sub.Zero) (target sub.Inner)) in
+      (negated_if (first sub.Inner) (first sub.Top) (second sub.Zero) (target sub.Inner)) in
       let p = row n (scratch_bit m.free_bit) 0 in
       let start = set_spot before p false in
       let c = λ (i : ℕ). turn n 0 b (after_two 1) start i 1 in
@@ -220,8 +230,8 @@ module _ (n : ℕ) (m : Slots) (are : AreSlots n n n 1 m) where
       ((2 ^ k - number a k) % 2 ^ k) =
       λ k g h. subst (λ (k : ℕ). number y k ≡ cond (nat_lt (number a k) (2 ^ (n - 1))) (number a k)
       ((2 ^ k - number a k) % 2 ^ k)) (sym g)
-      (abs_gives a y c (n - 1) (set_same before p false p refl) (λ i lt. turned_bit (a i) (c i))
-      (λ i lt. turned_state (a i) (a (n - 1)) (c i))) in
+      (abs_gives a y c (n - 1) (set_same before p false p refl) (λ i lt. negated_bit (a i) (c i))
+      (λ i lt. negated_state (a i) (a (n - 1)) (c i))) in
       subst (Gives op.Abs n n n 1 m before) (sym (steps_each n b [] start))
       (carry_does op.Abs n m are sub.Inner (λ v. v) (upwards n 0) b.reads b.graph.inputs
       b.graph.nodes (plain 7) (plain 6) (after_two 1) false before
@@ -271,7 +281,8 @@ module _ (n : ℕ) (m : Slots) (are : AreSlots n 1 n 0 m) where
       let a = λ (i : ℕ). start (row n m.a i) in
       let c = λ (i : ℕ). start (row n m.b i) in
       subst (Gives op.Eq n 1 n 0 m before) (sym (steps_each n b [] start))
-      (state_does op.Eq n m are b.reads b.graph.inputs b.graph.nodes (plain 6) (after_two 0) true before
+      (state_does op.Eq n m are b.reads b.graph.inputs b.graph.nodes (plain 6) (after_two 0) true
+      before
       (a_by_state n m are, (b_by_state n m are, ((omega arith, λ i j li lj. refl), tt)))
       (ap bit (same_gives a c e n (set_same before p true p refl)
       (λ i lt. agreed_bit (a i) (c i) (e i)))))
@@ -289,7 +300,8 @@ module _ (n : ℕ) (m : Slots) (are : AreSlots n 1 n 0 m) where
       let none : number a n + bit (e 0) ≡ number a n =
       (let z = ap bit (set_same before p false p refl) in omega (arith, z)) in
       subst (Gives op.Gt n 1 n 0 m before) (sym (steps_each n b [] start))
-      (state_does op.Gt n m are b.reads b.graph.inputs b.graph.nodes (plain 4) (after_two 0) false before
+      (state_does op.Gt n m are b.reads b.graph.inputs b.graph.nodes (plain 4) (after_two 0) false
+      before
       (a_by_state n m are, (b_by_state n m are, ((omega arith, λ i j li lj. refl), tt)))
       (ap bit (compare a c e n (λ i lt. refl) ∙ ap (nat_lt (number c n)) none)))
 
@@ -304,7 +316,8 @@ module _ (n : ℕ) (m : Slots) (are : AreSlots n 1 n 0 m) where
       let a = λ (i : ℕ). start (row n m.a i) in
       let c = λ (i : ℕ). start (row n m.b i) in
       subst (Gives op.Ge n 1 n 0 m before) (sym (steps_each n b [] start))
-      (state_does op.Ge n m are b.reads b.graph.inputs b.graph.nodes (plain 4) (after_two 0) true before
+      (state_does op.Ge n m are b.reads b.graph.inputs b.graph.nodes (plain 4) (after_two 0) true
+      before
       (a_by_state n m are, (b_by_state n m are, ((omega arith, λ i j li lj. refl), tt)))
       (ap bit (compare a c e n (λ i lt. refl)
       ∙ ap (λ x. nat_lt (number c n) (number a n + bit x)) (set_same before p true p refl)
@@ -320,7 +333,8 @@ module _ (n : ℕ) (m : Slots) (are : AreSlots n 1 n 0 m) where
       let e = λ (i : ℕ). turn n 0 b (after_one 0) start i 0 in
       let a = λ (i : ℕ). start (row n m.a i) in
       subst (Gives op.AndRed n 1 n 0 m before) (sym (steps_each n b [] start))
-      (state_does op.AndRed n m are b.reads b.graph.inputs b.graph.nodes (plain 3) (after_one 0) true before
+      (state_does op.AndRed n m are b.reads b.graph.inputs b.graph.nodes (plain 3) (after_one 0)
+      true before
       (a_by_state n m are, ((omega arith, λ i j li lj. refl), tt))
       (ap bit (all_gives a e n (set_same before p true p refl) (λ i lt. refl))))
 
@@ -334,7 +348,8 @@ module _ (n : ℕ) (m : Slots) (are : AreSlots n 1 n 0 m) where
       let e = λ (i : ℕ). turn n 0 b (after_one 0) start i 0 in
       let a = λ (i : ℕ). start (row n m.a i) in
       subst (Gives op.OrRed n 1 n 0 m before) (sym (steps_each n b [] start))
-      (state_does op.OrRed n m are b.reads b.graph.inputs b.graph.nodes (plain 3) (after_one 0) false before
+      (state_does op.OrRed n m are b.reads b.graph.inputs b.graph.nodes (plain 3) (after_one 0)
+      false before
       (a_by_state n m are, ((omega arith, λ i j li lj. refl), tt))
       (ap bit (any_gives a e n (set_same before p false p refl) (λ i lt. refl))))
 
@@ -348,7 +363,8 @@ module _ (n : ℕ) (m : Slots) (are : AreSlots n 1 n 0 m) where
       let e = λ (i : ℕ). turn n 0 b (after_one 0) start i 0 in
       let a = λ (i : ℕ). start (row n m.a i) in
       subst (Gives op.XorRed n 1 n 0 m before) (sym (steps_each n b [] start))
-      (state_does op.XorRed n m are b.reads b.graph.inputs b.graph.nodes (plain 5) (after_one 0) false before
+      (state_does op.XorRed n m are b.reads b.graph.inputs b.graph.nodes (plain 5) (after_one 0)
+      false before
       (a_by_state n m are, ((omega arith, λ i j li lj. refl), tt))
       (parity_gives a e n (set_same before p false p refl) (λ i lt. unlike_bit (a i) (e i))))
 
@@ -434,10 +450,11 @@ DoesIn p c n m = let sh = (row_of p).signature in let k = gives_kind sh c in
     (before : Spots) → Gives p n (width n k) (width n (arg_kind sh c)) (bits_inside p) m before
     (after_rounds n (all_rounds n (steps_for p k m)) before)
 
--- The program of a linear operation gives its value, in the form that has words, and in the one that
--- has bits where there is one
+-- The program of a linear operation gives its value, in the form that has words, and in the one
+-- that has bits where there is one
 pub op_gives : (p : WordOp) (c : Kind) → is_linear p ≡ true → (n : ℕ) (m : Slots) → 0 < n
-    → AreSlots n (width n (gives_kind (row_of p).signature c)) (width n (arg_kind (row_of p).signature c))
+    → AreSlots n (width n (gives_kind (row_of p).signature c)) (width n (arg_kind (row_of
+    p).signature c))
     (bits_inside p) m
     → DoesIn p c n m
 op_gives op.Not Word l n m some are = not_does n m are

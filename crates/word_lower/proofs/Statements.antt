@@ -150,10 +150,10 @@ kinds_at slots (n ∷ ns) (s ∷ ss) (k ∷ ks) at have =
     ap (λ x. x ∷ map (λ (s : Slot). s.kind) ss) (ap (λ (s : Slot). s.kind) e ∙ have.0.kind)
     ∙ ap (λ xs. k ∷ xs) (kinds_at slots ns ss ks at.1 have.1)
 
-among_behind : (second : Option (List ℕ)) (args : List (List ℕ)) (name : List ℕ)
+among_after : (second : Option (List ℕ)) (args : List (List ℕ)) (name : List ℕ)
     → is_among args name ≡ true → is_among (option_to_list second ++ args) name ≡ true
-among_behind None args name e = e
-among_behind (Some x) args name e = or_right (bytes_eq x name) (is_among args name) e
+among_after None args name e = e
+among_after (Some x) args name e = or_right (bytes_eq x name) (is_among args name) e
 
 module _ (slots : Slots) (free_bit free_word : ℕ) (target : List ℕ)
     (second : Option (List ℕ)) (p : WordOp) (args : List (List ℕ))
@@ -169,7 +169,7 @@ module _ (slots : Slots) (free_bit free_word : ℕ) (target : List ℕ)
       (name_at args i) ≡ true
   among_arg i lt = or_right (bytes_eq target (name_at args i))
       (is_among (option_to_list second ++ args) (name_at args i))
-      (among_behind second args (name_at args i) (among_at args i lt))
+      (among_after second args (name_at args i) (among_at args i lt))
 
   pub written : is_among (target ∷ option_to_list second) target ≡ true
   written = or_left (bytes_eq target target) (is_among (option_to_list second) target)
@@ -208,8 +208,8 @@ module _ (slots : Slots) (free_bit free_word : ℕ) (target : List ℕ)
         (placed.bit name x a f one.space));
   }
 
-  turned : (n : ℕ) (s r : Slot) → AreApart n s r → AreApart n r s
-  turned n s r a = record { by = λ u v lu lv e. a.by v u lv lu (sym e) }
+  complemented : (n : ℕ) (s r : Slot) → AreApart n s r → AreApart n r s
+  complemented n s r a = record { by = λ u v lu lv e. a.by v u lv lu (sym e) }
 
   scratch_each : (n i j : ℕ) → (i ≡ j → ⊥) → AreApart n (scratch_bit (free_bit + i))
       (scratch_bit (free_bit + j))
@@ -229,7 +229,7 @@ module _ (slots : Slots) (free_bit free_word : ℕ) (target : List ℕ)
         given = λ i lt. arg_apart n i lt;
         owned = λ j lt. subst (λ (s : Slot). IsOwn s.space) (sym (is j lt)) tt;
         free = λ j lt. subst (λ (s : Slot). AreApart n s t) (sym (is j lt))
-            (turned n t (scratch_bit (free_bit + j))
+            (complemented n t (scratch_bit (free_bit + j))
             (scratch_apart n j target t (omega arith) among_target found));
         others = λ i j li lj. subst (λ (s : Slot). AreApart n (slot_at ss i) s) (sym (is j lj))
             (let h = at_place slots args ss i at li in

@@ -20,7 +20,7 @@ use Rattle.word_lower.specs.declared.shapes.BodyForm.{BodyForm}
 use Rattle.word_lower.specs.declared.shapes.BodyForm.TheVariants.{Off, On, Moved, Inverted, Both}
 use Rattle.word_lower.specs.declared.shapes.BodyForm.TheVariants.{Either, Without, Unlike, Chosen}
 use Rattle.word_lower.specs.declared.shapes.BodyForm.TheVariants.{Shifted, Added, Lessened}
-use Rattle.word_lower.specs.declared.shapes.BodyForm.TheVariants.{TurnedBy, Compared, Agreed}
+use Rattle.word_lower.specs.declared.shapes.BodyForm.TheVariants.{NegatedIf, Compared, Agreed}
 use Rattle.word_lower.specs.declared.shapes.ProgramLine.{ProgramLine}
 use Rattle.word_lower.specs.declared.shapes.ProgramLine.TheVariants.{Once, Each}
 use Rattle.word_lower.specs.declared.table.ProgramRow.{ProgramRow}
@@ -46,15 +46,15 @@ third s = on 3 s
 abbrev pub plain : ℕ → Lit
 plain k = record { node = k; inverted = false }
 
-abbrev pub turned : ℕ → Lit
-turned k = record { node = k; inverted = true }
+abbrev pub complemented : ℕ → Lit
+complemented k = record { node = k; inverted = true }
 
 -- the constants
 abbrev pub off : Lit
 off = plain 0
 
 abbrev pub up : Lit
-up = turned 0
+up = complemented 0
 
 -- a body in which each read is an input
 abbrev pub template : List Mark → List Node → List Lit → List Mark → Marked
@@ -73,7 +73,7 @@ abbrev pub moved : Mark → Mark → Marked
 moved x z = template (x ∷ []) [] (plain 1 ∷ []) (z ∷ [])
 
 abbrev pub inverted : Mark → Mark → Marked
-inverted x z = template (x ∷ []) [] (turned 1 ∷ []) (z ∷ [])
+inverted x z = template (x ∷ []) [] (complemented 1 ∷ []) (z ∷ [])
 
 -- one node with two inputs and a constant: an and, or an or
 abbrev pub joined : Lit → Mark → Mark → Mark → Marked
@@ -81,19 +81,19 @@ joined l x y z = template (x ∷ y ∷ []) (node_of l (plain 1) (plain 2) ∷ []
 
 -- x and not y
 abbrev pub without : Mark → Mark → Mark → Marked
-without x y z = template (x ∷ y ∷ []) (node_of off (plain 1) (turned 2) ∷ []) (plain 3 ∷ []) (z
-    ∷ [])
+without x y z = template (x ∷ y ∷ []) (node_of off (plain 1) (complemented 2) ∷ [])
+    (plain 3 ∷ []) (z ∷ [])
 
 abbrev pub unlike : Mark → Mark → Mark → Marked
 unlike x y z = template (x ∷ y ∷ [])
-    (node_of off (turned 1) (plain 2) ∷ node_of off (plain 1) (turned 2)
+    (node_of off (complemented 1) (plain 2) ∷ node_of off (plain 1) (complemented 2)
     ∷ node_of up (plain 3) (plain 4) ∷ [])
     (plain 5 ∷ []) (z ∷ [])
 
 -- x where s is set, else y
 abbrev pub chosen : Mark → Mark → Mark → Mark → Marked
 chosen x y s z = template (x ∷ y ∷ s ∷ [])
-    (node_of off (plain 1) (plain 3) ∷ node_of (plain 2) (turned 3) (plain 4)
+    (node_of off (plain 1) (plain 3) ∷ node_of (plain 2) (complemented 3) (plain 4)
     ∷ node_of up (plain 4) (plain 5) ∷ [])
     (plain 6 ∷ []) (z ∷ [])
 
@@ -104,34 +104,34 @@ shifted x c z = template (x ∷ c ∷ []) [] (plain 2 ∷ plain 1 ∷ []) (z ∷
 -- x, y and a carry
 abbrev pub added : Mark → Mark → Mark → Mark → Marked
 added x y c z = template (x ∷ y ∷ c ∷ [])
-    (node_of (plain 1) (plain 2) (plain 3) ∷ node_of (plain 1) (plain 2) (turned 3)
-    ∷ node_of (plain 3) (turned 4) (plain 5) ∷ [])
+    (node_of (plain 1) (plain 2) (plain 3) ∷ node_of (plain 1) (plain 2) (complemented 3)
+    ∷ node_of (plain 3) (complemented 4) (plain 5) ∷ [])
     (plain 6 ∷ plain 4 ∷ []) (z ∷ c ∷ [])
 
 -- x less y, with a borrow
 abbrev pub lessened : Mark → Mark → Mark → Mark → Marked
 lessened x y c z = template (x ∷ y ∷ c ∷ [])
-    (node_of (turned 1) (plain 2) (plain 3) ∷ node_of (plain 1) (turned 2) (plain 3)
-    ∷ node_of (turned 3) (plain 4) (plain 5) ∷ [])
+    (node_of (complemented 1) (plain 2) (plain 3) ∷ node_of (plain 1) (complemented 2) (plain 3)
+    ∷ node_of (complemented 3) (plain 4) (plain 5) ∷ [])
     (plain 6 ∷ plain 4 ∷ []) (z ∷ c ∷ [])
 
 -- x, inverted above the lowest bit that is set under t: the state is whether there was one
-abbrev pub turned_by : Mark → Mark → Mark → Mark → Marked
-turned_by x t c z = template (x ∷ t ∷ c ∷ [])
-    (node_of off (turned 1) (plain 3) ∷ node_of up (plain 1) (plain 4)
-    ∷ node_of (plain 2) (plain 3) (plain 5) ∷ node_of (turned 3) (plain 4) (plain 5) ∷ [])
+abbrev pub negated_if : Mark → Mark → Mark → Mark → Marked
+negated_if x t c z = template (x ∷ t ∷ c ∷ [])
+    (node_of off (complemented 1) (plain 3) ∷ node_of up (plain 1) (plain 4)
+    ∷ node_of (plain 2) (plain 3) (plain 5) ∷ node_of (complemented 3) (plain 4) (plain 5) ∷ [])
     (plain 7 ∷ plain 6 ∷ []) (z ∷ c ∷ [])
 
 -- the state is whether what was read of x is over what was read of y
 abbrev pub compared : Mark → Mark → Mark → Marked
-compared x y g = template (x ∷ y ∷ g ∷ []) (node_of (plain 1) (turned 2) (plain 3) ∷ []) (plain 4
-    ∷ []) (g ∷ [])
+compared x y g = template (x ∷ y ∷ g ∷ []) (node_of (plain 1) (complemented 2) (plain 3) ∷ [])
+    (plain 4 ∷ []) (g ∷ [])
 
 -- the state is whether all that was read agrees
 abbrev pub agreed : Mark → Mark → Mark → Marked
 agreed x y e = template (x ∷ y ∷ e ∷ [])
-    (node_of up (plain 1) (plain 2) ∷ node_of (plain 1) (plain 2) (turned 3)
-    ∷ node_of (plain 3) (turned 4) (plain 5) ∷ [])
+    (node_of up (plain 1) (plain 2) ∷ node_of (plain 1) (plain 2) (complemented 3)
+    ∷ node_of (plain 3) (complemented 4) (plain 5) ∷ [])
     (plain 6 ∷ []) (e ∷ [])
 
 -- whose rows a place of the table has, by its number
@@ -158,7 +158,7 @@ form_body (Chosen x y s z) = chosen (mark_of x) (mark_of y) (mark_of s) (mark_of
 form_body (Shifted x c z) = shifted (mark_of x) (mark_of c) (mark_of z)
 form_body (Added x y c z) = added (mark_of x) (mark_of y) (mark_of c) (mark_of z)
 form_body (Lessened x y c z) = lessened (mark_of x) (mark_of y) (mark_of c) (mark_of z)
-form_body (TurnedBy x t c z) = turned_by (mark_of x) (mark_of t) (mark_of c) (mark_of z)
+form_body (NegatedIf x t c z) = negated_if (mark_of x) (mark_of t) (mark_of c) (mark_of z)
 form_body (Compared x y g) = compared (mark_of x) (mark_of y) (mark_of g)
 form_body (Agreed x y e) = agreed (mark_of x) (mark_of y) (mark_of e)
 

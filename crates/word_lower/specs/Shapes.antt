@@ -50,18 +50,18 @@ body_on o b = record {
 abbrev pub program_on : Owners → List (StepOf Marked) → List (StepOf Block)
 program_on o steps = map (step_map (body_on o)) steps
 
--- the argument of this number, and behind the arguments the bit of scratch
-abbrev pub behind : List Slot → ℕ → ℕ → Slot
-behind [] free k = scratch_bit free
-behind (s ∷ ss) free zero = s
-behind (s ∷ ss) free (suc k) = behind ss free k
+-- the argument of this number, and after the arguments the bit of scratch
+abbrev pub following : List Slot → ℕ → ℕ → Slot
+following [] free k = scratch_bit free
+following (s ∷ ss) free zero = s
+following (s ∷ ss) free (suc k) = following ss free k
 
 abbrev pub owners_of : Slot → List Slot → ℕ → Owners
 owners_of t args free = record {
   target = t;
-  first = behind args free 0;
-  second = behind args free 1;
-  third = behind args free 2;
+  first = following args free 0;
+  second = following args free 1;
+  third = following args free 2;
 }
 
 -- the node reads three lower nodes in order, at most one of them inverted

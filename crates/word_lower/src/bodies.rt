@@ -99,7 +99,7 @@ fn body(shape: BodyForm, owners: Owners, alloc: Global) -> Result<Body, NoMemory
             o,
             a,
         ),
-        BodyForm::TurnedBy(x, t, c, z) => templated(
+        BodyForm::NegatedIf(x, t, c, z) => templated(
             &[x, t, c],
             &TURNED_BY,
             &[P7, P6],

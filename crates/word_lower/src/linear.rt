@@ -9,7 +9,7 @@ ghost use Rattle.loop_ir.specs.Lowered.{IsLowered};
 ghost use Rattle.word_lower.specs.Places.{AreAt, scratch_bit};
 ghost use Rattle.word_lower.specs.Programs.{is_linear, is_linear_statement};
 ghost use Rattle.word_lower.specs.Forms.{HasForm, IsWritten};
-ghost use Rattle.word_lower.specs.Shapes.{behind, owners_of};
+ghost use Rattle.word_lower.specs.Shapes.{following, owners_of};
 
 use crate::bodies::program;
 use crate::shapes::Owners;
@@ -41,10 +41,10 @@ fn free_bit(names: &NameMap) -> Slot
     }
 }
 
-/// The place of an argument, or behind the arguments that of the first free bit of scratch.
+/// The place of an argument, or after the arguments that of the first free bit of scratch.
 fn owner(names: &NameMap, args: &[Name], k: usize) -> Slot
     ensures { (ss : List Slot) → AreAt (slots_of names.now) args.now ss
-        → result ≡ behind ss names.now.free_bit k }
+        → result ≡ following ss names.now.free_bit k }
 {
     if k < args.len() {
         slot_of(names, &args[k])

@@ -2,7 +2,7 @@
 
 use loop_ir::{Slot, Sub};
 
-/// Whose rows a place has: the target's, an argument's, or behind the arguments those of the bit of
+/// Whose rows a place has: the target's, an argument's, or after the arguments those of the bit of
 /// scratch.
 #[derive(Clone, Copy, PartialEq, Eq, Debug)]
 pub enum Owner {
@@ -44,7 +44,7 @@ pub enum BodyForm {
     Shifted(Mark, Mark, Mark),
     Added(Mark, Mark, Mark, Mark),
     Lessened(Mark, Mark, Mark, Mark),
-    TurnedBy(Mark, Mark, Mark, Mark),
+    NegatedIf(Mark, Mark, Mark, Mark),
     Compared(Mark, Mark, Mark),
     Agreed(Mark, Mark, Mark),
 }

@@ -5,8 +5,8 @@ ghost use Rattle.word_lower.specs.Programs.{program, program_of, row_steps};
 ghost use Rattle.word_lower.specs.Shapes.{lines_steps};
 
 use crate::shapes::BodyForm::{
-    Added, Agreed, Both, Chosen, Compared, Either, Inverted, Lessened, Moved, Off, On, Shifted,
-    TurnedBy, Unlike, Without,
+    Added, Agreed, Both, Chosen, Compared, Either, Inverted, Lessened, Moved, NegatedIf, Off, On,
+    Shifted, Unlike, Without,
 };
 use crate::shapes::ProgramLine::{Each, Once};
 use crate::shapes::{BodyForm, Mark, Owner, ProgramLine};
@@ -116,7 +116,7 @@ pub const PROGRAMS: [(WordOp, ProgramRow); 27] = [
     (WordOp::Rem, Nested),
     (
         WordOp::Abs,
-        Two(Once(Off(Y_BIT)), Each(TurnedBy(X, X_TOP, Y_BIT, Z))),
+        Two(Once(Off(Y_BIT)), Each(NegatedIf(X, X_TOP, Y_BIT, Z))),
     ),
     (WordOp::Relu, One(Each(Without(X, X_TOP, Z)))),
     (

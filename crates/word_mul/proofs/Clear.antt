@@ -20,7 +20,7 @@ use Rattle.word_mul.specs.Places.{scratch_word}
 times : (a b n : ℕ) → a ≤ b → a * n ≤ b * n
 times a b n h = grind arith
 
--- a word before or behind these has none of their rows
+-- a word before or after these has none of their rows
 far : (n w free words u v : ℕ) → u < n → v < n * words → (w < free) ⊎ (free + words ≤ w)
     → w * n + u ≡ free * n + v → ⊥
 far n w free words u v lu lv (inl h) e = let a = times (w + 1) free n (omega arith) in
@@ -52,7 +52,7 @@ pub record WordsClear (n : ℕ) (t : Slot) (args : List Slot) (free words : ℕ)
   pub given : (i : ℕ) → i < length args → SlotsApart n (slot_at args i)
       (width n (slot_at args i).kind) (scratch_word free) (n * words)
 
--- rooms behind which one more stands
+-- rooms after which one more stands
 pub room_of_more : (rooms : List Room) (w : Room) (k : ℕ) → k < length (rooms ++ w ∷ [])
     → ((k < length rooms) × (room_at (rooms ++ w ∷ []) k ≡ room_at rooms k))
     ⊎ ((k ≡ length rooms) × (room_at (rooms ++ w ∷ []) k ≡ w))

@@ -7,7 +7,7 @@ use Rattle.std.proofs.lemmas.Bool.{cases_Bool, lt-ltb}
 use Rattle.loop_ir.specs.declared.names.Slot.{Slot}
 use Rattle.loop_ir.specs.Statements.{Slots}
 use Rattle.word_lower.specs.Places.{AreAt}
-use Rattle.word_lower.specs.Shapes.{behind}
+use Rattle.word_lower.specs.Shapes.{following}
 use Rattle.word_mul.specs.declared.rows.Rows.{Rows}
 use Rattle.word_mul.specs.Places.{rows_on}
 
@@ -31,8 +31,8 @@ second_none ss second e le = e ∙ ap (λ b. if b then 1 else 0) (sym (not_less 
         (λ (f : nat_lt 1 k ≡ false). f) (cases_Bool (nat_lt 1 k))
 
 pub rows_are : (t : Slot) (u : Option Slot) (ss : List Slot) (free_bit free_word : ℕ)
-    (x w y z : Slot) (last : ℕ) → x ≡ t → w ≡ unwrap_or u t → y ≡ behind ss free_bit 0
-    → z ≡ behind ss free_bit last → last ≡ (if nat_lt 1 (length ss) then 1 else 0)
+    (x w y z : Slot) (last : ℕ) → x ≡ t → w ≡ unwrap_or u t → y ≡ following ss free_bit 0
+    → z ≡ following ss free_bit last → last ≡ (if nat_lt 1 (length ss) then 1 else 0)
     → ◌≡◌ {A = Rows} (record {
       target = x;
       second = w;

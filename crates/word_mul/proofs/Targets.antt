@@ -35,20 +35,21 @@ use Rattle.word_mul.specs.Bodies.{StepsBuilt}
 use Rattle.word_mul.proofs.Both.{Apart, DoesBoth, LowersBoth, both_lowers}
 use Rattle.word_mul.proofs.Whole.{clear, answer, second_answer}
 
-or_turned : (p q r : Bool) → (p || (q || r)) ≡ true → (q || (p || r)) ≡ true
-or_turned true true r e = refl
-or_turned true false r e = refl
-or_turned false true r e = refl
-or_turned false false r e = e
+or_complemented : (p q r : Bool) → (p || (q || r)) ≡ true → (q || (p || r)) ≡ true
+or_complemented true true r e = refl
+or_complemented true false r e = refl
+or_complemented false true r e = refl
+or_complemented false false r e = e
 
 or_one : (p q : Bool) → (p || (q || false)) ≡ true → (p ≡ true) ⊎ (q ≡ true)
 or_one true q e = inl refl
 or_one false true e = inr refl
 or_one false false e = cc
 
-among_turned : (x y : List ℕ) (names : List (List ℕ)) (name : List ℕ)
+among_complemented : (x y : List ℕ) (names : List (List ℕ)) (name : List ℕ)
     → is_among (x ∷ y ∷ names) name ≡ true → is_among (y ∷ x ∷ names) name ≡ true
-among_turned x y names name e = or_turned (bytes_eq x name) (bytes_eq y name) (is_among names name)
+among_complemented x y names name e = or_complemented (bytes_eq x name) (bytes_eq y name) (is_among
+    names name)
     e
 
 not_same : (x y : List ℕ) → bytes_eq x y ≡ false → bytes_eq y x ≡ false
@@ -73,9 +74,9 @@ module _ (slots : Slots) (free_bit free_word : ℕ) (target name : List ℕ) (ar
       same_slot meets.others.gives.slot u (sym meets.others.gives.found ∙ near) in
       sym (ap (λ (s : Slot). s.kind) e) ∙ meets.others.gives.kind
 
-  -- the same with the targets turned
-  turned : ComputeMeets slots name (Some target) op.Divmod args
-  turned =
+  -- the same with the targets complemented
+  complemented : ComputeMeets slots name (Some target) op.Divmod args
+  complemented =
       let k = (filled_words Word meets.kinds meets.kind meets.form).1 in
       record {
         kinds = meets.kinds;
@@ -96,14 +97,15 @@ module _ (slots : Slots) (free_bit free_word : ℕ) (target name : List ℕ) (ar
         };
       }
 
-  turned_placed : IsPlaced slots free_bit free_word (Compute name (Some target) op.Divmod args)
-  turned_placed = record {
-    there = λ x e. placed.there x (among_turned name target args x e);
-    differ = λ x y s r ex ey. placed.differ x y s r (among_turned name target args x ex)
-        (among_turned name target args y ey);
-    own = λ x s e. placed.own x s (among_turned name target [] x e);
-    bit = λ x s e. placed.bit x s (among_turned name target args x e);
-    word = λ x s e. placed.word x s (among_turned name target args x e);
+  complemented_placed : IsPlaced slots free_bit free_word (Compute name (Some target) op.Divmod
+      args)
+  complemented_placed = record {
+    there = λ x e. placed.there x (among_complemented name target args x e);
+    differ = λ x y s r ex ey. placed.differ x y s r (among_complemented name target args x ex)
+        (among_complemented name target args y ey);
+    own = λ x s e. placed.own x s (among_complemented name target [] x e);
+    bit = λ x s e. placed.bit x s (among_complemented name target args x e);
+    word = λ x s e. placed.word x s (among_complemented name target args x e);
     bits = placed.bits;
     words = placed.words;
   }
@@ -113,8 +115,9 @@ module _ (slots : Slots) (free_bit free_word : ℕ) (target name : List ℕ) (ar
       t found ss at
 
   among_other : is_among (target ∷ name ∷ args) name ≡ true
-  among_other = among_turned name target args name
-      (among_target slots free_bit free_word name (Some target) op.Divmod args turned turned_placed
+  among_other = among_complemented name target args name
+      (among_target slots free_bit free_word name (Some target) op.Divmod args complemented
+      complemented_placed
       u near ss at)
 
   apart : (n : ℕ) → AreApart n t u
@@ -137,10 +140,11 @@ module _ (slots : Slots) (free_bit free_word : ℕ) (target name : List ℕ) (ar
         ss at n;
     first_clear = clear slots free_bit free_word target (Some name) op.Divmod args meets placed t
         found ss at n;
-    other = pieces slots free_bit free_word name (Some target) op.Divmod args turned turned_placed u
+    other = pieces slots free_bit free_word name (Some target) op.Divmod args complemented
+        complemented_placed u
         near ss at n;
-    other_clear = clear slots free_bit free_word name (Some target) op.Divmod args turned
-        turned_placed u near ss at n;
+    other_clear = clear slots free_bit free_word name (Some target) op.Divmod args complemented
+        complemented_placed u near ss at n;
     targets = apart n;
   }
 
@@ -233,9 +237,9 @@ module _ (slots : Slots) (free_bit free_word : ℕ) (target name : List ℕ) (ar
             name,
             u,
             v,
-            among_turned name target [] name
-                (written slots free_bit free_word name (Some target) op.Divmod args turned
-                turned_placed u near ss at),
+            among_complemented name target [] name
+                (written slots free_bit free_word name (Some target) op.Divmod args complemented
+                complemented_placed u near ss at),
             near,
             lv,
             e,

@@ -15,7 +15,7 @@ use Rattle.loop_ir.specs.Plain.{StepOf, Block}
 use Rattle.loop_ir.specs.Statements.{Slots}
 use Rattle.loop_laws.specs.Rooms.{Twice, Room, placed_steps}
 use Rattle.word_lower.specs.Places.{room_of, scratch_from, rooms_of, AreAt}
-use Rattle.word_lower.specs.Shapes.{behind}
+use Rattle.word_lower.specs.Shapes.{following}
 use Rattle.word_mul.specs.declared.rows.Rows.{Rows}
 use Rattle.word_mul.specs.Programs.{nested}
 
@@ -53,8 +53,8 @@ abbrev pub rows_on : Slot → Option Slot → List Slot → ℕ → ℕ → Rows
 rows_on t second ss free_bit free_word = record {
   target = t;
   second = unwrap_or second t;
-  a = behind ss free_bit 0;
-  b = behind ss free_bit (if nat_lt 1 (length ss) then 1 else 0);
+  a = following ss free_bit 0;
+  b = following ss free_bit (if nat_lt 1 (length ss) then 1 else 0);
   free_bit = free_bit;
   free_word = free_word;
 }

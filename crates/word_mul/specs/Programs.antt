@@ -12,7 +12,8 @@ use Rattle.loop_ir.specs.Plain.{InnerOf, StepOf}
 use Rattle.loop_ir.specs.Plain.InnerOf.{Alone, Across}
 use Rattle.loop_ir.specs.Plain.StepOf.{Along, Nest}
 use Rattle.loop_laws.specs.Rooms.{Mark, Marked}
-use Rattle.word_lower.specs.Programs.{on, target, first, second, third, plain, turned, off, up}
+use Rattle.word_lower.specs.Programs.{on, target, first, second, third, plain, complemented, off}
+use Rattle.word_lower.specs.Programs.{up}
 use Rattle.word_lower.specs.Programs.{template, constant, moved, inverted, joined, compared}
 
 -- Owners of places: the target, then the arguments, then the bits of scratch, then the words of
@@ -28,8 +29,9 @@ sixth s = on 6 s
 
 -- y, the bit of a product and a carry, into y
 abbrev pub multiplied_nodes : List Node
-multiplied_nodes = node_of off (plain 2) (plain 3) ∷ node_of (turned 1) (plain 4) (plain 5)
-    ∷ node_of (plain 4) (plain 5) (turned 6) ∷ node_of (plain 1) (plain 6) (turned 7) ∷ []
+multiplied_nodes = node_of off (plain 2) (plain 3) ∷ node_of (complemented 1) (plain 4) (plain 5)
+    ∷ node_of (plain 4) (plain 5) (complemented 6) ∷ node_of (plain 1) (plain 6) (complemented 7)
+    ∷ []
 
 abbrev pub multiplied : Mark → Mark → Mark → Mark → Marked
 multiplied y a b c = template (y ∷ a ∷ b ∷ c ∷ []) multiplied_nodes (plain 8 ∷ plain 7 ∷ []) (y ∷ c
@@ -37,16 +39,17 @@ multiplied y a b c = template (y ∷ a ∷ b ∷ c ∷ []) multiplied_nodes (pla
 
 -- y and a carry, into y; the carry is held inverted
 abbrev pub counted_nodes : List Node
-counted_nodes = node_of up (turned 1) (plain 2) ∷ node_of off (plain 1) (plain 2)
-    ∷ node_of (turned 2) (plain 3) (plain 4) ∷ []
+counted_nodes = node_of up (complemented 1) (plain 2) ∷ node_of off (plain 1) (plain 2)
+    ∷ node_of (complemented 2) (plain 3) (plain 4) ∷ []
 
 abbrev pub counted : Mark → Mark → Marked
 counted y c = template (y ∷ c ∷ []) counted_nodes (plain 5 ∷ plain 3 ∷ []) (y ∷ c ∷ [])
 
 -- w less y where g is set, with a borrow, into w
 abbrev pub divided_nodes : List Node
-divided_nodes = node_of off (plain 2) (plain 3) ∷ node_of (turned 1) (plain 4) (plain 5)
-    ∷ node_of (plain 1) (plain 4) (turned 5) ∷ node_of (turned 4) (plain 6) (plain 7) ∷ []
+divided_nodes = node_of off (plain 2) (plain 3) ∷ node_of (complemented 1) (plain 4) (plain 5)
+    ∷ node_of (plain 1) (plain 4) (complemented 5) ∷ node_of (complemented 4) (plain 6) (plain 7)
+    ∷ []
 
 abbrev pub divided : Mark → Mark → Mark → Mark → Marked
 divided w y g c = template (w ∷ y ∷ g ∷ c ∷ []) divided_nodes (plain 8 ∷ plain 6 ∷ []) (w ∷ c ∷ [])

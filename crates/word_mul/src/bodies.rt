@@ -3,7 +3,7 @@
 ghost use Rattle.std.specs.Prelude.{◌≡◌, ◌<◌, ◌≤◌, ◌+◌, ◌++◌, ◌∷◌, [], length, IfOk, OnOk, true};
 ghost use Rattle.mig_graph.specs.Literals.{node_of};
 ghost use Rattle.loop_ir.specs.Plain.{block_of};
-ghost use Rattle.word_lower.specs.Programs.{plain, turned, up};
+ghost use Rattle.word_lower.specs.Programs.{plain, complemented, up};
 ghost use Rattle.word_mul.specs.Programs.{multiplied_nodes, counted_nodes, divided_nodes};
 ghost use Rattle.word_lower.specs.Shapes.{are_own, are_below};
 ghost use Rattle.word_mul.specs.Bodies.{over, IsBuilt};
@@ -55,7 +55,8 @@ pub fn moved(x: Place, z: Place, alloc: Global) -> Result<Body, NoMemory>
 
 /// A row gets the complement of what another has.
 pub fn inverted(x: Place, z: Place, alloc: Global) -> Result<Body, NoMemory>
-    ensures { IfOk result (λ b. IsBuilt (block_of b) (over (x ∷ []) [] (turned 1 ∷ []) (z ∷ []))) }
+    ensures { IfOk result (λ b. IsBuilt (block_of b) (over (x ∷ []) [] (complemented 1 ∷ []) (z
+        ∷ []))) }
 {
     templated(&[x], &[], &[N1], &[z], alloc)
 }
@@ -81,7 +82,7 @@ pub fn raised(x: Place, g: Place, alloc: Global) -> Result<Body, NoMemory>
 /// A state is whether what was read of x is over what was read of y.
 pub fn compared(x: Place, y: Place, g: Place, alloc: Global) -> Result<Body, NoMemory>
     ensures { IfOk result (λ b. IsBuilt (block_of b)
-        (over (x ∷ y ∷ g ∷ []) (node_of (plain 1) (turned 2) (plain 3) ∷ []) (plain 4 ∷ []) (g
+        (over (x ∷ y ∷ g ∷ []) (node_of (plain 1) (complemented 2) (plain 3) ∷ []) (plain 4 ∷ []) (g
         ∷ []))) }
 {
     templated(

@@ -12,7 +12,7 @@ ghost use Rattle.loop_ir.specs.Costs.{rounds_cost};
 ghost use Rattle.loop_ir.specs.Statements.{slots_of, StatementMeets, IsPlaced};
 ghost use Rattle.loop_ir.specs.Lowered.{IsLowered};
 ghost use Rattle.word_lower.specs.Places.{AreAt};
-ghost use Rattle.word_lower.specs.Shapes.{behind};
+ghost use Rattle.word_lower.specs.Shapes.{following};
 ghost use Rattle.word_mul.specs.Places.{rows_on, steps_for, IsNestWritten};
 ghost use Rattle.word_mul.specs.Programs.{is_nested, is_nested_statement, statement_total};
 ghost use Rattle.word_mul.specs.Bodies.{StepsBuilt};
@@ -30,7 +30,7 @@ use word_lower::slot_of;
 fn argument(names: &NameMap, args: &[Name], k: usize) -> Slot
     requires { k < length args.now }
     ensures { (ss : List Slot) → AreAt (slots_of names.now) args.now ss
-        → result ≡ behind ss names.now.free_bit k }
+        → result ≡ following ss names.now.free_bit k }
 {
     slot_of(names, &args[k])
 }

@@ -42,7 +42,7 @@ pub fn bit(which: u8) -> Slot
     }
 }
 
-/// A word of scratch, with the one behind it.
+/// A word of scratch, with the one after it.
 pub fn words(which: u8) -> Slot
     ensures { result ≡ scratch_word which }
 {

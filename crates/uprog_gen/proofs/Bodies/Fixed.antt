@@ -12,7 +12,7 @@ use Rattle.row_alloc.specs.declared.body.OutRow.{OutRow}
 use Rattle.row_alloc.specs.Rows.{out_at}
 use Rattle.row_alloc.specs.Body.{FitBody}
 use Rattle.row_alloc.specs.Known.{Serves, known, known_at, not_graph, and_graph, or_graph}
-use Rattle.row_alloc.specs.Known.{xor_graph, add_graph, plain, turned}
+use Rattle.row_alloc.specs.Known.{xor_graph, add_graph, plain, complemented}
 use Rattle.row_alloc.proofs.Fixed.{not_serves, and_serves, or_serves, xor_serves, add_serves}
 use Rattle.loop_ir.specs.Plain.{Block}
 use Rattle.loop_ir.specs.Costs.{same_lit, same_lits, same_node, same_nodes, is_body}
@@ -99,9 +99,9 @@ one_few h l i within serves g ls outs k e f fit n lits least =
     least i within (subst (λ g. Serves g outs (known_at i)) (sym e) s)
 
 pub not_few : (g : Graph) (ls : List Lit) (outs : List OutRow) (k : ℕ) → g ≡ not_graph
-    → ls ≡ turned 1 ∷ [] → FitBody g outs → length outs ≡ length ls → AreFor ls outs
+    → ls ≡ complemented 1 ∷ [] → FitBody g outs → length outs ≡ length ls → AreFor ls outs
     → IsLeast g outs k → k ≤ 2
-not_few = one_few not_graph (turned 1) 0 (omega arith) not_serves
+not_few = one_few not_graph (complemented 1) 0 (omega arith) not_serves
 
 pub and_few : (g : Graph) (ls : List Lit) (outs : List OutRow) (k : ℕ) → g ≡ and_graph
     → ls ≡ plain 3 ∷ [] → FitBody g outs → length outs ≡ length ls → AreFor ls outs

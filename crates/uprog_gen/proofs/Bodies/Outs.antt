@@ -7,7 +7,7 @@ use Rattle.std.specs.Prelude.{slice_index_or, IfSome, IfNone, not, ◌==◌, ◌
 use Rattle.std.proofs.Math.Seq.{get_or-append_seam}
 use Rattle.std.proofs.lemmas.Bool.{cases_eq, and_parts, eqb-true}
 use Rattle.mig_graph.specs.declared.Lit.{Lit}
-use Rattle.mig_graph.specs.Literals.{is_turned}
+use Rattle.mig_graph.specs.Literals.{is_complemented}
 use Rattle.mig_graph.specs.Graph.{size_of, IsGraph}
 use Rattle.row_alloc.specs.declared.body.OutRow.{OutRow}
 use Rattle.row_alloc.specs.Rows.{out_at}
@@ -143,16 +143,16 @@ not_true false h = refl
 
 -- a copy's graph and output
 copied_one : (b : Block) (outs : List OutRow) → IsOuts b (length b.outs) outs → is_copy b ≡ true
-    → (length b.graph.nodes ≡ 0) × (length outs ≡ 1) × (is_turned (out_at outs 0).lit ≡ false)
+    → (length b.graph.nodes ≡ 0) × (length outs ≡ 1) × (is_complemented (out_at outs 0).lit ≡ false)
 copied_one b outs is e =
     let h = and_parts (length b.graph.nodes == 0) ((length b.outs == 1)
-    && not (is_turned (lit_at b.outs 0))) e in
-    let g = and_parts (length b.outs == 1) (not (is_turned (lit_at b.outs 0))) h.1 in
+    && not (is_complemented (lit_at b.outs 0))) e in
+    let g = and_parts (length b.outs == 1) (not (is_complemented (lit_at b.outs 0))) h.1 in
     let l : length outs ≡ 1 = is.size ∙ eqb-true (length b.outs) 1 g.0 in (
       eqb-true (length b.graph.nodes) 0 h.0,
       l,
-      ap is_turned (is.lits 0 (omega (arith, l)))
-          ∙ not_true (is_turned (lit_at b.outs 0)) g.1,
+      ap is_complemented (is.lits 0 (omega (arith, l)))
+          ∙ not_true (is_complemented (lit_at b.outs 0)) g.1,
     )
 
 -- the literals of the outputs, in order
@@ -167,7 +167,8 @@ lits_of (l ∷ ls) (o ∷ outs) n h =
 
 few_cmds : (b : Block) (outs : List OutRow) (k : ℕ) → FitBody b.graph outs
     → IsOuts b (length b.outs) outs → k ≤ 4 * length b.graph.nodes + 3 * length outs
-    → (length b.graph.nodes ≡ 0 → length outs ≡ 1 → is_turned (out_at outs 0).lit ≡ false → k ≤ 1)
+    → (length b.graph.nodes ≡ 0 → length outs ≡ 1 → is_complemented (out_at outs 0).lit ≡ false
+    → k ≤ 1)
     → IsLeast b.graph outs k → k ≤ turn_cost b
 few_cmds b outs k fits is few one least =
     by_cases (is_copy b) 1 _ k copied
@@ -186,19 +187,22 @@ few_cmds b outs k fits is few one least =
     copied : is_copy b ≡ true → k ≤ 1
     copied e =
         let h = and_parts (length b.graph.nodes == 0) ((length b.outs == 1)
-        && not (is_turned (lit_at b.outs 0))) e in
-        let g = and_parts (length b.outs == 1) (not (is_turned (lit_at b.outs 0))) h.1 in
+        && not (is_complemented (lit_at b.outs 0))) e in
+        let g = and_parts (length b.outs == 1) (not (is_complemented (lit_at b.outs 0))) h.1 in
         let l : length outs ≡ 1 = is.size ∙ eqb-true (length b.outs) 1 g.0 in
-        one (eqb-true (length b.graph.nodes) 0 h.0) l (ap is_turned (is.lits 0 (omega (arith, l)))
-        ∙ not_true (is_turned (lit_at b.outs 0)) g.1)
+        one (eqb-true (length b.graph.nodes) 0 h.0) l (ap is_complemented (is.lits 0 (omega (
+          arith,
+          l,
+        )))
+        ∙ not_true (is_complemented (lit_at b.outs 0)) g.1)
 
 -- a body's plan, outputs and commands make a part
 pub is_part : (b : Block) (plan : Plan) (outs : List OutRow) (cmds : List BodyCmd) → IsSmall b
     → IsGraph b.graph.inputs b.graph.nodes → plan ≡ plan_of b → IsOuts b (length b.outs) outs
     → DoesBody b.graph outs cmds → length cmds ≤ 4 * length b.graph.nodes + 3 * length outs
-    → (length b.graph.nodes ≡ 0 → length outs ≡ 1 → is_turned (out_at outs 0).lit ≡ false
+    → (length b.graph.nodes ≡ 0 → length outs ≡ 1 → is_complemented (out_at outs 0).lit ≡ false
     → length cmds ≤ 1) → IsLeast b.graph outs (length cmds)
-    → (length b.graph.nodes ≡ 0 → length outs ≡ 1 → is_turned (out_at outs 0).lit ≡ false
+    → (length b.graph.nodes ≡ 0 → length outs ≡ 1 → is_complemented (out_at outs 0).lit ≡ false
     → cmds ≡ Aap (source_of b.graph.inputs (out_at outs 0).lit) (Out 0) ∷ [])
     → ((w : WordBody) → b.graph ≡ graph_in w → map (λ o. o.lit) outs ≡ outs_in w
     → WritesLate outs (known_at (sequence_for w)) → cmds ≡ known_at (sequence_for w))

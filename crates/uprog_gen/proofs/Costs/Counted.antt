@@ -10,7 +10,7 @@ use Rattle.op_text.specs.Meaning.{width}
 use Rattle.op_text.specs.Scratch.{names_width}
 use Rattle.op_text.specs.Costs.{op_aaps, op_aps}
 use Rattle.op_text.specs.declared.tree.Param.{Param}
-use Rattle.op_rules.specs.Meets.{Context, behind, OperationMeets}
+use Rattle.op_rules.specs.Meets.{Context, following, OperationMeets}
 use Rattle.loop_ir.specs.declared.names.Slot.{Slot}
 use Rattle.loop_ir.specs.Plain.{Block, StepOf, AllParts}
 use Rattle.loop_ir.specs.Loops.{all_rounds}
@@ -116,7 +116,7 @@ module _ (slots : Slots) (free_bit free_word : ℕ) (target : List ℕ) (second 
       same false e = w.linear e t given.list meets.gives.found given.at
           ∙ written_linear p t.kind owners rows e
 
--- the rounds of one statement and of those behind it
+-- the rounds of one statement and of those after it
 sum_joined : (f : Block → ℕ) (n : ℕ) (q : List (StepOf Block)) (ps : List (List (StepOf Block)))
     → rounds_sum f (all_rounds n (q ++ joined ps))
     ≡ rounds_sum f (all_rounds n q) + rounds_sum f (all_rounds n (joined ps))
@@ -145,7 +145,7 @@ module _ (o : Operation) (meets : OperationMeets o) (slots : Slots) (free_bit fr
       let m = statement_meets o meets slots free_bit free_word is c s rest st in
       let placed = is_placed o meets slots free_bit free_word is c s rest st in
       let one = exactly slots free_bit free_word target second p args m placed q w.0 in
-      let more = all_exactly rest (behind c s) (next_stage o c s rest st) ps w.1 h in
+      let more = all_exactly rest (following c s) (next_stage o c s rest st) ps w.1 h in
       let wide = λ (n : ℕ). sym (args_same o meets slots free_bit free_word is c s rest st n args
       st.body.0.known) ∙ have_first slots n args m.kinds m.have
       ∙ width_is p m.kinds m.gives.slot.kind n (m.form ∙ ap Some (sym m.gives.kind)) in

@@ -129,7 +129,8 @@ spreads_is : (p : WordOp) → spreads p ≡ keeps_kind (row_of p).signature
 spreads_is op.Not = refl
 spreads_is p = refl
 
-shape_width : (s : Signature) (ks : List Kind) (k : Kind) (n : ℕ) → filled (signature_forms s) ks ≡ Some k
+shape_width : (s : Signature) (ks : List Kind) (k : Kind) (n : ℕ)
+    → filled (signature_forms s) ks ≡ Some k
     → given_first (signature_forms s) (first_of ks) ≡ k
     → first_width n ks ≡ cond (keeps_kind s) (width n k) n
 shape_width shape.OneOf [] k n e f = cc

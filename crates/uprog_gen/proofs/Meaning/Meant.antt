@@ -22,7 +22,7 @@ use Rattle.op_text.specs.Costs.{op_ceiling}
 use Rattle.op_text.specs.Scratch.{statement_ceiling, body_ceiling, need_inside, bits_inside}
 use Rattle.op_text.specs.Scratch.{words_inside, scratch_bits, scratch_words}
 use Rattle.op_text.specs.Spelling.{Each}
-use Rattle.op_rules.specs.Meets.{IsNew, names_of, Differ, IsKnown, Context, behind, at_start}
+use Rattle.op_rules.specs.Meets.{IsNew, names_of, Differ, IsKnown, Context, following, at_start}
 use Rattle.op_rules.specs.Meets.{OperationMeets}
 use Rattle.op_rules.specs.Laws.{all_names}
 use Rattle.op_rules.proofs.Names.{same_name, is_same, or_first, or_second}
@@ -58,7 +58,8 @@ use Rattle.uprog_gen.proofs.Meaning.Numbers.{value_same, bits_of_value}
 use Rattle.uprog_gen.proofs.Meaning.Walked.{HoldsAll, body_holds}
 
 -- the sources' rows hold the sources
-sources_other : (n : ℕ) (names : List ℕ → NameValue) (ps : List Param) (values : List ℕ) (name : List ℕ)
+sources_other : (n : ℕ) (names : List ℕ → NameValue) (ps : List Param) (values : List ℕ) (name :
+    List ℕ)
     → is_among (names_of ps) name ≡ false → with_sources n names ps values name ≡ names name
 sources_other n names [] values name h = refl
 sources_other n names (p ∷ ps) [] name h = refl
@@ -68,7 +69,8 @@ sources_other n names (p ∷ ps) (v ∷ values) name h =
     ∙ changed_other names p.name name (holding n p.kind v)
     (or_first (bytes_eq p.name name) (is_among (names_of ps) name) h)
 
-changed_same : (names : List ℕ → NameValue) (name : List ℕ) (v : NameValue) → changed names name v name ≡ v
+changed_same : (names : List ℕ → NameValue) (name : List ℕ) (v : NameValue)
+    → changed names name v name ≡ v
 changed_same names name v = ap (λ b. cond b v (names name)) (is_same name name refl)
 
 source_held : (n k : ℕ) (j : Kind) (bits : Spots)
@@ -161,7 +163,7 @@ params_names ps = map (λ (p : Param). p.name) ps
 zero_on : (j : ℕ) → j ≡ 0 + j
 zero_on j = omega arith
 
--- a later name has a place behind the first
+-- a later name has a place after the first
 later : (w : ℕ) (x name : List ℕ) (names : List (List ℕ)) → is_among names x ≡ false
     → is_among names name ≡ true
     → w + place_in (x ∷ names) name ≡ w + 1 + place_in names name
@@ -285,7 +287,8 @@ module _ (op : Operation) (meets : OperationMeets op) (slots : Slots) (free_bit 
       ap (λ u. value (all u)) (sym (width_same k n))
       ∙ sym (value_same (all (width n k))) ∙ ap text.value (sym h.1)
 
-  results_mean : (n w : ℕ) (held : List ℕ → NameValue) (bits : Spots) (ps : List Param) → AreOwn w ps
+  results_mean : (n w : ℕ) (held : List ℕ → NameValue) (bits : Spots) (ps : List Param)
+      → AreOwn w ps
       → Each (λ (r : Param). HoldsAt n (slots r.name) (held r.name) bits) ps
       → numbers_in Result n (kinds_of ps) w bits ≡ map number (map held (params_names ps))
   unfolding AreOwn
@@ -355,7 +358,7 @@ module _ (op : Operation) (meets : OperationMeets op) (slots : Slots) (free_bit 
   all_can (s ∷ rest) c st [] low = absurd low
   all_can (s ∷ rest) c st (p ∷ ps) low = (
     can_statement c s rest st p low.0.can,
-    all_can rest (behind c s) (next_stage op c s rest st) ps low.1,
+    all_can rest (following c s) (next_stage op c s rest st) ps low.1,
   )
 
   all_cheap : (n : ℕ) → 0 < n → n ≤ WIDTH_MAX → (rest : List Statement) (c : Context)
@@ -366,7 +369,7 @@ module _ (op : Operation) (meets : OperationMeets op) (slots : Slots) (free_bit 
   all_cheap n some small (s ∷ rest) c st [] low = absurd low
   all_cheap n some small (s ∷ rest) c st (p ∷ ps) low = (
     omega (arith, low.0.cheap n some small, ceiling_same c s rest st n),
-    all_cheap n some small rest (behind c s) (next_stage op c s rest st) ps low.1,
+    all_cheap n some small rest (following c s) (next_stage op c s rest st) ps low.1,
   )
 
   pub can_compile : (ps : List (List (StepOf Block)))

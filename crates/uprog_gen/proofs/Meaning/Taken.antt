@@ -10,7 +10,7 @@ use Rattle.op_text.specs.declared.tree.Op.{Op}
 use Rattle.op_text.specs.declared.tree.Stmt.{Stmt}
 use Rattle.op_text.specs.Language.{Statement, Compute, Visit, Operation, statement, operation}
 use Rattle.op_text.specs.Language.{Block as Serial}
-use Rattle.op_rules.specs.Meets.{Context, behind, at_start, OperationMeets}
+use Rattle.op_rules.specs.Meets.{Context, following, at_start, OperationMeets}
 use Rattle.uprog_code.specs.declared.code.EntryCode.{EntryCode}
 use Rattle.uprog_code.specs.Machine.{trace, issues_of}
 use Rattle.uprog_code.specs.Shape.{Microprogram, microprogram_of}
@@ -118,7 +118,7 @@ module _ (op : Operation) (meets : OperationMeets op) (slots : Slots) (free_bit 
         joined_cost n q ps,
         low.0.cheap n some small,
         ceiling_same op meets slots free_bit free_word is c s rest st n,
-        few_rounds n some small rest (behind c s) (next_stage op c s rest st) ps low.1 h.1,
+        few_rounds n some small rest (following c s) (next_stage op c s rest st) ps low.1 h.1,
       )
   few_rounds n some small (Visit b ∷ rest) c st (q ∷ ps) low h =
       let s = Visit b in
@@ -129,7 +129,7 @@ module _ (op : Operation) (meets : OperationMeets op) (slots : Slots) (free_bit 
         arith,
         joined_cost n q ps,
         h.0.cost n,
-        few_rounds n some small rest (behind c s) (next_stage op c s rest st) ps low.1 h.1,
+        few_rounds n some small rest (following c s) (next_stage op c s rest st) ps low.1 h.1,
       ))
 
   pub entry_graphed : (ps : List (List (StepOf Block)))

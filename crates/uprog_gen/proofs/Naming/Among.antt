@@ -13,7 +13,7 @@ use Rattle.op_text.specs.Meaning.{computed, after_statement}
 use Rattle.op_text.specs.Scratch.{param, state_names, word_names}
 use Rattle.op_text.specs.Spelling.{Each}
 use Rattle.op_rules.specs.Meets.{targets}
-use Rattle.op_rules.proofs.Names.{same_name, turned, among-append, or_first, or_second}
+use Rattle.op_rules.proofs.Names.{same_name, other_way, among-append, or_first, or_second}
 use Rattle.loop_ir.specs.Statements.{written_names}
 use Rattle.uprog_gen.proofs.Naming.Lays.{by_bool}
 
@@ -96,7 +96,7 @@ one_kind k (n ∷ ns) name h =
 -- the names that are not set
 pub changed_other : {V : Type 0} (names : List ℕ → V) (m name : List ℕ) (v : V)
     → bytes_eq m name ≡ false → changed names m v name ≡ names name
-changed_other names m name v h = ap (λ b. cond b v (names name)) (turned name m ∙ h)
+changed_other names m name v h = ap (λ b. cond b v (names name)) (other_way name m ∙ h)
 
 assigned_other : (r : List ℕ → Bool) (i : ℕ) (names : List ℕ
     → NameValue) (es : List Equation) (name : List ℕ)

@@ -16,7 +16,7 @@ use Rattle.op_text.specs.Meaning.{changed}
 use Rattle.op_text.specs.Rules.{is_among}
 use Rattle.op_text.specs.Scratch.{param, defines}
 use Rattle.op_rules.specs.Meets.{names_of, Differ}
-use Rattle.op_rules.proofs.Names.{same_name, turned}
+use Rattle.op_rules.proofs.Names.{same_name, other_way}
 use Rattle.loop_ir.specs.declared.names.NameMap.{NameMap}
 use Rattle.loop_ir.specs.Statements.{Slots, slots_of}
 use Rattle.uprog_gen.specs.Layout.{Lay, own_slot, is_scratch, defined_lays}
@@ -50,7 +50,7 @@ placed_found f (l ∷ ls) d n =
     let none : found ls n ≡ None = found_new ls n
     (ap (λ x. is_among (names_of (params_of ls)) x) (sym m) ∙ d.0) in
     ap (λ o. or_else o (changed f l.name (Some l.slot) n)) none
-    ∙ ap (λ b. cond b (Some l.slot) (f n)) (turned n l.name ∙ e))
+    ∙ ap (λ b. cond b (Some l.slot) (f n)) (other_way n l.name ∙ e))
     (λ e h. ap (or_else (found ls n)) (changed_other f l.name n (Some l.slot) e))
     refl
 

@@ -18,10 +18,10 @@ use Rattle.op_text.specs.Scratch.{param, state_names, word_names, defines, body_
 use Rattle.op_text.specs.Scratch.{result_kind, scratch_names}
 use Rattle.op_text.specs.Spelling.{Each, TermMeets}
 use Rattle.op_rules.specs.Meets.{IsNewLet, IsNewOf, IsKnown, Differ, names_of, let_names, used}
-use Rattle.op_rules.specs.Meets.{can_read, LetsRead, Context, behind, OperationMeets}
+use Rattle.op_rules.specs.Meets.{can_read, LetsRead, Context, following, OperationMeets}
 use Rattle.op_rules.specs.Meets as rules
 use Rattle.op_rules.specs.Laws.{all_names}
-use Rattle.op_rules.proofs.Names.{is_same, turned, new-left, new-right, new-append}
+use Rattle.op_rules.proofs.Names.{is_same, other_way, new-left, new-right, new-append}
 use Rattle.op_rules.proofs.Standing.{names-append}
 use Rattle.op_rules.proofs.Few.{scratch_is_small}
 use Rattle.loop_ir.specs.declared.ir.Space.{Space}
@@ -130,7 +130,7 @@ lets_meet known inside readable (l ∷ lets) assigns f h g = (
       (f name (or_right (is_known (kind_among known name)) (is_among inside name) i)))
       (λ (i : is_among (l.name ∷ []) name ≡ true). ⊎_elim
       (λ (j : bytes_eq l.name name ≡ true). or_left (bytes_eq name l.name) (readable name)
-      (turned name l.name ∙ j)) (λ (j : false ≡ true). absurd (cc))
+      (other_way name l.name ∙ j)) (λ (j : false ≡ true). absurd (cc))
       (or_split (bytes_eq l.name name) false i))
       (among_split inside (l.name ∷ []) name k))
       (or_split (is_known (kind_among known name)) (is_among (inside ++ l.name ∷ []) name) e))
@@ -272,7 +272,7 @@ module _ (op : Operation) (meets : OperationMeets op) (slots : Slots) (free_bit 
           written_defined c.known (Visit b) name
           ∙ new-append (state_names b) (word_names b) name state word in
           let later : is_among (names_of more) name ≡ false =
-          lets_stay (behind c (Visit b)) rest name st.body.1
+          lets_stay (following c (Visit b)) rest name st.body.1
           (among_right c.lets (let_names b) name h) in
           let whole : is_among (names_of (all_names op)) name ≡ false =
           ap (λ ps. is_among (names_of ps) name) st.all

@@ -12,7 +12,7 @@ use Rattle.row_alloc.specs.declared.body.BodyCmd.{BodyCmd}
 use Rattle.row_alloc.specs.declared.body.BodyCmd.TheVariants.{Aap, Ap}
 use Rattle.row_alloc.specs.declared.body.OutRow.{OutRow}
 use Rattle.row_alloc.specs.Known.{WordBody, Inverted, Shifted, Both, Either, Without}
-use Rattle.row_alloc.specs.Known.{Unlike, Chosen, Compared, Agreed, Added, Lessened, TurnedBy}
+use Rattle.row_alloc.specs.Known.{Unlike, Chosen, Compared, Agreed, Added, Lessened, NegatedIf}
 use Rattle.row_alloc.specs.Known.{Multiplied, Counted, Divided, inputs_in, nodes_in, outs_in}
 use Rattle.row_alloc.proofs.First.{KeepsInputs, word_late}
 use Rattle.loop_ir.specs.Plain.{Block, InnerOf, StepOf, inner_map, step_map, AllInner, AllStep}
@@ -55,7 +55,7 @@ kept b outs Compared is e k = tt
 kept b outs Agreed is e k = tt
 kept b outs Added is e k = tt
 kept b outs Lessened is e k = tt
-kept b outs TurnedBy is e k = tt
+kept b outs NegatedIf is e k = tt
 kept b outs Counted is e k = tt
 kept b outs Divided is e k = tt
 
@@ -72,7 +72,7 @@ part_count f one copies p is settled = by (is_copy p.block) refl (word_of p.bloc
     by false e (Some w) g s =
         let h = body_is (inputs_in w) (nodes_in w) (outs_in w) p.block
         (found_word (Inverted ∷ Shifted ∷ Both ∷ Either ∷ Without ∷ Unlike ∷ Chosen ∷ Compared
-        ∷ Agreed ∷ Added ∷ Lessened ∷ TurnedBy ∷ Multiplied ∷ Counted ∷ Divided ∷ []) p.block w
+        ∷ Agreed ∷ Added ∷ Lessened ∷ NegatedIf ∷ Multiplied ∷ Counted ∷ Divided ∷ []) p.block w
         g) in
         ap (count_by f) (is.word w h.0 h.1
         (word_late w p.outs (kept p.block p.outs w is.outs h.1 s)))

@@ -41,7 +41,7 @@ returns-in_err-do_event-clause-stopped g c =
     on_err c.from_residual.result (stopped all k.invariant.done (event ∷ left)
     (D.view c.args.dram.now) (D.view k.dram) (D.view c.do_event.new.dram) is (omega arith)
     k.invariant.did k.invariant.kept c.in_err-do_event.ensures.rose
-    c.in_err-do_event.ensures.untold)
+    c.in_err-do_event.ensures.no_event)
 
 pub loop-k-preserved : goal.loop-k-preserved
 loop-k-preserved g c =

@@ -9,7 +9,7 @@ use borrow.Rule.Slice.PartMut.{post_of}
 use Rattle.bit_rows.specs.Bits.{bit_at, word_bit, majority}
 use Rattle.dram_chip.proofs.rows.settle_rows.Goals as goal
 
--- a word behind the first part
+-- a word after the first part
 past : (p s : List ℕ) (i q : ℕ) → length p ≡ i → get_or (p ++ s) (i + q) 0 ≡ get_or s q 0
 past p s i q e = let back : i + q - i ≡ q = omega arith in get_or-append_right p s i (i + q) 0 e
     (omega arith) ∙ ap (λ n. get_or s n 0) back

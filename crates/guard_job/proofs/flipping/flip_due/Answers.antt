@@ -1,8 +1,8 @@
 use Rattle.std.proofs.Common.{arith, rules, ◌+◌, ◌∙◌, sym, ap, get_or, length, drop, List}
 use Rattle.guard_model.specs.declared.Flip.{Flip}
 use Rattle.guard_model.specs.Flips.{all_flipped, due}
-use Rattle.guard_job.proofs.Due.{cells_behind, log_goes_on, no_more_log, not_due}
-use Rattle.guard_job.proofs.Due.{one_due, sorted_behind}
+use Rattle.guard_job.proofs.Due.{cells_after, log_goes_on, no_more_log, not_due}
+use Rattle.guard_job.proofs.Due.{one_due, sorted_after}
 use Rattle.guard_job.specs.Parts.{IsCell}
 use Rattle.guard_job.proofs.flipping.flip_due.Goals as goal
 
@@ -45,8 +45,8 @@ flips-preserved g c =
           (g.D.Dram.view c.args.chip.now) (g.D.Dram.view c.flips.chip)
           (g.D.Dram.view c.do_flip.new.dram) left c.in_ok-do_flip.ensures.banks
           c.in_ok-do_flip.ensures.log c.flips.invariant.log;
-      sorted = sorted_behind c.args.k flips c.flips.done _ c.flips-test.true c.if-flips-done.true
+      sorted = sorted_after c.args.k flips c.flips.done _ c.flips-test.true c.if-flips-done.true
           c.flips.invariant.sorted;
-      cells = cells_behind (IsCell (g.D.Dram.view c.args.chip.now).geometry) flips c.flips.done any
+      cells = cells_after (IsCell (g.D.Dram.view c.args.chip.now).geometry) flips c.flips.done any
           c.flips-test.true c.flips.invariant.cells;
     }

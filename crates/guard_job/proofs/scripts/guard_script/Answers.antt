@@ -23,7 +23,8 @@ use Rattle.tmr_guard.specs.Steps.{machine_in}
 use Rattle.guard_job.specs.Events.{run_events}
 use Rattle.guard_job.specs.Steps.{end_by, guarded_steps}
 use Rattle.guard_job.specs.declared.scripts.One.{One}
-use Rattle.guard_job.proofs.Ending.{all_here, cells_on, flips_behind, left_is, mended_moved, next_flips, others_of}
+use Rattle.guard_job.proofs.Ending.{all_here, cells_on, flips_after, left_is, mended_moved}
+use Rattle.guard_job.proofs.Ending.{next_flips, others_of}
 use Rattle.guard_job.proofs.Ending.{rises_more, stops_here, tally_last}
 use Rattle.guard_job.proofs.Walking.{banks_go, goes_goes, line_moved, log_goes, moved, refused_goes}
 use Rattle.guard_job.proofs.Walking.{table_goes, tally_goes, votes_go}
@@ -62,13 +63,13 @@ instrs-preserved g c =
     rw c.split_at.ensures.back at c.in_ok-one.ensures.within in
     let size = length-drop at flips in
     let same : due k left ≡ due k flips = inv.later k (omega arith) in
-    let told = rw c.split_at.ensures.back at c.in_ok-one.ensures.done in
+    let known = rw c.split_at.ensures.back at c.in_ok-one.ensures.done in
     let d = moved (geometry_of before) shape (program_of before) p (due k left) (due k flips) i
     (turn_in before) (turn_in after) table (table_in after) a b one.votes one.refused inv.shape_is
-    inv.program same told in
+    inv.program same known in
     let next = next_flips k one.flips at flips inv.sorted count in
     let due_size = ap (λ (l : List Flip). length l) same in
-    let behind = length-drop (at + one.flips) flips in
+    let following = length-drop (at + one.flips) flips in
     record {
       within = omega arith;
       flipped = omega (arith, within, size, inv.flipped);
@@ -85,7 +86,7 @@ instrs-preserved g c =
       few_refused = omega (arith, inv.few_refused, c.in_ok-one.ensures.few_refused);
       plain = others_of IsPlain i rest others is inv.plain;
       short = others_of (λ instr. has_long_name instr ≡ false) i rest others is inv.short;
-      cells = flips_behind (IsFlip shape (length script)) one.flips at flips inv.cells;
+      cells = flips_after (IsFlip shape (length script)) one.flips at flips inv.cells;
       sorted = next.0;
       later = λ j l. next.1 j l ∙ inv.later j (omega (arith, l));
       table_end = table_goes shape o flips k i others (turn_in before) (turn_in after) table
@@ -96,7 +97,7 @@ instrs-preserved g c =
           ∙ ap (guarded_rows_at_end shape o flips k table a.banks) (sym is) ∙ inv.banks_end;
       tally_end = tally_goes shape o flips k i others (turn_in before) (turn_in after) table
           (table_in after) a b one.votes one.refused d left (drop (at + one.flips) flips)
-          (omega (arith, count, due_size, size, behind, within, inv.flipped))
+          (omega (arith, count, due_size, size, following, within, inv.flipped))
           ∙ ap (λ (s : List Instruction). guarded_tally shape o table s left a.counters) (sym is)
           ∙ inv.tally_end;
       log = λ new more. inv.log new (subst (λ (s : List Instruction). Grew a.log new.log
@@ -179,9 +180,9 @@ returns-in-Ok-clause-banks g c =
     let now = V c.instrs.chip in
     let none : map view_of (drop c.instrs.done script) ≡ [] =
     ap (map view_of) (drop_all c.instrs.done script (omega arith)) in
-    let told = rw c.split_at-2.ensures.back at c.in-Ok.ensures.done in
+    let known = rw c.split_at-2.ensures.back at c.in-Ok.ensures.done in
     let m = mended_moved (geometry_of last) shape (due k left) (due k flips) (table_in last) now
-    (V c.mend.new.chip) inv.shape_is (inv.later k (omega arith)) told in
+    (V c.mend.new.chip) inv.shape_is (inv.later k (omega arith)) known in
     m.banks ∙ ap (guarded_rows_at_end shape o flips k (table_in last) now.banks) (sym none)
     ∙ inv.banks_end
 
@@ -200,9 +201,9 @@ returns-in-Ok-clause-counters g c =
     let now = V c.instrs.chip in
     let none : map view_of (drop c.instrs.done script) ≡ [] =
     ap (map view_of) (drop_all c.instrs.done script (omega arith)) in
-    let told = rw c.split_at-2.ensures.back at c.in-Ok.ensures.done in
+    let known = rw c.split_at-2.ensures.back at c.in-Ok.ensures.done in
     let m = mended_moved (geometry_of last) shape (due k left) (due k flips) (table_in last) now
-    (V c.mend.new.chip) inv.shape_is (inv.later k (omega arith)) told in
+    (V c.mend.new.chip) inv.shape_is (inv.later k (omega arith)) known in
     let all : due k left ≡ left = all_here shape (length script) c.instrs.done left (omega arith)
     inv.cells inv.sorted in
     let whole = mended_moved shape shape (due k flips) left (table_in last) now
@@ -226,9 +227,9 @@ returns-in-Ok-clause-log g c =
     let now = V c.instrs.chip in
     let none : map view_of (drop c.instrs.done script) ≡ [] =
     ap (map view_of) (drop_all c.instrs.done script (omega arith)) in
-    let told = rw c.split_at-2.ensures.back at c.in-Ok.ensures.done in
+    let known = rw c.split_at-2.ensures.back at c.in-Ok.ensures.done in
     let m = mended_moved (geometry_of last) shape (due k left) (due k flips) (table_in last) now
-    (V c.mend.new.chip) inv.shape_is (inv.later k (omega arith)) told in
+    (V c.mend.new.chip) inv.shape_is (inv.later k (omega arith)) known in
     inv.log (V c.mend.new.chip) (subst (λ (s : List Instruction).
     Grew now.log (V c.mend.new.chip).log
     (run_events shape o flips k (turn_in last) (table_in last) now.banks s)) (sym none) m.log)
@@ -248,9 +249,9 @@ returns-in-Ok-clause-votes g c =
     let now = V c.instrs.chip in
     let none : map view_of (drop c.instrs.done script) ≡ [] =
     ap (map view_of) (drop_all c.instrs.done script (omega arith)) in
-    let told = rw c.split_at-2.ensures.back at c.in-Ok.ensures.done in
+    let known = rw c.split_at-2.ensures.back at c.in-Ok.ensures.done in
     let m = mended_moved (geometry_of last) shape (due k left) (due k flips) (table_in last) now
-    (V c.mend.new.chip) inv.shape_is (inv.later k (omega arith)) told in
+    (V c.mend.new.chip) inv.shape_is (inv.later k (omega arith)) known in
     let votes = rw inv.shape_is at c.in-Ok.ensures.votes in
     ap (λ (n : ℕ). c.instrs.votes + n) votes
     ∙ ap (λ (s : List Instruction). c.instrs.votes + votes_at_end shape o (table_in last) s)

@@ -3,35 +3,36 @@ use Rattle.std.proofs.Common.{length-append, arith, inl, inr}
 use Rattle.std.proofs.lemmas.Result.{IfOk-weaker}
 use Rattle.bit_rows.specs.Bits.{majority, flip_if}
 use Rattle.mig_graph.specs.declared.Lit.{Lit}
-use Rattle.mig_graph.specs.Literals.{turn_if}
+use Rattle.mig_graph.specs.Literals.{complement_if}
 use Rattle.mig_graph.specs.Graph.{Graph, value, values, size_of, GrewByOne}
 use Rattle.mig_graph.proofs.Laws.{value-zero}
 use Rattle.mig_graph.specs.Outputs.{lit_at, AreNamed}
-use Rattle.mig_graph.proofs.OutputLaws.{value-turned, turned-node}
+use Rattle.mig_graph.proofs.OutputLaws.{value-complemented, complemented-node}
 use Rattle.mig_rewrite.specs.declared.rebuild.Part.TheVariants.{Two}
 use Rattle.mig_rewrite.specs.Plan.{part_value}
 use Rattle.mig_rewrite.proofs.rebuild.make.Goals as goal
 
 -- a translated literal has the value of its node's literal
-moved : (g : Graph) (bits : ℕ → Bool) (x y l : Lit) → x ≡ turn_if l.inverted y
+moved : (g : Graph) (bits : ℕ → Bool) (x y l : Lit) → x ≡ complement_if l.inverted y
     → value g bits x ≡ flip_if l.inverted (value g bits y)
-moved g bits x y l e = rw e (value-turned (values g bits) l.inverted y)
+moved g bits x y l e = rw e (value-complemented (values g bits) l.inverted y)
 
 three : (a b c x y z : Bool) → a ≡ x → b ≡ y → c ≡ z → majority a b c ≡ majority x y z
 three a b c x y z e f g = rw (e, f, g) refl
 
 -- it names a node of the graph
 translated-named : (g : Graph) (lits : List Lit) (x l : Lit)
-    → x ≡ turn_if l.inverted (lit_at lits l.node) → AreNamed g lits → l.node < length lits
+    → x ≡ complement_if l.inverted (lit_at lits l.node) → AreNamed g lits → l.node < length lits
     → x.node < size_of g
-translated-named g lits x l e named b = rw (e, turned-node l.inverted (lit_at lits l.node))
+translated-named g lits x l e named b = rw (e, complemented-node l.inverted (lit_at lits l.node))
     (named l.node b)
 
 two : (g h k : Graph) (bits : ℕ → Bool) (lits : List Lit) (x y u v z x' y' u' v' z' i l : Lit)
-    → x' ≡ turn_if x.inverted (lit_at lits x.node) → y' ≡ turn_if y.inverted (lit_at lits y.node)
-    → u' ≡ turn_if u.inverted (lit_at lits u.node)
-    → v' ≡ turn_if v.inverted (lit_at lits v.node)
-    → z' ≡ turn_if z.inverted (lit_at lits z.node)
+    → x' ≡ complement_if x.inverted (lit_at lits x.node)
+    → y' ≡ complement_if y.inverted (lit_at lits y.node)
+    → u' ≡ complement_if u.inverted (lit_at lits u.node)
+    → v' ≡ complement_if v.inverted (lit_at lits v.node)
+    → z' ≡ complement_if z.inverted (lit_at lits z.node)
     → AreNamed g lits → x.node < length lits → y.node < length lits
     → ((m : Lit) → m.node < size_of g → value h bits m ≡ value g bits m)
     → value h bits i ≡ majority (value g bits u') (value g bits v') (value g bits z')

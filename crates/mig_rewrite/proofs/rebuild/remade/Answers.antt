@@ -1,12 +1,12 @@
 use Rattle.std.proofs.Common.{◌≡◌, ℕ, ◌+◌, ◌<◌, ◌≤◌, Bool, [], ◌∷◌, length, length-append, arith}
 use Rattle.std.proofs.Common.{sym, ◌∙◌, subst, ap}
 use Rattle.mig_graph.specs.declared.Lit.{Lit}
-use Rattle.mig_graph.specs.Literals.{turn_if}
+use Rattle.mig_graph.specs.Literals.{complement_if}
 use Rattle.bit_rows.specs.Bits.{flip_if}
 use Rattle.mig_graph.specs.Graph.{Graph, size_of, value, values, start}
 use Rattle.mig_graph.proofs.Laws.{values-below}
 use Rattle.mig_graph.specs.Outputs.{lit_at}
-use Rattle.mig_graph.proofs.OutputLaws.{each-more, value-turned}
+use Rattle.mig_graph.proofs.OutputLaws.{each-more, value-complemented}
 use Rattle.mig_rewrite.specs.Plan.{part_of}
 use Rattle.mig_rewrite.proofs.Steps.{part-lower, values-more, count-more, merged-spared}
 use Rattle.mig_rewrite.proofs.Steps.{spared-none}
@@ -24,9 +24,9 @@ grown : (g h : Graph) (n : ℕ) → h.inputs ≡ g.inputs → length g.nodes ≤
 grown g h n e l b = omega arith
 
 -- an output of the new graph has its old value
-output : (g h : Graph) (bits : ℕ → Bool) (x y l : Lit) → x ≡ turn_if l.inverted y
+output : (g h : Graph) (bits : ℕ → Bool) (x y l : Lit) → x ≡ complement_if l.inverted y
     → value h bits y ≡ values g bits l.node → value h bits x ≡ value g bits l
-output g h bits x y l e v = rw e (value-turned (values h bits) l.inverted y
+output g h bits x y l e v = rw e (value-complemented (values h bits) l.inverted y
     ∙ ap (flip_if l.inverted) v)
 
 pub loop-k-init : goal.loop-k-init
@@ -131,7 +131,7 @@ returns-clause-keeps c =
     let lits = c.loop-k.lits.items in
     let made = c.in_ok-outs.outs.items in
     let each : (j : ℕ) → j < length outs → lit_at made j
-    ≡ turn_if (lit_at outs j).inverted (lit_at lits (lit_at outs j).node) =
+    ≡ complement_if (lit_at outs j).inverted (lit_at lits (lit_at outs j).node) =
     rw (c.deref-2.ensures.value, c.deref-3.ensures.value) at c.in_ok-outs.ensures.each in
     record {
       inputs = so.inputs;

@@ -1,5 +1,5 @@
 use Rattle.std.proofs.Common.{◌≡◌, ◌∷◌, [], length-append, arith}
-use Rattle.mig_graph.specs.Literals.{turn_if}
+use Rattle.mig_graph.specs.Literals.{complement_if}
 use Rattle.mig_graph.specs.Outputs.{lit_at}
 use Rattle.mig_graph.proofs.OutputLaws.{each-more}
 use Rattle.mig_rewrite.proofs.rebuild.translated_all.Goals as goal
@@ -11,7 +11,7 @@ loop-l-preserved c = record {
     length-append c.loop-l.made.items (c.translated-new.result ∷ []),
     c.loop-l.invariant.long,
   ));
-  each = each-more (λ k x. x ≡ turn_if (lit_at c.args.old.now k).inverted
+  each = each-more (λ k x. x ≡ complement_if (lit_at c.args.old.now k).inverted
       (lit_at c.args.lits.now (lit_at c.args.old.now k).node)) c.loop-l.made.items _
       c.translated-new.result c.loop-l.l-index c.loop-l.invariant.long c.in_ok-keep.ensures
       c.loop-l.invariant.each c.translated-new.ensures;

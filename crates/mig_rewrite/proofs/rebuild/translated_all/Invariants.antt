@@ -1,5 +1,5 @@
 use Rattle.std.proofs.Common.{◌≡◌, ◌<◌, ℕ, length}
-use Rattle.mig_graph.specs.Literals.{turn_if}
+use Rattle.mig_graph.specs.Literals.{complement_if}
 use Rattle.mig_graph.specs.Outputs.{lit_at}
 use Rattle.mig_rewrite.proofs.rebuild.translated_all.Given as goal
 
@@ -8,5 +8,5 @@ abbrev pub invariant-loop-l : goal.invariant-loop-l
 invariant-loop-l l = record {
   long : length l.made.items ≡ l.l-index;
   each : (k : ℕ) → k < l.l-index → lit_at l.made.items k
-      ≡ turn_if (lit_at l.old k).inverted (lit_at l.lits (lit_at l.old k).node);
+      ≡ complement_if (lit_at l.old k).inverted (lit_at l.lits (lit_at l.old k).node);
 }

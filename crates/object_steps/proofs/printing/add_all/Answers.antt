@@ -1,7 +1,7 @@
 use Rattle.std.proofs.Common.{◌≡◌, ℕ, ◌+◌, ◌++◌, ◌∙◌, List, take, drop, ap}
 use Rattle.std.proofs.Common.{append_assoc, arith, subst, sym, get_or, refl}
 use Rattle.std.specs.Prelude.{codes, decimal}
-use Rattle.host_edge.specs.Views.{Told, AppendsPart}
+use Rattle.host_edge.specs.Views.{Known, AppendsPart}
 use Rattle.host_edge.specs.Sends.{AppendsUpTo}
 use Rattle.object_steps.specs.Lines.{values_text}
 use Rattle.object_steps.proofs.Filled.{on_err}
@@ -27,7 +27,7 @@ loop-value-preserved g c =
     record {
       counts = omega (arith, c.loop-value.invariant.counts, c.in_ok-add_value.ensures.counts);
       room = c.in_ok-add_value.ensures.room;
-      held = subst (λ (xs : List ℕ). Told (AppendsUpTo c.add_value.new.text.items xs) first.sent
+      held = subst (λ (xs : List ℕ). Known (AppendsUpTo c.add_value.new.text.items xs) first.sent
           new.sent) all (then_more (c.args.text.now.items ++ before) c.loop-value.text.items piece
           c.add_value.new.text.items first.sent now.sent new.sent c.loop-value.invariant.held
           c.in_ok-add_value.ensures.held);
@@ -46,7 +46,7 @@ returns-in_err-add_value-clause-part g c =
     ≡ c.args.text.now.items ++ values_text values =
     append_assoc c.args.text.now.items before rest
     ∙ ap (λ (xs : List ℕ). c.args.text.now.items ++ xs) (text_split values i) in
-    on_err c.from_residual.result (subst (λ (xs : List ℕ). Told (AppendsPart xs) first.sent
+    on_err c.from_residual.result (subst (λ (xs : List ℕ). Known (AppendsPart xs) first.sent
     new.sent) all (part_of_more (c.args.text.now.items ++ before) rest first.sent new.sent
     (then_part (c.args.text.now.items ++ before) c.loop-value.text.items first.sent now.sent
     new.sent c.loop-value.invariant.held c.in_err-add_value.ensures.part)))

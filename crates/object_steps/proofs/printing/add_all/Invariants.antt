@@ -1,5 +1,5 @@
 use Rattle.std.proofs.Common.{◌<◌, ◌≤◌, ◌++◌, length, take}
-use Rattle.host_edge.specs.Views.{Told}
+use Rattle.host_edge.specs.Views.{Known}
 use Rattle.host_edge.specs.Sends.{AppendsUpTo}
 use Rattle.object_steps.specs.Lines.{values_text}
 use Rattle.object_steps.proofs.printing.add_all.Given as goal
@@ -13,6 +13,6 @@ invariant-loop-value g l =
     record {
       counts : first.faults ≤ now.faults;
       room : length l.text.items < 4096;
-      held : Told (AppendsUpTo l.text.items (l.initial.text.items
+      held : Known (AppendsUpTo l.text.items (l.initial.text.items
           ++ values_text (take l.value-index l.values))) first.sent now.sent;
     }

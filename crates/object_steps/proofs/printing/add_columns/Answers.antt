@@ -2,7 +2,7 @@ use Rattle.std.proofs.Common.{◌≡◌, ℕ, ◌+◌, ◌*◌, ◌/◌, ◌≤�
 use Rattle.std.proofs.Common.{append_assoc, arith, subst, sym, ap}
 use Rattle.std.specs.Prelude.{min}
 use Rattle.std.specs.List.{range_with_len}
-use Rattle.host_edge.specs.Views.{Told, AppendsPart}
+use Rattle.host_edge.specs.Views.{Known, AppendsPart}
 use Rattle.host_edge.specs.Sends.{AppendsUpTo}
 use Rattle.transpose_unit.specs.Stage.{stage_number, stage_rows}
 use Rattle.object_steps.specs.Lines.{values_text}
@@ -33,7 +33,7 @@ loop-block-preserved g c =
     record {
       counts = omega (arith, c.loop-block.invariant.counts, c.in_ok-add_all.ensures.counts);
       room = c.in_ok-add_all.ensures.room;
-      held = subst (λ (xs : List ℕ). Told (AppendsUpTo c.add_all.new.text.items xs) first.sent
+      held = subst (λ (xs : List ℕ). Known (AppendsUpTo c.add_all.new.text.items xs) first.sent
           new.sent) all (then_more (c.args.text.now.items ++ before) c.loop-block.text.items piece
           c.add_all.new.text.items first.sent now.sent new.sent c.loop-block.invariant.held
           c.in_ok-add_all.ensures.held);
@@ -62,7 +62,8 @@ returns-in_err-add_all-clause-part g c =
     ∙ ap (λ (xs : List ℕ). xs ++ rest) (block_text f count block here c.read_block-numbers.result
     (omega arith) (omega arith) c.columns_in.ensures c.read_block-numbers.ensures)
     ∙ values_split f k count less) in
-    on_err c.from_residual.result (subst (λ (xs : List ℕ). Told (AppendsPart xs) first.sent
-    new.sent) all (part_of_more ((c.args.text.now.items ++ before) ++ piece) rest first.sent new.sent
+    on_err c.from_residual.result (subst (λ (xs : List ℕ). Known (AppendsPart xs) first.sent
+    new.sent) all (part_of_more ((c.args.text.now.items ++ before)
+    ++ piece) rest first.sent new.sent
     (then_cut (c.args.text.now.items ++ before) c.loop-block.text.items piece first.sent now.sent
     new.sent c.loop-block.invariant.held c.in_err-add_all.ensures.part)))

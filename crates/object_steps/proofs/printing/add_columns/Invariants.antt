@@ -1,7 +1,7 @@
 use Rattle.std.proofs.Common.{◌*◌, ◌/◌, ◌<◌, ◌≤◌, ◌++◌, length, map}
 use Rattle.std.specs.Prelude.{min}
 use Rattle.std.specs.List.{range_with_len}
-use Rattle.host_edge.specs.Views.{Told}
+use Rattle.host_edge.specs.Views.{Known}
 use Rattle.host_edge.specs.Sends.{AppendsUpTo}
 use Rattle.transpose_unit.specs.Stage.{stage_number, stage_rows}
 use Rattle.object_steps.specs.Lines.{values_text}
@@ -16,7 +16,7 @@ invariant-loop-block g l =
     record {
       counts : first.faults ≤ now.faults;
       room : length l.text.items < 4096;
-      held : Told (AppendsUpTo l.text.items (l.initial.text.items ++ values_text
+      held : Known (AppendsUpTo l.text.items (l.initial.text.items ++ values_text
           (map (stage_number (length l.stage / stage_rows l.n) l.n l.stage)
           (range_with_len 0 (min l.count (64 * l.block)))))) first.sent now.sent;
     }

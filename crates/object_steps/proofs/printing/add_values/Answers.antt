@@ -2,7 +2,7 @@ use Rattle.std.proofs.Common.{◌≡◌, ℕ, ◌+◌, ◌*◌, ◌/◌, ◌<◌
 use Rattle.std.proofs.Common.{ap, arith, subst}
 use Rattle.std.specs.List.{range_with_len}
 use Rattle.std.proofs.lemmas.Bool.Decides.{nat_tests}
-use Rattle.host_edge.specs.Views.{Told, AppendsPart}
+use Rattle.host_edge.specs.Views.{Known, AppendsPart}
 use Rattle.host_edge.specs.Sends.{AppendsUpTo}
 use Rattle.dram_model.specs.declared.geometry.Geometry.{Geometry}
 use Rattle.dram_model.specs.View.{DidRead}
@@ -55,7 +55,7 @@ loop-bank-preserved g c =
       stage = omega (arith, kept.stage);
       counts = omega (arith, kept.counts, c.in-Ok-add_columns.ensures.counts);
       room = c.in-Ok-add_columns.ensures.room;
-      held = subst (λ (xs : List ℕ). Told (AppendsUpTo c.add_columns.new.text.items xs) began.sent
+      held = subst (λ (xs : List ℕ). Known (AppendsUpTo c.add_columns.new.text.items xs) began.sent
           after.sent) all (then_more so_far c.loop-bank.text.items own
           c.add_columns.new.text.items began.sent before.sent after.sent kept.held
           c.in-Ok-add_columns.ensures.held);
@@ -73,7 +73,7 @@ returns-in-Err-clause-part g c =
     let inside : c.loop-bank.bank ≤ segments c.args.g c.args.o =
     omega (arith, c.segments-bank-end.ensures.value) in
     let front = front_text c.args.g o c.loop-bank.bank start first.banks inside in
-    subst (λ (xs : List ℕ). Told (AppendsPart xs) began.sent before.sent) front.1
+    subst (λ (xs : List ℕ). Known (AppendsPart xs) began.sent before.sent) front.1
     (part_of_more so_far front.0 began.sent before.sent (put_is_part so_far c.loop-bank.text.items
     began.sent before.sent c.loop-bank.invariant.held))
 
@@ -111,8 +111,8 @@ returns-in-Err-add_columns-clause-part g c =
     ∙ ap (λ (x : Geometry). 64 * x.words) c.requires.geometry) c.elements_in.ensures
     (omega (arith, kept.stage, c.requires.stage)) kept.did.banks c.in-Ok.ensures.numbers in
     let front = front_text c.args.g o (bank + 1) start first.banks within in
-    subst (λ (xs : List ℕ). Told (AppendsPart xs) began.sent after.sent) front.1
-    (part_of_more next front.0 began.sent after.sent (subst (λ (xs : List ℕ). Told (AppendsPart xs)
+    subst (λ (xs : List ℕ). Known (AppendsPart xs) began.sent after.sent) front.1
+    (part_of_more next front.0 began.sent after.sent (subst (λ (xs : List ℕ). Known (AppendsPart xs)
     began.sent after.sent) all (then_cut so_far c.loop-bank.text.items own began.sent before.sent
     after.sent kept.held c.in-Err-add_columns.ensures.part)))
 

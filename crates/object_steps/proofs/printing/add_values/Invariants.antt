@@ -1,5 +1,5 @@
 use Rattle.std.proofs.Common.{◌≡◌, ◌*◌, ◌<◌, ◌≤◌, ◌++◌, length}
-use Rattle.host_edge.specs.Views.{Told}
+use Rattle.host_edge.specs.Views.{Known}
 use Rattle.host_edge.specs.Sends.{AppendsUpTo}
 use Rattle.dram_model.specs.View.{DidRead, Kept}
 use Rattle.object_steps.specs.Lines.{values_text}
@@ -20,7 +20,7 @@ invariant-loop-bank g l =
       stage : length l.stage ≡ length l.initial.stage;
       counts : (S.view l.initial.out).faults ≤ (S.view l.out).faults;
       room : length l.text.items < 4096;
-      held : Told (AppendsUpTo l.text.items (l.initial.text.items ++ values_text
+      held : Known (AppendsUpTo l.text.items (l.initial.text.items ++ values_text
           (first_values l.o.base l.o.width l.o.count l.bank first.banks)))
           (S.view l.initial.out).sent (S.view l.out).sent;
     }

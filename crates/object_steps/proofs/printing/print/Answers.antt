@@ -1,6 +1,6 @@
 use Rattle.std.proofs.Common.{◌≡◌, ◌++◌, ◌∙◌, List, ℕ, subst, take}
 use Rattle.std.specs.Prelude.{codes}
-use Rattle.host_edge.specs.Views.{Told, AppendsPart}
+use Rattle.host_edge.specs.Views.{Known, AppendsPart}
 use Rattle.machine_model.specs.Columns.{columns}
 use Rattle.object_steps.specs.Lines.{values_text}
 use Rattle.object_steps.proofs.Filled.{on_err}
@@ -17,7 +17,7 @@ returns-in_err-add_values-clause-part g c = λ operations.
     let o = c.in-Ok.o in
     let front : List ℕ = c.line_head-text.result.items ++ values_text
     (take o.count (columns c.args.g banks o)) in
-    on_err c.from_residual.result (subst (λ (xs : List ℕ). Told (AppendsPart xs) began.sent
+    on_err c.from_residual.result (subst (λ (xs : List ℕ). Known (AppendsPart xs) began.sent
     after.sent) (printed_is c.args.g operations c.args.table.now.pairs banks c.args.number
     c.args.name.now c.args.shown.now c.line_head-text.result.items o c.in-Ok.ensures.there
     c.in-Ok.ensures.object c.line_head-text.ensures.text) (part_of_more front (codes "\n")
@@ -44,7 +44,7 @@ returns-in-Ok-put-clause-sent g c = λ operations.
     let all = printed_is c.args.g operations c.args.table.now.pairs banks c.args.number
     c.args.name.now c.args.shown.now c.line_head-text.result.items o c.in-Ok.ensures.there
     c.in-Ok.ensures.object c.line_head-text.ensures.text in
-    subst (λ (xs : List ℕ). Told (λ old new. new ≡ old ++ xs) began.sent after.sent) all
+    subst (λ (xs : List ℕ). Known (λ old new. new ≡ old ++ xs) began.sent after.sent) all
     (then_all (front ++ codes "\n") last began.sent before.sent after.sent
     (more_held front held (codes "\n") last began.sent before.sent whole
     c.in_ok-add_values.ensures.held) c.in-Ok-put.ensures.sent)
@@ -64,7 +64,7 @@ returns-in-Err-put-clause-part g c = λ operations.
     let all = printed_is c.args.g operations c.args.table.now.pairs banks c.args.number
     c.args.name.now c.args.shown.now c.line_head-text.result.items o c.in-Ok.ensures.there
     c.in-Ok.ensures.object c.line_head-text.ensures.text in
-    subst (λ (xs : List ℕ). Told (AppendsPart xs) began.sent after.sent) all
+    subst (λ (xs : List ℕ). Known (AppendsPart xs) began.sent after.sent) all
     (then_part (front ++ codes "\n") last began.sent before.sent after.sent
     (more_held front held (codes "\n") last began.sent before.sent whole
     c.in_ok-add_values.ensures.held) c.in-Err-put.ensures.part)

@@ -11,5 +11,5 @@ pub returns-clause-moves : goal.returns-clause-moves
 returns-clause-moves c =
     continues (w.Ops ∷ []) (w.NewOp ∷ w.Open ∷ w.NewParam ∷ w.Colon ∷ w.ParamKind ∷ w.Params
     ∷ w.Arrow ∷ w.NewResult ∷ w.Colon ∷ w.ResultKind ∷ w.SecondResult ∷ w.FirstStmt ∷ []) (w.Ops
-    ∷ []) c.args.parser.now c.op_word.new.parser c.op_behind.result c.op_behind.new.parser
-    (λ more. c.in_ok-op_word.ensures.moves more) c.op_behind.ensures.moves
+    ∷ []) c.args.parser.now c.op_word.new.parser c.op_after.result c.op_after.new.parser
+    (λ more. c.in_ok-op_word.ensures.moves more) c.op_after.ensures.moves

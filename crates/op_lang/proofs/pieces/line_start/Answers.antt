@@ -1,12 +1,12 @@
 use Rattle.std.proofs.Common.{[], ◌∷◌, sym}
 use Rattle.op_text.specs.declared.grammar.Wanted.TheVariants as w
-use Rattle.op_lang.specs.Pieces.{behind_line}
+use Rattle.op_lang.specs.Pieces.{after_line}
 use Rattle.op_lang.proofs.Taking.{exits}
 use Rattle.op_lang.proofs.Single.{let_took, target_took}
 use Rattle.op_lang.proofs.pieces.line_start.Goals as goal
 
 pub returns-in_err-token-clause-moves : goal.returns-in_err-token-clause-moves
-returns-in_err-token-clause-moves c = exits (w.Lets ∷ []) _ _ _ behind_line _
+returns-in_err-token-clause-moves c = exits (w.Lets ∷ []) _ _ _ after_line _
     c.from_residual.ensures.1 c.in_err-token.ensures
 
 pub returns-then-is_let_word-clause-moves : goal.returns-then-is_let_word-clause-moves

@@ -1,12 +1,12 @@
 use Rattle.std.proofs.Common.{[], ◌∷◌, sym}
-use Rattle.op_lang.specs.Pieces.{behind_name_or_end}
+use Rattle.op_lang.specs.Pieces.{after_name_or_end}
 use Rattle.op_lang.proofs.Taking.{exits}
 use Rattle.op_lang.proofs.Single.{end_took, listed_took}
 use Rattle.op_lang.proofs.pieces.name_or_end.Goals as goal
 
 pub returns-in_err-token-clause-moves : goal.returns-in_err-token-clause-moves
 returns-in_err-token-clause-moves c = exits (c.args.wanted
-    ∷ []) _ _ _ (behind_name_or_end c.args.wanted) _ c.from_residual.ensures.1
+    ∷ []) _ _ _ (after_name_or_end c.args.wanted) _ c.from_residual.ensures.1
     c.in_err-token.ensures
 
 pub returns-then-not-is_named-clause-moves : goal.returns-then-not-is_named-clause-moves

@@ -6,7 +6,8 @@ use Rattle.op_lang.proofs.pieces.op_word.Goals as goal
 
 pub returns-in_err-take-clause-moves : goal.returns-in_err-take-clause-moves
 returns-in_err-take-clause-moves c = exits (w.Ops ∷ []) _ _ _ (λ x. w.NewOp ∷ w.Open ∷ w.NewParam
-    ∷ w.Colon ∷ w.ParamKind ∷ w.Params ∷ w.Arrow ∷ w.NewResult ∷ w.Colon ∷ w.ResultKind ∷ w.SecondResult
+    ∷ w.Colon ∷ w.ParamKind ∷ w.Params ∷ w.Arrow ∷ w.NewResult ∷ w.Colon ∷ w.ResultKind
+    ∷ w.SecondResult
     ∷ w.FirstStmt ∷ w.Ops ∷ []) _ c.from_residual.ensures.1 c.in_err-take.ensures
 
 pub returns-clause-moves : goal.returns-clause-moves

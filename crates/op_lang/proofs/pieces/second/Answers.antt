@@ -1,12 +1,12 @@
 use Rattle.std.proofs.Common.{[], ◌∷◌}
-use Rattle.op_lang.specs.Pieces.{behind_second}
+use Rattle.op_lang.specs.Pieces.{after_second}
 use Rattle.op_lang.proofs.Taking.{exits}
 use Rattle.op_lang.proofs.Single.{second_took}
 use Rattle.op_lang.proofs.pieces.second.Goals as goal
 
 pub returns-in_err-token-clause-moves : goal.returns-in_err-token-clause-moves
 returns-in_err-token-clause-moves c = exits (c.args.wanted
-    ∷ []) _ _ _ (behind_second c.args.wanted) _ c.from_residual.ensures.1
+    ∷ []) _ _ _ (after_second c.args.wanted) _ c.from_residual.ensures.1
     c.in_err-token.ensures
 
 pub returns-clause-moves : goal.returns-clause-moves

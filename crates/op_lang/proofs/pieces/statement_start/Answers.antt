@@ -1,12 +1,12 @@
 use Rattle.std.proofs.Common.{[], ◌∷◌, sym}
-use Rattle.op_lang.specs.Pieces.{behind_start}
+use Rattle.op_lang.specs.Pieces.{after_start}
 use Rattle.op_lang.proofs.Taking.{exits}
 use Rattle.op_lang.proofs.Single.{end_statement_took, serial_took, word_took, word_statement}
 use Rattle.op_lang.proofs.Single.{no_none}
 use Rattle.op_lang.proofs.pieces.statement_start.Goals as goal
 
 pub returns-in_err-token-clause-moves : goal.returns-in_err-token-clause-moves
-returns-in_err-token-clause-moves c = exits (c.args.wanted ∷ []) _ _ _ behind_start _
+returns-in_err-token-clause-moves c = exits (c.args.wanted ∷ []) _ _ _ after_start _
     c.from_residual.ensures.1 c.in_err-token.ensures
 
 pub returns-then-is_finish-clause-moves : goal.returns-then-is_finish-clause-moves

@@ -1,17 +1,17 @@
 use Rattle.std.proofs.Common.{◌∙◌}
-use Rattle.op_lang.proofs.Counts.{behind_found, behind_missed, last_split, state_has, target_has}
+use Rattle.op_lang.proofs.Counts.{after_found, after_missed, last_split, state_has, target_has}
 use Rattle.op_lang.proofs.Counts.{block_lacks}
 use Rattle.op_lang.proofs.scratch.+kinds.Goals as goal
 
-pub kind_behind-returns-in-Some : goal.kind_behind-returns-in-Some
-kind_behind-returns-in-Some t c = behind_found c.args.params.now c.args.before.now _
+pub kind_after-returns-in-Some : goal.kind_after-returns-in-Some
+kind_after-returns-in-Some t c = after_found c.args.params.now c.args.before.now _
     c.last-item.result c.args.name.now c.in-Some.kind
     (last_split c.args.before.now c.last-item.result c.in-len1-up.len_at_least c.last-item.is)
     c.in-Some.ensures
 
-pub kind_behind-returns-in-None : goal.kind_behind-returns-in-None
-kind_behind-returns-in-None t c = c.kind_in.ensures
-    ∙ behind_missed c.args.params.now c.args.before.now _ c.last-item.result c.args.name.now
+pub kind_after-returns-in-None : goal.kind_after-returns-in-None
+kind_after-returns-in-None t c = c.kind_in.ensures
+    ∙ after_missed c.args.params.now c.args.before.now _ c.last-item.result c.args.name.now
     (last_split c.args.before.now c.last-item.result c.in-len1-up.len_at_least c.last-item.is)
     c.in-None.ensures
 

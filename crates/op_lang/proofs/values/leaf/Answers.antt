@@ -1,12 +1,12 @@
 use Rattle.std.proofs.Common.{[], ◌∷◌, sym}
 use Rattle.op_text.specs.declared.grammar.Wanted.TheVariants as w
-use Rattle.op_lang.specs.Pieces.{behind_leaf}
+use Rattle.op_lang.specs.Pieces.{after_leaf}
 use Rattle.op_lang.proofs.Taking.{exits}
 use Rattle.op_lang.proofs.Single.{bit_took, gate_took, read_took}
 use Rattle.op_lang.proofs.values.leaf.Goals as goal
 
 pub returns-in_err-token-clause-moves : goal.returns-in_err-token-clause-moves
-returns-in_err-token-clause-moves c = exits (w.Value ∷ []) _ _ _ behind_leaf _
+returns-in_err-token-clause-moves c = exits (w.Value ∷ []) _ _ _ after_leaf _
     c.from_residual.ensures.1 c.in_err-token.ensures
 
 pub returns-then-not-is_named-clause-moves : goal.returns-then-not-is_named-clause-moves

@@ -2,7 +2,7 @@ use Rattle.std.proofs.Common.{◌≤◌, ◌*◌, Bool, true, false, List, [], �
 use Rattle.std.specs.Prelude.{sum_by, if◌then◌else◌}
 use Rattle.std.proofs.lemmas.List.Sums.{sum_by-cons}
 use Rattle.std.proofs.lemmas.Result.{IfOk-weaker}
-use Rattle.mig_graph.specs.Literals.{is_turned}
+use Rattle.mig_graph.specs.Literals.{is_complemented}
 use Rattle.row_alloc.specs.declared.body.OutRow.{OutRow}
 use Rattle.row_alloc.specs.Length.{output_length}
 use Rattle.row_alloc.proofs.plain.plain_body.Goals as goal
@@ -16,7 +16,7 @@ outputs-bound [] = omega arith
 outputs-bound (o ∷ outs) = omega (
   arith,
   sum_by-cons output_length o outs,
-  at-most-three (is_turned o.lit),
+  at-most-three (is_complemented o.lit),
   outputs-bound outs,
 )
 

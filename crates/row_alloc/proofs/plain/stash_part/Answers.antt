@@ -3,7 +3,7 @@ use Rattle.std.proofs.Common.{true, false, [], ◌∷◌, length-append}
 use Rattle.std.specs.Prelude.{take, sum_by}
 use Rattle.std.proofs.lemmas.List.Sums.{sum_by_more}
 use Rattle.mig_graph.specs.Graph.{Graph}
-use Rattle.mig_graph.specs.Literals.{is_turned}
+use Rattle.mig_graph.specs.Literals.{is_complemented}
 use Rattle.row_alloc.specs.declared.body.OutRow.{OutRow}
 use Rattle.row_alloc.specs.declared.body.BodyCmd.{BodyCmd}
 use Rattle.row_alloc.specs.declared.body.BodyCmd.TheVariants.{Aap}
@@ -27,7 +27,7 @@ one-or-two true x y z = omega arith
 one-or-two false x y z = omega arith
 
 stash-length : (i k : ℕ) (o : OutRow) → length (stash_commands i o.lit k) + 1 ≡ output_length o
-stash-length i k o = one-or-two (is_turned o.lit) (Aap (source_of i o.lit) (B 5))
+stash-length i k o = one-or-two (is_complemented o.lit) (Aap (source_of i o.lit) (B 5))
     (Aap (B 4) (Spill k)) (Aap (source_of i o.lit) (Spill k))
 
 longer : (i k a j : ℕ) (outs : List OutRow) (cmds more : List BodyCmd)

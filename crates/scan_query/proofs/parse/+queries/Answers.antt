@@ -6,36 +6,64 @@ use Rattle.scan_query.proofs.Taking.{exits, fails_along}
 use Rattle.scan_query.proofs.parse.+queries.Goals as goal
 
 pub negation-returns-in_err-symbol-clause-moves : goal.negation-returns-in_err-symbol-clause-moves
-negation-returns-in_err-symbol-clause-moves t c = exits (model.Open ∷ model.Start ∷ model.Close ∷ []) _ _ _ (λ x. []) _
-    c.from_residual.ensures.1 (λ more. c.in_err-symbol.ensures.moves (model.Start ∷ model.Close ∷ more))
+negation-returns-in_err-symbol-clause-moves t c = exits (model.Open ∷ model.Start ∷ model.Close
+    ∷ []) _ _ _ (λ x. []) _
+    c.from_residual.ensures.1 (λ more. c.in_err-symbol.ensures.moves (model.Start ∷ model.Close
+    ∷ more))
 
 pub negation-returns-in_err-a-clause-moves : goal.negation-returns-in_err-a-clause-moves
-negation-returns-in_err-a-clause-moves t c = exits (model.Open ∷ model.Start ∷ model.Close ∷ []) _ _ _ (λ x. []) _
-    c.from_residual-in_err-a.ensures.1 (λ more. fails_along _ (c.in_ok-symbol.ensures.moves (model.Start ∷ model.Close ∷ more)) (c.in_err-a.ensures.moves (model.Close ∷ more)))
+negation-returns-in_err-a-clause-moves t c = exits (model.Open ∷ model.Start ∷ model.Close
+    ∷ []) _ _ _ (λ x. []) _
+    c.from_residual-in_err-a.ensures.1 (λ more. fails_along _ (c.in_ok-symbol.ensures.moves
+    (model.Start ∷ model.Close ∷ more)) (c.in_err-a.ensures.moves (model.Close ∷ more)))
 
-pub negation-returns-in_err-symbol-2-clause-moves : goal.negation-returns-in_err-symbol-2-clause-moves
-negation-returns-in_err-symbol-2-clause-moves t c = exits (model.Open ∷ model.Start ∷ model.Close ∷ []) _ _ _ (λ x. []) _
-    c.from_residual-in_err-symbol-2.ensures.1 (λ more. fails_along _ (c.in_ok-symbol.ensures.moves (model.Start ∷ model.Close ∷ more) ∙ c.in_ok-a.ensures.moves (model.Close ∷ more)) (c.in_err-symbol-2.ensures.moves more))
+pub negation-returns-in_err-symbol-2-clause-moves :
+    goal.negation-returns-in_err-symbol-2-clause-moves
+negation-returns-in_err-symbol-2-clause-moves t c = exits (model.Open ∷ model.Start ∷ model.Close
+    ∷ []) _ _ _ (λ x. []) _
+    c.from_residual-in_err-symbol-2.ensures.1 (λ more. fails_along _ (c.in_ok-symbol.ensures.moves
+    (model.Start ∷ model.Close ∷ more) ∙ c.in_ok-a.ensures.moves (model.Close
+    ∷ more)) (c.in_err-symbol-2.ensures.moves more))
 
 pub join-returns-in_err-symbol-clause-moves : goal.join-returns-in_err-symbol-clause-moves
-join-returns-in_err-symbol-clause-moves t c = exits (model.Open ∷ model.Start ∷ model.Between ∷ model.Start ∷ model.Close ∷ []) _ _ _ (λ x. []) _
-    c.from_residual.ensures.1 (λ more. c.in_err-symbol.ensures.moves (model.Start ∷ model.Between ∷ model.Start ∷ model.Close ∷ more))
+join-returns-in_err-symbol-clause-moves t c = exits (model.Open ∷ model.Start ∷ model.Between
+    ∷ model.Start ∷ model.Close ∷ []) _ _ _ (λ x. []) _
+    c.from_residual.ensures.1 (λ more. c.in_err-symbol.ensures.moves (model.Start ∷ model.Between
+    ∷ model.Start ∷ model.Close ∷ more))
 
 pub join-returns-in_err-a-clause-moves : goal.join-returns-in_err-a-clause-moves
-join-returns-in_err-a-clause-moves t c = exits (model.Open ∷ model.Start ∷ model.Between ∷ model.Start ∷ model.Close ∷ []) _ _ _ (λ x. []) _
-    c.from_residual-in_err-a.ensures.1 (λ more. fails_along _ (c.in_ok-symbol.ensures.moves (model.Start ∷ model.Between ∷ model.Start ∷ model.Close ∷ more)) (c.in_err-a.ensures.moves (model.Between ∷ model.Start ∷ model.Close ∷ more)))
+join-returns-in_err-a-clause-moves t c = exits (model.Open ∷ model.Start ∷ model.Between
+    ∷ model.Start ∷ model.Close ∷ []) _ _ _ (λ x. []) _
+    c.from_residual-in_err-a.ensures.1 (λ more. fails_along _ (c.in_ok-symbol.ensures.moves
+    (model.Start ∷ model.Between ∷ model.Start ∷ model.Close
+    ∷ more)) (c.in_err-a.ensures.moves (model.Between ∷ model.Start ∷ model.Close ∷ more)))
 
 pub join-returns-in_err-symbol-2-clause-moves : goal.join-returns-in_err-symbol-2-clause-moves
-join-returns-in_err-symbol-2-clause-moves t c = exits (model.Open ∷ model.Start ∷ model.Between ∷ model.Start ∷ model.Close ∷ []) _ _ _ (λ x. []) _
-    c.from_residual-in_err-symbol-2.ensures.1 (λ more. fails_along _ (c.in_ok-symbol.ensures.moves (model.Start ∷ model.Between ∷ model.Start ∷ model.Close ∷ more) ∙ c.in_ok-a.ensures.moves (model.Between ∷ model.Start ∷ model.Close ∷ more)) (c.in_err-symbol-2.ensures.moves (model.Start ∷ model.Close ∷ more)))
+join-returns-in_err-symbol-2-clause-moves t c = exits (model.Open ∷ model.Start ∷ model.Between
+    ∷ model.Start ∷ model.Close ∷ []) _ _ _ (λ x. []) _
+    c.from_residual-in_err-symbol-2.ensures.1 (λ more. fails_along _ (c.in_ok-symbol.ensures.moves
+    (model.Start ∷ model.Between ∷ model.Start ∷ model.Close
+    ∷ more) ∙ c.in_ok-a.ensures.moves (model.Between ∷ model.Start ∷ model.Close
+    ∷ more)) (c.in_err-symbol-2.ensures.moves (model.Start ∷ model.Close ∷ more)))
 
 pub join-returns-in_err-b-clause-moves : goal.join-returns-in_err-b-clause-moves
-join-returns-in_err-b-clause-moves t c = exits (model.Open ∷ model.Start ∷ model.Between ∷ model.Start ∷ model.Close ∷ []) _ _ _ (λ x. []) _
-    c.from_residual-in_err-b.ensures.1 (λ more. fails_along _ (c.in_ok-symbol.ensures.moves (model.Start ∷ model.Between ∷ model.Start ∷ model.Close ∷ more) ∙ c.in_ok-a.ensures.moves (model.Between ∷ model.Start ∷ model.Close ∷ more) ∙ c.in_ok-symbol-2.ensures.moves (model.Start ∷ model.Close ∷ more)) (c.in_err-b.ensures.moves (model.Close ∷ more)))
+join-returns-in_err-b-clause-moves t c = exits (model.Open ∷ model.Start ∷ model.Between
+    ∷ model.Start ∷ model.Close ∷ []) _ _ _ (λ x. []) _
+    c.from_residual-in_err-b.ensures.1 (λ more. fails_along _ (c.in_ok-symbol.ensures.moves
+    (model.Start ∷ model.Between ∷ model.Start ∷ model.Close
+    ∷ more) ∙ c.in_ok-a.ensures.moves (model.Between ∷ model.Start ∷ model.Close
+    ∷ more) ∙ c.in_ok-symbol-2.ensures.moves (model.Start ∷ model.Close
+    ∷ more)) (c.in_err-b.ensures.moves (model.Close ∷ more)))
 
 pub join-returns-in_err-symbol-3-clause-moves : goal.join-returns-in_err-symbol-3-clause-moves
-join-returns-in_err-symbol-3-clause-moves t c = exits (model.Open ∷ model.Start ∷ model.Between ∷ model.Start ∷ model.Close ∷ []) _ _ _ (λ x. []) _
-    c.from_residual-in_err-symbol-3.ensures.1 (λ more. fails_along _ (c.in_ok-symbol.ensures.moves (model.Start ∷ model.Between ∷ model.Start ∷ model.Close ∷ more) ∙ c.in_ok-a.ensures.moves (model.Between ∷ model.Start ∷ model.Close ∷ more) ∙ c.in_ok-symbol-2.ensures.moves (model.Start ∷ model.Close ∷ more) ∙ c.in_ok-b.ensures.moves (model.Close ∷ more)) (c.in_err-symbol-3.ensures.moves more))
+join-returns-in_err-symbol-3-clause-moves t c = exits (model.Open ∷ model.Start ∷ model.Between
+    ∷ model.Start ∷ model.Close ∷ []) _ _ _ (λ x. []) _
+    c.from_residual-in_err-symbol-3.ensures.1 (λ more. fails_along _ (c.in_ok-symbol.ensures.moves
+    (model.Start ∷ model.Between ∷ model.Start ∷ model.Close
+    ∷ more) ∙ c.in_ok-a.ensures.moves (model.Between ∷ model.Start ∷ model.Close
+    ∷ more) ∙ c.in_ok-symbol-2.ensures.moves (model.Start ∷ model.Close
+    ∷ more) ∙ c.in_ok-b.ensures.moves (model.Close
+    ∷ more)) (c.in_err-symbol-3.ensures.moves more))
 
 pub negation-returns-clause-reads : goal.negation-returns-clause-reads
 negation-returns-clause-reads t c = not_reads c.push.result c.in_ok-a.a

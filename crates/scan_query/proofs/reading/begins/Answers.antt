@@ -1,12 +1,12 @@
 use Rattle.std.proofs.Common.{[], ◌∷◌, sym, ◌∙◌, ap}
 use Rattle.scan_model.specs.Texts as model
 use Rattle.std.specs.Option.{option_map}
-use Rattle.scan_query.specs.Reading.{behind_lead, lead_of, seen}
+use Rattle.scan_query.specs.Reading.{after_lead, lead_of, seen}
 use Rattle.scan_query.proofs.Taking.{exits, start_full, start_goes, start_wrong}
 use Rattle.scan_query.proofs.reading.begins.Goals as goal
 
 pub returns-in_err-token-clause-moves : goal.returns-in_err-token-clause-moves
-returns-in_err-token-clause-moves c = exits (model.Start ∷ []) _ _ _ behind_lead _
+returns-in_err-token-clause-moves c = exits (model.Start ∷ []) _ _ _ after_lead _
     c.from_residual.ensures.1 (c.in_err-token.ensures.takes model.Start)
 
 pub returns-in_default-clause-moves : goal.returns-in_default-clause-moves

@@ -18,8 +18,10 @@ use Rattle.scan_model.specs.Queries.{Node, size}
 use Rattle.scan_query.specs.Queries.{node_of, nodes_in, sources_fit}
 use Rattle.scan_query.specs.Running.{NodesRan, NodesRun, refused_node}
 use Rattle.scan_query.proofs.Answering.{all_done, answer_checked, answer_done, answer_refused}
-use Rattle.scan_query.proofs.Answering.{check_says, counters_end, counts_behind, few_nodes, goes_on, last_is}
-use Rattle.scan_query.proofs.Answering.{leaves, not_both, ones_as, plain_nodes, reads_are, rises, room_left}
+use Rattle.scan_query.proofs.Answering.{check_says, counters_end, counts_after, few_nodes, goes_on}
+use Rattle.scan_query.proofs.Answering.{last_is}
+use Rattle.scan_query.proofs.Answering.{leaves, not_both, ones_as, plain_nodes, reads_are, rises}
+use Rattle.scan_query.proofs.Answering.{room_left}
 use Rattle.scan_query.proofs.Answering.{shaped_as, some_left, sources_fit_all, table_left}
 use Rattle.scan_query.proofs.run.run_query.Goals as goal
 
@@ -232,7 +234,7 @@ overflow_sub-result g c =
     let ran : NodesRan nodes a b s t = subst (λ (ns : List Node). NodesRan ns a b s t) same
     (subst (λ r. NodesRun (map node_of c.as_slice-nodes.result.now) a b s t (Ok r))
     c.in_default-2.is c.in_ok-why.ensures.runs) in
-    let more = rises s.counters t.counters _ (counts_behind a b s t nodes c.requires.ready ran) in
+    let more = rises s.counters t.counters _ (counts_after a b s t nodes c.requires.ready ran) in
     let first = ap (λ (k : Counters). k.aap) c.tally-before.ensures in
     let second = ap (λ (k : Counters). k.aap) c.tally-after.ensures in
     let less = more.0 in
@@ -249,7 +251,7 @@ overflow_sub-result-2 g c =
     let ran : NodesRan nodes a b s t = subst (λ (ns : List Node). NodesRan ns a b s t) same
     (subst (λ r. NodesRun (map node_of c.as_slice-nodes.result.now) a b s t (Ok r))
     c.in_default-2.is c.in_ok-why.ensures.runs) in
-    let more = rises s.counters t.counters _ (counts_behind a b s t nodes c.requires.ready ran) in
+    let more = rises s.counters t.counters _ (counts_after a b s t nodes c.requires.ready ran) in
     let first = ap (λ (k : Counters). k.ap) c.tally-before.ensures in
     let second = ap (λ (k : Counters). k.ap) c.tally-after.ensures in
     let less = more.1 in

@@ -1,12 +1,12 @@
 use Rattle.std.proofs.Common.{refl, arith}
 use Rattle.sim_machine.proofs.Lines.{on_err}
-use Rattle.sim_machine.proofs.Lines.{told_more, told_part}
+use Rattle.sim_machine.proofs.Lines.{known_more, known_part}
 use Rattle.sim_machine.proofs.report.put_lines.Goals as goal
 
 pub returns-in_err-put_line-clause-part : goal.returns-in_err-put_line-clause-part
 returns-in_err-put_line-clause-part g c =
     let V = g.S.Sink.view in
-    on_err c.from_residual.result (told_part c.args.number c.args.replies.now
+    on_err c.from_residual.result (known_part c.args.number c.args.replies.now
     c.loop-reply.reply-index c.loop-reply.next _ _ (V c.args.out.now).sent
     (V c.loop-reply.out).sent (V c.put_line.new.out).sent (omega arith) refl
     c.loop-reply.invariant.next c.loop-reply.invariant.sent c.in_err-put_line.ensures.part)
@@ -17,7 +17,7 @@ loop-reply-preserved g c =
     record {
       next = omega arith;
       faults = omega arith;
-      sent = told_more c.args.number c.args.replies.now
+      sent = known_more c.args.number c.args.replies.now
           c.loop-reply.reply-index c.loop-reply.next _ _ (V c.args.out.now).sent
           (V c.loop-reply.out).sent (V c.put_line.new.out).sent (omega arith) refl
           c.loop-reply.invariant.next c.loop-reply.invariant.sent c.in_ok-put_line.ensures.sent;

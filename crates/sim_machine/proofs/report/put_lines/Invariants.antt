@@ -1,5 +1,5 @@
 use Rattle.std.proofs.Common.{◌≡◌, ◌+◌, ◌≤◌, ◌++◌, take}
-use Rattle.host_edge.specs.Views.{Told}
+use Rattle.host_edge.specs.Views.{Known}
 use Rattle.sim_machine.proofs.Lines.{reply_lines}
 use Rattle.sim_machine.proofs.report.put_lines.Given as goal
 
@@ -10,6 +10,6 @@ invariant-loop-reply g l =
     record {
       next : l.next ≡ l.fn.number + l.reply-index;
       faults : (S.view l.initial.out).faults ≤ (S.view l.out).faults;
-      sent : Told (λ x y. y ≡ x ++ reply_lines l.fn.number (take l.reply-index l.replies))
+      sent : Known (λ x y. y ≡ x ++ reply_lines l.fn.number (take l.reply-index l.replies))
           (S.view l.initial.out).sent (S.view l.out).sent;
     }

@@ -59,9 +59,9 @@ returns g c =
     let files = g.F.Folder.view c.load.new.files in
     let old = g.S.Sink.view c.args.out.now in
     let new = g.S.Sink.view c.put.new.self in
-    let told = at_ok c.put.result (sym c.is_err.ensures.value ∙ c.if-is_err.false)
+    let known = at_ok c.put.result (sym c.is_err.ensures.value ∙ c.if-is_err.false)
     c.put.ensures.sent in
     λ chip. account_read c.args.name.now c.args.account text (Ok 0) file
     (g.F.Folder.view c.args.files.now) files old new chip c.in_ok-bytes.ensures.loaded
     (all_put (account_of c.args.account c.in-Ok.prog.programs) files old new chip
-    (rw (c.deref-2.ensures.value, c.in-Ok-account_of.ensures) at told) c.put.ensures.counts) refl
+    (rw (c.deref-2.ensures.value, c.in-Ok-account_of.ensures) at known) c.put.ensures.counts) refl

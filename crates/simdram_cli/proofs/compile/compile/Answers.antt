@@ -39,9 +39,9 @@ returns g c =
     let files = g.F.Folder.view c.take_program.new.files in
     let old = g.S.Sink.view c.args.out.now in
     let new = g.S.Sink.view c.put_counted.new.out in
-    let told = at_ok c.put_counted.result (sym c.is_err.ensures.value ∙ c.if-is_err.false)
+    let known = at_ok c.put_counted.result (sym c.is_err.ensures.value ∙ c.if-is_err.false)
     c.put_counted.ensures.sent in
     λ chip. compile_went c.args.names.now program (Ok 0) (g.F.Folder.view c.args.files.now) files
     old new chip c.in_ok-program.ensures.taken
-    (line_sent (compiled_line program) files old new chip (rw many at told)
+    (line_sent (compiled_line program) files old new chip (rw many at known)
     c.put_counted.ensures.counts) refl

@@ -6,7 +6,7 @@ use Rattle.simdram_cli.specs.declared.stop.Stop.TheVariants as stop
 use Rattle.simdram_cli.specs.Migrate.{migrated_line}
 use Rattle.simdram_cli.proofs.Stores.{stored, unstored, at_ok, at_err}
 use Rattle.simdram_cli.proofs.Migrating.{old_unread, old_refused, old_read, entries_are, written}
-use Rattle.simdram_cli.proofs.Migrating.{not_stored, not_told, all_told}
+use Rattle.simdram_cli.proofs.Migrating.{not_stored, not_known, all_known}
 use Rattle.simdram_cli.proofs.migrate.migrate.Goals as goal
 
 pub returns-in_err-bytes : goal.returns-in_err-bytes
@@ -56,7 +56,7 @@ returns-then-is_err-2 g c =
     c.put_counted.ensures.failed in
     λ chip. old_read c.args.names.now c.in_ok-bytes.bytes.items (Err stop.PutFailed) file
     (g.F.Folder.view c.args.files.now) files now old new chip c.in_ok-bytes.ensures.loaded
-    (not_told c.args.names.now.new.now (program_bytes 2 file.programs)
+    (not_known c.args.names.now.new.now (program_bytes 2 file.programs)
     (migrated_line file.programs) files now old new chip
     (stored c.args.names.now.new.now _ files now old chip c.store.ensures.others
     (rw (c.deref.ensures.value, wrote, both.1) at there) c.store.ensures.counts)
@@ -77,13 +77,13 @@ returns g c =
     let new = g.S.Sink.view c.put_counted.new.out in
     let there = at_ok c.store.result (sym c.is_err.ensures.value ∙ c.if-is_err.false)
     c.store.ensures.stored in
-    let told = at_ok c.put_counted.result (sym c.is_err-2.ensures.value ∙ c.if-is_err-2.false)
+    let known = at_ok c.put_counted.result (sym c.is_err-2.ensures.value ∙ c.if-is_err-2.false)
     c.put_counted.ensures.sent in
     λ chip. old_read c.args.names.now c.in_ok-bytes.bytes.items (Ok 0) file
     (g.F.Folder.view c.args.files.now) files now old new chip c.in_ok-bytes.ensures.loaded
-    (all_told c.args.names.now.new.now (program_bytes 2 file.programs)
+    (all_known c.args.names.now.new.now (program_bytes 2 file.programs)
     (migrated_line file.programs) files now old new chip
     (stored c.args.names.now.new.now _ files now old chip c.store.ensures.others
     (rw (c.deref.ensures.value, wrote, both.1) at there) c.store.ensures.counts)
-    (rw (c.from.ensures, entries_are c.migrate.result _ _ c.in-Ok.is both.0) at told)
+    (rw (c.from.ensures, entries_are c.migrate.result _ _ c.in-Ok.is both.0) at known)
     c.put_counted.ensures.counts) refl

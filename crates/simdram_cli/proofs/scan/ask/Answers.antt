@@ -52,11 +52,14 @@ returns-in-Ok-run_query-clause-goes g c files sink t h =
       faults = c.run_query.ensures.kept.faults;
     } in
     asked_done program t i nodes (table_in machine) files sink before old new c.run_query.result
-    c.in-Ok-run_query.reply (geometry_of machine) ran (opened.goes files sink) c.in-Ok-run_query.is opened.shape
+    c.in-Ok-run_query.reply (geometry_of machine) ran (opened.goes files sink) c.in-Ok-run_query.is
+    opened.shape
     (answer_moves program machine.prog.programs t i (geometry_of machine) old.banks
     (table_in machine) _ opened.shape opened.program opened.opened.banks opened.table
-    (c.in-Ok-run_query.ensures.answer t h)) c.in-Ok-run_query.ensures.counted c.run_query.ensures.unused
-    (λ is. query_done program (program_of machine) t i nodes (geometry_of machine) (table_in machine)
+    (c.in-Ok-run_query.ensures.answer t h)) c.in-Ok-run_query.ensures.counted
+    c.run_query.ensures.unused
+    (λ is. query_done program (program_of machine) t i nodes (geometry_of machine) (table_in
+    machine)
     (turn_in machine) _ old new ran (rw opened.table at (holds_of machine i.geometry opened.shape
     opened.ready)) opened.shape opened.program opened.turn (c.in-Ok-run_query.ensures.did is))
 

@@ -68,7 +68,8 @@ returns-in_err-reply-clause-scanned g c t h =
     (g.F.Folder.view c.args.files.now) files out (g.D.Dram.view c.args.chip.now)
     (world files out (g.D.Dram.view c.ask.new.chip)) does c.in_ok-bytes.ensures.loaded
     (image_is c.in_ok-bytes.bytes.items (found_in c.in-Ok.image)
-    (rw c.deref.ensures.value at c.in-Ok.ensures.exact)) (c.in_err-reply.ensures.goes files out t h))
+    (rw c.deref.ensures.value at c.in-Ok.ensures.exact)) (c.in_err-reply.ensures.goes files out t
+    h))
 
 pub returns-clause-scanned : goal.returns-clause-scanned
 returns-clause-scanned g c t h =

@@ -43,9 +43,9 @@ returns g c =
     let ops = operations c.in_ok-ops.ops in
     let old = g.S.Sink.view c.args.out.now in
     let new = g.S.Sink.view c.put.new.self in
-    let told = at_ok c.put.result (sym c.is_err.ensures.value
+    let known = at_ok c.put.result (sym c.is_err.ensures.value
     ∙ c.if-is_err.false) c.put.ensures.sent in
     λ chip. show_read c.args.name.now ops (Ok 0) (g.F.Folder.view c.args.files.now)
     (g.F.Folder.view c.load_ops.new.files) old new chip c.in_ok-ops.ensures.read
     (all_put (canonical_text ops) (g.F.Folder.view c.load_ops.new.files) old new chip
-    (rw (c.deref.ensures.value, c.in-Ok.ensures.text) at told) c.put.ensures.counts) refl
+    (rw (c.deref.ensures.value, c.in-Ok.ensures.text) at known) c.put.ensures.counts) refl

@@ -34,7 +34,8 @@ returns-clause-sum g c =
     subst (λ (x : Microprogram). EntryDoes x (text_op (one_statement case.op))) (sym same) f.does in
     let kinds = c.sources_of-kinds.ensures.kinds in
     let loaded = subst (λ (ks : List Kind). map (numbers case.n ks (bases_from 0 case.n ks))
-    (below 2 mid) ≡ map (sources_at c.args.generator.now case.n ks) (range_with_len 0 elements)) kinds
+    (below 2 mid) ≡ map (sources_at c.args.generator.now case.n ks) (range_with_len 0 elements))
+    kinds
     c.in_ok-load_sources.ensures.numbers in
     let base : c.bases_of-base.result.1 ≡ source_rows case =
     c.bases_of-base.ensures.end ∙ ap (rows_of case.n) kinds in

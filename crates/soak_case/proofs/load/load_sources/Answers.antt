@@ -38,7 +38,7 @@ loop-kind-preserved g c =
           c.from-row.result c.rows_of-rows.result start now mid c.requires.some
           (drop-cons c.args.kinds.now i Word (omega arith)
           ∙ ap (λ n. get_or c.args.kinds.now i Word ∷ drop n c.args.kinds.now) one)
-          c.draw-values.ensures.behind c.rows_of-rows.ensures c.from-row.ensures
+          c.draw-values.ensures.following c.rows_of-rows.ensures c.from-row.ensures
           c.draw-values.ensures.values (omega arith) c.loop-kind.invariant.so_far
           c.in_ok-write_object.ensures.did c.in_ok-write_object.ensures.numbers;
     }

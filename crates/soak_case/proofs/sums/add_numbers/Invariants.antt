@@ -6,4 +6,5 @@ use Rattle.soak_case.proofs.sums.add_numbers.Given as goal
 -- the sum so far
 abbrev pub invariant-loop-column : goal.invariant-loop-column
 invariant-loop-column l =
-    l.all ≡ (l.fn.sum + sum_by (stage_number 2 l.fn.n l.fn.stage) (range_with_len 0 l.column)) % 2 ^ 64
+    l.all ≡ (l.fn.sum + sum_by (stage_number 2 l.fn.n l.fn.stage) (range_with_len 0 l.column)) % 2 ^
+    64

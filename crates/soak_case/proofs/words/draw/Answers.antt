@@ -3,16 +3,16 @@ use Rattle.std.proofs.Common.{take, map}
 use Rattle.std.proofs.Common.{suc}
 use Rattle.std.proofs.lemmas.List.{take_all}
 use Rattle.std.specs.List.{range_with_len}
-use Rattle.soak_case.specs.Words.{behind, elements, value_at}
+use Rattle.soak_case.specs.Words.{following, elements, value_at}
 use Rattle.soak_case.proofs.Going.{drawn_parts, shifted, values_more}
 use Rattle.soak_case.proofs.words.draw.Goals as goal
 
 pub loop-i-init : goal.loop-i-init
-unfolding behind
+unfolding following
 loop-i-init c = record { len = refl; front = refl; state = refl }
 
 pub loop-i-preserved : goal.loop-i-preserved
-unfolding behind
+unfolding following
 loop-i-preserved c =
     let h = c.loop-i.invariant in
     let parts = drawn_parts c.next_word.result c.next_word.new.self _ c.loop-i.generator
@@ -24,7 +24,7 @@ loop-i-preserved c =
       front = values_more c.loop-i.values (value_at c.args.generator.now c.args.bits) c.loop-i.i _
           (omega (arith, h.len)) (cut ∙ ap (λ w. w % 2 ^ c.args.bits) (c.from.ensures ∙ parts.0))
           h.front;
-      state = parts.1 ∙ ap (behind c.args.generator.now) one;
+      state = parts.1 ∙ ap (following c.args.generator.now) one;
     }
 
 pub returns-clause-values : goal.returns-clause-values

@@ -1,6 +1,6 @@
 use Rattle.std.proofs.Common.{◌≡◌, take, map, length}
 use Rattle.std.specs.List.{range_with_len}
-use Rattle.soak_case.specs.Words.{behind, elements, value_at}
+use Rattle.soak_case.specs.Words.{following, elements, value_at}
 use Rattle.soak_case.proofs.words.draw.Given as goal
 
 -- the values so far
@@ -8,5 +8,5 @@ abbrev pub invariant-loop-i : goal.invariant-loop-i
 invariant-loop-i l = record {
   len : length l.values ≡ elements;
   front : take l.i l.values ≡ map (value_at l.fn.generator l.fn.bits) (range_with_len 0 l.i);
-  state : l.generator ≡ behind l.fn.generator l.i;
+  state : l.generator ≡ following l.fn.generator l.i;
 }

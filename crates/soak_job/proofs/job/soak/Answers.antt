@@ -20,7 +20,8 @@ returns-clause-goes g c files =
     c.as_slice.ensures.value ∙ c.all_cases-cases.ensures in
     let begun = g.D.Dram.view c.begin.new.self in
     let sink = g.S.Sink.view c.args.out.now in
-    let last = world files (g.S.Sink.view c.soak_cases.new.out) (g.D.Dram.view c.soak_cases.new.chip)
+    let last = world files (g.S.Sink.view c.soak_cases.new.out) (g.D.Dram.view
+    c.soak_cases.new.chip)
     in
     soak_goes c.args.seed files sink (g.D.Dram.view c.args.chip.now) begun last c.soak_cases.result
     c.in-Ok.ensures.began c.begin.ensures.faults

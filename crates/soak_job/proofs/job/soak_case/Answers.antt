@@ -1,5 +1,5 @@
 use Rattle.std.proofs.Common.{◌≡◌, ◌++◌, ℕ, List, ap, sym, subst, ◌∙◌}
-use Rattle.host_edge.specs.Views.{AppendsPart, Told}
+use Rattle.host_edge.specs.Views.{AppendsPart, Known}
 use Rattle.uprog_code.specs.declared.walker.Counts.{Counts}
 use Rattle.soak_case.specs.Done.{IsFileOf}
 use Rattle.soak_case.specs.Sums.{case_line, in_both_banks, line_of}
@@ -11,7 +11,8 @@ pub returns-in_default-do_case-clause-stopped : goal.returns-in_default-do_case-
 returns-in_default-do_case-clause-stopped g c files cases =
     let f : IsFileOf c.args.case.op c.deref.result.now =
     subst (IsFileOf c.args.case.op) (sym c.deref.ensures.value) c.in-Ok.ensures in
-    stops_at_use c.args.generator.now c.args.case cases f.program files (g.S.Sink.view c.args.out.now)
+    stops_at_use c.args.generator.now c.args.case cases f.program files (g.S.Sink.view
+    c.args.out.now)
     (g.D.Dram.view c.args.chip.now) (g.D.Dram.view c.do_case.new.chip)
     (program_is c.args.case c.deref.result.now f) c.do_case.ensures.kept.faults
     c.in_default-do_case.ensures.failed
@@ -31,7 +32,7 @@ returns-then-is_err-clause-stopped g c files cases =
     stops_at_put c.args.generator.now c.args.case cases f.program files old new
     (g.D.Dram.view c.args.chip.now) (g.D.Dram.view c.do_case.new.chip)
     (program_is c.args.case c.deref.result.now f) c.do_case.ensures.kept.faults
-    (subst (λ (bytes : List ℕ). Told (AppendsPart bytes) old.sent new.sent) line
+    (subst (λ (bytes : List ℕ). Known (AppendsPart bytes) old.sent new.sent) line
     (at_err c.put.result is c.put.ensures.part)) c.put.ensures.counts
     (at_err c.put.result is c.put.ensures.failed)
 
@@ -50,6 +51,6 @@ returns-clause-went g c files =
     case_went c.args.generator.now c.args.case f.program files old new
     (g.D.Dram.view c.args.chip.now) (g.D.Dram.view c.do_case.new.chip)
     (program_is c.args.case c.deref.result.now f) c.do_case.ensures.kept.faults
-    (subst (λ (bytes : List ℕ). Told (λ before after. after ≡ before ++ bytes) old.sent new.sent)
+    (subst (λ (bytes : List ℕ). Known (λ before after. after ≡ before ++ bytes) old.sent new.sent)
     line (at_ok c.put.result is c.put.ensures.sent)) c.put.ensures.counts
     (c.in-Ok-do_case.ensures.done f) c.in-Ok-do_case.ensures.few

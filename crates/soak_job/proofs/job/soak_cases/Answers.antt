@@ -5,7 +5,7 @@ use Rattle.soak_job.specs.declared.job.SoakNo.TheVariants as no
 use Rattle.std.specs.List.{AllByRecursion}
 use Rattle.std.proofs.Math.Seq.{drop-cons}
 use Rattle.std.proofs.lemmas.List.{drop_all}
-use Rattle.host_edge.specs.Views.{AppendsPart, FolderView, Told}
+use Rattle.host_edge.specs.Views.{AppendsPart, FolderView, Known}
 use Rattle.dram_model.proofs.EventLaws.{Kept-more}
 use Rattle.cli_model.specs.World.{world}
 use Rattle.op_text.specs.declared.word_ops.WordOp.TheVariants as o
@@ -13,7 +13,7 @@ use Rattle.soak_case.specs.declared.cases.Case.{Case}
 use Rattle.soak_case.specs.Sums.{last_line}
 use Rattle.soak_job.specs.Done.{CanBeDone, CasesGo}
 use Rattle.soak_job.proofs.Making.{at_err, at_ok}
-use Rattle.soak_job.proofs.Going.{all_told, goes_on, not_told, told_last}
+use Rattle.soak_job.proofs.Going.{all_known, goes_on, not_known, known_last}
 use Rattle.soak_job.proofs.job.soak_cases.Goals as goal
 
 abbrev first_case : Case
@@ -57,7 +57,7 @@ loop-case-preserved g c =
           (c.in_ok-soak_case.ensures.went files)
           (subst (λ s. CasesGo s (drop (i + 1) cases)
           (world files (g.S.Sink.view c.soak_case.new.out) next) w result)
-          c.in_ok-soak_case.ensures.behind more)));
+          c.in_ok-soak_case.ensures.following more)));
     }
 
 pub returns-then-is_err-clause-goes : goal.returns-then-is_err-clause-goes
@@ -66,14 +66,14 @@ returns-then-is_err-clause-goes g c files =
     let old = g.S.Sink.view c.loop-case.out in
     let new = g.S.Sink.view c.put.new.self in
     let is = sym c.is_err.ensures.value ∙ c.if-is_err.true in
-    let line : c.as_slice.result.now ≡ told_last =
+    let line : c.as_slice.result.now ≡ known_last =
     c.as_slice.ensures.value ∙ c.last_line-line.ensures ∙ ap last_line c.requires.all in
     let none = drop_all c.loop-case.case-index c.args.cases.now (omega arith) in
     c.loop-case.invariant.goes files (world files new chip) _
     (subst (λ (cs : List Case). CasesGo c.loop-case.generator cs (world files old chip)
     (world files new chip) (Err no.PutFailed)) (sym none)
-    (not_told c.loop-case.generator files old new chip
-    (subst (λ (bytes : List ℕ). Told (AppendsPart bytes) old.sent new.sent) line
+    (not_known c.loop-case.generator files old new chip
+    (subst (λ (bytes : List ℕ). Known (AppendsPart bytes) old.sent new.sent) line
     (at_err c.put.result is c.put.ensures.part)) c.put.ensures.counts
     (at_err c.put.result is c.put.ensures.failed)))
 
@@ -83,11 +83,11 @@ returns-clause-goes g c files =
     let old = g.S.Sink.view c.loop-case.out in
     let new = g.S.Sink.view c.put.new.self in
     let is = sym c.is_err.ensures.value ∙ c.if-is_err.false in
-    let line : c.as_slice.result.now ≡ told_last =
+    let line : c.as_slice.result.now ≡ known_last =
     c.as_slice.ensures.value ∙ c.last_line-line.ensures ∙ ap last_line c.requires.all in
     let none = drop_all c.loop-case.case-index c.args.cases.now (omega arith) in
     c.loop-case.invariant.goes files (world files new chip) _
     (subst (λ (cs : List Case). CasesGo c.loop-case.generator cs (world files old chip)
-    (world files new chip) (Ok tt)) (sym none) (all_told c.loop-case.generator files old new chip
-    (subst (λ (bytes : List ℕ). Told (λ before after. after ≡ before ++ bytes) old.sent new.sent)
+    (world files new chip) (Ok tt)) (sym none) (all_known c.loop-case.generator files old new chip
+    (subst (λ (bytes : List ℕ). Known (λ before after. after ≡ before ++ bytes) old.sent new.sent)
     line (at_ok c.put.result is c.put.ensures.sent)) c.put.ensures.counts))

@@ -15,7 +15,7 @@ use Rattle.transpose_unit.proofs.Events.{on_err_always}
 use Rattle.transpose_unit.proofs.Segments.{bank_events, banks_more, padded_at}
 use Rattle.transpose_unit.proofs.Segments.{padded_length, segments_cover, segments_fit}
 use Rattle.transpose_unit.proofs.Segments.{stage_events_are, words_some}
-use Rattle.transpose_unit.proofs.Held.{behind_first, numbers_hold}
+use Rattle.transpose_unit.proofs.Held.{after_first, numbers_hold}
 use Rattle.transpose_unit.proofs.write.write_object.Goals as goal
 
 pub loop-bank-preserved : goal.loop-bank-preserved
@@ -81,7 +81,7 @@ returns-in_err-write_rows-clause-failed g c =
       others = λ b l.
           let ne : b ≢ c.loop-bank.bank = λ e. absurd (omega arith) in
           failed.others b ne ∙ ap (λ (banks : Banks). banks b) c.loop-bank.invariant.did.banks
-          ∙ behind_first c.args.g c.args.base c.args.n numbers first.banks c.loop-bank.bank b
+          ∙ after_first c.args.g c.args.base c.args.n numbers first.banks c.loop-bank.bank b
           (omega arith);
     } in
     on_err_always c.from_residual.result all

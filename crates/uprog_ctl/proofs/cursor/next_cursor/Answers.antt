@@ -83,14 +83,14 @@ returns-in-Some-clause-next g c =
       bank = c.args.bank;
       next = c.command_of-next.result;
       job = c.loop-i.i;
-      walk = c.in-Some.found.behind;
+      walk = c.in-Some.found.following;
     }) can (jobs_long shape code c.args.jobs.now c.loop-i.i c.loop-i-test.true) here
     c.if-bank-job.true c.in-Some.ensures c.loop-i.invariant.left
     (ap (λ (k : Command). let d : Cursor = record {
       bank = c.args.bank;
       next = k;
       job = c.loop-i.i;
-      walk = c.in-Some.found.behind;
+      walk = c.in-Some.found.following;
     } in d) next)
 
 pub loop-i-preserved : goal.loop-i-preserved

@@ -48,10 +48,11 @@ returns-in-Some g c =
     c.place_after-next.ensures c.loop-k.invariant.ended in
     let one = the_command c.in-Ok.turn c.issued_by.result c.in-Some.issued c.in-Some.is
     c.issued_by.ensures in
-    let behind = issues_of (issue job.shape job.code job.binding.n left c.place_after-next.result
+    let following = issues_of (issue job.shape job.code job.binding.n left c.place_after-next.result
     c.step.new.regs) in
     record {
-      first = sym c.loop-k.invariant.rest ∙ on.issues ∙ ap (λ (is : List Issue). is ++ behind) one;
+      first = sym c.loop-k.invariant.rest ∙ on.issues
+          ∙ ap (λ (is : List Issue). is ++ following) one;
       good = (subst (AreGood job.shape job.binding.n) one on.good).0;
       stands = record { place = on.place; registers = c.step.ensures.registers; ended = on.ended };
     }
@@ -70,13 +71,13 @@ loop-k-preserved g c =
     c.place_after-next.ensures c.loop-k.invariant.ended in
     let none : issues_by c.in-Ok.turn ≡ [] = sym c.issued_by.ensures
     ∙ ap (λ o. map issue_of (option_to_list o)) c.in-None.is in
-    let behind = issues_of (issue job.shape job.code job.binding.n left c.place_after-next.result
+    let following = issues_of (issue job.shape job.code job.binding.n left c.place_after-next.result
     c.step.new.regs) in
     record {
       place = on.place;
       registers = c.step.ensures.registers;
       ended = on.ended;
-      rest = ap (λ (is : List Issue). is ++ behind) (sym none) ∙ sym on.issues
+      rest = ap (λ (is : List Issue). is ++ following) (sym none) ∙ sym on.issues
           ∙ c.loop-k.invariant.rest;
     }
 

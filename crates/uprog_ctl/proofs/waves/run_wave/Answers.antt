@@ -118,7 +118,7 @@ returns-in_err-do_command-clause-stopped g c =
     (stopped rule first.geometry.banks first.geometry.rows jobs
     (g.P.Picker.state c.args.picker.now) (job_queues first.geometry.rows jobs) first s s' now cs k
     c.loop-g.invariant.so ok it blank new refl c.loop-g.invariant.kept.faults failed
-    c.in_err-do_command.ensures.untold)
+    c.in_err-do_command.ensures.no_event)
 
 pub returns-in_err-do_command-clause-whole : goal.returns-in_err-do_command-clause-whole
 returns-in_err-do_command-clause-whole g c =

@@ -3,7 +3,7 @@ use Rattle.bit_rows.specs.Bits.{bits_of_words}
 use Rattle.object_alloc.specs.Bytes.{bytes_of_bits}
 use Rattle.object_alloc.proofs.Rows.{length-bytes_of_bits}
 use Rattle.trace_model.specs.Spelling.{Writes, event_head_bytes}
-use Rattle.cmd_trace.specs.Tape.{Tape, kept_on}
+use Rattle.cmd_trace.specs.Tape.{NotesView, kept_on}
 use Rattle.cmd_trace.proofs.Tapes.{over_room}
 use Rattle.cmd_trace.proofs.notes.Notes.keep_write.Goals as goal
 
@@ -12,8 +12,8 @@ returns-then-len-words-gt-TRACE_BYTES_MAX c =
     let words = c.args.words.now in
     let text = bytes_of_bits (8 * length words) (bits_of_words words) in
     let long = length-bytes_of_bits (8 * length words) (bits_of_words words) in
-    let tape : Tape = record {
-      told = c.self.inside.told;
+    let tape : NotesView = record {
+      known = c.self.inside.known;
       count = c.self.inside.count;
       since = c.self.inside.since;
       start = c.self.inside.start;
@@ -27,5 +27,5 @@ returns-then-len-words-gt-TRACE_BYTES_MAX c =
       c.len.ensures,
       c.self.inside.bytes.ok.0,
     ))
-    ∙ ap (λ (t : Tape). kept_on t (event_head_bytes (Writes c.args.bank c.args.row) ++ text))
+    ∙ ap (λ (t : NotesView). kept_on t (event_head_bytes (Writes c.args.bank c.args.row) ++ text))
     c.self.view_is

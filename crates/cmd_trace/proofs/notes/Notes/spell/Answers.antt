@@ -4,7 +4,7 @@ use Rattle.std.specs.Int.{to_le_bytes, w32}
 use Rattle.std.specs.Vec.{with_items}
 use Rattle.std.proofs.lemmas.List.{with_items_is}
 use Rattle.trace_model.specs.Spelling.{trace_head}
-use Rattle.cmd_trace.specs.Tape.{Tape, kept_in}
+use Rattle.cmd_trace.specs.Tape.{NotesView, kept_in}
 use Rattle.cmd_trace.specs.declared.sizes.TheConstants.{HEAD_BYTES_MAX}
 use Rattle.cmd_trace.proofs.Places.{head_file, head_kept, put_length}
 use Rattle.cmd_trace.proofs.notes.Notes.spell.Goals as goal
@@ -33,7 +33,7 @@ returns-clause-file c =
     ap (drop start) items
     ∙ head_file start HEAD_BYTES_MAX head old new bytes.items c.as_mut_slice.ensures.value room ends
     c.put_head.ensures.put
-    ∙ ap (λ (t : Tape). (trace_head c.args.g table ++ to_le_bytes w32 t.count) ++ kept_in t)
+    ∙ ap (λ (t : NotesView). (trace_head c.args.g table ++ to_le_bytes w32 t.count) ++ kept_in t)
     c.self.view_is
 
 pub returns-clause-kept : goal.returns-clause-kept

@@ -11,6 +11,6 @@ returns-clause-file g c =
     let tape = c.args.self.now.notes.now in
     let table = c.args.table.now.pairs in
     file_of_log (g.D.Dram.view c.args.self.now.dram.now) tape _ table c.requires.begun
-    c.requires.told (c.spell.ensures.file
+    c.requires.known (c.spell.ensures.file
     ∙ ap (λ (x : Geometry). (trace_head x table ++ to_le_bytes w32 tape.count) ++ kept_in tape)
     c.geometry-g.ensures)

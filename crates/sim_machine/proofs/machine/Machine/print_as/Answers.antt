@@ -1,6 +1,6 @@
 use Rattle.std.proofs.Common.{ap, subst, sym}
 use Rattle.std.specs.Prelude.{Err, ◌≡◌, ◌++◌}
-use Rattle.host_edge.specs.Views.{Told, AppendsPart}
+use Rattle.host_edge.specs.Views.{Known, AppendsPart}
 use Rattle.object_steps.specs.Lines.{DidReadAtMost}
 use Rattle.object_steps.specs.declared.fault.StepFault.TheVariants.{WriteFault}
 use Rattle.sim_machine.specs.Machine.{operations_by}
@@ -14,7 +14,7 @@ pub returns-in-Ok-clause-sent : goal.returns-in-Ok-clause-sent
 returns-in-Ok-clause-sent g c =
     let m = c.args.self.now in
     let V = g.S.Sink.view in
-    subst (λ text. Told (λ x y. y ≡ x ++ text) (V c.args.out.now).sent (V c.print.new.out).sent)
+    subst (λ text. Known (λ x y. y ≡ x ++ text) (V c.args.out.now).sent (V c.print.new.out).sent)
     (whole_line_shown m c.args.number (g.D.Dram.view c.args.dram.now).banks c.args.name.now
     c.args.shown.now c.requires.stands) (c.in-Ok.ensures.sent (operations_by m))
 
@@ -31,6 +31,6 @@ pub returns-in-Err-clause-part : goal.returns-in-Err-clause-part
 returns-in-Err-clause-part g c =
     let m = c.args.self.now in
     let V = g.S.Sink.view in
-    subst (λ text. Told (AppendsPart text) (V c.args.out.now).sent (V c.print.new.out).sent)
+    subst (λ text. Known (AppendsPart text) (V c.args.out.now).sent (V c.print.new.out).sent)
     (whole_line_shown m c.args.number (g.D.Dram.view c.args.dram.now).banks c.args.name.now
     c.args.shown.now c.requires.stands) (c.in-Err.ensures.part (operations_by m))

@@ -3,7 +3,7 @@ use Rattle.op_text.specs.declared.grammar.Wanted.TheVariants as w
 use Rattle.op_lang.specs.Reading.{left}
 use Rattle.op_lang.proofs.Loops.{HasParts}
 use Rattle.op_text.specs.Spelling.{param_text}
-use Rattle.op_lang.proofs.lists.sources_behind.Given as goal
+use Rattle.op_lang.proofs.lists.sources_after.Given as goal
 
 abbrev pub invariant-loop-params : goal.invariant-loop-params
 invariant-loop-params l = HasParts w.Params param_text (param_text l.fn.first (left l.fn.parser))

@@ -3,7 +3,7 @@ use Rattle.op_text.specs.declared.grammar.Wanted.TheVariants as w
 use Rattle.op_text.specs.Spelling.{state_text}
 use Rattle.op_lang.proofs.Taking.{exits, fails_along}
 use Rattle.op_lang.proofs.Loops.{next_part}
-use Rattle.op_lang.proofs.lists.states_behind.Goals as goal
+use Rattle.op_lang.proofs.lists.states_after.Goals as goal
 
 pub returns-in_err-more-clause-moves : goal.returns-in_err-more-clause-moves
 returns-in_err-more-clause-moves c = exits (w.MoreStates ∷ []) _ _ _ (λ x.

@@ -1,7 +1,7 @@
 use Rattle.std.proofs.Common.{[], ◌∷◌, ◌∙◌}
 use Rattle.op_text.specs.declared.grammar.Wanted.TheVariants as w
 use Rattle.op_lang.proofs.Taking.{exits, fails_along}
-use Rattle.op_lang.proofs.parse.op_behind.Goals as goal
+use Rattle.op_lang.proofs.parse.op_after.Goals as goal
 
 pub returns-in_err-name-clause-moves : goal.returns-in_err-name-clause-moves
 returns-in_err-name-clause-moves c = exits (w.NewOp ∷ w.Open ∷ w.NewParam ∷ w.Colon ∷ w.ParamKind
@@ -15,7 +15,8 @@ returns-in_err-params-clause-moves c = exits (w.NewOp ∷ w.Open ∷ w.NewParam 
     ∷ w.Params ∷ w.Arrow ∷ w.NewResult ∷ w.Colon ∷ w.ResultKind ∷ w.SecondResult ∷ w.FirstStmt
     ∷ []) _ _ _ (λ x. []) _ c.from_residual-in_err-params.ensures.1
     (λ more. fails_along _ (c.in_ok-name.ensures.moves (w.Open ∷ w.NewParam ∷ w.Colon ∷ w.ParamKind
-    ∷ w.Params ∷ w.Arrow ∷ w.NewResult ∷ w.Colon ∷ w.ResultKind ∷ w.SecondResult ∷ w.FirstStmt ∷ more))
+    ∷ w.Params ∷ w.Arrow ∷ w.NewResult ∷ w.Colon ∷ w.ResultKind ∷ w.SecondResult ∷ w.FirstStmt
+    ∷ more))
     (c.in_err-params.ensures.moves (w.Arrow ∷ w.NewResult ∷ w.Colon ∷ w.ResultKind ∷ w.SecondResult
     ∷ w.FirstStmt ∷ more)))
 

@@ -3,7 +3,7 @@ use Rattle.op_text.specs.declared.grammar.Wanted.TheVariants as w
 use Rattle.op_lang.specs.Reading.{left}
 use Rattle.op_lang.proofs.Loops.{HasParts}
 use Rattle.op_text.specs.Spelling.{state_text}
-use Rattle.op_lang.proofs.lists.states_behind.Given as goal
+use Rattle.op_lang.proofs.lists.states_after.Given as goal
 
 abbrev pub invariant-loop-states : goal.invariant-loop-states
 invariant-loop-states l = HasParts w.MoreStates state_text
