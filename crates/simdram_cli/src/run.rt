@@ -24,7 +24,6 @@ use crate::words::RunNames;
 use bit_rows::NoMemory;
 use dram_model::Dram;
 use host_edge::{Folder, Sink};
-use op_rules::ops_meet;
 use op_text::Ops;
 use std::alloc::Global;
 use uprog_bin::{ProgView, encode};
@@ -43,7 +42,6 @@ pub(crate) fn compile(ops: &Ops, alloc: Global) -> Result<(Program, Vec<u8>), No
         (microprograms_of made.0)) }
     ensures file { IfOk result (λ made. made.1.items ≡ program_bytes 2 (microprograms_of made.0)) }
 {
-    ops_meet(ops);
     let Ok(compiled) = compile_ops(ops, alloc) else {
         return Err(NoMemory);
     };

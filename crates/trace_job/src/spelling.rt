@@ -16,6 +16,7 @@ pub fn spell_trace<D: Dram>(recorder: &mut Recorder<'_, D>, table: &Table) -> bo
     requires { HasBegun (recorded (D.view recorder.old.dram.now) recorder.old.notes.now) }
     ensures same_reference { recorder.new.dram.ghost_name ≡ recorder.old.dram.ghost_name }
     ensures chip { recorder.new.dram.now ≡ recorder.old.dram.now }
+    ensures since { recorder.new.notes.now.since ≡ recorder.old.notes.now.since }
     ensures spelled { (events : List Event)
         → Saw (D.view recorder.old.dram.now) recorder.old.notes.now events
         → Spelled (D.view recorder.old.dram.now).geometry table.now.pairs events

@@ -4,7 +4,7 @@ ghost use Rattle.std.specs.Prelude.{◌≡◌, ℕ, ◌<◌, ◌≤◌, ◌++◌
 ghost use Rattle.bit_rows.specs.declared.TheConstants.{WIDTH_MAX};
 ghost use Rattle.op_text.specs.Language.{operation, operations};
 ghost use Rattle.op_text.specs.Spelling.{Each, MeetRules};
-ghost use Rattle.op_rules.specs.Meets.{OperationMeets};
+ghost use Rattle.op_rules.specs.Meets.{OperationMeets, OpsMeet};
 ghost use Rattle.uprog_code.specs.Shape.{microprogram_of, microprograms_of};
 ghost use Rattle.uprog_code.specs.Programs.{IsProgram};
 ghost use Rattle.uprog_code.specs.Machine.{trace, issues_of};
@@ -124,6 +124,8 @@ pub fn compile_ops(ops: &Ops, alloc: Global) -> Result<Compiled, NoMemory>
     // An entry of word operations alone takes exactly their AAP and AP.
     ensures exact { IfOk result (λ c. AreExact (microprograms_of c.program)
         (operations ops.now)) }
+    // The ops meet the rules as trees.
+    ensures rules { OpsMeet (operations ops.now) }
 {
     ops_meet(ops);
     compile_each(&ops.ops, alloc)
