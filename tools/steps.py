@@ -219,6 +219,7 @@ ol { font: 14px/1.6 ui-monospace, monospace; padding-left: 2.5rem; } li { paddin
 li.now { background: #222; color: #fff; } li.now::marker { color: #222; } button.now { background: #222; color: #fff; }
 ol { margin-top: 1.9rem; } .board { display: flex; gap: 2rem; flex-wrap: wrap; align-items: flex-start; }
 table { border-collapse: collapse; font: 14px ui-monospace, monospace; } caption { text-align: left; padding: .3rem 0; }
+caption { white-space: nowrap; }
 th { text-align: left; padding: .25rem .7rem; border: 1px solid #bbb; background: #f4f4f4; font-weight: 600; }
 td { padding: .25rem .7rem; border: 1px solid #bbb; min-width: 9rem; } td.new { outline: 3px solid #222; outline-offset: -3px; }
 </style></head><body><h1>NAME</h1>
@@ -229,11 +230,13 @@ command changed.</p><p id="parts"></p>
 <script>
 const parts = DATA;
 let part = 0, at = 0;
+// each value of a part has a hue of its own, its complement the same and darker
+const hues = new Map();
 const colour = value => {
   if (value === "?") return "#fff";
-  let plain = value.replace(/^~/, ""), hash = 7;
-  for (const c of plain) hash = (hash * 31 + c.charCodeAt(0)) % 360;
-  return `hsl(${hash} 65% ${value.startsWith("~") ? 72 : 86}%)`;
+  const plain = value.replace(/^~/, "");
+  if (!hues.has(plain)) hues.set(plain, Math.round(hues.size * 137.5) % 360);
+  return `hsl(${hues.get(plain)} 65% ${value.startsWith("~") ? 72 : 86}%)`;
 };
 const element = (name, text) => { const made = document.createElement(name); made.textContent = text; return made; };
 function fill(id, title, now, before) {
