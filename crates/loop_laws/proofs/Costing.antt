@@ -6,7 +6,7 @@ use Rattle.std.proofs.lemmas.Bool.{and_parts, eqb-true}
 use Rattle.std.proofs.lemmas.List.Sums.{sum_by-cons, sum_by-append}
 use Rattle.mig_graph.specs.declared.Lit.{Lit}
 use Rattle.mig_graph.specs.declared.Node.{Node}
-use Rattle.mig_graph.specs.Literals.{is_turned}
+use Rattle.mig_graph.specs.Literals.{is_complemented}
 use Rattle.mig_graph.specs.Outputs.{lit_at}
 use Rattle.loop_ir.specs.declared.ir.Count.TheVariants.{All, Rest}
 use Rattle.loop_ir.specs.Plain.{Block, InnerOf, StepOf}
@@ -45,8 +45,8 @@ body-long i nodes outs b h =
 copy-long : (b : Block) → is_copy b ≡ true → body_cost b ≡ 3
 copy-long b h =
     let p = and_parts (length b.graph.nodes == 0) ((length b.outs == 1)
-    && not (is_turned (lit_at b.outs 0))) h in
-    let q = and_parts (length b.outs == 1) (not (is_turned (lit_at b.outs 0))) p.1 in
+    && not (is_complemented (lit_at b.outs 0))) h in
+    let q = and_parts (length b.outs == 1) (not (is_complemented (lit_at b.outs 0))) p.1 in
     omega (arith, eqb-true (length b.graph.nodes) 0 p.0, eqb-true (length b.outs) 1 q.0)
 
 at-most : (c : Bool) (x y k : ℕ) → (c ≡ true → x ≤ k) → y ≤ k → cond c x y ≤ k

@@ -29,7 +29,8 @@ Fails found no.Memory = Unit {0}
 Fails found (no.Breach b) = found ≡ Some b
 
 -- Where front is wanted first, and whatever is wanted after it, what was left is as good as what
--- is left where following x is wanted first; or one of the tokens breaks a rule, which is the answer.
+-- is left where following x is wanted first; or one of the tokens breaks a rule, which is the
+-- answer.
 abbrev pub MovesTo : {A : Type 0} → List Wanted → ParserView → Result A ReadNo → (A → List Wanted)
     → ParserView → Type 0
 MovesTo front old (Ok x) following new = (wanted : List Wanted)

@@ -104,7 +104,8 @@ Fails found stop.Memory = Unit {0}
 Fails found (stop.Breach at kind) = found ≡ Some (record { at = at; kind = kind })
 
 -- Where front is wanted first, and whatever is wanted after it, what was left is as good as what
--- is left where following x is wanted first; or one of the tokens breaks a rule, which is the answer.
+-- is left where following x is wanted first; or one of the tokens breaks a rule, which is the
+-- answer.
 abbrev pub MovesTo : {A : Type 0} → List model.Wanted → ParserView → Result A Stop
     → (A → List model.Wanted) → ParserView → Type 0
 MovesTo front old (Ok x) following new = (wanted : List model.Wanted)

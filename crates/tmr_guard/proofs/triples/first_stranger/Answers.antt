@@ -3,12 +3,6 @@ use Rattle.tmr_guard.proofs.Strangers.{three_first, three_second, three_third, t
 use Rattle.tmr_guard.proofs.Strangers.{last_first, last_alone, last_second, last_both}
 use Rattle.tmr_guard.proofs.triples.first_stranger.Goals as goal
 use Rattle.tmr_guard.proofs.triples.first_stranger.Goals.{then-k-len-2-via-then-k-len-2}
-use Rattle.tmr_guard.proofs.triples.first_stranger.Goals.{}
-use Rattle.tmr_guard.proofs.triples.first_stranger.Goals.{}
-use Rattle.tmr_guard.proofs.triples.first_stranger.Goals.{}
-use Rattle.tmr_guard.proofs.triples.first_stranger.Goals.{}
-use Rattle.tmr_guard.proofs.triples.first_stranger.Goals.{}
-use Rattle.tmr_guard.proofs.triples.first_stranger.Goals.{}
 use Rattle.tmr_guard.proofs.triples.first_stranger.Goals.{then-k-len-2-via-else-k-len-2+then-not-is_copy-3}
 
 pub returns-then-not-is_first : goal.returns-then-not-is_first
