@@ -2,12 +2,15 @@
 use Rattle.std.proofs.Common.{◌≡◌, ◌⊎◌, ℕ, ◌*◌, ◌<◌, ◌≤◌, ◌^◌, Bool, true, false, cond, leb, List}
 use Rattle.std.proofs.Common.{[], ◌∷◌, ◌++◌, Option, Some, None, refl, sym, ◌∙◌, ap, subst, inl}
 use Rattle.std.proofs.Common.{inr}
-use Rattle.std.proofs.Common.{arith, append-nil, length}
+use Rattle.std.proofs.Common.{arith, append-nil, length, length-append}
 use Rattle.std.specs.Prelude.{Result, Ok, Err, IfSome, ◌≢◌, bytes_eq, nat_lt}
 use Rattle.std.specs.List.{AllByRecursion}
+use Rattle.std.specs.Int.{to_le_bytes, w32}
 use Rattle.std.proofs.lemmas.Bool.{leb-true}
+use Rattle.std.proofs.lemmas.List.Concat.{flat_map-cons}
 use Rattle.host_edge.specs.Views.{Files, Known}
-use Rattle.dram_model.specs.Chip.{Banks}
+use Rattle.dram_model.specs.declared.geometry.Geometry.{Geometry}
+use Rattle.dram_model.specs.Chip.{Banks, Event}
 use Rattle.object_alloc.specs.Spelling.{image_bytes}
 use Rattle.uprog_bin.specs.Opened.{IsProgramFile}
 use Rattle.bbop_isa.specs.declared.instr.ScriptFault.{ScriptFault}
@@ -21,9 +24,10 @@ use Rattle.machine_model.specs.Script.{table_at_end}
 use Rattle.machine_model.proofs.Places.{bytes_differ}
 use Rattle.trace_model.specs.Recorder.{events_size}
 use Rattle.trace_model.specs.Replay.{script_trace}
-use Rattle.trace_model.specs.Spelling.{bytes_of_trace}
-use Rattle.trace_model.proofs.Files.{files_are_exact}
-use Rattle.trace_model.proofs.Records.{fitting_are_few}
+use Rattle.trace_model.specs.Spelling.{IsTrace, Trace, bytes_of_trace, event_bytes, events_bytes}
+use Rattle.trace_model.specs.Spelling.{trace_bytes, trace_head}
+use Rattle.trace_model.proofs.Files.{files_are_exact, head_length}
+use Rattle.trace_model.proofs.Records.{event_length, fitting_are_few}
 use Rattle.trace_model.proofs.Scripts.{replay_is_script, script_is_trace}
 use Rattle.cmd_trace.specs.declared.sizes.TheConstants.{EVENTS_BYTES_MAX}
 use Rattle.trace_job.specs.Below.{IsLate}
@@ -37,6 +41,7 @@ use Rattle.cli_model.specs.Ends.{Ended, All, EndsSo, IsAllDone, IsForetold, done
 use Rattle.cli_model.proofs.Ending.{all_ends}
 use Rattle.simdram_cli.specs.declared.words.TraceNames.{TraceNames}
 use Rattle.simdram_cli.specs.declared.words.TheConstants.{PROG_MAX, SCRIPT_MAX, IMAGE_MAX}
+use Rattle.simdram_cli.specs.declared.words.TheConstants.{TRACE_MAX}
 use Rattle.simdram_cli.specs.declared.stop.Stop.{Stop}
 use Rattle.simdram_cli.specs.Words.{all_differ, traced_apart}
 use Rattle.simdram_cli.specs.Inputs.{image_of, script_in, script_or_refusal}
@@ -352,6 +357,32 @@ few_events : (size count : ℕ) → leb size EVENTS_BYTES_MAX ≡ true → 8 * c
 few_events size count e l = let fits = leb-true size EVENTS_BYTES_MAX e in
     omega (arith, fits, l)
 
+-- how long the spelling of events is
+events_length : (g : Geometry) (events : List Event)
+    → length (events_bytes g events) ≡ events_size g events
+events_length g [] = refl
+events_length g (event ∷ events) =
+    let one = event_length g event in
+    let rest = events_length g events in
+    ap length (flat_map-cons (event_bytes g) event events)
+    ∙ length-append (event_bytes g event) (events_bytes g events) ∙ omega (arith, one, rest)
+
+-- a trace whose events fit in a recorder is never too long for a replay
+trace_within : (t : Trace) → IsTrace t
+    → leb (events_size t.geometry t.events) EVENTS_BYTES_MAX ≡ true
+    → length (bytes_of_trace t) ≤ TRACE_MAX
+unfolding trace_bytes
+trace_within t is e =
+    let fits = leb-true (events_size t.geometry t.events) EVENTS_BYTES_MAX e in
+    let few = is.written.listed.few in
+    let head = head_length t.geometry t.table is.written in
+    let size = events_length t.geometry t.events in
+    let count = to_le_bytes w32 (length t.events) in
+    let tail = length-append count (events_bytes t.geometry t.events) in
+    let whole = length-append (trace_head t.geometry t.table)
+    (count ++ events_bytes t.geometry t.events) in
+    omega (arith, fits, few, head, size, tail, whole)
+
 -- OUT is not TRACE
 out_apart : (names : TraceNames) → traced_apart names ≡ true
     → bytes_eq names.out.now names.trace.now ≡ false
@@ -442,6 +473,7 @@ traced names old new status apart is e done =
           (ap sent_by are ∙ traced_sent names program script i all) sent);
       stored = stored;
       fit = all;
+      within = trace_within t good all;
       accepted = files_are_exact.read t good;
       replays = ap (λ (f : Files). f names.out.now) stored
           ∙ at_other names.out.now names.trace.now (bytes_of_trace t) between (out_apart names

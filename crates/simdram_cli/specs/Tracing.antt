@@ -1,6 +1,6 @@
 -- The command `trace`.
 use Rattle.std.specs.Prelude.{◌≡◌, ◌≢◌, ◌⊎◌, ℕ, ◌+◌, ◌*◌, Bool, true, false, List, [], ◌∷◌, ◌++◌}
-use Rattle.std.specs.Prelude.{Option, Some, None, Result, Ok, Err}
+use Rattle.std.specs.Prelude.{◌≤◌, length, Option, Some, None, Result, Ok, Err}
 use Rattle.host_edge.specs.Views.{Files}
 use Rattle.dram_model.specs.Chip.{Banks, Event, after}
 use Rattle.dram_model.specs.Geometry.{is_geometry}
@@ -29,6 +29,7 @@ use Rattle.cli_model.specs.Ends.{Ends, done_steps}
 use Rattle.simdram_cli.specs.declared.words.ExecNames.{ExecNames}
 use Rattle.simdram_cli.specs.declared.words.TraceNames.{TraceNames}
 use Rattle.simdram_cli.specs.declared.words.TheConstants.{PROG_MAX, SCRIPT_MAX, IMAGE_MAX}
+use Rattle.simdram_cli.specs.declared.words.TheConstants.{TRACE_MAX}
 use Rattle.simdram_cli.specs.declared.stop.Stop.{Stop}
 use Rattle.simdram_cli.specs.Inputs.{script_in, image_of}
 use Rattle.simdram_cli.specs.Programs.{prog_in}
@@ -145,14 +146,16 @@ trace_of e = script_trace e.program e.image e.script
 -- What it promises. All that an execution does, of the files as they were before TRACE was stored,
 -- but for the chip's own log. TRACE is the spelling of one trace: IMAGE's geometry, the table after
 -- the script, and the events of the instructions that are done, in order, each wave under the order
--- in force. It is accepted as that trace, and OUT has the trace's objects and the rows that these
--- events leave from IMAGE's. All files but OUT and TRACE are as at entry
+-- in force. It is never too long for a replay and is accepted as that trace, and OUT has the trace's
+-- objects and the rows that these events leave from IMAGE's. All files but OUT and TRACE are as at
+-- entry
 pub record Traced (names : TraceNames) (before after : Files) (old new : World) (status : ℕ)
     : Type 0 where
   pub between : Files
   pub executed : Executed (exec_of names) before between old (unlogged_world new) status
   pub stored : after ≡ with_file names.trace.now (bytes_of_trace (trace_of executed)) between
   pub fit : all_fit executed.image.geometry (trace_of executed).events ≡ true
+  pub within : length (bytes_of_trace (trace_of executed)) ≤ TRACE_MAX
   pub accepted : trace_in (bytes_of_trace (trace_of executed)) ≡ Ok (trace_of executed)
   pub replays : after names.out.now ≡ Some (image_bytes executed.image.geometry
       (trace_of executed).table (rows_of (replayed (trace_of executed).events executed.image)))
