@@ -1,5 +1,5 @@
 -- An accepted image is never too long.
-use Rattle.std.proofs.Common.{◌≡◌, ℕ, zero, suc, ◌+◌, ◌*◌, ◌≤◌, Bool, true, leb, List, [], ◌∷◌, ◌++◌}
+use Rattle.std.proofs.Common.{◌≡◌, ℕ, zero, suc, ◌+◌, ◌*◌, ◌≤◌, true, List, [], ◌∷◌, ◌++◌}
 use Rattle.std.proofs.Common.{length, length-append, sym, ◌∙◌, ap, subst, arith}
 use Rattle.std.specs.Prelude.{Result, Ok, ◌&&◌, nat_le}
 use Rattle.std.specs.Int.{w16}
@@ -24,7 +24,7 @@ objects_counted : (n : ℕ) (g : Geometry) (earlier : List Named) (at : ℕ) (by
     → length all ≡ n + length earlier
 unfolding objects_at
 objects_counted zero g earlier at bytes all e =
-    ap length (sym (ok_is {K = ImageKind} earlier all e))
+    let same = ap length (ok_is {K = ImageKind} earlier all e) in omega (arith, same)
 objects_counted (suc n) g earlier at bytes all e =
     let a = bind_ok (object_at g earlier at bytes) (λ named.
     objects_at n g (earlier ++ named ∷ []) (at + 24) bytes) all e in

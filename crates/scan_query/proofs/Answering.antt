@@ -396,6 +396,6 @@ counters_end a b s t u nodes n counts ready ran read aap ap' =
     (scan_script (table_in a) nodes))) counts following aap ap')))
 
 -- the checks do not pass and refuse
-pub not_both : (o : Option (ScanWhy × ℕ)) (found : ScanWhy × ℕ) → o ≡ Some found → o ≡ None → ⊥
+pub not_both : {X : Type 0} (o : Option X) (found : X) → o ≡ Some found → o ≡ None → ⊥
 not_both (Some x) found e f = cc
 not_both None found e f = cc

@@ -2,6 +2,7 @@ pub mod Running
 pub mod Naming
 pub mod Counting
 pub mod Nodewise
+pub mod Stopping
 pub mod Answering
 mod Taking
 mod Spelling

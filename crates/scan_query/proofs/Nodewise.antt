@@ -52,7 +52,7 @@ same_instructions names start count width k (Or a b) free l s e =
     ) refl
 
 -- those of one node more
-script_snoc : (start : List Named) (names : ℕ → List ℕ) (count k : ℕ) (xs : List Node)
+pub script_snoc : (start : List Named) (names : ℕ → List ℕ) (count k : ℕ) (xs : List Node)
     (node : Node)
     → script_from start names count k xs ++ node_instructions start names count (k + length xs)
     node ≡ script_from start names count k (xs ++ node ∷ [])

@@ -137,7 +137,8 @@ if_none : (r : Option Why) → ◌≡◌ {A = ℕ} (cond (is_none r) 0 0) 0
 if_none None = refl
 if_none (Some w) = refl
 
-silent_reads : (m : Machine) (instr : Instruction) → is_print instr ≡ false → reads_by m instr ≡ 0
+pub silent_reads : (m : Machine) (instr : Instruction) → is_print instr ≡ false
+    → reads_by m instr ≡ 0
 silent_reads m (Init name count n) e = if_none
     (refusal (geometry_of m) (operations_by m) (table_in m) (Init name count n))
 silent_reads m (Bbop op dst srcs count n) e =
@@ -152,7 +153,7 @@ silent_reads m (Free name) e = if_none (refusal (geometry_of m) (operations_by m
 silent_reads m (Order o) e = if_none (refusal (geometry_of m) (operations_by m) (table_in m)
     (Order o))
 
-silent_did : (events : List Event) (n : ℕ) (s t : ChipView) → n ≡ 0 → DidAndRead events n s t
+pub silent_did : (events : List Event) (n : ℕ) (s t : ChipView) → n ≡ 0 → DidAndRead events n s t
     → Did events s t
 silent_did events n s t e d = record {
   banks = d.banks;

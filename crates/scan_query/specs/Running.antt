@@ -1,5 +1,5 @@
 -- What is done on a machine and its chip.
-use Rattle.std.specs.Prelude.{◌≡◌, ℕ, ◌*◌, ◌<◌, List, map, length, Option, Some, None}
+use Rattle.std.specs.Prelude.{◌≡◌, ℕ, ◌*◌, ◌<◌, List, ◌∷◌, ◌++◌, map, length, Option, Some, None}
 use Rattle.std.specs.Prelude.{Result, Ok, Err}
 use Rattle.dram_model.specs.View.{ChipView, Kept, Did}
 use Rattle.dram_model.specs.declared.dram.Counters.{Counters}
@@ -9,6 +9,7 @@ use Rattle.uprog_code.specs.declared.TheConstants.{WALK_MAX}
 use Rattle.bbop_isa.specs.Forms.{Instruction}
 use Rattle.machine_model.specs.declared.Why.{Why}
 use Rattle.machine_model.specs.Pieces.{events_of_pieces, piece_of, turn_at_end}
+use Rattle.machine_model.specs.Refusals.{refusal}
 use Rattle.machine_model.specs.Script.{table_at_end}
 use Rattle.object_steps.specs.Objects.{RisesAtMost}
 use Rattle.sim_machine.specs.declared.machine.Machine.{Machine}
@@ -42,12 +43,27 @@ pub record Ran (script : List Instruction) (old new : Machine) (chip chip' : Chi
         (table_in old) (map piece_of script)) chip chip'
     pub rises : RisesAtMost (length script * (16 * WALK_MAX)) chip.counters chip'.counters
 
+-- one was refused for this reason: those before it were done, of which none was refused, and
+-- nothing else happened on the chip
+pub record StoppedAt (why : Why) (script : List Instruction) (m : Machine) (chip chip' : ChipView)
+    : Type 0 where
+  pub before : List Instruction
+  pub refused : Instruction
+  pub following : List Instruction
+  pub parts : before ++ refused ∷ following ≡ script
+  pub allowed : refused_in (geometry_of m) (operations_by m) (table_in m) before ≡ None
+  pub why_is : refusal (geometry_of m) (operations_by m)
+      (table_at_end (geometry_of m) (operations_by m) (table_in m) before) refused ≡ Some why
+  pub did : Did (events_of_pieces (geometry_of m) (operations_by m) (turn_in m) (table_in m)
+      (map piece_of before)) chip chip'
+
 -- they were done, or one was refused, or the chip failed
 abbrev pub Runs : List Instruction → Machine → Machine → ChipView → ChipView
     → Result (Option Why) ChipFault → Type 0
 Runs script old new chip chip' (Ok None) = Ran script old new chip chip'
 Runs script old new chip chip' (Ok (Some why)) =
-    refused_in (geometry_of old) (operations_by old) (table_in old) script ≡ Some why
+    (refused_in (geometry_of old) (operations_by old) (table_in old) script ≡ Some why)
+    × StoppedAt why script old chip chip'
 Runs script old new chip chip' (Err fault) = Rose chip.faults chip'.faults
 
 -- the first refused node of a query on a machine
@@ -63,5 +79,6 @@ pub record NodesRan (nodes : List Node) (old new : Machine) (chip chip' : ChipVi
 abbrev pub NodesRun : List Node → Machine → Machine → ChipView → ChipView
     → Result (Option (Why × ℕ)) ChipFault → Type 0
 NodesRun nodes old new chip chip' (Ok None) = NodesRan nodes old new chip chip'
-NodesRun nodes old new chip chip' (Ok (Some refused)) = refused_node old nodes ≡ Some refused
+NodesRun nodes old new chip chip' (Ok (Some refused)) = (refused_node old nodes ≡ Some refused)
+    × StoppedAt refused.0 (scan_script (table_in old) nodes) old chip chip'
 NodesRun nodes old new chip chip' (Err fault) = Rose chip.faults chip'.faults

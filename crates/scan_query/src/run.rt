@@ -21,7 +21,7 @@ ghost use Rattle.scan_model.specs.Instructions.{count_of, scan_script};
 ghost use Rattle.scan_model.specs.Operations.{scan_text};
 ghost use Rattle.scan_query.specs.Answers.{CountersRose, GoesOn, IsScan, answer_of, is_done};
 ghost use Rattle.scan_query.specs.Queries.{IsNodesOf, node_of, nodes_in, sources_fit};
-ghost use Rattle.scan_query.specs.Running.{AreBelow, NodesRun};
+ghost use Rattle.scan_query.specs.Running.{AreBelow, NodesRun, StoppedAt, refused_node};
 
 use crate::checks::{check, count_of};
 use crate::names::free_names;
@@ -126,6 +126,12 @@ pub fn run_query<D: Dram>(
     ensures goes { IfOk result (λ reply. is_done reply ≡ true
         → GoesOn (scan_script (table_in machine.old) (nodes_in query.now)) machine.old
         machine.new) }
+    // Where an instruction is refused, those before it were done, and nothing else.
+    ensures stopped { IfOk result (λ reply. (why : _) (k : _)
+        → checked (table_in machine.old) (nodes_in query.now) ≡ None
+        → refused_node machine.old (nodes_in query.now) ≡ Some (why, k)
+        → StoppedAt why (scan_script (table_in machine.old) (nodes_in query.now)) machine.old
+        (D.view dram.old) (D.view dram.new)) }
     ensures failed { OnErr result (Rose (D.view dram.old).faults (D.view dram.new).faults) }
 {
     let nodes = query.nodes.as_slice();

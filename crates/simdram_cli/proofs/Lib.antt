@@ -29,6 +29,7 @@ pub mod Telling
 pub mod Unique
 pub mod Soaking
 pub mod Scanning
+pub mod Stopping
 pub mod Tracing
 pub mod Traced
 pub mod Replaying

@@ -81,8 +81,8 @@ use Rattle.simdram_cli.specs.Queries.{Asks, AsksIn, query_in, query_refusal, sca
 use Rattle.simdram_cli.specs.Queries.{unless_broken}
 use Rattle.simdram_cli.specs.Reads.{IsText, LoadedAs, NotLoaded, NotRead, refusal_of}
 use Rattle.simdram_cli.specs.Scan.{AnswerGoes, AreRead, DoesScans, ImageScanned, IsLeft, IsScanFile}
-use Rattle.simdram_cli.specs.Scan.{LeftBy, QueryDone, QueryRead, ScanEnds, ScanGoes, ScanLeft}
-use Rattle.simdram_cli.specs.Scan.{ScanTexts}
+use Rattle.simdram_cli.specs.Scan.{LeftBy, QueryDone, QueryRead, QueryStopped, ScanEnds, ScanGoes}
+use Rattle.simdram_cli.specs.Scan.{ScanLeft, ScanTexts}
 use Rattle.simdram_cli.specs.Scan.{Scanned, TellsLast, Went, answer_on, count_line, image_steps}
 use Rattle.simdram_cli.specs.Scan.{made_steps, number_found, put_steps, refusal_on, scan_counters}
 use Rattle.simdram_cli.specs.Scan.{scan_counts, scan_status, scan_steps, use_steps, why_not}
@@ -273,8 +273,8 @@ pub record RanOn (program : Program) (q : Query) (i : Image) (nodes : List Node)
   pub opened_on : OpenedOn i old
   pub faults : old.faults ≤ new.faults
 
-checks_are : (program : Program) (q : Query) (i : Image) (nodes : List Node) (table : List Named)
-    (old new : ChipView) → RanOn program q i nodes table old new
+pub checks_are : (program : Program) (q : Query) (i : Image) (nodes : List Node)
+    (table : List Named) (old new : ChipView) → RanOn program q i nodes table old new
     → checked i.table (nodes_of q) ≡ checked table nodes
 checks_are program q i nodes table old new r =
     ap (λ (t : List Named). checked t (nodes_of q)) (sym r.table_is)
@@ -341,8 +341,8 @@ own_events : (program p : Program) (i : Image) (shape : Geometry) (table : List 
 own_events program p i shape table turn script own reads a b e f t o s did =
     rw (e, f, t, o, s) at did
 
-own_script : (program : Program) (q : Query) (i : Image) (nodes : List Node) (table : List Named)
-    (old new : ChipView) → RanOn program q i nodes table old new
+pub own_script : (program : Program) (q : Query) (i : Image) (nodes : List Node)
+    (table : List Named) (old new : ChipView) → RanOn program q i nodes table old new
     → scan_script table nodes ≡ query_script i.table q
 own_script program q i nodes table old new r =
     ap (λ (t : List Named). scan_script t nodes) r.table_is
@@ -377,10 +377,13 @@ pub asked_done : {E : Type 0} (program : Program) (q : Query) (i : Image) (nodes
     → g ≡ i.geometry → answer_of said ≡ answer_on program q i
     → CountersRose said (segments_of g (count_of table nodes)) old.counters new.counters
     → ((found : ScanWhy × ℕ) → checked table nodes ≡ Some found → IsOkAnd r (λ said. new ≡ old))
-    → (is_done said ≡ true → QueryDone program q i new)
+    → (is_done said ≡ true → QueryDone program q i new) → Kept old new
+    → ((reason : Why) (k : ℕ) → checked i.table (nodes_of q) ≡ None
+    → scan_refused i.geometry (routines_in program) i.table q ≡ Some (reason, k)
+    → QueryStopped program q i reason new)
     → AnswerGoes program q i (Ok said) (world files sink before) (world files sink new)
 asked_done program q i nodes table files sink before old new r said g ran opens is shape says rose
-    unused did =
+    unused did kept stopped =
     let o = checked i.table (nodes_of q) in
     let stays : (fault : ScanWhy × ℕ) → o ≡ Some fault → new ≡ old = λ fault some.
     ok_and r said (new ≡ old) is (unused fault
@@ -390,7 +393,10 @@ asked_done program q i nodes table files sink before old new r said g ran opens 
           opens
           (use_done o files sink old new ran.faults stays),
       record {
+        begun = kept.begun ∙ ran.opened_on.begun;
+        geometry = kept.geometry ∙ ran.opened_on.geometry;
         unused = λ fault some. subst (OpenedOn i) (sym (stays fault some)) ran.opened_on;
+        stopped = stopped;
         counted = λ found of counts e. counted_done program q i nodes table old new said found of
             counts g ran shape (found_on program q i found of counts e).of_is (says ∙ e) rose;
         worked = λ found of counts e. did (done_reply said found of counts (says ∙ e));

@@ -7,20 +7,23 @@ use Rattle.dram_model.specs.declared.dram.Counters.{Counters}
 use Rattle.dram_model.specs.declared.geometry.Geometry.{Geometry}
 use Rattle.dram_model.specs.Chip.{LogIs}
 use Rattle.dram_model.specs.Elements.{segments_of}
-use Rattle.dram_model.specs.View.{ChipView}
+use Rattle.dram_model.specs.View.{ChipView, HasBegun}
 use Rattle.uprog_code.specs.declared.walker.Counts.{Counts}
 use Rattle.uprog_code.specs.Programs.{IsProgram}
 use Rattle.uprog_code.specs.Texts.{ImplementsAll}
 use Rattle.uprog_bin.specs.Spelling.{program_bytes}
 use Rattle.uprog_gen.specs.Totals.{AreExact}
+use Rattle.bbop_isa.specs.Forms.{Instruction}
+use Rattle.machine_model.specs.declared.Why.{Why}
 use Rattle.machine_model.specs.Opened.{Image, opened, row_writes, words_of}
+use Rattle.machine_model.specs.Refusals.{refusal}
 use Rattle.machine_model.specs.Routines.{Program, routines_in}
 use Rattle.machine_model.specs.Pieces.{script_events}
-use Rattle.machine_model.specs.Script.{banks_at_end, replies, sum_of}
+use Rattle.machine_model.specs.Script.{banks_at_end, replies, sum_of, table_at_end, with_counts}
 use Rattle.scan_model.specs.declared.ScanWhy.{ScanWhy}
 use Rattle.scan_model.specs.Answers.{Answer, Found, Refused as NotFound, answer, query_count}
 use Rattle.scan_model.specs.Answers.{query_script}
-use Rattle.scan_model.specs.Checks.{checked}
+use Rattle.scan_model.specs.Checks.{checked, refused_in}
 use Rattle.scan_model.specs.Laws.{element, scan_refused}
 use Rattle.scan_model.specs.Operations.{scan_operations, scan_text}
 use Rattle.scan_model.specs.Queries.{Node, Query, matches, nodes_of}
@@ -37,6 +40,7 @@ use Rattle.simdram_cli.specs.declared.words.TheConstants.{IMAGE_MAX, QUERY_MAX}
 use Rattle.simdram_cli.specs.declared.stop.Stop.{Stop}
 use Rattle.simdram_cli.specs.Headline.{read_as}
 use Rattle.simdram_cli.specs.Inputs.{image_of}
+use Rattle.simdram_cli.specs.Job.{opened_counters}
 use Rattle.simdram_cli.specs.Queries.{Asks, AsksIn, query_in, scan_refusal}
 use Rattle.simdram_cli.specs.Reads.{IsText, LoadedAs}
 use Rattle.simdram_cli.specs.Stops.{reason_of}
@@ -140,10 +144,35 @@ pub record QueryDone (program : Program) (q : Query) (i : Image) (chip : ChipVie
   pub log : LogIs (row_writes i ++ script_events i.geometry (routines_in program) i.table
       (query_script i.table q)) chip.log
 
--- What the chip shows then: the image alone, where a comparison is at fault; and what the query's
--- instructions leave, with its counters, where elements were counted
+-- There was no room for one of the query's instructions. Those before it were done on the image, of
+-- which none was refused, and nothing else: the banks are what the program's commands leave, the
+-- counters count them, and a log that is known has the image's writes and then their events
+pub record QueryStopped (program : Program) (q : Query) (i : Image) (reason : Why)
+    (chip : ChipView) : Type 0 where
+  pub before : List Instruction
+  pub refused : Instruction
+  pub following : List Instruction
+  pub parts : before ++ refused ∷ following ≡ query_script i.table q
+  pub allowed : refused_in i.geometry (routines_in program) i.table before ≡ None
+  pub why : refusal i.geometry (routines_in program)
+      (table_at_end i.geometry (routines_in program) i.table before) refused ≡ Some reason
+  pub banks : chip.banks ≡ banks_at_end i.geometry (routines_in program) i.table (opened i) before
+  pub counters : chip.counters ≡ with_counts (opened_counters i.geometry)
+      (sum_of (replies i.geometry (routines_in program) i.table before))
+  pub log : LogIs (row_writes i
+      ++ script_events i.geometry (routines_in program) i.table before) chip.log
+
+-- What the chip shows then, which has begun with the image's geometry: the image alone, where a
+-- comparison is at fault; what the instructions before the one leave for which there was no room,
+-- with their counters; and what all of the query's leave, with its counters, where elements were
+-- counted
 pub record ScanLeft (program : Program) (q : Query) (i : Image) (chip : ChipView) : Type 0 where
+  pub begun : HasBegun chip
+  pub geometry : chip.geometry ≡ i.geometry
   pub unused : (fault : ScanWhy × ℕ) → checked i.table (nodes_of q) ≡ Some fault → OpenedOn i chip
+  pub stopped : (reason : Why) (k : ℕ) → checked i.table (nodes_of q) ≡ None
+      → scan_refused i.geometry (routines_in program) i.table q ≡ Some (reason, k)
+      → QueryStopped program q i reason chip
   pub counted : (found of : ℕ) (counts : Counts) → answer_on program q i ≡ Found found of counts
       → chip.counters ≡ scan_counters i.geometry of counts
   pub worked : (found of : ℕ) (counts : Counts) → answer_on program q i ≡ Found found of counts

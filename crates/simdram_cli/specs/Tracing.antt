@@ -146,7 +146,7 @@ trace_of e = script_trace e.program e.image e.script
 -- What it promises. All that an execution does, of the files as they were before TRACE was stored,
 -- but for the chip's own log. TRACE is the spelling of one trace: IMAGE's geometry, the table after
 -- the script, and the events of the instructions that are done, in order, each wave under the order
--- in force. It is never too long for a replay and is accepted as that trace, and OUT has the trace's
+-- in force. It is not too long for a replay and is accepted as that trace, and OUT has the trace's
 -- objects and the rows that these events leave from IMAGE's. All files but OUT and TRACE are as at
 -- entry
 pub record Traced (names : TraceNames) (before after : Files) (old new : World) (status : ℕ)

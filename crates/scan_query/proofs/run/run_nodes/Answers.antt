@@ -17,6 +17,7 @@ use Rattle.scan_query.proofs.Nodewise.{next_instructions, left_with, front_with,
 use Rattle.scan_query.proofs.Nodewise.{all_front}
 use Rattle.scan_query.proofs.Nodewise.{all_back, node_done, node_allowed, node_refused, node_room}
 use Rattle.scan_query.proofs.Nodewise.{at_of}
+use Rattle.scan_query.proofs.Stopping.{stopped_node}
 use Rattle.scan_query.proofs.run.run_nodes.Goals as goal
 
 pub do_node-requires-clause-plain : goal.do_node-requires-clause-plain
@@ -107,11 +108,14 @@ returns-in-Some-clause-runs g c =
     (Ok (Some c.in-Some.why))) same
     (subst (λ r. Runs (instructions_for (names_in c.as_slice.result.now) c.count_of-count.result
     (get_or c.deref.result.now c.from.result 0) c.nodes.k node) m m2 t u (Ok r)) c.in-Some.is
-    c.in_ok-why.ensures.runs) in
-    node_refused start names count j front back node m0 m s t
-    (refused_from (geometry_of m0) (operations_by m0) start start names count 0
-    (map node_of xs)) c.in-Some.why refusals c.nodes.invariant.ran runs
-    ∙ ap (λ i. Some (c.in-Some.why, i)) (sym c.nodes.invariant.place)
+    c.in_ok-why.ensures.runs) in (
+      node_refused start names count j front back node m0 m s t
+          (refused_from (geometry_of m0) (operations_by m0) start start names count 0
+          (map node_of xs)) c.in-Some.why refusals c.nodes.invariant.ran runs.0
+          ∙ ap (λ i. Some (c.in-Some.why, i)) (sym c.nodes.invariant.place),
+      stopped_node node_of xs start names count j c.node-item.result m0 m s t u c.in-Some.why size
+          (front_with node_of xs j c.node-item.result at) c.nodes.invariant.ran runs.1,
+    )
 
 pub nodes-preserved : goal.nodes-preserved
 nodes-preserved g c =

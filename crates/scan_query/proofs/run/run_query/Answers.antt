@@ -16,13 +16,14 @@ use Rattle.scan_model.specs.Checks.{checked}
 use Rattle.scan_model.specs.Names.{free_name}
 use Rattle.scan_model.specs.Queries.{Node, size}
 use Rattle.scan_query.specs.Queries.{node_of, nodes_in, sources_fit}
-use Rattle.scan_query.specs.Running.{NodesRan, NodesRun, refused_node}
+use Rattle.scan_query.specs.Running.{NodesRan, NodesRun, StoppedAt, refused_node}
 use Rattle.scan_query.proofs.Answering.{all_done, answer_checked, answer_done, answer_refused}
 use Rattle.scan_query.proofs.Answering.{check_says, counters_end, counts_after, few_nodes, goes_on}
 use Rattle.scan_query.proofs.Answering.{last_is}
 use Rattle.scan_query.proofs.Answering.{leaves, not_both, ones_as, plain_nodes, reads_are, rises}
 use Rattle.scan_query.proofs.Answering.{room_left}
 use Rattle.scan_query.proofs.Answering.{shaped_as, some_left, sources_fit_all, table_left}
+use Rattle.scan_query.proofs.Stopping.{same_why}
 use Rattle.scan_query.proofs.run.run_query.Goals as goal
 
 pub check-requires : goal.check-requires
@@ -86,10 +87,11 @@ returns-in-Some-2-clause-answer g c q h =
     (map node_of c.as_slice-nodes.result.now) c.count_of-count.result c.check.result
     c.table.ensures.objects c.table-2.ensures.objects same c.count_of-count.ensures
     c.check.ensures) ∙ c.in_default.is in
+    let runs = subst (λ r. NodesRun (map node_of c.as_slice-nodes.result.now) a b s t (Ok r))
+    c.in-Some-2.is c.in_ok-why.ensures.runs in
     let refused : refused_node a nodes ≡ Some (c.in-Some-2.why, c.in-Some-2.k) =
     subst (λ (ns : List Node). refused_node a ns ≡ Some (c.in-Some-2.why, c.in-Some-2.k)) same
-    (subst (λ r. NodesRun (map node_of c.as_slice-nodes.result.now) a b s t (Ok r))
-    c.in-Some-2.is c.in_ok-why.ensures.runs) in
+    runs.0 in
     ap (λ w. Refused w c.in-Some-2.k) c.room_word.ensures
     ∙ answer_refused (geometry_of a) (operations_by a) s.banks (table_in a) q c.in-Some-2.why
     c.in-Some-2.k (ap (checked (table_in a)) (sym h.nodes_are) ∙ checks)
@@ -429,3 +431,45 @@ returns-in_err-found-clause-unused g c found refused =
     c.table.ensures.objects c.table-2.ensures.objects same c.count_of-count.ensures
     c.check.ensures) ∙ c.in_default.is in
     absurd (not_both (checked (table_in a) nodes) found refused checks)
+
+pub returns-in-Some-clause-stopped : goal.returns-in-Some-clause-stopped
+returns-in-Some-clause-stopped g c why k none refused =
+    let a = c.args.machine.now in
+    let nodes = nodes_in c.args.query.now in
+    let same = ap (map node_of) c.as_slice-nodes.ensures.value in
+    let checks : checked (table_in a) nodes ≡ Some (c.in-Some.why, c.in-Some.k) =
+    sym (check_says (table_in a)
+    c.table.result.now.pairs c.table-2.result.now.pairs nodes
+    (map node_of c.as_slice-nodes.result.now) c.count_of-count.result c.check.result
+    c.table.ensures.objects c.table-2.ensures.objects same c.count_of-count.ensures
+    c.check.ensures) ∙ c.in-Some.is in
+    absurd (not_both (checked (table_in a) nodes) (c.in-Some.why, c.in-Some.k) checks none)
+
+pub returns-in-Some-2-clause-stopped : goal.returns-in-Some-2-clause-stopped
+returns-in-Some-2-clause-stopped g c why k none refused =
+    let a = c.args.machine.now in
+    let b = c.run_nodes.new.machine in
+    let s = g.D.Dram.view c.args.dram.now in
+    let t = g.D.Dram.view c.run_nodes.new.dram in
+    let nodes = nodes_in c.args.query.now in
+    let same = ap (map node_of) c.as_slice-nodes.ensures.value in
+    let runs : NodesRun nodes a b s t (Ok (Some (c.in-Some-2.why, c.in-Some-2.k))) =
+    subst (λ (ns : List Node). NodesRun ns a b s t (Ok (Some (c.in-Some-2.why, c.in-Some-2.k))))
+    same
+    (subst (λ r. NodesRun (map node_of c.as_slice-nodes.result.now) a b s t (Ok r))
+    c.in-Some-2.is c.in_ok-why.ensures.runs) in
+    subst (λ w. StoppedAt w (scan_script (table_in a) nodes) a s t)
+    (same_why c.in-Some-2.why why c.in-Some-2.k k (sym runs.0 ∙ refused)) runs.1
+
+pub returns-clause-stopped : goal.returns-clause-stopped
+returns-clause-stopped g c why k none refused =
+    let a = c.args.machine.now in
+    let b = c.run_nodes.new.machine in
+    let s = g.D.Dram.view c.args.dram.now in
+    let t = g.D.Dram.view c.run_nodes.new.dram in
+    let nodes = nodes_in c.args.query.now in
+    let same = ap (map node_of) c.as_slice-nodes.ensures.value in
+    let ran : NodesRan nodes a b s t = subst (λ (ns : List Node). NodesRan ns a b s t) same
+    (subst (λ r. NodesRun (map node_of c.as_slice-nodes.result.now) a b s t (Ok r))
+    c.in_default-2.is c.in_ok-why.ensures.runs) in
+    absurd (not_both (refused_node a nodes) (why, k) refused ran.allowed)

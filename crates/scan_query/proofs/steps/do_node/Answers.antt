@@ -2,6 +2,7 @@ use Rattle.std.proofs.Common.{◌∙◌, subst, take, drop, Ok}
 use Rattle.scan_query.specs.Queries.{instructions_for, names_in, node_of}
 use Rattle.scan_query.specs.Running.{Runs}
 use Rattle.scan_query.proofs.Running.{refused_at, took_one}
+use Rattle.scan_query.proofs.Stopping.{stopped_at}
 use Rattle.scan_query.proofs.steps.do_node.Goals as goal
 
 pub returns-in-Some-clause-runs : goal.returns-in-Some-clause-runs
@@ -11,9 +12,12 @@ returns-in-Some-clause-runs g c =
     c.args.k (node_of c.args.node.now) in
     let runs = subst (λ r. Runs (take 1 (drop c.instrs.i script)) c.instrs.machine
     c.do_at.new.machine (view c.instrs.dram) (view c.do_at.new.dram) (Ok r)) c.in-Some.is
-    c.in_ok-why.ensures.runs in
-    refused_at script c.instrs.i c.args.machine.now c.instrs.machine (view c.args.dram.now)
-    (view c.instrs.dram) c.in-Some.why c.instrs.invariant.ran runs
+    c.in_ok-why.ensures.runs in (
+      refused_at script c.instrs.i c.args.machine.now c.instrs.machine (view c.args.dram.now)
+          (view c.instrs.dram) c.in-Some.why c.instrs.invariant.ran runs.0,
+      stopped_at script c.instrs.i c.args.machine.now c.instrs.machine (view c.args.dram.now)
+          (view c.instrs.dram) (view c.do_at.new.dram) c.in-Some.why c.instrs.invariant.ran runs.1,
+    )
 
 pub instrs-preserved : goal.instrs-preserved
 instrs-preserved g c =

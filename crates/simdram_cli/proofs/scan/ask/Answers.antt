@@ -9,8 +9,9 @@ use Rattle.sim_machine.specs.Machine.{geometry_of, program_of, table_in, turn_in
 use Rattle.cli_model.specs.World.{world}
 use Rattle.simdram_cli.specs.Inputs.{image_found}
 use Rattle.simdram_cli.proofs.Scanning.{RanOn, asked_done, asked_failed, answer_moves, no_stage}
-use Rattle.simdram_cli.proofs.Scanning.{not_opened, query_done, room_opened}
-use Rattle.simdram_cli.proofs.Progress.{holds_of}
+use Rattle.simdram_cli.proofs.Scanning.{checks_are, not_opened, query_done, room_opened}
+use Rattle.simdram_cli.proofs.Stopping.{query_stopped, refused_moves}
+use Rattle.simdram_cli.proofs.Progress.{Holds, holds_of}
 use Rattle.simdram_cli.proofs.scan.ask.Goals as goal
 
 pub run_query-requires-clause-program : goal.run_query-requires-clause-program
@@ -51,6 +52,8 @@ returns-in-Ok-run_query-clause-goes g c files sink t h =
       opened_on = opened.opened;
       faults = c.run_query.ensures.kept.faults;
     } in
+    let holds : Holds i.geometry i.table =
+    rw opened.table at (holds_of machine i.geometry opened.shape opened.ready) in
     asked_done program t i nodes (table_in machine) files sink before old new c.run_query.result
     c.in-Ok-run_query.reply (geometry_of machine) ran (opened.goes files sink) c.in-Ok-run_query.is
     opened.shape
@@ -60,8 +63,13 @@ returns-in-Ok-run_query-clause-goes g c files sink t h =
     c.run_query.ensures.unused
     (λ is. query_done program (program_of machine) t i nodes (geometry_of machine) (table_in
     machine)
-    (turn_in machine) _ old new ran (rw opened.table at (holds_of machine i.geometry opened.shape
-    opened.ready)) opened.shape opened.program opened.turn (c.in-Ok-run_query.ensures.did is))
+    (turn_in machine) _ old new ran holds opened.shape opened.program opened.turn
+    (c.in-Ok-run_query.ensures.did is))
+    c.run_query.ensures.kept
+    (λ reason k none refused. query_stopped program t i nodes machine reason old new ran holds
+    opened.shape opened.program opened.turn (c.in-Ok-run_query.ensures.stopped reason k
+    (sym (checks_are program t i nodes (table_in machine) old new ran) ∙ none)
+    (refused_moves program t i nodes machine old new ran opened.shape opened.program ∙ refused)))
 
 pub returns-clause-goes : goal.returns-clause-goes
 returns-clause-goes g c files sink t h =
