@@ -42,8 +42,8 @@ use Rattle.cli_laws.proofs.Images.{image_within}
 same_some : {A : Type 0} (x y : A) → Some x ≡ Some y → x ≡ y
 same_some x y e = cc
 
-same_ok : (x y : Trace) → trace_in (bytes_of_trace x) ≡ Ok x → trace_in (bytes_of_trace y) ≡ Ok y
-    → bytes_of_trace x ≡ bytes_of_trace y → x ≡ y
+pub same_ok : (x y : Trace) → trace_in (bytes_of_trace x) ≡ Ok x
+    → trace_in (bytes_of_trace y) ≡ Ok y → bytes_of_trace x ≡ bytes_of_trace y → x ≡ y
 same_ok x y e f same =
     let one = sym e ∙ ap trace_in same ∙ f in cc
 

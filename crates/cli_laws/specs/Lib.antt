@@ -1,2 +1,3 @@
--- What two commands promise together.
+-- What two commands promise together, and what the files at entry decide.
 pub mod Replays
+pub mod Unique

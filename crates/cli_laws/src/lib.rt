@@ -1,7 +1,9 @@
-//! What two commands of the program promise together.
+//! What two commands of the program promise together, and what the files at entry decide.
 #![tactic(auto)]
 
 ghost use Rattle.cli_laws.specs.Replays.{TracesAreAccepted, TracesReplay};
+ghost use Rattle.cli_laws.specs.Unique.{OneExecuted, OneGuardedJob, OneRecorded, OneReplayed};
+ghost use Rattle.cli_laws.specs.Unique.{OneScanned};
 
 /// A replay of what an execution recorded, on the image that it read, writes the same image.
 pub fn traces_replay()
@@ -11,4 +13,31 @@ pub fn traces_replay()
 /// A replay never ends because of what an execution recorded, or of the image that it read.
 pub fn traces_are_accepted()
     ensures { TracesAreAccepted }
+{}
+
+/// Two executions of the same files do one script on one image by one program, and leave the same
+/// files under the same status.
+pub fn one_executed()
+    ensures { OneExecuted }
+{}
+
+/// Two recorded executions of the same files record one trace, and leave the same files.
+pub fn one_recorded()
+    ensures { OneRecorded }
+{}
+
+/// Two replays of the same files do one trace on one image, and leave the same files.
+pub fn one_replayed()
+    ensures { OneReplayed }
+{}
+
+/// Two scans of the same files ask one query of one image.
+pub fn one_scanned()
+    ensures { OneScanned }
+{}
+
+/// Two guarded runs of the same files do the ops of one text and one script on one image with one
+/// list of flips; and if they store the same program, they leave the same files.
+pub fn one_guarded_job()
+    ensures { OneGuardedJob }
 {}
