@@ -15,8 +15,8 @@ pub fn traces_are_accepted()
     ensures { TracesAreAccepted }
 {}
 
-/// Two executions of the same files do one script on one image by one program, and leave the same
-/// files under the same status.
+/// Two executions of the same files do one script on one image with one program, leave the same
+/// files, and end with the same status.
 pub fn one_executed()
     ensures { OneExecuted }
 {}
@@ -36,8 +36,8 @@ pub fn one_scanned()
     ensures { OneScanned }
 {}
 
-/// Two guarded runs of the same files do the ops of one text and one script on one image with one
-/// list of flips; and if they store the same program, they leave the same files.
+/// Two guarded runs of the same files have the ops of one text, one script, one image and one list
+/// of flips; and if they leave the same program, they leave the same files and end alike.
 pub fn one_guarded_job()
     ensures { OneGuardedJob }
 {}
