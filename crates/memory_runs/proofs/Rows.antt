@@ -181,11 +181,14 @@ low_record name base width = ap (λ (bs : List ℕ). name_bytes name
 -- the record of one object more
 pub records_more : (objects : List Object) (i b base : ℕ) (d : Object) (out new all : List ℕ)
     → i < length objects → b ≡ base % 65536
-    → new ≡ out ++ object_bytes ((get_or objects i d).name ∷ [], record {
-      base = b;
-      width = (get_or objects i d).width;
-      count = 64;
-    })
+    → new ≡ out ++ object_bytes (
+      (get_or objects i d).name ∷ [],
+      record {
+        base = b;
+        width = (get_or objects i d).width;
+        count = 64;
+      },
+    )
     → out ++ flat_map object_bytes (placed base (drop i objects)) ≡ all
     → new ++ flat_map object_bytes (placed (base + (get_or objects i d).width)
     (drop (i + 1) objects)) ≡ all

@@ -1,5 +1,5 @@
 -- Images of one bank of 64 columns, whose objects have 64 elements and lie one after another.
-use Rattle.std.specs.Prelude.{◌≡◌, ℕ, ◌+◌, ◌-◌, ◌*◌, List, [], ◌∷◌, Bool, if◌then◌else◌, nat_lt}
+use Rattle.std.specs.Prelude.{ℕ, ◌+◌, ◌-◌, ◌*◌, List, [], ◌∷◌, Bool, if◌then◌else◌, nat_lt}
 use Rattle.std.specs.Prelude.{map, take, drop, slice_index_or}
 use Rattle.std.specs.List.{range_with_len}
 use Rattle.bit_rows.specs.Bits.{value, bit_at, bit_in}

@@ -1,2 +1,5 @@
--- Images for tests, as the field's definition of an image file spells them, and whole runs.
+-- Images for tests, as the definition of an image file has them, and whole runs.
 pub mod Images
+pub mod Outside
+pub mod Left
+pub mod Runs

@@ -1,14 +1,12 @@
 //! Images of one bank of 64 columns whose objects have 64 elements.
 
-ghost use Rattle.std.specs.Prelude.{◌≡◌, ◌+◌, ◌%◌, ◌^◌, ◌++◌, ◌∷◌, [], IfOk, OnOk};
+ghost use Rattle.std.specs.Prelude.{◌≡◌, ◌%◌, ◌^◌, ◌++◌, ◌∷◌, [], IfOk, OnOk};
 ghost use Rattle.std.specs.List.{flat_map, range_with_len};
-ghost use Rattle.std.specs.Int.{to_le_bytes, w16, w32};
 ghost use Rattle.bit_rows.specs.Bits.{bit_at, bit_in, bits};
 ghost use Rattle.object_alloc.specs.Bytes.{bytes_of_bits};
-ghost use Rattle.object_alloc.specs.Spelling.{image_bytes, object_bytes, rows_bytes};
-ghost use Rattle.object_alloc.specs.Spelling.{head_bytes};
-ghost use Rattle.memory_runs.specs.Images.{one_bank, placed, row_bits, row_of, rows_of};
-ghost use Rattle.memory_runs.specs.Images.{row_in, number_in};
+ghost use Rattle.object_alloc.specs.Spelling.{head_bytes, image_bytes, object_bytes};
+ghost use Rattle.memory_runs.specs.Images.{number_in, one_bank, placed, row_bits, row_in};
+ghost use Rattle.memory_runs.specs.Images.{row_of, rows_of};
 
 use bit_rows::{Value, WIDTH_MAX, bit_of};
 use object_alloc::bytes_of_words;
@@ -29,7 +27,7 @@ fn bit(number: Value, k: u8) -> bool
     k < WIDTH_MAX && bit_of(number, k)
 }
 
-/// The row of bit k: column e has that bit of number e.
+/// The row of bit k: column e has that bit of number e, of 64 numbers at most, and zeros past them.
 fn row(numbers: &[Value], k: u8) -> u64
     ensures { bits result 64 ≡ row_bits numbers.now k }
 {
@@ -61,11 +59,14 @@ fn row_at(objects: &[Object<'_>], row_number: u16) -> u64
 /// Appends the record of an object whose rows begin at the base.
 fn put_object(out: &mut Vec<u8>, object: &Object<'_>, base: u16) -> Result<(), AllocError>
     ensures { OnOk result (out.new.items ≡ out.old.items
-        ++ object_bytes (object.now.name ∷ [], record {
-          base = base;
-          width = object.now.width;
-          count = 64;
-        })) }
+        ++ object_bytes (
+          object.now.name ∷ [],
+          record {
+            base = base;
+            width = object.now.width;
+            count = 64;
+          },
+        )) }
 {
     out.extend_from_slice(&[1, object.name])?;
     out.extend_from_slice(b"\0\0\0\0\0\0\0\0\0\0\0\0\0\0\0")?;

@@ -3,5 +3,9 @@
 #![tactic(auto)]
 
 mod images;
+mod outside;
+mod runs;
 
 pub use images::{Object, image_of, number_at};
+pub use outside::{holds, text};
+pub use runs::{Ended, run};

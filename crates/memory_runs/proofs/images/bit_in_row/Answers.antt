@@ -1,4 +1,5 @@
-use Rattle.std.proofs.Common.{◌≡◌, ℕ, ◌+◌, ◌*◌, ◌/◌, ◌%◌, ◌≤◌, ◌∙◌, length, ap, sym, arith, get_or, unwrap_or, min}
+use Rattle.std.proofs.Common.{◌≡◌, ℕ, ◌+◌, ◌/◌, ◌%◌, ◌≤◌, ◌∙◌, length, ap, sym, arith}
+use Rattle.std.proofs.Common.{get_or, min, unwrap_or}
 use Rattle.std.proofs.lemmas.Bool.{le-ltb}
 use Rattle.bit_rows.specs.Bits.{bit_at}
 use Rattle.memory_runs.proofs.Rows.{row-at, row-past, byte-at}
@@ -20,4 +21,5 @@ returns-then-column-lt64 c =
 pub returns-else-column-lt64 : goal.returns-else-column-lt64
 returns-else-column-lt64 c =
     let high = c.if-column-lt64.false in
-    le-ltb c.args.column 64 high ∙ sym (row-past c.args.rows.now c.args.row_number c.args.column high)
+    le-ltb c.args.column 64 high
+    ∙ sym (row-past c.args.rows.now c.args.row_number c.args.column high)

@@ -1,4 +1,4 @@
-use Rattle.std.proofs.Common.{◌≡◌, ℕ, ◌^◌, ◌≤◌, length, arith}
+use Rattle.std.proofs.Common.{◌^◌, ◌≤◌, length, arith}
 use Rattle.memory_runs.proofs.Rows.{number-more}
 use Rattle.memory_runs.proofs.images.number_at.Goals as goal
 

@@ -1,4 +1,4 @@
-use Rattle.std.proofs.Common.{◌≡◌, ℕ, ◌%◌, ◌∙◌, ◌++◌, ◌∷◌, [], List, length, ap, sym, arith, append_assoc}
+use Rattle.std.proofs.Common.{◌≡◌, ℕ, ◌∙◌, ◌++◌, ◌∷◌, [], List, length, ap, sym, append_assoc}
 use Rattle.std.specs.Int.{to_le_bytes, w16}
 use Rattle.std.specs.List.{flat_map}
 use Rattle.object_alloc.specs.Spelling.{object_bytes}
@@ -21,7 +21,8 @@ returns c =
     let second = c.in_ok-extend_from_slice-2.ensures.items
     ∙ ap (λ (xs : List ℕ). xs ++ c.to_le_bytes.result) first
     ∙ ap (λ (xs : List ℕ). (out ++ opening) ++ xs) c.to_le_bytes.ensures in
-    let third = c.in_ok-extend_from_slice-3.ensures.items ∙ ap (λ (xs : List ℕ). xs ++ words) second in
+    let third = c.in_ok-extend_from_slice-3.ensures.items
+    ∙ ap (λ (xs : List ℕ). xs ++ words) second in
     let fourth = c.in_ok-extend_from_slice-4.ensures.items
     ∙ ap (λ (xs : List ℕ). xs ++ c.to_le_bytes-2.result) third
     ∙ ap (λ (xs : List ℕ). (((out ++ opening) ++ rows) ++ words) ++ xs) count in
