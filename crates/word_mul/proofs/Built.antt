@@ -1,25 +1,29 @@
 -- Bodies that are built by a template are those of the template.
-use Rattle.std.proofs.Common.{◌≡◌, ℕ, ◌+◌, ◌<◌, List, length, sym, subst}
+use Rattle.std.proofs.Common.{◌≡◌, List, [], ◌∷◌, ℕ, map, length, refl, sym, ap, ◌∙◌}
+use Rattle.std.proofs.lemmas.List.{length-map}
 use Rattle.mig_graph.specs.declared.Lit.{Lit}
 use Rattle.mig_graph.specs.declared.Node.{Node}
-use Rattle.mig_graph.specs.Graph.{Graph, IsGraph}
-use Rattle.mig_graph.specs.Outputs.{lit_at}
+use Rattle.mig_graph.specs.Graph.{Graph}
 use Rattle.loop_ir.specs.declared.ir.Place.{Place}
-use Rattle.loop_ir.specs.Like.{IsLike}
-use Rattle.word_lower.proofs.LikeTemplates.{like_self, block_eq, template_made}
-use Rattle.word_mul.specs.Bodies.{over, IsBuilt}
+use Rattle.word_lower.specs.Programs.{template}
+use Rattle.word_lower.proofs.LikeTemplates.{block_eq, block_of_parts}
+use Rattle.word_mul.specs.declared.shapes.Mark.{Mark}
+use Rattle.word_mul.specs.declared.shapes.Owners.{Owners}
+use Rattle.word_mul.specs.Programs.{mark_of}
+use Rattle.word_mul.specs.Bodies.{marks, place_on, body_on}
 
-pub built : (reads writes rp wp : List Place) (nodes : List Node) (outs lits : List Lit) (g : Graph)
-    → rp ≡ reads → wp ≡ writes → IsGraph (length reads) nodes
-    → ((j : ℕ) → j < length outs → (lit_at outs j).node < length reads + 1 + length nodes)
+twice_mapped : (o : Owners) (ms : List Mark) → map (λ m. place_on o (mark_of m)) ms
+    ≡ map (place_on o) (marks ms)
+twice_mapped o [] = refl
+twice_mapped o (m ∷ ms) = ap (λ ps. place_on o (mark_of m) ∷ ps) (twice_mapped o ms)
+
+pub template_same : (o : Owners) (reads writes : List Mark) (nodes : List Node) (outs : List Lit)
+    (rp wp : List Place) (g : Graph) (lits : List Lit)
+    → rp ≡ map (λ m. place_on o (mark_of m)) reads → wp ≡ map (λ m. place_on o (mark_of m)) writes
     → g ≡ record { inputs = length reads; nodes = nodes } → lits ≡ outs
-    → IsBuilt (record { reads = rp; graph = g; outs = lits; writes = wp })
-    (over reads nodes outs writes)
-built reads writes rp wp nodes outs lits g er ew graph named eg el =
-    let whole = over reads nodes outs writes in
-    let same = block_eq reads writes rp wp g whole.graph outs lits er ew eg el in
-    record {
-      same = same;
-      like = subst (λ b. IsLike b whole) (sym same) (like_self whole);
-      made = template_made rp wp (length reads) nodes outs g lits graph named eg el;
-    }
+    → block_of_parts rp g lits wp ≡ body_on o (template (marks reads) nodes outs (marks writes))
+template_same o reads writes nodes outs rp wp g lits er ew eg el =
+    let whole = body_on o (template (marks reads) nodes outs (marks writes)) in
+    let n : length reads ≡ length (marks reads) = sym (length-map reads mark_of) in
+    block_eq whole.reads whole.writes rp wp g whole.graph outs lits (er ∙ twice_mapped o reads)
+    (ew ∙ twice_mapped o writes) (eg ∙ ap (λ (i : ℕ). record { inputs = i; nodes = nodes }) n) el

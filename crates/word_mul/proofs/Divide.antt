@@ -22,10 +22,10 @@ use Rattle.word_lower.specs.Programs.{second, third, plain, compared}
 use Rattle.word_lower.proofs.Setting.{bit, number, row, number_at}
 use Rattle.word_lower.proofs.Passes.{state_loop}
 use Rattle.word_lower.proofs.Sums.{value_same, value_below, compare, less_two}
-use Rattle.word_mul.specs.Programs.{fourth, fifth, divided, division}
+use Rattle.word_mul.specs.Programs.{divided, division}
 use Rattle.word_mul.specs.declared.rows.Rows.{Rows}
 use Rattle.word_mul.specs.Places.{rooms_for, scratch_word}
-use Rattle.word_mul.proofs.Setting.{IsFree, AreRows}
+use Rattle.word_mul.proofs.Setting.{fourth, fifth, IsFree, AreRows}
 use Rattle.word_mul.proofs.Product.{value_gated}
 
 -- the comparison of the low rows, or the top row, compares all rows

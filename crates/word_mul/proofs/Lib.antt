@@ -5,6 +5,7 @@ pub mod Divide
 pub mod Quotient
 pub mod Built
 pub mod Parts
+pub mod Placed
 pub mod Clear
 pub mod Nested
 pub mod Whole

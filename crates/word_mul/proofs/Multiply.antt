@@ -260,11 +260,11 @@ module _ (n : ℕ) (m : Rows) (are : AreRows n 1 0 m) (bits : Spots) where
   cp = row n (scratch_bit m.free_bit) 0
 
   abbrev count_body : Block
-  count_body = placed_body (rooms_for op.Bitcount m) (counted (target sub.Inner) (second sub.Zero))
+  count_body = placed_body (rooms_for op.Bitcount m) (counted (target sub.Inner) (third sub.Zero))
 
   abbrev count_parts : List (InnerOf Block)
   count_parts =
-      Alone (placed_body (rooms_for op.Bitcount m) (inverted (first sub.Outer) (second sub.Zero)))
+      Alone (placed_body (rooms_for op.Bitcount m) (inverted (first sub.Outer) (third sub.Zero)))
       ∷ (Across All count_body ∷ [])
 
   abbrev ys : List Origin

@@ -1,7 +1,7 @@
 -- Each nested operation's loop program gives its value, takes so many commands, and passes the
 -- tests.
-use Rattle.std.proofs.Common.{◌≡◌, ◌⊎◌, inl, ℕ, ◌+◌, ◌*◌, ◌^◌, ◌<◌, ◌≤◌, true, List, [], ◌∷◌, map}
-use Rattle.std.proofs.Common.{length, Option, None, refl, sym, ap, ◌∙◌, subst, arith}
+use Rattle.std.proofs.Common.{◌≡◌, ◌⊎◌, inl, ℕ, zero, suc, ◌+◌, ◌*◌, ◌^◌, ◌<◌, ◌≤◌, true, List, []}
+use Rattle.std.proofs.Common.{◌∷◌, map, length, Option, None, refl, sym, ap, ◌∙◌, subst, arith}
 use Rattle.std.specs.Prelude.{unwrap_or}
 use Rattle.std.proofs.Math.Nat.{pow-suc, pow-zero}
 use Rattle.op_text.specs.declared.tree.Kind.TheVariants.{Word}
@@ -18,13 +18,13 @@ use Rattle.loop_ir.specs.Loops.{all_rounds}
 use Rattle.loop_ir.specs.Spots.{Spot, Spots, spot_in, after_rounds}
 use Rattle.loop_ir.specs.Costs.{rounds_cost}
 use Rattle.loop_ir.specs.Lowered.{slot_spot, slot_bits}
-use Rattle.loop_laws.specs.Rooms.{RoomsApart, IsOwned, steps_fit}
+use Rattle.loop_laws.specs.Rooms.{room_at, row_in, extent, RoomsApart, IsOwned, steps_fit}
 use Rattle.loop_laws.specs.Forms.{is_short}
 use Rattle.loop_laws.proofs.Costing.{total_is}
 use Rattle.word_lower.specs.Places.{scratch_bit, scratch_from, rooms_of}
 use Rattle.word_lower.proofs.Setting.{row, number_at, SlotsApart}
 use Rattle.word_lower.proofs.Lists.{bits_of_number, value_of_list}
-use Rattle.word_lower.proofs.Pieces.{slot, slot_at, Pieces, moves_in, rooms_apart}
+use Rattle.word_lower.proofs.Pieces.{slot, slot_at, AreApart, Pieces, moves_in, rooms_apart}
 use Rattle.word_lower.proofs.Lowering.{slots_width}
 use Rattle.word_lower.proofs.Statements.{length_scratch, scratch_at}
 use Rattle.word_mul.specs.declared.rows.Rows.{Rows}
@@ -107,6 +107,38 @@ bit_is_free n t z a b args free_bit free_word bits_free j kt ka kb i k li lk ea 
       a = apart (slot_at args i) a 0 (are.others i j li in_list) ea ka;
       b = apart (slot_at args k) b 0 (are.others k j lk in_list) eb kb;
     }
+
+-- where there is one argument, it stands for both
+module _ (n : ℕ) (t a : Slot) (scratch : List Slot) where
+  twice_given : (i : ℕ) → i < length (a ∷ a ∷ []) → slot_at (a ∷ a ∷ []) i ≡ slot_at (a ∷ []) 0
+  twice_given zero lt = refl
+  twice_given (suc zero) lt = refl
+  twice_given (suc (suc i)) lt = absurd (omega arith)
+
+  twice_pieces : Pieces n t (a ∷ []) scratch → Pieces n t (a ∷ a ∷ []) scratch
+  twice_pieces are = record {
+    own = are.own;
+    holds = are.holds;
+    given = λ i li. subst (λ s. AreApart n s t) (sym (twice_given i li))
+        (are.given 0 (omega arith));
+    owned = are.owned;
+    free = are.free;
+    others = λ i j li lj. subst (λ s. AreApart n s (slot_at scratch j)) (sym (twice_given i li))
+        (are.others 0 j (omega arith) lj);
+    each = are.each;
+  }
+
+  owned_once : (q : Spot) → IsOwned n (rooms_of t (a ∷ a ∷ []) scratch) q
+      → IsOwned n (rooms_of t (a ∷ []) scratch) q
+  owned_once q o = by o.0 o.1 o.2 o.3 o.4
+    where
+      by : (k v : ℕ) → k < length (rooms_of t (a ∷ a ∷ []) scratch)
+          → v < extent n (room_at (rooms_of t (a ∷ a ∷ []) scratch) k).rows
+          → q ≡ row_in n (room_at (rooms_of t (a ∷ a ∷ []) scratch) k) v
+          → IsOwned n (rooms_of t (a ∷ []) scratch) q
+      by zero v lk lv e = (0, v, omega arith, lv, e)
+      by (suc zero) v lk lv e = (1, v, omega arith, lv, e)
+      by (suc (suc k)) v lk lv e = (suc k, v, omega (arith, lk), lv, e)
 
 -- from numbers to bits
 pub answer : (p : WordOp) (n : ℕ) (space : Space) (which : ℕ) (after : Spots) (x y : ℕ)
@@ -256,8 +288,9 @@ module _ (x0 : Space) (y0 : ℕ) (x1 : Space) (y1 : ℕ) (x2 : Space) (y2 : ℕ)
     on_bitcount = record {
       fit = refl;
       short = refl;
-      apart = λ n some are clear. rooms_apart n t (a ∷ []) (scratch_from free_bit 1) are;
-      owned = λ n q o. inl o;
+      apart = λ n some are clear. rooms_apart n t (a ∷ a ∷ []) (scratch_from free_bit 1)
+          (twice_pieces n t a (scratch_from free_bit 1) are);
+      owned = λ n q o. inl (owned_once n t a (scratch_from free_bit 1) q o);
       does = λ n some are clear before.
           (let g = bitcount_does n one (one_rows n 1 0 are clear) before in
           record {

@@ -1,116 +1,117 @@
--- Loop programs of bodies that are built.
-use Rattle.std.proofs.Common.{◌≡◌, List, [], ◌∷◌, ◌++◌, map, refl, sym, ap, ◌∙◌, subst}
-use Rattle.loop_ir.specs.declared.ir.Count.{Count}
+-- Nests and programs that grow part by part.
+use Rattle.std.proofs.Common.{◌≡◌, ℕ, zero, suc, ◌+◌, ◌<◌, List, [], ◌∷◌, ◌++◌, map, take, length}
+use Rattle.std.proofs.Common.{slice_index_or, Option, Some, None, refl, sym, ap, ◌∙◌, subst, arith}
 use Rattle.loop_ir.specs.declared.ir.Inner.{Inner}
 use Rattle.loop_ir.specs.declared.ir.Step.{Step}
-use Rattle.loop_ir.specs.Plain.{Block, InnerOf, StepOf, AllInner, AllParts, inner_of, step_of}
-use Rattle.loop_ir.specs.Plain.InnerOf.{Alone, Across}
+use Rattle.loop_ir.specs.Plain.{Block, InnerOf, StepOf, AllInner, AllParts, AllStep, inner_of}
+use Rattle.loop_ir.specs.Plain.{step_of}
 use Rattle.loop_ir.specs.Plain.StepOf.{Along, Nest}
-use Rattle.loop_ir.specs.Like.{LikeParts, no_parts, alone, across, LikeSteps, no_steps, single}
-use Rattle.loop_ir.specs.Like.{along, nest}
+use Rattle.loop_ir.specs.Plain.InnerOf.{Alone, Across}
+use Rattle.loop_laws.specs.Rooms.{Marked}
 use Rattle.loop_laws.specs.Forms.{IsMade}
-use Rattle.word_mul.specs.Bodies.{IsBuilt, PartsBuilt, StepsBuilt}
+use Rattle.word_mul.specs.declared.shapes.Owners.{Owners}
+use Rattle.word_mul.specs.declared.shapes.BodyForm.{BodyForm}
+use Rattle.word_mul.specs.declared.shapes.NestPart.{NestPart}
+use Rattle.word_mul.specs.declared.shapes.NestPart.TheVariants.{Once, Each}
+use Rattle.word_mul.specs.declared.shapes.NestedProgram.{NestedProgram}
+use Rattle.word_mul.specs.Programs.{parts_of, pass_of, row_steps}
+use Rattle.word_mul.specs.Bodies.{parts_on, steps_on, body_on}
 
-pub none_built : PartsBuilt [] []
-none_built = record { same = refl; like = no_parts; made = tt }
+map_last : {A B : Type 0} (f : A → B) (xs : List A) (x : A)
+    → map f (xs ++ x ∷ []) ≡ map f xs ++ f x ∷ []
+map_last f [] x = refl
+map_last f (y ∷ ys) x = ap (λ l. f y ∷ l) (map_last f ys x)
 
-pub once_built : (b a : Block) (ps qs : List (InnerOf Block)) → IsBuilt b a → PartsBuilt ps qs
-    → PartsBuilt (Alone b ∷ ps) (Alone a ∷ qs)
-once_built b a ps qs h more = record {
-  same = ap (λ x. Alone x ∷ ps) h.same ∙ ap (λ l. Alone a ∷ l) more.same;
-  like = alone h.like more.like;
-  made = (h.made, more.made);
-}
+append_over : {A : Type 0} (xs ys zs : List A) → xs ++ (ys ++ zs) ≡ (xs ++ ys) ++ zs
+append_over [] ys zs = refl
+append_over (x ∷ xs) ys zs = ap (λ l. x ∷ l) (append_over xs ys zs)
 
-pub each_built : (c : Count) (b a : Block) (ps qs : List (InnerOf Block)) → IsBuilt b a
-    → PartsBuilt ps qs → PartsBuilt (Across c b ∷ ps) (Across c a ∷ qs)
-each_built c b a ps qs h more = record {
-  same = ap (λ x. Across c x ∷ ps) h.same ∙ ap (λ l. Across c a ∷ l) more.same;
-  like = across h.like more.like;
-  made = (h.made, more.made);
-}
-
-pub end_built : StepsBuilt [] []
-end_built = record { same = refl; like = no_steps; made = tt }
-
-pub along_built : (b a : Block) (ss ts : List (StepOf Block)) → IsBuilt b a → StepsBuilt ss ts
-    → StepsBuilt (Along b ∷ ss) (Along a ∷ ts)
-along_built b a ss ts h more = record {
-  same = ap (λ x. Along x ∷ ss) h.same ∙ ap (λ l. Along a ∷ l) more.same;
-  like = along h.like more.like;
-  made = (h.made, more.made);
-}
-
-pub nest_built : (ps qs : List (InnerOf Block)) (ss ts : List (StepOf Block)) → PartsBuilt ps qs
-    → StepsBuilt ss ts → StepsBuilt (Nest ps ∷ ss) (Nest qs ∷ ts)
-nest_built ps qs ss ts h more = record {
-  same = ap (λ x. Nest x ∷ ss) h.same ∙ ap (λ l. Nest qs ∷ l) more.same;
-  like = nest h.like more.like;
-  made = (h.made, more.made);
-}
-
-like_more : {ps qs : List (InnerOf Block)} → LikeParts ps qs → (rs ss : List (InnerOf Block))
-    → LikeParts rs ss → LikeParts (ps ++ rs) (qs ++ ss)
-like_more no_parts rs ss h = h
-like_more (alone b more) rs ss h = alone b (like_more more rs ss h)
-like_more (across b more) rs ss h = across b (like_more more rs ss h)
-
-made_more : (ps rs : List (InnerOf Block)) → AllInner IsMade ps → AllInner IsMade rs
-    → AllInner IsMade (ps ++ rs)
-made_more [] rs h g = g
-made_more (Alone b ∷ ps) rs h g = (h.0, made_more ps rs h.1 g)
-made_more (Across c b ∷ ps) rs h g = (h.0, made_more ps rs h.1 g)
-
-map_more : (ps : List Inner) (p : Inner) → map inner_of (ps ++ p ∷ []) ≡ map inner_of ps
-    ++ inner_of p ∷ []
-map_more [] p = refl
-map_more (x ∷ ps) p = ap (λ r. inner_of x ∷ r) (map_more ps p)
+pub none_more : {A : Type 0} (xs : List A) → xs ≡ xs ++ []
+none_more [] = refl
+none_more (x ∷ xs) = ap (λ l. x ∷ l) (none_more xs)
 
 -- one part more
-pub more_built : (ps : List Inner) (p : Inner) (all : List Inner) (qs ss : List (InnerOf Block))
-    → all ≡ ps ++ p ∷ [] → PartsBuilt (map inner_of ps) qs → PartsBuilt (inner_of p ∷ []) ss
-    → PartsBuilt (map inner_of all) (qs ++ ss)
-more_built ps p all qs ss e h g =
-    subst (λ rs. PartsBuilt rs (qs ++ ss)) (sym (ap (map inner_of) e ∙ map_more ps p))
-    record {
-      same = ap (λ l. l ++ inner_of p ∷ []) h.same ∙ ap (λ l. qs ++ l) g.same;
-      like = like_more h.like (inner_of p ∷ []) ss g.like;
-      made = made_more (map inner_of ps) (inner_of p ∷ []) h.made g.made;
-    }
+pub parts_push : (parts new : List Inner) (p : Inner) (us : List (InnerOf Block))
+    → new ≡ parts ++ p ∷ [] → inner_of p ∷ [] ≡ us
+    → map inner_of new ≡ map inner_of parts ++ us
+parts_push parts new p us e g = ap (map inner_of) e ∙ map_last inner_of parts p
+    ∙ ap (λ l. map inner_of parts ++ l) g
 
-like_steps_more : {ss ts : List (StepOf Block)} → LikeSteps ss ts → (us vs : List (StepOf Block))
-    → LikeSteps us vs → LikeSteps (ss ++ us) (ts ++ vs)
-like_steps_more no_steps us vs h = h
-like_steps_more (single b more) us vs h = single b (like_steps_more more us vs h)
-like_steps_more (along b more) us vs h = along b (like_steps_more more us vs h)
-like_steps_more (nest b more) us vs h = nest b (like_steps_more more us vs h)
+inner_last : (ps : List (InnerOf Block)) (p : InnerOf Block) → AllInner IsMade ps
+    → AllInner IsMade (p ∷ []) → AllInner IsMade (ps ++ p ∷ [])
+inner_last [] p all h = h
+inner_last (Alone b ∷ ps) p all h = (all.0, inner_last ps p all.1 h)
+inner_last (Across c b ∷ ps) p all h = (all.0, inner_last ps p all.1 h)
 
-made_steps_more : (ss us : List (StepOf Block)) → AllParts IsMade ss → AllParts IsMade us
-    → AllParts IsMade (ss ++ us)
-made_steps_more [] us h g = g
-made_steps_more (s ∷ ss) us h g = (h.0, made_steps_more ss us h.1 g)
-
-map_step_more : (ss : List Step) (s : Step) → map step_of (ss ++ s ∷ []) ≡ map step_of ss
-    ++ step_of s ∷ []
-map_step_more [] s = refl
-map_step_more (x ∷ ss) s = ap (λ r. step_of x ∷ r) (map_step_more ss s)
+pub made_part : (parts new : List Inner) (p : Inner) → new ≡ parts ++ p ∷ []
+    → AllInner IsMade (map inner_of parts) → AllInner IsMade (inner_of p ∷ [])
+    → AllInner IsMade (map inner_of new)
+made_part parts new p e all h = subst (AllInner IsMade) (sym (ap (map inner_of) e
+    ∙ map_last inner_of parts p)) (inner_last (map inner_of parts) (inner_of p) all h)
 
 -- one step more
-pub step_built : (ss : List Step) (s : Step) (all : List Step) (ts us : List (StepOf Block))
-    → all ≡ ss ++ s ∷ [] → StepsBuilt (map step_of ss) ts → StepsBuilt (step_of s ∷ []) us
-    → StepsBuilt (map step_of all) (ts ++ us)
-step_built ss s all ts us e h g =
-    subst (λ rs. StepsBuilt rs (ts ++ us)) (sym (ap (map step_of) e ∙ map_step_more ss s))
-    record {
-      same = ap (λ l. l ++ step_of s ∷ []) h.same ∙ ap (λ l. ts ++ l) g.same;
-      like = like_steps_more h.like (step_of s ∷ []) us g.like;
-      made = made_steps_more (map step_of ss) (step_of s ∷ []) h.made g.made;
-    }
+pub steps_push : (steps new : List Step) (s : Step) (us : List (StepOf Block))
+    → new ≡ steps ++ s ∷ [] → step_of s ∷ [] ≡ us
+    → map step_of new ≡ map step_of steps ++ us
+steps_push steps new s us e g = ap (map step_of) e ∙ map_last step_of steps s
+    ∙ ap (λ l. map step_of steps ++ l) g
 
-pub parts_as : (all ps : List Inner) (qs : List (InnerOf Block)) → all ≡ ps
-    → PartsBuilt (map inner_of ps) qs → PartsBuilt (map inner_of all) qs
-parts_as all ps qs e h = subst (λ r. PartsBuilt (map inner_of r) qs) (sym e) h
+step_last : (ss : List (StepOf Block)) (s : StepOf Block) → AllParts IsMade ss → AllStep IsMade s
+    → AllParts IsMade (ss ++ s ∷ [])
+step_last [] s all h = (h, tt)
+step_last (x ∷ xs) s all h = (all.0, step_last xs s all.1 h)
 
-pub steps_as : (all ss : List Step) (ts : List (StepOf Block)) → all ≡ ss
-    → StepsBuilt (map step_of ss) ts → StepsBuilt (map step_of all) ts
-steps_as all ss ts e h = subst (λ r. StepsBuilt (map step_of r) ts) (sym e) h
+pub made_step : (steps new : List Step) (s : Step) → new ≡ steps ++ s ∷ []
+    → AllParts IsMade (map step_of steps) → AllStep IsMade (step_of s)
+    → AllParts IsMade (map step_of new)
+made_step steps new s e all h = subst (AllParts IsMade) (sym (ap (map step_of) e
+    ∙ map_last step_of steps s)) (step_last (map step_of steps) (step_of s) all h)
+
+-- the parts of a list, from its first one on
+one_more : (o : Owners) (p : Option NestPart) (ps : List (Option NestPart))
+    → parts_on o (parts_of (p ∷ ps)) ≡ parts_on o (parts_of (p ∷ [])) ++ parts_on o (parts_of ps)
+one_more o None ps = refl
+one_more o (Some (Once f)) ps = refl
+one_more o (Some (Each c f)) ps = refl
+
+pub parts_more : (o : Owners) (list : List (Option NestPart)) (i : ℕ) (d : Option NestPart)
+    → i < length list → parts_on o (parts_of (take (i + 1) list))
+    ≡ parts_on o (parts_of (take i list)) ++ parts_on o (parts_of (slice_index_or list i d ∷ []))
+parts_more o [] i d lt = absurd (omega arith)
+parts_more o (p ∷ ps) zero d lt = refl
+parts_more o (p ∷ ps) (suc i) d lt =
+    let e : suc i + 1 ≡ suc (i + 1) = omega arith in
+    ap (λ n. parts_on o (parts_of (take n (p ∷ ps)))) e
+    ∙ one_more o p (take (i + 1) ps)
+    ∙ ap (λ x. parts_on o (parts_of (p ∷ [])) ++ x) (parts_more o ps i d (omega arith))
+    ∙ append_over (parts_on o (parts_of (p ∷ []))) (parts_on o (parts_of (take i ps)))
+    (parts_on o (parts_of (slice_index_or ps i d ∷ [])))
+    ∙ ap (λ x. x ++ parts_on o (parts_of (slice_index_or ps i d ∷ [])))
+    (sym (one_more o p (take i ps)))
+
+pub parts_over : (o : Owners) (ps qs : List (InnerOf Marked))
+    → parts_on o (ps ++ qs) ≡ parts_on o ps ++ parts_on o qs
+parts_over o [] qs = refl
+parts_over o (Alone b ∷ ps) qs = ap (λ l. Alone (body_on o b) ∷ l) (parts_over o ps qs)
+parts_over o (Across c b ∷ ps) qs = ap (λ l. Across c (body_on o b) ∷ l) (parts_over o ps qs)
+
+-- the steps of a row, one after another
+joined : (o : Owners) (first : BodyForm) (second after : Option BodyForm)
+    (nest : List (InnerOf Marked)) → ((([] ++ steps_on o (pass_of (Some first)))
+    ++ steps_on o (pass_of second)) ++ steps_on o (Nest nest ∷ [])) ++ steps_on o (pass_of after)
+    ≡ steps_on o (pass_of (Some first) ++ (pass_of second ++ Nest nest ∷ pass_of after))
+joined o first None None nest = refl
+joined o first None (Some g) nest = refl
+joined o first (Some f) None nest = refl
+joined o first (Some f) (Some g) nest = refl
+
+pub whole : (o : Owners) (r : NestedProgram) (a b c d : List (StepOf Block))
+    → a ≡ [] ++ steps_on o (pass_of (Some r.first)) → b ≡ a ++ steps_on o (pass_of r.second)
+    → c ≡ b ++ steps_on o (Nest (parts_of r.parts ++ parts_of (r.last ∷ [])) ∷ [])
+    → d ≡ c ++ steps_on o (pass_of r.after) → d ≡ steps_on o (row_steps r)
+whole o r a b c d ea eb ec ed =
+    let nest = parts_of r.parts ++ parts_of (r.last ∷ []) in
+    ed ∙ ap (λ l. l ++ steps_on o (pass_of r.after)) (ec
+    ∙ ap (λ l. l ++ steps_on o (Nest nest ∷ [])) (eb
+    ∙ ap (λ l. l ++ steps_on o (pass_of r.second)) ea))
+    ∙ joined o r.first r.second r.after nest

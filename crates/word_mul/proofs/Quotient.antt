@@ -26,10 +26,10 @@ use Rattle.word_lower.specs.Programs.{target, first, third, plain, off, constant
 use Rattle.word_lower.proofs.Setting.{bit, number, row, number_at}
 use Rattle.word_lower.proofs.Passes.{word_loop, upwards}
 use Rattle.word_lower.proofs.Sums.{value_same, value_below, value_false, value_low}
-use Rattle.word_mul.specs.Programs.{fifth, sixth}
 use Rattle.word_mul.specs.declared.rows.Rows.{Rows}
 use Rattle.word_mul.specs.Places.{rooms_for, steps_for, scratch_word}
-use Rattle.word_mul.proofs.Setting.{AreRows, IsSecond, IsElsewhere, Gives, Divided, DoesNested}
+use Rattle.word_mul.proofs.Setting.{fifth, sixth, AreRows, IsSecond, IsElsewhere, Gives, Divided}
+use Rattle.word_mul.proofs.Setting.{DoesNested}
 use Rattle.word_mul.proofs.Divide.{w, gp, gf, cf, core, IsOther, w_moves, Stepped, step}
 
 -- what is left of the rows without a borrow is the whole difference

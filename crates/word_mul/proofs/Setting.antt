@@ -3,13 +3,26 @@ use Rattle.std.proofs.Common.{◌≡◌, ℕ, ◌+◌, ◌*◌, ◌<◌, sym, ap
 use Rattle.op_text.specs.declared.word_ops.WordOp.{WordOp}
 use Rattle.op_text.specs.declared.word_ops.WordOp.TheVariants as o
 use Rattle.op_text.specs.Values.{of_one, of_two}
+use Rattle.loop_ir.specs.declared.ir.Sub.{Sub}
 use Rattle.loop_ir.specs.declared.names.Slot.{Slot}
 use Rattle.loop_ir.specs.Loops.{all_rounds}
 use Rattle.loop_ir.specs.Spots.{Spot, Spots, after_rounds, IsOwn}
+use Rattle.loop_laws.specs.Rooms.{Mark}
 use Rattle.word_lower.specs.Places.{scratch_bit}
+use Rattle.word_lower.specs.Programs.{on}
 use Rattle.word_lower.proofs.Setting.{row, number_at, SlotsApart, Moves}
 use Rattle.word_mul.specs.declared.rows.Rows.{Rows}
 use Rattle.word_mul.specs.Places.{scratch_word, steps_for}
+
+-- the second bit of scratch, the words of scratch, and a second target
+abbrev pub fourth : Sub → Mark
+fourth s = on 4 s
+
+abbrev pub fifth : Sub → Mark
+fifth s = on 5 s
+
+abbrev pub sixth : Sub → Mark
+sixth s = on 6 s
 
 -- the operation's value from two numbers, of which it takes the first ones
 abbrev pub operation : WordOp → ℕ → ℕ → ℕ → ℕ

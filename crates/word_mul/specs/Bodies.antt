@@ -1,37 +1,65 @@
--- Bodies that are built.
-use Rattle.std.specs.Prelude.{◌≡◌, List, length}
-use Rattle.mig_graph.specs.declared.Lit.{Lit}
-use Rattle.mig_graph.specs.declared.Node.{Node}
-use Rattle.loop_ir.specs.declared.ir.Sub.{Sub}
+-- Bodies and loop programs at the places of their owners.
+use Rattle.std.specs.Prelude.{◌≡◌, ℕ, zero, suc, List, map}
 use Rattle.loop_ir.specs.declared.ir.Place.{Place}
 use Rattle.loop_ir.specs.declared.names.Slot.{Slot}
-use Rattle.loop_ir.specs.Plain.{Block, InnerOf, StepOf, AllInner, AllParts}
-use Rattle.loop_ir.specs.Like.{IsLike, LikeParts, LikeSteps}
+use Rattle.loop_ir.specs.Plain.{Block, InnerOf, StepOf, AllParts, inner_map, step_map}
+use Rattle.loop_ir.specs.Like.{LikeSteps}
 use Rattle.loop_laws.specs.Forms.{IsMade}
+use Rattle.loop_laws.specs.Rooms as rooms
+use Rattle.loop_laws.specs.Rooms.{Marked}
+use Rattle.word_lower.specs.Places.{scratch_bit}
+use Rattle.word_mul.specs.declared.rows.Rows.{Rows}
+use Rattle.word_mul.specs.declared.shapes.Mark.{Mark}
+use Rattle.word_mul.specs.declared.shapes.Owners.{Owners}
+use Rattle.word_mul.specs.Places.{scratch_word}
+use Rattle.word_mul.specs.Programs.{mark_of}
 
-abbrev pub place_at : Slot → Sub → Place
-place_at s u = record { space = s.space; which = s.which; sub = u }
-
--- a body in which each read is an input
-abbrev pub over : List Place → List Node → List Lit → List Place → Block
-over reads nodes outs writes = record {
-  reads = reads;
-  graph = record { inputs = length reads; nodes = nodes };
-  outs = outs;
-  writes = writes;
+-- the places of a statement's names and of its internal scratch, of which the second bit is this
+abbrev pub owners_of : Rows → Slot → Owners
+owners_of m second_bit = record {
+  target = m.target;
+  first = m.a;
+  second = m.b;
+  first_bit = scratch_bit m.free_bit;
+  second_bit = second_bit;
+  words = scratch_word m.free_word;
+  second_target = m.second;
 }
 
--- the other itself, with a graph such as `Mig` makes
-pub record IsBuilt (b a : Block) : Type 0 where
-  pub same : b ≡ a
-  pub like : IsLike b a
-  pub made : IsMade b
+abbrev pub owner_at : Owners → ℕ → Slot
+owner_at o zero = o.target
+owner_at o (suc zero) = o.first
+owner_at o (suc (suc zero)) = o.second
+owner_at o (suc (suc (suc zero))) = o.first_bit
+owner_at o (suc (suc (suc (suc zero)))) = o.second_bit
+owner_at o (suc (suc (suc (suc (suc zero))))) = o.words
+owner_at o (suc (suc (suc (suc (suc (suc k)))))) = o.second_target
 
-pub record PartsBuilt (ps qs : List (InnerOf Block)) : Type 0 where
-  pub same : ps ≡ qs
-  pub like : LikeParts ps qs
-  pub made : AllInner IsMade ps
+abbrev pub place_on : Owners → rooms.Mark → Place
+place_on o m = let s = owner_at o m.owner in record {
+  space = s.space;
+  which = s.which;
+  sub = m.sub;
+}
 
+abbrev pub marks : List Mark → List rooms.Mark
+marks ms = map mark_of ms
+
+abbrev pub body_on : Owners → Marked → Block
+body_on o b = record {
+  reads = map (place_on o) b.reads;
+  graph = b.graph;
+  outs = b.outs;
+  writes = map (place_on o) b.writes;
+}
+
+abbrev pub parts_on : Owners → List (InnerOf Marked) → List (InnerOf Block)
+parts_on o parts = map (inner_map (body_on o)) parts
+
+abbrev pub steps_on : Owners → List (StepOf Marked) → List (StepOf Block)
+steps_on o steps = map (step_map (body_on o)) steps
+
+-- the others themselves, with graphs such as `Mig` makes
 pub record StepsBuilt (ss ts : List (StepOf Block)) : Type 0 where
   pub same : ss ≡ ts
   pub like : LikeSteps ss ts

@@ -1,12 +1,12 @@
--- The rooms of such a statement: as any word statement's, two words of internal scratch as one
--- room,
--- and a second target.
-use Rattle.std.specs.Prelude.{◌≡◌, ℕ, zero, suc, true, List, [], ◌∷◌, ◌++◌, length, nat_lt, Some}
-use Rattle.std.specs.Prelude.{Option, unwrap_or, if◌then◌else◌}
+-- The rooms of such a statement: as any word statement's, with a lone argument for both, two words
+-- of internal scratch as one room, and a second target.
+use Rattle.std.specs.Prelude.{◌≡◌, ℕ, zero, suc, true, List, [], ◌∷◌, ◌++◌, length, nat_lt, Option}
+use Rattle.std.specs.Prelude.{Some, None, unwrap_or, if◌then◌else◌}
 use Rattle.std.specs.Option.{option_to_list}
+use Rattle.op_text.specs.declared.tree.Kind.{Kind}
 use Rattle.op_text.specs.declared.tree.Kind.TheVariants.{Word}
 use Rattle.op_text.specs.declared.word_ops.WordOp.{WordOp}
-use Rattle.op_text.specs.declared.word_ops.WordOp.TheVariants as o
+use Rattle.op_text.specs.WordOps.{second_kind}
 use Rattle.op_text.specs.Language.{Statement, Compute, Visit}
 use Rattle.op_text.specs.Scratch.{bits_inside, words_inside}
 use Rattle.loop_ir.specs.declared.ir.Space.TheVariants.{ScratchWord}
@@ -31,19 +31,14 @@ double_words free (suc words) = record {
   written = true;
 } ∷ []
 
--- bitcount has one argument
-abbrev pub args_of : WordOp → Rows → List Slot
-args_of o.Bitcount m = m.a ∷ []
-args_of p m = m.a ∷ m.b ∷ []
-
--- divmod has a second target
-abbrev pub second_rooms : WordOp → Rows → List Room
-second_rooms o.Divmod m = room_of true m.second ∷ []
-second_rooms p m = []
+-- a second target, where the operation has a second result
+abbrev pub second_rooms : Option Kind → Slot → List Room
+second_rooms None s = []
+second_rooms (Some k) s = room_of true s ∷ []
 
 abbrev pub rooms_for : WordOp → Rows → List Room
-rooms_for p m = rooms_of m.target (args_of p m) (scratch_from m.free_bit (bits_inside p))
-    ++ (double_words m.free_word (words_inside p) ++ second_rooms p m)
+rooms_for p m = rooms_of m.target (m.a ∷ m.b ∷ []) (scratch_from m.free_bit (bits_inside p))
+    ++ (double_words m.free_word (words_inside p) ++ second_rooms (second_kind p) m.second)
 
 abbrev pub steps_for : WordOp → Rows → List (StepOf Block)
 steps_for p m = placed_steps (rooms_for p m) (nested p)

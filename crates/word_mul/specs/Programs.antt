@@ -1,31 +1,30 @@
 -- The loop programs of the word operations that take a pass over a word for each position.
-use Rattle.std.specs.Prelude.{ℕ, ◌+◌, ◌*◌, ◌^◌, Bool, true, false, List, [], ◌∷◌, ◌++◌}
+use Rattle.std.specs.Prelude.{ℕ, ◌+◌, ◌*◌, ◌^◌, ◌==◌, Bool, true, false, if◌then◌else◌}
+use Rattle.std.specs.Prelude.{List, [], ◌∷◌, ◌++◌, Option, Some, None}
 use Rattle.mig_graph.specs.declared.Node.{Node}
 use Rattle.mig_graph.specs.Literals.{node_of}
 use Rattle.op_text.specs.declared.word_ops.WordOp.{WordOp}
 use Rattle.op_text.specs.declared.word_ops.WordOp.TheVariants as o
+use Rattle.op_text.specs.WordOps.{number}
 use Rattle.op_text.specs.Language.{Statement, Compute, Visit}
-use Rattle.loop_ir.specs.declared.ir.Sub.{Sub}
-use Rattle.loop_ir.specs.declared.ir.Sub.TheVariants as sub
-use Rattle.loop_ir.specs.declared.ir.Count.TheVariants.{All, Rest}
 use Rattle.loop_ir.specs.Plain.{InnerOf, StepOf}
 use Rattle.loop_ir.specs.Plain.InnerOf.{Alone, Across}
 use Rattle.loop_ir.specs.Plain.StepOf.{Along, Nest}
 use Rattle.loop_laws.specs.Rooms.{Mark, Marked}
-use Rattle.word_lower.specs.Programs.{on, target, first, second, third, plain, complemented, off}
-use Rattle.word_lower.specs.Programs.{up}
-use Rattle.word_lower.specs.Programs.{template, constant, moved, inverted, joined, compared}
-
--- Owners of places: the target, then the arguments, then the bits of scratch, then the words of
--- scratch, then a second target
-abbrev pub fourth : Sub → Mark
-fourth s = on 4 s
-
-abbrev pub fifth : Sub → Mark
-fifth s = on 5 s
-
-abbrev pub sixth : Sub → Mark
-sixth s = on 6 s
+use Rattle.word_lower.specs.Programs.{on, plain, complemented, off, up, template, constant, moved}
+use Rattle.word_lower.specs.Programs.{inverted, joined, compared}
+use Rattle.word_mul.specs.declared.shapes.Owner.{Owner}
+use Rattle.word_mul.specs.declared.shapes.Owner.TheVariants.{Target, First, Second, FirstBit}
+use Rattle.word_mul.specs.declared.shapes.Owner.TheVariants.{SecondBit, Words, SecondTarget}
+use Rattle.word_mul.specs.declared.shapes.Mark as code
+use Rattle.word_mul.specs.declared.shapes.BodyForm.{BodyForm}
+use Rattle.word_mul.specs.declared.shapes.BodyForm.TheVariants.{Off, On, Moved, Inverted, Either}
+use Rattle.word_mul.specs.declared.shapes.BodyForm.TheVariants.{Compared, Multiplied, Counted}
+use Rattle.word_mul.specs.declared.shapes.BodyForm.TheVariants.{Divided}
+use Rattle.word_mul.specs.declared.shapes.NestPart.{NestPart}
+use Rattle.word_mul.specs.declared.shapes.NestPart.TheVariants.{Once, Each}
+use Rattle.word_mul.specs.declared.shapes.NestedProgram.{NestedProgram}
+use Rattle.word_mul.specs.declared.table.TheConstants.{NESTED, DIVISION}
 
 -- y, the bit of a product and a carry, into y
 abbrev pub multiplied_nodes : List Node
@@ -54,50 +53,77 @@ divided_nodes = node_of off (plain 2) (plain 3) ∷ node_of (complemented 1) (pl
 abbrev pub divided : Mark → Mark → Mark → Mark → Marked
 divided w y g c = template (w ∷ y ∷ g ∷ c ∷ []) divided_nodes (plain 8 ∷ plain 6 ∷ []) (w ∷ c ∷ [])
 
+-- Whose rows a place of the table has, by its number: the target's, then the arguments', then those
+-- of the bits of scratch, then of its words, then a second target's
+abbrev pub number_of : Owner → ℕ
+number_of Target = 0
+number_of First = 1
+number_of Second = 2
+number_of FirstBit = 3
+number_of SecondBit = 4
+number_of Words = 5
+number_of SecondTarget = 6
+
+abbrev pub mark_of : code.Mark → Mark
+mark_of m = on (number_of m.owner) m.sub
+
+-- the body that a form of the table stands for
+abbrev pub form_body : BodyForm → Marked
+form_body (Off z) = constant off (mark_of z)
+form_body (On z) = constant up (mark_of z)
+form_body (Moved x z) = moved (mark_of x) (mark_of z)
+form_body (Inverted x z) = inverted (mark_of x) (mark_of z)
+form_body (Either x y z) = joined up (mark_of x) (mark_of y) (mark_of z)
+form_body (Compared x y g) = compared (mark_of x) (mark_of y) (mark_of g)
+form_body (Multiplied y a b c) = multiplied (mark_of y) (mark_of a) (mark_of b) (mark_of c)
+form_body (Counted y c) = counted (mark_of y) (mark_of c)
+form_body (Divided w y g c) = divided (mark_of w) (mark_of y) (mark_of g) (mark_of c)
+
+-- the parts that there are
+abbrev pub parts_of : List (Option NestPart) → List (InnerOf Marked)
+parts_of [] = []
+parts_of (None ∷ ps) = parts_of ps
+parts_of (Some (Once f) ∷ ps) = Alone (form_body f) ∷ parts_of ps
+parts_of (Some (Each count f) ∷ ps) = Across count (form_body f) ∷ parts_of ps
+
+-- a pass, where there is one
+abbrev pub pass_of : Option BodyForm → List (StepOf Marked)
+pass_of None = []
+pass_of (Some f) = Along (form_body f) ∷ []
+
+-- the steps of a row of the table
+abbrev pub row_steps : NestedProgram → List (StepOf Marked)
+row_steps r = Along (form_body r.first) ∷ (pass_of r.second
+    ++ Nest (parts_of r.parts ++ parts_of (r.last ∷ [])) ∷ pass_of r.after)
+
 -- One step of a long division. The window is the n + 1 rows of the dividend from the outer position
 -- down: the divisor is compared with it, and taken from it where it is not greater
 abbrev pub division : List (InnerOf Marked)
-division =
-    Alone (constant up (third sub.Zero))
-    ∷ Across All (compared (fifth sub.DownSum) (second sub.Inner) (third sub.Zero))
-    ∷ Alone (joined up (fifth sub.DownPlusN) (third sub.Zero) (third sub.Zero))
-    ∷ Alone (constant off (fourth sub.Zero))
-    ∷ Across All (divided (fifth sub.DownSum) (second sub.Inner) (third sub.Zero) (fourth sub.Zero))
-    ∷ []
+division = parts_of DIVISION
 
--- the dividend, and zeros above it
-abbrev pub dividend : List (StepOf Marked) → List (StepOf Marked)
-dividend more = Along (moved (first sub.Inner) (fifth sub.Inner))
-    ∷ Along (constant off (fifth sub.NPlusInner)) ∷ more
+-- an operation's row of the table
+abbrev pub program_in : List (WordOp × NestedProgram) → WordOp → Option NestedProgram
+program_in [] p = None
+program_in (r ∷ rows) p = if number r.0 == number p then Some r.1 else program_in rows p
 
--- each step gives a bit of the quotient
-abbrev pub quotient : List (InnerOf Marked)
-quotient = division ++ Alone (moved (third sub.Zero) (target sub.OuterDown)) ∷ []
+abbrev pub program_of : WordOp → Option NestedProgram
+program_of p = program_in NESTED p
+
+abbrev pub steps_in : Option NestedProgram → List (StepOf Marked)
+steps_in None = []
+steps_in (Some r) = row_steps r
 
 -- The loop program of an operation
 abbrev pub nested : WordOp → List (StepOf Marked)
-nested o.Mul =
-    Along (constant off (target sub.Inner))
-    ∷ Nest (Alone (constant off (third sub.Zero))
-    ∷ Across Rest (multiplied (target sub.Sum) (first sub.Inner) (second sub.Outer)
-    (third sub.Zero)) ∷ []) ∷ []
-nested o.Bitcount =
-    Along (constant off (target sub.Inner))
-    ∷ Nest (Alone (inverted (first sub.Outer) (second sub.Zero))
-    ∷ Across All (counted (target sub.Inner) (second sub.Zero)) ∷ []) ∷ []
-nested o.Div = dividend (Nest quotient ∷ [])
-nested o.Rem = dividend (Nest division ∷ Along (moved (fifth sub.Inner) (target sub.Inner)) ∷ [])
-nested o.Divmod = dividend (Nest quotient ∷ Along (moved (fifth sub.Inner) (sixth sub.Inner)) ∷ [])
-nested p = []
+nested p = steps_in (program_of p)
 
--- the operations of which this is so
+abbrev pub is_there : Option NestedProgram → Bool
+is_there None = false
+is_there (Some r) = true
+
+-- the operations that have one
 abbrev pub is_nested : WordOp → Bool
-is_nested o.Mul = true
-is_nested o.Div = true
-is_nested o.Rem = true
-is_nested o.Bitcount = true
-is_nested o.Divmod = true
-is_nested p = false
+is_nested p = is_there (program_of p)
 
 -- the statement is one of these
 abbrev pub is_nested_statement : Statement → Bool

@@ -1,26 +1,60 @@
 //! The bodies of the loop programs.
 
-ghost use Rattle.std.specs.Prelude.{◌≡◌, ◌<◌, ◌≤◌, ◌+◌, ◌++◌, ◌∷◌, [], length, IfOk, OnOk, true};
-ghost use Rattle.mig_graph.specs.Literals.{node_of};
+ghost use Rattle.std.specs.Prelude.{◌≡◌, ◌<◌, ◌≤◌, ◌+◌, length, map, IfOk, true};
 ghost use Rattle.loop_ir.specs.Plain.{block_of};
-ghost use Rattle.word_lower.specs.Programs.{plain, complemented, up};
-ghost use Rattle.word_mul.specs.Programs.{multiplied_nodes, counted_nodes, divided_nodes};
+ghost use Rattle.loop_laws.specs.Forms.{IsMade};
+ghost use Rattle.word_lower.specs.Programs.{template};
 ghost use Rattle.word_lower.specs.Shapes.{are_own, are_below};
-ghost use Rattle.word_mul.specs.Bodies.{over, IsBuilt};
+ghost use Rattle.word_mul.specs.Programs.{mark_of, form_body};
+ghost use Rattle.word_mul.specs.Bodies.{marks, place_on, body_on};
 
-use crate::templates::{COUNTED, DIVIDED, MULTIPLIED};
+use crate::shapes::{BodyForm, Mark, Owner, Owners};
+use crate::templates::{COMPARED, COUNTED, DIVIDED, EITHER, MULTIPLIED};
 use loop_ir::{Body, Place};
 use mig_graph::{Lit, NoMemory, Node};
+use no_memory::keep;
 use std::alloc::Global;
-use word_lower::literals::{N1, N2, ON, P1, P2, P3, P4, P5, P6, P7, P8};
+use word_lower::literals::{N1, OFF, ON, P1, P3, P4, P5, P6, P7, P8};
 use word_lower::made;
+
+/// The place of a mark.
+fn place(mark: Mark, owners: Owners) -> Place
+    ensures { result ≡ place_on owners (mark_of mark) }
+{
+    let slot = match mark.owner {
+        Owner::Target => owners.target,
+        Owner::First => owners.first,
+        Owner::Second => owners.second,
+        Owner::FirstBit => owners.first_bit,
+        Owner::SecondBit => owners.second_bit,
+        Owner::Words => owners.words,
+        Owner::SecondTarget => owners.second_target,
+    };
+    Place {
+        space: slot.space,
+        which: slot.which,
+        sub: mark.sub,
+    }
+}
+
+/// The places of marks.
+fn places(marks: &[Mark], owners: Owners, alloc: Global) -> Result<Vec<Place>, NoMemory>
+    ensures { IfOk result (λ v. v.items ≡ map (λ m. place_on owners (mark_of m)) marks.now) }
+{
+    let mut all = Vec::new(alloc);
+    for mark in marks {
+        keep(&mut all, place(*mark, owners))?;
+    }
+    Ok(all)
+}
 
 /// A body with such nodes over its reads, and such outputs.
 fn templated(
-    reads: &[Place],
+    reads: &[Mark],
     nodes: &[Node],
     outs: &[Lit],
-    writes: &[Place],
+    writes: &[Mark],
+    owners: Owners,
     alloc: Global,
 ) -> Result<Body, NoMemory>
     requires reads { length reads.now ≤ 4 }
@@ -28,96 +62,46 @@ fn templated(
     requires outs { 0 < length outs.now }
     requires own { are_own (length reads.now + 1) nodes.now ≡ true }
     requires named { are_below (length reads.now + 1 + length nodes.now) outs.now ≡ true }
-    ensures { IfOk result (λ b.
-        IsBuilt (block_of b) (over reads.now nodes.now outs.now writes.now)) }
+    ensures same { IfOk result (λ b. block_of b
+        ≡ body_on owners (template (marks reads.now) nodes.now outs.now (marks writes.now))) }
+    ensures made { IfOk result (λ b. IsMade (block_of b)) }
 {
     Ok(Body {
-        reads: reads.to_vec(alloc)?,
+        reads: places(reads, owners, alloc)?,
         graph: made(reads.len() as u8, nodes, outs, alloc)?,
-        writes: writes.to_vec(alloc)?,
+        writes: places(writes, owners, alloc)?,
     })
 }
 
-/// A row gets a constant.
-pub fn constant(l: Lit, z: Place, alloc: Global) -> Result<Body, NoMemory>
-    requires { l.node ≡ 0 }
-    ensures { IfOk result (λ b. IsBuilt (block_of b) (over [] [] (l ∷ []) (z ∷ []))) }
+/// The body of a form.
+pub fn body(form: BodyForm, owners: Owners, alloc: Global) -> Result<Body, NoMemory>
+    ensures same { IfOk result (λ b. block_of b ≡ body_on owners (form_body form)) }
+    ensures made { IfOk result (λ b. IsMade (block_of b)) }
 {
-    templated(&[], &[], &[l], &[z], alloc)
-}
-
-/// A row gets what another has.
-pub fn moved(x: Place, z: Place, alloc: Global) -> Result<Body, NoMemory>
-    ensures { IfOk result (λ b. IsBuilt (block_of b) (over (x ∷ []) [] (plain 1 ∷ []) (z ∷ []))) }
-{
-    templated(&[x], &[], &[P1], &[z], alloc)
-}
-
-/// A row gets the complement of what another has.
-pub fn inverted(x: Place, z: Place, alloc: Global) -> Result<Body, NoMemory>
-    ensures { IfOk result (λ b. IsBuilt (block_of b) (over (x ∷ []) [] (complemented 1 ∷ []) (z
-        ∷ []))) }
-{
-    templated(&[x], &[], &[N1], &[z], alloc)
-}
-
-/// A state is set where a row is.
-pub fn raised(x: Place, g: Place, alloc: Global) -> Result<Body, NoMemory>
-    ensures { IfOk result (λ b. IsBuilt (block_of b)
-        (over (x ∷ g ∷ []) (node_of up (plain 1) (plain 2) ∷ []) (plain 3 ∷ []) (g ∷ []))) }
-{
-    templated(
-        &[x, g],
-        &[Node {
-            a: ON,
-            b: P1,
-            c: P2,
-        }],
-        &[P3],
-        &[g],
-        alloc,
-    )
-}
-
-/// A state is whether what was read of x is over what was read of y.
-pub fn compared(x: Place, y: Place, g: Place, alloc: Global) -> Result<Body, NoMemory>
-    ensures { IfOk result (λ b. IsBuilt (block_of b)
-        (over (x ∷ y ∷ g ∷ []) (node_of (plain 1) (complemented 2) (plain 3) ∷ []) (plain 4 ∷ []) (g
-        ∷ []))) }
-{
-    templated(
-        &[x, y, g],
-        &[Node {
-            a: P1,
-            b: N2,
-            c: P3,
-        }],
-        &[P4],
-        &[g],
-        alloc,
-    )
-}
-
-/// The bit of a product is added, with a carry.
-pub fn multiplied(y: Place, a: Place, b: Place, c: Place, alloc: Global) -> Result<Body, NoMemory>
-    ensures { IfOk result (λ r. IsBuilt (block_of r)
-        (over (y ∷ a ∷ b ∷ c ∷ []) multiplied_nodes (plain 8 ∷ plain 7 ∷ []) (y ∷ c ∷ []))) }
-{
-    templated(&[y, a, b, c], &MULTIPLIED, &[P8, P7], &[y, c], alloc)
-}
-
-/// A carry is added, which is held inverted.
-pub fn counted(y: Place, c: Place, alloc: Global) -> Result<Body, NoMemory>
-    ensures { IfOk result (λ b. IsBuilt (block_of b)
-        (over (y ∷ c ∷ []) counted_nodes (plain 5 ∷ plain 3 ∷ []) (y ∷ c ∷ []))) }
-{
-    templated(&[y, c], &COUNTED, &[P5, P3], &[y, c], alloc)
-}
-
-/// What y has is taken away where g is set, with a borrow.
-pub fn divided(w: Place, y: Place, g: Place, c: Place, alloc: Global) -> Result<Body, NoMemory>
-    ensures { IfOk result (λ b. IsBuilt (block_of b)
-        (over (w ∷ y ∷ g ∷ c ∷ []) divided_nodes (plain 8 ∷ plain 6 ∷ []) (w ∷ c ∷ []))) }
-{
-    templated(&[w, y, g, c], &DIVIDED, &[P8, P6], &[w, c], alloc)
+    let (o, a) = (owners, alloc);
+    match form {
+        BodyForm::Off(z) => templated(&[], &[], &[OFF], &[z], o, a),
+        BodyForm::On(z) => templated(&[], &[], &[ON], &[z], o, a),
+        BodyForm::Moved(x, z) => templated(&[x], &[], &[P1], &[z], o, a),
+        BodyForm::Inverted(x, z) => templated(&[x], &[], &[N1], &[z], o, a),
+        BodyForm::Either(x, y, z) => templated(&[x, y], &EITHER, &[P3], &[z], o, a),
+        BodyForm::Compared(x, y, g) => templated(&[x, y, g], &COMPARED, &[P4], &[g], o, a),
+        BodyForm::Multiplied(y, x, g, c) => templated(
+            &[y, x, g, c],
+            &MULTIPLIED,
+            &[P8, P7],
+            &[y, c],
+            o,
+            a,
+        ),
+        BodyForm::Counted(y, c) => templated(&[y, c], &COUNTED, &[P5, P3], &[y, c], o, a),
+        BodyForm::Divided(w, y, g, c) => templated(
+            &[w, y, g, c],
+            &DIVIDED,
+            &[P8, P6],
+            &[w, c],
+            o,
+            a,
+        ),
+    }
 }

@@ -5,6 +5,8 @@ mod bodies;
 mod lower;
 mod programs;
 mod rows;
+mod shapes;
+mod table;
 mod templates;
 
 pub use lower::lower_nested;

@@ -17,8 +17,9 @@ ghost use Rattle.word_mul.specs.Places.{rows_on, steps_for, IsNestWritten};
 ghost use Rattle.word_mul.specs.Programs.{is_nested, is_nested_statement, statement_total};
 ghost use Rattle.word_mul.specs.Bodies.{StepsBuilt};
 
-use crate::programs::{both, ones, product, quotient, remainder};
-use crate::rows::Rows;
+use crate::programs::built;
+use crate::rows::{Rows, owners};
+use crate::table::program_of;
 use loop_ir::{LoopProgram, NameMap, Slot};
 use mig_graph::NoMemory;
 use op_text::{Stmt, WordOp};
@@ -73,13 +74,12 @@ pub fn program(op: WordOp, m: Rows, alloc: Global) -> Result<LoopProgram, NoMemo
     requires bits { m.free_bit + bits_inside op ≤ 256 }
     ensures { IfOk result (λ p. StepsBuilt (steps_of p) (steps_for op m)) }
 {
-    match op {
-        WordOp::Mul => product(m, alloc),
-        WordOp::Div => quotient(m, alloc),
-        WordOp::Rem => remainder(m, alloc),
-        WordOp::Bitcount => ones(m, alloc),
-        WordOp::Divmod => both(m, alloc),
-        _ => unreachable!(),
+    match program_of(op) {
+        Some(row) => {
+            let p = built(row, owners(m), alloc)?;
+            Ok(p)
+        }
+        None => unreachable!(),
     }
 }
 

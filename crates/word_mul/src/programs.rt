@@ -1,144 +1,114 @@
-//! The loop programs.
+//! Loop programs by their rows of the table.
 
-ghost use Rattle.std.specs.Prelude.{◌≡◌, ◌<◌, ◌++◌, ◌∷◌, [], map, IfOk, OnOk};
-ghost use Rattle.op_text.specs.declared.word_ops.WordOp.TheVariants as o;
-ghost use Rattle.loop_ir.specs.Plain.{inner_of, inner_map, steps_of};
-ghost use Rattle.loop_laws.specs.Rooms.{placed_body};
-ghost use Rattle.word_mul.specs.Programs.{division};
-ghost use Rattle.word_mul.specs.Places.{rooms_for, steps_for};
-ghost use Rattle.word_mul.specs.Bodies.{PartsBuilt, StepsBuilt};
+ghost use Rattle.std.specs.Prelude.{◌≡◌, ◌++◌, ◌∷◌, [], map, IfOk, OnOk, Some};
+ghost use Rattle.loop_ir.specs.Plain.{inner_of, step_of, steps_of, AllInner, AllParts};
+ghost use Rattle.loop_ir.specs.Plain.StepOf.{Nest};
+ghost use Rattle.loop_laws.specs.Forms.{IsMade};
+ghost use Rattle.word_mul.specs.Programs.{parts_of, pass_of, row_steps};
+ghost use Rattle.word_mul.specs.Bodies.{parts_on, steps_on};
 
-use crate::bodies::{compared, constant, counted, divided, inverted, moved, multiplied, raised};
-use crate::rows::{Rows, at, bit, words};
-use loop_ir::{Count, Inner, LoopProgram, Step, Sub};
+use crate::bodies::body;
+use crate::shapes::{BodyForm, NestPart, NestedProgram, Owners};
+use loop_ir::{Inner, LoopProgram, Step};
 use mig_graph::NoMemory;
 use no_memory::keep;
 use std::alloc::Global;
-use word_lower::literals::{OFF, ON};
 
-fn nest<const N: usize>(parts: [Inner; N], alloc: Global) -> Result<Vec<Inner>, NoMemory>
-    ensures { IfOk result (λ v. v.items ≡ parts.entry) }
+/// A part of a nest.
+fn part(p: NestPart, owners: Owners, alloc: Global) -> Result<Inner, NoMemory>
+    ensures same { IfOk result (λ i. inner_of i ∷ [] ≡ parts_on owners (parts_of (Some p ∷ []))) }
+    ensures made { IfOk result (λ i. AllInner IsMade (inner_of i ∷ [])) }
 {
-    Ok(Vec::from_array(alloc, parts)?)
+    match p {
+        NestPart::Once(form) => Ok(Inner::Once(body(form, owners, alloc)?)),
+        NestPart::Each(count, form) => Ok(Inner::Each(count, body(form, owners, alloc)?)),
+    }
 }
 
-fn whole<const N: usize>(steps: [Step; N], alloc: Global) -> Result<LoopProgram, NoMemory>
-    ensures { IfOk result (λ p. p.steps.items ≡ steps.entry) }
+/// One more part, where there is one.
+fn add_part(
+    parts: &mut Vec<Inner>,
+    p: Option<NestPart>,
+    owners: Owners,
+    alloc: Global,
+) -> Result<(), NoMemory>
+    ensures same { OnOk result (map inner_of parts.new.items ≡ map inner_of parts.old.items
+        ++ parts_on owners (parts_of (p ∷ []))) }
+    ensures made { OnOk result (AllInner IsMade (map inner_of parts.old.items)
+        → AllInner IsMade (map inner_of parts.new.items)) }
 {
-    let steps = Vec::from_array(alloc, steps)?;
+    match p {
+        None => Ok(()),
+        Some(p) => {
+            let made = part(p, owners, alloc)?;
+            keep(parts, made)?;
+            Ok(())
+        }
+    }
+}
+
+/// The parts that there are.
+fn parts(list: &[Option<NestPart>], owners: Owners, alloc: Global) -> Result<Vec<Inner>, NoMemory>
+    ensures same { IfOk result (λ v. map inner_of v.items
+        ≡ parts_on owners (parts_of list.now)) }
+    ensures made { IfOk result (λ v. AllInner IsMade (map inner_of v.items)) }
+{
+    let mut all = Vec::new(alloc);
+    for p in list {
+        add_part(&mut all, *p, owners, alloc)?;
+    }
+    Ok(all)
+}
+
+/// One more pass over a word, where there is one.
+fn add_pass(
+    steps: &mut Vec<Step>,
+    form: Option<BodyForm>,
+    owners: Owners,
+    alloc: Global,
+) -> Result<(), NoMemory>
+    ensures same { OnOk result (map step_of steps.new.items ≡ map step_of steps.old.items
+        ++ steps_on owners (pass_of form)) }
+    ensures made { OnOk result (AllParts IsMade (map step_of steps.old.items)
+        → AllParts IsMade (map step_of steps.new.items)) }
+{
+    match form {
+        None => Ok(()),
+        Some(form) => {
+            let pass = body(form, owners, alloc)?;
+            keep(steps, Step::Each(pass))?;
+            Ok(())
+        }
+    }
+}
+
+/// The nest of a row, after what there is.
+fn add_nest(
+    steps: &mut Vec<Step>,
+    row: NestedProgram,
+    owners: Owners,
+    alloc: Global,
+) -> Result<(), NoMemory>
+    ensures same { OnOk result (map step_of steps.new.items ≡ map step_of steps.old.items
+        ++ steps_on owners (Nest (parts_of row.parts ++ parts_of (row.last ∷ [])) ∷ [])) }
+    ensures made { OnOk result (AllParts IsMade (map step_of steps.old.items)
+        → AllParts IsMade (map step_of steps.new.items)) }
+{
+    let mut nest = parts(&row.parts, owners, alloc)?;
+    add_part(&mut nest, row.last, owners, alloc)?;
+    keep(steps, Step::Nest(nest))?;
+    Ok(())
+}
+
+/// The loop program of a row.
+pub fn built(row: NestedProgram, owners: Owners, alloc: Global) -> Result<LoopProgram, NoMemory>
+    ensures same { IfOk result (λ p. steps_of p ≡ steps_on owners (row_steps row)) }
+    ensures made { IfOk result (λ p. AllParts IsMade (steps_of p)) }
+{
+    let mut steps = Vec::new(alloc);
+    add_pass(&mut steps, Some(row.first), owners, alloc)?;
+    add_pass(&mut steps, row.second, owners, alloc)?;
+    add_nest(&mut steps, row, owners, alloc)?;
+    add_pass(&mut steps, row.after, owners, alloc)?;
     Ok(LoopProgram { steps })
-}
-
-/// mul: for each bit of the second argument, the first is added from that position on.
-pub fn product(m: Rows, alloc: Global) -> Result<LoopProgram, NoMemory>
-    ensures { IfOk result (λ p. StepsBuilt (steps_of p) (steps_for o.Mul m)) }
-{
-    let carry = at(bit(m.free_bit), Sub::Zero);
-    let (a, b) = (at(m.a, Sub::Inner), at(m.b, Sub::Outer));
-    let clear = constant(OFF, at(m.target, Sub::Inner), alloc)?;
-    let start = constant(OFF, carry, alloc)?;
-    let add = multiplied(at(m.target, Sub::Sum), a, b, carry, alloc)?;
-    let parts = nest([Inner::Once(start), Inner::Each(Count::Rest, add)], alloc)?;
-    whole([Step::Each(clear), Step::Nest(parts)], alloc)
-}
-
-/// bitcount: each bit is added.
-pub fn ones(m: Rows, alloc: Global) -> Result<LoopProgram, NoMemory>
-    ensures { IfOk result (λ p. StepsBuilt (steps_of p) (steps_for o.Bitcount m)) }
-{
-    let carry = at(bit(m.free_bit), Sub::Zero);
-    let clear = constant(OFF, at(m.target, Sub::Inner), alloc)?;
-    let start = inverted(at(m.a, Sub::Outer), carry, alloc)?;
-    let add = counted(at(m.target, Sub::Inner), carry, alloc)?;
-    let parts = nest([Inner::Once(start), Inner::Each(Count::All, add)], alloc)?;
-    whole([Step::Each(clear), Step::Nest(parts)], alloc)
-}
-
-/// One step of a long division: the divisor is compared with the window, and taken from it where it
-/// is not greater.
-fn division(m: Rows, alloc: Global) -> Result<Vec<Inner>, NoMemory>
-    requires { m.free_bit < 255 }
-    ensures { IfOk result (λ v. PartsBuilt (map inner_of v.items)
-        (map (inner_map (placed_body (rooms_for o.Div m))) division)) }
-{
-    let window = at(words(m.free_word), Sub::DownSum);
-    let top = at(words(m.free_word), Sub::DownPlusN);
-    let divisor = at(m.b, Sub::Inner);
-    let (fits, borrow) = (
-        at(bit(m.free_bit), Sub::Zero),
-        at(bit(m.free_bit + 1), Sub::Zero),
-    );
-    let yes = constant(ON, fits, alloc)?;
-    let compare = compared(window, divisor, fits, alloc)?;
-    let over = raised(top, fits, alloc)?;
-    let start = constant(OFF, borrow, alloc)?;
-    let take = divided(window, divisor, fits, borrow, alloc)?;
-    nest(
-        [
-            Inner::Once(yes),
-            Inner::Each(Count::All, compare),
-            Inner::Once(over),
-            Inner::Once(start),
-            Inner::Each(Count::All, take),
-        ],
-        alloc,
-    )
-}
-
-/// div: each step gives a bit of the quotient.
-pub fn quotient(m: Rows, alloc: Global) -> Result<LoopProgram, NoMemory>
-    requires { m.free_bit < 255 }
-    ensures { IfOk result (λ p. StepsBuilt (steps_of p) (steps_for o.Div m)) }
-{
-    let dividend = moved(
-        at(m.a, Sub::Inner),
-        at(words(m.free_word), Sub::Inner),
-        alloc,
-    )?;
-    let zeros = constant(OFF, at(words(m.free_word), Sub::NPlusInner), alloc)?;
-    let digit = moved(
-        at(bit(m.free_bit), Sub::Zero),
-        at(m.target, Sub::OuterDown),
-        alloc,
-    )?;
-    let mut parts = division(m, alloc)?;
-    keep(&mut parts, Inner::Once(digit))?;
-    whole(
-        [Step::Each(dividend), Step::Each(zeros), Step::Nest(parts)],
-        alloc,
-    )
-}
-
-/// divmod: the quotient, and then what its steps leave in the window.
-pub fn both(m: Rows, alloc: Global) -> Result<LoopProgram, NoMemory>
-    requires { m.free_bit < 255 }
-    ensures { IfOk result (λ p. StepsBuilt (steps_of p) (steps_for o.Divmod m)) }
-{
-    let window = at(words(m.free_word), Sub::Inner);
-    let left = moved(window, at(m.second, Sub::Inner), alloc)?;
-    let p = quotient(m, alloc)?;
-    let mut steps = p.steps;
-    keep(&mut steps, Step::Each(left))?;
-    Ok(LoopProgram { steps })
-}
-
-/// rem: what the steps leave in the window.
-pub fn remainder(m: Rows, alloc: Global) -> Result<LoopProgram, NoMemory>
-    requires { m.free_bit < 255 }
-    ensures { IfOk result (λ p. StepsBuilt (steps_of p) (steps_for o.Rem m)) }
-{
-    let window = at(words(m.free_word), Sub::Inner);
-    let dividend = moved(at(m.a, Sub::Inner), window, alloc)?;
-    let zeros = constant(OFF, at(words(m.free_word), Sub::NPlusInner), alloc)?;
-    let left = moved(window, at(m.target, Sub::Inner), alloc)?;
-    let parts = division(m, alloc)?;
-    whole(
-        [
-            Step::Each(dividend),
-            Step::Each(zeros),
-            Step::Nest(parts),
-            Step::Each(left),
-        ],
-        alloc,
-    )
 }

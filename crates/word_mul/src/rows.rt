@@ -3,9 +3,10 @@
 ghost use Rattle.std.specs.Prelude.{◌≡◌, ◌+◌, ◌<◌};
 ghost use Rattle.word_lower.specs.Places.{scratch_bit};
 ghost use Rattle.word_mul.specs.Places.{scratch_word};
-ghost use Rattle.word_mul.specs.Bodies.{place_at};
+ghost use Rattle.word_mul.specs.Bodies.{owners_of};
 
-use loop_ir::{Place, Slot, Space, Sub};
+use crate::shapes::Owners;
+use loop_ir::{Slot, Space};
 use op_text::Kind;
 
 /// The places of a statement's names, and its first internal scratch. Where there is one argument,
@@ -20,19 +21,8 @@ pub struct Rows {
     pub free_word: u8,
 }
 
-/// A row of what lies there.
-pub fn at(slot: Slot, sub: Sub) -> Place
-    ensures { result ≡ place_at slot sub }
-{
-    Place {
-        space: slot.space,
-        which: slot.which,
-        sub,
-    }
-}
-
 /// A bit of scratch.
-pub fn bit(which: u8) -> Slot
+fn bit(which: u8) -> Slot
     ensures { result ≡ scratch_bit which }
 {
     Slot {
@@ -43,12 +33,35 @@ pub fn bit(which: u8) -> Slot
 }
 
 /// A word of scratch, with the one after it.
-pub fn words(which: u8) -> Slot
+fn words(which: u8) -> Slot
     ensures { result ≡ scratch_word which }
 {
     Slot {
         space: Space::ScratchWord,
         which,
         kind: Kind::Word,
+    }
+}
+
+/// The bit of scratch after this one, where a byte numbers it.
+fn bit_after(which: u8) -> Slot
+    ensures { which < 255 → result ≡ scratch_bit (which + 1) }
+{
+    bit(which.saturating_add(1))
+}
+
+/// The places of the owners.
+pub fn owners(m: Rows) -> Owners
+    ensures places { result ≡ owners_of m result.second_bit }
+    ensures second { m.free_bit < 255 → result.second_bit ≡ scratch_bit (m.free_bit + 1) }
+{
+    Owners {
+        target: m.target,
+        first: m.a,
+        second: m.b,
+        first_bit: bit(m.free_bit),
+        second_bit: bit_after(m.free_bit),
+        words: words(m.free_word),
+        second_target: m.second,
     }
 }

@@ -1,0 +1,73 @@
+//! The loop programs that take a pass for each position: whose rows their bodies read and write,
+//! what these compute, and where they stand.
+
+use loop_ir::{Count, Slot, Sub};
+
+/// Whose rows a place has: the target's, an argument's, those of a bit of internal scratch or of
+/// its words, or the second target's.
+#[derive(Clone, Copy, PartialEq, Eq, Debug)]
+pub enum Owner {
+    Target,
+    First,
+    Second,
+    FirstBit,
+    SecondBit,
+    Words,
+    SecondTarget,
+}
+
+/// A place by its owner.
+#[derive(Clone, Copy, PartialEq, Eq, Debug)]
+pub struct Mark {
+    pub owner: Owner,
+    pub sub: Sub,
+}
+
+/// The places of the owners.
+#[derive(Clone, Copy, PartialEq, Eq, Debug)]
+pub struct Owners {
+    pub target: Slot,
+    pub first: Slot,
+    pub second: Slot,
+    pub first_bit: Slot,
+    pub second_bit: Slot,
+    pub words: Slot,
+    pub second_target: Slot,
+}
+
+/// What a body computes: from what it reads, into the row that is named last, or into the first
+/// and the last where it has a carry or a borrow.
+#[derive(Clone, Copy, PartialEq, Eq, Debug)]
+pub enum BodyForm {
+    Off(Mark),
+    On(Mark),
+    Moved(Mark, Mark),
+    Inverted(Mark, Mark),
+    Either(Mark, Mark, Mark),
+    /// A state is whether what was read of one row is over what was read of another.
+    Compared(Mark, Mark, Mark),
+    /// The bit of a product is added, with a carry.
+    Multiplied(Mark, Mark, Mark, Mark),
+    /// A carry is added, which is held inverted.
+    Counted(Mark, Mark),
+    /// What a row has is taken away where a state is set, with a borrow.
+    Divided(Mark, Mark, Mark, Mark),
+}
+
+/// A part of a nest: a body at each outer position once, or in a loop of its own.
+#[derive(Clone, Copy, PartialEq, Eq, Debug)]
+pub enum NestPart {
+    Once(BodyForm),
+    Each(Count, BodyForm),
+}
+
+/// A loop program: passes over a word, then at each position the parts of a nest, then a pass.
+#[derive(Clone, Copy, PartialEq, Eq, Debug)]
+pub struct NestedProgram {
+    pub first: BodyForm,
+    pub second: Option<BodyForm>,
+    pub parts: [Option<NestPart>; 5],
+    /// A part after these.
+    pub last: Option<NestPart>,
+    pub after: Option<BodyForm>,
+}
