@@ -407,8 +407,7 @@ did_recorded event old new tape after h is kept did e =
     let b = both old.begun (is_whole old.geometry tape) h in
     let known = kept_known old.geometry tape event b.1 is in
     let same = kept_on tape (event_bytes old.geometry event) in
-    subst (λ (t : NotesView). DidRecord event (recorded old tape) (recorded new t)) (sym e) (record
-        {
+    subst (λ (t : NotesView). DidRecord event (recorded old tape) (recorded new t)) (sym e) (record {
       kept = record {
         begun = rw (kept.begun, kept.geometry, b.0, b.1, known.whole) refl;
         geometry = kept.geometry;

@@ -212,5 +212,10 @@ stopped_node f nodes start names count j x a b s t u why l more p q =
     (stopped_before (script_from start names count 0 (map f (take (j + 1) nodes))) rest a s u why
     (subst (λ (xs : List Instruction). StoppedAt why xs a s u) whole here))
 
-pub same_why : (x y : Why) (j k : ℕ) → Some (x, j) ≡ Some (y, k) → x ≡ y
-same_why x y j k e = cc
+abbrev first_of : Why → Option (Why × ℕ) → Why
+first_of w None = w
+first_of w (Some p) = p.0
+
+pub same_why : (x y : Why) (j k : ℕ)
+    → ◌≡◌ {A = Option (Why × ℕ)} (Some (x, j)) (Some (y, k)) → x ≡ y
+same_why x y j k e = ap (first_of x) e

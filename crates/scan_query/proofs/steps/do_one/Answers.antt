@@ -1,0 +1,11 @@
+use Rattle.std.proofs.Common.{sym, ◌∙◌}
+use Rattle.bbop_isa.specs.Forms.{view_of}
+use Rattle.scan_query.proofs.Stopping.{runs_refused}
+use Rattle.scan_query.proofs.steps.do_one.Goals as goal
+
+pub returns-in-Ok-Refused-clause-runs : goal.returns-in-Ok-Refused-clause-runs
+returns-in-Ok-Refused-clause-runs g c =
+    runs_refused (view_of c.args.instr.now) c.args.machine.now c.step.new.self
+    (g.D.Dram.view c.args.dram.now) (g.D.Dram.view c.step.new.dram) c.in-Ok-Refused.why
+    (sym c.in-Ok-Refused.field-0-is ∙ c.in-Ok-Refused.ensures.reply) c.requires.silent
+    c.in-Ok-Refused.ensures.did
