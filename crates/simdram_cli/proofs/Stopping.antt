@@ -1,6 +1,6 @@
 -- What stands where there was no room for one of a query's instructions.
 use Rattle.std.proofs.Common.{◌≡◌, ℕ, ◌+◌, Bool, true, false, List, [], ◌∷◌, ◌++◌, map, Option}
-use Rattle.std.proofs.Common.{Some, None, refl, sym, ◌∙◌, ap, subst, arith}
+use Rattle.std.proofs.Common.{Some, None, cond, refl, sym, ◌∙◌, ap, subst, arith}
 use Rattle.std.specs.Prelude.{◌&&◌}
 use Rattle.dram_model.specs.declared.dram.Counters.{Counters}
 use Rattle.dram_model.specs.declared.geometry.Geometry.{Geometry}
@@ -13,7 +13,7 @@ use Rattle.wave_model.specs.Schedule.{Ahead}
 use Rattle.machine_model.specs.declared.Why.{Why}
 use Rattle.machine_model.specs.Opened.{Image, opened, row_writes}
 use Rattle.machine_model.specs.Pieces.{Alone, Piece, Wave, events_of_pieces, piece_of, pieces}
-use Rattle.machine_model.specs.Pieces.{script_events}
+use Rattle.machine_model.specs.Pieces.{pieces_from, script_events}
 use Rattle.machine_model.specs.Routines.{Program, Routines, routines_in}
 use Rattle.machine_model.specs.Script.{is_bbop, replies, rows_loaded, sum_done, sum_of, with_counts}
 use Rattle.machine_model.specs.Script.{with_writes}
@@ -59,9 +59,22 @@ two_pieces : (b : Bool) (x y : Instruction) (xs : List Instruction) → is_bbop 
     → pieces xs ≡ map piece_of xs → pieces (x ∷ (y ∷ xs)) ≡ map piece_of (x ∷ (y ∷ xs))
 two_pieces true x y xs e h rest last =
     let other : is_bbop y ≡ false = rw e at h in
-    rw (e, other) (ap (λ (ps : List Piece). Wave (x ∷ []) ∷ Alone y ∷ ps) last)
+    let tail = Wave (x ∷ []) ∷ Alone y ∷ pieces xs in
+    let first : pieces (x ∷ (y ∷ xs)) ≡ pieces_from (x ∷ []) (y ∷ xs) =
+    ap (λ b. cond b (pieces_from (x ∷ []) (y ∷ xs)) (Alone x ∷ pieces (y ∷ xs))) e in
+    let second : pieces_from (x ∷ []) (y ∷ xs) ≡ tail =
+    ap (λ b. cond b (pieces_from (x ∷ y ∷ []) xs) tail) other in
+    let one : piece_of x ≡ Wave (x ∷ []) = ap (λ b. cond b (Wave (x ∷ [])) (Alone x)) e in
+    let two : piece_of y ≡ Alone y = ap (λ b. cond b (Wave (y ∷ [])) (Alone y)) other in
+    first ∙ second ∙ ap (λ (ps : List Piece). Wave (x ∷ []) ∷ Alone y ∷ ps) last
+    ∙ sym (ap (λ (p : Piece). p ∷ piece_of y ∷ map piece_of xs) one
+    ∙ ap (λ (p : Piece). Wave (x ∷ []) ∷ p ∷ map piece_of xs) two)
 two_pieces false x y xs e h rest last =
-    rw e (ap (λ (ps : List Piece). Alone x ∷ ps) rest)
+    let first : pieces (x ∷ (y ∷ xs)) ≡ Alone x ∷ pieces (y ∷ xs) =
+    ap (λ b. cond b (pieces_from (x ∷ []) (y ∷ xs)) (Alone x ∷ pieces (y ∷ xs))) e in
+    let one : piece_of x ≡ Alone x = ap (λ b. cond b (Wave (x ∷ [])) (Alone x)) e in
+    first ∙ ap (λ (ps : List Piece). Alone x ∷ ps) rest
+    ∙ sym (ap (λ (p : Piece). p ∷ map piece_of (y ∷ xs)) one)
 
 lone_pieces : (xs : List Instruction) → IsLone xs → pieces xs ≡ map piece_of xs
 lone_pieces [] h = refl
