@@ -1,6 +1,6 @@
 -- An accepted image is never too long.
 use Rattle.std.proofs.Common.{◌≡◌, ℕ, zero, suc, ◌+◌, ◌*◌, ◌≤◌, true, List, [], ◌∷◌, ◌++◌}
-use Rattle.std.proofs.Common.{length, length-append, sym, ◌∙◌, ap, subst, arith}
+use Rattle.std.proofs.Common.{length, length-append, ◌∙◌, ap, subst, arith}
 use Rattle.std.specs.Prelude.{Result, Ok, ◌&&◌, nat_le}
 use Rattle.std.specs.Int.{w16}
 use Rattle.std.proofs.lemmas.Bool.{leb-true}
@@ -13,7 +13,7 @@ use Rattle.object_alloc.specs.declared.fault.ImageKind.{ImageKind}
 use Rattle.object_alloc.specs.declared.fault.ImageKind.TheVariants as kinds
 use Rattle.object_alloc.specs.Listed.{Named}
 use Rattle.object_alloc.specs.Reading.{Found, field_at, geometry_at, image_in, object_at}
-use Rattle.object_alloc.specs.Reading.{objects_at, opening_in, rows_at, rows_size, rows_start}
+use Rattle.object_alloc.specs.Reading.{objects_at, opening_in, rows_at, rows_start}
 use Rattle.object_alloc.specs.Reading.{table_at}
 use Rattle.object_alloc.proofs.Images.{rows_take}
 use Rattle.simdram_cli.specs.declared.words.TheConstants.{IMAGE_MAX}

@@ -1,7 +1,7 @@
 -- A replay accepts what a recorded execution stored, and leaves what it left.
-use Rattle.std.proofs.Common.{◌≡◌, ◌≤◌, ℕ, Bool, true, false, cond, List, [], ◌∷◌, Option, Some}
-use Rattle.std.proofs.Common.{None, refl, sym, ◌∙◌, ap, subst, length}
-use Rattle.std.specs.Prelude.{◌==◌, ◌⊎◌, inl, inr, Result, Ok, Err, IfSome, nat_lt}
+use Rattle.std.proofs.Common.{◌≡◌, ◌≤◌, ℕ, true, cond, List, [], ◌∷◌, Option, Some}
+use Rattle.std.proofs.Common.{None, refl, sym, ◌∙◌, ap, subst, length, inl, inr}
+use Rattle.std.specs.Prelude.{◌==◌, ◌⊎◌, Result, Ok, Err, IfSome}
 use Rattle.std.specs.List.{list_any}
 use Rattle.std.specs.Result.{result_ok}
 use Rattle.std.proofs.lemmas.Bool.{le-ltb}
@@ -14,12 +14,12 @@ use Rattle.trace_model.specs.Spelling.{Trace, bytes_of_trace}
 use Rattle.trace_model.specs.Reading.{trace_in}
 use Rattle.trace_model.specs.Replay.{replayed}
 use Rattle.trace_model.proofs.Files.{files_are_exact}
-use Rattle.cli_model.specs.World.{World, with_file}
-use Rattle.cli_model.specs.Steps.{Step, Load, Refusal, Reason, CannotRead, TooLong, Refused}
+use Rattle.cli_model.specs.World.{World}
+use Rattle.cli_model.specs.Steps.{Step, Refusal, Reason, CannotRead, TooLong, Refused}
 use Rattle.cli_model.specs.Steps.{NoMemory, CannotWrite, PutFailed, ChipFailed, End, Done, Stopped}
 use Rattle.cli_model.specs.Steps.{loading}
 use Rattle.cli_model.specs.Status.{reason_status}
-use Rattle.cli_model.specs.Foreseen.{foreseen, load_end, refused_or}
+use Rattle.cli_model.specs.Foreseen.{foreseen, load_end}
 use Rattle.cli_model.specs.Ends.{Ended, All, At, EndsSo, IsFault, IsForetold}
 use Rattle.simdram_cli.specs.declared.words.ReplayNames.{ReplayNames}
 use Rattle.simdram_cli.specs.declared.words.TraceNames.{TraceNames}
@@ -27,9 +27,9 @@ use Rattle.simdram_cli.specs.declared.words.TheConstants.{IMAGE_MAX, TRACE_MAX}
 use Rattle.simdram_cli.specs.Headline.{read_as}
 use Rattle.simdram_cli.specs.Inputs.{image_found, image_of, image_or_refusal}
 use Rattle.simdram_cli.specs.Reads.{IsText}
-use Rattle.simdram_cli.specs.Replay.{ReplayEnds, ReplayTexts, Replayed, events_steps}
-use Rattle.simdram_cli.specs.Replay.{image_replayed, on_image_steps, replay_steps}
-use Rattle.simdram_cli.specs.Traces.{geometry_differs, if_same, image_for, same_geometry}
+use Rattle.simdram_cli.specs.Replay.{ReplayTexts, events_steps}
+use Rattle.simdram_cli.specs.Replay.{on_image_steps, replay_steps}
+use Rattle.simdram_cli.specs.Traces.{geometry_differs, if_same, image_for}
 use Rattle.simdram_cli.specs.Traces.{trace_in as trace_read, trace_or_refusal}
 use Rattle.simdram_cli.specs.Tracing.{Traced, trace_of}
 use Rattle.simdram_cli.proofs.Foreseen.{text_at}
