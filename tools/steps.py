@@ -101,7 +101,7 @@ def parts(code):
         yield first, code[first:past], said
 
 
-def turned(value):
+def complemented(value):
     """The complement of a value."""
     if value in ("0", "1"):
         return "10"[int(value)]
@@ -114,7 +114,7 @@ def majority(values):
     for one, two, three in ((x, y, z), (x, z, y), (y, z, x)):
         if one == two != "?":
             return one
-        if one != "?" and one == turned(two):
+        if one != "?" and one == complemented(two):
             return three
     if "?" in (x, y, z):
         return "?"
@@ -156,11 +156,11 @@ class Board:
     def read(self, line):
         cell, inverted = line
         value = cell if cell in ("0", "1") else self.cells.get(cell, self.rows.get(cell))
-        return turned(value) if inverted else value
+        return complemented(value) if inverted else value
 
     def settle(self, lines, value):
         for cell, inverted in lines:
-            held = turned(value) if inverted else value
+            held = complemented(value) if inverted else value
             if cell in self.cells:
                 self.cells[cell] = held
             elif cell not in ("0", "1"):
