@@ -8,7 +8,7 @@ pub use block::build;
 pub use no_memory::NoMemory;
 
 /// A gate over lower nodes.
-#[derive(Clone, Copy, Debug, PartialEq, Eq)]
+#[derive(Clone, Copy, PartialEq, Eq)]
 pub enum AoiNode {
     Zero,
     Input(u8),
@@ -19,8 +19,13 @@ pub enum AoiNode {
 }
 
 /// A graph of gates, and the nodes that are its outputs.
-#[derive(Debug, Drop)]
 pub struct AoiGraph {
     pub nodes: Vec<AoiNode>,
     pub outs: Vec<u32>,
+}
+
+impl Drop for AoiGraph {
+    fn drop(self) {
+        let AoiGraph { nodes: _, outs: _ } = self;
+    }
 }

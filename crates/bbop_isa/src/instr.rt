@@ -9,7 +9,7 @@ use no_memory::NoMemory;
 use text_lex::Name;
 
 /// In which order the banks take turns.
-#[derive(Clone, Copy, Debug, PartialEq, Eq)]
+#[derive(Clone, Copy, PartialEq, Eq)]
 pub enum Order {
     /// Bank by bank, upwards: `order in`.
     Forward,
@@ -20,7 +20,7 @@ pub enum Order {
 }
 
 /// One instruction. `count` is a number of elements and `n` their width in bits.
-#[derive(Debug, Drop)]
+#[derive(Drop)]
 pub enum Instr {
     /// `bbop_trsp_init NAME, COUNT, N`
     Init {
@@ -86,7 +86,7 @@ pub enum ScriptNo {
 }
 
 /// Why a line was not read.
-#[derive(Clone, Copy, Debug, PartialEq, Eq)]
+#[derive(Clone, Copy, PartialEq, Eq)]
 pub enum LineNo {
     Bad(ScriptKind),
     NoMemory,

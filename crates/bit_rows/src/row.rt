@@ -10,7 +10,7 @@ use std::alloc::Global;
 use std::marker::Model;
 
 /// One bit for each column. Contracts see the list of the bits, that of column 0 first.
-#[derive(Debug, Drop)]
+#[derive(Drop)]
 pub struct Row {
     columns: u32,
     words: Vec<u64>,

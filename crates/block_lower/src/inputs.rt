@@ -18,10 +18,18 @@ use std::alloc::Global;
 use text_lex::Name;
 
 /// The numbers of the inputs by their names, and the names in the order of their numbers.
-#[derive(Debug, Drop)]
 pub(crate) struct Inputs {
     pub numbers: IndexMap<Name, u8>,
     pub order: Vec<Name>,
+}
+
+impl Drop for Inputs {
+    fn drop(self) {
+        let Inputs {
+            numbers: _,
+            order: _,
+        } = self;
+    }
 }
 
 /// The names that an expression reads, after those that were found.

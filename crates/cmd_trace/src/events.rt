@@ -17,7 +17,7 @@ use file_fields::{bytes_at, fault, rule};
 use trace_model::{TraceFault, TraceKind};
 
 /// An event without the bits of a row that it writes.
-#[derive(Clone, Copy, Debug, PartialEq, Eq)]
+#[derive(Clone, Copy, PartialEq, Eq)]
 pub(crate) enum Head {
     Row(u8, Command),
     Write(u8, u16),
@@ -189,7 +189,7 @@ fn read_head(g: Geometry, bytes: &[u8], at: usize) -> Result<Head, TraceFault>
 }
 
 /// An event in a file: a row command, or a write with the bytes of its row.
-#[derive(Clone, Copy, Debug)]
+#[derive(Clone, Copy)]
 pub(crate) enum Found<'a> {
     Row(u8, Command),
     Write(u8, u16, &'a [u8]),

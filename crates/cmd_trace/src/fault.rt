@@ -8,7 +8,7 @@ use object_alloc::{ImageFault, ImageKind};
 use trace_model::{TraceFault, TraceKind};
 
 /// Why no trace was read.
-#[derive(Clone, Copy, Debug, PartialEq, Eq)]
+#[derive(Clone, Copy, PartialEq, Eq)]
 pub enum TraceNo {
     Fault(TraceFault),
     NoMemory,

@@ -82,7 +82,7 @@ fn check_events(g: Geometry, count: u32, bytes: &[u8], start: usize) -> Result<u
 }
 
 /// A trace file that was accepted. It borrows the bytes.
-#[derive(Debug, Drop)]
+#[derive(Drop)]
 pub struct TraceView<'a> {
     pub(crate) geometry: Geometry,
     pub(crate) table: Table,

@@ -20,7 +20,7 @@ use std::alloc::Global;
 const OTHER_ROWS: usize = 8;
 
 /// A bank: the words of its rows, one row after another.
-#[derive(Debug, Drop)]
+#[derive(Drop)]
 pub struct Bank {
     rows: u16,
     words: u16,

@@ -40,7 +40,7 @@ use tmr_guard::Guard;
 
 /// What a guarded script came to: how many instructions were refused, and how many AAP the votes
 /// took.
-#[derive(Clone, Copy, PartialEq, Eq, Debug)]
+#[derive(Clone, Copy, PartialEq, Eq)]
 pub struct Outcome {
     pub refused: u64,
     pub votes: u64,

@@ -9,7 +9,7 @@ ghost use Rattle.guard_model.specs.Laws.{RowVote, StepIsCounted, StepIsEvents, T
 ghost use Rattle.guard_model.specs.Laws.{VoteIsCounted, VoteIsEvents, VotesMend};
 
 /// One cell that is inverted before an instruction, whose number counts from 1.
-#[derive(Clone, Copy, PartialEq, Eq, Debug)]
+#[derive(Clone, Copy, PartialEq, Eq)]
 pub struct Flip {
     pub before: u32,
     pub bank: u16,
@@ -18,7 +18,7 @@ pub struct Flip {
 }
 
 /// Why a line of the text of flips is refused.
-#[derive(Clone, Copy, PartialEq, Eq, Debug)]
+#[derive(Clone, Copy, PartialEq, Eq)]
 pub enum FlipsKind {
     /// A byte starts no token.
     Lex,
@@ -29,7 +29,7 @@ pub enum FlipsKind {
 }
 
 /// The first line that is refused, and its lowest kind.
-#[derive(Clone, Copy, PartialEq, Eq, Debug)]
+#[derive(Clone, Copy, PartialEq, Eq)]
 pub struct FlipsFault {
     pub line: u32,
     pub kind: FlipsKind,

@@ -1,9 +1,11 @@
 //! Loop programs.
 
+ghost use Rattle.std.specs.Prelude.{◌≡◌};
+
 use mig_graph::MigOuts;
 
 /// The position of a row in what it belongs to, at width n, at inner index i and outer index o.
-#[derive(Clone, Copy, PartialEq, Eq, Debug)]
+#[derive(Clone, Copy, PartialEq, Eq)]
 pub enum Sub {
     /// 0.
     Zero,
@@ -28,7 +30,7 @@ pub enum Sub {
 }
 
 /// What a row belongs to: the result, a source, or a bit or word of scratch.
-#[derive(Clone, Copy, PartialEq, Eq, Debug)]
+#[derive(Clone, Copy, PartialEq, Eq)]
 pub enum Space {
     Result,
     Source,
@@ -37,7 +39,7 @@ pub enum Space {
 }
 
 /// A row by its name: which value of a space, and the position in it. A bit of scratch has one row.
-#[derive(Clone, Copy, PartialEq, Eq, Debug)]
+#[derive(Clone, Copy, PartialEq, Eq)]
 pub struct Place {
     pub space: Space,
     pub which: u8,
@@ -46,29 +48,52 @@ pub struct Place {
 
 /// What is done in one round: read k is input k of the graph, and output j is written to place j.
 /// All writes come after all reads.
-#[derive(Debug, Drop)]
 pub struct Body {
     pub reads: Vec<Place>,
     pub graph: MigOuts,
     pub writes: Vec<Place>,
 }
 
+impl Body {
+    /// The graph alone.
+    pub fn into_graph(self) -> MigOuts
+        ensures { result ≡ self.graph }
+    {
+        let Body {
+            reads: _,
+            graph,
+            writes: _,
+        } = self;
+        graph
+    }
+}
+
+impl Drop for Body {
+    fn drop(self) {
+        let Body {
+            reads: _,
+            graph: _,
+            writes: _,
+        } = self;
+    }
+}
+
 /// How far an inner loop runs: from 0 to n - 1, or to n - 1 - o.
-#[derive(Clone, Copy, PartialEq, Eq, Debug)]
+#[derive(Clone, Copy, PartialEq, Eq)]
 pub enum Count {
     All,
     Rest,
 }
 
 /// A part of a nest: a body at each outer position, once or in a loop of its own.
-#[derive(Debug, Drop)]
+#[derive(Drop)]
 pub enum Inner {
     Once(Body),
     Each(Count, Body),
 }
 
 /// A body done once, at each position, or parts done one after another at each outer position.
-#[derive(Debug, Drop)]
+#[derive(Drop)]
 pub enum Step {
     Once(Body),
     Each(Body),
@@ -76,7 +101,7 @@ pub enum Step {
 }
 
 /// Steps that are done one after another, the same at every width.
-#[derive(Debug, Drop)]
+#[derive(Drop)]
 pub struct LoopProgram {
     pub steps: Vec<Step>,
 }

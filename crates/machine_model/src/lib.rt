@@ -15,7 +15,7 @@ use uprog_code::{BadWalk, Counts};
 /// The first condition under which an instruction is refused.
 /// A place counts the names from 0, a bbop's destinations before its sources, and in `load` and
 /// `fill` the values from 1.
-#[derive(Clone, Copy, PartialEq, Eq, Debug)]
+#[derive(Clone, Copy, PartialEq, Eq)]
 pub enum Why {
     NoOp,
     Arity,
@@ -33,7 +33,7 @@ pub enum Why {
 }
 
 /// What an instruction came to: done, with its row commands, or refused.
-#[derive(Clone, Copy, PartialEq, Eq, Debug)]
+#[derive(Clone, Copy, PartialEq, Eq)]
 pub enum Reply {
     Done(Counts),
     Refused(Why),

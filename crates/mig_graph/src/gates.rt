@@ -118,14 +118,12 @@ pub fn from_aoi(g: &AoiGraph, alloc: Global) -> Result<MigOuts, NoMemory>
         ≡ aoi_values g.now.nodes.items bits (slice_index g.now.outs.items j)) }
     ensures count { IfOk result (λ r. length r.mig.nodes ≤ count_by is_gate g.now.nodes.items) }
 {
-    let whole = translate(&g.nodes, input_count(&g.nodes), alloc)?;
+    let mut whole = translate(&g.nodes, input_count(&g.nodes), alloc)?;
     let mut outs = Vec::new(alloc);
     for o in &g.outs {
         let l = whole.outs[*o as usize];
         keep(&mut outs, l)?;
     }
-    Ok(MigOuts {
-        mig: whole.mig,
-        outs,
-    })
+    whole.outs = outs;
+    Ok(whole)
 }

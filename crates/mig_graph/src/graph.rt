@@ -16,10 +16,18 @@ use std::alloc::Global;
 use std::marker::Model;
 
 /// A majority graph: the constant 0, the inputs, and nodes over lower nodes.
-#[derive(Debug, Drop)]
 pub struct Mig {
     inputs: u8,
     nodes: IndexSet<Node>,
+}
+
+impl Drop for Mig {
+    fn drop(self) {
+        let Mig {
+            inputs: _,
+            nodes: _,
+        } = self;
+    }
 }
 
 impl Model for Mig {

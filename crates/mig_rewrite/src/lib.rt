@@ -1,16 +1,17 @@
 //! Reduction of majority graphs.
 #![tactic(auto)]
 
-ghost use Rattle.std.specs.Prelude.{◌≡◌, ◌≤◌, IfOk, length};
+ghost use Rattle.std.specs.Prelude.{◌≡◌, ◌<◌, ◌≤◌, IfOk, length};
 ghost use Rattle.mig_graph.specs.Outputs.{AreNamed, KeepsOutputs};
 ghost use Rattle.mig_graph.specs.Reduced.{IsReduced};
+ghost use Rattle.mig_rewrite.specs.Merge.{IsMerge};
 
 mod merges;
 mod plan;
 mod rebuild;
 mod tally;
 
-use merges::any_merge;
+use merges::{Merge, any_merge};
 use mig_graph::{MigOuts, NoMemory};
 use rebuild::remade;
 use std::alloc::Global;
@@ -32,6 +33,36 @@ fn swept(m: &MigOuts, alloc: Global) -> Result<MigOuts, NoMemory>
     }
 }
 
+/// The graph with one merge made.
+fn merged(m: &MigOuts, found: Merge, alloc: Global) -> Result<MigOuts, NoMemory>
+    requires named { AreNamed m.now.mig m.now.outs.items }
+    requires merge { IsMerge m.now.mig m.now.outs.items found }
+    ensures keeps { IfOk result (λ r. KeepsOutputs m.now.mig m.now.outs.items r.mig r.outs.items) }
+    ensures named { IfOk result (λ r. AreNamed r.mig r.outs.items) }
+    ensures count { IfOk result (λ r. length r.mig.nodes < length m.now.mig.nodes) }
+{
+    let made = remade(m, Some(found), alloc)?;
+    let new = swept(&made, alloc)?;
+    Ok(new)
+}
+
+/// The graph swept, and with every merge made.
+fn reduced(m: &MigOuts, alloc: Global) -> Result<MigOuts, NoMemory>
+    requires { AreNamed m.now.mig m.now.outs.items }
+    ensures keeps { IfOk result (λ r. KeepsOutputs m.now.mig m.now.outs.items r.mig r.outs.items) }
+    ensures named { IfOk result (λ r. AreNamed r.mig r.outs.items) }
+    ensures count { IfOk result (λ r. length r.mig.nodes ≤ length m.now.mig.nodes) }
+    ensures reduced { IfOk result (λ r. IsReduced r.mig r.outs.items) }
+{
+    let mut now = swept(m, alloc)?;
+    loop {
+        match any_merge(&now, alloc)? {
+            None => return Ok(now),
+            Some(found) => now = merged(&now, found, alloc)?,
+        }
+    }
+}
+
 /// The graph without the nodes that no output reaches, and with every merge made.
 pub fn reduce(m: MigOuts, alloc: Global) -> Result<MigOuts, NoMemory>
     requires { AreNamed m.mig m.outs.items }
@@ -40,14 +71,5 @@ pub fn reduce(m: MigOuts, alloc: Global) -> Result<MigOuts, NoMemory>
     ensures count { IfOk result (λ r. length r.mig.nodes ≤ length m.mig.nodes) }
     ensures reduced { IfOk result (λ r. IsReduced r.mig r.outs.items) }
 {
-    let mut now = swept(&m, alloc)?;
-    loop {
-        match any_merge(&now, alloc)? {
-            None => return Ok(now),
-            Some(found) => {
-                let merged = remade(&now, Some(found), alloc)?;
-                now = swept(&merged, alloc)?;
-            }
-        }
-    }
+    reduced(&m, alloc)
 }

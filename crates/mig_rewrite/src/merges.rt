@@ -16,7 +16,7 @@ use mig_graph::{Lit, MigOuts, NoMemory, Node};
 use std::alloc::Global;
 
 /// The node is `M(first, second, z)`, the first `M(x, y, u)` and the second `M(x, y, v)`.
-#[derive(Clone, Copy, Debug, PartialEq, Eq)]
+#[derive(Clone, Copy, PartialEq, Eq)]
 pub(crate) struct Merge {
     pub node: u32,
     pub first: u32,

@@ -16,7 +16,7 @@ use no_memory::keep;
 use std::alloc::Global;
 
 /// What is made again for a node: nothing, `M(x, y, z)`, or `M(x, y, M(u, v, z))`.
-#[derive(Clone, Copy, Debug, PartialEq, Eq)]
+#[derive(Clone, Copy, PartialEq, Eq)]
 pub(crate) enum Part {
     Nothing,
     One(Lit, Lit, Lit),

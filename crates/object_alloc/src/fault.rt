@@ -20,7 +20,7 @@ pub enum ImageKind {
 pub type ImageFault = FileFault<ImageKind>;
 
 /// Why no image was read.
-#[derive(Clone, Copy, Debug, PartialEq, Eq)]
+#[derive(Clone, Copy, PartialEq, Eq)]
 pub enum ImageNo {
     Fault(ImageFault),
     NoMemory,

@@ -4,7 +4,7 @@ use crate::table::Table;
 use dram_model::Geometry;
 
 /// A chip at rest: its shape, the objects in its rows, and what every data row holds.
-#[derive(Debug, Drop)]
+#[derive(Drop)]
 pub struct Image<'a> {
     pub geometry: Geometry,
     pub table: Table,

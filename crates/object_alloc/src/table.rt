@@ -96,10 +96,15 @@ fn take_away(pairs: &mut Vec<(Name, Object)>, name: &Name)
 /// Objects under their names, in order of insertion, and in how many rows of each bank they may
 /// lie. No two have one
 /// name or a row in common.
-#[derive(Debug, Drop)]
 pub struct Table {
     limit: u16,
     pairs: Vec<(Name, Object)>,
+}
+
+impl Drop for Table {
+    fn drop(self) {
+        let Table { limit: _, pairs: _ } = self;
+    }
 }
 
 impl Model for Table {

@@ -1,7 +1,7 @@
 //! Why an instruction was not done to its end.
 
 /// Which call failed.
-#[derive(Clone, Copy, Debug, PartialEq, Eq)]
+#[derive(Clone, Copy, PartialEq, Eq)]
 pub enum StepFault {
     ChipFault,
     WriteFault,

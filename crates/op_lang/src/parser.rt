@@ -27,10 +27,18 @@ pub(crate) struct Taken<'a> {
 }
 
 /// A text, seen as what stands before its next token and the items that are left.
-#[derive(Drop)]
 pub(crate) struct Parser<'a> {
     tokens: Tokens<'a>,
     scope: Scope,
+}
+
+impl Drop for Parser<'_> {
+    fn drop(self) {
+        let Parser {
+            tokens: _,
+            scope: _,
+        } = self;
+    }
 }
 
 impl<'a> Model for Parser<'a> {

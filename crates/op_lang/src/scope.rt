@@ -10,7 +10,6 @@ use text_lex::Name;
 
 /// Within an op: each new name, the names that can be read, the results that are named, and the
 /// number of statements.
-#[derive(Drop)]
 pub(crate) struct InOp {
     pub stands: Vec<Name>,
     pub defined: Vec<Param>,
@@ -18,18 +17,37 @@ pub(crate) struct InOp {
     pub statements: usize,
 }
 
+impl Drop for InOp {
+    fn drop(self) {
+        let InOp {
+            stands: _,
+            defined: _,
+            results: _,
+            statements: _,
+        } = self;
+    }
+}
+
 /// Within a word statement: its second target, its operation and the kinds of the arguments so far.
-#[derive(Drop)]
 pub(crate) struct InWord {
     pub second: Option<Name>,
     pub operation: WordOp,
     pub given: Vec<Kind>,
 }
 
+impl Drop for InWord {
+    fn drop(self) {
+        let InWord {
+            second: _,
+            operation: _,
+            given: _,
+        } = self;
+    }
+}
+
 /// Within a serial block: its states, the states and lets that can be read, the number of lets, the
 /// targets, the weight of the gates, and how many arguments each open gate still lacks, the
 /// innermost last.
-#[derive(Drop)]
 pub(crate) struct InBlock {
     pub states: Vec<Name>,
     pub readable: Vec<Name>,
@@ -39,8 +57,20 @@ pub(crate) struct InBlock {
     pub missing: Vec<usize>,
 }
 
+impl Drop for InBlock {
+    fn drop(self) {
+        let InBlock {
+            states: _,
+            readable: _,
+            lets: _,
+            targets: _,
+            weight: _,
+            missing: _,
+        } = self;
+    }
+}
+
 /// What stands before a token, and the name that is being defined.
-#[derive(Drop)]
 pub(crate) struct Scope {
     pub alloc: Global,
     pub ops: Vec<Name>,
@@ -48,6 +78,19 @@ pub(crate) struct Scope {
     pub word: InWord,
     pub block: InBlock,
     pub naming: Option<Name>,
+}
+
+impl Drop for Scope {
+    fn drop(self) {
+        let Scope {
+            alloc: _,
+            ops: _,
+            op: _,
+            word: _,
+            block: _,
+            naming: _,
+        } = self;
+    }
 }
 
 impl InOp {

@@ -20,7 +20,7 @@ use text_lex::Name;
 /// The scratch rows that one statement or a whole op needs beside its words' rows: `bits` single
 /// rows, and
 /// `words` groups of as many rows as a word has bits. Numbers past 65,535 stay there.
-#[derive(Clone, Copy, Debug, PartialEq, Eq)]
+#[derive(Clone, Copy, PartialEq, Eq)]
 pub struct Scratch {
     pub bits: u16,
     pub words: u16,

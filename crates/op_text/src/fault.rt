@@ -14,7 +14,7 @@ pub enum OpsKind {
 }
 
 /// A rule that is broken, and the place of the token, or none at the end of the text.
-#[derive(Clone, Copy, Debug, PartialEq, Eq)]
+#[derive(Clone, Copy, PartialEq, Eq)]
 pub struct Breach {
     pub at: Option<usize>,
     pub kind: OpsKind,

@@ -1,7 +1,7 @@
 //! What the grammar may ask for next.
 
 /// A symbol of the grammar that takes one token. One that repeats takes what ends it too.
-#[derive(Clone, Copy, Debug, PartialEq, Eq)]
+#[derive(Clone, Copy, PartialEq, Eq)]
 pub enum Wanted {
     /// The word `op` of one more op.
     Ops,

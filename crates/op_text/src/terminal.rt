@@ -7,7 +7,7 @@ ghost use Rattle.op_text.specs.Items.{terminal_of, spelling_of};
 use text_lex::TokenKind;
 
 /// A name token: a reserved word, or any other name.
-#[derive(Clone, Copy, Debug)]
+#[derive(Clone, Copy)]
 pub enum Spelling {
     Plain,
     Op,
@@ -20,7 +20,7 @@ pub enum Spelling {
 }
 
 /// A token as the grammar sees it.
-#[derive(Clone, Copy, Debug)]
+#[derive(Clone, Copy)]
 pub enum Terminal {
     Name(Spelling),
     Zero,

@@ -20,13 +20,13 @@ impl Default for Kind {
     }
 }
 
-#[derive(Debug, Drop, PartialEq, Eq)]
+#[derive(Drop, PartialEq, Eq)]
 pub struct Param {
     pub name: Name,
     pub kind: Kind,
 }
 
-#[derive(Debug, Drop)]
+#[derive(Drop)]
 pub enum Expr {
     Zero,
     One,
@@ -38,19 +38,24 @@ pub enum Expr {
     Maj(Box<Expr>, Box<Expr>, Box<Expr>),
 }
 
-#[derive(Debug, Drop, PartialEq, Eq)]
+#[derive(Drop, PartialEq, Eq)]
 pub struct State {
     pub name: Name,
     pub start: bool,
 }
 
-#[derive(Debug, Drop)]
 pub struct Assign {
     pub name: Name,
     pub value: Expr,
 }
 
-#[derive(Debug, Drop)]
+impl Drop for Assign {
+    fn drop(self) {
+        let Assign { name: _, value: _ } = self;
+    }
+}
+
+#[derive(Drop)]
 pub enum Stmt {
     Word {
         dst: Name,
@@ -67,7 +72,6 @@ pub enum Stmt {
     },
 }
 
-#[derive(Debug, Drop)]
 pub struct Op {
     pub name: Name,
     pub params: Vec<Param>,
@@ -76,7 +80,24 @@ pub struct Op {
     pub body: Vec<Stmt>,
 }
 
-#[derive(Debug, Drop)]
+impl Drop for Op {
+    fn drop(self) {
+        let Op {
+            name: _,
+            params: _,
+            result: _,
+            second: _,
+            body: _,
+        } = self;
+    }
+}
+
 pub struct Ops {
     pub ops: Vec<Op>,
+}
+
+impl Drop for Ops {
+    fn drop(self) {
+        let Ops { ops: _ } = self;
+    }
 }

@@ -12,7 +12,7 @@ use crate::tree::Kind::{Bit, Word};
 use Signature::{Choice, Nothing, OneOf, OneWord, TwoOf, TwoWords};
 
 /// The word operations. Each has a row in [`WORD_OPS`].
-#[derive(Clone, Copy, Debug, PartialEq, Eq)]
+#[derive(Clone, Copy, PartialEq, Eq)]
 pub enum WordOp {
     Not,
     And,
@@ -45,7 +45,7 @@ pub enum WordOp {
 }
 
 /// What an operation takes and gives.
-#[derive(Clone, Copy, Debug)]
+#[derive(Clone, Copy)]
 pub enum Signature {
     /// No argument; it gives a word.
     Nothing,
@@ -62,7 +62,7 @@ pub enum Signature {
 }
 
 /// What the table has of an operation.
-#[derive(Clone, Copy, Debug)]
+#[derive(Clone, Copy)]
 pub struct WordRow {
     pub op: WordOp,
     pub signature: Signature,

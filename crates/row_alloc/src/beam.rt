@@ -35,10 +35,15 @@ struct Entry {
 
 /// The best states after as many steps, and the best of those whose values all stand in rows, from
 /// which every node can be made.
-#[derive(Drop)]
 struct Bucket {
     kept: Vec<Entry>,
     safe: Option<Entry>,
+}
+
+impl Drop for Bucket {
+    fn drop(self) {
+        let Bucket { kept: _, safe: _ } = self;
+    }
 }
 
 impl Bucket {
@@ -120,7 +125,6 @@ impl Bucket {
 }
 
 /// The search: the entries that have gone on, the states after this step and the two next ones.
-#[derive(Drop)]
 struct Beam {
     done: Vec<Entry>,
     now: Bucket,
@@ -130,6 +134,21 @@ struct Beam {
     ends: Vec<Way>,
     width: usize,
     tried: usize,
+}
+
+impl Drop for Beam {
+    fn drop(self) {
+        let Beam {
+            done: _,
+            now: _,
+            next: _,
+            after: _,
+            ways: _,
+            ends: _,
+            width: _,
+            tried: _,
+        } = self;
+    }
 }
 
 /// A node that can be made, or its complement, and how many of its operands are not in place.

@@ -4,7 +4,7 @@ use mig_graph::Lit;
 
 /// A row that a body's commands name: of the bitwise group or the constants, or by its number among
 /// the body's inputs, outputs and spill rows.
-#[derive(Clone, Copy, Debug, PartialEq, Eq)]
+#[derive(Clone, Copy, PartialEq, Eq)]
 pub enum BodyRef {
     B(u8),
     C(u8),
@@ -14,14 +14,14 @@ pub enum BodyRef {
 }
 
 /// A row command of a body.
-#[derive(Clone, Copy, Debug, PartialEq, Eq)]
+#[derive(Clone, Copy, PartialEq, Eq)]
 pub enum BodyCmd {
     Aap(BodyRef, BodyRef),
     Ap(BodyRef),
 }
 
 /// An output of a body: its literal, and the input in whose row it stands, if it stands in one.
-#[derive(Clone, Copy, Debug, PartialEq, Eq)]
+#[derive(Clone, Copy, PartialEq, Eq)]
 pub struct OutRow {
     pub lit: Lit,
     pub same: Option<u8>,

@@ -34,12 +34,22 @@ impl State {
 }
 
 /// A graph with its outputs, and the nodes and the outputs that read each node.
-#[derive(Drop)]
 pub struct Task {
     inputs: u8,
     nodes: Vec<[Lit; 3]>,
     pub outs: Vec<OutRow>,
     readers: Vec<Set>,
+}
+
+impl Drop for Task {
+    fn drop(self) {
+        let Task {
+            inputs: _,
+            nodes: _,
+            outs: _,
+            readers: _,
+        } = self;
+    }
 }
 
 impl Task {

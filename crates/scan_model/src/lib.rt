@@ -7,7 +7,7 @@ ghost use Rattle.scan_model.specs.Laws.{ScanLaws};
 ghost use Rattle.scan_model.specs.TextLaws.{QueryTextLaws};
 
 /// How the elements of an object are compared with a number.
-#[derive(Clone, Copy, PartialEq, Eq, Debug)]
+#[derive(Clone, Copy, PartialEq, Eq)]
 pub enum CmpOp {
     Eq,
     Gt,
@@ -19,7 +19,7 @@ pub enum CmpOp {
 /// Why a scan is refused: a comparison's object is not there, has another count, or is too narrow
 /// for the number; or
 /// there is no room for an object of a node.
-#[derive(Clone, Copy, PartialEq, Eq, Debug)]
+#[derive(Clone, Copy, PartialEq, Eq)]
 pub enum ScanWhy {
     NoObject,
     Count,
@@ -29,7 +29,7 @@ pub enum ScanWhy {
 }
 
 /// What breaks a query's text. At one token the first of these that it breaks counts.
-#[derive(Clone, Copy, PartialEq, Eq, Debug)]
+#[derive(Clone, Copy, PartialEq, Eq)]
 pub enum QueryKind {
     /// A byte starts no token.
     Lex,
@@ -44,7 +44,7 @@ pub enum QueryKind {
 }
 
 /// The first token that breaks a rule, by its line.
-#[derive(Clone, Copy, PartialEq, Eq, Debug)]
+#[derive(Clone, Copy, PartialEq, Eq)]
 pub struct QueryFault {
     pub line: u32,
     pub kind: QueryKind,

@@ -5,7 +5,7 @@ use text_lex::Name;
 use uprog_code::Counts;
 
 /// A node of a query. A join names its sources by their places among the nodes.
-#[derive(Debug, Drop)]
+#[derive(Drop)]
 pub enum Node {
     Cmp { op: CmpOp, name: Name, value: u128 },
     Not(u8),
@@ -14,13 +14,13 @@ pub enum Node {
 }
 
 /// A query's nodes in postorder: each stands after its sources, and the last is the whole query.
-#[derive(Debug, Drop)]
+#[derive(Drop)]
 pub struct Query {
     pub nodes: Vec<Node>,
 }
 
 /// Why a text gives no query.
-#[derive(Clone, Copy, Debug, PartialEq, Eq)]
+#[derive(Clone, Copy, PartialEq, Eq)]
 pub enum QueryNo {
     Fault(QueryFault),
     NoMemory,
@@ -28,7 +28,7 @@ pub enum QueryNo {
 
 /// How many elements were found of how many, with the commands that it took; or why the scan was
 /// refused, and at which comparison or node, from 0.
-#[derive(Clone, Copy, Debug, PartialEq, Eq)]
+#[derive(Clone, Copy, PartialEq, Eq)]
 pub enum ScanReply {
     Done { found: u32, of: u32, counts: Counts },
     Refused(ScanWhy, u8),

@@ -51,7 +51,6 @@ use uprog_ctl::{Forward, Order};
 
 /// A table of objects over a chip, the program that bbops run, the order in which banks take turns,
 /// and all memory that a script takes.
-#[derive(Drop)]
 pub struct Machine<'a> {
     pub(crate) prog: ProgView<'a>,
     pub(crate) geometry: Geometry,
@@ -61,8 +60,21 @@ pub struct Machine<'a> {
     pub(crate) file: Vec<u8>,
 }
 
+impl Drop for Machine<'_> {
+    fn drop(self) {
+        let Machine {
+            prog: _,
+            geometry: _,
+            table: _,
+            order: _,
+            stage: _,
+            file: _,
+        } = self;
+    }
+}
+
 /// Why a machine was not opened.
-#[derive(Clone, Copy, Debug, PartialEq, Eq)]
+#[derive(Clone, Copy, PartialEq, Eq)]
 pub enum StartNo {
     ChipFault,
     NoMemory,

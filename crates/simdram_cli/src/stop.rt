@@ -23,7 +23,7 @@ use trace_model::{TraceFault, TraceKind};
 use uprog_bin::{ProgFault, ProgKind};
 
 /// Why a command stopped.
-#[derive(Clone, Copy, Debug)]
+#[derive(Clone, Copy)]
 pub enum Stop<'a> {
     CannotRead(&'a str),
     TooLong(&'a str),

@@ -10,7 +10,7 @@ use arrayvec::ArrayVec;
 use op_text::{Kind, Signature, WORD_OPS, WordOp, WordRow, second_kind};
 
 /// A word operation at a width.
-#[derive(Clone, Copy, Debug, PartialEq, Eq)]
+#[derive(Clone, Copy, PartialEq, Eq)]
 pub struct Case {
     pub op: WordOp,
     pub n: u8,

@@ -121,7 +121,7 @@ fn run_case<D: Dram>(chip: &mut D, case: Case, entry: Entry<'_>) -> Result<(), C
 }
 
 /// What the line of a case tells: its row commands in both banks, and its sum.
-#[derive(Clone, Copy, Debug, PartialEq, Eq)]
+#[derive(Clone, Copy, PartialEq, Eq)]
 pub struct Outcome {
     pub counts: Counts,
     pub sum: u64,

@@ -19,7 +19,7 @@ use soak_case::{CHIP, Case, all_cases, do_case, last_line, line_of};
 use std::alloc::Global;
 
 /// Why a soak stopped.
-#[derive(Clone, Copy, Debug, PartialEq, Eq)]
+#[derive(Clone, Copy, PartialEq, Eq)]
 pub enum SoakNo {
     NoMemory,
     ChipFailed,

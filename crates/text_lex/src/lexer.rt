@@ -117,7 +117,7 @@ fn token_from<'a>(text: &'a [u8], at: usize) -> Result<Option<Token<'a>>, LexFau
 }
 
 /// Reads a text from left to right. It is seen as what is left of the text's items.
-#[derive(Debug, Drop)]
+#[derive(Drop)]
 pub struct Lexer<'a> {
     text: &'a [u8],
     at: usize,

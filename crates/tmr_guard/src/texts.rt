@@ -18,7 +18,7 @@ use std::alloc::Global;
 use text_lex::{Lexer, TokenKind, items_are_right, number};
 
 /// Why a line was not read.
-#[derive(Clone, Copy, PartialEq, Eq, Debug)]
+#[derive(Clone, Copy, PartialEq, Eq)]
 pub(crate) enum LineNo {
     Bad(FlipsKind),
     NoMemory,
@@ -33,7 +33,7 @@ impl From<NoMemory> for LineNo {
 }
 
 /// Why there are no flips.
-#[derive(Clone, Copy, PartialEq, Eq, Debug)]
+#[derive(Clone, Copy, PartialEq, Eq)]
 pub enum FlipsNo {
     Fault(FlipsFault),
     NoMemory,

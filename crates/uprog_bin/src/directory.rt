@@ -17,7 +17,7 @@ use text_lex::Name;
 use uprog_code::{Head, Kind};
 
 /// An entry's record: its head, the number of its first instruction, and how many it has.
-#[derive(Debug, Drop)]
+#[derive(Drop)]
 pub(crate) struct Listed {
     pub head: Head,
     pub start: u32,

@@ -18,7 +18,7 @@ use file_fields::{bytes_at, fault, rule};
 use uprog_code::{Head, RowRef, RowSpace, Uop};
 
 /// Three bytes of an instruction: a row, or registers and numbers.
-#[derive(Clone, Copy, Debug, PartialEq, Eq)]
+#[derive(Clone, Copy, PartialEq, Eq)]
 pub struct RawRow {
     pub space: u8,
     pub which: u8,
@@ -26,7 +26,7 @@ pub struct RawRow {
 }
 
 /// The eight bytes of an instruction.
-#[derive(Clone, Copy, Debug, PartialEq, Eq)]
+#[derive(Clone, Copy, PartialEq, Eq)]
 pub struct Raw {
     pub number: u8,
     pub x: RawRow,

@@ -6,7 +6,7 @@ ghost use Rattle.uprog_bin.specs.Spelling.{space_number};
 use uprog_code::RowSpace;
 
 /// What an instruction does, in the order of their numbers.
-#[derive(Clone, Copy, Debug, PartialEq, Eq)]
+#[derive(Clone, Copy, PartialEq, Eq)]
 pub enum Opcode {
     Done,
     SetI,

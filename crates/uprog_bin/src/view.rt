@@ -44,7 +44,7 @@ fn records_of(bytes: &[u8]) -> Result<(u16, ArrayVec<Listed, 32>), ProgFault>
 }
 
 /// A program file that was accepted. It borrows the bytes.
-#[derive(Debug, Drop)]
+#[derive(Drop)]
 pub struct ProgView<'a> {
     bytes: &'a [u8],
     version: u16,
@@ -62,7 +62,7 @@ impl<'a> Model for ProgView<'a> {
 }
 
 /// An entry of a program file, which fetches from the file's own bytes.
-#[derive(Debug, Drop)]
+#[derive(Drop)]
 pub struct Entry<'a> {
     head: Head,
     code: &'a [u8],

@@ -3,7 +3,7 @@
 use arrayvec::ArrayVec;
 
 /// The width n, and the first data row of each result, of each source and of the scratch.
-#[derive(Debug, Drop)]
+#[derive(Drop)]
 pub struct Binding {
     pub n: u8,
     pub result: u16,

@@ -56,7 +56,7 @@ pub enum Uop {
 }
 
 /// What an operation is called, takes and gives, and how many bits and words of scratch it needs.
-#[derive(Debug, Drop)]
+#[derive(Drop)]
 pub struct Head {
     pub name: Name,
     pub sources: ArrayVec<Kind, 4>,
@@ -88,14 +88,19 @@ impl Head {
 }
 
 /// An operation's microprogram.
-#[derive(Debug, Drop)]
 pub struct EntryCode {
     pub head: Head,
     pub code: Vec<Uop>,
 }
 
+impl Drop for EntryCode {
+    fn drop(self) {
+        let EntryCode { head: _, code: _ } = self;
+    }
+}
+
 /// The microprograms of a text, in the order of its operations.
-#[derive(Debug, Drop)]
+#[derive(Drop)]
 pub struct Program {
     pub entries: Vec<EntryCode>,
 }

@@ -13,7 +13,7 @@ use bit_rows::WIDTH_MAX;
 use op_text::Kind;
 
 /// A row with its position in the value that it belongs to.
-#[derive(Clone, Copy, Debug, PartialEq, Eq)]
+#[derive(Clone, Copy, PartialEq, Eq)]
 pub struct RowPosition {
     pub space: RowSpace,
     pub which: u8,
@@ -21,7 +21,7 @@ pub struct RowPosition {
 }
 
 /// A row command that is not bound yet.
-#[derive(Clone, Copy, Debug, PartialEq, Eq)]
+#[derive(Clone, Copy, PartialEq, Eq)]
 pub enum Issued {
     /// AAP.
     Aap(RowPosition, RowPosition),
@@ -30,7 +30,7 @@ pub enum Issued {
 }
 
 /// What an instruction leads to.
-#[derive(Clone, Copy, Debug, PartialEq, Eq)]
+#[derive(Clone, Copy, PartialEq, Eq)]
 pub enum Turn {
     /// The end.
     Over,

@@ -19,7 +19,7 @@ use uprog_code::{Fetch, Head, Issued, Kind, Name, Turn, WALK_MAX, step};
 
 /// A place in a microprogram: the next instruction, the registers, and how many instructions its
 /// walk may still take.
-#[derive(Clone, Copy, Debug, PartialEq, Eq)]
+#[derive(Clone, Copy, PartialEq, Eq)]
 pub(crate) struct Walk {
     pub pc: u16,
     pub regs: [u16; 8],
@@ -40,14 +40,14 @@ impl Walk {
 }
 
 /// A row command that is not bound yet, and the place after it.
-#[derive(Clone, Copy, Debug, PartialEq, Eq)]
+#[derive(Clone, Copy, PartialEq, Eq)]
 pub(crate) struct Found {
     pub issued: Issued,
     pub following: Walk,
 }
 
 /// A bank that has commands left: the next one, and the job and the place after it.
-#[derive(Clone, Copy, Debug, PartialEq, Eq)]
+#[derive(Clone, Copy, PartialEq, Eq)]
 pub(crate) struct Cursor {
     pub bank: u16,
     pub next: Command,
@@ -67,7 +67,7 @@ impl Default for Cursor {
 }
 
 /// The head of a job's entry.
-#[derive(Debug, Drop)]
+#[derive(Drop)]
 pub(crate) struct JobHead {
     pub head: Head,
 }

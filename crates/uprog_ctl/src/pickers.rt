@@ -28,7 +28,7 @@ pub trait Picker {
 }
 
 /// Always chooses the first live bank. Its state is nothing.
-#[derive(Clone, Copy, Debug, PartialEq, Eq)]
+#[derive(Clone, Copy, PartialEq, Eq)]
 pub struct Forward;
 
 impl Forward {
@@ -63,7 +63,7 @@ impl Picker for Forward {
 
 /// Chooses the live banks one after another, by a count of its picks: the state is the count,
 /// from 0, and 0 again after 65,535.
-#[derive(Clone, Copy, Debug, PartialEq, Eq)]
+#[derive(Clone, Copy, PartialEq, Eq)]
 pub struct Turns {
     count: u16,
 }
@@ -103,7 +103,7 @@ impl Picker for Turns {
 }
 
 /// Chooses by the words of the generator SplitMix64: the state is the generator's.
-#[derive(Debug, Drop)]
+#[derive(Drop)]
 pub struct Seeded {
     words: SplitMix64,
 }
@@ -143,7 +143,7 @@ impl Picker for Seeded {
 }
 
 /// The order in force: one of the three, with its state.
-#[derive(Debug, Drop)]
+#[derive(Drop)]
 pub enum Order {
     First(Forward),
     Turns(Turns),

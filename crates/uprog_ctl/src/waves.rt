@@ -16,7 +16,7 @@ use dram_model::{ChipFault, Dram};
 use uprog_code::{Binding, Fetch};
 
 /// A microprogram that runs on the first so many banks.
-#[derive(Debug, Drop)]
+#[derive(Drop)]
 pub struct Job<F> {
     pub entry: F,
     pub binding: Binding,

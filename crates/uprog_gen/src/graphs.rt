@@ -16,7 +16,7 @@ fn step_graph(step: Step) -> Option<MigOuts>
     ensures { map graphed_of (option_to_list result) ≡ step_graph (step_of step) }
 {
     match step {
-        Step::Each(body) => Some(body.graph),
+        Step::Each(body) => Some(body.into_graph()),
         Step::Once(_) | Step::Nest(_) => None,
     }
 }

@@ -34,7 +34,7 @@ use std::alloc::Global;
 use uprog_code::{EntryCode, Program};
 
 /// Where the names of an operation lie, and the loop programs of its statements in order.
-#[derive(Debug, Drop)]
+#[derive(Drop)]
 pub struct Lowered {
     pub names: NameMap,
     pub programs: Vec<LoopProgram>,
@@ -42,7 +42,7 @@ pub struct Lowered {
 
 /// The program of a text's operations, and the graphs of their serial blocks in the order of the
 /// text.
-#[derive(Debug, Drop)]
+#[derive(Drop)]
 pub struct Compiled {
     pub program: Program,
     pub graphs: Vec<MigOuts>,

@@ -17,11 +17,20 @@ use row_alloc::{BodyCmd, OutRow, greedy_body};
 use std::alloc::Global;
 
 /// What is made of a body: its plan, its outputs' rows and its commands.
-#[derive(Debug, Drop)]
 pub struct Made {
     pub plan: Plan,
     pub outs: Vec<OutRow>,
     pub cmds: Vec<BodyCmd>,
+}
+
+impl Drop for Made {
+    fn drop(self) {
+        let Made {
+            plan: _,
+            outs: _,
+            cmds: _,
+        } = self;
+    }
 }
 
 /// A place of the list.

@@ -14,7 +14,7 @@ use no_memory::keep;
 use std::alloc::Global;
 
 /// The subscripts that registers 3, 4 and 5 hold; one of `Zero` holds none.
-#[derive(Clone, Copy, PartialEq, Eq, Debug)]
+#[derive(Clone, Copy, PartialEq, Eq)]
 pub struct Plan {
     pub first: Sub,
     pub second: Sub,

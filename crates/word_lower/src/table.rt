@@ -15,7 +15,7 @@ use loop_ir::Sub;
 use op_text::{Kind, WordOp};
 
 /// What the table has of an operation.
-#[derive(Clone, Copy, Debug)]
+#[derive(Clone, Copy)]
 pub enum ProgramRow {
     /// A body on every bit of a word, or another on the one of a bit.
     Spread(BodyForm, BodyForm),

@@ -11,7 +11,7 @@ use op_text::Kind;
 
 /// The places of a statement's names, and its first internal scratch. Where there is one argument,
 /// it stands for both, and so does a lone target.
-#[derive(Clone, Copy, PartialEq, Eq, Debug)]
+#[derive(Clone, Copy, PartialEq, Eq)]
 pub struct Rows {
     pub target: Slot,
     pub second: Slot,
