@@ -13,8 +13,8 @@ use std::mem;
 /// Four lines and more that are numbered one after another and else alike are said as one.
 const ALIKE: usize = 4;
 
-/// Does the command in the folder of the world, and says its status, what it sent and which files it
-/// stored.
+/// Does the command in the folder of the world, and says its status, what it sent and which files
+/// it stored.
 pub fn do_command(world: &mut World, text: &str, said: &mut String) -> Result<(), Stop> {
     let alloc = world.alloc;
     let words = quoted_words(text, alloc)?;

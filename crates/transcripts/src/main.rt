@@ -42,8 +42,8 @@ fn case_files(rt: &HostRuntime) -> io::Result<Vec<String>> {
     Ok(names)
 }
 
-/// With the words `rewrite FILE` and perhaps the name of a case, prints the file as it would have to
-/// be written; else a line for each case file, and each difference.
+/// With the words `rewrite FILE` and perhaps the name of a case, prints the file as it would have
+/// to be written; else a line for each case file, and each difference.
 fn main(rt: HostRuntime) -> io::Result<ExitCode> {
     let words = words_of(&rt)?;
     let mut texts = words.iter();

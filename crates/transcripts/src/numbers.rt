@@ -50,8 +50,8 @@ pub fn quoted_words(text: &str, alloc: Global) -> Result<Vec<String>, Stop> {
     Ok(words)
 }
 
-/// The text in which `\n` stands for a line's end, `\t` for a tab, `\s` for a blank, `\0` for a zero
-/// byte and `\\` for a backslash.
+/// The text in which `\n` stands for a line's end, `\t` for a tab, `\s` for a blank, `\0` for a
+/// zero byte and `\\` for a backslash.
 pub fn unescaped(text: &str, alloc: Global) -> Result<String, Stop> {
     let mut out = String::new(alloc);
     let mut escaped = false;
@@ -81,8 +81,8 @@ fn listed(text: &str, alloc: Global) -> Result<Vec<u128>, Stop> {
     Ok(numbers)
 }
 
-/// An object as `WIDTH=NUMBERS`, `WIDTH/COUNT`, `WIDTH/COUNT=NUMBERS`, or `WIDTH/COUNT~SEED` of drawn
-/// numbers.
+/// An object as `WIDTH=NUMBERS`, `WIDTH/COUNT`, `WIDTH/COUNT=NUMBERS`, or `WIDTH/COUNT~SEED` of
+/// drawn numbers.
 pub fn given_of(text: &str, alloc: Global) -> Result<Given, Stop> {
     let (front, numbers) = text.split_once('=').unwrap_or((text, ""));
     let (size, seed) = front.split_once('~').unwrap_or((front, ""));

@@ -38,7 +38,8 @@ fn put_kind(said: &mut String, sent: Option<&Sent>) -> Result<(), Stop> {
     Ok(())
 }
 
-/// Says the first items as `c0*16` or, of two that take turns, `(c0 c1)*219`, and how many they are.
+/// Says the first items as `c0*16` or, of two that take turns, `(c0 c1)*219`, and how many they
+/// are.
 fn put_first(said: &mut String, sent: &[Sent]) -> Result<usize, Stop> {
     let (one, two) = (repeats(sent, 1), repeats(sent, 2));
     if one == 1 && two > 1 && sent.len() > 1 {
