@@ -1,0 +1,30 @@
+"""SIMDRAM from Python: `Chip` takes NumPy arrays in and gives them out, computed by row commands (docs/NUMPY.md).
+
+The names of the front are looked up when they are used, so that the command and the file modules need no NumPy.
+"""
+
+from __future__ import annotations
+
+import importlib
+
+_FRONT = {
+    "Chip": "chip", "Array": "array", "Cost": "running", "Op": "user_ops", "op": "user_ops", "scan": "scanning",
+    "Count": "scanning", "Refused": "refusals", "Stopped": "refusals", "compute": "chip", "apply": "functions",
+    "where": "functions", "minimum": "functions", "maximum": "functions", "bitcount": "functions",
+}
+__all__ = sorted(_FRONT)
+
+
+def __getattr__(name):
+    if name not in _FRONT:
+        raise AttributeError(f"module simdram has no {name}")
+    try:
+        return getattr(importlib.import_module(f".arrays.{_FRONT[name]}", __name__), name)
+    except ModuleNotFoundError as missing:
+        if missing.name != "numpy":
+            raise
+        raise ImportError(f"simdram.{name} needs NumPy, which is not installed: pip install numpy") from None
+
+
+def __dir__():
+    return __all__

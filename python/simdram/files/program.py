@@ -1,0 +1,214 @@
+"""Program files: entries, each with its operands, its scratch and its microprogram."""
+
+from __future__ import annotations
+
+import dataclasses
+import typing
+
+from . import decode
+from .fields import Fields, name_field
+from .store import load
+
+MAGIC = b"SDMP"
+ENTRIES, SOURCES, CODE, LARGEST = 32, (1, 4), (1, 65535), 1023
+REGISTERS, SPILLS = 8, 32
+NAMES = ("DONE", "SETI", "SETN", "SETT", "MOV", "ADD", "ADDI", "SUBI", "BNEZ", "AAP", "AP")
+DONE, SETI, SETN, SETT, MOV, ADD, ADDI, SUBI, BNEZ, AAP, AP = range(len(NAMES))
+# of each instruction, its operands: r a register in byte 1, s one in byte 2, k a number and t a target in bytes 2 and 3
+OPERANDS = ("", "rk", "r", "r", "rs", "rs", "rk", "rk", "rt", "xy", "x")
+# of each instruction, the bytes that are named
+NAMED = (1, 4, 2, 2, 3, 3, 4, 4, 4, 7, 4)
+B_ADDRESS, C_ADDRESS, RESULT, SOURCE, BIT, WORD, SPILL = range(7)
+INDEXED = (RESULT, SOURCE, WORD)
+
+
+class Row(typing.NamedTuple):
+    """A row of a command: its space, which one of it, and the register of its index, or 8 for index 0."""
+
+    space: int
+    which: int
+    index: int
+
+    @property
+    def subscript(self) -> str:
+        """The index as a listing has it."""
+        return "0" if self.index == REGISTERS else f"r{self.index}"
+
+    def __str__(self) -> str:
+        """Its name in a listing."""
+        name = ("B{}", "C{}", "yz", "s{}", "t{}", "w{}", "p{}")[self.space]
+        name = name[self.which] if self.space == RESULT else name.format(self.which)
+        return f"{name}[{self.subscript}]" if self.space in INDEXED else name
+
+
+@dataclasses.dataclass(frozen=True)
+class Instruction:
+    """An instruction: its kind and its eight bytes."""
+
+    kind: int
+    raw: bytes
+
+    @property
+    def name(self) -> str:
+        """What it is called."""
+        return NAMES[self.kind]
+
+    @property
+    def rows(self) -> typing.List[Row]:
+        """Its one or two rows where it is a command."""
+        return [Row(*self.raw[at:at + 3]) for at in (1, 4)][:{AAP: 2, AP: 1}.get(self.kind, 0)]
+
+    @property
+    def register(self) -> int:
+        """The register of byte 1."""
+        return self.raw[1]
+
+    @property
+    def other(self) -> int:
+        """The register of byte 2."""
+        return self.raw[2]
+
+    @property
+    def number(self) -> int:
+        """The number, or the target, of bytes 2 and 3."""
+        return self.raw[2] | self.raw[3] << 8
+
+    def __str__(self) -> str:
+        """Its text in a listing."""
+        texts = {"r": f"r{self.register}", "s": f"r{self.other}", "k": str(self.number), "t": str(self.number)}
+        texts.update(zip("xy", map(str, self.rows)))
+        return " ".join([self.name, *(texts[one] for one in OPERANDS[self.kind])])
+
+
+@dataclasses.dataclass(frozen=True)
+class Entry:
+    """An entry: its operands by kind (`word` or `bit`), its scratch rows and words, and its code."""
+
+    name: str
+    sources: typing.Tuple[str, ...]
+    results: typing.Tuple[str, ...]
+    bits: int
+    words: int
+    code: typing.Tuple[Instruction, ...] = ()
+
+    @property
+    def kinds(self) -> int:
+        """The kinds byte."""
+        byte = sum(1 << bit for bit, kind in enumerate(self.sources) if kind == "word")
+        byte |= (self.results[0] == "word") << 4
+        if len(self.results) == 2:
+            byte |= 1 << 5 | (self.results[1] == "word") << 6
+        return byte
+
+
+@dataclasses.dataclass
+class Program:
+    """A program: the version of its file, and its entries in order."""
+
+    entries: typing.List[Entry]
+    version: int = 2
+
+    @classmethod
+    def read(cls, data: bytes, path: str = "program") -> Program:
+        """The program of a file's bytes; what is no program file is refused at the first field that breaks its rule."""
+        fields = Fields(data, path)
+        fields.magic(MAGIC, "program")
+        version = fields.within(2, 1, 2, "version", "the version")
+        heads = read_directory(fields, version)
+        entries = [dataclasses.replace(head, code=read_code(fields, head, count)) for head, count in heads]
+        fields.end()
+        return cls(entries, version)
+
+    @classmethod
+    def load(cls, path: str) -> Program:
+        """The program in a file."""
+        return cls.read(load(path), path)
+
+    def file(self) -> bytes:
+        """The program file, of this version."""
+        head, start = MAGIC + self.version.to_bytes(2, "little") + len(self.entries).to_bytes(2, "little"), 0
+        for entry in self.entries:
+            shape = bytes([len(entry.sources), entry.kinds, entry.bits, entry.words])
+            head += name_field(entry.name) + shape + start.to_bytes(4, "little") + len(entry.code).to_bytes(2, "little")
+            start += len(entry.code)
+        return head + b"".join(one.raw for entry in self.entries for one in entry.code)
+
+    def find(self, name: str) -> Entry:
+        """The entry of this name."""
+        for entry in self.entries:
+            if entry.name == name:
+                return entry
+        names = ", ".join(entry.name for entry in self.entries)
+        raise KeyError(f"no entry {name}: there are {names}" if names else f"no entry {name}: the program has none")
+
+
+def read_directory(fields: Fields, version: int) -> typing.List[typing.Tuple[Entry, int]]:
+    """The entries without their code, and the counts of their instructions."""
+    heads: typing.List[typing.Tuple[Entry, int]] = []
+    start = 0
+    for _ in range(fields.within(2, 0, ENTRIES, "directory", "the number of entries")):
+        name = fields.name("directory", {head.name for head, _ in heads})
+        count = fields.within(1, *SOURCES, "directory", f"the number of sources of {name}")
+        sources, results = read_kinds(fields, version, name, count)
+        bits, words = fields.number(1), fields.number(1)
+        fields.within(4, start, start, "directory", f"the start of {name}")
+        size = fields.within(2, *CODE, "directory", f"the number of instructions of {name}")
+        heads.append((Entry(name, sources, results, bits, words), size))
+        start += size
+    return heads
+
+
+def read_kinds(fields: Fields, version: int, name: str, count: int) -> typing.Tuple[typing.Tuple[str, ...], ...]:
+    """The kinds of the sources and of the results."""
+    byte = fields.number(1)
+    second = byte >> 5 & 1
+    spare = byte >> 7 or (byte & 15) >> count or (second and version == 1) or (not second and byte >> 6 & 1)
+    if spare:
+        raise fields.fault("directory", f"the kinds of {name} are {byte}, with a bit that is never set there")
+    kinds = ["word" if byte >> bit & 1 else "bit" for bit in range(7)]
+    return tuple(kinds[:count]), tuple([kinds[4], kinds[6]][:1 + second])
+
+
+def read_code(fields: Fields, head: Entry, count: int) -> typing.Tuple[Instruction, ...]:
+    """The instructions of an entry."""
+    return tuple(read_instruction(fields, head, count, at) for at in range(count))
+
+
+def read_instruction(fields: Fields, head: Entry, count: int, at: int) -> Instruction:
+    """The next instruction, number `at` of an entry's `count`."""
+    raw = fields.taken(8)
+    where = f"instruction {at} of {head.name}"
+    if raw[0] >= len(NAMES):
+        raise fields.fault("instruction", f"{where} is of kind {raw[0]}")
+    one = Instruction(raw[0], raw)
+    if not operands_fit(one):
+        raise fields.fault("instruction", f"{where}, {one.name}, has a register, number or byte out of range")
+    if one.kind == BNEZ and one.number >= count:
+        raise fields.fault("target", f"{where} jumps to {one.number}, and the entry has {count} instructions")
+    wrong = next((row for row in one.rows if not row_fits(row, head)), None)
+    if wrong is not None or (one.rows and not places_fit(one.rows)):
+        raise fields.fault("row", f"{where}, {one.name}, has a row that does not stand or may not stand there")
+    if at == count - 1 and one.kind != DONE:
+        raise fields.fault("no_done", f"{where} is the last and not DONE")
+    return one
+
+
+def operands_fit(one: Instruction) -> bool:
+    """Whether registers are below 8, a number is at most 1023, and the bytes that are not named are 0."""
+    operands = OPERANDS[one.kind]
+    wide = "r" in operands and one.register >= REGISTERS or "s" in operands and one.other >= REGISTERS
+    return not (wide or "k" in operands and one.number > LARGEST or any(one.raw[NAMED[one.kind]:]))
+
+
+def row_fits(row: Row, head: Entry) -> bool:
+    """Whether the entry has this row."""
+    whiches = (decode.B_ADDRESSES, 2, len(head.results), len(head.sources), head.bits, head.words, SPILLS)
+    if row.space >= len(whiches) or row.which >= whiches[row.space]:
+        return False
+    return row.index <= (REGISTERS if row.space in INDEXED else 0)
+
+
+def places_fit(rows: typing.Sequence[Row]) -> bool:
+    """Whether the first row may be activated first, and the second written."""
+    first_fits = rows[0].space != B_ADDRESS or decode.legal_first("B", rows[0].which)
+    return first_fits and all(row.space not in (C_ADDRESS, SOURCE) for row in rows[1:])

@@ -1,0 +1,29 @@
+"""What the tests share: the program that they run, and NumPy where it is installed."""
+
+import os
+import pathlib
+import sys
+import unittest
+
+TOP = pathlib.Path(__file__).resolve().parents[2]
+sys.path.insert(0, str(TOP / "python"))
+BUILT = [TOP / "crates" / "simdram" / "out" / name for name in ("simdram", "unproved")]
+
+try:
+    import numpy
+except ImportError:
+    numpy = None
+
+
+def program():
+    """The program under test: SIMDRAM_PROGRAM, else the one that stands built, else None."""
+    named = os.environ.get("SIMDRAM_PROGRAM")
+    found = [named] if named else [str(path) for path in BUILT if path.exists()]
+    if found:
+        os.environ["SIMDRAM_PROGRAM"] = os.path.abspath(found[0])
+        return os.environ["SIMDRAM_PROGRAM"]
+    return None
+
+
+needs_program = unittest.skipUnless(program(), "no program is built: ./simdram --unproved builds one")
+needs_numpy = unittest.skipUnless(numpy, "NumPy is not installed")
