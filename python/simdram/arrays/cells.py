@@ -1,0 +1,90 @@
+"""NumPy arrays and cells: what a chip's objects take and give."""
+
+from __future__ import annotations
+
+import typing
+
+import numpy
+
+from ..files import columns
+from .operations import BIT, WORD
+from .refusals import Refused
+
+WIDTHS = (1, 128)
+
+
+def width_of(numbers: numpy.ndarray) -> int:
+    """The width that an array's type says."""
+    if numbers.dtype == bool:
+        return 1
+    if numbers.dtype.kind in "ui":
+        return 8 * numbers.dtype.itemsize
+    raise Refused("bad_number", f"an array of {numbers.dtype} says no width: give bits=")
+
+
+def as_array(data: typing.Any) -> numpy.ndarray:
+    """Whole numbers or truth values as an array."""
+    numbers = numpy.asarray(data)
+    if numbers.dtype.kind in "bui":
+        return numbers
+    if numbers.dtype == object or (numbers.dtype.kind == "f" and not isinstance(data, numpy.ndarray)):
+        # numbers of 64 bits and more in a list
+        exact = numpy.array(data, dtype=object)
+        if all(isinstance(number, (int, numpy.integer)) for number in exact.ravel()):
+            return exact
+    raise TypeError(f"an array of {numbers.dtype} has no whole numbers: astype(int) makes them")
+
+
+def checked_width(bits: int) -> int:
+    """A width that an object can have."""
+    if not WIDTHS[0] <= bits <= WIDTHS[1]:
+        raise Refused("bad_number", f"bits={bits}, and an object has {WIDTHS[0]} to {WIDTHS[1]}")
+    return bits
+
+
+def check_range(numbers: numpy.ndarray, bits: int) -> None:
+    """Refuses the first number that does not fit."""
+    if numbers.dtype == bool or not numbers.size:
+        return
+    if 0 <= int(numbers.min()) and int(numbers.max()) < 1 << bits:
+        return
+    outside = numpy.array([not 0 <= int(number) < 1 << bits for number in numbers.ravel()])
+    place = int(outside.argmax())
+    index = ", ".join(map(str, numpy.unravel_index(place, numbers.shape)))
+    raise Refused("range", f"the number at [{index}] is {int(numbers.ravel()[place])}, and {bits} bits hold 0 to "
+                  f"{2**bits - 1}", place + 1)
+
+
+def cells_of(numbers: numpy.ndarray, bits: int) -> bytes:
+    """The cells of numbers that fit."""
+    size = columns.size_of(bits)
+    if numbers.dtype == object:
+        return columns.cells_with([int(number) for number in numbers.ravel()], size)
+    narrow = numbers.astype(f"<u{min(size, 8)}", order="C").tobytes()
+    if size < 16:
+        return narrow
+    wide = bytearray(2 * len(narrow))
+    for at in range(8):
+        wide[at::16] = narrow[at::8]
+    return bytes(wide)
+
+
+def array_of(cells: bytes, size: int, kind: str, shape: typing.Tuple[int, ...]) -> numpy.ndarray:
+    """The array of what cells hold: truth values, the least unsigned type, or Python's integers above 64 bits."""
+    if size > 8:
+        numbers = numpy.empty(len(cells) // size, dtype=object)
+        numbers[:] = columns.numbers_of(cells, size)
+        return numbers.reshape(shape)
+    numbers = numpy.frombuffer(cells, dtype=f"<u{size}").astype(bool if kind == BIT else f"u{size}")
+    return numbers.reshape(shape)
+
+
+def kind_of(numbers: numpy.ndarray, bits: int) -> str:
+    """Truth values of one bit are bits, and all else is words."""
+    return BIT if numbers.dtype == bool and bits == 1 else WORD
+
+
+def array_of_number(number: int, bits: int, kind: str) -> numpy.ndarray:
+    """One number as an array of no dimensions."""
+    size = columns.size_of(bits)
+    return array_of(number.to_bytes(size, "little"), size, kind, ())

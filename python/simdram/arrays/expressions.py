@@ -1,0 +1,117 @@
+"""Values and the steps that give them: what an expression is before it is compiled."""
+
+from __future__ import annotations
+
+import typing
+
+from .operations import BIT, SAME, WORD
+from .refusals import Refused
+
+
+class Held:
+    """A value that is an object of the chip."""
+
+    def __init__(self, name: str) -> None:
+        self.name = name
+
+
+class Constant:
+    """A value that is one number in every element, made by a fill."""
+
+    def __init__(self, number: int) -> None:
+        self.number = number
+
+
+class Result:
+    """A value that a step gives: its first or its second."""
+
+    def __init__(self, step: Step, place: int) -> None:
+        self.step, self.place = step, place
+
+
+class Value:
+    """A value of a number of bits in each element, a word or a bit, and where it comes from."""
+
+    __slots__ = ("kind", "bits", "origin")
+
+    def __init__(self, kind: str, bits: int, origin: typing.Union[Held, Constant, Result]) -> None:
+        self.kind, self.bits, self.origin = kind, bits, origin
+
+
+class Step:
+    """An operation on values. Its width is that of its words, or None where it has bits alone."""
+
+    __slots__ = ("operation", "arguments", "width", "results")
+
+    def __init__(self, operation: typing.Any, arguments: typing.Sequence[Value], width: typing.Optional[int],
+                 kinds: typing.Sequence[str]) -> None:
+        self.operation, self.arguments, self.width = operation, tuple(arguments), width
+        bits = [1 if kind == BIT else width for kind in kinds]
+        self.results = tuple(Value(kind, bits[k], Result(self, k)) for k, kind in enumerate(kinds))
+
+
+def step(operation: typing.Any, arguments: typing.Sequence[Value], bits: typing.Optional[int] = None) -> Step:
+    """The step of an operation on these arguments, or the refusal of the first rule that they break.
+
+    The operation has `name`, `takes` and `gives`; `bits` is the width where no argument is a word. A refusal's place
+    counts the results first and then the arguments, as the program's does.
+    """
+    first = len(operation.gives)
+    if len(arguments) != len(operation.takes):
+        raise Refused("arity", f"{operation.name} takes {len(operation.takes)} arguments, not {len(arguments)}")
+    same = _same_kind(operation, arguments)
+    width = next((value.bits for value in arguments if value.kind == WORD), bits)
+    for k, (value, kind) in enumerate(zip(arguments, operation.takes), first):
+        if value.kind != (same if kind == SAME else kind):
+            raise Refused("kind", f"argument {k - first} of {operation.name} is a {value.kind}, "
+                          f"and a {same if kind == SAME else kind} is wanted there", k)
+        if value.kind == WORD and value.bits != width:
+            raise Refused("width", f"argument {k - first} of {operation.name} has {value.bits} bits, and others "
+                          f"{width}", k)
+    kinds = [same if kind == SAME else kind for kind in operation.gives]
+    if width is None and WORD in kinds:
+        raise Refused("width", f"{operation.name} gives words and takes none: say bits=")
+    return Step(operation, arguments, width, kinds)
+
+
+def _same_kind(operation: typing.Any, arguments: typing.Sequence[Value]) -> str:
+    """The kind that `same` stands for: that of the first such argument."""
+    return next((value.kind for value, kind in zip(arguments, operation.takes) if kind == SAME), WORD)
+
+
+def in_order(targets: typing.Iterable[Value]) -> typing.List[Step]:
+    """The steps that the values need, each after those of its arguments."""
+    done: typing.Dict[int, Step] = {}
+    waiting = [target.origin.step for target in targets if isinstance(target.origin, Result)][::-1]
+    while waiting:
+        below = [value.origin.step for value in waiting[-1].arguments if isinstance(value.origin, Result)]
+        left = [one for one in below if id(one) not in done]
+        if left:
+            waiting += left[::-1]
+        else:
+            one = waiting.pop()
+            done.setdefault(id(one), one)
+    return list(done.values())
+
+
+def merged(targets: typing.Sequence[Value]) -> typing.List[Value]:
+    """The same values, where equal steps and equal constants have become one."""
+    known: typing.Dict[tuple, typing.Union[Step, Value]] = {}
+    now: typing.Dict[int, Value] = {}
+
+    def of(value: Value) -> Value:
+        if isinstance(value.origin, Constant):
+            return known.setdefault((value.kind, value.bits, value.origin.number), value)
+        return now.get(id(value), value) if isinstance(value.origin, Result) else _held(known, value)
+
+    for one in in_order(targets):
+        arguments = tuple(map(of, one.arguments))
+        key = (one.operation.name, id(one.operation), one.width, *map(id, arguments))
+        kept = known.setdefault(key, Step(one.operation, arguments, one.width, [value.kind for value in one.results]))
+        now.update((id(value), kept.results[k]) for k, value in enumerate(one.results))
+    return [of(target) for target in targets]
+
+
+def _held(known: dict, value: Value) -> Value:
+    """The one value of an object."""
+    return known.setdefault(("held", value.origin.name), value)

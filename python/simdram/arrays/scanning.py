@@ -1,0 +1,75 @@
+"""Counts the elements that meet a query, by comparisons in the chip."""
+
+from __future__ import annotations
+
+import copy
+import dataclasses
+import itertools
+import re
+import tempfile
+import typing
+
+from .. import run_program
+from ..files.fields import NAME
+from ..files.image import Image
+from ..files.store import store
+from .array import Array
+from .chip import Chip
+from .refusals import Refused, Stopped, last_line
+from .running import Cost
+
+COUNTED = re.compile(r"count (\d+) of (\d+) aap=(\d+) ap=(\d+)")
+REFUSED = re.compile(r"query refused (\w+) (\d+)")
+
+
+class Count(typing.NamedTuple):
+    """How many elements meet a query, how many there are, and what the query cost."""
+
+    count: int
+    elements: int
+    cost: Cost
+
+
+def scan(chip: Chip, query: str, **arrays: typing.Any) -> Count:
+    """Counts the elements that meet a query, such as `and(ge(a, 10), not(eq(a, 200)))`, whose names are the arrays'.
+
+    An array is one of the chip, or one of NumPy that is placed for the query alone.
+    """
+    placed: typing.Dict[str, Array] = {}
+    for name, one in arrays.items():
+        array = one if isinstance(one, Array) else chip.array(one)
+        twice = any(array is other for other in placed.values())
+        placed[name] = chip.array(array.numpy(), bits=array.bits) if twice else array
+    image = renamed(chip, {object_of(chip, name, array): name for name, array in placed.items()})
+    with tempfile.TemporaryDirectory(prefix="simdram_") as folder:
+        store(f"{folder}/query", query.encode())
+        image.save(f"{folder}/image")
+        ended = run_program.run(["scan", "query", "image"], folder)
+    counted = COUNTED.fullmatch(last_line(ended.out))
+    if ended.status == 0 and counted:
+        count, elements, aap, ap = map(int, counted.groups())
+        return Count(count, elements, Cost(aap, ap))
+    refused = REFUSED.fullmatch(last_line(ended.out))
+    if refused:
+        raise Refused(refused[1], query, int(refused[2]))
+    raise Stopped("scan", ended, "query", query)
+
+
+def object_of(chip: Chip, name: str, array: Array) -> str:
+    """The object of an array that a query calls by this name."""
+    if not NAME.fullmatch(name.encode()):
+        raise Refused("bad_name", f"{name} is no name of at most 16 letters, digits and _")
+    if array.chip is not chip:
+        raise ValueError(f"{name} is an array of another chip")
+    if not array.shape:
+        raise Refused("size", f"{name} is one number, and a query goes over an array")
+    chip.made(array)
+    return array.value.origin.name
+
+
+def renamed(chip: Chip, names: typing.Dict[str, str]) -> Image:
+    """The chip's image, where the arrays have the query's names and no other object has one of them."""
+    image = copy.copy(chip.image)
+    others = (name for name in map("_{}".format, itertools.count()) if name not in names.values())
+    image.objects = [dataclasses.replace(one, name=names.get(one.name) or next(others)) for one in image.objects]
+    return image

@@ -1,0 +1,106 @@
+"""From parts to scripts: objects for constants and results, a bbop for each part, and what is freed after it."""
+
+from __future__ import annotations
+
+import collections
+import typing
+
+from .cutting import Part, can_join
+from .expressions import Constant, Held, Value
+from .op_text import renamed, text_of
+from .running import OPS_MOST, Script
+
+
+class Names:
+    """New names for objects and ops, which nothing in a chip has."""
+
+    def __init__(self) -> None:
+        self.last = 0
+
+    def next(self, letter: str) -> str:
+        """A new name that begins so."""
+        self.last += 1
+        return f"{letter}{self.last}"
+
+
+class Scripts:
+    """The scripts that give the targets at a count of elements, one after another; the last may be the only one."""
+
+    def __init__(self, parts: typing.Sequence[Part], targets: typing.Sequence[Value], count: int, names: Names) -> None:
+        self.count, self.names = count, names
+        self.scripts = [Script()]
+        self.objects: typing.Dict[int, str] = {}
+        self.ops: typing.Dict[str, str] = {}
+        self.kept = {id(target) for target in targets}
+        self.longest = max((len(part.steps) for part in parts), default=0)
+        # of each value, how many parts have still to read it
+        self.readers = collections.Counter(id(value) for part in parts for value in part.sources)
+        for part in parts:
+            self._do(part)
+        for target in targets:
+            self.object_of(target)
+
+    @property
+    def lines(self) -> typing.List[str]:
+        """The lines of the script in hand."""
+        return self.scripts[-1].lines
+
+    @property
+    def texts(self) -> typing.List[str]:
+        """The texts of all ops, each once."""
+        return list(dict.fromkeys(text for script in self.scripts for text in script.texts))
+
+    def object_of(self, value: Value) -> str:
+        """The object that holds a value; a constant is filled into a new one."""
+        if isinstance(value.origin, Held):
+            return value.origin.name
+        if id(value) not in self.objects:
+            self._make(value)
+            if isinstance(value.origin, Constant):
+                self.lines.append(f"fill {self.objects[id(value)]}, {value.origin.number}")
+        return self.objects[id(value)]
+
+    def _make(self, value: Value) -> None:
+        self.objects[id(value)] = self.names.next("v")
+        self.lines.append(f"bbop_trsp_init {self.objects[id(value)]}, {self.count}, {value.bits}")
+
+    def _do(self, part: Part) -> None:
+        """The lines of a part: its constants, its results, its bbop, and what no later part reads."""
+        op = self._op(part)
+        sources = [self.object_of(value) for value in part.sources]
+        results = [self.object_of(value) for value in part.results]
+        operands = ", ".join([*results, *self._repeated(part, sources)])
+        self.lines.append(f"bbop_{op} {operands}, {self.count}, {part.width or 1}")
+        self.readers.subtract(map(id, part.sources))
+        for value in [*part.sources, *part.results]:
+            if not self.readers[id(value)] and id(value) in self.objects and id(value) not in self.kept:
+                self.lines.append(f"free {self.objects.pop(id(value))}")
+
+    @staticmethod
+    def _repeated(part: Part, sources: typing.Sequence[str]) -> typing.List[str]:
+        """The sources as the op has them: an op of the designer's own may be given one value twice."""
+        if can_join(part.steps[0]):
+            return list(sources)
+        names = {id(value): name for value, name in zip(part.sources, sources)}
+        return [names[id(value)] for value in part.steps[0].arguments]
+
+    def _op(self, part: Part) -> str:
+        """The name of the op that does a part; equal texts are one op, and a script has at most 32."""
+        own = None if can_join(part.steps[0]) else part.steps[0].operation
+        text = own.text if own else text_of("e", part)
+        key = renamed(text, "e")
+        if key not in self.ops:
+            taken = self.ops.values()
+            self.ops[key] = own.name if own and own.name not in taken else self._fresh(taken)
+        named = renamed(text, self.ops[key])
+        if named not in self.scripts[-1].texts:
+            if len(self.scripts[-1].texts) == OPS_MOST:
+                self.scripts.append(Script())
+            self.scripts[-1].texts.append(named)
+        return self.ops[key]
+
+    @staticmethod
+    def _fresh(taken: typing.Collection[str]) -> str:
+        return next(name for name in (f"e{k}" for k in range(len(taken) + 1)) if name not in taken)
+
+
