@@ -30,10 +30,10 @@ import time
 
 TOP = pathlib.Path(__file__).resolve().parent.parent
 sys.dont_write_bytecode = True
-sys.path.append(str(TOP / "tools"))
+sys.path.append(str(TOP / "python"))
 
-from from_hex import bytes_in  # noqa: E402
-from image import Image, Object  # noqa: E402
+from simdram.files.image import Image, Object  # noqa: E402
+from simdram.from_hex import bytes_in  # noqa: E402
 from word_ops import word_ops  # noqa: E402
 
 PROGRAM = TOP / "crates" / "simdram" / "out" / "simdram"

@@ -18,9 +18,10 @@ import tempfile
 
 TOP = pathlib.Path(__file__).resolve().parent.parent
 sys.dont_write_bytecode = True
-sys.path.append(str(TOP / "tools"))
+sys.path.append(str(TOP / "python"))
 
-from image import Image, make  # noqa: E402
+from simdram.files.image import Image  # noqa: E402
+from simdram.image_tool import make  # noqa: E402
 
 PROGRAM = TOP / "crates" / "simdram" / "out" / "simdram"
 MAC = "op mac(a: word, b: word, c: word) -> y: word { t = mul(a, b); y = add(t, c); }\n"

@@ -84,7 +84,7 @@ def main():
     if asked.program:
         speed.PROGRAM = asked.program.resolve()
     else:
-        subprocess.run([speed.TOP / "simdram"], cwd=speed.TOP, stdout=subprocess.DEVNULL, check=False)
+        subprocess.run([speed.TOP / "simdram", "build"], stdout=subprocess.DEVNULL, check=True)
     numbers = array.array("I", ((2_654_435_761 * e + 12_345) % 2**32 for e in range(COUNT)))
     with tempfile.TemporaryDirectory() as name:
         folder = pathlib.Path(name)

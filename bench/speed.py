@@ -207,7 +207,7 @@ def main():
     if asked.program:
         PROGRAM = asked.program.resolve()
     else:
-        subprocess.run([TOP / "simdram"], cwd=TOP, stdout=subprocess.DEVNULL, check=False)
+        subprocess.run([TOP / "simdram", "build"], stdout=subprocess.DEVNULL, check=True)
     rows = []
     with tempfile.TemporaryDirectory() as name:
         baseline = pathlib.Path(name) / "baseline"

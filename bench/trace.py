@@ -75,7 +75,7 @@ def main():
     if asked.program:
         speed.PROGRAM = asked.program.resolve()
     else:
-        subprocess.run([speed.TOP / "simdram"], cwd=speed.TOP, stdout=subprocess.DEVNULL, check=False)
+        subprocess.run([speed.TOP / "simdram", "build"], stdout=subprocess.DEVNULL, check=True)
     print(f"{speed.load_now()} at the start")
     for name, shape, count in JOBS:
         with tempfile.TemporaryDirectory() as path:

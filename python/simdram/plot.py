@@ -1,72 +1,64 @@
-#!/usr/bin/env python3
 """Draws how many row commands the entries of a program file take, over the width.
-
-    tools/cost_plot.py PROG OUT.svg [--ops NAME,NAME,..] [--to N] [--ceiling NAME=FORMULA ..] [--unproved]
 
 A line an entry: its AAP and AP together on one bank, as `simdram cost` counts them, at n = 1 to N (64 where none is
 given). A FORMULA is of n, with whole numbers, `+`, `-`, `*`, `//` and brackets, such as `9*n+1` or `11*n*n+15*n`; it is
-drawn dashed in the entry's colour.
-
-It needs Python's standard library alone, and runs `./simdram` at the top of this repository, or with --unproved
-`./simdram --unproved`.
+drawn dashed in the entry's colour. An entry whose walk is stuck at a width is left out, with a line that says so.
 """
+
+from __future__ import annotations
 
 import argparse
 import ast
 import html
 import operator
 import pathlib
-import subprocess
-import sys
 
-PROGRAM = [str(pathlib.Path(__file__).resolve().parent.parent / "simdram")]
+from .costs import costs
+from .faults import Fault
+from .say import say
+from .settings import Settings
+
 COLOURS = ("#0072b2", "#d55e00", "#009e73", "#cc79a7", "#555555", "#e69f00", "#56b4e9")
 OPERATORS = {ast.Add: operator.add, ast.Sub: operator.sub, ast.Mult: operator.mul, ast.FloorDiv: operator.floordiv}
 WIDE, HIGH, LEFT, BELOW, LEGEND = 720, 420, 80, 50, 260
 
 
-class Fault(Exception):
-    """What is wrong with the words or a file, as one line."""
-
-
 def value(formula, n):
     """What a formula gives at n."""
     def of(node):
-        match node:
-            case ast.Constant(value=int(number)):
-                return number
-            case ast.Name(id="n"):
-                return n
-            case ast.BinOp(left=left, op=sign, right=right) if type(sign) in OPERATORS:
-                return OPERATORS[type(sign)](of(left), of(right))
-            case _:
-                raise Fault(f"{formula} is no formula of n")
+        if isinstance(node, ast.Constant) and type(node.value) is int:
+            return node.value
+        if isinstance(node, ast.Name) and node.id == "n":
+            return n
+        if isinstance(node, ast.BinOp) and type(node.op) in OPERATORS:
+            return OPERATORS[type(node.op)](of(node.left), of(node.right))
+        raise Fault(f"{formula} is no formula of n")
+
     try:
         return of(ast.parse(formula, mode="eval").body)
     except (SyntaxError, ZeroDivisionError):
         raise Fault(f"{formula} is no formula of n") from None
 
 
-def costs(program, path, n):
-    """Of each entry at a width, in the order of the file, its AAP and AP together."""
-    ended = subprocess.run([*program, "cost", path, str(n)], capture_output=True, text=True, check=False)
-    if ended.returncode:
-        raise Fault(f"cost {path} {n} ended with {ended.returncode}: {ended.stdout.strip() or ended.stderr.strip()}")
-    for line in ended.stdout.splitlines():
-        name, aap, ap, _rows = line.split()
-        yield name, int(aap.removeprefix("aap=")) + int(ap.removeprefix("ap="))
-
-
-def curves(program, path, ops, last):
-    """Of each entry that is asked for its commands at n = 1 to `last`."""
-    found = {}
+def curves(path: str, ops: list[str], last: int, settings: Settings) -> dict[str, list[int]]:
+    """Of each entry that is asked for its commands at n = 1 to `last`; a stuck one is left out and told."""
+    found: dict[str, list[int]] = {}
+    stuck: dict[str, str] = {}
     for n in range(1, last + 1):
-        for name, commands in costs(program, path, n):
-            found.setdefault(name, []).append(commands)
+        for cost in costs(path, n, settings):
+            found.setdefault(cost.name, []).append(cost.commands)
+            if cost.stuck:
+                stuck.setdefault(cost.name, f"{cost.stuck} at n = {n}")
     unknown = [name for name in ops if name not in found]
     if unknown:
         raise Fault(f"{path} has no entry {unknown[0]}: it has {', '.join(found) or 'none'}")
-    return {name: found[name] for name in ops or found}
+    for name in ops or found:
+        if name in stuck:
+            say(f"{name} is left out: its walk is stuck, {stuck[name]}")
+    drawn_names = [name for name in ops or found if name not in stuck]
+    if not drawn_names:
+        raise Fault(f"{path} has no entry that can be drawn")
+    return {name: found[name] for name in drawn_names}
 
 
 def step(reach, most):
@@ -126,26 +118,27 @@ def drawn(found, ceilings):
     yield "</svg>"
 
 
-def main():
-    parser = argparse.ArgumentParser(description=__doc__, formatter_class=argparse.RawDescriptionHelpFormatter)
-    parser.add_argument("prog")
-    parser.add_argument("out")
-    parser.add_argument("--ops", default="", help="the entries to draw, NAME,NAME,..; all where none is given")
-    parser.add_argument("--to", type=int, default=64, choices=range(1, 129), metavar="N", help="the greatest width")
-    parser.add_argument("--ceiling", action="append", default=[], metavar="NAME=FORMULA")
-    parser.add_argument("--unproved", action="store_true", help="count by the program that is compiled without proofs")
-    words = parser.parse_args()
-    found = curves(PROGRAM + ["--unproved"] * words.unproved, words.prog, [name for name in words.ops.split(",") if name], words.to)
-    formulas = dict(ceiling.split("=", 1) for ceiling in words.ceiling if "=" in ceiling)
-    if len(formulas) != len(words.ceiling) or not formulas.keys() <= found.keys():
+def parser() -> argparse.ArgumentParser:
+    made = argparse.ArgumentParser(prog="simdram plot", description=__doc__, formatter_class=argparse.RawDescriptionHelpFormatter)
+    made.add_argument("prog", metavar="PROG")
+    made.add_argument("out", metavar="OUT.svg")
+    made.add_argument("--ops", default="", metavar="NAME,..", help="the entries to draw; all where none is given")
+    made.add_argument("--to", type=int, default=64, choices=range(1, 129), metavar="N", help="the greatest width")
+    made.add_argument("--ceiling", action="append", default=[], metavar="NAME=FORMULA")
+    return made
+
+
+def ceilings_of(words: list[str], found: dict[str, list[int]], last: int) -> dict[str, list[int]]:
+    """The values of each ceiling that is asked for."""
+    formulas = dict(word.split("=", 1) for word in words if "=" in word)
+    if len(formulas) != len(words) or not formulas.keys() <= found.keys():
         raise Fault("each --ceiling is NAME=FORMULA, of another entry that is drawn")
-    ceilings = {name: [value(text, n) for n in range(1, words.to + 1)] for name, text in formulas.items()}
-    pathlib.Path(words.out).write_text("\n".join(drawn(found, ceilings)) + "\n", encoding="utf-8")
+    return {name: [value(text, n) for n in range(1, last + 1)] for name, text in formulas.items()}
 
 
-if __name__ == "__main__":
-    try:
-        main()
-    except (Fault, OSError) as fault:
-        print(fault, file=sys.stderr)
-        sys.exit(1)
+def main(words: list[str], settings: Settings) -> int:
+    asked = parser().parse_args(words)
+    found = curves(asked.prog, [name for name in asked.ops.split(",") if name], asked.to, settings)
+    ceilings = ceilings_of(asked.ceiling, found, asked.to)
+    pathlib.Path(asked.out).write_text("\n".join(drawn(found, ceilings)) + "\n", encoding="utf-8")
+    return 0

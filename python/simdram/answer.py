@@ -1,0 +1,54 @@
+"""What is wrong with a file, where, and what would be right, as lines."""
+
+from __future__ import annotations
+
+import dataclasses
+import textwrap
+
+from .tokens import Token, line_of
+
+WIDEST = 100
+
+
+@dataclasses.dataclass(frozen=True)
+class Answer:
+    """A fault: the file, its place in words, the kind, the rule, what would be right, and the line of text with its caret."""
+
+    path: str
+    place: str
+    kind: str
+    rule: str
+    right: tuple[str, ...] = ()
+    shown: str = ""
+    caret: tuple[int, int] = (0, 0)
+
+    def lines(self) -> list[str]:
+        """The answer, as lines."""
+        found = [f"{self.path} {self.place}: {self.kind}".replace(" : ", ": ")]
+        if self.shown:
+            found += caret_lines(self.shown, *self.caret)
+        for text in (self.rule, *self.right):
+            found += textwrap.wrap(text, WIDEST, initial_indent="  ", subsequent_indent="    ", break_long_words=False,
+                                   break_on_hyphens=False)
+        return found
+
+
+def caret_lines(text: str, column: int, length: int) -> list[str]:
+    """A line of text and a caret under a part of it, cut where the line is long."""
+    start = max(0, column - WIDEST // 2) if len(text) > WIDEST else 0
+    part = text[start:start + WIDEST]
+    carets = "^" * max(1, min(length, len(part) - (column - start)))
+    return [f"    {'..' if start else ''}{part}".rstrip(), " " * (4 + 2 * bool(start) + column - start) + carets]
+
+
+def at_token(path: str, data: bytes, token: Token, kind: str, rule: str, right=()) -> Answer:
+    """The answer at a token of a text."""
+    line = line_of(data, token.at)
+    texts = data.split(b"\n")
+    before = sum(len(text) + 1 for text in texts[:line - 1])
+    text = texts[line - 1] if texts else b""
+    column = min(token.at - before, len(text))
+    shown = "".join(one if one.isprintable() else " " if one in "\t\r" else "?" for one in text.decode("utf-8", "replace"))
+    column = len(text[:column].decode("utf-8", "replace"))
+    place = f"line {line} column {column + 1}"
+    return Answer(path, place, kind, rule, tuple(right), shown if shown.strip() else "", (column, len(token.text)))

@@ -1,0 +1,18 @@
+"""Builds the program where it does not stand, and prints where it stands."""
+
+from __future__ import annotations
+
+import argparse
+
+from . import run_program
+from .settings import Settings
+
+
+def parser() -> argparse.ArgumentParser:
+    return argparse.ArgumentParser(prog="simdram build", description=__doc__)
+
+
+def main(words: list[str], settings: Settings) -> int:
+    parser().parse_args(words)
+    print(run_program.program(settings))
+    return 0

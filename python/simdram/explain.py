@@ -1,0 +1,67 @@
+"""The first fault of a file, with its place and what would be right.
+
+FILE is an operation text, a script, a query, a text of flips, a program file, an image or a trace. Further files say on what
+it is done: with PROG and IMAGE beside a script, each instruction that is refused; with IMAGE beside a query, why the scan is
+refused; with SCRIPT and IMAGE beside a text of flips, which it needs. The status is 0 where there is no fault, and else 1.
+"""
+
+from __future__ import annotations
+
+import argparse
+
+from . import answers
+from .answer import Answer
+from .faults import Fault
+from .file_kinds import kind_of
+from .files.program import Program
+from .settings import Settings
+from .table import Table
+
+FOUND = 1
+
+
+def of_script(path: str, data: bytes, beside: dict, settings: Settings) -> list[Answer]:
+    """The refusals of a script on an image, by a program."""
+    prog, image = beside["program"], beside["image"]
+    entries = {entry.name: entry for entry in Program.read(prog[1], prog[0]).entries}
+    return answers.script_refusals(path, data, Table.read(image[1], image[0]), entries, answers.stuck_by_cost(prog[0], settings))
+
+
+def of_flips(path: str, data: bytes, beside: dict) -> list[Answer]:
+    """The fault of a text of flips."""
+    if not {"script", "image"} <= beside.keys():
+        raise Fault(f"{path} is a text of flips: name the script and the image too, which say what its numbers may be")
+    return answers.flips_fault(path, data, beside["script"], Table.read(beside["image"][1], beside["image"][0]))
+
+
+def found_in(path: str, beside: dict, settings: Settings) -> list[Answer]:
+    """What is wrong with a file, beside others."""
+    kind, data = kind_of(path)
+    if kind == "flips":
+        return of_flips(path, data, beside)
+    fault = answers.first_fault(kind, path, data)
+    if fault:
+        return [fault]
+    if kind == "script" and {"program", "image"} <= beside.keys():
+        return of_script(path, data, beside, settings)
+    if kind == "query" and "image" in beside:
+        return answers.query_refusals(path, data, Table.read(beside["image"][1], beside["image"][0]))
+    return []
+
+
+def parser() -> argparse.ArgumentParser:
+    made = argparse.ArgumentParser(prog="simdram explain", description=__doc__, formatter_class=argparse.RawDescriptionHelpFormatter)
+    made.add_argument("file", metavar="FILE")
+    made.add_argument("beside", metavar="BESIDE", nargs="*")
+    return made
+
+
+def main(words: list[str], settings: Settings) -> int:
+    asked = parser().parse_args(words)
+    beside = {}
+    for path in asked.beside:
+        kind, data = kind_of(path)
+        beside[kind] = (path, data)
+    found = found_in(asked.file, beside, settings)
+    print("\n".join(line for answer in found for line in answer.lines()) if found else f"{asked.file}: no fault")
+    return FOUND if found else 0

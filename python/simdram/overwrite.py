@@ -1,0 +1,45 @@
+"""Files that a command would write over, and that hold something of another kind."""
+
+from __future__ import annotations
+
+import os
+import stat
+
+from .commands import KINDS, MAGIC, Command
+from .words import PLACES
+
+TEXT_PROBE = 512
+
+
+def start_of(path: str, size: int) -> bytes | None:
+    """The first bytes of a regular file that stands and is not empty."""
+    try:
+        if not stat.S_ISREG(os.stat(path).st_mode):
+            return None
+        with open(path, "rb") as file:
+            return file.read(size) or None
+    except OSError:
+        return None
+
+
+def content(start: bytes) -> str:
+    """What a file that begins so holds."""
+    for kind, magic in MAGIC.items():
+        if start.startswith(magic):
+            return KINDS[kind]
+    is_text = b"\0" not in start and all(byte >= 32 or byte in b"\t\r\n\f" for byte in start)
+    return "text" if is_text else "other bytes"
+
+
+def refusal(command: Command, words: list[str]) -> str | None:
+    """Which word of a command names a file that it must not write over, as one line."""
+    images = {text for word, text in zip(command.words, words) if word.name == "IMAGE"}
+    for k, (word, text) in enumerate(zip(command.words, words)):
+        if not word.is_written or (word.name == "OUT" and text in images):
+            continue
+        start = start_of(text, TEXT_PROBE)
+        if start is not None and not start.startswith(MAGIC[word.kind]):
+            order = " ".join(one.name for one in command.words)
+            return (f"{text} is the {PLACES[k]} word of {command.name}, where {KINDS[word.kind]} is written, and holds "
+                    f"{content(start)}; is the order {order} meant? Nothing was done; --force writes over it")
+    return None

@@ -1,0 +1,260 @@
+"""What each cell holds after each command of an operation, in the operands' names.
+
+PROG is a program file and OP one of its entries. The code is shown part by part, a part being the instructions between two
+places where it can jump: what is done once, and what is done at each position, upwards or downwards. With --ops, sources,
+results, states and temporaries have the names of the operation text, and it is said which statement a part is of. Without
+it, sources are a, b, c, d, results y and z, scratch bits t0, t1, .., scratch words w0, .. and spill rows p0, ..; [i] is the
+position where one register counts it, and else the register's name. A cell that the part has not written yet holds ?.
+`~x` is the complement of x, M(x, y, z) the majority; and(x, y) and or(x, y) are majorities with 0 and with 1. A long value
+gets a number, as v1, which stands below its table with its value.
+
+It prints a table for each part. With --html it writes one page instead that steps through the commands by the arrow keys,
+with cells coloured by what they hold; the page loads nothing.
+"""
+
+from __future__ import annotations
+
+import argparse
+import dataclasses
+import typing
+
+from .cell_values import UNKNOWN, Names, Value, ZERO, ONE, complemented, majority, row_value
+from .faults import Fault
+from .files.decode import CELLS, RAISED
+from .files.program import (AAP, ADD, ADDI, B_ADDRESS, BNEZ, C_ADDRESS, INDEXED, MOV, SETI, SETN, SETT, SUBI, Instruction,
+                            Program, Row)
+from .files.store import load
+from .op_shapes import OpShape
+from .ops_rules import op_shape
+from .row_names import ZERO_INDEX, RowNames, let_patterns
+from .settings import Settings
+from .steps_page import page
+from .tokens import line_of
+
+WIDEST = 100
+# how long a value may be before it is numbered: the first with which all lines are short enough
+LENGTHS = (48, 32, 24, 16, 12, 8, 5, 3)
+STATEMENT_SHOWN = 60
+
+
+@dataclasses.dataclass(frozen=True)
+class Part:
+    """A part of the code: its first instruction, its instructions, how it is repeated, and of which statements it is."""
+
+    first: int
+    code: tuple[Instruction, ...]
+    said: str
+    statements: tuple[int, ...] = ()
+    what: str = ""
+
+    def title(self) -> str:
+        """Its first line, cut where it is long."""
+        text = f"from instruction {self.first}, {self.said}{': ' if self.what else ''}{self.what}"
+        return text if len(text) <= WIDEST else text[:WIDEST - 2] + ".."
+
+
+class Step(typing.NamedTuple):
+    """A row command, and what cells and rows hold after it."""
+
+    text: str
+    cells: typing.Dict[str, str]
+    rows: typing.Dict[str, str]
+
+
+def direction(code) -> str:
+    """Whether a part goes up or down: what it adds to the registers that are subscripts in it."""
+    used = {row.index for one in code for row in one.rows if row.space in INDEXED and row.index < ZERO_INDEX}
+    kinds = {one.kind for one in code if one.kind in (ADDI, SUBI) and one.register in used}
+    return {frozenset((ADDI,)): ", upwards", frozenset((SUBI,)): ", downwards"}.get(frozenset(kinds), "")
+
+
+def parts(code) -> list[Part]:
+    """The code cut where it can jump or be jumped to."""
+    loops = [(one.number, k) for k, one in enumerate(code) if one.kind == BNEZ and one.number <= k]
+    places = sorted({0, len(code)} | {at for loop in loops for at in (loop[0], loop[1] + 1)})
+    found = []
+    for first, past in zip(places, places[1:]):
+        depth = sum(start <= first and past <= end + 1 for start, end in loops)
+        said = ("once", "at each position", "at each position of each position")[min(depth, 2)]
+        found.append(Part(first, code[first:past], said + (direction(code[first:past]) if depth else "")))
+    return [part for part in found if any(one.rows for one in part.code)]
+
+
+def written(part: Part, names: RowNames) -> set[str]:
+    """The names whose rows a part writes."""
+    return {names.base(one.rows[1]) for one in part.code if one.kind == AAP}
+
+
+def with_statements(found: list[Part], names: RowNames, shape: OpShape, data: bytes) -> list[Part]:
+    """The parts, each with its statements; one that sets no name is of the statement that is done next, or else of the last."""
+    own = [tuple(k for k, one in enumerate(shape.statements) if written(part, names) & set(one.targets)) for part in found]
+    made = []
+    for k, part in enumerate(found):
+        after = next((mine[:1] for mine in own[k:] if mine), ())
+        before = next((mine[-1:] for mine in reversed(own[:k]) if mine), ())
+        mine = own[k] or after or before
+        what = "; ".join(statement_text(shape, number, data) for number in mine)
+        made.append(dataclasses.replace(part, statements=mine, what=what))
+    return made
+
+
+def statement_text(shape: OpShape, number: int, data: bytes) -> str:
+    """A statement with its line, cut where it is long."""
+    one = shape.statements[number]
+    text = " ".join(data[one.first.at:one.last.at + len(one.last.text)].decode("utf-8", "replace").split())
+    if one.direction:
+        text = text.partition("{")[0].strip() + " { .. }"
+    cut = text if len(text) <= STATEMENT_SHOWN else text[:STATEMENT_SHOWN - 3] + ".."
+    return f"line {line_of(data, one.first.at)}, {cut}"
+
+
+def only_offset(code, register: int) -> int:
+    """What a part has added to a register where it is a subscript, if it is the same at each place, and else 0."""
+    added, offsets = 0, set()
+    for one in code:
+        if one.kind in (ADDI, SUBI) and one.register == register:
+            added += one.number if one.kind == ADDI else -one.number
+        if any(row.space in INDEXED and row.index == register for row in one.rows):
+            offsets.add(added)
+    return offsets.pop() if len(offsets) == 1 else 0
+
+
+class Board:
+    """What cells and rows hold while a part is done."""
+
+    def __init__(self, code, rows: RowNames, names: Names) -> None:
+        used = {row.index for one in code for row in one.rows if row.space in INDEXED and row.index < ZERO_INDEX}
+        self.letters = {register: "i" for register in used} if len(used) == 1 else {}
+        self.added = {register: -offset for register in self.letters for offset in [only_offset(code, register)] if offset}
+        self.cells = dict.fromkeys(CELLS, UNKNOWN)
+        self.rows: dict[str, Value] = {}
+        self.row_names, self.names = rows, names
+
+    def subscript(self, register: int) -> str:
+        """The index that a register holds: its letter or name, and what was added to it in this part."""
+        if register == ZERO_INDEX:
+            return "0"
+        added = self.added.get(register, 0)
+        return self.letters.get(register, f"r{register}") + (f"{added:+d}" if added else "")
+
+    def name(self, row: Row) -> str:
+        return self.row_names.text(row, self.subscript)
+
+    def read(self, cell: str, inverted: bool) -> Value:
+        return complemented(self.cells[cell]) if inverted else self.cells[cell]
+
+    def sensed(self, row: Row) -> Value:
+        """What an activation of a row senses and leaves in its cells."""
+        if row.space == C_ADDRESS:
+            return (ZERO, ONE)[row.which]
+        if row.space != B_ADDRESS:
+            return self.rows.setdefault(self.name(row), self.names.named(row_value(self.name(row))))
+        values = [self.read(*line) for line in RAISED[row.which]]
+        value = self.names.named(majority(values)) if len(values) == 3 else values[0]
+        self.settle(row, value)
+        return value
+
+    def settle(self, row: Row, value: Value) -> None:
+        """Gives a value to the cells of a row."""
+        if row.space != B_ADDRESS:
+            self.rows[self.name(row)] = value
+            return
+        for cell, inverted in RAISED[row.which]:
+            self.cells[cell] = complemented(value) if inverted else value
+
+    def do(self, one: Instruction) -> bool:
+        """Does an instruction; whether it was a row command."""
+        if one.kind in (ADDI, SUBI):
+            self.added[one.register] = self.added.get(one.register, 0) + (one.number if one.kind == ADDI else -one.number)
+        if one.kind in (SETI, SETN, SETT, MOV, ADD):
+            self.letters[one.register] = f"r{one.register}'"
+            self.added[one.register] = 0
+        if not one.rows:
+            return False
+        value = self.sensed(one.rows[0])
+        if one.kind == AAP:
+            self.settle(one.rows[1], value)
+        return True
+
+
+def steps(part: Part, rows: RowNames, names: Names) -> list[Step]:
+    """The row commands of a part in order, and what cells and rows hold after each."""
+    board, found = Board(part.code, rows, names), []
+    for one in part.code:
+        text = f"{one.name} {', '.join(map(board.name, one.rows))}" if one.rows else ""
+        if board.do(one):
+            found.append(Step(text, {cell: value.text for cell, value in board.cells.items()},
+                              {name: value.text for name, value in board.rows.items()}))
+    return found
+
+
+def table(done: list[Step]) -> list[str]:
+    """A table of text: a line for each command, with the cells and the rows that it changed."""
+    width = max(len(step.text) for step in done)
+    columns = {cell: max(len(cell), *(len(step.cells[cell]) for step in done)) for cell in CELLS}
+    lines = ["  ".join(["".ljust(width), *(cell.ljust(columns[cell]) for cell in CELLS), "rows"])]
+    before: dict[str, str] = {}
+    for step in done:
+        changed = ", ".join(f"{name} = {value}" for name, value in step.rows.items() if before.get(name, name) != value)
+        cells = (step.cells[cell].ljust(columns[cell]) for cell in CELLS)
+        lines.append("  ".join([step.text.ljust(width), *cells, changed]).rstrip())
+        before = step.rows
+    return lines
+
+
+class Shown(typing.NamedTuple):
+    """A part as it is shown: its steps, its table, and what its numbered values are."""
+
+    part: Part
+    done: typing.List[Step]
+    lines: typing.List[str]
+    said: typing.List[typing.Tuple[str, str]]
+
+
+def shown(part: Part, rows: RowNames, shape: OpShape | None) -> Shown:
+    """A part with its long values numbered, so that no line is over 100 characters."""
+    lets: dict[str, int] = {}
+    for number in part.statements if shape else ():
+        lets.update(let_patterns(shape, shape.statements[number]))
+    for longest in LENGTHS:
+        names = Names(lets, longest)
+        done = steps(part, rows, names)
+        lines = [part.title(), *table(done), *(f"  {name} = {value}" for name, value in names.said)]
+        if max(map(len, lines)) <= WIDEST:
+            break
+    return Shown(part, done, lines, names.said)
+
+
+def all_shown(entry, ops: str | None) -> list[Shown]:
+    """Each part of an entry, with the designer's names where the text is given."""
+    data = load(ops) if ops else b""
+    shape = op_shape(ops, data, entry.name) if ops else None
+    rows, found = RowNames(shape), parts(entry.code)
+    if shape:
+        found = with_statements(found, rows, shape, data)
+    return [shown(part, rows, shape) for part in found]
+
+
+def parser() -> argparse.ArgumentParser:
+    made = argparse.ArgumentParser(prog="simdram steps", description=__doc__, formatter_class=argparse.RawDescriptionHelpFormatter)
+    made.add_argument("prog", metavar="PROG")
+    made.add_argument("op", metavar="OP")
+    made.add_argument("--ops", metavar="OPS", help="the operation text that PROG was compiled from")
+    made.add_argument("--html", metavar="PAGE", help="write a page in place of the tables")
+    return made
+
+
+def main(words: list[str], _settings: Settings) -> int:
+    asked = parser().parse_args(words)
+    try:
+        entry = Program.load(asked.prog).find(asked.op)
+    except KeyError as fault:
+        raise Fault(f"{asked.prog}: {fault.args[0]}") from None
+    found = all_shown(entry, asked.ops)
+    if asked.html:
+        with open(asked.html, "w", encoding="utf-8") as file:
+            file.write(page(asked.op, found))
+        return 0
+    for one in found:
+        print("\n".join(one.lines))
+    return 0

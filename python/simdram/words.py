@@ -1,0 +1,82 @@
+"""Which words are a command of the program, and what is wrong with others."""
+
+from __future__ import annotations
+
+import difflib
+
+from .commands import ALL, Command, Word
+
+# of each number the least and the greatest that it may be, and what it is called
+RANGES = {
+    "width": (1, 128, "the width"),
+    "banks": (1, 16, "the number of banks"),
+    "rows": (64, 1006, "the number of rows"),
+    "words": (1, 1024, "the number of words in a row"),
+    "seed": (0, 2**64 - 1, "the seed"),
+}
+WORDS_MAX = 2**23
+PLACES = ("first", "second", "third", "fourth", "fifth", "sixth")
+
+
+def nearest(word: str, known) -> list[str]:
+    """The known words that are most like this one."""
+    def likeness(name: str) -> float:
+        return difflib.SequenceMatcher(None, word, name).ratio()
+
+    close = [name for name in dict.fromkeys(known) if likeness(name) >= 0.6 or (len(word) > 1 and name.startswith(word))]
+    return sorted(close, key=lambda name: (not name.startswith(word), -likeness(name)))[:3]
+
+
+def wrong_number(word: Word, text: str) -> str | None:
+    """What is wrong with a word that has to be a number."""
+    low, high, says = RANGES[word.kind]
+    if not (text.isascii() and text.isdigit()):
+        return f"{word.name} is {says}, in decimal digits, and not {text!r}"
+    if not low <= int(text) <= high:
+        return f"{word.name} is {says}, {low} to {high}, and not {text}"
+    return None
+
+
+def wrong_numbers(command: Command, words: list[str]) -> str | None:
+    """What is wrong with the numbers of a command."""
+    numbers = [(word, text) for word, text in zip(command.words, words) if word.kind in RANGES]
+    for word, text in numbers:
+        wrong = wrong_number(word, text)
+        if wrong:
+            return wrong
+    if command.name == "init" and int(words[0]) * int(words[1]) * int(words[2]) > WORDS_MAX:
+        return f"{words[0]} banks of {words[1]} rows of {words[2]} words are more than {WORDS_MAX} words in all"
+    return None
+
+
+def equal_files(command: Command, words: list[str]) -> str | None:
+    """Which two files of a command are one, where they may not: all but IMAGE and OUT differ."""
+    files = [(word, text) for word, text in zip(command.words, words) if word.is_file]
+    for k, (word, text) in enumerate(files):
+        for other, same in files[k + 1:]:
+            if text == same and (word.name, other.name) != ("IMAGE", "OUT"):
+                return f"{word.name} and {other.name} are one file, {text}"
+    return None
+
+
+def wrong_count(command: Command, words: list[str]) -> str | None:
+    """Whether words are missing, or too many."""
+    wanted, given = len(command.words), len(words)
+    if given < wanted:
+        missing = " and ".join(word.name for word in command.words[given:])
+        return f"{missing} {'is' if wanted - given == 1 else 'are'} missing: {command.name} takes {wanted} word{'s' * (wanted > 1)}"
+    if given > wanted:
+        return f"{words[wanted]} is one word too many: {command.name} takes {wanted}"
+    return None
+
+
+def wrong_words(words: list[str]) -> str | None:
+    """What is wrong with the words, as one line, or nothing where they are a command of the program."""
+    if not words:
+        return "there is no command"
+    command = ALL.get(words[0])
+    if command is None or not command.is_program:
+        near = nearest(words[0], [*ALL, "help"])
+        return f"there is no command {words[0]}" + (f"; the nearest: {', '.join(near)}" if near else "")
+    given = words[1:]
+    return wrong_count(command, given) or wrong_numbers(command, given) or equal_files(command, given)

@@ -1,0 +1,287 @@
+"""Faults with their places: each kind of text and file, and beside the program on drawn ones."""
+
+import pathlib
+import random
+import subprocess
+import sys
+import tempfile
+import unittest
+
+import support
+from support import TOP, needs_program
+from test_words import called
+
+from simdram import word_ops
+from simdram.answers import first_fault, no_triples, query_refusals, script_refusals
+from simdram.files.image import Image, Object
+from simdram.files.program import Program
+from simdram.flips_rules import explain_flips
+from simdram.ops_rules import explain_ops
+from simdram.query_rules import read_query
+from simdram.script_rules import read_script
+from simdram.table import HEAD_MAX, Table
+
+HEAD = "op f(a: word, b: word, s: bit) -> y: word {\n"
+# a text, the kind, the line and column, the token, and words of what would be right
+OPS = (
+    (HEAD + "  y = ad(a, b);\n}", "unknown", "line 2 column 7", "ad", "the nearest: add"),
+    (HEAD + "  y = add(mul(a, b), b);\n}", "unknown", "line 2 column 11", "mul", "do not nest in word statements"),
+    (HEAD + "  y = a + b;\n}", "unknown", "line 2 column 7", "a", "y = add(a, ..)"),
+    (HEAD + "  y = add(a, 1);\n}", "syntax", "line 2 column 14", "1", "arguments are names"),
+    (HEAD + "  y = add(a, s);\n}", "kind", "line 2 column 14", "s", "add takes a word, a word and gives a word"),
+    (HEAD + "  y = add(a);\n}", "kind", "line 2 column 12", ")", "too few arguments"),
+    (HEAD + "  y = add(a, b)\n}", "syntax", "line 3 column 1", "}", "what could stand there: `;`"),
+    (HEAD + "  a = add(a, b);\n}", "twice", "line 2 column 3", "a", "the names that stand: a, b, s, y"),
+    (HEAD + "  t = add(a, b);\n}", "no_result", "line 3 column 1", "}", "assign it before"),
+    (HEAD + "  serial up () { y = xr(a, b); }\n}", "unknown", "line 2 column 22", "xr", "the nearest: xor"),
+    (HEAD + "  y = add(a, @);\n}", "lex", "line 2 column 14", "@", "no token begins with"),
+    ("op serial(a: word)", "bad_name", "line 1 column 4", "serial", "word of the language"),
+    ("op f(a: word, b: word, c: word, d: word, e: word)", "too_many", "line 1 column 42", "e", "at most 4 parameters"),
+)
+SCRIPTS = (
+    ("add y, a, b, 4, 8", "syntax", "line 1 column 1", "add", "bbop_add Y, A, B, COUNT, N"),
+    ("bbop_add y, a b, 4, 8", "syntax", "line 1 column 15", "b", "a comma"),
+    ("print a\nprint", "syntax", "line 2 column 6", "", "the form: print NAME"),
+    ("load a, -1", "lex", "line 1 column 9", "-", "at least 0"),
+    ("bbop_trsp_init a, 0, 8", "bad_number", "line 1 column 19", "0", "is 1 to 4294967295"),
+    ("bbop_add y, a, b, 4, 129", "bad_number", "line 1 column 22", "129", "is 1 to 128"),
+    ("print " + "n" * 17, "bad_name", "line 1 column 7", "n" * 17, "at most 16 bytes"),
+    ("order sead 3", "syntax", "line 1 column 7", "sead", "order seed K"),
+)
+QUERIES = (
+    ("a >= 10", "syntax", "line 1 column 1", "a", "`a >= V` is `ge(a, V)`"),
+    ("and(ge(a, 10))", "syntax", "line 1 column 14", ")", "what could stand there: `,`"),
+    ("ge(10, a)", "syntax", "line 1 column 4", "10", "the name stands first"),
+    ("ne(a, 1)", "syntax", "line 1 column 1", "ne", "eq, gt, ge, lt, le"),
+    ("eq(a, b)", "syntax", "line 1 column 7", "b", "with a number"),
+    ("eq(a, 1) eq(b, 2)", "syntax", "line 1 column 10", "eq", "join two by"),
+    ("not(eq(a, 1)", "syntax", "line 1 column 13", "", "the end of the text"),
+)
+
+
+class Texts(unittest.TestCase):
+    """Wrong texts of each kind get a line that names the token, and what would be right."""
+
+    def check_all(self, explained, cases):
+        for text, kind, place, token, right in cases:
+            answer = explained("file", text.encode())
+            self.assertIsNotNone(answer, text)
+            self.assertEqual((answer.kind, answer.place), (kind, place), text)
+            column, length = answer.caret
+            self.assertEqual(answer.shown[column:column + length], token, text)
+            lines = answer.lines()
+            self.assertIn(right, " ".join(" ".join(lines).split()), text)
+            self.assertLessEqual(max(map(len, lines)), 110, text)
+
+    def test_ops(self):
+        self.check_all(explain_ops, OPS)
+
+    def test_scripts(self):
+        self.check_all(lambda path, data: read_script(path, data)[1], SCRIPTS)
+
+    def test_queries(self):
+        self.check_all(lambda path, data: read_query(path, data)[1], QUERIES)
+
+    def test_flips(self):
+        table = Table(1, 64, 1, [])
+        cases = (("1 0 0", "syntax", "four numbers"), ("1 0 0 64", "number", "COLUMN is 0 to 63"), ("9 0 0 0", "number", "1 to 4"),
+                 ("2 0 0 0\n1 0 0 0", "number", "not below the K"), ("1 0 0 0 0", "syntax", "four numbers"), ("1, 0", "syntax", "without commas"),
+                 ("1 1 0 0", "number", "BANK is 0 to 0"), ("@", "lex", "no token"))
+        for text, kind, right in cases:
+            answer = explain_flips("file", text.encode(), 3, table)
+            self.assertEqual(answer.kind, kind, text)
+            self.assertIn(right, " ".join(answer.lines()), text)
+        self.assertIsNone(explain_flips("file", b"1 0 0 0\n# none\n4 0 63 63", 3, table))
+
+    def test_right_texts(self):
+        for path in (TOP / "examples").rglob("*.ops"):
+            if path.name not in ("faulty.ops", "nested.ops"):
+                self.assertIsNone(explain_ops(path.name, path.read_bytes()), path)
+        for path in (TOP / "examples").rglob("*.bbop"):
+            self.assertIsNone(read_script(path.name, path.read_bytes())[1], path)
+
+    def test_files(self):
+        image = (TOP / "examples" / "and" / "and.img").read_bytes()
+        cases = ((image[:9], "short", "byte 9"), (b"SDMX" + image[4:], "magic", "byte 0"), (image + b"0", "rest", f"byte {len(image)}"),
+                 (image[:8] + b"\x01" + image[9:], "geometry", "byte 8"), (image[:39] + b"1" + image[40:], "object", "byte 39"))
+        for data, kind, place in cases:
+            answer = first_fault("image", "file", data)
+            self.assertEqual((answer.kind, answer.place), (kind, place))
+        answer = first_fault("script", "file", image)
+        self.assertIn("a script is read here, and the file holds an image", answer.rule)
+
+    def test_triples(self):
+        table = Table(1, 64, 1, [Object("xa", 1, 0, 4), Object("ya", 1, 1, 4), Object("zb", 1, 2, 4)])
+        self.assertEqual(no_triples("file", table)[0].kind, "guard table 2")
+        table.objects.pop()
+        self.assertIn("za, 4 elements of 1 bits", no_triples("file", table)[0].rule)
+
+
+class OperationTable(unittest.TestCase):
+    def test_as_in_the_sources(self):
+        sys.path.insert(0, str(TOP / "bench"))
+        from word_ops import word_ops as sources
+        known = {one.name: (one.takes, one.gives) for one in sources()}
+        ours = {name: tuple(part.replace("x", "w") for part in pair) for name, pair in word_ops.TAKES_GIVES.items()}
+        self.assertEqual(ours, known)
+
+
+class Refusals(unittest.TestCase):
+    def found(self, script):
+        program = Program.load(self.prog)
+        table = Table(1, 64, 1, [Object("a", 8, 0, 4), Object("y", 8, 8, 4), Object("s", 1, 16, 4)])
+        entries = {entry.name: entry for entry in program.entries}
+        return script_refusals("file", script.encode(), table, entries, lambda *_: None)
+
+    @needs_program
+    def test_what_is_said(self):
+        with tempfile.TemporaryDirectory() as folder:
+            ops = pathlib.Path(folder) / "f.ops"
+            ops.write_text("op inc(a: word, b: word) -> y: word { y = add(a, b); }\n")
+            self.prog = str(pathlib.Path(folder) / "f.prog")
+            subprocess.run([support.program(), "compile", ops, self.prog], check=True, capture_output=True)
+            for script, kind, said in (
+                ("bbop_trsp_init c, 4, 20", "no_rows", "the longest free piece has 15; the last 32"),
+                ("bbop_trsp_init c, 4, 20", "no_rows", "with 69 rows to a bank it would go: this image has 64"),
+                ("bbop_ink y, a, a, 4, 8", "no_op", "the nearest: inc"),
+                ("bbop_inc y, a, y, 4, 8", "overlap 2", "y is a destination and a source"),
+                ("bbop_inc y, a, s, 4, 8", "width 2", "s is 1 bits wide"),
+                ("bbop_inc y, a, aa, 4, 8", "no_object 2", "the nearest: a"),
+                ("load a, 1, 2, 3, 256", "range 4", "hold 0 to 255"),
+            ):
+                answer = self.found(script)[0]
+                self.assertEqual(answer.kind, f"instruction 1 refused {kind}", script)
+                self.assertIn(said, " ".join(" ".join(answer.lines()).split()), script)
+
+    def test_queries(self):
+        table = Table(1, 64, 1, [Object("category", 8, 0, 4), Object("b", 8, 8, 3)])
+        for query, kind, said in (("eq(categry, 1)", "no_object 0", "the nearest: category"), ("and(eq(category, 1), eq(b, 1))", "count 1", "3 elements"),
+                                  ("eq(category, 256)", "range 0", "0 to 255")):
+            answer = query_refusals("file", query.encode(), table)[0]
+            self.assertEqual(answer.kind, f"query refused {kind}")
+            self.assertIn(said, " ".join(answer.lines()))
+
+
+def changed(dice, text, others):
+    """A text with a word or two left out, doubled or taken from elsewhere."""
+    words = text.replace("(", " ( ").replace(")", " ) ").replace(",", " , ").replace(";", " ; ").split(" ")
+    for _ in range(dice.randrange(1, 3)):
+        at = dice.randrange(len(words))
+        words[at:at + 1] = dice.choice(([], [words[at]] * 2, [dice.choice(words)], [dice.choice(others)]))
+        words = words or ["a"]
+    return " ".join(words)
+
+
+@needs_program
+class AsTheProgram(unittest.TestCase):
+    """On drawn texts the launcher finds the line and the kind that the program prints."""
+
+    def setUp(self):
+        kept = tempfile.TemporaryDirectory()
+        self.addCleanup(kept.cleanup)
+        self.folder = pathlib.Path(kept.name)
+        self.dice = random.Random(5)
+
+    def last(self, *words):
+        ended = subprocess.run([support.program(), *words], cwd=self.folder, capture_output=True, text=True, check=False)
+        return ended.stdout.splitlines()[-1] if ended.returncode and ended.stdout else "ok", ended
+
+    @staticmethod
+    def line(what, answer):
+        return f"{what} line {answer.place.split()[1]} {answer.kind}" if answer else "ok"
+
+    def test_ops(self):
+        texts = [path.read_text() for path in sorted((TOP / "examples").rglob("*.ops"))]
+        others = "add xor maj not zero divmod y a q 0 1 2 word bit serial up let { } : -> trsp_init @ op".split() + ["n" * 17]
+        for _ in range(120):
+            text = changed(self.dice, self.dice.choice(texts), others)
+            (self.folder / "f.ops").write_text(text)
+            self.assertEqual(self.last("show", "f.ops")[0], self.line("ops", explain_ops("f.ops", text.encode())), text)
+
+    def test_scripts(self):
+        lines = [line for path in sorted((TOP / "examples").rglob("*.bbop")) for line in path.read_text().splitlines()]
+        others = ["bbop_", "bbop_9", "0", "129", "order", "seed", "@", "4294967296", "n" * 17, "load", "=", str(2**128)]
+        subprocess.run([support.program(), "init", "1", "64", "1", "i.img"], cwd=self.folder, check=True)
+        (self.folder / "f.ops").write_text("op add(a: word, b: word) -> y: word { y = add(a, b); }")
+        for _ in range(120):
+            text = changed(self.dice, "\n".join(self.dice.sample(lines, 3)), others)
+            (self.folder / "s").write_text(text)
+            said, ended = self.last("run", "f.ops", "p", "s", "i.img", "o.img")
+            answer = read_script("s", text.encode())[1]
+            self.assertEqual(said if ended.returncode == 6 else "ok", self.line("script", answer), text)
+
+    def test_refusals(self):
+        dice = self.dice
+        (self.folder / "f.ops").write_text("op add(a: word, b: word) -> y: word { y = add(a, b); }\n"
+                                           "op dm(a: word, b: word) -> q: word, r: word { q, r = divmod(a, b); }\n")
+        for kind in ("run", "run", "run", "guard"):
+            subprocess.run([support.program(), "init", "1", dice.choice(["64", "128"]), "1", "i.img"], cwd=self.folder, check=True)
+            (self.folder / "none").write_text("")
+            script = "\n".join(self.drawn_line() for _ in range(60))
+            (self.folder / "s").write_text(script)
+            words = ["run", "f.ops", "p", "s", "i.img", "o.img"] if kind == "run" else ["guard", "f.ops", "p", "s", "i.img", "none", "o.img"]
+            ended = self.last(*words)[1]
+            refused = [line.split(" ", 2) for line in ended.stdout.splitlines() if " refused " in line]
+            entries = {entry.name: entry for entry in Program.load(str(self.folder / "p")).entries}
+            table = Table.read((self.folder / "i.img").read_bytes(), "i.img")
+            found = script_refusals("s", script.encode(), table, entries, lambda *_: None, kind == "guard")
+            self.assertEqual([answer.kind for answer in found], [f"instruction {k} refused {word[8:]}" for k, _, word in
+                                                                 ((one[0], one[1], " ".join(one[1:])) for one in refused)])
+
+    def drawn_line(self):
+        dice = self.dice
+        names = dice.choices("aaabbbyyzq", k=5)
+        count, width = dice.choice([4, 4, 4, 65]), dice.choice([1, 4, 4, 8, 20])
+        return dice.choice((f"bbop_trsp_init {names[0]}, {count}, {width}", f"bbop_trsp_init {names[1]}, 4, 4", f"free {names[0]}",
+                            f"fill {names[0]}, {dice.choice([1, 20])}", f"print {names[0]}", f"load {names[0]}, 1, 2, 3, {dice.choice([4, 99])}",
+                            f"bbop_add {', '.join(names[:3])}, {count}, {width}", f"bbop_dm {', '.join(names[:4])}, 4, {width}",
+                            f"bbop_add {', '.join(names[:3])}, 4, 4"))
+
+    def test_flips(self):
+        Image(1, 64, 1).save(str(self.folder / "i.img"))
+        (self.folder / "f.ops").write_text("op add(a: word, b: word) -> y: word { y = add(a, b); }")
+        (self.folder / "s").write_text("order in\norder in\norder in\n")
+        numbers = ["0", "1", "2", "3", "4", "5", "63", "64"]
+        for _ in range(60):
+            lines = [self.dice.choices(numbers, k=self.dice.choice([0, 3, 4, 4, 4, 4, 5])) for _ in range(3)]
+            text = "\n".join(" ".join(line) + self.dice.choice(["", "", "", " # c", " @", ", 1"]) for line in lines)
+            (self.folder / "w").write_text(text)
+            said, ended = self.last("guard", "f.ops", "p", "s", "i.img", "w", "o.img")
+            answer = explain_flips("w", text.encode(), 3, Table(1, 64, 1, []))
+            self.assertEqual(said if ended.returncode == 18 else "ok", self.line("flips", answer), text)
+
+    def test_a_full_table(self):
+        image = Image(1, 320, 1, [Object(f"o{k}", 1, k, 1) for k in range(256)])
+        image.save(str(self.folder / "i.img"))
+        (self.folder / "q").write_text("eq(o1, 0)")
+        said, _ = self.last("scan", "q", "i.img")
+        table = Table.read((self.folder / "i.img").read_bytes()[:HEAD_MAX], "i.img")
+        self.assertEqual([answer.kind for answer in query_refusals("q", b"eq(o1, 0)", table)], [said])
+
+    def test_after_a_status(self):
+        """The launcher says it on standard error, and nothing more on standard output."""
+        Image(1, 64, 1).save(str(self.folder / "i.img"))
+        for name, text in (("f.ops", HEAD + " y = ad(a, b); }"), ("g.ops", "op add(a: word, b: word) -> y: word { y = add(a, b); }"),
+                           ("q", "a >= 3"), ("r", "eq(a, 3)"), ("s", "print"), ("t", "print a"), ("w", "9 0 0 0"), ("long", "print " + "n" * 16)):
+            (self.folder / name).write_text(text)
+        for words, status, said in (
+            (["show", "f.ops"], 4, "f.ops line 2 column 6: unknown"), (["list", "f.ops"], 5, "byte 0: magic"),
+            (["run", "g.ops", "p", "s", "i.img", "o.img"], 6, "s line 1 column 6: syntax"), (["scan", "r", "g.ops"], 7, "byte 0: magic"),
+            (["run", "g.ops", "p", "t", "i.img", "i.img"], 8, "instruction 1 refused no_object 0"), (["replay", "g.ops", "i.img", "o.img"], 13, "byte 0: magic"),
+            (["scan", "q", "i.img"], 15, "ge(a, V)"), (["scan", "r", "i.img"], 16, "query refused no_object 0"),
+            (["guard", "g.ops", "p", "long", "i.img", "w", "o.img"], 17, "guard name 1"), (["guard", "g.ops", "p", "t", "i.img", "w", "o.img"], 18, "1 to 2"),
+        ):
+            ended = called(*words, cwd=self.folder)
+            self.assertEqual(ended.returncode, status, (words, ended))
+            self.assertIn(said, ended.stderr, words)
+            self.assertLessEqual(len(ended.stdout.splitlines()), 2)
+
+    def test_the_word(self):
+        (self.folder / "f.ops").write_text(HEAD + " y = ad(a, b); }")
+        ended = called("explain", "f.ops", cwd=self.folder)
+        self.assertEqual((ended.returncode, ended.stdout.splitlines()[0]), (1, "f.ops line 2 column 6: unknown"))
+        self.assertEqual(called("explain", "none", cwd=self.folder).returncode, 2)
+
+
+if __name__ == "__main__":
+    unittest.main()

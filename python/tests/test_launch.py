@@ -1,0 +1,225 @@
+"""The launcher with a program: its streams and statuses, files that are not written over, settings, building."""
+
+import os
+import pathlib
+import shutil
+import signal
+import subprocess
+import sys
+import tempfile
+import time
+import unittest
+
+import support
+from support import needs_program
+from test_words import LAUNCHER, called
+
+MAC = "op mac(a: word, b: word, c: word) -> y: word { t = mul(a, b); y = add(t, c); }\n"
+
+
+def text(path):
+    return pathlib.Path(path).read_bytes()
+
+
+class Folder(unittest.TestCase):
+    """A folder with an operation text, a program, a script and an image."""
+
+    def setUp(self):
+        kept = tempfile.TemporaryDirectory()
+        self.addCleanup(kept.cleanup)
+        self.folder = pathlib.Path(kept.name)
+        (self.folder / "mac.ops").write_text(MAC)
+        (self.folder / "mac.bbop").write_text("bbop_mac y, a, b, c, 4, 8\n")
+        made = self.call("image", "make", "mac.img", "1x96x1", "a:8=3,10,15,200", "b:8=4,10,17,2", "c:8=5,100,1,7", "y:8/4")
+        self.assertEqual(made.returncode, 0, made.stderr)
+
+    def call(self, *words, **environment):
+        return called(*words, cwd=self.folder, environment=environment)
+
+    def files(self):
+        return {path.name: path.read_bytes() for path in self.folder.iterdir()}
+
+
+@needs_program
+class AsTheProgram(Folder):
+    """Standard output and status are the program's own."""
+
+    def plain(self, words):
+        return subprocess.run([support.program(), *words], cwd=self.folder, capture_output=True, text=True, check=False)
+
+    def test_same_output(self):
+        run = ["run", "mac.ops", "mac.prog", "mac.bbop", "mac.img", "out.img"]
+        (self.folder / "bad.ops").write_text("op f(")
+        (self.folder / "bad.bbop").write_text("print q\n")
+        for words in (run, ["cost", "mac.prog", "8"], ["show", "bad.ops"], ["list", "none.prog"], ["cost", "mac.prog", "0"],
+                      ["exec", "mac.prog", "bad.bbop", "mac.img", "out.img"], ["list", "mac.ops"], ["soak"]):
+            ours, its = self.call(*words), self.plain(words)
+            self.assertEqual((ours.returncode, ours.stdout), (its.returncode, its.stdout), words)
+
+    def test_open_files_are_passed_on(self):
+        ended = subprocess.run(["bash", "-c", f"{LAUNCHER} show <(cat mac.ops)"], cwd=self.folder, capture_output=True, text=True, check=False)
+        self.assertEqual((ended.returncode, ended.stdout.split("(")[0]), (0, "op mac"), ended.stderr)
+
+    def test_a_full_device_is_told(self):
+        with open("/dev/full", "wb") as full:
+            ended = subprocess.run([LAUNCHER, "show", "mac.ops"], cwd=self.folder, stdout=full, stderr=subprocess.PIPE, check=False)
+        self.assertEqual(ended.returncode, 3)
+
+    def test_under_head(self):
+        self.call("compile", "mac.ops", "mac.prog")
+        for words in ("list mac.prog", "steps mac.prog mac", "help", "image get mac.img a"):
+            ended = subprocess.run(["bash", "-c", f"{LAUNCHER} {words} | head -1"], cwd=self.folder, capture_output=True, text=True, check=False)
+            self.assertNotIn("Traceback", ended.stderr, words)
+            self.assertEqual(len(ended.stdout.splitlines()), 1, words)
+
+    def test_a_signal_ends_both(self):
+        os.mkfifo(self.folder / "pipe")
+        running = subprocess.Popen([sys.executable, LAUNCHER, "show", "pipe"], cwd=self.folder)
+        time.sleep(1.5)
+        running.send_signal(signal.SIGTERM)
+        self.assertEqual(running.wait(20), -signal.SIGTERM)
+
+
+@needs_program
+class NothingDestroyed(Folder):
+    """Two words that changed places destroy no file of another kind."""
+
+    def test_swaps(self):
+        whole = {"run": ["mac.ops", "mac.prog", "mac.bbop", "mac.img", "out.img"],
+                 "exec": ["mac.prog", "mac.bbop", "mac.img", "out.img"],
+                 "trace": ["mac.prog", "mac.bbop", "mac.img", "out.img", "mac.trace"]}
+        for command in ("run", "exec", "trace"):
+            self.assertEqual(self.call(command, *whole[command]).returncode, 0)
+        whole.update(compile=["mac.ops", "mac.prog"], migrate=["mac.prog", "new.prog"])
+        before = self.files()
+        for command, words in whole.items():
+            for at in range(len(words) - 1):
+                swapped = words[:at] + [words[at + 1], words[at]] + words[at + 2:]
+                if swapped[at:at + 2] == ["out.img", "mac.img"]:
+                    continue
+                ended = self.call(command, *swapped)
+                self.assertNotEqual(ended.returncode, 0, (command, swapped))
+                self.assertEqual(self.files(), before, (command, swapped))
+
+    def test_what_is_said(self):
+        ended = self.call("run", "mac.bbop", "mac.ops", "mac.prog", "mac.img", "out.img")
+        self.assertEqual((ended.returncode, ended.stdout), (2, ""))
+        self.assertIn("mac.ops is the second word of run, where a program file is written, and holds text", ended.stderr)
+        self.assertIn("OPS PROG SCRIPT IMAGE OUT", ended.stderr)
+        self.assertEqual(self.call("init", "1", "64", "1", "mac.ops").returncode, 2)
+
+    def test_force_and_what_may_be_written_over(self):
+        (self.folder / "old").write_text("text")
+        (self.folder / "empty").write_text("")
+        self.assertEqual(self.call("compile", "mac.ops", "old").returncode, 2)
+        self.assertEqual(self.call("compile", "mac.ops", "empty").returncode, 0)
+        self.assertEqual(self.call("compile", "mac.ops", "old", "--force").returncode, 0)
+        self.assertEqual(self.call("compile", "mac.ops", "old").returncode, 0)
+        self.assertEqual(text(self.folder / "old")[:4], b"SDMP")
+
+
+FAKE_RT = """#!/bin/sh
+# stands for the toolchain: notes what it is asked, and makes what a crate's proof makes
+echo "$(basename "$PWD") $1" >> "$ASKED"
+echo "fn a::b: proved"
+case "$1 $FAIL" in
+  "lib $(basename "$PWD")") echo "error: open goal"; exit 1 ;;
+esac
+if [ "$1" = run ]; then mkdir -p out; printf '#!/bin/sh\\necho ran "$@"\\n' > out/simdram; chmod +x out/simdram; fi
+"""
+
+
+class Building(unittest.TestCase):
+    """Building, with a stand-in for the toolchain."""
+
+    def setUp(self):
+        kept = tempfile.TemporaryDirectory()
+        self.addCleanup(kept.cleanup)
+        self.top = pathlib.Path(kept.name)
+        (self.top / "crates.txt").write_text("# crates\nlow:\nmid: low\nother:\nsimdram: mid low\n")
+        for crate in ("low", "mid", "other", "simdram"):
+            for folder in ("src", "specs", "proofs"):
+                (self.top / "crates" / crate / folder).mkdir(parents=True)
+                (self.top / "crates" / crate / folder / "file").write_text("text")
+        (self.top / "bin").mkdir()
+        (self.top / "bin" / "rt").write_text(FAKE_RT)
+        (self.top / "bin" / "rt").chmod(0o755)
+
+    def call(self, *words, **environment):
+        path = f"{self.top / 'bin'}:{os.environ['PATH']}"
+        return called(*words, environment={"SIMDRAM_HOME": str(self.top), "SIMDRAM_PROGRAM": "", "SIMDRAM_UNPROVED": "", "PATH": path,
+                                           "ASKED": str(self.top / "asked"), **environment})
+
+    def asked(self):
+        path = self.top / "asked"
+        lines = path.read_text().splitlines() if path.exists() else []
+        path.unlink(missing_ok=True)
+        return lines
+
+    def test_lowest_first_and_once(self):
+        ended = self.call("show", "a.ops")
+        self.assertEqual((ended.returncode, ended.stdout), (0, "ran show a.ops\n"), ended.stderr)
+        self.assertEqual(self.asked(), ["low lib", "mid lib", "simdram run"])
+        self.assertIn("proving mid, 2 of 3", ended.stderr)
+        self.assertEqual(self.call("show", "a.ops").stdout, "ran show a.ops\n")
+        self.assertEqual(self.asked(), [])
+
+    def test_a_newer_source_is_proved_again(self):
+        self.call("show", "a.ops")
+        self.asked()
+        later = time.time() + 5
+        os.utime(self.top / "crates" / "other" / "proofs" / "file", (later, later))
+        self.call("show", "a.ops")
+        self.assertEqual(self.asked(), ["low lib", "mid lib", "simdram run"])
+
+    def test_what_is_not_proved(self):
+        ended = self.call("show", "a.ops", FAIL="mid")
+        self.assertEqual((ended.returncode, ended.stdout), (125, ""))
+        self.assertIn("error: open goal", ended.stderr)
+        self.assertIn("mid is not proved", ended.stderr)
+
+    def test_no_toolchain(self):
+        bare = self.top / "none"
+        bare.mkdir()
+        os.symlink(shutil.which("env"), bare / "env")
+        ended = self.call("show", "a.ops", PATH=str(bare))
+        self.assertEqual(ended.returncode, 125)
+        self.assertEqual(len(ended.stderr.splitlines()), 1)
+        self.assertIn("README", ended.stderr)
+
+    def test_wrong_words_build_nothing(self):
+        self.assertEqual(self.call("show").returncode, 1)
+        self.assertEqual(self.asked(), [])
+
+
+class Unproved(Building):
+    """The program without proofs, which stands already here."""
+
+    def setUp(self):
+        super().setUp()
+        out = self.top / "crates" / "simdram" / "out"
+        out.mkdir()
+        (out / "unproved").write_text('#!/bin/sh\necho unproved "$@"\n')
+        (out / "unproved").chmod(0o755)
+
+    def test_each_way_to_say_it(self):
+        for words, more in ((["--unproved", "show", "a"], {}), (["show", "a", "--unproved"], {}), (["show", "a"], {"SIMDRAM_UNPROVED": "1"})):
+            self.assertEqual(self.call(*words, **more).stdout, "unproved show a\n", words)
+        (self.top / ".simdram").write_text("# mine\nunproved\n")
+        self.assertEqual(self.call("show", "a").stdout, "unproved show a\n")
+        (self.top / ".simdram").write_text("quick\n")
+        ended = self.call("show", "a")
+        self.assertEqual(ended.returncode, 125)
+        self.assertIn("line 1: quick is no setting", ended.stderr)
+
+    def test_the_warning_comes_once(self):
+        said = [self.call("show", "a", "--unproved", SIMDRAM_QUIET="").stderr.count("nothing was proved") for _ in range(3)]
+        self.assertEqual(said, [1, 0, 0])
+        self.assertNotIn("nothing", self.call("show", "a", "--unproved").stderr)
+
+    test_lowest_first_and_once = test_a_newer_source_is_proved_again = test_what_is_not_proved = None
+    test_no_toolchain = test_wrong_words_build_nothing = None
+
+
+if __name__ == "__main__":
+    unittest.main()

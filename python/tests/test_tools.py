@@ -1,0 +1,190 @@
+"""The words report, cost-table, plot, steps, trace-text and from-hex."""
+
+import csv
+import io
+import json
+import pathlib
+import subprocess
+import tempfile
+import unittest
+
+import support
+from support import TOP, needs_program
+from test_words import called
+
+from simdram.cell_values import ONE, UNKNOWN, ZERO, complemented, majority, row_value
+from simdram.faults import Fault
+from simdram.files.program import Program
+from simdram.from_hex import bytes_in
+from simdram.plot import value
+from simdram.report import object_of
+from simdram.steps import WIDEST, all_shown
+
+SERIAL = TOP / "examples" / "serial" / "serial.ops"
+BIG = """op big(alpha_long_name1: word, beta_longer_name: word, sel: bit) -> result_of_it_all: word, carry_out: bit {
+  t0 = mul(alpha_long_name1, beta_longer_name);
+  serial down (carry_out = 0, s2 = 1) {
+    let x = xor(alpha_long_name1, t0);
+    let y = xor(x, beta_longer_name);
+    let z = xor(y, sel);
+    let w = xor(z, carry_out);
+    result_of_it_all = xor(w, s2);
+    carry_out = maj(x, y, z);
+    s2 = xor(maj(w, sel, y), and(x, carry_out));
+  }
+}
+"""
+
+
+class Folder(unittest.TestCase):
+    def setUp(self):
+        kept = tempfile.TemporaryDirectory()
+        self.addCleanup(kept.cleanup)
+        self.folder = pathlib.Path(kept.name)
+
+    def call(self, *words):
+        return called(*words, cwd=self.folder)
+
+    def compiled(self, text, name="p"):
+        (self.folder / f"{name}.ops").write_text(text)
+        subprocess.run([support.program(), "compile", f"{name}.ops", name], cwd=self.folder, check=True, capture_output=True)
+        return Program.load(str(self.folder / name))
+
+
+class Reports(unittest.TestCase):
+    TEXT = "1 ok aap=477 ap=8\n2 y: 17 200\n3 refused no_object 2\n4 refused bad_walk 1 index\nvote aap=36 flips=1\n" \
+           "total aap=477 ap=8 writes=96 reads=96 refused=2\n"
+
+    def test_each_line(self):
+        made = object_of(self.TEXT, None)
+        self.assertEqual(made["instructions"], [
+            {"number": 1, "status": "ok", "aap": 477, "ap": 8}, {"number": 2, "status": "printed", "name": "y", "values": [17, 200]},
+            {"number": 3, "status": "refused", "word": "no_object", "at": [2]},
+            {"number": 4, "status": "refused", "word": "bad_walk", "at": [1, "index"]}])
+        self.assertEqual(made["totals"], {"aap": 477, "ap": 8, "writes": 96, "reads": 96, "refused": 2})
+        self.assertEqual(made["vote"], {"aap": 36, "flips": 1})
+
+    def test_no_report(self):
+        for text in ("script line 1 lex\n", "1 ok aap=1 ap=1\n", ""):
+            with self.assertRaises(Fault):
+                object_of(text, None)
+
+
+@needs_program
+class Banks(Folder):
+    def test_one_bank_and_one_element(self):
+        banks = TOP / "examples" / "banks"
+        self.call("init", "2", "128", "1", "i.img")
+        report = self.call("run", str(banks / "banks.ops"), "p", str(banks / "banks.bbop"), "i.img", "o.img").stdout
+        (self.folder / "r").write_text(report)
+        made = json.loads(self.call("report", "--json", "r", "--script", str(banks / "banks.bbop"), "--image", "i.img").stdout)
+        cost = self.call("cost", "p", "8").stdout.split()
+        one = made["instructions"][8]
+        self.assertEqual((one["aap"], one["banks"], f"aap={one['aap_per_bank']}", f"ap={one['ap_per_bank']}"), (130, 2, cost[1], cost[2]))
+        self.assertAlmostEqual(one["commands_per_element"], 146 / 70)
+        self.assertIn("all banks: aap=502", self.call("report", "r").stdout)
+
+    def test_cost_table(self):
+        self.compiled("op f(a: word, b: word) -> y: word { y = add(a, b); }\nop g(a: word) -> y: word { y = not(a); }")
+        rows = list(csv.DictReader(io.StringIO(self.call("cost-table", "p", "--widths", "8,16", "--banks", "4", "--csv").stdout)))
+        self.assertEqual([(row["name"], row["width"], row["commands_per_bank"], row["commands_all_banks"]) for row in rows],
+                         [("f", "8", "73", "292"), ("f", "16", "145", "580"), ("g", "8", "16", "64"), ("g", "16", "32", "128")])
+        self.assertEqual(self.call("cost-table", "p", "--widths", "129").returncode, 2)
+
+
+@needs_program
+class Plots(Folder):
+    def test_a_picture(self):
+        self.compiled("op f(a: word, b: word) -> y: word { y = add(a, b); }")
+        self.assertEqual(self.call("plot", "p", "p.svg", "--to", "4", "--ceiling", "f=9*n+1").returncode, 0)
+        self.assertIn("f: 37 at 4", (self.folder / "p.svg").read_text())
+
+    def test_a_stuck_walk_is_left_out(self):
+        stuck = bytes_in(str(TOP / "examples" / "refused" / "stuck.hex"))
+        right = self.compiled("op f(a: word) -> y: word { y = not(a); }")
+        both = Program([*right.entries, *Program.read(stuck).entries])
+        (self.folder / "both").write_bytes(both.file())
+        ended = self.call("plot", "both", "p.svg", "--to", "2")
+        self.assertEqual(ended.returncode, 0, ended.stderr)
+        self.assertIn("index is left out: its walk is stuck, bad_walk 1 index at n = 1", ended.stderr)
+        self.assertIn("f: 4 at 2", (self.folder / "p.svg").read_text())
+        self.assertEqual(self.call("plot", "none", "p.svg").returncode, 2)
+
+    def test_formulas(self):
+        self.assertEqual(value("11*n*n+15*n-n//2", 4), 234)
+        for text in ("n**2", "m", "n+", "f(n)", "n//0", "True"):
+            with self.assertRaises(Fault):
+                value(text, 3)
+
+
+class CellValues(unittest.TestCase):
+    def test_majorities(self):
+        a, b, c = map(row_value, "abc")
+        self.assertEqual(majority([a, complemented(a), b]), b)
+        self.assertEqual(majority([a, a, UNKNOWN]), a)
+        self.assertEqual(majority([a, b, UNKNOWN]), UNKNOWN)
+        self.assertEqual(majority([ZERO, a, b]).text, "and(a, b)")
+        self.assertEqual(majority([a, ONE, b]).text, "or(a, b)")
+        self.assertEqual(majority([c, b, a]).text, "M(a, b, c)")
+        # the same function in another spelling
+        self.assertEqual(complemented(majority([a, b, c])).pattern, majority([complemented(x) for x in (a, b, c)]).pattern)
+
+
+@needs_program
+class Steps(Folder):
+    def test_a_full_adder_by_name(self):
+        entry = self.compiled(SERIAL.read_text()).find("maj_add")
+        once, each = all_shown(entry, str(SERIAL))
+        self.assertEqual(once.lines[0], "from instruction 0, once: line 16, serial up (c = 0) { .. }")
+        self.assertIn("at each position, upwards: line 16", each.lines[0])
+        last = each.done[-1]
+        self.assertEqual((last.rows["c"], last.cells["DCC1"]), ("k", "k"))
+        self.assertIn("M(a[i], m, ~k)", last.rows["y[i]"])
+
+    def test_lines_are_short_and_values_have_numbers(self):
+        entry = self.compiled(BIG).find("big")
+        for ops in (None, str(self.folder / "p.ops")):
+            parts = all_shown(entry, ops)
+            self.assertLessEqual(max(len(line) for one in parts for line in one.lines), WIDEST)
+            self.assertTrue(parts[-1].said)
+        self.assertIn("downwards: line 3", parts[-1].lines[0])
+        self.assertIn("upwards: line 2", parts[0].lines[0])
+        names = {value.lstrip("~") for step in parts[-1].done for value in step.cells.values()}
+        self.assertTrue({"x", "y", "z", "w"} <= names, names)
+
+    def test_the_page(self):
+        self.compiled(BIG)
+        ended = self.call("steps", "p", "big", "--ops", "p.ops", "--html", "p.html")
+        self.assertEqual(ended.returncode, 0, ended.stderr)
+        page = (self.folder / "p.html").read_text()
+        self.assertNotIn("NAME</title>", page)
+        data = json.loads(page.partition("const parts = ")[2].partition(";\n")[0])
+        self.assertGreaterEqual(max(len(part["steps"]) for part in data), 60)
+
+    def test_faults(self):
+        self.compiled(BIG)
+        for words in (["steps", "p", "none"], ["steps", "none", "big"], ["steps", "p.ops", "big"], ["steps", "p", "big", "--ops", "p"]):
+            ended = self.call(*words)
+            self.assertEqual((ended.returncode, len(ended.stderr.splitlines())), (2, 1), ended.stderr)
+
+
+class Texts(Folder):
+    def test_from_hex(self):
+        (self.folder / "n").write_text("53 44 # two\n4D50\n")
+        self.assertEqual(self.call("from-hex", "n", "f").returncode, 0)
+        self.assertEqual((self.folder / "f").read_bytes(), b"SDMP")
+        (self.folder / "n").write_text("53\n5\n")
+        ended = self.call("from-hex", "n", "f")
+        self.assertEqual(ended.returncode, 2)
+        self.assertIn("n line 2", ended.stderr)
+
+    def test_trace_text(self):
+        note = TOP / "examples" / "replay" / "and.trace.hex"
+        self.call("from-hex", str(note), "t")
+        self.assertEqual(self.call("trace-text", "t").stdout.splitlines()[0].split()[:2], ["bank", "0"])
+        self.assertEqual(len(self.call("trace-text", "--ramulator", "t").stdout.splitlines()), 8)
+        self.assertEqual(self.call("trace-text", "n").returncode, 2)
+
+
+if __name__ == "__main__":
+    unittest.main()
