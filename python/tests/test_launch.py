@@ -233,6 +233,11 @@ class Building(unittest.TestCase):
         self.assertEqual(len(ended.stderr.splitlines()), 1)
         self.assertIn("README", ended.stderr)
 
+    def test_a_home_that_is_none(self):
+        ended = self.call("show", "a.ops", SIMDRAM_HOME=str(self.top / "bin"))
+        self.assertEqual(ended.returncode, 125)
+        self.assertIn("bin, which is no repository of SIMDRAM", ended.stderr)
+
     def test_wrong_words_build_nothing(self):
         self.assertEqual(self.call("show").returncode, 1)
         self.assertEqual(self.asked(), [])
