@@ -44,6 +44,7 @@ def tool(name: str, words: list[str], settings: Settings) -> int:
 def help_on(words: list[str], settings: Settings) -> int:
     """Help on all commands, or on one."""
     end_with_reader()
+    words = [word for word in words if word not in HELP]
     command = ALL.get(words[0]) if words else None
     if words and command is None:
         raise Fault(f"there is no command {words[0]}; simdram help lists them")

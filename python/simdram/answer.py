@@ -5,7 +5,7 @@ from __future__ import annotations
 import dataclasses
 import textwrap
 
-from .tokens import Token, line_of
+from .tokens import STRANGER, Token, line_of
 
 WIDEST = 100
 
@@ -51,4 +51,4 @@ def at_token(path: str, data: bytes, token: Token, kind: str, rule: str, right=(
     shown = "".join(one if one.isprintable() else " " if one in "\t\r" else "?" for one in text.decode("utf-8", "replace"))
     column = len(text[:column].decode("utf-8", "replace"))
     place = f"line {line} column {column + 1}"
-    return Answer(path, place, kind, rule, tuple(right), shown if shown.strip() else "", (column, len(token.text)))
+    return Answer(path, place, kind, rule, tuple(right), shown if shown.strip() else "", (column, 1 if token.kind == STRANGER else len(token.text)))

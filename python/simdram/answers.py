@@ -22,9 +22,31 @@ from .settings import Settings
 from .table import Table
 
 READERS = {"program": Program, "image": Image, "trace": Trace}
+# what would be right, by the word of the rule
+RIGHT = {
+    "rest": "the numbers before that place say where the file ends, and nothing may follow",
+    "instruction": "kinds of instructions are 0 to 10, registers r0 to r7, numbers 0 to 1023, and bytes that are not named are 0",
+    "target": "a jump goes to an instruction of its own entry",
+    "row": "rows are those of the entry's results, sources and scratch, with registers of r0 to r7; a first row is not "
+           "B8 to B11, and a second one no source and no C row",
+    "no_done": "an entry ends with DONE",
+    "overlap": "each object has rows of its own, neighbouring ones, as many as it has bits",
+    "event": "an event is 0 AAP, 1 AP or 2 WRITE, its bank, and two addresses: a group, 0 B, 1 C or 2 D, and a number",
+    "legal": "B8 to B11 raise two wordlines and stand only second; C0 and C1 stand only first",
+}
 SHOWN_MAX = 5
 GUARDED_NAME_MAX = 15
 COST_SECONDS = 20
+
+
+def right_bytes(word: str, data: bytes) -> tuple[str, ...]:
+    """What would be right where a field breaks a rule; what the rule itself says is not said again."""
+    if word == "magic":
+        return (f"the file holds {content(data[:512])}",)
+    if word == "short":
+        return (f"the file has {len(data)} bytes: it was cut off, or a number before that place is too great" if data
+                else "the file is empty",)
+    return (RIGHT[word],) if word in RIGHT else ()
 
 
 def explain_bytes(kind: str, path: str, data: bytes) -> Answer | None:
@@ -32,8 +54,7 @@ def explain_bytes(kind: str, path: str, data: bytes) -> Answer | None:
     try:
         READERS[kind].read(data, path)
     except FileFault as fault:
-        right = (f"the file holds {content(data[:512]) if data else 'nothing'}",) if fault.word == "magic" else ()
-        return Answer(path, fault.place, fault.word, fault.what, right)
+        return Answer(path, fault.place, fault.word, fault.what, right_bytes(fault.word, data))
     return None
 
 

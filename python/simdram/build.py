@@ -13,7 +13,7 @@ import time
 
 from .faults import NoProgram
 from .minutes import SECONDS, seconds_of
-from .places import TOP
+from .places import TOP, is_top
 from .say import say
 
 INTERRUPTED = 130
@@ -27,6 +27,8 @@ def home() -> pathlib.Path:
     """The repository's top folder."""
     if TOP is None:
         raise NoProgram("no repository of SIMDRAM here: name its folder by SIMDRAM_HOME, or a built program by SIMDRAM_PROGRAM")
+    if not is_top(TOP):
+        raise NoProgram(f"SIMDRAM_HOME names {TOP}, which is no repository of SIMDRAM")
     return pathlib.Path(TOP)
 
 

@@ -6,6 +6,7 @@ import dataclasses
 
 from . import run_program
 from .faults import Fault
+from .files.program import Program
 from .settings import Settings
 
 
@@ -38,5 +39,6 @@ def costs(path: str, width: int, settings: Settings) -> list[Cost]:
     """Of each entry at a width, in the order of the file, its cost."""
     ended = run_program.run(["cost", path, str(width)], settings=settings)
     if ended.status:
+        Program.load(path)  # where this is no program file, its own fault is told
         raise Fault(f"cost {path} {width} ended with status {ended.status}: {ended.out.strip() or ended.err.strip()}")
     return [cost_of(line) for line in ended.out.splitlines()]

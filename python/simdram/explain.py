@@ -11,6 +11,7 @@ import argparse
 
 from . import answers
 from .answer import Answer
+from .commands import KINDS
 from .faults import Fault
 from .file_kinds import kind_of
 from .files.program import Program
@@ -18,6 +19,9 @@ from .settings import Settings
 from .table import Table
 
 FOUND = 1
+# which kinds of files say something of a kind
+BESIDE = {"script": ("program", "image"), "query": ("image",), "flips": ("script", "image")}
+FORMS = {"script": "SCRIPT PROG IMAGE", "query": "QUERY IMAGE", "flips": "FLIPS SCRIPT IMAGE"}
 
 
 def of_script(path: str, data: bytes, beside: dict, settings: Settings) -> list[Answer]:
@@ -25,6 +29,15 @@ def of_script(path: str, data: bytes, beside: dict, settings: Settings) -> list[
     prog, image = beside["program"], beside["image"]
     entries = {entry.name: entry for entry in Program.read(prog[1], prog[0]).entries}
     return answers.script_refusals(path, data, Table.read(image[1], image[0]), entries, answers.stuck_by_cost(prog[0], settings))
+
+
+def check_beside(path: str, kind: str, beside: dict) -> None:
+    """Refuses files that say nothing beside this one, and a script's program without its image, or the other way round."""
+    for other, (name, _) in beside.items():
+        if other not in BESIDE.get(kind, ()):
+            raise Fault(f"{name} is {KINDS[other]}, which says nothing of {path}, {KINDS[kind]}; the form: explain {FORMS.get(kind, 'FILE')}")
+    if kind == "script" and len(beside) == 1:
+        raise Fault(f"{path} is a script: its refusals need both a program file and an image beside it")
 
 
 def of_flips(path: str, data: bytes, beside: dict) -> list[Answer]:
@@ -37,6 +50,7 @@ def of_flips(path: str, data: bytes, beside: dict) -> list[Answer]:
 def found_in(path: str, beside: dict, settings: Settings) -> list[Answer]:
     """What is wrong with a file, beside others."""
     kind, data = kind_of(path)
+    check_beside(path, kind, beside)
     if kind == "flips":
         return of_flips(path, data, beside)
     fault = answers.first_fault(kind, path, data)
@@ -52,7 +66,7 @@ def found_in(path: str, beside: dict, settings: Settings) -> list[Answer]:
 def parser() -> argparse.ArgumentParser:
     made = argparse.ArgumentParser(prog="simdram explain", description=__doc__, formatter_class=argparse.RawDescriptionHelpFormatter)
     made.add_argument("file", metavar="FILE")
-    made.add_argument("beside", metavar="BESIDE", nargs="*")
+    made.add_argument("beside", metavar="BESIDE", nargs="*", default=[])
     return made
 
 

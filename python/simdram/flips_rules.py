@@ -5,7 +5,7 @@ from __future__ import annotations
 from .answer import Answer, at_token
 from .script_rules import Breach, lines_of
 from .table import Table
-from .tokens import NUMBER, STRANGER, value_of
+from .tokens import NUMBER, STRANGER, no_token, value_of
 
 FORM = "the form: K BANK ROW COLUMN, four numbers without commas"
 
@@ -13,7 +13,7 @@ FORM = "the form: K BANK ROW COLUMN, four numbers without commas"
 def check_line(line, least: int, instructions: int, table: Table) -> int:
     """The K of a line, or the K before it where the line has no token."""
     if line[-1].kind == STRANGER:
-        raise Breach(line[-1], "lex", f"no token begins with {line[-1].text!r}; a comment begins with `#`", FORM)
+        raise Breach(line[-1], "lex", no_token(line[-1]), FORM)
     words = line[:-1]
     if not words:
         return least

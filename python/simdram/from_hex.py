@@ -7,9 +7,14 @@ between them. So a program file is written by hand with a comment after each ins
 from __future__ import annotations
 
 import argparse
+import re
 
 from .faults import Fault
+from .overwrite import check_tool
 from .settings import Settings
+
+BYTES = re.compile("(?:[0-9a-fA-F]{2})+")
+SHOWN = 40
 
 
 def bytes_in(note: str) -> bytes:
@@ -17,11 +22,11 @@ def bytes_in(note: str) -> bytes:
     found = bytearray()
     with open(note, encoding="utf-8", errors="replace") as file:
         for number, line in enumerate(file, 1):
-            digits = line.partition("#")[0]
-            try:
-                found += bytes.fromhex(digits)
-            except ValueError:
-                raise Fault(f"{note} line {number}: {digits.strip()} are no bytes, each of two hexadecimal digits") from None
+            words = line.partition("#")[0].split()
+            wrong = next((word for word in words if not BYTES.fullmatch(word)), None)
+            if wrong is not None:
+                raise Fault(f"{note} line {number}: {wrong[:SHOWN]!r} are no bytes, each of two hexadecimal digits")
+            found += bytes.fromhex("".join(words))
     return bytes(found)
 
 
@@ -32,9 +37,10 @@ def parser() -> argparse.ArgumentParser:
     return made
 
 
-def main(words: list[str], _settings: Settings) -> int:
+def main(words: list[str], settings: Settings) -> int:
     asked = parser().parse_args(words)
     data = bytes_in(asked.note)
+    check_tool(asked.file, data[:4] or (), "other bytes are", settings)
     with open(asked.file, "wb") as file:
         file.write(data)
     return 0

@@ -19,8 +19,9 @@ It counts row commands, AAP and AP, and gives no time.
 FOOT = """  help COMMAND         its words, and an example; for a tool what it takes
   --unproved           anywhere among the words: compiles the program without proofs, in about a minute, and runs that
                        (also SIMDRAM_UNPROVED=1, or a line `unproved` in the file .simdram at the top of the repository)
-  SIMDRAM_QUIET=1      does not say that such a program was not proved
-  --force              writes over a file that is of another kind
+  SIMDRAM_QUIET=1      does not say that such a program was not proved, nor what was kept
+  --force              writes over a file that is of another kind, and keeps nothing: else an image that OUT changes, or a
+                       program file that NEW changes, is kept as NAME~
   SIMDRAM_PROGRAM=FILE runs this program
   docs/README.md       first answers; docs/LANGUAGE.md the language; docs/FORMATS.md files, reports and statuses
 """

@@ -24,6 +24,7 @@ import sys
 import typing
 
 from .commands import MAGIC
+from .file_kinds import ENDINGS
 from .files import numbers
 from .files.fault import FileFault
 from .files.image import Image, NoObject, NoRoom, OutOfRange
@@ -32,6 +33,8 @@ from .overwrite import content, start_of
 from .settings import Settings
 
 FORMS = tuple(line.strip() for line in __doc__.split("\n\n")[1].splitlines())
+# how a file of numbers begins
+NUMBERS = re.compile(rb"\x93NUMPY.*|(?:element,\w+\s)?[\d,\s-]*", re.DOTALL)
 OBJECT = re.compile(r"([A-Za-z_][A-Za-z0-9_]{0,15}):(\d+)(?:=(-?\d+(?:,-?\d+)*),?|/(\d+))")
 
 
@@ -107,11 +110,12 @@ def put(path: str, name: str, file: str) -> None:
 
 
 def check_kind(path: str, is_image: bool, settings: Settings) -> None:
-    """Refuses to write over a file of another kind: an image over no image, or numbers over a file of simdram's."""
+    """Refuses to write over a file of another kind: an image over no image, or numbers over no numbers."""
     start = start_of(path, 512)
     if start is None or settings.force:
         return
-    if not start.startswith(MAGIC["image"]) if is_image else start.startswith(tuple(MAGIC.values())):
+    is_numbers = NUMBERS.fullmatch(start) and not path.endswith(tuple(ENDINGS))
+    if not (start.startswith(MAGIC["image"]) if is_image else is_numbers):
         wanted = "an image is" if is_image else "numbers are"
         raise FileFault(path, "", "", f"{wanted} to be written there, and it holds {content(start)}; nothing was done, "
                         "and --force writes over it")

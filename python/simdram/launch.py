@@ -6,6 +6,7 @@ from . import overwrite, run_program
 from .aftermath import Aftermath
 from .commands import ALL
 from .faults import WRONG
+from .kept import Kept
 from .say import say
 from .settings import Settings
 from .words import wrong_words
@@ -44,8 +45,9 @@ def launch(words: list[str], settings: Settings) -> int:
     if refusal:
         say(refusal)
         return WRONG
-    after = Aftermath(command, words[1:], settings)
-    status = run_program.follow(run_program.program(settings), words)
+    program = run_program.program(settings)
+    after, kept = Aftermath(command, words[1:], settings), Kept(command, words[1:], settings)
+    status = run_program.follow(program, words, kept.keep)
     if status == USAGE_STATUS:
         say(form(words))
     elif status:

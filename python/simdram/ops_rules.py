@@ -7,7 +7,7 @@ from .answer import Answer, at_token
 from .faults import Fault
 from .op_shapes import OpShape, Statement
 from .ops_scope import Scope
-from .tokens import END, NAME, NAME_MAX, STRANGER, Token, is_long, tokens
+from .tokens import END, NAME, NAME_MAX, STRANGER, Token, is_long, no_token, tokens
 from .words import nearest
 
 RESERVED = ("op", "word", "bit", "serial", "up", "down", "let")
@@ -63,7 +63,7 @@ class Reader:
         right = [f"there are no signs for operations; the operation is `{operation}(..)`"] if operation else []
         if token.text == "<":
             right = ["there are no signs for comparisons; a < b is `gt(b, a)`"]
-        return Breach(token, "lex", f"no token begins with {token.text!r}; a comment begins with `#`", *right)
+        return Breach(token, "lex", no_token(token), *right)
 
     def take(self, wanted: str, *texts: str, name: bool = False) -> Token:
         """The next token, where it is a name or one of these texts."""

@@ -1,4 +1,4 @@
-"""Files that a command would write over, and that hold something of another kind."""
+"""Files that a command or a tool would write over, and that hold something of another kind."""
 
 from __future__ import annotations
 
@@ -6,6 +6,8 @@ import os
 import stat
 
 from .commands import KINDS, MAGIC, Command
+from .faults import Fault
+from .settings import Settings
 from .words import PLACES
 
 TEXT_PROBE = 512
@@ -43,3 +45,10 @@ def refusal(command: Command, words: list[str]) -> str | None:
             return (f"{text} is the {PLACES[k]} word of {command.name}, where {KINDS[word.kind]} is written, and holds "
                     f"{content(start)}; is the order {order} meant? Nothing was done; --force writes over it")
     return None
+
+
+def check_tool(path: str, starts: bytes | tuple[bytes, ...], what: str, settings: Settings) -> None:
+    """Refuses to have a tool write over a file that does not begin as its own files do."""
+    start = start_of(path, TEXT_PROBE)
+    if start is not None and not start.startswith(starts) and not settings.force:
+        raise Fault(f"{path}: {what} to be written there, and it holds {content(start)}; nothing was done, and --force writes over it")

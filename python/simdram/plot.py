@@ -15,6 +15,7 @@ import pathlib
 
 from .costs import costs
 from .faults import Fault
+from .overwrite import check_tool
 from .say import say
 from .settings import Settings
 
@@ -118,12 +119,19 @@ def drawn(found, ceilings):
     yield "</svg>"
 
 
+def width(text: str) -> int:
+    """The number that --to says."""
+    if not (text.isascii() and text.isdigit() and 1 <= int(text) <= 128):
+        raise argparse.ArgumentTypeError(f"a width is 1 to 128, and not {text}")
+    return int(text)
+
+
 def parser() -> argparse.ArgumentParser:
     made = argparse.ArgumentParser(prog="simdram plot", description=__doc__, formatter_class=argparse.RawDescriptionHelpFormatter)
     made.add_argument("prog", metavar="PROG")
     made.add_argument("out", metavar="OUT.svg")
     made.add_argument("--ops", default="", metavar="NAME,..", help="the entries to draw; all where none is given")
-    made.add_argument("--to", type=int, default=64, choices=range(1, 129), metavar="N", help="the greatest width")
+    made.add_argument("--to", type=width, default=64, metavar="N", help="the greatest width, 1 to 128")
     made.add_argument("--ceiling", action="append", default=[], metavar="NAME=FORMULA")
     return made
 
@@ -140,5 +148,6 @@ def main(words: list[str], settings: Settings) -> int:
     asked = parser().parse_args(words)
     found = curves(asked.prog, [name for name in asked.ops.split(",") if name], asked.to, settings)
     ceilings = ceilings_of(asked.ceiling, found, asked.to)
+    check_tool(asked.out, (b"<svg", b"<?xml"), "a picture is", settings)
     pathlib.Path(asked.out).write_text("\n".join(drawn(found, ceilings)) + "\n", encoding="utf-8")
     return 0

@@ -5,7 +5,7 @@ from __future__ import annotations
 import typing
 
 from .answer import Answer, at_token
-from .tokens import END, NAME, NUMBER, STRANGER, Token, is_long, tokens, value_of
+from .tokens import END, NAME, NUMBER, STRANGER, Token, is_long, no_token, tokens, value_of
 from .words import nearest
 
 COMPARISONS = ("eq", "gt", "ge", "lt", "le")
@@ -46,7 +46,7 @@ class Reader:
     def take(self) -> Token:
         token = self.tokens[self.at]
         if token.kind == STRANGER:
-            raise Breach(token, "lex", f"no token begins with {token.text!r}; a comment begins with `#`", *self.sign_hint(token))
+            raise Breach(token, "lex", no_token(token), *self.sign_hint(token))
         self.at += 1
         return token
 

@@ -14,8 +14,10 @@ import re
 import sys
 import typing
 
+from .commands import MAGIC
 from .faults import Fault
 from .files.store import load
+from .overwrite import content
 from .script_rules import Instruction, read_script
 from .settings import Settings
 from .table import HEAD_MAX, Table
@@ -88,7 +90,7 @@ def object_of(text: str, beside: Beside | None) -> dict:
         elif total:
             made["totals"] = dict(zip(("aap", "ap", "writes", "reads", "refused"), map(int, total.groups())))
         else:
-            raise Fault(f"line {number} is no line of a report: {line[:80]}")
+            raise Fault(f"line {number} is no line of a report: {line[:80]!r}")
     if made["totals"] is None:
         raise Fault("the report has no line of totals: the command did not end with status 0 or 8")
     if beside and len(beside.instructions) != len(made["instructions"]):
@@ -123,11 +125,20 @@ def parser() -> argparse.ArgumentParser:
     return made
 
 
+def text_of(report: str | None) -> str:
+    """The text of a report, or of standard input."""
+    if report is None:
+        return sys.stdin.read()
+    data = load(report)
+    if data.startswith(tuple(MAGIC.values())):
+        raise Fault(f"{report}: no report: it holds {content(data[:512])}")
+    return data.decode("utf-8", "replace")
+
+
 def main(words: list[str], _settings: Settings) -> int:
     asked = parser().parse_args(words)
     if bool(asked.script) != bool(asked.image):
         raise Fault("--script and --image stand together")
-    text = load(asked.report).decode("utf-8", "replace") if asked.report else sys.stdin.read()
-    made = object_of(text, beside_of(asked.script, asked.image))
+    made = object_of(text_of(asked.report), beside_of(asked.script, asked.image))
     print(json.dumps(made, indent=1) if asked.json else table_of(made))
     return 0

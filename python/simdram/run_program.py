@@ -59,8 +59,11 @@ def program(settings: Settings) -> str:
     return found
 
 
-def follow(path: str, words: list[str]) -> int:
-    """The status of the program on these words; it has our streams, open files and signals, and ends us as it was ended."""
+def follow(path: str, words: list[str], ended: typing.Callable[[], None] = lambda: None) -> int:
+    """The status of the program on these words; it has our streams, open files and signals, and ends us as it was ended.
+
+    What `ended` does comes between the two ends.
+    """
     with subprocess.Popen([path, *words], close_fds=False) as running:
         def pass_on(number, _frame):
             running.send_signal(number)
@@ -71,6 +74,7 @@ def follow(path: str, words: list[str]) -> int:
         finally:
             for number, handler in before.items():
                 signal.signal(number, handler)
+    ended()
     if status < 0:
         signal.signal(-status, signal.SIG_DFL)
         os.kill(os.getpid(), -status)

@@ -6,7 +6,7 @@ import dataclasses
 import typing
 
 from .answer import Answer, at_token
-from .tokens import END, NAME, NAME_MAX, NUMBER, STRANGER, Token, is_long, tokens, value_of
+from .tokens import END, NAME, NAME_MAX, NUMBER, STRANGER, Token, is_long, no_token, tokens, value_of
 from .words import nearest
 
 FORMS = {
@@ -140,7 +140,7 @@ def order_of(head: Token, words: list[Token]) -> Instruction:
 def instruction_of(line: list[Token]) -> Instruction | None:
     """What a line says: an instruction, or nothing where it has no token."""
     if line[-1].kind == STRANGER:
-        raise Breach(line[-1], "lex", f"no token begins with {line[-1].text!r}; a comment begins with `#`",
+        raise Breach(line[-1], "lex", no_token(line[-1]),
                      *(["numbers are at least 0"] if line[-1].text == "-" else []))
     head, words = line[0], line[1:]
     if head.kind == END:

@@ -26,6 +26,7 @@ from .files.program import (AAP, ADD, ADDI, B_ADDRESS, BNEZ, C_ADDRESS, INDEXED,
 from .files.store import load
 from .op_shapes import OpShape
 from .ops_rules import op_shape
+from .overwrite import check_tool
 from .row_names import ZERO_INDEX, RowNames, let_patterns
 from .settings import Settings
 from .steps_page import page
@@ -244,7 +245,7 @@ def parser() -> argparse.ArgumentParser:
     return made
 
 
-def main(words: list[str], _settings: Settings) -> int:
+def main(words: list[str], settings: Settings) -> int:
     asked = parser().parse_args(words)
     try:
         entry = Program.load(asked.prog).find(asked.op)
@@ -252,6 +253,7 @@ def main(words: list[str], _settings: Settings) -> int:
         raise Fault(f"{asked.prog}: {fault.args[0]}") from None
     found = all_shown(entry, asked.ops)
     if asked.html:
+        check_tool(asked.html, b"<!DOCTYPE html>", "a page is", settings)
         with open(asked.html, "w", encoding="utf-8") as file:
             file.write(page(asked.op, found))
         return 0

@@ -31,6 +31,13 @@ def tokens(data: bytes) -> list[Token]:
     return [*found, Token(END, "", len(data))]
 
 
+def no_token(token: Token) -> str:
+    """Why a byte starts no token, as a rule."""
+    if len(token.text) == 1:
+        return f"no token begins with {token.text!r}; a comment begins with `#`"
+    return f"no token begins with the byte 0{token.text[1:]}: but for comments, which begin with `#`, texts are ASCII"
+
+
 def line_of(data: bytes, at: int) -> int:
     """The line of a place, from 1; the end of the text is on the line of its last byte."""
     return 1 + data.count(b"\n", 0, min(at, max(len(data) - 1, 0)))

@@ -70,13 +70,25 @@ def wrong_count(command: Command, words: list[str]) -> str | None:
     return None
 
 
+def is_text(word: str) -> bool:
+    """Whether a word is text, as the program takes words."""
+    try:
+        word.encode()
+    except UnicodeEncodeError:
+        return False
+    return True
+
+
 def wrong_words(words: list[str]) -> str | None:
     """What is wrong with the words, as one line, or nothing where they are a command of the program."""
     if not words:
         return "there is no command"
+    strange = next((word for word in words if not is_text(word)), None)
+    if strange is not None:
+        return f"{strange!r} is no word: words are UTF-8"
     command = ALL.get(words[0])
     if command is None or not command.is_program:
         near = nearest(words[0], [*ALL, "help"])
-        return f"there is no command {words[0]}" + (f"; the nearest: {', '.join(near)}" if near else "")
+        return f"there is no command {words[0] or repr('')}" + (f"; the nearest: {', '.join(near)}" if near else "")
     given = words[1:]
     return wrong_count(command, given) or wrong_numbers(command, given) or equal_files(command, given)

@@ -34,14 +34,15 @@ class Refusals(unittest.TestCase):
         said = self.refused("range", 2, lambda: chip.array([1, 256], bits=8))
         self.assertIn("[1] is 256, and 8 bits hold 0 to 255", said)
         self.refused("range", 1, lambda: chip.array([2**64], bits=64))
-        self.refused("range", 1, lambda: chip.array(9, bits=3))
-        self.refused("too_large", None, lambda: chip.array(numpy.zeros(65, dtype=int), bits=8))
+        self.assertIn("the number is 9, and 3 bits hold", self.refused("range", 1, lambda: chip.array(9, bits=3)))
+        said = self.refused("too_large", None, lambda: chip.array(numpy.zeros(65, dtype=int), bits=8))
+        self.assertIn("the array has 65 elements, and there is room for 1 to 64", said)
         self.refused("too_large", None, lambda: chip.array(numpy.zeros((0, 3), dtype=int), bits=8))
         self.assertIn("longest free piece has 56", self.refused("no_rows", None, lambda: chip.array([1], bits=64)))
         for bits in (0, 129):
             self.refused("bad_number", None, lambda: chip.array([1], bits=bits))
         self.refused("bad_number", None, lambda: chip.array([2**70]))
-        for wrong in ([1.5], numpy.array([1.0]), ["a"], None, numpy.array([1j])):
+        for wrong in ([1.5], numpy.array([1.0]), ["a"], None, numpy.array([1j]), numpy.ma.array([1, 2], mask=[0, 1])):
             with self.assertRaises(TypeError):
                 chip.array(wrong, bits=8)
 
@@ -60,7 +61,7 @@ class Refusals(unittest.TestCase):
         self.refused("width", None, lambda: simdram.op("op f(s: bit) -> y: word { serial up () { y = s; } }")(flag))
         self.refused("arity", None, lambda: simdram.op("op f(a: word) -> y: word { y = not(a); }")(a, a))
         for wrong in (lambda: a + 1.5, lambda: a << a, lambda: bool(a > 1), lambda: simdram.where(True, 1, 2),
-                      lambda: a + "b"):
+                      lambda: a + "b", lambda: simdram.compute(5), lambda: simdram.op(5), lambda: simdram.scan(chip, 5, a=a)):
             with self.assertRaises(TypeError):
                 wrong()
         with self.assertRaisesRegex(ValueError, "different chips"):
@@ -78,11 +79,32 @@ class Refusals(unittest.TestCase):
         self.assertEqual(objects(self.chip), [(0, 8)])
         self.assertEqual(self.chip.image.file()[:38], before[:38])
 
+    def test_a_full_table(self):
+        chip = simdram.Chip(banks=1, rows=1006, words=1)
+        all_of_it = [chip.array([k % 2], bits=1) for k in range(256)]
+        said = self.refused("table_full", None, lambda: chip.array([1], bits=1))
+        self.assertIn("a chip has at most 256 arrays at once", said)
+        both = all_of_it[0] + all_of_it[1]
+        self.refused("table_full", None, both.numpy)
+        del all_of_it[3:]
+        self.assertEqual(both.numpy().tolist(), [1])
+        self.assertEqual([one.numpy().tolist() for one in all_of_it], [[0], [1], [0]])
+
+    def test_arrays_that_are_gone_while_an_expression_needs_them(self):
+        b = self.chip.array([5, 5, 5], bits=8)
+        z = self.a + b
+        del b
+        other = self.chip.array([9, 9, 9], bits=8)
+        self.assertEqual((z.numpy().tolist(), other.numpy().tolist()), ([6, 7, 8], [9, 9, 9]))
+
     def test_stopped(self):
         with self.assertRaisesRegex(simdram.Stopped, "(?s)scan ended with status 15: query line 1 syntax.*column 1"):
             simdram.scan(self.chip, "a >= 10", a=self.a)
-        self.refused("no_object", 0, lambda: simdram.scan(self.chip, "ge(b, 10)", a=self.a))
-        self.refused("range", 0, lambda: simdram.scan(self.chip, "ge(a, 256)", a=self.a))
+        said = self.refused("no_object", 0, lambda: simdram.scan(self.chip, "ge(b, 10)", a=self.a))
+        self.assertIn("no object has the name b\n  the objects that stand: a", said)
+        said = self.refused("range", 0, lambda: simdram.scan(self.chip, "ge(a, 256)", a=self.a))
+        self.assertIn("a has 8 bits, which hold 0 to 255", said)
+        self.assertEqual(simdram.scan(self.chip, "ge(query, 2)", query=self.a).count, 2)
         self.refused("bad_name", None, lambda: simdram.scan(self.chip, "ge(a, 1)", a_name_of_seventeen=self.a))
 
 

@@ -16,6 +16,7 @@ from simdram.answers import first_fault, no_triples, query_refusals, script_refu
 from simdram.files.image import Image, Object
 from simdram.files.program import Program
 from simdram.flips_rules import explain_flips
+from simdram.from_hex import bytes_in
 from simdram.ops_rules import explain_ops
 from simdram.query_rules import read_query
 from simdram.script_rules import read_script
@@ -109,6 +110,36 @@ class Texts(unittest.TestCase):
             self.assertEqual((answer.kind, answer.place), (kind, place))
         answer = first_fault("script", "file", image)
         self.assertIn("a script is read here, and the file holds an image", answer.rule)
+
+    def test_what_would_be_right(self):
+        image = (TOP / "examples" / "and" / "and.img").read_bytes()
+        program = bytes_in(str(TOP / "examples" / "exec" / "xor.hex"))
+        trace = bytes_in(str(TOP / "examples" / "replay" / "and.trace.hex"))
+        event = 14 + 24 * trace[12] + 4
+        for kind, data, word, said in (
+            ("image", b"", "short", "the file is empty"), ("image", image[:100], "short", "the file has 100 bytes"),
+            ("image", image[:4] + bytes([2]) + image[5:], "version", "the version is 2, and has to be 1"),
+            ("image", image + b"0", "rest", "1 byte follows the last field"), ("image", b"op f", "magic", "the file holds text"),
+            ("image", image[:14 + 42] + image[14 + 18:14 + 20] + image[14 + 44:], "overlap", "each object has rows of its own"),
+            ("program", program[:4] + bytes([7]) + program[5:], "version", "may be 1 to 2"),
+            ("program", program[:35] + bytes([15]) + program[36:], "instruction", "kinds of instructions are 0 to 10"),
+            ("program", program[:8] + bytes([17]) + program[9:], "directory", "may be 1 to 16"),
+            ("program", program[:-8] + program[-16:-8], "no_done", "an entry ends with DONE"),
+            ("program", program + b"00", "rest", "2 bytes follow"), ("program", b"", "short", "the file is empty"),
+            ("trace", trace[:event] + bytes([9]) + trace[event + 1:], "event", "an event is 0 AAP, 1 AP or 2 WRITE"),
+            ("trace", trace[:event + 1] + bytes([5]) + trace[event + 2:], "event", "on bank 5: kinds are 0 to 2, and banks 0 to 0"),
+            ("trace", trace[:4] + bytes([2]) + trace[5:], "version", "has to be 1"), ("trace", trace[:-1], "short", "it was cut off"),
+            ("trace", trace + b"0", "rest", "nothing may follow"),
+        ):
+            answer = first_fault(kind, "file", data)
+            self.assertEqual(answer.kind, word, (kind, said))
+            self.assertIn(said, " ".join(" ".join(answer.lines()).split()))
+
+    def test_a_byte_that_is_not_ascii(self):
+        for kind in ("ops", "script", "query"):
+            answer = first_fault(kind, "file", "# é\n é".encode())
+            self.assertEqual((answer.kind, answer.place, answer.caret), ("lex", "line 2 column 2", (1, 1)))
+            self.assertIn("begins with the byte 0xc3", answer.rule)
 
     def test_triples(self):
         table = Table(1, 64, 1, [Object("xa", 1, 0, 4), Object("ya", 1, 1, 4), Object("zb", 1, 2, 4)])

@@ -118,6 +118,13 @@ class Tool(unittest.TestCase):
             self.assertEqual((status, line[:len(said) + 15]), (2, f"simdram image: {said}"))
         self.assertEqual(Image.load("m").file(), before)
         self.assertEqual((self.did("put", "m", "a", "text"), self.did("get", "m", "a", "text")), ((0, ""), (0, "")))
+        for name, other in (("m.ops", "op f(a: word) -> y: word { y = not(a); }\n"), ("hex", "53 44 # a note\n"), ("a.flips", "1 0 0 0\n")):
+            self.write(name, other)
+            self.assertEqual(self.did("get", "m", "a", name)[0], 2, name)
+            with open(name, encoding="utf-8") as file:
+                self.assertEqual(file.read(), other)
+        for name in ("a.csv", "a.npy", "a.txt"):
+            self.assertEqual([self.did("get", "m", "a", name) for _ in range(2)], [(0, ""), (0, "")], name)
         with contextlib.redirect_stderr(io.StringIO()):
             self.assertEqual(image_tool.main(["make", "text", "1x96x1"], Settings(force=True)), 0)
         self.assertEqual(Image.load("text").objects, [])

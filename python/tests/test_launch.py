@@ -82,24 +82,70 @@ class AsTheProgram(Folder):
 
 @needs_program
 class NothingDestroyed(Folder):
-    """Two words that changed places destroy no file of another kind."""
+    """Two words that changed places destroy nothing."""
+
+    WHOLE = {"run": ["mac.ops", "mac.prog", "mac.bbop", "mac.img", "out.img"], "compile": ["mac.ops", "mac.prog"],
+             "exec": ["mac.prog", "mac.bbop", "mac.img", "out.img"],
+             "trace": ["mac.prog", "mac.bbop", "mac.img", "out.img", "mac.trace"],
+             "replay": ["mac.trace", "mac.img", "out.img"], "migrate": ["old.prog", "new.prog"]}
+    # words of one kind, which nothing tells apart: what is written over is kept
+    ALIKE = (["out.img", "mac.img"], ["new.prog", "old.prog"])
+
+    def done(self):
+        """Does each command once, so that all of its files stand."""
+        self.call("compile", "mac.ops", "mac.prog")
+        program = text(self.folder / "mac.prog")
+        (self.folder / "old.prog").write_bytes(program[:4] + bytes([1]) + program[5:])
+        for command, words in self.WHOLE.items():
+            ended = self.call(command, *words)
+            self.assertEqual((ended.returncode, ended.stderr), (0, ""), command)
+        self.assertFalse([name for name in self.files() if "~" in name], "a command that did the same again kept something")
+        return self.files()
+
+    def swapped(self):
+        """Each command with two neighbouring words that changed places."""
+        for command, words in self.WHOLE.items():
+            for at in range(len(words) - 1):
+                pair = [words[at + 1], words[at]]
+                yield command, words[:at] + pair + words[at + 2:], pair in self.ALIKE
 
     def test_swaps(self):
-        whole = {"run": ["mac.ops", "mac.prog", "mac.bbop", "mac.img", "out.img"],
-                 "exec": ["mac.prog", "mac.bbop", "mac.img", "out.img"],
-                 "trace": ["mac.prog", "mac.bbop", "mac.img", "out.img", "mac.trace"]}
-        for command in ("run", "exec", "trace"):
-            self.assertEqual(self.call(command, *whole[command]).returncode, 0)
-        whole.update(compile=["mac.ops", "mac.prog"], migrate=["mac.prog", "new.prog"])
-        before = self.files()
-        for command, words in whole.items():
-            for at in range(len(words) - 1):
-                swapped = words[:at] + [words[at + 1], words[at]] + words[at + 2:]
-                if swapped[at:at + 2] == ["out.img", "mac.img"]:
-                    continue
-                ended = self.call(command, *swapped)
-                self.assertNotEqual(ended.returncode, 0, (command, swapped))
-                self.assertEqual(self.files(), before, (command, swapped))
+        before = self.done()
+        for command, words, is_alike in self.swapped():
+            if not is_alike:
+                self.assertNotEqual(self.call(command, *words).returncode, 0, (command, words))
+                self.assertEqual(self.files(), before, (command, words))
+
+    def test_swaps_of_one_kind(self):
+        before = self.done()
+        alike = [(command, words) for command, words, is_alike in self.swapped() if is_alike]
+        self.assertEqual([command for command, _ in alike], ["run", "exec", "trace", "replay", "migrate"])
+        for command, words in alike:
+            over = "old.prog" if command == "migrate" else "mac.img"
+            ended = self.call(command, *words, SIMDRAM_QUIET="")
+            self.assertEqual(text(self.folder / f"{over}~"), before[over], command)
+            kind = "program file" if command == "migrate" else "image"
+            self.assertIn(f"{over} held another {kind}, which is now {over}~", ended.stderr)
+            for name in self.files():
+                (self.folder / name).write_bytes(before[name]) if name in before else (self.folder / name).unlink()
+
+    def test_what_is_kept(self):
+        run = ["run", *self.WHOLE["run"]]
+        self.assertEqual(self.call(*run).returncode, 0)
+        first = text(self.folder / "out.img")
+        (self.folder / "out.img~").write_text("mine")
+        (self.folder / "numbers").write_text("1,2,3,4")
+        self.assertEqual(self.call("image", "put", "mac.img", "b", "numbers").returncode, 0)
+        for words in (run, run):
+            self.assertEqual(self.call(*words).returncode, 0)
+        kept = {name: data for name, data in self.files().items() if "~" in name}
+        self.assertEqual(kept, {"out.img~": b"mine", "out.img~2": first})
+        (self.folder / "out.img~2").unlink()
+        os.symlink("mac.img", self.folder / "link.img")
+        (self.folder / "out.img").write_bytes(first)
+        self.assertEqual(self.call(*run, "--force").returncode, 0)
+        self.assertEqual(self.call(*run[:-1], "link.img").returncode, 0)
+        self.assertEqual([name for name in self.files() if "~" in name], ["out.img~"])
 
     def test_what_is_said(self):
         ended = self.call("run", "mac.bbop", "mac.ops", "mac.prog", "mac.img", "out.img")
@@ -186,6 +232,11 @@ class Building(unittest.TestCase):
         self.assertEqual(ended.returncode, 125)
         self.assertEqual(len(ended.stderr.splitlines()), 1)
         self.assertIn("README", ended.stderr)
+
+    def test_a_home_that_is_none(self):
+        ended = self.call("show", "a.ops", SIMDRAM_HOME=str(self.top / "bin"))
+        self.assertEqual(ended.returncode, 125)
+        self.assertIn("bin, which is no repository of SIMDRAM", ended.stderr)
 
     def test_wrong_words_build_nothing(self):
         self.assertEqual(self.call("show").returncode, 1)

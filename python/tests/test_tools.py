@@ -176,7 +176,32 @@ class Texts(Folder):
         (self.folder / "n").write_text("53\n5\n")
         ended = self.call("from-hex", "n", "f")
         self.assertEqual(ended.returncode, 2)
-        self.assertIn("n line 2", ended.stderr)
+        self.assertIn("n line 2: '5' are no bytes", ended.stderr)
+
+    def test_files_of_another_kind_stay(self):
+        self.compiled("op f(a: word) -> y: word { y = not(a); }")
+        text = (self.folder / "p.ops").read_text()
+        (self.folder / "n").write_text("53 44")
+        for words in (["from-hex", "n"], ["plot", "p", "--to", "2"], ["steps", "p", "f", "--html"]):
+            ended = self.call(*words, "p.ops")
+            self.assertEqual((ended.returncode, len(ended.stderr.splitlines())), (2, 1), ended.stderr)
+            self.assertIn("p.ops: ", ended.stderr)
+            self.assertIn("it holds text; nothing was done", ended.stderr)
+            self.assertEqual((self.folder / "p.ops").read_text(), text, words)
+            self.assertEqual([self.call(*words, "made").returncode for _ in range(2)], [0, 0], words)
+            self.assertEqual(self.call(*words, "made", "--force").returncode, 0)
+            (self.folder / "made").unlink()
+
+    def test_no_program_and_no_report(self):
+        self.compiled("op f(a: word) -> y: word { y = not(a); }")
+        for words, said in ((["plot", "p.ops", "x.svg"], "p.ops: byte 0 magic: no program file"),
+                            (["cost-table", "none"], "none: cannot read"), (["report", "p"], "p: no report: it holds a program file"),
+                            (["report", "p.ops"], "line 1 is no line of a report: 'op f"), (["from-hex", "p", "x"], "p line 1: 'SDMP"),
+                            (["explain", "p.ops", "p"], "p is a program file, which says nothing of p.ops, an operation text")):
+            ended = self.call(*words)
+            self.assertEqual((ended.returncode, len(ended.stderr.splitlines())), (2, 1), ended.stderr)
+            self.assertIn(said, ended.stderr)
+        self.assertIn("a width is 1 to 128, and not 900", self.call("plot", "p", "x.svg", "--to", "900").stderr)
 
     def test_trace_text(self):
         note = TOP / "examples" / "replay" / "and.trace.hex"

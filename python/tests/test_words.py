@@ -48,6 +48,8 @@ class WrongWords(unittest.TestCase):
             (["replay", "i", "i", "o"], "TRACE and IMAGE are one file"),
             (["shwo", "a"], "no command shwo; the nearest: show"),
             ([], "there is no command"),
+            ([""], "there is no command ''"),
+            (["show", "no\udcff"], "'no\\udcff' is no word: words are UTF-8"),
         ):
             self.assertIn(said, wrong_words(words) or "", words)
 
@@ -83,7 +85,7 @@ class Help(unittest.TestCase):
     """Help needs no program: a folder without one is named as the repository."""
 
     def test_at_once(self):
-        for words in ([], ["help"], ["--help"], ["-h"], ["--version"], ["help", "run"], ["run", "--help"], ["help", "steps"]):
+        for words in ([], ["help"], ["help", "help"], ["--help"], ["-h"], ["--version"], ["help", "run"], ["run", "--help"], ["help", "steps"]):
             ended = called(*words, environment={"SIMDRAM_PROGRAM": "/nowhere"})
             self.assertEqual((ended.returncode, ended.stderr), (0, ""), words)
             self.assertTrue(ended.stdout)

@@ -24,6 +24,8 @@ def width_of(numbers: numpy.ndarray) -> int:
 
 def as_array(data: typing.Any) -> numpy.ndarray:
     """Whole numbers or truth values as an array."""
+    if isinstance(data, numpy.ma.MaskedArray):
+        raise TypeError("a masked array has elements without a number: filled(0) gives them one")
     numbers = numpy.asarray(data)
     if numbers.dtype.kind in "bui":
         return numbers
@@ -51,8 +53,9 @@ def check_range(numbers: numpy.ndarray, bits: int) -> None:
     outside = numpy.array([not 0 <= int(number) < 1 << bits for number in numbers.ravel()])
     place = int(outside.argmax())
     index = ", ".join(map(str, numpy.unravel_index(place, numbers.shape)))
-    raise Refused("range", f"the number at [{index}] is {int(numbers.ravel()[place])}, and {bits} bits hold 0 to "
-                  f"{2**bits - 1}", place + 1)
+    said = f"the number at [{index}]" if index else "the number"
+    hold = f"{bits} bits hold" if bits > 1 else "1 bit holds"
+    raise Refused("range", f"{said} is {int(numbers.ravel()[place])}, and {hold} 0 to {2**bits - 1}", place + 1)
 
 
 def cells_of(numbers: numpy.ndarray, bits: int) -> bytes:

@@ -14,7 +14,7 @@ from .array import Array, constant
 from .cutting import STATEMENTS, cut
 from .expressions import Constant, Held, Value, merged
 from .refusals import Refused
-from .running import Cost, Made, run
+from .running import HELP, Cost, Made, run
 from .scripting import Names, Scripts
 
 
@@ -60,7 +60,8 @@ class Chip:
         try:
             self.image.add(name, width, count)
         except NoRoom as full:
-            raise Refused(full.word, str(full).partition(": ")[2]) from None
+            what = str(full).partition(": ")[2].replace(name, "the array", 1)
+            raise Refused(full.word, what + (HELP.get(full.word, "") if count else "")) from None
         return name
 
     def _held(self, name: str) -> Held:
@@ -141,6 +142,9 @@ class Chip:
 
 def compute(*arrays: Array) -> None:
     """Computes arrays of one chip and one shape together: two results become one op, where they fit."""
+    for array in arrays:
+        if not isinstance(array, Array):
+            raise TypeError(f"compute takes arrays of a chip, and not {type(array).__name__}")
     if any(array.chip is not arrays[0].chip for array in arrays):
         raise ValueError("the arrays are of different chips")
     if arrays:

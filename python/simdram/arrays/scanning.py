@@ -9,10 +9,11 @@ import re
 import tempfile
 import typing
 
-from .. import run_program
+from .. import answers, run_program
 from ..files.fields import NAME
 from ..files.image import Image
 from ..files.store import store
+from ..table import Table
 from .array import Array
 from .chip import Chip
 from .refusals import Refused, Stopped, last_line
@@ -20,6 +21,8 @@ from .running import Cost
 
 COUNTED = re.compile(r"count (\d+) of (\d+) aap=(\d+) ap=(\d+)")
 REFUSED = re.compile(r"query refused (\w+) (\d+)")
+# refusals that go by the arrays given, and not by the room beside them
+OF_NAMES = ("no_object", "count", "range")
 
 
 class Count(typing.NamedTuple):
@@ -30,11 +33,13 @@ class Count(typing.NamedTuple):
     cost: Cost
 
 
-def scan(chip: Chip, query: str, **arrays: typing.Any) -> Count:
+def scan(chip: Chip, query: str, /, **arrays: typing.Any) -> Count:
     """Counts the elements that meet a query, such as `and(ge(a, 10), not(eq(a, 200)))`, whose names are the arrays'.
 
     An array is one of the chip, or one of NumPy that is placed for the query alone.
     """
+    if not isinstance(query, str):
+        raise TypeError(f"a query is a text, and not {type(query).__name__}")
     placed: typing.Dict[str, Array] = {}
     for name, one in arrays.items():
         array = one if isinstance(one, Array) else chip.array(one)
@@ -51,8 +56,15 @@ def scan(chip: Chip, query: str, **arrays: typing.Any) -> Count:
         return Count(count, elements, Cost(aap, ap))
     refused = REFUSED.fullmatch(last_line(ended.out))
     if refused:
-        raise Refused(refused[1], query, int(refused[2]))
+        raise Refused(refused[1], refusal(query, image, placed if refused[1] in OF_NAMES else None), int(refused[2]))
     raise Stopped("scan", ended, "query", query)
+
+
+def refusal(query: str, image: Image, names: typing.Optional[typing.Container[str]]) -> str:
+    """Why a query is refused, by the objects of these names, or by all."""
+    objects = [one for one in image.objects if names is None or one.name in names]
+    found = answers.query_refusals("query", query.encode(), Table(image.banks, image.rows, image.words, objects))
+    return "\n".join([query, *(line for one in found for line in one.lines())])
 
 
 def object_of(chip: Chip, name: str, array: Array) -> str:

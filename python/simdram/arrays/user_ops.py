@@ -42,6 +42,8 @@ def op(text: str) -> Op:
 
 def canonical(text: str) -> str:
     """The canonical form of an operation text."""
+    if not isinstance(text, str):
+        raise TypeError(f"an op is a text, and not {type(text).__name__}")
     with tempfile.TemporaryDirectory(prefix="simdram_") as folder:
         store(f"{folder}/ops", text.encode())
         ended = run_program.run(["show", "ops"], folder)

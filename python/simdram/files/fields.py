@@ -33,7 +33,8 @@ class Fields:
         """The next field, a number from `least` to `most`."""
         number = self.number(size)
         if not least <= number <= most:
-            raise self.fault(word, f"{what} is {number}, and may be {least} to {most}")
+            range_ = f"may be {least} to {most}" if least < most else f"has to be {least}"
+            raise self.fault(word, f"{what} is {number}, and {range_}")
         return number
 
     def magic(self, letters: bytes, kind: str) -> None:
@@ -55,7 +56,8 @@ class Fields:
     def end(self) -> None:
         """Nothing may follow."""
         if self.at < len(self.data):
-            raise self.fault("rest", f"{len(self.data) - self.at} bytes follow the last field", self.at)
+            spare = len(self.data) - self.at
+            raise self.fault("rest", f"{spare} byte{'s follow' if spare > 1 else ' follows'} the last field", self.at)
 
     def fault(self, word: str, what: str, at: typing.Optional[int] = None) -> FileFault:
         """A fault at the last field that was taken, or at a place."""

@@ -99,7 +99,7 @@ class Trace:
     def _event(self, fields: Fields, raw: bytes) -> Event:
         """The event whose first eight bytes were taken."""
         if raw[0] >= len(KINDS) or raw[1] >= self.banks:
-            said = f"kind {raw[0]} on bank {raw[1]}: kinds are 0 to 2, and there are {self.banks} banks"
+            said = f"kind {raw[0]} on bank {raw[1]}: kinds are 0 to 2, and banks 0 to {self.banks - 1}"
             raise fields.fault("event", said)
         kind, bank = KINDS[raw[0]], raw[1]
         if kind != AAP and any(raw[5:]):
