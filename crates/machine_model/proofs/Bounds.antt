@@ -13,6 +13,7 @@ use Rattle.std.proofs.lemmas.List.Elements.{recursion_from_All}
 use Rattle.dram_model.specs.declared.geometry.Geometry.{Geometry}
 use Rattle.dram_model.specs.Geometry.{is_geometry}
 use Rattle.dram_model.specs.Elements.{column_count}
+pub use Rattle.dram_model.proofs.Shapes.{geometry_parts}
 use Rattle.bit_rows.specs.declared.TheConstants.{WIDTH_MAX}
 use Rattle.uprog_code.specs.declared.TheConstants.{WALK_MAX}
 use Rattle.uprog_code.specs.declared.walker.Counts.{Counts}
@@ -307,11 +308,6 @@ script_few g p table (instr ∷ script) some few t plain =
       loaded = omega (arith, rows, rest.loaded, rows_loaded_few g p table some few t instr);
       printed = omega (arith, rows, rest.printed, rows_printed_few g p table some few t instr);
     }
-
--- what is said of a geometry
-pub geometry_parts : (g : Geometry) → is_geometry g ≡ true → (0 < g.words) × (0 < g.banks)
-    × (g.banks ≤ 16)
-geometry_parts g h = (grind (arith, nat_tests), grind (arith, nat_tests), grind (arith, nat_tests))
 
 pub work_is_bounded : WorkIsBounded
 work_is_bounded g p table script h t plain =

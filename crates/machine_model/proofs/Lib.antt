@@ -13,6 +13,7 @@ pub mod Whole
 pub mod Opened
 pub mod Kept
 pub mod KeptAll
+pub mod Others
 pub mod Events
 pub mod Alike
 pub mod InOrder

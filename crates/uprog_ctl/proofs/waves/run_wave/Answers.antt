@@ -9,6 +9,7 @@ use Rattle.dram_model.specs.Chip.{Banks}
 use Rattle.dram_model.specs.Chip.Event.{Row}
 use Rattle.dram_model.specs.View.{Did, FailedIn}
 use Rattle.dram_model.proofs.EventLaws.{Kept-same, Kept-more}
+use Rattle.dram_model.proofs.Shapes.{geometry_parts}
 use Rattle.wave_model.specs.Schedule.{total_left, whole_picks}
 use Rattle.wave_model.proofs.Waves.{picks_whole, wave_banks}
 use Rattle.uprog_ctl.specs.declared.cursor.Cursor.{Cursor}
@@ -81,7 +82,9 @@ do_command-requires-clause-aap_room g c =
       c.requires.few_jobs,
       length-map c.args.jobs.now (bound_job g.F.Fetch.shape g.F.Fetch.code),
     ) in
-    let short = wave_short first.geometry.banks first.geometry.rows jobs c.requires.few_banks few in
+    let banks = (geometry_parts first.geometry (g.met.D.Dram.shape c.args.dram.now c.requires.begun)).1
+    in
+    let short = wave_short first.geometry.banks first.geometry.rows jobs banks.1 few in
     omega (arith, c.loop-g.invariant.so.aap, c.requires.aap_room, short)
 
 pub do_command-requires-clause-ap_room : goal.do_command-requires-clause-ap_room
@@ -93,7 +96,9 @@ do_command-requires-clause-ap_room g c =
       c.requires.few_jobs,
       length-map c.args.jobs.now (bound_job g.F.Fetch.shape g.F.Fetch.code),
     ) in
-    let short = wave_short first.geometry.banks first.geometry.rows jobs c.requires.few_banks few in
+    let banks = (geometry_parts first.geometry (g.met.D.Dram.shape c.args.dram.now c.requires.begun)).1
+    in
+    let short = wave_short first.geometry.banks first.geometry.rows jobs banks.1 few in
     omega (arith, c.loop-g.invariant.so.ap, c.requires.ap_room, short)
 
 pub returns-in_err-do_command-clause-stopped : goal.returns-in_err-do_command-clause-stopped
