@@ -1,4 +1,5 @@
 pub mod Facts
+pub mod First
 pub mod Places
 pub mod Below
 pub mod Bbops

@@ -82,9 +82,9 @@ do_command-requires-clause-aap_room g c =
       c.requires.few_jobs,
       length-map c.args.jobs.now (bound_job g.F.Fetch.shape g.F.Fetch.code),
     ) in
-    let banks = (geometry_parts first.geometry (g.met.D.Dram.shape c.args.dram.now c.requires.begun)).1
-    in
-    let short = wave_short first.geometry.banks first.geometry.rows jobs banks.1 few in
+    let shape = g.met.D.Dram.shape c.args.dram.now c.requires.begun in
+    let short = wave_short first.geometry.banks first.geometry.rows jobs
+    (geometry_parts first.geometry shape).2 few in
     omega (arith, c.loop-g.invariant.so.aap, c.requires.aap_room, short)
 
 pub do_command-requires-clause-ap_room : goal.do_command-requires-clause-ap_room
@@ -96,9 +96,9 @@ do_command-requires-clause-ap_room g c =
       c.requires.few_jobs,
       length-map c.args.jobs.now (bound_job g.F.Fetch.shape g.F.Fetch.code),
     ) in
-    let banks = (geometry_parts first.geometry (g.met.D.Dram.shape c.args.dram.now c.requires.begun)).1
-    in
-    let short = wave_short first.geometry.banks first.geometry.rows jobs banks.1 few in
+    let shape = g.met.D.Dram.shape c.args.dram.now c.requires.begun in
+    let short = wave_short first.geometry.banks first.geometry.rows jobs
+    (geometry_parts first.geometry shape).2 few in
     omega (arith, c.loop-g.invariant.so.ap, c.requires.ap_room, short)
 
 pub returns-in_err-do_command-clause-stopped : goal.returns-in_err-do_command-clause-stopped
