@@ -1,5 +1,4 @@
 use Rattle.std.proofs.Common.{◌+◌, ◌*◌, arith, vec_len, ap, ◌∙◌}
-use Rattle.std.proofs.lemmas.Grind.{common_steps}
 use Rattle.dram_model.specs.Chip.{row_in}
 use Rattle.dram_model.proofs.EventLaws.{Kept-more, DidRead-more}
 use Rattle.object_alloc.specs.Bytes.{bytes_of_bits}
@@ -15,14 +14,14 @@ loop-row-preserved g c =
     let here = rw (kept.kept.geometry, c.requires.geometry, kept.did.banks)
     at c.in_ok-read_row.ensures.file in
     record {
-      borrow = grind (arith, common_steps);
+      borrow = c.in_ok-read_row.ensures.borrow ∙ kept.borrow;
       kept = Kept-more first now new kept.kept c.in_ok-read_row.ensures.kept;
-      stage = grind (arith, common_steps);
+      stage = c.in_ok-read_row.ensures.stage ∙ kept.stage;
       did = DidRead-more c.loop-row.row 1 first now new kept.did c.in_ok-read_row.ensures.did;
       file = next_bytes (λ row. bytes_of_bits (8 * c.args.g.words)
           (row_in row (first.banks c.args.bank))) c.loop-row.row _ _ _ kept.file here;
       len = (rw (kept.kept.geometry, c.requires.geometry) at c.in_ok-read_row.ensures.len)
           ∙ ap (λ x. x + 8 * c.args.g.words) kept.len
           ∙ more_reads c.loop-row.row (8 * c.args.g.words) (vec_len c.args.file.now);
-      capacity = grind (arith, common_steps);
+      capacity = omega (arith, kept.capacity, c.in_ok-read_row.ensures.capacity);
     }

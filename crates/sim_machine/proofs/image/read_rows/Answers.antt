@@ -1,5 +1,4 @@
 use Rattle.std.proofs.Common.{◌+◌, ◌*◌, arith, vec_len, ap, ◌∙◌, subst}
-use Rattle.std.proofs.lemmas.Grind.{common_steps}
 use Rattle.dram_model.specs.View.{DidRead}
 use Rattle.dram_model.proofs.EventLaws.{Kept-more, DidRead-more}
 use Rattle.sim_machine.specs.Image.{bank_bytes}
@@ -14,9 +13,9 @@ loop-bank-preserved g c =
     let kept = c.loop-bank.invariant in
     let here = rw kept.did.banks at c.in_ok-read_bank.ensures.file in
     record {
-      borrow = grind (arith, common_steps);
+      borrow = c.in_ok-read_bank.ensures.borrow ∙ kept.borrow;
       kept = Kept-more first now new kept.kept c.in_ok-read_bank.ensures.kept;
-      stage = grind (arith, common_steps);
+      stage = c.in_ok-read_bank.ensures.stage ∙ kept.stage;
       did = subst (λ n. DidRead n first new)
           (one_times_more c.loop-bank.bank c.args.g.rows)
           (DidRead-more (c.loop-bank.bank * c.args.g.rows) c.args.g.rows first now new kept.did
@@ -26,5 +25,5 @@ loop-bank-preserved g c =
       len = c.in_ok-read_bank.ensures.len ∙ ap (λ x. x + c.args.g.rows * (8 * c.args.g.words))
           kept.len ∙ more_reads c.loop-bank.bank (c.args.g.rows * (8 * c.args.g.words))
           (vec_len c.args.file.now);
-      capacity = grind (arith, common_steps);
+      capacity = omega (arith, kept.capacity, c.in_ok-read_bank.ensures.capacity);
     }
