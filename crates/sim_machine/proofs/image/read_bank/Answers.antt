@@ -1,9 +1,41 @@
-use Rattle.std.proofs.Common.{◌+◌, ◌*◌, arith, vec_len, ap, ◌∙◌}
+use Rattle.std.proofs.Common.{[], ◌+◌, ◌*◌, arith, vec_len, ap, ◌∙◌}
 use Rattle.dram_model.specs.Chip.{row_in}
-use Rattle.dram_model.proofs.EventLaws.{Kept-more, DidRead-more}
+use Rattle.dram_model.proofs.EventLaws.{Grew-more, Kept-more, DidRead-more}
 use Rattle.object_alloc.specs.Bytes.{bytes_of_bits}
 use Rattle.sim_machine.proofs.Rows.{next_bytes, more_reads}
 use Rattle.sim_machine.proofs.image.read_bank.Goals as goal
+
+pub read_row-requires-clause-begun : goal.read_row-requires-clause-begun
+read_row-requires-clause-begun g c = c.loop-row.invariant.kept.begun ∙ c.requires.begun
+
+pub returns-in_err-read_row-clause-borrow : goal.returns-in_err-read_row-clause-borrow
+returns-in_err-read_row-clause-borrow g c = c.in_err-read_row.ensures.borrow ∙ c.loop-row.invariant.borrow
+
+pub returns-in_err-read_row-clause-kept : goal.returns-in_err-read_row-clause-kept
+returns-in_err-read_row-clause-kept g c =
+    Kept-more _ _ _ c.loop-row.invariant.kept c.in_err-read_row.ensures.kept
+
+pub returns-in_err-read_row-clause-stage : goal.returns-in_err-read_row-clause-stage
+returns-in_err-read_row-clause-stage g c = c.in_err-read_row.ensures.stage ∙ c.loop-row.invariant.stage
+
+pub returns-in_err-read_row-clause-no_event : goal.returns-in_err-read_row-clause-no_event
+returns-in_err-read_row-clause-no_event g c =
+    Grew-more _ _ _ [] [] c.loop-row.invariant.did.log c.in_err-read_row.ensures.no_event
+
+pub returns-clause-borrow : goal.returns-clause-borrow
+returns-clause-borrow g c = c.loop-row.invariant.borrow
+
+pub returns-clause-kept : goal.returns-clause-kept
+returns-clause-kept g c = c.loop-row.invariant.kept
+
+pub returns-clause-stage : goal.returns-clause-stage
+returns-clause-stage g c = c.loop-row.invariant.stage
+
+pub returns-clause-capacity : goal.returns-clause-capacity
+returns-clause-capacity g c = c.loop-row.invariant.capacity
+
+pub returns-clause-no_event : goal.returns-clause-no_event
+returns-clause-no_event g c = c.loop-row.invariant.did.log
 
 pub loop-row-preserved : goal.loop-row-preserved
 loop-row-preserved g c =

@@ -1,9 +1,50 @@
-use Rattle.std.proofs.Common.{◌+◌, ◌*◌, arith, vec_len, ap, ◌∙◌, subst}
+use Rattle.std.proofs.Common.{[], ◌+◌, ◌*◌, arith, vec_len, ap, ◌∙◌, subst}
 use Rattle.dram_model.specs.View.{DidRead}
-use Rattle.dram_model.proofs.EventLaws.{Kept-more, DidRead-more}
+use Rattle.dram_model.proofs.EventLaws.{Grew-more, Kept-more, DidRead-more}
 use Rattle.sim_machine.specs.Image.{bank_bytes}
 use Rattle.sim_machine.proofs.Rows.{next_bytes, more_reads, one_times_more}
 use Rattle.sim_machine.proofs.image.read_rows.Goals as goal
+
+pub read_bank-requires-clause-begun : goal.read_bank-requires-clause-begun
+read_bank-requires-clause-begun g c = c.loop-bank.invariant.kept.begun ∙ c.requires.begun
+
+pub read_bank-requires-clause-geometry : goal.read_bank-requires-clause-geometry
+read_bank-requires-clause-geometry g c = c.loop-bank.invariant.kept.geometry ∙ c.requires.geometry
+
+pub read_bank-requires-clause-words : goal.read_bank-requires-clause-words
+read_bank-requires-clause-words g c = c.loop-bank.invariant.stage ∙ c.requires.words
+
+pub read_bank-requires-clause-small : goal.read_bank-requires-clause-small
+read_bank-requires-clause-small g c = c.requires.small
+
+pub returns-in_err-read_bank-clause-borrow : goal.returns-in_err-read_bank-clause-borrow
+returns-in_err-read_bank-clause-borrow g c = c.in_err-read_bank.ensures.borrow ∙ c.loop-bank.invariant.borrow
+
+pub returns-in_err-read_bank-clause-kept : goal.returns-in_err-read_bank-clause-kept
+returns-in_err-read_bank-clause-kept g c =
+    Kept-more _ _ _ c.loop-bank.invariant.kept c.in_err-read_bank.ensures.kept
+
+pub returns-in_err-read_bank-clause-stage : goal.returns-in_err-read_bank-clause-stage
+returns-in_err-read_bank-clause-stage g c = c.in_err-read_bank.ensures.stage ∙ c.loop-bank.invariant.stage
+
+pub returns-in_err-read_bank-clause-no_event : goal.returns-in_err-read_bank-clause-no_event
+returns-in_err-read_bank-clause-no_event g c =
+    Grew-more _ _ _ [] [] c.loop-bank.invariant.did.log c.in_err-read_bank.ensures.no_event
+
+pub returns-clause-borrow : goal.returns-clause-borrow
+returns-clause-borrow g c = c.loop-bank.invariant.borrow
+
+pub returns-clause-kept : goal.returns-clause-kept
+returns-clause-kept g c = c.loop-bank.invariant.kept
+
+pub returns-clause-stage : goal.returns-clause-stage
+returns-clause-stage g c = c.loop-bank.invariant.stage
+
+pub returns-clause-capacity : goal.returns-clause-capacity
+returns-clause-capacity g c = c.loop-bank.invariant.capacity
+
+pub returns-clause-no_event : goal.returns-clause-no_event
+returns-clause-no_event g c = c.loop-bank.invariant.did.log
 
 pub loop-bank-preserved : goal.loop-bank-preserved
 loop-bank-preserved g c =

@@ -1,10 +1,11 @@
-use Rattle.std.proofs.Common.{ap, refl, subst, sym, ◌∙◌}
+use Rattle.std.proofs.Common.{ap, arith, length, refl, subst, sym, ◌∙◌}
 use Rattle.std.specs.Prelude.{Err, ◌≡◌, ◌++◌}
 use Rattle.host_edge.specs.Views.{Known, AppendsPart}
 use Rattle.object_steps.specs.Lines.{DidReadAtMost}
 use Rattle.object_steps.specs.declared.fault.StepFault.TheVariants.{WriteFault}
 use Rattle.sim_machine.specs.Machine.{operations_by}
 use Rattle.sim_machine.proofs.Printing.{all_rows_of, whole_line_shown}
+use Rattle.sim_machine.proofs.Rows.{stage_kept}
 use Rattle.sim_machine.proofs.machine.Machine.print_as.Goals as goal
 
 pub returns-in-Ok-clause-borrow : goal.returns-in-Ok-clause-borrow
@@ -34,7 +35,8 @@ returns-in-Ok-clause-turn g c = refl
 pub returns-in-Ok-clause-ready : goal.returns-in-Ok-clause-ready
 returns-in-Ok-clause-ready g c = record {
   set = c.requires.ready.set;
-  stage = c.print.ensures.stage ∙ c.requires.ready.stage;
+  stage = stage_kept _ _ _ _ (c.print.ensures.stage ∙ ap length c.deref_mut.ensures.value)
+      (omega (arith, c.args.self.now.stage.ok.0)) c.requires.ready.stage;
   room = c.requires.ready.room;
 }
 
@@ -65,7 +67,8 @@ returns-in-Err-clause-turn g c = refl
 pub returns-in-Err-clause-ready : goal.returns-in-Err-clause-ready
 returns-in-Err-clause-ready g c = record {
   set = c.requires.ready.set;
-  stage = c.print.ensures.stage ∙ c.requires.ready.stage;
+  stage = stage_kept _ _ _ _ (c.print.ensures.stage ∙ ap length c.deref_mut.ensures.value)
+      (omega (arith, c.args.self.now.stage.ok.0)) c.requires.ready.stage;
   room = c.requires.ready.room;
 }
 

@@ -1,7 +1,8 @@
-use Rattle.std.proofs.Common.{arith, refl, ap, ◌∙◌}
+use Rattle.std.proofs.Common.{arith, length, refl, ap, ◌∙◌}
 use Rattle.std.specs.Prelude.{Err}
 use Rattle.sim_machine.specs.Machine.{operations_by}
 use Rattle.sim_machine.proofs.Printing.{print_done, print_failed, print_refused, print_unsent}
+use Rattle.sim_machine.proofs.Rows.{stage_kept}
 use Rattle.sim_machine.proofs.machine.Machine.print_step.Goals as goal
 
 pub returns-in-Err-clause-went : goal.returns-in-Err-clause-went
@@ -14,7 +15,8 @@ returns-in-Err-clause-went g c =
       shape = refl;
       ready = record {
         set = c.requires.ready.set;
-        stage = c.print.ensures.stage ∙ c.requires.ready.stage;
+        stage = stage_kept _ _ _ _ (c.print.ensures.stage ∙ ap length c.deref_mut.ensures.value)
+            (omega (arith, c.args.self.now.stage.ok.0)) c.requires.ready.stage;
         room = c.requires.ready.room;
       };
       comes = print_failed _ _ _ _ _ _ _ _ c.in-Err.fault refl (c.in-Err.ensures.allowed operations)
@@ -33,7 +35,8 @@ returns-in-Done-clause-went g c =
       shape = refl;
       ready = record {
         set = c.requires.ready.set;
-        stage = c.print.ensures.stage ∙ c.requires.ready.stage;
+        stage = stage_kept _ _ _ _ (c.print.ensures.stage ∙ ap length c.deref_mut.ensures.value)
+            (omega (arith, c.args.self.now.stage.ok.0)) c.requires.ready.stage;
         room = c.requires.ready.room;
       };
       comes = print_done _ _ _ _ _ _ _ _ c.in-Ok.reply c.in-Done.field-0 refl refl
@@ -51,7 +54,8 @@ returns-in-Ok-put_reply-clause-went g c =
       shape = refl;
       ready = record {
         set = c.requires.ready.set;
-        stage = c.print.ensures.stage ∙ c.requires.ready.stage;
+        stage = stage_kept _ _ _ _ (c.print.ensures.stage ∙ ap length c.deref_mut.ensures.value)
+            (omega (arith, c.args.self.now.stage.ok.0)) c.requires.ready.stage;
         room = c.requires.ready.room;
       };
       comes = print_refused _ _ _ _ _ _ _ _ c.in-Ok.reply c.in-Refused.field-0
@@ -70,7 +74,8 @@ returns-in-Err-put_reply-clause-went g c =
       shape = refl;
       ready = record {
         set = c.requires.ready.set;
-        stage = c.print.ensures.stage ∙ c.requires.ready.stage;
+        stage = stage_kept _ _ _ _ (c.print.ensures.stage ∙ ap length c.deref_mut.ensures.value)
+            (omega (arith, c.args.self.now.stage.ok.0)) c.requires.ready.stage;
         room = c.requires.ready.room;
       };
       comes = print_unsent _ _ _ _ _ _ _ _ c.in-Ok.reply c.in-Refused.field-0
