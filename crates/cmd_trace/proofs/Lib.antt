@@ -2,3 +2,4 @@ pub mod Tapes
 pub mod Checking
 pub mod Places
 pub mod Replaying
+pub mod Reread

@@ -154,7 +154,7 @@ row_long g (Writes bank row) at bytes out e =
     let one : Event × ℕ = (Write bank row (bits_of_bytes a.0), at + 8 + 8 * g.words) in
     subst (λ (x : Event × ℕ). at + 8 ≤ x.1) (ok_is {K = TraceKind} one out a.2) (omega arith)
 
-event_long : (g : Geometry) (at : ℕ) (bytes : List ℕ) (out : Event × ℕ)
+pub event_long : (g : Geometry) (at : ℕ) (bytes : List ℕ) (out : Event × ℕ)
     → event_at g at bytes ≡ Ok out → at + 8 ≤ out.1
 unfolding event_at
 event_long g at bytes out e =

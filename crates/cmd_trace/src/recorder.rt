@@ -83,13 +83,16 @@ impl<'a, D: Dram> Recorder<'a, D> {
         self.notes.kept()
     }
 
-    /// Spells the trace file of the log so far, with these objects. It takes no memory.
+    /// Spells the trace file of the log so far, with these objects. The log goes on. It takes no
+    /// memory.
     pub fn spell_file(&mut self, table: &Table)
         requires begun { HasBegun (recorded (D.view self.old.dram.now) self.old.notes.now) }
         requires known { is_some (log_on (D.view self.old.dram.now).geometry self.old.notes.now)
             ≡ true }
         ensures same_reference { self.new.dram.ghost_name ≡ self.old.dram.ghost_name }
         ensures chip { self.new.dram.now ≡ self.old.dram.now }
+        ensures shown { recorded (D.view self.new.dram.now) self.new.notes.now
+            ≡ recorded (D.view self.old.dram.now) self.old.notes.now }
         ensures file { IfSome (log_on (D.view self.old.dram.now).geometry self.old.notes.now)
             (λ events. file_on self.new.notes.now
             ≡ trace_bytes (D.view self.old.dram.now).geometry table.now.pairs events) }

@@ -15,3 +15,5 @@ pub mod Texts
 pub mod Pieces
 pub mod Adding
 pub mod Worked
+pub mod Tripled
+pub mod FlipLines

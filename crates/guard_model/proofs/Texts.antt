@@ -34,7 +34,7 @@ next_is instrs before (Some k) h =
     (grind (arith, nat_tests), grind (arith, nat_tests), grind (arith, nat_tests))
 
 -- the flip is right, and comes not before that of the line before
-abbrev Right : Geometry → ℕ → ℕ → Flip → Type 0
+abbrev pub Right : Geometry → ℕ → ℕ → Flip → Type 0
 Right g instrs before f = IsFlip g instrs f × (before ≤ f.before)
 
 made_case : (g : Geometry) (instrs before : ℕ) (k bank row column : Option ℕ) (t : Bool) (f : Flip)
@@ -44,7 +44,7 @@ made_case g instrs before k bank row column true f made kind r h = let e : made 
     (Right g instrs before) e (r refl)
 made_case g instrs before k bank row column false f made kind r h = cc
 
-of_is : (g : Geometry) (instrs before : ℕ) (k bank row column : Option ℕ) (f : Flip)
+pub of_is : (g : Geometry) (instrs before : ℕ) (k bank row column : Option ℕ) (f : Flip)
     → flip_of g instrs before k bank row column ≡ Ok (Some f) → Right g instrs before f
 of_is g instrs before k bank row column f h =
     made_case g instrs before k bank row column _ f _ _ (λ t.

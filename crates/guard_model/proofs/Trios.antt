@@ -63,7 +63,7 @@ copies_pass letter t base = rw (
   same_number t.count,
 ) refl
 
-all_pass : (a b c : Bool) (k l m : ℕ) (r : Option ℕ) → a ≡ true → b ≡ true → c ≡ true → r ≡ None
+pub all_pass : (a b c : Bool) (k l m : ℕ) (r : Option ℕ) → a ≡ true → b ≡ true → c ≡ true → r ≡ None
     → cond (not a) (Some k) (cond (not b) (Some l) (cond (not c) (Some m) r)) ≡ None
 all_pass true true true k l m r d e f g = g
 all_pass true true false k l m r d e f g = cc
@@ -77,12 +77,12 @@ no_stranger (t ∷ ts) k named = all_pass (fits_name t.name) _ _ k (k + 1) (k + 
     (copies_pass y_letter t t.y) (copies_pass z_letter t t.z) (no_stranger ts (k + 3) named.1)
 
 -- the other way
-one_none : (b : Bool) (k : ℕ) (r : Option ℕ) → cond (not b) (Some k) r ≡ None → (b ≡ true)
+pub one_none : (b : Bool) (k : ℕ) (r : Option ℕ) → cond (not b) (Some k) r ≡ None → (b ≡ true)
     × (r ≡ None)
 one_none true k r h = (refl, h)
 one_none false k r h = cc
 
-first_name : (name : List ℕ) → is_first_name name ≡ true → (name ≡ x_letter ∷ drop 1 name)
+pub first_name : (name : List ℕ) → is_first_name name ≡ true → (name ≡ x_letter ∷ drop 1 name)
     × (fits_name (drop 1 name) ≡ true)
 first_name [] h = cc
 first_name (letter ∷ name) h = let both = and_both (eqb letter x_letter) (fits_name name) h in

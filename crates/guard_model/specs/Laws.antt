@@ -1,6 +1,6 @@
 -- Laws of guarded scripts.
-use Rattle.std.specs.Prelude.{◌≡◌, ◌≢◌, ℕ, ◌+◌, ◌<◌, List, [], map, None, true, false, ◌⊎◌, ◌++◌}
-use Rattle.std.specs.Prelude.{Ok}
+use Rattle.std.specs.Prelude.{◌≡◌, ◌≢◌, ◌↔◌, ℕ, ◌+◌, ◌<◌, List, [], map, None, true, false, ◌⊎◌}
+use Rattle.std.specs.Prelude.{◌++◌, Ok, Some}
 use Rattle.std.specs.List.{AllByRecursion}
 use Rattle.dram_model.specs.declared.geometry.Geometry.{Geometry}
 use Rattle.bit_rows.specs.Bits.{majority}
@@ -25,6 +25,7 @@ use Rattle.machine_model.specs.Laws.{FitsBanks}
 use Rattle.machine_model.specs.Script.{is_refused, counters_at_end}
 use Rattle.guard_model.specs.declared.Flip.{Flip}
 use Rattle.guard_model.specs.Triples.{first_stranger, EqualCopies, first_copies, unplaced}
+use Rattle.guard_model.specs.Triples.{IsTripled, IsLongestFront}
 use Rattle.guard_model.specs.Flips.{AtMostOne, due, flipped, with_bit_inverted}
 use Rattle.guard_model.specs.FlipText.{flips_of, IsFlip, AreSorted}
 use Rattle.guard_model.specs.Votes.{row_vote, voted, vote_events, vote_count}
@@ -87,6 +88,13 @@ HasName (Order order) = Unit {0}
 abbrev pub AcceptedHasNames : Type 0
 AcceptedHasNames = (text : List ℕ) (script : List Instruction) → script_of text ≡ Ok script
     → AllByRecursion HasName script
+
+-- A table has no stranger exactly where it is three copies of each of some objects. Else the
+-- stranger is at the end of the longest front that begins such copies
+pub record StrangersAreFirst : Type 0 where
+  pub none : (table : List Named) → (first_stranger table ≡ None) ↔ IsTripled table
+  pub some : (table : List Named) (k : ℕ) → first_stranger table ≡ Some k
+      → IsLongestFront table k
 
 -- a guarded instruction keeps the table one of triples
 abbrev pub TriplesKept : Type 0

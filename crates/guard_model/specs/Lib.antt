@@ -7,3 +7,4 @@ pub mod Guarded
 pub mod Report
 pub mod FlipText
 pub mod Laws
+pub mod FlipLaws

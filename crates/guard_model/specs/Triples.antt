@@ -1,6 +1,7 @@
 -- Tables whose objects stand in three copies, and their states.
 use Rattle.std.specs.Prelude.{◌≡◌, ℕ, ◌+◌, ◌==◌, Bool, false, not, ◌&&◌, if◌then◌else◌, List, []}
-use Rattle.std.specs.Prelude.{◌∷◌, drop, Option, Some, None}
+use Rattle.std.specs.Prelude.{◌∷◌, ◌++◌, ◌≤◌, true, drop, length, map, take, Option, Some, None}
+use Rattle.std.specs.List.{AllByRecursion}
 use Rattle.std.specs.Str.{bytes_eq}
 use Rattle.text_lex.specs.Spelled.{fits_name}
 use Rattle.object_alloc.specs.Listed.{Named}
@@ -45,6 +46,47 @@ stranger_from k (x ∷ y ∷ z ∷ rest) =
 
 abbrev pub first_stranger : List Named → Option ℕ
 first_stranger table = stranger_from 0 table
+
+-- an object by its name, its width and how many elements it has, wherever it lies
+pub record Outline : Type 0 where
+  pub name : List ℕ
+  pub width : ℕ
+  pub count : ℕ
+
+abbrev pub outline : Named → Outline
+outline p = record { name = p.0; width = p.1.width; count = p.1.count }
+
+-- under a letter
+abbrev pub lettered : ℕ → Outline → Outline
+lettered letter o = record { name = letter ∷ o.name; width = o.width; count = o.count }
+
+-- the three copies of each, one object after another
+abbrev pub in_copies : List Outline → List Outline
+in_copies [] = []
+in_copies (o ∷ guarded) =
+    lettered x_letter o ∷ lettered y_letter o ∷ lettered z_letter o ∷ in_copies guarded
+
+abbrev pub AllNamed : List Outline → Type 0
+AllNamed guarded = AllByRecursion (λ o. fits_name o.name ≡ true) guarded
+
+-- the table is the three copies of each of these objects
+pub record IsTripled (table : List Named) : Type 0 where
+  pub guarded : List Outline
+  pub names : AllNamed guarded
+  pub parts : map outline table ≡ in_copies guarded
+
+-- with more objects after it, it is
+pub record BeginsTripled (table : List Named) : Type 0 where
+  pub guarded : List Outline
+  pub names : AllNamed guarded
+  pub more : List Outline
+  pub parts : map outline table ++ more ≡ in_copies guarded
+
+-- so many objects are the longest front of the table that begins such copies
+pub record IsLongestFront (table : List Named) (k : ℕ) : Type 0 where
+  pub within : k ≤ length table
+  pub begins : BeginsTripled (take k table)
+  pub longest : (n : ℕ) → n ≤ length table → BeginsTripled (take n table) → n ≤ k
 
 -- the three copies of each object have the same numbers
 abbrev pub EqualCopies : List Held → Type 0

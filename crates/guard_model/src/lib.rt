@@ -2,10 +2,12 @@
 //! three-row activation makes the copies equal again.
 #![tactic(auto)]
 
+ghost use Rattle.guard_model.specs.FlipLaws.{FlipsGoByLines};
 ghost use Rattle.guard_model.specs.Laws.{AcceptedHasNames, AllOrNone, DueFirst, FlipIsWrite};
 ghost use Rattle.guard_model.specs.Laws.{FlipsAreRight};
 ghost use Rattle.guard_model.specs.Laws.{GuardedGivesWords, GuardedTextGivesWords, RefusedStays};
-ghost use Rattle.guard_model.specs.Laws.{RowVote, StepIsCounted, StepIsEvents, TriplesKept};
+ghost use Rattle.guard_model.specs.Laws.{RowVote, StepIsCounted, StepIsEvents, StrangersAreFirst};
+ghost use Rattle.guard_model.specs.Laws.{TriplesKept};
 ghost use Rattle.guard_model.specs.Laws.{VoteIsCounted, VoteIsEvents, VotesMend};
 
 /// One cell that is inverted before an instruction, whose number counts from 1.
@@ -49,6 +51,18 @@ pub fn flips_are_writes()
     ensures write { FlipIsWrite }
     ensures right { FlipsAreRight }
     ensures due { DueFirst }
+{}
+
+/// A text of flips is accepted where its lines say flips in their order, and else refused at its
+/// first line at fault, for what is wrong with it.
+pub fn flips_go_by_lines()
+    ensures { FlipsGoByLines }
+{}
+
+/// A table has no stranger exactly where it is three copies of each of some objects; else the
+/// stranger is at the end of the longest front that begins such copies.
+pub fn strangers_are_first()
+    ensures { StrangersAreFirst }
 {}
 
 /// A guarded instruction keeps the table one of triples. One that is refused leaves it, and one

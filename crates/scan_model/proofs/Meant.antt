@@ -100,7 +100,7 @@ text_means = record {
   disjunction = λ a b. or_means a b;
 }
 
-ended : (t : Trace) → HasEnded t → walks_badly t ≡ None
+pub ended : (t : Trace) → HasEnded t → walks_badly t ≡ None
 ended (Ended issues) h = refl
 ended (Stuck at reason) h = absurd h
 

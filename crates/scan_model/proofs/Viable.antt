@@ -17,7 +17,7 @@ use Rattle.scan_model.specs.TextLaws.{words_of, follow, and_on, allowed, IsViabl
 use Rattle.scan_model.specs.TextLaws.{SyntaxIsTheGrammars}
 use Rattle.scan_model.proofs.Parsed.{lead_is, among_text}
 
-allowed-append : (xs ys : List Word) (wanted : List Wanted)
+pub allowed-append : (xs ys : List Word) (wanted : List Wanted)
     → allowed wanted (xs ++ ys) ≡ and_on (allowed wanted xs) (λ stack. allowed stack ys)
 allowed-append [] ys wanted = refl
 allowed-append (x ∷ xs) ys [] = refl
@@ -313,7 +313,7 @@ nothing_more [] h = refl
 nothing_more (w ∷ words) h = cc
 
 -- What the grammar allows some query goes on with
-viable : (words : List Word) (stack : List Wanted) → allowed (Start ∷ []) words ≡ Some stack
+pub viable : (words : List Word) (stack : List Wanted) → allowed (Start ∷ []) words ≡ Some stack
     → IsViable words
 viable words stack h =
     let whole : allowed (Start ∷ []) (words ++ fill stack) ≡ Some [] =

@@ -91,3 +91,18 @@ ScansAnswer =
     → checked table (nodes_of q) ≡ None → scan_refused g (routines_of scan_text p) table q
     ≡ None
     → LeavesOne g (routines_of scan_text p) banks table q
+
+-- an answer but for how many commands it took
+abbrev pub uncounted : Answer → Answer
+uncounted (Found found of counts) = Found found of (record { aap = 0; ap = 0 })
+uncounted (Refused w k) = Refused w k
+
+-- All programs that do the operations of scans answer alike, but for how many commands they take:
+-- how many elements of how many, or for what and where it is refused
+abbrev pub ScansAnswerAlike : Type 0
+ScansAnswerAlike =
+    (g : Geometry) (p other : Program) (banks : Banks) (table : List Named) (q : Query)
+    → ImplementsAll p scan_text → ImplementsAll other scan_text
+    → All (λ named. IsObject g named.1) table
+    → uncounted (answer g (routines_of scan_text p) banks table q)
+    ≡ uncounted (answer g (routines_of scan_text other) banks table q)

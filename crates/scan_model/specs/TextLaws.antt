@@ -1,13 +1,14 @@
 -- What the texts of queries come to.
-use Rattle.std.specs.Prelude.{◌≡◌, ℕ, ◌+◌, ◌^◌, ◌<◌, ◌≤◌, true, List, [], ◌∷◌, ◌++◌, map, Option}
-use Rattle.std.specs.Prelude.{Some, None, option_map, ◌↔◌}
+use Rattle.std.specs.Prelude.{◌≡◌, ℕ, ◌+◌, ◌^◌, ◌<◌, ◌≤◌, Bool, true, false, List, [], ◌∷◌, ◌++◌}
+use Rattle.std.specs.Prelude.{map, count_by, Option, Some, None, option_map, ◌↔◌, ◌⊎◌}
 use Rattle.text_lex.specs.Spelled.{fits_name}
 use Rattle.scan_model.specs.Queries.{Query, Compare, Negate, Both, Either, size}
-use Rattle.scan_model.specs.declared.QueryKind.TheVariants.{Syntax}
+use Rattle.scan_model.specs.declared.QueryKind.TheVariants.{Syntax, BadName, BadNumber}
+use Rattle.scan_model.specs.declared.QueryKind.TheVariants.{TooMany}
 use Rattle.scan_model.specs.Texts.{Word, Name, Number, Opens, Closes, Comma, Piece, Wanted, Start}
 use Rattle.scan_model.specs.Texts.{Open, Object, Between, Bound, Close, Breach, following}
-use Rattle.scan_model.specs.Texts.{all_leads}
-use Rattle.scan_model.specs.Texts.{lead_among, breach_of, none_begun, spelled}
+use Rattle.scan_model.specs.Texts.{Lead, all_leads, lead_among, lead_text, tests_in, breach_of}
+use Rattle.scan_model.specs.Texts.{none_begun, spelled}
 
 abbrev pub tests : Query → ℕ
 tests (Compare op name v) = 1
@@ -75,6 +76,52 @@ SyntaxIsTheGrammars = (pieces : List Piece) (b : Breach)
     → breach_of (Start ∷ []) none_begun pieces ≡ Some b → b.kind ≡ Syntax
     → BreaksSyntax pieces b.at
 
+-- this token stands at this place, and these before it
+pub record StandsAt (pieces : List Piece) (at : Option ℕ) (before : List Word) (word : Word)
+    : Type 0 where
+  pub front : List Piece
+  pub token : Piece
+  pub others : List Piece
+  pub parts : pieces ≡ front ++ token ∷ others
+  pub place : at ≡ Some token.0
+  pub before_is : before ≡ words_of front
+  pub word_is : word ≡ token.1
+
+-- a BadName fault at this place: a name may stand there, and it has too many bytes for an object
+pub record BreaksName (pieces : List Piece) (at : Option ℕ) : Type 0 where
+  pub before : List Word
+  pub name : List ℕ
+  pub stands : StandsAt pieces at before (Name name)
+  pub viable : IsViable (before ++ Name name ∷ [])
+  pub long : fits_name name ≡ false
+
+-- a BadNumber fault at this place: a number may stand there, and it is too large
+pub record BreaksNumber (pieces : List Piece) (at : Option ℕ) : Type 0 where
+  pub before : List Word
+  pub number : ℕ
+  pub stands : StandsAt pieces at before (Number number)
+  pub viable : IsViable (before ++ Number number ∷ [])
+  pub large : 2 ^ 128 ≤ number
+
+-- each node has one of these, and each comparison one of those
+abbrev pub is_opening : Word → Bool
+is_opening Opens = true
+is_opening word = false
+
+abbrev pub is_number : Word → Bool
+is_number (Number v) = true
+is_number word = false
+
+-- A TooMany fault at this place: a node begins there, and 64 have begun before it; or a comparison
+-- does, and 32 have.
+pub record BreaksCount (pieces : List Piece) (at : Option ℕ) : Type 0 where
+  pub before : List Word
+  pub lead : Lead
+  pub stands : StandsAt pieces at before (Name (lead_text lead))
+  pub viable : IsViable (before ++ Name (lead_text lead) ∷ Opens ∷ [])
+  pub full : (count_by is_opening before ≡ 64)
+      ⊎ (tests_in lead ≡ 1) × (count_by is_number before ≡ 32)
+
 pub record QueryTextLaws : Type 0 where
   -- no rule is broken exactly where the tokens are the spelling of a query
   pub accepted : (pieces : List Piece) → (breach_of (Start ∷ []) none_begun pieces ≡ None) ↔
@@ -83,3 +130,13 @@ pub record QueryTextLaws : Type 0 where
   pub once : (p q : Query) → spelled p [] ≡ spelled q [] → p ≡ q
   -- a Syntax fault is the grammar's
   pub syntax_faults : SyntaxIsTheGrammars
+  -- and one of another kind but Lex is at a token that the grammar allows
+  pub name_faults : (pieces : List Piece) (b : Breach)
+      → breach_of (Start ∷ []) none_begun pieces ≡ Some b → b.kind ≡ BadName
+      → BreaksName pieces b.at
+  pub number_faults : (pieces : List Piece) (b : Breach)
+      → breach_of (Start ∷ []) none_begun pieces ≡ Some b → b.kind ≡ BadNumber
+      → BreaksNumber pieces b.at
+  pub count_faults : (pieces : List Piece) (b : Breach)
+      → breach_of (Start ∷ []) none_begun pieces ≡ Some b → b.kind ≡ TooMany
+      → BreaksCount pieces b.at

@@ -2,7 +2,7 @@
 //! do.
 #![tactic(auto)]
 
-ghost use Rattle.scan_model.specs.Answers.{ScansAnswer};
+ghost use Rattle.scan_model.specs.Answers.{ScansAnswer, ScansAnswerAlike};
 ghost use Rattle.scan_model.specs.Laws.{ScanLaws};
 ghost use Rattle.scan_model.specs.TextLaws.{QueryTextLaws};
 
@@ -61,7 +61,9 @@ pub fn texts_spell_queries()
     ensures { QueryTextLaws }
 {}
 
-/// A scan that is done leaves one object whose ones are the elements that the query holds of.
+/// A scan that is done leaves one object whose ones are the elements that the query holds of. But
+/// for how many commands it takes, its answer is that of each program that does its operations.
 pub fn scans_answer()
-    ensures { ScansAnswer }
+    ensures answer { ScansAnswer }
+    ensures alike { ScansAnswerAlike }
 {}

@@ -452,7 +452,10 @@ impl<'a> Guard<'a> {
             ≡ image_bytes (geometry_of (machine_in self.old)) (table_in (machine_in self.old))
             (rows_of (D.view dram.old).banks)) }
         ensures ready { OnOk result (IsReady (machine_in self.new)) }
+        ensures program { program_of (machine_in self.new) ≡ program_of (machine_in self.old) }
+        ensures shape { geometry_of (machine_in self.new) ≡ geometry_of (machine_in self.old) }
         ensures table { table_in (machine_in self.new) ≡ table_in (machine_in self.old) }
+        ensures turn { turn_in (machine_in self.new) ≡ turn_in (machine_in self.old) }
         ensures failed { OnErr result (Rose (D.view dram.old).faults (D.view dram.new).faults) }
         ensures no_event { Grew (D.view dram.old).log (D.view dram.new).log [] }
     {

@@ -1,5 +1,6 @@
+use Rattle.scan_model.proofs.Alike.{scans_answer_alike}
 use Rattle.scan_model.proofs.Answered.{scans_answer}
 use Rattle.scan_model.proofs.scans_answer.Goals as goal
 
 pub returns : goal.returns
-returns c = scans_answer
+returns c = record { answer = scans_answer; alike = scans_answer_alike }

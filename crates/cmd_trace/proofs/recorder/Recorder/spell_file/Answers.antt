@@ -3,8 +3,15 @@ use Rattle.std.specs.Int.{to_le_bytes, w32}
 use Rattle.dram_model.specs.declared.geometry.Geometry.{Geometry}
 use Rattle.trace_model.specs.Spelling.{trace_head}
 use Rattle.cmd_trace.specs.Tape.{kept_in}
+use Rattle.cmd_trace.proofs.Reread.{shows_same}
 use Rattle.cmd_trace.proofs.Tapes.{file_of_log}
 use Rattle.cmd_trace.proofs.recorder.Recorder.spell_file.Goals as goal
+
+pub returns-clause-shown : goal.returns-clause-shown
+returns-clause-shown g c =
+    shows_same (g.D.Dram.view c.args.self.now.dram.now) c.args.self.now.notes.now
+    c.spell.new.self c.spell.ensures.known c.spell.ensures.count c.spell.ensures.len
+    c.spell.ensures.kept
 
 pub returns-clause-file : goal.returns-clause-file
 returns-clause-file g c =

@@ -1,0 +1,468 @@
+-- Where a query's text breaks a rule other than the grammar's.
+use Rattle.std.proofs.Common.{◌≡◌, ℕ, suc, ◌+◌, ◌^◌, ◌≤◌, ◌⊎◌, Bool, true, false, ◌&&◌}
+use Rattle.std.proofs.Common.{cond, leb, ltb, List, [], ◌∷◌, ◌++◌, Option, Some, None, refl, sym}
+use Rattle.std.proofs.Common.{◌∙◌, ap, subst, arith, inl, inr}
+use Rattle.std.specs.Prelude.{Ok, Err, count_by, option_map}
+use Rattle.std.proofs.lemmas.Bool.Decides.{nat_tests}
+use Rattle.std.proofs.lemmas.List.Sums.{sum_by-cons}
+use Rattle.text_lex.specs.Spelled.{fits_name}
+use Rattle.scan_model.specs.declared.QueryKind.{QueryKind}
+use Rattle.scan_model.specs.declared.QueryKind.TheVariants as kind
+use Rattle.scan_model.specs.Texts.{Word, Name, Number, Opens, Closes, Comma, Other, Stranger}
+use Rattle.scan_model.specs.Texts.{Piece, Lead, Compares, Negates, Ands, Ors, lead_text}
+use Rattle.scan_model.specs.Texts.{all_leads, lead_among, Wanted, Start, Open, Object, Between}
+use Rattle.scan_model.specs.Texts.{Bound, Close, following, Begun, tests_in, with_lead, fits}
+use Rattle.scan_model.specs.Texts.{Stepped, started, step, Breach, spare, after, breach_of}
+use Rattle.scan_model.specs.Texts.{none_begun}
+use Rattle.scan_model.specs.TextLaws.{words_of, follow, and_on, allowed, IsViable, StandsAt}
+use Rattle.scan_model.specs.TextLaws.{BreaksName, BreaksNumber, BreaksCount, is_opening, is_number}
+use Rattle.scan_model.proofs.Parsed.{lead_is, among_text}
+use Rattle.scan_model.proofs.Viable.{allowed-append, viable}
+
+-- ---- how many of the tokens that are wanted open a node, and how many are bounds
+
+abbrev opens_in : List Wanted → ℕ
+opens_in [] = 0
+opens_in (Open ∷ wanted) = suc (opens_in wanted)
+opens_in (Start ∷ wanted) = opens_in wanted
+opens_in (Object ∷ wanted) = opens_in wanted
+opens_in (Between ∷ wanted) = opens_in wanted
+opens_in (Bound ∷ wanted) = opens_in wanted
+opens_in (Close ∷ wanted) = opens_in wanted
+
+abbrev bounds_in : List Wanted → ℕ
+bounds_in [] = 0
+bounds_in (Bound ∷ wanted) = suc (bounds_in wanted)
+bounds_in (Start ∷ wanted) = bounds_in wanted
+bounds_in (Open ∷ wanted) = bounds_in wanted
+bounds_in (Object ∷ wanted) = bounds_in wanted
+bounds_in (Between ∷ wanted) = bounds_in wanted
+bounds_in (Close ∷ wanted) = bounds_in wanted
+
+-- after a query that is wanted neither is
+abbrev IsTidy : List Wanted → Type 0
+IsTidy [] = Unit {0}
+IsTidy (Start ∷ wanted) = (opens_in wanted ≡ 0) × (bounds_in wanted ≡ 0) × IsTidy wanted
+IsTidy (Open ∷ wanted) = IsTidy wanted
+IsTidy (Object ∷ wanted) = IsTidy wanted
+IsTidy (Between ∷ wanted) = IsTidy wanted
+IsTidy (Bound ∷ wanted) = IsTidy wanted
+IsTidy (Close ∷ wanted) = IsTidy wanted
+
+lead_opens : (lead : Lead) (wanted : List Wanted)
+    → opens_in (following lead ++ wanted) ≡ suc (opens_in wanted)
+lead_opens (Compares op) wanted = refl
+lead_opens Negates wanted = refl
+lead_opens Ands wanted = refl
+lead_opens Ors wanted = refl
+
+lead_bounds : (lead : Lead) (wanted : List Wanted)
+    → bounds_in (following lead ++ wanted) ≡ tests_in lead + bounds_in wanted
+lead_bounds (Compares op) wanted = omega arith
+lead_bounds Negates wanted = omega arith
+lead_bounds Ands wanted = omega arith
+lead_bounds Ors wanted = omega arith
+
+lead_tidy : (lead : Lead) (wanted : List Wanted) → IsTidy (Start ∷ wanted)
+    → IsTidy (following lead ++ wanted)
+lead_tidy (Compares op) wanted t = t.2
+lead_tidy Negates wanted t = t
+lead_tidy Ands wanted t = (t.0, t.1, t)
+lead_tidy Ors wanted t = (t.0, t.1, t)
+
+-- ---- from a state to a later one, by tokens that the grammar allows
+
+record Walk (wanted stack : List Wanted) (s t : Begun) (words : List Word) : Type 0 where
+  ok : allowed wanted words ≡ Some stack
+  nodes : s.nodes + opens_in stack + count_by is_opening words ≡ t.nodes + opens_in wanted
+  tests : s.tests + bounds_in stack + count_by is_number words ≡ t.tests + bounds_in wanted
+  tidy : IsTidy wanted → IsTidy stack
+  fit : fits s ≡ true → fits t ≡ true
+
+nothing_read : (wanted : List Wanted) (s : Begun) → Walk wanted wanted s s []
+nothing_read wanted s = record {
+  ok = refl;
+  nodes = omega arith;
+  tests = omega arith;
+  tidy = λ t. t;
+  fit = λ f. f;
+}
+
+-- one token before others
+record OneRead (w : Wanted) (wanted : List Wanted) (s : Begun) (word : Word)
+    (front : List Wanted) (t : Begun) : Type 0 where
+  follows : follow w word ≡ Some front
+  nodes : s.nodes + opens_in (front ++ wanted) + count_by is_opening (word ∷ [])
+      ≡ t.nodes + opens_in (w ∷ wanted)
+  tests : s.tests + bounds_in (front ++ wanted) + count_by is_number (word ∷ [])
+      ≡ t.tests + bounds_in (w ∷ wanted)
+  tidy : IsTidy (w ∷ wanted) → IsTidy (front ++ wanted)
+  fit : fits s ≡ true → fits t ≡ true
+
+count_one : (test : Word → Bool) (word : Word) (words : List Word)
+    → count_by test (word ∷ words) ≡ count_by test (word ∷ []) + count_by test words
+count_one test word words =
+    let one : Word → ℕ = λ w. cond (test w) 1 0 in
+    let alone : count_by test (word ∷ []) ≡ one word =
+    sum_by-cons one word [] ∙ omega arith in
+    sum_by-cons one word words ∙ ap (λ (n : ℕ). n + count_by test words) (sym alone)
+
+one_before : (w : Wanted) (wanted stack front : List Wanted) (s t u : Begun) (word : Word)
+    (words : List Word) → OneRead w wanted s word front t → Walk (front ++ wanted) stack t u words
+    → Walk (w ∷ wanted) stack s u (word ∷ words)
+one_before w wanted stack front s t u word words one more =
+    let opened = count_one is_opening word words in
+    let bounded = count_one is_number word words in
+    let first_nodes = one.nodes in
+    let first_tests = one.tests in
+    let later_nodes = more.nodes in
+    let later_tests = more.tests in
+    record {
+      ok = ap (λ (o : Option (List Wanted)). and_on o (λ f. allowed (f ++ wanted) words))
+          one.follows ∙ more.ok;
+      nodes = omega (arith, opened, first_nodes, later_nodes);
+      tests = omega (arith, bounded, first_tests, later_tests);
+      tidy = λ h. more.tidy (one.tidy h);
+      fit = λ h. more.fit (one.fit h);
+    }
+
+-- ---- what a step tells of its token
+
+abbrev Fault : Wanted → Begun → Word → QueryKind → Type 0
+Fault w s word kind.BadName = (name : List ℕ) × (w ≡ Object) × (word ≡ Name name)
+    × (fits_name name ≡ false)
+Fault w s word kind.BadNumber = (v : ℕ) × (w ≡ Bound) × (word ≡ Number v)
+    × (ltb v (2 ^ 128) ≡ false)
+Fault w s word kind.TooMany = (lead : Lead) × (w ≡ Start) × (word ≡ Name (lead_text lead))
+    × (fits (with_lead s lead) ≡ false)
+Fault w s word kind.Lex = Unit {0}
+Fault w s word kind.Syntax = Unit {0}
+
+abbrev Tells : Wanted → Begun → Word → Stepped → Type 0
+Tells w s word (Ok r) = (wanted : List Wanted) → OneRead w wanted s word r.0 r.1
+Tells w s word (Err k) = Fault w s word k
+
+name_tells : (s : Begun) (name : List ℕ) (b : Bool) → fits_name name ≡ b
+    → Tells Object s (Name name) (cond b (Ok ([], s)) (Err kind.BadName))
+name_tells s name true e = λ wanted. record {
+  follows = refl;
+  nodes = omega arith;
+  tests = omega arith;
+  tidy = λ t. t;
+  fit = λ f. f;
+}
+name_tells s name false e = (name, refl, refl, e)
+
+number_tells : (s : Begun) (v : ℕ) (b : Bool) → ltb v (2 ^ 128) ≡ b
+    → Tells Bound s (Number v) (cond b (Ok ([], s)) (Err kind.BadNumber))
+number_tells s v true e = λ wanted. record {
+  follows = refl;
+  nodes = omega arith;
+  tests = omega arith;
+  tidy = λ t. t;
+  fit = λ f. f;
+}
+number_tells s v false e = (v, refl, refl, e)
+
+lead_tells : (s : Begun) (lead : Lead) (b : Bool) → fits (with_lead s lead) ≡ b
+    → Tells Start s (Name (lead_text lead))
+    (cond b (Ok (following lead, with_lead s lead)) (Err kind.TooMany))
+lead_tells s lead true e = λ wanted.
+    let opened = lead_opens lead wanted in
+    let bounded = lead_bounds lead wanted in
+    record {
+      follows = ap (option_map following) (lead_is lead);
+      nodes = omega (arith, opened);
+      tests = omega (arith, bounded);
+      tidy = lead_tidy lead wanted;
+      fit = λ f. e;
+    }
+lead_tells s lead false e = (lead, refl, refl, e)
+
+start_tells : (s : Begun) (name : List ℕ) (o : Option Lead) → lead_among all_leads name ≡ o
+    → Tells Start s (Name name) (started s o)
+start_tells s name None e = tt
+start_tells s name (Some lead) e =
+    subst (λ (n : List ℕ). Tells Start s (Name n) (started s (Some lead)))
+    (sym (among_text all_leads name lead e))
+    (lead_tells s lead (fits (with_lead s lead)) refl)
+
+step_tells : (w : Wanted) (s : Begun) (word : Word) → Tells w s word (step w s word)
+step_tells w s Stranger = tt
+step_tells Start s (Name name) = start_tells s name (lead_among all_leads name) refl
+step_tells Open s Opens = λ wanted. record {
+  follows = refl;
+  nodes = omega arith;
+  tests = omega arith;
+  tidy = λ t. t;
+  fit = λ f. f;
+}
+step_tells Object s (Name name) = name_tells s name (fits_name name) refl
+step_tells Between s Comma = λ wanted. record {
+  follows = refl;
+  nodes = omega arith;
+  tests = omega arith;
+  tidy = λ t. t;
+  fit = λ f. f;
+}
+step_tells Bound s (Number v) = number_tells s v (ltb v (2 ^ 128)) refl
+step_tells Close s Closes = λ wanted. record {
+  follows = refl;
+  nodes = omega arith;
+  tests = omega arith;
+  tidy = λ t. t;
+  fit = λ f. f;
+}
+step_tells Start s Other = tt
+step_tells Open s Other = tt
+step_tells Object s Other = tt
+step_tells Between s Other = tt
+step_tells Bound s Other = tt
+step_tells Close s Other = tt
+step_tells w s word = tt
+
+-- ---- the token at fault
+
+-- the kinds that are told of a token that the grammar allows
+abbrev IsAllowed : QueryKind → Type 0
+IsAllowed kind.BadName = Unit {0}
+IsAllowed kind.BadNumber = Unit {0}
+IsAllowed kind.TooMany = Unit {0}
+IsAllowed kind.Lex = ⊥
+IsAllowed kind.Syntax = ⊥
+
+record Stop (wanted : List Wanted) (s : Begun) (pieces : List Piece) (b : Breach) : Type 0 where
+  before : List Piece
+  token : Piece
+  others : List Piece
+  w : Wanted
+  stack : List Wanted
+  begun : Begun
+  parts : pieces ≡ before ++ token ∷ others
+  place : b.at ≡ Some token.0
+  walk : Walk wanted (w ∷ stack) s begun (words_of before)
+  wrong : Fault w begun token.1 b.kind
+
+stop_later : (w : Wanted) (wanted front : List Wanted) (s t : Begun) (p : Piece)
+    (pieces : List Piece) (b : Breach) → OneRead w wanted s p.1 front t
+    → Stop (front ++ wanted) t pieces b → Stop (w ∷ wanted) s (p ∷ pieces) b
+stop_later w wanted front s t p pieces b one stop = record {
+  before = p ∷ stop.before;
+  token = stop.token;
+  others = stop.others;
+  w = stop.w;
+  stack = stop.stack;
+  begun = stop.begun;
+  parts = ap (λ (ps : List Piece). p ∷ ps) stop.parts;
+  place = stop.place;
+  walk = one_before w wanted (stop.w ∷ stop.stack) front s t stop.begun p.1
+      (words_of stop.before) one stop.walk;
+  wrong = stop.wrong;
+}
+
+same_breach : (b c : Breach) → Some b ≡ Some c → b ≡ c
+same_breach b c e = cc
+
+stop_here : (w : Wanted) (wanted : List Wanted) (s : Begun) (p : Piece) (pieces : List Piece)
+    (k : QueryKind) → Fault w s p.1 k
+    → Stop (w ∷ wanted) s (p ∷ pieces) (record { at = Some p.0; kind = k })
+stop_here w wanted s p pieces k wrong = record {
+  before = [];
+  token = p;
+  others = pieces;
+  w = w;
+  stack = wanted;
+  begun = s;
+  parts = refl;
+  place = refl;
+  walk = nothing_read (w ∷ wanted) s;
+  wrong = wrong;
+}
+
+stop_case : (w : Wanted) (wanted : List Wanted) (s : Begun) (p : Piece) (pieces : List Piece)
+    (b : Breach) (r : Stepped) → Tells w s p.1 r
+    → ((front : List Wanted) (t : Begun) → breach_of (front ++ wanted) t pieces ≡ Some b
+    → Stop (front ++ wanted) t pieces b)
+    → after r p.0 (λ front t. breach_of (front ++ wanted) t pieces) ≡ Some b
+    → Stop (w ∷ wanted) s (p ∷ pieces) b
+stop_case w wanted s p pieces b (Ok r) tells go h =
+    stop_later w wanted r.0 s r.1 p pieces b (tells wanted) (go r.0 r.1 h)
+stop_case w wanted s p pieces b (Err k) tells go h =
+    subst (Stop (w ∷ wanted) s (p ∷ pieces))
+    (same_breach (record { at = Some p.0; kind = k }) b h)
+    (stop_here w wanted s p pieces k tells)
+
+not_spare : (word : Word) → IsAllowed (spare word) → ⊥
+not_spare Stranger h = h
+not_spare (Name name) h = h
+not_spare (Number v) h = h
+not_spare Opens h = h
+not_spare Closes h = h
+not_spare Comma h = h
+not_spare Other h = h
+
+abbrev kind_in : Breach → QueryKind
+kind_in b = b.kind
+
+stops : (pieces : List Piece) (wanted : List Wanted) (s : Begun) (b : Breach)
+    → breach_of wanted s pieces ≡ Some b → IsAllowed b.kind → Stop wanted s pieces b
+unfolding breach_of
+stops [] [] s b h k = absurd (cc)
+stops [] (w ∷ wanted) s b h k =
+    let e = same_breach (record { at = None; kind = kind.Syntax }) b h in
+    absurd (subst IsAllowed (sym (ap kind_in e)) k)
+stops (p ∷ pieces) [] s b h k =
+    let e = same_breach (record { at = Some p.0; kind = spare p.1 }) b h in
+    absurd (not_spare p.1 (subst IsAllowed (sym (ap kind_in e)) k))
+stops (p ∷ pieces) (w ∷ wanted) s b h k =
+    stop_case w wanted s p pieces b (step w s p.1) (step_tells w s p.1)
+    (λ front t e. stops pieces (front ++ wanted) t b e k) h
+
+stands : (wanted : List Wanted) (s : Begun) (pieces : List Piece) (b : Breach) (word : Word)
+    (stop : Stop wanted s pieces b) → word ≡ stop.token.1
+    → StandsAt pieces b.at (words_of stop.before) word
+stands wanted s pieces b word stop e = record {
+  front = stop.before;
+  token = stop.token;
+  others = stop.others;
+  parts = stop.parts;
+  place = stop.place;
+  before_is = refl;
+  word_is = e;
+}
+
+-- where the grammar allows more after these tokens
+viable_with : (words more : List Word) (stack rest : List Wanted)
+    → allowed (Start ∷ []) words ≡ Some stack → allowed stack more ≡ Some rest
+    → IsViable (words ++ more)
+viable_with words more stack rest e f =
+    viable (words ++ more) rest (allowed-append words more (Start ∷ [])
+    ∙ ap (λ (o : Option (List Wanted)). and_on o (λ t. allowed t more)) e ∙ f)
+
+abbrev Start_of : List Piece → Breach → Type 0
+Start_of pieces b = Stop (Start ∷ []) none_begun pieces b
+
+fault_of : (pieces : List Piece) (b : Breach) (k : QueryKind) → IsAllowed k
+    → breach_of (Start ∷ []) none_begun pieces ≡ Some b → b.kind ≡ k → Start_of pieces b
+fault_of pieces b k allow h e =
+    stops pieces (Start ∷ []) none_begun b h (subst IsAllowed (sym e) allow)
+
+pub name_faults : (pieces : List Piece) (b : Breach)
+    → breach_of (Start ∷ []) none_begun pieces ≡ Some b → b.kind ≡ kind.BadName
+    → BreaksName pieces b.at
+name_faults pieces b h e =
+    let stop = fault_of pieces b kind.BadName tt h e in
+    let wrong : Fault stop.w stop.begun stop.token.1 kind.BadName =
+    subst (Fault stop.w stop.begun stop.token.1) e stop.wrong in
+    let ok : allowed (Start ∷ []) (words_of stop.before) ≡ Some (Object ∷ stop.stack) =
+    subst (λ (w : Wanted). allowed (Start ∷ []) (words_of stop.before) ≡ Some (w ∷ stop.stack))
+    wrong.1 stop.walk.ok in
+    record {
+      before = words_of stop.before;
+      name = wrong.0;
+      stands = stands (Start ∷ []) none_begun pieces b (Name wrong.0) stop (sym wrong.2);
+      viable = viable_with (words_of stop.before) (Name wrong.0 ∷ []) (Object ∷ stop.stack)
+          stop.stack ok refl;
+      long = wrong.3;
+    }
+
+at_least : (a b : ℕ) → ltb a b ≡ false → b ≤ a
+at_least a b h = grind (arith, nat_tests)
+
+pub number_faults : (pieces : List Piece) (b : Breach)
+    → breach_of (Start ∷ []) none_begun pieces ≡ Some b → b.kind ≡ kind.BadNumber
+    → BreaksNumber pieces b.at
+number_faults pieces b h e =
+    let stop = fault_of pieces b kind.BadNumber tt h e in
+    let wrong : Fault stop.w stop.begun stop.token.1 kind.BadNumber =
+    subst (Fault stop.w stop.begun stop.token.1) e stop.wrong in
+    let ok : allowed (Start ∷ []) (words_of stop.before) ≡ Some (Bound ∷ stop.stack) =
+    subst (λ (w : Wanted). allowed (Start ∷ []) (words_of stop.before) ≡ Some (w ∷ stop.stack))
+    wrong.1 stop.walk.ok in
+    record {
+      before = words_of stop.before;
+      number = wrong.0;
+      stands = stands (Start ∷ []) none_begun pieces b (Number wrong.0) stop (sym wrong.2);
+      viable = viable_with (words_of stop.before) (Number wrong.0 ∷ []) (Bound ∷ stop.stack)
+          stop.stack ok refl;
+      large = at_least wrong.0 (2 ^ 128) wrong.3;
+    }
+
+lead_allowed : (lead : Lead) (stack : List Wanted) → (rest : List Wanted)
+    × (allowed (Start ∷ stack) (Name (lead_text lead) ∷ Opens ∷ []) ≡ Some rest)
+lead_allowed (Compares op) stack = (
+  Object ∷ Between ∷ Bound ∷ Close ∷ stack,
+  rw (lead_is (Compares op)) refl,
+)
+lead_allowed Negates stack = (Start ∷ Close ∷ stack, refl)
+lead_allowed Ands stack = (Start ∷ Between ∷ Start ∷ Close ∷ stack, refl)
+lead_allowed Ors stack = (Start ∷ Between ∷ Start ∷ Close ∷ stack, refl)
+
+-- what begins is one too many
+few_before : (nodes tests more : ℕ) → more ≤ 1 → (leb nodes 64 && leb tests 32) ≡ true
+    → (leb (nodes + 1) 64 && leb (tests + more) 32) ≡ false
+    → (nodes ≡ 64) ⊎ (more ≡ 1) × (tests ≡ 32)
+few_before nodes tests more l h k =
+    by_tests (leb nodes 64) (leb tests 32) (leb (nodes + 1) 64) (leb (tests + more) 32) refl refl
+    refl refl h k where
+      full : (n : ℕ) → leb n 64 ≡ true → leb (n + 1) 64 ≡ false → n ≡ 64
+      full n e f = grind (arith, nat_tests)
+
+      over : (t m : ℕ) → m ≤ 1 → leb t 32 ≡ true → leb (t + m) 32 ≡ false → (m ≡ 1) × (t ≡ 32)
+      over t m l e f = (grind (arith, nat_tests), grind (arith, nat_tests))
+
+      by_tests : (a b c d : Bool) → leb nodes 64 ≡ a → leb tests 32 ≡ b
+          → leb (nodes + 1) 64 ≡ c → leb (tests + more) 32 ≡ d → (a && b) ≡ true
+          → (c && d) ≡ false → (nodes ≡ 64) ⊎ (more ≡ 1) × (tests ≡ 32)
+      by_tests true true false d p q r s h k = inl (full nodes p r)
+      by_tests true true true false p q r s h k = inr (over tests more l q s)
+      by_tests true true true true p q r s h k = absurd (cc)
+      by_tests true false c d p q r s h k = absurd (cc)
+      by_tests false b c d p q r s h k = absurd (cc)
+
+one_test : (lead : Lead) → tests_in lead ≤ 1
+one_test (Compares op) = omega arith
+one_test Negates = omega arith
+one_test Ands = omega arith
+one_test Ors = omega arith
+
+-- in place of the nodes and the tests that have begun, their tokens
+counted : (nodes tests opened bounded more : ℕ) → opened ≡ nodes → bounded ≡ tests
+    → (nodes ≡ 64) ⊎ (more ≡ 1) × (tests ≡ 32) → (opened ≡ 64) ⊎ (more ≡ 1) × (bounded ≡ 32)
+counted nodes tests opened bounded more e f (inl n) = inl (e ∙ n)
+counted nodes tests opened bounded more e f (inr t) = inr (t.0, f ∙ t.1)
+
+pub count_faults : (pieces : List Piece) (b : Breach)
+    → breach_of (Start ∷ []) none_begun pieces ≡ Some b → b.kind ≡ kind.TooMany
+    → BreaksCount pieces b.at
+count_faults pieces b h e =
+    let stop = fault_of pieces b kind.TooMany tt h e in
+    let wrong : Fault stop.w stop.begun stop.token.1 kind.TooMany =
+    subst (Fault stop.w stop.begun stop.token.1) e stop.wrong in
+    let words = words_of stop.before in
+    let walk : Walk (Start ∷ []) (Start ∷ stop.stack) none_begun stop.begun words =
+    subst (λ (w : Wanted). Walk (Start ∷ []) (w ∷ stop.stack) none_begun stop.begun words)
+    wrong.1 stop.walk in
+    let tidy = walk.tidy (refl, refl, tt) in
+    let nodes = walk.nodes in
+    let tests = walk.tests in
+    let none_open = tidy.0 in
+    let none_bound = tidy.1 in
+    let opened : count_by is_opening words ≡ stop.begun.nodes =
+    omega (arith, nodes, none_open) in
+    let bounded : count_by is_number words ≡ stop.begun.tests =
+    omega (arith, tests, none_bound) in
+    let lead = wrong.0 in
+    let may = lead_allowed lead stop.stack in
+    record {
+      before = words;
+      lead = lead;
+      stands = stands (Start ∷ []) none_begun pieces b (Name (lead_text lead)) stop
+          (sym wrong.2);
+      viable = viable_with words (Name (lead_text lead) ∷ Opens ∷ []) (Start ∷ stop.stack) may.0
+          walk.ok may.1;
+      full = counted stop.begun.nodes stop.begun.tests (count_by is_opening words)
+          (count_by is_number words) (tests_in lead) opened bounded
+          (few_before stop.begun.nodes stop.begun.tests (tests_in lead) (one_test lead)
+          (walk.fit refl) wrong.3);
+    }
