@@ -96,26 +96,19 @@ two-values old mid more g p h q known inputs bits env a b x y r s below l va vb 
   vb (env-stays old mid g p known inputs bits env r below e),
 )
 
--- and three
-pub three-values : (old mid more last : List AoiNode) (g p h q i r : ℕ) (known inputs : Numbers)
-    (bits : ℕ → Bool) (env : List ℕ → Bool) (a b c : ℕ) (x y z : Bool) → Grows old mid g p
-    → Grows mid more h q → Grows more last i r → AreBelow known (length old) → a < length mid
-    → b < length more
-    → (IsEnv old known inputs bits env → aoi_values mid bits a ≡ x)
-    → (IsEnv mid known inputs bits env → aoi_values more bits b ≡ y)
-    → (IsEnv more known inputs bits env → aoi_values last bits c ≡ z)
+-- and a third after them
+pub third-value : (old mid more : List AoiNode) (g p h q : ℕ) (known inputs : Numbers) (bits : ℕ
+    → Bool) (env : List ℕ → Bool) (a b c : ℕ) (x y z : Bool) → Grows old mid g p
+    → Grows mid more h q → AreBelow known (length old) → (a < length mid) × (b < length mid)
+    → (IsEnv old known inputs bits env → (aoi_values mid bits a ≡ x) × (aoi_values mid bits b ≡ y))
+    → (IsEnv mid known inputs bits env → aoi_values more bits c ≡ z)
     → IsEnv old known inputs bits env
-    → (aoi_values last bits a ≡ x) × (aoi_values last bits b ≡ y) × (aoi_values last bits c ≡ z)
-three-values old mid more last g p h q i r known inputs bits env a b c x y z s t u below la lb va vb
-    vc e =
-    let two = two-values old mid more g p h q known inputs bits env a b x y s t below la va vb e in
-    let am : a < length more = omega (arith, grows-length mid more h q t) in (
-      grows-keeps more last i r bits a u am ∙ two.0,
-      grows-keeps more last i r bits b u lb ∙ two.1,
-      vc (env-stays old more (g + h) (p + q) known inputs bits env
-          (grows-then old mid more g p h q (g + h) (p + q) s t (omega arith) (omega arith)) below
-          e),
-    )
+    → (aoi_values more bits a ≡ x) × (aoi_values more bits b ≡ y) × (aoi_values more bits c ≡ z)
+third-value old mid more g p h q known inputs bits env a b c x y z s t below l two vc e = (
+  grows-keeps mid more h q bits a t l.0 ∙ (two e).0,
+  grows-keeps mid more h q bits b t l.1 ∙ (two e).1,
+  vc (env-stays old mid g p known inputs bits env s below e),
+)
 
 -- each input still has a number that the map holds
 pub held-more : (inputs : Numbers) (ns new : List AoiNode) (n : AoiNode) → new ≡ ns ++ n ∷ []

@@ -47,7 +47,36 @@ fn read(
     }
 }
 
+/// The nodes of two expressions, one after the other.
+#[cycle(expressions)]
+fn pair(
+    nodes: &mut Vec<AoiNode>,
+    known: &IndexMap<Name, u32>,
+    inputs: &IndexMap<Name, u8>,
+    a: &Expr,
+    b: &Expr,
+) -> Result<(u32, u32), NoMemory>
+    requires lower { AreLower nodes.old.items }
+    requires known { AreBelow known.now (length nodes.old.items) }
+    requires room { length nodes.old.items + 5 * (parts (term a.now) + parts (term b.now)) < 2 ^ 31 }
+    ensures grows { OnOk result (Grows nodes.old.items nodes.new.items (term_weight (term a.now)
+        + term_weight (term b.now)) (5 * (parts (term a.now) + parts (term b.now)))) }
+    ensures named { IfOk result (λ r. (r.0 < length nodes.new.items)
+        × (r.1 < length nodes.new.items)) }
+    ensures value { IfOk result (λ r. (bits : ℕ → Bool) (env : List ℕ → Bool)
+        → IsEnv nodes.old.items known.now inputs.now bits env
+        → (aoi_values nodes.new.items bits r.0 ≡ term_bit env (term a.now))
+        × (aoi_values nodes.new.items bits r.1 ≡ term_bit env (term b.now))) }
+    ensures held { IfOk result (λ _. AreHeld inputs.now nodes.old.items
+        → AreHeld inputs.now nodes.new.items) }
+{
+    let a = expression(nodes, known, inputs, a)?;
+    let b = expression(nodes, known, inputs, b)?;
+    Ok((a, b))
+}
+
 /// The node of an expression.
+#[cycle(expressions)]
 fn expression(
     nodes: &mut Vec<AoiNode>,
     known: &IndexMap<Name, u32>,
@@ -75,23 +104,19 @@ fn expression(
             gate(nodes, AoiNode::Not(a))
         }
         Expr::And(a, b) => {
-            let a = expression(nodes, known, inputs, a)?;
-            let b = expression(nodes, known, inputs, b)?;
+            let (a, b) = pair(nodes, known, inputs, a, b)?;
             gate(nodes, AoiNode::And(a, b))
         }
         Expr::Or(a, b) => {
-            let a = expression(nodes, known, inputs, a)?;
-            let b = expression(nodes, known, inputs, b)?;
+            let (a, b) = pair(nodes, known, inputs, a, b)?;
             gate(nodes, AoiNode::Or(a, b))
         }
         Expr::Xor(a, b) => {
-            let a = expression(nodes, known, inputs, a)?;
-            let b = expression(nodes, known, inputs, b)?;
+            let (a, b) = pair(nodes, known, inputs, a, b)?;
             xor(nodes, a, b)
         }
         Expr::Maj(a, b, c) => {
-            let a = expression(nodes, known, inputs, a)?;
-            let b = expression(nodes, known, inputs, b)?;
+            let (a, b) = pair(nodes, known, inputs, a, b)?;
             let c = expression(nodes, known, inputs, c)?;
             gate(nodes, AoiNode::Maj(a, b, c))
         }

@@ -8,4 +8,4 @@ mod numbers;
 
 pub use faults::{FileFault, fault, rule};
 pub use names::{NAME_BYTES, NAME_MAX, name_field, padded_name};
-pub use numbers::{bytes_at, u8_at, u16_at, u32_at};
+pub use numbers::{bytes_at, is_between, u8_at, u16_at, u32_at};

@@ -2,7 +2,7 @@
 
 ghost use Rattle.std.specs.Prelude.{◌≡◌, ◌+◌, ◌<◌, ◌≤◌, ◌^◌, length, IfOk, OnOk};
 ghost use Rattle.std.specs.Int.{w8, w16, w32};
-ghost use Rattle.file_fields.specs.Fields.{Gives, bytes_at as bytes_at_place, number_at};
+ghost use Rattle.file_fields.specs.Fields.{Gives, bytes_at as bytes_at_place, number_at, is_between};
 
 use crate::faults::{FileFault, fault};
 
@@ -58,4 +58,11 @@ pub fn u32_at<K: Copy>(bytes: &[u8], at: usize, short: K) -> Result<u32, FileFau
 {
     let field = bytes_at(bytes, at, 4, short)?;
     Ok(u32::from_le_bytes([field[0], field[1], field[2], field[3]]))
+}
+
+/// Whether a number is at least `low` and at most `high`.
+pub fn is_between(low: u32, high: u32, n: u32) -> bool
+    ensures { result ≡ is_between low high n }
+{
+    low <= n && n <= high
 }

@@ -19,7 +19,9 @@ use crate::sizes::{HEAD_BYTES, OBJECTS_MAX, RECORD_BYTES};
 use crate::table::{Object, Table};
 use bit_rows::WIDTH_MAX;
 use dram_model::Geometry;
-use file_fields::{NAME_MAX, bytes_at, fault, padded_name, rule, u8_at, u16_at, u32_at};
+use file_fields::{
+    NAME_MAX, bytes_at, fault, is_between, padded_name, rule, u8_at, u16_at, u32_at,
+};
 use std::alloc::Global;
 use text_lex::Name;
 
@@ -32,7 +34,7 @@ fn name_of(earlier: &Table, bytes: &[u8], at: usize) -> Result<Name, ImageFault>
     ensures within { OnOk result (at + 17 ≤ length bytes.now) }
 {
     let len = u8_at(bytes, at, ImageKind::Short)?;
-    rule((1..=16).contains(&len), at, ImageKind::Object)?;
+    rule(is_between(1, 16, u32::from(len)), at, ImageKind::Object)?;
     let field = bytes_at(bytes, at + 1, NAME_MAX, ImageKind::Short)?;
     let Some(name) = padded_name(len, field) else {
         return Err(fault(at + 1, ImageKind::Object));
@@ -52,7 +54,11 @@ fn place_of(g: Geometry, earlier: &Table, bytes: &[u8], at: usize) -> Result<(u8
     ensures within { OnOk result (at + 3 ≤ length bytes.now) }
 {
     let width = u8_at(bytes, at, ImageKind::Short)?;
-    rule((1..=WIDTH_MAX).contains(&width), at, ImageKind::Object)?;
+    rule(
+        is_between(1, u32::from(WIDTH_MAX), u32::from(width)),
+        at,
+        ImageKind::Object,
+    )?;
     let base = u16_at(bytes, at + 1, ImageKind::Short)?;
     let limit = u32::from(g.rows - Geometry::SPILL_ROWS);
     let end = u32::from(base) + u32::from(width);
@@ -76,7 +82,7 @@ fn count_of(g: Geometry, bytes: &[u8], at: usize) -> Result<u32, ImageFault>
 {
     let count = u32_at(bytes, at, ImageKind::Short)?;
     let columns = 64 * u32::from(g.words) * u32::from(g.banks);
-    rule((1..=columns).contains(&count), at, ImageKind::Object)?;
+    rule(is_between(1, columns, count), at, ImageKind::Object)?;
     Ok(count)
 }
 
@@ -111,9 +117,13 @@ pub fn read_geometry(bytes: &[u8], at: usize) -> Result<Geometry, ImageFault>
     ensures within { OnOk result (at + 6 ≤ length bytes.now) }
 {
     let banks = u16_at(bytes, at, ImageKind::Short)?;
-    rule((1..=16).contains(&banks), at, ImageKind::Geometry)?;
+    rule(is_between(1, 16, u32::from(banks)), at, ImageKind::Geometry)?;
     let rows = u16_at(bytes, at + 2, ImageKind::Short)?;
-    rule((64..=1006).contains(&rows), at + 2, ImageKind::Geometry)?;
+    rule(
+        is_between(64, 1006, u32::from(rows)),
+        at + 2,
+        ImageKind::Geometry,
+    )?;
     let words = u16_at(bytes, at + 4, ImageKind::Short)?;
     let g = Geometry { banks, rows, words };
     rule(g.check().is_ok(), at + 4, ImageKind::Geometry)?;

@@ -1,3 +1,4 @@
 mod Again
 mod Worked
 mod Short
+mod Sizes

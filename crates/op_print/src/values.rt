@@ -1,6 +1,6 @@
 //! Values and what they are set to, written.
 
-ghost use Rattle.std.specs.Prelude.{◌≡◌, ◌++◌, OnOk};
+ghost use Rattle.std.specs.Prelude.{◌≡◌, ◌++◌, OnOk, codes};
 ghost use Rattle.op_text.specs.Language.{term, equation};
 ghost use Rattle.op_print.specs.Canonical.{value_text, equation_text};
 
@@ -8,6 +8,19 @@ use crate::pieces::{put, put_comma};
 use no_memory::NoMemory;
 use op_text::{Assign, Expr};
 
+/// The last two arguments of a gate, with the parenthesis after them.
+#[cycle(values)]
+fn put_pair(out: &mut Vec<u8>, a: &Expr, b: &Expr) -> Result<(), NoMemory>
+    ensures { OnOk result (out.new.items ≡ out.old.items ++ value_text (term a.now) ++ codes ", "
+        ++ value_text (term b.now) ++ codes ")") }
+{
+    put_value(out, a)?;
+    put_comma(out)?;
+    put_value(out, b)?;
+    put(out, b")")
+}
+
+#[cycle(values)]
 fn put_value(out: &mut Vec<u8>, value: &Expr) -> Result<(), NoMemory>
     ensures { OnOk result (out.new.items ≡ out.old.items ++ value_text (term value.now)) }
 {
@@ -22,33 +35,21 @@ fn put_value(out: &mut Vec<u8>, value: &Expr) -> Result<(), NoMemory>
         }
         Expr::And(a, b) => {
             put(out, b"and(")?;
-            put_value(out, a)?;
-            put_comma(out)?;
-            put_value(out, b)?;
-            put(out, b")")
+            put_pair(out, a, b)
         }
         Expr::Or(a, b) => {
             put(out, b"or(")?;
-            put_value(out, a)?;
-            put_comma(out)?;
-            put_value(out, b)?;
-            put(out, b")")
+            put_pair(out, a, b)
         }
         Expr::Xor(a, b) => {
             put(out, b"xor(")?;
-            put_value(out, a)?;
-            put_comma(out)?;
-            put_value(out, b)?;
-            put(out, b")")
+            put_pair(out, a, b)
         }
         Expr::Maj(a, b, c) => {
             put(out, b"maj(")?;
             put_value(out, a)?;
             put_comma(out)?;
-            put_value(out, b)?;
-            put_comma(out)?;
-            put_value(out, c)?;
-            put(out, b")")
+            put_pair(out, b, c)
         }
     }
 }

@@ -12,7 +12,9 @@ ghost use Rattle.file_fields.specs.Fields.{Gives};
 use crate::fault::{ProgFault, ProgKind};
 use crate::sizes::{HEAD_BYTES, RECORD_BYTES};
 use arrayvec::ArrayVec;
-use file_fields::{NAME_MAX, bytes_at, fault, padded_name, rule, u8_at, u16_at, u32_at};
+use file_fields::{
+    NAME_MAX, bytes_at, fault, is_between, padded_name, rule, u8_at, u16_at, u32_at,
+};
 use text_lex::Name;
 use uprog_code::{Head, Kind};
 
@@ -63,7 +65,7 @@ fn name_of(earlier: &[Listed], bytes: &[u8], at: usize) -> Result<Name, ProgFaul
     ensures within { OnOk result (at + 17 ≤ length bytes.now) }
 {
     let len = u8_at(bytes, at, ProgKind::Short)?;
-    rule((1..=16).contains(&len), at, ProgKind::Directory)?;
+    rule(is_between(1, 16, u32::from(len)), at, ProgKind::Directory)?;
     let field = bytes_at(bytes, at + 1, NAME_MAX, ProgKind::Short)?;
     let Some(name) = padded_name(len, field) else {
         return Err(fault(at + 1, ProgKind::Directory));
@@ -140,7 +142,11 @@ fn head_of(version: u16, name: Name, bytes: &[u8], at: usize) -> Result<Head, Pr
     ensures within { OnOk result (at + 4 ≤ length bytes.now) }
 {
     let sources = u8_at(bytes, at, ProgKind::Short)?;
-    rule((1..=4).contains(&sources), at, ProgKind::Directory)?;
+    rule(
+        is_between(1, 4, u32::from(sources)),
+        at,
+        ProgKind::Directory,
+    )?;
     let kinds = u8_at(bytes, at + 1, ProgKind::Short)?;
     rule(
         is_kinds(version, sources, kinds),
