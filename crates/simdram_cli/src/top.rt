@@ -323,17 +323,19 @@ pub fn simdram<F: Folder, S: Sink, D: Dram>(
     ensures ends { OnCommand words.now (λ command. CommandEnds command
         (world (F.view files.old) (S.view out.old) (D.view chip.old))
         (world (F.view files.new) (S.view out.new) (D.view chip.new)) result) }
-    // Where its files are there and accepted and no count of faults rises, it is done, or memory
-    // was wanting.
+    // Where the folder tells its files, each that it loads is there, within its limit and accepted,
+    // and no count of faults rises, it answers a status of `done_statuses`, or memory was wanting.
     ensures complete { OnCommand words.now (λ command. Completes command
         (world (F.view files.old) (S.view out.old) (D.view chip.old))
         (world (F.view files.new) (S.view out.new) (D.view chip.new)) result) }
-    // Want of memory comes before anything is sent and before the chip has begun.
+    // Want of memory, but in a soak, comes before anything else is sent and before the chip has
+    // begun.
     ensures memory { OnCommand words.now (λ command. Spares command
         (world (F.view files.old) (S.view out.old) (D.view chip.old))
         (world (F.view files.new) (S.view out.new) (D.view chip.new)) result) }
-    // What it promises: of a run that ends with 0 or 8, one job with six promises; of an execution
-    // that does, the same row by row, and by every text that its program does.
+    // What it promises where the folder tells its files: of a run that ends with 0 or 8, one job
+    // with six promises; of an execution that does, the same row by row, and by every text that its
+    // program does.
     ensures headline { OnCommand words.now (λ command. Promises command
         (world (F.view files.old) (S.view out.old) (D.view chip.old))
         (world (F.view files.new) (S.view out.new) (D.view chip.new)) result) }
