@@ -14,11 +14,26 @@ use no_memory::keep;
 use std::alloc::Global;
 use std::mem;
 
-/// How many states go on from a step at most, beside one that needs no cell.
-const WIDTH: usize = 5;
+/// How far a beam looks.
+#[derive(Clone, Copy)]
+pub struct Breadth {
+    /// How many states go on from a step at most, beside one that needs no cell.
+    width: usize,
+    /// How many states are tried for a body, about.
+    most_states: usize,
+}
 
-/// How many states are tried for a body, about.
-const MOST_STATES: usize = 7_000;
+/// Serves most bodies best.
+pub const WIDE: Breadth = Breadth {
+    width: 5,
+    most_states: 7_000,
+};
+
+/// Comes to the end of bodies of many nodes, for which the wide one has too few states.
+pub const NARROW: Breadth = Breadth {
+    width: 2,
+    most_states: 2_000,
+};
 
 /// A step of fewer states than this for each that goes on lets fewer go on.
 const FEW_STATES: usize = 30;
@@ -132,6 +147,7 @@ struct Beam {
     after: Bucket,
     ways: Vec<Way>,
     ends: Vec<Way>,
+    breadth: Breadth,
     width: usize,
     tried: usize,
 }
@@ -145,6 +161,7 @@ impl Drop for Beam {
             after: _,
             ways: _,
             ends: _,
+            breadth: _,
             width: _,
             tried: _,
         } = self;
@@ -192,7 +209,7 @@ fn candidates(task: &Task, s: &State, alloc: Global) -> Result<Vec<Candidate>, N
 
 impl Beam {
     /// The state before any step.
-    fn new(task: &Task, alloc: Global) -> Result<Beam, NoMemory> {
+    fn new(task: &Task, breadth: Breadth, alloc: Global) -> Result<Beam, NoMemory> {
         let mut beam = Beam {
             done: Vec::new(alloc),
             now: Bucket::new(alloc),
@@ -200,7 +217,8 @@ impl Beam {
             after: Bucket::new(alloc),
             ways: Vec::new(alloc),
             ends: Vec::new(alloc),
-            width: WIDTH,
+            breadth,
+            width: breadth.width,
             tried: 0,
         };
         let start = Entry {
@@ -210,7 +228,7 @@ impl Beam {
             from: None,
             cmds: Commands::new(),
         };
-        beam.now.offer(task, start, WIDTH)?;
+        beam.now.offer(task, start, breadth.width)?;
         Ok(beam)
     }
 
@@ -349,8 +367,8 @@ impl Beam {
     /// One step from each state that stands, within its share of the states that may be tried.
     fn step(&mut self, task: &Task, left: usize, alloc: Global) -> Result<(), NoMemory> {
         let now = mem::replace(&mut self.now, Bucket::new(alloc));
-        let states = MOST_STATES.saturating_sub(self.tried) / usize::max(left, 1);
-        self.width = usize::min(states / FEW_STATES, WIDTH);
+        let states = self.breadth.most_states.saturating_sub(self.tried) / usize::max(left, 1);
+        self.width = usize::min(states / FEW_STATES, self.breadth.width);
         let share = states / usize::max(now.kept.len(), 1);
         for entry in &now.kept {
             self.go_on(task, entry, share, alloc)?;
@@ -389,9 +407,14 @@ fn push_back(cmds: &mut Vec<BodyCmd>, step: &Commands) -> Result<(), NoMemory> {
 }
 
 /// Commands for the body, or none where the search finds none.
-pub fn beam_body(m: &Mig, outs: &[OutRow], alloc: Global) -> Result<Vec<BodyCmd>, NoMemory> {
+pub fn beam_body(
+    m: &Mig,
+    outs: &[OutRow],
+    breadth: Breadth,
+    alloc: Global,
+) -> Result<Vec<BodyCmd>, NoMemory> {
     let task = Task::new(m, outs, alloc)?;
-    let mut beam = Beam::new(&task, alloc)?;
+    let mut beam = Beam::new(&task, breadth, alloc)?;
     let steps = task.start().left();
     for done in 0..steps {
         beam.step(&task, (steps - done) as usize, alloc)?;

@@ -12,7 +12,7 @@ ghost use Rattle.row_alloc.specs.declared.body.BodyCmd.TheVariants.{Aap};
 ghost use Rattle.row_alloc.specs.Known.{Serves, IsFirst, known, known_at, WordBody, graph_in};
 ghost use Rattle.row_alloc.specs.Known.{outs_in, sequence_for};
 
-use crate::beam::beam_body;
+use crate::beam::{Breadth, NARROW, WIDE, beam_body};
 use crate::body::{BodyCmd, OutRow};
 use crate::check::check_body;
 use crate::known::KNOWN;
@@ -69,7 +69,30 @@ fn copied(cmds: &[BodyCmd], alloc: Global) -> Result<Vec<BodyCmd>, NoMemory>
     Ok(cmds.to_vec(alloc)?)
 }
 
-/// The commands of the beam, where they are right and no more than these.
+/// The commands of a beam, where they are right and no more than these.
+fn shorter_of(
+    m: &Mig,
+    outs: &[OutRow],
+    plain: Vec<BodyCmd>,
+    breadth: Breadth,
+    alloc: Global,
+) -> Result<Vec<BodyCmd>, NoMemory>
+    requires fit { FitBody m.now outs.now }
+    requires does { DoesBody m.now outs.now plain.items }
+    requires late { WritesLate outs.now plain.items }
+    ensures does { IfOk result (λ cmds. DoesBody m.now outs.now cmds.items) }
+    ensures late { IfOk result (λ cmds. WritesLate outs.now cmds.items) }
+    ensures few { IfOk result (λ cmds. length cmds.items ≤ length plain.items) }
+{
+    let cmds = beam_body(m, outs, breadth, alloc)?;
+    if cmds.len() <= plain.len() && serves(m, outs, &cmds) {
+        Ok(cmds)
+    } else {
+        Ok(plain)
+    }
+}
+
+/// The commands of the beam that finds fewer, where they are right and no more than these.
 fn shorter(
     m: &Mig,
     outs: &[OutRow],
@@ -83,20 +106,16 @@ fn shorter(
     ensures late { IfOk result (λ cmds. WritesLate outs.now cmds.items) }
     ensures few { IfOk result (λ cmds. length cmds.items ≤ length plain.items) }
 {
-    let cmds = beam_body(m, outs, alloc)?;
-    if cmds.len() <= plain.len() && serves(m, outs, &cmds) {
-        Ok(cmds)
-    } else {
-        Ok(plain)
-    }
+    let few = shorter_of(m, outs, plain, NARROW, alloc)?;
+    shorter_of(m, outs, few, WIDE, alloc)
 }
 
 /// The commands that leave each output's value in its row, kept in the bitwise cells between the
 /// nodes.
 ///
 /// A copy stays one. Else the first sequence of the table that the symbolic run finds right stands
-/// for the body. Where there is none, the commands that a beam finds are tried, and else the plain
-/// body stands.
+/// for the body. Where there is none, the commands that two beams find are tried, the fewer taken,
+/// and else the plain body stands.
 ///
 /// The row of an input that is an output too is written after the last command that reads it. The
 /// B cells and the spill rows may hold anything at entry, and are left with anything. Only want of

@@ -12,20 +12,20 @@ pub const NOT: [BodyCmd; 2] = [Aap(In(0), B(5)), Aap(B(4), Out(0))];
 /// A state is put down, and the next bit is taken up.
 pub const SHIFT: [BodyCmd; 2] = [Aap(In(1), Out(0)), Aap(In(0), Out(1))];
 
-/// a and b.
+/// a and b: the majority of a, b and 0.
 pub const AND: [BodyCmd; 4] = [
-    Aap(C(0), B(8)),
-    Aap(In(0), B(6)),
-    Aap(In(1), B(13)),
-    Aap(B(15), Out(0)),
+    Aap(In(0), B(0)),
+    Aap(In(1), B(1)),
+    Aap(C(0), B(2)),
+    Aap(B(12), Out(0)),
 ];
 
-/// a or b.
+/// a or b: the majority of a, b and 1.
 pub const OR: [BodyCmd; 4] = [
-    Aap(C(0), B(8)),
-    Aap(In(0), B(9)),
-    Aap(In(1), B(10)),
-    Aap(B(14), Out(0)),
+    Aap(In(0), B(0)),
+    Aap(In(1), B(1)),
+    Aap(C(1), B(2)),
+    Aap(B(12), Out(0)),
 ];
 
 /// a and not b.

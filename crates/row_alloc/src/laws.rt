@@ -1,11 +1,13 @@
 //! What is true of all bodies, for those who prove things of their use.
 
-ghost use Rattle.std.specs.Prelude.{◌≡◌, ℕ, List, map, length, true};
+ghost use Rattle.std.specs.Prelude.{◌≡◌, ◌∷◌, [], ℕ, List, map, length, true};
 ghost use Rattle.std.specs.List.{list_all};
 ghost use Rattle.dram_model.specs.Column.{is_legal as is_legal_command};
 ghost use Rattle.mig_graph.specs.Graph.{Graph};
 ghost use Rattle.row_alloc.specs.declared.body.OutRow.{OutRow};
 ghost use Rattle.row_alloc.specs.declared.body.BodyCmd.{BodyCmd};
+ghost use Rattle.row_alloc.specs.declared.body.BodyCmd.TheVariants.{Aap, Ap};
+ghost use Rattle.row_alloc.specs.declared.body.BodyRef.TheVariants.{B, C, In, Out};
 ghost use Rattle.row_alloc.specs.Rows.{Rows, AreApart, bound, out_at};
 ghost use Rattle.row_alloc.specs.declared.known.TheConstants.{NOT, AND, OR, XOR, ADD};
 ghost use Rattle.row_alloc.specs.Known.{Serves, plain, complemented, not_graph, and_graph};
@@ -31,7 +33,7 @@ pub fn legal_bodies_are_legal_on_banks()
 {}
 
 /// The known sequences for the bodies of `not`, `and`, `or`, `xor` and `add` serve, in whichever
-/// inputs' rows the outputs stand. Their numbers of commands are 2, 4, 4, 7 and 9.
+/// inputs' rows the outputs stand; and these are their commands, 2, 4, 4, 7 and 9 of them.
 pub fn fixed_sequences_serve()
     ensures inverts { (outs : List OutRow) → FitBody not_graph outs → length outs ≡ 1
         → (out_at outs 0).lit ≡ complemented 1 → Serves not_graph outs NOT }
@@ -44,8 +46,16 @@ pub fn fixed_sequences_serve()
     ensures adds { (outs : List OutRow) → FitBody add_graph outs → length outs ≡ 2
         → (out_at outs 0).lit ≡ plain 6 → (out_at outs 1).lit ≡ plain 4
         → Serves add_graph outs ADD }
-    ensures lengths { (length NOT ≡ 2) × (length AND ≡ 4) × (length OR ≡ 4) × (length XOR ≡ 7)
-        × (length ADD ≡ 9) }
+    ensures inverting { NOT ≡ Aap (In 0) (B 5) ∷ Aap (B 4) (Out 0) ∷ [] }
+    ensures joining { AND ≡ Aap (In 0) (B 0) ∷ Aap (In 1) (B 1) ∷ Aap (C 0) (B 2)
+        ∷ Aap (B 12) (Out 0) ∷ [] }
+    ensures choosing { OR ≡ Aap (In 0) (B 0) ∷ Aap (In 1) (B 1) ∷ Aap (C 1) (B 2)
+        ∷ Aap (B 12) (Out 0) ∷ [] }
+    ensures differing { XOR ≡ Aap (In 0) (B 8) ∷ Aap (In 1) (B 9) ∷ Aap (C 0) (B 10)
+        ∷ Ap (B 14) ∷ Ap (B 15) ∷ Aap (C 1) (B 2) ∷ Aap (B 12) (Out 0) ∷ [] }
+    ensures adding { ADD ≡ Aap (In 0) (B 10) ∷ Aap (In 1) (B 1) ∷ Aap (In 2) (B 8)
+        ∷ Ap (B 14) ∷ Aap (In 1) (B 6) ∷ Aap (B 15) (B 5) ∷ Aap (In 2) (B 2)
+        ∷ Aap (B 14) (Out 0) ∷ Aap (B 0) (Out 1) ∷ [] }
 {}
 
 /// Each body of the word operations has a known sequence that is the first to serve it, in
