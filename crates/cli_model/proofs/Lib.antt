@@ -2,3 +2,12 @@ pub mod Going
 pub mod Causing
 pub mod Ending
 pub mod Statuses
+pub mod Files
+pub mod Owed
+pub mod Running
+pub mod Doing
+pub mod Giving
+pub mod Delivers
+pub mod Delivering
+pub mod Good
+pub mod Sparing

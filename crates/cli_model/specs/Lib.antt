@@ -5,4 +5,8 @@ pub mod Stands
 pub mod Status
 pub mod Foreseen
 pub mod Ends
+pub mod Faultless
+pub mod Plan
+pub mod Runs
+pub mod Reads
 pub mod Laws
