@@ -74,3 +74,16 @@ pub headed-off : (xs ys : List ℕ) (n k : ℕ) → length ys ≡ n → n ≤ k
 unfolding headed
 headed-off xs ys n k e h = get_or-append_right ys (drop n xs) n k 0 e h ∙ get_or-drop n xs (k - n) 0
     ∙ ap (λ m. get_or xs m 0) (omega arith)
+
+-- the words of a row in a list's first part, and at the start of its second
+pub read-front : (all low rest : List ℕ) (a b n q : ℕ) → all ≡ low ++ rest → length low ≡ b
+    → a + n ≤ b → q < n → get_or (take (a + n - a) (drop a low)) q 0 ≡ get_or all (a + q) 0
+read-front all low rest a b n q e l f h =
+    get_or-take (a + n - a) (drop a low) q 0 (omega arith) ∙ get_or-drop a low q 0
+    ∙ sym (get_or_append_left low rest 0 (a + q) (omega arith))
+    ∙ ap (λ xs. get_or xs (a + q) 0) (sym e)
+
+pub read-back : (all low rest : List ℕ) (b n q : ℕ) → all ≡ low ++ rest → length low ≡ b → q < n
+    → get_or (take n rest) q 0 ≡ get_or all (b + q) 0
+read-back all low rest b n q e l h =
+    get_or-take n rest q 0 h ∙ sym (past low rest b q l) ∙ ap (λ xs. get_or xs (b + q) 0) (sym e)

@@ -8,7 +8,7 @@ use mathlib.Core.Logic.{◌⊎◌}
 use borrow.Rule.Slice.PartMut.{post_of}
 use Rattle.bit_rows.specs.Bits.{bit_at, word_bit, majority}
 use Rattle.dram_chip.proofs.Placed.{past, alike, placed, length-placed, placed-at, placed-off}
-use Rattle.dram_chip.proofs.Placed.{headed, length-headed, headed-at, headed-off}
+use Rattle.dram_chip.proofs.Placed.{headed, length-headed, headed-at, headed-off, read-front}
 use Rattle.dram_chip.proofs.rows.settle_rows.Goals as goal
 
 -- three rows of a list
@@ -86,14 +86,7 @@ three-off low mid high A B C a b c n k r oa ob oc =
     (λ i f. headed-off high C n i r.c_length (beyond k c n i
     (omega (arith, e, f, front, middle, r.low_length, r.mid_length, r.next)) oc)))
 
--- the words of the three rows as they were
-was-a : (all low mid high rest : List ℕ) (a b n q : ℕ) → all ≡ low ++ rest → length low ≡ b
-    → a + n ≤ b → q < n → get_or (take (a + n - a) (drop a low)) q 0 ≡ get_or all (a + q) 0
-was-a all low mid high rest a b n q e l f h =
-    get_or-take (a + n - a) (drop a low) q 0 (omega arith) ∙ get_or-drop a low q 0
-    ∙ sym (get_or_append_left low rest 0 (a + q) (omega arith))
-    ∙ ap (λ xs. get_or xs (a + q) 0) (sym e)
-
+-- the words of the other two rows as they were
 was-b : (all low mid high rest : List ℕ) (b c n q : ℕ) → all ≡ low ++ rest → rest ≡ mid ++ high
     → length low ≡ b → length mid ≡ c - b → b + n ≤ c → q < n
     → get_or (take n mid) q 0 ≡ get_or all (b + q) 0
@@ -138,7 +131,7 @@ settled-a : (all low rest mid high A B C : List ℕ) (a b c n q r : ℕ)
 settled-a all low rest mid high A B C a b c n q r s h =
     majority-of _ (get_or A q 0) _ _ _ _ _ _ r (three-a low mid high A B C a b c n q s.rows h)
     (s.bits q r h)
-    (was-a all low mid high rest a b n q s.first s.rows.low_length s.rows.fits h)
+    (read-front all low rest a b n q s.first s.rows.low_length s.rows.fits h)
     (was-b all low mid high rest b c n q s.first s.second s.rows.low_length s.rows.mid_length
     s.rows.next h)
     (was-c all low mid high rest b c n q s.first s.second s.rows.low_length s.rows.mid_length
@@ -151,7 +144,7 @@ settled-b : (all low rest mid high A B C : List ℕ) (a b c n q r : ℕ)
 settled-b all low rest mid high A B C a b c n q r s h =
     majority-of _ (get_or A q 0) _ _ _ _ _ _ r (three-b low mid high A B C a b c n q s.rows h
     ∙ ap (λ xs. get_or xs q 0) s.b_same) (s.bits q r h)
-    (was-a all low mid high rest a b n q s.first s.rows.low_length s.rows.fits h)
+    (read-front all low rest a b n q s.first s.rows.low_length s.rows.fits h)
     (was-b all low mid high rest b c n q s.first s.second s.rows.low_length s.rows.mid_length
     s.rows.next h)
     (was-c all low mid high rest b c n q s.first s.second s.rows.low_length s.rows.mid_length
@@ -164,7 +157,7 @@ settled-c : (all low rest mid high A B C : List ℕ) (a b c n q r : ℕ)
 settled-c all low rest mid high A B C a b c n q r s h =
     majority-of _ (get_or A q 0) _ _ _ _ _ _ r (three-c low mid high A B C a b c n q s.rows h
     ∙ ap (λ xs. get_or xs q 0) s.c_same) (s.bits q r h)
-    (was-a all low mid high rest a b n q s.first s.rows.low_length s.rows.fits h)
+    (read-front all low rest a b n q s.first s.rows.low_length s.rows.fits h)
     (was-b all low mid high rest b c n q s.first s.second s.rows.low_length s.rows.mid_length
     s.rows.next h)
     (was-c all low mid high rest b c n q s.first s.second s.rows.low_length s.rows.mid_length

@@ -33,6 +33,23 @@ on_err : {T E : Type 0} (r : Result T E) {P : Type 0} → P → OnErr r P
 on_err (Ok x) p = tt
 on_err (Err e) p = p
 
+pub do_command-requires-clause-begun : goal.do_command-requires-clause-begun
+do_command-requires-clause-begun g c = c.loop-g.invariant.kept.begun ∙ c.requires.begun
+
+pub returns-in_err-do_command-clause-borrow : goal.returns-in_err-do_command-clause-borrow
+returns-in_err-do_command-clause-borrow g c =
+    c.in_err-do_command.ensures.borrow ∙ c.loop-g.invariant.borrow
+
+pub returns-in_err-do_command-clause-kept : goal.returns-in_err-do_command-clause-kept
+returns-in_err-do_command-clause-kept g c =
+    Kept-more _ _ _ c.loop-g.invariant.kept c.in_err-do_command.ensures.kept
+
+pub returns-clause-borrow : goal.returns-clause-borrow
+returns-clause-borrow g c = c.loop-g.invariant.borrow
+
+pub returns-clause-kept : goal.returns-clause-kept
+returns-clause-kept g c = c.loop-g.invariant.kept
+
 pub loop-g-init : goal.loop-g-init
 loop-g-init g c =
     let first = g.D.Dram.view c.args.dram.now in
