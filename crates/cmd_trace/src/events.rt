@@ -17,7 +17,7 @@ use file_fields::{bytes_at, fault, rule};
 use trace_model::{TraceFault, TraceKind};
 
 /// An event without the bits of a row that it writes.
-#[derive(Clone, Copy, PartialEq, Eq)]
+#[derive(Clone, Copy)]
 pub(crate) enum Head {
     Row(u8, Command),
     Write(u8, u16),
@@ -138,14 +138,16 @@ fn head_of_field(g: Geometry, field: &[u8]) -> Option<Head>
     requires { length field.now ≡ 8 }
     ensures { option_map head_of result ≡ head_in g field.now }
 {
-    let bank = field[1];
-    if u16::from(bank) >= g.banks {
+    let [kind, bank, xg, xl, xh, yg, yl, yh] = field else {
+        unreachable!();
+    };
+    if u16::from(*bank) >= g.banks {
         return None;
     }
-    let x = address_of(g.rows, field[2], u16::from_le_bytes([field[3], field[4]]));
-    let y = address_of(g.rows, field[5], u16::from_le_bytes([field[6], field[7]]));
-    let blank = field[5] == 0 && field[6] == 0 && field[7] == 0;
-    of_kind(field[0], bank, x, y, blank)
+    let x = address_of(g.rows, *xg, u16::from_le_bytes([*xl, *xh]));
+    let y = address_of(g.rows, *yg, u16::from_le_bytes([*yl, *yh]));
+    let blank = *yg == 0 && *yl == 0 && *yh == 0;
+    of_kind(*kind, *bank, x, y, blank)
 }
 
 /// Whether the address names rows of a bank.

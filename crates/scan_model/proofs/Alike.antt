@@ -9,18 +9,22 @@ use Rattle.dram_model.specs.declared.geometry.Geometry.{Geometry}
 use Rattle.uprog_code.specs.declared.walker.Counts.{Counts}
 use Rattle.uprog_code.specs.Shape.{Shape, Microprogram, need, results}
 use Rattle.uprog_code.specs.Machine.{HasEnded, trace}
+use Rattle.uprog_code.specs.Count.{counts_of}
 use Rattle.uprog_code.specs.Texts.{TextOp, EntryDoes, ImplementsAll}
 use Rattle.object_alloc.specs.Free.{free}
 use Rattle.object_alloc.specs.Listed.{Named, limit_of, objects_of}
 use Rattle.bbop_isa.specs.Forms.{Instruction}
 use Rattle.bbop_isa.specs.Forms.{Init, Bbop, Load, Fill, Print, Free, Order}
+use Rattle.machine_model.specs.declared.Reply.{Reply}
 use Rattle.machine_model.specs.declared.Why.{Why}
 use Rattle.machine_model.specs.declared.Why.TheVariants as why
 use Rattle.machine_model.specs.Routines.{Program, Routine, Routines, entry_named, routines_of}
+use Rattle.machine_model.specs.Columns.{segments}
 use Rattle.machine_model.specs.Routines.{text_op_named, trace_of}
 use Rattle.machine_model.specs.Refusals.{bbop_refusal, first, operand_conditions, refusal}
-use Rattle.machine_model.specs.Refusals.{walks_badly, when}
-use Rattle.machine_model.specs.Steps.{if_done, table_after, tabled}
+use Rattle.machine_model.specs.Refusals.{object_named, walks_badly, when}
+use Rattle.machine_model.specs.Steps.{counts_for, if_done, issues_at, reply_by, reply_to}
+use Rattle.machine_model.specs.Steps.{table_after, tabled, times}
 use Rattle.machine_model.specs.Script.{replies, sum_of, table_at_end}
 use Rattle.machine_model.specs.Agrees.{IsPlain}
 use Rattle.machine_model.proofs.Texts.{Matched, both, matched}
@@ -31,7 +35,7 @@ use Rattle.scan_model.specs.Instructions.{count_of, node_instructions, script_fr
 use Rattle.scan_model.specs.Checks.{checked, or_else, or_later, refused_from, refused_in}
 use Rattle.scan_model.specs.Operations.{scan_text}
 use Rattle.scan_model.specs.Laws.{scan_refused}
-use Rattle.scan_model.specs.Answers.{Found, ScansAnswerAlike, answer, by_checks, by_run}
+use Rattle.scan_model.specs.Answers.{Found, ScansAnswerAlike, ScansAnswerTheSame, answer, by_checks, by_run}
 use Rattle.scan_model.specs.Answers.{found_in, query_count, query_script, uncounted}
 use Rattle.scan_model.proofs.Answered.{scan_is_plain}
 use Rattle.scan_model.proofs.Meant.{ended}
@@ -182,3 +186,65 @@ scans_answer_alike g p other banks table q i j all =
     (scan_refused g a table q) (scan_refused g b table q)
     (λ checks. nodes_alike g a b table table (free_name table) (count_of table (nodes_of q)) 0
     (nodes_of q) (scans_alike p other i j) (scan_is_plain g table q all checks))
+
+-- ---- where the operations take as many commands
+
+abbrev SameCosts : Routines → Routines → Type 0
+SameCosts a b = (name : List ℕ) (n : ℕ) → 0 < n → n ≤ WIDTH_MAX
+    → counts_of (issues_at (a name) n) ≡ counts_of (issues_at (b name) n)
+
+counts_same : (g : Geometry) (a b : Routines) (table : List Named) (instr : Instruction)
+    → SameCosts a b → IsPlain instr → counts_for g a table instr ≡ counts_for g b table instr
+counts_same g a b table (Init name count n) costs plain = refl
+counts_same g a b table (Bbop op dst srcs count n) costs plain =
+    ap (times (segments g (object_named table dst))) (costs op n plain.0 plain.1)
+counts_same g a b table (Load name values) costs plain = refl
+counts_same g a b table (Fill name value) costs plain = refl
+counts_same g a b table (Print name) costs plain = refl
+counts_same g a b table (Free name) costs plain = refl
+counts_same g a b table (Order order) costs plain = refl
+
+reply_same : (g : Geometry) (a b : Routines) (table : List Named) (instr : Instruction)
+    → Alike a b → SameCosts a b → IsPlain instr
+    → reply_to g a table instr ≡ reply_to g b table instr
+reply_same g a b table instr same costs plain =
+    ap (λ (r : Option Why). reply_by r (counts_for g a table instr))
+    (refusal_alike g a b table instr same plain)
+    ∙ ap (reply_by (refusal g b table instr)) (counts_same g a b table instr costs plain)
+
+replies_same : (g : Geometry) (a b : Routines) (table : List Named) (script : List Instruction)
+    → Alike a b → SameCosts a b → AllByRecursion IsPlain script
+    → replies g a table script ≡ replies g b table script
+replies_same g a b table [] same costs plain = refl
+replies_same g a b table (instr ∷ script) same costs plain =
+    ap (λ (r : Reply). r ∷ replies g a (table_after g a table instr) script)
+    (reply_same g a b table instr same costs plain.0)
+    ∙ ap (λ (t : List Named). reply_to g b table instr ∷ replies g a t script)
+    (after_alike g a b table instr same plain.0)
+    ∙ ap (λ (rs : List Reply). reply_to g b table instr ∷ rs)
+    (replies_same g a b (table_after g b table instr) script same costs plain.1)
+
+same_case : (found of : ℕ) (x y : Counts) (c : Option (ScanWhy × ℕ)) (r s : Option (Why × ℕ))
+    → (c ≡ None → (r ≡ s) × (x ≡ y))
+    → by_checks c (by_run r (Found found of x)) ≡ by_checks c (by_run s (Found found of y))
+same_case found of x y (Some reason) r s same = refl
+same_case found of x y None r s same =
+    let both = same refl in
+    ap (λ (t : Option (Why × ℕ)). by_run t (Found found of x)) both.0
+    ∙ ap (λ (k : Counts). by_run s (Found found of k)) both.1
+
+pub scans_answer_the_same : ScansAnswerTheSame
+unfolding answer
+scans_answer_the_same g p other banks table q i j costs all =
+    let a = routines_of scan_text p in
+    let b = routines_of scan_text other in
+    let alike = scans_alike p other i j in
+    same_case (found_in g banks table q) (query_count table q)
+    (sum_of (replies g a table (query_script table q)))
+    (sum_of (replies g b table (query_script table q))) (checked table (nodes_of q))
+    (scan_refused g a table q) (scan_refused g b table q)
+    (λ checks. let plain = scan_is_plain g table q all checks in (
+      nodes_alike g a b table table (free_name table) (count_of table (nodes_of q)) 0
+          (nodes_of q) alike plain,
+      ap sum_of (replies_same g a b table (query_script table q) alike costs plain),
+    ))

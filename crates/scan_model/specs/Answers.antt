@@ -2,10 +2,12 @@
 use Rattle.std.specs.Prelude.{◌≡◌, ℕ, ◌<◌, ◌≤◌, ◌==◌, List, [], ◌∷◌, ◌++◌, take, length, count_by}
 use Rattle.std.specs.Prelude.{All, Option, Some, None, slice_index}
 use Rattle.std.specs.List.{range_with_len, AllByRecursion}
+use Rattle.bit_rows.specs.declared.TheConstants.{WIDTH_MAX}
 use Rattle.dram_model.specs.declared.geometry.Geometry.{Geometry}
 use Rattle.dram_model.specs.Elements.{column_count}
 use Rattle.dram_model.specs.Chip.{Banks}
 use Rattle.uprog_code.specs.declared.walker.Counts.{Counts}
+use Rattle.uprog_code.specs.Count.{counts_of}
 use Rattle.uprog_code.specs.Texts.{ImplementsAll}
 use Rattle.object_alloc.specs.declared.table.Object.{Object}
 use Rattle.object_alloc.specs.Listed.{Named, IsTable, limit_of}
@@ -16,6 +18,7 @@ use Rattle.machine_model.specs.declared.Why.TheVariants as why
 use Rattle.machine_model.specs.Columns.{columns}
 use Rattle.machine_model.specs.Routines.{Program, Routines, routines_of}
 use Rattle.machine_model.specs.Refusals.{object_named}
+use Rattle.machine_model.specs.Steps.{issues_at}
 use Rattle.machine_model.specs.Script.{replies, sum_of, table_at_end, banks_at_end}
 use Rattle.scan_model.specs.declared.ScanWhy.{ScanWhy}
 use Rattle.scan_model.specs.declared.ScanWhy.TheVariants as scan
@@ -106,3 +109,18 @@ ScansAnswerAlike =
     → All (λ named. IsObject g named.1) table
     → uncounted (answer g (routines_of scan_text p) banks table q)
     ≡ uncounted (answer g (routines_of scan_text other) banks table q)
+
+-- of each operation of scans the two programs take as many commands, at each width
+abbrev pub CostTheSame : Program → Program → Type 0
+CostTheSame p other = (name : List ℕ) (n : ℕ) → 0 < n → n ≤ WIDTH_MAX
+    → counts_of (issues_at (routines_of scan_text p name) n)
+    ≡ counts_of (issues_at (routines_of scan_text other name) n)
+
+-- and such programs give the same answer
+abbrev pub ScansAnswerTheSame : Type 0
+ScansAnswerTheSame =
+    (g : Geometry) (p other : Program) (banks : Banks) (table : List Named) (q : Query)
+    → ImplementsAll p scan_text → ImplementsAll other scan_text → CostTheSame p other
+    → All (λ named. IsObject g named.1) table
+    → answer g (routines_of scan_text p) banks table q
+    ≡ answer g (routines_of scan_text other) banks table q

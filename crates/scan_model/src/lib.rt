@@ -2,7 +2,7 @@
 //! do.
 #![tactic(auto)]
 
-ghost use Rattle.scan_model.specs.Answers.{ScansAnswer, ScansAnswerAlike};
+ghost use Rattle.scan_model.specs.Answers.{ScansAnswer, ScansAnswerAlike, ScansAnswerTheSame};
 ghost use Rattle.scan_model.specs.Laws.{ScanLaws};
 ghost use Rattle.scan_model.specs.TextLaws.{QueryTextLaws};
 
@@ -62,8 +62,10 @@ pub fn texts_spell_queries()
 {}
 
 /// A scan that is done leaves one object whose ones are the elements that the query holds of. But
-/// for how many commands it takes, its answer is that of each program that does its operations.
+/// for how many commands it takes, its answer is that of each program that does its operations; and
+/// it is the whole answer of each that does them by as many commands.
 pub fn scans_answer()
     ensures answer { ScansAnswer }
     ensures alike { ScansAnswerAlike }
+    ensures same { ScansAnswerTheSame }
 {}
