@@ -1,6 +1,9 @@
 -- Lists that are read part by part.
 use Rattle.std.proofs.Common.{◌≡◌, ℕ, ◌≤◌, List, [], ◌∷◌, ◌++◌, map, length, refl, sym, ap, ◌∙◌}
-use Rattle.std.proofs.Common.{codes, arith, length-append}
+use Rattle.std.proofs.Common.{codes, arith, append_assoc, append-nil, length-append, ◌+◌, ◌<◌}
+use Rattle.std.proofs.Common.{take, get_or, filter, cond, Bool, true, false}
+use Rattle.std.proofs.lemmas.List.Elements.{filter-append}
+use Rattle.std.proofs.lemmas.List.{take_more, map-append}
 use Rattle.op_text.specs.declared.grammar.Wanted.{Wanted}
 use Rattle.op_text.specs.Spelling.{after_commas, between_commas, in_turn}
 use Rattle.op_lang.specs.Reading.{ParserView, breach, left}
@@ -67,3 +70,40 @@ next_turn front wanted next spell f start old xs mid ys x new h moves spells e =
   spells = h.spells ∙ ap (in_turn spell (map f xs)) spells ∙ sym (turn-more spell f xs x (left new))
       ∙ ap (λ l. in_turn spell (map f l) (left new)) (sym e);
 }
+
+-- one item more of a list
+pub taken-more : {A : Type 0} (xs : List A) (i : ℕ) (x : A) → i < length xs → x ≡ get_or xs i x
+    → take (i + 1) xs ≡ take i xs ++ x ∷ []
+taken-more xs i x l e = take_more xs i x l ∙ ap (λ y. take i xs ++ y ∷ []) (sym e)
+
+pub mapped-more : {A B : Type 0} (f : A → B) (xs : List A) (i : ℕ) (x : A) → i < length xs
+    → x ≡ get_or xs i x → map f (take (i + 1) xs) ≡ map f (take i xs) ++ f x ∷ []
+mapped-more f xs i x l e = ap (map f) (taken-more xs i x l e) ∙ map-append f (take i xs) (x ∷ [])
+
+-- a list to which one item more was added
+pub added-more : {A : Type 0} (start front longer old new : List A) (x y : A)
+    → old ≡ start ++ front → new ≡ old ++ y ∷ [] → y ≡ x → longer ≡ front ++ x ∷ []
+    → new ≡ start ++ longer
+added-more start front longer old new x y p q e l = q ∙ ap (λ (ys : List _). ys ++ y ∷ []) p
+    ∙ append_assoc start front (y ∷ []) ∙ ap (λ z. start ++ (front ++ z ∷ [])) e
+    ∙ ap (λ (ys : List _). start ++ ys) (sym l)
+
+filtered-more : {A : Type 0} (p : A → Bool) (xs : List A) (i : ℕ) (x : A) (b : Bool)
+    → i < length xs → x ≡ get_or xs i x → p x ≡ b
+    → filter p (take (i + 1) xs) ≡ filter p (take i xs) ++ cond b (x ∷ []) []
+filtered-more p xs i x b l e h = ap (filter p) (taken-more xs i x l e)
+    ∙ filter-append p (take i xs) (x ∷ [])
+    ∙ ap (λ (c : Bool). filter p (take i xs) ++ cond c (x ∷ []) []) h
+
+-- the items that pass a test, and one more, which passes it or not
+pub passed-more : {A : Type 0} (p : A → Bool) (xs old new : List A) (i : ℕ) (x y : A)
+    → old ≡ filter p (take i xs) → new ≡ old ++ y ∷ [] → y ≡ x → i < length xs
+    → x ≡ get_or xs i x → p x ≡ true → new ≡ filter p (take (i + 1) xs)
+passed-more p xs old new i x y o n e l is h = n ∙ ap (λ (ys : List _). ys ++ y ∷ []) o
+    ∙ ap (λ z. filter p (take i xs) ++ z ∷ []) e ∙ sym (filtered-more p xs i x true l is h)
+
+pub passed-same : {A : Type 0} (p : A → Bool) (xs old new : List A) (i : ℕ) (x : A)
+    → old ≡ filter p (take i xs) → new ≡ old → i < length xs → x ≡ get_or xs i x → p x ≡ false
+    → new ≡ filter p (take (i + 1) xs)
+passed-same p xs old new i x o n l is h = n ∙ o ∙ sym (append-nil (filter p (take i xs)))
+    ∙ sym (filtered-more p xs i x false l is h)

@@ -35,6 +35,12 @@ use Rattle.op_lang.specs.declared.pieces.Start.TheVariants as start
 use Rattle.op_lang.specs.declared.pieces.Leaf.{Leaf}
 use Rattle.op_lang.specs.declared.pieces.Leaf.TheVariants as leaf
 
+never : {X : Type 0} → false ≡ true → X
+never h = cc
+
+never_so : {X : Type 0} → true ≡ false → X
+never_so h = cc
+
 same : (text lit : List ℕ) → bytes_eq text lit ≡ true → text ≡ lit
 same text lit h = (bytes_eq-Decides text lit).0 h
 
@@ -98,79 +104,79 @@ pub mark_follows : (want : Wanted) (u : Terminal) (o : Bool) (text : List ℕ) �
     → is_allowed (follow want u o) ≡ true → IsSpelled u text → (follow want u o ≡ Some [])
     × (text ≡ mark_text want)
 mark_follows w.Open t.Opens o text m a s = (refl, s)
-mark_follows w.Open _ o text m a s = cc
+mark_follows w.Open _ o text m a s = never a
 mark_follows w.Begin t.Begins o text m a s = (refl, s)
-mark_follows w.Begin _ o text m a s = cc
+mark_follows w.Begin _ o text m a s = never a
 mark_follows w.Colon t.Colon o text m a s = (refl, s)
-mark_follows w.Colon _ o text m a s = cc
+mark_follows w.Colon _ o text m a s = never a
 mark_follows w.Arrow t.Arrow o text m a s = (refl, s)
-mark_follows w.Arrow _ o text m a s = cc
+mark_follows w.Arrow _ o text m a s = never a
 mark_follows w.Equals t.Equals o text m a s = (refl, s)
-mark_follows w.Equals _ o text m a s = cc
+mark_follows w.Equals _ o text m a s = never a
 mark_follows w.WordEnd t.Semi o text m a s = (refl, s)
-mark_follows w.WordEnd _ o text m a s = cc
+mark_follows w.WordEnd _ o text m a s = never a
 mark_follows w.LetEnd t.Semi o text m a s = (refl, s)
-mark_follows w.LetEnd _ o text m a s = cc
+mark_follows w.LetEnd _ o text m a s = never a
 mark_follows w.AssignEnd t.Semi o text m a s = (refl, s)
-mark_follows w.AssignEnd _ o text m a s = cc
+mark_follows w.AssignEnd _ o text m a s = never a
 mark_follows w.GateOpen t.Opens o text m a s = (refl, s)
-mark_follows w.GateOpen _ o text m a s = cc
-mark_follows _ u o text m a s = cc
+mark_follows w.GateOpen _ o text m a s = never a
+mark_follows _ u o text m a s = never m
 
 pub name_follows : (want : Wanted) (u : Terminal) (o : Bool) (text : List ℕ) (s s' : Scope)
     → is_name want ≡ true → is_allowed (follow want u o) ≡ true → rules_at want s u text o ≡ Ok s'
     → (follow want u o ≡ Some []) × (fits_name text ≡ true)
 name_follows w.NewOp (t.Name n) o text s s' m a r =
     (refl, fits_too (is_plain n) (fits_name text) _ _ _ s' r)
-name_follows w.NewOp _ o text s s' m a r = cc
+name_follows w.NewOp _ o text s s' m a r = never a
 name_follows w.NewParam (t.Name n) o text s s' m a r =
     (refl, fits (is_plain n) (fits_name text) _ _ s' r)
-name_follows w.NewParam _ o text s s' m a r = cc
+name_follows w.NewParam _ o text s s' m a r = never a
 name_follows w.NewResult (t.Name n) o text s s' m a r =
     (refl, fits (is_plain n) (fits_name text) _ _ s' r)
-name_follows w.NewResult _ o text s s' m a r = cc
+name_follows w.NewResult _ o text s s' m a r = never a
 name_follows w.NewTarget (t.Name n) o text s s' m a r =
     (refl, fits (is_plain n) (fits_name text) _ _ s' r)
-name_follows w.NewTarget _ o text s s' m a r = cc
+name_follows w.NewTarget _ o text s s' m a r = never a
 name_follows w.ArgName (t.Name n) o text s s' m a r =
     (refl, fits (is_plain n) (fits_name text) _ _ s' r)
-name_follows w.ArgName _ o text s s' m a r = cc
+name_follows w.ArgName _ o text s s' m a r = never a
 name_follows w.StateName (t.Name n) o text s s' m a r =
     (refl, fits (is_plain n) (fits_name text) _ _ s' r)
-name_follows w.StateName _ o text s s' m a r = cc
+name_follows w.StateName _ o text s s' m a r = never a
 name_follows w.LetName (t.Name n) o text s s' m a r =
     (refl, fits (is_plain n) (fits_name text) _ _ s' r)
-name_follows w.LetName _ o text s s' m a r = cc
-name_follows _ u o text s s' m a r = cc
+name_follows w.LetName _ o text s s' m a r = never a
+name_follows _ u o text s s' m a r = never m
 
 pub listed_follows : (want : Wanted) (u : Terminal) (o : Bool) (text : List ℕ) (s s' : Scope)
     → is_name_or_end want ≡ true → is_named u ≡ true → rules_at want s u text o ≡ Ok s'
     → (follow want u o ≡ Some (after_name want)) × (fits_name text ≡ true)
 listed_follows w.Args (t.Name n) o text s s' m a r =
     (refl, fits (is_plain n) (fits_name text) _ _ s' r)
-listed_follows w.Args _ o text s s' m a r = cc
+listed_follows w.Args _ o text s s' m a r = never a
 listed_follows w.States (t.Name n) o text s s' m a r =
     (refl, fits (is_plain n) (fits_name text) _ _ s' r)
-listed_follows w.States _ o text s s' m a r = cc
+listed_follows w.States _ o text s s' m a r = never a
 listed_follows w.Assigns (t.Name n) o text s s' m a r =
     (refl, fits (is_plain n) (fits_name text) _ _ s' r)
-listed_follows w.Assigns _ o text s s' m a r = cc
-listed_follows _ u o text s s' m a r = cc
+listed_follows w.Assigns _ o text s s' m a r = never a
+listed_follows _ u o text s s' m a r = never m
 
 pub end_follows : (want : Wanted) (u : Terminal) (o : Bool) (text : List ℕ)
     → is_name_or_end want ≡ true → is_named u ≡ false → is_allowed (follow want u o) ≡ true
     → IsSpelled u text
     → (follow want u o ≡ Some []) × (text ≡ end_text want)
 end_follows w.Args t.Closes o text m n a s = (refl, s)
-end_follows w.Args (t.Name k) o text m n a s = cc
-end_follows w.Args _ o text m n a s = cc
+end_follows w.Args (t.Name k) o text m n a s = never_so n
+end_follows w.Args _ o text m n a s = never a
 end_follows w.States t.Closes o text m n a s = (refl, s)
-end_follows w.States (t.Name k) o text m n a s = cc
-end_follows w.States _ o text m n a s = cc
+end_follows w.States (t.Name k) o text m n a s = never_so n
+end_follows w.States _ o text m n a s = never a
 end_follows w.Assigns t.Finishes o text m n a s = (refl, s)
-end_follows w.Assigns (t.Name k) o text m n a s = cc
-end_follows w.Assigns _ o text m n a s = cc
-end_follows _ u o text m n a s = cc
+end_follows w.Assigns (t.Name k) o text m n a s = never_so n
+end_follows w.Assigns _ o text m n a s = never a
+end_follows _ u o text m n a s = never m
 
 pub more_follows : (want : Wanted) (u : Terminal) (o : Bool) (text : List ℕ) → is_more want ≡ true
     → is_allowed (follow want u o) ≡ true → IsSpelled u text
@@ -178,14 +184,14 @@ pub more_follows : (want : Wanted) (u : Terminal) (o : Bool) (text : List ℕ) �
     × (text ≡ comma_or_close (is_comma u))
 more_follows w.Params t.Comma o text m a s = (refl, s)
 more_follows w.Params t.Closes o text m a s = (refl, s)
-more_follows w.Params _ o text m a s = cc
+more_follows w.Params _ o text m a s = never a
 more_follows w.MoreArgs t.Comma o text m a s = (refl, s)
 more_follows w.MoreArgs t.Closes o text m a s = (refl, s)
-more_follows w.MoreArgs _ o text m a s = cc
+more_follows w.MoreArgs _ o text m a s = never a
 more_follows w.MoreStates t.Comma o text m a s = (refl, s)
 more_follows w.MoreStates t.Closes o text m a s = (refl, s)
-more_follows w.MoreStates _ o text m a s = cc
-more_follows _ u o text m a s = cc
+more_follows w.MoreStates _ o text m a s = never a
+more_follows _ u o text m a s = never m
 
 pub second_follows : (want : Wanted) (u : Terminal) (o : Bool) (text : List ℕ)
     → is_second want ≡ true → is_allowed (follow want u o) ≡ true → IsSpelled u text
@@ -193,39 +199,39 @@ pub second_follows : (want : Wanted) (u : Terminal) (o : Bool) (text : List ℕ)
     × (text ≡ comma_or_end want (is_comma u))
 second_follows w.SecondResult t.Comma o text m a s = (refl, s)
 second_follows w.SecondResult t.Begins o text m a s = (refl, s)
-second_follows w.SecondResult _ o text m a s = cc
+second_follows w.SecondResult _ o text m a s = never a
 second_follows w.SecondTarget t.Comma o text m a s = (refl, s)
 second_follows w.SecondTarget t.Equals o text m a s = (refl, s)
-second_follows w.SecondTarget _ o text m a s = cc
-second_follows _ u o text m a s = cc
+second_follows w.SecondTarget _ o text m a s = never a
+second_follows _ u o text m a s = never m
 
 pub kind_follows : (want : Wanted) (u : Terminal) (o : Bool) (text : List ℕ) → is_kind want ≡ true
     → is_allowed (follow want u o) ≡ true → IsSpelled u text
     → (follow want u o ≡ Some []) × (text ≡ kind_text (kind_at u))
 kind_follows w.ParamKind (t.Name sp.Word) o text m a s = (refl, s)
 kind_follows w.ParamKind (t.Name sp.Bit) o text m a s = (refl, s)
-kind_follows w.ParamKind (t.Name _) o text m a s = cc
-kind_follows w.ParamKind _ o text m a s = cc
+kind_follows w.ParamKind (t.Name _) o text m a s = never a
+kind_follows w.ParamKind _ o text m a s = never a
 kind_follows w.ResultKind (t.Name sp.Word) o text m a s = (refl, s)
 kind_follows w.ResultKind (t.Name sp.Bit) o text m a s = (refl, s)
-kind_follows w.ResultKind (t.Name _) o text m a s = cc
-kind_follows w.ResultKind _ o text m a s = cc
-kind_follows _ u o text m a s = cc
+kind_follows w.ResultKind (t.Name _) o text m a s = never a
+kind_follows w.ResultKind _ o text m a s = never a
+kind_follows _ u o text m a s = never m
 
 pub direction_follows : (u : Terminal) (o : Bool) (text : List ℕ)
     → is_allowed (follow w.Direction u o) ≡ true → IsSpelled u text
     → (follow w.Direction u o ≡ Some []) × (text ≡ direction_text (is_down u))
 direction_follows (t.Name sp.Up) o text a s = (refl, s)
 direction_follows (t.Name sp.Down) o text a s = (refl, s)
-direction_follows (t.Name _) o text a s = cc
-direction_follows _ o text a s = cc
+direction_follows (t.Name _) o text a s = never a
+direction_follows _ o text a s = never a
 
 pub start_follows : (u : Terminal) (o : Bool) (text : List ℕ)
     → is_allowed (follow w.Start u o) ≡ true → IsSpelled u text
     → (follow w.Start u o ≡ Some []) × (text ≡ start_text (is_one u))
 start_follows t.Zero o text a s = (refl, s)
 start_follows t.One o text a s = (refl, s)
-start_follows _ o text a s = cc
+start_follows _ o text a s = never a
 
 pub op_follows : (u : Terminal) (o : Bool) (text : List ℕ) → is_allowed (follow w.Ops u o) ≡ true
     → IsSpelled u text
@@ -233,8 +239,8 @@ pub op_follows : (u : Terminal) (o : Bool) (text : List ℕ) → is_allowed (fol
     ∷ w.Arrow ∷ w.NewResult ∷ w.Colon ∷ w.ResultKind ∷ w.SecondResult ∷ w.FirstStmt ∷ w.Ops ∷ []))
     × (text ≡ codes "op")
 op_follows (t.Name sp.Op) o text a s = (refl, s)
-op_follows (t.Name _) o text a s = cc
-op_follows _ o text a s = cc
+op_follows (t.Name _) o text a s = never a
+op_follows _ o text a s = never a
 
 op_known : (b : Bool) (k : OpsKind) (s s' : Scope) (x : Option WordOp)
     → unless b k (known_op s x) ≡ Ok s' → x ≡ None → ⊥
@@ -249,28 +255,28 @@ word_op_follows (t.Name n) o text s s' a r = (
   refl,
   op_known (is_bad n text) _ s s' (op_named text) r,
 )
-word_op_follows _ o text s s' a r = cc
+word_op_follows _ o text s s' a r = never a
 
 pub end_statement : (want : Wanted) (u : Terminal) (o : Bool) (text : List ℕ)
     → is_statement want ≡ true → is_finish u ≡ true → is_allowed (follow want u o) ≡ true
     → IsSpelled u text
     → (follow want u o ≡ Some []) × (text ≡ codes "}")
 end_statement w.Stmts t.Finishes o text m n a s = (refl, s)
-end_statement w.Stmts _ o text m n a s = cc
-end_statement w.FirstStmt t.Finishes o text m n a s = cc
-end_statement w.FirstStmt _ o text m n a s = cc
-end_statement _ u o text m n a s = cc
+end_statement w.Stmts _ o text m n a s = never n
+end_statement w.FirstStmt t.Finishes o text m n a s = never a
+end_statement w.FirstStmt _ o text m n a s = never n
+end_statement _ u o text m n a s = never m
 
 pub serial_statement : (want : Wanted) (u : Terminal) (o : Bool) (text : List ℕ)
     → is_statement want ≡ true → is_serial_word u ≡ true → IsSpelled u text
     → (follow want u o ≡ Some (after_start start.Serial)) × (text ≡ codes "serial")
 serial_statement w.Stmts (t.Name sp.Serial) o text m n s = (refl, s)
-serial_statement w.Stmts (t.Name _) o text m n s = cc
-serial_statement w.Stmts _ o text m n s = cc
+serial_statement w.Stmts (t.Name _) o text m n s = never n
+serial_statement w.Stmts _ o text m n s = never n
 serial_statement w.FirstStmt (t.Name sp.Serial) o text m n s = (refl, s)
-serial_statement w.FirstStmt (t.Name _) o text m n s = cc
-serial_statement w.FirstStmt _ o text m n s = cc
-serial_statement _ u o text m n s = cc
+serial_statement w.FirstStmt (t.Name _) o text m n s = never n
+serial_statement w.FirstStmt _ o text m n s = never n
+serial_statement _ u o text m n s = never m
 
 pub word_statement : (want : Wanted) (u : Terminal) (o : Bool) (text : List ℕ) (s s' : Scope)
     → is_statement want ≡ true → is_finish u ≡ false → is_serial_word u ≡ false
@@ -285,9 +291,9 @@ word_statement w.FirstStmt (t.Name sp.Bit) o text s s' m f n a r = cc
 word_statement w.FirstStmt (t.Name sp.Up) o text s s' m f n a r = cc
 word_statement w.FirstStmt (t.Name sp.Down) o text s s' m f n a r = cc
 word_statement w.FirstStmt (t.Name sp.Let) o text s s' m f n a r = cc
-word_statement w.FirstStmt (t.Name sp.Serial) o text s s' m f n a r = cc
-word_statement w.FirstStmt t.Finishes o text s s' m f n a r = cc
-word_statement w.FirstStmt _ o text s s' m f n a r = cc
+word_statement w.FirstStmt (t.Name sp.Serial) o text s s' m f n a r = never_so n
+word_statement w.FirstStmt t.Finishes o text s s' m f n a r = never_so f
+word_statement w.FirstStmt _ o text s s' m f n a r = never a
 word_statement w.Stmts (t.Name sp.Plain) o text s s' m f n a r =
     (refl, fits (is_plain sp.Plain) (fits_name text) _ _ s' r)
 word_statement w.Stmts (t.Name sp.Op) o text s s' m f n a r = cc
@@ -296,16 +302,16 @@ word_statement w.Stmts (t.Name sp.Bit) o text s s' m f n a r = cc
 word_statement w.Stmts (t.Name sp.Up) o text s s' m f n a r = cc
 word_statement w.Stmts (t.Name sp.Down) o text s s' m f n a r = cc
 word_statement w.Stmts (t.Name sp.Let) o text s s' m f n a r = cc
-word_statement w.Stmts (t.Name sp.Serial) o text s s' m f n a r = cc
-word_statement w.Stmts t.Finishes o text s s' m f n a r = cc
-word_statement w.Stmts _ o text s s' m f n a r = cc
-word_statement _ u o text s s' m f n a r = cc
+word_statement w.Stmts (t.Name sp.Serial) o text s s' m f n a r = never_so n
+word_statement w.Stmts t.Finishes o text s s' m f n a r = never_so f
+word_statement w.Stmts _ o text s s' m f n a r = never a
+word_statement _ u o text s s' m f n a r = never m
 
 pub let_line : (u : Terminal) (o : Bool) (text : List ℕ) → is_let_word u ≡ true → IsSpelled u text
     → (follow w.Lets u o ≡ Some (after_line None)) × (text ≡ codes "let")
 let_line (t.Name sp.Let) o text n s = (refl, s)
-let_line (t.Name _) o text n s = cc
-let_line _ o text n s = cc
+let_line (t.Name _) o text n s = never n
+let_line _ o text n s = never n
 
 pub target_line : (u : Terminal) (o : Bool) (text : List ℕ) (s s' : Scope) → is_let_word u ≡ false
     → is_allowed (follow w.Lets u o) ≡ true → rules_at w.Lets s u text o ≡ Ok s'
@@ -318,8 +324,8 @@ target_line (t.Name sp.Bit) o text s s' n a r = cc
 target_line (t.Name sp.Up) o text s s' n a r = cc
 target_line (t.Name sp.Down) o text s s' n a r = cc
 target_line (t.Name sp.Serial) o text s s' n a r = cc
-target_line (t.Name sp.Let) o text s s' n a r = cc
-target_line _ o text s s' n a r = cc
+target_line (t.Name sp.Let) o text s s' n a r = never_so n
+target_line _ o text s s' n a r = never a
 
 pub mark_took : (want : Wanted) (old : ParserView) (text : List ℕ) (u : Terminal) (new : ParserView)
     → is_mark want ≡ true → Took want old text u new → (more : List Wanted)
@@ -472,8 +478,8 @@ pub bit_value : (u : Terminal) (o : Bool) (text : List ℕ) (s s' : Scope) → i
     × (s'.block.missing ≡ lacking (bit_leaf u) s.block.missing)
 bit_value t.Zero o text s s' n a k r = (refl, k, ok_missing s s' r)
 bit_value t.One o text s s' n a k r = (refl, k, ok_missing s s' r)
-bit_value (t.Name n) o text s s' m a k r = cc
-bit_value _ o text s s' n a k r = cc
+bit_value (t.Name n) o text s s' m a k r = never_so m
+bit_value _ o text s s' n a k r = never a
 
 pub gate_value : (u : Terminal) (o : Bool) (text : List ℕ) (s s' : Scope) (g : Gate)
     → is_named u ≡ true → o ≡ true → gate_named text ≡ Some g → rules_at w.Value s u text o ≡ Ok s'
@@ -482,8 +488,8 @@ pub gate_value : (u : Terminal) (o : Bool) (text : List ℕ) (s s' : Scope) (g :
 gate_value (t.Name n) true text s s' g m e k r =
     let r' = rw k at (unless_ok (is_bad n text) _ _ s' r) in
     (refl, ok_missing _ s' (unless_ok _ _ _ s' r'))
-gate_value (t.Name n) false text s s' g m e k r = cc
-gate_value _ o text s s' g m e k r = cc
+gate_value (t.Name n) false text s s' g m e k r = never e
+gate_value _ o text s s' g m e k r = never m
 
 pub name_value : (u : Terminal) (o : Bool) (text : List ℕ) (s s' : Scope) → is_named u ≡ true
     → o ≡ false → rules_at w.Value s u text o ≡ Ok s'
@@ -494,8 +500,8 @@ name_value (t.Name n) false text s s' m e r = (
   fits (is_plain n) (fits_name text) _ _ s' r,
   ok_missing s s' (unless_ok _ _ _ s' (unless_ok (is_bad n text) _ _ s' r)),
 )
-name_value (t.Name n) true text s s' m e r = cc
-name_value _ o text s s' m e r = cc
+name_value (t.Name n) true text s s' m e r = never_so e
+name_value _ o text s s' m e r = never m
 
 -- after an argument
 comma_ok : (s s' : Scope) (n : ℕ) (outer m : List ℕ) → m ≡ suc n ∷ outer → comma_rules s m ≡ Ok s'
@@ -522,7 +528,7 @@ comma_follows t.Comma o text s s' n outer e a k r =
     (refl, k, comma_ok s s' n outer s.block.missing e r)
 comma_follows t.Closes o text s s' n outer e a k r =
     absurd (comma_no_close s s' n outer s.block.missing e r)
-comma_follows _ o text s s' n outer e a k r = cc
+comma_follows _ o text s s' n outer e a k r = never a
 
 pub close_follows : (u : Terminal) (o : Bool) (text : List ℕ) (s s' : Scope) (outer : List ℕ)
     → s.block.missing ≡ zero ∷ outer → is_allowed (follow w.More u o) ≡ true → IsSpelled u text
@@ -532,7 +538,7 @@ close_follows t.Closes o text s s' outer e a k r =
     (refl, k, close_ok s s' outer s.block.missing e r)
 close_follows t.Comma o text s s' outer e a k r =
     absurd (close_no_comma s s' outer s.block.missing e r)
-close_follows _ o text s s' outer e a k r = cc
+close_follows _ o text s s' outer e a k r = never a
 
 -- what one of these was taken as
 pub record AsComma (n : ℕ) (outer : List ℕ) (old new : ParserView) : Type 0 where
@@ -614,7 +620,7 @@ read_took old text u new n o k =
 open_is : (u : Terminal) (o : Bool) → is_allowed (follow w.GateOpen u o) ≡ true
     → follow w.GateOpen u o ≡ Some []
 open_is t.Opens o a = refl
-open_is _ o a = cc
+open_is _ o a = never a
 
 pub open_took : (old : ParserView) (text : List ℕ) (u : Terminal) (new : ParserView)
     → Took w.GateOpen old text u new → (more : List Wanted)

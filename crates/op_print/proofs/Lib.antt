@@ -2,3 +2,4 @@ mod Again
 mod Worked
 mod Short
 mod Sizes
+mod Loops

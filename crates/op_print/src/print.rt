@@ -1,10 +1,11 @@
 //! Ops, written.
 
-ghost use Rattle.std.specs.Prelude.{◌≡◌, ◌++◌, ◌<◌, ◌^◌, [], length, map, OnOk, IfOk};
+ghost use Rattle.std.specs.Prelude.{◌≡◌, ◌++◌, ◌<◌, ◌^◌, [], length, map, codes, OnOk, IfOk};
 ghost use Rattle.op_text.specs.Language.{operation, operations};
 ghost use Rattle.op_text.specs.Spelling.{MeetRules};
 ghost use Rattle.op_text.specs.OpsOf.{IsOpsOf};
-ghost use Rattle.op_print.specs.Canonical.{op_head, line, op_lines, canonical_text};
+ghost use Rattle.op_print.specs.Canonical.{op_head, line, op_lines, canonical_text, listed};
+ghost use Rattle.op_print.specs.Canonical.{param_text};
 
 use crate::lists::{put_params, put_results};
 use crate::pieces::put;
@@ -14,15 +15,23 @@ use op_rules::ops_meet;
 use op_text::{Op, Ops};
 use std::alloc::Global;
 
+/// Writes the first line of an op up to its sources.
+fn put_sources(out: &mut Vec<u8>, op: &Op) -> Result<(), NoMemory>
+    ensures { OnOk result (out.new.items ≡ out.old.items ++ codes "op " ++ op.now.name ++ codes "("
+        ++ listed param_text op.now.params.items) }
+{
+    put(out, b"op ")?;
+    put(out, op.name.bytes())?;
+    put(out, b"(")?;
+    put_params(out, &op.params)
+}
+
 /// Writes the first line of an op.
 fn put_head(out: &mut Vec<u8>, op: &Op) -> Result<(), NoMemory>
     ensures { OnOk result (out.new.items
         ≡ out.old.items ++ line [] (op_head (operation op.now))) }
 {
-    put(out, b"op ")?;
-    put(out, op.name.bytes())?;
-    put(out, b"(")?;
-    put_params(out, &op.params)?;
+    put_sources(out, op)?;
     put(out, b") -> ")?;
     put_results(out, &op.result, &op.second)?;
     put(out, b" {\n")

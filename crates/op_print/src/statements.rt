@@ -14,16 +14,34 @@ use no_memory::NoMemory;
 use op_text::{Assign, State, Stmt, WordOp, op_name};
 use text_lex::Name;
 
+/// Writes the line of a let.
+fn put_let(out: &mut Vec<u8>, assign: &Assign) -> Result<(), NoMemory>
+    ensures { OnOk result (out.new.items
+        ≡ out.old.items ++ line (codes "    ") (let_text (equation assign.now))) }
+{
+    put(out, b"    let ")?;
+    put_equation(out, assign)?;
+    put(out, b"\n")
+}
+
 fn put_lets(out: &mut Vec<u8>, lets: &[Assign]) -> Result<(), NoMemory>
     ensures { OnOk result (out.new.items ≡ out.old.items
         ++ flat_map (λ e. line (codes "    ") (let_text e)) (map equation lets.now)) }
 {
     for assign in lets {
-        put(out, b"    let ")?;
-        put_equation(out, assign)?;
-        put(out, b"\n")?;
+        put_let(out, assign)?;
     }
     Ok(())
+}
+
+/// Writes the line of an assignment.
+fn put_assign(out: &mut Vec<u8>, assign: &Assign) -> Result<(), NoMemory>
+    ensures { OnOk result (out.new.items
+        ≡ out.old.items ++ line (codes "    ") (equation_text (equation assign.now))) }
+{
+    put(out, b"    ")?;
+    put_equation(out, assign)?;
+    put(out, b"\n")
 }
 
 fn put_assigns(out: &mut Vec<u8>, assigns: &[Assign]) -> Result<(), NoMemory>
@@ -32,9 +50,7 @@ fn put_assigns(out: &mut Vec<u8>, assigns: &[Assign]) -> Result<(), NoMemory>
         (map equation assigns.now)) }
 {
     for assign in assigns {
-        put(out, b"    ")?;
-        put_equation(out, assign)?;
-        put(out, b"\n")?;
+        put_assign(out, assign)?;
     }
     Ok(())
 }

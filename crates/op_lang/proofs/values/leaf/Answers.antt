@@ -27,3 +27,21 @@ pub returns-in-Some-new-clause-missing : goal.returns-in-Some-new-clause-missing
 returns-in-Some-new-clause-missing c =
     (read_took _ _ _ _ (sym c.if-not-is_named.ensures) (sym c.if-opens.ensures)
     c.in_ok-token.ensures).missing
+
+pub returns-then-not-is_named-clause-spells : goal.returns-then-not-is_named-clause-spells
+returns-then-not-is_named-clause-spells c = rw c.bit_leaf.ensures
+    (bit_took _ _ _ _ (sym c.if-not-is_named.ensures) c.in_ok-token.ensures).spells
+
+pub returns-then-not-is_named-clause-missing : goal.returns-then-not-is_named-clause-missing
+returns-then-not-is_named-clause-missing c = rw c.bit_leaf.ensures
+    (bit_took _ _ _ _ (sym c.if-not-is_named.ensures) c.in_ok-token.ensures).missing
+
+pub returns-in-Some-clause-spells : goal.returns-in-Some-clause-spells
+returns-in-Some-clause-spells c =
+    (gate_took _ _ _ _ c.in-Some.gate (sym c.if-not-is_named.ensures) (sym c.if-opens.ensures)
+    (sym c.in-Some.ensures) c.in_ok-token.ensures).spells
+
+pub returns-in-Some-clause-missing : goal.returns-in-Some-clause-missing
+returns-in-Some-clause-missing c =
+    (gate_took _ _ _ _ c.in-Some.gate (sym c.if-not-is_named.ensures) (sym c.if-opens.ensures)
+    (sym c.in-Some.ensures) c.in_ok-token.ensures).missing
