@@ -58,7 +58,8 @@ fn pair(
 ) -> Result<(u32, u32), NoMemory>
     requires lower { AreLower nodes.old.items }
     requires known { AreBelow known.now (length nodes.old.items) }
-    requires room { length nodes.old.items + 5 * (parts (term a.now) + parts (term b.now)) < 2 ^ 31 }
+    requires room { length nodes.old.items + 5 * (parts (term a.now) + parts (term b.now))
+        < 2 ^ 31 }
     ensures grows { OnOk result (Grows nodes.old.items nodes.new.items (term_weight (term a.now)
         + term_weight (term b.now)) (5 * (parts (term a.now) + parts (term b.now)))) }
     ensures named { IfOk result (λ r. (r.0 < length nodes.new.items)

@@ -2,7 +2,8 @@
 
 ghost use Rattle.std.specs.Prelude.{◌≡◌, ◌+◌, ◌<◌, ◌≤◌, ◌^◌, length, IfOk, OnOk};
 ghost use Rattle.std.specs.Int.{w8, w16, w32};
-ghost use Rattle.file_fields.specs.Fields.{Gives, bytes_at as bytes_at_place, number_at, is_between};
+ghost use Rattle.file_fields.specs.Fields.{Gives, bytes_at as bytes_at_place, number_at};
+ghost use Rattle.file_fields.specs.Fields.{is_between};
 
 use crate::faults::{FileFault, fault};
 

@@ -3,3 +3,4 @@ mod Worked
 mod Short
 mod Sizes
 mod Loops
+mod Heads
