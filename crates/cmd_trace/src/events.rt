@@ -1,6 +1,9 @@
 //! Events as eight bytes.
 
 ghost use Rattle.std.specs.Prelude.{◌≡◌, ◌+◌, ◌*◌, ◌<◌, ◌≤◌, ◌^◌, length, Bool, Option, IfOk, OnOk};
+ghost use Rattle.std.specs.Prelude.{◌∷◌, [], ◌==◌};
+ghost use Rattle.std.specs.Int.{from_le_bytes, w16};
+ghost use Rattle.std.specs.List.{list_all};
 ghost use Rattle.std.specs.Option.{option_map};
 ghost use Rattle.dram_model.specs.Column.{is_in_range};
 ghost use Rattle.dram_model.specs.declared.address.Addr.{Addr};
@@ -133,6 +136,20 @@ fn of_kind(kind: u8, bank: u8, x: Option<Addr>, y: Option<Addr>, blank: bool) ->
     }
 }
 
+/// The address of three bytes.
+fn address_in(rows: u16, group: u8, low: u8, high: u8) -> Option<Addr>
+    ensures { result ≡ address_named rows group (from_le_bytes w16 (low ∷ high ∷ [])) }
+{
+    address_of(rows, group, u16::from_le_bytes([low, high]))
+}
+
+/// Whether three bytes are zeros.
+fn is_blank(group: u8, low: u8, high: u8) -> bool
+    ensures { result ≡ list_all (λ b. b == 0) (group ∷ low ∷ high ∷ []) }
+{
+    group == 0 && low == 0 && high == 0
+}
+
 /// The event that eight bytes name.
 fn head_of_field(g: Geometry, field: &[u8]) -> Option<Head>
     requires { length field.now ≡ 8 }
@@ -144,10 +161,9 @@ fn head_of_field(g: Geometry, field: &[u8]) -> Option<Head>
     if u16::from(*bank) >= g.banks {
         return None;
     }
-    let x = address_of(g.rows, *xg, u16::from_le_bytes([*xl, *xh]));
-    let y = address_of(g.rows, *yg, u16::from_le_bytes([*yl, *yh]));
-    let blank = *yg == 0 && *yl == 0 && *yh == 0;
-    of_kind(*kind, *bank, x, y, blank)
+    let x = address_in(g.rows, *xg, *xl, *xh);
+    let y = address_in(g.rows, *yg, *yl, *yh);
+    of_kind(*kind, *bank, x, y, is_blank(*yg, *yl, *yh))
 }
 
 /// Whether the address names rows of a bank.
