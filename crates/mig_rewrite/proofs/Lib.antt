@@ -5,3 +5,4 @@ pub mod Steps
 pub mod Marks
 pub mod Counting
 pub mod Keeping
+mod Agreeing

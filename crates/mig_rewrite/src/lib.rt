@@ -1,4 +1,4 @@
-//! Reduction of majority graphs.
+//! Reduction of majority graphs, and a search for smaller ones of the same outputs.
 #![tactic(auto)]
 
 ghost use Rattle.std.specs.Prelude.{◌≡◌, ◌<◌, ◌≤◌, IfOk, length};
@@ -6,14 +6,25 @@ ghost use Rattle.mig_graph.specs.Outputs.{AreNamed, KeepsOutputs};
 ghost use Rattle.mig_graph.specs.Reduced.{IsReduced};
 ghost use Rattle.mig_rewrite.specs.Merge.{IsMerge};
 
+mod agree;
+mod forms;
 mod merges;
 mod plan;
 mod rebuild;
+mod replacements;
+mod search;
+mod sketch;
+mod standing;
+mod tables;
 mod tally;
 
 use merges::{Merge, any_merge};
-use mig_graph::{MigOuts, NoMemory};
+use mig_graph::MigOuts;
+pub use mig_graph::NoMemory;
 use rebuild::remade;
+pub use search::offers;
+pub use sketch::Sketch;
+pub use standing::kept;
 use std::alloc::Global;
 
 /// The graph made again until no node more is saved: then each node is reached by an output.

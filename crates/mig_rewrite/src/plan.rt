@@ -11,7 +11,7 @@ use mig_graph::{Lit, Mig, MigOuts, NoMemory};
 use std::alloc::Global;
 
 /// No marks.
-fn unmarked(n: u32, alloc: Global) -> Result<Vec<bool>, NoMemory>
+pub(crate) fn unmarked(n: u32, alloc: Global) -> Result<Vec<bool>, NoMemory>
     ensures { IfOk result (λ v. v.items ≡ replicate n false) }
 {
     Ok(vec![in alloc; false; n as usize]?)

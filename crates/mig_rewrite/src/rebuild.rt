@@ -29,7 +29,7 @@ const ZERO: Lit = Lit {
 };
 
 /// The literal of the new graph for one of the old.
-fn translated(lits: &[Lit], l: Lit) -> Lit
+pub(crate) fn translated(lits: &[Lit], l: Lit) -> Lit
     requires { l.node < length lits.now }
     ensures { result ≡ complement_if l.inverted (lit_at lits.now l.node) }
 {
@@ -38,7 +38,7 @@ fn translated(lits: &[Lit], l: Lit) -> Lit
 }
 
 /// Makes a part in the new graph.
-fn make(mig: &mut Mig, lits: &[Lit], part: Part) -> Result<Lit, NoMemory>
+pub(crate) fn make(mig: &mut Mig, lits: &[Lit], part: Part) -> Result<Lit, NoMemory>
     requires known { AreNamed mig.old lits.now }
     requires within { EachLit (λ l. l.node < length lits.now) part }
     requires room { size_of mig.old + cost part < 2 ^ 32 }
@@ -93,7 +93,7 @@ fn part_of(mig: &Mig, marks: &[bool], merge: Option<Merge>, k: u32) -> Part
 }
 
 /// The literals of the constant and the inputs.
-fn first_literals(inputs: u8, alloc: Global) -> Result<Vec<Lit>, NoMemory>
+pub(crate) fn first_literals(inputs: u8, alloc: Global) -> Result<Vec<Lit>, NoMemory>
     ensures long { IfOk result (λ v. length v.items ≡ inputs + 1) }
     ensures each { IfOk result (λ v. (k : ℕ) → k < inputs + 1 → lit_at v.items k ≡ straight k) }
 {

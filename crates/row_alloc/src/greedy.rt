@@ -110,6 +110,18 @@ fn shorter(
     shorter_of(m, outs, few, WIDE, alloc)
 }
 
+/// The commands of the greedy body, or more, in less time: the wide beam is left out.
+pub(crate) fn quick_body(m: &Mig, outs: &[OutRow], alloc: Global) -> Result<Vec<BodyCmd>, NoMemory>
+    requires fit { FitBody m.now outs.now }
+    ensures does { IfOk result (λ cmds. DoesBody m.now outs.now cmds.items) }
+{
+    let plain = plain_body(m, outs, alloc)?;
+    match first_known(m, outs) {
+        Some(k) if sequence(k).len() <= plain.len() => copied(sequence(k), alloc),
+        _ => shorter_of(m, outs, plain, NARROW, alloc),
+    }
+}
+
 /// The commands that leave each output's value in its row, kept in the bitwise cells between the
 /// nodes.
 ///

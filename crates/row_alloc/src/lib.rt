@@ -9,6 +9,7 @@ mod beam;
 mod body;
 mod cells;
 mod check;
+mod count;
 mod estimate;
 mod greedy;
 mod known;
@@ -25,6 +26,7 @@ mod table;
 
 pub use body::{BodyCmd, BodyRef, OutRow};
 pub use check::check_body;
+pub use count::{commands_of, quick_commands_of};
 pub use greedy::greedy_body;
 pub use laws::{
     fixed_sequences_serve, legal_bodies_are_legal_on_banks, rows_can_stand_apart,

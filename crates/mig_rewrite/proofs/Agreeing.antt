@@ -1,0 +1,78 @@
+-- The values of all nodes, computed one after another, and graphs whose outputs agree
+use Rattle.std.proofs.Common.{◌≡◌, ◌≢◌, ℕ, ◌+◌, ◌-◌, ◌<◌, ◌≤◌, Bool, true, false, List, length}
+use Rattle.std.proofs.Common.{refl, sym, ◌∙◌, ap, subst, arith, inl, inr}
+use Rattle.std.proofs.lemmas.Bool.{cases_eq}
+use Rattle.bit_rows.specs.Bits.{flip_if}
+use Rattle.mig_graph.specs.declared.Lit.{Lit}
+use Rattle.mig_graph.specs.Literals.{lit_value, node_value, IsLower}
+use Rattle.mig_graph.specs.Graph.{Graph, size_of, values, node_at, IsGraph}
+use Rattle.mig_graph.specs.Outputs.{lit_at, AreNamed}
+use Rattle.mig_graph.specs.Reduced.{node_numbered}
+use Rattle.mig_graph.proofs.Laws.{value-zero, value-input, value-node, node-below}
+use Rattle.mig_rewrite.specs.Plan.{is_marked}
+use Rattle.mig_rewrite.specs.Values.{FitsFrom, HasValues, Agree}
+
+-- the constant alone
+pub first-value : (g : Graph) (bits listed : List Bool) → is_marked listed 0 ≡ false
+    → HasValues g bits listed 1
+first-value g bits listed e = λ v fits j b. let f : j ≡ 0 = omega (arith, b) in
+    rw f (e ∙ sym (value-zero g v))
+
+-- one more value
+pub more-values : (g : Graph) (bits old new : List Bool) (k : ℕ) → HasValues g bits old k
+    → ((j : ℕ) → j ≢ k → is_marked new j ≡ is_marked old j)
+    → ((v : ℕ → Bool) → FitsFrom 0 bits v → is_marked new k ≡ values g v k)
+    → HasValues g bits new (k + 1)
+more-values g bits old new k has others here = λ v fits j b. elim (cases_eq j k) [
+  | inl e ↦ subst (λ i. is_marked new i ≡ values g v i) (sym e) (here v fits)
+  | inr ne ↦ others j ne ∙ has v fits j (omega (arith, b, ne))
+]
+
+-- an input's value
+pub input-value : (g : Graph) (bits : List Bool) (k : ℕ) → k < g.inputs → length bits ≡ g.inputs
+    → (v : ℕ → Bool) → FitsFrom 0 bits v → is_marked bits k ≡ values g v (k + 1)
+input-value g bits k b long v fits = fits k (omega arith) (omega (arith, b, long))
+    ∙ sym (value-input g v k b)
+
+-- a node's value
+pub node-computed : (g : Graph) (bits old : List Bool) (k : ℕ) → IsGraph g.inputs g.nodes
+    → g.inputs < k → k < size_of g → HasValues g bits old k → (v : ℕ → Bool) → FitsFrom 0 bits v
+    → node_value (is_marked old) (node_numbered g k) ≡ values g v k
+node-computed g bits old k graph above below has v fits =
+    let i = k - g.inputs - 1 in
+    let e : g.inputs + 1 + i ≡ k = omega (arith, above) in
+    let b : i < length g.nodes = omega (arith, above, below) in
+    let low : IsLower k (node_at g.nodes i) =
+    subst (λ n. IsLower n (node_at g.nodes i)) e (graph.lower i b) in
+    let last : values g v k ≡ node_value (values g v) (node_at g.nodes i) =
+    subst (λ n. values g v n ≡ node_value (values g v) (node_at g.nodes i)) e
+    (value-node g.inputs g.nodes v i graph b) in
+    node-below (is_marked old) (values g v) k (node_at g.nodes i) (has v fits) low ∙ sym last
+
+-- outputs that are equal by both lists of values
+pub agree-values : (g h : Graph) (outs made : List Lit) (bits listed others : List Bool)
+    → HasValues g bits listed (size_of g) → HasValues h bits others (size_of h) → AreNamed g outs
+    → AreNamed h made → length made ≡ length outs
+    → ((k : ℕ) → k < length outs → lit_value (is_marked others) (lit_at made k)
+    ≡ lit_value (is_marked listed) (lit_at outs k))
+    → (v : ℕ → Bool) → FitsFrom 0 bits v → Agree g outs h made v
+agree-values g h outs made bits listed others has has-others named named-others long same v fits =
+    λ j b.
+    let c : j < length made = omega (arith, b, long) in
+    sym (ap (flip_if (lit_at made j).inverted)
+    (has-others v fits (lit_at made j).node (named-others j c))) ∙ same j b
+    ∙ ap (flip_if (lit_at outs j).inverted) (has v fits (lit_at outs j).node (named j b))
+
+-- an assignment fits the list with its own value put before those that it fits
+pub fits-before : (free last : ℕ) (old new : List Bool) (v : ℕ → Bool) → length new ≡ length old
+    → free ≡ last + 1 → FitsFrom free old v → is_marked new last ≡ v last
+    → ((j : ℕ) → last < j → is_marked new j ≡ is_marked old j) → FitsFrom last new v
+fits-before free last old new v long e fits here others = λ j low b. elim (cases_eq j last) [
+  | inl f ↦ subst (λ i. is_marked new i ≡ v i) (sym f) here
+  | inr ne ↦ others j (omega (arith, low, ne))
+      ∙ fits j (omega (arith, low, ne, e)) (omega (arith, b, long))
+]
+
+pub either : (b : Bool) (P : Type 0) → (b ≡ false → P) → (b ≡ true → P) → P
+either true P f t = t refl
+either false P f t = f refl

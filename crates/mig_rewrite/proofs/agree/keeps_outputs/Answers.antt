@@ -1,0 +1,14 @@
+use Rattle.std.proofs.Common.{◌≡◌, ◌∙◌, ap, false, length, sym, arith}
+use Rattle.std.proofs.lemmas.List.{length-replicate}
+use Rattle.mig_rewrite.proofs.agree.keeps_outputs.Goals as goal
+
+pub returns : goal.returns
+returns c = λ yes.
+    let long : length c.deref_mut.result.now ≡ c.inputs-inputs.result =
+    ap length (c.deref_mut.ensures.value ∙ c.in_ok-bits.ensures)
+    ∙ length-replicate c.inputs-inputs.result false in
+    record {
+      inputs = sym (c.inputs.ensures.inputs) ∙ c.if-inputs.false ∙ c.inputs-inputs.ensures.inputs;
+      long = omega (arith, c.if-len.false, c.len.ensures, c.len-else-inputs.ensures);
+      values = λ v. c.agree.ensures.agree yes v (λ j low b. absurd (omega (arith, low, b, long)));
+    }

@@ -1,0 +1,11 @@
+use Rattle.std.proofs.Common.{◌≡◌, ◌+◌, length}
+use Rattle.mig_graph.specs.Graph.{size_of}
+use Rattle.mig_rewrite.specs.Values.{HasValues}
+use Rattle.mig_rewrite.proofs.agree.put_inputs.Given as goal
+
+-- the values so far
+abbrev pub invariant-loop-k : goal.invariant-loop-k
+invariant-loop-k l = record {
+  long : length l.values ≡ size_of l.m;
+  has : HasValues l.m l.bits l.values (l.k + 1);
+}
