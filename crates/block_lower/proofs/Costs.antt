@@ -9,33 +9,44 @@ use Rattle.loop_ir.specs.declared.ir.Place.{Place}
 use Rattle.loop_ir.specs.Plain.{Block as Body, StepOf}
 use Rattle.loop_ir.specs.Plain.StepOf.{Along}
 use Rattle.loop_ir.specs.Loops.{all_rounds}
-use Rattle.loop_ir.specs.Costs.{turn_cost, rounds_cost}
+use Rattle.loop_ir.specs.Costs.{plain_cost, plain_costs, rounds_cost}
 use Rattle.loop_ir.specs.Statements.{Slots}
-use Rattle.loop_laws.proofs.Costing.{total, total_is, turn-most}
+use Rattle.loop_laws.proofs.Summed.{steps_sum, sum_is}
+use Rattle.loop_laws.proofs.Costing.{plain-most, rounds-plain}
 use Rattle.block_lower.specs.Form.{place_of, constant, start, IsBlockBody}
 
-constant-cost : (v : Bool) (p : Place) → turn_cost (constant v p) ≡ 1
+constant-cost : (v : Bool) (p : Place) → plain_cost (constant v p) ≡ 1
 constant-cost true p = refl
 constant-cost false p = refl
 
 starts-total : (n : ℕ) (slots : Slots) (down : Bool) (ss : List State) (more : List (StepOf Body))
-    → total n (map (start slots down) ss ++ more) ≡ 2 * length ss + total n more
+    → steps_sum plain_cost n (map (start slots down) ss ++ more)
+    ≡ 2 * length ss + steps_sum plain_cost n more
 starts-total n slots down [] more = omega arith
 starts-total n slots down (s ∷ ss) more = let h = starts-total n slots down ss more in
     let c = constant-cost s.start (place_of down (slots s.name)) in omega (arith, h, c)
+
+pub program-plain : {slots : Slots} {b : Block} {body : Body} → IsBlockBody slots b body
+    → 0 < length b.assigns → (n : ℕ)
+    → plain_costs (all_rounds n (map (start slots b.down) b.states ++ Along body ∷ []))
+    ≤ n * (4 * length body.graph.nodes + 3 * length b.assigns) + length b.states
+program-plain {slots = slots} {b = b} {body = body} is some n =
+    let m = is.as_many in
+    let t = sum_is plain_cost n (map (start slots b.down) b.states ++ Along body ∷ []) in
+    let s = starts-total n slots b.down b.states (Along body ∷ []) in
+    let c : plain_cost body ≤ 4 * length body.graph.nodes + 3 * length b.assigns = let k =
+    plain-most body in omega (arith, k, m) in
+    let e = mul-le-mul_left n c in
+    omega (arith, t, s, e)
 
 pub program-cost : {slots : Slots} {b : Block} {body : Body} → IsBlockBody slots b body
     → 0 < length b.assigns → (n : ℕ)
     → rounds_cost (all_rounds n (map (start slots b.down) b.states ++ Along body ∷ []))
     ≤ n * (4 * length body.graph.nodes + 3 * length b.assigns) + length b.states
 program-cost {slots = slots} {b = b} {body = body} is some n =
-    let m = is.as_many in
-    let t = total_is n (map (start slots b.down) b.states ++ Along body ∷ []) in
-    let s = starts-total n slots b.down b.states (Along body ∷ []) in
-    let c : turn_cost body ≤ 4 * length body.graph.nodes + 3 * length b.assigns = let k =
-    turn-most body in omega (arith, k, m) in
-    let e = mul-le-mul_left n c in
-    omega (arith, t, s, e)
+    let p = program-plain is some n in
+    let r = rounds-plain (all_rounds n (map (start slots b.down) b.states ++ Along body ∷ [])) in
+    omega (arith, p, r)
 
 pub within-ceiling : {slots : Slots} {b : Block} {body : Body} → IsBlockBody slots b body
     → (n c : ℕ) → c ≤ n * (4 * length body.graph.nodes + 3 * length b.assigns) + length b.states

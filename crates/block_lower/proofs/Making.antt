@@ -1,8 +1,8 @@
 -- The graph of a block is made for its inputs.
-use Rattle.std.proofs.Common.{◌≡◌, ℕ, zero, suc, ◌+◌, ◌^◌, ◌<◌, ◌≤◌, Bool, true, false, not, List}
+use Rattle.std.proofs.Common.{◌≡◌, ℕ, zero, suc, ◌+◌, ◌^◌, ◌<◌, ◌≤◌, Bool, true, not, List}
 use Rattle.std.proofs.Common.{[], ◌∷◌, ◌++◌, map, filter, length, refl, sym, ap, ◌∙◌, arith, Some}
-use Rattle.std.proofs.Common.{None, is_some, slice_get, slice_index, length-append, inl, inr}
-use Rattle.std.proofs.lemmas.Bool.{cases_Bool, not_from_false}
+use Rattle.std.proofs.Common.{is_some, slice_get, slice_index, length-append}
+use Rattle.std.proofs.lemmas.Bool.{and_parts}
 use Rattle.std.proofs.lemmas.List.{length-map}
 use Rattle.std.proofs.lemmas.List.Sums.{length-filter, count_by-le-length}
 use Rattle.op_text.specs.declared.tree.State.{State}
@@ -19,15 +19,12 @@ use Rattle.mig_graph.specs.Graph.{Graph, value}
 use Rattle.mig_graph.specs.Outputs.{lit_at, KeepsOutputs}
 use Rattle.mig_graph.specs.Inputs.{HasInput, IsInputCount}
 use Rattle.mig_graph.proofs.InputLaws.{held-inputs, count-most}
-use Rattle.loop_ir.specs.Statements.{Slots, BlockMeets, equation_names, targets_of}
+use Rattle.loop_ir.specs.Statements.{Slots, BlockMeets, equation_names, targets_of, is_readable}
 use Rattle.block_lower.specs.Inputs.{block_from, block_inputs, name_at, AreNumbered}
 use Rattle.block_lower.proofs.Names.{among-left, among-right, among-kept}
 use Rattle.block_lower.proofs.Gathering.{gathered-all, gathered-length}
 use Rattle.block_lower.proofs.Bounds.{block-most, equations-most}
 use Rattle.block_lower.proofs.Reading.{Knows, block-reads}
-
-pub some-is : (slots : Slots) (name : List ℕ) → slots name ≡ None → is_some (slots name) ≡ true → ⊥
-some-is slots name e h = let k : is_some (slots name) ≡ false = rw e refl in cc
 
 equation-at : (xs : List Assign) (j : ℕ) (e : Equation) → slice_get (map equation xs) j ≡ Some e
     → (a : Assign) × (slice_get xs j ≡ Some a) × (equation a ≡ e)
@@ -65,7 +62,7 @@ module _ (slots : Slots) (down : Bool) (states : List State) (lets assigns : Lis
 
   pub parts-few : all_parts lets + all_parts assigns < 2 ^ 28
   parts-few =
-      let h = block-most (λ name. is_some (slots name)) lets assigns meets.meet in
+      let h = block-most (is_readable slots (map equation lets)) lets assigns meets.meet in
       let w : all_weights lets + all_weights assigns ≤ 24 = meets.weight in
       let l : length lets ≤ 16 = omega (arith, length-map lets equation, meets.lets) in
       let a : length assigns ≤ 8 = omega (arith, length-map assigns equation, meets.assigns) in
@@ -83,26 +80,19 @@ module _ (slots : Slots) (down : Bool) (states : List State) (lets assigns : Lis
       → AreNumbered (block_inputs (block_from down states lets assigns)) numbers
       → ((name : List ℕ) → is_among names name ≡ true
       → is_among (equation_names (map equation lets) ++ equation_names (map equation assigns)) name
-      ≡ true) → Knows (λ name. is_some (slots name)) (is_input numbers) names
+      ≡ true) → Knows (is_readable slots (map equation lets)) (is_input numbers) names
   knows names numbers num inside name e r =
       let all = equation_names (map equation lets) ++ equation_names (map equation assigns) in
       let p = λ (name : List ℕ). not (is_among (targets_of (map equation lets)) name) in
-      let other : is_among (targets_of (map equation lets)) name ≡ false =
-      elim (cases_Bool (is_among (targets_of (map equation lets)) name)) [
-        | inl t ↦
-            absurd (some-is slots name (meets.unplaced name t) r)
-        | inr f ↦ f
-      ] in
       num.some name ∙ gathered-all [] (filter p all) name
-      (among-kept p all name (inside name e)
-      (not_from_false (is_among (targets_of (map equation lets)) name) other))
+      (among-kept p all name (inside name e) (and_parts (is_some (slots name)) (p name) r).1)
 
   pub reads-inputs : (numbers : Numbers)
       → AreNumbered (block_inputs (block_from down states lets assigns)) numbers
       → BlockReads (is_input numbers) lets assigns
   reads-inputs numbers num =
       let l = equation_names (map equation lets) in let a = equation_names (map equation assigns) in
-      block-reads (λ name. is_some (slots name)) (is_input numbers) lets assigns meets.meet
+      block-reads (is_readable slots (map equation lets)) (is_input numbers) lets assigns meets.meet
       (knows l numbers num (λ name e. among-left l a name e))
       (knows a numbers num (λ name e. among-right l a name e))
 

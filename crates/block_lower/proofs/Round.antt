@@ -7,7 +7,7 @@ use Rattle.op_text.specs.Rules.{is_among}
 use Rattle.loop_ir.specs.Plain.{Block as Body}
 use Rattle.loop_ir.specs.Loops.{round_at}
 use Rattle.loop_ir.specs.Spots.{Spot, Spots, spot_at, nth_place, nth_spot, round_env, after_round}
-use Rattle.loop_ir.specs.Like.{gives}
+use Rattle.loop_ir.specs.Spots.{gives}
 use Rattle.loop_ir.specs.Statements.{Slots, targets_of, written_names, statement_names}
 use Rattle.loop_ir.specs.Lowered.{IsRowOf}
 use Rattle.loop_laws.proofs.Same.{write_other, write_at}

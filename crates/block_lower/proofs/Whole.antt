@@ -9,7 +9,7 @@ use Rattle.loop_ir.specs.Plain.{Block as Body, StepOf}
 use Rattle.loop_ir.specs.Plain.StepOf.{Along}
 use Rattle.loop_ir.specs.Loops.{one_round, rounds, all_rounds}
 use Rattle.loop_ir.specs.Spots.{Spot, Spots, after_rounds}
-use Rattle.loop_ir.specs.Costs.{rounds_cost}
+use Rattle.loop_ir.specs.Costs.{rounds_cost, plain_costs}
 use Rattle.loop_ir.specs.Statements.{Slots, read_names, written_names}
 use Rattle.loop_ir.specs.Lowered.{Holds, IsRowOf, IsLowered}
 use Rattle.block_lower.specs.Inputs.{block_inputs}
@@ -19,7 +19,7 @@ use Rattle.block_lower.proofs.Folds.{positions-are}
 use Rattle.block_lower.proofs.Visits.{all-visits, rounds-rest}
 use Rattle.block_lower.proofs.Starts.{started, starts-do, started-rest, begins}
 use Rattle.block_lower.proofs.Ends.{are-read, holds-all}
-use Rattle.block_lower.proofs.Costs.{within-ceiling, program-cost}
+use Rattle.block_lower.proofs.Costs.{within-ceiling, program-cost, program-plain}
 use Rattle.block_lower.proofs.Compile.{can-compile, are-well}
 
 after-all : (slots : Slots) (b : Block) (body : Body) (n : ℕ) (bits : Spots)
@@ -75,6 +75,9 @@ lowered {slots = slots} {fb = fb} {fw = fw} {b = b} {steps = steps} g most form 
           (subst (λ ss. rounds_cost (all_rounds n ss)
           ≤ n * (4 * length form.body.graph.nodes + 3 * length b.assigns) + length b.states)
           form.form (form.cost n));
+      plain = λ n lt wide. within-ceiling is n
+          (plain_costs (all_rounds n (map (start slots b.down) b.states ++ Along form.body ∷ [])))
+          (program-plain is g.meets.some n);
     })
 
 pub is-program : {slots : Slots} {b : Block} (body : Body) (steps : List (StepOf Body))

@@ -82,6 +82,13 @@ abbrev pub turn_cost : Block → ℕ
 turn_cost b = if is_copy b then 1 else (if is_not b then 2 else (if is_and b then 4
     else (if is_or b then 4 else (if is_xor b then 7 else (if is_add b then 9 else body_cost b)))))
 
+-- the same where no body has a sequence of its own
+abbrev pub plain_cost : Block → ℕ
+plain_cost b = if is_copy b then 1 else body_cost b
+
+abbrev pub plain_costs : List (RoundOf Block) → ℕ
+plain_costs rs = sum_by (λ r. plain_cost r.part) rs
+
 abbrev pub rounds_cost : List (RoundOf Block) → ℕ
 rounds_cost rs = sum_by (λ r. turn_cost r.part) rs
 

@@ -5,6 +5,5 @@ pub mod Spots
 pub mod WellFormed
 pub mod Costs
 pub mod Limits
-pub mod Like
 pub mod Statements
 pub mod Lowered

@@ -3,7 +3,8 @@ use Rattle.std.specs.Prelude.{ℕ, zero, suc, ◌+◌, ◌*◌, ◌==◌, ◌&&�
 use Rattle.std.specs.Prelude.{List, [], ◌∷◌}
 use Rattle.mig_graph.specs.declared.Lit.{Lit}
 use Rattle.mig_graph.specs.Literals.{lit_value}
-use Rattle.mig_graph.specs.Graph.{values}
+use Rattle.mig_graph.specs.Graph.{value, values}
+use Rattle.mig_graph.specs.Outputs.{lit_at}
 use Rattle.loop_ir.specs.declared.ir.Space.{Space}
 use Rattle.loop_ir.specs.declared.ir.Space.TheVariants.{Result, Source, ScratchBit, ScratchWord}
 use Rattle.loop_ir.specs.declared.ir.Sub.TheVariants.{Zero}
@@ -60,6 +61,10 @@ write_all n i o env [] ls bits = bits
 write_all n i o env (p ∷ ps) [] bits = bits
 write_all n i o env (p ∷ ps) (l ∷ ls) bits = write_all n i o env ps ls
     (set_spot bits (spot_at n i o p) (lit_value env l))
+
+-- the value of an output, from the values of the inputs
+abbrev pub gives : Block → (ℕ → Bool) → ℕ → Bool
+gives b v j = value b.graph v (lit_at b.outs j)
 
 -- the graph's nodes on the bits that a round reads
 abbrev pub round_env : ℕ → RoundOf Block → Spots → ℕ → Bool

@@ -1,5 +1,5 @@
 -- Where the names of a statement lie.
-use Rattle.std.specs.Prelude.{◌≡◌, ◌⊎◌, ℕ, ◌+◌, ◌<◌, ◌≤◌, Bool, true, false, not, ◌||◌, List, []}
+use Rattle.std.specs.Prelude.{◌≡◌, ◌⊎◌, ℕ, ◌+◌, ◌<◌, ◌≤◌, Bool, true, false, not, ◌&&◌, ◌||◌, List, []}
 use Rattle.std.specs.Prelude.{◌∷◌, ◌++◌, map, filter, length, Option, Some, None, is_some, bytes_eq}
 use Rattle.std.specs.List.{AllByRecursion}
 use Rattle.std.specs.Option.{option_to_list}
@@ -143,16 +143,19 @@ abbrev pub AreDistinct : List (List ℕ) → Type 0
 AreDistinct [] = Unit {0}
 AreDistinct (name ∷ names) = (is_among names name ≡ false) × AreDistinct names
 
--- A block meets the rules: its limits, its lets without places, its states with bits and its other
--- targets with words that it does not read
+-- a block with these lets can read the name before its lets: it has a place and is no let
+abbrev pub is_readable : Slots → List Equation → List ℕ → Bool
+is_readable slots lets name = is_some (slots name) && not (is_among (targets_of lets) name)
+
+-- A block meets the rules: its limits, its states with bits and its other targets with words that it
+-- does not read
 pub record BlockMeets (slots : Slots) (b : Block) : Type 0 where
   pub states : length b.states ≤ MAX_STATES
   pub lets : length b.lets ≤ MAX_LETS
   pub some : 0 < length b.assigns
   pub assigns : length b.assigns ≤ MAX_ASSIGNS
   pub weight : block_weight b ≤ MAX_WEIGHT
-  pub meet : LetsMeet (λ name. is_some (slots name)) b.lets b.assigns
-  pub unplaced : (name : List ℕ) → is_among (targets_of b.lets) name ≡ true → slots name ≡ None
+  pub meet : LetsMeet (is_readable slots b.lets) b.lets b.assigns
   pub states_differ : AreDistinct (state_names b)
   pub lets_differ : AreDistinct (targets_of b.lets)
   pub targets_differ : AreDistinct (targets_of b.assigns)

@@ -2,7 +2,7 @@ pub mod Same
 pub mod Loop
 pub mod Steps
 pub mod Placed
-pub mod Alike
+pub mod Summed
 pub mod Costing
 pub mod Good
 pub mod EveryRound

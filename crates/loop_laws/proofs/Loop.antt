@@ -7,7 +7,7 @@ use Rattle.mig_graph.specs.Graph.{values}
 use Rattle.loop_ir.specs.Plain.{Block}
 use Rattle.loop_ir.specs.Loops.{round_at, one_round, rounds}
 use Rattle.loop_ir.specs.Spots.{Spots, write_all, after_round, after_rounds}
-use Rattle.loop_ir.specs.Like.{gives}
+use Rattle.loop_ir.specs.Spots.{gives}
 use Rattle.loop_laws.specs.Turns.{Origin, Standing, Carried, nth_origin, from_origin, seen}
 use Rattle.loop_laws.specs.Turns.{read_spot, write_spot, turn, after_many, ReadIs, IsLoop, Turns}
 use Rattle.loop_laws.proofs.Same.{write_other, write_at}

@@ -1,5 +1,4 @@
--- What a written loop program has to keep, so that one like it with graphs of its own can be
--- compiled.
+-- What a loop program has to keep, so that it can be compiled.
 use Rattle.std.specs.Prelude.{◌≡◌, ℕ, ◌+◌, ◌<◌, ◌≤◌, Bool, true, ◌&&◌, nat_le, List, [], ◌∷◌}
 use Rattle.std.specs.Prelude.{length}
 use Rattle.std.specs.List.{AllByRecursion, list_all}

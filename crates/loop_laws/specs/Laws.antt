@@ -2,12 +2,9 @@
 use Rattle.std.specs.Prelude.{◌≡◌, ℕ, ◌<◌, ◌≤◌, true, List}
 use Rattle.bit_rows.specs.declared.TheConstants.{WIDTH_MAX}
 use Rattle.loop_ir.specs.Plain.{Block, StepOf, AllParts}
-use Rattle.loop_ir.specs.Loops.{all_rounds}
-use Rattle.loop_ir.specs.Spots.{Spot, Spots, after_rounds}
+use Rattle.loop_ir.specs.Spots.{Spot, Spots}
 use Rattle.loop_ir.specs.WellFormed.{AreWellFormed}
-use Rattle.loop_ir.specs.Costs.{rounds_cost}
 use Rattle.loop_ir.specs.Limits.{CanCompile}
-use Rattle.loop_ir.specs.Like.{LikeSteps}
 use Rattle.loop_laws.specs.Turns.{Origin, IsLoop, Turns, after_many}
 use Rattle.loop_laws.specs.Rooms.{Room, Marked, RoomsApart, IsOwned, steps_fit, placed_steps}
 use Rattle.loop_laws.specs.Forms.{HasForm, IsMade, is_short}
@@ -17,20 +14,10 @@ abbrev pub LoopsTurn : Type 0
 LoopsTurn = (n o count : ℕ) (b : Block) (origins : List Origin) → IsLoop n o count b origins
     → (bits : Spots) → Turns n o b origins bits (after_many n o b count bits) count
 
--- Programs that are alike do the same.
-abbrev pub AlikeDoTheSame : Type 0
-AlikeDoTheSame = (ss ts : List (StepOf Block)) → LikeSteps ss ts → (n : ℕ) (bits : Spots)
-    → after_rounds n (all_rounds n ss) bits ≡ after_rounds n (all_rounds n ts) bits
-
--- A program like another costs no more.
-abbrev pub AlikeCostNoMore : Type 0
-AlikeCostNoMore = (ss ts : List (StepOf Block)) → LikeSteps ss ts → (n : ℕ)
-    → rounds_cost (all_rounds n ss) ≤ rounds_cost (all_rounds n ts)
-
--- Code can be made, over rows that it may have, of a program like one of that form.
-abbrev pub AlikeCompile : (ℕ → Spot → Type 0) → Type 0
-AlikeCompile may_have = (ss ts : List (StepOf Block)) → LikeSteps ss ts → AllParts IsMade ss
-    → HasForm may_have ts → AreWellFormed ss × CanCompile may_have ss
+-- Code can be made, over rows that it may have, of a program of that form with such graphs.
+abbrev pub MadeCompile : (ℕ → Spot → Type 0) → Type 0
+MadeCompile may_have = (steps : List (StepOf Block)) → AllParts IsMade steps
+    → HasForm may_have steps → AreWellFormed steps × CanCompile may_have steps
 
 -- The tests on owners, subscripts and numbers are enough, where the rooms are apart at every width
 -- and have such rows alone.

@@ -3,7 +3,7 @@ use Rattle.std.specs.Prelude.{◌≡◌, ℕ, zero, suc, ◌<◌, ◌≤◌, Boo
 use Rattle.loop_ir.specs.Plain.{Block}
 use Rattle.loop_ir.specs.Loops.{round_at}
 use Rattle.loop_ir.specs.Spots.{Spots, Spot, nth_spot, after_round}
-use Rattle.loop_ir.specs.Like.{gives}
+use Rattle.loop_ir.specs.Spots.{gives}
 
 -- where a value that is read comes from: the loop leaves it alone, or it is what this output gave
 -- at the position before

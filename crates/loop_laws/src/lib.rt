@@ -1,8 +1,6 @@
-//! What is true of loops, and of loop programs that are alike.
+//! What is true of loops and of loop programs.
 #![tactic(auto)]
 
 mod laws;
 
-pub use laws::{
-    alike_compile, alike_cost_no_more, alike_do_the_same, loops_turn, marks_are_enough,
-};
+pub use laws::{loops_turn, made_compile, marks_are_enough};

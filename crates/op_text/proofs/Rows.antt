@@ -7,7 +7,15 @@ use Rattle.std.proofs.lemmas.Slice.Eq.{bytes_eq-Decides}
 use Rattle.op_text.specs.declared.word_ops.WordOp.{WordOp}
 use Rattle.op_text.specs.declared.word_ops.WordOp.TheVariants as o
 use Rattle.op_text.specs.declared.word_ops.WordRow.{WordRow}
-use Rattle.op_text.specs.WordOps.{number, row_at, row_of, word_rows, op_text, op_named, first_named}
+use Rattle.op_text.specs.WordOps.{number, row, row_of, word_rows, op_text, op_named, first_named}
+use Rattle.op_text.specs.declared.word_ops.Signature.TheVariants.{Nothing}
+
+abbrev row_at : ℕ → List ℕ × WordRow
+row_at k = slice_index_or word_rows k ([], row o.Not Nothing None 0 0)
+
+at_number : (p : WordOp) → row_at (number p) ≡ (op_text p, row_of p)
+at_number o.Not = refl
+at_number p = refl
 
 pub row_is_own : (p : WordOp) → (row_of p).op ≡ p
 row_is_own o.Not = refl
@@ -18,8 +26,9 @@ abbrev pub is_op : WordOp → WordOp → Bool
 is_op p q = eqb (number p) (number q)
 
 pub same_op : (p q : WordOp) → is_op p q ≡ true → p ≡ q
-same_op p q h = sym (row_is_own p)
-    ∙ ap (λ k. (row_at k).1.op) (eqb-true (number p) (number q) h) ∙ row_is_own q
+same_op p q h =
+    let at = λ (q : WordOp). ap (λ r. r.1.op) (at_number q) ∙ row_is_own q in
+    sym (at p) ∙ ap (λ k. (row_at k).1.op) (eqb-true (number p) (number q) h) ∙ at q
 
 left_of : (a b : Bool) → (a && b) ≡ true → a ≡ true
 left_of true b h = refl
@@ -40,8 +49,8 @@ passes f (r ∷ rows) (suc k) d h e =
 -- a test that each row passes is passed by each operation
 pub every : (f : WordOp → Bool) → list_all (λ r. f r.1.op) word_rows ≡ true → (p : WordOp)
     → f p ≡ true
-every f h p = ap f (sym (row_is_own p))
-    ∙ passes f word_rows (number p) _ h (left_of (f o.Not) _ h)
+every f h p = ap f (sym (ap (λ r. r.1.op) (at_number p) ∙ row_is_own p))
+    ∙ passes f word_rows (number p) ([], row o.Not Nothing None 0 0) h (left_of (f o.Not) _ h)
 
 abbrev names : Option WordOp → WordOp → Bool
 names None p = false

@@ -1,17 +1,92 @@
 -- The word operations: how they are spelled, what they take and give.
 use Rattle.std.specs.Prelude.{◌≡◌, ℕ, List, [], ◌∷◌, ◌++◌, Bool, true, false, Option, Some, None}
-use Rattle.std.specs.Prelude.{bytes_eq, map, unwrap_or, slice_index_or, if◌then◌else◌}
+use Rattle.std.specs.Prelude.{bytes_eq, codes, map, unwrap_or, if◌then◌else◌}
 use Rattle.std.specs.List.{list_any}
 use Rattle.op_text.specs.declared.tree.Kind.{Kind}
 use Rattle.op_text.specs.declared.tree.Kind.TheVariants.{Word, Bit}
 use Rattle.op_text.specs.declared.word_ops.WordOp.{WordOp}
 use Rattle.op_text.specs.declared.word_ops.WordOp.TheVariants as o
-use Rattle.op_text.specs.declared.word_ops.TheConstants.{WORD_OPS}
 use Rattle.op_text.specs.declared.word_ops.WordRow.{WordRow}
 use Rattle.op_text.specs.declared.word_ops.Signature.{Signature}
 use Rattle.op_text.specs.declared.word_ops.Signature.TheVariants as signs
 
--- an operation's place in the table
+-- all word operations, in their order
+abbrev pub all_ops : List WordOp
+all_ops = o.Not ∷ o.And ∷ o.Or ∷ o.Xor ∷ o.Copy ∷ o.Zero ∷ o.Ones ∷ o.Shl1 ∷ o.Shr1 ∷ o.Add
+    ∷ o.Sub ∷ o.Mul ∷ o.Div ∷ o.Rem ∷ o.Abs ∷ o.Relu ∷ o.Min ∷ o.Max ∷ o.Eq ∷ o.Gt ∷ o.Ge
+    ∷ o.IfElse ∷ o.Bitcount ∷ o.AndRed ∷ o.OrRed ∷ o.XorRed ∷ o.Divmod ∷ []
+
+-- an operation's name
+abbrev pub op_text : WordOp → List ℕ
+op_text o.Not = codes "not"
+op_text o.And = codes "and"
+op_text o.Or = codes "or"
+op_text o.Xor = codes "xor"
+op_text o.Copy = codes "copy"
+op_text o.Zero = codes "zero"
+op_text o.Ones = codes "ones"
+op_text o.Shl1 = codes "shl1"
+op_text o.Shr1 = codes "shr1"
+op_text o.Add = codes "add"
+op_text o.Sub = codes "sub"
+op_text o.Mul = codes "mul"
+op_text o.Div = codes "div"
+op_text o.Rem = codes "rem"
+op_text o.Abs = codes "abs"
+op_text o.Relu = codes "relu"
+op_text o.Min = codes "min"
+op_text o.Max = codes "max"
+op_text o.Eq = codes "eq"
+op_text o.Gt = codes "gt"
+op_text o.Ge = codes "ge"
+op_text o.IfElse = codes "if_else"
+op_text o.Bitcount = codes "bitcount"
+op_text o.AndRed = codes "and_red"
+op_text o.OrRed = codes "or_red"
+op_text o.XorRed = codes "xor_red"
+op_text o.Divmod = codes "divmod"
+
+abbrev pub row : WordOp → Signature → Option Kind → ℕ → ℕ → WordRow
+row op signature second bits words = record {
+  op = op;
+  signature = signature;
+  second = second;
+  bits = bits;
+  words = words;
+}
+
+-- What it takes and gives, the kind of a second result, and its internal scratch: so many bits and
+-- so many words
+abbrev pub row_of : WordOp → WordRow
+row_of o.Not = row o.Not signs.OneOf None 0 0
+row_of o.And = row o.And signs.TwoOf None 0 0
+row_of o.Or = row o.Or signs.TwoOf None 0 0
+row_of o.Xor = row o.Xor signs.TwoOf None 0 0
+row_of o.Copy = row o.Copy signs.OneOf None 0 0
+row_of o.Zero = row o.Zero signs.Nothing None 0 0
+row_of o.Ones = row o.Ones signs.Nothing None 0 0
+row_of o.Shl1 = row o.Shl1 (signs.OneWord Word) None 1 0
+row_of o.Shr1 = row o.Shr1 (signs.OneWord Word) None 1 0
+row_of o.Add = row o.Add (signs.TwoWords Word) None 1 0
+row_of o.Sub = row o.Sub (signs.TwoWords Word) None 1 0
+row_of o.Mul = row o.Mul (signs.TwoWords Word) None 1 0
+row_of o.Div = row o.Div (signs.TwoWords Word) None 2 2
+row_of o.Rem = row o.Rem (signs.TwoWords Word) None 2 2
+row_of o.Abs = row o.Abs (signs.OneWord Word) None 1 0
+row_of o.Relu = row o.Relu (signs.OneWord Word) None 0 0
+row_of o.Min = row o.Min (signs.TwoWords Word) None 1 0
+row_of o.Max = row o.Max (signs.TwoWords Word) None 1 0
+row_of o.Eq = row o.Eq (signs.TwoWords Bit) None 0 0
+row_of o.Gt = row o.Gt (signs.TwoWords Bit) None 0 0
+row_of o.Ge = row o.Ge (signs.TwoWords Bit) None 0 0
+row_of o.IfElse = row o.IfElse signs.Choice None 0 0
+row_of o.Bitcount = row o.Bitcount (signs.OneWord Word) None 1 0
+row_of o.AndRed = row o.AndRed (signs.OneWord Bit) None 0 0
+row_of o.OrRed = row o.OrRed (signs.OneWord Bit) None 0 0
+row_of o.XorRed = row o.XorRed (signs.OneWord Bit) None 0 0
+row_of o.Divmod = row o.Divmod (signs.TwoWords Word) (Some Word) 2 2
+
+-- an operation's place in their order
 abbrev pub number : WordOp → ℕ
 number o.Not = 0
 number o.And = 1
@@ -41,23 +116,9 @@ number o.OrRed = 24
 number o.XorRed = 25
 number o.Divmod = 26
 
--- the rows of the table, each with its name
+-- all operations' names and rows
 abbrev pub word_rows : List (List ℕ × WordRow)
-word_rows = map (λ r. (r.0.now, r.1)) WORD_OPS
-
-abbrev pub row_at : ℕ → List ℕ × WordRow
-row_at k = slice_index_or word_rows k
-    ([], record { op = o.Not; signature = signs.Nothing; second = None; bits = 0; words = 0 })
-
-abbrev pub row_of : WordOp → WordRow
-row_of p = (row_at (number p)).1
-
-abbrev pub op_text : WordOp → List ℕ
-op_text p = (row_at (number p)).0
-
--- all word operations, in the order of the table
-abbrev pub all_ops : List WordOp
-all_ops = map (λ r. r.1.op) word_rows
+word_rows = map (λ p. (op_text p, row_of p)) all_ops
 
 abbrev pub first_named : List (List ℕ × WordRow) → List ℕ → Option WordOp
 first_named [] text = None

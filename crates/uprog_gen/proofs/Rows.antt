@@ -2,7 +2,6 @@
 pub mod Rounds
 pub mod Ranges
 pub mod Laid
-pub mod Same
 pub mod Values
 pub mod Agree
 pub mod Settled

@@ -1,5 +1,5 @@
 -- What the code of loop programs does.
-use Rattle.std.specs.Prelude.{◌≡◌, ℕ, ◌+◌, ◌<◌, ◌≤◌, List, [], ◌∷◌, ◌++◌, map, length, sum_by}
+use Rattle.std.specs.Prelude.{◌≡◌, ◌⊎◌, ℕ, ◌+◌, ◌<◌, ◌≤◌, List, [], ◌∷◌, ◌++◌, map, length, sum_by}
 use Rattle.std.specs.List.{range_with_len}
 use Rattle.bit_rows.specs.declared.TheConstants.{WIDTH_MAX}
 use Rattle.bit_rows.specs.Bits.{value}
@@ -18,7 +18,7 @@ use Rattle.loop_ir.specs.Plain.{Block, StepOf, AllParts}
 use Rattle.loop_ir.specs.Loops.{all_rounds}
 use Rattle.loop_ir.specs.Spots.{Spots, after_rounds}
 use Rattle.loop_ir.specs.Costs.{rounds_cost}
-use Rattle.uprog_gen.specs.Settled.{IsSettled, rounds_counts}
+use Rattle.uprog_gen.specs.Settled.{IsSettled, rounds_counts, all_counted}
 use Rattle.uprog_gen.specs.Where.{spots_in, Agree}
 
 -- The code ends, takes no more commands than its rounds may, and exactly theirs where all bodies
@@ -59,12 +59,18 @@ numbers_in space n [] which bits = []
 numbers_in space n (k ∷ ks) which bits = spot_number space which (width k n) bits
     ∷ numbers_in space n ks (which + 1) bits
 
+-- A statement's rounds at n take at most so many commands: as many as its bodies may, or exactly
+-- theirs where all of them are settled
+abbrev pub IsCheap : ℕ → List (StepOf Block) → ℕ → Type 0
+IsCheap n p most = (rounds_cost (all_rounds n p) ≤ most)
+    ⊎ (AllParts IsSettled p × (all_counted (rounds_counts (all_rounds n p)) ≤ most))
+
 -- each statement's rounds at n take at most its ceiling
 abbrev pub AreCheap : ℕ → List (List (StepOf Block)) → List (ℕ → ℕ) → Type 0
 AreCheap n [] [] = Unit {0}
 AreCheap n [] (c ∷ cs) = ⊥
 AreCheap n (p ∷ ps) [] = ⊥
-AreCheap n (p ∷ ps) (c ∷ cs) = (rounds_cost (all_rounds n p) ≤ c n) × AreCheap n ps cs
+AreCheap n (p ∷ ps) (c ∷ cs) = IsCheap n p (c n) × AreCheap n ps cs
 
 -- the sum of the ceilings
 abbrev pub total : List (ℕ → ℕ) → ℕ → ℕ

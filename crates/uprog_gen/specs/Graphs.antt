@@ -3,10 +3,11 @@ use Rattle.std.specs.Prelude.{◌≡◌, ℕ, ◌+◌, ◌*◌, ◌<◌, ◌≤�
 use Rattle.std.specs.Prelude.{slice_get}
 use Rattle.bit_rows.specs.declared.TheConstants.{WIDTH_MAX}
 use Rattle.op_text.specs.declared.tree.Param.{Param}
+use Rattle.op_text.specs.declared.word_ops.WordOp.{WordOp}
 use Rattle.op_text.specs.Language.{Equation, Block, Statement, Compute, Visit, Operation}
 use Rattle.op_text.specs.Meaning.{term_bit, with_lets}
 use Rattle.op_text.specs.Scratch.{defines, names_width, block_weight}
-use Rattle.op_text.specs.Costs.{op_ceiling}
+use Rattle.op_text.specs.Costs.{op_aaps, op_aps}
 use Rattle.mig_graph.specs.declared.Lit.{Lit}
 use Rattle.mig_graph.specs.declared.MigOuts.{MigOuts}
 use Rattle.mig_graph.specs.Graph.{Graph, IsGraph, value}
@@ -50,13 +51,17 @@ AreGraphsOf (Compute target second p args ∷ body) gs = AreGraphsOf body gs
 AreGraphsOf (Visit b ∷ body) [] = ⊥
 AreGraphsOf (Visit b ∷ body) (g ∷ gs) = IsGraphOf b g × AreGraphsOf body gs
 
+-- the AAP and AP of a word operation
+abbrev pub op_commands : WordOp → ℕ → ℕ
+op_commands p n = op_aaps p n + op_aps p n
+
 -- The greatest number of commands at width n, where these names are known and the serial blocks
--- have these graphs: a round of a block takes four for a node of its graph and three for an
--- assignment, and each state's start takes one
+-- have these graphs: those of each word operation, and of a block four a round for a node of its
+-- graph and three for an assignment, and one for each state's start
 abbrev pub graphed_ceiling : List Param → ℕ → List Statement → List Graphed → ℕ
 graphed_ceiling known n [] gs = 0
 graphed_ceiling known n (Compute target second p args ∷ body) gs =
-    op_ceiling p (names_width known n args) + graphed_ceiling (known
+    op_commands p (names_width known n args) + graphed_ceiling (known
     ++ defines known (Compute target second p args)) n body gs
 graphed_ceiling known n (Visit b ∷ body) [] = 0
 graphed_ceiling known n (Visit b ∷ body) (g ∷ gs) =

@@ -1,13 +1,14 @@
 -- The loop programs of an operation's statements, and its entry.
-use Rattle.std.specs.Prelude.{◌≡◌, ◌≤◌, true, false, length, ℕ, List, [], ◌∷◌, ◌++◌}
+use Rattle.std.specs.Prelude.{◌≡◌, ◌<◌, ◌≤◌, true, false, length, take, ℕ, List, [], ◌∷◌, ◌++◌}
 use Rattle.std.specs.List.{AllByRecursion}
+use Rattle.bit_rows.specs.declared.TheConstants.{WIDTH_MAX}
 use Rattle.op_text.specs.declared.tree.Param.{Param}
 use Rattle.op_text.specs.Language.{Statement, Operation}
 use Rattle.op_text.specs.Scratch.{defines, statement_ceiling}
 use Rattle.op_text.specs.Costs.{op_ceiling}
 use Rattle.uprog_code.specs.declared.code.Uop.{Uop}
 use Rattle.uprog_code.specs.declared.code.Uop.TheVariants.{Done}
-use Rattle.uprog_code.specs.Shape.{Microprogram}
+use Rattle.uprog_code.specs.Shape.{Shape, Microprogram}
 use Rattle.uprog_code.specs.Legal.{IsLegalCode}
 use Rattle.uprog_code.specs.Texts.{text_op, EntryDoes}
 use Rattle.loop_ir.specs.Plain.{StepOf, Block}
@@ -16,6 +17,8 @@ use Rattle.loop_ir.specs.Lowered.{IsLowered}
 use Rattle.word_lower.specs.Forms.{HasForm, IsWritten}
 use Rattle.word_mul.specs.Programs.{is_nested_statement}
 use Rattle.word_mul.specs.Places.{IsNestWritten}
+use Rattle.uprog_gen.specs.Does.{DoesRounds, joined}
+use Rattle.uprog_gen.specs.Layout.{IsLayout}
 
 -- each statement has a loop program that does it, with all names at these places
 abbrev pub AreLowered : Slots → ℕ → ℕ → List Statement → List (List (StepOf Block)) → Type 0
@@ -55,18 +58,29 @@ abbrev pub together : List (List Uop) → List Uop
 together [] = []
 together (p ∷ ps) = p ++ together ps
 
--- the code is so many parts of at most 256 instructions each, one after another, and DONE
-pub record HasParts (count : ℕ) (code : List Uop) : Type 0 where
+-- The code is so many parts of at most 256 instructions each, one after another, and DONE. The first
+-- parts, however many, and DONE do the rounds of as many statements
+pub record HasParts (count : ℕ) (head : Shape) (statements : List (List (StepOf Block)))
+    (code : List Uop) : Type 0 where
   pub parts : List (List Uop)
   pub many : length parts ≡ count
   pub short : AllByRecursion (λ p. length p ≤ 256) parts
   pub whole : code ≡ together parts ++ Done ∷ []
+  pub each : (k n : ℕ) → 0 < n → n ≤ WIDTH_MAX
+      → DoesRounds head n (joined (take k statements)) (together (take k parts) ++ Done ∷ [])
 
--- an operation's entry: it does the operation, its code is legal, and has a part for each statement
+-- An operation's entry: it does the operation, its code is legal, and over the places of the names
+-- each statement has a loop program that does it, and a part of the code that does its rounds
 pub record IsCompiled (e : Microprogram) (op : Operation) : Type 0 where
   pub does : EntryDoes e (text_op op)
   pub legal : IsLegalCode e.shape e.code
-  pub parts : HasParts (length op.body) e.code
+  pub slots : Slots
+  pub free_bit : ℕ
+  pub free_word : ℕ
+  pub laid : IsLayout op slots free_bit free_word
+  pub statements : List (List (StepOf Block))
+  pub lowered : AreLowered slots free_bit free_word op.body statements
+  pub parts : HasParts (length op.body) e.shape statements e.code
 
 -- an entry for each operation, in order
 abbrev pub AreCompiled : List Microprogram → List Operation → Type 0

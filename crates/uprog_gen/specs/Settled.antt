@@ -1,6 +1,6 @@
 -- Bodies whose commands are settled: copies, and the bodies of the word operations.
 -- Only the compiler's own calls on one op speak of this.
-use Rattle.std.specs.Prelude.{◌≡◌, ℕ, Bool, true, false, if◌then◌else◌, List, [], ◌∷◌, sum_by}
+use Rattle.std.specs.Prelude.{◌≡◌, ℕ, ◌+◌, Bool, true, false, if◌then◌else◌, List, [], ◌∷◌, sum_by}
 use Rattle.std.specs.Prelude.{count_by, Option, Some, None}
 use Rattle.uprog_code.specs.declared.walker.Counts.{Counts}
 use Rattle.row_alloc.specs.declared.body.BodyCmd.{BodyCmd}
@@ -68,3 +68,7 @@ rounds_counts rs = record {
   aap = sum_by (λ r. turn_aaps r.part) rs;
   ap = sum_by (λ r. turn_aps r.part) rs;
 }
+
+-- AAP and AP together
+abbrev pub all_counted : Counts → ℕ
+all_counted c = c.aap + c.ap

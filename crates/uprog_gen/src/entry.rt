@@ -9,7 +9,8 @@ ghost use Rattle.uprog_code.specs.Implements.{Implements};
 ghost use Rattle.loop_ir.specs.Plain.{steps_of};
 ghost use Rattle.loop_ir.specs.Limits.{CanCompile};
 ghost use Rattle.uprog_gen.specs.Where.{IsSpot};
-ghost use Rattle.uprog_gen.specs.Does.{DoesRounds, Means, joined, total};
+ghost use Rattle.uprog_code.specs.Machine.{trace, issues_of};
+ghost use Rattle.uprog_gen.specs.Does.{DoesRounds, Means, AreCheap, joined, total};
 ghost use Rattle.uprog_gen.specs.Programs.{HasParts};
 
 use crate::steps::emit_steps;
@@ -33,9 +34,14 @@ pub fn compile_entry(
 
     ensures head { IfOk result (λ entry. entry.head ≡ head) }
     ensures legal { IfOk result (λ entry. IsLegalCode (shape_of head) entry.code.items) }
-    ensures parts { IfOk result (λ entry. HasParts (length statements.now) entry.code.items) }
+    // Each statement has its part, and the first parts do the first statements.
+    ensures parts { IfOk result (λ entry. HasParts (length statements.now) (shape_of head)
+        (map steps_of statements.now) entry.code.items) }
     ensures does { IfOk result (λ entry. (n : ℕ) → 0 < n → n ≤ WIDTH_MAX
         → DoesRounds (shape_of head) n (joined (map steps_of statements.now)) entry.code.items) }
+    ensures few { IfOk result (λ entry. (n : ℕ) → 0 < n → n ≤ WIDTH_MAX
+        → (ceilings : List (ℕ → ℕ)) → AreCheap n (map steps_of statements.now) ceilings
+        → length (issues_of (trace (shape_of head) entry.code.items n)) ≤ total ceilings n) }
 
     // Whatever numbers the statements' rounds give, and whatever ceilings they keep, the code has
     // that meaning within the sum of the ceilings.

@@ -1,6 +1,6 @@
 //! The code of whole operations.
 
-ghost use Rattle.std.specs.Prelude.{◌≡◌, ℕ, ◌<◌, ◌≤◌, ◌++◌, ◌∷◌, [], map, length, OnOk, IfOk};
+ghost use Rattle.std.specs.Prelude.{◌≡◌, ℕ, ◌<◌, ◌≤◌, ◌++◌, ◌∷◌, [], List, map, length, OnOk, IfOk};
 ghost use Rattle.bit_rows.specs.declared.TheConstants.{WIDTH_MAX};
 ghost use Rattle.op_text.specs.Language.{operation, operations};
 ghost use Rattle.op_text.specs.Spelling.{Each, MeetRules};
@@ -12,9 +12,8 @@ ghost use Rattle.uprog_code.specs.Texts.{text_op, ImplementsAll};
 ghost use Rattle.uprog_code.specs.Count.{counts_of};
 ghost use Rattle.loop_ir.specs.Plain.{steps_of, AllParts};
 ghost use Rattle.loop_ir.specs.Loops.{all_rounds};
-ghost use Rattle.loop_ir.specs.Costs.{rounds_cost};
 ghost use Rattle.loop_ir.specs.Statements.{slots_of};
-ghost use Rattle.uprog_gen.specs.Does.{joined};
+ghost use Rattle.uprog_gen.specs.Does.{joined, AreCheap, total};
 ghost use Rattle.uprog_gen.specs.Settled.{IsSettled, rounds_counts};
 ghost use Rattle.uprog_gen.specs.Totals.{AreExact};
 ghost use Rattle.uprog_gen.specs.Graphs.{graphed_of, AddsGraphs, AreGraphed};
@@ -59,9 +58,12 @@ pub fn compile_lowered(op: &Op, lowered: &Lowered, alloc: Global) -> Result<Entr
         (map steps_of lowered.now.programs.items) }
     ensures compiled { IfOk result (λ entry.
         IsCompiled (microprogram_of entry) (operation op.now)) }
+    // No more commands than the sum of what each statement takes at most.
     ensures few { IfOk result (λ entry. (n : ℕ) → 0 < n → n ≤ WIDTH_MAX
+        → (ceilings : List (ℕ → ℕ))
+        → AreCheap n (map steps_of lowered.now.programs.items) ceilings
         → length (issues_of (trace (microprogram_of entry).shape entry.code.items n))
-        ≤ rounds_cost (all_rounds n (joined (map steps_of lowered.now.programs.items)))) }
+        ≤ total ceilings n) }
     ensures exact { IfOk result (λ entry. (n : ℕ) → 0 < n → n ≤ WIDTH_MAX
         → AllParts IsSettled (joined (map steps_of lowered.now.programs.items))
         → counts_of (issues_of (trace (microprogram_of entry).shape entry.code.items n))
@@ -115,7 +117,7 @@ pub fn compile_ops(ops: &Ops, alloc: Global) -> Result<Compiled, NoMemory>
         (map text_op (operations ops.now))) }
     // A file can hold it.
     ensures program { IfOk result (λ c. IsProgram (microprograms_of c.program)) }
-    // Each has a part of at most 256 instructions for each statement, and DONE.
+    // Each has a part of at most 256 instructions for each statement, which does it, and DONE.
     ensures compiled { IfOk result (λ c. AreCompiled (microprograms_of c.program)
         (operations ops.now)) }
     // The graphs are those of the blocks, and no entry takes more commands than they say.

@@ -9,12 +9,8 @@ use Rattle.mig_graph.specs.declared.Node.{Node}
 use Rattle.mig_graph.specs.Graph.{Graph, IsGraph}
 use Rattle.mig_graph.specs.Outputs.{lit_at}
 use Rattle.loop_ir.specs.declared.ir.Place.{Place}
-use Rattle.loop_ir.specs.Plain.{Block, InnerOf, StepOf}
-use Rattle.loop_ir.specs.Plain.InnerOf.{Alone, Across}
-use Rattle.loop_ir.specs.Plain.StepOf.{Single, Along, Nest}
+use Rattle.loop_ir.specs.Plain.{Block}
 use Rattle.loop_laws.specs.Forms.{IsMade}
-use Rattle.loop_ir.specs.Like.{IsLike, LikeParts, no_parts, alone, across, LikeSteps, no_steps}
-use Rattle.loop_ir.specs.Like.{single, along, nest}
 use Rattle.word_lower.specs.declared.shapes.Mark.{Mark}
 use Rattle.word_lower.specs.declared.shapes.Owners.{Owners}
 use Rattle.word_lower.specs.Programs.{template}
@@ -35,30 +31,6 @@ twice_mapped : (o : Owners) (ms : List Mark) → map (λ m. place_on o (mark_of 
     ≡ map (place_on o) (marks ms)
 twice_mapped o [] = refl
 twice_mapped o (m ∷ ms) = ap (λ ps. place_on o (mark_of m) ∷ ps) (twice_mapped o ms)
-
--- a body is like itself
-pub like_self : (b : Block) → IsLike b b
-like_self b = record {
-  reads = refl;
-  writes = refl;
-  inputs = omega arith;
-  as_many = refl;
-  values = λ v j lj. refl;
-  nodes = omega arith;
-  cheap = omega arith;
-}
-
-parts_self : (ps : List (InnerOf Block)) → LikeParts ps ps
-parts_self [] = no_parts
-parts_self (Alone b ∷ ps) = alone (like_self b) (parts_self ps)
-parts_self (Across c b ∷ ps) = across (like_self b) (parts_self ps)
-
--- and so is a program
-pub steps_self : (ss : List (StepOf Block)) → LikeSteps ss ss
-steps_self [] = no_steps
-steps_self (Single b ∷ ss) = single (like_self b) (steps_self ss)
-steps_self (Along b ∷ ss) = along (like_self b) (steps_self ss)
-steps_self (Nest ps ∷ ss) = nest (parts_self ps) (steps_self ss)
 
 abbrev pub block_of_parts : List Place → Graph → List Lit → List Place → Block
 block_of_parts reads g outs writes = record {

@@ -1,7 +1,7 @@
 -- Where the arguments fill a form of an operation, its loop program does it, keeps its ceiling, and
 -- passes the tests.
 use Rattle.std.proofs.Common.{◌≡◌, ℕ, suc, ◌+◌, ◌*◌, ◌<◌, ◌≤◌, true, List, [], ◌∷◌, map, Some, refl}
-use Rattle.std.proofs.Common.{sym, ap, ◌∙◌, subst, arith}
+use Rattle.std.proofs.Common.{sym, ap, ◌∙◌, subst, arith, ◌⊎◌, inl, inr}
 use Rattle.op_text.specs.declared.tree.Kind.{Kind}
 use Rattle.op_text.specs.declared.tree.Kind.TheVariants.{Word, Bit}
 use Rattle.op_text.specs.declared.word_ops.WordOp.{WordOp}
@@ -18,11 +18,12 @@ use Rattle.loop_ir.specs.declared.names.Slot.{Slot}
 use Rattle.loop_ir.specs.Plain.{Block, StepOf}
 use Rattle.loop_ir.specs.Loops.{all_rounds}
 use Rattle.loop_ir.specs.Spots.{Spot, Spots, spot_in, after_rounds}
-use Rattle.loop_ir.specs.Costs.{rounds_cost}
-use Rattle.loop_ir.specs.Lowered.{slot_spot, slot_bits}
+use Rattle.loop_ir.specs.Costs.{turn_cost, rounds_cost, plain_cost, plain_costs}
+use Rattle.loop_ir.specs.Lowered.{slot_spot, slot_bits, op_plain_ceiling}
 use Rattle.loop_laws.specs.Rooms.{steps_fit, placed_steps}
 use Rattle.loop_laws.specs.Forms.{is_short}
-use Rattle.loop_laws.proofs.Costing.{total, total_is}
+use Rattle.loop_laws.proofs.Summed.{steps_sum, sum_is}
+use Rattle.loop_laws.proofs.Costing.{rounds-plain}
 use Rattle.word_lower.specs.Places.{scratch_from, rooms_of}
 use Rattle.word_lower.specs.Programs.{program, is_linear}
 use Rattle.word_lower.specs.Shapes.{owners_of, program_on}
@@ -60,6 +61,8 @@ pub record Lowers (p : WordOp) (k : Kind) (t : Slot) (args : List Slot) (free : 
       → DoesOp p n k t args free
   pub cheap : (n : ℕ) → rounds_cost (all_rounds n (steps_on p k t args free))
       ≤ op_ceiling p (slots_width n args)
+  pub plain : (n : ℕ) → plain_costs (all_rounds n (steps_on p k t args free))
+      ≤ op_plain_ceiling p (slots_width n args)
 
 -- a place with another kind, and places of these kinds
 abbrev of_kind : Slot → Kind → Slot
@@ -152,29 +155,70 @@ record Computes (p : WordOp) (k : Kind) (t : Slot) (args : List Slot) (free : �
   short : is_short (steps_on p k t args free) ≡ true
   cheap : (n : ℕ) → rounds_cost (all_rounds n (steps_on p k t args free))
       ≤ op_ceiling p (slots_width n args)
+  plain : (n : ℕ) → plain_costs (all_rounds n (steps_on p k t args free))
+      ≤ op_plain_ceiling p (slots_width n args)
 
 abbrev ComputesIn : WordOp → Kind → Slot → (ℕ → Slot) → ℕ → Type 0
 ComputesIn p c t f free = let sh = (row_of p).signature in
     Computes p (gives_kind sh c) (of_kind t (gives_kind sh c)) (args_in sh c f) free
 
+-- it keeps the ceiling, or has no other one where no body has a sequence of its own
+abbrev IsCheap : WordOp → List (StepOf Block) → List Slot → Type 0
+IsCheap p steps args =
+    ((n : ℕ) → steps_sum turn_cost n steps ≤ 2 * op_ceiling p (slots_width n args))
+    ⊎ ((m : ℕ) → op_plain_ceiling p m ≡ op_ceiling p m)
+
 computed : (p : WordOp) (k : Kind) (t : Slot) (args : List Slot) (free : ℕ)
     → steps_fit (rooms_of t args (scratch_from free (bits_inside p))) (program p k) ≡ true
     → program_on (owners_of t args free) (program p k) ≡ steps_on p k t args free
     → is_short (steps_on p k t args free) ≡ true
-    → ((n : ℕ) → total n (steps_on p k t args free) ≤ 2 * op_ceiling p (slots_width n args))
+    → ((n : ℕ) → steps_sum plain_cost n (steps_on p k t args free)
+    ≤ 2 * op_plain_ceiling p (slots_width n args)) → IsCheap p (steps_on p k t args free) args
     → Computes p k t args free
-computed p k t args free fit same short cheap = record {
-  fit = fit;
-  same = same;
-  short = short;
-  cheap = λ n. let e = total_is n (steps_on p k t args free) in let h = cheap n in
-      omega (arith, e, h);
-}
+computed p k t args free fit same short plain cheap =
+    let steps = steps_on p k t args free in
+    let few : (n : ℕ) → plain_costs (all_rounds n steps) ≤ op_plain_ceiling p (slots_width n args) =
+    λ n. let e = sum_is plain_cost n steps in let h = plain n in omega (arith, e, h) in
+    record {
+      fit = fit;
+      same = same;
+      short = short;
+      cheap = λ n. kept n few cheap;
+      plain = few;
+    }
+  where
+    kept : (n : ℕ) → ((n : ℕ) → plain_costs (all_rounds n (steps_on p k t args free))
+        ≤ op_plain_ceiling p (slots_width n args)) → IsCheap p (steps_on p k t args free) args
+        → rounds_cost (all_rounds n (steps_on p k t args free)) ≤ op_ceiling p (slots_width n args)
+    kept n few (inl h) =
+        let e = sum_is turn_cost n (steps_on p k t args free) in let c = h n in omega (arith, e, c)
+    kept n few (inr same) =
+        let r = rounds-plain (all_rounds n (steps_on p k t args free)) in
+        let f = few n in let s = same (slots_width n args) in omega (arith, r, f, s)
 
 computes : (c : Kind) (p : WordOp) (t : Slot) (f : ℕ → Slot) (free : ℕ) → ComputesIn p c t f free
 computes Word op.Not t f free = computed _ _ _ _ _ refl refl refl (λ n. omega arith)
+    (inl (λ n. omega arith))
+computes Word op.And t f free = computed _ _ _ _ _ refl refl refl (λ n. omega arith)
+    (inl (λ n. omega arith))
+computes Word op.Or t f free = computed _ _ _ _ _ refl refl refl (λ n. omega arith)
+    (inl (λ n. omega arith))
+computes Word op.Xor t f free = computed _ _ _ _ _ refl refl refl (λ n. omega arith)
+    (inl (λ n. omega arith))
+computes Word op.Add t f free = computed _ _ _ _ _ refl refl refl (λ n. omega arith)
+    (inl (λ n. omega arith))
 computes Bit op.Not t f free = computed _ _ _ _ _ refl refl refl (λ n. omega arith)
-computes c p t f free = computed _ _ _ _ _ refl refl refl (λ n. omega arith)
+    (inl (λ n. omega arith))
+computes Bit op.And t f free = computed _ _ _ _ _ refl refl refl (λ n. omega arith)
+    (inl (λ n. omega arith))
+computes Bit op.Or t f free = computed _ _ _ _ _ refl refl refl (λ n. omega arith)
+    (inl (λ n. omega arith))
+computes Bit op.Xor t f free = computed _ _ _ _ _ refl refl refl (λ n. omega arith)
+    (inl (λ n. omega arith))
+computes Bit op.Add t f free = computed _ _ _ _ _ refl refl refl (λ n. omega arith)
+    (inl (λ n. omega arith))
+computes Word p t f free = computed _ _ _ _ _ refl refl refl (λ n. omega arith) (inr (λ m. refl))
+computes Bit p t f free = computed _ _ _ _ _ refl refl refl (λ n. omega arith) (inr (λ m. refl))
 
 -- in each form the program does the operation
 module _ (p : WordOp) (c : Kind) (t : Slot) (f : ℕ → Slot) (free : ℕ) (linear : is_linear p ≡ true)
@@ -225,7 +269,7 @@ module _ (p : WordOp) (c : Kind) (t : Slot) (f : ℕ → Slot) (free : ℕ) (lin
     lowers_in : Lowers p k target args free
     lowers_in =
         let is = computes c p t f free in
-        record { fit = is.fit; same = is.same; short = is.short; does = does; cheap = is.cheap }
+        record { fit = is.fit; same = is.same; short = is.short; does = does; cheap = is.cheap; plain = is.plain }
 
 -- where the arguments fill a form of a linear operation, its program does it
 pub op_lowers : (p : WordOp) (k : Kind) (t : Slot) (args : List Slot) (free : ℕ)

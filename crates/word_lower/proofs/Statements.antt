@@ -1,4 +1,4 @@
--- A loop program like an operation's one does the statement.
+-- An operation's loop program does the statement.
 use Rattle.std.proofs.Common.{◌≡◌, inl, inr, ℕ, zero, suc, ◌+◌, ◌*◌, ◌/◌, ◌<◌, ◌≤◌, Bool, true}
 use Rattle.std.proofs.Common.{false, List, [], ◌∷◌, ◌++◌, map, length, Option, Some, None, refl}
 use Rattle.std.proofs.Common.{sym, ap}
@@ -24,7 +24,6 @@ use Rattle.loop_ir.specs.declared.names.Slot.{Slot}
 use Rattle.loop_ir.specs.Plain.{Block, StepOf, AllParts}
 use Rattle.loop_ir.specs.Loops.{all_rounds}
 use Rattle.loop_ir.specs.Spots.{Spot, Spots, spot_in, after_rounds, IsOwn}
-use Rattle.loop_ir.specs.Like.{LikeSteps}
 use Rattle.loop_ir.specs.Statements.{Slots, holds_kind, statement_names, IsPlaced, HaveKinds}
 use Rattle.loop_ir.specs.Statements.{SecondMeets, ComputeMeets}
 use Rattle.loop_ir.specs.Lowered.{slot_spot, slot_bits, HoldsAt, Holds, IsStatementRow}
@@ -32,10 +31,8 @@ use Rattle.loop_ir.specs.Lowered.{Does, IsLowered}
 use Rattle.loop_ir.specs.Lowered as l
 use Rattle.loop_laws.specs.Rooms.{Room, room_at, IsOwned, extent}
 use Rattle.loop_laws.specs.Forms.{IsMade, HasForm}
-use Rattle.loop_laws.proofs.Alike.{alike_do_the_same}
-use Rattle.loop_laws.proofs.Costing.{alike_cost_no_more}
 use Rattle.loop_laws.proofs.EveryRound.{marks_are_enough}
-use Rattle.loop_laws.proofs.Compile.{alike_compile}
+use Rattle.loop_laws.proofs.Compile.{made_compile}
 use Rattle.word_lower.specs.Places.{rooms_of, scratch_bit, scratch_from, AreAt}
 use Rattle.word_lower.specs.Programs.{program, is_linear}
 use Rattle.word_lower.specs.Shapes.{owners_of, program_on}
@@ -411,72 +408,64 @@ module _ (slots : Slots) (free_bit free_word : ℕ) (target : List ℕ) (p : Wor
       placed t
       found ss at n)
 
-  module _ (steps : List (StepOf Block)) (like : LikeSteps steps (steps_on p t.kind t ss free_bit))
+  abbrev steps : List (StepOf Block)
+  steps = steps_on p t.kind t ss free_bit
+
+  does : (n : ℕ) → 0 < n → Does slots free_bit free_word (Compute target None p args) n steps
+  does n some = record {
+    gives = λ held rows h name e.
+        (let new = after_rounds n (all_rounds n steps) rows in
+        let same : target ≡ name = (bytes_eq-Decides target name).0
+        (only (bytes_eq target name) e) in
+        let g : slot_bits n new t ≡ bits (op_value p (slots_width n ss)
+        (map (λ s. value (slot_bits n rows s)) ss)) (width n t.kind) =
+        (does_op n some).gives rows in
+        let one : HoldsAt n (Some t) (after_statement n held (Compute target None p args)
+        target)
+        new =
+        subst (λ (c : Bool). HoldsAt n (Some t) (if c then computed n p (map held args)
+        else held target) new) (sym (same_name target target refl))
+        (answer n held rows new h g) in
+        subst (λ x. Holds n slots (after_statement n held (Compute target None p args)) new
+        x) same
+        (subst (λ (x : Option Slot). HoldsAt n x
+        (after_statement n held (Compute target None p args) target) new) (sym found) one));
+    keeps = λ rows q out.
+        (does_op n some).keeps rows q (λ v lv e.
+        out (inl (
+          target,
+          t,
+          v,
+          written slots free_bit free_word target None p args meets placed t
+              found ss at,
+          found,
+          lv,
+          e,
+        ))) (λ j lj e. out (inr (inl (j, lj, e))));
+  }
     where
-      after : ℕ → Spots → Spots
-      after n rows = after_rounds n (all_rounds n steps) rows
+      only : (b : Bool) → (b || false) ≡ true → b ≡ true
+      only true e = refl
+      only false e = cc
 
-      after_is : (n : ℕ) (rows : Spots) → after_rounds n (all_rounds n steps) rows
-          ≡ after_rounds n (all_rounds n (steps_on p t.kind t ss free_bit)) rows
-      after_is n rows = alike_do_the_same steps (steps_on p t.kind t ss free_bit) like n rows
-
-      does : (n : ℕ) → 0 < n → Does slots free_bit free_word (Compute target None p args) n steps
-      does n some = record {
-        gives = λ held rows h name e.
-            (let new = after_rounds n (all_rounds n steps) rows in
-            let same : target ≡ name = (bytes_eq-Decides target name).0
-            (only (bytes_eq target name) e) in
-            let g : slot_bits n new t ≡ bits (op_value p (slots_width n ss)
-            (map (λ s. value (slot_bits n rows s)) ss)) (width n t.kind) =
-            ap (λ (b : Spots). slot_bits n b t) (after_is n rows) ∙ (does_op n some).gives rows in
-            let one : HoldsAt n (Some t) (after_statement n held (Compute target None p args)
-            target)
-            new =
-            subst (λ (c : Bool). HoldsAt n (Some t) (if c then computed n p (map held args)
-            else held target) new) (sym (same_name target target refl))
-            (answer n held rows new h g) in
-            subst (λ x. Holds n slots (after_statement n held (Compute target None p args)) new
-            x) same
-            (subst (λ (x : Option Slot). HoldsAt n x
-            (after_statement n held (Compute target None p args) target) new) (sym found) one));
-        keeps = λ rows q out.
-            ap (λ (b : Spots). b q) (after_is n rows)
-            ∙ (does_op n some).keeps rows q (λ v lv e.
-            out (inl (
-              target,
-              t,
-              v,
-              written slots free_bit free_word target None p args meets placed t
-                  found ss at,
-              found,
-              lv,
-              e,
-            ))) (λ j lj e. out (inr (inl (j, lj, e))));
+  pub lowered : AllParts IsMade steps → IsLowered slots free_bit free_word
+      (Compute target None p args)
+      steps
+  lowered made =
+      let c = made_compile (IsStatementRow slots free_bit free_word (Compute target None p args))
+      steps made
+      (form slots free_bit free_word target None p args meets placed t found ss at t.kind linear
+      lowers) in
+      record {
+        well = c.0;
+        can = c.1;
+        does = λ n some most. does n some;
+        cheap = λ n some most. (let b = lowers.cheap n in
+            let w = ap (op_ceiling p) (named_width n slots args ss at) in omega (arith, b, w));
+        plain = λ n some most. (let b = lowers.plain n in
+            let w = ap (l.op_plain_ceiling p) (named_width n slots args ss at) in
+            omega (arith, b, w));
       }
-        where
-          only : (b : Bool) → (b || false) ≡ true → b ≡ true
-          only true e = refl
-          only false e = cc
-
-      pub lowered : AllParts IsMade steps → IsLowered slots free_bit free_word
-          (Compute target None p args)
-          steps
-      lowered made =
-          let c = alike_compile (IsStatementRow slots free_bit free_word (Compute target None p
-          args))
-          steps (steps_on p t.kind t ss free_bit) like made
-          (form slots free_bit free_word target None p args meets placed t found ss at t.kind linear
-          lowers) in
-          record {
-            well = c.0;
-            can = c.1;
-            does = λ n some most. does n some;
-            cheap = λ n some most. (let a = alike_cost_no_more steps
-                (steps_on p t.kind t ss free_bit)
-                like n in let b = lowers.cheap n in
-                let w = ap (op_ceiling p) (named_width n slots args ss at) in
-                omega (arith, a, b, w));
-          }
 
 -- an operation that takes one pass has no second target
 pub alone : (slots : Slots) (target : List ℕ) (second : Option (List ℕ)) (args : List (List ℕ))
@@ -486,25 +475,25 @@ alone slots target None args p linear h = refl
 alone slots target (Some x) args op.Divmod linear h = cc
 alone slots target (Some x) args p linear h = absurd h
 
--- a program like the one on the owners' places does the statement
+-- the program on the owners' places does the statement
 pub lowered_on : (slots : Slots) (free_bit free_word : ℕ) (target : List ℕ)
     (second : Option (List ℕ)) (p : WordOp) (args : List (List ℕ)) (linear : is_linear p ≡ true)
     (meets : ComputeMeets slots target second p args)
     (placed : IsPlaced slots free_bit free_word (Compute target second p args)) (t : Slot)
     (found : slots target ≡ Some t) (ss : List Slot) (at : AreAt slots args ss)
     (steps : List (StepOf Block))
-    → LikeSteps steps (program_on (owners_of t ss free_bit) (program p t.kind))
-    → AllParts IsMade steps
+    → steps ≡ program_on (owners_of t ss free_bit) (program p t.kind) → AllParts IsMade steps
     → IsLowered slots free_bit free_word (Compute target second p args) steps
 lowered_on slots free_bit free_word target second p args linear meets placed t found ss at steps
-    like made =
+    same made =
     let none = alone slots target second args p linear meets.others in
     let m = subst (λ x. ComputeMeets slots target x p args) none meets in
     let q = subst (λ x. IsPlaced slots free_bit free_word (Compute target x p args)) none placed in
+    let e = same ∙ (lowers slots free_bit free_word target p args linear m q t found ss at).same in
     subst (λ x. IsLowered slots free_bit free_word (Compute target x p args) steps) (sym none)
-    (lowered slots free_bit free_word target p args linear m q t found ss at steps
-    (subst (LikeSteps steps) (lowers slots free_bit free_word target p args linear m q t
-    found ss at).same like) made)
+    (subst (IsLowered slots free_bit free_word (Compute target None p args)) (sym e)
+    (lowered slots free_bit free_word target p args linear m q t found ss at
+    (subst (AllParts IsMade) e made)))
 
 -- the arguments have places
 pub record Places (slots : Slots) (names : List (List ℕ)) : Type 0 where

@@ -13,12 +13,12 @@ use Rattle.loop_ir.specs.declared.ir.Space.TheVariants.{ScratchBit, ScratchWord}
 use Rattle.loop_ir.specs.declared.names.Slot.{Slot}
 use Rattle.loop_ir.specs.Loops.{all_rounds}
 use Rattle.loop_ir.specs.Spots.{Spot, Spots, spot_in, after_rounds}
-use Rattle.loop_ir.specs.Costs.{rounds_cost}
-use Rattle.loop_ir.specs.Lowered.{slot_spot, slot_bits}
+use Rattle.loop_ir.specs.Costs.{turn_cost, rounds_cost, plain_cost, plain_costs}
+use Rattle.loop_ir.specs.Lowered.{slot_spot, slot_bits, op_plain_ceiling}
 use Rattle.loop_laws.specs.Rooms.{Room, Twice, room_at, row_in, extent, RoomsApart, IsOwned}
 use Rattle.loop_laws.specs.Rooms.{steps_fit}
 use Rattle.loop_laws.specs.Forms.{is_short}
-use Rattle.loop_laws.proofs.Costing.{total_is}
+use Rattle.loop_laws.proofs.Summed.{sum_is}
 use Rattle.word_lower.specs.Places.{room_of, scratch_from, rooms_of}
 use Rattle.word_lower.proofs.Pieces.{slot_at, AreApart, Pieces, RoomView, is_target, is_arg}
 use Rattle.word_lower.proofs.Pieces.{is_scratch, room_view, extent_is, moves_in, rooms_apart}
@@ -74,6 +74,9 @@ pub record LowersBoth (t u : Slot) (args : List Slot) (free_bit free_word : ℕ)
       (steps_for op.Divmod (rows_on t (Some u) args free_bit free_word)))
       ≡ nested_total op.Divmod n
   pub cheap : (n : ℕ) → nested_total op.Divmod n ≤ op_ceiling op.Divmod (slots_width n args)
+  pub plain : (n : ℕ) → plain_costs (all_rounds n
+      (steps_for op.Divmod (rows_on t (Some u) args free_bit free_word)))
+      ≤ op_plain_ceiling op.Divmod (slots_width n args)
 
 abbrev window : ℕ → Room
 window free_word = record { space = ScratchWord; which = free_word; rows = Twice; written = true }
@@ -173,9 +176,11 @@ module _ (x0 : Space) (y0 : ℕ) (x1 : Space) (y1 : ℕ) (x2 : Space) (y2 : ℕ)
           keeps = λ q tq uq bq wq. g.keeps q (elsewhere n 2 2 pair q tq bq wq)
               (λ e. uq e.0 e.1 e.2);
         });
-    total = λ n. (let e = total_is n (steps_for op.Divmod pair) in let s = square n in
+    total = λ n. (let e = sum_is turn_cost n (steps_for op.Divmod pair) in let s = square n in
         omega (arith, e, s));
     cheap = λ n. omega arith;
+    plain = λ n. (let e = sum_is plain_cost n (steps_for op.Divmod pair) in let s = square n in
+        omega (arith, e, s));
   }
 
 -- where the arguments fill its form and the targets are words

@@ -16,11 +16,11 @@ use Rattle.loop_ir.specs.declared.ir.Space.TheVariants.{ScratchBit, ScratchWord}
 use Rattle.loop_ir.specs.declared.names.Slot.{Slot}
 use Rattle.loop_ir.specs.Loops.{all_rounds}
 use Rattle.loop_ir.specs.Spots.{Spot, Spots, spot_in, after_rounds}
-use Rattle.loop_ir.specs.Costs.{rounds_cost}
-use Rattle.loop_ir.specs.Lowered.{slot_spot, slot_bits}
+use Rattle.loop_ir.specs.Costs.{turn_cost, rounds_cost, plain_cost, plain_costs}
+use Rattle.loop_ir.specs.Lowered.{slot_spot, slot_bits, op_plain_ceiling}
 use Rattle.loop_laws.specs.Rooms.{room_at, row_in, extent, RoomsApart, IsOwned, steps_fit}
 use Rattle.loop_laws.specs.Forms.{is_short}
-use Rattle.loop_laws.proofs.Costing.{total_is}
+use Rattle.loop_laws.proofs.Summed.{sum_is}
 use Rattle.word_lower.specs.Places.{scratch_bit, scratch_from, rooms_of}
 use Rattle.word_lower.proofs.Setting.{row, number_at, SlotsApart}
 use Rattle.word_lower.proofs.Lists.{bits_of_number, value_of_list}
@@ -64,6 +64,9 @@ pub record Lowers (p : WordOp) (t : Slot) (args : List Slot) (free_bit free_word
       free_word)))
       ≡ nested_total p n
   pub cheap : (n : ℕ) → nested_total p n ≤ op_ceiling p (slots_width n args)
+  pub plain : (n : ℕ) → plain_costs (all_rounds n (steps_for p (rows_on t None args free_bit
+      free_word)))
+      ≤ op_plain_ceiling p (slots_width n args)
 
 pub square : (n : ℕ) → n ^ 2 ≡ n * n
 square n = let e : n ^ 2 ≡ n ^ 1 * n = pow-suc n 1 in let f : n ^ 1 ≡ n ^ 0 * n = pow-suc n 0 in
@@ -253,9 +256,11 @@ module _ (x0 : Space) (y0 : ℕ) (x1 : Space) (y1 : ℕ) (x2 : Space) (y2 : ℕ)
       owned = λ n q o. inl o;
       does = λ n some are clear. does_two op.Mul n (λ x y.
           refl) (mul_does n two (two_rows None n 1 0 are clear));
-      total = λ n. (let e = total_is n (steps_for op.Mul two) in let s = square n in
+      total = λ n. (let e = sum_is turn_cost n (steps_for op.Mul two) in let s = square n in
           omega (arith, e, s));
       cheap = λ n. omega arith;
+      plain = λ n. (let e = sum_is plain_cost n (steps_for op.Mul two) in let s = square n in
+          omega (arith, e, s));
     }
 
     pub on_div : Lowers op.Div t (a ∷ b ∷ []) free_bit free_word
@@ -266,9 +271,11 @@ module _ (x0 : Space) (y0 : ℕ) (x1 : Space) (y1 : ℕ) (x2 : Space) (y2 : ℕ)
       owned = window_owned;
       does = λ n some are clear. does_two op.Div n (λ x y.
           refl) (div_does n two (two_rows None n 2 2 are clear));
-      total = λ n. (let e = total_is n (steps_for op.Div two) in let s = square n in
+      total = λ n. (let e = sum_is turn_cost n (steps_for op.Div two) in let s = square n in
           omega (arith, e, s));
       cheap = λ n. omega arith;
+      plain = λ n. (let e = sum_is plain_cost n (steps_for op.Div two) in let s = square n in
+          omega (arith, e, s));
     }
 
     pub on_rem : Lowers op.Rem t (a ∷ b ∷ []) free_bit free_word
@@ -279,9 +286,11 @@ module _ (x0 : Space) (y0 : ℕ) (x1 : Space) (y1 : ℕ) (x2 : Space) (y2 : ℕ)
       owned = window_owned;
       does = λ n some are clear. does_two op.Rem n (λ x y.
           refl) (rem_does n two (two_rows None n 2 2 are clear));
-      total = λ n. (let e = total_is n (steps_for op.Rem two) in let s = square n in
+      total = λ n. (let e = sum_is turn_cost n (steps_for op.Rem two) in let s = square n in
           omega (arith, e, s));
       cheap = λ n. omega arith;
+      plain = λ n. (let e = sum_is plain_cost n (steps_for op.Rem two) in let s = square n in
+          omega (arith, e, s));
     }
 
     pub on_bitcount : Lowers op.Bitcount t (a ∷ []) free_bit free_word
@@ -300,7 +309,9 @@ module _ (x0 : Space) (y0 : ℕ) (x1 : Space) (y1 : ℕ) (x2 : Space) (y2 : ℕ)
                 (sym (value_of_list (λ v. before (row n a v)) n)));
             keeps = λ q tq bq wq. g.keeps q (elsewhere n 1 0 one q tq bq wq);
           });
-      total = λ n. (let e = total_is n (steps_for op.Bitcount one) in let s = square n in
+      total = λ n. (let e = sum_is turn_cost n (steps_for op.Bitcount one) in let s = square n in
           omega (arith, e, s));
       cheap = λ n. omega arith;
+      plain = λ n. (let e = sum_is plain_cost n (steps_for op.Bitcount one) in let s = square n in
+          omega (arith, e, s));
     }

@@ -5,7 +5,7 @@ use Rattle.loop_ir.specs.declared.ir.Inner.{Inner}
 use Rattle.loop_ir.specs.declared.ir.Step.{Step}
 use Rattle.loop_ir.specs.Plain.{Block, InnerOf, StepOf, AllInner, AllParts, AllStep, inner_of}
 use Rattle.loop_ir.specs.Plain.{step_of}
-use Rattle.loop_ir.specs.Plain.StepOf.{Along, Nest}
+use Rattle.loop_ir.specs.Plain.StepOf.{Nest}
 use Rattle.loop_ir.specs.Plain.InnerOf.{Alone, Across}
 use Rattle.loop_laws.specs.Rooms.{Marked}
 use Rattle.loop_laws.specs.Forms.{IsMade}

@@ -1,15 +1,13 @@
 -- The row of an operation, at the places of its owners, is its loop program in its rooms.
-use Rattle.std.proofs.Common.{◌≡◌, ℕ, ◌+◌, ◌<◌, ◌≤◌, List, Option, Some, None, refl, sym, ap}
-use Rattle.std.proofs.Common.{◌∙◌, subst, arith}
+use Rattle.std.proofs.Common.{◌≡◌, ◌+◌, ◌<◌, ◌≤◌, List, Option, Some, refl, ap}
+use Rattle.std.proofs.Common.{◌∙◌, arith}
 use Rattle.op_text.specs.declared.word_ops.WordOp.{WordOp}
 use Rattle.op_text.specs.declared.word_ops.WordOp.TheVariants as op
 use Rattle.op_text.specs.Scratch.{bits_inside}
 use Rattle.loop_ir.specs.declared.names.Slot.{Slot}
 use Rattle.loop_ir.specs.Plain.{Block, StepOf, AllParts}
-use Rattle.loop_ir.specs.Like.{LikeSteps}
 use Rattle.loop_laws.specs.Forms.{IsMade}
 use Rattle.word_lower.specs.Places.{scratch_bit}
-use Rattle.word_lower.proofs.LikeTemplates.{steps_self}
 use Rattle.word_mul.specs.declared.rows.Rows.{Rows}
 use Rattle.word_mul.specs.declared.shapes.Owners.{Owners}
 use Rattle.word_mul.specs.declared.shapes.NestedProgram.{NestedProgram}
@@ -35,4 +33,4 @@ row_built p r m o steps bits er eo es same made =
     let all : steps ≡ steps_for p m = same
     ∙ ap (λ (x : Option NestedProgram). steps_on o (steps_in x)) er
     ∙ ap (λ o. steps_on o (nested p)) eo ∙ placed p m o.second_bit es bits in
-    record { same = all; like = subst (LikeSteps steps) all (steps_self steps); made = made }
+    record { same = all; made = made }

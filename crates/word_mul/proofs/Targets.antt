@@ -12,18 +12,17 @@ use Rattle.op_text.specs.Meaning.{NameValue, width, computed, second_computed, a
 use Rattle.op_text.specs.Costs.{op_ceiling}
 use Rattle.loop_ir.specs.declared.ir.Space.TheVariants.{ScratchWord}
 use Rattle.loop_ir.specs.declared.names.Slot.{Slot}
-use Rattle.loop_ir.specs.Plain.{Block, StepOf}
+use Rattle.loop_ir.specs.Plain.{Block, StepOf, AllParts}
 use Rattle.loop_ir.specs.Loops.{all_rounds}
 use Rattle.loop_ir.specs.Spots.{Spot, Spots, spot_in, after_rounds}
 use Rattle.loop_ir.specs.Costs.{rounds_cost}
 use Rattle.loop_ir.specs.Statements.{Slots, holds_kind, IsPlaced, ComputeMeets}
 use Rattle.loop_ir.specs.Lowered.{slot_spot, HoldsAt, Holds, IsStatementRow, Does, IsLowered}
+use Rattle.loop_ir.specs.Lowered.{op_plain_ceiling}
 use Rattle.loop_laws.specs.Rooms.{IsOwned}
-use Rattle.loop_laws.specs.Forms.{HasForm}
-use Rattle.loop_laws.proofs.Alike.{alike_do_the_same}
-use Rattle.loop_laws.proofs.Costing.{alike_cost_no_more}
+use Rattle.loop_laws.specs.Forms.{HasForm, IsMade}
 use Rattle.loop_laws.proofs.EveryRound.{marks_are_enough}
-use Rattle.loop_laws.proofs.Compile.{alike_compile}
+use Rattle.loop_laws.proofs.Compile.{made_compile}
 use Rattle.word_lower.specs.Places.{rooms_of, scratch_from, AreAt}
 use Rattle.word_lower.proofs.Pieces.{AreApart}
 use Rattle.word_lower.proofs.Filled.{filled_words}
@@ -167,103 +166,100 @@ module _ (slots : Slots) (free_bit free_word : ℕ) (target name : List ℕ) (ar
       (nested op.Divmod) (λ n some most. lowers.apart n (all_apart n))
       (λ n some most q o. owner_row n q (lowers.owned n q o)) lowers.fit lowers.short
 
-  module _ (steps : List (StepOf Block)) (built : StepsBuilt steps
-      (steps_for op.Divmod (rows_on t (Some u) ss free_bit free_word))) where
-    after_is : (n : ℕ) (rows : Spots) → after_rounds n (all_rounds n steps) rows
-        ≡ after_rounds n (all_rounds n
-        (steps_for op.Divmod (rows_on t (Some u) ss free_bit free_word))) rows
-    after_is n rows = alike_do_the_same steps
-        (steps_for op.Divmod (rows_on t (Some u) ss free_bit free_word)) built.like n rows
+  abbrev steps : List (StepOf Block)
+  steps = steps_for op.Divmod (rows_on t (Some u) ss free_bit free_word)
 
-    does_both : (n : ℕ) (rows : Spots) → DoesBoth n t u ss free_bit free_word rows
-        (after_rounds n (all_rounds n steps) rows)
-    does_both n rows = subst (DoesBoth n t u ss free_bit free_word rows) (sym (after_is n rows))
-        (lowers.does n (all_apart n) rows)
+  does_both : (n : ℕ) (rows : Spots) → DoesBoth n t u ss free_bit free_word rows
+      (after_rounds n (all_rounds n steps) rows)
+  does_both n rows = lowers.does n (all_apart n) rows
 
-    held_first : (n : ℕ) (held : List ℕ → NameValue) (rows : Spots) → ((x : List ℕ)
-        → is_among args x ≡ true → Holds n slots held rows x)
-        → HoldsAt n (Some t) (after_statement n held (Compute target (Some name) op.Divmod args)
-        target) (after_rounds n (all_rounds n steps) rows)
-    held_first n held rows h =
-        let new = after_rounds n (all_rounds n steps) rows in
-        let b = second_computed n op.Divmod (map held args) in
-        let a = computed n op.Divmod (map held args) in
-        subst (λ (c : Bool). HoldsAt n (Some t) (if c then b else (if bytes_eq target target then a
-        else held target)) new) (sym meets.others.other)
-        (subst (λ (c : Bool). HoldsAt n (Some t) (if c then a else held target) new)
-        (sym (same_name target target refl))
-        (answer slots op.Divmod args ss at t n held rows new filled_form h
-        (does_both n rows).gives))
+  held_first : (n : ℕ) (held : List ℕ → NameValue) (rows : Spots) → ((x : List ℕ)
+      → is_among args x ≡ true → Holds n slots held rows x)
+      → HoldsAt n (Some t) (after_statement n held (Compute target (Some name) op.Divmod args)
+      target) (after_rounds n (all_rounds n steps) rows)
+  held_first n held rows h =
+      let new = after_rounds n (all_rounds n steps) rows in
+      let b = second_computed n op.Divmod (map held args) in
+      let a = computed n op.Divmod (map held args) in
+      subst (λ (c : Bool). HoldsAt n (Some t) (if c then b else (if bytes_eq target target then a
+      else held target)) new) (sym meets.others.other)
+      (subst (λ (c : Bool). HoldsAt n (Some t) (if c then a else held target) new)
+      (sym (same_name target target refl))
+      (answer slots op.Divmod args ss at t n held rows new filled_form h
+      (does_both n rows).gives))
 
-    held_other : (n : ℕ) (held : List ℕ → NameValue) (rows : Spots) → ((x : List ℕ)
-        → is_among args x ≡ true → Holds n slots held rows x)
-        → HoldsAt n (Some u) (after_statement n held (Compute target (Some name) op.Divmod args)
-        name) (after_rounds n (all_rounds n steps) rows)
-    held_other n held rows h =
-        let new = after_rounds n (all_rounds n steps) rows in
-        let b = second_computed n op.Divmod (map held args) in
-        let a = computed n op.Divmod (map held args) in
-        subst (λ (c : Bool). HoldsAt n (Some u) (if c then b else (if bytes_eq name target then a
-        else held name)) new) (sym (same_name name name refl))
-        (second_answer slots op.Divmod args ss at u n held rows new (sym other_kind) h
-        (does_both n rows).gives_other)
+  held_other : (n : ℕ) (held : List ℕ → NameValue) (rows : Spots) → ((x : List ℕ)
+      → is_among args x ≡ true → Holds n slots held rows x)
+      → HoldsAt n (Some u) (after_statement n held (Compute target (Some name) op.Divmod args)
+      name) (after_rounds n (all_rounds n steps) rows)
+  held_other n held rows h =
+      let new = after_rounds n (all_rounds n steps) rows in
+      let b = second_computed n op.Divmod (map held args) in
+      let a = computed n op.Divmod (map held args) in
+      subst (λ (c : Bool). HoldsAt n (Some u) (if c then b else (if bytes_eq name target then a
+      else held name)) new) (sym (same_name name name refl))
+      (second_answer slots op.Divmod args ss at u n held rows new (sym other_kind) h
+      (does_both n rows).gives_other)
 
-    does : (n : ℕ) → Does slots free_bit free_word (Compute target (Some name) op.Divmod args) n
-        steps
-    does n = record {
-      gives = λ held rows h x e.
-          (let new = after_rounds n (all_rounds n steps) rows in
-          let after = after_statement n held (Compute target (Some name) op.Divmod args) in
-          elim (or_one (bytes_eq target x) (bytes_eq name x) e) [
-            | inl c ↦ subst (λ y. Holds n slots after new y) ((bytes_eq-Decides target x).0 c)
-                (subst (λ (z : Option Slot). HoldsAt n z (after target) new) (sym found)
-                (held_first n held rows h))
-            | inr c ↦ subst (λ y. Holds n slots after new y) ((bytes_eq-Decides name x).0 c)
-                (subst (λ (z : Option Slot). HoldsAt n z (after name) new) (sym near)
-                (held_other n held rows h))
-          ]);
-      keeps = λ rows q out. (does_both n rows).keeps q
-          (λ v lv e. out (inl (
-            target,
-            t,
-            v,
-            written slots free_bit free_word target (Some name) op.Divmod args meets placed t found
-                ss at,
-            found,
-            lv,
-            e,
-          )))
-          (λ v lv e. out (inl (
-            name,
-            u,
-            v,
-            among_complemented name target [] name
-                (written slots free_bit free_word name (Some target) op.Divmod args complemented
-                complemented_placed u near ss at),
-            near,
-            lv,
-            e,
-          )))
-          (λ j lj e. out (inr (inl (j, lj, e))))
-          (λ v lv e. out (inr (inr (v, lv, e))));
-    }
+  does : (n : ℕ) → Does slots free_bit free_word (Compute target (Some name) op.Divmod args) n
+      steps
+  does n = record {
+    gives = λ held rows h x e.
+        (let new = after_rounds n (all_rounds n steps) rows in
+        let after = after_statement n held (Compute target (Some name) op.Divmod args) in
+        elim (or_one (bytes_eq target x) (bytes_eq name x) e) [
+          | inl c ↦ subst (λ y. Holds n slots after new y) ((bytes_eq-Decides target x).0 c)
+              (subst (λ (z : Option Slot). HoldsAt n z (after target) new) (sym found)
+              (held_first n held rows h))
+          | inr c ↦ subst (λ y. Holds n slots after new y) ((bytes_eq-Decides name x).0 c)
+              (subst (λ (z : Option Slot). HoldsAt n z (after name) new) (sym near)
+              (held_other n held rows h))
+        ]);
+    keeps = λ rows q out. (does_both n rows).keeps q
+        (λ v lv e. out (inl (
+          target,
+          t,
+          v,
+          written slots free_bit free_word target (Some name) op.Divmod args meets placed t found
+              ss at,
+          found,
+          lv,
+          e,
+        )))
+        (λ v lv e. out (inl (
+          name,
+          u,
+          v,
+          among_complemented name target [] name
+              (written slots free_bit free_word name (Some target) op.Divmod args complemented
+              complemented_placed u near ss at),
+          near,
+          lv,
+          e,
+        )))
+        (λ j lj e. out (inr (inl (j, lj, e))))
+        (λ v lv e. out (inr (inr (v, lv, e))));
+  }
 
-    pub both_few : (n : ℕ) → rounds_cost (all_rounds n steps) ≤ nested_total op.Divmod n
-    both_few n = let a = alike_cost_no_more steps
-        (steps_for op.Divmod (rows_on t (Some u) ss free_bit free_word)) built.like n in
-        let b = lowers.total n in omega (arith, a, b)
+  -- and so the same steps, whose graphs are such as `Mig` makes
+  module _ (others : List (StepOf Block)) (built : StepsBuilt others steps) where
+    pub both_few : (n : ℕ) → rounds_cost (all_rounds n others) ≤ nested_total op.Divmod n
+    both_few n = let e = ap (λ ss. rounds_cost (all_rounds n ss)) built.same in
+        let b = lowers.total n in omega (arith, e, b)
 
     pub both_lowered : IsLowered slots free_bit free_word
-        (Compute target (Some name) op.Divmod args) steps
+        (Compute target (Some name) op.Divmod args) others
     both_lowered =
-        let c = alike_compile row steps
-        (steps_for op.Divmod (rows_on t (Some u) ss free_bit free_word)) built.like built.made form
-        in
-        record {
+        let c = made_compile row steps (subst (AllParts IsMade) built.same built.made) form in
+        subst (IsLowered slots free_bit free_word (Compute target (Some name) op.Divmod args))
+        (sym built.same) record {
           well = c.0;
           can = c.1;
           does = λ n some most. does n;
-          cheap = λ n some most. (let a = both_few n in let b = lowers.cheap n in
+          cheap = λ n some most. (let a = lowers.total n in let b = lowers.cheap n in
               let w = ap (op_ceiling op.Divmod) (named_width n slots args ss at) in
               omega (arith, a, b, w));
+          plain = λ n some most. (let b = lowers.plain n in
+              let w = ap (op_plain_ceiling op.Divmod) (named_width n slots args ss at) in
+              omega (arith, b, w));
         }

@@ -17,18 +17,17 @@ use Rattle.op_text.specs.Scratch.{bits_inside, words_inside}
 use Rattle.op_text.specs.Costs.{op_ceiling}
 use Rattle.loop_ir.specs.declared.ir.Space.TheVariants.{ScratchWord}
 use Rattle.loop_ir.specs.declared.names.Slot.{Slot}
-use Rattle.loop_ir.specs.Plain.{Block, StepOf}
+use Rattle.loop_ir.specs.Plain.{Block, StepOf, AllParts}
 use Rattle.loop_ir.specs.Loops.{all_rounds}
 use Rattle.loop_ir.specs.Spots.{Spot, Spots, spot_in, after_rounds}
 use Rattle.loop_ir.specs.Costs.{rounds_cost}
 use Rattle.loop_ir.specs.Statements.{Slots, IsPlaced, SecondMeets, ComputeMeets}
 use Rattle.loop_ir.specs.Lowered.{slot_bits, HoldsAt, Holds, IsStatementRow, Does, IsLowered}
+use Rattle.loop_ir.specs.Lowered.{op_plain_ceiling}
 use Rattle.loop_laws.specs.Rooms.{IsOwned}
-use Rattle.loop_laws.specs.Forms.{HasForm}
-use Rattle.loop_laws.proofs.Alike.{alike_do_the_same}
-use Rattle.loop_laws.proofs.Costing.{alike_cost_no_more}
+use Rattle.loop_laws.specs.Forms.{HasForm, IsMade}
 use Rattle.loop_laws.proofs.EveryRound.{marks_are_enough}
-use Rattle.loop_laws.proofs.Compile.{alike_compile}
+use Rattle.loop_laws.proofs.Compile.{made_compile}
 use Rattle.word_lower.specs.Places.{rooms_of, scratch_from, AreAt}
 use Rattle.word_lower.proofs.Pieces.{slot, slot_at}
 use Rattle.word_lower.proofs.Lowering.{slots_width}
@@ -204,69 +203,67 @@ module _ (slots : Slots) (free_bit free_word : ℕ) (target : List ℕ) (p : Wor
       placed t found ss at n) (cleared n))
       (λ n some most q o. owner_row n q (lowers.owned n q o)) lowers.fit lowers.short
 
-  module _ (steps : List (StepOf Block)) (built : StepsBuilt steps
-      (steps_for p (rows_on t None ss free_bit free_word))) where
-    after_is : (n : ℕ) (rows : Spots) → after_rounds n (all_rounds n steps) rows
-        ≡ after_rounds n (all_rounds n (steps_for p (rows_on t None ss free_bit free_word))) rows
-    after_is n rows = alike_do_the_same steps (steps_for p (rows_on t None ss free_bit free_word))
-        built.like n rows
+  abbrev steps : List (StepOf Block)
+  steps = steps_for p (rows_on t None ss free_bit free_word)
 
-    does_op : (n : ℕ) → 0 < n → (rows : Spots)
-        → DoesOp p n t ss free_bit free_word rows (after_rounds n (all_rounds n steps) rows)
-    does_op n some rows = subst (DoesOp p n t ss free_bit free_word rows) (sym (after_is n rows))
-        (lowers.does n some (pieces slots free_bit free_word target None p args meets placed t
-        found ss
-        at n) (cleared n) rows)
+  does_op : (n : ℕ) → 0 < n → (rows : Spots)
+      → DoesOp p n t ss free_bit free_word rows (after_rounds n (all_rounds n steps) rows)
+  does_op n some rows = lowers.does n some (pieces slots free_bit free_word target None p args meets
+      placed t found ss at n) (cleared n) rows
 
-    does : (n : ℕ) → 0 < n → Does slots free_bit free_word (Compute target None p args) n steps
-    does n some = record {
-      gives = λ held rows h name e.
-          (let new = after_rounds n (all_rounds n steps) rows in
-          let same : target ≡ name = (bytes_eq-Decides target name).0
-          (only (bytes_eq target name) e) in
-          let one : HoldsAt n (Some t) (after_statement n held (Compute target None p args)
-          target) new =
-          subst (λ (c : Bool). HoldsAt n (Some t) (if c then computed n p (map held args)
-          else held target) new) (sym (same_name target target refl))
-          (answer slots p args ss at t n held rows new filled_form h
-          (does_op n some rows).gives) in
-          subst (λ x. Holds n slots (after_statement n held (Compute target None p args)) new
-          x) same
-          (subst (λ (x : Option Slot). HoldsAt n x
-          (after_statement n held (Compute target None p args) target) new) (sym found) one));
-      keeps = λ rows q out. (does_op n some rows).keeps q
-          (λ v lv e.
-          out (inl (
-            target,
-            t,
-            v,
-            written slots free_bit free_word target None p args meets placed t
-                found ss at,
-            found,
-            lv,
-            e,
-          )))
-          (λ j lj e. out (inr (inl (j, lj, e))))
-          (λ v lv e. out (inr (inr (v, lv, e))));
-    }
-      where
-        only : (b : Bool) → (b || false) ≡ true → b ≡ true
-        only true e = refl
-        only false e = cc
+  does : (n : ℕ) → 0 < n → Does slots free_bit free_word (Compute target None p args) n steps
+  does n some = record {
+    gives = λ held rows h name e.
+        (let new = after_rounds n (all_rounds n steps) rows in
+        let same : target ≡ name = (bytes_eq-Decides target name).0
+        (only (bytes_eq target name) e) in
+        let one : HoldsAt n (Some t) (after_statement n held (Compute target None p args)
+        target) new =
+        subst (λ (c : Bool). HoldsAt n (Some t) (if c then computed n p (map held args)
+        else held target) new) (sym (same_name target target refl))
+        (answer slots p args ss at t n held rows new filled_form h
+        (does_op n some rows).gives) in
+        subst (λ x. Holds n slots (after_statement n held (Compute target None p args)) new
+        x) same
+        (subst (λ (x : Option Slot). HoldsAt n x
+        (after_statement n held (Compute target None p args) target) new) (sym found) one));
+    keeps = λ rows q out. (does_op n some rows).keeps q
+        (λ v lv e.
+        out (inl (
+          target,
+          t,
+          v,
+          written slots free_bit free_word target None p args meets placed t
+              found ss at,
+          found,
+          lv,
+          e,
+        )))
+        (λ j lj e. out (inr (inl (j, lj, e))))
+        (λ v lv e. out (inr (inr (v, lv, e))));
+  }
+    where
+      only : (b : Bool) → (b || false) ≡ true → b ≡ true
+      only true e = refl
+      only false e = cc
 
-    pub few : (n : ℕ) → rounds_cost (all_rounds n steps) ≤ nested_total p n
-    few n = let a = alike_cost_no_more steps (steps_for p (rows_on t None ss free_bit free_word))
-        built.like n in let b = lowers.total n in omega (arith, a, b)
+  -- and so the same steps, whose graphs are such as `Mig` makes
+  module _ (others : List (StepOf Block)) (built : StepsBuilt others steps) where
+    pub few : (n : ℕ) → rounds_cost (all_rounds n others) ≤ nested_total p n
+    few n = let e = ap (λ ss. rounds_cost (all_rounds n ss)) built.same in
+        let b = lowers.total n in omega (arith, e, b)
 
-    pub lowered : IsLowered slots free_bit free_word (Compute target None p args) steps
+    pub lowered : IsLowered slots free_bit free_word (Compute target None p args) others
     lowered =
-        let c = alike_compile row steps (steps_for p (rows_on t None ss free_bit free_word))
-        built.like
-        built.made form in
+        let c = made_compile row steps (subst (AllParts IsMade) built.same built.made) form in
+        subst (IsLowered slots free_bit free_word (Compute target None p args)) (sym built.same)
         record {
           well = c.0;
           can = c.1;
           does = λ n some most. does n some;
-          cheap = λ n some most. (let a = few n in let b = lowers.cheap n in
+          cheap = λ n some most. (let a = lowers.total n in let b = lowers.cheap n in
               let w = ap (op_ceiling p) (named_width n slots args ss at) in omega (arith, a, b, w));
+          plain = λ n some most. (let b = lowers.plain n in
+              let w = ap (op_plain_ceiling p) (named_width n slots args ss at) in
+              omega (arith, b, w));
         }

@@ -3,7 +3,6 @@ use Rattle.std.specs.Prelude.{◌≡◌, ℕ, zero, suc, List, map}
 use Rattle.loop_ir.specs.declared.ir.Place.{Place}
 use Rattle.loop_ir.specs.declared.names.Slot.{Slot}
 use Rattle.loop_ir.specs.Plain.{Block, InnerOf, StepOf, AllParts, inner_map, step_map}
-use Rattle.loop_ir.specs.Like.{LikeSteps}
 use Rattle.loop_laws.specs.Forms.{IsMade}
 use Rattle.loop_laws.specs.Rooms as rooms
 use Rattle.loop_laws.specs.Rooms.{Marked}
@@ -62,5 +61,4 @@ steps_on o steps = map (step_map (body_on o)) steps
 -- the others themselves, with graphs such as `Mig` makes
 pub record StepsBuilt (ss ts : List (StepOf Block)) : Type 0 where
   pub same : ss ≡ ts
-  pub like : LikeSteps ss ts
   pub made : AllParts IsMade ss

@@ -3,8 +3,8 @@ use Rattle.std.proofs.Common.{◌≡◌, ℕ, zero, suc, ◌+◌, ◌*◌, ◌<�
 use Rattle.std.proofs.Common.{length, refl, sym, ap, ◌∙◌, subst, arith, append_assoc, append-nil}
 use Rattle.std.specs.Prelude.{slice_get, slice_index, slice_index_or, take}
 use Rattle.std.specs.List.{AllByRecursion, range_with_len}
-use Rattle.std.proofs.lemmas.List.{map_more}
-use Rattle.std.proofs.lemmas.List.Sums.{sum_by-cons, sum_by-append}
+use Rattle.std.proofs.lemmas.List.{map_more, length-map}
+use Rattle.std.proofs.lemmas.List.Sums.{sum_by-append}
 use Rattle.std.proofs.lemmas.Grind.{common_steps}
 use Rattle.dram_model.specs.declared.address.Cell.TheVariants.{D}
 use Rattle.bit_rows.specs.Bits.{value}
@@ -22,21 +22,22 @@ use Rattle.uprog_code.specs.Implements.{numbers, Implements}
 use Rattle.loop_ir.specs.declared.ir.Space.{Space}
 use Rattle.loop_ir.specs.declared.ir.Space.TheVariants.{Result, Source}
 use Rattle.loop_ir.specs.declared.ir.LoopProgram.{LoopProgram}
-use Rattle.loop_ir.specs.Plain.{Block, StepOf, steps_of}
-use Rattle.loop_ir.specs.Loops.{RoundOf, step_rounds, all_rounds}
+use Rattle.loop_ir.specs.Plain.{Block, StepOf, AllParts, steps_of}
+use Rattle.loop_ir.specs.Loops.{RoundOf, all_rounds}
 use Rattle.loop_ir.specs.Spots.{Spots, after_round, after_rounds}
 use Rattle.uprog_gen.specs.Where.{Agree, spots_in, IsSpot, IsBelow}
-use Rattle.uprog_gen.specs.Code.{blocks, program_code}
+use Rattle.uprog_gen.specs.Code.{Part, blocks, program_code}
+use Rattle.uprog_gen.specs.Parts.{IsPart}
 use Rattle.loop_ir.specs.Limits.{IsRound, CanCompile}
-use Rattle.loop_ir.specs.Costs.{turn_cost, step_cost, code_cost, rounds_cost}
+use Rattle.loop_ir.specs.Costs.{step_cost, code_cost}
 use Rattle.uprog_gen.specs.Emits.{EmitsSteps}
 use Rattle.uprog_gen.specs.Does.{DoesRounds, Means, AreCheap, joined, total, after_statements}
 use Rattle.uprog_gen.specs.Does.{numbers_in}
 use Rattle.uprog_gen.specs.Programs.{HasParts}
 use Rattle.uprog_gen.proofs.Coding.Sizes.{program_few}
-use Rattle.uprog_gen.proofs.Coding.Pieces.{pieces}
+use Rattle.uprog_gen.proofs.Coding.Pieces.{pieces, cheap_pieces}
 use Rattle.uprog_gen.proofs.Coding.Emitted.{more_steps}
-use Rattle.uprog_gen.proofs.Rows.Top.{program_does, all_blocks}
+use Rattle.uprog_gen.proofs.Rows.Top.{program_does, program_issues, all_blocks, all_rounds-append}
 use Rattle.uprog_gen.proofs.Coding.Legal.{code_legal}
 use Rattle.bit_rows.specs.declared.TheConstants.{WIDTH_MAX}
 
@@ -47,12 +48,6 @@ joined-append : (ps : List Statement) (p : Statement) → joined (ps ++ p ∷ []
 joined-append [] p = append-nil p
 joined-append (q ∷ ps) p = ap (λ l. q ++ l) (joined-append ps p)
     ∙ sym (append_assoc q (joined ps) p)
-
-pub all_rounds-append : (n : ℕ) (xs ys : Statement)
-    → all_rounds n (xs ++ ys) ≡ all_rounds n xs ++ all_rounds n ys
-all_rounds-append n [] ys = refl
-all_rounds-append n (x ∷ xs) ys = ap (λ l. step_rounds n x ++ l) (all_rounds-append n xs ys)
-    ∙ sym (append_assoc (step_rounds n x) (all_rounds n xs) (all_rounds n ys))
 
 after_rounds-append : (n : ℕ) (xs ys : List (RoundOf Block)) (bits : Spots)
     → after_rounds n (xs ++ ys) bits ≡ after_rounds n ys (after_rounds n xs bits)
@@ -67,27 +62,6 @@ after_joined n (p ∷ ps) bits =
     ap (λ l. after_rounds n l bits) (all_rounds-append n p (joined ps))
     ∙ after_rounds-append n (all_rounds n p) (all_rounds n (joined ps)) bits
     ∙ after_joined n ps (after_rounds n (all_rounds n p) bits)
-
-pub joined_cost : (n : ℕ) (p : Statement) (ps : List Statement)
-    → rounds_cost (all_rounds n (p ++ joined ps))
-    ≡ rounds_cost (all_rounds n p) + rounds_cost (all_rounds n (joined ps))
-joined_cost n p ps = ap rounds_cost (all_rounds-append n p (joined ps))
-    ∙ sum_by-append (λ (r : RoundOf Block). turn_cost r.part) (all_rounds n p)
-    (all_rounds n (joined ps))
-
-cheap_joined : (n : ℕ) (ps : List Statement) (cs : List (ℕ → ℕ)) → AreCheap n ps cs
-    → rounds_cost (all_rounds n (joined ps)) ≤ total cs n
-cheap_joined n [] [] h = omega arith
-cheap_joined n [] (c ∷ cs) h = absurd h
-cheap_joined n (p ∷ ps) [] h = absurd h
-cheap_joined n (p ∷ ps) (c ∷ cs) h =
-    omega (
-      arith,
-      joined_cost n p ps,
-      h.0,
-      cheap_joined n ps cs h.1,
-      sum_by-cons (λ (f : ℕ → ℕ). f n) c cs,
-    )
 
 pub both : {X : Type 0} (P : X → Type 0) (xs ys : List X) → AllByRecursion P xs
     → AllByRecursion P ys → AllByRecursion P (xs ++ ys)
@@ -112,6 +86,17 @@ cost_joined head (p ∷ ps) h = omega (
   h.0.size,
   cost_joined head ps h.1,
 )
+
+each_taken : (P : Statement → Type 0) (k : ℕ) (ps : List Statement) → AllByRecursion P ps
+    → AllByRecursion P (take k ps)
+each_taken P zero ps h = tt
+each_taken P (suc k) [] h = tt
+each_taken P (suc k) (p ∷ ps) h = (h.0, each_taken P k ps h.1)
+
+few_taken : (k : ℕ) (ps : List Statement) → length (take k ps) ≤ length ps
+few_taken zero ps = omega arith
+few_taken (suc k) [] = omega arith
+few_taken (suc k) (p ∷ ps) = let h = few_taken k ps in omega (arith, h)
 
 -- numbers of rows
 pub same_bits : (f g : ℕ → Bool) (a c w : ℕ) → ((i : ℕ) → i < w → f (a + i) ≡ g (c + i))
@@ -146,19 +131,20 @@ values_same space rows n bits s (k ∷ ks) (c ∷ bs) which fit at =
     let w : which + 1 + v ≡ which + suc v = omega arith in
     ap (λ x. bits (record { space = space; which = x; index = i })) w ∙ at (suc v) i below))
 
+-- the code takes at most the sum of what each statement takes
+abbrev pub IsWithin : Shape → List Statement → List Uop → Type 0
+IsWithin head ps code = (n : ℕ) → 0 < n → n ≤ WIDTH_MAX → (ceilings : List (ℕ → ℕ))
+    → AreCheap n ps ceilings → length (issues_of (trace head code n)) ≤ total ceilings n
+
 -- rounds that mean an operation implement it
 pub does_implement : (head : Shape) (ps : List Statement) (code : List Uop)
     → ((n : ℕ) → 0 < n → n ≤ WIDTH_MAX → DoesRounds head n (joined ps) code)
-    → (ceilings : List (ℕ → ℕ)) (meaning : ℕ → List ℕ → List ℕ)
+    → IsWithin head ps code → (ceilings : List (ℕ → ℕ)) (meaning : ℕ → List ℕ → List ℕ)
     → Means head ps ceilings meaning
     → Implements head code (total ceilings) meaning
-does_implement head ps code does ceilings meaning means = record {
+does_implement head ps code does few ceilings meaning means = record {
   ends = λ n some small. (does n some small).ends;
-  cheap = λ n some small. omega (
-    arith,
-    (does n some small).few,
-    cheap_joined n ps ceilings (means.cheap n some small),
-  );
+  cheap = λ n some small. few n some small ceilings (means.cheap n some small);
   gives = λ n some small. record { value = λ rows b s fits. gives n some small rows b s fits };
   keeps = λ n some small. record {
     row = λ rows b s fits q out. (does n some small).keeps rows b s
@@ -187,10 +173,11 @@ does_implement head ps code does ceilings meaning means = record {
 -- what the emitters give, with Done, does the rounds and is legal
 pub record IsEntry (head : Shape) (ps : List Statement) (code : List Uop) : Type 0 where
   pub legal : IsLegalCode head code
-  pub parts : HasParts (length ps) code
+  pub parts : HasParts (length ps) head ps code
+  pub few : IsWithin head ps code
   pub does : (n : ℕ) → 0 < n → n ≤ WIDTH_MAX → DoesRounds head n (joined ps) code
 
-pub is_entry : (head : Shape) (ps : List Statement) (mid code : List Uop)
+is_entry : (head : Shape) (ps : List Statement) (mid code : List Uop)
     → AllByRecursion (CanCompile (IsSpot head)) ps → length ps ≤ 16 → EmitsSteps (joined ps) [] mid
     → code ≡ mid ++ Done ∷ [] → IsEntry head ps code
 is_entry head ps mid code can few emits e = subst (IsEntry head ps)
@@ -199,35 +186,62 @@ is_entry head ps mid code can few emits e = subst (IsEntry head ps)
     is : List Uop
     is = program_code emits.coded 0
 
-    size : length is ≤ 256 * length ps
-    size = omega (
+    -- the code of the first statements
+    few_instructions : (qs : List Statement) (coded : List (StepOf Part))
+        → AllByRecursion (CanCompile (IsSpot head)) qs → length qs ≤ 16
+        → blocks coded ≡ joined qs → AllParts IsPart coded → length (program_code coded 0) ≤ 4096
+    few_instructions qs coded can few same parts = omega (
       arith,
-      program_few emits.coded 0 emits.parts,
-      ap code_cost emits.same,
-      cost_joined head ps can,
+      program_few coded 0 parts,
+      ap code_cost same,
+      cost_joined head qs can,
+      few,
     )
 
-    rounds : (n : ℕ) → 0 < n → n ≤ WIDTH_MAX → AllByRecursion (IsRound (IsSpot head n) n)
-        (all_rounds n (blocks emits.coded))
-    rounds n some small =
+    rounds : (qs : List Statement) (coded : List (StepOf Part)) (n : ℕ) → 0 < n → n ≤ WIDTH_MAX
+        → AllByRecursion (CanCompile (IsSpot head)) qs → blocks coded ≡ joined qs
+        → AllByRecursion (IsRound (IsSpot head n) n) (all_rounds n (blocks coded))
+    rounds qs coded n some small can same =
         subst (λ (l : Statement). AllByRecursion (IsRound (IsSpot head n) n) (all_rounds n l))
-        (sym emits.same) (rounds_joined head n ps some small can)
+        (sym same) (rounds_joined head n qs some small can)
+
+    does : (qs : List Statement) (coded : List (StepOf Part)) (n : ℕ) → 0 < n → n ≤ WIDTH_MAX
+        → AllByRecursion (CanCompile (IsSpot head)) qs → length qs ≤ 16
+        → blocks coded ≡ joined qs → AllParts IsPart coded
+        → DoesRounds head n (joined qs) (program_code coded 0 ++ Done ∷ [])
+    does qs coded n some small can few same parts =
+        subst (λ (l : Statement). DoesRounds head n l (program_code coded 0 ++ Done ∷ []))
+        same (program_does head n coded some small (few_instructions qs coded can few same parts)
+        parts (rounds qs coded n some small can same))
 
     entry : IsEntry head ps (is ++ Done ∷ [])
-    entry = record {
-      legal = code_legal head emits.coded (omega (arith, size, few)) emits.parts
-          (subst (AllByRecursion (IsRound (IsSpot head 1) 1)) (all_blocks 1 emits.coded)
-          (rounds 1 (omega arith) (omega arith)));
-      parts = let q = pieces head ps emits.coded 0 emits.same emits.parts can in record {
-        parts = q.0;
-        many = q.1;
-        short = q.2;
-        whole = ap (λ l. l ++ Done ∷ []) q.3;
-      };
-      does = λ n some small. subst (λ (l : Statement). DoesRounds head n l (is ++ Done ∷ []))
-          emits.same (program_does head n emits.coded some small (omega (arith, size, few))
-          emits.parts (rounds n some small));
-    }
+    entry =
+        let short = few_instructions ps emits.coded can few emits.same emits.parts in
+        let cut = pieces head ps emits.coded 0 emits.same emits.parts can in
+        record {
+          legal = code_legal head emits.coded short emits.parts
+              (subst (AllByRecursion (IsRound (IsSpot head 1) 1)) (all_blocks 1 emits.coded)
+              (rounds ps emits.coded 1 (omega arith) (omega arith) can emits.same));
+          parts = record {
+            parts = cut.parts;
+            many = cut.many;
+            short = cut.short;
+            whole = ap (λ l. l ++ Done ∷ []) cut.whole;
+            each = λ k n some small.
+                (let f = cut.front k in
+                subst (λ c. DoesRounds head n (joined (take k ps)) (c ++ Done ∷ [])) f.is
+                (does (take k ps) f.coded n some small (each_taken (CanCompile (IsSpot head)) k ps
+                can) (omega (arith, few, few_taken k ps)) f.same f.parts));
+          };
+          few = λ n some small ceilings cheap. omega (
+            arith,
+            ap (λ t. length (issues_of t)) (program_issues head n emits.coded some small short
+                emits.parts
+                (rounds ps emits.coded n some small can emits.same)),
+            cheap_pieces head n ps emits.coded ceilings emits.same emits.parts cheap,
+          );
+          does = λ n some small. does ps emits.coded n some small can few emits.same emits.parts;
+        }
 
 -- statement after statement
 statement_at : (head : Shape) (ps : List LoopProgram) (k : ℕ) (x : LoopProgram)
@@ -278,8 +292,12 @@ next_statement ps k x mid new lt e a b =
     ∙ joined-append (map steps_of (take k ps)) (steps_of x)))
     (more_steps (joined (map steps_of (take k ps))) (steps_of x) [] mid new a b)
 
-pub all_statements : (ps : List LoopProgram) (k : ℕ) (new : List Uop) → k ≡ length ps
-    → EmitsSteps (joined (map steps_of (take k ps))) [] new
-    → EmitsSteps (joined (map steps_of ps)) [] new
-all_statements ps k new e a = subst (λ l. EmitsSteps (joined (map steps_of l)) [] new)
-    (let f : take k ps ≡ ps = grind (arith, common_steps) in f) a
+-- the code after the last statement
+pub program_entry : (head : Shape) (ps : List LoopProgram) (k : ℕ) (mid code : List Uop)
+    → AllByRecursion (CanCompile (IsSpot head)) (map steps_of ps) → length ps ≤ 16
+    → k ≡ length ps → EmitsSteps (joined (map steps_of (take k ps))) [] mid
+    → code ≡ mid ++ Done ∷ [] → IsEntry head (map steps_of ps) code
+program_entry head ps k mid code can few e emits is =
+    let all : take k ps ≡ ps = grind (arith, common_steps) in
+    is_entry head (map steps_of ps) mid code can (omega (arith, length-map ps steps_of, few))
+    (subst (λ (l : List LoopProgram). EmitsSteps (joined (map steps_of l)) [] mid) all emits) is

@@ -31,20 +31,20 @@ use Rattle.uprog_gen.specs.Programs.{IsAsWritten, AreWritten}
 use Rattle.uprog_gen.specs.Totals.{is_word, words_total}
 use Rattle.uprog_gen.specs.Settled.{turn_aaps, turn_aps, IsSettled}
 use Rattle.uprog_gen.proofs.Coding.Emitted.{parts_both}
-use Rattle.uprog_gen.proofs.Coding.Joined.{all_rounds-append}
+use Rattle.uprog_gen.proofs.Rows.Top.{all_rounds-append}
 use Rattle.uprog_gen.proofs.Naming.Stage.{Stage, next_stage}
 use Rattle.uprog_gen.proofs.Meaning.Meant.{args_same}
 use Rattle.uprog_gen.proofs.Naming.Ready.{statement_meets, is_placed}
-use Rattle.uprog_gen.proofs.Costs.Summed.{rounds_sum, sum_append}
+use Rattle.loop_laws.proofs.Summed.{rounds_sum, sum_append}
 use Rattle.uprog_gen.proofs.Costs.Exact.{FirstApart, is_shift, needs_first, Written, written_nested}
 use Rattle.uprog_gen.proofs.Costs.Exact.{written_linear, is_settled, aaps_are, aps_are, op_width}
 use Rattle.uprog_gen.proofs.Costs.Exact.{first_width, width_is}
 
 -- what is known of a statement's program
-record IsExactly (p : WordOp) (w : ℕ → ℕ) (steps : List (StepOf Block)) : Type 0 where
-  settled : AllParts IsSettled steps
-  aaps : (n : ℕ) → rounds_sum turn_aaps (all_rounds n steps) ≡ op_aaps p (w n)
-  aps : (n : ℕ) → rounds_sum turn_aps (all_rounds n steps) ≡ op_aps p (w n)
+pub record IsExactly (p : WordOp) (w : ℕ → ℕ) (steps : List (StepOf Block)) : Type 0 where
+  pub settled : AllParts IsSettled steps
+  pub aaps : (n : ℕ) → rounds_sum turn_aaps (all_rounds n steps) ≡ op_aaps p (w n)
+  pub aps : (n : ℕ) → rounds_sum turn_aps (all_rounds n steps) ≡ op_aps p (w n)
 
 have_first : (slots : Slots) (n : ℕ) (args : List (List ℕ)) (ks : List Kind)
     → HaveKinds slots args ks → args_width slots n args ≡ first_width n ks
@@ -133,6 +133,26 @@ pub record AreExactly (known : List Param) (body : List Statement)
 
 module _ (o : Operation) (meets : OperationMeets o) (slots : Slots) (free_bit free_word : ℕ)
     (is : IsLayout o slots free_bit free_word) where
+  -- a word statement's program is settled, and takes the operation's commands
+  pub one_exactly : (c : Context) (target : List ℕ) (second : Option (List ℕ)) (p : WordOp)
+      (args : List (List ℕ)) (rest : List Statement)
+      → Stage o c (Compute target second p args ∷ rest) → (q : List (StepOf Block))
+      → IsAsWritten slots free_bit free_word (Compute target second p args) q
+      → IsExactly p (λ n. names_width c.known n args) q
+  one_exactly c target second p args rest st q w =
+      let s = Compute target second p args in
+      let m = statement_meets o meets slots free_bit free_word is c s rest st in
+      let placed = is_placed o meets slots free_bit free_word is c s rest st in
+      let one = exactly slots free_bit free_word target second p args m placed q w in
+      let wide = λ (n : ℕ). sym (args_same o meets slots free_bit free_word is c s rest st n args
+      st.body.0.known) ∙ have_first slots n args m.kinds m.have
+      ∙ width_is p m.kinds m.gives.slot.kind n (m.form ∙ ap Some (sym m.gives.kind)) in
+      record {
+        settled = one.settled;
+        aaps = λ n. one.aaps n ∙ ap (op_aaps p) (sym (wide n));
+        aps = λ n. one.aps n ∙ ap (op_aps p) (sym (wide n));
+      }
+
   pub all_exactly : (rest : List Statement) (c : Context) → Stage o c rest
       → (ps : List (List (StepOf Block))) → AreWritten slots free_bit free_word rest ps
       → list_all is_word rest ≡ true → AreExactly c.known rest ps
@@ -142,21 +162,14 @@ module _ (o : Operation) (meets : OperationMeets o) (slots : Slots) (free_bit fr
   all_exactly (Visit b ∷ rest) c st (q ∷ ps) w h = absurd (let z : false ≡ true = h in cc)
   all_exactly (Compute target second p args ∷ rest) c st (q ∷ ps) w h =
       let s = Compute target second p args in
-      let m = statement_meets o meets slots free_bit free_word is c s rest st in
-      let placed = is_placed o meets slots free_bit free_word is c s rest st in
-      let one = exactly slots free_bit free_word target second p args m placed q w.0 in
+      let one = one_exactly c target second p args rest st q w.0 in
       let more = all_exactly rest (following c s) (next_stage o c s rest st) ps w.1 h in
-      let wide = λ (n : ℕ). sym (args_same o meets slots free_bit free_word is c s rest st n args
-      st.body.0.known) ∙ have_first slots n args m.kinds m.have
-      ∙ width_is p m.kinds m.gives.slot.kind n (m.form ∙ ap Some (sym m.gives.kind)) in
       record {
         settled = parts_both IsSettled q (joined ps) one.settled more.settled;
         aaps = λ n. sum_joined turn_aaps n q ps
-            ∙ ap (λ x. x + rounds_sum turn_aaps (all_rounds n (joined ps))) (one.aaps n
-            ∙ ap (op_aaps p) (sym (wide n)))
+            ∙ ap (λ x. x + rounds_sum turn_aaps (all_rounds n (joined ps))) (one.aaps n)
             ∙ ap (λ x. op_aaps p (names_width c.known n args) + x) (more.aaps n);
         aps = λ n. sum_joined turn_aps n q ps
-            ∙ ap (λ x. x + rounds_sum turn_aps (all_rounds n (joined ps))) (one.aps n
-            ∙ ap (op_aps p) (sym (wide n)))
+            ∙ ap (λ x. x + rounds_sum turn_aps (all_rounds n (joined ps))) (one.aps n)
             ∙ ap (λ x. op_aps p (names_width c.known n args) + x) (more.aps n);
       }

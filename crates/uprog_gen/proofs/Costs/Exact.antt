@@ -25,7 +25,7 @@ use Rattle.word_mul.specs.declared.rows.Rows.{Rows}
 use Rattle.word_mul.specs.Programs.{is_nested}
 use Rattle.word_mul.specs.Places.{steps_for}
 use Rattle.uprog_gen.specs.Settled.{turn_aaps, turn_aps, IsSettled}
-use Rattle.uprog_gen.proofs.Costs.Summed.{rounds_sum, sum_is}
+use Rattle.loop_laws.proofs.Summed.{rounds_sum, sum_is}
 
 -- the first argument lies apart from the target
 pub record FirstApart (o : Owners) : Type 0 where

@@ -30,12 +30,12 @@ use Rattle.uprog_code.specs.Implements.{Implements}
 use Rattle.uprog_code.specs.Texts.{op_shape, text_op, EntryDoes, ImplementsAll}
 use Rattle.loop_ir.specs.Plain.{StepOf, Block, AllParts}
 use Rattle.loop_ir.specs.Loops.{all_rounds}
-use Rattle.loop_ir.specs.Costs.{rounds_cost}
 use Rattle.loop_ir.specs.Statements.{Slots}
 use Rattle.uprog_gen.specs.Settled.{IsSettled, rounds_counts}
 use Rattle.uprog_gen.specs.Does.{DoesRounds, Means, joined, total}
 use Rattle.uprog_gen.specs.Layout.{IsLayout}
 use Rattle.uprog_gen.specs.Programs.{AreLowered, ceilings, HasParts, IsCompiled, AreCompiled}
+use Rattle.uprog_gen.proofs.Coding.Joined.{IsWithin}
 use Rattle.uprog_gen.proofs.Meaning.Meant.{lower_ceiling, total_ceilings, statements_mean}
 
 pub lowered_length : (slots : Slots) (free_bit free_word : ℕ) (body : List Statement)
@@ -86,27 +86,30 @@ pub entry_compiled : (op : Operation) (meets : OperationMeets op) (slots : Slots
     → ((ceilings : List (ℕ → ℕ)) (meaning : ℕ → List ℕ → List ℕ)
     → Means (shape_of head) ps ceilings meaning
     → Implements (shape_of head) entry.code.items (total ceilings) meaning)
-    → IsLegalCode (shape_of head) entry.code.items → HasParts (length ps) entry.code.items
-    → IsCompiled (microprogram_of entry) op
+    → IsLegalCode (shape_of head) entry.code.items
+    → HasParts (length ps) (shape_of head) ps entry.code.items → IsCompiled (microprogram_of entry) op
 entry_compiled op meets slots free_bit free_word is ps low head entry name shape same implements
     legal parts = record {
       does = entry_does op meets slots free_bit free_word is ps low head entry name shape same
           implements;
       legal = subst (λ (s : Shape). IsLegalCode s entry.code.items) (sym (ap shape_of same)) legal;
-      parts = subst (λ k. HasParts k entry.code.items)
-          (lowered_length slots free_bit free_word op.body ps low) parts;
+      slots = slots;
+      free_bit = free_bit;
+      free_word = free_word;
+      laid = is;
+      statements = ps;
+      lowered = low;
+      parts = subst (λ (s : Shape). HasParts (length op.body) s ps entry.code.items)
+          (sym (ap shape_of same)) (subst (λ k. HasParts k (shape_of head) ps entry.code.items)
+          (lowered_length slots free_bit free_word op.body ps low) parts);
     }
 
--- no more commands than the rounds may take
+-- no more commands than the sum of what each statement takes
 pub entry_few : (head : Head) (ps : List (List (StepOf Block))) (entry : EntryCode)
-    → entry.head ≡ head → ((n : ℕ) → 0 < n → n ≤ WIDTH_MAX
-    → DoesRounds (shape_of head) n (joined ps) entry.code.items)
-    → (n : ℕ) → 0 < n → n ≤ WIDTH_MAX
-    → length (issues_of (trace (microprogram_of entry).shape entry.code.items n))
-    ≤ rounds_cost (all_rounds n (joined ps))
-entry_few head ps entry same does n some small =
-    subst (λ (h : Head). length (issues_of (trace (shape_of h) entry.code.items n))
-    ≤ rounds_cost (all_rounds n (joined ps))) (sym same) (does n some small).few
+    → entry.head ≡ head → IsWithin (shape_of head) ps entry.code.items
+    → IsWithin (microprogram_of entry).shape ps entry.code.items
+entry_few head ps entry same few =
+    subst (λ (h : Head). IsWithin (shape_of h) ps entry.code.items) (sym same) few
 
 -- and exactly those of the rounds, where all bodies are settled
 pub entry_exact : (head : Head) (ps : List (List (StepOf Block))) (entry : EntryCode)

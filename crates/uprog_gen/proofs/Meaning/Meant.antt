@@ -368,7 +368,7 @@ module _ (op : Operation) (meets : OperationMeets op) (slots : Slots) (free_bit 
   all_cheap n some small [] c st (p ∷ ps) low = absurd low
   all_cheap n some small (s ∷ rest) c st [] low = absurd low
   all_cheap n some small (s ∷ rest) c st (p ∷ ps) low = (
-    omega (arith, low.0.cheap n some small, ceiling_same c s rest st n),
+    inl (omega (arith, low.0.cheap n some small, ceiling_same c s rest st n)),
     all_cheap n some small rest (following c s) (next_stage op c s rest st) ps low.1,
   )
 

@@ -1,15 +1,18 @@
 -- The graphs that are taken out of loop programs are those of the blocks, and say how many commands
 -- there are.
-use Rattle.std.proofs.Common.{◌≡◌, ℕ, ◌+◌, ◌<◌, ◌≤◌, List, [], ◌∷◌, ◌++◌, take, map, length, refl}
-use Rattle.std.proofs.Common.{sym, ap, ◌∙◌, subst, arith, append_assoc, append-nil}
+use Rattle.std.proofs.Common.{◌≡◌, ℕ, ◌+◌, ◌*◌, ◌<◌, ◌≤◌, List, [], ◌∷◌, ◌++◌, take, map, length}
+use Rattle.std.proofs.Common.{refl}
+use Rattle.std.proofs.Common.{sym, ap, ◌∙◌, subst, arith, append_assoc, append-nil, inl, inr}
 use Rattle.std.specs.Prelude.{slice_index_or}
 use Rattle.std.specs.List.{zip}
 use Rattle.std.proofs.lemmas.List.{map-append, map_more}
+use Rattle.std.proofs.lemmas.List.Sums.{sum_by-cons}
 use Rattle.bit_rows.specs.declared.TheConstants.{WIDTH_MAX}
 use Rattle.op_text.specs.declared.tree.Op.{Op}
 use Rattle.op_text.specs.declared.tree.Stmt.{Stmt}
 use Rattle.op_text.specs.Language.{Statement, Compute, Visit, Operation, statement, operation}
 use Rattle.op_text.specs.Language.{Block as Serial}
+use Rattle.op_text.specs.Scratch.{names_width}
 use Rattle.op_rules.specs.Meets.{Context, following, at_start, OperationMeets}
 use Rattle.uprog_code.specs.declared.code.EntryCode.{EntryCode}
 use Rattle.uprog_code.specs.Machine.{trace, issues_of}
@@ -20,21 +23,21 @@ use Rattle.uprog_code.specs.Count.{counts_of}
 use Rattle.loop_ir.specs.Plain.{StepOf, Block, AllParts, step_of, steps_of}
 use Rattle.loop_ir.specs.Plain.StepOf.{Along}
 use Rattle.loop_ir.specs.Loops.{all_rounds}
-use Rattle.loop_ir.specs.Costs.{rounds_cost}
 use Rattle.loop_ir.specs.Statements.{Slots}
 use Rattle.block_lower.specs.Form.{IsBlockProgram, start}
-use Rattle.uprog_gen.specs.Does.{joined}
+use Rattle.uprog_gen.specs.Does.{joined, IsCheap, AreCheap}
+use Rattle.uprog_gen.specs.Does.{total as sum_of}
 use Rattle.uprog_gen.specs.Layout.{IsLayout}
-use Rattle.uprog_gen.specs.Programs.{AreLowered, HaveForms, AreWritten}
+use Rattle.uprog_gen.specs.Programs.{HaveForms, AreWritten}
 use Rattle.uprog_gen.specs.Totals.{AreExact}
 use Rattle.uprog_gen.specs.Settled.{IsSettled, rounds_counts}
-use Rattle.uprog_gen.proofs.Costs.Counted.{all_exactly}
+use Rattle.uprog_gen.proofs.Costs.Counted.{one_exactly, all_exactly}
 use Rattle.uprog_gen.proofs.Rows.Top.{both_counts}
-use Rattle.uprog_gen.specs.Graphs.{Graphed, IsGraphOf, AreGraphsOf, graphed_ceiling, IsGraphed}
+use Rattle.uprog_gen.specs.Graphs.{Graphed, IsGraphOf, AreGraphsOf, op_commands, graphed_ceiling}
+use Rattle.uprog_gen.specs.Graphs.{IsGraphed}
 use Rattle.uprog_gen.specs.Graphs.{AreGraphed, step_graph, last_graph, statement_graph, graphs_in}
 use Rattle.uprog_gen.proofs.Naming.Stage.{Stage, first_stage, next_stage}
-use Rattle.uprog_gen.proofs.Coding.Joined.{joined_cost}
-use Rattle.uprog_gen.proofs.Meaning.Meant.{ceiling_same}
+use Rattle.uprog_gen.proofs.Coding.Joined.{IsWithin}
 
 -- the last step decides
 last_of : (steps : List (StepOf Block)) (s : StepOf Block)
@@ -101,52 +104,60 @@ are_graphs slots (Visit b ∷ body) (q ∷ ps) h =
     subst (λ (gs : List Graphed). AreGraphsOf (Visit b ∷ body) (gs ++ graphs_in body ps))
     (sym (form_graph slots b q h.0)) (is_graph slots b q h.0, are_graphs slots body ps h.1)
 
+-- ceilings of statements that they keep, and the sum of these
+record KeepsGraphs (n : ℕ) (ps : List (List (StepOf Block))) (most : ℕ) : Type 0 where
+  ceilings : List (ℕ → ℕ)
+  cheap : AreCheap n ps ceilings
+  total : sum_of ceilings n ≡ most
+
+one_more : (n : ℕ) (q : List (StepOf Block)) (ps : List (List (StepOf Block))) (one more : ℕ)
+    → IsCheap n q one → KeepsGraphs n ps more → KeepsGraphs n (q ∷ ps) (one + more)
+one_more n q ps one more h k = record {
+  ceilings = (λ n. one) ∷ k.ceilings;
+  cheap = (h, k.cheap);
+  total = sum_by-cons (λ (f : ℕ → ℕ). f n) (λ n. one) k.ceilings ∙ ap (λ x. one + x) k.total;
+}
+
 module _ (op : Operation) (meets : OperationMeets op) (slots : Slots) (free_bit free_word : ℕ)
     (is : IsLayout op slots free_bit free_word) where
-  -- the rounds keep the ceiling that the graphs give
-  few_rounds : (n : ℕ) → 0 < n → n ≤ WIDTH_MAX → (rest : List Statement) (c : Context)
-      → Stage op c rest → (ps : List (List (StepOf Block)))
-      → AreLowered slots free_bit free_word rest ps → HaveForms slots rest ps
-      → rounds_cost (all_rounds n (joined ps)) ≤ graphed_ceiling c.known n rest (graphs_in rest ps)
-  few_rounds n some small [] c st [] low h = omega arith
-  few_rounds n some small [] c st (q ∷ ps) low h = absurd low
-  few_rounds n some small (s ∷ rest) c st [] low h = absurd low
-  few_rounds n some small (Compute target second p args ∷ rest) c st (q ∷ ps) low h =
+  -- each statement keeps its part of the ceiling that the graphs give
+  few_rounds : (n : ℕ) → (rest : List Statement) (c : Context) → Stage op c rest
+      → (ps : List (List (StepOf Block))) → HaveForms slots rest ps
+      → AreWritten slots free_bit free_word rest ps
+      → KeepsGraphs n ps (graphed_ceiling c.known n rest (graphs_in rest ps))
+  few_rounds n [] c st [] h w = record { ceilings = []; cheap = tt; total = refl }
+  few_rounds n [] c st (q ∷ ps) h w = absurd h
+  few_rounds n (s ∷ rest) c st [] h w = absurd h
+  few_rounds n (Compute target second p args ∷ rest) c st (q ∷ ps) h w =
       let s = Compute target second p args in
-      omega (
-        arith,
-        joined_cost n q ps,
-        low.0.cheap n some small,
-        ceiling_same op meets slots free_bit free_word is c s rest st n,
-        few_rounds n some small rest (following c s) (next_stage op c s rest st) ps low.1 h.1,
-      )
-  few_rounds n some small (Visit b ∷ rest) c st (q ∷ ps) low h =
+      let one = one_exactly op meets slots free_bit free_word is c target second p args rest st q
+      w.0 in
+      let most = op_commands p (names_width c.known n args) in
+      one_more n q ps most (graphed_ceiling (following c s).known n rest (graphs_in rest ps))
+      (inr (one.settled, omega (arith, one.aaps n, one.aps n)))
+      (few_rounds n rest (following c s) (next_stage op c s rest st) ps h.1 w.1)
+  few_rounds n (Visit b ∷ rest) c st (q ∷ ps) h w =
       let s = Visit b in
-      subst (λ (gs : List Graphed). rounds_cost (all_rounds n (joined (q ∷ ps)))
-      ≤ graphed_ceiling c.known n (Visit b ∷ rest) (gs ++ graphs_in rest ps))
+      let g = the_graph slots b q h.0 in
+      let most = n * (4 * length g.graph.nodes + 3 * length b.assigns) + length b.states in
+      subst (λ (gs : List Graphed). KeepsGraphs n (q ∷ ps)
+      (graphed_ceiling c.known n (Visit b ∷ rest) (gs ++ graphs_in rest ps)))
       (sym (form_graph slots b q h.0))
-      (omega (
-        arith,
-        joined_cost n q ps,
-        h.0.cost n,
-        few_rounds n some small rest (following c s) (next_stage op c s rest st) ps low.1 h.1,
-      ))
+      (one_more n q ps most (graphed_ceiling (following c s).known n rest (graphs_in rest ps))
+      (inl (h.0.cost n))
+      (few_rounds n rest (following c s) (next_stage op c s rest st) ps h.1 w.1))
 
-  pub entry_graphed : (ps : List (List (StepOf Block)))
-      → AreLowered slots free_bit free_word op.body ps → HaveForms slots op.body ps
-      → AreWritten slots free_bit free_word op.body ps → (e : Microprogram) → ((n : ℕ) → 0 < n
-      → n ≤ WIDTH_MAX
-      → length (issues_of (trace e.shape e.code n)) ≤ rounds_cost (all_rounds n (joined ps)))
+  pub entry_graphed : (ps : List (List (StepOf Block))) → HaveForms slots op.body ps
+      → AreWritten slots free_bit free_word op.body ps → (e : Microprogram)
+      → IsWithin e.shape ps e.code
       → ((n : ℕ) → 0 < n → n ≤ WIDTH_MAX → AllParts IsSettled (joined ps)
       → counts_of (issues_of (trace e.shape e.code n)) ≡ rounds_counts (all_rounds n (joined ps)))
       → IsGraphed e op (graphs_in op.body ps)
-  entry_graphed ps low h written e few exact = record {
+  entry_graphed ps h written e few exact = record {
     graphs = are_graphs slots op.body ps h;
-    few = λ n some small. omega (
-      arith,
-      few n some small,
-      few_rounds n some small op.body (at_start op) (first_stage op meets) ps low h,
-    );
+    few = λ n some small. (let k = few_rounds n op.body (at_start op) (first_stage op meets) ps h
+        written in
+        omega (arith, few n some small k.ceilings k.cheap, k.total));
     exact = record {
       exact = λ words n some small.
           (let all = all_exactly op meets slots free_bit free_word is op.body (at_start op)

@@ -2,7 +2,8 @@
 use Rattle.std.proofs.Common.{◌≡◌, ℕ, ◌+◌, ◌<◌, Bool, true, false, ◌||◌, cond, List, [], ◌∷◌, ◌++◌}
 use Rattle.std.proofs.Common.{map, Option, Some, None, refl, sym, ap, ◌∙◌, subst, arith, bytes_eq}
 use Rattle.std.proofs.Common.{◌⊎◌, inl, inr, ⊎_elim, append_assoc, append-nil}
-use Rattle.std.specs.Prelude.{is_some, unwrap_or}
+use Rattle.std.specs.Prelude.{is_some, unwrap_or, not}
+use Rattle.std.proofs.lemmas.Bool.{and_from}
 use Rattle.std.specs.Option.{option_to_list}
 use Rattle.std.specs.List.{AllByRecursion}
 use Rattle.op_text.specs.declared.tree.Kind.{Kind}
@@ -30,7 +31,7 @@ use Rattle.loop_ir.specs.declared.names.Slot.{Slot}
 use Rattle.loop_ir.specs.Statements as there
 use Rattle.loop_ir.specs.Statements.{Slots, HasKind, HaveKinds, LetsMeet, AreDistinct, ComputeMeets}
 use Rattle.loop_ir.specs.Statements.{BlockMeets, IsPlaced, holds_kind, targets_of, block_reads}
-use Rattle.loop_ir.specs.Statements.{read_names, written_names, statement_names}
+use Rattle.loop_ir.specs.Statements.{read_names, written_names, statement_names, is_readable}
 use Rattle.uprog_gen.specs.Layout.{IsLayout}
 use Rattle.uprog_gen.proofs.Naming.Lays.{lay}
 use Rattle.uprog_gen.proofs.Naming.Lies.{LiesIn}
@@ -293,6 +294,17 @@ module _ (op : Operation) (meets : OperationMeets op) (slots : Slots) (free_bit 
           (among_left (state_names b) (word_names b) name e))
           (or_split (is_known (kind_among c.known name)) (is_among (state_names b) name) h)
 
+      -- and is no let
+      readable : (name : List ℕ) → can_read c.known (state_names b) name ≡ true
+          → is_readable slots b.lets name ≡ true
+      readable name h =
+          let some = readable_some name h in
+          ⊎_elim
+          (λ (l : is_among (let_names b) name ≡ true). let none : is_some (slots name) ≡ false =
+          ap is_some (let_unplaced name l) in absurd (cc))
+          (λ (l : is_among (let_names b) name ≡ false). and_from (is_some (slots name)) _ some
+          (ap not l)) (tested (is_among (let_names b) name))
+
       -- and no word that it sets
       word_unread : (name : List ℕ) → is_among (word_names b) name ≡ true
           → is_among (block_reads b) name ≡ false
@@ -321,9 +333,8 @@ module _ (op : Operation) (meets : OperationMeets op) (slots : Slots) (free_bit 
             some = omega (arith, m.has_assigns);
             assigns = m.few_assigns;
             weight = m.light;
-            meet = lets_meet c.known (state_names b) (λ name. is_some (slots name)) b.lets b.assigns
-                readable_some m.lets_read m.values_read;
-            unplaced = let_unplaced;
+            meet = lets_meet c.known (state_names b) (is_readable slots b.lets) b.lets b.assigns
+                readable m.lets_read m.values_read;
             states_differ = distinct (state_names b) m.states_differ;
             lets_differ = distinct (let_names b) m.lets_differ;
             targets_differ = distinct (targets_of b.assigns) m.targets_differ;

@@ -4,7 +4,6 @@ use Rattle.std.proofs.Common.{length, refl, sym, ap, ◌∙◌, subst, ⊎_elim,
 use Rattle.std.proofs.Common.{◌⊎◌, inl, inr}
 use Rattle.std.proofs.lemmas.Bool.{cases_eq}
 use Rattle.std.proofs.lemmas.List.{map-append}
-use Rattle.std.proofs.lemmas.Option.{slice_get-get_or}
 use Rattle.dram_model.specs.declared.address.Addr.TheVariants.{D as AddrD}
 use Rattle.dram_model.specs.declared.address.Cell.TheVariants.{D}
 use Rattle.dram_model.specs.declared.address.Command.TheVariants.{Ap as RowAp, Aap as RowAap}
@@ -31,7 +30,7 @@ use Rattle.loop_ir.specs.Limits.{IsRound}
 use Rattle.uprog_gen.proofs.Rows.Rounds.{IsLaid, round_rows, block_round}
 use Rattle.uprog_gen.specs.Parts.{IsPart}
 use Rattle.mig_graph.specs.Outputs.{lit_at}
-use Rattle.uprog_gen.proofs.Rows.Same.{write_other, write_at}
+use Rattle.loop_laws.proofs.Same.{write_other, write_at}
 use Rattle.uprog_gen.proofs.Rows.Values.{same_values}
 
 -- one of the first places has a number, or none has
@@ -176,7 +175,7 @@ module _ (rows : ℕ) (head : Shape) (n : ℕ) (b : Bound) (laid : IsLaid rows h
       (part.well.named j lo)
       ∙ sym (write_at n r.i r.o (round_env n (block_round r) bits) k.writes k.outs bits
       part.well.writes (λ i m li lm e. is.apart i m (omega (arith, li, part.well.writes))
-      (omega (arith, lm, part.well.writes)) e) j l (slice_get-get_or k.outs j _ lo))
+      (omega (arith, lm, part.well.writes)) e) j lo)
       ∙ ap (after_round n (block_round r) bits) same)
       (λ (none : (j : ℕ) → j < length r.part.outs → spot_row head n b p ≡ w.output j → ⊥).
       part.does.others w s (are_apart r is part) (spot_row head n b p) (λ j lt e. none j lt (sym e))

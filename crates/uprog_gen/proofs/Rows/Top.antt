@@ -1,7 +1,7 @@
 -- The code of a loop program does to every column what its rounds do to the named rows.
 use Rattle.std.proofs.Common.{◌≡◌, ℕ, zero, suc, ◌+◌, ◌-◌, ◌<◌, ◌≤◌, List, [], ◌∷◌, ◌++◌, map}
-use Rattle.std.proofs.Common.{length, refl, sym, ap, ◌∙◌, subst, ⊎_elim, arith, inl, inr}
-use Rattle.std.proofs.Common.{length-append}
+use Rattle.std.proofs.Common.{length, refl, sym, ap, ◌∙◌, subst, ⊎_elim, arith, inl, inr, cond}
+use Rattle.std.proofs.Common.{length-append, append_assoc}
 use Rattle.std.specs.List.{AllByRecursion}
 use Rattle.std.proofs.lemmas.List.{map-append, length-map}
 use Rattle.std.proofs.lemmas.List.Sums.{sum_by-cons}
@@ -11,9 +11,9 @@ use Rattle.uprog_code.specs.declared.code.Uop.{Uop}
 use Rattle.uprog_code.specs.declared.code.Uop.TheVariants.{Done}
 use Rattle.uprog_code.specs.Shape.{Shape, results}
 use Rattle.uprog_code.specs.declared.walker.Counts.{Counts}
-use Rattle.uprog_code.specs.Count.{counts_of}
+use Rattle.uprog_code.specs.Count.{counts_of, issues_aap, issues_ap}
 use Rattle.uprog_code.specs.Bound.{Bound, bound}
-use Rattle.uprog_code.specs.Machine.{Issue, Ended, trace, HasEnded, issues_of}
+use Rattle.uprog_code.specs.Machine.{Issue, IssueAap, IssueAp, Ended, trace, HasEnded, issues_of}
 use Rattle.loop_ir.specs.Loops.{rounds, RoundOf, round_at, one_round, positions, inner_rounds}
 use Rattle.loop_ir.specs.Loops.{step_rounds, all_rounds}
 use Rattle.uprog_code.specs.Fits.{Fits, IsTouched}
@@ -31,8 +31,8 @@ use Rattle.loop_ir.specs.Limits.{IsRound}
 use Rattle.uprog_gen.proofs.Rows.Rounds.{block_round}
 use Rattle.uprog_gen.specs.Parts.{IsPart}
 use Rattle.loop_ir.specs.Costs.{turn_cost, rounds_cost}
-use Rattle.uprog_gen.specs.Settled.{IsSettled, rounds_counts}
-use Rattle.uprog_gen.specs.Does.{DoesRounds}
+use Rattle.uprog_gen.specs.Settled.{IsSettled, rounds_counts, all_counted}
+use Rattle.uprog_gen.specs.Does.{DoesRounds, IsCheap}
 use Rattle.uprog_gen.proofs.Rows.Settled.{of_blocks, all_aaps, all_aps}
 use Rattle.uprog_gen.proofs.Rows.Agree.{AreRounds, IsMine, rounds_agree, rounds_keep}
 use Rattle.uprog_gen.proofs.Rows.Laid.{laid, value_among, bit_among, word_among}
@@ -203,6 +203,85 @@ by_trace head n ss code cs t few exact agrees keeps =
           ≡ s (D q)) e (keeps rows b s fits q out);
     }
 
+-- the commands of a trace are those of the rounds
+pub program_issues : (head : Shape) (n : ℕ) (ss : List (StepOf Part)) → 0 < n → n ≤ WIDTH_MAX
+    → length (program_code ss 0) ≤ 4096 → AllParts IsPart ss
+    → AllByRecursion (IsRound (IsSpot head n) n) (all_rounds n (blocks ss))
+    → trace head (program_code ss 0 ++ Done ∷ []) n ≡ Ended (rounds_commands n (all_rounds n ss))
+program_issues head n ss some small short parts is =
+    let rs = all_rounds n ss in
+    let is' = subst (AllByRecursion (IsRound (IsSpot head n) n)) (all_blocks n ss) is in
+    program_trace head n ss some small short (good head n rs is' (in_rounds IsPart n ss parts))
+
+pub all_rounds-append : {A : Type 0} (n : ℕ) (xs ys : List (StepOf A))
+    → all_rounds n (xs ++ ys) ≡ all_rounds n xs ++ all_rounds n ys
+all_rounds-append n [] ys = refl
+all_rounds-append n (x ∷ xs) ys = ap (λ l. step_rounds n x ++ l) (all_rounds-append n xs ys)
+    ∙ sym (append_assoc (step_rounds n x) (all_rounds n xs) (all_rounds n ys))
+
+commands_both : (n : ℕ) (rs ss : List (RoundOf Part)) → length (rounds_commands n (rs ++ ss))
+    ≡ length (rounds_commands n rs) + length (rounds_commands n ss)
+commands_both n [] ss = omega arith
+commands_both n (r ∷ rs) ss =
+    let c = map (round_command n r) r.part.cmds in
+    omega (
+      arith,
+      commands_both n rs ss,
+      length-append c (rounds_commands n (rs ++ ss)),
+      length-append c (rounds_commands n rs),
+    )
+
+pub commands_append : (n : ℕ) (xs ys : List (StepOf Part))
+    → length (rounds_commands n (all_rounds n (xs ++ ys)))
+    ≡ length (rounds_commands n (all_rounds n xs)) + length (rounds_commands n (all_rounds n ys))
+commands_append n xs ys = ap (λ rs. length (rounds_commands n rs)) (all_rounds-append n xs ys)
+    ∙ commands_both n (all_rounds n xs) (all_rounds n ys)
+
+-- each command is of one kind
+counted_both : (cs : List Issue) → length cs ≡ all_counted (counts_of cs)
+counted_both [] = refl
+counted_both (c ∷ cs) = by c (counted_both cs)
+  where
+    by : (c : Issue) → length cs ≡ all_counted (counts_of cs)
+        → suc (length cs) ≡ all_counted (counts_of (c ∷ cs))
+    by (IssueAap x y) h = omega (
+      arith,
+      h,
+      sum_by-cons (λ (i : Issue). cond (issues_aap i) 1 0) (IssueAap x y) cs,
+      sum_by-cons (λ (i : Issue). cond (issues_ap i) 1 0) (IssueAap x y) cs,
+    )
+    by (IssueAp x) h = omega (
+      arith,
+      h,
+      sum_by-cons (λ (i : Issue). cond (issues_aap i) 1 0) (IssueAp x) cs,
+      sum_by-cons (λ (i : Issue). cond (issues_ap i) 1 0) (IssueAp x) cs,
+    )
+
+-- the commands of settled rounds
+settled_counts : (n : ℕ) (ss : List (StepOf Part)) → AllParts IsPart ss
+    → AllParts IsSettled (blocks ss) → counts_of (rounds_commands n (all_rounds n ss))
+    ≡ rounds_counts (all_rounds n (blocks ss))
+settled_counts n ss parts settled =
+    let rs = all_rounds n ss in
+    let parts' = in_rounds IsPart n ss parts in
+    let settled' = in_rounds (λ p. IsSettled p.block) n ss (of_blocks IsSettled ss settled) in
+    both_counts (all_aaps n rs parts' settled') (all_aps n rs parts' settled')
+    ∙ ap rounds_counts (sym (all_blocks n ss))
+
+-- a statement takes no more than its bodies may, and exactly theirs where all are settled
+pub statement_most : (head : Shape) (n : ℕ) (ss : List (StepOf Part)) (most : ℕ)
+    → AllParts IsPart ss → IsCheap n (blocks ss) most
+    → length (rounds_commands n (all_rounds n ss)) ≤ most
+statement_most head n ss most parts (inl h) =
+    let few = few_commands head n (all_rounds n ss) (in_rounds IsPart n ss parts) in
+    omega (arith, few, ap rounds_cost (all_blocks n ss), h)
+statement_most head n ss most parts (inr h) = omega (
+  arith,
+  counted_both (rounds_commands n (all_rounds n ss)),
+  ap all_counted (settled_counts n ss parts h.0),
+  h.1,
+)
+
 pub program_does : (head : Shape) (n : ℕ) (ss : List (StepOf Part)) → 0 < n → n ≤ WIDTH_MAX
     → length (program_code ss 0) ≤ 4096 → AllParts IsPart ss
     → AllByRecursion (IsRound (IsSpot head n) n) (all_rounds n (blocks ss))
@@ -212,14 +291,11 @@ program_does head n ss some small short parts is =
     let same = all_blocks n ss in
     let is' = subst (AllByRecursion (IsRound (IsSpot head n) n)) same is in
     let parts' = in_rounds IsPart n ss parts in
-    let t = program_trace head n ss some small short (good head n rs is' parts') in
+    let t = program_issues head n ss some small short parts is in
     by_trace head n ss (program_code ss 0 ++ Done ∷ []) (rounds_commands n rs) t
     (subst (λ (l : List (RoundOf Block)). length (rounds_commands n rs)
     ≤ rounds_cost l) (sym same) (few_commands head n rs parts'))
-    (λ settled. (let settled' = in_rounds (λ p. IsSettled p.block) n ss
-    (of_blocks IsSettled ss settled) in
-    both_counts (all_aaps n rs parts' settled') (all_aps n rs parts' settled')
-    ∙ ap rounds_counts (sym same)))
+    (settled_counts n ss parts)
     (λ rows b s fits. subst (λ (l : List (RoundOf Block)). Agree head n b
     (after_rounds n l (spots_in head n b s))
     (run (bound rows head n b (rounds_commands n rs)) s)) (sym same)

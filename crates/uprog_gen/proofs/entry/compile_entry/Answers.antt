@@ -1,11 +1,11 @@
-use Rattle.std.proofs.Common.{◌≤◌, ap, subst, arith, map, length}
+use Rattle.std.proofs.Common.{ap, subst, arith, map}
 use Rattle.std.proofs.lemmas.List.{length-map}
 use Rattle.loop_ir.specs.Plain.{steps_of, step_of}
 use Rattle.uprog_code.specs.Shape.{shape_of}
 use Rattle.loop_ir.specs.Costs.{code_cost}
 use Rattle.uprog_gen.specs.Programs.{HasParts}
-use Rattle.uprog_gen.proofs.Coding.Joined.{is_entry, can_at, statement_room, next_statement}
-use Rattle.uprog_gen.proofs.Coding.Joined.{all_statements, does_implement}
+use Rattle.uprog_gen.proofs.Coding.Joined.{can_at, statement_room, next_statement}
+use Rattle.uprog_gen.proofs.Coding.Joined.{program_entry, does_implement}
 use Rattle.uprog_gen.proofs.entry.compile_entry.Goals as goal
 
 pub emit_steps-requires-clause-small : goal.emit_steps-requires-clause-small
@@ -37,43 +37,31 @@ loop-statement-preserved c =
 
 pub returns-clause-legal : goal.returns-clause-legal
 returns-clause-legal c =
-    (is_entry (shape_of c.args.head) (map steps_of c.args.statements.now)
-    c.loop-statement.code.items c.keep.new.items.items c.requires.can
-    (let e : length (map steps_of c.args.statements.now)
-    ≤ 16 = omega (arith, length-map c.args.statements.now steps_of, c.requires.few) in
-    e) (all_statements c.args.statements.now c.loop-statement.statement-index
-    c.loop-statement.code.items (omega arith) c.loop-statement.invariant)
-    c.in_ok-keep.ensures).legal
+    (program_entry (shape_of c.args.head) c.args.statements.now
+    c.loop-statement.statement-index c.loop-statement.code.items c.keep.new.items.items
+    c.requires.can c.requires.few (omega arith) c.loop-statement.invariant c.in_ok-keep.ensures).legal
 
 pub returns-clause-parts : goal.returns-clause-parts
 returns-clause-parts c =
-    subst (λ k. HasParts k c.keep.new.items.items) (length-map c.args.statements.now steps_of)
-    (is_entry (shape_of c.args.head) (map steps_of c.args.statements.now)
-    c.loop-statement.code.items c.keep.new.items.items c.requires.can
-    (let e : length (map steps_of c.args.statements.now)
-    ≤ 16 = omega (arith, length-map c.args.statements.now steps_of, c.requires.few) in
-    e) (all_statements c.args.statements.now c.loop-statement.statement-index
-    c.loop-statement.code.items (omega arith) c.loop-statement.invariant)
-    c.in_ok-keep.ensures).parts
+    subst (λ k. HasParts k (shape_of c.args.head) (map steps_of c.args.statements.now)
+    c.keep.new.items.items) (length-map c.args.statements.now steps_of)
+    (program_entry (shape_of c.args.head) c.args.statements.now
+    c.loop-statement.statement-index c.loop-statement.code.items c.keep.new.items.items
+    c.requires.can c.requires.few (omega arith) c.loop-statement.invariant c.in_ok-keep.ensures).parts
 
 pub returns-clause-does : goal.returns-clause-does
 returns-clause-does c =
-    (is_entry (shape_of c.args.head) (map steps_of c.args.statements.now)
-    c.loop-statement.code.items c.keep.new.items.items c.requires.can
-    (let e : length (map steps_of c.args.statements.now)
-    ≤ 16 = omega (arith, length-map c.args.statements.now steps_of, c.requires.few) in
-    e) (all_statements c.args.statements.now c.loop-statement.statement-index
-    c.loop-statement.code.items (omega arith) c.loop-statement.invariant)
-    c.in_ok-keep.ensures).does
+    (program_entry (shape_of c.args.head) c.args.statements.now
+    c.loop-statement.statement-index c.loop-statement.code.items c.keep.new.items.items
+    c.requires.can c.requires.few (omega arith) c.loop-statement.invariant c.in_ok-keep.ensures).does
+
+pub returns-clause-few : goal.returns-clause-few
+returns-clause-few c =
+    (program_entry (shape_of c.args.head) c.args.statements.now
+    c.loop-statement.statement-index c.loop-statement.code.items c.keep.new.items.items
+    c.requires.can c.requires.few (omega arith) c.loop-statement.invariant c.in_ok-keep.ensures).few
 
 pub returns-clause-implements : goal.returns-clause-implements
 returns-clause-implements c =
     does_implement (shape_of c.args.head) (map steps_of c.args.statements.now)
-    c.keep.new.items.items
-    (is_entry (shape_of c.args.head) (map steps_of c.args.statements.now)
-    c.loop-statement.code.items c.keep.new.items.items c.requires.can
-    (let e : length (map steps_of c.args.statements.now)
-    ≤ 16 = omega (arith, length-map c.args.statements.now steps_of, c.requires.few) in
-    e) (all_statements c.args.statements.now c.loop-statement.statement-index
-    c.loop-statement.code.items (omega arith) c.loop-statement.invariant)
-    c.in_ok-keep.ensures).does
+    c.keep.new.items.items (returns-clause-does c) (returns-clause-few c)

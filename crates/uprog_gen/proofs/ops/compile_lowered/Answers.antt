@@ -1,6 +1,7 @@
 use Rattle.std.proofs.Common.{ap, sym, subst, map, length, arith}
 use Rattle.std.proofs.lemmas.List.{length-map}
 use Rattle.op_text.specs.Language.{operation}
+use Rattle.uprog_code.specs.Shape.{shape_of}
 use Rattle.loop_ir.specs.Plain.{steps_of}
 use Rattle.loop_ir.specs.Statements.{slots_of}
 use Rattle.uprog_gen.specs.Programs.{HasParts}
@@ -34,8 +35,8 @@ pub returns-clause-few : goal.returns-clause-few
 returns-clause-few c =
     let ps = map steps_of c.args.lowered.now.programs.items in
     let e = c.compile_entry.ensures in
-    if_ok_both c.compile_entry.result _ _ _ (λ entry h does. entry_few c.head_of.result ps entry h
-    does) e.head (rw c.deref.ensures.value at e.does)
+    if_ok_both c.compile_entry.result _ _ _ (λ entry h few. entry_few c.head_of.result ps entry h
+    few) e.head (rw c.deref.ensures.value at e.few)
 
 pub returns-clause-exact : goal.returns-clause-exact
 returns-clause-exact c =
@@ -55,7 +56,7 @@ returns-clause-compiled c =
     entry_compiled op c.requires.meets (slots_of m) m.free_bit m.free_word c.requires.names ps
     c.requires.lowered c.head_of.result entry c.head_of.ensures.name c.head_of.ensures.shape h.0
     h.1 h.2
-    (subst (λ k. HasParts k entry.code.items)
+    (subst (λ k. HasParts k (shape_of c.head_of.result) ps entry.code.items)
     (sym (length-map c.args.lowered.now.programs.items steps_of)) parts))
     (if_ok_three c.compile_entry.result _ _ _ e.head (rw c.deref.ensures.value at e.implements)
     e.legal)

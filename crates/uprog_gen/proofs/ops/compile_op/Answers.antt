@@ -16,6 +16,6 @@ returns-clause-graphs c =
       graphs_in op.body ps,
       c.in_ok-take_graphs.ensures,
       entry_graphed op c.requires.meets (slots_of l.names) l.names.free_bit l.names.free_word
-          is.names ps is.lowered is.forms is.written (microprogram_of c.in_ok-entry.entry)
+          is.names ps is.forms is.written (microprogram_of c.in_ok-entry.entry)
           c.in_ok-entry.ensures.few c.in_ok-entry.ensures.exact,
     )

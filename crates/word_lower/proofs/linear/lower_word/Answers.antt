@@ -1,11 +1,9 @@
-use Rattle.std.proofs.Common.{ap, subst, ◌∙◌}
+use Rattle.std.proofs.Common.{ap, ◌∙◌}
 use Rattle.loop_ir.specs.Plain.{steps_of}
-use Rattle.loop_ir.specs.Like.{LikeSteps}
 use Rattle.loop_ir.specs.Statements.{slots_of}
 use Rattle.word_lower.specs.declared.shapes.Owners.{Owners}
 use Rattle.word_lower.specs.Programs.{program}
 use Rattle.word_lower.specs.Shapes.{program_on}
-use Rattle.word_lower.proofs.LikeTemplates.{steps_self}
 use Rattle.word_lower.proofs.Statements.{lowered_on, places_of}
 use Rattle.word_lower.proofs.linear.lower_word.Goals as goal
 
@@ -18,14 +16,12 @@ returns-clause-lowered c =
     let ss = places_of slots c.args.args.now meets.kinds meets.have in
     let r = c.owners-owners.result in
     let o = c.owners-owners.ensures t ss.list meets.gives.found ss.at in
-    let like = subst (LikeSteps (steps_of c.in_ok-p.p)) (c.in_ok-p.ensures.same
-    ∙ ap (program_on r) c.lines.ensures
-    ∙ ap (λ (r : Owners). program_on r (program c.args.op r.target.kind)) o)
-    (steps_self (steps_of c.in_ok-p.p)) in
+    let same = c.in_ok-p.ensures.same ∙ ap (program_on r) c.lines.ensures
+    ∙ ap (λ (r : Owners). program_on r (program c.args.op r.target.kind)) o in
     lowered_on slots names.free_bit names.free_word c.args.target.now c.args._second.now
     c.args.op c.args.args.now c.requires.linear meets c.requires.placed t meets.gives.found
     ss.list ss.at
-    (steps_of c.in_ok-p.p) like c.in_ok-p.ensures.made
+    (steps_of c.in_ok-p.p) same c.in_ok-p.ensures.made
 
 pub returns-clause-written : goal.returns-clause-written
 returns-clause-written c =

@@ -1,5 +1,3 @@
-use Rattle.std.proofs.Common.{ap, map}
-use Rattle.loop_ir.specs.Plain.{step_of}
 use Rattle.word_mul.proofs.Parts.{whole}
 use Rattle.word_mul.proofs.programs.built.Goals as goal
 

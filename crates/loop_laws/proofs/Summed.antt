@@ -1,6 +1,6 @@
 -- The sum over all rounds of what each body counts.
-use Rattle.std.proofs.Common.{◌≡◌, ℕ, zero, suc, ◌+◌, ◌-◌, ◌*◌, List, [], ◌∷◌, ◌++◌, refl, sym, ap}
-use Rattle.std.proofs.Common.{◌∙◌, arith}
+use Rattle.std.proofs.Common.{◌≡◌, ℕ, zero, suc, ◌+◌, ◌-◌, ◌*◌, ◌≤◌, List, [], ◌∷◌, ◌++◌, refl, sym}
+use Rattle.std.proofs.Common.{ap, ◌∙◌, arith}
 use Rattle.std.specs.Prelude.{sum_by}
 use Rattle.std.proofs.lemmas.List.Sums.{sum_by-cons, sum_by-append}
 use Rattle.loop_ir.specs.declared.ir.Count.TheVariants.{All, Rest}
@@ -96,3 +96,10 @@ module _ (f : Block → ℕ) where
   sum_is n (Nest ps ∷ ss) = let e = sum_is n ss in
       let a = sum_append (rounds (λ o. inner_rounds n o ps) 0 n) (all_rounds n ss) in
       let c = nest_is n ps 0 n (omega arith) in omega (arith, e, a, c)
+
+-- of two counts of which one is nowhere greater
+pub sum_most : (f g : Block → ℕ) → ((b : Block) → f b ≤ g b) → (rs : List (RoundOf Block))
+    → rounds_sum f rs ≤ rounds_sum g rs
+sum_most f g h [] = omega arith
+sum_most f g h (r ∷ rs) = let a = more f r rs in let b = more g r rs in let c = h r.part in
+    let d = sum_most f g h rs in omega (arith, a, b, c, d)
