@@ -1,9 +1,8 @@
 -- Laws of events, for those who do several
 use Rattle.std.specs.Prelude.{◌≡◌, ℕ, ◌+◌, ◌<◌, ◌≤◌, List, [], ◌∷◌, ◌++◌}
-use Rattle.std.specs.Prelude.{length, map, Option, Some, None, refl, take}
-use Rattle.std.proofs.Common.{sym, ◌∙◌, ap, arith, inl, inr, get_or, append_assoc, map-id}
-use Rattle.std.proofs.Common.{append-nil, add_assoc, add-zero, zero-add, subst}
-use Rattle.std.proofs.lemmas.List.{map_more}
+use Rattle.std.specs.Prelude.{length, map, Option, Some, None, refl}
+use Rattle.std.proofs.Common.{sym, ◌∙◌, ap, arith, inl, inr, append_assoc, map-id}
+use Rattle.std.proofs.Common.{append-nil, add_assoc, zero-add, subst}
 use Rattle.std.proofs.lemmas.Bool.{ne_eqb, eq-eqb}
 use Rattle.std.proofs.lemmas.Bool.Decides.{eqb_tells}
 use Rattle.dram_model.specs.declared.address.Command.{Command}

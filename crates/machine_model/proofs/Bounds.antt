@@ -7,7 +7,6 @@ use Rattle.std.specs.Option.{option_map, unwrap_or}
 use Rattle.std.specs.Str.{bytes_eq}
 use Rattle.std.specs.List.{find, AllByRecursion}
 use Rattle.std.proofs.Math.Nat.{mul-le-mul, suc-mul, mul-add}
-use Rattle.std.proofs.lemmas.Bool.Decides.{nat_tests}
 use Rattle.std.proofs.lemmas.List.Sums.{sum_by-cons}
 use Rattle.std.proofs.lemmas.List.Elements.{recursion_from_All}
 use Rattle.dram_model.specs.declared.geometry.Geometry.{Geometry}
@@ -39,7 +38,7 @@ use Rattle.machine_model.specs.Refusals.{refusal, object_named, nothing}
 use Rattle.machine_model.specs.Steps.{counts_for, reply_to, reply_by, times, issues_at, table_after}
 use Rattle.machine_model.specs.Steps.{new_object}
 use Rattle.machine_model.specs.Agrees.{IsPlain}
-use Rattle.machine_model.specs.Script.{is_bbop, counted_in, rows_if_done, rows_loaded}
+use Rattle.machine_model.specs.Script.{counted_in, rows_if_done, rows_loaded}
 use Rattle.machine_model.specs.Script.{rows_printed}
 use Rattle.machine_model.specs.Laws.{TableFits, AreFew, WorkIsBounded}
 use Rattle.machine_model.proofs.KeptAll.{entry_holds}

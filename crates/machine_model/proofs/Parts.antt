@@ -3,12 +3,10 @@ use Rattle.std.proofs.Common.{◌≡◌, ℕ, ◌+◌, Bool, true, false, List, 
 use Rattle.std.proofs.Common.{◌∙◌, ap, arith, append_assoc}
 use Rattle.std.specs.Prelude.{◌||◌, flat_map, filter, is_none}
 use Rattle.std.specs.List.{AllByRecursion}
-use Rattle.std.proofs.lemmas.List.{map-append, length-map}
-use Rattle.std.proofs.lemmas.List.Elements.{filter-append}
+use Rattle.std.proofs.lemmas.List.{length-map}
 use Rattle.std.proofs.lemmas.List.Sums.{length-filter, count_by-le-length}
 use Rattle.machine_model.specs.Refusals.{refusal}
 use Rattle.machine_model.specs.Script.{rows_loaded, rows_printed, rows_if_done}
-use Rattle.machine_model.specs.Steps.{job_of}
 use Rattle.machine_model.specs.Pieces.{jobs_of}
 use Rattle.machine_model.specs.Report.{line, lines}
 use Rattle.machine_model.specs.Laws.{LinesGoOn}

@@ -3,25 +3,24 @@ use Rattle.std.proofs.Common.{◌≡◌, ◌<◌, Bool, true, false, cond, eqb, 
 use Rattle.std.proofs.Common.{length, refl, sym, ◌∙◌, ap, subst}
 use Rattle.std.proofs.Common.{append_assoc, append-nil, length-append, ◌+◌, ◌≤◌, arith}
 use Rattle.std.proofs.lemmas.Bool.Decides.{nat_tests}
-use Rattle.std.specs.Prelude.{flat_map, All}
+use Rattle.std.specs.Prelude.{flat_map}
 use Rattle.std.specs.List.{AllByRecursion}
 use Rattle.dram_model.specs.declared.geometry.Geometry.{Geometry}
 use Rattle.dram_model.specs.Chip.{Banks, Event, after, all_counted}
 use Rattle.dram_model.specs.declared.dram.Counters.{Counters}
 use Rattle.object_alloc.specs.Listed.{Named}
-use Rattle.object_alloc.specs.Spelling.{IsObject}
 use Rattle.bbop_isa.specs.Forms.{Instruction}
 use Rattle.bbop_isa.specs.Forms.{Init, Bbop, Load, Fill, Print, Free, Order}
 use Rattle.machine_model.specs.Routines.{Routines}
 use Rattle.machine_model.specs.Refusals.{refusal}
-use Rattle.wave_model.specs.Schedule.{Turn, Ahead, in_turn, whole_picks, events_of_picks}
+use Rattle.wave_model.specs.Schedule.{Turn, in_turn, whole_picks, events_of_picks}
 use Rattle.machine_model.specs.Steps.{job_of, job_events, own_events, if_done, table_after}
 use Rattle.machine_model.specs.Script.{is_bbop, table_at_end, banks_at_end, events_in_order}
 use Rattle.machine_model.specs.Script.{replies, sum_of}
 use Rattle.machine_model.specs.Script.{with_counts, with_writes, counters_at_end}
 use Rattle.machine_model.specs.Pieces.{Piece, Wave, Alone, instrs_in, gathered, pieces_from, pieces}
 use Rattle.machine_model.specs.Pieces.{jobs_of, wave_queues, piece_events, turn_after}
-use Rattle.machine_model.specs.Pieces.{events_of_pieces, script_events, AreBbops, IsPiece}
+use Rattle.machine_model.specs.Pieces.{events_of_pieces, AreBbops, IsPiece}
 use Rattle.machine_model.specs.Laws.{FitsBanks, SeenInOrder, EventsAreSteps, CountedByReplies}
 use Rattle.machine_model.specs.Laws.{OneBankInOrder, PiecesAreScript, WaveIsCounted}
 use Rattle.machine_model.specs.Laws.{PieceIsCounted, PieceIsSteps}

@@ -5,11 +5,12 @@
 ghost use Rattle.std.specs.Prelude.{◌≡◌};
 ghost use Rattle.machine_model.specs.Laws.{AcceptedIsPlain, AllPiecesGoOn, CountedByReplies};
 ghost use Rattle.machine_model.specs.Laws.{EventsAreSteps, GrantsFit, ImageStays, LinesGoOn};
-ghost use Rattle.machine_model.specs.Laws.{OneBankInOrder, OthersStay, PieceIsCounted, PieceIsSteps};
-ghost use Rattle.machine_model.specs.Laws.{PiecesAreCut, PiecesAreScript, RowsGiveWords};
-ghost use Rattle.machine_model.specs.Laws.{SameOperations, ScriptsGoOn, SeenInOrder, TableStays};
-ghost use Rattle.machine_model.specs.Laws.{TextGivesWords, UntouchedStays, WaveIsCounted};
-ghost use Rattle.machine_model.specs.Laws.{WaveIsSteps, WavesAreAnswered, WorkIsBounded};
+ghost use Rattle.machine_model.specs.Laws.{OneBankInOrder, OthersStay, PieceIsCounted};
+ghost use Rattle.machine_model.specs.Laws.{PieceIsSteps, PiecesAreCut, PiecesAreScript};
+ghost use Rattle.machine_model.specs.Laws.{RowsGiveWords, SameOperations, ScriptsGoOn, SeenInOrder};
+ghost use Rattle.machine_model.specs.Laws.{TableStays, TextGivesWords, UntouchedStays};
+ghost use Rattle.machine_model.specs.Laws.{WaveIsCounted, WaveIsSteps, WavesAreAnswered};
+ghost use Rattle.machine_model.specs.Laws.{WorkIsBounded};
 
 use uprog_code::{BadWalk, Counts};
 

@@ -1,8 +1,8 @@
 -- Text that is put in pieces: what was put, and what is held back.
-use Rattle.std.proofs.Common.{◌≡◌, ℕ, List, [], ◌++◌, Option, refl, sym, ◌∙◌, ap, subst}
+use Rattle.std.proofs.Common.{◌≡◌, ℕ, List, [], ◌++◌, Option, sym, ◌∙◌, ap, subst}
 use Rattle.std.proofs.Common.{append_assoc, append-nil}
 use Rattle.host_edge.specs.Views.{Known, AppendsPart}
-use Rattle.host_edge.proofs.Tells.{Known-trans, Known-map, Known-same}
+use Rattle.host_edge.proofs.Tells.{Known-trans, Known-map}
 use Rattle.host_edge.specs.Sends.{AppendsUpTo}
 
 -- all that was held back was put

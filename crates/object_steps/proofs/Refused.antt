@@ -1,9 +1,9 @@
 -- The first condition that holds.
-use Rattle.std.proofs.Common.{◌≡◌, ℕ, ◌+◌, ◌<◌, Bool, true, false, cond, not, List, [], ◌∷◌}
-use Rattle.std.proofs.Common.{Option, Some, None, length, map, position, refl, sym, ◌∙◌, ap, arith}
+use Rattle.std.proofs.Common.{◌≡◌, ℕ, ◌+◌, ◌<◌, Bool, true, false, List, [], ◌∷◌}
+use Rattle.std.proofs.Common.{Option, Some, None, map, position, refl, sym, ◌∙◌, ap, arith}
 use Rattle.std.proofs.Common.{nat_le}
-use Rattle.std.specs.Prelude.{All, nat_lt, ◌^◌}
-use Rattle.std.specs.List.{prefix_len, AllByRecursion}
+use Rattle.std.specs.Prelude.{All, ◌^◌}
+use Rattle.std.specs.List.{AllByRecursion}
 use Rattle.std.specs.Option.{option_map}
 use Rattle.std.proofs.lemmas.Bool.Decides.{nat_tests}
 use Rattle.std.proofs.lemmas.List.Elements.{All-from_recursion}

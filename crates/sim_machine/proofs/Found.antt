@@ -1,13 +1,9 @@
 -- Where a condition on operands holds first.
-use Rattle.std.proofs.Common.{◌≡◌, ℕ, ◌+◌, Bool, true, false, not, cond, List, [], ◌∷◌}
-use Rattle.std.proofs.Common.{map, zip, length, Option, Some, None}
-use Rattle.std.proofs.Common.{refl, sym, ◌∙◌, ap, arith, position}
-use Rattle.std.specs.Prelude.{nat_lt, is_some, if◌then◌else◌, ◌||◌}
-use Rattle.std.specs.List.{prefix_len, find}
+use Rattle.std.proofs.Common.{◌≡◌, ℕ, ◌+◌, Bool, false, List, [], ◌∷◌}
+use Rattle.std.proofs.Common.{map, zip, Some, None}
+use Rattle.std.proofs.Common.{refl, sym, ◌∙◌, ap, position}
+use Rattle.std.specs.Prelude.{if◌then◌else◌}
 use Rattle.std.specs.Option.{option_map}
-use Rattle.std.specs.Str.{bytes_eq}
-use Rattle.std.proofs.lemmas.Bool.Decides.{nat_tests}
-use Rattle.object_alloc.specs.Listed.{Named, has_name, look_up}
 use Rattle.machine_model.specs.declared.Why.{Why}
 use Rattle.machine_model.specs.declared.Why.TheVariants as why
 use Rattle.machine_model.specs.Refusals.{at_place, is_misfit}

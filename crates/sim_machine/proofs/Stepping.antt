@@ -25,7 +25,7 @@ use Rattle.machine_model.specs.declared.Why.TheVariants as why
 use Rattle.uprog_code.specs.declared.walker.Counts.{Counts}
 use Rattle.machine_model.proofs.Tables.{made}
 use Rattle.machine_model.specs.Routines.{Routines}
-use Rattle.machine_model.specs.Pieces.{Piece, Alone, piece_of}
+use Rattle.machine_model.specs.Pieces.{Alone, piece_of}
 use Rattle.machine_model.specs.Pieces as piece
 use Rattle.machine_model.specs.Refusals.{refusal}
 use Rattle.machine_model.specs.Report.{line, said_of}

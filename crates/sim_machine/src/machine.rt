@@ -251,8 +251,8 @@ impl<'a> Machine<'a> {
         self.step_of(number, instr, dram, out)
     }
 
-    /// The objects. An image of this shape may have them: the bytes that spell the table are read as
-    /// it.
+    /// The objects. An image of this shape may have them: the bytes that spell the table are read
+    /// as it.
     pub fn table(&self) -> &Table
         ensures objects { result.now.pairs ≡ table_in self.now }
         ensures limit { IsReady self.now → result.now.limit ≡ limit_of (geometry_of self.now) }

@@ -1,25 +1,21 @@
 -- What the writes of an object leave in the columns.
-use Rattle.std.proofs.Common.{◌≡◌, ℕ, zero, suc, ◌+◌, ◌-◌, ◌*◌, ◌/◌, ◌%◌, ◌^◌, ◌<◌, ◌≤◌, Bool}
-use Rattle.std.proofs.Common.{false, eqb, List, [], ◌∷◌, ◌++◌, length, map, take, drop, replicate}
-use Rattle.std.proofs.Common.{All, refl, sym, ◌∙◌, ap, subst, arith, inl, inr, eq-eqb, mul_comm}
+use Rattle.std.proofs.Common.{◌≡◌, ℕ, zero, suc, ◌+◌, ◌-◌, ◌*◌, ◌^◌, ◌<◌, ◌≤◌, Bool}
+use Rattle.std.proofs.Common.{false, List, [], ◌∷◌, length, map, drop, replicate}
+use Rattle.std.proofs.Common.{All, refl, sym, ◌∙◌, ap, arith, inl, inr, mul_comm}
 use Rattle.std.specs.List.{range_with_len, flat_map, AllByRecursion}
-use Rattle.std.proofs.lemmas.Bool.{cases_lt, ne_eqb}
+use Rattle.std.proofs.lemmas.Bool.{cases_lt}
 use Rattle.std.proofs.lemmas.Bool.Decides.{nat_tests}
-use Rattle.std.proofs.lemmas.List.{map-append, drop-drop, take_all}
+use Rattle.std.proofs.lemmas.List.{take_all}
 use Rattle.std.proofs.lemmas.Nat.{pow_pos}
-use Rattle.std.proofs.Math.Arith.{mod-mul}
-use Rattle.std.proofs.Math.Nat.{mod-eq_of_lt, div-one, pow-suc, div-div-eq-div-mul}
-use Rattle.std.proofs.Math.Seq.{take-add}
 use Rattle.dram_model.specs.declared.geometry.Geometry.{Geometry}
 use Rattle.dram_model.specs.declared.address.Cell.{Cell}
 use Rattle.dram_model.specs.declared.address.Cell.TheVariants.{T, Dcc, C, D}
-use Rattle.bit_rows.specs.Bits.{value, bit_at, bit_number}
-use Rattle.dram_model.specs.Column.{Column, drive, plain, is_written}
+use Rattle.dram_model.specs.Column.{Column, is_written}
 use Rattle.dram_model.specs.declared.dram.Counters.{Counters}
-use Rattle.dram_model.specs.Chip.{Banks, Event, after, with_row, all_counted}
+use Rattle.dram_model.specs.Chip.{Banks, after, with_row, all_counted}
 use Rattle.transpose_unit.proofs.Events.{banks_counted}
 use Rattle.dram_model.specs.Chip.Event.{Write}
-use Rattle.dram_model.specs.Events.{events_of, on_bank_all}
+use Rattle.dram_model.specs.Events.{on_bank_all}
 pub use Rattle.dram_model.proofs.RowWrites.{rows_are}
 use Rattle.dram_model.proofs.RowWrites.{writes_numbers, OnOwn, each_inside, each_after, all_own}
 use Rattle.dram_model.proofs.RowWrites.{whole, map_parts, all_append, all_take, all_drop, all_zero}

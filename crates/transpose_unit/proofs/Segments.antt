@@ -1,12 +1,12 @@
 -- The segments of an object: the rows of each, and their writes.
 use Rattle.std.proofs.Common.{◌≡◌, ℕ, zero, suc, ◌+◌, ◌-◌, ◌*◌, ◌<◌, ◌≤◌, Bool, List, ◌++◌, length}
 use Rattle.std.proofs.Common.{get_or, drop, map, replicate, refl, sym, ap, ◌∙◌, arith, inl, inr}
-use Rattle.std.proofs.Common.{length-append, mul-le-mul_right, mul_comm, mul-add}
+use Rattle.std.proofs.Common.{mul-le-mul_right, mul_comm, mul-add}
 use Rattle.std.specs.List.{range_with_len, flat_map}
 use Rattle.std.proofs.lemmas.Grind.{div_ceil_times}
 use Rattle.std.proofs.lemmas.Bool.{cases_lt}
 use Rattle.std.proofs.lemmas.List.{append-nil, append_assoc, length-map, length-take, length-drop}
-use Rattle.std.proofs.lemmas.List.{length-replicate, get_or-take, get_or-drop, get_or-map}
+use Rattle.std.proofs.lemmas.List.{get_or-take, get_or-drop, get_or-map}
 use Rattle.std.proofs.lemmas.List.{get_or_append_left, get_or-append_right, get_or_past}
 use Rattle.bit_rows.specs.Bits.{bit_at, bits_of_words}
 use Rattle.bit_rows.proofs.Words.{words-eq}

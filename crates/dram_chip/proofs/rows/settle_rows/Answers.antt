@@ -1,11 +1,9 @@
 use Rattle.std.proofs.Common.{◌≡◌, ℕ, ◌+◌, ◌-◌, ◌<◌, ◌≤◌, ◌++◌, List, length}
-use Rattle.std.proofs.Common.{get_or, take, drop, refl, sym, ap, ◌∙◌, arith, inl, inr}
-use Rattle.std.proofs.Common.{get_or-take, get_or-drop}
-use Rattle.std.proofs.lemmas.List.{get_or_append_left, get_or-append_right}
-use Rattle.std.proofs.lemmas.Bool.{cases_lt}
+use Rattle.std.proofs.Common.{get_or, take, drop, sym, ap, ◌∙◌, arith, inl, inr}
+use Rattle.std.proofs.Common.{get_or-take}
+use Rattle.std.proofs.lemmas.List.{get_or_append_left}
 use Rattle.std.proofs.lemmas.Grind.{common_steps}
 use mathlib.Core.Logic.{◌⊎◌}
-use borrow.Rule.Slice.PartMut.{post_of}
 use Rattle.bit_rows.specs.Bits.{bit_at, word_bit, majority}
 use Rattle.dram_chip.proofs.Placed.{past, alike, placed, length-placed, placed-at, placed-off}
 use Rattle.dram_chip.proofs.Placed.{headed, length-headed, headed-at, headed-off, read-front}

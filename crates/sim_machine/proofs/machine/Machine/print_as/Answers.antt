@@ -1,4 +1,4 @@
-use Rattle.std.proofs.Common.{ap, arith, length, refl, subst, sym, ◌∙◌}
+use Rattle.std.proofs.Common.{ap, arith, length, refl, subst, ◌∙◌}
 use Rattle.std.specs.Prelude.{Err, ◌≡◌, ◌++◌}
 use Rattle.host_edge.specs.Views.{Known, AppendsPart}
 use Rattle.object_steps.specs.Lines.{DidReadAtMost}
