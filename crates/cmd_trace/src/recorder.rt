@@ -150,6 +150,8 @@ impl<'a, D: Dram> Dram for Recorder<'a, D> {
 
     ghost width = { λ s h. D.width s.dram.now (has_begun_below (D.view s.dram.now) s.notes.now h) };
 
+    ghost shape = { λ s h. D.shape s.dram.now (has_begun_below (D.view s.dram.now) s.notes.now h) };
+
     fn begin(&mut self, g: Geometry) -> Result<(), BeginNo>
         requires { is_geometry g ≡ true }
         ensures shown { OnOk result ((⟦<Self as Dram>⟧.view self.new).log ≡ Some empty_log) }

@@ -7,11 +7,12 @@ use Rattle.std.proofs.lemmas.List.Elements.{All-head, All-tail, All-set}
 use mathlib.Core.Bool.{beq}
 use Rattle.dram_chip.specs.declared.bank.Bank.{Bank}
 use Rattle.dram_model.specs.declared.geometry.Geometry.{Geometry}
+use Rattle.dram_model.specs.Geometry.{is_geometry}
 use Rattle.dram_chip.specs.Rows.{row_bit, HasConstants}
 use Rattle.dram_chip.specs.ChipRows.{Fits, HasBanks}
 use Rattle.dram_chip.specs.Begun.{all_below, are_constant, is_bank}
 use Rattle.dram_chip.specs.Begun.{are_banks, has_banks}
-use Rattle.dram_chip.specs.ChipWidth.{begun-banks}
+use Rattle.dram_chip.specs.ChipWidth.{begun-banks, begun-shape}
 
 below-all : (test : ℕ → Bool) (n : ℕ) → ((k : ℕ) → k < n → test k ≡ true)
     → all_below test n ≡ true
@@ -44,9 +45,9 @@ all-again g (bank ∷ banks) h = and_from (is_bank g bank) (are_banks g banks)
     (all-again g banks (All-tail (Fits g) bank banks h))
 
 pub banks-begun : (flag : Bool) (g : Geometry) (banks : List Bank) → flag ≡ true
-    → HasBanks g banks → (flag && has_banks g banks) ≡ true
-banks-begun flag g banks e h = and_from _ _ e
-    (and_from _ _ (eq-eqb _ _ h.count) (all-again g banks h.each))
+    → is_geometry g ≡ true → HasBanks g banks → (flag && has_banks g banks) ≡ true
+banks-begun flag g banks e shape h = and_from _ _ e
+    (and_from _ _ shape (and_from _ _ (eq-eqb _ _ h.count) (all-again g banks h.each)))
 
 -- another bank of the geometry at a place
 pub begun-still : (flag : Bool) (g : Geometry) (banks : List Bank) (i : ℕ) (bank : Bank)
@@ -54,7 +55,7 @@ pub begun-still : (flag : Bool) (g : Geometry) (banks : List Bank) (i : ℕ) (ba
     → (flag && has_banks g (set banks i bank)) ≡ (flag && has_banks g banks)
 begun-still flag g banks i bank h fits =
     let has = begun-banks flag g banks h in
-    banks-begun flag g (set banks i bank) (and_parts _ _ h).0 (record {
+    banks-begun flag g (set banks i bank) (and_parts _ _ h).0 (begun-shape flag g banks h) (record {
       count = length-set banks i bank ∙ has.count;
       each = All-set (Fits g) banks i bank fits has.each;
     }) ∙ sym h

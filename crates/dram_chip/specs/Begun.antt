@@ -1,11 +1,12 @@
--- Whether a chip has begun: its flag is set, and its banks have their shape. As a test, since a
--- chip shows a Bool.
+-- Whether a chip has begun: its flag is set, and its banks have its shape, which a chip may have.
+-- As a test, since a chip shows a Bool.
 use Rattle.std.specs.Prelude.{ℕ, zero, suc, ◌+◌, ◌*◌, ◌==◌, Bool, true, not, ◌&&◌, List, [], ◌∷◌}
 use Rattle.std.specs.Prelude.{length}
 use mathlib.Core.Bool.{beq}
 use Rattle.dram_chip.specs.declared.bank.Bank.{Bank}
 use Rattle.dram_chip.specs.declared.chip.Chip.{Chip}
 use Rattle.dram_model.specs.declared.geometry.Geometry.{Geometry}
+use Rattle.dram_model.specs.Geometry.{is_geometry}
 use Rattle.dram_chip.specs.Rows.{row_bit, rows_of, columns_of}
 
 -- every number below n passes the test
@@ -28,9 +29,9 @@ unfoldable pub are_banks : Geometry → List Bank → Bool
 are_banks g [] = true
 are_banks g (bank ∷ banks) = is_bank g bank && are_banks g banks
 
--- every bank of this geometry is there
+-- a chip may have this geometry, and every bank of it is there
 abbrev pub has_banks : Geometry → List Bank → Bool
-has_banks g banks = length banks == g.banks && are_banks g banks
+has_banks g banks = is_geometry g && (length banks == g.banks && are_banks g banks)
 
 abbrev pub has_begun : Chip → Bool
 has_begun chip = chip.begun && has_banks chip.geometry chip.banks.items

@@ -1,4 +1,5 @@
--- A chip that has begun has all its banks, and each bank all its columns.
+-- A chip that has begun has a shape that a chip may have, all its banks, and each bank all its
+-- columns.
 use Rattle.std.specs.Prelude.{◌≡◌, ℕ, ◌+◌, ◌<◌, ◌*◌, ◌&&◌, ◌==◌, not, Bool, true, List, [], ◌∷◌}
 use Rattle.std.specs.Prelude.{length}
 use Rattle.std.specs.Prelude.{zero, suc, All}
@@ -10,6 +11,7 @@ use mathlib.Core.Bool.{beq}
 use Rattle.dram_chip.specs.declared.bank.Bank.{Bank}
 use Rattle.dram_chip.specs.declared.chip.Chip.{Chip}
 use Rattle.dram_model.specs.declared.geometry.Geometry.{Geometry}
+use Rattle.dram_model.specs.Geometry.{is_geometry}
 use Rattle.dram_chip.specs.Rows.{column_at, columns_of, rows_of, row_bit, HasConstants}
 use Rattle.dram_chip.specs.ChipRows.{Fits, HasBanks, banks_in}
 use Rattle.dram_chip.specs.Begun.{all_below, are_constant, is_bank}
@@ -58,8 +60,14 @@ pub begun-banks : (flag : Bool) (g : Geometry) (banks : List Bank)
     → (flag && has_banks g banks) ≡ true → HasBanks g banks
 begun-banks flag g banks h =
     let both = and_parts flag (has_banks g banks) h in
-    let parts = and_parts (length banks == g.banks) (are_banks g banks) both.1 in
+    let there = and_parts (is_geometry g) (length banks == g.banks && are_banks g banks) both.1 in
+    let parts = and_parts (length banks == g.banks) (are_banks g banks) there.1 in
     record { count = eqb-true _ _ parts.0; each = all-fit g banks parts.1 }
+
+pub begun-shape : (flag : Bool) (g : Geometry) (banks : List Bank)
+    → (flag && has_banks g banks) ≡ true → is_geometry g ≡ true
+begun-shape flag g banks h =
+    (and_parts (is_geometry g) _ (and_parts flag (has_banks g banks) h).1).0
 
 width-at : (g : Geometry) (banks : List Bank) (b : ℕ) → b < length banks → All (Fits g) banks
     → length (banks_in banks b) ≡ 64 * g.words
@@ -72,3 +80,6 @@ pub chip_width : (s : Chip) → has_begun s ≡ true → (b : ℕ) → b < s.geo
     → length (banks_in s.banks.items b) ≡ 64 * s.geometry.words
 chip_width s h b l = let has = begun-banks s.begun s.geometry s.banks.items h in
     width-at s.geometry s.banks.items b (omega (arith, has.count)) has.each
+
+pub chip_shape : (s : Chip) → has_begun s ≡ true → is_geometry s.geometry ≡ true
+chip_shape s h = begun-shape s.begun s.geometry s.banks.items h

@@ -65,13 +65,15 @@ fn make_banks(g: Geometry, alloc: Global) -> Result<Vec<Bank>, NoMemory>
 impl Dram for Chip {
     ghost use Rattle.std.specs.Prelude.{[]};
     ghost use Rattle.dram_chip.specs.Seen.{chip_view};
-    ghost use Rattle.dram_chip.specs.ChipWidth.{chip_width};
+    ghost use Rattle.dram_chip.specs.ChipWidth.{chip_shape, chip_width};
 
     ghost view = { chip_view };
 
     ghost borrow = { λ s. [] };
 
     ghost width = { chip_width };
+
+    ghost shape = { chip_shape };
 
     fn begin(&mut self, g: Geometry) -> Result<(), BeginNo> {
         self.begun = false;

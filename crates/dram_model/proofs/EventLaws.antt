@@ -1,9 +1,8 @@
 -- Laws of events, for those who do several
 use Rattle.std.specs.Prelude.{◌≡◌, ℕ, ◌+◌, ◌<◌, ◌≤◌, List, [], ◌∷◌, ◌++◌}
-use Rattle.std.specs.Prelude.{length, map, Option, Some, None, refl, take}
-use Rattle.std.proofs.Common.{sym, ◌∙◌, ap, arith, inl, inr, get_or, append_assoc, map-id}
-use Rattle.std.proofs.Common.{append-nil, add_assoc, add-zero, zero-add, subst}
-use Rattle.std.proofs.lemmas.List.{map_more}
+use Rattle.std.specs.Prelude.{length, map, Option, Some, None, refl}
+use Rattle.std.proofs.Common.{sym, ◌∙◌, ap, arith, inl, inr, append_assoc, map-id}
+use Rattle.std.proofs.Common.{append-nil, add_assoc, zero-add, subst}
 use Rattle.std.proofs.lemmas.Bool.{ne_eqb, eq-eqb}
 use Rattle.std.proofs.lemmas.Bool.Decides.{eqb_tells}
 use Rattle.dram_model.specs.declared.address.Command.{Command}
@@ -82,38 +81,6 @@ projection (event ∷ events) banks bank = elim (eqb_tells (bank_of event) bank)
   | inr h ↦ projection events (happens event banks) bank ∙ rw h.0 refl
 ]
 
--- a command at a time
-pub row_events-more : (bank : ℕ) (commands : List Command) (i : ℕ) (d : Command)
-    → i < length commands → row_events bank (take (i + 1) commands)
-    ≡ row_events bank (take i commands) ++ Row bank (get_or commands i d) ∷ []
-row_events-more bank commands i d l = map_more (λ command. Row bank command) commands i d l
-
-pub after-more : (bank : ℕ) (commands : List Command) (i : ℕ) (d : Command) (start old new : Banks)
-    → i < length commands
-    → old ≡ after (row_events bank (take i commands)) start
-    → new ≡ happens (Row bank (get_or commands i d)) old
-    → new ≡ after (row_events bank (take (i + 1) commands)) start
-after-more bank commands i d start old new l e f =
-    rw (row_events-more bank commands i d l, after-append) (f
-    ∙ ap (happens (Row bank (get_or commands i d))) e)
-
-pub counted-more : (bank : ℕ) (commands : List Command) (i : ℕ) (d : Command)
-    (start old new : Counters) → i < length commands
-    → old ≡ all_counted (row_events bank (take i commands)) start
-    → new ≡ counted (Row bank (get_or commands i d)) old
-    → new ≡ all_counted (row_events bank (take (i + 1) commands)) start
-counted-more bank commands i d start old new l e f =
-    rw (row_events-more bank commands i d l, all_counted-append) (f
-    ∙ ap (counted (Row bank (get_or commands i d))) e)
-
-pub Grew-row : (bank : ℕ) (commands : List Command) (i : ℕ) (d : Command)
-    (start old new : Option Log) → i < length commands
-    → Grew start old (row_events bank (take i commands))
-    → Grew old new (Row bank (get_or commands i d) ∷ [])
-    → Grew start new (row_events bank (take (i + 1) commands))
-Grew-row bank commands i d start old new l g h =
-    rw (row_events-more bank commands i d l) (Grew-more start old new _ _ g h)
-
 pub step-then-run : (command : Command) (commands : List Command) (columns : List Column)
     → map (run commands) (map (step command) columns) ≡ map (run (command ∷ commands)) columns
 step-then-run command commands [] = refl
@@ -183,16 +150,6 @@ Kept-more a b c h k = record {
 
 more_reads : (m n : ℕ) (c : Counters) → with_reads n (with_reads m c) ≡ with_reads (m + n) c
 more_reads m n c = ap (λ k. let d : Counters = record c { reads = k } in d) (add_assoc c.reads m n)
-
-no_reads : (c : Counters) → c ≡ with_reads 0 c
-no_reads c = ap (λ k. let d : Counters = record c { reads = k } in d) (sym (add-zero c.reads))
-
-pub DidRead-none : (chip : ChipView) → DidRead 0 chip chip
-DidRead-none chip = record {
-  banks = refl;
-  counters = no_reads chip.counters;
-  log = Grew-none chip.log;
-}
 
 pub DidRead-more : (m n : ℕ) (a b c : ChipView) → DidRead m a b → DidRead n b c
     → DidRead (m + n) a c

@@ -1,2 +1,4 @@
 pub mod ColumnLaws
 pub mod EventLaws
+pub mod RowWrites
+pub mod Shapes

@@ -17,7 +17,7 @@ use Rattle.dram_model.specs.Column.{Column, run, blank}
 use Rattle.dram_model.specs.Chip.{Banks}
 use Rattle.op_text.specs.declared.tree.Kind.{Kind}
 use Rattle.uprog_code.specs.Bound.{bound}
-use Rattle.uprog_code.specs.Implements.{numbers}
+use Rattle.uprog_code.specs.Implements.{Keeps, numbers}
 use Rattle.uprog_code.specs.Shape.{need, results}
 use Rattle.machine_model.specs.Routines.{Performs}
 use Rattle.uprog_code.specs.Fits.{Fits, AreBelow, ranges, IsInSome, ArePairwiseApart, IsTouched}
@@ -472,23 +472,21 @@ untouched g state o names count n k row t good l ne x y (inr (inr spill)) =
 
 -- The columns of every other object stay
 pub bbop_others : (g : Geometry) (banks : Banks) (state : List Held) (o : Routine)
-    (names : List (List ℕ)) (first : Object) (count n : ℕ) (meaning : List ℕ
-    → List ℕ) (job : WaveJob)
-    → Agrees g banks state → IsGood g (table_of state) o names count n
-    → Performs o.shape n (issues_of (o.trace n)) meaning → job ≡ bbop_job g state o names n first
+    (names : List (List ℕ)) (first : Object) (count n : ℕ) (job : WaveJob)
+    → IsTable (limit_of g) (table_of state) → IsGood g (table_of state) o names count n
+    → Keeps o.shape n (issues_of (o.trace n)) → job ≡ bbop_job g state o names n first
     → (k : ℕ) → k < length state → is_one_of (dsts_in o.shape names) (get_or state k no_one).name
     ≡ false
     → columns g (through job banks) (get_or state k no_one).object
     ≡ columns g banks (get_or state k no_one).object
-bbop_others g banks state o names first count n meaning job a good does is k l ne =
+bbop_others g banks state o names first count n job t good keeps is k l ne =
     let b = binding g (table_of state) o.shape names n in
     let cs = bound g.rows o.shape n b (issues_of (o.trace n)) in
     let p = (get_or state k no_one).object in
-    let fits = binding_fits g state o names count n a.table good in
+    let fits = binding_fits g state o names count n t good in
     let stays : (s : Column) → number p.base p.width (run cs s) ≡ number p.base p.width s =
     λ s. number_same p.base p.width s (run cs s) (λ row x y.
-    does.keeps.row g.rows b s fits row (untouched g state o names count n k row a.table good l
-    ne x y)) in
+    keeps.row g.rows b s fits row (untouched g state o names count n k row t good l ne x y)) in
     ap (λ j. columns g (through j banks) p) is
     ∙ below_same (number p.base p.width) (through
     (record { commands = cs; banks = segments g first }) banks) banks (segments g p) (λ bank h.

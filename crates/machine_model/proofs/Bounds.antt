@@ -13,6 +13,7 @@ use Rattle.std.proofs.lemmas.List.Elements.{recursion_from_All}
 use Rattle.dram_model.specs.declared.geometry.Geometry.{Geometry}
 use Rattle.dram_model.specs.Geometry.{is_geometry}
 use Rattle.dram_model.specs.Elements.{column_count}
+pub use Rattle.dram_model.proofs.Shapes.{geometry_parts}
 use Rattle.bit_rows.specs.declared.TheConstants.{WIDTH_MAX}
 use Rattle.uprog_code.specs.declared.TheConstants.{WALK_MAX}
 use Rattle.uprog_code.specs.declared.walker.Counts.{Counts}
@@ -262,30 +263,6 @@ module _ (g : Geometry) (p : Program) (table : List Named) (some : 0 < g.words)
         → rows_if_done rows_printed g (routines_in p) table instr ≤ 16 * WIDTH_MAX
     rows_printed_few instr = if_few _ _ (printed_few instr)
 
--- what a fill or a new object does, and what stays of the counters of a chip
-pub fills_few : (g : Geometry) (p : Program) (table : List Named) (instr : Instruction)
-    → 0 < g.words → g.banks ≤ 16 → TableFits g table → IsPlain instr → is_bbop instr ≡ false
-    → SumsTo (16 * WIDTH_MAX) (counted_in (reply_to g (routines_in p) table instr))
-fills_few g p table (Init name count n) some few t plain h =
-    reply_sums (refusal g (routines_in p) table (Init name count n)) _ (16 * WIDTH_MAX) (λ e.
-    let m = made g (routines_in p) table name count n e in
-    let rows = few_rows g (new_object g table count n) some few plain.1.1 m.fits in
-    omega (arith, rows.1))
-fills_few g p table (Fill name value) some few t plain h =
-    reply_sums (refusal g (routines_in p) table (Fill name value)) _ (16 * WIDTH_MAX) (λ e.
-    omega (arith, (named_few g table name some few t).1))
-fills_few g p table (Bbop op dst srcs count n) some few t plain h = cc
-fills_few g p table (Load name values) some few t plain h =
-    reply_sums (refusal g (routines_in p) table (Load name values)) _ (16 * WIDTH_MAX) (λ e.
-    omega arith)
-fills_few g p table (Print name) some few t plain h =
-    reply_sums (refusal g (routines_in p) table (Print name)) _ (16 * WIDTH_MAX) (λ e.
-    omega arith)
-fills_few g p table (Free name) some few t plain h =
-    reply_sums (refusal g (routines_in p) table (Free name)) _ (16 * WIDTH_MAX) (λ e.
-    omega arith)
-fills_few g p table (Order o) some few t plain h = omega arith
-
 script_few : (g : Geometry) (p : Program) (table : List Named) (script : List Instruction)
     → 0 < g.words → g.banks ≤ 16 → TableFits g table → AllByRecursion IsPlain script
     → AreFew g (routines_in p) table script
@@ -307,11 +284,6 @@ script_few g p table (instr ∷ script) some few t plain =
       loaded = omega (arith, rows, rest.loaded, rows_loaded_few g p table some few t instr);
       printed = omega (arith, rows, rest.printed, rows_printed_few g p table some few t instr);
     }
-
--- what is said of a geometry
-pub geometry_parts : (g : Geometry) → is_geometry g ≡ true → (0 < g.words) × (0 < g.banks)
-    × (g.banks ≤ 16)
-geometry_parts g h = (grind (arith, nat_tests), grind (arith, nat_tests), grind (arith, nat_tests))
 
 pub work_is_bounded : WorkIsBounded
 work_is_bounded g p table script h t plain =

@@ -6,9 +6,7 @@ use Rattle.std.specs.List.{range_with_len, flat_map}
 use Rattle.std.specs.Prelude.{replicate}
 use Rattle.std.proofs.lemmas.Bool.{cases_lt, ne_eqb, lt-ltb}
 use Rattle.std.proofs.lemmas.Bool.Decides.{nat_tests}
-use Rattle.std.proofs.lemmas.Nat.{pow_pos}
-use Rattle.std.proofs.Math.Arith.{mod-mul}
-use Rattle.std.proofs.Math.Nat.{div-div-eq-div-mul, pow-suc, mod-eq_of_lt, div-one}
+use Rattle.std.proofs.Math.Nat.{mod-eq_of_lt, div-one}
 use mathlib.Core.Path.{fun_ext}
 use Rattle.dram_model.specs.declared.geometry.Geometry.{Geometry}
 use Rattle.dram_model.specs.declared.address.Addr.TheVariants as addr
@@ -21,6 +19,7 @@ use Rattle.dram_model.specs.Chip.{Banks, Event, after}
 use Rattle.dram_model.specs.Chip.Event.{Row}
 use Rattle.dram_model.specs.Events.{row_events}
 use Rattle.dram_model.proofs.EventLaws.{after-append, on-its-bank, on-others}
+use Rattle.dram_model.proofs.RowWrites.{rows_are, value_bits}
 use Rattle.dram_model.specs.Elements.{number}
 use Rattle.object_alloc.specs.declared.table.Object.{Object}
 use Rattle.object_alloc.specs.Free.{has_row, AreApart}
@@ -83,37 +82,6 @@ fill_own base v a (suc n) k s l h =
           (step (Aap (addr.C (bit_number (bit_at v a))) (addr.D (base + a))) s) (omega arith)
           ∙ fill_step base v a (base + a) s ∙ rw (eq-eqb (base + a) (base + a) refl) refl)
     ]
-
-pub rows_are : {X : Type 0} (f h : ℕ → X) (b a n : ℕ) → ((k : ℕ) → k < n → f (b + k) ≡ h (a + k))
-    → map f (range_with_len b n) ≡ map h (range_with_len a n)
-rows_are f h b a zero e = refl
-rows_are f h b a (suc n) e =
-    let head : f b ≡ h a = ap f (omega arith) ∙ e 0 (omega arith) ∙ ap h (omega arith) in
-    rw (
-      head,
-      rows_are f h (b + 1) (a + 1) n (λ k l. ap f (omega arith) ∙ e (k + 1) (omega arith)
-          ∙ ap h (omega arith)),
-    ) refl
-
-bit_is : (y : ℕ) → y < 2 → bit_number (eqb y 1) ≡ y
-bit_is y h = elim (cases_lt y 1) [
-  | inl lt ↦ rw (ne_eqb y 1 (λ e. absurd (omega arith))) (omega arith)
-  | inr ge ↦ let e : y ≡ 1 = omega arith in rw (eq-eqb y 1 e) (sym e)
-]
-
--- bits of a value spell it
-pub value_bits : (v a n : ℕ) → value (map (bit_at v) (range_with_len a n)) ≡ v / 2 ^ a % 2 ^ n
-value_bits v a zero = omega arith
-value_bits v a (suc n) =
-    let x = v / 2 ^ a in
-    let low : bit_number (bit_at v a) ≡ x % 2 = bit_is (x % 2) (omega arith) in
-    let half : v / 2 ^ (a + 1) ≡ x / 2 = ap (λ i. v / 2 ^ i) (omega arith)
-    ∙ ap (λ d. v / d) (pow-suc 2 a) ∙ sym (div-div-eq-div-mul v (2 ^ a) 2) in
-    let rest : value (map (bit_at v) (range_with_len (a + 1) n)) ≡ x / 2 % 2 ^ n =
-    value_bits v (a + 1) n ∙ ap (λ y. y % 2 ^ n) half in
-    let whole : x % 2 ^ suc n ≡ x / 2 % 2 ^ n * 2 + x % 2 = ap (λ d. x % d) (pow-suc 2 n)
-    ∙ mod-mul x (pow_pos n) (omega arith) in
-    omega (arith, low, rest, whole)
 
 -- a filled object has the value in every column
 pub fill_number : (base v n : ℕ) (s : Column) → v < 2 ^ n

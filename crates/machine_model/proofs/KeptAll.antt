@@ -39,7 +39,7 @@ use Rattle.machine_model.proofs.Bbops.{or_false}
 use Rattle.machine_model.proofs.Steps.{idle}
 use Rattle.machine_model.proofs.Fills.{fill_commands, fill_keeps}
 use Rattle.machine_model.proofs.Makes.{filled}
-use Rattle.machine_model.proofs.Loads.{writes, each_inside, each_after, all_writes, all_own, part}
+use Rattle.dram_model.proofs.RowWrites.{writes, each_inside, each_after, all_writes, all_own, part}
 use Rattle.machine_model.proofs.Places.{still, still_table}
 use Rattle.machine_model.proofs.Tables.{listed_after}
 

@@ -1,4 +1,5 @@
 pub mod Facts
+pub mod First
 pub mod Places
 pub mod Below
 pub mod Bbops
@@ -13,6 +14,7 @@ pub mod Whole
 pub mod Opened
 pub mod Kept
 pub mod KeptAll
+pub mod Others
 pub mod Events
 pub mod Alike
 pub mod InOrder

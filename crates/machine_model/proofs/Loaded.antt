@@ -7,7 +7,7 @@ use Rattle.std.specs.List.{range_with_len, flat_map, AllByRecursion}
 use Rattle.std.specs.Prelude.{replicate}
 use Rattle.std.proofs.lemmas.Bool.{cases_lt}
 use Rattle.std.proofs.lemmas.Bool.Decides.{nat_tests}
-use Rattle.std.proofs.lemmas.List.{map-append, length-replicate}
+use Rattle.std.proofs.lemmas.List.{map-append, take_all}
 use Rattle.std.proofs.lemmas.Grind.{div_ceil_times}
 use Rattle.std.proofs.lemmas.Nat.{pow_pos}
 use Rattle.std.proofs.Math.Nat.{mul-le-mul}
@@ -16,6 +16,9 @@ use Rattle.dram_model.specs.Column.{Column}
 use Rattle.dram_model.specs.Chip.{Banks, after}
 use Rattle.dram_model.specs.Events.{on_bank_all}
 use Rattle.dram_model.specs.Elements.{number}
+use Rattle.dram_model.proofs.RowWrites.{writes_numbers, each_inside, each_after, part, whole}
+use Rattle.dram_model.proofs.RowWrites.{all_writes, all_own, part_length, map_parts, padded_length}
+use Rattle.dram_model.proofs.RowWrites.{all_append, all_take, all_drop, all_zero}
 use Rattle.object_alloc.specs.declared.table.Object.{Object}
 use Rattle.object_alloc.specs.Free.{has_row, AreApart}
 use Rattle.bbop_isa.specs.Forms.{Load}
@@ -32,30 +35,8 @@ use Rattle.machine_model.specs.Agrees.{Agrees, StepAgrees}
 use Rattle.machine_model.proofs.Facts.{first_none, when_none, place_none, not_false}
 use Rattle.machine_model.proofs.Places.{no_one, found}
 use Rattle.machine_model.proofs.Bbops.{apart_places, has_from}
-use Rattle.machine_model.proofs.Loads.{writes_numbers, writes_others, writes_length, each_inside}
-use Rattle.machine_model.proofs.Loads.{each_after, part, whole, all_writes, all_own}
+use Rattle.machine_model.proofs.Loads.{writes_others, writes_length}
 use Rattle.machine_model.proofs.Steps.{with_numbers_agrees, done_or_not, idle}
-
-all_append : (P : ℕ → Type 0) (xs ys : List ℕ) → AllByRecursion P xs → AllByRecursion P ys
-    → AllByRecursion P (xs ++ ys)
-all_append P [] ys a b = b
-all_append P (x ∷ xs) ys a b = (a.0, all_append P xs ys a.1 b)
-
-all_take : (P : ℕ → Type 0) (n : ℕ) (xs : List ℕ) → AllByRecursion P xs
-    → AllByRecursion P (take n xs)
-all_take P zero xs a = tt
-all_take P (suc n) [] a = tt
-all_take P (suc n) (x ∷ xs) a = (a.0, all_take P n xs a.1)
-
-all_drop : (P : ℕ → Type 0) (n : ℕ) (xs : List ℕ) → AllByRecursion P xs
-    → AllByRecursion P (drop n xs)
-all_drop P zero xs a = a
-all_drop P (suc n) [] a = tt
-all_drop P (suc n) (x ∷ xs) a = all_drop P n xs a.1
-
-all_zero : (P : ℕ → Type 0) (n : ℕ) → P 0 → AllByRecursion P (replicate n 0)
-all_zero P zero p = tt
-all_zero P (suc n) p = (p, all_zero P n p)
 
 -- no value is past the width
 all_small : (limit k : ℕ) (w : ℕ → Why) (vs : List ℕ)
@@ -65,25 +46,6 @@ all_small limit k w (v ∷ vs) h =
     let here = place_none w k (leb limit v) (map (λ v. leb limit v) vs) h in
     let big : leb limit v ≡ false = here.0 in
     (grind (arith, nat_tests), all_small limit (k + 1) w vs here.1)
-
-part_length : (w k : ℕ) (nums : List ℕ) (bank : ℕ) → length nums ≡ w * k → bank < k
-    → length (part w nums bank) ≡ w
-part_length w k nums bank e h =
-    let fits : (bank + 1) * w ≤ k * w = mul-le-mul {n₁ = bank + 1} {m₁ = w} {n₂ = k} {m₂ = w}
-    (omega arith) (omega arith) in
-    simp (length-take, length-drop) (omega (arith, e, fits))
-
-map_parts : (f : Column → ℕ) (new : Banks) (w : ℕ) (nums : List ℕ) (a n : ℕ)
-    → ((b : ℕ) → a ≤ b → b < a + n → map f (new b) ≡ part w nums b)
-    → map f (flat_map new (range_with_len a n)) ≡ flat_map (part w nums) (range_with_len a n)
-map_parts f new w nums a zero e = refl
-map_parts f new w nums a (suc n) e =
-    rw (
-      map-append f (new a) (flat_map new (range_with_len (a + 1) n)),
-      e a (omega arith) (omega arith),
-      map_parts f new w nums (a + 1) n (λ b l m.
-          e b (omega arith) (omega arith)),
-    ) refl
 
 same_parts : (f : Column → ℕ) (new old : Banks) (a n : ℕ)
     → ((b : ℕ) → a ≤ b → b < a + n → map f (new b) ≡ map f (old b))
@@ -97,16 +59,6 @@ same_parts f new old a (suc n) e =
       same_parts f new old (a + 1) n (λ b l m.
           e b (omega arith) (omega arith)),
     ) refl
-
-take_all : (xs : List ℕ) (n : ℕ) → length xs ≡ n → take n xs ≡ xs
-take_all [] zero h = refl
-take_all [] (suc n) h = refl
-take_all (x ∷ xs) zero h = absurd (omega arith)
-take_all (x ∷ xs) (suc n) h = ap (λ ys. x ∷ ys) (take_all xs n (omega arith))
-
-padded_length : (size : ℕ) (vs : List ℕ) → length vs ≤ size → length (padded_to size vs) ≡ size
-padded_length size vs h = length-append vs (replicate (size - length vs) 0)
-    ∙ omega (arith, h, length-replicate {A = ℕ} (size - length vs) 0)
 
 pub load_agrees : (g : Geometry) (operations : Routines) (meaning : List ℕ → ℕ → List ℕ
     → List ℕ) (name : List ℕ) (vs : _) → 0 < g.words
@@ -161,7 +113,7 @@ load_agrees g operations meaning name vs words banks state a =
     (all_take (λ v. v < 2 ^ o.width) w (drop (b * w) nums)
     (all_drop (λ v. v < 2 ^ o.width) (b * w) nums small)))
     ∙ whole w (segments g o) nums
-    ∙ take_all nums (segments g o * w) (omega (arith, long)))
+    ∙ take_all (segments g o * w) nums (omega (arith, long)))
     (λ k l ne.
     let p = (get_or state k no_one).object in
     let apart : AreApart p o = subst (λ (q : Object). AreApart p q) (sym f.object)

@@ -233,15 +233,6 @@ all_parted P zero xs h = (tt, h)
 all_parted P (suc k) [] h = (tt, tt)
 all_parted P (suc k) (x ∷ xs) h = let rest = all_parted P k xs h.1 in ((h.0, rest.0), rest.1)
 
--- the jobs of a wave, bbop by bbop
-pub jobs_append : (g : Geometry) (operations : Routines) (table : List Named)
-    (xs ys : List Instruction) → jobs_of g operations table (xs ++ ys)
-    ≡ jobs_of g operations table xs ++ jobs_of g operations table ys
-jobs_append g operations table xs ys =
-    let granted : Instruction → Bool = λ instr. is_none (refusal g operations table instr) in
-    ap (map (job_of g operations table)) (filter-append granted xs ys)
-    ∙ map-append (job_of g operations table) (filter granted xs) (filter granted ys)
-
 pub few_jobs : (g : Geometry) (operations : Routines) (table : List Named)
     (wave : List Instruction) → length (jobs_of g operations table wave) ≤ length wave
 few_jobs g operations table wave =

@@ -261,11 +261,3 @@ one_bank g operations turn table script one some f =
     let same : (es : List Event) → es ≡ es = λ es. refl in
     script_is (λ a b. a ≡ b) same both_same g operations (wave_same g operations one some) turn
     table script f
-
--- on a chip of one bank a script has the events of its instructions one after another
-pub script_in_order : (g : Geometry) (operations : Routines) (table : List Named)
-    (script : List Instruction) → g.banks ≡ 1 → 0 < g.words
-    → All (λ named. IsObject g named.1) table
-    → script_events g operations table script ≡ events_in_order g operations table script
-script_in_order g operations table script one some objects =
-    one_bank g operations Ahead table script one some (λ k d l. (objects k d l).fits)

@@ -238,7 +238,7 @@ bbop_done g operations meaning op dst srcs count n (Some o) e some few does bank
     (with_results_agrees g banks (through job banks) state result (dsts_in o.shape names) a
     (λ bank l. through_length job banks bank ∙ a.shaped bank l)
     (bbop_numbers g banks state o names first count n (meaning op n) job a facts counted d is)
-    (bbop_others g banks state o names first count n (meaning op n) job a facts d is))
+    (bbop_others g banks state o names first count n job a.table facts d.keeps is))
 
 pub done_or_not : (g : Geometry) (r : Option Why) (new old : Banks) (s t : List Held)
     → (r ≡ None → Agrees g new s) → Agrees g old t → Agrees g (if_done r new old) (if_done r s t)

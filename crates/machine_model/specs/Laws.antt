@@ -10,7 +10,7 @@ use Rattle.uprog_code.specs.declared.TheConstants.{WALK_MAX}
 use Rattle.dram_model.specs.Chip.{Banks, after, all_counted, row_in}
 use Rattle.dram_model.specs.Elements.{column_count}
 use Rattle.dram_model.specs.Events.{events_of as seen_by}
-use Rattle.object_alloc.specs.Listed.{Named, IsTable, limit_of}
+use Rattle.object_alloc.specs.Listed.{Named, IsTable, limit_of, has_name}
 use Rattle.object_alloc.specs.Spelling.{IsObject, IsImage}
 use Rattle.bbop_isa.specs.Forms.{Instruction, Bbop}
 use Rattle.bbop_isa.specs.Script.{script_of}
@@ -20,11 +20,13 @@ use Rattle.uprog_code.specs.Programs.{IsProgram}
 use Rattle.uprog_code.specs.Texts.{TextOp, ImplementsAll}
 use Rattle.machine_model.specs.Routines.{Program, Routine, Routines, routines_of}
 use Rattle.machine_model.specs.Routines.{routines_in}
-use Rattle.machine_model.specs.Refusals.{refusal}
+use Rattle.machine_model.specs.Refusals.{refusal, object_named, is_one_of}
 use Rattle.machine_model.specs.Routines.{meaning_in}
 use Rattle.wave_model.specs.Schedule.{events_of_picks, IsWhole, Turn}
-use Rattle.machine_model.specs.Steps.{Held, table_of, reply_to, binding, job_of}
-use Rattle.machine_model.specs.Agrees.{Agrees, DoesAll, IsPlain}
+use Rattle.machine_model.specs.Columns.{columns}
+use Rattle.machine_model.specs.Steps.{Held, table_of, reply_to, binding, job_of, banks_after}
+use Rattle.machine_model.specs.Steps.{dsts_of, srcs_of}
+use Rattle.machine_model.specs.Agrees.{Agrees, DoesAll, IsPlain, IsWidth}
 use Rattle.machine_model.specs.Script.{table_at_end, banks_at_end, words_at_end, events_in_order}
 use Rattle.machine_model.specs.Script.{is_bbop, replies, sum_of, sum_done, with_counts}
 use Rattle.machine_model.specs.Script.{is_touched_by, counters_at_end, rows_loaded, rows_printed}
@@ -118,6 +120,23 @@ UntouchedStays =
     → is_touched_by g (routines_in p) table script bank row ≡ false
     → row_in row (banks_at_end g (routines_in p) table banks script bank)
     ≡ row_in row (banks bank)
+
+-- Whatever an accepted program does, a bbop leaves the numbers of each object that is none of its
+-- destinations, and so a bbop that is done leaves those of its sources
+pub record OthersStay : Type 0 where
+  pub others : (g : Geometry) (p : Program) (table : List Named) (op dst : List ℕ)
+      (srcs : List (List ℕ)) (count n : ℕ) (banks : Banks) (name : List ℕ) → IsProgram p
+      → IsTable (limit_of g) table → IsWidth n → has_name table name ≡ true
+      → is_one_of (dsts_of (routines_in p op) (dst ∷ srcs)) name ≡ false
+      → columns g (banks_after g (routines_in p) table banks (Bbop op dst srcs count n))
+      (object_named table name) ≡ columns g banks (object_named table name)
+  pub sources : (g : Geometry) (p : Program) (table : List Named) (op dst : List ℕ)
+      (srcs : List (List ℕ)) (count n : ℕ) (banks : Banks) → IsProgram p
+      → IsTable (limit_of g) table → IsWidth n
+      → refusal g (routines_in p) table (Bbop op dst srcs count n) ≡ None
+      → AllByRecursion (λ name. columns g (banks_after g (routines_in p) table banks
+      (Bbop op dst srcs count n)) (object_named table name)
+      ≡ columns g banks (object_named table name)) (srcs_of (routines_in p op) (dst ∷ srcs))
 
 -- What an accepted script says is plain
 abbrev pub AcceptedIsPlain : Type 0

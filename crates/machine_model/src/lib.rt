@@ -2,9 +2,10 @@
 //! report on it.
 #![tactic(auto)]
 
+ghost use Rattle.std.specs.Prelude.{◌≡◌};
 ghost use Rattle.machine_model.specs.Laws.{AcceptedIsPlain, AllPiecesGoOn, CountedByReplies};
 ghost use Rattle.machine_model.specs.Laws.{EventsAreSteps, GrantsFit, ImageStays, LinesGoOn};
-ghost use Rattle.machine_model.specs.Laws.{OneBankInOrder, PieceIsCounted, PieceIsSteps};
+ghost use Rattle.machine_model.specs.Laws.{OneBankInOrder, OthersStay, PieceIsCounted, PieceIsSteps};
 ghost use Rattle.machine_model.specs.Laws.{PiecesAreCut, PiecesAreScript, RowsGiveWords};
 ghost use Rattle.machine_model.specs.Laws.{SameOperations, ScriptsGoOn, SeenInOrder, TableStays};
 ghost use Rattle.machine_model.specs.Laws.{TextGivesWords, UntouchedStays, WaveIsCounted};
@@ -41,7 +42,9 @@ pub enum Reply {
 
 /// Done without a command.
 impl Default for Reply {
-    fn default() -> Self {
+    fn default() -> Self
+        ensures { result ≡ Reply.Done (record { aap = 0; ap = 0 }) }
+    {
         Reply::Done(Counts { aap: 0, ap: 0 })
     }
 }
@@ -61,10 +64,12 @@ pub fn tables_stay()
 {}
 
 /// Whatever a program does that is accepted, it runs under bindings that fit, and the rows that no
-/// done instruction touches stay. How much it does is bounded.
+/// done instruction touches stay; a bbop leaves the numbers of every object but its destinations.
+/// How much it does is bounded.
 pub fn accepted_programs_are_safe()
     ensures grants { GrantsFit }
     ensures untouched { UntouchedStays }
+    ensures others { OthersStay }
     ensures bounded { WorkIsBounded }
 {}
 

@@ -5,6 +5,7 @@ ghost use Rattle.std.specs.Prelude.{true, false, IfOk, Some, slice_get, All, vec
 ghost use Rattle.std.specs.Option.{option_map};
 ghost use Rattle.std.specs.List.{find};
 ghost use Rattle.std.specs.Str.{bytes_eq};
+ghost use Rattle.text_lex.specs.Spelled.{fits_name};
 ghost use Rattle.dram_model.specs.Geometry.{is_geometry};
 ghost use Rattle.object_alloc.specs.declared.table.Object.{Object};
 ghost use Rattle.object_alloc.specs.Free.{free, are_free, meets, end_of, IsLeastFree};
@@ -108,7 +109,8 @@ impl Drop for Table {
 }
 
 impl Model for Table {
-    ghost use Rattle.std.specs.Prelude.{◌≤◌, vec_capacity};
+    ghost use Rattle.std.specs.Prelude.{◌≡◌, ◌≤◌, true, All, vec_capacity};
+    ghost use Rattle.text_lex.specs.Spelled.{fits_name};
     ghost use Rattle.object_alloc.specs.Listed.{Listing, IsTable};
 
     ghost Value = { Listing };
@@ -116,7 +118,7 @@ impl Model for Table {
     ghost view = { λ t. record { limit = t.limit; pairs = t.pairs.items } };
 
     ghost invariant = { λ t. (t.limit ≤ 974) × IsTable t.limit t.pairs.items
-        × (256 ≤ vec_capacity t.pairs) };
+        × (256 ≤ vec_capacity t.pairs) × All (λ p. fits_name p.0 ≡ true) t.pairs.items };
 }
 
 impl Table {
@@ -158,6 +160,7 @@ impl Table {
     pub fn len(&self) -> u16
         ensures value { result ≡ length self.now.pairs }
         ensures kept { IsTable self.now.limit self.now.pairs }
+        ensures names { All (λ p. fits_name p.0 ≡ true) self.now.pairs }
     {
         self.pairs.len() as u16
     }
@@ -190,6 +193,7 @@ impl Table {
               ∷ [];
         } }
     {
+        prove!(!self.has_name(name.bytes()));
         match self.pairs.push((name, o)) {
             Ok(()) => {}
             Err(_) => unreachable!(),

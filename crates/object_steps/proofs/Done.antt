@@ -23,7 +23,8 @@ use Rattle.machine_model.specs.declared.Reply.TheVariants.{Done, Refused}
 use Rattle.machine_model.specs.Routines.{Routines}
 use Rattle.machine_model.specs.Refusals.{is_absent, object_named, refusal, at_place, first}
 use Rattle.machine_model.specs.Steps.{if_done, new_object, reply_by}
-use Rattle.object_steps.proofs.Refused.{alone, at_place-map}
+use Rattle.machine_model.proofs.First.{at_place-map}
+use Rattle.object_steps.proofs.Refused.{alone}
 use Rattle.std.specs.Option.{option_map}
 
 pub did_all : (r : Option Why) (events : List Event) (a b : ChipView) → r ≡ None → Did events a b

@@ -9,18 +9,7 @@ use Rattle.std.proofs.lemmas.List.Elements.{All-head, All-tail}
 use Rattle.object_alloc.specs.declared.table.Object.{Object}
 use Rattle.object_alloc.specs.Listed.{Named, has_name, look_up, without}
 use Rattle.machine_model.specs.Refusals.{is_absent, nothing, object_named}
-
-found_more : {X : Type 0} (f : Named → X) (p : Named) (rest : Option Named) (b r : Bool)
-    → is_some (option_map f rest) ≡ r → is_some (option_map f (cond b (Some p) rest)) ≡ (b || r)
-found_more f p rest true r e = refl
-found_more f p rest false r e = e
-
--- a name is found where an object has it
-pub look_up-some : (pairs : List Named) (name : List ℕ)
-    → is_some (look_up pairs name) ≡ has_name pairs name
-look_up-some [] name = refl
-look_up-some (p ∷ pairs) name = found_more (λ q. q.1) p (find (λ q. bytes_eq q.0 name) pairs)
-    (bytes_eq p.0 name) (has_name pairs name) (look_up-some pairs name)
+use Rattle.machine_model.proofs.First.{look_up-some}
 
 pub has_found : (pairs : List Named) (name : List ℕ) (o : Object) → Some o ≡ look_up pairs name
     → has_name pairs name ≡ true

@@ -5,16 +5,6 @@ use Rattle.host_edge.specs.Views.{Known, AppendsPart}
 use Rattle.host_edge.proofs.Tells.{Known-trans, Known-map, Known-same}
 use Rattle.host_edge.specs.Sends.{AppendsUpTo}
 
--- nothing was put
-pub nothing_put : (held : List ℕ) (sent : Option (List ℕ)) → Known (AppendsUpTo held held) sent sent
-nothing_put held sent = Known-same (AppendsUpTo held held) sent (λ x. (
-  [],
-  (
-    refl,
-    sym (append-nil x),
-  ),
-))
-
 -- all that was held back was put
 pub all_put : (held : List ℕ) (a b : Option (List ℕ)) → Known (λ old new. new ≡ old ++ held) a b
     → Known (AppendsUpTo [] held) a b

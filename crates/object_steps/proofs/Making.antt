@@ -12,7 +12,7 @@ use Rattle.bbop_isa.specs.Forms.{Init}
 use Rattle.machine_model.specs.declared.Why.TheVariants as why
 use Rattle.machine_model.specs.Routines.{Routines}
 use Rattle.machine_model.specs.Refusals.{refusal}
-use Rattle.object_steps.proofs.Found.{look_up-some}
+use Rattle.machine_model.proofs.First.{look_up-some}
 
 pub tells : (pairs : List Named) (name : List ℕ) (found : Option Object) (known : Bool) (is : Bool)
     → found ≡ look_up pairs name → known ≡ is_some found → known ≡ is → has_name pairs name ≡ is

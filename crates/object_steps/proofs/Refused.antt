@@ -11,6 +11,7 @@ use Rattle.machine_model.specs.declared.Why.{Why}
 use Rattle.machine_model.specs.declared.Why.TheVariants as why
 use Rattle.machine_model.specs.Refusals.{at_place, first, when}
 use Rattle.machine_model.proofs.Facts.{place_none}
+use Rattle.machine_model.proofs.First.{at_place-map}
 
 pub holds : (b : Bool) (reason : Why) (rest : List (Option Why)) → b ≡ true
     → first (when b reason ∷ rest) ≡ Some reason
@@ -25,42 +26,6 @@ passes false reason rest found e h = h
 pub alone : (found : Option Why) → first (found ∷ []) ≡ found
 alone None = refl
 alone (Some reason) = refl
-
-lt-suc : (n len : ℕ) → nat_lt (1 + n) (1 + len) ≡ nat_lt n len
-lt-suc n len = grind (arith, nat_tests)
-
-lt-zero : (len : ℕ) → nat_lt 0 (1 + len) ≡ true
-lt-zero len = grind (arith, nat_tests)
-
-shifted : (reason : ℕ → Why) (k n : ℕ) (b : Bool) →
-    option_map (λ i. reason (k + 1 + i)) (cond b (Some n) None)
-    ≡ option_map (λ i. reason (k + i)) (cond b (Some (1 + n)) None)
-shifted reason k n true = let e : k + 1 + n ≡ k + (1 + n) = omega arith in
-    ap (λ m. Some (reason m)) e
-shifted reason k n false = refl
-
-first_here : (reason : ℕ → Why) (k : ℕ) (b : Bool) → b ≡ true
-    → Some (reason k) ≡ option_map (λ i. reason (k + i)) (cond b (Some 0) None)
-first_here reason k true e = let z : k ≡ k + 0 = omega arith in ap (λ m. Some (reason m)) z
-first_here reason k false e = cc
-
--- the tests of one more element
-one_more : (reason : ℕ → Why) (k n len : ℕ) (b : Bool) (rest : Option Why) →
-    rest ≡ option_map (λ i. reason (k + 1 + i)) (cond (nat_lt n len) (Some n) None) →
-    cond b (Some (reason k)) rest ≡ option_map (λ i.
-    reason (k + i)) (cond (nat_lt (cond (not b) (1 + n) 0) (1 + len))
-    (Some (cond (not b) (1 + n) 0)) None)
-one_more reason k n len true rest e = first_here reason k (nat_lt 0 (1 + len)) (lt-zero len)
-one_more reason k n len false rest e = rw (lt-suc n len) (e ∙ shifted reason k n (nat_lt n len))
-
--- the first place at which a test passes is where a condition holds first
-pub at_place-map : {X : Type 0} (reason : ℕ → Why) (k : ℕ) (p : X → Bool) (xs : List X)
-    → at_place reason k (map p xs) ≡ option_map (λ i. reason (k + i)) (position p xs)
-at_place-map reason k p [] = refl
-at_place-map reason k p (x ∷ xs) =
-    let e : length (x ∷ xs) ≡ 1 + length xs = omega arith in
-    rw e (one_more reason k (prefix_len (λ y. not (p y)) xs) (length xs) (p x)
-    (at_place reason (k + 1) (map p xs)) (at_place-map reason (k + 1) p xs))
 
 small_value : (n v : ℕ) → nat_le (2 ^ n) v ≡ false → v < 2 ^ n
 small_value n v h = grind (arith, nat_tests)

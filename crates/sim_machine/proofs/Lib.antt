@@ -1,4 +1,5 @@
 pub mod Found
+mod Listing
 pub mod Stepping
 pub mod Printing
 pub mod Alone

@@ -1,7 +1,7 @@
 -- Rows among all rows, and events row by row.
 use Rattle.std.proofs.Common.{◌≡◌, ℕ, zero, suc, ◌+◌, ◌*◌, ◌<◌, ◌≤◌, List, [], ◌∷◌, ◌++◌, map}
-use Rattle.std.proofs.Common.{refl, sym, ◌∙◌, ap, subst, arith, append_assoc}
-use Rattle.std.proofs.Common.{append-nil, add-one}
+use Rattle.std.proofs.Common.{length, take, drop, refl, sym, ◌∙◌, ap, subst, arith, append_assoc}
+use Rattle.std.proofs.Common.{append-nil, add-one, length-append, length-take, length-drop}
 use Rattle.std.specs.Prelude.{flat_map}
 use Rattle.std.specs.List.{range_with_len}
 use Rattle.std.proofs.Math.Nat.{suc-mul, mul-suc, mul-le-mul_left, mul-le-mul_right, mul_comm}
@@ -99,3 +99,13 @@ pub image_is : (g : Geometry) (table : List Named) (rows : Rows) (empty head fil
 unfolding image_bytes
 image_is g table rows empty head file e f h =
     h ∙ ap (λ xs. xs ++ rows_bytes g rows) (f ∙ ap (λ xs. xs ++ head_bytes g table) e)
+
+-- a stage that was lent has its length, whatever stands in it now
+pub stage_kept : (len n : ℕ) (new items : List ℕ) → length new ≡ length items → length items ≡ len
+    → length items ≡ n → length (take len (new ++ drop (length new) items)) ≡ n
+stage_kept len n new items e f h = omega (
+  arith,
+  length-take len (new ++ drop (length new) items),
+  length-append new (drop (length new) items),
+  length-drop (length new) items,
+)

@@ -37,7 +37,7 @@ use Rattle.sim_machine.specs.declared.machine.Machine.{Machine}
 use Rattle.sim_machine.specs.Machine.{banks_by, events_by, geometry_of, is_print, line_of}
 use Rattle.sim_machine.specs.Machine.{operations_by, reads_by, reply_of, moved_table, table_in}
 use Rattle.sim_machine.specs.Machine.{leaves_table, turn_by_piece, turn_in}
-use Rattle.sim_machine.proofs.Found.{look_up-some}
+use Rattle.machine_model.proofs.First.{look_up-some}
 use Rattle.sim_machine.specs.Outcome.{Stepped, StoppedByChip, StoppedBySink}
 use Rattle.sim_machine.specs.Steps.{DidAndRead}
 

@@ -1,9 +1,9 @@
 -- What comes of one instruction: the clauses of a step as one, what its parts come to, for its
 -- proof.
-use Rattle.std.specs.Prelude.{◌≡◌, ℕ, true, false, [], ◌∷◌, ◌++◌, Result, Ok, Err}
+use Rattle.std.specs.Prelude.{◌≡◌, ℕ, ◌≤◌, true, false, [], ◌∷◌, ◌++◌, Result, Ok, Err}
 use Rattle.host_edge.specs.Views.{SinkView, Known, AppendsPart}
 use Rattle.fault_counts.specs.Counts.{Rose}
-use Rattle.dram_model.specs.View.{ChipView}
+use Rattle.dram_model.specs.View.{ChipView, Kept}
 use Rattle.dram_model.specs.Elements.{FailedBelow}
 use Rattle.bbop_isa.specs.Forms.{Instruction}
 use Rattle.machine_model.specs.declared.Reply.{Reply}
@@ -14,6 +14,7 @@ use Rattle.object_steps.specs.Lines.{DidReadAtMost}
 use Rattle.object_steps.specs.declared.fault.StepFault.{StepFault}
 use Rattle.object_steps.specs.declared.fault.StepFault.TheVariants.{ChipFault, WriteFault}
 use Rattle.sim_machine.specs.declared.machine.Machine.{Machine}
+use Rattle.sim_machine.specs.Machine.{IsReady, geometry_of, program_of}
 use Rattle.sim_machine.specs.Machine.{table_in, turn_in, reply_of, moved_table, turn_by_piece}
 use Rattle.sim_machine.specs.Machine.{events_by, queues_by, reads_by, banks_by, is_print, line_of}
 use Rattle.sim_machine.specs.Steps.{DidAndRead}
@@ -57,3 +58,14 @@ Comes old new number instr chip chip' sink sink' (Err ChipFault) =
     StoppedByChip old new number instr chip chip' sink sink'
 Comes old new number instr chip chip' sink sink' (Err WriteFault) =
     StoppedBySink old new number instr chip chip' sink sink'
+
+-- and whatever comes of it, the machine stays one that is open, with its program and its shape, and
+-- the chip and the sink keep what each call keeps
+pub record Went (old new : Machine) (number : ℕ) (instr : Instruction) (chip chip' : ChipView)
+    (sink sink' : SinkView) (result : Result Reply StepFault) : Type 0 where
+  pub kept : Kept chip chip'
+  pub sink_faults : sink.faults ≤ sink'.faults
+  pub program : program_of new ≡ program_of old
+  pub shape : geometry_of new ≡ geometry_of old
+  pub ready : IsReady new
+  pub comes : Comes old new number instr chip chip' sink sink' result

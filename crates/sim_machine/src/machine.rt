@@ -1,17 +1,16 @@
 //! The machine.
 
 ghost use Rattle.std.specs.Prelude.{◌≡◌, ℕ, ◌*◌, ◌<◌, ◌≤◌, ◌^◌, ◌∷◌, ◌++◌, [], length, map};
-ghost use Rattle.std.specs.Prelude.{true, false, OnOk};
-ghost use Rattle.std.specs.Prelude.{OnErr, ◌⊎◌, IfOk, IsErrOf};
+ghost use Rattle.std.specs.Prelude.{true, false, Ok, OnOk, OnErr, ◌⊎◌, IfOk, IsErrOf};
 ghost use Rattle.std.specs.List.{AllByRecursion};
 ghost use Rattle.host_edge.specs.Views.{Known, AppendsPart};
 ghost use Rattle.fault_counts.specs.Counts.{Rose};
 ghost use Rattle.dram_model.specs.Chip.{Grew};
 ghost use Rattle.dram_model.specs.View.{HasBegun, Kept, Did, DidRead, NotBegun};
 ghost use Rattle.dram_model.specs.Elements.{FailedBelow};
-ghost use Rattle.object_alloc.specs.Listed.{has_name};
-ghost use Rattle.object_alloc.specs.Reading.{rows_size};
-ghost use Rattle.object_alloc.specs.Spelling.{image_bytes};
+ghost use Rattle.object_alloc.specs.Listed.{has_name, limit_of};
+ghost use Rattle.object_alloc.specs.Reading.{rows_size, table_at};
+ghost use Rattle.object_alloc.specs.Spelling.{image_bytes, table_bytes};
 ghost use Rattle.bbop_isa.specs.Forms.{view_of, Load, Print};
 ghost use Rattle.machine_model.specs.Agrees.{IsPlain};
 ghost use Rattle.machine_model.specs.Opened.{rows_of};
@@ -252,10 +251,15 @@ impl<'a> Machine<'a> {
         self.step_of(number, instr, dram, out)
     }
 
-    /// The objects.
+    /// The objects. An image of this shape may have them: the bytes that spell the table are read as
+    /// it.
     pub fn table(&self) -> &Table
         ensures objects { result.now.pairs ≡ table_in self.now }
+        ensures limit { IsReady self.now → result.now.limit ≡ limit_of (geometry_of self.now) }
+        ensures read { IsReady self.now → table_at (geometry_of self.now) 0
+            (table_bytes (table_in self.now)) ≡ Ok (table_in self.now) }
     {
+        prove!(usize::from(self.table.len()) <= OBJECTS_MAX);
         &self.table
     }
 

@@ -17,7 +17,7 @@ ghost use Rattle.object_steps.specs.Objects.{events_alone};
 ghost use Rattle.sim_machine.specs.Machine.{IsReady, banks_by, geometry_of, leaves_table};
 ghost use Rattle.sim_machine.specs.Machine.{operations_by, program_of, reply_of, table_in};
 ghost use Rattle.sim_machine.specs.Machine.{turn_by_piece, turn_in};
-ghost use Rattle.sim_machine.specs.Outcome.{Comes};
+ghost use Rattle.sim_machine.specs.Outcome.{Went};
 ghost use Rattle.sim_machine.specs.Steps.{HasRoom};
 
 use crate::machine::Machine;
@@ -74,12 +74,7 @@ impl<'a> Machine<'a> {
         requires plain { IsPlain (view_of instr.now) }
         requires room { HasRoom (D.view dram.old).counters }
         ensures borrow { D.borrow dram.new ≡ D.borrow dram.old }
-        ensures kept { Kept (D.view dram.old) (D.view dram.new) }
-        ensures sink_faults { (S.view out.old).faults ≤ (S.view out.new).faults }
-        ensures program { program_of self.new ≡ program_of self.old }
-        ensures shape { geometry_of self.new ≡ geometry_of self.old }
-        ensures ready { IsReady self.new }
-        ensures comes { Comes self.old self.new number (view_of instr.now) (D.view dram.old)
+        ensures went { Went self.old self.new number (view_of instr.now) (D.view dram.old)
             (D.view dram.new) (S.view out.old) (S.view out.new) result }
     {
         match self.wave(number, slice::from_ref(instr), dram, out) {
@@ -104,12 +99,7 @@ impl<'a> Machine<'a> {
         requires plain { IsPlain (Init name.now count n) }
         requires room { HasRoom (D.view dram.old).counters }
         ensures borrow { D.borrow dram.new ≡ D.borrow dram.old }
-        ensures kept { Kept (D.view dram.old) (D.view dram.new) }
-        ensures sink_faults { (S.view out.old).faults ≤ (S.view out.new).faults }
-        ensures program { program_of self.new ≡ program_of self.old }
-        ensures shape { geometry_of self.new ≡ geometry_of self.old }
-        ensures ready { IsReady self.new }
-        ensures comes { Comes self.old self.new number (Init name.now count n) (D.view dram.old)
+        ensures went { Went self.old self.new number (Init name.now count n) (D.view dram.old)
             (D.view dram.new) (S.view out.old) (S.view out.new) result }
     {
         let reply = match trsp_init(self.geometry, &mut self.table, name, count, n, dram) {
@@ -184,12 +174,7 @@ impl<'a> Machine<'a> {
         requires leaves { leaves_table (view_of instr.now) ≡ true }
         requires room { HasRoom (D.view dram.old).counters }
         ensures borrow { D.borrow dram.new ≡ D.borrow dram.old }
-        ensures kept { Kept (D.view dram.old) (D.view dram.new) }
-        ensures sink_faults { (S.view out.old).faults ≤ (S.view out.new).faults }
-        ensures program { program_of self.new ≡ program_of self.old }
-        ensures shape { geometry_of self.new ≡ geometry_of self.old }
-        ensures ready { IsReady self.new }
-        ensures comes { Comes self.old self.new number (view_of instr.now) (D.view dram.old)
+        ensures went { Went self.old self.new number (view_of instr.now) (D.view dram.old)
             (D.view dram.new) (S.view out.old) (S.view out.new) result }
     {
         let reply = match self.answer(instr, dram) {
@@ -215,12 +200,7 @@ impl<'a> Machine<'a> {
         requires geometry { (D.view dram.old).geometry ≡ geometry_of self.old }
         requires room { HasRoom (D.view dram.old).counters }
         ensures borrow { D.borrow dram.new ≡ D.borrow dram.old }
-        ensures kept { Kept (D.view dram.old) (D.view dram.new) }
-        ensures sink_faults { (S.view out.old).faults ≤ (S.view out.new).faults }
-        ensures program { program_of self.new ≡ program_of self.old }
-        ensures shape { geometry_of self.new ≡ geometry_of self.old }
-        ensures ready { IsReady self.new }
-        ensures comes { Comes self.old self.new number (Print name.now) (D.view dram.old)
+        ensures went { Went self.old self.new number (Print name.now) (D.view dram.old)
             (D.view dram.new) (S.view out.old) (S.view out.new) result }
     {
         let g = self.geometry;
@@ -259,12 +239,7 @@ impl<'a> Machine<'a> {
         requires geometry { (D.view dram.old).geometry ≡ geometry_of self.old }
         requires room { HasRoom (D.view dram.old).counters }
         ensures borrow { D.borrow dram.new ≡ D.borrow dram.old }
-        ensures kept { Kept (D.view dram.old) (D.view dram.new) }
-        ensures sink_faults { (S.view out.old).faults ≤ (S.view out.new).faults }
-        ensures program { program_of self.new ≡ program_of self.old }
-        ensures shape { geometry_of self.new ≡ geometry_of self.old }
-        ensures ready { IsReady self.new }
-        ensures comes { Comes self.old self.new number (Free name.now) (D.view dram.old)
+        ensures went { Went self.old self.new number (Free name.now) (D.view dram.old)
             (D.view dram.new) (S.view out.old) (S.view out.new) result }
     {
         let reply = free_reply(&self.table, name);
@@ -291,12 +266,7 @@ impl<'a> Machine<'a> {
         requires plain { IsPlain (view_of instr.now) }
         requires room { HasRoom (D.view dram.old).counters }
         ensures borrow { D.borrow dram.new ≡ D.borrow dram.old }
-        ensures kept { Kept (D.view dram.old) (D.view dram.new) }
-        ensures sink_faults { (S.view out.old).faults ≤ (S.view out.new).faults }
-        ensures program { program_of self.new ≡ program_of self.old }
-        ensures shape { geometry_of self.new ≡ geometry_of self.old }
-        ensures ready { IsReady self.new }
-        ensures comes { Comes self.old self.new number (view_of instr.now) (D.view dram.old)
+        ensures went { Went self.old self.new number (view_of instr.now) (D.view dram.old)
             (D.view dram.new) (S.view out.old) (S.view out.new) result }
     {
         match instr {

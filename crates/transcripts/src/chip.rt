@@ -42,7 +42,7 @@ impl ListeningChip {
 
 impl Dram for ListeningChip {
     ghost use Rattle.std.specs.Prelude.{[]};
-    ghost use Rattle.dram_chip.specs.ChipWidth.{chip_width};
+    ghost use Rattle.dram_chip.specs.ChipWidth.{chip_shape, chip_width};
     ghost use Rattle.dram_chip.specs.FailingCalls.{failing_view};
 
     ghost view = { λ s. failing_view s.chip };
@@ -50,6 +50,8 @@ impl Dram for ListeningChip {
     ghost borrow = { λ s. [] };
 
     ghost width = { λ s. chip_width s.chip.chip };
+
+    ghost shape = { λ s. chip_shape s.chip.chip };
 
     fn begin(&mut self, g: Geometry) -> Result<(), BeginNo> {
         self.chip.begin(g)

@@ -6,7 +6,7 @@ use Rattle.bit_rows.specs.Bits.{value, bit_at, bit_in, bits_of_words}
 use Rattle.bit_rows.specs.declared.TheConstants.{WIDTH_MAX}
 use Rattle.transpose_unit.specs.Stage.{stage_row, stage_rows, stage_number}
 use Rattle.transpose_unit.proofs.Columns.{stage_bit, map-range, one_row}
-use Rattle.transpose_unit.proofs.Held.{value_bits}
+use Rattle.dram_model.proofs.RowWrites.{value_bits}
 use Rattle.transpose_unit.proofs.Rows.{rows-enough}
 use Rattle.transpose_unit.proofs.Sets.{bit-part}
 

@@ -42,13 +42,6 @@ head_at {F} shape jobs heads i job h are lt e f =
     ∙ ap (λ (xs : List Shape). get_or xs i (of_head h)) are
     ∙ get_or-map of_job jobs i job (of_head h) lt ∙ ap of_job (sym e)
 
-pub heads_long : {F : Type 0} (shape : F → Shape) (jobs : List (Job F)) (heads : List JobHead)
-    → AreHeads shape jobs heads → length heads ≡ length jobs
-heads_long {F} shape jobs heads are =
-    let of_head : JobHead → Shape = λ x. shape_of x.head in
-    let of_job : Job F → Shape = λ x. shape x.entry in
-    sym (length-map heads of_head) ∙ ap length are ∙ length-map jobs of_job
-
 -- the job of a number, as the first of those from it on
 pub jobs_from : {F : Type 0} (shape : F → Shape) (code : F → List Uop) (jobs : List (Job F)) (i : ℕ)
     (job : Job F) → i < length jobs → job ≡ get_or jobs i job

@@ -50,7 +50,6 @@ pub fn run_wave<D: Dram, F: Fetch, P: Picker>(
 ) -> Result<(), ChipFault>
     requires begun { HasBegun (D.view dram.old) }
     requires few_jobs { length jobs.now ≤ 16 }
-    requires few_banks { (D.view dram.old).geometry.banks ≤ 16 }
     requires jobs { All (CanRun (D.view dram.old).geometry)
         (bound_jobs F.shape F.code jobs.now) }
     requires aap_room { (D.view dram.old).counters.aap < 2 ^ 62 }

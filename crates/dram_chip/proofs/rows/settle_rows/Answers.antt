@@ -1,80 +1,13 @@
 use Rattle.std.proofs.Common.{◌≡◌, ℕ, ◌+◌, ◌-◌, ◌<◌, ◌≤◌, ◌++◌, List, length}
-use Rattle.std.proofs.Common.{get_or, take, drop, refl, sym, ap, ◌∙◌, arith, inl, inr}
-use Rattle.std.proofs.Common.{get_or-take, get_or-drop}
-use Rattle.std.proofs.lemmas.List.{get_or_append_left, get_or-append_right}
-use Rattle.std.proofs.lemmas.Bool.{cases_lt}
+use Rattle.std.proofs.Common.{get_or, take, drop, sym, ap, ◌∙◌, arith, inl, inr}
+use Rattle.std.proofs.Common.{get_or-take}
+use Rattle.std.proofs.lemmas.List.{get_or_append_left}
 use Rattle.std.proofs.lemmas.Grind.{common_steps}
 use mathlib.Core.Logic.{◌⊎◌}
-use borrow.Rule.Slice.PartMut.{post_of}
 use Rattle.bit_rows.specs.Bits.{bit_at, word_bit, majority}
+use Rattle.dram_chip.proofs.Placed.{past, alike, placed, length-placed, placed-at, placed-off}
+use Rattle.dram_chip.proofs.Placed.{headed, length-headed, headed-at, headed-off, read-front}
 use Rattle.dram_chip.proofs.rows.settle_rows.Goals as goal
-
--- a word after the first part
-past : (p s : List ℕ) (i q : ℕ) → length p ≡ i → get_or (p ++ s) (i + q) 0 ≡ get_or s q 0
-past p s i q e = let back : i + q - i ≡ q = omega arith in get_or-append_right p s i (i + q) 0 e
-    (omega arith) ∙ ap (λ n. get_or s n 0) back
-
--- two lists that are alike at k in the part that it falls in
-alike : (xs ys zs ws : List ℕ) (k : ℕ) → length xs ≡ length ys
-    → (k < length xs → get_or xs k 0 ≡ get_or ys k 0)
-    → ((j : ℕ) → k ≡ length xs + j → get_or zs j 0 ≡ get_or ws j 0)
-    → get_or (xs ++ zs) k 0 ≡ get_or (ys ++ ws) k 0
-alike xs ys zs ws k e h g = elim (cases_lt k (length xs)) [
-  | inl l ↦ get_or_append_left xs zs 0 k l ∙ h l ∙ sym (get_or_append_left ys ws 0 k (omega arith))
-  | inr l ↦ get_or-append_right xs zs (length xs) k 0 refl l ∙ g (k - length xs) (omega arith)
-      ∙ sym (get_or-append_right ys ws (length xs) k 0 (sym e) l)
-]
-
--- a list with n words from a on in their place
-placed : List ℕ → List ℕ → ℕ → ℕ → List ℕ
-placed xs ys a n = take a xs ++ (ys ++ post_of a (a + n - a) xs)
-
-length-placed : (xs ys : List ℕ) (a n : ℕ) → a + n ≤ length xs → length ys ≡ n
-    → length (placed xs ys a n) ≡ length xs
-unfolding placed
-length-placed xs ys a n l e = grind (arith, common_steps)
-
-placed-at : (xs ys : List ℕ) (a n q : ℕ) → a + n ≤ length xs → length ys ≡ n → q < n
-    → get_or (placed xs ys a n) (a + q) 0 ≡ get_or ys q 0
-unfolding placed
-placed-at xs ys a n q l e m =
-    past (take a xs) (ys ++ post_of a (a + n - a) xs) a q (grind (arith, common_steps))
-    ∙ get_or_append_left ys (post_of a (a + n - a) xs) 0 q (omega arith)
-
-placed-off : (xs ys : List ℕ) (a n k : ℕ) → a + n ≤ length xs → length ys ≡ n
-    → (k < a) ⊎ (a + n ≤ k) → get_or (placed xs ys a n) k 0 ≡ get_or xs k 0
-unfolding placed
-placed-off xs ys a n k l e (inl h) = get_or_append_left (take a xs) (ys ++ post_of a (a + n - a) xs)
-    0 k (grind (arith, common_steps)) ∙ get_or-take a xs k 0 h
-placed-off xs ys a n k l e (inr h) =
-    let front : length (take a xs) ≡ a = grind (arith, common_steps) in
-    let width : a + n - a ≡ n = omega arith in
-    let at : a + (n + (k - a - n)) ≡ k = omega arith in
-    get_or-append_right (take a xs) (ys ++ post_of a (a + n - a) xs) a k 0 front (omega arith)
-    ∙ get_or-append_right ys (post_of a (a + n - a) xs) n (k - a) 0 e (omega arith)
-    ∙ get_or-drop (a + n - a) (drop a xs) (k - a - n) 0
-    ∙ get_or-drop a xs (a + n - a + (k - a - n)) 0
-    ∙ ap (λ m. get_or xs m 0) (omega arith)
-
--- the same, from the start on
-headed : List ℕ → List ℕ → ℕ → List ℕ
-headed xs ys n = ys ++ drop n xs
-
-length-headed : (xs ys : List ℕ) (n : ℕ) → n ≤ length xs → length ys ≡ n
-    → length (headed xs ys n) ≡ length xs
-unfolding headed
-length-headed xs ys n l e = grind (arith, common_steps)
-
-headed-at : (xs ys : List ℕ) (n q : ℕ) → length ys ≡ n → q < n
-    → get_or (headed xs ys n) q 0 ≡ get_or ys q 0
-unfolding headed
-headed-at xs ys n q e m = get_or_append_left ys (drop n xs) 0 q (omega arith)
-
-headed-off : (xs ys : List ℕ) (n k : ℕ) → length ys ≡ n → n ≤ k
-    → get_or (headed xs ys n) k 0 ≡ get_or xs k 0
-unfolding headed
-headed-off xs ys n k e h = get_or-append_right ys (drop n xs) n k 0 e h ∙ get_or-drop n xs (k - n) 0
-    ∙ ap (λ m. get_or xs m 0) (omega arith)
 
 -- three rows of a list
 record Rows (low mid high A B C : List ℕ) (a b c n : ℕ) : Type 0 where
@@ -151,14 +84,7 @@ three-off low mid high A B C a b c n k r oa ob oc =
     (λ i f. headed-off high C n i r.c_length (beyond k c n i
     (omega (arith, e, f, front, middle, r.low_length, r.mid_length, r.next)) oc)))
 
--- the words of the three rows as they were
-was-a : (all low mid high rest : List ℕ) (a b n q : ℕ) → all ≡ low ++ rest → length low ≡ b
-    → a + n ≤ b → q < n → get_or (take (a + n - a) (drop a low)) q 0 ≡ get_or all (a + q) 0
-was-a all low mid high rest a b n q e l f h =
-    get_or-take (a + n - a) (drop a low) q 0 (omega arith) ∙ get_or-drop a low q 0
-    ∙ sym (get_or_append_left low rest 0 (a + q) (omega arith))
-    ∙ ap (λ xs. get_or xs (a + q) 0) (sym e)
-
+-- the words of the other two rows as they were
 was-b : (all low mid high rest : List ℕ) (b c n q : ℕ) → all ≡ low ++ rest → rest ≡ mid ++ high
     → length low ≡ b → length mid ≡ c - b → b + n ≤ c → q < n
     → get_or (take n mid) q 0 ≡ get_or all (b + q) 0
@@ -203,7 +129,7 @@ settled-a : (all low rest mid high A B C : List ℕ) (a b c n q r : ℕ)
 settled-a all low rest mid high A B C a b c n q r s h =
     majority-of _ (get_or A q 0) _ _ _ _ _ _ r (three-a low mid high A B C a b c n q s.rows h)
     (s.bits q r h)
-    (was-a all low mid high rest a b n q s.first s.rows.low_length s.rows.fits h)
+    (read-front all low rest a b n q s.first s.rows.low_length s.rows.fits h)
     (was-b all low mid high rest b c n q s.first s.second s.rows.low_length s.rows.mid_length
     s.rows.next h)
     (was-c all low mid high rest b c n q s.first s.second s.rows.low_length s.rows.mid_length
@@ -216,7 +142,7 @@ settled-b : (all low rest mid high A B C : List ℕ) (a b c n q r : ℕ)
 settled-b all low rest mid high A B C a b c n q r s h =
     majority-of _ (get_or A q 0) _ _ _ _ _ _ r (three-b low mid high A B C a b c n q s.rows h
     ∙ ap (λ xs. get_or xs q 0) s.b_same) (s.bits q r h)
-    (was-a all low mid high rest a b n q s.first s.rows.low_length s.rows.fits h)
+    (read-front all low rest a b n q s.first s.rows.low_length s.rows.fits h)
     (was-b all low mid high rest b c n q s.first s.second s.rows.low_length s.rows.mid_length
     s.rows.next h)
     (was-c all low mid high rest b c n q s.first s.second s.rows.low_length s.rows.mid_length
@@ -229,7 +155,7 @@ settled-c : (all low rest mid high A B C : List ℕ) (a b c n q r : ℕ)
 settled-c all low rest mid high A B C a b c n q r s h =
     majority-of _ (get_or A q 0) _ _ _ _ _ _ r (three-c low mid high A B C a b c n q s.rows h
     ∙ ap (λ xs. get_or xs q 0) s.c_same) (s.bits q r h)
-    (was-a all low mid high rest a b n q s.first s.rows.low_length s.rows.fits h)
+    (read-front all low rest a b n q s.first s.rows.low_length s.rows.fits h)
     (was-b all low mid high rest b c n q s.first s.second s.rows.low_length s.rows.mid_length
     s.rows.next h)
     (was-c all low mid high rest b c n q s.first s.second s.rows.low_length s.rows.mid_length

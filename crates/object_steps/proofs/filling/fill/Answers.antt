@@ -1,4 +1,5 @@
-use Rattle.std.proofs.Common.{◌∙◌, ◌*◌, ap, subst}
+use Rattle.std.proofs.Common.{◌∙◌, ◌*◌, ap, subst, refl}
+use Rattle.dram_model.proofs.EventLaws.{Kept-same}
 use Rattle.dram_model.specs.View.{Did}
 use Rattle.uprog_code.specs.declared.walker.Counts.{Counts}
 use Rattle.object_alloc.specs.declared.table.Object.{Object}
@@ -9,6 +10,26 @@ use Rattle.machine_model.specs.Steps.{counts_for, fill_events, own_events}
 use Rattle.object_steps.proofs.Done.{did_all, did_nothing, replies_done, replies_refused}
 use Rattle.object_steps.proofs.Filled.{on_err}
 use Rattle.object_steps.proofs.filling.fill.Goals as goal
+
+pub returns-in-Err-clause-borrow : goal.returns-in-Err-clause-borrow
+returns-in-Err-clause-borrow g c = refl
+
+pub returns-in-Err-clause-kept : goal.returns-in-Err-clause-kept
+returns-in-Err-clause-kept g c = Kept-same (g.D.Dram.view c.args.dram.now)
+
+pub returns-in_err-fill_object-in-Ok-clause-borrow :
+    goal.returns-in_err-fill_object-in-Ok-clause-borrow
+returns-in_err-fill_object-in-Ok-clause-borrow g c = c.fill_object.ensures.borrow
+
+pub returns-in_err-fill_object-in-Ok-clause-kept : goal.returns-in_err-fill_object-in-Ok-clause-kept
+returns-in_err-fill_object-in-Ok-clause-kept g c = c.fill_object.ensures.kept
+
+pub returns-in_ok-fill_object-in-Ok-clause-borrow :
+    goal.returns-in_ok-fill_object-in-Ok-clause-borrow
+returns-in_ok-fill_object-in-Ok-clause-borrow g c = c.fill_object.ensures.borrow
+
+pub returns-in_ok-fill_object-in-Ok-clause-kept : goal.returns-in_ok-fill_object-in-Ok-clause-kept
+returns-in_ok-fill_object-in-Ok-clause-kept g c = c.fill_object.ensures.kept
 
 pub returns-in_err-fill_object-in-Ok-clause-allowed :
     goal.returns-in_err-fill_object-in-Ok-clause-allowed

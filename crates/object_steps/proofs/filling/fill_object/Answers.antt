@@ -15,6 +15,23 @@ use Rattle.object_steps.specs.Objects.{filled_in}
 use Rattle.object_steps.proofs.Filled.{next_bank, on_err, filled_others, one_times_more}
 use Rattle.object_steps.proofs.filling.fill_object.Goals as goal
 
+pub fill_bank-requires-clause-begun : goal.fill_bank-requires-clause-begun
+fill_bank-requires-clause-begun g c = c.loop-bank.invariant.kept.begun ∙ c.requires.begun
+
+pub returns-in_err-fill_bank-clause-borrow : goal.returns-in_err-fill_bank-clause-borrow
+returns-in_err-fill_bank-clause-borrow g c =
+    c.in_err-fill_bank.ensures.borrow ∙ c.loop-bank.invariant.borrow
+
+pub returns-in_err-fill_bank-clause-kept : goal.returns-in_err-fill_bank-clause-kept
+returns-in_err-fill_bank-clause-kept g c =
+    Kept-more _ _ _ c.loop-bank.invariant.kept c.in_err-fill_bank.ensures.kept
+
+pub returns-clause-borrow : goal.returns-clause-borrow
+returns-clause-borrow g c = c.loop-bank.invariant.borrow
+
+pub returns-clause-kept : goal.returns-clause-kept
+returns-clause-kept g c = c.loop-bank.invariant.kept
+
 pub loop-bank-preserved : goal.loop-bank-preserved
 loop-bank-preserved g c =
     let first = g.D.Dram.view c.args.dram.now in

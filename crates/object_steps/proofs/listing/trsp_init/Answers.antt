@@ -1,4 +1,5 @@
-use Rattle.std.proofs.Common.{arith}
+use Rattle.std.proofs.Common.{arith, refl}
+use Rattle.dram_model.proofs.EventLaws.{Kept-same}
 use Rattle.object_alloc.specs.declared.table.Object.{Object}
 use Rattle.object_alloc.specs.Listed.{limit_of, objects_of}
 use Rattle.bbop_isa.specs.Forms.{Init}
@@ -8,6 +9,32 @@ use Rattle.object_steps.proofs.Done.{did_nothing, found_free, found_within, repl
 use Rattle.object_steps.proofs.Done.{same_after}
 use Rattle.object_steps.proofs.Lying.{lies_with}
 use Rattle.object_steps.proofs.listing.trsp_init.Goals as goal
+
+pub returns-in-Err-clause-borrow : goal.returns-in-Err-clause-borrow
+returns-in-Err-clause-borrow g c = refl
+
+pub returns-in-Err-clause-kept : goal.returns-in-Err-clause-kept
+returns-in-Err-clause-kept g c = Kept-same (g.D.Dram.view c.args.dram.now)
+
+pub returns-in-Err-clause-lies : goal.returns-in-Err-clause-lies
+returns-in-Err-clause-lies g c = c.requires.lies
+
+pub returns-in_err-fill_object-in-Ok-clause-borrow :
+    goal.returns-in_err-fill_object-in-Ok-clause-borrow
+returns-in_err-fill_object-in-Ok-clause-borrow g c = c.fill_object.ensures.borrow
+
+pub returns-in_err-fill_object-in-Ok-clause-kept : goal.returns-in_err-fill_object-in-Ok-clause-kept
+returns-in_err-fill_object-in-Ok-clause-kept g c = c.fill_object.ensures.kept
+
+pub returns-in_ok-fill_object-in-Ok-clause-borrow :
+    goal.returns-in_ok-fill_object-in-Ok-clause-borrow
+returns-in_ok-fill_object-in-Ok-clause-borrow g c = c.fill_object.ensures.borrow
+
+pub returns-in_ok-fill_object-in-Ok-clause-kept : goal.returns-in_ok-fill_object-in-Ok-clause-kept
+returns-in_ok-fill_object-in-Ok-clause-kept g c = c.fill_object.ensures.kept
+
+pub returns-in_err-fill_object-in-Ok-clause-lies : goal.returns-in_err-fill_object-in-Ok-clause-lies
+returns-in_err-fill_object-in-Ok-clause-lies g c = c.requires.lies
 
 pub fill_object-requires-clause-rows : goal.fill_object-requires-clause-rows
 fill_object-requires-clause-rows g c =

@@ -1,4 +1,5 @@
 use Rattle.std.proofs.Common.{◌∙◌, ◌+◌, ◌*◌, ap, subst, List, refl}
+use Rattle.dram_model.proofs.EventLaws.{Kept-same}
 use Rattle.dram_model.specs.Chip.{Event}
 use Rattle.dram_model.specs.Chip.Event.{Write}
 use Rattle.dram_model.specs.Elements.{padded_to, row_bits}
@@ -12,6 +13,30 @@ use Rattle.object_steps.proofs.Done.{did_all, did_nothing, replies_done, replies
 use Rattle.object_steps.proofs.Filled.{on_err}
 use Rattle.object_steps.proofs.Rises.{few_banks, few_events, few_rows, loads_are}
 use Rattle.object_steps.proofs.loading.load.Goals as goal
+
+pub returns-in-Err-clause-borrow : goal.returns-in-Err-clause-borrow
+returns-in-Err-clause-borrow g c = refl
+
+pub returns-in-Err-clause-kept : goal.returns-in-Err-clause-kept
+returns-in-Err-clause-kept g c = Kept-same (g.D.Dram.view c.args.dram.now)
+
+pub returns-in-Err-clause-stage : goal.returns-in-Err-clause-stage
+returns-in-Err-clause-stage g c = refl
+
+pub returns-in_err-write_object-in-Ok-clause-borrow :
+    goal.returns-in_err-write_object-in-Ok-clause-borrow
+returns-in_err-write_object-in-Ok-clause-borrow g c = c.write_object.ensures.borrow
+
+pub returns-in_err-write_object-in-Ok-clause-kept :
+    goal.returns-in_err-write_object-in-Ok-clause-kept
+returns-in_err-write_object-in-Ok-clause-kept g c = c.write_object.ensures.kept
+
+pub returns-in_ok-write_object-in-Ok-clause-borrow :
+    goal.returns-in_ok-write_object-in-Ok-clause-borrow
+returns-in_ok-write_object-in-Ok-clause-borrow g c = c.write_object.ensures.borrow
+
+pub returns-in_ok-write_object-in-Ok-clause-kept : goal.returns-in_ok-write_object-in-Ok-clause-kept
+returns-in_ok-write_object-in-Ok-clause-kept g c = c.write_object.ensures.kept
 
 pub returns-in_err-write_object-in-Ok-clause-allowed :
     goal.returns-in_err-write_object-in-Ok-clause-allowed

@@ -1,12 +1,12 @@
 use Rattle.std.proofs.Common.{◌≡◌, ℕ, ◌+◌, ◌*◌, ◌/◌, ◌<◌, ◌≤◌, ◌++◌, ◌∙◌, List, length, map}
-use Rattle.std.proofs.Common.{ap, arith, subst}
+use Rattle.std.proofs.Common.{[], ap, arith, subst}
 use Rattle.std.specs.List.{range_with_len}
 use Rattle.std.proofs.lemmas.Bool.Decides.{nat_tests}
 use Rattle.host_edge.specs.Views.{Known, AppendsPart}
 use Rattle.host_edge.specs.Sends.{AppendsUpTo}
 use Rattle.dram_model.specs.declared.geometry.Geometry.{Geometry}
 use Rattle.dram_model.specs.View.{DidRead}
-use Rattle.dram_model.proofs.EventLaws.{DidRead-more, Kept-more}
+use Rattle.dram_model.proofs.EventLaws.{DidRead-more, Grew-more, Kept-more}
 use Rattle.transpose_unit.specs.Stage.{stage_number, stage_rows}
 use Rattle.machine_model.specs.Columns.{segments}
 use Rattle.object_steps.specs.Lines.{values_text}
@@ -14,6 +14,58 @@ use Rattle.object_steps.proofs.Filled.{one_times_more}
 use Rattle.object_steps.proofs.Held.{part_of_more, put_is_part, then_cut, then_more}
 use Rattle.object_steps.proofs.Valued.{bank_text, few_read, first_values, front_text}
 use Rattle.object_steps.proofs.printing.add_values.Goals as goal
+
+pub read_segment-requires-clause-begun : goal.read_segment-requires-clause-begun
+read_segment-requires-clause-begun g c = c.loop-bank.invariant.kept.begun ∙ c.requires.begun
+
+pub read_segment-requires-clause-geometry : goal.read_segment-requires-clause-geometry
+read_segment-requires-clause-geometry g c =
+    c.loop-bank.invariant.kept.geometry ∙ c.requires.geometry
+
+pub returns-in-Err-clause-borrow : goal.returns-in-Err-clause-borrow
+returns-in-Err-clause-borrow g c = c.read_segment.ensures.borrow ∙ c.loop-bank.invariant.borrow
+
+pub returns-in-Err-clause-kept : goal.returns-in-Err-clause-kept
+returns-in-Err-clause-kept g c =
+    Kept-more _ _ _ c.loop-bank.invariant.kept c.read_segment.ensures.kept
+
+pub returns-in-Err-clause-sink_faults : goal.returns-in-Err-clause-sink_faults
+returns-in-Err-clause-sink_faults g c = c.loop-bank.invariant.counts
+
+pub returns-in-Err-clause-no_event : goal.returns-in-Err-clause-no_event
+returns-in-Err-clause-no_event g c =
+    Grew-more _ _ _ [] [] c.loop-bank.invariant.did.log c.in-Err.ensures.no_event
+
+pub returns-in-Err-add_columns-clause-borrow : goal.returns-in-Err-add_columns-clause-borrow
+returns-in-Err-add_columns-clause-borrow g c =
+    c.read_segment.ensures.borrow ∙ c.loop-bank.invariant.borrow
+
+pub returns-in-Err-add_columns-clause-kept : goal.returns-in-Err-add_columns-clause-kept
+returns-in-Err-add_columns-clause-kept g c =
+    Kept-more _ _ _ c.loop-bank.invariant.kept c.read_segment.ensures.kept
+
+pub returns-in-Err-add_columns-clause-sink_faults : goal.returns-in-Err-add_columns-clause-sink_faults
+returns-in-Err-add_columns-clause-sink_faults g c =
+    omega (arith, c.loop-bank.invariant.counts, c.add_columns.ensures.counts)
+
+pub returns-in-Err-add_columns-clause-no_event : goal.returns-in-Err-add_columns-clause-no_event
+returns-in-Err-add_columns-clause-no_event g c =
+    Grew-more _ _ _ [] [] c.loop-bank.invariant.did.log c.in-Ok.ensures.did.log
+
+pub returns-clause-borrow : goal.returns-clause-borrow
+returns-clause-borrow g c = c.loop-bank.invariant.borrow
+
+pub returns-clause-kept : goal.returns-clause-kept
+returns-clause-kept g c = c.loop-bank.invariant.kept
+
+pub returns-clause-sink_faults : goal.returns-clause-sink_faults
+returns-clause-sink_faults g c = c.loop-bank.invariant.counts
+
+pub returns-clause-room : goal.returns-clause-room
+returns-clause-room g c = c.loop-bank.invariant.room
+
+pub returns-clause-no_event : goal.returns-clause-no_event
+returns-clause-no_event g c = c.loop-bank.invariant.did.log
 
 pub loop-bank-preserved : goal.loop-bank-preserved
 loop-bank-preserved g c =

@@ -1,6 +1,7 @@
-use Rattle.std.proofs.Common.{◌≡◌, ◌++◌, ◌∙◌, List, ℕ, subst, take}
+use Rattle.std.proofs.Common.{◌≡◌, ◌++◌, ◌∙◌, List, ℕ, arith, refl, subst, take}
 use Rattle.std.specs.Prelude.{codes}
 use Rattle.host_edge.specs.Views.{Known, AppendsPart}
+use Rattle.dram_model.proofs.EventLaws.{Grew-none, Kept-same}
 use Rattle.machine_model.specs.Columns.{columns}
 use Rattle.object_steps.specs.Lines.{values_text}
 use Rattle.object_steps.proofs.Filled.{on_err}
@@ -8,6 +9,59 @@ use Rattle.object_steps.proofs.Held.{more_held, part_of_more, then_all, then_par
 use Rattle.object_steps.proofs.Rises.{few_reads}
 use Rattle.object_steps.proofs.Valued.{printed_is}
 use Rattle.object_steps.proofs.printing.print.Goals as goal
+
+pub returns-in-Err-clause-borrow : goal.returns-in-Err-clause-borrow
+returns-in-Err-clause-borrow g c = refl
+
+pub returns-in-Err-clause-kept : goal.returns-in-Err-clause-kept
+returns-in-Err-clause-kept g c = Kept-same (g.D.Dram.view c.args.dram.now)
+
+pub returns-in-Err-clause-stage : goal.returns-in-Err-clause-stage
+returns-in-Err-clause-stage g c = refl
+
+pub returns-in-Err-clause-sink_faults : goal.returns-in-Err-clause-sink_faults
+returns-in-Err-clause-sink_faults g c = omega arith
+
+pub returns-in-Err-clause-no_event : goal.returns-in-Err-clause-no_event
+returns-in-Err-clause-no_event g c = Grew-none (g.D.Dram.view c.args.dram.now).log
+
+pub returns-in_err-add_values-clause-borrow : goal.returns-in_err-add_values-clause-borrow
+returns-in_err-add_values-clause-borrow g c = c.add_values.ensures.borrow
+
+pub returns-in_err-add_values-clause-kept : goal.returns-in_err-add_values-clause-kept
+returns-in_err-add_values-clause-kept g c = c.add_values.ensures.kept
+
+pub returns-in_err-add_values-clause-no_event : goal.returns-in_err-add_values-clause-no_event
+returns-in_err-add_values-clause-no_event g c = c.add_values.ensures.no_event
+
+pub returns-in_err-add_values-clause-sink_faults : goal.returns-in_err-add_values-clause-sink_faults
+returns-in_err-add_values-clause-sink_faults g c = c.add_values.ensures.sink_faults
+
+pub returns-in-Ok-put-clause-borrow : goal.returns-in-Ok-put-clause-borrow
+returns-in-Ok-put-clause-borrow g c = c.add_values.ensures.borrow
+
+pub returns-in-Ok-put-clause-kept : goal.returns-in-Ok-put-clause-kept
+returns-in-Ok-put-clause-kept g c = c.add_values.ensures.kept
+
+pub returns-in-Ok-put-clause-no_event : goal.returns-in-Ok-put-clause-no_event
+returns-in-Ok-put-clause-no_event g c = c.add_values.ensures.no_event
+
+pub returns-in-Ok-put-clause-sink_faults : goal.returns-in-Ok-put-clause-sink_faults
+returns-in-Ok-put-clause-sink_faults g c =
+    omega (arith, c.add_values.ensures.sink_faults, c.put.ensures.counts)
+
+pub returns-in-Err-put-clause-borrow : goal.returns-in-Err-put-clause-borrow
+returns-in-Err-put-clause-borrow g c = c.add_values.ensures.borrow
+
+pub returns-in-Err-put-clause-kept : goal.returns-in-Err-put-clause-kept
+returns-in-Err-put-clause-kept g c = c.add_values.ensures.kept
+
+pub returns-in-Err-put-clause-no_event : goal.returns-in-Err-put-clause-no_event
+returns-in-Err-put-clause-no_event g c = c.add_values.ensures.no_event
+
+pub returns-in-Err-put-clause-sink_faults : goal.returns-in-Err-put-clause-sink_faults
+returns-in-Err-put-clause-sink_faults g c =
+    omega (arith, c.add_values.ensures.sink_faults, c.put.ensures.counts)
 
 pub returns-in_err-add_values-clause-part : goal.returns-in_err-add_values-clause-part
 returns-in_err-add_values-clause-part g c = λ operations.

@@ -1,10 +1,41 @@
-use Rattle.std.proofs.Common.{◌+◌, ◌*◌, arith, vec_len, ap, ◌∙◌}
-use Rattle.std.proofs.lemmas.Grind.{common_steps}
+use Rattle.std.proofs.Common.{[], ◌+◌, ◌*◌, arith, vec_len, ap, ◌∙◌}
 use Rattle.dram_model.specs.Chip.{row_in}
-use Rattle.dram_model.proofs.EventLaws.{Kept-more, DidRead-more}
+use Rattle.dram_model.proofs.EventLaws.{Grew-more, Kept-more, DidRead-more}
 use Rattle.object_alloc.specs.Bytes.{bytes_of_bits}
 use Rattle.sim_machine.proofs.Rows.{next_bytes, more_reads}
 use Rattle.sim_machine.proofs.image.read_bank.Goals as goal
+
+pub read_row-requires-clause-begun : goal.read_row-requires-clause-begun
+read_row-requires-clause-begun g c = c.loop-row.invariant.kept.begun ∙ c.requires.begun
+
+pub returns-in_err-read_row-clause-borrow : goal.returns-in_err-read_row-clause-borrow
+returns-in_err-read_row-clause-borrow g c = c.in_err-read_row.ensures.borrow ∙ c.loop-row.invariant.borrow
+
+pub returns-in_err-read_row-clause-kept : goal.returns-in_err-read_row-clause-kept
+returns-in_err-read_row-clause-kept g c =
+    Kept-more _ _ _ c.loop-row.invariant.kept c.in_err-read_row.ensures.kept
+
+pub returns-in_err-read_row-clause-stage : goal.returns-in_err-read_row-clause-stage
+returns-in_err-read_row-clause-stage g c = c.in_err-read_row.ensures.stage ∙ c.loop-row.invariant.stage
+
+pub returns-in_err-read_row-clause-no_event : goal.returns-in_err-read_row-clause-no_event
+returns-in_err-read_row-clause-no_event g c =
+    Grew-more _ _ _ [] [] c.loop-row.invariant.did.log c.in_err-read_row.ensures.no_event
+
+pub returns-clause-borrow : goal.returns-clause-borrow
+returns-clause-borrow g c = c.loop-row.invariant.borrow
+
+pub returns-clause-kept : goal.returns-clause-kept
+returns-clause-kept g c = c.loop-row.invariant.kept
+
+pub returns-clause-stage : goal.returns-clause-stage
+returns-clause-stage g c = c.loop-row.invariant.stage
+
+pub returns-clause-capacity : goal.returns-clause-capacity
+returns-clause-capacity g c = c.loop-row.invariant.capacity
+
+pub returns-clause-no_event : goal.returns-clause-no_event
+returns-clause-no_event g c = c.loop-row.invariant.did.log
 
 pub loop-row-preserved : goal.loop-row-preserved
 loop-row-preserved g c =
@@ -15,14 +46,14 @@ loop-row-preserved g c =
     let here = rw (kept.kept.geometry, c.requires.geometry, kept.did.banks)
     at c.in_ok-read_row.ensures.file in
     record {
-      borrow = grind (arith, common_steps);
+      borrow = c.in_ok-read_row.ensures.borrow ∙ kept.borrow;
       kept = Kept-more first now new kept.kept c.in_ok-read_row.ensures.kept;
-      stage = grind (arith, common_steps);
+      stage = c.in_ok-read_row.ensures.stage ∙ kept.stage;
       did = DidRead-more c.loop-row.row 1 first now new kept.did c.in_ok-read_row.ensures.did;
       file = next_bytes (λ row. bytes_of_bits (8 * c.args.g.words)
           (row_in row (first.banks c.args.bank))) c.loop-row.row _ _ _ kept.file here;
       len = (rw (kept.kept.geometry, c.requires.geometry) at c.in_ok-read_row.ensures.len)
           ∙ ap (λ x. x + 8 * c.args.g.words) kept.len
           ∙ more_reads c.loop-row.row (8 * c.args.g.words) (vec_len c.args.file.now);
-      capacity = grind (arith, common_steps);
+      capacity = omega (arith, kept.capacity, c.in_ok-read_row.ensures.capacity);
     }

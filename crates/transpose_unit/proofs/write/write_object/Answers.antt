@@ -18,6 +18,23 @@ use Rattle.transpose_unit.proofs.Segments.{stage_events_are, words_some}
 use Rattle.transpose_unit.proofs.Held.{after_first, numbers_hold}
 use Rattle.transpose_unit.proofs.write.write_object.Goals as goal
 
+pub write_rows-requires-clause-begun : goal.write_rows-requires-clause-begun
+write_rows-requires-clause-begun g c = c.loop-bank.invariant.kept.begun ∙ c.requires.begun
+
+pub returns-in_err-write_rows-clause-borrow : goal.returns-in_err-write_rows-clause-borrow
+returns-in_err-write_rows-clause-borrow g c =
+    c.in_err-write_rows.ensures.borrow ∙ c.loop-bank.invariant.borrow
+
+pub returns-in_err-write_rows-clause-kept : goal.returns-in_err-write_rows-clause-kept
+returns-in_err-write_rows-clause-kept g c =
+    Kept-more _ _ _ c.loop-bank.invariant.kept c.in_err-write_rows.ensures.kept
+
+pub returns-clause-borrow : goal.returns-clause-borrow
+returns-clause-borrow g c = c.loop-bank.invariant.borrow
+
+pub returns-clause-kept : goal.returns-clause-kept
+returns-clause-kept g c = c.loop-bank.invariant.kept
+
 pub loop-bank-preserved : goal.loop-bank-preserved
 loop-bank-preserved g c =
     let dram = g.D.Dram in

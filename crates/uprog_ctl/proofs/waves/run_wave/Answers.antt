@@ -9,6 +9,7 @@ use Rattle.dram_model.specs.Chip.{Banks}
 use Rattle.dram_model.specs.Chip.Event.{Row}
 use Rattle.dram_model.specs.View.{Did, FailedIn}
 use Rattle.dram_model.proofs.EventLaws.{Kept-same, Kept-more}
+use Rattle.dram_model.proofs.Shapes.{geometry_parts}
 use Rattle.wave_model.specs.Schedule.{total_left, whole_picks}
 use Rattle.wave_model.proofs.Waves.{picks_whole, wave_banks}
 use Rattle.uprog_ctl.specs.declared.cursor.Cursor.{Cursor}
@@ -31,6 +32,23 @@ blank = record {
 on_err : {T E : Type 0} (r : Result T E) {P : Type 0} → P → OnErr r P
 on_err (Ok x) p = tt
 on_err (Err e) p = p
+
+pub do_command-requires-clause-begun : goal.do_command-requires-clause-begun
+do_command-requires-clause-begun g c = c.loop-g.invariant.kept.begun ∙ c.requires.begun
+
+pub returns-in_err-do_command-clause-borrow : goal.returns-in_err-do_command-clause-borrow
+returns-in_err-do_command-clause-borrow g c =
+    c.in_err-do_command.ensures.borrow ∙ c.loop-g.invariant.borrow
+
+pub returns-in_err-do_command-clause-kept : goal.returns-in_err-do_command-clause-kept
+returns-in_err-do_command-clause-kept g c =
+    Kept-more _ _ _ c.loop-g.invariant.kept c.in_err-do_command.ensures.kept
+
+pub returns-clause-borrow : goal.returns-clause-borrow
+returns-clause-borrow g c = c.loop-g.invariant.borrow
+
+pub returns-clause-kept : goal.returns-clause-kept
+returns-clause-kept g c = c.loop-g.invariant.kept
 
 pub loop-g-init : goal.loop-g-init
 loop-g-init g c =
@@ -81,7 +99,9 @@ do_command-requires-clause-aap_room g c =
       c.requires.few_jobs,
       length-map c.args.jobs.now (bound_job g.F.Fetch.shape g.F.Fetch.code),
     ) in
-    let short = wave_short first.geometry.banks first.geometry.rows jobs c.requires.few_banks few in
+    let shape = g.met.D.Dram.shape c.args.dram.now c.requires.begun in
+    let short = wave_short first.geometry.banks first.geometry.rows jobs
+    (geometry_parts first.geometry shape).2 few in
     omega (arith, c.loop-g.invariant.so.aap, c.requires.aap_room, short)
 
 pub do_command-requires-clause-ap_room : goal.do_command-requires-clause-ap_room
@@ -93,7 +113,9 @@ do_command-requires-clause-ap_room g c =
       c.requires.few_jobs,
       length-map c.args.jobs.now (bound_job g.F.Fetch.shape g.F.Fetch.code),
     ) in
-    let short = wave_short first.geometry.banks first.geometry.rows jobs c.requires.few_banks few in
+    let shape = g.met.D.Dram.shape c.args.dram.now c.requires.begun in
+    let short = wave_short first.geometry.banks first.geometry.rows jobs
+    (geometry_parts first.geometry shape).2 few in
     omega (arith, c.loop-g.invariant.so.ap, c.requires.ap_room, short)
 
 pub returns-in_err-do_command-clause-stopped : goal.returns-in_err-do_command-clause-stopped

@@ -1,4 +1,7 @@
-use Rattle.std.proofs.Common.{arith}
+use Rattle.std.proofs.Common.{◌≡◌, true, arith}
+use Rattle.std.proofs.lemmas.List.Elements.{All-push}
+use Rattle.text_lex.specs.Spelled.{fits_name}
+use Rattle.object_alloc.specs.Listed.{Named}
 use Rattle.object_alloc.proofs.Tables.{IsTable-added}
 use Rattle.object_alloc.proofs.table.Table.add.Goals as goal
 
@@ -9,4 +12,6 @@ invariant_of-self c =
       rw c.in-Ok.ensures.items (IsTable-added _ _ _ c.self.view_is _ _ h.1 c.requires.few
           c.requires.new c.requires.some c.requires.rows),
       omega arith,
+      rw c.in-Ok.ensures.items (All-push (λ (p : Named). fits_name p.0 ≡ true)
+          c.self.inside.pairs.items (c.args.name, c.args.o) h.3 c.bytes.ensures.fits),
     )

@@ -1,10 +1,75 @@
-use Rattle.std.proofs.Common.{◌≡◌, ◌∙◌, ap, subst, sym}
+use Rattle.std.proofs.Common.{◌≡◌, ◌∙◌, ap, arith, length, refl, subst, sym}
+use Rattle.dram_model.proofs.EventLaws.{Kept-same}
 use Rattle.std.specs.Prelude.{IfOk, OnOk}
 use Rattle.dram_model.specs.View.{Did}
 use Rattle.bbop_isa.specs.Forms.{Instruction, Fill, Load, view_of}
 use Rattle.object_steps.specs.Objects.{events_alone}
 use Rattle.sim_machine.specs.Machine.{geometry_of, operations_by, reply_of, table_in}
+use Rattle.sim_machine.proofs.Rows.{stage_kept}
 use Rattle.sim_machine.proofs.machine.Machine.answer.Goals as goal
+
+pub returns-in-Load-clause-borrow : goal.returns-in-Load-clause-borrow
+returns-in-Load-clause-borrow g c = c.load.ensures.borrow
+
+pub returns-in-Load-clause-kept : goal.returns-in-Load-clause-kept
+returns-in-Load-clause-kept g c = c.load.ensures.kept
+
+pub returns-in-Load-clause-program : goal.returns-in-Load-clause-program
+returns-in-Load-clause-program g c = refl
+
+pub returns-in-Load-clause-shape : goal.returns-in-Load-clause-shape
+returns-in-Load-clause-shape g c = refl
+
+pub returns-in-Load-clause-table : goal.returns-in-Load-clause-table
+returns-in-Load-clause-table g c = refl
+
+pub returns-in-Fill-clause-borrow : goal.returns-in-Fill-clause-borrow
+returns-in-Fill-clause-borrow g c = c.fill.ensures.borrow
+
+pub returns-in-Fill-clause-kept : goal.returns-in-Fill-clause-kept
+returns-in-Fill-clause-kept g c = c.fill.ensures.kept
+
+pub returns-in-Fill-clause-program : goal.returns-in-Fill-clause-program
+returns-in-Fill-clause-program g c = refl
+
+pub returns-in-Fill-clause-shape : goal.returns-in-Fill-clause-shape
+returns-in-Fill-clause-shape g c = refl
+
+pub returns-in-Fill-clause-table : goal.returns-in-Fill-clause-table
+returns-in-Fill-clause-table g c = refl
+
+pub returns-in-Load-clause-ready : goal.returns-in-Load-clause-ready
+returns-in-Load-clause-ready g c = record {
+  set = c.requires.ready.set;
+  stage = stage_kept _ _ _ _ (c.load.ensures.stage ∙ ap length c.deref_mut.ensures.value)
+      (omega (arith, c.args.self.now.stage.ok.0)) c.requires.ready.stage;
+  room = c.requires.ready.room;
+}
+
+pub returns-in-Fill-clause-ready : goal.returns-in-Fill-clause-ready
+returns-in-Fill-clause-ready g c = c.requires.ready
+
+pub returns-in-Order-clause-borrow : goal.returns-in-Order-clause-borrow
+returns-in-Order-clause-borrow g c = refl
+
+pub returns-in-Order-clause-kept : goal.returns-in-Order-clause-kept
+returns-in-Order-clause-kept g c = Kept-same (g.D.Dram.view c.args.dram.now)
+
+pub returns-in-Order-clause-program : goal.returns-in-Order-clause-program
+returns-in-Order-clause-program g c = refl
+
+pub returns-in-Order-clause-shape : goal.returns-in-Order-clause-shape
+returns-in-Order-clause-shape g c = refl
+
+pub returns-in-Order-clause-table : goal.returns-in-Order-clause-table
+returns-in-Order-clause-table g c = refl
+
+pub returns-in-Order-clause-ready : goal.returns-in-Order-clause-ready
+returns-in-Order-clause-ready g c = record {
+  set = c.requires.ready.set;
+  stage = c.requires.ready.stage;
+  room = c.requires.ready.room;
+}
 
 pub returns-in-Load-clause-reply : goal.returns-in-Load-clause-reply
 returns-in-Load-clause-reply g c =
