@@ -55,8 +55,7 @@ impl<'a, D: Dram> Recorder<'a, D> {
 
     /// Tells an empty log from here on. The chip has begun.
     pub fn mark(&mut self)
-        requires begun { HasBegun (recorded (D.view self.old.dram.now) self.old.notes.now) }
-        requires shape { is_geometry (D.view self.old.dram.now).geometry ≡ true }
+        requires { HasBegun (recorded (D.view self.old.dram.now) self.old.notes.now) }
         ensures same_reference { self.new.dram.ghost_name ≡ self.old.dram.ghost_name }
         ensures chip { self.new.dram.now ≡ self.old.dram.now }
         ensures shown { recorded (D.view self.new.dram.now) self.new.notes.now

@@ -21,7 +21,7 @@ use Rattle.guard_model.specs.Guarded.{removal}
 use Rattle.guard_model.proofs.Runs.{if_none, none_yet, script_by, script_for, script_done}
 use Rattle.guard_model.proofs.Runs.{script_refused}
 use Rattle.guard_model.proofs.Runs.{done_more, done_first, reply_more, reply_first}
-use Rattle.tmr_guard.specs.Steps.{Ran, One}
+use Rattle.tmr_guard.specs.Steps.{Ran, Replied, One}
 use Rattle.tmr_guard.proofs.Runs.{ran_more, ran_refused}
 
 pub replied_refused : (r : Option Why) (k : Counts) (w : Why) → Refused w ≡ reply_by r k
@@ -53,12 +53,6 @@ zero_plus k =
     let f : 0 + k.ap ≡ k.ap = omega arith in
     rw (e, f) refl
 
--- what the exit says: the plain script was done, and this is the reply
-pub record Exit (g : Geometry) (p : Program) (t t' : Turn) (T T' : List Named) (i : Instruction)
-    (reply : Reply) (a b : ChipView) : Type 0 where
-  pub ran : Ran g p t t' T T' (plain_script g (routines_in p) T i) a b
-  pub answer : reply ≡ guarded_reply g (routines_in p) T i
-
 module _ (g : Geometry) (p : Program) (T : List Named) (i x y z : Instruction)
     (ones : plain_ones i ≡ x ∷ y ∷ z ∷ [])
   where
@@ -80,7 +74,7 @@ module _ (g : Geometry) (p : Program) (T : List Named) (i x y z : Instruction)
 
     -- refused at the first
     pub exit_first : (t t1 : Turn) (T1 : List Named) (w : Why) (a b : ChipView)
-        → One g p t t1 T T1 x (Refused w) a b → Exit g p t t1 T T1 i (Refused w) a b
+        → One g p t t1 T T1 x (Refused w) a b → Replied g p t t1 T T1 i (Refused w) a b
     exit_first t t1 T1 w a b one =
         let e = replied_refused (refusal g o T x) (counts_for g o T x) w one.answer in
         record {
@@ -94,7 +88,7 @@ module _ (g : Geometry) (p : Program) (T : List Named) (i x y z : Instruction)
     pub exit_second : (t t1 t2 t3 : Turn) (T1 T2 T3 : List Named) (k : Counts) (w : Why)
         (a b c d : ChipView) → One g p t t1 T T1 x (Done k) a b
         → One g p t1 t2 T1 T2 y (Refused w) b c → Ran g p t2 t3 T2 T3 (removal x) c d
-        → Exit g p t t3 T T3 i (Refused w) a d
+        → Replied g p t t3 T T3 i (Refused w) a d
     exit_second t t1 t2 t3 T1 T2 T3 k w a b c d one two back =
         let e1 = (replied_done (refusal g o T x) (counts_for g o T x) k one.answer).0 in
         let k1 : T1 ≡ tabled g T x =
@@ -122,7 +116,7 @@ module _ (g : Geometry) (p : Program) (T : List Named) (i x y z : Instruction)
         (w : Why) (a b c d e f : ChipView) → One g p t t1 T T1 x (Done k) a b
         → One g p t1 t2 T1 T2 y (Done l) b c → One g p t2 t3 T2 T3 z (Refused w) c d
         → Ran g p t3 t4 T3 T4 (removal x) d e → Ran g p t4 t5 T4 T5 (removal y) e f
-        → Exit g p t t5 T T5 i (Refused w) a f
+        → Replied g p t t5 T T5 i (Refused w) a f
     exit_third t t1 t2 t3 t4 t5 T1 T2 T3 T4 T5 k l w a b c d e f one two three back again =
         let e1 = (replied_done (refusal g o T x) (counts_for g o T x) k one.answer).0 in
         let k1 : T1 ≡ tabled g T x =
@@ -160,7 +154,7 @@ module _ (g : Geometry) (p : Program) (T : List Named) (i x y z : Instruction)
     pub exit_all : (t t1 t2 t3 : Turn) (T1 T2 T3 : List Named) (k l m : Counts)
         (a b c d : ChipView) → One g p t t1 T T1 x (Done k) a b
         → One g p t1 t2 T1 T2 y (Done l) b c → One g p t2 t3 T2 T3 z (Done m) c d
-        → Exit g p t t3 T T3 i (Done (plus (plus k l) m)) a d
+        → Replied g p t t3 T T3 i (Done (plus (plus k l) m)) a d
     exit_all t t1 t2 t3 T1 T2 T3 k l m a b c d one two three =
         let r1 = replied_done (refusal g o T x) (counts_for g o T x) k one.answer in
         let e1 = r1.0 in

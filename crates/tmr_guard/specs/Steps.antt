@@ -95,6 +95,16 @@ abbrev pub DidOne : Machine → Machine → Instruction → Reply → ChipView �
 DidOne old new instr reply chip chip' = One (geometry_of old) (program_of old) (turn_in old)
     (turn_in new) (table_in old) (table_in new) instr reply chip chip'
 
+-- a guarded instruction came to this plain script and was done so, and this is its reply
+pub record Replied (g : Geometry) (p : Program) (turn turn' : Turn) (table table' : List Named)
+    (instr : Instruction) (reply : Reply) (chip chip' : ChipView) : Type 0 where
+  pub ran : Ran g p turn turn' table table' (plain_script g (routines_in p) table instr) chip chip'
+  pub answer : reply ≡ guarded_reply g (routines_in p) table instr
+
+abbrev pub RepliedBy : Machine → Machine → Instruction → Reply → ChipView → ChipView → Type 0
+RepliedBy old new instr reply chip chip' = Replied (geometry_of old) (program_of old) (turn_in old)
+    (turn_in new) (table_in old) (table_in new) instr reply chip chip'
+
 -- each counter is below 2^61
 pub record HasMoreRoom (counters : Counters) : Type 0 where
   pub aap : counters.aap < 2 ^ 61

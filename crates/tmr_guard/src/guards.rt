@@ -20,7 +20,8 @@ ghost use Rattle.guard_model.specs.Guarded.{on_copies, on_copy, plain_ones, remo
 ghost use Rattle.guard_model.specs.Named.{has_long_name};
 ghost use Rattle.guard_model.specs.Triples.{first_stranger};
 ghost use Rattle.guard_model.specs.Votes.{vote_count, vote_events};
-ghost use Rattle.tmr_guard.specs.Steps.{Came, DidOne, HasMoreRoom, RanBy, events_by, line_by};
+ghost use Rattle.tmr_guard.specs.Steps.{Came, DidOne, HasMoreRoom, RanBy, RepliedBy};
+ghost use Rattle.tmr_guard.specs.Steps.{events_by, line_by};
 ghost use Rattle.tmr_guard.specs.Steps.{machine_in, reads_by, reply_by, script_by, table_by};
 ghost use Rattle.tmr_guard.specs.Steps.{turn_by};
 
@@ -193,11 +194,8 @@ impl<'a> Guard<'a> {
         ensures ready { IsReady (machine_in self.new) }
         ensures program { program_of (machine_in self.new) ≡ program_of (machine_in self.old) }
         ensures shape { geometry_of (machine_in self.new) ≡ geometry_of (machine_in self.old) }
-        ensures reply { IfOk result (λ reply. reply
-            ≡ reply_by (machine_in self.old) (view_of instr.now)) }
-        ensures ran { OnOk result (RanBy (machine_in self.old) (machine_in self.new)
-            (script_by (machine_in self.old) (view_of instr.now)) (D.view dram.old)
-            (D.view dram.new)) }
+        ensures replied { IfOk result (λ reply. RepliedBy (machine_in self.old)
+            (machine_in self.new) (view_of instr.now) reply (D.view dram.old) (D.view dram.new)) }
         ensures rises { OnOk result (RisesAtMost (80 * WALK_MAX) (D.view dram.old).counters
             (D.view dram.new).counters) }
         ensures failed { OnErr result (Rose (D.view dram.old).faults (D.view dram.new).faults) }
@@ -238,11 +236,8 @@ impl<'a> Guard<'a> {
         ensures ready { IsReady (machine_in self.new) }
         ensures program { program_of (machine_in self.new) ≡ program_of (machine_in self.old) }
         ensures shape { geometry_of (machine_in self.new) ≡ geometry_of (machine_in self.old) }
-        ensures reply { IfOk result (λ reply. reply
-            ≡ reply_by (machine_in self.old) (view_of instr.now)) }
-        ensures ran { OnOk result (RanBy (machine_in self.old) (machine_in self.new)
-            (script_by (machine_in self.old) (view_of instr.now)) (D.view dram.old)
-            (D.view dram.new)) }
+        ensures replied { IfOk result (λ reply. RepliedBy (machine_in self.old)
+            (machine_in self.new) (view_of instr.now) reply (D.view dram.old) (D.view dram.new)) }
         ensures rises { OnOk result (RisesAtMost (80 * WALK_MAX) (D.view dram.old).counters
             (D.view dram.new).counters) }
         ensures failed { OnErr result (Rose (D.view dram.old).faults (D.view dram.new).faults) }

@@ -1,27 +1,30 @@
-use Rattle.std.proofs.Common.{◌∙◌, subst}
+use Rattle.std.proofs.Common.{◌∙◌, ap, subst, sym}
+use Rattle.uprog_code.specs.declared.walker.Counts.{Counts}
 use Rattle.bbop_isa.specs.Forms.{view_of}
 use Rattle.machine_model.specs.declared.Reply.{Reply}
+use Rattle.machine_model.specs.declared.Reply.TheVariants.{Done}
+use Rattle.machine_model.specs.Script.{plus}
 use Rattle.sim_machine.specs.Machine.{geometry_of, program_of, table_in}
 use Rattle.guard_model.specs.Triples.{x_letter, y_letter, z_letter}
 use Rattle.guard_model.specs.Guarded.{on_copy}
-use Rattle.tmr_guard.specs.Steps.{DidOne, machine_in}
+use Rattle.tmr_guard.specs.Steps.{DidOne, RepliedBy, machine_in}
 use Rattle.tmr_guard.proofs.Exits.{exit_all, exit_first, exit_second, exit_third, moved_one}
 use Rattle.tmr_guard.proofs.Exits.{moved_ran}
 use Rattle.tmr_guard.proofs.guards.Guard.on_three.Goals as goal
 
-pub returns-in-Refused-clause-ran : goal.returns-in-Refused-clause-ran
-returns-in-Refused-clause-ran g c =
+pub returns-in-Refused-clause-replied : goal.returns-in-Refused-clause-replied
+returns-in-Refused-clause-replied g c =
     let V = g.D.Dram.view in
     let m = machine_in c.args.self.now in
     let m1 = machine_in c.plain.new.self in
     let i = view_of c.args.instr.now in
     let one = subst (λ (r : Reply). DidOne m m1 (on_copy x_letter i) r (V c.args.dram.now)
     (V c.plain.new.dram)) c.in-Refused.is c.in_ok-counts.ensures.did in
-    (exit_first (geometry_of m) (program_of m) (table_in m) i (on_copy x_letter i)
-    (on_copy y_letter i) (on_copy z_letter i) c.requires.three _ _ _ c.in-Refused.why _ _ one).ran
+    exit_first (geometry_of m) (program_of m) (table_in m) i (on_copy x_letter i)
+    (on_copy y_letter i) (on_copy z_letter i) c.requires.three _ _ _ c.in-Refused.why _ _ one
 
-pub returns-in-Refused-2-clause-ran : goal.returns-in-Refused-2-clause-ran
-returns-in-Refused-2-clause-ran g c =
+pub returns-in-Refused-2-clause-replied : goal.returns-in-Refused-2-clause-replied
+returns-in-Refused-2-clause-replied g c =
     let V = g.D.Dram.view in
     let m = machine_in c.args.self.now in
     let m1 = machine_in c.plain.new.self in
@@ -40,12 +43,12 @@ returns-in-Refused-2-clause-ran g c =
     c.in_ok-counts-2.ensures.did) in
     let back = moved_ran (geometry_of m) (geometry_of m2) (program_of m) (program_of m2) _ _ _ _ _
     _ _ shape2 program2 c.in_ok-take_back-in-Refused-2.ensures.ran in
-    (exit_second (geometry_of m) (program_of m) (table_in m) i (on_copy x_letter i)
+    exit_second (geometry_of m) (program_of m) (table_in m) i (on_copy x_letter i)
     (on_copy y_letter i) (on_copy z_letter i) c.requires.three _ _ _ _ _ _ _ c.in-Done.counts
-    c.in-Refused-2.why _ _ _ _ one two back).ran
+    c.in-Refused-2.why _ _ _ _ one two back
 
-pub returns-in-Refused-3-clause-ran : goal.returns-in-Refused-3-clause-ran
-returns-in-Refused-3-clause-ran g c =
+pub returns-in-Refused-3-clause-replied : goal.returns-in-Refused-3-clause-replied
+returns-in-Refused-3-clause-replied g c =
     let V = g.D.Dram.view in
     let m = machine_in c.args.self.now in
     let m1 = machine_in c.plain.new.self in
@@ -78,13 +81,13 @@ returns-in-Refused-3-clause-ran g c =
     let again = moved_ran (geometry_of m) (geometry_of m4) (program_of m) (program_of m4) _ _ _ _
     _
     _ _ shape4 program4 c.in_ok-take_back-in-Refused-3-2.ensures.ran in
-    (exit_third (geometry_of m) (program_of m) (table_in m) i (on_copy x_letter i)
+    exit_third (geometry_of m) (program_of m) (table_in m) i (on_copy x_letter i)
     (on_copy y_letter i) (on_copy z_letter i) c.requires.three _ _ _ _ _ _ _ _ _ _ _
     c.in-Done.counts c.in-Done-2.counts c.in-Refused-3.why _ _ _ _ _ _ one two three back
-    again).ran
+    again
 
-pub returns-clause-ran : goal.returns-clause-ran
-returns-clause-ran g c =
+pub returns-clause-replied : goal.returns-clause-replied
+returns-clause-replied g c =
     let V = g.D.Dram.view in
     let m = machine_in c.args.self.now in
     let m1 = machine_in c.plain.new.self in
@@ -107,6 +110,10 @@ returns-clause-ran g c =
     _ _ _ shape2 program2 (subst (λ (r : Reply). DidOne m2 m3 (on_copy z_letter i) r
     (V c.plain-2.new.dram) (V c.plain-3.new.dram)) c.in-Done-3.is
     c.in_ok-counts-3.ensures.did) in
+    let total = c.plus-2.ensures
+    ∙ ap (λ (k : Counts). plus k c.in-Done-3.counts) c.plus.ensures in
+    subst (λ (k : Counts). RepliedBy m m3 i (Done k) (V c.args.dram.now) (V c.plain-3.new.dram))
+    (sym total)
     (exit_all (geometry_of m) (program_of m) (table_in m) i (on_copy x_letter i)
     (on_copy y_letter i) (on_copy z_letter i) c.requires.three _ _ _ _ _ _ _ c.in-Done.counts
-    c.in-Done-2.counts c.in-Done-3.counts _ _ _ _ one two three).ran
+    c.in-Done-2.counts c.in-Done-3.counts _ _ _ _ one two three)
