@@ -1,13 +1,8 @@
-use Rattle.std.proofs.Common.{◌≡◌, Bool, ◌&&◌, ◌||◌, refl, ◌∙◌, Result, Ok, Err, arith}
-use Rattle.std.specs.Result.{OnOk}
+use Rattle.std.proofs.Common.{◌≡◌, Bool, ◌&&◌, ◌||◌, refl, ◌∙◌, arith}
 use Rattle.std.proofs.lemmas.Result.{IfOk-weaker}
 use Rattle.op_text.specs.Values.{differ, majority}
-use Rattle.aoi_graph.proofs.Growing.{grows-then, two-values, third-value}
+use Rattle.aoi_graph.proofs.Growing.{grows-then, on-ok, two-values, third-value}
 use Rattle.aoi_graph.proofs.block.+expressions.Goals as goal
-
-on-ok : {X E : Type 0} (r : Result X E) (P Q : Type 0) → (P → Q) → OnOk r P → OnOk r Q
-on-ok (Ok x) P Q f h = f h
-on-ok (Err e) P Q f h = tt
 
 two : (f : Bool → Bool → Bool) (a b x y : Bool) → (a ≡ x) × (b ≡ y) → f a b ≡ f x y
 two f a b x y h = rw (h.0, h.1) refl
