@@ -10,7 +10,8 @@ use Rattle.aoi_graph.specs.declared.AoiNode.{AoiNode}
 use Rattle.aoi_graph.specs.declared.AoiNode.TheVariants.{Zero}
 use Rattle.aoi_graph.specs.Gates.{gate_value, ReadsBelow, aoi_at, aoi_from, aoi_values, AreLower}
 use Rattle.aoi_graph.proofs.GateLaws.{aoi-below}
-use Rattle.std.specs.Prelude.{Option, Some, None, bytes_eq}
+use Rattle.std.specs.Prelude.{Option, Some, None, Result, Ok, Err, bytes_eq}
+use Rattle.std.specs.Result.{OnOk}
 use Rattle.std.specs.Option.{option_map_or}
 use Rattle.indexmap.specs.IndexMap.{get}
 use Rattle.aoi_graph.specs.Blocks.{Numbers, IsHeld, AreHeld, input_value}
@@ -45,6 +46,11 @@ value-new bits ns new n r e f h b = rw (e, f)
     (ap (λ (v : ℕ → Bool). v (length ns)) (aoi-append bits 0 ns (n ∷ []) (λ _. false))
     ∙ (let z : 0 + length ns ≡ length ns = omega arith in
     rw z (with-same (length ns) (gate_value bits (aoi_values ns bits) n) (aoi_values ns bits))))
+
+-- what follows where a call succeeds
+pub on-ok : {X E : Type 0} (r : Result X E) (P Q : Type 0) → (P → Q) → OnOk r P → OnOk r Q
+on-ok (Ok x) P Q f h = f h
+on-ok (Err e) P Q f h = tt
 
 -- twice
 pub grows-then : (a b c : List AoiNode) (g p h q i r : ℕ) → Grows a b g p → Grows b c h q

@@ -491,6 +491,14 @@ gate_value (t.Name n) true text s s' g m e k r =
 gate_value (t.Name n) false text s s' g m e k r = never e
 gate_value _ o text s s' g m e k r = never m
 
+-- a gate's name, where a parenthesis follows
+pub gate_known : (u : Terminal) (o : Bool) (text : List ℕ) (s s' : Scope) → is_named u ≡ true
+    → o ≡ true → gate_named text ≡ None → rules_at w.Value s u text o ≡ Ok s' → ⊥
+gate_known (t.Name n) true text s s' m e k r =
+    let r' = rw k at (unless_ok (is_bad n text) _ _ s' r) in cc
+gate_known (t.Name n) false text s s' m e k r = never e
+gate_known _ o text s s' m e k r = never m
+
 pub name_value : (u : Terminal) (o : Bool) (text : List ℕ) (s s' : Scope) → is_named u ≡ true
     → o ≡ false → rules_at w.Value s u text o ≡ Ok s'
     → (follow w.Value u o ≡ Some (after_leaf (leaf.Read text))) × (fits_name text ≡ true)

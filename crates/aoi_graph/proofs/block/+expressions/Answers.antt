@@ -1,7 +1,7 @@
-use Rattle.std.proofs.Common.{◌≡◌, Bool, ◌&&◌, ◌||◌, refl, ◌∙◌}
+use Rattle.std.proofs.Common.{◌≡◌, Bool, ◌&&◌, ◌||◌, refl, ◌∙◌, arith}
 use Rattle.std.proofs.lemmas.Result.{IfOk-weaker}
 use Rattle.op_text.specs.Values.{differ, majority}
-use Rattle.aoi_graph.proofs.Growing.{two-values, third-value}
+use Rattle.aoi_graph.proofs.Growing.{grows-then, on-ok, two-values, third-value}
 use Rattle.aoi_graph.proofs.block.+expressions.Goals as goal
 
 two : (f : Bool → Bool → Bool) (a b x y : Bool) → (a ≡ x) × (b ≡ y) → f a b ≡ f x y
@@ -89,3 +89,31 @@ pub expression-returns-in_ok-c-in-Maj-clause-held :
 expression-returns-in_ok-c-in-Maj-clause-held t c = IfOk-weaker c.gate-in-Maj.result _ _ (λ r h o.
     h c.args.inputs.now tt (c.in_ok-c-in-Maj.ensures.held (c.in_ok-a-in-Maj.ensures.held o)))
     c.gate-in-Maj.ensures.held
+
+pub pair-returns-clause-grows : goal.pair-returns-clause-grows
+pair-returns-clause-grows t c = grows-then _ _ _ _ _ _ _ _ _ c.in_ok-a.ensures.grows
+    c.in_ok-b.ensures.grows (omega arith) (omega arith)
+
+pub expression-returns-in_ok-a-in-And-clause-grows :
+    goal.expression-returns-in_ok-a-in-And-clause-grows
+expression-returns-in_ok-a-in-And-clause-grows t c =
+    let two-more = rw (c.deref-in-And.ensures, c.deref-in-And-2.ensures)
+    at c.in_ok-a-in-And.ensures.grows in
+    rw c.in-And.is (on-ok c.gate-in-And.result _ _ (λ one-more. grows-then _ _ _ _ _ _ _ _ _ two-more
+    one-more (omega arith) (omega arith)) c.gate-in-And.ensures.grows)
+
+pub expression-returns-in_ok-a-in-Or-clause-grows :
+    goal.expression-returns-in_ok-a-in-Or-clause-grows
+expression-returns-in_ok-a-in-Or-clause-grows t c =
+    let two-more = rw (c.deref-in-Or.ensures, c.deref-in-Or-2.ensures)
+    at c.in_ok-a-in-Or.ensures.grows in
+    rw c.in-Or.is (on-ok c.gate-in-Or.result _ _ (λ one-more. grows-then _ _ _ _ _ _ _ _ _ two-more
+    one-more (omega arith) (omega arith)) c.gate-in-Or.ensures.grows)
+
+pub expression-returns-in_ok-a-in-Xor-clause-grows :
+    goal.expression-returns-in_ok-a-in-Xor-clause-grows
+expression-returns-in_ok-a-in-Xor-clause-grows t c =
+    let two-more = rw (c.deref-in-Xor.ensures, c.deref-in-Xor-2.ensures)
+    at c.in_ok-a-in-Xor.ensures.grows in
+    rw c.in-Xor.is (on-ok c.xor.result _ _ (λ one-more. grows-then _ _ _ _ _ _ _ _ _ two-more
+    one-more (omega arith) (omega arith)) c.xor.ensures.grows)

@@ -39,3 +39,9 @@ loop-a-preserved c =
           before);
       held = λ o. c.in_ok-k.ensures.held (so.held o);
     })
+
+pub expression-requires-clause-known : goal.expression-requires-clause-known
+expression-requires-clause-known c = c.loop-a.invariant.known
+
+pub expression-requires-clause-lower : goal.expression-requires-clause-lower
+expression-requires-clause-lower c = c.loop-a.invariant.grows.lower

@@ -48,3 +48,10 @@ loop-a-preserved c =
           s;
       held = λ o. c.in_ok-k.ensures.held (so.held o);
     }
+
+pub expression-requires-clause-known : goal.expression-requires-clause-known
+expression-requires-clause-known c = λ name k e.
+    let before = c.requires.known name k e in
+    let longer = grows-length c.args.nodes.now.items c.loop-a.nodes.items _ _
+    c.loop-a.invariant.grows in
+    omega arith

@@ -1,7 +1,7 @@
-use Rattle.std.proofs.Common.{◌≡◌, Bool, true, false, not, ◌&&◌, ◌||◌, refl, ◌∙◌}
+use Rattle.std.proofs.Common.{◌≡◌, Bool, true, false, not, ◌&&◌, ◌||◌, refl, ◌∙◌, arith}
 use Rattle.std.proofs.lemmas.Result.{IfOk-weaker}
 use Rattle.op_text.specs.Values.{differ}
-use Rattle.aoi_graph.proofs.Growing.{grows-keeps}
+use Rattle.aoi_graph.proofs.Growing.{grows-keeps, grows-then, on-ok}
 use Rattle.aoi_graph.proofs.gates.xor.Goals as goal
 
 table : (a b : Bool) → ((a && not b) || (b && not a)) ≡ differ a b
@@ -31,3 +31,10 @@ pub returns-clause-held : goal.returns-clause-held
 returns-clause-held c = IfOk-weaker c.gate.result _ _ (λ r h inputs o.
     h inputs tt (c.in_ok-right.ensures.held inputs (c.in_ok-left.ensures.held inputs o)))
     c.gate.ensures.held
+
+pub returns-clause-grows : goal.returns-clause-grows
+returns-clause-grows c =
+    let halves-made = grows-then _ _ _ _ _ _ _ 2 4 c.in_ok-left.ensures.grows
+    c.in_ok-right.ensures.grows (omega arith) (omega arith) in
+    on-ok c.gate.result _ _ (λ last. grows-then _ _ _ _ _ _ _ _ _ halves-made last (omega arith)
+    (omega arith)) c.gate.ensures.grows

@@ -2,7 +2,7 @@ use Rattle.std.proofs.Common.{[], ◌∷◌, sym}
 use Rattle.op_text.specs.declared.grammar.Wanted.TheVariants as w
 use Rattle.op_lang.specs.Pieces.{after_leaf}
 use Rattle.op_lang.proofs.Taking.{exits}
-use Rattle.op_lang.proofs.Single.{bit_took, gate_took, read_took}
+use Rattle.op_lang.proofs.Single.{bit_took, gate_known, gate_took, read_took}
 use Rattle.op_lang.proofs.values.leaf.Goals as goal
 
 pub returns-in_err-token-clause-moves : goal.returns-in_err-token-clause-moves
@@ -45,3 +45,7 @@ pub returns-in-Some-clause-missing : goal.returns-in-Some-clause-missing
 returns-in-Some-clause-missing c =
     (gate_took _ _ _ _ c.in-Some.gate (sym c.if-not-is_named.ensures) (sym c.if-opens.ensures)
     (sym c.in-Some.ensures) c.in_ok-token.ensures).missing
+
+pub unreachable-requires : goal.unreachable-requires
+unreachable-requires c = gate_known _ _ _ _ _ (sym c.if-not-is_named.ensures)
+    (sym c.if-opens.ensures) (sym c.in-None.ensures) c.in_ok-token.ensures.rules
