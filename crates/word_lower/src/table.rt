@@ -78,7 +78,7 @@ const S_BIT: Mark = Mark {
 };
 
 /// The loop programs of the word operations, in the order of the variants.
-pub const PROGRAMS: [(WordOp, ProgramRow); 27] = [
+pub static PROGRAMS: [(WordOp, ProgramRow); 27] = [
     (WordOp::Not, Spread(Inverted(X, Z), Inverted(X_BIT, Z_BIT))),
     (
         WordOp::And,

@@ -99,7 +99,7 @@ pub const DIVISION: [Option<NestPart>; 5] = [
 ];
 
 /// The loop programs with a nest, each with its operation.
-pub const NESTED: [(WordOp, NestedProgram); 5] = [
+pub static NESTED: [(WordOp, NestedProgram); 5] = [
     // for each bit of the second argument, the first is added from that position on
     (
         WordOp::Mul,
@@ -189,5 +189,6 @@ fn program_in(rows: &[(WordOp, NestedProgram)], op: WordOp) -> Option<NestedProg
 pub fn program_of(op: WordOp) -> Option<NestedProgram>
     ensures { result ≡ program_of op }
 {
-    program_in(&NESTED, op)
+    let rows = NESTED;
+    program_in(&rows, op)
 }
