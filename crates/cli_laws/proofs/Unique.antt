@@ -33,10 +33,10 @@ use Rattle.simdram_cli.specs.Job.{done_status, image_by, refused_by}
 use Rattle.simdram_cli.specs.Queries.{AsksIn}
 use Rattle.simdram_cli.specs.Replay.{image_replayed}
 use Rattle.simdram_cli.specs.Tracing.{Traced, exec_of, trace_of, unlogged_world}
-use Rattle.simdram_cli.proofs.Promised.{at_own}
 use Rattle.cli_laws.proofs.Replays.{same_ok}
 use Rattle.cli_laws.specs.Unique.{OneExecuted, OneGuardedJob, OneRecorded, OneReplayed, OneScanned}
 use Rattle.cli_laws.specs.Unique.{SameGuarded, SameInputs, SameWork}
+use Rattle.cli_model.proofs.Files.{at_own}
 
 one_value : {A : Type 0} (o : Option A) (x y : A) → o ≡ Some x → o ≡ Some y → x ≡ y
 one_value {A = A} o x y e f = let g : ◌≡◌ {A = Option A} (Some x) (Some y) = sym e ∙ f in cc

@@ -4,9 +4,10 @@ use Rattle.std.specs.List.{list_any}
 use Rattle.host_edge.specs.Views.{Files}
 use Rattle.cli_model.specs.World.{World}
 use Rattle.cli_model.specs.Ends.{Ended, All, At, IsFault}
+use Rattle.cli_model.specs.Runs.{EndsBy}
 use Rattle.simdram_cli.specs.declared.words.ReplayNames.{ReplayNames}
 use Rattle.simdram_cli.specs.declared.words.TraceNames.{TraceNames}
-use Rattle.simdram_cli.specs.Replay.{ReplayEnds, Replayed}
+use Rattle.simdram_cli.specs.Replay.{Replayed, replay_plan}
 use Rattle.simdram_cli.specs.Tracing.{Traced}
 
 -- A replay of the TRACE that a recorded execution stored, on the IMAGE that it read, writes the OUT
@@ -38,7 +39,7 @@ abbrev pub TracesAreAccepted : Type 0
 TracesAreAccepted =
     (recorded : TraceNames) (again : ReplayNames) (before after found : Files)
     (a b c d : World) (status code : ℕ) → Traced recorded before after a b status
-    → (e : ReplayEnds again c d code) → c.files.holds ≡ Some found
+    → (e : EndsBy (replay_plan again) c d code) → c.files.holds ≡ Some found
     → found again.trace.now ≡ after recorded.trace.now
     → found again.image.now ≡ before recorded.image.now
     → IsDoneUnlessFault e.ends.ended × (list_any (λ s. s == code) statuses_by_fault ≡ true)

@@ -7,6 +7,7 @@ use Rattle.fault_counts.specs.Counts.{Rose}
 use Rattle.host_edge.specs.Views.{Files, FolderView, SinkView, Known, AppendsPart}
 use Rattle.cli_model.specs.World.{World, world}
 use Rattle.cli_model.specs.Steps.{Take, Put, Refusal, Reason, Refused, NoMemory, PutFailed}
+use Rattle.cli_model.specs.Steps.{CannotWrite, Store, Stored, Unstored}
 use Rattle.cli_model.specs.Steps.{ReadsOnly, Sent}
 use Rattle.cli_model.specs.Plan.{Plan, Loads, Then}
 use Rattle.cli_model.specs.Reads.{refusal_of, IsText, LoadedAs, NotLoaded, ReadAs, NotRead}
@@ -61,6 +62,23 @@ puts text rest result files s t chip new p n r =
         refl,
       ),
     )) r
+
+pub unstored : (name bytes : List ℕ) (rest : Plan) (f g : FolderView) (sink : SinkView)
+    (chip : ChipView) → Unstored name (world f sink chip) (world g sink chip)
+    → Runs (Then (Store name bytes ∷ []) rest) (world f sink chip) (world g sink chip)
+    (Err (CannotWrite name))
+unstored name bytes rest f g sink chip u =
+    runs_stopped (Store name bytes ∷ []) rest (CannotWrite name) (world f sink chip)
+    (world g sink chip) (inr (refl, u))
+
+pub stores : (name bytes : List ℕ) (rest : Plan) (result : Result ℕ Reason) (f g : FolderView)
+    (sink : SinkView) (chip : ChipView) (new : World)
+    → Stored name bytes (world f sink chip) (world g sink chip)
+    → Runs rest (world g sink chip) new result
+    → Runs (Then (Store name bytes ∷ []) rest) (world f sink chip) new result
+stores name bytes rest result f g sink chip new s r =
+    runs_then (Store name bytes ∷ []) rest result (world f sink chip) (world g sink chip) new
+    (inl (world g sink chip, (s, refl))) r
 
 -- a file that was read, and one that was not
 

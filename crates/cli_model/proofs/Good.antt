@@ -15,7 +15,8 @@ use Rattle.cli_model.specs.Status.{reason_status}
 use Rattle.cli_model.specs.Stands.{files_after}
 use Rattle.cli_model.specs.Foreseen.{foreseen}
 use Rattle.cli_model.specs.Ends.{Stop, Ended, All, At, Causes, EndsSo, IsForetold, IsFault}
-use Rattle.cli_model.proofs.Statuses.{OfSteps, OfStep, of_more}
+use Rattle.cli_model.specs.Ends.{IsStopped}
+use Rattle.cli_model.proofs.Statuses.{OfSteps, OfStep, of_more, stop_so}
 use Rattle.cli_model.specs.Plan.{Plan, Loads, Makes, Then, Answers, Refuses, Way, steps_of, AreTexts}
 use Rattle.cli_model.specs.Plan.{refused_last, last_status, Leaves}
 use Rattle.cli_model.specs.Runs.{EndsBy, LeavesAt, TellsLast}
@@ -183,7 +184,7 @@ text_of : (holds : Option Files) (name own text : List ℕ) → file_in holds na
 text_of None name own text e t = absurd (cc)
 text_of (Some files) name own text e t = same_text (files name) own text e t
 
-end_good : (P : ℕ → Type 0) (plan : Plan) (holds : Option Files) (chip : ChipView)
+pub end_good : (P : ℕ → Type 0) (plan : Plan) (holds : Option Files) (chip : ChipView)
     → GoodFor P plan holds
     → (way : Way plan) → IfSome holds (AreTexts plan way) → Leaves plan way chip
     → P (last_status plan way)
@@ -224,7 +225,7 @@ stopped_good : (P : ℕ → Type 0) (end : End) (reason : Reason) → GoodEnd P 
 stopped_good P end reason g (inl e) = inl (subst (GoodEnd P) e g)
 stopped_good P end reason g (inr f) = inr f
 
-either_good : (P : ℕ → Type 0) (plan : Plan) (holds : Option Files) (stop : Stop) (a b : World)
+pub either_good : (P : ℕ → Type 0) (plan : Plan) (holds : Option Files) (stop : Stop) (a b : World)
     → GoodFor P plan holds
     → (way : Way plan) → IfSome holds (AreTexts plan way)
     → IfSome holds (IsForetold (steps_of plan way) (At stop))
@@ -260,3 +261,18 @@ plan_completes P plan old new status g ten n e =
         at_stop (inr f) =
             subst P (sym (so.answers ∙ step_wants stop.failed stop.reason old e.stood so.causes f n))
             ten
+
+-- where its files are good for no status that its steps give when they fail, it stops by a fault
+pub stop_by_fault : (F P : ℕ → Type 0) (plan : Plan) (stop : Stop) (old new : World) (status : ℕ)
+    → ((s : ℕ) → P s → F s → ⊥) → GoodFor P plan old.files.holds → (way : Way plan)
+    → IfSome old.files.holds (AreTexts plan way) → OfSteps F (steps_of plan way)
+    → IfSome old.files.holds (IsForetold (steps_of plan way) (At stop))
+    → IsStopped (steps_of plan way) stop old new status → IsFault stop.reason
+stop_by_fault F P plan stop old new status apart good way texts of known so =
+    by_cases (either_good P plan old.files.holds stop old new good way texts known so.place
+    so.causes)
+  where
+    by_cases : P (reason_status stop.reason) ⊎ IsFault stop.reason → IsFault stop.reason
+    by_cases (inl p) = absurd (apart (reason_status stop.reason) p (subst F so.answers
+        (stop_so F (steps_of plan way) stop old new status of so)))
+    by_cases (inr f) = f

@@ -26,7 +26,6 @@ use Rattle.machine_model.specs.Routines.{routines_of}
 use Rattle.machine_model.specs.Opened.{Image, opened, rows_of, words_of}
 use Rattle.machine_model.specs.Report.{line, lines, total_line}
 use Rattle.machine_model.specs.Steps.{Held, table_of}
-use Rattle.machine_model.proofs.Places.{bytes_differ}
 use Rattle.machine_model.proofs.Texts.{same_operations}
 use Rattle.guard_model.specs.declared.Flip.{Flip}
 use Rattle.guard_model.specs.Guarded.{guarded_replies, guarded_rows, guarded_rows_at_end, joined}
@@ -54,23 +53,25 @@ use Rattle.simdram_cli.specs.declared.words.TheConstants.{FLIPS_MAX, IMAGE_MAX, 
 use Rattle.simdram_cli.specs.Ends.{IsCompiled}
 use Rattle.simdram_cli.specs.Flips.{flips_in, guarded_image_of, guarded_script_in, in_triples}
 use Rattle.simdram_cli.specs.Flips.{table_refusal, name_refusal, unless_some, with_short_names}
-use Rattle.simdram_cli.specs.Guard.{AreGuardTexts, GuardDoneBy, GuardDoneOn, GuardEnds, GuardJob}
-use Rattle.simdram_cli.specs.Guard.{GuardTexts, Guarded, GuardedRows, GuardedWords, IsGuardDone}
-use Rattle.simdram_cli.specs.Guard.{IsMendable, Mended, guard_job, guard_job_steps, guard_status}
-use Rattle.simdram_cli.specs.Guard.{guard_steps, image_at_last, image_steps, flips_steps}
-use Rattle.simdram_cli.specs.Guard.{job_of_texts, last_steps, operations_by}
+use Rattle.simdram_cli.specs.Guard.{GuardDoneOn, GuardJob}
+use Rattle.simdram_cli.specs.Guard.{Guarded, GuardedRows, GuardedWords}
+use Rattle.simdram_cli.specs.Guard.{IsMendable, Mended, guard_job}
+use Rattle.simdram_cli.specs.Guard.{image_at_last}
+use Rattle.simdram_cli.specs.Guard.{last_steps, operations_by}
 use Rattle.simdram_cli.specs.Guard.{refused_of, replies_by, replies_of, said_by}
 use Rattle.simdram_cli.specs.Guard.{said_of, state_by, table_at_last, tally_of, votes_of}
 use Rattle.simdram_cli.specs.Guard.{work_steps}
 use Rattle.simdram_cli.specs.Headline.{IsNoBadWalk, read_as}
 use Rattle.simdram_cli.specs.Inputs.{image_of, ops_in, script_in, script_or_refusal}
 use Rattle.simdram_cli.specs.Job.{done_status}
-use Rattle.simdram_cli.specs.Reads.{IsText}
-use Rattle.simdram_cli.proofs.Foreseen.{spells_at, tell_both, text_at, was_read}
+use Rattle.cli_model.proofs.Delivering.{IsDelivered, known_delivered}
+use Rattle.simdram_cli.specs.Guard.{guard_plan}
+use Rattle.cli_model.specs.Reads.{IsText}
+use Rattle.simdram_cli.proofs.OpsPlans.{spells_at}
 use Rattle.simdram_cli.proofs.Guarding.{Apart}
 use Rattle.simdram_cli.proofs.NoWalks.{AllEnd, all_end, no_walks}
-use Rattle.simdram_cli.proofs.Promised.{at_other, at_own}
 use Rattle.simdram_cli.proofs.Promises.{table_is}
+use Rattle.cli_model.proofs.Files.{at_other, at_own, bytes_differ}
 
 -- what the steps send and store
 
@@ -132,81 +133,6 @@ work_files out job f = script_files job.image.geometry (routines_in job.program)
 -- the image at the end, with these banks
 abbrev image_spelled : GuardJob → Banks → List ℕ
 image_spelled job banks = image_bytes job.image.geometry (table_at_last job) (rows_of banks)
-
--- what a job that is done has read
-record JobRead (names : GuardNames) (program : Program) (texts : GuardTexts) (files : Files)
-    : Type 0 where
-  script : List Instruction
-  image : Image
-  flips : List Flip
-  script_is : guarded_script_in texts.script ≡ Ok script
-  image_is : guarded_image_of texts.image ≡ Ok image
-  flips_is : flips_in image.geometry (length script) texts.flips ≡ Ok flips
-  script_text : List ℕ
-  image_text : List ℕ
-  flips_text : List ℕ
-  script_there : files names.script.now ≡ Some script_text
-  image_there : files names.image.now ≡ Some image_text
-  flips_there : files names.flips.now ≡ Some flips_text
-
-job_read : (names : GuardNames) (program : Program) (texts : GuardTexts) (files : Files)
-    → foreseen (guard_job_steps names program texts) files ≡ Done
-    → JobRead names program texts files
-job_read names program texts files foretold =
-    let one = was_read names.script.now SCRIPT_MAX texts.script (guarded_script_in texts.script)
-    (λ script. image_steps names program script texts.image texts.flips) files foretold in
-    let two = was_read names.image.now IMAGE_MAX texts.image (guarded_image_of texts.image)
-    (λ i. flips_steps names program one.value i texts.flips) files one.goes_on in
-    let three = was_read names.flips.now FLIPS_MAX texts.flips
-    (flips_in two.value.geometry (length one.value) texts.flips)
-    (λ flips. Take ∷ work_steps names.out.now (guard_job program one.value two.value flips)) files
-    two.goes_on in
-    record {
-      script = one.value;
-      image = two.value;
-      flips = three.value;
-      script_is = one.is;
-      image_is = two.is;
-      flips_is = three.is;
-      script_text = one.bytes;
-      image_text = two.bytes;
-      flips_text = three.bytes;
-      script_there = one.there;
-      image_there = two.there;
-      flips_there = three.there;
-    }
-
-abbrev job_in : {names : GuardNames} {program : Program} {texts : GuardTexts} {files : Files}
-    → JobRead names program texts files → GuardJob
-job_in {program = program} j = guard_job program j.script j.image j.flips
-
-loaded_is : {A : Type 0} (name : List ℕ) (limit : ℕ) (text : List ℕ) (read : Result A Refusal)
-    (rest : A → List Step) (value : A) → read ≡ Ok value
-    → loading name limit text read rest ≡ Load name limit text None ∷ rest value
-loaded_is name limit text read rest value e = rw e refl
-
-steps_are : (names : GuardNames) (program : Program) (texts : GuardTexts) (files : Files)
-    → (j : JobRead names program texts files) → guard_job_steps names program texts
-    ≡ Load names.script.now SCRIPT_MAX texts.script None
-    ∷ Load names.image.now IMAGE_MAX texts.image None
-    ∷ Load names.flips.now FLIPS_MAX texts.flips None ∷ Take
-    ∷ work_steps names.out.now (guard_job program j.script j.image j.flips)
-steps_are names program texts files j =
-    loaded_is names.script.now SCRIPT_MAX texts.script (guarded_script_in texts.script)
-    (λ script. image_steps names program script texts.image texts.flips) j.script j.script_is
-    ∙ ap (λ (xs : List Step). Load names.script.now SCRIPT_MAX texts.script None ∷ xs)
-    (loaded_is names.image.now IMAGE_MAX texts.image (guarded_image_of texts.image)
-    (λ i. flips_steps names program j.script i texts.flips) j.image j.image_is
-    ∙ ap (λ (xs : List Step). Load names.image.now IMAGE_MAX texts.image None ∷ xs)
-    (loaded_is names.flips.now FLIPS_MAX texts.flips
-    (flips_in j.image.geometry (length j.script) texts.flips)
-    (λ flips. Take ∷ work_steps names.out.now (guard_job program j.script j.image flips)) j.flips
-    j.flips_is))
-
-job_is : (names : GuardNames) (program : Program) (texts : GuardTexts) (files : Files)
-    → (j : JobRead names program texts files)
-    → job_of_texts program texts ≡ Some (guard_job program j.script j.image j.flips)
-job_is names program texts files j = rw (j.script_is, j.image_is, j.flips_is) refl
 
 -- what an accepted script and an accepted image are
 
@@ -412,46 +338,6 @@ in_words t out job after old new status implements d = record {
   mended = mends t out job after old new status implements d;
 }
 
--- what a guarded run that is done has read: its texts are those of the files at entry
-record HasRead (names : GuardNames) (program : Program) (ops : List ℕ) (texts : GuardTexts)
-    (before : Files) : Type 0 where
-  job : JobRead names program texts (with_file names.prog.now (program_bytes 2 program) before)
-  ops_at : before names.ops.now ≡ Some ops
-  script_at : before names.script.now ≡ Some texts.script
-  image_at : before names.image.now ≡ Some texts.image
-  flips_at : before names.flips.now ≡ Some texts.flips
-  steps : guard_steps names program ops texts
-      ≡ Load names.ops.now OPS_MAX ops None ∷ Take
-      ∷ Store names.prog.now (program_bytes 2 program) ∷ guard_job_steps names program texts
-
-has_read : (names : GuardNames) (program : Program) (ops : List ℕ) (texts : GuardTexts)
-    (holds : Option Files) (before : Files) → Apart names → holds ≡ Some before
-    → IsText holds names.ops.now ops → AreGuardTexts names texts holds
-    → foreseen (guard_steps names program ops texts) before ≡ Done
-    → HasRead names program ops texts before
-has_read names program ops texts holds before apart there is_text read foretold =
-    let bytes = program_bytes 2 program in
-    let stored = with_file names.prog.now bytes before in
-    let rest = λ (t : Unit {0}). Take ∷ Store names.prog.now bytes
-    ∷ guard_job_steps names program texts in
-    let one = was_read names.ops.now OPS_MAX ops (ops_in ops) rest before foretold in
-    let j = job_read names program texts stored one.goes_on in
-    record {
-      job = j;
-      ops_at = text_at holds before names.ops.now one.bytes ops there is_text one.there;
-      script_at = text_at holds before names.script.now j.script_text texts.script there
-          read.script
-          (sym (at_other names.script.now names.prog.now bytes before apart.others.script)
-          ∙ j.script_there);
-      image_at = text_at holds before names.image.now j.image_text texts.image there read.image
-          (sym (at_other names.image.now names.prog.now bytes before apart.others.image)
-          ∙ j.image_there);
-      flips_at = text_at holds before names.flips.now j.flips_text texts.flips there read.flips
-          (sym (at_other names.flips.now names.prog.now bytes before apart.others.flips)
-          ∙ j.flips_there);
-      steps = loaded_is names.ops.now OPS_MAX ops (ops_in ops) rest one.value one.is;
-    }
-
 kept_other : (names : GuardNames) (program : Program) (bytes : List ℕ) (before after : Files)
     → after ≡ with_file names.out.now bytes (with_file names.prog.now (program_bytes 2 program)
     before)
@@ -463,40 +349,81 @@ kept_other names program bytes before after e other p o =
     ∙ at_other other names.prog.now (program_bytes 2 program) before
     (bytes_differ other names.prog.now p)
 
-guarded_of : (names : GuardNames) (program : Program) (ops : List ℕ) (texts : GuardTexts)
-    (refused status : ℕ) (old new : World) (before after : Files) → Apart names
-    → (compiled : IsCompiled ops program) → (h : HasRead names program ops texts before)
-    → GuardDoneOn (job_in h.job) new.chip refused
-    → status ≡ done_status (refused_of (job_in h.job))
-    → after ≡ with_file names.out.now (image_at_last (job_in h.job))
-    (with_file names.prog.now (program_bytes 2 program) before)
-    → Known (λ x y. y ≡ x ++ guarded_report (said_of (job_in h.job)) (votes_of (job_in h.job))
-    (length h.job.flips) (tally_of (job_in h.job)) (replies_of (job_in h.job))) old.sink.sent
-    new.sink.sent
-    → Guarded names before after old new status
-guarded_of names program ops texts refused status old new before after apart compiled h d s files
-    sent =
+-- A guarded run that was done keeps its promises
+pub guard_promised : (names : GuardNames) (old new : World) (status : ℕ) → Apart names
+    → IsDelivered (guard_plan names) old new status
+    → Known (λ before after. Guarded names before after old new status) old.files.holds
+    new.files.holds
+guard_promised names old new status apart d =
+    known_delivered (guard_plan names) old new status
+    (λ before after. Guarded names before after old new status) d
+    (λ before after said sent (
+      ops,
+      ops_there,
+      ops_within,
+      u,
+      ops_is,
+      (
+        program,
+        v,
+        (
+          one,
+          e,
+          (
+            w,
+            compiled,
+            (
+              script_text,
+              script_there,
+              script_within,
+              script,
+              script_is,
+              (
+                image_text,
+                image_there,
+                image_within,
+                i,
+                image_is,
+                (
+                  flips_text,
+                  flips_there,
+                  flips_within,
+                  flips,
+                  flips_is,
+                  (two, f, (three, h, (same, none, answers, left))),
+                ),
+              ),
+            ),
+          ),
+        ),
+      ),
+    ).
+    let job = guard_job program script i flips in
+    let out = names.out.now in
+    let bytes = program_bytes 2 program in
+    let stored = with_file names.prog.now bytes before in
     let text = map text_op compiled.ops in
-    let job = job_in h.job in
-    let stored = with_file names.prog.now (program_bytes 2 program) before in
-    let short = short_read (script_in texts.script) h.job.script h.job.script_is in
-    let triple = triple_read (image_of texts.image) h.job.image h.job.image_is in
-    let rows : GuardedRows names.out.now job after old new status = record {
-      banks = d.done.banks;
-      counters = d.done.counters;
-      log = d.done.log;
-      file = ap (λ (x : Files). x names.out.now) files
-          ∙ at_own names.out.now (image_at_last job) stored
-          ∙ ap (λ (b : Banks). Some (image_spelled job b)) (sym d.done.banks);
+    let short = short_read (script_in script_text) script script_is in
+    let triple = triple_read (image_of image_text) i image_is in
+    let files = same ∙ work_files out job stored in
+    let told = subst (λ (w : List ℕ). Known (λ x y. y ≡ x ++ w) old.sink.sent new.sink.sent)
+    (e ∙ f ∙ h ∙ ap (λ w. sent_by (work_steps out job) ++ w) none
+    ∙ append-nil (sent_by (work_steps out job)) ∙ work_sent out job) sent in
+    let rows : GuardedRows out job after old new status = record {
+      banks = left.done.banks;
+      counters = left.done.counters;
+      log = left.done.log;
+      file = ap (λ (x : Files). x out) files ∙ at_own out (image_at_last job) stored
+          ∙ ap (λ (b : Banks). Some (image_spelled job b)) (sym left.done.banks);
       sent = subst (λ k. Known (λ x y. y ≡ x ++ guarded_report (said_of job) (votes_of job)
           (length job.flips) k (replies_of job)) old.sink.sent new.sink.sent)
-          (sym d.done.counters) sent;
-      answers = s;
+          (sym left.done.counters) told;
+      answers = answers;
     } in
-    let done : IsDone names.out.now job after old new status = record {
-      refused = refused;
-      done = d;
-      names = names_of texts.script h.job.script short.is;
+    let done : IsDone out job after old new status = record {
+      refused = refused_of job;
+      done = left;
+      names = names_of script_text script short.is;
       triples = triple.triples;
       rows = rows;
     } in
@@ -505,67 +432,29 @@ guarded_of names program ops texts refused status old new before after apart com
       job = job;
       of_files = record {
         ops = compiled.ops;
-        are = spells_at (before names.ops.now) ops compiled.ops h.ops_at compiled.is;
+        are = spells_at (before names.ops.now) ops compiled.ops ops_there compiled.is;
         text = refl;
-        script = ap (read_as script_in) h.script_at ∙ ap result_ok short.is;
-        image = ap (read_as image_of) h.image_at ∙ ap result_ok triple.is;
+        script = ap (read_as script_in)
+            (sym (at_other names.script.now names.prog.now bytes before apart.others.script)
+            ∙ script_there) ∙ ap result_ok short.is;
+        image = ap (read_as image_of)
+            (sym (at_other names.image.now names.prog.now bytes before apart.others.image)
+            ∙ image_there) ∙ ap result_ok triple.is;
       };
       short = short.short;
       triples = triple.triples;
-      flips_are = ap (read_as (flips_in h.job.image.geometry (length h.job.script))) h.flips_at
-          ∙ ap result_ok h.job.flips_is;
+      flips_are = ap (read_as (flips_in i.geometry (length script)))
+          (sym (at_other names.flips.now names.prog.now bytes before apart.others.flips)
+          ∙ flips_there) ∙ ap result_ok flips_is;
       program_written = record {
         file = ap (λ (x : Files). x names.prog.now) files
-            ∙ at_other names.prog.now names.out.now (image_at_last job) stored apart.prog_out
-            ∙ at_own names.prog.now (program_bytes 2 program) before;
+            ∙ at_other names.prog.now out (image_at_last job) stored apart.prog_out
+            ∙ at_own names.prog.now bytes before;
         legal = compiled.legal;
         implements = compiled.implements;
         taken = compiled.taken;
       };
       rows = rows;
-      words = λ t implements. in_words t names.out.now job after old new status implements done;
+      words = λ t implements. in_words t out job after old new status implements done;
       others = kept_other names program (image_at_last job) before after files;
-    }
-
-stores_prog : (names : GuardNames) (program : Program) (ops : List ℕ)
-    (ro : Result (Unit {0}) Refusal) (u : Unit {0}) (rest : List Step) → ro ≡ Ok u
-    → Stores names.prog.now (loading names.ops.now OPS_MAX ops ro (λ t. Take
-    ∷ Store names.prog.now (program_bytes 2 program) ∷ rest))
-stores_prog names program ops (Ok v) u rest e = inr (inr (inl refl))
-stores_prog names program ops (Err r) u rest e = absurd (cc)
-
--- A guarded run that was done keeps its promises
-pub guard_promised : (names : GuardNames) (old new : World) (status : ℕ) → Apart names
-    → (e : GuardEnds names old new status) → e.ends.ended ≡ All
-    → Known (λ before after. Guarded names before after old new status) old.files.holds
-    new.files.holds
-guard_promised names old new status apart e done =
-    let steps = guard_steps names e.program e.ops e.texts in
-    let read = job_of_texts e.program e.texts in
-    let so : IsAllDone steps (guard_status read) old new status =
-    subst (λ (x : Ended). EndsSo steps (guard_status read) x old new status) done e.ends.so in
-    let known : IfSome old.files.holds (IsForetold steps All) =
-    subst (λ (x : Ended). IfSome old.files.holds (IsForetold steps x)) done e.ends.foretold in
-    let work : IsGuardDone All read new.chip =
-    subst (λ (x : Ended). IsGuardDone x read new.chip) done e.done in
-    tell_both old.files.holds new.files.holds (λ before after. after ≡ files_after steps before)
-    (λ before after. Guarded names before after old new status) (IsForetold steps All) so.files
-    known (λ before after there foretold files.
-    let stored = with_file names.prog.now (program_bytes 2 e.program) before in
-    let h = has_read names e.program e.ops e.texts old.files.holds before apart there e.is_text
-    e.read foretold in
-    let one = was_read names.ops.now OPS_MAX e.ops (ops_in e.ops) _ before foretold in
-    let compiled = e.compiled (subst (λ (x : Ended). Stores names.prog.now (done_steps steps x))
-    (sym done) (stores_prog names e.program e.ops (ops_in e.ops) one.value _ one.is)) in
-    let own = job_is names e.program e.texts stored h.job in
-    let all = h.steps
-    ∙ ap (λ (xs : List Step). Load names.ops.now OPS_MAX e.ops None ∷ Take
-    ∷ Store names.prog.now (program_bytes 2 e.program) ∷ xs)
-    (steps_are names e.program e.texts stored h.job) in
-    guarded_of names e.program e.ops e.texts work.0 status old new before after apart compiled h
-    (subst (λ (x : Option GuardJob). GuardDoneBy x new.chip work.0) own work.1)
-    (so.answers ∙ ap guard_status own)
-    (files ∙ ap (λ xs. files_after xs before) all
-    ∙ work_files names.out.now (job_in h.job) stored)
-    (subst (λ (bytes : List ℕ). Known (λ x y. y ≡ x ++ bytes) old.sink.sent new.sink.sent)
-    (ap sent_by all ∙ work_sent names.out.now (job_in h.job)) so.sent))
+    })

@@ -55,27 +55,29 @@ use Rattle.cli_model.proofs.Ending.{all_ends}
 use Rattle.simdram_cli.specs.declared.words.GuardNames.{GuardNames}
 use Rattle.simdram_cli.specs.declared.words.TheConstants.{FLIPS_MAX, IMAGE_MAX, SCRIPT_MAX}
 use Rattle.simdram_cli.specs.declared.stop.Stop.{Stop}
-use Rattle.simdram_cli.specs.Ends.{ProgramStopped, ProgramTaken, answer_to}
 use Rattle.simdram_cli.specs.Flips.{flips_in, flips_or_refusal, flips_refusal, guarded_image_of}
 use Rattle.simdram_cli.specs.Flips.{guarded_script_in, in_triples, name_refusal, table_refusal}
 use Rattle.simdram_cli.specs.Flips.{unless_some, with_short_names}
-use Rattle.simdram_cli.specs.Guard.{FlipsWorked, GuardDone, GuardDoneBy}
-use Rattle.simdram_cli.specs.Guard.{GuardEnds, GuardGoes, GuardImageWorked, GuardJob, GuardJobGoes}
-use Rattle.simdram_cli.specs.Guard.{GuardTexts, IsGuardDone, banks_at_last, events_of, flips_steps}
-use Rattle.simdram_cli.specs.Guard.{guard_job, guard_job_steps, guard_status, guard_steps}
-use Rattle.simdram_cli.specs.Guard.{image_at_last, image_steps, job_of_flips, job_of_image}
-use Rattle.simdram_cli.specs.Guard.{job_of_texts, last_steps, refused_of, run_names}
+use Rattle.simdram_cli.specs.Guard.{GuardDone}
+use Rattle.simdram_cli.specs.Guard.{GuardJob}
+use Rattle.simdram_cli.specs.Guard.{banks_at_last, events_of}
+use Rattle.simdram_cli.specs.Guard.{image_at_last}
+use Rattle.simdram_cli.specs.Guard.{last_steps, refused_of}
 use Rattle.simdram_cli.specs.Guard.{table_at_last, tally_of, votes_of, work_steps}
 use Rattle.simdram_cli.specs.Inputs.{image_found, image_or_refusal, image_refusal}
 use Rattle.simdram_cli.specs.Inputs.{script_in}
+use Rattle.cli_model.specs.Plan.{Answers}
+use Rattle.cli_model.specs.Runs.{Runs}
+use Rattle.cli_model.proofs.Running.{runs_answered, runs_stopped, runs_then}
+use Rattle.simdram_cli.specs.Guard.{GuardDoneOn, guard_work_plan}
+use Rattle.simdram_cli.specs.Plans.{said_of}
 use Rattle.simdram_cli.specs.Job.{done_status, opened_counters}
-use Rattle.simdram_cli.specs.Reads.{IsText, LoadedAs, NotRead, ReadAs, refusal_of}
+use Rattle.cli_model.specs.Reads.{IsText, LoadedAs, NotRead, ReadAs, refusal_of}
 use Rattle.simdram_cli.specs.Stops.{end_of, fault_reason, image_reason, reason_of}
 use Rattle.simdram_cli.specs.Words.{all_differ, guard_apart}
 use Rattle.simdram_cli.specs.Works.{OpenedOn}
-use Rattle.simdram_cli.proofs.Ended.{tail_of, went_on}
-use Rattle.simdram_cli.proofs.Joins.{goes_ops, loaded_text, loading_goes, loading_stops, no_chip}
-use Rattle.simdram_cli.proofs.Joins.{no_sink, stored_program, taken_text, text_before}
+use Rattle.simdram_cli.proofs.Joins.{loaded_text, loading_goes, loading_stops, no_chip}
+use Rattle.simdram_cli.proofs.Joins.{no_sink}
 use Rattle.simdram_cli.proofs.Joins.{known_is_text, known_text}
 use Rattle.simdram_cli.proofs.Running.{not_true, other_way}
 use Rattle.simdram_cli.proofs.Scripts.{lines_long}
@@ -364,13 +366,6 @@ worked_on name job end a b c d g h k =
 
 -- the end: the image is stored, and two lines are sent
 
-pub puts_unput : (first second : List ℕ) (files : FolderView) (s t : SinkView) (chip : ChipView)
-    → Known (AppendsPart first) s.sent t.sent → s.faults ≤ t.faults → Rose s.faults t.faults
-    → Goes (Put first ∷ Put second ∷ []) (Stopped PutFailed) (world files s chip)
-    (world files t chip)
-puts_unput first second files s t chip p n r =
-    inr (refl, sent (AppendsPart first) files s t chip p n, r)
-
 pub puts_half : (first second : List ℕ) (files : FolderView) (s t u : SinkView) (chip : ChipView)
     → Known (λ before after. after ≡ before ++ first) s.sent t.sent → s.faults ≤ t.faults
     → Known (AppendsPart second) t.sent u.sent → t.faults ≤ u.faults → Rose t.faults u.faults
@@ -399,11 +394,6 @@ puts_done first second files s t u chip p n q m = inl (
   ),
 )
 
-pub unimaged : (steps : List Step) (files : FolderView) (s : SinkView) (a b : ChipView)
-    → a.faults ≤ b.faults → Rose a.faults b.faults
-    → Goes (Use ∷ steps) (Stopped ChipFailed) (world files s a) (world files s b)
-unimaged steps files s a b l r = inr (refl, used files s a b l, r)
-
 pub not_stored : (name bytes : List ℕ) (steps : List Step) (f g : FolderView) (s : SinkView)
     (a b : ChipView) → a.faults ≤ b.faults → Unstored name (world f s b) (world g s b)
     → Goes (Use ∷ Store name bytes ∷ steps) (Stopped (CannotWrite name)) (world f s a) (world g s b)
@@ -418,18 +408,6 @@ stored_then name bytes steps end f g s a b w l u h =
     inl (world f s b, (used f s a b l, inl (world g s b, (u, h))))
 
 -- FLIPS, and the job that it makes
-
-pub flips_unread : (names : GuardNames) (program : Program) (script : List Instruction) (i : Image)
-    (stop : Stop) (old new : FolderView) (sink : SinkView) (chip : ChipView)
-    → NotRead (flips_in i.geometry (length script)) names.flips.now FLIPS_MAX (reason_of stop) old
-    new → FlipsWorked names program script i (world old sink chip) (world new sink chip) (Err stop)
-flips_unread names program script i stop old new sink chip n = record {
-  text = n.text;
-  is_text = n.is_text;
-  goes = loading_stops names.flips.now FLIPS_MAX n.text (flips_in i.geometry (length script) n.text)
-      _ (reason_of stop) (world old sink chip) (world new sink chip) (n.fails sink chip);
-  done = tt;
-}
 
 -- so it is read for a script as the code keeps it
 
@@ -448,79 +426,7 @@ read_mapped g name script flips old new r =
     subst (λ (k : ℕ). ReadAs (flips_in g k) name FLIPS_MAX flips old new)
     (sym (length-map script view_of)) r
 
--- there was no memory for the stage
-pub no_stage : (names : GuardNames) (program : Program) (script : List Instruction) (i : Image)
-    (stop : Stop) (flips : List Flip) (old new : FolderView) (sink : SinkView) (chip : ChipView)
-    → ReadAs (flips_in i.geometry (length script)) names.flips.now FLIPS_MAX flips old new
-    → reason_of stop ≡ NoMemory
-    → FlipsWorked names program script i (world old sink chip) (world new sink chip) (Err stop)
-no_stage names program script i stop flips old new sink chip r e = record {
-  text = r.text;
-  is_text = loaded_text names.flips.now FLIPS_MAX r.text (world old sink chip)
-      (world new sink chip) (r.loaded sink chip);
-  goes = loading_goes names.flips.now FLIPS_MAX r.text
-      (flips_in i.geometry (length script) r.text) _ flips (Stopped (reason_of stop))
-      (world old sink chip) (world new sink chip) (world new sink chip) r.value_is
-      (r.loaded sink chip) (inr (e, nothing_read (world new sink chip)));
-  done = tt;
-}
-
-done_on : (program : Program) (script : List Instruction) (i : Image) (flips : List Flip)
-    (read : Result (List Flip) Refusal) (chip : ChipView) (result : Result ℕ Stop)
-    → read ≡ Ok flips → IsImage i.geometry i.table i.rows → AllByRecursion IsPlain script
-    → IfOk result (GuardDone (guard_job program script i flips) chip)
-    → IfOk result (GuardDoneBy (job_of_flips program script i read) chip)
-done_on program script i flips read chip (Ok refused) e is plain d =
-    subst (λ (r : Result (List Flip) Refusal). GuardDoneBy (job_of_flips program script i r) chip
-    refused) (sym e) (record { image = is; plain = plain; done = d })
-done_on program script i flips read chip (Err stop) e is plain d = tt
-
-pub flips_worked : (names : GuardNames) (program : Program) (script : List Instruction) (i : Image)
-    (flips given : List Flip) (result : Result ℕ Stop) (old mid : FolderView) (sink : SinkView)
-    (chip : ChipView) (new : World) → IsImage i.geometry i.table i.rows
-    → AllByRecursion IsPlain script
-    → ReadAs (flips_in i.geometry (length script)) names.flips.now FLIPS_MAX flips old mid
-    → given ≡ flips
-    → Goes (work_steps names.out.now (guard_job program script i given)) (end_of result)
-    (world mid sink chip) new
-    → IfOk result (GuardDone (guard_job program script i given) new.chip)
-    → FlipsWorked names program script i (world old sink chip) new result
-flips_worked names program script i flips given result old mid sink chip new is plain r e g d =
-    let own = subst (λ (xs : List Flip). Goes (work_steps names.out.now
-    (guard_job program script i xs)) (end_of result) (world mid sink chip) new) e g in
-    let done = subst (λ (xs : List Flip). IfOk result (GuardDone (guard_job program script i xs)
-    new.chip)) e d in
-    record {
-      text = r.text;
-      is_text = loaded_text names.flips.now FLIPS_MAX r.text (world old sink chip)
-          (world mid sink chip) (r.loaded sink chip);
-      goes = loading_goes names.flips.now FLIPS_MAX r.text
-          (flips_in i.geometry (length script) r.text) _ flips (end_of result)
-          (world old sink chip) (world mid sink chip) new r.value_is (r.loaded sink chip)
-          (inl (world mid sink chip, (nothing_read (world mid sink chip), own)));
-      done = done_on program script i flips (flips_in i.geometry (length script) r.text) new.chip
-          result r.value_is is plain done;
-    }
-
 -- IMAGE
-
--- IMAGE was not loaded, or is refused, or there was no memory to read it
-pub image_unread : (names : GuardNames) (program : Program) (script : List Instruction)
-    (stop : Stop) (old new : FolderView) (sink : SinkView) (chip : ChipView)
-    → NotRead guarded_image_of names.image.now IMAGE_MAX (reason_of stop) old new
-    → GuardImageWorked names program script (world old sink chip) (world new sink chip) (Err stop)
-image_unread names program script stop old new sink chip n =
-    let flips = known_text old.holds names.flips.now in
-    record {
-      image = n.text;
-      flips = flips;
-      image_is = n.is_text;
-      flips_is = known_is_text old.holds names.flips.now;
-      goes = loading_stops names.image.now IMAGE_MAX n.text (guarded_image_of n.text)
-          (λ i. flips_steps names program script i flips) (reason_of stop) (world old sink chip)
-          (world new sink chip) (n.fails sink chip);
-      done = tt;
-    }
 
 -- why an image is not read
 pub image_not : (name text : List ℕ) (why : ImageNo) (reason : Reason) (old new : FolderView)
@@ -564,117 +470,7 @@ strange name text found k old new loaded e some =
       fails = λ sink chip. (ap refusal_of refused, loaded sink chip);
     }
 
-image_done : (program : Program) (script : List Instruction) (i : Image) (flips : List ℕ)
-    (read : Result Image Refusal) (chip : ChipView) (result : Result ℕ Stop) → read ≡ Ok i
-    → IfOk result (GuardDoneBy (job_of_flips program script i
-    (flips_in i.geometry (length script) flips)) chip)
-    → IfOk result (GuardDoneBy (job_of_image program script read flips) chip)
-image_done program script i flips read chip result e d =
-    subst (λ (r : Result Image Refusal). IfOk result (GuardDoneBy
-    (job_of_image program script r flips) chip)) (sym e) d
-
-pub image_worked : (names : GuardNames) (program : Program) (script : List Instruction)
-    (i : Image) (result : Result ℕ Stop) (text : List ℕ) (old mid : FolderView) (sink : SinkView)
-    (chip : ChipView) (new : World) → LoadedAs names.image.now IMAGE_MAX text old mid
-    → guarded_image_of text ≡ Ok i
-    → FlipsWorked names program script i (world mid sink chip) new result
-    → GuardImageWorked names program script (world old sink chip) new result
-image_worked names program script i result text old mid sink chip new loads e f =
-    let loaded = loads sink chip in
-    let same : mid.holds ≡ old.holds = loaded.reads.files in
-    record {
-      image = text;
-      flips = f.text;
-      image_is = loaded_text names.image.now IMAGE_MAX text (world old sink chip)
-          (world mid sink chip) loaded;
-      flips_is = subst (λ (holds : Option Files). IsText holds names.flips.now f.text) same
-          f.is_text;
-      goes = loading_goes names.image.now IMAGE_MAX text (guarded_image_of text)
-          (λ x. flips_steps names program script x f.text) i (end_of result)
-          (world old sink chip) (world mid sink chip) new e loaded f.goes;
-      done = image_done program script i f.text (guarded_image_of text) new.chip result e f.done;
-    }
-
--- the whole job
-
-pub job_unread : (names : GuardNames) (program : Program) (stop : Stop) (old new : FolderView)
-    (sink : SinkView) (chip : ChipView)
-    → NotRead guarded_script_in names.script.now SCRIPT_MAX (reason_of stop) old new
-    → GuardJobGoes names program (world old sink chip) (world new sink chip) (Err stop)
-job_unread names program stop old new sink chip n =
-    let texts : GuardTexts = record {
-      script = n.text;
-      image = known_text old.holds names.image.now;
-      flips = known_text old.holds names.flips.now;
-    } in
-    record {
-      texts = texts;
-      read = record {
-        script = n.is_text;
-        image = known_is_text old.holds names.image.now;
-        flips = known_is_text old.holds names.flips.now;
-      };
-      goes = loading_stops names.script.now SCRIPT_MAX n.text (guarded_script_in n.text)
-          (λ script. image_steps names program script texts.image texts.flips) (reason_of stop)
-          (world old sink chip) (world new sink chip) (n.fails sink chip);
-      done = tt;
-    }
-
-script_done : (program : Program) (script : List Instruction) (texts : GuardTexts)
-    (chip : ChipView) (result : Result ℕ Stop) → guarded_script_in texts.script ≡ Ok script
-    → IfOk result (GuardDoneBy (job_of_image program script (guarded_image_of texts.image)
-    texts.flips) chip)
-    → IfOk result (GuardDoneBy (job_of_texts program texts) chip)
-script_done program script texts chip (Ok refused) e d = rw e d
-script_done program script texts chip (Err stop) e d = tt
-
-pub job_worked : (names : GuardNames) (program : Program) (script : List Instruction)
-    (result : Result ℕ Stop) (old mid : FolderView) (sink : SinkView) (chip : ChipView)
-    (new : World) → ReadAs guarded_script_in names.script.now SCRIPT_MAX script old mid
-    → GuardImageWorked names program script (world mid sink chip) new result
-    → GuardJobGoes names program (world old sink chip) new result
-job_worked names program script result old mid sink chip new r w =
-    let loaded = r.loaded sink chip in
-    let same : mid.holds ≡ old.holds = loaded.reads.files in
-    let texts : GuardTexts = record { script = r.text; image = w.image; flips = w.flips } in
-    record {
-      texts = texts;
-      read = record {
-        script = loaded_text names.script.now SCRIPT_MAX r.text (world old sink chip)
-            (world mid sink chip) loaded;
-        image = subst (λ (holds : Option Files). IsText holds names.image.now w.image) same
-            w.image_is;
-        flips = subst (λ (holds : Option Files). IsText holds names.flips.now w.flips) same
-            w.flips_is;
-      };
-      goes = loading_goes names.script.now SCRIPT_MAX r.text (guarded_script_in r.text)
-          (λ s. image_steps names program s w.image w.flips) script (end_of result)
-          (world old sink chip) (world mid sink chip) new r.value_is loaded w.goes;
-      done = script_done program script texts new.chip result r.value_is w.done;
-    }
-
 -- the guarded run
-
-pub guard_stopped : (names : GuardNames) (stop : Stop) (old new : FolderView) (sink : SinkView)
-    (chip : ChipView) → ProgramStopped names.ops.now names.prog.now (reason_of stop) old new
-    → GuardGoes names (world old sink chip) (world new sink chip) (Err stop)
-guard_stopped names stop old new sink chip s = record {
-  program = s.program;
-  ops = s.text;
-  texts = record {
-    script = known_text old.holds names.script.now;
-    image = known_text old.holds names.image.now;
-    flips = known_text old.holds names.flips.now;
-  };
-  is_text = s.is_text;
-  read = record {
-    script = known_is_text old.holds names.script.now;
-    image = known_is_text old.holds names.image.now;
-    flips = known_is_text old.holds names.flips.now;
-  };
-  goes = inl (s.goes sink chip);
-  done = tt;
-}
 
 -- the files that are read after the store of PROG are not PROG
 pub record AreOthers (names : GuardNames) : Type 0 where
@@ -729,84 +525,21 @@ apart names e =
       prog_out = outputs.fifth;
     }
 
-pub guard_went : (names : GuardNames) (program : Program) (result : Result ℕ Stop)
-    (old mid : FolderView) (sink : SinkView) (chip : ChipView) (new : World) → AreOthers names
-    → (t : ProgramTaken names.ops.now names.prog.now program old mid)
-    → GuardJobGoes names program (world mid sink chip) new result
-    → GuardGoes names (world old sink chip) new result
-guard_went names program result old mid sink chip new apart t j =
-    let known = stored_program (run_names names) program old mid t in
-    let bytes = program_bytes 2 program in
-    record {
-      program = program;
-      ops = t.text;
-      texts = j.texts;
-      is_text = taken_text names.ops.now names.prog.now program old mid t;
-      read = record {
-        script = text_before names.prog.now bytes old.holds mid.holds names.script.now
-            j.texts.script apart.script known j.read.script;
-        image = text_before names.prog.now bytes old.holds mid.holds names.image.now
-            j.texts.image apart.image known j.read.image;
-        flips = text_before names.prog.now bytes old.holds mid.holds names.flips.now
-            j.texts.flips apart.flips known j.read.flips;
-      };
-      goes = inr (
-        t.compiled,
-        goes_ops names.ops.now names.prog.now program old mid sink chip
-            (guard_job_steps names program j.texts) (end_of result) new t j.goes,
-      );
-      done = j.done;
-    }
-
--- how it ends
-
-status_of : (job : Option GuardJob) (chip : ChipView) (refused : ℕ)
-    → GuardDoneBy job chip refused → done_status refused ≡ guard_status job
-status_of None chip refused d = absurd d
-status_of (Some job) chip refused d = ap done_status d.done.refused_is
-
-guard_done : (ended : Ended) (job : Option GuardJob) (chip : ChipView) (refused : ℕ)
-    → ended ≡ All → GuardDoneBy job chip refused → IsGuardDone ended job chip
-guard_done ended job chip refused is d =
-    subst (λ (x : Ended). IsGuardDone x job chip) (sym is) (refused, d)
-
-guard_none : (ended : Ended) (stop : StopAt) (job : Option GuardJob) (chip : ChipView)
-    → ended ≡ At stop → IsGuardDone ended job chip
-guard_none ended stop job chip is = subst (λ (x : Ended). IsGuardDone x job chip) (sym is) tt
-
-pub guard_ends : (names : GuardNames) (old mid new : World) (result : Result ℕ Stop) (status : ℕ)
-    → GuardGoes names old mid result → Tells (end_of result) mid new → status ≡ answer_to result
-    → GuardEnds names old new status
-guard_ends names old mid new (Ok refused) status g tells answers =
-    let steps = guard_steps names g.program g.ops g.texts in
-    let job = job_of_texts g.program g.texts in
-    let both = went_on names.ops.now names.prog.now g.program g.ops steps old mid g.goes in
-    let d : GuardDoneBy job new.chip refused =
-    subst (λ (w : World). GuardDoneBy job w.chip refused) (sym tells) g.done in
-    let e = all_ends steps (guard_status job) old mid new status both.1 tells
-    (answers ∙ status_of job new.chip refused d) in
-    record {
-      ops = g.ops;
-      texts = g.texts;
-      program = g.program;
-      is_text = g.is_text;
-      read = g.read;
-      ends = e.0;
-      compiled = λ stored. both.0;
-      done = guard_done e.0.ended job new.chip refused e.1 d;
-    }
-guard_ends names old mid new (Err by) status g tells answers =
-    let job = job_of_texts g.program g.texts in
-    let t = tail_of names.ops.now names.prog.now g.program g.ops
-    (guard_job_steps names g.program g.texts) (guard_status job) (reason_of by) old mid new status
-    g.goes tells answers in
-    record {
-      ops = g.ops;
-      texts = g.texts;
-      program = g.program;
-      is_text = g.is_text;
-      read = g.read;
-      ends = t.ends;
-      compiled = t.compiled;
-      done = guard_none t.ends.ended t.stop job new.chip t.is;
-    }
+-- the script was done with its flips, as far as nothing failed
+pub guard_runs : (out : List ℕ) (job : GuardJob) (result : Result ℕ Stop) (old new : World)
+    → IsImage job.image.geometry job.image.table job.image.rows → AllByRecursion IsPlain job.script
+    → Goes (work_steps out job) (end_of result) old new
+    → IfOk result (GuardDone job new.chip)
+    → Runs (guard_work_plan out job) old new (said_of result)
+guard_runs out job (Ok refused) old new is plain g d =
+    let status = done_status (refused_of job) in
+    let left = λ (chip : ChipView). GuardDoneOn job chip (refused_of job) in
+    runs_then (work_steps out job) (Answers status left) (said_of (Ok refused)) old new new g
+    (subst (λ n. Runs (Answers status left) new new (Ok n)) (sym (ap done_status d.refused_is))
+    (runs_answered status left new (record {
+      image = is;
+      plain = plain;
+      done = record { banks = d.banks; counters = d.counters; log = d.log; refused_is = refl };
+    })))
+guard_runs out job (Err stop) old new is plain g d =
+    runs_stopped (work_steps out job) _ (reason_of stop) old new g

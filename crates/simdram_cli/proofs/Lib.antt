@@ -9,8 +9,6 @@ pub mod Piecewise
 pub mod Progress
 pub mod Performing
 pub mod Running
-pub mod Foreseen
-pub mod Loaded
 pub mod Migrating
 pub mod Compiling
 pub mod Accounting
@@ -18,16 +16,15 @@ pub mod Commanding
 pub mod Initial
 pub mod Promised
 pub mod Executing
-pub mod Ended
 pub mod Promising
 pub mod Completing
 pub mod OpenedRows
 pub mod NoWalks
 pub mod Promises
 pub mod Stores
-pub mod Telling
 pub mod Unique
 pub mod Soaking
+pub mod Keeping
 pub mod Scanning
 pub mod Stopping
 pub mod Tracing
@@ -36,4 +33,15 @@ pub mod Replaying
 pub mod Guarding
 pub mod GuardSteps
 pub mod GuardPromised
+pub mod Completes
+pub mod Answered
+pub mod WorkSteps
+pub mod JobPlans
+pub mod OpsPlans
+pub mod Planned
+pub mod ExecPlanned
+pub mod TracePlanned
+pub mod Compiled
+pub mod GuardPlanned
+pub mod RunPlanned
 mod Showing

@@ -40,6 +40,7 @@ use Rattle.sim_machine.specs.Machine.{is_print}
 use Rattle.sim_machine.specs.Steps.{DidAndRead}
 use Rattle.simdram_cli.specs.Job.{put_lines, instr_steps, piece_steps, pieces_steps}
 use Rattle.simdram_cli.specs.Works.{next_piece}
+use Rattle.cli_model.proofs.Delivering.{sent_append}
 
 least_some : (n : ℕ) → 1 ≤ n → 0 < min 16 n
 least_some n some = elim (cases_lt 16 n) [
@@ -219,18 +220,6 @@ count_both p xs ys = rw (← tally-is p (xs ++ ys), ← tally-is p xs, ← tally
 
 -- what is sent
 
-pub sent_more : (xs ys : List Step) → sent_by (xs ++ ys) ≡ sent_by xs ++ sent_by ys
-sent_more [] ys = refl
-sent_more (Load name limit text refusal ∷ xs) ys = sent_more xs ys
-sent_more (Take ∷ xs) ys = sent_more xs ys
-sent_more (Store name bytes ∷ xs) ys = sent_more xs ys
-sent_more (Open ∷ xs) ys = sent_more xs ys
-sent_more (Use ∷ xs) ys = sent_more xs ys
-sent_more (Put bytes ∷ xs) ys =
-    rw (sent_more xs ys) (sym (append_assoc bytes (sent_by xs) (sent_by ys)))
-sent_more (Print bytes ∷ xs) ys =
-    rw (sent_more xs ys) (sym (append_assoc bytes (sent_by xs) (sent_by ys)))
-
 sent_lines : (number : ℕ) (said : List Said) → sent_by (put_lines number said) ≡ lines number said
 sent_lines number [] = refl
 sent_lines number (said ∷ rest) =
@@ -265,7 +254,7 @@ sent_pieces g o table banks number (piece ∷ rest) =
     let said = said_in_rows g o table banks front in
     let after_table = table_at_end g o table front in
     let after_banks = banks_at_end g o table banks front in
-    sent_more (piece_steps g o table banks number piece)
+    sent_append (piece_steps g o table banks number piece)
     (pieces_steps g o after_table after_banks (number + length front) rest)
     ∙ ap (λ w. w ++ sent_by (pieces_steps g o after_table after_banks (number + length front) rest))
     (sent_piece g o table banks number piece)

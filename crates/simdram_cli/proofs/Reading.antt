@@ -14,7 +14,8 @@ use Rattle.op_text.specs.OpsOf.{IsOpsOf}
 use Rattle.simdram_cli.specs.declared.words.TheConstants.{OPS_MAX}
 use Rattle.simdram_cli.specs.Inputs.{ops_in, ops_refusal, unless_fault, script_in}
 use Rattle.simdram_cli.specs.Inputs.{script_refusal, script_or_refusal}
-use Rattle.simdram_cli.specs.Reads.{refusal_of, LoadedAs, NotLoaded, NotRead, OpsRead}
+use Rattle.cli_model.specs.Reads.{refusal_of, LoadedAs, NotLoaded, NotRead}
+use Rattle.simdram_cli.specs.Reads.{OpsRead}
 use Rattle.simdram_cli.proofs.Joins.{known_text, known_is_text, loaded_text, no_sink, no_chip}
 
 -- a file that was not loaded

@@ -1,8 +1,9 @@
--- How a replay goes and ends, and what it promises.
+-- The facts of `replay`: how its parts go, its statuses, its files, its memory, and what one that is
+-- done promises.
 use Rattle.std.proofs.Common.{◌≡◌, ℕ, ◌+◌, ◌*◌, ◌<◌, ◌≤◌, ◌^◌, Bool, true, false, cond, List, []}
 use Rattle.std.proofs.Common.{◌∷◌, ◌++◌, Option, Some, None, refl, sym, ◌∙◌, ap, subst, inl, inr}
 use Rattle.std.proofs.Common.{arith, append-nil, zero-add}
-use Rattle.std.specs.Prelude.{Result, Ok, Err, IfOk, IfSome, ◌==◌, ◌&&◌, count_by, not}
+use Rattle.std.specs.Prelude.{◌⊎◌, Result, Ok, Err, IfErr, ◌==◌, ◌&&◌, count_by, not}
 use Rattle.std.specs.Result.{result_ok}
 use Rattle.std.proofs.lemmas.Bool.{eqb-true, eq-eqb}
 use Rattle.std.proofs.lemmas.List.Sums.{sum_by-cons}
@@ -17,48 +18,49 @@ use Rattle.dram_model.specs.View.{ChipView, Did, DidRead, with_reads}
 use Rattle.object_alloc.specs.declared.fault.ImageNo.{ImageNo}
 use Rattle.object_alloc.specs.declared.fault.ImageNo.TheVariants as no
 use Rattle.object_alloc.specs.Listed.{Named}
-use Rattle.object_alloc.specs.Reading.{image_in, IsFault}
+use Rattle.object_alloc.specs.Reading.{Found, ImageFault, image_in, IsFault}
 use Rattle.object_alloc.specs.Spelling.{image_bytes}
 use Rattle.uprog_bin.specs.Opened.{IsProgramFile}
 use Rattle.uprog_bin.specs.Spelling.{program_bytes}
 use Rattle.machine_model.specs.Opened.{Image, row_writes, rows_of}
-use Rattle.machine_model.proofs.Places.{bytes_differ}
-use Rattle.trace_model.specs.Reading.{trace_in as trace_read}
+use Rattle.trace_model.specs.Reading.{TraceFault, trace_in as trace_read}
 use Rattle.trace_model.specs.Spelling.{IsTrace, Trace, bytes_of_trace}
 use Rattle.cmd_trace.specs.declared.fault.TraceNo.{TraceNo}
 use Rattle.cmd_trace.specs.declared.fault.TraceNo.TheVariants as trace_no
 use Rattle.cmd_trace.specs.Opened.{IsFault as IsTraceFault}
 use Rattle.cli_model.specs.World.{World, world}
-use Rattle.cli_model.specs.Steps.{Load, Store, Open, Use, Put, Refusal, Reason, Refused}
+use Rattle.cli_model.specs.Steps.{Store, Open, Use, Put, Refusal, Reason}
 use Rattle.cli_model.specs.Steps.{CannotWrite, PutFailed, ChipFailed, End, Done, Stopped}
-use Rattle.cli_model.specs.Steps.{Goes, Loaded, LoadFails, Stored, Unstored, loading}
-use Rattle.cli_model.specs.Stands.{files_after, sent_by}
-use Rattle.cli_model.specs.Status.{Tells}
-use Rattle.cli_model.specs.Ends.{Ended, All, At, Stop as StopAt, EndsSo, IsAllDone, IsForetold}
+use Rattle.cli_model.specs.Steps.{Goes, Stored, Unstored}
+use Rattle.cli_model.specs.Faultless.{file_in}
+use Rattle.cli_model.specs.Plan.{Loads, Makes, Plan}
+use Rattle.cli_model.specs.Reads.{LoadedAs}
+use Rattle.cli_model.specs.Runs.{Runs}
+use Rattle.cli_model.proofs.Delivering.{IsDelivered, known_delivered}
+use Rattle.cli_model.proofs.Doing.{refused, unparsed}
+use Rattle.cli_model.proofs.Files.{at_other, at_own, bytes_differ}
 use Rattle.cli_model.proofs.Going.{goes_on, stops}
-use Rattle.cli_model.proofs.Ending.{all_ends, stop_ends}
-use Rattle.cli_model.proofs.Statuses.{OfSteps, all_done}
+use Rattle.cli_model.proofs.Owed.{GoodFor, NotTen, TakesFirst}
+use Rattle.cli_model.proofs.Statuses.{OfSteps}
+use Rattle.simdram_cli.specs.declared.words.Command.TheVariants.{Replay}
 use Rattle.simdram_cli.specs.declared.words.ReplayNames.{ReplayNames}
 use Rattle.simdram_cli.specs.declared.words.TheConstants.{IMAGE_MAX, TRACE_MAX}
 use Rattle.simdram_cli.specs.declared.stop.Stop.{Stop}
-use Rattle.simdram_cli.specs.declared.stop.Stop.TheVariants as stop
+use Rattle.simdram_cli.specs.Complete.{AreGood, IsImageFile}
 use Rattle.simdram_cli.specs.Headline.{read_as}
-use Rattle.simdram_cli.specs.Ends.{answer_to}
-use Rattle.simdram_cli.specs.Inputs.{image_of, image_or_refusal}
-use Rattle.simdram_cli.specs.Job.{done_status, opened_counters}
-use Rattle.simdram_cli.specs.Reads.{IsText, LoadedAs, NotLoaded, refusal_of}
-use Rattle.simdram_cli.specs.Replay.{DoneByTrace, DoneOnImage, EventsDone, ImageReplayed}
-use Rattle.simdram_cli.specs.Replay.{IsReplayed, ReplayEnds, ReplayGoes, ReplayTexts, Replayed}
-use Rattle.simdram_cli.specs.Replay.{events_steps, image_replayed, is_aap, is_ap, is_write}
-use Rattle.simdram_cli.specs.Replay.{on_image_steps, replay_counters, replay_line, replay_steps}
-use Rattle.simdram_cli.specs.Stops.{end_of, image_reason, reason_of, trace_reason}
+use Rattle.simdram_cli.specs.Inputs.{image_found, image_of, image_or_refusal, image_refusal}
+use Rattle.simdram_cli.specs.Job.{opened_counters}
+use Rattle.simdram_cli.specs.Plans.{said_of}
+use Rattle.simdram_cli.specs.Replay.{EventsDone, Replayed, events_plan, events_steps}
+use Rattle.simdram_cli.specs.Replay.{image_replayed, is_aap, is_ap, is_write}
+use Rattle.simdram_cli.specs.Replay.{replay_counters, replay_image_plan, replay_line, replay_plan}
+use Rattle.simdram_cli.specs.Stops.{image_reason, reason_of, trace_reason}
 use Rattle.simdram_cli.specs.Traces.{geometry_differs, if_same, image_for, same_geometry, trace_in}
-use Rattle.simdram_cli.specs.Traces.{trace_or_refusal}
+use Rattle.simdram_cli.specs.Traces.{trace_or_refusal, trace_refusal}
 use Rattle.simdram_cli.specs.Works.{OpenedOn}
-use Rattle.simdram_cli.proofs.Foreseen.{tell_both, text_at, was_read}
-use Rattle.simdram_cli.proofs.Joins.{loaded_text, loading_goes, loading_stops, known_is_text}
-use Rattle.simdram_cli.proofs.Joins.{known_text}
-use Rattle.simdram_cli.proofs.Promised.{at_other, at_own}
+use Rattle.simdram_cli.proofs.Completes.{IsOneOf}
+use Rattle.simdram_cli.proofs.JobPlans.{good_file}
+use Rattle.simdram_cli.proofs.Planned.{GivesOwn, IsFailing}
 use Rattle.simdram_cli.proofs.Stores.{sent, used}
 use Rattle.simdram_cli.proofs.Tallies.{both, log_is}
 
@@ -274,217 +276,134 @@ on_read out t i file k end a b c g f e h =
     (subst (λ (x : List ℕ). Goes (Store out x ∷ Put (replay_line (replay_counters t)) ∷ []) end b c)
     f (subst (λ (x : Counters). Goes (Store out file ∷ Put (replay_line x) ∷ []) end b c) e h))
 
--- IMAGE
+-- what is read, and what is not
 
-pub image_unread : (names : ReplayNames) (t : Trace) (why : Stop) (old new : FolderView)
-    (sink : SinkView) (chip : ChipView)
-    → NotLoaded names.image.now IMAGE_MAX (reason_of why) old new
-    → ImageReplayed names t (world old sink chip) (world new sink chip) (Err why)
-image_unread names t why old new sink chip n =
-    let text = known_text old.holds names.image.now in
-    record {
-      text = text;
-      is_text = known_is_text old.holds names.image.now;
-      goes = loading_stops names.image.now IMAGE_MAX text (image_for t.geometry text)
-          (λ i. events_steps names.out.now t i) (reason_of why) (world old sink chip)
-          (world new sink chip) (n text (refusal_of (image_for t.geometry text)) sink chip);
-      nothing = tt;
-      done = tt;
-    }
-
-unread_fails : (g : Geometry) (name text : List ℕ) (why : ImageNo) (a b : World)
-    → Loaded name IMAGE_MAX text a b → IsFault why (image_in text)
-    → LoadFails name IMAGE_MAX text (refusal_of (image_for g text)) (image_reason why) a b
-unread_fails g name text (no.Fault fault) a b loaded is =
-    (ap (λ r. refusal_of (if_same g (image_or_refusal r))) is, loaded)
-unread_fails g name text no.NoMemory a b loaded is = loaded.reads
-
-pub image_not_read : (names : ReplayNames) (t : Trace) (text : List ℕ) (why : Stop)
-    (fault : ImageNo) (old new : FolderView) (sink : SinkView) (chip : ChipView)
-    → LoadedAs names.image.now IMAGE_MAX text old new → IsFault fault (image_in text)
+pub image_not_read : (g : Geometry) (rest : List ℕ → Image → Plan) (name : List ℕ) (why : Stop)
+    (fault : ImageNo) (text : List ℕ) (old new : FolderView) (sink : SinkView) (chip : ChipView)
+    → LoadedAs name IMAGE_MAX text old new → IsFault fault (image_in text)
     → reason_of why ≡ image_reason fault
-    → ImageReplayed names t (world old sink chip) (world new sink chip) (Err why)
-image_not_read names t text why fault old new sink chip loaded is e = record {
-  text = text;
-  is_text = loaded_text names.image.now IMAGE_MAX text (world old sink chip) (world new sink chip)
-      (loaded sink chip);
-  goes = loading_stops names.image.now IMAGE_MAX text (image_for t.geometry text)
-      (λ i. events_steps names.out.now t i) (reason_of why) (world old sink chip)
-      (world new sink chip) (rw e (unread_fails t.geometry names.image.now text fault
-      (world old sink chip) (world new sink chip) (loaded sink chip) is));
-  nothing = tt;
-  done = tt;
-}
+    → Runs (Loads name IMAGE_MAX (image_for g) rest) (world old sink chip) (world new sink chip)
+    (said_of (Err why))
+image_not_read g rest name why (no.Fault fault) text old new sink chip l is e =
+    rw e (refused name IMAGE_MAX (image_for g) rest text (image_refusal fault) old new sink chip l
+    (ap (λ r. if_same g (image_or_refusal r)) is))
+image_not_read g rest name why no.NoMemory text old new sink chip l is e =
+    rw e (unparsed name IMAGE_MAX (image_for g) rest text old new sink chip l)
 
-differs : (g : Geometry) (text : List ℕ) (i : Image) → image_of text ≡ Ok i
+pub trace_not_read : (rest : List ℕ → Trace → Plan) (name : List ℕ) (why : Stop)
+    (fault : TraceNo) (text : List ℕ) (old new : FolderView) (sink : SinkView) (chip : ChipView)
+    → LoadedAs name TRACE_MAX text old new → IsTraceFault fault (trace_read text)
+    → reason_of why ≡ trace_reason fault
+    → Runs (Loads name TRACE_MAX trace_in rest) (world old sink chip) (world new sink chip)
+    (said_of (Err why))
+trace_not_read rest name why (trace_no.Fault fault) text old new sink chip l is e =
+    rw e (refused name TRACE_MAX trace_in rest text (trace_refusal fault) old new sink chip l
+    (ap trace_or_refusal is))
+trace_not_read rest name why trace_no.NoMemory text old new sink chip l is e =
+    rw e (unparsed name TRACE_MAX trace_in rest text old new sink chip l)
+
+pub differs : (g : Geometry) (text : List ℕ) (i : Image) → image_of text ≡ Ok i
     → same_geometry i.geometry g ≡ false → image_for g text ≡ Err geometry_differs
 differs g text i is other = ap (if_same g) is ∙ rw other refl
 
-same : (g : Geometry) (text : List ℕ) (i : Image) → image_of text ≡ Ok i
+pub same : (g : Geometry) (text : List ℕ) (i : Image) → image_of text ≡ Ok i
     → same_geometry i.geometry g ≡ true → image_for g text ≡ Ok i
 same g text i is e = ap (if_same g) is ∙ rw e refl
 
-pub image_differs : (names : ReplayNames) (t : Trace) (text : List ℕ) (i : Image)
-    (old new : FolderView) (sink : SinkView) (chip : ChipView)
-    → LoadedAs names.image.now IMAGE_MAX text old new → image_of text ≡ Ok i
-    → same_geometry i.geometry t.geometry ≡ false
-    → ImageReplayed names t (world old sink chip) (world new sink chip) (Err stop.GeometryDiffers)
-image_differs names t text i old new sink chip loaded is other = record {
-  text = text;
-  is_text = loaded_text names.image.now IMAGE_MAX text (world old sink chip) (world new sink chip)
-      (loaded sink chip);
-  goes = loading_stops names.image.now IMAGE_MAX text (image_for t.geometry text)
-      (λ i. events_steps names.out.now t i) (Refused geometry_differs) (world old sink chip)
-      (world new sink chip)
-      (ap refusal_of (differs t.geometry text i is other), loaded sink chip);
-  nothing = tt;
-  done = tt;
-}
+-- its statuses, where it takes memory, and its files
 
-done_on : (t : Trace) (i : Image) (read : Result Image Refusal) (chip : ChipView)
-    (result : Result ℕ Stop) → read ≡ Ok i → IfOk result (λ refused. EventsDone t i chip)
-    → IfOk result (λ refused. DoneOnImage t read chip)
-done_on t i read chip (Ok refused) e d = rw e d
-done_on t i read chip (Err why) e d = tt
+trace_so : (P : ℕ → Type 0) (r : Result Trace TraceFault) → P 13
+    → IfErr (trace_or_refusal r) (λ refusal. P refusal.status)
+trace_so P (Ok t) thirteen = tt
+trace_so P (Err fault) thirteen = thirteen
 
-pub image_replayed_on : (names : ReplayNames) (t : Trace) (text : List ℕ) (i : Image)
-    (result : Result ℕ Stop) (old mid : FolderView) (sink : SinkView) (chip : ChipView)
-    (new : World) → LoadedAs names.image.now IMAGE_MAX text old mid → image_of text ≡ Ok i
-    → same_geometry i.geometry t.geometry ≡ true
-    → Goes (events_steps names.out.now t i) (end_of result) (world mid sink chip) new
-    → IfOk result (λ refused. refused ≡ 0)
-    → IfOk result (λ refused. EventsDone t i new.chip)
-    → ImageReplayed names t (world old sink chip) new result
-image_replayed_on names t text i result old mid sink chip new loaded is e g none d =
-    let read = same t.geometry text i is e in
-    record {
-      text = text;
-      is_text = loaded_text names.image.now IMAGE_MAX text (world old sink chip)
-          (world mid sink chip) (loaded sink chip);
-      goes = loading_goes names.image.now IMAGE_MAX text (image_for t.geometry text)
-          (λ i. events_steps names.out.now t i) i (end_of result) (world old sink chip)
-          (world mid sink chip) new read (loaded sink chip) g;
-      nothing = none;
-      done = done_on t i (image_for t.geometry text) new.chip result read d;
-    }
+trace_refuses : (P : ℕ → Type 0) → P 13 → (text : List ℕ)
+    → IfErr (trace_in text) (λ refusal. P refusal.status)
+trace_refuses P thirteen text = trace_so P (trace_read text) thirteen
 
--- TRACE
+same_so : (P : ℕ → Type 0) (b : Bool) (i : Image) → P 14
+    → IfErr (cond b (Ok i) (Err geometry_differs)) (λ refusal. P refusal.status)
+same_so P true i fourteen = tt
+same_so P false i fourteen = fourteen
 
-pub replay_unread : (names : ReplayNames) (why : Stop) (old new : FolderView) (sink : SinkView)
-    (chip : ChipView) → NotLoaded names.trace.now TRACE_MAX (reason_of why) old new
-    → ReplayGoes names (world old sink chip) (world new sink chip) (Err why)
-replay_unread names why old new sink chip n =
-    let text = known_text old.holds names.trace.now in
-    let image = known_text old.holds names.image.now in
-    record {
-      texts = record { trace = text; image = image };
-      read = record {
-        trace = known_is_text old.holds names.trace.now;
-        image = known_is_text old.holds names.image.now;
-      };
-      goes = loading_stops names.trace.now TRACE_MAX text (trace_in text)
-          (λ t. on_image_steps names t image) (reason_of why) (world old sink chip)
-          (world new sink chip) (n text (refusal_of (trace_in text)) sink chip);
-      nothing = tt;
-      done = tt;
-    }
+for_so : (P : ℕ → Type 0) (g : Geometry) (r : Result Found ImageFault) → P 7 → P 14
+    → IfErr (if_same g (image_or_refusal r)) (λ refusal. P refusal.status)
+for_so P g (Ok found) seven fourteen =
+    same_so P (same_geometry found.geometry g) (image_found found) fourteen
+for_so P g (Err fault) seven fourteen = seven
 
-trace_fails : (name text : List ℕ) (why : TraceNo) (a b : World)
-    → Loaded name TRACE_MAX text a b → IsTraceFault why (trace_read text)
-    → LoadFails name TRACE_MAX text (refusal_of (trace_in text)) (trace_reason why) a b
-trace_fails name text (trace_no.Fault fault) a b loaded is =
-    (ap (λ r. refusal_of (trace_or_refusal r)) is, loaded)
-trace_fails name text trace_no.NoMemory a b loaded is = loaded.reads
+image_refuses : (P : ℕ → Type 0) (g : Geometry) → P 7 → P 14 → (text : List ℕ)
+    → IfErr (image_for g text) (λ refusal. P refusal.status)
+image_refuses P g seven fourteen text = for_so P g (image_in text) seven fourteen
 
-pub trace_not_read : (names : ReplayNames) (text : List ℕ) (why : Stop) (fault : TraceNo)
-    (old new : FolderView) (sink : SinkView) (chip : ChipView)
-    → LoadedAs names.trace.now TRACE_MAX text old new → IsTraceFault fault (trace_read text)
-    → reason_of why ≡ trace_reason fault
-    → ReplayGoes names (world old sink chip) (world new sink chip) (Err why)
-trace_not_read names text why fault old new sink chip loaded is e =
-    let image = known_text old.holds names.image.now in
-    record {
-      texts = record { trace = text; image = image };
-      read = record {
-        trace = loaded_text names.trace.now TRACE_MAX text (world old sink chip)
-            (world new sink chip) (loaded sink chip);
-        image = known_is_text old.holds names.image.now;
-      };
-      goes = loading_stops names.trace.now TRACE_MAX text (trace_in text)
-          (λ t. on_image_steps names t image) (reason_of why) (world old sink chip)
-          (world new sink chip) (rw e (trace_fails names.trace.now text fault (world old sink chip)
-          (world new sink chip) (loaded sink chip) is));
-      nothing = tt;
-      done = tt;
-    }
+pub replay_gives : (names : ReplayNames) → GivesOwn (Replay names) (replay_plan names)
+replay_gives names =
+    let F = IsFailing (Replay names) in (
+      refl,
+      refl,
+      refl,
+      trace_refuses F refl,
+      λ text t u. (
+        refl,
+        refl,
+        refl,
+        image_refuses F t.geometry refl refl,
+        λ own i.
+            (((refl, refl), (refl, (refl, (refl, (refl, tt))))), refl),
+      ),
+    )
 
-done_by : (t : Trace) (read : Result Trace Refusal) (texts : ReplayTexts) (chip : ChipView)
-    (result : Result ℕ Stop) → read ≡ Ok t → IsTrace t → texts.trace ≡ bytes_of_trace t
-    → IfOk result (λ refused. DoneOnImage t (image_for t.geometry texts.image) chip)
-    → IfOk result (λ refused. DoneByTrace read texts chip)
-done_by t read texts chip (Ok refused) e legal spelled d = rw e (legal, spelled, d)
-done_by t read texts chip (Err why) e legal spelled d = tt
+pub replay_takes : (names : ReplayNames) → TakesFirst None (replay_plan names)
+replay_takes names = (
+  trace_refuses NotTen (λ e. cc),
+  λ text t u. (
+    image_refuses NotTen t.geometry (λ e. cc) (λ e. cc),
+    λ own i.
+        (((λ e. cc), ((λ e. cc), ((λ e. cc), ((λ e. cc), tt)))), (λ e. cc)),
+  ),
+)
 
-pub replay_went : (names : ReplayNames) (t : Trace) (text : List ℕ) (result : Result ℕ Stop)
-    (old mid : FolderView) (sink : SinkView) (chip : ChipView) (new : World)
-    → LoadedAs names.trace.now TRACE_MAX text old mid → trace_read text ≡ Ok t → IsTrace t
-    → text ≡ bytes_of_trace t → ImageReplayed names t (world mid sink chip) new result
-    → ReplayGoes names (world old sink chip) new result
-replay_went names t text result old mid sink chip new loads is legal spelled w =
-    let loaded = loads sink chip in
-    let held : mid.holds ≡ old.holds = loaded.reads.files in
-    let texts : ReplayTexts = record { trace = text; image = w.text } in
-    let read : trace_in text ≡ Ok t = ap trace_or_refusal is in
-    record {
-      texts = texts;
-      read = record {
-        trace = loaded_text names.trace.now TRACE_MAX text (world old sink chip)
-            (world mid sink chip) loaded;
-        image = subst (λ (holds : Option Files). IsText holds names.image.now w.text) held
-            w.is_text;
-      };
-      goes = loading_goes names.trace.now TRACE_MAX text (trace_in text)
-          (λ t. on_image_steps names t w.text) t (end_of result) (world old sink chip)
-          (world mid sink chip) new read loaded w.goes;
-      nothing = w.nothing;
-      done = done_by t (trace_in text) texts new.chip result read legal spelled w.done;
-    }
+-- no step after the loads loads a file
+pub none_loads : (out : List ℕ) (t : Trace) (i : Image)
+    → OfSteps (λ s. s ≡ 2 → ⊥) (events_steps out t i)
+none_loads out t i =
+    (((λ e. cc), (λ e. cc)), ((λ e. cc), ((λ e. cc), ((λ e. cc), ((λ e. cc), tt)))))
 
--- how it ends
+image_good : (P : ℕ → Type 0) (names : ReplayNames) (t : Trace) (holds : Option Files)
+    → IsImageFile (file_in holds names.image.now) → P 0 → P 14
+    → GoodFor P (replay_image_plan names t) holds
+image_good P names t holds good zero fourteen = (
+  good.text,
+  good.there,
+  good.within,
+  either (same_geometry good.value.geometry t.geometry) refl,
+)
+  where
+    either : (b : Bool) → same_geometry good.value.geometry t.geometry ≡ b
+        → ((value : Image) × (image_for t.geometry good.text ≡ Ok value)
+        × GoodFor P (events_plan names.out.now t value) holds)
+        ⊎ ((refusal : Refusal) × (image_for t.geometry good.text ≡ Err refusal)
+        × P refusal.status)
+    either true e = inl (
+      good.value,
+      same t.geometry good.text good.value good.accepted e,
+      (none_loads names.out.now t good.value, zero),
+    )
+    either false e = inr (
+      geometry_differs,
+      differs t.geometry good.text good.value good.accepted e,
+      fourteen,
+    )
 
-all_replayed : (ended : Ended) (texts : ReplayTexts) (chip : ChipView) → ended ≡ All
-    → DoneByTrace (trace_in texts.trace) texts chip → IsReplayed ended texts chip
-all_replayed ended texts chip is d =
-    subst (λ (x : Ended). IsReplayed x texts chip) (sym is) d
-
-none_replayed : (ended : Ended) (at : StopAt) (texts : ReplayTexts) (chip : ChipView)
-    → ended ≡ At at → IsReplayed ended texts chip
-none_replayed ended at texts chip is =
-    subst (λ (x : Ended). IsReplayed x texts chip) (sym is) tt
-
-pub replay_ends : (names : ReplayNames) (old mid new : World) (result : Result ℕ Stop)
-    (status : ℕ) → ReplayGoes names old mid result → Tells (end_of result) mid new
-    → status ≡ answer_to result → ReplayEnds names old new status
-replay_ends names old mid new (Ok refused) status g tells answers =
-    let e = all_ends (replay_steps names g.texts) 0 old mid new status g.goes tells
-    (answers ∙ ap done_status g.nothing) in
-    record {
-      texts = g.texts;
-      read = g.read;
-      ends = e.0;
-      done = all_replayed e.0.ended g.texts new.chip e.1
-          (subst (λ (w : World). DoneByTrace (trace_in g.texts.trace) g.texts w.chip) (sym tells)
-          g.done);
-    }
-replay_ends names old mid new (Err why) status g tells answers =
-    let s = stop_ends (replay_steps names g.texts) 0 (reason_of why) old mid new status g.goes tells
-    answers in
-    record {
-      texts = g.texts;
-      read = g.read;
-      ends = s.1;
-      done = none_replayed s.1.ended s.0 g.texts new.chip s.2;
-    }
+pub replay_good : (names : ReplayNames) (holds : Option Files)
+    → AreGood (Replay names) (file_in holds)
+    → GoodFor (IsOneOf (10 ∷ 0 ∷ 14 ∷ [])) (replay_plan names) holds
+replay_good names holds good =
+    let P = IsOneOf (10 ∷ 0 ∷ 14 ∷ []) in
+    good_file P names.trace.now TRACE_MAX trace_in (λ text t.
+    Makes {A = Unit {0}} (λ u. IsTrace t × (text ≡ bytes_of_trace t)) (λ u.
+    replay_image_plan names t)) holds good.0 (λ u has.
+    image_good P names good.0.value holds good.1 refl refl)
 
 -- what it promises
 
@@ -508,67 +427,39 @@ taken_by g text (Ok x) i e f =
     }
 taken_by g text (Err r) i e f = absurd (cc)
 
-on_images : (t : Trace) (read : Result Image Refusal) (i : Image) (chip : ChipView)
-    → read ≡ Ok i → DoneOnImage t read chip → EventsDone t i chip
-on_images t read i chip e d = rw e at d
-
-by_traces : (read : Result Trace Refusal) (texts : ReplayTexts) (t : Trace) (chip : ChipView)
-    → read ≡ Ok t → DoneByTrace read texts chip
-    → IsTrace t × (texts.trace ≡ bytes_of_trace t)
-    × DoneOnImage t (image_for t.geometry texts.image) chip
-by_traces read texts t chip e d = rw e at d
-
-steps_read : (names : ReplayNames) (texts : ReplayTexts) (rt : Result Trace Refusal)
-    (ri : Geometry → Result Image Refusal) (t : Trace) (i : Image) → rt ≡ Ok t
-    → ri t.geometry ≡ Ok i
-    → loading names.trace.now TRACE_MAX texts.trace rt (λ x.
-    loading names.image.now IMAGE_MAX texts.image (ri x.geometry)
-    (λ y. events_steps names.out.now x y))
-    ≡ Load names.trace.now TRACE_MAX texts.trace None
-    ∷ Load names.image.now IMAGE_MAX texts.image None ∷ events_steps names.out.now t i
-steps_read names texts rt ri t i e f = rw (e, f) refl
-
 pub replayed_by : (names : ReplayNames) (old new : World) (status : ℕ)
-    → (e : ReplayEnds names old new status)
-    → OfSteps (λ s. s ≡ status → ⊥) (replay_steps names e.texts)
+    → IsDelivered (replay_plan names) old new status
     → Known (λ before after. Replayed names before after old new) old.files.holds new.files.holds
-replayed_by names old new status e of =
-    let steps = replay_steps names e.texts in
-    let done = all_done steps 0 e.ends.ended old new status of e.ends.so in
-    let so : IsAllDone steps 0 old new status =
-    subst (λ (x : Ended). EndsSo steps 0 x old new status) done e.ends.so in
-    let known : IfSome old.files.holds (IsForetold steps All) =
-    subst (λ (x : Ended). IfSome old.files.holds (IsForetold steps x)) done e.ends.foretold in
-    let work : DoneByTrace (trace_in e.texts.trace) e.texts new.chip =
-    subst (λ (x : Ended). IsReplayed x e.texts new.chip) done e.done in
-    tell_both old.files.holds new.files.holds (λ before after. after ≡ files_after steps before)
-    (λ before after. Replayed names before after old new) (IsForetold steps All) so.files known
-    (λ before after there foretold files.
-    let one = was_read names.trace.now TRACE_MAX e.texts.trace (trace_in e.texts.trace) _ before
-    foretold in
-    let t = one.value in
-    let two = was_read names.image.now IMAGE_MAX e.texts.image (image_for t.geometry e.texts.image)
-    _ before one.goes_on in
-    let i = two.value in
-    let taken = taken_by t.geometry e.texts.image (image_of e.texts.image) i refl two.is in
-    let d = by_traces (trace_in e.texts.trace) e.texts t new.chip one.is work in
-    let events = on_images t (image_for t.geometry e.texts.image) i new.chip two.is d.2 in
-    let trace_at = text_at old.files.holds before names.trace.now one.bytes e.texts.trace there
-    e.read.trace one.there in
-    let image_at = text_at old.files.holds before names.image.now two.bytes e.texts.image there
-    e.read.image two.there in
-    let steps_are = steps_read names e.texts (trace_in e.texts.trace)
-    (λ g. image_for g e.texts.image) t i one.is two.is in
-    let stored = files ∙ ap (λ xs. files_after xs before) steps_are in
+replayed_by names old new status d =
+    known_delivered (replay_plan names) old new status
+    (λ before after. Replayed names before after old new) d
+    (λ before after said sent (
+      text,
+      trace_there,
+      trace_within,
+      t,
+      trace_is,
+      (
+        u,
+        legal,
+        (
+          own,
+          image_there,
+          image_within,
+          i,
+          image_is,
+          (more, said_is, (stored, none, answers, events)),
+        ),
+      ),
+    ).
+    let taken = taken_by t.geometry own (image_of own) i refl image_is in
     let line = replay_line (replay_counters t) in
-    let sends : sent_by steps ≡ replay_line new.chip.counters =
-    ap sent_by steps_are ∙ append-nil line ∙ ap replay_line (sym events.counters) in
     record {
       trace = t;
       image = i;
-      legal = d.0;
-      trace_is = trace_at ∙ ap (λ (x : List ℕ). Some x) d.1;
-      image_is = ap (read_as image_of) image_at ∙ ap result_ok taken.is;
+      legal = legal.0;
+      trace_is = trace_there ∙ ap (λ (x : List ℕ). Some x) legal.1;
+      image_is = ap (read_as image_of) image_there ∙ ap result_ok taken.is;
       same = taken.shape;
       events = events;
       file = ap (λ (f : Files). f names.out.now) stored
@@ -577,5 +468,6 @@ replayed_by names old new status e of =
           ∙ at_other other names.out.now (image_replayed t i) before
           (bytes_differ other names.out.now apart);
       sent = subst (λ (bytes : List ℕ). Known (λ x y. y ≡ x ++ bytes) old.sink.sent new.sink.sent)
-          sends so.sent;
+          (said_is ∙ ap (λ w. (line ++ []) ++ w) none ∙ append-nil (line ++ []) ∙ append-nil line
+          ∙ ap replay_line (sym events.counters)) sent;
     })

@@ -30,13 +30,13 @@ use Rattle.object_alloc.specs.declared.fault.ImageNo.{ImageNo}
 use Rattle.object_alloc.specs.declared.fault.ImageNo.TheVariants as no
 use Rattle.object_alloc.specs.Exact.{found_in}
 use Rattle.simdram_cli.specs.Stops.{end_of, image_reason, reason_of}
-use Rattle.simdram_cli.specs.Reads.{refusal_of, LoadedAs, NotLoaded, NotRead, OpsRead}
+use Rattle.cli_model.specs.Reads.{refusal_of, LoadedAs, NotLoaded, NotRead}
+use Rattle.simdram_cli.specs.Reads.{OpsRead}
 use Rattle.simdram_cli.specs.declared.job.JobNames.{JobNames}
 use Rattle.simdram_cli.specs.Job.{work_steps}
 use Rattle.simdram_cli.specs.Works.{WorkDone}
 use Rattle.simdram_cli.specs.Words.{are_apart, all_differ}
-use Rattle.simdram_cli.specs.Ends.{GoesToStore, StopsAtStore, ProgramTaken, ProgramStopped, DoneOn}
-use Rattle.simdram_cli.specs.Ends.{ImageWorked}
+use Rattle.simdram_cli.specs.Ends.{GoesToStore, StopsAtStore, ProgramTaken, ProgramStopped}
 use Rattle.simdram_cli.proofs.Joins.{known_text, known_is_text, loaded_text, loading_goes}
 use Rattle.simdram_cli.proofs.Joins.{loading_stops, AreOthers, no_sink, no_chip}
 use Rattle.simdram_cli.proofs.Reading.{ops_accepted}
@@ -113,96 +113,10 @@ stopped_by ops_name prog_name ops (Ok p) old mid new r g = tt
 stopped_by ops_name prog_name ops (Err stop) old mid new r g =
     program_unstored ops_name prog_name ops (reason_of stop) old mid new r g
 
--- IMAGE was not loaded
-pub image_unread : (names : JobNames) (program : Program) (script : List Instruction) (stop : Stop)
-    (old new : FolderView) (sink : SinkView) (chip : ChipView)
-    → NotLoaded names.image.now IMAGE_MAX (reason_of stop) old new
-    → ImageWorked names program script (world old sink chip) (world new sink chip) (Err stop)
-image_unread names program script stop old new sink chip n = record {
-  text = known_text old.holds names.image.now;
-  is_text = known_is_text old.holds names.image.now;
-  goes = loading_stops names.image.now IMAGE_MAX (known_text old.holds names.image.now)
-      (image_of (known_text old.holds names.image.now)) (λ i.
-      work_steps names.out.now program script i) (reason_of stop) (world old sink chip)
-      (world new sink chip) (n (known_text old.holds names.image.now)
-      (refusal_of (image_of (known_text old.holds names.image.now))) sink chip);
-  done = tt;
-}
-
--- IMAGE is refused
-pub image_refused : (names : JobNames) (program : Program) (script : List Instruction) (stop : Stop)
-    (text : List ℕ) (refusal : Refusal) (old new : FolderView) (sink : SinkView)
-    (chip : ChipView) → LoadedAs names.image.now IMAGE_MAX text old new
-    → image_of text ≡ Err refusal → reason_of stop ≡ Refused refusal
-    → ImageWorked names program script (world old sink chip) (world new sink chip) (Err stop)
-image_refused names program script stop text refusal old new sink chip loaded e f = record {
-  text = text;
-  is_text = loaded_text names.image.now IMAGE_MAX text (world old sink chip)
-      (world new sink chip) (loaded sink chip);
-  goes = loading_stops names.image.now IMAGE_MAX text (image_of text) (λ i.
-      work_steps names.out.now program script i) (reason_of stop) (world old sink chip)
-      (world new sink chip) (rw f (ap refusal_of e, loaded sink chip));
-  done = tt;
-}
-
--- there was no memory to read IMAGE
-pub image_no_memory : (names : JobNames) (program : Program) (script : List Instruction)
-    (stop : Stop) (text : List ℕ) (old new : FolderView) (sink : SinkView) (chip : ChipView)
-    → LoadedAs names.image.now IMAGE_MAX text old new
-    → reason_of stop ≡ NoMemory → ImageWorked names program script (world old sink chip)
-    (world new sink chip) (Err stop)
-image_no_memory names program script stop text old new sink chip loaded f = record {
-  text = text;
-  is_text = loaded_text names.image.now IMAGE_MAX text (world old sink chip)
-      (world new sink chip) (loaded sink chip);
-  goes = loading_stops names.image.now IMAGE_MAX text (image_of text) (λ i.
-      work_steps names.out.now program script i) (reason_of stop) (world old sink chip)
-      (world new sink chip) (rw f (loaded sink chip).reads);
-  done = tt;
-}
-
--- IMAGE is not read
-pub image_not_read : (names : JobNames) (program : Program) (script : List Instruction)
-    (stop : Stop) (why : ImageNo) (text : List ℕ) (old new : FolderView) (sink : SinkView)
-    (chip : ChipView) → LoadedAs names.image.now IMAGE_MAX text old new
-    → IsFault why (image_in text) → reason_of stop ≡ image_reason why
-    → ImageWorked names program script (world old sink chip) (world new sink chip) (Err stop)
-image_not_read names program script stop (no.Fault fault) text old new sink chip loaded e f =
-    image_refused names program script stop text (image_refusal fault) old new sink chip loaded
-    (ap image_or_refusal e) f
-image_not_read names program script stop no.NoMemory text old new sink chip loaded e f =
-    image_no_memory names program script stop text old new sink chip loaded f
-
 -- IMAGE is read
 pub image_is : (text : List ℕ) (found : Found) → image_in text ≡ Ok found
     → image_of text ≡ Ok (image_found found)
 image_is text found e = ap image_or_refusal e
-
-done_on : (program : Program) (script : List Instruction) (i : Image) (read : Result Image Refusal)
-    (chip : ChipView) (result : Result ℕ Stop) → read ≡ Ok i → IsImage i.geometry i.table i.rows
-    → AllByRecursion IsPlain script → IfOk result (WorkDone program script i chip)
-    → IfOk result (DoneOn program script read chip)
-done_on program script i read chip (Ok refused) e is plain w = rw e (is, plain, w)
-done_on program script i read chip (Err stop) e is plain w = tt
-
--- IMAGE was read, and the script done on it
-pub image_worked : (names : JobNames) (program : Program) (script : List Instruction) (i : Image)
-    (result : Result ℕ Stop) (text : List ℕ) (old mid : FolderView) (sink : SinkView)
-    (chip : ChipView) (new : World) → LoadedAs names.image.now IMAGE_MAX text old mid
-    → image_of text ≡ Ok i → IsImage i.geometry i.table i.rows → AllByRecursion IsPlain script
-    → Goes (work_steps names.out.now program script i) (end_of result) (world mid sink chip) new
-    → IfOk result (WorkDone program script i new.chip)
-    → ImageWorked names program script (world old sink chip) new result
-image_worked names program script i result text old mid sink chip new loaded e is plain g w =
-    record {
-      text = text;
-      is_text = loaded_text names.image.now IMAGE_MAX text (world old sink chip)
-          (world mid sink chip) (loaded sink chip);
-      goes = loading_goes names.image.now IMAGE_MAX text (image_of text) (λ x.
-          work_steps names.out.now program script x) i (end_of result) (world old sink chip)
-          (world mid sink chip) new e (loaded sink chip) g;
-      done = done_on program script i (image_of text) new.chip result e is plain w;
-    }
 
 pub not_true : (b : Bool) → not b ≡ true → b ≡ false
 not_true true e = absurd (cc)

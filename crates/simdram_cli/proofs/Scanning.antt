@@ -1,9 +1,10 @@
--- How a scan goes and ends, and what it promises.
+-- The facts of `scan`: how its parts go, its statuses, its files, its memory, and what one that is
+-- done promises.
 use Rattle.std.proofs.Common.{◌≡◌, ◌⊎◌, ℕ, ◌+◌, ◌*◌, ◌<◌, ◌≤◌, ◌^◌, Bool, true, List, [], ◌∷◌}
 use Rattle.std.proofs.Common.{◌++◌}
 use Rattle.std.proofs.Common.{Option, Some, None, refl, sym, ◌∙◌, ap, subst, inl, inr, arith}
 use Rattle.std.proofs.Common.{append-nil, map, length, zero-add}
-use Rattle.std.specs.Prelude.{Result, Ok, Err, IfSome, count_by, nat_le, ◌&&◌}
+use Rattle.std.specs.Prelude.{Result, Ok, Err, IfErr, IfSome, count_by, nat_le, ◌&&◌}
 use Rattle.std.specs.List.{range_with_len, list_any}
 use Rattle.std.specs.Option.{option_map}
 use Rattle.std.specs.Result.{IsOkAnd, result_ok}
@@ -59,68 +60,47 @@ use Rattle.scan_query.specs.Running.{AreBelow}
 use Rattle.scan_query.specs.declared.query.ScanReply.{ScanReply}
 use Rattle.scan_query.specs.declared.query.ScanReply.TheVariants as reply
 use Rattle.cli_model.specs.World.{World, world}
-use Rattle.cli_model.specs.Steps.{Step, Load, Take, Store, Open, Use, Put, Print, Refusal, Reason}
-use Rattle.cli_model.specs.Steps.{CannotRead, TooLong, Refused, NoMemory, CannotWrite, PutFailed}
-use Rattle.cli_model.specs.Steps.{ChipFailed, End, Done, Stopped, Goes, StepDone, Fails, Loaded}
-use Rattle.cli_model.specs.Steps.{loading}
+use Rattle.cli_model.specs.Steps.{Step, Take, Open, Use, Put, Refusal, Reason}
+use Rattle.cli_model.specs.Steps.{ChipFailed, End, Done, Stopped, Goes}
 use Rattle.cli_model.specs.Stands.{sent_by}
-use Rattle.cli_model.specs.Status.{Says, Tells, reason_line, reason_status}
-use Rattle.cli_model.specs.Ends.{Ended, All, At, Stop as StopAt, EndsSo, IsAllDone, IsForetold}
+use Rattle.cli_model.specs.Faultless.{file_in}
+use Rattle.cli_model.specs.Plan.{Makes, Plan, Then}
+use Rattle.cli_model.specs.Reads.{LoadedAs}
+use Rattle.cli_model.specs.Runs.{Runs, Went}
+use Rattle.cli_model.proofs.Delivering.{IsDelivered, if_delivered}
+use Rattle.cli_model.proofs.Delivers.{Delivers}
 use Rattle.cli_model.proofs.Going.{goes_on, stops}
-use Rattle.cli_model.proofs.Ending.{all_ends, stop_ends}
-use Rattle.cli_model.proofs.Statuses.{OfSteps, all_done}
+use Rattle.cli_model.proofs.Owed.{Gives, GoodFor, NotTen, TakesFirst}
+use Rattle.cli_model.proofs.Running.{if_all, runs_made, runs_stopped, runs_then}
+use Rattle.cli_model.proofs.Statuses.{OfSteps}
+use Rattle.simdram_cli.specs.declared.words.Command.TheVariants.{Scan}
 use Rattle.simdram_cli.specs.declared.words.ScanNames.{ScanNames}
 use Rattle.simdram_cli.specs.declared.words.TheConstants.{IMAGE_MAX, QUERY_MAX}
 use Rattle.simdram_cli.specs.declared.stop.Stop.{Stop}
 use Rattle.simdram_cli.specs.declared.stop.Stop.TheVariants as stop
+use Rattle.simdram_cli.specs.Commands.{CanAnswer}
+use Rattle.simdram_cli.specs.Complete.{AreGood}
 use Rattle.simdram_cli.specs.Headline.{read_as}
-use Rattle.simdram_cli.specs.Ends.{answer_to}
-use Rattle.simdram_cli.specs.Inputs.{image_found, image_of, image_or_refusal, image_refusal}
-use Rattle.simdram_cli.specs.Job.{done_status, opened_counters}
+use Rattle.simdram_cli.specs.Inputs.{image_found, image_of, image_or_refusal}
+use Rattle.simdram_cli.specs.Job.{opened_counters}
+use Rattle.simdram_cli.specs.Plans.{said_of}
 use Rattle.simdram_cli.specs.Queries.{Asks, AsksIn, query_in, query_refusal, scan_refusal}
 use Rattle.simdram_cli.specs.Queries.{unless_broken}
-use Rattle.simdram_cli.specs.Reads.{IsText, LoadedAs, NotLoaded, NotRead, refusal_of}
-use Rattle.simdram_cli.specs.Scan.{AnswerGoes, AreRead, DoesScans, ImageScanned, IsLeft, IsScanFile}
-use Rattle.simdram_cli.specs.Scan.{LeftBy, QueryDone, QueryRead, QueryStopped, ScanEnds, ScanGoes}
-use Rattle.simdram_cli.specs.Scan.{ScanLeft, ScanTexts}
-use Rattle.simdram_cli.specs.Scan.{Scanned, TellsLast, Went, answer_on, count_line, image_steps}
-use Rattle.simdram_cli.specs.Scan.{made_steps, number_found, put_steps, refusal_on, scan_counters}
-use Rattle.simdram_cli.specs.Scan.{scan_counts, scan_status, scan_steps, use_steps, why_not}
-use Rattle.simdram_cli.specs.Stops.{end_of, image_reason, reason_of}
+use Rattle.simdram_cli.specs.Scan.{AnswerGoes, DoesScans, IsScanFile, QueryDone, QueryRead}
+use Rattle.simdram_cli.specs.Scan.{QueryStopped, ScanLeft, Scanned, answer_on, answer_plan}
+use Rattle.simdram_cli.specs.Scan.{count_line, number_found, query_plan, scan_counters, scan_counts}
+use Rattle.simdram_cli.specs.Scan.{scan_image_plan, scan_plan, use_steps}
+use Rattle.simdram_cli.specs.Stops.{reason_of}
 use Rattle.simdram_cli.specs.Works.{OpenedOn}
-use Rattle.simdram_cli.proofs.Foreseen.{if_there, text_at, was_read}
-use Rattle.simdram_cli.proofs.Joins.{loaded_text, loading_goes, loading_stops, known_is_text}
-use Rattle.simdram_cli.proofs.Joins.{known_text}
+use Rattle.simdram_cli.proofs.Completes.{IsOneOf}
+use Rattle.simdram_cli.proofs.JobPlans.{good_file, image_refuses}
+use Rattle.simdram_cli.proofs.Keeping.{StoreNone, StoresNone}
+use Rattle.simdram_cli.proofs.Planned.{GivesOwn, IsFailing}
 use Rattle.simdram_cli.proofs.Progress.{Holds}
-use Rattle.simdram_cli.proofs.Stores.{nothing_read, sent, used}
+use Rattle.simdram_cli.proofs.Stores.{nothing_read, used}
 use Rattle.simdram_cli.proofs.Tallies.{both}
 
 -- a query text
-
-refused_text : (text : List ℕ) (b : Breach) → first_breach text ≡ Some b → query_in text ≡ Ok tt → ⊥
-refused_text text b e ok =
-    let fault : fault_in text ≡ Some (record { line = line_of text b.at; kind = b.kind }) =
-    ap (option_map (λ (x : Breach).
-    let f : QueryFault = record { line = line_of text x.at; kind = x.kind } in f)) e in
-    let refused = ap unless_broken fault in
-    cc
-
--- a query that the text asks, where it is accepted
-record AskedBy (text : List ℕ) : Type 0 where
-  query : Query
-  asks : query_in text ≡ Ok tt → Asks text query
-
-asked_from : (text : List ℕ) (b : Option Breach) → first_breach text ≡ b → AskedBy text
-asked_from text None e =
-    let (q, says) = (accepted (pieces_of text)).0 e in
-    record { query = q; asks = λ ok. says }
-asked_from text (Some b) e = record {
-  query = Compare cmp.Eq [] 0;
-  asks = λ ok. absurd (refused_text text b e ok);
-}
-
-asked_by : (text : List ℕ) → AskedBy text
-asked_by text = asked_from text (first_breach text) refl
 
 pub query_parsed : (name text : List ℕ) (nodes : List Node) (old new : FolderView)
     → LoadedAs name QUERY_MAX text old new → IsQueryOf text nodes → QueryRead name nodes old new
@@ -447,560 +427,267 @@ room_opened i chip ok o =
       reads = omega (arith, reads);
     }
 
--- answers are put
-
-pub put_failed : (found of : ℕ) (counts : Counts) (files : FolderView) (s t : SinkView)
-    (chip : ChipView)
-    → Known (AppendsPart (count_line found of counts)) s.sent t.sent → s.faults ≤ t.faults
-    → Rose s.faults t.faults
-    → Went (put_steps (Found found of counts)) None (λ view. Unit {0}) (Err stop.PutFailed)
-    (world files s chip) (world files t chip)
-put_failed found of counts files s t chip p n r =
-    inl (inr (refl, sent (AppendsPart (count_line found of counts)) files s t chip p n, r))
-
-pub put_done : (found of : ℕ) (counts : Counts) (files : FolderView) (s t : SinkView)
-    (chip : ChipView)
-    → Known (λ before after. after ≡ before ++ count_line found of counts) s.sent t.sent
-    → s.faults ≤ t.faults
-    → Went (put_steps (Found found of counts)) None (λ view. Unit {0}) (Ok 0)
-    (world files s chip) (world files t chip)
-put_done found of counts files s t chip p n = (
-  refl,
-  refl,
-  inl (
-    world files t chip,
-    (sent (λ before after. after ≡ before ++ count_line found of counts) files s t chip p n, refl),
-  ),
-  tt,
-)
-
-pub put_refused : (why : ScanWhy) (k : ℕ) (w : World)
-    → Went (put_steps (NotFound why k)) (why_not (NotFound why k)) (λ view. Unit {0})
-    (Err (stop.ScanRefused why k)) w w
-put_refused why k w = inr (scan_refusal why k, refl, refl, refl, tt)
-
--- the image
-
-pub image_unread : (name : List ℕ) (q : Query) (why : Stop) (old new : FolderView) (sink : SinkView)
-    (chip : ChipView) → NotLoaded name IMAGE_MAX (reason_of why) old new
-    → ImageScanned name q (world old sink chip) (world new sink chip) (Err why)
-image_unread name q why old new sink chip n =
-    let text = known_text old.holds name in
-    record {
-      text = text;
-      is_text = known_is_text old.holds name;
-      made = None;
-      does = tt;
-      went = inl (loading_stops name IMAGE_MAX text (image_of text) (λ i. made_steps None q i)
-          (reason_of why) (world old sink chip) (world new sink chip)
-          (n text (refusal_of (image_of text)) sink chip));
-    }
-
-image_reasons : (rest : Image → List Step) (name text : List ℕ) (why : ImageNo) (reason : Reason)
-    (a b : World) → Loaded name IMAGE_MAX text a b → IsFault why (image_in text)
-    → reason ≡ image_reason why
-    → Goes (loading name IMAGE_MAX text (image_of text) rest) (Stopped reason) a b
-image_reasons rest name text (no.Fault fault) reason a b loaded is e =
-    let refused : image_of text ≡ Err (image_refusal fault) = ap image_or_refusal is in
-    loading_stops name IMAGE_MAX text (image_of text) rest reason a b
-    (rw e (ap refusal_of refused, loaded))
-image_reasons rest name text no.NoMemory reason a b loaded is e =
-    loading_stops name IMAGE_MAX text (image_of text) rest reason a b (rw e loaded.reads)
-
-pub image_not_read : (name text : List ℕ) (q : Query) (why : Stop) (fault : ImageNo)
-    (old new : FolderView) (sink : SinkView) (chip : ChipView)
-    → LoadedAs name IMAGE_MAX text old new → IsFault fault (image_in text)
-    → reason_of why ≡ image_reason fault
-    → ImageScanned name q (world old sink chip) (world new sink chip) (Err why)
-image_not_read name text q why fault old new sink chip loaded is e = record {
-  text = text;
-  is_text = loaded_text name IMAGE_MAX text (world old sink chip) (world new sink chip)
-      (loaded sink chip);
-  made = None;
-  does = tt;
-  went = inl (image_reasons (λ i. made_steps None q i) name text fault (reason_of why)
-      (world old sink chip) (world new sink chip) (loaded sink chip) is e);
-}
+-- the image, and the plan from it on
 
 pub image_is : (text : List ℕ) (found : ImageIs) → image_in text ≡ Ok found
     → image_of text ≡ Ok (image_found found)
 image_is text found e = ap image_or_refusal e
 
--- no program was made
-pub no_program : (name text : List ℕ) (q : Query) (i : Image) (old new : FolderView)
-    (sink : SinkView) (chip : ChipView)
-    → LoadedAs name IMAGE_MAX text old new → image_of text ≡ Ok i
-    → ImageScanned name q (world old sink chip) (world new sink chip) (Err stop.NoMemory)
-no_program name text q i old new sink chip loaded is =
-    let a = world old sink chip in
-    let b = world new sink chip in
-    record {
-      text = text;
-      is_text = loaded_text name IMAGE_MAX text a b (loaded sink chip);
-      made = None;
-      does = tt;
-      went = inl (loading_goes name IMAGE_MAX text (image_of text) (λ x. made_steps None q x) i
-          (Stopped NoMemory) a b b is (loaded sink chip) (inr (refl, nothing_read b)));
-    }
+-- what follows an answer, whatever the chip is like then
+with_left : (left : ChipView → Type 0) (a : Answer) (result : Result ℕ Reason) (old new : World)
+    → left new.chip → Runs (answer_plan (λ view. Unit {0}) a) old new result
+    → Runs (answer_plan left a) old new result
+with_left left (Found found of counts) (Ok status) old new l r = record {
+  way = tt;
+  texts = if_all old.files.holds (λ files. Unit {0}) (λ files. tt);
+  went = (r.went.0, r.went.1, r.went.2, l);
+}
+with_left left (Found found of counts) (Err reason) old new l r = record {
+  way = tt;
+  texts = if_all old.files.holds (λ files. Unit {0}) (λ files. tt);
+  went = by_cases r.went;
+}
+  where
+    by_cases : Went (answer_plan (λ view. Unit {0}) (Found found of counts)) r.way (Err reason) old
+        new → Went (answer_plan left (Found found of counts)) tt (Err reason) old new
+    by_cases (inl g) = inl g
+    by_cases (inr (refusal, some, is, has, g, t)) = inr (refusal, some, is, has, g, l)
+with_left left (NotFound why k) (Ok status) old new l r = absurd (none_last r.went.1)
+  where
+    none_last : ◌≡◌ {A = Option Refusal} (Some (scan_refusal why k)) None → ⊥
+    none_last e = cc
+with_left left (NotFound why k) (Err reason) old new l r = record {
+  way = tt;
+  texts = if_all old.files.holds (λ files. Unit {0}) (λ files. tt);
+  went = by_cases r.went;
+}
+  where
+    by_cases : Went (answer_plan (λ view. Unit {0}) (NotFound why k)) r.way (Err reason) old new
+        → Went (answer_plan left (NotFound why k)) tt (Err reason) old new
+    by_cases (inl g) = inl g
+    by_cases (inr (refusal, some, is, has, g, t)) = inr (refusal, some, is, has, g, l)
 
--- the chip failed, or there was no memory to begin it
-pub image_unasked : (name text : List ℕ) (program : Program) (q : Query) (i : Image) (why : Stop)
-    (old mid : FolderView) (sink : SinkView) (chip : ChipView) (new : World) → DoesScans program
-    → LoadedAs name IMAGE_MAX text old mid → image_of text ≡ Ok i
-    → AnswerGoes program q i (Err why) (world mid sink chip) new
-    → ImageScanned name q (world old sink chip) new (Err why)
-image_unasked name text program q i why old mid sink chip new does loaded is g =
-    let a = world old sink chip in
-    let b = world mid sink chip in
-    record {
-      text = text;
-      is_text = loaded_text name IMAGE_MAX text a b (loaded sink chip);
-      made = Some program;
-      does = does;
-      went = inl (loading_goes name IMAGE_MAX text (image_of text) (λ x.
-          made_steps (Some program) q x) i (Stopped (reason_of why)) a b new is (loaded sink chip)
-          (stops (Take ∷ Open ∷ use_steps (checked i.table (nodes_of q)))
-          (put_steps (answer_on program q i)) (reason_of why) b new g));
-    }
+-- the chip failed, or there was no memory for the rows or to begin it
+pub query_unasked : (program : Program) (q : Query) (i : Image) (why : Stop) (old new : World)
+    → DoesScans program → AnswerGoes program q i (Err why) old new
+    → Runs (query_plan q i) old new (said_of (Err why))
+query_unasked program q i why old new does (inl (mid, (d, g))) =
+    runs_then (Take ∷ []) _ _ old mid new (inl (mid, (d, refl)))
+    (runs_made _ _ program _ _ _ does
+    (runs_stopped (Open ∷ use_steps (checked i.table (nodes_of q))) _ (reason_of why) mid new g))
+query_unasked program q i why old new does (inr f) =
+    runs_stopped (Take ∷ []) _ (reason_of why) old new (inr f)
 
--- what follows an answer
-went_on : (name text : List ℕ) (program : Program) (q : Query) (i : Image) (result : Result ℕ Stop)
-    (a b c new : World) → Loaded name IMAGE_MAX text a b → image_of text ≡ Ok i
-    → Goes (Take ∷ Open ∷ use_steps (checked i.table (nodes_of q))) Done b c
-    → ScanLeft program q i new.chip
-    → Went (put_steps (answer_on program q i)) (why_not (answer_on program q i)) (λ view. Unit {0})
-    result c new
-    → Went (image_steps name text (Some program) q) (refusal_on (Some program) q (image_of text))
-    (LeftBy (Some program) q (image_of text)) result a new
-went_on name text program q i (Ok refused) a b c new loaded is front left w =
-    let steps : Goes (image_steps name text (Some program) q) Done a new =
-    loading_goes name IMAGE_MAX text (image_of text) (λ x. made_steps (Some program) q x) i Done
-    a b new is loaded (goes_on (Take ∷ Open ∷ use_steps (checked i.table (nodes_of q)))
-    (put_steps (answer_on program q i)) Done b c new front w.2) in (
-      w.0,
-      ap (refusal_on (Some program) q) is ∙ w.1,
-      steps,
-      subst (λ (x : Result Image Refusal). LeftBy (Some program) q x new.chip) (sym is) left,
+took : (steps : List Step) (rest : Plan) (result : Result ℕ Reason) (old at new : World)
+    → Goes (Take ∷ steps) Done old at
+    → ((mid : World) → Goes steps Done mid at → Runs rest mid new result)
+    → Runs (Then (Take ∷ []) rest) old new result
+took steps rest result old at new (inl (mid, (d, g))) more =
+    runs_then (Take ∷ []) rest result old mid new (inl (mid, (d, refl))) (more mid g)
+took steps rest result old at new (inr f) more = absurd f
+
+pub query_asked : (program : Program) (q : Query) (i : Image) (said : ScanReply)
+    (result : Result ℕ Stop) (files : FolderView) (sink after : SinkView) (before chip : ChipView)
+    → DoesScans program
+    → AnswerGoes program q i (Ok said) (world files sink before) (world files sink chip)
+    → Runs (answer_plan (λ view. Unit {0}) (answer_of said)) (world files sink chip)
+    (world files after chip) (said_of result)
+    → Runs (query_plan q i) (world files sink before) (world files after chip) (said_of result)
+query_asked program q i said result files sink after before chip does g r =
+    let a = world files sink before in
+    let b = world files sink chip in
+    let c = world files after chip in
+    let steps = Open ∷ use_steps (checked i.table (nodes_of q)) in
+    let left = ScanLeft program q i in
+    let answered : Runs (answer_plan left (answer_on program q i)) b c (said_of result) =
+    with_left left (answer_on program q i) (said_of result) b c g.2
+    (subst (λ (x : Answer). Runs (answer_plan (λ view. Unit {0}) x) b c (said_of result)) g.0 r) in
+    took steps _ (said_of result) a b c g.1
+    (λ mid go. runs_made _ _ program _ _ _ does (runs_then steps _ _ mid b c go answered))
+
+-- its statuses, where it takes memory, and its files
+
+broken_so : (P : ℕ → Type 0) (fault : Option QueryFault) → P 15
+    → IfErr (unless_broken fault) (λ refusal. P refusal.status)
+broken_so P None fifteen = tt
+broken_so P (Some fault) fifteen = fifteen
+
+query_refuses : (P : ℕ → Type 0) → P 15 → (text : List ℕ)
+    → IfErr (query_in text) (λ refusal. P refusal.status)
+query_refuses P fifteen text = broken_so P (fault_in text) fifteen
+
+use_of : (P : ℕ → Type 0) (fault : Option (ScanWhy × ℕ)) → P 9 → OfSteps P (use_steps fault)
+use_of P None nine = (nine, tt)
+use_of P (Some fault) nine = tt
+
+answer_gives : (F D : ℕ → Type 0) (left : ChipView → Type 0) (a : Answer) → F 3 → F 16 → D 0
+    → Gives F D (answer_plan left a)
+answer_gives F D left (Found found of counts) three sixteen zero = ((three, tt), zero)
+answer_gives F D left (NotFound why k) three sixteen zero = sixteen
+
+pub scan_gives : (names : ScanNames) → GivesOwn (Scan names) (scan_plan names)
+scan_gives names =
+    let F = IsFailing (Scan names) in (
+      refl,
+      refl,
+      refl,
+      query_refuses F refl,
+      λ text u q. (
+        refl,
+        refl,
+        refl,
+        image_refuses F refl,
+        λ own i. (
+          (refl, tt),
+          λ program. (
+            ((refl, refl), use_of F (checked i.table (nodes_of q)) refl),
+            answer_gives F (CanAnswer (Scan names)) (ScanLeft program q i) (answer_on program q i) refl refl
+                refl,
+          ),
+        ),
+      ),
     )
-went_on name text program q i (Err why) a b c new loaded is front left (inl g) =
-    inl (loading_goes name IMAGE_MAX text (image_of text) (λ x. made_steps (Some program) q x) i
-    (Stopped (reason_of why)) a b new is loaded
-    (goes_on (Take ∷ Open ∷ use_steps (checked i.table (nodes_of q)))
-    (put_steps (answer_on program q i)) (Stopped (reason_of why)) b c new front g))
-went_on name text program q i (Err why) a b c new loaded is front left (inr r) =
-    let steps : Goes (image_steps name text (Some program) q) Done a new =
-    loading_goes name IMAGE_MAX text (image_of text) (λ x. made_steps (Some program) q x) i Done
-    a b new is loaded (goes_on (Take ∷ Open ∷ use_steps (checked i.table (nodes_of q)))
-    (put_steps (answer_on program q i)) Done b c new front r.3) in
-    inr (
-      r.0,
-      ap (refusal_on (Some program) q) is ∙ r.1,
-      r.2,
-      steps,
-      subst (λ (x : Result Image Refusal). LeftBy (Some program) q x new.chip) (sym is) left,
-    )
 
-pub image_scanned : (name text : List ℕ) (program : Program) (q : Query) (i : Image)
-    (said : ScanReply) (result : Result ℕ Stop) (old mid : FolderView) (sink after : SinkView)
-    (before chip : ChipView) → DoesScans program → LoadedAs name IMAGE_MAX text old mid
-    → image_of text ≡ Ok i
-    → AnswerGoes program q i (Ok said) (world mid sink before) (world mid sink chip)
-    → Went (put_steps (answer_of said)) (why_not (answer_of said)) (λ view. Unit {0}) result
-    (world mid sink chip) (world mid after chip)
-    → ImageScanned name q (world old sink before) (world mid after chip) result
-image_scanned name text program q i said result old mid sink after before chip does loaded is g w =
-    let a = world old sink before in
-    let b = world mid sink before in
-    record {
-      text = text;
-      is_text = loaded_text name IMAGE_MAX text a b (loaded sink before);
-      made = Some program;
-      does = does;
-      went = went_on name text program q i result a b (world mid sink chip) (world mid after chip)
-          (loaded sink before) is g.1 g.2
-          (subst (λ (x : Answer). Went (put_steps x) (why_not x) (λ view. Unit {0}) result
-          (world mid sink chip) (world mid after chip)) g.0 w);
-    }
-
--- the whole command
-
-pub scan_unread : (names : ScanNames) (why : Stop) (old new : FolderView) (sink : SinkView)
-    (chip : ChipView) → NotRead query_in names.query.now QUERY_MAX (reason_of why) old new
-    → ScanGoes names (world old sink chip) (world new sink chip) (Err why)
-scan_unread names why old new sink chip n =
-    let asked = asked_by n.text in
-    record {
-      texts = record { query = n.text; image = known_text old.holds names.image.now };
-      query = asked.query;
-      made = None;
-      read = record { query = n.is_text; image = known_is_text old.holds names.image.now };
-      asks = asked.asks;
-      does = tt;
-      went = inl (loading_stops names.query.now QUERY_MAX n.text (query_in n.text) _ (reason_of why)
-          (world old sink chip) (world new sink chip) (n.fails sink chip));
-    }
-
--- QUERY was loaded first
-after_query : (name text : List ℕ) (rest : List Step) (refusal : Option Refusal)
-    (left : ChipView → Type 0) (result : Result ℕ Stop) (a b new : World)
-    → Loaded name QUERY_MAX text a b → query_in text ≡ Ok tt → Went rest refusal left result b new
-    → Went (loading name QUERY_MAX text (query_in text) (λ t. rest)) refusal left result a new
-after_query name text rest refusal left (Ok refused) a b new loaded ok w = (
-  w.0,
-  w.1,
-  loading_goes name QUERY_MAX text (query_in text) (λ t. rest) tt Done a b new ok loaded w.2,
-  w.3,
-)
-after_query name text rest refusal left (Err why) a b new loaded ok (inl g) =
-    inl (loading_goes name QUERY_MAX text (query_in text) (λ t. rest) tt (Stopped (reason_of why))
-    a b new ok loaded g)
-after_query name text rest refusal left (Err why) a b new loaded ok (inr r) = inr (
-  r.0,
-  r.1,
-  r.2,
-  loading_goes name QUERY_MAX text (query_in text) (λ t. rest) tt Done a b new ok loaded r.3,
-  r.4,
+pub scan_takes : (names : ScanNames) → TakesFirst None (scan_plan names)
+scan_takes names = (
+  query_refuses NotTen (λ e. cc),
+  λ text u q. (
+    image_refuses NotTen (λ e. cc),
+    λ own i program. (
+      use_of NotTen (checked i.table (nodes_of q)) (λ e. cc),
+      answer_gives NotTen NotTen (ScanLeft program q i) (answer_on program q i) (λ e. cc) (λ e. cc)
+          (λ e. cc),
+    ),
+  ),
 )
 
-pub scan_went : (names : ScanNames) (nodes : List Node) (result : Result ℕ Stop)
-    (old mid : FolderView) (sink : SinkView) (chip : ChipView) (new : World)
-    → (r : QueryRead names.query.now nodes old mid)
-    → ImageScanned names.image.now r.tree (world mid sink chip) new result
-    → ScanGoes names (world old sink chip) new result
-scan_went names nodes result old mid sink chip new r w =
-    let loaded = r.loaded sink chip in
-    let held : mid.holds ≡ old.holds = loaded.reads.files in
-    record {
-      texts = record { query = r.text; image = w.text };
-      query = r.tree;
-      made = w.made;
-      read = record {
-        query = loaded_text names.query.now QUERY_MAX r.text (world old sink chip)
-            (world mid sink chip) loaded;
-        image = subst (λ (holds : Option Files). IsText holds names.image.now w.text) held
-            w.is_text;
-      };
-      asks = λ ok. r.asks;
-      does = w.does;
-      went = after_query names.query.now r.text _ _ _ result (world old sink chip)
-          (world mid sink chip) new loaded r.accepted w.went;
-    }
+answer_good : (P : ℕ → Type 0) (left : ChipView → Type 0) (a : Answer) (holds : Option Files) → P 0
+    → P 16 → GoodFor P (answer_plan left a) holds
+answer_good P left (Found found of counts) holds zero sixteen = (((λ e. cc), tt), zero)
+answer_good P left (NotFound why k) holds zero sixteen = sixteen
+
+pub scan_good : (names : ScanNames) (holds : Option Files) → AreGood (Scan names) (file_in holds)
+    → GoodFor (IsOneOf (10 ∷ 0 ∷ 16 ∷ [])) (scan_plan names) holds
+scan_good names holds good =
+    let P = IsOneOf (10 ∷ 0 ∷ 16 ∷ []) in
+    good_file P names.query.now QUERY_MAX query_in (λ text u. Makes (Asks text) (λ q.
+    scan_image_plan names.image.now q)) holds good.0 (λ q asks.
+    good_file P names.image.now IMAGE_MAX image_of (λ text i. query_plan q i) holds good.1 (
+      ((λ e. cc), tt),
+      λ program does. (
+        (
+          ((λ e. cc), (λ e. cc)),
+          use_of (λ s. s ≡ 2 → ⊥) (checked good.1.value.table (nodes_of q))
+              (λ e. cc),
+        ),
+        answer_good P (ScanLeft program q good.1.value)
+            (answer_on program q good.1.value) _ refl refl,
+      ),
+    ))
 
 -- no file changes
 
--- a step is no store
-abbrev IsNoStore : Step → Type 0
-IsNoStore (Store name bytes) = ⊥
-IsNoStore (Load name limit text refusal) = Unit {0}
-IsNoStore Take = Unit {0}
-IsNoStore Open = Unit {0}
-IsNoStore Use = Unit {0}
-IsNoStore (Put bytes) = Unit {0}
-IsNoStore (Print bytes) = Unit {0}
+use_none : (fault : Option (ScanWhy × ℕ)) → StoreNone (use_steps fault)
+use_none None = (tt, tt)
+use_none (Some fault) = tt
 
-abbrev StoreNone : List Step → Type 0
-StoreNone [] = Unit {0}
-StoreNone (step ∷ steps) = IsNoStore step × StoreNone steps
+answer_none : (left : ChipView → Type 0) (a : Answer) → StoresNone (answer_plan left a)
+answer_none left (Found found of counts) = ((tt, tt), tt)
+answer_none left (NotFound why k) = tt
 
-does_keep : (step : Step) (a b : World) → IsNoStore step → StepDone step a b
-    → b.files.holds ≡ a.files.holds
-does_keep (Load name limit text refusal) a b n d = d.1.reads.files
-does_keep Take a b n d = d.files
-does_keep (Store name bytes) a b n d = absurd n
-does_keep Open a b n d = ap (λ (f : FolderView). f.holds) d.files
-does_keep Use a b n d = ap (λ (f : FolderView). f.holds) d.files
-does_keep (Put bytes) a b n d = ap (λ (f : FolderView). f.holds) d.files
-does_keep (Print bytes) a b n d = ap (λ (f : FolderView). f.holds) d.files
-
-load_keeps : (name : List ℕ) (limit : ℕ) (text : List ℕ) (refusal : Option Refusal)
-    (reason : Reason) (a b : World) → Fails (Load name limit text refusal) reason a b
-    → b.files.holds ≡ a.files.holds
-load_keeps name limit text refusal (CannotRead known) a b f = f.1.files
-load_keeps name limit text refusal (TooLong known) a b f = f.1.files
-load_keeps name limit text refusal (Refused r) a b f = f.1.reads.files
-load_keeps name limit text refusal NoMemory a b f = f.files
-load_keeps name limit text refusal (CannotWrite known) a b f = absurd f
-load_keeps name limit text refusal PutFailed a b f = absurd f
-load_keeps name limit text refusal ChipFailed a b f = absurd f
-
-fails_keep : (step : Step) (reason : Reason) (a b : World) → IsNoStore step
-    → Fails step reason a b → b.files.holds ≡ a.files.holds
-fails_keep (Load name limit text refusal) reason a b n f =
-    load_keeps name limit text refusal reason a b f
-fails_keep Take reason a b n f = f.1.files
-fails_keep (Store name bytes) reason a b n f = absurd n
-fails_keep Open reason a b n (inl f) = ap (λ (w : FolderView). w.holds) f.1.files
-fails_keep Open reason a b n (inr f) = ap (λ (w : FolderView). w.holds) f.1.files
-fails_keep Use reason a b n f = ap (λ (w : FolderView). w.holds) f.1.files
-fails_keep (Put bytes) reason a b n f = ap (λ (w : FolderView). w.holds) f.1.files
-fails_keep (Print bytes) reason a b n f = ap (λ (w : FolderView). w.holds) f.0.files
-
-goes_keep : (steps : List Step) (end : End) (a b : World) → StoreNone steps → Goes steps end a b
-    → b.files.holds ≡ a.files.holds
-goes_keep [] Done a b n e = ap (λ (w : World). w.files.holds) e
-goes_keep [] (Stopped reason) a b n e = absurd e
-goes_keep (step ∷ steps) end a b n (inl (mid, (d, g))) =
-    goes_keep steps end mid b n.1 g ∙ does_keep step a mid n.0 d
-goes_keep (step ∷ steps) Done a b n (inr f) = absurd f
-goes_keep (step ∷ steps) (Stopped reason) a b n (inr f) = fails_keep step reason a b n.0 f
-
-loading_none : {A : Type 0} (name : List ℕ) (limit : ℕ) (text : List ℕ) (read : Result A Refusal)
-    (rest : A → List Step) → ((x : A) → StoreNone (rest x))
-    → StoreNone (loading name limit text read rest)
-loading_none name limit text (Ok x) rest none = (tt, none x)
-loading_none name limit text (Err r) rest none = (tt, tt)
-
-answer_none : (o : Option (ScanWhy × ℕ)) (a : Answer) → StoreNone (use_steps o ++ put_steps a)
-answer_none None (Found found of counts) = (tt, (tt, tt))
-answer_none None (NotFound why k) = (tt, tt)
-answer_none (Some fault) (Found found of counts) = (tt, tt)
-answer_none (Some fault) (NotFound why k) = tt
-
-made_none : (made : Option Program) (q : Query) (i : Image) → StoreNone (made_steps made q i)
-made_none None q i = (tt, tt)
-made_none (Some program) q i =
-    (tt, (tt, answer_none (checked i.table (nodes_of q)) (answer_on program q i)))
-
-scan_none : (names : ScanNames) (texts : ScanTexts) (made : Option Program) (q : Query)
-    → StoreNone (scan_steps names texts made q)
-scan_none names texts made q =
-    loading_none names.query.now QUERY_MAX texts.query (query_in texts.query) _ (λ t.
-    loading_none names.image.now IMAGE_MAX texts.image (image_of texts.image) _ (λ i.
-    made_none made q i))
-
--- how it ends
-
-left_all : (ended : Ended) (made : Option Program) (q : Query) (image : Result Image Refusal)
-    (chip : ChipView) → ended ≡ All → LeftBy made q image chip → IsLeft ended made q image chip
-left_all ended made q image chip is left =
-    subst (λ (x : Ended). IsLeft x made q image chip) (sym is) left
-
-left_none : (ended : Ended) (at : StopAt) (made : Option Program) (q : Query)
-    (image : Result Image Refusal) (chip : ChipView) → ended ≡ At at
-    → IsLeft ended made q image chip
-left_none ended at made q image chip is =
-    subst (λ (x : Ended). IsLeft x made q image chip) (sym is) tt
-
-pub last_same : (ended : Ended) (at : StopAt) (refusal : Option Refusal) (w : World) → ended ≡ At at
-    → TellsLast ended refusal w w
-last_same ended at refusal w is =
-    subst (λ (x : Ended). TellsLast x refusal w w) (sym is) refl
-
-pub last_nothing : (ended : Ended) (refusal : Option Refusal) (old new : World) → ended ≡ All
-    → refusal ≡ None → new ≡ old → TellsLast ended refusal old new
-last_nothing ended refusal old new is none same =
-    subst (λ (x : Ended). TellsLast x refusal old new) (sym is)
-    (subst (λ (r : Option Refusal). TellsLast All r old new) (sym none) same)
-
-pub last_known : (ended : Ended) (refusal : Option Refusal) (known : Refusal) (old new : World)
-    → ended ≡ All → refusal ≡ Some known → Says known.line old new → TellsLast ended refusal old new
-last_known ended refusal known old new is some says =
-    subst (λ (x : Ended). TellsLast x refusal old new) (sym is)
-    (subst (λ (r : Option Refusal). TellsLast All r old new) (sym some) says)
-
-same_holds : (a b : World) → b.files ≡ a.files → b.files.holds ≡ a.files.holds
-same_holds a b e = ap (λ (f : FolderView). f.holds) e
-
-pub scan_ends : (names : ScanNames) (old mid new : World) (result : Result ℕ Stop) (status : ℕ)
-    → ScanGoes names old mid result → Tells (end_of result) mid new → status ≡ answer_to result
-    → ScanEnds names old new status
-scan_ends names old mid new (Ok refused) status g tells answers =
-    let steps = scan_steps names g.texts g.made g.query in
-    let refusal = refusal_on g.made g.query (image_of g.texts.image) in
-    let none : refusal ≡ None = g.went.1 in
-    let done : status ≡ scan_status refusal =
-    answers ∙ ap done_status g.went.0 ∙ sym (ap scan_status none) in
-    let e = all_ends steps (scan_status refusal) old mid mid status g.went.2 refl done in
-    record {
-      texts = g.texts;
-      query = g.query;
-      made = g.made;
-      read = g.read;
-      asks = g.asks;
-      does = g.does;
-      stood = mid;
-      ends = e.0;
-      last = last_nothing e.0.ended refusal mid new e.1 none tells;
-      left = left_all e.0.ended g.made g.query (image_of g.texts.image) new.chip e.1
-          (subst (λ (w : World). LeftBy g.made g.query (image_of g.texts.image) w.chip) (sym tells)
-          g.went.3);
-      files = ap (λ (w : World). w.files.holds) tells
-          ∙ goes_keep steps Done old mid (scan_none names g.texts g.made g.query) g.went.2;
-    }
-scan_ends names old mid new (Err why) status g tells answers =
-    scan_stopped names old mid new why status g g.went tells answers
-  where
-    scan_stopped : (names : ScanNames) (old mid new : World) (why : Stop) (status : ℕ)
-        → (g : ScanGoes names old mid (Err why))
-        → Went (scan_steps names g.texts g.made g.query)
-        (refusal_on g.made g.query (image_of g.texts.image))
-        (LeftBy g.made g.query (image_of g.texts.image)) (Err why) old mid
-        → Tells (Stopped (reason_of why)) mid new → status ≡ reason_status (reason_of why)
-        → ScanEnds names old new status
-    scan_stopped names old mid new why status g (inl w) says answers =
-        let steps = scan_steps names g.texts g.made g.query in
-        let refusal = refusal_on g.made g.query (image_of g.texts.image) in
-        let s = stop_ends steps (scan_status refusal) (reason_of why) old mid new status w says
-        answers in
-        record {
-          texts = g.texts;
-          query = g.query;
-          made = g.made;
-          read = g.read;
-          asks = g.asks;
-          does = g.does;
-          stood = new;
-          ends = s.1;
-          last = last_same s.1.ended s.0 refusal new s.2;
-          left = left_none s.1.ended s.0 g.made g.query (image_of g.texts.image) new.chip s.2;
-          files = same_holds mid new says.files
-              ∙ goes_keep steps (Stopped (reason_of why)) old mid
-              (scan_none names g.texts g.made g.query) w;
-        }
-    scan_stopped names old mid new why status g (inr w) says answers =
-        let steps = scan_steps names g.texts g.made g.query in
-        let refusal = refusal_on g.made g.query (image_of g.texts.image) in
-        let done : status ≡ scan_status refusal =
-        answers ∙ ap reason_status w.2 ∙ sym (ap scan_status w.1) in
-        let e = all_ends steps (scan_status refusal) old mid mid status w.3 refl done in
-        record {
-          texts = g.texts;
-          query = g.query;
-          made = g.made;
-          read = g.read;
-          asks = g.asks;
-          does = g.does;
-          stood = mid;
-          ends = e.0;
-          last = last_known e.0.ended refusal w.0 mid new e.1 w.1
-              (subst (λ (r : Reason). Says (reason_line r) mid new) w.2 says);
-          left = left_all e.0.ended g.made g.query (image_of g.texts.image) new.chip e.1
-              (subst (λ (k : ChipView). LeftBy g.made g.query (image_of g.texts.image) k)
-              (sym says.chip) w.4);
-          files = same_holds mid new says.files
-              ∙ goes_keep steps Done old mid (scan_none names g.texts g.made g.query) w.3;
-        }
+pub scan_none : (names : ScanNames) → StoresNone (scan_plan names)
+scan_none names = λ text u q own i. (
+  (tt, tt),
+  λ program. (
+    (tt, use_none (checked i.table (nodes_of q))),
+    answer_none (ScanLeft program q i) (answer_on program q i),
+  ),
+)
 
 -- what it promises
 
--- the answer of a scan that ended with status 0
-record Counted (program : Program) (q : Query) (i : Image) : Type 0 where
+-- what is delivered where it is done: the elements were counted, and their line was sent
+record Counted (left : Type 0) (a : Answer) (said : List ℕ) : Type 0 where
   found : ℕ
   of : ℕ
   counts : Counts
-  is : answer_on program q i ≡ Found found of counts
+  is : a ≡ Found found of counts
+  sends : said ≡ count_line found of counts
+  leaves : left
 
-counted_by : (program : Program) (q : Query) (i : Image) (a : Answer)
-    → answer_on program q i ≡ a → 0 ≡ scan_status (why_not a) → Counted program q i
-counted_by program q i (Found found of counts) is none =
-    record { found = found; of = of; counts = counts; is = is }
-counted_by program q i (NotFound why k) is none = absurd (cc)
+counted_by : (left : ChipView → Type 0) (a : Answer) (before after : Files) (said : List ℕ)
+    (chip : ChipView) (status : ℕ) → Delivers (answer_plan left a) before after said chip status
+    → Counted (left chip) a said
+counted_by left (Found found of counts) before after said chip status
+    (more, e, (same, none, own, l)) = record {
+      found = found;
+      of = of;
+      counts = counts;
+      is = refl;
+      sends = e ∙ ap (λ w. (count_line found of counts ++ []) ++ w) none
+          ∙ append-nil (count_line found of counts ++ [])
+          ∙ append-nil (count_line found of counts);
+      leaves = l;
+    }
+counted_by left (NotFound why k) before after said chip status d = absurd d
 
--- the program and the image of a scan that was done
-record Went0 (made : Option Program) (q : Query) (image : Result Image Refusal) (chip : ChipView)
-    : Type 0 where
-  program : Program
-  i : Image
-  made_is : made ≡ Some program
-  image_is : image ≡ Ok i
-  left : ScanLeft program q i chip
-
-went_by : (made : Option Program) (q : Query) (image : Result Image Refusal) (chip : ChipView)
-    → LeftBy made q image chip → Went0 made q image chip
-went_by (Some program) q (Ok i) chip left = record {
-  program = program;
-  i = i;
-  made_is = refl;
-  image_is = refl;
-  left = left;
-}
-went_by (Some program) q (Err r) chip left = absurd left
-went_by None q image chip left = absurd left
+use_quiet : (fault : Option (ScanWhy × ℕ)) → sent_by (use_steps fault) ≡ []
+use_quiet None = refl
+use_quiet (Some fault) = refl
 
 asks_at : (file : Option (List ℕ)) (text : List ℕ) (q : Query) → file ≡ Some text → Asks text q
     → AsksIn file q
 asks_at file text q e asks = subst (λ (o : Option (List ℕ)). AsksIn o q) (sym e) asks
 
-some_does : (made : Option Program) (program : Program) → made ≡ Some program
-    → IfSome made DoesScans → DoesScans program
-some_does made program e does = subst (λ (o : Option Program). IfSome o DoesScans) e does
-
-fits_sent : (o : Option (ScanWhy × ℕ)) (a : Answer) (found of : ℕ) (counts : Counts) → o ≡ None
-    → a ≡ Found found of counts
-    → sent_by (use_steps o ++ put_steps a) ≡ count_line found of counts
-fits_sent o a found of counts none is =
-    ap (λ x. sent_by (use_steps x ++ put_steps a)) none
-    ∙ ap (λ x. sent_by (put_steps x)) is ∙ append-nil (count_line found of counts)
-
-loading_sent : {A : Type 0} (name : List ℕ) (limit : ℕ) (text : List ℕ) (read : Result A Refusal)
-    (rest : A → List Step) (x : A) → read ≡ Ok x
-    → sent_by (loading name limit text read rest) ≡ sent_by (rest x)
-loading_sent name limit text read rest x e = rw e refl
-
-pub scanned : (names : ScanNames) (old new : World) (status : ℕ) → status ≡ 0
-    → (e : ScanEnds names old new status)
-    → OfSteps (λ s. s ≡ status → ⊥) (scan_steps names e.texts e.made e.query)
+pub scanned : (names : ScanNames) (old new : World) (status : ℕ)
+    → new.files.holds ≡ old.files.holds → IsDelivered (scan_plan names) old new status
     → IfSome old.files.holds (λ before. Scanned names before old new)
-scanned names old new status is e of =
-    let steps = scan_steps names e.texts e.made e.query in
-    let refusal = refusal_on e.made e.query (image_of e.texts.image) in
-    let done = all_done steps (scan_status refusal) e.ends.ended old e.stood status of e.ends.so in
-    let so : IsAllDone steps (scan_status refusal) old e.stood status =
-    subst (λ (x : Ended). EndsSo steps (scan_status refusal) x old e.stood status) done e.ends.so in
-    let known : IfSome old.files.holds (IsForetold steps All) =
-    subst (λ (x : Ended). IfSome old.files.holds (IsForetold steps x)) done e.ends.foretold in
-    let left : LeftBy e.made e.query (image_of e.texts.image) new.chip =
-    subst (λ (x : Ended). IsLeft x e.made e.query (image_of e.texts.image) new.chip) done e.left in
-    let last : TellsLast All refusal e.stood new =
-    subst (λ (x : Ended). TellsLast x refusal e.stood new) done e.last in
-    let w = went_by e.made e.query (image_of e.texts.image) new.chip left in
-    let none : refusal ≡ why_not (answer_on w.program e.query w.i) =
-    ap (λ m. refusal_on m e.query (image_of e.texts.image)) w.made_is
-    ∙ ap (refusal_on (Some w.program) e.query) w.image_is in
-    let c = counted_by w.program e.query w.i (answer_on w.program e.query w.i) refl
-    (sym is ∙ so.answers ∙ ap scan_status none) in
-    let f = found_on w.program e.query w.i c.found c.of c.counts c.is in
-    let same : new ≡ e.stood = subst (λ (r : Option Refusal). TellsLast All r e.stood new)
-    (none ∙ ap why_not c.is) last in
-    let line : count_line c.found c.of c.counts ≡ count_line (number_found e.query w.i)
-    (query_count w.i.table e.query) (scan_counts w.program e.query w.i) =
-    ap (λ n. count_line n c.of c.counts) (f.found_is ∙ number_is e.query w.i)
-    ∙ ap (λ n. count_line (number_found e.query w.i) n c.counts) f.of_is
-    ∙ ap (count_line (number_found e.query w.i) (query_count w.i.table e.query)) f.counts_are in
-    if_there old.files.holds (IsForetold steps All) (λ before. Scanned names before old new) known
-    (λ before there foretold.
-    let was = was_read names.query.now QUERY_MAX e.texts.query (query_in e.texts.query) _ before
-    foretold in
-    let then = was_read names.image.now IMAGE_MAX e.texts.image (image_of e.texts.image) _ before
-    was.goes_on in
-    let query_at = text_at old.files.holds before names.query.now was.bytes e.texts.query there
-    e.read.query was.there in
-    let image_at = text_at old.files.holds before names.image.now then.bytes e.texts.image there
-    e.read.image then.there in
-    let sends : sent_by steps ≡ count_line (number_found e.query w.i)
-    (query_count w.i.table e.query) (scan_counts w.program e.query w.i) =
-    loading_sent names.query.now QUERY_MAX e.texts.query (query_in e.texts.query) _ was.value was.is
-    ∙ loading_sent names.image.now IMAGE_MAX e.texts.image (image_of e.texts.image)
-    (λ i. made_steps e.made e.query i) w.i w.image_is
-    ∙ ap (λ m. sent_by (made_steps m e.query w.i)) w.made_is
-    ∙ fits_sent (checked w.i.table (nodes_of e.query)) (answer_on w.program e.query w.i) c.found
-    c.of c.counts f.fits c.is ∙ line in
+scanned names old new status files d =
+    if_delivered (scan_plan names) old new status (λ before. Scanned names before old new) d
+    (λ before after said sent (
+      text,
+      query_there,
+      query_within,
+      u,
+      query_is,
+      (
+        q,
+        asks,
+        (
+          own,
+          image_there,
+          image_within,
+          i,
+          image_is,
+          (one, e, (program, does, (two, f, answer))),
+        ),
+      ),
+    ).
+    let left = ScanLeft program q i in
+    let c = counted_by left (answer_on program q i) _ after two new.chip status answer in
+    let o = found_on program q i c.found c.of c.counts c.is in
+    let line : count_line c.found c.of c.counts ≡ count_line (number_found q i)
+    (query_count i.table q) (scan_counts program q i) =
+    ap (λ n. count_line n c.of c.counts) (o.found_is ∙ number_is q i)
+    ∙ ap (λ n. count_line (number_found q i) n c.counts) o.of_is
+    ∙ ap (count_line (number_found q i) (query_count i.table q)) o.counts_are in
+    let sends : said ≡ count_line (number_found q i) (query_count i.table q)
+    (scan_counts program q i) =
+    e ∙ f ∙ ap (λ w. w ++ two) (use_quiet (checked i.table (nodes_of q))) ∙ c.sends ∙ line in
     record {
-      query = e.query;
-      image = w.i;
-      program = w.program;
-      query_is = asks_at (before names.query.now) e.texts.query e.query query_at
-          (e.asks was.is);
-      image_is = ap (read_as image_of) image_at ∙ ap result_ok w.image_is;
-      does = some_does e.made w.program w.made_is e.does;
-      fits = f.fits;
-      room = f.room;
-      work = w.left.worked c.found c.of c.counts c.is;
+      query = q;
+      image = i;
+      program = program;
+      query_is = asks_at (before names.query.now) text q query_there asks;
+      image_is = ap (read_as image_of) image_there ∙ ap result_ok image_is;
+      does = does;
+      fits = o.fits;
+      room = o.room;
+      work = c.leaves.worked c.found c.of c.counts c.is;
       sent = subst (λ (bytes : List ℕ). Known (λ x y. y ≡ x ++ bytes) old.sink.sent new.sink.sent)
-          sends (subst (λ (v : World). Known (λ x y. y ≡ x ++ sent_by steps) old.sink.sent
-          v.sink.sent) (sym same) so.sent);
-      counters = w.left.counted c.found c.of c.counts c.is
-          ∙ ap (λ n. scan_counters w.i.geometry n c.counts) f.of_is
-          ∙ ap (scan_counters w.i.geometry (query_count w.i.table e.query)) f.counts_are;
-      files = e.files;
+          sends sent;
+      counters = c.leaves.counted c.found c.of c.counts c.is
+          ∙ ap (λ n. scan_counters i.geometry n c.counts) o.of_is
+          ∙ ap (scan_counters i.geometry (query_count i.table q)) o.counts_are;
+      files = files;
     })

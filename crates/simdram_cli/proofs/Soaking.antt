@@ -1,109 +1,50 @@
--- How a soak goes and ends.
-use Rattle.std.proofs.Common.{◌≡◌, ℕ, List, [], ◌∷◌, refl, sym, ◌∙◌, ap, subst, arith}
+-- How a soak goes by its plan, its statuses, its files, and what one that is done promises.
+use Rattle.std.proofs.Common.{◌≡◌, ◌⊎◌, ℕ, List, [], ◌∷◌, ◌++◌, Option, None, append-nil, inl, inr}
+use Rattle.std.proofs.Common.{refl, subst, sym}
 use Rattle.std.specs.Prelude.{Result, Ok, Err}
+use Rattle.host_edge.specs.Views.{Files, Known}
 use Rattle.uprog_code.specs.Shape.{Microprogram}
 use Rattle.cli_model.specs.World.{World}
-use Rattle.cli_model.specs.Steps.{Step}
-use Rattle.cli_model.specs.Status.{Tells}
-use Rattle.cli_model.specs.Ends.{Ended, Ends, EndsSo, IsAllDone}
-use Rattle.cli_model.proofs.Ending.{all_ends, stop_ends}
-use Rattle.cli_model.proofs.Statuses.{OfSteps, all_done}
+use Rattle.cli_model.specs.Steps.{ChipFailed, NoMemory, PutFailed, Reason, Step}
+use Rattle.cli_model.specs.Stands.{sent_by}
+use Rattle.cli_model.specs.Ends.{Ended, All, EndsSo, IsAllDone}
+use Rattle.cli_model.specs.Plan.{Way, last_status, refused_last, steps_of}
+use Rattle.cli_model.specs.Runs.{LeavesAt, Runs, TellsLast}
+use Rattle.cli_model.proofs.Giving.{IsAnswered, plan_gives}
+use Rattle.cli_model.proofs.Owed.{GoodFor}
+use Rattle.cli_model.proofs.Running.{runs_answered, runs_made, runs_stopped, runs_then}
+use Rattle.cli_model.proofs.Statuses.{OfSteps}
 use Rattle.soak_case.specs.declared.cases.Case.{Case}
 use Rattle.soak_case.specs.Cases.{soak_cases, source_kinds}
 use Rattle.soak_case.specs.Words.{after_all}
 use Rattle.soak_job.specs.Steps.{cases_steps, soak_steps}
 use Rattle.soak_job.specs.Done.{SoakGoes, SoakLeft}
+use Rattle.soak_job.specs.declared.job.SoakNo.{SoakNo}
 use Rattle.soak_job.specs.declared.job.SoakNo.TheVariants as no
-use Rattle.simdram_cli.specs.declared.stop.Stop.{Stop}
-use Rattle.simdram_cli.specs.declared.stop.Stop.TheVariants as stop
-use Rattle.simdram_cli.specs.Stops.{end_of, reason_of}
-use Rattle.simdram_cli.specs.Ends.{answer_to}
-use Rattle.simdram_cli.specs.Job.{done_status}
-use Rattle.simdram_cli.specs.Soak.{SoakEnds, SoakWent, Soaked}
+use Rattle.simdram_cli.specs.declared.words.Command.TheVariants.{Soak}
+use Rattle.simdram_cli.specs.Commands.{CanAnswer}
+use Rattle.simdram_cli.specs.Soak.{SoakEnds, Soaked, soak_plan}
+use Rattle.simdram_cli.proofs.Completes.{IsOneOf}
+use Rattle.simdram_cli.proofs.Planned.{GivesOwn, IsFailing, failing_apart}
 
--- the job of a seed, as the command
+-- what the job of a seed says, as the command
+abbrev pub said_by : Result (Unit {0}) SoakNo → Result ℕ Reason
+said_by (Ok u) = Ok 0
+said_by (Err no.NoMemory) = Err NoMemory
+said_by (Err no.ChipFailed) = Err ChipFailed
+said_by (Err no.PutFailed) = Err PutFailed
 
-pub went : (seed : ℕ) (old new : World) (u : Unit {0}) → SoakGoes seed old new (Ok u)
-    → SoakWent seed old new (Ok 0)
-went seed old new u g = record {
-  programs = g.programs;
-  are = g.are;
-  goes = g.goes;
-  left = g.left;
-  nothing = refl;
-}
-
-pub no_memory : (seed : ℕ) (old new : World) → SoakGoes seed old new (Err no.NoMemory)
-    → SoakWent seed old new (Err stop.NoMemory)
-no_memory seed old new g = record {
-  programs = g.programs;
-  are = g.are;
-  goes = g.goes;
-  left = tt;
-  nothing = tt;
-}
-
-pub chip_failed : (seed : ℕ) (old new : World) → SoakGoes seed old new (Err no.ChipFailed)
-    → SoakWent seed old new (Err stop.ChipFailed)
-chip_failed seed old new g = record {
-  programs = g.programs;
-  are = g.are;
-  goes = g.goes;
-  left = tt;
-  nothing = tt;
-}
-
-pub put_failed : (seed : ℕ) (old new : World) → SoakGoes seed old new (Err no.PutFailed)
-    → SoakWent seed old new (Err stop.PutFailed)
-put_failed seed old new g = record {
-  programs = g.programs;
-  are = g.are;
-  goes = g.goes;
-  left = tt;
-  nothing = tt;
-}
-
--- how it ends
-
-never_zero : (s : Stop) (status : ℕ) → status ≡ answer_to (Err s) → status ≡ 0 → ⊥
-never_zero (stop.CannotRead name) status e z = omega (arith, e, z)
-never_zero (stop.TooLong name) status e z = omega (arith, e, z)
-never_zero (stop.BadOps fault) status e z = omega (arith, e, z)
-never_zero (stop.BadProg fault) status e z = omega (arith, e, z)
-never_zero (stop.BadScript fault) status e z = omega (arith, e, z)
-never_zero (stop.BadImage fault) status e z = omega (arith, e, z)
-never_zero (stop.BadQuery fault) status e z = omega (arith, e, z)
-never_zero (stop.ScanRefused why k) status e z = omega (arith, e, z)
-never_zero stop.TraceFull status e z = omega (arith, e, z)
-never_zero (stop.BadTrace fault) status e z = omega (arith, e, z)
-never_zero stop.GeometryDiffers status e z = omega (arith, e, z)
-never_zero (stop.GuardName k) status e z = omega (arith, e, z)
-never_zero (stop.GuardTable k) status e z = omega (arith, e, z)
-never_zero (stop.BadFlips fault) status e z = omega (arith, e, z)
-never_zero stop.NoMemory status e z = omega (arith, e, z)
-never_zero (stop.CannotWrite name) status e z = omega (arith, e, z)
-never_zero stop.PutFailed status e z = omega (arith, e, z)
-never_zero stop.ChipFailed status e z = omega (arith, e, z)
-
-pub soak_ends : (seed : ℕ) (old mid new : World) (result : Result ℕ Stop) (status : ℕ)
-    → SoakWent seed old mid result → Tells (end_of result) mid new → status ≡ answer_to result
-    → mid.files ≡ old.files → SoakEnds seed old new status
-soak_ends seed old mid new (Ok refused) status g tells answers files = record {
-  programs = g.programs;
-  are = g.are;
-  ends = (all_ends (soak_steps seed g.programs) 0 old mid new status g.goes tells
-      (answers ∙ ap done_status g.nothing)).0;
-  left = λ is. subst (λ (w : World). SoakLeft seed g.programs w.chip) (sym tells) g.left;
-  files = ap (λ (w : World). w.files) tells ∙ files;
-}
-soak_ends seed old mid new (Err s) status g tells answers files = record {
-  programs = g.programs;
-  are = g.are;
-  ends = (stop_ends (soak_steps seed g.programs) 0 (reason_of s) old mid new status g.goes tells
-      answers).1;
-  left = λ is. absurd (never_zero s status answers is);
-  files = tells.files ∙ files;
-}
+pub soak_runs : (seed : ℕ) (old new : World) (result : Result (Unit {0}) SoakNo)
+    → SoakGoes seed old new result → Runs (soak_plan seed) old new (said_by result)
+soak_runs seed old new (Ok u) g = runs_made _ _ g.programs _ _ _ g.are
+    (runs_then (soak_steps seed g.programs) _ _ old new new g.goes
+    (runs_answered 0 (SoakLeft seed g.programs) new g.left))
+soak_runs seed old new (Err no.NoMemory) g = runs_made _ _ g.programs _ _ _ g.are
+    (runs_stopped (soak_steps seed g.programs) _ NoMemory old new g.goes)
+soak_runs seed old new (Err no.ChipFailed) g = runs_made _ _ g.programs _ _ _ g.are
+    (runs_stopped (soak_steps seed g.programs) _ ChipFailed old new g.goes)
+soak_runs seed old new (Err no.PutFailed) g = runs_made _ _ g.programs _ _ _ g.are
+    (runs_stopped (soak_steps seed g.programs) _ PutFailed old new g.goes)
 
 -- the statuses that its steps can give
 
@@ -124,21 +65,45 @@ pub soak_of : (P : ℕ → Type 0) (seed : ℕ) (ms : List Microprogram) → P 3
 soak_of P seed ms three nine ten =
     ((nine, ten), cases_of P seed soak_cases ms three nine ten)
 
--- what it leaves where it is done
+pub soak_gives : (seed : ℕ) → GivesOwn (Soak seed) (soak_plan seed)
+soak_gives seed = λ programs. (soak_of (IsFailing (Soak seed)) seed programs refl refl refl, refl)
 
-sent_all : (steps : List Step) (old new : World) (status : ℕ) → Ends steps 0 old new status
-    → OfSteps (λ s. s ≡ status → ⊥) steps → IsAllDone steps 0 old new status
-sent_all steps old new status e of =
-    subst (λ (x : Ended). EndsSo steps 0 x old new status)
-    (all_done steps 0 e.ended old new status of e.so) e.so
+pub soak_good : (seed : ℕ) (holds : Option Files)
+    → GoodFor (IsOneOf (10 ∷ 0 ∷ [])) (soak_plan seed) holds
+soak_good seed holds = λ programs are.
+    (soak_of (λ s. s ≡ 2 → ⊥) seed programs (λ e. cc) (λ e. cc) (λ e. cc), refl)
 
+-- what it leaves where it is done, in any folder
 pub soaked : (seed : ℕ) (old new : World) (status : ℕ) → status ≡ 0
-    → (e : SoakEnds seed old new status)
-    → OfSteps (λ s. s ≡ status → ⊥) (soak_steps seed e.programs) → Soaked seed old new
-soaked seed old new status is e of = record {
-  programs = e.programs;
-  are = e.are;
-  left = e.left is;
-  sent = (sent_all (soak_steps seed e.programs) old new status e.ends of).sent;
-  files = e.files;
-}
+    → SoakEnds seed old new status → Soaked seed old new
+soaked seed old new status is (e, files) =
+    by_cases (plan_gives (IsFailing (Soak seed)) (CanAnswer (Soak seed)) (soak_plan seed) old new
+    status (soak_gives seed) e)
+  where
+    at_end : (way : Way (soak_plan seed)) (stood : World) (ended : Ended) → ended ≡ All
+        → EndsSo (steps_of (soak_plan seed) way) (last_status (soak_plan seed) way) ended old stood
+        status → TellsLast ended (refused_last (soak_plan seed) way) stood new
+        → LeavesAt ended (soak_plan seed) way new.chip → Soaked seed old new
+    at_end (inl cut) stood ended all so last left =
+        absurd (subst (λ (x : Ended). LeavesAt x (soak_plan seed) (inl cut) new.chip) all left)
+    at_end (inr (programs, are, u)) stood ended all so last left =
+        let way : Way (soak_plan seed) = inr (programs, are, u) in
+        let steps = soak_steps seed programs in
+        let done : IsAllDone (steps ++ []) 0 old stood status =
+        subst (λ (x : Ended). EndsSo (steps ++ []) 0 x old stood status) all so in
+        let same : new ≡ stood = subst (λ (x : Ended). TellsLast x None stood new) all last in
+        record {
+          programs = programs;
+          are = are;
+          left = subst (λ (x : Ended). LeavesAt x (soak_plan seed) way new.chip) all left;
+          sent = subst (λ (xs : List Step). Known (λ x y. y ≡ x ++ sent_by xs) old.sink.sent
+              new.sink.sent) (append-nil steps)
+              (subst (λ (w : World). Known (λ x y. y ≡ x ++ sent_by (steps ++ [])) old.sink.sent
+              w.sink.sent) (sym same) done.sent);
+          files = files;
+        }
+
+    by_cases : IsAnswered (CanAnswer (Soak seed)) (soak_plan seed) e.way e.ends.ended status
+        ⊎ IsFailing (Soak seed) status → Soaked seed old new
+    by_cases (inl a) = at_end e.way e.stood e.ends.ended a.all e.ends.so e.last e.left
+    by_cases (inr f) = absurd (failing_apart (Soak seed) status (inl is) f)

@@ -104,14 +104,6 @@ some_words g e =
     let three = both (nat_le 1 g.words) (nat_le g.words 1024) two.1 in
     leb-true 1 g.words three.0
 
--- the objects of an image that is accepted are in its banks
-pub image_holds : (i : Image) → IsImage i.geometry i.table i.rows → Holds i.geometry i.table
-image_holds i is = record {
-  words = some_words i.geometry is.geometry;
-  fits = fits_banks i.geometry i.table
-      (record { listed = is.listed; objects = is.objects });
-}
-
 -- a script that was done to its end
 pub work_done : (program : Program) (script : List Instruction) (i : Image) (a b c : ChipView)
     (refused : ℕ) → Holds i.geometry i.table → OpenedOn i a

@@ -46,29 +46,22 @@ use Rattle.trace_job.proofs.Going.{steps_are_below}
 use Rattle.cli_model.specs.World.{World, world}
 use Rattle.cli_model.specs.Steps.{Step, Open, Use, Store, Put, Refusal, Reason, Refused}
 use Rattle.cli_model.specs.Steps.{CannotWrite, PutFailed, ChipFailed, End, Done, Stopped}
-use Rattle.cli_model.specs.Steps.{Goes, Loaded, Stored, Unstored, loading}
+use Rattle.cli_model.specs.Steps.{Goes, Stored, Unstored}
+use Rattle.cli_model.specs.Runs.{Runs}
 use Rattle.cli_model.proofs.Going.{goes_on, stops}
+use Rattle.cli_model.proofs.Running.{runs_answered, runs_refused, runs_stopped, runs_then}
 use Rattle.simdram_cli.specs.declared.words.TraceNames.{TraceNames}
-use Rattle.simdram_cli.specs.declared.words.TheConstants.{PROG_MAX, SCRIPT_MAX, IMAGE_MAX}
 use Rattle.simdram_cli.specs.declared.stop.Stop.{Stop}
 use Rattle.simdram_cli.specs.declared.stop.Stop.TheVariants as stop
-use Rattle.simdram_cli.specs.Inputs.{image_of, image_or_refusal, script_in}
-use Rattle.simdram_cli.specs.Programs.{prog_in, prog_refusal, program_or_refusal}
-use Rattle.simdram_cli.specs.Reads.{LoadedAs, NotLoaded, NotRead, ReadAs, IsText, refusal_of}
-use Rattle.simdram_cli.specs.Stops.{image_reason, reason_of, trace_full}
-use Rattle.simdram_cli.specs.Job.{Texts, image_by, instr_steps, opened_counters, piece_steps}
+use Rattle.simdram_cli.specs.Stops.{reason_of, trace_full}
+use Rattle.simdram_cli.specs.Job.{done_status, image_by, instr_steps, opened_counters, piece_steps}
 use Rattle.simdram_cli.specs.Job.{pieces_steps, put_lines, refused_by, script_steps, tally_by}
+use Rattle.simdram_cli.specs.Plans.{said_of}
 use Rattle.simdram_cli.specs.Works.{WorkDone}
-use Rattle.simdram_cli.specs.Ends.{DoneBy, DoneOn, IsRead, JobDone}
-use Rattle.simdram_cli.specs.Exec.{IsDoneAs, exec_names}
-use Rattle.simdram_cli.specs.Tracing.{Came, ImageTraced, JobTraced, OpensOn, ScriptRecorded}
-use Rattle.simdram_cli.specs.Tracing.{ScriptTraced, TraceGoes, events_on, exec_of, fits, full_by}
-use Rattle.simdram_cli.specs.Tracing.{full_on, full_with, image_on, reads_on, recorded_steps}
-use Rattle.simdram_cli.specs.Tracing.{steps_on, store_steps, total_steps, traced_steps}
+use Rattle.simdram_cli.specs.Tracing.{OpensOn, ScriptRecorded, ScriptTraced, TraceLeft, events_on}
+use Rattle.simdram_cli.specs.Tracing.{fits, full_plan, image_on, reads_on, recorded_steps, steps_on}
+use Rattle.simdram_cli.specs.Tracing.{store_steps, total_steps, traced_plan, traced_steps}
 use Rattle.simdram_cli.specs.Tracing.{unless_fits, unlogged}
-use Rattle.simdram_cli.proofs.Joins.{loaded_text, loading_goes, loading_stops, no_texts}
-use Rattle.simdram_cli.proofs.Joins.{known_is_text, known_text}
-use Rattle.simdram_cli.proofs.Migrating.{prog_is}
 use Rattle.simdram_cli.proofs.Progress.{Holds, holds_of}
 use Rattle.simdram_cli.proofs.Stores.{nothing_read, sent, used}
 use Rattle.simdram_cli.proofs.Tallies.{tally_is}
@@ -539,11 +532,6 @@ module _ (names : TraceNames) (script : List Instruction) (m : Machine) (files :
         own_left,
       )
 
--- no memory for the recorder, and none or a fault at the opening
-pub no_room : (names : TraceNames) (program : Program) (script : List Instruction) (i : Image)
-    (w : World) → ScriptTraced names program script i w w (Err stop.NoMemory)
-no_room names program script i w = inl (inr (refl, nothing_read w))
-
 pub not_opened : (names : TraceNames) (program : Program) (script : List Instruction) (i : Image)
     (why : Stop) (a b : World) → Goes (Open ∷ []) (Stopped (reason_of why)) a b
     → ScriptTraced names program script i a b (Err why)
@@ -646,206 +634,55 @@ total_sent names program script i refused a b files s t chip g w p n =
       w.2,
     )
 
--- files that are loaded before
+-- so it goes by its plan
 
-came_on : {A : Type 0} (name : List ℕ) (limit : ℕ) (text : List ℕ) (read : Result A Refusal)
-    (rest : A → List Step) (value : A) (full full' : Option Refusal)
-    (done done' : ChipView → ℕ → Type 0) (result : Result ℕ Stop) (a b c : World) → read ≡ Ok value
-    → Loaded name limit text a b → full' ≡ full
-    → ((chip : ChipView) (refused : ℕ) → done chip refused → done' chip refused)
-    → Came (rest value) full done result b c
-    → Came (loading name limit text read rest) full' done' result a c
-came_on name limit text read rest value full full' done done' (Ok refused) a b c e l f more w = (
-  f ∙ w.0,
-  loading_goes name limit text read rest value Done a b c e l w.1,
-  more (unlogged c.chip) refused w.2,
-)
-came_on name limit text read rest value full full' done done' (Err why) a b c e l f more (inl g) =
-    inl (loading_goes name limit text read rest value (Stopped (reason_of why)) a b c e l g)
-came_on name limit text read rest value full full' done done' (Err why) a b c e l f more (inr w) =
-    inr (
-      w.0,
-      f ∙ w.1,
-      w.2,
-      loading_goes name limit text read rest value Done a b c e l w.3,
-      (w.4.0, more (unlogged c.chip) w.4.0 w.4.1),
-    )
+full_done : (all : Bool) (program : Program) (script : List Instruction) (i : Image) (refused : ℕ)
+    (at : World) → all ≡ true → refused ≡ refused_by program script i
+    → TraceLeft program script i at.chip
+    → Runs (full_plan all program script i) at at (Ok (done_status refused))
+full_done true program script i refused at e is left =
+    subst (λ n. Runs (full_plan true program script i) at at (Ok n)) (sym (ap done_status is))
+    (runs_answered (done_status (refused_by program script i)) (TraceLeft program script i) at left)
+full_done false program script i refused at e is left = absurd (cc)
 
--- IMAGE was not loaded, or is not read, or the script was done on it
-pub image_not_loaded : (names : TraceNames) (program : Program) (script : List Instruction)
-    (why : Stop) (old new : FolderView) (sink : SinkView) (chip : ChipView)
-    → NotLoaded names.image.now IMAGE_MAX (reason_of why) old new
-    → ImageTraced names program script (world old sink chip) (world new sink chip) (Err why)
-image_not_loaded names program script why old new sink chip n =
-    let text = known_text old.holds names.image.now in
-    record {
-      text = text;
-      is_text = known_is_text old.holds names.image.now;
-      came = inl (loading_stops names.image.now IMAGE_MAX text (image_of text) _ (reason_of why)
-          (world old sink chip) (world new sink chip)
-          (n text (refusal_of (image_of text)) sink chip));
-    }
+full_refused : (all : Bool) (program : Program) (script : List Instruction) (i : Image)
+    (said : Refusal) (reason : Reason) (at : World) → unless_fits all ≡ Some said
+    → reason ≡ Refused said → TraceLeft program script i at.chip
+    → Runs (full_plan all program script i) at at (Err reason)
+full_refused true program script i said reason at e is left = absurd (cc)
+full_refused false program script i said reason at e is left =
+    let same : trace_full ≡ said = cc in
+    subst (λ (x : Reason). Runs (full_plan false program script i) at at (Err x))
+    (ap (λ x. Refused x) same ∙ sym is)
+    (runs_refused trace_full (TraceLeft program script i) at left)
 
-pub image_no_image : (names : TraceNames) (program : Program) (script : List Instruction)
-    (why : Stop) (fault : ImageNo) (text : List ℕ) (old new : FolderView) (sink : SinkView)
-    (chip : ChipView) → LoadedAs names.image.now IMAGE_MAX text old new
-    → IsFault fault (image_in text) → reason_of why ≡ image_reason fault
-    → ImageTraced names program script (world old sink chip) (world new sink chip) (Err why)
-image_no_image names program script why (no.Fault fault) text old new sink chip loaded e f =
-    record {
-      text = text;
-      is_text = loaded_text names.image.now IMAGE_MAX text (world old sink chip)
-          (world new sink chip) (loaded sink chip);
-      came = inl (loading_stops names.image.now IMAGE_MAX text (image_of text) _ (reason_of why)
-          (world old sink chip) (world new sink chip)
-          (rw f (ap (λ r. refusal_of (image_or_refusal r)) e, loaded sink chip)));
-    }
-image_no_image names program script why no.NoMemory text old new sink chip loaded e f = record {
-  text = text;
-  is_text = loaded_text names.image.now IMAGE_MAX text (world old sink chip)
-      (world new sink chip) (loaded sink chip);
-  came = inl (loading_stops names.image.now IMAGE_MAX text (image_of text) _ (reason_of why)
-      (world old sink chip) (world new sink chip) (rw f (loaded sink chip).reads));
+-- of its own count of refusals
+own_count : (program : Program) (script : List Instruction) (i : Image) (chip : ChipView)
+    (refused : ℕ) → WorkDone program script i chip refused
+    → WorkDone program script i chip (refused_by program script i)
+own_count program script i chip refused w = record {
+  banks = w.banks;
+  counters = w.counters;
+  log = w.log;
+  refused_is = refl;
 }
 
-done_on : (program : Program) (script : List Instruction) (i : Image) (read : Result Image Refusal)
-    (chip : ChipView) (refused : ℕ) → read ≡ Ok i → IsImage i.geometry i.table i.rows
-    → AllByRecursion IsPlain script → WorkDone program script i chip refused
-    → DoneOn program script read chip refused
-done_on program script i read chip refused e is plain w = rw e (is, plain, w)
-
-pub image_traced : (names : TraceNames) (program : Program) (script : List Instruction) (i : Image)
-    (result : Result ℕ Stop) (text : List ℕ) (old mid : FolderView) (sink : SinkView)
-    (chip : ChipView) (new : World) → LoadedAs names.image.now IMAGE_MAX text old mid
-    → image_of text ≡ Ok i → IsImage i.geometry i.table i.rows → AllByRecursion IsPlain script
-    → ScriptTraced names program script i (world mid sink chip) new result
-    → ImageTraced names program script (world old sink chip) new result
-image_traced names program script i result text old mid sink chip new loaded e is plain came =
-    record {
-      text = text;
-      is_text = loaded_text names.image.now IMAGE_MAX text (world old sink chip)
-          (world mid sink chip) (loaded sink chip);
-      came = came_on names.image.now IMAGE_MAX text (image_of text)
-          (λ x. traced_steps names program script x) i (unless_fits (fits program script i))
-          (full_on program script (image_of text)) (WorkDone program script i)
-          (DoneOn program script (image_of text)) result (world old sink chip)
-          (world mid sink chip) new e (loaded sink chip) (ap (full_on program script) e)
-          (λ view refused. done_on program script i (image_of text) view refused e is plain) came;
-    }
-
--- SCRIPT was not read, or was done on the image
-pub script_not_read : (names : TraceNames) (program : Program) (why : Stop) (old new : FolderView)
-    (sink : SinkView) (chip : ChipView)
-    → NotRead script_in names.script.now SCRIPT_MAX (reason_of why) old new
-    → JobTraced names program (world old sink chip) (world new sink chip) (Err why)
-script_not_read names program why old new sink chip n = record {
-  texts = record { script = n.text; image = known_text old.holds names.image.now };
-  read = record { script = n.is_text; image = known_is_text old.holds names.image.now };
-  came = inl (loading_stops names.script.now SCRIPT_MAX n.text (script_in n.text) _ (reason_of why)
-      (world old sink chip) (world new sink chip) (n.fails sink chip));
-}
-
-done_by : (program : Program) (script : List Instruction) (read : Result (List Instruction) Refusal)
-    (image : Result Image Refusal) (chip : ChipView) (refused : ℕ) → read ≡ Ok script
-    → DoneOn program script image chip refused → DoneBy program read image chip refused
-done_by program script read image chip refused e d = rw e d
-
-pub job_traced : (names : TraceNames) (program : Program) (script : List Instruction)
-    (result : Result ℕ Stop) (old last : FolderView) (sink : SinkView) (chip : ChipView)
-    (new : World) → ReadAs script_in names.script.now SCRIPT_MAX script old last
-    → ImageTraced names program script (world last sink chip) new result
-    → JobTraced names program (world old sink chip) new result
-job_traced names program script result old last sink chip new s w =
-    let loaded = s.loaded sink chip in
-    let same : last.holds ≡ old.holds = loaded.reads.files in
-    record {
-      texts = record { script = s.text; image = w.text };
-      read = record {
-        script = loaded_text names.script.now SCRIPT_MAX s.text (world old sink chip)
-            (world last sink chip) loaded;
-        image = subst (λ (holds : Option Files). IsText holds names.image.now w.text) same
-            w.is_text;
-      };
-      came = came_on names.script.now SCRIPT_MAX s.text (script_in s.text) _ script
-          (full_on program script (image_of w.text))
-          (full_by program (script_in s.text) (image_of w.text))
-          (DoneOn program script (image_of w.text))
-          (DoneBy program (script_in s.text) (image_of w.text)) result (world old sink chip)
-          (world last sink chip) new s.value_is loaded
-          (ap (λ r. full_by program r (image_of w.text)) s.value_is)
-          (λ view refused. done_by program script (script_in s.text) (image_of w.text) view refused
-          s.value_is) w.came;
-    }
-
--- PROG was not loaded, or is no program file, or it came to its job
-pub prog_not_loaded : (names : TraceNames) (why : Stop) (old new : FolderView) (sink : SinkView)
-    (chip : ChipView) → NotLoaded names.prog.now PROG_MAX (reason_of why) old new
-    → TraceGoes names (world old sink chip) (world new sink chip) (Err why)
-prog_not_loaded names why old new sink chip n =
-    let text = known_text old.holds names.prog.now in
-    record {
-      prog = text;
-      texts = no_texts (exec_names (exec_of names)) old.holds;
-      is_text = known_is_text old.holds names.prog.now;
-      read = record {
-        script = known_is_text old.holds names.script.now;
-        image = known_is_text old.holds names.image.now;
-      };
-      went = inl (loading_stops names.prog.now PROG_MAX text (prog_in text) (λ x. [])
-          (reason_of why) (world old sink chip) (world new sink chip)
-          (n text (refusal_of (prog_in text)) sink chip));
-    }
-
-pub prog_no_program : (names : TraceNames) (why : Stop) (text : List ℕ) (fault : ProgFault)
-    (old new : FolderView) (sink : SinkView) (chip : ChipView)
-    → LoadedAs names.prog.now PROG_MAX text old new → program_in text ≡ Err fault
-    → reason_of why ≡ Refused (prog_refusal fault)
-    → TraceGoes names (world old sink chip) (world new sink chip) (Err why)
-prog_no_program names why text fault old new sink chip loaded e f = record {
-  prog = text;
-  texts = no_texts (exec_names (exec_of names)) old.holds;
-  is_text = loaded_text names.prog.now PROG_MAX text (world old sink chip) (world new sink chip)
-      (loaded sink chip);
-  read = record {
-    script = known_is_text old.holds names.script.now;
-    image = known_is_text old.holds names.image.now;
-  };
-  went = inl (loading_stops names.prog.now PROG_MAX text (prog_in text) (λ x. [])
-      (reason_of why) (world old sink chip) (world new sink chip)
-      (rw f (ap (λ r. refusal_of (program_or_refusal r)) e, loaded sink chip)));
-}
-
-done_as : (read : Result Program Refusal) (program : Program) (texts : Texts) (chip : ChipView)
-    (refused : ℕ) → read ≡ Ok program → JobDone program texts chip refused
-    → IsDoneAs read texts chip refused
-done_as read program texts chip refused e d = rw e d
-
-pub trace_went : (names : TraceNames) (program : Program) (result : Result ℕ Stop)
-    (text : List ℕ) (old mid : FolderView) (sink : SinkView) (chip : ChipView) (new : World)
-    → LoadedAs names.prog.now PROG_MAX text old mid → (f : IsProgramFile text)
-    → f.programs ≡ program → JobTraced names program (world mid sink chip) new result
-    → TraceGoes names (world old sink chip) new result
-trace_went names program result text old mid sink chip new loads f same j =
-    let loaded = loads sink chip in
-    let held : mid.holds ≡ old.holds = loaded.reads.files in
-    let is : prog_in text ≡ Ok program =
-    prog_is text f ∙ ap (λ (p : Program). Ok p) same in
-    record {
-      prog = text;
-      texts = j.texts;
-      is_text = loaded_text names.prog.now PROG_MAX text (world old sink chip)
-          (world mid sink chip) loaded;
-      read = subst (IsRead (exec_names (exec_of names)) j.texts) held j.read;
-      went = inr (
-        f,
-        came_on names.prog.now PROG_MAX text (prog_in text) _ program
-            (full_by program (script_in j.texts.script) (image_of j.texts.image))
-            (full_with (prog_in text) j.texts) (JobDone program j.texts)
-            (IsDoneAs (prog_in text) j.texts) result (world old sink chip) (world mid sink chip)
-            new is loaded (ap (λ r. full_with r j.texts) is)
-            (λ view refused. done_as (prog_in text) program j.texts view refused is) j.came,
-      );
-    }
+pub script_runs : (names : TraceNames) (program : Program) (script : List Instruction) (i : Image)
+    (result : Result ℕ Stop) (old new : World) → IsImage i.geometry i.table i.rows
+    → AllByRecursion IsPlain script → ScriptTraced names program script i old new result
+    → Runs (traced_plan names program script i) old new (said_of result)
+script_runs names program script i (Ok refused) old new is plain w =
+    runs_then (traced_steps names program script i) _ _ old new new w.1
+    (full_done (fits program script i) program script i refused new
+    (fits_so (fits program script i) w.0) w.2.refused_is
+    (is, plain, own_count program script i (unlogged new.chip) refused w.2))
+script_runs names program script i (Err why) old new is plain (inl g) =
+    runs_stopped (traced_steps names program script i) _ (reason_of why) old new g
+script_runs names program script i (Err why) old new is plain
+    (inr (said, some, by, g, (refused, w))) =
+    runs_then (traced_steps names program script i) _ _ old new new g
+    (full_refused (fits program script i) program script i said (reason_of why) new some by
+    (is, plain, own_count program script i (unlogged new.chip) refused w))
 
 -- a recorder stands on the chip that it was given
 pub same_name : (a b : ℕ) (xs ys : List ℕ) → a ∷ xs ≡ b ∷ ys → a ≡ b

@@ -4,7 +4,6 @@ use Rattle.std.specs.List.{list_any}
 use denote.Ref.{Bor}
 use Rattle.host_edge.specs.Views.{Known}
 use Rattle.cli_model.specs.World.{World}
-use Rattle.cli_model.specs.Ends.{Ends}
 use Rattle.simdram_cli.specs.declared.words.Command.{Command}
 use Rattle.simdram_cli.specs.declared.words.Command.TheVariants.{Run, Exec, Compile, Show, Migrate}
 use Rattle.simdram_cli.specs.declared.words.Command.TheVariants.{Cost, List as ListOf, Init, Soak}
@@ -14,19 +13,20 @@ use Rattle.simdram_cli.specs.declared.words.Command.TheVariants.{Replay}
 use Rattle.simdram_cli.specs.declared.words.Command.TheVariants.{Guard}
 use Rattle.simdram_cli.specs.declared.account.Account.TheVariants.{Listing, Costs}
 use Rattle.simdram_cli.specs.Words.{command_of}
-use Rattle.simdram_cli.specs.Ends.{RunEnds}
+use Rattle.simdram_cli.specs.Run.{run_plan}
 use Rattle.simdram_cli.specs.Headline.{Headline}
-use Rattle.simdram_cli.specs.Exec.{ExecEnds, Executed}
-use Rattle.simdram_cli.specs.Compile.{CompileEnds, Compiled}
-use Rattle.simdram_cli.specs.Show.{ShowEnds, Shown}
-use Rattle.simdram_cli.specs.Migrate.{MigrateEnds, Migrated}
-use Rattle.simdram_cli.specs.Accounts.{AccountEnds, Accounted}
-use Rattle.simdram_cli.specs.Init.{init_steps, Started}
+use Rattle.cli_model.specs.Runs.{EndsBy}
+use Rattle.simdram_cli.specs.Exec.{exec_plan, Executed}
+use Rattle.simdram_cli.specs.Compile.{compile_plan, Compiled}
+use Rattle.simdram_cli.specs.Show.{show_plan, Shown}
+use Rattle.simdram_cli.specs.Migrate.{migrate_plan, Migrated}
+use Rattle.simdram_cli.specs.Accounts.{account_plan, Accounted}
+use Rattle.simdram_cli.specs.Init.{init_plan, Started}
 use Rattle.simdram_cli.specs.Soak.{SoakEnds, Soaked}
 use Rattle.simdram_cli.specs.Scan.{ScanEnds, Scanned}
-use Rattle.simdram_cli.specs.Tracing.{TraceEnds, Traced}
-use Rattle.simdram_cli.specs.Replay.{ReplayEnds, Replayed}
-use Rattle.simdram_cli.specs.Guard.{GuardEnds, Guarded}
+use Rattle.simdram_cli.specs.Tracing.{trace_plan, Traced}
+use Rattle.simdram_cli.specs.Replay.{replay_plan, Replayed}
+use Rattle.simdram_cli.specs.Guard.{guard_plan, Guarded}
 
 -- the statuses that a command can answer
 abbrev pub statuses : Command → List ℕ
@@ -50,20 +50,21 @@ CanAnswer command status = list_any (λ s. s == status) (statuses command) ≡ t
 
 -- how it ends: it goes through its steps, and the first event decides
 abbrev pub CommandEnds : Command → World → World → ℕ → Type 0
-CommandEnds (Run names) old new status = RunEnds names old new status
-CommandEnds (Exec names) old new status = ExecEnds names old new status
-CommandEnds (Compile names) old new status = CompileEnds names old new status
-CommandEnds (Show name) old new status = ShowEnds name.now old new status
-CommandEnds (Migrate names) old new status = MigrateEnds names old new status
+CommandEnds (Run names) old new status = EndsBy (run_plan names) old new status
+CommandEnds (Exec names) old new status = EndsBy (exec_plan names) old new status
+CommandEnds (Compile names) old new status = EndsBy (compile_plan names) old new status
+CommandEnds (Show name) old new status = EndsBy (show_plan name.now) old new status
+CommandEnds (Migrate names) old new status = EndsBy (migrate_plan names) old new status
 CommandEnds (Cost names) old new status =
-    AccountEnds names.prog.now (Costs names.width) old new status
-CommandEnds (ListOf name) old new status = AccountEnds name.now Listing old new status
-CommandEnds (Init names) old new status = Ends (init_steps names) 0 old new status
+    EndsBy (account_plan names.prog.now (Costs names.width)) old new status
+CommandEnds (ListOf name) old new status =
+    EndsBy (account_plan name.now Listing) old new status
+CommandEnds (Init names) old new status = EndsBy (init_plan names) old new status
 CommandEnds (Soak seed) old new status = SoakEnds seed old new status
 CommandEnds (Scan names) old new status = ScanEnds names old new status
-CommandEnds (Trace names) old new status = TraceEnds names old new status
-CommandEnds (Replay names) old new status = ReplayEnds names old new status
-CommandEnds (Guard names) old new status = GuardEnds names old new status
+CommandEnds (Trace names) old new status = EndsBy (trace_plan names) old new status
+CommandEnds (Replay names) old new status = EndsBy (replay_plan names) old new status
+CommandEnds (Guard names) old new status = EndsBy (guard_plan names) old new status
 
 -- what it promises when it ends as it should, where the folder tells its files; a soak touches
 -- none, and promises it in any folder

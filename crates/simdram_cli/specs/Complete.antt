@@ -7,6 +7,7 @@ use Rattle.fault_counts.specs.Counts.{Rose}
 use Rattle.dram_model.specs.declared.geometry.Geometry.{Geometry}
 use Rattle.host_edge.specs.Views.{Files, Known}
 use Rattle.cli_model.specs.World.{World}
+use Rattle.cli_model.specs.Faultless.{IsSpared, NothingFailed, file_in}
 use Rattle.cli_model.specs.Steps.{Refusal, Unopened}
 use Rattle.cli_model.specs.Ends.{Sends}
 use Rattle.simdram_cli.specs.declared.words.TheConstants.{OPS_MAX, PROG_MAX, SCRIPT_MAX, IMAGE_MAX}
@@ -25,11 +26,6 @@ use Rattle.simdram_cli.specs.Inputs.{ops_in, script_in, image_of}
 use Rattle.simdram_cli.specs.Programs.{prog_in}
 use Rattle.simdram_cli.specs.Queries.{query_in}
 use Rattle.simdram_cli.specs.Traces.{trace_in}
-
--- the file of a name in a folder that tells its files
-abbrev pub file_in : Option Files → List ℕ → Option (List ℕ)
-file_in None name = None
-file_in (Some files) name = files name
 
 -- the file is there, is not longer than its limit, and its text is accepted
 pub record IsGood {A : Type 0} (read : List ℕ → Result A Refusal) (limit : ℕ)
@@ -85,14 +81,6 @@ AreGood (Guard names) file = IsOps (file names.ops.now)
     × (script : IsScript (file names.script.now)) × (image : IsImageFile (file names.image.now))
     × IsFlipsFile image.value.geometry (length script.value) (file names.flips.now)
 
--- no count of faults rose: none of the folder, of the sink and of the chip
-pub record NothingFailed (old new : World) : Type 0 where
-  pub loads : (name : List ℕ) → Rose (old.files.load_faults name) (new.files.load_faults name)
-      → ⊥
-  pub stores : Rose old.files.store_faults new.files.store_faults → ⊥
-  pub puts : Rose old.sink.faults new.sink.faults → ⊥
-  pub chip : Rose old.chip.faults new.chip.faults → ⊥
-
 -- the statuses of the command where it is done
 abbrev pub done_statuses : Command → List ℕ
 done_statuses (Run names) = 0 ∷ 8 ∷ []
@@ -114,14 +102,6 @@ abbrev pub Completes : Command → World → World → ℕ → Type 0
 Completes command old new status =
     AreGood command (file_in old.files.holds) → NothingFailed old new
     → list_any (λ s. s == status) (10 ∷ done_statuses command) ≡ true
-
--- Where memory was wanting, its line was sent and nothing before it; all files but this one are as
--- at entry; and the chip is, or has not begun
-pub record IsSpared (but : Option (List ℕ)) (old new : World) : Type 0 where
-  pub sent : Sends [] (codes "no memory\n") old new
-  pub files : Known (λ before after. (name : List ℕ) → but ≢ Some name → after name ≡ before name)
-      old.files.holds new.files.holds
-  pub chip : Unopened old.chip new.chip
 
 -- Want of memory comes before anything is sent and before the chip has begun, and OUT is as at
 -- entry: a run may have stored PROG, and no other file changes. A soak takes memory for each case,

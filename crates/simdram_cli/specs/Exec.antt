@@ -22,12 +22,12 @@ use Rattle.simdram_cli.specs.declared.job.JobNames.{JobNames}
 use Rattle.simdram_cli.specs.declared.stop.Stop.{Stop}
 use Rattle.simdram_cli.specs.Inputs.{script_in, image_of}
 use Rattle.simdram_cli.specs.Programs.{prog_in}
-use Rattle.simdram_cli.specs.Reads.{IsText, StopsAtLoad}
+use Rattle.cli_model.specs.Reads.{IsText}
 use Rattle.simdram_cli.specs.Stops.{end_of}
-use Rattle.simdram_cli.specs.Job.{Texts, said_in, replies_by, refused_by, done_status, image_by}
-use Rattle.simdram_cli.specs.Job.{job_steps, job_status}
+use Rattle.simdram_cli.specs.Job.{said_in, replies_by, refused_by, done_status, image_by}
 use Rattle.simdram_cli.specs.Works.{WorkDone}
-use Rattle.simdram_cli.specs.Ends.{IsRead, JobDone, IsDoneBy}
+use Rattle.cli_model.specs.Plan.{Plan, Loads, Makes}
+use Rattle.simdram_cli.specs.Plans.{job_plan}
 use Rattle.simdram_cli.specs.Headline.{RunJob, read_as, ObjectsRight, RowsUntouched}
 use Rattle.simdram_cli.specs.Headline.{CommandsCounted}
 use Rattle.simdram_cli.specs.Headline.{ReportSent, RepliesExact}
@@ -37,33 +37,9 @@ abbrev pub exec_names : ExecNames → JobNames
 exec_names names = record { script = names.script; image = names.image; out = names.out }
 
 -- PROG is loaded, and SCRIPT is done on IMAGE with its program
-abbrev pub exec_steps : ExecNames → List ℕ → Texts → List Step
-exec_steps names prog texts = loading names.prog.now PROG_MAX prog (prog_in prog)
-    (λ program. job_steps (exec_names names) program texts)
-
-abbrev pub status_with : Result Program Refusal → Texts → ℕ
-status_with (Ok program) texts = job_status program texts
-status_with (Err refusal) texts = 0
-
-abbrev pub IsDoneWith : Ended → Result Program Refusal → Texts → ChipView → Type 0
-IsDoneWith ended (Ok program) texts chip = IsDoneBy ended program texts chip
-IsDoneWith All (Err refusal) texts chip = ⊥
-IsDoneWith (At stop) (Err refusal) texts chip = Unit {0}
-
-abbrev pub IsDoneAs : Result Program Refusal → Texts → ChipView → ℕ → Type 0
-IsDoneAs (Ok program) texts chip refused = JobDone program texts chip refused
-IsDoneAs (Err refusal) texts chip refused = ⊥
-
--- An execution on the files at entry: what it reads, a program file if it was loaded, and how it
--- ends
-pub record ExecEnds (names : ExecNames) (old new : World) (status : ℕ) : Type 0 where
-  pub prog : List ℕ
-  pub texts : Texts
-  pub is_text : IsText old.files.holds names.prog.now prog
-  pub read : IsRead (exec_names names) texts old.files.holds
-  pub ends : Ends (exec_steps names prog texts) (status_with (prog_in prog) texts) old new status
-  pub file : (done_steps (exec_steps names prog texts) ends.ended ≡ [] → ⊥) → IsProgramFile prog
-  pub done : IsDoneWith ends.ended (prog_in prog) texts new.chip
+abbrev pub exec_plan : ExecNames → Plan
+exec_plan names = Loads names.prog.now PROG_MAX prog_in (λ text program.
+    Makes {A = Unit {0}} (λ u. IsProgramFile text) (λ u. job_plan (exec_names names) program))
 
 -- A row that no instruction touches that is done by a program is as it was in the image read
 abbrev pub RowsStay : Program → List Instruction → Image → ChipView → Type 0
@@ -125,13 +101,3 @@ pub record Executed (names : ExecNames) (before after : Files) (old new : World)
         program = program;
       }) after old new status
   pub others : (other : List ℕ) → other ≢ names.out.now → after other ≡ before other
-
--- what its parts come to, for its proof: it goes through its steps on the text of PROG
-pub record ExecGoes (names : ExecNames) (old new : World) (result : Result ℕ Stop) : Type 0 where
-  pub prog : List ℕ
-  pub texts : Texts
-  pub is_text : IsText old.files.holds names.prog.now prog
-  pub read : IsRead (exec_names names) texts old.files.holds
-  pub goes : StopsAtLoad names.prog.now PROG_MAX prog (prog_in prog) (end_of result) old new
-      ⊎ (IsProgramFile prog × Goes (exec_steps names prog texts) (end_of result) old new)
-  pub done : IfOk result (IsDoneAs (prog_in prog) texts new.chip)

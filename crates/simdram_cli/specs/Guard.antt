@@ -31,18 +31,20 @@ use Rattle.guard_model.specs.Triples.{EqualCopies, first_copies, first_stranger,
 use Rattle.guard_job.specs.Events.{run_events}
 use Rattle.guard_job.specs.Steps.{guarded_steps}
 use Rattle.cli_model.specs.World.{World}
+use Rattle.cli_model.specs.Plan.{Answers, Loads, Plan, Then}
+use Rattle.simdram_cli.specs.Plans.{compiled_plan}
 use Rattle.cli_model.specs.Steps.{Step, Take, Store, Open, Use, Put, Refusal, Goes, loading}
 use Rattle.cli_model.specs.Ends.{Ended, All, At, Ends, Stores, done_steps}
 use Rattle.simdram_cli.specs.declared.words.GuardNames.{GuardNames}
 use Rattle.simdram_cli.specs.declared.words.RunNames.{RunNames}
 use Rattle.simdram_cli.specs.declared.words.TheConstants.{FLIPS_MAX, IMAGE_MAX, OPS_MAX, SCRIPT_MAX}
 use Rattle.simdram_cli.specs.declared.stop.Stop.{Stop}
-use Rattle.simdram_cli.specs.Ends.{IsCompiled, StoppedEarly}
+use Rattle.simdram_cli.specs.Ends.{IsCompiled}
 use Rattle.simdram_cli.specs.Flips.{flips_in, guarded_image_of, guarded_script_in}
 use Rattle.simdram_cli.specs.Headline.{IsRunJob, IsNoBadWalk, RunJob, ProgramWritten, read_as}
 use Rattle.simdram_cli.specs.Inputs.{ops_in}
 use Rattle.simdram_cli.specs.Job.{done_status, opened_counters}
-use Rattle.simdram_cli.specs.Reads.{IsText}
+use Rattle.cli_model.specs.Reads.{IsText}
 use Rattle.simdram_cli.specs.Stops.{end_of}
 
 -- a guarded script on an image with a program, and the flips among its instructions
@@ -113,64 +115,6 @@ work_steps out job =
     (opened job.image) job.script
     ++ last_steps out job
 
--- the texts of SCRIPT, IMAGE and FLIPS
-pub record GuardTexts : Type 0 where
-  pub script : List ℕ
-  pub image : List ℕ
-  pub flips : List ℕ
-
--- FLIPS is loaded, and the script is done on the image
-abbrev pub flips_steps : GuardNames → Program → List Instruction → Image → List ℕ → List Step
-flips_steps names program script i text =
-    loading names.flips.now FLIPS_MAX text (flips_in i.geometry (length script) text) (λ flips.
-    Take ∷ work_steps names.out.now (guard_job program script i flips))
-
--- IMAGE and FLIPS are
-abbrev pub image_steps : GuardNames → Program → List Instruction → (image flips : List ℕ)
-    → List Step
-image_steps names program script image flips =
-    loading names.image.now IMAGE_MAX image (guarded_image_of image) (λ i.
-    flips_steps names program script i flips)
-
--- SCRIPT, IMAGE and FLIPS are
-abbrev pub guard_job_steps : GuardNames → Program → GuardTexts → List Step
-guard_job_steps names program texts =
-    loading names.script.now SCRIPT_MAX texts.script (guarded_script_in texts.script) (λ script.
-    image_steps names program script texts.image texts.flips)
-
--- OPS is compiled and PROG stored, and then SCRIPT is done on IMAGE with FLIPS
-abbrev pub guard_steps : GuardNames → Program → List ℕ → GuardTexts → List Step
-guard_steps names program ops texts =
-    loading names.ops.now OPS_MAX ops (ops_in ops) (λ t.
-    Take ∷ Store names.prog.now (program_bytes 2 program) ∷ guard_job_steps names program texts)
-
--- the job of three texts, if all are accepted
-abbrev pub job_of_flips : Program → List Instruction → Image → Result (List Flip) Refusal
-    → Option GuardJob
-job_of_flips program script i (Ok flips) = Some (guard_job program script i flips)
-job_of_flips program script i (Err refusal) = None
-
-abbrev pub job_of_image : Program → List Instruction → Result Image Refusal → List ℕ
-    → Option GuardJob
-job_of_image program script (Ok i) text =
-    job_of_flips program script i (flips_in i.geometry (length script) text)
-job_of_image program script (Err refusal) text = None
-
-abbrev pub job_of_script : Program → Result (List Instruction) Refusal → (image flips : List ℕ)
-    → Option GuardJob
-job_of_script program (Ok script) image flips =
-    job_of_image program script (guarded_image_of image) flips
-job_of_script program (Err refusal) image flips = None
-
-abbrev pub job_of_texts : Program → GuardTexts → Option GuardJob
-job_of_texts program texts =
-    job_of_script program (guarded_script_in texts.script) texts.image texts.flips
-
--- its status where it is done
-abbrev pub guard_status : Option GuardJob → ℕ
-guard_status None = 0
-guard_status (Some job) = done_status (refused_of job)
-
 -- The job was done, row by row, with so many instructions refused: the banks are what the flips,
 -- the votes and the program's commands leave, the counters count them, and a log that is known has
 -- the image's writes and then these events
@@ -186,35 +130,31 @@ pub record GuardDoneOn (job : GuardJob) (chip : ChipView) (refused : ℕ) : Type
   pub plain : AllByRecursion IsPlain job.script
   pub done : GuardDone job chip refused
 
-abbrev pub GuardDoneBy : Option GuardJob → ChipView → ℕ → Type 0
-GuardDoneBy None chip refused = ⊥
-GuardDoneBy (Some job) chip refused = GuardDoneOn job chip refused
+-- the script is done with its flips on the image
+abbrev pub guard_work_plan : List ℕ → GuardJob → Plan
+guard_work_plan out job = Then (work_steps out job)
+    (Answers (done_status (refused_of job)) (λ chip. GuardDoneOn job chip (refused_of job)))
 
--- what stands in the chip after a job that is done
-abbrev pub IsGuardDone : Ended → Option GuardJob → ChipView → Type 0
-IsGuardDone All job chip = (refused : ℕ) × GuardDoneBy job chip refused
-IsGuardDone (At stop) job chip = Unit {0}
+-- FLIPS is loaded, and the script is done with them
+abbrev pub flips_plan : GuardNames → Program → List Instruction → Image → Plan
+flips_plan names program script i = Loads names.flips.now FLIPS_MAX
+    (flips_in i.geometry (length script)) (λ text flips. Then (Take ∷ [])
+    (guard_work_plan names.out.now (guard_job program script i flips)))
 
--- the texts are those of the files, where these are known
-pub record AreGuardTexts (names : GuardNames) (texts : GuardTexts) (holds : Option Files)
-    : Type 0 where
-  pub script : IsText holds names.script.now texts.script
-  pub image : IsText holds names.image.now texts.image
-  pub flips : IsText holds names.flips.now texts.flips
+-- IMAGE and FLIPS are
+abbrev pub guard_image_plan : GuardNames → Program → List Instruction → Plan
+guard_image_plan names program script = Loads names.image.now IMAGE_MAX guarded_image_of (λ text i.
+    flips_plan names program script i)
 
--- A guarded run on the files at entry: what it reads, the program that it makes, and how it ends.
--- PROG is stored only with a program that does the ops of OPS
-pub record GuardEnds (names : GuardNames) (old new : World) (status : ℕ) : Type 0 where
-  pub ops : List ℕ
-  pub texts : GuardTexts
-  pub program : Program
-  pub is_text : IsText old.files.holds names.ops.now ops
-  pub read : AreGuardTexts names texts old.files.holds
-  pub ends : Ends (guard_steps names program ops texts) (guard_status (job_of_texts program texts))
-      old new status
-  pub compiled : Stores names.prog.now (done_steps (guard_steps names program ops texts) ends.ended)
-      → IsCompiled ops program
-  pub done : IsGuardDone ends.ended (job_of_texts program texts) new.chip
+-- SCRIPT, IMAGE and FLIPS are
+abbrev pub guard_job_plan : GuardNames → Program → Plan
+guard_job_plan names program = Loads names.script.now SCRIPT_MAX guarded_script_in (λ text script.
+    guard_image_plan names program script)
+
+-- OPS is compiled and PROG stored, and then SCRIPT is done on IMAGE with FLIPS
+abbrev pub guard_plan : GuardNames → Plan
+guard_plan names =
+    compiled_plan names.ops.now names.prog.now (λ program. guard_job_plan names program)
 
 -- the files of a plain run, and the job of one on the same instructions and image by a text
 abbrev pub run_names : GuardNames → RunNames
@@ -304,46 +244,3 @@ pub record Guarded (names : GuardNames) (before after : Files) (old new : World)
   pub words : (t : List TextOp) → ImplementsAll job.program t → GuardedWords t job old new
   pub others : (other : List ℕ) → other ≢ names.prog.now → other ≢ names.out.now
       → after other ≡ before other
-
--- what its parts come to, for its proof
-
--- FLIPS was loaded and the script done, as far as nothing failed
-pub record FlipsWorked (names : GuardNames) (program : Program) (script : List Instruction)
-    (i : Image) (old new : World) (result : Result ℕ Stop) : Type 0 where
-  pub text : List ℕ
-  pub is_text : IsText old.files.holds names.flips.now text
-  pub goes : Goes (flips_steps names program script i text) (end_of result) old new
-  pub done : IfOk result (GuardDoneBy (job_of_flips program script i
-      (flips_in i.geometry (length script) text)) new.chip)
-
--- IMAGE and FLIPS were
-pub record GuardImageWorked (names : GuardNames) (program : Program) (script : List Instruction)
-    (old new : World) (result : Result ℕ Stop) : Type 0 where
-  pub image : List ℕ
-  pub flips : List ℕ
-  pub image_is : IsText old.files.holds names.image.now image
-  pub flips_is : IsText old.files.holds names.flips.now flips
-  pub goes : Goes (image_steps names program script image flips) (end_of result) old new
-  pub done : IfOk result (GuardDoneBy (job_of_image program script (guarded_image_of image) flips)
-      new.chip)
-
--- SCRIPT, IMAGE and FLIPS were
-pub record GuardJobGoes (names : GuardNames) (program : Program) (old new : World)
-    (result : Result ℕ Stop) : Type 0 where
-  pub texts : GuardTexts
-  pub read : AreGuardTexts names texts old.files.holds
-  pub goes : Goes (guard_job_steps names program texts) (end_of result) old new
-  pub done : IfOk result (GuardDoneBy (job_of_texts program texts) new.chip)
-
--- a guarded run goes through its steps: it stopped before PROG was stored, or its program does the
--- ops
-pub record GuardGoes (names : GuardNames) (old new : World) (result : Result ℕ Stop) : Type 0 where
-  pub program : Program
-  pub ops : List ℕ
-  pub texts : GuardTexts
-  pub is_text : IsText old.files.holds names.ops.now ops
-  pub read : AreGuardTexts names texts old.files.holds
-  pub goes : StoppedEarly names.ops.now names.prog.now program ops (end_of result) old new
-      ⊎ (IsCompiled ops program
-      × Goes (guard_steps names program ops texts) (end_of result) old new)
-  pub done : IfOk result (GuardDoneBy (job_of_texts program texts) new.chip)

@@ -21,11 +21,6 @@ use Rattle.simdram_cli.specs.declared.job.JobNames.{JobNames}
 use Rattle.simdram_cli.specs.declared.words.TheConstants.{SCRIPT_MAX, IMAGE_MAX}
 use Rattle.simdram_cli.specs.Inputs.{script_in, image_of}
 
--- the texts of SCRIPT and IMAGE
-pub record Texts : Type 0 where
-  pub script : List ℕ
-  pub image : List ℕ
-
 -- what is said of a script by a program, and its replies
 abbrev pub said_in : Program → List Instruction → Image → List Said
 said_in program script i = said_in_rows i.geometry (routines_in program) i.table (opened i) script
@@ -98,22 +93,3 @@ work_steps out program script i =
     Open ∷ script_steps program script i
     ++ (Use ∷ Store out (image_by program script i)
     ∷ Put (total_line (tally_by program script i) (refused_by program script i)) ∷ [])
-
--- SCRIPT and IMAGE are loaded, and SCRIPT is done on IMAGE
-abbrev pub job_steps : JobNames → Program → Texts → List Step
-job_steps names program texts =
-    loading names.script.now SCRIPT_MAX texts.script (script_in texts.script) (λ script.
-    loading names.image.now IMAGE_MAX texts.image (image_of texts.image) (λ i.
-    work_steps names.out.now program script i))
-
--- the status of a job that is done
-abbrev pub status_on : Program → List Instruction → Result Image Refusal → ℕ
-status_on program script (Ok i) = done_status (refused_by program script i)
-status_on program script (Err refusal) = 0
-
-abbrev pub status_by : Program → Result (List Instruction) Refusal → Result Image Refusal → ℕ
-status_by program (Ok script) image = status_on program script image
-status_by program (Err refusal) image = 0
-
-abbrev pub job_status : Program → Texts → ℕ
-job_status program texts = status_by program (script_in texts.script) (image_of texts.image)

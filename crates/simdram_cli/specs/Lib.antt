@@ -9,10 +9,11 @@ pub mod Flips
 pub mod Stops
 pub mod Reads
 pub mod Job
-pub mod Run
 pub mod Works
 pub mod Ends
 pub mod Headline
+pub mod Plans
+pub mod Run
 pub mod Exec
 pub mod Compile
 pub mod Show

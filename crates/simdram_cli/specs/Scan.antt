@@ -31,10 +31,9 @@ use Rattle.scan_query.specs.Answers.{answer_of}
 use Rattle.scan_query.specs.Queries.{IsNodesOf}
 use Rattle.scan_query.specs.declared.query.ScanReply.{ScanReply}
 use Rattle.cli_model.specs.World.{World}
-use Rattle.cli_model.specs.Steps.{Step, Take, Open, Use, Put, Refusal, Refused, Done, Stopped, Goes}
-use Rattle.cli_model.specs.Steps.{loading}
-use Rattle.cli_model.specs.Status.{Says}
-use Rattle.cli_model.specs.Ends.{Ended, All, At, Ends}
+use Rattle.cli_model.specs.Steps.{Step, Take, Open, Use, Put, Done, Stopped, Goes}
+use Rattle.cli_model.specs.Plan.{Answers, Loads, Makes, Plan, Refuses, Then}
+use Rattle.cli_model.specs.Runs.{EndsBy}
 use Rattle.simdram_cli.specs.declared.words.ScanNames.{ScanNames}
 use Rattle.simdram_cli.specs.declared.words.TheConstants.{IMAGE_MAX, QUERY_MAX}
 use Rattle.simdram_cli.specs.declared.stop.Stop.{Stop}
@@ -42,19 +41,9 @@ use Rattle.simdram_cli.specs.Headline.{read_as}
 use Rattle.simdram_cli.specs.Inputs.{image_of}
 use Rattle.simdram_cli.specs.Job.{opened_counters}
 use Rattle.simdram_cli.specs.Queries.{Asks, AsksIn, query_in, scan_refusal}
-use Rattle.simdram_cli.specs.Reads.{IsText, LoadedAs}
+use Rattle.cli_model.specs.Reads.{LoadedAs}
 use Rattle.simdram_cli.specs.Stops.{reason_of}
 use Rattle.simdram_cli.specs.Works.{OpenedOn}
-
--- the texts of QUERY and IMAGE
-pub record ScanTexts : Type 0 where
-  pub query : List ℕ
-  pub image : List ℕ
-
--- they are those of the files, where these are known
-pub record AreRead (names : ScanNames) (texts : ScanTexts) (holds : Option Files) : Type 0 where
-  pub query : IsText holds names.query.now texts.query
-  pub image : IsText holds names.image.now texts.image
 
 -- the program is one that a file can hold, and does the six operations of scans by exactly the row
 -- commands of their word operations
@@ -83,47 +72,10 @@ abbrev pub count_line : (found of : ℕ) → Counts → List ℕ
 count_line found of counts = codes "count " ++ decimal found ++ codes " of " ++ decimal of
     ++ codes " aap=" ++ decimal counts.aap ++ codes " ap=" ++ decimal counts.ap ++ codes "\n"
 
--- why a scan is refused, if it is
-abbrev pub why_not : Answer → Option Refusal
-why_not (Found found of counts) = None
-why_not (NotFound why k) = Some (scan_refusal why k)
-
 -- a query whose comparisons are at fault does not use the chip
 abbrev pub use_steps : Option (ScanWhy × ℕ) → List Step
 use_steps (Some fault) = []
 use_steps None = Use ∷ []
-
-abbrev pub put_steps : Answer → List Step
-put_steps (Found found of counts) = Put (count_line found of counts) ∷ []
-put_steps (NotFound why k) = []
-
--- Memory is taken, for a program too; the chip begins with the image; the query's instructions are
--- done, and how many elements were found is sent. Where no program was made, its memory was the
--- last step
-abbrev pub made_steps : Option Program → Query → Image → List Step
-made_steps None q i = Take ∷ []
-made_steps (Some program) q i = Take ∷ Open ∷ (use_steps (checked i.table (nodes_of q))
-    ++ put_steps (answer_on program q i))
-
-abbrev pub image_steps : List ℕ → List ℕ → Option Program → Query → List Step
-image_steps name text made q =
-    loading name IMAGE_MAX text (image_of text) (λ i. made_steps made q i)
-
--- QUERY and IMAGE are loaded, and the query is done on the image
-abbrev pub scan_steps : ScanNames → ScanTexts → Option Program → Query → List Step
-scan_steps names texts made q =
-    loading names.query.now QUERY_MAX texts.query (query_in texts.query) (λ t.
-    image_steps names.image.now texts.image made q)
-
--- why a scan that went through its steps is refused, if it is
-abbrev pub refusal_on : Option Program → Query → Result Image Refusal → Option Refusal
-refusal_on (Some program) q (Ok i) = why_not (answer_on program q i)
-refusal_on (Some program) q (Err refusal) = None
-refusal_on None q image = None
-
-abbrev pub scan_status : Option Refusal → ℕ
-scan_status None = 0
-scan_status (Some refusal) = refusal.status
 
 -- the counters after a scan: each row of every bank was written at the opening, and of the last
 -- object, whose width is 1, one row was read for each segment
@@ -178,37 +130,32 @@ pub record ScanLeft (program : Program) (q : Query) (i : Image) (chip : ChipView
   pub worked : (found of : ℕ) (counts : Counts) → answer_on program q i ≡ Found found of counts
       → QueryDone program q i chip
 
-abbrev pub LeftBy : Option Program → Query → Result Image Refusal → ChipView → Type 0
-LeftBy (Some program) q (Ok i) chip = ScanLeft program q i chip
-LeftBy (Some program) q (Err refusal) chip = ⊥
-LeftBy None q image chip = ⊥
+-- how many elements were found is sent; or the query is refused
+abbrev pub answer_plan : (ChipView → Type 0) → Answer → Plan
+answer_plan left (Found found of counts) =
+    Then (Put (count_line found of counts) ∷ []) (Answers 0 left)
+answer_plan left (NotFound why k) = Refuses (scan_refusal why k) left
 
-abbrev pub IsLeft : Ended → Option Program → Query → Result Image Refusal → ChipView → Type 0
-IsLeft All made q image chip = LeftBy made q image chip
-IsLeft (At stop) made q image chip = Unit {0}
+-- memory is taken, for a program too, which does the operations of scans; the chip begins with the
+-- image, the query's instructions are done, and it is answered
+abbrev pub query_plan : Query → Image → Plan
+query_plan q i = Then (Take ∷ []) (Makes DoesScans (λ program.
+    Then (Open ∷ use_steps (checked i.table (nodes_of q)))
+    (answer_plan (ScanLeft program q i) (answer_on program q i))))
 
--- where the steps were done and the query is refused, the line that tells why comes last; a failure
--- to send it is dropped
-abbrev pub TellsLast : Ended → Option Refusal → World → World → Type 0
-TellsLast All (Some refusal) old new = Says refusal.line old new
-TellsLast All None old new = new ≡ old
-TellsLast (At stop) refusal old new = new ≡ old
+-- IMAGE is loaded, and the query is done on it
+abbrev pub scan_image_plan : List ℕ → Query → Plan
+scan_image_plan name q = Loads name IMAGE_MAX image_of (λ text i. query_plan q i)
 
--- A scan of the files at entry: what it reads, the one query of an accepted text, a program that
--- does the operations of scans if one was made, and how it ends. No file changes
-pub record ScanEnds (names : ScanNames) (old new : World) (status : ℕ) : Type 0 where
-  pub texts : ScanTexts
-  pub query : Query
-  pub made : Option Program
-  pub read : AreRead names texts old.files.holds
-  pub asks : query_in texts.query ≡ Ok tt → Asks texts.query query
-  pub does : IfSome made DoesScans
-  pub stood : World
-  pub ends : Ends (scan_steps names texts made query)
-      (scan_status (refusal_on made query (image_of texts.image))) old stood status
-  pub last : TellsLast ends.ended (refusal_on made query (image_of texts.image)) stood new
-  pub left : IsLeft ends.ended made query (image_of texts.image) new.chip
-  pub files : new.files.holds ≡ old.files.holds
+-- QUERY is loaded, which asks one query, and IMAGE, and the query is done on the image
+abbrev pub scan_plan : ScanNames → Plan
+scan_plan names = Loads names.query.now QUERY_MAX query_in (λ text u. Makes (Asks text) (λ q.
+    scan_image_plan names.image.now q))
+
+-- it ends by its plan, and no file changes
+abbrev pub ScanEnds : ScanNames → World → World → ℕ → Type 0
+ScanEnds names old new status =
+    EndsBy (scan_plan names) old new status × (new.files.holds ≡ old.files.holds)
 
 -- What was sent is how many elements of IMAGE the query of QUERY holds of, of how many, by how many
 -- row commands. Each object that the query names is there, all have that many elements, and each
@@ -254,33 +201,3 @@ AnswerGoes program q i (Ok reply) old new = (answer_of reply ≡ answer_on progr
     × ScanLeft program q i new.chip
 AnswerGoes program q i (Err stop) old new =
     Goes (Take ∷ Open ∷ use_steps (checked i.table (nodes_of q))) (Stopped (reason_of stop)) old new
-
--- the steps were done, and it is not refused; or they were done, and it is; or one failed
-abbrev pub Went : List Step → Option Refusal → (ChipView → Type 0) → Result ℕ Stop → World → World
-    → Type 0
-Went steps refusal left (Ok refused) old new =
-    (refused ≡ 0) × (refusal ≡ None) × Goes steps Done old new × left new.chip
-Went steps refusal left (Err stop) old new = Goes steps (Stopped (reason_of stop)) old new
-    ⊎ ((said : Refusal) × (refusal ≡ Some said) × (reason_of stop ≡ Refused said)
-    × Goes steps Done old new × left new.chip)
-
--- IMAGE was loaded, and the query was done on it
-pub record ImageScanned (name : List ℕ) (q : Query) (old new : World) (result : Result ℕ Stop)
-    : Type 0 where
-  pub text : List ℕ
-  pub is_text : IsText old.files.holds name text
-  pub made : Option Program
-  pub does : IfSome made DoesScans
-  pub went : Went (image_steps name text made q) (refusal_on made q (image_of text))
-      (LeftBy made q (image_of text)) result old new
-
-pub record ScanGoes (names : ScanNames) (old new : World) (result : Result ℕ Stop) : Type 0 where
-  pub texts : ScanTexts
-  pub query : Query
-  pub made : Option Program
-  pub read : AreRead names texts old.files.holds
-  pub asks : query_in texts.query ≡ Ok tt → Asks texts.query query
-  pub does : IfSome made DoesScans
-  pub went : Went (scan_steps names texts made query)
-      (refusal_on made query (image_of texts.image)) (LeftBy made query (image_of texts.image))
-      result old new

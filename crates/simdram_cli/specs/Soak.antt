@@ -1,26 +1,25 @@
 -- The command `soak`.
-use Rattle.std.specs.Prelude.{◌≡◌, ℕ, List, ◌++◌, Result, IfOk}
+use Rattle.std.specs.Prelude.{◌≡◌, ℕ, List, ◌++◌}
 use Rattle.host_edge.specs.Views.{Known}
 use Rattle.uprog_code.specs.Shape.{Microprogram}
 use Rattle.cli_model.specs.World.{World}
-use Rattle.cli_model.specs.Steps.{Goes}
 use Rattle.cli_model.specs.Stands.{sent_by}
-use Rattle.cli_model.specs.Ends.{Ends}
+use Rattle.cli_model.specs.Plan.{Answers, Makes, Plan, Then}
+use Rattle.cli_model.specs.Runs.{EndsBy}
 use Rattle.soak_case.specs.Cases.{soak_cases}
 use Rattle.soak_job.specs.Steps.{AreProgramsOf, soak_steps}
 use Rattle.soak_job.specs.Done.{SoakLeft}
-use Rattle.simdram_cli.specs.declared.stop.Stop.{Stop}
-use Rattle.simdram_cli.specs.Stops.{end_of}
 
--- How a soak ends: with programs of its cases, each of which implements its op, it ends over its
--- steps as every command does; where it is done, there is one for each case, and the chip's
--- counters are the sums of what the lines tell; and the folder is as it was
-pub record SoakEnds (seed : ℕ) (old new : World) (status : ℕ) : Type 0 where
-  pub programs : List Microprogram
-  pub are : AreProgramsOf soak_cases programs
-  pub ends : Ends (soak_steps seed programs) 0 old new status
-  pub left : status ≡ 0 → SoakLeft seed programs new.chip
-  pub files : new.files ≡ old.files
+-- programs of its cases are made, each of which implements its op, and the cases are done; the
+-- chip's counters are then the sums of what the lines tell
+abbrev pub soak_plan : ℕ → Plan
+soak_plan seed = Makes (AreProgramsOf soak_cases) (λ programs.
+    Then (soak_steps seed programs) (Answers 0 (SoakLeft seed programs)))
+
+-- it ends by its plan, and the folder is as it was
+abbrev pub SoakEnds : ℕ → World → World → ℕ → Type 0
+SoakEnds seed old new status =
+    EndsBy (soak_plan seed) old new status × (new.files ≡ old.files)
 
 -- Each case has a program, which implements its op; a line for each case, and the last line, were
 -- sent, and no more; the chip's counters are the sums of what the lines tell; and the folder is as
@@ -31,11 +30,3 @@ pub record Soaked (seed : ℕ) (old new : World) : Type 0 where
   pub left : SoakLeft seed programs new.chip
   pub sent : Known (λ x y. y ≡ x ++ sent_by (soak_steps seed programs)) old.sink.sent new.sink.sent
   pub files : new.files ≡ old.files
-
--- it goes through its steps, for its proof
-pub record SoakWent (seed : ℕ) (old new : World) (result : Result ℕ Stop) : Type 0 where
-  pub programs : List Microprogram
-  pub are : AreProgramsOf soak_cases programs
-  pub goes : Goes (soak_steps seed programs) (end_of result) old new
-  pub left : IfOk result (λ refused. SoakLeft seed programs new.chip)
-  pub nothing : IfOk result (λ refused. refused ≡ 0)

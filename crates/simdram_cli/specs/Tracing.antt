@@ -24,8 +24,8 @@ use Rattle.trace_model.specs.Spelling.{Trace, bytes_of_trace}
 use Rattle.trace_job.specs.Telling.{all_fit}
 use Rattle.cli_model.specs.World.{World, with_file}
 use Rattle.cli_model.specs.Steps.{Step, Take, Open, Use, Store, Put, Refusal, Refused, Done}
-use Rattle.cli_model.specs.Steps.{Stopped, Goes, loading}
-use Rattle.cli_model.specs.Ends.{Ends, done_steps}
+use Rattle.cli_model.specs.Steps.{Stopped, Goes}
+use Rattle.cli_model.specs.Plan.{Answers, Loads, Makes, Plan, Refuses, Then}
 use Rattle.simdram_cli.specs.declared.words.ExecNames.{ExecNames}
 use Rattle.simdram_cli.specs.declared.words.TraceNames.{TraceNames}
 use Rattle.simdram_cli.specs.declared.words.TheConstants.{PROG_MAX, SCRIPT_MAX, IMAGE_MAX}
@@ -33,13 +33,12 @@ use Rattle.simdram_cli.specs.declared.words.TheConstants.{TRACE_MAX}
 use Rattle.simdram_cli.specs.declared.stop.Stop.{Stop}
 use Rattle.simdram_cli.specs.Inputs.{script_in, image_of}
 use Rattle.simdram_cli.specs.Programs.{prog_in}
-use Rattle.simdram_cli.specs.Reads.{IsText, StopsAtLoad}
-use Rattle.simdram_cli.specs.Stops.{end_of, reason_of, trace_full}
-use Rattle.simdram_cli.specs.Job.{Texts, image_by, pieces_steps, refused_by, script_steps, tally_by}
+use Rattle.simdram_cli.specs.Stops.{reason_of, trace_full}
+use Rattle.simdram_cli.specs.Job.{done_status, image_by, pieces_steps, refused_by, script_steps}
+use Rattle.simdram_cli.specs.Job.{tally_by}
+use Rattle.simdram_cli.specs.Plans.{JobLeft}
 use Rattle.simdram_cli.specs.Works.{OpenedOn, WorkDone}
-use Rattle.simdram_cli.specs.Ends.{DoneOn, IsRead, JobDone}
-use Rattle.simdram_cli.specs.Exec.{Executed, IsDoneAs, IsDoneWith, exec_names, status_with}
-use Rattle.simdram_cli.specs.Scan.{TellsLast}
+use Rattle.simdram_cli.specs.Exec.{Executed}
 
 -- an execution on the same files, without TRACE
 abbrev pub exec_of : TraceNames → ExecNames
@@ -78,43 +77,10 @@ traced_steps names program script i =
     Take ∷ Open ∷ (recorded_steps names program script i
     ++ total_steps (fits program script i) program script i)
 
-abbrev pub traced_image_steps : TraceNames → Program → List Instruction → List ℕ → List Step
-traced_image_steps names program script text =
-    loading names.image.now IMAGE_MAX text (image_of text)
-    (λ i. traced_steps names program script i)
-
-abbrev pub traced_job_steps : TraceNames → Program → Texts → List Step
-traced_job_steps names program texts =
-    loading names.script.now SCRIPT_MAX texts.script (script_in texts.script)
-    (λ script. traced_image_steps names program script texts.image)
-
--- PROG, SCRIPT and IMAGE are loaded, and the script is done on the image over a recorder
-abbrev pub trace_steps : TraceNames → List ℕ → Texts → List Step
-trace_steps names prog texts = loading names.prog.now PROG_MAX prog (prog_in prog)
-    (λ program. traced_job_steps names program texts)
-
 -- why a trace is not stored whose steps were done, if it is not
 abbrev pub unless_fits : Bool → Option Refusal
 unless_fits true = None
 unless_fits false = Some trace_full
-
-abbrev pub full_on : Program → List Instruction → Result Image Refusal → Option Refusal
-full_on program script (Ok i) = unless_fits (fits program script i)
-full_on program script (Err refusal) = None
-
-abbrev pub full_by : Program → Result (List Instruction) Refusal → Result Image Refusal
-    → Option Refusal
-full_by program (Ok script) image = full_on program script image
-full_by program (Err refusal) image = None
-
-abbrev pub full_with : Result Program Refusal → Texts → Option Refusal
-full_with (Ok program) texts = full_by program (script_in texts.script) (image_of texts.image)
-full_with (Err refusal) texts = None
-
--- the status of one whose steps were done: an execution's where all events fit
-abbrev pub status_or : Option Refusal → ℕ → ℕ
-status_or None done = done
-status_or (Some refusal) done = refusal.status
 
 -- what a chip shows but for its log
 abbrev pub unlogged : ChipView → ChipView
@@ -123,20 +89,36 @@ unlogged chip = record chip { log = None }
 abbrev pub unlogged_world : World → World
 unlogged_world w = record w { chip = unlogged w.chip }
 
--- A recorded execution of the files at entry: what it reads, a program file if it was loaded, and
--- how it ends. Where the steps were done and the events do not all fit, the line that tells it
--- comes last
-pub record TraceEnds (names : TraceNames) (old new : World) (status : ℕ) : Type 0 where
-  pub prog : List ℕ
-  pub texts : Texts
-  pub is_text : IsText old.files.holds names.prog.now prog
-  pub read : IsRead (exec_names (exec_of names)) texts old.files.holds
-  pub stood : World
-  pub ends : Ends (trace_steps names prog texts) (status_or (full_with (prog_in prog) texts)
-      (status_with (prog_in prog) texts)) old stood status
-  pub last : TellsLast ends.ended (full_with (prog_in prog) texts) stood new
-  pub file : (done_steps (trace_steps names prog texts) ends.ended ≡ [] → ⊥) → IsProgramFile prog
-  pub done : IsDoneWith ends.ended (prog_in prog) texts (unlogged new.chip)
+-- what stands in the chip after it, but for its log
+abbrev pub TraceLeft : Program → List Instruction → Image → ChipView → Type 0
+TraceLeft program script i chip = JobLeft program script i (unlogged chip)
+
+-- where all events fit it is done, with an execution's status; else it is refused, which is told
+-- last
+abbrev pub full_plan : Bool → Program → List Instruction → Image → Plan
+full_plan true program script i =
+    Answers (done_status (refused_by program script i)) (TraceLeft program script i)
+full_plan false program script i = Refuses trace_full (TraceLeft program script i)
+
+-- a script is done on an image over a recorder
+abbrev pub traced_plan : TraceNames → Program → List Instruction → Image → Plan
+traced_plan names program script i = Then (traced_steps names program script i)
+    (full_plan (fits program script i) program script i)
+
+-- IMAGE is loaded, and the script is done on it
+abbrev pub trace_image_plan : TraceNames → Program → List Instruction → Plan
+trace_image_plan names program script = Loads names.image.now IMAGE_MAX image_of (λ text i.
+    traced_plan names program script i)
+
+-- SCRIPT is loaded, and is done on IMAGE
+abbrev pub trace_job_plan : TraceNames → Program → Plan
+trace_job_plan names program = Loads names.script.now SCRIPT_MAX script_in (λ text script.
+    trace_image_plan names program script)
+
+-- PROG is loaded, a program file, and SCRIPT is done on IMAGE with its program
+abbrev pub trace_plan : TraceNames → Plan
+trace_plan names = Loads names.prog.now PROG_MAX prog_in (λ text program.
+    Makes {A = Unit {0}} (λ u. IsProgramFile text) (λ u. trace_job_plan names program))
 
 -- the trace of an execution that was done
 abbrev pub trace_of : {names : ExecNames} {before between : Files} {old new : World} {status : ℕ}
@@ -216,31 +198,3 @@ abbrev pub ScriptTraced : TraceNames → Program → List Instruction → Image 
 ScriptTraced names program script i old new result =
     Came (traced_steps names program script i) (unless_fits (fits program script i))
     (WorkDone program script i) result old new
-
--- IMAGE was loaded, and the script done on it
-pub record ImageTraced (names : TraceNames) (program : Program) (script : List Instruction)
-    (old new : World) (result : Result ℕ Stop) : Type 0 where
-  pub text : List ℕ
-  pub is_text : IsText old.files.holds names.image.now text
-  pub came : Came (traced_image_steps names program script text)
-      (full_on program script (image_of text)) (DoneOn program script (image_of text)) result
-      old new
-
--- and SCRIPT
-pub record JobTraced (names : TraceNames) (program : Program) (old new : World)
-    (result : Result ℕ Stop) : Type 0 where
-  pub texts : Texts
-  pub read : IsRead (exec_names (exec_of names)) texts old.files.holds
-  pub came : Came (traced_job_steps names program texts)
-      (full_by program (script_in texts.script) (image_of texts.image)) (JobDone program texts)
-      result old new
-
--- it stopped at PROG, or came on with its program
-pub record TraceGoes (names : TraceNames) (old new : World) (result : Result ℕ Stop) : Type 0 where
-  pub prog : List ℕ
-  pub texts : Texts
-  pub is_text : IsText old.files.holds names.prog.now prog
-  pub read : IsRead (exec_names (exec_of names)) texts old.files.holds
-  pub went : StopsAtLoad names.prog.now PROG_MAX prog (prog_in prog) (end_of result) old new
-      ⊎ (IsProgramFile prog × Came (trace_steps names prog texts)
-      (full_with (prog_in prog) texts) (IsDoneAs (prog_in prog) texts) result old new)

@@ -3,7 +3,9 @@
 ghost use Rattle.std.specs.Prelude.{◌≡◌, ◌<◌, ◌≤◌, ◌^◌, length, IfOk};
 ghost use Rattle.dram_model.specs.View.{ChipView};
 ghost use Rattle.cli_model.specs.World.{world};
-ghost use Rattle.simdram_cli.specs.Accounts.{AccountGoes, IsAsked, account_of};
+ghost use Rattle.cli_model.specs.Runs.{Runs};
+ghost use Rattle.simdram_cli.specs.Plans.{said_of};
+ghost use Rattle.simdram_cli.specs.Accounts.{IsAsked, account_of, account_plan};
 
 use crate::load::load;
 use crate::stop::Stop;
@@ -41,9 +43,9 @@ pub(crate) fn give_account<'a, F: Folder, S: Sink>(
     alloc: Global,
 ) -> Result<u64, Stop<'a>>
     requires { IsAsked account }
-    ensures { (chip : ChipView) → AccountGoes name.now account
+    ensures { (chip : ChipView) → Runs (account_plan name.now account)
         (world (F.view files.old) (S.view out.old) chip)
-        (world (F.view files.new) (S.view out.new) chip) result }
+        (world (F.view files.new) (S.view out.new) chip) (said_of result) }
 {
     let bytes = load(name, PROG_MAX, files, alloc)?;
     let prog = match ProgView::open(&bytes) {

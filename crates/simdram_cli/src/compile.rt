@@ -2,7 +2,9 @@
 
 ghost use Rattle.dram_model.specs.View.{ChipView};
 ghost use Rattle.cli_model.specs.World.{world};
-ghost use Rattle.simdram_cli.specs.Compile.{CompileGoes};
+ghost use Rattle.cli_model.specs.Runs.{Runs};
+ghost use Rattle.simdram_cli.specs.Compile.{compile_plan};
+ghost use Rattle.simdram_cli.specs.Plans.{said_of};
 
 use crate::counted::put_counted;
 use crate::run::take_program;
@@ -18,9 +20,9 @@ pub(crate) fn compile<'a, F: Folder, S: Sink>(
     out: &mut S,
     alloc: Global,
 ) -> Result<u64, Stop<'a>>
-    ensures { (chip : ChipView) → CompileGoes names.now
+    ensures { (chip : ChipView) → Runs (compile_plan names.now)
         (world (F.view files.old) (S.view out.old) chip)
-        (world (F.view files.new) (S.view out.new) chip) result }
+        (world (F.view files.new) (S.view out.new) chip) (said_of result) }
 {
     let (program, _) = take_program(names.ops, names.prog, files, alloc)?;
     if put_counted(b"compiled ", program.entries.len(), out).is_err() {

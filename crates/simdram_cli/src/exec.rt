@@ -2,7 +2,9 @@
 
 ghost use Rattle.std.specs.Prelude.{◌≡◌};
 ghost use Rattle.cli_model.specs.World.{world};
-ghost use Rattle.simdram_cli.specs.Exec.{ExecGoes};
+ghost use Rattle.cli_model.specs.Runs.{Runs};
+ghost use Rattle.simdram_cli.specs.Exec.{exec_plan};
+ghost use Rattle.simdram_cli.specs.Plans.{said_of};
 
 use crate::job::{JobNames, do_job};
 use crate::load::load;
@@ -22,8 +24,9 @@ pub(crate) fn exec<'a, F: Folder, S: Sink, D: Dram>(
     alloc: Global,
 ) -> Result<u64, Stop<'a>>
     ensures borrow { D.borrow chip.new ≡ D.borrow chip.old }
-    ensures goes { ExecGoes names.now (world (F.view files.old) (S.view out.old) (D.view chip.old))
-        (world (F.view files.new) (S.view out.new) (D.view chip.new)) result }
+    ensures runs { Runs (exec_plan names.now)
+        (world (F.view files.old) (S.view out.old) (D.view chip.old))
+        (world (F.view files.new) (S.view out.new) (D.view chip.new)) (said_of result) }
 {
     let bytes = load(names.prog, PROG_MAX, files, alloc)?;
     let prog = match ProgView::open(&bytes) {

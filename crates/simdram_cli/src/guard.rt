@@ -23,12 +23,13 @@ ghost use Rattle.guard_model.specs.Report.{vote_line};
 ghost use Rattle.guard_model.specs.Triples.{first_stranger as stranger};
 ghost use Rattle.tmr_guard.specs.Steps.{machine_in};
 ghost use Rattle.simdram_cli.specs.Flips.{flips_in, guarded_script_in};
-ghost use Rattle.simdram_cli.specs.Guard.{FlipsWorked, GuardDone, GuardGoes, GuardImageWorked};
-ghost use Rattle.simdram_cli.specs.Guard.{GuardJobGoes, guard_job as job_on, work_steps};
+ghost use Rattle.cli_model.specs.Runs.{Runs};
+ghost use Rattle.simdram_cli.specs.Guard.{GuardDone, flips_plan, guard_image_plan};
+ghost use Rattle.simdram_cli.specs.Guard.{guard_job as job_on, guard_job_plan, guard_plan, work_steps};
+ghost use Rattle.simdram_cli.specs.Plans.{said_of};
 ghost use Rattle.simdram_cli.specs.Inputs.{image_found};
-ghost use Rattle.simdram_cli.specs.Reads.{NotRead, ReadAs};
+ghost use Rattle.cli_model.specs.Reads.{NotRead, ReadAs};
 ghost use Rattle.simdram_cli.specs.Stops.{end_of, reason_of};
-ghost use Rattle.simdram_cli.specs.Words.{guard_apart};
 
 use crate::job::image_stop;
 use crate::lines::{Line, add, add_number};
@@ -262,10 +263,10 @@ fn work_on_flips<'a, F: Folder, S: Sink, D: Dram>(
         (map view_of script.now) }
     requires few { length script.now ≤ SCRIPT_MAX + 1 }
     ensures borrow { D.borrow chip.new ≡ D.borrow chip.old }
-    ensures worked { FlipsWorked names.now prog.entry.programs (map view_of script.now)
-        (image_found (found_in image.entry))
+    ensures runs { Runs (flips_plan names.now prog.entry.programs (map view_of script.now)
+        (image_found (found_in image.entry)))
         (world (F.view files.old) (S.view out.old) (D.view chip.old))
-        (world (F.view files.new) (S.view out.new) (D.view chip.new)) result }
+        (world (F.view files.new) (S.view out.new) (D.view chip.new)) (said_of result) }
 {
     let instrs = script.len() as u32;
     let flips = load_flips(names.flips, image.geometry, instrs, files, alloc)?;
@@ -296,9 +297,9 @@ fn guard_image<'a, F: Folder, S: Sink, D: Dram>(
         (map view_of script.now) }
     requires few { length script.now ≤ SCRIPT_MAX + 1 }
     ensures borrow { D.borrow chip.new ≡ D.borrow chip.old }
-    ensures worked { GuardImageWorked names.now prog.entry.programs (map view_of script.now)
+    ensures runs { Runs (guard_image_plan names.now prog.entry.programs (map view_of script.now))
         (world (F.view files.old) (S.view out.old) (D.view chip.old))
-        (world (F.view files.new) (S.view out.new) (D.view chip.new)) result }
+        (world (F.view files.new) (S.view out.new) (D.view chip.new)) (said_of result) }
 {
     let bytes = load(names.image, IMAGE_MAX, files, alloc)?;
     let image = match read_image(&bytes, alloc) {
@@ -321,9 +322,9 @@ fn guard_job<'a, F: Folder, S: Sink, D: Dram>(
     alloc: Global,
 ) -> Result<u64, Stop<'a>>
     ensures borrow { D.borrow chip.new ≡ D.borrow chip.old }
-    ensures goes { GuardJobGoes names.now prog.entry.programs
+    ensures runs { Runs (guard_job_plan names.now prog.entry.programs)
         (world (F.view files.old) (S.view out.old) (D.view chip.old))
-        (world (F.view files.new) (S.view out.new) (D.view chip.new)) result }
+        (world (F.view files.new) (S.view out.new) (D.view chip.new)) (said_of result) }
 {
     let script = load_guarded(names.script, files, alloc)?;
     guard_image(prog, &script, names, files, out, chip, alloc)
@@ -338,11 +339,10 @@ pub(crate) fn guard<'a, F: Folder, S: Sink, D: Dram>(
     chip: &mut D,
     alloc: Global,
 ) -> Result<u64, Stop<'a>>
-    requires apart { guard_apart names.now ≡ true }
     ensures borrow { D.borrow chip.new ≡ D.borrow chip.old }
-    ensures goes { GuardGoes names.now
+    ensures runs { Runs (guard_plan names.now)
         (world (F.view files.old) (S.view out.old) (D.view chip.old))
-        (world (F.view files.new) (S.view out.new) (D.view chip.new)) result }
+        (world (F.view files.new) (S.view out.new) (D.view chip.new)) (said_of result) }
 {
     let (_, file) = take_program(names.ops, names.prog, files, alloc)?;
     guard_job(open_own(&file), names, files, out, chip, alloc)

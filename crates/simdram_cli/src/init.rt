@@ -5,7 +5,9 @@ ghost use Rattle.dram_model.specs.Geometry.{is_geometry};
 ghost use Rattle.dram_model.specs.View.{ChipView};
 ghost use Rattle.cli_model.specs.World.{world};
 ghost use Rattle.host_edge.specs.Views.{SinkView};
-ghost use Rattle.simdram_cli.specs.Init.{InitGoes};
+ghost use Rattle.cli_model.specs.Runs.{Runs};
+ghost use Rattle.simdram_cli.specs.Init.{init_plan};
+ghost use Rattle.simdram_cli.specs.Plans.{said_of};
 
 use crate::stop::Stop;
 use crate::words::InitNames;
@@ -20,8 +22,9 @@ pub(crate) fn init<'a, F: Folder>(
     alloc: Global,
 ) -> Result<u64, Stop<'a>>
     requires { is_geometry names.now.geometry ≡ true }
-    ensures { (sink : SinkView) (chip : ChipView) → InitGoes names.now
-        (world (F.view files.old) sink chip) (world (F.view files.new) sink chip) result }
+    ensures { (sink : SinkView) (chip : ChipView) → Runs (init_plan names.now)
+        (world (F.view files.old) sink chip) (world (F.view files.new) sink chip)
+        (said_of result) }
 {
     let Ok(file) = empty_image(names.geometry, alloc) else {
         return Err(Stop::NoMemory);

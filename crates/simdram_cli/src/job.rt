@@ -5,7 +5,8 @@ ghost use Rattle.std.specs.List.{AllByRecursion};
 ghost use Rattle.bbop_isa.specs.Forms.{view_of};
 ghost use Rattle.machine_model.specs.Agrees.{IsPlain};
 ghost use Rattle.cli_model.specs.World.{world};
-ghost use Rattle.simdram_cli.specs.Ends.{ImageWorked, JobGoes};
+ghost use Rattle.cli_model.specs.Runs.{Runs};
+ghost use Rattle.simdram_cli.specs.Plans.{image_plan, job_plan, said_of};
 ghost use Rattle.simdram_cli.specs.Stops.{image_reason, reason_of};
 
 use crate::load::{load, load_script};
@@ -50,9 +51,9 @@ fn work_on_image<'a, F: Folder, S: Sink, D: Dram>(
     requires plain { AllByRecursion IsPlain (map view_of script.now) }
     requires few { length script.now ≤ SCRIPT_MAX + 1 }
     ensures borrow { D.borrow chip.new ≡ D.borrow chip.old }
-    ensures worked { ImageWorked names.now prog.entry.programs (map view_of script.now)
+    ensures runs { Runs (image_plan names.now prog.entry.programs (map view_of script.now))
         (world (F.view files.old) (S.view out.old) (D.view chip.old))
-        (world (F.view files.new) (S.view out.new) (D.view chip.new)) result }
+        (world (F.view files.new) (S.view out.new) (D.view chip.new)) (said_of result) }
 {
     let bytes = load(names.image, IMAGE_MAX, files, alloc)?;
     let image = match read_image(&bytes, alloc) {
@@ -72,9 +73,9 @@ pub(crate) fn do_job<'a, F: Folder, S: Sink, D: Dram>(
     alloc: Global,
 ) -> Result<u64, Stop<'a>>
     ensures borrow { D.borrow chip.new ≡ D.borrow chip.old }
-    ensures goes { JobGoes names.now prog.entry.programs
+    ensures runs { Runs (job_plan names.now prog.entry.programs)
         (world (F.view files.old) (S.view out.old) (D.view chip.old))
-        (world (F.view files.new) (S.view out.new) (D.view chip.new)) result }
+        (world (F.view files.new) (S.view out.new) (D.view chip.new)) (said_of result) }
 {
     let script = load_script(names.script, files, alloc)?;
     work_on_image(prog, &script, names, files, out, chip, alloc)

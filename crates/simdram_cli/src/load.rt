@@ -7,7 +7,8 @@ ghost use Rattle.op_text.specs.Language.{operations};
 ghost use Rattle.op_text.specs.Spelling.{MeetRules};
 ghost use Rattle.machine_model.specs.Agrees.{IsPlain};
 ghost use Rattle.simdram_cli.specs.Inputs.{ops_in, script_in};
-ghost use Rattle.simdram_cli.specs.Reads.{LoadedAs, NotLoaded, NotRead, OpsRead, ReadAs};
+ghost use Rattle.cli_model.specs.Reads.{LoadedAs, NotLoaded, NotRead, ReadAs};
+ghost use Rattle.simdram_cli.specs.Reads.{OpsRead};
 ghost use Rattle.simdram_cli.specs.Stops.{reason_of};
 
 use crate::stop::Stop;

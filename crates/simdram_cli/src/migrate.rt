@@ -2,7 +2,9 @@
 
 ghost use Rattle.dram_model.specs.View.{ChipView};
 ghost use Rattle.cli_model.specs.World.{world};
-ghost use Rattle.simdram_cli.specs.Migrate.{MigrateGoes};
+ghost use Rattle.cli_model.specs.Runs.{Runs};
+ghost use Rattle.simdram_cli.specs.Migrate.{migrate_plan};
+ghost use Rattle.simdram_cli.specs.Plans.{said_of};
 
 use crate::counted::put_counted;
 use crate::load::load;
@@ -19,9 +21,9 @@ pub(crate) fn migrate<'a, F: Folder, S: Sink>(
     out: &mut S,
     alloc: Global,
 ) -> Result<u64, Stop<'a>>
-    ensures { (chip : ChipView) → MigrateGoes names.now
+    ensures { (chip : ChipView) → Runs (migrate_plan names.now)
         (world (F.view files.old) (S.view out.old) chip)
-        (world (F.view files.new) (S.view out.new) chip) result }
+        (world (F.view files.new) (S.view out.new) chip) (said_of result) }
 {
     let mut bytes = load(names.old, PROG_MAX, files, alloc)?;
     let entries = match uprog_bin::migrate(&mut bytes) {

@@ -10,8 +10,10 @@ ghost use Rattle.sim_machine.specs.Machine.{file_of};
 ghost use Rattle.cli_model.specs.World.{world};
 ghost use Rattle.cli_model.specs.Steps.{Goes, Open, Use, Store, Put};
 ghost use Rattle.simdram_cli.specs.Inputs.{image_found};
-ghost use Rattle.simdram_cli.specs.Replay.{EventsDone, ImageReplayed, ReplayGoes, events_steps};
-ghost use Rattle.simdram_cli.specs.Replay.{image_replayed, replay_line};
+ghost use Rattle.cli_model.specs.Runs.{Runs};
+ghost use Rattle.simdram_cli.specs.Plans.{said_of};
+ghost use Rattle.simdram_cli.specs.Replay.{EventsDone, events_plan, image_replayed};
+ghost use Rattle.simdram_cli.specs.Replay.{replay_image_plan, replay_line, replay_plan};
 ghost use Rattle.simdram_cli.specs.Stops.{end_of, reason_of, trace_reason};
 
 use crate::job::image_stop;
@@ -125,12 +127,9 @@ fn replay_on<'a, F: Folder, S: Sink, D: Dram>(
     requires rows { length image.rows.now ≡ rows_size image.geometry }
     requires same { image.geometry ≡ trace.now.geometry }
     ensures borrow { D.borrow chip.new ≡ D.borrow chip.old }
-    ensures goes { Goes (events_steps name.now trace.now (image_found (found_in image.entry)))
-        (end_of result) (world (F.view files.old) (S.view out.old) (D.view chip.old))
-        (world (F.view files.new) (S.view out.new) (D.view chip.new)) }
-    ensures nothing { IfOk result (λ refused. refused ≡ 0) }
-    ensures done { OnOk result (EventsDone trace.now (image_found (found_in image.entry))
-        (D.view chip.new)) }
+    ensures runs { Runs (events_plan name.now trace.now (image_found (found_in image.entry)))
+        (world (F.view files.old) (S.view out.old) (D.view chip.old))
+        (world (F.view files.new) (S.view out.new) (D.view chip.new)) (said_of result) }
 {
     let prog = open_own(NO_PROGRAM);
     let machine = replay_rows(prog, trace, image, chip, alloc)?;
@@ -148,9 +147,9 @@ fn replay_on_image<'a, F: Folder, S: Sink, D: Dram>(
     alloc: Global,
 ) -> Result<u64, Stop<'a>>
     ensures borrow { D.borrow chip.new ≡ D.borrow chip.old }
-    ensures replayed { ImageReplayed names.now trace.now
+    ensures runs { Runs (replay_image_plan names.now trace.now)
         (world (F.view files.old) (S.view out.old) (D.view chip.old))
-        (world (F.view files.new) (S.view out.new) (D.view chip.new)) result }
+        (world (F.view files.new) (S.view out.new) (D.view chip.new)) (said_of result) }
 {
     let bytes = load(names.image, IMAGE_MAX, files, alloc)?;
     let image = match read_image(&bytes, alloc) {
@@ -173,9 +172,9 @@ pub(crate) fn replay<'a, F: Folder, S: Sink, D: Dram>(
     alloc: Global,
 ) -> Result<u64, Stop<'a>>
     ensures borrow { D.borrow chip.new ≡ D.borrow chip.old }
-    ensures goes { ReplayGoes names.now
+    ensures runs { Runs (replay_plan names.now)
         (world (F.view files.old) (S.view out.old) (D.view chip.old))
-        (world (F.view files.new) (S.view out.new) (D.view chip.new)) result }
+        (world (F.view files.new) (S.view out.new) (D.view chip.new)) (said_of result) }
 {
     let bytes = load(names.trace, TRACE_MAX, files, alloc)?;
     let trace = match TraceView::open(&bytes, alloc) {

@@ -1,6 +1,6 @@
 //! The command `run`.
 
-ghost use Rattle.std.specs.Prelude.{◌≡◌, List, map, true, IfOk, IfErr};
+ghost use Rattle.std.specs.Prelude.{◌≡◌, List, map, IfOk, IfErr};
 ghost use Rattle.uprog_code.specs.Shape.{Microprogram, microprograms_of};
 ghost use Rattle.uprog_code.specs.Programs.{IsProgram};
 ghost use Rattle.uprog_code.specs.Texts.{ImplementsAll, text_op};
@@ -12,10 +12,12 @@ ghost use Rattle.op_text.specs.Spelling.{MeetRules};
 ghost use Rattle.cli_model.specs.World.{world};
 ghost use Rattle.cli_model.specs.Steps.{Done};
 ghost use Rattle.simdram_cli.specs.Accepted.{IsTaken};
-ghost use Rattle.simdram_cli.specs.Ends.{GoesToStore, ProgramStopped, ProgramTaken, RunGoes};
+ghost use Rattle.simdram_cli.specs.Ends.{GoesToStore, ProgramStopped, ProgramTaken};
 ghost use Rattle.simdram_cli.specs.Ends.{StopsAtStore};
+ghost use Rattle.cli_model.specs.Runs.{Runs};
+ghost use Rattle.simdram_cli.specs.Plans.{said_of};
+ghost use Rattle.simdram_cli.specs.Run.{run_plan};
 ghost use Rattle.simdram_cli.specs.Stops.{reason_of};
-ghost use Rattle.simdram_cli.specs.Words.{are_apart};
 
 use crate::job::{JobNames, do_job};
 use crate::load::load_ops;
@@ -120,11 +122,10 @@ pub(crate) fn run<'a, F: Folder, S: Sink, D: Dram>(
     chip: &mut D,
     alloc: Global,
 ) -> Result<u64, Stop<'a>>
-    requires apart { are_apart names.now.ops.now names.now.prog.now names.now.script.now
-        names.now.image.now names.now.out.now ≡ true }
     ensures borrow { D.borrow chip.new ≡ D.borrow chip.old }
-    ensures goes { RunGoes names.now (world (F.view files.old) (S.view out.old) (D.view chip.old))
-        (world (F.view files.new) (S.view out.new) (D.view chip.new)) result }
+    ensures runs { Runs (run_plan names.now)
+        (world (F.view files.old) (S.view out.old) (D.view chip.old))
+        (world (F.view files.new) (S.view out.new) (D.view chip.new)) (said_of result) }
 {
     let (_, file) = take_program(names.ops, names.prog, files, alloc)?;
     let job = JobNames {

@@ -12,9 +12,11 @@ ghost use Rattle.scan_query.specs.Queries.{IsNodesOf, nodes_in};
 ghost use Rattle.cli_model.specs.World.{world};
 ghost use Rattle.simdram_cli.specs.Inputs.{image_found};
 ghost use Rattle.simdram_cli.specs.Queries.{query_in};
-ghost use Rattle.simdram_cli.specs.Reads.{NotRead};
-ghost use Rattle.simdram_cli.specs.Scan.{AnswerGoes, DoesScans, ImageScanned, IsScanFile};
-ghost use Rattle.simdram_cli.specs.Scan.{QueryRead, ScanGoes, Went, count_line, put_steps, why_not};
+ghost use Rattle.cli_model.specs.Reads.{NotRead};
+ghost use Rattle.cli_model.specs.Runs.{Runs};
+ghost use Rattle.simdram_cli.specs.Plans.{said_of};
+ghost use Rattle.simdram_cli.specs.Scan.{AnswerGoes, DoesScans, IsScanFile, QueryRead, answer_plan};
+ghost use Rattle.simdram_cli.specs.Scan.{count_line, scan_image_plan, scan_plan};
 ghost use Rattle.simdram_cli.specs.Stops.{reason_of};
 
 use crate::job::image_stop;
@@ -110,8 +112,9 @@ fn count_line(found: u32, of: u32, counts: Counts) -> Line
 /// Puts how many elements were found. A refusal is left to be reported.
 fn put_answer<'a, S: Sink>(reply: ScanReply, out: &mut S) -> Result<u64, Stop<'a>>
     ensures { (files : FolderView) (chip : ChipView)
-        → Went (put_steps (answer_of reply)) (why_not (answer_of reply)) (λ view. Unit {0}) result
-        (world files (S.view out.old) chip) (world files (S.view out.new) chip) }
+        → Runs (answer_plan (λ view. Unit {0}) (answer_of reply))
+        (world files (S.view out.old) chip) (world files (S.view out.new) chip)
+        (said_of result) }
 {
     match reply {
         ScanReply::Done { found, of, counts } => {
@@ -136,10 +139,10 @@ fn scan_image<'a, F: Folder, S: Sink, D: Dram>(
 ) -> Result<u64, Stop<'a>>
     requires query { IsScan (nodes_in query.now) }
     ensures borrow { D.borrow chip.new ≡ D.borrow chip.old }
-    ensures scanned { (t : model.Query) → IsNodesOf t (nodes_in query.now)
-        → ImageScanned name.now t
+    ensures runs { (t : model.Query) → IsNodesOf t (nodes_in query.now)
+        → Runs (scan_image_plan name.now t)
         (world (F.view files.old) (S.view out.old) (D.view chip.old))
-        (world (F.view files.new) (S.view out.new) (D.view chip.new)) result }
+        (world (F.view files.new) (S.view out.new) (D.view chip.new)) (said_of result) }
 {
     let bytes = load(name, IMAGE_MAX, files, alloc)?;
     let image = match read_image(&bytes, alloc) {
@@ -162,9 +165,9 @@ pub(crate) fn scan<'a, F: Folder, S: Sink, D: Dram>(
     alloc: Global,
 ) -> Result<u64, Stop<'a>>
     ensures borrow { D.borrow chip.new ≡ D.borrow chip.old }
-    ensures goes { ScanGoes names.now
+    ensures runs { Runs (scan_plan names.now)
         (world (F.view files.old) (S.view out.old) (D.view chip.old))
-        (world (F.view files.new) (S.view out.new) (D.view chip.new)) result }
+        (world (F.view files.new) (S.view out.new) (D.view chip.new)) (said_of result) }
 {
     let query = load_query(names.query, files, alloc)?;
     scan_image(names.image, &query, files, out, chip, alloc)

@@ -3,7 +3,9 @@
 ghost use Rattle.std.specs.Prelude.{◌≡◌};
 ghost use Rattle.cli_model.specs.World.{world};
 ghost use Rattle.host_edge.specs.Views.{FolderView};
-ghost use Rattle.simdram_cli.specs.Soak.{SoakWent};
+ghost use Rattle.cli_model.specs.Runs.{Runs};
+ghost use Rattle.simdram_cli.specs.Plans.{said_of};
+ghost use Rattle.simdram_cli.specs.Soak.{soak_plan};
 
 use crate::stop::Stop;
 use dram_model::Dram;
@@ -19,9 +21,9 @@ pub(crate) fn soak<'a, S: Sink, D: Dram>(
     alloc: Global,
 ) -> Result<u64, Stop<'a>>
     ensures borrow { D.borrow chip.new ≡ D.borrow chip.old }
-    ensures went { (files : FolderView) → SoakWent seed
+    ensures went { (files : FolderView) → Runs (soak_plan seed)
         (world files (S.view out.old) (D.view chip.old))
-        (world files (S.view out.new) (D.view chip.new)) result }
+        (world files (S.view out.new) (D.view chip.new)) (said_of result) }
 {
     match soak_job::soak(seed, out, chip, alloc) {
         Ok(()) => Ok(0),

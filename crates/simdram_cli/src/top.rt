@@ -5,26 +5,26 @@ ghost use Rattle.dram_model.specs.View.{ChipView};
 ghost use Rattle.dram_model.specs.Geometry.{is_geometry};
 ghost use Rattle.host_edge.specs.Views.{FolderView};
 ghost use Rattle.cli_model.specs.World.{world};
-ghost use Rattle.cli_model.specs.Ends.{Ends};
 ghost use Rattle.cli_model.specs.Status.{Says, Tells};
-ghost use Rattle.simdram_cli.specs.Accounts.{AccountEnds, IsAsked};
+ghost use Rattle.simdram_cli.specs.Accounts.{IsAsked, account_plan};
 ghost use Rattle.simdram_cli.specs.Commands.{CanAnswer, CommandEnds, OnCommand, Promises};
-ghost use Rattle.simdram_cli.specs.Compile.{CompileEnds};
+ghost use Rattle.simdram_cli.specs.Compile.{compile_plan};
 ghost use Rattle.simdram_cli.specs.Complete.{Completes, Spares};
-ghost use Rattle.simdram_cli.specs.Ends.{RunEnds, answer_to};
-ghost use Rattle.simdram_cli.specs.Exec.{ExecEnds};
-ghost use Rattle.simdram_cli.specs.Guard.{GuardEnds};
+ghost use Rattle.simdram_cli.specs.Ends.{answer_to};
+ghost use Rattle.cli_model.specs.Runs.{EndsBy};
+ghost use Rattle.simdram_cli.specs.Exec.{exec_plan};
+ghost use Rattle.simdram_cli.specs.Guard.{guard_plan};
 ghost use Rattle.simdram_cli.specs.Headline.{OneJob};
-ghost use Rattle.simdram_cli.specs.Init.{init_steps};
-ghost use Rattle.simdram_cli.specs.Migrate.{MigrateEnds};
-ghost use Rattle.simdram_cli.specs.Replay.{ReplayEnds};
+ghost use Rattle.simdram_cli.specs.Init.{init_plan};
+ghost use Rattle.simdram_cli.specs.Migrate.{migrate_plan};
+ghost use Rattle.simdram_cli.specs.Replay.{replay_plan};
+ghost use Rattle.simdram_cli.specs.Run.{run_plan};
 ghost use Rattle.simdram_cli.specs.Scan.{ScanEnds};
-ghost use Rattle.simdram_cli.specs.Show.{ShowEnds};
+ghost use Rattle.simdram_cli.specs.Show.{show_plan};
 ghost use Rattle.simdram_cli.specs.Soak.{SoakEnds};
 ghost use Rattle.simdram_cli.specs.Stops.{end_of};
-ghost use Rattle.simdram_cli.specs.Tracing.{TraceEnds};
-ghost use Rattle.simdram_cli.specs.Words.{HasNumbers, IsApart, are_apart, command_of};
-ghost use Rattle.simdram_cli.specs.Words.{guard_apart};
+ghost use Rattle.simdram_cli.specs.Tracing.{trace_plan};
+ghost use Rattle.simdram_cli.specs.Words.{HasNumbers, IsApart, command_of};
 
 use crate::account::{Account, give_account};
 use crate::compile::compile;
@@ -72,10 +72,8 @@ fn run_and_answer<F: Folder, S: Sink, D: Dram>(
     chip: &mut D,
     alloc: Global,
 ) -> u8
-    requires apart { are_apart names.now.ops.now names.now.prog.now names.now.script.now
-        names.now.image.now names.now.out.now ≡ true }
     ensures borrow { D.borrow chip.new ≡ D.borrow chip.old }
-    ensures ends { RunEnds names.now
+    ensures ends { EndsBy (run_plan names.now)
         (world (F.view files.old) (S.view out.old) (D.view chip.old))
         (world (F.view files.new) (S.view out.new) (D.view chip.new)) result }
 {
@@ -92,7 +90,7 @@ fn exec_and_answer<F: Folder, S: Sink, D: Dram>(
     alloc: Global,
 ) -> u8
     ensures borrow { D.borrow chip.new ≡ D.borrow chip.old }
-    ensures ends { ExecEnds names.now
+    ensures ends { EndsBy (exec_plan names.now)
         (world (F.view files.old) (S.view out.old) (D.view chip.old))
         (world (F.view files.new) (S.view out.new) (D.view chip.new)) result }
 {
@@ -107,7 +105,7 @@ fn compile_and_answer<F: Folder, S: Sink>(
     out: &mut S,
     alloc: Global,
 ) -> u8
-    ensures { (chip : ChipView) → CompileEnds names.now
+    ensures { (chip : ChipView) → EndsBy (compile_plan names.now)
         (world (F.view files.old) (S.view out.old) chip)
         (world (F.view files.new) (S.view out.new) chip) result }
 {
@@ -117,7 +115,7 @@ fn compile_and_answer<F: Folder, S: Sink>(
 
 /// Shows, and tells why it stopped if it did.
 fn show_and_answer<F: Folder, S: Sink>(name: &str, files: &mut F, out: &mut S, alloc: Global) -> u8
-    ensures { (chip : ChipView) → ShowEnds name.now
+    ensures { (chip : ChipView) → EndsBy (show_plan name.now)
         (world (F.view files.old) (S.view out.old) chip)
         (world (F.view files.new) (S.view out.new) chip) result }
 {
@@ -132,7 +130,7 @@ fn migrate_and_answer<F: Folder, S: Sink>(
     out: &mut S,
     alloc: Global,
 ) -> u8
-    ensures { (chip : ChipView) → MigrateEnds names.now
+    ensures { (chip : ChipView) → EndsBy (migrate_plan names.now)
         (world (F.view files.old) (S.view out.old) chip)
         (world (F.view files.new) (S.view out.new) chip) result }
 {
@@ -149,7 +147,7 @@ fn account_and_answer<F: Folder, S: Sink>(
     alloc: Global,
 ) -> u8
     requires { IsAsked account }
-    ensures { (chip : ChipView) → AccountEnds name.now account
+    ensures { (chip : ChipView) → EndsBy (account_plan name.now account)
         (world (F.view files.old) (S.view out.old) chip)
         (world (F.view files.new) (S.view out.new) chip) result }
 {
@@ -165,7 +163,7 @@ fn init_and_answer<F: Folder, S: Sink>(
     alloc: Global,
 ) -> u8
     requires { is_geometry names.now.geometry ≡ true }
-    ensures { (chip : ChipView) → Ends (init_steps names.now) 0
+    ensures { (chip : ChipView) → EndsBy (init_plan names.now)
         (world (F.view files.old) (S.view out.old) chip)
         (world (F.view files.new) (S.view out.new) chip) result }
 {
@@ -210,7 +208,7 @@ fn trace_and_answer<F: Folder, S: Sink, D: Dram>(
     alloc: Global,
 ) -> u8
     ensures borrow { D.borrow chip.new ≡ D.borrow chip.old }
-    ensures ends { TraceEnds names.now
+    ensures ends { EndsBy (trace_plan names.now)
         (world (F.view files.old) (S.view out.old) (D.view chip.old))
         (world (F.view files.new) (S.view out.new) (D.view chip.new)) result }
 {
@@ -227,7 +225,7 @@ fn replay_and_answer<F: Folder, S: Sink, D: Dram>(
     alloc: Global,
 ) -> u8
     ensures borrow { D.borrow chip.new ≡ D.borrow chip.old }
-    ensures ends { ReplayEnds names.now
+    ensures ends { EndsBy (replay_plan names.now)
         (world (F.view files.old) (S.view out.old) (D.view chip.old))
         (world (F.view files.new) (S.view out.new) (D.view chip.new)) result }
 {
@@ -243,9 +241,8 @@ fn guard_and_answer<F: Folder, S: Sink, D: Dram>(
     chip: &mut D,
     alloc: Global,
 ) -> u8
-    requires apart { guard_apart names.now ≡ true }
     ensures borrow { D.borrow chip.new ≡ D.borrow chip.old }
-    ensures ends { GuardEnds names.now
+    ensures ends { EndsBy (guard_plan names.now)
         (world (F.view files.old) (S.view out.old) (D.view chip.old))
         (world (F.view files.new) (S.view out.new) (D.view chip.new)) result }
 {

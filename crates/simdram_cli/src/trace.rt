@@ -20,9 +20,11 @@ ghost use Rattle.sim_machine.specs.Machine.{IsReady, geometry_of, operations_by,
 ghost use Rattle.sim_machine.specs.Steps.{DidAndRead};
 ghost use Rattle.simdram_cli.specs.Inputs.{image_found};
 ghost use Rattle.simdram_cli.specs.Stops.{end_of};
-ghost use Rattle.simdram_cli.specs.Tracing.{ImageTraced, JobTraced, OpensOn, ScriptRecorded};
-ghost use Rattle.simdram_cli.specs.Tracing.{ScriptTraced, TraceGoes, events_on, image_on, reads_on};
-ghost use Rattle.simdram_cli.specs.Tracing.{steps_on};
+ghost use Rattle.cli_model.specs.Runs.{Runs};
+ghost use Rattle.simdram_cli.specs.Plans.{said_of};
+ghost use Rattle.simdram_cli.specs.Tracing.{OpensOn, ScriptRecorded, ScriptTraced, events_on};
+ghost use Rattle.simdram_cli.specs.Tracing.{image_on, reads_on, steps_on, trace_image_plan};
+ghost use Rattle.simdram_cli.specs.Tracing.{trace_job_plan, trace_plan};
 
 use crate::job::image_stop;
 use crate::load::{load, load_script};
@@ -173,9 +175,9 @@ fn trace_image<'a, F: Folder, S: Sink, D: Dram>(
     requires plain { AllByRecursion IsPlain (map view_of script.now) }
     requires few { length script.now ≤ SCRIPT_MAX + 1 }
     ensures borrow { D.borrow chip.new ≡ D.borrow chip.old }
-    ensures traced { ImageTraced names.now prog.entry.programs (map view_of script.now)
+    ensures runs { Runs (trace_image_plan names.now prog.entry.programs (map view_of script.now))
         (world (F.view files.old) (S.view out.old) (D.view chip.old))
-        (world (F.view files.new) (S.view out.new) (D.view chip.new)) result }
+        (world (F.view files.new) (S.view out.new) (D.view chip.new)) (said_of result) }
 {
     let bytes = load(names.image, IMAGE_MAX, files, alloc)?;
     let image = match read_image(&bytes, alloc) {
@@ -196,9 +198,9 @@ fn trace_with<'a, F: Folder, S: Sink, D: Dram>(
 ) -> Result<u64, Stop<'a>>
     requires legal { IsProgram prog.programs }
     ensures borrow { D.borrow chip.new ≡ D.borrow chip.old }
-    ensures traced { JobTraced names.now prog.entry.programs
+    ensures runs { Runs (trace_job_plan names.now prog.entry.programs)
         (world (F.view files.old) (S.view out.old) (D.view chip.old))
-        (world (F.view files.new) (S.view out.new) (D.view chip.new)) result }
+        (world (F.view files.new) (S.view out.new) (D.view chip.new)) (said_of result) }
 {
     let script = load_script(names.script, files, alloc)?;
     trace_image(prog, &script, names, files, out, chip, alloc)
@@ -214,9 +216,9 @@ pub(crate) fn trace<'a, F: Folder, S: Sink, D: Dram>(
     alloc: Global,
 ) -> Result<u64, Stop<'a>>
     ensures borrow { D.borrow chip.new ≡ D.borrow chip.old }
-    ensures goes { TraceGoes names.now
+    ensures runs { Runs (trace_plan names.now)
         (world (F.view files.old) (S.view out.old) (D.view chip.old))
-        (world (F.view files.new) (S.view out.new) (D.view chip.new)) result }
+        (world (F.view files.new) (S.view out.new) (D.view chip.new)) (said_of result) }
 {
     let bytes = load(names.prog, PROG_MAX, files, alloc)?;
     let prog = match ProgView::open(&bytes) {

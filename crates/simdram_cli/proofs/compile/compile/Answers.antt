@@ -1,18 +1,18 @@
-use Rattle.std.proofs.Common.{refl, sym, ◌∙◌}
-use Rattle.std.specs.Prelude.{Ok, Err}
+use Rattle.std.proofs.Common.{sym, ◌∙◌}
 use Rattle.std.proofs.lemmas.Result.{err_from_is_err_and}
 use Rattle.std.proofs.lemmas.List.{length-map}
 use Rattle.uprog_code.specs.Shape.{microprogram_of, microprograms_of}
-use Rattle.simdram_cli.specs.declared.stop.Stop.TheVariants as stop
 use Rattle.simdram_cli.specs.Compile.{compiled_line}
 use Rattle.simdram_cli.proofs.Stores.{at_ok, at_err}
-use Rattle.simdram_cli.proofs.Compiling.{compile_stopped, compile_went, line_failed, line_sent}
+use Rattle.cli_model.proofs.Doing.{puts, unput}
+use Rattle.cli_model.proofs.Running.{runs_answered}
+use Rattle.simdram_cli.proofs.Compiled.{compiled_stopped, compiled_taken}
 use Rattle.simdram_cli.proofs.compile.compile.Goals as goal
 
 pub returns-in_err-program : goal.returns-in_err-program
 returns-in_err-program g c =
     let p = err_from_is_err_and c.from_residual.result c.from_residual.ensures.1 in
-    λ chip. rw (p.1, p.2) (compile_stopped c.args.names.now _ (g.F.Folder.view c.args.files.now)
+    λ chip. rw (p.1, p.2) (compiled_stopped c.args.names.now.ops.now c.args.names.now.prog.now _ _ (g.F.Folder.view c.args.files.now)
     (g.F.Folder.view c.take_program.new.files) (g.S.Sink.view c.args.out.now) chip
     c.in_err-program.ensures.stopped)
 
@@ -26,10 +26,10 @@ returns-then-is_err g c =
     let new = g.S.Sink.view c.put_counted.new.out in
     let rose = at_err c.put_counted.result (sym c.is_err.ensures.value ∙ c.if-is_err.true)
     c.put_counted.ensures.failed in
-    λ chip. compile_went c.args.names.now program (Err stop.PutFailed)
-    (g.F.Folder.view c.args.files.now) files old new chip c.in_ok-program.ensures.taken
-    (line_failed (compiled_line program) files old new chip (rw many at c.put_counted.ensures.part)
-    c.put_counted.ensures.counts rose) tt
+    λ chip. compiled_taken c.args.names.now.ops.now c.args.names.now.prog.now _ program _
+    (g.F.Folder.view c.args.files.now) files old chip _ c.in_ok-program.ensures.taken
+    (unput (compiled_line program) _ files old new chip (rw many at c.put_counted.ensures.part)
+    c.put_counted.ensures.counts rose)
 
 pub returns : goal.returns
 returns g c =
@@ -41,7 +41,7 @@ returns g c =
     let new = g.S.Sink.view c.put_counted.new.out in
     let known = at_ok c.put_counted.result (sym c.is_err.ensures.value ∙ c.if-is_err.false)
     c.put_counted.ensures.sent in
-    λ chip. compile_went c.args.names.now program (Ok 0) (g.F.Folder.view c.args.files.now) files
-    old new chip c.in_ok-program.ensures.taken
-    (line_sent (compiled_line program) files old new chip (rw many at known)
-    c.put_counted.ensures.counts) refl
+    λ chip. compiled_taken c.args.names.now.ops.now c.args.names.now.prog.now _ program _
+    (g.F.Folder.view c.args.files.now) files old chip _ c.in_ok-program.ensures.taken
+    (puts (compiled_line program) _ _ files old new chip _ (rw many at known)
+    c.put_counted.ensures.counts (runs_answered 0 _ _ tt))

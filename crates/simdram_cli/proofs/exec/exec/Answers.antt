@@ -1,26 +1,31 @@
-use Rattle.std.proofs.Common.{refl, sym, ◌∙◌}
+use Rattle.std.proofs.Common.{refl, sym, ◌∙◌, ap}
 use Rattle.std.proofs.lemmas.Result.{err_from_is_err_and}
 use Rattle.uprog_bin.specs.Opened.{IsProgramFile}
 use Rattle.cli_model.specs.World.{world}
-use Rattle.simdram_cli.proofs.Executing.{exec_refused, exec_unread, exec_went}
+use Rattle.cli_model.proofs.Doing.{parsed, refused, unloaded}
+use Rattle.cli_model.proofs.Running.{runs_made}
+use Rattle.simdram_cli.specs.declared.words.TheConstants.{PROG_MAX}
+use Rattle.simdram_cli.specs.Programs.{prog_in, prog_refusal, program_or_refusal}
+use Rattle.simdram_cli.proofs.Migrating.{prog_is}
 use Rattle.simdram_cli.proofs.exec.exec.Goals as goal
 
-pub returns-in_err-bytes-clause-goes : goal.returns-in_err-bytes-clause-goes
-returns-in_err-bytes-clause-goes g c =
+pub returns-in_err-bytes-clause-runs : goal.returns-in_err-bytes-clause-runs
+returns-in_err-bytes-clause-runs g c =
     let p = err_from_is_err_and c.from_residual.result c.from_residual.ensures.1 in
-    rw (p.1, p.2) (exec_unread c.args.names.now _ (g.F.Folder.view c.args.files.now)
-    (g.F.Folder.view c.load.new.files) (g.S.Sink.view c.args.out.now)
-    (g.D.Dram.view c.args.chip.now) c.in_err-bytes.ensures.failed)
-
-pub returns-in-Err-clause-goes : goal.returns-in-Err-clause-goes
-returns-in-Err-clause-goes g c =
-    exec_refused c.args.names.now _ c.in_ok-bytes.bytes.items c.in-Err.fault
+    rw (p.1, p.2) (unloaded c.args.names.now.prog.now PROG_MAX prog_in _ _
     (g.F.Folder.view c.args.files.now) (g.F.Folder.view c.load.new.files)
-    (g.S.Sink.view c.args.out.now) (g.D.Dram.view c.args.chip.now) c.in_ok-bytes.ensures.loaded
-    (rw c.deref.ensures.value at c.in-Err.ensures.exact) refl
+    (g.S.Sink.view c.args.out.now) (g.D.Dram.view c.args.chip.now) c.in_err-bytes.ensures.failed)
 
-pub returns-clause-goes : goal.returns-clause-goes
-returns-clause-goes g c =
+pub returns-in-Err-clause-runs : goal.returns-in-Err-clause-runs
+returns-in-Err-clause-runs g c =
+    refused c.args.names.now.prog.now PROG_MAX prog_in _ c.in_ok-bytes.bytes.items
+    (prog_refusal c.in-Err.fault) (g.F.Folder.view c.args.files.now)
+    (g.F.Folder.view c.load.new.files) (g.S.Sink.view c.args.out.now)
+    (g.D.Dram.view c.args.chip.now) c.in_ok-bytes.ensures.loaded
+    (ap program_or_refusal (rw c.deref.ensures.value at c.in-Err.ensures.exact))
+
+pub returns-clause-runs : goal.returns-clause-runs
+returns-clause-runs g c =
     let spelled = c.in-Ok.ensures.spelled in
     let file : IsProgramFile c.in_ok-bytes.bytes.items = record {
       version = c.in-Ok.prog.version;
@@ -29,8 +34,8 @@ returns-clause-goes g c =
       has = spelled.1;
       spelled = (rw c.deref.ensures.value at (sym c.in-Ok.ensures.bytes)) ∙ spelled.2;
     } in
-    exec_went c.args.names.now c.in-Ok.prog.programs c.do_job.result c.in_ok-bytes.bytes.items
-    (g.F.Folder.view c.args.files.now) (g.F.Folder.view c.load.new.files)
-    (g.S.Sink.view c.args.out.now) (g.D.Dram.view c.args.chip.now)
-    (world (g.F.Folder.view c.do_job.new.files) (g.S.Sink.view c.do_job.new.out)
-    (g.D.Dram.view c.do_job.new.chip)) c.in_ok-bytes.ensures.loaded file refl c.do_job.ensures.goes
+    parsed c.args.names.now.prog.now PROG_MAX prog_in _ c.in_ok-bytes.bytes.items
+    c.in-Ok.prog.programs _ (g.F.Folder.view c.args.files.now) (g.F.Folder.view c.load.new.files)
+    (g.S.Sink.view c.args.out.now) (g.D.Dram.view c.args.chip.now) _ c.in_ok-bytes.ensures.loaded
+    (prog_is c.in_ok-bytes.bytes.items file)
+    (runs_made _ _ tt _ _ _ file c.do_job.ensures.runs)

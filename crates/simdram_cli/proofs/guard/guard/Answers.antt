@@ -1,25 +1,33 @@
-use Rattle.std.proofs.Common.{◌≡◌, ◌∙◌}
+use Rattle.std.proofs.Common.{◌≡◌, ◌∙◌, subst}
 use Rattle.std.proofs.lemmas.Result.{err_from_is_err_and}
 use Rattle.uprog_code.specs.Shape.{microprograms_of}
+use Rattle.machine_model.specs.Routines.{Program}
 use Rattle.cli_model.specs.World.{world}
-use Rattle.simdram_cli.proofs.Guarding.{apart, guard_stopped, guard_went}
+use Rattle.cli_model.specs.Runs.{Runs}
+use Rattle.simdram_cli.specs.Guard.{guard_job_plan}
+use Rattle.simdram_cli.specs.Plans.{said_of}
+use Rattle.simdram_cli.proofs.Compiled.{compiled_stopped, compiled_taken}
 use Rattle.simdram_cli.proofs.guard.guard.Goals as goal
 
-pub returns-in_err-file-clause-goes : goal.returns-in_err-file-clause-goes
-returns-in_err-file-clause-goes g c =
+pub returns-in_err-file-clause-runs : goal.returns-in_err-file-clause-runs
+returns-in_err-file-clause-runs g c =
     let p = err_from_is_err_and c.from_residual.result c.from_residual.ensures.1 in
-    rw (p.1, p.2) (guard_stopped c.args.names.now _ (g.F.Folder.view c.args.files.now)
-    (g.F.Folder.view c.take_program.new.files) (g.S.Sink.view c.args.out.now)
-    (g.D.Dram.view c.args.chip.now) c.in_err-file.ensures.stopped)
+    rw (p.1, p.2) (compiled_stopped c.args.names.now.ops.now c.args.names.now.prog.now _ _
+    (g.F.Folder.view c.args.files.now) (g.F.Folder.view c.take_program.new.files)
+    (g.S.Sink.view c.args.out.now) (g.D.Dram.view c.args.chip.now) c.in_err-file.ensures.stopped)
 
-pub returns-clause-goes : goal.returns-clause-goes
-returns-clause-goes g c =
+pub returns-clause-runs : goal.returns-clause-runs
+returns-clause-runs g c =
     let program = microprograms_of c.in_ok-file.field-0-0 in
     let same : c.open_own.result.programs ≡ program = c.open_own.ensures.spelled program
     c.in_ok-file.ensures.program (c.deref.ensures.value ∙ c.in_ok-file.ensures.file) in
-    guard_went c.args.names.now program c.guard_job.result (g.F.Folder.view c.args.files.now)
-    (g.F.Folder.view c.take_program.new.files) (g.S.Sink.view c.args.out.now)
-    (g.D.Dram.view c.args.chip.now)
+    compiled_taken c.args.names.now.ops.now c.args.names.now.prog.now _ program _
+    (g.F.Folder.view c.args.files.now) (g.F.Folder.view c.take_program.new.files)
+    (g.S.Sink.view c.args.out.now) (g.D.Dram.view c.args.chip.now) _
+    c.in_ok-file.ensures.taken
+    (subst (λ (p : Program). Runs (guard_job_plan c.args.names.now p)
+    (world (g.F.Folder.view c.take_program.new.files) (g.S.Sink.view c.args.out.now)
+    (g.D.Dram.view c.args.chip.now))
     (world (g.F.Folder.view c.guard_job.new.files) (g.S.Sink.view c.guard_job.new.out)
-    (g.D.Dram.view c.guard_job.new.chip)) (apart c.args.names.now c.requires.apart).others
-    c.in_ok-file.ensures.taken (rw same at c.guard_job.ensures.goes)
+    (g.D.Dram.view c.guard_job.new.chip)) (said_of c.guard_job.result)) same
+    c.guard_job.ensures.runs)

@@ -7,37 +7,36 @@ use Rattle.cli_model.specs.World.{world}
 use Rattle.simdram_cli.specs.Flips.{guarded_image_of}
 use Rattle.simdram_cli.specs.Inputs.{image_found}
 use Rattle.simdram_cli.specs.declared.words.TheConstants.{IMAGE_MAX}
-use Rattle.simdram_cli.proofs.Guarding.{image_is, image_not, image_unread, image_worked, strange}
-use Rattle.simdram_cli.proofs.Reading.{not_read}
+use Rattle.cli_model.proofs.Doing.{parsed, unloaded, unread}
+use Rattle.simdram_cli.proofs.Guarding.{image_is, image_not, strange}
 use Rattle.simdram_cli.proofs.Sized.{rows_sized}
 use Rattle.simdram_cli.proofs.guard.guard_image.Goals as goal
 
-pub returns-in_err-bytes-clause-worked : goal.returns-in_err-bytes-clause-worked
-returns-in_err-bytes-clause-worked g c =
+pub returns-in_err-bytes-clause-runs : goal.returns-in_err-bytes-clause-runs
+returns-in_err-bytes-clause-runs g c =
     let p = err_from_is_err_and c.from_residual.result c.from_residual.ensures.1 in
-    rw (p.1, p.2) (image_unread c.args.names.now c.args.prog.programs
-    (map view_of c.args.script.now) _ (g.F.Folder.view c.args.files.now)
+    rw (p.1, p.2) (unloaded c.args.names.now.image.now IMAGE_MAX guarded_image_of _ _
+    (g.F.Folder.view c.args.files.now)
+    (g.F.Folder.view c.load.new.files) (g.S.Sink.view c.args.out.now)
+    (g.D.Dram.view c.args.chip.now) c.in_err-bytes.ensures.failed)
+
+pub returns-in-Err-clause-runs : goal.returns-in-Err-clause-runs
+returns-in-Err-clause-runs g c =
+    unread c.args.names.now.image.now IMAGE_MAX guarded_image_of _ _
+    (g.F.Folder.view c.args.files.now)
     (g.F.Folder.view c.load.new.files) (g.S.Sink.view c.args.out.now)
     (g.D.Dram.view c.args.chip.now)
-    (not_read guarded_image_of c.args.names.now.image.now IMAGE_MAX _
-    (g.F.Folder.view c.args.files.now) (g.F.Folder.view c.load.new.files)
-    c.in_err-bytes.ensures.failed))
-
-pub returns-in-Err-clause-worked : goal.returns-in-Err-clause-worked
-returns-in-Err-clause-worked g c =
-    image_unread c.args.names.now c.args.prog.programs (map view_of c.args.script.now)
-    c.image_stop.result (g.F.Folder.view c.args.files.now) (g.F.Folder.view c.load.new.files)
-    (g.S.Sink.view c.args.out.now) (g.D.Dram.view c.args.chip.now)
     (image_not c.args.names.now.image.now c.in_ok-bytes.bytes.items c.in-Err.no _
     (g.F.Folder.view c.args.files.now) (g.F.Folder.view c.load.new.files)
     c.in_ok-bytes.ensures.loaded (rw c.deref.ensures.value at c.in-Err.ensures.exact)
     c.image_stop.ensures)
 
-pub returns-in-Some-clause-worked : goal.returns-in-Some-clause-worked
-returns-in-Some-clause-worked g c =
-    image_unread c.args.names.now c.args.prog.programs (map view_of c.args.script.now) _
-    (g.F.Folder.view c.args.files.now) (g.F.Folder.view c.load.new.files)
-    (g.S.Sink.view c.args.out.now) (g.D.Dram.view c.args.chip.now)
+pub returns-in-Some-clause-runs : goal.returns-in-Some-clause-runs
+returns-in-Some-clause-runs g c =
+    unread c.args.names.now.image.now IMAGE_MAX guarded_image_of _ _
+    (g.F.Folder.view c.args.files.now)
+    (g.F.Folder.view c.load.new.files) (g.S.Sink.view c.args.out.now)
+    (g.D.Dram.view c.args.chip.now)
     (strange c.args.names.now.image.now c.in_ok-bytes.bytes.items (found_in c.in-Ok.image)
     c.in-Some.k (g.F.Folder.view c.args.files.now) (g.F.Folder.view c.load.new.files)
     c.in_ok-bytes.ensures.loaded (rw c.deref.ensures.value at c.in-Ok.ensures.exact)
@@ -65,14 +64,12 @@ work_on_flips-requires g c =
       few = c.requires.few;
     }
 
-pub returns-clause-worked : goal.returns-clause-worked
-returns-clause-worked g c =
-    image_worked c.args.names.now c.args.prog.programs (map view_of c.args.script.now)
-    (image_found (found_in c.in-Ok.image)) c.work_on_flips.result c.in_ok-bytes.bytes.items
-    (g.F.Folder.view c.args.files.now) (g.F.Folder.view c.load.new.files)
-    (g.S.Sink.view c.args.out.now) (g.D.Dram.view c.args.chip.now)
-    (world (g.F.Folder.view c.work_on_flips.new.files) (g.S.Sink.view c.work_on_flips.new.out)
-    (g.D.Dram.view c.work_on_flips.new.chip)) c.in_ok-bytes.ensures.loaded
+pub returns-clause-runs : goal.returns-clause-runs
+returns-clause-runs g c =
+    parsed c.args.names.now.image.now IMAGE_MAX guarded_image_of _ c.in_ok-bytes.bytes.items
+    (image_found (found_in c.in-Ok.image)) _ (g.F.Folder.view c.args.files.now)
+    (g.F.Folder.view c.load.new.files) (g.S.Sink.view c.args.out.now)
+    (g.D.Dram.view c.args.chip.now) _ c.in_ok-bytes.ensures.loaded
     (image_is c.in_ok-bytes.bytes.items (found_in c.in-Ok.image)
     (rw c.deref.ensures.value at c.in-Ok.ensures.exact) (sym c.in-None.ensures))
-    c.work_on_flips.ensures.worked
+    c.work_on_flips.ensures.runs

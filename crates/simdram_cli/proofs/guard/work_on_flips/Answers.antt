@@ -1,45 +1,64 @@
-use Rattle.std.proofs.Common.{map, refl}
+use Rattle.std.proofs.Common.{map, length, List, subst}
+use Rattle.std.specs.Prelude.{IfOk}
 use Rattle.std.proofs.lemmas.Result.{err_from_is_err_and}
 use Rattle.object_alloc.specs.Exact.{found_in}
 use Rattle.bbop_isa.specs.Forms.{view_of}
+use Rattle.guard_model.specs.declared.Flip.{Flip}
 use Rattle.cli_model.specs.World.{world}
+use Rattle.cli_model.specs.Steps.{Goes}
+use Rattle.simdram_cli.specs.Stops.{end_of}
+use Rattle.cli_model.proofs.Doing.{reads, takes, unread, wants}
+use Rattle.simdram_cli.specs.declared.words.TheConstants.{FLIPS_MAX}
+use Rattle.simdram_cli.specs.Flips.{flips_in}
+use Rattle.simdram_cli.specs.Guard.{GuardDone, guard_job, work_steps}
 use Rattle.simdram_cli.specs.Inputs.{image_found}
-use Rattle.simdram_cli.specs.declared.stop.Stop.TheVariants as stop
-use Rattle.simdram_cli.proofs.Guarding.{flips_unread, flips_worked, no_stage, read_mapped}
-use Rattle.simdram_cli.proofs.Guarding.{unread_mapped}
+use Rattle.simdram_cli.proofs.Guarding.{guard_runs, read_mapped, unread_mapped}
 use Rattle.simdram_cli.proofs.guard.work_on_flips.Goals as goal
 
-pub returns-in_err-flips-clause-worked : goal.returns-in_err-flips-clause-worked
-returns-in_err-flips-clause-worked g c =
+pub returns-in_err-flips-clause-runs : goal.returns-in_err-flips-clause-runs
+returns-in_err-flips-clause-runs g c =
     let p = err_from_is_err_and c.from_residual.result c.from_residual.ensures.1 in
-    rw (p.1, p.2) (flips_unread c.args.names.now c.args.prog.programs
-    (map view_of c.args.script.now) (image_found (found_in c.args.image)) _
-    (g.F.Folder.view c.args.files.now) (g.F.Folder.view c.load_flips.new.files)
-    (g.S.Sink.view c.args.out.now) (g.D.Dram.view c.args.chip.now)
+    let script = map view_of c.args.script.now in
+    rw (p.1, p.2) (unread c.args.names.now.flips.now FLIPS_MAX
+    (flips_in c.args.image.geometry (length script)) _ _ (g.F.Folder.view c.args.files.now)
+    (g.F.Folder.view c.load_flips.new.files) (g.S.Sink.view c.args.out.now)
+    (g.D.Dram.view c.args.chip.now)
     (unread_mapped c.args.image.geometry c.args.names.now.flips.now c.args.script.now _
     (g.F.Folder.view c.args.files.now) (g.F.Folder.view c.load_flips.new.files)
     c.in_err-flips.ensures.not_read))
 
-pub returns-in_default-clause-worked : goal.returns-in_default-clause-worked
-returns-in_default-clause-worked g c =
-    no_stage c.args.names.now c.args.prog.programs (map view_of c.args.script.now)
-    (image_found (found_in c.args.image)) stop.NoMemory c.in_ok-flips.flips.items
-    (g.F.Folder.view c.args.files.now) (g.F.Folder.view c.load_flips.new.files)
-    (g.S.Sink.view c.args.out.now) (g.D.Dram.view c.args.chip.now)
+pub returns-in_default-clause-runs : goal.returns-in_default-clause-runs
+returns-in_default-clause-runs g c =
+    let script = map view_of c.args.script.now in
+    reads c.args.names.now.flips.now FLIPS_MAX (flips_in c.args.image.geometry (length script)) _
+    c.in_ok-flips.flips.items _ (g.F.Folder.view c.args.files.now)
+    (g.F.Folder.view c.load_flips.new.files) (g.S.Sink.view c.args.out.now)
+    (g.D.Dram.view c.args.chip.now) _
     (read_mapped c.args.image.geometry c.args.names.now.flips.now c.args.script.now _
     (g.F.Folder.view c.args.files.now) (g.F.Folder.view c.load_flips.new.files)
-    c.in_ok-flips.ensures.read) refl
+    c.in_ok-flips.ensures.read) (wants _ _)
 
-pub returns-clause-worked : goal.returns-clause-worked
-returns-clause-worked g c =
-    flips_worked c.args.names.now c.args.prog.programs (map view_of c.args.script.now)
-    (image_found (found_in c.args.image)) c.in_ok-flips.flips.items c.deref.result.now
-    c.work_guarded.result
-    (g.F.Folder.view c.args.files.now) (g.F.Folder.view c.load_flips.new.files)
-    (g.S.Sink.view c.args.out.now) (g.D.Dram.view c.args.chip.now)
-    (world (g.F.Folder.view c.work_guarded.new.files) (g.S.Sink.view c.work_guarded.new.out)
-    (g.D.Dram.view c.work_guarded.new.chip)) c.requires.is c.requires.plain
+pub returns-clause-runs : goal.returns-clause-runs
+returns-clause-runs g c =
+    let script = map view_of c.args.script.now in
+    let i = image_found (found_in c.args.image) in
+    let a = world (g.F.Folder.view c.load_flips.new.files) (g.S.Sink.view c.args.out.now)
+    (g.D.Dram.view c.args.chip.now) in
+    let b = world (g.F.Folder.view c.work_guarded.new.files) (g.S.Sink.view c.work_guarded.new.out)
+    (g.D.Dram.view c.work_guarded.new.chip) in
+    let job = λ (xs : List Flip). guard_job c.args.prog.programs script i xs in
+    let out = c.args.names.now.out.now in
+    let is = c.deref.ensures.value in
+    reads c.args.names.now.flips.now FLIPS_MAX (flips_in c.args.image.geometry (length script)) _
+    c.in_ok-flips.flips.items _ (g.F.Folder.view c.args.files.now)
+    (g.F.Folder.view c.load_flips.new.files) (g.S.Sink.view c.args.out.now)
+    (g.D.Dram.view c.args.chip.now) b
     (read_mapped c.args.image.geometry c.args.names.now.flips.now c.args.script.now _
     (g.F.Folder.view c.args.files.now) (g.F.Folder.view c.load_flips.new.files)
-    c.in_ok-flips.ensures.read) c.deref.ensures.value c.work_guarded.ensures.goes
-    c.work_guarded.ensures.done
+    c.in_ok-flips.ensures.read)
+    (takes _ _ _ _ (guard_runs out (job c.in_ok-flips.flips.items) c.work_guarded.result a b
+    c.requires.is c.requires.plain
+    (subst (λ (xs : List Flip). Goes (work_steps out (job xs)) (end_of c.work_guarded.result) a b)
+    is c.work_guarded.ensures.goes)
+    (subst (λ (xs : List Flip). IfOk c.work_guarded.result (GuardDone (job xs)
+    (g.D.Dram.view c.work_guarded.new.chip))) is c.work_guarded.ensures.done)))

@@ -1,24 +1,23 @@
 use Rattle.std.proofs.Common.{map}
 use Rattle.std.proofs.lemmas.Result.{err_from_is_err_and}
 use Rattle.bbop_isa.specs.Forms.{view_of}
-use Rattle.cli_model.specs.World.{world}
-use Rattle.simdram_cli.proofs.Joins.{job_unread, job_worked}
+use Rattle.cli_model.proofs.Doing.{reads, unread}
+use Rattle.simdram_cli.specs.declared.words.TheConstants.{SCRIPT_MAX}
+use Rattle.simdram_cli.specs.Inputs.{script_in}
 use Rattle.simdram_cli.proofs.job.do_job.Goals as goal
 
-pub returns-in_err-script-clause-goes : goal.returns-in_err-script-clause-goes
-returns-in_err-script-clause-goes g c =
+pub returns-in_err-script-clause-runs : goal.returns-in_err-script-clause-runs
+returns-in_err-script-clause-runs g c =
     let p = err_from_is_err_and c.from_residual.result c.from_residual.ensures.1 in
-    rw (p.1, p.2) (job_unread c.args.names.now c.args.prog.programs _
+    rw (p.1, p.2) (unread c.args.names.now.script.now SCRIPT_MAX script_in _ _
     (g.F.Folder.view c.args.files.now) (g.F.Folder.view c.load_script.new.files)
     (g.S.Sink.view c.args.out.now) (g.D.Dram.view c.args.chip.now)
     c.in_err-script.ensures.not_read)
 
-pub returns-clause-goes : goal.returns-clause-goes
-returns-clause-goes g c =
-    job_worked c.args.names.now c.args.prog.programs (map view_of c.in_ok-script.script.items)
-    c.work_on_image.result (g.F.Folder.view c.args.files.now)
+pub returns-clause-runs : goal.returns-clause-runs
+returns-clause-runs g c =
+    reads c.args.names.now.script.now SCRIPT_MAX script_in _
+    (map view_of c.in_ok-script.script.items) _ (g.F.Folder.view c.args.files.now)
     (g.F.Folder.view c.load_script.new.files) (g.S.Sink.view c.args.out.now)
-    (g.D.Dram.view c.args.chip.now)
-    (world (g.F.Folder.view c.work_on_image.new.files) (g.S.Sink.view c.work_on_image.new.out)
-    (g.D.Dram.view c.work_on_image.new.chip)) c.in_ok-script.ensures.read
-    (rw c.deref.ensures.value at c.work_on_image.ensures.worked)
+    (g.D.Dram.view c.args.chip.now) _ c.in_ok-script.ensures.read
+    (rw c.deref.ensures.value at c.work_on_image.ensures.runs)

@@ -4,19 +4,14 @@ use Rattle.std.proofs.lemmas.List.{length-map}
 use Rattle.object_alloc.specs.Spelling.{rows_in}
 use Rattle.object_alloc.specs.Exact.{found_in}
 use Rattle.bbop_isa.specs.Forms.{view_of}
-use Rattle.cli_model.specs.World.{world}
 use Rattle.simdram_cli.specs.Inputs.{image_found}
-use Rattle.simdram_cli.proofs.Running.{image_is, image_not_read, image_unread, image_worked}
+use Rattle.simdram_cli.proofs.Running.{image_is}
 use Rattle.simdram_cli.proofs.Sized.{rows_sized}
+use Rattle.cli_model.proofs.Doing.{parsed, unloaded}
+use Rattle.simdram_cli.specs.declared.words.TheConstants.{IMAGE_MAX}
+use Rattle.simdram_cli.specs.Inputs.{image_of}
+use Rattle.simdram_cli.proofs.JobPlans.{image_not_read as not_read, work_runs}
 use Rattle.simdram_cli.proofs.job.work_on_image.Goals as goal
-
-pub returns-in_err-bytes-clause-worked : goal.returns-in_err-bytes-clause-worked
-returns-in_err-bytes-clause-worked g c =
-    let p = err_from_is_err_and c.from_residual.result c.from_residual.ensures.1 in
-    rw (p.1, p.2) (image_unread c.args.names.now c.args.prog.programs
-    (map view_of c.args.script.now) _ (g.F.Folder.view c.args.files.now)
-    (g.F.Folder.view c.load.new.files) (g.S.Sink.view c.args.out.now)
-    (g.D.Dram.view c.args.chip.now) c.in_err-bytes.ensures.failed)
 
 pub perform-requires : goal.perform-requires
 perform-requires g c =
@@ -37,23 +32,28 @@ perform-requires g c =
       few = omega (arith, c.requires.few);
     }
 
-pub returns-in-Err-clause-worked : goal.returns-in-Err-clause-worked
-returns-in-Err-clause-worked g c =
-    image_not_read c.args.names.now c.args.prog.programs
-    (map view_of c.args.script.now) c.image_stop.result c.in-Err.no c.in_ok-bytes.bytes.items
+pub returns-in_err-bytes-clause-runs : goal.returns-in_err-bytes-clause-runs
+returns-in_err-bytes-clause-runs g c =
+    let p = err_from_is_err_and c.from_residual.result c.from_residual.ensures.1 in
+    rw (p.1, p.2) (unloaded c.args.names.now.image.now IMAGE_MAX image_of _ _
+    (g.F.Folder.view c.args.files.now) (g.F.Folder.view c.load.new.files)
+    (g.S.Sink.view c.args.out.now) (g.D.Dram.view c.args.chip.now) c.in_err-bytes.ensures.failed)
+
+pub returns-in-Err-clause-runs : goal.returns-in-Err-clause-runs
+returns-in-Err-clause-runs g c =
+    not_read _ c.args.names.now.image.now c.image_stop.result c.in-Err.no c.in_ok-bytes.bytes.items
     (g.F.Folder.view c.args.files.now) (g.F.Folder.view c.load.new.files)
     (g.S.Sink.view c.args.out.now) (g.D.Dram.view c.args.chip.now) c.in_ok-bytes.ensures.loaded
     (rw c.deref.ensures.value at c.in-Err.ensures.exact) c.image_stop.ensures
 
-pub returns-clause-worked : goal.returns-clause-worked
-returns-clause-worked g c =
-    image_worked c.args.names.now c.args.prog.programs (map view_of c.args.script.now)
-    (image_found (found_in c.in-Ok.image)) c.perform.result c.in_ok-bytes.bytes.items
+pub returns-clause-runs : goal.returns-clause-runs
+returns-clause-runs g c =
+    let i = image_found (found_in c.in-Ok.image) in
+    parsed c.args.names.now.image.now IMAGE_MAX image_of _ c.in_ok-bytes.bytes.items i _
     (g.F.Folder.view c.args.files.now) (g.F.Folder.view c.load.new.files)
-    (g.S.Sink.view c.args.out.now) (g.D.Dram.view c.args.chip.now)
-    (world (g.F.Folder.view c.perform.new.files) (g.S.Sink.view c.perform.new.out)
-    (g.D.Dram.view c.perform.new.chip)) c.in_ok-bytes.ensures.loaded
+    (g.S.Sink.view c.args.out.now) (g.D.Dram.view c.args.chip.now) _ c.in_ok-bytes.ensures.loaded
     (image_is c.in_ok-bytes.bytes.items (found_in c.in-Ok.image)
-    (rw c.deref.ensures.value at c.in-Ok.ensures.exact)) c.in-Ok.ensures.spelled.0
-    c.requires.plain
-    c.perform.ensures.goes c.perform.ensures.done
+    (rw c.deref.ensures.value at c.in-Ok.ensures.exact))
+    (work_runs c.args.names.now.out.now c.args.prog.programs (map view_of c.args.script.now) i
+    c.perform.result _ _ c.in-Ok.ensures.spelled.0 c.requires.plain c.perform.ensures.goes
+    c.perform.ensures.done)

@@ -1,31 +1,33 @@
+use Rattle.std.specs.Prelude.{Ok, Err}
 use Rattle.cli_model.specs.World.{world}
-use Rattle.simdram_cli.proofs.Soaking.{went, no_memory, chip_failed, put_failed}
+use Rattle.soak_job.specs.declared.job.SoakNo.TheVariants as no
+use Rattle.simdram_cli.proofs.Soaking.{soak_runs}
 use Rattle.simdram_cli.proofs.soak.soak.Goals as goal
 
 pub returns-in-Ok-clause-went : goal.returns-in-Ok-clause-went
 returns-in-Ok-clause-went g c files =
-    went c.args.seed
+    soak_runs c.args.seed
     (world files (g.S.Sink.view c.args.out.now) (g.D.Dram.view c.args.chip.now))
     (world files (g.S.Sink.view c.soak.new.out) (g.D.Dram.view c.soak.new.chip))
-    c.in-Ok.field-0 (c.in-Ok.ensures.goes files)
+    (Ok c.in-Ok.field-0) (c.in-Ok.ensures.goes files)
 
 pub returns-in-Err-NoMemory-clause-went : goal.returns-in-Err-NoMemory-clause-went
 returns-in-Err-NoMemory-clause-went g c files =
-    no_memory c.args.seed
+    soak_runs c.args.seed
     (world files (g.S.Sink.view c.args.out.now) (g.D.Dram.view c.args.chip.now))
     (world files (g.S.Sink.view c.soak.new.out) (g.D.Dram.view c.soak.new.chip))
-    (rw c.in-Err-NoMemory.field-0-is at (c.in-Err-NoMemory.ensures.goes files))
+    (Err no.NoMemory) (rw c.in-Err-NoMemory.field-0-is at (c.in-Err-NoMemory.ensures.goes files))
 
 pub returns-in-Err-ChipFailed-clause-went : goal.returns-in-Err-ChipFailed-clause-went
 returns-in-Err-ChipFailed-clause-went g c files =
-    chip_failed c.args.seed
+    soak_runs c.args.seed
     (world files (g.S.Sink.view c.args.out.now) (g.D.Dram.view c.args.chip.now))
     (world files (g.S.Sink.view c.soak.new.out) (g.D.Dram.view c.soak.new.chip))
-    (rw c.in-Err-ChipFailed.field-0-is at (c.in-Err-ChipFailed.ensures.goes files))
+    (Err no.ChipFailed) (rw c.in-Err-ChipFailed.field-0-is at (c.in-Err-ChipFailed.ensures.goes files))
 
 pub returns-in-Err-PutFailed-clause-went : goal.returns-in-Err-PutFailed-clause-went
 returns-in-Err-PutFailed-clause-went g c files =
-    put_failed c.args.seed
+    soak_runs c.args.seed
     (world files (g.S.Sink.view c.args.out.now) (g.D.Dram.view c.args.chip.now))
     (world files (g.S.Sink.view c.soak.new.out) (g.D.Dram.view c.soak.new.chip))
-    (rw c.in-Err-PutFailed.field-0-is at (c.in-Err-PutFailed.ensures.goes files))
+    (Err no.PutFailed) (rw c.in-Err-PutFailed.field-0-is at (c.in-Err-PutFailed.ensures.goes files))

@@ -1,15 +1,15 @@
 use Rattle.cli_model.specs.World.{world}
-use Rattle.simdram_cli.proofs.Executing.{exec_ends}
+use Rattle.simdram_cli.specs.Exec.{exec_plan}
+use Rattle.simdram_cli.proofs.Answered.{answered}
 use Rattle.simdram_cli.proofs.top.exec_and_answer.Goals as goal
 
 pub returns-clause-ends : goal.returns-clause-ends
 returns-clause-ends g c =
     let files = g.F.Folder.view c.exec-ended.new.files in
     let chip = g.D.Dram.view c.exec-ended.new.chip in
-    exec_ends c.args.names.now
+    answered (exec_plan c.args.names.now) c.exec-ended.result
     (world (g.F.Folder.view c.args.files.now) (g.S.Sink.view c.args.out.now)
     (g.D.Dram.view c.args.chip.now))
     (world files (g.S.Sink.view c.exec-ended.new.out) chip)
-    (world files (g.S.Sink.view c.answer.new.out) chip)
-    c.exec-ended.result c.answer.result c.exec-ended.ensures.goes
+    (world files (g.S.Sink.view c.answer.new.out) chip) c.answer.result c.exec-ended.ensures.runs
     (c.answer.ensures.tells files chip) c.answer.ensures.status

@@ -1,15 +1,15 @@
 use Rattle.cli_model.specs.World.{world}
-use Rattle.simdram_cli.proofs.Traced.{trace_ends}
+use Rattle.simdram_cli.specs.Tracing.{trace_plan}
+use Rattle.simdram_cli.proofs.Answered.{answered}
 use Rattle.simdram_cli.proofs.top.trace_and_answer.Goals as goal
 
 pub returns-clause-ends : goal.returns-clause-ends
 returns-clause-ends g c =
     let files = g.F.Folder.view c.trace-ended.new.files in
     let chip = g.D.Dram.view c.trace-ended.new.chip in
-    trace_ends c.args.names.now
+    answered (trace_plan c.args.names.now) c.trace-ended.result
     (world (g.F.Folder.view c.args.files.now) (g.S.Sink.view c.args.out.now)
     (g.D.Dram.view c.args.chip.now))
     (world files (g.S.Sink.view c.trace-ended.new.out) chip)
-    (world files (g.S.Sink.view c.answer.new.out) chip)
-    c.trace-ended.result c.answer.result c.trace-ended.ensures.goes
-    (c.answer.ensures.tells files chip) c.answer.ensures.status
+    (world files (g.S.Sink.view c.answer.new.out) chip) c.answer.result
+    c.trace-ended.ensures.runs (c.answer.ensures.tells files chip) c.answer.ensures.status

@@ -3,26 +3,26 @@ use Rattle.std.proofs.lemmas.Result.{err_from_is_err_and}
 use Rattle.object_alloc.specs.Spelling.{rows_in}
 use Rattle.object_alloc.specs.Exact.{found_in}
 use Rattle.bbop_isa.specs.Forms.{view_of}
-use Rattle.cli_model.specs.World.{world}
-use Rattle.simdram_cli.specs.Inputs.{image_found}
+use Rattle.cli_model.proofs.Doing.{parsed, unloaded}
+use Rattle.simdram_cli.specs.declared.words.TheConstants.{IMAGE_MAX}
+use Rattle.simdram_cli.specs.Inputs.{image_found, image_of}
+use Rattle.simdram_cli.proofs.JobPlans.{image_not_read}
 use Rattle.simdram_cli.proofs.Running.{image_is}
 use Rattle.simdram_cli.proofs.Sized.{rows_sized}
-use Rattle.simdram_cli.proofs.Tracing.{image_no_image, image_not_loaded, image_traced}
+use Rattle.simdram_cli.proofs.Tracing.{script_runs}
 use Rattle.simdram_cli.proofs.trace.trace_image.Goals as goal
 
-pub returns-in_err-bytes-clause-traced : goal.returns-in_err-bytes-clause-traced
-returns-in_err-bytes-clause-traced g c =
+pub returns-in_err-bytes-clause-runs : goal.returns-in_err-bytes-clause-runs
+returns-in_err-bytes-clause-runs g c =
     let p = err_from_is_err_and c.from_residual.result c.from_residual.ensures.1 in
-    rw (p.1, p.2) (image_not_loaded c.args.names.now c.args.prog.programs
-    (map view_of c.args.script.now) _ (g.F.Folder.view c.args.files.now)
-    (g.F.Folder.view c.load.new.files) (g.S.Sink.view c.args.out.now)
-    (g.D.Dram.view c.args.chip.now) c.in_err-bytes.ensures.failed)
-
-pub returns-in-Err-clause-traced : goal.returns-in-Err-clause-traced
-returns-in-Err-clause-traced g c =
-    image_no_image c.args.names.now c.args.prog.programs
-    (map view_of c.args.script.now) c.image_stop.result c.in-Err.no c.in_ok-bytes.bytes.items
+    rw (p.1, p.2) (unloaded c.args.names.now.image.now IMAGE_MAX image_of _ _
     (g.F.Folder.view c.args.files.now) (g.F.Folder.view c.load.new.files)
+    (g.S.Sink.view c.args.out.now) (g.D.Dram.view c.args.chip.now) c.in_err-bytes.ensures.failed)
+
+pub returns-in-Err-clause-runs : goal.returns-in-Err-clause-runs
+returns-in-Err-clause-runs g c =
+    image_not_read _ c.args.names.now.image.now c.image_stop.result c.in-Err.no
+    c.in_ok-bytes.bytes.items (g.F.Folder.view c.args.files.now) (g.F.Folder.view c.load.new.files)
     (g.S.Sink.view c.args.out.now) (g.D.Dram.view c.args.chip.now) c.in_ok-bytes.ensures.loaded
     (rw c.deref.ensures.value at c.in-Err.ensures.exact) c.image_stop.ensures
 
@@ -46,14 +46,14 @@ trace_script-requires g c =
       few = omega (arith, c.requires.few);
     }
 
-pub returns-clause-traced : goal.returns-clause-traced
-returns-clause-traced g c =
-    image_traced c.args.names.now c.args.prog.programs (map view_of c.args.script.now)
-    (image_found (found_in c.in-Ok.image)) c.trace_script.result c.in_ok-bytes.bytes.items
+pub returns-clause-runs : goal.returns-clause-runs
+returns-clause-runs g c =
+    let i = image_found (found_in c.in-Ok.image) in
+    parsed c.args.names.now.image.now IMAGE_MAX image_of _ c.in_ok-bytes.bytes.items i _
     (g.F.Folder.view c.args.files.now) (g.F.Folder.view c.load.new.files)
-    (g.S.Sink.view c.args.out.now) (g.D.Dram.view c.args.chip.now)
-    (world (g.F.Folder.view c.trace_script.new.files) (g.S.Sink.view c.trace_script.new.out)
-    (g.D.Dram.view c.trace_script.new.chip)) c.in_ok-bytes.ensures.loaded
+    (g.S.Sink.view c.args.out.now) (g.D.Dram.view c.args.chip.now) _ c.in_ok-bytes.ensures.loaded
     (image_is c.in_ok-bytes.bytes.items (found_in c.in-Ok.image)
-    (rw c.deref.ensures.value at c.in-Ok.ensures.exact)) c.in-Ok.ensures.spelled.0
-    c.requires.plain c.trace_script.ensures.traced
+    (rw c.deref.ensures.value at c.in-Ok.ensures.exact))
+    (script_runs c.args.names.now c.args.prog.programs (map view_of c.args.script.now) i
+    c.trace_script.result _ _ c.in-Ok.ensures.spelled.0 c.requires.plain
+    c.trace_script.ensures.traced)
