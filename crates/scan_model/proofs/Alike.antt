@@ -35,8 +35,9 @@ use Rattle.scan_model.specs.Instructions.{count_of, node_instructions, script_fr
 use Rattle.scan_model.specs.Checks.{checked, or_else, or_later, refused_from, refused_in}
 use Rattle.scan_model.specs.Operations.{scan_text}
 use Rattle.scan_model.specs.Laws.{scan_refused}
-use Rattle.scan_model.specs.Answers.{Found, ScansAnswerAlike, ScansAnswerTheSame, answer, by_checks, by_run}
-use Rattle.scan_model.specs.Answers.{found_in, query_count, query_script, uncounted}
+use Rattle.scan_model.specs.Answers.{Found, ScansAnswerAlike, ScansAnswerTheSame, answer}
+use Rattle.scan_model.specs.Answers.{by_checks, by_run, found_in, query_count, query_script}
+use Rattle.scan_model.specs.Answers.{uncounted}
 use Rattle.scan_model.proofs.Answered.{scan_is_plain}
 use Rattle.scan_model.proofs.Meant.{ended}
 
