@@ -7,12 +7,12 @@ ghost use Rattle.loop_ir.specs.Statements.{slots_of, BlockMeets};
 ghost use Rattle.block_lower.specs.Inputs.{block_from};
 ghost use Rattle.block_lower.specs.Form.{constant, IsBlockBody};
 
+use crate::choice::least_graph;
 use crate::inputs::inputs_of;
 use crate::places::{places_of, target_places};
 use aoi_graph::build;
 use loop_ir::{Body, NameMap, Place};
 use mig_graph::{Lit, Mig, MigOuts, NoMemory, from_aoi};
-use mig_rewrite::reduce;
 use no_memory::keep;
 use op_text::Assign;
 use std::alloc::Global;
@@ -53,12 +53,14 @@ pub(crate) fn block_body(
 {
     let inputs = inputs_of(lets, assigns, alloc)?;
     let gates = build(lets, assigns, &inputs.numbers, alloc)?;
-    let graph = reduce(from_aoi(&gates, alloc)?, alloc)?;
+    let reads = places_of(names, down, &inputs.order, alloc)?;
+    let writes = target_places(names, down, assigns, alloc)?;
+    let graph = least_graph(from_aoi(&gates, alloc)?, &reads, &writes, alloc)?;
     // This call's clause says that the graph keeps the rules of graphs.
     let _ = graph.mig.inputs();
     Ok(Body {
-        reads: places_of(names, down, &inputs.order, alloc)?,
+        reads,
         graph,
-        writes: target_places(names, down, assigns, alloc)?,
+        writes,
     })
 }

@@ -2,6 +2,7 @@
 #![tactic(auto)]
 
 mod body;
+mod choice;
 mod inputs;
 mod lower;
 mod places;

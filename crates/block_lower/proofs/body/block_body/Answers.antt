@@ -43,9 +43,9 @@ returns c = λ s.
     c.in_ok-inputs.ensures.numbered in
     let made = c.in_ok-graph.ensures in
     record {
-      reads = c.in_ok-places_of.ensures ∙ ap (places_of slots c.args.down) (c.deref.ensures.value
+      reads = c.in_ok-reads.ensures ∙ ap (places_of slots c.args.down) (c.deref.ensures.value
           ∙ c.in_ok-inputs.ensures.order);
-      writes = c.in_ok-target_places.ensures;
+      writes = c.in_ok-writes.ensures;
       as_many = made.keeps.long ∙ c.in_ok-from_aoi.ensures.long ∙ c.in_ok-gates.ensures.long
           ∙ sym (length-map assigns equation);
       inputs = let m = inputs-most slots c.args.down c.requires.meets.0 lets assigns
