@@ -4,7 +4,7 @@ use loop_ir::{Slot, Sub};
 
 /// Whose rows a place has: the target's, an argument's, or after the arguments those of the bit of
 /// scratch.
-#[derive(Clone, Copy, PartialEq, Eq)]
+#[derive(Clone, Copy)]
 pub enum Owner {
     Target,
     First,
@@ -13,14 +13,14 @@ pub enum Owner {
 }
 
 /// A place by its owner.
-#[derive(Clone, Copy, PartialEq, Eq)]
+#[derive(Clone, Copy)]
 pub struct Mark {
     pub owner: Owner,
     pub sub: Sub,
 }
 
 /// The places of the owners.
-#[derive(Clone, Copy, PartialEq, Eq)]
+#[derive(Clone, Copy)]
 pub struct Owners {
     pub target: Slot,
     pub first: Slot,
@@ -30,7 +30,7 @@ pub struct Owners {
 
 /// What a body computes: from its reads, of which a state is the last, into its writes, of which it
 /// is the last too.
-#[derive(Clone, Copy, PartialEq, Eq)]
+#[derive(Clone, Copy)]
 pub enum BodyForm {
     Off(Mark),
     On(Mark),
@@ -50,7 +50,7 @@ pub enum BodyForm {
 }
 
 /// A body done once, or at each position.
-#[derive(Clone, Copy, PartialEq, Eq)]
+#[derive(Clone, Copy)]
 pub enum ProgramLine {
     Once(BodyForm),
     Each(BodyForm),

@@ -5,7 +5,7 @@ use loop_ir::{Count, Slot, Sub};
 
 /// Whose rows a place has: the target's, an argument's, those of a bit of internal scratch or of
 /// its words, or the second target's.
-#[derive(Clone, Copy, PartialEq, Eq)]
+#[derive(Clone, Copy)]
 pub enum Owner {
     Target,
     First,
@@ -17,14 +17,14 @@ pub enum Owner {
 }
 
 /// A place by its owner.
-#[derive(Clone, Copy, PartialEq, Eq)]
+#[derive(Clone, Copy)]
 pub struct Mark {
     pub owner: Owner,
     pub sub: Sub,
 }
 
 /// The places of the owners.
-#[derive(Clone, Copy, PartialEq, Eq)]
+#[derive(Clone, Copy)]
 pub struct Owners {
     pub target: Slot,
     pub first: Slot,
@@ -37,7 +37,7 @@ pub struct Owners {
 
 /// What a body computes: from what it reads, into the row that is named last, or into the first
 /// and the last where it has a carry or a borrow.
-#[derive(Clone, Copy, PartialEq, Eq)]
+#[derive(Clone, Copy)]
 pub enum BodyForm {
     Off(Mark),
     On(Mark),
@@ -55,14 +55,14 @@ pub enum BodyForm {
 }
 
 /// A part of a nest: a body at each outer position once, or in a loop of its own.
-#[derive(Clone, Copy, PartialEq, Eq)]
+#[derive(Clone, Copy)]
 pub enum NestPart {
     Once(BodyForm),
     Each(Count, BodyForm),
 }
 
 /// A loop program: passes over a word, then at each position the parts of a nest, then a pass.
-#[derive(Clone, Copy, PartialEq, Eq)]
+#[derive(Clone, Copy)]
 pub struct NestedProgram {
     pub first: BodyForm,
     pub second: Option<BodyForm>,
